@@ -1,0 +1,13 @@
+pub mod Words
+pub mod Format
+pub mod Plan
+pub mod Orderly
+pub mod Pieces
+pub mod Whole
+pub mod SenderView
+pub mod Forward
+pub mod ReceiverView
+pub mod Acknowledgement
+pub mod Receiving
+pub mod Calls
+pub mod Safe
