@@ -1,0 +1,280 @@
+-- Plan, messages, abandoned ones, indexes seen and numbers passed only grow, and most facts last while they do.
+use Rattle.std.proofs.Common.{◌≡◌, ℕ, ◌<◌, ◌≤◌, ◌⊎◌, true, false, List, length, slice_get, Some, inl, inr, refl, sym, subst, arith, le_refl}
+use Rattle.sctp_model.specs.Words.{Has}
+use Rattle.sctp_model.specs.Format.{Format, Plain, Kind, Ordered, Unordered, Lane, is_numbered, ordered_lane}
+use Rattle.sctp_model.specs.Plan.{Message, bytes_of, Entry, Part, End, Plan, entry_at, message_at, IsOf, IsAssigned, IsComplete, HasEnd, IsClosed}
+use Rattle.sctp_model.specs.Pieces.{Piece, piece_of, IsFragment}
+use Rattle.sctp_model.specs.SenderView.{SenderView, IsGivenUp}
+use Rattle.sctp_model.specs.Forward.{Skip, Forward}
+use Rattle.sctp_model.specs.ReceiverView.{Handed, ReceiverView, handed, IsReached}
+use Rattle.sctp_model.specs.Acknowledgement.{Acknowledgement, covers}
+use Rattle.sctp_model.specs.Calls.{Asked}
+use Rattle.sctp_model.specs.Safe.{IsSent, WasHanded}
+use Rattle.sctp_safety.specs.Way.{Way, with_sender, with_receiver}
+use Rattle.sctp_safety.proofs.Facts.{IsDone, IsLost, IsLostBy, IsOver, IsSettled, IsAllSeen, MayPass, IsRetired, IsAhead, IsFair, Arranged, Waits, Sound, Between, IsHonest, Told, Held, Good}
+
+-- the plan gained entries and messages, and lost none
+pub record Extends (p q : Plan) : Type 0 where
+  pub entries : (i : ℕ) (e : Entry) → entry_at p i ≡ Some e → entry_at q i ≡ Some e
+  pub messages : (l : Lane) (n : ℕ) (m : Message) → message_at p l n ≡ Some m → message_at q l n ≡ Some m
+
+pub record Grows (a b : SenderView) : Type 0 where
+  pub plan : Extends a.plan b.plan
+  pub abandoned : (l : Lane) (n : ℕ) → a.abandoned l n ≡ true → b.abandoned l n ≡ true
+
+pub record Learns (r t : ReceiverView) : Type 0 where
+  pub seen : (i : ℕ) → r.seen i ≡ true → t.seen i ≡ true
+  pub jump : r.jump ≤ t.jump
+  pub next : (s : ℕ) → r.next s ≤ t.next s
+  pub skip : (l : Lane) → r.skip l ≤ t.skip l
+
+pub Extends-refl : (p : Plan) → Extends p p
+Extends-refl p = record { entries = λ i e h. h; messages = λ l n m h. h }
+
+pub Grows-refl : (a : SenderView) → Grows a a
+Grows-refl a = record { plan = Extends-refl a.plan; abandoned = λ l n h. h }
+
+pub Learns-refl : (r : ReceiverView) → Learns r r
+Learns-refl r = record { seen = λ i h. h; jump = le_refl r.jump; next = λ s. le_refl (r.next s); skip = λ l. le_refl (r.skip l) }
+
+module _ (p q : Plan) (more : Extends p q) where
+  pub IsFragment-later : (f : Format) (x : Piece) → IsFragment f p x → IsFragment f q x
+  IsFragment-later f x h = record {
+    number = h.number;
+    fragment = h.fragment;
+    message = h.message;
+    named = more.messages _ _ _ h.named;
+    within = h.within;
+    here = more.entries _ _ h.here;
+    same = h.same;
+  }
+
+  pub IsAssigned-later : (l : Lane) (n k : ℕ) → IsAssigned p l n k → IsAssigned q l n k
+  IsAssigned-later l n k h = (h.0, more.entries _ _ h.1)
+
+  pub IsComplete-later : (l : Lane) (n : ℕ) (m : Message) → IsComplete p l n m → IsComplete q l n m
+  IsComplete-later l n m h = (more.messages _ _ _ h.0, λ k b. IsAssigned-later l n k (h.1 k b))
+
+  pub IsClosed-later : (l : Lane) (n : ℕ) → IsClosed p l n → IsClosed q l n
+  IsClosed-later l n (inl h) = inl (h.0, more.entries _ _ h.1)
+  IsClosed-later l n (inr h) = inr (h.0, IsComplete-later l n h.0 h.1)
+
+  abbrev pub IsSent-later : (l : Lane) (h : Handed) → IsSent p l h → IsSent q l h
+  IsSent-later l h x = record {
+    number = x.number;
+    message = x.message;
+    lane = x.lane;
+    complete = IsComplete-later l x.number x.message x.complete;
+    first = more.entries _ _ x.first;
+    payload = x.payload;
+    bytes = x.bytes;
+  }
+
+  pub IsHonest-later : (f : Format) (s : ℕ) (h : Handed) → IsHonest f p s h → IsHonest f q s h
+  IsHonest-later f s h x = record { sent = IsSent-later h.lane h x.sent; stream = x.stream; counted = x.counted }
+
+  pub WasHanded-later : (r : ReceiverView) (l : Lane) (n : ℕ) → WasHanded p r l n → WasHanded q r l n
+  WasHanded-later r l n (h, has, lane, here) = (h, has, lane, more.entries _ _ here)
+
+  -- a message handed over was in the plan before
+  pub WasHanded-earlier : (f : Format) (r : ReceiverView) (l : Lane) (n : ℕ) →
+      ((s : ℕ) (h : Handed) → Has (handed r s) h → IsHonest f p s h) → WasHanded q r l n → WasHanded p r l n
+  WasHanded-earlier f r l n honest (h, has, lane, here) =
+      let x = honest l.stream h has in
+      let y = x.sent.first in
+      let z : entry_at q h.first ≡ Some (Part h.lane x.sent.number 0) = more.entries h.first (Part h.lane x.sent.number 0) y in
+      let e : Part h.lane x.sent.number 0 ≡ Part l n 0 = cc in
+      (h, has, lane, subst (λ (d : Entry). entry_at p h.first ≡ Some d) e y)
+
+  pub IsAllSeen-later : (r t : ReceiverView) → Learns r t → (l : Lane) (n : ℕ) → IsAllSeen p r l n → IsAllSeen q t l n
+  IsAllSeen-later r t learns l n h = record {
+    message = h.message;
+    named = more.messages _ _ _ h.named;
+    seen = λ k b. let x = h.seen k b in (x.0, more.entries _ _ x.1, learns.seen _ x.2);
+  }
+
+pub IsReached-later : (r t : ReceiverView) → Learns r t → (i : ℕ) → IsReached r i → IsReached t i
+IsReached-later r t learns i (inl h) = inl (learns.seen i h)
+IsReached-later r t learns i (inr h) = inr (let l : r.jump ≤ t.jump = learns.jump in omega arith)
+
+pub IsAhead-earlier : (r t : ReceiverView) → Learns r t → (p : ℕ) → IsAhead t p → IsAhead r p
+IsAhead-earlier r t learns p (j, below, not_yet) = (j, below, λ h. not_yet (IsReached-later r t learns j h))
+
+pub IsDone-later : (f : Format) (r t : ReceiverView) → Learns r t → (l : Lane) (n : ℕ) → IsDone f r l n → IsDone f t l n
+IsDone-later f r t learns l n (inl h) = inl h
+IsDone-later f r t learns l n (inr (inl h)) = inr (inl (let m : r.skip l ≤ t.skip l = learns.skip l in omega arith))
+IsDone-later f r t learns l n (inr (inr (k, h))) = inr (inr (k, let m : r.next l.stream ≤ t.next l.stream = learns.next l.stream in omega arith))
+
+module _ (f : Format) (a b : SenderView) (r t : ReceiverView) (grows : Grows a b) (learns : Learns r t) where
+  pub lost-later : (i : ℕ) → (r.seen i ≡ true) ⊎ IsLost f a r i → (t.seen i ≡ true) ⊎ IsLost f b t i
+  lost-later i (inl h) = inl (learns.seen i h)
+  lost-later i (inr h) = inr (record {
+    lane = h.lane;
+    number = h.number;
+    entry = h.entry;
+    here = grows.plan.entries _ _ h.here;
+    of = h.of;
+    gone = grows.abandoned _ _ h.gone;
+    done = IsDone-later f r t learns h.lane h.number h.done;
+  })
+
+  pub lost_by-later : (xs : List Skip) (i : ℕ) → (r.seen i ≡ true) ⊎ IsLostBy f a r xs i → (t.seen i ≡ true) ⊎ IsLostBy f b t xs i
+  lost_by-later xs i (inl h) = inl (learns.seen i h)
+  lost_by-later xs i (inr h) = inr (record {
+    lane = h.lane;
+    number = h.number;
+    entry = h.entry;
+    here = grows.plan.entries _ _ h.here;
+    of = h.of;
+    gone = grows.abandoned _ _ h.gone;
+    done = done h.done;
+  })
+    where
+      done : IsDone f r h.lane h.number ⊎ ((y : Skip) × Has xs y × (y.lane ≡ h.lane) × (h.number ≤ y.number)) →
+          IsDone f t h.lane h.number ⊎ ((y : Skip) × Has xs y × (y.lane ≡ h.lane) × (h.number ≤ y.number))
+      done (inl k) = inl (IsDone-later f r t learns h.lane h.number k)
+      done (inr k) = inr k
+
+  pub MayPass-later : (l : Lane) (n : ℕ) → MayPass a r l n → MayPass b t l n
+  MayPass-later l n (inl h) = inl (grows.abandoned _ _ h)
+  MayPass-later l n (inr h) = inr (IsAllSeen-later a.plan b.plan grows.plan r t learns l n h)
+
+  pub IsRetired-later : (i : ℕ) → IsRetired a r i → IsRetired b t i
+  IsRetired-later i h = record {
+    lane = h.lane;
+    number = h.number;
+    entry = h.entry;
+    here = grows.plan.entries _ _ h.here;
+    of = h.of;
+    may = λ k. MayPass-later h.lane h.number (h.may k);
+  }
+
+  pub IsFair-later : (x : Forward) → IsFair f a r x → IsFair f b t x
+  IsFair-later x h = record {
+    upto = λ i l m. lost_by-later x.skips i (h.upto i l m);
+    listed = λ y k n l. MayPass-later y.lane n (h.listed y k n l);
+    numbered = h.numbered;
+    old = λ e ahead i l m. IsRetired-later i (h.old e (IsAhead-earlier r t learns x.point ahead) i l m);
+  }
+
+-- A move of the sender or its user. It says why the plan is in order, and why what is covered was reached.
+pub by_sender : (w : Way) (b : SenderView) (u : Asked) → Good w → Grows w.sender b → Arranged w.format b.plan →
+    Waits w.streams b.plan u b.queue → Sound w.streams b u →
+    ((i : ℕ) → b.covered i ≡ true → IsReached w.receiver i) → ((i : ℕ) → i ≤ b.cum → IsReached w.receiver i) →
+    Good (record w { sender = b; asked = u })
+by_sender w b u g grows arranged waits sound covered cum = record {
+  arranged = arranged;
+  waits = waits;
+  sound = sound;
+  between = record {
+    pieces = λ x h. IsFragment-later a.plan b.plan grows.plan f x (g.between.pieces x h);
+    forwards = λ x h. IsFair-later f a b r r grows still x (g.between.forwards x h);
+    sacks = g.between.sacks;
+    shutdowns = g.between.shutdowns;
+    covered = covered;
+    cum = cum;
+  };
+  held = record {
+    jumped = λ i l m. lost-later f a b r r grows still i (held.jumped i l m);
+    old = λ e i l m. IsRetired-later f a b r r grows still i (held.old e i l m);
+    kept = λ x h. IsFragment-later a.plan b.plan grows.plan f x (held.kept x h);
+    seen = λ i h. settled i (held.seen i h);
+    skips = λ l n h. MayPass-later f a b r r grows still l n (held.skips l n h);
+    unskipped = held.unskipped;
+    kept_seen = held.kept_seen;
+    fresh = λ x n k h here was. fresh x n k h here was;
+    told = record {
+      all_seen = λ l n h. IsAllSeen-later a.plan b.plan grows.plan r r still l n (held.told.all_seen l n (earlier l n h));
+      below = held.told.below;
+      rising = held.told.rising;
+      apart = held.told.apart;
+      honest = λ s h k. IsHonest-later a.plan b.plan grows.plan f s h (held.told.honest s h k);
+      passed = λ s n l. passed s n (held.told.passed s n l);
+    };
+  };
+}
+  where
+    f : Format
+    f = w.format
+
+    a : SenderView
+    a = w.sender
+
+    r : ReceiverView
+    r = w.receiver
+
+    held : Held f a r
+    held = g.held
+
+    still : Learns r r
+    still = Learns-refl r
+
+    earlier : (l : Lane) (n : ℕ) → WasHanded b.plan r l n → WasHanded a.plan r l n
+    earlier l n h = WasHanded-earlier a.plan b.plan grows.plan f r l n held.told.honest h
+
+    fresh : (x : Piece) (n k : ℕ) → Has r.kept x → entry_at b.plan x.index ≡ Some (Part x.lane n k) → WasHanded b.plan r x.lane n → ⊥
+    fresh x n k h here was =
+        let y = held.kept x h in
+        let z : entry_at b.plan x.index ≡ Some (Part x.lane y.number y.fragment) = grows.plan.entries _ _ y.here in
+        let e : Part x.lane y.number y.fragment ≡ Part x.lane n k = cc in
+        held.fresh x n k h (subst (λ (d : Entry). entry_at a.plan x.index ≡ Some d) e y.here) (earlier x.lane n was)
+
+    over : (l : Lane) (n : ℕ) (K : Type 0) → K ⊎ IsOver f a r l n → K ⊎ IsOver f b r l n
+    over l n K (inl h) = inl h
+    over l n K (inr (inl h)) = inr (inl (WasHanded-later a.plan b.plan grows.plan r l n h))
+    over l n K (inr (inr h)) = inr (inr (grows.abandoned l n h.0, h.1))
+
+    settled : (i : ℕ) → IsSettled f a r i → IsSettled f b r i
+    settled i x = record {
+      lane = x.lane;
+      number = x.number;
+      fragment = x.fragment;
+      message = x.message;
+      named = grows.plan.messages _ _ _ x.named;
+      here = grows.plan.entries _ _ x.here;
+      state = over _ _ _ x.state;
+    }
+
+    passed : (s n : ℕ) → WasHanded a.plan r (ordered_lane s) n ⊎ (a.abandoned (ordered_lane s) n ≡ true) →
+        WasHanded b.plan r (ordered_lane s) n ⊎ (b.abandoned (ordered_lane s) n ≡ true)
+    passed s n (inl h) = inl (WasHanded-later a.plan b.plan grows.plan r (ordered_lane s) n h)
+    passed s n (inr h) = inr (grows.abandoned (ordered_lane s) n h)
+
+-- A move of the receiver or its user.
+pub by_receiver : (w : Way) (t : ReceiverView) → Good w → Learns w.receiver t → Held w.format w.sender t → Good (with_receiver w t)
+by_receiver w t g learns held = record {
+  arranged = g.arranged;
+  waits = g.waits;
+  sound = g.sound;
+  between = record {
+    pieces = g.between.pieces;
+    forwards = λ x h. IsFair-later w.format w.sender w.sender w.receiver t (Grows-refl w.sender) learns x (g.between.forwards x h);
+    sacks = λ x i h k. IsReached-later w.receiver t learns i (g.between.sacks x i h k);
+    shutdowns = λ c i h k. IsReached-later w.receiver t learns i (g.between.shutdowns c i h k);
+    covered = λ i h. IsReached-later w.receiver t learns i (g.between.covered i h);
+    cum = λ i h. IsReached-later w.receiver t learns i (g.between.cum i h);
+  };
+  held = held;
+}
+
+-- A chunk more in the bags.
+pub by_bags : (w : Way) (pieces : List Piece) (forwards : List Forward) (sacks : List Acknowledgement) (shutdowns : List ℕ) → Good w →
+    ((x : Piece) → Has pieces x → IsFragment w.format w.sender.plan x) →
+    ((x : Forward) → Has forwards x → IsFair w.format w.sender w.receiver x) →
+    ((x : Acknowledgement) (i : ℕ) → Has sacks x → covers x i ≡ true → IsReached w.receiver i) →
+    ((c i : ℕ) → Has shutdowns c → i ≤ c → IsReached w.receiver i) →
+    Good (record w { pieces = pieces; forwards = forwards; sacks = sacks; shutdowns = shutdowns })
+by_bags w pieces forwards sacks shutdowns g p f s d = record {
+  arranged = g.arranged;
+  waits = g.waits;
+  sound = g.sound;
+  between = record {
+    pieces = p;
+    forwards = f;
+    sacks = s;
+    shutdowns = d;
+    covered = g.between.covered;
+    cum = g.between.cum;
+  };
+  held = g.held;
+}

@@ -1,0 +1,3 @@
+mod Basics
+mod Facts
+mod Later
