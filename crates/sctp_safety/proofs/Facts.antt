@@ -132,6 +132,7 @@ pub record Sound (streams : ℕ) (a : SenderView) (u : Asked) : Type 0 where
   pub streamed : (l : Lane) (n : ℕ) (m : Message) → message_at a.plan l n ≡ Some m → l.stream < streams
   pub called : (l : Lane) (n : ℕ) (m : Message) → message_at a.plan l n ≡ Some m → IsCalled u l m
   pub abandoned : (l : Lane) (n : ℕ) → a.abandoned l n ≡ true → (m : Message) × (message_at a.plan l n ≡ Some m) × IsAskedFor u m
+  pub ended : (i : ℕ) (l : Lane) (n : ℕ) → entry_at a.plan i ≡ Some (End l n) → a.abandoned l n ≡ true
 
 -- What lies between the two ends, and what the sender took from there.
 pub record Between (w : Way) : Type 0 where
