@@ -1,3 +1,4 @@
 mod Basics
 mod Facts
 mod Later
+mod BagMoves
