@@ -2,3 +2,5 @@ mod Basics
 mod Facts
 mod Later
 mod BagMoves
+mod SafeWhenGood
+mod GoodStart

@@ -53,6 +53,7 @@ pub data Move : Type 0 where
   Hand_over : (stream : ℕ) (first : Piece) (others : List Piece) → Move
   Hand_unordered : (first : Piece) (others : List Piece) → Move
   Pass_over : (stream : ℕ) → Move
+  Clear : (stream : ℕ) → Move
   Let_go : Piece → Move
   Take : (stream : ℕ) (message : Handed) (rest : List Handed) → Move
   Note : ReceiverView → Move
@@ -175,6 +176,8 @@ Step w (Pass_over s) v =
     (w.receiver.next s < w.receiver.skip (ordered_lane s))
     × HasNoWhole w.format w.receiver.kept (ordered_lane s) (w.receiver.next s)
     × (v ≡ with_receiver w (past w.receiver s))
+Step w (Clear s) v =
+    v ≡ with_receiver w (record w.receiver { kept = without_below w.receiver.kept s (w.receiver.next s) })
 Step w (Let_go x) v =
     Has w.receiver.kept x × IsLeftBehind w.format w.receiver x
     × ((xs : List Piece) → IsWholeWith w.format w.receiver.kept x xs → ⊥)
