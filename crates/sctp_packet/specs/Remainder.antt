@@ -27,7 +27,7 @@ abbrev pub times : List Bool → List Bool → List Bool
 times [] g = zeros (length (drop 1 g))
 times (c ∷ f) g = add (scale c g ++ zeros (length f)) (false ∷ times f g)
 
--- What remains on division: the dividend is a multiple of the divisor and the remainder, which has one coefficient fewer.
+-- What remains on division: the dividend is a multiple of the divisor plus the remainder, which has one coefficient fewer than it.
 pub record IsRemainder (dividend divisor rest : List Bool) : Type 0 where
   pub quotient : List Bool
   pub shorter : suc (length rest) ≡ length divisor

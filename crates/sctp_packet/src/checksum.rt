@@ -1,7 +1,6 @@
 //! CRC32c, by a shift register that takes a bit at a time.
 
-ghost use Rattle.std.specs.Prelude.{◌≡◌, ℕ, false, List, drop, bit_xor};
-ghost use Rattle.sctp_packet.specs.Remainder.{zeros};
+ghost use Rattle.std.specs.Prelude.{◌≡◌, ℕ, false, drop};
 ghost use Rattle.sctp_packet.specs.Checksum.{bits, divisor, crc32c, IsChecksum};
 ghost use Rattle.sctp_packet.specs.Register.{shifted, register_after};
 
