@@ -1,0 +1,6 @@
+pub mod AddLemmas
+pub mod DivisionLaws
+pub mod RegisterLemmas
+pub mod BitLemmas
+pub mod ChecksumLaws
+pub mod StandardFacts

@@ -1,0 +1,3 @@
+pub mod Remainder
+pub mod Checksum
+pub mod Register

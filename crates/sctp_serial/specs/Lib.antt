@@ -1,0 +1,2 @@
+pub use Rattle.sctp_model.specs.Serial
+pub mod NearLaws

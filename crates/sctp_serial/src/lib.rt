@@ -1,0 +1,14 @@
+//! Counts and their wire values (RFC 9260, 2.6; RFC 8260, 2.1; RFC 1982): TSNs and MIDs in 32 bits, SSNs in 16.
+//!
+//! A count is a plain `u32` that never wraps. [`Serial`] is a wire value of it, in fewer bits or as many:
+//! wire values are compared on their circle, and read as the count near one that is known.
+#![tactic(auto)]
+
+mod counts;
+mod widths;
+
+pub use counts::Serial;
+pub use widths::{S16, S32};
+
+#[cfg(test)]
+mod tests;

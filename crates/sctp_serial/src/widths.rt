@@ -1,0 +1,93 @@
+//! The two widths: SSNs have 16 bits (RFC 9260, 3.3.1), TSNs and MIDs 32 (RFC 9260, 3.3.1; RFC 8260, 2.1).
+
+use crate::counts::Serial;
+
+/// A wire value of 16 bits, as an SSN.
+#[derive(Clone, Copy, Debug, PartialEq, Eq)]
+pub struct S16(pub u16);
+
+/// A wire value of 32 bits, as a TSN or a MID.
+#[derive(Clone, Copy, Debug, PartialEq, Eq)]
+pub struct S32(pub u32);
+
+impl S16 {
+    /// Half the number of wire values.
+    const HALF: u16 = 32_768;
+}
+
+impl S32 {
+    /// Half the number of wire values.
+    const HALF: u32 = 2_147_483_648;
+}
+
+impl Serial for S16 {
+    ghost use Rattle.sctp_serial.specs.NearLaws.{near_answers_16, near_is_one_16, near_finds_16};
+
+    ghost bits = { 16 };
+
+    ghost wire = { λ s. s.0 };
+
+    ghost near_answers = { near_answers_16 };
+
+    ghost near_is_one = { near_is_one_16 };
+
+    ghost near_finds = { near_finds_16 };
+
+    fn of_count(count: u32) -> Self {
+        S16((count % 65_536) as u16)
+    }
+
+    fn before(self, other: Self) -> bool {
+        let ahead = other.0.wrapping_sub(self.0);
+        ahead != 0 && ahead < S16::HALF
+    }
+
+    fn near(self, reference: u32) -> Option<u32> {
+        let known = S16::of_count(reference);
+        let ahead = self.0.wrapping_sub(known.0);
+        let behind = known.0.wrapping_sub(self.0);
+        if ahead < S16::HALF {
+            reference.checked_add(u32::from(ahead))
+        } else if behind < S16::HALF {
+            reference.checked_sub(u32::from(behind))
+        } else {
+            None
+        }
+    }
+}
+
+impl Serial for S32 {
+    ghost use Rattle.sctp_serial.specs.NearLaws.{near_answers_32, near_is_one_32, near_finds_32};
+
+    ghost bits = { 32 };
+
+    ghost wire = { λ s. s.0 };
+
+    ghost near_answers = { near_answers_32 };
+
+    ghost near_is_one = { near_is_one_32 };
+
+    ghost near_finds = { near_finds_32 };
+
+    fn of_count(count: u32) -> Self {
+        S32(count)
+    }
+
+    fn before(self, other: Self) -> bool {
+        let ahead = other.0.wrapping_sub(self.0);
+        ahead != 0 && ahead < S32::HALF
+    }
+
+    fn near(self, reference: u32) -> Option<u32> {
+        let known = S32::of_count(reference);
+        let ahead = self.0.wrapping_sub(known.0);
+        let behind = known.0.wrapping_sub(self.0);
+        if ahead < S32::HALF {
+            reference.checked_add(ahead)
+        } else if behind < S32::HALF {
+            reference.checked_sub(behind)
+        } else {
+            None
+        }
+    }
+}
