@@ -4,3 +4,5 @@ mod Later
 mod BagMoves
 mod SafeWhenGood
 mod GoodStart
+mod Built
+mod Taken
