@@ -1,3 +1,6 @@
 mod Basics
 mod Facts
 mod Later
+mod PlanLemmas
+mod OrderlyPlan
+mod Gains
