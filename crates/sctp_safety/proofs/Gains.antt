@@ -1,5 +1,5 @@
 -- The two ways in which a plan gains entries: a run of fragments, and an end mark.
-use Rattle.std.proofs.Common.{◌≡◌, ℕ, zero, suc, ◌+◌, ◌-◌, ◌<◌, ◌≤◌, ◌⊎◌, List, [], ◌∷◌, ◌++◌, length, slice_get, Some, inl, inr, refl, sym, subst, ap, arith, le_refl}
+use Rattle.std.proofs.Common.{◌≡◌, ℕ, zero, suc, ◌+◌, ◌-◌, ◌<◌, ◌≤◌, ◌⊎◌, List, [], ◌∷◌, ◌++◌, length, slice_get, Some, inl, inr, refl, sym, subst, ap, arith}
 use Rattle.std.proofs.lemmas.Bool.{cases_lt}
 use Rattle.sctp_model.specs.Words.{Has}
 use Rattle.sctp_model.specs.Format.{Format, Plain, Lane, at_lane}
@@ -7,13 +7,12 @@ use Rattle.sctp_model.specs.Plan.{Message, Entry, Part, End, Plan, entry_at, mes
 use Rattle.sctp_safety.specs.Way.{IsAllClosed}
 use Rattle.sctp_safety.proofs.Basics.{at_lane_cases, at_lane_same, slice_get-left, slice_get-end, slice_get-push, slice_get-within, item_at-left, item_at-within, item_at-cases, item_at-right}
 use Rattle.sctp_safety.proofs.Facts.{Arranged}
-use Rattle.sctp_safety.proofs.Later.{IsAssigned-later, IsComplete-later}
-use Rattle.sctp_safety.proofs.PlanLemmas.{parts_get, parts_at, assigned_below, grown, IsLatest, IsNext, arranged_more}
+use Rattle.sctp_safety.proofs.PlanLemmas.{parts_get, parts_at, assigned_below, grown, IsLatest, arranged_more}
 
 -- a message that is not closed is the latest of its stream
 pub latest_open : (f : Format) (p : Plan) → Arranged f p → (l : Lane) (n : ℕ) (m : Message) → message_at p l n ≡ Some m →
     (IsClosed p l n → ⊥) → IsLatest p p.messages l n m
-latest_open f p a l n m h open_ = record {
+latest_open f p a l n m h unclosed = record {
   named = h;
   keeps = λ k o x e. e;
   gains = λ k o x e. inl e;
@@ -26,7 +25,7 @@ latest_open f p a l n m h open_ = record {
   where
     last : (k : Lane) (o : ℕ) (x : Message) → message_at p k o ≡ Some x → k.stream ≡ l.stream →
         (m.ticket < x.ticket) ⊎ (x.ticket ≤ m.ticket) → x.ticket ≤ m.ticket
-    last k o x e s (inl lt) = absurd (open_ (a.closed l k n o m x h e (sym s) lt))
+    last k o x e s (inl lt) = absurd (unclosed (a.closed l k n o m x h e (sym s) lt))
     last k o x e s (inr le) = le
 
 -- so is a new one with a later ticket
@@ -175,12 +174,12 @@ module _ (f : Format) (p : Plan) (ms : Lane → List Message) (l : Lane) (n k d 
 
 -- The end mark of a message that is not closed.
 module _ (f : Format) (p : Plan) (l : Lane) (n : ℕ) (m : Message) (a : Arranged f p) (h : message_at p l n ≡ Some m)
-    (open_ : IsClosed p l n → ⊥) where
+    (unclosed : IsClosed p l n → ⊥) where
   abbrev mark : List Entry
   mark = End l n ∷ []
 
-  abbrev ended_ : Plan
-  ended_ = grown p p.messages mark
+  abbrev with_mark : Plan
+  with_mark = grown p p.messages mark
 
   only : (j : ℕ) (e : Entry) → slice_get mark j ≡ Some e → End l n ≡ e
   only zero e s = cc
@@ -194,15 +193,15 @@ module _ (f : Format) (p : Plan) (l : Lane) (n : ℕ) (m : Message) (a : Arrange
   had i k (inl s) = (i, s)
   had i k (inr (j, e, s)) = absurd (no_part j k s)
 
-  pub mark_keeps : Arranged f ended_
-  mark_keeps = arranged_more f p p.messages mark l n m a (latest_open f p a l n m h open_) (record {
+  pub mark_keeps : Arranged f with_mark
+  mark_keeps = arranged_more f p p.messages mark l n m a (latest_open f p a l n m h unclosed) (record {
     own = λ j e s. subst (λ (y : Entry). IsOf l n y) (only j e s) (refl, refl);
     begun = let r = a.begun l n m h in (r.0, item_at-left p.entries mark r.0 (Part l n 0) r.1);
     within = λ j k s. absurd (no_part j k s);
     follows = λ j k s. absurd (no_part j (suc k) s);
     once = λ i j k s e. absurd (no_part i k s);
     fresh = λ j k s e. no_part j k s;
-    ended = λ s c. open_ (inr (m, (h, λ k b. let y = c.1 k b in had y.0 k (item_at-cases p.entries mark y.0 (Part l n k) y.1))));
+    ended = λ s c. unclosed (inr (m, (h, λ k b. let y = c.1 k b in had y.0 k (item_at-cases p.entries mark y.0 (Part l n k) y.1))));
     consecutive = λ e j k s. absurd (no_part j (suc k) s);
-    complete = λ e. absurd (open_ (inr (m, a.complete e l n m h)));
+    complete = λ e. absurd (unclosed (inr (m, a.complete e l n m h)));
   })

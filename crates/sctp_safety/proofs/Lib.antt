@@ -4,3 +4,5 @@ mod Later
 mod PlanLemmas
 mod OrderlyPlan
 mod Gains
+mod QueueLemmas
+mod SenderMoves
