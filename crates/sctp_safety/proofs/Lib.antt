@@ -6,3 +6,8 @@ mod SafeWhenGood
 mod GoodStart
 mod Built
 mod Taken
+mod PlanLemmas
+mod OrderlyPlan
+mod Gains
+mod QueueLemmas
+mod SenderMoves
