@@ -1,3 +1,5 @@
 mod Basics
 mod Facts
 mod Later
+mod Settled
+mod PieceMoves
