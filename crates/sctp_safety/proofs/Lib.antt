@@ -3,3 +3,5 @@ mod Facts
 mod Later
 mod Settled
 mod PieceMoves
+mod ForwardMove
+mod TakeMoves
