@@ -1,7 +1,10 @@
 mod Basics
 mod Facts
 mod Later
+mod Framing
 mod Settled
+mod Handing
+mod OrderedMoves
 mod PieceMoves
 mod ForwardMove
 mod TakeMoves

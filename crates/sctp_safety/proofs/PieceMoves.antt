@@ -14,7 +14,8 @@ use Rattle.sctp_safety.specs.Way.{Way, Keep_piece, Drop_piece, Step, with_receiv
 use Rattle.sctp_safety.proofs.Facts.{IsDone, IsOver, IsSettled, MayPass, Arranged, Held, Told, Good}
 use Rattle.sctp_safety.proofs.Basics.{at_cases, at_same, at_other, lane_is}
 use Rattle.sctp_safety.proofs.Later.{Learns, Grows-refl, lost-later, IsRetired-later, MayPass-later, IsAllSeen-later, by_receiver}
-use Rattle.sctp_safety.proofs.Settled.{number_is, one_number, settled_on, not_all_seen}
+use Rattle.sctp_safety.proofs.Framing.{part_fragment, part_by_fragment}
+use Rattle.sctp_safety.proofs.Settled.{ordered_numbered, all_numbered, number_is, one_number, settled_on, not_all_seen}
 
 abbrev see : ReceiverView → ℕ → List Piece → ReceiverView
 see r i ps = record r { seen = at r.seen i true; kept = ps }
@@ -116,16 +117,9 @@ kept_by-Keep_piece w v x g (has, unseen, e) = subst Good (sym e) (by_receiver w 
     from z (inl e) = subst (λ (q : Piece). Has r.kept q ⊎ IsNew f a r x.index ps q) e (inr (record { fragment = y; index = refl; fresh = fresh }))
     from z (inr h) = inl h
 
-word_says : (k payload : ℕ) → cond (k == 0) 0 (cond (k == 0) payload k) ≡ k
-word_says k payload = grind (arith, nat_tests)
-
 -- under I-DATA a chunk says which fragment it is
 fragment_is : (p : Plan) (x : Piece) (y : IsFragment Interleaved p x) → fragment_of x ≡ y.fragment
-fragment_is p x y = subst (λ (z : Piece). fragment_of z ≡ y.fragment) (sym y.same) (word_says y.fragment y.message.payload)
-
-all_numbered : (k : Kind) → is_numbered Interleaved k ≡ true
-all_numbered Ordered = refl
-all_numbered Unordered = refl
+fragment_is p x y = part_fragment p x.lane y.number y.message y.fragment x (part_by_fragment Interleaved p x y)
 
 -- A chunk that wasn't seen, and is no longer wanted, is of a message that is over.
 module _ (f : Format) (a : SenderView) (r : ReceiverView) (x : Piece) (y : IsFragment f a.plan x) (arranged : Arranged f a.plan)
@@ -139,13 +133,8 @@ module _ (f : Format) (a : SenderView) (r : ReceiverView) (x : Piece) (y : IsFra
   when_behind Ordered e b = over (inr (inr (e, below))) (subst (λ (l : Lane). WasHanded a.plan r l y.number ⊎ (a.abandoned l y.number ≡ true)) lane
       (held.told.passed x.lane.stream y.number below))
     where
-      numbered : (g : Format) (k : Kind) → k ≡ Ordered → is_numbered g k ≡ true
-      numbered Plain Ordered q = refl
-      numbered Interleaved Ordered q = refl
-      numbered g Unordered q = absurd (cc)
-
       below : y.number < r.next x.lane.stream
-      below = let q = number_is f a.plan x y (numbered f x.lane.kind e) in let b' : x.number < r.next x.lane.stream = b in omega arith
+      below = let q = number_is f a.plan x y (ordered_numbered f x.lane.kind e) in let b' : x.number < r.next x.lane.stream = b in omega arith
 
       lane : ordered_lane x.lane.stream ≡ x.lane
       lane = lane_is (ordered_lane x.lane.stream) x.lane refl (sym e)

@@ -1,23 +1,31 @@
 -- What a chunk says of its message, and what became of an index that was seen.
 use Rattle.std.proofs.Common.{length, ◌≡◌, ℕ, ◌<◌, ◌⊎◌, Bool, true, false, cond, Some, inl, inr, refl, sym, subst, ap, arith}
 use Rattle.sctp_model.specs.Words.{Has}
-use Rattle.sctp_model.specs.Format.{Format, Lane, is_numbered}
+use Rattle.sctp_model.specs.Format.{Format, Plain, Interleaved, Kind, Ordered, Unordered, Lane, is_numbered}
 use Rattle.sctp_model.specs.Plan.{Message, Entry, Part, Plan, entry_at, message_at, IsOf}
 use Rattle.sctp_model.specs.Pieces.{Piece, piece_of, number_of, IsFragment}
 use Rattle.sctp_model.specs.SenderView.{SenderView}
 use Rattle.sctp_model.specs.ReceiverView.{ReceiverView}
 use Rattle.sctp_model.specs.Safe.{WasHanded}
-use Rattle.sctp_safety.proofs.Facts.{IsOver, IsSettled, IsAllSeen, Arranged}
+use Rattle.sctp_safety.proofs.Facts.{Held, IsOver, IsSettled, IsAllSeen, Arranged}
+use Rattle.sctp_safety.proofs.Basics.{each_or}
+use Rattle.sctp_safety.proofs.Framing.{whole_when_kept, IsGathered, number_counts}
 use Rattle.sctp_safety.proofs.Later.{Learns, IsDone-later}
 
-pub number_of-is : (f : Format) (l : Lane) (n : ℕ) → is_numbered f l.kind ≡ true → number_of f l n ≡ n
-number_of-is f l n e = subst (λ (b : Bool). cond b n 0 ≡ n) (sym e) refl
+pub ordered_numbered : (f : Format) (k : Kind) → k ≡ Ordered → is_numbered f k ≡ true
+ordered_numbered Plain Ordered e = refl
+ordered_numbered Interleaved Ordered e = refl
+ordered_numbered f Unordered e = absurd (cc)
+
+pub all_numbered : (k : Kind) → is_numbered Interleaved k ≡ true
+all_numbered Ordered = refl
+all_numbered Unordered = refl
 
 -- where the format numbers a lane, a chunk has its message's number
 pub number_is : (f : Format) (p : Plan) (x : Piece) (y : IsFragment f p x) → is_numbered f x.lane.kind ≡ true → x.number ≡ y.number
 number_is f p x y e =
     let h : x.number ≡ number_of f x.lane y.number = ap (λ (z : Piece). z.number) y.same in
-    let d = number_of-is f x.lane y.number e in
+    let d = number_counts f x.lane y.number e in
     cc
 
 -- an index has one entry
@@ -99,3 +107,26 @@ not_all_seen f a r x y arranged unseen all = no (all.seen y.fragment within)
         let e : i ≡ x.index = arranged.once i x.index x.lane y.number y.fragment here y.here in
         let h : r.seen i ≡ r.seen x.index = ap r.seen e in
         absurd (cc)
+
+-- A message all of which was seen is over, where it isn't whole.
+pub over_unless_whole : (f : Format) (a : SenderView) (r : ReceiverView) → Arranged f a.plan → Held f a r → (l : Lane) (n : ℕ) →
+    (x : IsAllSeen a.plan r l n) → (IsGathered f a.plan l n x.message r.kept → ⊥) → IsOver f a r l n
+over_unless_whole f a r arranged held l n x not_whole = go (each_or (length x.message.fragments) each)
+  where
+    IsThere : ℕ → Type 0
+    IsThere k = (i : ℕ) × (entry_at a.plan i ≡ Some (Part l n k)) × Has r.kept (piece_of f i l n k x.message)
+
+    each : (k : ℕ) → k < length x.message.fragments → IsThere k ⊎ IsOver f a r l n
+    each k b = at' (x.seen k b)
+      where
+        which : (i : ℕ) → entry_at a.plan i ≡ Some (Part l n k) → Has r.kept (piece_of f i l n k x.message) ⊎ IsOver f a r l n →
+            IsThere k ⊎ IsOver f a r l n
+        which i here (inl h) = inl (i, here, h)
+        which i here (inr h) = inr h
+
+        at' : (i : ℕ) × (entry_at a.plan i ≡ Some (Part l n k)) × (r.seen i ≡ true) → IsThere k ⊎ IsOver f a r l n
+        at' (i, here, seen) = which i here (settled_at f a r i l n k x.message here x.named (held.seen i seen))
+
+    go : ((k : ℕ) → k < length x.message.fragments → IsThere k) ⊎ IsOver f a r l n → IsOver f a r l n
+    go (inl h) = absurd (not_whole (whole_when_kept f a.plan arranged l n x.message x.named r.kept held.kept h))
+    go (inr h) = h
