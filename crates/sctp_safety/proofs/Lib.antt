@@ -5,6 +5,7 @@ mod Framing
 mod Settled
 mod Handing
 mod OrderedMoves
+mod UnorderedMoves
 mod PieceMoves
 mod ForwardMove
 mod TakeMoves
