@@ -6,8 +6,8 @@ use Rattle.sctp_model.specs.Format.{Format, Plain, Lane, is_numbered, at_lane}
 use Rattle.sctp_model.specs.SenderView.{SenderView}
 use Rattle.sctp_model.specs.Forward.{Skip, Forward, skipped}
 use Rattle.sctp_model.specs.ReceiverView.{ReceiverView}
-use Rattle.sctp_safety.specs.Way.{Way, Forward_comes, Step, with_receiver}
-use Rattle.sctp_safety.proofs.Facts.{IsDone, IsLost, IsLostBy, IsAhead, IsRetired, IsFair, MayPass, Held, Told, Good}
+use Rattle.sctp_safety.specs.Way.{Way, Forward_comes, Step}
+use Rattle.sctp_safety.proofs.Facts.{IsDone, IsLost, IsLostBy, IsRetired, IsFair, MayPass, Held, Good}
 use Rattle.sctp_safety.proofs.Basics.{at_lane_cases}
 use Rattle.sctp_safety.proofs.Later.{Learns, Grows-refl, lost-later, IsDone-later, IsRetired-later, MayPass-later, IsAllSeen-later, by_receiver}
 use Rattle.sctp_safety.proofs.Settled.{settled_on}

@@ -1,18 +1,17 @@
 -- Chunks go, and messages are handed over or passed over.
-use Rattle.std.proofs.Common.{◌≡◌, ℕ, suc, ◌<◌, ◌≤◌, ◌⊎◌, true, List, [], ◌∷◌, ◌++◌, Some, inl, inr, refl, sym, subst, ap, arith, le_refl, append_assoc}
+use Rattle.std.proofs.Common.{◌≡◌, ℕ, ◌<◌, ◌≤◌, ◌⊎◌, true, List, [], ◌∷◌, ◌++◌, Some, inl, inr, refl, sym, subst, ap, arith, le_refl, append_assoc}
 use Rattle.sctp_model.specs.Words.{Has, IsWithin, at}
-use Rattle.sctp_model.specs.Format.{Format, Kind, Ordered, Lane, is_numbered, ordered_lane}
-use Rattle.sctp_model.specs.Plan.{Entry, Part, Plan, entry_at}
-use Rattle.sctp_model.specs.Pieces.{Piece, IsFragment}
-use Rattle.sctp_model.specs.Whole.{IsWhole}
+use Rattle.sctp_model.specs.Format.{Format, Ordered, Lane, ordered_lane}
+use Rattle.sctp_model.specs.Plan.{Part, entry_at}
+use Rattle.sctp_model.specs.Pieces.{Piece}
 use Rattle.sctp_model.specs.SenderView.{SenderView}
 use Rattle.sctp_model.specs.ReceiverView.{Handed, ReceiverView, handed}
 use Rattle.sctp_model.specs.Receiving.{message_of}
-use Rattle.sctp_model.specs.Safe.{IsRising, IsApart, IsSent, WasHanded}
+use Rattle.sctp_model.specs.Safe.{IsRising, IsApart, WasHanded}
 use Rattle.sctp_safety.proofs.Facts.{IsOver, IsAllSeen, Arranged, IsHonest, Held, Told}
 use Rattle.sctp_safety.proofs.Basics.{at_cases, Has-left, Has-right, Has-push}
 use Rattle.sctp_safety.proofs.Later.{Learns, Grows-refl, Extends-refl, lost-later, IsRetired-later, MayPass-later, IsAllSeen-later}
-use Rattle.sctp_safety.proofs.Framing.{IsOneMessage, honest_whole}
+use Rattle.sctp_safety.proofs.Framing.{IsOneMessage}
 use Rattle.sctp_safety.proofs.Settled.{settled_on}
 
 rising_push : (xs : List Handed) (h : Handed) → IsRising xs →

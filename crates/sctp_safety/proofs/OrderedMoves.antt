@@ -1,18 +1,18 @@
 -- The next ordered message of a stream is handed over, or its number is passed over.
-use Rattle.std.proofs.Common.{lt-ltb, ◌≡◌, ℕ, suc, ◌<◌, ◌≤◌, ◌⊎◌, not, ◌&&◌, Bool, true, false, nat_lt, List, [], ◌∷◌, ◌++◌, Some, inl, inr, refl, sym, subst, ap, arith, le_refl, ltb-true}
+use Rattle.std.proofs.Common.{lt-ltb, ◌≡◌, ℕ, suc, ◌<◌, ◌≤◌, ◌⊎◌, not, true, false, nat_lt, List, ◌∷◌, Some, inl, inr, refl, sym, subst, ap, arith, le_refl, ltb-true}
 use Rattle.std.proofs.lemmas.Bool.{cases_eq, cases_Bool, and_parts}
-use Rattle.sctp_model.specs.Words.{Has, IsWithin, at}
-use Rattle.sctp_model.specs.Format.{Format, Kind, Ordered, Lane, is_numbered, same_lane, ordered_lane}
-use Rattle.sctp_model.specs.Plan.{Entry, Part, Plan, entry_at}
-use Rattle.sctp_model.specs.Pieces.{Piece, IsFragment}
+use Rattle.sctp_model.specs.Words.{Has, at}
+use Rattle.sctp_model.specs.Format.{Format, Ordered, Lane, same_lane, ordered_lane}
+use Rattle.sctp_model.specs.Plan.{Part, entry_at}
+use Rattle.sctp_model.specs.Pieces.{Piece}
 use Rattle.sctp_model.specs.SenderView.{SenderView}
-use Rattle.sctp_model.specs.ReceiverView.{Handed, ReceiverView, handed}
-use Rattle.sctp_model.specs.Receiving.{is_below, without_below, message_of}
+use Rattle.sctp_model.specs.ReceiverView.{Handed, ReceiverView}
+use Rattle.sctp_model.specs.Receiving.{is_below, without_below}
 use Rattle.sctp_model.specs.Safe.{WasHanded}
-use Rattle.sctp_safety.specs.Way.{Way, Hand_over, Pass_over, Step, with_receiver}
-use Rattle.sctp_safety.proofs.Facts.{IsOver, IsAllSeen, MayPass, Held, Told, Good}
-use Rattle.sctp_safety.proofs.Basics.{at_cases, at_same, Has-filter, Has-filtered, filter_is, same_lane-true, same_lane-refl, lane_is}
-use Rattle.sctp_safety.proofs.Later.{Learns, by_receiver}
+use Rattle.sctp_safety.specs.Way.{Way, Hand_over, Pass_over, Step}
+use Rattle.sctp_safety.proofs.Facts.{IsOver, IsAllSeen, MayPass, Held, Good}
+use Rattle.sctp_safety.proofs.Basics.{at_cases, at_same, Has-filter, Has-filtered, filter_is, same_lane-true, same_lane-refl}
+use Rattle.sctp_safety.proofs.Later.{by_receiver}
 use Rattle.sctp_safety.proofs.Framing.{IsOneMessage, IsGathered, honest_whole, number_counts}
 use Rattle.sctp_safety.proofs.Settled.{ordered_numbered, number_is, one_number, over_unless_whole}
 use Rattle.sctp_safety.proofs.Handing.{after, after-Learns, after_held, same_told, more_told, more_waiting, was_new, still_handed, which_handed}

@@ -1,17 +1,16 @@
 -- What the receiver does with a chunk that comes: it keeps the data, or drops it.
-use Rattle.std.proofs.lemmas.Bool.Decides.{nat_tests}
-use Rattle.std.proofs.Common.{cond, ◌==◌, ◌≡◌, ℕ, suc, ◌<◌, ◌≤◌, ◌⊎◌, Bool, true, false, List, [], ◌∷◌, Some, inl, inr, refl, sym, subst, ap, arith, le_refl}
+use Rattle.std.proofs.Common.{◌≡◌, ℕ, ◌<◌, ◌≤◌, ◌⊎◌, Bool, true, false, List, ◌∷◌, Some, inl, inr, refl, sym, subst, ap, arith, le_refl}
 use Rattle.std.proofs.lemmas.Bool.{cases_eq, cases_Bool}
 use Rattle.sctp_model.specs.Words.{Has, at}
 use Rattle.sctp_model.specs.Format.{Format, Plain, Interleaved, Kind, Ordered, Unordered, Lane, is_numbered, ordered_lane}
-use Rattle.sctp_model.specs.Plan.{Entry, Part, Plan, entry_at}
-use Rattle.sctp_model.specs.Pieces.{Piece, piece_of, fragment_of, IsFragment}
+use Rattle.sctp_model.specs.Plan.{Part, Plan, entry_at}
+use Rattle.sctp_model.specs.Pieces.{Piece, fragment_of, IsFragment}
 use Rattle.sctp_model.specs.SenderView.{SenderView}
 use Rattle.sctp_model.specs.ReceiverView.{ReceiverView}
 use Rattle.sctp_model.specs.Receiving.{IsPassed, IsBehind}
 use Rattle.sctp_model.specs.Safe.{WasHanded}
-use Rattle.sctp_safety.specs.Way.{Way, Keep_piece, Drop_piece, Step, with_receiver}
-use Rattle.sctp_safety.proofs.Facts.{IsDone, IsOver, IsSettled, MayPass, Arranged, Held, Told, Good}
+use Rattle.sctp_safety.specs.Way.{Way, Keep_piece, Drop_piece, Step}
+use Rattle.sctp_safety.proofs.Facts.{IsDone, IsOver, IsSettled, MayPass, Arranged, Held, Good}
 use Rattle.sctp_safety.proofs.Basics.{at_cases, at_same, at_other, lane_is}
 use Rattle.sctp_safety.proofs.Later.{Learns, Grows-refl, lost-later, IsRetired-later, MayPass-later, IsAllSeen-later, by_receiver}
 use Rattle.sctp_safety.proofs.Framing.{part_fragment, part_by_fragment}

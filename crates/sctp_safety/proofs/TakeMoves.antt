@@ -1,5 +1,5 @@
 -- The receiver's user takes a message, and the receiver notes duplicates.
-use Rattle.std.proofs.Common.{◌≡◌, ℕ, ◌<◌, ◌⊎◌, true, List, [], ◌∷◌, ◌++◌, inl, inr, refl, sym, subst, le_refl, append_assoc}
+use Rattle.std.proofs.Common.{◌≡◌, ℕ, ◌⊎◌, true, List, [], ◌∷◌, ◌++◌, inl, inr, refl, sym, subst, le_refl, append_assoc}
 use Rattle.std.proofs.lemmas.Bool.{cases_eq}
 use Rattle.sctp_model.specs.Words.{Has, at}
 use Rattle.sctp_model.specs.Format.{Format, Lane, ordered_lane}
@@ -7,9 +7,9 @@ use Rattle.sctp_model.specs.SenderView.{SenderView}
 use Rattle.sctp_model.specs.ReceiverView.{Handed, ReceiverView, handed}
 use Rattle.sctp_model.specs.Safe.{IsRising, IsApart, WasHanded}
 use Rattle.sctp_safety.specs.Way.{Way, Take, Note, Step, with_receiver}
-use Rattle.sctp_safety.proofs.Facts.{MayPass, Held, Told, Good}
+use Rattle.sctp_safety.proofs.Facts.{Held, Good}
 use Rattle.sctp_safety.proofs.Basics.{at_same, at_other}
-use Rattle.sctp_safety.proofs.Later.{Learns, Learns-refl, Grows-refl, lost-later, IsRetired-later, MayPass-later, IsAllSeen-later, by_receiver}
+use Rattle.sctp_safety.proofs.Later.{Learns, Grows-refl, lost-later, IsRetired-later, MayPass-later, IsAllSeen-later, by_receiver}
 use Rattle.sctp_safety.proofs.Settled.{settled_on}
 
 -- What is handed over stays the same, and so does all else but the duplicates.

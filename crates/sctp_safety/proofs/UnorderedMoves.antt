@@ -1,20 +1,19 @@
 -- An unordered message is handed over, or a chunk that a FORWARD leaves behind goes.
-use Rattle.std.proofs.Common.{◌≡◌, ℕ, ◌<◌, ◌≤◌, ◌⊎◌, not, ◌&&◌, ◌||◌, ◌==◌, Bool, true, false, cond, List, [], ◌∷◌, ◌++◌, length, Some, inl, inr, refl, sym, subst, ap, arith, le_refl, eqb-true}
-use Rattle.std.proofs.lemmas.Bool.{cases_eq, cases_Bool, and_parts, or_cases, eq-eqb}
-use Rattle.std.proofs.lemmas.Bool.Decides.{nat_tests}
-use Rattle.sctp_model.specs.Words.{Has, IsWithin}
-use Rattle.sctp_model.specs.Format.{Format, Plain, Interleaved, Kind, Ordered, Unordered, Lane, is_numbered, same_lane, ordered_lane}
-use Rattle.sctp_model.specs.Plan.{Message, Entry, Part, Plan, entry_at, message_at}
+use Rattle.std.proofs.Common.{◌≡◌, ℕ, ◌<◌, ◌≤◌, ◌⊎◌, not, ◌==◌, Bool, true, false, List, [], ◌∷◌, length, Some, inl, inr, refl, sym, subst, ap, arith, le_refl, eqb-true}
+use Rattle.std.proofs.lemmas.Bool.{cases_Bool, and_parts, or_cases, eq-eqb}
+use Rattle.sctp_model.specs.Words.{Has}
+use Rattle.sctp_model.specs.Format.{Format, Plain, Interleaved, Kind, Unordered, Lane, is_numbered, same_lane, ordered_lane}
+use Rattle.sctp_model.specs.Plan.{Message, Part, Plan, entry_at}
 use Rattle.sctp_model.specs.Pieces.{Piece, IsFragment}
 use Rattle.sctp_model.specs.SenderView.{SenderView}
 use Rattle.sctp_model.specs.ReceiverView.{Handed, ReceiverView}
 use Rattle.sctp_model.specs.Receiving.{IsWholeWith, IsLeftBehind, has_index, goes_with, without_message}
 use Rattle.sctp_model.specs.Safe.{WasHanded}
-use Rattle.sctp_safety.specs.Way.{Way, Hand_unordered, Let_go, Step, with_receiver, without_index}
-use Rattle.sctp_safety.proofs.Facts.{IsDone, IsOver, IsAllSeen, IsRetired, MayPass, Arranged, Held, Told, Good}
+use Rattle.sctp_safety.specs.Way.{Way, Hand_unordered, Let_go, Step, without_index}
+use Rattle.sctp_safety.proofs.Facts.{IsDone, IsOver, IsRetired, MayPass, Arranged, Held, Good}
 use Rattle.sctp_safety.proofs.Basics.{Has-filter, Has-filtered, filter_is, item_at-above, same_lane-true, same_lane-refl}
-use Rattle.sctp_safety.proofs.Later.{Learns, by_receiver}
-use Rattle.sctp_safety.proofs.Framing.{IsOneMessage, IsGathered, honest_whole}
+use Rattle.sctp_safety.proofs.Later.{by_receiver}
+use Rattle.sctp_safety.proofs.Framing.{IsOneMessage, honest_whole}
 use Rattle.sctp_safety.proofs.Settled.{all_numbered, number_is, one_number, one_message, over_unless_whole}
 use Rattle.sctp_safety.proofs.Handing.{after, after-Learns, after_held, same_told, more_told, more_waiting, was_new, still_handed, which_handed}
 
@@ -33,9 +32,9 @@ has_index-is (y ∷ ys) x (inl e) = let i : y.index ≡ x.index = ap (λ (z : Pi
 has_index-is (y ∷ ys) x (inr h) = let b = has_index-is ys x h in grind (arith, b)
 
 -- a chunk goes with a message's chunks if it is of that message
-goes_if : (f : Format) (p : Plan) → Arranged f p → (x : Piece) (xs : List Piece) (one : IsOneMessage f p x xs) (u : IsFragment f p x)
+goes_if : (f : Format) (p : Plan) → Arranged f p → (x : Piece) (xs : List Piece) (one : IsOneMessage f p x xs)
     (y : Piece) (v : IsFragment f p y) → y.lane ≡ x.lane → v.number ≡ one.number → goes_with f (x ∷ xs) y ≡ true
-goes_if Plain p arranged x xs one u y v lane number =
+goes_if Plain p arranged x xs one y v lane number =
     let z = one.all v.fragment within in
     let h = v.here in
     let e : z.0.index ≡ y.index = arranged.once z.0.index y.index x.lane one.number v.fragment z.2 (cc) in
@@ -47,7 +46,7 @@ goes_if Plain p arranged x xs one u y v lane number =
         let k = one.complete.0 in
         let e : v.message ≡ one.message = cc in
         subst (λ (m : Message). v.fragment < length m.fragments) e v.within
-goes_if Interleaved p arranged x xs one u y v lane number =
+goes_if Interleaved p arranged x xs one y v lane number =
     let a : same_lane y.lane x.lane ≡ true = subst (λ (l : Lane). same_lane y.lane l ≡ true) lane (same_lane-refl y.lane) in
     let c = number_is Interleaved p y v (all_numbered y.lane.kind) in
     let d = one.counted (all_numbered x.lane.kind) in
@@ -120,16 +119,16 @@ kept_by-Hand_unordered w v x xs g (kind, whole, within, e) = subst Good (sym e)
         Has ps y ⊎ IsOver f a (after r ps r.next hs) y.lane n
     gone y n k has here = go (cases_Bool (goes_with f (x ∷ xs) y))
       where
-        v' : IsFragment f a.plan y
-        v' = held.kept y has
+        part : IsFragment f a.plan y
+        part = held.kept y has
 
-        same : v'.number ≡ n
-        same = (one_number f a.plan y v' y.lane n k here).1
+        same : part.number ≡ n
+        same = (one_number f a.plan y part y.lane n k here).1
 
         go : (goes_with f (x ∷ xs) y ≡ true) ⊎ (goes_with f (x ∷ xs) y ≡ false) → Has ps y ⊎ IsOver f a (after r ps r.next hs) y.lane n
         go (inr b) = inl (Has-filter test r.kept y (ap not b) has)
         go (inl b) =
-            let q = goes_only f a.plan x xs one y v' b in
+            let q = goes_only f a.plan x xs one y part b in
             let c = q.1 in
             let d : one.number ≡ n = cc same in
             inr (inl (subst (λ (l : Lane). WasHanded a.plan (after r ps r.next hs) l n) (sym q.0)
@@ -141,9 +140,9 @@ kept_by-Hand_unordered w v x xs g (kind, whole, within, e) = subst Good (sym e)
         go : WasHanded a.plan r y.lane n ⊎ ((y.lane ≡ x.lane) × (n ≡ one.number)) → ⊥
         go (inl b) = held.fresh y n k (fewer y h) here b
         go (inr (el, en)) =
-            let v' = held.kept y (fewer y h) in
-            let c = (one_number f a.plan y v' y.lane n k here).1 in
-            let b = goes_if f a.plan g.arranged x xs one (held.kept x (within x (inl refl))) y v' el (cc) in
+            let part = held.kept y (fewer y h) in
+            let c = (one_number f a.plan y part y.lane n k here).1 in
+            let b = goes_if f a.plan g.arranged x xs one y part el (cc) in
             let d : not (goes_with f (x ∷ xs) y) ≡ true = filter_is test r.kept y h in
             let z : not true ≡ true = subst (λ (b : Bool). not b ≡ true) b d in
             absurd (cc)
