@@ -11,3 +11,11 @@ mod OrderlyPlan
 mod Gains
 mod QueueLemmas
 mod SenderMoves
+mod Framing
+mod Settled
+mod Handing
+mod OrderedMoves
+mod UnorderedMoves
+mod PieceMoves
+mod ForwardMove
+mod TakeMoves

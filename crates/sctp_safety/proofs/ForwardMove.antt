@@ -1,0 +1,126 @@
+-- What a FORWARD that counts does to the receiver.
+use Rattle.std.proofs.Common.{◌≡◌, ℕ, suc, ◌<◌, ◌≤◌, ◌⊎◌, max, true, false, List, [], ◌∷◌, inl, inr, refl, sym, subst, ap, arith, le_refl}
+use Rattle.std.proofs.lemmas.Bool.{cases_lt}
+use Rattle.sctp_model.specs.Words.{Has}
+use Rattle.sctp_model.specs.Format.{Format, Plain, Lane, is_numbered, at_lane}
+use Rattle.sctp_model.specs.SenderView.{SenderView}
+use Rattle.sctp_model.specs.Forward.{Skip, Forward, skipped}
+use Rattle.sctp_model.specs.ReceiverView.{ReceiverView}
+use Rattle.sctp_safety.specs.Way.{Way, Forward_comes, Step}
+use Rattle.sctp_safety.proofs.Facts.{IsDone, IsLost, IsLostBy, IsRetired, IsFair, MayPass, Held, Good}
+use Rattle.sctp_safety.proofs.Basics.{at_lane_cases}
+use Rattle.sctp_safety.proofs.Later.{Learns, Grows-refl, lost-later, IsDone-later, IsRetired-later, MayPass-later, IsAllSeen-later, by_receiver}
+use Rattle.sctp_safety.proofs.Settled.{settled_on}
+
+-- a lane's number after one skip more
+abbrev raised : (Lane → ℕ) → Skip → Lane → ℕ
+raised skip x = at_lane skip x.lane (max (skip x.lane) (suc x.number))
+
+raised_by : (skip : Lane → ℕ) (x : Skip) (l : Lane) (k : ℕ) → k < raised skip x l → (k < skip l) ⊎ ((l ≡ x.lane) × (k ≤ x.number))
+raised_by skip x l k = at_lane_cases (λ (b : ℕ). k < b → (k < skip l) ⊎ ((l ≡ x.lane) × (k ≤ x.number))) skip x.lane (max (skip x.lane) (suc x.number)) l
+    (λ e m. which e m (cases_lt k (skip x.lane))) (λ ne m. inl m)
+  where
+    which : l ≡ x.lane → k < max (skip x.lane) (suc x.number) → (k < skip x.lane) ⊎ (skip x.lane ≤ k) → (k < skip l) ⊎ ((l ≡ x.lane) × (k ≤ x.number))
+    which e m (inl h) = inl (subst (λ (b : Lane). k < skip b) (sym e) h)
+    which e m (inr h) = inr (e, omega arith)
+
+raised_grows : (skip : Lane → ℕ) (x : Skip) (l : Lane) → skip l ≤ raised skip x l
+raised_grows skip x l = at_lane_cases (λ (b : ℕ). skip l ≤ b) skip x.lane (max (skip x.lane) (suc x.number)) l
+    (λ e. let q : skip l ≡ skip x.lane = ap skip e in omega arith) (λ ne. le_refl (skip l))
+
+skipped_grows : (xs : List Skip) (skip : Lane → ℕ) (l : Lane) → skip l ≤ skipped skip xs l
+skipped_grows [] skip l = le_refl (skip l)
+skipped_grows (x ∷ xs) skip l =
+    let more = skipped_grows xs (raised skip x) l in
+    let one = raised_grows skip x l in
+    omega arith
+
+skipped_has : (xs : List Skip) (skip : Lane → ℕ) (y : Skip) → Has xs y → y.number < skipped skip xs y.lane
+skipped_has [] skip y h = absurd h
+skipped_has (x ∷ xs) skip y (inr h) = skipped_has xs (raised skip x) y h
+skipped_has (x ∷ xs) skip y (inl e) = subst (λ (z : Skip). z.number < skipped skip (x ∷ xs) z.lane) e
+    (let more = skipped_grows xs (raised skip x) x.lane in omega (arith, one))
+  where
+    one : x.number < raised skip x x.lane
+    one = at_lane_cases (λ (b : ℕ). x.number < b) skip x.lane (max (skip x.lane) (suc x.number)) x.lane (λ q. omega arith) (λ ne. absurd (ne refl))
+
+-- what may be skipped before, or is listed, may be skipped
+skipped_fair : (P : Lane → ℕ → Type 0) (xs : List Skip) (skip : Lane → ℕ) → ((l : Lane) (n : ℕ) → n < skip l → P l n) →
+    ((y : Skip) → Has xs y → (n : ℕ) → n ≤ y.number → P y.lane n) → (l : Lane) (n : ℕ) → n < skipped skip xs l → P l n
+skipped_fair P [] skip before listed l n m = before l n m
+skipped_fair P (x ∷ xs) skip before listed l n m = skipped_fair P xs (raised skip x) (λ k o h. more k o (raised_by skip x k o h)) (λ y h. listed y (inr h)) l n m
+  where
+    more : (k : Lane) (o : ℕ) → (o < skip k) ⊎ ((k ≡ x.lane) × (o ≤ x.number)) → P k o
+    more k o (inl h) = before k o h
+    more k o (inr h) = subst (λ (b : Lane). P b o) (sym h.0) (listed x (inl refl) o h.1)
+
+skipped_unnumbered : (f : Format) (xs : List Skip) (skip : Lane → ℕ) → ((y : Skip) → Has xs y → is_numbered f y.lane.kind ≡ true) →
+    (l : Lane) → is_numbered f l.kind ≡ false → skip l ≡ 0 → skipped skip xs l ≡ 0
+skipped_unnumbered f [] skip numbered l e z = z
+skipped_unnumbered f (x ∷ xs) skip numbered l e z = skipped_unnumbered f xs (raised skip x) (λ y h. numbered y (inr h)) l e
+    (at_lane_cases (λ (b : ℕ). b ≡ 0) skip x.lane (max (skip x.lane) (suc x.number)) l (λ q. absurd (other q)) (λ ne. z))
+  where
+    other : l ≡ x.lane → ⊥
+    other q =
+        let h = numbered x (inl refl) in
+        let k : is_numbered f l.kind ≡ is_numbered f x.lane.kind = ap (λ (b : Lane). is_numbered f b.kind) q in
+        absurd (cc)
+
+pub kept_by-Forward_comes : (w v : Way) (x : Forward) → Good w → Step w (Forward_comes x) v → Good v
+kept_by-Forward_comes w v x g (has, ahead, e) = subst Good (sym e) (by_receiver w t g learns (record {
+  jumped = λ i pos l. jumped i pos l (cases_lt r.jump i);
+  old = λ q i pos l. old q i pos l (cases_lt r.jump i);
+  kept = held.kept;
+  seen = λ i h. settled_on f a r t i learns (λ z n k q b. inl q) (λ l n q. q) (held.seen i h);
+  skips = λ l n h. MayPass-later f a a r t (Grows-refl a) learns l n (skipped_fair (MayPass a r) x.skips r.skip held.skips fair.listed l n h);
+  unskipped = λ l q. skipped_unnumbered f x.skips r.skip fair.numbered l q (held.unskipped l q);
+  kept_seen = held.kept_seen;
+  fresh = held.fresh;
+  told = record {
+    all_seen = λ l n h. IsAllSeen-later a.plan a.plan (Grows-refl a).plan r t learns l n (held.told.all_seen l n h);
+    below = held.told.below;
+    rising = held.told.rising;
+    apart = held.told.apart;
+    honest = held.told.honest;
+    passed = held.told.passed;
+  };
+}))
+  where
+    f : Format
+    f = w.format
+
+    a : SenderView
+    a = w.sender
+
+    r : ReceiverView
+    r = w.receiver
+
+    t : ReceiverView
+    t = record r { jump = max r.jump x.point; skip = skipped r.skip x.skips }
+
+    held : Held f a r
+    held = g.held
+
+    learns : Learns r t
+    learns = record { seen = λ j h. h; jump = omega arith; next = λ s. le_refl (r.next s); skip = λ l. skipped_grows x.skips r.skip l }
+
+    fair : IsFair f a r x
+    fair = g.between.forwards x has
+
+    lost : {i : ℕ} → (r.seen i ≡ true) ⊎ IsLostBy f a r x.skips i → (r.seen i ≡ true) ⊎ IsLost f a t i
+    lost (inl h) = inl h
+    lost (inr h) = inr (record { lane = h.lane; number = h.number; entry = h.entry; here = h.here; of = h.of; gone = h.gone; done = done h.lane h.number h.done })
+      where
+        done : (l : Lane) (n : ℕ) → IsDone f r l n ⊎ ((y : Skip) × Has x.skips y × (y.lane ≡ l) × (n ≤ y.number)) → IsDone f t l n
+        done l n (inl k) = IsDone-later f r t learns l n k
+        done l n (inr (y, k, q, m)) =
+            let b : y.number < skipped r.skip x.skips y.lane = skipped_has x.skips r.skip y k in
+            inr (inl (subst (λ (z : Lane). n < skipped r.skip x.skips z) q (omega arith)))
+
+    jumped : (i : ℕ) → 0 < i → i ≤ max r.jump x.point → (r.jump < i) ⊎ (i ≤ r.jump) → (r.seen i ≡ true) ⊎ IsLost f a t i
+    jumped i pos l (inl h) = lost (fair.upto i pos (omega arith))
+    jumped i pos l (inr h) = lost-later f a a r t (Grows-refl a) learns i (held.jumped i pos h)
+
+    old : f ≡ Plain → (i : ℕ) → 0 < i → i ≤ max r.jump x.point → (r.jump < i) ⊎ (i ≤ r.jump) → IsRetired a t i
+    old q i pos l (inl h) = IsRetired-later f a a r t (Grows-refl a) learns i (fair.old q ahead i pos (omega arith))
+    old q i pos l (inr h) = IsRetired-later f a a r t (Grows-refl a) learns i (held.old q i pos h)

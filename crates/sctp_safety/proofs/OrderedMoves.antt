@@ -1,0 +1,200 @@
+-- The next ordered message of a stream is handed over, or its number is passed over.
+use Rattle.std.proofs.Common.{lt-ltb, ◌≡◌, ℕ, suc, ◌<◌, ◌≤◌, ◌⊎◌, not, true, false, nat_lt, List, ◌∷◌, Some, inl, inr, refl, sym, subst, ap, arith, le_refl, ltb-true}
+use Rattle.std.proofs.lemmas.Bool.{cases_eq, cases_Bool, and_parts}
+use Rattle.sctp_model.specs.Words.{Has, at}
+use Rattle.sctp_model.specs.Format.{Format, Ordered, Lane, same_lane, ordered_lane}
+use Rattle.sctp_model.specs.Plan.{Part, entry_at}
+use Rattle.sctp_model.specs.Pieces.{Piece}
+use Rattle.sctp_model.specs.SenderView.{SenderView}
+use Rattle.sctp_model.specs.ReceiverView.{Handed, ReceiverView}
+use Rattle.sctp_model.specs.Receiving.{is_below, without_below}
+use Rattle.sctp_model.specs.Safe.{WasHanded}
+use Rattle.sctp_safety.specs.Way.{Way, Hand_over, Pass_over, Step}
+use Rattle.sctp_safety.proofs.Facts.{IsOver, IsAllSeen, MayPass, Held, Good}
+use Rattle.sctp_safety.proofs.Basics.{at_cases, at_same, Has-filter, Has-filtered, filter_is, same_lane-true, same_lane-refl}
+use Rattle.sctp_safety.proofs.Later.{by_receiver}
+use Rattle.sctp_safety.proofs.Framing.{IsOneMessage, IsGathered, honest_whole, number_counts}
+use Rattle.sctp_safety.proofs.Settled.{ordered_numbered, number_is, one_number, over_unless_whole}
+use Rattle.sctp_safety.proofs.Handing.{after, after-Learns, after_held, same_told, more_told, more_waiting, was_new, still_handed, which_handed}
+
+below_or_not : (s n : ℕ) (x : Piece) → (not (is_below s n x) ≡ true) ⊎ ((x.lane ≡ ordered_lane s) × (x.number < n))
+below_or_not s n x = go (cases_Bool (is_below s n x))
+  where
+    go : (is_below s n x ≡ true) ⊎ (is_below s n x ≡ false) → (not (is_below s n x) ≡ true) ⊎ ((x.lane ≡ ordered_lane s) × (x.number < n))
+    go (inl e) =
+        let p = and_parts (same_lane x.lane (ordered_lane s)) (nat_lt x.number n) e in
+        inr (same_lane-true x.lane (ordered_lane s) p.0, ltb-true x.number n p.1)
+    go (inr e) = inl (ap not e)
+
+not_below : (s n : ℕ) (x : Piece) → not (is_below s n x) ≡ true → x.lane ≡ ordered_lane s → x.number < n → ⊥
+not_below s n x h e l =
+    let a : same_lane x.lane (ordered_lane s) ≡ true = subst (λ (k : Lane). same_lane x.lane k ≡ true) e (same_lane-refl x.lane) in
+    let b = lt-ltb x.number n l in
+    absurd (grind (arith, a, b))
+
+-- The next number of a stream is done with, and what lies below goes.
+module _ (f : Format) (a : SenderView) (r : ReceiverView) (s : ℕ) (held : Held f a r) where
+  abbrev next : ℕ → ℕ
+  next = at r.next s (suc (r.next s))
+
+  abbrev kept : List Piece
+  kept = without_below r.kept s (suc (r.next s))
+
+  forth : (u : ℕ) → r.next u ≤ next u
+  forth u = at_cases (λ (y : ℕ). r.next u ≤ y) r.next s (suc (r.next s)) u (λ e. let q : r.next u ≡ r.next s = ap r.next e in omega arith) (λ ne. le_refl (r.next u))
+
+  fewer : (x : Piece) → Has kept x → Has r.kept x
+  fewer x h = Has-filtered (λ (y : Piece). not (is_below s (suc (r.next s)) y)) r.kept x h
+
+  not_of_next : (x : Piece) → Has kept x → x.lane ≡ ordered_lane s → x.number ≡ r.next s → ⊥
+  not_of_next x h lane number =
+      not_below s (suc (r.next s)) x (filter_is (λ (y : Piece). not (is_below s (suc (r.next s)) y)) r.kept x h) lane (omega arith)
+
+  counted : (x : Piece) (n k : ℕ) → Has r.kept x → entry_at a.plan x.index ≡ Some (Part x.lane n k) → x.lane ≡ ordered_lane s → x.number ≡ n
+  counted x n k has here lane =
+      let y = held.kept x has in
+      let e = one_number f a.plan x y x.lane n k here in
+      let d = number_is f a.plan x y (ordered_numbered f x.lane.kind (ap (λ (l : Lane). l.kind) lane)) in
+      let i = e.1 in
+      cc
+
+  -- each number below is handed over or abandoned, where the next one is
+  passed : (P : ℕ → ℕ → Type 0) → ((u n : ℕ) → n < r.next u → P u n) → P s (r.next s) → (u n : ℕ) → n < next u → P u n
+  passed P before now u n = at_cases (λ (b : ℕ). n < b → P u n) r.next s (suc (r.next s)) u (λ e l. at_stream u e l (cases_eq n (r.next s))) (λ ne l. before u n l)
+    where
+      at_stream : (u : ℕ) → u ≡ s → n < suc (r.next s) → (n ≡ r.next s) ⊎ (n ≡ r.next s → ⊥) → P u n
+      at_stream u e l (inl d) = subst (λ (y : ℕ). P y n) (sym e) (subst (P s) (sym d) now)
+      at_stream u e l (inr ne) = subst (λ (y : ℕ). P y n) (sym e) (before s n (omega arith))
+
+  -- what goes is over
+  gone : (waiting : ℕ → List Handed) →
+      ((u n : ℕ) → n < next u → WasHanded a.plan (after r kept next waiting) (ordered_lane u) n ⊎ (a.abandoned (ordered_lane u) n ≡ true)) →
+      (x : Piece) (n k : ℕ) → Has r.kept x → entry_at a.plan x.index ≡ Some (Part x.lane n k) →
+      Has kept x ⊎ IsOver f a (after r kept next waiting) x.lane n
+  gone waiting told x n k has here = go (below_or_not s (suc (r.next s)) x)
+    where
+      over : n < next s → WasHanded a.plan (after r kept next waiting) (ordered_lane s) n ⊎ (a.abandoned (ordered_lane s) n ≡ true) →
+          IsOver f a (after r kept next waiting) (ordered_lane s) n
+      over l (inl h) = inl h
+      over l (inr h) = inr (h, inr (inr (refl, l)))
+
+      go : (not (is_below s (suc (r.next s)) x) ≡ true) ⊎ ((x.lane ≡ ordered_lane s) × (x.number < suc (r.next s))) →
+          Has kept x ⊎ IsOver f a (after r kept next waiting) x.lane n
+      go (inl b) = inl (Has-filter (λ (y : Piece). not (is_below s (suc (r.next s)) y)) r.kept x b has)
+      go (inr (lane, l)) =
+          let c = counted x n k has here lane in
+          let d = at_same r.next s (suc (r.next s)) in
+          let m : n < next s = subst (λ (b : ℕ). n < b) (sym d) (omega arith) in
+          inr (subst (λ (y : Lane). IsOver f a (after r kept next waiting) y n) (sym lane) (over m (told s n m)))
+
+pub kept_by-Hand_over : (w v : Way) (s : ℕ) (x : Piece) (xs : List Piece) → Good w → Step w (Hand_over s x xs) v → Good v
+kept_by-Hand_over w v s x xs g ((whole, within, (lane, number)), e) = subst Good (sym e)
+    (by_receiver w (after r ps up hs) g (after-Learns f a r ps up hs (forth f a r s held))
+    (after_held f a r ps up hs (forth f a r s held) held (fewer f a r s held) (gone f a r s held hs done) fresh
+    (still_handed f a r ps up s x xs one stream)
+    (more_told f a r ps up s x xs one stream g.arranged held within (forth f a r s held) place done)))
+  where
+    f : Format
+    f = w.format
+
+    a : SenderView
+    a = w.sender
+
+    r : ReceiverView
+    r = w.receiver
+
+    held : Held f a r
+    held = g.held
+
+    ps : List Piece
+    ps = without_below r.kept s (suc (r.next s))
+
+    up : ℕ → ℕ
+    up = at r.next s (suc (r.next s))
+
+    one : IsOneMessage f a.plan x xs
+    one = honest_whole f a.plan g.arranged x xs (λ y h. held.kept y (within y h)) whole
+
+    stream : x.lane.stream ≡ s
+    stream = ap (λ (l : Lane). l.stream) lane
+
+    hs : ℕ → List Handed
+    hs = more_waiting f a r ps up s x xs one stream
+
+    count : one.number ≡ r.next s
+    count = let c = one.counted (ordered_numbered f x.lane.kind (ap (λ (l : Lane). l.kind) lane)) in cc (number, c)
+
+    Past : ℕ → ℕ → Type 0
+    Past u n = WasHanded a.plan (after r ps up hs) (ordered_lane u) n ⊎ (a.abandoned (ordered_lane u) n ≡ true)
+
+    before : (u n : ℕ) → n < r.next u → Past u n
+    before u n l = go (held.told.passed u n l)
+      where
+        go : WasHanded a.plan r (ordered_lane u) n ⊎ (a.abandoned (ordered_lane u) n ≡ true) → Past u n
+        go (inl h) = inl (still_handed f a r ps up s x xs one stream (ordered_lane u) n h)
+        go (inr h) = inr h
+
+    now : Past s (r.next s)
+    now = inl (subst (λ (n : ℕ). WasHanded a.plan (after r ps up hs) (ordered_lane s) n) count
+        (subst (λ (l : Lane). WasHanded a.plan (after r ps up hs) l one.number) lane (was_new f a r ps up s x xs one stream)))
+
+    done : (u n : ℕ) → n < up u → Past u n
+    done = passed f a r s held Past before now
+
+    place : x.lane.kind ≡ Ordered → (r.next s ≤ x.number) × (x.number < up s)
+    place k = (omega (arith, number), let d = at_same r.next s (suc (r.next s)) in omega (arith, number))
+
+    fresh : (y : Piece) (n k : ℕ) → Has ps y → entry_at a.plan y.index ≡ Some (Part y.lane n k) → WasHanded a.plan (after r ps up hs) y.lane n → ⊥
+    fresh y n k h here was = go (which_handed f a r ps up s x xs one stream y.lane n was)
+      where
+        go : WasHanded a.plan r y.lane n ⊎ ((y.lane ≡ x.lane) × (n ≡ one.number)) → ⊥
+        go (inl b) = held.fresh y n k (fewer f a r s held y h) here b
+        go (inr (el, en)) =
+            let l : y.lane ≡ ordered_lane s = cc lane in
+            let c = counted f a r s held y n k (fewer f a r s held y h) here l in
+            not_of_next f a r s held y h l (cc (count, c))
+
+pub kept_by-Pass_over : (w v : Way) (s : ℕ) → Good w → Step w (Pass_over s) v → Good v
+kept_by-Pass_over w v s g (skipped, not_whole, e) = subst Good (sym e)
+    (by_receiver w (after r ps up r.waiting) g (after-Learns f a r ps up r.waiting (forth f a r s held))
+    (after_held f a r ps up r.waiting (forth f a r s held) held (fewer f a r s held) (gone f a r s held r.waiting done)
+    (λ y n k h. held.fresh y n k (fewer f a r s held y h)) (λ l n h. h)
+    (same_told f a r ps up (forth f a r s held) held.told done)))
+  where
+    f : Format
+    f = w.format
+
+    a : SenderView
+    a = w.sender
+
+    r : ReceiverView
+    r = w.receiver
+
+    held : Held f a r
+    held = g.held
+
+    ps : List Piece
+    ps = without_below r.kept s (suc (r.next s))
+
+    up : ℕ → ℕ
+    up = at r.next s (suc (r.next s))
+
+    Past : ℕ → ℕ → Type 0
+    Past u n = WasHanded a.plan r (ordered_lane u) n ⊎ (a.abandoned (ordered_lane u) n ≡ true)
+
+    over : IsOver f a r (ordered_lane s) (r.next s) → Past s (r.next s)
+    over (inl h) = inl h
+    over (inr h) = inr h.0
+
+    no_row : (x : IsAllSeen a.plan r (ordered_lane s) (r.next s)) → IsGathered f a.plan (ordered_lane s) (r.next s) x.message r.kept → ⊥
+    no_row x row =
+        let c = row.number in
+        let d = number_counts f (ordered_lane s) (r.next s) (ordered_numbered f Ordered refl) in
+        not_whole (row.head ∷ row.rest) (row.whole, row.within, (row.lane, cc))
+
+    now : MayPass a r (ordered_lane s) (r.next s) → Past s (r.next s)
+    now (inl h) = inr h
+    now (inr x) = over (over_unless_whole f a r g.arranged held (ordered_lane s) (r.next s) x (no_row x))
+
+    done : (u n : ℕ) → n < up u → Past u n
+    done = passed f a r s held Past held.told.passed (now (held.skips (ordered_lane s) (r.next s) skipped))
