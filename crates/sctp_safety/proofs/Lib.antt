@@ -1,3 +1,4 @@
 mod Basics
 mod Facts
+mod Framing
 mod Later
