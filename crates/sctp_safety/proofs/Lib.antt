@@ -2,3 +2,5 @@ mod Basics
 mod Facts
 mod Framing
 mod Later
+mod SkipLaw
+mod WholeLaw
