@@ -1,17 +1,17 @@
 -- Under both formats, what a FORWARD makes go is of an abandoned message, or is among all chunks of a whole one.
-use Rattle.std.proofs.Common.{◌≡◌, ℕ, zero, suc, ◌+◌, ◌-◌, ◌<◌, ◌≤◌, ◌⊎◌, true, false, List, [], ◌∷◌, length, Some, refl, inl, inr, ap, sym, subst, arith}
+use Rattle.std.proofs.Common.{◌≡◌, ℕ, zero, suc, ◌-◌, ◌<◌, ◌≤◌, ◌⊎◌, true, false, List, ◌∷◌, length, Some, refl, inl, inr, sym, subst, arith}
 use Rattle.std.proofs.lemmas.Bool.{cases_eq, cases_lt}
 use Rattle.sctp_model.specs.Words.{Has}
 use Rattle.sctp_model.specs.Format.{Format, Plain, Interleaved, Kind, Ordered, Unordered, Lane, is_numbered}
-use Rattle.sctp_model.specs.Plan.{Message, Entry, Part, End, Plan, entry_at, message_at, IsOf, IsAssigned, IsComplete, HasEnd, IsClosed}
-use Rattle.sctp_model.specs.Orderly.{Orderly, IsTogether, IsBefore}
-use Rattle.sctp_model.specs.Pieces.{Piece, number_of, piece_of, IsFragment}
+use Rattle.sctp_model.specs.Plan.{Message, Entry, Part, End, entry_at, message_at, IsOf, IsAssigned, IsClosed}
+use Rattle.sctp_model.specs.Orderly.{Orderly, IsTogether}
+use Rattle.sctp_model.specs.Pieces.{Piece, IsFragment}
 use Rattle.sctp_model.specs.SenderView.{SenderView, IsGivenUp, IsAllGivenUp}
-use Rattle.sctp_model.specs.Forward.{Skip, Forward, StandsIn, IsForward}
+use Rattle.sctp_model.specs.Forward.{StandsIn}
 use Rattle.sctp_model.specs.Receiving.{IsWholeWith}
 use Rattle.sctp_safety.specs.Laws.{IsTaken, IsUpTo, MakesGo, SkipLaw}
 use Rattle.sctp_safety.proofs.Basics.{each_or, item_at-above}
-use Rattle.sctp_safety.proofs.Framing.{IsFramed, IsPart, IsGathered, part_by_fragment, part_number, number_counts, one_when_kept}
+use Rattle.sctp_safety.proofs.Framing.{part_by_fragment, part_number, number_counts, one_when_kept}
 use Rattle.sctp_safety.proofs.WholeLaw.{framed_by_orderly, some_fragment}
 
 -- an entry is of one message alone
@@ -27,7 +27,6 @@ unnumbered_plain Interleaved Unordered e = absurd (cc)
 -- One message of a plan, with the hypotheses of the law.
 module _ (f : Format) (v : SenderView) (o : Orderly f v.plan) (c p : ℕ) (more : c < p) (gone : IsAllGivenUp v c p) (kept : List Piece)
     (upto : IsUpTo f v kept c) (l : Lane) (n : ℕ) (m : Message) (named : message_at v.plan l n ≡ Some m) where
-
   -- an index that belongs to an abandoned message, and to this one
   this_gone : (i : ℕ) (e : Entry) → entry_at v.plan i ≡ Some e → IsOf l n e → IsGivenUp v i → v.abandoned l n ≡ true
   this_gone i e here of (k, q, d, there, is, dead) =
