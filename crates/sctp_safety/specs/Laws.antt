@@ -52,5 +52,6 @@ MakesGo f x y =
 -- So nothing else is lost where whole messages are handed over first (RFC 3758, 3.6).
 abbrev pub SkipLaw : Format → Type 0
 SkipLaw f =
-    (v : SenderView) (c p : ℕ) (x : Forward) (kept : List Piece) → Orderly f v.plan → c < p → IsAllGivenUp v c p → IsForward f v.plan c p x →
-    IsUpTo f v kept c → (y : Piece) → Has kept y → MakesGo f x y → ((xs : List Piece) × IsWholeWith f kept y xs) ⊎ IsGivenUp v y.index
+    (v : SenderView) (c p : ℕ) (x : Forward) (kept : List Piece) →
+    Orderly f v.plan → c < p → IsAllGivenUp v c p → IsForward f v.plan c p x → IsUpTo f v kept c →
+    (y : Piece) → Has kept y → MakesGo f x y → ((xs : List Piece) × IsWholeWith f kept y xs) ⊎ IsGivenUp v y.index
