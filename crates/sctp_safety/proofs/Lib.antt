@@ -1,5 +1,6 @@
 mod Basics
 mod Facts
+mod Framing
 mod Later
 mod BagMoves
 mod SafeWhenGood
@@ -11,7 +12,6 @@ mod OrderlyPlan
 mod Gains
 mod QueueLemmas
 mod SenderMoves
-mod Framing
 mod Settled
 mod Handing
 mod OrderedMoves
@@ -19,3 +19,5 @@ mod UnorderedMoves
 mod PieceMoves
 mod ForwardMove
 mod TakeMoves
+mod SkipLaw
+mod WholeLaw
