@@ -34,8 +34,9 @@ abbrev pub WasHanded : Plan → ReceiverView → Lane → ℕ → Type 0
 WasHanded p r l n = (h : Handed) × Has (handed r l.stream) h × (h.lane ≡ l) × (entry_at p h.first ≡ Some (Part l n 0))
 
 -- the receiver keeps every fragment of the message, with its bytes
-abbrev pub IsHeldWhole : Format → ReceiverView → Lane → ℕ → Message → Type 0
-IsHeldWhole f r l n m = (k : ℕ) → k < length m.fragments → (i : ℕ) × Has r.kept (piece_of f i l n k m)
+abbrev pub IsHeldWhole : Format → Plan → ReceiverView → Lane → ℕ → Message → Type 0
+IsHeldWhole f p r l n m = (k : ℕ) → k < length m.fragments →
+    (i : ℕ) × (entry_at p i ≡ Some (Part l n k)) × Has r.kept (piece_of f i l n k m)
 
 -- Ordered messages: the numbers rise, and each is the message of the plan with that number.
 pub record IsInOrder (a : SenderView) (r : ReceiverView) : Type 0 where
@@ -57,7 +58,7 @@ pub record IsOnce (a : SenderView) (r : ReceiverView) : Type 0 where
 abbrev pub IsKept : Format → SenderView → ReceiverView → Type 0
 IsKept f a r = (l : Lane) (n : ℕ) (m : Message) → IsComplete a.plan l n m →
     ((i : ℕ) (e : Entry) → entry_at a.plan i ≡ Some e → IsOf l n e → a.covered i ≡ true) →
-    a.abandoned l n ≡ false → WasHanded a.plan r l n ⊎ IsHeldWhole f r l n m
+    a.abandoned l n ≡ false → WasHanded a.plan r l n ⊎ IsHeldWhole f a.plan r l n m
 
 -- The plan holds what was asked for, in the order in which it was asked for, and nothing is abandoned unasked.
 pub record IsAsked (a : SenderView) (u : Asked) : Type 0 where

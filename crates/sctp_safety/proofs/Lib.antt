@@ -21,3 +21,4 @@ mod ForwardMove
 mod TakeMoves
 mod SkipLaw
 mod WholeLaw
+mod Always

@@ -1,5 +1,5 @@
 -- The next ordered message of a stream is handed over, or its number is passed over.
-use Rattle.std.proofs.Common.{lt-ltb, ◌≡◌, ℕ, suc, ◌<◌, ◌≤◌, ◌⊎◌, not, true, false, nat_lt, List, ◌∷◌, Some, inl, inr, refl, sym, subst, ap, arith, le_refl, ltb-true}
+use Rattle.std.proofs.Common.{lt-ltb, ◌≡◌, ℕ, suc, ◌<◌, ◌≤◌, ◌⊎◌, not, true, false, nat_lt, Bool, List, ◌∷◌, Some, inl, inr, refl, sym, subst, ap, arith, le_refl, ltb-true}
 use Rattle.std.proofs.lemmas.Bool.{cases_eq, cases_Bool, and_parts}
 use Rattle.sctp_model.specs.Words.{Has, at}
 use Rattle.sctp_model.specs.Format.{Format, Ordered, Lane, same_lane, ordered_lane}
@@ -9,7 +9,7 @@ use Rattle.sctp_model.specs.SenderView.{SenderView}
 use Rattle.sctp_model.specs.ReceiverView.{Handed, ReceiverView}
 use Rattle.sctp_model.specs.Receiving.{is_below, without_below}
 use Rattle.sctp_model.specs.Safe.{WasHanded}
-use Rattle.sctp_safety.specs.Way.{Way, Hand_over, Pass_over, Step}
+use Rattle.sctp_safety.specs.Way.{Way, Hand_over, Pass_over, Clear, Step}
 use Rattle.sctp_safety.proofs.Facts.{IsOver, IsAllSeen, MayPass, Held, Good}
 use Rattle.sctp_safety.proofs.Basics.{at_cases, at_same, Has-filter, Has-filtered, filter_is, same_lane-true, same_lane-refl}
 use Rattle.sctp_safety.proofs.Later.{by_receiver}
@@ -198,3 +198,47 @@ kept_by-Pass_over w v s g (skipped, not_whole, e) = subst Good (sym e)
 
     done : (u n : ℕ) → n < up u → Past u n
     done = passed f a r s held Past held.told.passed (now (held.skips (ordered_lane s) (r.next s) skipped))
+
+pub kept_by-Clear : (w v : Way) (s : ℕ) → Good w → Step w (Clear s) v → Good v
+kept_by-Clear w v s g e = subst Good (sym e)
+    (by_receiver w (after r ps r.next r.waiting) g (after-Learns f a r ps r.next r.waiting still)
+    (after_held f a r ps r.next r.waiting still held fewer_left gone_below (λ y n k h. held.fresh y n k (fewer_left y h)) (λ l n h. h)
+    (same_told f a r ps r.next still held.told held.told.passed)))
+  where
+    f : Format
+    f = w.format
+
+    a : SenderView
+    a = w.sender
+
+    r : ReceiverView
+    r = w.receiver
+
+    held : Held f a r
+    held = g.held
+
+    test : Piece → Bool
+    test y = not (is_below s (r.next s) y)
+
+    ps : List Piece
+    ps = without_below r.kept s (r.next s)
+
+    still : (u : ℕ) → r.next u ≤ r.next u
+    still u = le_refl (r.next u)
+
+    fewer_left : (y : Piece) → Has ps y → Has r.kept y
+    fewer_left y h = Has-filtered test r.kept y h
+
+    gone_below : (y : Piece) (n k : ℕ) → Has r.kept y → entry_at a.plan y.index ≡ Some (Part y.lane n k) → Has ps y ⊎ IsOver f a r y.lane n
+    gone_below y n k h here = go (below_or_not s (r.next s) y)
+      where
+        go : (test y ≡ true) ⊎ ((y.lane ≡ ordered_lane s) × (y.number < r.next s)) → Has ps y ⊎ IsOver f a r y.lane n
+        go (inl b) = inl (Has-filter test r.kept y b h)
+        go (inr (lane, l)) =
+            let number = counted f a r s held y n k h here lane in
+            let below : n < r.next s = omega arith in
+            inr (subst (λ (u : Lane). IsOver f a r u n) (sym lane) (over below (held.told.passed s n below)))
+          where
+            over : n < r.next s → WasHanded a.plan r (ordered_lane s) n ⊎ (a.abandoned (ordered_lane s) n ≡ true) → IsOver f a r (ordered_lane s) n
+            over b (inl was) = inl was
+            over b (inr dead) = inr (dead, inr (inr (refl, b)))

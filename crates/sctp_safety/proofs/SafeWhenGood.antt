@@ -96,7 +96,7 @@ module _ (w : Way) (g : Good w) where
   kept l n m complete covered not_abandoned = both (each_or (length m.fragments) each)
     where
       Kept : ℕ → Type 0
-      Kept k = (i : ℕ) × Has w.receiver.kept (piece_of w.format i l n k m)
+      Kept k = (i : ℕ) × (entry_at w.sender.plan i ≡ Some (Part l n k)) × Has w.receiver.kept (piece_of w.format i l n k m)
 
       Was : Type 0
       Was = WasHanded w.sender.plan w.receiver l n
@@ -112,7 +112,7 @@ module _ (w : Way) (g : Good w) where
               reached (inr h) = g.held.jumped i (item_at-above w.sender.plan.entries i (Part l n k) here) h
 
               which : Has w.receiver.kept (piece_of w.format i l n k m) ⊎ IsOver w.format w.sender w.receiver l n → Kept k ⊎ Was
-              which (inl h) = inl (i, h)
+              which (inl h) = inl (i, here, h)
               which (inr (inl h)) = inr h
               which (inr (inr (h, done))) = absurd (let f = not_abandoned in cc)
 
@@ -121,7 +121,7 @@ module _ (w : Way) (g : Good w) where
               gone (inr h) =
                   absurd (let q = lost_at w.format w.sender w.receiver i l n (Part l n k) here (refl, refl) h in let f = not_abandoned in cc)
 
-      both : ((k : ℕ) → k < length m.fragments → Kept k) ⊎ Was → Was ⊎ IsHeldWhole w.format w.receiver l n m
+      both : ((k : ℕ) → k < length m.fragments → Kept k) ⊎ Was → Was ⊎ IsHeldWhole w.format w.sender.plan w.receiver l n m
       both (inl h) = inr h
       both (inr h) = inl h
 

@@ -1,15 +1,16 @@
 -- A chunk that is taken is a list of moves: it is kept, and what is due is handed over number by number.
-use Rattle.std.proofs.Common.{◌≡◌, ℕ, zero, suc, ◌<◌, ◌≤◌, ◌⊎◌, ◌++◌, ◌∷◌, ◌&&◌, not, true, false, Bool, nat_lt, List, [], cond, filter, inl, inr, refl, sym, subst, ap, arith, append-nil, append_assoc}
+use Rattle.std.proofs.Common.{◌≡◌, ℕ, zero, suc, ◌<◌, ◌≤◌, ◌⊎◌, ◌++◌, ◌∷◌, ◌&&◌, not, true, false, Bool, nat_lt, max, List, [], cond, filter, inl, inr, refl, sym, subst, ap, arith, append-nil, append_assoc}
 use Rattle.std.proofs.lemmas.Bool.{cases_Bool}
 use Rattle.std.proofs.lemmas.Bool.Decides.{nat_tests}
 use Rattle.sctp_model.specs.Words.{Has, IsWithin, at}
 use Rattle.sctp_model.specs.Format.{Format, Plain, Interleaved, Kind, Ordered, Unordered, Lane, same_lane, ordered_lane}
 use Rattle.sctp_model.specs.Pieces.{Piece}
 use Rattle.sctp_model.specs.Whole.{Follows, IsRow, IsWhole}
-use Rattle.sctp_model.specs.ReceiverView.{Handed, ReceiverView}
+use Rattle.sctp_model.specs.Forward.{Forward, skipped}
+use Rattle.sctp_model.specs.ReceiverView.{Handed, ReceiverView, IsReached}
 use Rattle.sctp_model.specs.Receiving.{IsNumberOf, IsWholeNumber, IsLowest, HasNoWhole, message_of, IsDue, Stop, Over, Past, is_below, without_below, GivesOrdered, GivesAll, IsWholeWith, GivesUnordered, Gives, recorded, Takes}
-use Rattle.sctp_safety.specs.Way.{Way, Move, Keep_piece, Hand_over, Hand_unordered, Pass_over, Clear, with_receiver, past, Step, Run}
-use Rattle.sctp_safety.specs.Exact.{Leads, TakingIsMoves}
+use Rattle.sctp_safety.specs.Way.{Way, Move, Keep_piece, Hand_over, Hand_unordered, Pass_over, Clear, Forward_comes, Let_go, with_receiver, past, Step, Run}
+use Rattle.sctp_safety.specs.Exact.{Leads, TakingIsMoves, ForwardIsMoves}
 use Rattle.sctp_safety.proofs.Basics.{at_cases, at_same, Has-filter, Has-filtered, same_lane-refl}
 
 -- ---- runs
@@ -191,3 +192,13 @@ taking_is_moves w x t has unseen takes =
     give : (k : Kind) → x.lane.kind ≡ k → Gives w.format k x low t → Leads (with_receiver w low) (with_receiver w t)
     give Ordered e h = giving_is_moves w x.lane.stream low t h
     give Unordered e h = giving_unordered_is_moves w x low t e h
+
+pub forward_is_moves : ForwardIsMoves
+forward_is_moves w x t has i below not_yet (low, goes, gives) =
+    leads_on w (with_receiver w mid) (with_receiver w t) (leads_by w (with_receiver w mid) (Forward_comes x) (has, (i, below, not_yet), refl))
+    (leads_on (with_receiver w mid) (with_receiver w low) (with_receiver w t)
+    (leads_by (with_receiver w mid) (with_receiver w low) (Let_go low) (goes, refl))
+    (giving_all_is_moves w w.receiver.streams low t gives))
+  where
+    mid : ReceiverView
+    mid = record w.receiver { jump = max w.receiver.jump x.point; skip = skipped w.receiver.skip x.skips }

@@ -1,5 +1,5 @@
 -- An unordered message is handed over, or a chunk that a FORWARD leaves behind goes.
-use Rattle.std.proofs.Common.{◌≡◌, ℕ, ◌<◌, ◌≤◌, ◌⊎◌, not, ◌==◌, Bool, true, false, List, [], ◌∷◌, length, Some, inl, inr, refl, sym, subst, ap, arith, le_refl, eqb-true}
+use Rattle.std.proofs.Common.{◌≡◌, ℕ, ◌<◌, ◌≤◌, ◌⊎◌, not, ◌==◌, Bool, true, false, List, [], ◌∷◌, length, Some, inl, inr, refl, sym, subst, ap, ◌∙◌, filter, arith, le_refl, eqb-true}
 use Rattle.std.proofs.lemmas.Bool.{cases_Bool, and_parts, or_cases, eq-eqb}
 use Rattle.sctp_model.specs.Words.{Has}
 use Rattle.sctp_model.specs.Format.{Format, Plain, Interleaved, Kind, Unordered, Lane, is_numbered, same_lane, ordered_lane}
@@ -9,7 +9,7 @@ use Rattle.sctp_model.specs.SenderView.{SenderView}
 use Rattle.sctp_model.specs.ReceiverView.{Handed, ReceiverView}
 use Rattle.sctp_model.specs.Receiving.{IsWholeWith, IsLeftBehind, has_index, goes_with, without_message}
 use Rattle.sctp_model.specs.Safe.{WasHanded}
-use Rattle.sctp_safety.specs.Way.{Way, Hand_unordered, Let_go, Step, without_index}
+use Rattle.sctp_safety.specs.Way.{Way, Hand_unordered, Let_go, with_receiver, Step}
 use Rattle.sctp_safety.proofs.Facts.{IsDone, IsOver, IsRetired, MayPass, Arranged, Held, Good}
 use Rattle.sctp_safety.proofs.Basics.{Has-filter, Has-filtered, filter_is, item_at-above, same_lane-true, same_lane-refl}
 use Rattle.sctp_safety.proofs.Later.{by_receiver}
@@ -175,8 +175,8 @@ left_over Interleaved a r arranged held x has (kind, below) not_whole =
     skipped : (held.kept x has).number < r.skip x.lane
     skipped = let c = number_is Interleaved a.plan x (held.kept x has) (all_numbered x.lane.kind) in omega arith
 
-pub kept_by-Let_go : (w v : Way) (x : Piece) → Good w → Step w (Let_go x) v → Good v
-kept_by-Let_go w v x g (has, behind, not_whole, e) = subst Good (sym e)
+pub kept_by-Let_go : (w v : Way) (t : ReceiverView) → Good w → Step w (Let_go t) v → Good v
+kept_by-Let_go w v t g (goes, e) = subst Good (sym (e ∙ ap (with_receiver w) goes.kept))
     (by_receiver w (after r ps r.next r.waiting) g (after-Learns f a r ps r.next r.waiting forth)
     (after_held f a r ps r.next r.waiting forth held fewer gone (λ y n k h. held.fresh y n k (fewer y h)) (λ l n h. h)
     (same_told f a r ps r.next forth held.told held.told.passed)))
@@ -194,29 +194,21 @@ kept_by-Let_go w v x g (has, behind, not_whole, e) = subst Good (sym e)
     held = g.held
 
     ps : List Piece
-    ps = without_index r.kept x.index
+    ps = filter goes.stays r.kept
 
     forth : (s : ℕ) → r.next s ≤ r.next s
     forth s = le_refl (r.next s)
 
-    test : Piece → Bool
-    test y = not (y.index == x.index)
-
     fewer : (y : Piece) → Has ps y → Has r.kept y
-    fewer y h = Has-filtered test r.kept y h
-
-    u : IsFragment f a.plan x
-    u = held.kept x has
-
-    over : IsOver f a r x.lane u.number
-    over = left_over f a r g.arranged held x has behind not_whole
+    fewer y h = Has-filtered goes.stays r.kept y h
 
     gone : (y : Piece) (n k : ℕ) → Has r.kept y → entry_at a.plan y.index ≡ Some (Part y.lane n k) → Has ps y ⊎ IsOver f a r y.lane n
-    gone y n k h here = go (cases_Bool (y.index == x.index))
+    gone y n k h here = go (cases_Bool (goes.stays y))
       where
-        go : ((y.index == x.index) ≡ true) ⊎ ((y.index == x.index) ≡ false) → Has ps y ⊎ IsOver f a r y.lane n
-        go (inr b) = inl (Has-filter test r.kept y (ap not b) h)
-        go (inl b) =
-            let i = eqb-true y.index x.index b in
-            let q = one_number f a.plan x u y.lane n k (subst (λ (j : ℕ). entry_at a.plan j ≡ Some (Part y.lane n k)) i here) in
-            inr (subst (λ (l : Lane). IsOver f a r l n) q.0 (subst (λ (j : ℕ). IsOver f a r x.lane j) q.1 over))
+        go : (goes.stays y ≡ true) ⊎ (goes.stays y ≡ false) → Has ps y ⊎ IsOver f a r y.lane n
+        go (inl b) = inl (Has-filter goes.stays r.kept y b h)
+        go (inr b) =
+            let why = goes.gone y h b in
+            let over = left_over f a r g.arranged held y h why.0 why.1 in
+            let q = one_number f a.plan y (held.kept y h) y.lane n k here in
+            inr (subst (λ (j : ℕ). IsOver f a r y.lane j) q.1 over)

@@ -35,3 +35,8 @@ PassingIsMoves = (w : Way) (x : Piece) → Has w.pieces x → w.receiver.seen x.
 abbrev pub TakingIsMoves : Type 0
 TakingIsMoves = (w : Way) (x : Piece) (t : ReceiverView) → Has w.pieces x → w.receiver.seen x.index ≡ false →
     Takes w.format w.receiver x t → Leads w (with_receiver w t)
+
+-- A FORWARD that counts, which some index up to its point isn't reached for yet, may be taken, and what is due handed over.
+abbrev pub ForwardIsMoves : Type 0
+ForwardIsMoves = (w : Way) (x : Forward) (t : ReceiverView) → Has w.forwards x → (i : ℕ) → i ≤ x.point → (IsReached w.receiver i → ⊥) →
+    ForwardTaken w.format w.receiver x t → Leads w (with_receiver w t)

@@ -1,3 +1,4 @@
 pub mod Laws
 pub mod Way
 pub mod Exact
+pub mod Always

@@ -10,7 +10,7 @@ use Rattle.sctp_model.specs.SenderView.{Queued, SenderView, IsAllGivenUp}
 use Rattle.sctp_model.specs.Forward.{Skip, Forward, StandsIn, skipped}
 use Rattle.sctp_model.specs.ReceiverView.{Handed, ReceiverView, IsReached}
 use Rattle.sctp_model.specs.Acknowledgement.{Acknowledgement, covers}
-use Rattle.sctp_model.specs.Receiving.{IsWholeNumber, HasNoWhole, IsWholeWith, without_below, handed_unordered, message_of, recorded, IsPassed, IsLeftBehind}
+use Rattle.sctp_model.specs.Receiving.{IsWholeNumber, HasNoWhole, without_below, handed_unordered, message_of, recorded, IsPassed, LetsGo}
 use Rattle.sctp_model.specs.Calls.{Call, Asked}
 
 -- A sender, the receiver at its peer, what its user asked for, and every chunk that was ever built for it: chunks with data and FORWARDs
@@ -54,7 +54,7 @@ pub data Move : Type 0 where
   Hand_unordered : (first : Piece) (others : List Piece) → Move
   Pass_over : (stream : ℕ) → Move
   Clear : (stream : ℕ) → Move
-  Let_go : Piece → Move
+  Let_go : ReceiverView → Move
   Take : (stream : ℕ) (message : Handed) (rest : List Handed) → Move
   Note : ReceiverView → Move
 
@@ -85,9 +85,6 @@ continued p l n k count = record p { entries = p.entries ++ parts_from l n k cou
 -- the next ordered number of the stream is done with
 abbrev pub past : ReceiverView → ℕ → ReceiverView
 past r s = record r { next = at r.next s (suc (r.next s)); kept = without_below r.kept s (suc (r.next s)) }
-
-abbrev pub without_index : List Piece → ℕ → List Piece
-without_index kept i = filter (λ (y : Piece). not (y.index == i)) kept
 
 -- what safety doesn't speak of: what went out, what is marked, the peer's window, the turn
 pub record SameButTuning (a b : SenderView) : Type 0 where
@@ -178,10 +175,8 @@ Step w (Pass_over s) v =
     × (v ≡ with_receiver w (past w.receiver s))
 Step w (Clear s) v =
     v ≡ with_receiver w (record w.receiver { kept = without_below w.receiver.kept s (w.receiver.next s) })
-Step w (Let_go x) v =
-    Has w.receiver.kept x × IsLeftBehind w.format w.receiver x
-    × ((xs : List Piece) → IsWholeWith w.format w.receiver.kept x xs → ⊥)
-    × (v ≡ with_receiver w (record w.receiver { kept = without_index w.receiver.kept x.index }))
+-- Unordered chunks that a FORWARD left behind go, where they are of no whole message.
+Step w (Let_go t) v = LetsGo w.format w.receiver t × (v ≡ with_receiver w t)
 Step w (Take s h rest) v =
     (w.receiver.waiting s ≡ h ∷ rest)
     × (v ≡ with_receiver w (record w.receiver {

@@ -1,0 +1,15 @@
+//! The theorem over every list of moves.
+
+ghost use Rattle.sctp_safety.specs.Always.{OrderlyAlways, SafeAlways};
+
+/// Whatever is sent, lost, repeated, reordered, acknowledged and abandoned in one direction, in every world from a start:
+/// ordered messages are handed over in rising number, unordered ones once, each whole and as it was sent; what was passed over
+/// was abandoned; what is acknowledged whole and not abandoned is held whole or was handed over; and the plan is what was asked for.
+pub fn safe_over_every_run()
+    ensures { SafeAlways }
+{}
+
+/// In every such world the sender's plan is orderly (RFC 9260, 6.6 and 6.9; RFC 8260, 2.2).
+pub fn orderly_over_every_run()
+    ensures { OrderlyAlways }
+{}
