@@ -1,14 +1,14 @@
 -- Two ends, what lies between them, and what may happen, while one ordered stream carries messages of one fragment each.
-use Rattle.std.specs.Prelude.{◌≡◌, ℕ, zero, suc, ◌+◌, ◌-◌, ◌*◌, ◌<◌, ◌≤◌, ◌⊎◌, Bool, true, false, not, ◌&&◌, ◌==◌, nat_lt, nat_le, if◌then◌else◌, List, [], ◌∷◌, ◌++◌, length, take, drop, map, Option, None, Some}
-use Rattle.sctp_model.specs.Words.{Has, item_at, at}
-use Rattle.sctp_model.specs.Format.{Format, Plain, Lane, ordered_lane}
+use Rattle.std.specs.Prelude.{◌≡◌, ℕ, suc, ◌+◌, ◌-◌, ◌*◌, ◌<◌, ◌≤◌, ◌⊎◌, Bool, true, false, not, ◌&&◌, nat_lt, List, [], ◌∷◌, ◌++◌, length, take, Option, None, Some}
+use Rattle.sctp_model.specs.Words.{item_at, at}
+use Rattle.sctp_model.specs.Format.{Plain, ordered_lane}
 use Rattle.sctp_model.specs.Plan.{bytes_of}
 use Rattle.sctp_model.specs.Pieces.{Piece}
 use Rattle.sctp_model.specs.Chunk.{PieceMeaning, SackMeaning, ChunkMeaning, Data, Sack, Unknown}
 use Rattle.sctp_model.specs.SenderView.{Queued, SenderView}
-use Rattle.sctp_model.specs.ReceiverView.{Handed, ReceiverView, IsReached, IsCumulative, held_bytes}
+use Rattle.sctp_model.specs.ReceiverView.{Handed, ReceiverView, IsCumulative, held_bytes}
 use Rattle.sctp_model.specs.Receiving.{recorded, Takes}
-use Rattle.sctp_model.specs.Calls.{Call, Asked}
+use Rattle.sctp_model.specs.Calls.{Asked}
 use Rattle.sctp_model.specs.Sending.{Refusal, NotOpen, refusal, accepted, queued, IsFill, numbered_one, went_out, padded, acknowledged}
 
 pub data Side : Type 0 where
@@ -132,7 +132,7 @@ abbrev pub Act : EndView → ChunkMeaning → EndView → Type 0
 Act e (Data p) t =
     ((is_taken e.receiver p ≡ true) × ((r : ReceiverView) × PieceTaken e.receiver (piece_said p) r × (t ≡ record e { receiver = r; sack_due = true })))
     ⊎ ((is_taken e.receiver p ≡ false) × (t ≡ e))
-Act e (Sack s) t = t ≡ record e { sender = acknowledged e.sender s.cumulative }
+Act e (Sack s) t = t ≡ record e { sender = acknowledged e.sender s.cumulative s.rwnd }
 Act e (Unknown k f v) t = t ≡ e
 
 -- the chunks of a packet act in their order
