@@ -1,0 +1,7 @@
+pub mod Items
+pub mod Layouts
+pub mod Reads
+pub mod Writes
+pub mod FirstFault
+pub mod ChunkTree
+pub mod Reading

@@ -1,0 +1,18 @@
+//! SCTP chunks as bytes (RFC 9260, 3.2 and 3.3).
+//!
+//! `read_chunks` reads the chunks of a packet, exactly those that the layouts give, and lends all their data
+//! and lists. `write_chunk` appends a chunk's bytes, and `put_block` and `put_word` an item of a list.
+#![tactic(auto)]
+
+mod bodies;
+mod chunk;
+pub mod codes;
+mod fault;
+mod lists;
+mod numbers;
+mod read;
+
+pub use chunk::{Chunk, GapBlock, Piece, Sack};
+pub use fault::{NoMemory, WireFault};
+pub use lists::{BlockIter, Blocks, WordIter, Words};
+pub use read::{Chunks, read_chunks};
