@@ -5,3 +5,4 @@ pub mod Writes
 pub mod FirstFault
 pub mod ChunkTree
 pub mod Reading
+pub mod Laws

@@ -8,11 +8,13 @@ mod bodies;
 mod chunk;
 pub mod codes;
 mod fault;
+mod laws;
 mod lists;
 mod numbers;
 mod read;
 
 pub use chunk::{Chunk, GapBlock, Piece, Sack};
 pub use fault::{NoMemory, WireFault};
+pub use laws::one_reading;
 pub use lists::{BlockIter, Blocks, WordIter, Words};
 pub use read::{Chunks, read_chunks};
