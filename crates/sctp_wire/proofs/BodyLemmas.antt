@@ -55,11 +55,12 @@ flags_read p unused flags e =
     let i = flag_is 8 p.immediate in
     let u = flag_is 4 p.unordered in
     let b = flag_is 2 p.begin in
-    let l = flag_is 1 p.end in
-    (has-flag flags 3 p.immediate (lit< tt) (omega arith),
-    has-flag flags 2 p.unordered (lit< tt) (omega arith),
-    has-flag flags 1 p.begin (lit< tt) (omega arith),
-    has-flag flags 0 p.end (lit< tt) (omega arith))
+    let l = flag_is 1 p.end in (
+      has-flag flags 3 p.immediate (lit< tt) (omega arith),
+      has-flag flags 2 p.unordered (lit< tt) (omega arith),
+      has-flag flags 1 p.begin (lit< tt) (omega arith),
+      has-flag flags 0 p.end (lit< tt) (omega arith),
+    )
 
 -- ---- DATA
 

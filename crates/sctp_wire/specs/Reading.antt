@@ -1,6 +1,6 @@
 -- How chunks are read, from left to right, as a function: what `Chunks` shows as the list still to come.
 -- `Reads` and `Faults` say what it is.
-use Rattle.std.specs.Prelude.{ℕ, zero, suc, ◌+◌, ◌-◌, ◌*◌, ◌/◌, Bool, true, false, not, if◌then◌else◌, ◌==◌, nat_lt, List, [], ◌∷◌, length, take, drop, slice_index, Result, Ok, Err, IsOk, bit_and}
+use Rattle.std.specs.Prelude.{ℕ, zero, suc, ◌≤◌, ◌+◌, ◌-◌, ◌*◌, ◌/◌, Bool, true, false, not, if◌then◌else◌, ◌==◌, nat_lt, List, [], ◌∷◌, length, take, drop, slice_index, Result, Ok, Err, IsOk, bit_and}
 use Rattle.sctp_model.specs.Chunk.{PieceMeaning, SackMeaning, ChunkMeaning, Data, Sack, Unknown}
 use Rattle.sctp_wire.specs.declared.codes.TheConstants.{DATA, SACK, IMMEDIATE, UNORDERED, BEGIN, END}
 use Rattle.sctp_wire.specs.declared.fault.WireFault.{WireFault}
@@ -50,6 +50,13 @@ frame_at bytes =
     else if nat_lt (length bytes) (stated_length bytes) then Err (Cut 0)
     else if nat_lt (length bytes) (padded (stated_length bytes)) then Err (PaddingMissing 0)
     else Ok (stated_length bytes)
+
+-- all of the first chunk is there, with its padding
+pub record IsWhole (bytes : List ℕ) : Type 0 where
+  pub head : 4 ≤ length bytes
+  pub stated : 4 ≤ stated_length bytes
+  pub fits : stated_length bytes ≤ length bytes
+  pub filled : padded (stated_length bytes) ≤ length bytes
 
 -- the first chunk and what follows it, where its frame is right
 abbrev pub framed : List ℕ → Result ℕ WireFault → Result (ChunkMeaning × List ℕ) WireFault

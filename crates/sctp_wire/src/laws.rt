@@ -6,5 +6,4 @@ ghost use Rattle.sctp_wire.specs.Laws.{ReadInOneWay};
 /// Bytes read as at most one list of chunks, or have one fault, never both.
 pub fn one_reading()
     ensures { (bytes : List ℕ) → ReadInOneWay bytes }
-{
-}
+{}

@@ -8,13 +8,17 @@ mod bodies;
 mod chunk;
 pub mod codes;
 mod fault;
+mod items;
 mod laws;
 mod lists;
 mod numbers;
 mod read;
+mod write;
 
 pub use chunk::{Chunk, GapBlock, Piece, Sack};
 pub use fault::{NoMemory, WireFault};
+pub use items::{put_block, put_word};
 pub use laws::one_reading;
 pub use lists::{BlockIter, Blocks, WordIter, Words};
 pub use read::{Chunks, read_chunks};
+pub use write::write_chunk;

@@ -1,12 +1,11 @@
 //! Chunks from bytes: header, length and padding in the stated order, then the body (RFC 9260, 3.2).
 
-ghost use Rattle.std.specs.Prelude.{◌≡◌, ◌≤◌, length, MatchResult, List, Ok, Err};
+ghost use Rattle.std.specs.Prelude.{◌≡◌, ◌≤◌, length, ◌<◌, ◌^◌, MatchResult, IfOk, List, Ok, Err};
 ghost use Rattle.std.specs.Iterator.{YieldsFirstBy, item_count};
 ghost use Rattle.sctp_model.specs.Chunk.{ChunkMeaning};
 ghost use Rattle.sctp_wire.specs.ChunkTree.{chunk_meaning};
-ghost use Rattle.sctp_wire.specs.FirstFault.{Faults, FaultsAt};
-ghost use Rattle.sctp_wire.specs.Items.{padded};
-ghost use Rattle.sctp_wire.specs.Reading.{frame_at, chunk_at};
+ghost use Rattle.sctp_wire.specs.FirstFault.{stated_length, Faults};
+ghost use Rattle.sctp_wire.specs.Reading.{frame_at, chunk_at, IsWhole};
 ghost use Rattle.sctp_wire.specs.Reads.{Reads};
 
 use crate::bodies::read_body;
@@ -69,9 +68,10 @@ pub fn read_chunks(bytes: &[u8]) -> Result<Chunks<'_>, WireFault>
 {
     let mut rest = bytes;
     while !rest.is_empty() {
-        let at = bytes.len() - rest.len();
-        let (_, after) = first_chunk(rest).map_err(|fault| fault.moved_by(at))?;
-        rest = after;
+        match first_chunk(rest) {
+            Ok((_, after)) => rest = after,
+            Err(fault) => return Err(fault.moved_by(bytes.len() - rest.len())),
+        }
     }
     Ok(Chunks { rest: bytes })
 }
@@ -92,7 +92,8 @@ fn first_chunk(bytes: &[u8]) -> Result<(Chunk<'_>, &[u8]), WireFault>
 /// The length field of the first chunk, where the header, the length and the padding are right.
 #[tactic(auto, unfolding(crate::specs::Reading::frame_at))]
 fn frame(bytes: &[u8]) -> Result<usize, WireFault>
-    ensures { result ≡ frame_at bytes.now }
+    ensures exact { result ≡ frame_at bytes.now }
+    ensures whole { IfOk result (λ size. IsWhole bytes.now × (size ≡ stated_length bytes.now) × (size < 2 ^ 16)) }
 {
     if bytes.len() < 4 {
         return Err(WireFault::Cut { offset: 0 });
