@@ -1,11 +1,13 @@
 -- Numbers read back from their bytes, and a list of items reads in one way.
-use Rattle.std.proofs.Common.{◌≡◌, ℕ, zero, suc, ◌+◌, ◌*◌, ◌/◌, ◌%◌, ◌<◌, ◌≤◌, ◌^◌, List, [], ◌∷◌, ◌++◌, length, take, drop, refl, sym, ap, ◌∙◌, subst, append_assoc, get_or, arith, length-append, length-drop}
+use Rattle.std.proofs.Common.{◌≡◌, ℕ, zero, suc, ◌+◌, ◌*◌, ◌/◌, ◌%◌, ◌<◌, ◌≤◌, ◌^◌, List, [], ◌∷◌, ◌++◌, length, take, drop, refl, sym, ap, ◌∙◌, subst, append_assoc, get_or, ⊎_elim, arith, length-append, length-drop}
 use Rattle.std.specs.List.{flat_map, AllByRecursion}
 use Rattle.std.specs.Int.{w16, w32}
 use Rattle.std.proofs.Math.Seq.{drop-append_seam, drop-append-add}
 use Rattle.std.proofs.lemmas.Nat.{be_bytes_2, be_bytes_4}
-use Rattle.std.proofs.lemmas.List.{append-nil, get_or-drop}
+use Rattle.std.proofs.lemmas.List.{append-nil, get_or-drop, get_or_past}
 use Rattle.std.proofs.lemmas.List.Concat.{flat_map-append}
+use Rattle.std.proofs.Math.ListN.{get_or-append}
+use Rattle.std.proofs.lemmas.Bool.{cases_lt}
 use Rattle.std.proofs.lemmas.Grind.{common_steps}
 use Rattle.byteorder.specs.Numbers.{big_number-reads_back, length-bytes_high_first}
 use Rattle.sctp_model.specs.Chunk.{BlockMeaning}
@@ -221,3 +223,9 @@ words_in-push bytes n fits one whole =
     let joined : flat_map word (words_in bytes ++ n ∷ []) ≡ bytes ++ word n =
     flat_map-append word (words_in bytes) (n ∷ []) ∙ ap (λ (xs : List ℕ). xs ++ (word n ++ [])) (flat-words_in bytes fits whole) ∙ ap (λ (xs : List ℕ). bytes ++ xs) (append-nil (word n)) in
     ap words_in (sym joined) ∙ words_in-flat _ all
+
+-- the front of a vector's bytes is bytes
+pub AreBytes-front : (xs ys zs : List ℕ) → zs ≡ xs ++ ys → ((i d : ℕ) → i < length zs → get_or zs i d < 256) → AreBytes xs
+AreBytes-front xs ys zs e fits i =
+    ⊎_elim (λ (h : i < length xs). rw (← get_or-append xs ys 0 i h, ← e) (fits i 0 (omega (arith, ap length e, length-append xs ys))))
+    (λ (h : length xs ≤ i). omega (arith, get_or_past xs i 0 h)) (cases_lt i (length xs))

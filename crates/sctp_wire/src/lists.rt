@@ -1,9 +1,8 @@
 //! A chunk's lists: bytes that were checked once to be whole items, and iterators that have no error.
 
-ghost use Rattle.std.specs.Prelude.{◌≡◌, ℕ, ◌<◌, ◌%◌, ◌^◌, length, List};
+ghost use Rattle.std.specs.Prelude.{◌≡◌, ◌*◌, ◌<◌, ◌%◌, ◌^◌, length};
 ghost use Rattle.std.specs.List.{flat_map, AllByRecursion};
 ghost use Rattle.std.specs.Iterator.{YieldsFirst, YieldsFirstBy, item_count};
-ghost use Rattle.sctp_model.specs.Chunk.{BlockMeaning};
 ghost use Rattle.sctp_wire.specs.Items.{word, block_bytes, blocks_in, words_in, IsBlock, IsWord};
 ghost use Rattle.sctp_wire.specs.ChunkTree.{block_meaning};
 
@@ -57,6 +56,7 @@ impl<'a> Blocks<'a> {
     /// Their bytes.
     pub(crate) fn bytes(&self) -> &'a [u8]
         ensures bytes { result.now ≡ flat_map block_bytes self.now }
+        ensures len { length result.now ≡ 4 * length self.now }
         ensures in_range { AllByRecursion IsBlock self.now }
     {
         self.bytes
@@ -147,6 +147,7 @@ impl<'a> Words<'a> {
     /// Their bytes.
     pub(crate) fn bytes(&self) -> &'a [u8]
         ensures bytes { result.now ≡ flat_map word self.now }
+        ensures len { length result.now ≡ 4 * length self.now }
         ensures in_range { AllByRecursion IsWord self.now }
     {
         self.bytes
