@@ -1,5 +1,5 @@
 -- Bytes read as at most one list of chunks, or have one fault, never both: what `reading_of` computes.
-use Rattle.std.proofs.Common.{◌≡◌, ℕ, zero, suc, ◌+◌, ◌-◌, ◌*◌, ◌<◌, ◌≤◌, Bool, true, false, List, [], ◌∷◌, ◌++◌, length, drop, refl, sym, ap, ◌∙◌, subst, append_assoc, arith, length-append, length-drop, inl, inr, Ok, Err}
+use Rattle.std.proofs.Common.{◌≡◌, ℕ, zero, suc, ◌+◌, ◌-◌, ◌*◌, ◌<◌, ◌≤◌, Bool, true, false, List, [], ◌∷◌, ◌++◌, length, drop, refl, sym, ap, ◌∙◌, subst, append_assoc, arith, length-append, length-drop, ◌⊎◌, inl, inr, Ok, Err}
 use Rattle.std.specs.Prelude.{Result, IsOk}
 use Rattle.std.proofs.lemmas.List.{append-nil, drop_at}
 use Rattle.sctp_model.specs.Chunk.{ChunkMeaning}
@@ -11,7 +11,7 @@ use Rattle.sctp_wire.specs.FirstFault.{IsCut, IsTooSmall, IsUnpadded, IsMisshape
 use Rattle.sctp_wire.specs.Reading.{chunk_at, moved, onto, followed, chunks_within, reading_of, AreChunks, chunks_or_none, chunks_of, offset_of}
 use Rattle.sctp_wire.specs.Laws.{ReadInOneWay}
 use Rattle.sctp_wire.proofs.ItemLemmas.{AreBytes-drop}
-use Rattle.sctp_wire.proofs.FrameLemmas.{IsWrong, BeginsWith, chunk_at-chunk, chunk_at-cut, chunk_at-small, chunk_at-unpadded, chunk_at-misshapen, chunk_at-leaves, LeavesAtMost, chunk-some}
+use Rattle.sctp_wire.proofs.FrameLemmas.{IsWrong, BeginsWith, begins_first, wrong_first, chunk_at-chunk, chunk_at-cut, chunk_at-small, chunk_at-unpadded, chunk_at-misshapen, chunk_at-leaves, LeavesAtMost, chunk-some}
 
 same_followed : (k whole : ℕ) (r : Result (ChunkMeaning × List ℕ) WireFault) (f g : List ℕ → Result (List ChunkMeaning) WireFault) → LeavesAtMost k r
     → ((rest : List ℕ) → length rest ≤ k → f rest ≡ g rest) → followed whole r f ≡ followed whole r g
@@ -116,13 +116,6 @@ reading_of-err bytes (PaddingMissing offset) h =
 reading_of-err bytes (ChunkBody offset) h =
     faulted IsMisshapen bytes offset (ChunkBody 0) (λ rest w. (omega (arith, w.0.0), chunk_at-misshapen rest w)) h ∙ ap (λ (n : ℕ). Err (ChunkBody n)) (omega arith)
 
-pub read_in_one_way : (bytes : List ℕ) → ReadInOneWay bytes
-read_in_one_way bytes = record {
-  one_list = λ ms ns p q. let one = reading_of-ok bytes ms p in let other = reading_of-ok bytes ns q in cc;
-  one_fault = λ f g p q. let one = reading_of-err bytes f p in let other = reading_of-err bytes g q in cc;
-  never_both = λ ms f p q. let one = reading_of-ok bytes ms p in let other = reading_of-err bytes f q in cc;
-}
-
 -- ---- what the reader keeps
 
 -- one chunk more behind whole ones
@@ -199,3 +192,32 @@ moved_offset n (ChunkBody offset) = refl
 -- what stands before what is left
 pub left_length : (bytes rest : List ℕ) → IsReadUpTo bytes rest → length bytes - length rest + length rest ≡ length bytes
 left_length bytes rest up = omega (arith, ap length up.joined, length-append up.whole rest)
+
+-- ---- the law
+
+-- whole chunks, or a fault
+abbrev Reading : List ℕ → Type 0
+Reading bytes = ((ms : List ChunkMeaning) × Reads bytes ms) ⊎ ((f : WireFault) × Faults bytes f)
+
+read_on_by : (most b : ℕ) (bytes rest : List ℕ) (r : Result (ChunkMeaning × List ℕ) WireFault) → chunk_at (b ∷ rest) ≡ r → length rest ≤ most → AreBytes bytes
+    → IsReadUpTo bytes (b ∷ rest) → ((after : List ℕ) → length after ≤ most → IsReadUpTo bytes after → Reading bytes) → Reading bytes
+read_on_by most b bytes rest (Ok found) e short fits up on =
+    let first = begins_first (b ∷ rest) found.0 found.1 (rest_bytes bytes (b ∷ rest) fits up) (omega arith) e in
+    on found.1 (omega (arith, begins_shorter (b ∷ rest) found.1 found.0 first)) (read_more bytes (b ∷ rest) found.1 found.0 up first)
+read_on_by most b bytes rest (Err f) e short fits up on =
+    let before = length bytes - length (b ∷ rest) in
+    inr (moved before f, read_wrong bytes (b ∷ rest) f before up (left_length bytes (b ∷ rest) up) (wrong_first (b ∷ rest) f (omega arith) e))
+
+read_on : (most : ℕ) (bytes rest : List ℕ) → length rest ≤ most → AreBytes bytes → IsReadUpTo bytes rest → Reading bytes
+read_on most bytes [] short fits up = inl (read_all bytes [] up refl)
+read_on zero bytes (b ∷ rest) short fits up = absurd (omega arith)
+read_on (suc most) bytes (b ∷ rest) short fits up =
+    read_on_by most b bytes rest (chunk_at (b ∷ rest)) refl (omega arith) fits up (λ after le more. read_on most bytes after le fits more)
+
+pub read_in_one_way : (bytes : List ℕ) → ReadInOneWay bytes
+read_in_one_way bytes = record {
+  one_list = λ ms ns p q. let one = reading_of-ok bytes ms p in let other = reading_of-ok bytes ns q in cc;
+  one_fault = λ f g p q. let one = reading_of-err bytes f p in let other = reading_of-err bytes g q in cc;
+  never_both = λ ms f p q. let one = reading_of-ok bytes ms p in let other = reading_of-err bytes f q in cc;
+  one_of_them = λ fits. read_on (length bytes) bytes bytes (omega arith) fits (read_none bytes);
+}

@@ -16,6 +16,7 @@ pub fn put_block(block: GapBlock, list: &mut Vec<u8>) -> Result<(), NoMemory>
     ensures bytes { OnOk result (list.new.items ≡ list.old.items ++ block_bytes (block_meaning block)) }
     // Behind whole blocks there are then these and this one.
     ensures blocks { length list.old.items % 4 ≡ 0 → OnOk result (blocks_in list.new.items ≡ blocks_in list.old.items ++ block_meaning block ∷ []) }
+    ensures len { OnOk result (vec_len list.new ≡ vec_len list.old + 4) }
     ensures refused { OnErr result (list.new.items ≡ list.old.items) }
     ensures memory { vec_len list.old + 4 ≤ vec_capacity list.old → IsOk result }
 {
@@ -33,6 +34,7 @@ pub fn put_word(number: u32, list: &mut Vec<u8>) -> Result<(), NoMemory>
     ensures bytes { OnOk result (list.new.items ≡ list.old.items ++ word number) }
     // Behind whole numbers there are then these and this one.
     ensures words { length list.old.items % 4 ≡ 0 → OnOk result (words_in list.new.items ≡ words_in list.old.items ++ number ∷ []) }
+    ensures len { OnOk result (vec_len list.new ≡ vec_len list.old + 4) }
     ensures refused { OnErr result (list.new.items ≡ list.old.items) }
     ensures memory { vec_len list.old + 4 ≤ vec_capacity list.old → IsOk result }
 {

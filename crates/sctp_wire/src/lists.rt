@@ -1,6 +1,6 @@
 //! A chunk's lists: bytes that were checked once to be whole items, and iterators that have no error.
 
-ghost use Rattle.std.specs.Prelude.{◌≡◌, ◌*◌, ◌<◌, ◌%◌, ◌^◌, length};
+ghost use Rattle.std.specs.Prelude.{◌≡◌, [], ◌*◌, ◌<◌, ◌%◌, ◌^◌, length};
 ghost use Rattle.std.specs.List.{flat_map, AllByRecursion};
 ghost use Rattle.std.specs.Iterator.{YieldsFirst, YieldsFirstBy, item_count};
 ghost use Rattle.sctp_wire.specs.Items.{word, block_bytes, blocks_in, words_in, IsBlock, IsWord};
@@ -38,10 +38,18 @@ impl<'a> Blocks<'a> {
         Blocks { bytes }
     }
 
+    /// No gap blocks.
+    pub fn none() -> Blocks<'static>
+        ensures { result ≡ [] }
+    {
+        Blocks::new(&[])
+    }
+
     /// How many there are.
     pub fn len(&self) -> usize
         ensures count { result ≡ length self.now }
         ensures small { result < 2 ^ 62 }
+        ensures in_range { AllByRecursion IsBlock self.now }
     {
         self.bytes.len() / 4
     }
@@ -129,10 +137,18 @@ impl<'a> Words<'a> {
         Words { bytes }
     }
 
+    /// No numbers.
+    pub fn none() -> Words<'static>
+        ensures { result ≡ [] }
+    {
+        Words::new(&[])
+    }
+
     /// How many there are.
     pub fn len(&self) -> usize
         ensures count { result ≡ length self.now }
         ensures small { result < 2 ^ 62 }
+        ensures in_range { AllByRecursion IsWord self.now }
     {
         self.bytes.len() / 4
     }
