@@ -1,0 +1,52 @@
+//! What is wrong with bytes, and want of memory.
+
+ghost use Rattle.std.specs.Prelude.{◌≡◌, ◌+◌, ◌<◌, ◌^◌};
+ghost use Rattle.sctp_wire.specs.Reading.{moved, offset_of};
+
+use thiserror::Error;
+
+/// Why bytes are no list of chunks: the first check that fails, in this order at each chunk, with the offset
+/// of that chunk's first byte.
+#[derive(Clone, Copy, Debug, PartialEq, Eq, Error)]
+pub enum WireFault {
+    /// Fewer bytes are left than a header takes, or than the length field says.
+    #[error("the chunk at byte {offset} is cut off")]
+    Cut { offset: usize },
+    /// The length field is below 4, the header's own length.
+    #[error("the chunk at byte {offset} has a length below 4")]
+    LengthTooSmall { offset: usize },
+    /// The padding to a multiple of 4 isn't there.
+    #[error("the chunk at byte {offset} lacks its padding")]
+    PaddingMissing { offset: usize },
+    /// The value isn't of the layout of the chunk's type.
+    #[error("the chunk at byte {offset} isn't of its type's layout")]
+    ChunkBody { offset: usize },
+}
+
+impl WireFault {
+    /// The same fault, where so many bytes stand before those that were read.
+    pub fn moved_by(self, distance: usize) -> WireFault
+        requires { offset_of self + distance < 2 ^ 64 }
+        ensures { result ≡ moved distance self }
+    {
+        match self {
+            WireFault::Cut { offset } => WireFault::Cut {
+                offset: offset + distance,
+            },
+            WireFault::LengthTooSmall { offset } => WireFault::LengthTooSmall {
+                offset: offset + distance,
+            },
+            WireFault::PaddingMissing { offset } => WireFault::PaddingMissing {
+                offset: offset + distance,
+            },
+            WireFault::ChunkBody { offset } => WireFault::ChunkBody {
+                offset: offset + distance,
+            },
+        }
+    }
+}
+
+/// Memory ran out: a growth was refused.
+#[derive(Clone, Copy, Debug, PartialEq, Eq, Error)]
+#[error("out of memory")]
+pub struct NoMemory;
