@@ -1,0 +1,2 @@
+//! Two ends of an association and what lies between them, run by a script.
+#![tactic(auto)]
