@@ -151,8 +151,7 @@ Step w (Put_forward x) v =
 Step w (Put_sack x) v = ((i : ℕ) → covers x i ≡ true → IsReached w.receiver i) × (v ≡ record w { sacks = x ∷ w.sacks })
 Step w (Put_shutdown c) v = ((i : ℕ) → i ≤ c → IsReached w.receiver i) × (v ≡ record w { shutdowns = c ∷ w.shutdowns })
 Step w (Keep_piece x) v =
-    Has w.pieces x × (w.receiver.seen x.index ≡ false)
-    × (v ≡ with_receiver w (record (recorded w.receiver x) { kept = x ∷ w.receiver.kept }))
+    Has w.pieces x × (w.receiver.seen x.index ≡ false) × (v ≡ with_receiver w (record (recorded w.receiver x) { kept = x ∷ w.receiver.kept }))
 Step w (Drop_piece x) v =
     Has w.pieces x × (w.receiver.seen x.index ≡ false) × (IsPassed w.format w.receiver x ⊎ (w.streams ≤ x.lane.stream))
     × (v ≡ with_receiver w (recorded w.receiver x))
