@@ -1,0 +1,2 @@
+pub mod PadLemmas
+pub mod Filling
