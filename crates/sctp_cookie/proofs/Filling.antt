@@ -20,3 +20,8 @@ filled_more at k n front field old new place size fits end is_filled written =
     let none : drop k zeros ≡ [] = drop_all k zeros (omega arith) in
     let size_now : 40 - length (front ++ field) ≡ 40 - length front - n = omega (arith, length-append front field) in
     rw (before, behind, none, written, behind, whole, left, append-nil, size_now, append_assoc) refl
+
+-- 32 bytes are written behind the first 40
+pub placed_behind : (front back : List ℕ) → length front ≡ 40 → put_mid 40 32 (front ++ replicate 32 0) back ≡ front ++ back
+placed_behind front back size =
+    rw (take_at front (replicate 32 0) 40 size, drop_at front (replicate 32 0) 40 size, append-nil back) refl

@@ -36,7 +36,7 @@ body_of bytes = record {
 }
 
 -- a cookie has this form: 72 bytes, the options at most 3, then three zeros
-abbrev pub has_form : List ℕ → Bool
+unfoldable pub has_form : List ℕ → Bool
 has_form bytes =
     length bytes == 72 && nat_le (slice_index bytes 36) 3
     && slice_index bytes 37 == 0 && slice_index bytes 38 == 0 && slice_index bytes 39 == 0

@@ -1,2 +1,3 @@
 pub mod Hmac
 pub mod CookieBody
+pub mod Opens

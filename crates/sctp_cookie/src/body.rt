@@ -18,7 +18,7 @@
 //! Numbers stand high byte first.
 
 ghost use Rattle.std.specs.Prelude.{◌≡◌, length, if◌then◌else◌};
-ghost use Rattle.sctp_cookie.specs.CookieBody.{body_bytes, body_of, has_form, options_byte};
+ghost use Rattle.sctp_cookie.specs.CookieBody.{IsInRange, body_bytes, body_of, has_form, options_byte};
 
 use byteorder::{BigEndian, ByteOrder};
 
@@ -76,8 +76,9 @@ pub struct CookieBody {
 }
 
 /// The 40 bytes of a body.
-pub(crate) fn body_bytes(body: &CookieBody) -> [u8; 40]
-    ensures { result ≡ body_bytes body.now }
+pub(crate) fn body_bytes(body: CookieBody) -> [u8; 40]
+    ensures layout { result ≡ body_bytes body }
+    ensures in_range { IsInRange body }
 {
     let mut bytes = [0; BODY_LENGTH];
     BigEndian::write_u64(&mut bytes, body.made);
@@ -90,7 +91,7 @@ pub(crate) fn body_bytes(body: &CookieBody) -> [u8; 40]
     BigEndian::write_u32(&mut bytes[28..], body.caller_rwnd);
     BigEndian::write_u16(&mut bytes[32..], body.streams_to_caller);
     BigEndian::write_u16(&mut bytes[34..], body.streams_from_caller);
-    bytes[OPTIONS_AT] = options_byte(body);
+    bytes[OPTIONS_AT] = options_byte(&body);
     bytes
 }
 
@@ -109,6 +110,7 @@ fn options_byte(body: &CookieBody) -> u8
 
 /// The body in the first 40 bytes of a cookie. None where these aren't 72 bytes of the layout: the
 /// options are above 3, or what must be zero isn't.
+#[tactic(auto, unfolding(crate::specs::CookieBody::has_form))]
 pub(crate) fn read_body(bytes: &[u8]) -> Option<CookieBody>
     ensures { result ≡ (if has_form bytes.now then Some (body_of bytes.now) else None) }
 {
@@ -120,6 +122,7 @@ pub(crate) fn read_body(bytes: &[u8]) -> Option<CookieBody>
 }
 
 // Whether these are 72 bytes of which the options and the zeros are as the layout has them.
+#[tactic(auto, unfolding(crate::specs::CookieBody::has_form))]
 fn has_form(bytes: &[u8]) -> bool
     ensures { result ≡ has_form bytes.now }
 {

@@ -18,6 +18,8 @@
 
 mod body;
 mod hmac;
+mod sealing;
 
-pub use body::{CookieBody, Ports};
+pub use body::{COOKIE_LENGTH, CookieBody, Ports};
 pub use hmac::{Key, hmac_sha256};
+pub use sealing::{CookieFault, LIFE_MS, open, seal};

@@ -7,10 +7,10 @@ use Rattle.sctp_cookie.specs.CookieBody.{body_bytes, options_byte}
 use Rattle.sctp_cookie.proofs.Filling.{filled, filled_more}
 use Rattle.sctp_cookie.proofs.body.body_bytes.Goals as goal
 
-pub returns : goal.returns
+pub returns-clause-layout : goal.returns-clause-layout
 unfolding body_bytes
-returns c =
-    let b = c.args.body.now in
+returns-clause-layout c =
+    let b = c.args.body in
     let made = big_bytes 8 b.made in
     let bytes_made = c.write_u64.new.buf in
     let is_made : bytes_made ≡ filled made = c.write_u64.ensures in
@@ -42,3 +42,17 @@ returns c =
     let bytes_streams_from_caller = put_mid 34 6 bytes_streams_to_caller c.write_u16-4.new.buf in
     let is_streams_from_caller : bytes_streams_from_caller ≡ filled streams_from_caller = filled_more 34 6 2 streams_to_caller (big_bytes 2 b.streams_from_caller) bytes_streams_to_caller c.write_u16-4.new.buf refl refl (omega arith) refl is_streams_to_caller c.write_u16-4.ensures in
     rw (c.options_byte.ensures, is_streams_from_caller) (set_at streams_from_caller 0 (0 ∷ 0 ∷ 0 ∷ []) (options_byte b) 36 refl)
+
+pub returns-clause-in_range : goal.returns-clause-in_range
+returns-clause-in_range c = record {
+  made = omega arith;
+  listener_port = omega arith;
+  caller_port = omega arith;
+  listener_tag = omega arith;
+  caller_tag = omega arith;
+  listener_tsn = omega arith;
+  caller_tsn = omega arith;
+  caller_rwnd = omega arith;
+  streams_to_caller = omega arith;
+  streams_from_caller = omega arith;
+}
