@@ -1,10 +1,9 @@
 -- A body's bytes read back as the body, and bytes of the layout are those of the body that they read as.
-use Rattle.std.proofs.Common.{◌≡◌, ℕ, zero, suc, ◌+◌, ◌<◌, ◌≤◌, Bool, true, false, cond, List, [], ◌∷◌, ◌++◌, length, take, drop, get_or, refl, ap, sym, ◌∙◌, arith, nat_eq, nat_le, bit_and}
+use Rattle.std.proofs.Common.{◌≡◌, ℕ, zero, suc, ◌+◌, ◌≤◌, Bool, true, false, cond, List, [], ◌∷◌, ◌++◌, length, take, drop, get_or, refl, ap, sym, ◌∙◌, arith, nat_eq, nat_le, bit_and}
 use Rattle.std.specs.Prelude.{not}
 use Rattle.std.proofs.lemmas.Bool.{and_parts, eqb-true, leb-true}
 use Rattle.std.proofs.lemmas.List.{length-drop, drop_more}
 use Rattle.std.proofs.Math.Seq.{take-add}
-use Rattle.byteorder.specs.Endian.{big_bytes, big_number}
 use Rattle.byteorder.specs.Numbers.{big_from-lt, big_number-reads_back}
 use Rattle.sctp_cookie.specs.CookieBody.{IsInRange, body_bytes, body_of, has_form, options_byte}
 use Rattle.sctp_cookie.specs.declared.body.CookieBody.{CookieBody}
@@ -128,7 +127,7 @@ last_four bytes facts =
     let third : drop 38 bytes ≡ get_or bytes 38 0 ∷ drop 39 bytes = drop_more bytes 38 0 (omega arith) in
     let fourth : drop 39 bytes ≡ get_or bytes 39 0 ∷ drop 40 bytes = drop_more bytes 39 0 (omega arith) in
     let end : take 4 (drop 36 bytes) ≡ get_or bytes 36 0 ∷ 0 ∷ 0 ∷ 0 ∷ [] =
-        rw (first, second, third, fourth, facts.first_zero, facts.second_zero, facts.third_zero) refl in
+    rw (first, second, third, fourth, facts.first_zero, facts.second_zero, facts.third_zero) refl in
     ap (λ (n : ℕ). n ∷ 0 ∷ 0 ∷ 0 ∷ []) (byte_again (get_or bytes 36 0) facts.options) ∙ sym end
 
 -- a list in the parts of the layout
@@ -156,8 +155,8 @@ body_bytes-body_of bytes are form =
     let streams_from_caller = big_bytes-number_2 (drop 34 bytes) (AreBytes-drop 34 bytes are) (omega (arith, length-drop 34 bytes)) in
     let options = last_four bytes facts in
     let joined : body_bytes (body_of bytes) ≡ take 8 bytes ++ take 2 (drop 8 bytes) ++ take 2 (drop 10 bytes) ++ take 4 (drop 12 bytes) ++ take 4 (drop 16 bytes)
-        ++ take 4 (drop 20 bytes) ++ take 4 (drop 24 bytes) ++ take 4 (drop 28 bytes) ++ take 2 (drop 32 bytes) ++ take 2 (drop 34 bytes)
-        ++ take 4 (drop 36 bytes)
-        = λ i. made i ++ listener_port i ++ caller_port i ++ listener_tag i ++ caller_tag i ++ listener_tsn i ++ caller_tsn i ++ caller_rwnd i
-        ++ streams_to_caller i ++ streams_from_caller i ++ options i in
+    ++ take 4 (drop 20 bytes) ++ take 4 (drop 24 bytes) ++ take 4 (drop 28 bytes) ++ take 2 (drop 32 bytes) ++ take 2 (drop 34 bytes)
+    ++ take 4 (drop 36 bytes)
+    = λ i. made i ++ listener_port i ++ caller_port i ++ listener_tag i ++ caller_tag i ++ listener_tsn i ++ caller_tsn i ++ caller_rwnd i
+    ++ streams_to_caller i ++ streams_from_caller i ++ options i in
     joined ∙ parts_of bytes

@@ -1,5 +1,5 @@
 -- A number that was read from bytes, high byte first, has those bytes.
-use Rattle.std.proofs.Common.{◌≡◌, ℕ, ◌+◌, ◌%◌, ◌<◌, ◌≤◌, inl, inr, lit<, List, length, take, drop, get_or, sym, ◌∙◌, arith}
+use Rattle.std.proofs.Common.{◌≡◌, ℕ, ◌+◌, ◌<◌, ◌≤◌, inl, inr, lit<, List, length, take, drop, get_or, sym, ◌∙◌, arith}
 use Rattle.std.proofs.lemmas.Bool.{cases_lt}
 use Rattle.std.proofs.lemmas.List.{length-take-le, get_or-take, get_or_past, get_or-drop}
 use Rattle.std.proofs.lemmas.Nat.{be_bytes_2, be_bytes_4, be_bytes_8}
@@ -17,8 +17,8 @@ AreBytes-drop n xs bytes i = rw (get_or-drop n xs i 0) (bytes (n + i))
 AreBytes-take : (n : ℕ) (xs : List ℕ) → n ≤ length xs → AreBytes xs → AreBytes (take n xs)
 AreBytes-take n xs fits bytes i =
     elim (cases_lt i n) [
-      inl below ↦ rw (get_or-take n xs i 0 below) (bytes i)
-    | inr past ↦ let size = length-take-le n xs fits in rw (get_or_past (take n xs) i 0 (omega (arith, size))) (lit< tt)
+      | inl below ↦ rw (get_or-take n xs i 0 below) (bytes i)
+      | inr past ↦ let size = length-take-le n xs fits in rw (get_or_past (take n xs) i 0 (omega (arith, size))) (lit< tt)
     ]
 
 -- the bytes of the number in the first two bytes are these two

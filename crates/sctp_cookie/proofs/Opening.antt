@@ -1,12 +1,11 @@
 -- What opening computes is the one answer that the words of the layout give.
-use Rattle.std.proofs.Common.{◌≡◌, ◌≢◌, ℕ, ◌+◌, ◌<◌, ◌≤◌, Bool, true, false, cond, List, ◌++◌, length, take, drop, refl, ap, sym, subst, ◌∙◌, arith, nat_eq, nat_lt, Result, Ok, Err}
+use Rattle.std.proofs.Common.{◌≡◌, ℕ, ◌+◌, ◌≤◌, Bool, true, false, cond, List, length, take, drop, refl, ap, sym, ◌∙◌, arith, nat_eq, nat_lt, Result, Ok, Err}
 use Rattle.std.specs.Prelude.{not}
-use Rattle.std.specs.Str.{bytes_eq}
-use Rattle.std.proofs.lemmas.Bool.{false≢true, true≢false, false_from_ne_true, true_from_ne_false, and_parts, and_from, eqb-true, eq-eqb, ltb-true, ltb-false, lt-ltb, le-ltb}
+use Rattle.std.proofs.lemmas.Bool.{false≢true, false_from_ne_true, and_parts, and_from, eqb-true, eq-eqb, ltb-true, ltb-false, lt-ltb, le-ltb}
 use Rattle.std.proofs.lemmas.List.{length-drop, take_at, drop_at, take-append-drop}
 use Rattle.std.proofs.lemmas.Slice.Eq.{bytes_eq-Decides}
 use Rattle.sha2.proofs.Facts256.{length-sha256}
-use Rattle.sctp_cookie.specs.Hmac.{hmac, padded_key}
+use Rattle.sctp_cookie.specs.Hmac.{hmac}
 use Rattle.sctp_cookie.specs.CookieBody.{IsInRange, body_bytes, body_of, has_form}
 use Rattle.sctp_cookie.specs.Opens.{Belongs, IsCookie, IsLaidOut, Opened, age, has_mac, has_ports, life, open_answer, ports_of, sealed, staleness}
 use Rattle.sctp_cookie.specs.declared.body.CookieBody.{CookieBody}
@@ -165,7 +164,7 @@ pub sealed-opens : (key : List ℕ) (now : ℕ) (body : CookieBody) → IsInRang
     → open_answer key (sealed key body) now (ports_of body) body.listener_tag ≡ Ok body
 sealed-opens key now body in_range young =
     let belongs : Belongs key (sealed key body) (ports_of body) body.listener_tag body =
-        record { cookie = record { in_range = in_range; is_sealed = refl }; same_ports = refl; same_tag = refl } in
+    record { cookie = record { in_range = in_range; is_sealed = refl }; same_ports = refl; same_tag = refl } in
     let fresh : nat_lt life (age now body) ≡ false = le-ltb _ _ (omega arith) in
     belongs_answer key (sealed key body) now (ports_of body) body.listener_tag body belongs ∙ rw fresh refl
 

@@ -1,5 +1,5 @@
 -- The body of a state cookie: what a listener keeps in it (RFC 9260, 5.1.3), as 40 bytes.
-use Rattle.std.specs.Prelude.{◌≡◌, ℕ, ◌+◌, ◌^◌, ◌<◌, ◌≤◌, List, [], ◌∷◌, ◌++◌, length, drop, Bool, ◌&&◌, not, bit_and, ◌==◌, nat_le, slice_index, if◌then◌else◌}
+use Rattle.std.specs.Prelude.{ℕ, ◌+◌, ◌^◌, ◌<◌, List, [], ◌∷◌, ◌++◌, length, drop, Bool, ◌&&◌, not, bit_and, ◌==◌, nat_le, slice_index, if◌then◌else◌}
 use Rattle.byteorder.specs.Endian.{big_bytes, big_number}
 use Rattle.sctp_cookie.specs.declared.body.CookieBody.{CookieBody}
 

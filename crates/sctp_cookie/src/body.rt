@@ -76,7 +76,7 @@ pub struct CookieBody {
 }
 
 /// The 40 bytes of a body.
-pub(crate) fn body_bytes(body: CookieBody) -> [u8; 40]
+pub(crate) fn body_bytes(body: CookieBody) -> [u8; BODY_LENGTH]
     ensures layout { result ≡ body_bytes body }
     ensures in_range { IsInRange body }
 {

@@ -5,6 +5,7 @@ ghost use Rattle.sha2.specs.Sha256.{sha256};
 ghost use Rattle.sctp_cookie.specs.Hmac.{block_key, hmac};
 
 use sha2::{Digest, Sha256};
+use std::fmt;
 use std::marker::Model;
 
 /// The bytes in one block of SHA-256 (RFC 2104, 2: B).
@@ -30,6 +31,13 @@ impl Model for Key {
     ghost inverse = { λ bytes. record { bytes = bytes } };
 }
 
+/// Shows no byte of the key.
+impl fmt::Debug for Key {
+    fn fmt<W: fmt::Write>(&self, f: &mut fmt::Formatter<W>) -> fmt::Result {
+        write!(f, "Key(..)")
+    }
+}
+
 impl Key {
     /// The key of these bytes, which ought to be drawn at random and kept secret
     /// (RFC 2104, 3).
@@ -39,8 +47,8 @@ impl Key {
         Key { bytes }
     }
 
-    /// The bytes of the key.
-    pub fn as_bytes(&self) -> &[u8]
+    // The bytes of the key.
+    pub(crate) fn as_bytes(&self) -> &[u8]
         ensures { result.now ≡ self.now }
     {
         self.bytes.as_slice()

@@ -31,13 +31,14 @@ pub enum CookieFault {
     #[error("the cookie is for another tag")]
     Tag,
     /// The cookie is past its life, by so many microseconds or by more than 32 bits hold: the
-    /// measure of staleness of the Stale Cookie cause (RFC 9260, 3.3.10.3).
+    /// measure of staleness of the Stale Cookie cause (RFC 9260, 3.3.10.3). The body of such a
+    /// cookie is what [`open`] answers at the moment 0.
     #[error("the cookie is stale by {0} microseconds")]
     Stale(u32),
 }
 
 /// The cookie of `body` under `key`: the body's 40 bytes and their MAC (RFC 9260, 5.1.3).
-pub fn seal(key: &Key, body: &CookieBody) -> [u8; 72]
+pub fn seal(key: &Key, body: &CookieBody) -> [u8; COOKIE_LENGTH]
     ensures sealed { result ≡ sealed key.now body.now }
 
     // It opens until its life ends, to the same body.
@@ -55,22 +56,43 @@ pub fn seal(key: &Key, body: &CookieBody) -> [u8; 72]
 }
 
 /// The body of a cookie that came in a COOKIE ECHO (RFC 9260, 5.1.5), at the moment `now` in
-/// milliseconds, in a packet between `ports` with the verification tag `tag`.
+/// milliseconds of the clock by which it was made, in a packet between `ports` with the
+/// verification tag `tag`. The packet's source is the caller's port and its destination the
+/// listener's.
 ///
 /// # Errors
 ///
 /// The first of the checks of [`CookieFault`] that fails, in its order.
-pub fn open(key: &Key, bytes: &[u8], now: u64, ports: Ports, tag: u32) -> Result<CookieBody, CookieFault>
+pub fn open(
+    key: &Key,
+    bytes: &[u8],
+    now: u64,
+    ports: Ports,
+    tag: u32,
+) -> Result<CookieBody, CookieFault>
+    // The first check that fails, or the body.
     ensures answer { result ≡ open_answer key.now bytes.now now ports tag }
+
+    // It opens where the bytes are a body of the layout and its MAC, and the packet and the moment
+    // are right; each fault is so where the checks before it hold.
     ensures meaning { Opened key.now bytes.now now ports tag result }
-    ensures only { (outcome : Result CookieBody CookieFault) → Opened key.now bytes.now now ports tag outcome → result ≡ outcome }
+
+    // There is no other answer with that meaning.
+    ensures only { (outcome : Result CookieBody CookieFault) → Opened key.now bytes.now now ports tag outcome
+        → result ≡ outcome }
 {
     checked_body(key, bytes, now, ports, tag)
 }
 
 // The checks of `open`, in their order.
 #[tactic(auto, unfolding(crate::specs::CookieBody::has_form, crate::specs::Opens::has_ports, crate::specs::Opens::open_answer))]
-fn checked_body(key: &Key, bytes: &[u8], now: u64, ports: Ports, tag: u32) -> Result<CookieBody, CookieFault>
+fn checked_body(
+    key: &Key,
+    bytes: &[u8],
+    now: u64,
+    ports: Ports,
+    tag: u32,
+) -> Result<CookieBody, CookieFault>
     ensures { result ≡ open_answer key.now bytes.now now ports tag }
 {
     let Some(body) = read_body(bytes) else {

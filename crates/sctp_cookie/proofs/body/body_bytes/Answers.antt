@@ -1,5 +1,5 @@
 -- The fields are written in the order of their places, each behind the ones before it.
-use Rattle.std.proofs.Common.{◌≡◌, ◌∷◌, ◌++◌, [], List, ℕ, refl, ap, ◌∙◌, arith, set}
+use Rattle.std.proofs.Common.{◌≡◌, ◌∷◌, ◌++◌, [], refl, arith}
 use Rattle.std.proofs.lemmas.List.{set_at}
 use borrow.Rule.Slice.PartMut.{put_mid}
 use Rattle.byteorder.specs.Endian.{big_bytes}

@@ -1,4 +1,4 @@
-use Rattle.std.proofs.Common.{rules, arith}
+use Rattle.std.proofs.Common.{arith}
 use Rattle.std.proofs.lemmas.Grind.{common_steps}
 use Rattle.sctp_cookie.specs.Hmac.{block_key}
 use Rattle.sctp_cookie.proofs.hmac.block_key.Goals as goal

@@ -1,4 +1,4 @@
-use Rattle.std.proofs.Common.{◌≡◌, List, ℕ, refl, sym, subst, ◌∙◌}
+use Rattle.std.proofs.Common.{sym, ◌∙◌}
 use Rattle.sctp_cookie.specs.CookieBody.{body_bytes}
 use Rattle.sctp_cookie.specs.Hmac.{hmac}
 use Rattle.sctp_cookie.specs.Opens.{sealed}
