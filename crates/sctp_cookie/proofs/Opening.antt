@@ -1,5 +1,5 @@
 -- What opening computes is the one answer that the words of the layout give.
-use Rattle.std.proofs.Common.{◌≡◌, ℕ, ◌+◌, ◌≤◌, Bool, true, false, cond, List, length, take, drop, refl, ap, sym, ◌∙◌, arith, nat_eq, nat_lt, Result, Ok, Err}
+use Rattle.std.proofs.Common.{◌≡◌, ℕ, ◌+◌, ◌≤◌, Bool, true, false, cond, List, length, take, drop, refl, ap, subst, sym, ◌∙◌, arith, nat_eq, nat_lt, Result, Ok, Err}
 use Rattle.std.specs.Prelude.{not}
 use Rattle.std.proofs.lemmas.Bool.{false≢true, false_from_ne_true, and_parts, and_from, eqb-true, eq-eqb, ltb-true, ltb-false, lt-ltb, le-ltb}
 use Rattle.std.proofs.lemmas.List.{length-drop, take_at, drop_at, take-append-drop}
@@ -157,6 +157,17 @@ Opened-open_answer key bytes now ports tag are (Err fault.Tag) (body, cookie, sa
 Opened-open_answer key bytes now ports tag are (Err (fault.Stale microseconds)) (body, belongs, past, counted) =
     let late : nat_lt life (age now body) ≡ true = lt-ltb _ _ past in
     belongs_answer key bytes now ports tag body belongs ∙ rw (late, counted) refl
+
+-- a stale cookie opens at the moment 0
+pub stale-opens : (key bytes : List ℕ) (now : ℕ) (ports : Ports) (tag : ℕ) → AreBytes bytes → (microseconds : ℕ)
+    → open_answer key bytes now ports tag ≡ Err (fault.Stale microseconds) → open_answer key bytes 0 ports tag ≡ Ok (body_of bytes)
+stale-opens key bytes now ports tag are microseconds stale =
+    let opened = subst (λ (r : Result CookieBody CookieFault). Opened key bytes now ports tag r) stale (open_answer-Opened key bytes now ports tag are) in
+    let body : CookieBody = opened.0 in
+    let belongs : Belongs key bytes ports tag body = opened.1 in
+    let fresh : nat_lt life (age 0 body) ≡ false = le-ltb _ _ (omega arith) in
+    let read : body_of bytes ≡ body = laid_out-body bytes body (cookie-laid_out key bytes body belongs.cookie) in
+    belongs_answer key bytes 0 ports tag body belongs ∙ rw (fresh, read) refl
 
 -- ---- what was sealed
 

@@ -4,7 +4,7 @@ ghost use Rattle.std.specs.Prelude.{◌≡◌, ◌+◌, ◌≤◌, ℕ, Result, 
 ghost use Rattle.std.specs.Str.{bytes_eq};
 ghost use Rattle.sctp_cookie.specs.declared.body.CookieBody.{CookieBody};
 ghost use Rattle.sctp_cookie.specs.declared.sealing.CookieFault.{CookieFault};
-ghost use Rattle.sctp_cookie.specs.CookieBody.{IsInRange};
+ghost use Rattle.sctp_cookie.specs.CookieBody.{IsInRange, body_of};
 ghost use Rattle.sctp_cookie.specs.Opens.{Opened, age, has_mac, life, open_answer, ports_of, sealed, staleness};
 
 use crate::body::{BODY_LENGTH, COOKIE_LENGTH, CookieBody, Ports, body_bytes, read_body};
@@ -80,6 +80,10 @@ pub fn open(
     // There is no other answer with that meaning.
     ensures only { (outcome : Result CookieBody CookieFault) → Opened key.now bytes.now now ports tag outcome
         → result ≡ outcome }
+
+    // A stale cookie's body is what opens at the moment 0.
+    ensures stale { (microseconds : ℕ) → result ≡ Err (CookieFault.Stale microseconds)
+        → open_answer key.now bytes.now 0 ports tag ≡ Ok (body_of bytes.now) }
 {
     checked_body(key, bytes, now, ports, tag)
 }
