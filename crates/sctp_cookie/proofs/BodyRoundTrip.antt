@@ -1,0 +1,162 @@
+-- A body's bytes read back as the body, and bytes of the layout are those of the body that they read as.
+use Rattle.std.proofs.Common.{◌≡◌, ℕ, zero, suc, ◌+◌, ◌≤◌, Bool, true, false, cond, List, [], ◌∷◌, ◌++◌, length, take, drop, get_or, refl, ap, sym, ◌∙◌, arith, nat_eq, nat_le, bit_and}
+use Rattle.std.specs.Prelude.{not}
+use Rattle.std.proofs.lemmas.Bool.{and_parts, eqb-true, leb-true}
+use Rattle.std.proofs.lemmas.List.{length-drop, drop_more}
+use Rattle.std.proofs.Math.Seq.{take-add}
+use Rattle.byteorder.specs.Numbers.{big_from-lt, big_number-reads_back}
+use Rattle.sctp_cookie.specs.CookieBody.{IsInRange, body_bytes, body_of, has_form, options_byte}
+use Rattle.sctp_cookie.specs.declared.body.CookieBody.{CookieBody}
+use Rattle.sctp_cookie.proofs.Numbers.{AreBytes, AreBytes-drop, big_bytes-number_2, big_bytes-number_4, big_bytes-number_8}
+
+pub length-body_bytes : (body : CookieBody) → length (body_bytes body) ≡ 40
+unfolding body_bytes
+length-body_bytes body = refl
+
+-- ---- the options
+
+first_bit : (p i : Bool) → not (nat_eq (bit_and (cond p 1 0 + cond i 2 0) 1) 0) ≡ p
+first_bit false false = refl
+first_bit false true = refl
+first_bit true false = refl
+first_bit true true = refl
+
+second_bit : (p i : Bool) → not (nat_eq (bit_and (cond p 1 0 + cond i 2 0) 2) 0) ≡ i
+second_bit false false = refl
+second_bit false true = refl
+second_bit true false = refl
+second_bit true true = refl
+
+at_most_3 : (p i : Bool) → nat_le (cond p 1 0 + cond i 2 0) 3 ≡ true
+at_most_3 false false = refl
+at_most_3 false true = refl
+at_most_3 true false = refl
+at_most_3 true true = refl
+
+-- ---- what was written is read
+
+pub body_of-body_bytes : (body : CookieBody) (mac : List ℕ) → IsInRange body → body_of (body_bytes body ++ mac) ≡ body
+unfolding body_bytes body_of
+body_of-body_bytes body mac fits =
+    let made = big_number-reads_back 8 body.made [] fits.made in
+    let listener_port = big_number-reads_back 2 body.listener_port [] fits.listener_port in
+    let caller_port = big_number-reads_back 2 body.caller_port [] fits.caller_port in
+    let listener_tag = big_number-reads_back 4 body.listener_tag [] fits.listener_tag in
+    let caller_tag = big_number-reads_back 4 body.caller_tag [] fits.caller_tag in
+    let listener_tsn = big_number-reads_back 4 body.listener_tsn [] fits.listener_tsn in
+    let caller_tsn = big_number-reads_back 4 body.caller_tsn [] fits.caller_tsn in
+    let caller_rwnd = big_number-reads_back 4 body.caller_rwnd [] fits.caller_rwnd in
+    let streams_to_caller = big_number-reads_back 2 body.streams_to_caller [] fits.streams_to_caller in
+    let streams_from_caller = big_number-reads_back 2 body.streams_from_caller [] fits.streams_from_caller in
+    let partial_reliability = first_bit body.partial_reliability body.interleaving in
+    let interleaving = second_bit body.partial_reliability body.interleaving in
+    λ i. record {
+      made = made i;
+      listener_port = listener_port i;
+      caller_port = caller_port i;
+      listener_tag = listener_tag i;
+      caller_tag = caller_tag i;
+      listener_tsn = listener_tsn i;
+      caller_tsn = caller_tsn i;
+      caller_rwnd = caller_rwnd i;
+      streams_to_caller = streams_to_caller i;
+      streams_from_caller = streams_from_caller i;
+      partial_reliability = partial_reliability i;
+      interleaving = interleaving i;
+    }
+
+pub has_form-body_bytes : (body : CookieBody) (mac : List ℕ) → length mac ≡ 32 → has_form (body_bytes body ++ mac) ≡ true
+unfolding body_bytes has_form
+has_form-body_bytes body mac size = rw (size, at_most_3 body.partial_reliability body.interleaving) refl
+
+-- ---- what is read was written
+
+-- what the form says
+pub record FormFacts (bytes : List ℕ) : Type 0 where
+  pub size : length bytes ≡ 72
+  pub options : get_or bytes 36 0 ≤ 3
+  pub first_zero : get_or bytes 37 0 ≡ 0
+  pub second_zero : get_or bytes 38 0 ≡ 0
+  pub third_zero : get_or bytes 39 0 ≡ 0
+
+pub form_facts : (bytes : List ℕ) → has_form bytes ≡ true → FormFacts bytes
+unfolding has_form
+form_facts bytes form =
+    let e = and_parts _ _ form in
+    let d = and_parts _ _ e.0 in
+    let c = and_parts _ _ d.0 in
+    let b = and_parts _ _ c.0 in
+    record {
+      size = eqb-true _ _ b.0;
+      options = leb-true _ _ b.1;
+      first_zero = eqb-true _ _ c.1;
+      second_zero = eqb-true _ _ d.1;
+      third_zero = eqb-true _ _ e.1;
+    }
+
+pub body_of-IsInRange : (bytes : List ℕ) → AreBytes bytes → IsInRange (body_of bytes)
+unfolding body_of
+body_of-IsInRange bytes are = record {
+  made = big_from-lt 0 8 bytes are;
+  listener_port = big_from-lt 0 2 (drop 8 bytes) (AreBytes-drop 8 bytes are);
+  caller_port = big_from-lt 0 2 (drop 10 bytes) (AreBytes-drop 10 bytes are);
+  listener_tag = big_from-lt 0 4 (drop 12 bytes) (AreBytes-drop 12 bytes are);
+  caller_tag = big_from-lt 0 4 (drop 16 bytes) (AreBytes-drop 16 bytes are);
+  listener_tsn = big_from-lt 0 4 (drop 20 bytes) (AreBytes-drop 20 bytes are);
+  caller_tsn = big_from-lt 0 4 (drop 24 bytes) (AreBytes-drop 24 bytes are);
+  caller_rwnd = big_from-lt 0 4 (drop 28 bytes) (AreBytes-drop 28 bytes are);
+  streams_to_caller = big_from-lt 0 2 (drop 32 bytes) (AreBytes-drop 32 bytes are);
+  streams_from_caller = big_from-lt 0 2 (drop 34 bytes) (AreBytes-drop 34 bytes are);
+}
+
+-- a number up to 3 from its two bits
+byte_again : (n : ℕ) → n ≤ 3 → cond (not (nat_eq (bit_and n 1) 0)) 1 0 + cond (not (nat_eq (bit_and n 2) 0)) 2 0 ≡ n
+byte_again zero small = refl
+byte_again (suc zero) small = refl
+byte_again (suc (suc zero)) small = refl
+byte_again (suc (suc (suc zero))) small = refl
+byte_again (suc (suc (suc (suc n)))) small = absurd (omega arith)
+
+-- the options and the three zeros
+last_four : (bytes : List ℕ) → FormFacts bytes → options_byte (body_of bytes) ∷ 0 ∷ 0 ∷ 0 ∷ [] ≡ take 4 (drop 36 bytes)
+unfolding body_of
+last_four bytes facts =
+    let size = facts.size in
+    let first : drop 36 bytes ≡ get_or bytes 36 0 ∷ drop 37 bytes = drop_more bytes 36 0 (omega arith) in
+    let second : drop 37 bytes ≡ get_or bytes 37 0 ∷ drop 38 bytes = drop_more bytes 37 0 (omega arith) in
+    let third : drop 38 bytes ≡ get_or bytes 38 0 ∷ drop 39 bytes = drop_more bytes 38 0 (omega arith) in
+    let fourth : drop 39 bytes ≡ get_or bytes 39 0 ∷ drop 40 bytes = drop_more bytes 39 0 (omega arith) in
+    let end : take 4 (drop 36 bytes) ≡ get_or bytes 36 0 ∷ 0 ∷ 0 ∷ 0 ∷ [] =
+    rw (first, second, third, fourth, facts.first_zero, facts.second_zero, facts.third_zero) refl in
+    ap (λ (n : ℕ). n ∷ 0 ∷ 0 ∷ 0 ∷ []) (byte_again (get_or bytes 36 0) facts.options) ∙ sym end
+
+-- a list in the parts of the layout
+parts_of : (bytes : List ℕ)
+    → take 8 bytes ++ take 2 (drop 8 bytes) ++ take 2 (drop 10 bytes) ++ take 4 (drop 12 bytes) ++ take 4 (drop 16 bytes)
+    ++ take 4 (drop 20 bytes) ++ take 4 (drop 24 bytes) ++ take 4 (drop 28 bytes) ++ take 2 (drop 32 bytes) ++ take 2 (drop 34 bytes)
+    ++ take 4 (drop 36 bytes) ≡ take 40 bytes
+parts_of bytes =
+    rw (← take-add 8 2 bytes, ← take-add 10 2 bytes, ← take-add 12 4 bytes, ← take-add 16 4 bytes, ← take-add 20 4 bytes, ← take-add 24 4 bytes, ← take-add 28 4 bytes, ← take-add 32 2 bytes, ← take-add 34 2 bytes, ← take-add 36 4 bytes) refl
+
+pub body_bytes-body_of : (bytes : List ℕ) → AreBytes bytes → has_form bytes ≡ true → body_bytes (body_of bytes) ≡ take 40 bytes
+unfolding body_bytes body_of
+body_bytes-body_of bytes are form =
+    let facts = form_facts bytes form in
+    let size = facts.size in
+    let made = big_bytes-number_8 bytes are (omega arith) in
+    let listener_port = big_bytes-number_2 (drop 8 bytes) (AreBytes-drop 8 bytes are) (omega (arith, length-drop 8 bytes)) in
+    let caller_port = big_bytes-number_2 (drop 10 bytes) (AreBytes-drop 10 bytes are) (omega (arith, length-drop 10 bytes)) in
+    let listener_tag = big_bytes-number_4 (drop 12 bytes) (AreBytes-drop 12 bytes are) (omega (arith, length-drop 12 bytes)) in
+    let caller_tag = big_bytes-number_4 (drop 16 bytes) (AreBytes-drop 16 bytes are) (omega (arith, length-drop 16 bytes)) in
+    let listener_tsn = big_bytes-number_4 (drop 20 bytes) (AreBytes-drop 20 bytes are) (omega (arith, length-drop 20 bytes)) in
+    let caller_tsn = big_bytes-number_4 (drop 24 bytes) (AreBytes-drop 24 bytes are) (omega (arith, length-drop 24 bytes)) in
+    let caller_rwnd = big_bytes-number_4 (drop 28 bytes) (AreBytes-drop 28 bytes are) (omega (arith, length-drop 28 bytes)) in
+    let streams_to_caller = big_bytes-number_2 (drop 32 bytes) (AreBytes-drop 32 bytes are) (omega (arith, length-drop 32 bytes)) in
+    let streams_from_caller = big_bytes-number_2 (drop 34 bytes) (AreBytes-drop 34 bytes are) (omega (arith, length-drop 34 bytes)) in
+    let options = last_four bytes facts in
+    let joined : body_bytes (body_of bytes) ≡ take 8 bytes ++ take 2 (drop 8 bytes) ++ take 2 (drop 10 bytes) ++ take 4 (drop 12 bytes) ++ take 4 (drop 16 bytes)
+    ++ take 4 (drop 20 bytes) ++ take 4 (drop 24 bytes) ++ take 4 (drop 28 bytes) ++ take 2 (drop 32 bytes) ++ take 2 (drop 34 bytes)
+    ++ take 4 (drop 36 bytes)
+    = λ i. made i ++ listener_port i ++ caller_port i ++ listener_tag i ++ caller_tag i ++ listener_tsn i ++ caller_tsn i ++ caller_rwnd i
+    ++ streams_to_caller i ++ streams_from_caller i ++ options i in
+    joined ∙ parts_of bytes

@@ -1,0 +1,6 @@
+pub mod PadLemmas
+pub mod Filling
+pub mod Numbers
+pub mod BodyRoundTrip
+pub mod Comparing
+pub mod Opening

@@ -1,0 +1,157 @@
+//! The body of a cookie and its 40 bytes. It knows nothing of keys.
+//!
+//! | at | size | field |
+//! |---|---|---|
+//! | 0 | 8 | moment made, in milliseconds |
+//! | 8 | 2 | listener's port |
+//! | 10 | 2 | caller's port |
+//! | 12 | 4 | listener's tag |
+//! | 16 | 4 | caller's tag |
+//! | 20 | 4 | listener's initial TSN |
+//! | 24 | 4 | caller's initial TSN |
+//! | 28 | 4 | caller's a_rwnd |
+//! | 32 | 2 | streams to the caller |
+//! | 34 | 2 | streams from the caller |
+//! | 36 | 1 | options: 1 partial reliability, 2 I-DATA |
+//! | 37 | 3 | zero |
+//!
+//! Numbers stand high byte first.
+
+ghost use Rattle.std.specs.Prelude.{◌≡◌, length, if◌then◌else◌};
+ghost use Rattle.sctp_cookie.specs.CookieBody.{IsInRange, body_bytes, body_of, has_form, options_byte};
+
+use byteorder::{BigEndian, ByteOrder};
+
+/// The bytes of a body.
+pub const BODY_LENGTH: usize = 40;
+
+/// The bytes of a cookie: its body and its MAC.
+pub const COOKIE_LENGTH: usize = 72;
+
+/// The place of the options' byte in a body.
+const OPTIONS_AT: usize = 36;
+
+/// The option of partial reliability (RFC 3758), in the options' byte.
+const PARTIAL_RELIABILITY: u8 = 1;
+
+/// The option of I-DATA (RFC 8260), in the options' byte.
+const INTERLEAVING: u8 = 2;
+
+/// The two ports of an association.
+#[derive(Clone, Copy, Debug, PartialEq, Eq)]
+pub struct Ports {
+    /// The port of the end that was called.
+    pub listener: u16,
+    /// The port of the end that called.
+    pub caller: u16,
+}
+
+/// What a listener must remember from an INIT until the COOKIE ECHO (RFC 9260, 5.1.3).
+#[derive(Clone, Copy, Debug, PartialEq, Eq)]
+pub struct CookieBody {
+    /// The moment at which the cookie was made, in milliseconds of the listener's clock.
+    pub made: u64,
+    /// The port of the end that was called.
+    pub listener_port: u16,
+    /// The port of the end that called.
+    pub caller_port: u16,
+    /// The initiate tag of the listener's INIT ACK: packets to the listener carry it.
+    pub listener_tag: u32,
+    /// The initiate tag of the caller's INIT: packets to the caller carry it.
+    pub caller_tag: u32,
+    /// The TSN of the listener's first DATA or I-DATA.
+    pub listener_tsn: u32,
+    /// The TSN of the caller's first DATA or I-DATA.
+    pub caller_tsn: u32,
+    /// The room in bytes that the caller advertised in its INIT.
+    pub caller_rwnd: u32,
+    /// The number of streams on which the listener sends.
+    pub streams_to_caller: u16,
+    /// The number of streams on which the caller sends.
+    pub streams_from_caller: u16,
+    /// Whether both ends use partial reliability (RFC 3758).
+    pub partial_reliability: bool,
+    /// Whether both ends use I-DATA (RFC 8260).
+    pub interleaving: bool,
+}
+
+/// The 40 bytes of a body.
+pub(crate) fn body_bytes(body: CookieBody) -> [u8; BODY_LENGTH]
+    ensures layout { result ≡ body_bytes body }
+    ensures in_range { IsInRange body }
+{
+    let mut bytes = [0; BODY_LENGTH];
+    BigEndian::write_u64(&mut bytes, body.made);
+    BigEndian::write_u16(&mut bytes[8..], body.listener_port);
+    BigEndian::write_u16(&mut bytes[10..], body.caller_port);
+    BigEndian::write_u32(&mut bytes[12..], body.listener_tag);
+    BigEndian::write_u32(&mut bytes[16..], body.caller_tag);
+    BigEndian::write_u32(&mut bytes[20..], body.listener_tsn);
+    BigEndian::write_u32(&mut bytes[24..], body.caller_tsn);
+    BigEndian::write_u32(&mut bytes[28..], body.caller_rwnd);
+    BigEndian::write_u16(&mut bytes[32..], body.streams_to_caller);
+    BigEndian::write_u16(&mut bytes[34..], body.streams_from_caller);
+    bytes[OPTIONS_AT] = options_byte(&body);
+    bytes
+}
+
+// The options of a body in one byte.
+fn options_byte(body: &CookieBody) -> u8
+    ensures { result ≡ options_byte body.now }
+{
+    let partial_reliability = if body.partial_reliability {
+        PARTIAL_RELIABILITY
+    } else {
+        0
+    };
+    let interleaving = if body.interleaving { INTERLEAVING } else { 0 };
+    partial_reliability + interleaving
+}
+
+/// The body in the first 40 bytes of a cookie. None where these aren't 72 bytes of the layout: the
+/// options are above 3, or what must be zero isn't.
+#[tactic(auto, unfolding(crate::specs::CookieBody::has_form))]
+pub(crate) fn read_body(bytes: &[u8]) -> Option<CookieBody>
+    ensures { result ≡ (if has_form bytes.now then Some (body_of bytes.now) else None) }
+{
+    if has_form(bytes) {
+        Some(body_of(bytes))
+    } else {
+        None
+    }
+}
+
+// Whether these are 72 bytes of which the options and the zeros are as the layout has them.
+#[tactic(auto, unfolding(crate::specs::CookieBody::has_form))]
+fn has_form(bytes: &[u8]) -> bool
+    ensures { result ≡ has_form bytes.now }
+{
+    bytes.len() == COOKIE_LENGTH
+        && bytes[OPTIONS_AT] <= PARTIAL_RELIABILITY + INTERLEAVING
+        && bytes[37] == 0
+        && bytes[38] == 0
+        && bytes[39] == 0
+}
+
+// The body whose fields stand in these bytes.
+#[tactic(auto, unfolding(crate::specs::CookieBody::body_of))]
+fn body_of(bytes: &[u8]) -> CookieBody
+    requires { length bytes.now ≡ 72 }
+    ensures { result ≡ body_of bytes.now }
+{
+    let options = bytes[OPTIONS_AT];
+    CookieBody {
+        made: BigEndian::read_u64(bytes),
+        listener_port: BigEndian::read_u16(&bytes[8..]),
+        caller_port: BigEndian::read_u16(&bytes[10..]),
+        listener_tag: BigEndian::read_u32(&bytes[12..]),
+        caller_tag: BigEndian::read_u32(&bytes[16..]),
+        listener_tsn: BigEndian::read_u32(&bytes[20..]),
+        caller_tsn: BigEndian::read_u32(&bytes[24..]),
+        caller_rwnd: BigEndian::read_u32(&bytes[28..]),
+        streams_to_caller: BigEndian::read_u16(&bytes[32..]),
+        streams_from_caller: BigEndian::read_u16(&bytes[34..]),
+        partial_reliability: options & PARTIAL_RELIABILITY != 0,
+        interleaving: options & INTERLEAVING != 0,
+    }
+}

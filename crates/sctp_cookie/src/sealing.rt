@@ -1,0 +1,163 @@
+//! Cookies: a body and its MAC, made by [`seal`] and taken back by [`open`].
+
+ghost use Rattle.std.specs.Prelude.{◌≡◌, ◌+◌, ◌≤◌, ℕ, Result, Some, None, Ok, length, nat_lt, if◌then◌else◌};
+ghost use Rattle.std.specs.Str.{bytes_eq};
+ghost use Rattle.sctp_cookie.specs.declared.body.CookieBody.{CookieBody};
+ghost use Rattle.sctp_cookie.specs.declared.sealing.CookieFault.{CookieFault};
+ghost use Rattle.sctp_cookie.specs.CookieBody.{IsInRange, body_of};
+ghost use Rattle.sctp_cookie.specs.Opens.{Opened, age, has_mac, life, open_answer, ports_of, sealed, staleness};
+
+use crate::body::{BODY_LENGTH, COOKIE_LENGTH, CookieBody, Ports, body_bytes, read_body};
+use crate::hmac::{Key, hmac_sha256};
+use thiserror::Error;
+
+/// The milliseconds for which a cookie opens after it was made.
+pub const LIFE_MS: u64 = 60_000;
+
+/// Why a cookie isn't opened: the first check that fails, in this order.
+#[derive(Clone, Copy, Debug, PartialEq, Eq, Error)]
+pub enum CookieFault {
+    /// The bytes aren't 72, or aren't of the layout: the options are above 3, or what must be zero
+    /// isn't.
+    #[error("the cookie is not of the layout")]
+    Form,
+    /// The last 32 bytes aren't the MAC of the first 40 under the key.
+    #[error("the cookie has another MAC")]
+    Mac,
+    /// The packet came between other ports than those of the INIT.
+    #[error("the cookie is for other ports")]
+    Ports,
+    /// The packet's verification tag isn't the listener's tag.
+    #[error("the cookie is for another tag")]
+    Tag,
+    /// The cookie is past its life, by so many microseconds or by more than 32 bits hold: the
+    /// measure of staleness of the Stale Cookie cause (RFC 9260, 3.3.10.3). The body of such a
+    /// cookie is what [`open`] answers at the moment 0.
+    #[error("the cookie is stale by {0} microseconds")]
+    Stale(u32),
+}
+
+/// The cookie of `body` under `key`: the body's 40 bytes and their MAC (RFC 9260, 5.1.3).
+pub fn seal(key: &Key, body: &CookieBody) -> [u8; COOKIE_LENGTH]
+    ensures sealed { result ≡ sealed key.now body.now }
+
+    // It opens until its life ends, to the same body.
+    ensures opens { (now : ℕ) → now ≤ body.now.made + life
+        → open_answer key.now result now (ports_of body.now) body.now.listener_tag ≡ Ok body.now }
+
+    // No other body has this sealing.
+    ensures one { (other : CookieBody) → IsInRange other → result ≡ sealed key.now other → other ≡ body.now }
+{
+    let body = body_bytes(*body);
+    let mut cookie = [0; COOKIE_LENGTH];
+    cookie[..BODY_LENGTH].copy_from_slice(&body);
+    cookie[BODY_LENGTH..].copy_from_slice(&hmac_sha256(key.as_bytes(), &body));
+    cookie
+}
+
+/// The body of a cookie that came in a COOKIE ECHO (RFC 9260, 5.1.5), at the moment `now` in
+/// milliseconds of the clock by which it was made, in a packet between `ports` with the
+/// verification tag `tag`. The packet's source is the caller's port and its destination the
+/// listener's.
+///
+/// # Errors
+///
+/// The first of the checks of [`CookieFault`] that fails, in its order.
+pub fn open(
+    key: &Key,
+    bytes: &[u8],
+    now: u64,
+    ports: Ports,
+    tag: u32,
+) -> Result<CookieBody, CookieFault>
+    // The first check that fails, or the body.
+    ensures answer { result ≡ open_answer key.now bytes.now now ports tag }
+
+    // It opens where the bytes are a body of the layout and its MAC, and the packet and the moment
+    // are right; each fault is so where the checks before it hold.
+    ensures meaning { Opened key.now bytes.now now ports tag result }
+
+    // There is no other answer with that meaning.
+    ensures only { (outcome : Result CookieBody CookieFault) → Opened key.now bytes.now now ports tag outcome
+        → result ≡ outcome }
+
+    // A stale cookie's body is what opens at the moment 0.
+    ensures stale { (microseconds : ℕ) → result ≡ Err (CookieFault.Stale microseconds)
+        → open_answer key.now bytes.now 0 ports tag ≡ Ok (body_of bytes.now) }
+{
+    checked_body(key, bytes, now, ports, tag)
+}
+
+// The checks of `open`, in their order.
+#[tactic(auto, unfolding(crate::specs::CookieBody::has_form, crate::specs::Opens::has_ports, crate::specs::Opens::open_answer))]
+fn checked_body(
+    key: &Key,
+    bytes: &[u8],
+    now: u64,
+    ports: Ports,
+    tag: u32,
+) -> Result<CookieBody, CookieFault>
+    ensures { result ≡ open_answer key.now bytes.now now ports tag }
+{
+    let Some(body) = read_body(bytes) else {
+        return Err(CookieFault::Form);
+    };
+    if !has_mac(key, bytes) {
+        return Err(CookieFault::Mac);
+    }
+    if ports_of(&body) != ports {
+        return Err(CookieFault::Ports);
+    }
+    if body.listener_tag != tag {
+        return Err(CookieFault::Tag);
+    }
+    if let Some(microseconds) = staleness(now, &body) {
+        return Err(CookieFault::Stale(microseconds));
+    }
+    Ok(body)
+}
+
+// Whether the last 32 bytes of a cookie are the MAC of the first 40.
+#[tactic(auto, unfolding(crate::specs::Opens::has_mac))]
+fn has_mac(key: &Key, bytes: &[u8]) -> bool
+    requires { length bytes.now ≡ 72 }
+    ensures { result ≡ has_mac key.now bytes.now }
+{
+    let (body, mac) = bytes.split_at(BODY_LENGTH);
+    same_bytes(&hmac_sha256(key.as_bytes(), body), mac)
+}
+
+// Whether two lists of one length are the same. No step hangs on where they differ, so that the
+// time taken doesn't tell a forger how much of a MAC is right.
+fn same_bytes(left: &[u8], right: &[u8]) -> bool
+    requires { length left.now ≡ length right.now }
+    ensures { result ≡ bytes_eq left.now right.now }
+{
+    let mut difference = 0;
+    for (one, other) in left.iter().zip(right) {
+        difference |= one ^ other;
+    }
+    difference == 0
+}
+
+// The ports that a body names.
+fn ports_of(body: &CookieBody) -> Ports
+    ensures { result ≡ ports_of body.now }
+{
+    Ports {
+        listener: body.listener_port,
+        caller: body.caller_port,
+    }
+}
+
+// By how many microseconds a body is past its life, if it is.
+fn staleness(now: u64, body: &CookieBody) -> Option<u32>
+    ensures { result ≡ (if nat_lt life (age now body.now) then Some (staleness now body.now) else None) }
+{
+    let age = now.saturating_sub(body.made);
+    if age <= LIFE_MS {
+        return None;
+    }
+    let microseconds = (age - LIFE_MS).saturating_mul(1_000);
+    Some(u32::try_from(microseconds).unwrap_or(u32::MAX))
+}
