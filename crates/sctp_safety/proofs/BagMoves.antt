@@ -98,7 +98,6 @@ module _ (w : Way) (x : Forward) (g : Good w) (gone : IsAllGivenUp w.sender w.se
     (listed : (y : Skip) → Has x.skips y → (is_numbered w.format y.lane.kind ≡ true) × StandsIn w.sender.plan w.sender.cum x.point y.lane y.number)
     (each : (l : Lane) (n : ℕ) → is_numbered w.format l.kind ≡ true → StandsIn w.sender.plan w.sender.cum x.point l n →
     (y : Skip) × Has x.skips y × (y.lane ≡ l) × (n ≤ y.number)) where
-
   -- each index up to the acknowledged one came, or is lost
   came : (i : ℕ) → 0 < i → i ≤ w.sender.cum → (w.receiver.seen i ≡ true) ⊎ IsLost w.format w.sender w.receiver i
   came i pos l = go (g.between.cum i l)
@@ -252,7 +251,7 @@ module _ (w : Way) (x : Forward) (g : Good w) (gone : IsAllGivenUp w.sender w.se
                       ((z : ℕ) × (entry_at w.sender.plan z ≡ Some (Part h.lane h.number k)) × (w.receiver.seen z ≡ true)) ⊎ (w.sender.abandoned h.lane h.number ≡ true)
                   where' (inl above) =
                       let (o, next) = between_fragments w.sender.plan arranged h.lane h.number h.fragment w.sender.cum i h.here old
-                          (z - suc w.sender.cum) z k (omega (arith, above)) there in
+                      (z - suc w.sender.cum) z k (omega (arith, above)) there in
                       inr (given_up_at w.sender (suc w.sender.cum) h.lane h.number (Part h.lane h.number o) next (refl, refl)
                       (gone (suc w.sender.cum) (omega arith) (omega (arith, ahead))))
                   where' (inr below) = which (settled_upto z h.lane h.number (Part h.lane h.number k) there (refl, refl) (omega (arith, below, ahead)))

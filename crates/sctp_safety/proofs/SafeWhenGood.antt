@@ -63,9 +63,10 @@ module _ (w : Way) (g : Good w) where
           (x : IsSent w.sender.plan (ordered_lane s) h) × (x.number ≡ h.number)
       sent s h has kind =
           let x = g.held.told.honest s h has in
-          let e : h.lane ≡ ordered_lane s = lane_is h.lane (ordered_lane s) x.stream kind in
-          (renamed w.sender.plan h.lane (ordered_lane s) h e x.sent,
-          x.counted (subst (λ (u : Kind). is_numbered w.format u ≡ true) (sym kind) (ordered_numbered w.format)))
+          let e : h.lane ≡ ordered_lane s = lane_is h.lane (ordered_lane s) x.stream kind in (
+            renamed w.sender.plan h.lane (ordered_lane s) h e x.sent,
+            x.counted (subst (λ (u : Kind). is_numbered w.format u ≡ true) (sym kind) (ordered_numbered w.format)),
+          )
 
   passed_rightly : IsPassedRightly w.sender w.receiver
   passed_rightly s n l = go (g.held.told.passed s n l)
