@@ -2,3 +2,4 @@ pub mod Laws
 pub mod Way
 pub mod Exact
 pub mod Always
+pub mod Worlds
