@@ -1,8 +1,10 @@
 -- Each step of the two ends is a list of moves in each direction, so every world that can be reached is safe.
 use Rattle.std.proofs.Common.{◌≡◌, ℕ, ◌⊎◌, true, false, List, [], ◌∷◌, ◌++◌, Option, Some, None, inl, inr, refl, sym, subst, ap}
 use Rattle.sctp_model.specs.Words.{Has, IsWithin, item_at}
+use Rattle.sctp_model.specs.SenderView.{SenderView}
+use Rattle.sctp_model.specs.Sending.{refusal}
 use Rattle.sctp_model.specs.Chunk.{ChunkMeaning, Data, Sack, Unknown}
-use Rattle.sctp_model.specs.World.{Side, A, B, Configuration, Established, EndView, Packet, World, fresh_sender, fresh_receiver, fresh_end, start, Act, Acts, Event, Open, Send, Build, Deliver, Take, Outcome, Done, OpenRefused, SendRefused, Ticket, Sent, Quiet, Acted, Absent, Message, Nothing, end_of, other, bag_of, with_end, with_packet, Step, Run, last_of, IsReachable}
+use Rattle.sctp_model.specs.World.{Closed, Listen, refusal_in, State, taken_by_user, sent_by_user, Side, A, B, Configuration, Established, EndView, Packet, World, fresh_sender, fresh_receiver, fresh_end, start, Act, Acts, Event, Open, Send, Build, Deliver, Take, Outcome, Done, OpenRefused, SendRefused, Ticket, Sent, Quiet, Acted, Absent, Message, Nothing, end_of, other, bag_of, with_end, with_packet, Step, Run, last_of, IsReachable}
 use Rattle.sctp_safety.specs.Worlds.{IsSafeWorld, SafeWorlds, AllSafe, SafeRuns}
 use Rattle.sctp_safety.proofs.Basics.{Has-left}
 use Rattle.sctp_safety.proofs.SafeWhenGood.{safe_when_good}
@@ -101,5 +103,92 @@ delivered w s number p xs t l here within acts = peer_changed w s t l (acts_stat
 same_led : (w v : World) → IsLedWorld w → v ≡ w → IsLedWorld v
 same_led w v l e = subst IsLedWorld (sym e) l
 
-led_step : (w v : World) (e : Event) (o : Option Outcome) → IsLedWorld w → Step w e o v → IsLedWorld v
-led_step w v e o l h = ?
+open_led : (w v : World) (o : Option Outcome) → IsLedWorld w → Step w Open o v → IsLedWorld v
+open_led w v (Some Done) l (closed, same) = subst IsLedWorld (sym same) (opened w l closed)
+open_led w v (Some OpenRefused) l (closed, same) = same_led w v l same
+open_led w v None l same = same_led w v l same
+open_led w v o l h = absurd h
+
+-- an end that refuses nothing is open, and its sender refuses nothing
+not_refused : (s : State) (a : SenderView) (stream : ℕ) (bytes : List ℕ) → refusal_in s a stream bytes ≡ None → refusal a stream bytes ≡ None
+not_refused Closed a stream bytes h = absurd (cc h)
+not_refused Listen a stream bytes h = absurd (cc h)
+not_refused Established a stream bytes h = h
+
+send_led : (w v : World) (s : Side) (stream payload : ℕ) (bytes : List ℕ) (o : Option Outcome) → IsLedWorld w → Step w (Send s stream payload bytes) o v → IsLedWorld v
+send_led w v s stream payload bytes (Some (SendRefused r)) l (why, same) = same_led w v l same
+send_led w v s stream payload bytes (Some (Ticket x t)) l (side, allowed, ticket, same) = subst IsLedWorld (sym same)
+    (own_changed w s (sent_by_user (end_of w s) stream payload bytes) l refl (sent (seen_from w s l)))
+  where
+    e : EndView
+    e = end_of w s
+
+    sent : Directions w.configuration e (end_of w (other s)) (bag_of w s) (bag_of w (other s)) →
+        Directions w.configuration (sent_by_user e stream payload bytes) (end_of w (other s)) (bag_of w s) (bag_of w (other s))
+    sent (ab, ba) = (sends w.configuration e.sender e.asked (end_of w (other s)).receiver (bag_of w s) (bag_of w (other s)) stream payload bytes
+        (not_refused e.state e.sender stream bytes allowed) ab, ba)
+send_led w v s stream payload bytes None l (allowed, same) = same_led w v l same
+send_led w v s stream payload bytes o l h = absurd h
+
+build_led : (w v : World) (s : Side) (o : Option Outcome) → IsLedWorld w → Step w (Build s) o v → IsLedWorld v
+build_led w v s (Some (Quiet x)) l (side, quiet, same) = same_led w v l same
+build_led w v s (Some (Sent x n size)) l (side, state, (c, cs, t, how, number, bytes, same)) = subst IsLedWorld (sym same)
+    (packet_added w s t (c ∷ cs) l state
+    (builds w.configuration (end_of w s) (end_of w (other s)) t (bag_of w s) (bag_of w (other s)) (c ∷ cs) how (seen_from w s l)))
+build_led w v s None l same = same_led w v l same
+build_led w v s o l h = absurd h
+
+deliver_led : (w v : World) (s : Side) (number : ℕ) (o : Option Outcome) → IsLedWorld w → Step w (Deliver s number) o v → IsLedWorld v
+deliver_led w v s number (Some Absent) l (none, same) = same_led w v l same
+deliver_led w v s number (Some (Acted x)) l (side, (p, t, here, acts, same)) =
+    subst IsLedWorld (sym same) (delivered w s number p p t l here (λ y h. h) acts)
+deliver_led w v s number None l (front, c, back, t, here, acts, same) =
+    subst IsLedWorld (sym same) (delivered w s number (front ++ c ∷ back) front t l here (λ y h. Has-left front (c ∷ back) y h) acts)
+deliver_led w v s number o l h = absurd h
+
+take_led : (w v : World) (s : Side) (stream : ℕ) (o : Option Outcome) → IsLedWorld w → Step w (Take s stream) o v → IsLedWorld v
+take_led w v s stream (Some (Message x t h)) l (side, number, (rest, here, same)) = subst IsLedWorld (sym same)
+    (own_changed w s (taken_by_user (end_of w s) stream h rest) l refl (took (seen_from w s l)))
+  where
+    e : EndView
+    e = end_of w s
+
+    took : Directions w.configuration e (end_of w (other s)) (bag_of w s) (bag_of w (other s)) →
+        Directions w.configuration (taken_by_user e stream h rest) (end_of w (other s)) (bag_of w s) (bag_of w (other s))
+    took (ab, ba) = (ab, takes w.configuration (end_of w (other s)).sender (end_of w (other s)).asked e.receiver (bag_of w (other s)) (bag_of w s) stream h rest here ba)
+take_led w v s stream (Some (Nothing x t)) l (side, number, none, same) = same_led w v l same
+take_led w v s stream None l same = same_led w v l same
+take_led w v s stream o l h = absurd h
+
+pub led_step : (w v : World) (e : Event) (o : Option Outcome) → IsLedWorld w → Step w e o v → IsLedWorld v
+led_step w v Open o l h = open_led w v o l h
+led_step w v (Send s stream payload bytes) o l h = send_led w v s stream payload bytes o l h
+led_step w v (Build s) o l h = build_led w v s o l h
+led_step w v (Deliver s number) o l h = deliver_led w v s number o l h
+led_step w v (Take s stream) o l h = take_led w v s stream o l h
+
+-- ---- runs
+
+safe_when_led : (w : World) → IsLedWorld w → IsSafeWorld w
+safe_when_led w l A = safe_when_good _ (led_good _ l.ab.led)
+safe_when_led w l B = safe_when_good _ (led_good _ l.ba.led)
+
+led_last : (w : World) (es : List Event) (os : List (Option Outcome)) (vs : List World) → IsLedWorld w → Run w es os vs → IsLedWorld (last_of w vs)
+led_last w [] [] [] l h = l
+led_last w (e ∷ es) (o ∷ os) (v ∷ vs) l (step, rest) = led_last v es os vs (led_step w v e o l step) rest
+led_last w es os vs l h = absurd h
+
+all_safe : (w : World) (es : List Event) (os : List (Option Outcome)) (vs : List World) → IsLedWorld w → Run w es os vs → AllSafe (w ∷ vs)
+all_safe w [] [] [] l h = (safe_when_led w l, tt)
+all_safe w (e ∷ es) (o ∷ os) (v ∷ vs) l (step, rest) = (safe_when_led w l, all_safe v es os vs (led_step w v e o l step) rest)
+all_safe w es os vs l h = absurd h
+
+pub led_when_reachable : (w : World) → IsReachable w → IsLedWorld w
+led_when_reachable w r =
+    subst IsLedWorld r.here (led_last (start r.configuration) r.events r.answers r.worlds (led_start r.configuration) r.run)
+
+pub safe_worlds : SafeWorlds
+safe_worlds w r = safe_when_led w (led_when_reachable w r)
+
+pub safe_runs : SafeRuns
+safe_runs w es os vs r run = all_safe w es os vs (led_when_reachable w r) run
