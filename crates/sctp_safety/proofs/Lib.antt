@@ -26,4 +26,5 @@ mod WorldWay
 mod WorldUser
 mod WorldBuild
 mod WorldDeliver
-mod Worlds
+mod WorldSteps
+mod Example

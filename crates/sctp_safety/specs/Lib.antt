@@ -3,3 +3,4 @@ pub mod Way
 pub mod Exact
 pub mod Always
 pub mod Worlds
+pub mod Example
