@@ -68,12 +68,24 @@ one_numbered : (c : Configuration) (v : SenderView) (u : Asked) (r : ReceiverVie
     (way_of c (record (numbered_one v q) { queue = rest }) u r (piece_said (said_of v q) ∷ pieces) sacks)
 one_numbered c v u r pieces sacks q rest single g =
     leads_on (way_of c (record v { queue = q ∷ rest }) u r pieces sacks) mid _
-    (leads_by _ mid (Number [] q rest 1)
-    (refl, (λ x h. absurd h), all_closed (way_of c (record v { queue = q ∷ rest }) u r pieces sacks) refl g q.lane.stream,
-    omega arith, omega (arith, one), (λ e. sym one), refl))
-    (leads_by mid _ (Put_piece (suc (length v.plan.entries)))
-    (q.lane, n, 0, q.message, slice_get-end v.plan.entries (Part q.lane n 0), named,
-    ap (λ (x : Piece). way_of c (record (numbered_one v q) { queue = rest }) u r (x ∷ pieces) sacks) (said_is_planned q single (suc (length v.plan.entries)) n)))
+    (leads_by _ mid (Number [] q rest 1) (
+      refl,
+      (λ x h. absurd h),
+      all_closed (way_of c (record v { queue = q ∷ rest }) u r pieces sacks) refl g q.lane.stream,
+      omega arith,
+      omega (arith, one),
+      (λ e. sym one),
+      refl,
+    ))
+    (leads_by mid _ (Put_piece (suc (length v.plan.entries))) (
+      q.lane,
+      n,
+      0,
+      q.message,
+      slice_get-end v.plan.entries (Part q.lane n 0),
+      named,
+      ap (λ (x : Piece). way_of c (record (numbered_one v q) { queue = rest }) u r (x ∷ pieces) sacks) (said_is_planned q single (suc (length v.plan.entries)) n),
+    ))
   where
     mid : Way
     mid = way_of c (record (numbered_one v q) { queue = rest }) u r pieces sacks

@@ -23,11 +23,30 @@ fresh_direction : (c : Configuration) (out back : List Packet) → out ≡ [] �
 fresh_direction c out back no_out no_back = record {
   pieces = [];
   sacks = [];
-  led = (_, record {
-    queue = refl; messages = refl; entries = refl; cum = refl; covered = refl; abandoned = refl;
-    seen = refl; jump = refl; kept = refl; next = refl; skip = refl; taken = refl; waiting = refl;
-    calls = refl; pieces = refl; forwards = refl; sacks = refl; shutdowns = refl;
-  }, ([], refl));
+  led = (
+    _,
+    record {
+      queue = refl;
+      messages = refl;
+      entries = refl;
+      cum = refl;
+      covered = refl;
+      abandoned = refl;
+      seen = refl;
+      jump = refl;
+      kept = refl;
+      next = refl;
+      skip = refl;
+      taken = refl;
+      waiting = refl;
+      calls = refl;
+      pieces = refl;
+      forwards = refl;
+      sacks = refl;
+      shutdowns = refl;
+    },
+    ([], refl),
+  );
   has_pieces = λ p d h. absurd (no_packet out no_out p h);
   has_sacks = λ p s h. absurd (no_packet back no_back p h);
   plain = record { streams = refl; tickets = refl; single = λ q h. absurd h };
@@ -125,8 +144,11 @@ send_led w v s stream payload bytes (Some (Ticket x t)) l (side, allowed, ticket
 
     sent : Directions w.configuration e (end_of w (other s)) (bag_of w s) (bag_of w (other s)) →
         Directions w.configuration (sent_by_user e stream payload bytes) (end_of w (other s)) (bag_of w s) (bag_of w (other s))
-    sent (ab, ba) = (sends w.configuration e.sender e.asked (end_of w (other s)).receiver (bag_of w s) (bag_of w (other s)) stream payload bytes
-        (not_refused e.state e.sender stream bytes allowed) ab, ba)
+    sent (ab, ba) = (
+      sends w.configuration e.sender e.asked (end_of w (other s)).receiver (bag_of w s) (bag_of w (other s)) stream payload bytes
+          (not_refused e.state e.sender stream bytes allowed) ab,
+      ba,
+    )
 send_led w v s stream payload bytes None l (allowed, same) = same_led w v l same
 send_led w v s stream payload bytes o l h = absurd h
 

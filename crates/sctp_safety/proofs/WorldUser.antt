@@ -28,7 +28,7 @@ none_of_five false false c d e h = (refl, refl)
 accepted_call : (a : SenderView) (stream : ℕ) (bytes : List ℕ) → refusal a stream bytes ≡ None → (stream < a.streams) × (0 < length bytes)
 accepted_call a stream bytes h =
     let r = none_of_five (nat_le a.streams stream) (length bytes == 0) (nat_lt a.fragment (length bytes))
-        (nat_le QUEUE_LIMIT (length a.queue)) (nat_le MESSAGE_LIMIT (accepted a)) h in
+    (nat_le QUEUE_LIMIT (length a.queue)) (nat_le MESSAGE_LIMIT (accepted a)) h in
     let x = leb-false a.streams stream r.0 in
     let y = eqb-false (length bytes) 0 r.1 in
     (omega arith, omega arith)

@@ -8,7 +8,10 @@ mod laws;
 mod safety;
 mod worlds;
 
-pub use exact::{forward_is_allowed, forward_is_moves, passing_is_moves, sack_is_allowed, shutdown_is_allowed, taking_is_moves};
+pub use exact::{
+    forward_is_allowed, forward_is_moves, passing_is_moves, sack_is_allowed, shutdown_is_allowed,
+    taking_is_moves,
+};
 pub use laws::{skip_law, whole_law};
 pub use safety::{orderly_over_every_run, safe_over_every_run};
 pub use worlds::{a_message_arrives, safe_in_every_run, safe_in_every_world};
