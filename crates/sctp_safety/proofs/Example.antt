@@ -1,14 +1,13 @@
 -- The worlds of the example, and why each step is one.
-use Rattle.std.proofs.Common.{Some, ◌≡◌, ℕ, zero, suc, ◌<◌, ◌≤◌, ◌⊎◌, ◌++◌, true, false, List, [], ◌∷◌, inl, inr, refl, sym, subst, ap, arith}
-use Rattle.sctp_model.specs.Words.{Has, IsWithin, at}
+use Rattle.std.proofs.Common.{Some, ◌≡◌, ◌≤◌, ◌⊎◌, true, false, [], ◌∷◌, inl, inr, refl, ap, arith}
+use Rattle.sctp_model.specs.Words.{Has, at}
 use Rattle.sctp_model.specs.Format.{Plain, ordered_lane}
 use Rattle.sctp_model.specs.Pieces.{Piece}
-use Rattle.sctp_model.specs.Chunk.{PieceMeaning, ChunkMeaning, Data}
-use Rattle.sctp_model.specs.SenderView.{SenderView}
-use Rattle.sctp_model.specs.ReceiverView.{ReceiverView, IsCumulative}
-use Rattle.sctp_model.specs.Receiving.{IsWholeNumber, IsLowest, HasNoWhole, IsDue, Stop, Over, GivesOrdered, Takes, recorded, without_below}
+use Rattle.sctp_model.specs.Chunk.{PieceMeaning, Data}
+use Rattle.sctp_model.specs.ReceiverView.{ReceiverView}
+use Rattle.sctp_model.specs.Receiving.{IsWholeNumber, IsLowest, HasNoWhole, IsDue, Stop, Over, Takes, recorded, without_below}
 use Rattle.sctp_model.specs.Sending.{went_out}
-use Rattle.sctp_model.specs.World.{Ticket, Done, Message, Sent, Acted, Take, Send, Build, Deliver, Open, Step, A, B, Established, EndView, Packet, World, start, fresh_end, fresh_receiver, piece_said, IsDuplicate, PieceTaken, Taken, Act, Acts, Builds, with_end, with_packet, sent_by_user, taken_by_user}
+use Rattle.sctp_model.specs.World.{Ticket, Done, Message, Sent, Acted, Take, Send, Build, Deliver, Open, Step, A, B, Established, EndView, World, start, fresh_end, fresh_receiver, piece_said, IsDuplicate, Taken, Acts, Builds, with_end, with_packet, sent_by_user, taken_by_user}
 use Rattle.sctp_safety.specs.Example.{small, greeting, arrived, Arrives}
 
 -- ---- the worlds

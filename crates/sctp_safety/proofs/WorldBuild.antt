@@ -1,24 +1,23 @@
 -- What an end builds, as moves: messages take their numbers and indexes, their chunks are put in the bag, and so is a SACK.
-use Rattle.std.proofs.Common.{◌≡◌, ℕ, zero, suc, ◌+◌, ◌<◌, ◌≤◌, ◌⊎◌, ◌||◌, Bool, true, false, nat_lt, List, [], ◌∷◌, ◌++◌, length, slice_get, take, drop, Some, inl, inr, refl, sym, subst, ap, arith, append-nil, take-append-drop, length-append}
+use Rattle.std.proofs.Common.{◌≡◌, ℕ, suc, ◌+◌, ◌⊎◌, true, false, List, [], ◌∷◌, ◌++◌, length, slice_get, take, drop, Some, inl, inr, refl, sym, subst, ap, arith, append-nil, take-append-drop, length-append}
 use Rattle.sctp_model.specs.Words.{IsWithin, Has}
-use Rattle.sctp_model.specs.Format.{Plain, Lane, ordered_lane, at_lane}
-use Rattle.sctp_model.specs.Plan.{bytes_of, Message, Part, Plan, message_at, entry_at, IsClosed}
+use Rattle.sctp_model.specs.Format.{Plain, ordered_lane}
+use Rattle.sctp_model.specs.Plan.{bytes_of, Message, Part, message_at}
 use Rattle.sctp_model.specs.Pieces.{Piece, piece_of}
-use Rattle.sctp_model.specs.Chunk.{PieceMeaning, SackMeaning, ChunkMeaning, Data, Sack, Unknown}
+use Rattle.sctp_model.specs.Chunk.{PieceMeaning, SackMeaning, Data, Sack}
 use Rattle.sctp_model.specs.SenderView.{Queued, SenderView}
 use Rattle.sctp_model.specs.ReceiverView.{ReceiverView}
 use Rattle.sctp_model.specs.Acknowledgement.{Acknowledgement}
 use Rattle.sctp_model.specs.Calls.{Asked}
-use Rattle.sctp_model.specs.Sending.{accepted, message_for, numbered_one, numbered_all, went_out}
-use Rattle.sctp_model.specs.World.{Configuration, EndView, Packet, piece_said, data_of, datas_of, SackOf, Builds}
-use Rattle.sctp_safety.specs.Way.{Way, Number, Put_piece, Put_sack, Retune, HasNone, IsAllClosed}
+use Rattle.sctp_model.specs.Sending.{message_for, numbered_one, numbered_all, went_out}
+use Rattle.sctp_model.specs.World.{Configuration, EndView, Packet, piece_said, datas_of, SackOf, Builds}
+use Rattle.sctp_safety.specs.Way.{Way, Number, Put_piece, Put_sack, Retune, IsAllClosed}
 use Rattle.sctp_safety.specs.Exact.{Leads}
 use Rattle.sctp_safety.proofs.Basics.{Has-left, slice_get-end, at_lane_same, Has-cases, Has-push, Has-right}
 use Rattle.sctp_safety.proofs.Facts.{Good}
-use Rattle.sctp_safety.proofs.Always.{kept_by-Run}
 use Rattle.sctp_safety.proofs.Built.{sack_is_allowed}
 use Rattle.sctp_safety.proofs.Taken.{leads_on, leads_by}
-use Rattle.sctp_safety.proofs.WorldWay.{way_of, sack_said, HasPieces, HasSacks, IsSingle, IsPlain, IsLed, Direction, Directions, led_good, led_on}
+use Rattle.sctp_safety.proofs.WorldWay.{way_of, sack_said, IsSingle, IsPlain, IsLed, Direction, Directions, led_good, led_on}
 
 -- ---- one message takes its number, and its chunk is put in the bag
 

@@ -1,8 +1,7 @@
 -- What a packet that comes does to an end, as moves of both directions.
-use Rattle.std.proofs.Common.{◌≡◌, ℕ, suc, ◌<◌, ◌≤◌, ◌⊎◌, ◌||◌, Bool, true, false, cond, nat_lt, List, [], ◌∷◌, ◌++◌, length, inl, inr, refl, sym, subst, arith, ltb-false}
-use Rattle.std.proofs.lemmas.Bool.{cases_Bool, or_parts}
+use Rattle.std.proofs.Common.{◌≡◌, ℕ, ◌≤◌, ◌⊎◌, ◌||◌, Bool, true, false, cond, nat_lt, List, [], ◌∷◌, length, inl, inr, refl, sym, subst, ltb-false}
+use Rattle.std.proofs.lemmas.Bool.{cases_Bool}
 use Rattle.sctp_model.specs.Words.{IsWithin, Has}
-use Rattle.sctp_model.specs.Format.{Ordered, Plain}
 use Rattle.sctp_model.specs.Pieces.{Piece}
 use Rattle.sctp_model.specs.Chunk.{PieceMeaning, SackMeaning, ChunkMeaning, Data, Sack, Unknown}
 use Rattle.sctp_model.specs.SenderView.{SenderView}
@@ -11,11 +10,11 @@ use Rattle.sctp_model.specs.Acknowledgement.{Acknowledgement, covers}
 use Rattle.sctp_model.specs.Calls.{Asked}
 use Rattle.sctp_model.specs.Sending.{acknowledged}
 use Rattle.sctp_model.specs.World.{Configuration, EndView, Packet, piece_said, IsDuplicate, PieceTaken, Duplicate, Passed, Taken, Act, Acts}
-use Rattle.sctp_safety.specs.Way.{Way, Sack_comes, Retune, with_receiver}
+use Rattle.sctp_safety.specs.Way.{Sack_comes, Retune}
 use Rattle.sctp_safety.specs.Exact.{Leads}
 use Rattle.sctp_safety.proofs.Built.{passing_is_moves}
 use Rattle.sctp_safety.proofs.Taken.{leads_on, leads_by, taking_is_moves}
-use Rattle.sctp_safety.proofs.WorldWay.{way_of, sack_said, IsPlain, Direction, Directions, led_on}
+use Rattle.sctp_safety.proofs.WorldWay.{way_of, Direction, Directions, led_on}
 
 -- ---- a DATA chunk
 

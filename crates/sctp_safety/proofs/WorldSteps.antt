@@ -1,5 +1,5 @@
 -- Each step of the two ends is a list of moves in each direction, so every world that can be reached is safe.
-use Rattle.std.proofs.Common.{◌≡◌, ℕ, ◌⊎◌, true, false, List, [], ◌∷◌, ◌++◌, Option, Some, None, inl, inr, refl, sym, subst, ap}
+use Rattle.std.proofs.Common.{◌≡◌, ℕ, true, false, List, [], ◌∷◌, ◌++◌, Option, Some, None, inl, inr, refl, sym, subst, ap}
 use Rattle.sctp_model.specs.Words.{Has, IsWithin, item_at}
 use Rattle.sctp_model.specs.SenderView.{SenderView}
 use Rattle.sctp_model.specs.Sending.{refusal}
@@ -8,7 +8,7 @@ use Rattle.sctp_model.specs.World.{Closed, Listen, refusal_in, State, taken_by_u
 use Rattle.sctp_safety.specs.Worlds.{IsSafeWorld, SafeWorlds, AllSafe, SafeRuns}
 use Rattle.sctp_safety.proofs.Basics.{Has-left}
 use Rattle.sctp_safety.proofs.SafeWhenGood.{safe_when_good}
-use Rattle.sctp_safety.proofs.WorldWay.{way_of, IsPlain, Direction, Directions, IsUnopened, IsLedWorld, led_good, item_has}
+use Rattle.sctp_safety.proofs.WorldWay.{Direction, Directions, IsLedWorld, led_good, item_has}
 use Rattle.sctp_safety.proofs.WorldUser.{sends, takes}
 use Rattle.sctp_safety.proofs.WorldBuild.{builds}
 use Rattle.sctp_safety.proofs.WorldDeliver.{many_act}

@@ -1,5 +1,5 @@
 -- What the users of the two ends do, as moves: a message is sent, and one is taken.
-use Rattle.std.proofs.Common.{◌≡◌, ℕ, suc, ◌+◌, ◌<◌, ◌≤◌, ◌⊎◌, ◌==◌, Bool, true, false, cond, nat_le, nat_lt, List, [], ◌∷◌, ◌++◌, length, Option, Some, None, inl, inr, refl, sym, subst, ap, arith, append-nil}
+use Rattle.std.proofs.Common.{◌≡◌, ℕ, suc, ◌<◌, ◌⊎◌, ◌==◌, Bool, true, false, cond, nat_le, nat_lt, List, [], ◌∷◌, ◌++◌, length, Option, Some, None, inl, inr, refl, sym, subst, ap, arith, append-nil}
 use Rattle.std.proofs.lemmas.Bool.{eqb-false, leb-false}
 use Rattle.sctp_model.specs.Words.{Has, at}
 use Rattle.sctp_model.specs.Format.{ordered_lane}

@@ -1,16 +1,16 @@
 -- One direction of the world of two ends, as a direction that moves lead to.
-use Rattle.std.proofs.Common.{zero, slice_get, suc, ◌≡◌, ℕ, ◌⊎◌, true, false, List, [], ◌∷◌, ◌++◌, length, Option, Some, None, inl, inr, refl, sym, subst, ap}
+use Rattle.std.proofs.Common.{zero, slice_get, suc, ◌≡◌, ℕ, false, List, [], ◌∷◌, length, Some, inl, inr}
 use Rattle.sctp_model.specs.Words.{Has, item_at}
 use Rattle.sctp_model.specs.Format.{Plain, ordered_lane}
 use Rattle.sctp_model.specs.Pieces.{Piece}
-use Rattle.sctp_model.specs.Chunk.{PieceMeaning, SackMeaning, ChunkMeaning, Data, Sack}
+use Rattle.sctp_model.specs.Chunk.{PieceMeaning, SackMeaning, Data, Sack}
 use Rattle.sctp_model.specs.SenderView.{Queued, SenderView}
 use Rattle.sctp_model.specs.ReceiverView.{ReceiverView}
 use Rattle.sctp_model.specs.Acknowledgement.{Acknowledgement}
 use Rattle.sctp_model.specs.Calls.{Asked}
 use Rattle.sctp_model.specs.Sending.{accepted, message_for}
 use Rattle.sctp_model.specs.World.{EndView, Configuration, Packet, World, piece_said, Established}
-use Rattle.sctp_safety.specs.Way.{Way, IsStart, Run}
+use Rattle.sctp_safety.specs.Way.{Way, IsStart}
 use Rattle.sctp_safety.specs.Exact.{Leads}
 use Rattle.sctp_safety.proofs.Facts.{Good}
 use Rattle.sctp_safety.proofs.GoodStart.{good_start}
