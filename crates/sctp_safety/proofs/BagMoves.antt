@@ -2,16 +2,16 @@
 use Rattle.std.proofs.Common.{◌≡◌, ℕ, zero, suc, ◌+◌, ◌-◌, ◌<◌, ◌≤◌, ◌⊎◌, true, false, List, [], ◌∷◌, length, slice_get, Some, inl, inr, refl, sym, subst, ap, arith}
 use Rattle.std.proofs.lemmas.Bool.{cases_eq, cases_lt, cases_Bool}
 use Rattle.sctp_model.specs.Words.{Has}
-use Rattle.sctp_model.specs.Format.{Format, Plain, Kind, Unordered, Lane, is_numbered}
-use Rattle.sctp_model.specs.Plan.{Message, Entry, Part, End, Plan, entry_at, message_at, IsOf, IsAssigned, IsComplete, HasEnd, IsClosed}
+use Rattle.sctp_model.specs.Format.{Format, Plain, Lane, is_numbered}
+use Rattle.sctp_model.specs.Plan.{Message, Entry, Part, End, Plan, entry_at, message_at, IsOf, IsAssigned, IsComplete, IsClosed}
 use Rattle.sctp_model.specs.Pieces.{Piece, piece_of, IsFragment}
 use Rattle.sctp_model.specs.SenderView.{SenderView, IsGivenUp, IsAllGivenUp}
 use Rattle.sctp_model.specs.Forward.{Skip, Forward, StandsIn}
 use Rattle.sctp_model.specs.ReceiverView.{ReceiverView, IsReached}
 use Rattle.sctp_model.specs.Acknowledgement.{Acknowledgement, covers}
 use Rattle.sctp_safety.specs.Way.{Way, Put_piece, Put_forward, Put_sack, Put_shutdown, Step}
-use Rattle.sctp_safety.proofs.Basics.{each_or, item_at-above, slice_get-within}
-use Rattle.sctp_safety.proofs.Facts.{IsDone, IsLost, IsLostBy, IsSettled, IsAllSeen, MayPass, IsRetired, IsAhead, IsFair, Arranged, Good}
+use Rattle.sctp_safety.proofs.Basics.{each_or, item_at-above}
+use Rattle.sctp_safety.proofs.Facts.{IsDone, IsLost, IsLostBy, IsSettled, MayPass, IsRetired, IsAhead, IsFair, Arranged, Good}
 use Rattle.sctp_safety.proofs.Later.{by_bags}
 
 pub IsOf_same : (l k : Lane) (n m : ℕ) (e : Entry) → IsOf l n e → IsOf k m e → (l ≡ k) × (n ≡ m)
@@ -98,7 +98,6 @@ module _ (w : Way) (x : Forward) (g : Good w) (gone : IsAllGivenUp w.sender w.se
     (listed : (y : Skip) → Has x.skips y → (is_numbered w.format y.lane.kind ≡ true) × StandsIn w.sender.plan w.sender.cum x.point y.lane y.number)
     (each : (l : Lane) (n : ℕ) → is_numbered w.format l.kind ≡ true → StandsIn w.sender.plan w.sender.cum x.point l n →
     (y : Skip) × Has x.skips y × (y.lane ≡ l) × (n ≤ y.number)) where
-
   -- each index up to the acknowledged one came, or is lost
   came : (i : ℕ) → 0 < i → i ≤ w.sender.cum → (w.receiver.seen i ≡ true) ⊎ IsLost w.format w.sender w.receiver i
   came i pos l = go (g.between.cum i l)
@@ -252,7 +251,7 @@ module _ (w : Way) (x : Forward) (g : Good w) (gone : IsAllGivenUp w.sender w.se
                       ((z : ℕ) × (entry_at w.sender.plan z ≡ Some (Part h.lane h.number k)) × (w.receiver.seen z ≡ true)) ⊎ (w.sender.abandoned h.lane h.number ≡ true)
                   where' (inl above) =
                       let (o, next) = between_fragments w.sender.plan arranged h.lane h.number h.fragment w.sender.cum i h.here old
-                          (z - suc w.sender.cum) z k (omega (arith, above)) there in
+                      (z - suc w.sender.cum) z k (omega (arith, above)) there in
                       inr (given_up_at w.sender (suc w.sender.cum) h.lane h.number (Part h.lane h.number o) next (refl, refl)
                       (gone (suc w.sender.cum) (omega arith) (omega (arith, ahead))))
                   where' (inr below) = which (settled_upto z h.lane h.number (Part h.lane h.number k) there (refl, refl) (omega (arith, below, ahead)))
