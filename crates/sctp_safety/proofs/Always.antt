@@ -2,7 +2,7 @@
 use Rattle.std.proofs.Common.{List, [], ◌∷◌, sym, subst}
 use Rattle.sctp_safety.specs.Always.{SafeAlways, OrderlyAlways}
 use Rattle.sctp_safety.proofs.OrderlyPlan.{orderly_when_arranged}
-use Rattle.sctp_safety.specs.Way.{Way, Move, Send, Name, Tick, Number, Continue, Withdraw, Abandon, Mark, Retune, Sack_comes, Shutdown_comes, Put_piece, Put_forward, Put_sack, Put_shutdown, Keep_piece, Drop_piece, Forward_comes, Hand_over, Hand_unordered, Pass_over, Clear, Let_go, Take, Note, Step, Run, IsStart}
+use Rattle.sctp_safety.specs.Way.{Way, Move, Send, Name, Tick, Number, Continue, Withdraw, Abandon, Mark, Retune, Sack_comes, Shutdown_comes, Put_piece, Put_forward, Put_sack, Put_shutdown, Keep_piece, Drop_piece, Forward_comes, Hand_over, Hand_unordered, Pass_over, Clear, Let_go, Take, Note, Step, Run}
 use Rattle.sctp_safety.proofs.Facts.{Good}
 use Rattle.sctp_safety.proofs.SenderMoves.{kept_by-Send, kept_by-Name, kept_by-Tick, kept_by-Number, kept_by-Continue, kept_by-Withdraw, kept_by-Abandon, kept_by-Mark, kept_by-Retune, kept_by-Sack_comes, kept_by-Shutdown_comes}
 use Rattle.sctp_safety.proofs.BagMoves.{kept_by-Put_piece, kept_by-Put_forward, kept_by-Put_sack, kept_by-Put_shutdown}

@@ -2,16 +2,16 @@
 use Rattle.std.proofs.Common.{◌≡◌, ℕ, zero, suc, ◌+◌, ◌-◌, ◌<◌, ◌≤◌, ◌⊎◌, true, false, List, [], ◌∷◌, length, slice_get, Some, inl, inr, refl, sym, subst, ap, arith}
 use Rattle.std.proofs.lemmas.Bool.{cases_eq, cases_lt, cases_Bool}
 use Rattle.sctp_model.specs.Words.{Has}
-use Rattle.sctp_model.specs.Format.{Format, Plain, Kind, Unordered, Lane, is_numbered}
-use Rattle.sctp_model.specs.Plan.{Message, Entry, Part, End, Plan, entry_at, message_at, IsOf, IsAssigned, IsComplete, HasEnd, IsClosed}
+use Rattle.sctp_model.specs.Format.{Format, Plain, Lane, is_numbered}
+use Rattle.sctp_model.specs.Plan.{Message, Entry, Part, End, Plan, entry_at, message_at, IsOf, IsAssigned, IsComplete, IsClosed}
 use Rattle.sctp_model.specs.Pieces.{Piece, piece_of, IsFragment}
 use Rattle.sctp_model.specs.SenderView.{SenderView, IsGivenUp, IsAllGivenUp}
 use Rattle.sctp_model.specs.Forward.{Skip, Forward, StandsIn}
 use Rattle.sctp_model.specs.ReceiverView.{ReceiverView, IsReached}
 use Rattle.sctp_model.specs.Acknowledgement.{Acknowledgement, covers}
 use Rattle.sctp_safety.specs.Way.{Way, Put_piece, Put_forward, Put_sack, Put_shutdown, Step}
-use Rattle.sctp_safety.proofs.Basics.{each_or, item_at-above, slice_get-within}
-use Rattle.sctp_safety.proofs.Facts.{IsDone, IsLost, IsLostBy, IsSettled, IsAllSeen, MayPass, IsRetired, IsAhead, IsFair, Arranged, Good}
+use Rattle.sctp_safety.proofs.Basics.{each_or, item_at-above}
+use Rattle.sctp_safety.proofs.Facts.{IsDone, IsLost, IsLostBy, IsSettled, MayPass, IsRetired, IsAhead, IsFair, Arranged, Good}
 use Rattle.sctp_safety.proofs.Later.{by_bags}
 
 pub IsOf_same : (l k : Lane) (n m : ℕ) (e : Entry) → IsOf l n e → IsOf k m e → (l ≡ k) × (n ≡ m)

@@ -1,14 +1,11 @@
 -- What the ends really build, the moves allow.
-use Rattle.std.proofs.Common.{◌≡◌, ℕ, zero, suc, ◌+◌, ◌<◌, ◌≤◌, ◌⊎◌, ◌&&◌, ◌||◌, true, false, Bool, nat_le, List, [], ◌∷◌, inl, inr, refl, sym, subst, ap, arith, leb-true}
+use Rattle.std.proofs.Common.{◌≡◌, ℕ, zero, suc, ◌+◌, ◌≤◌, ◌⊎◌, ◌&&◌, true, nat_le, List, [], ◌∷◌, inl, inr, refl, sym, subst, arith, leb-true}
 use Rattle.std.proofs.lemmas.Bool.{or_cases, and_parts}
 use Rattle.sctp_model.specs.Words.{Has}
-use Rattle.sctp_model.specs.Format.{Lane, is_numbered}
-use Rattle.sctp_model.specs.SenderView.{IsPoint}
-use Rattle.sctp_model.specs.Forward.{Skip, Forward, StandsIn, IsForward}
+use Rattle.sctp_model.specs.Forward.{StandsIn}
 use Rattle.sctp_model.specs.ReceiverView.{ReceiverView, IsReached, IsCumulative}
-use Rattle.sctp_model.specs.Acknowledgement.{Block, Acknowledgement, in_blocks, covers, IsRun, IsAcknowledgement}
-use Rattle.sctp_model.specs.Pieces.{Piece}
-use Rattle.sctp_safety.specs.Way.{Way, Drop_piece}
+use Rattle.sctp_model.specs.Acknowledgement.{Block, in_blocks, covers}
+use Rattle.sctp_safety.specs.Way.{Drop_piece}
 use Rattle.sctp_safety.specs.Exact.{ForwardIsAllowed, SackIsAllowed, ShutdownIsAllowed, PassingIsMoves}
 
 pub forward_is_allowed : ForwardIsAllowed

@@ -1,14 +1,14 @@
 -- What every move keeps. Each fact is stated so that it only grows more true as plans, abandoned messages, indexes seen and numbers passed grow.
-use Rattle.std.proofs.Common.{◌≡◌, ℕ, suc, ◌-◌, ◌<◌, ◌≤◌, ◌⊎◌, true, false, List, length, slice_index_or, Some, [], ◌∷◌}
+use Rattle.std.proofs.Common.{◌≡◌, ℕ, suc, ◌-◌, ◌<◌, ◌≤◌, ◌⊎◌, true, false, List, length, Some, [], ◌∷◌}
 use Rattle.sctp_model.specs.Words.{Has}
-use Rattle.sctp_model.specs.Format.{Format, Plain, Kind, Ordered, Unordered, Lane, is_numbered, ordered_lane}
+use Rattle.sctp_model.specs.Format.{Format, Plain, Ordered, Unordered, Lane, is_numbered, ordered_lane}
 use Rattle.sctp_model.specs.Plan.{Message, bytes_of, Entry, Part, End, Plan, entry_at, message_at, IsOf, IsAssigned, IsComplete, IsClosed}
 use Rattle.sctp_model.specs.Pieces.{Piece, piece_of, IsFragment}
 use Rattle.sctp_model.specs.SenderView.{Queued, SenderView}
 use Rattle.sctp_model.specs.Forward.{Skip, Forward}
 use Rattle.sctp_model.specs.ReceiverView.{Handed, ReceiverView, handed, IsReached}
 use Rattle.sctp_model.specs.Acknowledgement.{Acknowledgement, covers}
-use Rattle.sctp_model.specs.Calls.{Call, Asked, call_at}
+use Rattle.sctp_model.specs.Calls.{Asked, call_at}
 use Rattle.sctp_model.specs.Safe.{IsRising, IsApart, IsSent, WasHanded}
 use Rattle.sctp_safety.specs.Way.{Way}
 

@@ -1,16 +1,16 @@
 -- The start is good.
-use Rattle.std.proofs.Common.{◌≡◌, ℕ, zero, suc, ◌<◌, ◌≤◌, ◌⊎◌, ◌++◌, true, false, Bool, List, [], ◌∷◌, length, slice_get, Option, None, Some, inl, inr, refl, sym, subst, ap, arith}
+use Rattle.std.proofs.Common.{◌≡◌, ℕ, zero, suc, true, false, Bool, List, [], slice_get, Some, inr, refl, sym, subst, ap, arith}
 use Rattle.sctp_model.specs.Words.{Has, item_at}
-use Rattle.sctp_model.specs.Format.{Format, Lane}
+use Rattle.sctp_model.specs.Format.{Lane}
 use Rattle.sctp_model.specs.Plan.{Message, Entry, Part, End, entry_at, message_at}
 use Rattle.sctp_model.specs.Pieces.{Piece}
 use Rattle.sctp_model.specs.SenderView.{Queued}
 use Rattle.sctp_model.specs.Forward.{Forward}
-use Rattle.sctp_model.specs.Acknowledgement.{Acknowledgement, covers}
-use Rattle.sctp_model.specs.ReceiverView.{Handed, handed, IsReached}
-use Rattle.sctp_model.specs.Safe.{IsRising, IsApart, WasHanded}
+use Rattle.sctp_model.specs.Acknowledgement.{Acknowledgement}
+use Rattle.sctp_model.specs.ReceiverView.{Handed, handed}
+use Rattle.sctp_model.specs.Safe.{IsRising, IsApart}
 use Rattle.sctp_safety.specs.Way.{Way, IsStart}
-use Rattle.sctp_safety.proofs.Facts.{Waits, IsQueue, Good}
+use Rattle.sctp_safety.proofs.Facts.{IsQueue, Good}
 
 nothing_at : {A : Type 0} (i : ℕ) (x : A) → item_at [] i ≡ Some x → ⊥
 nothing_at zero x h = cc

@@ -1,17 +1,17 @@
 -- Plan, messages, abandoned ones, indexes seen and numbers passed only grow, and most facts last while they do.
-use Rattle.std.proofs.Common.{◌≡◌, ℕ, ◌<◌, ◌≤◌, ◌⊎◌, true, false, List, length, slice_get, Some, inl, inr, refl, sym, subst, arith, le_refl}
+use Rattle.std.proofs.Common.{◌≡◌, ℕ, ◌≤◌, ◌⊎◌, true, List, Some, inl, inr, subst, arith, le_refl}
 use Rattle.sctp_model.specs.Words.{Has}
-use Rattle.sctp_model.specs.Format.{Format, Plain, Kind, Ordered, Unordered, Lane, is_numbered, ordered_lane}
-use Rattle.sctp_model.specs.Plan.{Message, bytes_of, Entry, Part, End, Plan, entry_at, message_at, IsOf, IsAssigned, IsComplete, HasEnd, IsClosed}
-use Rattle.sctp_model.specs.Pieces.{Piece, piece_of, IsFragment}
-use Rattle.sctp_model.specs.SenderView.{SenderView, IsGivenUp}
+use Rattle.sctp_model.specs.Format.{Format, Lane, ordered_lane}
+use Rattle.sctp_model.specs.Plan.{Message, Entry, Part, Plan, entry_at, message_at, IsAssigned, IsComplete, IsClosed}
+use Rattle.sctp_model.specs.Pieces.{Piece, IsFragment}
+use Rattle.sctp_model.specs.SenderView.{SenderView}
 use Rattle.sctp_model.specs.Forward.{Skip, Forward}
 use Rattle.sctp_model.specs.ReceiverView.{Handed, ReceiverView, handed, IsReached}
 use Rattle.sctp_model.specs.Acknowledgement.{Acknowledgement, covers}
 use Rattle.sctp_model.specs.Calls.{Asked}
 use Rattle.sctp_model.specs.Safe.{IsSent, WasHanded}
-use Rattle.sctp_safety.specs.Way.{Way, with_sender, with_receiver}
-use Rattle.sctp_safety.proofs.Facts.{IsDone, IsLost, IsLostBy, IsOver, IsSettled, IsAllSeen, MayPass, IsRetired, IsAhead, IsFair, Arranged, Waits, Sound, Between, IsHonest, Told, Held, Good}
+use Rattle.sctp_safety.specs.Way.{Way, with_receiver}
+use Rattle.sctp_safety.proofs.Facts.{IsDone, IsLost, IsLostBy, IsOver, IsSettled, IsAllSeen, MayPass, IsRetired, IsAhead, IsFair, Arranged, Waits, Sound, IsHonest, Held, Good}
 
 -- the plan gained entries and messages, and lost none
 pub record Extends (p q : Plan) : Type 0 where

@@ -22,3 +22,9 @@ mod TakeMoves
 mod SkipLaw
 mod WholeLaw
 mod Always
+mod WorldWay
+mod WorldUser
+mod WorldBuild
+mod WorldDeliver
+mod WorldSteps
+mod Example

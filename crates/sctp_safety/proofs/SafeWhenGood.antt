@@ -1,15 +1,15 @@
 -- What is good is safe.
-use Rattle.std.proofs.Common.{◌≡◌, ℕ, zero, suc, ◌<◌, ◌≤◌, ◌⊎◌, true, false, List, length, Some, inl, inr, refl, sym, subst, ap, arith}
+use Rattle.std.proofs.Common.{◌≡◌, ℕ, ◌<◌, ◌⊎◌, true, length, Some, inl, inr, refl, sym, subst, ap, arith}
 use Rattle.sctp_model.specs.Words.{Has}
 use Rattle.sctp_model.specs.Format.{Format, Plain, Interleaved, Kind, Ordered, Unordered, Lane, is_numbered, ordered_lane, unordered_lane}
-use Rattle.sctp_model.specs.Plan.{Message, bytes_of, Entry, Part, Plan, entry_at, message_at, IsOf, IsAssigned, IsComplete}
-use Rattle.sctp_model.specs.Pieces.{Piece, piece_of}
+use Rattle.sctp_model.specs.Plan.{Message, Part, Plan, entry_at, message_at, IsAssigned, IsComplete}
+use Rattle.sctp_model.specs.Pieces.{piece_of}
 use Rattle.sctp_model.specs.SenderView.{SenderView}
 use Rattle.sctp_model.specs.ReceiverView.{Handed, ReceiverView, handed, IsReached}
-use Rattle.sctp_model.specs.Safe.{IsSent, WasHanded, IsHeldWhole, IsInOrder, IsPassedRightly, IsOnce, IsKept, IsAsked, Safe}
+use Rattle.sctp_model.specs.Safe.{IsSent, WasHanded, IsHeldWhole, IsInOrder, IsPassedRightly, IsOnce, IsKept, Safe}
 use Rattle.sctp_safety.specs.Way.{Way}
 use Rattle.sctp_safety.proofs.Basics.{each_or, item_at-above, lane_is}
-use Rattle.sctp_safety.proofs.Facts.{IsLost, IsOver, IsSettled, IsHonest, Good}
+use Rattle.sctp_safety.proofs.Facts.{IsLost, IsOver, IsSettled, Good}
 use Rattle.sctp_safety.proofs.BagMoves.{lost_at}
 
 pub ordered_numbered : (f : Format) → is_numbered f Ordered ≡ true

@@ -1,17 +1,17 @@
 -- A chunk that is taken is a list of moves: it is kept, and what is due is handed over number by number.
-use Rattle.std.proofs.Common.{◌≡◌, ℕ, zero, suc, ◌<◌, ◌≤◌, ◌⊎◌, ◌++◌, ◌∷◌, ◌&&◌, not, true, false, Bool, nat_lt, max, List, [], cond, filter, inl, inr, refl, sym, subst, ap, arith, append-nil, append_assoc}
+use Rattle.std.proofs.Common.{◌≡◌, ℕ, zero, suc, ◌<◌, ◌⊎◌, ◌++◌, ◌∷◌, not, true, false, Bool, nat_lt, max, List, [], cond, filter, inl, inr, refl, sym, subst, ap, arith, append-nil, append_assoc}
 use Rattle.std.proofs.lemmas.Bool.{cases_Bool}
 use Rattle.std.proofs.lemmas.Bool.Decides.{nat_tests}
-use Rattle.sctp_model.specs.Words.{Has, IsWithin, at}
-use Rattle.sctp_model.specs.Format.{Format, Plain, Interleaved, Kind, Ordered, Unordered, Lane, same_lane, ordered_lane}
+use Rattle.sctp_model.specs.Words.{Has, at}
+use Rattle.sctp_model.specs.Format.{Format, Plain, Interleaved, Kind, Ordered, Unordered, Lane, ordered_lane}
 use Rattle.sctp_model.specs.Pieces.{Piece}
-use Rattle.sctp_model.specs.Whole.{Follows, IsRow, IsWhole}
-use Rattle.sctp_model.specs.Forward.{Forward, skipped}
-use Rattle.sctp_model.specs.ReceiverView.{Handed, ReceiverView, IsReached}
-use Rattle.sctp_model.specs.Receiving.{IsNumberOf, IsWholeNumber, IsLowest, HasNoWhole, message_of, IsDue, Stop, Over, Past, is_below, without_below, GivesOrdered, GivesAll, IsWholeWith, GivesUnordered, Gives, recorded, Takes}
+use Rattle.sctp_model.specs.Whole.{Follows, IsRow}
+use Rattle.sctp_model.specs.Forward.{skipped}
+use Rattle.sctp_model.specs.ReceiverView.{Handed, ReceiverView}
+use Rattle.sctp_model.specs.Receiving.{IsWholeNumber, HasNoWhole, message_of, IsDue, Stop, Over, Past, is_below, without_below, GivesOrdered, GivesAll, GivesUnordered, Gives, recorded}
 use Rattle.sctp_safety.specs.Way.{Way, Move, Keep_piece, Hand_over, Hand_unordered, Pass_over, Clear, Forward_comes, Let_go, with_receiver, past, Step, Run}
 use Rattle.sctp_safety.specs.Exact.{Leads, TakingIsMoves, ForwardIsMoves}
-use Rattle.sctp_safety.proofs.Basics.{at_cases, at_same, Has-filter, Has-filtered, same_lane-refl}
+use Rattle.sctp_safety.proofs.Basics.{at_cases, at_same, Has-filter, Has-filtered}
 
 -- ---- runs
 

@@ -1,7 +1,5 @@
 -- The theorem: whatever moves come, from a start, the direction is safe.
 use Rattle.std.specs.Prelude.{List}
-use Rattle.sctp_model.specs.Format.{Format}
-use Rattle.sctp_model.specs.Plan.{Plan}
 use Rattle.sctp_model.specs.Orderly.{Orderly}
 use Rattle.sctp_model.specs.Safe.{Safe}
 use Rattle.sctp_safety.specs.Way.{Way, Move, IsStart, Run}

@@ -2,3 +2,5 @@ pub mod Laws
 pub mod Way
 pub mod Exact
 pub mod Always
+pub mod Worlds
+pub mod Example

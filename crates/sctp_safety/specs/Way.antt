@@ -1,9 +1,9 @@
 -- One direction of an association, and the moves that change it, each as loose as safety allows.
 -- Timers, windows, room, what is due, and the order of filling only choose among moves; they don't appear here.
-use Rattle.std.specs.Prelude.{◌≡◌, ℕ, zero, suc, ◌+◌, ◌<◌, ◌≤◌, ◌⊎◌, max, not, ◌||◌, Bool, true, false, ◌==◌, nat_le, List, [], ◌∷◌, ◌++◌, length, filter, Option, None, Some}
+use Rattle.std.specs.Prelude.{◌≡◌, ℕ, suc, ◌+◌, ◌<◌, ◌≤◌, ◌⊎◌, max, ◌||◌, true, false, nat_le, List, [], ◌∷◌, ◌++◌, length, Some}
 use Rattle.sctp_model.specs.Words.{Has, IsWithin, at}
-use Rattle.sctp_model.specs.Format.{Format, Plain, Kind, Ordered, Unordered, Lane, is_numbered, ordered_lane, at_lane}
-use Rattle.sctp_model.specs.Plan.{Message, bytes_of, Entry, Part, End, Plan, entry_at, message_at, IsOf, IsAssigned, IsComplete, HasEnd, IsClosed, parts_from}
+use Rattle.sctp_model.specs.Format.{Format, Plain, Unordered, Lane, is_numbered, ordered_lane, at_lane}
+use Rattle.sctp_model.specs.Plan.{Message, bytes_of, Part, End, Plan, entry_at, message_at, IsAssigned, HasEnd, IsClosed, parts_from}
 use Rattle.sctp_model.specs.Pieces.{Piece, piece_of}
 use Rattle.sctp_model.specs.Whole.{IsWhole}
 use Rattle.sctp_model.specs.SenderView.{Queued, SenderView, IsAllGivenUp}

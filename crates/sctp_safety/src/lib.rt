@@ -1,4 +1,4 @@
-//! Safety of one direction of an association, over every list of moves.
+//! Safety of one direction of an association, over every list of moves, and of both directions in every world of two ends.
 //!
 //! No function here does anything: each carries a theorem as its contract.
 #![tactic(auto)]
@@ -6,6 +6,7 @@
 mod exact;
 mod laws;
 mod safety;
+mod worlds;
 
 pub use exact::{
     forward_is_allowed, forward_is_moves, passing_is_moves, sack_is_allowed, shutdown_is_allowed,
@@ -13,3 +14,4 @@ pub use exact::{
 };
 pub use laws::{skip_law, whole_law};
 pub use safety::{orderly_over_every_run, safe_over_every_run};
+pub use worlds::{a_message_arrives, safe_in_every_run, safe_in_every_world};
