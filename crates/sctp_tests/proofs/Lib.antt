@@ -1,0 +1,3 @@
+pub mod CumulativeLemmas
+pub mod NameLemmas
+pub mod PointLemmas

@@ -1,0 +1,13 @@
+//! The definitions of `sctp_model`, computed: a plain, slow program for each definition that is a function, with the
+//! definition itself as its contract, and tests that run it on examples written out by hand.
+//!
+//! Nothing here is part of an association. It shows that the definitions can be computed, and that they say what was meant.
+#![tactic(auto)]
+
+mod cumulative;
+mod points;
+mod words;
+
+pub use cumulative::cumulative_index;
+pub use points::point;
+pub use words::{Entry, Format, Kind, Lane, MessageName, Sender, Skip};
