@@ -1,9 +1,9 @@
 -- A receiver has one cumulative index, and how far a search for it has come.
-use Rattle.std.proofs.Common.{add-one, ◌≡◌, ℕ, suc, ◌+◌, ◌<◌, ◌≤◌, ◌⊎◌, ◌==◌, Bool, true, false, List, [], ◌∷◌, length, get_or, ap, sym, ◌∙◌, inl, inr, arith, rules}
+use Rattle.std.proofs.Common.{add-one, ◌≡◌, ℕ, suc, ◌+◌, ◌<◌, ◌≤◌, ◌==◌, Bool, true, List, length, get_or, ap, sym, ◌∙◌, inl, inr, arith}
 use Rattle.std.proofs.lemmas.Bool.{cases_lt, cases_order, eqb-true}
 use Rattle.std.proofs.lemmas.List.{get_or_read}
 use Rattle.std.proofs.lemmas.List.Folds.{Any-from_list_any}
-use Rattle.sctp_model.specs.ReceiverView.{ReceiverView, IsReached, IsCumulative}
+use Rattle.sctp_model.specs.ReceiverView.{ReceiverView, IsCumulative}
 use Rattle.sctp_tests.specs.Lists.{lists}
 
 -- all up to `cum` are reached

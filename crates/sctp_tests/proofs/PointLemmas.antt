@@ -1,13 +1,11 @@
 -- A sender has one point, and how far a search for it has come.
-use Rattle.std.proofs.Common.{◌≡◌, ℕ, zero, suc, ◌+◌, ◌<◌, ◌≤◌, ◌⊎◌, true, List, length, map, Some, refl, ap, sym, ◌∙◌, subst, inl, inr, arith}
+use Rattle.std.proofs.Common.{◌≡◌, ℕ, zero, suc, ◌+◌, ◌<◌, ◌≤◌, length, refl, ap, sym, ◌∙◌, subst, inl, inr, arith}
 use Rattle.std.specs.List.{slice_get, Contains}
 use Rattle.std.proofs.lemmas.Bool.{cases_lt}
 use Rattle.std.proofs.lemmas.Option.{slice_get_within}
-use Rattle.sctp_model.specs.Format as model
 use Rattle.sctp_model.specs.Plan as plan
-use Rattle.sctp_model.specs.SenderView.{SenderView, IsGivenUp, IsAllGivenUp, IsPoint}
+use Rattle.sctp_model.specs.SenderView.{SenderView, IsGivenUp, IsPoint}
 use Rattle.sctp_tests.specs.declared.words.Sender.{Sender}
-use Rattle.sctp_tests.specs.declared.words.Entry.{Entry}
 use Rattle.sctp_tests.specs.declared.words.MessageName.{MessageName}
 use Rattle.sctp_tests.specs.Names.{lane_of, entry_of, message_of}
 use Rattle.sctp_tests.specs.Sender.{IsSenderOf, IsAbandonedAt}

@@ -5,9 +5,11 @@
 #![tactic(auto)]
 
 mod cumulative;
+mod forwards;
 mod points;
 mod words;
 
 pub use cumulative::cumulative_index;
+pub use forwards::forward;
 pub use points::point;
-pub use words::{Entry, Format, Kind, Lane, MessageName, Sender, Skip};
+pub use words::{Entry, Format, Kind, Lane, MessageName, Sender};

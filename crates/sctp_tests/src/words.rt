@@ -1,13 +1,26 @@
 //! The records and choices of the model, with numbers that fit a word.
 
-ghost use Rattle.std.specs.Prelude.{◌≡◌};
-ghost use Rattle.sctp_tests.specs.Names.{message_of};
+ghost use Rattle.std.specs.Prelude.{◌≡◌, ◌<◌, ◌^◌};
+ghost use Rattle.sctp_model.specs.Format.{is_numbered};
+ghost use Rattle.sctp_tests.specs.Names.{format_of, kind_of, rank_of, message_of};
 
 /// The two formats of user data: the DATA chunk (RFC 9260, 3.3.1) and the I-DATA chunk (RFC 8260, 2.1).
 #[derive(Clone, Copy, Debug, PartialEq, Eq)]
 pub enum Format {
     Plain,
     Interleaved,
+}
+
+impl Format {
+    /// Whether a message of this kind has a number: not the unordered one of DATA (RFC 9260, 3.3.1; RFC 8260, 2.1).
+    pub fn is_numbered(&self, kind: Kind) -> bool
+        ensures { result ≡ is_numbered (format_of self.now) (kind_of kind) }
+    {
+        match (self, kind) {
+            (Format::Plain, Kind::Unordered) => false,
+            _ => true,
+        }
+    }
 }
 
 /// Whether a message is handed over in the order of sending, or as soon as it is whole (RFC 9260, 6.6).
@@ -22,6 +35,20 @@ pub enum Kind {
 pub struct Lane {
     pub stream: u32,
     pub kind: Kind,
+}
+
+impl Lane {
+    /// The place of a lane among all lanes: by rising stream, in a stream the ordered lane first.
+    pub fn rank(&self) -> u64
+        ensures value { result ≡ rank_of self.now }
+        ensures bound { result < 2 ^ 33 }
+    {
+        let stream = 2 * u64::from(self.stream);
+        match self.kind {
+            Kind::Ordered => stream,
+            Kind::Unordered => stream + 1,
+        }
+    }
 }
 
 /// A message by its place: the one with this number in its lane.
@@ -57,11 +84,4 @@ pub struct Sender<'a> {
     pub cum: u64,
     pub covered: &'a [u64],
     pub abandoned: &'a [MessageName],
-}
-
-/// Up to this number, the messages of a lane are to be waited for no longer (RFC 3758, 3.2).
-#[derive(Clone, Copy, Debug, PartialEq, Eq)]
-pub struct Skip {
-    pub lane: Lane,
-    pub number: u32,
 }

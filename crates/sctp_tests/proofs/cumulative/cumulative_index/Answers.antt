@@ -1,4 +1,4 @@
-use Rattle.std.proofs.Common.{◌≡◌, ℕ, ◌+◌, true, sym, arith}
+use Rattle.std.proofs.Common.{◌≡◌, ◌+◌, arith}
 use Rattle.sctp_model.specs.ReceiverView.{ReceiverView, IsCumulative}
 use Rattle.sctp_tests.specs.Lists.{lists}
 use Rattle.sctp_tests.proofs.CumulativeLemmas.{cumulative_is, cumulative_only, none_past}
