@@ -1,4 +1,7 @@
 pub mod Lists
 pub mod Names
+pub mod Kept
+pub mod Search
+pub mod Giving
 pub mod Sender
 pub mod Standing

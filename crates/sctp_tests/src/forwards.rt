@@ -2,12 +2,12 @@
 
 ghost use Rattle.std.specs.Prelude.{◌≡◌, ℕ, IfOk, map, length};
 ghost use Rattle.sctp_model.specs.SenderView.{SenderView};
-ghost use Rattle.sctp_model.specs.Forward.{Forward, IsForward};
-ghost use Rattle.sctp_tests.specs.Names.{format_of, skip_of};
+ghost use Rattle.sctp_model.specs.Forward.{Forward, IsForward, skipped};
+ghost use Rattle.sctp_tests.specs.Names.{format_of, lane_of, skip_of};
 ghost use Rattle.sctp_tests.specs.Sender.{IsSenderOf};
 ghost use Rattle.sctp_tests.specs.Standing.{IsFoundAt, IsBetter, IsFirst};
 
-use crate::words::{Entry, Format, MessageName, Sender};
+use crate::words::{Entry, Format, Lane, MessageName, Sender};
 use std::alloc::{AllocError, Global};
 
 /// The message whose entry stands at this place, counted from 0, where that is from `cum` on, before `point`, and has a number.
@@ -89,4 +89,17 @@ pub fn forward(
         skips.push(message)?;
     }
     Ok(skips)
+}
+
+/// A receiver's skip of a lane after these: one past the largest number skipped there, or 0.
+pub fn skip_after(skips: &[MessageName], lane: Lane) -> u64
+    ensures { result ≡ skipped (λ l. 0) (map skip_of skips.now) (lane_of lane) }
+{
+    let mut skip = 0;
+    for message in skips {
+        if message.lane == lane {
+            skip = skip.max(u64::from(message.number) + 1);
+        }
+    }
+    skip
 }

@@ -6,10 +6,18 @@
 
 mod cumulative;
 mod forwards;
+mod giving;
+mod pieces;
 mod points;
+mod whole;
 mod words;
 
 pub use cumulative::cumulative_index;
-pub use forwards::forward;
+pub use forwards::{forward, skip_after};
+pub use giving::{Due, Handed, due_from};
+pub use pieces::{Piece, Whole};
 pub use points::point;
+
+pub use whole::{whole_number, whole_with};
 pub use words::{Entry, Format, Kind, Lane, MessageName, Sender};
+

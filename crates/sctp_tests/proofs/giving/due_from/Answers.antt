@@ -1,0 +1,31 @@
+use Rattle.std.proofs.Common.{◌≡◌, List, [], ◌∷◌, ◌++◌, map, sym, ◌∙◌, ap}
+use Rattle.sctp_tests.specs.Names.{format_of}
+use Rattle.sctp_tests.specs.Kept.{pieces_of}
+use Rattle.sctp_tests.specs.Giving.{handed_of}
+use Rattle.sctp_tests.proofs.ListLemmas.{map-push}
+use Rattle.sctp_tests.proofs.GivingLemmas.{due_handed, due_passed, due_stopped}
+use Rattle.sctp_tests.proofs.giving.due_from.Goals as goal
+use Rattle.sctp_tests.proofs.giving.due_from.Goals.{in-HandOver+in_ok-push-in-HandOver, in-PassOver}
+
+pub returns-in-Stop : goal.returns-in-Stop
+returns-in-Stop c =
+    let stop = rw c.in-Stop.is at c.in_ok-message.ensures in
+    due_stopped (format_of c.args.format) (pieces_of c.args.kept.now) c.args.stream c.args.skip c.args.from c.loop-messages.next
+    (map handed_of c.loop-messages.messages.items) c.loop-messages.invariant stop.0 stop.1
+
+pub loop-messages-preserved : goal.loop-messages-preserved
+loop-messages-preserved c =
+    let done = c.loop-messages.messages.items in
+    elim c.match-branch-2.branch [
+      in-HandOver+in_ok-push-in-HandOver w ↦
+      let handed = rw w.in-HandOver.is at c.in_ok-message.ensures in
+      let items = w.in_ok-push-in-HandOver.ensures.items in
+      rw (w.messages-is, items, map-push handed_of done w.in-HandOver.message)
+      (due_handed (format_of c.args.format) (pieces_of c.args.kept.now) c.args.stream c.args.skip c.args.from c.loop-messages.next
+      (map handed_of done) c.loop-messages.invariant (handed_of w.in-HandOver.message) handed.0)
+      | in-PassOver w ↦
+      let passed = rw w.in-PassOver.is at c.in_ok-message.ensures in
+      rw w.messages-is
+      (due_passed (format_of c.args.format) (pieces_of c.args.kept.now) c.args.stream c.args.skip c.args.from c.loop-messages.next
+      (map handed_of done) c.loop-messages.invariant passed.0 passed.1)
+    ]
