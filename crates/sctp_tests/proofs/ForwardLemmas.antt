@@ -75,6 +75,10 @@ module _ (f : Format) (es : List Entry) (c p floor : ℕ) (xs : List MessageName
       largest = largest_new;
     }
 
+numbered_too : (f : Format) (m : MessageName) (l : model.Lane) → lane_of m.lane ≡ l → model.is_numbered (format_of f) l.kind ≡ true →
+    model.is_numbered (format_of f) (kind_of m.lane.kind) ≡ true
+numbered_too f m l same numbered = ap (λ (k : model.Lane). model.is_numbered (format_of f) k.kind) same ∙ numbered
+
 -- where no lane is left, the list is the FORWARD's
 pub forward_is : (f : Format) (s : Sender) (p floor : ℕ) (xs : List MessageName) → IsListedTo f s.entries.now s.cum p floor xs →
     IsFirst f s.entries.now s.cum p floor (length s.entries.now) None →
@@ -122,8 +126,7 @@ forward_is f s p floor xs listed none v h = record {
         let e = entry_from s.entries.now i d (ap (λ ds. slice_get ds i) (sym h.entries) ∙ at) in
         let its = of_message e.0 l n (subst (λ (x : plan.Entry). plan.IsOf l n x) (sym e.2) of) in
         let m = message_of e.0 in
-        let kind : kind_of m.lane.kind ≡ l.kind = ap (λ (k : model.Lane). k.kind) its.0 in
-        let best = its_largest i m (above, below, ap (model.is_numbered (format_of f)) kind ∙ has_number, (e.0, e.1, refl)) in
+        let best = its_largest i m (above, below, numbered_too f m l its.0 has_number, (e.0, e.1, refl)) in
         (skip_of best.0, has-map skip_of xs best.0 best.1, ap lane_of best.2 ∙ its.0, omega (arith, best.3, its.1))
 
     largest : (l : model.Lane) (n : ℕ) → model.is_numbered (format_of f) l.kind ≡ true → StandsIn v.plan v.cum p l n →

@@ -1,13 +1,13 @@
 -- What is due so far, and one number more; the text of a message, and one chunk more.
-use Rattle.std.proofs.Common.{◌≡◌, ℕ, suc, ◌+◌, ◌<◌, ◌≤◌, List, [], ◌∷◌, ◌++◌, length, get_or, take, map, refl, ap, sym, ◌∙◌, subst, add-one, append_assoc, append-nil, arith}
+use Rattle.std.proofs.Common.{◌≡◌, ℕ, suc, ◌+◌, ◌<◌, ◌≤◌, List, [], ◌∷◌, ◌++◌, length, get_or, take, ap, sym, ◌∙◌, subst, add-one, append_assoc, append-nil, arith}
 use Rattle.std.proofs.lemmas.List.{take_more}
-use Rattle.sctp_model.specs.Format.{Format, Lane, ordered_lane}
+use Rattle.sctp_model.specs.Format.{Format, ordered_lane}
 use Rattle.sctp_model.specs.Pieces as pieces
 use Rattle.sctp_model.specs.Whole.{text_of}
 use Rattle.sctp_model.specs.ReceiverView.{Handed, ReceiverView}
-use Rattle.sctp_model.specs.Receiving.{IsWholeNumber, IsLowest, HasNoWhole, message_of, IsDue, Stop, Over, Past}
+use Rattle.sctp_model.specs.Receiving.{IsWholeNumber, IsLowest, HasNoWhole, IsDue, Stop, Over, Past}
 use Rattle.sctp_tests.specs.declared.pieces.Piece.{Piece}
-use Rattle.sctp_tests.specs.Kept.{piece_of, pieces_of}
+use Rattle.sctp_tests.specs.Kept.{pieces_of}
 use Rattle.sctp_tests.specs.Giving.{IsHanded}
 
 text-push : (xs : List Piece) (y : Piece) → text_of (pieces_of (xs ++ y ∷ [])) ≡ text_of (pieces_of xs) ++ y.bytes.now

@@ -3,6 +3,7 @@ pub mod NameLemmas
 pub mod ListLemmas
 pub mod PointLemmas
 pub mod RowLemmas
+pub mod OneWhole
 pub mod WholeLemmas
 pub mod GivingLemmas
 pub mod LaneLemmas

@@ -1,11 +1,11 @@
 -- The search for the rest of a message, one kept chunk after the other.
-use Rattle.std.proofs.Common.{◌≡◌, ℕ, zero, suc, ◌+◌, ◌<◌, ◌≤◌, ◌⊎◌, true, false, List, [], ◌∷◌, length, Option, Some, None, refl, ap, sym, ◌∙◌, subst, inl, inr, arith}
+use Rattle.std.proofs.Common.{◌≡◌, ℕ, zero, suc, ◌+◌, ◌<◌, true, false, List, [], ◌∷◌, length, Option, Some, None, refl, ap, sym, ◌∙◌, subst, inl, inr, arith}
 use Rattle.std.specs.List.{slice_get}
 use Rattle.std.proofs.lemmas.Bool.{cases_lt}
 use Rattle.std.proofs.lemmas.Option.{slice_get_within}
-use Rattle.sctp_model.specs.Words.{Has, IsWithin}
+use Rattle.sctp_model.specs.Words.{Has}
 use Rattle.sctp_model.specs.Pieces as pieces
-use Rattle.sctp_model.specs.Whole.{Follows, IsRow}
+use Rattle.sctp_model.specs.Whole.{Follows}
 use Rattle.sctp_tests.specs.declared.words.Format.{Format}
 use Rattle.sctp_tests.specs.declared.pieces.Piece.{Piece}
 use Rattle.sctp_tests.specs.Names.{format_of}
@@ -49,11 +49,11 @@ module _ (f : Format) (kept : List Piece) (x : Piece) (through : Option Piece) w
   pub none_more : (k : ℕ) → IsNoneBelow k → (y : Piece) → slice_get kept k ≡ Some y →
       ((xs : List pieces.Piece) → GoesOn f kept x through (piece_of y ∷ xs) → ⊥) → IsNoneBelow (k + 1)
   none_more k below y at none j z xs low there h = elim (cases_lt j k) [
-    inl before ↦ below j z xs before there h
+    | inl before ↦ below j z xs before there h
     | inr above ↦
-    let here : k ≡ j = omega arith in
-    let same : y ≡ z = some_same y z (sym at ∙ (ap (slice_get kept) here ∙ there)) in
-    none xs (subst (λ (w : Piece). GoesOn f kept x through (piece_of w ∷ xs)) (sym same) h)
+        let here : k ≡ j = omega arith in
+        let same : y ≡ z = some_same y z (sym at ∙ (ap (slice_get kept) here ∙ there)) in
+        none xs (subst (λ (w : Piece). GoesOn f kept x through (piece_of w ∷ xs)) (sym same) h)
   ]
 
   pub not_following : (y : Piece) → (Follows (format_of f) (piece_of x) (piece_of y) → ⊥) → (xs : List pieces.Piece) → GoesOn f kept x through (piece_of y ∷ xs) → ⊥
@@ -72,10 +72,11 @@ module _ (f : Format) (kept : List Piece) (x : Piece) (through : Option Piece) w
 
   pub goes_on : (y : Piece) (rest : Option Piece) (xs : List pieces.Piece) → x.end ≡ false → Follows (format_of f) (piece_of x) (piece_of y) →
       Has (pieces_of kept) (piece_of y) → IsLeft through y rest → GoesOn f kept y rest xs → GoesOn f kept x through (piece_of y ∷ xs)
-  goes_on y rest xs end follows here is_left h =
-      ((end, follows, h.0),
-       (λ z there. elim there [ inl e ↦ subst (λ (w : pieces.Piece). Has (pieces_of kept) w) e here | inr t ↦ h.1 z t ]),
-       through_cons through y rest xs is_left h.2)
+  goes_on y rest xs end follows here is_left h = (
+    (end, follows, h.0),
+    (λ z there. elim there [ inl e ↦ subst (λ (w : pieces.Piece). Has (pieces_of kept) w) e here | inr t ↦ h.1 z t ]),
+    through_cons through y rest xs is_left h.2,
+  )
 
   pub none_at_all : x.end ≡ false → IsNoneBelow (length kept) → (xs : List pieces.Piece) → GoesOn f kept x through xs → ⊥
   none_at_all end below [] h = let ended : x.end ≡ true = h.0 in cc

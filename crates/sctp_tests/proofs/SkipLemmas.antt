@@ -1,11 +1,9 @@
 -- What is skipped in a lane after one skip more.
-use Rattle.std.proofs.Common.{◌≡◌, ℕ, suc, ◌+◌, ◌<◌, ◌&&◌, ◌==◌, Bool, true, false, cond, List, [], ◌∷◌, ◌++◌, length, get_or, take, map, max, refl, ap, sym, ◌∙◌, inl, inr, arith, add-one}
+use Rattle.std.proofs.Common.{◌≡◌, ℕ, suc, ◌+◌, ◌<◌, ◌&&◌, ◌==◌, Bool, true, false, List, [], ◌∷◌, ◌++◌, length, get_or, take, map, max, refl, ap, sym, ◌∙◌, inl, inr, add-one}
 use Rattle.std.proofs.lemmas.List.{take_more}
-use Rattle.std.proofs.lemmas.Bool.{eq-eqb, eqb-true, cases_Bool}
+use Rattle.std.proofs.lemmas.Bool.{eq-eqb, eqb-true, cases_Bool, false≢true}
 use Rattle.sctp_model.specs.Format as model
 use Rattle.sctp_model.specs.Forward.{Skip, skipped}
-use Rattle.sctp_tests.specs.declared.words.Kind.{Kind}
-use Rattle.sctp_tests.specs.declared.words.Kind.TheVariants.{Ordered, Unordered}
 use Rattle.sctp_tests.specs.declared.words.Lane.{Lane}
 use Rattle.sctp_tests.specs.declared.words.MessageName.{MessageName}
 use Rattle.sctp_tests.specs.Names.{lane_of, skip_of}
@@ -51,7 +49,8 @@ pub skip_same : (skips : List MessageName) (i : ℕ) (d : MessageName) (l : Lane
 skip_same skips i d l below same =
     let m = get_or skips i d in
     let lane : lane_of m.lane ≡ lane_of l = ap lane_of same in
-    rw (take_more skips i d below, map-push skip_of (take i skips) m, skipped-push (λ k. 0) (map skip_of (take i skips)) (skip_of m), lane, lane_same (lane_of l), add-one) refl
+    let mine : model.same_lane (lane_of l) (lane_of m.lane) ≡ true = ap (model.same_lane (lane_of l)) lane ∙ lane_same (lane_of l) in
+    rw (take_more skips i d below, map-push skip_of (take i skips) m, skipped-push (λ k. 0) (map skip_of (take i skips)) (skip_of m), mine, lane, add-one) refl
 
 pub skip_other : (skips : List MessageName) (i : ℕ) (d : MessageName) (l : Lane) → i < length skips → ((get_or skips i d).lane ≡ l → ⊥) →
     skipped (λ k. 0) (map skip_of (take (i + 1) skips)) (lane_of l) ≡ skipped (λ k. 0) (map skip_of (take i skips)) (lane_of l)
@@ -59,3 +58,18 @@ skip_other skips i d l below apart =
     let m = get_or skips i d in
     let other = other_lane (lane_of l) (lane_of m.lane) (λ e. apart (same_lane m.lane l (sym e))) in
     rw (take_more skips i d below, map-push skip_of (take i skips) m, skipped-push (λ k. 0) (map skip_of (take i skips)) (skip_of m), other) refl
+
+pub skip_more : (skips : List MessageName) (i : ℕ) (d : MessageName) (l : Lane) → i < length skips → (skip r : ℕ) →
+    skip ≡ skipped (λ k. 0) (map skip_of (take i skips)) (lane_of l) →
+    ((get_or skips i d).lane ≡ l → r ≡ max skip ((get_or skips i d).number + 1)) → (((get_or skips i d).lane ≡ l → ⊥) → r ≡ skip) →
+    r ≡ skipped (λ k. 0) (map skip_of (take (i + 1) skips)) (lane_of l)
+skip_more skips i d l below skip r before same other =
+    let m = get_or skips i d in
+    elim (cases_Bool (model.same_lane (lane_of m.lane) (lane_of l))) [
+      | inl agree ↦
+          let lane = same_lane m.lane l (lanes_same (lane_of m.lane) (lane_of l) agree) in
+          same lane ∙ (ap (λ n. max n (m.number + 1)) before ∙ sym (skip_same skips i d l below lane))
+      | inr differ ↦
+          let apart = λ (e : m.lane ≡ l). false≢true (sym differ ∙ (ap (λ (k : Lane). model.same_lane (lane_of k) (lane_of l)) e ∙ lane_same (lane_of l))) in
+          other apart ∙ (before ∙ sym (skip_other skips i d l below apart))
+    ]

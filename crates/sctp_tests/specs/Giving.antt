@@ -1,5 +1,5 @@
 -- What is to be done with one number of a stream.
-use Rattle.std.specs.Prelude.{◌≡◌, ℕ, ◌<◌, ◌≤◌, ◌^◌, List, [], ◌∷◌}
+use Rattle.std.specs.Prelude.{◌≡◌, ℕ, ◌<◌, ◌≤◌, ◌^◌, List, ◌∷◌}
 use Rattle.sctp_model.specs.Format as model
 use Rattle.sctp_model.specs.Pieces.{Piece}
 use Rattle.sctp_model.specs.ReceiverView as view

@@ -1,13 +1,10 @@
 -- Kept chunks, and what a search for a whole message among them answers.
-use Rattle.std.specs.Prelude.{◌≡◌, ℕ, ◌⊎◌, ◌<◌, List, [], ◌∷◌, map, Option, Some, None}
-use Rattle.sctp_model.specs.Words.{Has, IsWithin}
+use Rattle.std.specs.Prelude.{ℕ, List, map}
 use Rattle.sctp_model.specs.Pieces as model
-use Rattle.sctp_model.specs.Whole.{IsFirst, IsRow, IsWhole}
 use Rattle.sctp_tests.specs.declared.words.Format.{Format}
 use Rattle.sctp_tests.specs.declared.words.Format.TheVariants.{Plain, Interleaved}
 use Rattle.sctp_tests.specs.declared.pieces.Piece.{Piece}
-use Rattle.sctp_tests.specs.declared.pieces.Whole.{Whole}
-use Rattle.sctp_tests.specs.Names.{format_of, lane_of}
+use Rattle.sctp_tests.specs.Names.{lane_of}
 
 abbrev pub piece_of : Piece → model.Piece
 piece_of x = record {

@@ -1,5 +1,5 @@
 -- What a search for a whole message among kept chunks answers.
-use Rattle.std.specs.Prelude.{◌≡◌, ℕ, ◌⊎◌, ◌<◌, ◌≤◌, List, [], ◌∷◌, slice_get, Option, Some, None}
+use Rattle.std.specs.Prelude.{◌≡◌, ℕ, ◌⊎◌, ◌≤◌, List, ◌∷◌, Option, Some, None}
 use Rattle.std.specs.declared.vec.Vec.{Vec}
 use Rattle.std.specs.declared.alloc.Global.{Global}
 use Rattle.sctp_model.specs.Words.{Has, IsWithin}
@@ -67,3 +67,14 @@ IsWholeAnswer f kept l n (Some w) =
 abbrev pub IsWithAnswer : Format → List Piece → Piece → Option Whole → Type 0
 IsWithAnswer f kept y None = (xs : List pieces.Piece) → IsWholeWith (format_of f) (pieces_of kept) (piece_of y) xs → ⊥
 IsWithAnswer f kept y (Some w) = IsWholeWith (format_of f) (pieces_of kept) (piece_of y) (whole_of w)
+
+-- no other chunks are the whole message of the lane and number
+abbrev pub IsOnlyNumber : Format → List Piece → model.Lane → ℕ → Option Whole → Type 0
+IsOnlyNumber f kept l n None = Unit {0}
+IsOnlyNumber f kept l n (Some w) = (xs : List pieces.Piece) → IsWholeNumber (format_of f) (pieces_of kept) l n xs →
+    IsLowest (format_of f) (pieces_of kept) l n xs → xs ≡ whole_of w
+
+-- the chunk belongs to no other whole message
+abbrev pub IsOnlyWith : Format → List Piece → Piece → Option Whole → Type 0
+IsOnlyWith f kept y None = Unit {0}
+IsOnlyWith f kept y (Some w) = (xs : List pieces.Piece) → IsWholeWith (format_of f) (pieces_of kept) (piece_of y) xs → xs ≡ whole_of w

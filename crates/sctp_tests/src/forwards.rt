@@ -1,6 +1,6 @@
 //! The FORWARD of a plan (RFC 3758, 3.2 and 3.5; RFC 8260, 2.3.1).
 
-ghost use Rattle.std.specs.Prelude.{◌≡◌, ℕ, IfOk, map, length};
+ghost use Rattle.std.specs.Prelude.{◌≡◌, ℕ, ◌+◌, IfOk, map, max, length};
 ghost use Rattle.sctp_model.specs.SenderView.{SenderView};
 ghost use Rattle.sctp_model.specs.Forward.{Forward, IsForward, skipped};
 ghost use Rattle.sctp_tests.specs.Names.{format_of, lane_of, skip_of};
@@ -91,15 +91,26 @@ pub fn forward(
     Ok(skips)
 }
 
+/// The skip of a lane after one message more.
+fn skip_past(skip: u64, message: MessageName, lane: Lane) -> u64
+    ensures same { message.lane ≡ lane → result ≡ max skip (message.number + 1) }
+    ensures other { (message.lane ≡ lane → ⊥) → result ≡ skip }
+{
+    let past = u64::from(message.number) + 1;
+    if message.lane == lane && skip < past {
+        past
+    } else {
+        skip
+    }
+}
+
 /// A receiver's skip of a lane after these: one past the largest number skipped there, or 0.
 pub fn skip_after(skips: &[MessageName], lane: Lane) -> u64
     ensures { result ≡ skipped (λ l. 0) (map skip_of skips.now) (lane_of lane) }
 {
     let mut skip = 0;
     for message in skips {
-        if message.lane == lane {
-            skip = skip.max(u64::from(message.number) + 1);
-        }
+        skip = skip_past(skip, *message, lane);
     }
     skip
 }

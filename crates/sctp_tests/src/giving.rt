@@ -1,21 +1,21 @@
 //! What is handed over on a stream (RFC 9260, 6.6; RFC 3758, 3.6; RFC 8260, 2.2).
 
-ghost use Rattle.std.specs.Prelude.{◌≡◌, ℕ, ◌<◌, ◌^◌, IfOk, map};
+ghost use Rattle.std.specs.Prelude.{◌≡◌, ℕ, ◌<◌, ◌^◌, IfOk, map, List};
 ghost use Rattle.sctp_model.specs.Format.{ordered_lane};
 ghost use Rattle.sctp_model.specs.Whole.{text_of};
-ghost use Rattle.sctp_model.specs.ReceiverView.{ReceiverView};
+ghost use Rattle.sctp_model.specs.ReceiverView.{ReceiverView, Handed as HandedView};
 ghost use Rattle.sctp_model.specs.Receiving.{message_of, IsDue};
 ghost use Rattle.sctp_model.specs.Pieces.{payload_of};
 ghost use Rattle.sctp_tests.specs.Names.{format_of};
 ghost use Rattle.sctp_tests.specs.Kept.{piece_of, pieces_of};
 ghost use Rattle.sctp_tests.specs.Search.{whole_of};
+ghost use Rattle.sctp_tests.specs.Apart.{IsApart};
 ghost use Rattle.sctp_tests.specs.Giving.{handed_of, IsTurn};
-
-use std::alloc::{AllocError, Global};
 
 use crate::pieces::{Piece, Whole};
 use crate::whole::whole_number;
 use crate::words::{Format, Kind, Lane};
+use std::alloc::{AllocError, Global};
 
 /// A message as it is handed over; the index of its first chunk tells it from all others.
 #[derive(Debug, Drop)]
@@ -83,7 +83,14 @@ fn message(alloc: Global, format: Format, whole: &Whole<'_>) -> Result<Handed, A
 }
 
 /// What is to be done with this number of a stream.
-fn turn_at(alloc: Global, format: Format, kept: &[Piece<'_>], stream: u32, number: u64, skip: u64) -> Result<Turn, AllocError>
+fn turn_at(
+    alloc: Global,
+    format: Format,
+    kept: &[Piece<'_>],
+    stream: u32,
+    number: u64,
+    skip: u64,
+) -> Result<Turn, AllocError>
     ensures { IfOk result (λ turn. IsTurn (format_of format) (pieces_of kept.now) stream number skip turn) }
 {
     let lane = Lane {
@@ -99,9 +106,19 @@ fn turn_at(alloc: Global, format: Format, kept: &[Piece<'_>], stream: u32, numbe
 
 /// What is due on a stream from a number on, where all numbers below `skip` are skipped: up to the first number that is
 /// neither whole nor skipped, the whole messages in rising number.
-pub fn due_from(alloc: Global, format: Format, kept: &[Piece<'_>], stream: u32, from: u32, skip: u64) -> Result<Due, AllocError>
-    ensures { IfOk result (λ due. (r : ReceiverView) → r.kept ≡ pieces_of kept.now → r.skip (ordered_lane stream) ≡ skip
+pub fn due_from(
+    alloc: Global,
+    format: Format,
+    kept: &[Piece<'_>],
+    stream: u32,
+    from: u32,
+    skip: u64,
+) -> Result<Due, AllocError>
+    ensures is { IfOk result (λ due. (r : ReceiverView) → r.kept ≡ pieces_of kept.now → r.skip (ordered_lane stream) ≡ skip
         → IsDue (format_of format) r stream from (map handed_of due.messages.items) due.next) }
+    ensures only { IfOk result (λ due. (r : ReceiverView) → r.kept ≡ pieces_of kept.now → r.skip (ordered_lane stream) ≡ skip
+        → IsApart (format_of format) (pieces_of kept.now) → (ms : List HandedView) (m : ℕ) → IsDue (format_of format) r stream from ms m
+        → (ms ≡ map handed_of due.messages.items) × (m ≡ due.next)) }
 {
     let mut messages = Vec::new(alloc);
     let mut next = u64::from(from);

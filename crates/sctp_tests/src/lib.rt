@@ -17,7 +17,8 @@ pub use forwards::{forward, skip_after};
 pub use giving::{Due, Handed, due_from};
 pub use pieces::{Piece, Whole};
 pub use points::point;
-
 pub use whole::{whole_number, whole_with};
 pub use words::{Entry, Format, Kind, Lane, MessageName, Sender};
 
+#[cfg(test)]
+mod tests;

@@ -45,7 +45,10 @@ impl<'a> Piece<'a> {
     {
         let same = self.lane == other.lane && self.number == other.number;
         match format {
-            Format::Plain => same && !self.begin && other.index < self.index && self.index - other.index == 1,
+            Format::Plain => same
+                && !self.begin
+                && other.index < self.index
+                && self.index - other.index == 1,
             Format::Interleaved => {
                 let (mine, its) = (self.fragment(), other.fragment());
                 same && its < mine && mine - its == 1

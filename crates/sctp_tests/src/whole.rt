@@ -1,13 +1,14 @@
 //! Whole messages among kept chunks (RFC 9260, 6.9; RFC 8260, 2.2.2).
 
 ghost use Rattle.std.specs.Prelude.{IfOk};
-ghost use Rattle.sctp_tests.specs.Names.{lane_of};
-ghost use Rattle.sctp_tests.specs.Search.{IsLeft, IsRowAnswer, IsWholeFrom, IsNumberFrom, IsLower, IsWholeAnswer, IsWithAnswer};
-
-use std::alloc::{AllocError, Global};
+ghost use Rattle.sctp_tests.specs.Names.{format_of, lane_of};
+ghost use Rattle.sctp_tests.specs.Kept.{pieces_of};
+ghost use Rattle.sctp_tests.specs.Apart.{IsApart};
+ghost use Rattle.sctp_tests.specs.Search.{IsLeft, IsRowAnswer, IsWholeFrom, IsNumberFrom, IsLower, IsWholeAnswer, IsOnlyNumber, IsWithAnswer, IsOnlyWith};
 
 use crate::pieces::{Piece, Whole};
 use crate::words::{Format, Lane};
+use std::alloc::{AllocError, Global};
 
 /// What is still asked for once this chunk is taken.
 fn left<'a>(through: Option<Piece<'a>>, chunk: &Piece<'_>) -> Option<Piece<'a>>
@@ -61,7 +62,10 @@ fn whole_from<'a>(
     }
     let row = row_after(alloc, format, kept, chunk, left(through, chunk))?;
     match row {
-        Some(others) => Ok(Some(Whole { first: *chunk, others })),
+        Some(others) => Ok(Some(Whole {
+            first: *chunk,
+            others,
+        })),
         None => Ok(None),
     }
 }
@@ -110,11 +114,16 @@ pub fn whole_number<'a>(
     lane: Lane,
     number: u64,
 ) -> Result<Option<Whole<'a>>, AllocError>
-    ensures { IfOk result (λ whole. IsWholeAnswer format kept.now (lane_of lane) number whole) }
+    ensures is { IfOk result (λ whole. IsWholeAnswer format kept.now (lane_of lane) number whole) }
+    ensures only { IfOk result (λ whole. IsApart (format_of format) (pieces_of kept.now)
+        → IsOnlyNumber format kept.now (lane_of lane) number whole) }
 {
     let mut best = None;
     for chunk in kept {
-        best = lower(best, numbered_from(alloc, format, kept, chunk, lane, number)?);
+        best = lower(
+            best,
+            numbered_from(alloc, format, kept, chunk, lane, number)?,
+        );
     }
     Ok(best)
 }
@@ -126,7 +135,8 @@ pub fn whole_with<'a>(
     kept: &[Piece<'a>],
     wanted: &Piece<'a>,
 ) -> Result<Option<Whole<'a>>, AllocError>
-    ensures { IfOk result (λ whole. IsWithAnswer format kept.now wanted.now whole) }
+    ensures is { IfOk result (λ whole. IsWithAnswer format kept.now wanted.now whole) }
+    ensures only { IfOk result (λ whole. IsApart (format_of format) (pieces_of kept.now) → IsOnlyWith format kept.now wanted.now whole) }
 {
     for chunk in kept {
         if let Some(whole) = whole_from(alloc, format, kept, chunk, Some(*wanted))? {

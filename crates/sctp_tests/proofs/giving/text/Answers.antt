@@ -1,4 +1,4 @@
-use Rattle.std.proofs.Common.{sym, ◌∙◌, arith}
+use Rattle.std.proofs.Common.{sym}
 use Rattle.sctp_tests.proofs.GivingLemmas.{text_more}
 use Rattle.sctp_tests.proofs.giving.text.Goals as goal
 

@@ -1,18 +1,16 @@
-use Rattle.std.proofs.Common.{◌≡◌, ℕ, ◌+◌, true, false, List, [], ◌∷◌, length, Option, Some, None, sym, subst, arith}
-use Rattle.std.specs.List.{slice_get}
+use Rattle.std.proofs.Common.{◌≡◌, length, arith}
 use Rattle.std.proofs.lemmas.Option.{slice_get-get_or}
-use Rattle.sctp_tests.specs.Search.{IsLeft, IsRowAnswer, GoesOn}
-use Rattle.sctp_tests.specs.Kept.{piece_of, pieces_of}
+use Rattle.sctp_tests.specs.Kept.{pieces_of}
 use Rattle.sctp_tests.proofs.RowLemmas.{kept_has, more_apart, more_ending, goes_on, none_at_all, ended, ended_early}
 use Rattle.sctp_tests.proofs.whole.+row_after.Goals as goal
 use Rattle.sctp_tests.proofs.whole.+row_after.Goals.{in-None, in-Some, then-follows+in_ok-row+in_default, else-follows}
 
 pub returns-then-chunk : goal.returns-then-chunk
 returns-then-chunk t c = elim c.match-through.branch [
-  in-None w ↦
-  rw (w.result-is, w.in-None.is, w.new.ensures.items) (ended c.args.format c.args.kept.now c.args.chunk.now c.if-chunk.true)
+  | in-None w ↦
+      rw (w.result-is, w.in-None.is, w.new.ensures.items) (ended c.args.format c.args.kept.now c.args.chunk.now c.if-chunk.true)
   | in-Some w ↦
-  rw (w.result-is, w.in-Some.is) (ended_early c.args.format c.args.kept.now c.args.chunk.now w.in-Some.field-0 c.if-chunk.true)
+      rw (w.result-is, w.in-Some.is) (ended_early c.args.format c.args.kept.now c.args.chunk.now w.in-Some.field-0 c.if-chunk.true)
 ]
 
 pub returns-in-Some-2 : goal.returns-in-Some-2
@@ -30,12 +28,12 @@ loop-next-preserved t c =
     let kept = c.args.kept.now in
     let here = slice_get-get_or kept c.loop-next.next-index _ c.loop-next-test.true in
     elim c.if-follows.branch [
-      then-follows+in_ok-row+in_default w ↦
-      more_ending c.args.format kept c.args.chunk.now c.args.through c.loop-next.next-index c.loop-next.invariant _ here w.left.result w.left.ensures
-      (rw w.in_default.is at w.in_ok-row.ensures)
+      | then-follows+in_ok-row+in_default w ↦
+          more_ending c.args.format kept c.args.chunk.now c.args.through c.loop-next.next-index c.loop-next.invariant _ here w.left.result w.left.ensures
+          (rw w.in_default.is at w.in_ok-row.ensures)
       | else-follows w ↦
-      more_apart c.args.format kept c.args.chunk.now c.args.through c.loop-next.next-index c.loop-next.invariant _ here
-      (λ follows. let yes = c.follows.ensures.same.1 follows in let not = w.if-follows.false in cc)
+          more_apart c.args.format kept c.args.chunk.now c.args.through c.loop-next.next-index c.loop-next.invariant _ here
+          (λ follows. let yes = c.follows.ensures.same.1 follows in let not = w.if-follows.false in cc)
     ]
 
 pub returns : goal.returns
