@@ -1,0 +1,13 @@
+pub mod CumulativeLemmas
+pub mod NameLemmas
+pub mod ListLemmas
+pub mod PointLemmas
+pub mod RowLemmas
+pub mod OneWhole
+pub mod WholeLemmas
+pub mod GivingLemmas
+pub mod LaneLemmas
+pub mod StandingLemmas
+pub mod OneForward
+pub mod ForwardLemmas
+pub mod SkipLemmas

@@ -1,0 +1,24 @@
+//! The definitions of `sctp_model`, computed: a plain, slow program for each definition that is a function, with the
+//! definition itself as its contract, and tests that run it on examples written out by hand.
+//!
+//! Nothing here is part of an association. It shows that the definitions can be computed, and that they say what was meant.
+#![tactic(auto)]
+
+mod cumulative;
+mod forwards;
+mod giving;
+mod pieces;
+mod points;
+mod whole;
+mod words;
+
+pub use cumulative::cumulative_index;
+pub use forwards::{forward, skip_after};
+pub use giving::{Due, Handed, due_from};
+pub use pieces::{Piece, Whole};
+pub use points::point;
+pub use whole::{whole_number, whole_with};
+pub use words::{Entry, Format, Kind, Lane, MessageName, Sender};
+
+#[cfg(test)]
+mod tests;

@@ -1,0 +1,4 @@
+//! The examples, written out by hand.
+
+mod abandoning;
+mod handing_over;
