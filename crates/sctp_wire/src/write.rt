@@ -18,9 +18,9 @@ use crate::numbers::{append, append_half, append_word, append_zeros, padded};
 pub fn write_chunk(chunk: &Chunk<'_>, out: &mut Vec<u8>) -> Result<(), NoMemory>
     requires { Fits (chunk_meaning chunk.now) }
     ensures written { OnOk result (out.new.items ≡ out.old.items ++ written (chunk_meaning chunk.now)) }
-    ensures writes { Writes (written (chunk_meaning chunk.now)) (chunk_meaning chunk.now ∷ []) }
+    ensures writes { OnOk result (Writes (written (chunk_meaning chunk.now)) (chunk_meaning chunk.now ∷ [])) }
     // The bytes read alone give the chunk.
-    ensures reads { Reads (written (chunk_meaning chunk.now)) (chunk_meaning chunk.now ∷ []) }
+    ensures reads { OnOk result (Reads (written (chunk_meaning chunk.now)) (chunk_meaning chunk.now ∷ [])) }
     ensures refused { OnErr result (out.new.items ≡ out.old.items) }
     ensures memory { vec_len out.old + length (written (chunk_meaning chunk.now)) ≤ vec_capacity out.old → IsOk result }
 {

@@ -6,9 +6,6 @@ use Rattle.sctp_wire.specs.Writes.{written}
 use Rattle.sctp_wire.proofs.WriteLemmas.{reads_one, length-written}
 use Rattle.sctp_wire.proofs.write.write_chunk.Goals as goal
 
-pub returns-in_err-map_err-clause-reads : goal.returns-in_err-map_err-clause-reads
-returns-in_err-map_err-clause-reads c = reads_one (chunk_meaning c.args.chunk.now) c.requires
-
 pub returns-in_err-map_err-clause-memory : goal.returns-in_err-map_err-clause-memory
 returns-in_err-map_err-clause-memory c =
     let size = length-written (chunk_meaning c.args.chunk.now) in
