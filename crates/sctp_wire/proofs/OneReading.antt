@@ -1,11 +1,11 @@
 -- Bytes read as at most one list of chunks, or have one fault, never both: what `reading_of` computes.
-use Rattle.std.proofs.Common.{◌≡◌, ℕ, zero, suc, ◌+◌, ◌-◌, ◌*◌, ◌<◌, ◌≤◌, Bool, true, false, List, [], ◌∷◌, ◌++◌, length, drop, refl, sym, ap, ◌∙◌, subst, append_assoc, arith, length-append, length-drop, ◌⊎◌, inl, inr, Ok, Err}
+use Rattle.std.proofs.Common.{◌≡◌, ℕ, zero, suc, ◌+◌, ◌-◌, ◌<◌, ◌≤◌, List, [], ◌∷◌, ◌++◌, length, refl, sym, ap, ◌∙◌, subst, append_assoc, arith, length-append, ◌⊎◌, inl, inr, Ok, Err}
 use Rattle.std.specs.Prelude.{Result, IsOk}
 use Rattle.std.proofs.lemmas.List.{append-nil, drop_at}
 use Rattle.sctp_model.specs.Chunk.{ChunkMeaning}
 use Rattle.sctp_wire.specs.declared.fault.WireFault.{WireFault}
 use Rattle.sctp_wire.specs.declared.fault.WireFault.TheVariants.{Cut, LengthTooSmall, PaddingMissing, ChunkBody}
-use Rattle.sctp_wire.specs.Items.{AreBytes, padded}
+use Rattle.sctp_wire.specs.Items.{AreBytes}
 use Rattle.sctp_wire.specs.Reads.{ReadsChunk, Reads}
 use Rattle.sctp_wire.specs.FirstFault.{IsCut, IsTooSmall, IsUnpadded, IsMisshapen, FaultsAt, Faults}
 use Rattle.sctp_wire.specs.Reading.{chunk_at, moved, onto, followed, chunks_within, reading_of, AreChunks, chunks_or_none, chunks_of, offset_of}

@@ -1,13 +1,13 @@
 -- What is written is read again.
-use Rattle.std.proofs.Common.{◌≡◌, ℕ, zero, suc, ◌+◌, ◌-◌, ◌*◌, ◌/◌, ◌<◌, ◌≤◌, List, [], ◌∷◌, ◌++◌, length, take, replicate, refl, sym, ap, ◌∙◌, subst, append_assoc, arith, length-append}
+use Rattle.std.proofs.Common.{◌≡◌, ℕ, List, [], ◌∷◌, ◌++◌, length, replicate, refl, sym, ap, ◌∙◌, subst, append_assoc, arith, length-append}
 use Rattle.std.specs.List.{flat_map, AllByRecursion}
 use Rattle.std.proofs.Math.ListN.{length-replicate}
 use Rattle.std.proofs.lemmas.List.{append-nil}
 use Rattle.std.proofs.lemmas.List.Concat.{flat_map-append}
 use Rattle.sctp_model.specs.Chunk.{ChunkMeaning, Data, Sack, Unknown}
 use Rattle.sctp_wire.specs.Items.{half, padded, padding_after}
-use Rattle.sctp_wire.specs.Layouts.{kind_of, flags_of, value_of, chunk_length, Fits}
-use Rattle.sctp_wire.specs.Reads.{header, ReadsFlags, ReadsChunk, Reads}
+use Rattle.sctp_wire.specs.Layouts.{flags_of, value_of, chunk_length, Fits}
+use Rattle.sctp_wire.specs.Reads.{ReadsFlags, ReadsChunk, Reads}
 use Rattle.sctp_wire.specs.Writes.{written, Writes}
 use Rattle.sctp_wire.specs.Laws.{Join}
 use Rattle.sctp_wire.proofs.ItemLemmas.{length-half, all-append}

@@ -1,10 +1,7 @@
-use Rattle.std.proofs.Common.{◌≡◌, ℕ, ◌+◌, ◌-◌, List, ◌∙◌, refl, sym, ap, arith, length, length-append, subst}
+use Rattle.std.proofs.Common.{◌-◌, List, ◌∙◌, refl, sym, arith, length, subst}
 use Rattle.std.proofs.lemmas.Grind.{common_steps}
 use Rattle.sctp_model.specs.Chunk.{ChunkMeaning}
-use Rattle.sctp_wire.specs.ChunkTree.{chunk_meaning}
-use Rattle.sctp_wire.specs.FirstFault.{Faults}
 use Rattle.sctp_wire.specs.Reads.{Reads}
-use Rattle.sctp_wire.specs.Reading.{moved}
 use Rattle.sctp_wire.proofs.FrameLemmas.{begins_first, wrong_first, wrong_offset}
 use Rattle.sctp_wire.proofs.OneReading.{read_none, read_more, read_all, read_wrong, rest_bytes, begins_shorter, reading_of-ok, reading_of-err, chunks_of-ok, read_in_one_way, left_length}
 use Rattle.sctp_wire.proofs.read.read_chunks.Goals as goal
