@@ -62,9 +62,11 @@ pub fn read_chunks(bytes: &[u8]) -> Result<Chunks<'_>, WireFault>
     // It answers one of the two, with the chunks that the bytes are or with their fault.
     ensures exact { MatchResult result (λ chunks. Reads bytes.now chunks) (λ fault. Faults bytes.now fault) }
     // Where the bytes are chunks, it is these.
-    ensures chunks { (ms : List ChunkMeaning) → Reads bytes.now ms → MatchResult result (λ chunks. chunks ≡ ms) (λ _. ⊥) }
+    ensures chunks { (ms : List ChunkMeaning) → Reads bytes.now ms
+        → MatchResult result (λ chunks. chunks ≡ ms) (λ _. ⊥) }
     // Where they have a fault, it is this one.
-    ensures fault { (f : WireFault) → Faults bytes.now f → MatchResult result (λ _. ⊥) (λ fault. fault ≡ f) }
+    ensures fault { (f : WireFault) → Faults bytes.now f
+        → MatchResult result (λ _. ⊥) (λ fault. fault ≡ f) }
 {
     let mut rest = bytes;
     while !rest.is_empty() {
@@ -93,7 +95,8 @@ fn first_chunk(bytes: &[u8]) -> Result<(Chunk<'_>, &[u8]), WireFault>
 #[tactic(auto, unfolding(crate::specs::Reading::frame_at))]
 fn frame(bytes: &[u8]) -> Result<usize, WireFault>
     ensures exact { result ≡ frame_at bytes.now }
-    ensures whole { IfOk result (λ size. IsWhole bytes.now × (size ≡ stated_length bytes.now) × (size < 2 ^ 16)) }
+    ensures whole { IfOk result
+        (λ size. IsWhole bytes.now × (size ≡ stated_length bytes.now) × (size < 2 ^ 16)) }
 {
     if bytes.len() < 4 {
         return Err(WireFault::Cut { offset: 0 });

@@ -52,6 +52,7 @@ fn data_is_written(rt: HostRuntime) -> Result<(), Fail> {
     let mut out = Vec::new(rt.alloc());
     let chunk = Chunk::Data(hi());
     assert!(rt; chunk.fits());
+    assert_eq!(rt; chunk.written_length(), 20);
     write_chunk(&chunk, &mut out)?;
     assert_eq!(rt; out.as_slice(), HI.as_slice());
     Ok(())
