@@ -1,6 +1,6 @@
 //! Chunks from bytes: header, length and padding in the stated order, then the body (RFC 9260, 3.2).
 
-ghost use Rattle.std.specs.Prelude.{◌≡◌, ◌≤◌, length, ◌<◌, ◌^◌, MatchResult, IfOk, List, Ok, Err};
+ghost use Rattle.std.specs.Prelude.{◌≡◌, ◌*◌, ◌≤◌, length, ◌<◌, ◌^◌, MatchResult, IfOk, List, Ok, Err};
 ghost use Rattle.std.specs.Iterator.{YieldsFirstBy, item_count};
 ghost use Rattle.sctp_model.specs.Chunk.{ChunkMeaning};
 ghost use Rattle.sctp_wire.specs.ChunkTree.{chunk_meaning};
@@ -61,6 +61,8 @@ impl<'a> Iterator for Chunks<'a> {
 pub fn read_chunks(bytes: &[u8]) -> Result<Chunks<'_>, WireFault>
     // It answers one of the two, with the chunks that the bytes are or with their fault.
     ensures exact { MatchResult result (λ chunks. Reads bytes.now chunks) (λ fault. Faults bytes.now fault) }
+    // Each takes four bytes at least.
+    ensures few { IfOk result (λ chunks. 4 * length chunks ≤ length bytes.now) }
     // Where the bytes are chunks, it is these.
     ensures chunks { (ms : List ChunkMeaning) → Reads bytes.now ms
         → MatchResult result (λ chunks. chunks ≡ ms) (λ _. ⊥) }
