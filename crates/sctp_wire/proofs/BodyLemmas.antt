@@ -1,16 +1,16 @@
 -- A chunk's flags and value are read in one way, and what is read has that layout.
-use Rattle.std.proofs.Common.{◌≡◌, ℕ, zero, suc, ◌+◌, ◌-◌, ◌*◌, ◌/◌, ◌%◌, ◌<◌, ◌≤◌, ◌^◌, Bool, true, false, List, [], ◌∷◌, ◌++◌, length, take, drop, refl, sym, ap, ◌∙◌, subst, append_assoc, arith, lit<, ⊎_elim, ◌≢◌, length-append, length-drop}
-use Rattle.std.specs.Prelude.{not, bit_and, ◌==◌, ◌&&◌, ◌||◌, nat_le, if◌then◌else◌}
+use Rattle.std.proofs.Common.{◌≡◌, ℕ, zero, suc, ◌+◌, ◌*◌, ◌/◌, ◌<◌, ◌≤◌, ◌^◌, Bool, true, false, List, ◌++◌, length, take, drop, refl, ap, arith, lit<, ⊎_elim, ◌≢◌, length-append, length-drop}
+use Rattle.std.specs.Prelude.{not, ◌==◌, ◌&&◌, ◌||◌}
 use Rattle.std.proofs.lemmas.Bool.Decides.{eqb_tells}
 use Rattle.std.specs.Int.{bit_at}
-use Rattle.std.specs.List.{flat_map, AllByRecursion}
+use Rattle.std.specs.List.{flat_map}
 use Rattle.std.proofs.lemmas.Nat.Bits.{and_pow, bit_at-lt}
 use Rattle.std.proofs.lemmas.List.{drop-drop, take-append-drop, take_at, drop_at, length-take-le}
 use Rattle.std.proofs.lemmas.Bool.{leb-true, le-leb}
 use Rattle.std.proofs.lemmas.Grind.{common_steps}
-use Rattle.sctp_model.specs.Chunk.{PieceMeaning, SackMeaning, BlockMeaning, ChunkMeaning, Data, Sack, Unknown}
-use Rattle.sctp_wire.specs.Items.{half, word, half_at, word_at, block_bytes, IsBlock, IsWord, blocks_in, words_in, AreBytes}
-use Rattle.sctp_wire.specs.Layouts.{is_known, kind_of, flag, data_flags, data_value, sack_value, value_of, chunk_length, IsDataPiece, IsSack, IsUnknown, IsInRange, Fits}
+use Rattle.sctp_model.specs.Chunk.{PieceMeaning, SackMeaning, ChunkMeaning, Data, Sack, Unknown}
+use Rattle.sctp_wire.specs.Items.{half, word, half_at, block_bytes, blocks_in, words_in, AreBytes}
+use Rattle.sctp_wire.specs.Layouts.{kind_of, flag, data_flags, data_value, sack_value, value_of, IsDataPiece, IsSack, IsInRange, Fits}
 use Rattle.sctp_wire.specs.Reads.{ReadsFlags}
 use Rattle.sctp_wire.specs.FirstFault.{is_sack_value, is_laid_out}
 use Rattle.sctp_wire.specs.Reading.{has_flag, data_at, sack_at, body_at}

@@ -1,21 +1,20 @@
 -- The first chunk of bytes: where its frame is right it is read, and what is read is a chunk; else it is wrong
 -- by the first check that fails.
-use Rattle.std.proofs.Common.{◌≡◌, ℕ, zero, suc, ◌+◌, ◌-◌, ◌*◌, ◌/◌, ◌%◌, ◌<◌, ◌≤◌, ◌^◌, ◌⊎◌, inl, inr, Bool, true, false, List, [], ◌∷◌, ◌++◌, length, take, drop, refl, sym, ap, ◌∙◌, subst, append_assoc, arith, length-append, length-drop, ⊎_elim, Ok, Err}
-use Rattle.std.specs.Prelude.{Result, nat_lt, slice_index, slice_range}
+use Rattle.std.proofs.Common.{◌≡◌, ℕ, suc, ◌+◌, ◌-◌, ◌<◌, ◌≤◌, ◌^◌, inl, inr, Bool, true, false, List, [], ◌∷◌, ◌++◌, length, take, drop, refl, sym, ap, ◌∙◌, subst, append_assoc, arith, length-append, length-drop, ⊎_elim, Ok, Err}
+use Rattle.std.specs.Prelude.{Result, slice_index}
 use Rattle.std.proofs.lemmas.List.{drop-drop, take-append-drop, take_at, drop_at, length-take-le}
 use Rattle.std.proofs.lemmas.Bool.{cases_lt, lt-ltb, le-ltb}
-use Rattle.std.proofs.lemmas.Grind.{common_steps}
 use Rattle.sctp_model.specs.Chunk.{ChunkMeaning}
 use Rattle.sctp_wire.specs.declared.fault.WireFault.{WireFault}
 use Rattle.sctp_wire.specs.declared.fault.WireFault.TheVariants.{Cut, LengthTooSmall, PaddingMissing, ChunkBody}
-use Rattle.sctp_wire.specs.Items.{half, half_at, padded, padding_after, AreBytes}
+use Rattle.sctp_wire.specs.Items.{half, padded, padding_after, AreBytes}
 use Rattle.sctp_wire.specs.Layouts.{kind_of, value_of, chunk_length, Fits}
 use Rattle.sctp_wire.specs.Reads.{header, ReadsFlags, ReadsChunk}
 use Rattle.sctp_wire.specs.FirstFault.{stated_length, value_at, is_laid_out, HasHeader, IsCut, IsTooSmall, IsUnpadded, IsMisshapen}
 use Rattle.sctp_wire.specs.Reading.{IsWhole}
 use Rattle.sctp_wire.specs.Reading.{body_at, frame_at, framed, chunk_at, offset_of}
 use Rattle.sctp_wire.proofs.ItemLemmas.{half_at-half, length-half, half-half_at, half_at-lt, AreBytes-drop, AreBytes-take}
-use Rattle.sctp_wire.proofs.BodyLemmas.{IsBody, body_of, IsReadBack, body_read}
+use Rattle.sctp_wire.proofs.BodyLemmas.{body_of, body_read}
 
 -- ---- the checks of the frame, in order
 

@@ -1,16 +1,18 @@
 -- Bytes read as at most one list of chunks, or have one fault, never both: what `reading_of` computes.
-use Rattle.std.proofs.Common.{◌≡◌, ℕ, zero, suc, ◌+◌, ◌-◌, ◌*◌, ◌<◌, ◌≤◌, Bool, true, false, List, [], ◌∷◌, ◌++◌, length, drop, refl, sym, ap, ◌∙◌, subst, append_assoc, arith, length-append, length-drop, ◌⊎◌, inl, inr, Ok, Err}
+use Rattle.std.proofs.Common.{◌≡◌, ℕ, zero, suc, ◌+◌, ◌-◌, ◌*◌, ◌<◌, ◌≤◌, List, [], ◌∷◌, ◌++◌, length, refl, sym, ap, ◌∙◌, subst, append_assoc, arith, length-append, ◌⊎◌, inl, inr, Ok, Err}
 use Rattle.std.specs.Prelude.{Result, IsOk}
 use Rattle.std.proofs.lemmas.List.{append-nil, drop_at}
 use Rattle.sctp_model.specs.Chunk.{ChunkMeaning}
 use Rattle.sctp_wire.specs.declared.fault.WireFault.{WireFault}
 use Rattle.sctp_wire.specs.declared.fault.WireFault.TheVariants.{Cut, LengthTooSmall, PaddingMissing, ChunkBody}
-use Rattle.sctp_wire.specs.Items.{AreBytes, padded}
+use Rattle.sctp_wire.specs.Items.{AreBytes}
 use Rattle.sctp_wire.specs.Reads.{ReadsChunk, Reads}
 use Rattle.sctp_wire.specs.FirstFault.{IsCut, IsTooSmall, IsUnpadded, IsMisshapen, FaultsAt, Faults}
 use Rattle.sctp_wire.specs.Reading.{chunk_at, moved, onto, followed, chunks_within, reading_of, AreChunks, chunks_or_none, chunks_of, offset_of}
 use Rattle.sctp_wire.specs.Laws.{ReadInOneWay}
-use Rattle.sctp_wire.proofs.ItemLemmas.{AreBytes-drop}
+use Rattle.sctp_wire.specs.Layouts.{value_of, chunk_length}
+use Rattle.sctp_wire.specs.Items.{half}
+use Rattle.sctp_wire.proofs.ItemLemmas.{AreBytes-drop, length-half}
 use Rattle.sctp_wire.proofs.FrameLemmas.{IsWrong, BeginsWith, begins_first, wrong_first, chunk_at-chunk, chunk_at-cut, chunk_at-small, chunk_at-unpadded, chunk_at-misshapen, chunk_at-leaves, LeavesAtMost, chunk-some}
 
 same_followed : (k whole : ℕ) (r : Result (ChunkMeaning × List ℕ) WireFault) (f g : List ℕ → Result (List ChunkMeaning) WireFault) → LeavesAtMost k r
@@ -221,3 +223,13 @@ read_in_one_way bytes = record {
   never_both = λ ms f p q. let one = reading_of-ok bytes ms p in let other = reading_of-err bytes f q in cc;
   one_of_them = λ fits. read_on (length bytes) bytes bytes (omega arith) fits (read_none bytes);
 }
+
+-- each chunk takes at least its header
+chunk_four : (chunk : List ℕ) (m : ChunkMeaning) → ReadsChunk chunk m → 4 ≤ length chunk
+chunk_four chunk m r =
+    rw r.layout (omega (arith, length-append (half (chunk_length m)) (value_of m ++ r.padding), length-half (chunk_length m)))
+
+pub reads_few : (ms : List ChunkMeaning) (bytes : List ℕ) → Reads bytes ms → 4 * length ms ≤ length bytes
+reads_few [] bytes e = omega arith
+reads_few (m ∷ ms) bytes (chunk, rest, joined, reads, others) =
+    rw joined (omega (arith, length-append chunk rest, chunk_four chunk m reads, reads_few ms rest others))

@@ -1,5 +1,5 @@
 -- The layout of each chunk, by its type: type, flags and value (RFC 9260, 3.2, 3.3.1 and 3.3.4).
-use Rattle.std.specs.Prelude.{◌≡◌, ℕ, ◌+◌, ◌*◌, ◌<◌, ◌^◌, Bool, true, false, if◌then◌else◌, ◌==◌, ◌||◌, List, ◌∷◌, ◌++◌, length}
+use Rattle.std.specs.Prelude.{◌≡◌, ℕ, ◌+◌, ◌<◌, ◌^◌, Bool, false, if◌then◌else◌, ◌==◌, ◌||◌, List, ◌++◌, length}
 use Rattle.std.specs.List.{flat_map, AllByRecursion}
 use Rattle.sctp_model.specs.Chunk.{PieceMeaning, SackMeaning, ChunkMeaning, Data, Sack, Unknown}
 use Rattle.sctp_wire.specs.declared.codes.TheConstants.{DATA, SACK, IMMEDIATE, UNORDERED, BEGIN, END}

@@ -1,6 +1,6 @@
 -- How chunks are read, from left to right, as a function: what `Chunks` shows as the list still to come.
 -- `Reads` and `Faults` say what it is.
-use Rattle.std.specs.Prelude.{ℕ, zero, suc, ◌≤◌, ◌+◌, ◌-◌, ◌*◌, ◌/◌, Bool, true, false, not, if◌then◌else◌, ◌==◌, nat_lt, List, [], ◌∷◌, length, take, drop, slice_index, Result, Ok, Err, IsOk, bit_and}
+use Rattle.std.specs.Prelude.{ℕ, zero, suc, ◌≤◌, ◌+◌, ◌-◌, ◌*◌, Bool, not, if◌then◌else◌, ◌==◌, nat_lt, List, [], ◌∷◌, length, take, drop, slice_index, Result, Ok, Err, IsOk, bit_and}
 use Rattle.sctp_model.specs.Chunk.{PieceMeaning, SackMeaning, ChunkMeaning, Data, Sack, Unknown}
 use Rattle.sctp_wire.specs.declared.codes.TheConstants.{DATA, SACK, IMMEDIATE, UNORDERED, BEGIN, END}
 use Rattle.sctp_wire.specs.declared.fault.WireFault.{WireFault}

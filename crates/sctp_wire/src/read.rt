@@ -1,6 +1,6 @@
 //! Chunks from bytes: header, length and padding in the stated order, then the body (RFC 9260, 3.2).
 
-ghost use Rattle.std.specs.Prelude.{◌≡◌, ◌≤◌, length, ◌<◌, ◌^◌, MatchResult, IfOk, List, Ok, Err};
+ghost use Rattle.std.specs.Prelude.{◌≡◌, ◌*◌, ◌≤◌, length, ◌<◌, ◌^◌, MatchResult, IfOk, List, Ok, Err};
 ghost use Rattle.std.specs.Iterator.{YieldsFirstBy, item_count};
 ghost use Rattle.sctp_model.specs.Chunk.{ChunkMeaning};
 ghost use Rattle.sctp_wire.specs.ChunkTree.{chunk_meaning};
@@ -61,10 +61,14 @@ impl<'a> Iterator for Chunks<'a> {
 pub fn read_chunks(bytes: &[u8]) -> Result<Chunks<'_>, WireFault>
     // It answers one of the two, with the chunks that the bytes are or with their fault.
     ensures exact { MatchResult result (λ chunks. Reads bytes.now chunks) (λ fault. Faults bytes.now fault) }
+    // Each takes four bytes at least.
+    ensures few { IfOk result (λ chunks. 4 * length chunks ≤ length bytes.now) }
     // Where the bytes are chunks, it is these.
-    ensures chunks { (ms : List ChunkMeaning) → Reads bytes.now ms → MatchResult result (λ chunks. chunks ≡ ms) (λ _. ⊥) }
+    ensures chunks { (ms : List ChunkMeaning) → Reads bytes.now ms
+        → MatchResult result (λ chunks. chunks ≡ ms) (λ _. ⊥) }
     // Where they have a fault, it is this one.
-    ensures fault { (f : WireFault) → Faults bytes.now f → MatchResult result (λ _. ⊥) (λ fault. fault ≡ f) }
+    ensures fault { (f : WireFault) → Faults bytes.now f
+        → MatchResult result (λ _. ⊥) (λ fault. fault ≡ f) }
 {
     let mut rest = bytes;
     while !rest.is_empty() {
@@ -93,7 +97,8 @@ fn first_chunk(bytes: &[u8]) -> Result<(Chunk<'_>, &[u8]), WireFault>
 #[tactic(auto, unfolding(crate::specs::Reading::frame_at))]
 fn frame(bytes: &[u8]) -> Result<usize, WireFault>
     ensures exact { result ≡ frame_at bytes.now }
-    ensures whole { IfOk result (λ size. IsWhole bytes.now × (size ≡ stated_length bytes.now) × (size < 2 ^ 16)) }
+    ensures whole { IfOk result
+        (λ size. IsWhole bytes.now × (size ≡ stated_length bytes.now) × (size < 2 ^ 16)) }
 {
     if bytes.len() < 4 {
         return Err(WireFault::Cut { offset: 0 });

@@ -1,8 +1,8 @@
 //! Worked chunks both ways, and the faults of bytes that are none. Bytes are spaced by field.
 
 use crate::{
-    Blocks, Chunk, GapBlock, Piece, Sack, WireFault, Words, one_reading, put_block, put_word,
-    read_chunks, write_chunk, written_reads,
+    Blocks, Chunk, GapBlock, Piece, Sack, WireFault, Words, chunks_join, one_reading, put_block,
+    put_word, read_chunks, write_chunk, written_reads,
 };
 use std::test::Fail;
 
@@ -52,6 +52,7 @@ fn data_is_written(rt: HostRuntime) -> Result<(), Fail> {
     let mut out = Vec::new(rt.alloc());
     let chunk = Chunk::Data(hi());
     assert!(rt; chunk.fits());
+    assert_eq!(rt; chunk.written_length(), 20);
     write_chunk(&chunk, &mut out)?;
     assert_eq!(rt; out.as_slice(), HI.as_slice());
     Ok(())
@@ -229,4 +230,5 @@ fn a_chunk_past_its_bits_does_not_fit(rt: HostRuntime) -> Result<(), Fail> {
 fn the_laws_are_there() {
     one_reading();
     written_reads();
+    chunks_join();
 }

@@ -18,11 +18,13 @@ use crate::numbers::{append, append_half, append_word, append_zeros, padded};
 pub fn write_chunk(chunk: &Chunk<'_>, out: &mut Vec<u8>) -> Result<(), NoMemory>
     requires { Fits (chunk_meaning chunk.now) }
     ensures written { OnOk result (out.new.items ≡ out.old.items ++ written (chunk_meaning chunk.now)) }
-    ensures writes { Writes (written (chunk_meaning chunk.now)) (chunk_meaning chunk.now ∷ []) }
+    ensures writes { OnOk result (Writes (written (chunk_meaning chunk.now)) (chunk_meaning chunk.now ∷ [])) }
     // The bytes read alone give the chunk.
-    ensures reads { Reads (written (chunk_meaning chunk.now)) (chunk_meaning chunk.now ∷ []) }
+    ensures reads { OnOk result (Reads (written (chunk_meaning chunk.now)) (chunk_meaning chunk.now ∷ [])) }
     ensures refused { OnErr result (out.new.items ≡ out.old.items) }
-    ensures memory { vec_len out.old + length (written (chunk_meaning chunk.now)) ≤ vec_capacity out.old → IsOk result }
+    // It fails only where that room was missing.
+    ensures memory { vec_len out.old + length (written (chunk_meaning chunk.now)) ≤ vec_capacity out.old
+        → IsOk result }
 {
     let size = size_of_chunk(chunk);
     let whole = padded(size);
@@ -31,6 +33,16 @@ pub fn write_chunk(chunk: &Chunk<'_>, out: &mut Vec<u8>) -> Result<(), NoMemory>
     append_value(out, chunk);
     append_zeros(out, whole - size);
     Ok(())
+}
+
+impl Chunk<'_> {
+    /// How many bytes `write_chunk` appends, with the padding.
+    pub fn written_length(&self) -> usize
+        requires { Fits (chunk_meaning self.now) }
+        ensures { result ≡ length (written (chunk_meaning self.now)) }
+    {
+        padded(size_of_chunk(self))
+    }
 }
 
 /// The length of header and value, without padding.
@@ -132,9 +144,11 @@ fn append_data(out: &mut Vec<u8>, piece: &Piece<'_>)
 fn append_sack(out: &mut Vec<u8>, sack: &Sack<'_>)
     requires blocks { length sack.now.blocks < 2 ^ 16 }
     requires duplicates { length sack.now.duplicates < 2 ^ 16 }
-    requires spare { vec_len out.old + 12 + 4 * (length sack.now.blocks + length sack.now.duplicates) ≤ vec_capacity out.old }
+    requires spare { vec_len out.old + 12 + 4 * (length sack.now.blocks + length sack.now.duplicates)
+        ≤ vec_capacity out.old }
     ensures items { out.new.items ≡ out.old.items ++ sack_value (sack_meaning sack.now) }
-    ensures len { vec_len out.new ≡ vec_len out.old + 12 + 4 * (length sack.now.blocks + length sack.now.duplicates) }
+    ensures len { vec_len out.new
+        ≡ vec_len out.old + 12 + 4 * (length sack.now.blocks + length sack.now.duplicates) }
     ensures room { vec_capacity out.old ≤ vec_capacity out.new }
 {
     append_word(out, sack.cumulative);

@@ -1,4 +1,4 @@
-use Rattle.std.proofs.Common.{◌≡◌, ℕ, arith}
+use Rattle.std.proofs.Common.{arith}
 use Rattle.sctp_wire.specs.ChunkTree.{piece_meaning, sack_meaning}
 use Rattle.sctp_wire.proofs.BodyLemmas.{length-data_value, length-sack_value}
 use Rattle.sctp_wire.proofs.write.append_value.Goals as goal
