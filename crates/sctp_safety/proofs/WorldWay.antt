@@ -1,5 +1,5 @@
 -- One direction of the world of two ends, as a direction that moves lead to.
-use Rattle.std.proofs.Common.{zero, slice_get, suc, ◌≡◌, ℕ, false, List, [], ◌∷◌, length, Some, inl, inr}
+use Rattle.std.proofs.Common.{◌≡◌, ℕ, zero, suc, false, List, [], ◌∷◌, length, slice_get, Some, inl, inr}
 use Rattle.sctp_model.specs.Words.{Has, item_at}
 use Rattle.sctp_model.specs.Format.{Plain, ordered_lane}
 use Rattle.sctp_model.specs.Pieces.{Piece}
