@@ -17,7 +17,7 @@ const UNORDERED: Lane = Lane {
     kind: Kind::Unordered,
 };
 
-/// A chunk of a lane with its flags as letters.
+/// A chunk with its flags B and E.
 fn chunk<'a>(
     index: u64,
     lane: Lane,
