@@ -1,1 +1,5 @@
 mod WrittenLines
+mod WordLemmas
+mod HexDigits
+mod Decimals
+mod LineLemmas

@@ -6,3 +6,5 @@ pub mod Numerals
 pub mod OutcomeLines
 pub mod WrittenWords
 pub mod ReportText
+pub mod Lines
+pub mod ReadLines

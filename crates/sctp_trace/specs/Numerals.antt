@@ -1,5 +1,5 @@
 -- Numbers and bytes as words of a script.
-use Rattle.std.specs.Prelude.{◌≡◌, ℕ, ◌<◌, List, [], ◌∷◌, length, slice_index, codes}
+use Rattle.std.specs.Prelude.{◌≡◌, ℕ, ◌<◌, Bool, ◌&&◌, ◌||◌, nat_le, List, [], ◌∷◌, length, slice_index, codes}
 use Rattle.std.specs.Str.Parse.{IsNumeral, digits_value}
 use Rattle.hex.specs.Hex.{encode_lower, IsBytes}
 
@@ -17,3 +17,7 @@ hex_word (b ∷ bs) = encode_lower (b ∷ bs)
 -- the word says these bytes
 abbrev pub IsHex : List ℕ → List ℕ → Type 0
 IsHex word bytes = IsBytes bytes × (word ≡ hex_word bytes)
+
+-- one of the digits `0` to `9` and `a` to `f`
+abbrev pub is_lower_digit : ℕ → Bool
+is_lower_digit c = (nat_le 48 c && nat_le c 57) || (nat_le 97 c && nat_le c 102)
