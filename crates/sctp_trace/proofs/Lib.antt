@@ -1,0 +1,5 @@
+mod WrittenLines
+mod WordLemmas
+mod HexDigits
+mod Decimals
+mod LineLemmas
