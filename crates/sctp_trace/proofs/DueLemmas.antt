@@ -27,8 +27,10 @@ due-over r s n m x ms here one numbered least rest = Over n m x [] ms whole lowe
     within : (y : Piece) → Has (x ∷ []) y → Has r.kept y
     within y (inl e) = subst (λ (z : Piece). Has r.kept z) e here
     within y (inr a) = absurd a
+
     whole : IsWholeNumber Plain r.kept (ordered_lane s) n (x ∷ [])
     whole = ((one.begin, one.end), within, (numbered.lane, numbered.number))
+
     lowest : IsLowest Plain r.kept (ordered_lane s) n (x ∷ [])
     lowest = λ y ys w. least y (w.1 y (inl refl)) (record { lane = w.2.0; number = w.2.1 })
 

@@ -57,6 +57,7 @@ lowest-take kept s n k best p l at st nu small lower h =
         let one = ltb-true p.index b.1 low in
         let two = found.3 i q less qat qs qn in
         omega arith
+
     go : (i : ℕ) (q : KeptPiece) → IsAt kept i q → q.stream ≡ s → q.number ≡ n → (i < k) ⊎ (k ≤ i) → i < suc k → p.index ≤ q.index
     go i q qat qs qn (inl less) li = earlier best lower h i q less qat qs qn
     go i q qat qs qn (inr more) li =

@@ -3,7 +3,7 @@ use Rattle.std.proofs.Common.{◌≡◌, ℕ, suc, ◌+◌, ◌-◌, ◌<◌, �
 use Rattle.std.specs.Prelude.{reverse, slice_set, IsSome, ◌↔◌, nat_lt}
 use Rattle.std.specs.Option.{option_to_list}
 use Rattle.std.proofs.lemmas.Bool.{cases_eq, cases_lt, and_parts, lt-ltb, or_parts, leb-false, lt-leb}
-use Rattle.std.proofs.lemmas.List.{get_or-set_same, get_or-set_other, get_or_past, length-set, set-get_or, nil_from_length, get_or-map}
+use Rattle.std.proofs.lemmas.List.{get_or-set_same, get_or-set_other, get_or_past, length-set, set-get_or, nil_from_length, get_or-map, map-set}
 use Rattle.sctp_model.specs.Words.{at}
 use Rattle.sctp_model.specs.Format.{Plain, ordered_lane}
 use Rattle.sctp_model.specs.Pieces.{Piece}
@@ -130,14 +130,19 @@ stands-taken k v seen p left after keeps there records over = (t, takes, stands)
   where
     x : Piece
     x = whole_piece p
+
     s : ℕ
     s = p.stream
+
     t : ReceiverView
     t = view_taken v s x over.handed after.next
+
     turned : x ∷ v.kept ≡ reverse (k.pieces ++ x ∷ [])
     turned = ap (λ (ys : List Piece). x ∷ ys) keeps.kept ∙ sym (reverse-push k.pieces x)
+
     takes : Takes Plain v x t
     takes = (over.handed, after.next, rw (keeps.next s) (over.due (record (recorded v x) { kept = x ∷ v.kept }) turned (keeps.skip (ordered_lane s))), refl)
+
     stands : KeepsView (record { seen = seen; pieces = left; streams = slice_set k.streams s after; buffer = k.buffer }) t
     stands = record {
       seen = records v.seen keeps.seen;
@@ -189,11 +194,11 @@ room-is k v keeps =
 
 -- ---- a DATA, row by row
 
-pub answer-duplicate : (k : ReceiverKept) (v : ReceiverView) (p : PieceMeaning) → KeepsView k v → is_one_message p ≡ true → p.stream < length k.streams →
-    is_reached k.seen p.tsn ≡ true → (t : ReceiverView) × IsAnswered v p answer.Duplicate t × KeepsView k t
-answer-duplicate k v p keeps one there reached =
+pub answer-duplicate : (k k' : ReceiverKept) (v : ReceiverView) (p : PieceMeaning) → k ≡ k' → KeepsView k v → is_one_message p ≡ true →
+    p.stream < length k.streams → is_reached k.seen p.tsn ≡ true → (t : ReceiverView) × IsAnswered v p answer.Duplicate t × KeepsView k' t
+answer-duplicate k k' v p e keeps one there reached =
     let dup = duplicate-is k v p.tsn keeps reached in
-    (v, (taken-is v p one (rw keeps.streams there), dup, world.Duplicate dup), keeps)
+    (v, (taken-is v p one (rw keeps.streams there), dup, world.Duplicate dup), subst (λ (x : ReceiverKept). KeepsView x v) e keeps)
 
 pub answer-passed : (k : ReceiverKept) (v : ReceiverView) (p : PieceMeaning) (seen : SeenKept) → KeepsView k v → is_one_message p ≡ true →
     p.stream < length k.streams → is_reached k.seen p.tsn ≡ false → p.number < (stream_at k.streams p.stream).next → Records k.seen seen p.tsn →
@@ -203,17 +208,18 @@ answer-passed k v p seen keeps one there reached behind records =
     let less : p.number < v.next p.stream = rw (keeps.next p.stream) behind in
     (recorded v (piece_said p), (taken-is v p one (rw keeps.streams there), (new, less), world.Passed new less), stands-passed k v seen (piece_said p) keeps records)
 
-pub answer-taken : (k : ReceiverKept) (v : ReceiverView) (p : PieceMeaning) (seen : SeenKept) (left : List Piece) (after : StreamKept) → KeepsView k v →
+pub answer-taken : (k : ReceiverKept) (v : ReceiverView) (p : PieceMeaning) (seen : SeenKept) (left : List Piece) (after : StreamKept) (streams : List StreamKept) →
+    slice_set k.streams p.stream after ≡ streams → KeepsView k v →
     is_one_message p ≡ true → p.stream < length k.streams → is_reached k.seen p.tsn ≡ false → (stream_at k.streams p.stream).next ≤ p.number →
     Records k.seen seen p.tsn → HandsOver p.stream (k.pieces ++ whole_piece p ∷ []) (stream_at k.streams p.stream) left after →
     (t : ReceiverView) × IsAnswered v p answer.Taken t
-    × KeepsView (record { seen = seen; pieces = left; streams = slice_set k.streams p.stream after; buffer = k.buffer }) t
-answer-taken k v p seen left after keeps one there reached ahead records over =
+    × KeepsView (record { seen = seen; pieces = left; streams = streams; buffer = k.buffer }) t
+answer-taken k v p seen left after streams e keeps one there reached ahead records over =
     let new = duplicate-not k v p.tsn keeps reached in
     let least : v.next p.stream ≤ p.number = rw (keeps.next p.stream) ahead in
     let made = stands-taken k v seen p left after keeps there records over in
     let takes : Takes Plain v (piece_said p) made.0 = subst (λ (x : Piece). Takes Plain v x made.0) (whole-is p one) made.1 in
-    (made.0, (taken-is v p one (rw keeps.streams there), (new, least), world.Taken made.0 new least takes), made.2)
+    (made.0, (taken-is v p one (rw keeps.streams there), (new, least), world.Taken made.0 new least takes), subst (λ (ss : List StreamKept). KeepsView (record { seen = seen; pieces = left; streams = ss; buffer = k.buffer }) made.0) e made.2)
 
 -- ---- a message taken by the user
 
@@ -222,24 +228,33 @@ stream-is a b next waiting =
     subst (λ (n : ℕ). a ≡ record { next = n; waiting = b.waiting }) next
     (subst (λ (ws : List Handed). a ≡ record { next = a.next; waiting = ws }) waiting refl)
 
-pub answer-take : (k : ReceiverKept) (v : ReceiverView) (s : ℕ) (r : Option Message) (old new : List Message) (after : StreamKept) → KeepsView k v →
+pub answer-take : (k : ReceiverKept) (v : ReceiverView) (s : ℕ) (r : Option Message) (old new : List Message) (after : StreamKept) (streams : List StreamKept) →
+    slice_set k.streams s after ≡ streams → KeepsView k v →
     s < length k.streams → (stream_at k.streams s).waiting ≡ map handed_of old → after.next ≡ (stream_at k.streams s).next →
     after.waiting ≡ map handed_of new → old ≡ option_to_list r ++ new → (IsSome r ↔ (0 < length old)) →
-    (t : ReceiverView) × TakeLeaves v s r t × KeepsView (record k { streams = slice_set k.streams s after }) t
-answer-take k v s None old new after keeps there waits next left items some =
+    (t : ReceiverView) × TakeLeaves v s r t × KeepsView (record k { streams = streams }) t
+answer-take k v s None old new after streams e keeps there waits next left items some =
     let none : length old ≡ 0 = go (cases_lt 0 (length old)) in
     let empty = nil_from_length old none in
     let same = stream-is after (stream_at k.streams s) next (left ∙ ap (map handed_of) (sym items) ∙ sym waits) in
-    (v, (keeps.waiting s ∙ waits ∙ ap (map handed_of) empty, refl), stands-same k v s after keeps same)
+    (v, (keeps.waiting s ∙ waits ∙ ap (map handed_of) empty, refl), subst (λ (ss : List StreamKept). KeepsView (record k { streams = ss }) v) e (stands-same k v s after keeps same))
   where
     go : (0 < length old) ⊎ (length old ≤ 0) → length old ≡ 0
-    go (inl l) = absurd (some.1 l)
+    go (inl l) = absurd (let h : IsSome {T = Message} None = some.1 l in cc)
     go (inr l) = omega arith
-answer-take k v s (Some m) old new after keeps there waits next left items some =
-    (taken_from v s (handed_of m) (map handed_of new), (map handed_of new, keeps.waiting s ∙ waits ∙ ap (map handed_of) items, refl), stands-take k v s (handed_of m) (map handed_of new) after keeps there next left)
+answer-take k v s (Some m) old new after streams e keeps there waits next left items some =
+    let t : ReceiverView = taken_from v s (handed_of m) (map handed_of new) in
+    let stands = stands-take k v s (handed_of m) (map handed_of new) after keeps there next left in
+    (t, (map handed_of new, keeps.waiting s ∙ waits ∙ ap (map handed_of) items, refl), subst (λ (ss : List StreamKept). KeepsView (record k { streams = ss }) t) e stands)
 
 -- a stream that was read
 pub stream-read : (streams : List InboundStream) (s i : ℕ) (x : InboundStream) → i ≡ s → i < length streams → x ≡ get_or streams i x →
     stream_at (map stream_of streams) s ≡ stream_of x
 stream-read streams s i x e l at =
     subst (λ (j : ℕ). stream_at (map stream_of streams) j ≡ stream_of x) e (get_or-map stream_of streams i x (record { next = 0; waiting = [] }) l ∙ ap stream_of (sym at))
+
+-- a stream that was written back
+pub stream-written : (streams : List InboundStream) (s i : ℕ) (x : InboundStream) → i ≡ s →
+    slice_set (map stream_of streams) s (stream_of x) ≡ map stream_of (slice_set streams i x)
+stream-written streams s i x e =
+    sym (map-set stream_of streams s x) ∙ ap (λ (j : ℕ). map stream_of (slice_set streams j x)) (sym e)

@@ -93,7 +93,10 @@ pub(crate) fn take_in(
         × (stream_of inbound.new ≡ stream_of inbound.old)) }
 {
     kept.reserve(1).map_err(|_| NoMemory)?;
-    inbound.waiting.reserve(kept.len() + 1).map_err(|_| NoMemory)?;
+    inbound
+        .waiting
+        .reserve(kept.len() + 1)
+        .map_err(|_| NoMemory)?;
     let bytes = Vec::from_slice(alloc, piece.bytes).map_err(|_| NoMemory)?;
     seen.add(piece.tsn)?;
     kept.push_reserved(KeptPiece {

@@ -57,10 +57,10 @@ impl Model for Receiver {
     ghost use Rattle.sctp_trace.specs.ReceiverFields.{piece_of_kept, stream_of};
 
     ghost view = { λ r. record {
-        seen = r.seen;
-        pieces = map piece_of_kept r.kept.items;
-        streams = map stream_of r.streams.items;
-        buffer = r.buffer;
+      seen = r.seen;
+      pieces = map piece_of_kept r.kept.items;
+      streams = map stream_of r.streams.items;
+      buffer = r.buffer;
     } };
 }
 

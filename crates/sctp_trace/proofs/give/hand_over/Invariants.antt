@@ -8,7 +8,7 @@ use Rattle.sctp_trace.proofs.give.hand_over.Given as goal
 abbrev pub invariant-loop-at : goal.invariant-loop-at
 invariant-loop-at l = record {
   given : GivesSoFar l.stream (map piece_of_kept l.initial.kept.items) (stream_of l.initial.inbound) (map piece_of_kept l.kept.items) (stream_of l.inbound);
-  room : deque_len l.inbound.waiting + length (without_below (map piece_of_kept l.kept.items) l.stream l.inbound.next) ≤ deque_capacity l.inbound.waiting
+  room : deque_len l.inbound.waiting + length (without_below (map piece_of_kept l.kept.items) l.stream l.inbound.next) ≤ deque_capacity l.inbound.waiting;
 }
 
 abbrev pub decreases-loop-at : goal.decreases-loop-at

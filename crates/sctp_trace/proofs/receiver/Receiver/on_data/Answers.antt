@@ -7,7 +7,7 @@ use Rattle.sctp_trace.specs.ReceiverFields.{piece_of_kept, stream_of}
 use Rattle.sctp_trace.specs.ReceiverKept.{StreamKept, ReceiverKept}
 use Rattle.sctp_trace.specs.HandsOver.{HandsOver}
 use Rattle.sctp_trace.specs.ReceiverStands.{ReceiverStands, KeepsView, stream_at}
-use Rattle.sctp_trace.proofs.ReceiverSteps.{stream-read, stands-same, answer-duplicate, answer-passed, answer-taken}
+use Rattle.sctp_trace.proofs.ReceiverSteps.{stream-read, stream-written, stands-same, answer-duplicate, answer-passed, answer-taken}
 use Rattle.sctp_trace.proofs.receiver.Receiver.on_data.Goals as goal
 
 pub returns-then-reached : goal.returns-then-reached
@@ -16,8 +16,7 @@ returns-then-reached c = λ v stands.
     let streams = c.self.inside.streams in
     let keeps = subst (λ (k : ReceiverKept). KeepsView k v) (sym c.self.view_is) stands in
     let there : c.args.piece.now.stream < length (map stream_of streams.items) = omega (arith, length-map streams.items stream_of, streams.ok.0) in
-    let made = answer-duplicate _ v (piece_meaning c.args.piece.now) keeps (sym c.if-not-is_one_message.ensures) there (sym c.if-reached.ensures) in
-    (made.0, made.1, rw (← c.self.view_is) made.2)
+    answer-duplicate _ _ v (piece_meaning c.args.piece.now) c.self.view_is keeps (sym c.if-not-is_one_message.ensures) there (sym c.if-reached.ensures)
 
 pub returns-then-from-index : goal.returns-then-from-index
 unfolding ReceiverStands
@@ -55,5 +54,5 @@ returns c = λ v stands.
     let lent = stream-read streams.items piece.stream c.from-stream.result c.index_mut.result.now c.from-stream.ensures within c.index_mut.ensures.value in
     let ahead : (stream_at (map stream_of streams.items) piece.stream).next ≤ piece.number = rw looked (omega arith) in
     let over = rw (← lent) at c.in_ok-take_in.ensures.taken in
-    let made = answer-taken _ v (piece_meaning piece) c.take_in.new.seen (map piece_of_kept c.take_in.new.kept.items) (stream_of c.take_in.new.inbound) keeps (sym c.if-not-is_one_message.ensures) there (sym c.if-reached.ensures) ahead c.in_ok-take_in.ensures.recorded over in
-    (made.0, made.1, rw (c.from-stream.ensures, map-set stream_of streams.items piece.stream c.take_in.new.inbound) made.2)
+    let written = stream-written streams.items piece.stream c.from-stream.result c.take_in.new.inbound c.from-stream.ensures in
+    answer-taken _ v (piece_meaning piece) c.take_in.new.seen (map piece_of_kept c.take_in.new.kept.items) (stream_of c.take_in.new.inbound) _ written keeps (sym c.if-not-is_one_message.ensures) there (sym c.if-reached.ensures) ahead c.in_ok-take_in.ensures.recorded over

@@ -2,9 +2,10 @@ use Rattle.std.proofs.Common.{◌≡◌, ◌<◌, ◌↔◌, IsSome, length, map
 use Rattle.std.proofs.lemmas.List.{length-map, map-set}
 use Rattle.sctp_trace.specs.HandedOf.{handed_of}
 use Rattle.sctp_trace.specs.ReceiverFields.{stream_of}
+use Rattle.sctp_trace.specs.declared.give.InboundStream.{InboundStream}
 use Rattle.sctp_trace.specs.ReceiverKept.{StreamKept, ReceiverKept}
 use Rattle.sctp_trace.specs.ReceiverStands.{ReceiverStands, KeepsView, stream_at}
-use Rattle.sctp_trace.proofs.ReceiverSteps.{stream-read, answer-take}
+use Rattle.sctp_trace.proofs.ReceiverSteps.{stream-read, stream-written, answer-take}
 use Rattle.sctp_trace.proofs.receiver.Receiver.take.Goals as goal
 
 pub returns : goal.returns
@@ -18,5 +19,6 @@ returns c = λ v stands.
     let within : c.from-stream.result < length streams.items = omega (arith, streams.ok.0) in
     let read = stream-read streams.items c.args.stream c.from-stream.result lent c.from-stream.ensures within c.index_mut.ensures.value in
     let some : IsSome popped.result ↔ (0 < length lent.waiting.items) = rw lent.waiting.ok.0 at popped.ensures.variant in
-    let made = answer-take _ v c.args.stream popped.result lent.waiting.items popped.new.self.items (stream_of (record { next = lent.next; waiting = popped.new.self })) keeps there (ap (λ (s : StreamKept). s.waiting) read) (sym (ap (λ (s : StreamKept). s.next) read)) refl popped.ensures.items some in
-    (made.0, made.1, rw (c.from-stream.ensures, map-set stream_of streams.items c.args.stream (record { next = lent.next; waiting = popped.new.self })) made.2)
+    let after : InboundStream = record { next = lent.next; waiting = popped.new.self } in
+    let written = stream-written streams.items c.args.stream c.from-stream.result after c.from-stream.ensures in
+    answer-take _ v c.args.stream popped.result lent.waiting.items popped.new.self.items (stream_of after) _ written keeps there (ap (λ (s : StreamKept). s.waiting) read) (sym (ap (λ (s : StreamKept). s.next) read)) refl popped.ensures.items some
