@@ -10,3 +10,6 @@ mod seen;
 
 pub use message::Message;
 pub use receiver::{Answer, Receiver, SackValues};
+
+#[cfg(test)]
+mod receiver_tests;

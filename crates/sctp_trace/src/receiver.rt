@@ -96,7 +96,7 @@ impl Receiver {
         ensures rwnd { (v : ReceiverView) → ReceiverStands self.now v → result.rwnd ≡ room_left v }
     {
         SackValues {
-            cumulative: self.seen.cumulative(),
+            cumulative: self.cumulative(),
             rwnd: self.room_left(),
         }
     }
