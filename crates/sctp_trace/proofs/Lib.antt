@@ -3,3 +3,10 @@ mod WordLemmas
 mod HexDigits
 mod Decimals
 mod LineLemmas
+mod KeptLists
+mod DueLemmas
+mod GiveLemmas
+mod LowestLemmas
+mod RoomLemmas
+mod SeenLemmas
+mod ReceiverSteps

@@ -8,3 +8,10 @@ pub mod WrittenWords
 pub mod ReportText
 pub mod Lines
 pub mod ReadLines
+pub mod ReceiverKept
+pub mod SeenStands
+pub mod HandsOver
+pub mod HandedOf
+pub mod ReceiverFields
+pub mod ReceiverStands
+pub mod ReceiverCalls

@@ -18,3 +18,15 @@ pub use hex_word::{put_hex, read_hex};
 pub use line::{Acting, LineError, LineFault, read_line};
 pub use outcome_line::put_outcome;
 pub use report::{put_end, put_handed, put_numbered};
+mod give;
+mod kept;
+mod message;
+mod receiver;
+mod room;
+mod seen;
+
+pub use message::Message;
+pub use receiver::{Answer, Receiver, SackValues};
+
+#[cfg(test)]
+mod receiver_tests;
