@@ -1,2 +1,6 @@
 //! Two ends of an association and what lies between them, run by a script.
 #![tactic(auto)]
+
+mod packet;
+
+pub use packet::PacketWriter;
