@@ -1,1 +1,3 @@
 pub mod PacketLemmas
+pub mod SenderLemmas
+pub mod FillLemmas

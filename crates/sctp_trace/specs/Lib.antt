@@ -1,1 +1,5 @@
 pub mod PacketBytes
+pub mod SenderKept
+pub mod SenderStands
+pub mod SenderFields
+pub mod SenderSteps

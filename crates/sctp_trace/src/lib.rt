@@ -2,5 +2,7 @@
 #![tactic(auto)]
 
 mod packet;
+mod sender;
 
 pub use packet::PacketWriter;
+pub use sender::{Filled, SendFault, Sender, Ticket};
