@@ -10,3 +10,6 @@ mod LowestLemmas
 mod RoomLemmas
 mod SeenLemmas
 mod ReceiverSteps
+pub mod PacketLemmas
+pub mod SenderLemmas
+pub mod FillLemmas

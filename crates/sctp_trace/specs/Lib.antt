@@ -15,3 +15,8 @@ pub mod HandedOf
 pub mod ReceiverFields
 pub mod ReceiverStands
 pub mod ReceiverCalls
+pub mod PacketBytes
+pub mod SenderKept
+pub mod SenderStands
+pub mod SenderFields
+pub mod SenderSteps

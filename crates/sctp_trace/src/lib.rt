@@ -30,3 +30,8 @@ pub use receiver::{Answer, Receiver, SackValues};
 
 #[cfg(test)]
 mod receiver_tests;
+mod packet;
+mod sender;
+
+pub use packet::PacketWriter;
+pub use sender::{Filled, SendFault, Sender, Ticket};
