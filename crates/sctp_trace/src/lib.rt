@@ -1,6 +1,8 @@
 //! Two ends of an association and what lies between them, run by a script.
 #![tactic(auto)]
 
+mod block;
+mod line_reader;
 mod source_sink;
 mod writing;
 

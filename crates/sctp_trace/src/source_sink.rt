@@ -38,6 +38,7 @@ pub trait Source {
 
     // Where nothing is done nothing is read, and what is read first and then is read as one.
     ghost reads_none: { (s : Self) → Reads s [] s };
+
     ghost reads_more: { (s t u : Self) (a b : List ℕ) → Reads s a t → Reads t b u → Reads s (a ++ b) u };
 }
 
@@ -65,6 +66,7 @@ pub trait Sink {
 
     // Where nothing is done nothing is written, and what is written first and then is written as one.
     ghost writes_none: { (s : Self) → Writes s [] s };
+
     ghost writes_more: { (s t u : Self) (a b : List ℕ) → Writes s a t → Writes t b u → Writes s (a ++ b) u };
 }
 
@@ -93,7 +95,9 @@ impl<R: Read> Source for FromRead<R> {
     ghost use Rattle.sctp_trace.specs.Streams.{consumes_none, consumes_more, reader_below};
 
     ghost Reads = { λ s bytes t. Consumes (R.remaining (reader_below s)) (R.remaining (reader_below t)) bytes };
+
     ghost IsAtEnd = { λ s. NothingLeft (R.remaining (reader_below s)) };
+
     ghost failures = { λ s. s.failures };
 
     fn read(&mut self, buffer: &mut [u8]) -> Result<usize, Failed> {
@@ -111,6 +115,7 @@ impl<R: Read> Source for FromRead<R> {
     }
 
     ghost reads_none = { λ s. consumes_none (R.remaining (reader_below s)) };
+
     ghost reads_more = { λ s t u a b. consumes_more (R.remaining (reader_below s)) (R.remaining (reader_below t)) (R.remaining (reader_below u)) a b };
 }
 
@@ -139,6 +144,7 @@ impl<W: Write> Sink for ToWrite<W> {
     ghost use Rattle.sctp_trace.specs.Streams.{appends_none, appends_more, writer_below};
 
     ghost Writes = { λ s bytes t. Appends (W.contents (writer_below s)) (W.contents (writer_below t)) bytes };
+
     ghost failures = { λ s. s.failures };
 
     fn write(&mut self, bytes: &[u8]) -> Result<usize, Failed> {
@@ -156,5 +162,6 @@ impl<W: Write> Sink for ToWrite<W> {
     }
 
     ghost writes_none = { λ s. appends_none (W.contents (writer_below s)) };
+
     ghost writes_more = { λ s t u a b. appends_more (W.contents (writer_below s)) (W.contents (writer_below t)) (W.contents (writer_below u)) a b };
 }
