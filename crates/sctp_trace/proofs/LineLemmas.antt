@@ -9,7 +9,7 @@ use Rattle.std.proofs.lemmas.Bool.{eqb-true, eq-eqb, ltb-false}
 use Rattle.std.specs.Prelude.{not, Bool, true, cond, Option, Some, None, nat_lt}
 use Rattle.sctp_trace.specs.declared.line_reader.TheConstants.{LINE_FEED, LONGEST_LINE, LONGEST_SCRIPT}
 use Rattle.sctp_trace.specs.declared.block.TheConstants.{BLOCK}
-use Rattle.sctp_trace.specs.LinesRead.{is_line_feed, IsOneLine, first_length, first_end, IsTooLong, MayBegin}
+use Rattle.sctp_trace.specs.LinesRead.{is_line_feed, IsOneLine, first_length, first_end, IsTooLong, MayBegin, IsReadFor}
 
 -- a range without its first elements
 pub range_without_front : (xs : List ℕ) (start end count : ℕ)
@@ -117,3 +117,12 @@ pub begun_before : (given : ℕ) (held line block gathered : List ℕ) → gathe
     → MayBegin given gathered → MayBegin given held
 begun_before given held line block gathered moved whole begun =
     subst (λ (list : List ℕ). MayBegin given list) (sym (append-nil gathered) ∙ moved ∙ whole) begun
+
+-- and what was read before the new block may begin the line
+pub read_on : (given : ℕ) (held read line block gathered new : List ℕ) → held ++ read ≡ line ++ block → gathered ++ [] ≡ line ++ block
+    → length new ≤ BLOCK → MayBegin given gathered
+    → IsReadFor given held (read ++ new) × (held ++ (read ++ new) ≡ gathered ++ new)
+read_on given held read line block gathered new before moved fits begun = (
+  inr (read, new, refl, fits, begun_before given (held ++ read) line block gathered moved (sym before) begun),
+  read_further held read line block gathered new before moved,
+)

@@ -1,6 +1,7 @@
 -- The lines of a text: what stands between its line feeds, and what stands behind the last one, if that is anything.
 use Rattle.std.specs.Prelude.{◌≡◌, ℕ, ◌+◌, ◌<◌, ◌≤◌, ◌==◌, min, Bool, true, false, if◌then◌else◌, ◌⊎◌, List, [], ◌∷◌, ◌++◌, length}
 use Rattle.std.specs.List.{All, flat_map, slice_split, position_or_len}
+use Rattle.sctp_trace.specs.declared.block.TheConstants.{BLOCK}
 use Rattle.sctp_trace.specs.declared.line_reader.TheConstants.{LINE_FEED, LONGEST_LINE, LONGEST_SCRIPT}
 
 abbrev pub is_line_feed : ℕ → Bool
@@ -55,6 +56,11 @@ pub record MayBegin (given : ℕ) (line : List ℕ) : Type 0 where
   pub one_line : IsOneLine line
   pub small : length line ≤ LONGEST_LINE
   pub within : given + length line ≤ LONGEST_SCRIPT
+
+-- what is read behind what was held: nothing, or all but the last block of it may begin the line
+abbrev pub IsReadFor : ℕ → List ℕ → List ℕ → Type 0
+IsReadFor given held bytes =
+    (bytes ≡ []) ⊎ ((early : List ℕ) × (late : List ℕ) × (bytes ≡ early ++ late) × (length late ≤ BLOCK) × MayBegin given (held ++ early))
 
 -- where a reader of lines stands: the bytes that it has read and not given yet, and how many it has given
 pub record Reading : Type 0 where

@@ -2,6 +2,7 @@
 #![tactic(auto)]
 
 mod block;
+mod line_laws;
 mod line_reader;
 mod source_sink;
 mod writing;

@@ -2,10 +2,10 @@
 
 ghost use Rattle.std.specs.Prelude.{◌≡◌, ℕ, List, [], ◌++◌, ◌+◌, ◌-◌, ◌^◌, ◌<◌, ◌≤◌, length};
 ghost use Rattle.std.specs.List.{position};
-ghost use Rattle.sctp_trace.specs.LinesRead.{Reading, MayBegin, is_line_feed, first_length};
+ghost use Rattle.sctp_trace.specs.LinesRead.{Reading, MayBegin, IsReadFor, is_line_feed, first_length};
 ghost use Rattle.sctp_trace.specs.LineAnswers.{given_by, IsAnswer, AtTheEnd, failed_reads, IsGathered, AtEndOfInput};
 
-use crate::block::Block;
+use crate::block::{BLOCK, Block};
 use crate::source_sink::Source;
 use sctp_wire::NoMemory;
 use std::alloc::Global;
@@ -91,12 +91,14 @@ impl LineReader {
     pub fn next_line<S: Source>(&mut self, source: &mut S) -> Result<NextLine, ReadFault>
         requires { S.failures source.old < 2 ^ 64 - 1 }
         // What was held and what is read is what is given and what is held then.
-        ensures bytes { (bytes : List ℕ) × S.Reads source.old bytes source.new × (self.old.held ++ bytes ≡ given_by result ++ self.new.held) }
+        ensures bytes { (bytes : List ℕ) × S.Reads source.old bytes source.new × IsReadFor self.old.given self.old.held bytes
+            × (self.old.held ++ bytes ≡ given_by result ++ self.new.held) }
         ensures given { self.new.given ≡ self.old.given + length (given_by result) }
         ensures answer { IsAnswer result self.new }
         ensures end { AtTheEnd result (S.IsAtEnd source.new) }
         ensures failed { S.failures source.new ≡ S.failures source.old + failed_reads result }
         ensures unread { ¬ MayBegin self.old.given self.old.held → source.new ≡ source.old }
+        ensures room { length self.new.held ≤ LONGEST_LINE + BLOCK }
     {
         match complete(&mut self.line, &mut self.block, self.given, source)? {
             Some(Stop::LineFeed) => {
@@ -124,7 +126,9 @@ fn complete<S: Source>(
     requires room { S.failures source.old < 2 ^ 64 - 1 }
     requires begun { MayBegin given line.old.items }
     ensures begun { MayBegin given line.new.items }
-    ensures bytes { (bytes : List ℕ) × S.Reads source.old bytes source.new × (line.old.items ++ block.old ++ bytes ≡ line.new.items ++ block.new) }
+    ensures bytes { (bytes : List ℕ) × S.Reads source.old bytes source.new × IsReadFor given (line.old.items ++ block.old) bytes
+        × (line.old.items ++ block.old ++ bytes ≡ line.new.items ++ block.new) }
+    ensures room { length block.new ≤ BLOCK }
     ensures stop { IsGathered given result line.new.items block.new }
     ensures end { AtEndOfInput result (S.IsAtEnd source.new) }
     ensures failed { S.failures source.new ≡ S.failures source.old + failed_reads result }
@@ -146,6 +150,7 @@ fn gather(line: &mut Vec<u8>, block: &mut Block, given: u64) -> Result<Option<St
     requires { MayBegin given line.old.items }
     ensures begun { MayBegin given line.new.items }
     ensures bytes { line.new.items ++ block.new ≡ line.old.items ++ block.old }
+    ensures room { length block.new ≤ BLOCK }
     ensures stop { IsGathered given result line.new.items block.new }
 {
     let bytes = block.bytes();

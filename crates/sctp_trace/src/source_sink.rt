@@ -74,7 +74,7 @@ pub trait Sink {
 #[derive(Drop)]
 pub struct FromRead<R> {
     reader: R,
-    failures: u64,
+    failed_reads: u64,
 }
 
 impl<R: Read> FromRead<R> {
@@ -85,7 +85,7 @@ impl<R: Read> FromRead<R> {
     {
         FromRead {
             reader,
-            failures: 0,
+            failed_reads: 0,
         }
     }
 }
@@ -98,20 +98,20 @@ impl<R: Read> Source for FromRead<R> {
 
     ghost IsAtEnd = { λ s. NothingLeft (R.remaining (reader_below s)) };
 
-    ghost failures = { λ s. s.failures };
+    ghost failures = { λ s. s.failed_reads };
 
     fn read(&mut self, buffer: &mut [u8]) -> Result<usize, Failed> {
         match self.reader.read(buffer) {
             Ok(count) => Ok(count),
             Err(_) => {
-                self.failures += 1;
+                self.failed_reads += 1;
                 Err(Failed)
             }
         }
     }
 
     fn failures(&self) -> u64 {
-        self.failures
+        self.failed_reads
     }
 
     ghost reads_none = { λ s. consumes_none (R.remaining (reader_below s)) };
@@ -123,7 +123,7 @@ impl<R: Read> Source for FromRead<R> {
 #[derive(Drop)]
 pub struct ToWrite<W> {
     writer: W,
-    failures: u64,
+    failed_writes: u64,
 }
 
 impl<W: Write> ToWrite<W> {
@@ -134,7 +134,7 @@ impl<W: Write> ToWrite<W> {
     {
         ToWrite {
             writer,
-            failures: 0,
+            failed_writes: 0,
         }
     }
 }
@@ -145,20 +145,20 @@ impl<W: Write> Sink for ToWrite<W> {
 
     ghost Writes = { λ s bytes t. Appends (W.contents (writer_below s)) (W.contents (writer_below t)) bytes };
 
-    ghost failures = { λ s. s.failures };
+    ghost failures = { λ s. s.failed_writes };
 
     fn write(&mut self, bytes: &[u8]) -> Result<usize, Failed> {
         match self.writer.write(bytes) {
             Ok(count) if count > 0 || bytes.is_empty() => Ok(count),
             _ => {
-                self.failures += 1;
+                self.failed_writes += 1;
                 Err(Failed)
             }
         }
     }
 
     fn failures(&self) -> u64 {
-        self.failures
+        self.failed_writes
     }
 
     ghost writes_none = { λ s. appends_none (W.contents (writer_below s)) };
