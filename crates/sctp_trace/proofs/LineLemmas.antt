@@ -1,12 +1,12 @@
 -- A line that is gathered from what was read before and from a block.
-use Rattle.std.proofs.Common.{◌≡◌, ℕ, ◌+◌, ◌-◌, ◌<◌, ◌≤◌, min, ◌⊎◌, inl, inr, List, [], ◌∷◌, ◌++◌, length, take, drop, get_or, slice_range, false, arith, refl, sym, ap, ◌∙◌, subst, append_assoc, append-nil, length-append, length-take, length-drop}
+use Rattle.std.proofs.Common.{◌≡◌, ℕ, ◌+◌, ◌-◌, ◌<◌, ◌≤◌, inl, inr, List, [], ◌∷◌, ◌++◌, length, take, drop, get_or, slice_range, false, arith, refl, sym, ap, ◌∙◌, subst, append_assoc, append-nil, length-append, length-take}
 use Rattle.std.specs.List.{position}
-use Rattle.std.proofs.lemmas.List.{drop-drop, drop-take, drop_more, drop_all, get_or-take, take-append-drop}
+use Rattle.std.proofs.lemmas.List.{drop-drop, drop-take, drop_more, get_or-take, take-append-drop}
 use Rattle.std.proofs.lemmas.List.Sums.{position_or_len_is, fails_before_first, passes_at_first, prefix_len-le-length}
 use Rattle.std.proofs.lemmas.List.Folds.{prefix_len-append}
 use Rattle.std.proofs.lemmas.List.Elements.{All-append}
 use Rattle.std.proofs.lemmas.Bool.{eqb-true, eq-eqb, ltb-false}
-use Rattle.std.specs.Prelude.{not, Bool, true, cond, Option, Some, None, nat_lt}
+use Rattle.std.specs.Prelude.{not, Bool, true, cond, Some, None, nat_lt}
 use Rattle.sctp_trace.specs.declared.line_reader.TheConstants.{LINE_FEED, LONGEST_LINE, LONGEST_SCRIPT}
 use Rattle.sctp_trace.specs.declared.block.TheConstants.{BLOCK}
 use Rattle.sctp_trace.specs.LinesRead.{is_line_feed, IsOneLine, first_length, first_end, IsTooLong, MayBegin, IsReadFor}

@@ -1,16 +1,13 @@
 -- A text is split into lines in one way.
-use Rattle.std.proofs.Common.{◌≡◌, ℕ, ◌+◌, ◌-◌, ◌<◌, ◌≤◌, ◌==◌, if◌then◌else◌, Bool, true, false, cond, min, inl, inr, List, [], ◌∷◌, ◌++◌, length, take, drop, get_or, arith, refl, sym, ap, ◌∙◌, subst, append_assoc, append-nil, length-append}
-use Rattle.std.specs.List.{All, slice_split, flat_map, position_or_len, prefix_len}
+use Rattle.std.proofs.Common.{◌≡◌, ℕ, ◌+◌, ◌≤◌, ◌==◌, if◌then◌else◌, Bool, true, false, cond, inl, inr, List, [], ◌∷◌, ◌++◌, length, arith, refl, sym, ap, ◌∙◌, subst, append_assoc, append-nil, length-append}
+use Rattle.std.specs.List.{All, slice_split}
 use Rattle.std.proofs.lemmas.List.Splits.{slice_split_at, slice_split_none, slice_split-cons_yes, slice_split-cons_no}
 use Rattle.std.proofs.lemmas.List.Elements.{All-head, All-tail, All-cons, All-nil}
-use Rattle.std.proofs.lemmas.List.Folds.{prefix_len-append}
-use Rattle.std.proofs.lemmas.List.Sums.{prefix_len-le-length}
-use Rattle.std.proofs.lemmas.Bool.{eqb-true, eqb-false, cases_Bool}
+use Rattle.std.proofs.lemmas.Bool.{eqb-true}
 use Rattle.std.specs.Prelude.{not}
-use Rattle.sctp_trace.specs.declared.line_reader.TheConstants.{LINE_FEED, LONGEST_LINE, LONGEST_SCRIPT}
-use Rattle.sctp_trace.specs.LinesRead.{is_line_feed, IsOneLine, ended, joined, but_the_end, but_an_empty_end, lines_of, ended_lines_of, first_length, first_end, IsTooLong}
+use Rattle.sctp_trace.specs.declared.line_reader.TheConstants.{LINE_FEED}
+use Rattle.sctp_trace.specs.LinesRead.{is_line_feed, IsOneLine, ended, joined, lines_of, ended_lines_of, first_length, IsTooLong}
 use Rattle.sctp_trace.specs.LineLaws.{SplitInOneWay, IsLines}
-use Rattle.sctp_trace.proofs.LineLemmas.{first_length-le}
 
 -- a first byte makes a part of its own or goes onto the first part, so there is a part at least
 some_part_at : (byte : ℕ) (text : List ℕ) (b : Bool) → is_line_feed byte ≡ b

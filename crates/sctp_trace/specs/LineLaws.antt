@@ -1,7 +1,7 @@
 -- Laws of lines: a text is split in one way, line by line from the front, and a line that is too long stays so.
 use Rattle.std.specs.Prelude.{◌≡◌, ℕ, ◌==◌, if◌then◌else◌, List, [], ◌∷◌, ◌++◌, length}
 use Rattle.std.specs.List.{All}
-use Rattle.sctp_trace.specs.LinesRead.{IsOneLine, joined, lines_of, ended_lines_of, IsTooLong}
+use Rattle.sctp_trace.specs.LinesRead.{IsOneLine, joined, lines_of, ended_lines_of}
 
 -- lines with their line feeds, and any rest behind them
 pub record SplitInOneWay (lines : List (List ℕ)) (rest : List ℕ) : Type 0 where

@@ -1,5 +1,5 @@
 -- The lines of a text: what stands between its line feeds, and what stands behind the last one, if that is anything.
-use Rattle.std.specs.Prelude.{◌≡◌, ℕ, ◌+◌, ◌<◌, ◌≤◌, ◌==◌, min, Bool, true, false, if◌then◌else◌, ◌⊎◌, List, [], ◌∷◌, ◌++◌, length}
+use Rattle.std.specs.Prelude.{◌≡◌, ℕ, ◌+◌, ◌<◌, ◌≤◌, ◌==◌, min, Bool, false, if◌then◌else◌, ◌⊎◌, List, [], ◌∷◌, ◌++◌, length}
 use Rattle.std.specs.List.{All, flat_map, slice_split, position_or_len}
 use Rattle.sctp_trace.specs.declared.block.TheConstants.{BLOCK}
 use Rattle.sctp_trace.specs.declared.line_reader.TheConstants.{LINE_FEED, LONGEST_LINE, LONGEST_SCRIPT}

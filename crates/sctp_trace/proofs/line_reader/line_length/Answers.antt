@@ -1,4 +1,4 @@
-use Rattle.std.proofs.Common.{◌≡◌, length, sym}
+use Rattle.std.proofs.Common.{sym}
 use Rattle.sctp_trace.proofs.LineLemmas.{none_found}
 use Rattle.sctp_trace.proofs.line_reader.line_length.Goals as goal
 

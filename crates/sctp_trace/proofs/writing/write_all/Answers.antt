@@ -1,4 +1,4 @@
-use Rattle.std.proofs.Common.{◌≡◌, ℕ, ◌+◌, ◌<◌, ◌≤◌, length, take, arith, subst, append-nil}
+use Rattle.std.proofs.Common.{◌+◌, ◌<◌, length, arith, append-nil}
 use Rattle.std.proofs.lemmas.Result.{err_from_is_err_and}
 use Rattle.std.proofs.lemmas.Grind.{common_steps}
 use Rattle.sctp_trace.proofs.WritingLemmas.{part_within, part_left, part_joined, part_wanted}

@@ -1,4 +1,4 @@
-use Rattle.std.proofs.Common.{◌≡◌, ◌+◌, ◌≤◌, length, drop, subst, sym, slice_range, List, ℕ, ap, ◌∙◌}
+use Rattle.std.proofs.Common.{◌≤◌, length, drop, subst, sym, List, ℕ, ap, ◌∙◌}
 use Rattle.sctp_trace.proofs.LineLemmas.{range_without_front}
 use Rattle.sctp_trace.proofs.block.Block.skip.Goals as goal
 
