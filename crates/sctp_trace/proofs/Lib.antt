@@ -13,3 +13,6 @@ mod ReceiverSteps
 pub mod PacketLemmas
 pub mod SenderLemmas
 pub mod FillLemmas
+pub mod WritingLemmas
+pub mod LineLemmas
+pub mod LineSplits

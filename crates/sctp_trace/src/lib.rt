@@ -35,3 +35,10 @@ mod sender;
 
 pub use packet::PacketWriter;
 pub use sender::{Filled, SendFault, Sender, Ticket};
+mod block;
+mod line_laws;
+mod line_reader;
+mod source_sink;
+mod writing;
+
+pub use source_sink::{Failed, FromRead, Sink, Source, ToWrite};

@@ -1,0 +1,16 @@
+//! Laws of the lines of a text, which hold of all texts.
+
+ghost use Rattle.std.specs.Prelude.{ℕ, List, ◌++◌};
+ghost use Rattle.sctp_trace.specs.LinesRead.{IsTooLong};
+ghost use Rattle.sctp_trace.specs.LineLaws.{SplitInOneWay, IsLines};
+
+/// A text is split into lines in one way, from its front; whoever was given lines one by one was given these.
+pub fn lines_in_one_way()
+    ensures split { (lines : List (List ℕ)) (rest : List ℕ) → SplitInOneWay lines rest }
+    ensures exist { (text : List ℕ) → IsLines text }
+{}
+
+/// A line that is too long is so whatever follows.
+pub fn too_long_for_good()
+    ensures { (given : ℕ) (text more : List ℕ) → IsTooLong given text → IsTooLong given (text ++ more) }
+{}
