@@ -14,5 +14,5 @@ pub mod PacketLemmas
 pub mod SenderLemmas
 pub mod FillLemmas
 pub mod WritingLemmas
-pub mod LineLemmas
+pub mod SourceLineLemmas
 pub mod LineSplits

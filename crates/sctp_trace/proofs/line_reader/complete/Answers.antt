@@ -1,6 +1,6 @@
 use Rattle.std.proofs.Common.{◌≡◌, ℕ, ◌<◌, inl, inr, List, [], ◌++◌, length, arith}
 use Rattle.std.proofs.lemmas.Grind.{common_steps}
-use Rattle.sctp_trace.proofs.LineLemmas.{read_on, gathers_on, begun_before}
+use Rattle.sctp_trace.proofs.SourceLineLemmas.{read_on, gathers_on, begun_before}
 use Rattle.sctp_trace.proofs.line_reader.complete.Goals as goal
 
 pub returns-in_err-map_err-clause-bytes : goal.returns-in_err-map_err-clause-bytes

@@ -1,7 +1,7 @@
 use Rattle.std.proofs.Common.{◌≡◌, ℕ, ◌+◌, ◌<◌, List, ◌++◌, length, take, drop, arith, ap, ◌∙◌}
 use Rattle.std.proofs.lemmas.Grind.{common_steps}
 use Rattle.sctp_trace.specs.LinesRead.{first_length}
-use Rattle.sctp_trace.proofs.LineLemmas.{first_length-le, too_long_line, too_long_script, begins_further, from_first_feed, room_for_feed}
+use Rattle.sctp_trace.proofs.SourceLineLemmas.{first_length-le, too_long_line, too_long_script, begins_further, from_first_feed, room_for_feed}
 use Rattle.sctp_trace.proofs.line_reader.gather.Goals as goal
 use Rattle.sctp_trace.proofs.line_reader.gather.Goals.{then-len-count-gt-LONGEST_LINE-via-then-len-count-gt-LONGEST_LINE, then-len-count-gt-LONGEST_LINE-via-else-len-count-gt-LONGEST_LINE+then-len-end}
 

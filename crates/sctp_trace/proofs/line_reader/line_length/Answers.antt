@@ -1,5 +1,5 @@
 use Rattle.std.proofs.Common.{sym}
-use Rattle.sctp_trace.proofs.LineLemmas.{none_found}
+use Rattle.sctp_trace.proofs.SourceLineLemmas.{none_found}
 use Rattle.sctp_trace.proofs.line_reader.line_length.Goals as goal
 
 pub returns-in-None-clause-exact : goal.returns-in-None-clause-exact

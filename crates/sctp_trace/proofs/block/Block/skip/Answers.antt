@@ -1,5 +1,5 @@
 use Rattle.std.proofs.Common.{◌≤◌, length, drop, subst, sym, List, ℕ, ap, ◌∙◌}
-use Rattle.sctp_trace.proofs.LineLemmas.{range_without_front}
+use Rattle.sctp_trace.proofs.SourceLineLemmas.{range_without_front}
 use Rattle.sctp_trace.proofs.block.Block.skip.Goals as goal
 
 pub returns : goal.returns
