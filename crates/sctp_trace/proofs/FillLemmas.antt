@@ -107,9 +107,10 @@ puts_more numbered xs packet before after i x lt e put is =
 -- a message that fits a packet of fewer than 65,536 bytes can be written, and is taken
 pub fits_room : (p : PieceMeaning) (d : Draft) → IsDataPiece p → 16 + padded (length p.bytes) ≤ room_in d → room_in d < 2 ^ 16
     → Fits (Data p) × (has_room d (Data p) ≡ true)
-fits_room p d fields room small =
-    (record { fields = fields; length = omega (arith, length-data_value p) },
-    let size = size_of_more d.chunks (Data p) in grind (arith, common_steps))
+fits_room p d fields room small = (
+  record { fields = fields; length = omega (arith, length-data_value p) },
+  let size = size_of_more d.chunks (Data p) in grind (arith, common_steps),
+)
 
 size_of : ChunkMeaning → ℕ
 size_of (Data p) = length p.bytes

@@ -99,12 +99,12 @@ impl Model for Sender {
     ghost use Rattle.sctp_trace.specs.SenderFields.{waits_of, AreFew};
 
     ghost view = { λ s. record {
-        streams = s.streams;
-        fragment = s.fragment;
-        numbered = s.numbered;
-        cum = s.cum;
-        given = s.given.items;
-        waiting = map waits_of s.waiting.items;
+      streams = s.streams;
+      fragment = s.fragment;
+      numbered = s.numbered;
+      cum = s.cum;
+      given = s.given.items;
+      waiting = map waits_of s.waiting.items;
     } };
 
     ghost invariant = { λ s. AreFew s.numbered s.given.items s.waiting.items };
@@ -158,7 +158,12 @@ impl Sender {
     ///
     /// # Errors
     /// The first reason of `SendFault` that holds. The message is dropped then, and nothing else changes.
-    pub fn queue(&mut self, stream: u16, payload_id: u32, bytes: Vec<u8>) -> Result<Ticket, SendFault>
+    pub fn queue(
+        &mut self,
+        stream: u16,
+        payload_id: u32,
+        bytes: Vec<u8>,
+    ) -> Result<Ticket, SendFault>
         ensures answer { (v : SenderView) → StandsFor self.old v → QueueAnswer v stream bytes.items result }
         ensures stands { (v : SenderView)
             → StandsFor self.old v
@@ -188,7 +193,9 @@ impl Sender {
             payload_id,
             bytes,
         };
-        self.waiting.push_back(message).map_err(|_| SendFault::NoMemory)?;
+        self.waiting
+            .push_back(message)
+            .map_err(|_| SendFault::NoMemory)?;
         self.given[usize::from(stream)] += 1;
         Ok(Ticket(accepted + 1))
     }
@@ -202,7 +209,7 @@ impl Sender {
         ensures { (v : SenderView)
             → StandsFor self.old v
             → MatchResult result (λ filled. Fills v packet.old packet.new self.new filled)
-                (λ _. Stops v packet.old packet.new self.new) }
+            (λ _. Stops v packet.old packet.new self.new) }
     {
         let count = how_many_fit(&self.waiting, packet.room());
         let tickets = put_first(self.alloc, &self.waiting, count, self.numbered, packet)?;
@@ -255,7 +262,7 @@ fn put_first(
     requires room { room_in packet.old < 2 ^ 16 }
     ensures { MatchResult result
         (λ tickets. Puts (suc numbered) (map waits_of waiting.now.items) packet.old packet.new count
-            × (numbers_of tickets.items ≡ map (λ w. w.ticket) (take count (map waits_of waiting.now.items))))
+        × (numbers_of tickets.items ≡ map (λ w. w.ticket) (take count (map waits_of waiting.now.items))))
         (λ _. (begun : ℕ) × (begun ≤ count) × Puts (suc numbered) (map waits_of waiting.now.items) packet.old packet.new begun) }
 {
     let mut tickets = Vec::new(alloc);
