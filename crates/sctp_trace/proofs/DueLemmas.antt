@@ -1,9 +1,9 @@
 -- What is due on a stream, number by number: of each number the chunk with the lowest index, while each message is one chunk.
-use Rattle.std.proofs.Common.{◌≡◌, ℕ, suc, ◌<◌, ◌≤◌, ◌⊎◌, Bool, true, false, not, ◌&&◌, nat_lt, List, [], ◌∷◌, inl, inr, refl, sym, subst, arith}
-use Rattle.std.proofs.lemmas.Bool.{and_parts, eq-eqb, cases_Bool}
+use Rattle.std.proofs.Common.{◌≡◌, ℕ, suc, ◌≤◌, Bool, true, false, not, ◌&&◌, nat_lt, List, [], ◌∷◌, inl, inr, refl, subst, arith}
+use Rattle.std.proofs.lemmas.Bool.{eq-eqb}
 use Rattle.std.proofs.lemmas.Grind.{common_steps}
 use Rattle.sctp_model.specs.Words.{Has}
-use Rattle.sctp_model.specs.Format.{Plain, Lane, same_lane, ordered_lane}
+use Rattle.sctp_model.specs.Format.{Plain, same_lane, ordered_lane}
 use Rattle.sctp_model.specs.Pieces.{Piece}
 use Rattle.sctp_model.specs.ReceiverView.{Handed, ReceiverView}
 use Rattle.sctp_model.specs.Receiving.{IsDue, Stop, Over, IsWholeNumber, IsLowest, HasNoWhole, message_of, is_below}

@@ -1,5 +1,5 @@
 -- The loop that hands over gives what is due: of each number in turn the chunk with the lowest index, until there is none.
-use Rattle.std.proofs.Common.{◌≡◌, ℕ, suc, true, false, ◌+◌, ◌<◌, ◌≤◌, List, [], ◌∷◌, ◌++◌, length, get_or, refl, sym, ◌∙◌, ap, subst, arith}
+use Rattle.std.proofs.Common.{◌≡◌, ℕ, suc, true, false, ◌<◌, ◌≤◌, List, [], ◌∷◌, ◌++◌, length, get_or, refl, sym, ◌∙◌, ap, subst}
 use Rattle.std.specs.Prelude.{reverse, slice_set, not}
 use Rattle.std.proofs.lemmas.List.{append-nil, append_assoc}
 use Rattle.sctp_model.specs.Words.{Has}

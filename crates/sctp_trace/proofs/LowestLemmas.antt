@@ -1,5 +1,5 @@
 -- The chunk with the lowest index of a number, found by place, and what it is among the chunks kept.
-use Rattle.std.proofs.Common.{◌≡◌, ℕ, suc, ◌+◌, ◌<◌, ◌≤◌, ◌^◌, ◌⊎◌, Bool, true, false, List, [], ◌∷◌, ◌++◌, length, get_or, map, Option, None, Some, inl, inr, refl, sym, ◌∙◌, ap, subst, arith}
+use Rattle.std.proofs.Common.{◌≡◌, ℕ, suc, ◌+◌, ◌<◌, ◌≤◌, ◌^◌, ◌⊎◌, true, false, List, [], ◌∷◌, ◌++◌, length, get_or, map, Option, None, Some, inl, inr, refl, sym, ◌∙◌, ap, subst, arith}
 use Rattle.std.specs.Prelude.{slice_set}
 use Rattle.std.proofs.lemmas.Bool.{cases_lt, ltb-false, ltb-true}
 use Rattle.std.proofs.lemmas.List.{get_or_default, length-map, get_or-map, map-set}
@@ -9,12 +9,12 @@ use Rattle.sctp_model.specs.Pieces.{Piece}
 use Rattle.sctp_model.specs.ReceiverView.{Handed}
 use Rattle.sctp_model.specs.Receiving.{message_of, without_below}
 use Rattle.sctp_trace.specs.ReceiverKept.{StreamKept}
-use Rattle.sctp_trace.specs.HandsOver.{HandsOver, IsAt, IsLowestOf, is_lower_than}
+use Rattle.sctp_trace.specs.HandsOver.{IsAt, IsLowestOf, is_lower_than}
 use Rattle.sctp_trace.specs.ReceiverFields.{piece_of_kept}
 use Rattle.sctp_trace.specs.declared.kept.KeptPiece.{KeptPiece}
 use Rattle.sctp_trace.proofs.KeptLists.{Has-map}
-use Rattle.sctp_trace.proofs.DueLemmas.{IsNumbered, IsOne}
-use Rattle.sctp_trace.proofs.GiveLemmas.{GivesSoFar, gives-more, gives-all, fewer-left}
+use Rattle.sctp_trace.proofs.DueLemmas.{IsNumbered}
+use Rattle.sctp_trace.proofs.GiveLemmas.{GivesSoFar, gives-more, fewer-left}
 
 -- one chunk stands at a place
 pub same-at : (kept : List KeptPiece) (i : ℕ) (p q : KeptPiece) → i < length kept → IsAt kept i p → IsAt kept i q → p ≡ q

@@ -1,9 +1,9 @@
 -- After each call, what is kept stands for the view that the step leaves.
-use Rattle.std.proofs.Common.{◌≡◌, ℕ, suc, ◌+◌, ◌-◌, ◌<◌, ◌≤◌, ◌⊎◌, Bool, true, false, ◌&&◌, not, List, [], ◌∷◌, ◌++◌, length, get_or, map, Option, None, Some, inl, inr, refl, sym, ◌∙◌, ap, subst, arith}
-use Rattle.std.specs.Prelude.{reverse, slice_set, IsSome, ◌↔◌, nat_lt}
+use Rattle.std.proofs.Common.{◌≡◌, ℕ, suc, ◌-◌, ◌<◌, ◌≤◌, ◌⊎◌, true, false, not, List, [], ◌∷◌, ◌++◌, length, get_or, map, Option, None, Some, inl, inr, refl, sym, ◌∙◌, ap, subst, arith}
+use Rattle.std.specs.Prelude.{reverse, slice_set, IsSome, ◌↔◌}
 use Rattle.std.specs.Option.{option_to_list}
-use Rattle.std.proofs.lemmas.Bool.{cases_eq, cases_lt, and_parts, lt-ltb, or_parts, leb-false, lt-leb}
-use Rattle.std.proofs.lemmas.List.{get_or-set_same, get_or-set_other, get_or_past, length-set, set-get_or, nil_from_length, get_or-map, map-set}
+use Rattle.std.proofs.lemmas.Bool.{cases_eq, cases_lt, and_parts, lt-ltb, lt-leb}
+use Rattle.std.proofs.lemmas.List.{get_or-set_same, get_or-set_other, length-set, set-get_or, nil_from_length, get_or-map, map-set}
 use Rattle.sctp_model.specs.Words.{at}
 use Rattle.sctp_model.specs.Format.{Plain, ordered_lane}
 use Rattle.sctp_model.specs.Pieces.{Piece}
@@ -13,7 +13,7 @@ use Rattle.sctp_model.specs.Receiving.{recorded, Takes, without_below, is_below}
 use Rattle.sctp_model.specs.World as world
 use Rattle.sctp_model.specs.World.{is_taken, piece_said, IsDuplicate, PieceTaken, room_left}
 use Rattle.sctp_trace.specs.ReceiverKept.{SeenKept, StreamKept, ReceiverKept, is_among}
-use Rattle.sctp_trace.specs.SeenStands.{SeenStands, is_reached, Records}
+use Rattle.sctp_trace.specs.SeenStands.{is_reached, Records}
 use Rattle.sctp_trace.specs.HandsOver.{HandsOver, whole_piece}
 use Rattle.sctp_trace.specs.HandedOf.{handed_of}
 use Rattle.sctp_trace.specs.ReceiverStands.{stream_at, KeepsView}

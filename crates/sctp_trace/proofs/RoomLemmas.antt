@@ -3,7 +3,7 @@ use Rattle.std.proofs.Common.{◌≡◌, ℕ, zero, suc, ◌+◌, ◌<◌, List,
 use Rattle.std.specs.Prelude.{reverse}
 use Rattle.std.proofs.lemmas.List.{map_more}
 use Rattle.sctp_model.specs.Pieces.{Piece}
-use Rattle.sctp_model.specs.ReceiverView.{Handed, ReceiverView, size_of_pieces, size_of_messages, size_of_waiting}
+use Rattle.sctp_model.specs.ReceiverView.{Handed, size_of_pieces, size_of_messages, size_of_waiting}
 use Rattle.sctp_trace.proofs.KeptLists.{reverse-cons}
 
 pub size-pieces_push : (xs : List Piece) (x : Piece) → size_of_pieces (xs ++ x ∷ []) ≡ size_of_pieces xs + length x.bytes

@@ -1,12 +1,12 @@
 -- One more index is recorded.
-use Rattle.std.proofs.Common.{◌≡◌, ℕ, suc, ◌<◌, ◌≤◌, ◌⊎◌, Bool, true, false, cond, ◌==◌, List, inl, inr, refl, sym, ◌∙◌, ap, arith}
-use Rattle.std.proofs.lemmas.Bool.{cases_eq, cases_lt, eq-eqb, or_parts, leb-false}
+use Rattle.std.proofs.Common.{◌≡◌, ℕ, ◌<◌, ◌⊎◌, Bool, true, false, cond, ◌==◌, List, inl, inr, refl, sym, ◌∙◌, arith}
+use Rattle.std.proofs.lemmas.Bool.{cases_eq, eq-eqb, or_parts, leb-false}
 use Rattle.std.proofs.lemmas.Grind.{common_steps}
 use Rattle.std.specs.Ordering.{nat_cmp}
 use Rattle.std.specs.BTreeMap.{is_at}
 use Rattle.sctp_model.specs.Words.{at}
 use Rattle.sctp_trace.specs.ReceiverKept.{SeenKept, is_among}
-use Rattle.sctp_trace.specs.SeenStands.{SeenSays, SeenStands, is_reached, seen_of}
+use Rattle.sctp_trace.specs.SeenStands.{SeenSays, is_reached, seen_of}
 
 pub at-same : {A : Type 0} (f : ℕ → A) (s : ℕ) (v : A) (t : ℕ) → t ≡ s → at f s v t ≡ v
 at-same f s v t e = let q = eq-eqb t s e in rw q refl

@@ -1,5 +1,5 @@
 -- What is handed over on a stream while each message is one chunk (RFC 9260, 6.6).
-use Rattle.std.specs.Prelude.{◌≡◌, ℕ, Bool, true, nat_lt, ◌<◌, ◌≤◌, ◌^◌, List, ◌++◌, reverse, slice_index_or, length, Option, None, Some}
+use Rattle.std.specs.Prelude.{◌≡◌, ℕ, Bool, true, nat_lt, ◌<◌, ◌≤◌, ◌^◌, List, ◌++◌, reverse, slice_index_or, Option, None, Some}
 use Rattle.sctp_model.specs.Format.{Plain, ordered_lane}
 use Rattle.sctp_model.specs.Chunk.{PieceMeaning}
 use Rattle.sctp_model.specs.Pieces.{Piece}

@@ -3,7 +3,7 @@ use Rattle.std.specs.Prelude.{◌≡◌, ℕ, ◌<◌, ◌≤◌, nat_lt, length
 use Rattle.sctp_model.specs.Words.{at}
 use Rattle.sctp_model.specs.Chunk.{PieceMeaning}
 use Rattle.sctp_model.specs.ReceiverView.{Handed, ReceiverView}
-use Rattle.sctp_model.specs.World.{Configuration, fresh_receiver, is_taken, piece_said, IsDuplicate, PieceTaken}
+use Rattle.sctp_model.specs.World.{fresh_receiver, is_taken, piece_said, IsDuplicate, PieceTaken}
 use Rattle.sctp_wire.specs.declared.fault.NoMemory.{NoMemory}
 use Rattle.sctp_trace.specs.declared.message.Message.{Message}
 use Rattle.sctp_trace.specs.declared.receiver.Answer.{Answer}

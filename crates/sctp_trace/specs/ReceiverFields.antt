@@ -1,8 +1,7 @@
 -- What a receiver's own types say.
-use Rattle.std.specs.Prelude.{ℕ, true, map, unwrap_or}
+use Rattle.std.specs.Prelude.{true, map}
 use Rattle.sctp_model.specs.Format.{ordered_lane}
 use Rattle.sctp_model.specs.Pieces.{Piece}
-use Rattle.sctp_model.specs.ReceiverView.{Handed}
 use Rattle.sctp_trace.specs.ReceiverKept.{StreamKept}
 use Rattle.sctp_trace.specs.HandedOf.{handed_of}
 use Rattle.sctp_trace.specs.declared.kept.KeptPiece.{KeptPiece}

@@ -26,12 +26,7 @@ pub(crate) struct InboundStream {
 
 /// Hands over what is due on a stream, in the order of the numbers, and drops what lies behind. There is room
 /// among what waits for as many messages as chunks are kept.
-pub(crate) fn hand_over(
-    alloc: Global,
-    kept: &mut Vec<KeptPiece>,
-    inbound: &mut InboundStream,
-    stream: u16,
-)
+fn hand_over(alloc: Global, kept: &mut Vec<KeptPiece>, inbound: &mut InboundStream, stream: u16)
     requires { deque_len inbound.old.waiting + vec_len kept.old ≤ deque_capacity inbound.old.waiting }
     ensures { HandsOver stream (map piece_of_kept kept.old.items) (stream_of inbound.old)
         (map piece_of_kept kept.new.items) (stream_of inbound.new) }

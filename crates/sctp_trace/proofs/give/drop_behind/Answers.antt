@@ -1,6 +1,5 @@
-use Rattle.std.proofs.Common.{◌≡◌, arith, sym, ◌∙◌, ap, not, map, filter, rules}
+use Rattle.std.proofs.Common.{sym, ◌∙◌, ap, not, map, rules}
 use Rattle.std.proofs.lemmas.Fn.{filter_same}
-use Rattle.std.proofs.lemmas.Grind.{common_steps}
 use Rattle.sctp_model.specs.Receiving.{is_below}
 use Rattle.sctp_trace.specs.declared.kept.KeptPiece.{KeptPiece}
 use Rattle.sctp_trace.specs.ReceiverFields.{piece_of_kept}

@@ -1,4 +1,4 @@
-use Rattle.std.proofs.Common.{◌≡◌, ℕ, arith, add-one, map, not}
+use Rattle.std.proofs.Common.{ℕ, arith, add-one, map, not}
 use Rattle.std.proofs.lemmas.List.{length-map, map-append}
 use Rattle.sctp_model.specs.Pieces.{Piece}
 use Rattle.sctp_model.specs.Receiving.{is_below}

@@ -1,4 +1,4 @@
-use Rattle.std.proofs.Common.{◌≡◌, ◌<◌, ◌^◌, sym, ◌∙◌, arith}
+use Rattle.std.proofs.Common.{◌<◌, ◌^◌, sym, ◌∙◌, arith}
 use Rattle.sctp_trace.proofs.LowestLemmas.{lowest-skip, lowest-take}
 use Rattle.sctp_trace.proofs.kept.lowest.Goals as goal
 use Rattle.sctp_trace.proofs.kept.lowest.Goals.{then-piece-stream+then-from-number+then-is_lower, else-piece-stream, else-piece-stream-via-then-piece-stream+then-from-number+else-is_lower, else-piece-stream-via-then-piece-stream+else-from-number, else-piece-stream-via-else-piece-stream}

@@ -1,11 +1,9 @@
-use Rattle.std.proofs.Common.{◌≡◌, ◌<◌, ◌≤◌, ◌∙◌, length, map, subst, sym, ap, refl, arith}
+use Rattle.std.proofs.Common.{◌<◌, ◌≤◌, ◌∙◌, length, map, subst, sym, refl, arith}
 use Rattle.std.proofs.lemmas.List.{length-map, map-set}
 use Rattle.std.proofs.lemmas.Result.{err_from_is_err_and}
 use Rattle.sctp_wire.specs.ChunkTree.{piece_meaning}
-use Rattle.sctp_model.specs.Pieces.{Piece}
 use Rattle.sctp_trace.specs.ReceiverFields.{piece_of_kept, stream_of}
-use Rattle.sctp_trace.specs.ReceiverKept.{StreamKept, ReceiverKept}
-use Rattle.sctp_trace.specs.HandsOver.{HandsOver}
+use Rattle.sctp_trace.specs.ReceiverKept.{ReceiverKept}
 use Rattle.sctp_trace.specs.ReceiverStands.{ReceiverStands, KeepsView, stream_at}
 use Rattle.sctp_trace.proofs.ReceiverSteps.{stream-read, stream-written, stands-same, answer-duplicate, answer-passed, answer-taken}
 use Rattle.sctp_trace.proofs.receiver.Receiver.on_data.Goals as goal

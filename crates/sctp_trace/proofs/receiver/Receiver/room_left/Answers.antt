@@ -1,4 +1,4 @@
-use Rattle.std.proofs.Common.{◌≡◌, ◌∙◌, subst, sym, length, arith}
+use Rattle.std.proofs.Common.{◌∙◌, subst, sym}
 use Rattle.std.proofs.lemmas.List.{length-map}
 use Rattle.sctp_trace.specs.ReceiverFields.{stream_of}
 use Rattle.sctp_trace.specs.ReceiverKept.{ReceiverKept}

@@ -1,10 +1,9 @@
-use Rattle.std.proofs.Common.{◌≡◌, ◌<◌, ◌↔◌, IsSome, length, map, subst, sym, ap, refl, arith}
-use Rattle.std.proofs.lemmas.List.{length-map, map-set}
-use Rattle.sctp_trace.specs.HandedOf.{handed_of}
+use Rattle.std.proofs.Common.{◌<◌, ◌↔◌, IsSome, length, map, subst, sym, ap, refl, arith}
+use Rattle.std.proofs.lemmas.List.{length-map}
 use Rattle.sctp_trace.specs.ReceiverFields.{stream_of}
 use Rattle.sctp_trace.specs.declared.give.InboundStream.{InboundStream}
 use Rattle.sctp_trace.specs.ReceiverKept.{StreamKept, ReceiverKept}
-use Rattle.sctp_trace.specs.ReceiverStands.{ReceiverStands, KeepsView, stream_at}
+use Rattle.sctp_trace.specs.ReceiverStands.{ReceiverStands, KeepsView}
 use Rattle.sctp_trace.proofs.ReceiverSteps.{stream-read, stream-written, answer-take}
 use Rattle.sctp_trace.proofs.receiver.Receiver.take.Goals as goal
 

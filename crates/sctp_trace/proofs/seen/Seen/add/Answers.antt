@@ -1,4 +1,4 @@
-use Rattle.std.proofs.Common.{◌≡◌, true, subst, sym, rules}
+use Rattle.std.proofs.Common.{true, subst, sym, rules}
 use Rattle.std.specs.Ordering.{nat_cmp}
 use Rattle.std.specs.BTreeSet.{Updates}
 use Rattle.sctp_trace.specs.ReceiverKept.{SeenKept}
