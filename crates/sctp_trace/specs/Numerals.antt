@@ -1,0 +1,19 @@
+-- Numbers and bytes as words of a script.
+use Rattle.std.specs.Prelude.{◌≡◌, ℕ, ◌<◌, List, [], ◌∷◌, length, slice_index, codes}
+use Rattle.std.specs.Str.Parse.{IsNumeral, digits_value}
+use Rattle.hex.specs.Hex.{encode_lower, IsBytes}
+
+-- A number in decimal: digits, at least one, without sign; none but the number 0 begins with `0` (ASCII 48).
+pub record IsDecimal (word : List ℕ) (n : ℕ) : Type 0 where
+  pub digits : IsNumeral 10 word
+  pub plain : slice_index word 0 ≡ 48 → length word ≡ 1
+  pub value : digits_value 10 word ≡ n
+
+-- bytes as two digits each, of lower case; `-` where there is no byte
+abbrev pub hex_word : List ℕ → List ℕ
+hex_word [] = codes "-"
+hex_word (b ∷ bs) = encode_lower (b ∷ bs)
+
+-- the word says these bytes
+abbrev pub IsHex : List ℕ → List ℕ → Type 0
+IsHex word bytes = IsBytes bytes × (word ≡ hex_word bytes)
