@@ -15,3 +15,12 @@ pub use event::{Bytes, Event, Outcome, SendRefusal, Side, State};
 pub use hex_word::put_hex;
 pub use outcome_line::put_outcome;
 pub use report::{put_end, put_handed, put_numbered};
+mod give;
+mod kept;
+mod message;
+mod receiver;
+mod room;
+mod seen;
+
+pub use message::Message;
+pub use receiver::{Answer, Receiver, SackValues};
