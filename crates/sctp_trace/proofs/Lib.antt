@@ -1,1 +1,2 @@
 mod WrittenLines
+pub mod PacketLemmas

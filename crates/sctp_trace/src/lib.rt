@@ -24,3 +24,6 @@ mod seen;
 
 pub use message::Message;
 pub use receiver::{Answer, Receiver, SackValues};
+mod packet;
+
+pub use packet::PacketWriter;
