@@ -3,27 +3,34 @@
 
 mod config;
 mod decimal;
+mod end;
+mod end_report;
 mod event;
+mod give;
 mod hex_word;
+mod kept;
 mod line_out;
+mod message;
 mod outcome_line;
+mod packet;
+mod pair;
+mod receiver;
 mod report;
+mod room;
+mod seen;
+mod sender;
 
 pub use config::{ConfigFault, Draw, Mode, PairConfig};
 pub use decimal::put_decimal;
 pub use event::{Bytes, Event, Outcome, SendRefusal, Side, State};
 pub use hex_word::put_hex;
-pub use outcome_line::put_outcome;
-pub use report::{put_end, put_handed, put_numbered};
-mod give;
-mod kept;
-mod message;
-mod receiver;
-mod room;
-mod seen;
-
 pub use message::Message;
-pub use receiver::{Answer, Receiver, SackValues};
-mod packet;
-
+pub use outcome_line::put_outcome;
 pub use packet::PacketWriter;
+pub use pair::Pair;
+pub use receiver::{Answer, Receiver, SackValues};
+pub use report::{put_end, put_handed, put_numbered};
+pub use sender::{Filled, MESSAGE_LIMIT, QUEUE_LIMIT, SendFault, Sender, Ticket};
+
+#[cfg(test)]
+mod tests;

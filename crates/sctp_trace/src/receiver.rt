@@ -1,6 +1,7 @@
 //! The receiving end of an association: what came, what is kept, and what waits for the user (RFC 9260, 6.2 and 6.6).
 
-ghost use Rattle.std.specs.Prelude.{◌≡◌, IfOk};
+ghost use Rattle.std.specs.Prelude.{◌≡◌, IfOk, MatchOption, map, []};
+ghost use Rattle.sctp_trace.specs.HandedOf.{handed_of};
 ghost use Rattle.sctp_model.specs.ReceiverView.{ReceiverView, IsCumulative};
 ghost use Rattle.sctp_model.specs.World.{room_left};
 ghost use Rattle.sctp_wire.specs.ChunkTree.{piece_meaning};
@@ -14,6 +15,7 @@ use crate::room::{less_pieces, less_streams};
 use crate::seen::Seen;
 use sctp_wire::{NoMemory, Piece};
 use std::alloc::Global;
+use std::collections::VecDeque;
 use std::marker::Model;
 
 /// What was done with a DATA.
@@ -137,6 +139,18 @@ impl Receiver {
             piece,
         )?;
         Ok(Answer::Taken)
+    }
+
+    /// The messages that wait on a stream, first to last. None where there is no such stream.
+    pub fn waiting(&self, stream: u16) -> Option<&VecDeque<Message>>
+        ensures { (v : ReceiverView) → ReceiverStands self.now v
+            → MatchOption result (v.waiting stream ≡ []) (λ messages. map handed_of messages.now.items ≡ v.waiting stream) }
+    {
+        let stream = usize::from(stream);
+        if stream >= self.streams.len() {
+            return None;
+        }
+        Some(&self.streams[stream].waiting)
     }
 
     /// Takes the first message that waits on a stream: None exactly where none waits, as on a stream that isn't
