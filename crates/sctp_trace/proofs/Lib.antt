@@ -1,2 +1,4 @@
 mod WrittenLines
 pub mod PacketLemmas
+pub mod SenderLemmas
+pub mod FillLemmas
