@@ -28,6 +28,11 @@ abbrev pub QueueAnswer : SenderView → ℕ → List ℕ → Result Ticket SendF
 QueueAnswer v stream bytes (Ok ticket) = (refusal v stream bytes ≡ None) × (ticket.0 ≡ suc (accepted v))
 QueueAnswer v stream bytes (Err fault) = refusal v stream bytes ≡ reason_of fault
 
+-- The first reason that holds, and none exactly where none does.
+abbrev pub RefusalAnswer : SenderView → ℕ → List ℕ → Option SendFault → Type 0
+RefusalAnswer v stream bytes None = refusal v stream bytes ≡ None
+RefusalAnswer v stream bytes (Some fault) = (r : Refusal) × (reason_of fault ≡ Some r) × (refusal v stream bytes ≡ Some r)
+
 abbrev pub queue_after : SenderView → ℕ → ℕ → List ℕ → Result Ticket SendFault → SenderView
 queue_after v stream payload bytes (Ok ticket) = queued v stream payload bytes
 queue_after v stream payload bytes (Err fault) = v

@@ -2,7 +2,7 @@
 
 ghost use Rattle.std.specs.Prelude.{◌≡◌, ◌+◌, ◌≤◌, false, [], ◌∷◌, ◌++◌, map, replicate, vec_len, IfOk, OnOk, OnErr};
 ghost use Rattle.std.specs.VecDeque.{deque_len, deque_capacity};
-ghost use Rattle.sctp_model.specs.Receiving.{without_below};
+ghost use Rattle.sctp_model.specs.Receiving.{is_below, without_below};
 ghost use Rattle.sctp_wire.specs.ChunkTree.{piece_meaning};
 ghost use Rattle.sctp_trace.specs.HandsOver.{HandsOver, whole_piece};
 ghost use Rattle.sctp_trace.specs.ReceiverFields.{piece_of_kept, stream_of};
@@ -48,7 +48,14 @@ pub(crate) fn hand_over(
 fn drop_behind(kept: &mut Vec<KeptPiece>, stream: u16, next: u64)
     ensures { map piece_of_kept kept.new.items ≡ without_below (map piece_of_kept kept.old.items) stream next }
 {
-    kept.retain(|piece| piece.stream != stream || u64::from(piece.number) >= next);
+    kept.retain(|piece| !is_behind(piece, stream, next));
+}
+
+/// Whether a chunk is of a stream, and below a number.
+fn is_behind(piece: &KeptPiece, stream: u16, next: u64) -> bool
+    ensures { result ≡ is_below stream next (piece_of_kept piece.now) }
+{
+    piece.stream == stream && u64::from(piece.number) < next
 }
 
 /// So many streams, on which nothing came.
@@ -86,7 +93,10 @@ pub(crate) fn take_in(
         × (stream_of inbound.new ≡ stream_of inbound.old)) }
 {
     kept.reserve(1).map_err(|_| NoMemory)?;
-    inbound.waiting.reserve(kept.len() + 1).map_err(|_| NoMemory)?;
+    inbound
+        .waiting
+        .reserve(kept.len() + 1)
+        .map_err(|_| NoMemory)?;
     let bytes = Vec::from_slice(alloc, piece.bytes).map_err(|_| NoMemory)?;
     seen.add(piece.tsn)?;
     kept.push_reserved(KeptPiece {

@@ -44,7 +44,10 @@ pub(crate) fn lowest(kept: &[KeptPiece], stream: u16, number: u64) -> Option<(us
 {
     let mut best: Option<(usize, u32)> = None;
     for (at, piece) in kept.iter().enumerate() {
-        if piece.stream == stream && u64::from(piece.number) == number && is_lower(piece.index, best) {
+        if piece.stream == stream
+            && u64::from(piece.number) == number
+            && is_lower(piece.index, best)
+        {
             best = Some((at, piece.index));
         }
     }

@@ -30,7 +30,9 @@ pub use packet::PacketWriter;
 pub use pair::Pair;
 pub use receiver::{Answer, Receiver, SackValues};
 pub use report::{put_end, put_handed, put_numbered};
-pub use sender::{Filled, MESSAGE_LIMIT, QUEUE_LIMIT, SendFault, Sender, Ticket};
+pub use sender::{Filled, SendFault, Sender, Ticket};
 
+#[cfg(test)]
+mod receiver_tests;
 #[cfg(test)]
 mod tests;

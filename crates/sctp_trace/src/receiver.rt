@@ -59,10 +59,10 @@ impl Model for Receiver {
     ghost use Rattle.sctp_trace.specs.ReceiverFields.{piece_of_kept, stream_of};
 
     ghost view = { λ r. record {
-        seen = r.seen;
-        pieces = map piece_of_kept r.kept.items;
-        streams = map stream_of r.streams.items;
-        buffer = r.buffer;
+      seen = r.seen;
+      pieces = map piece_of_kept r.kept.items;
+      streams = map stream_of r.streams.items;
+      buffer = r.buffer;
     } };
 }
 
@@ -98,7 +98,7 @@ impl Receiver {
         ensures rwnd { (v : ReceiverView) → ReceiverStands self.now v → result.rwnd ≡ room_left v }
     {
         SackValues {
-            cumulative: self.seen.cumulative(),
+            cumulative: self.cumulative(),
             rwnd: self.room_left(),
         }
     }

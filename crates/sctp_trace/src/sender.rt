@@ -4,7 +4,7 @@
 //! As yet a message is one fragment of an ordered stream, every TSN is its index (the first is 1), and
 //! nothing is repeated: what went out is not kept.
 
-ghost use Rattle.std.specs.Prelude.{◌≡◌, ℕ, suc, ◌+◌, ◌<◌, ◌≤◌, ◌^◌, if◌then◌else◌, is_ok, ◌∷◌, [], length, map, take, drop, slice_index, vec_len, MatchResult, OnOk};
+ghost use Rattle.std.specs.Prelude.{◌≡◌, ℕ, List, suc, ◌+◌, ◌<◌, ◌≤◌, ◌^◌, if◌then◌else◌, is_ok, ◌∷◌, [], length, map, take, drop, slice_index, vec_len, MatchResult, OnOk};
 ghost use Rattle.std.specs.List.{AllByRecursion};
 ghost use Rattle.std.specs.VecDeque.{deque_len};
 ghost use Rattle.sctp_model.specs.Chunk.{Data};
@@ -16,7 +16,7 @@ ghost use Rattle.sctp_wire.specs.Layouts.{IsDataPiece};
 ghost use Rattle.sctp_trace.specs.PacketBytes.{room_in, with_chunks};
 ghost use Rattle.sctp_trace.specs.SenderFields.{waits_of, IsSmall};
 ghost use Rattle.sctp_trace.specs.SenderStands.{StandsFor, queue_of, data_from, Puts};
-ghost use Rattle.sctp_trace.specs.SenderSteps.{QueueAnswer, queue_after, Fills, Stops, numbers_of};
+ghost use Rattle.sctp_trace.specs.SenderSteps.{RefusalAnswer, QueueAnswer, queue_after, Fills, Stops, numbers_of};
 
 use crate::packet::{PacketWriter, padded};
 use sctp_wire::{Chunk, NoMemory, Piece, Sack};
@@ -151,6 +151,27 @@ impl Sender {
     {
         if sack.cumulative >= self.cum && sack.cumulative <= self.numbered {
             self.cum = sack.cumulative;
+        }
+    }
+
+    /// Why a message of so many bytes is refused on a stream now. None where it would be taken, but for want of
+    /// memory.
+    pub fn refusal(&self, stream: u16, size: usize) -> Option<SendFault>
+        ensures { (v : SenderView) (bytes : List ℕ) → StandsFor self.now v → length bytes ≡ size
+            → RefusalAnswer v stream bytes result }
+    {
+        if stream >= self.streams {
+            Some(SendFault::NoSuchStream)
+        } else if size == 0 {
+            Some(SendFault::Empty)
+        } else if size > usize::from(self.fragment) {
+            Some(SendFault::TooLong)
+        } else if self.waiting.len() >= QUEUE_LIMIT {
+            Some(SendFault::QueueFull)
+        } else if self.numbered + self.waiting.len() as u32 >= MESSAGE_LIMIT {
+            Some(SendFault::Spent)
+        } else {
+            None
         }
     }
 
