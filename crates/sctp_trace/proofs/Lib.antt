@@ -9,3 +9,5 @@ mod LowestLemmas
 mod RoomLemmas
 mod SeenLemmas
 mod ReceiverSteps
+mod EndLemmas
+mod BagLemmas
