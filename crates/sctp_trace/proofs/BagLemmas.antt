@@ -1,5 +1,5 @@
 -- Bags of packets, and worlds of which one end or one bag changed.
-use Rattle.std.proofs.Common.{◌≡◌, ℕ, zero, suc, ◌+◌, ◌-◌, ◌<◌, ◌≤◌, List, [], ◌∷◌, ◌++◌, length, slice_get, get_or, Option, Some, None, refl, sym, ap, arith}
+use Rattle.std.proofs.Common.{◌≡◌, ◌⊎◌, inl, inr, ℕ, zero, suc, ◌+◌, ◌-◌, ◌<◌, ◌≤◌, List, [], ◌∷◌, ◌++◌, length, slice_get, get_or, Option, Some, None, refl, sym, ap, arith}
 use Rattle.std.specs.declared.vec.Vec.{Vec}
 use Rattle.std.specs.declared.alloc.Global.{Global}
 use Rattle.std.proofs.lemmas.Option.{slice_get_past}
@@ -41,12 +41,10 @@ bag-there (x ∷ bag) [] i b h l e = absurd h
 pub item_there : (ps : List Packet) (n i : ℕ) (p : Packet) → n ≡ suc i → slice_get ps i ≡ Some p → item_at ps n ≡ Some p
 item_there ps n i p e h = rw e h
 
-pub item_none : (ps : List Packet) → item_at ps 0 ≡ None
-item_none ps = refl
-
-pub item_past : (ps : List Packet) (n : ℕ) → length ps < n → item_at ps n ≡ None
-item_past ps zero l = refl
-item_past ps (suc n) l = slice_get_past ps n (omega arith)
+pub item_outside : (ps : List Packet) (n : ℕ) → (n ≡ 0) ⊎ (length ps < n) → item_at ps n ≡ None
+item_outside ps zero h = refl
+item_outside ps (suc n) (inl e) = absurd (omega arith)
+item_outside ps (suc n) (inr l) = slice_get_past ps n (omega arith)
 
 -- ---- nothing changed
 

@@ -7,10 +7,10 @@ use Rattle.std.specs.List.{AllByRecursion}
 use Rattle.std.proofs.Math.Path.{fun_ext}
 use Rattle.std.proofs.lemmas.List.{append-nil, map-append, length-take}
 use Rattle.std.proofs.lemmas.List.Elements.{filter-append}
-use Rattle.std.proofs.lemmas.Bool.{eq-eqb, eqb-false, eqb-true, cond_both}
+use Rattle.std.proofs.lemmas.Bool.{eq-eqb, eqb-false, eqb-true, cond_both, and_parts, cases_Bool}
 use Rattle.std.proofs.lemmas.Grind.{common_steps}
 use Rattle.sctp_model.specs.Words.{joined, at}
-use Rattle.sctp_model.specs.Format.{Plain, Lane, ordered_lane, at_lane}
+use Rattle.sctp_model.specs.Format.{Plain, Kind, Ordered, Unordered, Lane, same_kind, same_lane, ordered_lane, at_lane}
 use Rattle.sctp_model.specs.Chunk.{PieceMeaning, SackMeaning, ChunkMeaning, Data, Sack}
 use Rattle.sctp_model.specs.Plan.{Message, Plan, Entry, Part, End as EndMark, message_at}
 use Rattle.sctp_model.specs.Pieces.{Piece}
@@ -20,7 +20,6 @@ use Rattle.sctp_model.specs.Receiving.{IsDue, Stop, Over, Past}
 use Rattle.sctp_model.specs.World as world
 use Rattle.sctp_model.specs.Sending.{Refusal, NotOpen, refusal, IsFill, numbered_one, numbered_all, went_out, acknowledged}
 use Rattle.sctp_model.specs.World.{EndView, Packet, Act, Acts, is_taken, piece_said, SackOf, size_of_packet, size_of_chunks, HEADER_ROOM, SACK_ROOM, State, Closed, Listen, Established, refusal_in, datas_of, Configuration, Builds, taken_by_user, PieceTaken, Duplicate, Passed, Taken}
-use Rattle.sctp_safety.proofs.Basics.{at_cases, at_lane_cases, at_lane_same}
 use Rattle.sctp_wire.specs.declared.fault.NoMemory.{NoMemory}
 use Rattle.sctp_trace.specs.Events.{Answers}
 use Rattle.sctp_trace.specs.PairRuns.{Told}
@@ -46,6 +45,44 @@ use Rattle.sctp_trace.specs.declared.sender.Filled.{Filled}
 pub all-append : {X : Type 0} (P : X → Type 0) (xs ys : List X) → AllByRecursion P xs → AllByRecursion P ys → AllByRecursion P (xs ++ ys)
 all-append P [] ys a b = b
 all-append P (x ∷ xs) ys (h, a) b = (h, all-append P xs ys a b)
+
+-- ---- functions changed at one argument
+
+pub at_cases : {A : Type 0} (P : A → Type 0) (f : ℕ → A) (s : ℕ) (v : A) (t : ℕ) →
+    (t ≡ s → P v) → ((t ≡ s → ⊥) → P (f t)) → P (at f s v t)
+at_cases P f s v t here there = cond_both (t == s) v (f t) P (λ e. here (eqb-true t s e)) (λ e. there (eqb-false t s e))
+
+kind_same : (a b : Kind) → same_kind a b ≡ true → a ≡ b
+kind_same Ordered Ordered h = refl
+kind_same Ordered Unordered h = cc
+kind_same Unordered Ordered h = cc
+kind_same Unordered Unordered h = refl
+
+kind_itself : (a : Kind) → same_kind a a ≡ true
+kind_itself Ordered = refl
+kind_itself Unordered = refl
+
+lane_same : (l k : Lane) → same_lane l k ≡ true → l ≡ k
+lane_same l k h =
+    let parts = and_parts (l.stream == k.stream) (same_kind l.kind k.kind) h in
+    let stream = eqb-true l.stream k.stream parts.0 in
+    let kind = kind_same l.kind k.kind parts.1 in
+    λ i. record { stream = stream i; kind = kind i }
+
+lane_itself : (l : Lane) → same_lane l l ≡ true
+lane_itself l = rw (eq-eqb l.stream l.stream refl, kind_itself l.kind) refl
+
+at_lane_cases : {A : Type 0} (P : A → Type 0) (f : Lane → A) (l : Lane) (v : A) (k : Lane) →
+    (k ≡ l → P v) → ((k ≡ l → ⊥) → P (f k)) → P (at_lane f l v k)
+at_lane_cases P f l v k here there =
+    cond_both (same_lane k l) v (f k) P (λ e. here (lane_same k l e))
+    (λ e. there (λ same. absurd (apart (subst (λ (j : Lane). same_lane k j ≡ false) (sym same) e))))
+  where
+    apart : same_lane k k ≡ false → ⊥
+    apart e = cc (lane_itself k)
+
+at_lane_same : {A : Type 0} (f : Lane → A) (l : Lane) (v : A) → at_lane f l v l ≡ v
+at_lane_same f l v = at_lane_cases (λ x. x ≡ v) f l v l (λ e. refl) (λ ne. absurd (ne refl))
 
 -- ---- what is handed over on a stream is of that stream
 
@@ -111,6 +148,11 @@ data_heard e q v p a t k stands some answered = go a some answered
     go answer.Duplicate some answered = heard answered.0 answered.2
     go answer.Passed some answered = heard answered.0 answered.2
     go answer.Taken some answered = heard answered.0 answered.2
+
+pub not_over : (a : Answer) → (a ≡ answer.Duplicate) ⊎ ((a ≡ answer.Passed) ⊎ (a ≡ answer.Taken)) → a ≡ answer.PassedOver → ⊥
+not_over a (inl e) over = cc
+not_over a (inr (inl e)) over = cc
+not_over a (inr (inr e)) over = cc
 
 -- a SACK changes no plan
 pub acknowledged_plan : (v : SenderView) (cum rwnd : ℕ) → (acknowledged v cum rwnd).plan ≡ v.plan
@@ -194,14 +236,14 @@ have_same p l m (EndMark k n ∷ es) (here, rest) = (length_grown p l m k n here
 
 -- what messages that go out do to the tickets
 pub record AreTold (p t : Plan) (tickets : List ℕ) : Type 0 where
-  pub tickets : tickets_of t ≡ tickets_of p ++ tickets
+  pub told : tickets_of t ≡ tickets_of p ++ tickets
   pub messages : AllByRecursion (HasMessage t) t.entries
 
 one_told : (p : Plan) (l : Lane) (m : Message) → AllByRecursion (HasMessage p) p.entries → AreTold p (more p l m) (m.ticket ∷ [])
 one_told p l m h =
     let here : at_lane p.messages l (p.messages l ++ m ∷ []) l ≡ p.messages l ++ m ∷ [] = at_lane_same p.messages l (p.messages l ++ m ∷ []) in
     record {
-      tickets = tickets_in-append (more p l m) p.entries (Part l (length (p.messages l)) 0 ∷ [])
+      told = tickets_in-append (more p l m) p.entries (Part l (length (p.messages l)) 0 ∷ [])
         ∙ rw (tickets_same p l m p.entries h, here, slice_get-last (p.messages l) m) refl;
       messages = all-append (HasMessage (more p l m)) p.entries (Part l (length (p.messages l)) 0 ∷ []) (have_same p l m p.entries h)
         (rw here (omega (arith, length-append (p.messages l) (m ∷ []))), tt);
@@ -209,12 +251,12 @@ one_told p l m h =
 
 pub all_told : (v : SenderView) (qs : List Queued) → AllByRecursion (HasMessage v.plan) v.plan.entries
     → AreTold v.plan (numbered_all v qs).plan (map (λ q. q.message.ticket) qs)
-all_told v [] h = record { tickets = sym (append-nil (tickets_of v.plan)); messages = h }
+all_told v [] h = record { told = sym (append-nil (tickets_of v.plan)); messages = h }
 all_told v (q ∷ qs) h =
     let one = one_told v.plan q.lane q.message h in
     let rest = all_told (numbered_one v q) qs one.messages in
     record {
-      tickets = rest.tickets ∙ rw (one.tickets, append_assoc) refl;
+      told = rest.told ∙ rw (one.told, append_assoc) refl;
       messages = rest.messages;
     }
 
@@ -232,9 +274,12 @@ taken-push ms m s e = rw (filter-append, map-append, eq-eqb m.stream s e) refl
 
 pub taken-other : (ms : List TakenMessage) (m : TakenMessage) (s : ℕ) → (m.stream ≡ s → ⊥) → numbers_taken (ms ++ m ∷ []) s ≡ numbers_taken ms s
 taken-other ms m s ne =
-    cond_both (m.stream == s) _ _ (λ (xs : List TakenMessage). map (λ x. x.number) (filter (λ x. x.stream == s) ms ++ xs) ≡ numbers_taken ms s)
-    (λ e. absurd (ne (eqb-true m.stream s e))) (λ e. ap (λ (xs : List TakenMessage). map (λ x. x.number) xs) (append-nil (filter (λ x. x.stream == s) ms)))
-    ∙ refl
+    let other : (m.stream == s) ≡ false = go (cases_Bool (m.stream == s)) in
+    rw (filter-append, map-append, other) (append-nil (numbers_taken ms s))
+  where
+    go : ((m.stream == s) ≡ true) ⊎ ((m.stream == s) ≡ false) → (m.stream == s) ≡ false
+    go (inl e) = absurd (ne (eqb-true m.stream s e))
+    go (inr e) = e
 
 -- ---- the user takes a message
 
@@ -306,7 +351,7 @@ datas_none v (q ∷ qs) e = cc
 pub begin_room : (v : EndView) (sacks : Packet) (limit : ℕ) → IsBeginning v sacks
     → room_in (with_chunks (empty_draft limit) sacks) ≡ limit - HEADER_ROOM - SACK_ROOM * length sacks
 begin_room v sacks limit (inl (due, e)) = rw e (omega arith)
-begin_room v sacks limit (inr (due, s, of, e)) =
+begin_room v sacks limit (inr (due, (s, of, e))) =
     let blocks = ap (λ (x : SackMeaning). length x.blocks) of.1 in
     let duplicates = ap (λ (x : SackMeaning). length x.duplicates) of.1 in
     rw e (omega (arith, blocks, duplicates))
@@ -348,7 +393,7 @@ is_idle v sacks packet after k filled limit begins is f none =
 
     due : IsBeginning v sacks → sacks ≡ [] → v.sack_due ≡ false
     due (inl (d, e)) none = d
-    due (inr (d, s, of, e)) none = cc
+    due (inr (d, (s, of, e))) none = cc
 
 -- the log, and the sender's plan
 pub end_built : (e : End) (q : Kept) (log : Vec Filled Global) (v : EndView) (packet after : Draft) (filled : Filled) → IsEnd e v
@@ -363,7 +408,7 @@ end_built e q log v packet after filled k f is =
       sack_due = refl;
       streams = k.streams;
       numbered = ap tickets_noted is ∙ (noted-push e.numbered.items filled ∙ (ap (λ (ts : List ℕ). ts ++ numbers_of filled.tickets.items) k.numbered
-        ∙ (ap (λ (ts : List ℕ). tickets_of v.sender.plan ++ ts) f.tickets ∙ sym told.tickets)));
+        ∙ (ap (λ (ts : List ℕ). tickets_of v.sender.plan ++ ts) f.tickets ∙ sym told.told)));
       messages = told.messages;
       taken = k.taken;
       lanes = k.lanes;
