@@ -11,3 +11,4 @@ mod SeenLemmas
 mod ReceiverSteps
 mod EndLemmas
 mod BagLemmas
+mod RunLemmas
