@@ -4,7 +4,7 @@ use Rattle.std.specs.Prelude.{nat_le, true, false}
 use Rattle.std.specs.List.{AllByRecursion}
 use Rattle.std.proofs.lemmas.List.{append-nil, map-append, length-map, take-map, length-take-le, get_or-map}
 use Rattle.std.proofs.lemmas.Grind.{common_steps, take_at_read}
-use Rattle.sctp_model.specs.Chunk.{ChunkMeaning, PieceMeaning, Data, Sack, Unknown}
+use Rattle.sctp_model.specs.Chunk.{ChunkMeaning, PieceMeaning, Data}
 use Rattle.sctp_model.specs.SenderView.{Queued, SenderView}
 use Rattle.sctp_model.specs.Sending.{padded, room_of, room_of_all, IsFill, went_out}
 use Rattle.sctp_model.specs.World.{size_of_chunk, size_of_chunks, size_of_packet, datas_of}
@@ -105,20 +105,18 @@ puts_more numbered xs packet before after i x lt e put is =
     rw (is, put, more, append_assoc packet.chunks (datas_from (suc numbered) front) (data_from (numbered + 1 + i) (waits_of x) ∷ [])) refl
 
 -- a message that fits a packet of fewer than 65,536 bytes can be written, and is taken
-pub fits_room : (p : PieceMeaning) (d : Draft) → IsDataPiece p → 16 + padded (length p.bytes) ≤ room_in d → room_in d < 2 ^ 16
+fits_room : (p : PieceMeaning) (d : Draft) → IsDataPiece p → 16 + padded (length p.bytes) ≤ room_in d → room_in d < 2 ^ 16
     → Fits (Data p) × (has_room d (Data p) ≡ true)
-fits_room p d fields room small =
-    (record { fields = fields; length = omega (arith, length-data_value p) },
-    let size = size_of_more d.chunks (Data p) in grind (arith, common_steps))
+fits_room p d fields room small = (
+  record { fields = fields; length = omega (arith, length-data_value p) },
+  let size = size_of_more d.chunks (Data p) in grind (arith, common_steps),
+)
 
-size_of : ChunkMeaning → ℕ
-size_of (Data p) = length p.bytes
-size_of (Sack s) = 0
-size_of (Unknown kind flags value) = 0
-
-pub same_size : (p : PieceMeaning) (tsn : ℕ) (w : Waits) → Data p ≡ data_from tsn w → length p.bytes ≡ length w.bytes
-unfolding size_of
-same_size p tsn w e = ap size_of e
+pub fits_waiting : (w : Waiting) (tsn : ℕ) (d : Draft) → tsn < 2 ^ 32 → IsSmall w → 16 + padded (length w.bytes.items) ≤ room_in d → room_in d < 2 ^ 16
+    → Fits (data_from tsn (waits_of w)) × (has_room d (data_from tsn (waits_of w)) ≡ true)
+fits_waiting w tsn d tsn_small small room room_small =
+    let piece : PieceMeaning = record { immediate = false; unordered = false; begin = true; end = true; tsn = tsn; stream = w.stream; number = w.number; word = w.payload_id; bytes = w.bytes.items } in
+    fits_room piece d (record { tsn = tsn_small; stream = small.stream; number = omega (arith, small.number); word = small.payload }) room room_small
 
 -- ---- the view's queue
 

@@ -123,14 +123,16 @@ pub draft_packet : (limit : ℕ) (bytes : List ℕ) → IsDraft limit bytes → 
     → IsPacketOf bytes (chunks_of (drop HEADER_ROOM bytes)) × (chunks_of (drop HEADER_ROOM bytes) ≡ [] → ⊥)
 draft_packet limit bytes d some =
     let size = size_of_writes _ _ d.writes in
-    let behind = length-drop HEADER_ROOM bytes in
-    (record {
-      body = drop HEADER_ROOM bytes;
-      bytes_are = sym (take-append-drop HEADER_ROOM bytes) ∙ ap (λ (xs : List ℕ). xs ++ drop HEADER_ROOM bytes) (d.header (omega arith));
-      writes = d.writes;
-      reads = reads_writes _ _ d.writes;
-      size = omega arith;
-    }, λ none. let zero_size = ap size_of_chunks none in absurd (omega arith))
+    let behind = length-drop HEADER_ROOM bytes in (
+      record {
+        body = drop HEADER_ROOM bytes;
+        bytes_are = sym (take-append-drop HEADER_ROOM bytes) ∙ ap (λ (xs : List ℕ). xs ++ drop HEADER_ROOM bytes) (d.header (omega arith));
+        writes = d.writes;
+        reads = reads_writes _ _ d.writes;
+        size = omega arith;
+      },
+      λ none. let zero_size = ap size_of_chunks none in absurd (omega arith),
+    )
 
 pub draft_none : (limit : ℕ) (bytes : List ℕ) → IsDraft limit bytes → length bytes ≤ HEADER_ROOM → chunks_of (drop HEADER_ROOM bytes) ≡ []
 draft_none limit bytes d short =

@@ -122,3 +122,64 @@ pub(crate) fn padded(length: usize) -> usize
 {
     (length + 3) / 4 * 4
 }
+
+#[cfg(test)]
+mod tests {
+    use super::*;
+    use sctp_wire::{Blocks, Sack, Words};
+    use std::test::Fail;
+
+    fn unknown(value: &[u8]) -> Chunk<'_> {
+        Chunk::Unknown {
+            kind: 64,
+            flags: 0,
+            value,
+        }
+    }
+
+    #[test]
+    fn a_chunk_is_taken_up_to_the_last_byte_of_the_limit(rt: HostRuntime) -> Result<(), Fail> {
+        // header 12, and a chunk of 4 and 5 bytes with 3 of padding
+        for (limit, taken) in [(24u16, true), (23, false), (12, false), (0, false)] {
+            let mut packet = PacketWriter::new(rt.alloc(), limit);
+            let chunk = unknown(b"abcde");
+            assert!(rt; chunk.fits());
+            assert_eq!(rt; packet.try_chunk(&chunk)?, taken, "within {limit}");
+            assert_eq!(rt; packet.finish().is_some(), taken, "within {limit}");
+        }
+        Ok(())
+    }
+
+    #[test]
+    fn a_packet_is_12_zeros_and_its_chunks_padded(rt: HostRuntime) -> Result<(), Fail> {
+        let mut packet = PacketWriter::new(rt.alloc(), 1_500);
+        assert_eq!(rt; packet.room(), 1_488);
+        let sack = Chunk::Sack(Sack {
+            cumulative: 10,
+            rwnd: 65_536,
+            blocks: Blocks::none(),
+            duplicates: Words::none(),
+        });
+        let other = unknown(b"a");
+        assert!(rt; sack.fits() && other.fits());
+        assert!(rt; packet.try_chunk(&sack)?);
+        assert_eq!(rt; packet.room(), 1_472);
+        assert!(rt; packet.try_chunk(&other)?);
+        assert_eq!(rt; packet.room(), 1_464);
+        let bytes = packet.finish().ok_or("no chunk")?;
+        let (header, chunks) = bytes.as_slice().split_at(12);
+        assert_eq!(rt; header, [0; 12].as_slice());
+        let (first, second) = chunks.split_at(16);
+        assert_eq!(rt;
+            first,
+            [3, 0, 0, 0x10, 0, 0, 0, 10, 0, 1, 0, 0, 0, 0, 0, 0].as_slice()
+        );
+        assert_eq!(rt; second, [64, 0, 0, 5, b'a', 0, 0, 0].as_slice());
+        Ok(())
+    }
+
+    #[test]
+    fn a_packet_without_a_chunk_is_none(rt: HostRuntime) {
+        assert!(rt; PacketWriter::new(rt.alloc(), 1_500).finish().is_none());
+    }
+}

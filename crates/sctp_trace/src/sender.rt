@@ -1,18 +1,12 @@
 //! What an end was given to send: messages wait in a queue, take their number and TSN when they go out, and
-//! are acknowledged by the peer's SACKs (RFC 9260, 6.1 and 6.2.1).
-//!
-//! As yet a message is one fragment of an ordered stream, every TSN is its index (the first is 1), and
-//! nothing is repeated: what went out is not kept.
+//! are acknowledged by the peer's SACKs (RFC 9260, 6.1 and 6.2.1). As yet a message is one fragment of an
+//! ordered stream, the first TSN is 1, and nothing is repeated: what went out is not kept.
 
 ghost use Rattle.std.specs.Prelude.{◌≡◌, ℕ, suc, ◌+◌, ◌<◌, ◌≤◌, ◌^◌, if◌then◌else◌, is_ok, ◌∷◌, [], length, map, take, drop, slice_index, vec_len, MatchResult, OnOk};
 ghost use Rattle.std.specs.List.{AllByRecursion};
-ghost use Rattle.std.specs.VecDeque.{deque_len};
-ghost use Rattle.sctp_model.specs.Chunk.{Data};
 ghost use Rattle.sctp_model.specs.SenderView.{SenderView};
 ghost use Rattle.sctp_model.specs.Sending.{IsFill, room_of_all, padded, acknowledged};
 ghost use Rattle.sctp_model.specs.World.{Configuration, fresh_sender};
-ghost use Rattle.sctp_wire.specs.ChunkTree.{piece_meaning};
-ghost use Rattle.sctp_wire.specs.Layouts.{IsDataPiece};
 ghost use Rattle.sctp_trace.specs.PacketBytes.{room_in, with_chunks};
 ghost use Rattle.sctp_trace.specs.SenderFields.{waits_of, IsSmall};
 ghost use Rattle.sctp_trace.specs.SenderStands.{StandsFor, queue_of, data_from, Puts};
@@ -99,12 +93,12 @@ impl Model for Sender {
     ghost use Rattle.sctp_trace.specs.SenderFields.{waits_of, AreFew};
 
     ghost view = { λ s. record {
-        streams = s.streams;
-        fragment = s.fragment;
-        numbered = s.numbered;
-        cum = s.cum;
-        given = s.given.items;
-        waiting = map waits_of s.waiting.items;
+      streams = s.streams;
+      fragment = s.fragment;
+      numbered = s.numbered;
+      cum = s.cum;
+      given = s.given.items;
+      waiting = map waits_of s.waiting.items;
     } };
 
     ghost invariant = { λ s. AreFew s.numbered s.given.items s.waiting.items };
@@ -158,7 +152,12 @@ impl Sender {
     ///
     /// # Errors
     /// The first reason of `SendFault` that holds. The message is dropped then, and nothing else changes.
-    pub fn queue(&mut self, stream: u16, payload_id: u32, bytes: Vec<u8>) -> Result<Ticket, SendFault>
+    pub fn queue(
+        &mut self,
+        stream: u16,
+        payload_id: u32,
+        bytes: Vec<u8>,
+    ) -> Result<Ticket, SendFault>
         ensures answer { (v : SenderView) → StandsFor self.old v → QueueAnswer v stream bytes.items result }
         ensures stands { (v : SenderView)
             → StandsFor self.old v
@@ -188,7 +187,9 @@ impl Sender {
             payload_id,
             bytes,
         };
-        self.waiting.push_back(message).map_err(|_| SendFault::NoMemory)?;
+        self.waiting
+            .push_back(message)
+            .map_err(|_| SendFault::NoMemory)?;
         self.given[usize::from(stream)] += 1;
         Ok(Ticket(accepted + 1))
     }
@@ -202,7 +203,7 @@ impl Sender {
         ensures { (v : SenderView)
             → StandsFor self.old v
             → MatchResult result (λ filled. Fills v packet.old packet.new self.new filled)
-                (λ _. Stops v packet.old packet.new self.new) }
+            (λ _. Stops v packet.old packet.new self.new) }
     {
         let count = how_many_fit(&self.waiting, packet.room());
         let tickets = put_first(self.alloc, &self.waiting, count, self.numbered, packet)?;
@@ -255,7 +256,7 @@ fn put_first(
     requires room { room_in packet.old < 2 ^ 16 }
     ensures { MatchResult result
         (λ tickets. Puts (suc numbered) (map waits_of waiting.now.items) packet.old packet.new count
-            × (numbers_of tickets.items ≡ map (λ w. w.ticket) (take count (map waits_of waiting.now.items))))
+        × (numbers_of tickets.items ≡ map (λ w. w.ticket) (take count (map waits_of waiting.now.items))))
         (λ _. (begun : ℕ) × (begun ≤ count) × Puts (suc numbered) (map waits_of waiting.now.items) packet.old packet.new begun) }
 {
     let mut tickets = Vec::new(alloc);
@@ -274,21 +275,7 @@ fn put_message(message: &Waiting, tsn: u32, packet: &mut PacketWriter) -> Result
     requires room { room_in packet.old < 2 ^ 16 }
     ensures { packet.new ≡ with_chunks packet.old (if is_ok result then data_from tsn (waits_of message.now) ∷ [] else []) }
 {
-    let piece = piece_of(message, tsn);
-    if packet.try_chunk(&Chunk::Data(piece))? {
-        Ok(())
-    } else {
-        unreachable!()
-    }
-}
-
-/// A message in one piece, as its DATA chunk has it (RFC 9260, 3.3.1).
-fn piece_of(message: &Waiting, tsn: u32) -> Piece<'_>
-    requires { IsSmall message.now }
-    ensures piece { Data (piece_meaning result) ≡ data_from tsn (waits_of message.now) }
-    ensures in_range { IsDataPiece (piece_meaning result) }
-{
-    Piece {
+    let piece = Piece {
         immediate: false,
         unordered: false,
         begin: true,
@@ -298,15 +285,115 @@ fn piece_of(message: &Waiting, tsn: u32) -> Piece<'_>
         number: message.number,
         word: message.payload_id,
         bytes: &message.bytes,
+    };
+    if !packet.try_chunk(&Chunk::Data(piece))? {
+        unreachable!()
     }
+    Ok(())
 }
 
 /// Gives up the first `count` messages.
 fn forget(waiting: &mut VecDeque<Waiting>, count: usize)
-    requires { count ≤ deque_len waiting.old }
+    requires { count ≤ length waiting.old.items }
     ensures { waiting.new.items ≡ drop count waiting.old.items }
 {
     for _ in 0..count {
         let _ = waiting.pop_front();
+    }
+}
+
+#[cfg(test)]
+mod tests {
+    use super::*;
+    use sctp_wire::{Blocks, Words};
+    use std::test::Fail;
+
+    fn fill(
+        alloc: Global,
+        sender: &mut Sender,
+        limit: u16,
+    ) -> Result<(Vec<u8>, Vec<Ticket>), Fail> {
+        let mut packet = PacketWriter::new(alloc, limit);
+        let filled = sender.fill(&mut packet)?;
+        Ok((packet.finish().ok_or("no chunk")?, filled.tickets))
+    }
+
+    #[test]
+    fn hi_goes_out_as_one_chunk_in_a_packet_of_32_bytes(rt: HostRuntime) -> Result<(), Fail> {
+        let mut sender = Sender::new(rt.alloc(), 1, 1_400);
+        assert_eq!(rt; sender.queue(0, 0, b"Hi".to_vec(rt.alloc())?)?, Ticket(1));
+        let (bytes, tickets) = fill(rt.alloc(), &mut sender, 1_500)?;
+        assert_eq!(rt;
+            (bytes.len(), tickets.as_slice()),
+            (32, [Ticket(1)].as_slice())
+        );
+        let (_, chunk) = bytes.as_slice().split_at(12);
+        assert_eq!(rt;
+            chunk,
+            b"\0\x03\0\x12\0\0\0\x01\0\0\0\0\0\0\0\0\x48\x69\0\0".as_slice()
+        );
+        Ok(())
+    }
+
+    #[test]
+    fn messages_go_out_in_order_and_are_acknowledged(rt: HostRuntime) -> Result<(), Fail> {
+        let mut sender = Sender::new(rt.alloc(), 2, 1_400);
+        for (stream, text) in [(1, "a"), (0, "bc"), (1, "defgh")] {
+            sender.queue(stream, 9, text.as_bytes().to_vec(rt.alloc())?)?;
+        }
+        // two chunks of 16 bytes and one word of data each, and then one of 16 bytes and two words
+        let (bytes, tickets) = fill(rt.alloc(), &mut sender, 75)?;
+        assert_eq!(rt;
+            (bytes.len(), tickets.as_slice()),
+            (52, [Ticket(1), Ticket(2)].as_slice())
+        );
+        let (bytes, tickets) = fill(rt.alloc(), &mut sender, 36)?;
+        assert_eq!(rt;
+            (bytes.len(), tickets.as_slice()),
+            (36, [Ticket(3)].as_slice())
+        );
+        assert_eq!(rt; sender.numbered(), 3);
+        let (_, chunk) = bytes.as_slice().split_at(12);
+        assert_eq!(rt;
+            chunk,
+            b"\0\x03\0\x15\0\0\0\x03\0\x01\0\x01\0\0\0\x09defgh\0\0\0".as_slice()
+        );
+        // a SACK that is stale, and one beyond, change nothing
+        for (cumulative, cum) in [(0, 0), (2, 2), (1, 2), (4, 2), (3, 3), (3, 3)] {
+            sender.on_sack(&Sack {
+                cumulative,
+                rwnd: 0,
+                blocks: Blocks::none(),
+                duplicates: Words::none(),
+            });
+            assert_eq!(rt; sender.cum(), cum, "after {cumulative}");
+        }
+        Ok(())
+    }
+
+    #[test]
+    fn of_all_reasons_the_first_counts(rt: HostRuntime) -> Result<(), Fail> {
+        let mut sender = Sender::new(rt.alloc(), 1, 4);
+        for count in 1..=32_767u32 {
+            assert_eq!(rt;
+                sender.queue(0, 0, b"a".to_vec(rt.alloc())?)?,
+                Ticket(count)
+            );
+            if count % 1_024 == 0 {
+                let more = sender.queue(0, 0, b"a".to_vec(rt.alloc())?);
+                assert_eq!(rt; more, Err(SendFault::QueueFull));
+                let _ = fill(rt.alloc(), &mut sender, u16::MAX)?;
+            }
+        }
+        for (stream, text, fault) in [
+            (1, "", SendFault::NoSuchStream),
+            (0, "", SendFault::Empty),
+            (0, "hello", SendFault::TooLong),
+            (0, "four", SendFault::Spent),
+        ] {
+            let bytes = text.as_bytes().to_vec(rt.alloc())?;
+            assert_eq!(rt; sender.queue(stream, 0, bytes), Err(fault), "{text}");
+        }
+        Ok(())
     }
 }

@@ -35,9 +35,9 @@ returns-clause-stands c = λ v stands.
     let grown = keeps_given _ v given c.make_room.ensures.same keeps in
     let message : Waiting = record { ticket = s.numbered + c.len-3.result + 1; stream = c.args.stream; number = c.index.result.now; payload_id = c.args.payload_id; bytes = c.args.bytes } in
     let items : c.push_back.new.self.items ≡ s.waiting.items ++ message ∷ [] = grind (arith, common_steps) in
-    let number : c.index.result.now ≡ slice_index given c.args.stream = 
+    let number : c.index.result.now ≡ slice_index given c.args.stream =
     rw (← c.from-3.ensures) (get_or_read given c.from-3.result c.index.result.now (omega arith) c.index.ensures 0) in
-    let now : c.index_mut.result.now ≡ slice_index given c.args.stream = 
+    let now : c.index_mut.result.now ≡ slice_index given c.args.stream =
     rw (← c.from-4.ensures) (get_or_read given c.from-4.result c.index_mut.result.now (omega arith) c.index_mut.ensures.value 0) in
     let more = keeps_queued _ v (waits_of message) (set given c.from-4.result (c.index_mut.result.now + 1)) (omega (arith, count)) number (rw c.from-4.ensures (read_more given c.args.stream c.index_mut.result.now room now)) grown in
     rw (items, map-append) more
