@@ -3,3 +3,5 @@ mod WordLemmas
 mod HexDigits
 mod Decimals
 mod LineLemmas
+mod OneMeaning
+mod EachLineSays

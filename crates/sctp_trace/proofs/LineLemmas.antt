@@ -30,7 +30,7 @@ command_named command.Build = refl
 command_named command.Deliver = refl
 command_named command.Take = refl
 
-abbrev first_of : List (List ℕ) → List ℕ
+abbrev pub first_of : List (List ℕ) → List ℕ
 first_of [] = []
 first_of (w ∷ ws) = w
 
@@ -75,7 +75,7 @@ pub out_of_order : (paired : Bool) (line : List ℕ) (c : Command) (args : List 
     → is_pair c ≡ paired → IsFirstFaultOf paired line PairOrder
 out_of_order paired line c args m r order = ((c, args, r.line_is, order), only_order paired line c args m r)
 
-faultless : (paired : Bool) (line : List ℕ) (c : Command) (args : List (List ℕ)) (m : LineMeaning) → Reads line c args m
+pub faultless : (paired : Bool) (line : List ℕ) (c : Command) (args : List (List ℕ)) (m : LineMeaning) → Reads line c args m
     → (is_pair c ≡ paired → ⊥) → HasNoFault paired line
 faultless paired line c args m r order TooLong f = only_order paired line c args m r TooLong (omega arith) f
 faultless paired line c args m r order UnknownCommand f = only_order paired line c args m r UnknownCommand (omega arith) f
@@ -116,11 +116,11 @@ pub record AreNumbers (limit fragment buffer streams : List ℕ) (l f b s : ℕ)
   pub buffer_is : IsNumber 32 buffer b
   pub streams_is : IsNumber 16 streams s
 
-one_number : (bits : ℕ) (v w : List ℕ) (m n : ℕ) → v ≡ w → IsNumber bits v m → IsNumber bits w n → m ≡ n
+pub one_number : (bits : ℕ) (v w : List ℕ) (m n : ℕ) → v ≡ w → IsNumber bits v m → IsNumber bits w n → m ≡ n
 one_number bits v w m n same a b = let first = a.0.value in let second = b.0.value in cc
 
 -- they say no other configuration
-same_sizes : (args : List (List ℕ)) (limit fragment buffer streams mode : List ℕ) (l f b s : ℕ) (c : Configuration)
+pub same_sizes : (args : List (List ℕ)) (limit fragment buffer streams mode : List ℕ) (l f b s : ℕ) (c : Configuration)
     → args ≡ limit ∷ fragment ∷ buffer ∷ streams ∷ mode ∷ [] → AreNumbers limit fragment buffer streams l f b s
     → SaysConfiguration args c → c ≡ sizes l f b s
 same_sizes args limit fragment buffer streams mode l f b s c words are says =

@@ -1,10 +1,12 @@
 -- A line is cut at its first space, and its words are those that the spaces part.
-use Rattle.std.proofs.Common.{◌≡◌, ℕ, zero, suc, ◌+◌, ◌<◌, ◌≤◌, ◌==◌, Bool, true, false, cond, ◌⊎◌, inl, inr, List, [], ◌∷◌, ◌++◌, length, take, drop, Option, Some, None, refl, sym, ap, ◌∙◌, arith, nat_lt}
+use Rattle.std.proofs.Common.{◌≡◌, ◌≢◌, ℕ, zero, suc, ◌+◌, ◌<◌, ◌≤◌, ◌==◌, Bool, true, false, cond, ◌⊎◌, inl, inr, List, [], ◌∷◌, ◌++◌, length, take, drop, Option, Some, None, refl, sym, ap, ◌∙◌, subst, arith, nat_lt}
 use Rattle.std.specs.List.{position, position_or_len, count_by}
-use Rattle.std.proofs.lemmas.Bool.{cases_Bool, ltb-true}
+use Rattle.std.proofs.lemmas.Bool.{cases_Bool, cases_eq, ltb-true, ne_eqb}
+use Rattle.std.proofs.lemmas.List.Elements.{All-cons, All-head, All-nil, All-tail}
+use Rattle.std.specs.Prelude.{All}
 use Rattle.std.proofs.lemmas.List.Sums.{sum_by-cons}
 use Rattle.std.proofs.Math.Numerals.{one-add}
-use Rattle.sctp_trace.specs.SpacedWords.{SPACE, onto_first, words_of, words_left}
+use Rattle.sctp_trace.specs.SpacedWords.{SPACE, spaced, onto_first, words_of, words_left, AreItsWords}
 
 -- there is always a first word
 pub first_and_others : (xs : List ℕ) → (w : List ℕ) × (ws : List (List ℕ)) × (words_of xs ≡ w ∷ ws)
@@ -80,3 +82,36 @@ length-words_of (x ∷ xs) =
 pub not_ended : (b : Bool) (xs : List ℕ) (ws : List (List ℕ)) → words_left b xs ≡ ws → 0 < length ws → b ≡ false
 not_ended true xs ws is some = absurd (omega (arith, ap length is))
 not_ended false xs ws is some = refl
+
+-- ---- the words are those that the spaces part
+
+abbrev HasNoSpace : List ℕ → Type 0
+HasNoSpace w = All (λ c. c ≢ SPACE) w
+
+spaced_again : (xs : List ℕ) → xs ≡ spaced (words_of xs)
+spaced_again [] = refl
+spaced_again (x ∷ xs) =
+    let (w, ws, is) = first_and_others xs in
+    let rest : xs ≡ spaced (w ∷ ws) = spaced_again xs ∙ ap spaced is in
+    elim (cases_eq x SPACE) [
+      | inl space ↦ rw (space, is) (ap (λ (ys : List ℕ). SPACE ∷ ys) rest)
+      | inr other ↦ rw (ne_eqb x SPACE other, is) (ap (λ (ys : List ℕ). x ∷ ys) rest)
+    ]
+
+apart : (xs : List ℕ) → All HasNoSpace (words_of xs)
+apart [] = All-cons HasNoSpace [] [] (All-nil (λ (c : ℕ). c ≢ SPACE)) (All-nil HasNoSpace)
+apart (x ∷ xs) =
+    let (w, ws, is) = first_and_others xs in
+    let rest : All HasNoSpace (w ∷ ws) = subst (λ (vs : List (List ℕ)). All HasNoSpace vs) is (apart xs) in
+    elim (cases_eq x SPACE) [
+      | inl space ↦
+          let here : words_of (x ∷ xs) ≡ [] ∷ w ∷ ws = rw (space, is) refl in
+          subst (λ (vs : List (List ℕ)). All HasNoSpace vs) (sym here) (All-cons HasNoSpace [] (w ∷ ws) (All-nil (λ (c : ℕ). c ≢ SPACE)) rest)
+      | inr other ↦
+          let here : words_of (x ∷ xs) ≡ (x ∷ w) ∷ ws = rw (ne_eqb x SPACE other, is) refl in
+          let word : HasNoSpace (x ∷ w) = All-cons (λ (c : ℕ). c ≢ SPACE) x w other (All-head HasNoSpace w ws rest) in
+          subst (λ (vs : List (List ℕ)). All HasNoSpace vs) (sym here) (All-cons HasNoSpace (x ∷ w) ws word (All-tail HasNoSpace w ws rest))
+    ]
+
+pub its_words : (xs : List ℕ) → AreItsWords xs (words_of xs)
+its_words xs = record { joined = spaced_again xs; apart = apart xs }

@@ -1,5 +1,5 @@
 -- What is answered to a line, in the words of the grammar.
-use Rattle.std.specs.Prelude.{◌≡◌, ℕ, Bool, List, Option, Some, None}
+use Rattle.std.specs.Prelude.{◌≡◌, ℕ, Bool, List, length, Option, Some, None}
 use Rattle.sctp_trace.specs.declared.config.Draw.{Draw}
 use Rattle.sctp_trace.specs.declared.event.Event.{Event}
 use Rattle.sctp_trace.specs.declared.event.Event.TheVariants.{Open, Send, Build, Deliver, Take}
@@ -8,7 +8,8 @@ use Rattle.sctp_trace.specs.declared.line.Acting.TheVariants as acting
 use Rattle.sctp_trace.specs.declared.line.LineError.{LineError}
 use Rattle.sctp_trace.specs.declared.line.LineError.TheVariants as error
 use Rattle.sctp_trace.specs.Events.{event_said}
-use Rattle.sctp_trace.specs.Lines.{LineMeaning, Silent, Pairs, Acts, Fault, Says}
+use Rattle.sctp_trace.specs.declared.line.Command.TheVariants as command
+use Rattle.sctp_trace.specs.Lines.{LineMeaning, Silent, Pairs, Acts, Fault, Says, IsLineOf, arguments_of}
 use Rattle.sctp_trace.specs.Settings.{configuration_of, tag_of, tsn_of}
 
 abbrev pub IsDraw : Draw → ℕ → ℕ → Type 0
@@ -35,7 +36,7 @@ abbrev pub Finds : Bool → List ℕ → Option Acting → Type 0
 Finds paired line None = Says paired line Silent
 Finds paired line (Some a) = Says paired line (meaning_of a) × HasDrawsIn a
 
--- the fault of a line; memory may be wanting for any
+-- the fault of a line; memory may be wanting for a `send` line with as many words as it has
 abbrev pub Refuses : Bool → List ℕ → LineError → Type 0
 Refuses paired line (error.Fault fault) = Says paired line (Fault fault)
-Refuses paired line error.NoMemory = Unit {0}
+Refuses paired line error.NoMemory = (args : List (List ℕ)) × IsLineOf line command.Send args × (length args ≡ arguments_of command.Send)

@@ -1,6 +1,6 @@
 //! A line of a script, read: what it says, or the smallest kind of its faults.
 
-ghost use Rattle.std.specs.Prelude.{◌≡◌, ◌<◌, ℕ, List, Bool, length, ◌↔◌, IsTrue, IfOk, MatchOption, MatchResult, codes};
+ghost use Rattle.std.specs.Prelude.{◌≡◌, ◌<◌, ℕ, List, Bool, length, ◌↔◌, IsTrue, IfOk, OnErr, MatchOption, MatchResult, codes};
 ghost use Rattle.sctp_model.specs.World as world;
 ghost use Rattle.sctp_trace.specs.Events.{side_said};
 ghost use Rattle.sctp_trace.specs.Lines.{LineMeaning, Acts, Spells, IsNumber, IsSilent, name_of, arguments_of, is_pair, kind_of};
@@ -170,9 +170,11 @@ fn read_acting(
     words: Words<'_>,
 ) -> Result<Option<Acting>, NoMemory>
     requires { length words ≡ arguments_of command }
-    ensures { IfOk result (λ found. MatchOption found
+    ensures found { IfOk result (λ found. MatchOption found
         ((m : LineMeaning) → Spells command words.entry m → ⊥)
         (λ acting. Spells command words.entry (meaning_of acting) × HasDrawsIn acting)) }
+    // Memory is wanting for the bytes of a message alone.
+    ensures memory { OnErr result (command ≡ Command.Send) }
 {
     match command {
         Command::Pair => Ok(read_pair(words)),
