@@ -1,3 +1,4 @@
 pub mod WritingLemmas
 pub mod LineLemmas
 pub mod LineSplits
+pub mod LineRuns

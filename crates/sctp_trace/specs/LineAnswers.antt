@@ -7,7 +7,7 @@ use Rattle.sctp_trace.specs.declared.line_reader.ReadFault.{ReadFault}
 use Rattle.sctp_trace.specs.declared.line_reader.ReadFault.TheVariants.{Failed, NoMemory}
 use Rattle.sctp_trace.specs.declared.line_reader.Stop.{Stop}
 use Rattle.sctp_trace.specs.declared.line_reader.Stop.TheVariants as stop
-use Rattle.sctp_trace.specs.LinesRead.{Reading, IsOneLine, ended, IsTooLong}
+use Rattle.sctp_trace.specs.LinesRead.{Reading, IsOneLine, ended, IsTooLong, HasGiven, ended_lines_of, lines_of}
 
 -- the bytes that an answer gives: a line, with the line feed that ended it
 abbrev pub given_by : Result NextLine ReadFault → List ℕ
@@ -52,3 +52,11 @@ abbrev pub AtEndOfInput : {E : Type 0} → Result (Option Stop) E → Type 0 →
 AtEndOfInput (Ok None) P = P
 AtEndOfInput (Ok (Some _)) P = Unit {0}
 AtEndOfInput (Err _) P = Unit {0}
+
+-- where this text was read and these lines of it were given before the answer: what is given with it, or that these are all
+abbrev pub GivesOn : List ℕ → List (List ℕ) → Result NextLine ReadFault → Reading → Type 0
+GivesOn text lines (Ok (Ended line)) now = HasGiven text (lines ++ line.items ∷ []) now
+GivesOn text lines (Ok (Last line)) now = (ended_lines_of text ≡ lines) × (lines_of text ≡ lines ++ line.items ∷ [])
+GivesOn text lines (Ok TooLong) now = HasGiven text lines now
+GivesOn text lines (Ok End) now = (ended_lines_of text ≡ lines) × (lines_of text ≡ lines)
+GivesOn text lines (Err _) now = HasGiven text lines now

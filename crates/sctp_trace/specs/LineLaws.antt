@@ -2,6 +2,11 @@
 use Rattle.std.specs.Prelude.{◌≡◌, ℕ, ◌==◌, if◌then◌else◌, List, [], ◌∷◌, ◌++◌, length}
 use Rattle.std.specs.List.{All}
 use Rattle.sctp_trace.specs.LinesRead.{IsOneLine, joined, lines_of, ended_lines_of}
+use Rattle.std.specs.Prelude.{◌+◌, Result}
+use Rattle.sctp_trace.specs.declared.line_reader.NextLine.{NextLine}
+use Rattle.sctp_trace.specs.declared.line_reader.ReadFault.{ReadFault}
+use Rattle.sctp_trace.specs.LinesRead.{Reading, HasGiven}
+use Rattle.sctp_trace.specs.LineAnswers.{given_by, IsAnswer, GivesOn}
 
 -- lines with their line feeds, and any rest behind them
 pub record SplitInOneWay (lines : List (List ℕ)) (rest : List ℕ) : Type 0 where
@@ -17,3 +22,9 @@ pub record IsLines (text : List ℕ) : Type 0 where
   pub each : All IsOneLine (ended_lines_of text)
   pub whole : text ≡ joined (ended_lines_of text) ++ rest
   pub lines : lines_of text ≡ ended_lines_of text ++ (if length rest == 0 then [] else rest ∷ [])
+
+-- what a step of a reader of lines says of the whole text: the reader's clauses lead from line to line
+abbrev pub LeadsOn : List ℕ → List (List ℕ) → Reading → List ℕ → Result NextLine ReadFault → Reading → Type 0
+LeadsOn text lines now bytes answer after =
+    HasGiven text lines now → now.held ++ bytes ≡ given_by answer ++ after.held
+    → after.given ≡ now.given + length (given_by answer) → IsAnswer answer after → GivesOn (text ++ bytes) lines answer after

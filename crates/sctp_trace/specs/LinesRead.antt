@@ -66,3 +66,9 @@ IsReadFor given held bytes =
 pub record Reading : Type 0 where
   pub held : List ℕ
   pub given : ℕ
+
+-- a reader that has read this text has given these lines of it, each with its line feed, and holds all that follows
+pub record HasGiven (text : List ℕ) (lines : List (List ℕ)) (now : Reading) : Type 0 where
+  pub each : All IsOneLine lines
+  pub whole : text ≡ joined lines ++ now.held
+  pub count : now.given ≡ length (joined lines)

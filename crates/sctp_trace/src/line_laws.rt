@@ -1,8 +1,11 @@
 //! Laws of the lines of a text, which hold of all texts.
 
-ghost use Rattle.std.specs.Prelude.{ℕ, List, ◌++◌};
+ghost use Rattle.std.specs.Prelude.{ℕ, List, ◌++◌, Result};
 ghost use Rattle.sctp_trace.specs.LinesRead.{IsTooLong};
-ghost use Rattle.sctp_trace.specs.LineLaws.{SplitInOneWay, IsLines};
+ghost use Rattle.sctp_trace.specs.LineLaws.{SplitInOneWay, IsLines, LeadsOn};
+ghost use Rattle.sctp_trace.specs.LinesRead.{Reading};
+ghost use Rattle.sctp_trace.specs.declared.line_reader.NextLine.{NextLine};
+ghost use Rattle.sctp_trace.specs.declared.line_reader.ReadFault.{ReadFault};
 
 /// A text is split into lines in one way, from its front; whoever was given lines one by one was given these.
 pub fn lines_in_one_way()
@@ -13,4 +16,10 @@ pub fn lines_in_one_way()
 /// A line that is too long is so whatever follows.
 pub fn too_long_for_good()
     ensures { (given : ℕ) (text more : List ℕ) → IsTooLong given text → IsTooLong given (text ++ more) }
+{}
+
+/// Whoever asks a reader for line after line is given the lines of the text that was read, and at its end all.
+pub fn line_after_line()
+    ensures { (text : List ℕ) (lines : List (List ℕ)) (now : Reading) (bytes : List ℕ) (answer : Result NextLine ReadFault)
+        (after : Reading) → LeadsOn text lines now bytes answer after }
 {}
