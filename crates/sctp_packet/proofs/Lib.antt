@@ -4,3 +4,4 @@ pub mod RegisterLemmas
 pub mod BitLemmas
 pub mod ChecksumLaws
 pub mod StandardFacts
+mod PacketLemmas

@@ -1,3 +1,4 @@
 pub mod Remainder
 pub mod Checksum
 pub mod Register
+pub mod PacketBytes

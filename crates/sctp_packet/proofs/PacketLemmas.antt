@@ -1,0 +1,141 @@
+-- The bytes of a packet in the making: how many they are, that they are written chunks, and which ones.
+use Rattle.std.proofs.Common.{◌≡◌, ℕ, zero, suc, ◌+◌, ◌-◌, ◌*◌, ◌/◌, ◌<◌, ◌≤◌, ◌^◌, List, [], ◌∷◌, ◌++◌, length, take, drop, replicate, refl, sym, ap, ◌∙◌, subst, append_assoc, arith, length-append, length-drop}
+use Rattle.std.specs.Prelude.{nat_le, max, true, false}
+use Rattle.std.specs.List.{flat_map, AllByRecursion}
+use Rattle.std.proofs.lemmas.List.{append-nil, length-take, take-append-drop, nil_from_length, take-append-le, drop-append-le}
+use Rattle.std.proofs.lemmas.Grind.{common_steps, flat_map-append}
+use Rattle.sctp_model.specs.Chunk.{ChunkMeaning, Data, Sack, Unknown}
+use Rattle.sctp_model.specs.World.{HEADER_ROOM, size_of_chunk, size_of_chunks, size_of_packet}
+use Rattle.sctp_wire.specs.Layouts.{Fits}
+use Rattle.sctp_wire.specs.Reading.{chunks_of, chunks_or_none}
+use Rattle.sctp_wire.specs.Writes.{written, Writes}
+use Rattle.sctp_wire.proofs.BodyLemmas.{length-data_value, length-sack_value}
+use Rattle.sctp_wire.proofs.ItemLemmas.{all-append}
+use Rattle.sctp_wire.proofs.OneReading.{reading_of-ok}
+use Rattle.sctp_wire.proofs.WriteLemmas.{length-written, reads_writes}
+use Rattle.sctp_packet.specs.PacketBytes.{with_header, IsPacketOf, IsDraft}
+
+-- ---- sizes
+
+pub size_of_written : (m : ChunkMeaning) → length (written m) ≡ size_of_chunk m
+size_of_written (Data p) = omega (arith, length-written (Data p), length-data_value p)
+size_of_written (Sack s) = omega (arith, length-written (Sack s), length-sack_value s)
+size_of_written (Unknown kind flags value) = omega (arith, length-written (Unknown kind flags value))
+
+size_of_all_written : (ms : List ChunkMeaning) → length (flat_map written ms) ≡ size_of_chunks ms
+size_of_all_written [] = refl
+size_of_all_written (m ∷ ms) =
+    omega (arith, length-append (written m) (flat_map written ms), size_of_written m, size_of_all_written ms)
+
+pub size_of_writes : (bytes : List ℕ) (ms : List ChunkMeaning) → Writes bytes ms → length bytes ≡ size_of_chunks ms
+size_of_writes bytes ms w = ap length w.bytes_are ∙ size_of_all_written ms
+
+pub size_of_more : (ms : List ChunkMeaning) (m : ChunkMeaning) → size_of_chunks (ms ++ m ∷ []) ≡ size_of_chunks ms + size_of_chunk m
+size_of_more [] m = omega arith
+size_of_more (x ∷ ms) m = omega (arith, size_of_more ms m)
+
+-- every chunk takes some room
+pub size_some : (m : ChunkMeaning) → 0 < size_of_chunk m
+size_some (Data p) = omega arith
+size_some (Sack s) = omega arith
+size_some (Unknown kind flags value) = omega arith
+
+-- ---- what is written, and read back
+
+pub read_back : (bytes : List ℕ) (ms : List ChunkMeaning) → Writes bytes ms → chunks_of bytes ≡ ms
+read_back bytes ms w = ap chunks_or_none (reading_of-ok bytes ms (reads_writes bytes ms w))
+
+writes_none : Writes [] []
+writes_none = record { bytes_are = refl; fits = tt }
+
+pub writes_more : (bytes : List ℕ) (ms : List ChunkMeaning) (m : ChunkMeaning) → Writes bytes ms → Fits m → Writes (bytes ++ written m) (ms ++ m ∷ [])
+writes_more bytes ms m w fits = record {
+  bytes_are = rw (w.bytes_are, flat_map-append written ms (m ∷ []), append-nil (written m)) refl;
+  fits = all-append Fits ms (m ∷ []) w.fits (fits, tt);
+}
+
+-- ---- the bytes kept
+
+pub draft_empty : (limit : ℕ) → IsDraft limit []
+draft_empty limit = record {
+  header = λ some. absurd (omega arith);
+  writes = subst (λ (ms : List ChunkMeaning). Writes [] ms) (sym (read_back [] [] writes_none)) writes_none;
+  within = λ some. absurd (omega arith);
+}
+
+-- with a header in front nothing else changes
+header_there : (b : ℕ) (bytes : List ℕ) → with_header (b ∷ bytes) ≡ b ∷ bytes
+header_there b bytes = grind (arith, common_steps)
+
+header_first : (limit : ℕ) (bytes : List ℕ) → IsDraft limit bytes → take HEADER_ROOM (with_header bytes) ≡ replicate HEADER_ROOM 0
+header_first limit [] d = refl
+header_first limit (b ∷ bytes) d = rw (header_there b bytes) (d.header (omega arith))
+
+header_long : (limit : ℕ) (bytes : List ℕ) → IsDraft limit bytes → HEADER_ROOM ≤ length (with_header bytes)
+header_long limit bytes d =
+    let short = ap length (header_first limit bytes d) in
+    omega (arith, short, length-take HEADER_ROOM (with_header bytes))
+
+header_behind : (bytes : List ℕ) → drop HEADER_ROOM (with_header bytes) ≡ drop HEADER_ROOM bytes
+header_behind [] = refl
+header_behind (b ∷ bytes) = rw (header_there b bytes) refl
+
+-- the bytes of a draft and its chunks say the same size
+pub draft_size : (limit : ℕ) (bytes : List ℕ) → IsDraft limit bytes → length (with_header bytes) ≡ size_of_packet (chunks_of (drop HEADER_ROOM bytes))
+draft_size limit bytes d =
+    let long = header_long limit bytes d in
+    let behind = ap length (header_behind bytes) in
+    omega (arith, size_of_writes _ _ d.writes, length-drop HEADER_ROOM (with_header bytes))
+
+-- the longer of the header and the bytes
+pub draft_longer : (limit : ℕ) (bytes : List ℕ) → IsDraft limit bytes → max (length bytes) 12 ≡ size_of_packet (chunks_of (drop HEADER_ROOM bytes))
+draft_longer limit [] d = draft_size limit [] d
+draft_longer limit (b ∷ bytes) d =
+    let long = header_long limit (b ∷ bytes) d in
+    let there = ap length (header_there b bytes) in
+    omega (arith, draft_size limit (b ∷ bytes) d)
+
+-- a chunk more
+pub record IsPut (limit : ℕ) (bytes after : List ℕ) (m : ChunkMeaning) : Type 0 where
+  pub draft : IsDraft limit after
+  pub chunks : chunks_of (drop HEADER_ROOM after) ≡ chunks_of (drop HEADER_ROOM bytes) ++ m ∷ []
+
+pub draft_put : (limit : ℕ) (bytes after : List ℕ) (m : ChunkMeaning) → IsDraft limit bytes → Fits m
+    → size_of_packet (chunks_of (drop HEADER_ROOM bytes) ++ m ∷ []) ≤ limit → after ≡ with_header bytes ++ written m → IsPut limit bytes after m
+draft_put limit bytes after m d fits room is =
+    let long = header_long limit bytes d in
+    let behind : drop HEADER_ROOM after ≡ drop HEADER_ROOM bytes ++ written m =
+    rw (is, drop-append-le HEADER_ROOM (with_header bytes) (written m) long, header_behind bytes) refl in
+    let more = subst (λ (xs : List ℕ). Writes xs (chunks_of (drop HEADER_ROOM bytes) ++ m ∷ [])) (sym behind) (writes_more _ _ m d.writes fits) in
+    let same = read_back _ _ more in
+    record {
+      draft = record {
+        header = λ some. rw (is, take-append-le HEADER_ROOM (with_header bytes) (written m) long) (header_first limit bytes d);
+        writes = subst (λ (ms : List ChunkMeaning). Writes (drop HEADER_ROOM after) ms) (sym same) more;
+        within = λ some. omega (arith, ap length is, length-append (with_header bytes) (written m), draft_size limit bytes d, size_of_more (chunks_of (drop HEADER_ROOM bytes)) m, size_of_written m);
+      };
+      chunks = same;
+    }
+
+-- ---- a finished packet
+
+pub draft_packet : (limit : ℕ) (bytes : List ℕ) → IsDraft limit bytes → HEADER_ROOM < length bytes
+    → IsPacketOf bytes (chunks_of (drop HEADER_ROOM bytes)) × (chunks_of (drop HEADER_ROOM bytes) ≡ [] → ⊥)
+draft_packet limit bytes d some =
+    let size = size_of_writes _ _ d.writes in
+    let behind = length-drop HEADER_ROOM bytes in (
+      record {
+        body = drop HEADER_ROOM bytes;
+        bytes_are = sym (take-append-drop HEADER_ROOM bytes) ∙ ap (λ (xs : List ℕ). xs ++ drop HEADER_ROOM bytes) (d.header (omega arith));
+        writes = d.writes;
+        reads = reads_writes _ _ d.writes;
+        size = omega arith;
+      },
+      λ none. let zero_size = ap size_of_chunks none in absurd (omega arith),
+    )
+
+pub draft_none : (limit : ℕ) (bytes : List ℕ) → IsDraft limit bytes → length bytes ≤ HEADER_ROOM → chunks_of (drop HEADER_ROOM bytes) ≡ []
+draft_none limit bytes d short =
+    let behind = length-drop HEADER_ROOM bytes in
+    let none : drop HEADER_ROOM bytes ≡ [] = nil_from_length _ (omega arith) in
+    rw none (read_back [] [] writes_none)

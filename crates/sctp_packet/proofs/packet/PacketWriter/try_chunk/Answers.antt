@@ -1,0 +1,42 @@
+use Rattle.std.proofs.Common.{drop, refl, arith}
+use Rattle.std.proofs.lemmas.Grind.{common_steps}
+use Rattle.std.proofs.lemmas.Result.{err_from_is_err_and}
+use Rattle.sctp_model.specs.World.{HEADER_ROOM}
+use Rattle.sctp_wire.specs.ChunkTree.{chunk_meaning}
+use Rattle.sctp_wire.specs.Reading.{chunks_of}
+use Rattle.sctp_packet.proofs.PacketLemmas.{IsPut, size_of_more, size_some, draft_put}
+use Rattle.sctp_packet.proofs.packet.PacketWriter.try_chunk.Goals as goal
+
+pub returns-then-size_of_chunk-room-clause-answer : goal.returns-then-size_of_chunk-room-clause-answer
+returns-then-size_of_chunk-room-clause-answer c =
+    let more = size_of_more c.args.self.now.chunks (chunk_meaning c.args.chunk.now) in
+    let some = size_some (chunk_meaning c.args.chunk.now) in
+    grind (arith, common_steps)
+
+pub returns-in_err-put-clause-refused : goal.returns-in_err-put-clause-refused
+returns-in_err-put-clause-refused c =
+    let p = err_from_is_err_and c.from_residual.result c.from_residual.ensures.1 in
+    let more = size_of_more c.args.self.now.chunks (chunk_meaning c.args.chunk.now) in
+    let some = size_some (chunk_meaning c.args.chunk.now) in
+    rw p.1 (grind (arith, common_steps))
+
+is_put : (c : goal.In_ok-put) → IsPut c.self.inside.limit c.self.inside.bytes.items c.put.new.bytes.items (chunk_meaning c.args.chunk.now)
+is_put c =
+    let m = chunk_meaning c.args.chunk.now in
+    let chunks = chunks_of (drop HEADER_ROOM c.self.inside.bytes.items) in
+    let room = rw (← c.self.view_is) at c.room.ensures.room in
+    draft_put _ _ _ m c.self.invariant c.requires (omega (arith, room, size_of_more chunks m, size_some m)) c.in_ok-put.ensures.put
+
+pub invariant_of-self-2 : goal.invariant_of-self-2
+invariant_of-self-2 c = (is_put c).draft
+
+pub returns-clause-answer : goal.returns-clause-answer
+returns-clause-answer c =
+    let more = size_of_more c.args.self.now.chunks (chunk_meaning c.args.chunk.now) in
+    let some = size_some (chunk_meaning c.args.chunk.now) in
+    grind (arith, common_steps)
+
+pub returns-clause-after : goal.returns-clause-after
+returns-clause-after c =
+    let put = is_put c in
+    rw (← c.self.view_is, put.chunks) refl

@@ -1,0 +1,7 @@
+mod KeptLists
+mod DueLemmas
+mod GiveLemmas
+mod LowestLemmas
+mod RoomLemmas
+mod SeenLemmas
+mod ReceiverSteps

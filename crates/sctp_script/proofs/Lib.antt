@@ -1,0 +1,11 @@
+mod WrittenLines
+mod WordLemmas
+mod HexDigits
+mod Decimals
+mod LineLemmas
+mod OneMeaning
+mod EachLineSays
+mod WritingLemmas
+mod SourceLineLemmas
+mod LineSplits
+mod LineRuns

@@ -1,0 +1,63 @@
+-- What the events and outcomes of a pair say, in the words of the world.
+use Rattle.std.specs.Prelude.{◌≡◌, ℕ, List}
+use Rattle.sctp_model.specs.Format.{ordered_lane}
+use Rattle.sctp_model.specs.ReceiverView.{Handed}
+use Rattle.sctp_model.specs.Sending.{Refusal}
+use Rattle.sctp_model.specs.Sending as refusal
+use Rattle.sctp_model.specs.World as world
+use Rattle.sctp_script.specs.declared.event.Side.{Side}
+use Rattle.sctp_script.specs.declared.event.Side.TheVariants as side
+use Rattle.sctp_script.specs.declared.event.State.{State}
+use Rattle.sctp_script.specs.declared.event.State.TheVariants as state
+use Rattle.sctp_script.specs.declared.event.Event.{Event}
+use Rattle.sctp_script.specs.declared.event.Event.TheVariants.{Open, Send, Build, Deliver, Take}
+use Rattle.sctp_script.specs.declared.event.SendRefusal.{SendRefusal}
+use Rattle.sctp_script.specs.declared.event.SendRefusal.TheVariants.{NoSuchStream, Empty, TooLong, QueueFull, Spent, NotOpen}
+use Rattle.sctp_script.specs.declared.event.Outcome.{Outcome}
+use Rattle.sctp_script.specs.declared.event.Outcome.TheVariants as outcome
+
+abbrev pub side_said : Side → world.Side
+side_said side.A = world.A
+side_said side.B = world.B
+
+abbrev pub state_said : State → world.State
+state_said state.Closed = world.Closed
+state_said state.Listen = world.Listen
+state_said state.Established = world.Established
+
+-- what an event says; as yet the draws say nothing, since the first TSN counts as 1
+abbrev pub event_said : Event → world.Event
+event_said (Open a b) = world.Open
+event_said (Send x stream payload bytes) = world.Send (side_said x) stream payload bytes
+event_said (Build x) = world.Build (side_said x)
+event_said (Deliver x number) = world.Deliver (side_said x) number
+event_said (Take x stream) = world.Take (side_said x) stream
+
+abbrev pub refusal_said : SendRefusal → Refusal
+refusal_said NoSuchStream = refusal.NoSuchStream
+refusal_said Empty = refusal.Empty
+refusal_said TooLong = refusal.TooLong
+refusal_said QueueFull = refusal.QueueFull
+refusal_said Spent = refusal.Spent
+refusal_said NotOpen = refusal.NotOpen
+
+-- What the user is told of a message that was handed over: all but the index of its first chunk.
+pub record IsToldOf (on n id : ℕ) (text : List ℕ) (h : Handed) : Type 0 where
+  pub lane : h.lane ≡ ordered_lane on
+  pub number : h.number ≡ n
+  pub payload : h.payload ≡ id
+  pub bytes : h.bytes ≡ text
+
+-- an outcome tells the answer of a step
+abbrev pub Answers : Outcome → world.Outcome → Type 0
+Answers outcome.Done o = o ≡ world.Done
+Answers outcome.OpenRefused o = o ≡ world.OpenRefused
+Answers (outcome.SendRefused r) o = o ≡ world.SendRefused (refusal_said r)
+Answers (outcome.Ticket x ticket) o = o ≡ world.Ticket (side_said x) ticket
+Answers (outcome.Sent x number length) o = o ≡ world.Sent (side_said x) number length
+Answers (outcome.Quiet x) o = o ≡ world.Quiet (side_said x)
+Answers (outcome.Taken x) o = o ≡ world.Acted (side_said x)
+Answers outcome.Absent o = o ≡ world.Absent
+Answers (outcome.Message x stream number payload bytes) o =
+    (h : Handed) × IsToldOf stream number payload bytes h × (o ≡ world.Message (side_said x) stream h)
+Answers (outcome.Empty x stream) o = o ≡ world.Nothing (side_said x) stream

@@ -1,0 +1,15 @@
+pub mod Configuration
+pub mod Settings
+pub mod Events
+pub mod SpacedWords
+pub mod Numerals
+pub mod OutcomeLines
+pub mod WrittenWords
+pub mod ReportText
+pub mod Lines
+pub mod ReadLines
+pub mod GrammarLaws
+pub mod Streams
+pub mod LinesRead
+pub mod LineAnswers
+pub mod LineLaws

@@ -1,0 +1,48 @@
+-- What one call of a reader or a writer moved, and how failed calls are counted.
+use Rattle.std.specs.Prelude.{ℕ, List, [], ◌++◌, take, Option, None, Some, Result, Ok, Err}
+use Rattle.std.specs.Io.KnownBytes.{Consumes, Appends}
+use Rattle.std.proofs.Common.{refl, sym, ◌∙◌, ap, append_assoc, append-nil}
+use Rattle.sctp_script.specs.declared.source_sink.FromRead.{FromRead}
+use Rattle.sctp_script.specs.declared.source_sink.ToWrite.{ToWrite}
+
+-- the bytes that a call moved: as many of the slice's first ones as it answers, none where it failed
+abbrev pub moved : {E : Type 0} → Result ℕ E → List ℕ → List ℕ
+moved (Ok count) bytes = take count bytes
+moved (Err _) bytes = []
+
+-- how many failures a call adds to their count
+abbrev pub failed_calls : {X E : Type 0} → Result X E → ℕ
+failed_calls (Ok _) = 0
+failed_calls (Err _) = 1
+
+-- the reader of std below
+abbrev pub reader_below : {R : Type 0} → FromRead R → R
+reader_below source = source.reader
+
+-- the writer of std below
+abbrev pub writer_below : {W : Type 0} → ToWrite W → W
+writer_below sink = sink.writer
+
+-- known bytes lose nothing where nothing is read, and what is read first and then is lost as one
+pub consumes_none : (left : Option (List ℕ)) → Consumes left left []
+consumes_none None = tt
+consumes_none (Some bytes) = refl
+
+pub consumes_more : (first between last : Option (List ℕ)) (a b : List ℕ)
+    → Consumes first between a → Consumes between last b → Consumes first last (a ++ b)
+consumes_more None between last a b _ _ = tt
+consumes_more (Some xs) None last a b h _ = absurd h
+consumes_more (Some xs) (Some ys) None a b _ h = absurd h
+consumes_more (Some xs) (Some ys) (Some zs) a b h k = h ∙ ap (λ rest. a ++ rest) k ∙ sym (append_assoc a b zs)
+
+-- the same of what is written
+pub appends_none : (held : Option (List ℕ)) → Appends held held []
+appends_none None = tt
+appends_none (Some bytes) = sym (append-nil bytes)
+
+pub appends_more : (first between last : Option (List ℕ)) (a b : List ℕ)
+    → Appends first between a → Appends between last b → Appends first last (a ++ b)
+appends_more None between last a b _ _ = tt
+appends_more (Some xs) None last a b h _ = absurd h
+appends_more (Some xs) (Some ys) None a b _ h = absurd h
+appends_more (Some xs) (Some ys) (Some zs) a b h k = k ∙ ap (λ front. front ++ b) h ∙ append_assoc xs a b

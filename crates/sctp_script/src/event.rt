@@ -1,0 +1,218 @@
+//! What may happen to a pair, and what it answers: one case for each acting line of a script, and one for each outcome line.
+
+ghost use Rattle.std.specs.Prelude.{◌≡◌, bytes_eq, IfOk};
+ghost use Rattle.std.specs.Cmp.{partial_equiv_from_equiv};
+ghost use Rattle.std.specs.Cmp.Lexicographic.{nat_list_eq_equiv};
+
+use crate::config::Draw;
+use sctp_wire::NoMemory;
+use std::alloc::Global;
+use std::marker::Model;
+
+/// The end A, which calls, or B, which listens.
+#[derive(Clone, Copy, Debug, PartialEq, Eq)]
+pub enum Side {
+    A,
+    B,
+}
+
+impl Side {
+    ghost use Rattle.std.specs.Prelude.{◌≡◌};
+    ghost use Rattle.sctp_model.specs.World.{other};
+    ghost use Rattle.sctp_script.specs.Events.{side_said};
+
+    /// The end across.
+    pub fn other(self) -> Side
+        ensures { side_said result ≡ other (side_said self) }
+    {
+        match self {
+            Side::A => Side::B,
+            Side::B => Side::A,
+        }
+    }
+}
+
+/// Where an end is (RFC 9260, 4).
+#[derive(Clone, Copy, Debug, PartialEq, Eq)]
+pub enum State {
+    /// There is no association.
+    Closed,
+    /// There is none, and one may be opened from afar.
+    Listen,
+    /// There is one, and data goes both ways.
+    Established,
+}
+
+/// Bytes of a message. Contracts see the list of them.
+#[derive(Debug, Drop)]
+pub struct Bytes {
+    bytes: Vec<u8>,
+}
+
+impl Model for Bytes {
+    ghost use Rattle.std.specs.Prelude.{ℕ, List};
+
+    ghost Value = { List ℕ };
+
+    ghost view = { λ b. b.bytes.items };
+}
+
+impl Bytes {
+    /// These bytes.
+    pub fn new(bytes: Vec<u8>) -> Bytes
+        ensures { result ≡ bytes.items }
+    {
+        Bytes { bytes }
+    }
+
+    /// A copy of these bytes.
+    ///
+    /// # Errors
+    /// `NoMemory` where there was no room for the copy.
+    pub fn copied(alloc: Global, bytes: &[u8]) -> Result<Bytes, NoMemory>
+        ensures { IfOk result (λ copy. copy ≡ bytes.now) }
+    {
+        let bytes = Vec::from_slice(alloc, bytes).map_err(|_| NoMemory)?;
+        Ok(Bytes { bytes })
+    }
+
+    /// The bytes, lent.
+    pub fn as_slice(&self) -> &[u8]
+        ensures { result.now ≡ self.now }
+    {
+        self.bytes.as_slice()
+    }
+
+    /// The bytes, given away.
+    pub fn into_vec(self) -> Vec<u8>
+        ensures { result.items ≡ self }
+    {
+        let Bytes { bytes } = self;
+        bytes
+    }
+}
+
+impl PartialEq for Bytes {
+    ghost eq = { bytes_eq };
+
+    ghost laws = { partial_equiv_from_equiv nat_list_eq_equiv };
+
+    fn eq(&self, other: &Bytes) -> bool {
+        self.as_slice() == other.as_slice()
+    }
+}
+
+/// Something that happens to a pair.
+#[derive(Debug, PartialEq, Drop)]
+pub enum Event {
+    /// `open`: both ends are opened, each with its draw. As yet every TSN is its index, whatever is drawn.
+    Open {
+        a: Draw,
+        b: Draw,
+    },
+    /// `send`: an end's user gives it an ordered message, never to be given up.
+    Send {
+        side: Side,
+        stream: u16,
+        payload_id: u32,
+        bytes: Bytes,
+    },
+    /// `build`: an end may build a packet, which goes into its bag.
+    Build {
+        side: Side,
+    },
+    /// `deliver`: a packet of an end's bag, counted from 1, comes to the other end.
+    Deliver {
+        side: Side,
+        number: u32,
+    },
+    /// `take`: an end's user takes the next message that was handed over on a stream.
+    Take {
+        side: Side,
+        stream: u16,
+    },
+}
+
+/// Why an end takes no message from its user; the first reason that holds, in this order but for the last one, which comes first.
+#[derive(Clone, Copy, Debug, PartialEq, Eq)]
+pub enum SendRefusal {
+    /// 1: there is no such stream.
+    NoSuchStream,
+    /// 2: the message has no byte.
+    Empty,
+    /// 3: the message is longer than a fragment.
+    TooLong,
+    /// 4: 1,024 messages wait.
+    QueueFull,
+    /// 5: 32,767 messages were accepted.
+    Spent,
+    /// 7: the end isn't open.
+    NotOpen,
+}
+
+impl SendRefusal {
+    ghost use Rattle.std.specs.Prelude.{◌≡◌};
+    ghost use Rattle.sctp_script.specs.Events.{refusal_said};
+    ghost use Rattle.sctp_script.specs.OutcomeLines.{refusal_code};
+
+    /// The code, 1 to 7; 6 is want of memory, which is no outcome.
+    pub fn code(self) -> u8
+        ensures { result ≡ refusal_code (refusal_said self) }
+    {
+        match self {
+            SendRefusal::NoSuchStream => 1,
+            SendRefusal::Empty => 2,
+            SendRefusal::TooLong => 3,
+            SendRefusal::QueueFull => 4,
+            SendRefusal::Spent => 5,
+            SendRefusal::NotOpen => 7,
+        }
+    }
+}
+
+/// What a pair answers to an event.
+#[derive(Debug, PartialEq, Drop)]
+pub enum Outcome {
+    /// `ok`: the ends were opened.
+    Done,
+    /// `refused 1`: they were opened before.
+    OpenRefused,
+    /// `refused CODE`: the message isn't accepted.
+    SendRefused {
+        refusal: SendRefusal,
+    },
+    /// `ticket X K`: the message is accepted as the K-th of this end.
+    Ticket {
+        side: Side,
+        ticket: u32,
+    },
+    /// `sent X N LENGTH`: the end's N-th packet, of so many bytes.
+    Sent {
+        side: Side,
+        number: usize,
+        length: usize,
+    },
+    /// `quiet X`: there is nothing to send.
+    Quiet {
+        side: Side,
+    },
+    /// `taken Y`: the packet acted on this end.
+    Taken {
+        side: Side,
+    },
+    /// `absent`: there is no such packet.
+    Absent,
+    /// `message X STREAM KIND NUMBER ID HEX`: the message that was taken, with its number on the stream.
+    Message {
+        side: Side,
+        stream: u16,
+        number: u32,
+        payload_id: u32,
+        bytes: Bytes,
+    },
+    /// `empty X STREAM`: no message waits.
+    Empty {
+        side: Side,
+        stream: u16,
+    },
+}

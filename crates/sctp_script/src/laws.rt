@@ -1,0 +1,15 @@
+//! Laws of the script's grammar, which hold of all lines.
+
+ghost use Rattle.std.specs.Prelude.{ℕ, Bool, List};
+ghost use Rattle.sctp_script.specs.GrammarLaws.{SaysOneThing};
+ghost use Rattle.sctp_script.specs.SpacedWords.{words_of, AreItsWords};
+
+/// The words of a line are what stands between its spaces.
+pub fn words_part_at_spaces()
+    ensures { (line : List ℕ) → AreItsWords line (words_of line) }
+{}
+
+/// Each line says exactly one thing.
+pub fn one_meaning()
+    ensures { (paired : Bool) (line : List ℕ) → SaysOneThing paired line }
+{}

@@ -1,0 +1,91 @@
+//! The line of each outcome.
+
+ghost use Rattle.std.specs.Prelude.{◌≡◌, ◌++◌, OnOk, OnErr};
+ghost use Rattle.sctp_model.specs.World as world;
+ghost use Rattle.sctp_script.specs.Events.{side_said, Answers};
+ghost use Rattle.sctp_script.specs.OutcomeLines.{side_word, outcome_line};
+ghost use Rattle.sctp_script.specs.WrittenWords.{text_of};
+
+use crate::event::{Outcome, Side};
+use crate::line_out::{Word, put_line};
+use sctp_wire::NoMemory;
+
+/// Appends the line of an outcome, with its line feed.
+///
+/// # Errors
+/// `NoMemory` where there was no room and none was got; `out` is then as before.
+pub fn put_outcome(outcome: &Outcome, out: &mut Vec<u8>) -> Result<(), NoMemory>
+    ensures put { (o : world.Outcome) → Answers outcome.now o → OnOk result (out.new.items ≡ out.old.items ++ outcome_line o) }
+    ensures refused { OnErr result (out.new.items ≡ out.old.items) }
+{
+    match outcome {
+        Outcome::Done => put_line(b"ok", &[], &[], out),
+        Outcome::OpenRefused => put_line(b"refused", &[Word::Number(1)], &[], out),
+        Outcome::SendRefused { refusal } => {
+            put_line(
+                b"refused",
+                &[Word::Number(u64::from(refusal.code()))],
+                &[],
+                out,
+            )
+        }
+        Outcome::Ticket { side, ticket } => {
+            put_line(
+                b"ticket",
+                &[side_word(*side), Word::Number(u64::from(*ticket))],
+                &[],
+                out,
+            )
+        }
+        Outcome::Sent {
+            side,
+            number,
+            length,
+        } => {
+            let words = [
+                side_word(*side),
+                Word::Number(*number as u64),
+                Word::Number(*length as u64),
+            ];
+            put_line(b"sent", &words, &[], out)
+        }
+        Outcome::Quiet { side } => put_line(b"quiet", &[side_word(*side)], &[], out),
+        Outcome::Taken { side } => put_line(b"taken", &[side_word(*side)], &[], out),
+        Outcome::Absent => put_line(b"absent", &[], &[], out),
+        Outcome::Message {
+            side,
+            stream,
+            number,
+            payload_id,
+            bytes,
+        } => {
+            let words = [
+                side_word(*side),
+                Word::Number(u64::from(*stream)),
+                Word::Text(b"o"),
+                Word::Number(u64::from(*number)),
+                Word::Number(u64::from(*payload_id)),
+                Word::Hex(bytes.as_slice()),
+            ];
+            put_line(b"message", &words, &[], out)
+        }
+        Outcome::Empty { side, stream } => {
+            put_line(
+                b"empty",
+                &[side_word(*side), Word::Number(u64::from(*stream))],
+                &[],
+                out,
+            )
+        }
+    }
+}
+
+/// The name of an end.
+pub fn side_word(side: Side) -> Word<'static>
+    ensures { text_of result ≡ side_word (side_said side) }
+{
+    match side {
+        Side::A => Word::Text(b"A"),
+        Side::B => Word::Text(b"B"),
+    }
+}

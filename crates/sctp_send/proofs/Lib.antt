@@ -1,0 +1,2 @@
+mod SenderLemmas
+mod FillLemmas

@@ -1,0 +1,4 @@
+pub mod SenderKept
+pub mod SenderStands
+pub mod SenderFields
+pub mod SenderSteps

@@ -1,0 +1,47 @@
+use Rattle.std.proofs.Common.{◌≡◌, ◌+◌, [], ◌∷◌, ◌++◌, take, drop, sym, refl, inl, inr, map, arith}
+use Rattle.std.proofs.lemmas.Grind.{common_steps}
+use Rattle.std.proofs.lemmas.Result.{err_from_is_err_and}
+use Rattle.std.proofs.lemmas.List.{take-append-drop}
+use Rattle.sctp_model.specs.World.{last_of}
+use Rattle.sctp_script.specs.Events.{event_said}
+use Rattle.sctp_trace.proofs.RunLemmas.{run_more, last-push, told-push, cut_short, promised_run}
+use Rattle.sctp_trace.proofs.pair.Pair.run.Goals as goal
+
+pub loop-event-preserved : goal.loop-event-preserved
+loop-event-preserved c =
+    let items : c.push_reserved.new.self.items ≡ c.loop-event.outcomes.items ++ c.in_ok-outcome.outcome ∷ [] = grind (arith, common_steps) in (
+      grind (arith, common_steps),
+      grind (arith, common_steps),
+      λ w stands.
+        let before = c.loop-event.invariant.2 w stands in
+        let now = c.in_ok-outcome.ensures _ before.4 in
+        let led = now.1 in (
+          before.0 ++ now.0 ∷ [],
+          before.1 ++ led.0 ∷ [],
+          rw items (told-push _ before.1 c.in_ok-outcome.outcome led.0 before.2 led.1),
+          run_more w c.args.events.now c.loop-event.event-index _ before.1 before.0 led.0 now.0 c.loop-event-test.true c.event-item.is before.3 led.2,
+          rw last-push now.3,
+        ),
+    )
+
+pub returns-in_err-outcome : goal.returns-in_err-outcome
+returns-in_err-outcome c = λ w stands.
+    let before = c.loop-event.invariant.2 w stands in
+    let now = c.in_err-outcome.ensures _ before.4 in
+    let led = now.1 in
+    let events = c.args.events.now in
+    let i = c.loop-event.event-index in
+    let run = run_more w events i _ before.1 before.0 led.0 now.0 c.loop-event-test.true c.event-item.is before.3 led.2 in
+    let p = err_from_is_err_and c.from_residual.result c.from_residual.ensures.1 in (
+      before.0 ++ now.0 ∷ [],
+      rw p.1 (take (i + 1) events, drop (i + 1) events, before.1 ++ led.0 ∷ [], sym (take-append-drop _ _), cut_short _ before.1 _ led.0 before.2 led.1, run),
+      promised_run c.safe_in_every_run.ensures w _ _ _ run,
+      rw last-push now.3,
+    )
+
+pub returns : goal.returns
+returns c = λ w stands.
+    let before = c.loop-event.invariant.2 w stands in
+    let all : take c.loop-event.event-index c.args.events.now ≡ c.args.events.now = grind (arith, common_steps) in
+    let run = rw all at before.3 in
+    (before.0, (before.1, before.2, run), promised_run c.safe_in_every_run.ensures w _ _ _ run, before.4)

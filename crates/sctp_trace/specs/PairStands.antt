@@ -1,0 +1,33 @@
+-- Which pair stands for which world.
+use Rattle.std.specs.Prelude.{◌≡◌, ℕ, List, [], ◌∷◌}
+use Rattle.std.specs.declared.vec.Vec.{Vec}
+use Rattle.std.specs.declared.alloc.Global.{Global}
+use Rattle.sctp_model.specs.World.{Side, A, B, Packet, World}
+use Rattle.sctp_packet.specs.PacketBytes.{IsPacketOf}
+use Rattle.sctp_script.specs.Settings.{configuration_of}
+use Rattle.sctp_trace.specs.EndStands.{EndStands}
+use Rattle.sctp_trace.specs.declared.pair.Pair.{Pair}
+
+-- the bytes of each packet of a bag, in order
+abbrev pub ArePackets : List (Vec ℕ Global) → List Packet → Type 0
+ArePackets [] [] = Unit {0}
+ArePackets (b ∷ bag) (p ∷ ps) = IsPacketOf b.items p × ArePackets bag ps
+ArePackets [] (p ∷ ps) = ⊥
+ArePackets (b ∷ bag) [] = ⊥
+
+-- the world with this bag of one side
+abbrev pub with_bag : World → Side → List Packet → World
+with_bag w A ps = record w { from_a = ps }
+with_bag w B ps = record w { from_b = ps }
+
+pub record IsPair (p : Pair) (w : World) : Type 0 where
+  pub configuration : configuration_of p.config ≡ w.configuration
+  pub a : EndStands p.a w.a
+  pub b : EndStands p.b w.b
+  pub from_a : ArePackets p.from_a.items w.from_a
+  pub from_b : ArePackets p.from_b.items w.from_b
+  pub opened : p.opened ≡ w.opened
+
+-- the pair stands for this world
+unfoldable pub PairStands : Pair → World → Type 0
+PairStands p w = IsPair p w

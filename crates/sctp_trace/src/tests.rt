@@ -1,0 +1,124 @@
+//! One message over, line by line, with its report, and the limits at an end.
+
+use crate::{Bytes, Draw, Event, Mode, Outcome, Pair, PairConfig, SendRefusal, Side};
+use std::alloc::Global;
+use std::test::Fail;
+
+const HI: [u8; 2] = [0x48, 0x69];
+
+fn fresh(alloc: Global) -> Result<Pair, Fail> {
+    Ok(Pair::new(alloc, PairConfig::new(1_500, 1_400, 65_536, 1, Mode::Data)?)?)
+}
+
+fn opening() -> Event {
+    let draw = Draw::new(1, 1);
+    match draw {
+        Some(draw) => Event::Open { a: draw, b: draw },
+        None => Event::Build { side: Side::A },
+    }
+}
+
+fn sending(alloc: Global, bytes: &[u8]) -> Result<Event, Fail> {
+    Ok(Event::Send {
+        side: Side::A,
+        stream: 0,
+        payload_id: 0,
+        bytes: Bytes::copied(alloc, bytes)?,
+    })
+}
+
+fn delivery(number: u32) -> Event {
+    Event::Deliver {
+        side: Side::A,
+        number,
+    }
+}
+
+fn taking() -> Event {
+    Event::Take {
+        side: Side::B,
+        stream: 0,
+    }
+}
+
+#[test]
+fn one_message_goes_over(rt: HostRuntime) -> Result<(), Fail> {
+    let mut pair = fresh(rt.alloc())?;
+    let early = pair.step(&sending(rt.alloc(), &HI)?)?;
+    assert_eq!(rt; early, Outcome::SendRefused { refusal: SendRefusal::NotOpen });
+    assert_eq!(rt; pair.step(&opening())?, Outcome::Done);
+    let sent = pair.step(&sending(rt.alloc(), &HI)?)?;
+    assert_eq!(rt; sent, Outcome::Ticket { side: Side::A, ticket: 1 });
+    let built = pair.step(&Event::Build { side: Side::A })?;
+    assert_eq!(rt; built, Outcome::Sent { side: Side::A, number: 1, length: 32 });
+    assert_eq!(rt; pair.step(&delivery(1))?, Outcome::Taken { side: Side::B });
+    let taken = pair.step(&taking())?;
+    let bytes = Bytes::copied(rt.alloc(), &HI)?;
+    assert_eq!(rt; taken, Outcome::Message { side: Side::B, stream: 0, number: 0, payload_id: 0, bytes });
+    assert_eq!(rt; pair.step(&delivery(1))?, Outcome::Taken { side: Side::B });
+    assert_eq!(rt; pair.step(&taking())?, Outcome::Empty { side: Side::B, stream: 0 });
+    assert_eq!(rt; pair.step(&delivery(2))?, Outcome::Absent);
+    let quiet = pair.step(&Event::Build { side: Side::A })?;
+    assert_eq!(rt; quiet, Outcome::Quiet { side: Side::A });
+    assert_eq!(rt; pair.step(&opening())?, Outcome::OpenRefused);
+    let report = pair.report()?;
+    let lines = b"end A Established -\nnumbered A 1\nend B Established -\nhanded B 0 o 0\n";
+    assert_eq!(rt; report.as_slice(), lines.as_slice());
+    Ok(())
+}
+
+#[test]
+fn a_fresh_pair_reports_two_ends(rt: HostRuntime) -> Result<(), Fail> {
+    let report = fresh(rt.alloc())?.report()?;
+    assert_eq!(rt; report.as_slice(), b"end A Closed -\nend B Listen -\n".as_slice());
+    Ok(())
+}
+
+#[test]
+fn a_run_answers_each_event_and_the_report_has_what_waits(rt: HostRuntime) -> Result<(), Fail> {
+    let mut pair = fresh(rt.alloc())?;
+    let events = vec![in rt.alloc();
+        opening(),
+        sending(rt.alloc(), &HI)?,
+        sending(rt.alloc(), &HI)?,
+        Event::Build { side: Side::A },
+        delivery(1),
+        Event::Build { side: Side::B },
+        Event::Deliver { side: Side::B, number: 1 },
+        taking(),
+    ]?;
+    let outcomes = pair.run(&events)?;
+    let bytes = Bytes::copied(rt.alloc(), &HI)?;
+    let wanted = vec![in rt.alloc();
+        Outcome::Done,
+        Outcome::Ticket { side: Side::A, ticket: 1 },
+        Outcome::Ticket { side: Side::A, ticket: 2 },
+        Outcome::Sent { side: Side::A, number: 1, length: 52 },
+        Outcome::Taken { side: Side::B },
+        Outcome::Sent { side: Side::B, number: 1, length: 28 },
+        Outcome::Taken { side: Side::A },
+        Outcome::Message { side: Side::B, stream: 0, number: 0, payload_id: 0, bytes },
+    ]?;
+    assert_eq!(rt; outcomes.as_slice(), wanted.as_slice());
+    let report = pair.report()?;
+    let lines = b"end A Established -\nnumbered A 1 2\nend B Established -\nhanded B 0 o 0 1\n";
+    assert_eq!(rt; report.as_slice(), lines.as_slice());
+    Ok(())
+}
+
+#[test]
+fn after_32_767_messages_an_end_is_spent(rt: HostRuntime) -> Result<(), Fail> {
+    let mut pair = fresh(rt.alloc())?;
+    let hi = sending(rt.alloc(), &HI)?;
+    let build = Event::Build { side: Side::A };
+    assert_eq!(rt; pair.step(&opening())?, Outcome::Done);
+    for ticket in 1..=32_767 {
+        assert_eq!(rt; pair.step(&hi)?, Outcome::Ticket { side: Side::A, ticket });
+        if ticket % 64 == 0 {
+            pair.step(&build)?;
+        }
+    }
+    let spent = pair.step(&hi)?;
+    assert_eq!(rt; spent, Outcome::SendRefused { refusal: SendRefusal::Spent });
+    Ok(())
+}
