@@ -110,7 +110,7 @@ piece_keeps r p _ (Taken t d l (ms, n, due, same)) = record {
   streams = ap (λ (x : ReceiverView). x.streams) same;
   taken = ap (λ (x : ReceiverView). x.taken) same;
   lanes = λ h s. subst (λ (x : ReceiverView). AllByRecursion (IsOn s) (x.waiting s)) (sym same)
-    (on_one r.waiting p.stream ms (due_on _ p.stream _ n ms due) h s);
+      (on_one r.waiting p.stream ms (due_on _ p.stream _ n ms due) h s);
 }
 
 -- ---- a chunk acts
@@ -244,9 +244,9 @@ one_told p l m h =
     let here : at_lane p.messages l (p.messages l ++ m ∷ []) l ≡ p.messages l ++ m ∷ [] = at_lane_same p.messages l (p.messages l ++ m ∷ []) in
     record {
       told = tickets_in-append (more p l m) p.entries (Part l (length (p.messages l)) 0 ∷ [])
-        ∙ rw (tickets_same p l m p.entries h, here, slice_get-last (p.messages l) m) refl;
+          ∙ rw (tickets_same p l m p.entries h, here, slice_get-last (p.messages l) m) refl;
       messages = all-append (HasMessage (more p l m)) p.entries (Part l (length (p.messages l)) 0 ∷ []) (have_same p l m p.entries h)
-        (rw here (omega (arith, length-append (p.messages l) (m ∷ []))), tt);
+          (rw here (omega (arith, length-append (p.messages l) (m ∷ []))), tt);
     }
 
 pub all_told : (v : SenderView) (qs : List Queued) → AllByRecursion (HasMessage v.plan) v.plan.entries
@@ -295,12 +295,12 @@ end_took e q log m v h rest k waits number is stands = record {
   numbered = k.numbered;
   messages = k.messages;
   taken = λ s. at_cases (λ (hs : List Handed). numbers_taken log.items s ≡ map (λ x. x.number) hs) v.receiver.taken m.stream (v.receiver.taken m.stream ++ h ∷ []) s
-    (λ e. rw is (taken-push _ m s (sym e) ∙ (ap (λ (xs : List ℕ). xs ++ m.number ∷ []) (k.taken s)
+      (λ e. rw is (taken-push _ m s (sym e) ∙ (ap (λ (xs : List ℕ). xs ++ m.number ∷ []) (k.taken s)
       ∙ rw (e, map-append, number) refl)))
-    (λ ne. rw is (taken-other _ m s (λ e. ne (sym e)) ∙ k.taken s));
+      (λ ne. rw is (taken-other _ m s (λ e. ne (sym e)) ∙ k.taken s));
   lanes = λ s. at_cases (λ (hs : List Handed). AllByRecursion (IsOn s) hs) v.receiver.waiting m.stream rest s
-    (λ e. subst (λ (j : ℕ). AllByRecursion (IsOn j) rest) (sym e) (subst (λ (hs : List Handed). AllByRecursion (IsOn m.stream) hs) waits (k.lanes m.stream)).1)
-    (λ ne. k.lanes s);
+      (λ e. subst (λ (j : ℕ). AllByRecursion (IsOn j) rest) (sym e) (subst (λ (hs : List Handed). AllByRecursion (IsOn m.stream) hs) waits (k.lanes m.stream)).1)
+      (λ ne. k.lanes s);
 }
 
 -- ---- the user sends
@@ -378,7 +378,7 @@ pub is_idle : (v : EndView) (sacks : Packet) (packet after : Draft) (k : Kept) (
     → packet ≡ with_chunks (empty_draft limit) sacks → (f : Fills v.sender packet after k filled) → after.chunks ≡ [] → IsIdle v f.count
 is_idle v sacks packet after k filled limit begins is f none =
     let all : after.chunks ≡ sacks ++ datas_of v.sender (take f.count v.sender.queue) =
-      ap (λ (d : Draft). d.chunks) f.chunks ∙ ap (λ (d : Draft). d.chunks ++ datas_of v.sender (take f.count v.sender.queue)) is in
+    ap (λ (d : Draft). d.chunks) f.chunks ∙ ap (λ (d : Draft). d.chunks ++ datas_of v.sender (take f.count v.sender.queue)) is in
     let parts = nil_parts sacks _ (sym all ∙ none) in
     let short = ap length (datas_none v.sender (take f.count v.sender.queue) parts.1) in
     let zero_count : f.count ≡ 0 = omega (arith, length-take f.count v.sender.queue, short, f.fill.within) in
@@ -408,7 +408,7 @@ end_built e q log v packet after filled k f is =
       sack_due = refl;
       streams = k.streams;
       numbered = ap tickets_noted is ∙ (noted-push e.numbered.items filled ∙ (ap (λ (ts : List ℕ). ts ++ numbers_of filled.tickets.items) k.numbered
-        ∙ (ap (λ (ts : List ℕ). tickets_of v.sender.plan ++ ts) f.tickets ∙ sym told.told)));
+          ∙ (ap (λ (ts : List ℕ). tickets_of v.sender.plan ++ ts) f.tickets ∙ sym told.told)));
       messages = told.messages;
       taken = k.taken;
       lanes = k.lanes;

@@ -17,10 +17,9 @@ ghost use Rattle.sctp_recv.specs.ReceiverStands.{ReceiverStands};
 ghost use Rattle.sctp_send.specs.SenderSteps.{reason_of};
 ghost use Rattle.sctp_script.specs.Settings.{configuration_of};
 
-use sctp_script::PairConfig;
-use sctp_script::{Bytes, Outcome, SendRefusal, Side, State};
 use sctp_packet::PacketWriter;
 use sctp_recv::{Answer, Receiver};
+use sctp_script::{Bytes, Outcome, PairConfig, SendRefusal, Side, State};
 use sctp_send::{Filled, SendFault, Sender};
 use sctp_wire::{Blocks, Chunk, Chunks, NoMemory, Sack, Words, read_chunks};
 use std::alloc::Global;

@@ -9,9 +9,8 @@ ghost use Rattle.sctp_script.specs.ReportText.{numbers_of, handed_lines, end_rep
 ghost use Rattle.sctp_send.specs.SenderSteps as sender;
 
 use crate::end::{End, TakenMessage};
-use sctp_script::Side;
 use sctp_recv::Message;
-use sctp_script::{put_end, put_handed, put_numbered};
+use sctp_script::{Side, put_end, put_handed, put_numbered};
 use sctp_send::{Filled, Ticket};
 use sctp_wire::NoMemory;
 use std::alloc::Global;
@@ -103,7 +102,8 @@ fn append_waiting(waiting: &VecDeque<Message>, out: &mut Vec<u32>) -> Result<(),
     ensures { OnOk result (out.new.items ≡ out.old.items ++ map (λ m. (handed_of m).number) waiting.now.items) }
 {
     for index in 0..waiting.len() {
-        out.push(waiting[index].number.unwrap_or(0)).map_err(|_| NoMemory)?;
+        out.push(waiting[index].number.unwrap_or(0))
+            .map_err(|_| NoMemory)?;
     }
     Ok(())
 }

@@ -4,8 +4,10 @@
 mod end;
 mod end_report;
 mod pair;
+mod script;
 
 pub use pair::Pair;
+pub use script::{ScriptFault, run_script};
 pub use sctp_script::{
     Bytes, ConfigFault, Draw, Event, Failed, FromRead, LineFault, Mode, Outcome, PairConfig,
     SendRefusal, Side, Sink, Source, ToWrite,

@@ -9,11 +9,10 @@ ghost use Rattle.sctp_trace.specs.PairRuns.{Told, Leads, Ran, Promised};
 ghost use Rattle.sctp_script.specs.ReportText.{report};
 ghost use Rattle.sctp_script.specs.Settings.{configuration_of};
 
-use sctp_script::PairConfig;
 use crate::end::{End, build_at, deliver_at, send_at, take_at};
 use crate::end_report::put_report;
-use sctp_script::{Event, Outcome, Side, State};
 use sctp_safety::safe_in_every_run;
+use sctp_script::{Event, Outcome, PairConfig, Side, State};
 use sctp_wire::NoMemory;
 use std::alloc::Global;
 

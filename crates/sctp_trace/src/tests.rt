@@ -45,18 +45,51 @@ fn taking() -> Event {
 fn one_message_goes_over(rt: HostRuntime) -> Result<(), Fail> {
     let mut pair = fresh(rt.alloc())?;
     let early = pair.step(&sending(rt.alloc(), &HI)?)?;
-    assert_eq!(rt; early, Outcome::SendRefused { refusal: SendRefusal::NotOpen });
+    assert_eq!(rt;
+        early,
+        Outcome::SendRefused {
+            refusal: SendRefusal::NotOpen
+        }
+    );
     assert_eq!(rt; pair.step(&opening())?, Outcome::Done);
     let sent = pair.step(&sending(rt.alloc(), &HI)?)?;
-    assert_eq!(rt; sent, Outcome::Ticket { side: Side::A, ticket: 1 });
+    assert_eq!(rt;
+        sent,
+        Outcome::Ticket {
+            side: Side::A,
+            ticket: 1
+        }
+    );
     let built = pair.step(&Event::Build { side: Side::A })?;
-    assert_eq!(rt; built, Outcome::Sent { side: Side::A, number: 1, length: 32 });
+    assert_eq!(rt;
+        built,
+        Outcome::Sent {
+            side: Side::A,
+            number: 1,
+            length: 32
+        }
+    );
     assert_eq!(rt; pair.step(&delivery(1))?, Outcome::Taken { side: Side::B });
     let taken = pair.step(&taking())?;
     let bytes = Bytes::copied(rt.alloc(), &HI)?;
-    assert_eq!(rt; taken, Outcome::Message { side: Side::B, stream: 0, number: 0, payload_id: 0, bytes });
+    assert_eq!(rt;
+        taken,
+        Outcome::Message {
+            side: Side::B,
+            stream: 0,
+            number: 0,
+            payload_id: 0,
+            bytes
+        }
+    );
     assert_eq!(rt; pair.step(&delivery(1))?, Outcome::Taken { side: Side::B });
-    assert_eq!(rt; pair.step(&taking())?, Outcome::Empty { side: Side::B, stream: 0 });
+    assert_eq!(rt;
+        pair.step(&taking())?,
+        Outcome::Empty {
+            side: Side::B,
+            stream: 0
+        }
+    );
     assert_eq!(rt; pair.step(&delivery(2))?, Outcome::Absent);
     let quiet = pair.step(&Event::Build { side: Side::A })?;
     assert_eq!(rt; quiet, Outcome::Quiet { side: Side::A });
@@ -70,7 +103,10 @@ fn one_message_goes_over(rt: HostRuntime) -> Result<(), Fail> {
 #[test]
 fn a_fresh_pair_reports_two_ends(rt: HostRuntime) -> Result<(), Fail> {
     let report = fresh(rt.alloc())?.report()?;
-    assert_eq!(rt; report.as_slice(), b"end A Closed -\nend B Listen -\n".as_slice());
+    assert_eq!(rt;
+        report.as_slice(),
+        b"end A Closed -\nend B Listen -\n".as_slice()
+    );
     Ok(())
 }
 
@@ -84,20 +120,43 @@ fn a_run_answers_each_event_and_the_report_has_what_waits(rt: HostRuntime) -> Re
         Event::Build { side: Side::A },
         delivery(1),
         Event::Build { side: Side::B },
-        Event::Deliver { side: Side::B, number: 1 },
+        Event::Deliver {
+            side: Side::B,
+            number: 1
+        },
         taking(),
     ]?;
     let outcomes = pair.run(&events)?;
     let bytes = Bytes::copied(rt.alloc(), &HI)?;
     let wanted = vec![in rt.alloc();
         Outcome::Done,
-        Outcome::Ticket { side: Side::A, ticket: 1 },
-        Outcome::Ticket { side: Side::A, ticket: 2 },
-        Outcome::Sent { side: Side::A, number: 1, length: 52 },
+        Outcome::Ticket {
+            side: Side::A,
+            ticket: 1
+        },
+        Outcome::Ticket {
+            side: Side::A,
+            ticket: 2
+        },
+        Outcome::Sent {
+            side: Side::A,
+            number: 1,
+            length: 52
+        },
         Outcome::Taken { side: Side::B },
-        Outcome::Sent { side: Side::B, number: 1, length: 28 },
+        Outcome::Sent {
+            side: Side::B,
+            number: 1,
+            length: 28
+        },
         Outcome::Taken { side: Side::A },
-        Outcome::Message { side: Side::B, stream: 0, number: 0, payload_id: 0, bytes },
+        Outcome::Message {
+            side: Side::B,
+            stream: 0,
+            number: 0,
+            payload_id: 0,
+            bytes
+        },
     ]?;
     assert_eq!(rt; outcomes.as_slice(), wanted.as_slice());
     let report = pair.report()?;
@@ -113,12 +172,23 @@ fn after_32_767_messages_an_end_is_spent(rt: HostRuntime) -> Result<(), Fail> {
     let build = Event::Build { side: Side::A };
     assert_eq!(rt; pair.step(&opening())?, Outcome::Done);
     for ticket in 1..=32_767 {
-        assert_eq!(rt; pair.step(&hi)?, Outcome::Ticket { side: Side::A, ticket });
+        assert_eq!(rt;
+            pair.step(&hi)?,
+            Outcome::Ticket {
+                side: Side::A,
+                ticket
+            }
+        );
         if ticket % 64 == 0 {
             pair.step(&build)?;
         }
     }
     let spent = pair.step(&hi)?;
-    assert_eq!(rt; spent, Outcome::SendRefused { refusal: SendRefusal::Spent });
+    assert_eq!(rt;
+        spent,
+        Outcome::SendRefused {
+            refusal: SendRefusal::Spent
+        }
+    );
     Ok(())
 }

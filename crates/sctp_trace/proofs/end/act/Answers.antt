@@ -17,6 +17,8 @@ returns-in-Duplicate c = λ v stands.
 pub returns-in-Sack : goal.returns-in-Sack
 unfolding EndStands
 returns-in-Sack c = λ v stands.
-    let s = c.in-Sack.sack in
-    (record v { sender = acknowledged v.sender s.cumulative s.rwnd }, rw c.in-Sack.is refl,
-      end_acknowledged c.args.end.now c.on_sack.new.self v s.cumulative s.rwnd stands (c.on_sack.ensures v.sender stands.sender))
+    let s = c.in-Sack.sack in (
+      record v { sender = acknowledged v.sender s.cumulative s.rwnd },
+      rw c.in-Sack.is refl,
+      end_acknowledged c.args.end.now c.on_sack.new.self v s.cumulative s.rwnd stands (c.on_sack.ensures v.sender stands.sender),
+    )

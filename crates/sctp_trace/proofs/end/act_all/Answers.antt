@@ -11,7 +11,7 @@ loop-chunk-preserved c =
       done ++ m ∷ [],
       rw (append_assoc, ← c.in-Some.ensures.steps) c.loop-chunk.invariant.1,
       λ v h.
-        let before = c.loop-chunk.invariant.2 v h in
-        let now = c.in_ok-act.ensures before.0 before.2 in
-        (now.0, acts_push v done before.0 m now.0 before.1 now.1, now.2),
+          let before = c.loop-chunk.invariant.2 v h in
+          let now = c.in_ok-act.ensures before.0 before.2 in
+          (now.0, acts_push v done before.0 m now.0 before.1 now.1, now.2),
     )

@@ -73,8 +73,11 @@ returns-in-Some c = λ w stands packets limit.
       t,
       bag_of w s ++ (first.first ∷ first.rest) ∷ [],
       refl,
-      (refl, is_open v.state (rw (← stands.state) opened),
-        (first.first, first.rest, t, builds, number ∙ ap suc (bag-length _ _ packets), length_is ∙ bytes.size, packet_bag w s t (first.first ∷ first.rest))),
+      (
+        refl,
+        is_open v.state (rw (← stands.state) opened),
+        (first.first, first.rest, t, builds, number ∙ ap suc (bag-length _ _ packets), length_is ∙ bytes.size, packet_bag w s t (first.first ∷ first.rest)),
+      ),
       end_built c.args.end.now c.fill.new.self c.push_reserved.new.self v _ _ c.in_ok-filled.filled stands fills log,
       rw bag (bag-push _ _ c.in-Some.bytes (first.first ∷ first.rest) packets bytes),
     )

@@ -13,10 +13,10 @@ returns-then-index-eq0 c = λ w stands packets.
     let s = side_said c.args.side in
     let same = bag-length _ _ packets in
     let none : item_at (bag_of w s) c.args.number ≡ None =
-      elim c.then-index-eq0.branch [
-        then-index-eq0-via-then-index-eq0 b ↦ item_outside (bag_of w s) c.args.number (inl (omega arith))
-        | then-index-eq0-via-else-index-eq0+then-index-bag b ↦ item_outside (bag_of w s) c.args.number (inr (omega (arith, same)))
-      ] in
+    elim c.then-index-eq0.branch [
+      | then-index-eq0-via-then-index-eq0 b ↦ item_outside (bag_of w s) c.args.number (inl (omega arith))
+      | then-index-eq0-via-else-index-eq0+then-index-bag b ↦ item_outside (bag_of w s) c.args.number (inr (omega (arith, same)))
+    ] in
     (Some world.Absent, end_of w (other s), refl, (none, same_end w (other s)), stands)
 
 pub returns-in_err-handle : goal.returns-in_err-handle

@@ -54,5 +54,5 @@ returns-in-Some c = λ w stands.
       (h, record { lane = on.0; number = number; payload = refl; bytes = sym c.new.ensures }, refl),
       (refl, refl, (rest, waits, refl)),
       end_took c.args.end.now c.take.new.self c.push_reserved.new.self m v h rest stands waits number log
-        (subst (λ (r : ReceiverView). ReceiverStands c.take.new.self r) left.1.2 left.2),
+          (subst (λ (r : ReceiverView). ReceiverStands c.take.new.self r) left.1.2 left.2),
     )

@@ -13,15 +13,15 @@ loop-event-preserved c =
       grind (arith, common_steps),
       grind (arith, common_steps),
       λ w stands.
-        let before = c.loop-event.invariant.2 w stands in
-        let now = c.in_ok-outcome.ensures _ before.4 in
-        let led = now.1 in (
-          before.0 ++ now.0 ∷ [],
-          before.1 ++ led.0 ∷ [],
-          rw items (told-push _ before.1 c.in_ok-outcome.outcome led.0 before.2 led.1),
-          run_more w c.args.events.now c.loop-event.event-index _ before.1 before.0 led.0 now.0 c.loop-event-test.true c.event-item.is before.3 led.2,
-          rw last-push now.3,
-        ),
+          let before = c.loop-event.invariant.2 w stands in
+          let now = c.in_ok-outcome.ensures _ before.4 in
+          let led = now.1 in (
+            before.0 ++ now.0 ∷ [],
+            before.1 ++ led.0 ∷ [],
+            rw items (told-push _ before.1 c.in_ok-outcome.outcome led.0 before.2 led.1),
+            run_more w c.args.events.now c.loop-event.event-index _ before.1 before.0 led.0 now.0 c.loop-event-test.true c.event-item.is before.3 led.2,
+            rw last-push now.3,
+          ),
     )
 
 pub returns-in_err-outcome : goal.returns-in_err-outcome

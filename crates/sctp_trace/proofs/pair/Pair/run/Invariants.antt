@@ -12,5 +12,5 @@ abbrev pub invariant-loop-event : goal.invariant-loop-event
 invariant-loop-event l =
     (vec_len l.outcomes ≡ l.event-index) × (length l.events ≤ vec_capacity l.outcomes)
     × ((w : World) → PairStands l.fn.self w
-      → (trace : List World) × (answers : List (Option world.Outcome)) × AllTold l.outcomes.items answers
-      × Run w (map event_said (take l.event-index l.events)) answers trace × PairStands l.self (last_of w trace))
+    → (trace : List World) × (answers : List (Option world.Outcome)) × AllTold l.outcomes.items answers
+    × Run w (map event_said (take l.event-index l.events)) answers trace × PairStands l.self (last_of w trace))
