@@ -12,7 +12,7 @@ use Rattle.std.proofs.lemmas.Grind.{common_steps}
 use Rattle.sctp_model.specs.Words.{joined, at}
 use Rattle.sctp_model.specs.Format.{Plain, Kind, Ordered, Unordered, Lane, same_kind, same_lane, ordered_lane, at_lane}
 use Rattle.sctp_model.specs.Chunk.{PieceMeaning, SackMeaning, ChunkMeaning, Data, Sack}
-use Rattle.sctp_model.specs.Plan.{Message, Plan, Entry, Part, End as EndMark, message_at}
+use Rattle.sctp_model.specs.Plan.{Message as Planned, Plan, Entry, Part, End as EndMark, message_at}
 use Rattle.sctp_model.specs.Pieces.{Piece}
 use Rattle.sctp_model.specs.SenderView.{Queued, SenderView}
 use Rattle.sctp_model.specs.ReceiverView.{Handed, ReceiverView}
@@ -27,6 +27,8 @@ use Rattle.sctp_packet.specs.PacketBytes.{Draft, room_in, with_chunks, empty_dra
 use Rattle.sctp_script.specs.declared.event.Outcome.{Outcome}
 use Rattle.sctp_send.specs.declared.sender.SendFault.{SendFault}
 use Rattle.sctp_trace.specs.EndStands.{is_established, IsBeginning, HasMessage, IsOn, IsEnd, tickets_noted, numbers_taken}
+use Rattle.sctp_recv.specs.declared.message.Message.{Message}
+use Rattle.sctp_recv.specs.HandedOf.{handed_of}
 use Rattle.sctp_recv.specs.ReceiverCalls.{IsAnswered, taken_from}
 use Rattle.sctp_recv.specs.ReceiverKept.{ReceiverKept}
 use Rattle.sctp_recv.specs.ReceiverStands.{ReceiverStands}
@@ -199,37 +201,37 @@ slice_get-last [] x = refl
 slice_get-last (y ∷ xs) x = slice_get-last xs x
 
 -- the plan with one message more on a lane
-grown : Plan → Lane → Message → Lane → List Message
+grown : Plan → Lane → Planned → Lane → List Planned
 grown p l m = at_lane p.messages l (p.messages l ++ m ∷ [])
 
-message_grown : (p : Plan) (l : Lane) (m : Message) (k : Lane) (n : ℕ) → n < length (p.messages k)
+message_grown : (p : Plan) (l : Lane) (m : Planned) (k : Lane) (n : ℕ) → n < length (p.messages k)
     → slice_get (at_lane p.messages l (p.messages l ++ m ∷ []) k) n ≡ slice_get (p.messages k) n
 message_grown p l m k n less =
-    at_lane_cases (λ (xs : List Message). slice_get xs n ≡ slice_get (p.messages k) n) p.messages l (p.messages l ++ m ∷ []) k
+    at_lane_cases (λ (xs : List Planned). slice_get xs n ≡ slice_get (p.messages k) n) p.messages l (p.messages l ++ m ∷ []) k
     (λ e. subst (λ (j : Lane). slice_get (p.messages j ++ m ∷ []) n ≡ slice_get (p.messages k) n) e (slice_get-left (p.messages k) (m ∷ []) n less))
     (λ ne. refl)
 
-length_grown : (p : Plan) (l : Lane) (m : Message) (k : Lane) (n : ℕ) → n < length (p.messages k)
+length_grown : (p : Plan) (l : Lane) (m : Planned) (k : Lane) (n : ℕ) → n < length (p.messages k)
     → n < length (at_lane p.messages l (p.messages l ++ m ∷ []) k)
 length_grown p l m k n less =
-    at_lane_cases (λ (xs : List Message). n < length xs) p.messages l (p.messages l ++ m ∷ []) k
+    at_lane_cases (λ (xs : List Planned). n < length xs) p.messages l (p.messages l ++ m ∷ []) k
     (λ e. subst (λ (j : Lane). n < length (p.messages j ++ m ∷ [])) e (omega (arith, length-append (p.messages k) (m ∷ []))))
     (λ ne. less)
 
-abbrev more : Plan → Lane → Message → Plan
+abbrev more : Plan → Lane → Planned → Plan
 more p l m = record {
   messages = at_lane p.messages l (p.messages l ++ m ∷ []);
   entries = p.entries ++ Part l (length (p.messages l)) 0 ∷ [];
 }
 
-tickets_same : (p : Plan) (l : Lane) (m : Message) (es : List Entry) → AllByRecursion (HasMessage p) es → tickets_in (more p l m) es ≡ tickets_in p es
+tickets_same : (p : Plan) (l : Lane) (m : Planned) (es : List Entry) → AllByRecursion (HasMessage p) es → tickets_in (more p l m) es ≡ tickets_in p es
 tickets_same p l m [] h = refl
 tickets_same p l m (Part k n zero ∷ es) (here, rest) =
     rw (message_grown p l m k n here, tickets_same p l m es rest) refl
 tickets_same p l m (Part k n (suc j) ∷ es) (here, rest) = tickets_same p l m es rest
 tickets_same p l m (EndMark k n ∷ es) (here, rest) = tickets_same p l m es rest
 
-have_same : (p : Plan) (l : Lane) (m : Message) (es : List Entry) → AllByRecursion (HasMessage p) es → AllByRecursion (HasMessage (more p l m)) es
+have_same : (p : Plan) (l : Lane) (m : Planned) (es : List Entry) → AllByRecursion (HasMessage p) es → AllByRecursion (HasMessage (more p l m)) es
 have_same p l m [] h = tt
 have_same p l m (Part k n j ∷ es) (here, rest) = (length_grown p l m k n here, have_same p l m es rest)
 have_same p l m (EndMark k n ∷ es) (here, rest) = (length_grown p l m k n here, have_same p l m es rest)
@@ -239,7 +241,7 @@ pub record AreTold (p t : Plan) (tickets : List ℕ) : Type 0 where
   pub told : tickets_of t ≡ tickets_of p ++ tickets
   pub messages : AllByRecursion (HasMessage t) t.entries
 
-one_told : (p : Plan) (l : Lane) (m : Message) → AllByRecursion (HasMessage p) p.entries → AreTold p (more p l m) (m.ticket ∷ [])
+one_told : (p : Plan) (l : Lane) (m : Planned) → AllByRecursion (HasMessage p) p.entries → AreTold p (more p l m) (m.ticket ∷ [])
 one_told p l m h =
     let here : at_lane p.messages l (p.messages l ++ m ∷ []) l ≡ p.messages l ++ m ∷ [] = at_lane_same p.messages l (p.messages l ++ m ∷ []) in
     record {
@@ -280,6 +282,21 @@ taken-other ms m s ne =
     go : ((m.stream == s) ≡ true) ⊎ ((m.stream == s) ≡ false) → (m.stream == s) ≡ false
     go (inl e) = absurd (ne (eqb-true m.stream s e))
     go (inr e) = e
+
+-- ---- what was handed over: what was taken, and what waits
+
+map_handed : (ms : List Message) → map (λ m. (handed_of m).number) ms ≡ map (λ h. h.number) (map handed_of ms)
+map_handed [] = refl
+map_handed (m ∷ ms) = ap (λ (ns : List ℕ). (handed_of m).number ∷ ns) (map_handed ms)
+
+pub both_told : (taken waiting : List Handed) (numbers : List ℕ) (ms : List Message) → numbers ≡ map (λ h. h.number) taken → map handed_of ms ≡ waiting
+    → numbers ++ map (λ m. (handed_of m).number) ms ≡ map (λ h. h.number) (taken ++ waiting)
+both_told taken waiting numbers ms told waits =
+    rw (told, map_handed ms, waits, map-append) refl
+
+pub all_taken : (taken waiting : List Handed) (numbers : List ℕ) → numbers ≡ map (λ h. h.number) taken → waiting ≡ []
+    → numbers ≡ map (λ h. h.number) (taken ++ waiting)
+all_taken taken waiting numbers told none = rw (told, none, append-nil) refl
 
 -- ---- the user takes a message
 
@@ -394,6 +411,20 @@ is_idle v sacks packet after k filled limit begins is f none =
     due : IsBeginning v sacks → sacks ≡ [] → v.sack_due ≡ false
     due (inl (d, e)) none = d
     due (inr (d, (s, of, e))) none = cc
+
+-- room in the log changes nothing
+pub end_reserved : (e : End) (log : Vec Filled Global) (v : EndView) → IsEnd e v → log.items ≡ e.numbered.items → IsEnd (record e { numbered = log }) v
+end_reserved e log v k is = record {
+  state = k.state;
+  sender = k.sender;
+  receiver = k.receiver;
+  sack_due = k.sack_due;
+  streams = k.streams;
+  numbered = ap tickets_noted is ∙ k.numbered;
+  messages = k.messages;
+  taken = k.taken;
+  lanes = k.lanes;
+}
 
 -- the log, and the sender's plan
 pub end_built : (e : End) (q : Kept) (log : Vec Filled Global) (v : EndView) (packet after : Draft) (filled : Filled) → IsEnd e v

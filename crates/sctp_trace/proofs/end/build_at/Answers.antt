@@ -9,7 +9,7 @@ use Rattle.sctp_trace.specs.EndStands.{EndStands, is_established, tickets_noted}
 use Rattle.sctp_packet.specs.PacketBytes.{Draft, with_chunks, empty_draft, IsPacketOf}
 use Rattle.sctp_send.specs.SenderStands.{StandsFor}
 use Rattle.sctp_trace.proofs.BagLemmas.{bag-push, bag-length, same_bag, packet_bag}
-use Rattle.sctp_trace.proofs.EndLemmas.{is_open, isnt_open, is_built, is_idle, end_built, has_first}
+use Rattle.sctp_trace.proofs.EndLemmas.{is_open, isnt_open, is_built, is_idle, end_reserved, end_built, has_first}
 use Rattle.sctp_trace.proofs.end.build_at.Goals as goal
 
 pub returns-then-not-is_open : goal.returns-then-not-is_open
@@ -25,7 +25,7 @@ unfolding EndStands
 returns-in-None c = λ w stands packets limit.
     let s = side_said c.args.side in
     let v = end_of w s in
-    let begins = c.in_ok-packet.ensures v stands in
+    let begins = c.in_ok-packet.ensures v (end_reserved c.args.end.now c.reserve-2.new.self v stands c.reserve-2.ensures.items) in
     let fills = c.in_ok-filled.ensures v.sender stands.sender in
     let none = ap (λ (d : Draft). d.chunks) c.in-None.ensures.packet in
     let idle = is_idle v begins.0 _ _ _ _ c.args.limit begins.1 begins.2 fills none in
@@ -56,7 +56,7 @@ unfolding EndStands
 returns-in-Some c = λ w stands packets limit.
     let s = side_said c.args.side in
     let v = end_of w s in
-    let begins = c.in_ok-packet.ensures v stands in
+    let begins = c.in_ok-packet.ensures v (end_reserved c.args.end.now c.reserve-2.new.self v stands c.reserve-2.ensures.items) in
     let fills = c.in_ok-filled.ensures v.sender stands.sender in
     let draft = subst (λ (n : ℕ). c.in_ok-packet.packet ≡ with_chunks (empty_draft n) begins.0) (sym limit) begins.2 in
     let t : EndView = record v { sender = went_out v.sender fills.count; sack_due = false } in

@@ -24,6 +24,19 @@ loop-event-preserved c =
           ),
     )
 
+pub returns-in_err-outcomes : goal.returns-in_err-outcomes
+returns-in_err-outcomes c = λ w stands.
+    let p = err_from_is_err_and c.from_residual.result c.from_residual.ensures.1 in
+    ([], rw p.1 ([], c.args.events.now, [], refl, inl refl, tt), promised_run c.safe_in_every_run.ensures w [] [] [] tt, stands)
+
+pub loop-event-init : goal.loop-event-init
+loop-event-init c =
+    let none : c.in_ok-outcomes.outcomes.items ≡ [] = grind (arith, common_steps) in (
+      grind (arith, common_steps),
+      grind (arith, common_steps),
+      λ w stands. ([], [], rw none tt, tt, stands),
+    )
+
 pub returns-in_err-outcome : goal.returns-in_err-outcome
 returns-in_err-outcome c = λ w stands.
     let before = c.loop-event.invariant.2 w stands in
@@ -32,7 +45,7 @@ returns-in_err-outcome c = λ w stands.
     let events = c.args.events.now in
     let i = c.loop-event.event-index in
     let run = run_more w events i _ before.1 before.0 led.0 now.0 c.loop-event-test.true c.event-item.is before.3 led.2 in
-    let p = err_from_is_err_and c.from_residual.result c.from_residual.ensures.1 in (
+    let p = err_from_is_err_and c.from_residual-in_err-outcome.result c.from_residual-in_err-outcome.ensures.1 in (
       before.0 ++ now.0 ∷ [],
       rw p.1 (take (i + 1) events, drop (i + 1) events, before.1 ++ led.0 ∷ [], sym (take-append-drop _ _), cut_short _ before.1 _ led.0 before.2 led.1, run),
       promised_run c.safe_in_every_run.ensures w _ _ _ run,

@@ -1,0 +1,18 @@
+use Rattle.std.proofs.Common.{◌≡◌, Some, true, false, refl, sym, subst, ap, ◌∙◌, arith}
+use Rattle.std.proofs.lemmas.Grind.{common_steps}
+use Rattle.sctp_model.specs.World as world
+use Rattle.sctp_model.specs.World.{A, B, with_end}
+use Rattle.sctp_trace.specs.PairStands.{PairStands, with_bag}
+use Rattle.sctp_trace.proofs.pair.Pair.take.Goals as goal
+
+pub returns-in-A : goal.returns-in-A
+unfolding PairStands
+returns-in-A c = λ w stands.
+    let done = rw c.in-A.is at c.take_at.ensures w stands.a in
+    rw c.in-A.is (done.0, with_end w A done.1, done.2, done.3, record { configuration = stands.configuration; a = done.4; b = stands.b; from_a = stands.from_a; from_b = stands.from_b; opened = stands.opened })
+
+pub returns-in-B : goal.returns-in-B
+unfolding PairStands
+returns-in-B c = λ w stands.
+    let done = rw c.in-B.is at c.take_at-in-B.ensures w stands.b in
+    rw c.in-B.is (done.0, with_end w B done.1, done.2, done.3, record { configuration = stands.configuration; a = stands.a; b = done.4; from_a = stands.from_a; from_b = stands.from_b; opened = stands.opened })
