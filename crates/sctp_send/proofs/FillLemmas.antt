@@ -8,8 +8,8 @@ use Rattle.sctp_model.specs.Chunk.{ChunkMeaning, PieceMeaning, Data}
 use Rattle.sctp_model.specs.SenderView.{Queued, SenderView}
 use Rattle.sctp_model.specs.Sending.{padded, room_of, room_of_all, IsFill, went_out}
 use Rattle.sctp_model.specs.World.{size_of_chunk, size_of_chunks, size_of_packet, datas_of}
-use Rattle.sctp_wire.specs.Layouts.{IsDataPiece, Fits}
-use Rattle.sctp_wire.proofs.BodyLemmas.{length-data_value}
+use Rattle.sctp_wire.specs.Items.{half, word}
+use Rattle.sctp_wire.specs.Layouts.{IsDataPiece, Fits, data_value}
 use Rattle.sctp_send.specs.declared.sender.Ticket.{Ticket}
 use Rattle.sctp_send.specs.declared.sender.Filled.{Filled}
 use Rattle.sctp_send.specs.declared.sender.Waiting.{Waiting}
@@ -107,6 +107,10 @@ puts_more numbered xs packet before after i x lt e put is =
     let more : datas_from (suc numbered) (take (i + 1) (map waits_of xs)) ≡ datas_from (suc numbered) front ++ data_from (numbered + 1 + i) (waits_of x) ∷ [] =
     rw (take_waits xs i x lt e, datas-append (suc numbered) front (waits_of x), tsn) refl in
     rw (is, put, more, append_assoc packet.chunks (datas_from (suc numbered) front) (data_from (numbered + 1 + i) (waits_of x) ∷ [])) refl
+
+length-data_value : (p : PieceMeaning) → length (data_value p) ≡ 12 + length p.bytes
+unfolding word half
+length-data_value p = omega arith
 
 -- a message that fits a packet of fewer than 65,536 bytes can be written, and is taken
 fits_room : (p : PieceMeaning) (d : Draft) → IsDataPiece p → 16 + padded (length p.bytes) ≤ room_in d → room_in d < 2 ^ 16

@@ -14,7 +14,7 @@ pub invariant_of-self-2 : goal.invariant_of-self-2
 invariant_of-self-2 c =
     let s = c.self.inside in
     let given = c.make_room.new.given.items in
-    let message : Waiting = record { ticket = s.numbered + c.len-3.result + 1; stream = c.args.stream; number = c.index.result.now; payload_id = c.args.payload_id; bytes = c.args.bytes } in
+    let message : Waiting = record { ticket = s.numbered + c.len-2.result + 1; stream = c.args.stream; number = c.index.result.now; payload_id = c.args.payload_id; bytes = c.args.bytes } in
     let items : c.push_back.new.self.items ≡ s.waiting.items ++ message ∷ [] = grind (arith, common_steps) in
     let room : c.from-4.result < length given = grind (arith, common_steps) in
     let now = get_or_read given c.from-4.result c.index_mut.result.now room c.index_mut.ensures.value 0 in
@@ -33,7 +33,7 @@ returns-clause-stands c = λ v stands.
     let given = c.make_room.new.given.items in
     let room : c.args.stream < length given = grind (arith, common_steps) in
     let grown = keeps_given _ v given c.make_room.ensures.same keeps in
-    let message : Waiting = record { ticket = s.numbered + c.len-3.result + 1; stream = c.args.stream; number = c.index.result.now; payload_id = c.args.payload_id; bytes = c.args.bytes } in
+    let message : Waiting = record { ticket = s.numbered + c.len-2.result + 1; stream = c.args.stream; number = c.index.result.now; payload_id = c.args.payload_id; bytes = c.args.bytes } in
     let items : c.push_back.new.self.items ≡ s.waiting.items ++ message ∷ [] = grind (arith, common_steps) in
     let number : c.index.result.now ≡ slice_index given c.args.stream =
     rw (← c.from-3.ensures) (get_or_read given c.from-3.result c.index.result.now (omega arith) c.index.ensures 0) in
