@@ -72,6 +72,7 @@ impl PacketWriter {
         if size_of_chunk(chunk) > self.room() {
             return Ok(false);
         }
+        // The laws give that the bytes with this chunk read as the chunks with it.
         written_reads();
         chunks_are_read();
         put(&mut self.bytes, chunk)?;
@@ -84,6 +85,7 @@ impl PacketWriter {
             (λ packet. IsPacketOf packet.items self.chunks × (self.chunks ≡ [] → ⊥)) }
         ensures within { IfSome result (λ packet. length packet.items ≤ self.limit) }
     {
+        // The law gives that the bytes read as the chunks put in.
         written_reads();
         let PacketWriter { bytes, .. } = self;
         if bytes.len() > HEADER {
