@@ -1,13 +1,13 @@
 -- What the sender's calls do to what it keeps, and to the views that it stands for.
-use Rattle.std.proofs.Common.{◌≡◌, ℕ, zero, suc, ◌+◌, ◌-◌, ◌*◌, ◌/◌, ◌<◌, ◌≤◌, ◌⊎◌, List, [], ◌∷◌, ◌++◌, length, take, drop, map, set, refl, sym, ap, ◌∙◌, subst, append_assoc, arith, length-append, length-drop}
+use Rattle.std.proofs.Common.{◌≡◌, ℕ, zero, suc, ◌+◌, ◌<◌, ◌≤◌, ◌⊎◌, List, [], ◌∷◌, ◌++◌, length, take, drop, set, refl, sym, ap, ◌∙◌, arith, length-append}
 use Rattle.std.specs.List.{AllByRecursion}
 use Rattle.std.specs.Prelude.{nat_lt, ◌||◌, slice_index, if◌then◌else◌, ◌==◌, true, false, Bool}
 use Rattle.std.proofs.lemmas.List.{append-nil, map-append, length-map, drop-map, take-map, length-take-le}
 use Rattle.std.proofs.lemmas.Grind.{common_steps, elements}
-use Rattle.sctp_model.specs.Format.{Lane, ordered_lane, same_lane, at_lane}
+use Rattle.sctp_model.specs.Format.{ordered_lane, same_lane}
 use Rattle.sctp_model.specs.Plan.{Message, Plan}
 use Rattle.sctp_model.specs.SenderView.{Queued, SenderView}
-use Rattle.sctp_model.specs.Sending.{MESSAGE_LIMIT, accepted, queued, padded, room_of, room_of_all, numbered_one, numbered_all, went_out, acknowledged}
+use Rattle.sctp_model.specs.Sending.{MESSAGE_LIMIT, accepted, queued, padded, room_of, numbered_one, numbered_all, went_out, acknowledged}
 use Rattle.sctp_model.specs.World.{Configuration, fresh_sender, data_of, datas_of}
 use Rattle.sctp_send.specs.SenderFields.{IsSmall, AreFew}
 use Rattle.sctp_send.specs.SenderKept.{Waits, Kept}

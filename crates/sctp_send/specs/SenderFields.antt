@@ -1,5 +1,5 @@
 -- What a sender's fields hold, and what is always so of them.
-use Rattle.std.specs.Prelude.{ℕ, ◌+◌, ◌<◌, ◌≤◌, ◌^◌, List, length, map, slice_index}
+use Rattle.std.specs.Prelude.{ℕ, ◌+◌, ◌<◌, ◌≤◌, ◌^◌, List, length, slice_index}
 use Rattle.std.specs.List.{AllByRecursion}
 use Rattle.sctp_model.specs.Sending.{MESSAGE_LIMIT}
 use Rattle.sctp_send.specs.SenderKept.{Waits, Kept}

@@ -170,7 +170,8 @@ impl Sender {
         }
     }
 
-    /// Takes a message to send on a stream, with the word that goes with it to the peer's user.
+    /// Takes a message to send on a stream, with the word that goes with it to the peer's user: the payload
+    /// protocol identifier (RFC 9260, 3.3.1).
     ///
     /// # Errors
     /// The first reason of `SendFault` that holds. The message is dropped then, and nothing else changes.
