@@ -4,4 +4,5 @@ pub mod RegisterLemmas
 pub mod BitLemmas
 pub mod ChecksumLaws
 pub mod StandardFacts
+mod WrittenLengths
 mod PacketLemmas

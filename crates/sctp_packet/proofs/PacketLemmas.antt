@@ -7,20 +7,13 @@ use Rattle.std.proofs.lemmas.Grind.{common_steps, flat_map-append}
 use Rattle.sctp_model.specs.Chunk.{ChunkMeaning, Data, Sack, Unknown}
 use Rattle.sctp_model.specs.World.{HEADER_ROOM, size_of_chunk, size_of_chunks, size_of_packet}
 use Rattle.sctp_wire.specs.Layouts.{Fits}
-use Rattle.sctp_wire.specs.Reading.{chunks_of, chunks_or_none}
+use Rattle.sctp_wire.specs.Reading.{chunks_of, reading_of}
+use Rattle.sctp_wire.specs.Reads.{Reads}
 use Rattle.sctp_wire.specs.Writes.{written, Writes}
-use Rattle.sctp_wire.proofs.BodyLemmas.{length-data_value, length-sack_value}
-use Rattle.sctp_wire.proofs.ItemLemmas.{all-append}
-use Rattle.sctp_wire.proofs.OneReading.{reading_of-ok}
-use Rattle.sctp_wire.proofs.WriteLemmas.{length-written, reads_writes}
 use Rattle.sctp_packet.specs.PacketBytes.{with_header, IsPacketOf, IsDraft}
+use Rattle.sctp_packet.proofs.WrittenLengths.{size_of_written}
 
 -- ---- sizes
-
-pub size_of_written : (m : ChunkMeaning) → length (written m) ≡ size_of_chunk m
-size_of_written (Data p) = omega (arith, length-written (Data p), length-data_value p)
-size_of_written (Sack s) = omega (arith, length-written (Sack s), length-sack_value s)
-size_of_written (Unknown kind flags value) = omega (arith, length-written (Unknown kind flags value))
 
 size_of_all_written : (ms : List ChunkMeaning) → length (flat_map written ms) ≡ size_of_chunks ms
 size_of_all_written [] = refl
@@ -42,8 +35,13 @@ size_some (Unknown kind flags value) = omega arith
 
 -- ---- what is written, and read back
 
-pub read_back : (bytes : List ℕ) (ms : List ChunkMeaning) → Writes bytes ms → chunks_of bytes ≡ ms
-read_back bytes ms w = ap chunks_or_none (reading_of-ok bytes ms (reads_writes bytes ms w))
+all-append : (ms ns : List ChunkMeaning) → AllByRecursion Fits ms → AllByRecursion Fits ns → AllByRecursion Fits (ms ++ ns)
+all-append [] ns p q = q
+all-append (m ∷ ms) ns p q = (p.0, all-append ms ns p.1 q)
+
+no_chunks : chunks_of [] ≡ []
+unfolding reading_of
+no_chunks = refl
 
 writes_none : Writes [] []
 writes_none = record { bytes_are = refl; fits = tt }
@@ -51,7 +49,7 @@ writes_none = record { bytes_are = refl; fits = tt }
 pub writes_more : (bytes : List ℕ) (ms : List ChunkMeaning) (m : ChunkMeaning) → Writes bytes ms → Fits m → Writes (bytes ++ written m) (ms ++ m ∷ [])
 writes_more bytes ms m w fits = record {
   bytes_are = rw (w.bytes_are, flat_map-append written ms (m ∷ []), append-nil (written m)) refl;
-  fits = all-append Fits ms (m ∷ []) w.fits (fits, tt);
+  fits = all-append ms (m ∷ []) w.fits (fits, tt);
 }
 
 -- ---- the bytes kept
@@ -59,7 +57,7 @@ writes_more bytes ms m w fits = record {
 pub draft_empty : (limit : ℕ) → IsDraft limit []
 draft_empty limit = record {
   header = λ some. absurd (omega arith);
-  writes = subst (λ (ms : List ChunkMeaning). Writes [] ms) (sym (read_back [] [] writes_none)) writes_none;
+  writes = subst (λ (ms : List ChunkMeaning). Writes [] ms) (sym no_chunks) writes_none;
   within = λ some. absurd (omega arith);
 }
 
@@ -95,19 +93,23 @@ draft_longer limit (b ∷ bytes) d =
     let there = ap length (header_there b bytes) in
     omega (arith, draft_size limit (b ∷ bytes) d)
 
+-- what is written for chunks has them as its chunks
+abbrev pub IsReadBack : Type 0
+IsReadBack = (bytes : List ℕ) (ms : List ChunkMeaning) → Writes bytes ms → chunks_of bytes ≡ ms
+
 -- a chunk more
 pub record IsPut (limit : ℕ) (bytes after : List ℕ) (m : ChunkMeaning) : Type 0 where
   pub draft : IsDraft limit after
   pub chunks : chunks_of (drop HEADER_ROOM after) ≡ chunks_of (drop HEADER_ROOM bytes) ++ m ∷ []
 
-pub draft_put : (limit : ℕ) (bytes after : List ℕ) (m : ChunkMeaning) → IsDraft limit bytes → Fits m
+pub draft_put : (limit : ℕ) (bytes after : List ℕ) (m : ChunkMeaning) → IsReadBack → IsDraft limit bytes → Fits m
     → size_of_packet (chunks_of (drop HEADER_ROOM bytes) ++ m ∷ []) ≤ limit → after ≡ with_header bytes ++ written m → IsPut limit bytes after m
-draft_put limit bytes after m d fits room is =
+draft_put limit bytes after m law d fits room is =
     let long = header_long limit bytes d in
     let behind : drop HEADER_ROOM after ≡ drop HEADER_ROOM bytes ++ written m =
     rw (is, drop-append-le HEADER_ROOM (with_header bytes) (written m) long, header_behind bytes) refl in
     let more = subst (λ (xs : List ℕ). Writes xs (chunks_of (drop HEADER_ROOM bytes) ++ m ∷ [])) (sym behind) (writes_more _ _ m d.writes fits) in
-    let same = read_back _ _ more in
+    let same = law _ _ more in
     record {
       draft = record {
         header = λ some. rw (is, take-append-le HEADER_ROOM (with_header bytes) (written m) long) (header_first limit bytes d);
@@ -119,16 +121,16 @@ draft_put limit bytes after m d fits room is =
 
 -- ---- a finished packet
 
-pub draft_packet : (limit : ℕ) (bytes : List ℕ) → IsDraft limit bytes → HEADER_ROOM < length bytes
+pub draft_packet : (limit : ℕ) (bytes : List ℕ) → ((body : List ℕ) (ms : List ChunkMeaning) → Writes body ms → Reads body ms) → IsDraft limit bytes → HEADER_ROOM < length bytes
     → IsPacketOf bytes (chunks_of (drop HEADER_ROOM bytes)) × (chunks_of (drop HEADER_ROOM bytes) ≡ [] → ⊥)
-draft_packet limit bytes d some =
+draft_packet limit bytes law d some =
     let size = size_of_writes _ _ d.writes in
     let behind = length-drop HEADER_ROOM bytes in (
       record {
         body = drop HEADER_ROOM bytes;
         bytes_are = sym (take-append-drop HEADER_ROOM bytes) ∙ ap (λ (xs : List ℕ). xs ++ drop HEADER_ROOM bytes) (d.header (omega arith));
         writes = d.writes;
-        reads = reads_writes _ _ d.writes;
+        reads = law _ _ d.writes;
         size = omega arith;
       },
       λ none. let zero_size = ap size_of_chunks none in absurd (omega arith),
@@ -138,4 +140,4 @@ pub draft_none : (limit : ℕ) (bytes : List ℕ) → IsDraft limit bytes → le
 draft_none limit bytes d short =
     let behind = length-drop HEADER_ROOM bytes in
     let none : drop HEADER_ROOM bytes ≡ [] = nil_from_length _ (omega arith) in
-    rw none (read_back [] [] writes_none)
+    rw none no_chunks

@@ -8,7 +8,7 @@ ghost use Rattle.sctp_wire.specs.Layouts.{Fits};
 ghost use Rattle.sctp_wire.specs.Writes.{written};
 ghost use Rattle.sctp_packet.specs.PacketBytes.{with_header, empty_draft, room_in, has_room, after_try, IsPacketOf};
 
-use sctp_wire::{Chunk, NoMemory, write_chunk};
+use sctp_wire::{Chunk, NoMemory, chunks_are_read, write_chunk, written_reads};
 use std::alloc::Global;
 use std::marker::Model;
 
@@ -72,6 +72,9 @@ impl PacketWriter {
         if size_of_chunk(chunk) > self.room() {
             return Ok(false);
         }
+        // The laws give that the bytes with this chunk read as the chunks with it.
+        written_reads();
+        chunks_are_read();
         put(&mut self.bytes, chunk)?;
         Ok(true)
     }
@@ -82,6 +85,8 @@ impl PacketWriter {
             (λ packet. IsPacketOf packet.items self.chunks × (self.chunks ≡ [] → ⊥)) }
         ensures within { IfSome result (λ packet. length packet.items ≤ self.limit) }
     {
+        // The law gives that the bytes read as the chunks put in.
+        written_reads();
         let PacketWriter { bytes, .. } = self;
         if bytes.len() > HEADER {
             Some(bytes)

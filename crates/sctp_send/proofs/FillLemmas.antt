@@ -1,16 +1,15 @@
 -- Filling a packet: how many messages fit, one message more in it, and what the view's queue then is.
-use Rattle.std.proofs.Common.{◌≡◌, ℕ, zero, suc, ◌+◌, ◌-◌, ◌*◌, ◌/◌, ◌<◌, ◌≤◌, ◌^◌, ◌⊎◌, inl, inr, List, [], ◌∷◌, ◌++◌, length, take, drop, map, get_or, refl, sym, ap, ◌∙◌, subst, append_assoc, arith, length-append, add-one}
-use Rattle.std.specs.Prelude.{nat_le, true, false}
+use Rattle.std.proofs.Common.{◌≡◌, ℕ, zero, suc, ◌+◌, ◌-◌, ◌<◌, ◌≤◌, ◌^◌, inl, inr, List, [], ◌∷◌, ◌++◌, length, take, map, get_or, refl, sym, ap, ◌∙◌, subst, append_assoc, arith}
+use Rattle.std.specs.Prelude.{true, false}
 use Rattle.std.specs.List.{AllByRecursion}
-use Rattle.std.proofs.lemmas.List.{append-nil, map-append, length-map, take-map, length-take-le, get_or-map}
+use Rattle.std.proofs.lemmas.List.{append-nil, map-append, length-map, take-map, length-take-le}
 use Rattle.std.proofs.lemmas.Grind.{common_steps, take_at_read}
 use Rattle.sctp_model.specs.Chunk.{ChunkMeaning, PieceMeaning, Data}
 use Rattle.sctp_model.specs.SenderView.{Queued, SenderView}
 use Rattle.sctp_model.specs.Sending.{padded, room_of, room_of_all, IsFill, went_out}
-use Rattle.sctp_model.specs.World.{size_of_chunk, size_of_chunks, size_of_packet, datas_of}
-use Rattle.sctp_wire.specs.Layouts.{IsDataPiece, Fits}
-use Rattle.sctp_wire.proofs.BodyLemmas.{length-data_value}
-use Rattle.sctp_send.specs.declared.sender.Ticket.{Ticket}
+use Rattle.sctp_model.specs.World.{size_of_chunk, size_of_chunks}
+use Rattle.sctp_wire.specs.Items.{half, word}
+use Rattle.sctp_wire.specs.Layouts.{IsDataPiece, Fits, data_value}
 use Rattle.sctp_send.specs.declared.sender.Filled.{Filled}
 use Rattle.sctp_send.specs.declared.sender.Waiting.{Waiting}
 use Rattle.sctp_packet.specs.PacketBytes.{Draft, room_in, has_room, with_chunks}
@@ -18,7 +17,7 @@ use Rattle.sctp_send.specs.SenderFields.{waits_of, IsSmall}
 use Rattle.sctp_send.specs.SenderKept.{Waits, Kept}
 use Rattle.sctp_send.specs.SenderStands.{queued_of, queue_of, data_from, datas_from, Puts, Keeps, StandsFor}
 use Rattle.sctp_send.specs.SenderSteps.{numbers_of, Fills, Stops}
-use Rattle.sctp_send.proofs.SenderLemmas.{room_of-queued, kept_datas, kept_queue}
+use Rattle.sctp_send.proofs.SenderLemmas.{room_of-queued, kept_datas}
 
 -- one chunk more takes its own size
 size_of_more : (ms : List ChunkMeaning) (m : ChunkMeaning) → size_of_chunks (ms ++ m ∷ []) ≡ size_of_chunks ms + size_of_chunk m
@@ -107,6 +106,10 @@ puts_more numbered xs packet before after i x lt e put is =
     let more : datas_from (suc numbered) (take (i + 1) (map waits_of xs)) ≡ datas_from (suc numbered) front ++ data_from (numbered + 1 + i) (waits_of x) ∷ [] =
     rw (take_waits xs i x lt e, datas-append (suc numbered) front (waits_of x), tsn) refl in
     rw (is, put, more, append_assoc packet.chunks (datas_from (suc numbered) front) (data_from (numbered + 1 + i) (waits_of x) ∷ [])) refl
+
+length-data_value : (p : PieceMeaning) → length (data_value p) ≡ 12 + length p.bytes
+unfolding word half
+length-data_value p = omega arith
 
 -- a message that fits a packet of fewer than 65,536 bytes can be written, and is taken
 fits_room : (p : PieceMeaning) (d : Draft) → IsDataPiece p → 16 + padded (length p.bytes) ≤ room_in d → room_in d < 2 ^ 16

@@ -1,14 +1,14 @@
 -- What the sender's calls do to what it keeps, and to the views that it stands for.
-use Rattle.std.proofs.Common.{◌≡◌, ℕ, zero, suc, ◌+◌, ◌-◌, ◌*◌, ◌/◌, ◌<◌, ◌≤◌, ◌⊎◌, List, [], ◌∷◌, ◌++◌, length, take, drop, map, set, refl, sym, ap, ◌∙◌, subst, append_assoc, arith, length-append, length-drop}
+use Rattle.std.proofs.Common.{◌≡◌, ℕ, zero, suc, ◌+◌, ◌<◌, ◌≤◌, ◌⊎◌, List, [], ◌∷◌, ◌++◌, length, take, drop, set, refl, sym, ap, ◌∙◌, arith, length-append}
+use Rattle.std.specs.List.{AllByRecursion}
 use Rattle.std.specs.Prelude.{nat_lt, ◌||◌, slice_index, if◌then◌else◌, ◌==◌, true, false, Bool}
 use Rattle.std.proofs.lemmas.List.{append-nil, map-append, length-map, drop-map, take-map, length-take-le}
 use Rattle.std.proofs.lemmas.Grind.{common_steps, elements}
-use Rattle.sctp_model.specs.Format.{Lane, ordered_lane, same_lane, at_lane}
+use Rattle.sctp_model.specs.Format.{ordered_lane, same_lane}
 use Rattle.sctp_model.specs.Plan.{Message, Plan}
 use Rattle.sctp_model.specs.SenderView.{Queued, SenderView}
-use Rattle.sctp_model.specs.Sending.{MESSAGE_LIMIT, accepted, queued, padded, room_of, room_of_all, numbered_one, numbered_all, went_out, acknowledged}
+use Rattle.sctp_model.specs.Sending.{MESSAGE_LIMIT, accepted, queued, padded, room_of, numbered_one, numbered_all, went_out, acknowledged}
 use Rattle.sctp_model.specs.World.{Configuration, fresh_sender, data_of, datas_of}
-use Rattle.sctp_wire.proofs.ItemLemmas.{all-append}
 use Rattle.sctp_send.specs.SenderFields.{IsSmall, AreFew}
 use Rattle.sctp_send.specs.SenderKept.{Waits, Kept}
 use Rattle.sctp_send.specs.declared.sender.Waiting.{Waiting}
@@ -137,6 +137,10 @@ if_most : (b : Bool) (m n most : ℕ) → m ≤ most → n ≤ most → (if b th
 if_most true m n most le below = omega arith
 if_most false m n most le below = omega arith
 
+all_small-append : (xs ys : List Waiting) → AllByRecursion IsSmall xs → AllByRecursion IsSmall ys → AllByRecursion IsSmall (xs ++ ys)
+all_small-append [] ys p q = q
+all_small-append (x ∷ xs) ys p q = (p.0, all_small-append xs ys p.1 q)
+
 -- the fields stay few with a message more
 pub few_more : (numbered : ℕ) (old given : List ℕ) (waiting : List Waiting) (message : Waiting) (at n : ℕ) → AreFew numbered old waiting
     → ((i : ℕ) → slice_index given i ≡ slice_index old i) → at < length given → n ≡ slice_index given at → numbered + length waiting < MESSAGE_LIMIT
@@ -148,7 +152,7 @@ few_more numbered old given waiting message at n few same there e room small =
     record {
       accepted = omega (arith, longer);
       counts = λ i. rw (next, read_more given at n there e i) (if_most (i == at) _ _ _ (most at) (most i));
-      small = all-append IsSmall waiting (message ∷ []) few.small (small, tt);
+      small = all_small-append waiting (message ∷ []) few.small (small, tt);
     }
 
 -- a message more waits

@@ -1,8 +1,8 @@
 -- What a sender's fields hold, and what is always so of them.
-use Rattle.std.specs.Prelude.{ℕ, ◌+◌, ◌<◌, ◌≤◌, ◌^◌, List, length, map, slice_index}
+use Rattle.std.specs.Prelude.{ℕ, ◌+◌, ◌<◌, ◌≤◌, ◌^◌, List, length, slice_index}
 use Rattle.std.specs.List.{AllByRecursion}
 use Rattle.sctp_model.specs.Sending.{MESSAGE_LIMIT}
-use Rattle.sctp_send.specs.SenderKept.{Waits}
+use Rattle.sctp_send.specs.SenderKept.{Waits, Kept}
 use Rattle.sctp_send.specs.declared.sender.Waiting.{Waiting}
 
 abbrev pub waits_of : Waiting → Waits
@@ -20,3 +20,8 @@ pub record AreFew (numbered : ℕ) (given : List ℕ) (waiting : List Waiting) :
   pub accepted : numbered + length waiting ≤ MESSAGE_LIMIT
   pub counts : (i : ℕ) → slice_index given i ≤ numbered + length waiting
   pub small : AllByRecursion IsSmall waiting
+
+-- one message more, of so many bytes, is still counted within the limit, and its bytes by 16 bits
+pub record CanCount (s : Kept) (bytes : ℕ) : Type 0 where
+  pub accepted : s.numbered + length s.waiting < MESSAGE_LIMIT
+  pub small : bytes < 2 ^ 16

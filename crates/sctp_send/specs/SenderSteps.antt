@@ -3,7 +3,7 @@ use Rattle.std.specs.Prelude.{◌≡◌, ℕ, suc, ◌≤◌, List, map, take, O
 use Rattle.sctp_model.specs.SenderView.{SenderView}
 use Rattle.sctp_model.specs.Sending.{Refusal, accepted, refusal, queued, IsFill, went_out}
 use Rattle.sctp_model.specs.Sending as model
-use Rattle.sctp_model.specs.World.{Configuration, fresh_sender, datas_of}
+use Rattle.sctp_model.specs.World.{datas_of}
 use Rattle.sctp_packet.specs.PacketBytes.{Draft, room_in, with_chunks}
 use Rattle.sctp_send.specs.SenderKept.{Kept}
 use Rattle.sctp_send.specs.SenderStands.{StandsFor}

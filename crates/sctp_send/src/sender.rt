@@ -2,13 +2,13 @@
 //! are acknowledged by the peer's SACKs (RFC 9260, 6.1 and 6.2.1). As yet a message is one fragment of an
 //! ordered stream, the first TSN is 1, and nothing is repeated: what went out is not kept.
 
-ghost use Rattle.std.specs.Prelude.{◌≡◌, ℕ, List, suc, ◌+◌, ◌<◌, ◌≤◌, ◌^◌, if◌then◌else◌, is_ok, ◌∷◌, [], length, map, take, drop, slice_index, vec_len, MatchResult, OnOk};
+ghost use Rattle.std.specs.Prelude.{◌≡◌, ℕ, List, suc, None, ◌+◌, ◌<◌, ◌≤◌, ◌^◌, if◌then◌else◌, is_ok, ◌∷◌, [], length, map, take, drop, slice_index, vec_len, MatchResult, OnOk};
 ghost use Rattle.std.specs.List.{AllByRecursion};
 ghost use Rattle.sctp_model.specs.SenderView.{SenderView};
 ghost use Rattle.sctp_model.specs.Sending.{IsFill, room_of_all, padded, acknowledged};
 ghost use Rattle.sctp_model.specs.World.{Configuration, fresh_sender};
 ghost use Rattle.sctp_packet.specs.PacketBytes.{room_in, with_chunks};
-ghost use Rattle.sctp_send.specs.SenderFields.{waits_of, IsSmall};
+ghost use Rattle.sctp_send.specs.SenderFields.{waits_of, IsSmall, CanCount};
 ghost use Rattle.sctp_send.specs.SenderStands.{StandsFor, queue_of, data_from, Puts};
 ghost use Rattle.sctp_send.specs.SenderSteps.{RefusalAnswer, QueueAnswer, queue_after, Fills, Stops, numbers_of};
 
@@ -151,8 +151,9 @@ impl Sender {
     /// Why a message of so many bytes is refused on a stream now. None where it would be taken, but for want of
     /// memory.
     pub fn refusal(&self, stream: u16, size: usize) -> Option<SendFault>
-        ensures { (v : SenderView) (bytes : List ℕ) → StandsFor self.now v → length bytes ≡ size
+        ensures answer { (v : SenderView) (bytes : List ℕ) → StandsFor self.now v → length bytes ≡ size
             → RefusalAnswer v stream bytes result }
+        ensures counted { result ≡ None → CanCount self.now size }
     {
         if stream >= self.streams {
             Some(SendFault::NoSuchStream)
@@ -169,7 +170,8 @@ impl Sender {
         }
     }
 
-    /// Takes a message to send on a stream, with the word that goes with it to the peer's user.
+    /// Takes a message to send on a stream, with the word that goes with it to the peer's user: the payload
+    /// protocol identifier (RFC 9260, 3.3.1).
     ///
     /// # Errors
     /// The first reason of `SendFault` that holds. The message is dropped then, and nothing else changes.
@@ -184,22 +186,10 @@ impl Sender {
             → StandsFor self.old v
             → StandsFor self.new (queue_after v stream payload_id bytes.items result) }
     {
-        if stream >= self.streams {
-            return Err(SendFault::NoSuchStream);
-        }
-        if bytes.is_empty() {
-            return Err(SendFault::Empty);
-        }
-        if bytes.len() > usize::from(self.fragment) {
-            return Err(SendFault::TooLong);
-        }
-        if self.waiting.len() >= QUEUE_LIMIT {
-            return Err(SendFault::QueueFull);
+        if let Some(fault) = self.refusal(stream, bytes.len()) {
+            return Err(fault);
         }
         let accepted = self.numbered + self.waiting.len() as u32;
-        if accepted >= MESSAGE_LIMIT {
-            return Err(SendFault::Spent);
-        }
         make_room(&mut self.given, usize::from(stream)).map_err(|_| SendFault::NoMemory)?;
         let message = Waiting {
             ticket: accepted + 1,

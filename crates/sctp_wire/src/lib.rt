@@ -18,7 +18,7 @@ mod write;
 pub use chunk::{Chunk, GapBlock, Piece, Sack};
 pub use fault::{NoMemory, WireFault};
 pub use items::{put_block, put_word};
-pub use laws::{chunks_join, one_reading, written_reads};
+pub use laws::{chunks_are_read, chunks_join, one_reading, written_reads};
 pub use lists::{BlockIter, Blocks, WordIter, Words};
 pub use read::{Chunks, read_chunks};
 pub use write::write_chunk;

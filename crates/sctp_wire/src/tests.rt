@@ -1,8 +1,8 @@
 //! Worked chunks both ways, and the faults of bytes that are none. Bytes are spaced by field.
 
 use crate::{
-    Blocks, Chunk, GapBlock, Piece, Sack, WireFault, Words, chunks_join, one_reading, put_block,
-    put_word, read_chunks, write_chunk, written_reads,
+    Blocks, Chunk, GapBlock, Piece, Sack, WireFault, Words, chunks_are_read, chunks_join,
+    one_reading, put_block, put_word, read_chunks, write_chunk, written_reads,
 };
 use std::test::Fail;
 
@@ -229,6 +229,7 @@ fn a_chunk_past_its_bits_does_not_fit(rt: HostRuntime) -> Result<(), Fail> {
 #[test]
 fn the_laws_are_there() {
     one_reading();
+    chunks_are_read();
     written_reads();
     chunks_join();
 }

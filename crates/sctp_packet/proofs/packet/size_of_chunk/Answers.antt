@@ -1,6 +1,6 @@
 use Rattle.std.proofs.Common.{◌≡◌, ℕ, arith}
 use Rattle.sctp_wire.specs.ChunkTree.{sack_meaning}
-use Rattle.sctp_wire.proofs.BodyLemmas.{length-sack_value}
+use Rattle.sctp_packet.proofs.WrittenLengths.{length-sack_value}
 use Rattle.sctp_packet.proofs.packet.size_of_chunk.Goals as goal
 
 pub overflow_mul-result : goal.overflow_mul-result

@@ -1,11 +1,11 @@
-use Rattle.std.proofs.Common.{◌≡◌, ◌+◌, ◌≤◌, suc, [], ◌∷◌, ◌++◌, length, take, map, refl, ap, arith}
+use Rattle.std.proofs.Common.{◌≡◌, ◌+◌, ◌≤◌, suc, [], ◌∷◌, ◌++◌, length, map, refl, arith}
 use Rattle.std.proofs.lemmas.Grind.{common_steps}
 use Rattle.std.proofs.lemmas.List.{map-append}
 use Rattle.std.proofs.lemmas.Result.{err_from_is_err_and}
 use Rattle.sctp_model.specs.Sending.{padded}
 use Rattle.sctp_packet.specs.PacketBytes.{room_in}
 use Rattle.sctp_send.specs.SenderFields.{waits_of}
-use Rattle.sctp_send.specs.SenderStands.{Puts, queue_of}
+use Rattle.sctp_send.specs.SenderStands.{queue_of}
 use Rattle.sctp_send.proofs.FillLemmas.{room_more, room_first, puts_room, puts_more, take_waits}
 use Rattle.sctp_send.proofs.sender.put_first.Goals as goal
 

@@ -4,7 +4,7 @@ use Rattle.std.proofs.lemmas.Result.{err_from_is_err_and}
 use Rattle.sctp_model.specs.World.{HEADER_ROOM}
 use Rattle.sctp_wire.specs.ChunkTree.{chunk_meaning}
 use Rattle.sctp_wire.specs.Reading.{chunks_of}
-use Rattle.sctp_packet.proofs.PacketLemmas.{IsPut, size_of_more, size_some, draft_put}
+use Rattle.sctp_packet.proofs.PacketLemmas.{IsPut, IsReadBack, size_of_more, size_some, draft_put}
 use Rattle.sctp_packet.proofs.packet.PacketWriter.try_chunk.Goals as goal
 
 pub returns-then-size_of_chunk-room-clause-answer : goal.returns-then-size_of_chunk-room-clause-answer
@@ -25,7 +25,8 @@ is_put c =
     let m = chunk_meaning c.args.chunk.now in
     let chunks = chunks_of (drop HEADER_ROOM c.self.inside.bytes.items) in
     let room = rw (← c.self.view_is) at c.room.ensures.room in
-    draft_put _ _ _ m c.self.invariant c.requires (omega (arith, room, size_of_more chunks m, size_some m)) c.in_ok-put.ensures.put
+    let law : IsReadBack = λ bytes ms writes. c.chunks_are_read.ensures bytes ms (c.written_reads.ensures bytes ms writes) in
+    draft_put _ _ _ m law c.self.invariant c.requires (omega (arith, room, size_of_more chunks m, size_some m)) c.in_ok-put.ensures.put
 
 pub invariant_of-self-2 : goal.invariant_of-self-2
 invariant_of-self-2 c = (is_put c).draft
