@@ -6,7 +6,8 @@ use Rattle.sctp_script.specs.declared.line.Command.{Command}
 use Rattle.sctp_script.specs.declared.line.Command.TheVariants as command
 use Rattle.sctp_script.specs.declared.line.LineFault.{LineFault}
 use Rattle.sctp_script.specs.declared.line.LineFault.TheVariants.{TooLong, UnknownCommand, WordCount, BadValue, PairOrder}
-use Rattle.sctp_script.specs.Lines.{LineMeaning, Silent, Pairs, Acts, Fault, LONGEST_LINE, IsNumber, IsSilent, SaysConfiguration, Spells, IsLineOf, Means, HasFault, HasNoFault, IsFirstFaultOf, Says, name_of, arguments_of, is_pair, kind_of}
+use Rattle.sctp_script.specs.LinesRead.{LONGEST_LINE}
+use Rattle.sctp_script.specs.Lines.{LineMeaning, Silent, Pairs, Acts, Fault, IsNumber, IsSilent, SaysConfiguration, Spells, IsLineOf, Means, HasFault, HasNoFault, IsFirstFaultOf, Says, name_of, arguments_of, is_pair, kind_of}
 use Rattle.sctp_script.specs.GrammarLaws.{SaysOneThing}
 use Rattle.sctp_script.specs.Numerals.{IsHex}
 use Rattle.sctp_script.specs.OutcomeLines.{side_word}

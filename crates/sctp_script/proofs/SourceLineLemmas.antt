@@ -7,9 +7,9 @@ use Rattle.std.proofs.lemmas.List.Folds.{prefix_len-append}
 use Rattle.std.proofs.lemmas.List.Elements.{All-append}
 use Rattle.std.proofs.lemmas.Bool.{eqb-true, eq-eqb, ltb-false}
 use Rattle.std.specs.Prelude.{not, Bool, true, cond, Some, None, nat_lt}
-use Rattle.sctp_script.specs.declared.line_reader.TheConstants.{LINE_FEED, LONGEST_LINE, LONGEST_SCRIPT}
+use Rattle.sctp_script.specs.SpacedWords.{LF}
 use Rattle.sctp_script.specs.declared.block.TheConstants.{BLOCK}
-use Rattle.sctp_script.specs.LinesRead.{is_line_feed, IsOneLine, first_length, first_end, IsTooLong, MayBegin, IsReadFor}
+use Rattle.sctp_script.specs.LinesRead.{LONGEST_LINE, LONGEST_SCRIPT, is_line_feed, IsOneLine, first_length, first_end, IsTooLong, MayBegin, IsReadFor}
 
 -- a range without its first elements
 pub range_without_front : (xs : List ℕ) (start end count : ℕ)
@@ -48,10 +48,10 @@ one_line-append a b one two = All-append (λ byte. is_line_feed byte ≡ false) 
 
 -- what stands from the first line feed on begins with it
 pub from_first_feed : (text : List ℕ) → first_length text < length text
-    → drop (first_length text) text ≡ LINE_FEED ∷ drop (first_length text + 1) text
+    → drop (first_length text) text ≡ LF ∷ drop (first_length text + 1) text
 from_first_feed text there =
     let n = first_length text in
-    let is : get_or text n 0 ≡ LINE_FEED = eqb-true (get_or text n 0) LINE_FEED (passes_at_first is_line_feed text 0 there) in
+    let is : get_or text n 0 ≡ LF = eqb-true (get_or text n 0) LF (passes_at_first is_line_feed text 0 there) in
     drop_more text n 0 there ∙ ap (λ byte. byte ∷ drop (n + 1) text) is
 
 -- more than a line may have, or than the script may

@@ -1,6 +1,6 @@
 //! Lines of readers that are slow or fail, and lines at the limits.
 
-use super::{LONGEST_LINE, LONGEST_SCRIPT, LineReader, NextLine};
+use super::{LONGEST_SCRIPT, LineReader, NextLine};
 use crate::block::Block;
 use crate::source_sink::{FromRead, Source};
 use std::alloc::Global;
@@ -117,8 +117,8 @@ fn first_line<S: Source>(mut reader: LineReader, source: &mut S) -> Option<(usiz
 fn a_line_has_140000_bytes_at_most(rt: HostRuntime) -> Result<(), Fail> {
     let alloc = rt.alloc();
     let table = [
-        (LONGEST_LINE, "\n", Some((LONGEST_LINE, true))),
-        (LONGEST_LINE, "", Some((LONGEST_LINE, false))),
+        (140_000, "\n", Some((140_000, true))),
+        (140_000, "", Some((140_000, false))),
         (140_001, "\n", None),
         (140_001, "", None),
     ];
