@@ -12,14 +12,6 @@ use Rattle.sctp_script.specs.LineAnswers.{given_by, IsAnswer, GivesOn}
 use Rattle.sctp_script.specs.LineLaws.{LeadsOn}
 use Rattle.sctp_script.proofs.LineSplits.{ended_lines_of-joined, lines_of-joined, ended_lines_of-rest, lines_of-rest}
 
--- at first nothing is read and nothing given
-pub given_none : HasGiven [] [] (record { held = []; given = 0 })
-given_none = record {
-  each = All-nil IsOneLine;
-  whole = refl;
-  count = refl;
-}
-
 pub joined_push : (lines : List (List ℕ)) (line : List ℕ) → joined (lines ++ line ∷ []) ≡ joined lines ++ ended line
 joined_push lines line = sym (flat_map_more ended [] lines line)
 

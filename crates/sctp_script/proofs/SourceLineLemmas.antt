@@ -86,9 +86,6 @@ pub room_for_feed : (given : ℕ) (line rest : List ℕ) → first_length rest <
 room_for_feed given line rest there within =
     omega (arith, length-append line (take (first_length rest) rest), length-take (first_length rest) rest)
 
-pub all_moved : (line rest : List ℕ) (n : ℕ) → (line ++ take n rest) ++ drop n rest ≡ line ++ rest
-all_moved line rest n = append_assoc line (take n rest) (drop n rest) ∙ ap (λ list. line ++ list) (take-append-drop n rest)
-
 -- where no place is found the line goes to the end
 none_at : (text : List ℕ) (b : Bool) → nat_lt (first_length text) (length text) ≡ b
     → cond b (Some (first_length text)) None ≡ None → length text ≡ first_length text
