@@ -1,18 +1,17 @@
 -- Each line says something: its first fault, or what its words say.
-use Rattle.std.proofs.Common.{◌≡◌, ◌≢◌, ℕ, ◌<◌, ◌≤◌, Bool, true, false, ◌⊎◌, inl, inr, List, [], ◌∷◌, length, codes, refl, sym, ap, ◌∙◌, subst, arith}
+use Rattle.std.proofs.Common.{◌≡◌, ℕ, ◌<◌, ◌≤◌, Bool, true, false, ◌⊎◌, inl, inr, List, [], ◌∷◌, length, codes, refl, sym, ap, ◌∙◌, subst, arith}
 use Rattle.std.proofs.lemmas.Bool.{cases_eq, cases_lt}
-use Rattle.sctp_model.specs.World.{Side, Configuration, Event, Open, Send, Build, Deliver, Take}
+use Rattle.sctp_model.specs.World.{Open, Send, Build, Deliver, Take}
 use Rattle.sctp_script.specs.declared.line.Command.{Command}
 use Rattle.sctp_script.specs.declared.line.Command.TheVariants as command
 use Rattle.sctp_script.specs.declared.line.LineFault.{LineFault}
 use Rattle.sctp_script.specs.declared.line.LineFault.TheVariants.{TooLong, UnknownCommand, WordCount, BadValue, PairOrder}
-use Rattle.sctp_script.specs.Lines.{LineMeaning, Silent, Pairs, Acts, Fault, LONGEST_LINE, IsNumber, IsSilent, SaysConfiguration, Spells, IsLineOf, Means, HasFault, HasNoFault, IsFirstFaultOf, Says, name_of, arguments_of, is_pair, kind_of}
+use Rattle.sctp_script.specs.LinesRead.{LONGEST_LINE}
+use Rattle.sctp_script.specs.Lines.{LineMeaning, Silent, Pairs, Acts, Fault, IsNumber, IsSilent, Spells, IsLineOf, Means, HasFault, HasNoFault, Says, name_of, arguments_of, is_pair, kind_of}
 use Rattle.sctp_script.specs.GrammarLaws.{SaysOneThing}
 use Rattle.sctp_script.specs.Numerals.{IsHex}
-use Rattle.sctp_script.specs.OutcomeLines.{side_word}
 use Rattle.sctp_script.specs.Settings.{sizes}
-use Rattle.sctp_script.specs.SpacedWords.{words_of}
-use Rattle.sctp_script.proofs.LineLemmas.{first_of, one_command, one_list, one_number, same_sizes, AreNumbers, Reads, out_of_order, faultless}
+use Rattle.sctp_script.proofs.LineLemmas.{first_of, one_command, one_list, same_sizes, AreNumbers, Reads, out_of_order, faultless}
 use Rattle.sctp_script.proofs.OneMeaning.{silent_is_no_command, one_said, same_or_not, number_or_none, hex_or_none, side_or_none, faultless_or_not}
 use Rattle.sctp_script.proofs.WordLemmas.{first_and_others}
 

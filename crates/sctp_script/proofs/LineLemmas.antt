@@ -1,5 +1,5 @@
 -- A line is of one command, and has no fault or a first one.
-use Rattle.std.proofs.Common.{◌≡◌, ◌≢◌, ℕ, ◌<◌, ◌≤◌, ◌==◌, ◌^◌, Bool, true, false, cond, List, [], ◌∷◌, length, slice_index, refl, sym, ap, ◌∙◌, subst, arith}
+use Rattle.std.proofs.Common.{◌≡◌, ℕ, ◌<◌, ◌≤◌, ◌==◌, Bool, cond, List, [], ◌∷◌, length, slice_index, refl, sym, ap, ◌∙◌, subst, arith}
 use Rattle.sctp_model.specs.World.{Configuration, Event}
 use Rattle.sctp_script.specs.declared.config.ConfigFault.{ConfigFault}
 use Rattle.sctp_script.specs.declared.line.Command.{Command}
@@ -9,10 +9,10 @@ use Rattle.sctp_script.specs.declared.line.LineFault.TheVariants.{TooLong, Unkno
 use Rattle.sctp_script.specs.declared.line.Acting.{Acting}
 use Rattle.sctp_script.specs.declared.line.Acting.TheVariants as acting
 use Rattle.sctp_script.specs.Configuration.{IsFirstFault}
-use Rattle.sctp_script.specs.Lines.{LineMeaning, LONGEST_LINE, IsNumber, SaysConfiguration, Spells, IsLineOf, HasFault, IsFirstFaultOf, HasNoFault, Says, name_of, arguments_of, is_pair, kind_of}
+use Rattle.sctp_script.specs.LinesRead.{LONGEST_LINE}
+use Rattle.sctp_script.specs.Lines.{LineMeaning, IsNumber, SaysConfiguration, Spells, IsLineOf, HasFault, IsFirstFaultOf, HasNoFault, Says, name_of, arguments_of, is_pair, kind_of}
 use Rattle.sctp_script.specs.ReadLines.{meaning_of}
 use Rattle.sctp_script.specs.Settings.{sizes}
-use Rattle.sctp_script.specs.SpacedWords.{words_of}
 
 -- ---- one command
 

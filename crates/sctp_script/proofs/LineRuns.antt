@@ -1,5 +1,5 @@
 -- Line after line a reader gives the lines of what was read.
-use Rattle.std.proofs.Common.{◌≡◌, ℕ, ◌+◌, ◌<◌, ◌==◌, if◌then◌else◌, List, [], ◌∷◌, ◌++◌, length, Result, Ok, Err, arith, refl, sym, ap, ◌∙◌, append_assoc, append-nil, length-append}
+use Rattle.std.proofs.Common.{◌≡◌, ℕ, ◌+◌, ◌<◌, ◌==◌, if◌then◌else◌, List, [], ◌∷◌, ◌++◌, length, Result, Ok, Err, arith, sym, ap, ◌∙◌, append_assoc, append-nil, length-append}
 use Rattle.std.proofs.lemmas.List.{flat_map_more}
 use Rattle.std.proofs.lemmas.List.Elements.{All-nil, All-push}
 use Rattle.std.proofs.lemmas.Bool.{cond-false, ne_eqb}
@@ -8,17 +8,8 @@ use Rattle.sctp_script.specs.declared.line_reader.NextLine.{NextLine}
 use Rattle.sctp_script.specs.declared.line_reader.NextLine.TheVariants.{Ended, Last, TooLong, End}
 use Rattle.sctp_script.specs.declared.line_reader.ReadFault.{ReadFault}
 use Rattle.sctp_script.specs.LinesRead.{Reading, HasGiven, IsOneLine, ended, joined, lines_of, ended_lines_of}
-use Rattle.sctp_script.specs.LineAnswers.{given_by, IsAnswer, GivesOn}
 use Rattle.sctp_script.specs.LineLaws.{LeadsOn}
 use Rattle.sctp_script.proofs.LineSplits.{ended_lines_of-joined, lines_of-joined, ended_lines_of-rest, lines_of-rest}
-
--- at first nothing is read and nothing given
-pub given_none : HasGiven [] [] (record { held = []; given = 0 })
-given_none = record {
-  each = All-nil IsOneLine;
-  whole = refl;
-  count = refl;
-}
 
 pub joined_push : (lines : List (List ℕ)) (line : List ℕ) → joined (lines ++ line ∷ []) ≡ joined lines ++ ended line
 joined_push lines line = sym (flat_map_more ended [] lines line)

@@ -5,7 +5,7 @@ use Rattle.std.proofs.lemmas.List.Splits.{slice_split_at, slice_split_none, slic
 use Rattle.std.proofs.lemmas.List.Elements.{All-head, All-tail, All-cons, All-nil}
 use Rattle.std.proofs.lemmas.Bool.{eqb-true}
 use Rattle.std.specs.Prelude.{not}
-use Rattle.sctp_script.specs.declared.line_reader.TheConstants.{LINE_FEED}
+use Rattle.sctp_script.specs.SpacedWords.{LF}
 use Rattle.sctp_script.specs.LinesRead.{is_line_feed, IsOneLine, ended, joined, lines_of, ended_lines_of, first_length, IsTooLong}
 use Rattle.sctp_script.specs.LineLaws.{SplitInOneWay, IsLines}
 
@@ -24,8 +24,8 @@ some_part (byte ∷ text) = some_part_at byte text (is_line_feed byte) refl (som
 -- the parts of a line, its line feed and a text
 pub split_line : (line text : List ℕ) → IsOneLine line → slice_split is_line_feed (ended line ++ text) ≡ line ∷ slice_split is_line_feed text
 split_line line text one =
-    ap (λ bytes. slice_split is_line_feed bytes) (append_assoc line (LINE_FEED ∷ []) text)
-    ∙ slice_split_at is_line_feed line LINE_FEED text one refl
+    ap (λ bytes. slice_split is_line_feed bytes) (append_assoc line (LF ∷ []) text)
+    ∙ slice_split_at is_line_feed line LF text one refl
 
 pub ended_lines_of-line : (line text : List ℕ) → IsOneLine line → ended_lines_of (ended line ++ text) ≡ line ∷ ended_lines_of text
 ended_lines_of-line line text one =
@@ -79,13 +79,13 @@ pub record Split (text : List ℕ) : Type 0 where
 -- with one byte more in front, which is a line feed or goes onto the first line
 split_feed : (byte : ℕ) (text : List ℕ) → is_line_feed byte ≡ true → Split text → Split (byte ∷ text)
 split_feed byte text is s =
-    let same : byte ≡ LINE_FEED = eqb-true byte LINE_FEED is in
+    let same : byte ≡ LF = eqb-true byte LF is in
     record {
       lines = [] ∷ s.lines;
       rest = s.rest;
       each = All-cons IsOneLine [] s.lines (All-nil (λ b. is_line_feed b ≡ false)) s.each;
       one_line = s.one_line;
-      whole = ap (λ b. b ∷ text) same ∙ ap (λ bytes. LINE_FEED ∷ bytes) s.whole;
+      whole = ap (λ b. b ∷ text) same ∙ ap (λ bytes. LF ∷ bytes) s.whole;
     }
 
 onto_split : (byte : ℕ) (text : List ℕ) (lines : List (List ℕ)) (rest : List ℕ) → is_line_feed byte ≡ false

@@ -1,16 +1,15 @@
 -- Each line says exactly one thing: two meanings of a line are the same, and there is one.
-use Rattle.std.proofs.Common.{◌≡◌, ◌≢◌, ℕ, ◌+◌, ◌%◌, ◌<◌, ◌≤◌, ◌==◌, ◌^◌, Bool, true, false, cond, ◌⊎◌, inl, inr, List, [], ◌∷◌, length, slice_index, Result, Ok, Err, codes, refl, sym, ap, ◌∙◌, subst, arith}
+use Rattle.std.proofs.Common.{◌≡◌, ℕ, ◌+◌, ◌%◌, ◌<◌, ◌==◌, ◌^◌, Bool, cond, ◌⊎◌, inl, inr, List, [], ◌∷◌, length, slice_index, codes, refl, sym, ap, ◌∙◌, subst, arith}
 use Rattle.std.specs.List.{list_all}
 use Rattle.std.specs.Str.Parse.{AllDigits, digits_value}
 use Rattle.std.specs.Char.{digit_value}
 use Rattle.std.proofs.lemmas.Bool.{cases_Bool, cases_eq, cases_lt, cases_order}
 use Rattle.std.proofs.lemmas.Slice.Eq.{bytes_eq-Decides}
 use Rattle.std.specs.Str.{bytes_eq}
-use Rattle.hex.specs.Hex.{decode_of, encode_lower, lower_digits}
-use Rattle.hex.specs.declared.error.FromHexError.{FromHexError}
+use Rattle.hex.specs.Hex.{decode_of, lower_digits}
 use Rattle.hex.proofs.HexLemmas.{decode_of-encode_lower, length-encode_with}
 use Rattle.sctp_model.specs.Sending.{padded}
-use Rattle.sctp_model.specs.World.{Side, A, B, Configuration, Event, Open, Send, Build, Deliver, Take}
+use Rattle.sctp_model.specs.World.{Side, A, B, Configuration, Open, Send, Build, Deliver, Take}
 use Rattle.sctp_script.specs.declared.config.ConfigFault.{ConfigFault}
 use Rattle.sctp_script.specs.declared.config.ConfigFault.TheVariants.{Port, PacketLimit, Fragment, Buffer, Streams}
 use Rattle.sctp_script.specs.declared.line.Command.{Command}
@@ -18,13 +17,12 @@ use Rattle.sctp_script.specs.declared.line.Command.TheVariants as command
 use Rattle.sctp_script.specs.declared.line.LineFault.{LineFault}
 use Rattle.sctp_script.specs.declared.line.LineFault.TheVariants.{TooLong, UnknownCommand, WordCount, BadValue, PairOrder}
 use Rattle.sctp_script.specs.Configuration.{IsWrong, IsFaultless}
-use Rattle.sctp_script.specs.Lines.{LineMeaning, Silent, Pairs, Acts, Fault, LONGEST_LINE, IsNumber, IsSilent, SaysConfiguration, SaysMessage, SaysNumber, Spells, IsLineOf, Means, HasFault, HasNoFault, IsFirstFaultOf, Says, name_of, arguments_of, is_pair, kind_of}
-use Rattle.sctp_script.specs.GrammarLaws.{SaysOneThing}
-use Rattle.sctp_script.specs.Numerals.{hex_word, is_lower_digit, IsHex}
+use Rattle.sctp_script.specs.Lines.{LineMeaning, Silent, Pairs, Acts, Fault, IsNumber, IsSilent, Spells, IsLineOf, Means, IsFirstFaultOf, Says, name_of, kind_of}
+use Rattle.sctp_script.specs.Numerals.{is_lower_digit, IsHex}
 use Rattle.sctp_script.specs.OutcomeLines.{side_word}
 use Rattle.sctp_script.specs.SpacedWords.{words_of}
-use Rattle.sctp_script.proofs.HexDigits.{AreDigitPairs, bytes_said, hex_of_digits, pairs_of}
-use Rattle.sctp_script.proofs.LineLemmas.{first_of, one_command, one_list, one_number, same_sizes, AreNumbers, Reads, out_of_order, faultless}
+use Rattle.sctp_script.proofs.HexDigits.{bytes_said, hex_of_digits, pairs_of}
+use Rattle.sctp_script.proofs.LineLemmas.{first_of, one_command, one_list, one_number, same_sizes, AreNumbers}
 use Rattle.sctp_script.proofs.WordLemmas.{first_and_others}
 
 -- ---- two meanings are the same

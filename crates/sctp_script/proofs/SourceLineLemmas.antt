@@ -1,15 +1,15 @@
 -- A line that is gathered from what was read before and from a block.
 use Rattle.std.proofs.Common.{◌≡◌, ℕ, ◌+◌, ◌-◌, ◌<◌, ◌≤◌, inl, inr, List, [], ◌∷◌, ◌++◌, length, take, drop, get_or, slice_range, false, arith, refl, sym, ap, ◌∙◌, subst, append_assoc, append-nil, length-append, length-take}
 use Rattle.std.specs.List.{position}
-use Rattle.std.proofs.lemmas.List.{drop-drop, drop-take, drop_more, get_or-take, take-append-drop}
+use Rattle.std.proofs.lemmas.List.{drop-drop, drop-take, drop_more, get_or-take}
 use Rattle.std.proofs.lemmas.List.Sums.{position_or_len_is, fails_before_first, passes_at_first, prefix_len-le-length}
 use Rattle.std.proofs.lemmas.List.Folds.{prefix_len-append}
 use Rattle.std.proofs.lemmas.List.Elements.{All-append}
 use Rattle.std.proofs.lemmas.Bool.{eqb-true, eq-eqb, ltb-false}
 use Rattle.std.specs.Prelude.{not, Bool, true, cond, Some, None, nat_lt}
-use Rattle.sctp_script.specs.declared.line_reader.TheConstants.{LINE_FEED, LONGEST_LINE, LONGEST_SCRIPT}
+use Rattle.sctp_script.specs.SpacedWords.{LF}
 use Rattle.sctp_script.specs.declared.block.TheConstants.{BLOCK}
-use Rattle.sctp_script.specs.LinesRead.{is_line_feed, IsOneLine, first_length, first_end, IsTooLong, MayBegin, IsReadFor}
+use Rattle.sctp_script.specs.LinesRead.{LONGEST_LINE, LONGEST_SCRIPT, is_line_feed, IsOneLine, first_length, first_end, IsTooLong, MayBegin, IsReadFor}
 
 -- a range without its first elements
 pub range_without_front : (xs : List ℕ) (start end count : ℕ)
@@ -48,10 +48,10 @@ one_line-append a b one two = All-append (λ byte. is_line_feed byte ≡ false) 
 
 -- what stands from the first line feed on begins with it
 pub from_first_feed : (text : List ℕ) → first_length text < length text
-    → drop (first_length text) text ≡ LINE_FEED ∷ drop (first_length text + 1) text
+    → drop (first_length text) text ≡ LF ∷ drop (first_length text + 1) text
 from_first_feed text there =
     let n = first_length text in
-    let is : get_or text n 0 ≡ LINE_FEED = eqb-true (get_or text n 0) LINE_FEED (passes_at_first is_line_feed text 0 there) in
+    let is : get_or text n 0 ≡ LF = eqb-true (get_or text n 0) LF (passes_at_first is_line_feed text 0 there) in
     drop_more text n 0 there ∙ ap (λ byte. byte ∷ drop (n + 1) text) is
 
 -- more than a line may have, or than the script may
@@ -85,9 +85,6 @@ pub room_for_feed : (given : ℕ) (line rest : List ℕ) → first_length rest <
     → given + (length line + first_end rest) ≤ LONGEST_SCRIPT → given + length (line ++ take (first_length rest) rest) < LONGEST_SCRIPT
 room_for_feed given line rest there within =
     omega (arith, length-append line (take (first_length rest) rest), length-take (first_length rest) rest)
-
-pub all_moved : (line rest : List ℕ) (n : ℕ) → (line ++ take n rest) ++ drop n rest ≡ line ++ rest
-all_moved line rest n = append_assoc line (take n rest) (drop n rest) ∙ ap (λ list. line ++ list) (take-append-drop n rest)
 
 -- where no place is found the line goes to the end
 none_at : (text : List ℕ) (b : Bool) → nat_lt (first_length text) (length text) ≡ b

@@ -1,13 +1,13 @@
 -- What a reader of lines answers.
 use Rattle.std.specs.Prelude.{◌≡◌, ℕ, ◌+◌, ◌<◌, ◌≤◌, List, [], ◌∷◌, ◌++◌, length, Option, None, Some, Result, Ok, Err}
-use Rattle.sctp_script.specs.declared.line_reader.TheConstants.{LINE_FEED, LONGEST_LINE, LONGEST_SCRIPT}
 use Rattle.sctp_script.specs.declared.line_reader.NextLine.{NextLine}
 use Rattle.sctp_script.specs.declared.line_reader.NextLine.TheVariants.{Ended, Last, TooLong, End}
 use Rattle.sctp_script.specs.declared.line_reader.ReadFault.{ReadFault}
 use Rattle.sctp_script.specs.declared.line_reader.ReadFault.TheVariants.{Failed, NoMemory}
 use Rattle.sctp_script.specs.declared.line_reader.Stop.{Stop}
 use Rattle.sctp_script.specs.declared.line_reader.Stop.TheVariants as stop
-use Rattle.sctp_script.specs.LinesRead.{Reading, IsOneLine, ended, IsTooLong, HasGiven, ended_lines_of, lines_of}
+use Rattle.sctp_script.specs.SpacedWords.{LF}
+use Rattle.sctp_script.specs.LinesRead.{LONGEST_LINE, LONGEST_SCRIPT, Reading, IsOneLine, ended, IsTooLong, HasGiven, ended_lines_of, lines_of}
 
 -- the bytes that an answer gives: a line, with the line feed that ended it
 abbrev pub given_by : Result NextLine ReadFault → List ℕ
@@ -43,7 +43,7 @@ failed_reads (Err NoMemory) = 0
 -- with the line so far and what the block still holds: why the line is gathered no further, or that the block is used up
 abbrev pub IsGathered : {E : Type 0} → ℕ → Result (Option Stop) E → List ℕ → List ℕ → Type 0
 IsGathered given (Ok None) line rest = rest ≡ []
-IsGathered given (Ok (Some stop.LineFeed)) line rest = (tail : List ℕ) × (rest ≡ LINE_FEED ∷ tail) × (given + length line < LONGEST_SCRIPT)
+IsGathered given (Ok (Some stop.LineFeed)) line rest = (tail : List ℕ) × (rest ≡ LF ∷ tail) × (given + length line < LONGEST_SCRIPT)
 IsGathered given (Ok (Some stop.TooLong)) line rest = IsTooLong given (line ++ rest)
 IsGathered given (Err _) line rest = Unit {0}
 

@@ -1,11 +1,9 @@
 -- Laws of lines: a text is split in one way, line by line from the front, and a line that is too long stays so.
-use Rattle.std.specs.Prelude.{◌≡◌, ℕ, ◌==◌, if◌then◌else◌, List, [], ◌∷◌, ◌++◌, length}
+use Rattle.std.specs.Prelude.{◌≡◌, ℕ, ◌+◌, ◌==◌, if◌then◌else◌, List, [], ◌∷◌, ◌++◌, length, Result}
 use Rattle.std.specs.List.{All}
-use Rattle.sctp_script.specs.LinesRead.{IsOneLine, joined, lines_of, ended_lines_of}
-use Rattle.std.specs.Prelude.{◌+◌, Result}
 use Rattle.sctp_script.specs.declared.line_reader.NextLine.{NextLine}
 use Rattle.sctp_script.specs.declared.line_reader.ReadFault.{ReadFault}
-use Rattle.sctp_script.specs.LinesRead.{Reading, HasGiven}
+use Rattle.sctp_script.specs.LinesRead.{IsOneLine, joined, lines_of, ended_lines_of, Reading, HasGiven}
 use Rattle.sctp_script.specs.LineAnswers.{given_by, IsAnswer, GivesOn}
 
 -- lines with their line feeds, and any rest behind them

@@ -6,6 +6,7 @@ use Rattle.sctp_script.specs.declared.line.Command.TheVariants as command
 use Rattle.sctp_script.specs.declared.line.LineFault.{LineFault}
 use Rattle.sctp_script.specs.declared.line.LineFault.TheVariants.{TooLong, UnknownCommand, WordCount, BadValue, PairOrder}
 use Rattle.sctp_script.specs.Configuration.{IsFaultless}
+use Rattle.sctp_script.specs.LinesRead.{LONGEST_LINE}
 use Rattle.sctp_script.specs.Numerals.{IsDecimal, IsHex}
 use Rattle.sctp_script.specs.OutcomeLines.{side_word}
 use Rattle.sctp_script.specs.SpacedWords.{words_of}
@@ -80,9 +81,6 @@ Spells command.Deliver args m = (x : Side) × (n : ℕ) × (m ≡ Acts (Deliver 
 Spells command.Take args m = (x : Side) × (on : ℕ) × (m ≡ Acts (Take x on)) × SaysNumber 16 args x on
 
 -- ---- lines
-
-abbrev pub LONGEST_LINE : ℕ
-LONGEST_LINE = 140_000
 
 -- an empty line, or a comment: one that begins with `#` (ASCII 35)
 abbrev pub IsSilent : List ℕ → Type 0

@@ -2,10 +2,18 @@
 use Rattle.std.specs.Prelude.{◌≡◌, ℕ, ◌+◌, ◌<◌, ◌≤◌, ◌==◌, min, Bool, false, if◌then◌else◌, ◌⊎◌, List, [], ◌∷◌, ◌++◌, length}
 use Rattle.std.specs.List.{All, flat_map, slice_split, position_or_len}
 use Rattle.sctp_script.specs.declared.block.TheConstants.{BLOCK}
-use Rattle.sctp_script.specs.declared.line_reader.TheConstants.{LINE_FEED, LONGEST_LINE, LONGEST_SCRIPT}
+use Rattle.sctp_script.specs.SpacedWords.{LF}
+
+-- how many bytes a line has at most, without its line feed
+abbrev pub LONGEST_LINE : ℕ
+LONGEST_LINE = 140_000
+
+-- how many bytes a script has at most: 2 to the 40th
+abbrev pub LONGEST_SCRIPT : ℕ
+LONGEST_SCRIPT = 1_099_511_627_776
 
 abbrev pub is_line_feed : ℕ → Bool
-is_line_feed byte = byte == LINE_FEED
+is_line_feed byte = byte == LF
 
 -- no line feed is among the bytes
 abbrev pub IsOneLine : List ℕ → Type 0
@@ -13,7 +21,7 @@ IsOneLine bytes = All (λ byte. is_line_feed byte ≡ false) bytes
 
 -- a line and the line feed that ends it
 abbrev pub ended : List ℕ → List ℕ
-ended line = line ++ LINE_FEED ∷ []
+ended line = line ++ LF ∷ []
 
 -- lines one after another, each with its line feed
 abbrev pub joined : List (List ℕ) → List ℕ

@@ -11,13 +11,11 @@ use crate::config::{Draw, Mode, PairConfig};
 use crate::decimal::read_decimal;
 use crate::event::{Event, Side};
 use crate::hex_word::read_hex;
+use crate::line_reader::LONGEST_LINE;
 use crate::words_of_line::Words;
 use sctp_wire::NoMemory;
 use std::alloc::Global;
 use thiserror::Error;
-
-/// The longest line, in bytes without its line feed.
-const LONGEST_LINE: usize = 140_000;
 
 /// What is wrong with a line; of several faults the one with the smallest kind is answered.
 #[derive(Clone, Copy, Debug, PartialEq, Eq, Error)]
@@ -57,8 +55,10 @@ impl LineFault {
 /// Why a line gives nothing.
 #[derive(Clone, Copy, Debug, PartialEq, Eq, Error)]
 pub enum LineError {
+    /// The line says nothing: it has this fault.
     #[error("{0}")]
     Fault(LineFault),
+    /// Memory ran out for the bytes of a message.
     #[error("out of memory")]
     NoMemory,
 }

@@ -1,9 +1,8 @@
 //! Laws of the lines of a text, which hold of all texts.
 
 ghost use Rattle.std.specs.Prelude.{ℕ, List, ◌++◌, Result};
-ghost use Rattle.sctp_script.specs.LinesRead.{IsTooLong};
+ghost use Rattle.sctp_script.specs.LinesRead.{IsTooLong, Reading};
 ghost use Rattle.sctp_script.specs.LineLaws.{SplitInOneWay, IsLines, LeadsOn};
-ghost use Rattle.sctp_script.specs.LinesRead.{Reading};
 ghost use Rattle.sctp_script.specs.declared.line_reader.NextLine.{NextLine};
 ghost use Rattle.sctp_script.specs.declared.line_reader.ReadFault.{ReadFault};
 

@@ -1,12 +1,13 @@
 //! The line of each outcome.
 
 ghost use Rattle.std.specs.Prelude.{◌≡◌, ◌++◌, OnOk, OnErr};
+ghost use Rattle.sctp_model.specs.ReceiverView.{Handed};
 ghost use Rattle.sctp_model.specs.World as world;
-ghost use Rattle.sctp_script.specs.Events.{side_said, Answers};
+ghost use Rattle.sctp_script.specs.Events.{side_said, Answers, IsToldOf};
 ghost use Rattle.sctp_script.specs.OutcomeLines.{side_word, outcome_line};
 ghost use Rattle.sctp_script.specs.WrittenWords.{text_of};
 
-use crate::event::{Outcome, Side};
+use crate::event::{Bytes, Outcome, Side};
 use crate::line_out::{Word, put_line};
 use sctp_wire::NoMemory;
 
@@ -20,22 +21,12 @@ pub fn put_outcome(outcome: &Outcome, out: &mut Vec<u8>) -> Result<(), NoMemory>
 {
     match outcome {
         Outcome::Done => put_line(b"ok", &[], &[], out),
-        Outcome::OpenRefused => put_line(b"refused", &[Word::Number(1)], &[], out),
+        Outcome::OpenRefused => put_line(b"refused", &[], &[1], out),
         Outcome::SendRefused { refusal } => {
-            put_line(
-                b"refused",
-                &[Word::Number(u64::from(refusal.code()))],
-                &[],
-                out,
-            )
+            put_line(b"refused", &[], &[u32::from(refusal.code())], out)
         }
         Outcome::Ticket { side, ticket } => {
-            put_line(
-                b"ticket",
-                &[side_word(*side), Word::Number(u64::from(*ticket))],
-                &[],
-                out,
-            )
+            put_line(b"ticket", &[side_word(*side)], &[*ticket], out)
         }
         Outcome::Sent {
             side,
@@ -58,26 +49,35 @@ pub fn put_outcome(outcome: &Outcome, out: &mut Vec<u8>) -> Result<(), NoMemory>
             number,
             payload_id,
             bytes,
-        } => {
-            let words = [
-                side_word(*side),
-                Word::Number(u64::from(*stream)),
-                Word::Text(b"o"),
-                Word::Number(u64::from(*number)),
-                Word::Number(u64::from(*payload_id)),
-                Word::Hex(bytes.as_slice()),
-            ];
-            put_line(b"message", &words, &[], out)
-        }
+        } => put_message(*side, *stream, *number, *payload_id, bytes, out),
         Outcome::Empty { side, stream } => {
-            put_line(
-                b"empty",
-                &[side_word(*side), Word::Number(u64::from(*stream))],
-                &[],
-                out,
-            )
+            put_line(b"empty", &[side_word(*side)], &[u32::from(*stream)], out)
         }
     }
+}
+
+/// Appends `message X STREAM o NUMBER ID HEX`, or nothing where memory is wanting.
+fn put_message(
+    side: Side,
+    stream: u16,
+    number: u32,
+    payload_id: u32,
+    bytes: &Bytes,
+    out: &mut Vec<u8>,
+) -> Result<(), NoMemory>
+    ensures put { (h : Handed) → IsToldOf stream number payload_id bytes.now h
+        → OnOk result (out.new.items ≡ out.old.items ++ outcome_line (world.Message (side_said side) stream h)) }
+    ensures refused { OnErr result (out.new.items ≡ out.old.items) }
+{
+    let words = [
+        side_word(side),
+        Word::Number(u64::from(stream)),
+        Word::Text(b"o"),
+        Word::Number(u64::from(number)),
+        Word::Number(u64::from(payload_id)),
+        Word::Hex(bytes.as_slice()),
+    ];
+    put_line(b"message", &words, &[], out)
 }
 
 /// The name of an end.

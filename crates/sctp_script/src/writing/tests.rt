@@ -33,12 +33,14 @@ impl Write for Slow {
 #[test]
 fn all_is_written_or_a_beginning_where_a_call_fails(rt: HostRuntime) -> Result<(), Fail> {
     let alloc = rt.alloc();
-    let table: [(usize, usize, Result<(), Failed>, &str); 8] = [
+    let table: [(usize, usize, Result<(), Failed>, &str); 10] = [
         (1, 0, Ok(()), "hello"),
         (2, 0, Ok(()), "hello"),
         (9, 0, Ok(()), "hello"),
         (1, 1, Err(Failed), ""),
+        (1, 2, Err(Failed), "h"),
         (1, 3, Err(Failed), "he"),
+        (1, 4, Err(Failed), "hel"),
         (1, 5, Err(Failed), "hell"),
         (2, 3, Err(Failed), "hell"),
         // A writer that takes nothing.

@@ -1,4 +1,4 @@
-use Rattle.std.proofs.Common.{◌≡◌, ℕ, arith}
+use Rattle.std.proofs.Common.{◌≡◌, ℕ}
 use Rattle.sctp_script.proofs.Decimals.{no_text, refused}
 use Rattle.sctp_script.proofs.decimal.read_decimal.Goals as goal
 

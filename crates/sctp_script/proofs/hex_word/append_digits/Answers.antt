@@ -1,4 +1,4 @@
-use Rattle.std.proofs.Common.{◌≡◌, ℕ, List, [], ◌++◌, sym, arith}
+use Rattle.std.proofs.Common.{◌≡◌, ℕ, sym, arith}
 use Rattle.std.proofs.lemmas.List.{append-nil}
 use Rattle.std.proofs.lemmas.Grind.{common_steps}
 use Rattle.hex.specs.Hex.{encode_with, lower_digits}

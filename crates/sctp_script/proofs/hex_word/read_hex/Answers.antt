@@ -1,4 +1,4 @@
-use Rattle.std.proofs.Common.{◌≡◌, ℕ, true, Ok, List, [], ◌<◌, length, codes, arith}
+use Rattle.std.proofs.Common.{◌≡◌, ℕ, Ok, codes, arith}
 use Rattle.std.proofs.lemmas.Grind.{common_steps}
 use Rattle.hex.specs.Hex.{decode_of}
 use Rattle.sctp_script.proofs.HexDigits.{AreDigitPairs, decoded, pairs_of}

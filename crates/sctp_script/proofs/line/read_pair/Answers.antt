@@ -1,5 +1,4 @@
-use Rattle.std.proofs.Common.{◌≡◌, ℕ, List, [], ◌∷◌, length, refl, ap, arith}
-use Rattle.std.proofs.lemmas.Grind.{common_steps}
+use Rattle.std.proofs.Common.{◌≡◌, ℕ, ap, arith}
 use Rattle.sctp_model.specs.World.{Configuration}
 use Rattle.sctp_script.specs.Lines.{Pairs}
 use Rattle.sctp_script.specs.Settings.{sizes}

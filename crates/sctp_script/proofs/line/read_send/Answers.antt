@@ -1,8 +1,7 @@
-use Rattle.std.proofs.Common.{◌≡◌, ℕ, List, [], ◌∷◌, length, codes, refl, ap, arith, rules}
+use Rattle.std.proofs.Common.{◌≡◌, ℕ, codes, refl, arith, rules}
 use Rattle.std.proofs.lemmas.Grind.{common_steps}
 use Rattle.sctp_script.specs.Events.{side_said}
 use Rattle.sctp_script.specs.Lines.{IsNumber}
-use Rattle.sctp_script.specs.Numerals.{IsHex}
 use Rattle.sctp_script.specs.OutcomeLines.{side_word}
 use Rattle.sctp_script.proofs.LineLemmas.{six_words}
 use Rattle.sctp_script.proofs.line.read_send.Goals as goal

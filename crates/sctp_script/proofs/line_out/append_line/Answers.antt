@@ -1,4 +1,4 @@
-use Rattle.std.proofs.Common.{◌≡◌, ℕ, List, [], ◌∷◌, ◌++◌, map, decimal, sym, arith, append_assoc}
+use Rattle.std.proofs.Common.{◌≡◌, ℕ, map, decimal, arith, append_assoc}
 use Rattle.std.proofs.lemmas.Grind.{common_steps}
 use Rattle.sctp_script.specs.WrittenWords.{text_of}
 use Rattle.sctp_script.proofs.WrittenLines.{behind-append}

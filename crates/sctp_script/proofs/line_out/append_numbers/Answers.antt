@@ -1,4 +1,4 @@
-use Rattle.std.proofs.Common.{◌≡◌, ℕ, List, [], ◌++◌, decimal, get_or, sym, arith}
+use Rattle.std.proofs.Common.{◌≡◌, ℕ, decimal, arith}
 use Rattle.std.proofs.lemmas.Grind.{common_steps}
 use Rattle.sctp_script.proofs.WrittenLines.{behind_more}
 use Rattle.sctp_script.proofs.line_out.append_numbers.Goals as goal

@@ -1,7 +1,6 @@
 use Rattle.std.proofs.Common.{◌≡◌, ℕ, ◌+◌, ◌-◌, ◌⊎◌, List, ◌++◌, length}
-use Rattle.sctp_script.specs.declared.line_reader.TheConstants.{LONGEST_LINE}
 use Rattle.sctp_script.specs.declared.block.TheConstants.{BLOCK}
-use Rattle.sctp_script.specs.LinesRead.{MayBegin, IsReadFor}
+use Rattle.sctp_script.specs.LinesRead.{LONGEST_LINE, MayBegin, IsReadFor}
 use Rattle.sctp_script.proofs.line_reader.complete.Given as goal
 
 -- what was held and is read is the line so far and the block; nothing was read, or what was held may begin the line

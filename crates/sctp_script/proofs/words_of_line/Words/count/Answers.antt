@@ -1,4 +1,4 @@
-use Rattle.std.proofs.Common.{◌≡◌, ◌==◌, ℕ, arith, rules, sym, refl}
+use Rattle.std.proofs.Common.{◌≡◌, ◌==◌, ℕ, rules, refl}
 use Rattle.std.specs.List.{count_by}
 use Rattle.sctp_script.specs.SpacedWords.{SPACE}
 use Rattle.sctp_script.proofs.WordLemmas.{length-words_of}
