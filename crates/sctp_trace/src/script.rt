@@ -11,8 +11,8 @@ ghost use Rattle.sctp_trace.specs.ScriptSteps.{StandsAt, IsWrittenOf, LineLeaves
 
 use crate::pair::Pair;
 use sctp_script::{
-    Acting, LineError, LineFault, LineReader, NextLine, Outcome, ReadFault, Sink, Source,
-    put_outcome, read_line, write_all,
+    Acting, Failed, LineError, LineFault, LineReader, NextLine, Outcome, ReadFault, Sink, Source,
+    events_follow_the_pair, line_after_line, put_outcome, read_line, write_all,
 };
 use std::alloc::Global;
 use thiserror::Error;
@@ -98,18 +98,21 @@ impl Running {
         ensures failed_reads { R.failures input.new ≡ R.failures input.old + failed_reads result }
         ensures failed_writes { W.failures output.new ≡ W.failures output.old + failed_writes result }
     {
-        match self.lines.next_line(input).map_err(read_fault)? {
-            NextLine::Ended(line) => {
+        // It does nothing: its contract says how the lines that are given make up what was read.
+        line_after_line();
+        match self.lines.next_line(input) {
+            Ok(NextLine::Ended(line)) => {
                 act(self.alloc, &mut self.pair, self.number, &line, output)?;
                 self.number += 1;
                 Ok(true)
             }
-            NextLine::Last(line) => {
+            Ok(NextLine::Last(line)) => {
                 act(self.alloc, &mut self.pair, self.number, &line, output)?;
                 Ok(false)
             }
-            NextLine::TooLong => Err(ScriptFault::Line(self.number, LineFault::TooLong)),
-            NextLine::End => Ok(false),
+            Ok(NextLine::TooLong) => Err(ScriptFault::Line(self.number, LineFault::TooLong)),
+            Ok(NextLine::End) => Ok(false),
+            Err(fault) => Err(read_fault(fault)),
         }
     }
 }
@@ -128,6 +131,8 @@ fn act<W: Sink>(
     ensures failed_writes { W.failures output.new ≡ W.failures output.old + failed_writes result }
     ensures no_reads { failed_reads result ≡ 0 }
 {
+    // It does nothing: its contract says that an event stands behind the `pair` line.
+    events_follow_the_pair();
     match read_line(alloc, line, pair.is_some()) {
         Ok(None) => Ok(()),
         Ok(Some(Acting::Pair(config))) => {
@@ -185,7 +190,10 @@ fn write_bytes<W: Sink>(output: &mut W, bytes: &[u8]) -> Result<(), ScriptFault>
     ensures failed_writes { W.failures output.new ≡ W.failures output.old + failed_writes result }
     ensures no_reads { failed_reads result ≡ 0 }
 {
-    write_all(output, bytes).map_err(|_| ScriptFault::Write)
+    match write_all(output, bytes) {
+        Ok(()) => Ok(()),
+        Err(Failed) => Err(ScriptFault::Write),
+    }
 }
 
 /// Why no line could be read.
