@@ -1,7 +1,9 @@
 //! Laws of the script's grammar, which hold of all lines.
 
-ghost use Rattle.std.specs.Prelude.{ℕ, Bool, List};
+ghost use Rattle.std.specs.Prelude.{◌≡◌, ℕ, Bool, true, List};
+ghost use Rattle.sctp_model.specs.World.{Event};
 ghost use Rattle.sctp_script.specs.GrammarLaws.{SaysOneThing};
+ghost use Rattle.sctp_script.specs.Lines.{Acts, Says};
 ghost use Rattle.sctp_script.specs.SpacedWords.{words_of, AreItsWords};
 
 /// The words of a line are what stands between its spaces.
@@ -12,4 +14,9 @@ pub fn words_part_at_spaces()
 /// Each line says exactly one thing.
 pub fn one_meaning()
     ensures { (paired : Bool) (line : List ℕ) → SaysOneThing paired line }
+{}
+
+/// A line says an event only where a `pair` line stood before it.
+pub fn events_follow_the_pair()
+    ensures { (paired : Bool) (line : List ℕ) (event : Event) → Says paired line (Acts event) → paired ≡ true }
 {}

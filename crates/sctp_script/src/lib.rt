@@ -20,7 +20,7 @@ mod writing;
 
 pub use config::{ConfigFault, Draw, Mode, PairConfig};
 pub use event::{Bytes, Event, Outcome, SendRefusal, Side, State};
-pub use laws::{one_meaning, words_part_at_spaces};
+pub use laws::{events_follow_the_pair, one_meaning, words_part_at_spaces};
 pub use line::{Acting, LineError, LineFault, read_line};
 pub use line_laws::{line_after_line, lines_in_one_way, too_long_for_good};
 pub use line_reader::{LineReader, NextLine, ReadFault};
