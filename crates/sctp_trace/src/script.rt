@@ -1,11 +1,19 @@
 //! A script, run: each line acts before the next one is read, and the report comes last.
 
+ghost use Rattle.std.specs.Prelude.{◌≡◌, ℕ, suc, true, ◌+◌, ◌-◌, ◌^◌, ◌<◌, ◌≤◌, List, [], ◌++◌, length, Option, None, IfOk};
+ghost use Rattle.sctp_model.specs.World as world;
+ghost use Rattle.sctp_model.specs.World.{World};
+ghost use Rattle.sctp_script.specs.Events.{Answers};
+ghost use Rattle.sctp_script.specs.declared.line_reader.TheConstants.{LONGEST_SCRIPT};
+ghost use Rattle.sctp_script.specs.OutcomeLines.{outcome_line};
+ghost use Rattle.sctp_trace.specs.Script.{IsAnswered, failed_reads, failed_writes};
+ghost use Rattle.sctp_trace.specs.ScriptSteps.{StandsAt, IsWrittenOf, LineLeaves, Closes, IsSoFar, RunsOn, fault_of};
+
 use crate::pair::Pair;
 use sctp_script::{
     Acting, LineError, LineFault, LineReader, NextLine, Outcome, ReadFault, Sink, Source,
     put_outcome, read_line, write_all,
 };
-use sctp_wire::NoMemory;
 use std::alloc::Global;
 use thiserror::Error;
 
@@ -37,21 +45,73 @@ pub fn run_script<R: Source, W: Sink>(
     alloc: Global,
     input: &mut R,
     output: &mut W,
-) -> Result<(), ScriptFault> {
-    let mut lines = LineReader::new(alloc);
-    let mut pair = None;
-    for number in 1..u64::MAX {
-        match lines.next_line(input).map_err(read_fault)? {
-            NextLine::Ended(line) => act(alloc, &mut pair, number, &line, output)?,
-            NextLine::Last(line) => {
-                act(alloc, &mut pair, number, &line, output)?;
-                return finish(&pair, output);
-            }
-            NextLine::TooLong => return Err(ScriptFault::Line(number, LineFault::TooLong)),
-            NextLine::End => return finish(&pair, output),
+) -> Result<(), ScriptFault>
+    requires reads { R.failures input.old < 2 ^ 64 - 1 }
+    requires writes { W.failures output.old < 2 ^ 64 - 1 }
+    ensures answer { (read written : List ℕ) × R.Reads input.old read input.new × W.Writes output.old written output.new
+        × IsAnswered (R.IsAtEnd input.new) result read written }
+    ensures failed_reads { R.failures input.new ≡ R.failures input.old + failed_reads result }
+    ensures failed_writes { W.failures output.new ≡ W.failures output.old + failed_writes result }
+{
+    let mut running = Running::new(alloc);
+    while running.run_line(input, output)? {}
+    finish(&running.pair, output)
+}
+
+/// A script that is being run: the reader of its lines, the pair once there is one, and the number of the next line.
+#[derive(Drop)]
+struct Running {
+    alloc: Global,
+    lines: LineReader,
+    pair: Option<Pair>,
+    number: u64,
+}
+
+impl Running {
+    /// Before its first line.
+    fn new(alloc: Global) -> Running
+        ensures { IsSoFar result [] [] [] None }
+    {
+        Running {
+            alloc,
+            lines: LineReader::new(alloc),
+            pair: None,
+            number: 1,
         }
     }
-    unreachable!()
+
+    /// Reads the next line, which acts, and its outcome is written. Answers whether the input may go on.
+    fn run_line<R: Source, W: Sink>(
+        &mut self,
+        input: &mut R,
+        output: &mut W,
+    ) -> Result<bool, ScriptFault>
+        requires reads { R.failures input.old < 2 ^ 64 - 1 }
+        requires writes { W.failures output.old < 2 ^ 64 - 1 }
+        requires number { self.old.number ≤ suc self.old.lines.given }
+        requires small { self.old.lines.given ≤ LONGEST_SCRIPT }
+        ensures runs { (text done : List ℕ) (lines : List (List ℕ)) (state : Option World) → IsSoFar self.old text done lines state
+            → (read written : List ℕ) × R.Reads input.old read input.new × W.Writes output.old written output.new
+            × RunsOn (R.IsAtEnd input.new) result self.new (text ++ read) (done ++ written) }
+        ensures small { IfOk result (λ on. on ≡ true → self.new.lines.given ≤ LONGEST_SCRIPT) }
+        ensures forth { IfOk result (λ on. on ≡ true → self.old.lines.given < self.new.lines.given) }
+        ensures failed_reads { R.failures input.new ≡ R.failures input.old + failed_reads result }
+        ensures failed_writes { W.failures output.new ≡ W.failures output.old + failed_writes result }
+    {
+        match self.lines.next_line(input).map_err(read_fault)? {
+            NextLine::Ended(line) => {
+                act(self.alloc, &mut self.pair, self.number, &line, output)?;
+                self.number += 1;
+                Ok(true)
+            }
+            NextLine::Last(line) => {
+                act(self.alloc, &mut self.pair, self.number, &line, output)?;
+                Ok(false)
+            }
+            NextLine::TooLong => Err(ScriptFault::Line(self.number, LineFault::TooLong)),
+            NextLine::End => Ok(false),
+        }
+    }
 }
 
 /// A line acts, and the line of its outcome is written.
@@ -61,7 +121,13 @@ fn act<W: Sink>(
     number: u64,
     line: &[u8],
     output: &mut W,
-) -> Result<(), ScriptFault> {
+) -> Result<(), ScriptFault>
+    requires { W.failures output.old < 2 ^ 64 - 1 }
+    ensures leaves { (state : Option World) → StandsAt pair.old state
+        → (written : List ℕ) × W.Writes output.old written output.new × LineLeaves result number state line.now written pair.new }
+    ensures failed_writes { W.failures output.new ≡ W.failures output.old + failed_writes result }
+    ensures no_reads { failed_reads result ≡ 0 }
+{
     match read_line(alloc, line, pair.is_some()) {
         Ok(None) => Ok(()),
         Ok(Some(Acting::Pair(config))) => {
@@ -83,25 +149,49 @@ fn write_outcome<W: Sink>(
     alloc: Global,
     outcome: &Outcome,
     output: &mut W,
-) -> Result<(), ScriptFault> {
+) -> Result<(), ScriptFault>
+    requires { W.failures output.old < 2 ^ 64 - 1 }
+    ensures written { (o : world.Outcome) → Answers outcome.now o
+        → (written : List ℕ) × W.Writes output.old written output.new × IsWrittenOf result (outcome_line o) written }
+    ensures failed_writes { W.failures output.new ≡ W.failures output.old + failed_writes result }
+    ensures no_reads { failed_reads result ≡ 0 }
+{
     let mut line = Vec::new(alloc);
     put_outcome(outcome, &mut line).map_err(|_| ScriptFault::NoMemory)?;
-    write_all(output, &line).map_err(|_| ScriptFault::Write)
+    write_bytes(output, &line)
 }
 
 /// Writes the report of the pair, at the end of a script.
-fn finish<W: Sink>(pair: &Option<Pair>, output: &mut W) -> Result<(), ScriptFault> {
+fn finish<W: Sink>(pair: &Option<Pair>, output: &mut W) -> Result<(), ScriptFault>
+    requires { W.failures output.old < 2 ^ 64 - 1 }
+    ensures closes { (state : Option World) → StandsAt pair.now state
+        → (written : List ℕ) × W.Writes output.old written output.new × Closes result state written }
+    ensures failed_writes { W.failures output.new ≡ W.failures output.old + failed_writes result }
+    ensures no_reads { failed_reads result ≡ 0 }
+{
     match pair {
         Some(pair) => {
             let report = pair.report().map_err(|_| ScriptFault::NoMemory)?;
-            write_all(output, &report).map_err(|_| ScriptFault::Write)
+            write_bytes(output, &report)
         }
         None => Err(ScriptFault::Line(1, LineFault::PairOrder)),
     }
 }
 
+/// Writes all of the bytes.
+fn write_bytes<W: Sink>(output: &mut W, bytes: &[u8]) -> Result<(), ScriptFault>
+    requires { W.failures output.old < 2 ^ 64 - 1 }
+    ensures written { (written : List ℕ) × W.Writes output.old written output.new × IsWrittenOf result bytes.now written }
+    ensures failed_writes { W.failures output.new ≡ W.failures output.old + failed_writes result }
+    ensures no_reads { failed_reads result ≡ 0 }
+{
+    write_all(output, bytes).map_err(|_| ScriptFault::Write)
+}
+
 /// Why no line could be read.
-fn read_fault(fault: ReadFault) -> ScriptFault {
+fn read_fault(fault: ReadFault) -> ScriptFault
+    ensures { result ≡ fault_of fault }
+{
     match fault {
         ReadFault::Failed => ScriptFault::Read,
         ReadFault::NoMemory => ScriptFault::NoMemory,

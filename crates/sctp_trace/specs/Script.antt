@@ -1,0 +1,134 @@
+-- What a script writes, and which of its lines has the first fault: over its bytes, the grammar of its lines and the steps of two ends.
+-- A script's state is the world of its two ends, once there was a `pair` line. Want of memory is no answer of a step here.
+use Rattle.std.specs.Prelude.{◌≡◌, ℕ, suc, ◌<◌, ◌≤◌, ◌⊎◌, Bool, true, false, List, [], ◌∷◌, ◌++◌, length, Option, Some, None, Result, Ok, Err}
+use Rattle.std.specs.List.{All}
+use Rattle.sctp_model.specs.World.{World, Outcome, start, Step}
+use Rattle.sctp_script.specs.declared.line.LineFault.{LineFault}
+use Rattle.sctp_script.specs.declared.line.LineFault.TheVariants.{TooLong, PairOrder}
+use Rattle.sctp_script.specs.declared.line_reader.TheConstants.{LONGEST_SCRIPT}
+use Rattle.sctp_script.specs.Lines.{LineMeaning, Silent, Pairs, Acts, Fault, Says, IsFirstFaultOf}
+use Rattle.sctp_script.specs.LinesRead.{IsOneLine, IsTooLong, ended, joined, lines_of, ended_lines_of}
+use Rattle.sctp_script.specs.OutcomeLines.{outcome_line}
+use Rattle.sctp_script.specs.ReportText.{report}
+use Rattle.sctp_trace.specs.declared.script.ScriptFault.{ScriptFault}
+use Rattle.sctp_trace.specs.declared.script.ScriptFault.TheVariants.{Read, Write, NoMemory, Line}
+
+-- ---- lines that act
+
+-- whether a `pair` line came
+abbrev pub is_paired : Option World → Bool
+is_paired None = false
+is_paired (Some w) = true
+
+-- what is written for what a line says, and the state that it leads to
+abbrev pub Does : Option World → LineMeaning → List ℕ → Option World → Type 0
+Does state Silent written after = (written ≡ []) × (after ≡ state)
+Does state (Pairs c) written after = (written ≡ []) × (after ≡ Some (start c))
+Does state (Acts e) written after =
+    (w x : World) × (o : Outcome) × (state ≡ Some w) × Step w e (Some o) x × (written ≡ outcome_line o) × (after ≡ Some x)
+Does state (Fault fault) written after = ⊥
+
+-- a line without a fault writes this and leads to this state
+abbrev pub LineActs : Option World → List ℕ → List ℕ → Option World → Type 0
+LineActs state line written after = (m : LineMeaning) × Says (is_paired state) line m × Does state m written after
+
+-- lines without a fault, one after another
+abbrev pub Goes : Option World → List (List ℕ) → List ℕ → Option World → Type 0
+Goes state [] written after = (written ≡ []) × (after ≡ state)
+Goes state (line ∷ lines) written after =
+    (here behind : List ℕ) × (mid : Option World) × LineActs state line here mid × Goes mid lines behind after × (written ≡ here ++ behind)
+
+-- ---- OUTPUT
+
+-- the outcome lines of all lines of a script, and then the report
+pub record IsOutput (text written : List ℕ) : Type 0 where
+  pub small : length text ≤ LONGEST_SCRIPT
+  pub outcomes : List ℕ
+  pub world : World
+  pub goes : Goes None (lines_of text) outcomes (Some world)
+  pub whole : written ≡ outcomes ++ report world
+
+-- ---- the first fault
+
+-- A text begins with this line: a line feed ends it, or the input ends with it. `end` says that all input was read.
+abbrev pub BeginsWith : Type 0 → List ℕ → List ℕ → Type 0
+BeginsWith end text line = IsOneLine line × (((tail : List ℕ) × (text ≡ ended line ++ tail)) ⊎ (end × (0 < length line) × (text ≡ line)))
+
+-- Behind so many bytes the first line of a text has this fault and none of a smaller kind. One that is too long may go on.
+abbrev pub HasFirstFault : Type 0 → Bool → ℕ → List ℕ → LineFault → Type 0
+HasFirstFault end paired given text fault =
+    ((fault ≡ TooLong) × IsTooLong given text)
+    ⊎ ((IsTooLong given text → ⊥) × ((line : List ℕ) × BeginsWith end text line × IsFirstFaultOf paired line fault))
+
+-- First lines of a text, each with its line feed, have no fault, write this and lead to this state; the rest stands behind them.
+pub record IsFront (text : List ℕ) (front : List (List ℕ)) (rest written : List ℕ) (state : Option World) : Type 0 where
+  pub each : All IsOneLine front
+  pub whole : text ≡ joined front ++ rest
+  pub small : length (joined front) ≤ LONGEST_SCRIPT
+  pub goes : Goes None front written state
+
+-- the line behind first lines has this fault; lines count from 1
+pub record IsFaulty (end : Type 0) (text : List ℕ) (n : ℕ) (fault : LineFault) (written : List ℕ) : Type 0 where
+  pub front : List (List ℕ)
+  pub rest : List ℕ
+  pub state : Option World
+  pub before : IsFront text front rest written state
+  pub number : n ≡ suc (length front)
+  pub has : HasFirstFault end (is_paired state) (length (joined front)) rest fault
+
+-- no line of a script acts or has a fault
+pub record HasNoPair (text : List ℕ) : Type 0 where
+  pub small : length text ≤ LONGEST_SCRIPT
+  pub goes : Goes None (lines_of text) [] None
+
+-- Line n is the first one with a fault, and what the lines before it wrote. Where no line acts or has a fault, line 1 has one.
+abbrev pub FaultsFirst : Type 0 → List ℕ → ℕ → LineFault → List ℕ → Type 0
+FaultsFirst end text n fault written =
+    IsFaulty end text n fault written ⊎ (end × HasNoPair text × (n ≡ 1) × (fault ≡ PairOrder) × (written ≡ []))
+
+-- ---- LINES
+
+-- no more line is there to its end, or the next one has a fault
+abbrev pub Stops : Option World → ℕ → List ℕ → Type 0
+Stops state given rest = (ended_lines_of rest ≡ []) ⊎ ((fault : LineFault) × HasFirstFault ⊥ (is_paired state) given rest fault)
+
+-- LINES: what is written for the lines of a text that a line feed ends, up to the first one with a fault
+abbrev pub IsLines : List ℕ → List ℕ → Type 0
+IsLines text written =
+    (front : List (List ℕ)) × (rest : List ℕ) × (state : Option World) × IsFront text front rest written state
+    × Stops state (length (joined front)) rest
+
+-- A beginning of LINES: of what first lines write. Lines that go on from there write more behind it (`front_goes_on` of ScriptLemmas).
+abbrev pub BeginsLines : List ℕ → List ℕ → Type 0
+BeginsLines text written =
+    (front : List (List ℕ)) × (rest outcomes more : List ℕ) × (state : Option World) × IsFront text front rest outcomes state
+    × (outcomes ≡ written ++ more)
+
+-- a beginning of OUTPUT
+abbrev pub BeginsOutput : List ℕ → List ℕ → Type 0
+BeginsOutput text written = (output more : List ℕ) × IsOutput text output × (output ≡ written ++ more)
+
+-- ---- answers
+
+-- what an answer says of the bytes that were read and written; `end` says that all input was read
+abbrev pub IsAnswered : Type 0 → Result (Unit {0}) ScriptFault → List ℕ → List ℕ → Type 0
+IsAnswered end (Ok _) read written = end × IsOutput read written
+IsAnswered end (Err Read) read written = BeginsLines read written
+IsAnswered end (Err Write) read written = BeginsLines read written ⊎ (end × BeginsOutput read written)
+IsAnswered end (Err NoMemory) read written = BeginsLines read written ⊎ (end × BeginsOutput read written)
+IsAnswered end (Err (Line n fault)) read written = FaultsFirst end read n fault written
+
+-- how many failures of the reader an answer tells, and how many of the writer
+abbrev pub failed_reads : {X : Type 0} → Result X ScriptFault → ℕ
+failed_reads (Ok _) = 0
+failed_reads (Err Read) = 1
+failed_reads (Err Write) = 0
+failed_reads (Err NoMemory) = 0
+failed_reads (Err (Line n fault)) = 0
+
+abbrev pub failed_writes : {X : Type 0} → Result X ScriptFault → ℕ
+failed_writes (Ok _) = 0
+failed_writes (Err Read) = 0
+failed_writes (Err Write) = 1
+failed_writes (Err NoMemory) = 0
+failed_writes (Err (Line n fault)) = 0

@@ -1,0 +1,72 @@
+-- How far a script has been run, and what one line, its outcome and the report leave.
+use Rattle.std.specs.Prelude.{◌≡◌, ℕ, suc, ◌≤◌, Bool, true, false, List, [], ◌++◌, length, Option, Some, None, Result, Ok, Err}
+use Rattle.sctp_model.specs.World.{World}
+use Rattle.sctp_script.specs.declared.line.LineFault.{LineFault}
+use Rattle.sctp_script.specs.declared.line.LineFault.TheVariants.{PairOrder}
+use Rattle.sctp_script.specs.declared.line_reader.TheConstants.{LONGEST_SCRIPT}
+use Rattle.sctp_script.specs.declared.line_reader.ReadFault.{ReadFault}
+use Rattle.sctp_script.specs.declared.line_reader.ReadFault.TheVariants as read
+use Rattle.sctp_script.specs.Lines.{IsFirstFaultOf}
+use Rattle.sctp_script.specs.LinesRead.{HasGiven, lines_of}
+use Rattle.sctp_script.specs.ReportText.{report}
+use Rattle.sctp_trace.specs.declared.pair.Pair.{Pair}
+use Rattle.sctp_trace.specs.declared.script.Running.{Running}
+use Rattle.sctp_trace.specs.declared.script.ScriptFault.{ScriptFault}
+use Rattle.sctp_trace.specs.declared.script.ScriptFault.TheVariants.{Read, Write, NoMemory, Line}
+use Rattle.sctp_trace.specs.PairStands.{PairStands}
+use Rattle.sctp_trace.specs.Script.{is_paired, LineActs, Goes, IsAnswered}
+
+-- the pair, if there is one, stands for the state
+abbrev pub StandsAt : Option Pair → Option World → Type 0
+StandsAt None None = Unit {0}
+StandsAt None (Some w) = ⊥
+StandsAt (Some pair) None = ⊥
+StandsAt (Some pair) (Some w) = PairStands pair w
+
+-- why no line could be read
+abbrev pub fault_of : ReadFault → ScriptFault
+fault_of read.Failed = Read
+fault_of read.NoMemory = NoMemory
+
+-- what is written of a line: all of it, a part where the writer failed, nothing where memory is wanting
+abbrev pub IsWrittenOf : Result (Unit {0}) ScriptFault → List ℕ → List ℕ → Type 0
+IsWrittenOf (Ok _) whole written = written ≡ whole
+IsWrittenOf (Err Read) whole written = ⊥
+IsWrittenOf (Err Write) whole written = (more : List ℕ) × (whole ≡ written ++ more)
+IsWrittenOf (Err NoMemory) whole written = written ≡ []
+IsWrittenOf (Err (Line n fault)) whole written = ⊥
+
+-- what the line with this number leaves
+abbrev pub LineLeaves : Result (Unit {0}) ScriptFault → ℕ → Option World → List ℕ → List ℕ → Option Pair → Type 0
+LineLeaves (Ok _) n state line written pair = (after : Option World) × LineActs state line written after × StandsAt pair after
+LineLeaves (Err Read) n state line written pair = ⊥
+LineLeaves (Err Write) n state line written pair = (whole more : List ℕ) × (x : World) × LineActs state line whole (Some x) × (whole ≡ written ++ more)
+LineLeaves (Err NoMemory) n state line written pair = written ≡ []
+LineLeaves (Err (Line m fault)) n state line written pair = (m ≡ n) × (written ≡ []) × IsFirstFaultOf (is_paired state) line fault
+
+-- what is written at the end of a script
+abbrev pub Closes : Result (Unit {0}) ScriptFault → Option World → List ℕ → Type 0
+Closes (Err (Line n fault)) state written = (state ≡ None) × (n ≡ 1) × (fault ≡ PairOrder) × (written ≡ [])
+Closes (Ok a) state written = (w : World) × (state ≡ Some w) × IsWrittenOf (Ok a) (report w) written
+Closes (Err Read) state written = ⊥
+Closes (Err Write) state written = (w : World) × (state ≡ Some w) × IsWrittenOf (Err Write) (report w) written
+Closes (Err NoMemory) state written = (w : World) × (state ≡ Some w) × IsWrittenOf (Err NoMemory) (report w) written
+
+-- Of a text that was read these lines were given and acted, and wrote this.
+pub record IsSoFar (s : Running) (text done : List ℕ) (lines : List (List ℕ)) (state : Option World) : Type 0 where
+  pub given : HasGiven text lines s.lines
+  pub goes : Goes None lines done state
+  pub stands : StandsAt s.pair state
+  pub number : s.number ≡ suc (length lines)
+
+-- All lines of a text that was read acted, and wrote this.
+pub record IsOver (s : Running) (text done : List ℕ) (state : Option World) : Type 0 where
+  pub small : length text ≤ LONGEST_SCRIPT
+  pub goes : Goes None (lines_of text) done state
+  pub stands : StandsAt s.pair state
+
+-- what reading and running one line leaves; true says that the input may go on
+abbrev pub RunsOn : Type 0 → Result Bool ScriptFault → Running → List ℕ → List ℕ → Type 0
+RunsOn end (Ok true) s text done = (lines : List (List ℕ)) × (state : Option World) × IsSoFar s text done lines state
+RunsOn end (Ok false) s text done = end × ((state : Option World) × IsOver s text done state)
+RunsOn end (Err fault) s text done = IsAnswered end (Err fault) text done
