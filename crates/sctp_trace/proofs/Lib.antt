@@ -1,3 +1,4 @@
 mod EndLemmas
 mod BagLemmas
 mod RunLemmas
+mod ScriptSafety
