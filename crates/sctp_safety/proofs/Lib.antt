@@ -28,3 +28,7 @@ mod WorldBuild
 mod WorldDeliver
 mod WorldSteps
 mod Example
+mod TotalReceiver
+mod TotalTaken
+mod TotalBuild
+mod TotalSteps

@@ -14,4 +14,6 @@ pub use exact::{
 };
 pub use laws::{skip_law, whole_law};
 pub use safety::{orderly_over_every_run, safe_over_every_run};
-pub use worlds::{a_message_arrives, safe_in_every_run, safe_in_every_world};
+pub use worlds::{
+    a_message_arrives, every_event_is_answered, safe_in_every_run, safe_in_every_world,
+};
