@@ -7,14 +7,14 @@ use Rattle.sctp_trace.specs.Script.{Does, Goes}
 use Rattle.sctp_trace.proofs.RunLemmas.{run-push, last-push}
 
 -- a script's state: before the pair, or a world that can be reached
-abbrev IsReached : Option World → Type 0
+abbrev pub IsReached : Option World → Type 0
 IsReached None = Unit {0}
 IsReached (Some w) = IsReachable w
 
-at_start : (c : Configuration) → IsReachable (start c)
+pub at_start : (c : Configuration) → IsReachable (start c)
 at_start c = record { configuration = c; events = []; answers = []; worlds = []; run = tt; here = refl }
 
-one_step : (w x : World) (e : Event) (o : Outcome) → IsReachable w → Step w e (Some o) x → IsReachable x
+pub one_step : (w x : World) (e : Event) (o : Outcome) → IsReachable w → Step w e (Some o) x → IsReachable x
 one_step w x e o r step = record {
   configuration = r.configuration;
   events = r.events ++ e ∷ [];
@@ -31,7 +31,7 @@ one_line state (Acts e) written after r (w, x, o, was, step, line, is) =
     subst IsReached (sym is) (one_step w x e o (subst IsReached was r) step)
 one_line state (Fault fault) written after r does = absurd does
 
-all_lines : (state : Option World) (lines : List (List ℕ)) (written : List ℕ) (after : Option World) → IsReached state → Goes state lines written after → IsReached after
+pub all_lines : (state : Option World) (lines : List (List ℕ)) (written : List ℕ) (after : Option World) → IsReached state → Goes state lines written after → IsReached after
 all_lines state [] written after r goes = subst IsReached (sym goes.1) r
 all_lines state (line ∷ lines) written after r (here, behind, mid, (m, says, does), rest, whole) =
     all_lines mid lines behind after (one_line state m here mid r does) rest
