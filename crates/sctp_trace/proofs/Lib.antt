@@ -2,3 +2,5 @@ mod EndLemmas
 mod BagLemmas
 mod RunLemmas
 mod ScriptLemmas
+mod ScriptSafety
+mod ScriptLines

@@ -5,9 +5,11 @@ mod end;
 mod end_report;
 mod pair;
 mod script;
+mod script_laws;
 
 pub use pair::Pair;
 pub use script::{ScriptFault, run_script};
+pub use script_laws::{every_script_is_safe, lines_are_there};
 pub use sctp_script::{
     Bytes, ConfigFault, Draw, Event, Failed, FromRead, LineFault, Mode, Outcome, PairConfig,
     SendRefusal, Side, Sink, Source, ToWrite,

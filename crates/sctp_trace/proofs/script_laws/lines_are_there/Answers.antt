@@ -1,0 +1,13 @@
+use Rattle.sctp_trace.proofs.ScriptLines.{lines_behind}
+use Rattle.sctp_trace.proofs.script_laws.lines_are_there.Goals as goal
+
+pub returns : goal.returns
+returns c = λ text front rest written state is.
+    let there = lines_behind (record {
+      one_meaning = c.one_meaning.ensures;
+      events_follow = c.events_follow_the_pair.ensures;
+      splits = c.lines_in_one_way.ensures.split;
+      lines = c.lines_in_one_way.ensures.exist;
+      answered = c.every_event_is_answered.ensures.event;
+    }) text front rest written state is in
+    (there.lines, there.more, there.are, there.begins)
