@@ -7,6 +7,8 @@ use sctp_script::{Sink, Source, write_all};
 use sctp_wire::NoMemory;
 use std::alloc::Global;
 
+/// The name of the program in what is said of its words.
+const PROGRAM: &str = "sctp-trace";
 /// The exit status of a script that was run whole.
 const DONE: u8 = 0;
 /// The exit status of words that are no form of the program's.
@@ -55,7 +57,8 @@ fn objection(alloc: Global, words: &[String]) -> Result<Option<String>, NoMemory
 fn parse(alloc: Global, words: &[String]) -> Result<(), Error> {
     let run = Command::new(alloc, "run")
         .about("Runs the script on standard input; outcomes and report go to standard output");
-    let program = Command::new(alloc, "sctp-trace")
+    let program = Command::new(alloc, PROGRAM)
+        .bin_name(PROGRAM)?
         .about("Runs scripts over the two ends of an association")
         .subcommand_required(true)
         .subcommand(run)?;
