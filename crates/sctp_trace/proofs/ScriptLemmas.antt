@@ -14,9 +14,8 @@ use Rattle.sctp_script.specs.declared.line.LineFault.{LineFault}
 use Rattle.sctp_script.specs.declared.line.LineFault.TheVariants.{TooLong, PairOrder}
 use Rattle.sctp_script.specs.declared.line_reader.ReadFault.{ReadFault}
 use Rattle.sctp_script.specs.declared.line_reader.ReadFault.TheVariants as read
-use Rattle.sctp_script.specs.declared.line_reader.TheConstants.{LINE_FEED, LONGEST_LINE, LONGEST_SCRIPT}
 use Rattle.sctp_script.specs.Lines.{LineMeaning, Silent, Pairs, Acts, Fault, Says, IsFirstFaultOf}
-use Rattle.sctp_script.specs.LinesRead.{Reading, HasGiven, IsOneLine, IsTooLong, is_line_feed, ended, joined, lines_of, first_length, first_end}
+use Rattle.sctp_script.specs.LinesRead.{LONGEST_LINE, LONGEST_SCRIPT, Reading, HasGiven, IsOneLine, IsTooLong, is_line_feed, ended, joined, lines_of, first_length, first_end}
 use Rattle.sctp_script.specs.OutcomeLines.{outcome_line}
 use Rattle.sctp_script.specs.Events.{Answers, event_said}
 use Rattle.sctp_script.specs.LineAnswers.{given_by, IsAnswer, GivesOn}
@@ -31,6 +30,7 @@ use Rattle.sctp_script.specs.declared.line_reader.NextLine.TheVariants as next
 use Rattle.sctp_script.specs.declared.line_reader.NextLine.TheVariants.{Ended, Last, End}
 use Rattle.sctp_script.specs.declared.event.Outcome.{Outcome}
 use Rattle.sctp_script.specs.ReportText.{report}
+use Rattle.sctp_script.specs.SpacedWords.{LF}
 use Rattle.sctp_trace.specs.declared.pair.Pair.{Pair}
 use Rattle.sctp_trace.specs.declared.script.Running.{Running}
 use Rattle.sctp_trace.specs.declared.script.ScriptFault.{ScriptFault}
@@ -117,10 +117,10 @@ length_at : (m n : ℕ) (b : Bool) → b ≡ false → m ≡ n → cond (not b) 
 length_at m n true is e = cc
 length_at m n false is e = omega (arith, e)
 
-pub first_length-ended : (line tail : List ℕ) → IsOneLine line → first_length (line ++ LINE_FEED ∷ tail) ≡ length line
+pub first_length-ended : (line tail : List ℕ) → IsOneLine line → first_length (line ++ LF ∷ tail) ≡ length line
 first_length-ended [] tail one = refl
 first_length-ended (byte ∷ line) tail one =
-    length_at (first_length (line ++ LINE_FEED ∷ tail)) (length line) (is_line_feed byte) (All-head (λ b. is_line_feed b ≡ false) byte line one) (first_length-ended line tail (All-tail (λ b. is_line_feed b ≡ false) byte line one))
+    length_at (first_length (line ++ LF ∷ tail)) (length line) (is_line_feed byte) (All-head (λ b. is_line_feed b ≡ false) byte line one) (first_length-ended line tail (All-tail (λ b. is_line_feed b ≡ false) byte line one))
 
 pub first_length-last : (line : List ℕ) → IsOneLine line → first_length line ≡ length line
 first_length-last [] one = refl
@@ -228,7 +228,7 @@ pub ended_come : (s : Running) (text done : List ℕ) (lines : List (List ℕ)) 
     → Got s text done lines state bytes (Ended line) now → HasCome s text done lines state bytes (ended line.items ++ now.held) line.items
 ended_come s text done lines state bytes line now got =
     let first : first_length (ended line.items ++ now.held) ≡ length line.items =
-    ap first_length (append_assoc line.items (LINE_FEED ∷ []) now.held) ∙ first_length-ended line.items now.held got.is.0 in
+    ap first_length (append_assoc line.items (LF ∷ []) now.held) ∙ first_length-ended line.items now.held got.is.0 in
     record {
       so = got.so;
       small = got.small;
@@ -236,7 +236,7 @@ ended_come s text done lines state bytes line now got =
       one = got.is.0;
       short = λ long. elim long [
         | inl h ↦ omega (arith, h, first, got.is.1)
-        | inr h ↦ omega (arith, h, first, got.count, got.so.given.count, got.is.2, length-append line.items (LINE_FEED ∷ []))
+        | inr h ↦ omega (arith, h, first, got.count, got.so.given.count, got.is.2, length-append line.items (LF ∷ []))
       ];
     }
 
@@ -298,7 +298,7 @@ end_over s t text done lines state bytes now got stands = record {
 pub lines_within : (lines : List (List ℕ)) → length lines ≤ length (joined lines)
 lines_within [] = omega arith
 lines_within (line ∷ lines) =
-    omega (arith, lines_within lines, length-append (ended line) (joined lines), length-append line (LINE_FEED ∷ []))
+    omega (arith, lines_within lines, length-append (ended line) (joined lines), length-append line (LF ∷ []))
 
 -- no line came
 pub unread : (end : Type 0) (fault : ReadFault) (text written : List ℕ) → BeginsLines text written → IsAnswered end (Err (fault_of fault)) text written

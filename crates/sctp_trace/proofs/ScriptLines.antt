@@ -6,13 +6,13 @@ use Rattle.std.proofs.lemmas.List.Elements.{All-nil, All-cons, All-head, All-tai
 use Rattle.sctp_model.specs.World.{World, Event, Step, IsReachable, start}
 use Rattle.sctp_safety.specs.Answered.{EventsAreAnswered}
 use Rattle.sctp_script.specs.declared.line.LineFault.TheVariants.{TooLong}
-use Rattle.sctp_script.specs.declared.line_reader.TheConstants.{LINE_FEED, LONGEST_LINE, LONGEST_SCRIPT}
 use Rattle.sctp_script.specs.GrammarLaws.{SaysOneThing}
 use Rattle.sctp_script.specs.Lines.{LineMeaning, Silent, Pairs, Acts, Fault, Says}
 use Rattle.sctp_script.specs.LineLaws.{SplitInOneWay}
 use Rattle.sctp_script.specs.LineLaws as split
-use Rattle.sctp_script.specs.LinesRead.{IsOneLine, IsTooLong, ended, joined, ended_lines_of, first_length, first_end}
+use Rattle.sctp_script.specs.LinesRead.{LONGEST_LINE, LONGEST_SCRIPT, IsOneLine, IsTooLong, ended, joined, ended_lines_of, first_length, first_end}
 use Rattle.sctp_script.specs.OutcomeLines.{outcome_line}
+use Rattle.sctp_script.specs.SpacedWords.{LF}
 use Rattle.sctp_trace.specs.Script.{is_paired, Does, LineActs, Goes, HasFirstFault, IsFront, Stops, IsLines}
 use Rattle.sctp_trace.proofs.ScriptLemmas.{first_length-ended, front_goes_on}
 use Rattle.sctp_trace.proofs.ScriptSafety.{IsReached, at_start, one_step, all_lines}
@@ -101,10 +101,10 @@ go_on laws (l ∷ ls) state given rest tail reached each one whole small =
     begins = whole ∙ append_assoc (ended l) (joined ls) tail
 
     size : length (ended l) ≡ length l + 1
-    size = length-append l (LINE_FEED ∷ [])
+    size = length-append l (LF ∷ [])
 
     first : first_length rest ≡ length l
-    first = ap first_length (begins ∙ append_assoc l (LINE_FEED ∷ []) (joined ls ++ tail)) ∙ first_length-ended l (joined ls ++ tail) here
+    first = ap first_length (begins ∙ append_assoc l (LF ∷ []) (joined ls ++ tail)) ∙ first_length-ended l (joined ls ++ tail) here
 
     within : (IsTooLong given rest → ⊥) → given + length (ended l) ≤ LONGEST_SCRIPT
     within short = go (cases_lt LONGEST_SCRIPT (given + length (ended l)))

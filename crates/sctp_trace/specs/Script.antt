@@ -5,9 +5,8 @@ use Rattle.std.specs.List.{All}
 use Rattle.sctp_model.specs.World.{World, Outcome, start, Step}
 use Rattle.sctp_script.specs.declared.line.LineFault.{LineFault}
 use Rattle.sctp_script.specs.declared.line.LineFault.TheVariants.{TooLong, PairOrder}
-use Rattle.sctp_script.specs.declared.line_reader.TheConstants.{LONGEST_SCRIPT}
 use Rattle.sctp_script.specs.Lines.{LineMeaning, Silent, Pairs, Acts, Fault, Says, IsFirstFaultOf}
-use Rattle.sctp_script.specs.LinesRead.{IsOneLine, IsTooLong, ended, joined, lines_of, ended_lines_of}
+use Rattle.sctp_script.specs.LinesRead.{LONGEST_SCRIPT, IsOneLine, IsTooLong, ended, joined, lines_of, ended_lines_of}
 use Rattle.sctp_script.specs.OutcomeLines.{outcome_line}
 use Rattle.sctp_script.specs.ReportText.{report}
 use Rattle.sctp_trace.specs.declared.script.ScriptFault.{ScriptFault}

@@ -3,11 +3,10 @@ use Rattle.std.specs.Prelude.{◌≡◌, ℕ, suc, ◌≤◌, Bool, true, false,
 use Rattle.sctp_model.specs.World.{World}
 use Rattle.sctp_script.specs.declared.line.LineFault.{LineFault}
 use Rattle.sctp_script.specs.declared.line.LineFault.TheVariants.{PairOrder}
-use Rattle.sctp_script.specs.declared.line_reader.TheConstants.{LONGEST_SCRIPT}
 use Rattle.sctp_script.specs.declared.line_reader.ReadFault.{ReadFault}
 use Rattle.sctp_script.specs.declared.line_reader.ReadFault.TheVariants as read
 use Rattle.sctp_script.specs.Lines.{IsFirstFaultOf}
-use Rattle.sctp_script.specs.LinesRead.{HasGiven, lines_of}
+use Rattle.sctp_script.specs.LinesRead.{LONGEST_SCRIPT, HasGiven, lines_of}
 use Rattle.sctp_script.specs.ReportText.{report}
 use Rattle.sctp_trace.specs.declared.pair.Pair.{Pair}
 use Rattle.sctp_trace.specs.declared.script.Running.{Running}

@@ -6,6 +6,7 @@ mod end_report;
 mod pair;
 mod script;
 mod script_laws;
+mod words;
 
 pub use pair::Pair;
 pub use script::{ScriptFault, run_script};
@@ -14,6 +15,4 @@ pub use sctp_script::{
     Bytes, ConfigFault, Draw, Event, Failed, FromRead, LineFault, Mode, Outcome, PairConfig,
     SendRefusal, Side, Sink, Source, ToWrite,
 };
-
-#[cfg(test)]
-mod tests;
+pub use words::run_words;

@@ -4,8 +4,8 @@ ghost use Rattle.std.specs.Prelude.{◌≡◌, ℕ, suc, true, ◌+◌, ◌-◌,
 ghost use Rattle.sctp_model.specs.World as world;
 ghost use Rattle.sctp_model.specs.World.{World};
 ghost use Rattle.sctp_script.specs.Events.{Answers};
-ghost use Rattle.sctp_script.specs.declared.line_reader.TheConstants.{LONGEST_SCRIPT};
 ghost use Rattle.sctp_script.specs.OutcomeLines.{outcome_line};
+ghost use Rattle.sctp_script.specs.LinesRead.{LONGEST_SCRIPT};
 ghost use Rattle.sctp_trace.specs.Script.{IsAnswered, failed_reads, failed_writes};
 ghost use Rattle.sctp_trace.specs.ScriptSteps.{StandsAt, IsWrittenOf, LineLeaves, Closes, IsSoFar, RunsOn, fault_of};
 

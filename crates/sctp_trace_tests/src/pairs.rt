@@ -1,6 +1,6 @@
 //! One message over, line by line, with its report, and the limits at an end.
 
-use crate::{Bytes, Draw, Event, Mode, Outcome, Pair, PairConfig, SendRefusal, Side};
+use sctp_trace::{Bytes, Draw, Event, Mode, Outcome, Pair, PairConfig, SendRefusal, Side};
 use std::alloc::Global;
 use std::test::Fail;
 

@@ -1,0 +1,50 @@
+-- How the program ends by its words: the exit status, and what was read, written and said of faults.
+use Rattle.std.specs.Prelude.{◌≡◌, ℕ, ◌⊎◌, true, List, [], ◌++◌, Result, Ok, Err, codes, decimal}
+use Rattle.clap.specs.Simple.{App, Shape, new_shape, with_subcommand}
+use Rattle.clap.specs.Faults.{fault_of}
+use Rattle.sctp_script.specs.Lines.{kind_of}
+use Rattle.sctp_script.specs.declared.line.LineFault.{LineFault}
+use Rattle.sctp_trace.specs.Script.{IsAnswered}
+use Rattle.sctp_trace.specs.declared.script.ScriptFault.{ScriptFault}
+use Rattle.sctp_trace.specs.declared.script.ScriptFault.TheVariants.{Read, Write, NoMemory, Line}
+
+-- the program as clap sees it: a subcommand is required, and `run` is the one there is
+abbrev pub commands : App
+commands = with_subcommand (record {
+  top = record (new_shape (codes "sctp-trace")) { subcommand_required = true };
+  subs = [];
+}) (new_shape (codes "run"))
+
+-- the words, the program's own name first, are a form: clap finds no fault in them
+abbrev pub IsForm : List (List ℕ) → Type 0
+IsForm words = fault_of commands words ≡ []
+
+-- what is said of the first line with a fault
+abbrev pub refused_line : ℕ → LineFault → List ℕ
+refused_line number fault = codes "line " ++ decimal number ++ codes ": " ++ decimal (kind_of fault) ++ codes "\n"
+
+-- what was said is a beginning of a text
+abbrev pub Begins : List ℕ → List ℕ → Type 0
+Begins said text = (more : List ℕ) × (text ≡ said ++ more)
+
+-- The exit status of a script that ended so, and what was said. A refused line is said whole, or the status is that of a failure.
+abbrev pub Tells : Result (Unit {0}) ScriptFault → ℕ → List ℕ → Type 0
+Tells (Ok _) status said = (status ≡ 0) × (said ≡ [])
+Tells (Err Read) status said = (status ≡ 3) × (said ≡ [])
+Tells (Err Write) status said = (status ≡ 3) × (said ≡ [])
+Tells (Err NoMemory) status said = (status ≡ 3) × (said ≡ [])
+Tells (Err (Line n fault)) status said =
+    ((status ≡ 2) × (said ≡ refused_line n fault)) ⊎ ((status ≡ 3) × Begins said (refused_line n fault))
+
+-- a script was run: how it ended, and what was told of that; `end` says that all input was read
+abbrev pub Runs : Type 0 → ℕ → List ℕ → List ℕ → List ℕ → Type 0
+Runs end status read written said =
+    (ended : Result (Unit {0}) ScriptFault) × IsAnswered end ended read written × Tells ended status said
+
+-- Of words that are a form a script was run. Of others nothing was read or written, and the status is 1, or 3 where their text wasn't said.
+-- Where memory failed before the words were read, nothing was done.
+abbrev pub Ends : Type 0 → List (List ℕ) → ℕ → List ℕ → List ℕ → List ℕ → Type 0
+Ends end words status read written said =
+    (IsForm words × Runs end status read written said)
+    ⊎ (((¬ IsForm words) × (read ≡ []) × (written ≡ []) × ((status ≡ 1) ⊎ (status ≡ 3)))
+    ⊎ ((status ≡ 3) × (read ≡ []) × (written ≡ []) × (said ≡ [])))

@@ -1,0 +1,30 @@
+//! The program `sctp-trace`: `run_words` over the process's words and its three standard streams.
+#![tactic(auto)]
+
+use sctp_trace::{FromRead, ToWrite, run_words};
+use std::process::ExitCode;
+use std::{env, io};
+
+/// The exit status where the words can't be got for want of memory.
+const FAILED: u8 = 3;
+
+fn main(rt: HostRuntime) -> ExitCode {
+    let words: io::Result<Vec<String>> = match env::args(&rt) {
+        Ok(words) => words.collect(rt.alloc()).map_err(io::Error::from),
+        Err(error) => Err(error),
+    };
+    let mut input = FromRead::new(rt.stdin());
+    let mut output = ToWrite::new(rt.stdout());
+    let mut faults = ToWrite::new(rt.stderr());
+    match words {
+        Ok(words) => ExitCode::from(run_words(
+            rt.alloc(),
+            &words,
+            &mut input,
+            &mut output,
+            &mut faults,
+        )),
+        Err(error) if error.kind() == io::ErrorKind::InvalidData => ExitCode::FAILURE,
+        Err(_) => ExitCode::from(FAILED),
+    }
+}
