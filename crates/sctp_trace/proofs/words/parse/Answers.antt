@@ -16,11 +16,11 @@ returns-in_err-try_get_matches_from c =
     let required = ap app_of_fields c.subcommand_required.ensures in
     let about = ap app_of_fields c.about.ensures in
     let top : app_of c.subcommand_required.result ≡ on_top (λ s. record s { subcommand_required = true }) (new_app (codes "sctp-trace")) =
-        required ∙ ap (on_top (λ s. record s { subcommand_required = true })) (about ∙ named ∙ c.new-2.ensures.app) in
+    required ∙ ap (on_top (λ s. record s { subcommand_required = true })) (about ∙ named ∙ c.new-2.ensures.app) in
     let all : app_of c.in_ok-program.program ≡ commands = c.in_ok-program.ensures.shape (search rules)
     ∙ ap₂ with_subcommand top (ap (λ (a : App). a.top) run) in
     let failed = subst (λ (a : App). HasKind (fault_of a (map string_bytes c.args.words.now)) c.in_err-try_get_matches_from.field-0.0) all
-        (c.in_err-try_get_matches_from.ensures.kinds (ap is_simple_and_free all ∙ is_free)) in
+    (c.in_err-try_get_matches_from.ensures.kinds (ap is_simple_and_free all ∙ is_free)) in
     search (rules, failed)
 
 pub returns : goal.returns
@@ -30,7 +30,7 @@ returns c =
     let required = ap app_of_fields c.subcommand_required.ensures in
     let about = ap app_of_fields c.about.ensures in
     let top : app_of c.subcommand_required.result ≡ on_top (λ s. record s { subcommand_required = true }) (new_app (codes "sctp-trace")) =
-        required ∙ ap (on_top (λ s. record s { subcommand_required = true })) (about ∙ named ∙ c.new-2.ensures.app) in
+    required ∙ ap (on_top (λ s. record s { subcommand_required = true })) (about ∙ named ∙ c.new-2.ensures.app) in
     let all : app_of c.in_ok-program.program ≡ commands = c.in_ok-program.ensures.shape (search rules)
     ∙ ap₂ with_subcommand top (ap (λ (a : App). a.top) run) in
     ap (λ (a : App). fault_of a (map string_bytes c.args.words.now)) (sym all) ∙ c.in_ok-try_get_matches_from.ensures.kinds (ap is_simple_and_free all ∙ is_free)

@@ -21,8 +21,15 @@ returns-in-Ok-format-clause-runs g c =
     let line : c.as_str.result.now ≡ refused_line c.in-Err-Line.number c.in-Err-Line.fault = grind (arith, common_steps) in
     elim c.tell.ensures [
       | inl told ↦ (ran.0, ran.1, c.as_str.result.now, ran.2, ran.3, told.1, (Err (Line c.in-Err-Line.number c.in-Err-Line.fault), answer, inl (told.0, line)))
-      | inr failed ↦ (ran.0, ran.1, failed.1.0, ran.2, ran.3, failed.1.1,
-          (Err (Line c.in-Err-Line.number c.in-Err-Line.fault), answer, inr (failed.0, subst (Begins failed.1.0) line failed.1.2)))
+      | inr failed ↦ (
+        ran.0,
+        ran.1,
+        failed.1.0,
+        ran.2,
+        ran.3,
+        failed.1.1,
+        (Err (Line c.in-Err-Line.number c.in-Err-Line.fault), answer, inr (failed.0, subst (Begins failed.1.0) line failed.1.2)),
+      )
     ]
 
 -- there was no room for the line
