@@ -27,7 +27,7 @@ returns-in-Some c = λ w stands.
     let s = side_said c.args.side in
     let v = end_of w s in
     let opened : is_established (state_said c.args.end.now.state) ≡ true = grind (arith, common_steps) in
-    let reason = c.in-Some.ensures v.sender c.args.bytes.now stands.sender refl in (
+    let reason = c.in-Some.ensures.answer v.sender c.args.bytes.now stands.sender refl in (
       Some (world.SendRefused reason.0),
       v,
       refused_told c.refused.result c.in-Some.fault reason.0 c.refused.ensures reason.1,
