@@ -205,3 +205,6 @@ fn read_fault(fault: ReadFault) -> ScriptFault
         ReadFault::NoMemory => ScriptFault::NoMemory,
     }
 }
+
+#[cfg(test)]
+mod tests;
