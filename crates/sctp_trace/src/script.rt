@@ -205,6 +205,3 @@ fn read_fault(fault: ReadFault) -> ScriptFault
         ReadFault::NoMemory => ScriptFault::NoMemory,
     }
 }
-
-#[cfg(test)]
-mod tests;
