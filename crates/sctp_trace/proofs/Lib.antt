@@ -4,3 +4,4 @@ mod RunLemmas
 mod ScriptLemmas
 mod ScriptSafety
 mod ScriptLines
+mod ScriptAnswers

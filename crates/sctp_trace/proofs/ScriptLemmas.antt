@@ -37,8 +37,8 @@ use Rattle.sctp_trace.specs.declared.script.ScriptFault.{ScriptFault}
 use Rattle.sctp_trace.specs.declared.script.ScriptFault.TheVariants.{Read, Write, NoMemory, Line}
 use Rattle.sctp_trace.specs.PairStands.{PairStands}
 use Rattle.sctp_trace.specs.PairRuns.{Told}
-use Rattle.sctp_trace.specs.Script.{is_paired, Does, LineActs, Goes, IsOutput, IsFront, HasNoPair, HasFirstFault, FaultsFirst, IsLines, BeginsLines, BeginsOutput, IsAnswered}
-use Rattle.sctp_trace.specs.ScriptSteps.{StandsAt, IsWrittenOf, LineLeaves, Closes, IsSoFar, IsOver, fault_of}
+use Rattle.sctp_trace.specs.Script.{is_paired, Does, LineActs, Goes, IsOutput, IsFront, HasNoPair, HasFirstFault, FaultsFirst, BeginsOutput}
+use Rattle.sctp_trace.specs.ScriptSteps.{StandsAt, IsWrittenOf, LineLeaves, Closes, IsSoFar, IsOver, fault_of, BeginsFront, EndsAs}
 
 -- ---- lines one after another
 
@@ -72,11 +72,7 @@ goes_none (l ∷ lines) state after done goes e =
     let first = none_does goes.3.0 state goes.2 goes.0 goes.3.2 behind.0 in
     (first.0, goes.5 ∙ ap (λ (bytes : List ℕ). bytes ++ goes.1) first.1 ∙ behind.1)
 
--- ---- how LINES and the beginnings fit
-
--- LINES begins itself
-pub lines_begin : (text written : List ℕ) → IsLines text written → BeginsLines text written
-lines_begin text written lines = (lines.0, lines.1, written, [], lines.2, lines.3, sym (append-nil written))
+-- ---- first lines that go on
 
 -- lines that go on behind first lines write more behind what those wrote
 pub front_goes_on : (text : List ℕ) (front more : List (List ℕ)) (rest behind done further : List ℕ) (state after : Option World)
@@ -165,7 +161,7 @@ line_faulty end s text done lines state bytes rest line here n fault come begins
 
 -- memory was wanting
 pub line_unmade : (s : Running) (text done : List ℕ) (lines : List (List ℕ)) (state : Option World) (bytes rest here : List ℕ)
-    → IsSoFar s text done lines state → s.lines.given ≤ LONGEST_SCRIPT → s.lines.held ++ bytes ≡ rest → here ≡ [] → BeginsLines (text ++ bytes) (done ++ here)
+    → IsSoFar s text done lines state → s.lines.given ≤ LONGEST_SCRIPT → s.lines.held ++ bytes ≡ rest → here ≡ [] → BeginsFront (text ++ bytes) (done ++ here)
 line_unmade s text done lines state bytes rest here so small on none =
     let same : done ++ here ≡ done = ap (λ (more : List ℕ). done ++ more) none ∙ append-nil done in
     rw same (lines, rest, done, [], state, front_of s text done lines state bytes rest so small on, sym (append-nil done))
@@ -173,7 +169,7 @@ line_unmade s text done lines state bytes rest here so small on none =
 -- a line that a line feed ends stops the script
 pub ended_stops : (end : Type 0) (fault : ScriptFault) (s : Running) (now : Reading) (text done : List ℕ) (lines : List (List ℕ)) (state : Option World) (bytes line here : List ℕ) (pair : Option Pair)
     → HasCome s text done lines state bytes (ended line ++ now.held) line → HasGiven (text ++ bytes) (lines ++ line ∷ []) now → now.given ≤ LONGEST_SCRIPT
-    → LineLeaves (Err fault) s.number state line here pair → IsAnswered end (Err fault) (text ++ bytes) (done ++ here)
+    → LineLeaves (Err fault) s.number state line here pair → EndsAs end (Err fault) (text ++ bytes) (done ++ here)
 ended_stops end Read s now text done lines state bytes line here pair come given small leaves = absurd leaves
 ended_stops end Write s now text done lines state bytes line here pair come given small leaves =
     let whole = leaves.0 in
@@ -200,7 +196,7 @@ ended_stops end (Line n fault) s now text done lines state bytes line here pair 
 -- a last line stops the script
 pub last_stops : (end : Type 0) (fault : ScriptFault) (s : Running) (text done : List ℕ) (lines : List (List ℕ)) (state : Option World) (bytes line here : List ℕ) (pair : Option Pair)
     → end → HasCome s text done lines state bytes line line → 0 < length line → length (text ++ bytes) ≤ LONGEST_SCRIPT → lines_of (text ++ bytes) ≡ lines ++ line ∷ []
-    → LineLeaves (Err fault) s.number state line here pair → IsAnswered end (Err fault) (text ++ bytes) (done ++ here)
+    → LineLeaves (Err fault) s.number state line here pair → EndsAs end (Err fault) (text ++ bytes) (done ++ here)
 last_stops end Read s text done lines state bytes line here pair e come some small all leaves = absurd leaves
 last_stops end Write s text done lines state bytes line here pair e come some small all leaves =
     let whole = leaves.0 in
@@ -301,14 +297,14 @@ lines_within (line ∷ lines) =
     omega (arith, lines_within lines, length-append (ended line) (joined lines), length-append line (LF ∷ []))
 
 -- no line came
-pub unread : (end : Type 0) (fault : ReadFault) (text written : List ℕ) → BeginsLines text written → IsAnswered end (Err (fault_of fault)) text written
+pub unread : (end : Type 0) (fault : ReadFault) (text written : List ℕ) → BeginsFront text written → EndsAs end (Err (fault_of fault)) text written
 unread end read.Failed text written begins = begins
 unread end read.NoMemory text written begins = inl begins
 
 -- ---- the end
 
 pub closed : (end : Type 0) (result : Result (Unit {0}) ScriptFault) (s : Running) (text done : List ℕ) (state : Option World) (here : List ℕ)
-    → end → IsOver s text done state → Closes result state here → IsAnswered end result text (done ++ here)
+    → end → IsOver s text done state → Closes result state here → EndsAs end result text (done ++ here)
 closed end (Ok a) s text done state here e over close = (
   e,
   record {

@@ -97,11 +97,9 @@ IsLines text written =
     (front : List (List ℕ)) × (rest : List ℕ) × (state : Option World) × IsFront text front rest written state
     × Stops state (length (joined front)) rest
 
--- A beginning of LINES: of what first lines write. Lines that go on from there write more behind it (`front_goes_on` of ScriptLemmas).
+-- a beginning of LINES
 abbrev pub BeginsLines : List ℕ → List ℕ → Type 0
-BeginsLines text written =
-    (front : List (List ℕ)) × (rest outcomes more : List ℕ) × (state : Option World) × IsFront text front rest outcomes state
-    × (outcomes ≡ written ++ more)
+BeginsLines text written = (lines more : List ℕ) × IsLines text lines × (lines ≡ written ++ more)
 
 -- a beginning of OUTPUT
 abbrev pub BeginsOutput : List ℕ → List ℕ → Type 0

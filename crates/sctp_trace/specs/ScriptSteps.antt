@@ -1,5 +1,5 @@
 -- How far a script has been run, and what one line, its outcome and the report leave.
-use Rattle.std.specs.Prelude.{◌≡◌, ℕ, suc, ◌≤◌, Bool, true, false, List, [], ◌++◌, length, Option, Some, None, Result, Ok, Err}
+use Rattle.std.specs.Prelude.{◌≡◌, ℕ, suc, ◌≤◌, ◌⊎◌, Bool, true, false, List, [], ◌++◌, length, Option, Some, None, Result, Ok, Err}
 use Rattle.sctp_model.specs.World.{World}
 use Rattle.sctp_script.specs.declared.line.LineFault.{LineFault}
 use Rattle.sctp_script.specs.declared.line.LineFault.TheVariants.{PairOrder}
@@ -13,7 +13,7 @@ use Rattle.sctp_trace.specs.declared.script.Running.{Running}
 use Rattle.sctp_trace.specs.declared.script.ScriptFault.{ScriptFault}
 use Rattle.sctp_trace.specs.declared.script.ScriptFault.TheVariants.{Read, Write, NoMemory, Line}
 use Rattle.sctp_trace.specs.PairStands.{PairStands}
-use Rattle.sctp_trace.specs.Script.{is_paired, LineActs, Goes, IsAnswered}
+use Rattle.sctp_trace.specs.Script.{is_paired, LineActs, Goes, IsFront, IsOutput, BeginsOutput, FaultsFirst}
 
 -- the pair, if there is one, stands for the state
 abbrev pub StandsAt : Option Pair → Option World → Type 0
@@ -64,8 +64,22 @@ pub record IsOver (s : Running) (text done : List ℕ) (state : Option World) : 
   pub goes : Goes None (lines_of text) done state
   pub stands : StandsAt s.pair state
 
+-- a beginning of what first lines write
+abbrev pub BeginsFront : List ℕ → List ℕ → Type 0
+BeginsFront text written =
+    (front : List (List ℕ)) × (rest outcomes more : List ℕ) × (state : Option World) × IsFront text front rest outcomes state
+    × (outcomes ≡ written ++ more)
+
+-- what an answer says of the bytes so far, whatever lines come behind those that acted; `end` says that all input was read
+abbrev pub EndsAs : Type 0 → Result (Unit {0}) ScriptFault → List ℕ → List ℕ → Type 0
+EndsAs end (Ok _) read written = end × IsOutput read written
+EndsAs end (Err Read) read written = BeginsFront read written
+EndsAs end (Err Write) read written = BeginsFront read written ⊎ (end × BeginsOutput read written)
+EndsAs end (Err NoMemory) read written = BeginsFront read written ⊎ (end × BeginsOutput read written)
+EndsAs end (Err (Line n fault)) read written = FaultsFirst end read n fault written
+
 -- what reading and running one line leaves; true says that the input may go on
 abbrev pub RunsOn : Type 0 → Result Bool ScriptFault → Running → List ℕ → List ℕ → Type 0
 RunsOn end (Ok true) s text done = (lines : List (List ℕ)) × (state : Option World) × IsSoFar s text done lines state
 RunsOn end (Ok false) s text done = end × ((state : Option World) × IsOver s text done state)
-RunsOn end (Err fault) s text done = IsAnswered end (Err fault) text done
+RunsOn end (Err fault) s text done = EndsAs end (Err fault) text done

@@ -10,6 +10,7 @@ ghost use Rattle.sctp_trace.specs.Script.{IsAnswered, failed_reads, failed_write
 ghost use Rattle.sctp_trace.specs.ScriptSteps.{StandsAt, IsWrittenOf, LineLeaves, Closes, IsSoFar, RunsOn, fault_of};
 
 use crate::pair::Pair;
+use crate::script_laws::lines_are_there;
 use sctp_script::{
     Acting, Failed, LineError, LineFault, LineReader, NextLine, Outcome, ReadFault, Sink, Source,
     events_follow_the_pair, line_after_line, put_outcome, read_line, write_all,
@@ -53,6 +54,8 @@ pub fn run_script<R: Source, W: Sink>(
     ensures failed_reads { R.failures input.new ≡ R.failures input.old + failed_reads result }
     ensures failed_writes { W.failures output.new ≡ W.failures output.old + failed_writes result }
 {
+    // It does nothing: its contract is the law that what first lines write begins what all do.
+    lines_are_there();
     let mut running = Running::new(alloc);
     while running.run_line(input, output)? {}
     finish(&running.pair, output)

@@ -1,5 +1,6 @@
 use Rattle.std.proofs.Common.{◌≡◌, ◌++◌, Err, arith}
 use Rattle.std.proofs.lemmas.Grind.{common_steps}
+use Rattle.sctp_trace.proofs.ScriptAnswers.{answered}
 use Rattle.sctp_trace.proofs.ScriptLemmas.{lines_within, closed}
 use Rattle.sctp_trace.proofs.script.run_script.Goals as goal
 
@@ -17,7 +18,7 @@ returns-in_err-run_line-clause-answer g c =
       so.1 ++ ran.1,
       g.met.R.Source.reads_more _ _ _ _ _ so.4 ran.2,
       g.met.W.Sink.writes_more _ _ _ _ _ so.5 ran.3,
-      rw same ran.4,
+      rw same (answered c.lines_are_there.ensures _ (Err c.in_err-run_line.field-0.0) (so.0 ++ ran.0) (so.1 ++ ran.1) ran.4),
     )
 
 pub loop-running-preserved : goal.loop-running-preserved
@@ -51,5 +52,6 @@ returns-clause-answer g c =
       (so.1 ++ ran.1) ++ close.0,
       g.met.R.Source.reads_more _ _ _ _ _ so.4 ran.2,
       g.met.W.Sink.writes_more _ _ _ _ _ (g.met.W.Sink.writes_more _ _ _ _ _ so.5 ran.3) close.1,
-      closed _ c.finish.result c.run_line.new.self (so.0 ++ ran.0) (so.1 ++ ran.1) over.0 close.0 last.0 over.1 close.2,
+      answered c.lines_are_there.ensures _ c.finish.result (so.0 ++ ran.0) ((so.1 ++ ran.1) ++ close.0)
+          (closed _ c.finish.result c.run_line.new.self (so.0 ++ ran.0) (so.1 ++ ran.1) over.0 close.0 last.0 over.1 close.2),
     )
