@@ -2,3 +2,4 @@ mod EndLemmas
 mod BagLemmas
 mod RunLemmas
 mod ScriptLemmas
+mod ScriptOneFault

@@ -5,9 +5,11 @@ mod end;
 mod end_report;
 mod pair;
 mod script;
+mod script_one_fault;
 
 pub use pair::Pair;
 pub use script::{ScriptFault, run_script};
+pub use script_one_fault::one_first_fault;
 pub use sctp_script::{
     Bytes, ConfigFault, Draw, Event, Failed, FromRead, LineFault, Mode, Outcome, PairConfig,
     SendRefusal, Side, Sink, Source, ToWrite,
