@@ -5,3 +5,4 @@ mod ScriptLemmas
 mod ScriptSafety
 mod ScriptLines
 mod ScriptAnswers
+mod ScriptOneFault

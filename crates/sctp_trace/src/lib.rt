@@ -10,7 +10,7 @@ mod words;
 
 pub use pair::Pair;
 pub use script::{ScriptFault, run_script};
-pub use script_laws::{every_script_is_safe, lines_are_there};
+pub use script_laws::{every_script_is_safe, lines_are_there, one_first_fault};
 pub use sctp_script::{
     Bytes, ConfigFault, Draw, Event, Failed, FromRead, LineFault, Mode, Outcome, PairConfig,
     SendRefusal, Side, Sink, Source, ToWrite,

@@ -1,5 +1,7 @@
 //! Laws of scripts. Their functions do nothing: each carries a theorem as its contract.
 
+ghost use Rattle.std.specs.Prelude.{ℕ, List};
+ghost use Rattle.sctp_trace.specs.ScriptOneFault.{HasOneFault};
 ghost use Rattle.sctp_trace.specs.ScriptSafe.{ScriptsAreSafe};
 ghost use Rattle.sctp_trace.specs.ScriptLaws.{LinesAreThere};
 
@@ -22,4 +24,11 @@ pub fn lines_are_there()
     one_meaning();
     events_follow_the_pair();
     lines_in_one_way();
+}
+
+/// Of any two first faults of a text each is the other, on the same line.
+pub fn one_first_fault()
+    ensures { (text : List ℕ) → HasOneFault text }
+{
+    one_meaning();
 }

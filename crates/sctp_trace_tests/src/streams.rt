@@ -80,7 +80,7 @@ fn where_memory_fails_a_beginning_was_written(rt: HostRuntime) -> Result<(), Fai
     let mut source = FromRead::new(TABLE.as_bytes());
     let mut rest = held.as_mut_slice();
     let ended = run_script(rt.alloc(), &mut source, &mut ToWrite::new(&mut rest));
-    let count = 256 - rest.len();
+    let count = 256usize.saturating_sub(rest.len());
     match ended {
         Ok(()) => assert_eq!(rt; count, TABLE_WRITTEN.len()),
         Err(fault) => assert_eq!(rt; fault, ScriptFault::NoMemory),
