@@ -1,5 +1,5 @@
 -- What a chunk says, without where it lies in memory: plain numbers and lists (RFC 9260, 3.2 and 3.3).
-use Rattle.std.specs.Prelude.{ℕ, Bool, List}
+use Rattle.std.specs.Prelude.{ℕ, ◌+◌, ◌-◌, ◌*◌, ◌/◌, Bool, List, length}
 
 -- A piece of user data with its place (RFC 9260, 3.3.1; RFC 8260, 2.1). The number is that of its message
 -- in the stream (SSN or MID), the word what follows it (payload protocol identifier or FSN).
@@ -31,3 +31,19 @@ pub data ChunkMeaning : Type 0 where
   Data : PieceMeaning → ChunkMeaning
   Sack : SackMeaning → ChunkMeaning
   Unknown : ℕ → ℕ → List ℕ → ChunkMeaning
+
+-- ---- sizes, in bytes
+
+-- a length filled up to a multiple of 4 (RFC 9260, 3.2)
+abbrev pub padded : ℕ → ℕ
+padded n = (n + 3) / 4 * 4
+
+-- how many bytes of padding follow a chunk, a parameter or a cause of this length
+abbrev pub padding_after : ℕ → ℕ
+padding_after n = padded n - n
+
+-- The one size of a chunk: its header and value, padded (RFC 9260, 3.2, 3.3.1 and 3.3.4).
+abbrev pub size_of_chunk : ChunkMeaning → ℕ
+size_of_chunk (Data p) = 16 + padded (length p.bytes)
+size_of_chunk (Sack s) = 16 + 4 * (length s.blocks + length s.duplicates)
+size_of_chunk (Unknown k f v) = 4 + padded (length v)

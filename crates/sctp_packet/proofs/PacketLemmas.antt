@@ -4,8 +4,8 @@ use Rattle.std.specs.Prelude.{nat_le, max, true, false}
 use Rattle.std.specs.List.{flat_map, AllByRecursion}
 use Rattle.std.proofs.lemmas.List.{append-nil, length-take, take-append-drop, nil_from_length, take-append-le, drop-append-le}
 use Rattle.std.proofs.lemmas.Grind.{common_steps, flat_map-append}
-use Rattle.sctp_model.specs.Chunk.{ChunkMeaning, Data, Sack, Unknown}
-use Rattle.sctp_model.specs.World.{HEADER_ROOM, size_of_chunk, size_of_chunks, size_of_packet}
+use Rattle.sctp_model.specs.Chunk.{ChunkMeaning, Data, Sack, Unknown, size_of_chunk}
+use Rattle.sctp_model.specs.Packet.{HEADER_ROOM, size_of_chunks, size_of_packet}
 use Rattle.sctp_wire.specs.Layouts.{Fits}
 use Rattle.sctp_wire.specs.Reading.{chunks_of, reading_of}
 use Rattle.sctp_wire.specs.Reads.{Reads}

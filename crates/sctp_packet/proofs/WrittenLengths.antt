@@ -2,8 +2,7 @@
 use Rattle.std.proofs.Common.{◌≡◌, ℕ, ◌+◌, ◌*◌, List, [], ◌∷◌, ◌++◌, length, replicate, refl, arith, length-append}
 use Rattle.std.specs.List.{flat_map}
 use Rattle.std.proofs.Math.ListN.{length-replicate}
-use Rattle.sctp_model.specs.Chunk.{PieceMeaning, BlockMeaning, SackMeaning, ChunkMeaning, Data, Sack, Unknown}
-use Rattle.sctp_model.specs.World.{size_of_chunk}
+use Rattle.sctp_model.specs.Chunk.{PieceMeaning, BlockMeaning, SackMeaning, ChunkMeaning, Data, Sack, Unknown, size_of_chunk}
 use Rattle.sctp_wire.specs.Items.{half, word, block_bytes, padded, padding_after}
 use Rattle.sctp_wire.specs.Layouts.{data_value, sack_value, value_of, chunk_length}
 use Rattle.sctp_wire.specs.Writes.{written}

@@ -1,7 +1,7 @@
 -- A packet in the making, and the bytes of one that is finished (RFC 9260, 3): a header, here of zeros, and the chunks.
 use Rattle.std.specs.Prelude.{◌≡◌, ℕ, ◌-◌, ◌<◌, ◌≤◌, Bool, nat_le, if◌then◌else◌, ◌==◌, List, ◌∷◌, [], ◌++◌, length, take, drop, replicate}
 use Rattle.sctp_model.specs.Chunk.{ChunkMeaning}
-use Rattle.sctp_model.specs.World.{HEADER_ROOM, size_of_packet}
+use Rattle.sctp_model.specs.Packet.{HEADER_ROOM, size_of_packet}
 use Rattle.sctp_wire.specs.Reading.{chunks_of}
 use Rattle.sctp_wire.specs.Reads.{Reads}
 use Rattle.sctp_wire.specs.Writes.{Writes}

@@ -1,8 +1,7 @@
 //! A packet in the making: its header, whose 12 bytes are zero as yet, and chunks for as long as they fit.
 
 ghost use Rattle.std.specs.Prelude.{◌≡◌, ◌<◌, ◌≤◌, ◌^◌, ◌⊎◌, ◌++◌, [], true, length, IfOk, OnOk, OnErr, IfSome, MatchOption};
-ghost use Rattle.sctp_model.specs.World.{size_of_chunk};
-ghost use Rattle.sctp_model.specs.Sending.{padded};
+ghost use Rattle.sctp_model.specs.Chunk.{size_of_chunk, padded};
 ghost use Rattle.sctp_wire.specs.ChunkTree.{chunk_meaning};
 ghost use Rattle.sctp_wire.specs.Layouts.{Fits};
 ghost use Rattle.sctp_wire.specs.Writes.{written};
@@ -27,7 +26,7 @@ pub struct PacketWriter {
 
 impl Model for PacketWriter {
     ghost use Rattle.std.specs.Prelude.{drop};
-    ghost use Rattle.sctp_model.specs.World.{HEADER_ROOM};
+    ghost use Rattle.sctp_model.specs.Packet.{HEADER_ROOM};
     ghost use Rattle.sctp_wire.specs.Reading.{chunks_of};
     ghost use Rattle.sctp_packet.specs.PacketBytes.{Draft, IsDraft};
 

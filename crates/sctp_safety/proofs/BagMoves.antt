@@ -1,7 +1,7 @@
 -- What the two ends put between them: chunks with data, FORWARDs, SACKs and SHUTDOWNs.
 use Rattle.std.proofs.Common.{◌≡◌, ℕ, zero, suc, ◌+◌, ◌-◌, ◌<◌, ◌≤◌, ◌⊎◌, true, false, List, [], ◌∷◌, length, slice_get, Some, inl, inr, refl, sym, subst, ap, arith}
 use Rattle.std.proofs.lemmas.Bool.{cases_eq, cases_lt, cases_Bool}
-use Rattle.sctp_model.specs.Words.{Has}
+use Rattle.sctp_model.specs.Lists.{Has}
 use Rattle.sctp_model.specs.Format.{Format, Plain, Lane, is_numbered}
 use Rattle.sctp_model.specs.Plan.{Message, Entry, Part, End, Plan, entry_at, message_at, IsOf, IsAssigned, IsComplete, IsClosed}
 use Rattle.sctp_model.specs.Pieces.{Piece, piece_of, IsFragment}

@@ -1,7 +1,7 @@
 -- What the ends really build, the moves allow.
 use Rattle.std.proofs.Common.{◌≡◌, ℕ, zero, suc, ◌+◌, ◌≤◌, ◌⊎◌, ◌&&◌, true, nat_le, List, [], ◌∷◌, inl, inr, refl, sym, subst, arith, leb-true}
 use Rattle.std.proofs.lemmas.Bool.{or_cases, and_parts}
-use Rattle.sctp_model.specs.Words.{Has}
+use Rattle.sctp_model.specs.Lists.{Has}
 use Rattle.sctp_model.specs.Forward.{StandsIn}
 use Rattle.sctp_model.specs.ReceiverView.{ReceiverView, IsReached, IsCumulative}
 use Rattle.sctp_model.specs.Acknowledgement.{Block, in_blocks, covers}

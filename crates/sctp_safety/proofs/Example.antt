@@ -1,13 +1,13 @@
 -- The worlds of the example, and why each step is one.
 use Rattle.std.proofs.Common.{Some, ◌≡◌, ◌≤◌, ◌⊎◌, true, false, [], ◌∷◌, inl, inr, refl, ap, arith}
-use Rattle.sctp_model.specs.Words.{Has, at}
+use Rattle.sctp_model.specs.Lists.{Has, at}
 use Rattle.sctp_model.specs.Format.{Plain, ordered_lane}
 use Rattle.sctp_model.specs.Pieces.{Piece}
 use Rattle.sctp_model.specs.Chunk.{PieceMeaning, Data}
 use Rattle.sctp_model.specs.ReceiverView.{ReceiverView}
 use Rattle.sctp_model.specs.Receiving.{IsWholeNumber, IsLowest, HasNoWhole, IsDue, Stop, Over, Takes, recorded, without_below}
-use Rattle.sctp_model.specs.Sending.{went_out}
-use Rattle.sctp_model.specs.World.{Ticket, Done, Message, Sent, Acted, Take, Send, Build, Deliver, Open, Step, A, B, Established, EndView, World, start, fresh_end, fresh_receiver, piece_said, IsDuplicate, Taken, Acts, Builds, with_end, with_packet, sent_by_user, taken_by_user}
+use Rattle.sctp_model.specs.first.Sending.{went_out}
+use Rattle.sctp_model.specs.first.World.{first_receiver, Ticket, Done, Message, Sent, Acted, Take, Send, Build, Deliver, Open, Step, A, B, Established, EndView, World, start, fresh_end, piece_said, IsDuplicate, Taken, Acts, Builds, with_end, with_packet, sent_by_user, taken_by_user}
 use Rattle.sctp_safety.specs.Example.{small, greeting, arrived, Arrives}
 
 -- ---- the worlds
@@ -46,7 +46,7 @@ built_world = with_packet (with_end sent_world A builder) A (Data said ∷ [])
 
 -- B's receiver when the chunk is kept, and when its message is handed over
 abbrev keeping : ReceiverView
-keeping = record (recorded (fresh_receiver small) (piece_said said)) { kept = piece_said said ∷ [] }
+keeping = record (recorded (first_receiver small) (piece_said said)) { kept = piece_said said ∷ [] }
 
 abbrev handing : ReceiverView
 handing = record keeping {
@@ -76,7 +76,7 @@ built = record {
   after = refl;
 }
 
-new : IsDuplicate (fresh_receiver small) 1 → ⊥
+new : IsDuplicate (first_receiver small) 1 → ⊥
 new (inl h) = cc h
 new (inr (c, cumulative, l)) = which (cumulative.reached 1 (omega arith) l)
   where
@@ -104,7 +104,7 @@ no_next (y ∷ ys) (row, within, (lane, number)) =
 due : IsDue Plain keeping 0 0 (arrived ∷ []) 1
 due = Over 0 1 (piece_said said) [] [] whole lowest (Stop 1 (omega arith) no_next)
 
-gives : Takes Plain (fresh_receiver small) (piece_said said) handing
+gives : Takes Plain (first_receiver small) (piece_said said) handing
 gives = (arrived ∷ [], 1, due, refl)
 
 acts : Acts built_world.b (Data said ∷ []) taker

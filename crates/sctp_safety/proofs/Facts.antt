@@ -1,6 +1,6 @@
 -- What every move keeps. Each fact is stated so that it only grows more true as plans, abandoned messages, indexes seen and numbers passed grow.
 use Rattle.std.proofs.Common.{◌≡◌, ℕ, suc, ◌-◌, ◌<◌, ◌≤◌, ◌⊎◌, true, false, List, length, Some, [], ◌∷◌}
-use Rattle.sctp_model.specs.Words.{Has}
+use Rattle.sctp_model.specs.Lists.{Has}
 use Rattle.sctp_model.specs.Format.{Format, Plain, Ordered, Unordered, Lane, is_numbered, ordered_lane}
 use Rattle.sctp_model.specs.Plan.{Message, bytes_of, Entry, Part, End, Plan, entry_at, message_at, IsOf, IsAssigned, IsComplete, IsClosed}
 use Rattle.sctp_model.specs.Pieces.{Piece, piece_of, IsFragment}

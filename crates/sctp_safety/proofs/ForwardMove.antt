@@ -1,7 +1,7 @@
 -- What a FORWARD that counts does to the receiver.
 use Rattle.std.proofs.Common.{◌≡◌, ℕ, suc, ◌<◌, ◌≤◌, ◌⊎◌, max, true, false, List, [], ◌∷◌, inl, inr, refl, sym, subst, ap, arith, le_refl}
 use Rattle.std.proofs.lemmas.Bool.{cases_lt}
-use Rattle.sctp_model.specs.Words.{Has}
+use Rattle.sctp_model.specs.Lists.{Has}
 use Rattle.sctp_model.specs.Format.{Format, Plain, Lane, is_numbered, at_lane}
 use Rattle.sctp_model.specs.SenderView.{SenderView}
 use Rattle.sctp_model.specs.Forward.{Skip, Forward, skipped}

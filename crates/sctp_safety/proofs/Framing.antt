@@ -3,7 +3,7 @@ use Rattle.std.proofs.Common.{if◌then◌else◌, ◌≡◌, ℕ, zero, suc, �
 use Rattle.std.proofs.lemmas.Bool.{cases_eq, eq-eqb, ne_eqb}
 use Rattle.std.proofs.lemmas.Bool.Decides.{nat_tests}
 use Rattle.std.proofs.lemmas.List.{drop_all}
-use Rattle.sctp_model.specs.Words.{Has, IsWithin, joined}
+use Rattle.sctp_model.specs.Lists.{Has, IsWithin, joined}
 use Rattle.sctp_model.specs.Format.{Format, Plain, Interleaved, Kind, Ordered, Unordered, Lane, is_numbered}
 use Rattle.sctp_model.specs.Plan.{Message, bytes_of, Part, Plan, entry_at, message_at, IsComplete}
 use Rattle.sctp_model.specs.Pieces.{Piece, number_of, piece_of, fragment_of, payload_of, IsFragment}

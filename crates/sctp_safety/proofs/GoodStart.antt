@@ -1,6 +1,6 @@
 -- The start is good.
 use Rattle.std.proofs.Common.{◌≡◌, ℕ, zero, suc, true, false, Bool, List, [], slice_get, Some, inr, refl, sym, subst, ap, arith}
-use Rattle.sctp_model.specs.Words.{Has, item_at}
+use Rattle.sctp_model.specs.Lists.{Has, item_at}
 use Rattle.sctp_model.specs.Format.{Lane}
 use Rattle.sctp_model.specs.Plan.{Message, Entry, Part, End, entry_at, message_at}
 use Rattle.sctp_model.specs.Pieces.{Piece}

@@ -1,6 +1,6 @@
 -- Plan, messages, abandoned ones, indexes seen and numbers passed only grow, and most facts last while they do.
 use Rattle.std.proofs.Common.{◌≡◌, ℕ, ◌≤◌, ◌⊎◌, true, List, Some, inl, inr, subst, arith, le_refl}
-use Rattle.sctp_model.specs.Words.{Has}
+use Rattle.sctp_model.specs.Lists.{Has}
 use Rattle.sctp_model.specs.Format.{Format, Lane, ordered_lane}
 use Rattle.sctp_model.specs.Plan.{Message, Entry, Part, Plan, entry_at, message_at, IsAssigned, IsComplete, IsClosed}
 use Rattle.sctp_model.specs.Pieces.{Piece, IsFragment}

@@ -1,7 +1,7 @@
 -- What the receiver does with a chunk that comes: it keeps the data, or drops it.
 use Rattle.std.proofs.Common.{◌≡◌, ℕ, ◌<◌, ◌≤◌, ◌⊎◌, Bool, true, false, List, ◌∷◌, Some, inl, inr, refl, sym, subst, ap, arith, le_refl}
 use Rattle.std.proofs.lemmas.Bool.{cases_eq, cases_Bool}
-use Rattle.sctp_model.specs.Words.{Has, at}
+use Rattle.sctp_model.specs.Lists.{Has, at}
 use Rattle.sctp_model.specs.Format.{Format, Plain, Interleaved, Kind, Ordered, Unordered, Lane, is_numbered, ordered_lane}
 use Rattle.sctp_model.specs.Plan.{Part, Plan, entry_at}
 use Rattle.sctp_model.specs.Pieces.{Piece, fragment_of, IsFragment}

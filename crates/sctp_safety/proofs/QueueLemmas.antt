@@ -1,6 +1,6 @@
 -- What waits for a number, when a call comes, and when a message leaves.
 use Rattle.std.proofs.Common.{◌≡◌, ℕ, suc, ◌<◌, ◌≤◌, ◌⊎◌, List, [], ◌∷◌, ◌++◌, length, Some, inl, inr, refl, subst, arith}
-use Rattle.sctp_model.specs.Words.{Has, item_at}
+use Rattle.sctp_model.specs.Lists.{Has, item_at}
 use Rattle.sctp_model.specs.Format.{Lane}
 use Rattle.sctp_model.specs.Plan.{Message, bytes_of, Plan}
 use Rattle.sctp_model.specs.SenderView.{Queued}

@@ -1,7 +1,7 @@
 -- What the sender and its user do keeps every fact.
 use Rattle.std.proofs.Common.{◌≡◌, ℕ, zero, suc, ◌+◌, ◌<◌, ◌≤◌, ◌⊎◌, max, ◌||◌, Bool, true, List, [], ◌∷◌, ◌++◌, length, slice_get, Some, nat_le, inl, inr, refl, sym, subst, ap, arith, le_refl}
 use Rattle.std.proofs.lemmas.Bool.{or_left, or_cases, le-leb, leb-true}
-use Rattle.sctp_model.specs.Words.{Has, item_at, at}
+use Rattle.sctp_model.specs.Lists.{Has, item_at, at}
 use Rattle.sctp_model.specs.Format.{Lane, at_lane}
 use Rattle.sctp_model.specs.Plan.{Message, bytes_of, Entry, Part, End, Plan, entry_at, message_at, IsAssigned, HasEnd, IsClosed, parts_from}
 use Rattle.sctp_model.specs.SenderView.{Queued, SenderView}

@@ -1,6 +1,6 @@
 -- What a chunk says of its message, and what became of an index that was seen.
 use Rattle.std.proofs.Common.{length, ◌≡◌, ℕ, ◌<◌, ◌⊎◌, true, false, Some, inl, inr, refl, sym, subst, ap}
-use Rattle.sctp_model.specs.Words.{Has}
+use Rattle.sctp_model.specs.Lists.{Has}
 use Rattle.sctp_model.specs.Format.{Format, Plain, Interleaved, Kind, Ordered, Unordered, Lane, is_numbered}
 use Rattle.sctp_model.specs.Plan.{Message, Entry, Part, Plan, entry_at, message_at, IsOf}
 use Rattle.sctp_model.specs.Pieces.{Piece, piece_of, number_of, IsFragment}

@@ -1,7 +1,7 @@
 -- The receiver's user takes a message, and the receiver notes duplicates.
 use Rattle.std.proofs.Common.{◌≡◌, ℕ, ◌⊎◌, true, List, [], ◌∷◌, ◌++◌, inl, inr, refl, sym, subst, le_refl, append_assoc}
 use Rattle.std.proofs.lemmas.Bool.{cases_eq}
-use Rattle.sctp_model.specs.Words.{Has, at}
+use Rattle.sctp_model.specs.Lists.{Has, at}
 use Rattle.sctp_model.specs.Format.{Format, Lane, ordered_lane}
 use Rattle.sctp_model.specs.SenderView.{SenderView}
 use Rattle.sctp_model.specs.ReceiverView.{Handed, ReceiverView, handed}

@@ -3,9 +3,10 @@ use Rattle.std.proofs.Common.{◌≡◌, ℕ, suc, ◌-◌, ◌*◌, ◌<◌, �
 use Rattle.std.proofs.lemmas.Bool.{cases_lt}
 use Rattle.sctp_model.specs.Chunk.{SackMeaning, Sack}
 use Rattle.sctp_model.specs.SenderView.{Queued}
-use Rattle.sctp_model.specs.ReceiverView.{ReceiverView}
-use Rattle.sctp_model.specs.Sending.{IsFill, room_of, room_of_all, went_out}
-use Rattle.sctp_model.specs.World.{Configuration, EndView, Packet, SackOf, room_left, datas_of, Builds, HEADER_ROOM, SACK_ROOM}
+use Rattle.sctp_model.specs.ReceiverView.{ReceiverView, room_left}
+use Rattle.sctp_model.specs.first.Sending.{IsFill, room_of, room_of_all, went_out}
+use Rattle.sctp_model.specs.first.World.{Configuration, EndView, Packet, SackOf, datas_of, Builds, SACK_ROOM}
+use Rattle.sctp_model.specs.Packet.{HEADER_ROOM}
 use Rattle.sctp_safety.proofs.TotalReceiver.{IsSimple}
 use Rattle.sctp_safety.proofs.TotalTaken.{HasCumulative, has_cumulative}
 

@@ -1,13 +1,13 @@
 -- What a receiver of the world knows at all times: its indexes have a bound, and each chunk that it keeps is a message by itself.
 use Rattle.std.proofs.Common.{◌≡◌, ℕ, ◌≤◌, ◌⊎◌, ◌&&◌, true, max, not, nat_lt, [], ◌∷◌, length, inl, inr, sym, subst, arith}
 use Rattle.std.proofs.lemmas.Bool.{and_parts, cases_eq}
-use Rattle.sctp_model.specs.Words.{Has, at}
+use Rattle.sctp_model.specs.Lists.{Has, at}
 use Rattle.sctp_model.specs.Pieces.{Piece}
 use Rattle.sctp_model.specs.Chunk.{PieceMeaning, ChunkMeaning, Data, Sack, Unknown}
 use Rattle.sctp_model.specs.ReceiverView.{ReceiverView}
 use Rattle.sctp_model.specs.Receiving.{recorded, is_below, Takes}
 use Rattle.sctp_model.specs.Format.{Plain}
-use Rattle.sctp_model.specs.World.{EndView, Packet, is_taken, piece_said, PieceTaken, Duplicate, Passed, Taken, Act, Acts}
+use Rattle.sctp_model.specs.first.World.{EndView, Packet, is_taken, piece_said, PieceTaken, Duplicate, Passed, Taken, Act, Acts}
 use Rattle.sctp_safety.proofs.Basics.{at_other, Has-filtered}
 
 -- a chunk is a message by itself

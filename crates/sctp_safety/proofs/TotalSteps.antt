@@ -1,9 +1,10 @@
 -- Every event has an answer in every world that can be reached, and every list of events has answers from there.
 use Rattle.std.proofs.Common.{◌≡◌, ℕ, suc, Bool, true, false, List, [], ◌∷◌, length, Option, Some, None, refl, sym, subst, inl, inr}
-use Rattle.sctp_model.specs.Words.{item_at}
+use Rattle.sctp_model.specs.Lists.{item_at}
 use Rattle.sctp_model.specs.ReceiverView.{Handed}
-use Rattle.sctp_model.specs.Sending.{Refusal, accepted}
-use Rattle.sctp_model.specs.World.{State, Closed, Listen, Established, send_refusal, taken_by_user, sent_by_user, Side, A, B, Configuration, EndView, Packet, World, fresh_receiver, start, size_of_packet, Acts, Event, Open, Send, Build, Deliver, Take, Outcome, Done, OpenRefused, SendRefused, Ticket, Sent, Quiet, Acted, Absent, Message, Nothing, end_of, other, bag_of, with_end, with_packet, Step, Run, last_of, IsReachable}
+use Rattle.sctp_model.specs.first.Sending.{Refusal, accepted}
+use Rattle.sctp_model.specs.first.World.{first_receiver, State, Closed, Listen, Established, send_refusal, taken_by_user, sent_by_user, Side, A, B, Configuration, EndView, Packet, World, start, Acts, Event, Open, Send, Build, Deliver, Take, Outcome, Done, OpenRefused, SendRefused, Ticket, Sent, Quiet, Acted, Absent, Message, Nothing, end_of, other, bag_of, with_end, with_packet, Step, Run, last_of, IsReachable}
+use Rattle.sctp_model.specs.Packet.{size_of_packet}
 use Rattle.sctp_safety.specs.Answered.{HasAnswer, EventsAreAnswered, HaveAnswers, ListsAreAnswered}
 use Rattle.sctp_safety.proofs.TotalReceiver.{IsSimple, acts_simple}
 use Rattle.sctp_safety.proofs.TotalTaken.{can_act_all}
@@ -14,7 +15,7 @@ use Rattle.sctp_safety.proofs.TotalBuild.{CanBuild, can_build}
 abbrev AreSimple : World → Type 0
 AreSimple w = IsSimple w.a.receiver × IsSimple w.b.receiver
 
-fresh_simple : (c : Configuration) → IsSimple (fresh_receiver c)
+fresh_simple : (c : Configuration) → IsSimple (first_receiver c)
 fresh_simple c = record { bound = 0; within = λ i h. absurd (cc h); alone = λ x h. absurd h }
 
 simple_at : (w : World) (s : Side) → AreSimple w → IsSimple (end_of w s).receiver

@@ -1,13 +1,13 @@
 -- Every packet that comes can act: each DATA chunk is a duplicate, or behind, or it is taken, and then what is due is handed over.
 use Rattle.std.proofs.Common.{◌≡◌, ℕ, zero, suc, ◌+◌, ◌<◌, ◌≤◌, ◌⊎◌, Bool, true, false, max, List, [], ◌∷◌, inl, inr, refl, sym, subst, ap, arith}
 use Rattle.std.proofs.lemmas.Bool.{cases_Bool, cases_eq, cases_lt}
-use Rattle.sctp_model.specs.Words.{Has}
+use Rattle.sctp_model.specs.Lists.{Has}
 use Rattle.sctp_model.specs.Format.{Plain, Lane, ordered_lane}
 use Rattle.sctp_model.specs.Pieces.{Piece}
 use Rattle.sctp_model.specs.Chunk.{PieceMeaning, ChunkMeaning, Data, Sack, Unknown}
 use Rattle.sctp_model.specs.ReceiverView.{Handed, ReceiverView, IsReached, IsCumulative}
 use Rattle.sctp_model.specs.Receiving.{IsWholeNumber, IsLowest, HasNoWhole, message_of, IsDue, Stop, Over, Past, recorded, Takes}
-use Rattle.sctp_model.specs.World.{EndView, Packet, is_taken, piece_said, IsDuplicate, PieceTaken, Duplicate, Passed, Taken, Act, Acts}
+use Rattle.sctp_model.specs.first.World.{EndView, Packet, is_taken, piece_said, IsDuplicate, PieceTaken, Duplicate, Passed, Taken, Act, Acts}
 use Rattle.sctp_safety.proofs.Basics.{lane_cases}
 use Rattle.sctp_safety.proofs.TotalReceiver.{IsAlone, IsSimple, keeping_simple, taken_alone, acts_simple}
 

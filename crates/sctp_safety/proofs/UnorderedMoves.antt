@@ -1,7 +1,7 @@
 -- An unordered message is handed over, or a chunk that a FORWARD leaves behind goes.
 use Rattle.std.proofs.Common.{◌≡◌, ℕ, ◌<◌, ◌≤◌, ◌⊎◌, not, ◌==◌, Bool, true, false, List, [], ◌∷◌, length, Some, inl, inr, refl, sym, subst, ap, ◌∙◌, filter, arith, le_refl, eqb-true}
 use Rattle.std.proofs.lemmas.Bool.{cases_Bool, and_parts, or_cases, eq-eqb}
-use Rattle.sctp_model.specs.Words.{Has}
+use Rattle.sctp_model.specs.Lists.{Has}
 use Rattle.sctp_model.specs.Format.{Format, Plain, Interleaved, Kind, Unordered, Lane, is_numbered, same_lane, ordered_lane}
 use Rattle.sctp_model.specs.Plan.{Message, Part, Plan, entry_at}
 use Rattle.sctp_model.specs.Pieces.{Piece, IsFragment}

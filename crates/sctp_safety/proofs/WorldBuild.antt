@@ -1,6 +1,6 @@
 -- What an end builds, as moves: messages take their numbers and indexes, their chunks are put in the bag, and so is a SACK.
 use Rattle.std.proofs.Common.{◌≡◌, ℕ, suc, ◌+◌, ◌⊎◌, true, false, List, [], ◌∷◌, ◌++◌, length, slice_get, take, drop, Some, inl, inr, refl, sym, subst, ap, arith, append-nil, take-append-drop, length-append}
-use Rattle.sctp_model.specs.Words.{IsWithin, Has}
+use Rattle.sctp_model.specs.Lists.{IsWithin, Has}
 use Rattle.sctp_model.specs.Format.{Plain, ordered_lane}
 use Rattle.sctp_model.specs.Plan.{bytes_of, Message, Part, message_at}
 use Rattle.sctp_model.specs.Pieces.{Piece, piece_of}
@@ -9,8 +9,8 @@ use Rattle.sctp_model.specs.SenderView.{Queued, SenderView}
 use Rattle.sctp_model.specs.ReceiverView.{ReceiverView}
 use Rattle.sctp_model.specs.Acknowledgement.{Acknowledgement}
 use Rattle.sctp_model.specs.Calls.{Asked}
-use Rattle.sctp_model.specs.Sending.{message_for, numbered_one, numbered_all, went_out}
-use Rattle.sctp_model.specs.World.{Configuration, EndView, Packet, piece_said, datas_of, SackOf, Builds}
+use Rattle.sctp_model.specs.first.Sending.{message_for, numbered_one, numbered_all, went_out}
+use Rattle.sctp_model.specs.first.World.{Configuration, EndView, Packet, piece_said, datas_of, SackOf, Builds}
 use Rattle.sctp_safety.specs.Way.{Way, Number, Put_piece, Put_sack, Retune, IsAllClosed}
 use Rattle.sctp_safety.specs.Exact.{Leads}
 use Rattle.sctp_safety.proofs.Basics.{Has-left, slice_get-end, at_lane_same, Has-cases, Has-push, Has-right}

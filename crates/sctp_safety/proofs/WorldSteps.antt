@@ -1,10 +1,10 @@
 -- Each step of the two ends is a list of moves in each direction, so every world that can be reached is safe.
 use Rattle.std.proofs.Common.{◌≡◌, ℕ, true, false, List, [], ◌∷◌, ◌++◌, Option, Some, None, inl, inr, refl, sym, subst, ap}
-use Rattle.sctp_model.specs.Words.{Has, IsWithin, item_at}
+use Rattle.sctp_model.specs.Lists.{Has, IsWithin, item_at}
 use Rattle.sctp_model.specs.SenderView.{SenderView}
-use Rattle.sctp_model.specs.Sending.{refusal}
+use Rattle.sctp_model.specs.first.Sending.{refusal}
 use Rattle.sctp_model.specs.Chunk.{ChunkMeaning, Data, Sack, Unknown}
-use Rattle.sctp_model.specs.World.{Closed, Listen, refusal_in, State, taken_by_user, sent_by_user, Side, A, B, Configuration, Established, EndView, Packet, World, fresh_sender, fresh_receiver, fresh_end, start, Act, Acts, Event, Open, Send, Build, Deliver, Take, Outcome, Done, OpenRefused, SendRefused, Ticket, Sent, Quiet, Acted, Absent, Message, Nothing, end_of, other, bag_of, with_end, with_packet, Step, Run, last_of, IsReachable}
+use Rattle.sctp_model.specs.first.World.{first_receiver, first_sender, Closed, Listen, refusal_in, State, taken_by_user, sent_by_user, Side, A, B, Configuration, Established, EndView, Packet, World, fresh_end, start, Act, Acts, Event, Open, Send, Build, Deliver, Take, Outcome, Done, OpenRefused, SendRefused, Ticket, Sent, Quiet, Acted, Absent, Message, Nothing, end_of, other, bag_of, with_end, with_packet, Step, Run, last_of, IsReachable}
 use Rattle.sctp_safety.specs.Worlds.{IsSafeWorld, SafeWorlds, AllSafe, SafeRuns}
 use Rattle.sctp_safety.proofs.Basics.{Has-left}
 use Rattle.sctp_safety.proofs.SafeWhenGood.{safe_when_good}
@@ -19,7 +19,7 @@ no_packet : {A : Type 0} (bag : List A) → bag ≡ [] → (p : A) → Has bag p
 no_packet {A} bag empty p h = subst (λ (xs : List A). Has xs p) empty h
 
 fresh_direction : (c : Configuration) (out back : List Packet) → out ≡ [] → back ≡ [] →
-    Direction c (fresh_sender c) (record { calls = []; named = λ t. false; clock = 0 }) (fresh_receiver c) out back
+    Direction c (first_sender c) (record { calls = []; named = λ t. false; clock = 0 }) (first_receiver c) out back
 fresh_direction c out back no_out no_back = record {
   pieces = [];
   sacks = [];

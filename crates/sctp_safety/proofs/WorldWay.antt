@@ -1,6 +1,6 @@
 -- One direction of the world of two ends, as a direction that moves lead to.
 use Rattle.std.proofs.Common.{◌≡◌, ℕ, zero, suc, false, List, [], ◌∷◌, length, slice_get, Some, inl, inr}
-use Rattle.sctp_model.specs.Words.{Has, item_at}
+use Rattle.sctp_model.specs.Lists.{Has, item_at}
 use Rattle.sctp_model.specs.Format.{Plain, ordered_lane}
 use Rattle.sctp_model.specs.Pieces.{Piece}
 use Rattle.sctp_model.specs.Chunk.{PieceMeaning, SackMeaning, Data, Sack}
@@ -8,8 +8,8 @@ use Rattle.sctp_model.specs.SenderView.{Queued, SenderView}
 use Rattle.sctp_model.specs.ReceiverView.{ReceiverView}
 use Rattle.sctp_model.specs.Acknowledgement.{Acknowledgement}
 use Rattle.sctp_model.specs.Calls.{Asked}
-use Rattle.sctp_model.specs.Sending.{accepted, message_for}
-use Rattle.sctp_model.specs.World.{EndView, Configuration, Packet, World, piece_said, Established}
+use Rattle.sctp_model.specs.first.Sending.{accepted, message_for}
+use Rattle.sctp_model.specs.first.World.{EndView, Configuration, Packet, World, piece_said, Established}
 use Rattle.sctp_safety.specs.Way.{Way, IsStart}
 use Rattle.sctp_safety.specs.Exact.{Leads}
 use Rattle.sctp_safety.proofs.Facts.{Good}

@@ -1,6 +1,6 @@
 -- The world of two ends is never stuck: each event has an answer that is there, so is not want of memory.
 use Rattle.std.specs.Prelude.{List, Some, map}
-use Rattle.sctp_model.specs.World.{World, Event, Outcome, Step, Run, IsReachable}
+use Rattle.sctp_model.specs.first.World.{World, Event, Outcome, Step, Run, IsReachable}
 
 -- the event has an answer, and leads to a world
 abbrev pub HasAnswer : World → Event → Type 0

@@ -1,6 +1,6 @@
 -- What the two ends really build and take are things that the moves allow.
 use Rattle.std.specs.Prelude.{◌≡◌, ℕ, ◌≤◌, ◌⊎◌, false, List, ◌∷◌}
-use Rattle.sctp_model.specs.Words.{Has}
+use Rattle.sctp_model.specs.Lists.{Has}
 use Rattle.sctp_model.specs.Pieces.{Piece}
 use Rattle.sctp_model.specs.SenderView.{IsPoint}
 use Rattle.sctp_model.specs.Forward.{Forward, IsForward}

@@ -2,7 +2,7 @@
 use Rattle.std.specs.Prelude.{◌≡◌, ℕ, List, [], ◌∷◌, Option, Some}
 use Rattle.sctp_model.specs.Format.{ordered_lane}
 use Rattle.sctp_model.specs.ReceiverView.{Handed, handed}
-use Rattle.sctp_model.specs.World.{A, B, Configuration, World, start, Event, Open, Send, Build, Deliver, Take, Outcome, Done, Ticket, Sent, Acted, Message, Run, last_of}
+use Rattle.sctp_model.specs.first.World.{A, B, Configuration, World, start, Event, Open, Send, Build, Deliver, Take, Outcome, Done, Ticket, Sent, Acted, Message, Run, last_of}
 
 abbrev pub small : Configuration
 small = record { limit = 1500; fragment = 1400; buffer = 65536; streams = 1 }

@@ -1,4 +1,3 @@
-pub mod Laws
 pub mod Way
 pub mod Exact
 pub mod Always

@@ -1,7 +1,7 @@
 -- One direction of an association, and the moves that change it, each as loose as safety allows.
 -- Timers, windows, room, what is due, and the order of filling only choose among moves; they don't appear here.
 use Rattle.std.specs.Prelude.{◌≡◌, ℕ, suc, ◌+◌, ◌<◌, ◌≤◌, ◌⊎◌, max, ◌||◌, true, false, nat_le, List, [], ◌∷◌, ◌++◌, length, Some}
-use Rattle.sctp_model.specs.Words.{Has, IsWithin, at}
+use Rattle.sctp_model.specs.Lists.{Has, IsWithin, at}
 use Rattle.sctp_model.specs.Format.{Format, Plain, Unordered, Lane, is_numbered, ordered_lane, at_lane}
 use Rattle.sctp_model.specs.Plan.{Message, bytes_of, Part, End, Plan, entry_at, message_at, IsAssigned, HasEnd, IsClosed, parts_from}
 use Rattle.sctp_model.specs.Pieces.{Piece, piece_of}

@@ -2,7 +2,7 @@
 use Rattle.std.specs.Prelude.{List, [], ◌∷◌, Option}
 use Rattle.sctp_model.specs.Format.{Plain}
 use Rattle.sctp_model.specs.Safe.{Safe}
-use Rattle.sctp_model.specs.World.{Side, World, end_of, other, Event, Outcome, Run, IsReachable}
+use Rattle.sctp_model.specs.first.World.{Side, World, end_of, other, Event, Outcome, Run, IsReachable}
 
 -- each end's sending is safe, with its peer's receiver and with what its own user asked for
 abbrev pub IsSafeWorld : World → Type 0

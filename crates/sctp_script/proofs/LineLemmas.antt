@@ -1,6 +1,6 @@
 -- A line is of one command, and has no fault or a first one.
 use Rattle.std.proofs.Common.{◌≡◌, ℕ, ◌<◌, ◌≤◌, ◌==◌, Bool, cond, List, [], ◌∷◌, length, slice_index, refl, sym, ap, ◌∙◌, subst, arith}
-use Rattle.sctp_model.specs.World.{Configuration, Event}
+use Rattle.sctp_model.specs.first.World.{Configuration, Event}
 use Rattle.sctp_script.specs.declared.config.ConfigFault.{ConfigFault}
 use Rattle.sctp_script.specs.declared.line.Command.{Command}
 use Rattle.sctp_script.specs.declared.line.Command.TheVariants as command

@@ -8,8 +8,8 @@ use Rattle.std.proofs.lemmas.Slice.Eq.{bytes_eq-Decides}
 use Rattle.std.specs.Str.{bytes_eq}
 use Rattle.hex.specs.Hex.{decode_of, lower_digits}
 use Rattle.hex.proofs.HexLemmas.{decode_of-encode_lower, length-encode_with}
-use Rattle.sctp_model.specs.Sending.{padded}
-use Rattle.sctp_model.specs.World.{Side, A, B, Configuration, Open, Send, Build, Deliver, Take}
+use Rattle.sctp_model.specs.Chunk.{padded}
+use Rattle.sctp_model.specs.first.World.{Side, A, B, Configuration, Open, Send, Build, Deliver, Take}
 use Rattle.sctp_script.specs.declared.config.ConfigFault.{ConfigFault}
 use Rattle.sctp_script.specs.declared.config.ConfigFault.TheVariants.{Port, PacketLimit, Fragment, Buffer, Streams}
 use Rattle.sctp_script.specs.declared.line.Command.{Command}

@@ -1,7 +1,7 @@
 -- Which sizes a pair may have, and what is wrong with others. Sizes are in bytes.
 use Rattle.std.specs.Prelude.{◌≡◌, ◌≢◌, ℕ, ◌+◌, ◌<◌, ◌≤◌, ◌⊎◌}
-use Rattle.sctp_model.specs.Sending.{padded}
-use Rattle.sctp_model.specs.World.{Configuration}
+use Rattle.sctp_model.specs.Chunk.{padded}
+use Rattle.sctp_model.specs.first.World.{Configuration}
 use Rattle.sctp_script.specs.declared.config.ConfigFault.{ConfigFault}
 use Rattle.sctp_script.specs.declared.config.ConfigFault.TheVariants.{Port, PacketLimit, Fragment, Buffer, Streams}
 

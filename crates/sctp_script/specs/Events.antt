@@ -2,9 +2,9 @@
 use Rattle.std.specs.Prelude.{◌≡◌, ℕ, List}
 use Rattle.sctp_model.specs.Format.{ordered_lane}
 use Rattle.sctp_model.specs.ReceiverView.{Handed}
-use Rattle.sctp_model.specs.Sending.{Refusal}
-use Rattle.sctp_model.specs.Sending as refusal
-use Rattle.sctp_model.specs.World as world
+use Rattle.sctp_model.specs.first.Sending.{Refusal}
+use Rattle.sctp_model.specs.first.Sending as refusal
+use Rattle.sctp_model.specs.first.World as world
 use Rattle.sctp_script.specs.declared.event.Side.{Side}
 use Rattle.sctp_script.specs.declared.event.Side.TheVariants as side
 use Rattle.sctp_script.specs.declared.event.State.{State}

@@ -1,6 +1,6 @@
 -- The script's grammar: what a line says. A line is bytes without the line feed.
 use Rattle.std.specs.Prelude.{◌≡◌, ◌≢◌, ℕ, ◌<◌, ◌^◌, Bool, true, false, List, [], ◌∷◌, length, codes}
-use Rattle.sctp_model.specs.World.{Side, Configuration, Event, Open, Send, Build, Deliver, Take}
+use Rattle.sctp_model.specs.first.World.{Side, Configuration, Event, Open, Send, Build, Deliver, Take}
 use Rattle.sctp_script.specs.declared.line.Command.{Command}
 use Rattle.sctp_script.specs.declared.line.Command.TheVariants as command
 use Rattle.sctp_script.specs.declared.line.LineFault.{LineFault}

@@ -1,8 +1,8 @@
 -- The line of each outcome.
 use Rattle.std.specs.Prelude.{ℕ, List, [], ◌∷◌, codes, decimal}
 use Rattle.sctp_model.specs.Format.{Kind, Ordered, Unordered}
-use Rattle.sctp_model.specs.Sending.{Refusal, NoSuchStream, Empty, TooLong, QueueFull, Spent, NotOpen}
-use Rattle.sctp_model.specs.World.{Side, A, B, Outcome, Done, OpenRefused, SendRefused, Ticket, Sent, Quiet, Acted, Absent, Message, Nothing}
+use Rattle.sctp_model.specs.first.Sending.{Refusal, NoSuchStream, Empty, TooLong, QueueFull, Spent, NotOpen}
+use Rattle.sctp_model.specs.first.World.{Side, A, B, Outcome, Done, OpenRefused, SendRefused, Ticket, Sent, Quiet, Acted, Absent, Message, Nothing}
 use Rattle.sctp_script.specs.Numerals.{hex_word}
 use Rattle.sctp_script.specs.SpacedWords.{line_of}
 

@@ -2,7 +2,7 @@
 use Rattle.std.specs.Prelude.{ℕ, zero, suc, List, [], ◌∷◌, ◌++◌, map, Option, Some, None, codes, decimal}
 use Rattle.sctp_model.specs.Plan.{Message, Entry, Part, End, Plan, message_at}
 use Rattle.sctp_model.specs.ReceiverView.{ReceiverView, handed}
-use Rattle.sctp_model.specs.World.{Side, A, B, State, Closed, Listen, Established, EndView, World}
+use Rattle.sctp_model.specs.first.World.{Side, A, B, State, Closed, Listen, Established, EndView, World}
 use Rattle.sctp_script.specs.OutcomeLines.{side_word}
 use Rattle.sctp_script.specs.SpacedWords.{line_of}
 

@@ -1,6 +1,6 @@
 -- What a configuration and a draw hold.
 use Rattle.std.specs.Prelude.{ℕ}
-use Rattle.sctp_model.specs.World.{Configuration}
+use Rattle.sctp_model.specs.first.World.{Configuration}
 use Rattle.sctp_script.specs.declared.config.Mode.{Mode}
 use Rattle.sctp_script.specs.declared.config.PairConfig.{PairConfig}
 use Rattle.sctp_script.specs.declared.config.Draw.{Draw}

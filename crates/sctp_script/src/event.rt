@@ -18,7 +18,7 @@ pub enum Side {
 
 impl Side {
     ghost use Rattle.std.specs.Prelude.{◌≡◌};
-    ghost use Rattle.sctp_model.specs.World.{other};
+    ghost use Rattle.sctp_model.specs.first.World.{other};
     ghost use Rattle.sctp_script.specs.Events.{side_said};
 
     /// The end across.

@@ -1,7 +1,7 @@
 //! Laws of the script's grammar, which hold of all lines.
 
 ghost use Rattle.std.specs.Prelude.{◌≡◌, ℕ, Bool, true, List};
-ghost use Rattle.sctp_model.specs.World.{Event};
+ghost use Rattle.sctp_model.specs.first.World.{Event};
 ghost use Rattle.sctp_script.specs.GrammarLaws.{SaysOneThing};
 ghost use Rattle.sctp_script.specs.Lines.{Acts, Says};
 ghost use Rattle.sctp_script.specs.SpacedWords.{words_of, AreItsWords};

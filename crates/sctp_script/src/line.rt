@@ -1,7 +1,7 @@
 //! A line of a script, read: what it says, or the smallest kind of its faults.
 
 ghost use Rattle.std.specs.Prelude.{◌≡◌, ◌<◌, ℕ, List, Bool, length, ◌↔◌, IsTrue, IfOk, OnErr, MatchOption, MatchResult, codes};
-ghost use Rattle.sctp_model.specs.World as world;
+ghost use Rattle.sctp_model.specs.first.World as world;
 ghost use Rattle.sctp_script.specs.Events.{side_said};
 ghost use Rattle.sctp_script.specs.Lines.{LineMeaning, Acts, Spells, IsNumber, IsSilent, name_of, arguments_of, is_pair, kind_of};
 ghost use Rattle.sctp_script.specs.OutcomeLines.{side_word};

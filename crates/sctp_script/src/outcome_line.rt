@@ -2,7 +2,7 @@
 
 ghost use Rattle.std.specs.Prelude.{◌≡◌, ◌++◌, OnOk, OnErr};
 ghost use Rattle.sctp_model.specs.ReceiverView.{Handed};
-ghost use Rattle.sctp_model.specs.World as world;
+ghost use Rattle.sctp_model.specs.first.World as world;
 ghost use Rattle.sctp_script.specs.Events.{side_said, Answers, IsToldOf};
 ghost use Rattle.sctp_script.specs.OutcomeLines.{side_word, outcome_line};
 ghost use Rattle.sctp_script.specs.WrittenWords.{text_of};

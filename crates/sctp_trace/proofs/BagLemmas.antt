@@ -3,8 +3,8 @@ use Rattle.std.proofs.Common.{◌≡◌, ◌⊎◌, inl, inr, ℕ, zero, suc, �
 use Rattle.std.specs.declared.vec.Vec.{Vec}
 use Rattle.std.specs.declared.alloc.Global.{Global}
 use Rattle.std.proofs.lemmas.Option.{slice_get_past}
-use Rattle.sctp_model.specs.Words.{item_at}
-use Rattle.sctp_model.specs.World.{Side, A, B, Packet, World, EndView, end_of, other, bag_of, with_end, with_packet}
+use Rattle.sctp_model.specs.Lists.{item_at}
+use Rattle.sctp_model.specs.first.World.{Side, A, B, Packet, World, EndView, end_of, other, bag_of, with_end, with_packet}
 use Rattle.sctp_packet.specs.PacketBytes.{IsPacketOf}
 use Rattle.sctp_trace.specs.PairStands.{ArePackets, with_bag}
 

@@ -9,7 +9,7 @@ use Rattle.std.proofs.lemmas.List.{append-nil, map-append, length-take}
 use Rattle.std.proofs.lemmas.List.Elements.{filter-append}
 use Rattle.std.proofs.lemmas.Bool.{eq-eqb, eqb-false, eqb-true, cond_both, and_parts, cases_Bool}
 use Rattle.std.proofs.lemmas.Grind.{common_steps}
-use Rattle.sctp_model.specs.Words.{joined, at}
+use Rattle.sctp_model.specs.Lists.{joined, at}
 use Rattle.sctp_model.specs.Format.{Plain, Kind, Ordered, Unordered, Lane, same_kind, same_lane, ordered_lane, at_lane}
 use Rattle.sctp_model.specs.Chunk.{PieceMeaning, SackMeaning, ChunkMeaning, Data, Sack}
 use Rattle.sctp_model.specs.Plan.{Message as Planned, Plan, Entry, Part, End as EndMark, message_at}
@@ -17,30 +17,31 @@ use Rattle.sctp_model.specs.Pieces.{Piece}
 use Rattle.sctp_model.specs.SenderView.{Queued, SenderView}
 use Rattle.sctp_model.specs.ReceiverView.{Handed, ReceiverView}
 use Rattle.sctp_model.specs.Receiving.{IsDue, Stop, Over, Past}
-use Rattle.sctp_model.specs.World as world
-use Rattle.sctp_model.specs.Sending.{Refusal, NotOpen, refusal, IsFill, numbered_one, numbered_all, went_out, acknowledged}
-use Rattle.sctp_model.specs.World.{EndView, Packet, Act, Acts, is_taken, piece_said, SackOf, size_of_packet, size_of_chunks, HEADER_ROOM, SACK_ROOM, State, Closed, Listen, Established, refusal_in, datas_of, Configuration, Builds, taken_by_user, PieceTaken, Duplicate, Passed, Taken}
+use Rattle.sctp_model.specs.first.World as world
+use Rattle.sctp_model.specs.first.Sending.{Refusal, NotOpen, refusal, IsFill, numbered_one, numbered_all, went_out, acknowledged}
+use Rattle.sctp_model.specs.first.World.{EndView, Packet, Act, Acts, is_taken, piece_said, SackOf, SACK_ROOM, State, Closed, Listen, Established, refusal_in, datas_of, Configuration, Builds, taken_by_user, PieceTaken, Duplicate, Passed, Taken}
+use Rattle.sctp_model.specs.Packet.{size_of_packet, size_of_chunks, HEADER_ROOM}
 use Rattle.sctp_wire.specs.declared.fault.NoMemory.{NoMemory}
 use Rattle.sctp_script.specs.Events.{Answers}
 use Rattle.sctp_trace.specs.PairRuns.{Told}
 use Rattle.sctp_packet.specs.PacketBytes.{Draft, room_in, with_chunks, empty_draft}
 use Rattle.sctp_script.specs.declared.event.Outcome.{Outcome}
-use Rattle.sctp_send.specs.declared.sender.SendFault.{SendFault}
+use Rattle.sctp_first_send.specs.declared.sender.SendFault.{SendFault}
 use Rattle.sctp_trace.specs.EndStands.{is_established, IsBeginning, HasMessage, IsOn, IsEnd, tickets_noted, numbers_taken}
-use Rattle.sctp_recv.specs.declared.message.Message.{Message}
-use Rattle.sctp_recv.specs.HandedOf.{handed_of}
-use Rattle.sctp_recv.specs.ReceiverCalls.{IsAnswered, taken_from}
-use Rattle.sctp_recv.specs.ReceiverKept.{ReceiverKept}
-use Rattle.sctp_recv.specs.ReceiverStands.{ReceiverStands}
+use Rattle.sctp_first_recv.specs.declared.message.Message.{Message}
+use Rattle.sctp_first_recv.specs.HandedOf.{handed_of}
+use Rattle.sctp_first_recv.specs.ReceiverCalls.{IsAnswered, taken_from}
+use Rattle.sctp_first_recv.specs.ReceiverKept.{ReceiverKept}
+use Rattle.sctp_first_recv.specs.ReceiverStands.{ReceiverStands}
 use Rattle.sctp_script.specs.ReportText.{ticket_of, tickets_in, tickets_of}
-use Rattle.sctp_send.specs.SenderStands.{StandsFor}
-use Rattle.sctp_send.specs.SenderSteps.{reason_of, numbers_of, Fills}
-use Rattle.sctp_send.specs.SenderKept.{Kept}
+use Rattle.sctp_first_send.specs.SenderStands.{StandsFor}
+use Rattle.sctp_first_send.specs.SenderSteps.{reason_of, numbers_of, Fills}
+use Rattle.sctp_first_send.specs.SenderKept.{Kept}
 use Rattle.sctp_trace.specs.declared.end.End.{End}
 use Rattle.sctp_trace.specs.declared.end.TakenMessage.{TakenMessage}
-use Rattle.sctp_recv.specs.declared.receiver.Answer.{Answer}
-use Rattle.sctp_recv.specs.declared.receiver.Answer.TheVariants as answer
-use Rattle.sctp_send.specs.declared.sender.Filled.{Filled}
+use Rattle.sctp_first_recv.specs.declared.receiver.Answer.{Answer}
+use Rattle.sctp_first_recv.specs.declared.receiver.Answer.TheVariants as answer
+use Rattle.sctp_first_send.specs.declared.sender.Filled.{Filled}
 
 -- ---- lists
 

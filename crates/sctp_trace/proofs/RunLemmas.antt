@@ -2,8 +2,8 @@
 use Rattle.std.proofs.Common.{◌≡◌, ℕ, ◌+◌, ◌<◌, ◌⊎◌, List, [], ◌∷◌, ◌++◌, length, map, take, drop, get_or, Option, Some, None, Ok, Err, inl, inr, refl, sym, ap, ◌∙◌, subst}
 use Rattle.std.specs.Prelude.{Result}
 use Rattle.std.proofs.lemmas.List.{take_more, map-append, take-append-drop}
-use Rattle.sctp_model.specs.World as world
-use Rattle.sctp_model.specs.World.{World, Step, Run, last_of, IsReachable}
+use Rattle.sctp_model.specs.first.World as world
+use Rattle.sctp_model.specs.first.World.{World, Step, Run, last_of, IsReachable}
 use Rattle.sctp_safety.specs.Worlds.{AllSafe, SafeRuns}
 use Rattle.sctp_wire.specs.declared.fault.NoMemory.{NoMemory}
 use Rattle.sctp_script.specs.Events.{event_said}

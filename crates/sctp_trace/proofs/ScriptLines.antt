@@ -3,7 +3,7 @@ use Rattle.std.proofs.Common.{◌≡◌, ℕ, ◌+◌, ◌<◌, ◌≤◌, ◌�
 use Rattle.std.specs.List.{All}
 use Rattle.std.proofs.lemmas.Bool.{cases_lt}
 use Rattle.std.proofs.lemmas.List.Elements.{All-nil, All-cons, All-head, All-tail}
-use Rattle.sctp_model.specs.World.{World, Event, Step, IsReachable, start}
+use Rattle.sctp_model.specs.first.World.{World, Event, Step, IsReachable, start}
 use Rattle.sctp_safety.specs.Answered.{EventsAreAnswered}
 use Rattle.sctp_script.specs.declared.line.LineFault.TheVariants.{TooLong}
 use Rattle.sctp_script.specs.GrammarLaws.{SaysOneThing}

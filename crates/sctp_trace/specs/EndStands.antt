@@ -1,22 +1,22 @@
 -- Which end stands for which view, and what its work on a packet leaves.
 use Rattle.std.specs.Prelude.{◌≡◌, ℕ, ◌<◌, ◌⊎◌, Bool, true, false, ◌==◌, List, [], ◌∷◌, ◌++◌, length, map, filter, Option, Some, None, Result, Ok, Err}
 use Rattle.std.specs.List.{AllByRecursion}
-use Rattle.sctp_model.specs.Words.{joined}
+use Rattle.sctp_model.specs.Lists.{joined}
 use Rattle.sctp_model.specs.Format.{ordered_lane}
 use Rattle.sctp_model.specs.Chunk.{SackMeaning, ChunkMeaning, Sack}
 use Rattle.sctp_model.specs.Plan.{Plan, Entry, Part, End as EndMark}
 use Rattle.sctp_model.specs.ReceiverView.{Handed, ReceiverView}
-use Rattle.sctp_model.specs.Sending.{Refusal}
-use Rattle.sctp_model.specs.World.{State, Closed, Listen, Established, EndView, Packet, Act, Acts, SackOf}
+use Rattle.sctp_model.specs.first.Sending.{Refusal}
+use Rattle.sctp_model.specs.first.World.{State, Closed, Listen, Established, EndView, Packet, Act, Acts, SackOf}
 use Rattle.sctp_wire.specs.declared.fault.NoMemory.{NoMemory}
 use Rattle.sctp_script.specs.Events.{state_said}
 use Rattle.sctp_script.specs.ReportText.{tickets_of}
-use Rattle.sctp_recv.specs.ReceiverStands.{ReceiverStands}
-use Rattle.sctp_send.specs.SenderStands.{StandsFor}
-use Rattle.sctp_send.specs.SenderSteps.{numbers_of}
+use Rattle.sctp_first_recv.specs.ReceiverStands.{ReceiverStands}
+use Rattle.sctp_first_send.specs.SenderStands.{StandsFor}
+use Rattle.sctp_first_send.specs.SenderSteps.{numbers_of}
 use Rattle.sctp_trace.specs.declared.end.End.{End}
 use Rattle.sctp_trace.specs.declared.end.TakenMessage.{TakenMessage}
-use Rattle.sctp_send.specs.declared.sender.Filled.{Filled}
+use Rattle.sctp_first_send.specs.declared.sender.Filled.{Filled}
 
 abbrev pub is_established : State → Bool
 is_established Closed = false

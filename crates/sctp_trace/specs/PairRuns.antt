@@ -2,8 +2,8 @@
 use Rattle.std.specs.Prelude.{◌≡◌, ℕ, ◌⊎◌, List, [], ◌∷◌, ◌++◌, map, Option, Some, None, Result, Ok, Err}
 use Rattle.std.specs.declared.vec.Vec.{Vec}
 use Rattle.std.specs.declared.alloc.Global.{Global}
-use Rattle.sctp_model.specs.World as world
-use Rattle.sctp_model.specs.World.{World, Step, Run, IsReachable}
+use Rattle.sctp_model.specs.first.World as world
+use Rattle.sctp_model.specs.first.World.{World, Step, Run, IsReachable}
 use Rattle.sctp_safety.specs.Worlds.{AllSafe}
 use Rattle.sctp_wire.specs.declared.fault.NoMemory.{NoMemory}
 use Rattle.sctp_script.specs.Events.{event_said, Answers}

@@ -2,7 +2,7 @@
 use Rattle.std.specs.Prelude.{◌≡◌, ℕ, List, [], ◌∷◌}
 use Rattle.std.specs.declared.vec.Vec.{Vec}
 use Rattle.std.specs.declared.alloc.Global.{Global}
-use Rattle.sctp_model.specs.World.{Side, A, B, Packet, World}
+use Rattle.sctp_model.specs.first.World.{Side, A, B, Packet, World}
 use Rattle.sctp_packet.specs.PacketBytes.{IsPacketOf}
 use Rattle.sctp_script.specs.Settings.{configuration_of}
 use Rattle.sctp_trace.specs.EndStands.{EndStands}

@@ -2,7 +2,7 @@
 -- A script's state is the world of its two ends, once there was a `pair` line. Want of memory is no answer of a step here.
 use Rattle.std.specs.Prelude.{◌≡◌, ℕ, suc, ◌<◌, ◌≤◌, ◌⊎◌, Bool, true, false, List, [], ◌∷◌, ◌++◌, length, Option, Some, None, Result, Ok, Err}
 use Rattle.std.specs.List.{All}
-use Rattle.sctp_model.specs.World.{World, Outcome, start, Step}
+use Rattle.sctp_model.specs.first.World.{World, Outcome, start, Step}
 use Rattle.sctp_script.specs.declared.line.LineFault.{LineFault}
 use Rattle.sctp_script.specs.declared.line.LineFault.TheVariants.{TooLong, PairOrder}
 use Rattle.sctp_script.specs.Lines.{LineMeaning, Silent, Pairs, Acts, Fault, Says, IsFirstFaultOf}

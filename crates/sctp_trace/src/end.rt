@@ -4,23 +4,23 @@ ghost use Rattle.std.specs.Prelude.{◌≡◌, ◌≤◌, List, ◌∷◌, [], I
 ghost use Rattle.sctp_model.specs.Chunk.{SackMeaning};
 ghost use Rattle.sctp_model.specs.Chunk as meaning;
 ghost use Rattle.sctp_model.specs.ReceiverView.{ReceiverView};
-ghost use Rattle.sctp_model.specs.Sending.{Refusal};
-ghost use Rattle.sctp_model.specs.World as world;
-ghost use Rattle.sctp_model.specs.World.{World, EndView, Packet, fresh_end, end_of, other, bag_of, with_end, SackOf, Sends, BuildsAt, Delivers, Takes_at};
+ghost use Rattle.sctp_model.specs.first.Sending.{Refusal};
+ghost use Rattle.sctp_model.specs.first.World as world;
+ghost use Rattle.sctp_model.specs.first.World.{World, EndView, Packet, fresh_end, end_of, other, bag_of, with_end, SackOf, Sends, BuildsAt, Delivers, Takes_at};
 ghost use Rattle.sctp_wire.specs.ChunkTree.{chunk_meaning};
 ghost use Rattle.sctp_script.specs.Events.{side_said, state_said, Answers};
 ghost use Rattle.sctp_trace.specs.EndStands.{EndStands, is_established, ActLeaves, ActsLeave, IsBeginning};
 ghost use Rattle.sctp_packet.specs.PacketBytes.{IsPacketOf, empty_draft, with_chunks};
 ghost use Rattle.sctp_trace.specs.PairStands.{ArePackets, with_bag};
 ghost use Rattle.sctp_trace.specs.PairRuns.{Told};
-ghost use Rattle.sctp_recv.specs.ReceiverStands.{ReceiverStands};
-ghost use Rattle.sctp_send.specs.SenderSteps.{reason_of};
+ghost use Rattle.sctp_first_recv.specs.ReceiverStands.{ReceiverStands};
+ghost use Rattle.sctp_first_send.specs.SenderSteps.{reason_of};
 ghost use Rattle.sctp_script.specs.Settings.{configuration_of};
 
 use sctp_packet::PacketWriter;
-use sctp_recv::{Answer, Receiver};
+use sctp_first_recv::{Answer, Receiver};
 use sctp_script::{Bytes, Outcome, PairConfig, SendRefusal, Side, State};
-use sctp_send::{Filled, SendFault, Sender};
+use sctp_first_send::{Filled, SendFault, Sender};
 use sctp_wire::{Blocks, Chunk, Chunks, NoMemory, Sack, Words, read_chunks};
 use std::alloc::Global;
 

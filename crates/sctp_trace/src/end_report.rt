@@ -1,17 +1,17 @@
 //! The part of a report that speaks of one end.
 
 ghost use Rattle.std.specs.Prelude.{◌≡◌, ℕ, List, ◌++◌, map, IfOk, OnOk};
-ghost use Rattle.sctp_model.specs.World.{EndView};
+ghost use Rattle.sctp_model.specs.first.World.{EndView};
 ghost use Rattle.sctp_script.specs.Events.{side_said};
 ghost use Rattle.sctp_trace.specs.EndStands.{EndStands, tickets_noted, numbers_taken};
-ghost use Rattle.sctp_recv.specs.HandedOf.{handed_of};
+ghost use Rattle.sctp_first_recv.specs.HandedOf.{handed_of};
 ghost use Rattle.sctp_script.specs.ReportText.{numbers_of, handed_lines, end_report};
-ghost use Rattle.sctp_send.specs.SenderSteps as sender;
+ghost use Rattle.sctp_first_send.specs.SenderSteps as sender;
 
 use crate::end::{End, TakenMessage};
-use sctp_recv::Message;
+use sctp_first_recv::Message;
 use sctp_script::{Side, put_end, put_handed, put_numbered};
-use sctp_send::{Filled, Ticket};
+use sctp_first_send::{Filled, Ticket};
 use sctp_wire::NoMemory;
 use std::alloc::Global;
 use std::collections::VecDeque;

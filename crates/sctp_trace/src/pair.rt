@@ -1,8 +1,8 @@
 //! Two ends, and the packets between them.
 
 ghost use Rattle.std.specs.Prelude.{◌≡◌, ℕ, ◌∷◌, [], List, Option, IfOk};
-ghost use Rattle.sctp_model.specs.World as world;
-ghost use Rattle.sctp_model.specs.World.{World, start, last_of, Opens, Sends, BuildsAt, Delivers, Takes_at};
+ghost use Rattle.sctp_model.specs.first.World as world;
+ghost use Rattle.sctp_model.specs.first.World.{World, start, last_of, Opens, Sends, BuildsAt, Delivers, Takes_at};
 ghost use Rattle.sctp_script.specs.Events.{side_said};
 ghost use Rattle.sctp_trace.specs.PairStands.{PairStands};
 ghost use Rattle.sctp_trace.specs.PairRuns.{Told, Leads, Ran, Promised};

@@ -1,8 +1,8 @@
 //! A script, run: each line acts before the next one is read, and the report comes last.
 
 ghost use Rattle.std.specs.Prelude.{◌≡◌, ℕ, suc, true, ◌+◌, ◌-◌, ◌^◌, ◌<◌, ◌≤◌, List, [], ◌++◌, length, Option, None, IfOk};
-ghost use Rattle.sctp_model.specs.World as world;
-ghost use Rattle.sctp_model.specs.World.{World};
+ghost use Rattle.sctp_model.specs.first.World as world;
+ghost use Rattle.sctp_model.specs.first.World.{World};
 ghost use Rattle.sctp_script.specs.Events.{Answers};
 ghost use Rattle.sctp_script.specs.OutcomeLines.{outcome_line};
 ghost use Rattle.sctp_script.specs.LinesRead.{LONGEST_SCRIPT};

@@ -1,5 +1,5 @@
 use Rattle.std.proofs.Common.{◌≡◌, ℕ, Bool, true, false, List, refl}
-use Rattle.sctp_model.specs.World.{Event}
+use Rattle.sctp_model.specs.first.World.{Event}
 use Rattle.sctp_script.specs.declared.line.Command.{Command}
 use Rattle.sctp_script.specs.declared.line.Command.TheVariants as command
 use Rattle.sctp_script.specs.declared.line.LineFault.TheVariants.{PairOrder}

@@ -1,5 +1,5 @@
 use Rattle.std.proofs.Common.{◌≡◌, ℕ, ap, arith}
-use Rattle.sctp_model.specs.World.{Configuration}
+use Rattle.sctp_model.specs.first.World.{Configuration}
 use Rattle.sctp_script.specs.Lines.{Pairs}
 use Rattle.sctp_script.specs.Settings.{sizes}
 use Rattle.sctp_script.proofs.LineLemmas.{five_words, AreNumbers, says_nothing}

@@ -1,7 +1,7 @@
 use Rattle.std.proofs.Common.{refl, sym, subst, ap}
 use Rattle.sctp_model.specs.SenderView.{SenderView}
 use Rattle.sctp_model.specs.Plan.{Plan}
-use Rattle.sctp_model.specs.Sending.{acknowledged}
+use Rattle.sctp_model.specs.first.Sending.{acknowledged}
 use Rattle.sctp_wire.specs.ChunkTree.{chunk_meaning, piece_meaning}
 use Rattle.sctp_trace.specs.EndStands.{EndStands}
 use Rattle.sctp_trace.proofs.EndLemmas.{not_over, data_heard, end_acknowledged}

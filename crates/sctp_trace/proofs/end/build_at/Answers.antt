@@ -1,13 +1,14 @@
 use Rattle.std.proofs.Common.{◌≡◌, ℕ, suc, List, Some, true, false, ◌∷◌, ◌++◌, [], length, refl, sym, subst, ap, ◌∙◌, inl, inr, arith}
 use Rattle.std.proofs.lemmas.Grind.{common_steps}
 use Rattle.sctp_model.specs.SenderView.{SenderView}
-use Rattle.sctp_model.specs.Sending.{went_out}
-use Rattle.sctp_model.specs.World as world
-use Rattle.sctp_model.specs.World.{EndView, Packet, Builds, end_of, bag_of, size_of_packet}
+use Rattle.sctp_model.specs.first.Sending.{went_out}
+use Rattle.sctp_model.specs.first.World as world
+use Rattle.sctp_model.specs.first.World.{EndView, Packet, Builds, end_of, bag_of}
+use Rattle.sctp_model.specs.Packet.{size_of_packet}
 use Rattle.sctp_script.specs.Events.{side_said, state_said}
 use Rattle.sctp_trace.specs.EndStands.{EndStands, is_established, tickets_noted}
 use Rattle.sctp_packet.specs.PacketBytes.{Draft, with_chunks, empty_draft, IsPacketOf}
-use Rattle.sctp_send.specs.SenderStands.{StandsFor}
+use Rattle.sctp_first_send.specs.SenderStands.{StandsFor}
 use Rattle.sctp_trace.proofs.BagLemmas.{bag-push, bag-length, same_bag, packet_bag}
 use Rattle.sctp_trace.proofs.EndLemmas.{is_open, isnt_open, is_built, is_idle, end_reserved, end_built, has_first}
 use Rattle.sctp_trace.proofs.end.build_at.Goals as goal

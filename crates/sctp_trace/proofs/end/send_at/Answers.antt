@@ -1,7 +1,7 @@
 use Rattle.std.proofs.Common.{◌≡◌, ℕ, List, Some, None, true, false, ◌∷◌, [], refl, sym, subst, ap, ◌∙◌, arith}
 use Rattle.std.proofs.lemmas.Grind.{common_steps}
-use Rattle.sctp_model.specs.World as world
-use Rattle.sctp_model.specs.World.{end_of, sent_by_user}
+use Rattle.sctp_model.specs.first.World as world
+use Rattle.sctp_model.specs.first.World.{end_of, sent_by_user}
 use Rattle.sctp_script.specs.Events.{side_said, state_said}
 use Rattle.sctp_trace.specs.EndStands.{EndStands, is_established}
 use Rattle.sctp_trace.proofs.BagLemmas.{same_end}

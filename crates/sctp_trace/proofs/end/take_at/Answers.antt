@@ -2,12 +2,12 @@ use Rattle.std.proofs.Common.{◌≡◌, ℕ, List, Some, ◌∷◌, ◌++◌, [
 use Rattle.std.specs.List.{AllByRecursion}
 use Rattle.std.proofs.lemmas.Grind.{common_steps}
 use Rattle.sctp_model.specs.ReceiverView.{Handed, ReceiverView}
-use Rattle.sctp_model.specs.World as world
-use Rattle.sctp_model.specs.World.{end_of, taken_by_user}
+use Rattle.sctp_model.specs.first.World as world
+use Rattle.sctp_model.specs.first.World.{end_of, taken_by_user}
 use Rattle.sctp_script.specs.Events.{side_said}
 use Rattle.sctp_trace.specs.EndStands.{EndStands, IsOn}
-use Rattle.sctp_recv.specs.HandedOf.{handed_of}
-use Rattle.sctp_recv.specs.ReceiverStands.{ReceiverStands}
+use Rattle.sctp_first_recv.specs.HandedOf.{handed_of}
+use Rattle.sctp_first_recv.specs.ReceiverStands.{ReceiverStands}
 use Rattle.sctp_trace.specs.declared.end.TakenMessage.{TakenMessage}
 use Rattle.sctp_trace.proofs.BagLemmas.{same_end}
 use Rattle.sctp_trace.proofs.EndLemmas.{end_took}

@@ -1,5 +1,5 @@
 use Rattle.std.proofs.Common.{◌≡◌, ◌++◌, take}
-use Rattle.sctp_send.specs.SenderSteps.{numbers_of}
+use Rattle.sctp_first_send.specs.SenderSteps.{numbers_of}
 use Rattle.sctp_trace.proofs.end_report.append_tickets.Given as goal
 
 abbrev pub invariant-loop-ticket : goal.invariant-loop-ticket

@@ -1,5 +1,5 @@
 use Rattle.std.proofs.Common.{◌≡◌, ◌++◌, take, map}
-use Rattle.sctp_recv.specs.HandedOf.{handed_of}
+use Rattle.sctp_first_recv.specs.HandedOf.{handed_of}
 use Rattle.sctp_trace.proofs.end_report.append_waiting.Given as goal
 
 abbrev pub invariant-loop-index : goal.invariant-loop-index

@@ -1,6 +1,6 @@
 use Rattle.std.proofs.Common.{◌≡◌, [], Some, Ok, refl, subst, Option}
-use Rattle.sctp_model.specs.World as world
-use Rattle.sctp_model.specs.World.{World, Step, start}
+use Rattle.sctp_model.specs.first.World as world
+use Rattle.sctp_model.specs.first.World.{World, Step, start}
 use Rattle.sctp_script.specs.Events.{event_said}
 use Rattle.sctp_script.specs.Lines.{Silent, Pairs, Acts, Says}
 use Rattle.sctp_script.specs.ReadLines.{Finds}

@@ -1,5 +1,5 @@
 use Rattle.std.proofs.Common.{◌≡◌, ℕ, ◌-◌, ◌≤◌, List, Option}
-use Rattle.sctp_model.specs.World.{World}
+use Rattle.sctp_model.specs.first.World.{World}
 use Rattle.sctp_script.specs.LinesRead.{LONGEST_SCRIPT}
 use Rattle.sctp_trace.specs.ScriptSteps.{IsSoFar}
 use Rattle.sctp_trace.proofs.script.run_script.Given as goal

@@ -7,7 +7,7 @@ pub returns : goal.returns
 unfolding EndStands
 returns c = record {
   state = refl;
-  sender = rw (c.streams-2.ensures, c.fragment.ensures) at (c.new-2.ensures (configuration_of c.args.config.now));
+  sender = rw (c.streams-2.ensures, c.fragment.ensures) at (c.new-2.ensures (configuration_of c.args.config.now).buffer);
   receiver = rw (c.streams.ensures, c.buffer.ensures) at c.in_ok-receiver.ensures;
   sack_due = refl;
   streams = c.streams-3.ensures;

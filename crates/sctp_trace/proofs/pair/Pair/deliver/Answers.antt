@@ -1,7 +1,7 @@
 use Rattle.std.proofs.Common.{◌≡◌, Some, true, false, refl, sym, subst, ap, ◌∙◌, arith}
 use Rattle.std.proofs.lemmas.Grind.{common_steps}
-use Rattle.sctp_model.specs.World as world
-use Rattle.sctp_model.specs.World.{A, B, with_end}
+use Rattle.sctp_model.specs.first.World as world
+use Rattle.sctp_model.specs.first.World.{A, B, with_end}
 use Rattle.sctp_trace.specs.PairStands.{PairStands, with_bag}
 use Rattle.sctp_trace.proofs.pair.Pair.deliver.Goals as goal
 

@@ -1,7 +1,7 @@
 use Rattle.std.proofs.Common.{◌≡◌, Some, true, false, refl, sym, subst, ap, ◌∙◌, arith}
 use Rattle.std.proofs.lemmas.Grind.{common_steps}
-use Rattle.sctp_model.specs.World as world
-use Rattle.sctp_model.specs.World.{Configuration}
+use Rattle.sctp_model.specs.first.World as world
+use Rattle.sctp_model.specs.first.World.{Configuration}
 use Rattle.sctp_trace.specs.EndStands.{EndStands}
 use Rattle.sctp_trace.specs.PairStands.{PairStands}
 use Rattle.sctp_trace.proofs.pair.Pair.open.Goals as goal

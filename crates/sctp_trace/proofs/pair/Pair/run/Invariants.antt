@@ -1,7 +1,7 @@
 use Rattle.std.proofs.Common.{◌≡◌, ◌≤◌, List, Option, length, take, map, vec_len}
 use Rattle.std.specs.Prelude.{vec_capacity}
-use Rattle.sctp_model.specs.World as world
-use Rattle.sctp_model.specs.World.{World, Run, last_of}
+use Rattle.sctp_model.specs.first.World as world
+use Rattle.sctp_model.specs.first.World.{World, Run, last_of}
 use Rattle.sctp_script.specs.Events.{event_said}
 use Rattle.sctp_trace.specs.PairRuns.{AllTold}
 use Rattle.sctp_trace.specs.PairStands.{PairStands}

@@ -1,5 +1,5 @@
 use Rattle.std.proofs.Common.{◌∷◌, []}
-use Rattle.sctp_model.specs.World.{Step}
+use Rattle.sctp_model.specs.first.World.{Step}
 use Rattle.sctp_script.specs.Events.{event_said}
 use Rattle.sctp_trace.proofs.RunLemmas.{promised_step}
 use Rattle.sctp_trace.proofs.pair.Pair.step.Goals as goal

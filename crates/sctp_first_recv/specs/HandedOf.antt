@@ -1,0 +1,15 @@
+-- What a message that was handed over says.
+use Rattle.std.specs.Prelude.{unwrap_or}
+use Rattle.sctp_model.specs.Format.{ordered_lane}
+use Rattle.sctp_model.specs.ReceiverView.{Handed}
+use Rattle.sctp_first_recv.specs.declared.message.Message.{Message}
+
+-- a message: as yet all are ordered
+abbrev pub handed_of : Message → Handed
+handed_of m = record {
+  first = m.first;
+  lane = ordered_lane m.stream;
+  number = unwrap_or m.number 0;
+  payload = m.payload_id;
+  bytes = m.bytes.items;
+}
