@@ -4,7 +4,7 @@ use Rattle.std.specs.Prelude.{nat_le, max, true, false}
 use Rattle.std.specs.List.{flat_map, AllByRecursion}
 use Rattle.std.proofs.lemmas.List.{append-nil, length-take, take-append-drop, nil_from_length, take-append-le, drop-append-le}
 use Rattle.std.proofs.lemmas.Grind.{common_steps, flat_map-append}
-use Rattle.sctp_model.specs.Chunk.{ChunkMeaning, Data, Sack, Unknown, size_of_chunk}
+use Rattle.sctp_model.specs.Chunk.{ChunkMeaning, Data, Sack, size_of_chunk}
 use Rattle.sctp_model.specs.Packet.{HEADER_ROOM, size_of_chunks, size_of_packet}
 use Rattle.sctp_wire.specs.Layouts.{Fits}
 use Rattle.sctp_wire.specs.Reading.{chunks_of, reading_of}
@@ -15,13 +15,13 @@ use Rattle.sctp_packet.proofs.WrittenLengths.{size_of_written}
 
 -- ---- sizes
 
-size_of_all_written : (ms : List ChunkMeaning) → length (flat_map written ms) ≡ size_of_chunks ms
-size_of_all_written [] = refl
-size_of_all_written (m ∷ ms) =
-    omega (arith, length-append (written m) (flat_map written ms), size_of_written m, size_of_all_written ms)
+size_of_all_written : (ms : List ChunkMeaning) → AllByRecursion Fits ms → length (flat_map written ms) ≡ size_of_chunks ms
+size_of_all_written [] all = refl
+size_of_all_written (m ∷ ms) all =
+    omega (arith, length-append (written m) (flat_map written ms), size_of_written m all.0, size_of_all_written ms all.1)
 
 pub size_of_writes : (bytes : List ℕ) (ms : List ChunkMeaning) → Writes bytes ms → length bytes ≡ size_of_chunks ms
-size_of_writes bytes ms w = ap length w.bytes_are ∙ size_of_all_written ms
+size_of_writes bytes ms w = ap length w.bytes_are ∙ size_of_all_written ms w.fits
 
 pub size_of_more : (ms : List ChunkMeaning) (m : ChunkMeaning) → size_of_chunks (ms ++ m ∷ []) ≡ size_of_chunks ms + size_of_chunk m
 size_of_more [] m = omega arith
@@ -31,7 +31,7 @@ size_of_more (x ∷ ms) m = omega (arith, size_of_more ms m)
 pub size_some : (m : ChunkMeaning) → 0 < size_of_chunk m
 size_some (Data p) = omega arith
 size_some (Sack s) = omega arith
-size_some (Unknown kind flags value) = omega arith
+size_some m = omega arith
 
 -- ---- what is written, and read back
 
@@ -114,7 +114,7 @@ draft_put limit bytes after m law d fits room is =
       draft = record {
         header = λ some. rw (is, take-append-le HEADER_ROOM (with_header bytes) (written m) long) (header_first limit bytes d);
         writes = subst (λ (ms : List ChunkMeaning). Writes (drop HEADER_ROOM after) ms) (sym same) more;
-        within = λ some. omega (arith, ap length is, length-append (with_header bytes) (written m), draft_size limit bytes d, size_of_more (chunks_of (drop HEADER_ROOM bytes)) m, size_of_written m);
+        within = λ some. omega (arith, ap length is, length-append (with_header bytes) (written m), draft_size limit bytes d, size_of_more (chunks_of (drop HEADER_ROOM bytes)) m, size_of_written m fits);
       };
       chunks = same;
     }

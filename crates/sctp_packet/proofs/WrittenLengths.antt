@@ -4,7 +4,7 @@ use Rattle.std.specs.List.{flat_map}
 use Rattle.std.proofs.Math.ListN.{length-replicate}
 use Rattle.sctp_model.specs.Chunk.{PieceMeaning, BlockMeaning, SackMeaning, ChunkMeaning, Data, Sack, Unknown, size_of_chunk}
 use Rattle.sctp_wire.specs.Items.{half, word, block_bytes, padded, padding_after}
-use Rattle.sctp_wire.specs.Layouts.{data_value, sack_value, value_of, chunk_length}
+use Rattle.sctp_wire.specs.Layouts.{data_value, sack_value, value_of, chunk_length, Fits}
 use Rattle.sctp_wire.specs.Writes.{written}
 
 length-half : (n : ℕ) → length (half n) ≡ 2
@@ -39,7 +39,8 @@ length-written m =
     let padding : List ℕ = replicate (padding_after (chunk_length m)) 0 in
     omega (arith, length-append (half (chunk_length m)) (value_of m ++ padding), length-half (chunk_length m), length-append (value_of m) padding, length-replicate {A = ℕ} (padding_after (chunk_length m)) 0)
 
-pub size_of_written : (m : ChunkMeaning) → length (written m) ≡ size_of_chunk m
-size_of_written (Data p) = omega (arith, length-written (Data p), length-data_value p)
-size_of_written (Sack s) = omega (arith, length-written (Sack s), length-sack_value s)
-size_of_written (Unknown kind flags value) = omega (arith, length-written (Unknown kind flags value))
+pub size_of_written : (m : ChunkMeaning) → Fits m → length (written m) ≡ size_of_chunk m
+size_of_written (Data p) fits = omega (arith, length-written (Data p), length-data_value p)
+size_of_written (Sack s) fits = omega (arith, length-written (Sack s), length-sack_value s)
+size_of_written (Unknown kind flags value) fits = omega (arith, length-written (Unknown kind flags value))
+size_of_written m fits = absurd fits.fields

@@ -3,7 +3,7 @@ use Rattle.std.proofs.Common.{◌≡◌, ℕ, ◌≤◌, ◌⊎◌, ◌&&◌, tr
 use Rattle.std.proofs.lemmas.Bool.{and_parts, cases_eq}
 use Rattle.sctp_model.specs.Lists.{Has, at}
 use Rattle.sctp_model.specs.Pieces.{Piece}
-use Rattle.sctp_model.specs.Chunk.{PieceMeaning, ChunkMeaning, Data, Sack, Unknown}
+use Rattle.sctp_model.specs.Chunk.{PieceMeaning, ChunkMeaning, Data, Sack}
 use Rattle.sctp_model.specs.ReceiverView.{ReceiverView}
 use Rattle.sctp_model.specs.Receiving.{recorded, is_below, Takes}
 use Rattle.sctp_model.specs.Format.{Plain}
@@ -73,7 +73,7 @@ act_simple e (Data p) t (inl (taken, (r, how, same))) s =
     subst (λ (y : EndView). IsSimple y.receiver) (sym same) (piece_simple e.receiver p r (taken_alone e.receiver p taken) how s)
 act_simple e (Data p) t (inr (passed, same)) s = subst (λ (y : EndView). IsSimple y.receiver) (sym same) s
 act_simple e (Sack x) t same s = subst (λ (y : EndView). IsSimple y.receiver) (sym same) s
-act_simple e (Unknown k f v) t same s = subst (λ (y : EndView). IsSimple y.receiver) (sym same) s
+act_simple e m t same s = subst (λ (y : EndView). IsSimple y.receiver) (sym same) s
 
 pub acts_simple : (e : EndView) (cs : Packet) (t : EndView) → Acts e cs t → IsSimple e.receiver → IsSimple t.receiver
 acts_simple e [] t same s = subst (λ (y : EndView). IsSimple y.receiver) (sym same) s

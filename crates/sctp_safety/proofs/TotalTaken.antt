@@ -4,7 +4,7 @@ use Rattle.std.proofs.lemmas.Bool.{cases_Bool, cases_eq, cases_lt}
 use Rattle.sctp_model.specs.Lists.{Has}
 use Rattle.sctp_model.specs.Format.{Plain, Lane, ordered_lane}
 use Rattle.sctp_model.specs.Pieces.{Piece}
-use Rattle.sctp_model.specs.Chunk.{PieceMeaning, ChunkMeaning, Data, Sack, Unknown}
+use Rattle.sctp_model.specs.Chunk.{PieceMeaning, ChunkMeaning, Data, Sack}
 use Rattle.sctp_model.specs.ReceiverView.{Handed, ReceiverView, IsReached, IsCumulative}
 use Rattle.sctp_model.specs.Receiving.{IsWholeNumber, IsLowest, HasNoWhole, message_of, IsDue, Stop, Over, Past, recorded, Takes}
 use Rattle.sctp_model.specs.first.World.{EndView, Packet, is_taken, piece_said, IsDuplicate, PieceTaken, Duplicate, Passed, Taken, Act, Acts}
@@ -204,7 +204,7 @@ can_act e (Data p) s = go (is_taken e.receiver p) refl
     go true h = taken h (piece_comes e.receiver p (taken_alone e.receiver p h) s)
     go false h = (e, inr (h, refl))
 can_act e (Sack x) s = (_, refl)
-can_act e (Unknown k f v) s = (e, refl)
+can_act e m s = (e, refl)
 
 -- Every packet can act at an end.
 pub can_act_all : (e : EndView) (cs : Packet) → IsSimple e.receiver → (t : EndView) × Acts e cs t

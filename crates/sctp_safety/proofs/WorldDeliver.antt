@@ -3,7 +3,7 @@ use Rattle.std.proofs.Common.{◌≡◌, ℕ, ◌≤◌, ◌⊎◌, ◌||◌, Bo
 use Rattle.std.proofs.lemmas.Bool.{cases_Bool}
 use Rattle.sctp_model.specs.Lists.{IsWithin, Has}
 use Rattle.sctp_model.specs.Pieces.{Piece}
-use Rattle.sctp_model.specs.Chunk.{PieceMeaning, SackMeaning, ChunkMeaning, Data, Sack, Unknown}
+use Rattle.sctp_model.specs.Chunk.{PieceMeaning, SackMeaning, ChunkMeaning, Data, Sack}
 use Rattle.sctp_model.specs.SenderView.{SenderView}
 use Rattle.sctp_model.specs.ReceiverView.{ReceiverView}
 use Rattle.sctp_model.specs.Acknowledgement.{Acknowledgement, covers}
@@ -84,7 +84,7 @@ one_acts c e f t out back k (Data p) sent within (inl (taken, (r, how, same))) (
 one_acts c e f t out back k (Data p) sent within (inr (passed, same)) ds = subst (λ (y : EndView). Directions c e y out back) (sym same) ds
 one_acts c e f t out back k (Sack s) sent within same (ab, ba) =
     subst (λ (y : EndView). Directions c e y out back) (sym same) (ab, sack_comes c f.sender f.asked e.receiver back out k s sent within ba)
-one_acts c e f t out back k (Unknown n g v) sent within same ds = subst (λ (y : EndView). Directions c e y out back) (sym same) ds
+one_acts c e f t out back k m sent within same ds = subst (λ (y : EndView). Directions c e y out back) (sym same) ds
 
 -- Chunks of a packet that the one end built act at the other.
 pub many_act : (c : Configuration) (e f t : EndView) (out back : List Packet) (k xs : Packet) → Has out k → IsWithin xs k →

@@ -3,7 +3,7 @@ use Rattle.std.proofs.Common.{◌≡◌, ℕ, true, false, List, [], ◌∷◌, 
 use Rattle.sctp_model.specs.Lists.{Has, IsWithin, item_at}
 use Rattle.sctp_model.specs.SenderView.{SenderView}
 use Rattle.sctp_model.specs.first.Sending.{refusal}
-use Rattle.sctp_model.specs.Chunk.{ChunkMeaning, Data, Sack, Unknown}
+use Rattle.sctp_model.specs.Chunk.{ChunkMeaning, Data, Sack}
 use Rattle.sctp_model.specs.first.World.{first_receiver, first_sender, Closed, Listen, refusal_in, State, taken_by_user, sent_by_user, Side, A, B, Configuration, Established, EndView, Packet, World, fresh_end, start, Act, Acts, Event, Open, Send, Build, Deliver, Take, Outcome, Done, OpenRefused, SendRefused, Ticket, Sent, Quiet, Acted, Absent, Message, Nothing, end_of, other, bag_of, with_end, with_packet, Step, Run, last_of, IsReachable}
 use Rattle.sctp_safety.specs.Worlds.{IsSafeWorld, SafeWorlds, AllSafe, SafeRuns}
 use Rattle.sctp_safety.proofs.Basics.{Has-left}
@@ -106,7 +106,7 @@ act_state : (e : EndView) (c : ChunkMeaning) (t : EndView) → Act e c t → t.s
 act_state e (Data p) t (inl (taken, (r, how, same))) = ap (λ (y : EndView). y.state) same
 act_state e (Data p) t (inr (passed, same)) = ap (λ (y : EndView). y.state) same
 act_state e (Sack s) t same = ap (λ (y : EndView). y.state) same
-act_state e (Unknown k f v) t same = ap (λ (y : EndView). y.state) same
+act_state e m t same = ap (λ (y : EndView). y.state) same
 
 acts_state : (e : EndView) (cs : Packet) (t : EndView) → Acts e cs t → t.state ≡ e.state
 acts_state e [] t same = ap (λ (y : EndView). y.state) same

@@ -226,6 +226,7 @@ body_read (Sack s) flags any fits =
 body_read (Unknown kind kept value) flags e fits =
     let other = neither (kind == 0) (kind == 3) fits.fields.other in
     record { laid_out = rw (other.0, other.1) refl; body = rw (other.0, other.1, e) refl }
+body_read m flags any fits = absurd fits.fields
 
 body_data : (kind flags : ℕ) (value : List ℕ) → AreBytes value → kind ≡ 0 → is_laid_out kind value ≡ true → IsBody kind flags value (body_at kind flags value)
 unfolding body_at

@@ -20,6 +20,7 @@ reads_flags : (m : ChunkMeaning) → ReadsFlags (flags_of m) m
 reads_flags (Data p) = (0, omega arith)
 reads_flags (Sack s) = tt
 reads_flags (Unknown kind flags value) = refl
+reads_flags m = tt
 
 pub length-written : (m : ChunkMeaning) → length (written m) ≡ padded (chunk_length m)
 length-written m =

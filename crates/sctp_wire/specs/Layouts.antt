@@ -1,5 +1,5 @@
 -- The layout of each chunk, by its type: type, flags and value (RFC 9260, 3.2, 3.3.1 and 3.3.4).
-use Rattle.std.specs.Prelude.{◌≡◌, ℕ, ◌+◌, ◌<◌, ◌^◌, Bool, false, if◌then◌else◌, ◌==◌, ◌||◌, List, ◌++◌, length}
+use Rattle.std.specs.Prelude.{◌≡◌, ℕ, ◌+◌, ◌<◌, ◌^◌, Bool, false, if◌then◌else◌, ◌==◌, ◌||◌, List, [], ◌++◌, length}
 use Rattle.std.specs.List.{flat_map, AllByRecursion}
 use Rattle.sctp_model.specs.Chunk.{PieceMeaning, SackMeaning, ChunkMeaning, Data, Sack, Unknown}
 use Rattle.sctp_wire.specs.declared.codes.TheConstants.{DATA, SACK, IMMEDIATE, UNORDERED, BEGIN, END}
@@ -14,6 +14,7 @@ abbrev pub kind_of : ChunkMeaning → ℕ
 kind_of (Data p) = DATA
 kind_of (Sack s) = SACK
 kind_of (Unknown kind flags value) = kind
+kind_of m = 0
 
 -- a flag's bit where it is set
 abbrev pub flag : ℕ → Bool → ℕ
@@ -28,6 +29,7 @@ abbrev pub flags_of : ChunkMeaning → ℕ
 flags_of (Data p) = data_flags p
 flags_of (Sack s) = 0
 flags_of (Unknown kind flags value) = flags
+flags_of m = 0
 
 -- DATA: TSN, stream, SSN, payload protocol identifier, data (RFC 9260, 3.3.1)
 abbrev pub data_value : PieceMeaning → List ℕ
@@ -44,6 +46,7 @@ abbrev pub value_of : ChunkMeaning → List ℕ
 value_of (Data p) = data_value p
 value_of (Sack s) = sack_value s
 value_of (Unknown kind flags value) = value
+value_of m = []
 
 -- the length field: header and value, without the padding behind it (RFC 9260, 3.2)
 abbrev pub chunk_length : ChunkMeaning → ℕ
@@ -69,11 +72,12 @@ pub record IsUnknown (code kept : ℕ) : Type 0 where
   pub other : is_known code ≡ false
   pub flags : kept < 2 ^ 8
 
--- the fields are within their bits
+-- the fields are within their bits; of the other types none has a layout as yet
 abbrev pub IsInRange : ChunkMeaning → Type 0
 IsInRange (Data p) = IsDataPiece p
 IsInRange (Sack s) = IsSack s
 IsInRange (Unknown kind flags value) = IsUnknown kind flags
+IsInRange m = ⊥
 
 -- what has bytes: its fields and its length are within their bits
 pub record Fits (m : ChunkMeaning) : Type 0 where

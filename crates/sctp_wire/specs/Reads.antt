@@ -14,6 +14,7 @@ abbrev pub ReadsFlags : ℕ → ChunkMeaning → Type 0
 ReadsFlags flags (Data p) = (unused : ℕ) × (flags ≡ 16 * unused + data_flags p)
 ReadsFlags flags (Sack s) = Unit {0}
 ReadsFlags flags (Unknown kind kept value) = flags ≡ kept
+ReadsFlags flags m = Unit {0}
 
 -- the bytes are this chunk: header, value, and padding of any value up to a multiple of 4
 pub record ReadsChunk (bytes : List ℕ) (m : ChunkMeaning) : Type 0 where

@@ -4,7 +4,7 @@ use Rattle.sctp_model.specs.Lists.{item_at, at}
 use Rattle.sctp_model.specs.Format.{Plain, ordered_lane}
 use Rattle.sctp_model.specs.Plan.{bytes_of}
 use Rattle.sctp_model.specs.Pieces.{Piece}
-use Rattle.sctp_model.specs.Chunk.{PieceMeaning, SackMeaning, ChunkMeaning, Data, Sack, Unknown}
+use Rattle.sctp_model.specs.Chunk.{PieceMeaning, SackMeaning, ChunkMeaning, Data, Sack}
 use Rattle.sctp_model.specs.Packet.{HEADER_ROOM, size_of_packet}
 use Rattle.sctp_model.specs.SenderView.{Queued, SenderView, fresh_sender}
 use Rattle.sctp_model.specs.ReceiverView.{Handed, ReceiverView, IsCumulative, fresh_receiver, room_left}
@@ -108,7 +108,7 @@ Act e (Data p) t =
     ((is_taken e.receiver p ≡ true) × ((r : ReceiverView) × PieceTaken e.receiver (piece_said p) r × (t ≡ record e { receiver = r; sack_due = true })))
     ⊎ ((is_taken e.receiver p ≡ false) × (t ≡ e))
 Act e (Sack s) t = t ≡ record e { sender = acknowledged e.sender s.cumulative s.rwnd }
-Act e (Unknown k f v) t = t ≡ e
+Act e c t = t ≡ e
 
 -- the chunks of a packet act in their order
 abbrev pub Acts : EndView → Packet → EndView → Type 0

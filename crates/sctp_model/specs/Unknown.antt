@@ -1,0 +1,87 @@
+-- Types that an end doesn't know: what is still acted on and what is reported, by the two highest bits of the type (RFC 9260, 3.2
+-- and 3.2.1).
+use Rattle.std.specs.Prelude.{ℕ, ◌+◌, ◌-◌, ◌/◌, ◌%◌, ◌^◌, Bool, true, false, if◌then◌else◌, ◌==◌, ◌||◌, nat_lt, List, [], ◌∷◌, ◌++◌, length, Option, Some, None}
+use Rattle.sctp_model.specs.Chunk.{ChunkMeaning, Unknown}
+use Rattle.sctp_model.specs.Numbers.{u16_bytes}
+use Rattle.sctp_model.specs.Typed.{Typed, typed_bytes}
+
+-- What is done about an unknown type: nothing behind it is looked at any more, and it is reported.
+pub record RuleMeaning : Type 0 where
+  pub stop : Bool
+  pub report : Bool
+
+-- By the two highest bits of a type of so many bits: 00 stop; 01 stop and report; 10 skip; 11 skip and report.
+abbrev pub rule_of : (bits : ℕ) → ℕ → RuleMeaning
+rule_of bits kind = record { stop = nat_lt kind (2 ^ (bits - 1)); report = kind / 2 ^ (bits - 2) % 2 == 1 }
+
+-- the rule of a chunk's type, which has 8 bits
+abbrev pub chunk_rule : ℕ → RuleMeaning
+chunk_rule kind = rule_of 8 kind
+
+-- the rule of a parameter's type, which has 16 bits
+abbrev pub parameter_rule : ℕ → RuleMeaning
+parameter_rule kind = rule_of 16 kind
+
+-- ---- chunks
+
+-- The chunks of a packet that are acted on: all of a known type before an unknown one that stops.
+abbrev pub chunks_acted_on : List ChunkMeaning → List ChunkMeaning
+chunks_acted_on [] = []
+chunks_acted_on (Unknown kind flags value ∷ ms) = if (chunk_rule kind).stop then [] else chunks_acted_on ms
+chunks_acted_on (m ∷ ms) = m ∷ chunks_acted_on ms
+
+-- this one, where its rule says so, before others
+abbrev pub reported_before : {X : Type 0} → Bool → X → List X → List X
+reported_before true x xs = x ∷ xs
+reported_before false x xs = xs
+
+-- The chunks of a packet that are reported, none behind one that stops.
+abbrev pub chunks_reported : List ChunkMeaning → List ChunkMeaning
+chunks_reported [] = []
+chunks_reported (Unknown kind flags value ∷ ms) =
+    reported_before (chunk_rule kind).report (Unknown kind flags value) (if (chunk_rule kind).stop then [] else chunks_reported ms)
+chunks_reported (m ∷ ms) = chunks_reported ms
+
+-- The cause of type 6 that reports a chunk: its header and value, without padding (RFC 9260, 3.3.10.6).
+abbrev pub chunk_report : (kind flags : ℕ) → (value : List ℕ) → List ℕ
+chunk_report kind flags value =
+    typed_bytes (record { kind = 6; value = kind ∷ flags ∷ (u16_bytes (4 + length value) ++ value) })
+
+-- ---- parameters
+
+-- State Cookie, Unrecognized Parameter, Supported Extensions, Forward-TSN-Supported
+abbrev pub is_known_parameter : ℕ → Bool
+is_known_parameter kind = (kind == 7) || (kind == 8) || (kind == 32776) || (kind == 49152)
+
+-- both addresses, Cookie Preservative, host name, supported address types: skipped without a report
+abbrev pub is_passed_over : ℕ → Bool
+is_passed_over kind = (kind == 5) || (kind == 6) || (kind == 9) || (kind == 11) || (kind == 12)
+
+-- what is acted on from a parameter on, where so much is acted on behind it
+abbrev pub acted_from : Typed → List Typed → List Typed
+acted_from x later =
+    if is_known_parameter x.kind then x ∷ later
+    else if is_passed_over x.kind then later
+    else if (parameter_rule x.kind).stop then []
+    else later
+
+-- The parameters of a chunk that are acted on: the known ones before an unknown one that stops.
+abbrev pub parameters_acted_on : List Typed → List Typed
+parameters_acted_on [] = []
+parameters_acted_on (x ∷ xs) = acted_from x (parameters_acted_on xs)
+
+-- what is reported from a parameter on, where so much is reported behind it
+abbrev pub reported_from : Typed → List Typed → List Typed
+reported_from x later =
+    if is_known_parameter x.kind || is_passed_over x.kind then later
+    else reported_before (parameter_rule x.kind).report x (if (parameter_rule x.kind).stop then [] else later)
+
+-- The parameters of a chunk that are reported, each that is repeated too, none behind one that stops.
+abbrev pub parameters_reported : List Typed → List Typed
+parameters_reported [] = []
+parameters_reported (x ∷ xs) = reported_from x (parameters_reported xs)
+
+-- The value of the first parameter of a type among these: of a repeated one the first counts.
+abbrev pub first_of : ℕ → List Typed → Option (List ℕ)
+first_of kind [] = None
+first_of kind (x ∷ xs) = if x.kind == kind then Some x.value else first_of kind xs
