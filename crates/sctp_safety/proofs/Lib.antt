@@ -19,8 +19,8 @@ mod UnorderedMoves
 mod PieceMoves
 mod ForwardMove
 mod TakeMoves
-mod SkipLaw
-mod WholeLaw
+pub mod SkipLaw
+pub mod WholeLaw
 mod Always
 mod WorldWay
 mod WorldUser
