@@ -10,8 +10,8 @@ ghost use Rattle.sctp_first_send.specs.SenderSteps as sender;
 
 use crate::end::{End, TakenMessage};
 use sctp_first_recv::Message;
-use sctp_script::{Side, put_end, put_handed, put_numbered};
 use sctp_first_send::{Filled, Ticket};
+use sctp_script::{Side, put_end, put_handed, put_numbered};
 use sctp_wire::NoMemory;
 use std::alloc::Global;
 use std::collections::VecDeque;

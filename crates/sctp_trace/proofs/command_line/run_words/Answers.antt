@@ -1,6 +1,6 @@
 use Rattle.std.proofs.Common.{rules, refl, ◌≡◌, inl, inr, List, ℕ, [], map, string_bytes, subst, MatchOption}
 use Rattle.sctp_trace.specs.ExitStatus.{IsForm}
-use Rattle.sctp_trace.proofs.words.run_words.Goals as goal
+use Rattle.sctp_trace.proofs.command_line.run_words.Goals as goal
 
 -- the words are no form: nothing is read or written
 pub returns-in-Ok-Some-clause-ends : goal.returns-in-Ok-Some-clause-ends

@@ -4,7 +4,7 @@ use Rattle.std.specs.Prelude.{Ok, Err}
 use Rattle.sctp_trace.specs.declared.script.ScriptFault.TheVariants.{Line}
 use Rattle.sctp_trace.specs.Script.{IsAnswered}
 use Rattle.sctp_trace.specs.ExitStatus.{refused_line, Begins}
-use Rattle.sctp_trace.proofs.words.run.Goals as goal
+use Rattle.sctp_trace.proofs.command_line.run.Goals as goal
 
 -- nothing was said
 pub returns-in-Ok-clause-runs : goal.returns-in-Ok-clause-runs

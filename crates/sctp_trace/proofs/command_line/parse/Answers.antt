@@ -3,7 +3,7 @@ use Rattle.clap.specs.Words.{App, Shape, app_of, fault_of, is_simple_and_free, H
 use Rattle.clap.specs.Simple.{app_of_fields, new_app, on_top, with_subcommand}
 use Rattle.clap.proofs.OnLiterals.{clap_on_literals}
 use Rattle.sctp_trace.specs.ExitStatus.{commands}
-use Rattle.sctp_trace.proofs.words.parse.Goals as goal
+use Rattle.sctp_trace.proofs.command_line.parse.Goals as goal
 
 is_free : is_simple_and_free commands ≡ true
 unfolding clap_on_literals

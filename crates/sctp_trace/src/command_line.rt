@@ -1,4 +1,4 @@
-//! The words of the program, and its exit status.
+//! The command line of the program: what its words ask for, and the exit status.
 
 ghost use Rattle.std.specs.Prelude.{◌≡◌, ℕ, ◌⊎◌, ◌+◌, ◌-◌, ◌^◌, ◌<◌, ◌≤◌, List, map, string_bytes, IfOk, MatchOption};
 ghost use Rattle.clap.specs.Words.{FailsBy, fault_of};
@@ -14,13 +14,13 @@ use std::alloc::Global;
 /// The name of the program in what is said of its words.
 const PROGRAM: &str = "sctp-trace";
 /// The exit status of a script that was run whole.
-const DONE: u8 = 0;
+pub const DONE: u8 = 0;
 /// The exit status of words that are no form of the program's.
-const WRONG_WORDS: u8 = 1;
+pub const WRONG_WORDS: u8 = 1;
 /// The exit status of a script with a fault in a line.
-const REFUSED: u8 = 2;
+pub const REFUSED: u8 = 2;
 /// The exit status where reading, writing or memory failed.
-const FAILED: u8 = 3;
+pub const FAILED: u8 = 3;
 
 /// Does what the words say, of which the first is the program's own name, and answers the exit status.
 ///
@@ -43,12 +43,12 @@ pub fn run_words<R: Source, W: Sink, F: Sink>(
         × F.Writes faults.old said faults.new
         × Ends (R.IsAtEnd input.new) (map string_bytes words.now) result read written said }
     // No call fails but the last one, and then the status says so.
-    ensures well { result < 3 → (R.failures input.new ≡ R.failures input.old) × (W.failures output.new ≡ W.failures output.old)
+    ensures well { result < FAILED → (R.failures input.new ≡ R.failures input.old) × (W.failures output.new ≡ W.failures output.old)
         × (F.failures faults.new ≡ F.failures faults.old) }
     ensures once { R.failures input.new + W.failures output.new + F.failures faults.new
         ≤ R.failures input.old + W.failures output.old + F.failures faults.old + 1 }
 {
-    match objection(alloc, words) {
+    match refusal(alloc, words) {
         Ok(None) => run(alloc, input, output, faults),
         Ok(Some(text)) => tell(faults, text.as_str(), WRONG_WORDS),
         Err(NoMemory) => FAILED,
@@ -56,7 +56,7 @@ pub fn run_words<R: Source, W: Sink, F: Sink>(
 }
 
 /// What is said of words that are no form, a request for help among them; None of a form.
-fn objection(alloc: Global, words: &[String]) -> Result<Option<String>, NoMemory>
+fn refusal(alloc: Global, words: &[String]) -> Result<Option<String>, NoMemory>
     ensures { IfOk result (λ said. MatchOption said (IsForm (map string_bytes words.now)) (λ text. ¬ IsForm (map string_bytes words.now))) }
 {
     let Err(error) = parse(alloc, words) else {
@@ -99,7 +99,7 @@ fn run<R: Source, W: Sink, F: Sink>(
     requires tells { F.failures faults.old < 2 ^ 64 - 1 }
     ensures runs { (read written said : List ℕ) × R.Reads input.old read input.new × W.Writes output.old written output.new
         × F.Writes faults.old said faults.new × Runs (R.IsAtEnd input.new) result read written said }
-    ensures well { result < 3 → (R.failures input.new ≡ R.failures input.old) × (W.failures output.new ≡ W.failures output.old)
+    ensures well { result < FAILED → (R.failures input.new ≡ R.failures input.old) × (W.failures output.new ≡ W.failures output.old)
         × (F.failures faults.new ≡ F.failures faults.old) }
     ensures once { R.failures input.new + W.failures output.new + F.failures faults.new
         ≤ R.failures input.old + W.failures output.old + F.failures faults.old + 1 }
@@ -120,7 +120,7 @@ fn run<R: Source, W: Sink, F: Sink>(
 fn tell<F: Sink>(faults: &mut F, text: &str, status: u8) -> u8
     requires { F.failures faults.old < 2 ^ 64 - 1 }
     ensures { ((result ≡ status) × F.Writes faults.old text.now faults.new × (F.failures faults.new ≡ F.failures faults.old))
-        ⊎ ((result ≡ 3) × ((said : List ℕ) × F.Writes faults.old said faults.new × Begins said text.now)
+        ⊎ ((result ≡ FAILED) × ((said : List ℕ) × F.Writes faults.old said faults.new × Begins said text.now)
         × (F.failures faults.new ≡ F.failures faults.old + 1)) }
 {
     match write_all(faults, text.as_bytes()) {
