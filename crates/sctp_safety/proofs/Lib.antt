@@ -1,4 +1,5 @@
 mod Basics
+mod Numbers
 mod Facts
 mod Framing
 mod Later
