@@ -23,6 +23,13 @@ mod TakeMoves
 pub mod SkipLaw
 pub mod WholeLaw
 mod Always
+mod Searches
+mod InPart
+mod UsualLemmas
+mod FillMoves
+mod GivingMoves
+mod SackMoves
+mod QueueMoves
 mod WorldWay
 mod WorldUser
 mod WorldBuild
