@@ -1,5 +1,5 @@
 -- What goes into a packet: the next wish, and FILL (RFC 9260, 6.1 and 6.3.3; RFC 8260, 2.2).
-use Rattle.std.specs.Prelude.{◌≡◌, ℕ, zero, suc, ◌+◌, ◌-◌, ◌%◌, ◌==◌, ◌≤◌, nat_le, if◌then◌else◌, Bool, true, false, not, ◌&&◌, ◌||◌, List, [], ◌∷◌, ◌++◌, length, Option, None, Some}
+use Rattle.std.specs.Prelude.{◌≡◌, ℕ, zero, suc, ◌+◌, ◌-◌, ◌%◌, ◌==◌, ◌≤◌, nat_le, if◌then◌else◌, Bool, true, false, ◌&&◌, ◌||◌, List, [], ◌∷◌, ◌++◌, length, Option, None, Some}
 use Rattle.sctp_model.specs.Lists.{at}
 use Rattle.sctp_model.specs.Format.{Format, Plain, Interleaved, at_lane, ordered_lane}
 use Rattle.sctp_model.specs.Chunk.{padded}
