@@ -10,14 +10,13 @@ pub struct Script<'a, W> {
     /// Where a line is shown.
     shown: W,
     lines: &'a [Line<'a>],
-    /// How many lines are read before what is written is shown.
+    /// How many lines are read before anything is shown.
     above: usize,
-    is_above: bool,
     /// Whether what is written now is hidden.
     hidden: &'a Cell<bool>,
-    /// The line that is read, the rest of it, and how often it comes again.
-    line: &'a [u8],
-    rest: &'a [u8],
+    /// How many lines were begun, how much of the last of them was read, and how often it comes again.
+    begun: usize,
+    read: usize,
     again: usize,
 }
 
@@ -33,46 +32,53 @@ impl<'a, W> Script<'a, W> {
             shown,
             lines,
             above,
-            is_above: false,
             hidden,
-            line: &[],
-            rest: &[],
+            begun: 0,
+            read: 0,
             again: 0,
         }
+    }
+
+    /// What is left of the line that was begun last.
+    fn rest(&self) -> &[u8] {
+        if self.begun == 0 || self.begun > self.lines.len() {
+            return &[];
+        }
+        let bytes = self.lines[self.begun - 1].bytes.as_slice();
+        let start = self.read.min(bytes.len());
+        &bytes[start..]
     }
 }
 
 impl<W: Write> Script<'_, W> {
-    /// Goes on to the next line; at the end the rest stays empty.
+    /// Begins the next line; at the end nothing is left.
     fn go_on(&mut self) -> Result<()> {
         if self.again > 0 {
             self.again -= 1;
-        } else if let Some((line, lines)) = self.lines.split_first() {
-            if self.above == 0 {
+            self.read = 0;
+        } else if self.begun < self.lines.len() {
+            let line = &self.lines[self.begun];
+            if self.begun >= self.above {
                 writeln!(self.shown, "{}", line.shown)?;
             }
-            self.is_above = self.above > 0;
-            self.above = self.above.saturating_sub(1);
-            self.lines = lines;
-            self.line = line.bytes.as_slice();
             self.again = line.times.saturating_sub(1);
-        } else {
-            self.line = &[];
+            self.begun += 1;
+            self.read = 0;
         }
-        self.rest = self.line;
-        self.hidden.set(self.again > 0 || self.is_above);
+        self.hidden.set(self.again > 0 || self.begun <= self.above);
         Ok(())
     }
 }
 
 impl<W: Write> Read for Script<'_, W> {
     fn read(&mut self, buffer: &mut [u8]) -> Result<usize> {
-        if self.rest.is_empty() {
+        if self.rest().is_empty() {
             self.go_on()?;
         }
-        let count = self.rest.len().min(buffer.len());
-        buffer[..count].copy_from_slice(&self.rest[..count]);
-        self.rest = &self.rest[count..];
+        let rest = self.rest();
+        let count = rest.len().min(buffer.len());
+        buffer[..count].copy_from_slice(&rest[..count]);
+        self.read = self.read.saturating_add(count);
         Ok(count)
     }
 }
