@@ -3,6 +3,7 @@ use Rattle.std.specs.Prelude.{ℕ, ◌-◌, ◌^◌}
 
 -- ---- configuration: streams each way; sizes in bytes
 
+-- streams each way, 1 to so many
 abbrev pub STREAM_LIMIT : ℕ
 STREAM_LIMIT = 32
 
@@ -10,6 +11,7 @@ STREAM_LIMIT = 32
 abbrev pub LEAST_PACKET : ℕ
 LEAST_PACKET = 576
 
+-- and the most
 abbrev pub GREATEST_PACKET : ℕ
 GREATEST_PACKET = 1_500
 
@@ -17,6 +19,7 @@ GREATEST_PACKET = 1_500
 abbrev pub LEAST_FRAGMENT : ℕ
 LEAST_FRAGMENT = 4
 
+-- and the most
 abbrev pub GREATEST_FRAGMENT : ℕ
 GREATEST_FRAGMENT = 1_400
 
@@ -28,6 +31,7 @@ FRAGMENT_OVERHEAD = 32
 abbrev pub LEAST_BUFFER : ℕ
 LEAST_BUFFER = 65_536
 
+-- and the most
 abbrev pub GREATEST_BUFFER : ℕ
 GREATEST_BUFFER = 16_777_216
 
@@ -49,6 +53,7 @@ WINDOW = 32_767
 abbrev pub TSN_LIMIT : ℕ
 TSN_LIMIT = 2 ^ 31 - 1
 
+-- tickets are 1 to so many
 abbrev pub TICKET_LIMIT : ℕ
 TICKET_LIMIT = 2 ^ 32 - 1
 
@@ -58,6 +63,7 @@ TICKET_LIMIT = 2 ^ 32 - 1
 abbrev pub BLOCK_LIMIT : ℕ
 BLOCK_LIMIT = 64
 
+-- and so many duplicates
 abbrev pub DUPLICATE_LIMIT : ℕ
 DUPLICATE_LIMIT = 16
 

@@ -8,6 +8,7 @@ use Rattle.sctp_model.specs.ReceiverView.{ReceiverView, IsCumulative}
 use Rattle.sctp_model.specs.receiver.Reading.{index_at, is_behind, is_ahead, lane_of, number_in}
 use Rattle.sctp_model.specs.Receiving.{GivesAll}
 
+-- What is answered to a FORWARD.
 pub data ForwardAnswer : Type 0 where
   OutOfDate Bad Moved : ForwardAnswer
 
@@ -16,6 +17,7 @@ abbrev pub names_other_stream : ℕ → List SkipMeaning → Bool
 names_other_stream streams [] = false
 names_other_stream streams (x ∷ xs) = nat_le streams x.stream || names_other_stream streams xs
 
+-- The first of these that holds is the answer.
 abbrev pub forward_answer : ReceiverView → ℕ → ForwardMeaning → ForwardAnswer
 forward_answer r c x =
     if is_behind r c x.cumulative then OutOfDate
@@ -29,6 +31,7 @@ abbrev pub is_to_skip : ReceiverView → Lane → Kind → ℕ → Bool
 is_to_skip r l Ordered n = nat_le (r.next l.stream) n
 is_to_skip r l Unordered n = true
 
+-- the skipped numbers with one entry more taken
 abbrev pub raised : ReceiverView → Lane → Option ℕ → (Lane → ℕ) → Lane → ℕ
 raised r l None skip = skip
 raised r l (Some n) skip = if is_to_skip r l l.kind n then at_lane skip l (max (skip l) (suc n)) else skip
@@ -50,9 +53,11 @@ abbrev pub is_left_behind : Format → Kind → ReceiverView → Piece → Bool
 is_left_behind f Ordered r x = false
 is_left_behind f Unordered r x = lets_go f x.index x.number r.jump (r.skip x.lane)
 
+-- unordered chunks left behind go
 abbrev pub let_go : Format → ReceiverView → ReceiverView
 let_go f r = record r { kept = filter (λ (x : Piece). not (is_left_behind f x.lane.kind r x)) r.kept }
 
+-- Each answer's effect.
 abbrev pub ForwardLeaves : Format → ReceiverView → ℕ → ForwardMeaning → ForwardAnswer → ReceiverView → Type 0
 ForwardLeaves f r c x OutOfDate t = t ≡ r
 ForwardLeaves f r c x Bad t = t ≡ r

@@ -13,6 +13,7 @@ pub data Answer : Type 0 where
 
 -- ---- a chunk that is no longer wanted
 
+-- the number is below the stream's next
 abbrev pub is_below_next : ReceiverView → Lane → Kind → ℕ → Bool
 is_below_next r l Ordered n = nat_lt n (r.next l.stream)
 is_below_next r l Unordered n = false
@@ -28,6 +29,7 @@ is_held [] x = false
 is_held (y ∷ ys) x =
     (same_lane y.lane x.lane && (same_number y.number x.number && (fragment_of y == fragment_of x))) || is_held ys x
 
+-- the chunk is no longer wanted, by its format
 abbrev pub is_passed : Format → Kind → ReceiverView → Piece → Bool
 is_passed Plain Ordered r x = is_number_passed r x.lane x.number
 is_passed Plain Unordered r x = false
@@ -39,6 +41,7 @@ is_passed Interleaved k r x = is_number_passed r x.lane x.number || is_held r.ke
 abbrev pub is_duplicate : Format → ReceiverView → ℕ → PieceMeaning → Bool
 is_duplicate f r c p = is_behind r c p.tsn || r.seen (piece_at f r c p).index
 
+-- THE TABLE OF ANSWERS, in the order of its rows.
 abbrev pub answer_to : Format → ReceiverView → ℕ → PieceMeaning → Answer
 answer_to f r c p =
     if is_duplicate f r c p then Duplicate
@@ -54,6 +57,7 @@ answer_to f r c p =
 abbrev pub DUPLICATES : ℕ
 DUPLICATES = 16
 
+-- the TSN came again, and is noted among the first few
 abbrev pub noted : ReceiverView → ℕ → ReceiverView
 noted r wire = record r { duplicates = take DUPLICATES (r.duplicates ++ wire ∷ []) }
 

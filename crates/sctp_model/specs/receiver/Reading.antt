@@ -32,6 +32,7 @@ is_ahead r c wire = nat_lt WINDOW (offset r c wire) || nat_le (COUNTS - 1) (inde
 
 -- ---- SSNs and MIDs
 
+-- the lane of a chunk
 abbrev pub lane_of : ℕ → Bool → Lane
 lane_of stream unordered = record { stream = stream; kind = kind_of unordered }
 
@@ -46,6 +47,7 @@ number_in f r l wire = number_near f l.kind wire (reference_in r l.stream l.kind
 
 -- ---- the chunk, counted
 
+-- the chunk with counts in place of its wire numbers, c being the cumulative index
 abbrev pub piece_at : Format → ReceiverView → ℕ → PieceMeaning → Piece
 piece_at f r c p = record {
   index = index_at r c p.tsn;
