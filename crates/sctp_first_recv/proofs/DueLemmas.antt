@@ -1,17 +1,17 @@
 -- What is due on a stream, number by number: of each number the chunk with the lowest index, while each message is one chunk.
-use Rattle.std.proofs.Common.{◌≡◌, ℕ, suc, ◌≤◌, Bool, true, false, not, ◌&&◌, nat_lt, List, [], ◌∷◌, inl, inr, refl, subst, arith}
+use Rattle.std.proofs.Common.{Option, None, Some, ◌≡◌, ℕ, suc, ◌≤◌, Bool, true, false, not, ◌&&◌, nat_lt, List, [], ◌∷◌, inl, inr, refl, subst, arith}
 use Rattle.std.proofs.lemmas.Bool.{eq-eqb}
 use Rattle.std.proofs.lemmas.Grind.{common_steps}
 use Rattle.sctp_model.specs.Lists.{Has}
 use Rattle.sctp_model.specs.Format.{Plain, same_lane, ordered_lane}
-use Rattle.sctp_model.specs.Pieces.{Piece}
+use Rattle.sctp_model.specs.Pieces.{is_number_below, Piece}
 use Rattle.sctp_model.specs.ReceiverView.{Handed, ReceiverView}
 use Rattle.sctp_model.specs.Receiving.{IsDue, Stop, Over, IsWholeNumber, IsLowest, HasNoWhole, message_of, is_below}
 
 -- a chunk of this stream and number
 pub record IsNumbered (s n : ℕ) (x : Piece) : Type 0 where
   pub lane : x.lane ≡ ordered_lane s
-  pub number : x.number ≡ n
+  pub number : x.number ≡ Some n
 
 -- a chunk that is a whole message
 pub record IsOne (x : Piece) : Type 0 where
@@ -57,8 +57,9 @@ below-here s n x numbered =
     rw (numbered.lane, numbered.number, same_lane-ordered s) (grind (arith, common_steps))
 
 pub below-more : (s n : ℕ) (x : Piece) → not (is_below s (suc n) x) ≡ true → not (is_below s n x) ≡ true
-below-more s n x = go (same_lane x.lane (ordered_lane s))
+below-more s n x = go (same_lane x.lane (ordered_lane s)) x.number
   where
-    go : (b : Bool) → not (b && nat_lt x.number (suc n)) ≡ true → not (b && nat_lt x.number n) ≡ true
-    go true h = grind (arith, common_steps)
-    go false h = refl
+    go : (b : Bool) (o : Option ℕ) → not (b && is_number_below (suc n) o) ≡ true → not (b && is_number_below n o) ≡ true
+    go true None h = refl
+    go true (Some m) h = grind (arith, common_steps)
+    go false o h = refl

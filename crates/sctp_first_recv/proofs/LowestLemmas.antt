@@ -70,7 +70,8 @@ lowest-take kept s n k best p l at st nu small lower h =
 -- a chunk of this stream and number, among the chunks kept, is one of the receiver's
 numbered-at : (s n : ℕ) (q : KeptPiece) (z : Piece) → piece_of_kept q ≡ z → IsNumbered s n z → (q.stream ≡ s) × (q.number ≡ n)
 numbered-at s n q z e numbered =
-    (ap (λ (x : Piece). x.lane.stream) e ∙ ap (λ (l : Lane). l.stream) numbered.lane, ap (λ (x : Piece). x.number) e ∙ numbered.number)
+    let number : Some q.number ≡ Some n = ap (λ (x : Piece). x.number) e ∙ numbered.number in
+    (ap (λ (x : Piece). x.lane.stream) e ∙ ap (λ (l : Lane). l.stream) numbered.lane, cc)
 
 pub none-left : (kept : List KeptPiece) (s n : ℕ) → IsLowestOf kept s n (length kept) None → (z : Piece) → Has (map piece_of_kept kept) z → IsNumbered s n z → ⊥
 none-left kept s n none z h numbered =
@@ -107,7 +108,7 @@ is-found kept s n best p found at =
     }
 
 pub numbered-is : (s n : ℕ) (p : KeptPiece) → p.stream ≡ s → p.number ≡ n → IsNumbered s n (piece_of_kept p)
-numbered-is s n p st nu = record { lane = ap ordered_lane st; number = nu }
+numbered-is s n p st nu = record { lane = ap ordered_lane st; number = ap Some nu }
 
 -- ---- a turn of the loop that hands over
 

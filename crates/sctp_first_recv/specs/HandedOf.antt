@@ -1,5 +1,4 @@
 -- What a message that was handed over says.
-use Rattle.std.specs.Prelude.{unwrap_or}
 use Rattle.sctp_model.specs.Format.{ordered_lane}
 use Rattle.sctp_model.specs.ReceiverView.{Handed}
 use Rattle.sctp_first_recv.specs.declared.message.Message.{Message}
@@ -9,7 +8,7 @@ abbrev pub handed_of : Message → Handed
 handed_of m = record {
   first = m.first;
   lane = ordered_lane m.stream;
-  number = unwrap_or m.number 0;
+  number = m.number;
   payload = m.payload_id;
   bytes = m.bytes.items;
 }

@@ -37,7 +37,7 @@ abbrev pub whole_piece : PieceMeaning → Piece
 whole_piece p = record {
   index = p.tsn;
   lane = ordered_lane p.stream;
-  number = p.number;
+  number = Some p.number;
   begin = true;
   end = true;
   word = p.word;

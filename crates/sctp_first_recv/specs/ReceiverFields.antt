@@ -1,5 +1,5 @@
 -- What a receiver's own types say.
-use Rattle.std.specs.Prelude.{true, map}
+use Rattle.std.specs.Prelude.{true, map, Some}
 use Rattle.sctp_model.specs.Format.{ordered_lane}
 use Rattle.sctp_model.specs.Pieces.{Piece}
 use Rattle.sctp_first_recv.specs.ReceiverKept.{StreamKept}
@@ -12,7 +12,7 @@ abbrev pub piece_of_kept : KeptPiece → Piece
 piece_of_kept p = record {
   index = p.index;
   lane = ordered_lane p.stream;
-  number = p.number;
+  number = Some p.number;
   begin = true;
   end = true;
   word = p.payload_id;

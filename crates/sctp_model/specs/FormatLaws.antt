@@ -1,10 +1,10 @@
 -- The two laws of a format on which safety stands: which chunks are a whole message, and what a FORWARD may make go.
-use Rattle.std.specs.Prelude.{◌≡◌, ℕ, ◌<◌, ◌≤◌, ◌⊎◌, false, List, ◌∷◌, length, slice_get, Some}
+use Rattle.std.specs.Prelude.{◌≡◌, ℕ, suc, ◌<◌, ◌≤◌, ◌⊎◌, false, List, ◌∷◌, length, slice_get, Some}
 use Rattle.sctp_model.specs.Lists.{Has}
 use Rattle.sctp_model.specs.Format.{Format, Lane, is_numbered}
 use Rattle.sctp_model.specs.Plan.{Message, bytes_of, Part, Plan, entry_at, message_at}
 use Rattle.sctp_model.specs.Orderly.{Orderly}
-use Rattle.sctp_model.specs.Pieces.{Piece, piece_of, payload_of, IsFragment}
+use Rattle.sctp_model.specs.Pieces.{Piece, piece_of, payload_of, IsNumberBelow, IsFragment}
 use Rattle.sctp_model.specs.Whole.{IsWhole, text_of}
 use Rattle.sctp_model.specs.SenderView.{SenderView, IsGivenUp, IsAllGivenUp}
 use Rattle.sctp_model.specs.Forward.{Skip, Forward, IsForward}
@@ -45,7 +45,7 @@ pub record IsUpTo (f : Format) (v : SenderView) (kept : List Piece) (c : ℕ) : 
 -- A FORWARD makes a chunk go: where the format numbers its lane by its number, and else by its index (RFC 3758, 3.6; RFC 8260, 2.3.1).
 abbrev pub MakesGo : Format → Forward → Piece → Type 0
 MakesGo f x y =
-    ((s : Skip) × Has x.skips s × (s.lane ≡ y.lane) × (y.number ≤ s.number))
+    ((s : Skip) × Has x.skips s × (s.lane ≡ y.lane) × IsNumberBelow (suc s.number) y.number)
     ⊎ ((is_numbered f y.lane.kind ≡ false) × (y.index ≤ x.point))
 
 -- The law of skipping: what a FORWARD makes go, of what is kept, is of an abandoned message or is among all chunks of a whole one.

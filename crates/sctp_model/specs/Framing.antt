@@ -2,6 +2,7 @@
 -- lets go (RFC 9260, 3.3.1 and 6.9; RFC 3758, 3.2 and 3.6; RFC 8260, 2.1, 2.2 and 2.3).
 use Rattle.std.specs.Prelude.{ℕ, ◌-◌, Bool, true, false, ◌||◌, ◌==◌, nat_lt, nat_le, Option, Some, None, if◌then◌else◌}
 use Rattle.sctp_model.specs.Format.{Format, Plain, Interleaved, Kind, Ordered, Unordered}
+use Rattle.sctp_model.specs.Chunk.{PieceMeaning, ForwardMeaning, ChunkMeaning, Data, IData, ForwardTsn, IForwardTsn}
 use Rattle.sctp_model.specs.Serial.{COUNTS, ssn, mid, near}
 
 -- the kind that the flag U says (RFC 9260, 3.3.1)
@@ -10,6 +11,11 @@ kind_of true = Unordered
 kind_of false = Ordered
 
 -- ---- a fragment's chunk
+
+-- the chunk of a piece: a DATA or an I-DATA
+abbrev pub data_chunk : Format → PieceMeaning → ChunkMeaning
+data_chunk Plain p = Data p
+data_chunk Interleaved p = IData p
 
 -- the bytes of a chunk before its data (RFC 9260, 3.3.1; RFC 8260, 2.1)
 abbrev pub header_of : Format → ℕ
@@ -55,7 +61,17 @@ abbrev pub payload_in : Format → (begin : Bool) → (word : ℕ) → ℕ
 payload_in Plain begin word = word
 payload_in Interleaved begin word = if begin then word else 0
 
--- ---- what a FORWARD lets go
+-- ---- what a FORWARD lists and lets go
+
+-- the chunk of a FORWARD: a FORWARD-TSN or an I-FORWARD-TSN
+abbrev pub forward_chunk : Format → ForwardMeaning → ChunkMeaning
+forward_chunk Plain x = ForwardTsn x
+forward_chunk Interleaved x = IForwardTsn x
+
+-- the bytes of an entry of a FORWARD (RFC 3758, 3.2; RFC 8260, 2.3.1)
+abbrev pub skip_size : Format → ℕ
+skip_size Plain = 4
+skip_size Interleaved = 8
 
 -- the number lies below one past the largest number skipped
 abbrev pub is_skipped : Option ℕ → (skip : ℕ) → Bool

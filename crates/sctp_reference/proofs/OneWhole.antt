@@ -1,6 +1,6 @@
 -- Among kept chunks of which no two are for one place, a number has one whole message, a chunk belongs to one at most,
 -- and one thing is due.
-use Rattle.std.proofs.Common.{◌≡◌, ℕ, suc, ◌<◌, ◌≤◌, true, false, List, [], ◌∷◌, refl, ap, sym, ◌∙◌, subst, inl, inr, arith}
+use Rattle.std.proofs.Common.{◌≡◌, ℕ, suc, ◌<◌, ◌≤◌, true, false, List, [], ◌∷◌, refl, ap, sym, ◌∙◌, subst, inl, inr, arith, Some}
 use Rattle.std.proofs.lemmas.Bool.{cases_lt, cases_order}
 use Rattle.sctp_model.specs.Lists.{Has, IsWithin}
 use Rattle.sctp_model.specs.Format.{Format, Plain, Interleaved, Lane, ordered_lane}
@@ -34,7 +34,7 @@ module _ (f : Format) (kept : List Piece) (apart : IsApart f kept) where
       ap (λ (w : Piece). w ∷ xs) same ∙ ap (λ (ws : List Piece). y ∷ ws) (row_only x xs ys h.1 row within there)
 
 first_place : (f : Format) (l : Lane) (n : ℕ) (x y : Piece) → x.index ≤ y.index → y.index ≤ x.index → IsFirst f x → IsFirst f y →
-    x.lane ≡ l → y.lane ≡ l → x.number ≡ n → y.number ≡ n → IsOnePlace f x y
+    x.lane ≡ l → y.lane ≡ l → x.number ≡ Some n → y.number ≡ Some n → IsOnePlace f x y
 first_place Plain l n x y low high h k a b c d = omega arith
 first_place Interleaved l n x y low high h k a b c d = (a ∙ sym b, c ∙ sym d, h ∙ sym k)
 

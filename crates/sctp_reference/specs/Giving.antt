@@ -1,5 +1,5 @@
 -- What is to be done with one number of a stream.
-use Rattle.std.specs.Prelude.{◌≡◌, ℕ, ◌<◌, ◌≤◌, ◌^◌, List, ◌∷◌}
+use Rattle.std.specs.Prelude.{◌≡◌, ℕ, ◌<◌, ◌≤◌, ◌^◌, List, ◌∷◌, Option, None, Some}
 use Rattle.sctp_model.specs.Format as model
 use Rattle.sctp_model.specs.Pieces.{Piece}
 use Rattle.sctp_model.specs.ReceiverView as view
@@ -17,6 +17,11 @@ handed_of h = record {
   payload = h.payload;
   bytes = h.bytes.items;
 }
+
+-- a number of 32 bits, or none
+abbrev pub IsNarrow : Option ℕ → Type 0
+IsNarrow None = Unit {0}
+IsNarrow (Some n) = n < 2 ^ 32
 
 -- the whole message of the number, the lowest if there are several
 abbrev pub IsHanded : model.Format → List Piece → ℕ → ℕ → view.Handed → Type 0

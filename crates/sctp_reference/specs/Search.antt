@@ -45,7 +45,7 @@ IsWholeFrom f kept x through (Some w) = (w.first ≡ x) × Begins f kept x throu
 
 -- chunks that are a whole message of this lane and number and begin with x, the others kept
 abbrev pub BeginsNumber : Format → List Piece → Piece → model.Lane → ℕ → List pieces.Piece → Type 0
-BeginsNumber f kept x l n xs = Begins f kept x None xs × (lane_of x.lane ≡ l) × (x.number ≡ n)
+BeginsNumber f kept x l n xs = Begins f kept x None xs × (lane_of x.lane ≡ l) × (x.number ≡ Some n)
 
 abbrev pub IsNumberFrom : Format → List Piece → Piece → model.Lane → ℕ → Option Whole → Type 0
 IsNumberFrom f kept x l n None = (xs : List pieces.Piece) → BeginsNumber f kept x l n xs → ⊥

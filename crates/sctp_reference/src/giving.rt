@@ -10,7 +10,7 @@ ghost use Rattle.sctp_reference.specs.Names.{format_of};
 ghost use Rattle.sctp_reference.specs.Kept.{piece_of, pieces_of};
 ghost use Rattle.sctp_reference.specs.Search.{whole_of};
 ghost use Rattle.sctp_reference.specs.Apart.{IsApart};
-ghost use Rattle.sctp_reference.specs.Giving.{handed_of, IsTurn};
+ghost use Rattle.sctp_reference.specs.Giving.{handed_of, IsNarrow, IsTurn};
 
 use crate::pieces::{Piece, Whole};
 use crate::whole::whole_number;
@@ -22,7 +22,7 @@ use std::alloc::{AllocError, Global};
 pub struct Handed {
     pub first: u64,
     pub lane: Lane,
-    pub number: u32,
+    pub number: Option<u32>,
     pub payload: u32,
     pub bytes: Vec<u8>,
 }
@@ -68,7 +68,7 @@ fn payload(format: Format, first: &Piece<'_>) -> u32
 fn message(alloc: Global, format: Format, whole: &Whole<'_>) -> Result<Handed, AllocError>
     ensures same { IfOk result (λ m. handed_of m
         ≡ message_of (format_of format) (piece_of whole.now.first) (pieces_of whole.now.others.items)) }
-    ensures bound { IfOk result (λ m. m.number < 2 ^ 32) }
+    ensures bound { IfOk result (λ m. IsNarrow m.number) }
 {
     let first = &whole.first;
     let number = first.number;

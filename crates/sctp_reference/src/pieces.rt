@@ -8,12 +8,12 @@ ghost use Rattle.sctp_reference.specs.Kept.{piece_of, place_of};
 
 use crate::words::{Format, Lane};
 
-/// A chunk by its index: its lane and number, the flags B and E, its payload id or fragment number, and its bytes.
+/// A chunk by its index: its lane and number (none where the format has none, or no count is near), the flags B and E, its payload id or fragment number, and its bytes.
 #[derive(Clone, Copy, Debug)]
 pub struct Piece<'a> {
     pub index: u64,
     pub lane: Lane,
-    pub number: u32,
+    pub number: Option<u32>,
     pub begin: bool,
     pub end: bool,
     pub word: u32,

@@ -81,10 +81,11 @@ fn numbered_from<'a>(
 ) -> Result<Option<Whole<'a>>, AllocError>
     ensures { IfOk result (λ whole. IsNumberFrom format kept.now chunk.now (lane_of lane) number whole) }
 {
-    if chunk.lane == lane && u64::from(chunk.number) == number {
-        whole_from(alloc, format, kept, chunk, None)
-    } else {
-        Ok(None)
+    match chunk.number {
+        Some(own) if chunk.lane == lane && u64::from(own) == number => {
+            whole_from(alloc, format, kept, chunk, None)
+        }
+        _ => Ok(None),
     }
 }
 

@@ -1,5 +1,5 @@
 -- The worlds of the example, and why each step is one.
-use Rattle.std.proofs.Common.{Some, ◌≡◌, ◌≤◌, ◌⊎◌, true, false, [], ◌∷◌, inl, inr, refl, ap, arith}
+use Rattle.std.proofs.Common.{Some, ◌≡◌, ◌≤◌, ◌⊎◌, true, false, [], ◌∷◌, inl, inr, refl, ap, arith, ◌∙◌, ℕ}
 use Rattle.sctp_model.specs.Lists.{Has, at}
 use Rattle.sctp_model.specs.Format.{Plain, ordered_lane}
 use Rattle.sctp_model.specs.Pieces.{Piece}
@@ -96,10 +96,13 @@ lowest : IsLowest Plain keeping.kept (ordered_lane 0) 0 (piece_said said ∷ [])
 lowest y ys (row, within, number) =
     let e : 1 ≡ y.index = ap (λ (x : Piece). x.index) (is_kept y (within y (inl refl))) in omega arith
 
+zero_one : (n m : ℕ) → n ≡ 0 → m ≡ 1 → Some n ≡ Some m → ⊥
+zero_one n m a b e = let d : n ≡ m = cc in omega arith
+
 no_next : HasNoWhole Plain keeping.kept (ordered_lane 0) 1
 no_next [] (row, within, number) = number
 no_next (y ∷ ys) (row, within, (lane, number)) =
-    let e : 0 ≡ y.number = ap (λ (x : Piece). x.number) (is_kept y (within y (inl refl))) in omega arith
+    let e : Some 0 ≡ y.number = ap (λ (x : Piece). x.number) (is_kept y (within y (inl refl))) in zero_one 0 1 refl refl (e ∙ number)
 
 due : IsDue Plain keeping 0 0 (arrived ∷ []) 1
 due = Over 0 1 (piece_said said) [] [] whole lowest (Stop 1 (omega arith) no_next)

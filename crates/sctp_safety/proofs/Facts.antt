@@ -3,7 +3,7 @@ use Rattle.std.proofs.Common.{◌≡◌, ℕ, suc, ◌-◌, ◌<◌, ◌≤◌, 
 use Rattle.sctp_model.specs.Lists.{Has}
 use Rattle.sctp_model.specs.Format.{Format, Plain, Ordered, Unordered, Lane, is_numbered, ordered_lane}
 use Rattle.sctp_model.specs.Plan.{Message, bytes_of, Entry, Part, End, Plan, entry_at, message_at, IsOf, IsAssigned, IsComplete, IsClosed}
-use Rattle.sctp_model.specs.Pieces.{Piece, piece_of, IsFragment}
+use Rattle.sctp_model.specs.Pieces.{Piece, piece_of, IsFragment, IsNumberBelow}
 use Rattle.sctp_model.specs.SenderView.{Queued, SenderView}
 use Rattle.sctp_model.specs.Forward.{Skip, Forward}
 use Rattle.sctp_model.specs.ReceiverView.{Handed, ReceiverView, handed, IsReached}
@@ -147,12 +147,12 @@ pub record Between (w : Way) : Type 0 where
 pub record IsHonest (f : Format) (p : Plan) (s : ℕ) (h : Handed) : Type 0 where
   pub sent : IsSent p h.lane h
   pub stream : h.lane.stream ≡ s
-  pub counted : is_numbered f h.lane.kind ≡ true → sent.number ≡ h.number
+  pub counted : is_numbered f h.lane.kind ≡ true → h.number ≡ Some sent.number
 
 -- What is handed over.
 pub record Told (f : Format) (a : SenderView) (r : ReceiverView) : Type 0 where
   pub all_seen : (l : Lane) (n : ℕ) → WasHanded a.plan r l n → IsAllSeen a.plan r l n
-  pub below : (s : ℕ) (h : Handed) → Has (handed r s) h → h.lane.kind ≡ Ordered → h.number < r.next s
+  pub below : (s : ℕ) (h : Handed) → Has (handed r s) h → h.lane.kind ≡ Ordered → IsNumberBelow (r.next s) h.number
   pub rising : (s : ℕ) → IsRising (handed r s)
   pub apart : (s : ℕ) → IsApart (handed r s)
   pub honest : (s : ℕ) (h : Handed) → Has (handed r s) h → IsHonest f a.plan s h

@@ -1,5 +1,5 @@
 -- Which chunks of a plan are a whole message: just those that are, in order, all the fragments of one message.
-use Rattle.std.proofs.Common.{if◌then◌else◌, ◌≡◌, ℕ, zero, suc, ◌+◌, ◌-◌, ◌<◌, ◌≤◌, ◌⊎◌, true, false, ◌==◌, List, [], ◌∷◌, ◌++◌, length, drop, slice_index_or, Some, inl, inr, refl, sym, subst, ap, arith, eqb-true}
+use Rattle.std.proofs.Common.{if◌then◌else◌, ◌≡◌, ℕ, zero, suc, ◌+◌, ◌-◌, ◌<◌, ◌≤◌, ◌⊎◌, true, false, ◌==◌, List, [], ◌∷◌, ◌++◌, length, drop, slice_index_or, Some, inl, inr, refl, sym, subst, ap, arith, eqb-true, None}
 use Rattle.std.proofs.lemmas.Bool.{cases_eq, eq-eqb, ne_eqb}
 use Rattle.std.proofs.lemmas.Bool.Decides.{nat_tests}
 use Rattle.std.proofs.lemmas.List.{drop_all}
@@ -79,10 +79,10 @@ part_fragment p l n m k x h =
     cc
 
 -- Under I-DATA the number on the chunk is the message's.
-pub part_count : (p : Plan) (l : Lane) (n : ℕ) (m : Message) (k : ℕ) (x : Piece) → IsPart Interleaved p l n m k x → x.number ≡ n
-part_count p l n m k x h = let e = part_number Interleaved p l n m k x h in let c : number_of Interleaved l n ≡ n = counts l.kind n in cc
+pub part_count : (p : Plan) (l : Lane) (n : ℕ) (m : Message) (k : ℕ) (x : Piece) → IsPart Interleaved p l n m k x → x.number ≡ Some n
+part_count p l n m k x h = let e = part_number Interleaved p l n m k x h in let c : number_of Interleaved l n ≡ Some n = counts l.kind n in cc
   where
-    counts : (d : Kind) (n : ℕ) → (if is_numbered Interleaved d then n else 0) ≡ n
+    counts : (d : Kind) (n : ℕ) → (if is_numbered Interleaved d then Some n else None) ≡ Some n
     counts Ordered n = refl
     counts Unordered n = refl
 
@@ -226,14 +226,14 @@ pub record IsOneMessage (f : Format) (p : Plan) (x : Piece) (xs : List Piece) : 
   pub payload : payload_of f x ≡ message.payload
   pub each : (y : Piece) → Has (x ∷ xs) y → (y.lane ≡ x.lane) × ((k : ℕ) × (entry_at p y.index ≡ Some (Part x.lane number k)))
   pub all : (k : ℕ) → k < length message.fragments → (y : Piece) × Has (x ∷ xs) y × (entry_at p y.index ≡ Some (Part x.lane number k))
-  pub counted : is_numbered f x.lane.kind ≡ true → x.number ≡ number
+  pub counted : is_numbered f x.lane.kind ≡ true → x.number ≡ Some number
   pub parts : AreFrom f p x.lane number message 0 (x ∷ xs)
 
 pub first_payload : (f : Format) (p : Plan) (l : Lane) (n : ℕ) (m : Message) (x : Piece) → IsPart f p l n m 0 x → payload_of f x ≡ m.payload
 first_payload Plain p l n m x h = ap (payload_of Plain) h.same
 first_payload Interleaved p l n m x h = ap (payload_of Interleaved) h.same
 
-pub number_counts : (f : Format) (l : Lane) (n : ℕ) → is_numbered f l.kind ≡ true → number_of f l n ≡ n
+pub number_counts : (f : Format) (l : Lane) (n : ℕ) → is_numbered f l.kind ≡ true → number_of f l n ≡ Some n
 number_counts f l n e = rw e refl
 
 -- The fragments of a message from the first are a message.

@@ -3,25 +3,26 @@ use Rattle.std.proofs.Common.{◌≡◌, ℕ, ◌<◌, ◌≤◌, ◌⊎◌, tru
 use Rattle.sctp_model.specs.Lists.{Has, IsWithin, at}
 use Rattle.sctp_model.specs.Format.{Format, Ordered, Lane, ordered_lane}
 use Rattle.sctp_model.specs.Plan.{Part, entry_at}
-use Rattle.sctp_model.specs.Pieces.{Piece}
+use Rattle.sctp_model.specs.Pieces.{Piece, IsNumberBelow}
 use Rattle.sctp_model.specs.SenderView.{SenderView}
 use Rattle.sctp_model.specs.ReceiverView.{Handed, ReceiverView, handed}
 use Rattle.sctp_model.specs.Receiving.{message_of}
-use Rattle.sctp_model.specs.Safe.{IsRising, IsApart, WasHanded}
+use Rattle.sctp_model.specs.Safe.{IsRising, IsApart, WasHanded, IsNumberLess}
 use Rattle.sctp_safety.proofs.Facts.{IsOver, IsAllSeen, Arranged, IsHonest, Held, Told}
 use Rattle.sctp_safety.proofs.Basics.{at_cases, Has-left, Has-right, Has-push}
 use Rattle.sctp_safety.proofs.Later.{Learns, Grows-refl, Extends-refl, lost-later, IsRetired-later, MayPass-later, IsAllSeen-later}
 use Rattle.sctp_safety.proofs.Framing.{IsOneMessage}
 use Rattle.sctp_safety.proofs.Settled.{settled_on}
+use Rattle.sctp_safety.proofs.Numbers.{below_more, is_below_by, less_by}
 
 rising_push : (xs : List Handed) (h : Handed) → IsRising xs →
-    ((y : Handed) → Has xs y → y.lane.kind ≡ Ordered → h.lane.kind ≡ Ordered → y.number < h.number) → IsRising (xs ++ h ∷ [])
+    ((y : Handed) → Has xs y → y.lane.kind ≡ Ordered → h.lane.kind ≡ Ordered → IsNumberLess y.number h.number) → IsRising (xs ++ h ∷ [])
 rising_push [] h r less = (λ y a. absurd a, tt)
 rising_push (x ∷ xs) h r less = (λ y k. first y (Has-push xs h y k), rising_push xs h r.1 (λ y k. less y (inr k)))
   where
-    first : (y : Handed) → Has xs y ⊎ (h ≡ y) → x.lane.kind ≡ Ordered → y.lane.kind ≡ Ordered → x.number < y.number
+    first : (y : Handed) → Has xs y ⊎ (h ≡ y) → x.lane.kind ≡ Ordered → y.lane.kind ≡ Ordered → IsNumberLess x.number y.number
     first y (inl k) = r.0 y k
-    first y (inr e) = subst (λ (z : Handed). x.lane.kind ≡ Ordered → z.lane.kind ≡ Ordered → x.number < z.number) e (less x (inl refl))
+    first y (inr e) = subst (λ (z : Handed). x.lane.kind ≡ Ordered → z.lane.kind ≡ Ordered → IsNumberLess x.number z.number) e (less x (inl refl))
 
 apart_push : (xs : List Handed) (h : Handed) → IsApart xs → ((y : Handed) → Has xs y → y.first ≡ h.first → ⊥) → IsApart (xs ++ h ∷ [])
 apart_push [] h r other = (λ y a. absurd a, tt)
@@ -64,7 +65,7 @@ pub same_told : (f : Format) (a : SenderView) (r : ReceiverView) (kept : List Pi
     ((s n : ℕ) → n < next s → WasHanded a.plan r (ordered_lane s) n ⊎ (a.abandoned (ordered_lane s) n ≡ true)) → Told f a (after r kept next r.waiting)
 same_told f a r kept next forth told passed = record {
   all_seen = λ l n h. IsAllSeen-later a.plan a.plan (Extends-refl a.plan) r (after r kept next r.waiting) (after-Learns f a r kept next r.waiting forth) l n (told.all_seen l n h);
-  below = λ s h k o. let b = told.below s h k o in let c = forth s in omega arith;
+  below = λ s h k o. below_more (r.next s) (next s) h.number (forth s) (told.below s h k o);
   rising = told.rising;
   apart = told.apart;
   honest = told.honest;
@@ -121,15 +122,15 @@ module _ (f : Format) (a : SenderView) (r : ReceiverView) (kept : List Piece) (n
 
   -- Its chunks were kept, and wasn't handed over before; it is behind all ordered messages of the stream.
   pub more_told : Arranged f a.plan → Held f a r → IsWithin (x ∷ xs) r.kept → ((u : ℕ) → r.next u ≤ next u) →
-      (x.lane.kind ≡ Ordered → (r.next s ≤ x.number) × (x.number < next s)) →
+      (x.lane.kind ≡ Ordered → (n : ℕ) × (x.number ≡ Some n) × (r.next s ≤ n) × (n < next s)) →
       ((u n : ℕ) → n < next u → WasHanded a.plan told_more (ordered_lane u) n ⊎ (a.abandoned (ordered_lane u) n ≡ true)) → Told f a told_more
   more_told arranged held within forth place passed = record {
     all_seen = λ l n h. IsAllSeen-later a.plan a.plan (Extends-refl a.plan) r told_more (after-Learns f a r kept next more_waiting forth) l n (all_seen l n (which_handed l n h));
-    below = λ u h. on (λ (y : ℕ) (hs : List Handed). Has hs h → h.lane.kind ≡ Ordered → h.number < next y)
+    below = λ u h. on (λ (y : ℕ) (hs : List Handed). Has hs h → h.lane.kind ≡ Ordered → IsNumberBelow (next y) h.number)
         (λ k. below h (Has-push (handed r s) new h k))
-        (λ y ne k o. let b = held.told.below y h k o in let c = forth y in omega arith) u;
+        (λ y ne k o. below_more (r.next y) (next y) h.number (forth y) (held.told.below y h k o)) u;
     rising = on (λ (y : ℕ) (hs : List Handed). IsRising hs)
-        (rising_push (handed r s) new (held.told.rising s) (λ y k o p. let b = held.told.below s y k o in let c = (place p).0 in omega arith))
+        (rising_push (handed r s) new (held.told.rising s) (λ y k o p. less_by (place p).0 y.number x.number (place p).1 (below_more (r.next s) (place p).0 y.number (place p).2 (held.told.below s y k o))))
         (λ y ne. held.told.rising y);
     apart = on (λ (y : ℕ) (hs : List Handed). IsApart hs) (apart_push (handed r s) new (held.told.apart s) (λ y k e. other y k e)) (λ y ne. held.told.apart y);
     honest = λ u h. on (λ (y : ℕ) (hs : List Handed). Has hs h → IsHonest f a.plan y h) (λ k. honest h (Has-push (handed r s) new h k))
@@ -149,9 +150,9 @@ module _ (f : Format) (a : SenderView) (r : ReceiverView) (kept : List Piece) (n
       all_seen l n (inr (e, d)) =
           subst (λ (k : Lane). IsAllSeen a.plan r k n) (sym e) (subst (λ (y : ℕ). IsAllSeen a.plan r x.lane y) (sym d) now)
 
-      below : (h : Handed) → Has (handed r s) h ⊎ (new ≡ h) → h.lane.kind ≡ Ordered → h.number < next s
-      below h (inl k) o = let b = held.told.below s h k o in let c = forth s in omega arith
-      below h (inr e) o = subst (λ (y : Handed). y.lane.kind ≡ Ordered → y.number < next s) e (λ q. (place q).1) o
+      below : (h : Handed) → Has (handed r s) h ⊎ (new ≡ h) → h.lane.kind ≡ Ordered → IsNumberBelow (next s) h.number
+      below h (inl k) o = below_more (r.next s) (next s) h.number (forth s) (held.told.below s h k o)
+      below h (inr e) o = subst (λ (y : Handed). y.lane.kind ≡ Ordered → IsNumberBelow (next s) y.number) e (λ q. is_below_by (next s) (place q).0 x.number (place q).1 (place q).3) o
 
       it : IsHonest f a.plan s new
       it = record {
@@ -165,7 +166,7 @@ module _ (f : Format) (a : SenderView) (r : ReceiverView) (kept : List Piece) (n
           bytes = one.text;
         };
         stream = stream;
-        counted = λ e. sym (one.counted e);
+        counted = one.counted;
       }
 
       honest : (h : Handed) → Has (handed r s) h ⊎ (new ≡ h) → IsHonest f a.plan s h

@@ -1,4 +1,5 @@
 mod Basics
+mod Numbers
 mod Facts
 mod Framing
 mod Later
@@ -19,9 +20,16 @@ mod UnorderedMoves
 mod PieceMoves
 mod ForwardMove
 mod TakeMoves
-mod SkipLaw
-mod WholeLaw
+pub mod SkipLaw
+pub mod WholeLaw
 mod Always
+mod Searches
+mod InPart
+mod UsualLemmas
+mod FillMoves
+mod GivingMoves
+mod SackMoves
+mod QueueMoves
 mod WorldWay
 mod WorldUser
 mod WorldBuild

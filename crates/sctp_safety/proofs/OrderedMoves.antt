@@ -4,7 +4,7 @@ use Rattle.std.proofs.lemmas.Bool.{cases_eq, cases_Bool, and_parts}
 use Rattle.sctp_model.specs.Lists.{Has, at}
 use Rattle.sctp_model.specs.Format.{Format, Ordered, Lane, same_lane, ordered_lane}
 use Rattle.sctp_model.specs.Plan.{Part, entry_at}
-use Rattle.sctp_model.specs.Pieces.{Piece}
+use Rattle.sctp_model.specs.Pieces.{Piece, is_number_below, IsNumberBelow}
 use Rattle.sctp_model.specs.SenderView.{SenderView}
 use Rattle.sctp_model.specs.ReceiverView.{Handed, ReceiverView}
 use Rattle.sctp_model.specs.Receiving.{is_below, without_below}
@@ -16,20 +16,21 @@ use Rattle.sctp_safety.proofs.Later.{by_receiver}
 use Rattle.sctp_safety.proofs.Framing.{IsOneMessage, IsGathered, honest_whole, number_counts}
 use Rattle.sctp_safety.proofs.Settled.{ordered_numbered, number_is, one_number, over_unless_whole}
 use Rattle.sctp_safety.proofs.Handing.{after, after-Learns, after_held, same_told, more_told, more_waiting, was_new, still_handed, which_handed}
+use Rattle.sctp_safety.proofs.Numbers.{below_is, is_below_by, below-true, true-below}
 
-below_or_not : (s n : ℕ) (x : Piece) → (not (is_below s n x) ≡ true) ⊎ ((x.lane ≡ ordered_lane s) × (x.number < n))
+below_or_not : (s n : ℕ) (x : Piece) → (not (is_below s n x) ≡ true) ⊎ ((x.lane ≡ ordered_lane s) × IsNumberBelow n x.number)
 below_or_not s n x = go (cases_Bool (is_below s n x))
   where
-    go : (is_below s n x ≡ true) ⊎ (is_below s n x ≡ false) → (not (is_below s n x) ≡ true) ⊎ ((x.lane ≡ ordered_lane s) × (x.number < n))
+    go : (is_below s n x ≡ true) ⊎ (is_below s n x ≡ false) → (not (is_below s n x) ≡ true) ⊎ ((x.lane ≡ ordered_lane s) × IsNumberBelow n x.number)
     go (inl e) =
-        let p = and_parts (same_lane x.lane (ordered_lane s)) (nat_lt x.number n) e in
-        inr (same_lane-true x.lane (ordered_lane s) p.0, ltb-true x.number n p.1)
+        let p = and_parts (same_lane x.lane (ordered_lane s)) (is_number_below n x.number) e in
+        inr (same_lane-true x.lane (ordered_lane s) p.0, below-true n x.number p.1)
     go (inr e) = inl (ap not e)
 
-not_below : (s n : ℕ) (x : Piece) → not (is_below s n x) ≡ true → x.lane ≡ ordered_lane s → x.number < n → ⊥
+not_below : (s n : ℕ) (x : Piece) → not (is_below s n x) ≡ true → x.lane ≡ ordered_lane s → IsNumberBelow n x.number → ⊥
 not_below s n x h e l =
     let a : same_lane x.lane (ordered_lane s) ≡ true = subst (λ (k : Lane). same_lane x.lane k ≡ true) e (same_lane-refl x.lane) in
-    let b = lt-ltb x.number n l in
+    let b = true-below n x.number l in
     absurd (grind (arith, a, b))
 
 -- The next number of a stream is done with, and what lies below goes.
@@ -46,11 +47,11 @@ module _ (f : Format) (a : SenderView) (r : ReceiverView) (s : ℕ) (held : Held
   fewer : (x : Piece) → Has kept x → Has r.kept x
   fewer x h = Has-filtered (λ (y : Piece). not (is_below s (suc (r.next s)) y)) r.kept x h
 
-  not_of_next : (x : Piece) → Has kept x → x.lane ≡ ordered_lane s → x.number ≡ r.next s → ⊥
+  not_of_next : (x : Piece) → Has kept x → x.lane ≡ ordered_lane s → x.number ≡ Some (r.next s) → ⊥
   not_of_next x h lane number =
-      not_below s (suc (r.next s)) x (filter_is (λ (y : Piece). not (is_below s (suc (r.next s)) y)) r.kept x h) lane (omega arith)
+      not_below s (suc (r.next s)) x (filter_is (λ (y : Piece). not (is_below s (suc (r.next s)) y)) r.kept x h) lane (is_below_by (suc (r.next s)) (r.next s) x.number number (omega arith))
 
-  counted : (x : Piece) (n k : ℕ) → Has r.kept x → entry_at a.plan x.index ≡ Some (Part x.lane n k) → x.lane ≡ ordered_lane s → x.number ≡ n
+  counted : (x : Piece) (n k : ℕ) → Has r.kept x → entry_at a.plan x.index ≡ Some (Part x.lane n k) → x.lane ≡ ordered_lane s → x.number ≡ Some n
   counted x n k has here lane =
       let y = held.kept x has in
       let e = one_number f a.plan x y x.lane n k here in
@@ -78,11 +79,12 @@ module _ (f : Format) (a : SenderView) (r : ReceiverView) (s : ℕ) (held : Held
       over l (inl h) = inl h
       over l (inr h) = inr (h, inr (inr (refl, l)))
 
-      go : (not (is_below s (suc (r.next s)) x) ≡ true) ⊎ ((x.lane ≡ ordered_lane s) × (x.number < suc (r.next s))) →
+      go : (not (is_below s (suc (r.next s)) x) ≡ true) ⊎ ((x.lane ≡ ordered_lane s) × IsNumberBelow (suc (r.next s)) x.number) →
           Has kept x ⊎ IsOver f a (after r kept next waiting) x.lane n
       go (inl b) = inl (Has-filter (λ (y : Piece). not (is_below s (suc (r.next s)) y)) r.kept x b has)
       go (inr (lane, l)) =
           let c = counted x n k has here lane in
+          let low = below_is (suc (r.next s)) n x.number c l in
           let d = at_same r.next s (suc (r.next s)) in
           let m : n < next s = subst (λ (b : ℕ). n < b) (sym d) (omega arith) in
           inr (subst (λ (y : Lane). IsOver f a (after r kept next waiting) y n) (sym lane) (over m (told s n m)))
@@ -141,8 +143,8 @@ kept_by-Hand_over w v s x xs g ((whole, within, (lane, number)), e) = subst Good
     done : (u n : ℕ) → n < up u → Past u n
     done = passed f a r s held Past before now
 
-    place : x.lane.kind ≡ Ordered → (r.next s ≤ x.number) × (x.number < up s)
-    place k = (omega (arith, number), let d = at_same r.next s (suc (r.next s)) in omega (arith, number))
+    place : x.lane.kind ≡ Ordered → (n : ℕ) × (x.number ≡ Some n) × (r.next s ≤ n) × (n < up s)
+    place k = (r.next s, number, le_refl (r.next s), let d = at_same r.next s (suc (r.next s)) in omega arith)
 
     fresh : (y : Piece) (n k : ℕ) → Has ps y → entry_at a.plan y.index ≡ Some (Part y.lane n k) → WasHanded a.plan (after r ps up hs) y.lane n → ⊥
     fresh y n k h here was = go (which_handed f a r ps up s x xs one stream y.lane n was)
@@ -232,11 +234,11 @@ kept_by-Clear w v s g e = subst Good (sym e)
     gone_below : (y : Piece) (n k : ℕ) → Has r.kept y → entry_at a.plan y.index ≡ Some (Part y.lane n k) → Has ps y ⊎ IsOver f a r y.lane n
     gone_below y n k h here = go (below_or_not s (r.next s) y)
       where
-        go : (test y ≡ true) ⊎ ((y.lane ≡ ordered_lane s) × (y.number < r.next s)) → Has ps y ⊎ IsOver f a r y.lane n
+        go : (test y ≡ true) ⊎ ((y.lane ≡ ordered_lane s) × IsNumberBelow (r.next s) y.number) → Has ps y ⊎ IsOver f a r y.lane n
         go (inl b) = inl (Has-filter test r.kept y b h)
         go (inr (lane, l)) =
             let number = counted f a r s held y n k h here lane in
-            let below : n < r.next s = omega arith in
+            let below = below_is (r.next s) n y.number number l in
             inr (subst (λ (u : Lane). IsOver f a r u n) (sym lane) (over below (held.told.passed s n below)))
           where
             over : n < r.next s → WasHanded a.plan r (ordered_lane s) n ⊎ (a.abandoned (ordered_lane s) n ≡ true) → IsOver f a r (ordered_lane s) n

@@ -4,7 +4,7 @@ use Rattle.std.proofs.lemmas.Bool.{cases_eq, cases_Bool}
 use Rattle.sctp_model.specs.Lists.{Has, at}
 use Rattle.sctp_model.specs.Format.{Format, Plain, Interleaved, Kind, Ordered, Unordered, Lane, is_numbered, ordered_lane}
 use Rattle.sctp_model.specs.Plan.{Part, Plan, entry_at}
-use Rattle.sctp_model.specs.Pieces.{Piece, fragment_of, IsFragment}
+use Rattle.sctp_model.specs.Pieces.{Piece, fragment_of, IsFragment, IsNumberBelow}
 use Rattle.sctp_model.specs.SenderView.{SenderView}
 use Rattle.sctp_model.specs.ReceiverView.{ReceiverView}
 use Rattle.sctp_model.specs.Receiving.{IsPassed, IsBehind}
@@ -15,6 +15,7 @@ use Rattle.sctp_safety.proofs.Basics.{at_cases, at_same, at_other, lane_is}
 use Rattle.sctp_safety.proofs.Later.{Learns, Grows-refl, lost-later, IsRetired-later, MayPass-later, IsAllSeen-later, by_receiver}
 use Rattle.sctp_safety.proofs.Framing.{part_fragment, part_by_fragment}
 use Rattle.sctp_safety.proofs.Settled.{ordered_numbered, all_numbered, number_is, one_number, settled_on, not_all_seen}
+use Rattle.sctp_safety.proofs.Numbers.{below_is, not_below_none}
 
 abbrev see : ReceiverView → ℕ → List Piece → ReceiverView
 see r i ps = record r { seen = at r.seen i true; kept = ps }
@@ -133,12 +134,12 @@ module _ (f : Format) (a : SenderView) (r : ReceiverView) (x : Piece) (y : IsFra
       (held.told.passed x.lane.stream y.number below))
     where
       below : y.number < r.next x.lane.stream
-      below = let q = number_is f a.plan x y (ordered_numbered f x.lane.kind e) in let b' : x.number < r.next x.lane.stream = b in omega arith
+      below = below_is (r.next x.lane.stream) y.number x.number (number_is f a.plan x y (ordered_numbered f x.lane.kind e)) b
 
       lane : ordered_lane x.lane.stream ≡ x.lane
       lane = lane_is (ordered_lane x.lane.stream) x.lane refl (sym e)
 
-  when_skipped : x.number < r.skip x.lane → IsOver f a r x.lane y.number
+  when_skipped : IsNumberBelow (r.skip x.lane) x.number → IsOver f a r x.lane y.number
   when_skipped b = go (cases_Bool (is_numbered f x.lane.kind))
     where
       may : MayPass a r x.lane y.number → WasHanded a.plan r x.lane y.number ⊎ (a.abandoned x.lane y.number ≡ true)
@@ -147,10 +148,9 @@ module _ (f : Format) (a : SenderView) (r : ReceiverView) (x : Piece) (y : IsFra
 
       go : (is_numbered f x.lane.kind ≡ true) ⊎ (is_numbered f x.lane.kind ≡ false) → IsOver f a r x.lane y.number
       go (inl e) =
-          let q = number_is f a.plan x y e in
-          let below : y.number < r.skip x.lane = omega arith in
+          let below = below_is (r.skip x.lane) y.number x.number (number_is f a.plan x y e) b in
           over (inr (inl below)) (may (held.skips x.lane y.number below))
-      go (inr e) = let none = held.unskipped x.lane e in absurd (omega arith)
+      go (inr e) = absurd (not_below_none x.number (subst (λ (z : ℕ). IsNumberBelow z x.number) (held.unskipped x.lane e) b))
 
 same_seen : (a : SenderView) (r : ReceiverView) (x : Piece) (y : IsFragment Interleaved a.plan x) → Arranged Interleaved a.plan →
     Held Interleaved a r → r.seen x.index ≡ false → (z : Piece) → Has r.kept z → z.lane ≡ x.lane → z.number ≡ x.number → fragment_of z ≡ fragment_of x → ⊥

@@ -60,7 +60,7 @@ module _ (w : Way) (g : Good w) where
   in_order = record { rising = g.held.told.rising; sent = sent }
     where
       sent : (s : ℕ) (h : Handed) → Has (handed w.receiver s) h → h.lane.kind ≡ Ordered →
-          (x : IsSent w.sender.plan (ordered_lane s) h) × (x.number ≡ h.number)
+          (x : IsSent w.sender.plan (ordered_lane s) h) × (h.number ≡ Some x.number)
       sent s h has kind =
           let x = g.held.told.honest s h has in
           let e : h.lane ≡ ordered_lane s = lane_is h.lane (ordered_lane s) x.stream kind in (
@@ -72,7 +72,7 @@ module _ (w : Way) (g : Good w) where
   passed_rightly s n l = go (g.held.told.passed s n l)
     where
       Claim : Type 0
-      Claim = ((h : Handed) × Has (handed w.receiver s) h × (h.lane.kind ≡ Ordered) × (h.number ≡ n)) ⊎ (w.sender.abandoned (ordered_lane s) n ≡ true)
+      Claim = ((h : Handed) × Has (handed w.receiver s) h × (h.lane.kind ≡ Ordered) × (h.number ≡ Some n)) ⊎ (w.sender.abandoned (ordered_lane s) n ≡ true)
 
       go : WasHanded w.sender.plan w.receiver (ordered_lane s) n ⊎ (w.sender.abandoned (ordered_lane s) n ≡ true) → Claim
       go (inr d) = inr d
@@ -83,7 +83,7 @@ module _ (w : Way) (g : Good w) where
           let entry : Part h.lane x.sent.number 0 ≡ Part (ordered_lane s) n 0 = cc in
           let counted = x.counted (subst (λ (u : Kind). is_numbered w.format u ≡ true) (sym kind) (ordered_numbered w.format)) in
           let number : x.sent.number ≡ n = cc in
-          inl (h, has, kind, omega arith)
+          inl (h, has, kind, cc)
 
   once : IsOnce w.sender w.receiver
   once = record { apart = g.held.told.apart; sent = sent }

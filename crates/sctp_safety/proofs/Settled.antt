@@ -22,7 +22,7 @@ all_numbered Ordered = refl
 all_numbered Unordered = refl
 
 -- where the format numbers a lane, a chunk has its message's number
-pub number_is : (f : Format) (p : Plan) (x : Piece) (y : IsFragment f p x) → is_numbered f x.lane.kind ≡ true → x.number ≡ y.number
+pub number_is : (f : Format) (p : Plan) (x : Piece) (y : IsFragment f p x) → is_numbered f x.lane.kind ≡ true → x.number ≡ Some y.number
 number_is f p x y e =
     let h : x.number ≡ number_of f x.lane y.number = ap (λ (z : Piece). z.number) y.same in
     let d = number_counts f x.lane y.number e in

@@ -13,6 +13,7 @@ use Rattle.sctp_model.specs.FormatLaws.{IsTaken, IsUpTo, MakesGo, SkipLaw}
 use Rattle.sctp_safety.proofs.Basics.{each_or, item_at-above}
 use Rattle.sctp_safety.proofs.Framing.{part_by_fragment, part_number, number_counts, one_when_kept}
 use Rattle.sctp_safety.proofs.WholeLaw.{framed_by_orderly, some_fragment}
+use Rattle.sctp_safety.proofs.Numbers.{below_is}
 
 -- an entry is of one message alone
 of_one : (l k : Lane) (n o : ℕ) (e : Entry) → IsOf l n e → IsOf k o e → (k ≡ l) × (o ≡ n)
@@ -202,7 +203,8 @@ skip_law f v c p x kept o more gone forward upto y has goes = go goes
         let stands : StandsIn v.plan c p l s.number = subst (λ (z : Lane). StandsIn v.plan c p z s.number) lane (forward.stands s listed) in
         let a = part_number f v.plan l h.number h.message h.fragment y (part_by_fragment f v.plan y h) in
         let b = number_counts f l h.number numbered in
-        let e : y.number ≡ h.number = cc in
+        let e : y.number ≡ Some h.number = cc in
+        let under = below_is (suc s.number) h.number y.number e le in
         by_number s.number stands (cases_eq h.number s.number) (omega arith)
     go (inr (plain, low)) =
         let e = forward.point in

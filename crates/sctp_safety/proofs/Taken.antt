@@ -1,10 +1,10 @@
 -- A chunk that is taken is a list of moves: it is kept, and what is due is handed over number by number.
-use Rattle.std.proofs.Common.{◌≡◌, ℕ, zero, suc, ◌<◌, ◌⊎◌, ◌++◌, ◌∷◌, not, true, false, Bool, nat_lt, max, List, [], cond, filter, inl, inr, refl, sym, subst, ap, arith, append-nil, append_assoc}
+use Rattle.std.proofs.Common.{◌≡◌, ℕ, zero, suc, ◌<◌, ◌⊎◌, ◌++◌, ◌∷◌, not, true, false, Bool, nat_lt, max, List, [], cond, filter, inl, inr, refl, sym, subst, ap, arith, append-nil, append_assoc, Some}
 use Rattle.std.proofs.lemmas.Bool.{cases_Bool}
 use Rattle.std.proofs.lemmas.Bool.Decides.{nat_tests}
 use Rattle.sctp_model.specs.Lists.{Has, at}
 use Rattle.sctp_model.specs.Format.{Format, Plain, Interleaved, Kind, Ordered, Unordered, Lane, ordered_lane}
-use Rattle.sctp_model.specs.Pieces.{Piece}
+use Rattle.sctp_model.specs.Pieces.{Piece, is_number_below}
 use Rattle.sctp_model.specs.Whole.{Follows, IsRow}
 use Rattle.sctp_model.specs.Forward.{skipped}
 use Rattle.sctp_model.specs.ReceiverView.{Handed, ReceiverView}
@@ -12,6 +12,7 @@ use Rattle.sctp_model.specs.Receiving.{IsWholeNumber, HasNoWhole, message_of, Is
 use Rattle.sctp_safety.specs.Way.{Way, Move, Keep_piece, Hand_over, Hand_unordered, Pass_over, Clear, Forward_comes, Let_go, with_receiver, past, Step, Run}
 use Rattle.sctp_safety.specs.Exact.{Leads, TakingIsMoves, ForwardIsMoves}
 use Rattle.sctp_safety.proofs.Basics.{at_cases, at_same, Has-filter, Has-filtered}
+use Rattle.sctp_safety.proofs.Numbers.{below_is, below-true}
 
 -- ---- runs
 
@@ -59,11 +60,11 @@ row_same f x (z ∷ zs) (open_, follows, row) y h = go f follows h (row_same f z
     go Interleaved (l, n, i) (inr k) more = let m = more k in (let a = m.0 in cc, let c = m.1 in cc)
 
 -- a chunk of this number stays where what is below it goes
-stays : (s n : ℕ) (y : Piece) → y.number ≡ n → not (is_below s n y) ≡ true
-stays s n y e = go (cases_Bool (nat_lt y.number n))
+stays : (s n : ℕ) (y : Piece) → y.number ≡ Some n → not (is_below s n y) ≡ true
+stays s n y e = go (cases_Bool (is_number_below n y.number))
   where
-    go : (nat_lt y.number n ≡ true) ⊎ (nat_lt y.number n ≡ false) → not (is_below s n y) ≡ true
-    go (inl h) = absurd (grind (arith, e, nat_tests))
+    go : (is_number_below n y.number ≡ true) ⊎ (is_number_below n y.number ≡ false) → not (is_below s n y) ≡ true
+    go (inl h) = let l = below_is n n y.number e (below-true n y.number h) in absurd (omega arith)
     go (inr h) = grind (arith, h)
 
 whole_stays : (f : Format) (kept : List Piece) (s n : ℕ) (x : Piece) (xs : List Piece) →
@@ -73,8 +74,8 @@ whole_stays f kept s n x xs ((first, row), within, (lane, number)) = ((first, ro
     stay : (y : Piece) → Has (x ∷ xs) y → Has (without_below kept s n) y
     stay y h = Has-filter (λ (z : Piece). not (is_below s n z)) kept y (stays s n y (same h)) (within y h)
       where
-        same : Has (x ∷ xs) y → y.number ≡ n
-        same (inl e) = subst (λ (u : Piece). u.number ≡ n) e number
+        same : Has (x ∷ xs) y → y.number ≡ Some n
+        same (inl e) = subst (λ (u : Piece). u.number ≡ Some n) e number
         same (inr k) = let m = (row_same f x xs row y k).1 in cc
 
 none_stays : (f : Format) (kept : List Piece) (s n : ℕ) → HasNoWhole f kept (ordered_lane s) n → HasNoWhole f (without_below kept s n) (ordered_lane s) n

@@ -1,5 +1,5 @@
 -- Every packet that comes can act: each DATA chunk is a duplicate, or behind, or it is taken, and then what is due is handed over.
-use Rattle.std.proofs.Common.{◌≡◌, ℕ, zero, suc, ◌+◌, ◌<◌, ◌≤◌, ◌⊎◌, Bool, true, false, max, List, [], ◌∷◌, inl, inr, refl, sym, subst, ap, arith}
+use Rattle.std.proofs.Common.{◌≡◌, ℕ, zero, suc, ◌+◌, ◌<◌, ◌≤◌, ◌⊎◌, Bool, true, false, max, List, [], ◌∷◌, inl, inr, refl, sym, subst, ap, arith, Some, None, Option, ◌∙◌}
 use Rattle.std.proofs.lemmas.Bool.{cases_Bool, cases_eq, cases_lt}
 use Rattle.sctp_model.specs.Lists.{Has}
 use Rattle.sctp_model.specs.Format.{Plain, Lane, ordered_lane}
@@ -59,7 +59,7 @@ duplicate_or_new r i (c, cumulative) = go (cases_Bool (r.seen i)) (cases_lt c i)
 -- ---- the chunk of a number with the lowest index
 
 abbrev IsThe : Lane → ℕ → Piece → Type 0
-IsThe l n x = (x.lane ≡ l) × (x.number ≡ n)
+IsThe l n x = (x.lane ≡ l) × (x.number ≡ Some n)
 
 record IsFirstOf (kept : List Piece) (l : Lane) (n : ℕ) (x : Piece) : Type 0 where
   has : Has kept x
@@ -70,10 +70,18 @@ record IsFirstOf (kept : List Piece) (l : Lane) (n : ℕ) (x : Piece) : Type 0 w
 abbrev Search : List Piece → Lane → ℕ → Type 0
 Search kept l n = ((x : Piece) × IsFirstOf kept l n x) ⊎ ((y : Piece) → Has kept y → IsThe l n y → ⊥)
 
-is_the : (l : Lane) (n : ℕ) (x : Piece) → IsThe l n x ⊎ (IsThe l n x → ⊥)
-is_the l n x = go (lane_cases x.lane l) (cases_eq x.number n)
+is_number : (o : Option ℕ) (n : ℕ) → (o ≡ Some n) ⊎ (o ≡ Some n → ⊥)
+is_number None n = inr (λ e. absurd (cc))
+is_number (Some m) n = go (cases_eq m n)
   where
-    go : (x.lane ≡ l) ⊎ (x.lane ≡ l → ⊥) → (x.number ≡ n) ⊎ (x.number ≡ n → ⊥) → IsThe l n x ⊎ (IsThe l n x → ⊥)
+    go : (m ≡ n) ⊎ (m ≡ n → ⊥) → (Some m ≡ Some n) ⊎ (Some m ≡ Some n → ⊥)
+    go (inl e) = inl (ap Some e)
+    go (inr ne) = inr (λ e. ne (cc))
+
+is_the : (l : Lane) (n : ℕ) (x : Piece) → IsThe l n x ⊎ (IsThe l n x → ⊥)
+is_the l n x = go (lane_cases x.lane l) (is_number x.number n)
+  where
+    go : (x.lane ≡ l) ⊎ (x.lane ≡ l → ⊥) → (x.number ≡ Some n) ⊎ (x.number ≡ Some n → ⊥) → IsThe l n x ⊎ (IsThe l n x → ⊥)
     go (inl a) (inl b) = inl (a, b)
     go (inr a) b = inr (λ h. a h.0)
     go (inl a) (inr b) = inr (λ h. b h.1)
@@ -137,21 +145,30 @@ alone_whole kept l n x (begin, end) f = ((begin, end), within, f.is)
 alone_lowest : (kept : List Piece) (l : Lane) (n : ℕ) (x : Piece) → IsFirstOf kept l n x → IsLowest Plain kept l n (x ∷ [])
 alone_lowest kept l n x f y ys (whole, within, of) = f.lowest y (within y (inl refl)) of
 
+-- one past a number
+abbrev past_of : Option ℕ → ℕ
+past_of None = 0
+past_of (Some n) = suc n
+
+past_is : (o : Option ℕ) (n : ℕ) → o ≡ Some n → n < past_of o
+past_is None n e = absurd (cc)
+past_is (Some m) n e = let d : m ≡ n = cc in omega arith
+
 -- the numbers of chunks have a bound
 abbrev bound_of : List Piece → ℕ
 bound_of [] = 0
-bound_of (x ∷ xs) = max (suc x.number) (bound_of xs)
+bound_of (x ∷ xs) = max (past_of x.number) (bound_of xs)
 
-bound_is : (kept : List Piece) (x : Piece) → Has kept x → x.number < bound_of kept
-bound_is [] x h = absurd h
-bound_is (y ∷ ys) x (inl e) = let same : y.number ≡ x.number = ap (λ (z : Piece). z.number) e in omega arith
-bound_is (y ∷ ys) x (inr h) = let l = bound_is ys x h in omega arith
+bound_is : (kept : List Piece) (x : Piece) → Has kept x → (n : ℕ) → x.number ≡ Some n → n < bound_of kept
+bound_is [] x h n is = absurd h
+bound_is (y ∷ ys) x (inl e) n is = let same : y.number ≡ x.number = ap (λ (z : Piece). z.number) e in let l = past_is y.number n (same ∙ is) in omega arith
+bound_is (y ∷ ys) x (inr h) n is = let l = bound_is ys x h n is in omega arith
 
 abbrev HasDue : ReceiverView → ℕ → ℕ → Type 0
 HasDue r s n = (ms : List Handed) × (m : ℕ) × IsDue Plain r s n ms m
 
 module _ (r : ReceiverView) (s bound : ℕ) (alone : (x : Piece) → Has r.kept x → IsAlone x)
-    (below : (x : Piece) → Has r.kept x → x.number < bound) (skipped : r.skip (ordered_lane s) ≤ bound) where
+    (below : (x : Piece) → Has r.kept x → (n : ℕ) → x.number ≡ Some n → n < bound) (skipped : r.skip (ordered_lane s) ≤ bound) where
   -- what is due from a number on, where what is due from the next is known
   due_here : (n : ℕ) → HasDue r s (suc n) → Search r.kept (ordered_lane s) n → (n < r.skip (ordered_lane s)) ⊎ (r.skip (ordered_lane s) ≤ n) → HasDue r s n
   due_here n (ms, m, due) (inl (x, f)) b = (
@@ -163,14 +180,14 @@ module _ (r : ReceiverView) (s bound : ℕ) (alone : (x : Piece) → Has r.kept 
   due_here n more (inr none) (inr l) = ([], n, Stop n l (none_whole r.kept (ordered_lane s) n none))
 
   due_from : (fuel n : ℕ) → bound ≤ n + fuel → HasDue r s n
-  due_from zero n enough = ([], n, Stop n (omega arith) (none_whole r.kept (ordered_lane s) n (λ y h is. let l = below y h in let e = is.1 in omega arith)))
+  due_from zero n enough = ([], n, Stop n (omega arith) (none_whole r.kept (ordered_lane s) n (λ y h is. let l = below y h n is.1 in omega arith)))
   due_from (suc fuel) n enough =
       due_here n (due_from fuel (suc n) (omega arith)) (search_for r.kept (ordered_lane s) n) (cases_lt n (r.skip (ordered_lane s)))
 
 has_due : (r : ReceiverView) (s n : ℕ) → IsSimple r → HasDue r s n
 has_due r s n simple =
     due_from r s (max (bound_of r.kept) (r.skip (ordered_lane s))) simple.alone
-    (λ x h. let l = bound_is r.kept x h in omega arith) (omega arith) (max (bound_of r.kept) (r.skip (ordered_lane s))) n (omega arith)
+    (λ x h n is. let l = bound_is r.kept x h n is in omega arith) (omega arith) (max (bound_of r.kept) (r.skip (ordered_lane s))) n (omega arith)
 
 -- ---- a DATA chunk that comes
 

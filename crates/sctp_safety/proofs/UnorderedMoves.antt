@@ -4,7 +4,7 @@ use Rattle.std.proofs.lemmas.Bool.{cases_Bool, and_parts, or_cases, eq-eqb}
 use Rattle.sctp_model.specs.Lists.{Has}
 use Rattle.sctp_model.specs.Format.{Format, Plain, Interleaved, Kind, Unordered, Lane, is_numbered, same_lane, ordered_lane}
 use Rattle.sctp_model.specs.Plan.{Message, Part, Plan, entry_at}
-use Rattle.sctp_model.specs.Pieces.{Piece, IsFragment}
+use Rattle.sctp_model.specs.Pieces.{Piece, IsFragment, same_number}
 use Rattle.sctp_model.specs.SenderView.{SenderView}
 use Rattle.sctp_model.specs.ReceiverView.{Handed, ReceiverView}
 use Rattle.sctp_model.specs.Receiving.{IsWholeWith, IsLeftBehind, has_index, goes_with, without_message}
@@ -16,6 +16,7 @@ use Rattle.sctp_safety.proofs.Later.{by_receiver}
 use Rattle.sctp_safety.proofs.Framing.{IsOneMessage, honest_whole}
 use Rattle.sctp_safety.proofs.Settled.{all_numbered, number_is, one_number, one_message, over_unless_whole}
 use Rattle.sctp_safety.proofs.Handing.{after, after-Learns, after_held, same_told, more_told, more_waiting, was_new, still_handed, which_handed}
+use Rattle.sctp_safety.proofs.Numbers.{below_is, true-same, same-true}
 
 has_index-found : (xs : List Piece) (i : ℕ) → has_index xs i ≡ true → (x : Piece) × Has xs x × (x.index ≡ i)
 has_index-found [] i e = absurd (cc)
@@ -50,7 +51,7 @@ goes_if Interleaved p arranged x xs one y v lane number =
     let a : same_lane y.lane x.lane ≡ true = subst (λ (l : Lane). same_lane y.lane l ≡ true) lane (same_lane-refl y.lane) in
     let c = number_is Interleaved p y v (all_numbered y.lane.kind) in
     let d = one.counted (all_numbered x.lane.kind) in
-    let b : (y.number == x.number) ≡ true = eq-eqb y.number x.number (cc) in
+    let b = true-same y.number x.number (cc) in
     grind (arith, a, b)
 
 -- and only if
@@ -64,9 +65,9 @@ goes_only Plain p x xs one y v e =
     let q = one_number Plain p y v x.lane one.number h.1.0 (cc) in
     (q.0, q.1)
 goes_only Interleaved p x xs one y v e =
-    let b = and_parts (same_lane y.lane x.lane) (y.number == x.number) e in
+    let b = and_parts (same_lane y.lane x.lane) (same_number y.number x.number) e in
     let lane = same_lane-true y.lane x.lane b.0 in
-    let n = eqb-true y.number x.number b.1 in
+    let n = same-true y.number x.number b.1 in
     let c = number_is Interleaved p y v (all_numbered y.lane.kind) in
     let d = one.counted (all_numbered x.lane.kind) in
     (lane, cc)
@@ -173,7 +174,7 @@ left_over Interleaved a r arranged held x has (kind, below) not_whole =
     not_wanted Interleaved a r arranged held x has (held.skips x.lane (held.kept x has).number skipped) (inr (inl skipped)) not_whole
   where
     skipped : (held.kept x has).number < r.skip x.lane
-    skipped = let c = number_is Interleaved a.plan x (held.kept x has) (all_numbered x.lane.kind) in omega arith
+    skipped = below_is (r.skip x.lane) (held.kept x has).number x.number (number_is Interleaved a.plan x (held.kept x has) (all_numbered x.lane.kind)) below
 
 pub kept_by-Let_go : (w v : Way) (t : ReceiverView) → Good w → Step w (Let_go t) v → Good v
 kept_by-Let_go w v t g (goes, e) = subst Good (sym (e ∙ ap (with_receiver w) goes.kept))

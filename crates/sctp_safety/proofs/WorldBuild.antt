@@ -44,7 +44,7 @@ abbrev said : Queued → ℕ → ℕ → Piece
 said q i n = record {
   index = i;
   lane = ordered_lane q.lane.stream;
-  number = n;
+  number = Some n;
   begin = true;
   end = true;
   word = q.message.payload;

@@ -12,7 +12,7 @@ abbrev pub greeting : List ℕ
 greeting = 72 ∷ 105 ∷ []
 
 abbrev pub arrived : Handed
-arrived = record { first = 1; lane = ordered_lane 0; number = 0; payload = 51; bytes = greeting }
+arrived = record { first = 1; lane = ordered_lane 0; number = Some 0; payload = 51; bytes = greeting }
 
 abbrev pub what_happens : List Event
 what_happens = Open ∷ Send A 0 51 greeting ∷ Build A ∷ Deliver A 1 ∷ Take B 0 ∷ []

@@ -4,3 +4,4 @@ pub mod Always
 pub mod Worlds
 pub mod Example
 pub mod Answered
+pub mod SenderLaws

@@ -1,6 +1,7 @@
 //! What the two ends really build and take are things that the moves allow.
 
 ghost use Rattle.sctp_safety.specs.Exact.{ForwardIsAllowed, ForwardIsMoves, PassingIsMoves, SackIsAllowed, ShutdownIsAllowed, TakingIsMoves};
+ghost use Rattle.sctp_safety.specs.SenderLaws.{AbandonIsMoves, ExpireIsMoves, FillIsMoves, QueueIsMoves, SackIsMoves, ShutdownIsMoves, TimeoutIsMoves};
 
 /// A FORWARD up to any index from CUM to the point, with the largest number of each stream and kind there, may be built (RFC 3758, 3.5).
 pub fn forward_is_allowed()
@@ -30,4 +31,39 @@ pub fn taking_is_moves()
 /// A FORWARD that counts, with what is then due, is a list of moves.
 pub fn forward_is_moves()
     ensures { ForwardIsMoves }
+{}
+
+/// What a packet is filled with goes out by moves, under both formats: each fragment takes its number and its index, and its chunk is put between the ends (RFC 9260, 6.1 and 6.9; RFC 8260, 2.2).
+pub fn fill_is_moves()
+    ensures { FillIsMoves }
+{}
+
+/// A message that `send` accepts is one move, and no ticket is given twice.
+pub fn queue_is_moves()
+    ensures { QueueIsMoves }
+{}
+
+/// Abandoning by ticket is moves: the message is withdrawn, or given up with its end mark where it is in part (RFC 3758, 3.5; RFC 8260, 2.3.1).
+pub fn abandon_is_moves()
+    ensures { AbandonIsMoves }
+{}
+
+/// What is past its time is given up by moves, at a moment that the clock has reached.
+pub fn expire_is_moves()
+    ensures { ExpireIsMoves }
+{}
+
+/// The data timer marks fragments alone, and that is a move (RFC 9260, 6.3.3).
+pub fn timeout_is_moves()
+    ensures { TimeoutIsMoves }
+{}
+
+/// A SACK that lies between the ends, and is taken, is moves, as long as counts lie less than half the space apart (RFC 9260, 6.2.1).
+pub fn sack_is_moves()
+    ensures { SackIsMoves }
+{}
+
+/// And so is the cumulative TSN of a SHUTDOWN (RFC 9260, 9.2).
+pub fn shutdown_is_moves()
+    ensures { ShutdownIsMoves }
 {}

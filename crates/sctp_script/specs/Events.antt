@@ -15,6 +15,7 @@ use Rattle.sctp_script.specs.declared.event.SendRefusal.{SendRefusal}
 use Rattle.sctp_script.specs.declared.event.SendRefusal.TheVariants.{NoSuchStream, Empty, TooLong, QueueFull, Spent, NotOpen}
 use Rattle.sctp_script.specs.declared.event.Outcome.{Outcome}
 use Rattle.sctp_script.specs.declared.event.Outcome.TheVariants as outcome
+use Rattle.sctp_model.specs.first.World.{number_told}
 
 abbrev pub side_said : Side → world.Side
 side_said side.A = world.A
@@ -44,7 +45,7 @@ refusal_said NotOpen = refusal.NotOpen
 -- What the user is told of a message that was handed over: all but the index of its first chunk.
 pub record IsToldOf (on n id : ℕ) (text : List ℕ) (h : Handed) : Type 0 where
   pub lane : h.lane ≡ ordered_lane on
-  pub number : h.number ≡ n
+  pub number : number_told h ≡ n
   pub payload : h.payload ≡ id
   pub bytes : h.bytes ≡ text
 

@@ -2,7 +2,7 @@
 use Rattle.std.specs.Prelude.{ℕ, List, [], ◌∷◌, codes, decimal}
 use Rattle.sctp_model.specs.Format.{Kind, Ordered, Unordered}
 use Rattle.sctp_model.specs.first.Sending.{Refusal, NoSuchStream, Empty, TooLong, QueueFull, Spent, NotOpen}
-use Rattle.sctp_model.specs.first.World.{Side, A, B, Outcome, Done, OpenRefused, SendRefused, Ticket, Sent, Quiet, Acted, Absent, Message, Nothing}
+use Rattle.sctp_model.specs.first.World.{Side, A, B, Outcome, Done, OpenRefused, SendRefused, Ticket, Sent, Quiet, Acted, Absent, Message, Nothing, number_told}
 use Rattle.sctp_script.specs.Numerals.{hex_word}
 use Rattle.sctp_script.specs.SpacedWords.{line_of}
 
@@ -35,7 +35,7 @@ outcome_words (Quiet x) = codes "quiet" ∷ side_word x ∷ []
 outcome_words (Acted x) = codes "taken" ∷ side_word x ∷ []
 outcome_words Absent = codes "absent" ∷ []
 outcome_words (Message x stream h) =
-    codes "message" ∷ side_word x ∷ decimal stream ∷ kind_word h.lane.kind ∷ decimal h.number ∷ decimal h.payload ∷ hex_word h.bytes ∷ []
+    codes "message" ∷ side_word x ∷ decimal stream ∷ kind_word h.lane.kind ∷ decimal (number_told h) ∷ decimal h.payload ∷ hex_word h.bytes ∷ []
 outcome_words (Nothing x stream) = codes "empty" ∷ side_word x ∷ decimal stream ∷ []
 
 -- the line of an outcome

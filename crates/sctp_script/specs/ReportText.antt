@@ -2,7 +2,7 @@
 use Rattle.std.specs.Prelude.{ℕ, zero, suc, List, [], ◌∷◌, ◌++◌, map, Option, Some, None, codes, decimal}
 use Rattle.sctp_model.specs.Plan.{Message, Entry, Part, End, Plan, message_at}
 use Rattle.sctp_model.specs.ReceiverView.{ReceiverView, handed}
-use Rattle.sctp_model.specs.first.World.{Side, A, B, State, Closed, Listen, Established, EndView, World}
+use Rattle.sctp_model.specs.first.World.{Side, A, B, State, Closed, Listen, Established, EndView, World, number_told}
 use Rattle.sctp_script.specs.OutcomeLines.{side_word}
 use Rattle.sctp_script.specs.SpacedWords.{line_of}
 
@@ -42,7 +42,7 @@ tickets_of p = tickets_in p p.entries
 
 -- the numbers of all that was handed over on a stream, whether the user took it or not
 abbrev pub numbers_of : ReceiverView → ℕ → List ℕ
-numbers_of r stream = map (λ h. h.number) (handed r stream)
+numbers_of r stream = map number_told (handed r stream)
 
 -- the lines of streams 0 to n - 1
 abbrev pub handed_lines : Side → ReceiverView → ℕ → List ℕ

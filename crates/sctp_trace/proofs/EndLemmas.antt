@@ -19,7 +19,7 @@ use Rattle.sctp_model.specs.ReceiverView.{Handed, ReceiverView}
 use Rattle.sctp_model.specs.Receiving.{IsDue, Stop, Over, Past}
 use Rattle.sctp_model.specs.first.World as world
 use Rattle.sctp_model.specs.first.Sending.{Refusal, NotOpen, refusal, IsFill, numbered_one, numbered_all, went_out, acknowledged}
-use Rattle.sctp_model.specs.first.World.{EndView, Packet, Act, Acts, is_taken, piece_said, SackOf, SACK_ROOM, State, Closed, Listen, Established, refusal_in, datas_of, Configuration, Builds, taken_by_user, PieceTaken, Duplicate, Passed, Taken}
+use Rattle.sctp_model.specs.first.World.{EndView, Packet, Act, Acts, is_taken, piece_said, SackOf, SACK_ROOM, State, Closed, Listen, Established, refusal_in, datas_of, Configuration, Builds, taken_by_user, PieceTaken, Duplicate, Passed, Taken, number_told}
 use Rattle.sctp_model.specs.Packet.{size_of_packet, size_of_chunks, HEADER_ROOM}
 use Rattle.sctp_wire.specs.declared.fault.NoMemory.{NoMemory}
 use Rattle.sctp_script.specs.Events.{Answers}
@@ -139,7 +139,7 @@ data_heard e q v p a t k stands some answered = go a some answered
           streams = k.streams ∙ sym same.streams;
           numbered = k.numbered;
           messages = k.messages;
-          taken = λ s. k.taken s ∙ ap (λ (g : ℕ → List Handed). map (λ x. x.number) (g s)) (sym same.taken);
+          taken = λ s. k.taken s ∙ ap (λ (g : ℕ → List Handed). map number_told (g s)) (sym same.taken);
           lanes = same.lanes k.lanes;
         }
 
@@ -286,23 +286,23 @@ taken-other ms m s ne =
 
 -- ---- what was handed over: what was taken, and what waits
 
-map_handed : (ms : List Message) → map (λ m. (handed_of m).number) ms ≡ map (λ h. h.number) (map handed_of ms)
+map_handed : (ms : List Message) → map (λ m. number_told (handed_of m)) ms ≡ map number_told (map handed_of ms)
 map_handed [] = refl
-map_handed (m ∷ ms) = ap (λ (ns : List ℕ). (handed_of m).number ∷ ns) (map_handed ms)
+map_handed (m ∷ ms) = ap (λ (ns : List ℕ). number_told (handed_of m) ∷ ns) (map_handed ms)
 
-pub both_told : (taken waiting : List Handed) (numbers : List ℕ) (ms : List Message) → numbers ≡ map (λ h. h.number) taken → map handed_of ms ≡ waiting
-    → numbers ++ map (λ m. (handed_of m).number) ms ≡ map (λ h. h.number) (taken ++ waiting)
+pub both_told : (taken waiting : List Handed) (numbers : List ℕ) (ms : List Message) → numbers ≡ map number_told taken → map handed_of ms ≡ waiting
+    → numbers ++ map (λ m. number_told (handed_of m)) ms ≡ map number_told (taken ++ waiting)
 both_told taken waiting numbers ms told waits =
     rw (told, map_handed ms, waits, map-append) refl
 
-pub all_taken : (taken waiting : List Handed) (numbers : List ℕ) → numbers ≡ map (λ h. h.number) taken → waiting ≡ []
-    → numbers ≡ map (λ h. h.number) (taken ++ waiting)
+pub all_taken : (taken waiting : List Handed) (numbers : List ℕ) → numbers ≡ map number_told taken → waiting ≡ []
+    → numbers ≡ map number_told (taken ++ waiting)
 all_taken taken waiting numbers told none = rw (told, none, append-nil) refl
 
 -- ---- the user takes a message
 
 pub end_took : (e : End) (q : ReceiverKept) (log : Vec TakenMessage Global) (m : TakenMessage) (v : EndView) (h : Handed) (rest : List Handed) → IsEnd e v
-    → v.receiver.waiting m.stream ≡ h ∷ rest → h.number ≡ m.number → log.items ≡ e.taken.items ++ m ∷ [] → ReceiverStands q (taken_from v.receiver m.stream h rest)
+    → v.receiver.waiting m.stream ≡ h ∷ rest → number_told h ≡ m.number → log.items ≡ e.taken.items ++ m ∷ [] → ReceiverStands q (taken_from v.receiver m.stream h rest)
     → IsEnd (record e { receiver = q; taken = log }) (taken_by_user v m.stream h rest)
 end_took e q log m v h rest k waits number is stands = record {
   state = k.state;
@@ -312,7 +312,7 @@ end_took e q log m v h rest k waits number is stands = record {
   streams = k.streams;
   numbered = k.numbered;
   messages = k.messages;
-  taken = λ s. at_cases (λ (hs : List Handed). numbers_taken log.items s ≡ map (λ x. x.number) hs) v.receiver.taken m.stream (v.receiver.taken m.stream ++ h ∷ []) s
+  taken = λ s. at_cases (λ (hs : List Handed). numbers_taken log.items s ≡ map number_told hs) v.receiver.taken m.stream (v.receiver.taken m.stream ++ h ∷ []) s
       (λ e. rw is (taken-push _ m s (sym e) ∙ (ap (λ (xs : List ℕ). xs ++ m.number ∷ []) (k.taken s)
       ∙ rw (e, map-append, number) refl)))
       (λ ne. rw is (taken-other _ m s (λ e. ne (sym e)) ∙ k.taken s));

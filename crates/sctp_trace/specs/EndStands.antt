@@ -7,7 +7,7 @@ use Rattle.sctp_model.specs.Chunk.{SackMeaning, ChunkMeaning, Sack}
 use Rattle.sctp_model.specs.Plan.{Plan, Entry, Part, End as EndMark}
 use Rattle.sctp_model.specs.ReceiverView.{Handed, ReceiverView}
 use Rattle.sctp_model.specs.first.Sending.{Refusal}
-use Rattle.sctp_model.specs.first.World.{State, Closed, Listen, Established, EndView, Packet, Act, Acts, SackOf}
+use Rattle.sctp_model.specs.first.World.{State, Closed, Listen, Established, EndView, Packet, Act, Acts, SackOf, number_told}
 use Rattle.sctp_wire.specs.declared.fault.NoMemory.{NoMemory}
 use Rattle.sctp_script.specs.Events.{state_said}
 use Rattle.sctp_script.specs.ReportText.{tickets_of}
@@ -49,7 +49,7 @@ pub record IsEnd (e : End) (v : EndView) : Type 0 where
   pub streams : e.streams ≡ v.receiver.streams
   pub numbered : tickets_noted e.numbered.items ≡ tickets_of v.sender.plan
   pub messages : AllByRecursion (HasMessage v.sender.plan) v.sender.plan.entries
-  pub taken : (s : ℕ) → numbers_taken e.taken.items s ≡ map (λ h. h.number) (v.receiver.taken s)
+  pub taken : (s : ℕ) → numbers_taken e.taken.items s ≡ map number_told (v.receiver.taken s)
   pub lanes : (s : ℕ) → AllByRecursion (IsOn s) (v.receiver.waiting s)
 
 -- the end stands for this view

@@ -5,6 +5,7 @@ use Rattle.clap.specs.Faults.{fault_of}
 use Rattle.sctp_script.specs.Lines.{kind_of}
 use Rattle.sctp_script.specs.declared.line.LineFault.{LineFault}
 use Rattle.sctp_trace.specs.Script.{IsAnswered}
+use Rattle.sctp_trace.specs.declared.command_line.TheConstants.{DONE, WRONG_WORDS, REFUSED, FAILED}
 use Rattle.sctp_trace.specs.declared.script.ScriptFault.{ScriptFault}
 use Rattle.sctp_trace.specs.declared.script.ScriptFault.TheVariants.{Read, Write, NoMemory, Line}
 
@@ -29,12 +30,12 @@ Begins said text = (more : List ℕ) × (text ≡ said ++ more)
 
 -- The exit status of a script that ended so, and what was said. A refused line is said whole, or the status is that of a failure.
 abbrev pub Tells : Result (Unit {0}) ScriptFault → ℕ → List ℕ → Type 0
-Tells (Ok _) status said = (status ≡ 0) × (said ≡ [])
-Tells (Err Read) status said = (status ≡ 3) × (said ≡ [])
-Tells (Err Write) status said = (status ≡ 3) × (said ≡ [])
-Tells (Err NoMemory) status said = (status ≡ 3) × (said ≡ [])
+Tells (Ok _) status said = (status ≡ DONE) × (said ≡ [])
+Tells (Err Read) status said = (status ≡ FAILED) × (said ≡ [])
+Tells (Err Write) status said = (status ≡ FAILED) × (said ≡ [])
+Tells (Err NoMemory) status said = (status ≡ FAILED) × (said ≡ [])
 Tells (Err (Line n fault)) status said =
-    ((status ≡ 2) × (said ≡ refused_line n fault)) ⊎ ((status ≡ 3) × Begins said (refused_line n fault))
+    ((status ≡ REFUSED) × (said ≡ refused_line n fault)) ⊎ ((status ≡ FAILED) × Begins said (refused_line n fault))
 
 -- a script was run: how it ended, and what was told of that; `end` says that all input was read
 abbrev pub Runs : Type 0 → ℕ → List ℕ → List ℕ → List ℕ → Type 0
@@ -46,5 +47,5 @@ Runs end status read written said =
 abbrev pub Ends : Type 0 → List (List ℕ) → ℕ → List ℕ → List ℕ → List ℕ → Type 0
 Ends end words status read written said =
     (IsForm words × Runs end status read written said)
-    ⊎ (((¬ IsForm words) × (read ≡ []) × (written ≡ []) × ((status ≡ 1) ⊎ (status ≡ 3)))
-    ⊎ ((status ≡ 3) × (read ≡ []) × (written ≡ []) × (said ≡ [])))
+    ⊎ (((¬ IsForm words) × (read ≡ []) × (written ≡ []) × ((status ≡ WRONG_WORDS) ⊎ (status ≡ FAILED)))
+    ⊎ ((status ≡ FAILED) × (read ≡ []) × (written ≡ []) × (said ≡ [])))

@@ -17,10 +17,10 @@ ghost use Rattle.sctp_first_recv.specs.ReceiverStands.{ReceiverStands};
 ghost use Rattle.sctp_first_send.specs.SenderSteps.{reason_of};
 ghost use Rattle.sctp_script.specs.Settings.{configuration_of};
 
-use sctp_packet::PacketWriter;
 use sctp_first_recv::{Answer, Receiver};
-use sctp_script::{Bytes, Outcome, PairConfig, SendRefusal, Side, State};
 use sctp_first_send::{Filled, SendFault, Sender};
+use sctp_packet::PacketWriter;
+use sctp_script::{Bytes, Outcome, PairConfig, SendRefusal, Side, State};
 use sctp_wire::{Blocks, Chunk, Chunks, NoMemory, Sack, Words, read_chunks};
 use std::alloc::Global;
 

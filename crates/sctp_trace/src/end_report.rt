@@ -1,7 +1,7 @@
 //! The part of a report that speaks of one end.
 
 ghost use Rattle.std.specs.Prelude.{◌≡◌, ℕ, List, ◌++◌, map, IfOk, OnOk};
-ghost use Rattle.sctp_model.specs.first.World.{EndView};
+ghost use Rattle.sctp_model.specs.first.World.{EndView, number_told};
 ghost use Rattle.sctp_script.specs.Events.{side_said};
 ghost use Rattle.sctp_trace.specs.EndStands.{EndStands, tickets_noted, numbers_taken};
 ghost use Rattle.sctp_first_recv.specs.HandedOf.{handed_of};
@@ -10,8 +10,8 @@ ghost use Rattle.sctp_first_send.specs.SenderSteps as sender;
 
 use crate::end::{End, TakenMessage};
 use sctp_first_recv::Message;
-use sctp_script::{Side, put_end, put_handed, put_numbered};
 use sctp_first_send::{Filled, Ticket};
+use sctp_script::{Side, put_end, put_handed, put_numbered};
 use sctp_wire::NoMemory;
 use std::alloc::Global;
 use std::collections::VecDeque;
@@ -99,7 +99,7 @@ fn append_taken(taken: &[TakenMessage], stream: u16, out: &mut Vec<u32>) -> Resu
 
 /// Appends the numbers of messages that wait.
 fn append_waiting(waiting: &VecDeque<Message>, out: &mut Vec<u32>) -> Result<(), NoMemory>
-    ensures { OnOk result (out.new.items ≡ out.old.items ++ map (λ m. (handed_of m).number) waiting.now.items) }
+    ensures { OnOk result (out.new.items ≡ out.old.items ++ map (λ m. number_told (handed_of m)) waiting.now.items) }
 {
     for index in 0..waiting.len() {
         out.push(waiting[index].number.unwrap_or(0))

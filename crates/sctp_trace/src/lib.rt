@@ -1,13 +1,14 @@
 //! Two ends of an association and what lies between them, run by a script.
 #![tactic(auto)]
 
+mod command_line;
 mod end;
 mod end_report;
 mod pair;
 mod script;
 mod script_laws;
-mod words;
 
+pub use command_line::{FAILED, WRONG_WORDS, run_words};
 pub use pair::Pair;
 pub use script::{ScriptFault, run_script};
 pub use script_laws::{every_script_is_safe, lines_are_there, one_first_fault};
@@ -15,4 +16,3 @@ pub use sctp_script::{
     Bytes, ConfigFault, Draw, Event, Failed, FromRead, LineFault, Mode, Outcome, PairConfig,
     SendRefusal, Side, Sink, Source, ToWrite,
 };
-pub use words::run_words;

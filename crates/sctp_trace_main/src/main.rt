@@ -1,12 +1,9 @@
 //! The program `sctp-trace`: `run_words` over the process's words and its three standard streams.
 #![tactic(auto)]
 
-use sctp_trace::{FromRead, ToWrite, run_words};
+use sctp_trace::{FAILED, FromRead, ToWrite, WRONG_WORDS, run_words};
 use std::process::ExitCode;
 use std::{env, io};
-
-/// The exit status where the words can't be got for want of memory.
-const FAILED: u8 = 3;
 
 fn main(rt: HostRuntime) -> ExitCode {
     let words: io::Result<Vec<String>> = match env::args(&rt) {
@@ -24,7 +21,12 @@ fn main(rt: HostRuntime) -> ExitCode {
             &mut output,
             &mut faults,
         )),
-        Err(error) if error.kind() == io::ErrorKind::InvalidData => ExitCode::FAILURE,
+        Err(error) if error.kind() == io::ErrorKind::InvalidData => {
+            match eprintln!(rt; "error: a word isn't UTF-8") {
+                Ok(()) => ExitCode::from(WRONG_WORDS),
+                Err(_) => ExitCode::from(FAILED),
+            }
+        }
         Err(_) => ExitCode::from(FAILED),
     }
 }

@@ -1,9 +1,9 @@
 -- Two ends, what lies between them, and what may happen, while one ordered stream carries messages of one fragment each.
-use Rattle.std.specs.Prelude.{◌≡◌, ℕ, suc, ◌+◌, ◌-◌, ◌*◌, ◌<◌, ◌≤◌, ◌⊎◌, Bool, true, false, not, ◌&&◌, nat_lt, List, [], ◌∷◌, ◌++◌, length, take, Option, None, Some}
+use Rattle.std.specs.Prelude.{◌≡◌, ℕ, suc, ◌-◌, ◌*◌, ◌≤◌, ◌⊎◌, Bool, true, false, not, ◌&&◌, nat_lt, List, [], ◌∷◌, ◌++◌, length, take, Option, None, Some, unwrap_or}
 use Rattle.sctp_model.specs.Lists.{item_at, at}
 use Rattle.sctp_model.specs.Format.{Plain, ordered_lane}
 use Rattle.sctp_model.specs.Plan.{bytes_of}
-use Rattle.sctp_model.specs.Pieces.{Piece}
+use Rattle.sctp_model.specs.Pieces.{Piece, IsNumberBelow}
 use Rattle.sctp_model.specs.Chunk.{PieceMeaning, SackMeaning, ChunkMeaning, Data, Sack}
 use Rattle.sctp_model.specs.Packet.{HEADER_ROOM, size_of_packet}
 use Rattle.sctp_model.specs.SenderView.{Queued, SenderView, fresh_sender}
@@ -32,6 +32,10 @@ pub record EndView : Type 0 where
   pub receiver : ReceiverView
   pub sack_due : Bool
   pub asked : Asked
+
+-- the number that is told of a message: as yet all are ordered, and have one
+abbrev pub number_told : Handed → ℕ
+number_told h = unwrap_or h.number 0
 
 abbrev pub Packet : Type 0
 Packet = List ChunkMeaning
@@ -85,7 +89,7 @@ abbrev pub piece_said : PieceMeaning → Piece
 piece_said p = record {
   index = p.tsn;
   lane = ordered_lane p.stream;
-  number = p.number;
+  number = Some p.number;
   begin = p.begin;
   end = p.end;
   word = p.word;
@@ -96,11 +100,16 @@ piece_said p = record {
 abbrev pub IsDuplicate : ReceiverView → ℕ → Type 0
 IsDuplicate r i = (r.seen i ≡ true) ⊎ ((c : ℕ) × IsCumulative r c × (i ≤ c))
 
+-- there is a number, and it is n or above
+abbrev pub IsNumberFrom : ℕ → Option ℕ → Type 0
+IsNumberFrom n None = ⊥
+IsNumberFrom n (Some m) = n ≤ m
+
 -- What the receiver does with a DATA: a duplicate changes nothing, one whose number is behind is recorded, any other is taken.
 pub data PieceTaken (r : ReceiverView) (x : Piece) : ReceiverView → Type 0 where
   Duplicate : IsDuplicate r x.index → PieceTaken r x r
-  Passed : (IsDuplicate r x.index → ⊥) → x.number < r.next x.lane.stream → PieceTaken r x (recorded r x)
-  Taken : (t : ReceiverView) → (IsDuplicate r x.index → ⊥) → r.next x.lane.stream ≤ x.number → Takes Plain r x t → PieceTaken r x t
+  Passed : (IsDuplicate r x.index → ⊥) → IsNumberBelow (r.next x.lane.stream) x.number → PieceTaken r x (recorded r x)
+  Taken : (t : ReceiverView) → (IsDuplicate r x.index → ⊥) → IsNumberFrom (r.next x.lane.stream) x.number → Takes Plain r x t → PieceTaken r x t
 
 -- one chunk acts on an end that is open
 abbrev pub Act : EndView → ChunkMeaning → EndView → Type 0

@@ -26,7 +26,7 @@ fn one_chunk(index: u64, number: u32, bytes: &[u8]) -> Piece<'_> {
     Piece {
         index,
         lane: LANE,
-        number,
+        number: Some(number),
         begin: true,
         end: true,
         word: 51,
@@ -35,7 +35,7 @@ fn one_chunk(index: u64, number: u32, bytes: &[u8]) -> Piece<'_> {
 }
 
 /// The numbers of the messages that are due.
-fn numbers(alloc: Global, due: &Due) -> Result<Vec<u32>, AllocError> {
+fn numbers(alloc: Global, due: &Due) -> Result<Vec<Option<u32>>, AllocError> {
     due.messages
         .iter()
         .map(|message| message.number)
@@ -63,7 +63,7 @@ fn of_three_abandoned_messages_the_one_that_arrived_is_handed_over(
     let due = due_from(rt.alloc(), Format::Plain, &kept, 4, 0, skip)?;
     assert_eq!(rt; due.messages.len(), 1);
     assert_eq!(rt; due.messages[0].first, 2);
-    assert_eq!(rt; due.messages[0].number, 1);
+    assert_eq!(rt; due.messages[0].number, Some(1));
     assert_eq!(rt; due.messages[0].payload, 51);
     assert_eq!(rt; due.messages[0].bytes.as_slice(), b"one".as_slice());
     assert_eq!(rt; due.next, 3);
@@ -94,7 +94,7 @@ fn the_point_stops_at_a_covered_message_that_is_not_abandoned(rt: HostRuntime) -
         0,
         skip_after(&skips, LANE),
     )?;
-    assert_eq!(rt; numbers(rt.alloc(), &due)?.as_slice(), [1].as_slice());
+    assert_eq!(rt; numbers(rt.alloc(), &due)?.as_slice(), [Some(1)].as_slice());
     assert_eq!(rt; due.next, 2);
     assert_eq!(rt; cumulative_index(&[2], 1), 2);
 

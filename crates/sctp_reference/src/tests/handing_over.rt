@@ -29,7 +29,7 @@ fn chunk<'a>(
     Piece {
         index,
         lane,
-        number,
+        number: Some(number),
         begin,
         end,
         word: 0,

@@ -3,7 +3,7 @@ use Rattle.std.specs.List.{AllByRecursion}
 use Rattle.std.proofs.lemmas.Grind.{common_steps}
 use Rattle.sctp_model.specs.ReceiverView.{Handed, ReceiverView}
 use Rattle.sctp_model.specs.first.World as world
-use Rattle.sctp_model.specs.first.World.{end_of, taken_by_user}
+use Rattle.sctp_model.specs.first.World.{end_of, taken_by_user, number_told}
 use Rattle.sctp_script.specs.Events.{side_said}
 use Rattle.sctp_trace.specs.EndStands.{EndStands, IsOn}
 use Rattle.sctp_first_recv.specs.HandedOf.{handed_of}
@@ -46,7 +46,7 @@ returns-in-Some c = λ w stands.
     let left = c.in-Some.ensures v.receiver stands.receiver in
     let rest = left.1.0 in
     let waits = left.1.1 in
-    let number : h.number ≡ c.unwrap_or-number.result = grind (arith, common_steps) in
+    let number : number_told h ≡ c.unwrap_or-number.result = grind (arith, common_steps) in
     let on = subst (λ (hs : List Handed). AllByRecursion (IsOn c.args.stream) hs) waits (stands.lanes c.args.stream) in
     let log : c.push_reserved.new.self.items ≡ c.args.end.now.taken.items ++ m ∷ [] = grind (arith, common_steps) in (
       Some (world.Message s c.args.stream h),

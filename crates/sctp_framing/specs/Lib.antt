@@ -1,0 +1,1 @@
+pub use Rattle.sctp_model.specs.Framing

@@ -1,0 +1,67 @@
+//! The format of DATA chunks (RFC 9260, 3.3.1): a message's fragments have consecutive TSNs, ordered messages have SSNs.
+
+use crate::framing::Framing;
+use crate::numbers::as_number;
+use sctp_serial::{S16, Serial};
+
+/// The bytes of a DATA chunk before its data.
+const HEADER: usize = 16;
+
+/// User data in DATA chunks.
+#[derive(Clone, Copy, Debug)]
+pub struct DataFraming;
+
+impl Framing for DataFraming {
+    ghost use Rattle.sctp_model.specs.Format.{Plain};
+    ghost use Rattle.sctp_safety.proofs.WholeLaw.{whole_law};
+    ghost use Rattle.sctp_safety.proofs.SkipLaw.{skip_law};
+
+    ghost format = { Plain };
+
+    ghost whole = { whole_law Plain };
+
+    ghost skipping = { skip_law Plain };
+
+    fn header() -> usize {
+        HEADER
+    }
+
+    fn wire_number(unordered: bool, number: u32) -> u32 {
+        if unordered { 0 } else { number % 65_536 }
+    }
+
+    fn wire_word(payload: u32, _fragment: u32) -> u32 {
+        payload
+    }
+
+    fn takes_turns() -> bool {
+        false
+    }
+
+    fn is_numbered(unordered: bool) -> bool {
+        !unordered
+    }
+
+    fn number_near(unordered: bool, wire: u32, reference: u32) -> Option<u32> {
+        if unordered {
+            return None;
+        }
+        as_number(S16::of_count(wire).near(reference))
+    }
+
+    fn place(index: u32, _begin: bool, _word: u32) -> u32 {
+        index
+    }
+
+    fn begins(begin: bool, _word: u32) -> bool {
+        begin
+    }
+
+    fn payload(_begin: bool, word: u32) -> u32 {
+        word
+    }
+
+    fn lets_go(index: u32, _number: Option<u32>, jump: u32, _skip: u32) -> bool {
+        index <= jump
+    }
+}

@@ -1,0 +1,72 @@
+//! The trait of a format, with its laws.
+
+/// A format of user data: DATA or I-DATA.
+///
+/// Sender and receiver are written once over it. Numbers and indexes are counts, which never wrap; what is
+/// on the wire is of the chunk alone.
+pub trait Framing {
+    ghost use Rattle.std.specs.Prelude.{◌≡◌};
+    ghost use Rattle.sctp_model.specs.Format.{Format, is_numbered};
+    ghost use Rattle.sctp_model.specs.Framing.{kind_of, header_of, wire_number, takes_turns, number_near, place_in, begins_in, payload_in, lets_go};
+    ghost use Rattle.sctp_model.specs.Pieces.{word_of};
+    ghost use Rattle.sctp_model.specs.FormatLaws.{WholeLaw, SkipLaw};
+
+    // Which format it is.
+    ghost format: { Format };
+
+    // ---- what a sender writes
+
+    /// The bytes of a chunk before its data.
+    fn header() -> usize
+        ensures { result ≡ header_of format };
+
+    /// What stands on the wire for a message's number: an SSN, 0 for an unordered DATA, or a MID.
+    fn wire_number(unordered: bool, number: u32) -> u32
+        ensures { result ≡ wire_number format (kind_of unordered) number };
+
+    /// The word of a fragment: the payload id, or behind an I-DATA message's first fragment the fragment number.
+    fn wire_word(payload: u32, fragment: u32) -> u32
+        ensures { result ≡ word_of format payload fragment };
+
+    /// Whether streams take turns, a fragment each. Else all fragments of a message take their indexes at once.
+    fn takes_turns() -> bool
+        ensures { result ≡ takes_turns format };
+
+    /// Whether messages of this kind are numbered: a FORWARD lists these, and a receiver files them by number.
+    /// Others, the unordered ones of DATA, are known by their indexes alone.
+    fn is_numbered(unordered: bool) -> bool
+        ensures { result ≡ is_numbered format (kind_of unordered) };
+
+    // ---- what a receiver reads
+
+    /// The number that a wire value stands for near a reference, of a chunk or of an entry of a FORWARD.
+    ///
+    /// None where the format has none, where no count is near, and for a count of 2^32 - 1.
+    fn number_near(unordered: bool, wire: u32, reference: u32) -> Option<u32>
+        ensures { result ≡ number_near format (kind_of unordered) wire reference };
+
+    /// What rises by one from a fragment of a message to the next: the index, or the fragment number.
+    fn place(index: u32, begin: bool, word: u32) -> u32
+        ensures { result ≡ place_in format index begin word };
+
+    /// Whether a message begins with a chunk of this flag B and this word.
+    fn begins(begin: bool, word: u32) -> bool
+        ensures { result ≡ begins_in format begin word };
+
+    /// The payload id that a message's first chunk says.
+    fn payload(begin: bool, word: u32) -> u32
+        ensures { result ≡ payload_in format begin word };
+
+    /// Whether a kept unordered chunk is left behind by a FORWARD, and goes where its message isn't whole: by its index,
+    /// which is then at most the largest index of a FORWARD, or by its number, which is then below one past the largest number skipped.
+    fn lets_go(index: u32, number: Option<u32>, jump: u32, skip: u32) -> bool
+        ensures { result ≡ lets_go format index number jump skip };
+
+    // ---- laws
+
+    // Of an orderly plan, chunks are whole exactly where they are all those of one message, and give its bytes and its payload id.
+    ghost whole: { WholeLaw format };
+
+    // What the FORWARD of an orderly plan makes go is of an abandoned message, or of a message that is whole.
+    ghost skipping: { SkipLaw format };
+}

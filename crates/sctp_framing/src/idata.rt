@@ -1,0 +1,67 @@
+//! The format of I-DATA chunks (RFC 8260, 2.1): fragments are numbered in their message, and all messages have MIDs.
+
+use crate::framing::Framing;
+use crate::numbers::as_number;
+use sctp_serial::{S32, Serial};
+
+/// The bytes of an I-DATA chunk before its data.
+const HEADER: usize = 20;
+
+/// User data in I-DATA chunks.
+#[derive(Clone, Copy, Debug)]
+pub struct IDataFraming;
+
+impl Framing for IDataFraming {
+    ghost use Rattle.sctp_model.specs.Format.{Interleaved};
+    ghost use Rattle.sctp_safety.proofs.WholeLaw.{whole_law};
+    ghost use Rattle.sctp_safety.proofs.SkipLaw.{skip_law};
+
+    ghost format = { Interleaved };
+
+    ghost whole = { whole_law Interleaved };
+
+    ghost skipping = { skip_law Interleaved };
+
+    fn header() -> usize {
+        HEADER
+    }
+
+    fn wire_number(_unordered: bool, number: u32) -> u32 {
+        number
+    }
+
+    fn wire_word(payload: u32, fragment: u32) -> u32 {
+        if fragment == 0 { payload } else { fragment }
+    }
+
+    fn takes_turns() -> bool {
+        true
+    }
+
+    fn is_numbered(_unordered: bool) -> bool {
+        true
+    }
+
+    fn number_near(_unordered: bool, wire: u32, reference: u32) -> Option<u32> {
+        as_number(S32(wire).near(reference))
+    }
+
+    fn place(_index: u32, begin: bool, word: u32) -> u32 {
+        if begin { 0 } else { word }
+    }
+
+    fn begins(begin: bool, word: u32) -> bool {
+        begin || word == 0
+    }
+
+    fn payload(begin: bool, word: u32) -> u32 {
+        if begin { word } else { 0 }
+    }
+
+    fn lets_go(_index: u32, number: Option<u32>, _jump: u32, skip: u32) -> bool {
+        match number {
+            Some(number) => number < skip,
+            None => false,
+        }
+    }
+}

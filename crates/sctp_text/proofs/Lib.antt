@@ -1,0 +1,9 @@
+mod WrittenLines
+pub mod WordLemmas
+mod HexDigits
+pub mod WordValues
+mod Decimals
+mod WritingLemmas
+mod SourceLineLemmas
+mod LineSplits
+mod LineRuns

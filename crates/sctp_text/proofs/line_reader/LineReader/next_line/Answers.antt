@@ -1,0 +1,13 @@
+use Rattle.std.proofs.Common.{◌≡◌, ◌++◌, ap, arith}
+use Rattle.std.proofs.lemmas.Grind.{common_steps}
+use Rattle.sctp_text.specs.TextLines.{Reading, ended}
+use Rattle.sctp_text.proofs.line_reader.LineReader.next_line.Goals as goal
+
+pub returns-in-Some-LineFeed-clause-bytes : goal.returns-in-Some-LineFeed-clause-bytes
+returns-in-Some-LineFeed-clause-bytes g c =
+    let b = c.complete.ensures.bytes in
+    let held = ap (λ (now : Reading). now.held) c.self.view_is in
+    let given = ap (λ (now : Reading). now.given) c.self.view_is in
+    let whole : c.args.self.now.held ++ b.0 ≡ ended c.replace.result.items ++ (c.replace.new.dest.items ++ c.skip.new.self) =
+    grind (arith, common_steps, b.3, held) in
+    (b.0, b.1, rw (← held, ← given) b.2, whole)

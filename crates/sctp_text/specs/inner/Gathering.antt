@@ -1,0 +1,19 @@
+-- What private functions of the reader of lines answer.
+use Rattle.std.specs.Prelude.{◌≡◌, ℕ, ◌+◌, ◌<◌, List, [], ◌∷◌, ◌++◌, length, Option, None, Some, Result, Ok, Err}
+use Rattle.sctp_text.specs.declared.limits.TheConstants.{LINE_FEED, LONGEST_TEXT}
+use Rattle.sctp_text.specs.declared.line_reader.Stop.{Stop}
+use Rattle.sctp_text.specs.declared.line_reader.Stop.TheVariants as stop
+use Rattle.sctp_text.specs.TextLines.{IsTooLong}
+
+-- with the line so far and what the block still holds: why the line is gathered no further, or that the block is used up
+abbrev pub IsGathered : {E : Type 0} → ℕ → Result (Option Stop) E → List ℕ → List ℕ → Type 0
+IsGathered given (Ok None) line rest = rest ≡ []
+IsGathered given (Ok (Some stop.LineFeed)) line rest = (tail : List ℕ) × (rest ≡ LINE_FEED ∷ tail) × (given + length line < LONGEST_TEXT)
+IsGathered given (Ok (Some stop.TooLong)) line rest = IsTooLong given (line ++ rest)
+IsGathered given (Err _) line rest = Unit {0}
+
+-- P, where the input ended
+abbrev pub AtEndOfInput : {E : Type 0} → Result (Option Stop) E → Type 0 → Type 0
+AtEndOfInput (Ok None) P = P
+AtEndOfInput (Ok (Some _)) P = Unit {0}
+AtEndOfInput (Err _) P = Unit {0}
