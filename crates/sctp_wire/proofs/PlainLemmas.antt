@@ -127,27 +127,27 @@ written_from bytes fits h first again =
     let listed : are_typed bytes ≡ true = are_typed-after bytes h ∙ again.listed in
     let items = (typed_in-some bytes some listed).1 in
     ⊎_elim (λ (p : ((size == length bytes) ≡ true) × (size ≡ length bytes)).
-      let over : drop size bytes ≡ [] = drop_all bytes size (omega arith) in
-      let none : after_typed bytes ≡ [] = drop_all bytes (padded size) (omega arith) in
-      let alone : typed_in (after_typed bytes) ≡ [] = ap typed_in none ∙ typed_in-nil [] refl in
-      let whole : bytes ≡ typed_bytes (typed_at bytes) = f.parts ∙ rw over (append-nil (typed_bytes (typed_at bytes))) in
-      let is : IsPlainList bytes = record { listed = listed; written = rw (items, alone) (f.typed, whole) } in is)
+    let over : drop size bytes ≡ [] = drop_all bytes size (omega arith) in
+    let none : after_typed bytes ≡ [] = drop_all bytes (padded size) (omega arith) in
+    let alone : typed_in (after_typed bytes) ≡ [] = ap typed_in none ∙ typed_in-nil [] refl in
+    let whole : bytes ≡ typed_bytes (typed_at bytes) = f.parts ∙ rw over (append-nil (typed_bytes (typed_at bytes))) in
+    let is : IsPlainList bytes = record { listed = listed; written = rw (items, alone) (f.typed, whole) } in is)
     (λ (p : ((size == length bytes) ≡ false) × (size ≢ length bytes)).
-      let tests = plain_first bytes first p.1 in
-      let more = padded size - size in
-      let room = tests.0 in
-      let after = length-drop size bytes in
-      let behind = length-drop (padded size) bytes in
-      let within = s.within in
-      let rest : drop more (drop size bytes) ≡ after_typed bytes = drop-drop more size bytes ∙ ap (λ (n : ℕ). drop n bytes) (omega arith) in
-      let zeros_length : length (take more (drop size bytes)) ≡ more = length-take-le more (drop size bytes) (omega arith) in
-      let zeros : take more (drop size bytes) ≡ replicate more 0 = are_zeros (take more (drop size bytes)) tests.1 ∙ ap (λ (n : ℕ). replicate n 0) zeros_length in
-      let own : length (typed_bytes (typed_at bytes)) ≡ size = length-typed_bytes (typed_at bytes) ∙ f.size in
-      let parts : drop size bytes ≡ replicate more 0 ++ after_typed bytes = sym (rw (← rest, ← zeros) (take-append-drop more (drop size bytes))) in
-      let joined : bytes ≡ filled (typed_bytes (typed_at bytes)) ++ after_typed bytes =
-      f.parts ∙ ap (λ (xs : List ℕ). typed_bytes (typed_at bytes) ++ xs) parts ∙ sym (append_assoc (typed_bytes (typed_at bytes)) (replicate more 0) (after_typed bytes))
-      ∙ ap (λ (n : ℕ). (typed_bytes (typed_at bytes) ++ replicate (padded n - n) 0) ++ after_typed bytes) (sym own) in
-      let is : IsPlainList bytes = record { listed = listed; written = rw items (before_some bytes (after_typed bytes) (typed_at bytes) (typed_in (after_typed bytes)) (omega arith) f.typed joined again.written) } in is)
+    let tests = plain_first bytes first p.1 in
+    let more = padded size - size in
+    let room = tests.0 in
+    let after = length-drop size bytes in
+    let behind = length-drop (padded size) bytes in
+    let within = s.within in
+    let rest : drop more (drop size bytes) ≡ after_typed bytes = drop-drop more size bytes ∙ ap (λ (n : ℕ). drop n bytes) (omega arith) in
+    let zeros_length : length (take more (drop size bytes)) ≡ more = length-take-le more (drop size bytes) (omega arith) in
+    let zeros : take more (drop size bytes) ≡ replicate more 0 = are_zeros (take more (drop size bytes)) tests.1 ∙ ap (λ (n : ℕ). replicate n 0) zeros_length in
+    let own : length (typed_bytes (typed_at bytes)) ≡ size = length-typed_bytes (typed_at bytes) ∙ f.size in
+    let parts : drop size bytes ≡ replicate more 0 ++ after_typed bytes = sym (rw (← rest, ← zeros) (take-append-drop more (drop size bytes))) in
+    let joined : bytes ≡ filled (typed_bytes (typed_at bytes)) ++ after_typed bytes =
+    f.parts ∙ ap (λ (xs : List ℕ). typed_bytes (typed_at bytes) ++ xs) parts ∙ sym (append_assoc (typed_bytes (typed_at bytes)) (replicate more 0) (after_typed bytes))
+    ∙ ap (λ (n : ℕ). (typed_bytes (typed_at bytes) ++ replicate (padded n - n) 0) ++ after_typed bytes) (sym own) in
+    let is : IsPlainList bytes = record { listed = listed; written = rw items (before_some bytes (after_typed bytes) (typed_at bytes) (typed_in (after_typed bytes)) (omega arith) f.typed joined again.written) } in is)
     (eqb_tells size (length bytes))
 
 both_true : (a b : Bool) → (a && b) ≡ true → (a ≡ true) × (b ≡ true)

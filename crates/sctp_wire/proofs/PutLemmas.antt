@@ -22,17 +22,29 @@ filled-behind front rest whole =
 pub ReadsTyped-push : (xs : List Typed) (bytes : List ℕ) (x : Typed) → IsTyped x → ReadsTyped bytes xs → ReadsTyped (filled bytes ++ typed_bytes x) (xs ++ x ∷ [])
 ReadsTyped-push [] bytes x t e = rw e (t, inl (refl, refl))
 ReadsTyped-push (y ∷ ys) bytes x t (u, inl (e, n)) =
-    let size = length-typed_bytes y in
-    (u, inr (replicate (padding_after (length bytes)) 0, typed_bytes x,
-    append_assoc bytes (replicate (padding_after (length bytes)) 0) (typed_bytes x) ∙ ap (λ (bs : List ℕ). bs ++ (replicate (padding_after (length bytes)) 0 ++ typed_bytes x)) e,
-    length-zeros (padding_after (length bytes)) ∙ ap padding_after (ap length e ∙ size), rw n (t, inl (refl, refl))))
+    let size = length-typed_bytes y in (
+      u,
+      inr (
+        replicate (padding_after (length bytes)) 0,
+        typed_bytes x,
+        append_assoc bytes (replicate (padding_after (length bytes)) 0) (typed_bytes x) ∙ ap (λ (bs : List ℕ). bs ++ (replicate (padding_after (length bytes)) 0 ++ typed_bytes x)) e,
+        length-zeros (padding_after (length bytes)) ∙ ap padding_after (ap length e ∙ size),
+        rw n (t, inl (refl, refl)),
+      ),
+    )
 ReadsTyped-push (y ∷ ys) bytes x t (u, inr (padding, rest, joined, long, more)) =
     let front = typed_bytes y ++ padding in
     let whole : length front % 4 ≡ 0 = omega (arith, length-append (typed_bytes y) padding, length-typed_bytes y) in
-    let split : bytes ≡ front ++ rest = joined ∙ sym (append_assoc (typed_bytes y) padding rest) in
-    (u, inr (padding, filled rest ++ typed_bytes x,
-    rw (split, filled-behind front rest whole) (append_assoc front (filled rest) (typed_bytes x) ∙ append_assoc (typed_bytes y) padding (filled rest ++ typed_bytes x)),
-    long, ReadsTyped-push ys rest x t more))
+    let split : bytes ≡ front ++ rest = joined ∙ sym (append_assoc (typed_bytes y) padding rest) in (
+      u,
+      inr (
+        padding,
+        filled rest ++ typed_bytes x,
+        rw (split, filled-behind front rest whole) (append_assoc front (filled rest) (typed_bytes x) ∙ append_assoc (typed_bytes y) padding (filled rest ++ typed_bytes x)),
+        long,
+        ReadsTyped-push ys rest x t more,
+      ),
+    )
 
 filled_whole : (bytes : List ℕ) → length (filled bytes) % 4 ≡ 0
 filled_whole bytes = omega (arith, length-filled bytes)

@@ -85,4 +85,3 @@ IsSack-sack_at value bytes = record {
   blocks = all-blocks_in _ (AreBytes-take _ (drop 12 value) (AreBytes-drop 12 value bytes));
   duplicates = all-words_in _ (AreBytes-drop _ (drop 12 value) (AreBytes-drop 12 value bytes));
 }
-

@@ -209,17 +209,23 @@ reads-first bytes xs fits s again =
     let size = size_at bytes in
     let f = first_is bytes fits s in
     ⊎_elim (λ (p : ((size == length bytes) ≡ true) × (size ≡ length bytes)).
-      let over : drop size bytes ≡ [] = drop_all bytes size (omega arith) in
-      let none : after_typed bytes ≡ [] = drop_all bytes (padded size) (omega arith) in
-      (f.typed, inl (f.parts ∙ rw over (append-nil (typed_bytes (typed_at bytes))), reads-none xs (rw none at again))))
+    let over : drop size bytes ≡ [] = drop_all bytes size (omega arith) in
+    let none : after_typed bytes ≡ [] = drop_all bytes (padded size) (omega arith) in
+    (f.typed, inl (f.parts ∙ rw over (append-nil (typed_bytes (typed_at bytes))), reads-none xs (rw none at again))))
     (λ (p : ((size == length bytes) ≡ false) × (size ≢ length bytes)).
-      let room = s.ends p.1 in
-      let after = length-drop size bytes in
-      let more = padded size - size in
-      let rest : drop more (drop size bytes) ≡ after_typed bytes = drop-drop more size bytes ∙ ap (λ (n : ℕ). drop n bytes) (omega arith) in
-      (f.typed, inr (take more (drop size bytes), after_typed bytes,
-      f.parts ∙ ap (λ (bs : List ℕ). typed_bytes (typed_at bytes) ++ bs) (sym (rw (← rest) (take-append-drop more (drop size bytes)))),
-      rw f.size (length-take-le more (drop size bytes) (omega arith)), again)))
+    let room = s.ends p.1 in
+    let after = length-drop size bytes in
+    let more = padded size - size in
+    let rest : drop more (drop size bytes) ≡ after_typed bytes = drop-drop more size bytes ∙ ap (λ (n : ℕ). drop n bytes) (omega arith) in (
+      f.typed,
+      inr (
+        take more (drop size bytes),
+        after_typed bytes,
+        f.parts ∙ ap (λ (bs : List ℕ). typed_bytes (typed_at bytes) ++ bs) (sym (rw (← rest) (take-append-drop more (drop size bytes)))),
+        rw f.size (length-take-le more (drop size bytes) (omega arith)),
+        again,
+      ),
+    ))
     (eqb_tells size (length bytes))
 
 -- bytes that are a list read as its items

@@ -11,7 +11,7 @@ use Rattle.sctp_model.specs.Numbers.{u16_bytes}
 use Rattle.sctp_model.specs.Places.{is_misplaced, ArePlaced}
 use Rattle.sctp_wire.specs.Layouts.{flags_of, value_of, Fits}
 use Rattle.sctp_wire.specs.Reads.{ReadsChunk, ReadsEach, Reads}
-use Rattle.sctp_wire.specs.Writes.{written, WritesEach, Writes}
+use Rattle.sctp_wire.specs.Writes.{written, Writes}
 use Rattle.sctp_wire.specs.Laws.{Join}
 use Rattle.sctp_wire.proofs.NumberLemmas.{length-u16}
 use Rattle.sctp_wire.proofs.ItemLemmas.{all-append}
@@ -42,12 +42,12 @@ reads_all_written : (ms : List ChunkMeaning) → AllByRecursion Fits ms → Read
 reads_all_written [] fits = refl
 reads_all_written (m ∷ ms) fits = (written m, flat_map written ms, refl, reads_written m fits.0, reads_all_written ms fits.1)
 
-pub reads_each_written : (bytes : List ℕ) (ms : List ChunkMeaning) → WritesEach bytes ms → ReadsEach bytes ms
+pub reads_each_written : (bytes : List ℕ) (ms : List ChunkMeaning) → Writes bytes ms → ReadsEach bytes ms
 reads_each_written bytes ms w =
     subst (λ (xs : List ℕ). ReadsEach xs ms) (sym w.bytes_are) (reads_all_written ms w.fits)
 
-pub reads_writes : (bytes : List ℕ) (ms : List ChunkMeaning) → Writes bytes ms → Reads bytes ms
-reads_writes bytes ms w = record { each = reads_each_written bytes ms w.each; placed = w.placed }
+pub reads_writes : (bytes : List ℕ) (ms : List ChunkMeaning) → Writes bytes ms → ArePlaced ms → Reads bytes ms
+reads_writes bytes ms w placed = record { each = reads_each_written bytes ms w; placed = placed }
 
 -- a chunk alone stands where it may
 alone_is_placed : (kind : ℕ) → is_misplaced true true kind ≡ false
@@ -59,11 +59,10 @@ placed_one m = rw (alone_is_placed (kind_of m)) refl
 
 -- what is written for a chunk is that of a list of one, and reads, alone, as that chunk
 pub writes_one : (m : ChunkMeaning) → Fits m → Writes (written m) (m ∷ [])
-writes_one m fits =
-    record { each = record { bytes_are = sym (append-nil (written m)); fits = (fits, tt) }; placed = placed_one m }
+writes_one m fits = record { bytes_are = sym (append-nil (written m)); fits = (fits, tt) }
 
 pub reads_one : (m : ChunkMeaning) → Fits m → Reads (written m) (m ∷ [])
-reads_one m fits = reads_writes (written m) (m ∷ []) (writes_one m fits)
+reads_one m fits = reads_writes (written m) (m ∷ []) (writes_one m fits) (placed_one m)
 
 -- ---- chunks behind chunks
 
@@ -72,7 +71,7 @@ reads_join [] ns front back e q = rw e q
 reads_join (m ∷ ms) ns front back (chunk, rest, joined, reads, others) q =
     (chunk, rest ++ back, ap (λ (xs : List ℕ). xs ++ back) joined ∙ append_assoc chunk rest back, reads, reads_join ms ns rest back others q)
 
-writes_join : (ms ns : List ChunkMeaning) (front back : List ℕ) → WritesEach front ms → WritesEach back ns → WritesEach (front ++ back) (ms ++ ns)
+writes_join : (ms ns : List ChunkMeaning) (front back : List ℕ) → Writes front ms → Writes back ns → Writes (front ++ back) (ms ++ ns)
 writes_join ms ns front back p q =
     record { bytes_are = rw (p.bytes_are, q.bytes_are) (sym (flat_map-append written ms ns)); fits = all-append Fits ms ns p.fits q.fits }
 

@@ -59,9 +59,9 @@ pub record IsWhole (bytes : List ℕ) : Type 0 where
 abbrev pub framed : List ℕ → Result ℕ Reason → Result (ChunkMeaning × List ℕ) Reason
 framed bytes (Ok size) =
     if is_laid_out (slice_index bytes 0) (value_at bytes) then (
-      if is_listed (slice_index bytes 0) (value_at bytes)
-      then Ok (body_at (slice_index bytes 0) (slice_index bytes 1) (value_at bytes), drop (padded size) bytes)
-      else Err HasNoList
+    if is_listed (slice_index bytes 0) (value_at bytes)
+    then Ok (body_at (slice_index bytes 0) (slice_index bytes 1) (value_at bytes), drop (padded size) bytes)
+    else Err HasNoList
     )
     else Err HasOtherBody
 framed bytes (Err why) = Err why

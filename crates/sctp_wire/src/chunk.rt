@@ -36,23 +36,38 @@ pub enum Chunk<'a> {
     /// What was seen (RFC 9260, 3.3.4).
     Sack(Sack<'a>),
     /// Asks for an answer with the same bytes (RFC 9260, 3.3.5).
-    Heartbeat { info: &'a [u8] },
+    Heartbeat {
+        info: &'a [u8],
+    },
     /// The answer to HEARTBEAT (RFC 9260, 3.3.6).
-    HeartbeatAck { info: &'a [u8] },
+    HeartbeatAck {
+        info: &'a [u8],
+    },
     /// The association is over (RFC 9260, 3.3.7). `reflected` is the flag T: the packet's tag is the one that came.
-    Abort { reflected: bool, causes: Causes<'a> },
+    Abort {
+        reflected: bool,
+        causes: Causes<'a>,
+    },
     /// No more is sent (RFC 9260, 3.3.8): all up to this TSN came.
-    Shutdown { cumulative: u32 },
+    Shutdown {
+        cumulative: u32,
+    },
     /// The answer to SHUTDOWN (RFC 9260, 3.3.9).
     ShutdownAck,
     /// Something is wrong (RFC 9260, 3.3.10).
-    Error { causes: Causes<'a> },
+    Error {
+        causes: Causes<'a>,
+    },
     /// The cookie of an INIT ACK comes back (RFC 9260, 3.3.11).
-    CookieEcho { cookie: &'a [u8] },
+    CookieEcho {
+        cookie: &'a [u8],
+    },
     /// The answer to COOKIE ECHO (RFC 9260, 3.3.12).
     CookieAck,
     /// The answer to SHUTDOWN ACK (RFC 9260, 3.3.13). `reflected` is the flag T.
-    ShutdownComplete { reflected: bool },
+    ShutdownComplete {
+        reflected: bool,
+    },
     /// User data with a message identifier (RFC 8260, 2.1).
     IData(Piece<'a>),
     /// What was given up of messages in DATA (RFC 3758, 3.2).

@@ -39,5 +39,5 @@ pub use typed::{
 pub use unknown::{Rule, unknown_chunk, unknown_parameter};
 pub use write::write_chunk;
 
-
-
+#[cfg(test)]
+mod tests;

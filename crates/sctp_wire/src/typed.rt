@@ -230,7 +230,8 @@ fn put_typed(kind: u16, value: &[u8], list: &mut Vec<u8>) -> Result<(), NoMemory
     ensures memory { length (filled list.old.items) + 4 + length value.now ≤ vec_capacity list.old → IsOk result }
 {
     let padding = padded(list.len()) - list.len();
-    list.reserve(padding + 4 + value.len()).map_err(|_| NoMemory)?;
+    list.reserve(padding + 4 + value.len())
+        .map_err(|_| NoMemory)?;
     append_zeros(list, padding);
     append_u16(list, kind);
     append_u16(list, (4 + value.len()) as u16);
