@@ -238,7 +238,7 @@ longer _ v _ (Whole q rest is) = omega (arith, length-append v.plan.entries (par
 longer _ v _ (Begun s q lt on first) = omega (arith, length-append v.plan.entries (parts_from q.lane (length (v.plan.messages q.lane)) 0 1))
 longer _ v _ (Continued s e lt on) = omega (arith, length-append v.plan.entries (e ∷ []))
 
-length-parts : (l : Lane) (n k d : ℕ) → length (parts_from l n k d) ≡ d
+pub length-parts : (l : Lane) (n k d : ℕ) → length (parts_from l n k d) ≡ d
 length-parts l n k zero = refl
 length-parts l n k (suc d) = ap suc (length-parts l n (suc k) d)
 
