@@ -1,26 +1,31 @@
-//! A packet in the making: its header, whose 12 bytes are zero as yet, and chunks for as long as they fit.
+//! A packet in the making: its header, and chunks for as long as they fit (RFC 9260, 3 and 6.10).
 
-ghost use Rattle.std.specs.Prelude.{◌≡◌, ◌<◌, ◌≤◌, ◌^◌, ◌⊎◌, ◌++◌, [], true, length, IfOk, OnOk, OnErr, IfSome, MatchOption};
-ghost use Rattle.sctp_model.specs.Chunk.{size_of_chunk, padded};
+ghost use Rattle.std.specs.Prelude.{◌≡◌, ◌<◌, ◌≤◌, ◌^◌, ◌⊎◌, ◌++◌, [], true, length, take, drop, IfOk, OnOk, OnErr, IfSome, MatchOption};
+ghost use Rattle.byteorder.specs.Endian.{little_bytes};
+ghost use Rattle.sctp_model.specs.Chunk.{padded};
+ghost use Rattle.sctp_model.specs.Packet.{size_of_packet};
 ghost use Rattle.sctp_wire.specs.ChunkTree.{chunk_meaning};
 ghost use Rattle.sctp_wire.specs.Layouts.{Fits};
 ghost use Rattle.sctp_wire.specs.Writes.{written};
-ghost use Rattle.sctp_packet.specs.PacketBytes.{with_header, empty_draft, room_in, has_room, after_try, IsPacketOf};
+ghost use Rattle.sctp_packet.specs.PacketBytes.{header_bytes, WritesPacket};
+ghost use Rattle.sctp_packet.specs.Draft.{with_header, packet_of, empty_draft, room_in, has_room, after_try};
 
+use crate::checksum::{HEADER, SUM_AT, crc32c};
+use byteorder::{ByteOrder, LittleEndian};
 use sctp_wire::{Chunk, NoMemory, chunks_are_read, write_chunk, written_reads};
 use std::alloc::Global;
 use std::marker::Model;
 
-/// The bytes of a packet's header (RFC 9260, 3.1).
-const HEADER: usize = 12;
-
-/// A packet in the making: the most bytes that it may have, and the chunks put in so far.
+/// A packet in the making: the most bytes that it may have, its ports and tag, and the chunks put in so far.
 ///
 /// It takes no memory before its first chunk.
 #[derive(Debug, Drop)]
 pub struct PacketWriter {
     limit: u16,
-    // nothing, or the header with the chunks behind it
+    source: u16,
+    destination: u16,
+    tag: u32,
+    // nothing, or the header with zero for the checksum and the chunks behind it
     bytes: Vec<u8>,
 }
 
@@ -28,22 +33,32 @@ impl Model for PacketWriter {
     ghost use Rattle.std.specs.Prelude.{drop};
     ghost use Rattle.sctp_model.specs.Packet.{HEADER_ROOM};
     ghost use Rattle.sctp_wire.specs.Reading.{chunks_of};
-    ghost use Rattle.sctp_packet.specs.PacketBytes.{Draft, IsDraft};
+    ghost use Rattle.sctp_packet.specs.PacketBytes.{header_bytes};
+    ghost use Rattle.sctp_packet.specs.Draft.{Draft, IsDraft};
 
     ghost Value = { Draft };
 
-    ghost view = { λ s. record { limit = s.limit; chunks = chunks_of (drop HEADER_ROOM s.bytes.items) } };
+    ghost view = { λ s. record {
+        limit = s.limit;
+        source = s.source;
+        destination = s.destination;
+        tag = s.tag;
+        chunks = chunks_of (drop HEADER_ROOM s.bytes.items)
+    } };
 
-    ghost invariant = { λ s. IsDraft s.limit s.bytes.items };
+    ghost invariant = { λ s. IsDraft s.limit (header_bytes s.source s.destination s.tag 0) s.bytes.items };
 }
 
 impl PacketWriter {
-    /// A packet of at most `limit` bytes, header and padding counted, without a chunk.
-    pub fn new(alloc: Global, limit: u16) -> PacketWriter
-        ensures { result ≡ empty_draft limit }
+    /// A packet of at most `limit` bytes, header and padding counted, with these ports and this tag, without a chunk.
+    pub fn new(alloc: Global, limit: u16, source: u16, destination: u16, tag: u32) -> PacketWriter
+        ensures { result ≡ empty_draft limit source destination tag }
     {
         PacketWriter {
             limit,
+            source,
+            destination,
+            tag,
             bytes: Vec::new(alloc),
         }
     }
@@ -68,55 +83,61 @@ impl PacketWriter {
         ensures unchanged { OnErr result (self.new ≡ self.old) }
         ensures refused { OnErr result (has_room self.old (chunk_meaning chunk.now) ≡ true) }
     {
-        if size_of_chunk(chunk) > self.room() {
+        if chunk.written_length() > self.room() {
             return Ok(false);
         }
         // The laws give that the bytes with this chunk read as the chunks with it.
         written_reads();
         chunks_are_read();
-        put(&mut self.bytes, chunk)?;
+        let header = header(self.source, self.destination, self.tag);
+        put(&mut self.bytes, &header, chunk)?;
         Ok(true)
     }
 
-    /// The packet's bytes: 12 zeros, and the chunks as they are written. None exactly where there is no chunk.
+    /// The packet's bytes: its header with the checksum, and the chunks as they are written. None exactly where there is no chunk.
     pub fn finish(self) -> Option<Vec<u8>>
-        ensures packet { MatchOption result (self ≡ empty_draft self.limit)
-            (λ packet. IsPacketOf packet.items self.chunks × (self.chunks ≡ [] → ⊥)) }
+        ensures packet { MatchOption result (self.chunks ≡ []) (λ packet. WritesPacket packet.items (packet_of self)) }
+        ensures size { IfSome result (λ packet. length packet.items ≡ size_of_packet self.chunks) }
         ensures within { IfSome result (λ packet. length packet.items ≤ self.limit) }
     {
-        // The law gives that the bytes read as the chunks put in.
-        written_reads();
-        let PacketWriter { bytes, .. } = self;
-        if bytes.len() > HEADER {
-            Some(bytes)
-        } else {
-            None
+        let PacketWriter { mut bytes, .. } = self;
+        if bytes.len() <= HEADER {
+            return None;
         }
+        let sum = crc32c(&bytes);
+        put_sum(&mut bytes, sum);
+        Some(bytes)
     }
 }
 
-/// Appends a chunk's bytes, behind a header where there is none yet.
-fn put(bytes: &mut Vec<u8>, chunk: &Chunk<'_>) -> Result<(), NoMemory>
+/// Appends a chunk's bytes, behind the header where there is none yet.
+fn put(bytes: &mut Vec<u8>, header: &[u8], chunk: &Chunk<'_>) -> Result<(), NoMemory>
     requires { Fits (chunk_meaning chunk.now) }
-    ensures put { OnOk result (bytes.new.items ≡ with_header bytes.old.items ++ written (chunk_meaning chunk.now)) }
-    ensures refused { OnErr result ((bytes.new.items ≡ bytes.old.items) ⊎ (bytes.new.items ≡ with_header bytes.old.items)) }
+    ensures put { OnOk result (bytes.new.items ≡ with_header header.now bytes.old.items ++ written (chunk_meaning chunk.now)) }
+    ensures refused { OnErr result ((bytes.new.items ≡ bytes.old.items) ⊎ (bytes.new.items ≡ with_header header.now bytes.old.items)) }
 {
     if bytes.is_empty() {
-        bytes.extend_from_slice(&[0; HEADER]).map_err(|_| NoMemory)?;
+        bytes.extend_from_slice(header).map_err(|_| NoMemory)?;
     }
     write_chunk(chunk, bytes)
 }
 
-/// The bytes of a chunk that can be written, with its padding.
-fn size_of_chunk(chunk: &Chunk<'_>) -> usize
-    requires { Fits (chunk_meaning chunk.now) }
-    ensures { result ≡ size_of_chunk (chunk_meaning chunk.now) }
+/// Writes the checksum into its field.
+fn put_sum(packet: &mut [u8], sum: u32)
+    requires { 12 ≤ length packet.old }
+    ensures { packet.new ≡ take 8 packet.old ++ (little_bytes 4 sum ++ drop 12 packet.old) }
 {
-    match chunk {
-        Chunk::Data(piece) => 16 + padded(piece.bytes.len()),
-        Chunk::Sack(sack) => 16 + 4 * (sack.blocks.len() + sack.duplicates.len()),
-        Chunk::Unknown { value, .. } => 4 + padded(value.len()),
-    }
+    LittleEndian::write_u32(&mut packet[SUM_AT..], sum);
+}
+
+/// The header, with zero for the checksum.
+fn header(source: u16, destination: u16, tag: u32) -> [u8; 12]
+    ensures { result ≡ header_bytes source destination tag 0 }
+{
+    let [a, b] = source.to_be_bytes();
+    let [c, d] = destination.to_be_bytes();
+    let [e, f, g, h] = tag.to_be_bytes();
+    [a, b, c, d, e, f, g, h, 0, 0, 0, 0]
 }
 
 /// A length filled up to a multiple of 4 (RFC 9260, 3.2).
