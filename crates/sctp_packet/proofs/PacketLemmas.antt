@@ -75,7 +75,7 @@ packet_whole bytes p low header h =
 -- ---- one packet, one fault
 
 same_packet : (p q : Packet) → p.source ≡ q.source → p.destination ≡ q.destination → p.tag ≡ q.tag → p.chunks ≡ q.chunks → p ≡ q
-same_packet p q a b c d = cc
+same_packet p q a b c d = λ i. record { source = a i; destination = b i; tag = c i; chunks = d i }
 
 one_packet_of : (bytes : List ℕ) → wire.ReadInOneWay (drop HEADER_ROOM bytes) → (p q : Packet) → ReadsPacket bytes p → ReadsPacket bytes q → p ≡ q
 one_packet_of bytes law p q h k =

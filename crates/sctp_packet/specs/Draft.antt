@@ -4,7 +4,7 @@ use Rattle.sctp_model.specs.Chunk.{ChunkMeaning}
 use Rattle.sctp_model.specs.Packet.{Packet, HEADER_ROOM, size_of_packet}
 use Rattle.sctp_wire.specs.Reading.{chunks_of}
 use Rattle.sctp_wire.specs.Writes.{Writes}
-use Rattle.sctp_packet.specs.PacketBytes.{header_bytes}
+use Rattle.sctp_packet.specs.PacketBytes.{header_bytes, IsHeader}
 
 -- what a packet in the making is: the most bytes that it may have, its header, and the chunks put in so far
 pub record Draft : Type 0 where
@@ -21,6 +21,10 @@ packet_of d = record { source = d.source; destination = d.destination; tag = d.t
 -- nothing put in yet
 abbrev pub empty_draft : (limit source destination tag : ℕ) → Draft
 empty_draft limit source destination tag = record { limit = limit; source = source; destination = destination; tag = tag; chunks = [] }
+
+-- a header alone
+abbrev pub bare : (source destination tag : ℕ) → Packet
+bare source destination tag = record { source = source; destination = destination; tag = tag; chunks = [] }
 
 -- these chunks more
 abbrev pub with_chunks : Draft → List ChunkMeaning → Draft
@@ -47,3 +51,8 @@ pub record IsDraft (limit : ℕ) (header bytes : List ℕ) : Type 0 where
   pub front : 0 < length bytes → take HEADER_ROOM bytes ≡ header
   pub writes : Writes (drop HEADER_ROOM bytes) (chunks_of (drop HEADER_ROOM bytes))
   pub within : HEADER_ROOM < length bytes → length bytes ≤ limit
+
+-- the same of all that is kept: the header's fields are within their bits too
+pub record IsKept (limit : ℕ) (p : Packet) (bytes : List ℕ) : Type 0 where
+  pub header : IsHeader p
+  pub draft : IsDraft limit (header_bytes p.source p.destination p.tag 0) bytes

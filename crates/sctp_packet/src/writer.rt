@@ -33,8 +33,7 @@ impl Model for PacketWriter {
     ghost use Rattle.std.specs.Prelude.{drop};
     ghost use Rattle.sctp_model.specs.Packet.{HEADER_ROOM};
     ghost use Rattle.sctp_wire.specs.Reading.{chunks_of};
-    ghost use Rattle.sctp_packet.specs.PacketBytes.{header_bytes};
-    ghost use Rattle.sctp_packet.specs.Draft.{Draft, IsDraft};
+    ghost use Rattle.sctp_packet.specs.Draft.{Draft, bare, IsKept};
 
     ghost Value = { Draft };
 
@@ -46,7 +45,7 @@ impl Model for PacketWriter {
         chunks = chunks_of (drop HEADER_ROOM s.bytes.items)
     } };
 
-    ghost invariant = { λ s. IsDraft s.limit (header_bytes s.source s.destination s.tag 0) s.bytes.items };
+    ghost invariant = { λ s. IsKept s.limit (bare s.source s.destination s.tag) s.bytes.items };
 }
 
 impl PacketWriter {

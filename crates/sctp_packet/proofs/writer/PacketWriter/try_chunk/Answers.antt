@@ -37,10 +37,10 @@ is_put c =
     let room = rw (← c.self.view_is) at c.room.ensures.room in
     let law : IsReadBack = λ bytes ms writes. c.chunks_are_read.ensures bytes ms (c.written_reads.ensures bytes ms writes) in
     let put : c.put.new.bytes.items ≡ with_header header s.bytes.items ++ written m = rw c.header-header.ensures at c.in_ok-put.ensures.put in
-    draft_put _ header _ _ m refl law c.self.invariant c.requires (omega (arith, room, size_of_more chunks m, size_some m, size_of_written m c.requires)) put
+    draft_put _ header _ _ m refl law c.self.invariant.draft c.requires (omega (arith, room, size_of_more chunks m, size_some m, size_of_written m c.requires)) put
 
 pub invariant_of-self-2 : goal.invariant_of-self-2
-invariant_of-self-2 c = (is_put c).draft
+invariant_of-self-2 c = record { header = c.self.invariant.header; draft = (is_put c).draft }
 
 pub returns-clause-answer : goal.returns-clause-answer
 returns-clause-answer c =
