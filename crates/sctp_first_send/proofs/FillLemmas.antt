@@ -12,7 +12,7 @@ use Rattle.sctp_wire.specs.Items.{half, word}
 use Rattle.sctp_wire.specs.Layouts.{IsDataPiece, Fits, data_value}
 use Rattle.sctp_first_send.specs.declared.sender.Filled.{Filled}
 use Rattle.sctp_first_send.specs.declared.sender.Waiting.{Waiting}
-use Rattle.sctp_packet.specs.PacketBytes.{Draft, room_in, has_room, with_chunks}
+use Rattle.sctp_packet.specs.Draft.{Draft, room_in, has_room, with_chunks}
 use Rattle.sctp_first_send.specs.SenderFields.{waits_of, IsSmall}
 use Rattle.sctp_first_send.specs.SenderKept.{Waits, Kept}
 use Rattle.sctp_first_send.specs.SenderStands.{queued_of, queue_of, data_from, datas_from, Puts, Keeps, StandsFor}

@@ -2,6 +2,7 @@
 
 ghost use Rattle.std.specs.Prelude.{ℕ, List};
 ghost use Rattle.sctp_model.specs.Packet.{Packet};
+ghost use Rattle.sctp_model.specs.Places.{ArePlaced};
 ghost use Rattle.sctp_packet.specs.PacketBytes.{ReadsPacket, WritesPacket};
 ghost use Rattle.sctp_packet.specs.PacketLaws.{ReadInOneWay};
 
@@ -14,9 +15,9 @@ pub fn one_packet()
     one_reading();
 }
 
-/// What is written for a packet reads as this packet: its header and its chunks.
+/// What is written for a packet whose chunks stand where they may reads as this packet: its header and its chunks.
 pub fn written_packet_reads()
-    ensures { (bytes : List ℕ) (p : Packet) → WritesPacket bytes p → ReadsPacket bytes p }
+    ensures { (bytes : List ℕ) (p : Packet) → WritesPacket bytes p → ArePlaced p.chunks → ReadsPacket bytes p }
 {
     written_reads();
 }

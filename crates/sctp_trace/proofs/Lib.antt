@@ -6,3 +6,4 @@ mod ScriptSafety
 mod ScriptLines
 mod ScriptAnswers
 mod ScriptOneFault
+pub mod PlacedLemmas
