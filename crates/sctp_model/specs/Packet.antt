@@ -6,6 +6,7 @@ use Rattle.sctp_model.specs.Chunk.{ChunkMeaning, size_of_chunk}
 abbrev pub HEADER_ROOM : ℕ
 HEADER_ROOM = 12
 
+-- the bytes of chunks, padded
 abbrev pub size_of_chunks : List ChunkMeaning → ℕ
 size_of_chunks [] = 0
 size_of_chunks (c ∷ cs) = size_of_chunk c + size_of_chunks cs

@@ -15,6 +15,7 @@ unfoldable pub is_misplaced : (first last : Bool) → ℕ → Bool
 is_misplaced first last kind =
     (stands_alone kind && not (first && last)) || (stands_first kind && not first)
 
+-- no chunk follows
 abbrev pub is_none : List ChunkMeaning → Bool
 is_none [] = true
 is_none (m ∷ ms) = false

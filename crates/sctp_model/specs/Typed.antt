@@ -58,6 +58,7 @@ typed_at bytes = record { kind = u16_at bytes; value = slice_range bytes 4 (stat
 abbrev pub after_typed : List ℕ → List ℕ
 after_typed bytes = drop (padded (stated bytes)) bytes
 
+-- an item before those that follow, where they read
 abbrev pub before_typed : Typed → Option (List Typed) → Option (List Typed)
 before_typed x (Some xs) = Some (x ∷ xs)
 before_typed x None = None
@@ -73,10 +74,12 @@ typed_within (suc most) (b ∷ bytes) =
 unfoldable pub typed_of : List ℕ → Option (List Typed)
 typed_of bytes = typed_within (length bytes) bytes
 
+-- they read as items
 abbrev pub is_list : Option (List Typed) → Bool
 is_list (Some xs) = true
 is_list None = false
 
+-- the items, none where they do not read
 abbrev pub list_or_none : Option (List Typed) → List Typed
 list_or_none (Some xs) = xs
 list_or_none None = []
@@ -91,6 +94,7 @@ typed_in bytes = list_or_none (typed_of bytes)
 
 -- ---- as it is written
 
+-- all of these bytes are zero
 abbrev pub are_zero : List ℕ → Bool
 are_zero [] = true
 are_zero (b ∷ bytes) = (b == 0) && are_zero bytes

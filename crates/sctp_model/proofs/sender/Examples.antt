@@ -1,17 +1,15 @@
 -- Small senders, computed: numbers over the wrap, turns, marks, covers and uncovers, end marks, refusals.
-use Rattle.std.proofs.Common.{◌≡◌, ℕ, Bool, true, false, List, [], ◌∷◌, Option, Some, None, map, refl}
-use Rattle.std.specs.Prelude.{length, replicate}
-use Rattle.sctp_model.specs.Format.{Plain, Interleaved, ordered_lane, unordered_lane}
+use Rattle.std.proofs.Common.{◌≡◌, ℕ, true, false, List, [], ◌∷◌, Some, None, map, refl}
+use Rattle.sctp_model.specs.Format.{Plain, Interleaved, ordered_lane}
 use Rattle.sctp_model.specs.Chunk.{BlockMeaning, SackMeaning}
 use Rattle.sctp_model.specs.Serial.{tsn}
 use Rattle.sctp_model.specs.Plan.{Part, End}
-use Rattle.sctp_model.specs.Forward.{Skip}
 use Rattle.sctp_model.specs.SenderView.{SenderView, fresh_sender}
 use Rattle.sctp_model.specs.sender.Entries.{in_flight, in_part}
-use Rattle.sctp_model.specs.sender.Queueing.{refusal, queued, promised, NoSuchStream, Empty, TooLong, QueueFull}
+use Rattle.sctp_model.specs.sender.Queueing.{refusal, queued, promised, NoSuchStream, Empty}
 use Rattle.sctp_model.specs.sender.Filling.{Wish, fill, begun_tickets}
 use Rattle.sctp_model.specs.sender.SackTaken.{sack_fault, sack_after, Stale, Beyond, BadBlock}
-use Rattle.sctp_model.specs.sender.Abandoning.{abandon_answer, abandon_after, expired, timed_out, Withdrawn, Abandoned, Acknowledged, Unknown, Reliable}
+use Rattle.sctp_model.specs.sender.Abandoning.{abandon_answer, abandon_after, expired, timed_out, Withdrawn, Abandoned, Unknown}
 use Rattle.sctp_model.specs.sender.Readers.{point, unsettled, drained, outstanding, acknowledged, abandoned}
 use Rattle.sctp_model.specs.sender.Forwarding.{forward_of}
 

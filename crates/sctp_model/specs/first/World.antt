@@ -1,5 +1,5 @@
 -- Two ends, what lies between them, and what may happen, while one ordered stream carries messages of one fragment each.
-use Rattle.std.specs.Prelude.{◌≡◌, ℕ, suc, ◌+◌, ◌-◌, ◌*◌, ◌<◌, ◌≤◌, ◌⊎◌, Bool, true, false, not, ◌&&◌, nat_lt, List, [], ◌∷◌, ◌++◌, length, take, Option, None, Some, unwrap_or}
+use Rattle.std.specs.Prelude.{◌≡◌, ℕ, suc, ◌-◌, ◌*◌, ◌≤◌, ◌⊎◌, Bool, true, false, not, ◌&&◌, nat_lt, List, [], ◌∷◌, ◌++◌, length, take, Option, None, Some, unwrap_or}
 use Rattle.sctp_model.specs.Lists.{item_at, at}
 use Rattle.sctp_model.specs.Format.{Plain, ordered_lane}
 use Rattle.sctp_model.specs.Plan.{bytes_of}

@@ -6,10 +6,12 @@ use Rattle.sctp_model.specs.SenderView.{SenderView}
 
 -- ---- one entry
 
+-- the lane of an entry
 abbrev pub entry_lane : Entry → Lane
 entry_lane (Part l n k) = l
 entry_lane (End l n) = l
 
+-- the number of an entry's message
 abbrev pub entry_number : Entry → ℕ
 entry_number (Part l n k) = n
 entry_number (End l n) = n
@@ -19,6 +21,7 @@ abbrev pub entry_fragment : Entry → ℕ
 entry_fragment (Part l n k) = k
 entry_fragment (End l n) = 0
 
+-- the entry is an end mark
 abbrev pub is_end : Entry → Bool
 is_end (Part l n k) = false
 is_end (End l n) = true
@@ -27,9 +30,11 @@ is_end (End l n) = true
 abbrev pub is_of : Lane → ℕ → Entry → Bool
 is_of l n e = same_lane l (entry_lane e) && (n == entry_number e)
 
+-- an entry's message
 abbrev pub entry_message : Plan → Entry → Option Message
 entry_message p e = message_at p (entry_lane e) (entry_number e)
 
+-- the fragments of a message
 abbrev pub fragments_in : Option Message → List (List ℕ)
 fragments_in None = []
 fragments_in (Some m) = m.fragments
@@ -39,6 +44,7 @@ abbrev pub bytes_in : Entry → Option Message → List ℕ
 bytes_in (Part l n k) m = slice_index_or (fragments_in m) k []
 bytes_in (End l n) m = []
 
+-- the data of an entry; an end mark has none
 abbrev pub entry_bytes : Plan → Entry → List ℕ
 entry_bytes p e = bytes_in e (entry_message p e)
 
@@ -76,6 +82,7 @@ is_unsent v i e = not (v.sent i) && (not (v.covered i) && not (is_given_up v e))
 abbrev pub is_in_flight : SenderView → ℕ → Entry → Bool
 is_in_flight v i e = is_unsettled v i e && not (v.marked i)
 
+-- the data bytes in flight of entries from an index on
 abbrev pub flight_from : SenderView → ℕ → List Entry → ℕ
 flight_from v i [] = 0
 flight_from v i (e ∷ es) = (if is_in_flight v i e then length (entry_bytes v.plan e) else 0) + flight_from v (suc i) es
@@ -107,6 +114,7 @@ fragments_from p None = 0
 fragments_from p (Some (End l n)) = 0
 fragments_from p (Some (Part l n k)) = length (fragments_in (message_at p l n)) - k
 
+-- the entry is of this message
 abbrev pub is_entry_of : Lane → ℕ → Option Entry → Bool
 is_entry_of l n None = false
 is_entry_of l n (Some e) = is_of l n e
@@ -115,10 +123,12 @@ is_entry_of l n (Some e) = is_of l n e
 abbrev pub is_in_part : SenderView → Lane → ℕ → Bool
 is_in_part v l n = is_entry_of l n (continued v.plan l.stream)
 
+-- 1 where there is an entry, else 0
 abbrev pub one_if_some : Option Entry → ℕ
 one_if_some None = 0
 one_if_some (Some e) = 1
 
+-- the sum over all numbers below a bound
 abbrev pub sum_below : (ℕ → ℕ) → ℕ → ℕ
 sum_below f zero = 0
 sum_below f (suc n) = sum_below f n + f n

@@ -1,5 +1,5 @@
 -- What goes into a packet: the next wish, and FILL (RFC 9260, 6.1 and 6.3.3; RFC 8260, 2.2).
-use Rattle.std.specs.Prelude.{◌≡◌, ℕ, zero, suc, ◌+◌, ◌-◌, ◌%◌, ◌==◌, ◌≤◌, nat_le, if◌then◌else◌, Bool, true, false, not, ◌&&◌, ◌||◌, List, [], ◌∷◌, ◌++◌, length, Option, None, Some}
+use Rattle.std.specs.Prelude.{◌≡◌, ℕ, zero, suc, ◌+◌, ◌-◌, ◌%◌, ◌==◌, ◌≤◌, nat_le, if◌then◌else◌, Bool, true, false, ◌&&◌, ◌||◌, List, [], ◌∷◌, ◌++◌, length, Option, None, Some}
 use Rattle.sctp_model.specs.Lists.{at}
 use Rattle.sctp_model.specs.Format.{Format, Plain, Interleaved, at_lane, ordered_lane}
 use Rattle.sctp_model.specs.Chunk.{padded}
@@ -33,6 +33,7 @@ abbrev pub first_on : ℕ → List Queued → Option Queued
 first_on s [] = None
 first_on s (q ∷ qs) = if q.lane.stream == s then Some q else first_on s qs
 
+-- the queue without the first message of a stream
 abbrev pub without_first_on : ℕ → List Queued → List Queued
 without_first_on s [] = []
 without_first_on s (q ∷ qs) = if q.lane.stream == s then qs else q ∷ without_first_on s qs
@@ -51,6 +52,7 @@ turn_taken v s (Some e) q = Some (served (with_entry v e) s)
 turn_taken v s None (Some q) = Some (served (record (numbered v q 1) { queue = without_first_on s v.queue }) s)
 turn_taken v s None None = None
 
+-- the first view, where there is one, else the other
 abbrev pub or_view : Option SenderView → Option SenderView → Option SenderView
 or_view (Some v) other = Some v
 or_view None other = other
@@ -72,6 +74,7 @@ pub record Wish : Type 0 where
   pub index : ℕ
   pub view : SenderView
 
+-- the wish for an index that is assigned, where there is one
 abbrev pub wish_at : SenderView → Option ℕ → Option Wish
 wish_at v None = None
 wish_at v (Some i) = Some (record { index = i; view = v })
@@ -81,6 +84,7 @@ abbrev pub wish_beyond : SenderView → Option SenderView → Option Wish
 wish_beyond v None = None
 wish_beyond v (Some u) = Some (record { index = suc (length v.plan.entries); view = u })
 
+-- the first wish, where there is one, else the other
 abbrev pub or_wish : Option Wish → Option Wish → Option Wish
 or_wish (Some w) other = Some w
 or_wish None other = other
@@ -103,6 +107,7 @@ entry_or_none (Some e) = e
 abbrev pub wished : Wish → Entry
 wished w = entry_or_none (entry_at w.view.plan w.index)
 
+-- the data of a wish
 abbrev pub bytes_of_wish : Wish → List ℕ
 bytes_of_wish w = entry_bytes w.view.plan (wished w)
 
@@ -118,6 +123,7 @@ meets_flow w = w.view.sent w.index || ((in_flight w.view == 0) || nat_le (in_fli
 abbrev pub meets_window : Wish → Bool
 meets_window w = nat_le (length w.view.plan.entries + in_part w.view) (WINDOW + w.view.cum)
 
+-- The wish fits the room and meets the flow rule and the window.
 abbrev pub may_go : Format → ℕ → Wish → Bool
 may_go f room w = nat_le (room_of f w) room && (meets_flow w && meets_window w)
 
@@ -144,6 +150,7 @@ abbrev pub if_may : Format → ℕ → Option Wish → Option Wish
 if_may f room None = None
 if_may f room (Some w) = if may_go f room w then Some w else None
 
+-- the next wish, where it may go
 abbrev pub goes : Format → ℕ → SenderView → Option Wish
 goes f room v = if_may f room (next_wish f v)
 
@@ -162,13 +169,16 @@ pub record Fill : Type 0 where
   pub wishes : List Wish
   pub view : SenderView
 
+-- a fill with one wish more before it
 abbrev pub with_first : Wish → Fill → Fill
 with_first w x = record x { wishes = w ∷ x.wishes }
 
+-- the fill that begins with this wish, or an empty one
 abbrev pub fill_from : SenderView → (Wish → Fill) → Option Wish → Fill
 fill_from v rest None = record { wishes = []; view = v }
 fill_from v rest (Some w) = with_first w (rest w)
 
+-- FILL by counting: at most so many wishes
 abbrev pub fill_steps : Format → ℕ → ℕ → SenderView → Fill
 fill_steps f zero room v = record { wishes = []; view = v }
 fill_steps f (suc steps) room v = fill_from v (λ w. fill_steps f steps (room - room_of f w) (gone w)) (goes f room v)
@@ -179,6 +189,7 @@ fill f room v = fill_steps f room room v
 
 -- ---- the tickets newly numbered
 
+-- the ticket of a message
 abbrev pub ticket_of : Option Message → List ℕ
 ticket_of None = []
 ticket_of (Some m) = m.ticket ∷ []
@@ -189,6 +200,7 @@ begun_ticket p (End l n) = []
 begun_ticket p (Part l n zero) = ticket_of (entry_message p (Part l n 0))
 begun_ticket p (Part l n (suc k)) = []
 
+-- the tickets of the messages whose first fragment is among these entries
 abbrev pub begun_tickets : Plan → List Entry → List ℕ
 begun_tickets p [] = []
 begun_tickets p (e ∷ es) = begun_ticket p e ++ begun_tickets p es

@@ -7,6 +7,7 @@ use Rattle.sctp_model.specs.SenderView.{SenderView}
 use Rattle.sctp_model.specs.sender.Entries.{entry_lane, entry_number}
 use Rattle.sctp_model.specs.sender.Readers.{point}
 
+-- the larger of a number, if there is one, and another
 abbrev pub larger : Option ℕ → ℕ → Option ℕ
 larger None n = Some n
 larger (Some m) n = Some (max m n)
@@ -20,6 +21,7 @@ largest_in l found (e ∷ es) = largest_in l (if same_lane l (entry_lane e) then
 abbrev pub passed : SenderView → List Entry
 passed v = take (point v - v.cum) (drop v.cum v.plan.entries)
 
+-- the entry of a lane, where it has a number
 abbrev pub skip_in : Lane → Option ℕ → List Skip
 skip_in l None = []
 skip_in l (Some n) = record { lane = l; number = n } ∷ []

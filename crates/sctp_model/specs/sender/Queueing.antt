@@ -39,6 +39,7 @@ abbrev pub owed_for : ℕ → ℕ
 owed_for zero = 0
 owed_for (suc n) = suc (suc n)
 
+-- what the messages that wait owe
 abbrev pub owed_by_queue : List Queued → ℕ
 owed_by_queue [] = 0
 owed_by_queue (q ∷ qs) = owed_for (length q.message.fragments) + owed_by_queue qs
@@ -61,6 +62,7 @@ refusal v stream bytes =
     else if nat_le TICKETS v.tickets || nat_lt TSNS (promised v + owed_for (length (cut v.fragment bytes))) then Some Spent
     else None
 
+-- the message of the next ticket, cut into fragments
 abbrev pub message_for : SenderView → ℕ → List ℕ → Option ℕ → Message
 message_for v payload bytes until = record { ticket = suc v.tickets; payload = payload; fragments = cut v.fragment bytes; until = until }
 

@@ -1,5 +1,5 @@
 -- The views that a sender's calls reach.
-use Rattle.std.specs.Prelude.{◌≡◌, ℕ, ◌<◌, ◌≤◌, Bool, true, List, Option, None, Some}
+use Rattle.std.specs.Prelude.{◌≡◌, ℕ, ◌<◌, Bool, true, List, Option, None, Some}
 use Rattle.sctp_model.specs.Format.{Format, Lane}
 use Rattle.sctp_model.specs.Chunk.{SackMeaning}
 use Rattle.sctp_model.specs.SenderView.{SenderView, fresh_sender}

@@ -26,6 +26,7 @@ drained v = (length v.queue == 0) && ((in_part v == 0) && (v.cum == length v.pla
 abbrev pub outstanding : SenderView → ℕ
 outstanding v = length v.plan.entries - v.cum + in_part v
 
+-- the message with this name is acknowledged whole
 abbrev pub acknowledged_named : SenderView → Option Name → Bool
 acknowledged_named v None = false
 acknowledged_named v (Some n) = is_covered v n && not (is_abandoned v n)
@@ -34,6 +35,7 @@ acknowledged_named v (Some n) = is_covered v n && not (is_abandoned v n)
 abbrev pub acknowledged : SenderView → ℕ → Bool
 acknowledged v t = acknowledged_named v (name_of v t)
 
+-- the message with this name was given up
 abbrev pub abandoned_named : SenderView → Option Name → Bool
 abandoned_named v None = false
 abandoned_named v (Some n) = is_abandoned v n

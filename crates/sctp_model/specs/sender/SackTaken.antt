@@ -55,9 +55,11 @@ sack_covers c blocks i = nat_le i c || in_blocks c blocks i
 abbrev pub covered_by : SenderView → ℕ → (ℕ → Bool) → SenderView
 covered_by v c covered = record v { cum = c; covered = covered; marked = λ i. v.marked i && not (covered i) }
 
+-- the view with a SACK taken
 abbrev pub sack_taken : SenderView → SackMeaning → SenderView
 sack_taken v x = record (covered_by v (index_of v x.cumulative) (sack_covers (index_of v x.cumulative) x.blocks)) { rwnd = x.rwnd }
 
+-- the view after a call: as before where it is refused
 abbrev pub unless_fault : Option SackFault → SenderView → SenderView → SenderView
 unless_fault None v u = u
 unless_fault (Some fault) v u = v
@@ -68,6 +70,7 @@ sack_after v x = unless_fault (sack_fault v x) v (sack_taken v x)
 
 -- ---- a SHUTDOWN's cumulative TSN
 
+-- Why a SHUTDOWN is refused, if it is.
 abbrev pub shutdown_fault : SenderView → ℕ → Option SackFault
 shutdown_fault v wire =
     if is_stale v wire then Some Stale
@@ -78,5 +81,6 @@ shutdown_fault v wire =
 abbrev pub shutdown_taken : SenderView → ℕ → SenderView
 shutdown_taken v wire = covered_by v (index_of v wire) (λ i. nat_le i (index_of v wire) || v.covered i)
 
+-- the view after a SHUTDOWN, taken or refused
 abbrev pub shutdown_after : SenderView → ℕ → SenderView
 shutdown_after v wire = unless_fault (shutdown_fault v wire) v (shutdown_taken v wire)

@@ -1,0 +1,4 @@
+pub mod OneWhole
+pub mod OneStep
+pub mod DueWords
+pub mod Examples

@@ -1,0 +1,167 @@
+-- The counts of a view that calls reach: the window, and the TSNs assigned and owed.
+use Rattle.std.proofs.Common.{◌≡◌, ℕ, zero, suc, ◌+◌, ◌-◌, ◌%◌, ◌^◌, ◌<◌, ◌≤◌, ◌⊎◌, inl, inr, List, [], ◌∷◌, ◌++◌, length, Bool, true, false, Option, Some, None, refl, sym, ap, ◌∙◌, subst, arith, length-append}
+use Rattle.std.specs.Prelude.{◌==◌, nat_lt, nat_le, not, ◌&&◌, ◌||◌, if◌then◌else◌, slice_get}
+use Rattle.std.proofs.lemmas.Bool.{and_parts}
+use Rattle.std.proofs.lemmas.Bool.Decides.{nat_tests}
+use Rattle.sctp_model.specs.Format.{Format, Plain, Interleaved, Lane, same_lane}
+use Rattle.sctp_model.specs.Plan.{Message, Entry, Part, End, Plan, message_at, entry_at, parts_from}
+use Rattle.sctp_model.specs.SenderView.{Queued, SenderView}
+use Rattle.sctp_model.specs.sender.Entries.{entry_lane, entry_number, entry_message, fragments_in, is_of, is_entry_of, is_in_part, latest, follower, continued, fragments_from, one_if_some, sum_below, in_part}
+use Rattle.sctp_model.specs.sender.Queueing.{owed_for, owed_by_queue, owed_by_parts, promised, TSNS}
+use Rattle.sctp_model.specs.sender.Filling.{Wish, next_wish, may_go, meets_flow, meets_window, room_of, gone, numbered, with_entry, served, first_on, without_first_on, WINDOW}
+use Rattle.sctp_model.specs.sender.SackTaken.{index_of}
+use Rattle.sctp_model.specs.sender.Abandoning.{Name, AbandonAnswer, Withdrawn, Abandoned, Acknowledged, Unknown, Reliable, is_abandoned, waits, without, name_of, name_among, has_ticket, given_up, give_up, answer_for, abandon_named, abandon_after, end_mark}
+use Rattle.sctp_model.specs.sender.Reached.{IsReached, Begins, Queues, Goes, Covers, Closes, Abandons, Repeats}
+use Rattle.sctp_model.proofs.sender.WishCases.{IsAssigned, Whole, Begun, Continued, assigned_cases, IsRepeat, IsNew, wish_cases}
+use Rattle.sctp_model.proofs.sender.Bounds.{IsSet, is_set, AllFilled, is_filled, IsAccepted, accepted}
+use Rattle.sctp_model.proofs.sender.PlanLaws.{IsNamed, AllNamed, with_message, message_new, message_stays, named_stays, named_append, named_parts, named_kept, IsFollower, continued_is, continued_new, continued_more, sum-same, sum-changed, slice_get-left, slice_get-end, same_lane-self, lanes_same}
+
+-- ---- each entry's message is there
+
+pub new_number : (p : Plan) (q : Queued) (d : ℕ) → length (p.messages q.lane) < length ((with_message p q d).messages q.lane)
+new_number p q d = rw (same_lane-self q.lane) (omega (arith, length-append (p.messages q.lane) (q.message ∷ [])))
+
+pub first_there : (n s : ℕ) (q : Queued) (qs : List Queued) → AllFilled n qs → first_on s qs ≡ Some q → q.lane.stream < n
+first_there n s q [] full is = absurd (cc)
+first_there n s q (x ∷ qs) full is = by_test (x.lane.stream == s) refl (λ there. first_there n s q qs full.1 there)
+  where
+    by_test : (b : Bool) → (x.lane.stream == s) ≡ b → (first_on s qs ≡ Some q → q.lane.stream < n) → q.lane.stream < n
+    by_test true on further = let here : Some x ≡ Some q = rw on at is in let same : x ≡ q = cc in subst (λ (y : Queued). y.lane.stream < n) same full.0.1
+    by_test false on further = further (rw on at is)
+
+named_assigned : (f : Format) (v u : SenderView) → AllFilled v.streams v.queue → AllNamed v.streams v.plan v.plan.entries → IsAssigned v f u → AllNamed u.streams u.plan u.plan.entries
+named_assigned _ v _ full h (Whole q rest is) =
+    let here = (subst (λ (qs : List Queued). AllFilled v.streams qs) is full).0.1 in
+    let d = length q.message.fragments in
+    let m = length (v.plan.messages q.lane) in
+    named_append v.streams (with_message v.plan q d) v.plan.entries (parts_from q.lane m 0 d) (named_stays v.streams v.plan q d v.plan.entries h)
+    (named_parts v.streams (with_message v.plan q d) q.lane m 0 d (new_number v.plan q d) here)
+named_assigned _ v _ full h (Begun s q lt on first) =
+    let m = length (v.plan.messages q.lane) in
+    named_append v.streams (with_message v.plan q 1) v.plan.entries (parts_from q.lane m 0 1) (named_stays v.streams v.plan q 1 v.plan.entries h)
+    (named_parts v.streams (with_message v.plan q 1) q.lane m 0 1 (new_number v.plan q 1) (first_there v.streams s q v.queue full first))
+named_assigned _ v _ full h (Continued s e lt on) =
+    let next = continued_is v.streams v.plan s e h on in
+    named_append v.streams (with_entry v e).plan v.plan.entries (e ∷ []) (named_kept v.streams v.plan (v.plan.entries ++ e ∷ []) v.plan.entries h)
+    (record { number = next.named.number; stream = next.named.stream }, tt)
+
+-- the entry that a name stands for
+pub name_found : (n : ℕ) (p : Plan) (t : ℕ) (es : List Entry) (m : Name) → AllNamed n p es → name_among p t es ≡ Some m → (m.number < length (p.messages m.lane)) × (m.lane.stream < n)
+name_found n p t [] m h is = absurd (cc)
+name_found n p t (e ∷ es) m h is = by_test (has_ticket t (entry_message p e)) refl (λ there. name_found n p t es m h.1 there)
+  where
+    by_test : (b : Bool) → has_ticket t (entry_message p e) ≡ b → (name_among p t es ≡ Some m → (m.number < length (p.messages m.lane)) × (m.lane.stream < n)) → (m.number < length (p.messages m.lane)) × (m.lane.stream < n)
+    by_test true on further =
+        let here : Some (record { lane = entry_lane e; number = entry_number e }) ≡ Some m = rw on at is in
+        let same : record { lane = entry_lane e; number = entry_number e } ≡ m = cc in
+        subst (λ (y : Name). (y.number < length (p.messages y.lane)) × (y.lane.stream < n)) same (h.0.number, h.0.stream)
+    by_test false on further = further (rw on at is)
+
+named_given : (v : SenderView) (n : Name) → AllNamed v.streams v.plan v.plan.entries → n.number < length (v.plan.messages n.lane) → n.lane.stream < v.streams
+    → AllNamed (given_up v n).streams (given_up v n).plan (given_up v n).plan.entries
+named_given v n h number stream =
+    let more = v.plan.entries ++ end_mark v n in
+    named_append v.streams (record v.plan { entries = more }) v.plan.entries (end_mark v n) (named_kept v.streams v.plan more v.plan.entries h) (by_test (is_in_part v n.lane n.number))
+  where
+    by_test : (b : Bool) → AllNamed v.streams (record v.plan { entries = v.plan.entries ++ end_mark v n }) (if b then End n.lane n.number ∷ [] else [])
+    by_test true = (record { number = number; stream = stream }, tt)
+    by_test false = tt
+
+-- What is so of a view is so after a ticket is abandoned, where it is so after a withdrawal and after a message with a number is given up.
+pub after_abandon : (P : SenderView → Type 0) (v : SenderView) (t : ℕ) → P v → (waits t v.queue ≡ true → P (record v { queue = without t v.queue }))
+    → ((n : Name) → name_of v t ≡ Some n → is_abandoned v n ≡ false → P (given_up v n)) → P (abandon_after v t)
+after_abandon P v t same withdrawn given = by_test (waits t v.queue) refl
+  where
+    by_kept : (n : Name) (b : Bool) → name_of v t ≡ Some n → is_abandoned v n ≡ b → P (if b then v else given_up v n)
+    by_kept n true is on = same
+    by_kept n false is on = given n is on
+
+    by_answer : (n : Name) (a : AbandonAnswer) → name_of v t ≡ Some n → P (give_up v n a)
+    by_answer n Abandoned is = by_kept n (is_abandoned v n) is refl
+    by_answer n Withdrawn is = same
+    by_answer n Acknowledged is = same
+    by_answer n Unknown is = same
+    by_answer n Reliable is = same
+
+    by_name : (o : Option Name) → name_of v t ≡ o → P (abandon_named v o)
+    by_name None is = same
+    by_name (Some n) is = by_answer n (answer_for v n) is
+
+    by_test : (b : Bool) → waits t v.queue ≡ b → P (if b then record v { queue = without t v.queue } else abandon_named v (name_of v t))
+    by_test true on = withdrawn on
+    by_test false on = by_name (name_of v t) refl
+
+-- What is so of a view is so of the one that a wish leaves, where it is so of what is assigned and of what is sent.
+pub after_wish : (P : SenderView → Type 0) (f : Format) (v : SenderView) (w : Wish) → v.turn < v.streams → P v → ((u : SenderView) → IsAssigned v f u → P u) → ((u : SenderView) (i : ℕ) → P u → P (gone (record { index = i; view = u })))
+    → next_wish f v ≡ Some w → P (gone w)
+after_wish P f v w turn same assigned sent next =
+    elim (wish_cases f v w next) [
+      | inl r ↦ sent w.view w.index (subst (λ (x : SenderView). P x) (sym r.view) same)
+      | inr r ↦ sent w.view w.index (assigned w.view (assigned_cases f v w.view turn r.assigned))
+    ]
+
+-- the entries of a view and their messages
+abbrev pub HasMessages : SenderView → Type 0
+HasMessages v = AllNamed v.streams v.plan v.plan.entries
+
+pub is_named : (f : Format) (v : SenderView) → IsReached f v → HasMessages v
+is_named f _ (Begins i s b r p some large) = tt
+is_named f _ (Queues v l p b u h free) = is_named f v h
+is_named f _ (Goes v room w h next may) =
+    after_wish HasMessages f v w (is_set f v h).turn (is_named f v h) (λ u a. named_assigned f v u (is_filled f v h) (is_named f v h) a) (λ u i k. k) next
+is_named f _ (Covers v x h none) = is_named f v h
+is_named f _ (Closes v x h none) = is_named f v h
+is_named f _ (Abandons v t h) =
+    let before = is_named f v h in
+    after_abandon HasMessages v t before (λ on. before) (λ n is kept. let there = name_found v.streams v.plan t v.plan.entries n before is in named_given v n before there.0 there.1)
+is_named f _ (Repeats v h) = is_named f v h
+
+-- ---- only messages with a number are abandoned
+
+abbrev pub KnowsAbandoned : SenderView → Type 0
+KnowsAbandoned v = (l : Lane) (n : ℕ) → v.abandoned l n ≡ true → n < length (v.plan.messages l)
+
+knows_new : (v : SenderView) (q : Queued) (d : ℕ) → KnowsAbandoned v → (l : Lane) (n : ℕ) → v.abandoned l n ≡ true → n < length ((with_message v.plan q d).messages l)
+knows_new v q d h l n on = by_test (same_lane l q.lane) refl
+  where
+    by_test : (b : Bool) → same_lane l q.lane ≡ b → n < length ((with_message v.plan q d).messages l)
+    by_test false is = rw is (h l n on)
+    by_test true is =
+        let same = lanes_same l q.lane is in
+        let low : n < length (v.plan.messages q.lane) = rw same at (h l n on) in
+        rw is (omega (arith, length-append (v.plan.messages q.lane) (q.message ∷ [])))
+
+knows_assigned : (f : Format) (v u : SenderView) → KnowsAbandoned v → IsAssigned v f u → KnowsAbandoned u
+knows_assigned _ v _ h (Whole q rest is) = knows_new v q (length q.message.fragments) h
+knows_assigned _ v _ h (Begun s q lt on first) = knows_new v q 1 h
+knows_assigned _ v _ h (Continued s e lt on) = h
+
+knows_given : (v : SenderView) (n : Name) → KnowsAbandoned v → n.number < length (v.plan.messages n.lane) → KnowsAbandoned (given_up v n)
+knows_given v n h low l k on = by_test (same_lane n.lane l && (n.number == k)) refl on
+  where
+    by_test : (b : Bool) → (same_lane n.lane l && (n.number == k)) ≡ b → (b || v.abandoned l k) ≡ true → k < length (v.plan.messages l)
+    by_test true is some =
+        let parts = and_parts (same_lane n.lane l) (n.number == k) is in
+        let lane = lanes_same n.lane l parts.0 in
+        let number : n.number ≡ k = let e = parts.1 in grind (arith, nat_tests) in
+        subst (λ (y : ℕ). y < length (v.plan.messages l)) number (subst (λ (y : Lane). n.number < length (v.plan.messages y)) lane low)
+    by_test false is some = h l k some
+
+pub knows_abandoned : (f : Format) (v : SenderView) → IsReached f v → KnowsAbandoned v
+knows_abandoned f _ (Begins i s b r p some large) = λ l n on. absurd (cc)
+knows_abandoned f _ (Queues v l p b u h free) = knows_abandoned f v h
+knows_abandoned f _ (Goes v room w h next may) = after_wish KnowsAbandoned f v w (is_set f v h).turn (knows_abandoned f v h) (λ u a. knows_assigned f v u (knows_abandoned f v h) a) (λ u i k. k) next
+knows_abandoned f _ (Covers v x h none) = knows_abandoned f v h
+knows_abandoned f _ (Closes v x h none) = knows_abandoned f v h
+knows_abandoned f _ (Abandons v t h) =
+    let before = knows_abandoned f v h in
+    after_abandon KnowsAbandoned v t before (λ on. before) (λ n is kept. knows_given v n before (name_found v.streams v.plan t v.plan.entries n (is_named f v h) is).0)
+knows_abandoned f _ (Repeats v h) = knows_abandoned f v h
+
+-- a new number is not abandoned yet
+pub new_kept : (f : Format) (v : SenderView) (l : Lane) → IsReached f v → v.abandoned l (length (v.plan.messages l)) ≡ false
+new_kept f v l h = by_test (v.abandoned l (length (v.plan.messages l))) refl
+  where
+    by_test : (b : Bool) → v.abandoned l (length (v.plan.messages l)) ≡ b → b ≡ false
+    by_test false is = refl
+    by_test true is = absurd (let low = knows_abandoned f v h l (length (v.plan.messages l)) is in omega arith)

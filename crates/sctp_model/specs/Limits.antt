@@ -1,0 +1,72 @@
+-- Every limit of this profile, by its one name: definitions, clauses and code cite these.
+use Rattle.std.specs.Prelude.{ℕ, ◌-◌, ◌^◌}
+
+-- ---- configuration: streams each way; sizes in bytes
+
+-- streams each way, 1 to so many
+abbrev pub STREAM_LIMIT : ℕ
+STREAM_LIMIT = 32
+
+-- the packet limit for sending
+abbrev pub LEAST_PACKET : ℕ
+LEAST_PACKET = 576
+
+-- and the most
+abbrev pub GREATEST_PACKET : ℕ
+GREATEST_PACKET = 1_500
+
+-- the data of a fragment; all but a message's last have the full size (RFC 9260, 6.9)
+abbrev pub LEAST_FRAGMENT : ℕ
+LEAST_FRAGMENT = 4
+
+-- and the most
+abbrev pub GREATEST_FRAGMENT : ℕ
+GREATEST_FRAGMENT = 1_400
+
+-- what a full fragment, padded, leaves of a packet: the common header and the larger chunk header (RFC 8260, 2.1)
+abbrev pub FRAGMENT_OVERHEAD : ℕ
+FRAGMENT_OVERHEAD = 32
+
+-- the room of a receiver
+abbrev pub LEAST_BUFFER : ℕ
+LEAST_BUFFER = 65_536
+
+-- and the most
+abbrev pub GREATEST_BUFFER : ℕ
+GREATEST_BUFFER = 16_777_216
+
+-- ---- sending
+
+-- bytes of a message
+abbrev pub LONGEST_MESSAGE : ℕ
+LONGEST_MESSAGE = 65_536
+
+-- messages accepted and without a number, at once
+abbrev pub QUEUE_LIMIT : ℕ
+QUEUE_LIMIT = 1_024
+
+-- indexes assigned above the acknowledged one, and messages in part, at once
+abbrev pub WINDOW : ℕ
+WINDOW = 32_767
+
+-- TSNs assigned and those still owed, so that counts and wire values stay near (RFC 9260, 2.6)
+abbrev pub TSN_LIMIT : ℕ
+TSN_LIMIT = 2 ^ 31 - 1
+
+-- tickets are 1 to so many
+abbrev pub TICKET_LIMIT : ℕ
+TICKET_LIMIT = 2 ^ 32 - 1
+
+-- ---- receiving
+
+-- gap blocks and duplicates in a SACK (RFC 9260, 3.3.4)
+abbrev pub BLOCK_LIMIT : ℕ
+BLOCK_LIMIT = 64
+
+-- and so many duplicates
+abbrev pub DUPLICATE_LIMIT : ℕ
+DUPLICATE_LIMIT = 16
+
+-- maximal runs above the cumulative index: an index may lie at most WINDOW above it
+abbrev pub RUN_LIMIT : ℕ
+RUN_LIMIT = 16_383

@@ -1,0 +1,6 @@
+pub mod Reading
+pub mod DueInWords
+pub mod PieceTaken
+pub mod ForwardTaken
+pub mod SackMade
+pub mod Laws

@@ -1,0 +1,42 @@
+//! A line of a script, as it stands in a case.
+
+use std::alloc::{AllocError, Global};
+
+/// A line: how it stands in its case, its bytes, and how often it comes.
+#[derive(Drop)]
+pub struct Line<'a> {
+    pub shown: &'a str,
+    pub bytes: Vec<u8>,
+    pub times: usize,
+}
+
+impl<'a> Line<'a> {
+    /// The line that this text says, if it says one.
+    pub fn read(alloc: Global, shown: &'a str, text: &str) -> Result<Option<Line<'a>>, AllocError> {
+        let (form, text) = text.split_once(' ').unwrap_or((text, ""));
+        let mut bytes = Vec::from_slice(alloc, text.as_bytes())?;
+        let mut times = 1;
+        if form == ">" || form == "-" {} else if let Some(count) = number_behind('*', form) {
+            times = count;
+        } else if let Some(length) = number_behind('~', form) {
+            for _ in text.len()..length {
+                bytes.push(b'0')?;
+            }
+        } else {
+            return Ok(None);
+        }
+        if form != "-" {
+            bytes.push(b'\n')?;
+        }
+        Ok(Some(Line {
+            shown,
+            bytes,
+            times,
+        }))
+    }
+}
+
+/// The number behind a sign.
+fn number_behind(sign: char, form: &str) -> Option<usize> {
+    form.strip_prefix(sign)?.parse().ok()
+}

@@ -1,0 +1,97 @@
+//! Runs the cases that stand on standard input, and prints a transcript: each line of a case as it stands there and,
+//! behind it, what the program wrote before it read on; then what it said of faults, and its status.
+//!
+//! A case is
+//! - `= NAME`,
+//! - `$ WORDS`: the words of the program, its own name first, with one space between them,
+//! - the lines of the script on its standard input.
+//!
+//! A line of the script is one of
+//! - `> TEXT`: this line,
+//! - `- TEXT`: this line without its line feed,
+//! - `*N TEXT`: this line N times; what is written for all but the last isn't shown,
+//! - `~N TEXT`: this line, filled with `0` up to N bytes,
+//! - with `/` before any of these: an alternative. The lines above the first one are run before each of them, and what is
+//!   written for those isn't shown.
+//!
+//! Other lines are remarks. Of a script only what was read is shown.
+#![tactic(auto)]
+
+mod line;
+mod script;
+mod shown;
+
+use crate::line::Line;
+use crate::script::Script;
+use crate::shown::Shown;
+use sctp_trace::{FromRead, ToWrite, run_words};
+use std::cell::Cell;
+use std::io::{Read, Result, Write};
+use std::str;
+
+fn main(rt: HostRuntime) -> Result<()> {
+    let mut text = String::new(rt.alloc());
+    rt.stdin().read_to_string(&mut text)?;
+    let mut parts = text.split("\n= ");
+    if let Some(remarks) = parts.next() {
+        writeln!(rt.stdout(), "{remarks}")?;
+    }
+    for case in parts {
+        run_case(&rt, case)?;
+    }
+    Ok(())
+}
+
+/// Runs a case, with each of its alternatives.
+fn run_case(rt: &HostRuntime, case: &str) -> Result<()> {
+    let (name, rest) = case.split_once('\n').unwrap_or((case, ""));
+    let (words, rest) = rest.split_once('\n').unwrap_or((rest, ""));
+    writeln!(rt.stdout(), "= {name}\n{words}")?;
+    let mut lines = Vec::new(rt.alloc());
+    let mut is_run = false;
+    for text in rest.split('\n') {
+        match text.strip_prefix('/') {
+            None => lines.extend(Line::read(rt.alloc(), text, text)?)?,
+            Some(rest) => {
+                if !is_run {
+                    for line in &lines {
+                        writeln!(rt.stdout(), "{}", line.shown)?;
+                    }
+                }
+                is_run = true;
+                let above = lines.len();
+                lines.extend(Line::read(rt.alloc(), text, rest)?)?;
+                run(rt, words, &lines, above)?;
+                lines.truncate(above);
+            }
+        }
+    }
+    if !is_run {
+        run(rt, words, &lines, 0)?;
+    }
+    writeln!(rt.stdout(), "")
+}
+
+/// Runs the program once, and prints what it does behind the lines that are hidden.
+fn run(rt: &HostRuntime, words: &str, lines: &[Line<'_>], above: usize) -> Result<()> {
+    let mut list = Vec::new(rt.alloc());
+    if let Some(words) = words.strip_prefix("$ ") {
+        for word in words.split(' ') {
+            list.push(String::from_str(rt.alloc(), word)?)?;
+        }
+    }
+    let hidden = Cell::new(false);
+    let mut said = Vec::new(rt.alloc());
+    let status = run_words(
+        rt.alloc(),
+        &list,
+        &mut FromRead::new(Script::new(rt.stdout(), lines, above, &hidden)),
+        &mut ToWrite::new(Shown::new(rt.stdout(), &hidden)),
+        &mut ToWrite::new(&mut said),
+    );
+    for line in str::from_utf8(&said).unwrap_or("").lines() {
+        let space = if line.is_empty() { "" } else { " " };
+        writeln!(rt.stdout(), "!{space}{line}")?;
+    }
+    writeln!(rt.stdout(), "status {status}")
+}
