@@ -1,269 +1,212 @@
 -- A chunk's flags and value are read in one way, and what is read has that layout.
-use Rattle.std.proofs.Common.{◌≡◌, ℕ, zero, suc, ◌+◌, ◌*◌, ◌/◌, ◌<◌, ◌≤◌, ◌^◌, Bool, true, false, List, ◌++◌, length, take, drop, refl, ap, arith, lit<, ⊎_elim, ◌≢◌, length-append, length-drop}
-use Rattle.std.specs.Prelude.{not, ◌==◌, ◌&&◌, ◌||◌}
-use Rattle.std.proofs.lemmas.Bool.Decides.{eqb_tells}
-use Rattle.std.specs.Int.{bit_at}
-use Rattle.std.specs.List.{flat_map}
-use Rattle.std.proofs.lemmas.Nat.Bits.{and_pow, bit_at-lt}
-use Rattle.std.proofs.lemmas.List.{drop-drop, take-append-drop, take_at, drop_at, length-take-le}
+use Rattle.std.proofs.Common.{◌≡◌, ℕ, ◌+◌, ◌*◌, ◌/◌, ◌<◌, ◌≤◌, ◌^◌, Bool, true, false, List, [], ◌∷◌, ◌++◌, length, drop, refl, sym, ap, ◌∙◌, arith, length-append}
+use Rattle.std.specs.Prelude.{◌==◌, ◌&&◌}
+use Rattle.std.proofs.lemmas.List.{append-nil}
 use Rattle.std.proofs.lemmas.Bool.{leb-true, le-leb}
 use Rattle.std.proofs.lemmas.Grind.{common_steps}
-use Rattle.sctp_model.specs.Chunk.{PieceMeaning, SackMeaning, ChunkMeaning, Data, Sack, Unknown}
-use Rattle.sctp_wire.specs.Items.{half, word, half_at, block_bytes, blocks_in, words_in, AreBytes}
-use Rattle.sctp_wire.specs.Layouts.{kind_of, flag, data_flags, data_value, sack_value, value_of, IsDataPiece, IsSack, IsInRange, Fits}
-use Rattle.sctp_wire.specs.Reads.{ReadsFlags}
-use Rattle.sctp_wire.specs.FirstFault.{is_sack_value, is_laid_out}
-use Rattle.sctp_wire.specs.Reading.{has_flag, data_at, sack_at, body_at}
-use Rattle.sctp_wire.proofs.ItemLemmas.{half_at-half, word_at-word, length-half, length-word, half-half_at, word-word_at, half_at-lt, word_at-lt, AreBytes-drop, AreBytes-take, blocks_in-flat, flat-blocks_in, all-blocks_in, length-blocks_in, length-blocks, words_in-flat, flat-words_in, all-words_in, length-words_in, length-words}
+use Rattle.sctp_model.specs.Chunk.{ChunkMeaning, Data, Init, InitAck, Sack, Heartbeat, HeartbeatAck, Abort, Shutdown, ShutdownAck, Error, CookieEcho, CookieAck, ShutdownComplete, IData, ForwardTsn, IForwardTsn, Unknown, kind_of, chunk_length}
+use Rattle.sctp_model.specs.Numbers.{u32_bytes, u32_at, AreBytes}
+use Rattle.sctp_wire.specs.declared.skips.SkipForm.TheVariants.{Narrow, Wide}
+use Rattle.sctp_wire.specs.chunks.Piece.{data_value, i_data_laid}
+use Rattle.sctp_wire.specs.chunks.Init.{init_value, is_init_listed}
+use Rattle.sctp_wire.specs.chunks.Sack.{sack_value}
+use Rattle.sctp_wire.specs.chunks.Forward.{forward_value}
+use Rattle.sctp_wire.specs.Layouts.{is_known, flags_of, ReadsFlags, value_of, ReadsValue, is_laid_out, is_listed, IsInRange, IsReadable}
+use Rattle.sctp_wire.specs.Reading.{body_at}
+use Rattle.sctp_wire.proofs.NumberLemmas.{u32_at-bytes, length-u32, bytes-u32_at, u32_at-lt}
+use Rattle.sctp_wire.proofs.TypedLemmas.{drop_all}
+use Rattle.sctp_wire.proofs.KindLemmas.{IsType, is_data, is_init, is_init_ack, is_sack, is_heartbeat, is_heartbeat_ack, is_abort, is_shutdown, is_shutdown_ack, is_error, is_cookie_echo, is_cookie_ack, is_shutdown_complete, is_i_data, is_forward_tsn, is_i_forward_tsn, is_other, type_of, unlike}
+use Rattle.sctp_wire.proofs.PieceLemmas.{flags_split, i_flags_split, reflected_split, reflected_read, length-data_value, data_at-value, value-data_at, IsDataPiece-data_at, length-i_data_laid, i_data_at-laid, laid-i_data_at, IsIDataPiece-i_data_at}
+use Rattle.sctp_wire.proofs.InitLemmas.{drop-init_16, length-init_value, init_at-value, value-init_at, IsInit-init_at}
+use Rattle.sctp_wire.proofs.SackLemmas.{length-sack_value, is_sack_value-value, sack_at-value, has_counts, value-sack_at, IsSack-sack_at}
+use Rattle.sctp_wire.proofs.ForwardLemmas.{has_entries, reads_forward_value, length-reads_forward, is_forward_value-reads, forward_at-reads, reads-forward_at, IsForward-forward_at}
 
--- ---- flags
+-- ---- lengths
 
-bit_of : Bool → ℕ
-bit_of true = 1
-bit_of false = 0
+pub length-value : (m : ChunkMeaning) (value : List ℕ) → ReadsValue value m → 4 + length value ≡ chunk_length m
+length-value (Data p) value e = omega (arith, ap length e, length-data_value p)
+length-value (Init i) value e = omega (arith, ap length e, length-init_value i)
+length-value (InitAck i) value e = omega (arith, ap length e, length-init_value i)
+length-value (Sack s) value e = omega (arith, ap length e, length-sack_value s)
+length-value (Heartbeat info) value e = omega (arith, ap length e)
+length-value (HeartbeatAck info) value e = omega (arith, ap length e)
+length-value (Abort reflected causes) value e = omega (arith, ap length e)
+length-value (Shutdown cumulative) value e = omega (arith, ap length e, length-u32 cumulative)
+length-value ShutdownAck value e = omega (arith, ap length e)
+length-value (Error causes) value e = omega (arith, ap length e)
+length-value (CookieEcho cookie) value e = omega (arith, ap length e)
+length-value CookieAck value e = omega (arith, ap length e)
+length-value (ShutdownComplete reflected) value e = omega (arith, ap length e)
+length-value (IData p) value (reserved, e) = omega (arith, ap length e, length-i_data_laid reserved p)
+length-value (ForwardTsn f) value reads = omega (arith, length-reads_forward Narrow f value reads)
+length-value (IForwardTsn f) value reads = omega (arith, length-reads_forward Wide f value reads)
+length-value (Unknown kind flags value') value e = omega (arith, ap length e)
 
--- a bit that is tested by its mask
-flag_from_bit : (b m : ℕ) → b < 2 → 0 < m → flag m (not (b * m == 0)) ≡ b * m
-flag_from_bit zero m small some = grind (arith, common_steps)
-flag_from_bit (suc zero) m small some = grind (arith, common_steps)
-flag_from_bit (suc (suc b)) m small some = absurd (omega arith)
+-- what is written for a value reads
+pub reads_value_of : (m : ChunkMeaning) → ReadsValue (value_of m) m
+reads_value_of (IData p) = (0, refl)
+reads_value_of (ForwardTsn f) = reads_forward_value Narrow f
+reads_value_of (IForwardTsn f) = reads_forward_value Wide f
+reads_value_of (Data p) = refl
+reads_value_of (Init i) = refl
+reads_value_of (InitAck i) = refl
+reads_value_of (Sack s) = refl
+reads_value_of (Heartbeat info) = refl
+reads_value_of (HeartbeatAck info) = refl
+reads_value_of (Abort reflected causes) = refl
+reads_value_of (Shutdown cumulative) = refl
+reads_value_of ShutdownAck = refl
+reads_value_of (Error causes) = refl
+reads_value_of (CookieEcho cookie) = refl
+reads_value_of CookieAck = refl
+reads_value_of (ShutdownComplete reflected) = refl
+reads_value_of (Unknown kind flags value) = refl
 
-flag-has : (n k : ℕ) → 0 < 2 ^ k → flag (2 ^ k) (has_flag n (2 ^ k)) ≡ bit_at n k * 2 ^ k
-flag-has n k some = rw (and_pow n k) (flag_from_bit (bit_at n k) (2 ^ k) (bit_at-lt n k) some)
+pub length-value_of : (m : ChunkMeaning) → 4 + length (value_of m) ≡ chunk_length m
+length-value_of m = length-value m (value_of m) (reads_value_of m)
 
-has_from_bit : (b m : ℕ) (set : Bool) → 0 < m → flag m set ≡ b * m → not (b * m == 0) ≡ set
-has_from_bit b m true some e = grind (arith, common_steps)
-has_from_bit b m false some e = grind (arith, common_steps)
+-- the flags that are written are read
+pub reads_flags_of : (m : ChunkMeaning) → ReadsFlags (flags_of m) m
+reads_flags_of (Data p) = (0, omega arith)
+reads_flags_of (IData p) = (0, omega arith)
+reads_flags_of (Abort reflected causes) = (0, omega arith)
+reads_flags_of (ShutdownComplete reflected) = (0, omega arith)
+reads_flags_of (Unknown kind flags value) = refl
+reads_flags_of (Init i) = tt
+reads_flags_of (InitAck i) = tt
+reads_flags_of (Sack s) = tt
+reads_flags_of (Heartbeat info) = tt
+reads_flags_of (HeartbeatAck info) = tt
+reads_flags_of (Shutdown cumulative) = tt
+reads_flags_of ShutdownAck = tt
+reads_flags_of (Error causes) = tt
+reads_flags_of (CookieEcho cookie) = tt
+reads_flags_of CookieAck = tt
+reads_flags_of (ForwardTsn f) = tt
+reads_flags_of (IForwardTsn f) = tt
 
-has-flag : (n k : ℕ) (set : Bool) → 0 < 2 ^ k → flag (2 ^ k) set ≡ bit_at n k * 2 ^ k → has_flag n (2 ^ k) ≡ set
-has-flag n k set some e = rw (and_pow n k) (has_from_bit (bit_at n k) (2 ^ k) set some e)
+-- ---- what reads as a chunk is of its layout, and reads as it
 
--- a byte of flags is its four low bits, and unused ones
-pub flags_split : (flags : ℕ) (value : List ℕ) → flags ≡ 16 * (flags / 16) + data_flags (data_at flags value)
-unfolding data_at
-flags_split flags value =
-    omega (arith, flag-has flags 3 (lit< tt), flag-has flags 2 (lit< tt), flag-has flags 1 (lit< tt), flag-has flags 0 (lit< tt))
+pub record IsReadBack (f : ℕ) (v : List ℕ) (m : ChunkMeaning) : Type 0 where
+  pub laid_out : is_laid_out (kind_of m) v ≡ true
+  pub listed : is_listed (kind_of m) v ≡ true
+  pub body : body_at (kind_of m) f v ≡ m
 
-flag_is : (m : ℕ) (set : Bool) → (b : ℕ) × (b < 2) × (flag m set ≡ b * m)
-flag_is m true = (1, omega arith, omega arith)
-flag_is m false = (0, omega arith, omega arith)
+pub body_read : (m : ChunkMeaning) (flags : ℕ) (value : List ℕ) → ReadsFlags flags m → ReadsValue value m → IsReadable m → IsReadBack flags value m
+unfolding body_at
+body_read (Data p) flags value (unused, f) e r = rw e (record {
+  laid_out = le-leb 12 (length (data_value p)) (omega (arith, length-data_value p));
+  listed = refl;
+  body = ap Data (data_at-value p unused flags f r.fields);
+})
+body_read (Init i) flags value f e r = rw e (record {
+  laid_out = le-leb 16 (length (init_value i)) (omega (arith, length-init_value i));
+  listed = rw (drop-init_16 i) r.fields.parameters;
+  body = ap Init (init_at-value i r.fields);
+})
+body_read (InitAck i) flags value f e r = rw e (record {
+  laid_out = le-leb 16 (length (init_value i)) (omega (arith, length-init_value i));
+  listed = rw (drop-init_16 i) r.fields.parameters;
+  body = ap InitAck (init_at-value i r.fields);
+})
+body_read (Sack s) flags value f e r =
+    let small = r.length in
+    let blocks : length s.blocks < 2 ^ 16 = omega arith in
+    let duplicates : length s.duplicates < 2 ^ 16 = omega arith in
+    rw e (record {
+      laid_out = is_sack_value-value s blocks duplicates;
+      listed = refl;
+      body = ap Sack (sack_at-value s blocks duplicates r.fields);
+    })
+body_read (Heartbeat info) flags value f e r = rw e (record { laid_out = refl; listed = refl; body = refl })
+body_read (HeartbeatAck info) flags value f e r = rw e (record { laid_out = refl; listed = refl; body = refl })
+body_read (Abort reflected causes) flags value (unused, f) e r =
+    rw e (record { laid_out = refl; listed = r.fields; body = rw (reflected_read flags unused reflected f) refl })
+body_read (Shutdown cumulative) flags value f e r =
+    let same : u32_at value ≡ cumulative = ap u32_at (e ∙ sym (append-nil (u32_bytes cumulative))) ∙ u32_at-bytes cumulative [] r.fields in
+    record { laid_out = rw (e, length-u32 cumulative) refl; listed = refl; body = rw same refl }
+body_read ShutdownAck flags value f e r = rw e (record { laid_out = refl; listed = refl; body = refl })
+body_read (Error causes) flags value f e r = rw e (record { laid_out = refl; listed = r.fields; body = refl })
+body_read (CookieEcho cookie) flags value f e r = rw e (record { laid_out = refl; listed = refl; body = refl })
+body_read CookieAck flags value f e r = rw e (record { laid_out = refl; listed = refl; body = refl })
+body_read (ShutdownComplete reflected) flags value (unused, f) e r =
+    rw e (record { laid_out = refl; listed = refl; body = rw (reflected_read flags unused reflected f) refl })
+body_read (IData p) flags value (unused, f) (reserved, e) r = rw e (record {
+  laid_out = le-leb 16 (length (i_data_laid reserved p)) (omega (arith, length-i_data_laid reserved p));
+  listed = refl;
+  body = ap IData (i_data_at-laid reserved p unused flags f r.fields);
+})
+body_read (ForwardTsn f) flags value any reads r =
+    record { laid_out = is_forward_value-reads Narrow f value reads; listed = refl; body = ap ForwardTsn (forward_at-reads Narrow f value reads r.fields) }
+body_read (IForwardTsn f) flags value any reads r =
+    record { laid_out = is_forward_value-reads Wide f value reads; listed = refl; body = ap IForwardTsn (forward_at-reads Wide f value reads r.fields) }
+body_read (Unknown kind kept v) flags value f e r =
+    let other = r.fields.other in
+    rw (e, f) (record { laid_out = rw (unlike kind 0 other refl, unlike kind 1 other refl, unlike kind 2 other refl, unlike kind 3 other refl, unlike kind 7 other refl, unlike kind 8 other refl, unlike kind 11 other refl, unlike kind 14 other refl, unlike kind 64 other refl, unlike kind 192 other refl, unlike kind 194 other refl) refl; listed = rw (unlike kind 1 other refl, unlike kind 2 other refl, unlike kind 6 other refl, unlike kind 9 other refl) refl; body = rw (unlike kind 0 other refl, unlike kind 1 other refl, unlike kind 2 other refl, unlike kind 3 other refl, unlike kind 4 other refl, unlike kind 5 other refl, unlike kind 6 other refl, unlike kind 7 other refl, unlike kind 8 other refl, unlike kind 9 other refl, unlike kind 10 other refl, unlike kind 11 other refl, unlike kind 14 other refl, unlike kind 64 other refl, unlike kind 192 other refl, unlike kind 194 other refl) refl })
 
--- the four flags are read from them, whatever the unused ones are
-pub flags_read : (p : PieceMeaning) (unused flags : ℕ) → flags ≡ 16 * unused + data_flags p
-    → (has_flag flags 8 ≡ p.immediate) × (has_flag flags 4 ≡ p.unordered) × (has_flag flags 2 ≡ p.begin) × (has_flag flags 1 ≡ p.end)
-flags_read p unused flags e =
-    let i = flag_is 8 p.immediate in
-    let u = flag_is 4 p.unordered in
-    let b = flag_is 2 p.begin in
-    let l = flag_is 1 p.end in (
-      has-flag flags 3 p.immediate (lit< tt) (omega arith),
-      has-flag flags 2 p.unordered (lit< tt) (omega arith),
-      has-flag flags 1 p.begin (lit< tt) (omega arith),
-      has-flag flags 0 p.end (lit< tt) (omega arith),
-    )
+-- ---- what is of a layout reads as a chunk of it
 
--- ---- DATA
-
--- where the fields of DATA stand
-drop-data_4 : (p : PieceMeaning) → drop 4 (data_value p) ≡ half p.stream ++ (half p.number ++ (word p.word ++ p.bytes))
-unfolding word
-drop-data_4 p = refl
-
-drop-data_6 : (p : PieceMeaning) → drop 6 (data_value p) ≡ half p.number ++ (word p.word ++ p.bytes)
-unfolding word half
-drop-data_6 p = refl
-
-drop-data_8 : (p : PieceMeaning) → drop 8 (data_value p) ≡ word p.word ++ p.bytes
-unfolding word half
-drop-data_8 p = refl
-
-drop-data_12 : (p : PieceMeaning) → drop 12 (data_value p) ≡ p.bytes
-unfolding word half
-drop-data_12 p = refl
-
-pub length-data_value : (p : PieceMeaning) → length (data_value p) ≡ 12 + length p.bytes
-unfolding word half
-length-data_value p = omega arith
-
-pub data_at-value : (p : PieceMeaning) (unused flags : ℕ) → flags ≡ 16 * unused + data_flags p → IsDataPiece p → data_at flags (data_value p) ≡ p
-unfolding data_at
-data_at-value p unused flags e fits =
-    let f = flags_read p unused flags e in
-    rw (f.0, f.1, f.2, f.3, word_at-word p.tsn _ fits.tsn, drop-data_4 p, half_at-half p.stream _ fits.stream, drop-data_6 p, half_at-half p.number _ fits.number, drop-data_8 p, word_at-word p.word _ fits.word, drop-data_12 p) refl
-
-pub value-data_at : (flags : ℕ) (value : List ℕ) → AreBytes value → 12 ≤ length value → data_value (data_at flags value) ≡ value
-unfolding data_at
-value-data_at flags value bytes long =
-    let at_8 = word-word_at (drop 8 value) (AreBytes-drop 8 value bytes) (omega (arith, length-drop 8 value)) in
-    let at_6 = half-half_at (drop 6 value) (AreBytes-drop 6 value bytes) (omega (arith, length-drop 6 value)) in
-    let at_4 = half-half_at (drop 4 value) (AreBytes-drop 4 value bytes) (omega (arith, length-drop 4 value)) in
-    let at_0 = word-word_at value bytes (omega arith) in
-    rw (← drop-drop 4 8 value, at_8, ← drop-drop 2 6 value, at_6, ← drop-drop 2 4 value, at_4) at_0
-
-pub IsDataPiece-data_at : (flags : ℕ) (value : List ℕ) → AreBytes value → IsDataPiece (data_at flags value)
-unfolding data_at
-IsDataPiece-data_at flags value bytes = record {
-  tsn = word_at-lt value bytes;
-  stream = half_at-lt (drop 4 value) (AreBytes-drop 4 value bytes);
-  number = half_at-lt (drop 6 value) (AreBytes-drop 6 value bytes);
-  word = word_at-lt (drop 8 value) (AreBytes-drop 8 value bytes);
-}
-
--- ---- SACK
-
-drop-sack_4 : (s : SackMeaning) → drop 4 (sack_value s) ≡ word s.rwnd ++ (half (length s.blocks) ++ (half (length s.duplicates) ++ (flat_map block_bytes s.blocks ++ flat_map word s.duplicates)))
-unfolding word
-drop-sack_4 s = refl
-
-drop-sack_8 : (s : SackMeaning) → drop 8 (sack_value s) ≡ half (length s.blocks) ++ (half (length s.duplicates) ++ (flat_map block_bytes s.blocks ++ flat_map word s.duplicates))
-unfolding word
-drop-sack_8 s = refl
-
-drop-sack_10 : (s : SackMeaning) → drop 10 (sack_value s) ≡ half (length s.duplicates) ++ (flat_map block_bytes s.blocks ++ flat_map word s.duplicates)
-unfolding word half
-drop-sack_10 s = refl
-
-drop-sack_12 : (s : SackMeaning) → drop 12 (sack_value s) ≡ flat_map block_bytes s.blocks ++ flat_map word s.duplicates
-unfolding word half
-drop-sack_12 s = refl
-
-pub length-sack_value : (s : SackMeaning) → length (sack_value s) ≡ 12 + 4 * (length s.blocks + length s.duplicates)
-length-sack_value s =
-    let lists = flat_map block_bytes s.blocks ++ flat_map word s.duplicates in
-    let fourth = half (length s.duplicates) ++ lists in
-    let third = half (length s.blocks) ++ fourth in
-    omega (arith, length-append (word s.cumulative) (word s.rwnd ++ third), length-append (word s.rwnd) third, length-append (half (length s.blocks)) fourth, length-append (half (length s.duplicates)) lists, length-append (flat_map block_bytes s.blocks) (flat_map word s.duplicates), length-word s.cumulative, length-word s.rwnd, length-half (length s.blocks), length-half (length s.duplicates), length-blocks s.blocks, length-words s.duplicates)
-
-both_true : (a b : Bool) → a ≡ true → b ≡ true → (a && b) ≡ true
-both_true a b p q = cc
-
-pub is_sack_value-value : (s : SackMeaning) → length s.blocks < 2 ^ 16 → length s.duplicates < 2 ^ 16 → is_sack_value (sack_value s) ≡ true
-is_sack_value-value s blocks duplicates =
-    rw (drop-sack_8 s, half_at-half (length s.blocks) _ blocks, drop-sack_10 s, half_at-half (length s.duplicates) _ duplicates, length-sack_value s) (grind (arith, common_steps))
-
-pub sack_at-value : (s : SackMeaning) → length s.blocks < 2 ^ 16 → length s.duplicates < 2 ^ 16 → IsSack s → sack_at (sack_value s) ≡ s
-unfolding sack_at
-sack_at-value s blocks duplicates fits =
-    let front = flat_map block_bytes s.blocks in
-    let back = flat_map word s.duplicates in
-    rw (word_at-word s.cumulative _ fits.cumulative, drop-sack_4 s, word_at-word s.rwnd _ fits.rwnd, drop-sack_8 s, half_at-half (length s.blocks) _ blocks, drop-sack_12 s, take_at front back (4 * length s.blocks) (length-blocks s.blocks), drop_at front back (4 * length s.blocks) (length-blocks s.blocks), blocks_in-flat s.blocks fits.blocks, words_in-flat s.duplicates fits.duplicates) refl
-
--- what the test of a SACK's length says
-pub record HasCounts (value : List ℕ) : Type 0 where
-  pub long : 12 ≤ length value
-  pub filled : length value ≡ 12 + 4 * (half_at (drop 8 value) + half_at (drop 10 value))
-
-pub has_counts : (value : List ℕ) → is_sack_value value ≡ true → HasCounts value
-has_counts value h = record { long = grind (arith, common_steps); filled = grind (arith, common_steps) }
-
-pub value-sack_at : (value : List ℕ) → AreBytes value → HasCounts value → sack_value (sack_at value) ≡ value
-unfolding sack_at
-value-sack_at value bytes counts =
-    let blocks = half_at (drop 8 value) in
-    let lists = drop 12 value in
-    let listed : AreBytes lists = AreBytes-drop 12 value bytes in
-    let room = length-drop 12 value in
-    let filled = counts.filled in
-    let long = counts.long in
-    let front : length (take (4 * blocks) lists) ≡ 4 * blocks = length-take-le (4 * blocks) lists (omega arith) in
-    let back = length-drop (4 * blocks) lists in
-    let front_count : length (blocks_in (take (4 * blocks) lists)) ≡ blocks = omega (arith, length-blocks_in (take (4 * blocks) lists)) in
-    let back_count : length (words_in (drop (4 * blocks) lists)) ≡ half_at (drop 10 value) = omega (arith, length-words_in (drop (4 * blocks) lists)) in
-    let front_bytes = flat-blocks_in (take (4 * blocks) lists) (AreBytes-take (4 * blocks) lists listed) (omega arith) in
-    let back_bytes = flat-words_in (drop (4 * blocks) lists) (AreBytes-drop (4 * blocks) lists listed) (omega arith) in
-    let at_10 = half-half_at (drop 10 value) (AreBytes-drop 10 value bytes) (omega (arith, length-drop 10 value)) in
-    let at_8 = half-half_at (drop 8 value) (AreBytes-drop 8 value bytes) (omega (arith, length-drop 8 value)) in
-    let at_4 = word-word_at (drop 4 value) (AreBytes-drop 4 value bytes) (omega (arith, length-drop 4 value)) in
-    let at_0 = word-word_at value bytes (omega arith) in
-    rw (front_count, back_count, front_bytes, back_bytes, take-append-drop (4 * blocks) lists, ← drop-drop 2 10 value, at_10, ← drop-drop 2 8 value, at_8, ← drop-drop 4 4 value, at_4) at_0
-
-pub IsSack-sack_at : (value : List ℕ) → AreBytes value → IsSack (sack_at value)
-unfolding sack_at
-IsSack-sack_at value bytes = record {
-  cumulative = word_at-lt value bytes;
-  rwnd = word_at-lt (drop 4 value) (AreBytes-drop 4 value bytes);
-  blocks = all-blocks_in _ (AreBytes-take _ (drop 12 value) (AreBytes-drop 12 value bytes));
-  duplicates = all-words_in _ (AreBytes-drop _ (drop 12 value) (AreBytes-drop 12 value bytes));
-}
-
--- ---- a chunk's body
-
--- what a chunk's header and value are read as
 pub record IsBody (k f : ℕ) (v : List ℕ) (m : ChunkMeaning) : Type 0 where
   pub kind : kind_of m ≡ k
   pub flags : ReadsFlags f m
-  pub value : value_of m ≡ v
+  pub value : ReadsValue v m
   pub fields : IsInRange m
 
--- a type with a case of its own, and another one
-neither : (a b : Bool) → (a || b) ≡ false → (a ≡ false) × (b ≡ false)
-neither true b h = cc
-neither false b h = (refl, h)
+-- no bytes where there are none
+no_bytes : (value : List ℕ) → (length value == 0) ≡ true → value ≡ []
+no_bytes [] h = refl
+no_bytes (b ∷ value) h = absurd (grind (arith, common_steps))
 
-one_no : (a b : Bool) → a ≡ false → b ≡ false → (a || b) ≡ false
-one_no a b p q = cc
+-- four bytes are those of a number
+four_bytes : (value : List ℕ) → AreBytes value → (length value == 4) ≡ true → value ≡ u32_bytes (u32_at value)
+four_bytes value bytes h =
+    let four : length value ≡ 4 = grind (arith, common_steps) in
+    let none : drop 4 value ≡ [] = drop_all value 4 (omega arith) in
+    sym (bytes-u32_at value bytes (omega arith)) ∙ rw none (append-nil (u32_bytes (u32_at value)))
 
--- a chunk's value is laid out, and reads as that chunk
-pub record IsReadBack (f : ℕ) (m : ChunkMeaning) : Type 0 where
-  pub laid_out : is_laid_out (kind_of m) (value_of m) ≡ true
-  pub body : body_at (kind_of m) f (value_of m) ≡ m
-
-pub body_read : (m : ChunkMeaning) (flags : ℕ) → ReadsFlags flags m → Fits m → IsReadBack flags m
+body_by : (kind flags : ℕ) (value : List ℕ) → IsType kind → AreBytes value → kind < 256 → flags < 256 → is_laid_out kind value ≡ true → is_listed kind value ≡ true
+    → IsBody kind flags value (body_at kind flags value)
 unfolding body_at
-body_read (Data p) flags (unused, e) fits = record {
-  laid_out = le-leb 12 (length (data_value p)) (omega (arith, length-data_value p));
-  body = ap Data (data_at-value p unused flags e fits.fields);
-}
-body_read (Sack s) flags any fits =
-    let counted = length-sack_value s in
-    let small = fits.length in
-    let blocks : length s.blocks < 2 ^ 16 = omega arith in
-    let duplicates : length s.duplicates < 2 ^ 16 = omega arith in
-    record {
-      laid_out = is_sack_value-value s blocks duplicates;
-      body = ap Sack (sack_at-value s blocks duplicates fits.fields);
-    }
-body_read (Unknown kind kept value) flags e fits =
-    let other = neither (kind == 0) (kind == 3) fits.fields.other in
-    record { laid_out = rw (other.0, other.1) refl; body = rw (other.0, other.1, e) refl }
-body_read m flags any fits = absurd fits.fields
-
-body_data : (kind flags : ℕ) (value : List ℕ) → AreBytes value → kind ≡ 0 → is_laid_out kind value ≡ true → IsBody kind flags value (body_at kind flags value)
-unfolding body_at
-body_data kind flags value bytes e h =
+body_by kind flags value (is_data e) bytes small low h l =
     let long : 12 ≤ length value = leb-true 12 (length value) (rw e at h) in
-    rw e (record {
-      kind = refl;
-      flags = (flags / 16, flags_split flags value);
-      value = value-data_at flags value bytes long;
-      fields = IsDataPiece-data_at flags value bytes;
-    })
-
-body_sack : (kind flags : ℕ) (value : List ℕ) → AreBytes value → kind ≡ 3 → is_laid_out kind value ≡ true → IsBody kind flags value (body_at kind flags value)
-unfolding body_at
-body_sack kind flags value bytes e h =
+    rw e (record { kind = refl; flags = (flags / 16, flags_split flags value); value = sym (value-data_at flags value bytes long); fields = IsDataPiece-data_at flags value bytes })
+body_by kind flags value (is_init e) bytes small low h l =
+    let long : 16 ≤ length value = leb-true 16 (length value) (rw e at h) in
+    rw e (record { kind = refl; flags = tt; value = sym (value-init_at value bytes long); fields = IsInit-init_at value bytes (rw e at l) })
+body_by kind flags value (is_init_ack e) bytes small low h l =
+    let long : 16 ≤ length value = leb-true 16 (length value) (rw e at h) in
+    rw e (record { kind = refl; flags = tt; value = sym (value-init_at value bytes long); fields = IsInit-init_at value bytes (rw e at l) })
+body_by kind flags value (is_sack e) bytes small low h l =
     let counts = has_counts value (rw e at h) in
-    rw e (record {
-      kind = refl;
-      flags = tt;
-      value = value-sack_at value bytes counts;
-      fields = IsSack-sack_at value bytes;
-    })
-
-body_unknown : (kind flags : ℕ) (value : List ℕ) → kind < 256 → flags < 256 → (kind == 0) ≡ false → (kind == 3) ≡ false → IsBody kind flags value (body_at kind flags value)
-unfolding body_at
-body_unknown kind flags value small low data_no sack_no =
-    rw (data_no, sack_no) (record {
-      kind = refl;
-      flags = refl;
-      value = refl;
-      fields = record { kind = small; other = one_no (kind == 0) (kind == 3) data_no sack_no; flags = low };
-    })
+    rw e (record { kind = refl; flags = tt; value = sym (value-sack_at value bytes counts); fields = IsSack-sack_at value bytes })
+body_by kind flags value (is_heartbeat e) bytes small low h l = rw e (record { kind = refl; flags = tt; value = refl; fields = tt })
+body_by kind flags value (is_heartbeat_ack e) bytes small low h l = rw e (record { kind = refl; flags = tt; value = refl; fields = tt })
+body_by kind flags value (is_abort e) bytes small low h l =
+    let listed = rw e at l in rw e (record { kind = refl; flags = (flags / 2, reflected_split flags); value = refl; fields = listed })
+body_by kind flags value (is_shutdown e) bytes small low h l =
+    let four = rw e at h in rw e (record { kind = refl; flags = tt; value = four_bytes value bytes four; fields = u32_at-lt value bytes })
+body_by kind flags value (is_shutdown_ack e) bytes small low h l =
+    let none = rw e at h in rw e (record { kind = refl; flags = tt; value = no_bytes value none; fields = tt })
+body_by kind flags value (is_error e) bytes small low h l =
+    let listed = rw e at l in rw e (record { kind = refl; flags = tt; value = refl; fields = listed })
+body_by kind flags value (is_cookie_echo e) bytes small low h l = rw e (record { kind = refl; flags = tt; value = refl; fields = tt })
+body_by kind flags value (is_cookie_ack e) bytes small low h l =
+    let none = rw e at h in rw e (record { kind = refl; flags = tt; value = no_bytes value none; fields = tt })
+body_by kind flags value (is_shutdown_complete e) bytes small low h l =
+    let none = rw e at h in rw e (record { kind = refl; flags = (flags / 2, reflected_split flags); value = no_bytes value none; fields = tt })
+body_by kind flags value (is_i_data e) bytes small low h l =
+    let long : 16 ≤ length value = leb-true 16 (length value) (rw e at h) in
+    rw e (record { kind = refl; flags = (flags / 16, i_flags_split flags value); value = (_, sym (laid-i_data_at flags value bytes long)); fields = IsIDataPiece-i_data_at flags value bytes })
+body_by kind flags value (is_forward_tsn e) bytes small low h l =
+    let has = has_entries Narrow value (rw e at h) in
+    rw e (record { kind = refl; flags = tt; value = reads-forward_at Narrow value bytes has; fields = IsForward-forward_at Narrow value bytes })
+body_by kind flags value (is_i_forward_tsn e) bytes small low h l =
+    let has = has_entries Wide value (rw e at h) in
+    rw e (record { kind = refl; flags = tt; value = reads-forward_at Wide value bytes has; fields = IsForward-forward_at Wide value bytes })
+body_by kind flags value (is_other other) bytes small low h l =
+    rw (unlike kind 0 other refl, unlike kind 1 other refl, unlike kind 2 other refl, unlike kind 3 other refl, unlike kind 4 other refl, unlike kind 5 other refl, unlike kind 6 other refl, unlike kind 7 other refl, unlike kind 8 other refl, unlike kind 9 other refl, unlike kind 10 other refl, unlike kind 11 other refl, unlike kind 14 other refl, unlike kind 64 other refl, unlike kind 192 other refl, unlike kind 194 other refl) (record { kind = refl; flags = refl; value = refl; fields = record { kind = small; other = other; flags = low } })
 
 -- a value that is laid out is that of the chunk that it reads as
-pub body_of : (kind flags : ℕ) (value : List ℕ) → AreBytes value → kind < 256 → flags < 256 → is_laid_out kind value ≡ true
+pub body_of : (kind flags : ℕ) (value : List ℕ) → AreBytes value → kind < 256 → flags < 256 → is_laid_out kind value ≡ true → is_listed kind value ≡ true
     → IsBody kind flags value (body_at kind flags value)
-body_of kind flags value bytes small low h =
-    ⊎_elim (λ (p : ((kind == 0) ≡ true) × (kind ≡ 0)). body_data kind flags value bytes p.1 h)
-    (λ (p : ((kind == 0) ≡ false) × (kind ≢ 0)). ⊎_elim (λ (q : ((kind == 3) ≡ true) × (kind ≡ 3)). body_sack kind flags value bytes q.1 h)
-    (λ (q : ((kind == 3) ≡ false) × (kind ≢ 3)). body_unknown kind flags value small low p.0 q.0) (eqb_tells kind 3)) (eqb_tells kind 0)
+body_of kind flags value bytes small low h l = body_by kind flags value (type_of kind) bytes small low h l

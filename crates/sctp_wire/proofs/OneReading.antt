@@ -1,26 +1,30 @@
 -- Bytes read as at most one list of chunks, or have one fault, never both: what `reading_of` computes.
-use Rattle.std.proofs.Common.{◌≡◌, ℕ, zero, suc, ◌+◌, ◌-◌, ◌*◌, ◌<◌, ◌≤◌, List, [], ◌∷◌, ◌++◌, length, refl, sym, ap, ◌∙◌, subst, append_assoc, arith, length-append, ◌⊎◌, inl, inr, Ok, Err}
-use Rattle.std.specs.Prelude.{Result, IsOk}
+use Rattle.std.proofs.Common.{◌≡◌, ℕ, zero, suc, ◌+◌, ◌-◌, ◌*◌, ◌<◌, ◌≤◌, List, [], ◌∷◌, ◌++◌, length, refl, sym, ap, ◌∙◌, subst, append_assoc, arith, length-append, ◌⊎◌, inl, inr, Bool, true, false, Ok, Err}
+use Rattle.std.specs.Prelude.{Option, Some, None, Result, IsOk, if◌then◌else◌}
 use Rattle.std.proofs.lemmas.List.{append-nil, drop_at}
-use Rattle.sctp_model.specs.Chunk.{ChunkMeaning}
+use Rattle.sctp_model.specs.Chunk.{ChunkMeaning, kind_of, size_of_chunk}
+use Rattle.sctp_model.specs.Numbers.{AreBytes}
+use Rattle.sctp_model.specs.Places.{is_misplaced, is_none, misplaced_from}
+use Rattle.sctp_wire.specs.declared.fault.Reason.{Reason}
+use Rattle.sctp_wire.specs.declared.fault.Reason.TheVariants as reason
 use Rattle.sctp_wire.specs.declared.fault.WireFault.{WireFault}
-use Rattle.sctp_wire.specs.declared.fault.WireFault.TheVariants.{Cut, LengthTooSmall, PaddingMissing, ChunkBody}
-use Rattle.sctp_wire.specs.Items.{AreBytes}
-use Rattle.sctp_wire.specs.Reads.{ReadsChunk, Reads}
-use Rattle.sctp_wire.specs.FirstFault.{IsCut, IsTooSmall, IsUnpadded, IsMisshapen, FaultsAt, Faults}
-use Rattle.sctp_wire.specs.Reading.{chunk_at, moved, onto, followed, chunks_within, reading_of, AreChunks, chunks_or_none, chunks_of, offset_of}
+use Rattle.sctp_wire.specs.declared.fault.WireFault.TheVariants.{Cut, LengthTooSmall, PaddingMissing, ChunkBody, ParameterLength, NotAlone}
+use Rattle.sctp_wire.specs.FaultTree.{fault_at, offset_of}
+use Rattle.sctp_wire.specs.Reads.{ReadsChunk, ReadsEach, Reads}
+use Rattle.sctp_wire.specs.FirstFault.{IsCut, IsWrong, FaultsAt, MisplacedAt, Faults}
+use Rattle.sctp_wire.specs.Reading.{chunk_at, FaultPlace, onto, followed, chunks_within, each_of, AreChunks, chunks_or_none, chunks_of, where_placed, placed, reading_of}
 use Rattle.sctp_wire.specs.Laws.{ReadInOneWay}
-use Rattle.sctp_wire.specs.Layouts.{value_of, chunk_length}
-use Rattle.sctp_wire.specs.Items.{half}
-use Rattle.sctp_wire.proofs.ItemLemmas.{AreBytes-drop, length-half}
-use Rattle.sctp_wire.proofs.FrameLemmas.{IsWrong, BeginsWith, begins_first, wrong_first, chunk_at-chunk, chunk_at-cut, chunk_at-small, chunk_at-unpadded, chunk_at-misshapen, chunk_at-leaves, LeavesAtMost, chunk-some}
+use Rattle.sctp_wire.proofs.NumberLemmas.{AreBytes-drop}
+use Rattle.sctp_wire.proofs.FrameLemmas.{BeginsWith, begins_first, wrong_first, chunk_at-chunk, chunk_at-wrong, chunk_at-leaves, LeavesAtMost, chunk-some, length-chunk}
 
-same_followed : (k whole : ℕ) (r : Result (ChunkMeaning × List ℕ) WireFault) (f g : List ℕ → Result (List ChunkMeaning) WireFault) → LeavesAtMost k r
+-- ---- the function, step by step
+
+same_followed : (k whole : ℕ) (r : Result (ChunkMeaning × List ℕ) Reason) (f g : List ℕ → Result (List ChunkMeaning) FaultPlace) → LeavesAtMost k r
     → ((rest : List ℕ) → length rest ≤ k → f rest ≡ g rest) → followed whole r f ≡ followed whole r g
 same_followed k whole (Ok found) f g le h = ap (onto (whole - length found.1) found.0) (h found.1 le)
-same_followed k whole (Err fault) f g le h = refl
+same_followed k whole (Err why) f g le h = refl
 
--- more fuel changes nothing
+-- more steps than bytes change nothing
 chunks_within-same : (m n : ℕ) (bytes : List ℕ) → length bytes ≤ m → length bytes ≤ n → chunks_within m bytes ≡ chunks_within n bytes
 chunks_within-same m n [] p q = refl
 chunks_within-same zero n (b ∷ bytes) p q = absurd (omega arith)
@@ -29,99 +33,123 @@ chunks_within-same (suc m) (suc n) (b ∷ bytes) p q =
     same_followed (length bytes) (length (b ∷ bytes)) (chunk_at (b ∷ bytes)) (λ rest. chunks_within m rest) (λ rest. chunks_within n rest) (chunk_at-leaves b bytes)
     (λ rest le. chunks_within-same m n rest (omega arith) (omega arith))
 
-reading_of-nil : reading_of [] ≡ Ok []
-unfolding reading_of
-reading_of-nil = refl
+each_of-nil : each_of [] ≡ Ok []
+unfolding each_of
+each_of-nil = refl
 
 shorter : (b : ℕ) (bytes : List ℕ) (found : ChunkMeaning × List ℕ) → chunk_at (b ∷ bytes) ≡ Ok found → length found.1 ≤ length bytes
 shorter b bytes found h = subst (LeavesAtMost (length bytes)) h (chunk_at-leaves b bytes)
 
-pub reading_of-chunk : (bytes : List ℕ) (found : ChunkMeaning × List ℕ) → 0 < length bytes → chunk_at bytes ≡ Ok found
-    → reading_of bytes ≡ onto (length bytes - length found.1) found.0 (reading_of found.1)
-unfolding reading_of
-reading_of-chunk [] found some h = absurd (omega arith)
-reading_of-chunk (b ∷ bytes) found some h =
+pub each_of-chunk : (bytes : List ℕ) (found : ChunkMeaning × List ℕ) → 0 < length bytes → chunk_at bytes ≡ Ok found
+    → each_of bytes ≡ onto (length bytes - length found.1) found.0 (each_of found.1)
+unfolding each_of
+each_of-chunk [] found some h = absurd (omega arith)
+each_of-chunk (b ∷ bytes) found some h =
     ap (λ r. followed (length (b ∷ bytes)) r (λ rest. chunks_within (length bytes) rest)) h
     ∙ ap (onto (length (b ∷ bytes) - length found.1) found.0) (chunks_within-same (length bytes) (length found.1) found.1 (shorter b bytes found h) (omega arith))
 
-pub reading_of-fault : (bytes : List ℕ) (fault : WireFault) → 0 < length bytes → chunk_at bytes ≡ Err fault → reading_of bytes ≡ Err fault
-unfolding reading_of
-reading_of-fault [] fault some h = absurd (omega arith)
-reading_of-fault (b ∷ bytes) fault some h = ap (λ r. followed (length (b ∷ bytes)) r (λ rest. chunks_within (length bytes) rest)) h
+pub each_of-fault : (bytes : List ℕ) (why : Reason) → 0 < length bytes → chunk_at bytes ≡ Err why → each_of bytes ≡ Err (record { why = why; offset = 0 })
+unfolding each_of
+each_of-fault [] why some h = absurd (omega arith)
+each_of-fault (b ∷ bytes) why some h = ap (λ r. followed (length (b ∷ bytes)) r (λ rest. chunks_within (length bytes) rest)) h
 
 -- these chunks, which take so many bytes, and then what is read
-behind : ℕ → List ChunkMeaning → Result (List ChunkMeaning) WireFault → Result (List ChunkMeaning) WireFault
+behind : ℕ → List ChunkMeaning → Result (List ChunkMeaning) FaultPlace → Result (List ChunkMeaning) FaultPlace
 behind distance ms (Ok ns) = Ok (ms ++ ns)
-behind distance ms (Err fault) = Err (moved distance fault)
+behind distance ms (Err at) = Err (record at { offset = at.offset + distance })
 
-moved-zero : (f : WireFault) → moved 0 f ≡ f
-moved-zero (Cut offset) = ap (λ (n : ℕ). Cut n) (omega arith)
-moved-zero (LengthTooSmall offset) = ap (λ (n : ℕ). LengthTooSmall n) (omega arith)
-moved-zero (PaddingMissing offset) = ap (λ (n : ℕ). PaddingMissing n) (omega arith)
-moved-zero (ChunkBody offset) = ap (λ (n : ℕ). ChunkBody n) (omega arith)
+-- a place moved on
+moved_place : (a b : ℕ) (at : FaultPlace) → a ≡ b → record at { offset = a } ≡ record at { offset = b }
+moved_place a b at e = ap (λ (n : ℕ). record at { offset = n }) e
 
-moved-moved : (a b c : ℕ) (f : WireFault) → c ≡ a + b → moved a (moved b f) ≡ moved c f
-moved-moved a b c (Cut offset) e = ap (λ (n : ℕ). Cut n) (omega arith)
-moved-moved a b c (LengthTooSmall offset) e = ap (λ (n : ℕ). LengthTooSmall n) (omega arith)
-moved-moved a b c (PaddingMissing offset) e = ap (λ (n : ℕ). PaddingMissing n) (omega arith)
-moved-moved a b c (ChunkBody offset) e = ap (λ (n : ℕ). ChunkBody n) (omega arith)
-
-behind-none : (r : Result (List ChunkMeaning) WireFault) → r ≡ behind 0 [] r
+behind-none : (r : Result (List ChunkMeaning) FaultPlace) → r ≡ behind 0 [] r
 unfolding behind
 behind-none (Ok ns) = refl
-behind-none (Err fault) = ap (λ (f : WireFault). Err f) (sym (moved-zero fault))
+behind-none (Err at) = ap (λ (p : FaultPlace). Err p) (moved_place at.offset (at.offset + 0) at (omega arith))
 
-onto-behind : (a b c : ℕ) (m : ChunkMeaning) (ms : List ChunkMeaning) (r : Result (List ChunkMeaning) WireFault) → c ≡ a + b
+onto-behind : (a b c : ℕ) (m : ChunkMeaning) (ms : List ChunkMeaning) (r : Result (List ChunkMeaning) FaultPlace) → c ≡ a + b
     → onto a m (behind b ms r) ≡ behind c (m ∷ ms) r
 unfolding behind
 onto-behind a b c m ms (Ok ns) e = refl
-onto-behind a b c m ms (Err fault) e = ap (λ (f : WireFault). Err f) (moved-moved a b c fault e)
+onto-behind a b c m ms (Err at) e = ap (λ (p : FaultPlace). Err p) (moved_place (at.offset + b + a) (at.offset + c) at (omega arith))
 
 -- whole chunks are read, and then what follows them
-reading_of-reads : (ms : List ChunkMeaning) (whole rest : List ℕ) → Reads whole ms → reading_of (whole ++ rest) ≡ behind (length whole) ms (reading_of rest)
-reading_of-reads [] whole rest e = rw e (behind-none (reading_of rest))
-reading_of-reads (m ∷ ms) whole rest (chunk, more, joined, reads, others) =
+each_of-reads : (ms : List ChunkMeaning) (whole rest : List ℕ) → ReadsEach whole ms → each_of (whole ++ rest) ≡ behind (length whole) ms (each_of rest)
+each_of-reads [] whole rest e = rw e (behind-none (each_of rest))
+each_of-reads (m ∷ ms) whole rest (chunk, more, joined, reads, others) =
     let found : ChunkMeaning × List ℕ = (m, more ++ rest) in
     let split : whole ++ rest ≡ chunk ++ (more ++ rest) = ap (λ (xs : List ℕ). xs ++ rest) joined ∙ append_assoc chunk more rest in
     let some : 0 < length (chunk ++ (more ++ rest)) = omega (arith, length-append chunk (more ++ rest), chunk-some chunk m reads) in
     let ends : length whole ≡ length (chunk ++ (more ++ rest)) - length (more ++ rest) + length more =
     ap length joined ∙ omega (arith, length-append chunk more, length-append chunk (more ++ rest)) in
-    ap reading_of split ∙ reading_of-chunk (chunk ++ (more ++ rest)) found some (chunk_at-chunk chunk m (more ++ rest) reads)
-    ∙ ap (onto (length (chunk ++ (more ++ rest)) - length (more ++ rest)) m) (reading_of-reads ms more rest others)
-    ∙ onto-behind _ (length more) (length whole) m ms (reading_of rest) ends
+    ap each_of split ∙ each_of-chunk (chunk ++ (more ++ rest)) found some (chunk_at-chunk chunk m (more ++ rest) reads)
+    ∙ ap (onto (length (chunk ++ (more ++ rest)) - length (more ++ rest)) m) (each_of-reads ms more rest others)
+    ∙ onto-behind _ (length more) (length whole) m ms (each_of rest) ends
 
-pub reading_of-ok : (bytes : List ℕ) (ms : List ChunkMeaning) → Reads bytes ms → reading_of bytes ≡ Ok ms
+pub each_of-ok : (bytes : List ℕ) (ms : List ChunkMeaning) → ReadsEach bytes ms → each_of bytes ≡ Ok ms
 unfolding behind
-reading_of-ok bytes ms reads =
-    ap reading_of (sym (append-nil bytes)) ∙ reading_of-reads ms bytes [] reads ∙ ap (behind (length bytes) ms) reading_of-nil ∙ ap (λ (ns : List ChunkMeaning). Ok ns) (append-nil ms)
+each_of-ok bytes ms reads =
+    ap each_of (sym (append-nil bytes)) ∙ each_of-reads ms bytes [] reads ∙ ap (behind (length bytes) ms) each_of-nil ∙ ap (λ (ns : List ChunkMeaning). Ok ns) (append-nil ms)
+
+-- a chunk that is wrong has bytes
+wrong_some : (rest : List ℕ) (why : Reason) → IsWrong why rest → 0 < length rest
+wrong_some rest reason.IsCut (inl h) = h.0
+wrong_some rest reason.IsCut (inr h) = omega (arith, h.0.0)
+wrong_some rest reason.HasShortLength h = omega (arith, h.0)
+wrong_some rest reason.LacksPadding h = omega (arith, h.0.0)
+wrong_some rest reason.HasOtherBody h = omega (arith, h.0.0)
+wrong_some rest reason.HasNoList h = omega (arith, h.0.0)
 
 -- after whole chunks the fault of the next one
-faulted : (Wrong : List ℕ → Type 0) (bytes : List ℕ) (offset : ℕ) (f : WireFault) → ((rest : List ℕ) → Wrong rest → (0 < length rest) × (chunk_at rest ≡ Err f))
-    → FaultsAt Wrong bytes offset → reading_of bytes ≡ Err (moved offset f)
+each_of-err : (why : Reason) (bytes : List ℕ) (offset : ℕ) → FaultsAt why bytes offset → each_of bytes ≡ Err (record { why = why; offset = offset })
 unfolding behind
-faulted Wrong bytes offset f first h =
-    let wrong = first h.rest h.wrong in
-    ap reading_of h.joined ∙ reading_of-reads h.chunks h.whole h.rest h.reads ∙ ap (behind (length h.whole) h.chunks) (reading_of-fault h.rest f wrong.0 wrong.1)
-    ∙ ap (λ (n : ℕ). Err (moved n f)) (sym h.at)
+each_of-err why bytes offset h =
+    let at : FaultPlace = record { why = why; offset = 0 } in
+    let same : 0 + length h.whole ≡ offset = omega (arith, h.at) in
+    ap each_of h.joined ∙ each_of-reads h.chunks h.whole h.rest h.reads
+    ∙ ap (behind (length h.whole) h.chunks) (each_of-fault h.rest why (wrong_some h.rest why h.wrong) (chunk_at-wrong h.rest why h.wrong))
+    ∙ ap (λ (p : FaultPlace). Err p) (moved_place (0 + length h.whole) offset at same)
 
-cut_some : (rest : List ℕ) → IsCut rest → 0 < length rest
-cut_some rest (inl h) = h.0
-cut_some rest (inr h) = omega (arith, h.0.0)
+-- ---- all of the bytes
+
+pub reading_of-each : (bytes : List ℕ) (ms : List ChunkMeaning) → ReadsEach bytes ms → reading_of bytes ≡ where_placed ms (misplaced_from 0 true ms)
+unfolding reading_of
+reading_of-each bytes ms each = ap placed (each_of-ok bytes ms each)
+
+pub reading_of-ok : (bytes : List ℕ) (ms : List ChunkMeaning) → Reads bytes ms → reading_of bytes ≡ Ok ms
+reading_of-ok bytes ms reads = reading_of-each bytes ms reads.each ∙ ap (where_placed ms) reads.placed
+
+faulted : (why : Reason) (bytes : List ℕ) (offset : ℕ) → FaultsAt why bytes offset → reading_of bytes ≡ Err (fault_at why offset)
+unfolding reading_of
+faulted why bytes offset h = ap placed (each_of-err why bytes offset h)
 
 pub reading_of-err : (bytes : List ℕ) (f : WireFault) → Faults bytes f → reading_of bytes ≡ Err f
-reading_of-err bytes (Cut offset) h =
-    faulted IsCut bytes offset (Cut 0) (λ rest w. (cut_some rest w, chunk_at-cut rest w)) h ∙ ap (λ (n : ℕ). Err (Cut n)) (omega arith)
-reading_of-err bytes (LengthTooSmall offset) h =
-    faulted IsTooSmall bytes offset (LengthTooSmall 0) (λ rest w. (omega (arith, w.0), chunk_at-small rest w)) h ∙ ap (λ (n : ℕ). Err (LengthTooSmall n)) (omega arith)
-reading_of-err bytes (PaddingMissing offset) h =
-    faulted IsUnpadded bytes offset (PaddingMissing 0) (λ rest w. (omega (arith, w.0.0), chunk_at-unpadded rest w)) h ∙ ap (λ (n : ℕ). Err (PaddingMissing n)) (omega arith)
-reading_of-err bytes (ChunkBody offset) h =
-    faulted IsMisshapen bytes offset (ChunkBody 0) (λ rest w. (omega (arith, w.0.0), chunk_at-misshapen rest w)) h ∙ ap (λ (n : ℕ). Err (ChunkBody n)) (omega arith)
+reading_of-err bytes (Cut offset) h = faulted reason.IsCut bytes offset h
+reading_of-err bytes (LengthTooSmall offset) h = faulted reason.HasShortLength bytes offset h
+reading_of-err bytes (PaddingMissing offset) h = faulted reason.LacksPadding bytes offset h
+reading_of-err bytes (ChunkBody offset) h = faulted reason.HasOtherBody bytes offset h
+reading_of-err bytes (ParameterLength offset) h = faulted reason.HasNoList bytes offset h
+reading_of-err bytes (NotAlone offset) h = reading_of-each bytes h.chunks h.reads ∙ ap (where_placed h.chunks) h.misplaced
+
+-- what is wrong with a chunk, as a fault
+pub fault_of : (why : Reason) (bytes : List ℕ) (offset : ℕ) → FaultsAt why bytes offset → Faults bytes (fault_at why offset)
+fault_of reason.IsCut bytes offset h = h
+fault_of reason.HasShortLength bytes offset h = h
+fault_of reason.LacksPadding bytes offset h = h
+fault_of reason.HasOtherBody bytes offset h = h
+fault_of reason.HasNoList bytes offset h = h
+
+pub offset_of-at : (why : Reason) (offset : ℕ) → offset_of (fault_at why offset) ≡ offset
+offset_of-at reason.IsCut offset = refl
+offset_of-at reason.HasShortLength offset = refl
+offset_of-at reason.LacksPadding offset = refl
+offset_of-at reason.HasOtherBody offset = refl
+offset_of-at reason.HasNoList offset = refl
 
 -- ---- what the reader keeps
 
 -- one chunk more behind whole ones
-pub reads-more : (ms : List ChunkMeaning) (whole chunk : List ℕ) (m : ChunkMeaning) → Reads whole ms → ReadsChunk chunk m → Reads (whole ++ chunk) (ms ++ m ∷ [])
+reads-more : (ms : List ChunkMeaning) (whole chunk : List ℕ) (m : ChunkMeaning) → ReadsEach whole ms → ReadsChunk chunk m → ReadsEach (whole ++ chunk) (ms ++ m ∷ [])
 reads-more [] whole chunk m e reads = (chunk, [], rw e (sym (append-nil chunk)), reads, refl)
 reads-more (n ∷ ms) whole chunk m (first, more, joined, here, others) reads =
     (first, more ++ chunk, ap (λ (xs : List ℕ). xs ++ chunk) joined ∙ append_assoc first more chunk, here, reads-more ms more chunk m others reads)
@@ -131,7 +159,7 @@ pub record IsReadUpTo (bytes rest : List ℕ) : Type 0 where
   pub whole : List ℕ
   pub chunks : List ChunkMeaning
   pub joined : bytes ≡ whole ++ rest
-  pub reads : Reads whole chunks
+  pub reads : ReadsEach whole chunks
 
 pub read_none : (bytes : List ℕ) → IsReadUpTo bytes bytes
 read_none bytes = record { whole = []; chunks = []; joined = refl; reads = refl }
@@ -144,36 +172,14 @@ read_more bytes rest after m up first = record {
   reads = reads-more up.chunks up.whole first.chunk m up.reads first.reads;
 }
 
-pub read_all : (bytes rest : List ℕ) → IsReadUpTo bytes rest → rest ≡ [] → (ms : List ChunkMeaning) × Reads bytes ms
+pub read_all : (bytes rest : List ℕ) → IsReadUpTo bytes rest → rest ≡ [] → (ms : List ChunkMeaning) × ReadsEach bytes ms
 read_all bytes rest up e =
-    (up.chunks, subst (λ (xs : List ℕ). Reads xs up.chunks) (sym (up.joined ∙ ap (λ (xs : List ℕ). up.whole ++ xs) e ∙ append-nil up.whole)) up.reads)
+    (up.chunks, subst (λ (xs : List ℕ). ReadsEach xs up.chunks) (sym (up.joined ∙ ap (λ (xs : List ℕ). up.whole ++ xs) e ∙ append-nil up.whole)) up.reads)
 
--- the fault of what is left, moved by what stands before
-pub read_wrong : (bytes rest : List ℕ) (f : WireFault) (n : ℕ) → IsReadUpTo bytes rest → n + length rest ≡ length bytes → IsWrong rest f → Faults bytes (moved n f)
-read_wrong bytes rest (Cut offset) n up e w = record { whole = up.whole; rest = rest; chunks = up.chunks; joined = up.joined; reads = up.reads; at = omega (arith, w.0, length-append up.whole rest, ap length up.joined); wrong = w.1 }
-read_wrong bytes rest (LengthTooSmall offset) n up e w = record { whole = up.whole; rest = rest; chunks = up.chunks; joined = up.joined; reads = up.reads; at = omega (arith, w.0, length-append up.whole rest, ap length up.joined); wrong = w.1 }
-read_wrong bytes rest (PaddingMissing offset) n up e w = record { whole = up.whole; rest = rest; chunks = up.chunks; joined = up.joined; reads = up.reads; at = omega (arith, w.0, length-append up.whole rest, ap length up.joined); wrong = w.1 }
-read_wrong bytes rest (ChunkBody offset) n up e w = record { whole = up.whole; rest = rest; chunks = up.chunks; joined = up.joined; reads = up.reads; at = omega (arith, w.0, length-append up.whole rest, ap length up.joined); wrong = w.1 }
-
--- ---- what the iterator shows
-
-pub chunks_of-ok : (bytes : List ℕ) (ms : List ChunkMeaning) → reading_of bytes ≡ Ok ms → chunks_of bytes ≡ ms
-chunks_of-ok bytes ms e = ap chunks_or_none e
-
-pub chunks_of-nil : (bytes : List ℕ) → bytes ≡ [] → chunks_of bytes ≡ []
-chunks_of-nil bytes e = rw (e, reading_of-nil) refl
-
-are_chunks-onto : (n : ℕ) (m : ChunkMeaning) (r : Result (List ChunkMeaning) WireFault) → IsOk (onto n m r) → IsOk r × (chunks_or_none (onto n m r) ≡ m ∷ chunks_or_none r)
-are_chunks-onto n m (Ok ms) h = (refl, refl)
-are_chunks-onto n m (Err fault) h = cc
-
--- the first chunk of whole chunks, and the others
-pub chunks_of-chunk : (bytes : List ℕ) (found : ChunkMeaning × List ℕ) → 0 < length bytes → chunk_at bytes ≡ Ok found → AreChunks bytes
-    → AreChunks found.1 × (chunks_of bytes ≡ found.0 ∷ chunks_of found.1)
-chunks_of-chunk bytes found some h all =
-    let step = reading_of-chunk bytes found some h in
-    let rest = are_chunks-onto (length bytes - length found.1) found.0 (reading_of found.1) (rw step at all) in
-    (rest.0, ap chunks_or_none step ∙ rest.1)
+-- the fault of what is left, where it stands
+pub read_wrong : (bytes rest : List ℕ) (why : Reason) (n : ℕ) → IsReadUpTo bytes rest → n + length rest ≡ length bytes → IsWrong why rest → FaultsAt why bytes n
+read_wrong bytes rest why n up e w =
+    record { whole = up.whole; rest = rest; chunks = up.chunks; joined = up.joined; reads = up.reads; at = omega (arith, length-append up.whole rest, ap length up.joined); wrong = w }
 
 -- what is left of bytes is bytes
 pub rest_bytes : (bytes rest : List ℕ) → AreBytes bytes → IsReadUpTo bytes rest → AreBytes rest
@@ -185,15 +191,32 @@ pub begins_shorter : (rest after : List ℕ) (m : ChunkMeaning) → BeginsWith r
 begins_shorter rest after m first =
     rw first.joined (omega (arith, length-append first.chunk after, chunk-some first.chunk m first.reads))
 
-pub moved_offset : (n : ℕ) (f : WireFault) → offset_of (moved n f) ≡ offset_of f + n
-moved_offset n (Cut offset) = refl
-moved_offset n (LengthTooSmall offset) = refl
-moved_offset n (PaddingMissing offset) = refl
-moved_offset n (ChunkBody offset) = refl
-
 -- what stands before what is left
 pub left_length : (bytes rest : List ℕ) → IsReadUpTo bytes rest → length bytes - length rest + length rest ≡ length bytes
 left_length bytes rest up = omega (arith, ap length up.joined, length-append up.whole rest)
+
+-- ---- what the iterator shows
+
+pub chunks_of-each : (bytes : List ℕ) (ms : List ChunkMeaning) → ReadsEach bytes ms → chunks_of bytes ≡ ms
+chunks_of-each bytes ms each = ap chunks_or_none (each_of-ok bytes ms each)
+
+pub are_chunks-each : (bytes : List ℕ) (ms : List ChunkMeaning) → ReadsEach bytes ms → AreChunks bytes
+are_chunks-each bytes ms each = rw (each_of-ok bytes ms each) refl
+
+pub chunks_of-nil : (bytes : List ℕ) → bytes ≡ [] → chunks_of bytes ≡ []
+chunks_of-nil bytes e = rw (e, each_of-nil) refl
+
+are_chunks-onto : (n : ℕ) (m : ChunkMeaning) (r : Result (List ChunkMeaning) FaultPlace) → IsOk (onto n m r) → IsOk r × (chunks_or_none (onto n m r) ≡ m ∷ chunks_or_none r)
+are_chunks-onto n m (Ok ms) h = (refl, refl)
+are_chunks-onto n m (Err at) h = cc
+
+-- the first chunk of whole chunks, and the others
+pub chunks_of-chunk : (bytes : List ℕ) (found : ChunkMeaning × List ℕ) → 0 < length bytes → chunk_at bytes ≡ Ok found → AreChunks bytes
+    → AreChunks found.1 × (chunks_of bytes ≡ found.0 ∷ chunks_of found.1)
+chunks_of-chunk bytes found some h all =
+    let step = each_of-chunk bytes found some h in
+    let rest = are_chunks-onto (length bytes - length found.1) found.0 (each_of found.1) (rw step at all) in
+    (rest.0, ap chunks_or_none step ∙ rest.1)
 
 -- ---- the law
 
@@ -201,17 +224,23 @@ left_length bytes rest up = omega (arith, ap length up.joined, length-append up.
 abbrev Reading : List ℕ → Type 0
 Reading bytes = ((ms : List ChunkMeaning) × Reads bytes ms) ⊎ ((f : WireFault) × Faults bytes f)
 
-read_on_by : (most b : ℕ) (bytes rest : List ℕ) (r : Result (ChunkMeaning × List ℕ) WireFault) → chunk_at (b ∷ rest) ≡ r → length rest ≤ most → AreBytes bytes
+-- where whole chunks stand
+placed_or_not : (bytes : List ℕ) (ms : List ChunkMeaning) (o : Option ℕ) → misplaced_from 0 true ms ≡ o → ReadsEach bytes ms → Reading bytes
+placed_or_not bytes ms None e each = inl (ms, record { each = each; placed = e })
+placed_or_not bytes ms (Some offset) e each = inr (NotAlone offset, record { chunks = ms; reads = each; misplaced = e })
+
+read_on_by : (most b : ℕ) (bytes rest : List ℕ) (r : Result (ChunkMeaning × List ℕ) Reason) → chunk_at (b ∷ rest) ≡ r → length rest ≤ most → AreBytes bytes
     → IsReadUpTo bytes (b ∷ rest) → ((after : List ℕ) → length after ≤ most → IsReadUpTo bytes after → Reading bytes) → Reading bytes
 read_on_by most b bytes rest (Ok found) e short fits up on =
     let first = begins_first (b ∷ rest) found.0 found.1 (rest_bytes bytes (b ∷ rest) fits up) (omega arith) e in
     on found.1 (omega (arith, begins_shorter (b ∷ rest) found.1 found.0 first)) (read_more bytes (b ∷ rest) found.1 found.0 up first)
-read_on_by most b bytes rest (Err f) e short fits up on =
+read_on_by most b bytes rest (Err why) e short fits up on =
     let before = length bytes - length (b ∷ rest) in
-    inr (moved before f, read_wrong bytes (b ∷ rest) f before up (left_length bytes (b ∷ rest) up) (wrong_first (b ∷ rest) f (omega arith) e))
+    inr (fault_at why before, fault_of why bytes before (read_wrong bytes (b ∷ rest) why before up (left_length bytes (b ∷ rest) up) (wrong_first (b ∷ rest) why (omega arith) e)))
 
 read_on : (most : ℕ) (bytes rest : List ℕ) → length rest ≤ most → AreBytes bytes → IsReadUpTo bytes rest → Reading bytes
-read_on most bytes [] short fits up = inl (read_all bytes [] up refl)
+read_on most bytes [] short fits up =
+    let all = read_all bytes [] up refl in placed_or_not bytes all.0 (misplaced_from 0 true all.0) refl all.1
 read_on zero bytes (b ∷ rest) short fits up = absurd (omega arith)
 read_on (suc most) bytes (b ∷ rest) short fits up =
     read_on_by most b bytes rest (chunk_at (b ∷ rest)) refl (omega arith) fits up (λ after le more. read_on most bytes after le fits more)
@@ -224,12 +253,18 @@ read_in_one_way bytes = record {
   one_of_them = λ fits. read_on (length bytes) bytes bytes (omega arith) fits (read_none bytes);
 }
 
--- each chunk takes at least its header
-chunk_four : (chunk : List ℕ) (m : ChunkMeaning) → ReadsChunk chunk m → 4 ≤ length chunk
-chunk_four chunk m r =
-    rw r.layout (omega (arith, length-append (half (chunk_length m)) (value_of m ++ r.padding), length-half (chunk_length m)))
-
-pub reads_few : (ms : List ChunkMeaning) (bytes : List ℕ) → Reads bytes ms → 4 * length ms ≤ length bytes
+pub reads_few : (ms : List ChunkMeaning) (bytes : List ℕ) → ReadsEach bytes ms → 4 * length ms ≤ length bytes
 reads_few [] bytes e = omega arith
 reads_few (m ∷ ms) bytes (chunk, rest, joined, reads, others) =
-    rw joined (omega (arith, length-append chunk rest, chunk_four chunk m reads, reads_few ms rest others))
+    rw joined (omega (arith, length-append chunk rest, chunk-some chunk m reads, reads_few ms rest others))
+
+-- a misplaced chunk begins within the bytes
+within_by : (place later size offset long : ℕ) (rest : Option ℕ) (t : Bool) → (if t then Some place else rest) ≡ Some offset → (rest ≡ Some offset → offset ≤ place + size + later) → long ≡ size + later → offset ≤ place + long
+within_by place later size offset long rest true e others whole = let same : place ≡ offset = cc in omega arith
+within_by place later size offset long rest false e others whole = omega (arith, others e)
+
+pub misplaced_within : (ms : List ChunkMeaning) (bytes : List ℕ) (place offset : ℕ) (first : Bool) → ReadsEach bytes ms → misplaced_from place first ms ≡ Some offset → offset ≤ place + length bytes
+misplaced_within [] bytes place offset first each e = cc
+misplaced_within (m ∷ ms) bytes place offset first (chunk, rest, joined, reads, others) e =
+    within_by place (length rest) (size_of_chunk m) offset (length bytes) (misplaced_from (place + size_of_chunk m) false ms) (is_misplaced first (is_none ms) (kind_of m)) e
+    (λ later. misplaced_within ms rest (place + size_of_chunk m) offset false others later) (ap length joined ∙ omega (arith, length-append chunk rest, length-chunk chunk m reads))

@@ -1,57 +1,72 @@
 -- What is written is read again.
-use Rattle.std.proofs.Common.{◌≡◌, ℕ, List, [], ◌∷◌, ◌++◌, length, replicate, refl, sym, ap, ◌∙◌, subst, append_assoc, arith, length-append}
+use Rattle.std.proofs.Common.{◌≡◌, ℕ, true, List, [], ◌∷◌, ◌++◌, length, replicate, refl, sym, ap, ◌∙◌, subst, append_assoc, arith, length-append, ⊎_elim, ◌≢◌}
+use Rattle.std.specs.Prelude.{None, ◌==◌, Bool, false, if◌then◌else◌, Some}
 use Rattle.std.specs.List.{flat_map, AllByRecursion}
 use Rattle.std.proofs.Math.ListN.{length-replicate}
 use Rattle.std.proofs.lemmas.List.{append-nil}
 use Rattle.std.proofs.lemmas.List.Concat.{flat_map-append}
-use Rattle.sctp_model.specs.Chunk.{ChunkMeaning, Data, Sack, Unknown}
-use Rattle.sctp_wire.specs.Items.{half, padded, padding_after}
-use Rattle.sctp_wire.specs.Layouts.{flags_of, value_of, chunk_length, Fits}
-use Rattle.sctp_wire.specs.Reads.{ReadsFlags, ReadsChunk, Reads}
+use Rattle.std.proofs.lemmas.Grind.{common_steps}
+use Rattle.sctp_model.specs.Chunk.{ChunkMeaning, kind_of, chunk_length, padding_after, size_of_chunk}
+use Rattle.sctp_model.specs.Numbers.{u16_bytes}
+use Rattle.sctp_model.specs.Places.{is_misplaced, ArePlaced}
+use Rattle.sctp_wire.specs.Layouts.{flags_of, value_of, Fits}
+use Rattle.sctp_wire.specs.Reads.{ReadsChunk, ReadsEach, Reads}
 use Rattle.sctp_wire.specs.Writes.{written, Writes}
 use Rattle.sctp_wire.specs.Laws.{Join}
-use Rattle.sctp_wire.proofs.ItemLemmas.{length-half, all-append}
-use Rattle.sctp_wire.proofs.BodyLemmas.{length-data_value, length-sack_value}
+use Rattle.sctp_wire.proofs.NumberLemmas.{length-u16}
+use Rattle.sctp_wire.proofs.ItemLemmas.{all-append}
+use Rattle.sctp_wire.proofs.BodyLemmas.{length-value_of, reads_value_of, reads_flags_of}
 
-pub ruleset lengths = (length-data_value, length-sack_value)
+length-zeros : (n : ℕ) → length {A = ℕ} (replicate n 0) ≡ n
+length-zeros n = length-replicate {A = ℕ} n 0
 
--- the flags that are written are read
-reads_flags : (m : ChunkMeaning) → ReadsFlags (flags_of m) m
-reads_flags (Data p) = (0, omega arith)
-reads_flags (Sack s) = tt
-reads_flags (Unknown kind flags value) = refl
-reads_flags m = tt
-
-pub length-written : (m : ChunkMeaning) → length (written m) ≡ padded (chunk_length m)
+pub length-written : (m : ChunkMeaning) → length (written m) ≡ size_of_chunk m
 length-written m =
     let padding : List ℕ = replicate (padding_after (chunk_length m)) 0 in
-    omega (arith, length-append (half (chunk_length m)) (value_of m ++ padding), length-half (chunk_length m), length-append (value_of m) padding, length-replicate {A = ℕ} (padding_after (chunk_length m)) 0)
+    omega (arith, length-append (u16_bytes (chunk_length m)) (value_of m ++ padding), length-u16 (chunk_length m), length-append (value_of m) padding, length-zeros (padding_after (chunk_length m)), length-value_of m)
 
-pub reads_written : (m : ChunkMeaning) → Fits m → ReadsChunk (written m) m
+reads_written : (m : ChunkMeaning) → Fits m → ReadsChunk (written m) m
 reads_written m fits = record {
   flags = flags_of m;
+  value = value_of m;
   padding = replicate (padding_after (chunk_length m)) 0;
   layout = refl;
-  flagged = reads_flags m;
-  filled = length-replicate {A = ℕ} (padding_after (chunk_length m)) 0;
-  fits = fits;
+  flagged = reads_flags_of m;
+  valued = reads_value_of m;
+  filled = length-zeros (padding_after (chunk_length m));
+  readable = record { fields = fits.fields; length = fits.length };
 }
 
 -- what is written for chunks reads as these chunks
-reads_all_written : (ms : List ChunkMeaning) → AllByRecursion Fits ms → Reads (flat_map written ms) ms
+reads_all_written : (ms : List ChunkMeaning) → AllByRecursion Fits ms → ReadsEach (flat_map written ms) ms
 reads_all_written [] fits = refl
 reads_all_written (m ∷ ms) fits = (written m, flat_map written ms, refl, reads_written m fits.0, reads_all_written ms fits.1)
 
-pub reads_writes : (bytes : List ℕ) (ms : List ChunkMeaning) → Writes bytes ms → Reads bytes ms
-reads_writes bytes ms w = subst (λ (xs : List ℕ). Reads xs ms) (sym w.bytes_are) (reads_all_written ms w.fits)
+pub reads_each_written : (bytes : List ℕ) (ms : List ChunkMeaning) → Writes bytes ms → ReadsEach bytes ms
+reads_each_written bytes ms w =
+    subst (λ (xs : List ℕ). ReadsEach xs ms) (sym w.bytes_are) (reads_all_written ms w.fits)
 
--- what is written for a chunk reads, alone, as that chunk
+pub reads_writes : (bytes : List ℕ) (ms : List ChunkMeaning) → Writes bytes ms → ArePlaced ms → Reads bytes ms
+reads_writes bytes ms w placed = record { each = reads_each_written bytes ms w; placed = placed }
+
+-- a chunk alone stands where it may
+alone_is_placed : (kind : ℕ) → is_misplaced true true kind ≡ false
+unfolding is_misplaced
+alone_is_placed kind = grind (arith, common_steps)
+
+pub placed_one : (m : ChunkMeaning) → ArePlaced (m ∷ [])
+placed_one m = rw (alone_is_placed (kind_of m)) refl
+
+-- what is written for a chunk is that of a list of one, and reads, alone, as that chunk
+pub writes_one : (m : ChunkMeaning) → Fits m → Writes (written m) (m ∷ [])
+writes_one m fits = record { bytes_are = sym (append-nil (written m)); fits = (fits, tt) }
+
 pub reads_one : (m : ChunkMeaning) → Fits m → Reads (written m) (m ∷ [])
-reads_one m fits = (written m, [], sym (append-nil (written m)), reads_written m fits, refl)
+reads_one m fits = reads_writes (written m) (m ∷ []) (writes_one m fits) (placed_one m)
 
 -- ---- chunks behind chunks
 
-reads_join : (ms ns : List ChunkMeaning) (front back : List ℕ) → Reads front ms → Reads back ns → Reads (front ++ back) (ms ++ ns)
+reads_join : (ms ns : List ChunkMeaning) (front back : List ℕ) → ReadsEach front ms → ReadsEach back ns → ReadsEach (front ++ back) (ms ++ ns)
 reads_join [] ns front back e q = rw e q
 reads_join (m ∷ ms) ns front back (chunk, rest, joined, reads, others) q =
     (chunk, rest ++ back, ap (λ (xs : List ℕ). xs ++ back) joined ∙ append_assoc chunk rest back, reads, reads_join ms ns rest back others q)

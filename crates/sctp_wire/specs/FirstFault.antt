@@ -1,32 +1,23 @@
--- Why bytes are no list of chunks: whole chunks, and at the next one the first check that fails, with the
--- offset of that chunk's first byte (RFC 9260, 3.2).
-use Rattle.std.specs.Prelude.{◌≡◌, ℕ, ◌+◌, ◌*◌, ◌<◌, ◌≤◌, ◌⊎◌, Bool, true, false, if◌then◌else◌, ◌==◌, ◌&&◌, nat_le, List, ◌++◌, length, drop, slice_index, slice_range}
-use Rattle.sctp_model.specs.Chunk.{ChunkMeaning}
-use Rattle.sctp_wire.specs.declared.codes.TheConstants.{DATA, SACK}
+-- Why bytes are no list of chunks: whole chunks, and at the next one the first check that fails; or all are whole, and one is misplaced;
+-- with the offset of that chunk's first byte (RFC 9260, 3.2).
+use Rattle.std.specs.Prelude.{◌≡◌, ℕ, ◌<◌, ◌≤◌, ◌⊎◌, true, false, List, ◌++◌, length, drop, slice_index, slice_range, Some}
+use Rattle.sctp_model.specs.Chunk.{ChunkMeaning, padded}
+use Rattle.sctp_model.specs.Numbers.{u16_at}
+use Rattle.sctp_model.specs.Places.{misplaced_from}
+use Rattle.sctp_wire.specs.declared.fault.Reason.{Reason}
+use Rattle.sctp_wire.specs.declared.fault.Reason.TheVariants as reason
 use Rattle.sctp_wire.specs.declared.fault.WireFault.{WireFault}
-use Rattle.sctp_wire.specs.declared.fault.WireFault.TheVariants.{Cut, LengthTooSmall, PaddingMissing, ChunkBody}
-use Rattle.sctp_wire.specs.Items.{half_at, padded}
-use Rattle.sctp_wire.specs.Reads.{Reads}
+use Rattle.sctp_wire.specs.declared.fault.WireFault.TheVariants.{Cut, LengthTooSmall, PaddingMissing, ChunkBody, ParameterLength, NotAlone}
+use Rattle.sctp_wire.specs.Layouts.{is_laid_out, is_listed}
+use Rattle.sctp_wire.specs.Reads.{ReadsEach}
 
 -- what a header's length field says
 abbrev pub stated_length : List ℕ → ℕ
-stated_length bytes = half_at (drop 2 bytes)
+stated_length bytes = u16_at (drop 2 bytes)
 
 -- a chunk's value, as its length field says
 abbrev pub value_at : List ℕ → List ℕ
 value_at bytes = slice_range bytes 4 (stated_length bytes)
-
--- a SACK's length: 16 and 4 for each block and duplicate (RFC 9260, 3.3.4)
-abbrev pub is_sack_value : List ℕ → Bool
-is_sack_value value =
-    nat_le 12 (length value) && (length value == 12 + 4 * (half_at (drop 8 value) + half_at (drop 10 value)))
-
--- the values that a type's layout accepts (RFC 9260, 3.3.1 and 3.3.4)
-abbrev pub is_laid_out : ℕ → List ℕ → Bool
-is_laid_out kind value =
-    if kind == DATA then nat_le 12 (length value)
-    else if kind == SACK then is_sack_value value
-    else true
 
 -- a chunk begins: there is a header, and its length field covers it
 abbrev pub HasHeader : List ℕ → Type 0
@@ -49,19 +40,41 @@ abbrev pub IsMisshapen : List ℕ → Type 0
 IsMisshapen bytes =
     HasHeader bytes × (padded (stated_length bytes) ≤ length bytes) × (is_laid_out (slice_index bytes 0) (value_at bytes) ≡ false)
 
+-- all is there and of the layout, and the parameters or causes aren't a list
+abbrev pub IsMislisted : List ℕ → Type 0
+IsMislisted bytes =
+    HasHeader bytes × (padded (stated_length bytes) ≤ length bytes) × (is_laid_out (slice_index bytes 0) (value_at bytes) ≡ true)
+    × (is_listed (slice_index bytes 0) (value_at bytes) ≡ false)
+
+-- what is wrong with the chunk that bytes begin with
+abbrev pub IsWrong : Reason → List ℕ → Type 0
+IsWrong reason.IsCut bytes = IsCut bytes
+IsWrong reason.HasShortLength bytes = IsTooSmall bytes
+IsWrong reason.LacksPadding bytes = IsUnpadded bytes
+IsWrong reason.HasOtherBody bytes = IsMisshapen bytes
+IsWrong reason.HasNoList bytes = IsMislisted bytes
+
 -- after whole chunks this is wrong with the next one, which begins at the offset
-pub record FaultsAt (Wrong : List ℕ → Type 0) (bytes : List ℕ) (offset : ℕ) : Type 0 where
+pub record FaultsAt (why : Reason) (bytes : List ℕ) (offset : ℕ) : Type 0 where
   pub whole : List ℕ
   pub rest : List ℕ
   pub chunks : List ChunkMeaning
   pub joined : bytes ≡ whole ++ rest
-  pub reads : Reads whole chunks
+  pub reads : ReadsEach whole chunks
   pub at : offset ≡ length whole
-  pub wrong : Wrong rest
+  pub wrong : IsWrong why rest
 
--- the fault of the bytes
+-- all chunks are whole, and the first misplaced one begins at the offset
+pub record MisplacedAt (bytes : List ℕ) (offset : ℕ) : Type 0 where
+  pub chunks : List ChunkMeaning
+  pub reads : ReadsEach bytes chunks
+  pub misplaced : misplaced_from 0 true chunks ≡ Some offset
+
+-- The fault of the bytes.
 abbrev pub Faults : List ℕ → WireFault → Type 0
-Faults bytes (Cut offset) = FaultsAt IsCut bytes offset
-Faults bytes (LengthTooSmall offset) = FaultsAt IsTooSmall bytes offset
-Faults bytes (PaddingMissing offset) = FaultsAt IsUnpadded bytes offset
-Faults bytes (ChunkBody offset) = FaultsAt IsMisshapen bytes offset
+Faults bytes (Cut offset) = FaultsAt reason.IsCut bytes offset
+Faults bytes (LengthTooSmall offset) = FaultsAt reason.HasShortLength bytes offset
+Faults bytes (PaddingMissing offset) = FaultsAt reason.LacksPadding bytes offset
+Faults bytes (ChunkBody offset) = FaultsAt reason.HasOtherBody bytes offset
+Faults bytes (ParameterLength offset) = FaultsAt reason.HasNoList bytes offset
+Faults bytes (NotAlone offset) = MisplacedAt bytes offset

@@ -1,8 +1,13 @@
 pub mod Items
+pub mod Skips
+pub mod chunks
 pub mod Layouts
 pub mod Reads
 pub mod Writes
+pub mod FaultTree
 pub mod FirstFault
+pub mod TypedTree
 pub mod ChunkTree
+pub mod RuleTree
 pub mod Reading
 pub mod Laws

@@ -1,7 +1,7 @@
 //! What is wrong with bytes, and want of memory.
 
 ghost use Rattle.std.specs.Prelude.{◌≡◌, ◌+◌, ◌<◌, ◌^◌};
-ghost use Rattle.sctp_wire.specs.Reading.{moved, offset_of};
+ghost use Rattle.sctp_wire.specs.FaultTree.{moved, offset_of, fault_at};
 
 use thiserror::Error;
 
@@ -21,6 +21,38 @@ pub enum WireFault {
     /// The value isn't of the layout of the chunk's type.
     #[error("the chunk at byte {offset} isn't of its type's layout")]
     ChunkBody { offset: usize },
+    /// The parameters or causes of the chunk aren't a list.
+    #[error("the parameters or causes of the chunk at byte {offset} aren't a list")]
+    ParameterLength { offset: usize },
+    /// All chunks are whole, and this is the first one that stands beside another where it may stand alone only,
+    /// or behind another where it may stand first only.
+    #[error("the chunk at byte {offset} isn't alone or first")]
+    NotAlone { offset: usize },
+}
+
+/// What is wrong with one chunk, by itself.
+#[derive(Clone, Copy, Debug, PartialEq, Eq)]
+pub(crate) enum Reason {
+    IsCut,
+    HasShortLength,
+    LacksPadding,
+    HasOtherBody,
+    HasNoList,
+}
+
+impl Reason {
+    /// The fault of the chunk that begins there.
+    pub(crate) fn at(self, offset: usize) -> WireFault
+        ensures { result ≡ fault_at self offset }
+    {
+        match self {
+            Reason::IsCut => WireFault::Cut { offset },
+            Reason::HasShortLength => WireFault::LengthTooSmall { offset },
+            Reason::LacksPadding => WireFault::PaddingMissing { offset },
+            Reason::HasOtherBody => WireFault::ChunkBody { offset },
+            Reason::HasNoList => WireFault::ParameterLength { offset },
+        }
+    }
 }
 
 impl WireFault {
@@ -40,6 +72,12 @@ impl WireFault {
                 offset: offset + distance,
             },
             WireFault::ChunkBody { offset } => WireFault::ChunkBody {
+                offset: offset + distance,
+            },
+            WireFault::ParameterLength { offset } => WireFault::ParameterLength {
+                offset: offset + distance,
+            },
+            WireFault::NotAlone { offset } => WireFault::NotAlone {
                 offset: offset + distance,
             },
         }

@@ -1,26 +1,42 @@
-//! SCTP chunks as bytes (RFC 9260, 3.2 and 3.3).
+//! SCTP chunks as bytes (RFC 9260, 3.2 and 3.3; RFC 3758, 3.2; RFC 8260, 2.1 and 2.3.1).
 //!
 //! `read_chunks` reads the chunks of a packet, exactly those that the layouts give, and lends all their data
-//! and lists. `write_chunk` appends a chunk's bytes, and `put_block` and `put_word` an item of a list.
+//! and lists. `write_chunk` appends a chunk's bytes, and the `put_` calls append an item of a list.
 #![tactic(auto)]
 
-mod bodies;
 mod chunk;
+mod chunks;
 pub mod codes;
 mod fault;
+mod fits;
 mod items;
 mod laws;
 mod lists;
 mod numbers;
 mod read;
+mod skips;
+mod typed;
+mod unknown;
 mod write;
 
-pub use chunk::{Chunk, GapBlock, Piece, Sack};
+pub use chunk::Chunk;
+pub use chunks::forward::Forward;
+pub use chunks::init::Init;
+pub use chunks::piece::Piece;
+pub use chunks::sack::Sack;
 pub use fault::{NoMemory, WireFault};
 pub use items::{put_block, put_word};
-pub use laws::{chunks_are_read, chunks_join, one_reading, written_reads};
-pub use lists::{BlockIter, Blocks, WordIter, Words};
+pub use laws::{
+    chunks_are_read, chunks_join, one_reading, typed_one_reading, written_each_reads, written_reads,
+};
+pub use lists::{BlockIter, Blocks, GapBlock, WordIter, Words};
 pub use read::{Chunks, read_chunks};
+pub use skips::{Skip, SkipForm, SkipIter, Skips, put_skip};
+pub use typed::{
+    Cause, Causes, Parameter, Parameters, TypedItem, TypedItems, TypedIter, is_typed_list,
+    put_cause, put_parameter,
+};
+pub use unknown::{Rule, unknown_chunk, unknown_parameter};
 pub use write::write_chunk;
 
 #[cfg(test)]

@@ -1,31 +1,32 @@
 //! Numbers as bytes, the most significant byte first (RFC 9260, 3), and the length with its padding.
 
 ghost use Rattle.std.specs.Prelude.{◌≡◌, ◌+◌, ◌<◌, ◌≤◌, ◌^◌, ◌++◌, length, replicate, vec_len, vec_capacity};
-ghost use Rattle.sctp_wire.specs.Items.{half, word, half_at, word_at, padded};
+ghost use Rattle.sctp_model.specs.Chunk.{padded};
+ghost use Rattle.sctp_model.specs.Numbers.{u16_bytes, u32_bytes, u16_at, u32_at};
 
 use byteorder::{BigEndian, ByteOrder};
 
 /// The number in the first two bytes.
-#[tactic(auto, unfolding(crate::specs::Items::half_at))]
-pub fn read_half(bytes: &[u8]) -> u16
+#[tactic(auto, unfolding(sctp_model::specs::Numbers::u16_at))]
+pub fn read_u16(bytes: &[u8]) -> u16
     requires { 2 ≤ length bytes.now }
-    ensures { result ≡ half_at bytes.now }
+    ensures { result ≡ u16_at bytes.now }
 {
     BigEndian::read_u16(bytes)
 }
 
 /// The number in the first four bytes.
-#[tactic(auto, unfolding(crate::specs::Items::word_at))]
-pub fn read_word(bytes: &[u8]) -> u32
+#[tactic(auto, unfolding(sctp_model::specs::Numbers::u32_at))]
+pub fn read_u32(bytes: &[u8]) -> u32
     requires { 4 ≤ length bytes.now }
-    ensures { result ≡ word_at bytes.now }
+    ensures { result ≡ u32_at bytes.now }
 {
     BigEndian::read_u32(bytes)
 }
 
 /// A length filled up to a multiple of 4.
 pub fn padded(size: usize) -> usize
-    requires { size < 2 ^ 32 }
+    requires { size < 2 ^ 63 }
     ensures { result ≡ padded size }
 {
     (size + 3) / 4 * 4
@@ -44,10 +45,10 @@ pub fn append(out: &mut Vec<u8>, bytes: &[u8])
 }
 
 /// Appends a number of 16 bits, for which there is room.
-#[tactic(auto, unfolding(crate::specs::Items::half))]
-pub fn append_half(out: &mut Vec<u8>, number: u16)
+#[tactic(auto, unfolding(sctp_model::specs::Numbers::u16_bytes))]
+pub fn append_u16(out: &mut Vec<u8>, number: u16)
     requires { vec_len out.old + 2 ≤ vec_capacity out.old }
-    ensures items { out.new.items ≡ out.old.items ++ half number }
+    ensures items { out.new.items ≡ out.old.items ++ u16_bytes number }
     ensures len { vec_len out.new ≡ vec_len out.old + 2 }
     ensures room { vec_capacity out.old ≤ vec_capacity out.new }
 {
@@ -57,10 +58,10 @@ pub fn append_half(out: &mut Vec<u8>, number: u16)
 }
 
 /// Appends a number of 32 bits, for which there is room.
-#[tactic(auto, unfolding(crate::specs::Items::word))]
-pub fn append_word(out: &mut Vec<u8>, number: u32)
+#[tactic(auto, unfolding(sctp_model::specs::Numbers::u32_bytes))]
+pub fn append_u32(out: &mut Vec<u8>, number: u32)
     requires { vec_len out.old + 4 ≤ vec_capacity out.old }
-    ensures items { out.new.items ≡ out.old.items ++ word number }
+    ensures items { out.new.items ≡ out.old.items ++ u32_bytes number }
     ensures len { vec_len out.new ≡ vec_len out.old + 4 }
     ensures room { vec_capacity out.old ≤ vec_capacity out.new }
 {
@@ -73,7 +74,9 @@ pub fn append_word(out: &mut Vec<u8>, number: u32)
 pub fn append_zeros(out: &mut Vec<u8>, count: usize)
     requires few { count < 4 }
     requires spare { vec_len out.old + count ≤ vec_capacity out.old }
-    ensures { out.new.items ≡ out.old.items ++ replicate count 0 }
+    ensures items { out.new.items ≡ out.old.items ++ replicate count 0 }
+    ensures len { vec_len out.new ≡ vec_len out.old + count }
+    ensures room { vec_capacity out.old ≤ vec_capacity out.new }
 {
     append(out, &[0, 0, 0][..count]);
 }

@@ -1,17 +1,20 @@
-//! Chunks from bytes: header, length and padding in the stated order, then the body (RFC 9260, 3.2).
+//! Chunks from bytes: header, length, padding, body and list of each in the stated order, then where they stand
+//! (RFC 9260, 3.2).
 
-ghost use Rattle.std.specs.Prelude.{◌≡◌, ◌*◌, ◌≤◌, length, ◌<◌, ◌^◌, MatchResult, IfOk, List, Ok, Err};
+ghost use Rattle.std.specs.Prelude.{◌≡◌, ◌*◌, ◌≤◌, length, true, ◌<◌, ◌^◌, MatchResult, IfOk, IfErr, List, Ok, Err};
 ghost use Rattle.std.specs.Iterator.{YieldsFirstBy, item_count};
 ghost use Rattle.sctp_model.specs.Chunk.{ChunkMeaning};
+ghost use Rattle.sctp_model.specs.Places.{is_misplaced, misplaced_from};
 ghost use Rattle.sctp_wire.specs.ChunkTree.{chunk_meaning};
+ghost use Rattle.sctp_wire.specs.FaultTree.{offset_of};
 ghost use Rattle.sctp_wire.specs.FirstFault.{stated_length, Faults};
-ghost use Rattle.sctp_wire.specs.Reading.{frame_at, chunk_at, IsWhole};
+ghost use Rattle.sctp_wire.specs.Reading.{frame_at, chunk_at, chunks_of, AreChunks, IsWhole};
 ghost use Rattle.sctp_wire.specs.Reads.{Reads};
 
-use crate::bodies::read_body;
-use crate::chunk::Chunk;
-use crate::fault::WireFault;
-use crate::numbers::{padded, read_half};
+use crate::chunk::{Chunk, is_laid_out, is_listed, read_body};
+use crate::codes::{COOKIE_ECHO, INIT, INIT_ACK, SHUTDOWN_COMPLETE};
+use crate::fault::{Reason, WireFault};
+use crate::numbers::{padded, read_u16};
 use std::marker::Model;
 
 /// The chunks that are still to come.
@@ -54,15 +57,18 @@ impl<'a> Iterator for Chunks<'a> {
     }
 }
 
-/// The chunks that bytes hold, one after another, each with its padding.
+/// The chunks that bytes hold, one after another, each with its padding and where it may stand.
 ///
 /// # Errors
-/// The fault of the first chunk that isn't whole or not of its layout, by the first check that fails.
+/// The fault of the first chunk that isn't whole, not of its layout or without a list of parameters or causes, by
+/// the first check that fails; where all are right, `NotAlone` at the first misplaced one.
 pub fn read_chunks(bytes: &[u8]) -> Result<Chunks<'_>, WireFault>
     // It answers one of the two, with the chunks that the bytes are or with their fault.
     ensures exact { MatchResult result (λ chunks. Reads bytes.now chunks) (λ fault. Faults bytes.now fault) }
     // Each takes four bytes at least.
     ensures few { IfOk result (λ chunks. 4 * length chunks ≤ length bytes.now) }
+    // A fault is within the bytes.
+    ensures within { IfErr result (λ fault. offset_of fault ≤ length bytes.now) }
     // Where the bytes are chunks, it is these.
     ensures chunks { (ms : List ChunkMeaning) → Reads bytes.now ms
         → MatchResult result (λ chunks. chunks ≡ ms) (λ _. ⊥) }
@@ -74,44 +80,80 @@ pub fn read_chunks(bytes: &[u8]) -> Result<Chunks<'_>, WireFault>
     while !rest.is_empty() {
         match first_chunk(rest) {
             Ok((_, after)) => rest = after,
-            Err(fault) => return Err(fault.moved_by(bytes.len() - rest.len())),
+            Err(reason) => return Err(reason.at(bytes.len() - rest.len())),
         }
     }
-    Ok(Chunks { rest: bytes })
+    match misplaced(bytes) {
+        Some(offset) => Err(WireFault::NotAlone { offset }),
+        None => Ok(Chunks { rest: bytes }),
+    }
 }
 
-/// The first chunk and what follows it, or its fault as one at 0.
+/// Where the first misplaced one of these chunks begins.
+fn misplaced(bytes: &[u8]) -> Option<usize>
+    requires { AreChunks bytes.now }
+    ensures { result ≡ misplaced_from 0 true (chunks_of bytes.now) }
+{
+    let mut rest = bytes;
+    while !rest.is_empty() {
+        match first_chunk(rest) {
+            Ok((_, after)) => {
+                if is_misplaced(rest.len() == bytes.len(), after.is_empty(), rest[0]) {
+                    return Some(bytes.len() - rest.len());
+                }
+                rest = after;
+            }
+            Err(_) => unreachable!(),
+        }
+    }
+    None
+}
+
+/// Whether a chunk of this type is misplaced, as the first one or not and the last one or not.
+#[tactic(auto, unfolding(sctp_model::specs::Places::is_misplaced))]
+fn is_misplaced(first: bool, last: bool, kind: u8) -> bool
+    ensures { result ≡ is_misplaced first last kind }
+{
+    let alone = kind == INIT || kind == INIT_ACK || kind == SHUTDOWN_COMPLETE;
+    (alone && !(first && last)) || (kind == COOKIE_ECHO && !first)
+}
+
+/// The first chunk and what follows it, or what is wrong with it.
 #[tactic(auto, unfolding(crate::specs::Reading::chunk_at))]
-fn first_chunk(bytes: &[u8]) -> Result<(Chunk<'_>, &[u8]), WireFault>
+fn first_chunk(bytes: &[u8]) -> Result<(Chunk<'_>, &[u8]), Reason>
     ensures { MatchResult result (λ found. chunk_at bytes.now ≡ Ok (chunk_meaning found.0, found.1.now))
-        (λ fault. chunk_at bytes.now ≡ Err fault) }
+        (λ reason. chunk_at bytes.now ≡ Err reason) }
 {
     let size = frame(bytes)?;
-    match read_body(bytes[0], bytes[1], &bytes[4..size]) {
-        Some(chunk) => Ok((chunk, &bytes[padded(size)..])),
-        None => Err(WireFault::ChunkBody { offset: 0 }),
+    let (kind, value) = (bytes[0], &bytes[4..size]);
+    if !is_laid_out(kind, value) {
+        return Err(Reason::HasOtherBody);
     }
+    if !is_listed(kind, value) {
+        return Err(Reason::HasNoList);
+    }
+    Ok((read_body(kind, bytes[1], value), &bytes[padded(size)..]))
 }
 
 /// The length field of the first chunk, where the header, the length and the padding are right.
 #[tactic(auto, unfolding(crate::specs::Reading::frame_at))]
-fn frame(bytes: &[u8]) -> Result<usize, WireFault>
+fn frame(bytes: &[u8]) -> Result<usize, Reason>
     ensures exact { result ≡ frame_at bytes.now }
     ensures whole { IfOk result
         (λ size. IsWhole bytes.now × (size ≡ stated_length bytes.now) × (size < 2 ^ 16)) }
 {
     if bytes.len() < 4 {
-        return Err(WireFault::Cut { offset: 0 });
+        return Err(Reason::IsCut);
     }
-    let size = usize::from(read_half(&bytes[2..]));
+    let size = usize::from(read_u16(&bytes[2..]));
     if size < 4 {
-        return Err(WireFault::LengthTooSmall { offset: 0 });
+        return Err(Reason::HasShortLength);
     }
     if bytes.len() < size {
-        return Err(WireFault::Cut { offset: 0 });
+        return Err(Reason::IsCut);
     }
     if bytes.len() < padded(size) {
-        return Err(WireFault::PaddingMissing { offset: 0 });
+        return Err(Reason::LacksPadding);
     }
     Ok(size)
 }

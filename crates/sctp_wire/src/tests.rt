@@ -1,161 +1,139 @@
 //! Worked chunks both ways, and the faults of bytes that are none. Bytes are spaced by field.
 
 use crate::{
-    Blocks, Chunk, GapBlock, Piece, Sack, WireFault, Words, chunks_are_read, chunks_join,
-    one_reading, put_block, put_word, read_chunks, write_chunk, written_reads,
+    Blocks, Causes, Chunk, Forward, GapBlock, Init, Parameters, Piece, Rule, Sack, Skip, SkipForm,
+    Skips, WireFault, Words, chunks_are_read, chunks_join, is_typed_list, one_reading, put_block,
+    put_cause, put_parameter, put_skip, put_word, read_chunks, typed_one_reading, unknown_chunk,
+    unknown_parameter, write_chunk, written_each_reads, written_reads,
 };
 use std::test::Fail;
 
-// DATA with B and E, TSN 1, stream 0, SSN 0, payload protocol identifier 0, data `Hi`.
-const HI: [u8; 20] = [
-    0x00, 0x03, 0x00, 0x12, 0, 0, 0, 1, 0, 0, 0, 0, 0, 0, 0, 0, 0x48, 0x69, 0, 0,
+// Chunks as they are written: they read, fit and are written again as the same bytes.
+const WORKED: [&[u8]; 14] = [
+    // DATA with B and E, TSN 1, stream 0, SSN 0, payload protocol identifier 0, data `Hi`
+    &[
+        0x00, 0x03, 0x00, 0x12, 0, 0, 0, 1, 0, 0, 0, 0, 0, 0, 0, 0, 0x48, 0x69, 0, 0,
+    ],
+    // I-DATA with E, TSN 5, stream 2, MID 1, FSN 1, data `aa`
+    &[
+        0x40, 0x01, 0x00, 0x15, 0, 0, 0, 5, 0, 2, 0, 0, 0, 0, 0, 1, 0, 0, 0, 1, 0xaa, 0, 0, 0,
+    ],
+    // SACK with cumulative TSN 10, a_rwnd 65,536, seen 12, 13 and 15
+    &[
+        0x03, 0x00, 0x00, 0x18, 0, 0, 0, 0x0a, 0, 1, 0, 0, 0, 2, 0, 0, 0, 2, 0, 3, 0, 5, 0, 5,
+    ],
+    // FORWARD-TSN to 7, stream 3, SSN 65,535
+    &[0xc0, 0x00, 0x00, 0x0c, 0, 0, 0, 7, 0, 3, 0xff, 0xff],
+    // I-FORWARD-TSN to 7, stream 3, unordered, MID 9
+    &[0xc2, 0x00, 0x00, 0x10, 0, 0, 0, 7, 0, 3, 0, 1, 0, 0, 0, 9],
+    // INIT with tag 1, a_rwnd 65,536, one stream each way, TSN 1, partial reliability, extensions 64, 192 and 194
+    &[
+        0x01, 0x00, 0x00, 0x1f, 0, 0, 0, 1, 0, 1, 0, 0, 0, 1, 0, 1, 0, 0, 0, 1, 0xc0, 0, 0, 4,
+        0x80, 0x08, 0, 7, 0x40, 0xc0, 0xc2, 0,
+    ],
+    &[0x04, 0x00, 0x00, 0x04],
+    // ABORT with T and cause 9
+    &[0x06, 0x01, 0x00, 0x0c, 0, 9, 0, 8, 0, 0, 0, 0x64],
+    &[0x07, 0x00, 0x00, 0x08, 0, 0, 0, 9],
+    &[0x08, 0x00, 0x00, 0x04],
+    // ERROR with cause 3
+    &[0x09, 0x00, 0x00, 0x0c, 0, 3, 0, 8, 0, 0, 3, 0xe8],
+    &[0x0a, 0x00, 0x00, 0x05, 0xcc, 0, 0, 0],
+    &[0x0e, 0x01, 0x00, 0x04],
+    &[0x3f, 0xa5, 0x00, 0x05, 0x99, 0, 0, 0],
 ];
 
-// SACK with cumulative TSN 10, a_rwnd 65,536, seen 12, 13 and 15.
-const SEEN: [u8; 24] = [
-    0x03, 0x00, 0x00, 0x18, 0, 0, 0, 0x0a, 0, 1, 0, 0, 0, 2, 0, 0, 0, 2, 0, 3, 0, 5, 0, 5,
-];
-
-fn hi() -> Piece<'static> {
-    Piece {
-        immediate: false,
-        unordered: false,
-        begin: true,
-        end: true,
-        tsn: 1,
-        stream: 0,
-        number: 0,
-        word: 0,
-        bytes: b"Hi",
-    }
-}
-
 #[test]
-fn data_reads(rt: HostRuntime) -> Result<(), Fail> {
-    let mut chunks = read_chunks(&HI)?;
-    match chunks.next() {
-        Some(Chunk::Data(piece)) => {
-            assert_eq!(rt; (piece.immediate, piece.unordered), (false, false));
-            assert_eq!(rt; (piece.begin, piece.end), (true, true));
-            assert_eq!(rt; (piece.tsn, piece.stream), (1, 0));
-            assert_eq!(rt; (piece.number, piece.word), (0, 0));
-            assert_eq!(rt; piece.bytes, b"Hi".as_slice());
+fn worked_chunks_are_read_and_written_again(rt: HostRuntime) -> Result<(), Fail> {
+    for bytes in WORKED {
+        let mut chunks = read_chunks(bytes)?;
+        let mut out = Vec::new(rt.alloc());
+        match chunks.next() {
+            Some(chunk) => {
+                assert!(rt; chunk.fits());
+                assert_eq!(rt; chunk.written_length(), bytes.len());
+                write_chunk(&chunk, &mut out)?;
+            }
+            None => assert!(rt; false, "no chunk"),
         }
-        _ => assert!(rt; false, "no DATA"),
+        assert_eq!(rt; out.as_slice(), bytes);
+        assert!(rt; chunks.next().is_none());
     }
-    assert!(rt; chunks.next().is_none());
     Ok(())
 }
 
 #[test]
-fn data_is_written(rt: HostRuntime) -> Result<(), Fail> {
-    let mut out = Vec::new(rt.alloc());
-    let chunk = Chunk::Data(hi());
-    assert!(rt; chunk.fits());
-    assert_eq!(rt; chunk.written_length(), 20);
-    write_chunk(&chunk, &mut out)?;
-    assert_eq!(rt; out.as_slice(), HI.as_slice());
-    Ok(())
-}
-
-#[test]
-fn a_sack_reads(rt: HostRuntime) -> Result<(), Fail> {
-    let mut chunks = read_chunks(&SEEN)?;
-    match chunks.next() {
-        Some(Chunk::Sack(sack)) => {
-            assert_eq!(rt; (sack.cumulative, sack.rwnd), (10, 65_536));
-            assert_eq!(rt; (sack.blocks.len(), sack.duplicates.len()), (2, 0));
-            let mut blocks = sack.blocks.iter();
-            assert_eq!(rt; blocks.next(), Some(GapBlock { start: 2, end: 3 }));
-            assert_eq!(rt; blocks.next(), Some(GapBlock { start: 5, end: 5 }));
-            assert_eq!(rt; blocks.next(), None);
+fn fields_are_read_where_they_stand(rt: HostRuntime) -> Result<(), Fail> {
+    if let Some(Chunk::IData(piece)) = read_chunks(WORKED[1])?.next() {
+        assert_eq!(rt; (piece.immediate, piece.unordered), (false, false));
+        assert_eq!(rt; (piece.begin, piece.end), (false, true));
+        assert_eq!(rt; (piece.tsn, piece.stream), (5, 2));
+        assert_eq!(rt; (piece.number, piece.word), (1, 1));
+        assert_eq!(rt; piece.bytes, [0xaa].as_slice());
+    } else {
+        assert!(rt; false, "no I-DATA");
+    }
+    if let Some(Chunk::IForwardTsn(forward)) = read_chunks(WORKED[4])?.next() {
+        assert_eq!(rt; (forward.cumulative, forward.skips.len()), (7, 1));
+        let skip = Skip {
+            stream: 3,
+            unordered: true,
+            number: 9,
+        };
+        assert_eq!(rt; forward.skips.iter().next(), Some(skip));
+    } else {
+        assert!(rt; false, "no I-FORWARD-TSN");
+    }
+    if let Some(Chunk::Init(init)) = read_chunks(WORKED[5])?.next() {
+        assert_eq!(rt; (init.tag, init.rwnd, init.tsn), (1, 65_536, 1));
+        assert_eq!(rt; (init.outbound, init.inbound), (1, 1));
+        let mut parameters = init.parameters.iter();
+        match (parameters.next(), parameters.next()) {
+            (Some(first), Some(second)) => {
+                assert_eq!(rt; (first.kind, second.kind), (0xc000, 0x8008));
+                assert_eq!(rt; second.value, [0x40, 0xc0, 0xc2].as_slice());
+            }
+            _ => assert!(rt; false, "no two parameters"),
         }
-        _ => assert!(rt; false, "no SACK"),
+        assert!(rt; parameters.next().is_none());
+    } else {
+        assert!(rt; false, "no INIT");
     }
-    assert!(rt; chunks.next().is_none());
     Ok(())
 }
 
 #[test]
-fn a_sack_is_written_from_lists(rt: HostRuntime) -> Result<(), Fail> {
-    let mut list = Vec::new(rt.alloc());
-    put_block(GapBlock { start: 2, end: 3 }, &mut list)?;
-    put_block(GapBlock { start: 5, end: 5 }, &mut list)?;
-    assert_eq!(rt; list.as_slice(), [0, 2, 0, 3, 0, 5, 0, 5].as_slice());
-    let chunk = Chunk::Sack(Sack {
-        cumulative: 10,
-        rwnd: 65_536,
-        blocks: Blocks::new(list.as_slice()),
-        duplicates: Words::none(),
-    });
-    assert!(rt; chunk.fits());
-    let mut out = Vec::new(rt.alloc());
-    write_chunk(&chunk, &mut out)?;
-    assert_eq!(rt; out.as_slice(), SEEN.as_slice());
-    Ok(())
-}
-
-#[test]
-fn duplicates_stay_in_order(rt: HostRuntime) -> Result<(), Fail> {
-    let mut list = Vec::new(rt.alloc());
-    put_word(7, &mut list)?;
-    put_word(0xffff_fffe, &mut list)?;
+fn lists_are_put_together(rt: HostRuntime) -> Result<(), Fail> {
+    let mut blocks = Vec::new(rt.alloc());
+    put_block(GapBlock { start: 2, end: 3 }, &mut blocks)?;
+    put_block(GapBlock { start: 5, end: 5 }, &mut blocks)?;
+    assert_eq!(rt; blocks.as_slice(), [0, 2, 0, 3, 0, 5, 0, 5].as_slice());
+    let mut words = Vec::new(rt.alloc());
+    put_word(0xffff_fffe, &mut words)?;
+    assert_eq!(rt; words.as_slice(), [255, 255, 255, 254].as_slice());
+    let mut skips = Vec::new(rt.alloc());
+    let skip = Skip {
+        stream: 3,
+        unordered: true,
+        number: 9,
+    };
+    put_skip(SkipForm::Wide, skip, &mut skips)?;
+    assert_eq!(rt; skips.as_slice(), [0, 3, 0, 1, 0, 0, 0, 9].as_slice());
+    let mut parameters = Vec::new(rt.alloc());
+    put_parameter(0x8008, &[0x40], &mut parameters)?;
+    put_parameter(0xc000, &[], &mut parameters)?;
     assert_eq!(rt;
-        list.as_slice(),
-        [0, 0, 0, 7, 255, 255, 255, 254].as_slice()
+        parameters.as_slice(),
+        [0x80, 8, 0, 5, 0x40, 0, 0, 0, 0xc0, 0, 0, 4].as_slice()
     );
-    let mut words = Words::new(list.as_slice()).iter();
-    assert_eq!(rt; words.next(), Some(7));
-    assert_eq!(rt; words.next(), Some(0xffff_fffe));
-    assert_eq!(rt; words.next(), None);
-    assert_eq!(rt; Blocks::none().len(), 0);
-    Ok(())
-}
-
-#[test]
-fn an_unknown_type_is_kept_both_ways(rt: HostRuntime) -> Result<(), Fail> {
-    let bytes = [0x3f, 0xa5, 0, 5, 0x99, 0, 0, 0];
-    let mut chunks = read_chunks(&bytes)?;
-    match chunks.next() {
-        Some(Chunk::Unknown { kind, flags, value }) => {
-            assert_eq!(rt; (kind, flags), (0x3f, 0xa5));
-            assert_eq!(rt; value, [0x99].as_slice());
-            let chunk = Chunk::Unknown { kind, flags, value };
-            assert!(rt; chunk.fits());
-            let mut out = Vec::new(rt.alloc());
-            write_chunk(&chunk, &mut out)?;
-            assert_eq!(rt; out.as_slice(), bytes.as_slice());
-        }
-        _ => assert!(rt; false, "no unknown chunk"),
-    }
-    Ok(())
-}
-
-#[test]
-fn nonzero_padding_and_unused_flags_are_ignored(rt: HostRuntime) -> Result<(), Fail> {
-    let bytes = [
-        0x00, 0xf3, 0x00, 0x11, 0, 0, 0, 1, 0, 0, 0, 0, 0, 0, 0, 0, 0x48, 0x69, 7, 9,
-    ];
-    let mut chunks = read_chunks(&bytes)?;
-    match chunks.next() {
-        Some(Chunk::Data(piece)) => {
-            assert_eq!(rt; (piece.immediate, piece.unordered), (false, false));
-            assert_eq!(rt; piece.bytes, b"H".as_slice());
-        }
-        _ => assert!(rt; false, "no DATA"),
-    }
-    assert!(rt; chunks.next().is_none());
-    Ok(())
-}
-
-#[test]
-fn no_bytes_are_no_chunk(rt: HostRuntime) -> Result<(), Fail> {
-    assert!(rt; read_chunks(&[])?.next().is_none());
+    let mut causes = Vec::new(rt.alloc());
+    put_cause(9, &[0, 0, 0, 0x64], &mut causes)?;
+    assert_eq!(rt; causes.as_slice(), [0, 9, 0, 8, 0, 0, 0, 0x64].as_slice());
     Ok(())
 }
 
 // Bytes, and their fault.
-const FAULTS: [(&[u8], WireFault); 9] = [
+const FAULTS: [(&[u8], WireFault); 12] = [
     (&[0x06, 0, 0, 3], WireFault::LengthTooSmall { offset: 0 }),
     (&[0x06, 0, 0, 5], WireFault::Cut { offset: 0 }),
     (
@@ -165,65 +143,130 @@ const FAULTS: [(&[u8], WireFault); 9] = [
         WireFault::PaddingMissing { offset: 4 },
     ),
     (&[0x0b, 0, 0, 4, 1], WireFault::Cut { offset: 4 }),
-    (&[0x0b, 0, 0, 4, 1, 2], WireFault::Cut { offset: 4 }),
-    (&[0x0b, 0, 0, 4, 1, 2, 3], WireFault::Cut { offset: 4 }),
-    // DATA without its last field.
+    // DATA without its last field, a SACK that counts a block more than it has
     (
         &[0x00, 3, 0, 12, 0, 0, 0, 1, 0, 0, 0, 0],
         WireFault::ChunkBody { offset: 0 },
     ),
-    // A SACK that counts a block more than it has.
     (
         &[0x03, 0, 0, 16, 0, 0, 0, 10, 0, 1, 0, 0, 0, 1, 0, 0],
         WireFault::ChunkBody { offset: 0 },
     ),
-    // A SACK with four bytes that it doesn't count.
+    // an I-FORWARD-TSN with half an entry, a COOKIE ACK with a value
     (
-        &[
-            0x03, 0, 0, 20, 0, 0, 0, 10, 0, 1, 0, 0, 0, 0, 0, 0, 0, 0, 0, 9,
-        ],
+        &[0xc2, 0, 0, 12, 0, 0, 0, 7, 0, 3, 0, 1],
         WireFault::ChunkBody { offset: 0 },
+    ),
+    (
+        &[0x0b, 0, 0, 8, 0, 0, 0, 0],
+        WireFault::ChunkBody { offset: 0 },
+    ),
+    // causes that are no list
+    (
+        &[0x09, 0, 0, 8, 0, 3, 0, 8],
+        WireFault::ParameterLength { offset: 0 },
+    ),
+    (
+        &[0x09, 0, 0, 8, 0, 3, 0, 3],
+        WireFault::ParameterLength { offset: 0 },
+    ),
+    // a SHUTDOWN COMPLETE and a COOKIE ECHO behind a COOKIE ACK
+    (
+        &[0x0b, 0, 0, 4, 0x0e, 0, 0, 4],
+        WireFault::NotAlone { offset: 4 },
+    ),
+    (
+        &[0x0b, 0, 0, 4, 0x0a, 0, 0, 4],
+        WireFault::NotAlone { offset: 4 },
     ),
 ];
 
 #[test]
-fn the_first_check_that_fails_is_the_fault(rt: HostRuntime) {
+fn the_first_check_that_fails_is_the_fault(rt: HostRuntime) -> Result<(), Fail> {
     for (bytes, fault) in FAULTS {
         assert_eq!(rt; read_chunks(bytes).err(), Some(fault));
     }
+    assert!(rt; read_chunks(&[])?.next().is_none());
+    // COOKIE ECHO first; nonzero padding; a counted final padding of a cause
+    assert!(rt; read_chunks(&[0x0a, 0, 0, 4, 0x0b, 0, 0, 4]).is_ok());
+    assert!(rt; read_chunks(&[0x0a, 0, 0, 5, 1, 7, 7, 7]).is_ok());
+    assert!(rt; read_chunks(&[0x09, 0, 0, 12, 0, 1, 0, 5, 1, 9, 9, 9]).is_ok());
     assert_eq!(rt;
-        WireFault::Cut { offset: 4 }.moved_by(12),
-        WireFault::Cut { offset: 16 }
+        WireFault::NotAlone { offset: 4 }.moved_by(12),
+        WireFault::NotAlone { offset: 16 }
     );
+    Ok(())
 }
 
 #[test]
-fn a_chunk_past_its_bits_does_not_fit(rt: HostRuntime) -> Result<(), Fail> {
+fn what_is_not_as_it_is_written_does_not_fit(rt: HostRuntime) -> Result<(), Fail> {
     let wide = Piece {
+        immediate: false,
+        unordered: false,
+        begin: true,
+        end: true,
+        tsn: 1,
+        stream: 0,
         number: 65_536,
-        ..hi()
+        word: 0,
+        bytes: b"Hi",
     };
     assert!(rt; !Chunk::Data(wide).fits());
-    let known = Chunk::Unknown {
-        kind: 3,
-        flags: 0,
-        value: &[],
+    assert!(rt; Chunk::IData(wide).fits());
+    assert!(rt;
+        !Chunk::Unknown {
+            kind: 9,
+            flags: 0,
+            value: &[]
+        }
+        .fits()
+    );
+    let reserved = Skips::new(SkipForm::Wide, &[0, 3, 0, 3, 0, 0, 0, 9]);
+    assert!(rt;
+        !Chunk::IForwardTsn(Forward {
+            cumulative: 7,
+            skips: reserved
+        })
+        .fits()
+    );
+    let counted = [0, 1, 0, 5, 1, 0, 0, 0];
+    assert!(rt; is_typed_list(&counted));
+    assert!(rt;
+        !Chunk::Error {
+            causes: Causes::new(&counted)
+        }
+        .fits()
+    );
+    let init = Init {
+        tag: 1,
+        rwnd: 0,
+        outbound: 1,
+        inbound: 1,
+        tsn: 1,
+        parameters: Parameters::none(),
     };
-    assert!(rt; !known.fits());
-    let bytes = vec![in rt.alloc(); 0u8; 65_532]?;
-    let longest = Chunk::Unknown {
-        kind: 0x3f,
-        flags: 0,
-        value: &bytes[..65_531],
+    assert!(rt; Chunk::InitAck(init).fits());
+    let sack = Sack {
+        cumulative: 1,
+        rwnd: 0,
+        blocks: Blocks::none(),
+        duplicates: Words::none(),
     };
-    assert!(rt; longest.fits());
-    let long = Chunk::Unknown {
-        kind: 0x3f,
-        flags: 0,
-        value: &bytes,
-    };
-    assert!(rt; !long.fits());
+    assert!(rt; Chunk::Sack(sack).fits());
     Ok(())
+}
+
+#[test]
+fn unknown_types_go_by_their_two_highest_bits(rt: HostRuntime) {
+    let rules = [(true, false), (true, true), (false, false), (false, true)];
+    for (place, kind) in [0x3fu8, 0x7f, 0x80, 0xff].iter().enumerate() {
+        let (stop, report) = rules[place];
+        assert_eq!(rt; unknown_chunk(*kind), Rule { stop, report });
+        assert_eq!(rt;
+            unknown_parameter(u16::from(*kind) * 256),
+            Rule { stop, report }
+        );
+    }
 }
 
 #[test]
@@ -231,5 +274,7 @@ fn the_laws_are_there() {
     one_reading();
     chunks_are_read();
     written_reads();
+    written_each_reads();
     chunks_join();
+    typed_one_reading();
 }

@@ -1,0 +1,6 @@
+-- What a rule for an unknown type says.
+use Rattle.sctp_model.specs.Unknown.{RuleMeaning}
+use Rattle.sctp_wire.specs.declared.unknown.Rule.{Rule}
+
+abbrev pub rule_meaning : Rule → RuleMeaning
+rule_meaning r = record { stop = r.stop; report = r.report }

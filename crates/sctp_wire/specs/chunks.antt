@@ -1,0 +1,4 @@
+pub mod Piece
+pub mod Init
+pub mod Sack
+pub mod Forward

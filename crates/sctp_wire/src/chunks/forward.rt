@@ -1,0 +1,55 @@
+//! FORWARD-TSN and I-FORWARD-TSN: what a sender has given up (RFC 3758, 3.2; RFC 8260, 2.3.1).
+
+ghost use Rattle.std.specs.Prelude.{◌≡◌, ◌+◌, ◌*◌, ◌≤◌, ◌<◌, ◌^◌, true, ◌++◌, length, vec_len, vec_capacity};
+ghost use Rattle.std.specs.List.{AllByRecursion};
+ghost use Rattle.sctp_wire.specs.ChunkTree.{forward_meaning};
+ghost use Rattle.sctp_wire.specs.Skips.{IsSkip, skip_size};
+ghost use Rattle.sctp_wire.specs.chunks.Forward.{forward_value, is_forward_value, forward_at};
+
+use crate::numbers::{append_u32, read_u32};
+use crate::skips::{SkipForm, Skips, append_skips};
+
+/// What a sender has given up.
+#[derive(Debug, Drop)]
+pub struct Forward<'a> {
+    /// The new cumulative TSN: all up to it count as seen.
+    pub cumulative: u32,
+    /// Of each stream and kind the largest number that is skipped.
+    pub skips: Skips<'a>,
+}
+
+/// Whether there is a cumulative TSN, and behind it whole entries.
+pub fn is_forward(form: SkipForm, value: &[u8]) -> bool
+    ensures { result ≡ is_forward_value form value.now }
+{
+    value.len() >= 4 && (value.len() - 4) % form.size() == 0
+}
+
+/// The value of FORWARD-TSN and of I-FORWARD-TSN (RFC 3758, 3.2; RFC 8260, 2.3.1).
+///
+/// | at | size | field |
+/// |---|---|---|
+/// | 0 | 4 | new cumulative TSN |
+/// | 4 | 4 or 8 each | entries: see `SkipForm` |
+#[tactic(auto, unfolding(crate::specs::chunks::Forward::forward_at))]
+pub fn read_forward(form: SkipForm, value: &[u8]) -> Forward<'_>
+    requires { is_forward_value form value.now ≡ true }
+    ensures { forward_meaning result ≡ forward_at form value.now }
+{
+    Forward {
+        cumulative: read_u32(value),
+        skips: Skips::new(form, &value[4..]),
+    }
+}
+
+/// Appends the value, its reserved bits zero.
+pub fn append_forward(form: SkipForm, out: &mut Vec<u8>, forward: &Forward<'_>)
+    requires in_range { AllByRecursion (IsSkip form) forward.now.skips.skips }
+    requires spare { vec_len out.old + 4 + skip_size form * length forward.now.skips.skips ≤ vec_capacity out.old }
+    ensures items { out.new.items ≡ out.old.items ++ forward_value form (forward_meaning forward.now) }
+    ensures len { vec_len out.new ≡ vec_len out.old + 4 + skip_size form * length forward.now.skips.skips }
+    ensures room { vec_capacity out.old ≤ vec_capacity out.new }
+{
+    append_u32(out, forward.cumulative);
+    append_skips(form, out, &forward.skips);
+}
