@@ -4,37 +4,45 @@ use Rattle.std.specs.Prelude.{nat_le, max, true, false}
 use Rattle.std.specs.List.{flat_map, AllByRecursion}
 use Rattle.std.proofs.lemmas.List.{take_all, append-nil, length-take, take-append-drop, nil_from_length, take-append-le, drop-append-le}
 use Rattle.std.proofs.lemmas.Grind.{common_steps, flat_map-append}
-use Rattle.sctp_model.specs.Chunk.{ChunkMeaning, Data, Sack, size_of_chunk}
+use Rattle.sctp_model.specs.Chunk.{ChunkMeaning, Data, Init, InitAck, Sack, IData, ForwardTsn, IForwardTsn, chunk_length, size_of_chunk}
 use Rattle.sctp_model.specs.Packet.{Packet, HEADER_ROOM, size_of_chunks, size_of_packet}
 use Rattle.sctp_wire.specs.Layouts.{Fits}
-use Rattle.sctp_wire.specs.Reading.{chunks_of, reading_of}
+use Rattle.sctp_wire.specs.Reading.{chunks_of, each_of}
 use Rattle.sctp_wire.specs.Reads.{Reads}
 use Rattle.sctp_wire.specs.Writes.{written, Writes}
 use Rattle.byteorder.specs.Endian.{little_bytes}
 use Rattle.sctp_packet.specs.Checksum.{crc32c}
 use Rattle.sctp_packet.specs.PacketBytes.{header_bytes, with_sum, packet_bytes, IsHeader, WritesPacket}
 use Rattle.sctp_packet.specs.Draft.{with_header, IsDraft}
-use Rattle.sctp_packet.proofs.WrittenLengths.{size_of_written}
+use Rattle.sctp_wire.proofs.WriteLemmas.{length-written}
 
 -- ---- sizes
 
-size_of_all_written : (ms : List ChunkMeaning) → AllByRecursion Fits ms → length (flat_map written ms) ≡ size_of_chunks ms
-size_of_all_written [] all = refl
-size_of_all_written (m ∷ ms) all =
-    omega (arith, length-append (written m) (flat_map written ms), size_of_written m all.0, size_of_all_written ms all.1)
+size_of_all_written : (ms : List ChunkMeaning) → length (flat_map written ms) ≡ size_of_chunks ms
+size_of_all_written [] = refl
+size_of_all_written (m ∷ ms) =
+    omega (arith, length-append (written m) (flat_map written ms), length-written m, size_of_all_written ms)
 
 pub size_of_writes : (bytes : List ℕ) (ms : List ChunkMeaning) → Writes bytes ms → length bytes ≡ size_of_chunks ms
-size_of_writes bytes ms w = ap length w.bytes_are ∙ size_of_all_written ms w.fits
+size_of_writes bytes ms w = ap length w.bytes_are ∙ size_of_all_written ms
 
 pub size_of_more : (ms : List ChunkMeaning) (m : ChunkMeaning) → size_of_chunks (ms ++ m ∷ []) ≡ size_of_chunks ms + size_of_chunk m
 size_of_more [] m = omega arith
 size_of_more (x ∷ ms) m = omega (arith, size_of_more ms m)
 
 -- every chunk takes some room
+least_length : (m : ChunkMeaning) → 4 ≤ chunk_length m
+least_length (Data p) = omega arith
+least_length (Init i) = omega arith
+least_length (InitAck i) = omega arith
+least_length (Sack s) = omega arith
+least_length (IData p) = omega arith
+least_length (ForwardTsn f) = omega arith
+least_length (IForwardTsn f) = omega arith
+least_length m = omega arith
+
 pub size_some : (m : ChunkMeaning) → 0 < size_of_chunk m
-size_some (Data p) = omega arith
-size_some (Sack s) = omega arith
-size_some m = omega arith
+size_some m = omega (arith, least_length m)
 
 -- ---- what is written, and read back
 
@@ -43,7 +51,7 @@ all-append [] ns p q = q
 all-append (m ∷ ms) ns p q = (p.0, all-append ms ns p.1 q)
 
 no_chunks : chunks_of [] ≡ []
-unfolding reading_of
+unfolding each_of
 no_chunks = refl
 
 writes_none : Writes [] []
@@ -125,7 +133,7 @@ draft_put limit header bytes after m twelve law d fits room is =
       draft = record {
         front = λ some. rw (is, take-append-le HEADER_ROOM front (written m) long) (header_first header twelve limit bytes d);
         writes = subst (λ (ms : List ChunkMeaning). Writes (drop HEADER_ROOM after) ms) (sym same) more;
-        within = λ some. omega (arith, ap length is, length-append front (written m), draft_size header twelve limit bytes d, size_of_more (chunks_of (drop HEADER_ROOM bytes)) m, size_of_written m fits);
+        within = λ some. omega (arith, ap length is, length-append front (written m), draft_size header twelve limit bytes d, size_of_more (chunks_of (drop HEADER_ROOM bytes)) m, length-written m);
       };
       chunks = same;
     }

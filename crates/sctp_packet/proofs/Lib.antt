@@ -4,7 +4,6 @@ pub mod RegisterLemmas
 pub mod BitLemmas
 pub mod ChecksumLaws
 pub mod StandardFacts
-pub mod WrittenLengths
 pub mod HeaderLemmas
 pub mod PacketLemmas
 pub mod DraftLemmas

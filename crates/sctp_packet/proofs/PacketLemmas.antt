@@ -1,16 +1,15 @@
 -- A packet and its bytes: what is read says all of the bytes, so that there is one packet or one fault, and what is written reads back.
 use Rattle.std.proofs.Common.{◌≡◌, ℕ, zero, suc, ◌+◌, ◌-◌, ◌*◌, ◌^◌, ◌<◌, ◌≤◌, ◌⊎◌, inl, inr, List, [], ◌∷◌, ◌++◌, length, take, drop, get_or, refl, sym, ap, subst, ◌∙◌, arith, length-append, length-drop}
-use Rattle.std.proofs.lemmas.List.{nil_from_length}
+use Rattle.std.proofs.lemmas.List.{take_all}
 use Rattle.std.proofs.lemmas.Bool.{cases_lt, cases_eq}
 use Rattle.byteorder.specs.Endian.{big_number, little_number}
 use Rattle.sctp_model.specs.Chunk.{ChunkMeaning}
 use Rattle.sctp_model.specs.Packet.{Packet, HEADER_ROOM}
 use Rattle.sctp_wire.specs.declared.fault.WireFault.{WireFault}
-use Rattle.sctp_wire.specs.declared.fault.WireFault.TheVariants.{Cut, LengthTooSmall, PaddingMissing, ChunkBody}
-use Rattle.sctp_wire.specs.FirstFault.{Faults, FaultsAt}
+use Rattle.sctp_wire.specs.FirstFault.{Faults}
 use Rattle.sctp_wire.specs.Laws as wire
-use Rattle.sctp_wire.specs.Reading.{moved, offset_of}
-use Rattle.sctp_wire.specs.Reads.{Reads}
+use Rattle.sctp_wire.specs.FaultTree.{moved}
+use Rattle.sctp_wire.specs.Reads.{ReadsEach, Reads}
 use Rattle.sctp_wire.specs.Writes.{Writes}
 use Rattle.sctp_packet.specs.Checksum.{crc32c}
 use Rattle.sctp_packet.specs.declared.fault.PacketFault.{PacketFault}
@@ -21,19 +20,19 @@ use Rattle.sctp_packet.proofs.HeaderLemmas.{AreLow, low_behind, length-with_sum,
 
 -- ---- what stands behind the header
 
-reads_none : (ms : List ChunkMeaning) → Reads [] ms → ms ≡ []
-reads_none [] h = refl
-reads_none (m ∷ ms) h =
-    let joined = ap length h.2 in
-    let layout = ap length h.3.layout in
-    absurd (omega (arith, length-append h.0 h.1))
+pub all_behind : (n : ℕ) (xs : List ℕ) → take (length xs - n) (drop n xs) ≡ drop n xs
+all_behind n xs = take_all (length xs - n) (drop n xs) (omega (arith, length-drop n xs))
 
-reads_some : (body : List ℕ) (ms : List ChunkMeaning) → Reads body ms → (ms ≡ [] → ⊥) → 0 < length body
-reads_some body [] h some = absurd (some refl)
-reads_some body (m ∷ ms) h some =
+each_some : (body : List ℕ) (ms : List ChunkMeaning) → ReadsEach body ms → (ms ≡ [] → ⊥) → 0 < length body
+each_some body [] h some = absurd (some refl)
+each_some body (m ∷ ms) h some =
     let joined = ap length h.2 in
     let layout = ap length h.3.layout in
     omega (arith, length-append h.0 h.1)
+
+each_none : (body : List ℕ) (ms : List ChunkMeaning) → ReadsEach body ms → ms ≡ [] → body ≡ []
+each_none body [] h none = h
+each_none body (m ∷ ms) h none = cc
 
 -- ---- what a packet says of its bytes
 
@@ -48,7 +47,7 @@ pub record IsRead (bytes : List ℕ) (p : Packet) : Type 0 where
 pub packet_parts : (bytes : List ℕ) (p : Packet) → ReadsPacket bytes p → IsRead bytes p
 packet_parts bytes p h =
     let sum = crc32c (with_sum p h.body 0) in
-    let some : 0 < length h.body = reads_some h.body p.chunks h.chunks h.some in
+    let some : 0 < length h.body = each_some h.body p.chunks h.chunks.each h.some in
     let parts : IsRead (packet_bytes p h.body) p = record {
       long = omega (arith, length-with_sum p h.body sum);
       checked = packet_is_checked p h.body;
@@ -69,7 +68,7 @@ packet_whole bytes p low header h =
       layout = sym (ap (with_sum p body) (sym (h.checked ∙ ap crc32c left_out)) ∙ back);
       header = header;
       chunks = h.chunks;
-      some = λ none. let empty : Reads body [] = subst (λ (ms : List ChunkMeaning). Reads body ms) none h.chunks in absurd (omega (arith, h.long, ap length empty, length-drop HEADER_ROOM bytes));
+      some = λ none. absurd (omega (arith, h.long, ap length (each_none body p.chunks h.chunks.each none), length-drop HEADER_ROOM bytes));
     }
 
 -- ---- one packet, one fault

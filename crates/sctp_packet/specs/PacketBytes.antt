@@ -4,7 +4,7 @@ use Rattle.byteorder.specs.Endian.{big_bytes, little_bytes, little_number}
 use Rattle.sctp_model.specs.Chunk.{ChunkMeaning}
 use Rattle.sctp_model.specs.Packet.{Packet, HEADER_ROOM}
 use Rattle.sctp_wire.specs.declared.fault.WireFault.{WireFault}
-use Rattle.sctp_wire.specs.Reading.{moved}
+use Rattle.sctp_wire.specs.FaultTree.{moved}
 use Rattle.sctp_wire.specs.Reads.{Reads}
 use Rattle.sctp_wire.specs.Writes.{Writes}
 use Rattle.sctp_wire.specs.FirstFault.{Faults}

@@ -12,7 +12,7 @@ ghost use Rattle.sctp_packet.specs.Draft.{with_header, packet_of, empty_draft, r
 
 use crate::checksum::{HEADER, SUM_AT, crc32c};
 use byteorder::{ByteOrder, LittleEndian};
-use sctp_wire::{Chunk, NoMemory, chunks_are_read, write_chunk, written_reads};
+use sctp_wire::{Chunk, NoMemory, chunks_are_read, write_chunk, written_each_reads};
 use std::alloc::Global;
 use std::marker::Model;
 
@@ -86,7 +86,7 @@ impl PacketWriter {
             return Ok(false);
         }
         // The laws give that the bytes with this chunk read as the chunks with it.
-        written_reads();
+        written_each_reads();
         chunks_are_read();
         let header = header(self.source, self.destination, self.tag);
         put(&mut self.bytes, &header, chunk)?;

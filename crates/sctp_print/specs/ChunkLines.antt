@@ -59,7 +59,10 @@ kind_word x = decimal x.kind
 
 -- ---- lines
 
--- the words of a DATA, an I-DATA with B (its payload id stands in its word) and one without (its FSN does)
+-- what the word of an I-DATA is: the payload protocol identifier of a first fragment, else the FSN
+abbrev pub word_name : Bool → List ℕ
+word_name begin = if begin then codes "id" else codes "fsn"
+
 abbrev pub data_words : PieceMeaning → List (List ℕ)
 data_words p =
     codes "DATA" ∷ flags_word p ∷ codes "tsn" ∷ decimal p.tsn ∷ codes "stream" ∷ decimal p.stream ∷ codes "ssn" ∷ decimal p.number
@@ -68,7 +71,7 @@ data_words p =
 abbrev pub i_data_words : PieceMeaning → List (List ℕ)
 i_data_words p =
     codes "I-DATA" ∷ flags_word p ∷ codes "tsn" ∷ decimal p.tsn ∷ codes "stream" ∷ decimal p.stream ∷ codes "mid" ∷ decimal p.number
-    ∷ (if p.begin then codes "id" else codes "fsn") ∷ decimal p.word ∷ codes "data" ∷ hex_word p.bytes ∷ []
+    ∷ word_name p.begin ∷ decimal p.word ∷ codes "data" ∷ hex_word p.bytes ∷ []
 
 abbrev pub init_words : List ℕ → InitMeaning → List (List ℕ)
 init_words name i =

@@ -7,9 +7,9 @@ use Rattle.sctp_model.specs.Chunk.{ChunkMeaning}
 use Rattle.sctp_model.specs.Packet.{Packet}
 use Rattle.sctp_text.specs.SpacedWords.{line_of}
 use Rattle.sctp_wire.specs.declared.fault.WireFault.{WireFault}
-use Rattle.sctp_wire.specs.declared.fault.WireFault.TheVariants.{Cut, LengthTooSmall, PaddingMissing, ChunkBody}
+use Rattle.sctp_wire.specs.declared.fault.WireFault.TheVariants.{Cut, LengthTooSmall, PaddingMissing, ChunkBody, ParameterLength, NotAlone}
 use Rattle.sctp_wire.specs.FirstFault.{Faults}
-use Rattle.sctp_wire.specs.Reading.{offset_of}
+use Rattle.sctp_wire.specs.FaultTree.{offset_of}
 use Rattle.sctp_wire.specs.Reads.{Reads}
 use Rattle.sctp_packet.specs.PacketBytes.{ReadsPacket, FaultsPacket}
 use Rattle.sctp_packet.specs.declared.fault.PacketFault.{PacketFault}
@@ -24,6 +24,8 @@ fault_number (Cut offset) = 1
 fault_number (LengthTooSmall offset) = 2
 fault_number (PaddingMissing offset) = 3
 fault_number (ChunkBody offset) = 4
+fault_number (ParameterLength offset) = 5
+fault_number (NotAlone offset) = 6
 
 -- chunks that can't be read: the fault's number, and the offset of its chunk
 abbrev pub wire_fault_line : WireFault → List ℕ

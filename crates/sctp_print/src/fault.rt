@@ -1,7 +1,7 @@
 //! The line of what is wrong.
 
 ghost use Rattle.std.specs.Prelude.{◌≡◌, ◌++◌, OnOk, OnErr};
-ghost use Rattle.sctp_wire.specs.Reading.{offset_of};
+ghost use Rattle.sctp_wire.specs.FaultTree.{offset_of};
 ghost use Rattle.sctp_print.specs.PrintedText.{fault_number, wire_fault_line, packet_fault_line, hex_fault_line};
 
 use sctp_packet::PacketFault;
@@ -53,6 +53,8 @@ fn parts_of(fault: WireFault) -> (u64, usize)
         WireFault::LengthTooSmall { offset } => (2, offset),
         WireFault::PaddingMissing { offset } => (3, offset),
         WireFault::ChunkBody { offset } => (4, offset),
+        WireFault::ParameterLength { offset } => (5, offset),
+        WireFault::NotAlone { offset } => (6, offset),
     }
 }
 

@@ -5,8 +5,11 @@
 #![tactic(auto)]
 
 mod chunk;
+mod control;
 mod fault;
+mod seen;
 mod text;
+mod user_data;
 mod words;
 
 pub use chunk::put_chunk;

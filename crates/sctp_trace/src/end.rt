@@ -275,7 +275,7 @@ fn act(end: &mut End, chunk: &Chunk<'_>) -> Result<(), NoMemory>
             }
         }
         Chunk::Sack(sack) => end.sender.on_sack(sack),
-        Chunk::Unknown { .. } => {}
+        _ => {}
     }
     Ok(())
 }

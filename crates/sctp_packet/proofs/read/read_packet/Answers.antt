@@ -1,11 +1,8 @@
 use Rattle.std.proofs.Common.{◌≡◌, ℕ, ◌-◌, ◌<◌, List, take, length, drop, arith, ◌∙◌, ap, rules}
-use Rattle.std.proofs.lemmas.Grind.{common_steps}
 use Rattle.byteorder.specs.Endian.{big_number}
-use Rattle.sctp_wire.specs.Reads.{Reads}
-use Rattle.sctp_wire.specs.FirstFault.{Faults}
 use Rattle.sctp_packet.specs.declared.fault.PacketFault.TheVariants.{Wire}
 use Rattle.sctp_packet.specs.PacketBytes.{IsChecked}
-use Rattle.sctp_packet.proofs.PacketLemmas.{packet_parts, packet_whole, one_fault_of, never_both_of}
+use Rattle.sctp_packet.proofs.PacketLemmas.{all_behind, packet_parts, packet_whole, one_fault_of, never_both_of}
 use Rattle.sctp_packet.proofs.read.read_packet.Goals as goal
 
 pub returns-then-not-is_checked-clause-packet : goal.returns-then-not-is_checked-clause-packet
@@ -22,9 +19,9 @@ pub returns-in-Ok-clause-exact : goal.returns-in-Ok-clause-exact
 returns-in-Ok-clause-exact c =
     let bytes = c.args.bytes.now in
     let checked : IsChecked bytes = c.is_checked.ensures.0 (search rules) in
-    let body : take (length bytes - 12) (drop 12 bytes) ≡ drop 12 bytes = grind (arith, common_steps) in
-    let at_2 : take (length bytes - 2) (drop 2 bytes) ≡ drop 2 bytes = grind (arith, common_steps) in
-    let at_4 : take (length bytes - 4) (drop 4 bytes) ≡ drop 4 bytes = grind (arith, common_steps) in
+    let body : take (length bytes - 12) (drop 12 bytes) ≡ drop 12 bytes = all_behind 12 bytes in
+    let at_2 : take (length bytes - 2) (drop 2 bytes) ≡ drop 2 bytes = all_behind 2 bytes in
+    let at_4 : take (length bytes - 4) (drop 4 bytes) ≡ drop 4 bytes = all_behind 4 bytes in
     packet_whole bytes _ (λ k. omega (arith, c.type_inv.bytes k)) (record { source = omega arith; destination = omega arith; tag = omega arith })
     (record {
       long = omega arith;
@@ -42,7 +39,7 @@ pub returns-in-Err-clause-exact : goal.returns-in-Err-clause-exact
 returns-in-Err-clause-exact c =
     let bytes = c.args.bytes.now in
     let checked : IsChecked bytes = c.is_checked.ensures.0 (search rules) in
-    let body : take (length bytes - 12) (drop 12 bytes) ≡ drop 12 bytes = grind (arith, common_steps) in
+    let body : take (length bytes - 12) (drop 12 bytes) ≡ drop 12 bytes = all_behind 12 bytes in
     (omega arith, checked, (c.in-Err.fault, rw body at c.in-Err.ensures.exact, c.moved_by.ensures))
 
 pub returns-in-Err-clause-fault : goal.returns-in-Err-clause-fault

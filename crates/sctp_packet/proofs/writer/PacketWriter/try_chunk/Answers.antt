@@ -7,7 +7,6 @@ use Rattle.sctp_wire.specs.Reading.{chunks_of}
 use Rattle.sctp_packet.specs.PacketBytes.{header_bytes}
 use Rattle.sctp_wire.specs.Writes.{written}
 use Rattle.sctp_packet.specs.Draft.{with_header}
-use Rattle.sctp_packet.proofs.WrittenLengths.{size_of_written}
 use Rattle.sctp_packet.proofs.DraftLemmas.{IsPut, IsReadBack, size_of_more, size_some, draft_put}
 use Rattle.sctp_packet.proofs.writer.PacketWriter.try_chunk.Goals as goal
 
@@ -16,7 +15,6 @@ returns-then-written_length-room-clause-answer c =
     let m = chunk_meaning c.args.chunk.now in
     let more = size_of_more c.args.self.now.chunks m in
     let some = size_some m in
-    let size = size_of_written m c.requires in
     grind (arith, common_steps)
 
 pub returns-in_err-put-clause-refused : goal.returns-in_err-put-clause-refused
@@ -25,7 +23,6 @@ returns-in_err-put-clause-refused c =
     let m = chunk_meaning c.args.chunk.now in
     let more = size_of_more c.args.self.now.chunks m in
     let some = size_some m in
-    let size = size_of_written m c.requires in
     rw p.1 (grind (arith, common_steps))
 
 is_put : (c : goal.In_ok-put) → IsPut c.self.inside.limit (header_bytes c.self.inside.source c.self.inside.destination c.self.inside.tag 0) c.self.inside.bytes.items c.put.new.bytes.items (chunk_meaning c.args.chunk.now)
@@ -35,9 +32,9 @@ is_put c =
     let header = header_bytes s.source s.destination s.tag 0 in
     let chunks = chunks_of (drop HEADER_ROOM s.bytes.items) in
     let room = rw (← c.self.view_is) at c.room.ensures.room in
-    let law : IsReadBack = λ bytes ms writes. c.chunks_are_read.ensures bytes ms (c.written_reads.ensures bytes ms writes) in
+    let law : IsReadBack = λ bytes ms writes. c.chunks_are_read.ensures bytes ms (c.written_each_reads.ensures bytes ms writes) in
     let put : c.put.new.bytes.items ≡ with_header header s.bytes.items ++ written m = rw c.header-header.ensures at c.in_ok-put.ensures.put in
-    draft_put _ header _ _ m refl law c.self.invariant.draft c.requires (omega (arith, room, size_of_more chunks m, size_some m, size_of_written m c.requires)) put
+    draft_put _ header _ _ m refl law c.self.invariant.draft c.requires (omega (arith, room, size_of_more chunks m, size_some m)) put
 
 pub invariant_of-self-2 : goal.invariant_of-self-2
 invariant_of-self-2 c = record { header = c.self.invariant.header; draft = (is_put c).draft }
@@ -47,7 +44,6 @@ returns-clause-answer c =
     let m = chunk_meaning c.args.chunk.now in
     let more = size_of_more c.args.self.now.chunks m in
     let some = size_some m in
-    let size = size_of_written m c.requires in
     grind (arith, common_steps)
 
 pub returns-clause-after : goal.returns-clause-after
