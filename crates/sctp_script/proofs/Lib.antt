@@ -1,11 +1,5 @@
-mod WrittenLines
-mod WordLemmas
-mod HexDigits
-mod Decimals
+mod CommandLemmas
+mod FieldLemmas
 mod LineLemmas
 mod OneMeaning
 mod EachLineSays
-mod WritingLemmas
-mod SourceLineLemmas
-mod LineSplits
-mod LineRuns

@@ -17,30 +17,33 @@ use Rattle.sctp_script.specs.declared.event.Outcome.{Outcome}
 use Rattle.sctp_script.specs.declared.event.Outcome.TheVariants as outcome
 use Rattle.sctp_model.specs.first.World.{number_told}
 
-abbrev pub side_said : Side → world.Side
-side_said side.A = world.A
-side_said side.B = world.B
+-- an end, in the words of the world
+abbrev pub side_meaning : Side → world.Side
+side_meaning side.A = world.A
+side_meaning side.B = world.B
 
-abbrev pub state_said : State → world.State
-state_said state.Closed = world.Closed
-state_said state.Listen = world.Listen
-state_said state.Established = world.Established
+-- a state
+abbrev pub state_meaning : State → world.State
+state_meaning state.Closed = world.Closed
+state_meaning state.Listen = world.Listen
+state_meaning state.Established = world.Established
 
 -- what an event says; as yet the draws say nothing, since the first TSN counts as 1
-abbrev pub event_said : Event → world.Event
-event_said (Open a b) = world.Open
-event_said (Send x stream payload bytes) = world.Send (side_said x) stream payload bytes
-event_said (Build x) = world.Build (side_said x)
-event_said (Deliver x number) = world.Deliver (side_said x) number
-event_said (Take x stream) = world.Take (side_said x) stream
+abbrev pub event_meaning : Event → world.Event
+event_meaning (Open a b) = world.Open
+event_meaning (Send x stream payload bytes) = world.Send (side_meaning x) stream payload bytes
+event_meaning (Build x) = world.Build (side_meaning x)
+event_meaning (Deliver x number) = world.Deliver (side_meaning x) number
+event_meaning (Take x stream) = world.Take (side_meaning x) stream
 
-abbrev pub refusal_said : SendRefusal → Refusal
-refusal_said NoSuchStream = refusal.NoSuchStream
-refusal_said Empty = refusal.Empty
-refusal_said TooLong = refusal.TooLong
-refusal_said QueueFull = refusal.QueueFull
-refusal_said Spent = refusal.Spent
-refusal_said NotOpen = refusal.NotOpen
+-- why a message isn't accepted
+abbrev pub refusal_meaning : SendRefusal → Refusal
+refusal_meaning NoSuchStream = refusal.NoSuchStream
+refusal_meaning Empty = refusal.Empty
+refusal_meaning TooLong = refusal.TooLong
+refusal_meaning QueueFull = refusal.QueueFull
+refusal_meaning Spent = refusal.Spent
+refusal_meaning NotOpen = refusal.NotOpen
 
 -- What the user is told of a message that was handed over: all but the index of its first chunk.
 pub record IsToldOf (on n id : ℕ) (text : List ℕ) (h : Handed) : Type 0 where
@@ -53,12 +56,12 @@ pub record IsToldOf (on n id : ℕ) (text : List ℕ) (h : Handed) : Type 0 wher
 abbrev pub Answers : Outcome → world.Outcome → Type 0
 Answers outcome.Done o = o ≡ world.Done
 Answers outcome.OpenRefused o = o ≡ world.OpenRefused
-Answers (outcome.SendRefused r) o = o ≡ world.SendRefused (refusal_said r)
-Answers (outcome.Ticket x ticket) o = o ≡ world.Ticket (side_said x) ticket
-Answers (outcome.Sent x number length) o = o ≡ world.Sent (side_said x) number length
-Answers (outcome.Quiet x) o = o ≡ world.Quiet (side_said x)
-Answers (outcome.Taken x) o = o ≡ world.Acted (side_said x)
+Answers (outcome.SendRefused r) o = o ≡ world.SendRefused (refusal_meaning r)
+Answers (outcome.Ticket x ticket) o = o ≡ world.Ticket (side_meaning x) ticket
+Answers (outcome.Sent x number length) o = o ≡ world.Sent (side_meaning x) number length
+Answers (outcome.Quiet x) o = o ≡ world.Quiet (side_meaning x)
+Answers (outcome.Taken x) o = o ≡ world.Acted (side_meaning x)
 Answers outcome.Absent o = o ≡ world.Absent
 Answers (outcome.Message x stream number payload bytes) o =
-    (h : Handed) × IsToldOf stream number payload bytes h × (o ≡ world.Message (side_said x) stream h)
-Answers (outcome.Empty x stream) o = o ≡ world.Nothing (side_said x) stream
+    (h : Handed) × IsToldOf stream number payload bytes h × (o ≡ world.Message (side_meaning x) stream h)
+Answers (outcome.Empty x stream) o = o ≡ world.Nothing (side_meaning x) stream

@@ -1,8 +1,12 @@
 //! What a pair is made with: the sizes that both ends share, and what an end draws when it is opened.
 
 ghost use Rattle.std.specs.Prelude.{◌≡◌, ◌<◌, MatchOption, MatchResult};
-ghost use Rattle.sctp_script.specs.Configuration.{IsAllowed};
+ghost use Rattle.sctp_script.specs.Allowed.{IsAllowed};
 
+use crate::limits::{
+    FRAGMENT_OVERHEAD, GREATEST_BUFFER, GREATEST_FRAGMENT, GREATEST_PACKET, LEAST_BUFFER,
+    LEAST_FRAGMENT, LEAST_PACKET,
+};
 use thiserror::Error;
 
 /// The format of user data, and whether messages may be given up.
@@ -63,8 +67,7 @@ pub struct PairConfig {
 
 impl PairConfig {
     ghost use Rattle.std.specs.Prelude.{◌≡◌, MatchResult};
-    ghost use Rattle.sctp_script.specs.Configuration.{IsFirstFault, IsFaultless};
-    ghost use Rattle.sctp_script.specs.Settings.{configuration_of, mode_of, sizes};
+    ghost use Rattle.sctp_script.specs.Configuration.{IsFirstFault, IsFaultless, configuration_meaning, mode_of, sizes};
 
     /// The configuration with these sizes: packets of at most `limit` bytes, messages cut at `fragment` bytes, a receive buffer of
     /// `buffer` bytes and `streams` streams each way.
@@ -80,16 +83,18 @@ impl PairConfig {
     ) -> Result<PairConfig, ConfigFault>
         ensures exact { MatchResult result
             (λ config. IsFaultless (sizes limit fragment buffer streams)
-            × (configuration_of config ≡ sizes limit fragment buffer streams) × (mode_of config ≡ mode))
+            × (configuration_meaning config ≡ sizes limit fragment buffer streams) × (mode_of config ≡ mode))
             (λ fault. IsFirstFault (sizes limit fragment buffer streams) fault) }
     {
-        if !(576..=1500).contains(&limit) {
+        if !(LEAST_PACKET..=GREATEST_PACKET).contains(&limit) {
             return Err(ConfigFault::PacketLimit);
         }
-        if !(4..=1400).contains(&fragment) || 32 + fragment.div_ceil(4) * 4 > limit {
+        if !(LEAST_FRAGMENT..=GREATEST_FRAGMENT).contains(&fragment)
+            || FRAGMENT_OVERHEAD + fragment.div_ceil(4) * 4 > limit
+        {
             return Err(ConfigFault::Fragment);
         }
-        if !(65_536..=16_777_216).contains(&buffer) {
+        if !(LEAST_BUFFER..=GREATEST_BUFFER).contains(&buffer) {
             return Err(ConfigFault::Buffer);
         }
         if streams != 1 {
@@ -106,28 +111,28 @@ impl PairConfig {
 
     /// The longest packet that is sent.
     pub fn limit(&self) -> u16
-        ensures { result ≡ (configuration_of self.now).limit }
+        ensures { result ≡ (configuration_meaning self.now).limit }
     {
         self.limit
     }
 
     /// The longest fragment of a message.
     pub fn fragment(&self) -> u16
-        ensures { result ≡ (configuration_of self.now).fragment }
+        ensures { result ≡ (configuration_meaning self.now).fragment }
     {
         self.fragment
     }
 
     /// The bytes that a receiver has room for.
     pub fn buffer(&self) -> u32
-        ensures { result ≡ (configuration_of self.now).buffer }
+        ensures { result ≡ (configuration_meaning self.now).buffer }
     {
         self.buffer
     }
 
     /// How many streams there are each way.
     pub fn streams(&self) -> u16
-        ensures { result ≡ (configuration_of self.now).streams }
+        ensures { result ≡ (configuration_meaning self.now).streams }
     {
         self.streams
     }
@@ -150,7 +155,7 @@ pub struct Draw {
 
 impl Draw {
     ghost use Rattle.std.specs.Prelude.{◌≡◌, ◌<◌, MatchOption};
-    ghost use Rattle.sctp_script.specs.Settings.{tag_of, tsn_of};
+    ghost use Rattle.sctp_script.specs.Configuration.{tag_of, tsn_of};
 
     /// The draw of these two, None exactly where the tag is 0.
     pub fn new(tag: u32, tsn: u32) -> Option<Draw>

@@ -1,13 +1,7 @@
 //! What may happen to a pair, and what it answers: one case for each acting line of a script, and one for each outcome line.
 
-ghost use Rattle.std.specs.Prelude.{◌≡◌, bytes_eq, IfOk};
-ghost use Rattle.std.specs.Cmp.{partial_equiv_from_equiv};
-ghost use Rattle.std.specs.Cmp.Lexicographic.{nat_list_eq_equiv};
-
 use crate::config::Draw;
-use sctp_wire::NoMemory;
-use std::alloc::Global;
-use std::marker::Model;
+use sctp_text::Bytes;
 
 /// The end A, which calls, or B, which listens.
 #[derive(Clone, Copy, Debug, PartialEq, Eq)]
@@ -19,11 +13,11 @@ pub enum Side {
 impl Side {
     ghost use Rattle.std.specs.Prelude.{◌≡◌};
     ghost use Rattle.sctp_model.specs.first.World.{other};
-    ghost use Rattle.sctp_script.specs.Events.{side_said};
+    ghost use Rattle.sctp_script.specs.Events.{side_meaning};
 
     /// The end across.
     pub fn other(self) -> Side
-        ensures { side_said result ≡ other (side_said self) }
+        ensures { side_meaning result ≡ other (side_meaning self) }
     {
         match self {
             Side::A => Side::B,
@@ -41,65 +35,6 @@ pub enum State {
     Listen,
     /// There is one, and data goes both ways.
     Established,
-}
-
-/// Bytes of a message. Contracts see the list of them.
-#[derive(Debug, Drop)]
-pub struct Bytes {
-    bytes: Vec<u8>,
-}
-
-impl Model for Bytes {
-    ghost use Rattle.std.specs.Prelude.{ℕ, List};
-
-    ghost Value = { List ℕ };
-
-    ghost view = { λ b. b.bytes.items };
-}
-
-impl Bytes {
-    /// These bytes.
-    pub fn new(bytes: Vec<u8>) -> Bytes
-        ensures { result ≡ bytes.items }
-    {
-        Bytes { bytes }
-    }
-
-    /// A copy of these bytes.
-    ///
-    /// # Errors
-    /// `NoMemory` where there was no room for the copy.
-    pub fn copied(alloc: Global, bytes: &[u8]) -> Result<Bytes, NoMemory>
-        ensures { IfOk result (λ copy. copy ≡ bytes.now) }
-    {
-        let bytes = Vec::from_slice(alloc, bytes).map_err(|_| NoMemory)?;
-        Ok(Bytes { bytes })
-    }
-
-    /// The bytes, lent.
-    pub fn as_slice(&self) -> &[u8]
-        ensures { result.now ≡ self.now }
-    {
-        self.bytes.as_slice()
-    }
-
-    /// The bytes, given away.
-    pub fn into_vec(self) -> Vec<u8>
-        ensures { result.items ≡ self }
-    {
-        let Bytes { bytes } = self;
-        bytes
-    }
-}
-
-impl PartialEq for Bytes {
-    ghost eq = { bytes_eq };
-
-    ghost laws = { partial_equiv_from_equiv nat_list_eq_equiv };
-
-    fn eq(&self, other: &Bytes) -> bool {
-        self.as_slice() == other.as_slice()
-    }
 }
 
 /// Something that happens to a pair.
@@ -152,12 +87,12 @@ pub enum SendRefusal {
 
 impl SendRefusal {
     ghost use Rattle.std.specs.Prelude.{◌≡◌};
-    ghost use Rattle.sctp_script.specs.Events.{refusal_said};
-    ghost use Rattle.sctp_script.specs.OutcomeLines.{refusal_code};
+    ghost use Rattle.sctp_script.specs.Events.{refusal_meaning};
+    ghost use Rattle.sctp_script.specs.OutcomeText.{refusal_code};
 
     /// The code, 1 to 7; 6 is want of memory, which is no outcome.
     pub fn code(self) -> u8
-        ensures { result ≡ refusal_code (refusal_said self) }
+        ensures { result ≡ refusal_code (refusal_meaning self) }
     {
         match self {
             SendRefusal::NoSuchStream => 1,

@@ -2,14 +2,7 @@
 
 ghost use Rattle.std.specs.Prelude.{◌≡◌, ℕ, Bool, true, List};
 ghost use Rattle.sctp_model.specs.first.World.{Event};
-ghost use Rattle.sctp_script.specs.GrammarLaws.{SaysOneThing};
-ghost use Rattle.sctp_script.specs.Lines.{Acts, Says};
-ghost use Rattle.sctp_script.specs.SpacedWords.{words_of, AreItsWords};
-
-/// The words of a line are what stands between its spaces.
-pub fn words_part_at_spaces()
-    ensures { (line : List ℕ) → AreItsWords line (words_of line) }
-{}
+ghost use Rattle.sctp_script.specs.Grammar.{Acts, Says, SaysOneThing};
 
 /// Each line says exactly one thing.
 pub fn one_meaning()

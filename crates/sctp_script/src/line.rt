@@ -1,21 +1,22 @@
 //! A line of a script, read: what it says, or the smallest kind of its faults.
 
-ghost use Rattle.std.specs.Prelude.{◌≡◌, ◌<◌, ℕ, List, Bool, length, ◌↔◌, IsTrue, IfOk, OnErr, MatchOption, MatchResult, codes};
+ghost use Rattle.std.specs.Prelude.{◌≡◌, length, ◌↔◌, IsTrue, IfOk, OnErr, MatchOption, MatchResult};
 ghost use Rattle.sctp_model.specs.first.World as world;
-ghost use Rattle.sctp_script.specs.Events.{side_said};
-ghost use Rattle.sctp_script.specs.Lines.{LineMeaning, Acts, Spells, IsNumber, IsSilent, name_of, arguments_of, is_pair, kind_of};
-ghost use Rattle.sctp_script.specs.OutcomeLines.{side_word};
-ghost use Rattle.sctp_script.specs.ReadLines.{Finds, Refuses, HasDrawsIn, meaning_of};
+ghost use Rattle.sctp_script.specs.Commands.{arguments_of};
+ghost use Rattle.sctp_script.specs.Grammar.{LineMeaning, Acts, Spells, IsSilent, kind_of};
+ghost use Rattle.sctp_script.specs.ReadLineAnswer.{Finds, Refuses, HasDrawsIn, acting_meaning};
 
-use crate::config::{Draw, Mode, PairConfig};
-use crate::decimal::read_decimal;
-use crate::event::{Event, Side};
-use crate::hex_word::read_hex;
-use crate::line_reader::LONGEST_LINE;
-use crate::words_of_line::Words;
+use crate::arguments::{read_bytes, read_mode, read_side, read_u16, read_u32};
+use crate::command::Command;
+use crate::config::{Draw, PairConfig};
+use crate::event::Event;
+use sctp_text::{LONGEST_LINE, Words};
 use sctp_wire::NoMemory;
 use std::alloc::Global;
 use thiserror::Error;
+
+/// What a line begins with that does nothing, `#`.
+const COMMENT: u8 = 35;
 
 /// What is wrong with a line; of several faults the one with the smallest kind is answered.
 #[derive(Clone, Copy, Debug, PartialEq, Eq, Error)]
@@ -72,54 +73,6 @@ pub enum Acting {
     Event(Event),
 }
 
-/// A command of the script.
-#[derive(Clone, Copy, Debug, PartialEq, Eq)]
-enum Command {
-    Pair,
-    Open,
-    Send,
-    Build,
-    Deliver,
-    Take,
-}
-
-impl Command {
-    /// The command of this name.
-    fn named(word: &[u8]) -> Option<Command>
-        ensures { MatchOption result ((c : Command) → word.now ≡ name_of c → ⊥) (λ c. word.now ≡ name_of c) }
-    {
-        match word {
-            b"pair" => Some(Command::Pair),
-            b"open" => Some(Command::Open),
-            b"send" => Some(Command::Send),
-            b"build" => Some(Command::Build),
-            b"deliver" => Some(Command::Deliver),
-            b"take" => Some(Command::Take),
-            _ => None,
-        }
-    }
-
-    /// How many words stand behind it.
-    fn arguments(self) -> usize
-        ensures { result ≡ arguments_of self }
-    {
-        match self {
-            Command::Pair => 5,
-            Command::Open => 0,
-            Command::Send => 6,
-            Command::Build => 1,
-            Command::Deliver | Command::Take => 2,
-        }
-    }
-
-    /// It is `pair`.
-    fn is_pair(self) -> bool
-        ensures { result ≡ is_pair self }
-    {
-        matches!(self, Command::Pair)
-    }
-}
-
 /// Reads a line, without its line feed; `paired` says whether a `pair` line stood before it. A line that is empty or begins with
 /// `#` gives None.
 ///
@@ -158,7 +111,7 @@ fn is_silent(line: &[u8]) -> bool
     ensures { IsTrue result ↔ IsSilent line.now }
 {
     match line.first() {
-        Some(first) => *first == b'#',
+        Some(first) => *first == COMMENT,
         None => true,
     }
 }
@@ -172,7 +125,7 @@ fn read_acting(
     requires { length words ≡ arguments_of command }
     ensures found { IfOk result (λ found. MatchOption found
         ((m : LineMeaning) → Spells command words.entry m → ⊥)
-        (λ acting. Spells command words.entry (meaning_of acting) × HasDrawsIn acting)) }
+        (λ acting. Spells command words.entry (acting_meaning acting) × HasDrawsIn acting)) }
     // Memory is wanting for the bytes of a message alone.
     ensures memory { OnErr result (command ≡ Command.Send) }
 {
@@ -191,12 +144,12 @@ fn read_pair(mut words: Words<'_>) -> Option<Acting>
     requires { length words ≡ arguments_of Command.Pair }
     ensures { MatchOption result
         ((m : LineMeaning) → Spells Command.Pair words.entry m → ⊥)
-        (λ acting. Spells Command.Pair words.entry (meaning_of acting) × HasDrawsIn acting) }
+        (λ acting. Spells Command.Pair words.entry (acting_meaning acting) × HasDrawsIn acting) }
 {
-    let limit = read_half(words.next_word())?;
-    let fragment = read_half(words.next_word())?;
-    let buffer = read_decimal(words.next_word())?;
-    let streams = read_half(words.next_word())?;
+    let limit = read_u16(words.next_word())?;
+    let fragment = read_u16(words.next_word())?;
+    let buffer = read_u32(words.next_word())?;
+    let streams = read_u16(words.next_word())?;
     let mode = read_mode(words.next_word())?;
     match PairConfig::new(limit, fragment, buffer, streams, mode) {
         Ok(config) => Some(Acting::Pair(config)),
@@ -206,7 +159,7 @@ fn read_pair(mut words: Words<'_>) -> Option<Acting>
 
 /// `open` draws tag 1 for A and tag 2 for B, and TSN 1 for both.
 fn opening() -> Acting
-    ensures said { meaning_of result ≡ Acts world.Open }
+    ensures said { acting_meaning result ≡ Acts world.Open }
     ensures draws { HasDrawsIn result }
 {
     let (Some(a), Some(b)) = (Draw::new(1, 1), Draw::new(2, 1)) else {
@@ -220,12 +173,12 @@ fn read_send(alloc: Global, mut words: Words<'_>) -> Result<Option<Acting>, NoMe
     requires { length words ≡ arguments_of Command.Send }
     ensures { IfOk result (λ found. MatchOption found
         ((m : LineMeaning) → Spells Command.Send words.entry m → ⊥)
-        (λ acting. Spells Command.Send words.entry (meaning_of acting) × HasDrawsIn acting)) }
+        (λ acting. Spells Command.Send words.entry (acting_meaning acting) × HasDrawsIn acting)) }
 {
     let side = read_side(words.next_word());
-    let stream = read_half(words.next_word());
+    let stream = read_u16(words.next_word());
     let kind = words.next_word();
-    let payload_id = read_decimal(words.next_word());
+    let payload_id = read_u32(words.next_word());
     let until = words.next_word();
     let (Some(side), Some(stream), Some(payload_id)) = (side, stream, payload_id) else {
         return Ok(None);
@@ -233,7 +186,7 @@ fn read_send(alloc: Global, mut words: Words<'_>) -> Result<Option<Acting>, NoMe
     if kind != b"o".as_slice() || until != b"-".as_slice() {
         return Ok(None);
     }
-    match read_hex(alloc, words.next_word())? {
+    match read_bytes(alloc, words.next_word())? {
         Some(bytes) => Ok(Some(Acting::Event(Event::Send {
             side,
             stream,
@@ -249,7 +202,7 @@ fn read_build(mut words: Words<'_>) -> Option<Acting>
     requires { length words ≡ arguments_of Command.Build }
     ensures { MatchOption result
         ((m : LineMeaning) → Spells Command.Build words.entry m → ⊥)
-        (λ acting. Spells Command.Build words.entry (meaning_of acting) × HasDrawsIn acting) }
+        (λ acting. Spells Command.Build words.entry (acting_meaning acting) × HasDrawsIn acting) }
 {
     let side = read_side(words.next_word())?;
     Some(Acting::Event(Event::Build { side }))
@@ -260,10 +213,10 @@ fn read_deliver(mut words: Words<'_>) -> Option<Acting>
     requires { length words ≡ arguments_of Command.Deliver }
     ensures { MatchOption result
         ((m : LineMeaning) → Spells Command.Deliver words.entry m → ⊥)
-        (λ acting. Spells Command.Deliver words.entry (meaning_of acting) × HasDrawsIn acting) }
+        (λ acting. Spells Command.Deliver words.entry (acting_meaning acting) × HasDrawsIn acting) }
 {
     let side = read_side(words.next_word())?;
-    let number = read_decimal(words.next_word())?;
+    let number = read_u32(words.next_word())?;
     Some(Acting::Event(Event::Deliver { side, number }))
 }
 
@@ -272,37 +225,9 @@ fn read_take(mut words: Words<'_>) -> Option<Acting>
     requires { length words ≡ arguments_of Command.Take }
     ensures { MatchOption result
         ((m : LineMeaning) → Spells Command.Take words.entry m → ⊥)
-        (λ acting. Spells Command.Take words.entry (meaning_of acting) × HasDrawsIn acting) }
+        (λ acting. Spells Command.Take words.entry (acting_meaning acting) × HasDrawsIn acting) }
 {
     let side = read_side(words.next_word())?;
-    let stream = read_half(words.next_word())?;
+    let stream = read_u16(words.next_word())?;
     Some(Acting::Event(Event::Take { side, stream }))
-}
-
-/// The end that a word names.
-fn read_side(word: &[u8]) -> Option<Side>
-    ensures { MatchOption result ((x : world.Side) → word.now ≡ side_word x → ⊥) (λ side. word.now ≡ side_word (side_said side)) }
-{
-    match word {
-        b"A" => Some(Side::A),
-        b"B" => Some(Side::B),
-        _ => None,
-    }
-}
-
-/// The mode that a word names.
-fn read_mode(word: &[u8]) -> Option<Mode>
-    ensures { MatchOption result (word.now ≡ codes "data" → ⊥) (λ _. word.now ≡ codes "data") }
-{
-    match word {
-        b"data" => Some(Mode::Data),
-        _ => None,
-    }
-}
-
-/// A number of 16 bits.
-fn read_half(word: &[u8]) -> Option<u16>
-    ensures { MatchOption result ((n : ℕ) → IsNumber 16 word.now n → ⊥) (λ n. IsNumber 16 word.now n) }
-{
-    u16::try_from(read_decimal(word)?).ok()
 }

@@ -1,23 +1,11 @@
-//! A line that is written: words with one space between them, and a line feed.
+//! A line that is written, with want of memory as this project's crates name it.
 
-ghost use Rattle.std.specs.Prelude.{◌≡◌, ℕ, List, [], ◌∷◌, ◌++◌, map, decimal, OnOk, OnErr};
-ghost use Rattle.sctp_script.specs.SpacedWords.{each_behind_space, line_of};
-ghost use Rattle.sctp_script.specs.WrittenWords.{text_of};
+ghost use Rattle.std.specs.Prelude.{◌≡◌, ◌∷◌, ◌++◌, map, decimal, OnOk, OnErr};
+ghost use Rattle.sctp_text.specs.SpacedWords.{line_of};
+ghost use Rattle.sctp_text.specs.WrittenWords.{text_of};
 
-use crate::decimal::put_decimal;
-use crate::hex_word::put_hex;
+use sctp_text::Word;
 use sctp_wire::NoMemory;
-
-/// A word of a line.
-#[derive(Clone, Copy, Debug)]
-pub enum Word<'a> {
-    /// The bytes as they are.
-    Text(&'a [u8]),
-    /// A number, in decimal.
-    Number(u64),
-    /// Bytes, in hexadecimal.
-    Hex(&'a [u8]),
-}
 
 /// Appends a line: its first word, further words, and then numbers.
 ///
@@ -33,71 +21,5 @@ pub fn put_line(
         ++ line_of (first.now ∷ (map text_of words.now ++ map decimal numbers.now))) }
     ensures refused { OnErr result (out.new.items ≡ out.old.items) }
 {
-    let before = out.len();
-    let put = append_line(first, words, numbers, out);
-    if put.is_err() {
-        out.truncate(before);
-    }
-    put
-}
-
-/// Appends a line, or its beginning where memory is wanting.
-fn append_line(
-    first: &[u8],
-    words: &[Word<'_>],
-    numbers: &[u32],
-    out: &mut Vec<u8>,
-) -> Result<(), NoMemory>
-    ensures put { OnOk result (out.new.items ≡ out.old.items
-        ++ line_of (first.now ∷ (map text_of words.now ++ map decimal numbers.now))) }
-    ensures part { (part : List ℕ) × (out.new.items ≡ out.old.items ++ part) }
-{
-    append(first, out)?;
-    append_words(words, out)?;
-    append_numbers(numbers, out)?;
-    append(b"\n", out)
-}
-
-/// Appends each word behind a space, or some of this where memory is wanting.
-fn append_words(words: &[Word<'_>], out: &mut Vec<u8>) -> Result<(), NoMemory>
-    ensures put { OnOk result (out.new.items ≡ out.old.items ++ each_behind_space (map text_of words.now)) }
-    ensures part { (part : List ℕ) × (out.new.items ≡ out.old.items ++ part) }
-{
-    for word in words {
-        append(b" ", out)?;
-        append_word(word, out)?;
-    }
-    Ok(())
-}
-
-/// Appends each number behind a space, or some of this where memory is wanting.
-fn append_numbers(numbers: &[u32], out: &mut Vec<u8>) -> Result<(), NoMemory>
-    ensures put { OnOk result (out.new.items ≡ out.old.items ++ each_behind_space (map decimal numbers.now)) }
-    ensures part { (part : List ℕ) × (out.new.items ≡ out.old.items ++ part) }
-{
-    for number in numbers {
-        append(b" ", out)?;
-        put_decimal(u64::from(*number), out)?;
-    }
-    Ok(())
-}
-
-/// Appends a word, or nothing where memory is wanting.
-fn append_word(word: &Word<'_>, out: &mut Vec<u8>) -> Result<(), NoMemory>
-    ensures put { OnOk result (out.new.items ≡ out.old.items ++ text_of word.now) }
-    ensures refused { OnErr result (out.new.items ≡ out.old.items) }
-{
-    match word {
-        Word::Text(text) => append(text, out),
-        Word::Number(number) => put_decimal(*number, out),
-        Word::Hex(bytes) => put_hex(bytes, out),
-    }
-}
-
-/// Appends bytes, or nothing where memory is wanting.
-fn append(bytes: &[u8], out: &mut Vec<u8>) -> Result<(), NoMemory>
-    ensures put { OnOk result (out.new.items ≡ out.old.items ++ bytes.now) }
-    ensures refused { OnErr result (out.new.items ≡ out.old.items) }
-{
-    out.extend_from_slice(bytes).map_err(|_| NoMemory)
+    sctp_text::put_line(first, words, numbers, out).map_err(|_| NoMemory)
 }

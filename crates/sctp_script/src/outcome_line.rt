@@ -3,12 +3,13 @@
 ghost use Rattle.std.specs.Prelude.{◌≡◌, ◌++◌, OnOk, OnErr};
 ghost use Rattle.sctp_model.specs.ReceiverView.{Handed};
 ghost use Rattle.sctp_model.specs.first.World as world;
-ghost use Rattle.sctp_script.specs.Events.{side_said, Answers, IsToldOf};
-ghost use Rattle.sctp_script.specs.OutcomeLines.{side_word, outcome_line};
-ghost use Rattle.sctp_script.specs.WrittenWords.{text_of};
+ghost use Rattle.sctp_script.specs.Events.{side_meaning, Answers, IsToldOf};
+ghost use Rattle.sctp_script.specs.OutcomeText.{side_word, outcome_line};
+ghost use Rattle.sctp_text.specs.WrittenWords.{text_of};
 
-use crate::event::{Bytes, Outcome, Side};
-use crate::line_out::{Word, put_line};
+use crate::event::{Outcome, Side};
+use crate::line_out::put_line;
+use sctp_text::{Bytes, Word};
 use sctp_wire::NoMemory;
 
 /// Appends the line of an outcome, with its line feed.
@@ -66,7 +67,7 @@ fn put_message(
     out: &mut Vec<u8>,
 ) -> Result<(), NoMemory>
     ensures put { (h : Handed) → IsToldOf stream number payload_id bytes.now h
-        → OnOk result (out.new.items ≡ out.old.items ++ outcome_line (world.Message (side_said side) stream h)) }
+        → OnOk result (out.new.items ≡ out.old.items ++ outcome_line (world.Message (side_meaning side) stream h)) }
     ensures refused { OnErr result (out.new.items ≡ out.old.items) }
 {
     let words = [
@@ -82,7 +83,7 @@ fn put_message(
 
 /// The name of an end.
 pub fn side_word(side: Side) -> Word<'static>
-    ensures { text_of result ≡ side_word (side_said side) }
+    ensures { text_of result ≡ side_word (side_meaning side) }
 {
     match side {
         Side::A => Word::Text(b"A"),

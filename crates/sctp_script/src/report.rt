@@ -1,13 +1,14 @@
 //! The lines of a pair's report.
 
 ghost use Rattle.std.specs.Prelude.{◌≡◌, ◌++◌, OnOk, OnErr};
-ghost use Rattle.sctp_script.specs.Events.{side_said, state_said};
+ghost use Rattle.sctp_script.specs.Events.{side_meaning, state_meaning};
 ghost use Rattle.sctp_script.specs.ReportText.{state_word, end_line, numbered_line, handed_line};
-ghost use Rattle.sctp_script.specs.WrittenWords.{text_of};
+ghost use Rattle.sctp_text.specs.WrittenWords.{text_of};
 
 use crate::event::{Side, State};
-use crate::line_out::{Word, put_line};
+use crate::line_out::put_line;
 use crate::outcome_line::side_word;
+use sctp_text::Word;
 use sctp_wire::NoMemory;
 
 /// Appends `end X STATE -`: an end's state, and that it hasn't ended.
@@ -15,7 +16,7 @@ use sctp_wire::NoMemory;
 /// # Errors
 /// `NoMemory` where there was no room and none was got; `out` is then as before.
 pub fn put_end(side: Side, state: State, out: &mut Vec<u8>) -> Result<(), NoMemory>
-    ensures put { OnOk result (out.new.items ≡ out.old.items ++ end_line (side_said side) (state_said state)) }
+    ensures put { OnOk result (out.new.items ≡ out.old.items ++ end_line (side_meaning side) (state_meaning state)) }
     ensures refused { OnErr result (out.new.items ≡ out.old.items) }
 {
     put_line(
@@ -31,7 +32,7 @@ pub fn put_end(side: Side, state: State, out: &mut Vec<u8>) -> Result<(), NoMemo
 /// # Errors
 /// `NoMemory` where there was no room and none was got; `out` is then as before.
 pub fn put_numbered(side: Side, tickets: &[u32], out: &mut Vec<u8>) -> Result<(), NoMemory>
-    ensures put { OnOk result (out.new.items ≡ out.old.items ++ numbered_line (side_said side) tickets.now) }
+    ensures put { OnOk result (out.new.items ≡ out.old.items ++ numbered_line (side_meaning side) tickets.now) }
     ensures refused { OnErr result (out.new.items ≡ out.old.items) }
 {
     if tickets.is_empty() {
@@ -50,7 +51,7 @@ pub fn put_handed(
     numbers: &[u32],
     out: &mut Vec<u8>,
 ) -> Result<(), NoMemory>
-    ensures put { OnOk result (out.new.items ≡ out.old.items ++ handed_line (side_said side) stream numbers.now) }
+    ensures put { OnOk result (out.new.items ≡ out.old.items ++ handed_line (side_meaning side) stream numbers.now) }
     ensures refused { OnErr result (out.new.items ≡ out.old.items) }
 {
     if numbers.is_empty() {
@@ -66,7 +67,7 @@ pub fn put_handed(
 
 /// The name of a state.
 fn state_word(state: State) -> Word<'static>
-    ensures { text_of result ≡ state_word (state_said state) }
+    ensures { text_of result ≡ state_word (state_meaning state) }
 {
     match state {
         State::Closed => Word::Text(b"Closed"),

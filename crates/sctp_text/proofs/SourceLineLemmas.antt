@@ -1,5 +1,5 @@
 -- A line that is gathered from what was read before and from a block.
-use Rattle.std.proofs.Common.{◌≡◌, ℕ, ◌+◌, ◌-◌, ◌<◌, ◌≤◌, inl, inr, List, [], ◌∷◌, ◌++◌, length, take, drop, get_or, slice_range, false, arith, refl, sym, ap, ◌∙◌, subst, append_assoc, append-nil, length-append, length-take}
+use Rattle.std.proofs.Common.{◌≡◌, ℕ, ◌+◌, ◌-◌, ◌<◌, ◌≤◌, inl, inr, List, [], ◌∷◌, ◌++◌, length, take, drop, get_or, slice_range, false, arith, refl, sym, ap, ◌∙◌, subst, append_assoc, append-nil, length-append, length-take, take_all}
 use Rattle.std.specs.List.{position}
 use Rattle.std.proofs.lemmas.List.{drop-drop, drop-take, drop_more, get_or-take}
 use Rattle.std.proofs.lemmas.List.Sums.{position_or_len_is, fails_before_first, passes_at_first, prefix_len-le-length}
@@ -54,7 +54,26 @@ from_first_feed text there =
     let is : get_or text n 0 ≡ LINE_FEED = eqb-true (get_or text n 0) LINE_FEED (passes_at_first is_line_feed text 0 there) in
     drop_more text n 0 there ∙ ap (λ byte. byte ∷ drop (n + 1) text) is
 
--- more than a line may have, or than the script may
+-- a line that may begin so may go on with one that has no line feed, as far as there is room
+pub begins_with_both : (given : ℕ) (line rest : List ℕ) → MayBegin given line → first_length rest ≡ length rest
+    → length line + length rest ≤ LONGEST_LINE → given + (length line + length rest) ≤ LONGEST_TEXT → MayBegin given (line ++ rest)
+begins_with_both given line rest begun whole small within = record {
+  one_line =
+      let same : take (first_length rest) rest ≡ rest = ap (λ n. take n rest) whole ∙ take_all (length rest) rest (omega arith) in
+      one_line-append line rest begun.one_line (subst (λ (bytes : List ℕ). IsOneLine bytes) same (one_line-front rest));
+  small = omega (arith, length-append line rest, small);
+  within = omega (arith, length-append line rest, within);
+}
+
+-- and only so
+pub has_no_feed : (given : ℕ) (line rest : List ℕ) → MayBegin given line → MayBegin given (line ++ rest) → first_length rest ≡ length rest
+has_no_feed given line rest begun both =
+    omega (arith, first_length-append line rest begun.one_line, first_length-line (line ++ rest) both.one_line, length-append line rest)
+
+pub fits_with_both : (given : ℕ) (line rest : List ℕ) → MayBegin given (line ++ rest) → given + (length line + length rest) ≤ LONGEST_TEXT
+fits_with_both given line rest both = omega (arith, both.within, length-append line rest)
+
+-- more than a line may have, or than the text may
 pub too_long_line : (given : ℕ) (line rest : List ℕ) → IsOneLine line
     → LONGEST_LINE < length line + first_length rest → IsTooLong given (line ++ rest)
 too_long_line given line rest one long = inl (omega (arith, first_length-append line rest one))

@@ -22,12 +22,14 @@ IsHex word bytes = IsBytes bytes × (word ≡ hex_word bytes)
 abbrev pub is_lower_digit : ℕ → Bool
 is_lower_digit c = (nat_le 48 c && nat_le c 57) || (nat_le 97 c && nat_le c 102)
 
--- ---- laws: a word says one value of a kind or none, and which of these is decided
+-- ---- laws
 
+-- a word says one number or none, and which of these is decided
 pub record SaysOneNumber (word : List ℕ) : Type 0 where
   pub one : (m n : ℕ) → IsDecimal word m → IsDecimal word n → m ≡ n
   pub decided : ((n : ℕ) × IsDecimal word n) ⊎ ((n : ℕ) → IsDecimal word n → ⊥)
 
+-- and so it is of bytes
 pub record SaysOneList (word : List ℕ) : Type 0 where
   pub one : (xs ys : List ℕ) → IsHex word xs → IsHex word ys → xs ≡ ys
   pub decided : ((bytes : List ℕ) × IsHex word bytes) ⊎ ((bytes : List ℕ) → IsHex word bytes → ⊥)

@@ -1,6 +1,6 @@
 //! The lines of a source, one at a time: no more than one line and one block is held.
 
-ghost use Rattle.std.specs.Prelude.{◌≡◌, ℕ, List, [], ◌++◌, ◌+◌, ◌-◌, ◌^◌, ◌<◌, ◌≤◌, length};
+ghost use Rattle.std.specs.Prelude.{◌≡◌, ℕ, List, [], ◌++◌, ◌+◌, ◌-◌, ◌^◌, ◌<◌, ◌≤◌, ◌↔◌, IsTrue, length};
 ghost use Rattle.std.specs.List.{position};
 ghost use Rattle.sctp_text.specs.TextLines.{Reading, MayBegin, IsReadFor, is_line_feed, first_length};
 ghost use Rattle.sctp_text.specs.NextLineAnswer.{given_by, IsAnswer, AtTheEnd, failed_reads};
@@ -77,6 +77,13 @@ impl LineReader {
         }
     }
 
+    /// Whether what is held answers the next call of `next_line`, so that it reads nothing.
+    pub fn is_ready(&self) -> bool
+        ensures { IsTrue result ↔ ¬ MayBegin self.now.given self.now.held }
+    {
+        !may_begin(self.given, &self.line, self.block.bytes())
+    }
+
     /// The next line. Nothing is read where the bytes that are held answer already.
     ///
     /// # Errors
@@ -108,6 +115,22 @@ impl LineReader {
             }
         }
     }
+}
+
+/// Whether behind so many bytes a line may begin with these two parts, with the first of which it may.
+fn may_begin(given: u64, line: &[u8], rest: &[u8]) -> bool
+    requires begun { MayBegin given line.now }
+    requires room { length rest.now ≤ BLOCK }
+    ensures { IsTrue result ↔ MayBegin given (line.now ++ rest.now) }
+{
+    if line_length(rest) < rest.len() {
+        return false;
+    }
+    let whole = line.len() + rest.len();
+    if whole > LONGEST_LINE {
+        return false;
+    }
+    whole as u64 <= LONGEST_TEXT - given
 }
 
 /// Reads on until the line is whole or too long, or the input ends (`None`); the line feed stays in the block.

@@ -6,7 +6,7 @@ use Rattle.sctp_model.specs.first.World as world
 use Rattle.sctp_model.specs.first.World.{World, Step, Run, last_of, IsReachable}
 use Rattle.sctp_safety.specs.Worlds.{AllSafe, SafeRuns}
 use Rattle.sctp_wire.specs.declared.fault.NoMemory.{NoMemory}
-use Rattle.sctp_script.specs.Events.{event_said}
+use Rattle.sctp_script.specs.Events.{event_meaning}
 use Rattle.sctp_trace.specs.PairRuns.{Told, AllTold, IsCutShort, Leads, Promises, Promised}
 use Rattle.sctp_script.specs.declared.event.Event.{Event}
 use Rattle.sctp_script.specs.declared.event.Outcome.{Outcome}
@@ -37,10 +37,10 @@ told_none e (Some o) told = absurd told
 
 -- a run over one event more of a list
 pub run_more : (w : World) (events : List Event) (i : ℕ) (event : Event) (answers : List (Option world.Outcome)) (vs : List World) (o : Option world.Outcome) (x : World)
-    → i < length events → event ≡ get_or events i event → Run w (map event_said (take i events)) answers vs → Step (last_of w vs) (event_said event) o x
-    → Run w (map event_said (take (i + 1) events)) (answers ++ o ∷ []) (vs ++ x ∷ [])
+    → i < length events → event ≡ get_or events i event → Run w (map event_meaning (take i events)) answers vs → Step (last_of w vs) (event_meaning event) o x
+    → Run w (map event_meaning (take (i + 1) events)) (answers ++ o ∷ []) (vs ++ x ∷ [])
 run_more w events i event answers vs o x less is run step =
-    rw (take_more events i event less, map-append, ← is) (run-push w _ answers vs (event_said event) o x run step)
+    rw (take_more events i event less, map-append, ← is) (run-push w _ answers vs (event_meaning event) o x run step)
 
 -- memory was wanting in the last event
 pub cut_short : (outcomes : List Outcome) (answers : List (Option world.Outcome)) (e : NoMemory) (o : Option world.Outcome) → AllTold outcomes answers → Told (Err e) o

@@ -12,25 +12,24 @@ use Rattle.sctp_model.specs.first.World as world
 use Rattle.sctp_model.specs.first.World.{World, Step}
 use Rattle.sctp_script.specs.declared.line.LineFault.{LineFault}
 use Rattle.sctp_script.specs.declared.line.LineFault.TheVariants.{TooLong, PairOrder}
-use Rattle.sctp_script.specs.declared.line_reader.ReadFault.{ReadFault}
-use Rattle.sctp_script.specs.declared.line_reader.ReadFault.TheVariants as read
-use Rattle.sctp_script.specs.Lines.{LineMeaning, Silent, Pairs, Acts, Fault, Says, IsFirstFaultOf}
-use Rattle.sctp_script.specs.LinesRead.{LONGEST_LINE, LONGEST_SCRIPT, Reading, HasGiven, IsOneLine, IsTooLong, is_line_feed, ended, joined, lines_of, first_length, first_end}
-use Rattle.sctp_script.specs.OutcomeLines.{outcome_line}
-use Rattle.sctp_script.specs.Events.{Answers, event_said}
-use Rattle.sctp_script.specs.LineAnswers.{given_by, IsAnswer, GivesOn}
-use Rattle.sctp_script.specs.ReadLines.{Finds}
-use Rattle.sctp_script.specs.Settings.{configuration_of}
+use Rattle.sctp_text.specs.declared.line_reader.ReadFault.{ReadFault}
+use Rattle.sctp_text.specs.declared.line_reader.ReadFault.TheVariants as read
+use Rattle.sctp_script.specs.Grammar.{LineMeaning, Silent, Pairs, Acts, Fault, Says, IsFirstFaultOf}
+use Rattle.sctp_text.specs.TextLines.{Reading, HasGiven, IsOneLine, IsTooLong, is_line_feed, ended, joined, lines_of, first_length, first_end}
+use Rattle.sctp_script.specs.OutcomeText.{outcome_line}
+use Rattle.sctp_script.specs.Events.{Answers, event_meaning}
+use Rattle.sctp_text.specs.NextLineAnswer.{given_by, IsAnswer, GivesOn}
+use Rattle.sctp_script.specs.ReadLineAnswer.{Finds}
+use Rattle.sctp_script.specs.Configuration.{configuration_meaning}
 use Rattle.sctp_script.specs.declared.config.PairConfig.{PairConfig}
 use Rattle.sctp_script.specs.declared.event.Event.{Event}
 use Rattle.sctp_script.specs.declared.line.Acting.{Acting}
 use Rattle.sctp_script.specs.declared.line.Acting.TheVariants as acting
-use Rattle.sctp_script.specs.declared.line_reader.NextLine.{NextLine}
-use Rattle.sctp_script.specs.declared.line_reader.NextLine.TheVariants as next
-use Rattle.sctp_script.specs.declared.line_reader.NextLine.TheVariants.{Ended, Last, End}
+use Rattle.sctp_text.specs.declared.line_reader.NextLine.{NextLine}
+use Rattle.sctp_text.specs.declared.line_reader.NextLine.TheVariants as next
+use Rattle.sctp_text.specs.declared.line_reader.NextLine.TheVariants.{Ended, Last, End}
 use Rattle.sctp_script.specs.declared.event.Outcome.{Outcome}
 use Rattle.sctp_script.specs.ReportText.{report}
-use Rattle.sctp_script.specs.SpacedWords.{LF}
 use Rattle.sctp_trace.specs.declared.pair.Pair.{Pair}
 use Rattle.sctp_trace.specs.declared.script.Running.{Running}
 use Rattle.sctp_trace.specs.declared.script.ScriptFault.{ScriptFault}
@@ -39,6 +38,7 @@ use Rattle.sctp_trace.specs.PairStands.{PairStands}
 use Rattle.sctp_trace.specs.PairRuns.{Told}
 use Rattle.sctp_trace.specs.Script.{is_paired, Does, LineActs, Goes, IsOutput, IsFront, HasNoPair, HasFirstFault, FaultsFirst, BeginsOutput}
 use Rattle.sctp_trace.specs.ScriptSteps.{StandsAt, IsWrittenOf, LineLeaves, Closes, IsSoFar, IsOver, fault_of, BeginsFront, EndsAs}
+use Rattle.sctp_text.specs.declared.limits.TheConstants.{LINE_FEED, LONGEST_LINE, LONGEST_TEXT}
 
 -- ---- lines one after another
 
@@ -76,7 +76,7 @@ goes_none (l ∷ lines) state after done goes e =
 
 -- lines that go on behind first lines write more behind what those wrote
 pub front_goes_on : (text : List ℕ) (front more : List (List ℕ)) (rest behind done further : List ℕ) (state after : Option World)
-    → IsFront text front rest done state → All IsOneLine more → rest ≡ joined more ++ behind → length (joined (front ++ more)) ≤ LONGEST_SCRIPT
+    → IsFront text front rest done state → All IsOneLine more → rest ≡ joined more ++ behind → length (joined (front ++ more)) ≤ LONGEST_TEXT
     → Goes state more further after → IsFront text (front ++ more) behind (done ++ further) after
 front_goes_on text front more rest behind done further state after is each on small goes = record {
   each = All-append IsOneLine front more is.each each;
@@ -94,7 +94,7 @@ text_behind text lines now bytes rest has on =
     ap (λ (list : List ℕ). list ++ bytes) has.whole ∙ append_assoc (joined lines) now.held bytes ∙ ap (λ (list : List ℕ). joined lines ++ list) on
 
 pub front_of : (s : Running) (text done : List ℕ) (lines : List (List ℕ)) (state : Option World) (bytes rest : List ℕ)
-    → IsSoFar s text done lines state → s.lines.given ≤ LONGEST_SCRIPT → s.lines.held ++ bytes ≡ rest → IsFront (text ++ bytes) lines rest done state
+    → IsSoFar s text done lines state → s.lines.given ≤ LONGEST_TEXT → s.lines.held ++ bytes ≡ rest → IsFront (text ++ bytes) lines rest done state
 front_of s text done lines state bytes rest so small on = record {
   each = so.given.each;
   whole = text_behind text lines s.lines bytes rest so.given on;
@@ -113,10 +113,10 @@ length_at : (m n : ℕ) (b : Bool) → b ≡ false → m ≡ n → cond (not b) 
 length_at m n true is e = cc
 length_at m n false is e = omega (arith, e)
 
-pub first_length-ended : (line tail : List ℕ) → IsOneLine line → first_length (line ++ LF ∷ tail) ≡ length line
+pub first_length-ended : (line tail : List ℕ) → IsOneLine line → first_length (line ++ LINE_FEED ∷ tail) ≡ length line
 first_length-ended [] tail one = refl
 first_length-ended (byte ∷ line) tail one =
-    length_at (first_length (line ++ LF ∷ tail)) (length line) (is_line_feed byte) (All-head (λ b. is_line_feed b ≡ false) byte line one) (first_length-ended line tail (All-tail (λ b. is_line_feed b ≡ false) byte line one))
+    length_at (first_length (line ++ LINE_FEED ∷ tail)) (length line) (is_line_feed byte) (All-head (λ b. is_line_feed b ≡ false) byte line one) (first_length-ended line tail (All-tail (λ b. is_line_feed b ≡ false) byte line one))
 
 pub first_length-last : (line : List ℕ) → IsOneLine line → first_length line ≡ length line
 first_length-last [] one = refl
@@ -139,7 +139,7 @@ line_acted s t text done lines state after bytes line here so given acts stands 
 -- what is known of a line that came: `rest` begins with it
 pub record HasCome (s : Running) (text done : List ℕ) (lines : List (List ℕ)) (state : Option World) (bytes rest line : List ℕ) : Type 0 where
   pub so : IsSoFar s text done lines state
-  pub small : s.lines.given ≤ LONGEST_SCRIPT
+  pub small : s.lines.given ≤ LONGEST_TEXT
   pub on : s.lines.held ++ bytes ≡ rest
   pub one : IsOneLine line
   pub short : (IsTooLong (length (joined lines)) rest → ⊥)
@@ -161,14 +161,14 @@ line_faulty end s text done lines state bytes rest line here n fault come begins
 
 -- memory was wanting
 pub line_unmade : (s : Running) (text done : List ℕ) (lines : List (List ℕ)) (state : Option World) (bytes rest here : List ℕ)
-    → IsSoFar s text done lines state → s.lines.given ≤ LONGEST_SCRIPT → s.lines.held ++ bytes ≡ rest → here ≡ [] → BeginsFront (text ++ bytes) (done ++ here)
+    → IsSoFar s text done lines state → s.lines.given ≤ LONGEST_TEXT → s.lines.held ++ bytes ≡ rest → here ≡ [] → BeginsFront (text ++ bytes) (done ++ here)
 line_unmade s text done lines state bytes rest here so small on none =
     let same : done ++ here ≡ done = ap (λ (more : List ℕ). done ++ more) none ∙ append-nil done in
     rw same (lines, rest, done, [], state, front_of s text done lines state bytes rest so small on, sym (append-nil done))
 
 -- a line that a line feed ends stops the script
 pub ended_stops : (end : Type 0) (fault : ScriptFault) (s : Running) (now : Reading) (text done : List ℕ) (lines : List (List ℕ)) (state : Option World) (bytes line here : List ℕ) (pair : Option Pair)
-    → HasCome s text done lines state bytes (ended line ++ now.held) line → HasGiven (text ++ bytes) (lines ++ line ∷ []) now → now.given ≤ LONGEST_SCRIPT
+    → HasCome s text done lines state bytes (ended line ++ now.held) line → HasGiven (text ++ bytes) (lines ++ line ∷ []) now → now.given ≤ LONGEST_TEXT
     → LineLeaves (Err fault) s.number state line here pair → EndsAs end (Err fault) (text ++ bytes) (done ++ here)
 ended_stops end Read s now text done lines state bytes line here pair come given small leaves = absurd leaves
 ended_stops end Write s now text done lines state bytes line here pair come given small leaves =
@@ -195,7 +195,7 @@ ended_stops end (Line n fault) s now text done lines state bytes line here pair 
 
 -- a last line stops the script
 pub last_stops : (end : Type 0) (fault : ScriptFault) (s : Running) (text done : List ℕ) (lines : List (List ℕ)) (state : Option World) (bytes line here : List ℕ) (pair : Option Pair)
-    → end → HasCome s text done lines state bytes line line → 0 < length line → length (text ++ bytes) ≤ LONGEST_SCRIPT → lines_of (text ++ bytes) ≡ lines ++ line ∷ []
+    → end → HasCome s text done lines state bytes line line → 0 < length line → length (text ++ bytes) ≤ LONGEST_TEXT → lines_of (text ++ bytes) ≡ lines ++ line ∷ []
     → LineLeaves (Err fault) s.number state line here pair → EndsAs end (Err fault) (text ++ bytes) (done ++ here)
 last_stops end Read s text done lines state bytes line here pair e come some small all leaves = absurd leaves
 last_stops end Write s text done lines state bytes line here pair e come some small all leaves =
@@ -214,7 +214,7 @@ last_stops end (Line n fault) s text done lines state bytes line here pair e com
 -- What a reader of lines gave in answer, behind what was given before.
 pub record Got (s : Running) (text done : List ℕ) (lines : List (List ℕ)) (state : Option World) (bytes : List ℕ) (answer : NextLine) (now : Reading) : Type 0 where
   pub so : IsSoFar s text done lines state
-  pub small : s.lines.given ≤ LONGEST_SCRIPT
+  pub small : s.lines.given ≤ LONGEST_TEXT
   pub on : s.lines.held ++ bytes ≡ given_by (Ok answer) ++ now.held
   pub count : now.given ≡ s.lines.given + length (given_by (Ok answer))
   pub is : IsAnswer (Ok answer) now
@@ -224,7 +224,7 @@ pub ended_come : (s : Running) (text done : List ℕ) (lines : List (List ℕ)) 
     → Got s text done lines state bytes (Ended line) now → HasCome s text done lines state bytes (ended line.items ++ now.held) line.items
 ended_come s text done lines state bytes line now got =
     let first : first_length (ended line.items ++ now.held) ≡ length line.items =
-    ap first_length (append_assoc line.items (LF ∷ []) now.held) ∙ first_length-ended line.items now.held got.is.0 in
+    ap first_length (append_assoc line.items (LINE_FEED ∷ []) now.held) ∙ first_length-ended line.items now.held got.is.0 in
     record {
       so = got.so;
       small = got.small;
@@ -232,7 +232,7 @@ ended_come s text done lines state bytes line now got =
       one = got.is.0;
       short = λ long. elim long [
         | inl h ↦ omega (arith, h, first, got.is.1)
-        | inr h ↦ omega (arith, h, first, got.count, got.so.given.count, got.is.2, length-append line.items (LF ∷ []))
+        | inr h ↦ omega (arith, h, first, got.count, got.so.given.count, got.is.2, length-append line.items (LINE_FEED ∷ []))
       ];
     }
 
@@ -252,7 +252,7 @@ last_come s text done lines state bytes line now got =
     }
 
 pub last_small : (s : Running) (text done : List ℕ) (lines : List (List ℕ)) (state : Option World) (bytes : List ℕ) (line : Vec ℕ Global) (now : Reading)
-    → Got s text done lines state bytes (Last line) now → length (text ++ bytes) ≤ LONGEST_SCRIPT
+    → Got s text done lines state bytes (Last line) now → length (text ++ bytes) ≤ LONGEST_TEXT
 last_small s text done lines state bytes line now got =
     let come = last_come s text done lines state bytes line now got in
     omega (arith, length_read s text done lines state bytes line.items got.so come.on, got.count, got.is.3)
@@ -294,7 +294,7 @@ end_over s t text done lines state bytes now got stands = record {
 pub lines_within : (lines : List (List ℕ)) → length lines ≤ length (joined lines)
 lines_within [] = omega arith
 lines_within (line ∷ lines) =
-    omega (arith, lines_within lines, length-append (ended line) (joined lines), length-append line (LF ∷ []))
+    omega (arith, lines_within lines, length-append (ended line) (joined lines), length-append line (LINE_FEED ∷ []))
 
 -- no line came
 pub unread : (end : Type 0) (fault : ReadFault) (text written : List ℕ) → BeginsFront text written → EndsAs end (Err (fault_of fault)) text written
@@ -382,12 +382,12 @@ mapped_is Q (Err e) (Err d) x cases is = cc
 
 -- a line that says an event, and one that says a pair
 pub finds_event : (b : Bool) (line : List ℕ) (found : Option Acting) (a : Acting) (event : Event) → found ≡ Some a → a ≡ acting.Event event
-    → Finds b line found → Says b line (Acts (event_said event))
+    → Finds b line found → Says b line (Acts (event_meaning event))
 finds_event b line found a event f e finds =
     let finds : Finds b line (Some (acting.Event event)) = subst (λ (x : Option Acting). Finds b line x) (f ∙ ap Some e) finds in finds.0
 
 pub finds_pair : (b : Bool) (line : List ℕ) (found : Option Acting) (a : Acting) (config : PairConfig) → found ≡ Some a → a ≡ acting.Pair config
-    → Finds b line found → Says b line (Pairs (configuration_of config))
+    → Finds b line found → Says b line (Pairs (configuration_meaning config))
 finds_pair b line found a config f e finds =
     let finds : Finds b line (Some (acting.Pair config)) = subst (λ (x : Option Acting). Finds b line x) (f ∙ ap Some e) finds in finds.0
 

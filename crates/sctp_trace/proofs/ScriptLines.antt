@@ -6,16 +6,16 @@ use Rattle.std.proofs.lemmas.List.Elements.{All-nil, All-cons, All-head, All-tai
 use Rattle.sctp_model.specs.first.World.{World, Event, Step, IsReachable, start}
 use Rattle.sctp_safety.specs.Answered.{EventsAreAnswered}
 use Rattle.sctp_script.specs.declared.line.LineFault.TheVariants.{TooLong}
-use Rattle.sctp_script.specs.GrammarLaws.{SaysOneThing}
-use Rattle.sctp_script.specs.Lines.{LineMeaning, Silent, Pairs, Acts, Fault, Says}
-use Rattle.sctp_script.specs.LineLaws.{SplitInOneWay}
-use Rattle.sctp_script.specs.LineLaws as split
-use Rattle.sctp_script.specs.LinesRead.{LONGEST_LINE, LONGEST_SCRIPT, IsOneLine, IsTooLong, ended, joined, ended_lines_of, first_length, first_end}
-use Rattle.sctp_script.specs.OutcomeLines.{outcome_line}
-use Rattle.sctp_script.specs.SpacedWords.{LF}
+use Rattle.sctp_script.specs.Grammar.{SaysOneThing}
+use Rattle.sctp_script.specs.Grammar.{LineMeaning, Silent, Pairs, Acts, Fault, Says}
+use Rattle.sctp_text.specs.TextLines.{SplitInOneWay}
+use Rattle.sctp_text.specs.TextLines as split
+use Rattle.sctp_text.specs.TextLines.{IsOneLine, IsTooLong, ended, joined, ended_lines_of, first_length, first_end}
+use Rattle.sctp_script.specs.OutcomeText.{outcome_line}
 use Rattle.sctp_trace.specs.Script.{is_paired, Does, LineActs, Goes, HasFirstFault, IsFront, Stops, IsLines}
 use Rattle.sctp_trace.proofs.ScriptLemmas.{first_length-ended, front_goes_on}
 use Rattle.sctp_trace.proofs.ScriptSafety.{IsReached, at_start, one_step, all_lines}
+use Rattle.sctp_text.specs.declared.limits.TheConstants.{LINE_FEED, LONGEST_LINE, LONGEST_TEXT}
 
 -- the laws of the script's grammar, of its lines, and of the world of two ends
 pub record Laws : Type 0 where
@@ -48,9 +48,9 @@ one_line laws state line (Fault f) reached says = inl (f, refl)
 
 -- whether the next line is too long is decided
 long_or_not : (given : ℕ) (text : List ℕ) → IsTooLong given text ⊎ (IsTooLong given text → ⊥)
-long_or_not given text = go (cases_lt LONGEST_LINE (first_length text)) (cases_lt LONGEST_SCRIPT (given + first_end text))
+long_or_not given text = go (cases_lt LONGEST_LINE (first_length text)) (cases_lt LONGEST_TEXT (given + first_end text))
   where
-    go : (LONGEST_LINE < first_length text) ⊎ (first_length text ≤ LONGEST_LINE) → (LONGEST_SCRIPT < given + first_end text) ⊎ (given + first_end text ≤ LONGEST_SCRIPT)
+    go : (LONGEST_LINE < first_length text) ⊎ (first_length text ≤ LONGEST_LINE) → (LONGEST_TEXT < given + first_end text) ⊎ (given + first_end text ≤ LONGEST_TEXT)
         → IsTooLong given text ⊎ (IsTooLong given text → ⊥)
     go (inl h) b = inl (inl h)
     go (inr h) (inl k) = inl (inr k)
@@ -67,11 +67,11 @@ pub record GoesOn (state : Option World) (given : ℕ) (rest : List ℕ) : Type 
   pub after : Option World
   pub each : All IsOneLine more
   pub whole : rest ≡ joined more ++ behind
-  pub small : given + length (joined more) ≤ LONGEST_SCRIPT
+  pub small : given + length (joined more) ≤ LONGEST_TEXT
   pub goes : Goes state more written after
   pub stops : Stops after (given + length (joined more)) behind
 
-stop_here : (state : Option World) (given : ℕ) (rest : List ℕ) → given ≤ LONGEST_SCRIPT → Stops state given rest → GoesOn state given rest
+stop_here : (state : Option World) (given : ℕ) (rest : List ℕ) → given ≤ LONGEST_TEXT → Stops state given rest → GoesOn state given rest
 stop_here state given rest small stops = record {
   more = [];
   behind = rest;
@@ -85,14 +85,14 @@ stop_here state given rest small stops = record {
 }
 
 go_on : Laws → (ls : List (List ℕ)) (state : Option World) (given : ℕ) (rest tail : List ℕ) → IsReached state → All IsOneLine ls → IsOneLine tail
-    → rest ≡ joined ls ++ tail → given ≤ LONGEST_SCRIPT → GoesOn state given rest
+    → rest ≡ joined ls ++ tail → given ≤ LONGEST_TEXT → GoesOn state given rest
 go_on laws [] state given rest tail reached each one whole small =
     stop_here state given rest small (inl (ap ended_lines_of whole ∙ (laws.splits [] tail).none_ended one))
 go_on laws (l ∷ ls) state given rest tail reached each one whole small =
     decide (λ after on within. go_on laws ls after (given + length (ended l)) (joined ls ++ tail) tail on (All-tail IsOneLine l ls each) one refl within) (long_or_not given rest)
   where
     Behind : Type 0
-    Behind = (after : Option World) → IsReached after → given + length (ended l) ≤ LONGEST_SCRIPT → GoesOn after (given + length (ended l)) (joined ls ++ tail)
+    Behind = (after : Option World) → IsReached after → given + length (ended l) ≤ LONGEST_TEXT → GoesOn after (given + length (ended l)) (joined ls ++ tail)
 
     here : IsOneLine l
     here = All-head IsOneLine l ls each
@@ -101,15 +101,15 @@ go_on laws (l ∷ ls) state given rest tail reached each one whole small =
     begins = whole ∙ append_assoc (ended l) (joined ls) tail
 
     size : length (ended l) ≡ length l + 1
-    size = length-append l (LF ∷ [])
+    size = length-append l (LINE_FEED ∷ [])
 
     first : first_length rest ≡ length l
-    first = ap first_length (begins ∙ append_assoc l (LF ∷ []) (joined ls ++ tail)) ∙ first_length-ended l (joined ls ++ tail) here
+    first = ap first_length (begins ∙ append_assoc l (LINE_FEED ∷ []) (joined ls ++ tail)) ∙ first_length-ended l (joined ls ++ tail) here
 
-    within : (IsTooLong given rest → ⊥) → given + length (ended l) ≤ LONGEST_SCRIPT
-    within short = go (cases_lt LONGEST_SCRIPT (given + length (ended l)))
+    within : (IsTooLong given rest → ⊥) → given + length (ended l) ≤ LONGEST_TEXT
+    within short = go (cases_lt LONGEST_TEXT (given + length (ended l)))
       where
-        go : (LONGEST_SCRIPT < given + length (ended l)) ⊎ (given + length (ended l) ≤ LONGEST_SCRIPT) → given + length (ended l) ≤ LONGEST_SCRIPT
+        go : (LONGEST_TEXT < given + length (ended l)) ⊎ (given + length (ended l) ≤ LONGEST_TEXT) → given + length (ended l) ≤ LONGEST_TEXT
         go (inl more) = absurd (short (inr (omega (arith, more, size, first, ap length begins, length-append (ended l) (joined ls ++ tail)))))
         go (inr less) = less
 

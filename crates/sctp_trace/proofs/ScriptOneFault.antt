@@ -6,20 +6,20 @@ use Rattle.std.proofs.lemmas.List.Elements.{All-head, All-tail}
 use Rattle.sctp_model.specs.first.World.{World}
 use Rattle.sctp_script.specs.declared.line.LineFault.{LineFault}
 use Rattle.sctp_script.specs.declared.line.LineFault.TheVariants.{TooLong}
-use Rattle.sctp_script.specs.GrammarLaws.{SaysOneThing}
-use Rattle.sctp_script.specs.Lines.{LineMeaning, Silent, Pairs, Acts, Fault, Says}
-use Rattle.sctp_script.specs.LinesRead.{LONGEST_LINE, LONGEST_SCRIPT, IsOneLine, is_line_feed, ended, joined, first_length}
-use Rattle.sctp_script.specs.SpacedWords.{LF}
+use Rattle.sctp_script.specs.Grammar.{SaysOneThing}
+use Rattle.sctp_script.specs.Grammar.{LineMeaning, Silent, Pairs, Acts, Fault, Says}
+use Rattle.sctp_text.specs.TextLines.{IsOneLine, is_line_feed, ended, joined, first_length}
 use Rattle.sctp_trace.specs.Script.{is_paired, Does, LineActs, Goes, BeginsWith, HasFirstFault}
 use Rattle.sctp_trace.specs.ScriptOneFault.{HasOneFault}
 use Rattle.sctp_trace.proofs.ScriptLemmas.{first_length-ended}
+use Rattle.sctp_text.specs.declared.limits.TheConstants.{LINE_FEED, LONGEST_LINE, LONGEST_TEXT}
 
 -- ---- a text begins with one line
 
-apart : (byte : ℕ) (P : Type 0) → is_line_feed byte ≡ false → byte ≡ LF → P
+apart : (byte : ℕ) (P : Type 0) → is_line_feed byte ≡ false → byte ≡ LINE_FEED → P
 apart byte P other is = let same : is_line_feed byte ≡ true = ap is_line_feed is in cc
 
-pub same_line : (l k : List ℕ) (t u : List ℕ) → IsOneLine l → IsOneLine k → l ++ LF ∷ t ≡ k ++ LF ∷ u → (l ≡ k) × (t ≡ u)
+pub same_line : (l k : List ℕ) (t u : List ℕ) → IsOneLine l → IsOneLine k → l ++ LINE_FEED ∷ t ≡ k ++ LINE_FEED ∷ u → (l ≡ k) × (t ≡ u)
 same_line [] [] t u a b e = (refl, cc)
 same_line [] (y ∷ k) t u a b e = apart y (([] ≡ y ∷ k) × (t ≡ u)) (All-head (λ b. is_line_feed b ≡ false) y k b) (cc)
 same_line (x ∷ l) [] t u a b e = apart x ((x ∷ l ≡ []) × (t ≡ u)) (All-head (λ b. is_line_feed b ≡ false) x l a) (cc)
@@ -28,14 +28,14 @@ same_line (x ∷ l) (y ∷ k) t u a b e =
     let first : x ≡ y = cc in
     (ap (λ (z : ℕ). z ∷ l) first ∙ ap (λ (r : List ℕ). y ∷ r) on.0, on.1)
 
-pub not_last : (l k : List ℕ) (t : List ℕ) → IsOneLine k → l ++ LF ∷ t ≡ k → ⊥
+pub not_last : (l k : List ℕ) (t : List ℕ) → IsOneLine k → l ++ LINE_FEED ∷ t ≡ k → ⊥
 not_last [] [] t b e = cc
 not_last [] (y ∷ k) t b e = apart y ⊥ (All-head (λ b. is_line_feed b ≡ false) y k b) (cc)
 not_last (x ∷ l) [] t b e = cc
 not_last (x ∷ l) (y ∷ k) t b e = not_last l k t (All-tail (λ b. is_line_feed b ≡ false) y k b) (cc)
 
-unfolded : (l t text : List ℕ) → text ≡ ended l ++ t → text ≡ l ++ LF ∷ t
-unfolded l t text e = e ∙ append_assoc l (LF ∷ []) t
+unfolded : (l t text : List ℕ) → text ≡ ended l ++ t → text ≡ l ++ LINE_FEED ∷ t
+unfolded l t text e = e ∙ append_assoc l (LINE_FEED ∷ []) t
 
 pub begins_once : (end : Type 0) (text l k : List ℕ) → BeginsWith end text l → BeginsWith end text k → l ≡ k
 begins_once end text l k (a, inl (t, e)) (b, inl (u, f)) = (same_line l k t u a b (sym (unfolded l t text e) ∙ unfolded k u text f)).0
@@ -84,13 +84,13 @@ both_paired (Fault f) s t p q v w a b e = absurd a
 
 -- a line that acts has no first fault in its place
 acts_not : OneMeaning → (end : Type 0) (s after : Option World) (here : List ℕ) (given : ℕ) (l t text : List ℕ) (f : LineFault) → IsOneLine l → text ≡ ended l ++ t
-    → given + length (ended l) ≤ LONGEST_SCRIPT → LineActs s l here after → HasFirstFault end (is_paired s) given text f → ⊥
+    → given + length (ended l) ≤ LONGEST_TEXT → LineActs s l here after → HasFirstFault end (is_paired s) given text f → ⊥
 acts_not law end s after here given l t text f a e small acts (inl (is, long)) =
     let first : first_length text ≡ length l = ap first_length (unfolded l t text e) ∙ first_length-ended l t a in
     let short = short_line law (is_paired s) l acts.0 s after here acts.1 acts.2 in
     elim long [
       | inl h ↦ omega (arith, h, first, short)
-      | inr h ↦ omega (arith, h, first, small, length-append l (LF ∷ []))
+      | inr h ↦ omega (arith, h, first, small, length-append l (LINE_FEED ∷ []))
     ]
 acts_not law end s after here given l t text f a e small acts (inr (short, (k, begins, has))) =
     let same : k ≡ l = begins_once end text k l begins (a, inl (t, e)) in
@@ -108,7 +108,7 @@ size_on given l ls = omega (arith, length-append (ended l) (joined ls))
 -- ---- two ways of lines through one text have their first fault in one place
 pub one_place : OneMeaning → (end : Type 0) (text : List ℕ) (front back : List (List ℕ)) (rest tail : List ℕ) (s t p q : Option World) (v w : List ℕ) (given : ℕ) (f g : LineFault)
     → is_paired s ≡ is_paired t → All IsOneLine front → All IsOneLine back → text ≡ joined front ++ rest → text ≡ joined back ++ tail
-    → given + length (joined front) ≤ LONGEST_SCRIPT → given + length (joined back) ≤ LONGEST_SCRIPT → Goes s front v p → Goes t back w q
+    → given + length (joined front) ≤ LONGEST_TEXT → given + length (joined back) ≤ LONGEST_TEXT → Goes s front v p → Goes t back w q
     → HasFirstFault end (is_paired p) (given + length (joined front)) rest f → HasFirstFault end (is_paired q) (given + length (joined back)) tail g
     → (length front ≡ length back) × (f ≡ g)
 one_place law end text [] [] rest tail s t p q v w given f g e a b x y small less goes runs h k =

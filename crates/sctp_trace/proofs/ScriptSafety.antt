@@ -2,7 +2,7 @@
 use Rattle.std.proofs.Common.{◌≡◌, ℕ, ◌∷◌, [], ◌++◌, List, Option, None, Some, refl, sym, ap, ◌∙◌, subst}
 use Rattle.sctp_model.specs.first.World.{World, Configuration, Event, Outcome, Step, Run, IsReachable, start, last_of}
 use Rattle.sctp_safety.specs.Worlds.{IsSafeWorld, SafeWorlds}
-use Rattle.sctp_script.specs.Lines.{LineMeaning, Silent, Pairs, Acts, Fault}
+use Rattle.sctp_script.specs.Grammar.{LineMeaning, Silent, Pairs, Acts, Fault}
 use Rattle.sctp_trace.specs.Script.{Does, Goes}
 use Rattle.sctp_trace.proofs.RunLemmas.{run-push, last-push}
 

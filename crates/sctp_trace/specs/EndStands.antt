@@ -9,7 +9,7 @@ use Rattle.sctp_model.specs.ReceiverView.{Handed, ReceiverView}
 use Rattle.sctp_model.specs.first.Sending.{Refusal}
 use Rattle.sctp_model.specs.first.World.{State, Closed, Listen, Established, EndView, Packet, Act, Acts, SackOf, number_told}
 use Rattle.sctp_wire.specs.declared.fault.NoMemory.{NoMemory}
-use Rattle.sctp_script.specs.Events.{state_said}
+use Rattle.sctp_script.specs.Events.{state_meaning}
 use Rattle.sctp_script.specs.ReportText.{tickets_of}
 use Rattle.sctp_first_recv.specs.ReceiverStands.{ReceiverStands}
 use Rattle.sctp_first_send.specs.SenderStands.{StandsFor}
@@ -42,7 +42,7 @@ IsOn s h = h.lane ≡ ordered_lane s
 
 -- Each part of an end stands for its part of the view, and the logs say what the view does.
 pub record IsEnd (e : End) (v : EndView) : Type 0 where
-  pub state : state_said e.state ≡ v.state
+  pub state : state_meaning e.state ≡ v.state
   pub sender : StandsFor e.sender v.sender
   pub receiver : ReceiverStands e.receiver v.receiver
   pub sack_due : e.sack_due ≡ v.sack_due

@@ -2,7 +2,7 @@
 use Rattle.std.specs.Prelude.{◌≡◌, ℕ, ◌⊎◌, true, List, [], ◌++◌, Result, Ok, Err, codes, decimal}
 use Rattle.clap.specs.Simple.{App, Shape, new_shape, with_subcommand}
 use Rattle.clap.specs.Faults.{fault_of}
-use Rattle.sctp_script.specs.Lines.{kind_of}
+use Rattle.sctp_script.specs.Grammar.{kind_of}
 use Rattle.sctp_script.specs.declared.line.LineFault.{LineFault}
 use Rattle.sctp_trace.specs.Script.{IsAnswered}
 use Rattle.sctp_trace.specs.declared.command_line.TheConstants.{DONE, WRONG_WORDS, REFUSED, FAILED}

@@ -6,7 +6,7 @@ use Rattle.sctp_model.specs.first.World as world
 use Rattle.sctp_model.specs.first.World.{World, Step, Run, IsReachable}
 use Rattle.sctp_safety.specs.Worlds.{AllSafe}
 use Rattle.sctp_wire.specs.declared.fault.NoMemory.{NoMemory}
-use Rattle.sctp_script.specs.Events.{event_said, Answers}
+use Rattle.sctp_script.specs.Events.{event_meaning, Answers}
 use Rattle.sctp_script.specs.declared.event.Event.{Event}
 use Rattle.sctp_script.specs.declared.event.Outcome.{Outcome}
 
@@ -19,7 +19,7 @@ Told (Err _) None = Unit {0}
 
 -- an event may give this result and lead from one world to another
 abbrev pub Leads : World → Event → Result Outcome NoMemory → World → Type 0
-Leads w event result x = (o : Option world.Outcome) × Told result o × Step w (event_said event) o x
+Leads w event result x = (o : Option world.Outcome) × Told result o × Step w (event_meaning event) o x
 
 -- outcomes tell answers, each its own
 abbrev pub AllTold : List Outcome → List (Option world.Outcome) → Type 0
@@ -35,10 +35,10 @@ IsCutShort answers = (answers ≡ []) ⊎ ((outcomes : List Outcome) × (front :
 -- a run over all events with these outcomes, or one over the events so far
 abbrev pub Ran : World → List Event → Result (Vec Outcome Global) NoMemory → List World → Type 0
 Ran w events (Ok outcomes) trace =
-    (answers : List (Option world.Outcome)) × AllTold outcomes.items answers × Run w (map event_said events) answers trace
+    (answers : List (Option world.Outcome)) × AllTold outcomes.items answers × Run w (map event_meaning events) answers trace
 Ran w events (Err _) trace =
     (done rest : List Event) × (answers : List (Option world.Outcome))
-    × (events ≡ done ++ rest) × IsCutShort answers × Run w (map event_said done) answers trace
+    × (events ≡ done ++ rest) × IsCutShort answers × Run w (map event_meaning done) answers trace
 
 -- What holds in the worlds of a run from here on, where this world can be reached.
 pub record Promises (w : World) (trace : List World) : Type 0 where

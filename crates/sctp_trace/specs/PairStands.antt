@@ -5,7 +5,7 @@ use Rattle.std.specs.declared.alloc.Global.{Global}
 use Rattle.sctp_model.specs.first.World.{Side, A, B, Packet, World}
 use Rattle.sctp_model.specs.Packet.{HEADER_ROOM, size_of_packet}
 use Rattle.sctp_wire.specs.Reads.{Reads}
-use Rattle.sctp_script.specs.Settings.{configuration_of}
+use Rattle.sctp_script.specs.Configuration.{configuration_meaning}
 use Rattle.sctp_trace.specs.EndStands.{EndStands}
 use Rattle.sctp_trace.specs.declared.pair.Pair.{Pair}
 
@@ -27,7 +27,7 @@ with_bag w A ps = record w { from_a = ps }
 with_bag w B ps = record w { from_b = ps }
 
 pub record IsPair (p : Pair) (w : World) : Type 0 where
-  pub configuration : configuration_of p.config ≡ w.configuration
+  pub configuration : configuration_meaning p.config ≡ w.configuration
   pub a : EndStands p.a w.a
   pub b : EndStands p.b w.b
   pub from_a : ArePackets p.from_a.items w.from_a

@@ -5,12 +5,13 @@ use Rattle.std.specs.List.{All}
 use Rattle.sctp_model.specs.first.World.{World, Outcome, start, Step}
 use Rattle.sctp_script.specs.declared.line.LineFault.{LineFault}
 use Rattle.sctp_script.specs.declared.line.LineFault.TheVariants.{TooLong, PairOrder}
-use Rattle.sctp_script.specs.Lines.{LineMeaning, Silent, Pairs, Acts, Fault, Says, IsFirstFaultOf}
-use Rattle.sctp_script.specs.LinesRead.{LONGEST_SCRIPT, IsOneLine, IsTooLong, ended, joined, lines_of, ended_lines_of}
-use Rattle.sctp_script.specs.OutcomeLines.{outcome_line}
+use Rattle.sctp_script.specs.Grammar.{LineMeaning, Silent, Pairs, Acts, Fault, Says, IsFirstFaultOf}
+use Rattle.sctp_text.specs.TextLines.{IsOneLine, IsTooLong, ended, joined, lines_of, ended_lines_of}
+use Rattle.sctp_script.specs.OutcomeText.{outcome_line}
 use Rattle.sctp_script.specs.ReportText.{report}
 use Rattle.sctp_trace.specs.declared.script.ScriptFault.{ScriptFault}
 use Rattle.sctp_trace.specs.declared.script.ScriptFault.TheVariants.{Read, Write, NoMemory, Line}
+use Rattle.sctp_text.specs.declared.limits.TheConstants.{LONGEST_TEXT}
 
 -- ---- lines that act
 
@@ -41,7 +42,7 @@ Goes state (line ∷ lines) written after =
 
 -- the outcome lines of all lines of a script, and then the report
 pub record IsOutput (text written : List ℕ) : Type 0 where
-  pub small : length text ≤ LONGEST_SCRIPT
+  pub small : length text ≤ LONGEST_TEXT
   pub outcomes : List ℕ
   pub world : World
   pub goes : Goes None (lines_of text) outcomes (Some world)
@@ -63,7 +64,7 @@ HasFirstFault end paired given text fault =
 pub record IsFront (text : List ℕ) (front : List (List ℕ)) (rest written : List ℕ) (state : Option World) : Type 0 where
   pub each : All IsOneLine front
   pub whole : text ≡ joined front ++ rest
-  pub small : length (joined front) ≤ LONGEST_SCRIPT
+  pub small : length (joined front) ≤ LONGEST_TEXT
   pub goes : Goes None front written state
 
 -- the line behind first lines has this fault; lines count from 1
@@ -77,7 +78,7 @@ pub record IsFaulty (end : Type 0) (text : List ℕ) (n : ℕ) (fault : LineFaul
 
 -- no line of a script acts or has a fault
 pub record HasNoPair (text : List ℕ) : Type 0 where
-  pub small : length text ≤ LONGEST_SCRIPT
+  pub small : length text ≤ LONGEST_TEXT
   pub goes : Goes None (lines_of text) [] None
 
 -- Line n is the first one with a fault, and what the lines before it wrote. Where no line acts or has a fault, line 1 has one.

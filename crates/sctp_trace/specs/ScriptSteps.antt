@@ -3,10 +3,10 @@ use Rattle.std.specs.Prelude.{◌≡◌, ℕ, suc, ◌≤◌, ◌⊎◌, Bool, t
 use Rattle.sctp_model.specs.first.World.{World}
 use Rattle.sctp_script.specs.declared.line.LineFault.{LineFault}
 use Rattle.sctp_script.specs.declared.line.LineFault.TheVariants.{PairOrder}
-use Rattle.sctp_script.specs.declared.line_reader.ReadFault.{ReadFault}
-use Rattle.sctp_script.specs.declared.line_reader.ReadFault.TheVariants as read
-use Rattle.sctp_script.specs.Lines.{IsFirstFaultOf}
-use Rattle.sctp_script.specs.LinesRead.{LONGEST_SCRIPT, HasGiven, lines_of}
+use Rattle.sctp_text.specs.declared.line_reader.ReadFault.{ReadFault}
+use Rattle.sctp_text.specs.declared.line_reader.ReadFault.TheVariants as read
+use Rattle.sctp_script.specs.Grammar.{IsFirstFaultOf}
+use Rattle.sctp_text.specs.TextLines.{HasGiven, lines_of}
 use Rattle.sctp_script.specs.ReportText.{report}
 use Rattle.sctp_trace.specs.declared.pair.Pair.{Pair}
 use Rattle.sctp_trace.specs.declared.script.Running.{Running}
@@ -14,6 +14,7 @@ use Rattle.sctp_trace.specs.declared.script.ScriptFault.{ScriptFault}
 use Rattle.sctp_trace.specs.declared.script.ScriptFault.TheVariants.{Read, Write, NoMemory, Line}
 use Rattle.sctp_trace.specs.PairStands.{PairStands}
 use Rattle.sctp_trace.specs.Script.{is_paired, LineActs, Goes, IsFront, IsOutput, BeginsOutput, FaultsFirst}
+use Rattle.sctp_text.specs.declared.limits.TheConstants.{LONGEST_TEXT}
 
 -- the pair, if there is one, stands for the state
 abbrev pub StandsAt : Option Pair → Option World → Type 0
@@ -60,7 +61,7 @@ pub record IsSoFar (s : Running) (text done : List ℕ) (lines : List (List ℕ)
 
 -- All lines of a text that was read acted, and wrote this.
 pub record IsOver (s : Running) (text done : List ℕ) (state : Option World) : Type 0 where
-  pub small : length text ≤ LONGEST_SCRIPT
+  pub small : length text ≤ LONGEST_TEXT
   pub goes : Goes None (lines_of text) done state
   pub stands : StandsAt s.pair state
 

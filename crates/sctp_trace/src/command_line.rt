@@ -7,7 +7,7 @@ ghost use Rattle.sctp_trace.specs.ExitStatus.{commands, IsForm, Begins, Runs, En
 use crate::script::{ScriptFault, run_script};
 use clap::error::ErrorKind;
 use clap::{Command, Error};
-use sctp_script::{Sink, Source, write_all};
+use sctp_text::{Sink, Source, write_all};
 use sctp_wire::NoMemory;
 use std::alloc::Global;
 

@@ -8,14 +8,14 @@ ghost use Rattle.sctp_model.specs.first.Sending.{Refusal};
 ghost use Rattle.sctp_model.specs.first.World as world;
 ghost use Rattle.sctp_model.specs.first.World.{World, EndView, Packet, fresh_end, end_of, other, bag_of, with_end, SackOf, Sends, BuildsAt, Delivers, Takes_at};
 ghost use Rattle.sctp_wire.specs.ChunkTree.{chunk_meaning};
-ghost use Rattle.sctp_script.specs.Events.{side_said, state_said, Answers};
+ghost use Rattle.sctp_script.specs.Events.{side_meaning, state_meaning, Answers};
 ghost use Rattle.sctp_trace.specs.EndStands.{EndStands, is_established, ActLeaves, ActsLeave, IsBeginning};
 ghost use Rattle.sctp_packet.specs.Draft.{empty_draft, with_chunks};
 ghost use Rattle.sctp_trace.specs.PairStands.{ArePackets, IsPacketOf, with_bag};
 ghost use Rattle.sctp_trace.specs.PairRuns.{Told};
 ghost use Rattle.sctp_first_recv.specs.ReceiverStands.{ReceiverStands};
 ghost use Rattle.sctp_first_send.specs.SenderSteps.{reason_of};
-ghost use Rattle.sctp_script.specs.Settings.{configuration_of};
+ghost use Rattle.sctp_script.specs.Configuration.{configuration_meaning};
 
 use sctp_first_recv::{Answer, Receiver};
 use sctp_first_send::{Filled, SendFault, Sender};
@@ -57,7 +57,7 @@ impl End {
     /// Memory ran out.
     #[tactic(auto, unfolding(crate::specs::EndStands::EndStands))]
     pub(crate) fn new(alloc: Global, config: &PairConfig, state: State) -> Result<End, NoMemory>
-        ensures { IfOk result (λ end. EndStands end (fresh_end (configuration_of config.now) (state_said state))) }
+        ensures { IfOk result (λ end. EndStands end (fresh_end (configuration_meaning config.now) (state_meaning state))) }
     {
         let receiver = Receiver::new(alloc, config.streams(), config.buffer())?;
         Ok(End {
@@ -74,7 +74,7 @@ impl End {
 
 /// Whether there is an association.
 fn is_open(state: State) -> bool
-    ensures { result ≡ is_established (state_said state) }
+    ensures { result ≡ is_established (state_meaning state) }
 {
     match state {
         State::Closed | State::Listen => false,
@@ -95,9 +95,9 @@ pub(crate) fn send_at(
     payload_id: u32,
     bytes: &[u8],
 ) -> Result<Outcome, NoMemory>
-    ensures { (w : World) → EndStands end.old (end_of w (side_said side))
+    ensures { (w : World) → EndStands end.old (end_of w (side_meaning side))
         → (o : Option world.Outcome) × (t : EndView) × Told result o
-        × Sends w (side_said side) stream payload_id bytes.now o (with_end w (side_said side) t) × EndStands end.new t }
+        × Sends w (side_meaning side) stream payload_id bytes.now o (with_end w (side_meaning side) t) × EndStands end.new t }
 {
     if !is_open(end.state) {
         return Ok(Outcome::SendRefused {
@@ -148,10 +148,10 @@ pub(crate) fn build_at(
     bag: &mut Vec<Vec<u8>>,
 ) -> Result<Outcome, NoMemory>
     requires { 28 ≤ limit }
-    ensures { (w : World) → EndStands end.old (end_of w (side_said side)) → ArePackets bag.old.items (bag_of w (side_said side))
+    ensures { (w : World) → EndStands end.old (end_of w (side_meaning side)) → ArePackets bag.old.items (bag_of w (side_meaning side))
         → w.configuration.limit ≡ limit
         → (o : Option world.Outcome) × (t : EndView) × (ps : List Packet) × Told result o
-        × BuildsAt w (side_said side) o (with_bag (with_end w (side_said side) t) (side_said side) ps)
+        × BuildsAt w (side_meaning side) o (with_bag (with_end w (side_meaning side) t) (side_meaning side) ps)
         × EndStands end.new t × ArePackets bag.new.items ps }
 {
     if !is_open(end.state) {
@@ -224,9 +224,9 @@ pub(crate) fn deliver_at(
     bag: &[Vec<u8>],
     number: u32,
 ) -> Result<Outcome, NoMemory>
-    ensures { (w : World) → EndStands end.old (end_of w (other (side_said side))) → ArePackets bag.now (bag_of w (side_said side))
+    ensures { (w : World) → EndStands end.old (end_of w (other (side_meaning side))) → ArePackets bag.now (bag_of w (side_meaning side))
         → (o : Option world.Outcome) × (t : EndView) × Told result o
-        × Delivers w (side_said side) number o (with_end w (other (side_said side)) t) × EndStands end.new t }
+        × Delivers w (side_meaning side) number o (with_end w (other (side_meaning side)) t) × EndStands end.new t }
 {
     let index = number as usize;
     if index == 0 || index > bag.len() {
@@ -286,9 +286,9 @@ fn act(end: &mut End, chunk: &Chunk<'_>) -> Result<(), NoMemory>
 /// Memory ran out, and nothing changed.
 #[tactic(auto, unfolding(crate::specs::EndStands::EndStands))]
 pub(crate) fn take_at(side: Side, end: &mut End, stream: u16) -> Result<Outcome, NoMemory>
-    ensures { (w : World) → EndStands end.old (end_of w (side_said side))
+    ensures { (w : World) → EndStands end.old (end_of w (side_meaning side))
         → (o : Option world.Outcome) × (t : EndView) × Told result o
-        × Takes_at w (side_said side) stream o (with_end w (side_said side) t) × EndStands end.new t }
+        × Takes_at w (side_meaning side) stream o (with_end w (side_meaning side) t) × EndStands end.new t }
 {
     end.taken.reserve(1).map_err(|_| NoMemory)?;
     match end.receiver.take(stream) {

@@ -2,7 +2,7 @@
 
 ghost use Rattle.std.specs.Prelude.{◌≡◌, ℕ, List, ◌++◌, map, IfOk, OnOk};
 ghost use Rattle.sctp_model.specs.first.World.{EndView, number_told};
-ghost use Rattle.sctp_script.specs.Events.{side_said};
+ghost use Rattle.sctp_script.specs.Events.{side_meaning};
 ghost use Rattle.sctp_trace.specs.EndStands.{EndStands, tickets_noted, numbers_taken};
 ghost use Rattle.sctp_first_recv.specs.HandedOf.{handed_of};
 ghost use Rattle.sctp_script.specs.ReportText.{numbers_of, handed_lines, end_report};
@@ -29,7 +29,7 @@ pub(crate) fn put_report(
     out: &mut Vec<u8>,
 ) -> Result<(), NoMemory>
     ensures { (v : EndView) → EndStands end.now v
-        → OnOk result (out.new.items ≡ out.old.items ++ end_report (side_said side) v) }
+        → OnOk result (out.new.items ≡ out.old.items ++ end_report (side_meaning side) v) }
 {
     put_end(side, end.state, out)?;
     let tickets = all_tickets(alloc, &end.numbered)?;
@@ -41,7 +41,7 @@ pub(crate) fn put_report(
 #[tactic(auto, unfolding(crate::specs::EndStands::EndStands))]
 fn put_streams(alloc: Global, side: Side, end: &End, out: &mut Vec<u8>) -> Result<(), NoMemory>
     ensures { (v : EndView) → EndStands end.now v
-        → OnOk result (out.new.items ≡ out.old.items ++ handed_lines (side_said side) v.receiver v.receiver.streams) }
+        → OnOk result (out.new.items ≡ out.old.items ++ handed_lines (side_meaning side) v.receiver v.receiver.streams) }
 {
     for stream in 0..end.streams {
         let numbers = numbers_handed(alloc, end, stream)?;

@@ -3,11 +3,11 @@
 ghost use Rattle.std.specs.Prelude.{◌≡◌, ℕ, ◌∷◌, [], List, Option, IfOk};
 ghost use Rattle.sctp_model.specs.first.World as world;
 ghost use Rattle.sctp_model.specs.first.World.{World, start, last_of, Opens, Sends, BuildsAt, Delivers, Takes_at};
-ghost use Rattle.sctp_script.specs.Events.{side_said};
+ghost use Rattle.sctp_script.specs.Events.{side_meaning};
 ghost use Rattle.sctp_trace.specs.PairStands.{PairStands};
 ghost use Rattle.sctp_trace.specs.PairRuns.{Told, Leads, Ran, Promised};
 ghost use Rattle.sctp_script.specs.ReportText.{report};
-ghost use Rattle.sctp_script.specs.Settings.{configuration_of};
+ghost use Rattle.sctp_script.specs.Configuration.{configuration_meaning};
 
 use crate::end::{End, build_at, deliver_at, send_at, take_at};
 use crate::end_report::put_report;
@@ -35,7 +35,7 @@ impl Pair {
     /// Memory ran out.
     #[tactic(auto, unfolding(crate::specs::PairStands::PairStands))]
     pub fn new(alloc: Global, config: PairConfig) -> Result<Pair, NoMemory>
-        ensures { IfOk result (λ pair. PairStands pair (start (configuration_of config))) }
+        ensures { IfOk result (λ pair. PairStands pair (start (configuration_meaning config))) }
     {
         let a = End::new(alloc, &config, State::Closed)?;
         let b = End::new(alloc, &config, State::Listen)?;
@@ -135,7 +135,7 @@ impl Pair {
     ) -> Result<Outcome, NoMemory>
         ensures { (w : World) → PairStands self.old w
             → (o : Option world.Outcome) × (x : World) × Told result o
-            × Sends w (side_said side) stream payload_id bytes.now o x × PairStands self.new x }
+            × Sends w (side_meaning side) stream payload_id bytes.now o x × PairStands self.new x }
     {
         match side {
             Side::A => send_at(self.alloc, side, &mut self.a, stream, payload_id, bytes),
@@ -148,7 +148,7 @@ impl Pair {
     fn build(&mut self, side: Side) -> Result<Outcome, NoMemory>
         ensures { (w : World) → PairStands self.old w
             → (o : Option world.Outcome) × (x : World) × Told result o
-            × BuildsAt w (side_said side) o x × PairStands self.new x }
+            × BuildsAt w (side_meaning side) o x × PairStands self.new x }
     {
         let limit = self.config.limit();
         match side {
@@ -162,7 +162,7 @@ impl Pair {
     fn deliver(&mut self, side: Side, number: u32) -> Result<Outcome, NoMemory>
         ensures { (w : World) → PairStands self.old w
             → (o : Option world.Outcome) × (x : World) × Told result o
-            × Delivers w (side_said side) number o x × PairStands self.new x }
+            × Delivers w (side_meaning side) number o x × PairStands self.new x }
     {
         match side {
             Side::A => deliver_at(side, &mut self.b, self.from_a.as_slice(), number),
@@ -175,7 +175,7 @@ impl Pair {
     fn take(&mut self, side: Side, stream: u16) -> Result<Outcome, NoMemory>
         ensures { (w : World) → PairStands self.old w
             → (o : Option world.Outcome) × (x : World) × Told result o
-            × Takes_at w (side_said side) stream o x × PairStands self.new x }
+            × Takes_at w (side_meaning side) stream o x × PairStands self.new x }
     {
         match side {
             Side::A => take_at(side, &mut self.a, stream),

@@ -4,16 +4,18 @@ ghost use Rattle.std.specs.Prelude.{◌≡◌, ℕ, suc, true, ◌+◌, ◌-◌,
 ghost use Rattle.sctp_model.specs.first.World as world;
 ghost use Rattle.sctp_model.specs.first.World.{World};
 ghost use Rattle.sctp_script.specs.Events.{Answers};
-ghost use Rattle.sctp_script.specs.OutcomeLines.{outcome_line};
-ghost use Rattle.sctp_script.specs.LinesRead.{LONGEST_SCRIPT};
+ghost use Rattle.sctp_script.specs.OutcomeText.{outcome_line};
 ghost use Rattle.sctp_trace.specs.Script.{IsAnswered, failed_reads, failed_writes};
 ghost use Rattle.sctp_trace.specs.ScriptSteps.{StandsAt, IsWrittenOf, LineLeaves, Closes, IsSoFar, RunsOn, fault_of};
+ghost use Rattle.sctp_text.specs.declared.limits.TheConstants.{LONGEST_TEXT};
 
 use crate::pair::Pair;
 use crate::script_laws::lines_are_there;
 use sctp_script::{
-    Acting, Failed, LineError, LineFault, LineReader, NextLine, Outcome, ReadFault, Sink, Source,
-    events_follow_the_pair, line_after_line, put_outcome, read_line, write_all,
+    Acting, LineError, LineFault, Outcome, events_follow_the_pair, put_outcome, read_line,
+};
+use sctp_text::{
+    Failed, LineReader, NextLine, ReadFault, Sink, Source, line_after_line, write_all,
 };
 use std::alloc::Global;
 use thiserror::Error;
@@ -92,11 +94,11 @@ impl Running {
         requires reads { R.failures input.old < 2 ^ 64 - 1 }
         requires writes { W.failures output.old < 2 ^ 64 - 1 }
         requires number { self.old.number ≤ suc self.old.lines.given }
-        requires small { self.old.lines.given ≤ LONGEST_SCRIPT }
+        requires small { self.old.lines.given ≤ LONGEST_TEXT }
         ensures runs { (text done : List ℕ) (lines : List (List ℕ)) (state : Option World) → IsSoFar self.old text done lines state
             → (read written : List ℕ) × R.Reads input.old read input.new × W.Writes output.old written output.new
             × RunsOn (R.IsAtEnd input.new) result self.new (text ++ read) (done ++ written) }
-        ensures small { IfOk result (λ on. on ≡ true → self.new.lines.given ≤ LONGEST_SCRIPT) }
+        ensures small { IfOk result (λ on. on ≡ true → self.new.lines.given ≤ LONGEST_TEXT) }
         ensures forth { IfOk result (λ on. on ≡ true → self.old.lines.given < self.new.lines.given) }
         ensures failed_reads { R.failures input.new ≡ R.failures input.old + failed_reads result }
         ensures failed_writes { W.failures output.new ≡ W.failures output.old + failed_writes result }

@@ -6,7 +6,8 @@ ghost use Rattle.sctp_trace.specs.ScriptSafe.{ScriptsAreSafe};
 ghost use Rattle.sctp_trace.specs.ScriptLaws.{LinesAreThere};
 
 use sctp_safety::{every_event_is_answered, safe_in_every_world};
-use sctp_script::{events_follow_the_pair, lines_in_one_way, one_meaning};
+use sctp_script::{events_follow_the_pair, one_meaning};
+use sctp_text::lines_in_one_way;
 
 /// Wherever the lines of a script lead, each end was handed over messages that its peer sent on that stream, whole, each at most once, the
 /// ordered ones in rising number; and what is acknowledged whole was handed over or is held whole.

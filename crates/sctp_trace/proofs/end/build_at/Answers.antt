@@ -5,7 +5,7 @@ use Rattle.sctp_model.specs.first.Sending.{went_out}
 use Rattle.sctp_model.specs.first.World as world
 use Rattle.sctp_model.specs.first.World.{EndView, Packet, Builds, end_of, bag_of}
 use Rattle.sctp_model.specs.Packet.{size_of_packet}
-use Rattle.sctp_script.specs.Events.{side_said, state_said}
+use Rattle.sctp_script.specs.Events.{side_meaning, state_meaning}
 use Rattle.sctp_trace.specs.EndStands.{EndStands, is_established, tickets_noted}
 use Rattle.sctp_packet.specs.Draft.{with_chunks, empty_draft}
 use Rattle.sctp_trace.specs.PairStands.{IsPacketOf}
@@ -18,15 +18,15 @@ use Rattle.sctp_trace.proofs.end.build_at.Goals as goal
 pub returns-then-not-is_open : goal.returns-then-not-is_open
 unfolding EndStands
 returns-then-not-is_open c = λ w stands packets limit.
-    let s = side_said c.args.side in
+    let s = side_meaning c.args.side in
     let v = end_of w s in
-    let closed : is_established (state_said c.args.end.now.state) ≡ false = grind (arith, common_steps) in
+    let closed : is_established (state_meaning c.args.end.now.state) ≡ false = grind (arith, common_steps) in
     (Some (world.Quiet s), v, bag_of w s, refl, (refl, inl (isnt_open v.state (rw (← stands.state) closed)), same_bag w s), stands, packets)
 
 pub returns-in-None : goal.returns-in-None
 unfolding EndStands
 returns-in-None c = λ w stands packets limit.
-    let s = side_said c.args.side in
+    let s = side_meaning c.args.side in
     let v = end_of w s in
     let begins = c.in_ok-packet.ensures v (end_reserved c.args.end.now c.reserve-2.new.self v stands c.reserve-2.ensures.items) in
     let fills = c.in_ok-filled.ensures v.sender stands.sender in
@@ -57,7 +57,7 @@ returns-in-None c = λ w stands packets limit.
 pub returns-in-Some : goal.returns-in-Some
 unfolding EndStands
 returns-in-Some c = λ w stands packets limit.
-    let s = side_said c.args.side in
+    let s = side_meaning c.args.side in
     let v = end_of w s in
     let begins = c.in_ok-packet.ensures v (end_reserved c.args.end.now c.reserve-2.new.self v stands c.reserve-2.ensures.items) in
     let fills = c.in_ok-filled.ensures v.sender stands.sender in
@@ -70,7 +70,7 @@ returns-in-Some c = λ w stands packets limit.
     let read = c.written_packet_reads.ensures _ _ packet (built_is_placed w.configuration v _ t built) in
     let there = packet_there _ _ read c.in-Some.ensures.size in
     let bytes = subst (λ (p : Packet). IsPacketOf c.in-Some.bytes.items p) first.same there in
-    let opened : is_established (state_said c.args.end.now.state) ≡ true = grind (arith, common_steps) in
+    let opened : is_established (state_meaning c.args.end.now.state) ≡ true = grind (arith, common_steps) in
     let bag : c.push_reserved-in-Some.new.self.items ≡ c.args.bag.now.items ++ c.in-Some.bytes ∷ [] = grind (arith, common_steps) in
     let log : c.push_reserved.new.self.items ≡ c.args.end.now.numbered.items ++ c.in_ok-filled.filled ∷ [] = grind (arith, common_steps) in
     let number : c.len.result ≡ suc (length c.args.bag.now.items) = grind (arith, common_steps) in

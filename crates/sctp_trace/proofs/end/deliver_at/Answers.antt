@@ -3,14 +3,14 @@ use Rattle.std.proofs.lemmas.Result.{err_from_is_err_and}
 use Rattle.sctp_model.specs.Lists.{item_at}
 use Rattle.sctp_model.specs.first.World as world
 use Rattle.sctp_model.specs.first.World.{Packet, end_of, other, bag_of}
-use Rattle.sctp_script.specs.Events.{side_said}
+use Rattle.sctp_script.specs.Events.{side_meaning}
 use Rattle.sctp_trace.proofs.BagLemmas.{bag-length, bag-there, item_there, item_outside, same_end}
 use Rattle.sctp_trace.proofs.end.deliver_at.Goals as goal
 use Rattle.sctp_trace.proofs.end.deliver_at.Goals.{then-index-eq0-via-then-index-eq0, then-index-eq0-via-else-index-eq0+then-index-bag}
 
 pub returns-then-index-eq0 : goal.returns-then-index-eq0
 returns-then-index-eq0 c = λ w stands packets.
-    let s = side_said c.args.side in
+    let s = side_meaning c.args.side in
     let same = bag-length _ _ packets in
     let none : item_at (bag_of w s) c.args.number ≡ None =
     elim c.then-index-eq0.branch [
@@ -21,7 +21,7 @@ returns-then-index-eq0 c = λ w stands packets.
 
 pub returns-in_err-handle : goal.returns-in_err-handle
 returns-in_err-handle c = λ w stands packets.
-    let s = side_said c.args.side in
+    let s = side_meaning c.args.side in
     let there = bag-there c.args.bag.now (bag_of w s) (c.args.number - 1) c.index-bag-index.result packets (omega arith) c.index-bag-index.is in
     let at = item_there (bag_of w s) c.args.number (c.args.number - 1) there.packet (omega arith) there.here in
     let acted = c.in_err-handle.ensures (end_of w (other s)) there.packet stands (rw c.deref.ensures.value there.bytes) in
@@ -35,7 +35,7 @@ returns-in_err-handle c = λ w stands packets.
 
 pub returns : goal.returns
 returns c = λ w stands packets.
-    let s = side_said c.args.side in
+    let s = side_meaning c.args.side in
     let there = bag-there c.args.bag.now (bag_of w s) (c.args.number - 1) c.index-bag-index.result packets (omega arith) c.index-bag-index.is in
     let at = item_there (bag_of w s) c.args.number (c.args.number - 1) there.packet (omega arith) there.here in
     let acted = c.in_ok-handle.ensures (end_of w (other s)) there.packet stands (rw c.deref.ensures.value there.bytes) in (

@@ -2,7 +2,7 @@ use Rattle.std.proofs.Common.{◌≡◌, ℕ, List, Some, None, true, false, ◌
 use Rattle.std.proofs.lemmas.Grind.{common_steps}
 use Rattle.sctp_model.specs.first.World as world
 use Rattle.sctp_model.specs.first.World.{end_of, sent_by_user}
-use Rattle.sctp_script.specs.Events.{side_said, state_said}
+use Rattle.sctp_script.specs.Events.{side_meaning, state_meaning}
 use Rattle.sctp_trace.specs.EndStands.{EndStands, is_established}
 use Rattle.sctp_trace.proofs.BagLemmas.{same_end}
 use Rattle.sctp_trace.proofs.EndLemmas.{not_open, is_open_refusal, refused_told, refused_none}
@@ -11,9 +11,9 @@ use Rattle.sctp_trace.proofs.end.send_at.Goals as goal
 pub returns-then-not-is_open : goal.returns-then-not-is_open
 unfolding EndStands
 returns-then-not-is_open c = λ w stands.
-    let s = side_said c.args.side in
+    let s = side_meaning c.args.side in
     let v = end_of w s in
-    let closed : is_established (state_said c.args.end.now.state) ≡ false = grind (arith, common_steps) in (
+    let closed : is_established (state_meaning c.args.end.now.state) ≡ false = grind (arith, common_steps) in (
       Some (world.SendRefused _),
       v,
       refl,
@@ -24,9 +24,9 @@ returns-then-not-is_open c = λ w stands.
 pub returns-in-Some : goal.returns-in-Some
 unfolding EndStands
 returns-in-Some c = λ w stands.
-    let s = side_said c.args.side in
+    let s = side_meaning c.args.side in
     let v = end_of w s in
-    let opened : is_established (state_said c.args.end.now.state) ≡ true = grind (arith, common_steps) in
+    let opened : is_established (state_meaning c.args.end.now.state) ≡ true = grind (arith, common_steps) in
     let reason = c.in-Some.ensures.answer v.sender c.args.bytes.now stands.sender refl in (
       Some (world.SendRefused reason.0),
       v,
@@ -38,9 +38,9 @@ returns-in-Some c = λ w stands.
 pub returns-in-Ok : goal.returns-in-Ok
 unfolding EndStands
 returns-in-Ok c = λ w stands.
-    let s = side_said c.args.side in
+    let s = side_meaning c.args.side in
     let v = end_of w s in
-    let opened : is_established (state_said c.args.end.now.state) ≡ true = grind (arith, common_steps) in
+    let opened : is_established (state_meaning c.args.end.now.state) ≡ true = grind (arith, common_steps) in
     let bytes : c.in_ok-copy.copy.items ≡ c.args.bytes.now = grind (arith, common_steps) in
     let answer = rw bytes at (c.in-Ok.ensures.answer v.sender stands.sender) in
     let sent = rw bytes at (c.in-Ok.ensures.stands v.sender stands.sender) in (

@@ -4,7 +4,7 @@ use Rattle.std.proofs.lemmas.Grind.{common_steps}
 use Rattle.sctp_model.specs.ReceiverView.{Handed, ReceiverView}
 use Rattle.sctp_model.specs.first.World as world
 use Rattle.sctp_model.specs.first.World.{end_of, taken_by_user, number_told}
-use Rattle.sctp_script.specs.Events.{side_said}
+use Rattle.sctp_script.specs.Events.{side_meaning}
 use Rattle.sctp_trace.specs.EndStands.{EndStands, IsOn}
 use Rattle.sctp_first_recv.specs.HandedOf.{handed_of}
 use Rattle.sctp_first_recv.specs.ReceiverStands.{ReceiverStands}
@@ -16,7 +16,7 @@ use Rattle.sctp_trace.proofs.end.take_at.Goals as goal
 pub returns-in-None : goal.returns-in-None
 unfolding EndStands
 returns-in-None c = λ w stands.
-    let s = side_said c.args.side in
+    let s = side_meaning c.args.side in
     let v = end_of w s in
     let left = c.in-None.ensures v.receiver stands.receiver in (
       Some (world.Nothing s c.args.stream),
@@ -39,7 +39,7 @@ returns-in-None c = λ w stands.
 pub returns-in-Some : goal.returns-in-Some
 unfolding EndStands
 returns-in-Some c = λ w stands.
-    let s = side_said c.args.side in
+    let s = side_meaning c.args.side in
     let v = end_of w s in
     let h = handed_of c.in-Some.message in
     let m : TakenMessage = record { stream = c.args.stream; number = c.unwrap_or-number.result } in

@@ -1,10 +1,10 @@
 use Rattle.std.proofs.Common.{◌≡◌, [], Some, Ok, refl, subst, Option}
 use Rattle.sctp_model.specs.first.World as world
 use Rattle.sctp_model.specs.first.World.{World, Step, start}
-use Rattle.sctp_script.specs.Events.{event_said}
-use Rattle.sctp_script.specs.Lines.{Silent, Pairs, Acts, Says}
-use Rattle.sctp_script.specs.ReadLines.{Finds}
-use Rattle.sctp_script.specs.Settings.{configuration_of}
+use Rattle.sctp_script.specs.Events.{event_meaning}
+use Rattle.sctp_script.specs.Grammar.{Silent, Pairs, Acts, Says}
+use Rattle.sctp_script.specs.ReadLineAnswer.{Finds}
+use Rattle.sctp_script.specs.Configuration.{configuration_meaning}
 use Rattle.sctp_trace.specs.PairRuns.{Leads}
 use Rattle.sctp_trace.specs.PairStands.{PairStands}
 use Rattle.sctp_trace.proofs.ScriptLemmas.{says_here, world_of, told_some, outcome_leaves, mapped_is, finds_event, finds_pair, no_pair}
@@ -27,21 +27,21 @@ returns-in_ok-map_err-in-Ok-Some-Pair-clause-leaves g c = λ state stands.
     let made = c.in_ok-map_err-in-Ok-Some-Pair in
     let says = finds_pair c.is_some.result c.args.line.now p.field-0 p.field-0-0 p.config p.field-0-is p.field-0-0-is p.ensures in
     let is = mapped_is _ c.new.result c.map_err.result made.field-0 c.map_err.ensures.cases made.was in
-    let new : PairStands made.field-0 (start (configuration_of p.config)) = rw is at c.new.ensures in
-    let here = says_here c.args.pair.now state c.is_some.result c.args.line.now (Pairs (configuration_of p.config)) stands c.is_some.ensures says in
-    ([], g.met.W.Sink.writes_none _, (Some (start (configuration_of p.config)), (Pairs (configuration_of p.config), here, (refl, refl)), new))
+    let new : PairStands made.field-0 (start (configuration_meaning p.config)) = rw is at c.new.ensures in
+    let here = says_here c.args.pair.now state c.is_some.result c.args.line.now (Pairs (configuration_meaning p.config)) stands c.is_some.ensures says in
+    ([], g.met.W.Sink.writes_none _, (Some (start (configuration_meaning p.config)), (Pairs (configuration_meaning p.config), here, (refl, refl)), new))
 
 pub returns-in_ok-outcome-in-Ok-Some-Event-clause-leaves : goal.returns-in_ok-outcome-in-Ok-Some-Event-clause-leaves
 returns-in_ok-outcome-in-Ok-Some-Event-clause-leaves g c = λ state stands.
     let e = c.in-Ok-Some-Event in
     let outcome = c.in_ok-outcome-in-Ok-Some-Event.outcome in
     let says = finds_event c.is_some.result c.args.line.now e.field-0 e.field-0-0 e.event e.field-0-is e.field-0-0-is e.ensures in
-    let here = says_here c.args.pair.now state c.is_some.result c.args.line.now (Acts (event_said e.event)) stands c.is_some.ensures says in
+    let here = says_here c.args.pair.now state c.is_some.result c.args.line.now (Acts (event_meaning e.event)) stands c.is_some.ensures says in
     let at = world_of c.args.pair.now c.in-Some.pair state c.in-Some.is stands in
     let now = c.step.ensures at.0 at.2 in
     let is = mapped_is _ c.step.result c.map_err-in-Ok-Some-Event.result outcome c.map_err-in-Ok-Some-Event.ensures.cases c.in_ok-outcome-in-Ok-Some-Event.was in
     let led : Leads at.0 e.event (Ok outcome) now.0 = rw is at now.1 in
     let told = told_some outcome led.0 led.1 in
-    let step = subst (λ (o : Option world.Outcome). Step at.0 (event_said e.event) o now.0) told.1 led.2 in
+    let step = subst (λ (o : Option world.Outcome). Step at.0 (event_meaning e.event) o now.0) told.1 led.2 in
     let out = c.write_outcome.ensures.written told.0 told.2 in
-    (out.0, out.1, outcome_leaves c.write_outcome.result c.args.number state at.0 now.0 c.args.line.now (event_said e.event) told.0 out.0 c.step.new.self at.1 here step now.3 out.2)
+    (out.0, out.1, outcome_leaves c.write_outcome.result c.args.number state at.0 now.0 c.args.line.now (event_meaning e.event) told.0 out.0 c.step.new.self at.1 here step now.3 out.2)

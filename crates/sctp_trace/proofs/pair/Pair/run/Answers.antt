@@ -3,7 +3,7 @@ use Rattle.std.proofs.lemmas.Grind.{common_steps}
 use Rattle.std.proofs.lemmas.Result.{err_from_is_err_and}
 use Rattle.std.proofs.lemmas.List.{take-append-drop}
 use Rattle.sctp_model.specs.first.World.{last_of}
-use Rattle.sctp_script.specs.Events.{event_said}
+use Rattle.sctp_script.specs.Events.{event_meaning}
 use Rattle.sctp_trace.proofs.RunLemmas.{run_more, last-push, told-push, cut_short, promised_run}
 use Rattle.sctp_trace.proofs.pair.Pair.run.Goals as goal
 

@@ -1,5 +1,0 @@
-use Rattle.sctp_script.proofs.LineSplits.{split_in_one_way, is_lines}
-use Rattle.sctp_script.proofs.line_laws.lines_in_one_way.Goals as goal
-
-pub returns : goal.returns
-returns c = record { split = split_in_one_way; exist = is_lines }

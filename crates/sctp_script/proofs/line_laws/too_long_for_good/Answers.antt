@@ -1,5 +1,0 @@
-use Rattle.sctp_script.proofs.LineSplits.{too_long-more}
-use Rattle.sctp_script.proofs.line_laws.too_long_for_good.Goals as goal
-
-pub returns : goal.returns
-returns c = too_long-more

@@ -1,6 +1,0 @@
-use Rattle.std.proofs.Common.{sym}
-use Rattle.sctp_script.proofs.SourceLineLemmas.{none_found}
-use Rattle.sctp_script.proofs.line_reader.line_length.Goals as goal
-
-pub returns-in-None-clause-exact : goal.returns-in-None-clause-exact
-returns-in-None-clause-exact c = none_found c.args.bytes.now (sym c.in-None.ensures)
