@@ -38,11 +38,11 @@ impl Model for PacketWriter {
     ghost Value = { Draft };
 
     ghost view = { λ s. record {
-        limit = s.limit;
-        source = s.source;
-        destination = s.destination;
-        tag = s.tag;
-        chunks = chunks_of (drop HEADER_ROOM s.bytes.items)
+      limit = s.limit;
+      source = s.source;
+      destination = s.destination;
+      tag = s.tag;
+      chunks = chunks_of (drop HEADER_ROOM s.bytes.items);
     } };
 
     ghost invariant = { λ s. IsKept s.limit (bare s.source s.destination s.tag) s.bytes.items };
@@ -193,7 +193,10 @@ mod tests {
         assert_eq!(rt; packet.room(), 1_464);
         let bytes = packet.finish().ok_or("no chunk")?;
         let read = read_packet(&bytes)?;
-        assert_eq!(rt; (read.source, read.destination, read.tag), (5_000, 5_001, 0x0102_0304));
+        assert_eq!(rt;
+            (read.source, read.destination, read.tag),
+            (5_000, 5_001, 0x0102_0304)
+        );
         let (header, chunks) = bytes.as_slice().split_at(12);
         let (front, _sum) = header.split_at(8);
         assert_eq!(rt; front, [0x13, 0x88, 0x13, 0x89, 1, 2, 3, 4].as_slice());
@@ -208,6 +211,10 @@ mod tests {
 
     #[test]
     fn a_packet_without_a_chunk_is_none(rt: HostRuntime) {
-        assert!(rt; PacketWriter::new(rt.alloc(), 1_500, 1, 2, 3).finish().is_none());
+        assert!(rt;
+            PacketWriter::new(rt.alloc(), 1_500, 1, 2, 3)
+                .finish()
+                .is_none()
+        );
     }
 }

@@ -69,6 +69,13 @@ abbrev pub IsTextOf : (List ℕ → List ℕ → Bool → Type 0) → Result (Li
 IsTextOf IsText (Ok bytes) text was_read = IsText bytes text was_read
 IsTextOf IsText (Err e) text was_read = (was_read ≡ false) × (text ≡ hex_fault_line)
 
+-- the same for packets, and for chunks
+abbrev pub IsPacketTextOf : List ℕ → List ℕ → Bool → Type 0
+IsPacketTextOf word text was_read = IsTextOf IsPacketText (decode_of word) text was_read
+
+abbrev pub IsChunksTextOf : List ℕ → List ℕ → Bool → Type 0
+IsChunksTextOf word text was_read = IsTextOf IsChunksText (decode_of word) text was_read
+
 -- what was added behind other text
 abbrev pub Adds : (List ℕ → Bool → Type 0) → List ℕ → List ℕ → Bool → Type 0
 Adds IsText old new was_read = (text : List ℕ) × (new ≡ old ++ text) × IsText text was_read

@@ -31,7 +31,11 @@ const CHUNKS: [(&str, &[u8], bool); 8] = [
 fn chunks_are_printed_a_line_each(rt: HostRuntime) -> Result<(), Fail> {
     for (text, lines, was_read) in CHUNKS {
         let mut out = Vec::new(rt.alloc());
-        assert_eq!(rt; print_chunks(rt.alloc(), text, &mut out)?, was_read, "of {text}");
+        assert_eq!(rt;
+            print_chunks(rt.alloc(), text, &mut out)?,
+            was_read,
+            "of {text}"
+        );
         assert_eq!(rt; out.as_slice(), lines, "of {text}");
     }
     Ok(())

@@ -1,9 +1,8 @@
 //! What is printed for bytes, and for text that says bytes in hexadecimal.
 
 ghost use Rattle.std.specs.Prelude.{◌≡◌, ◌++◌, [], IfOk, OnOk};
-ghost use Rattle.hex.specs.Hex.{decode_of};
 ghost use Rattle.sctp_packet.specs.PacketTree.{packet_meaning};
-ghost use Rattle.sctp_print.specs.PrintedText.{chunk_lines, header_line, IsChunksText, IsPacketText, IsTextOf, Adds};
+ghost use Rattle.sctp_print.specs.PrintedText.{chunk_lines, header_line, IsChunksText, IsPacketText, IsPacketTextOf, IsChunksTextOf, Adds};
 
 use crate::chunk::put_chunk;
 use crate::fault::{put_hex_fault, put_packet_fault, put_wire_fault};
@@ -19,7 +18,7 @@ use std::alloc::{AllocError, Global};
 /// # Errors
 /// `AllocError` where memory ran out; `out` may then hold some of the lines.
 pub fn print_packet(alloc: Global, text: &str, out: &mut Vec<u8>) -> Result<bool, AllocError>
-    ensures { IfOk result (λ was_read. Adds (IsTextOf IsPacketText (decode_of text.now)) out.old.items out.new.items was_read) }
+    ensures { IfOk result (λ was_read. Adds (IsPacketTextOf text.now) out.old.items out.new.items was_read) }
 {
     match hex::decode(alloc, text) {
         Ok(bytes) => put_packet_or_fault(alloc, &bytes, out),
@@ -37,7 +36,7 @@ pub fn print_packet(alloc: Global, text: &str, out: &mut Vec<u8>) -> Result<bool
 /// # Errors
 /// `AllocError` where memory ran out; `out` may then hold some of the lines.
 pub fn print_chunks(alloc: Global, text: &str, out: &mut Vec<u8>) -> Result<bool, AllocError>
-    ensures { IfOk result (λ was_read. Adds (IsTextOf IsChunksText (decode_of text.now)) out.old.items out.new.items was_read) }
+    ensures { IfOk result (λ was_read. Adds (IsChunksTextOf text.now) out.old.items out.new.items was_read) }
 {
     match hex::decode(alloc, text) {
         Ok(bytes) => put_chunks_or_fault(alloc, &bytes, out),
@@ -50,11 +49,7 @@ pub fn print_chunks(alloc: Global, text: &str, out: &mut Vec<u8>) -> Result<bool
 }
 
 /// Appends the lines of the packet that the bytes are, or of their fault.
-fn put_packet_or_fault(
-    alloc: Global,
-    bytes: &[u8],
-    out: &mut Vec<u8>,
-) -> Result<bool, AllocError>
+fn put_packet_or_fault(alloc: Global, bytes: &[u8], out: &mut Vec<u8>) -> Result<bool, AllocError>
     ensures { IfOk result (λ was_read. Adds (IsPacketText bytes.now) out.old.items out.new.items was_read) }
 {
     match read_packet(bytes) {
@@ -70,11 +65,7 @@ fn put_packet_or_fault(
 }
 
 /// Appends the lines of the chunks that the bytes are, or of their fault.
-fn put_chunks_or_fault(
-    alloc: Global,
-    bytes: &[u8],
-    out: &mut Vec<u8>,
-) -> Result<bool, AllocError>
+fn put_chunks_or_fault(alloc: Global, bytes: &[u8], out: &mut Vec<u8>) -> Result<bool, AllocError>
     ensures { IfOk result (λ was_read. Adds (IsChunksText bytes.now) out.old.items out.new.items was_read) }
 {
     match read_chunks(bytes) {
@@ -99,12 +90,7 @@ fn put_packet(alloc: Global, packet: Packet<'_>, out: &mut Vec<u8>) -> Result<()
 }
 
 /// Appends the line of a packet's header.
-fn put_header(
-    source: u16,
-    destination: u16,
-    tag: u32,
-    out: &mut Vec<u8>,
-) -> Result<(), AllocError>
+fn put_header(source: u16, destination: u16, tag: u32, out: &mut Vec<u8>) -> Result<(), AllocError>
     ensures { OnOk result (out.new.items ≡ out.old.items
         ++ header_line (record { source = source; destination = destination; tag = tag; chunks = [] })) }
 {

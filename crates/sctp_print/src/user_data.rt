@@ -11,7 +11,11 @@ use sctp_wire::Piece;
 use std::alloc::{AllocError, Global};
 
 /// Appends the line of a DATA.
-pub(crate) fn put_data(alloc: Global, piece: &Piece<'_>, out: &mut Vec<u8>) -> Result<(), AllocError>
+pub(crate) fn put_data(
+    alloc: Global,
+    piece: &Piece<'_>,
+    out: &mut Vec<u8>,
+) -> Result<(), AllocError>
     ensures put { OnOk result (out.new.items ≡ out.old.items ++ line_of (data_words (piece_meaning piece.now))) }
     ensures refused { OnErr result (out.new.items ≡ out.old.items) }
 {
