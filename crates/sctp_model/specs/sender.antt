@@ -6,3 +6,4 @@ pub mod Abandoning
 pub mod Readers
 pub mod Forwarding
 pub mod Reached
+pub mod SentChunks

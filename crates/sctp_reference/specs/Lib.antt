@@ -6,3 +6,4 @@ pub mod Apart
 pub mod Giving
 pub mod Sender
 pub mod Standing
+pub mod receiver

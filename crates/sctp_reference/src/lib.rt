@@ -9,6 +9,7 @@ mod forwards;
 mod giving;
 mod pieces;
 mod points;
+mod receiver_steps;
 mod whole;
 mod words;
 
@@ -17,6 +18,10 @@ pub use forwards::{forward, skip_after};
 pub use giving::{Due, Handed, due_from};
 pub use pieces::{Piece, Whole};
 pub use points::point;
+pub use receiver_steps::{
+    forwards_are_computed, pieces_are_computed, runs_are_computed,
+    the_cumulative_index_is_computed, wholes_are_computed,
+};
 pub use whole::{whole_number, whole_with};
 pub use words::{Entry, Format, Kind, Lane, MessageName, Sender};
 

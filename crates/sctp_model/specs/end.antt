@@ -1,0 +1,16 @@
+pub mod Sealing
+pub mod EndView
+pub mod Clock
+pub mod Reports
+pub mod Options
+pub mod PeerFaults
+pub mod Closing
+pub mod Opening
+pub mod Acting
+pub mod Passing
+pub mod Strays
+pub mod Arriving
+pub mod Building
+pub mod Moments
+pub mod UserCalls
+pub mod Configured

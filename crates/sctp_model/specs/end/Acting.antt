@@ -1,0 +1,188 @@
+-- What one chunk does to an end that has begun: a data type for each kind of chunk, and a row for each state that takes it (RFC 9260, 4, 6 and 9).
+use Rattle.std.specs.Prelude.{◌≡◌, ℕ, ◌+◌, ◌<◌, ◌⊎◌, nat_lt, Bool, true, false, ◌&&◌, ◌||◌, ◌==◌, if◌then◌else◌, List, [], ◌∷◌, ◌++◌, length, Some, None}
+use Rattle.sctp_model.specs.Numbers.{u16_bytes}
+use Rattle.sctp_model.specs.Typed.{Typed, typed_in}
+use Rattle.sctp_model.specs.Unknown.{chunk_rule}
+use Rattle.sctp_model.specs.Chunk.{PieceMeaning, SackMeaning, ForwardMeaning, ChunkMeaning, Data, IData, Init, InitAck, Sack, Heartbeat, HeartbeatAck, Abort, Shutdown, ShutdownAck, Error, CookieEcho, CookieAck, ShutdownComplete, ForwardTsn, IForwardTsn, Unknown}
+use Rattle.sctp_model.specs.Format.{Format, Plain, Interleaved}
+use Rattle.sctp_model.specs.ReceiverView.{ReceiverView}
+use Rattle.sctp_model.specs.sender.SackTaken.{Stale, Beyond, BadBlock, sack_fault, sack_taken, shutdown_fault, shutdown_taken}
+use Rattle.sctp_model.specs.receiver.PieceTaken.{Answer, Duplicate, Ahead, NoSuchStream, Passed, NoRoom, Taken, PieceTaken}
+use Rattle.sctp_model.specs.receiver.ForwardTaken.{OutOfDate, Bad, Moved, ForwardTaken}
+use Rattle.sctp_model.specs.end.EndView.{format_of, Tags, Completed, Aborted, StaleCookie, Stage, Established, ShutdownPending, ShutdownSent, ShutdownReceived, ShutdownAckSent, Phase, Calling, Echoing, Open, DataAlarm, EndView}
+use Rattle.sctp_model.specs.end.Clock.{turned, closed, with_timer, settled, renewed}
+use Rattle.sctp_model.specs.end.Closing.{with_due, answers_shutdown, takes_data, takes_acknowledgements, is_shutdown_sent, hears}
+use Rattle.sctp_model.specs.end.Reports.{item, causes_with, with_causes, fits_alone, INVALID_STREAM, STALE_COOKIE, UNRECOGNIZED_CHUNK}
+use Rattle.sctp_model.specs.end.PeerFaults.{After, GoesOn, Ends, PassedOver, Replies, packet_to, at_fault, no_user_data, violation}
+use Rattle.sctp_model.specs.end.Opening.{InitAckActs, EchoActs, CookieAckActs}
+
+-- ---- chunks with data (6.2 and 6.5; RFC 8260, 2.1 and 2.2)
+
+abbrev pub same_format : Format → Format → Bool
+same_format Plain Plain = true
+same_format Plain Interleaved = false
+same_format Interleaved Plain = false
+same_format Interleaved Interleaved = true
+
+-- Data or a FORWARD was acted on: a SACK is due, and in SHUTDOWN SENT the SHUTDOWN again (9.2).
+abbrev pub acknowledges : Stage → EndView → EndView
+acknowledges g e = with_due (record e.due { sack = true; shutdown = e.due.shutdown || is_shutdown_sent g }) e
+
+-- a stream that isn't there is reported
+abbrev pub piece_causes : EndView → PieceMeaning → Answer → List Typed
+piece_causes e p NoSuchStream = causes_with e (item INVALID_STREAM (u16_bytes p.stream ++ 0 ∷ 0 ∷ []))
+piece_causes e p Duplicate = e.due.causes
+piece_causes e p Ahead = e.due.causes
+piece_causes e p Passed = e.due.causes
+piece_causes e p NoRoom = e.due.causes
+piece_causes e p Taken = e.due.causes
+
+pub data PieceActs (f : Format) (e : EndView) (p : PieceMeaning) : After → Type 0 where
+  NotHeard : hears takes_data e.phase ≡ false → PieceActs f e p PassedOver
+  Empty : (t : Tags) (g : Stage) → e.phase ≡ Open t g → takes_data g ≡ true → length p.bytes ≡ 0 →
+      PieceActs f e p (at_fault t (no_user_data p.tsn) e)
+  WrongFormat : (t : Tags) (g : Stage) → e.phase ≡ Open t g → takes_data g ≡ true → 0 < length p.bytes → same_format f (format_of e) ≡ false →
+      PieceActs f e p (at_fault t violation e)
+  Comes : (t : Tags) (g : Stage) (a : Answer) (r : ReceiverView) → e.phase ≡ Open t g → takes_data g ≡ true → 0 < length p.bytes →
+      same_format f (format_of e) ≡ true → PieceTaken (format_of e) e.receiver p a r →
+      PieceActs f e p (GoesOn (acknowledges g (with_causes (piece_causes e p a) (record e { receiver = r }))))
+
+-- ---- FORWARD-TSN and I-FORWARD-TSN (RFC 3758, 3.6; RFC 8260, 2.3.1)
+
+-- it is of the association's format, and may be sent at all
+abbrev pub may_forward : Format → EndView → Bool
+may_forward f e = same_format f (format_of e) && e.sender.partial
+
+pub data ForwardActs (f : Format) (e : EndView) (m : ForwardMeaning) : After → Type 0 where
+  NotHeard : hears takes_data e.phase ≡ false → ForwardActs f e m PassedOver
+  WrongKind : (t : Tags) (g : Stage) → e.phase ≡ Open t g → takes_data g ≡ true → may_forward f e ≡ false →
+      ForwardActs f e m (at_fault t violation e)
+  IsBad : (t : Tags) (g : Stage) (r : ReceiverView) → e.phase ≡ Open t g → takes_data g ≡ true → may_forward f e ≡ true →
+      ForwardTaken (format_of e) e.receiver m Bad r → ForwardActs f e m (at_fault t violation e)
+  IsOld : (t : Tags) (g : Stage) (r : ReceiverView) → e.phase ≡ Open t g → takes_data g ≡ true → may_forward f e ≡ true →
+      ForwardTaken (format_of e) e.receiver m OutOfDate r → ForwardActs f e m (GoesOn (acknowledges g (record e { receiver = r })))
+  Comes : (t : Tags) (g : Stage) (r : ReceiverView) → e.phase ≡ Open t g → takes_data g ≡ true → may_forward f e ≡ true →
+      ForwardTaken (format_of e) e.receiver m Moved r → ForwardActs f e m (GoesOn (acknowledges g (record e { receiver = r })))
+
+-- ---- SACK (6.2.1 and 6.3.2)
+
+-- What a SACK that counts leaves: what it acknowledges; a FORWARD is due where the point is past CUM; the data timer's repeats are counted anew.
+abbrev pub sack_heard : EndView → SackMeaning → EndView
+sack_heard e s =
+    let x = settled (record e { sender = sack_taken e.sender s; due = record e.due { forward = true } }) in
+    with_timer DataAlarm (renewed e.moment (nat_lt e.sender.cum (sack_taken e.sender s).cum) (x.timers DataAlarm)) x
+
+pub data SackActs (e : EndView) (s : SackMeaning) : After → Type 0 where
+  NotHeard : hears takes_acknowledgements e.phase ≡ false → SackActs e s PassedOver
+  IsStale : hears takes_acknowledgements e.phase ≡ true → sack_fault e.sender s ≡ Some Stale → SackActs e s (GoesOn e)
+  IsWrong : (t : Tags) (g : Stage) → e.phase ≡ Open t g → takes_acknowledgements g ≡ true →
+      (sack_fault e.sender s ≡ Some Beyond) ⊎ (sack_fault e.sender s ≡ Some BadBlock) → SackActs e s (at_fault t violation e)
+  Counts : hears takes_acknowledgements e.phase ≡ true → sack_fault e.sender s ≡ None → SackActs e s (GoesOn (sack_heard e s))
+
+-- ---- HEARTBEAT, HEARTBEAT ACK (8.3), ERROR (3.3.10), ABORT (9.1)
+
+-- the answer to the latest HEARTBEAT is due, if it fits a packet
+abbrev pub heartbeat_heard : EndView → List ℕ → EndView
+heartbeat_heard e info = with_due (record e.due { heartbeat = if fits_alone e (HeartbeatAck info) then Some info else e.due.heartbeat }) e
+
+pub data HeartbeatActs (e : EndView) (info : List ℕ) : After → Type 0 where
+  NotHeard : hears (λ g. true) e.phase ≡ false → HeartbeatActs e info PassedOver
+  Counts : hears (λ g. true) e.phase ≡ true → HeartbeatActs e info (GoesOn (heartbeat_heard e info))
+
+abbrev pub has_cause : ℕ → List Typed → Bool
+has_cause k [] = false
+has_cause k (x ∷ xs) = (x.kind == k) || has_cause k xs
+
+-- the cookie that was echoed came too late (5.2.6)
+abbrev pub is_stale_cookie : Phase → List ℕ → Bool
+is_stale_cookie (Echoing t xs) causes = has_cause STALE_COOKIE (typed_in causes)
+is_stale_cookie h causes = false
+
+pub data ErrorActs (e : EndView) (causes : List ℕ) : After → Type 0 where
+  Closes : is_stale_cookie e.phase causes ≡ true → ErrorActs e causes (Ends (closed StaleCookie e))
+  SaysNothing : is_stale_cookie e.phase causes ≡ false → ErrorActs e causes (GoesOn e)
+
+-- ---- SHUTDOWN, SHUTDOWN ACK, SHUTDOWN COMPLETE (9.2)
+
+-- the peer says that it is done: its cumulative TSN acknowledges
+abbrev pub shutdown_heard : Tags → EndView → ℕ → EndView
+shutdown_heard t e tsn = turned (Open t ShutdownReceived) (settled (record e { sender = shutdown_taken e.sender tsn }))
+
+pub data ShutdownActs (e : EndView) (tsn : ℕ) : After → Type 0 where
+  NotOpen : hears (λ g. true) e.phase ≡ false → ShutdownActs e tsn PassedOver
+  IsWrong : (t : Tags) (g : Stage) → e.phase ≡ Open t g → takes_acknowledgements g ≡ true → shutdown_fault e.sender tsn ≡ Some Beyond →
+      ShutdownActs e tsn (at_fault t violation e)
+  IsStale : (t : Tags) (g : Stage) → e.phase ≡ Open t g → takes_acknowledgements g ≡ true → shutdown_fault e.sender tsn ≡ Some Stale →
+      ShutdownActs e tsn (GoesOn (turned (Open t ShutdownReceived) e))
+  Counts : (t : Tags) (g : Stage) → e.phase ≡ Open t g → takes_acknowledgements g ≡ true → shutdown_fault e.sender tsn ≡ None →
+      ShutdownActs e tsn (GoesOn (shutdown_heard t e tsn))
+  Crosses : (t : Tags) → e.phase ≡ Open t ShutdownSent → ShutdownActs e tsn (GoesOn (answers_shutdown t e))
+  Again : (t : Tags) → e.phase ≡ Open t ShutdownAckSent → ShutdownActs e tsn (GoesOn (with_due (record e.due { shutdown_ack = true }) e))
+
+-- both ends may be done
+abbrev pub awaits_ack : Stage → Bool
+awaits_ack Established = false
+awaits_ack ShutdownPending = false
+awaits_ack ShutdownSent = true
+awaits_ack ShutdownReceived = false
+awaits_ack ShutdownAckSent = true
+
+pub data ShutdownAckActs (e : EndView) : After → Type 0 where
+  NotAwaited : hears awaits_ack e.phase ≡ false → ShutdownAckActs e PassedOver
+  Completes : (t : Tags) (g : Stage) → e.phase ≡ Open t g → awaits_ack g ≡ true →
+      ShutdownAckActs e (Replies (closed Completed e) (packet_to e.configuration t.peer (ShutdownComplete false)))
+
+abbrev pub awaits_complete : Stage → Bool
+awaits_complete Established = false
+awaits_complete ShutdownPending = false
+awaits_complete ShutdownSent = false
+awaits_complete ShutdownReceived = false
+awaits_complete ShutdownAckSent = true
+
+pub data CompleteActs (e : EndView) : After → Type 0 where
+  NotAwaited : hears awaits_complete e.phase ≡ false → CompleteActs e PassedOver
+  Completes : hears awaits_complete e.phase ≡ true → CompleteActs e (Ends (closed Completed e))
+
+-- ---- chunks of an unknown type (3.2)
+
+abbrev pub unknown_item : ℕ → ℕ → List ℕ → Typed
+unknown_item kind flags value = item UNRECOGNIZED_CHUNK (kind ∷ flags ∷ (u16_bytes (4 + length value) ++ value))
+
+-- a caller that knows no peer yet reports nothing
+abbrev pub may_report : Phase → Bool
+may_report (Calling d) = false
+may_report h = true
+
+abbrev pub unknown_causes : EndView → ℕ → ℕ → List ℕ → List Typed
+unknown_causes e kind flags value =
+    if (chunk_rule kind).report && may_report e.phase then causes_with e (unknown_item kind flags value) else e.due.causes
+
+-- what stands behind it is left, or goes on
+abbrev pub unknown_leaves : Bool → EndView → After
+unknown_leaves true e = Ends e
+unknown_leaves false e = GoesOn e
+
+abbrev pub unknown_acts : EndView → ℕ → ℕ → List ℕ → After
+unknown_acts e kind flags value =
+    unknown_leaves (chunk_rule kind).stop (with_causes (unknown_causes e kind flags value) e)
+
+-- ---- one clause for each type; the tag is that of the packet
+
+abbrev pub Acts : EndView → ℕ → ChunkMeaning → After → Type 0
+Acts e tag (Data p) a = PieceActs Plain e p a
+Acts e tag (IData p) a = PieceActs Interleaved e p a
+Acts e tag (Init m) a = a ≡ PassedOver
+Acts e tag (InitAck m) a = InitAckActs e m a
+Acts e tag (Sack s) a = SackActs e s a
+Acts e tag (Heartbeat info) a = HeartbeatActs e info a
+Acts e tag (HeartbeatAck info) a = a ≡ GoesOn e
+Acts e tag (Abort t causes) a = a ≡ Ends (closed Aborted e)
+Acts e tag (Shutdown tsn) a = ShutdownActs e tsn a
+Acts e tag ShutdownAck a = ShutdownAckActs e a
+Acts e tag (Error causes) a = ErrorActs e causes a
+Acts e tag (CookieEcho cookie) a = EchoActs e tag cookie a
+Acts e tag CookieAck a = CookieAckActs e a
+Acts e tag (ShutdownComplete t) a = CompleteActs e a
+Acts e tag (ForwardTsn m) a = ForwardActs Plain e m a
+Acts e tag (IForwardTsn m) a = ForwardActs Interleaved e m a
+Acts e tag (Unknown kind flags value) a = a ≡ unknown_acts e kind flags value

@@ -1,0 +1,117 @@
+-- A packet that is built: what is due, in its order, and then fragments (RFC 9260, 5.1, 6.1, 6.10 and 9.2; RFC 3758, 3.5; RFC 8260, 2.2 and 2.3.1).
+use Rattle.std.specs.Prelude.{◌≡◌, ℕ, ◌-◌, nat_le, Bool, true, false, ◌&&◌, List, [], ◌∷◌, ◌++◌, map, Option, Some, None}
+use Rattle.sctp_model.specs.Serial.{tsn}
+use Rattle.sctp_model.specs.Typed.{Typed}
+use Rattle.sctp_model.specs.Chunk.{SackMeaning, ChunkMeaning, Sack, HeartbeatAck, Shutdown, ShutdownAck, Error, CookieEcho, CookieAck}
+use Rattle.sctp_model.specs.Packet.{Packet, size_of_packet}
+use Rattle.sctp_model.specs.ReceiverView.{IsCumulative}
+use Rattle.sctp_model.specs.sender.Filling.{Wish, Fill, fill}
+use Rattle.sctp_model.specs.sender.SentChunks.{chunk_of, forward_chunk_of}
+use Rattle.sctp_model.specs.receiver.SackMade.{IsSack, sack_sent}
+use Rattle.sctp_model.specs.end.EndView.{format_of, Draw, Tags, Stage, Phase, Idle, Listening, Calling, Echoing, Open, Over, InitAlarm, CookieAlarm, DataAlarm, ShutdownAlarm, AckAlarm, Timer, EndView, has_association}
+use Rattle.sctp_model.specs.end.Clock.{running, with_timer, started, is_point_past}
+use Rattle.sctp_model.specs.end.Closing.{with_due}
+use Rattle.sctp_model.specs.end.Reports.{written}
+use Rattle.sctp_model.specs.end.Opening.{own_init}
+
+-- ---- what is due
+
+-- the places of a packet, in the order in which it is filled
+pub data Slot : Type 0 where
+  EchoSlot CookieAckSlot HeartbeatSlot ErrorSlot SackSlot ForwardSlot ShutdownSlot ShutdownAckSlot : Slot
+
+-- while a cookie is echoed, and while the association is open (RFC 9260, 5.1 and 6.10)
+abbrev pub echoing_slots : List Slot
+echoing_slots = EchoSlot ∷ ErrorSlot ∷ []
+
+abbrev pub open_slots : List Slot
+open_slots = CookieAckSlot ∷ HeartbeatSlot ∷ ErrorSlot ∷ SackSlot ∷ ForwardSlot ∷ ShutdownSlot ∷ ShutdownAckSlot ∷ []
+
+abbrev pub has_some : Option (List ℕ) → Bool
+has_some None = false
+has_some (Some xs) = true
+
+abbrev pub has_causes : List Typed → Bool
+has_causes [] = false
+has_causes (x ∷ xs) = true
+
+abbrev pub is_due : Slot → EndView → Bool
+is_due EchoSlot e = e.due.cookie_echo
+is_due CookieAckSlot e = e.due.cookie_ack
+is_due HeartbeatSlot e = has_some e.due.heartbeat
+is_due ErrorSlot e = has_causes e.due.causes
+is_due SackSlot e = e.due.sack
+is_due ForwardSlot e = e.due.forward && is_point_past e.sender
+is_due ShutdownSlot e = e.due.shutdown
+is_due ShutdownAckSlot e = e.due.shutdown_ack
+
+-- The chunk that is due at a place, and the end once it is built.
+pub data Wants (e : EndView) : Slot → ChunkMeaning → EndView → Type 0 where
+  EchoCookie : (t : Tags) (xs : List ℕ) → e.phase ≡ Echoing t xs →
+      Wants e EchoSlot (CookieEcho xs) (started CookieAlarm (with_due (record e.due { cookie_echo = false }) e))
+  AckCookie : Wants e CookieAckSlot CookieAck (with_due (record e.due { cookie_ack = false }) e)
+  AckHeartbeat : (info : List ℕ) → e.due.heartbeat ≡ Some info → Wants e HeartbeatSlot (HeartbeatAck info) (with_due (record e.due { heartbeat = None }) e)
+  ReportCauses : Wants e ErrorSlot (Error (written e.due.causes)) (with_due (record e.due { causes = [] }) e)
+  Acknowledge : (s : SackMeaning) → IsSack e.receiver s →
+      Wants e SackSlot (Sack s) (record e { due = record e.due { sack = false }; receiver = sack_sent e.receiver })
+  PassOn : Wants e ForwardSlot (forward_chunk_of (format_of e) e.sender) (started DataAlarm (with_due (record e.due { forward = false }) e))
+  SayShutdown : (c : ℕ) → IsCumulative e.receiver c →
+      Wants e ShutdownSlot (Shutdown (tsn e.receiver.initial c)) (started ShutdownAlarm (with_due (record e.due { shutdown = false }) e))
+  AnswerShutdown : Wants e ShutdownAckSlot ShutdownAck (started AckAlarm (with_due (record e.due { shutdown_ack = false }) e))
+
+-- ---- filling
+
+-- the chunk goes in behind these
+abbrev pub has_room : EndView → List ChunkMeaning → ChunkMeaning → Bool
+has_room e xs x = nat_le (size_of_packet (xs ++ x ∷ [])) e.configuration.limit
+
+-- What is due at these places goes in behind `xs`, one after the other; the first that doesn't fit ends the packet (`full`) and stays due.
+pub data Puts : List Slot → EndView → List ChunkMeaning → List ChunkMeaning → (full : Bool) → EndView → Type 0 where
+  NoMore : (e : EndView) (xs : List ChunkMeaning) → Puts [] e xs xs false e
+  NotDue : (s : Slot) (ss : List Slot) (e : EndView) (xs zs : List ChunkMeaning) (full : Bool) (t : EndView) → is_due s e ≡ false →
+      Puts ss e xs zs full t → Puts (s ∷ ss) e xs zs full t
+  Put : (s : Slot) (ss : List Slot) (e mid : EndView) (x : ChunkMeaning) (xs zs : List ChunkMeaning) (full : Bool) (t : EndView) → is_due s e ≡ true →
+      Wants e s x mid → has_room e xs x ≡ true → Puts ss mid (xs ++ x ∷ []) zs full t → Puts (s ∷ ss) e xs zs full t
+  IsFull : (s : Slot) (ss : List Slot) (e mid : EndView) (x : ChunkMeaning) (xs : List ChunkMeaning) → is_due s e ≡ true →
+      Wants e s x mid → has_room e xs x ≡ false → Puts (s ∷ ss) e xs xs true e
+
+-- fragments that go out start the data timer
+abbrev pub timer_after : EndView → List Wish → Timer
+timer_after e [] = e.timers DataAlarm
+timer_after e (w ∷ ws) = running e.moment (e.timers DataAlarm) (e.timers DataAlarm).expiry
+
+-- what fits behind these chunks is filled with fragments
+abbrev pub filled_behind : EndView → List ChunkMeaning → Fill
+filled_behind e xs = fill (format_of e) (e.configuration.limit - size_of_packet xs) e.sender
+
+abbrev pub sent : EndView → List ChunkMeaning → EndView
+sent e xs = with_timer DataAlarm (timer_after e (filled_behind e xs).wishes) (record e { sender = (filled_behind e xs).view })
+
+abbrev pub fragments : EndView → List ChunkMeaning → List ChunkMeaning
+fragments e xs = map (chunk_of (format_of e)) (filled_behind e xs).wishes
+
+-- ---- BUILD: the chunks of the next packet, none where there is no packet, and the end after it
+
+pub data Builds (e : EndView) : List ChunkMeaning → EndView → Type 0 where
+  Sleeps : has_association e.phase ≡ false → Builds e [] e
+  Waits : (d : Draw) → e.phase ≡ Calling d → e.due.init ≡ false → Builds e [] e
+  -- an INIT stands alone
+  Calls : (d : Draw) → e.phase ≡ Calling d → e.due.init ≡ true →
+      Builds e (own_init e.configuration d ∷ []) (started InitAlarm (with_due (record e.due { init = false }) e))
+  Echoes : (t : Tags) (cookie : List ℕ) (zs : List ChunkMeaning) (full : Bool) (x : EndView) → e.phase ≡ Echoing t cookie →
+      Puts echoing_slots e [] zs full x → Builds e zs x
+  Ends : (t : Tags) (g : Stage) (zs : List ChunkMeaning) (x : EndView) → e.phase ≡ Open t g → Puts open_slots e [] zs true x → Builds e zs x
+  Fills : (t : Tags) (g : Stage) (zs : List ChunkMeaning) (x : EndView) → e.phase ≡ Open t g → Puts open_slots e [] zs false x →
+      Builds e (zs ++ fragments x zs) (sent x zs)
+
+-- the tag that an end's packets carry; that of an INIT is 0 (8.5.1)
+abbrev pub tag_to : Phase → ℕ
+tag_to Idle = 0
+tag_to Listening = 0
+tag_to (Calling d) = 0
+tag_to (Echoing t xs) = t.peer
+tag_to (Open t g) = t.peer
+tag_to (Over why) = 0
+
+abbrev pub packet_of : EndView → List ChunkMeaning → Packet
+packet_of e xs = record { source = e.configuration.own_port; destination = e.configuration.peer_port; tag = tag_to e.phase; chunks = xs }

@@ -1,0 +1,134 @@
+-- The timers of an end: when they start, stop and expire (RFC 9260, 6.3, 5.1 and 9.2; RFC 3758, 3.5).
+use Rattle.std.specs.Prelude.{ℕ, suc, ◌+◌, ◌-◌, ◌*◌, ◌^◌, min, max, nat_lt, nat_le, Bool, true, false, ◌&&◌, if◌then◌else◌, Option, None, Some}
+use Rattle.sctp_model.specs.SenderView.{SenderView}
+use Rattle.sctp_model.specs.sender.Readers.{point, unsettled}
+use Rattle.sctp_model.specs.end.EndView.{ShutdownSent, ShutdownAckSent, Phase, Calling, Echoing, Open, Over, Ended, Due, nothing_due, Alarm, InitAlarm, CookieAlarm, DataAlarm, ShutdownAlarm, AckAlarm, Timer, FIRST_WAIT, EndView}
+
+-- ---- one timer
+
+-- the longest wait, and the last moment that there is (RTO.Max of RFC 9260, 16)
+abbrev pub LONGEST_WAIT : ℕ
+LONGEST_WAIT = 60000
+
+abbrev pub LAST_MOMENT : ℕ
+LAST_MOMENT = 2 ^ 64 - 1
+
+abbrev pub after_wait : ℕ → ℕ → ℕ
+after_wait now wait = min (now + wait) LAST_MOMENT
+
+-- a timer starts where it doesn't run
+abbrev pub running : ℕ → Timer → Option ℕ → Timer
+running now t None = record t { expiry = Some (after_wait now t.wait) }
+running now t (Some m) = t
+
+abbrev pub stopped : Timer → Timer
+stopped t = record t { expiry = None }
+
+-- it expires: its packet goes out once more, and the next wait is twice as long
+abbrev pub expired : Timer → Timer
+expired t = record { wait = min (2 * t.wait) LONGEST_WAIT; repeats = suc t.repeats; expiry = None }
+
+-- its moment has come
+abbrev pub is_over_at : ℕ → Option ℕ → Bool
+is_over_at now None = false
+is_over_at now (Some m) = nat_le m now
+
+-- how often its packet is repeated before the end gives up (Max.Init.Retransmits and Association.Max.Retrans of RFC 9260, 16)
+abbrev pub repeats_of : Alarm → ℕ
+repeats_of InitAlarm = 8
+repeats_of CookieAlarm = 8
+repeats_of DataAlarm = 10
+repeats_of ShutdownAlarm = 10
+repeats_of AckAlarm = 10
+
+-- ---- the timers of an end
+
+abbrev pub same_alarm : Alarm → Alarm → Bool
+same_alarm InitAlarm b = is_init b
+  where
+    is_init : Alarm → Bool
+    is_init InitAlarm = true
+    is_init c = false
+same_alarm CookieAlarm b = is_cookie b
+  where
+    is_cookie : Alarm → Bool
+    is_cookie CookieAlarm = true
+    is_cookie c = false
+same_alarm DataAlarm b = is_data b
+  where
+    is_data : Alarm → Bool
+    is_data DataAlarm = true
+    is_data c = false
+same_alarm ShutdownAlarm b = is_shutdown b
+  where
+    is_shutdown : Alarm → Bool
+    is_shutdown ShutdownAlarm = true
+    is_shutdown c = false
+same_alarm AckAlarm b = is_ack b
+  where
+    is_ack : Alarm → Bool
+    is_ack AckAlarm = true
+    is_ack c = false
+
+abbrev pub with_timer : Alarm → Timer → EndView → EndView
+with_timer a t e = record e { timers = λ b. if same_alarm a b then t else e.timers b }
+
+abbrev pub started : Alarm → EndView → EndView
+started a e = with_timer a (running e.moment (e.timers a) (e.timers a).expiry) e
+
+-- a moment that is handed in; an earlier one than before counts as that one
+abbrev pub at_moment : EndView → ℕ → EndView
+at_moment e now = record e { moment = max e.moment now }
+
+-- ---- where a timer runs
+
+-- the state that sends its packet
+abbrev pub is_home : Alarm → Phase → Bool
+is_home InitAlarm (Calling d) = true
+is_home CookieAlarm (Echoing t xs) = true
+is_home DataAlarm (Open t g) = true
+is_home ShutdownAlarm (Open t ShutdownSent) = true
+is_home AckAlarm (Open t ShutdownAckSent) = true
+is_home a h = false
+
+-- what a state sends is due no more when the end leaves it; everything else stays due
+abbrev pub due_in : Phase → Due → Due
+due_in h d = record d {
+  init = d.init && is_home InitAlarm h;
+  cookie_echo = d.cookie_echo && is_home CookieAlarm h;
+  shutdown = d.shutdown && is_home ShutdownAlarm h;
+  shutdown_ack = d.shutdown_ack && is_home AckAlarm h;
+}
+
+-- An end turns to another state: the timers of what it left stop.
+abbrev pub turned : Phase → EndView → EndView
+turned h e = record e {
+  phase = h;
+  due = due_in h e.due;
+  timers = λ a. if is_home a h then e.timers a else stopped (e.timers a);
+}
+
+-- Closed for good: no timer runs, nothing is due; the sender and the receiver stay for `take`, `abandon` and the readers.
+abbrev pub closed : Ended → EndView → EndView
+closed why e = record (turned (Over why) e) { due = nothing_due }
+
+-- ---- the data timer
+
+-- the point lies past CUM, so there is something to skip (RFC 3758, 3.5)
+abbrev pub is_point_past : SenderView → Bool
+is_point_past v = nat_lt v.cum (point v)
+
+-- The data timer stops where nothing is unsettled, and a FORWARD is due no more where the point is CUM.
+abbrev pub settled : EndView → EndView
+settled e = record (with_timer DataAlarm (if unsettled e.sender then e.timers DataAlarm else stopped (e.timers DataAlarm)) e) {
+  due = record e.due { forward = e.due.forward && is_point_past e.sender };
+}
+
+-- A SACK that was taken sets the count of repeats to 0; where it moved CUM, the wait begins anew, and so does a timer that still runs (RFC 9260, 6.3.2).
+abbrev pub renewed_expiry : ℕ → Option ℕ → Option ℕ
+renewed_expiry now None = None
+renewed_expiry now (Some m) = Some (after_wait now FIRST_WAIT)
+
+abbrev pub renewed : ℕ → Bool → Timer → Timer
+renewed now false t = record t { repeats = 0 }
+renewed now true t = record { wait = FIRST_WAIT; repeats = 0; expiry = renewed_expiry now t.expiry }

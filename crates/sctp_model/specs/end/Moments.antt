@@ -1,0 +1,68 @@
+-- Time at an end: what is past its time is abandoned, then each timer that is due expires once (RFC 9260, 6.3.3, 5.1 and 9.2; RFC 3758, 3.5).
+use Rattle.std.specs.Prelude.{ℕ, nat_lt, min, Bool, true, false, not, ◌||◌, ◌==◌, if◌then◌else◌, List, [], ◌∷◌, Option, Some, None}
+use Rattle.sctp_model.specs.SenderView.{SenderView}
+use Rattle.sctp_model.specs.sender.Readers.{point}
+use Rattle.sctp_model.specs.sender.Abandoning.{expired, timed_out}
+use Rattle.sctp_model.specs.end.EndView.{TimedOut, Alarm, InitAlarm, CookieAlarm, DataAlarm, ShutdownAlarm, AckAlarm, EndView, has_association}
+use Rattle.sctp_model.specs.end.Clock.{repeats_of, is_over_at, with_timer, at_moment, closed, is_point_past, settled}
+use Rattle.sctp_model.specs.end.Clock.{expired as expired_timer}
+use Rattle.sctp_model.specs.end.Closing.{with_due, rested}
+
+-- ---- giving up
+
+-- What giving up messages leaves: a FORWARD is due where the point moved, and the end is at rest again.
+abbrev pub after_giving_up : EndView → SenderView → EndView
+after_giving_up e v =
+    rested (settled (record e { sender = v; due = record e.due { forward = e.due.forward || not (point v == point e.sender) } }))
+
+-- ---- timers
+
+-- what goes out once more after an expiry; of the data timer all that is unsettled, and a FORWARD where the point is past CUM
+abbrev pub due_again : Alarm → EndView → EndView
+due_again InitAlarm e = with_due (record e.due { init = true }) e
+due_again CookieAlarm e = with_due (record e.due { cookie_echo = true }) e
+due_again DataAlarm e = record e { sender = timed_out e.sender; due = record e.due { forward = is_point_past e.sender } }
+due_again ShutdownAlarm e = with_due (record e.due { shutdown = true }) e
+due_again AckAlarm e = with_due (record e.due { shutdown_ack = true }) e
+
+-- A timer that is due expires; the last time the end gives up, and sends nothing.
+abbrev pub rung : Bool → Alarm → EndView → EndView
+rung false a e = e
+rung true a e =
+    if nat_lt (e.timers a).repeats (repeats_of a)
+    then due_again a (with_timer a (expired_timer (e.timers a)) e)
+    else closed TimedOut e
+
+abbrev pub ring : Alarm → EndView → EndView
+ring a e = rung (is_over_at e.moment (e.timers a).expiry) a e
+
+abbrev pub rung_all : List Alarm → EndView → EndView
+rung_all [] e = e
+rung_all (a ∷ more) e = rung_all more (ring a e)
+
+abbrev pub all_alarms : List Alarm
+all_alarms = InitAlarm ∷ CookieAlarm ∷ DataAlarm ∷ ShutdownAlarm ∷ AckAlarm ∷ []
+
+-- ---- a moment
+
+abbrev pub passed : EndView → EndView
+passed e = rung_all all_alarms (after_giving_up e (expired e.sender e.moment))
+
+-- An end without an association takes the moment, and nothing else.
+abbrev pub ticked : EndView → ℕ → EndView
+ticked e now = if has_association e.phase then passed (at_moment e now) else at_moment e now
+
+-- ---- when to come again
+
+abbrev pub earlier : Option ℕ → Option ℕ → Option ℕ
+earlier None n = n
+earlier (Some m) None = Some m
+earlier (Some m) (Some n) = Some (min m n)
+
+abbrev pub earliest : EndView → List Alarm → Option ℕ
+earliest e [] = None
+earliest e (a ∷ more) = earlier (e.timers a).expiry (earliest e more)
+
+-- the earliest expiry of a timer that runs
+abbrev pub next_moment : EndView → Option ℕ
+next_moment e = earliest e all_alarms

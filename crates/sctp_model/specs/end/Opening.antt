@@ -1,0 +1,203 @@
+-- How an association begins: INIT, INIT ACK, COOKIE ECHO, COOKIE ACK (RFC 9260, 5.1).
+use Rattle.std.specs.Prelude.{◌≡◌, ℕ, ◌-◌, ◌*◌, ◌^◌, ◌<◌, ◌⊎◌, min, nat_le, Bool, true, false, ◌&&◌, ◌||◌, ◌==◌, if◌then◌else◌, List, [], ◌∷◌, ◌++◌, Option, Some, None}
+use Rattle.sctp_model.specs.Numbers.{u16_bytes, u32_bytes}
+use Rattle.sctp_model.specs.Typed.{Typed, typed_in}
+use Rattle.sctp_model.specs.Unknown.{parameters_reported}
+use Rattle.sctp_model.specs.Chunk.{InitMeaning, ChunkMeaning, Init, InitAck, CookieEcho, Error}
+use Rattle.sctp_model.specs.SenderView.{fresh_sender}
+use Rattle.sctp_model.specs.ReceiverView.{fresh_receiver}
+use Rattle.sctp_model.specs.end.Sealing.{Body, Sealing}
+use Rattle.sctp_model.specs.end.EndView.{Terms, Configuration, Draw, Tags, AbortedHere, Stage, Established, Phase, Calling, Echoing, Open, Role, Caller, Paired, Listener, EndView}
+use Rattle.sctp_model.specs.end.Clock.{turned, closed}
+use Rattle.sctp_model.specs.end.Closing.{with_due, takes_cookies, hears}
+use Rattle.sctp_model.specs.end.Reports.{written, item, fits_alone, causes_with, as_fit, MISSING_PARAMETER, OUT_OF_RESOURCE, INVALID_PARAMETER, UNRECOGNIZED_PARAMETERS}
+use Rattle.sctp_model.specs.end.Options.{STATE_COOKIE, value_of, agreed_interleave, agreed_partial, own_options, reports_of}
+use Rattle.sctp_model.specs.end.PeerFaults.{TAG, COOKIE, After, GoesOn, PassedOver, Replies, Drops, packet_to, abort_for}
+
+-- ---- what both ends agreed on
+
+-- An association begins: a sender and a receiver with nothing in them; the peer's window is in bytes.
+abbrev pub joined : Terms → (rwnd : ℕ) → EndView → EndView
+joined x rwnd e = record e {
+  terms = x;
+  sender = fresh_sender x.own_tsn x.outbound e.configuration.fragment rwnd x.partial;
+  receiver = fresh_receiver x.peer_tsn x.inbound e.configuration.buffer;
+}
+
+-- each direction has the lesser of what its sender sends on and what its receiver takes (RFC 9260, 5.1.1)
+abbrev pub terms_of_ack : Configuration → Draw → InitMeaning → Terms
+terms_of_ack c d m = record {
+  own_tsn = d.tsn;
+  peer_tsn = m.tsn;
+  outbound = min c.outbound m.inbound;
+  inbound = min m.outbound c.inbound;
+  interleave = agreed_interleave c m.parameters;
+  partial = agreed_partial c m.parameters;
+}
+
+abbrev pub terms_of_body : Body → Terms
+terms_of_body b = record {
+  own_tsn = b.listener_tsn;
+  peer_tsn = b.caller_tsn;
+  outbound = b.streams_to_caller;
+  inbound = b.streams_from_caller;
+  interleave = b.interleave;
+  partial = b.partial;
+}
+
+-- ---- INIT (5.1.1)
+
+-- the caller's INIT: its draw, and what it is set up with
+abbrev pub own_init : Configuration → Draw → ChunkMeaning
+own_init c d = Init (record {
+  tag = d.tag;
+  rwnd = c.buffer;
+  outbound = c.outbound;
+  inbound = c.inbound;
+  tsn = d.tsn;
+  parameters = written (own_options c);
+})
+
+abbrev pub has_no_stream : InitMeaning → Bool
+has_no_stream m = (m.outbound == 0) || (m.inbound == 0)
+
+-- all that the listener remembers
+abbrev pub body_for : EndView → Draw → InitMeaning → Body
+body_for e d m = record {
+  made = e.moment;
+  listener_port = e.configuration.own_port;
+  caller_port = e.configuration.peer_port;
+  listener_tag = d.tag;
+  caller_tag = m.tag;
+  listener_tsn = d.tsn;
+  caller_tsn = m.tsn;
+  caller_rwnd = m.rwnd;
+  streams_to_caller = min e.configuration.outbound m.inbound;
+  streams_from_caller = min m.outbound e.configuration.inbound;
+  partial = agreed_partial e.configuration m.parameters;
+  interleave = agreed_interleave e.configuration m.parameters;
+}
+
+-- INIT ACK with these reports: the cookie first, then the listener's options (3.3.3)
+abbrev pub init_ack_with : Sealing → EndView → Draw → InitMeaning → List Typed → ChunkMeaning
+init_ack_with s e d m reports = InitAck (record {
+  tag = d.tag;
+  rwnd = e.configuration.buffer;
+  outbound = e.configuration.outbound;
+  inbound = e.configuration.inbound;
+  tsn = d.tsn;
+  parameters = written (item STATE_COOKIE (s.sealed (body_for e d m)) ∷ (own_options e.configuration ++ reports));
+})
+
+-- the unknown parameters of the INIT are reported as far as they fit
+abbrev pub init_ack : Sealing → EndView → Draw → InitMeaning → ChunkMeaning
+init_ack s e d m =
+    init_ack_with s e d m (as_fit (λ xs. fits_alone e (init_ack_with s e d m xs)) [] (reports_of (parameters_reported (typed_in m.parameters))))
+
+-- ---- INIT ACK (5.1.2)
+
+abbrev pub missing_cookie : Typed
+missing_cookie = item MISSING_PARAMETER (u32_bytes 1 ++ u16_bytes STATE_COOKIE)
+
+-- why an INIT ACK is refused: no stream, no cookie, or one too large to echo in one packet
+abbrev pub ack_fault : EndView → InitMeaning → Option (List ℕ) → Option Typed
+ack_fault e m None = Some (if has_no_stream m then item INVALID_PARAMETER [] else missing_cookie)
+ack_fault e m (Some xs) =
+    if has_no_stream m then Some (item INVALID_PARAMETER [])
+    else if fits_alone e (CookieEcho xs) then None
+    else Some (item OUT_OF_RESOURCE [])
+
+-- the unknown parameters of an INIT ACK are reported in one cause, as a list, as far as the ERROR fits
+abbrev pub causes_with_all : EndView → List Typed → List Typed
+causes_with_all e [] = e.due.causes
+causes_with_all e (x ∷ xs) = causes_with e (item UNRECOGNIZED_PARAMETERS (written (x ∷ xs)))
+
+abbrev pub fits_in_error : EndView → List Typed → Bool
+fits_in_error e xs = fits_alone e (Error (written (e.due.causes ++ item UNRECOGNIZED_PARAMETERS (written xs) ∷ [])))
+
+abbrev pub ack_causes : EndView → InitMeaning → List Typed
+ack_causes e m = causes_with_all e (as_fit (fits_in_error e) [] (parameters_reported (typed_in m.parameters)))
+
+-- The caller begins its association, and echoes the cookie.
+abbrev pub echoing : EndView → Draw → InitMeaning → List ℕ → EndView
+echoing e d m xs =
+    let t = turned (Echoing (record { own = d.tag; peer = m.tag }) xs) (joined (terms_of_ack e.configuration d m) m.rwnd e) in
+    with_due (record t.due { cookie_echo = true; causes = ack_causes e m }) t
+
+abbrev pub is_calling : Phase → Bool
+is_calling (Calling d) = true
+is_calling h = false
+
+-- An INIT ACK: only a caller that waits for one takes it, and the first one alone.
+pub data InitAckActs (e : EndView) (m : InitMeaning) : After → Type 0 where
+  NotCalling : is_calling e.phase ≡ false → InitAckActs e m PassedOver
+  NoTag : (d : Draw) → e.phase ≡ Calling d → m.tag ≡ 0 → InitAckActs e m (Drops TAG)
+  RefusedAck : (d : Draw) (x : Typed) → e.phase ≡ Calling d → 0 < m.tag → ack_fault e m (value_of STATE_COOKIE m.parameters) ≡ Some x →
+      InitAckActs e m (Replies (closed AbortedHere e) (packet_to e.configuration m.tag (abort_for x)))
+  AcceptedAck : (d : Draw) (xs : List ℕ) → e.phase ≡ Calling d → 0 < m.tag → value_of STATE_COOKIE m.parameters ≡ Some xs →
+      ack_fault e m (Some xs) ≡ None → InitAckActs e m (GoesOn (echoing e d m xs))
+
+-- ---- COOKIE ECHO (5.1.5 and 5.2.4)
+
+-- how long a cookie lives, in milliseconds (Valid.Cookie.Life of RFC 9260, 16)
+abbrev pub COOKIE_LIFE : ℕ
+COOKIE_LIFE = 60000
+
+abbrev pub age : EndView → Body → ℕ
+age e b = e.moment - b.made
+
+-- the microseconds past its life, as far as 32 bits go (3.3.10.3)
+abbrev pub staleness : EndView → Body → ℕ
+staleness e b = min ((age e b - COOKIE_LIFE) * 1000) (2 ^ 32 - 1)
+
+-- the body names this end's ports, and the tag that the packet has
+abbrev pub is_addressed : EndView → ℕ → Body → Bool
+is_addressed e tag b =
+    (b.listener_port == e.configuration.own_port) && ((b.caller_port == e.configuration.peer_port) && (b.listener_tag == tag))
+
+-- what a listener reads in a cookie
+pub data CookieRead : Type 0 where
+  Opens Stale : Body → CookieRead
+  Strange : CookieRead
+
+abbrev pub body_read : EndView → ℕ → Option Body → CookieRead
+body_read e tag None = Strange
+body_read e tag (Some b) = if is_addressed e tag b then (if nat_le (age e b) COOKIE_LIFE then Opens b else Stale b) else Strange
+
+abbrev pub cookie_read : Sealing → EndView → ℕ → List ℕ → CookieRead
+cookie_read s e tag xs = body_read e tag (s.opened xs)
+
+-- The listener begins its association.
+abbrev pub begun : Body → EndView → EndView
+begun b e =
+    let t = turned (Open (record { own = b.listener_tag; peer = b.caller_tag }) Established) (joined (terms_of_body b) b.caller_rwnd e) in
+    with_due (record t.due { cookie_ack = true }) t
+
+-- a cookie that opens, or is stale alone, and names both tags
+abbrev pub is_ours : Tags → CookieRead → Bool
+is_ours t (Opens b) = (b.listener_tag == t.own) && (b.caller_tag == t.peer)
+is_ours t (Stale b) = (b.listener_tag == t.own) && (b.caller_tag == t.peer)
+is_ours t Strange = false
+
+abbrev pub seal_in : Role → Option Sealing
+seal_in (Listener s) = Some s
+seal_in Caller = None
+seal_in Paired = None
+
+-- A COOKIE ECHO at an end that has its association: the COOKIE ACK was lost.
+pub data EchoActs (e : EndView) (tag : ℕ) (xs : List ℕ) : After → Type 0 where
+  NotHere : (seal_in e.role ≡ None) ⊎ (hears takes_cookies e.phase ≡ false) → EchoActs e tag xs PassedOver
+  EchoedAgain : (s : Sealing) (t : Tags) (g : Stage) → seal_in e.role ≡ Some s → e.phase ≡ Open t g → takes_cookies g ≡ true →
+      is_ours t (cookie_read s e tag xs) ≡ true → EchoActs e tag xs (GoesOn (with_due (record e.due { cookie_ack = true }) e))
+  IsStrange : (s : Sealing) (t : Tags) (g : Stage) → seal_in e.role ≡ Some s → e.phase ≡ Open t g → takes_cookies g ≡ true →
+      is_ours t (cookie_read s e tag xs) ≡ false → EchoActs e tag xs (Drops COOKIE)
+
+-- ---- COOKIE ACK (5.1, E)
+
+abbrev pub is_echoing : Phase → Bool
+is_echoing (Echoing t xs) = true
+is_echoing h = false
+
+pub data CookieAckActs (e : EndView) : After → Type 0 where
+  NotEchoing : is_echoing e.phase ≡ false → CookieAckActs e PassedOver
+  CookieAcked : (t : Tags) (xs : List ℕ) → e.phase ≡ Echoing t xs → CookieAckActs e (GoesOn (turned (Open t Established) e))

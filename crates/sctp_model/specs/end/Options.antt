@@ -1,0 +1,68 @@
+-- What the parameters of INIT and INIT ACK say, and what both ends want (RFC 9260, 3.2.1, 3.3.2 and 3.3.3; RFC 3758, 3.1; RFC 8260, 2.2.1).
+use Rattle.std.specs.Prelude.{ℕ, Bool, true, false, not, ◌&&◌, ◌||◌, ◌==◌, if◌then◌else◌, List, [], ◌∷◌, ◌++◌, map, Option, Some, None}
+use Rattle.sctp_model.specs.Typed.{Typed, typed_in, typed_bytes}
+use Rattle.sctp_model.specs.Unknown.{parameters_acted_on, first_of}
+use Rattle.sctp_model.specs.end.EndView.{Configuration}
+use Rattle.sctp_model.specs.end.Reports.{item}
+
+-- ---- the parameters that this endpoint knows
+
+abbrev pub STATE_COOKIE : ℕ
+STATE_COOKIE = 7
+
+abbrev pub UNRECOGNIZED : ℕ
+UNRECOGNIZED = 8
+
+abbrev pub SUPPORTED_EXTENSIONS : ℕ
+SUPPORTED_EXTENSIONS = 0x8008
+
+abbrev pub FORWARD_TSN_SUPPORTED : ℕ
+FORWARD_TSN_SUPPORTED = 0xC000
+
+-- the value of a parameter of a list, if it is acted on; of a repeated one the first counts
+abbrev pub value_of : ℕ → List ℕ → Option (List ℕ)
+value_of k bytes = first_of k (parameters_acted_on (typed_in bytes))
+
+-- ---- what both ends want
+
+abbrev pub has_byte : ℕ → List ℕ → Bool
+has_byte b [] = false
+has_byte b (x ∷ xs) = (x == b) || has_byte b xs
+
+abbrev pub lists_type : ℕ → Option (List ℕ) → Bool
+lists_type b None = false
+lists_type b (Some xs) = has_byte b xs
+
+abbrev pub is_carried : Option (List ℕ) → Bool
+is_carried None = false
+is_carried (Some xs) = true
+
+-- I-DATA: both are set up for it, and list its chunk type
+abbrev pub agreed_interleave : Configuration → List ℕ → Bool
+agreed_interleave c bytes = c.interleave && lists_type 64 (value_of SUPPORTED_EXTENSIONS bytes)
+
+-- partial reliability: both are set up for it, and say so; with I-DATA they list I-FORWARD-TSN too
+abbrev pub agreed_partial : Configuration → List ℕ → Bool
+agreed_partial c bytes =
+    c.partial && (is_carried (value_of FORWARD_TSN_SUPPORTED bytes)
+    && (not (agreed_interleave c bytes) || lists_type 194 (value_of SUPPORTED_EXTENSIONS bytes)))
+
+-- ---- an end's own options
+
+-- the chunk types of its extensions, rising
+abbrev pub own_extensions : Configuration → List ℕ
+own_extensions c =
+    (if c.interleave then 64 ∷ [] else [])
+    ++ (if c.partial then 192 ∷ [] else []) ++ (if c.interleave && c.partial then 194 ∷ [] else [])
+
+-- an empty list of extensions isn't written
+abbrev pub unless_empty : List ℕ → List Typed
+unless_empty [] = []
+unless_empty (x ∷ xs) = item SUPPORTED_EXTENSIONS (x ∷ xs) ∷ []
+
+abbrev pub own_options : Configuration → List Typed
+own_options c = (if c.partial then item FORWARD_TSN_SUPPORTED [] ∷ [] else []) ++ unless_empty (own_extensions c)
+
+-- each of these parameters whole, as the value of a parameter that reports it
+abbrev pub reports_of : List Typed → List Typed
+reports_of xs = map (λ (x : Typed). item UNRECOGNIZED (typed_bytes x)) xs

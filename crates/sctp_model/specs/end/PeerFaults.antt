@@ -1,0 +1,51 @@
+-- What a chunk leaves, and what the peer may not do: such a fault closes the association with an ABORT (RFC 9260, 3.3.7, 3.3.10 and 6.2; RFC 8260, 2.2.1).
+use Rattle.std.specs.Prelude.{ℕ, false, [], ◌∷◌}
+use Rattle.sctp_model.specs.Numbers.{u32_bytes}
+use Rattle.sctp_model.specs.Typed.{Typed}
+use Rattle.sctp_model.specs.Chunk.{ChunkMeaning, Abort}
+use Rattle.sctp_model.specs.Packet.{Packet}
+use Rattle.sctp_model.specs.end.EndView.{Configuration, Tags, AbortedHere, EndView}
+use Rattle.sctp_model.specs.end.Clock.{closed}
+use Rattle.sctp_model.specs.end.Reports.{written, item, NO_USER_DATA, PROTOCOL_VIOLATION}
+
+-- why a packet is dropped: bytes that don't read, ports, tag, state, cookie
+abbrev pub FAULT : ℕ
+FAULT = 1
+
+abbrev pub PORTS : ℕ
+PORTS = 2
+
+abbrev pub TAG : ℕ
+TAG = 3
+
+abbrev pub STATE : ℕ
+STATE = 4
+
+abbrev pub COOKIE : ℕ
+COOKIE = 5
+
+-- What a chunk leaves: the packet goes on, or ends with it; it isn't listed in this state; the packet is answered, and ends; or it drops the packet.
+pub data After : Type 0 where
+  GoesOn Ends : EndView → After
+  PassedOver : After
+  Replies : EndView → Packet → After
+  Drops : (reason : ℕ) → After
+
+-- a packet of one chunk, from this end
+abbrev pub packet_to : Configuration → ℕ → ChunkMeaning → Packet
+packet_to c tag x = record { source = c.own_port; destination = c.peer_port; tag = tag; chunks = x ∷ [] }
+
+-- an ABORT of this cause
+abbrev pub abort_for : Typed → ChunkMeaning
+abort_for x = Abort false (written (x ∷ []))
+
+-- the end closes with an ABORT
+abbrev pub at_fault : Tags → Typed → EndView → After
+at_fault t x e = Replies (closed AbortedHere e) (packet_to e.configuration t.peer (abort_for x))
+
+-- a chunk without data, and its TSN
+abbrev pub no_user_data : ℕ → Typed
+no_user_data tsn = item NO_USER_DATA (u32_bytes tsn)
+
+abbrev pub violation : Typed
+violation = item PROTOCOL_VIOLATION []

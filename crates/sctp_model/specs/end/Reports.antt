@@ -1,0 +1,68 @@
+-- What an end tells its peer of what it couldn't use: causes and parameters as bytes, and which still fit a packet (RFC 9260, 3.2, 3.2.2 and 3.3.10).
+use Rattle.std.specs.Prelude.{ℕ, nat_le, Bool, if◌then◌else◌, List, [], ◌∷◌, ◌++◌}
+use Rattle.sctp_model.specs.Chunk.{ChunkMeaning, Error}
+use Rattle.sctp_model.specs.Packet.{size_of_packet}
+use Rattle.sctp_model.specs.Typed.{Typed, typed_bytes, filled}
+use Rattle.sctp_model.specs.end.EndView.{EndView}
+
+-- ---- bytes
+
+-- the bytes of a list of items: each but the last is filled to a multiple of 4 with zeros
+abbrev pub written : List Typed → List ℕ
+written [] = []
+written (x ∷ []) = typed_bytes x
+written (x ∷ y ∷ ys) = filled (typed_bytes x) ++ written (y ∷ ys)
+
+-- ---- causes and parameters
+
+abbrev pub INVALID_STREAM : ℕ
+INVALID_STREAM = 1
+
+abbrev pub MISSING_PARAMETER : ℕ
+MISSING_PARAMETER = 2
+
+abbrev pub STALE_COOKIE : ℕ
+STALE_COOKIE = 3
+
+abbrev pub OUT_OF_RESOURCE : ℕ
+OUT_OF_RESOURCE = 4
+
+abbrev pub UNRECOGNIZED_CHUNK : ℕ
+UNRECOGNIZED_CHUNK = 6
+
+abbrev pub INVALID_PARAMETER : ℕ
+INVALID_PARAMETER = 7
+
+abbrev pub UNRECOGNIZED_PARAMETERS : ℕ
+UNRECOGNIZED_PARAMETERS = 8
+
+abbrev pub NO_USER_DATA : ℕ
+NO_USER_DATA = 9
+
+abbrev pub USER_ABORT : ℕ
+USER_ABORT = 12
+
+abbrev pub PROTOCOL_VIOLATION : ℕ
+PROTOCOL_VIOLATION = 13
+
+-- a cause or a parameter of this type
+abbrev pub item : ℕ → List ℕ → Typed
+item kind value = record { kind = kind; value = value }
+
+-- ---- what still fits
+
+-- the chunk, padded, fits a packet of its own
+abbrev pub fits_alone : EndView → ChunkMeaning → Bool
+fits_alone e x = nat_le (size_of_packet (x ∷ [])) e.configuration.limit
+
+-- A cause joins those that wait, unless the ERROR chunk of them all would pass the packet limit.
+abbrev pub causes_with : EndView → Typed → List Typed
+causes_with e x = if fits_alone e (Error (written (e.due.causes ++ x ∷ []))) then e.due.causes ++ x ∷ [] else e.due.causes
+
+abbrev pub with_causes : List Typed → EndView → EndView
+with_causes xs e = record e { due = record e.due { causes = xs } }
+
+-- Of items to report one by one, those that fit behind the ones taken before: `fits` says whether so many go in.
+abbrev pub as_fit : (List Typed → Bool) → List Typed → List Typed → List Typed
+as_fit fits taken [] = taken
+as_fit fits taken (x ∷ xs) = as_fit fits (if fits (taken ++ x ∷ []) then taken ++ x ∷ [] else taken) xs

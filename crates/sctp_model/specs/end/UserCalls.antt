@@ -1,0 +1,133 @@
+-- What the user of an end calls, and what each call answers (RFC 9260, 11.1).
+use Rattle.std.specs.Prelude.{◌≡◌, ℕ, suc, nat_le, Bool, true, false, if◌then◌else◌, List, Option, Some, None}
+use Rattle.sctp_model.specs.Packet.{Packet, size_of_packet}
+use Rattle.sctp_model.specs.Calls.{Call}
+use Rattle.sctp_model.specs.ReceiverView.{Handed, ReceiverView}
+use Rattle.sctp_model.specs.sender.Queueing.{Refusal, refusal, queued}
+use Rattle.sctp_model.specs.sender.Abandoning.{AbandonAnswer, abandon_answer, abandon_after}
+use Rattle.sctp_model.specs.receiver.SackMade.{TakeLeaves}
+use Rattle.sctp_model.specs.end.EndView.{Draw, AbortedHere, Stage, Established, ShutdownPending, ShutdownSent, ShutdownReceived, ShutdownAckSent, Phase, Idle, Listening, Calling, Echoing, Open, Over, EndView}
+use Rattle.sctp_model.specs.end.Clock.{turned, closed}
+use Rattle.sctp_model.specs.end.Closing.{with_due, rested, hears}
+use Rattle.sctp_model.specs.end.Reports.{item, USER_ABORT}
+use Rattle.sctp_model.specs.end.PeerFaults.{packet_to, abort_for}
+use Rattle.sctp_model.specs.end.Moments.{after_giving_up}
+
+-- ---- connect: once, by a caller that hasn't called yet (11.1.2)
+
+pub data ConnectAnswer : Type 0 where
+  Called NotIdle : ConnectAnswer
+
+abbrev pub connect_answer : Phase → ConnectAnswer
+connect_answer Idle = Called
+connect_answer Listening = NotIdle
+connect_answer (Calling d) = NotIdle
+connect_answer (Echoing t xs) = NotIdle
+connect_answer (Open t g) = NotIdle
+connect_answer (Over why) = NotIdle
+
+-- INIT is due
+abbrev pub called : EndView → Draw → EndView
+called e d = with_due (record (turned (Calling d) e).due { init = true }) (turned (Calling d) e)
+
+-- ---- send (11.1.5)
+
+-- an end that isn't established comes before every other reason
+pub data SendAnswer : Type 0 where
+  Ticket : ℕ → SendAnswer
+  Refused : Refusal → SendAnswer
+  NotOpen : SendAnswer
+
+abbrev pub is_established : Stage → Bool
+is_established Established = true
+is_established ShutdownPending = false
+is_established ShutdownSent = false
+is_established ShutdownReceived = false
+is_established ShutdownAckSent = false
+
+abbrev pub answer_for : EndView → Option Refusal → SendAnswer
+answer_for e None = Ticket (suc e.sender.tickets)
+answer_for e (Some r) = Refused r
+
+abbrev pub send_answer : EndView → Call → SendAnswer
+send_answer e c =
+    if hears is_established e.phase then answer_for e (refusal e.sender c.lane.stream c.bytes) else NotOpen
+
+-- the message waits for its number; a refusal drops the bytes
+abbrev pub send_leaves : SendAnswer → EndView → Call → EndView
+send_leaves (Ticket t) e c = record e { sender = queued e.sender c.lane c.payload c.bytes c.until }
+send_leaves (Refused r) e c = e
+send_leaves NotOpen e c = e
+
+-- ---- abandon (RFC 3758, 3.5)
+
+abbrev pub is_open : Phase → Bool
+is_open h = hears (λ g. true) h
+
+-- what the sender of an end answers, whether it is open or closed
+abbrev pub abandons : EndView → ℕ → AbandonAnswer
+abandons e ticket = abandon_answer e.sender ticket
+
+-- a closed end sends nothing more, so nothing is due there
+abbrev pub abandoned_at : EndView → ℕ → EndView
+abandoned_at e ticket =
+    if is_open e.phase then after_giving_up e (abandon_after e.sender ticket) else record e { sender = abandon_after e.sender ticket }
+
+-- ---- take (11.1.6)
+
+pub record Takes (e : EndView) (stream : ℕ) (answer : Option Handed) (t : EndView) : Type 0 where
+  pub receiver : ReceiverView
+  pub takes : TakeLeaves e.receiver stream answer receiver
+  pub leaves : t ≡ record e { receiver = receiver }
+
+-- ---- shutdown (11.1.3)
+
+pub data ShutdownAnswer : Type 0 where
+  Shut NotShut : ShutdownAnswer
+
+abbrev pub shutdown_answer : Phase → ShutdownAnswer
+shutdown_answer Idle = NotShut
+shutdown_answer Listening = NotShut
+shutdown_answer (Calling d) = NotShut
+shutdown_answer (Echoing t xs) = NotShut
+shutdown_answer (Open t g) = Shut
+shutdown_answer (Over why) = NotShut
+
+-- once it is begun, the call changes nothing
+abbrev pub shut_in : Phase → EndView → EndView
+shut_in (Open t Established) e = rested (turned (Open t ShutdownPending) e)
+shut_in h e = e
+
+abbrev pub shut : EndView → EndView
+shut e = shut_in e.phase e
+
+-- ---- abort (11.1.4)
+
+pub data AbortAnswer : Type 0 where
+  Aborts : Packet → AbortAnswer
+  NoPeer TooLong : AbortAnswer
+
+-- the tag of a peer that is known
+abbrev pub peer_tag : Phase → Option ℕ
+peer_tag Idle = None
+peer_tag Listening = None
+peer_tag (Calling d) = None
+peer_tag (Echoing t xs) = Some t.peer
+peer_tag (Open t g) = Some t.peer
+peer_tag (Over why) = None
+
+abbrev pub abort_packet : EndView → ℕ → List ℕ → Packet
+abort_packet e tag reason = packet_to e.configuration tag (abort_for (item USER_ABORT reason))
+
+abbrev pub abort_answer_to : EndView → List ℕ → Option ℕ → AbortAnswer
+abort_answer_to e reason None = NoPeer
+abort_answer_to e reason (Some tag) =
+    if nat_le (size_of_packet (abort_packet e tag reason).chunks) e.configuration.limit then Aborts (abort_packet e tag reason) else TooLong
+
+abbrev pub abort_answer : EndView → List ℕ → AbortAnswer
+abort_answer e reason = abort_answer_to e reason (peer_tag e.phase)
+
+abbrev pub abort_leaves : AbortAnswer → EndView → EndView
+abort_leaves (Aborts p) e = closed AbortedHere e
+abort_leaves NoPeer e = e
+abort_leaves TooLong e = e
