@@ -1,3 +1,0 @@
-pub mod ChunkLines
-pub mod PrintedText
-pub mod Commas
