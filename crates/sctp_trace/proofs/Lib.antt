@@ -5,4 +5,5 @@ mod ScriptLemmas
 mod ScriptSafety
 mod ScriptLines
 mod ScriptAnswers
+mod ScriptGathered
 mod ScriptOneFault
