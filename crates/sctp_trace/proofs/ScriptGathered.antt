@@ -10,7 +10,7 @@ use Rattle.sctp_trace.specs.declared.script.ScriptFault.TheVariants.{Read, Write
 use Rattle.sctp_trace.specs.Script.{IsFront, BeginsOutput, FaultsFirst}
 use Rattle.sctp_trace.specs.ScriptSteps.{IsSoFar, IsWrittenOf, IsPassedOn, IsClosed, BeginsFront, EndsAs, RunsOn}
 use Rattle.sctp_trace.proofs.ScriptLemmas.{front_of}
-use Rattle.sctp_text.specs.TextLines.{LONGEST_TEXT}
+use Rattle.sctp_text.specs.declared.limits.TheConstants.{LONGEST_TEXT}
 
 -- ---- what is written of the bytes that were gathered
 

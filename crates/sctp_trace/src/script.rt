@@ -14,7 +14,9 @@ use crate::script_laws::lines_are_there;
 use sctp_script::{
     Acting, LineError, LineFault, Outcome, events_follow_the_pair, put_outcome, read_line,
 };
-use sctp_text::{Failed, LineReader, NextLine, ReadFault, Sink, Source, line_after_line, write_all};
+use sctp_text::{
+    Failed, LineReader, NextLine, ReadFault, Sink, Source, line_after_line, write_all,
+};
 use sctp_wire::NoMemory;
 use std::alloc::Global;
 use thiserror::Error;
