@@ -8,11 +8,11 @@ use Rattle.sctp_model.specs.Chunk.{ChunkMeaning, PieceMeaning, Data, padded, siz
 use Rattle.sctp_model.specs.SenderView.{Queued, SenderView}
 use Rattle.sctp_model.specs.first.Sending.{room_of, room_of_all, IsFill, went_out}
 use Rattle.sctp_model.specs.Packet.{size_of_chunks}
-use Rattle.sctp_wire.specs.Items.{half, word}
-use Rattle.sctp_wire.specs.Layouts.{IsDataPiece, Fits, data_value}
+use Rattle.sctp_wire.specs.Layouts.{Fits}
+use Rattle.sctp_wire.specs.chunks.Piece.{IsDataPiece}
 use Rattle.sctp_first_send.specs.declared.sender.Filled.{Filled}
 use Rattle.sctp_first_send.specs.declared.sender.Waiting.{Waiting}
-use Rattle.sctp_packet.specs.PacketBytes.{Draft, room_in, has_room, with_chunks}
+use Rattle.sctp_packet.specs.Draft.{Draft, room_in, has_room, with_chunks}
 use Rattle.sctp_first_send.specs.SenderFields.{waits_of, IsSmall}
 use Rattle.sctp_first_send.specs.SenderKept.{Waits, Kept}
 use Rattle.sctp_first_send.specs.SenderStands.{queued_of, queue_of, data_from, datas_from, Puts, Keeps, StandsFor}
@@ -107,15 +107,11 @@ puts_more numbered xs packet before after i x lt e put is =
     rw (take_waits xs i x lt e, datas-append (suc numbered) front (waits_of x), tsn) refl in
     rw (is, put, more, append_assoc packet.chunks (datas_from (suc numbered) front) (data_from (numbered + 1 + i) (waits_of x) ∷ [])) refl
 
-length-data_value : (p : PieceMeaning) → length (data_value p) ≡ 12 + length p.bytes
-unfolding word half
-length-data_value p = omega arith
-
 -- a message that fits a packet of fewer than 65,536 bytes can be written, and is taken
 fits_room : (p : PieceMeaning) (d : Draft) → IsDataPiece p → 16 + padded (length p.bytes) ≤ room_in d → room_in d < 2 ^ 16
     → Fits (Data p) × (has_room d (Data p) ≡ true)
 fits_room p d fields room small = (
-  record { fields = fields; length = omega (arith, length-data_value p) },
+  record { fields = fields; length = omega arith; plain = tt },
   let size = size_of_more d.chunks (Data p) in grind (arith, common_steps),
 )
 

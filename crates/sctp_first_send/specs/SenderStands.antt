@@ -4,7 +4,7 @@ use Rattle.sctp_model.specs.Chunk.{ChunkMeaning, Data}
 use Rattle.sctp_model.specs.Format.{ordered_lane}
 use Rattle.sctp_model.specs.SenderView.{Queued, SenderView}
 use Rattle.sctp_model.specs.first.Sending.{message_for, numbered_one, numbered_all}
-use Rattle.sctp_packet.specs.PacketBytes.{Draft, with_chunks}
+use Rattle.sctp_packet.specs.Draft.{Draft, with_chunks}
 use Rattle.sctp_first_send.specs.SenderKept.{Waits, Kept}
 
 -- a message that waits, as the view has it: one fragment, on an ordered stream

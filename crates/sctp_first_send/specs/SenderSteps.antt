@@ -4,7 +4,7 @@ use Rattle.sctp_model.specs.SenderView.{SenderView}
 use Rattle.sctp_model.specs.first.Sending.{Refusal, accepted, refusal, queued, IsFill, went_out}
 use Rattle.sctp_model.specs.first.Sending as model
 use Rattle.sctp_model.specs.first.World.{datas_of}
-use Rattle.sctp_packet.specs.PacketBytes.{Draft, room_in, with_chunks}
+use Rattle.sctp_packet.specs.Draft.{Draft, room_in, with_chunks}
 use Rattle.sctp_first_send.specs.SenderKept.{Kept}
 use Rattle.sctp_first_send.specs.SenderStands.{StandsFor}
 use Rattle.sctp_first_send.specs.declared.sender.Ticket.{Ticket}

@@ -7,7 +7,7 @@ ghost use Rattle.std.specs.List.{AllByRecursion};
 ghost use Rattle.sctp_model.specs.SenderView.{SenderView, fresh_sender};
 ghost use Rattle.sctp_model.specs.first.Sending.{IsFill, room_of_all, acknowledged};
 ghost use Rattle.sctp_model.specs.Chunk.{padded};
-ghost use Rattle.sctp_packet.specs.PacketBytes.{room_in, with_chunks};
+ghost use Rattle.sctp_packet.specs.Draft.{room_in, with_chunks};
 ghost use Rattle.sctp_first_send.specs.SenderFields.{waits_of, IsSmall, CanCount};
 ghost use Rattle.sctp_first_send.specs.SenderStands.{StandsFor, queue_of, data_from, Puts};
 ghost use Rattle.sctp_first_send.specs.SenderSteps.{RefusalAnswer, QueueAnswer, queue_after, Fills, Stops, numbers_of};
@@ -324,7 +324,7 @@ mod tests {
         sender: &mut Sender,
         limit: u16,
     ) -> Result<(Vec<u8>, Vec<Ticket>), Fail> {
-        let mut packet = PacketWriter::new(alloc, limit);
+        let mut packet = PacketWriter::new(alloc, limit, 0, 0, 0);
         let filled = sender.fill(&mut packet)?;
         Ok((packet.finish().ok_or("no chunk")?, filled.tickets))
     }

@@ -1,6 +1,6 @@
 -- The checksum by long division is the one number that the definition allows, and the register leaves it.
 use Rattle.std.proofs.Common.{◌≡◌, ℕ, zero, suc, ◌+◌, ◌-◌, ◌^◌, ◌<◌, ◌≤◌, ◌/◌, ◌%◌, Bool, true, false, not, cond, nat_eq, bit_xor, List, [], ◌∷◌, ◌++◌, length, take, drop, get_or, replicate, eq-eqb, append-nil, refl, sym, ap, subst, ◌∙◌, arith, length-append}
-use Rattle.std.proofs.lemmas.List.{take_all, take_more}
+use Rattle.std.proofs.lemmas.List.{take_more, take-append-drop}
 use Rattle.std.proofs.lemmas.List.Concat.{flat_map-append}
 use Rattle.std.proofs.lemmas.Bool.{ne_eqb}
 use Rattle.sctp_packet.specs.Remainder.{zeros, add, divide, remainder, IsRemainder}
@@ -19,7 +19,7 @@ pub length_tail : length (drop 1 divisor) ≡ 32
 unfolding bits divisor
 length_tail = refl
 
-divisor_is : divisor ≡ true ∷ drop 1 divisor
+pub divisor_is : divisor ≡ true ∷ drop 1 divisor
 unfolding divisor
 divisor_is = refl
 
@@ -120,20 +120,42 @@ byte_is_eight_steps register byte small =
     (omega (arith, length_bits 32 register, length_bits 8 byte)))
 
 -- one byte more
-pub register_after_byte : (bytes : List ℕ) (i : ℕ) → i < length bytes
-    → register_after (drop 1 divisor) (replicate 32 true) (message_bits (take (i + 1) bytes))
-    ≡ register_after (drop 1 divisor) (register_after (drop 1 divisor) (replicate 32 true) (message_bits (take i bytes))) (bits 8 (get_or bytes i 0))
-register_after_byte bytes i within =
+pub register_after_byte : (rs : List Bool) (bytes : List ℕ) (i : ℕ) → i < length bytes
+    → register_after (drop 1 divisor) rs (message_bits (take (i + 1) bytes))
+    ≡ register_after (drop 1 divisor) (register_after (drop 1 divisor) rs (message_bits (take i bytes))) (bits 8 (get_or bytes i 0))
+register_after_byte rs bytes i within =
     let more : message_bits (take (i + 1) bytes) ≡ message_bits (take i bytes) ++ bits 8 (get_or bytes i 0) =
     ap message_bits (take_more bytes i 0 within)
     ∙ (flat_map-append (bits 8) (take i bytes) (get_or bytes i 0 ∷ [])
     ∙ ap (λ (x : List Bool). message_bits (take i bytes) ++ x) (append-nil (bits 8 (get_or bytes i 0)))) in
-    ap (λ (x : List Bool). register_after (drop 1 divisor) (replicate 32 true) x) more
-    ∙ register_after-append (drop 1 divisor) (replicate 32 true) (message_bits (take i bytes)) (bits 8 (get_or bytes i 0))
+    ap (λ (x : List Bool). register_after (drop 1 divisor) rs x) more
+    ∙ register_after-append (drop 1 divisor) rs (message_bits (take i bytes)) (bits 8 (get_or bytes i 0))
 
--- after all bytes
-pub checksum_of_whole : (bytes : List ℕ) (i register : ℕ) → length bytes ≤ i → register < 2 ^ 32
-    → bits 32 register ≡ register_after (drop 1 divisor) (replicate 32 true) (message_bits (take i bytes)) → 2 ^ 32 - 1 - register ≡ crc32c bytes
-checksum_of_whole bytes i register end small e =
-    checksum_of_register bytes register small
-    (e ∙ ap (λ (x : List ℕ). register_after (drop 1 divisor) (replicate 32 true) (message_bits x)) (take_all i bytes end))
+-- bytes in two parts
+pub register_after_joined : (rs : List Bool) (xs ys : List ℕ)
+    → register_after (drop 1 divisor) (register_after (drop 1 divisor) rs (message_bits xs)) (message_bits ys) ≡ register_after (drop 1 divisor) rs (message_bits (xs ++ ys))
+register_after_joined rs xs ys =
+    sym (register_after-append (drop 1 divisor) rs (message_bits xs) (message_bits ys))
+    ∙ ap (λ (x : List Bool). register_after (drop 1 divisor) rs x) (sym (flat_map-append (bits 8) xs ys))
+
+pub register_after_parts : (rs : List Bool) (bytes : List ℕ) (n : ℕ)
+    → register_after (drop 1 divisor) (register_after (drop 1 divisor) rs (message_bits (take n bytes))) (message_bits (drop n bytes))
+    ≡ register_after (drop 1 divisor) rs (message_bits bytes)
+register_after_parts rs bytes n =
+    register_after_joined rs (take n bytes) (drop n bytes)
+    ∙ ap (λ (x : List ℕ). register_after (drop 1 divisor) rs (message_bits x)) (take-append-drop n bytes)
+
+-- the checksum of bytes in three parts, each begun with the register that the one before it left
+pub checksum_of_parts : (xs ys zs : List ℕ) (r s t : ℕ) → bits 32 r ≡ register_after (drop 1 divisor) (bits 32 0xFFFF_FFFF) (message_bits xs)
+    → bits 32 s ≡ register_after (drop 1 divisor) (bits 32 r) (message_bits ys) → bits 32 t ≡ register_after (drop 1 divisor) (bits 32 s) (message_bits zs)
+    → t < 2 ^ 32 → 2 ^ 32 - 1 - t ≡ crc32c (xs ++ (ys ++ zs))
+checksum_of_parts xs ys zs r s t first second third small =
+    let tail = drop 1 divisor in
+    let ones = replicate 32 true in
+    let after_first : bits 32 r ≡ register_after tail ones (message_bits xs) = first ∙ ap (λ (x : List Bool). register_after tail x (message_bits xs)) ones_is in
+    checksum_of_register (xs ++ (ys ++ zs)) t small
+    (third
+    ∙ (ap (λ (x : List Bool). register_after tail x (message_bits zs)) second
+    ∙ (register_after_joined (bits 32 r) ys zs
+    ∙ (ap (λ (x : List Bool). register_after tail x (message_bits (ys ++ zs))) after_first
+    ∙ register_after_joined ones xs (ys ++ zs)))))

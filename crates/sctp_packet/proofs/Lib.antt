@@ -4,5 +4,9 @@ pub mod RegisterLemmas
 pub mod BitLemmas
 pub mod ChecksumLaws
 pub mod StandardFacts
-mod WrittenLengths
-mod PacketLemmas
+pub mod HeaderLemmas
+pub mod PacketLemmas
+pub mod DraftLemmas
+pub mod StepLemmas
+pub mod TableLemmas
+pub mod StepBits

@@ -1,143 +1,159 @@
--- The bytes of a packet in the making: how many they are, that they are written chunks, and which ones.
-use Rattle.std.proofs.Common.{◌≡◌, ℕ, zero, suc, ◌+◌, ◌-◌, ◌*◌, ◌/◌, ◌<◌, ◌≤◌, ◌^◌, List, [], ◌∷◌, ◌++◌, length, take, drop, replicate, refl, sym, ap, ◌∙◌, subst, append_assoc, arith, length-append, length-drop}
-use Rattle.std.specs.Prelude.{nat_le, max, true, false}
-use Rattle.std.specs.List.{flat_map, AllByRecursion}
-use Rattle.std.proofs.lemmas.List.{append-nil, length-take, take-append-drop, nil_from_length, take-append-le, drop-append-le}
-use Rattle.std.proofs.lemmas.Grind.{common_steps, flat_map-append}
-use Rattle.sctp_model.specs.Chunk.{ChunkMeaning, Data, Sack, size_of_chunk}
-use Rattle.sctp_model.specs.Packet.{HEADER_ROOM, size_of_chunks, size_of_packet}
-use Rattle.sctp_wire.specs.Layouts.{Fits}
-use Rattle.sctp_wire.specs.Reading.{chunks_of, reading_of}
-use Rattle.sctp_wire.specs.Reads.{Reads}
-use Rattle.sctp_wire.specs.Writes.{written, Writes}
-use Rattle.sctp_packet.specs.PacketBytes.{with_header, IsPacketOf, IsDraft}
-use Rattle.sctp_packet.proofs.WrittenLengths.{size_of_written}
+-- A packet and its bytes: what is read says all of the bytes, so that there is one packet or one fault, and what is written reads back.
+use Rattle.std.proofs.Common.{◌≡◌, ℕ, zero, suc, ◌+◌, ◌-◌, ◌*◌, ◌^◌, ◌<◌, ◌≤◌, ◌⊎◌, inl, inr, List, [], ◌∷◌, ◌++◌, length, take, drop, get_or, refl, sym, ap, subst, ◌∙◌, arith, length-append, length-drop}
+use Rattle.std.proofs.lemmas.List.{take_all}
+use Rattle.std.proofs.lemmas.Bool.{cases_lt, cases_eq}
+use Rattle.byteorder.specs.Endian.{big_number, little_number}
+use Rattle.sctp_model.specs.Chunk.{ChunkMeaning}
+use Rattle.sctp_model.specs.Packet.{Packet, HEADER_ROOM}
+use Rattle.sctp_wire.specs.declared.fault.WireFault.{WireFault}
+use Rattle.sctp_wire.specs.FirstFault.{Faults}
+use Rattle.sctp_wire.specs.Laws as wire
+use Rattle.sctp_wire.specs.FaultTree.{moved}
+use Rattle.sctp_wire.specs.Reads.{ReadsEach, Reads}
+use Rattle.sctp_wire.specs.Writes.{Writes}
+use Rattle.sctp_packet.specs.Checksum.{crc32c}
+use Rattle.sctp_packet.specs.declared.fault.PacketFault.{PacketFault}
+use Rattle.sctp_packet.specs.declared.fault.PacketFault.TheVariants.{Short, Checksum, NoChunk, Wire}
+use Rattle.sctp_packet.specs.PacketBytes.{with_sum, packet_bytes, without_sum, IsHeader, IsChecked, ReadsPacket, WritesPacket, FaultsPacket}
+use Rattle.sctp_packet.specs.PacketLaws.{ReadInOneWay}
+use Rattle.sctp_packet.proofs.HeaderLemmas.{AreLow, low_behind, length-with_sum, source_of, destination_of, tag_of, sum_left_out, packet_is_checked, header_back}
 
--- ---- sizes
+-- ---- what stands behind the header
 
-size_of_all_written : (ms : List ChunkMeaning) → AllByRecursion Fits ms → length (flat_map written ms) ≡ size_of_chunks ms
-size_of_all_written [] all = refl
-size_of_all_written (m ∷ ms) all =
-    omega (arith, length-append (written m) (flat_map written ms), size_of_written m all.0, size_of_all_written ms all.1)
+pub all_behind : (n : ℕ) (xs : List ℕ) → take (length xs - n) (drop n xs) ≡ drop n xs
+all_behind n xs = take_all (length xs - n) (drop n xs) (omega (arith, length-drop n xs))
 
-pub size_of_writes : (bytes : List ℕ) (ms : List ChunkMeaning) → Writes bytes ms → length bytes ≡ size_of_chunks ms
-size_of_writes bytes ms w = ap length w.bytes_are ∙ size_of_all_written ms w.fits
+each_some : (body : List ℕ) (ms : List ChunkMeaning) → ReadsEach body ms → (ms ≡ [] → ⊥) → 0 < length body
+each_some body [] h some = absurd (some refl)
+each_some body (m ∷ ms) h some =
+    let joined = ap length h.2 in
+    let layout = ap length h.3.layout in
+    omega (arith, length-append h.0 h.1)
 
-pub size_of_more : (ms : List ChunkMeaning) (m : ChunkMeaning) → size_of_chunks (ms ++ m ∷ []) ≡ size_of_chunks ms + size_of_chunk m
-size_of_more [] m = omega arith
-size_of_more (x ∷ ms) m = omega (arith, size_of_more ms m)
+each_none : (body : List ℕ) (ms : List ChunkMeaning) → ReadsEach body ms → ms ≡ [] → body ≡ []
+each_none body [] h none = h
+each_none body (m ∷ ms) h none = cc
 
--- every chunk takes some room
-pub size_some : (m : ChunkMeaning) → 0 < size_of_chunk m
-size_some (Data p) = omega arith
-size_some (Sack s) = omega arith
-size_some m = omega arith
+-- ---- what a packet says of its bytes
 
--- ---- what is written, and read back
+pub record IsRead (bytes : List ℕ) (p : Packet) : Type 0 where
+  pub long : HEADER_ROOM < length bytes
+  pub checked : IsChecked bytes
+  pub source : p.source ≡ big_number 2 bytes
+  pub destination : p.destination ≡ big_number 2 (drop 2 bytes)
+  pub tag : p.tag ≡ big_number 4 (drop 4 bytes)
+  pub chunks : Reads (drop HEADER_ROOM bytes) p.chunks
 
-all-append : (ms ns : List ChunkMeaning) → AllByRecursion Fits ms → AllByRecursion Fits ns → AllByRecursion Fits (ms ++ ns)
-all-append [] ns p q = q
-all-append (m ∷ ms) ns p q = (p.0, all-append ms ns p.1 q)
+pub packet_parts : (bytes : List ℕ) (p : Packet) → ReadsPacket bytes p → IsRead bytes p
+packet_parts bytes p h =
+    let sum = crc32c (with_sum p h.body 0) in
+    let some : 0 < length h.body = each_some h.body p.chunks h.chunks.each h.some in
+    let parts : IsRead (packet_bytes p h.body) p = record {
+      long = omega (arith, length-with_sum p h.body sum);
+      checked = packet_is_checked p h.body;
+      source = sym (source_of p h.body sum h.header);
+      destination = sym (destination_of p h.body sum h.header);
+      tag = sym (tag_of p h.body sum h.header);
+      chunks = h.chunks;
+    } in
+    subst (λ (xs : List ℕ). IsRead xs p) (sym h.layout) parts
 
-no_chunks : chunks_of [] ≡ []
-unfolding reading_of
-no_chunks = refl
-
-writes_none : Writes [] []
-writes_none = record { bytes_are = refl; fits = tt }
-
-pub writes_more : (bytes : List ℕ) (ms : List ChunkMeaning) (m : ChunkMeaning) → Writes bytes ms → Fits m → Writes (bytes ++ written m) (ms ++ m ∷ [])
-writes_more bytes ms m w fits = record {
-  bytes_are = rw (w.bytes_are, flat_map-append written ms (m ∷ []), append-nil (written m)) refl;
-  fits = all-append ms (m ∷ []) w.fits (fits, tt);
-}
-
--- ---- the bytes kept
-
-pub draft_empty : (limit : ℕ) → IsDraft limit []
-draft_empty limit = record {
-  header = λ some. absurd (omega arith);
-  writes = subst (λ (ms : List ChunkMeaning). Writes [] ms) (sym no_chunks) writes_none;
-  within = λ some. absurd (omega arith);
-}
-
--- with a header in front nothing else changes
-header_there : (b : ℕ) (bytes : List ℕ) → with_header (b ∷ bytes) ≡ b ∷ bytes
-header_there b bytes = grind (arith, common_steps)
-
-header_first : (limit : ℕ) (bytes : List ℕ) → IsDraft limit bytes → take HEADER_ROOM (with_header bytes) ≡ replicate HEADER_ROOM 0
-header_first limit [] d = refl
-header_first limit (b ∷ bytes) d = rw (header_there b bytes) (d.header (omega arith))
-
-header_long : (limit : ℕ) (bytes : List ℕ) → IsDraft limit bytes → HEADER_ROOM ≤ length (with_header bytes)
-header_long limit bytes d =
-    let short = ap length (header_first limit bytes d) in
-    omega (arith, short, length-take HEADER_ROOM (with_header bytes))
-
-header_behind : (bytes : List ℕ) → drop HEADER_ROOM (with_header bytes) ≡ drop HEADER_ROOM bytes
-header_behind [] = refl
-header_behind (b ∷ bytes) = rw (header_there b bytes) refl
-
--- the bytes of a draft and its chunks say the same size
-pub draft_size : (limit : ℕ) (bytes : List ℕ) → IsDraft limit bytes → length (with_header bytes) ≡ size_of_packet (chunks_of (drop HEADER_ROOM bytes))
-draft_size limit bytes d =
-    let long = header_long limit bytes d in
-    let behind = ap length (header_behind bytes) in
-    omega (arith, size_of_writes _ _ d.writes, length-drop HEADER_ROOM (with_header bytes))
-
--- the longer of the header and the bytes
-pub draft_longer : (limit : ℕ) (bytes : List ℕ) → IsDraft limit bytes → max (length bytes) 12 ≡ size_of_packet (chunks_of (drop HEADER_ROOM bytes))
-draft_longer limit [] d = draft_size limit [] d
-draft_longer limit (b ∷ bytes) d =
-    let long = header_long limit (b ∷ bytes) d in
-    let there = ap length (header_there b bytes) in
-    omega (arith, draft_size limit (b ∷ bytes) d)
-
--- what is written for chunks has them as its chunks
-abbrev pub IsReadBack : Type 0
-IsReadBack = (bytes : List ℕ) (ms : List ChunkMeaning) → Writes bytes ms → chunks_of bytes ≡ ms
-
--- a chunk more
-pub record IsPut (limit : ℕ) (bytes after : List ℕ) (m : ChunkMeaning) : Type 0 where
-  pub draft : IsDraft limit after
-  pub chunks : chunks_of (drop HEADER_ROOM after) ≡ chunks_of (drop HEADER_ROOM bytes) ++ m ∷ []
-
-pub draft_put : (limit : ℕ) (bytes after : List ℕ) (m : ChunkMeaning) → IsReadBack → IsDraft limit bytes → Fits m
-    → size_of_packet (chunks_of (drop HEADER_ROOM bytes) ++ m ∷ []) ≤ limit → after ≡ with_header bytes ++ written m → IsPut limit bytes after m
-draft_put limit bytes after m law d fits room is =
-    let long = header_long limit bytes d in
-    let behind : drop HEADER_ROOM after ≡ drop HEADER_ROOM bytes ++ written m =
-    rw (is, drop-append-le HEADER_ROOM (with_header bytes) (written m) long, header_behind bytes) refl in
-    let more = subst (λ (xs : List ℕ). Writes xs (chunks_of (drop HEADER_ROOM bytes) ++ m ∷ [])) (sym behind) (writes_more _ _ m d.writes fits) in
-    let same = law _ _ more in
+pub packet_whole : (bytes : List ℕ) (p : Packet) → AreLow bytes → IsHeader p → IsRead bytes p → ReadsPacket bytes p
+packet_whole bytes p low header h =
+    let body = drop HEADER_ROOM bytes in
+    let back : with_sum p body (little_number 4 (drop 8 bytes)) ≡ bytes = header_back p bytes low (omega (arith, h.long)) h.source h.destination h.tag in
+    let left_out : without_sum bytes ≡ with_sum p body 0 = ap without_sum (sym back) ∙ sum_left_out p body (little_number 4 (drop 8 bytes)) in
     record {
-      draft = record {
-        header = λ some. rw (is, take-append-le HEADER_ROOM (with_header bytes) (written m) long) (header_first limit bytes d);
-        writes = subst (λ (ms : List ChunkMeaning). Writes (drop HEADER_ROOM after) ms) (sym same) more;
-        within = λ some. omega (arith, ap length is, length-append (with_header bytes) (written m), draft_size limit bytes d, size_of_more (chunks_of (drop HEADER_ROOM bytes)) m, size_of_written m fits);
-      };
-      chunks = same;
+      body = body;
+      layout = sym (ap (with_sum p body) (sym (h.checked ∙ ap crc32c left_out)) ∙ back);
+      header = header;
+      chunks = h.chunks;
+      some = λ none. absurd (omega (arith, h.long, ap length (each_none body p.chunks h.chunks.each none), length-drop HEADER_ROOM bytes));
     }
 
--- ---- a finished packet
+-- ---- one packet, one fault
 
-pub draft_packet : (limit : ℕ) (bytes : List ℕ) → ((body : List ℕ) (ms : List ChunkMeaning) → Writes body ms → Reads body ms) → IsDraft limit bytes → HEADER_ROOM < length bytes
-    → IsPacketOf bytes (chunks_of (drop HEADER_ROOM bytes)) × (chunks_of (drop HEADER_ROOM bytes) ≡ [] → ⊥)
-draft_packet limit bytes law d some =
-    let size = size_of_writes _ _ d.writes in
-    let behind = length-drop HEADER_ROOM bytes in (
-      record {
-        body = drop HEADER_ROOM bytes;
-        bytes_are = sym (take-append-drop HEADER_ROOM bytes) ∙ ap (λ (xs : List ℕ). xs ++ drop HEADER_ROOM bytes) (d.header (omega arith));
-        writes = d.writes;
-        reads = law _ _ d.writes;
-        size = omega arith;
-      },
-      λ none. let zero_size = ap size_of_chunks none in absurd (omega arith),
-    )
+same_packet : (p q : Packet) → p.source ≡ q.source → p.destination ≡ q.destination → p.tag ≡ q.tag → p.chunks ≡ q.chunks → p ≡ q
+same_packet p q a b c d = λ i. record { source = a i; destination = b i; tag = c i; chunks = d i }
 
-pub draft_none : (limit : ℕ) (bytes : List ℕ) → IsDraft limit bytes → length bytes ≤ HEADER_ROOM → chunks_of (drop HEADER_ROOM bytes) ≡ []
-draft_none limit bytes d short =
-    let behind = length-drop HEADER_ROOM bytes in
-    let none : drop HEADER_ROOM bytes ≡ [] = nil_from_length _ (omega arith) in
-    rw none no_chunks
+one_packet_of : (bytes : List ℕ) → wire.ReadInOneWay (drop HEADER_ROOM bytes) → (p q : Packet) → ReadsPacket bytes p → ReadsPacket bytes q → p ≡ q
+one_packet_of bytes law p q h k =
+    let a = packet_parts bytes p h in
+    let b = packet_parts bytes q k in
+    same_packet p q (a.source ∙ sym b.source) (a.destination ∙ sym b.destination) (a.tag ∙ sym b.tag) (law.one_list p.chunks q.chunks a.chunks b.chunks)
+
+pub one_fault_of : (bytes : List ℕ) → wire.ReadInOneWay (drop HEADER_ROOM bytes) → (f g : PacketFault) → FaultsPacket bytes f → FaultsPacket bytes g → f ≡ g
+one_fault_of bytes law Short Short h k = refl
+one_fault_of bytes law Short Checksum h k = absurd (omega (arith, k.0))
+one_fault_of bytes law Short NoChunk h k = absurd (omega (arith, k.0))
+one_fault_of bytes law Short (Wire g) h k = absurd (omega (arith, k.0))
+one_fault_of bytes law Checksum Short h k = absurd (omega (arith, h.0))
+one_fault_of bytes law Checksum Checksum h k = refl
+one_fault_of bytes law Checksum NoChunk h k = absurd (h.1 k.1)
+one_fault_of bytes law Checksum (Wire g) h k = absurd (h.1 k.1)
+one_fault_of bytes law NoChunk Short h k = absurd (omega (arith, h.0))
+one_fault_of bytes law NoChunk Checksum h k = absurd (k.1 h.1)
+one_fault_of bytes law NoChunk NoChunk h k = refl
+one_fault_of bytes law NoChunk (Wire g) h k = absurd (omega (arith, h.0, k.0))
+one_fault_of bytes law (Wire f) Short h k = absurd (omega (arith, h.0))
+one_fault_of bytes law (Wire f) Checksum h k = absurd (k.1 h.1)
+one_fault_of bytes law (Wire f) NoChunk h k = absurd (omega (arith, h.0, k.0))
+one_fault_of bytes law (Wire f) (Wire g) h k =
+    ap Wire (h.2.2 ∙ (ap (moved HEADER_ROOM) (law.one_fault h.2.0 k.2.0 h.2.1 k.2.1) ∙ sym k.2.2))
+
+pub never_both_of : (bytes : List ℕ) → wire.ReadInOneWay (drop HEADER_ROOM bytes) → (p : Packet) (f : PacketFault) → ReadsPacket bytes p → FaultsPacket bytes f → ⊥
+never_both_of bytes law p Short h k = let a = packet_parts bytes p h in absurd (omega (arith, a.long))
+never_both_of bytes law p Checksum h k = let a = packet_parts bytes p h in k.1 a.checked
+never_both_of bytes law p NoChunk h k = let a = packet_parts bytes p h in absurd (omega (arith, a.long, k.0))
+never_both_of bytes law p (Wire f) h k = let a = packet_parts bytes p h in law.never_both p.chunks k.2.0 a.chunks k.2.1
+
+-- ---- one of the two
+
+abbrev fields_of : List ℕ → List ChunkMeaning → Packet
+fields_of bytes ms = record {
+  source = big_number 2 bytes;
+  destination = big_number 2 (drop 2 bytes);
+  tag = big_number 4 (drop 4 bytes);
+  chunks = ms;
+}
+
+pub fields_small : (bytes : List ℕ) (ms : List ChunkMeaning) → AreLow bytes → IsHeader (fields_of bytes ms)
+fields_small bytes ms low =
+    let at_2 = low_behind 2 bytes low in
+    let at_4 = low_behind 4 bytes low in
+    record {
+      source = omega (arith, low 0, low 1);
+      destination = omega (arith, at_2 0, at_2 1);
+      tag = omega (arith, at_4 0, at_4 1, at_4 2, at_4 3);
+    }
+
+chunks_or_fault : (bytes : List ℕ) → AreLow bytes → HEADER_ROOM < length bytes → IsChecked bytes
+    → ((ms : List ChunkMeaning) × Reads (drop HEADER_ROOM bytes) ms) ⊎ ((f : WireFault) × Faults (drop HEADER_ROOM bytes) f)
+    → ((p : Packet) × ReadsPacket bytes p) ⊎ ((f : PacketFault) × FaultsPacket bytes f)
+chunks_or_fault bytes low long checked (inl h) =
+    let p = fields_of bytes h.0 in
+    inl (p, packet_whole bytes p low (fields_small bytes h.0 low) (record { long = long; checked = checked; source = refl; destination = refl; tag = refl; chunks = h.1 }))
+chunks_or_fault bytes low long checked (inr h) = inr (Wire (moved HEADER_ROOM h.0), (long, checked, (h.0, h.1, refl)))
+
+one_of_them_of : (bytes : List ℕ) → wire.ReadInOneWay (drop HEADER_ROOM bytes) → AreLow bytes → ((p : Packet) × ReadsPacket bytes p) ⊎ ((f : PacketFault) × FaultsPacket bytes f)
+one_of_them_of bytes law low =
+    elim (cases_lt (length bytes) HEADER_ROOM) [
+      | inl short ↦ inr (Short, short)
+      | inr long ↦
+          elim (cases_eq (little_number 4 (drop 8 bytes)) (crc32c (without_sum bytes))) [
+            | inr wrong ↦ inr (Checksum, (long, wrong))
+            | inl checked ↦
+                elim (cases_eq (length bytes) HEADER_ROOM) [
+                  | inl alone ↦ inr (NoChunk, (alone, checked))
+                  | inr more ↦ chunks_or_fault bytes low (omega arith) checked (law.one_of_them (low_behind HEADER_ROOM bytes low))
+                ]
+          ]
+    ]
+
+pub packets_in_one_way : ((bytes : List ℕ) → wire.ReadInOneWay bytes) → (bytes : List ℕ) → ReadInOneWay bytes
+packets_in_one_way law bytes = record {
+  one_packet = one_packet_of bytes (law (drop HEADER_ROOM bytes));
+  one_fault = one_fault_of bytes (law (drop HEADER_ROOM bytes));
+  never_both = never_both_of bytes (law (drop HEADER_ROOM bytes));
+  one_of_them = one_of_them_of bytes (law (drop HEADER_ROOM bytes));
+}

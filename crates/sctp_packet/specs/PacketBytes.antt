@@ -1,50 +1,65 @@
--- A packet in the making, and the bytes of one that is finished (RFC 9260, 3): a header, here of zeros, and the chunks.
-use Rattle.std.specs.Prelude.{◌≡◌, ℕ, ◌-◌, ◌<◌, ◌≤◌, Bool, nat_le, if◌then◌else◌, ◌==◌, List, ◌∷◌, [], ◌++◌, length, take, drop, replicate}
+-- The bytes of a packet: the common header and the chunks behind it; and why bytes are no packet (RFC 9260, 3 and 3.1).
+use Rattle.std.specs.Prelude.{◌≡◌, ℕ, ◌+◌, ◌<◌, ◌≤◌, ◌^◌, List, [], ◌++◌, length, take, drop, replicate}
+use Rattle.byteorder.specs.Endian.{big_bytes, little_bytes, little_number}
 use Rattle.sctp_model.specs.Chunk.{ChunkMeaning}
-use Rattle.sctp_model.specs.Packet.{HEADER_ROOM, size_of_packet}
-use Rattle.sctp_wire.specs.Reading.{chunks_of}
+use Rattle.sctp_model.specs.Packet.{Packet, HEADER_ROOM}
+use Rattle.sctp_wire.specs.declared.fault.WireFault.{WireFault}
+use Rattle.sctp_wire.specs.FaultTree.{moved}
 use Rattle.sctp_wire.specs.Reads.{Reads}
 use Rattle.sctp_wire.specs.Writes.{Writes}
+use Rattle.sctp_wire.specs.FirstFault.{Faults}
+use Rattle.sctp_packet.specs.Checksum.{crc32c}
+use Rattle.sctp_packet.specs.declared.fault.PacketFault.{PacketFault}
+use Rattle.sctp_packet.specs.declared.fault.PacketFault.TheVariants.{Short, Checksum, NoChunk, Wire}
 
--- what a packet in the making is: the most bytes that it may have, and the chunks put in so far
-pub record Draft : Type 0 where
-  pub limit : ℕ
-  pub chunks : List ChunkMeaning
+-- the header: source port 16, destination port 16, verification tag 32, and a checksum 32 whose low byte comes first
+abbrev pub header_bytes : (source destination tag sum : ℕ) → List ℕ
+header_bytes source destination tag sum = big_bytes 2 source ++ (big_bytes 2 destination ++ (big_bytes 4 tag ++ little_bytes 4 sum))
 
--- nothing put in yet
-abbrev pub empty_draft : ℕ → Draft
-empty_draft limit = record { limit = limit; chunks = [] }
+-- a header with this checksum, and what stands behind it
+abbrev pub with_sum : Packet → List ℕ → ℕ → List ℕ
+with_sum p body sum = header_bytes p.source p.destination p.tag sum ++ body
 
--- these chunks more
-abbrev pub with_chunks : Draft → List ChunkMeaning → Draft
-with_chunks d ms = record d { chunks = d.chunks ++ ms }
+-- the same with the right checksum: that of all bytes, where the field is zero (RFC 9260, 6.8)
+abbrev pub packet_bytes : Packet → List ℕ → List ℕ
+packet_bytes p body = with_sum p body (crc32c (with_sum p body 0))
 
--- the bytes that are left, where the header counts and the chunks are padded
-abbrev pub room_in : Draft → ℕ
-room_in d = d.limit - size_of_packet d.chunks
+-- ports have 16 bits, the tag 32
+pub record IsHeader (p : Packet) : Type 0 where
+  pub source : p.source < 2 ^ 16
+  pub destination : p.destination < 2 ^ 16
+  pub tag : p.tag < 2 ^ 32
 
--- the packet stays within its limit with this chunk too
-abbrev pub has_room : Draft → ChunkMeaning → Bool
-has_room d m = nat_le (size_of_packet (d.chunks ++ m ∷ [])) d.limit
-
--- the draft after a chunk was put in, or not
-abbrev pub after_try : Draft → ChunkMeaning → Bool → Draft
-after_try d m put = if put then with_chunks d (m ∷ []) else d
-
--- the bytes are a packet of these chunks: its header, and what is written for them, which reads as them again
-pub record IsPacketOf (bytes : List ℕ) (ms : List ChunkMeaning) : Type 0 where
+-- the bytes are this packet: its header and at least one chunk
+pub record ReadsPacket (bytes : List ℕ) (p : Packet) : Type 0 where
   pub body : List ℕ
-  pub bytes_are : bytes ≡ replicate HEADER_ROOM 0 ++ body
-  pub writes : Writes body ms
-  pub reads : Reads body ms
-  pub size : length bytes ≡ size_of_packet ms
+  pub layout : bytes ≡ packet_bytes p body
+  pub header : IsHeader p
+  pub chunks : Reads body p.chunks
+  pub some : p.chunks ≡ [] → ⊥
 
--- the bytes, with a header in front where there were none
-abbrev pub with_header : List ℕ → List ℕ
-with_header bytes = if length bytes == 0 then replicate HEADER_ROOM 0 else bytes
+-- the bytes are those that are written for this packet
+pub record WritesPacket (bytes : List ℕ) (p : Packet) : Type 0 where
+  pub body : List ℕ
+  pub layout : bytes ≡ packet_bytes p body
+  pub header : IsHeader p
+  pub chunks : Writes body p.chunks
+  pub some : p.chunks ≡ [] → ⊥
 
--- what is always so of the bytes kept: nothing, or a header and written chunks, within the limit
-pub record IsDraft (limit : ℕ) (bytes : List ℕ) : Type 0 where
-  pub header : 0 < length bytes → take HEADER_ROOM bytes ≡ replicate HEADER_ROOM 0
-  pub writes : Writes (drop HEADER_ROOM bytes) (chunks_of (drop HEADER_ROOM bytes))
-  pub within : HEADER_ROOM < length bytes → length bytes ≤ limit
+-- ---- faults
+
+-- bytes with zero in the checksum's field
+abbrev pub without_sum : List ℕ → List ℕ
+without_sum bytes = take 8 bytes ++ (replicate 4 0 ++ drop 12 bytes)
+
+-- the checksum's field holds the checksum
+abbrev pub IsChecked : List ℕ → Type 0
+IsChecked bytes = little_number 4 (drop 8 bytes) ≡ crc32c (without_sum bytes)
+
+-- the fault of the bytes: the first check that fails
+abbrev pub FaultsPacket : List ℕ → PacketFault → Type 0
+FaultsPacket bytes Short = length bytes < HEADER_ROOM
+FaultsPacket bytes Checksum = (HEADER_ROOM ≤ length bytes) × (IsChecked bytes → ⊥)
+FaultsPacket bytes NoChunk = (length bytes ≡ HEADER_ROOM) × IsChecked bytes
+FaultsPacket bytes (Wire fault) =
+    (HEADER_ROOM < length bytes) × IsChecked bytes × ((f : WireFault) × Faults (drop HEADER_ROOM bytes) f × (fault ≡ moved HEADER_ROOM f))

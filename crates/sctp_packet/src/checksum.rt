@@ -1,11 +1,20 @@
-//! CRC32c, by a shift register that takes a bit at a time.
+//! CRC32c, by a register that takes eight bytes at a time.
 
-ghost use Rattle.std.specs.Prelude.{◌≡◌, ℕ, false, drop};
-ghost use Rattle.sctp_packet.specs.Checksum.{bits, divisor, crc32c, IsChecksum};
-ghost use Rattle.sctp_packet.specs.Register.{shifted, register_after};
+ghost use Rattle.std.specs.Prelude.{◌≡◌, ◌↔◌, ℕ, ◌+◌, ◌*◌, ◌<◌, ◌≤◌, IsTrue, drop, take, length};
+ghost use Rattle.sctp_packet.specs.Checksum.{bits, divisor, message_bits, crc32c, IsChecksum};
+ghost use Rattle.sctp_packet.specs.PacketBytes.{IsChecked};
+ghost use Rattle.sctp_packet.specs.Register.{register_after};
+ghost use Rattle.sctp_packet.specs.Tables.{steps, IsEntry};
 
-/// The polynomial 0x1EDC6F41, the highest power in the lowest bit.
-const POLYNOMIAL: u32 = 0x82F6_3B78;
+use crate::tables::TABLES;
+use byteorder::{ByteOrder, LittleEndian};
+
+/// The bytes of a packet's common header (RFC 9260, 3.1).
+pub(crate) const HEADER: usize = 12;
+/// Where the checksum stands in it, 4 bytes.
+pub(crate) const SUM_AT: usize = 8;
+/// The bytes that are taken at once, a table for each.
+const PLACES: usize = 8;
 
 /// The CRC32c of the bytes: the number that the checksum field of a packet holds, the low byte first,
 /// where these are the packet's bytes with that field zero (RFC 9260, 6.8 and appendix A).
@@ -14,32 +23,75 @@ pub fn crc32c(bytes: &[u8]) -> u32
     ensures only { (sum : ℕ) → IsChecksum bytes.now sum → sum ≡ result }
     ensures exact { result ≡ crc32c bytes.now }
 {
-    let mut register = u32::MAX;
-    for byte in bytes {
-        register = after_byte(register, *byte);
+    !after_all(u32::MAX, bytes)
+}
+
+/// Whether the checksum's field of a packet holds the checksum: that of all its bytes, where the field is zero.
+pub(crate) fn is_checked(bytes: &[u8]) -> bool
+    requires { 12 ≤ length bytes.now }
+    ensures { IsTrue result ↔ IsChecked bytes.now }
+{
+    let front = after_all(u32::MAX, &bytes[..SUM_AT]);
+    let field = after_all(front, &[0; 4]);
+    LittleEndian::read_u32(&bytes[SUM_AT..]) == !after_all(field, &bytes[HEADER..])
+}
+
+/// The register after the bytes, eight at a time while there are so many.
+fn after_all(register: u32, bytes: &[u8]) -> u32
+    ensures { bits 32 result ≡ register_after (drop 1 divisor) (bits 32 register) (message_bits bytes.now) }
+{
+    let mut stepped = register;
+    let mut rest = bytes;
+    while rest.len() >= PLACES {
+        stepped = after_eight(stepped, rest);
+        rest = &rest[PLACES..];
     }
-    !register
+    after_rest(stepped, rest)
+}
+
+/// The register after the bytes, one at a time.
+fn after_rest(register: u32, bytes: &[u8]) -> u32
+    ensures { bits 32 result ≡ register_after (drop 1 divisor) (bits 32 register) (message_bits bytes.now) }
+{
+    let mut stepped = register;
+    for byte in bytes {
+        stepped = after_byte(stepped, *byte);
+    }
+    stepped
 }
 
 /// The register after a byte, whose lowest bit comes first.
 fn after_byte(register: u32, byte: u8) -> u32
     ensures { bits 32 result ≡ register_after (drop 1 divisor) (bits 32 register) (bits 8 byte) }
 {
-    let mut stepped = register ^ u32::from(byte);
-    for _step in 0..u8::BITS {
-        stepped = after_zero(stepped);
-    }
-    stepped
+    let mixed = register ^ u32::from(byte);
+    (mixed >> 8) ^ entry(0, u64::from(mixed) % 256)
 }
 
-/// The register after one bit 0.
-fn after_zero(register: u32) -> u32
-    ensures { bits 32 result ≡ shifted (drop 1 divisor) (bits 32 register) false }
+/// The register after the first eight bytes: what each byte leaves, added up, where the first four have the register added.
+#[inline(always)]
+fn after_eight(register: u32, bytes: &[u8]) -> u32
+    requires { 8 ≤ length bytes.now }
+    ensures { bits 32 result ≡ register_after (drop 1 divisor) (bits 32 register) (message_bits (take 8 bytes.now)) }
 {
-    let moved = register >> 1;
-    if register % 2 == 1 {
-        moved ^ POLYNOMIAL
-    } else {
-        moved
-    }
+    let mixed = u64::from(register) ^ LittleEndian::read_u64(bytes);
+    entry(0, mixed >> 56)
+        ^ entry(1, (mixed >> 48) % 256)
+        ^ entry(2, (mixed >> 40) % 256)
+        ^ entry(3, (mixed >> 32) % 256)
+        ^ entry(4, (mixed >> 24) % 256)
+        ^ entry(5, (mixed >> 16) % 256)
+        ^ entry(6, (mixed >> 8) % 256)
+        ^ entry(7, mixed % 256)
+}
+
+/// What the table has for a byte that so many bytes follow.
+#[inline(always)]
+fn entry(place: usize, byte: u64) -> u32
+    requires place { place < 8 }
+    requires byte { byte < 256 }
+    ensures steps { result ≡ steps (8 * place + 8) byte }
+    ensures remainder { IsEntry place byte result }
+{
+    TABLES[place][byte as usize]
 }

@@ -1,11 +1,18 @@
-//! The packet around the chunks: its checksum, CRC32c (RFC 9260, 6.8 and appendix A), and a packet in the making (RFC 9260, 3).
+//! The packet around the chunks: its header with the checksum, CRC32c, read and written (RFC 9260, 3, 6.8 and appendix A).
 #![tactic(auto)]
 
 mod checksum;
-mod packet;
+mod fault;
+mod laws;
+mod read;
+mod tables;
+mod writer;
 
 pub use checksum::crc32c;
-pub use packet::{PacketWriter, padded};
+pub use fault::PacketFault;
+pub use laws::{one_packet, written_packet_reads};
+pub use read::{Packet, read_packet};
+pub use writer::{PacketWriter, padded};
 
 #[cfg(test)]
 mod tests;

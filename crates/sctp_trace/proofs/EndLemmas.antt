@@ -24,7 +24,7 @@ use Rattle.sctp_model.specs.Packet.{size_of_packet, size_of_chunks, HEADER_ROOM}
 use Rattle.sctp_wire.specs.declared.fault.NoMemory.{NoMemory}
 use Rattle.sctp_script.specs.Events.{Answers}
 use Rattle.sctp_trace.specs.PairRuns.{Told}
-use Rattle.sctp_packet.specs.PacketBytes.{Draft, room_in, with_chunks, empty_draft}
+use Rattle.sctp_packet.specs.Draft.{Draft, room_in, with_chunks, empty_draft}
 use Rattle.sctp_script.specs.declared.event.Outcome.{Outcome}
 use Rattle.sctp_first_send.specs.declared.sender.SendFault.{SendFault}
 use Rattle.sctp_trace.specs.EndStands.{is_established, IsBeginning, HasMessage, IsOn, IsEnd, tickets_noted, numbers_taken}
@@ -367,7 +367,7 @@ datas_none v [] e = refl
 datas_none v (q ∷ qs) e = cc
 
 pub begin_room : (v : EndView) (sacks : Packet) (limit : ℕ) → IsBeginning v sacks
-    → room_in (with_chunks (empty_draft limit) sacks) ≡ limit - HEADER_ROOM - SACK_ROOM * length sacks
+    → room_in (with_chunks (empty_draft limit 0 0 0) sacks) ≡ limit - HEADER_ROOM - SACK_ROOM * length sacks
 begin_room v sacks limit (inl (due, e)) = rw e (omega arith)
 begin_room v sacks limit (inr (due, (s, of, e))) =
     let blocks = ap (λ (x : SackMeaning). length x.blocks) of.1 in
@@ -376,7 +376,7 @@ begin_room v sacks limit (inr (due, (s, of, e))) =
 
 -- the end after a packet was built
 pub is_built : (c : Configuration) (v : EndView) (sacks : Packet) (packet after : Draft) (k : Kept) (filled : Filled) → IsBeginning v sacks
-    → packet ≡ with_chunks (empty_draft c.limit) sacks → (f : Fills v.sender packet after k filled)
+    → packet ≡ with_chunks (empty_draft c.limit 0 0 0) sacks → (f : Fills v.sender packet after k filled)
     → Builds c v after.chunks (record v { sender = went_out v.sender f.count; sack_due = false })
 is_built c v sacks packet after k filled begins is f = record {
   sacks = sacks;
@@ -393,7 +393,7 @@ pub record IsIdle (v : EndView) (count : ℕ) : Type 0 where
   pub due : v.sack_due ≡ false
 
 pub is_idle : (v : EndView) (sacks : Packet) (packet after : Draft) (k : Kept) (filled : Filled) (limit : ℕ) → IsBeginning v sacks
-    → packet ≡ with_chunks (empty_draft limit) sacks → (f : Fills v.sender packet after k filled) → after.chunks ≡ [] → IsIdle v f.count
+    → packet ≡ with_chunks (empty_draft limit 0 0 0) sacks → (f : Fills v.sender packet after k filled) → after.chunks ≡ [] → IsIdle v f.count
 is_idle v sacks packet after k filled limit begins is f none =
     let all : after.chunks ≡ sacks ++ datas_of v.sender (take f.count v.sender.queue) =
     ap (λ (d : Draft). d.chunks) f.chunks ∙ ap (λ (d : Draft). d.chunks ++ datas_of v.sender (take f.count v.sender.queue)) is in

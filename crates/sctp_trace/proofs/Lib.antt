@@ -5,4 +5,6 @@ mod ScriptLemmas
 mod ScriptSafety
 mod ScriptLines
 mod ScriptAnswers
+mod ScriptGathered
 mod ScriptOneFault
+pub mod PlacedLemmas

@@ -37,7 +37,7 @@ use Rattle.sctp_trace.specs.declared.script.ScriptFault.TheVariants.{Read, Write
 use Rattle.sctp_trace.specs.PairStands.{PairStands}
 use Rattle.sctp_trace.specs.PairRuns.{Told}
 use Rattle.sctp_trace.specs.Script.{is_paired, Does, LineActs, Goes, IsOutput, IsFront, HasNoPair, HasFirstFault, FaultsFirst, BeginsOutput}
-use Rattle.sctp_trace.specs.ScriptSteps.{StandsAt, IsWrittenOf, LineLeaves, Closes, IsSoFar, IsOver, fault_of, BeginsFront, EndsAs}
+use Rattle.sctp_trace.specs.ScriptSteps.{StandsAt, IsGatheredOf, LineLeaves, Closes, IsSoFar, IsOver, fault_of, BeginsFront, EndsAs}
 use Rattle.sctp_text.specs.declared.limits.TheConstants.{LINE_FEED, LONGEST_LINE, LONGEST_TEXT}
 
 -- ---- lines one after another
@@ -171,23 +171,7 @@ pub ended_stops : (end : Type 0) (fault : ScriptFault) (s : Running) (now : Read
     → HasCome s text done lines state bytes (ended line ++ now.held) line → HasGiven (text ++ bytes) (lines ++ line ∷ []) now → now.given ≤ LONGEST_TEXT
     → LineLeaves (Err fault) s.number state line here pair → EndsAs end (Err fault) (text ++ bytes) (done ++ here)
 ended_stops end Read s now text done lines state bytes line here pair come given small leaves = absurd leaves
-ended_stops end Write s now text done lines state bytes line here pair come given small leaves =
-    let whole = leaves.0 in
-    let front : IsFront (text ++ bytes) (lines ++ line ∷ []) now.held (done ++ whole) (Some leaves.2) = record {
-      each = given.each;
-      whole = given.whole;
-      small = omega (arith, given.count, small);
-      goes = goes-push lines line None state (Some leaves.2) done whole come.so.goes leaves.3;
-    } in
-    inl (
-      lines ++ line ∷ [],
-      now.held,
-      done ++ whole,
-      leaves.1,
-      Some leaves.2,
-      front,
-      ap (λ (part : List ℕ). done ++ part) leaves.4 ∙ sym (append_assoc done here leaves.1),
-    )
+ended_stops end Write s now text done lines state bytes line here pair come given small leaves = absurd leaves
 ended_stops end NoMemory s now text done lines state bytes line here pair come given small leaves =
     inl (line_unmade s text done lines state bytes (ended line ++ now.held) here come.so come.small come.on leaves)
 ended_stops end (Line n fault) s now text done lines state bytes line here pair come given small leaves =
@@ -198,14 +182,7 @@ pub last_stops : (end : Type 0) (fault : ScriptFault) (s : Running) (text done :
     → end → HasCome s text done lines state bytes line line → 0 < length line → length (text ++ bytes) ≤ LONGEST_TEXT → lines_of (text ++ bytes) ≡ lines ++ line ∷ []
     → LineLeaves (Err fault) s.number state line here pair → EndsAs end (Err fault) (text ++ bytes) (done ++ here)
 last_stops end Read s text done lines state bytes line here pair e come some small all leaves = absurd leaves
-last_stops end Write s text done lines state bytes line here pair e come some small all leaves =
-    let whole = leaves.0 in
-    let goes : Goes None (lines_of (text ++ bytes)) (done ++ whole) (Some leaves.2) = rw all (goes-push lines line None state (Some leaves.2) done whole come.so.goes leaves.3) in
-    let output : IsOutput (text ++ bytes) ((done ++ whole) ++ report leaves.2) = record { small = small; outcomes = done ++ whole; world = leaves.2; goes = goes; whole = refl } in
-    let parts : (done ++ whole) ++ report leaves.2 ≡ (done ++ here) ++ (leaves.1 ++ report leaves.2) =
-    ap (λ (part : List ℕ). (done ++ part) ++ report leaves.2) leaves.4 ∙ ap (λ (part : List ℕ). part ++ report leaves.2) (sym (append_assoc done here leaves.1))
-    ∙ append_assoc (done ++ here) leaves.1 (report leaves.2) in
-    inr (e, ((done ++ whole) ++ report leaves.2, leaves.1 ++ report leaves.2, output, parts))
+last_stops end Write s text done lines state bytes line here pair e come some small all leaves = absurd leaves
 last_stops end NoMemory s text done lines state bytes line here pair e come some small all leaves =
     inl (line_unmade s text done lines state bytes line here come.so come.small come.on leaves)
 last_stops end (Line n fault) s text done lines state bytes line here pair e come some small all leaves =
@@ -316,10 +293,7 @@ closed end (Ok a) s text done state here e over close = (
   },
 )
 closed end (Err Read) s text done state here e over close = absurd close
-closed end (Err Write) s text done state here e over close =
-    let goes : Goes None (lines_of text) done (Some close.0) = rw close.1 at over.goes in
-    let output : IsOutput text (done ++ report close.0) = record { small = over.small; outcomes = done; world = close.0; goes = goes; whole = refl } in
-    inr (e, (done ++ report close.0, close.2.0, output, ap (λ (part : List ℕ). done ++ part) close.2.1 ∙ sym (append_assoc done here close.2.0)))
+closed end (Err Write) s text done state here e over close = absurd close
 closed end (Err NoMemory) s text done state here e over close =
     let goes : Goes None (lines_of text) done (Some close.0) = rw close.1 at over.goes in
     let output : IsOutput text (done ++ report close.0) = record { small = over.small; outcomes = done; world = close.0; goes = goes; whole = refl } in
@@ -362,12 +336,11 @@ told_some outcome (Some a) told = (a, refl, told)
 -- an event stepped, and what was written of its outcome
 pub outcome_leaves : (result : Result (Unit {0}) ScriptFault) (n : ℕ) (state : Option World) (w x : World) (line : List ℕ) (e : world.Event) (a : world.Outcome)
     (here : List ℕ) (pair : Pair) → state ≡ Some w → Says (is_paired state) line (Acts e) → Step w e (Some a) x → PairStands pair x
-    → IsWrittenOf result (outcome_line a) here → LineLeaves result n state line here (Some pair)
+    → IsGatheredOf result (outcome_line a) here → LineLeaves result n state line here (Some pair)
 outcome_leaves (Ok u) n state w x line e a here pair is says step stands written =
     (Some x, (Acts e, says, (w, x, a, is, step, written, refl)), stands)
 outcome_leaves (Err Read) n state w x line e a here pair is says step stands written = absurd written
-outcome_leaves (Err Write) n state w x line e a here pair is says step stands written =
-    (outcome_line a, written.0, x, (Acts e, says, (w, x, a, is, step, refl, refl)), written.1)
+outcome_leaves (Err Write) n state w x line e a here pair is says step stands written = absurd written
 outcome_leaves (Err NoMemory) n state w x line e a here pair is says step stands written = written
 outcome_leaves (Err (Line m fault)) n state w x line e a here pair is says step stands written = absurd written
 

@@ -1,12 +1,18 @@
 -- Which pair stands for which world.
-use Rattle.std.specs.Prelude.{◌≡◌, ℕ, List, [], ◌∷◌}
+use Rattle.std.specs.Prelude.{◌≡◌, ℕ, List, [], ◌∷◌, length, drop}
 use Rattle.std.specs.declared.vec.Vec.{Vec}
 use Rattle.std.specs.declared.alloc.Global.{Global}
 use Rattle.sctp_model.specs.first.World.{Side, A, B, Packet, World}
-use Rattle.sctp_packet.specs.PacketBytes.{IsPacketOf}
+use Rattle.sctp_model.specs.Packet.{HEADER_ROOM, size_of_packet}
+use Rattle.sctp_wire.specs.Reads.{Reads}
 use Rattle.sctp_script.specs.Configuration.{configuration_meaning}
 use Rattle.sctp_trace.specs.EndStands.{EndStands}
 use Rattle.sctp_trace.specs.declared.pair.Pair.{Pair}
+
+-- behind the header, which nobody looks at as yet, the bytes are these chunks
+pub record IsPacketOf (bytes : List ℕ) (ms : Packet) : Type 0 where
+  pub reads : Reads (drop HEADER_ROOM bytes) ms
+  pub size : length bytes ≡ size_of_packet ms
 
 -- the bytes of each packet of a bag, in order
 abbrev pub ArePackets : List (Vec ℕ Global) → List Packet → Type 0

@@ -28,29 +28,51 @@ abbrev pub fault_of : ReadFault → ScriptFault
 fault_of read.Failed = Read
 fault_of read.NoMemory = NoMemory
 
--- what is written of a line: all of it, a part where the writer failed, nothing where memory is wanting
+-- what is written of some bytes: all of them, or a part where the writer failed
 abbrev pub IsWrittenOf : Result (Unit {0}) ScriptFault → List ℕ → List ℕ → Type 0
 IsWrittenOf (Ok _) whole written = written ≡ whole
 IsWrittenOf (Err Read) whole written = ⊥
 IsWrittenOf (Err Write) whole written = (more : List ℕ) × (whole ≡ written ++ more)
-IsWrittenOf (Err NoMemory) whole written = written ≡ []
+IsWrittenOf (Err NoMemory) whole written = ⊥
 IsWrittenOf (Err (Line n fault)) whole written = ⊥
+
+-- what is gathered of some bytes: all of them, or nothing where memory is wanting
+abbrev pub IsGatheredOf : Result (Unit {0}) ScriptFault → List ℕ → List ℕ → Type 0
+IsGatheredOf (Ok _) whole here = here ≡ whole
+IsGatheredOf (Err Read) whole here = ⊥
+IsGatheredOf (Err Write) whole here = ⊥
+IsGatheredOf (Err NoMemory) whole here = here ≡ []
+IsGatheredOf (Err (Line n fault)) whole here = ⊥
+
+-- what of the bytes that were gathered is written, and what stays gathered; where the writer failed nothing stays
+abbrev pub IsPassedOn : Result (Unit {0}) ScriptFault → List ℕ → List ℕ → List ℕ → Type 0
+IsPassedOn (Ok _) gathered written rest = gathered ≡ written ++ rest
+IsPassedOn (Err Read) gathered written rest = ⊥
+IsPassedOn (Err Write) gathered written rest = ((more : List ℕ) × (gathered ≡ written ++ more)) × (rest ≡ [])
+IsPassedOn (Err NoMemory) gathered written rest = ⊥
+IsPassedOn (Err (Line n fault)) gathered written rest = ⊥
 
 -- what the line with this number leaves
 abbrev pub LineLeaves : Result (Unit {0}) ScriptFault → ℕ → Option World → List ℕ → List ℕ → Option Pair → Type 0
-LineLeaves (Ok _) n state line written pair = (after : Option World) × LineActs state line written after × StandsAt pair after
-LineLeaves (Err Read) n state line written pair = ⊥
-LineLeaves (Err Write) n state line written pair = (whole more : List ℕ) × (x : World) × LineActs state line whole (Some x) × (whole ≡ written ++ more)
-LineLeaves (Err NoMemory) n state line written pair = written ≡ []
-LineLeaves (Err (Line m fault)) n state line written pair = (m ≡ n) × (written ≡ []) × IsFirstFaultOf (is_paired state) line fault
+LineLeaves (Ok _) n state line here pair = (after : Option World) × LineActs state line here after × StandsAt pair after
+LineLeaves (Err Read) n state line here pair = ⊥
+LineLeaves (Err Write) n state line here pair = ⊥
+LineLeaves (Err NoMemory) n state line here pair = here ≡ []
+LineLeaves (Err (Line m fault)) n state line here pair = (m ≡ n) × (here ≡ []) × IsFirstFaultOf (is_paired state) line fault
 
--- what is written at the end of a script
+-- what is gathered at the end of a script
 abbrev pub Closes : Result (Unit {0}) ScriptFault → Option World → List ℕ → Type 0
-Closes (Err (Line n fault)) state written = (state ≡ None) × (n ≡ 1) × (fault ≡ PairOrder) × (written ≡ [])
-Closes (Ok a) state written = (w : World) × (state ≡ Some w) × IsWrittenOf (Ok a) (report w) written
-Closes (Err Read) state written = ⊥
-Closes (Err Write) state written = (w : World) × (state ≡ Some w) × IsWrittenOf (Err Write) (report w) written
-Closes (Err NoMemory) state written = (w : World) × (state ≡ Some w) × IsWrittenOf (Err NoMemory) (report w) written
+Closes (Err (Line n fault)) state here = (state ≡ None) × (n ≡ 1) × (fault ≡ PairOrder) × (here ≡ [])
+Closes (Ok a) state here = (w : World) × (state ≡ Some w) × (here ≡ report w)
+Closes (Err Read) state here = ⊥
+Closes (Err Write) state here = ⊥
+Closes (Err NoMemory) state here = (w : World) × (state ≡ Some w) × (here ≡ [])
+
+-- how a script ends that ended so and whose gathered bytes are written, if no call failed before
+abbrev pub IsClosed : Result (Unit {0}) ScriptFault → Result (Unit {0}) ScriptFault → List ℕ → List ℕ → Type 0
+IsClosed ended result gathered written =
+    ((result ≡ ended) × (written ≡ gathered))
+    ⊎ (((result ≡ Err Write) ⊎ ((result ≡ ended) × (ended ≡ Err Read))) × ((more : List ℕ) × (gathered ≡ written ++ more)))
 
 -- Of a text that was read these lines were given and acted, and wrote this.
 pub record IsSoFar (s : Running) (text done : List ℕ) (lines : List (List ℕ)) (state : Option World) : Type 0 where

@@ -10,8 +10,8 @@ ghost use Rattle.sctp_model.specs.first.World.{World, EndView, Packet, fresh_end
 ghost use Rattle.sctp_wire.specs.ChunkTree.{chunk_meaning};
 ghost use Rattle.sctp_script.specs.Events.{side_meaning, state_meaning, Answers};
 ghost use Rattle.sctp_trace.specs.EndStands.{EndStands, is_established, ActLeaves, ActsLeave, IsBeginning};
-ghost use Rattle.sctp_packet.specs.PacketBytes.{IsPacketOf, empty_draft, with_chunks};
-ghost use Rattle.sctp_trace.specs.PairStands.{ArePackets, with_bag};
+ghost use Rattle.sctp_packet.specs.Draft.{empty_draft, with_chunks};
+ghost use Rattle.sctp_trace.specs.PairStands.{ArePackets, IsPacketOf, with_bag};
 ghost use Rattle.sctp_trace.specs.PairRuns.{Told};
 ghost use Rattle.sctp_first_recv.specs.ReceiverStands.{ReceiverStands};
 ghost use Rattle.sctp_first_send.specs.SenderSteps.{reason_of};
@@ -19,7 +19,7 @@ ghost use Rattle.sctp_script.specs.Configuration.{configuration_meaning};
 
 use sctp_first_recv::{Answer, Receiver};
 use sctp_first_send::{Filled, SendFault, Sender};
-use sctp_packet::PacketWriter;
+use sctp_packet::{PacketWriter, written_packet_reads};
 use sctp_script::{Bytes, Outcome, PairConfig, SendRefusal, Side, State};
 use sctp_wire::{Blocks, Chunk, Chunks, NoMemory, Sack, Words, read_chunks};
 use std::alloc::Global;
@@ -161,6 +161,8 @@ pub(crate) fn build_at(
     end.numbered.reserve(1).map_err(|_| NoMemory)?;
     let mut packet = begin(alloc, limit, end)?;
     let filled = end.sender.fill(&mut packet)?;
+    // The law gives that the bytes read as the chunks put in.
+    written_packet_reads();
     match packet.finish() {
         None => Ok(Outcome::Quiet { side }),
         Some(bytes) => {
@@ -182,9 +184,9 @@ pub(crate) fn build_at(
 fn begin(alloc: Global, limit: u16, end: &End) -> Result<PacketWriter, NoMemory>
     requires { 28 ≤ limit }
     ensures { (v : EndView) → EndStands end.now v
-        → IfOk result (λ packet. (sacks : Packet) × IsBeginning v sacks × (packet ≡ with_chunks (empty_draft limit) sacks)) }
+        → IfOk result (λ packet. (sacks : Packet) × IsBeginning v sacks × (packet ≡ with_chunks (empty_draft limit 0 0 0) sacks)) }
 {
-    let mut packet = PacketWriter::new(alloc, limit);
+    let mut packet = PacketWriter::new(alloc, limit, 0, 0, 0);
     if end.sack_due {
         put_sack(&end.receiver, &mut packet)?;
     }
@@ -193,7 +195,7 @@ fn begin(alloc: Global, limit: u16, end: &End) -> Result<PacketWriter, NoMemory>
 
 /// Puts the SACK that is due into a packet in which nothing is yet.
 fn put_sack(receiver: &Receiver, packet: &mut PacketWriter) -> Result<(), NoMemory>
-    requires empty { packet.old ≡ empty_draft packet.old.limit }
+    requires empty { packet.old ≡ empty_draft packet.old.limit 0 0 0 }
     requires room { 28 ≤ packet.old.limit }
     ensures { (v : ReceiverView) → ReceiverStands receiver.now v
         → OnOk result ((s : SackMeaning) × SackOf v s × (packet.new ≡ with_chunks packet.old (meaning.Sack s ∷ []))) }
@@ -273,7 +275,7 @@ fn act(end: &mut End, chunk: &Chunk<'_>) -> Result<(), NoMemory>
             }
         }
         Chunk::Sack(sack) => end.sender.on_sack(sack),
-        Chunk::Unknown { .. } => {}
+        _ => {}
     }
     Ok(())
 }

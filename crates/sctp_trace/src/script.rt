@@ -6,7 +6,7 @@ ghost use Rattle.sctp_model.specs.first.World.{World};
 ghost use Rattle.sctp_script.specs.Events.{Answers};
 ghost use Rattle.sctp_script.specs.OutcomeText.{outcome_line};
 ghost use Rattle.sctp_trace.specs.Script.{IsAnswered, failed_reads, failed_writes};
-ghost use Rattle.sctp_trace.specs.ScriptSteps.{StandsAt, IsWrittenOf, LineLeaves, Closes, IsSoFar, RunsOn, fault_of};
+ghost use Rattle.sctp_trace.specs.ScriptSteps.{StandsAt, IsWrittenOf, IsGatheredOf, IsPassedOn, IsClosed, LineLeaves, Closes, IsSoFar, RunsOn, EndsAs, fault_of};
 ghost use Rattle.sctp_text.specs.declared.limits.TheConstants.{LONGEST_TEXT};
 
 use crate::pair::Pair;
@@ -17,8 +17,12 @@ use sctp_script::{
 use sctp_text::{
     Failed, LineReader, NextLine, ReadFault, Sink, Source, line_after_line, write_all,
 };
+use sctp_wire::NoMemory;
 use std::alloc::Global;
 use thiserror::Error;
+
+/// With so many bytes gathered they are written, also where the next line needn't be waited for.
+const ENOUGH: usize = 4_096;
 
 /// Why a script ended before its report was written.
 #[derive(Clone, Copy, Debug, PartialEq, Eq, Error)]
@@ -37,8 +41,8 @@ pub enum ScriptFault {
     Line(u64, LineFault),
 }
 
-/// Runs a script: reads it line by line, writes the line of each outcome before it reads on, and the report last.
-/// It holds one line of the script at a time.
+/// Runs a script: reads it line by line, writes the line of each outcome before it waits for more input, and the report last.
+/// It holds one line of the script and one block of its output at a time.
 ///
 /// # Errors
 /// `Line` at the first line that has a fault; the outcomes of the lines before it were written then, and no report. A script in which no
@@ -58,9 +62,49 @@ pub fn run_script<R: Source, W: Sink>(
 {
     // It does nothing: its contract is the law that what first lines write begins what all do.
     lines_are_there();
+    let mut gathered = Vec::new(alloc);
+    let ended = run_lines(alloc, input, output, &mut gathered);
+    close(ended, &gathered, output)
+}
+
+/// Runs all lines of a script. What wasn't written yet is gathered, the report last.
+fn run_lines<R: Source, W: Sink>(
+    alloc: Global,
+    input: &mut R,
+    output: &mut W,
+    gathered: &mut Vec<u8>,
+) -> Result<(), ScriptFault>
+    requires reads { R.failures input.old < 2 ^ 64 - 1 }
+    requires writes { W.failures output.old < 2 ^ 64 - 1 }
+    requires empty { gathered.old.items ≡ [] }
+    ensures answer { (read written : List ℕ) × R.Reads input.old read input.new × W.Writes output.old written output.new
+        × EndsAs (R.IsAtEnd input.new) result read (written ++ gathered.new.items) }
+    ensures failed_reads { R.failures input.new ≡ R.failures input.old + failed_reads result }
+    ensures failed_writes { W.failures output.new ≡ W.failures output.old + failed_writes result }
+{
     let mut running = Running::new(alloc);
-    while running.run_line(input, output)? {}
-    finish(&running.pair, output)
+    while running.run_line(input, output, gathered)? {}
+    finish(&running.pair, gathered)
+}
+
+/// Writes what is gathered, unless a call failed already: before a call of the reader nothing is gathered.
+fn close<W: Sink>(
+    ended: Result<(), ScriptFault>,
+    gathered: &[u8],
+    output: &mut W,
+) -> Result<(), ScriptFault>
+    requires { failed_writes ended ≡ 0 → W.failures output.old < 2 ^ 64 - 1 }
+    ensures closed { (written : List ℕ) × W.Writes output.old written output.new × IsClosed ended result gathered.now written }
+    ensures failed_reads { failed_reads result ≡ failed_reads ended }
+    ensures failed_writes { W.failures output.new + failed_writes ended ≡ W.failures output.old + failed_writes result }
+{
+    match ended {
+        Err(ScriptFault::Read | ScriptFault::Write) => ended,
+        _ => {
+            write_bytes(output, gathered)?;
+            ended
+        }
+    }
 }
 
 /// A script that is being run: the reader of its lines, the pair once there is one, and the number of the next line.
@@ -85,19 +129,20 @@ impl Running {
         }
     }
 
-    /// Reads the next line, which acts, and its outcome is written. Answers whether the input may go on.
+    /// Reads the next line, which acts, and its outcome is gathered. Answers whether the input may go on.
     fn run_line<R: Source, W: Sink>(
         &mut self,
         input: &mut R,
         output: &mut W,
+        gathered: &mut Vec<u8>,
     ) -> Result<bool, ScriptFault>
         requires reads { R.failures input.old < 2 ^ 64 - 1 }
         requires writes { W.failures output.old < 2 ^ 64 - 1 }
         requires number { self.old.number ≤ suc self.old.lines.given }
         requires small { self.old.lines.given ≤ LONGEST_TEXT }
-        ensures runs { (text done : List ℕ) (lines : List (List ℕ)) (state : Option World) → IsSoFar self.old text done lines state
+        ensures runs { (text done : List ℕ) (lines : List (List ℕ)) (state : Option World) → IsSoFar self.old text (done ++ gathered.old.items) lines state
             → (read written : List ℕ) × R.Reads input.old read input.new × W.Writes output.old written output.new
-            × RunsOn (R.IsAtEnd input.new) result self.new (text ++ read) (done ++ written) }
+            × RunsOn (R.IsAtEnd input.new) result self.new (text ++ read) ((done ++ written) ++ gathered.new.items) }
         ensures small { IfOk result (λ on. on ≡ true → self.new.lines.given ≤ LONGEST_TEXT) }
         ensures forth { IfOk result (λ on. on ≡ true → self.old.lines.given < self.new.lines.given) }
         ensures failed_reads { R.failures input.new ≡ R.failures input.old + failed_reads result }
@@ -105,14 +150,15 @@ impl Running {
     {
         // It does nothing: its contract says how the lines that are given make up what was read.
         line_after_line();
+        pass_on(&self.lines, gathered, output)?;
         match self.lines.next_line(input) {
             Ok(NextLine::Ended(line)) => {
-                act(self.alloc, &mut self.pair, self.number, &line, output)?;
+                act(self.alloc, &mut self.pair, self.number, &line, gathered)?;
                 self.number += 1;
                 Ok(true)
             }
             Ok(NextLine::Last(line)) => {
-                act(self.alloc, &mut self.pair, self.number, &line, output)?;
+                act(self.alloc, &mut self.pair, self.number, &line, gathered)?;
                 Ok(false)
             }
             Ok(NextLine::TooLong) => Err(ScriptFault::Line(self.number, LineFault::TooLong)),
@@ -122,19 +168,37 @@ impl Running {
     }
 }
 
-/// A line acts, and the line of its outcome is written.
-fn act<W: Sink>(
+/// Writes what is gathered where the next line may be waited for, or where enough is gathered for a write.
+fn pass_on<W: Sink>(
+    lines: &LineReader,
+    gathered: &mut Vec<u8>,
+    output: &mut W,
+) -> Result<(), ScriptFault>
+    requires { W.failures output.old < 2 ^ 64 - 1 }
+    ensures written { (written : List ℕ) × W.Writes output.old written output.new
+        × IsPassedOn result gathered.old.items written gathered.new.items }
+    ensures failed_writes { W.failures output.new ≡ W.failures output.old + failed_writes result }
+    ensures no_reads { failed_reads result ≡ 0 }
+{
+    if lines.is_ready() && gathered.len() < ENOUGH {
+        return Ok(());
+    }
+    let written = write_bytes(output, gathered);
+    gathered.clear();
+    written
+}
+
+/// A line acts, and the line of its outcome is gathered.
+fn act(
     alloc: Global,
     pair: &mut Option<Pair>,
     number: u64,
     line: &[u8],
-    output: &mut W,
+    gathered: &mut Vec<u8>,
 ) -> Result<(), ScriptFault>
-    requires { W.failures output.old < 2 ^ 64 - 1 }
     ensures leaves { (state : Option World) → StandsAt pair.old state
-        → (written : List ℕ) × W.Writes output.old written output.new × LineLeaves result number state line.now written pair.new }
-    ensures failed_writes { W.failures output.new ≡ W.failures output.old + failed_writes result }
-    ensures no_reads { failed_reads result ≡ 0 }
+        → (here : List ℕ) × (gathered.new.items ≡ gathered.old.items ++ here) × LineLeaves result number state line.now here pair.new }
+    ensures no_calls { (failed_reads result ≡ 0) × (failed_writes result ≡ 0) }
 {
     // It does nothing: its contract says that an event stands behind the `pair` line.
     events_follow_the_pair();
@@ -147,42 +211,38 @@ fn act<W: Sink>(
         Ok(Some(Acting::Event(event))) => {
             let Some(pair) = pair else { unreachable!() };
             let outcome = pair.step(&event).map_err(|_| ScriptFault::NoMemory)?;
-            write_outcome(alloc, &outcome, output)
+            gather_outcome(&outcome, gathered)
         }
         Err(LineError::Fault(fault)) => Err(ScriptFault::Line(number, fault)),
         Err(LineError::NoMemory) => Err(ScriptFault::NoMemory),
     }
 }
 
-/// Writes the line of an outcome.
-fn write_outcome<W: Sink>(
-    alloc: Global,
-    outcome: &Outcome,
-    output: &mut W,
-) -> Result<(), ScriptFault>
-    requires { W.failures output.old < 2 ^ 64 - 1 }
-    ensures written { (o : world.Outcome) → Answers outcome.now o
-        → (written : List ℕ) × W.Writes output.old written output.new × IsWrittenOf result (outcome_line o) written }
-    ensures failed_writes { W.failures output.new ≡ W.failures output.old + failed_writes result }
-    ensures no_reads { failed_reads result ≡ 0 }
+/// Gathers the line of an outcome.
+fn gather_outcome(outcome: &Outcome, gathered: &mut Vec<u8>) -> Result<(), ScriptFault>
+    ensures gathers { (o : world.Outcome) → Answers outcome.now o
+        → (here : List ℕ) × (gathered.new.items ≡ gathered.old.items ++ here) × IsGatheredOf result (outcome_line o) here }
+    ensures no_calls { (failed_reads result ≡ 0) × (failed_writes result ≡ 0) }
 {
-    let mut line = Vec::new(alloc);
-    put_outcome(outcome, &mut line).map_err(|_| ScriptFault::NoMemory)?;
-    write_bytes(output, &line)
+    match put_outcome(outcome, gathered) {
+        Ok(()) => Ok(()),
+        Err(NoMemory) => Err(ScriptFault::NoMemory),
+    }
 }
 
-/// Writes the report of the pair, at the end of a script.
-fn finish<W: Sink>(pair: &Option<Pair>, output: &mut W) -> Result<(), ScriptFault>
-    requires { W.failures output.old < 2 ^ 64 - 1 }
+/// Gathers the report of the pair, at the end of a script.
+fn finish(pair: &Option<Pair>, gathered: &mut Vec<u8>) -> Result<(), ScriptFault>
     ensures closes { (state : Option World) → StandsAt pair.now state
-        → (written : List ℕ) × W.Writes output.old written output.new × Closes result state written }
-    ensures failed_writes { W.failures output.new ≡ W.failures output.old + failed_writes result }
-    ensures no_reads { failed_reads result ≡ 0 }
+        → (here : List ℕ) × (gathered.new.items ≡ gathered.old.items ++ here) × Closes result state here }
+    ensures no_calls { (failed_reads result ≡ 0) × (failed_writes result ≡ 0) }
 {
     match pair {
         Some(pair) => {
             let report = pair.report().map_err(|_| ScriptFault::NoMemory)?;
-            write_bytes(output, &report)
+            match gathered.extend_from_slice(&report) {
+                Ok(()) => Ok(()),
+                Err(_) => Err(ScriptFault::NoMemory),
+            }
         }
         None => Err(ScriptFault::Line(1, LineFault::PairOrder)),
     }

@@ -1,6 +1,5 @@
-//! Readers and writers that are slow or fail, and a script run over them.
+//! Readers and writers that are slow or fail.
 
-use sctp_trace::{FromRead, ScriptFault, ToWrite, run_script};
 use std::alloc::Global;
 use std::io::{Error, ErrorKind, Read, Result as IoResult, Write};
 
@@ -86,15 +85,4 @@ impl Write for SlowWriter {
     fn flush(&mut self) -> IoResult<()> {
         Ok(())
     }
-}
-
-/// How a script ends, and what it wrote.
-pub fn run_text(alloc: Global, script: &[u8]) -> (Result<(), ScriptFault>, Vec<u8>) {
-    let mut written = Vec::new(alloc);
-    let ended = run_script(
-        alloc,
-        &mut FromRead::new(script),
-        &mut ToWrite::new(&mut written),
-    );
-    (ended, written)
 }

@@ -2,16 +2,10 @@
 #![tactic(auto)]
 
 #[cfg(test)]
-mod ends;
-#[cfg(test)]
 mod fakes;
-#[cfg(test)]
-mod faults;
 #[cfg(test)]
 mod pairs;
 #[cfg(test)]
-mod scripts;
+mod statuses;
 #[cfg(test)]
 mod streams;
-#[cfg(test)]
-mod words;

@@ -1,4 +1,4 @@
-//! One message over, line by line, with its report, and the limits at an end.
+//! A run of events with its report, and how many messages an end takes as yet.
 
 use sctp_trace::{Bytes, Draw, Event, Mode, Outcome, Pair, PairConfig, SendRefusal, Side};
 use std::alloc::Global;
@@ -39,75 +39,6 @@ fn taking() -> Event {
         side: Side::B,
         stream: 0,
     }
-}
-
-#[test]
-fn one_message_goes_over(rt: HostRuntime) -> Result<(), Fail> {
-    let mut pair = fresh(rt.alloc())?;
-    let early = pair.step(&sending(rt.alloc(), &HI)?)?;
-    assert_eq!(rt;
-        early,
-        Outcome::SendRefused {
-            refusal: SendRefusal::NotOpen
-        }
-    );
-    assert_eq!(rt; pair.step(&opening())?, Outcome::Done);
-    let sent = pair.step(&sending(rt.alloc(), &HI)?)?;
-    assert_eq!(rt;
-        sent,
-        Outcome::Ticket {
-            side: Side::A,
-            ticket: 1
-        }
-    );
-    let built = pair.step(&Event::Build { side: Side::A })?;
-    assert_eq!(rt;
-        built,
-        Outcome::Sent {
-            side: Side::A,
-            number: 1,
-            length: 32
-        }
-    );
-    assert_eq!(rt; pair.step(&delivery(1))?, Outcome::Taken { side: Side::B });
-    let taken = pair.step(&taking())?;
-    let bytes = Bytes::copied(rt.alloc(), &HI)?;
-    assert_eq!(rt;
-        taken,
-        Outcome::Message {
-            side: Side::B,
-            stream: 0,
-            number: 0,
-            payload_id: 0,
-            bytes
-        }
-    );
-    assert_eq!(rt; pair.step(&delivery(1))?, Outcome::Taken { side: Side::B });
-    assert_eq!(rt;
-        pair.step(&taking())?,
-        Outcome::Empty {
-            side: Side::B,
-            stream: 0
-        }
-    );
-    assert_eq!(rt; pair.step(&delivery(2))?, Outcome::Absent);
-    let quiet = pair.step(&Event::Build { side: Side::A })?;
-    assert_eq!(rt; quiet, Outcome::Quiet { side: Side::A });
-    assert_eq!(rt; pair.step(&opening())?, Outcome::OpenRefused);
-    let report = pair.report()?;
-    let lines = b"end A Established -\nnumbered A 1\nend B Established -\nhanded B 0 o 0\n";
-    assert_eq!(rt; report.as_slice(), lines.as_slice());
-    Ok(())
-}
-
-#[test]
-fn a_fresh_pair_reports_two_ends(rt: HostRuntime) -> Result<(), Fail> {
-    let report = fresh(rt.alloc())?.report()?;
-    assert_eq!(rt;
-        report.as_slice(),
-        b"end A Closed -\nend B Listen -\n".as_slice()
-    );
-    Ok(())
 }
 
 #[test]

@@ -7,7 +7,9 @@ use Rattle.sctp_model.specs.first.World.{EndView, Packet, Builds, end_of, bag_of
 use Rattle.sctp_model.specs.Packet.{size_of_packet}
 use Rattle.sctp_script.specs.Events.{side_meaning, state_meaning}
 use Rattle.sctp_trace.specs.EndStands.{EndStands, is_established, tickets_noted}
-use Rattle.sctp_packet.specs.PacketBytes.{Draft, with_chunks, empty_draft, IsPacketOf}
+use Rattle.sctp_packet.specs.Draft.{with_chunks, empty_draft}
+use Rattle.sctp_trace.specs.PairStands.{IsPacketOf}
+use Rattle.sctp_trace.proofs.PlacedLemmas.{built_is_placed, packet_there}
 use Rattle.sctp_first_send.specs.SenderStands.{StandsFor}
 use Rattle.sctp_trace.proofs.BagLemmas.{bag-push, bag-length, same_bag, packet_bag}
 use Rattle.sctp_trace.proofs.EndLemmas.{is_open, isnt_open, is_built, is_idle, end_reserved, end_built, has_first}
@@ -28,9 +30,9 @@ returns-in-None c = λ w stands packets limit.
     let v = end_of w s in
     let begins = c.in_ok-packet.ensures v (end_reserved c.args.end.now c.reserve-2.new.self v stands c.reserve-2.ensures.items) in
     let fills = c.in_ok-filled.ensures v.sender stands.sender in
-    let none = ap (λ (d : Draft). d.chunks) c.in-None.ensures.packet in
+    let none = c.in-None.ensures.packet in
     let idle = is_idle v begins.0 _ _ _ _ c.args.limit begins.1 begins.2 fills none in
-    let draft = subst (λ (n : ℕ). c.in_ok-packet.packet ≡ with_chunks (empty_draft n) begins.0) (sym limit) begins.2 in
+    let draft = subst (λ (n : ℕ). c.in_ok-packet.packet ≡ with_chunks (empty_draft n 0 0 0) begins.0) (sym limit) begins.2 in
     let t : EndView = record v { sender = went_out v.sender fills.count; sack_due = false } in
     let builds = subst (λ (p : Packet). Builds w.configuration v p t) none (is_built w.configuration v begins.0 _ _ _ _ begins.1 draft fills) in (
       Some (world.Quiet s),
@@ -59,12 +61,15 @@ returns-in-Some c = λ w stands packets limit.
     let v = end_of w s in
     let begins = c.in_ok-packet.ensures v (end_reserved c.args.end.now c.reserve-2.new.self v stands c.reserve-2.ensures.items) in
     let fills = c.in_ok-filled.ensures v.sender stands.sender in
-    let draft = subst (λ (n : ℕ). c.in_ok-packet.packet ≡ with_chunks (empty_draft n) begins.0) (sym limit) begins.2 in
+    let draft = subst (λ (n : ℕ). c.in_ok-packet.packet ≡ with_chunks (empty_draft n 0 0 0) begins.0) (sym limit) begins.2 in
     let t : EndView = record v { sender = went_out v.sender fills.count; sack_due = false } in
     let packet = c.in-Some.ensures.packet in
-    let first = has_first _ packet.1 in
-    let builds = subst (λ (p : Packet). Builds w.configuration v p t) first.same (is_built w.configuration v begins.0 _ _ _ _ begins.1 draft fills) in
-    let bytes = subst (λ (p : Packet). IsPacketOf c.in-Some.bytes.items p) first.same packet.0 in
+    let first = has_first _ packet.some in
+    let built = is_built w.configuration v begins.0 _ _ _ _ begins.1 draft fills in
+    let builds = subst (λ (p : Packet). Builds w.configuration v p t) first.same built in
+    let read = c.written_packet_reads.ensures _ _ packet (built_is_placed w.configuration v _ t built) in
+    let there = packet_there _ _ read c.in-Some.ensures.size in
+    let bytes = subst (λ (p : Packet). IsPacketOf c.in-Some.bytes.items p) first.same there in
     let opened : is_established (state_meaning c.args.end.now.state) ≡ true = grind (arith, common_steps) in
     let bag : c.push_reserved-in-Some.new.self.items ≡ c.args.bag.now.items ++ c.in-Some.bytes ∷ [] = grind (arith, common_steps) in
     let log : c.push_reserved.new.self.items ≡ c.args.end.now.numbered.items ++ c.in_ok-filled.filled ∷ [] = grind (arith, common_steps) in

@@ -1,13 +1,20 @@
-use Rattle.std.proofs.Common.{◌≡◌, List, [], ◌∷◌, ◌++◌, Ok, Err, refl, subst, arith}
+use Rattle.std.proofs.Common.{◌≡◌, true, false, List, [], ◌∷◌, ◌++◌, Ok, Err, refl, sym, subst, append-nil, arith}
+use Rattle.sctp_script.specs.declared.line.LineFault.TheVariants.{TooLong as LineTooLong}
+use Rattle.sctp_trace.specs.declared.script.ScriptFault.TheVariants.{Line}
+use Rattle.sctp_trace.specs.ScriptSteps.{BeginsFront}
 use Rattle.std.proofs.lemmas.Grind.{common_steps}
 use Rattle.sctp_text.specs.TextLines.{ended}
 use Rattle.sctp_text.specs.declared.line_reader.NextLine.{NextLine}
 use Rattle.sctp_text.specs.declared.line_reader.NextLine.TheVariants.{Ended, Last, TooLong, End}
 use Rattle.sctp_trace.proofs.ScriptLemmas.{Got, ended_come, last_come, last_small, line_acted, ended_stops, last_stops, last_over, long_stops, end_over, line_unmade, unread}
+use Rattle.sctp_trace.proofs.ScriptGathered.{passed_on, runs_behind, stopped_writing}
 use Rattle.sctp_trace.proofs.script.Running.run_line.Goals as goal
 
 pub returns-in_err-act-in-Ok-Ended-clause-runs : goal.returns-in_err-act-in-Ok-Ended-clause-runs
-returns-in_err-act-in-Ok-Ended-clause-runs g c = λ text done lines state so.
+returns-in_err-act-in-Ok-Ended-clause-runs g c = λ text written lines state gathered.
+    let p = c.in_ok-pass_on.ensures.written in
+    let done = (written ++ p.0) ++ c.pass_on.new.gathered.items in
+    let so = passed_on c.args.self.now text written c.args.gathered.now.items p.0 c.pass_on.new.gathered.items lines state p.2 gathered in
     let i = c.in-Ok-Ended in
     let s = c.args.self.now in
     let now = c.next_line.new.self in
@@ -18,12 +25,15 @@ returns-in_err-act-in-Ok-Ended-clause-runs g c = λ text done lines state so.
     let got = subst (λ (answer : NextLine). Got s text done lines state b.0 answer now) i.field-0-is first in
     let fault = c.in_err-act-in-Ok-Ended.field-0.0 in
     let out = rw c.deref.ensures.value at (c.in_err-act-in-Ok-Ended.ensures.leaves state so.stands) in
-    let same : c.from_residual.result ≡ Err fault = grind (arith, common_steps) in
+    let same : c.from_residual-in_err-act-in-Ok-Ended.result ≡ Err fault = grind (arith, common_steps) in
     let come = ended_come s text done lines state b.0 i.line now got in
-    (b.0, out.0, b.1, out.1, rw same (ended_stops _ fault s now text done lines state b.0 i.line.items out.0 _ come got.gives got.is.2 out.2))
+    (b.0, p.0, b.1, p.1, rw same (runs_behind _ (Err fault) s (text ++ b.0) (written ++ p.0) c.pass_on.new.gathered.items out.0 _ out.1 (ended_stops _ fault s now text done lines state b.0 i.line.items out.0 _ come got.gives got.is.2 out.2)))
 
 pub returns-in_err-act-in-Ok-Last-clause-runs : goal.returns-in_err-act-in-Ok-Last-clause-runs
-returns-in_err-act-in-Ok-Last-clause-runs g c = λ text done lines state so.
+returns-in_err-act-in-Ok-Last-clause-runs g c = λ text written lines state gathered.
+    let p = c.in_ok-pass_on.ensures.written in
+    let done = (written ++ p.0) ++ c.pass_on.new.gathered.items in
+    let so = passed_on c.args.self.now text written c.args.gathered.now.items p.0 c.pass_on.new.gathered.items lines state p.2 gathered in
     let i = c.in-Ok-Last in
     let s = c.args.self.now in
     let now = c.next_line.new.self in
@@ -38,10 +48,13 @@ returns-in_err-act-in-Ok-Last-clause-runs g c = λ text done lines state so.
     let same : c.from_residual-in_err-act-in-Ok-Last.result ≡ Err fault = grind (arith, common_steps) in
     let come = last_come s text done lines state b.0 i.line now got in
     let small = last_small s text done lines state b.0 i.line now got in
-    (b.0, out.0, b.1, out.1, rw same (last_stops _ fault s text done lines state b.0 i.line.items out.0 _ end come got.is.1 small got.gives.1 out.2))
+    (b.0, p.0, b.1, p.1, rw same (runs_behind _ (Err fault) s (text ++ b.0) (written ++ p.0) c.pass_on.new.gathered.items out.0 _ out.1 (last_stops _ fault s text done lines state b.0 i.line.items out.0 _ end come got.is.1 small got.gives.1 out.2)))
 
 pub returns-in_ok-act-in-Ok-Ended-clause-runs : goal.returns-in_ok-act-in-Ok-Ended-clause-runs
-returns-in_ok-act-in-Ok-Ended-clause-runs g c = λ text done lines state so.
+returns-in_ok-act-in-Ok-Ended-clause-runs g c = λ text written lines state gathered.
+    let p = c.in_ok-pass_on.ensures.written in
+    let done = (written ++ p.0) ++ c.pass_on.new.gathered.items in
+    let so = passed_on c.args.self.now text written c.args.gathered.now.items p.0 c.pass_on.new.gathered.items lines state p.2 gathered in
     let i = c.in-Ok-Ended in
     let s = c.args.self.now in
     let now = c.next_line.new.self in
@@ -52,10 +65,13 @@ returns-in_ok-act-in-Ok-Ended-clause-runs g c = λ text done lines state so.
     let got = subst (λ (answer : NextLine). Got s text done lines state b.0 answer now) i.field-0-is first in
     let out = rw c.deref.ensures.value at (c.in_ok-act-in-Ok-Ended.ensures.leaves state so.stands) in
     let left = out.2 in
-    (b.0, out.0, b.1, out.1, (lines ++ i.line.items ∷ [], left.0, line_acted s _ text done lines state left.0 b.0 i.line.items out.0 so got.gives left.1 left.2 refl))
+    (b.0, p.0, b.1, p.1, runs_behind (Unit {0}) (Ok true) _ (text ++ b.0) (written ++ p.0) c.pass_on.new.gathered.items out.0 _ out.1 (lines ++ i.line.items ∷ [], left.0, line_acted s _ text done lines state left.0 b.0 i.line.items out.0 so got.gives left.1 left.2 refl))
 
 pub returns-in_ok-act-in-Ok-Last-clause-runs : goal.returns-in_ok-act-in-Ok-Last-clause-runs
-returns-in_ok-act-in-Ok-Last-clause-runs g c = λ text done lines state so.
+returns-in_ok-act-in-Ok-Last-clause-runs g c = λ text written lines state gathered.
+    let p = c.in_ok-pass_on.ensures.written in
+    let done = (written ++ p.0) ++ c.pass_on.new.gathered.items in
+    let so = passed_on c.args.self.now text written c.args.gathered.now.items p.0 c.pass_on.new.gathered.items lines state p.2 gathered in
     let i = c.in-Ok-Last in
     let s = c.args.self.now in
     let now = c.next_line.new.self in
@@ -67,10 +83,13 @@ returns-in_ok-act-in-Ok-Last-clause-runs g c = λ text done lines state so.
     let end = rw i.field-0-is at i.ensures.end in
     let out = rw c.deref-in-Ok-Last.ensures.value at (c.in_ok-act-in-Ok-Last.ensures.leaves state so.stands) in
     let left = out.2 in
-    (b.0, out.0, b.1, out.1, (end, (left.0, last_over s _ text done lines state left.0 b.0 i.line now out.0 got left.1 left.2)))
+    (b.0, p.0, b.1, p.1, runs_behind _ (Ok false) _ (text ++ b.0) (written ++ p.0) c.pass_on.new.gathered.items out.0 _ out.1 (end, (left.0, last_over s _ text done lines state left.0 b.0 i.line now out.0 got left.1 left.2)))
 
 pub returns-in-Ok-TooLong-clause-runs : goal.returns-in-Ok-TooLong-clause-runs
-returns-in-Ok-TooLong-clause-runs g c = λ text done lines state so.
+returns-in-Ok-TooLong-clause-runs g c = λ text written lines state gathered.
+    let p = c.in_ok-pass_on.ensures.written in
+    let done = (written ++ p.0) ++ c.pass_on.new.gathered.items in
+    let so = passed_on c.args.self.now text written c.args.gathered.now.items p.0 c.pass_on.new.gathered.items lines state p.2 gathered in
     let i = c.in-Ok-TooLong in
     let s = c.args.self.now in
     let now = c.next_line.new.self in
@@ -79,10 +98,13 @@ returns-in-Ok-TooLong-clause-runs g c = λ text done lines state so.
     let first : Got s text done lines state b.0 i.field-0 now =
     record { so = so; small = c.requires.small; on = b.3; count = i.ensures.given; is = i.ensures.answer; gives = given } in
     let got = subst (λ (answer : NextLine). Got s text done lines state b.0 answer now) i.field-0-is first in
-    (b.0, [], b.1, g.met.W.Sink.writes_none _, long_stops _ s text done lines state b.0 now got)
+    (b.0, p.0, b.1, p.1, runs_behind _ (Err (Line s.number LineTooLong)) s (text ++ b.0) (written ++ p.0) c.pass_on.new.gathered.items [] _ (sym (append-nil _)) (long_stops _ s text done lines state b.0 now got))
 
 pub returns-in-Ok-End-clause-runs : goal.returns-in-Ok-End-clause-runs
-returns-in-Ok-End-clause-runs g c = λ text done lines state so.
+returns-in-Ok-End-clause-runs g c = λ text written lines state gathered.
+    let p = c.in_ok-pass_on.ensures.written in
+    let done = (written ++ p.0) ++ c.pass_on.new.gathered.items in
+    let so = passed_on c.args.self.now text written c.args.gathered.now.items p.0 c.pass_on.new.gathered.items lines state p.2 gathered in
     let i = c.in-Ok-End in
     let s = c.args.self.now in
     let now = c.next_line.new.self in
@@ -92,10 +114,21 @@ returns-in-Ok-End-clause-runs g c = λ text done lines state so.
     record { so = so; small = c.requires.small; on = b.3; count = i.ensures.given; is = i.ensures.answer; gives = given } in
     let got = subst (λ (answer : NextLine). Got s text done lines state b.0 answer now) i.field-0-is first in
     let end = rw i.field-0-is at i.ensures.end in
-    (b.0, [], b.1, g.met.W.Sink.writes_none _, (end, (state, end_over s _ text done lines state b.0 now got so.stands)))
+    (b.0, p.0, b.1, p.1, runs_behind _ (Ok false) _ (text ++ b.0) (written ++ p.0) c.pass_on.new.gathered.items [] _ (sym (append-nil _)) (end, (state, end_over s _ text done lines state b.0 now got so.stands)))
 
 pub returns-in-Err-clause-runs : goal.returns-in-Err-clause-runs
-returns-in-Err-clause-runs g c = λ text done lines state so.
+returns-in-Err-clause-runs g c = λ text written lines state gathered.
+    let p = c.in_ok-pass_on.ensures.written in
+    let done = (written ++ p.0) ++ c.pass_on.new.gathered.items in
+    let so = passed_on c.args.self.now text written c.args.gathered.now.items p.0 c.pass_on.new.gathered.items lines state p.2 gathered in
     let b = c.in-Err.ensures.bytes in
     let begins = line_unmade c.args.self.now text done lines state b.0 c.next_line.new.self.held [] so c.requires.small b.3 refl in
-    (b.0, [], b.1, g.met.W.Sink.writes_none _, rw c.read_fault.ensures (unread _ c.in-Err.fault _ _ begins))
+    let begins : BeginsFront (text ++ b.0) done = rw (append-nil done) at begins in
+    (b.0, p.0, b.1, p.1, rw c.read_fault.ensures (unread _ c.in-Err.fault _ _ begins))
+
+pub returns-in_err-pass_on-clause-runs : goal.returns-in_err-pass_on-clause-runs
+returns-in_err-pass_on-clause-runs g c = λ text written lines state before.
+    let p = c.in_err-pass_on.ensures.written in
+    let fault = c.in_err-pass_on.field-0.0 in
+    let same : c.from_residual.result ≡ Err fault = grind (arith, common_steps) in
+    ([], p.0, g.met.R.Source.reads_none _, p.1, rw same (stopped_writing _ fault c.args.self.now c.args.self.now text written c.args.gathered.now.items p.0 _ lines state c.requires.small p.2 before))

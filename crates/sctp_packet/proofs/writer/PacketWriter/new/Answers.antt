@@ -1,0 +1,15 @@
+use Rattle.std.proofs.Common.{[], refl, arith}
+use Rattle.sctp_packet.specs.PacketBytes.{header_bytes}
+use Rattle.sctp_packet.proofs.DraftLemmas.{draft_empty, draft_none}
+use Rattle.sctp_packet.proofs.writer.PacketWriter.new.Goals as goal
+
+pub invariant_of-result : goal.invariant_of-result
+invariant_of-result c = record {
+  header = record { source = omega arith; destination = omega arith; tag = omega arith };
+  draft = rw c.new.ensures.items (draft_empty c.args.limit (header_bytes c.args.source c.args.destination c.args.tag 0));
+}
+
+pub returns : goal.returns
+returns c =
+    let header = header_bytes c.args.source c.args.destination c.args.tag 0 in
+    rw (c.new.ensures.items, draft_none c.args.limit header [] (draft_empty c.args.limit header) (omega arith)) refl

@@ -1,0 +1,58 @@
+-- A packet in the making.
+use Rattle.std.specs.Prelude.{◌≡◌, ℕ, ◌-◌, ◌<◌, ◌≤◌, Bool, nat_le, if◌then◌else◌, ◌==◌, List, ◌∷◌, [], ◌++◌, length, take, drop}
+use Rattle.sctp_model.specs.Chunk.{ChunkMeaning}
+use Rattle.sctp_model.specs.Packet.{Packet, HEADER_ROOM, size_of_packet}
+use Rattle.sctp_wire.specs.Reading.{chunks_of}
+use Rattle.sctp_wire.specs.Writes.{Writes}
+use Rattle.sctp_packet.specs.PacketBytes.{header_bytes, IsHeader}
+
+-- what a packet in the making is: the most bytes that it may have, its header, and the chunks put in so far
+pub record Draft : Type 0 where
+  pub limit : ℕ
+  pub source : ℕ
+  pub destination : ℕ
+  pub tag : ℕ
+  pub chunks : List ChunkMeaning
+
+-- the packet that it is so far
+abbrev pub packet_of : Draft → Packet
+packet_of d = record { source = d.source; destination = d.destination; tag = d.tag; chunks = d.chunks }
+
+-- nothing put in yet
+abbrev pub empty_draft : (limit source destination tag : ℕ) → Draft
+empty_draft limit source destination tag = record { limit = limit; source = source; destination = destination; tag = tag; chunks = [] }
+
+-- a header alone
+abbrev pub bare : (source destination tag : ℕ) → Packet
+bare source destination tag = record { source = source; destination = destination; tag = tag; chunks = [] }
+
+-- these chunks more
+abbrev pub with_chunks : Draft → List ChunkMeaning → Draft
+with_chunks d ms = record d { chunks = d.chunks ++ ms }
+
+-- the bytes that are left, where the header counts and the chunks are padded
+abbrev pub room_in : Draft → ℕ
+room_in d = d.limit - size_of_packet d.chunks
+
+-- the packet stays within its limit with this chunk too
+abbrev pub has_room : Draft → ChunkMeaning → Bool
+has_room d m = nat_le (size_of_packet (d.chunks ++ m ∷ [])) d.limit
+
+-- the draft after a chunk was put in, or not
+abbrev pub after_try : Draft → ChunkMeaning → Bool → Draft
+after_try d m put = if put then with_chunks d (m ∷ []) else d
+
+-- the bytes, with a header in front where there were none
+abbrev pub with_header : List ℕ → List ℕ → List ℕ
+with_header header bytes = if length bytes == 0 then header else bytes
+
+-- what is always so of the bytes kept: nothing, or the header with zero for the checksum and written chunks, within the limit
+pub record IsDraft (limit : ℕ) (header bytes : List ℕ) : Type 0 where
+  pub front : 0 < length bytes → take HEADER_ROOM bytes ≡ header
+  pub writes : Writes (drop HEADER_ROOM bytes) (chunks_of (drop HEADER_ROOM bytes))
+  pub within : HEADER_ROOM < length bytes → length bytes ≤ limit
+
+-- the same of all that is kept: the header's fields are within their bits too
+pub record IsKept (limit : ℕ) (p : Packet) (bytes : List ℕ) : Type 0 where
+  pub header : IsHeader p
+  pub draft : IsDraft limit (header_bytes p.source p.destination p.tag 0) bytes

@@ -1,0 +1,6 @@
+-- What a packet that was read says.
+use Rattle.sctp_model.specs.Packet as meaning
+use Rattle.sctp_packet.specs.declared.read.Packet.{Packet}
+
+abbrev pub packet_meaning : Packet → meaning.Packet
+packet_meaning p = record { source = p.source; destination = p.destination; tag = p.tag; chunks = p.chunks }

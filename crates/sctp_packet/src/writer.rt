@@ -1,0 +1,220 @@
+//! A packet in the making: its header, and chunks for as long as they fit (RFC 9260, 3 and 6.10).
+
+ghost use Rattle.std.specs.Prelude.{◌≡◌, ◌<◌, ◌≤◌, ◌^◌, ◌⊎◌, ◌++◌, [], true, length, take, drop, IfOk, OnOk, OnErr, IfSome, MatchOption};
+ghost use Rattle.byteorder.specs.Endian.{little_bytes};
+ghost use Rattle.sctp_model.specs.Chunk.{padded};
+ghost use Rattle.sctp_model.specs.Packet.{size_of_packet};
+ghost use Rattle.sctp_wire.specs.ChunkTree.{chunk_meaning};
+ghost use Rattle.sctp_wire.specs.Layouts.{Fits};
+ghost use Rattle.sctp_wire.specs.Writes.{written};
+ghost use Rattle.sctp_packet.specs.PacketBytes.{header_bytes, WritesPacket};
+ghost use Rattle.sctp_packet.specs.Draft.{with_header, packet_of, empty_draft, room_in, has_room, after_try};
+
+use crate::checksum::{HEADER, SUM_AT, crc32c};
+use byteorder::{ByteOrder, LittleEndian};
+use sctp_wire::{Chunk, NoMemory, chunks_are_read, write_chunk, written_each_reads};
+use std::alloc::Global;
+use std::marker::Model;
+
+/// A packet in the making: the most bytes that it may have, its ports and tag, and the chunks put in so far.
+///
+/// It takes no memory before its first chunk.
+#[derive(Debug, Drop)]
+pub struct PacketWriter {
+    limit: u16,
+    source: u16,
+    destination: u16,
+    tag: u32,
+    // nothing, or the header with zero for the checksum and the chunks behind it
+    bytes: Vec<u8>,
+}
+
+impl Model for PacketWriter {
+    ghost use Rattle.std.specs.Prelude.{drop};
+    ghost use Rattle.sctp_model.specs.Packet.{HEADER_ROOM};
+    ghost use Rattle.sctp_wire.specs.Reading.{chunks_of};
+    ghost use Rattle.sctp_packet.specs.Draft.{Draft, bare, IsKept};
+
+    ghost Value = { Draft };
+
+    ghost view = { λ s. record {
+      limit = s.limit;
+      source = s.source;
+      destination = s.destination;
+      tag = s.tag;
+      chunks = chunks_of (drop HEADER_ROOM s.bytes.items);
+    } };
+
+    ghost invariant = { λ s. IsKept s.limit (bare s.source s.destination s.tag) s.bytes.items };
+}
+
+impl PacketWriter {
+    /// A packet of at most `limit` bytes, header and padding counted, with these ports and this tag, without a chunk.
+    pub fn new(alloc: Global, limit: u16, source: u16, destination: u16, tag: u32) -> PacketWriter
+        ensures { result ≡ empty_draft limit source destination tag }
+    {
+        PacketWriter {
+            limit,
+            source,
+            destination,
+            tag,
+            bytes: Vec::new(alloc),
+        }
+    }
+
+    /// The bytes that are left for chunks with their padding.
+    pub fn room(&self) -> usize
+        ensures room { result ≡ room_in self.now }
+        ensures small { result < 2 ^ 16 }
+    {
+        usize::from(self.limit).saturating_sub(self.bytes.len().max(HEADER))
+    }
+
+    /// Puts a chunk that can be written behind the others. False exactly where the packet, with it and its
+    /// padding, would pass its limit; nothing is put in then.
+    ///
+    /// # Errors
+    /// `NoMemory` where the chunk fits and memory ran out; nothing is put in then.
+    pub fn try_chunk(&mut self, chunk: &Chunk<'_>) -> Result<bool, NoMemory>
+        requires { Fits (chunk_meaning chunk.now) }
+        ensures answer { IfOk result (λ put. put ≡ has_room self.old (chunk_meaning chunk.now)) }
+        ensures after { IfOk result (λ put. self.new ≡ after_try self.old (chunk_meaning chunk.now) put) }
+        ensures unchanged { OnErr result (self.new ≡ self.old) }
+        ensures refused { OnErr result (has_room self.old (chunk_meaning chunk.now) ≡ true) }
+    {
+        if chunk.written_length() > self.room() {
+            return Ok(false);
+        }
+        // The laws give that the bytes with this chunk read as the chunks with it.
+        written_each_reads();
+        chunks_are_read();
+        let header = header(self.source, self.destination, self.tag);
+        put(&mut self.bytes, &header, chunk)?;
+        Ok(true)
+    }
+
+    /// The packet's bytes: its header with the checksum, and the chunks as they are written. None exactly where there is no chunk.
+    pub fn finish(self) -> Option<Vec<u8>>
+        ensures packet { MatchOption result (self.chunks ≡ []) (λ packet. WritesPacket packet.items (packet_of self)) }
+        ensures size { IfSome result (λ packet. length packet.items ≡ size_of_packet self.chunks) }
+        ensures within { IfSome result (λ packet. length packet.items ≤ self.limit) }
+    {
+        let PacketWriter { mut bytes, .. } = self;
+        if bytes.len() <= HEADER {
+            return None;
+        }
+        let sum = crc32c(&bytes);
+        put_sum(&mut bytes, sum);
+        Some(bytes)
+    }
+}
+
+/// Appends a chunk's bytes, behind the header where there is none yet.
+fn put(bytes: &mut Vec<u8>, header: &[u8], chunk: &Chunk<'_>) -> Result<(), NoMemory>
+    requires { Fits (chunk_meaning chunk.now) }
+    ensures put { OnOk result (bytes.new.items ≡ with_header header.now bytes.old.items ++ written (chunk_meaning chunk.now)) }
+    ensures refused { OnErr result ((bytes.new.items ≡ bytes.old.items) ⊎ (bytes.new.items ≡ with_header header.now bytes.old.items)) }
+{
+    if bytes.is_empty() {
+        bytes.extend_from_slice(header).map_err(|_| NoMemory)?;
+    }
+    write_chunk(chunk, bytes)
+}
+
+/// Writes the checksum into its field.
+fn put_sum(packet: &mut [u8], sum: u32)
+    requires { 12 ≤ length packet.old }
+    ensures { packet.new ≡ take 8 packet.old ++ (little_bytes 4 sum ++ drop 12 packet.old) }
+{
+    LittleEndian::write_u32(&mut packet[SUM_AT..], sum);
+}
+
+/// The header, with zero for the checksum.
+fn header(source: u16, destination: u16, tag: u32) -> [u8; 12]
+    ensures { result ≡ header_bytes source destination tag 0 }
+{
+    let [a, b] = source.to_be_bytes();
+    let [c, d] = destination.to_be_bytes();
+    let [e, f, g, h] = tag.to_be_bytes();
+    [a, b, c, d, e, f, g, h, 0, 0, 0, 0]
+}
+
+/// A length filled up to a multiple of 4 (RFC 9260, 3.2).
+pub fn padded(length: usize) -> usize
+    requires { length < 2 ^ 32 }
+    ensures { result ≡ padded length }
+{
+    (length + 3) / 4 * 4
+}
+
+#[cfg(test)]
+mod tests {
+    use super::*;
+    use crate::read_packet;
+    use sctp_wire::{Blocks, Sack, Words};
+    use std::test::Fail;
+
+    fn unknown(value: &[u8]) -> Chunk<'_> {
+        Chunk::Unknown {
+            kind: 63,
+            flags: 0,
+            value,
+        }
+    }
+
+    #[test]
+    fn a_chunk_is_taken_up_to_the_last_byte_of_the_limit(rt: HostRuntime) -> Result<(), Fail> {
+        // header 12, and a chunk of 4 and 5 bytes with 3 of padding
+        for (limit, taken) in [(24u16, true), (23, false), (12, false), (0, false)] {
+            let mut packet = PacketWriter::new(rt.alloc(), limit, 1, 2, 3);
+            let chunk = unknown(b"abcde");
+            assert!(rt; chunk.fits());
+            assert_eq!(rt; packet.try_chunk(&chunk)?, taken, "within {limit}");
+            assert_eq!(rt; packet.finish().is_some(), taken, "within {limit}");
+        }
+        Ok(())
+    }
+
+    #[test]
+    fn a_packet_is_its_header_and_its_chunks_padded(rt: HostRuntime) -> Result<(), Fail> {
+        let mut packet = PacketWriter::new(rt.alloc(), 1_500, 5_000, 5_001, 0x0102_0304);
+        assert_eq!(rt; packet.room(), 1_488);
+        let sack = Chunk::Sack(Sack {
+            cumulative: 10,
+            rwnd: 65_536,
+            blocks: Blocks::none(),
+            duplicates: Words::none(),
+        });
+        let other = unknown(b"a");
+        assert!(rt; sack.fits() && other.fits());
+        assert!(rt; packet.try_chunk(&sack)?);
+        assert_eq!(rt; packet.room(), 1_472);
+        assert!(rt; packet.try_chunk(&other)?);
+        assert_eq!(rt; packet.room(), 1_464);
+        let bytes = packet.finish().ok_or("no chunk")?;
+        let read = read_packet(&bytes)?;
+        assert_eq!(rt;
+            (read.source, read.destination, read.tag),
+            (5_000, 5_001, 0x0102_0304)
+        );
+        let (header, chunks) = bytes.as_slice().split_at(12);
+        let (front, _sum) = header.split_at(8);
+        assert_eq!(rt; front, [0x13, 0x88, 0x13, 0x89, 1, 2, 3, 4].as_slice());
+        let (first, second) = chunks.split_at(16);
+        assert_eq!(rt;
+            first,
+            [3, 0, 0, 0x10, 0, 0, 0, 10, 0, 1, 0, 0, 0, 0, 0, 0].as_slice()
+        );
+        assert_eq!(rt; second, [63, 0, 0, 5, b'a', 0, 0, 0].as_slice());
+        Ok(())
+    }
+
+    #[test]
+    fn a_packet_without_a_chunk_is_none(rt: HostRuntime) {
+        assert!(rt;
+            PacketWriter::new(rt.alloc(), 1_500, 1, 2, 3)
+                .finish()
+                .is_none()
+        );
+    }
+}

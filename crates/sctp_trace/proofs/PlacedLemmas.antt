@@ -1,0 +1,49 @@
+-- The chunks of a packet that is built stand where they may: they are SACKs and DATA, which may stand anywhere.
+use Rattle.std.proofs.lemmas.List.{take_all}
+use Rattle.std.proofs.Common.{◌≡◌, ℕ, ◌+◌, ◌-◌, arith, length-drop, take, Bool, true, false, List, [], ◌∷◌, ◌++◌, length, drop, None, refl, sym, ap, subst, inl, inr}
+use Rattle.std.specs.List.{AllByRecursion}
+use Rattle.sctp_model.specs.Chunk.{ChunkMeaning, Data, Sack, size_of_chunk}
+use Rattle.sctp_model.specs.Places.{is_misplaced, misplaced_from, ArePlaced}
+use Rattle.sctp_model.specs.SenderView.{SenderView, Queued}
+use Rattle.sctp_model.specs.first.Sending.{numbered_one}
+use Rattle.sctp_model.specs.first.World.{Configuration, EndView, Packet, datas_of, Builds}
+use Rattle.sctp_model.specs.Packet as whole
+use Rattle.sctp_wire.specs.Reads.{Reads}
+use Rattle.sctp_packet.specs.PacketBytes.{ReadsPacket}
+use Rattle.sctp_trace.specs.EndStands.{IsBeginning}
+use Rattle.sctp_trace.specs.PairStands.{IsPacketOf}
+
+abbrev IsSackOrData : ChunkMeaning → Type 0
+IsSackOrData (Data p) = Unit {0}
+IsSackOrData (Sack s) = Unit {0}
+IsSackOrData m = ⊥
+
+placed : (place : ℕ) (first : Bool) (ms : List ChunkMeaning) → AllByRecursion IsSackOrData ms → misplaced_from place first ms ≡ None
+unfolding is_misplaced
+placed place first [] all = refl
+placed place first (Data p ∷ ms) all = placed (place + size_of_chunk (Data p)) false ms all.1
+placed place first (Sack s ∷ ms) all = placed (place + size_of_chunk (Sack s)) false ms all.1
+placed place first (m ∷ ms) all = absurd all.0
+
+all_datas : (v : SenderView) (qs : List Queued) → AllByRecursion IsSackOrData (datas_of v qs)
+all_datas v [] = tt
+all_datas v (q ∷ qs) = (tt, all_datas (numbered_one v q) qs)
+
+all_of : (v : EndView) (sacks rest : Packet) → IsBeginning v sacks → AllByRecursion IsSackOrData rest → AllByRecursion IsSackOrData (sacks ++ rest)
+all_of v sacks rest (inl (due, e)) all = rw e all
+all_of v sacks rest (inr (due, (s, of, e))) all = rw e (tt, all)
+
+pub built_is_placed : (c : Configuration) (v : EndView) (ms : Packet) (t : EndView) → Builds c v ms t → ArePlaced ms
+built_is_placed c v ms t b =
+    subst (λ (xs : Packet). ArePlaced xs) (sym b.chunks) (placed 0 true _ (all_of v b.sacks _ b.sack (all_datas v.sender _)))
+
+-- what is read behind the header of a packet
+pub packet_there : (bytes : List ℕ) (p : whole.Packet) → ReadsPacket bytes p → length bytes ≡ whole.size_of_packet p.chunks → IsPacketOf bytes p.chunks
+packet_there bytes p h size = record {
+  reads = subst (λ (xs : List ℕ). Reads xs p.chunks) (sym (ap (drop 12) h.layout)) h.chunks;
+  size = size;
+}
+
+-- all that stands behind so many bytes
+pub all_behind : (n : ℕ) (xs : List ℕ) → take (length xs - n) (drop n xs) ≡ drop n xs
+all_behind n xs = take_all (length xs - n) (drop n xs) (omega (arith, length-drop n xs))

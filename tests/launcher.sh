@@ -1,0 +1,116 @@
+#!/bin/sh
+# Shows what the launcher ./sctp-trace does in each order of commands: before a build, after one, and after sources have changed.
+# To be run by hand: tests/launcher.sh. It works on a copy of the repository, proves and builds the program there (with what `out/`
+# keeps a minute or two, else a quarter of an hour), prints a line for each order, and ends with 0 where all are as they should be.
+
+root=$(CDPATH='' cd -- "$(dirname -- "$0")/.." && pwd -P) || exit 3
+room=$(mktemp -d) || exit 3
+trap 'rm -rf -- "$room"' EXIT
+cp -a -- "$root" "$room/copy" && cd -- "$room/copy" || exit 3
+main=crates/sctp_trace_main
+source=crates/sctp_trace/src/pair.rt
+definition=crates/sctp_trace/specs/PairRuns.antt
+rm -f -- $main/out/sctp_trace_main*
+failed=0
+
+one_message=examples/one-message.script
+wanted=$main/stdout
+printf 'pair 1500 1400 65536 1 data\nopen\n' >"$room/many"
+awk 'BEGIN { for (i = 0; i < 120000; i++) print "take B 0" }' >>"$room/many"
+printf 'pair 1500 1400 65536 1 data\nopne\n' >"$room/faulty"
+bytes=$(printf 'ru\377n')
+
+report() {
+    if [ "$1" = yes ]; then
+        printf 'ok      %s\n' "$2"
+    else
+        printf 'FAILED  %s\n' "$2"
+        failed=1
+    fi
+}
+
+# order NAME STATUS INPUT WORDS..: runs the launcher and compares the exit status; the outputs stay in $room/output and $room/faults.
+order() {
+    name=$1 status=$2 input=$3
+    shift 3
+    sh -x ./sctp-trace "$@" <"$input" >"$room/output" 2>"$room/traced"
+    ended=$?
+    grep -v '^+' "$room/traced" >"$room/faults"
+    if [ "$ended" = "$status" ]; then report yes "$name"; else report no "$name: status $ended, and not $status"; fi
+}
+
+says() {
+    if grep -q -- "$1" "$room/faults"; then report yes "  and says: $1"; else report no "  and doesn't say: $1"; fi
+}
+
+writes() {
+    if cmp -s -- "$1" "$room/output"; then report yes "  and writes just that"; else report no "  and writes something else"; fi
+}
+
+# which program was run
+by_program() {
+    if grep -q '^+ exec .*sctp_trace_main' "$room/traced"; then report yes '  by the proved program'; else report no '  not by the proved program'; fi
+}
+
+by_sources() {
+    if grep -q '^+ rt try' "$room/traced"; then report yes '  by the sources'; else report no '  not by the sources'; fi
+}
+
+all_orders() {
+    order "one message over, $1" 0 $one_message run
+    writes $wanted
+    order "a faulty line, $1" 2 "$room/faulty" run
+    says '^line 2: 2$'
+    order "no words, $1" 1 /dev/null
+    says 'requires a subcommand'
+    order "a word that isn't UTF-8, $1" 1 /dev/null "$bytes"
+    says "a word isn't UTF-8"
+    ln -sf "$room/copy/sctp-trace" "$room/linked"
+    "$room/linked" run <$one_message >"$room/output" 2>/dev/null
+    report "$([ $? = 0 ] && echo yes)" "through a symbolic link, $1"
+    writes $wanted
+    { head -n 3 $one_message && sleep 3 && tail -n +4 $one_message; } | ./sctp-trace run >"$room/output" 2>/dev/null
+    report "$([ $? = 0 ] && echo yes)" "input that pauses, $1"
+    writes $wanted
+}
+
+all_orders 'nothing built'
+by_sources_of=$one_message
+order 'nothing built: the sources are run' 0 $by_sources_of run
+by_sources
+order 'much output, nothing built' 3 "$room/many" run
+says 'the limit on each'
+says 'rt run'
+cp -p $source "$room/source"
+printf 'fn unfinished(\n' >>$source
+order "a source that doesn't compile" 3 $one_message run
+says "the sources can't be run"
+cp -p "$room/source" $source
+
+(cd $main && rt run -- run) <$one_message >"$room/output" 2>"$room/faults"
+report "$([ $? = 0 ] && echo yes)" 'rt run proves and builds the program'
+all_orders 'built'
+order 'built: the program is run' 0 $one_message run
+by_program
+order 'much output, built' 0 "$room/many" run
+./sctp-trace run <$one_message >/dev/full 2>/dev/null
+report "$([ $? = 3 ] && echo yes)" 'a full disk, built'
+
+touch $source
+order 'a source touched' 0 $one_message run
+by_program
+printf '// A remark.\n' >>$source
+order 'a source changed' 0 $one_message run
+by_sources
+cp "$room/source" $source
+order 'and changed back' 0 $one_message run
+by_program
+mv $definition "$room/definition"
+order 'a definition taken away' 0 $one_message run
+by_sources
+mv "$room/definition" $definition
+order 'and put back' 0 $one_message run
+by_program
+
+if [ $failed = 0 ]; then echo 'all as it should be'; else echo 'some are not as they should be'; fi
+exit $failed
