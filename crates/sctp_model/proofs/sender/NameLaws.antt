@@ -107,7 +107,7 @@ in_part_by_ticket f v t n h is = by_part (is_in_part v n.lane n.number) refl
             let lane = lanes_same n.lane (entry_lane e) parts.0 in
             let there : (entry_lane e).stream ≡ s = ap (λ (x : Entry). (entry_lane x).stream) next.is ∙ next.on in
             let place : n.lane.stream ≡ s = ap (λ (l : Lane). l.stream) lane ∙ there in
-            let here : is_in_part v n.lane n.number ≡ true = rw (place, on) mine in
+            let here : is_in_part v n.lane n.number ≡ true = ap (is_entry_of n.lane n.number) (ap (continued v.plan) place ∙ on) ∙ mine in
             absurd (cc)
 
     by_part : (b : Bool) → is_in_part v n.lane n.number ≡ b → b ≡ some_stream (λ s. goes_on_with v.plan t (continued v.plan s)) v.streams
