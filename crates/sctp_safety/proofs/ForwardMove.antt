@@ -2,18 +2,18 @@
 use Rattle.std.proofs.Common.{◌≡◌, ℕ, suc, ◌<◌, ◌≤◌, ◌⊎◌, max, true, false, List, [], ◌∷◌, inl, inr, refl, sym, subst, ap, arith, le_refl}
 use Rattle.std.proofs.lemmas.Bool.{cases_lt}
 use Rattle.sctp_model.specs.Lists.{Has}
-use Rattle.sctp_model.specs.Format.{Format, Plain, Lane, is_numbered, at_lane}
+use Rattle.sctp_model.specs.Format.{Format, Plain, Ordered, Lane, is_numbered, at_lane}
 use Rattle.sctp_model.specs.SenderView.{SenderView}
 use Rattle.sctp_model.specs.Forward.{Skip, Forward, skipped}
 use Rattle.sctp_model.specs.ReceiverView.{ReceiverView}
-use Rattle.sctp_safety.specs.Way.{Way, Forward_comes, Step}
+use Rattle.sctp_safety.specs.Way.{Way, IsSkippedBy, Forward_comes, Step}
 use Rattle.sctp_safety.proofs.Facts.{IsDone, IsLost, IsLostBy, IsRetired, IsFair, MayPass, Held, Good}
 use Rattle.sctp_safety.proofs.Basics.{at_lane_cases}
 use Rattle.sctp_safety.proofs.Later.{Learns, Grows-refl, lost-later, IsDone-later, IsRetired-later, MayPass-later, IsAllSeen-later, by_receiver}
 use Rattle.sctp_safety.proofs.Settled.{settled_on}
 
 -- a lane's number after one skip more
-abbrev raised : (Lane → ℕ) → Skip → Lane → ℕ
+abbrev pub raised : (Lane → ℕ) → Skip → Lane → ℕ
 raised skip x = at_lane skip x.lane (max (skip x.lane) (suc x.number))
 
 raised_by : (skip : Lane → ℕ) (x : Skip) (l : Lane) (k : ℕ) → k < raised skip x l → (k < skip l) ⊎ ((l ≡ x.lane) × (k ≤ x.number))
@@ -24,18 +24,18 @@ raised_by skip x l k = at_lane_cases (λ (b : ℕ). k < b → (k < skip l) ⊎ (
     which e m (inl h) = inl (subst (λ (b : Lane). k < skip b) (sym e) h)
     which e m (inr h) = inr (e, omega arith)
 
-raised_grows : (skip : Lane → ℕ) (x : Skip) (l : Lane) → skip l ≤ raised skip x l
+pub raised_grows : (skip : Lane → ℕ) (x : Skip) (l : Lane) → skip l ≤ raised skip x l
 raised_grows skip x l = at_lane_cases (λ (b : ℕ). skip l ≤ b) skip x.lane (max (skip x.lane) (suc x.number)) l
     (λ e. let q : skip l ≡ skip x.lane = ap skip e in omega arith) (λ ne. le_refl (skip l))
 
-skipped_grows : (xs : List Skip) (skip : Lane → ℕ) (l : Lane) → skip l ≤ skipped skip xs l
+pub skipped_grows : (xs : List Skip) (skip : Lane → ℕ) (l : Lane) → skip l ≤ skipped skip xs l
 skipped_grows [] skip l = le_refl (skip l)
 skipped_grows (x ∷ xs) skip l =
     let more = skipped_grows xs (raised skip x) l in
     let one = raised_grows skip x l in
     omega arith
 
-skipped_has : (xs : List Skip) (skip : Lane → ℕ) (y : Skip) → Has xs y → y.number < skipped skip xs y.lane
+pub skipped_has : (xs : List Skip) (skip : Lane → ℕ) (y : Skip) → Has xs y → y.number < skipped skip xs y.lane
 skipped_has [] skip y h = absurd h
 skipped_has (x ∷ xs) skip y (inr h) = skipped_has xs (raised skip x) y h
 skipped_has (x ∷ xs) skip y (inl e) = subst (λ (z : Skip). z.number < skipped skip (x ∷ xs) z.lane) e
@@ -66,14 +66,22 @@ skipped_unnumbered f (x ∷ xs) skip numbered l e z = skipped_unnumbered f xs (r
         let k : is_numbered f l.kind ≡ is_numbered f x.lane.kind = ap (λ (b : Lane). is_numbered f b.kind) q in
         absurd (cc)
 
-pub kept_by-Forward_comes : (w v : Way) (x : Forward) → Good w → Step w (Forward_comes x) v → Good v
-kept_by-Forward_comes w v x g (has, ahead, e) = subst Good (sym e) (by_receiver w t g learns (record {
+-- all that is listed
+pub all_skipped : (r : ReceiverView) (xs : List Skip) → IsSkippedBy r xs (skipped r.skip xs)
+all_skipped r xs = record {
+  raised = λ l. skipped_grows xs r.skip l;
+  within = λ l. le_refl (skipped r.skip xs l);
+  counts = λ y h. inl (skipped_has xs r.skip y h);
+}
+
+pub kept_by-Forward_comes : (w v : Way) (x : Forward) (skip : Lane → ℕ) → Good w → Step w (Forward_comes x skip) v → Good v
+kept_by-Forward_comes w v x skip g (has, ahead, by, e) = subst Good (sym e) (by_receiver w t g learns (record {
   jumped = λ i pos l. jumped i pos l (cases_lt r.jump i);
   old = λ q i pos l. old q i pos l (cases_lt r.jump i);
   kept = held.kept;
   seen = λ i h. settled_on f a r t i learns (λ z n k q b. inl q) (λ l n q. q) (held.seen i h);
-  skips = λ l n h. MayPass-later f a a r t (Grows-refl a) learns l n (skipped_fair (MayPass a r) x.skips r.skip held.skips fair.listed l n h);
-  unskipped = λ l q. skipped_unnumbered f x.skips r.skip fair.numbered l q (held.unskipped l q);
+  skips = λ l n h. MayPass-later f a a r t (Grows-refl a) learns l n (skipped_fair (MayPass a r) x.skips r.skip held.skips fair.listed l n (below l n h));
+  unskipped = λ l q. let z = skipped_unnumbered f x.skips r.skip fair.numbered l q (held.unskipped l q) in let y = by.within l in omega (arith, z, y);
   kept_seen = held.kept_seen;
   fresh = held.fresh;
   told = record {
@@ -96,13 +104,16 @@ kept_by-Forward_comes w v x g (has, ahead, e) = subst Good (sym e) (by_receiver 
     r = w.receiver
 
     t : ReceiverView
-    t = record r { jump = max r.jump x.point; skip = skipped r.skip x.skips }
+    t = record r { jump = max r.jump x.point; skip = skip }
+
+    below : (l : Lane) (n : ℕ) → n < skip l → n < skipped r.skip x.skips l
+    below l n h = let y = by.within l in omega (arith, y, h)
 
     held : Held f a r
     held = g.held
 
     learns : Learns r t
-    learns = record { seen = λ j h. h; jump = omega arith; next = λ s. le_refl (r.next s); skip = λ l. skipped_grows x.skips r.skip l }
+    learns = record { seen = λ j h. h; jump = omega arith; next = λ s. le_refl (r.next s); skip = by.raised }
 
     fair : IsFair f a r x
     fair = g.between.forwards x has
@@ -113,9 +124,11 @@ kept_by-Forward_comes w v x g (has, ahead, e) = subst Good (sym e) (by_receiver 
       where
         done : (l : Lane) (n : ℕ) → IsDone f r l n ⊎ ((y : Skip) × Has x.skips y × (y.lane ≡ l) × (n ≤ y.number)) → IsDone f t l n
         done l n (inl k) = IsDone-later f r t learns l n k
-        done l n (inr (y, k, q, m)) =
-            let b : y.number < skipped r.skip x.skips y.lane = skipped_has x.skips r.skip y k in
-            inr (inl (subst (λ (z : Lane). n < skipped r.skip x.skips z) q (omega arith)))
+        done l n (inr (y, k, q, m)) = counted (by.counts y k)
+          where
+            counted : (y.number < skip y.lane) ⊎ ((y.lane.kind ≡ Ordered) × (y.number < r.next y.lane.stream)) → IsDone f t l n
+            counted (inl b) = inr (inl (subst (λ (z : Lane). n < skip z) q (omega arith)))
+            counted (inr (o, b)) = inr (inr (subst (λ (z : Lane). (z.kind ≡ Ordered) × (n < r.next z.stream)) q (o, omega arith)))
 
     jumped : (i : ℕ) → 0 < i → i ≤ max r.jump x.point → (r.jump < i) ⊎ (i ≤ r.jump) → (r.seen i ≡ true) ⊎ IsLost f a t i
     jumped i pos l (inl h) = lost (fair.upto i pos (omega arith))

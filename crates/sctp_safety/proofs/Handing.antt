@@ -1,5 +1,5 @@
 -- Chunks go, and messages are handed over or passed over.
-use Rattle.std.proofs.Common.{◌≡◌, ℕ, ◌<◌, ◌≤◌, ◌⊎◌, true, List, [], ◌∷◌, ◌++◌, Some, inl, inr, refl, sym, subst, ap, arith, le_refl, append_assoc}
+use Rattle.std.proofs.Common.{◌≡◌, ℕ, ◌<◌, ◌≤◌, ◌⊎◌, true, List, [], ◌∷◌, ◌++◌, Some, inl, inr, refl, sym, subst, ap, le_refl, append_assoc}
 use Rattle.sctp_model.specs.Lists.{Has, IsWithin, at}
 use Rattle.sctp_model.specs.Format.{Format, Ordered, Lane, ordered_lane}
 use Rattle.sctp_model.specs.Plan.{Part, entry_at}

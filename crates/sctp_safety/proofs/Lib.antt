@@ -40,3 +40,14 @@ mod TotalReceiver
 mod TotalTaken
 mod TotalBuild
 mod TotalSteps
+mod Spread
+mod WaitedFor
+mod NearReads
+mod IdleLemmas
+mod ReadBounds
+mod PieceAnswers
+mod PieceReads
+mod SkipReads
+mod ForwardReads
+mod SackMade
+mod machine

@@ -1,5 +1,5 @@
 -- The next ordered message of a stream is handed over, or its number is passed over.
-use Rattle.std.proofs.Common.{lt-ltb, ◌≡◌, ℕ, suc, ◌<◌, ◌≤◌, ◌⊎◌, not, true, false, nat_lt, Bool, List, ◌∷◌, Some, inl, inr, refl, sym, subst, ap, arith, le_refl, ltb-true}
+use Rattle.std.proofs.Common.{◌≡◌, ℕ, suc, ◌<◌, ◌≤◌, ◌⊎◌, not, true, false, Bool, List, ◌∷◌, Some, inl, inr, refl, sym, subst, ap, arith, le_refl}
 use Rattle.std.proofs.lemmas.Bool.{cases_eq, cases_Bool, and_parts}
 use Rattle.sctp_model.specs.Lists.{Has, at}
 use Rattle.sctp_model.specs.Format.{Format, Ordered, Lane, same_lane, ordered_lane}

@@ -1,5 +1,5 @@
 -- What is good is safe.
-use Rattle.std.proofs.Common.{◌≡◌, ℕ, ◌<◌, ◌⊎◌, true, length, Some, inl, inr, refl, sym, subst, ap, arith}
+use Rattle.std.proofs.Common.{◌≡◌, ℕ, ◌<◌, ◌⊎◌, true, length, Some, inl, inr, refl, sym, subst, ap}
 use Rattle.sctp_model.specs.Lists.{Has}
 use Rattle.sctp_model.specs.Format.{Format, Plain, Interleaved, Kind, Ordered, Unordered, Lane, is_numbered, ordered_lane, unordered_lane}
 use Rattle.sctp_model.specs.Plan.{Message, Part, Plan, entry_at, message_at, IsAssigned, IsComplete}

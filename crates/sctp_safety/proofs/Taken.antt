@@ -1,5 +1,5 @@
 -- A chunk that is taken is a list of moves: it is kept, and what is due is handed over number by number.
-use Rattle.std.proofs.Common.{◌≡◌, ℕ, zero, suc, ◌<◌, ◌⊎◌, ◌++◌, ◌∷◌, not, true, false, Bool, nat_lt, max, List, [], cond, filter, inl, inr, refl, sym, subst, ap, arith, append-nil, append_assoc, Some}
+use Rattle.std.proofs.Common.{◌≡◌, ℕ, zero, suc, ◌<◌, ◌⊎◌, ◌++◌, ◌∷◌, not, true, false, Bool, max, List, [], cond, filter, inl, inr, refl, sym, subst, ap, arith, append-nil, append_assoc, Some}
 use Rattle.std.proofs.lemmas.Bool.{cases_Bool}
 use Rattle.std.proofs.lemmas.Bool.Decides.{nat_tests}
 use Rattle.sctp_model.specs.Lists.{Has, at}
@@ -11,6 +11,7 @@ use Rattle.sctp_model.specs.ReceiverView.{Handed, ReceiverView}
 use Rattle.sctp_model.specs.Receiving.{IsWholeNumber, HasNoWhole, message_of, IsDue, Stop, Over, Past, is_below, without_below, GivesOrdered, GivesAll, GivesUnordered, Gives, recorded}
 use Rattle.sctp_safety.specs.Way.{Way, Move, Keep_piece, Hand_over, Hand_unordered, Pass_over, Clear, Forward_comes, Let_go, with_receiver, past, Step, Run}
 use Rattle.sctp_safety.specs.Exact.{Leads, TakingIsMoves, ForwardIsMoves}
+use Rattle.sctp_safety.proofs.ForwardMove.{all_skipped}
 use Rattle.sctp_safety.proofs.Basics.{at_cases, at_same, Has-filter, Has-filtered}
 use Rattle.sctp_safety.proofs.Numbers.{below_is, below-true}
 
@@ -78,7 +79,7 @@ whole_stays f kept s n x xs ((first, row), within, (lane, number)) = ((first, ro
         same (inl e) = subst (λ (u : Piece). u.number ≡ Some n) e number
         same (inr k) = let m = (row_same f x xs row y k).1 in cc
 
-none_stays : (f : Format) (kept : List Piece) (s n : ℕ) → HasNoWhole f kept (ordered_lane s) n → HasNoWhole f (without_below kept s n) (ordered_lane s) n
+pub none_stays : (f : Format) (kept : List Piece) (s n : ℕ) → HasNoWhole f kept (ordered_lane s) n → HasNoWhole f (without_below kept s n) (ordered_lane s) n
 none_stays f kept s n none xs (whole, within, number) =
     none xs (whole, (λ y h. Has-filtered (λ (z : Piece). not (is_below s n z)) kept y (within y h)), number)
 
@@ -196,7 +197,7 @@ taking_is_moves w x t has unseen takes =
 
 pub forward_is_moves : ForwardIsMoves
 forward_is_moves w x t has i below not_yet (low, goes, gives) =
-    leads_on w (with_receiver w mid) (with_receiver w t) (leads_by w (with_receiver w mid) (Forward_comes x) (has, (i, below, not_yet), refl))
+    leads_on w (with_receiver w mid) (with_receiver w t) (leads_by w (with_receiver w mid) (Forward_comes x mid.skip) (has, (i, below, not_yet), all_skipped w.receiver x.skips, refl))
     (leads_on (with_receiver w mid) (with_receiver w low) (with_receiver w t)
     (leads_by (with_receiver w mid) (with_receiver w low) (Let_go low) (goes, refl))
     (giving_all_is_moves w w.receiver.streams low t gives))

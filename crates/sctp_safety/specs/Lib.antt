@@ -5,3 +5,5 @@ pub mod Worlds
 pub mod Example
 pub mod Answered
 pub mod SenderLaws
+pub mod ReceiverLaws
+pub mod Strangers

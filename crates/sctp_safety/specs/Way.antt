@@ -2,7 +2,7 @@
 -- Timers, windows, room, what is due, and the order of filling only choose among moves; they don't appear here.
 use Rattle.std.specs.Prelude.{◌≡◌, ℕ, suc, ◌+◌, ◌<◌, ◌≤◌, ◌⊎◌, max, ◌||◌, true, false, nat_le, List, [], ◌∷◌, ◌++◌, length, Some}
 use Rattle.sctp_model.specs.Lists.{Has, IsWithin, at}
-use Rattle.sctp_model.specs.Format.{Format, Plain, Unordered, Lane, is_numbered, ordered_lane, at_lane}
+use Rattle.sctp_model.specs.Format.{Format, Plain, Ordered, Unordered, Lane, is_numbered, ordered_lane, at_lane}
 use Rattle.sctp_model.specs.Plan.{Message, bytes_of, Part, End, Plan, entry_at, message_at, IsAssigned, HasEnd, IsClosed, parts_from}
 use Rattle.sctp_model.specs.Pieces.{Piece, piece_of}
 use Rattle.sctp_model.specs.Whole.{IsWhole}
@@ -49,7 +49,7 @@ pub data Move : Type 0 where
   -- the receiver
   Keep_piece : Piece → Move
   Drop_piece : Piece → Move
-  Forward_comes : Forward → Move
+  Forward_comes : Forward → (skip : Lane → ℕ) → Move
   Hand_over : (stream : ℕ) (first : Piece) (others : List Piece) → Move
   Hand_unordered : (first : Piece) (others : List Piece) → Move
   Pass_over : (stream : ℕ) → Move
@@ -93,6 +93,13 @@ pub record SameButTuning (a b : SenderView) : Type 0 where
   pub cum : b.cum ≡ a.cum
   pub covered : b.covered ≡ a.covered
   pub abandoned : b.abandoned ≡ a.abandoned
+
+-- What a receiver skips after a FORWARD: no less than before, no more than is listed, and each number that is listed, but for an ordered one
+-- below the next, which is done with.
+pub record IsSkippedBy (r : ReceiverView) (xs : List Skip) (skip : Lane → ℕ) : Type 0 where
+  pub raised : (l : Lane) → r.skip l ≤ skip l
+  pub within : (l : Lane) → skip l ≤ skipped r.skip xs l
+  pub counts : (y : Skip) → Has xs y → (y.number < skip y.lane) ⊎ ((y.lane.kind ≡ Ordered) × (y.number < r.next y.lane.stream))
 
 -- `Step w e v`: where the move may happen in w, it leads to v.
 abbrev pub Step : Way → Move → Way → Type 0
@@ -156,9 +163,9 @@ Step w (Drop_piece x) v =
     Has w.pieces x × (w.receiver.seen x.index ≡ false) × (IsPassed w.format w.receiver x ⊎ (w.streams ≤ x.lane.stream))
     × (v ≡ with_receiver w (recorded w.receiver x))
 -- A FORWARD counts where some index up to its point is not reached yet.
-Step w (Forward_comes x) v =
-    Has w.forwards x × ((i : ℕ) × (i ≤ x.point) × (IsReached w.receiver i → ⊥))
-    × (v ≡ with_receiver w (record w.receiver { jump = max w.receiver.jump x.point; skip = skipped w.receiver.skip x.skips }))
+Step w (Forward_comes x skip) v =
+    Has w.forwards x × ((i : ℕ) × (i ≤ x.point) × (IsReached w.receiver i → ⊥)) × IsSkippedBy w.receiver x.skips skip
+    × (v ≡ with_receiver w (record w.receiver { jump = max w.receiver.jump x.point; skip = skip }))
 Step w (Hand_over s x xs) v =
     IsWholeNumber w.format w.receiver.kept (ordered_lane s) (w.receiver.next s) (x ∷ xs)
     × (v ≡ with_receiver w (record (past w.receiver s) {

@@ -1,6 +1,7 @@
 //! What the two ends really build and take are things that the moves allow.
 
 ghost use Rattle.sctp_safety.specs.Exact.{ForwardIsAllowed, ForwardIsMoves, PassingIsMoves, SackIsAllowed, ShutdownIsAllowed, TakingIsMoves};
+ghost use Rattle.sctp_safety.specs.ReceiverLaws.{ForwardTakenIsMoves, PieceTakenIsMoves, SackMadeIsMoves, TakeIsMoves};
 ghost use Rattle.sctp_safety.specs.SenderLaws.{AbandonIsMoves, ExpireIsMoves, FillIsMoves, QueueIsMoves, SackIsMoves, ShutdownIsMoves, TimeoutIsMoves};
 
 /// A FORWARD up to any index from CUM to the point, with the largest number of each stream and kind there, may be built (RFC 3758, 3.5).
@@ -66,4 +67,25 @@ pub fn sack_is_moves()
 /// And so is the cumulative TSN of a SHUTDOWN (RFC 9260, 9.2).
 pub fn shutdown_is_moves()
     ensures { ShutdownIsMoves }
+{}
+
+/// A data chunk that lies between the ends is taken by moves, whatever is answered to it, and nothing is due afterwards: its TSN and its SSN or MID
+/// are read as they were written, as long as counts lie within the window and TSNs within half their space (RFC 9260, 6.2 and 6.6; RFC 8260, 2.2).
+pub fn piece_taken_is_moves()
+    ensures { PieceTakenIsMoves }
+{}
+
+/// And so is a FORWARD, with each number that it lists (RFC 3758, 3.6; RFC 8260, 2.3).
+pub fn forward_taken_is_moves()
+    ensures { ForwardTakenIsMoves }
+{}
+
+/// The SACK that a receiver makes may be put between the ends (RFC 9260, 6.2).
+pub fn sack_made_is_moves()
+    ensures { SackMadeIsMoves }
+{}
+
+/// A message that the user takes is a move.
+pub fn take_is_moves()
+    ensures { TakeIsMoves }
 {}

@@ -3,15 +3,18 @@
 //! No function here does anything: each carries a theorem as its contract.
 #![tactic(auto)]
 
+mod ends;
 mod exact;
 mod laws;
 mod safety;
 mod worlds;
 
+pub use ends::strangers_change_nothing;
 pub use exact::{
     abandon_is_moves, expire_is_moves, fill_is_moves, forward_is_allowed, forward_is_moves,
-    passing_is_moves, queue_is_moves, sack_is_allowed, sack_is_moves, shutdown_is_allowed,
-    shutdown_is_moves, taking_is_moves, timeout_is_moves,
+    forward_taken_is_moves, passing_is_moves, piece_taken_is_moves, queue_is_moves,
+    sack_is_allowed, sack_is_moves, sack_made_is_moves, shutdown_is_allowed, shutdown_is_moves,
+    take_is_moves, taking_is_moves, timeout_is_moves,
 };
 pub use laws::{skip_law, whole_law};
 pub use safety::{orderly_over_every_run, safe_over_every_run};

@@ -231,19 +231,6 @@ chunk_at-chunk chunk m rest r =
 
 -- ---- a chunk takes some bytes
 
--- what a reading leaves is no longer than n
-abbrev pub LeavesAtMost : ℕ → Result (ChunkMeaning × List ℕ) Reason → Type 0
-LeavesAtMost n (Ok found) = length found.1 ≤ n
-LeavesAtMost n (Err why) = Unit {0}
-
-leaves_by : (b : ℕ) (bytes : List ℕ) → FirstChunk (b ∷ bytes) → LeavesAtMost (length bytes) (chunk_at (b ∷ bytes))
-leaves_by b bytes (wrong why h) = rw (chunk_at-wrong (b ∷ bytes) why h) tt
-leaves_by b bytes (right s) =
-    rw (chunk_at-shaped (b ∷ bytes) s) (omega (arith, s.whole.stated, length-drop (padded (stated_length (b ∷ bytes))) (b ∷ bytes)))
-
-pub chunk_at-leaves : (b : ℕ) (bytes : List ℕ) → LeavesAtMost (length bytes) (chunk_at (b ∷ bytes))
-chunk_at-leaves b bytes = leaves_by b bytes (first_chunk_is (b ∷ bytes) (omega arith))
-
 -- a chunk takes its length and its padding
 pub length-chunk : (chunk : List ℕ) (m : ChunkMeaning) → ReadsChunk chunk m → length chunk ≡ padded (chunk_length m)
 length-chunk chunk m r =

@@ -8,7 +8,8 @@ use Rattle.sctp_model.specs.Places.{is_misplaced, is_none, misplaced_from}
 use Rattle.sctp_wire.specs.declared.fault.Reason.{Reason}
 use Rattle.sctp_wire.specs.Reading.{AreChunks, chunks_of, chunk_at}
 use Rattle.sctp_wire.proofs.FrameLemmas.{BeginsWith, begins_first, length-chunk}
-use Rattle.sctp_wire.proofs.OneReading.{chunks_of-chunk, chunks_of-nil, begins_shorter, each_of-fault, rest_bytes, read_none, read_more}
+use Rattle.sctp_wire.proofs.ReadingLemmas.{each_of-fault}
+use Rattle.sctp_wire.proofs.OneReading.{chunks_of-chunk, chunks_of-nil, begins_shorter, rest_bytes, read_none, read_more}
 
 -- what is left is chunks, and none before was misplaced
 pub record IsWalked (bytes rest : List ℕ) : Type 0 where

@@ -7,18 +7,17 @@ ghost use Rattle.sctp_wire.specs.Layouts.{is_laid_out, is_listed, flags_of, valu
 ghost use Rattle.sctp_wire.specs.Reading.{body_at};
 ghost use Rattle.sctp_wire.specs.Writes.{written};
 
-use crate::chunks::forward::{Forward, append_forward, is_forward, read_forward};
-use crate::chunks::init::{Init, append_init, read_init};
+use crate::chunks::control::{bytes_fit, list_fits, unknown_fits};
+use crate::chunks::forward::{Forward, append_forward, forward_fits, is_forward, read_forward};
+use crate::chunks::init::{Init, append_init, init_fits, read_init};
 use crate::chunks::piece::{
-    Piece, append_data, append_i_data, data_flags, flag, is_set, read_data, read_i_data,
+    Piece, append_data, append_i_data, data_fits, data_flags, flag, i_data_fits, is_set, read_data,
+    read_i_data,
 };
-use crate::chunks::sack::{Sack, append_sack, is_sack, read_sack};
+use crate::chunks::sack::{Sack, append_sack, is_sack, read_sack, sack_fits};
 use crate::codes::{
     ABORT, COOKIE_ACK, COOKIE_ECHO, DATA, ERROR, FORWARD_TSN, HEARTBEAT, HEARTBEAT_ACK, I_DATA,
     I_FORWARD_TSN, INIT, INIT_ACK, REFLECTED, SACK, SHUTDOWN, SHUTDOWN_ACK, SHUTDOWN_COMPLETE,
-};
-use crate::fits::{
-    bytes_fit, data_fits, forward_fits, i_data_fits, init_fits, list_fits, sack_fits, unknown_fits,
 };
 use crate::numbers::{append, append_u32, padded, read_u32};
 use crate::skips::SkipForm;

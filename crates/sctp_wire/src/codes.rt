@@ -43,3 +43,6 @@ pub const BEGIN: u8 = 2;
 pub const END: u8 = 1;
 /// The flag T of ABORT and SHUTDOWN COMPLETE: the packet's tag is the one that came, not the peer's.
 pub const REFLECTED: u8 = 1;
+
+/// The longest chunk, without its padding: the length field has 16 bits (RFC 9260, 3.2).
+pub const LONGEST: usize = 65_535;

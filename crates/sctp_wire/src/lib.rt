@@ -8,7 +8,6 @@ mod chunk;
 mod chunks;
 pub mod codes;
 mod fault;
-mod fits;
 mod items;
 mod laws;
 mod lists;

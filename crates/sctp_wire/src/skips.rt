@@ -1,6 +1,6 @@
 //! The entries of a FORWARD-TSN or of an I-FORWARD-TSN: bytes that were checked once to be whole entries.
 
-ghost use Rattle.std.specs.Prelude.{◌≡◌, ◌+◌, ◌*◌, ◌%◌, ◌≤◌, ◌<◌, ◌^◌, [], ◌∷◌, ◌++◌, true, length, vec_len, vec_capacity, IsOk, OnOk, OnErr};
+ghost use Rattle.std.specs.Prelude.{◌≡◌, ◌↔◌, ◌+◌, ◌*◌, ◌%◌, ◌≤◌, ◌<◌, ◌^◌, [], ◌∷◌, ◌++◌, true, length, vec_len, vec_capacity, IsTrue, IsOk, OnOk, OnErr};
 ghost use Rattle.std.specs.List.{flat_map, AllByRecursion};
 ghost use Rattle.std.specs.Iterator.{YieldsFirstBy, item_count};
 ghost use Rattle.sctp_wire.specs.ChunkTree.{skip_meaning};
@@ -171,6 +171,28 @@ fn read_skip(form: SkipForm, bytes: &[u8]) -> Skip
             unordered: read_u16(&bytes[2..]) % 2 == 1,
             number: read_u32(&bytes[4..]),
         },
+    }
+}
+
+/// Whether all entries are within their bits.
+pub(crate) fn are_in_range(form: SkipForm, skips: &Skips<'_>) -> bool
+    ensures { IsTrue result ↔ AllByRecursion (IsSkip form) skips.now.skips }
+{
+    for skip in skips.iter() {
+        if !skip_fits(form, skip) {
+            return false;
+        }
+    }
+    true
+}
+
+/// Whether an entry is within its bits.
+fn skip_fits(form: SkipForm, skip: Skip) -> bool
+    ensures { IsTrue result ↔ IsSkip form (skip_meaning skip) }
+{
+    match form {
+        SkipForm::Narrow => skip.number <= u32::from(u16::MAX) && !skip.unordered,
+        SkipForm::Wide => true,
     }
 }
 

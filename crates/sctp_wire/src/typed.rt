@@ -2,6 +2,7 @@
 
 ghost use Rattle.std.specs.Prelude.{◌≡◌, ◌+◌, ◌<◌, ◌≤◌, ◌^◌, ◌++◌, [], ◌∷◌, List, true, false, MatchOption, length, vec_len, vec_capacity, IsOk, OnOk, OnErr};
 ghost use Rattle.std.specs.Iterator.{YieldsFirstBy, item_count};
+ghost use Rattle.sctp_model.specs.Chunk.{padded};
 ghost use Rattle.sctp_model.specs.Numbers.{AreBytes};
 ghost use Rattle.sctp_model.specs.Typed.{Typed, typed_at, starts_typed, after_typed, is_plain_first, are_typed, typed_in, are_plain, are_zero, filled, typed_bytes, ReadsTyped, WritesTyped};
 ghost use Rattle.sctp_wire.specs.TypedTree.{typed_meaning};
@@ -226,8 +227,9 @@ fn put_typed(kind: u16, value: &[u8], list: &mut Vec<u8>) -> Result<(), NoMemory
         → OnOk result (ReadsTyped list.new.items (xs ++ record { kind = kind; value = value.now } ∷ [])) }
     ensures writes { (xs : List Typed) → WritesTyped list.old.items xs
         → OnOk result (WritesTyped list.new.items (xs ++ record { kind = kind; value = value.now } ∷ [])) }
+    ensures len { OnOk result (vec_len list.new ≡ padded (vec_len list.old) + 4 + length value.now) }
     ensures refused { OnErr result (list.new.items ≡ list.old.items) }
-    ensures memory { length (filled list.old.items) + 4 + length value.now ≤ vec_capacity list.old → IsOk result }
+    ensures memory { padded (vec_len list.old) + 4 + length value.now ≤ vec_capacity list.old → IsOk result }
 {
     let padding = padded(list.len()) - list.len();
     list.reserve(padding + 4 + value.len())
@@ -253,8 +255,9 @@ pub fn put_parameter(kind: u16, value: &[u8], list: &mut Vec<u8>) -> Result<(), 
         → OnOk result (ReadsTyped list.new.items (xs ++ record { kind = kind; value = value.now } ∷ [])) }
     ensures writes { (xs : List Typed) → WritesTyped list.old.items xs
         → OnOk result (WritesTyped list.new.items (xs ++ record { kind = kind; value = value.now } ∷ [])) }
+    ensures len { OnOk result (vec_len list.new ≡ padded (vec_len list.old) + 4 + length value.now) }
     ensures refused { OnErr result (list.new.items ≡ list.old.items) }
-    ensures memory { length (filled list.old.items) + 4 + length value.now ≤ vec_capacity list.old → IsOk result }
+    ensures memory { padded (vec_len list.old) + 4 + length value.now ≤ vec_capacity list.old → IsOk result }
 {
     put_typed(kind, value, list)
 }
@@ -273,8 +276,9 @@ pub fn put_cause(kind: u16, value: &[u8], list: &mut Vec<u8>) -> Result<(), NoMe
         → OnOk result (ReadsTyped list.new.items (xs ++ record { kind = kind; value = value.now } ∷ [])) }
     ensures writes { (xs : List Typed) → WritesTyped list.old.items xs
         → OnOk result (WritesTyped list.new.items (xs ++ record { kind = kind; value = value.now } ∷ [])) }
+    ensures len { OnOk result (vec_len list.new ≡ padded (vec_len list.old) + 4 + length value.now) }
     ensures refused { OnErr result (list.new.items ≡ list.old.items) }
-    ensures memory { length (filled list.old.items) + 4 + length value.now ≤ vec_capacity list.old → IsOk result }
+    ensures memory { padded (vec_len list.old) + 4 + length value.now ≤ vec_capacity list.old → IsOk result }
 {
-    put_typed(kind, value, list)
+    put_parameter(kind, value, list)
 }

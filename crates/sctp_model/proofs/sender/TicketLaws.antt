@@ -82,7 +82,7 @@ found_owns p k t all (e ∷ es) n h is = by_test (has_ticket t (entry_message p 
         subst (λ (y : Name). Owns p k all y.lane y.number × (has_ticket t (message_at p y.lane y.number) ≡ true)) same (h.0, on)
     by_test false on further = further (rw on at is)
 
-latest_owns : (p : Plan) (k : ℕ) (all : List Entry) (s : ℕ) (found : Option Entry) (es : List Entry) (x : Entry) → ((d : Entry) → found ≡ Some d → Owns p k all (entry_lane d) (entry_number d)) → AllOwn p k all es
+pub latest_owns : (p : Plan) (k : ℕ) (all : List Entry) (s : ℕ) (found : Option Entry) (es : List Entry) (x : Entry) → ((d : Entry) → found ≡ Some d → Owns p k all (entry_lane d) (entry_number d)) → AllOwn p k all es
     → latest s found es ≡ Some x → Owns p k all (entry_lane x) (entry_number x)
 latest_owns p k all s found [] x before h is = before x is
 latest_owns p k all s found (e ∷ es) x before h is = latest_owns p k all s (if (entry_lane e).stream == s then Some e else found) es x (by_test ((entry_lane e).stream == s)) h.1 is
@@ -210,9 +210,9 @@ ticketed_new v q rest d turn named h taken =
     let alone = taken.alone h.apart in
     let stays : (t : ℕ) → name_among p2 t es ≡ name_among p t es = λ t. name_among-stays v.streams p q (suc d) t es named in
     let own : (t : ℕ) → q.message.ticket ≡ t → (0 < t) × (t ≤ v.tickets) × (name_among p2 t (es ++ parts) ≡ Some (record { lane = q.lane; number = length (p.messages q.lane) })) = λ t e.
-        let old = h.waiting t (rw e at taken.was) in
-        let on : (q.message.ticket == t) ≡ true = grind (arith, nat_tests) in
-        (old.0, old.1, name_among-append p2 t es parts ∙ ap (λ (o : Option Name). or_name o (name_among p2 t parts)) (stays t ∙ old.2) ∙ name_among-parts p q (suc d) t 0 d ∙ rw on refl) in
+    let old = h.waiting t (rw e at taken.was) in
+    let on : (q.message.ticket == t) ≡ true = grind (arith, nat_tests) in
+    (old.0, old.1, name_among-append p2 t es parts ∙ ap (λ (o : Option Name). or_name o (name_among p2 t parts)) (stays t ∙ old.2) ∙ name_among-parts p q (suc d) t 0 d ∙ rw on refl) in
     record {
       waiting = λ t is.
           let old = h.waiting t (taken.fewer t is) in
@@ -220,9 +220,9 @@ ticketed_new v q rest d turn named h taken =
           (old.0, old.1, name_among-append p2 t es parts ∙ ap (λ (o : Option Name). or_name o (name_among p2 t parts)) (stays t ∙ old.2) ∙ name_among-parts p q (suc d) t 0 d ∙ rw (apart_tests q.message.ticket t ne) refl);
       apart = alone.1;
       owned = all_own_append p2 v.tickets (es ++ parts) es parts
-      (all_own_push v.streams p p2 v.tickets v.tickets es (es ++ parts) es (omega arith) named (λ e here. message_stays v.streams p q (suc d) e here)
-      (λ t n is. name_among-append p2 t es parts ∙ some_first (name_among p2 t es) (name_among p2 t parts) n (stays t ∙ is)) h.owned)
-      (own_parts v.streams p v.tickets q (suc d) (es ++ parts) 0 (suc d) own);
+          (all_own_push v.streams p p2 v.tickets v.tickets es (es ++ parts) es (omega arith) named (λ e here. message_stays v.streams p q (suc d) e here)
+          (λ t n is. name_among-append p2 t es parts ∙ some_first (name_among p2 t es) (name_among p2 t parts) n (stays t ∙ is)) h.owned)
+          (own_parts v.streams p v.tickets q (suc d) (es ++ parts) 0 (suc d) own);
     }
 
 -- one entry more of a message that has one
@@ -241,8 +241,8 @@ ticketed_more v e a marked turn named h own =
           (old.0, old.1, name_among-append p2 t es (e ∷ []) ∙ ap (λ (o : Option Name). or_name o (name_among p2 t (e ∷ []))) (same t es ∙ old.2) ∙ rw ne refl);
       apart = h.apart;
       owned = all_own_append p2 v.tickets (es ++ e ∷ []) es (e ∷ [])
-      (all_own_push v.streams v.plan p2 v.tickets v.tickets es (es ++ e ∷ []) es (omega arith) named (λ x here. refl) names h.owned)
-      (own_push v.plan p2 v.tickets v.tickets es (es ++ e ∷ []) (entry_lane e) (entry_number e) (omega arith) refl names own, tt);
+          (all_own_push v.streams v.plan p2 v.tickets v.tickets es (es ++ e ∷ []) es (omega arith) named (λ x here. refl) names h.owned)
+          (own_push v.plan p2 v.tickets v.tickets es (es ++ e ∷ []) (entry_lane e) (entry_number e) (omega arith) refl names own, tt);
     }
   where
     one_plan : (t : ℕ) (ds : List Entry) → name_among (record v.plan { entries = v.plan.entries ++ e ∷ [] }) t ds ≡ name_among v.plan t ds

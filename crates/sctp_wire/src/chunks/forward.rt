@@ -1,13 +1,14 @@
 //! FORWARD-TSN and I-FORWARD-TSN: what a sender has given up (RFC 3758, 3.2; RFC 8260, 2.3.1).
 
-ghost use Rattle.std.specs.Prelude.{◌≡◌, ◌+◌, ◌*◌, ◌≤◌, ◌<◌, ◌^◌, true, ◌++◌, length, vec_len, vec_capacity};
+ghost use Rattle.std.specs.Prelude.{◌≡◌, ◌↔◌, ◌+◌, ◌*◌, ◌≤◌, true, ◌++◌, IsTrue, length, vec_len, vec_capacity};
 ghost use Rattle.std.specs.List.{AllByRecursion};
 ghost use Rattle.sctp_wire.specs.ChunkTree.{forward_meaning};
 ghost use Rattle.sctp_wire.specs.Skips.{IsSkip, skip_size};
-ghost use Rattle.sctp_wire.specs.chunks.Forward.{forward_value, is_forward_value, forward_at};
+ghost use Rattle.sctp_wire.specs.chunks.Forward.{forward_value, is_forward_value, forward_at, FitsForward};
 
+use crate::codes::LONGEST;
 use crate::numbers::{append_u32, read_u32};
-use crate::skips::{SkipForm, Skips, append_skips};
+use crate::skips::{SkipForm, Skips, append_skips, are_in_range};
 
 /// What a sender has given up.
 #[derive(Debug, Drop)]
@@ -23,6 +24,15 @@ pub fn is_forward(form: SkipForm, value: &[u8]) -> bool
     ensures { result ≡ is_forward_value form value.now }
 {
     value.len() >= 4 && (value.len() - 4) % form.size() == 0
+}
+
+/// Whether a FORWARD's length has 16 bits, its entries are within their bits and its reserved bits zero.
+pub fn forward_fits(form: SkipForm, forward: &Forward<'_>) -> bool
+    ensures { IsTrue result ↔ (FitsForward form (forward_meaning forward.now) × (forward.now.skips.plain ≡ true)) }
+{
+    let _cumulative = forward.cumulative;
+    let few = forward.skips.len() <= (LONGEST - 8) / form.size();
+    few && forward.skips.is_plain() && are_in_range(form, &forward.skips)
 }
 
 /// The value of FORWARD-TSN and of I-FORWARD-TSN (RFC 3758, 3.2; RFC 8260, 2.3.1).

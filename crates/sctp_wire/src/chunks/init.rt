@@ -1,9 +1,12 @@
 //! INIT and INIT ACK: what an end says of itself when an association begins (RFC 9260, 3.3.2 and 3.3.3).
 
-ghost use Rattle.std.specs.Prelude.{◌≡◌, ◌+◌, ◌≤◌, true, ◌++◌, length, vec_len, vec_capacity};
+ghost use Rattle.std.specs.Prelude.{◌≡◌, ◌↔◌, ◌+◌, ◌≤◌, true, ◌++◌, IsTrue, length, vec_len, vec_capacity};
+ghost use Rattle.sctp_model.specs.Chunk as meaning;
 ghost use Rattle.sctp_wire.specs.ChunkTree.{init_meaning};
+ghost use Rattle.sctp_wire.specs.Layouts.{Fits};
 ghost use Rattle.sctp_wire.specs.chunks.Init.{init_value, init_at, is_init_listed};
 
+use crate::codes::LONGEST;
 use crate::numbers::{append, append_u16, append_u32, read_u16, read_u32};
 use crate::typed::Parameters;
 
@@ -21,6 +24,16 @@ pub struct Init<'a> {
     /// The first TSN that it sends.
     pub tsn: u32,
     pub parameters: Parameters<'a>,
+}
+
+/// Whether the length of an INIT or INIT ACK has 16 bits, and its parameters are as they are written.
+pub fn init_fits(init: &Init<'_>) -> bool
+    ensures init { IsTrue result ↔ Fits (meaning.Init (init_meaning init.now)) }
+    ensures init_ack { IsTrue result ↔ Fits (meaning.InitAck (init_meaning init.now)) }
+{
+    let (_tag, _rwnd, _tsn) = (init.tag, init.rwnd, init.tsn);
+    let (_outbound, _inbound) = (init.outbound, init.inbound);
+    init.parameters.size() <= LONGEST - 20 && init.parameters.is_plain()
 }
 
 /// The value of INIT and of INIT ACK (RFC 9260, 3.3.2 and 3.3.3).

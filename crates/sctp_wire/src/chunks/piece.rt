@@ -1,10 +1,12 @@
 //! DATA and I-DATA: pieces of user data (RFC 9260, 3.3.1; RFC 8260, 2.1).
 
-ghost use Rattle.std.specs.Prelude.{◌≡◌, ◌+◌, ◌≤◌, ◌<◌, ◌^◌, ◌++◌, length, vec_len, vec_capacity};
+ghost use Rattle.std.specs.Prelude.{◌≡◌, ◌↔◌, ◌+◌, ◌≤◌, ◌<◌, ◌^◌, ◌++◌, IsTrue, length, vec_len, vec_capacity};
+ghost use Rattle.sctp_model.specs.Chunk as meaning;
 ghost use Rattle.sctp_wire.specs.ChunkTree.{piece_meaning};
+ghost use Rattle.sctp_wire.specs.Layouts.{Fits};
 ghost use Rattle.sctp_wire.specs.chunks.Piece.{flag, has_flag, data_flags, data_value, data_at, i_data_laid, i_data_at};
 
-use crate::codes::{BEGIN, END, IMMEDIATE, UNORDERED};
+use crate::codes::{BEGIN, END, IMMEDIATE, LONGEST, UNORDERED};
 use crate::numbers::{append, append_u16, append_u32, read_u16, read_u32};
 
 /// A piece of user data, as a DATA or an I-DATA chunk has it.
@@ -50,6 +52,23 @@ pub fn data_flags(piece: &Piece<'_>) -> u8
         + flag(UNORDERED, piece.unordered)
         + flag(BEGIN, piece.begin)
         + flag(END, piece.end)
+}
+
+/// Whether a DATA's number has 16 bits, and its length too.
+pub fn data_fits(piece: &Piece<'_>) -> bool
+    ensures { IsTrue result ↔ Fits (meaning.Data (piece_meaning piece.now)) }
+{
+    let (_tsn, _stream, _word) = (piece.tsn, piece.stream, piece.word);
+    piece.number <= u32::from(u16::MAX) && piece.bytes.len() <= LONGEST - 16
+}
+
+/// Whether an I-DATA's length has 16 bits.
+pub fn i_data_fits(piece: &Piece<'_>) -> bool
+    ensures { IsTrue result ↔ Fits (meaning.IData (piece_meaning piece.now)) }
+{
+    let (_tsn, _stream) = (piece.tsn, piece.stream);
+    let (_number, _word) = (piece.number, piece.word);
+    piece.bytes.len() <= LONGEST - 20
 }
 
 /// DATA's value (RFC 9260, 3.3.1).

@@ -1,9 +1,12 @@
 //! SACK: what a receiver has seen (RFC 9260, 3.3.4).
 
-ghost use Rattle.std.specs.Prelude.{◌≡◌, ◌+◌, ◌*◌, ◌≤◌, ◌<◌, ◌^◌, true, ◌++◌, length, vec_len, vec_capacity};
+ghost use Rattle.std.specs.Prelude.{◌≡◌, ◌↔◌, ◌+◌, ◌*◌, ◌≤◌, ◌<◌, ◌^◌, true, ◌++◌, IsTrue, length, vec_len, vec_capacity};
+ghost use Rattle.sctp_model.specs.Chunk as meaning;
 ghost use Rattle.sctp_wire.specs.ChunkTree.{sack_meaning};
+ghost use Rattle.sctp_wire.specs.Layouts.{Fits};
 ghost use Rattle.sctp_wire.specs.chunks.Sack.{sack_value, is_sack_value, sack_at};
 
+use crate::codes::LONGEST;
 use crate::lists::{Blocks, Words};
 use crate::numbers::{append, append_u16, append_u32, read_u16, read_u32};
 
@@ -30,6 +33,14 @@ pub fn is_sack(value: &[u8]) -> bool
     let blocks = usize::from(read_u16(&value[8..]));
     let duplicates = usize::from(read_u16(&value[10..]));
     value.len() == 12 + 4 * (blocks + duplicates)
+}
+
+/// Whether a SACK's length has 16 bits.
+pub fn sack_fits(sack: &Sack<'_>) -> bool
+    ensures { IsTrue result ↔ Fits (meaning.Sack (sack_meaning sack.now)) }
+{
+    let (_cumulative, _rwnd) = (sack.cumulative, sack.rwnd);
+    sack.blocks.len() + sack.duplicates.len() <= (LONGEST - 16) / 4
 }
 
 /// SACK's value (RFC 9260, 3.3.4).

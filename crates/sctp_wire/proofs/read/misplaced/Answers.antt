@@ -1,6 +1,6 @@
 use Rattle.std.proofs.Common.{sym, arith}
 use Rattle.std.proofs.lemmas.Grind.{common_steps}
-use Rattle.sctp_wire.proofs.OneReading.{each_of-fault}
+use Rattle.sctp_wire.proofs.ReadingLemmas.{each_of-fault}
 use Rattle.sctp_wire.proofs.PlaceLemmas.{walk_none, walk_at, walk_on, walk_hit, walk_all}
 use Rattle.sctp_wire.proofs.read.misplaced.Goals as goal
 

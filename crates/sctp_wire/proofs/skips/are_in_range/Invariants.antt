@@ -1,6 +1,6 @@
 use Rattle.std.specs.List.{AllByRecursion}
 use Rattle.sctp_wire.specs.Skips.{IsSkip}
-use Rattle.sctp_wire.proofs.fits.are_in_range.Given as goal
+use Rattle.sctp_wire.proofs.skips.are_in_range.Given as goal
 
 -- those before what is left are within their bits
 abbrev pub invariant-loop-skip : goal.invariant-loop-skip

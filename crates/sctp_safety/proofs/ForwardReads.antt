@@ -1,0 +1,235 @@
+-- A FORWARD of the bag is read as it was built, whatever is answered to it, and what its answer leaves is moves.
+use Rattle.std.proofs.Common.{◌≡◌, ℕ, zero, suc, ◌+◌, ◌-◌, ◌^◌, ◌<◌, ◌≤◌, ◌⊎◌, ◌==◌, not, max, ◌||◌, nat_le, true, false, Bool, List, [], length, Some, inl, inr, refl, sym, subst, ap, arith, ◌∙◌, le_refl}
+use Rattle.std.specs.Prelude.{if◌then◌else◌}
+use Rattle.std.proofs.lemmas.Bool.{cases_lt}
+use Rattle.std.proofs.lemmas.Bool.Decides.{nat_tests}
+use Rattle.sctp_model.specs.Lists.{Has}
+use Rattle.sctp_model.specs.Serial.{COUNTS, tsn, ahead, half_space}
+use Rattle.sctp_model.specs.Chunk.{SkipMeaning, ForwardMeaning}
+use Rattle.sctp_model.specs.Format.{Format, Plain, Interleaved, Kind, Ordered, Unordered, Lane, is_numbered, ordered_lane, unordered_lane}
+use Rattle.sctp_model.specs.Framing.{wire_number, number_near}
+use Rattle.sctp_model.specs.Plan.{Message, Part, entry_at, message_at}
+use Rattle.sctp_model.specs.Pieces.{Piece}
+use Rattle.sctp_model.specs.Forward.{Skip, Forward}
+use Rattle.sctp_model.specs.ReceiverView.{ReceiverView, IsCumulative}
+use Rattle.sctp_model.specs.Receiving.{HasNoWhole, IsWholeWith, GivesAll}
+use Rattle.sctp_model.specs.Safe.{WasHanded}
+use Rattle.sctp_model.specs.receiver.Reading.{offset, index_at, is_behind, is_ahead, reference_in}
+use Rattle.sctp_model.specs.receiver.ForwardTaken.{ForwardAnswer, OutOfDate, Bad, Moved, names_other_stream, skipped_by, jumped, is_left_behind, let_go, ForwardTaken}
+use Rattle.sctp_model.specs.receiver.Laws.{IsIdle}
+use Rattle.sctp_safety.specs.Way.{Way, IsSkippedBy, Forward_comes, Let_go, with_receiver}
+use Rattle.sctp_safety.specs.SenderLaws.{IsUsual}
+use Rattle.sctp_safety.specs.ReceiverLaws.{IsJoined, IsCounted, IsReceived, IsForwardSaid, ForwardTakenIsMoves}
+use Rattle.sctp_safety.proofs.Facts.{Good, IsFair, IsLostBy, MayPass}
+use Rattle.sctp_safety.proofs.Basics.{item_at-within, Has-filtered}
+use Rattle.sctp_safety.proofs.Taken.{leads_on, leads_by, giving_all_is_moves}
+use Rattle.sctp_safety.proofs.UsualLemmas.{good_usual}
+use Rattle.sctp_safety.proofs.NearReads.{ahead_is, near_16, near_32}
+use Rattle.sctp_safety.proofs.WaitedFor.{not_far_above, not_far_below}
+use Rattle.sctp_safety.proofs.ReadBounds.{cumulative_within, cum_within, passed_within, skip_within, next_within}
+use Rattle.sctp_safety.proofs.IdleLemmas.{fewer_none, IsGivenBelow, all_given}
+use Rattle.sctp_safety.proofs.PieceReads.{waiting}
+use Rattle.sctp_safety.proofs.PieceAnswers.{or_none}
+use Rattle.sctp_safety.proofs.SkipReads.{ReadsSkip, ended, ended_grows, ended_within, ended_counts, ended_other, streams_are, let_go_is}
+
+-- ---- the answer
+
+moved_unless : (b d : Bool) → (if b then OutOfDate else if d then Bad else Moved) ≡ Moved → (b ≡ false) × (d ≡ false)
+moved_unless true d h = absurd (cc)
+moved_unless false true h = absurd (cc)
+moved_unless false false h = (refl, refl)
+
+module _ (w : Way) (m : ForwardMeaning) (usual : IsUsual w) (joined : IsJoined w) (counted : IsCounted w.sender) (idle : IsIdle w.format w.receiver)
+    (said : IsForwardSaid w.format w.sender.initial w.sender.plan w.forwards m) where
+  g : Good w
+  g = good_usual w usual
+
+  abbrev x : Forward
+  x = said.forward
+
+  fair : IsFair w.format w.sender w.receiver x
+  fair = g.between.forwards x said.put
+
+  point_within : x.point ≤ length w.sender.plan.entries
+  point_within = go x.point refl
+    where
+      by : (i : ℕ) → (w.receiver.seen i ≡ true) ⊎ IsLostBy w.format w.sender w.receiver x.skips i → i ≤ length w.sender.plan.entries
+      by i (inl s) = let y = g.held.seen i s in item_at-within w.sender.plan.entries i _ y.here
+      by i (inr y) = item_at-within w.sender.plan.entries i _ y.here
+
+      go : (i : ℕ) → x.point ≡ i → i ≤ length w.sender.plan.entries
+      go zero e = omega arith
+      go (suc i) e = by (suc i) (fair.upto (suc i) (omega arith) (omega (arith, e)))
+
+  index_read : (c : ℕ) → IsCumulative w.receiver c → is_behind w.receiver c m.cumulative ≡ false → (index_at w.receiver c m.cumulative ≡ x.point) × (c < x.point)
+  index_read c cumulative new = (index, past)
+    where
+      wire : m.cumulative ≡ tsn w.receiver.initial x.point
+      wire = said.cumulative ∙ ap (λ (i : ℕ). tsn i x.point) (sym joined.initial)
+
+      split : ((offset w.receiver c m.cumulative == 0) ≡ false) × (nat_le (half_space 32) (offset w.receiver c m.cumulative) ≡ false)
+      split = or_none (offset w.receiver c m.cumulative == 0) (nat_le (half_space 32) (offset w.receiver c m.cumulative)) new
+
+      index : index_at w.receiver c m.cumulative ≡ x.point
+      index =
+          let t = counted.total in
+          let a = cumulative_within w g c cumulative in
+          let b = point_within in
+          subst (λ (y : ℕ). c + ahead 32 (tsn w.receiver.initial c) y ≡ x.point) (sym wire)
+          (ahead_is w.receiver.initial c x.point (omega (arith, a, t)) (omega (arith, b, t))
+          (subst (λ (y : ℕ). nat_le (half_space 32) (ahead 32 (tsn w.receiver.initial c) y) ≡ false) wire split.1))
+
+      past : c < x.point
+      past = let z = split.0 in let i = index in grind (arith, z, i, nat_tests)
+
+  -- an ordered number that is listed lies within 16 bits of the next one
+  ordered_reads : (c : ℕ) → IsCumulative w.receiver c → c < x.point → (y : Skip) → Has x.skips y → y.lane ≡ ordered_lane y.lane.stream → y.number < COUNTS - 1 →
+      number_near Plain Ordered (wire_number Plain Ordered y.number) (w.receiver.next y.lane.stream) ≡ Some y.number
+  ordered_reads c cumulative past y has lane small = near_16 y.number (w.receiver.next s) above below small
+    where
+      s : ℕ
+      s = y.lane.stream
+
+      window : length w.sender.plan.entries ≤ c + 32767
+      window = let a = counted.window in let b = cum_within w g c cumulative in omega (arith, a, b)
+
+      known : (k : ℕ) → w.sender.abandoned (ordered_lane s) k ≡ true → (q : Message) × (message_at w.sender.plan (ordered_lane s) k ≡ Some q)
+      known k gone = let z = g.sound.abandoned (ordered_lane s) k gone in (z.0, z.1)
+
+      named : MayPass w.sender w.receiver y.lane y.number → (q : Message) × (message_at w.sender.plan (ordered_lane s) y.number ≡ Some q)
+      named (inl gone) = let z = g.sound.abandoned y.lane y.number gone in (z.0, subst (λ (l : Lane). message_at w.sender.plan l y.number ≡ Some z.0) lane z.1)
+      named (inr seen) = (seen.message, subst (λ (l : Lane). message_at w.sender.plan l y.number ≡ Some seen.message) lane seen.named)
+
+      entry : (i : ℕ) × (entry_at w.sender.plan i ≡ Some (Part (ordered_lane s) y.number 0))
+      entry = let q = named (fair.listed y has y.number (le_refl y.number)) in g.arranged.begun (ordered_lane s) y.number q.0 q.1
+
+      above : y.number < w.receiver.next s + 2 ^ 15
+      above = go (cases_lt (w.receiver.next s) y.number)
+        where
+          go : (w.receiver.next s < y.number) ⊎ (y.number ≤ w.receiver.next s) → y.number < w.receiver.next s + 2 ^ 15
+          go (inr l) = omega (arith, l)
+          go (inl l) =
+              let h = not_far_above w.format w.sender w.receiver s c 32767 g.arranged g.held cumulative.reached (waiting w.format w.receiver s idle) window entry.0 y.number
+              (Part (ordered_lane s) y.number 0) entry.1 (refl, refl) l in
+              omega (arith, h)
+
+      -- the message after the largest one listed has all its entries past the point
+      behind : suc (suc y.number) < w.receiver.next s → (j : ℕ) × (entry_at w.sender.plan j ≡ Some (Part (ordered_lane s) (suc y.number) 0)) → w.receiver.next s ≤ y.number + 32767
+      behind l (j, there) = go (cases_lt x.point j)
+        where
+          go : (x.point < j) ⊎ (j ≤ x.point) → w.receiver.next s ≤ y.number + 32767
+          go (inl far) =
+              let h = not_far_below w.format w.sender w.receiver s (suc c) 32766 g.arranged g.held (omega (arith, window)) known j (suc y.number)
+              (Part (ordered_lane s) (suc y.number) 0) there (refl, refl) (omega (arith, far, past)) l in
+              omega (arith, h)
+          go (inr near) =
+              let t = said.topped y j (suc y.number) (Part (ordered_lane s) (suc y.number) 0) has near there (sym lane, refl) in
+              absurd (omega (arith, t))
+
+      below : w.receiver.next s < y.number + 2 ^ 15
+      below = go (cases_lt (suc (suc y.number)) (w.receiver.next s))
+        where
+          entry_of : WasHanded w.sender.plan w.receiver (ordered_lane s) (suc y.number) ⊎ (w.sender.abandoned (ordered_lane s) (suc y.number) ≡ true) →
+              (j : ℕ) × (entry_at w.sender.plan j ≡ Some (Part (ordered_lane s) (suc y.number) 0))
+          entry_of (inl (h, q, l, first)) = (h.first, first)
+          entry_of (inr gone) = let z = known (suc y.number) gone in g.arranged.begun (ordered_lane s) (suc y.number) z.0 z.1
+
+          go : (suc (suc y.number) < w.receiver.next s) ⊎ (w.receiver.next s ≤ suc (suc y.number)) → w.receiver.next s < y.number + 2 ^ 15
+          go (inr l) = omega (arith, l)
+          go (inl l) = let h = behind l (entry_of (g.held.told.passed s (suc y.number) (omega (arith, l)))) in omega (arith, h)
+
+  -- each number listed is read again
+  skip_reads : (c : ℕ) → IsCumulative w.receiver c → c < x.point → (y : Skip) → Has x.skips y → ReadsSkip w.format w.receiver y
+  skip_reads c cumulative past y has = go w.format y.lane.kind refl (fair.numbered y has)
+    where
+      low : y.number < length w.sender.plan.entries
+      low = passed_within w g y.lane y.number (fair.listed y has y.number (le_refl y.number))
+
+      small : y.number < COUNTS - 1
+      small = let t = counted.total in let l = low in omega (arith, l, t)
+
+      far : (r : ℕ) → r ≤ length w.sender.plan.entries → number_near Interleaved Ordered (wire_number Interleaved Ordered y.number) r ≡ Some y.number
+      far r b = let t = counted.total in let l = low in near_32 y.number r (omega (arith, l, t)) (omega (arith, b, t)) small
+
+      go : (f : Format) (k : Kind) → y.lane.kind ≡ k → is_numbered f k ≡ true → number_near f k (wire_number f k y.number) (reference_in w.receiver y.lane.stream k) ≡ Some y.number
+      go Plain Ordered e num = ordered_reads c cumulative past y has (ap (λ (k : Kind). record { stream = y.lane.stream; kind = k }) e) small
+      go Plain Unordered e num = absurd (cc)
+      go Interleaved Ordered e num = far (w.receiver.next y.lane.stream) (next_within w g y.lane.stream)
+      go Interleaved Unordered e num = far (w.receiver.skip (unordered_lane y.lane.stream)) (skip_within w g (unordered_lane y.lane.stream))
+
+  same : IsReceived w w.receiver
+  same = record { leads = ([], refl); idle = idle; initial = refl; streams = refl; buffer = refl }
+
+  -- one that moves
+  moved : (c : ℕ) (t : ReceiverView) → IsCumulative w.receiver c → (index_at w.receiver c m.cumulative ≡ x.point) × (c < x.point) →
+      names_other_stream w.receiver.streams m.skips ≡ false → GivesAll w.format w.receiver.streams (let_go w.format (jumped w.format w.receiver c m)) t → IsReceived w t
+  moved c t cumulative (index, past) streams gives = record {
+    leads = leads_on w (with_receiver w mid) (with_receiver w t)
+        (leads_by w (with_receiver w mid) (Forward_comes x skip) (said.put, (suc c, past, cumulative.open_end), by, refl))
+        (leads_on (with_receiver w mid) (with_receiver w low) (with_receiver w t)
+        (leads_by (with_receiver w mid) (with_receiver w low) (Let_go low) (let_go_is w.format mid idle.unordered, refl))
+        (giving_all_is_moves w w.receiver.streams low t all));
+    idle = record { ordered = λ s. ordered s (cases_lt s w.receiver.streams); unordered = unordered };
+    initial = given.constants.initial;
+    streams = given.constants.streams;
+    buffer = given.constants.buffer;
+  }
+    where
+      reads : (y : Skip) → Has x.skips y → ReadsSkip w.format w.receiver y
+      reads = skip_reads c cumulative past
+
+      skip : Lane → ℕ
+      skip = ended w.format w.receiver x.skips w.receiver.skip
+
+      mid : ReceiverView
+      mid = record w.receiver { jump = max w.receiver.jump x.point; skip = skip }
+
+      low : ReceiverView
+      low = let_go w.format mid
+
+      all : GivesAll w.format w.receiver.streams low t
+      all = subst (λ (i : ℕ). GivesAll w.format w.receiver.streams (let_go w.format (record w.receiver { jump = max w.receiver.jump i; skip = skip })) t) index
+          (subst (λ (ys : List SkipMeaning). GivesAll w.format w.receiver.streams
+          (let_go w.format (record w.receiver { jump = max w.receiver.jump (index_at w.receiver c m.cumulative); skip = skipped_by w.format w.receiver ys w.receiver.skip })) t) said.skips gives)
+
+      by : IsSkippedBy w.receiver x.skips skip
+      by = record {
+        raised = ended_grows w.format w.receiver x.skips w.receiver.skip reads;
+        within = ended_within w.format w.receiver x.skips w.receiver.skip w.receiver.skip reads (λ l. le_refl (w.receiver.skip l));
+        counts = ended_counts w.format w.receiver x.skips w.receiver.skip reads;
+      }
+
+      given : IsGivenBelow w.format w.receiver.streams low t
+      given = all_given w.format w.receiver.streams low t all
+
+      fewer : (z : Piece) → Has t.kept z → Has w.receiver.kept z
+      fewer z h = Has-filtered (λ (y : Piece). not (is_left_behind w.format y.lane.kind mid y)) w.receiver.kept z (given.fewer z h)
+
+      unlisted : (s : ℕ) → w.receiver.streams ≤ s → skip (ordered_lane s) ≡ w.receiver.skip (ordered_lane s)
+      unlisted s b = ended_other w.format w.receiver x.skips w.receiver.skip (ordered_lane s) reads
+          (λ y h e. let l = streams_are w.format w.receiver.streams x.skips (subst (λ (ys : List SkipMeaning). names_other_stream w.receiver.streams ys ≡ false) said.skips streams) y h in
+          let q : s ≡ y.lane.stream = ap (λ (k : Lane). k.stream) e in
+          omega (arith, l, q, b))
+
+      ordered : (s : ℕ) → (s < w.receiver.streams) ⊎ (w.receiver.streams ≤ s) → (t.skip (ordered_lane s) ≤ t.next s) × HasNoWhole w.format t.kept (ordered_lane s) (t.next s)
+      ordered s (inl b) = given.waits s b
+      ordered s (inr b) =
+          let i = idle.ordered s in
+          let n : t.next s ≡ w.receiver.next s = given.others s b in
+          let k : t.skip (ordered_lane s) ≡ w.receiver.skip (ordered_lane s) = ap (λ (q : Lane → ℕ). q (ordered_lane s)) given.skip ∙ unlisted s b in
+          let a = i.0 in
+          (omega (arith, a, n, k), subst (λ (j : ℕ). HasNoWhole w.format t.kept (ordered_lane s) j) (sym n) (fewer_none w.format w.receiver.kept t.kept (ordered_lane s) (w.receiver.next s) fewer i.1))
+
+      unordered : (y : Piece) (xs : List Piece) → y.lane.kind ≡ Unordered → IsWholeWith w.format t.kept y xs → ⊥
+      unordered y xs kind (whole, within, has) = idle.unordered y xs kind (whole, (λ z h. fewer z (within z h)), has)
+
+  received : (a : ForwardAnswer) (t : ReceiverView) → ForwardTaken w.format w.receiver m a t → IsReceived w t
+  received OutOfDate t taken = subst (IsReceived w) (sym taken.leaves) same
+  received Bad t taken = subst (IsReceived w) (sym taken.leaves) same
+  received Moved t taken =
+      let a = moved_unless (is_behind w.receiver taken.c m.cumulative) (is_ahead w.receiver taken.c m.cumulative || names_other_stream w.receiver.streams m.skips) (sym taken.answer) in
+      let b = or_none (is_ahead w.receiver taken.c m.cumulative) (names_other_stream w.receiver.streams m.skips) a.1 in
+      moved taken.c t taken.cumulative (index_read taken.c taken.cumulative a.0) b.1 taken.leaves
+
+pub forward_taken_is_moves : ForwardTakenIsMoves
+forward_taken_is_moves w m a t usual joined counted idle said taken = received w m usual joined counted idle said a t taken

@@ -1,0 +1,72 @@
+-- Wire values that are read as their counts: a TSN by its distance, an SSN or MID near a reference.
+use Rattle.std.proofs.Common.{◌≡◌, ℕ, ◌+◌, ◌-◌, ◌^◌, ◌%◌, ◌<◌, ◌≤◌, ◌⊎◌, ◌&&◌, nat_lt, nat_le, true, false, Option, Some, None, inl, inr, refl, arith}
+use Rattle.std.specs.Prelude.{if◌then◌else◌}
+use Rattle.std.proofs.lemmas.Bool.{cases_lt, lt-ltb, le-leb}
+use Rattle.std.proofs.lemmas.Bool.Decides.{nat_tests}
+use Rattle.sctp_model.specs.Serial.{COUNTS, wire_value, tsn, ahead, half_space, as_count, near}
+use Rattle.sctp_model.specs.Framing.{as_number}
+
+-- ---- TSNs
+
+-- A TSN that lies ahead of that of c by less than half the space is read as its index.
+pub ahead_is : (initial c i : ℕ) → c < 2 ^ 31 → i < 2 ^ 31 → nat_le (half_space 32) (ahead 32 (tsn initial c) (tsn initial i)) ≡ false →
+    c + ahead 32 (tsn initial c) (tsn initial i) ≡ i
+ahead_is initial c i low high fresh = grind (arith, nat_tests, low, high, fresh)
+
+-- ---- SSNs and MIDs
+
+-- how a count lies to its reference on the circle
+ahead_16 : (n r : ℕ) → r ≤ n → n < r + 2 ^ 15 → ahead 16 r (n % 2 ^ 16) ≡ n - r
+ahead_16 n r a b = omega arith
+
+behind_16 : (n r : ℕ) → n < r → r < n + 2 ^ 15 → ahead 16 (n % 2 ^ 16) r ≡ r - n
+behind_16 n r a b = omega arith
+
+over_16 : (n r : ℕ) → n < r → r < n + 2 ^ 15 → 2 ^ 15 ≤ ahead 16 r (n % 2 ^ 16)
+over_16 n r a b = omega arith
+
+ahead_32 : (n r : ℕ) → r ≤ n → n < r + 2 ^ 31 → ahead 32 r (n % 2 ^ 32) ≡ n - r
+ahead_32 n r a b = omega arith
+
+behind_32 : (n r : ℕ) → n < r → r < n + 2 ^ 31 → ahead 32 (n % 2 ^ 32) r ≡ r - n
+behind_32 n r a b = omega arith
+
+over_32 : (n r : ℕ) → n < r → r < n + 2 ^ 31 → 2 ^ 31 ≤ ahead 32 r (n % 2 ^ 32)
+over_32 n r a b = omega arith
+
+-- the answer, by the two distances
+abbrev answered : ℕ → ℕ → ℕ → ℕ → Option ℕ
+answered half r up down =
+    if nat_lt up half then as_count (r + up) else if nat_lt down half && nat_le down r then Some (r - down) else None
+
+answered_above : (half n r up down : ℕ) → up ≡ n - r → r ≤ n → n < r + half → n < COUNTS - 1 → as_number (answered half r up down) ≡ Some n
+answered_above half n r up down is a b c =
+    let x : nat_lt up half ≡ true = lt-ltb up half (omega (arith, is, a, b)) in
+    let z : r + up ≡ n = omega (arith, is, a) in
+    let y : nat_lt n COUNTS ≡ true = lt-ltb n COUNTS (omega (arith, c)) in
+    let u : nat_lt n (COUNTS - 1) ≡ true = lt-ltb n (COUNTS - 1) c in
+    rw (x, z, y, u) refl
+
+answered_below : (half n r up down : ℕ) → half ≤ up → down ≡ r - n → n < r → r < n + half → n < COUNTS - 1 → as_number (answered half r up down) ≡ Some n
+answered_below half n r up down over is a b c =
+    let x : nat_lt up half ≡ false = grind (arith, over, nat_tests) in
+    let y : nat_lt down half ≡ true = lt-ltb down half (omega (arith, is, a, b)) in
+    let v : nat_le down r ≡ true = le-leb down r (omega (arith, is, a)) in
+    let z : r - down ≡ n = omega (arith, is, a) in
+    let u : nat_lt n (COUNTS - 1) ≡ true = lt-ltb n (COUNTS - 1) c in
+    rw (x, y, v, z, u) refl
+
+-- A number less than half the space away is read again, in 16 bits and in 32.
+pub near_16 : (n r : ℕ) → n < r + 2 ^ 15 → r < n + 2 ^ 15 → n < COUNTS - 1 → as_number (near 16 (wire_value 16 n) r) ≡ Some n
+near_16 n r a b c = go (cases_lt n r)
+  where
+    go : (n < r) ⊎ (r ≤ n) → as_number (near 16 (wire_value 16 n) r) ≡ Some n
+    go (inl l) = answered_below (2 ^ 15) n r (ahead 16 r (n % 2 ^ 16)) (ahead 16 (n % 2 ^ 16) r) (over_16 n r l b) (behind_16 n r l b) l b c
+    go (inr l) = answered_above (2 ^ 15) n r (ahead 16 r (n % 2 ^ 16)) (ahead 16 (n % 2 ^ 16) r) (ahead_16 n r l a) l a c
+
+pub near_32 : (n r : ℕ) → n < r + 2 ^ 31 → r < n + 2 ^ 31 → n < COUNTS - 1 → as_number (near 32 (wire_value 32 n) r) ≡ Some n
+near_32 n r a b c = go (cases_lt n r)
+  where
+    go : (n < r) ⊎ (r ≤ n) → as_number (near 32 (wire_value 32 n) r) ≡ Some n
+    go (inl l) = answered_below (2 ^ 31) n r (ahead 32 r (n % 2 ^ 32)) (ahead 32 (n % 2 ^ 32) r) (over_32 n r l b) (behind_32 n r l b) l b c
+    go (inr l) = answered_above (2 ^ 31) n r (ahead 32 r (n % 2 ^ 32)) (ahead 32 (n % 2 ^ 32) r) (ahead_32 n r l a) l a c

@@ -1,0 +1,170 @@
+-- How an end turns: nearly everything leaves its terms, and its state but for closing; only an INIT ACK and a COOKIE ACK do more.
+use Rattle.std.proofs.Common.{◌≡◌, ℕ, Bool, true, false, List, [], ◌∷◌, ◌++◌, Some, refl, sym, subst, ◌∙◌}
+use Rattle.sctp_model.specs.Chunk.{InitMeaning, ChunkMeaning, Data, IData, Init, InitAck, Sack, Heartbeat, HeartbeatAck, Abort, Shutdown, ShutdownAck, Error, CookieEcho, CookieAck, ShutdownComplete, ForwardTsn, IForwardTsn, Unknown}
+use Rattle.sctp_model.specs.end.EndView.{Draw, Tags, Stage, Established, ShutdownPending, ShutdownSent, ShutdownReceived, ShutdownAckSent, Ended, Aborted, Completed, StaleCookie, Phase, Idle, Listening, Calling, Echoing, Open, Over, EndView, has_association}
+use Rattle.sctp_model.specs.end.Clock.{closed}
+use Rattle.sctp_model.specs.end.Closing.{rested}
+use Rattle.sctp_model.specs.end.PeerFaults.{GoesOn, Ends}
+use Rattle.sctp_model.specs.end.Options.{STATE_COOKIE, value_of}
+use Rattle.sctp_model.specs.end.Opening.{AcceptedAck, EchoedAgain, CookieAcked, echoing}
+use Rattle.sctp_model.specs.end.Acting.{Acts, Comes, IsOld, IsStale, Counts, Closes, SaysNothing, Crosses, Again, Completes}
+use Rattle.sctp_model.specs.end.Building.{Wants, EchoCookie, AckCookie, AckHeartbeat, ReportCauses, Acknowledge, PassOn, SayShutdown, AnswerShutdown, Slot, Puts, NoMore, NotDue, Put, IsFull, Builds, Sleeps, Waits, Calls, Echoes, Fills}
+use Rattle.sctp_model.specs.end.Building.{Ends as EndsFull}
+use Rattle.sctp_safety.proofs.machine.EndWords.{rested_cases}
+use Rattle.sctp_safety.proofs.machine.Sides.{unknown_goes, unknown_ends}
+
+-- ---- plain turns
+
+-- a caller that has called, and everything later
+abbrev pub has_begun : Phase → Bool
+has_begun Idle = false
+has_begun Listening = false
+has_begun (Calling d) = true
+has_begun (Echoing t xs) = true
+has_begun (Open t g) = true
+has_begun (Over why) = true
+
+pub begun_by_association : (h : Phase) → has_association h ≡ true → has_begun h ≡ true
+begun_by_association Idle e = absurd (cc)
+begun_by_association Listening e = absurd (cc)
+begun_by_association (Calling d) e = refl
+begun_by_association (Echoing t xs) e = refl
+begun_by_association (Open t g) e = refl
+begun_by_association (Over why) e = absurd (cc)
+
+-- an end stays where it is, closes, or goes on with closing
+pub data IsPlainTurn : Phase → Phase → Type 0 where
+  Stays : (h : Phase) → IsPlainTurn h h
+  Leaves : (h : Phase) (why : Ended) → has_begun h ≡ true → IsPlainTurn h (Over why)
+  Goes : (t : Tags) (g i : Stage) → IsPlainTurn (Open t g) (Open t i)
+
+pub turn_on : (h k l : Phase) → IsPlainTurn h k → IsPlainTurn k l → IsPlainTurn h l
+turn_on h k l (Stays _) b = b
+turn_on h k l a (Stays _) = a
+turn_on h k l (Goes t g i) (Leaves _ why has) = Leaves (Open t g) why refl
+turn_on h k l (Goes t g i) (Goes _ _ j) = Goes t g j
+turn_on h k l (Leaves _ why has) (Leaves _ other has') = Leaves h other has
+
+pub turn_begun : (h k : Phase) → IsPlainTurn h k → has_begun h ≡ true → has_begun k ≡ true
+turn_begun h k (Stays _) e = e
+turn_begun h k (Leaves _ why has) e = refl
+turn_begun h k (Goes t g i) e = refl
+
+-- the same terms, set up alike, and a plain turn
+pub record IsPlain (e t : EndView) : Type 0 where
+  pub configuration : t.configuration ≡ e.configuration
+  pub role : t.role ≡ e.role
+  pub moment : t.moment ≡ e.moment
+  pub terms : t.terms ≡ e.terms
+  pub turn : IsPlainTurn e.phase t.phase
+
+pub plain_same : (e : EndView) → IsPlain e e
+plain_same e = record { configuration = refl; role = refl; moment = refl; terms = refl; turn = Stays e.phase }
+
+pub plain_on : (e t u : EndView) → IsPlain e t → IsPlain t u → IsPlain e u
+plain_on e t u a b = record {
+  configuration = b.configuration ∙ a.configuration;
+  role = b.role ∙ a.role;
+  moment = b.moment ∙ a.moment;
+  terms = b.terms ∙ a.terms;
+  turn = turn_on e.phase t.phase u.phase a.turn b.turn;
+}
+
+-- from an open end to another stage
+pub goes_from : (e : EndView) (t : Tags) (g i : Stage) → e.phase ≡ Open t g → IsPlainTurn e.phase (Open t i)
+goes_from e t g i is = subst (λ (h : Phase). IsPlainTurn h (Open t i)) (sym is) (Goes t g i)
+
+pub plain_rested : (e : EndView) → IsPlain e (rested e)
+plain_rested e = rested_cases (IsPlain e) e (plain_same e)
+    (λ t is d. record { configuration = refl; role = refl; moment = refl; terms = refl; turn = goes_from e t ShutdownPending ShutdownSent is })
+    (λ t is d. record { configuration = refl; role = refl; moment = refl; terms = refl; turn = goes_from e t ShutdownReceived ShutdownAckSent is })
+
+-- ---- chunks
+
+-- What a chunk leaves that goes on: a plain turn, or an INIT ACK was accepted, or a COOKIE ACK came.
+pub data IsLeft (e : EndView) (x : ChunkMeaning) : EndView → Type 0 where
+  Plainly : (t : EndView) → IsPlain e t → IsLeft e x t
+  Accepts : (m : InitMeaning) (d : Draw) (cookie : List ℕ) → x ≡ InitAck m → e.phase ≡ Calling d → value_of STATE_COOKIE m.parameters ≡ Some cookie →
+      IsLeft e x (echoing e d m cookie)
+  Acked : (t : Tags) (cookie : List ℕ) (u : EndView) → x ≡ CookieAck → e.phase ≡ Echoing t cookie → u.configuration ≡ e.configuration → u.role ≡ e.role → u.moment ≡ e.moment →
+      u.terms ≡ e.terms → u.phase ≡ Open t Established → IsLeft e x u
+
+-- the same state
+still : (e : EndView) (x : ChunkMeaning) (t : EndView) → t.configuration ≡ e.configuration → t.role ≡ e.role → t.moment ≡ e.moment → t.terms ≡ e.terms → e.phase ≡ t.phase → IsLeft e x t
+still e x t a b n c p = Plainly t (record { configuration = a; role = b; moment = n; terms = c; turn = subst (IsPlainTurn e.phase) p (Stays e.phase) })
+
+pub goes_left : (e : EndView) (tag : ℕ) (x : ChunkMeaning) (t : EndView) → Acts e tag x (GoesOn t) → IsLeft e x t
+goes_left e tag (Data p) t (Comes _ _ _ _ _ _ _ _ _) = still e _ t refl refl refl refl refl
+goes_left e tag (IData p) t (Comes _ _ _ _ _ _ _ _ _) = still e _ t refl refl refl refl refl
+goes_left e tag (Init m) t h = absurd (cc)
+goes_left e tag (InitAck m) t (AcceptedAck d cookie is tagged value fault) = Accepts m d cookie refl is value
+goes_left e tag (Sack s) t (IsStale _ _) = still e _ t refl refl refl refl refl
+goes_left e tag (Sack s) t (Counts _ _) = still e _ t refl refl refl refl refl
+goes_left e tag (Heartbeat i) t (Counts _) = still e _ t refl refl refl refl refl
+goes_left e tag (HeartbeatAck i) t h = let q : t ≡ e = cc in Plainly t (subst (IsPlain e) (sym q) (plain_same e))
+goes_left e tag (Abort b xs) t h = absurd (cc)
+goes_left e tag (Shutdown n) t (IsStale u g is _ _) = Plainly t (record { configuration = refl; role = refl; moment = refl; terms = refl; turn = goes_from e u g ShutdownReceived is })
+goes_left e tag (Shutdown n) t (Counts u g is _ _) = Plainly t (record { configuration = refl; role = refl; moment = refl; terms = refl; turn = goes_from e u g ShutdownReceived is })
+goes_left e tag (Shutdown n) t (Crosses u is) = Plainly t (record { configuration = refl; role = refl; moment = refl; terms = refl; turn = goes_from e u ShutdownSent ShutdownAckSent is })
+goes_left e tag (Shutdown n) t (Again u is) = still e _ t refl refl refl refl refl
+goes_left e tag ShutdownAck t h = elim h [ ]
+goes_left e tag (Error xs) t (SaysNothing _) = still e _ t refl refl refl refl refl
+goes_left e tag (CookieEcho xs) t (EchoedAgain _ _ _ _ _ _ _) = still e _ t refl refl refl refl refl
+goes_left e tag CookieAck t (CookieAcked u xs is) = Acked u xs t refl is refl refl refl refl refl
+goes_left e tag (ShutdownComplete b) t h = elim h [ ]
+goes_left e tag (ForwardTsn m) t (IsOld _ _ _ _ _ _ _) = still e _ t refl refl refl refl refl
+goes_left e tag (ForwardTsn m) t (Comes _ _ _ _ _ _ _) = still e _ t refl refl refl refl refl
+goes_left e tag (IForwardTsn m) t (IsOld _ _ _ _ _ _ _) = still e _ t refl refl refl refl refl
+goes_left e tag (IForwardTsn m) t (Comes _ _ _ _ _ _ _) = still e _ t refl refl refl refl refl
+goes_left e tag (Unknown k f v) t h = let u = unknown_goes e t k f v h in Plainly t (subst (IsPlain e) (sym u.same) (record { configuration = refl; role = refl; moment = refl; terms = refl; turn = Stays e.phase }))
+
+-- closed, from a state of an association
+pub left_closed : (e : EndView) (why : Ended) → has_begun e.phase ≡ true → IsPlain e (closed why e)
+left_closed e why has = record { configuration = refl; role = refl; moment = refl; terms = refl; turn = Leaves e.phase why has }
+
+pub ends_plain : (e : EndView) (tag : ℕ) (x : ChunkMeaning) (t : EndView) → has_begun e.phase ≡ true → Acts e tag x (Ends t) → IsPlain e t
+ends_plain e tag (Data p) t has h = elim h [ ]
+ends_plain e tag (IData p) t has h = elim h [ ]
+ends_plain e tag (Init m) t has h = absurd (cc)
+ends_plain e tag (InitAck m) t has h = elim h [ ]
+ends_plain e tag (Sack s) t has h = elim h [ ]
+ends_plain e tag (Heartbeat i) t has h = elim h [ ]
+ends_plain e tag (HeartbeatAck i) t has h = absurd (cc)
+ends_plain e tag (Abort b xs) t has h = let q : t ≡ closed Aborted e = cc in subst (IsPlain e) (sym q) (left_closed e Aborted has)
+ends_plain e tag (Shutdown n) t has h = elim h [ ]
+ends_plain e tag ShutdownAck t has h = elim h [ ]
+ends_plain e tag (Error xs) t has (Closes _) = left_closed e StaleCookie has
+ends_plain e tag (CookieEcho xs) t has h = elim h [ ]
+ends_plain e tag CookieAck t has h = elim h [ ]
+ends_plain e tag (ShutdownComplete b) t has (Completes _) = left_closed e Completed has
+ends_plain e tag (ForwardTsn m) t has h = elim h [ ]
+ends_plain e tag (IForwardTsn m) t has h = elim h [ ]
+ends_plain e tag (Unknown k f v) t has h = let u = unknown_ends e t k f v h in subst (IsPlain e) (sym u.same) (record { configuration = refl; role = refl; moment = refl; terms = refl; turn = Stays e.phase })
+
+-- ---- a packet that is built
+
+wants_plain : (s : Slot) (e : EndView) (x : ChunkMeaning) (t : EndView) → Wants e s x t → IsPlain e t
+wants_plain s e x t (EchoCookie _ _ _) = record { configuration = refl; role = refl; moment = refl; terms = refl; turn = Stays e.phase }
+wants_plain s e x t AckCookie = record { configuration = refl; role = refl; moment = refl; terms = refl; turn = Stays e.phase }
+wants_plain s e x t (AckHeartbeat _ _) = record { configuration = refl; role = refl; moment = refl; terms = refl; turn = Stays e.phase }
+wants_plain s e x t ReportCauses = record { configuration = refl; role = refl; moment = refl; terms = refl; turn = Stays e.phase }
+wants_plain s e x t (Acknowledge _ _) = record { configuration = refl; role = refl; moment = refl; terms = refl; turn = Stays e.phase }
+wants_plain s e x t PassOn = record { configuration = refl; role = refl; moment = refl; terms = refl; turn = Stays e.phase }
+wants_plain s e x t (SayShutdown _ _) = record { configuration = refl; role = refl; moment = refl; terms = refl; turn = Stays e.phase }
+wants_plain s e x t AnswerShutdown = record { configuration = refl; role = refl; moment = refl; terms = refl; turn = Stays e.phase }
+
+pub puts_plain : (ss : List Slot) (e : EndView) (xs zs : List ChunkMeaning) (full : Bool) (t : EndView) → Puts ss e xs zs full t → IsPlain e t
+puts_plain ss e xs zs full t (NoMore _ _) = plain_same e
+puts_plain ss e xs zs full t (NotDue _ more _ _ _ _ _ off rest) = puts_plain more e xs zs full t rest
+puts_plain ss e xs zs full t (Put s more _ mid x _ _ _ _ due wants room rest) =
+    plain_on e mid t (wants_plain s e x mid wants) (puts_plain more mid (xs ++ x ∷ []) zs full t rest)
+puts_plain ss e xs zs full t (IsFull _ _ _ _ _ _ due wants room) = plain_same e
+
+pub builds_plain : (e : EndView) (xs : List ChunkMeaning) (t : EndView) → Builds e xs t → IsPlain e t
+builds_plain e xs t (Sleeps _) = plain_same e
+builds_plain e xs t (Waits _ _ _) = plain_same e
+builds_plain e xs t (Calls _ _ _) = record { configuration = refl; role = refl; moment = refl; terms = refl; turn = Stays e.phase }
+builds_plain e xs t (Echoes _ _ _ full _ is puts) = puts_plain _ e [] xs full t puts
+builds_plain e xs t (EndsFull _ _ _ _ is puts) = puts_plain _ e [] xs true t puts
+builds_plain e xs t (Fills _ _ zs x is puts) =
+    plain_on e x _ (puts_plain _ e [] zs false x puts) (record { configuration = refl; role = refl; moment = refl; terms = refl; turn = Stays x.phase })

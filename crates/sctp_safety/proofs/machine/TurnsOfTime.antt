@@ -1,0 +1,109 @@
+-- Time and the user turn an end plainly too.
+use Rattle.std.proofs.Common.{◌≡◌, ℕ, not, ◌||◌, ◌==◌, Bool, true, false, List, [], ◌∷◌, Option, Some, None, refl, sym, subst}
+use Rattle.sctp_model.specs.Calls.{Call}
+use Rattle.sctp_model.specs.ReceiverView.{Handed}
+use Rattle.sctp_model.specs.SenderView.{SenderView}
+use Rattle.sctp_model.specs.end.EndView.{Established, ShutdownPending, ShutdownSent, ShutdownReceived, ShutdownAckSent, AbortedHere, TimedOut, Phase, Idle, Listening, Calling, Echoing, Open, Over, Alarm, InitAlarm, CookieAlarm, DataAlarm, ShutdownAlarm, AckAlarm, EndView, has_association}
+use Rattle.sctp_model.specs.end.Clock.{settled, turned, is_over_at, repeats_of, closed, at_moment, with_timer}
+use Rattle.sctp_model.specs.end.Clock.{expired as expired_timer}
+use Rattle.sctp_model.specs.Packet.{size_of_packet}
+use Rattle.sctp_model.specs.sender.Abandoning.{abandon_after}
+use Rattle.sctp_model.specs.sender.Readers.{point}
+use Rattle.sctp_model.specs.sender.Abandoning.{expired as expired_messages}
+use Rattle.std.specs.Prelude.{if◌then◌else◌, nat_lt, nat_le}
+use Rattle.sctp_model.specs.end.Closing.{rested}
+use Rattle.sctp_model.specs.end.Moments.{after_giving_up, due_again, rung, ring, rung_all, all_alarms, passed, ticked}
+use Rattle.sctp_model.specs.end.UserCalls.{SendAnswer, Ticket, Refused, NotOpen, send_leaves, is_open, abandoned_at, Takes, shut_in, shut, Aborts, TooLong, abort_answer, abort_answer_to, abort_leaves, abort_packet, peer_tag}
+use Rattle.sctp_safety.proofs.machine.Turns.{IsPlain, Stays, plain_same, plain_on, turn_begun, has_begun, begun_by_association, plain_rested, goes_from, left_closed}
+
+-- ---- time
+
+pub plain_given_up : (e : EndView) (v : SenderView) → IsPlain e (after_giving_up e v)
+plain_given_up e v =
+    let mid = settled (record e { sender = v; due = record e.due { forward = e.due.forward || not (point v == point e.sender) } }) in
+    plain_on e mid (after_giving_up e v) (record { configuration = refl; role = refl; moment = refl; terms = refl; turn = Stays e.phase }) (plain_rested mid)
+
+plain_again : (a : Alarm) (e : EndView) → IsPlain e (due_again a e)
+plain_again InitAlarm e = record { configuration = refl; role = refl; moment = refl; terms = refl; turn = Stays e.phase }
+plain_again CookieAlarm e = record { configuration = refl; role = refl; moment = refl; terms = refl; turn = Stays e.phase }
+plain_again DataAlarm e = record { configuration = refl; role = refl; moment = refl; terms = refl; turn = Stays e.phase }
+plain_again ShutdownAlarm e = record { configuration = refl; role = refl; moment = refl; terms = refl; turn = Stays e.phase }
+plain_again AckAlarm e = record { configuration = refl; role = refl; moment = refl; terms = refl; turn = Stays e.phase }
+
+rung_plain : (b : Bool) (a : Alarm) (e : EndView) → has_begun e.phase ≡ true → IsPlain e (rung b a e)
+rung_plain false a e has = plain_same e
+rung_plain true a e has = go (nat_lt (e.timers a).repeats (repeats_of a))
+  where
+    go : (c : Bool) → IsPlain e (if c then due_again a (with_timer a (expired_timer (e.timers a)) e) else closed TimedOut e)
+    go true = plain_on e (with_timer a (expired_timer (e.timers a)) e) (due_again a (with_timer a (expired_timer (e.timers a)) e)) (record { configuration = refl; role = refl; moment = refl; terms = refl; turn = Stays e.phase })
+        (plain_again a (with_timer a (expired_timer (e.timers a)) e))
+    go false = left_closed e TimedOut has
+
+all_plain : (alarms : List Alarm) (e : EndView) → has_begun e.phase ≡ true → IsPlain e (rung_all alarms e)
+all_plain [] e has = plain_same e
+all_plain (a ∷ more) e has =
+    let r = rung_plain (is_over_at e.moment (e.timers a).expiry) a e has in
+    plain_on e (ring a e) (rung_all more (ring a e)) r (all_plain more (ring a e) (turn_begun e.phase (ring a e).phase r.turn has))
+
+pub plain_ticked : (e : EndView) (now : ℕ) → IsPlain (at_moment e now) (ticked e now)
+plain_ticked e now = go (has_association e.phase) refl
+  where
+    go : (b : Bool) → has_association e.phase ≡ b → IsPlain (at_moment e now) (if b then passed (at_moment e now) else at_moment e now)
+    go false is = plain_same (at_moment e now)
+    go true is =
+        let u = after_giving_up (at_moment e now) (expired_messages (at_moment e now).sender (at_moment e now).moment) in
+        let g = plain_given_up (at_moment e now) (expired_messages (at_moment e now).sender (at_moment e now).moment) in
+        plain_on (at_moment e now) u (rung_all all_alarms u) g (all_plain all_alarms u (turn_begun e.phase u.phase g.turn (begun_by_association e.phase is)))
+
+-- ---- the user
+
+pub plain_sent : (e : EndView) (c : Call) (a : SendAnswer) → IsPlain e (send_leaves a e c)
+plain_sent e c (Ticket t) = record { configuration = refl; role = refl; moment = refl; terms = refl; turn = Stays e.phase }
+plain_sent e c (Refused r) = plain_same e
+plain_sent e c NotOpen = plain_same e
+
+pub plain_abandoned : (e : EndView) (k : ℕ) → IsPlain e (abandoned_at e k)
+plain_abandoned e k = go (is_open e.phase)
+  where
+    go : (b : Bool) → IsPlain e (if b then after_giving_up e (abandon_after e.sender k) else record e { sender = abandon_after e.sender k })
+    go true = plain_given_up e (abandon_after e.sender k)
+    go false = record { configuration = refl; role = refl; moment = refl; terms = refl; turn = Stays e.phase }
+
+pub plain_taken : (e : EndView) (n : ℕ) (h : Option Handed) (t : EndView) → Takes e n h t → IsPlain e t
+plain_taken e n h t k = subst (IsPlain e) (sym k.leaves) (record { configuration = refl; role = refl; moment = refl; terms = refl; turn = Stays e.phase })
+
+pub plain_shut : (e : EndView) → IsPlain e (shut e)
+plain_shut e = go e.phase refl
+  where
+    go : (h : Phase) → e.phase ≡ h → IsPlain e (shut_in h e)
+    go (Open t Established) is =
+        let mid = turned (Open t ShutdownPending) e in
+        plain_on e mid (rested mid) (record { configuration = refl; role = refl; moment = refl; terms = refl; turn = goes_from e t Established ShutdownPending is }) (plain_rested mid)
+    go (Open t ShutdownPending) is = plain_same e
+    go (Open t ShutdownSent) is = plain_same e
+    go (Open t ShutdownReceived) is = plain_same e
+    go (Open t ShutdownAckSent) is = plain_same e
+    go Idle is = plain_same e
+    go Listening is = plain_same e
+    go (Calling d) is = plain_same e
+    go (Echoing t xs) is = plain_same e
+    go (Over why) is = plain_same e
+
+pub plain_aborted : (e : EndView) (r : List ℕ) → IsPlain e (abort_leaves (abort_answer e r) e)
+plain_aborted e r = go (peer_tag e.phase) refl
+  where
+    knows : (h : Phase) (n : ℕ) → peer_tag h ≡ Some n → has_begun h ≡ true
+    knows Idle n q = absurd (cc)
+    knows Listening n q = absurd (cc)
+    knows (Calling d) n q = refl
+    knows (Echoing t xs) n q = refl
+    knows (Open t g) n q = refl
+    knows (Over why) n q = refl
+
+    by : (n : ℕ) → peer_tag e.phase ≡ Some n → (b : Bool) → IsPlain e (abort_leaves (if b then Aborts (abort_packet e n r) else TooLong) e)
+    by n is true = left_closed e AbortedHere (knows e.phase n is)
+    by n is false = plain_same e
+
+    go : (o : Option ℕ) → peer_tag e.phase ≡ o → IsPlain e (abort_leaves (abort_answer_to e r o) e)
+    go None is = plain_same e
+    go (Some n) is = by n is (nat_le (size_of_packet (abort_packet e n r).chunks) e.configuration.limit)

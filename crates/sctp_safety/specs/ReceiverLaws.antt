@@ -1,0 +1,90 @@
+-- Each call of a receiver is a list of moves of its direction: a data chunk by each answer, a FORWARD by each answer, the SACK, and taking a message.
+use Rattle.std.specs.Prelude.{◌≡◌, ℕ, ◌+◌, ◌^◌, ◌<◌, ◌≤◌, List, ◌∷◌, length, map, Option, Some}
+use Rattle.sctp_model.specs.Lists.{Has}
+use Rattle.sctp_model.specs.Serial.{tsn}
+use Rattle.sctp_model.specs.Chunk.{PieceMeaning, SackMeaning, ForwardMeaning}
+use Rattle.sctp_model.specs.Format.{Format, Lane}
+use Rattle.sctp_model.specs.Plan.{Message, Entry, Part, Plan, entry_at, IsOf}
+use Rattle.sctp_model.specs.Pieces.{Piece, piece_of}
+use Rattle.sctp_model.specs.Forward.{Skip, Forward}
+use Rattle.sctp_model.specs.SenderView.{SenderView}
+use Rattle.sctp_model.specs.ReceiverView.{Handed, ReceiverView}
+use Rattle.sctp_model.specs.Acknowledgement.{Acknowledgement}
+use Rattle.sctp_model.specs.sender.SentChunks.{piece_said, skip_said}
+use Rattle.sctp_model.specs.receiver.Reading.{WINDOW}
+use Rattle.sctp_model.specs.receiver.PieceTaken.{Answer, PieceTaken}
+use Rattle.sctp_model.specs.receiver.ForwardTaken.{ForwardAnswer, ForwardTaken}
+use Rattle.sctp_model.specs.receiver.SackMade.{IsSack, TakeLeaves}
+use Rattle.sctp_model.specs.receiver.Laws.{IsIdle}
+use Rattle.sctp_safety.specs.Way.{Way, with_receiver}
+use Rattle.sctp_safety.specs.Exact.{Leads}
+use Rattle.sctp_safety.specs.SenderLaws.{IsUsual, IsSackOf}
+
+-- ---- what the ends of a direction agree on, and how far apart counts are
+
+pub record IsJoined (w : Way) : Type 0 where
+  pub initial : w.receiver.initial ≡ w.sender.initial
+  pub streams : w.receiver.streams ≡ w.streams
+
+-- The window of indexes past CUM, and less than half the space of TSNs in all: what the refusals of a sender give.
+pub record IsCounted (v : SenderView) : Type 0 where
+  pub window : length v.plan.entries ≤ v.cum + WINDOW
+  pub total : length v.plan.entries < 2 ^ 31
+
+-- ---- what a call leaves: moves lead there, nothing is due, and the constants are as they were
+
+pub record IsReceived (w : Way) (t : ReceiverView) : Type 0 where
+  pub leads : Leads w (with_receiver w t)
+  pub idle : IsIdle w.format t
+  pub initial : t.initial ≡ w.receiver.initial
+  pub streams : t.streams ≡ w.receiver.streams
+  pub buffer : t.buffer ≡ w.receiver.buffer
+
+-- ---- chunks of the bag, as they are on the wire
+
+-- a data chunk that says a piece of the bag
+pub record IsPieceSaid (f : Format) (initial : ℕ) (ps : List Piece) (p : PieceMeaning) : Type 0 where
+  pub index : ℕ
+  pub lane : Lane
+  pub number : ℕ
+  pub fragment : ℕ
+  pub message : Message
+  pub put : Has ps (piece_of f index lane number fragment message)
+  pub same : p ≡ piece_said f initial index (Part lane number fragment) (Some message)
+
+-- of each lane that a FORWARD lists, the number is the largest one that has an entry up to its point
+abbrev pub IsTopped : Plan → Forward → Type 0
+IsTopped p x = (y : Skip) (i n : ℕ) (e : Entry) → Has x.skips y → i ≤ x.point → entry_at p i ≡ Some e → IsOf y.lane n e → n ≤ y.number
+
+-- a FORWARD chunk that says a FORWARD of the bag
+pub record IsForwardSaid (f : Format) (initial : ℕ) (p : Plan) (fs : List Forward) (m : ForwardMeaning) : Type 0 where
+  pub forward : Forward
+  pub put : Has fs forward
+  pub cumulative : m.cumulative ≡ tsn initial forward.point
+  pub skips : m.skips ≡ map (skip_said f) forward.skips
+  pub topped : IsTopped p forward
+
+-- ---- the laws
+
+-- A data chunk that comes, whatever is answered.
+abbrev pub PieceTakenIsMoves : Type 0
+PieceTakenIsMoves = (w : Way) (p : PieceMeaning) (a : Answer) (t : ReceiverView) → IsUsual w → IsJoined w → IsCounted w.sender → IsIdle w.format w.receiver →
+    IsPieceSaid w.format w.sender.initial w.pieces p → PieceTaken w.format w.receiver p a t → IsReceived w t
+
+-- A FORWARD that comes, whatever is answered.
+abbrev pub ForwardTakenIsMoves : Type 0
+ForwardTakenIsMoves = (w : Way) (m : ForwardMeaning) (a : ForwardAnswer) (t : ReceiverView) → IsUsual w → IsJoined w → IsCounted w.sender → IsIdle w.format w.receiver →
+    IsForwardSaid w.format w.sender.initial w.sender.plan w.forwards m → ForwardTaken w.format w.receiver m a t → IsReceived w t
+
+-- The SACK of a receiver says one that may be put between the ends.
+pub record IsSackPut (w : Way) (s : SackMeaning) : Type 0 where
+  pub sack : Acknowledgement
+  pub of : IsSackOf w.receiver.initial sack s
+  pub leads : Leads w (record w { sacks = sack ∷ w.sacks })
+
+abbrev pub SackMadeIsMoves : Type 0
+SackMadeIsMoves = (w : Way) (s : SackMeaning) → IsSack w.receiver s → IsSackPut w s
+
+-- The user takes the first message that waits, or finds none.
+abbrev pub TakeIsMoves : Type 0
+TakeIsMoves = (w : Way) (s : ℕ) (h : Option Handed) (t : ReceiverView) → IsIdle w.format w.receiver → TakeLeaves w.receiver s h t → IsReceived w t

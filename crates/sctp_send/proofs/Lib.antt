@@ -1,0 +1,6 @@
+pub mod TableLemmas
+pub mod ItemLemmas
+pub mod SackLemmas
+pub mod KeepLemmas
+pub mod QueueLemmas
+pub mod ReaderLemmas

@@ -1,0 +1,255 @@
+-- Fragments counted, what is owed summed up, and a message more in the queue.
+use Rattle.std.proofs.Common.{◌≡◌, ℕ, zero, suc, ◌+◌, ◌-◌, ◌*◌, ◌/◌, ◌%◌, ◌^◌, ◌<◌, ◌≤◌, List, [], ◌∷◌, ◌++◌, length, map, take, drop, Bool, true, false, Option, Some, None, refl, sym, ap, ◌∙◌, arith, length-drop, get_or}
+use Rattle.std.specs.Prelude.{nat_lt, nat_le, min, if◌then◌else◌, ◌==◌, ◌||◌}
+use Rattle.std.specs.Int.{div_ceil}
+use Rattle.std.proofs.Math.Nat.{div-eq-sub-div, div-eq_of_lt, mod-eq_of_lt}
+use Rattle.std.proofs.lemmas.List.{length-map, drop-map}
+use Rattle.std.proofs.Math.Seq.{drop-cons}
+use Rattle.std.proofs.lemmas.Bool.Decides.{nat_tests}
+use Rattle.sctp_model.specs.Format.{Format, Lane}
+use Rattle.sctp_model.specs.Plan.{Message, Entry, Part, End, Plan, message_at}
+use Rattle.sctp_model.specs.SenderView.{Queued, SenderView}
+use Rattle.sctp_model.specs.sender.Entries.{continued, fragments_from, one_if_some, sum_below, in_part, fragments_in}
+use Rattle.sctp_model.specs.sender.Queueing.{cut, cut_at_most, owed_for, owed_by_queue, owed_by_parts, promised, refusal, queued, Spent, LONGEST, QUEUE_LIMIT, TICKETS, TSNS}
+use Rattle.sctp_model.specs.sender.Abandoning.{waits, name_of}
+use Rattle.sctp_model.specs.sender.Reached.{IsReached, Queues}
+use Rattle.sctp_model.proofs.sender.PlanLaws.{IsFollower, continued_is, AllNamed}
+use Rattle.sctp_model.proofs.sender.CountLaws.{is_named, HasMessages}
+use Rattle.sctp_model.proofs.sender.OwedLaws.{is_promised}
+use Rattle.sctp_model.proofs.sender.TicketLaws.{waits_push}
+use Rattle.sctp_send.specs.SenderKept.{Item, Rest, Track, Kept}
+use Rattle.sctp_send.specs.SenderStands.{items_from, table, total, one_if_rest, rest_owes, rest_here, track_here, fate_here, fate_named, Holds, Keeps}
+use Rattle.sctp_send.specs.declared.message.Fate.{Fate}
+use Rattle.sctp_send.specs.declared.message.Fate.TheVariants.{Waiting}
+use Rattle.sctp_send.proofs.TableLemmas.{table-push, table-same, length-table}
+use Rattle.sctp_send.proofs.KeepLemmas.{kept_length}
+
+-- ---- fragments
+
+ceil_one : (n size : ℕ) → 0 < n → n ≤ size → div_ceil n size ≡ 1
+ceil_one n size some le = by_test (nat_lt n size) refl
+  where
+    by_test : (b : Bool) → nat_lt n size ≡ b → n / size + min 1 (n % size) ≡ 1
+    by_test true is =
+        let lt : n < size = grind (arith, nat_tests) in
+        let zeroed : n / size ≡ 0 = div-eq_of_lt lt in
+        let all : n % size ≡ n = mod-eq_of_lt lt in
+        rw (zeroed, all) (omega arith)
+    by_test false is =
+        let same : n ≡ size = let h : size ≤ n = grind (arith, nat_tests) in omega arith in
+        let p : 0 < size = omega arith in
+        let one : n / size ≡ (n - size) / size + 1 = div-eq-sub-div p (omega arith) in
+        let none : n - size ≡ 0 = omega arith in
+        let zeroed : (n - size) / size ≡ 0 = rw none (div-eq_of_lt p) in
+        let quotient : n / size ≡ 1 = omega (arith, one, zeroed) in
+        let left : n % size ≡ 0 = let h : size * (n / size) + n % size ≡ n = omega arith in let k : size * 1 + n % size ≡ n = rw quotient at h in omega arith in
+        rw (quotient, left) (omega arith)
+
+ceil_more : (n size : ℕ) → 0 < size → size < n → div_ceil n size ≡ suc (div_ceil (n - size) size)
+ceil_more n size p lt =
+    let one : n / size ≡ (n - size) / size + 1 = div-eq-sub-div p (omega arith) in
+    let left : n % size ≡ (n - size) % size =
+    let h : size * (n / size) + n % size ≡ n = omega arith in
+    let k : size * ((n - size) / size) + (n - size) % size ≡ n - size = omega arith in
+    let h2 : size * ((n - size) / size + 1) + n % size ≡ n = rw one at h in
+    omega arith in
+    rw (one, left) (omega arith)
+
+cut_count : (most size : ℕ) (bytes : List ℕ) → 0 < size → 0 < length bytes → length bytes ≤ most → length (cut_at_most most size bytes) ≡ div_ceil (length bytes) size
+cut_count zero size bytes p some le = absurd (omega arith)
+cut_count (suc most) size bytes p some le = by_test (nat_le (length bytes) size) refl (λ lt. cut_count most size (drop size bytes) p (let n = length-drop size bytes in omega arith) (let n = length-drop size bytes in omega arith))
+  where
+    by_test : (b : Bool) → nat_le (length bytes) size ≡ b → (size < length bytes → length (cut_at_most most size (drop size bytes)) ≡ div_ceil (length (drop size bytes)) size)
+        → length (if b then bytes ∷ [] else take size bytes ∷ cut_at_most most size (drop size bytes)) ≡ div_ceil (length bytes) size
+    by_test true is further = sym (ceil_one (length bytes) size some (grind (arith, nat_tests)))
+    by_test false is further =
+        let lt : size < length bytes = grind (arith, nat_tests) in
+        let rest = further lt in
+        let long = length-drop size bytes in
+        ap suc (rest ∙ rw long refl) ∙ sym (ceil_more (length bytes) size p lt)
+
+pub count_is : (size : ℕ) (bytes : List ℕ) → 0 < size → div_ceil (length bytes) size ≡ length (cut size bytes)
+count_is size bytes p = by_length (length bytes) refl
+  where
+    by_length : (n : ℕ) → length bytes ≡ n → div_ceil n size ≡ length (cut_at_most n size bytes)
+    by_length zero none = let zeroed : 0 / size ≡ 0 = div-eq_of_lt p in let left : 0 % size ≡ 0 = mod-eq_of_lt p in rw (zeroed, left) refl
+    by_length (suc n) long = sym (cut_count (suc n) size bytes p (omega arith) (omega arith) ∙ ap (λ (x : ℕ). div_ceil x size) long)
+
+-- ---- sums
+
+pub sum_queue : (qs : List Queued) (at : ℕ) (d : Queued) → at < length qs → owed_by_queue (drop at qs) ≡ owed_for (length (get_or qs at d).message.fragments) + owed_by_queue (drop (suc at) qs)
+sum_queue [] at d lt = absurd (omega arith)
+sum_queue (q ∷ qs) zero d lt = refl
+sum_queue (q ∷ qs) (suc at) d lt = sum_queue qs at d (omega arith)
+
+pub total_drop : (f : Track → ℕ) (ts : List Track) (at : ℕ) (d : Track) → at < length ts → total f (drop at ts) ≡ f (get_or ts at d) + total f (drop (suc at) ts)
+total_drop f [] at d lt = absurd (omega arith)
+total_drop f (t ∷ ts) zero d lt = refl
+total_drop f (t ∷ ts) (suc at) d lt = total_drop f ts at d (omega arith)
+
+total_push : (f : Track → ℕ) (ts : List Track) (t : Track) → total f (ts ++ t ∷ []) ≡ total f ts + f t
+total_push f [] t = omega arith
+total_push f (x ∷ ts) t = let rest = total_push f ts t in omega arith
+
+-- a sum over a table of streams
+total_table : (f : Track → ℕ) (g : ℕ → Track) (h : ℕ → ℕ) (n : ℕ) → ((s : ℕ) → f (g s) ≡ h s) → total f (table g 0 n) ≡ sum_below h n
+total_table f g h zero same = refl
+total_table f g h (suc n) same =
+    let push = ap (total f) (table-push g 0 n) in
+    let last = total_push f (table g 0 n) (g (0 + n)) in
+    let zeroed : f (g (0 + n)) ≡ h n = let z : 0 + n ≡ n = omega arith in rw z (same n) in
+    let rest = total_table f g h n same in
+    omega arith
+
+pub kept_in_part : (f : Format) (s : Kept) (v : SenderView) → Keeps f s v → total (λ t. one_if_rest t.rest) s.tracks ≡ in_part v
+kept_in_part f s v k = ap (total (λ t. one_if_rest t.rest)) k.holds.tracks ∙ total_table (λ t. one_if_rest t.rest) (track_here v) (λ s. one_if_some (continued v.plan s)) v.streams (λ s. same (continued v.plan s))
+  where
+    same : (o : Option Entry) → one_if_rest (rest_here v.plan o) ≡ one_if_some o
+    same None = refl
+    same (Some e) = refl
+
+kept_owed : (f : Format) (s : Kept) (v : SenderView) → Keeps f s v → total (λ t. rest_owes t.rest) s.tracks ≡ owed_by_parts v
+kept_owed f s v k = ap (total (λ t. rest_owes t.rest)) k.holds.tracks ∙ total_table (λ t. rest_owes t.rest) (track_here v) (λ s. owed_for (fragments_from v.plan (continued v.plan s))) v.streams (λ s. same s (continued v.plan s) refl)
+  where
+    same : (s : ℕ) (o : Option Entry) → continued v.plan s ≡ o → rest_owes (rest_here v.plan o) ≡ owed_for (fragments_from v.plan o)
+    same s None is = refl
+    same s (Some (Part l n x)) is = refl
+    same s (Some (End l n)) is = let next = continued_is v.streams v.plan s (End l n) (is_named f v k.reached) is in absurd (let no_end = next.is in cc)
+
+pub promised_is : (f : Format) (s : Kept) (v : SenderView) → Keeps f s v
+    → (((s.cum + length s.items) % 2 ^ 64 + owed_by_queue s.queue % 2 ^ 64) % 2 ^ 64 + total (λ t. rest_owes t.rest) s.tracks % 2 ^ 64) % 2 ^ 64 ≡ promised v
+promised_is f s v k =
+    let long = kept_length f s v k in
+    let cum = k.holds.cum in
+    let queue = ap owed_by_queue k.holds.queue in
+    let parts = kept_owed f s v k in
+    let most = is_promised f v k.reached in
+    omega (arith, long, cum, queue, parts, most)
+
+-- ---- a message more
+
+pub keeps_queued : (f : Format) (s : Kept) (v : SenderView) (lane : Lane) (payload ticket : ℕ) (bytes : List ℕ) (until : Option ℕ) → Keeps f s v → refusal v lane.stream bytes ≡ None → ticket ≡ suc v.tickets
+    → Keeps f (record s { queue = s.queue ++ record { lane = lane; message = record { ticket = ticket; payload = payload; fragments = cut s.fragment bytes; until = until } } ∷ []; fates = s.fates ++ Waiting ∷ [] })
+    (queued v lane payload bytes until)
+keeps_queued f s v lane payload ticket bytes until k free given =
+    let u = queued v lane payload bytes until in
+    let q : Queued = record { lane = lane; message = record { ticket = suc v.tickets; payload = payload; fragments = cut v.fragment bytes; until = until } } in
+    let last : fate_here u (1 + v.tickets) ≡ Waiting =
+    let one : 1 + v.tickets ≡ suc v.tickets = omega arith in
+    let here : (suc v.tickets == suc v.tickets) ≡ true = grind (arith, nat_tests) in
+    let waiting : waits (suc v.tickets) (v.queue ++ q ∷ []) ≡ true = waits_push (suc v.tickets) v.queue q ∙ rw here (or_true (waits (suc v.tickets) v.queue)) in
+    rw one (ap (λ (b : Bool). if b then Waiting else fate_named u (name_of u (suc v.tickets))) waiting) in
+    let same : (t : ℕ) → 1 ≤ t → t < 1 + v.tickets → fate_here u t ≡ fate_here v t = λ t lo hi.
+    let off : (suc v.tickets == t) ≡ false = grind (arith, nat_tests) in
+    let waiting : waits t (v.queue ++ q ∷ []) ≡ waits t v.queue = waits_push t v.queue q ∙ rw off (or_false (waits t v.queue)) in
+    ap (λ (b : Bool). if b then Waiting else fate_named u (name_of u t)) waiting in
+    let fates : s.fates ++ Waiting ∷ [] ≡ table (fate_here u) 1 (suc v.tickets) = rw (table-push (fate_here u) 1 v.tickets, last, table-same (fate_here u) (fate_here v) 1 v.tickets same, k.holds.fates) refl in
+    record {
+      holds = record {
+        initial = k.holds.initial;
+        streams = k.holds.streams;
+        fragment = k.holds.fragment;
+        partial = k.holds.partial;
+        cum = k.holds.cum;
+        rwnd = k.holds.rwnd;
+        turn = k.holds.turn;
+        items = k.holds.items;
+        queue = rw (k.holds.queue, k.holds.fragment, given) refl;
+        tracks = k.holds.tracks;
+        fates = fates;
+        room = k.holds.room;
+      };
+      reached = Queues v lane payload bytes until k.reached free;
+    }
+  where
+    or_true : (b : Bool) → (b || true) ≡ true
+    or_true true = refl
+    or_true false = refl
+
+    or_false : (b : Bool) → (b || false) ≡ b
+    or_false true = refl
+    or_false false = refl
+
+-- ---- the refusals
+
+cut_short : (most size : ℕ) (bytes : List ℕ) → length (cut_at_most most size bytes) ≤ most
+cut_short zero size bytes = omega arith
+cut_short (suc most) size bytes = by_test (nat_le (length bytes) size) (cut_short most size (drop size bytes))
+  where
+    by_test : (b : Bool) → length (cut_at_most most size (drop size bytes)) ≤ most → length (if b then bytes ∷ [] else take size bytes ∷ cut_at_most most size (drop size bytes)) ≤ suc most
+    by_test true rest = omega arith
+    by_test false rest = omega arith
+
+owed_small : (n : ℕ) → n ≤ 65536 → owed_for n ≤ 65537
+owed_small zero le = omega arith
+owed_small (suc n) le = omega arith
+
+-- the first four reasons don't hold
+pub record IsFit (s : Kept) (n : ℕ) (bytes : List ℕ) : Type 0 where
+  pub stream : n < s.streams
+  pub some : 0 < length bytes
+  pub short : length bytes ≤ 65536
+  pub waits : length s.queue < 1024
+
+pub spent_ticket : (f : Format) (s : Kept) (v : SenderView) (stream : ℕ) (bytes : List ℕ) → Keeps f s v → IsFit s stream bytes → 2 ^ 32 - 1 ≤ length s.fates → refusal v stream bytes ≡ Some Spent
+spent_ticket f s v stream bytes k fit over =
+    let streams = k.holds.streams in
+    let queue = ap (λ (qs : List Queued). length qs) k.holds.queue in
+    let fates = ap (λ (xs : List Fate). length xs) k.holds.fates ∙ length-table (fate_here v) 1 v.tickets in
+    let one = fit.stream in
+    let two = fit.some in
+    let three = fit.short in
+    let four = fit.waits in
+    let a : nat_le v.streams stream ≡ false = grind (arith, nat_tests) in
+    let b : (length bytes == 0) ≡ false = grind (arith, nat_tests) in
+    let c : nat_lt LONGEST (length bytes) ≡ false = grind (arith, nat_tests) in
+    let d : nat_le QUEUE_LIMIT (length v.queue) ≡ false = grind (arith, nat_tests) in
+    let e : nat_le TICKETS v.tickets ≡ true = grind (arith, nat_tests) in
+    rw (a, b, c, d, e) refl
+
+-- what the sum of what is promised and owed says
+sum_fits : (f : Format) (s : Kept) (v : SenderView) (bytes : List ℕ) (p o : ℕ) → Keeps f s v → length bytes ≤ 65536 → p ≡ promised v → o ≡ owed_for (length (cut s.fragment bytes)) % 2 ^ 64
+    → (p + o) % 2 ^ 64 ≡ promised v + owed_for (length (cut v.fragment bytes))
+sum_fits f s v bytes p o k short promise owed =
+    let most = is_promised f v k.reached in
+    let size = ap (λ (x : ℕ). owed_for (length (cut x bytes))) k.holds.fragment in
+    let little = owed_small (length (cut s.fragment bytes)) (let c = cut_short (length bytes) s.fragment bytes in omega arith) in
+    omega (arith, most, size, little, promise, owed)
+
+pub spent_owed : (f : Format) (s : Kept) (v : SenderView) (stream : ℕ) (bytes : List ℕ) (p o : ℕ) → Keeps f s v → IsFit s stream bytes → length s.fates < 2 ^ 32 - 1 → p ≡ promised v → o ≡ owed_for (length (cut s.fragment bytes)) % 2 ^ 64
+    → 2 ^ 31 - 1 < (p + o) % 2 ^ 64 → refusal v stream bytes ≡ Some Spent
+spent_owed f s v stream bytes p o k fit under promise owed over =
+    let streams = k.holds.streams in
+    let queue = ap (λ (qs : List Queued). length qs) k.holds.queue in
+    let fates = ap (λ (xs : List Fate). length xs) k.holds.fates ∙ length-table (fate_here v) 1 v.tickets in
+    let one = fit.stream in
+    let two = fit.some in
+    let three = fit.short in
+    let four = fit.waits in
+    let sum = sum_fits f s v bytes p o k fit.short promise owed in
+    let a : nat_le v.streams stream ≡ false = grind (arith, nat_tests) in
+    let b : (length bytes == 0) ≡ false = grind (arith, nat_tests) in
+    let c : nat_lt LONGEST (length bytes) ≡ false = grind (arith, nat_tests) in
+    let d : nat_le QUEUE_LIMIT (length v.queue) ≡ false = grind (arith, nat_tests) in
+    let e : nat_le TICKETS v.tickets ≡ false = grind (arith, nat_tests) in
+    let g : nat_lt TSNS (promised v + owed_for (length (cut v.fragment bytes))) ≡ true = grind (arith, nat_tests) in
+    rw (a, b, c, d, e, g) refl
+
+pub none_refuses : (f : Format) (s : Kept) (v : SenderView) (stream : ℕ) (bytes : List ℕ) (p o : ℕ) → Keeps f s v → IsFit s stream bytes → length s.fates < 2 ^ 32 - 1 → p ≡ promised v → o ≡ owed_for (length (cut s.fragment bytes)) % 2 ^ 64
+    → (p + o) % 2 ^ 64 ≤ 2 ^ 31 - 1 → refusal v stream bytes ≡ None
+none_refuses f s v stream bytes p o k fit under promise owed within =
+    let streams = k.holds.streams in
+    let queue = ap (λ (qs : List Queued). length qs) k.holds.queue in
+    let fates = ap (λ (xs : List Fate). length xs) k.holds.fates ∙ length-table (fate_here v) 1 v.tickets in
+    let one = fit.stream in
+    let two = fit.some in
+    let three = fit.short in
+    let four = fit.waits in
+    let sum = sum_fits f s v bytes p o k fit.short promise owed in
+    let a : nat_le v.streams stream ≡ false = grind (arith, nat_tests) in
+    let b : (length bytes == 0) ≡ false = grind (arith, nat_tests) in
+    let c : nat_lt LONGEST (length bytes) ≡ false = grind (arith, nat_tests) in
+    let d : nat_le QUEUE_LIMIT (length v.queue) ≡ false = grind (arith, nat_tests) in
+    let e : nat_le TICKETS v.tickets ≡ false = grind (arith, nat_tests) in
+    let g : nat_lt TSNS (promised v + owed_for (length (cut v.fragment bytes))) ≡ false = grind (arith, nat_tests) in
+    rw (a, b, c, d, e, g) refl

@@ -1,0 +1,294 @@
+-- What a sender tells of itself, from what it keeps.
+use Rattle.std.proofs.Common.{◌≡◌, ℕ, zero, suc, ◌+◌, ◌-◌, ◌%◌, ◌^◌, ◌<◌, ◌≤◌, List, [], ◌∷◌, length, map, drop, Bool, true, false, Option, Some, None, refl, sym, ap, ◌∙◌, ◌⊎◌, inl, inr, arith, length-drop, get_or}
+use Rattle.std.specs.Prelude.{nat_lt, nat_le, not, ◌&&◌, ◌||◌, ◌==◌, if◌then◌else◌}
+use Rattle.std.proofs.lemmas.Bool.Decides.{nat_tests}
+use Rattle.sctp_model.specs.Format.{Format}
+use Rattle.sctp_model.specs.Plan.{Entry}
+use Rattle.sctp_model.specs.SenderView.{Queued, SenderView}
+use Rattle.sctp_model.specs.sender.Entries.{any_from, some_entry, is_unsettled, is_given_up, in_part}
+use Rattle.sctp_model.specs.sender.Readers.{given_up_run, point, unsettled, drained, outstanding, abandoned, abandoned_named}
+use Rattle.sctp_model.specs.sender.Abandoning.{Name, waits, name_of, is_abandoned}
+use Rattle.sctp_model.proofs.sender.Bounds.{is_bounded}
+use Rattle.sctp_model.proofs.sender.OwedLaws.{is_promised, is_windowed}
+use Rattle.sctp_model.proofs.sender.TicketLaws.{IsTicketed, is_ticketed, name_of_none, found_owns}
+use Rattle.sctp_send.specs.SenderKept.{Item, Track, Kept}
+use Rattle.sctp_send.specs.SenderStands.{items_from, given_up_items, is_item_unsettled, any_unsettled, total, one_if_rest, is_given_up_fate, table, fate_here, fate_named, Holds, Keeps}
+use Rattle.sctp_send.specs.declared.message.Fate.{Fate}
+use Rattle.sctp_send.specs.declared.message.Fate.TheVariants.{Waiting, Numbered, Withdrawn, GivenUp}
+use Rattle.sctp_send.proofs.KeepLemmas.{kept_length, length-items_from}
+use Rattle.sctp_send.proofs.QueueLemmas.{kept_in_part, total_drop, sum_queue}
+use Rattle.sctp_send.proofs.ItemLemmas.{item_read}
+use Rattle.std.proofs.lemmas.List.{length-map}
+use Rattle.std.specs.declared.rc.Rc.{Rc}
+use Rattle.std.specs.declared.alloc.Global.{Global}
+use Rattle.sctp_model.specs.sender.Queueing.{cut, owed_for, owed_by_queue}
+use Rattle.sctp_send.specs.OutstandingFields.{item_said}
+use Rattle.sctp_send.specs.SenderFields.{track_said, queued_by}
+use Rattle.sctp_send.specs.declared.message.Message.{Message as MessageFields}
+use Rattle.sctp_send.specs.declared.outstanding.Outstanding.{Outstanding}
+use Rattle.sctp_send.specs.declared.sender.Track.{Track as TrackFields}
+use Rattle.sctp_send.proofs.TableLemmas.{get_or-table, length-table}
+
+-- ---- walks
+
+pub run_step : (xs : List Item) (at : ℕ) (d : Item) → at < length xs → given_up_items (drop at xs) ≡ (if (get_or xs at d).given_up then suc (given_up_items (drop (suc at) xs)) else 0)
+run_step [] at d lt = absurd (omega arith)
+run_step (x ∷ xs) zero d lt = refl
+run_step (x ∷ xs) (suc at) d lt = run_step xs at d (omega arith)
+
+pub any_step : (xs : List Item) (at : ℕ) (d : Item) → at < length xs → any_unsettled (drop at xs) ≡ (is_item_unsettled (get_or xs at d) || any_unsettled (drop (suc at) xs))
+any_step [] at d lt = absurd (omega arith)
+any_step (x ∷ xs) zero d lt = refl
+any_step (x ∷ xs) (suc at) d lt = any_step xs at d (omega arith)
+
+run_items : (v : SenderView) (i : ℕ) (es : List Entry) → given_up_items (items_from v i es) ≡ given_up_run v es
+run_items v i [] = refl
+run_items v i (e ∷ es) = rw (run_items v (suc i) es) refl
+
+run_within : (xs : List Item) → given_up_items xs ≤ length xs
+run_within [] = omega arith
+run_within (x ∷ xs) = by_test x.given_up (run_within xs)
+  where
+    by_test : (b : Bool) → given_up_items xs ≤ length xs → (if b then suc (given_up_items xs) else 0) ≤ suc (length xs)
+    by_test true rest = omega arith
+    by_test false rest = omega arith
+
+-- the point
+pub point_is : (f : Format) (s : Kept) (v : SenderView) → Keeps f s v → (s.cum + given_up_items s.items % 2 ^ 32) % 2 ^ 32 ≡ point v
+point_is f s v k =
+    let run = ap given_up_items k.holds.items ∙ run_items v (suc v.cum) (drop v.cum v.plan.entries) in
+    let within = run_within s.items in
+    let long = kept_length f s v k in
+    let most = is_promised f v k.reached in
+    let cum = k.holds.cum in
+    omega (arith, run, within, long, most, cum)
+
+run_small : (f : Format) (s : Kept) (v : SenderView) → Keeps f s v → given_up_items s.items < 2 ^ 31
+run_small f s v k =
+    let within = run_within s.items in
+    let long = kept_length f s v k in
+    let most = is_promised f v k.reached in
+    omega (arith, within, long, most)
+
+any_items : (v : SenderView) (i : ℕ) (es : List Entry) → any_from (is_unsettled v) i es ≡ any_unsettled (items_from v i es)
+any_items v i [] = refl
+any_items v i (e ∷ es) = rw (any_items v (suc i) es) refl
+
+any_above : (v : SenderView) (i n : ℕ) (es : List Entry) → ((j : ℕ) → i ≤ j → j < i + n → v.covered j ≡ true) → n ≤ length es → any_from (is_unsettled v) i es ≡ any_from (is_unsettled v) (i + n) (drop n es)
+any_above v i zero es on le = let same : i + 0 ≡ i = omega arith in rw same refl
+any_above v i (suc n) [] on le = absurd (omega arith)
+any_above v i (suc n) (e ∷ es) on le =
+    let next : suc i + n ≡ i + suc n = omega arith in
+    let rest = any_above v (suc i) n es (λ j lo hi. on j (omega arith) (omega arith)) (omega arith) in
+    rw (on i (omega arith) (omega arith)) (by_sent (v.sent i) ∙ (rw next at rest))
+  where
+    by_sent : (b : Bool) → ((b && false) || any_from (is_unsettled v) (suc i) es) ≡ any_from (is_unsettled v) (suc i) es
+    by_sent true = refl
+    by_sent false = refl
+
+pub unsettled_is : (f : Format) (s : Kept) (v : SenderView) → Keeps f s v → (any_unsettled s.items || nat_lt 0 (given_up_items s.items % 2 ^ 32)) ≡ unsettled v
+unsettled_is f s v k =
+    let b = is_bounded f v k.reached in
+    let one : 1 + v.cum ≡ suc v.cum = omega arith in
+    let above = any_above v 1 v.cum v.plan.entries (λ j lo hi. b.covered j (omega arith) (omega arith)) b.within in
+    let any : any_unsettled s.items ≡ some_entry v (is_unsettled v) = ap any_unsettled k.holds.items ∙ sym (any_items v (suc v.cum) (drop v.cum v.plan.entries)) ∙ sym (rw one at above) in
+    let run : given_up_items s.items ≡ given_up_run v (drop v.cum v.plan.entries) = ap given_up_items k.holds.items ∙ run_items v (suc v.cum) (drop v.cum v.plan.entries) in
+    let small = run_small f s v k in
+    let fits : given_up_items s.items % 2 ^ 32 ≡ given_up_run v (drop v.cum v.plan.entries) = omega arith in
+    rw (any, fits) (ap (λ (c : Bool). some_entry v (is_unsettled v) || c) (past v.cum (given_up_run v (drop v.cum v.plan.entries))))
+  where
+    past : (c n : ℕ) → nat_lt 0 n ≡ not ((c + n) == c)
+    past c n = by_test (nat_lt 0 n) refl
+      where
+        by_test : (x : Bool) → nat_lt 0 n ≡ x → x ≡ not ((c + n) == c)
+        by_test true is = let ne : ((c + n) == c) ≡ false = grind (arith, nat_tests) in rw ne refl
+        by_test false is = let eq : ((c + n) == c) ≡ true = grind (arith, nat_tests) in rw eq refl
+
+-- ---- counts
+
+pub outstanding_is : (f : Format) (s : Kept) (v : SenderView) → Keeps f s v → (length s.items % 2 ^ 32 + total (λ t. one_if_rest t.rest) s.tracks % 2 ^ 32) % 2 ^ 32 ≡ outstanding v
+outstanding_is f s v k =
+    let long = kept_length f s v k in
+    let parts = kept_in_part f s v k in
+    let window = is_windowed f v k.reached in
+    omega (arith, long, parts, window)
+
+pub drained_is : (f : Format) (s : Kept) (v : SenderView) → Keeps f s v → ((length s.queue == 0) && ((total (λ t. one_if_rest t.rest) s.tracks % 2 ^ 32 == 0) && (length s.items == 0))) ≡ drained v
+drained_is f s v k =
+    let long = kept_length f s v k in
+    let parts = kept_in_part f s v k in
+    let window = is_windowed f v k.reached in
+    let fits : total (λ t. one_if_rest t.rest) s.tracks % 2 ^ 32 ≡ in_part v = omega (arith, long, parts, window) in
+    let queue = ap (λ (qs : List Queued). length qs == 0) k.holds.queue in
+    let end : (length s.items == 0) ≡ (v.cum == length v.plan.entries) = both (length s.items) v.cum (length v.plan.entries) long in
+    rw (queue, fits, end) refl
+  where
+    both : (n c e : ℕ) → n + c ≡ e → (n == 0) ≡ (c == e)
+    both n c e is = by_test (n == 0) refl
+      where
+        by_test : (x : Bool) → (n == 0) ≡ x → x ≡ (c == e)
+        by_test true zeroed = let eq : (c == e) ≡ true = grind (arith, nat_tests) in rw eq refl
+        by_test false some = let ne : (c == e) ≡ false = grind (arith, nat_tests) in rw ne refl
+
+-- ---- fates
+
+-- what became of a ticket that was given
+pub fate_at : (f : Format) (s : Kept) (v : SenderView) (t : ℕ) (d : Fate) → Keeps f s v → t < length s.fates → get_or s.fates t d ≡ fate_here v (suc t)
+fate_at f s v t d k lt =
+    let long = ap (λ (xs : List Fate). length xs) k.holds.fates ∙ length-table (fate_here v) 1 v.tickets in
+    ap (λ (xs : List Fate). get_or xs t d) k.holds.fates ∙ get_or-table (fate_here v) 1 v.tickets t d (omega arith) ∙ ap (fate_here v) (let e : 1 + t ≡ suc t = omega arith in e)
+
+pub fates_given : (f : Format) (s : Kept) (v : SenderView) → Keeps f s v → length s.fates ≡ v.tickets
+fates_given f s v k = ap (λ (xs : List Fate). length xs) k.holds.fates ∙ length-table (fate_here v) 1 v.tickets
+
+pub abandoned_fate : (f : Format) (v : SenderView) (t : ℕ) → IsTicketed v → abandoned v t ≡ is_given_up_fate (fate_here v t)
+abandoned_fate f v t h = by_wait (waits t v.queue) refl
+  where
+    by_kept : (n : Name) (b : Bool) → b ≡ is_given_up_fate (if b then GivenUp else Numbered)
+    by_kept n true = refl
+    by_kept n false = refl
+
+    by_name : (o : Option Name) → abandoned_named v o ≡ is_given_up_fate (fate_named v o)
+    by_name None = refl
+    by_name (Some n) = by_kept n (is_abandoned v n)
+
+    by_wait : (b : Bool) → waits t v.queue ≡ b → abandoned v t ≡ is_given_up_fate (if b then Waiting else fate_named v (name_of v t))
+    by_wait true is = ap (abandoned_named v) (h.waiting t is).2
+    by_wait false is = by_name (name_of v t)
+
+pub not_abandoned : (f : Format) (s : Kept) (v : SenderView) (t : ℕ) → Keeps f s v → v.tickets < t → abandoned v t ≡ false
+not_abandoned f s v t k lt = ap (abandoned_named v) (name_of_none v t (is_ticketed f v k.reached) lt)
+
+pub is_abandoned_at : (f : Format) (s : Kept) (v : SenderView) (t : ℕ) (d : Fate) → Keeps f s v → 0 < t → t ≤ length s.fates → is_given_up_fate (get_or s.fates (t - 1) d) ≡ abandoned v t
+is_abandoned_at f s v t d k some le =
+    let here : suc (t - 1) ≡ t = omega arith in
+    ap is_given_up_fate (fate_at f s v (t - 1) d k (omega arith) ∙ ap (fate_here v) here) ∙ sym (abandoned_fate f v t (is_ticketed f v k.reached))
+
+pub no_ticket : (f : Format) (s : Kept) (v : SenderView) (t : ℕ) → Keeps f s v → (t ≡ 0) ⊎ (length s.fates < t) → abandoned v t ≡ false
+no_ticket f s v t k out =
+    let given = fates_given f s v k in
+    elim out [
+      | inr over ↦ not_abandoned f s v t k (omega arith)
+      | inl zeroed ↦ by_name (name_of v t) refl zeroed
+    ]
+  where
+    by_name : (o : Option Name) → name_of v t ≡ o → t ≡ 0 → abandoned_named v o ≡ false
+    by_name None is none = refl
+    by_name (Some n) is none =
+        let h = is_ticketed f v k.reached in
+        let own = found_owns v.plan v.tickets t v.plan.entries v.plan.entries n h.owned is in
+        let low = (own.0 t own.1).0 in
+        absurd (omega arith)
+
+-- ---- walks, entry by entry
+
+pub walked_run : (size : ℕ) (es : List Outstanding) (at run : ℕ) (x : Outstanding) → at < length es → x ≡ get_or es at x → x.given_up ≡ true
+    → given_up_items (map (item_said size) es) % 2 ^ 32 ≡ (run + given_up_items (drop at (map (item_said size) es))) % 2 ^ 32
+    → given_up_items (map (item_said size) es) % 2 ^ 32 ≡ ((run + 1) % 2 ^ 32 + given_up_items (drop (at + 1) (map (item_said size) es))) % 2 ^ 32
+walked_run size es at run x lt read on before =
+    let long = length-map es (item_said size) in
+    let step = run_step (map (item_said size) es) at (item_said size x) (omega arith) in
+    let here : (get_or (map (item_said size) es) at (item_said size x)).given_up ≡ true = rw (item_read size es at x read) on in
+    let one : at + 1 ≡ suc at = omega arith in
+    let more : given_up_items (drop at (map (item_said size) es)) ≡ suc (given_up_items (drop (suc at) (map (item_said size) es))) = step ∙ rw here refl in
+    rw one (omega (arith, before, more))
+
+pub stopped_run : (size : ℕ) (es : List Outstanding) (at run : ℕ) (x : Outstanding) → at < length es → run < 2 ^ 32 → x ≡ get_or es at x → x.given_up ≡ false
+    → given_up_items (map (item_said size) es) % 2 ^ 32 ≡ (run + given_up_items (drop at (map (item_said size) es))) % 2 ^ 32
+    → run ≡ given_up_items (map (item_said size) es) % 2 ^ 32
+stopped_run size es at run x lt small read off before =
+    let long = length-map es (item_said size) in
+    let step = run_step (map (item_said size) es) at (item_said size x) (omega arith) in
+    let here : (get_or (map (item_said size) es) at (item_said size x)).given_up ≡ false = rw (item_read size es at x read) off in
+    let none : given_up_items (drop at (map (item_said size) es)) ≡ 0 = step ∙ rw here refl in
+    omega (arith, before, none)
+
+none_behind : {A : Type 0} (n : ℕ) (xs : List A) → length xs ≤ n → drop n xs ≡ []
+none_behind zero [] le = refl
+none_behind zero (x ∷ xs) le = absurd (omega arith)
+none_behind (suc n) [] le = refl
+none_behind (suc n) (x ∷ xs) le = none_behind n xs (omega arith)
+
+pub ended_run : (size : ℕ) (es : List Outstanding) (at run : ℕ) → length es ≤ at → run < 2 ^ 32
+    → given_up_items (map (item_said size) es) % 2 ^ 32 ≡ (run + given_up_items (drop at (map (item_said size) es))) % 2 ^ 32
+    → run ≡ given_up_items (map (item_said size) es) % 2 ^ 32
+ended_run size es at run le small before =
+    let long = length-map es (item_said size) in
+    let none = ap given_up_items (none_behind at (map (item_said size) es) (omega arith)) in
+    omega (arith, before, none)
+
+pub walked_any : (size : ℕ) (es : List Outstanding) (at : ℕ) (x : Outstanding) (b : Bool) → at < length es → x ≡ get_or es at x → b ≡ is_item_unsettled (item_said size x)
+    → any_unsettled (map (item_said size) es) ≡ any_unsettled (drop at (map (item_said size) es)) → any_unsettled (map (item_said size) es) ≡ (b || any_unsettled (drop (at + 1) (map (item_said size) es)))
+walked_any size es at x b lt read is before =
+    let long = length-map es (item_said size) in
+    let step = any_step (map (item_said size) es) at (item_said size x) (omega arith) in
+    let one : at + 1 ≡ suc at = omega arith in
+    before ∙ step ∙ rw (item_read size es at x read, ← is, one) refl
+
+pub ended_any : (size : ℕ) (es : List Outstanding) (at : ℕ) → length es ≤ at → any_unsettled (map (item_said size) es) ≡ any_unsettled (drop at (map (item_said size) es)) → false ≡ any_unsettled (map (item_said size) es)
+ended_any size es at le before =
+    let long = length-map es (item_said size) in
+    sym (before ∙ ap any_unsettled (none_behind at (map (item_said size) es) (omega arith)))
+
+-- ---- sums, stream by stream
+
+track_read : (size : ℕ) (ts : List TrackFields) (i : ℕ) (x : TrackFields) → x ≡ get_or ts i x → get_or (map (track_said size) ts) i (track_said size x) ≡ track_said size x
+track_read size ts i x read = of_map ts i x ∙ ap (track_said size) (sym read)
+  where
+    of_map : (ds : List TrackFields) (j : ℕ) (d : TrackFields) → get_or (map (track_said size) ds) j (track_said size d) ≡ track_said size (get_or ds j d)
+    of_map [] j d = refl
+    of_map (e ∷ ds) zero d = refl
+    of_map (e ∷ ds) (suc j) d = of_map ds j d
+
+pub total_more : (f : Track → ℕ) (size : ℕ) (ts : List TrackFields) (at : ℕ) (x : TrackFields) → at < length ts → x ≡ get_or ts at x
+    → total f (drop at (map (track_said size) ts)) ≡ f (track_said size x) + total f (drop (at + 1) (map (track_said size) ts))
+total_more f size ts at x lt read =
+    let long = length-map ts (track_said size) in
+    let one : at + 1 ≡ suc at = omega arith in
+    total_drop f (map (track_said size) ts) at (track_said size x) (omega arith) ∙ rw (track_read size ts at x read, one) refl
+
+pub total_end : (f : Track → ℕ) (size : ℕ) (ts : List TrackFields) (at : ℕ) → length ts ≤ at → total f (drop at (map (track_said size) ts)) ≡ 0
+total_end f size ts at le = let long = length-map ts (track_said size) in ap (total f) (none_behind at (map (track_said size) ts) (omega arith))
+
+queue_read : (size : ℕ) (ms : List (Rc MessageFields Global)) (i : ℕ) (x : Rc MessageFields Global) → x ≡ get_or ms i x → get_or (map (queued_by size) ms) i (queued_by size x) ≡ queued_by size x
+queue_read size ms i x read = of_map ms i x ∙ ap (queued_by size) (sym read)
+  where
+    of_map : (ds : List (Rc MessageFields Global)) (j : ℕ) (d : Rc MessageFields Global) → get_or (map (queued_by size) ds) j (queued_by size d) ≡ queued_by size (get_or ds j d)
+    of_map [] j d = refl
+    of_map (e ∷ ds) zero d = refl
+    of_map (e ∷ ds) (suc j) d = of_map ds j d
+
+pub queue_more : (size : ℕ) (ms : List (Rc MessageFields Global)) (at : ℕ) (x : Rc MessageFields Global) → at < length ms → x ≡ get_or ms at x
+    → owed_by_queue (drop at (map (queued_by size) ms)) ≡ owed_for (length (cut size x.value.bytes.items)) + owed_by_queue (drop (at + 1) (map (queued_by size) ms))
+queue_more size ms at x lt read =
+    let long = length-map ms (queued_by size) in
+    let one : at + 1 ≡ suc at = omega arith in
+    sum_queue (map (queued_by size) ms) at (queued_by size x) (omega arith) ∙ rw (queue_read size ms at x read, one) refl
+
+pub queue_end : (size : ℕ) (ms : List (Rc MessageFields Global)) (at : ℕ) → length ms ≤ at → owed_by_queue (drop at (map (queued_by size) ms)) ≡ 0
+queue_end size ms at le = let long = length-map ms (queued_by size) in ap owed_by_queue (none_behind at (map (queued_by size) ms) (omega arith))
+
+-- ---- the readers, branch by branch
+
+pub some_waits : (f : Format) (s : Kept) (v : SenderView) → Keeps f s v → 0 < length s.queue → false ≡ drained v
+some_waits f s v k some =
+    let off : (length s.queue == 0) ≡ false = grind (arith, nat_tests) in
+    rw off at (drained_is f s v k)
+
+pub some_in_part : (f : Format) (s : Kept) (v : SenderView) → Keeps f s v → length s.queue ≤ 0 → 0 < total (λ t. one_if_rest t.rest) s.tracks % 2 ^ 32 → false ≡ drained v
+some_in_part f s v k none some =
+    let on : (length s.queue == 0) ≡ true = grind (arith, nat_tests) in
+    let off : (total (λ t. one_if_rest t.rest) s.tracks % 2 ^ 32 == 0) ≡ false = grind (arith, nat_tests) in
+    rw (on, off) at (drained_is f s v k)
+
+pub nothing_waits : (f : Format) (s : Kept) (v : SenderView) → Keeps f s v → length s.queue ≤ 0 → total (λ t. one_if_rest t.rest) s.tracks % 2 ^ 32 ≤ 0 → (length s.items == 0) ≡ drained v
+nothing_waits f s v k none parts =
+    let on : (length s.queue == 0) ≡ true = grind (arith, nat_tests) in
+    let off : (total (λ t. one_if_rest t.rest) s.tracks % 2 ^ 32 == 0) ≡ true = grind (arith, nat_tests) in
+    rw (on, off) at (drained_is f s v k)
+
+pub some_is_unsettled : (f : Format) (s : Kept) (v : SenderView) → Keeps f s v → any_unsettled s.items ≡ true → true ≡ unsettled v
+some_is_unsettled f s v k any = rw any at (unsettled_is f s v k)
+
+pub point_alone : (f : Format) (s : Kept) (v : SenderView) → Keeps f s v → any_unsettled s.items ≡ false → nat_lt 0 (given_up_items s.items % 2 ^ 32) ≡ unsettled v
+point_alone f s v k any = rw any at (unsettled_is f s v k)

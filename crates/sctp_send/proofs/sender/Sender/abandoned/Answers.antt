@@ -1,0 +1,27 @@
+use Rattle.std.proofs.Common.{◌≡◌, ◌∙◌, ℕ, ◌<◌, ◌≤◌, map, length, subst, sym, refl, ap, arith, inl, inr, deque_len, vec_len}
+use Rattle.std.proofs.lemmas.List.{length-map}
+use Rattle.sctp_send.specs.OutstandingFields.{item_said}
+use Rattle.sctp_send.specs.SenderKept.{Kept}
+use Rattle.sctp_send.specs.SenderFields.{queued_by, track_said}
+use Rattle.sctp_send.specs.SenderStands.{StandsFor, Keeps, is_given_up_fate, total, one_if_rest}
+use Rattle.sctp_send.proofs.ReaderLemmas.{is_abandoned_at, no_ticket}
+use Rattle.sctp_send.proofs.sender.Sender.abandoned.Goals as goal
+
+pub returns-then-at-eq0 : goal.returns-then-at-eq0
+unfolding StandsFor
+returns-then-at-eq0 g c = λ v stands.
+    sym (no_ticket g.F.Framing.format _ v c.args.ticket.0 stands (inl (omega arith)))
+
+pub returns-then-at-len : goal.returns-then-at-len
+unfolding StandsFor
+returns-then-at-len g c = λ v stands.
+    let s = c.self.inside in
+    let keeps = subst (λ (k : Kept). Keeps g.F.Framing.format k v) (sym c.self.view_is) stands in
+    sym (no_ticket g.F.Framing.format _ v c.args.ticket.0 keeps (inr (omega arith)))
+
+pub returns : goal.returns
+unfolding StandsFor
+returns g c = λ v stands.
+    let s = c.self.inside in
+    let keeps = subst (λ (k : Kept). Keeps g.F.Framing.format k v) (sym c.self.view_is) stands in
+    c.is_given_up.ensures ∙ ap is_given_up_fate c.index-fate.ensures ∙ is_abandoned_at g.F.Framing.format _ v c.args.ticket.0 c.index-fate.result.now keeps (omega arith) (omega arith)

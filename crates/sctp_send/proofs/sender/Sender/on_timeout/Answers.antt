@@ -1,0 +1,13 @@
+use Rattle.std.proofs.Common.{◌≡◌, subst, sym}
+use Rattle.sctp_send.specs.SenderKept.{Kept}
+use Rattle.sctp_send.specs.SenderStands.{StandsFor, Keeps}
+use Rattle.sctp_send.proofs.ItemLemmas.{items-timed}
+use Rattle.sctp_send.proofs.KeepLemmas.{keeps_timed}
+use Rattle.sctp_send.proofs.sender.Sender.on_timeout.Goals as goal
+
+pub returns : goal.returns
+unfolding StandsFor
+returns g c = λ v stands.
+    let s = c.self.inside in
+    let keeps = subst (λ (k : Kept). Keeps g.F.Framing.format k v) (sym c.self.view_is) stands in
+    rw (c.mark_unsettled.ensures.items, items-timed, c.mark_unsettled.ensures.capacity) (keeps_timed g.F.Framing.format _ v keeps)

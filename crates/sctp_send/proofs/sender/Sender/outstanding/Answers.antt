@@ -1,0 +1,16 @@
+use Rattle.std.proofs.Common.{◌≡◌, ◌∙◌, ℕ, map, length, subst, sym, refl, ap, arith}
+use Rattle.std.proofs.lemmas.List.{length-map}
+use Rattle.sctp_send.specs.OutstandingFields.{item_said}
+use Rattle.sctp_send.specs.SenderKept.{Kept}
+use Rattle.sctp_send.specs.SenderStands.{StandsFor, Keeps}
+use Rattle.sctp_send.proofs.ReaderLemmas.{outstanding_is}
+use Rattle.sctp_send.proofs.sender.Sender.outstanding.Goals as goal
+
+pub returns : goal.returns
+unfolding StandsFor
+returns g c = λ v stands.
+    let s = c.self.inside in
+    let keeps = subst (λ (k : Kept). Keeps g.F.Framing.format k v) (sym c.self.view_is) stands in
+    let is = outstanding_is g.F.Framing.format _ v keeps in
+    let long = length-map s.outstanding.items (item_said s.fragment) in
+    rw (c.count_of.ensures, c.in_part.ensures s.fragment, c.deref.ensures.value) (rw long at is)

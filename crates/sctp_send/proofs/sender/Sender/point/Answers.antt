@@ -1,0 +1,15 @@
+use Rattle.std.proofs.Common.{◌≡◌, ◌∙◌, ℕ, map, length, subst, sym, refl, ap, arith}
+use Rattle.std.proofs.lemmas.List.{length-map}
+use Rattle.sctp_send.specs.OutstandingFields.{item_said}
+use Rattle.sctp_send.specs.SenderKept.{Kept}
+use Rattle.sctp_send.specs.SenderStands.{StandsFor, Keeps}
+use Rattle.sctp_send.proofs.ReaderLemmas.{point_is}
+use Rattle.sctp_send.proofs.sender.Sender.point.Goals as goal
+
+pub returns : goal.returns
+unfolding StandsFor
+returns g c = λ v stands.
+    let s = c.self.inside in
+    let keeps = subst (λ (k : Kept). Keeps g.F.Framing.format k v) (sym c.self.view_is) stands in
+    let is = point_is g.F.Framing.format _ v keeps in
+    rw (c.given_up_run.ensures s.fragment) is

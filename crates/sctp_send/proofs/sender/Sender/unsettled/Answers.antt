@@ -1,0 +1,23 @@
+use Rattle.std.proofs.Common.{◌≡◌, ◌∙◌, ℕ, ◌<◌, ◌≤◌, map, length, subst, sym, refl, ap, arith, inl, inr}
+use Rattle.std.proofs.lemmas.List.{length-map}
+use Rattle.sctp_send.specs.OutstandingFields.{item_said}
+use Rattle.sctp_send.specs.SenderKept.{Kept}
+use Rattle.sctp_send.specs.SenderFields.{queued_by, track_said}
+use Rattle.sctp_send.specs.SenderStands.{StandsFor, Keeps, is_given_up_fate, total, one_if_rest}
+use Rattle.sctp_send.proofs.ReaderLemmas.{some_is_unsettled, point_alone}
+use Rattle.sctp_send.proofs.sender.Sender.unsettled.Goals as goal
+
+pub returns-then-some_unsettled : goal.returns-then-some_unsettled
+unfolding StandsFor
+returns-then-some_unsettled g c = λ v stands.
+    let s = c.self.inside in
+    let keeps = subst (λ (k : Kept). Keeps g.F.Framing.format k v) (sym c.self.view_is) stands in
+    some_is_unsettled g.F.Framing.format _ v keeps (sym (c.some_unsettled.ensures s.fragment) ∙ c.if-some_unsettled.true)
+
+pub returns : goal.returns
+unfolding StandsFor
+returns g c = λ v stands.
+    let s = c.self.inside in
+    let keeps = subst (λ (k : Kept). Keeps g.F.Framing.format k v) (sym c.self.view_is) stands in
+    let is = point_alone g.F.Framing.format _ v keeps (sym (c.some_unsettled.ensures s.fragment) ∙ c.if-some_unsettled.false) in
+    rw (c.given_up_run.ensures s.fragment) is

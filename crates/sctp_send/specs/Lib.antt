@@ -1,0 +1,5 @@
+pub mod SenderKept
+pub mod SenderStands
+pub mod OutstandingFields
+pub mod SenderFields
+pub mod SenderAnswers

@@ -1,0 +1,48 @@
+-- What the calls of a sender answer, in terms of a view that it stands for, and the view that they leave.
+use Rattle.std.specs.Prelude.{◌≡◌, ℕ, suc, Bool, true, false, not, List, Option, None, Some, Result, Ok, Err}
+use Rattle.sctp_model.specs.Format.{Lane}
+use Rattle.sctp_model.specs.Framing.{kind_of}
+use Rattle.sctp_model.specs.SenderView.{SenderView}
+use Rattle.sctp_model.specs.sender.Queueing as model
+use Rattle.sctp_model.specs.sender.Queueing.{refusal, queued}
+use Rattle.sctp_model.specs.sender.SackTaken as taken
+use Rattle.sctp_send.specs.declared.message.Ticket.{Ticket}
+use Rattle.sctp_send.specs.declared.queue.SendFault.{SendFault}
+use Rattle.sctp_send.specs.declared.queue.SendFault.TheVariants.{NoSuchStream, Empty, TooLong, QueueFull, Spent, NoMemory}
+use Rattle.sctp_send.specs.declared.sack.SackFault.{SackFault}
+use Rattle.sctp_send.specs.declared.sack.SackFault.TheVariants.{Stale, Beyond, BadBlock}
+
+-- ---- a SACK
+
+abbrev pub fault_said : SackFault → taken.SackFault
+fault_said Stale = taken.Stale
+fault_said Beyond = taken.Beyond
+fault_said BadBlock = taken.BadBlock
+
+abbrev pub reason_said : Result (Unit {0}) SackFault → Option taken.SackFault
+reason_said (Ok _) = None
+reason_said (Err fault) = Some (fault_said fault)
+
+-- ---- a message handed in
+
+abbrev pub refused_with : Option model.Refusal → SendFault → Type 0
+refused_with r NoSuchStream = r ≡ Some model.NoSuchStream
+refused_with r Empty = r ≡ Some model.Empty
+refused_with r TooLong = r ≡ Some model.TooLong
+refused_with r QueueFull = r ≡ Some model.QueueFull
+refused_with r Spent = r ≡ Some model.Spent
+refused_with r NoMemory = r ≡ None
+
+-- Each refusal is given exactly where it is the first that holds; want of memory only where none does.
+abbrev pub QueueAnswer : SenderView → ℕ → List ℕ → Result Ticket SendFault → Type 0
+QueueAnswer v stream bytes (Ok ticket) = (refusal v stream bytes ≡ None) × (ticket.0 ≡ suc v.tickets)
+QueueAnswer v stream bytes (Err fault) = refused_with (refusal v stream bytes) fault
+
+-- the view after the call: a refusal changes nothing
+abbrev pub queue_after : SenderView → Lane → ℕ → List ℕ → Option ℕ → Result Ticket SendFault → SenderView
+queue_after v lane payload bytes until (Ok ticket) = queued v lane payload bytes until
+queue_after v lane payload bytes until (Err fault) = v
+
+-- the lane of a call
+abbrev pub lane_for : ℕ → Bool → Lane
+lane_for stream ordered = record { stream = stream; kind = kind_of (not ordered) }

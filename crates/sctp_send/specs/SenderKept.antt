@@ -1,0 +1,41 @@
+-- What a sender keeps, as clauses see it.
+use Rattle.std.specs.Prelude.{ℕ, Bool, List, Option}
+use Rattle.sctp_model.specs.Plan.{Message, Entry}
+use Rattle.sctp_model.specs.SenderView.{Queued}
+use Rattle.sctp_send.specs.declared.message.Fate.{Fate}
+
+-- an entry above CUM, with its message and its state
+pub record Item : Type 0 where
+  pub entry : Entry
+  pub message : Option Message
+  pub sent : Bool
+  pub marked : Bool
+  pub covered : Bool
+  pub given_up : Bool
+
+-- the fragment that a message in part takes next
+pub record Rest : Type 0 where
+  pub entry : Entry
+  pub message : Option Message
+
+-- a stream: how many messages of each kind have a number, and what is left of the one in part
+pub record Track : Type 0 where
+  pub ordered : ℕ
+  pub unordered : ℕ
+  pub rest : Option Rest
+
+pub record Kept : Type 0 where
+  pub initial : ℕ
+  pub streams : ℕ
+  pub fragment : ℕ
+  pub partial : Bool
+  pub cum : ℕ
+  pub rwnd : ℕ
+  pub turn : ℕ
+  pub items : List Item
+  pub queue : List Queued
+  pub tracks : List Track
+  -- by ticket, from 1 on
+  pub fates : List Fate
+  -- how many entries above CUM there is room for
+  pub capacity : ℕ

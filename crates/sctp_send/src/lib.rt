@@ -1,0 +1,18 @@
+//! The sending end of an association: what was given to it, what has a TSN, what is acknowledged and what was given up (RFC 9260, 6; RFC
+//! 3758, 3.5; RFC 8260, 2).
+#![tactic(auto)]
+
+mod message;
+mod outstanding;
+mod queue;
+mod readers;
+mod sack;
+mod sender;
+
+pub use message::Ticket;
+pub use queue::SendFault;
+pub use sack::SackFault;
+pub use sender::Sender;
+
+#[cfg(test)]
+mod tests;

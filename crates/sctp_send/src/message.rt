@@ -1,0 +1,30 @@
+//! A message as it was handed in, and the name that its user has for it.
+
+/// The name of an accepted message: 1 for the first one, and so on.
+#[derive(Clone, Copy, Debug, PartialEq, Eq)]
+pub struct Ticket(pub u32);
+
+/// A message as it was handed in; its fragments are ranges of its bytes.
+#[derive(Debug, Drop)]
+pub struct Message {
+    pub ticket: u32,
+    pub stream: u16,
+    pub unordered: bool,
+    pub payload_id: u32,
+    /// The moment from which it is worthless, in milliseconds.
+    pub until: Option<u64>,
+    pub bytes: Vec<u8>,
+}
+
+/// What became of an accepted message.
+#[derive(Clone, Copy, Debug, PartialEq, Eq)]
+pub enum Fate {
+    /// It waits for its number.
+    Waiting,
+    /// It has a number.
+    Numbered,
+    /// It was withdrawn before it had one.
+    Withdrawn,
+    /// It has a number and was abandoned.
+    GivenUp,
+}

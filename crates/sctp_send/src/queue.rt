@@ -1,0 +1,185 @@
+//! Messages handed in: refused for the first reason that holds, or queued (RFC 9260, 6.9).
+
+ghost use Rattle.std.specs.Prelude.{◌≡◌, ℕ, ◌<◌, ◌^◌, ◌%◌, ◌+◌, map, length};
+ghost use Rattle.sctp_model.specs.SenderView.{SenderView};
+ghost use Rattle.sctp_model.specs.sender.Queueing.{cut, owed_for, owed_by_queue, promised};
+ghost use Rattle.sctp_send.specs.SenderFields.{track_said, queued_by};
+ghost use Rattle.sctp_send.specs.SenderStands.{StandsFor, total, rest_owes};
+ghost use Rattle.sctp_send.specs.SenderAnswers.{QueueAnswer, queue_after, lane_for};
+
+use crate::message::{Fate, Message, Ticket};
+use crate::sender::{Sender, Track};
+use sctp_framing::Framing;
+use std::collections::VecDeque;
+use std::rc::Rc;
+use thiserror::Error;
+
+/// The most bytes of a message.
+const LONGEST: usize = 65_536;
+
+/// The most messages that wait for a number at once.
+const QUEUE_LIMIT: usize = 1_024;
+
+/// The most tickets that are given.
+const TICKETS: usize = 0xffff_ffff;
+
+/// The most TSNs that are assigned and owed.
+const TSNS: u64 = 0x7fff_ffff;
+
+/// Why a message is not accepted: the first reason that holds, in this order.
+#[derive(Clone, Copy, Debug, PartialEq, Eq, Error)]
+pub enum SendFault {
+    /// The stream's number isn't below the number of streams.
+    #[error("there is no such stream")]
+    NoSuchStream,
+    /// The message has no byte.
+    #[error("the message is empty")]
+    Empty,
+    /// The message has more than 65,536 bytes.
+    #[error("the message is too long")]
+    TooLong,
+    /// As many messages wait for a number as may.
+    #[error("too many messages wait")]
+    QueueFull,
+    /// There is no ticket left, or the TSNs assigned and owed would be too many.
+    #[error("no more messages can be numbered")]
+    Spent,
+    /// Memory ran out.
+    #[error("out of memory")]
+    NoMemory,
+}
+
+#[tactic(auto, unfolding(crate::specs::SenderStands::StandsFor))]
+impl<F: Framing> Sender<F> {
+    /// Accepts a message for a stream: `until` is the moment from which it is worthless, in milliseconds. It is cut into fragments of the
+    /// configured size, and waits for its number. A refusal drops the bytes.
+    ///
+    /// # Errors
+    /// The first reason of `SendFault` that holds; nothing changes then.
+    pub fn queue(
+        &mut self,
+        stream: u16,
+        ordered: bool,
+        payload_id: u32,
+        bytes: Vec<u8>,
+        until: Option<u64>,
+    ) -> Result<Ticket, SendFault>
+        ensures answer { (v : SenderView) → StandsFor F.format self.old v → QueueAnswer v stream bytes.items result }
+        ensures step { (v : SenderView) → StandsFor F.format self.old v
+            → StandsFor F.format self.new (queue_after v (lane_for stream ordered) payload_id bytes.items until result) }
+    {
+        if stream >= self.streams {
+            return Err(SendFault::NoSuchStream);
+        }
+        if bytes.len() == 0 {
+            return Err(SendFault::Empty);
+        }
+        if bytes.len() > LONGEST {
+            return Err(SendFault::TooLong);
+        }
+        if self.queue.len() >= QUEUE_LIMIT {
+            return Err(SendFault::QueueFull);
+        }
+        let promised = self.promised();
+        let more = owed(fragments_of(self.fragment, &bytes));
+        let given = self.fates.len();
+        if given >= TICKETS {
+            return Err(SendFault::Spent);
+        }
+        if promised.wrapping_add(more) > TSNS {
+            return Err(SendFault::Spent);
+        }
+        match self.fates.reserve(1) {
+            Ok(()) => {}
+            Err(_) => return Err(SendFault::NoMemory),
+        }
+        let ticket = given as u32 + 1;
+        let message = Message {
+            ticket,
+            stream,
+            unordered: !ordered,
+            payload_id,
+            until,
+            bytes,
+        };
+        let message = match Rc::new(self.alloc, message) {
+            Ok(message) => message,
+            Err(_) => return Err(SendFault::NoMemory),
+        };
+        match self.queue.push_back(message) {
+            Ok(()) => {}
+            Err(_) => return Err(SendFault::NoMemory),
+        }
+        // There is room for it.
+        let _kept = self.fates.push(Fate::Waiting);
+        Ok(Ticket(ticket))
+    }
+
+    /// The TSNs assigned, and those that the accepted messages may still take.
+    fn promised(&self) -> u64
+        ensures { (v : SenderView) → StandsFor F.format self.now v → result ≡ promised v }
+    {
+        u64::from(self.cum)
+            .wrapping_add(self.outstanding.len() as u64)
+            .wrapping_add(owed_by_queue(&self.queue, self.fragment))
+            .wrapping_add(owed_by_tracks(&self.tracks, self.fragment))
+    }
+}
+
+/// How many fragments of this size so many bytes make.
+pub fn fragments_of(size: u16, bytes: &[u8]) -> usize
+    requires { 0 < size }
+    ensures { result ≡ length (cut size bytes.now) }
+{
+    bytes.len().div_ceil(usize::from(size))
+}
+
+/// What a message owes with so many unassigned fragments: their TSNs, and one for an end mark.
+fn owed(count: usize) -> u64
+    ensures { result ≡ owed_for count % 2 ^ 64 }
+{
+    if count == 0 {
+        0
+    } else {
+        (count as u64).wrapping_add(1)
+    }
+}
+
+/// What the messages that wait owe.
+fn owed_by_queue(queue: &VecDeque<Rc<Message>>, size: u16) -> u64
+    requires { 0 < size }
+    ensures { result ≡ owed_by_queue (map (queued_by size) queue.now.items) % 2 ^ 64 }
+{
+    let mut total = 0u64;
+    for at in 0..queue.len() {
+        let message = &queue[at];
+        total = total.wrapping_add(owed(fragments_of(size, &message.bytes)));
+    }
+    total
+}
+
+/// What the messages in part owe.
+fn owed_by_tracks(tracks: &[Track], size: u16) -> u64
+    requires { 0 < size }
+    ensures { result ≡ total (λ t. rest_owes t.rest) (map (track_said size) tracks.now) % 2 ^ 64 }
+{
+    let mut total = 0u64;
+    for track in tracks {
+        total = total.wrapping_add(owed_by_track(track, size));
+    }
+    total
+}
+
+/// What the message in part of a stream owes.
+fn owed_by_track(track: &Track, size: u16) -> u64
+    requires { 0 < size }
+    ensures { result ≡ rest_owes (track_said size track.now).rest % 2 ^ 64 }
+{
+    match &track.rest {
+        Some(rest) => {
+            let all = fragments_of(size, &rest.message.bytes);
+            owed(all.saturating_sub(rest.fragment as usize))
+        }
+        None => 0,
+    }
+}

@@ -1,0 +1,149 @@
+//! What a sender tells of itself.
+
+ghost use Rattle.std.specs.Prelude.{◌≡◌, ℕ, Bool, ◌<◌, ◌^◌, ◌%◌, map, length};
+ghost use Rattle.sctp_model.specs.SenderView.{SenderView};
+ghost use Rattle.sctp_model.specs.sender.Readers.{point, unsettled, drained, outstanding, abandoned};
+ghost use Rattle.sctp_send.specs.OutstandingFields.{item_said};
+ghost use Rattle.sctp_send.specs.SenderFields.{track_said};
+ghost use Rattle.sctp_send.specs.SenderStands.{StandsFor, total, one_if_rest, given_up_items, any_unsettled, is_item_unsettled, is_given_up_fate};
+
+use crate::message::{Fate, Ticket};
+use crate::outstanding::{Outstanding, Standing};
+use crate::sender::{Sender, Track};
+use sctp_framing::Framing;
+use std::collections::VecDeque;
+
+#[tactic(auto, unfolding(crate::specs::SenderStands::StandsFor))]
+impl<F: Framing> Sender<F> {
+    /// CUM: the index up to which all is acknowledged; 0 before the first SACK.
+    pub fn cum(&self) -> u32
+        ensures { (v : SenderView) → StandsFor F.format self.now v → result ≡ v.cum }
+    {
+        self.cum
+    }
+
+    /// The point: the largest index from CUM on, up to which all beyond CUM is of abandoned messages (RFC 3758, 3.5).
+    pub fn point(&self) -> u32
+        ensures { (v : SenderView) → StandsFor F.format self.now v → result ≡ point v }
+    {
+        self.cum.wrapping_add(given_up_run(&self.outstanding))
+    }
+
+    /// Whether the data timer is wanted: something that went out is neither covered nor abandoned, or the point is past CUM.
+    pub fn unsettled(&self) -> bool
+        ensures { (v : SenderView) → StandsFor F.format self.now v → result ≡ unsettled v }
+    {
+        if some_unsettled(&self.outstanding) {
+            return true;
+        }
+        given_up_run(&self.outstanding) > 0
+    }
+
+    /// The indexes above CUM, and the messages in part: at most 32,767.
+    pub fn outstanding(&self) -> u32
+        ensures { (v : SenderView) → StandsFor F.format self.now v → result ≡ outstanding v }
+    {
+        count_of(&self.outstanding).wrapping_add(in_part(&self.tracks))
+    }
+
+    /// Whether nothing waits, nothing is in part, and all that has an index is acknowledged (RFC 9260, 9.2).
+    pub fn drained(&self) -> bool
+        ensures { (v : SenderView) → StandsFor F.format self.now v → result ≡ drained v }
+    {
+        if self.queue.len() > 0 {
+            return false;
+        }
+        if in_part(&self.tracks) > 0 {
+            return false;
+        }
+        self.outstanding.len() == 0
+    }
+
+    /// Whether the message with this ticket has a number and was abandoned.
+    pub fn abandoned(&self, ticket: Ticket) -> bool
+        ensures { (v : SenderView) → StandsFor F.format self.now v → result ≡ abandoned v ticket.0 }
+    {
+        let at = ticket.0 as usize;
+        if at == 0 {
+            return false;
+        }
+        if at > self.fates.len() {
+            return false;
+        }
+        let fate = self.fates[at - 1];
+        is_given_up(fate)
+    }
+}
+
+/// The message has a number and was abandoned.
+fn is_given_up(fate: Fate) -> bool
+    ensures { result ≡ is_given_up_fate fate }
+{
+    match fate {
+        Fate::GivenUp => true,
+        Fate::Waiting | Fate::Numbered | Fate::Withdrawn => false,
+    }
+}
+
+/// How many entries there are.
+fn count_of(outstanding: &VecDeque<Outstanding>) -> u32
+    ensures { result ≡ length outstanding.now.items % 2 ^ 32 }
+{
+    (outstanding.len() % 0x1_0000_0000) as u32
+}
+
+/// How many of the first entries are of abandoned messages.
+fn given_up_run(outstanding: &VecDeque<Outstanding>) -> u32
+    ensures { (size : ℕ) → result ≡ given_up_items (map (item_said size) outstanding.now.items) % 2 ^ 32 }
+{
+    let mut run = 0u32;
+    for at in 0..outstanding.len() {
+        let entry = &outstanding[at];
+        if !entry.given_up {
+            return run;
+        }
+        run = run.wrapping_add(1);
+    }
+    run
+}
+
+/// Some entry went out, and is neither covered nor abandoned.
+fn some_unsettled(outstanding: &VecDeque<Outstanding>) -> bool
+    ensures { (size : ℕ) → result ≡ any_unsettled (map (item_said size) outstanding.now.items) }
+{
+    for at in 0..outstanding.len() {
+        let entry = &outstanding[at];
+        if is_unsettled(entry) {
+            return true;
+        }
+    }
+    false
+}
+
+/// An entry went out, and is neither covered nor abandoned.
+fn is_unsettled(entry: &Outstanding) -> bool
+    ensures { (size : ℕ) → result ≡ is_item_unsettled (item_said size entry.now) }
+{
+    entry.standing != Standing::Unsent && !entry.covered && !entry.given_up
+}
+
+/// How many messages are in part.
+pub fn in_part(tracks: &[Track]) -> u32
+    ensures { (size : ℕ) → result ≡ total (λ t. one_if_rest t.rest) (map (track_said size) tracks.now) % 2 ^ 32 }
+{
+    let mut count = 0u32;
+    for track in tracks {
+        count = count.wrapping_add(one_if_in_part(track));
+    }
+    count
+}
+
+/// One where a stream has a message in part.
+fn one_if_in_part(track: &Track) -> u32
+    ensures { (size : ℕ) → result ≡ one_if_rest (track_said size track.now).rest }
+{
+    match &track.rest {
+        Some(_) => 1,
+        None => 0,
+    }
+}

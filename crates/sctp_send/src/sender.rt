@@ -1,0 +1,138 @@
+//! The sender of one end: its parts, and what it tells of itself.
+
+ghost use Rattle.std.specs.Prelude.{◌≡◌, ℕ, ◌<◌, ◌≤◌};
+ghost use Rattle.std.specs.Prelude.{IfOk, replicate};
+ghost use Rattle.sctp_model.specs.SenderView.{SenderView, fresh_sender};
+ghost use Rattle.sctp_send.specs.SenderStands.{StandsFor};
+
+use crate::message::{Fate, Message};
+use crate::outstanding::Outstanding;
+use sctp_framing::Framing;
+use sctp_wire::NoMemory;
+use std::alloc::Global;
+use std::collections::VecDeque;
+use std::marker::{Model, PhantomData};
+use std::rc::Rc;
+
+/// What is left of a message in part: the fragment that it takes next.
+#[derive(Debug, Drop)]
+pub struct Rest {
+    pub message: Rc<Message>,
+    pub number: u32,
+    pub fragment: u32,
+}
+
+/// What is kept of a stream: how many messages of each kind have a number, and its message in part.
+#[derive(Debug, Drop)]
+pub struct Track {
+    pub ordered: u32,
+    pub unordered: u32,
+    pub rest: Option<Rest>,
+}
+
+/// The sender of one end.
+#[derive(Debug, Drop)]
+pub struct Sender<F: Framing> {
+    pub(crate) alloc: Global,
+    pub(crate) initial: u32,
+    pub(crate) streams: u16,
+    pub(crate) fragment: u16,
+    pub(crate) partial: bool,
+    // the cumulative acknowledged index
+    pub(crate) cum: u32,
+    // the peer's last advertised window, in bytes
+    pub(crate) rwnd: u32,
+    // the stream from which the next turn is looked for
+    pub(crate) turn: u16,
+    // the first entry has index CUM + 1
+    pub(crate) outstanding: VecDeque<Outstanding>,
+    pub(crate) queue: VecDeque<Rc<Message>>,
+    pub(crate) tracks: Vec<Track>,
+    // by ticket, from 1 on
+    pub(crate) fates: Vec<Fate>,
+    pub(crate) format: PhantomData<F>,
+}
+
+impl<F: Framing> Model for Sender<F> {
+    ghost use Rattle.std.specs.Prelude.{map};
+    ghost use Rattle.std.specs.VecDeque.{deque_capacity};
+    ghost use Rattle.sctp_send.specs.SenderKept.{Kept};
+
+    ghost Value = { Kept };
+
+    ghost use Rattle.sctp_send.specs.OutstandingFields.{item_said};
+    ghost use Rattle.sctp_send.specs.SenderFields.{track_said, queued_by, IsConfigured};
+
+    ghost view = { λ s. record {
+      initial = s.initial;
+      streams = s.streams;
+      fragment = s.fragment;
+      partial = s.partial;
+      cum = s.cum;
+      rwnd = s.rwnd;
+      turn = s.turn;
+      items = map (item_said s.fragment) s.outstanding.items;
+      queue = map (queued_by s.fragment) s.queue.items;
+      tracks = map (track_said s.fragment) s.tracks.items;
+      fates = s.fates.items;
+      capacity = deque_capacity s.outstanding;
+    } };
+
+    ghost invariant = { λ s. IsConfigured s.streams s.fragment };
+}
+
+#[tactic(auto, unfolding(crate::specs::SenderStands::StandsFor))]
+impl<F: Framing> Sender<F> {
+    /// A sender that was given nothing yet: its first TSN, its streams, the most bytes of a fragment, the window
+    /// that the peer advertised, and whether messages with a number may be abandoned.
+    ///
+    /// # Errors
+    /// `NoMemory`.
+    pub fn new(
+        alloc: Global,
+        initial_tsn: u32,
+        streams: u16,
+        fragment: u16,
+        peer_rwnd: u32,
+        partial: bool,
+    ) -> Result<Sender<F>, NoMemory>
+        requires streams { 0 < streams }
+        requires some { 0 < fragment }
+        requires short { fragment ≤ 1400 }
+        ensures { IfOk result (λ sender. StandsFor F.format sender (fresh_sender initial_tsn streams fragment peer_rwnd partial)) }
+    {
+        let tracks = fresh_tracks(alloc, streams)?;
+        Ok(Sender {
+            alloc,
+            initial: initial_tsn,
+            streams,
+            fragment,
+            partial,
+            cum: 0,
+            rwnd: peer_rwnd,
+            turn: 0,
+            outstanding: VecDeque::new(alloc),
+            queue: VecDeque::new(alloc),
+            tracks,
+            fates: Vec::new(alloc),
+            format: PhantomData,
+        })
+    }
+}
+
+/// Streams that have no message with a number.
+fn fresh_tracks(alloc: Global, streams: u16) -> Result<Vec<Track>, NoMemory>
+    ensures { IfOk result (λ tracks. tracks.items ≡ replicate streams (record { ordered = 0; unordered = 0; rest = None })) }
+{
+    let mut tracks = Vec::new(alloc);
+    for _ in 0..streams {
+        tracks
+            .push(Track {
+                ordered: 0,
+                unordered: 0,
+                rest: None,
+            })
+            .map_err(|_| NoMemory)?;
+    }
+    Ok(tracks)
+}
