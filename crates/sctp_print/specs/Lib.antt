@@ -1,0 +1,3 @@
+pub mod ChunkLines
+pub mod PrintedText
+pub mod Commas

@@ -1,0 +1,72 @@
+//! The lines of pieces of user data: DATA and I-DATA.
+
+ghost use Rattle.std.specs.Prelude.{◌≡◌, ◌++◌, OnOk, OnErr};
+ghost use Rattle.sctp_text.specs.SpacedWords.{line_of};
+ghost use Rattle.sctp_wire.specs.ChunkTree.{piece_meaning};
+ghost use Rattle.sctp_print.specs.ChunkLines.{data_words, i_data_words, word_name};
+
+use crate::words::{flags_word, hex_text};
+use sctp_text::{Word, put_line};
+use sctp_wire::Piece;
+use std::alloc::{AllocError, Global};
+
+/// Appends the line of a DATA.
+pub(crate) fn put_data(
+    alloc: Global,
+    piece: &Piece<'_>,
+    out: &mut Vec<u8>,
+) -> Result<(), AllocError>
+    ensures put { OnOk result (out.new.items ≡ out.old.items ++ line_of (data_words (piece_meaning piece.now))) }
+    ensures refused { OnErr result (out.new.items ≡ out.old.items) }
+{
+    let flags = flags_word(alloc, piece)?;
+    let data = hex_text(alloc, piece.bytes)?;
+    let words = [
+        Word::Text(&flags),
+        Word::Text(b"tsn"),
+        Word::Number(u64::from(piece.tsn)),
+        Word::Text(b"stream"),
+        Word::Number(u64::from(piece.stream)),
+        Word::Text(b"ssn"),
+        Word::Number(u64::from(piece.number)),
+        Word::Text(b"id"),
+        Word::Number(u64::from(piece.word)),
+        Word::Text(b"data"),
+        Word::Text(&data),
+    ];
+    put_line(b"DATA", &words, &[], out)
+}
+
+/// Appends the line of an I-DATA.
+pub(crate) fn put_i_data(
+    alloc: Global,
+    piece: &Piece<'_>,
+    out: &mut Vec<u8>,
+) -> Result<(), AllocError>
+    ensures put { OnOk result (out.new.items ≡ out.old.items ++ line_of (i_data_words (piece_meaning piece.now))) }
+    ensures refused { OnErr result (out.new.items ≡ out.old.items) }
+{
+    let flags = flags_word(alloc, piece)?;
+    let data = hex_text(alloc, piece.bytes)?;
+    let words = [
+        Word::Text(&flags),
+        Word::Text(b"tsn"),
+        Word::Number(u64::from(piece.tsn)),
+        Word::Text(b"stream"),
+        Word::Number(u64::from(piece.stream)),
+        Word::Text(b"mid"),
+        Word::Number(u64::from(piece.number)),
+        Word::Text(word_name(piece.begin)),
+        Word::Number(u64::from(piece.word)),
+        Word::Text(b"data"),
+        Word::Text(&data),
+    ];
+    put_line(b"I-DATA", &words, &[], out)
+}
+
+/// What the word of an I-DATA is: the payload protocol identifier of a first fragment, else its FSN (RFC 8260, 2.1).
+fn word_name(begin: bool) -> &'static [u8]
+    ensures { result.now ≡ word_name begin }
+{
+    if begin { b"id" } else { b"fsn" }
+}

@@ -1,0 +1,166 @@
+//! Words that are made before their line is: lists with commas between their items, flags, bytes.
+
+ghost use Rattle.std.specs.Prelude.{◌≡◌, ◌∷◌, ◌++◌, length, decimal, IfOk, OnOk};
+ghost use Rattle.sctp_text.specs.Numerals.{hex_word};
+ghost use Rattle.sctp_model.specs.Typed.{typed_in};
+ghost use Rattle.sctp_wire.specs.ChunkTree.{block_meaning, piece_meaning, skip_meaning};
+ghost use Rattle.sctp_print.specs.ChunkLines.{letter, flags_word, each_behind_comma, block_word, skip_word, kind_skip_word, kind_word};
+ghost use Rattle.sctp_print.specs.Commas.{behind_comma};
+
+use sctp_text::{put_decimal, put_hex};
+use sctp_wire::{Blocks, Causes, GapBlock, Parameters, Piece, Skip, Skips, Words};
+use std::alloc::{AllocError, Global};
+
+/// Stands between the items of a list.
+pub const COMMA: u8 = b',';
+/// Stands between the ends of a gap block, and where there is nothing.
+pub const DASH: u8 = b'-';
+/// Stands between the parts of an entry.
+pub const COLON: u8 = b':';
+
+/// The gap blocks, each behind a comma.
+pub(crate) fn blocks_word(alloc: Global, blocks: &Blocks<'_>) -> Result<Vec<u8>, AllocError>
+    ensures { IfOk result (λ word. word.items ≡ each_behind_comma block_word blocks.now) }
+{
+    let mut word = Vec::new(alloc);
+    for block in blocks.iter() {
+        put_block(&block, &mut word)?;
+    }
+    Ok(word)
+}
+
+/// Appends a gap block behind a comma.
+fn put_block(block: &GapBlock, word: &mut Vec<u8>) -> Result<(), AllocError>
+    ensures { OnOk result (word.new.items ≡ word.old.items ++ (COMMA ∷ block_word (block_meaning block.now))) }
+{
+    word.push(COMMA)?;
+    put_decimal(u64::from(block.start), word)?;
+    word.push(DASH)?;
+    put_decimal(u64::from(block.end), word)
+}
+
+/// The numbers, each behind a comma.
+pub(crate) fn numbers_word(alloc: Global, numbers: &Words<'_>) -> Result<Vec<u8>, AllocError>
+    ensures { IfOk result (λ word. word.items ≡ each_behind_comma decimal numbers.now) }
+{
+    let mut word = Vec::new(alloc);
+    for number in numbers.iter() {
+        word.push(COMMA)?;
+        put_decimal(u64::from(number), &mut word)?;
+    }
+    Ok(word)
+}
+
+/// The entries of a FORWARD-TSN, each behind a comma.
+pub(crate) fn skips_word(alloc: Global, skips: &Skips<'_>) -> Result<Vec<u8>, AllocError>
+    ensures { IfOk result (λ word. word.items ≡ each_behind_comma skip_word skips.now.skips) }
+{
+    let mut word = Vec::new(alloc);
+    for skip in skips.iter() {
+        put_skip(&skip, &mut word)?;
+    }
+    Ok(word)
+}
+
+/// Appends an entry of a FORWARD-TSN behind a comma.
+fn put_skip(skip: &Skip, word: &mut Vec<u8>) -> Result<(), AllocError>
+    ensures { OnOk result (word.new.items ≡ word.old.items ++ (COMMA ∷ skip_word (skip_meaning skip.now))) }
+{
+    word.push(COMMA)?;
+    put_decimal(u64::from(skip.stream), word)?;
+    word.push(COLON)?;
+    put_decimal(u64::from(skip.number), word)
+}
+
+/// The entries of an I-FORWARD-TSN, each behind a comma.
+pub(crate) fn kind_skips_word(alloc: Global, skips: &Skips<'_>) -> Result<Vec<u8>, AllocError>
+    ensures { IfOk result (λ word. word.items ≡ each_behind_comma kind_skip_word skips.now.skips) }
+{
+    let mut word = Vec::new(alloc);
+    for skip in skips.iter() {
+        put_kind_skip(&skip, &mut word)?;
+    }
+    Ok(word)
+}
+
+/// Appends an entry of an I-FORWARD-TSN behind a comma.
+fn put_kind_skip(skip: &Skip, word: &mut Vec<u8>) -> Result<(), AllocError>
+    ensures { OnOk result (word.new.items ≡ word.old.items ++ (COMMA ∷ kind_skip_word (skip_meaning skip.now))) }
+{
+    word.push(COMMA)?;
+    put_decimal(u64::from(skip.stream), word)?;
+    word.push(COLON)?;
+    word.push(if skip.unordered { b'u' } else { b'o' })?;
+    word.push(COLON)?;
+    put_decimal(u64::from(skip.number), word)
+}
+
+/// The types of causes, each behind a comma.
+pub(crate) fn kinds_word(alloc: Global, causes: &Causes<'_>) -> Result<Vec<u8>, AllocError>
+    ensures { IfOk result (λ word. word.items ≡ each_behind_comma kind_word (typed_in causes.now)) }
+{
+    let mut word = Vec::new(alloc);
+    for cause in causes.iter() {
+        word.push(COMMA)?;
+        put_decimal(u64::from(cause.kind), &mut word)?;
+    }
+    Ok(word)
+}
+
+/// How many parameters there are.
+pub(crate) fn count_items(parameters: &Parameters<'_>) -> u64
+    ensures { result ≡ length (typed_in parameters.now) }
+{
+    // There are no more of them than bytes.
+    let _size = parameters.size();
+    let mut count = 0u64;
+    for item in parameters.iter() {
+        let _ = item;
+        count += 1;
+    }
+    count
+}
+
+/// What stands behind the first comma, or `-` where nothing stands.
+pub(crate) fn behind_comma(word: &[u8]) -> &[u8]
+    ensures { result.now ≡ behind_comma word.now }
+{
+    if word.is_empty() {
+        return b"-";
+    }
+    &word[1..]
+}
+
+/// The bytes in hexadecimal, or `-` where there is none.
+pub(crate) fn hex_text(alloc: Global, bytes: &[u8]) -> Result<Vec<u8>, AllocError>
+    ensures { IfOk result (λ word. word.items ≡ hex_word bytes.now) }
+{
+    let mut word = Vec::new(alloc);
+    put_hex(bytes, &mut word)?;
+    Ok(word)
+}
+
+/// The flags that are set, or `-`.
+pub(crate) fn flags_word(alloc: Global, piece: &Piece<'_>) -> Result<Vec<u8>, AllocError>
+    ensures { IfOk result (λ word. word.items ≡ flags_word (piece_meaning piece.now)) }
+{
+    let mut word = Vec::new(alloc);
+    put_letter(piece.immediate, b'I', &mut word)?;
+    put_letter(piece.unordered, b'U', &mut word)?;
+    put_letter(piece.begin, b'B', &mut word)?;
+    put_letter(piece.end, b'E', &mut word)?;
+    if word.is_empty() {
+        word.push(DASH)?;
+    }
+    Ok(word)
+}
+
+/// Appends a letter where a flag is set.
+fn put_letter(set: bool, code: u8, word: &mut Vec<u8>) -> Result<(), AllocError>
+    ensures { OnOk result (word.new.items ≡ word.old.items ++ letter code set) }
+{
+    if set {
+        word.push(code)?;
+    }
+    Ok(())
+}
