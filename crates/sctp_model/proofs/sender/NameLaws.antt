@@ -115,3 +115,17 @@ in_part_by_ticket f v t n h is = by_part (is_in_part v n.lane n.number) refl
         let low = (name_found v.streams v.plan t v.plan.entries n (is_named f v h) is).1 in
         sym (some_below (λ s. goes_on_with v.plan t (continued v.plan s)) v.streams n.lane.stream low (by_next (continued v.plan n.lane.stream) refl on))
     by_part false off = sym (none_below (λ s. goes_on_with v.plan t (continued v.plan s)) v.streams (λ s lt. off_stream off s (continued v.plan s) refl))
+
+-- the stream that goes on with a message is its own
+pub goes_on_stream : (f : Format) (v : SenderView) (t s : ℕ) (n : Name) → IsReached f v → name_of v t ≡ Some n → goes_on_with v.plan t (continued v.plan s) ≡ true → n.lane.stream ≡ s
+goes_on_stream f v t s n h is on = by_next (continued v.plan s) refl on
+  where
+    by_next : (o : Option Entry) → continued v.plan s ≡ o → goes_on_with v.plan t o ≡ true → n.lane.stream ≡ s
+    by_next None next has = absurd (cc)
+    by_next (Some e) next has =
+        let own = continued_owns f v s e h next in
+        let named = (own t has).2 in
+        let same : n ≡ record { lane = entry_lane e; number = entry_number e } = let some : Some n ≡ Some (record { lane = entry_lane e; number = entry_number e }) = sym is ∙ named in cc in
+        let part = continued_is v.streams v.plan s e (is_named f v h) next in
+        let there : (entry_lane e).stream ≡ s = ap (λ (x : Entry). (entry_lane x).stream) part.is ∙ part.on in
+        ap (λ (y : Name). y.lane.stream) same ∙ there

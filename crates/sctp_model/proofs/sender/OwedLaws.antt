@@ -98,7 +98,7 @@ fewer_owed v n h lt is =
 abbrev pub IsWindowed : SenderView → Type 0
 IsWindowed v = length v.plan.entries + in_part v ≤ WINDOW + v.cum
 
-none_added : (p : Plan) (s : ℕ) → continued (record p { entries = p.entries ++ [] }) s ≡ continued p s
+pub none_added : (p : Plan) (s : ℕ) → continued (record p { entries = p.entries ++ [] }) s ≡ continued p s
 none_added p s = ap (follower (record p { entries = p.entries ++ [] })) (latest-append s None p.entries []) ∙ of_plan (latest s None p.entries)
   where
     of_plan : (o : Option Entry) → follower (record p { entries = p.entries ++ [] }) o ≡ follower p o
