@@ -12,3 +12,4 @@ pub mod Chains
 pub mod StandsFor
 pub mod AllRuns
 pub mod SackOf
+pub mod Laws

@@ -4,6 +4,7 @@
 
 mod chain;
 mod inbound;
+mod laws;
 mod message;
 mod receiver;
 mod room;
@@ -12,6 +13,13 @@ mod sack;
 mod seen;
 mod tsn;
 
+pub use laws::{
+    cumulative_is_one, due_is_in_words, forward_is_one, nothing_is_given, piece_is_one,
+    words_are_one,
+};
 pub use message::Message;
 pub use receiver::Receiver;
 pub use sack::SackLists;
+
+#[cfg(test)]
+mod tests;
