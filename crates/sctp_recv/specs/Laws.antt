@@ -7,7 +7,7 @@ use Rattle.sctp_model.specs.Receiving.{IsDue, GivesAll}
 use Rattle.sctp_model.specs.receiver.DueInWords.{IsDueInWords}
 use Rattle.sctp_model.specs.receiver.PieceTaken.{Answer, PieceTaken}
 use Rattle.sctp_model.specs.receiver.ForwardTaken.{ForwardAnswer, ForwardTaken}
-use Rattle.sctp_model.specs.receiver.Laws.{IsApart, IsOrdinary, IsIdle}
+use Rattle.sctp_model.specs.receiver.Laws.{IsApart, IsOrdinary, IsIdle, IsSettled}
 
 -- a view has one cumulative index
 abbrev pub CumulativeIsOne : Type 0
@@ -31,6 +31,6 @@ DueIsInWords = (f : Format) (r : ReceiverView) (s n : ℕ) (ms : List Handed) (m
 abbrev pub WordsAreOne : Type 0
 WordsAreOne = (f : Format) (r : ReceiverView) (s n : ℕ) (ms os : List Handed) (m o : ℕ) → IsDueInWords f r s n ms m → IsDueInWords f r s n os o → (ms ≡ os) × (m ≡ o)
 
--- where nothing is due, giving changes nothing
+-- where nothing is due, and no ordered chunk lies behind, giving changes nothing
 abbrev pub NothingIsGiven : Type 0
-NothingIsGiven = (f : Format) (n : ℕ) (r t : ReceiverView) → IsApart f r.kept → IsIdle f r → GivesAll f n r t → t ≡ r
+NothingIsGiven = (f : Format) (n : ℕ) (r t : ReceiverView) → IsApart f r.kept → IsIdle f r → IsSettled r → GivesAll f n r t → t ≡ r

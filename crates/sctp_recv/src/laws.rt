@@ -28,7 +28,8 @@ pub fn words_are_one()
     ensures { WordsAreOne }
 {}
 
-/// Where nothing is due, handing over what is due, on any number of streams, changes nothing.
+/// Where nothing is due, and no ordered chunk lies behind, handing over what is due on any number of streams changes
+/// nothing.
 pub fn nothing_is_given()
     ensures { NothingIsGiven }
 {}

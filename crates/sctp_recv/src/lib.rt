@@ -20,6 +20,3 @@ pub use laws::{
 pub use message::Message;
 pub use receiver::Receiver;
 pub use sack::SackLists;
-
-#[cfg(test)]
-mod tests;

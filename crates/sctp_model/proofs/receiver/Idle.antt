@@ -9,7 +9,7 @@ use Rattle.sctp_model.specs.Format.{Format}
 use Rattle.sctp_model.specs.Pieces.{Piece}
 use Rattle.sctp_model.specs.ReceiverView.{ReceiverView}
 use Rattle.sctp_model.specs.Receiving.{Stop, is_below, without_below, GivesOrdered, GivesAll}
-use Rattle.sctp_model.specs.receiver.Laws.{IsIdle}
+use Rattle.sctp_model.specs.receiver.Laws.{IsIdle, IsSettled}
 
 -- ---- giving where nothing is due
 
@@ -31,11 +31,11 @@ filter_all test (x ∷ xs) none =
     let more = filter_all test xs (λ y there. none y (inr there)) in
     rw here (ap (λ (ys : List Piece). x ∷ ys) more)
 
-pub nothing_given : (f : Format) (r : ReceiverView) (s : ℕ) → IsIdle f r → GivesOrdered f s r r
-nothing_given f r s idle = ([], r.next s, Stop (r.next s) (idle.ordered s).0 (idle.ordered s).1, same)
+pub nothing_given : (f : Format) (r : ReceiverView) (s : ℕ) → IsIdle f r → IsSettled r → GivesOrdered f s r r
+nothing_given f r s idle settled = ([], r.next s, Stop (r.next s) (idle.ordered s).0 (idle.ordered s).1, same)
   where
     kept : r.kept ≡ without_below r.kept s (r.next s)
-    kept = sym (filter_all (is_below s (r.next s)) r.kept (idle.settled s))
+    kept = sym (filter_all (is_below s (r.next s)) r.kept (settled s))
 
     same : r ≡ record r { next = at r.next s (r.next s); waiting = at r.waiting s (r.waiting s ++ []); kept = without_below r.kept s (r.next s) }
     same = λ i. record r {
@@ -44,6 +44,6 @@ nothing_given f r s idle = ([], r.next s, Stop (r.next s) (idle.ordered s).0 (id
       kept = kept i;
     }
 
-pub nothing_given_anywhere : (f : Format) (n : ℕ) (r : ReceiverView) → IsIdle f r → GivesAll f n r r
-nothing_given_anywhere f zero r idle = refl
-nothing_given_anywhere f (suc n) r idle = (r, nothing_given_anywhere f n r idle, nothing_given f r n idle)
+pub nothing_given_anywhere : (f : Format) (n : ℕ) (r : ReceiverView) → IsIdle f r → IsSettled r → GivesAll f n r r
+nothing_given_anywhere f zero r idle settled = refl
+nothing_given_anywhere f (suc n) r idle settled = (r, nothing_given_anywhere f n r idle settled, nothing_given f r n idle settled)

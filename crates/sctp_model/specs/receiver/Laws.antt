@@ -20,9 +20,11 @@ pub record IsOrdinary (f : Format) (r : ReceiverView) : Type 0 where
   pub apart : IsApart f r.kept
   pub recorded : (x : Piece) → Has r.kept x → r.seen x.index ≡ true
 
--- Nothing is due: on each stream the next number is neither whole nor skipped, no unordered message is whole, and no ordered chunk kept
--- lies behind the next number.
+-- Nothing is due: on each stream the next number is neither whole nor skipped, and no unordered message is whole.
 pub record IsIdle (f : Format) (r : ReceiverView) : Type 0 where
   pub ordered : (s : ℕ) → (r.skip (ordered_lane s) ≤ r.next s) × HasNoWhole f r.kept (ordered_lane s) (r.next s)
   pub unordered : (y : Piece) (xs : List Piece) → y.lane.kind ≡ Unordered → IsWholeWith f r.kept y xs → ⊥
-  pub settled : (s : ℕ) (x : Piece) → Has r.kept x → is_below s (r.next s) x ≡ false
+
+-- no ordered chunk that is kept lies behind the next number of its stream
+abbrev pub IsSettled : ReceiverView → Type 0
+IsSettled r = (s : ℕ) (x : Piece) → Has r.kept x → is_below s (r.next s) x ≡ false
