@@ -1,14 +1,14 @@
 -- The FORWARD of a view names, by rising stream and ordered before unordered, of each numbered lane the largest number up to the point.
-use Rattle.std.proofs.Common.{◌≡◌, ℕ, zero, suc, ◌+◌, ◌-◌, ◌<◌, ◌≤◌, ◌⊎◌, inl, inr, List, [], ◌∷◌, ◌++◌, length, take, drop, Bool, true, false, Option, Some, None, refl, sym, ap, ◌∙◌, subst, arith, length-drop}
+use Rattle.std.proofs.Common.{◌≡◌, ℕ, zero, suc, ◌+◌, ◌-◌, ◌<◌, ◌≤◌, ◌⊎◌, inl, inr, List, [], ◌∷◌, ◌++◌, take, drop, Bool, true, false, Option, Some, None, refl, sym, ap, ◌∙◌, subst, arith}
 use Rattle.std.specs.Prelude.{◌==◌, if◌then◌else◌, slice_get, max, nat_le}
 use Rattle.std.proofs.lemmas.Bool.Decides.{nat_tests}
 use Rattle.sctp_model.specs.Lists.{Has}
 use Rattle.sctp_model.specs.Format.{Format, Kind, Ordered, Unordered, Lane, is_numbered, same_lane}
-use Rattle.sctp_model.specs.Plan.{Entry, Part, End, Plan, entry_at, IsOf}
+use Rattle.sctp_model.specs.Plan.{Entry, Plan, entry_at, IsOf}
 use Rattle.sctp_model.specs.SenderView.{SenderView}
-use Rattle.sctp_model.specs.Forward.{Skip, Forward, StandsIn, IsLaneBefore, IsListed, IsForward}
+use Rattle.sctp_model.specs.Forward.{Skip, StandsIn, IsLaneBefore, IsListed, IsForward}
 use Rattle.sctp_model.specs.sender.Entries.{entry_lane, entry_number}
-use Rattle.sctp_model.specs.sender.Readers.{given_up_run, point}
+use Rattle.sctp_model.specs.sender.Readers.{point}
 use Rattle.sctp_model.specs.sender.Forwarding.{larger, largest_in, passed, skip_in, skip_of, skips_on, skips_below, forward_of}
 use Rattle.sctp_model.specs.sender.Reached.{IsReached}
 use Rattle.sctp_model.proofs.sender.PlanLaws.{AllNamed, IsNamed, lanes_same, same_lane-self}

@@ -1,16 +1,12 @@
 -- The point is the largest index up to which all after CUM is of abandoned messages, and the FORWARD of a view names of each lane the largest number up to it.
-use Rattle.std.proofs.Common.{◌≡◌, ℕ, zero, suc, ◌+◌, ◌-◌, ◌<◌, ◌≤◌, ◌⊎◌, inl, inr, List, [], ◌∷◌, ◌++◌, length, take, drop, Bool, true, false, Option, Some, None, refl, sym, ap, ◌∙◌, subst, arith, length-drop}
-use Rattle.std.specs.Prelude.{◌==◌, if◌then◌else◌, slice_get, max, nat_le}
+use Rattle.std.proofs.Common.{◌≡◌, ℕ, zero, suc, ◌+◌, ◌-◌, ◌<◌, ◌≤◌, List, [], ◌∷◌, drop, Bool, true, false, Some, refl, sym, ap, ◌∙◌, subst, arith}
+use Rattle.std.specs.Prelude.{if◌then◌else◌, slice_get, nat_le}
 use Rattle.std.proofs.lemmas.Bool.Decides.{nat_tests}
-use Rattle.sctp_model.specs.Lists.{Has}
-use Rattle.sctp_model.specs.Format.{Format, Kind, Ordered, Unordered, Lane, is_numbered, same_lane}
-use Rattle.sctp_model.specs.Plan.{Entry, Part, End, Plan, entry_at, IsOf}
-use Rattle.sctp_model.specs.SenderView.{SenderView, IsGivenUp, IsAllGivenUp, IsPoint}
-use Rattle.sctp_model.specs.Forward.{Skip, Forward, StandsIn, IsLaneBefore, IsListed, IsForward}
+use Rattle.sctp_model.specs.Format.{Lane}
+use Rattle.sctp_model.specs.Plan.{Entry, Part, End, entry_at, IsOf}
+use Rattle.sctp_model.specs.SenderView.{SenderView, IsAllGivenUp, IsPoint}
 use Rattle.sctp_model.specs.sender.Entries.{entry_lane, entry_number, is_given_up}
 use Rattle.sctp_model.specs.sender.Readers.{given_up_run, point}
-use Rattle.sctp_model.specs.sender.Reached.{IsReached}
-use Rattle.sctp_model.proofs.sender.Bounds.{is_bounded}
 
 -- ---- entries by their index
 
