@@ -5,3 +5,4 @@ pub mod KeepLemmas
 pub mod QueueLemmas
 pub mod ReaderLemmas
 pub mod TicketLemmas
+pub mod AbandonLemmas

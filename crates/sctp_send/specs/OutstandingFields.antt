@@ -1,5 +1,5 @@
 -- What the entries above CUM hold, field by field, and what each call makes of them.
-use Rattle.std.specs.Prelude.{ℕ, zero, suc, Bool, true, false, not, ◌&&◌, if◌then◌else◌, List, [], ◌∷◌, map, Some}
+use Rattle.std.specs.Prelude.{ℕ, zero, suc, Bool, true, false, not, ◌&&◌, ◌==◌, if◌then◌else◌, List, [], ◌∷◌, map, Some}
 use Rattle.sctp_model.specs.Format.{Lane}
 use Rattle.sctp_model.specs.Framing.{kind_of}
 use Rattle.sctp_model.specs.Plan.{Message, Entry, Part, End}
@@ -80,3 +80,12 @@ timed e = record e { standing = marked_if (not e.covered && not e.given_up) e.st
 
 abbrev pub all_timed : List Outstanding → List Outstanding
 all_timed es = map timed es
+
+-- ---- given up
+
+-- an entry of the message with this ticket is given up, and its mark ends
+abbrev pub given : ℕ → Outstanding → Outstanding
+given t e = if e.message.value.ticket == t then record e { given_up = true; standing = unless_covered true e.standing } else e
+
+abbrev pub all_given : ℕ → List Outstanding → List Outstanding
+all_given t es = map (given t) es

@@ -6,6 +6,9 @@ use Rattle.sctp_model.specs.SenderView.{SenderView}
 use Rattle.sctp_model.specs.sender.Queueing as model
 use Rattle.sctp_model.specs.sender.Queueing.{refusal, queued}
 use Rattle.sctp_model.specs.sender.SackTaken as taken
+use Rattle.sctp_model.specs.sender.Abandoning as gone
+use Rattle.sctp_send.specs.declared.abandon.Abandoned.{Abandoned as AbandonedFields}
+use Rattle.sctp_send.specs.declared.abandon.Abandoned.TheVariants.{Withdrawn, Abandoned, Acknowledged, Unknown, Reliable}
 use Rattle.sctp_send.specs.declared.message.Ticket.{Ticket}
 use Rattle.sctp_send.specs.declared.queue.SendFault.{SendFault}
 use Rattle.sctp_send.specs.declared.queue.SendFault.TheVariants.{NoSuchStream, Empty, TooLong, QueueFull, Spent, NoMemory}
@@ -46,3 +49,12 @@ queue_after v lane payload bytes until (Err fault) = v
 -- the lane of a call
 abbrev pub lane_for : ℕ → Bool → Lane
 lane_for stream ordered = record { stream = stream; kind = kind_of (not ordered) }
+
+-- ---- a message abandoned
+
+abbrev pub answer_said : AbandonedFields → gone.AbandonAnswer
+answer_said Withdrawn = gone.Withdrawn
+answer_said Abandoned = gone.Abandoned
+answer_said Acknowledged = gone.Acknowledged
+answer_said Unknown = gone.Unknown
+answer_said Reliable = gone.Reliable

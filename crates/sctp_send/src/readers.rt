@@ -118,7 +118,7 @@ fn is_numbered(fate: Fate) -> bool
 }
 
 /// Some entry of the message with this ticket is not covered.
-fn some_uncovered(outstanding: &VecDeque<Outstanding>, ticket: u32) -> bool
+pub fn some_uncovered(outstanding: &VecDeque<Outstanding>, ticket: u32) -> bool
     ensures { (size : ℕ) → result ≡ any_uncovered ticket (map (item_said size) outstanding.now.items) }
 {
     for at in 0..outstanding.len() {
@@ -138,7 +138,7 @@ fn is_uncovered(entry: &Outstanding, ticket: u32) -> bool
 }
 
 /// Some stream goes on with the message with this ticket.
-fn some_goes_on(tracks: &[Track], ticket: u32) -> bool
+pub fn some_goes_on(tracks: &[Track], ticket: u32) -> bool
     ensures { (size : ℕ) → result ≡ any_rest ticket (map (track_said size) tracks.now) }
 {
     for track in tracks {
