@@ -5,3 +5,5 @@ mod WireLemmas
 mod StreamLemmas
 mod BlockLemmas
 mod ReceiverSteps
+mod Reordering
+mod ChainLemmas
