@@ -1,1 +1,2 @@
 pub use Rattle.sctp_model.specs.Framing
+pub mod SkipForms

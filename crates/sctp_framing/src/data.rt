@@ -3,6 +3,7 @@
 use crate::framing::Framing;
 use crate::numbers::as_number;
 use sctp_serial::{S16, Serial};
+use sctp_wire::{Chunk, Forward, Piece, SkipForm};
 
 /// The bytes of a DATA chunk before its data.
 const HEADER: usize = 16;
@@ -22,6 +23,10 @@ impl Framing for DataFraming {
 
     ghost skipping = { skip_law Plain };
 
+    fn data_chunk(piece: Piece<'_>) -> Chunk<'_> {
+        Chunk::Data(piece)
+    }
+
     fn header() -> usize {
         HEADER
     }
@@ -40,6 +45,14 @@ impl Framing for DataFraming {
 
     fn is_numbered(unordered: bool) -> bool {
         !unordered
+    }
+
+    fn forward_chunk(forward: Forward<'_>) -> Chunk<'_> {
+        Chunk::ForwardTsn(forward)
+    }
+
+    fn skip_form() -> SkipForm {
+        SkipForm::Narrow
     }
 
     fn number_near(unordered: bool, wire: u32, reference: u32) -> Option<u32> {

@@ -1,5 +1,7 @@
 //! The trait of a format, with its laws.
 
+use sctp_wire::{Chunk, Forward, Piece, SkipForm};
+
 /// A format of user data: DATA or I-DATA.
 ///
 /// Sender and receiver are written once over it. Numbers and indexes are counts, which never wrap; what is
@@ -7,14 +9,20 @@
 pub trait Framing {
     ghost use Rattle.std.specs.Prelude.{◌≡◌};
     ghost use Rattle.sctp_model.specs.Format.{Format, is_numbered};
-    ghost use Rattle.sctp_model.specs.Framing.{kind_of, header_of, wire_number, takes_turns, number_near, place_in, begins_in, payload_in, lets_go};
+    ghost use Rattle.sctp_model.specs.Framing.{kind_of, data_chunk, header_of, wire_number, takes_turns, number_near, place_in, begins_in, payload_in, forward_chunk, lets_go};
     ghost use Rattle.sctp_model.specs.Pieces.{word_of};
+    ghost use Rattle.sctp_wire.specs.ChunkTree.{piece_meaning, forward_meaning, chunk_meaning};
+    ghost use Rattle.sctp_framing.specs.SkipForms.{skip_form};
     ghost use Rattle.sctp_model.specs.FormatLaws.{WholeLaw, SkipLaw};
 
     // Which format it is.
     ghost format: { Format };
 
     // ---- what a sender writes
+
+    /// The chunk of a piece: a DATA or an I-DATA.
+    fn data_chunk(piece: Piece<'_>) -> Chunk<'_>
+        ensures { chunk_meaning result ≡ data_chunk format (piece_meaning piece.entry) };
 
     /// The bytes of a chunk before its data.
     fn header() -> usize
@@ -36,6 +44,14 @@ pub trait Framing {
     /// Others, the unordered ones of DATA, are known by their indexes alone.
     fn is_numbered(unordered: bool) -> bool
         ensures { result ≡ is_numbered format (kind_of unordered) };
+
+    /// The chunk of a FORWARD: a FORWARD-TSN or an I-FORWARD-TSN.
+    fn forward_chunk(forward: Forward<'_>) -> Chunk<'_>
+        ensures { chunk_meaning result ≡ forward_chunk format (forward_meaning forward.entry) };
+
+    /// How the entries of a FORWARD lie in bytes.
+    fn skip_form() -> SkipForm
+        ensures { result ≡ skip_form format };
 
     // ---- what a receiver reads
 

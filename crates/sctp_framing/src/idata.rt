@@ -3,6 +3,7 @@
 use crate::framing::Framing;
 use crate::numbers::as_number;
 use sctp_serial::{S32, Serial};
+use sctp_wire::{Chunk, Forward, Piece, SkipForm};
 
 /// The bytes of an I-DATA chunk before its data.
 const HEADER: usize = 20;
@@ -22,6 +23,10 @@ impl Framing for IDataFraming {
 
     ghost skipping = { skip_law Interleaved };
 
+    fn data_chunk(piece: Piece<'_>) -> Chunk<'_> {
+        Chunk::IData(piece)
+    }
+
     fn header() -> usize {
         HEADER
     }
@@ -40,6 +45,14 @@ impl Framing for IDataFraming {
 
     fn is_numbered(_unordered: bool) -> bool {
         true
+    }
+
+    fn forward_chunk(forward: Forward<'_>) -> Chunk<'_> {
+        Chunk::IForwardTsn(forward)
+    }
+
+    fn skip_form() -> SkipForm {
+        SkipForm::Wide
     }
 
     fn number_near(_unordered: bool, wire: u32, reference: u32) -> Option<u32> {

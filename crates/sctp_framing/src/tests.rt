@@ -1,6 +1,7 @@
 //! Each method once, at both formats, called through the trait.
 
 use crate::{DataFraming, Framing, IDataFraming};
+use sctp_wire::{Chunk, Forward, Piece, SkipForm, Skips};
 
 /// What a sender writes for an ordered and for an unordered fragment, through the trait alone.
 fn written<F: Framing>(number: u32, fragment: u32) -> (usize, u32, u32, u32) {
@@ -66,4 +67,37 @@ fn a_forward_lets_go_by_index_or_by_number(rt: HostRuntime) {
     assert!(rt; IDataFraming::lets_go(9, Some(1), 3, 2));
     assert!(rt; !IDataFraming::lets_go(1, Some(2), 3, 2));
     assert!(rt; !IDataFraming::lets_go(1, None, 3, 2));
+}
+
+/// A piece of one byte.
+fn piece(bytes: &[u8]) -> Piece<'_> {
+    Piece {
+        immediate: false,
+        unordered: false,
+        begin: true,
+        end: true,
+        tsn: 1,
+        stream: 0,
+        number: 0,
+        word: 51,
+        bytes,
+    }
+}
+
+/// A FORWARD to 7 that lists nothing.
+fn bare() -> Forward<'static> {
+    Forward {
+        cumulative: 7,
+        skips: Skips::none(),
+    }
+}
+
+#[test]
+fn a_chunk_is_of_its_format(rt: HostRuntime) {
+    assert!(rt; matches!(DataFraming::data_chunk(piece(b"a")), Chunk::Data(_)));
+    assert!(rt; matches!(IDataFraming::data_chunk(piece(b"a")), Chunk::IData(_)));
+    assert!(rt; matches!(DataFraming::forward_chunk(bare()), Chunk::ForwardTsn(_)));
+    assert!(rt; matches!(IDataFraming::forward_chunk(bare()), Chunk::IForwardTsn(_)));
+    assert_eq!(rt; DataFraming::skip_form(), SkipForm::Narrow);
+    assert_eq!(rt; IDataFraming::skip_form(), SkipForm::Wide);
 }

@@ -68,11 +68,6 @@ abbrev pub forward_chunk : Format → ForwardMeaning → ChunkMeaning
 forward_chunk Plain x = ForwardTsn x
 forward_chunk Interleaved x = IForwardTsn x
 
--- the bytes of an entry of a FORWARD (RFC 3758, 3.2; RFC 8260, 2.3.1)
-abbrev pub skip_size : Format → ℕ
-skip_size Plain = 4
-skip_size Interleaved = 8
-
 -- the number lies below one past the largest number skipped
 abbrev pub is_skipped : Option ℕ → (skip : ℕ) → Bool
 is_skipped None skip = false

@@ -4,3 +4,4 @@ pub mod SackLemmas
 pub mod KeepLemmas
 pub mod QueueLemmas
 pub mod ReaderLemmas
+pub mod TicketLemmas

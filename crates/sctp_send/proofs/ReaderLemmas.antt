@@ -203,7 +203,7 @@ stopped_run size es at run x lt small read off before =
     let none : given_up_items (drop at (map (item_said size) es)) ≡ 0 = step ∙ rw here refl in
     omega (arith, before, none)
 
-none_behind : {A : Type 0} (n : ℕ) (xs : List A) → length xs ≤ n → drop n xs ≡ []
+pub none_behind : {A : Type 0} (n : ℕ) (xs : List A) → length xs ≤ n → drop n xs ≡ []
 none_behind zero [] le = refl
 none_behind zero (x ∷ xs) le = absurd (omega arith)
 none_behind (suc n) [] le = refl
@@ -232,7 +232,7 @@ ended_any size es at le before =
 
 -- ---- sums, stream by stream
 
-track_read : (size : ℕ) (ts : List TrackFields) (i : ℕ) (x : TrackFields) → x ≡ get_or ts i x → get_or (map (track_said size) ts) i (track_said size x) ≡ track_said size x
+pub track_read : (size : ℕ) (ts : List TrackFields) (i : ℕ) (x : TrackFields) → x ≡ get_or ts i x → get_or (map (track_said size) ts) i (track_said size x) ≡ track_said size x
 track_read size ts i x read = of_map ts i x ∙ ap (track_said size) (sym read)
   where
     of_map : (ds : List TrackFields) (j : ℕ) (d : TrackFields) → get_or (map (track_said size) ds) j (track_said size d) ≡ track_said size (get_or ds j d)

@@ -5,7 +5,7 @@ use Rattle.sctp_model.specs.Plan.{Entry, Plan}
 use Rattle.sctp_model.specs.SenderView.{SenderView}
 use Rattle.sctp_model.specs.sender.Entries.{entry_message, entry_fragment, fragments_in, is_given_up, continued, in_part}
 use Rattle.sctp_model.specs.sender.Queueing.{owed_for}
-use Rattle.sctp_model.specs.sender.Abandoning.{Name, name_of, waits, is_abandoned}
+use Rattle.sctp_model.specs.sender.Abandoning.{Name, name_of, waits, has_ticket, is_abandoned}
 use Rattle.sctp_model.specs.sender.Reached.{IsReached}
 use Rattle.sctp_send.specs.SenderKept.{Item, Rest, Track, Kept}
 use Rattle.sctp_send.specs.declared.message.Fate.{Fate}
@@ -105,3 +105,28 @@ is_given_up_fate Waiting = false
 is_given_up_fate Numbered = false
 is_given_up_fate Withdrawn = false
 is_given_up_fate GivenUp = true
+
+abbrev pub is_numbered_fate : Fate → Bool
+is_numbered_fate Waiting = false
+is_numbered_fate Numbered = true
+is_numbered_fate Withdrawn = false
+is_numbered_fate GivenUp = false
+
+-- ---- a message by its ticket
+
+abbrev pub is_item_uncovered : ℕ → Item → Bool
+is_item_uncovered t x = has_ticket t x.message && not x.covered
+
+-- some item of the message with this ticket is not covered
+abbrev pub any_uncovered : ℕ → List Item → Bool
+any_uncovered t [] = false
+any_uncovered t (x ∷ xs) = is_item_uncovered t x || any_uncovered t xs
+
+abbrev pub rest_has : ℕ → Option Rest → Bool
+rest_has t None = false
+rest_has t (Some r) = has_ticket t r.message
+
+-- some stream goes on with the message with this ticket
+abbrev pub any_rest : ℕ → List Track → Bool
+any_rest t [] = false
+any_rest t (x ∷ xs) = rest_has t x.rest || any_rest t xs

@@ -2,10 +2,10 @@
 
 ghost use Rattle.std.specs.Prelude.{◌≡◌, ℕ, Bool, ◌<◌, ◌^◌, ◌%◌, map, length};
 ghost use Rattle.sctp_model.specs.SenderView.{SenderView};
-ghost use Rattle.sctp_model.specs.sender.Readers.{point, unsettled, drained, outstanding, abandoned};
+ghost use Rattle.sctp_model.specs.sender.Readers.{point, unsettled, drained, outstanding, abandoned, acknowledged};
 ghost use Rattle.sctp_send.specs.OutstandingFields.{item_said};
 ghost use Rattle.sctp_send.specs.SenderFields.{track_said};
-ghost use Rattle.sctp_send.specs.SenderStands.{StandsFor, total, one_if_rest, given_up_items, any_unsettled, is_item_unsettled, is_given_up_fate};
+ghost use Rattle.sctp_send.specs.SenderStands.{StandsFor, total, one_if_rest, given_up_items, any_unsettled, is_item_unsettled, is_given_up_fate, is_numbered_fate, any_uncovered, is_item_uncovered, any_rest, rest_has};
 
 use crate::message::{Fate, Ticket};
 use crate::outstanding::{Outstanding, Standing};
@@ -59,6 +59,28 @@ impl<F: Framing> Sender<F> {
         self.outstanding.len() == 0
     }
 
+    /// Whether the message with this ticket is acknowledged whole: its last fragment is assigned, all its indexes are covered, and it was
+    /// not abandoned.
+    pub fn acknowledged(&self, ticket: Ticket) -> bool
+        ensures { (v : SenderView) → StandsFor F.format self.now v → result ≡ acknowledged v ticket.0 }
+    {
+        let at = ticket.0 as usize;
+        if at == 0 {
+            return false;
+        }
+        if at > self.fates.len() {
+            return false;
+        }
+        let fate = self.fates[at - 1];
+        if !is_numbered(fate) {
+            return false;
+        }
+        if some_goes_on(&self.tracks, ticket.0) {
+            return false;
+        }
+        !some_uncovered(&self.outstanding, ticket.0)
+    }
+
     /// Whether the message with this ticket has a number and was abandoned.
     pub fn abandoned(&self, ticket: Ticket) -> bool
         ensures { (v : SenderView) → StandsFor F.format self.now v → result ≡ abandoned v ticket.0 }
@@ -82,6 +104,58 @@ fn is_given_up(fate: Fate) -> bool
     match fate {
         Fate::GivenUp => true,
         Fate::Waiting | Fate::Numbered | Fate::Withdrawn => false,
+    }
+}
+
+/// The message has a number and was not abandoned.
+fn is_numbered(fate: Fate) -> bool
+    ensures { result ≡ is_numbered_fate fate }
+{
+    match fate {
+        Fate::Numbered => true,
+        Fate::Waiting | Fate::Withdrawn | Fate::GivenUp => false,
+    }
+}
+
+/// Some entry of the message with this ticket is not covered.
+fn some_uncovered(outstanding: &VecDeque<Outstanding>, ticket: u32) -> bool
+    ensures { (size : ℕ) → result ≡ any_uncovered ticket (map (item_said size) outstanding.now.items) }
+{
+    for at in 0..outstanding.len() {
+        let entry = &outstanding[at];
+        if is_uncovered(entry, ticket) {
+            return true;
+        }
+    }
+    false
+}
+
+/// An entry is of the message with this ticket, and not covered.
+fn is_uncovered(entry: &Outstanding, ticket: u32) -> bool
+    ensures { (size : ℕ) → result ≡ is_item_uncovered ticket (item_said size entry.now) }
+{
+    entry.message.ticket == ticket && !entry.covered
+}
+
+/// Some stream goes on with the message with this ticket.
+fn some_goes_on(tracks: &[Track], ticket: u32) -> bool
+    ensures { (size : ℕ) → result ≡ any_rest ticket (map (track_said size) tracks.now) }
+{
+    for track in tracks {
+        if goes_on(track, ticket) {
+            return true;
+        }
+    }
+    false
+}
+
+/// A stream goes on with the message with this ticket.
+fn goes_on(track: &Track, ticket: u32) -> bool
+    ensures { (size : ℕ) → result ≡ rest_has ticket (track_said size track.now).rest }
+{
+    match &track.rest {
+        Some(rest) => rest.message.ticket == ticket,
+        None => false,
     }
 }
 

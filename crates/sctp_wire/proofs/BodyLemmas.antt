@@ -1,6 +1,6 @@
 -- A chunk's flags and value are read in one way, and what is read has that layout.
-use Rattle.std.proofs.Common.{◌≡◌, ℕ, ◌+◌, ◌*◌, ◌/◌, ◌<◌, ◌≤◌, ◌^◌, Bool, true, false, List, [], ◌∷◌, ◌++◌, length, drop, refl, sym, ap, ◌∙◌, arith, length-append}
-use Rattle.std.specs.Prelude.{◌==◌, ◌&&◌}
+use Rattle.std.proofs.Common.{◌≡◌, ℕ, ◌+◌, ◌/◌, ◌<◌, ◌≤◌, ◌^◌, true, List, [], ◌∷◌, length, drop, refl, sym, ap, ◌∙◌, arith}
+use Rattle.std.specs.Prelude.{◌==◌}
 use Rattle.std.proofs.lemmas.List.{append-nil}
 use Rattle.std.proofs.lemmas.Bool.{leb-true, le-leb}
 use Rattle.std.proofs.lemmas.Grind.{common_steps}
@@ -8,10 +8,8 @@ use Rattle.sctp_model.specs.Chunk.{ChunkMeaning, Data, Init, InitAck, Sack, Hear
 use Rattle.sctp_model.specs.Numbers.{u32_bytes, u32_at, AreBytes}
 use Rattle.sctp_wire.specs.declared.skips.SkipForm.TheVariants.{Narrow, Wide}
 use Rattle.sctp_wire.specs.chunks.Piece.{data_value, i_data_laid}
-use Rattle.sctp_wire.specs.chunks.Init.{init_value, is_init_listed}
-use Rattle.sctp_wire.specs.chunks.Sack.{sack_value}
-use Rattle.sctp_wire.specs.chunks.Forward.{forward_value}
-use Rattle.sctp_wire.specs.Layouts.{is_known, flags_of, ReadsFlags, value_of, ReadsValue, is_laid_out, is_listed, IsInRange, IsReadable}
+use Rattle.sctp_wire.specs.chunks.Init.{init_value}
+use Rattle.sctp_wire.specs.Layouts.{flags_of, ReadsFlags, value_of, ReadsValue, is_laid_out, is_listed, IsInRange, IsReadable}
 use Rattle.sctp_wire.specs.Reading.{body_at}
 use Rattle.sctp_wire.proofs.NumberLemmas.{u32_at-bytes, length-u32, bytes-u32_at, u32_at-lt}
 use Rattle.sctp_wire.proofs.TypedLemmas.{drop_all}

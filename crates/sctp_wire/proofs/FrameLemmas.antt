@@ -1,7 +1,7 @@
 -- The first chunk of bytes: where its frame is right it is read, and what is read is a chunk; else it is wrong
 -- by the first check that fails.
 use Rattle.std.proofs.Common.{◌≡◌, ℕ, suc, ◌+◌, ◌-◌, ◌<◌, ◌≤◌, ◌^◌, inl, inr, Bool, true, false, List, [], ◌∷◌, ◌++◌, length, take, drop, refl, sym, ap, ◌∙◌, subst, append_assoc, arith, length-append, length-drop, ⊎_elim, Ok, Err}
-use Rattle.std.specs.Prelude.{Result, slice_index}
+use Rattle.std.specs.Prelude.{slice_index}
 use Rattle.std.proofs.lemmas.List.{drop-drop, take-append-drop, take_at, drop_at, length-take-le}
 use Rattle.std.proofs.lemmas.Bool.{cases_lt, lt-ltb, le-ltb}
 use Rattle.sctp_model.specs.Chunk.{ChunkMeaning, kind_of, chunk_length, padded, padding_after}
@@ -10,7 +10,7 @@ use Rattle.sctp_wire.specs.declared.fault.Reason.{Reason}
 use Rattle.sctp_wire.specs.declared.fault.Reason.TheVariants as reason
 use Rattle.sctp_wire.specs.Layouts.{ReadsFlags, ReadsValue, is_laid_out, is_listed, IsReadable}
 use Rattle.sctp_wire.specs.Reads.{header, ReadsChunk}
-use Rattle.sctp_wire.specs.FirstFault.{stated_length, value_at, HasHeader, IsCut, IsTooSmall, IsUnpadded, IsMisshapen, IsMislisted, IsWrong}
+use Rattle.sctp_wire.specs.FirstFault.{stated_length, value_at, HasHeader, IsTooSmall, IsUnpadded, IsWrong}
 use Rattle.sctp_wire.specs.Reading.{body_at, frame_at, framed, chunk_at, IsWhole}
 use Rattle.sctp_wire.proofs.NumberLemmas.{u16_at-bytes, length-u16, bytes-u16_at, u16_at-lt, AreBytes-drop, AreBytes-take}
 use Rattle.sctp_wire.proofs.BodyLemmas.{body_of, body_read, length-value}

@@ -11,7 +11,7 @@ use Rattle.sctp_wire.specs.declared.fault.WireFault.{WireFault}
 use Rattle.sctp_wire.specs.declared.fault.WireFault.TheVariants.{Cut, LengthTooSmall, PaddingMissing, ChunkBody, ParameterLength, NotAlone}
 use Rattle.sctp_wire.specs.FaultTree.{fault_at, offset_of}
 use Rattle.sctp_wire.specs.Reads.{ReadsChunk, ReadsEach, Reads}
-use Rattle.sctp_wire.specs.FirstFault.{IsWrong, FaultsAt, MisplacedAt, Faults}
+use Rattle.sctp_wire.specs.FirstFault.{IsWrong, FaultsAt, Faults}
 use Rattle.sctp_wire.specs.Reading.{chunk_at, FaultPlace, onto, each_of, AreChunks, chunks_or_none, chunks_of, where_placed, placed, reading_of}
 use Rattle.sctp_wire.specs.Laws.{ReadInOneWay}
 use Rattle.sctp_wire.proofs.NumberLemmas.{AreBytes-drop}

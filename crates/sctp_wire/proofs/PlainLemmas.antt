@@ -1,6 +1,6 @@
 -- Lists of items with type and length that are as they are written: the test tells exactly these.
-use Rattle.std.proofs.Common.{◌≡◌, ℕ, zero, suc, ◌+◌, ◌-◌, ◌<◌, ◌≤◌, inl, inr, Bool, true, false, List, [], ◌∷◌, ◌++◌, length, take, drop, replicate, refl, sym, ap, ◌∙◌, append_assoc, arith, length-append, length-drop, ⊎_elim, ◌≢◌}
-use Rattle.std.specs.Prelude.{◌==◌, ◌&&◌, ◌||◌, nat_lt}
+use Rattle.std.proofs.Common.{◌≡◌, ℕ, zero, suc, ◌-◌, ◌<◌, ◌≤◌, inl, inr, Bool, true, false, List, [], ◌∷◌, ◌++◌, length, take, drop, replicate, refl, sym, ap, ◌∙◌, append_assoc, arith, length-append, length-drop, ⊎_elim, ◌≢◌}
+use Rattle.std.specs.Prelude.{◌==◌, ◌&&◌, nat_lt}
 use Rattle.std.proofs.Math.ListN.{length-replicate}
 use Rattle.std.proofs.lemmas.List.{append-nil, drop-drop, take-append-drop, take_at, drop_at, length-take-le}
 use Rattle.std.proofs.lemmas.Bool.Decides.{eqb_tells}
@@ -9,7 +9,7 @@ use Rattle.sctp_model.specs.Chunk.{padded, padding_after}
 use Rattle.sctp_model.specs.Numbers.{AreBytes}
 use Rattle.sctp_model.specs.Typed.{Typed, IsTyped, typed_length, typed_bytes, filled, WritesTyped, stated as size_at, starts_typed, typed_at, after_typed, are_typed, typed_in, are_zero, is_plain_first, plain_within, are_plain}
 use Rattle.sctp_wire.proofs.NumberLemmas.{AreBytes-drop}
-use Rattle.sctp_wire.proofs.TypedLemmas.{Starts, starts, after_shorter, are_typed-nil, are_typed-after, typed_in-nil, typed_in-some, length-typed_bytes, size-typed, starts-with, drop_all, after-last, after-padding, first_is}
+use Rattle.sctp_wire.proofs.TypedLemmas.{starts, after_shorter, are_typed-nil, are_typed-after, typed_in-nil, typed_in-some, length-typed_bytes, size-typed, starts-with, drop_all, after-last, after-padding, first_is}
 
 -- ---- step by step
 

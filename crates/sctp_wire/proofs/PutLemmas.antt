@@ -1,7 +1,6 @@
 -- One item more behind a list of items with type and length.
-use Rattle.std.proofs.Common.{◌≡◌, ℕ, ◌+◌, ◌%◌, ◌≤◌, inl, inr, List, [], ◌∷◌, ◌++◌, length, replicate, refl, sym, ap, ◌∙◌, append_assoc, arith, length-append}
+use Rattle.std.proofs.Common.{◌≡◌, ℕ, ◌+◌, ◌%◌, inl, inr, List, [], ◌∷◌, ◌++◌, length, replicate, refl, sym, ap, ◌∙◌, append_assoc, arith, length-append}
 use Rattle.std.proofs.Math.ListN.{length-replicate}
-use Rattle.std.proofs.lemmas.List.{append-nil}
 use Rattle.sctp_model.specs.Chunk.{padding_after}
 use Rattle.sctp_model.specs.Numbers.{u16_bytes}
 use Rattle.sctp_model.specs.Typed.{Typed, IsTyped, typed_length, typed_bytes, ReadsTyped, filled, WritesTyped}

@@ -8,7 +8,6 @@ use Rattle.sctp_model.specs.Chunk.{SkipMeaning}
 use Rattle.sctp_model.specs.Numbers.{u16_bytes, u32_bytes, u16_at, u32_at, AreBytes}
 use Rattle.sctp_wire.specs.declared.skips.SkipForm.{SkipForm}
 use Rattle.sctp_wire.specs.declared.skips.SkipForm.TheVariants.{Narrow, Wide}
-use Rattle.sctp_wire.specs.Items.{items_in}
 use Rattle.sctp_wire.specs.Skips.{skip_size, skip_laid, skip_bytes, skip_at, IsSkip, ReadsSkips, skips_in, are_reserved_zero}
 use Rattle.sctp_wire.proofs.NumberLemmas.{u16_at-bytes, u32_at-bytes, bytes-u16_at, bytes-u32_at, u16_at-lt, u32_at-lt, AreBytes-drop}
 use Rattle.sctp_wire.proofs.ItemLemmas.{all-items_in, length-items_in}

@@ -1,17 +1,17 @@
 -- A message by its ticket: its entries are those whose message has the ticket, and it is in part where some stream goes on with it.
-use Rattle.std.proofs.Common.{◌≡◌, ℕ, zero, suc, ◌+◌, ◌<◌, ◌≤◌, List, [], ◌∷◌, length, Bool, true, false, Option, Some, None, refl, sym, ap, ◌∙◌, subst, arith}
-use Rattle.std.specs.Prelude.{◌==◌, not, ◌&&◌, ◌||◌, if◌then◌else◌}
+use Rattle.std.proofs.Common.{◌≡◌, ℕ, zero, suc, ◌<◌, List, [], ◌∷◌, Bool, true, false, Option, Some, None, refl, sym, ap, ◌∙◌, subst, arith}
+use Rattle.std.specs.Prelude.{◌==◌, not, ◌&&◌, ◌||◌}
 use Rattle.std.proofs.lemmas.Bool.{and_parts}
 use Rattle.std.proofs.lemmas.Bool.Decides.{nat_tests}
 use Rattle.sctp_model.specs.Format.{Format, Lane, same_lane}
-use Rattle.sctp_model.specs.Plan.{Message, Entry, Part, End, Plan, message_at}
+use Rattle.sctp_model.specs.Plan.{Entry, Part, Plan, message_at}
 use Rattle.sctp_model.specs.SenderView.{SenderView}
-use Rattle.sctp_model.specs.sender.Entries.{entry_lane, entry_number, entry_message, is_of, is_entry_of, is_in_part, any_from, continued, latest}
+use Rattle.sctp_model.specs.sender.Entries.{entry_lane, entry_number, entry_message, is_of, is_entry_of, is_in_part, any_from, continued}
 use Rattle.sctp_model.specs.sender.Abandoning.{Name, name_of, name_among, has_ticket, has_uncovered}
 use Rattle.sctp_model.specs.sender.Reached.{IsReached}
-use Rattle.sctp_model.proofs.sender.PlanLaws.{IsFollower, continued_is, lanes_same, same_lane-self}
+use Rattle.sctp_model.proofs.sender.PlanLaws.{continued_is, lanes_same, same_lane-self}
 use Rattle.sctp_model.proofs.sender.CountLaws.{is_named, name_found}
-use Rattle.sctp_model.proofs.sender.TicketLaws.{Owns, AllOwn, IsTicketed, is_ticketed, found_owns, latest_owns}
+use Rattle.sctp_model.proofs.sender.TicketLaws.{Owns, AllOwn, is_ticketed, found_owns, latest_owns}
 
 -- ---- one message
 
@@ -115,3 +115,17 @@ in_part_by_ticket f v t n h is = by_part (is_in_part v n.lane n.number) refl
         let low = (name_found v.streams v.plan t v.plan.entries n (is_named f v h) is).1 in
         sym (some_below (λ s. goes_on_with v.plan t (continued v.plan s)) v.streams n.lane.stream low (by_next (continued v.plan n.lane.stream) refl on))
     by_part false off = sym (none_below (λ s. goes_on_with v.plan t (continued v.plan s)) v.streams (λ s lt. off_stream off s (continued v.plan s) refl))
+
+-- the stream that goes on with a message is its own
+pub goes_on_stream : (f : Format) (v : SenderView) (t s : ℕ) (n : Name) → IsReached f v → name_of v t ≡ Some n → goes_on_with v.plan t (continued v.plan s) ≡ true → n.lane.stream ≡ s
+goes_on_stream f v t s n h is on = by_next (continued v.plan s) refl on
+  where
+    by_next : (o : Option Entry) → continued v.plan s ≡ o → goes_on_with v.plan t o ≡ true → n.lane.stream ≡ s
+    by_next None next has = absurd (cc)
+    by_next (Some e) next has =
+        let own = continued_owns f v s e h next in
+        let named = (own t has).2 in
+        let same : n ≡ record { lane = entry_lane e; number = entry_number e } = let some : Some n ≡ Some (record { lane = entry_lane e; number = entry_number e }) = sym is ∙ named in cc in
+        let part = continued_is v.streams v.plan s e (is_named f v h) next in
+        let there : (entry_lane e).stream ≡ s = ap (λ (x : Entry). (entry_lane x).stream) part.is ∙ part.on in
+        ap (λ (y : Name). y.lane.stream) same ∙ there

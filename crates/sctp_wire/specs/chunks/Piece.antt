@@ -1,5 +1,5 @@
 -- DATA and I-DATA: the flags, and what stands behind the header (RFC 9260, 3.3.1; RFC 8260, 2.1).
-use Rattle.std.specs.Prelude.{◌≡◌, ℕ, ◌+◌, ◌*◌, ◌<◌, ◌^◌, Bool, not, if◌then◌else◌, ◌==◌, nat_le, bit_and, List, ◌++◌, length, drop}
+use Rattle.std.specs.Prelude.{◌≡◌, ℕ, ◌+◌, ◌<◌, ◌^◌, Bool, not, if◌then◌else◌, ◌==◌, nat_le, bit_and, List, ◌++◌, length, drop}
 use Rattle.sctp_model.specs.Chunk.{PieceMeaning}
 use Rattle.sctp_model.specs.Numbers.{u16_bytes, u32_bytes, u16_at, u32_at}
 use Rattle.sctp_wire.specs.declared.codes.TheConstants.{IMMEDIATE, UNORDERED, BEGIN, END}

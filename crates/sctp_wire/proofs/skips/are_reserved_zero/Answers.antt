@@ -1,4 +1,4 @@
-use Rattle.std.proofs.Common.{◌≡◌, ◌∙◌, sym, arith, refl, true, false}
+use Rattle.std.proofs.Common.{◌∙◌, sym, arith, refl}
 use Rattle.std.proofs.lemmas.Grind.{common_steps}
 use Rattle.sctp_wire.proofs.SkipLemmas.{zero-none, zero-some}
 use Rattle.sctp_wire.proofs.skips.are_reserved_zero.Goals as goal

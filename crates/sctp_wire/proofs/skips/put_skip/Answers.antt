@@ -1,4 +1,4 @@
-use Rattle.std.proofs.Common.{◌≡◌, ℕ, List, ◌++◌, ◌∙◌, ap, arith}
+use Rattle.std.proofs.Common.{◌≡◌, ℕ, List, ◌++◌, ◌∙◌, ap}
 use Rattle.sctp_wire.specs.ChunkTree.{skip_meaning}
 use Rattle.sctp_wire.specs.Skips.{skip_bytes, skips_in}
 use Rattle.sctp_wire.proofs.SkipLemmas.{skips_in-push}

@@ -1,4 +1,4 @@
-use Rattle.std.proofs.Common.{arith, length-drop}
+use Rattle.std.proofs.Common.{arith}
 use Rattle.std.proofs.lemmas.Grind.{common_steps}
 use Rattle.sctp_wire.proofs.TypedLemmas.{starts}
 use Rattle.sctp_wire.proofs.typed.is_plain_first.Goals as goal

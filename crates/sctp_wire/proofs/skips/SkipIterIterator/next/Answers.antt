@@ -1,7 +1,6 @@
-use Rattle.std.proofs.Common.{◌≡◌, ◌∙◌, ◌∷◌, sym, arith, length, ◌<◌, ◌≤◌}
+use Rattle.std.proofs.Common.{◌∙◌, sym, arith, length, ◌<◌, ◌≤◌}
 use Rattle.std.proofs.lemmas.Grind.{common_steps}
-use Rattle.sctp_wire.specs.ChunkTree.{skip_meaning}
-use Rattle.sctp_wire.specs.Skips.{skip_size, skips_in}
+use Rattle.sctp_wire.specs.Skips.{skip_size}
 use Rattle.sctp_wire.proofs.SkipLemmas.{skips_in-none, skips_in-some}
 use Rattle.sctp_wire.proofs.skips.SkipIterIterator.next.Goals as goal
 

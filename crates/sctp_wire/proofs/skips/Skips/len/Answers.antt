@@ -1,5 +1,5 @@
-use Rattle.std.proofs.Common.{◌≡◌, ◌/◌, ◌∙◌, sym, ap, length, List}
-use Rattle.sctp_wire.specs.Skips.{SkipList, skip_size}
+use Rattle.std.proofs.Common.{◌∙◌, sym, ap, length}
+use Rattle.sctp_wire.specs.Skips.{SkipList}
 use Rattle.sctp_wire.proofs.SkipLemmas.{length-skips_in}
 use Rattle.sctp_wire.proofs.skips.Skips.len.Goals as goal
 

@@ -1,0 +1,68 @@
+//! The libraries as a caller sees them: chunks read and written again, two ends of an association, a cookie sealed and opened.
+#![tactic(auto)]
+
+use anyhow::Result;
+use sctp_cookie::{CookieBody, Key, Ports, open, seal};
+use sctp_trace::{Event, Mode, Pair, PairConfig, Side};
+use sctp_wire::{read_chunks, write_chunk};
+use std::alloc::Global;
+
+/// A DATA chunk with TSN 1, the message `Hi` on stream 0, and its padding.
+const HI: [u8; 20] = [
+    0, 3, 0, 18, 0, 0, 0, 1, 0, 0, 0, 0, 0, 0, 0, 0, 0x48, 0x69, 0, 0,
+];
+
+fn main(rt: HostRuntime) -> Result<()> {
+    let copy = copied(rt.alloc(), &HI)?;
+    println!(rt;
+        "read and written again: {}",
+        copy.as_slice() == HI.as_slice()
+    )?;
+    println!(rt; "{}", built(rt.alloc())?.as_str())?;
+    println!(rt; "the cookie opens: {}", opens())?;
+    Ok(())
+}
+
+/// The chunks of these bytes, written one behind another.
+fn copied(alloc: Global, bytes: &[u8]) -> Result<Vec<u8>> {
+    let mut out = Vec::new(alloc);
+    // An iterator of chunks that borrow, or the first fault and its offset.
+    for chunk in read_chunks(bytes)? {
+        if chunk.fits() {
+            write_chunk(&chunk, &mut out)?;
+        }
+    }
+    Ok(out)
+}
+
+/// What an end answers that is asked for a packet before there is an association.
+fn built(alloc: Global) -> Result<String> {
+    let config = PairConfig::new(1_500, 1_400, 65_536, 1, Mode::Data)?;
+    let mut pair = Pair::new(alloc, config)?;
+    let outcome = pair.step(&Event::Build { side: Side::A })?;
+    Ok(format!(in alloc; "{outcome:?}")?)
+}
+
+/// Whether a cookie opens a second after it was made.
+fn opens() -> bool {
+    let key = Key::new([7; 32]);
+    let body = CookieBody {
+        made: 5_000,
+        listener_port: 5_001,
+        caller_port: 5_000,
+        listener_tag: 9,
+        caller_tag: 7,
+        listener_tsn: 500,
+        caller_tsn: 100,
+        caller_rwnd: 65_536,
+        streams_to_caller: 1,
+        streams_from_caller: 1,
+        partial_reliability: false,
+        interleaving: false,
+    };
+    let ports = Ports {
+        listener: 5_001,
+        caller: 5_000,
+    };
+    open(&key, &seal(&key, &body), 6_000, ports, 9) == Ok(body)
+}

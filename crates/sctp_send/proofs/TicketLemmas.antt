@@ -1,0 +1,170 @@
+-- A message by its ticket, from what a sender keeps.
+use Rattle.std.proofs.Common.{◌≡◌, ℕ, zero, suc, ◌+◌, ◌-◌, ◌<◌, ◌≤◌, List, [], ◌∷◌, ◌++◌, length, map, drop, Bool, true, false, Option, Some, None, refl, sym, ap, ◌∙◌, arith, get_or}
+use Rattle.std.specs.Prelude.{not, ◌&&◌, ◌||◌, if◌then◌else◌}
+use Rattle.std.proofs.lemmas.List.{length-map}
+use Rattle.sctp_model.specs.Format.{Format}
+use Rattle.sctp_model.specs.Plan.{Entry}
+use Rattle.sctp_model.specs.SenderView.{SenderView}
+use Rattle.sctp_model.specs.sender.Entries.{any_from, continued, entry_message, is_in_part}
+use Rattle.sctp_model.specs.sender.Abandoning.{Name, waits, name_of, is_abandoned, has_ticket, has_uncovered}
+use Rattle.sctp_model.specs.sender.Readers.{acknowledged, acknowledged_named}
+use Rattle.sctp_model.proofs.sender.Bounds.{is_bounded}
+use Rattle.sctp_model.proofs.sender.TicketLaws.{is_ticketed, name_of_none, found_owns}
+use Rattle.sctp_model.proofs.sender.NameLaws.{goes_on_with, some_stream, in_part_by_ticket, uncovered_by_ticket}
+use Rattle.sctp_send.specs.SenderKept.{Item, Track, Kept}
+use Rattle.sctp_send.specs.OutstandingFields.{item_said}
+use Rattle.sctp_send.specs.SenderFields.{track_said}
+use Rattle.sctp_send.specs.SenderStands.{items_from, table, track_here, rest_here, fate_here, fate_named, is_numbered_fate, any_uncovered, is_item_uncovered, any_rest, rest_has, Holds, Keeps}
+use Rattle.sctp_send.specs.declared.message.Fate.{Fate}
+use Rattle.sctp_send.specs.declared.message.Fate.TheVariants.{Waiting, Numbered, Withdrawn, GivenUp}
+use Rattle.sctp_send.specs.declared.outstanding.Outstanding.{Outstanding}
+use Rattle.sctp_send.specs.declared.sender.Track.{Track as TrackFields}
+use Rattle.sctp_send.proofs.TableLemmas.{table-push}
+use Rattle.sctp_send.proofs.ItemLemmas.{item_read}
+use Rattle.sctp_send.proofs.ReaderLemmas.{fate_at, fates_given, none_behind, track_read}
+
+-- ---- what is kept, and the view
+
+uncovered_items : (v : SenderView) (t i : ℕ) (es : List Entry) → any_from (λ j e. has_ticket t (entry_message v.plan e) && not (v.covered j)) i es ≡ any_uncovered t (items_from v i es)
+uncovered_items v t i [] = refl
+uncovered_items v t i (e ∷ es) = rw (uncovered_items v t (suc i) es) refl
+
+uncovered_above : (v : SenderView) (t i n : ℕ) (es : List Entry) → ((j : ℕ) → i ≤ j → j < i + n → v.covered j ≡ true) → n ≤ length es
+    → any_from (λ j e. has_ticket t (entry_message v.plan e) && not (v.covered j)) i es ≡ any_from (λ j e. has_ticket t (entry_message v.plan e) && not (v.covered j)) (i + n) (drop n es)
+uncovered_above v t i zero es on le = let same : i + 0 ≡ i = omega arith in rw same refl
+uncovered_above v t i (suc n) [] on le = absurd (omega arith)
+uncovered_above v t i (suc n) (e ∷ es) on le =
+    let next : suc i + n ≡ i + suc n = omega arith in
+    let rest = uncovered_above v t (suc i) n es (λ j lo hi. on j (omega arith) (omega arith)) (omega arith) in
+    rw (on i (omega arith) (omega arith)) (by_ticket (has_ticket t (entry_message v.plan e)) ∙ (rw next at rest))
+  where
+    by_ticket : (b : Bool) → ((b && false) || any_from (λ j d. has_ticket t (entry_message v.plan d) && not (v.covered j)) (suc i) es) ≡ any_from (λ j d. has_ticket t (entry_message v.plan d) && not (v.covered j)) (suc i) es
+    by_ticket true = refl
+    by_ticket false = refl
+
+kept_uncovered : (f : Format) (s : Kept) (v : SenderView) (t : ℕ) (n : Name) → Keeps f s v → name_of v t ≡ Some n → any_uncovered t s.items ≡ has_uncovered v n
+kept_uncovered f s v t n k is =
+    let b = is_bounded f v k.reached in
+    let one : 1 + v.cum ≡ suc v.cum = omega arith in
+    let above = uncovered_above v t 1 v.cum v.plan.entries (λ j lo hi. b.covered j (omega arith) (omega arith)) b.within in
+    ap (any_uncovered t) k.holds.items ∙ sym (uncovered_items v t (suc v.cum) (drop v.cum v.plan.entries)) ∙ sym (rw one at above) ∙ sym (uncovered_by_ticket f v t n k.reached is)
+
+any_push : (t : ℕ) (xs : List Track) (x : Track) → any_rest t (xs ++ x ∷ []) ≡ (rest_has t x.rest || any_rest t xs)
+any_push t [] x = refl
+any_push t (y ∷ xs) x = rw (any_push t xs x) (swap (rest_has t y.rest) (rest_has t x.rest))
+  where
+    swap : (a b : Bool) → (a || (b || any_rest t xs)) ≡ (b || (a || any_rest t xs))
+    swap true true = refl
+    swap true false = refl
+    swap false b = refl
+
+rest_table : (v : SenderView) (t n : ℕ) → any_rest t (table (track_here v) 0 n) ≡ some_stream (λ s. goes_on_with v.plan t (continued v.plan s)) n
+rest_table v t zero = refl
+rest_table v t (suc n) =
+    let zeroed : 0 + n ≡ n = omega arith in
+    ap (any_rest t) (table-push (track_here v) 0 n) ∙ any_push t (table (track_here v) 0 n) (track_here v (0 + n)) ∙ rw (zeroed, rest_table v t n) (ap (λ (b : Bool). b || some_stream (λ s. goes_on_with v.plan t (continued v.plan s)) n) (same (continued v.plan n)))
+  where
+    same : (o : Option Entry) → rest_has t (rest_here v.plan o) ≡ goes_on_with v.plan t o
+    same None = refl
+    same (Some e) = refl
+
+kept_goes_on : (f : Format) (s : Kept) (v : SenderView) (t : ℕ) (n : Name) → Keeps f s v → name_of v t ≡ Some n → any_rest t s.tracks ≡ is_in_part v n.lane n.number
+kept_goes_on f s v t n k is = ap (any_rest t) k.holds.tracks ∙ rest_table v t v.streams ∙ sym (in_part_by_ticket f v t n k.reached is)
+
+-- ---- acknowledged
+
+with_true : (b : Bool) → (b && true) ≡ b
+with_true true = refl
+with_true false = refl
+
+with_false : (b : Bool) → (b && false) ≡ false
+with_false true = refl
+with_false false = refl
+
+pub numbered_acknowledged : (f : Format) (s : Kept) (v : SenderView) (t : ℕ) → Keeps f s v → is_numbered_fate (fate_here v t) ≡ true → (not (any_rest t s.tracks) && not (any_uncovered t s.items)) ≡ acknowledged v t
+numbered_acknowledged f s v t k numbered = by_wait (waits t v.queue) refl numbered
+  where
+    by_kept : (n : Name) (b : Bool) → name_of v t ≡ Some n → is_abandoned v n ≡ b → is_numbered_fate (if b then GivenUp else Numbered) ≡ true → (not (any_rest t s.tracks) && not (any_uncovered t s.items)) ≡ acknowledged_named v (Some n)
+    by_kept n true is on here = absurd (cc)
+    by_kept n false is off here = rw (kept_goes_on f s v t n k is, kept_uncovered f s v t n k is, off) (sym (with_true (not (is_in_part v n.lane n.number) && not (has_uncovered v n))))
+
+    by_name : (o : Option Name) → name_of v t ≡ o → is_numbered_fate (fate_named v o) ≡ true → (not (any_rest t s.tracks) && not (any_uncovered t s.items)) ≡ acknowledged_named v o
+    by_name None is here = absurd (cc)
+    by_name (Some n) is here = by_kept n (is_abandoned v n) is refl here
+
+    by_wait : (b : Bool) → waits t v.queue ≡ b → is_numbered_fate (if b then Waiting else fate_named v (name_of v t)) ≡ true → (not (any_rest t s.tracks) && not (any_uncovered t s.items)) ≡ acknowledged v t
+    by_wait true is here = absurd (cc)
+    by_wait false is here = by_name (name_of v t) refl here
+
+pub other_acknowledged : (f : Format) (s : Kept) (v : SenderView) (t : ℕ) → Keeps f s v → is_numbered_fate (fate_here v t) ≡ false → acknowledged v t ≡ false
+other_acknowledged f s v t k other = by_wait (waits t v.queue) refl other
+  where
+    by_kept : (n : Name) (b : Bool) → is_abandoned v n ≡ b → is_numbered_fate (if b then GivenUp else Numbered) ≡ false → acknowledged_named v (Some n) ≡ false
+    by_kept n true on here = rw on (with_false (not (is_in_part v n.lane n.number) && not (has_uncovered v n)))
+    by_kept n false off here = absurd (cc)
+
+    by_name : (o : Option Name) → is_numbered_fate (fate_named v o) ≡ false → acknowledged_named v o ≡ false
+    by_name None here = refl
+    by_name (Some n) here = by_kept n (is_abandoned v n) refl here
+
+    by_wait : (b : Bool) → waits t v.queue ≡ b → is_numbered_fate (if b then Waiting else fate_named v (name_of v t)) ≡ false → acknowledged v t ≡ false
+    by_wait true is here = ap (acknowledged_named v) ((is_ticketed f v k.reached).waiting t is).2
+    by_wait false is here = by_name (name_of v t) here
+
+-- by the fate that was read
+pub numbered_read : (f : Format) (s : Kept) (v : SenderView) (t : ℕ) (d : Fate) → Keeps f s v → 0 < t → t ≤ length s.fates → is_numbered_fate (get_or s.fates (t - 1) d) ≡ is_numbered_fate (fate_here v t)
+numbered_read f s v t d k some le =
+    let here : suc (t - 1) ≡ t = omega arith in
+    ap is_numbered_fate (fate_at f s v (t - 1) d k (omega arith) ∙ ap (fate_here v) here)
+
+pub not_acknowledged : (f : Format) (s : Kept) (v : SenderView) (t : ℕ) → Keeps f s v → t ≡ 0 → acknowledged v t ≡ false
+not_acknowledged f s v t k none = by_name (name_of v t) refl
+  where
+    by_name : (o : Option Name) → name_of v t ≡ o → acknowledged_named v o ≡ false
+    by_name None is = refl
+    by_name (Some n) is =
+        let h = is_ticketed f v k.reached in
+        let own = found_owns v.plan v.tickets t v.plan.entries v.plan.entries n h.owned is in
+        let low = (own.0 t own.1).0 in
+        absurd (omega arith)
+
+pub never_acknowledged : (f : Format) (s : Kept) (v : SenderView) (t : ℕ) → Keeps f s v → length s.fates < t → acknowledged v t ≡ false
+never_acknowledged f s v t k over = let given = fates_given f s v k in ap (acknowledged_named v) (name_of_none v t (is_ticketed f v k.reached) (omega arith))
+
+-- ---- walks, entry by entry and stream by stream
+
+step_uncovered : (t : ℕ) (xs : List Item) (at : ℕ) (d : Item) → at < length xs → any_uncovered t (drop at xs) ≡ (is_item_uncovered t (get_or xs at d) || any_uncovered t (drop (suc at) xs))
+step_uncovered t [] at d lt = absurd (omega arith)
+step_uncovered t (x ∷ xs) zero d lt = refl
+step_uncovered t (x ∷ xs) (suc at) d lt = step_uncovered t xs at d (omega arith)
+
+step_rest : (t : ℕ) (xs : List Track) (at : ℕ) (d : Track) → at < length xs → any_rest t (drop at xs) ≡ (rest_has t (get_or xs at d).rest || any_rest t (drop (suc at) xs))
+step_rest t [] at d lt = absurd (omega arith)
+step_rest t (x ∷ xs) zero d lt = refl
+step_rest t (x ∷ xs) (suc at) d lt = step_rest t xs at d (omega arith)
+
+pub walked_uncovered : (t size : ℕ) (es : List Outstanding) (at : ℕ) (x : Outstanding) (b : Bool) → at < length es → x ≡ get_or es at x → b ≡ is_item_uncovered t (item_said size x)
+    → any_uncovered t (map (item_said size) es) ≡ any_uncovered t (drop at (map (item_said size) es)) → any_uncovered t (map (item_said size) es) ≡ (b || any_uncovered t (drop (at + 1) (map (item_said size) es)))
+walked_uncovered t size es at x b lt read is before =
+    let long = length-map es (item_said size) in
+    let step = step_uncovered t (map (item_said size) es) at (item_said size x) (omega arith) in
+    let one : at + 1 ≡ suc at = omega arith in
+    before ∙ step ∙ rw (item_read size es at x read, ← is, one) refl
+
+pub ended_uncovered : (t size : ℕ) (es : List Outstanding) (at : ℕ) → length es ≤ at → any_uncovered t (map (item_said size) es) ≡ any_uncovered t (drop at (map (item_said size) es)) → false ≡ any_uncovered t (map (item_said size) es)
+ended_uncovered t size es at le before =
+    let long = length-map es (item_said size) in
+    sym (before ∙ ap (any_uncovered t) (none_behind at (map (item_said size) es) (omega arith)))
+
+pub walked_rest : (t size : ℕ) (ts : List TrackFields) (at : ℕ) (x : TrackFields) (b : Bool) → at < length ts → x ≡ get_or ts at x → b ≡ rest_has t (track_said size x).rest
+    → any_rest t (map (track_said size) ts) ≡ any_rest t (drop at (map (track_said size) ts)) → any_rest t (map (track_said size) ts) ≡ (b || any_rest t (drop (at + 1) (map (track_said size) ts)))
+walked_rest t size ts at x b lt read is before =
+    let long = length-map ts (track_said size) in
+    let step = step_rest t (map (track_said size) ts) at (track_said size x) (omega arith) in
+    let one : at + 1 ≡ suc at = omega arith in
+    before ∙ step ∙ rw (track_read size ts at x read, ← is, one) refl
+
+pub ended_rest : (t size : ℕ) (ts : List TrackFields) (at : ℕ) → length ts ≤ at → any_rest t (map (track_said size) ts) ≡ any_rest t (drop at (map (track_said size) ts)) → false ≡ any_rest t (map (track_said size) ts)
+ended_rest t size ts at le before =
+    let long = length-map ts (track_said size) in
+    sym (before ∙ ap (any_rest t) (none_behind at (map (track_said size) ts) (omega arith)))
