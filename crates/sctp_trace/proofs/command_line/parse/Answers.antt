@@ -27,8 +27,8 @@ returns c =
     let required = ap app_of_fields c.subcommand_required-bare.ensures in
     let top : app_of c.subcommand_required-bare.result ≡ on_top (λ s. record s { subcommand_required = true }) (new_app (codes "sctp-trace")) =
     required ∙ ap (on_top (λ s. record s { subcommand_required = true })) (about ∙ named ∙ c.new-6.ensures.app) in
-    let first = c.in_ok-running.ensures.shape (first_of (rw c.about-run.ensures c.new.ensures.local, search (rules, c.about-run.ensures, c.new.ensures.local))) ∙ ap₂ with_subcommand top (ap (λ (a : App). a.top) run) in
-    let second = c.in_ok-printing.ensures.shape (first_of (search rules, rw (c.in_ok-packet.ensures.globals, c.about.ensures, c.new-3.ensures.local, first_local) refl)) ∙ ap₂ with_subcommand first (ap (λ (a : App). a.top) packet) in
-    let all : app_of c.in_ok-program.program ≡ commands = c.in_ok-program.ensures.shape (first_of (search rules, rw (c.in_ok-chunks.ensures.globals, c.about-2.ensures, c.new-5.ensures.local, second_local) refl)) ∙ ap₂ with_subcommand second (ap (λ (a : App). a.top) chunks) in
+    let first = c.in_ok-running.ensures.shape (rw c.about-run.ensures c.new.ensures.local) ∙ ap₂ with_subcommand top (ap (λ (a : App). a.top) run) in
+    let second = c.in_ok-printing.ensures.shape (rw (c.in_ok-packet.ensures.globals, c.about.ensures, c.new-3.ensures.local, first_local) refl) ∙ ap₂ with_subcommand first (ap (λ (a : App). a.top) packet) in
+    let all : app_of c.in_ok-program.program ≡ commands = c.in_ok-program.ensures.shape (rw (c.in_ok-chunks.ensures.globals, c.about-2.ensures, c.new-5.ensures.local, second_local) refl) ∙ ap₂ with_subcommand second (ap (λ (a : App). a.top) chunks) in
     subst (λ (a : App). FailsBy (fault_of a (map string_bytes c.args.words.now)) c.try_get_matches_from.result) all
     (c.try_get_matches_from.ensures.kinds (ap is_simple_and_free all ∙ is_free))
