@@ -5,3 +5,8 @@ pub mod Strangers
 mod Turns
 mod TurnsOfTime
 mod OwnOptions
+mod Diagram
+pub mod DiagramRuns
+mod OpeningWorlds
+pub mod Handshake
+pub mod ClosingRun
