@@ -10,3 +10,4 @@ pub mod DiagramRuns
 mod OpeningWorlds
 pub mod Handshake
 pub mod ClosingRun
+pub mod GivesUp
