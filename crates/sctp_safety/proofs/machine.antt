@@ -11,3 +11,4 @@ mod OpeningWorlds
 pub mod Handshake
 pub mod ClosingRun
 pub mod GivesUp
+pub mod StrayRows
