@@ -20,3 +20,6 @@ pub use laws::{
 pub use message::Message;
 pub use receiver::Receiver;
 pub use sack::SackLists;
+
+#[cfg(test)]
+mod tests;
