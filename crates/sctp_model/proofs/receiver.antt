@@ -1,4 +1,5 @@
 pub mod OneWhole
 pub mod OneStep
 pub mod DueWords
+pub mod Idle
 pub mod Examples

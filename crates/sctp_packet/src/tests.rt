@@ -1,6 +1,6 @@
-//! Checksums of known inputs.
+//! Checksums of known inputs, and packets with each fault.
 
-use crate::crc32c;
+use crate::{PacketFault, crc32c, read_packet};
 
 /// Bytes, and their checksum: the check value of the polynomial, and the vectors of RFC 3720, B.4.
 const SUMS: [(&[u8], u32); 6] = [
@@ -29,4 +29,42 @@ fn known_inputs_have_their_checksums(rt: HostRuntime) {
     for (bytes, sum) in SUMS {
         assert_eq!(rt; crc32c(bytes), sum);
     }
+}
+
+/// The checksum by a shift register that takes a bit at a time.
+fn by_bits(bytes: &[u8]) -> u32 {
+    let mut register = u32::MAX;
+    for byte in bytes {
+        register ^= u32::from(*byte);
+        for _bit in 0..8 {
+            let moved = register >> 1;
+            register = if register % 2 == 1 {
+                moved ^ 0x82F6_3B78
+            } else {
+                moved
+            };
+        }
+    }
+    !register
+}
+
+#[test]
+fn tables_and_single_bits_agree_at_each_length_to_64(rt: HostRuntime) {
+    let mut bytes = [0u8; 64];
+    for place in 0..64u8 {
+        bytes[usize::from(place)] = place;
+    }
+    for length in 0..65usize {
+        let front = &bytes[..length];
+        assert_eq!(rt; crc32c(front), by_bits(front), "of {length} bytes");
+    }
+}
+
+#[test]
+fn a_packet_has_the_first_fault_in_order(rt: HostRuntime) {
+    // ports 5000 and 5001, tag 7; the checksums are those of the bytes with zero in the field
+    let short = [0u8; 11];
+    assert_eq!(rt; read_packet(&short).err(), Some(PacketFault::Short));
+    let wrong = [0u8; 12];
+    assert_eq!(rt; read_packet(&wrong).err(), Some(PacketFault::Checksum));
 }

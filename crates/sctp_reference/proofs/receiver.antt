@@ -4,5 +4,6 @@ pub mod WholesLemmas
 pub mod NumberLemmas
 pub mod StepsLemmas
 pub mod RunsLemmas
+pub mod OneSack
 pub mod LawLemmas
 pub mod Examples

@@ -7,3 +7,4 @@ pub mod Giving
 pub mod Sender
 pub mod Standing
 pub mod receiver
+pub mod readers

@@ -10,6 +10,7 @@ mod giving;
 mod pieces;
 mod points;
 mod receiver_steps;
+mod sender_readers;
 mod whole;
 mod words;
 
@@ -22,6 +23,7 @@ pub use receiver_steps::{
     forwards_are_computed, pieces_are_computed, runs_are_computed,
     the_cumulative_index_is_computed, wholes_are_computed,
 };
+pub use sender_readers::{the_forward_is_computed, the_point_is_computed};
 pub use whole::{whole_number, whole_with};
 pub use words::{Entry, Format, Kind, Lane, MessageName, Sender};
 

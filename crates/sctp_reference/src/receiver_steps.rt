@@ -2,7 +2,7 @@
 //!
 //! No function here does anything: each carries a law as its contract.
 
-ghost use Rattle.sctp_reference.specs.receiver.StepLaws.{CumulativeIsComputed, ForwardsAreTaken, ForwardsAreTakenSo, PiecesAreTaken, PiecesAreTakenSo, RunsAreComputed, WholesAreAll};
+ghost use Rattle.sctp_reference.specs.receiver.StepLaws.{CumulativeIsComputed, ForwardsAreTaken, ForwardsAreTakenSo, PiecesAreTaken, PiecesAreTakenSo, RunsAreComputed, SackIsOne, WholesAreAll};
 
 /// The whole messages among kept chunks are the lists that are computed (RFC 9260, 6.9; RFC 8260, 2.2).
 pub fn wholes_are_computed()
@@ -26,7 +26,8 @@ pub fn forwards_are_computed()
     ensures only { ForwardsAreTakenSo }
 {}
 
-/// The blocks of a SACK are computed (RFC 9260, 3.3.4).
+/// The blocks of a SACK are computed, and a view has one SACK (RFC 9260, 3.3.4).
 pub fn runs_are_computed()
-    ensures { RunsAreComputed }
+    ensures computed { RunsAreComputed }
+    ensures one { SackIsOne }
 {}

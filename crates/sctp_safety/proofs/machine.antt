@@ -5,3 +5,10 @@ pub mod Strangers
 mod Turns
 mod TurnsOfTime
 mod OwnOptions
+mod Diagram
+pub mod DiagramRuns
+mod OpeningWorlds
+pub mod Handshake
+pub mod ClosingRun
+pub mod GivesUp
+pub mod StrayRows

@@ -7,3 +7,5 @@ pub mod Answered
 pub mod SenderLaws
 pub mod ReceiverLaws
 pub mod Strangers
+pub mod States
+pub mod Handshake

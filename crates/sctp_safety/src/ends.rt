@@ -1,8 +1,25 @@
 //! What holds of one end, whatever comes to it.
 
+ghost use Rattle.sctp_safety.specs.Handshake.{AnAssociationCloses, AnAssociationOpens};
+ghost use Rattle.sctp_safety.specs.States.{EndsFollowTheDiagram};
 ghost use Rattle.sctp_safety.specs.Strangers.{StrangersChangeNothing};
 
 /// A packet of a stranger, who carries no tag that was drawn and no cookie that opens, leaves an end as it was, whatever is answered to it (RFC 9260, 8.4, 8.5 and 5.1.3).
 pub fn strangers_change_nothing()
     ensures { StrangersChangeNothing }
+{}
+
+/// Over every run each end goes along the diagram of states, and keeps its tags and what it agreed on; nothing leads away from a closed end (RFC 9260, 4).
+pub fn ends_follow_the_diagram()
+    ensures { EndsFollowTheDiagram }
+{}
+
+/// There is a run of packets alone, INIT, INIT ACK, COOKIE ECHO and COOKIE ACK, at whose end both ends are established and agree: so the machine's definitions aren't empty.
+pub fn an_association_opens()
+    ensures { AnAssociationOpens }
+{}
+
+/// And one that goes on with SHUTDOWN, SHUTDOWN ACK and SHUTDOWN COMPLETE, at whose end both ends are closed since both were done (RFC 9260, 9.2).
+pub fn an_association_closes()
+    ensures { AnAssociationCloses }
 {}

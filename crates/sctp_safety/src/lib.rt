@@ -9,7 +9,9 @@ mod laws;
 mod safety;
 mod worlds;
 
-pub use ends::strangers_change_nothing;
+pub use ends::{
+    an_association_closes, an_association_opens, ends_follow_the_diagram, strangers_change_nothing,
+};
 pub use exact::{
     abandon_is_moves, expire_is_moves, fill_is_moves, forward_is_allowed, forward_is_moves,
     forward_taken_is_moves, passing_is_moves, piece_taken_is_moves, queue_is_moves,

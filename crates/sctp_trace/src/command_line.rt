@@ -1,12 +1,14 @@
 //! The command line of the program: what its words ask for, and the exit status.
 
-ghost use Rattle.std.specs.Prelude.{◌≡◌, ℕ, ◌⊎◌, ◌+◌, ◌-◌, ◌^◌, ◌<◌, ◌≤◌, List, map, string_bytes, IfOk, MatchOption};
+ghost use Rattle.std.specs.Prelude.{◌≡◌, ℕ, ◌⊎◌, ◌+◌, ◌-◌, ◌^◌, ◌<◌, ◌≤◌, List, map, string_bytes, IfOk, MatchResult};
 ghost use Rattle.clap.specs.Words.{FailsBy, fault_of};
-ghost use Rattle.sctp_trace.specs.ExitStatus.{commands, IsForm, Begins, Runs, Ends};
+ghost use Rattle.sctp_print.specs.PrintedText.{IsPacketTextOf, IsChunksTextOf};
+ghost use Rattle.sctp_trace.specs.ExitStatus.{commands, IsForm, Begins, Runs, Acts, Prints, status_of, Ends};
 
 use crate::script::{ScriptFault, run_script};
 use clap::error::ErrorKind;
-use clap::{Command, Error};
+use clap::{Arg, ArgMatches, Command, Error};
+use sctp_print::{print_chunks, print_packet};
 use sctp_text::{Sink, Source, write_all};
 use sctp_wire::NoMemory;
 use std::alloc::Global;
@@ -24,10 +26,12 @@ pub const FAILED: u8 = 3;
 
 /// Does what the words say, of which the first is the program's own name, and answers the exit status.
 ///
-/// The one form is `run`: the script is read from `input`, and its outcomes and report are written to `output`. The status is
-/// - 0 where the script was run whole,
+/// The forms are `run`: the script is read from `input`, and its outcomes and report are written to `output`; `packet HEX` and
+/// `chunks HEX`: the lines of the packet, or of the chunks, that HEX says in hexadecimal are written to `output`. The status is
+/// - 0 where the script was run whole, or the packet or chunks were read,
 /// - 1 where the words are no form, a request for help among them: the text about the words is written to `faults`,
-/// - 2 where a line of the script was refused: `line N: K` is written to `faults`, the line counted from 1 and the kind of its fault,
+/// - 2 where a line of the script was refused: `line N: K` is written to `faults`, the line counted from 1 and the kind of its fault;
+///   or HEX, the packet or the chunks were refused: the line of that is written to `output`,
 /// - 3 where reading, writing (to `faults` too) or memory failed.
 pub fn run_words<R: Source, W: Sink, F: Sink>(
     alloc: Global,
@@ -48,43 +52,153 @@ pub fn run_words<R: Source, W: Sink, F: Sink>(
     ensures once { R.failures input.new + W.failures output.new + F.failures faults.new
         ≤ R.failures input.old + W.failures output.old + F.failures faults.old + 1 }
 {
-    match refusal(alloc, words) {
-        Ok(None) => run(alloc, input, output, faults),
-        Ok(Some(text)) => tell(faults, text.as_str(), WRONG_WORDS),
+    match asked(alloc, words) {
+        Ok(Ok(form)) => act(alloc, form, input, output, faults),
+        Ok(Err(text)) => tell(faults, text.as_str(), WRONG_WORDS),
         Err(NoMemory) => FAILED,
     }
 }
 
-/// What is said of words that are no form, a request for help among them; None of a form.
-fn refusal(alloc: Global, words: &[String]) -> Result<Option<String>, NoMemory>
-    ensures { IfOk result (λ said. MatchOption said (IsForm (map string_bytes words.now)) (λ text. ¬ IsForm (map string_bytes words.now))) }
+/// What words ask for: to run a script, or to print what text says in hexadecimal.
+#[derive(Clone, Copy)]
+enum Form<'a> {
+    Run,
+    Packet(&'a str),
+    Chunks(&'a str),
+}
+
+/// The form of the words; of words that are no form, a request for help among them, what is said.
+fn asked(alloc: Global, words: &[String]) -> Result<Result<Form<'_>, String>, NoMemory>
+    ensures { IfOk result (λ asked. MatchResult asked
+        (λ _. IsForm (map string_bytes words.now)) (λ _. ¬ IsForm (map string_bytes words.now))) }
 {
-    let Err(error) = parse(alloc, words) else {
-        return Ok(None);
-    };
-    if matches!(error.kind(), ErrorKind::OutOfMemory) {
-        return Err(NoMemory);
-    }
-    match error.to_string(alloc) {
-        Ok(text) => Ok(Some(text)),
-        Err(_) => Err(NoMemory),
+    match form_of(alloc, words) {
+        Ok(form) => Ok(Ok(form)),
+        Err(error) => {
+            if matches!(error.kind(), ErrorKind::OutOfMemory) {
+                return Err(NoMemory);
+            }
+            match error.to_string(alloc) {
+                Ok(text) => Ok(Err(text)),
+                Err(_) => Err(NoMemory),
+            }
+        }
     }
 }
 
-/// Parses the words: a subcommand, which is `run`.
-fn parse(alloc: Global, words: &[String]) -> Result<(), Error>
+/// The form of the words: the subcommand, and the value of HEX.
+fn form_of(alloc: Global, words: &[String]) -> Result<Form<'_>, Error>
+    ensures { FailsBy (fault_of commands (map string_bytes words.now)) result }
+{
+    let matches = match parse(alloc, words) {
+        Ok(matches) => matches,
+        Err(error) => return Err(error),
+    };
+    if let Some(packet) = matches.subcommand_matches("packet") {
+        return Ok(Form::Packet(packet.get_str("HEX").unwrap_or("")));
+    }
+    if let Some(chunks) = matches.subcommand_matches("chunks") {
+        return Ok(Form::Chunks(chunks.get_str("HEX").unwrap_or("")));
+    }
+    Ok(Form::Run)
+}
+
+/// Parses the words: a subcommand, `run`, `packet` or `chunks`, the last two with HEX.
+fn parse(alloc: Global, words: &[String]) -> Result<ArgMatches<'_>, Error>
     ensures { FailsBy (fault_of commands (map string_bytes words.now)) result }
 {
     let run = Command::new(alloc, "run").about(
         "Runs the script on standard input; outcomes and report go to standard output",
     );
-    let program = Command::new(alloc, PROGRAM)
+    let packet_hex = Arg::new(alloc, "HEX").required(true);
+    let packet = Command::new(alloc, "packet")
+        .about("Prints the packet that HEX says, a line for its header and one for each chunk")
+        .arg(packet_hex)?;
+    let chunks_hex = Arg::new(alloc, "HEX").required(true);
+    let chunks = Command::new(alloc, "chunks")
+        .about("Prints the chunks that HEX says, a line each")
+        .arg(chunks_hex)?;
+    let bare = Command::new(alloc, PROGRAM)
         .bin_name(PROGRAM)?
-        .about("Runs scripts over the two ends of an association")
-        .subcommand_required(true)
-        .subcommand(run)?;
-    program.try_get_matches_from(words)?;
-    Ok(())
+        .about("Runs scripts over the two ends of an association, and prints packets and chunks")
+        .subcommand_required(true);
+    let running = bare.subcommand(run)?;
+    let printing = running.subcommand(packet)?;
+    let program = printing.subcommand(chunks)?;
+    program.try_get_matches_from(words)
+}
+
+/// Does what a form asks.
+fn act<R: Source, W: Sink, F: Sink>(
+    alloc: Global,
+    form: Form<'_>,
+    input: &mut R,
+    output: &mut W,
+    faults: &mut F,
+) -> u8
+    requires reads { R.failures input.old < 2 ^ 64 - 1 }
+    requires writes { W.failures output.old < 2 ^ 64 - 1 }
+    requires tells { F.failures faults.old < 2 ^ 64 - 1 }
+    ensures acts { (read written said : List ℕ) × R.Reads input.old read input.new × W.Writes output.old written output.new
+        × F.Writes faults.old said faults.new × Acts (R.IsAtEnd input.new) result read written said }
+    ensures well { result < FAILED → (R.failures input.new ≡ R.failures input.old) × (W.failures output.new ≡ W.failures output.old)
+        × (F.failures faults.new ≡ F.failures faults.old) }
+    ensures once { R.failures input.new + W.failures output.new + F.failures faults.new
+        ≤ R.failures input.old + W.failures output.old + F.failures faults.old + 1 }
+{
+    match form {
+        Form::Run => run(alloc, input, output, faults),
+        Form::Packet(text) => print_packet_of(alloc, text, output),
+        Form::Chunks(text) => print_chunks_of(alloc, text, output),
+    }
+}
+
+/// Prints the packet that the text says, or what is wrong with it.
+fn print_packet_of<W: Sink>(alloc: Global, text: &str, output: &mut W) -> u8
+    requires { W.failures output.old < 2 ^ 64 - 1 }
+    ensures prints { (written : List ℕ) × W.Writes output.old written output.new × Prints (IsPacketTextOf text.now) result written }
+    ensures well { result < FAILED → W.failures output.new ≡ W.failures output.old }
+    ensures once { W.failures output.new ≤ W.failures output.old + 1 }
+{
+    let mut lines = Vec::new(alloc);
+    match print_packet(alloc, text, &mut lines) {
+        Ok(was_read) => put(output, &lines, status_of(was_read)),
+        Err(_) => FAILED,
+    }
+}
+
+/// Prints the chunks that the text says, or what is wrong with them.
+fn print_chunks_of<W: Sink>(alloc: Global, text: &str, output: &mut W) -> u8
+    requires { W.failures output.old < 2 ^ 64 - 1 }
+    ensures prints { (written : List ℕ) × W.Writes output.old written output.new × Prints (IsChunksTextOf text.now) result written }
+    ensures well { result < FAILED → W.failures output.new ≡ W.failures output.old }
+    ensures once { W.failures output.new ≤ W.failures output.old + 1 }
+{
+    let mut lines = Vec::new(alloc);
+    match print_chunks(alloc, text, &mut lines) {
+        Ok(was_read) => put(output, &lines, status_of(was_read)),
+        Err(_) => FAILED,
+    }
+}
+
+/// The status of bytes that were read, or not.
+fn status_of(was_read: bool) -> u8
+    ensures { result ≡ status_of was_read }
+{
+    if was_read { DONE } else { REFUSED }
+}
+
+/// Writes lines and answers the status, or that of a failure.
+fn put<W: Sink>(output: &mut W, lines: &[u8], status: u8) -> u8
+    requires { W.failures output.old < 2 ^ 64 - 1 }
+    ensures { ((result ≡ status) × W.Writes output.old lines.now output.new × (W.failures output.new ≡ W.failures output.old))
+        ⊎ ((result ≡ FAILED) × ((written : List ℕ) × W.Writes output.old written output.new × Begins written lines.now)
+        × (W.failures output.new ≡ W.failures output.old + 1)) }
+{
+    match write_all(output, lines) {
+        Ok(()) => status,
+        Err(_) => FAILED,
+    }
 }
 
 /// Runs a script and tells the line that was refused.

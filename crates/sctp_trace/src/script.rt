@@ -1,12 +1,13 @@
 //! A script, run: each line acts before the next one is read, and the report comes last.
 
-ghost use Rattle.std.specs.Prelude.{◌≡◌, ℕ, suc, true, ◌+◌, ◌-◌, ◌^◌, ◌<◌, ◌≤◌, List, [], ◌++◌, length, Option, None, IfOk};
+ghost use Rattle.std.specs.Prelude.{◌≡◌, ℕ, suc, true, ◌+◌, ◌-◌, ◌^◌, ◌<◌, ◌≤◌, List, [], ◌++◌, length, Option, None, IfOk, OnOk, ◌⊎◌};
 ghost use Rattle.sctp_model.specs.first.World as world;
 ghost use Rattle.sctp_model.specs.first.World.{World};
 ghost use Rattle.sctp_script.specs.Events.{Answers};
 ghost use Rattle.sctp_script.specs.OutcomeText.{outcome_line};
 ghost use Rattle.sctp_trace.specs.Script.{IsAnswered, failed_reads, failed_writes};
 ghost use Rattle.sctp_trace.specs.ScriptSteps.{StandsAt, IsWrittenOf, IsGatheredOf, IsPassedOn, IsClosed, LineLeaves, Closes, IsSoFar, RunsOn, EndsAs, fault_of};
+ghost use Rattle.sctp_text.specs.TextLines.{MayBegin};
 ghost use Rattle.sctp_text.specs.declared.limits.TheConstants.{LONGEST_TEXT};
 
 use crate::pair::Pair;
@@ -177,6 +178,8 @@ fn pass_on<W: Sink>(
     requires { W.failures output.old < 2 ^ 64 - 1 }
     ensures written { (written : List ℕ) × W.Writes output.old written output.new
         × IsPassedOn result gathered.old.items written gathered.new.items }
+    // Where the next line is still to be read nothing stays gathered.
+    ensures answered { OnOk result ((gathered.new.items ≡ []) ⊎ (¬ MayBegin lines.now.given lines.now.held)) }
     ensures failed_writes { W.failures output.new ≡ W.failures output.old + failed_writes result }
     ensures no_reads { failed_reads result ≡ 0 }
 {

@@ -1,19 +1,18 @@
 -- Where the indexes of a view that calls reach may stand: CUM within the plan, all covered up to it, nothing said beyond the plan.
-use Rattle.std.proofs.Common.{◌≡◌, ℕ, zero, suc, ◌+◌, ◌-◌, ◌%◌, ◌<◌, ◌≤◌, ◌⊎◌, inl, inr, List, [], ◌∷◌, ◌++◌, length, Bool, true, false, Option, Some, None, refl, sym, ap, ◌∙◌, subst, arith, length-append}
+use Rattle.std.proofs.Common.{◌≡◌, ℕ, zero, suc, ◌+◌, ◌%◌, ◌<◌, ◌≤◌, inl, inr, List, [], ◌∷◌, ◌++◌, length, Bool, true, false, Option, Some, None, refl, sym, ap, ◌∙◌, subst, arith, length-append}
 use Rattle.std.specs.Prelude.{◌==◌, nat_le, nat_lt, not, ◌&&◌, ◌||◌, if◌then◌else◌, slice_get, take, drop}
-use Rattle.std.proofs.lemmas.Bool.{and_parts}
 use Rattle.std.proofs.lemmas.Bool.Decides.{nat_tests}
 use Rattle.sctp_model.specs.Lists.{at}
-use Rattle.sctp_model.specs.Format.{Format, Lane, Plain, Interleaved}
+use Rattle.sctp_model.specs.Format.{Format, Lane}
 use Rattle.sctp_model.specs.Chunk.{BlockMeaning, SackMeaning}
 use Rattle.sctp_model.specs.Plan.{Entry, Plan, entry_at, parts_from}
 use Rattle.sctp_model.specs.SenderView.{Queued, SenderView}
-use Rattle.sctp_model.specs.sender.Filling.{Wish, next_wish, gone, assigned, without_first_on}
+use Rattle.sctp_model.specs.sender.Filling.{Wish, next_wish, gone, without_first_on}
 use Rattle.sctp_model.specs.sender.Queueing.{refusal, NoSuchStream, Empty, TooLong, QueueFull, Spent, LONGEST, QUEUE_LIMIT, TICKETS, TSNS, cut, cut_at_most, owed_for, promised}
-use Rattle.sctp_model.specs.sender.SackTaken.{is_stale, is_beyond, index_of, some_is_bad, some_ends_past, in_blocks, sack_covers, sack_fault, sack_taken, shutdown_fault, shutdown_taken, SackFault, Stale, Beyond, BadBlock}
+use Rattle.sctp_model.specs.sender.SackTaken.{is_stale, is_beyond, index_of, some_ends_past, in_blocks, sack_covers, sack_fault, sack_taken, shutdown_fault, shutdown_taken, Stale, Beyond}
 use Rattle.sctp_model.specs.sender.Abandoning.{Name, AbandonAnswer, Withdrawn, Abandoned, Acknowledged, Unknown, Reliable, is_abandoned, waits, without, name_of, given_up, give_up, answer_for, abandon_named, abandon_after, end_mark, timed_out, unsettled_at}
 use Rattle.sctp_model.specs.sender.Reached.{IsReached, Begins, Queues, Goes, Covers, Closes, Abandons, Repeats}
-use Rattle.sctp_model.proofs.sender.WishCases.{IsAssigned, Whole, Begun, Continued, assigned_cases, IsRepeat, IsNew, wish_cases}
+use Rattle.sctp_model.proofs.sender.WishCases.{IsAssigned, Whole, Begun, Continued, assigned_cases, wish_cases}
 
 -- ---- constants
 

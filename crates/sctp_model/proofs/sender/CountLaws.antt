@@ -1,20 +1,18 @@
 -- The counts of a view that calls reach: the window, and the TSNs assigned and owed.
-use Rattle.std.proofs.Common.{◌≡◌, ℕ, zero, suc, ◌+◌, ◌-◌, ◌%◌, ◌^◌, ◌<◌, ◌≤◌, ◌⊎◌, inl, inr, List, [], ◌∷◌, ◌++◌, length, Bool, true, false, Option, Some, None, refl, sym, ap, ◌∙◌, subst, arith, length-append}
-use Rattle.std.specs.Prelude.{◌==◌, nat_lt, nat_le, not, ◌&&◌, ◌||◌, if◌then◌else◌, slice_get}
+use Rattle.std.proofs.Common.{◌≡◌, ℕ, ◌<◌, inl, inr, List, [], ◌∷◌, ◌++◌, length, Bool, true, false, Option, Some, None, refl, sym, subst, arith, length-append}
+use Rattle.std.specs.Prelude.{◌==◌, ◌&&◌, ◌||◌, if◌then◌else◌}
 use Rattle.std.proofs.lemmas.Bool.{and_parts}
 use Rattle.std.proofs.lemmas.Bool.Decides.{nat_tests}
-use Rattle.sctp_model.specs.Format.{Format, Plain, Interleaved, Lane, same_lane}
-use Rattle.sctp_model.specs.Plan.{Message, Entry, Part, End, Plan, message_at, entry_at, parts_from}
+use Rattle.sctp_model.specs.Format.{Format, Lane, same_lane}
+use Rattle.sctp_model.specs.Plan.{Entry, End, Plan, parts_from}
 use Rattle.sctp_model.specs.SenderView.{Queued, SenderView}
-use Rattle.sctp_model.specs.sender.Entries.{entry_lane, entry_number, entry_message, fragments_in, is_of, is_entry_of, is_in_part, latest, follower, continued, fragments_from, one_if_some, sum_below, in_part}
-use Rattle.sctp_model.specs.sender.Queueing.{owed_for, owed_by_queue, owed_by_parts, promised, TSNS}
-use Rattle.sctp_model.specs.sender.Filling.{Wish, next_wish, may_go, meets_flow, meets_window, room_of, gone, numbered, with_entry, served, first_on, without_first_on, WINDOW}
-use Rattle.sctp_model.specs.sender.SackTaken.{index_of}
+use Rattle.sctp_model.specs.sender.Entries.{entry_lane, entry_number, entry_message, is_in_part}
+use Rattle.sctp_model.specs.sender.Filling.{Wish, next_wish, gone, with_entry, first_on}
 use Rattle.sctp_model.specs.sender.Abandoning.{Name, AbandonAnswer, Withdrawn, Abandoned, Acknowledged, Unknown, Reliable, is_abandoned, waits, without, name_of, name_among, has_ticket, given_up, give_up, answer_for, abandon_named, abandon_after, end_mark}
 use Rattle.sctp_model.specs.sender.Reached.{IsReached, Begins, Queues, Goes, Covers, Closes, Abandons, Repeats}
-use Rattle.sctp_model.proofs.sender.WishCases.{IsAssigned, Whole, Begun, Continued, assigned_cases, IsRepeat, IsNew, wish_cases}
-use Rattle.sctp_model.proofs.sender.Bounds.{IsSet, is_set, AllFilled, is_filled, IsAccepted, accepted}
-use Rattle.sctp_model.proofs.sender.PlanLaws.{IsNamed, AllNamed, with_message, message_new, message_stays, named_stays, named_append, named_parts, named_kept, IsFollower, continued_is, continued_new, continued_more, sum-same, sum-changed, slice_get-left, slice_get-end, same_lane-self, lanes_same}
+use Rattle.sctp_model.proofs.sender.WishCases.{IsAssigned, Whole, Begun, Continued, assigned_cases, wish_cases}
+use Rattle.sctp_model.proofs.sender.Bounds.{is_set, AllFilled, is_filled}
+use Rattle.sctp_model.proofs.sender.PlanLaws.{AllNamed, with_message, named_stays, named_append, named_parts, named_kept, continued_is, same_lane-self, lanes_same}
 
 -- ---- each entry's message is there
 

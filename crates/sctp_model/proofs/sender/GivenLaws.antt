@@ -1,16 +1,16 @@
 -- A message withdrawn or given up: what is so of the other tickets stays so.
-use Rattle.std.proofs.Common.{◌≡◌, ℕ, zero, suc, ◌+◌, ◌<◌, ◌≤◌, List, [], ◌∷◌, ◌++◌, length, Bool, true, false, Option, Some, None, refl, sym, ap, ◌∙◌, subst, arith}
-use Rattle.std.specs.Prelude.{◌==◌, not, ◌&&◌, ◌||◌, if◌then◌else◌}
+use Rattle.std.proofs.Common.{◌≡◌, ℕ, List, [], ◌∷◌, ◌++◌, Bool, true, false, Option, Some, None, refl, sym, ap, ◌∙◌, subst, arith}
+use Rattle.std.specs.Prelude.{◌==◌, ◌&&◌, ◌||◌, if◌then◌else◌}
 use Rattle.std.proofs.lemmas.Bool.{and_parts}
 use Rattle.std.proofs.lemmas.Bool.Decides.{nat_tests}
 use Rattle.sctp_model.specs.Format.{Format, Lane, same_lane}
-use Rattle.sctp_model.specs.Plan.{Message, Entry, Part, End, Plan, message_at}
+use Rattle.sctp_model.specs.Plan.{Message, Entry, End, Plan, message_at}
 use Rattle.sctp_model.specs.SenderView.{Queued, SenderView}
 use Rattle.sctp_model.specs.sender.Entries.{entry_lane, entry_number, entry_message, is_in_part}
-use Rattle.sctp_model.specs.sender.Abandoning.{Name, waits, without, name_of, name_among, has_ticket, given_up, is_abandoned, end_mark}
+use Rattle.sctp_model.specs.sender.Abandoning.{Name, waits, without, name_of, name_among, has_ticket, given_up, is_abandoned}
 use Rattle.sctp_model.specs.sender.Reached.{IsReached}
 use Rattle.sctp_model.proofs.sender.PlanLaws.{lanes_same, same_lane-self}
-use Rattle.sctp_model.proofs.sender.TicketLaws.{Owns, AreApart, is_ticketed, found_owns, or_name, name_among-append}
+use Rattle.sctp_model.proofs.sender.TicketLaws.{AreApart, is_ticketed, found_owns, or_name, name_among-append}
 
 -- ---- withdrawn
 

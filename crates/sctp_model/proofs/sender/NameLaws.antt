@@ -1,17 +1,17 @@
 -- A message by its ticket: its entries are those whose message has the ticket, and it is in part where some stream goes on with it.
-use Rattle.std.proofs.Common.{◌≡◌, ℕ, zero, suc, ◌+◌, ◌<◌, ◌≤◌, List, [], ◌∷◌, length, Bool, true, false, Option, Some, None, refl, sym, ap, ◌∙◌, subst, arith}
-use Rattle.std.specs.Prelude.{◌==◌, not, ◌&&◌, ◌||◌, if◌then◌else◌}
+use Rattle.std.proofs.Common.{◌≡◌, ℕ, zero, suc, ◌<◌, List, [], ◌∷◌, Bool, true, false, Option, Some, None, refl, sym, ap, ◌∙◌, subst, arith}
+use Rattle.std.specs.Prelude.{◌==◌, not, ◌&&◌, ◌||◌}
 use Rattle.std.proofs.lemmas.Bool.{and_parts}
 use Rattle.std.proofs.lemmas.Bool.Decides.{nat_tests}
 use Rattle.sctp_model.specs.Format.{Format, Lane, same_lane}
-use Rattle.sctp_model.specs.Plan.{Message, Entry, Part, End, Plan, message_at}
+use Rattle.sctp_model.specs.Plan.{Entry, Part, Plan, message_at}
 use Rattle.sctp_model.specs.SenderView.{SenderView}
-use Rattle.sctp_model.specs.sender.Entries.{entry_lane, entry_number, entry_message, is_of, is_entry_of, is_in_part, any_from, continued, latest}
+use Rattle.sctp_model.specs.sender.Entries.{entry_lane, entry_number, entry_message, is_of, is_entry_of, is_in_part, any_from, continued}
 use Rattle.sctp_model.specs.sender.Abandoning.{Name, name_of, name_among, has_ticket, has_uncovered}
 use Rattle.sctp_model.specs.sender.Reached.{IsReached}
-use Rattle.sctp_model.proofs.sender.PlanLaws.{IsFollower, continued_is, lanes_same, same_lane-self}
+use Rattle.sctp_model.proofs.sender.PlanLaws.{continued_is, lanes_same, same_lane-self}
 use Rattle.sctp_model.proofs.sender.CountLaws.{is_named, name_found}
-use Rattle.sctp_model.proofs.sender.TicketLaws.{Owns, AllOwn, IsTicketed, is_ticketed, found_owns, latest_owns}
+use Rattle.sctp_model.proofs.sender.TicketLaws.{Owns, AllOwn, is_ticketed, found_owns, latest_owns}
 
 -- ---- one message
 

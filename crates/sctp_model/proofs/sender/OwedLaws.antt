@@ -1,19 +1,19 @@
 -- The window is kept, and never are more TSNs assigned and owed than there may be.
-use Rattle.std.proofs.Common.{◌≡◌, ℕ, zero, suc, ◌+◌, ◌-◌, ◌%◌, ◌^◌, ◌<◌, ◌≤◌, List, [], ◌∷◌, ◌++◌, length, Bool, true, false, Option, Some, None, refl, sym, ap, ◌∙◌, subst, arith, length-append}
+use Rattle.std.proofs.Common.{◌≡◌, ℕ, zero, suc, ◌+◌, ◌-◌, ◌<◌, ◌≤◌, List, [], ◌∷◌, ◌++◌, length, Bool, true, false, Option, Some, None, refl, sym, ap, ◌∙◌, subst, arith, length-append}
 use Rattle.std.specs.Prelude.{◌==◌, nat_lt, nat_le, if◌then◌else◌}
 use Rattle.std.proofs.lemmas.Bool.{and_parts}
 use Rattle.std.proofs.lemmas.Bool.Decides.{nat_tests}
-use Rattle.sctp_model.specs.Format.{Format, Plain, Interleaved, Lane}
+use Rattle.sctp_model.specs.Format.{Format, Lane}
 use Rattle.sctp_model.specs.Plan.{Message, Entry, Part, End, Plan, message_at, parts_from}
 use Rattle.sctp_model.specs.SenderView.{Queued, SenderView}
 use Rattle.sctp_model.specs.sender.Entries.{fragments_in, is_of, is_entry_of, is_in_part, latest, follower, continued, fragments_from, one_if_some, sum_below, in_part, entry_lane}
 use Rattle.sctp_model.specs.sender.Queueing.{owed_for, owed_by_queue, owed_by_parts, promised, TSNS, cut}
-use Rattle.sctp_model.specs.sender.Filling.{Wish, next_wish, may_go, meets_flow, meets_window, room_of, gone, numbered, with_entry, served, first_on, without_first_on, WINDOW}
-use Rattle.sctp_model.specs.sender.Abandoning.{Name, waits, without, name_of, given_up, is_abandoned, abandon_after, end_mark}
+use Rattle.sctp_model.specs.sender.Filling.{meets_flow, meets_window, room_of, with_entry, first_on, without_first_on, WINDOW}
+use Rattle.sctp_model.specs.sender.Abandoning.{Name, without, given_up}
 use Rattle.sctp_model.specs.sender.Reached.{IsReached, Begins, Queues, Goes, Covers, Closes, Abandons, Repeats}
 use Rattle.sctp_model.proofs.sender.WishCases.{IsAssigned, Whole, Begun, Continued}
 use Rattle.sctp_model.proofs.sender.Bounds.{is_set, AllFilled, is_filled, accepted, length-parts}
-use Rattle.sctp_model.proofs.sender.PlanLaws.{IsNamed, AllNamed, with_message, message_new, message_stays, IsFollower, continued_is, continued_new, continued_more, latest-append, sum-same, sum-changed, lanes_same}
+use Rattle.sctp_model.proofs.sender.PlanLaws.{AllNamed, with_message, message_new, message_stays, continued_is, continued_new, continued_more, latest-append, sum-same, sum-changed, lanes_same}
 use Rattle.sctp_model.proofs.sender.CountLaws.{HasMessages, is_named, name_found, after_abandon, after_wish, first_there}
 
 -- ---- nothing is in part at the beginning

@@ -1,17 +1,17 @@
 -- Tickets of a view that calls reach: each is of one message at most, and of one that was accepted.
-use Rattle.std.proofs.Common.{◌≡◌, ℕ, zero, suc, ◌+◌, ◌-◌, ◌<◌, ◌≤◌, List, [], ◌∷◌, ◌++◌, length, Bool, true, false, Option, Some, None, refl, sym, ap, ◌∙◌, subst, arith}
+use Rattle.std.proofs.Common.{◌≡◌, ℕ, zero, suc, ◌<◌, ◌≤◌, List, [], ◌∷◌, ◌++◌, length, Bool, true, false, Option, Some, None, refl, sym, ap, ◌∙◌, subst, arith}
 use Rattle.std.specs.Prelude.{◌==◌, ◌||◌, if◌then◌else◌}
 use Rattle.std.proofs.lemmas.Bool.Decides.{nat_tests}
-use Rattle.sctp_model.specs.Format.{Format, Plain, Interleaved, Lane}
+use Rattle.sctp_model.specs.Format.{Format, Lane}
 use Rattle.sctp_model.specs.Plan.{Message, Entry, Part, End, Plan, message_at, parts_from}
 use Rattle.sctp_model.specs.SenderView.{Queued, SenderView}
-use Rattle.sctp_model.specs.sender.Entries.{entry_lane, entry_number, entry_message, latest, continued, is_in_part}
-use Rattle.sctp_model.specs.sender.Filling.{Wish, next_wish, gone, with_entry, first_on, without_first_on}
-use Rattle.sctp_model.specs.sender.Abandoning.{Name, waits, without, name_of, name_among, has_ticket, given_up, is_abandoned, abandon_after, end_mark}
+use Rattle.sctp_model.specs.sender.Entries.{entry_lane, entry_number, entry_message, latest, is_in_part}
+use Rattle.sctp_model.specs.sender.Filling.{first_on, without_first_on}
+use Rattle.sctp_model.specs.sender.Abandoning.{Name, waits, without, name_of, name_among, has_ticket, given_up}
 use Rattle.sctp_model.specs.sender.Reached.{IsReached, Begins, Queues, Goes, Covers, Closes, Abandons, Repeats}
 use Rattle.sctp_model.proofs.sender.WishCases.{IsAssigned, Whole, Begun, Continued}
 use Rattle.sctp_model.proofs.sender.Bounds.{is_set, AllFilled, is_filled}
-use Rattle.sctp_model.proofs.sender.PlanLaws.{IsNamed, AllNamed, with_message, message_new, message_stays, IsFollower, continued_is}
+use Rattle.sctp_model.proofs.sender.PlanLaws.{IsNamed, AllNamed, with_message, message_new, message_stays, continued_is}
 use Rattle.sctp_model.proofs.sender.CountLaws.{HasMessages, is_named, after_abandon, after_wish}
 
 -- ---- names among entries

@@ -1,6 +1,5 @@
 -- What the next wish is: a fragment that has an index, or one that takes it.
-use Rattle.std.proofs.Common.{◌≡◌, ℕ, zero, suc, ◌+◌, ◌-◌, ◌%◌, ◌<◌, ◌≤◌, ◌⊎◌, inl, inr, List, [], ◌∷◌, length, Bool, true, false, Option, Some, None, refl, sym, ap, ◌∙◌, subst, arith}
-use Rattle.std.specs.Prelude.{if◌then◌else◌}
+use Rattle.std.proofs.Common.{◌≡◌, ℕ, zero, suc, ◌+◌, ◌%◌, ◌<◌, ◌≤◌, ◌⊎◌, inl, inr, List, [], ◌∷◌, length, Bool, true, false, Option, Some, None, refl, ◌∙◌, subst, arith}
 use Rattle.sctp_model.specs.Format.{Format, Plain, Interleaved}
 use Rattle.sctp_model.specs.Plan.{Entry}
 use Rattle.sctp_model.specs.SenderView.{Queued, SenderView}

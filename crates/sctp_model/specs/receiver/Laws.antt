@@ -1,10 +1,10 @@
 -- What holds of every view that calls reach, and what makes each step of it one.
-use Rattle.std.specs.Prelude.{◌≡◌, ℕ, ◌≤◌, true, List}
+use Rattle.std.specs.Prelude.{◌≡◌, ℕ, ◌≤◌, true, false, List}
 use Rattle.sctp_model.specs.Lists.{Has}
 use Rattle.sctp_model.specs.Format.{Format, Plain, Interleaved, Unordered, ordered_lane}
 use Rattle.sctp_model.specs.Pieces.{Piece, fragment_of}
 use Rattle.sctp_model.specs.ReceiverView.{ReceiverView}
-use Rattle.sctp_model.specs.Receiving.{HasNoWhole, IsWholeWith}
+use Rattle.sctp_model.specs.Receiving.{is_below, HasNoWhole, IsWholeWith}
 
 -- under DATA two chunks with one index, under I-DATA two fragments with one lane, number and fragment number
 abbrev pub IsOnePlace : Format → Piece → Piece → Type 0
@@ -24,3 +24,7 @@ pub record IsOrdinary (f : Format) (r : ReceiverView) : Type 0 where
 pub record IsIdle (f : Format) (r : ReceiverView) : Type 0 where
   pub ordered : (s : ℕ) → (r.skip (ordered_lane s) ≤ r.next s) × HasNoWhole f r.kept (ordered_lane s) (r.next s)
   pub unordered : (y : Piece) (xs : List Piece) → y.lane.kind ≡ Unordered → IsWholeWith f r.kept y xs → ⊥
+
+-- no ordered chunk that is kept lies behind the next number of its stream
+abbrev pub IsSettled : ReceiverView → Type 0
+IsSettled r = (s : ℕ) (x : Piece) → Has r.kept x → is_below s (r.next s) x ≡ false

@@ -1,7 +1,7 @@
 -- What is computed is what the definitions say: exactly the whole messages, and the one step of each chunk and FORWARD.
 use Rattle.std.specs.Prelude.{◌≡◌, ◌↔◌, ℕ, List}
 use Rattle.sctp_model.specs.Lists.{Has, IsWithin}
-use Rattle.sctp_model.specs.Chunk.{PieceMeaning, ForwardMeaning}
+use Rattle.sctp_model.specs.Chunk.{PieceMeaning, SackMeaning, ForwardMeaning}
 use Rattle.sctp_model.specs.Format.{Format}
 use Rattle.sctp_model.specs.Pieces.{Piece}
 use Rattle.sctp_model.specs.Whole.{IsWhole}
@@ -9,7 +9,7 @@ use Rattle.sctp_model.specs.ReceiverView.{ReceiverView, IsCumulative}
 use Rattle.sctp_model.specs.receiver.Laws.{IsApart, IsOrdinary}
 use Rattle.sctp_model.specs.receiver.PieceTaken.{Answer, PieceTaken, answer_to}
 use Rattle.sctp_model.specs.receiver.ForwardTaken.{ForwardAnswer, ForwardTaken, forward_answer}
-use Rattle.sctp_model.specs.receiver.SackMade.{AreLowestRuns}
+use Rattle.sctp_model.specs.receiver.SackMade.{AreLowestRuns, IsSack}
 use Rattle.sctp_reference.specs.receiver.Wholes.{wholes}
 use Rattle.sctp_reference.specs.receiver.Steps.{IsBound, cumulative, piece_step, forward_step}
 use Rattle.sctp_reference.specs.receiver.Runs.{lowest_runs}
@@ -45,3 +45,7 @@ ForwardsAreTakenSo = (f : Format) (r t : ReceiverView) (c : ℕ) (x : ForwardMea
 -- the blocks of a SACK, of a receiver that recorded no index above a bound
 abbrev pub RunsAreComputed : Type 0
 RunsAreComputed = (r : ReceiverView) (c bound : ℕ) → IsBound r bound → IsCumulative r c → AreLowestRuns r c (lowest_runs r c bound)
+
+-- a view has one SACK
+abbrev pub SackIsOne : Type 0
+SackIsOne = (r : ReceiverView) (s t : SackMeaning) → IsSack r s → IsSack r t → s ≡ t

@@ -1,28 +1,24 @@
 -- How an end turns: nearly everything leaves its terms, and its state but for closing; only an INIT ACK and a COOKIE ACK do more.
 use Rattle.std.proofs.Common.{◌≡◌, ℕ, Bool, true, false, List, [], ◌∷◌, ◌++◌, Some, refl, sym, subst, ◌∙◌}
 use Rattle.sctp_model.specs.Chunk.{InitMeaning, ChunkMeaning, Data, IData, Init, InitAck, Sack, Heartbeat, HeartbeatAck, Abort, Shutdown, ShutdownAck, Error, CookieEcho, CookieAck, ShutdownComplete, ForwardTsn, IForwardTsn, Unknown}
-use Rattle.sctp_model.specs.end.EndView.{Draw, Tags, Stage, Established, ShutdownPending, ShutdownSent, ShutdownReceived, ShutdownAckSent, Ended, Aborted, Completed, StaleCookie, Phase, Idle, Listening, Calling, Echoing, Open, Over, EndView, has_association}
+use Rattle.sctp_model.specs.end.EndView.{AbortedHere, Draw, Tags, Stage, Established, ShutdownPending, ShutdownSent, ShutdownReceived, ShutdownAckSent, Ended, Aborted, Completed, StaleCookie, Phase, Idle, Listening, Calling, Echoing, Open, Over, EndView, has_association}
 use Rattle.sctp_model.specs.end.Clock.{closed}
 use Rattle.sctp_model.specs.end.Closing.{rested}
 use Rattle.sctp_model.specs.end.PeerFaults.{GoesOn, Ends}
 use Rattle.sctp_model.specs.end.Options.{STATE_COOKIE, value_of}
 use Rattle.sctp_model.specs.end.Opening.{AcceptedAck, EchoedAgain, CookieAcked, echoing}
-use Rattle.sctp_model.specs.end.Acting.{Acts, Comes, IsOld, IsStale, Counts, Closes, SaysNothing, Crosses, Again, Completes}
+use Rattle.sctp_model.specs.end.Acting.{IsBad, WrongKind, IsWrong, WrongFormat, Empty, Acts, Comes, IsOld, IsStale, Counts, Closes, SaysNothing, Crosses, Again, Completes}
 use Rattle.sctp_model.specs.end.Building.{Wants, EchoCookie, AckCookie, AckHeartbeat, ReportCauses, Acknowledge, PassOn, SayShutdown, AnswerShutdown, Slot, Puts, NoMore, NotDue, Put, IsFull, Builds, Sleeps, Waits, Calls, Echoes, Fills}
 use Rattle.sctp_model.specs.end.Building.{Ends as EndsFull}
+use Rattle.sctp_model.specs.end.Closing.{takes_acknowledgements}
+use Rattle.sctp_model.specs.Packet.{Packet}
+use Rattle.sctp_model.specs.end.PeerFaults.{Replies}
+use Rattle.sctp_model.specs.end.Opening.{RefusedAck}
+use Rattle.sctp_safety.specs.States.{IsStageTurn, Says, PeerShuts, BothShut, Cross, Answers, IsTurn, ByStage, IsPath, Here, On, has_begun}
 use Rattle.sctp_safety.proofs.machine.EndWords.{rested_cases}
-use Rattle.sctp_safety.proofs.machine.Sides.{unknown_goes, unknown_ends}
+use Rattle.sctp_safety.proofs.machine.Sides.{unknown_never_replies, unknown_goes, unknown_ends}
 
 -- ---- plain turns
-
--- a caller that has called, and everything later
-abbrev pub has_begun : Phase → Bool
-has_begun Idle = false
-has_begun Listening = false
-has_begun (Calling d) = true
-has_begun (Echoing t xs) = true
-has_begun (Open t g) = true
-has_begun (Over why) = true
 
 pub begun_by_association : (h : Phase) → has_association h ≡ true → has_begun h ≡ true
 begun_by_association Idle e = absurd (cc)
@@ -35,20 +31,22 @@ begun_by_association (Over why) e = absurd (cc)
 -- an end stays where it is, closes, or goes on with closing
 pub data IsPlainTurn : Phase → Phase → Type 0 where
   Stays : (h : Phase) → IsPlainTurn h h
-  Leaves : (h : Phase) (why : Ended) → has_begun h ≡ true → IsPlainTurn h (Over why)
-  Goes : (t : Tags) (g i : Stage) → IsPlainTurn (Open t g) (Open t i)
+  Leaves : (h : Phase) (why : Ended) → has_association h ≡ true → IsPlainTurn h (Over why)
+  Goes : (t : Tags) (g i : Stage) → IsPath (Open t g) (Open t i) → IsPlainTurn (Open t g) (Open t i)
+
+pub path_on : (h k l : Phase) → IsPath h k → IsPath k l → IsPath h l
+path_on h k l (Here _) b = b
+path_on h k l (On _ m _ t rest) b = On h m l t (path_on m k l rest b)
+
+pub one_turn : (h k : Phase) → IsTurn h k → IsPath h k
+one_turn h k t = On h k k t (Here k)
 
 pub turn_on : (h k l : Phase) → IsPlainTurn h k → IsPlainTurn k l → IsPlainTurn h l
 turn_on h k l (Stays _) b = b
 turn_on h k l a (Stays _) = a
-turn_on h k l (Goes t g i) (Leaves _ why has) = Leaves (Open t g) why refl
-turn_on h k l (Goes t g i) (Goes _ _ j) = Goes t g j
-turn_on h k l (Leaves _ why has) (Leaves _ other has') = Leaves h other has
-
-pub turn_begun : (h k : Phase) → IsPlainTurn h k → has_begun h ≡ true → has_begun k ≡ true
-turn_begun h k (Stays _) e = e
-turn_begun h k (Leaves _ why has) e = refl
-turn_begun h k (Goes t g i) e = refl
+turn_on h k l (Goes t g i p) (Leaves _ why has) = Leaves (Open t g) why refl
+turn_on h k l (Goes t g i p) (Goes _ _ j q) = Goes t g j (path_on (Open t g) (Open t i) (Open t j) p q)
+turn_on h k l (Leaves _ why has) (Leaves _ other has') = absurd (cc)
 
 -- the same terms, set up alike, and a plain turn
 pub record IsPlain (e t : EndView) : Type 0 where
@@ -71,19 +69,34 @@ plain_on e t u a b = record {
 }
 
 -- from an open end to another stage
-pub goes_from : (e : EndView) (t : Tags) (g i : Stage) → e.phase ≡ Open t g → IsPlainTurn e.phase (Open t i)
-goes_from e t g i is = subst (λ (h : Phase). IsPlainTurn h (Open t i)) (sym is) (Goes t g i)
+pub goes_from : (e : EndView) (t : Tags) (g i : Stage) → e.phase ≡ Open t g → IsPath (Open t g) (Open t i) → IsPlainTurn e.phase (Open t i)
+goes_from e t g i is p = subst (λ (h : Phase). IsPlainTurn h (Open t i)) (sym is) (Goes t g i p)
+
+pub by_stage : (t : Tags) (g i : Stage) → IsStageTurn g i → IsPath (Open t g) (Open t i)
+by_stage t g i s = one_turn (Open t g) (Open t i) (ByStage t g i s)
+
+-- the peer's SHUTDOWN
+hears_shutdown : (t : Tags) (g : Stage) → takes_acknowledgements g ≡ true → IsPath (Open t g) (Open t ShutdownReceived)
+hears_shutdown t Established h = by_stage t Established ShutdownReceived PeerShuts
+hears_shutdown t ShutdownPending h = by_stage t ShutdownPending ShutdownReceived BothShut
+hears_shutdown t ShutdownSent h = absurd (cc)
+hears_shutdown t ShutdownReceived h = Here (Open t ShutdownReceived)
+hears_shutdown t ShutdownAckSent h = absurd (cc)
 
 pub plain_rested : (e : EndView) → IsPlain e (rested e)
 plain_rested e = rested_cases (IsPlain e) e (plain_same e)
-    (λ t is d. record { configuration = refl; role = refl; moment = refl; terms = refl; turn = goes_from e t ShutdownPending ShutdownSent is })
-    (λ t is d. record { configuration = refl; role = refl; moment = refl; terms = refl; turn = goes_from e t ShutdownReceived ShutdownAckSent is })
+    (λ t is d. record { configuration = refl; role = refl; moment = refl; terms = refl; turn = goes_from e t ShutdownPending ShutdownSent is (by_stage t ShutdownPending ShutdownSent Says) })
+    (λ t is d. record { configuration = refl; role = refl; moment = refl; terms = refl; turn = goes_from e t ShutdownReceived ShutdownAckSent is (by_stage t ShutdownReceived ShutdownAckSent Answers) })
+
+-- an end at rest has its association still
+pub rested_has : (e : EndView) → has_association e.phase ≡ true → has_association (rested e).phase ≡ true
+rested_has e has = rested_cases (λ (t : EndView). has_association t.phase ≡ true) e has (λ t is d. refl) (λ t is d. refl)
 
 -- ---- chunks
 
 -- What a chunk leaves that goes on: a plain turn, or an INIT ACK was accepted, or a COOKIE ACK came.
 pub data IsLeft (e : EndView) (x : ChunkMeaning) : EndView → Type 0 where
-  Plainly : (t : EndView) → IsPlain e t → IsLeft e x t
+  Plainly : (t : EndView) → IsPlain e t → (has_association e.phase ≡ true → has_association t.phase ≡ true) → IsLeft e x t
   Accepts : (m : InitMeaning) (d : Draw) (cookie : List ℕ) → x ≡ InitAck m → e.phase ≡ Calling d → value_of STATE_COOKIE m.parameters ≡ Some cookie →
       IsLeft e x (echoing e d m cookie)
   Acked : (t : Tags) (cookie : List ℕ) (u : EndView) → x ≡ CookieAck → e.phase ≡ Echoing t cookie → u.configuration ≡ e.configuration → u.role ≡ e.role → u.moment ≡ e.moment →
@@ -91,7 +104,7 @@ pub data IsLeft (e : EndView) (x : ChunkMeaning) : EndView → Type 0 where
 
 -- the same state
 still : (e : EndView) (x : ChunkMeaning) (t : EndView) → t.configuration ≡ e.configuration → t.role ≡ e.role → t.moment ≡ e.moment → t.terms ≡ e.terms → e.phase ≡ t.phase → IsLeft e x t
-still e x t a b n c p = Plainly t (record { configuration = a; role = b; moment = n; terms = c; turn = subst (IsPlainTurn e.phase) p (Stays e.phase) })
+still e x t a b n c p = Plainly t (record { configuration = a; role = b; moment = n; terms = c; turn = subst (IsPlainTurn e.phase) p (Stays e.phase) }) (λ h. subst (λ (k : Phase). has_association k ≡ true) p h)
 
 pub goes_left : (e : EndView) (tag : ℕ) (x : ChunkMeaning) (t : EndView) → Acts e tag x (GoesOn t) → IsLeft e x t
 goes_left e tag (Data p) t (Comes _ _ _ _ _ _ _ _ _) = still e _ t refl refl refl refl refl
@@ -101,11 +114,11 @@ goes_left e tag (InitAck m) t (AcceptedAck d cookie is tagged value fault) = Acc
 goes_left e tag (Sack s) t (IsStale _ _) = still e _ t refl refl refl refl refl
 goes_left e tag (Sack s) t (Counts _ _) = still e _ t refl refl refl refl refl
 goes_left e tag (Heartbeat i) t (Counts _) = still e _ t refl refl refl refl refl
-goes_left e tag (HeartbeatAck i) t h = let q : t ≡ e = cc in Plainly t (subst (IsPlain e) (sym q) (plain_same e))
+goes_left e tag (HeartbeatAck i) t h = let q : t ≡ e = cc in Plainly t (subst (IsPlain e) (sym q) (plain_same e)) (λ has. subst (λ (y : EndView). has_association y.phase ≡ true) (sym q) has)
 goes_left e tag (Abort b xs) t h = absurd (cc)
-goes_left e tag (Shutdown n) t (IsStale u g is _ _) = Plainly t (record { configuration = refl; role = refl; moment = refl; terms = refl; turn = goes_from e u g ShutdownReceived is })
-goes_left e tag (Shutdown n) t (Counts u g is _ _) = Plainly t (record { configuration = refl; role = refl; moment = refl; terms = refl; turn = goes_from e u g ShutdownReceived is })
-goes_left e tag (Shutdown n) t (Crosses u is) = Plainly t (record { configuration = refl; role = refl; moment = refl; terms = refl; turn = goes_from e u ShutdownSent ShutdownAckSent is })
+goes_left e tag (Shutdown n) t (IsStale u g is takes _) = Plainly t (record { configuration = refl; role = refl; moment = refl; terms = refl; turn = goes_from e u g ShutdownReceived is (hears_shutdown u g takes) }) (λ has. refl)
+goes_left e tag (Shutdown n) t (Counts u g is takes _) = Plainly t (record { configuration = refl; role = refl; moment = refl; terms = refl; turn = goes_from e u g ShutdownReceived is (hears_shutdown u g takes) }) (λ has. refl)
+goes_left e tag (Shutdown n) t (Crosses u is) = Plainly t (record { configuration = refl; role = refl; moment = refl; terms = refl; turn = goes_from e u ShutdownSent ShutdownAckSent is (by_stage u ShutdownSent ShutdownAckSent Cross) }) (λ has. refl)
 goes_left e tag (Shutdown n) t (Again u is) = still e _ t refl refl refl refl refl
 goes_left e tag ShutdownAck t h = elim h [ ]
 goes_left e tag (Error xs) t (SaysNothing _) = still e _ t refl refl refl refl refl
@@ -116,13 +129,15 @@ goes_left e tag (ForwardTsn m) t (IsOld _ _ _ _ _ _ _) = still e _ t refl refl r
 goes_left e tag (ForwardTsn m) t (Comes _ _ _ _ _ _ _) = still e _ t refl refl refl refl refl
 goes_left e tag (IForwardTsn m) t (IsOld _ _ _ _ _ _ _) = still e _ t refl refl refl refl refl
 goes_left e tag (IForwardTsn m) t (Comes _ _ _ _ _ _ _) = still e _ t refl refl refl refl refl
-goes_left e tag (Unknown k f v) t h = let u = unknown_goes e t k f v h in Plainly t (subst (IsPlain e) (sym u.same) (record { configuration = refl; role = refl; moment = refl; terms = refl; turn = Stays e.phase }))
+goes_left e tag (Unknown k f v) t h = let u = unknown_goes e t k f v h in
+    Plainly t (subst (IsPlain e) (sym u.same) (record { configuration = refl; role = refl; moment = refl; terms = refl; turn = Stays e.phase }))
+    (λ has. subst (λ (y : EndView). has_association y.phase ≡ true) (sym u.same) has)
 
 -- closed, from a state of an association
-pub left_closed : (e : EndView) (why : Ended) → has_begun e.phase ≡ true → IsPlain e (closed why e)
+pub left_closed : (e : EndView) (why : Ended) → has_association e.phase ≡ true → IsPlain e (closed why e)
 left_closed e why has = record { configuration = refl; role = refl; moment = refl; terms = refl; turn = Leaves e.phase why has }
 
-pub ends_plain : (e : EndView) (tag : ℕ) (x : ChunkMeaning) (t : EndView) → has_begun e.phase ≡ true → Acts e tag x (Ends t) → IsPlain e t
+pub ends_plain : (e : EndView) (tag : ℕ) (x : ChunkMeaning) (t : EndView) → has_association e.phase ≡ true → Acts e tag x (Ends t) → IsPlain e t
 ends_plain e tag (Data p) t has h = elim h [ ]
 ends_plain e tag (IData p) t has h = elim h [ ]
 ends_plain e tag (Init m) t has h = absurd (cc)
@@ -140,6 +155,29 @@ ends_plain e tag (ShutdownComplete b) t has (Completes _) = left_closed e Comple
 ends_plain e tag (ForwardTsn m) t has h = elim h [ ]
 ends_plain e tag (IForwardTsn m) t has h = elim h [ ]
 ends_plain e tag (Unknown k f v) t has h = let u = unknown_ends e t k f v h in subst (IsPlain e) (sym u.same) (record { configuration = refl; role = refl; moment = refl; terms = refl; turn = Stays e.phase })
+
+pub replies_plain : (e : EndView) (tag : ℕ) (x : ChunkMeaning) (t : EndView) (p : Packet) → has_association e.phase ≡ true → Acts e tag x (Replies t p) → IsPlain e t
+replies_plain e tag (Data q) t p has (Empty _ _ _ _ _) = left_closed e AbortedHere has
+replies_plain e tag (Data q) t p has (WrongFormat _ _ _ _ _ _) = left_closed e AbortedHere has
+replies_plain e tag (IData q) t p has (Empty _ _ _ _ _) = left_closed e AbortedHere has
+replies_plain e tag (IData q) t p has (WrongFormat _ _ _ _ _ _) = left_closed e AbortedHere has
+replies_plain e tag (Init m) t p has h = absurd (cc)
+replies_plain e tag (InitAck m) t p has (RefusedAck _ _ _ _ _) = left_closed e AbortedHere has
+replies_plain e tag (Sack s) t p has (IsWrong _ _ _ _ _) = left_closed e AbortedHere has
+replies_plain e tag (Heartbeat i) t p has h = elim h [ ]
+replies_plain e tag (HeartbeatAck i) t p has h = absurd (cc)
+replies_plain e tag (Abort b xs) t p has h = absurd (cc)
+replies_plain e tag (Shutdown n) t p has (IsWrong _ _ _ _ _) = left_closed e AbortedHere has
+replies_plain e tag ShutdownAck t p has (Completes _ _ _ _) = left_closed e Completed has
+replies_plain e tag (Error xs) t p has h = elim h [ ]
+replies_plain e tag (CookieEcho xs) t p has h = elim h [ ]
+replies_plain e tag CookieAck t p has h = elim h [ ]
+replies_plain e tag (ShutdownComplete b) t p has h = elim h [ ]
+replies_plain e tag (ForwardTsn m) t p has (WrongKind _ _ _ _ _) = left_closed e AbortedHere has
+replies_plain e tag (ForwardTsn m) t p has (IsBad _ _ _ _ _ _ _) = left_closed e AbortedHere has
+replies_plain e tag (IForwardTsn m) t p has (WrongKind _ _ _ _ _) = left_closed e AbortedHere has
+replies_plain e tag (IForwardTsn m) t p has (IsBad _ _ _ _ _ _ _) = left_closed e AbortedHere has
+replies_plain e tag (Unknown k f v) t p has h = absurd (unknown_never_replies e t p k f v h)
 
 -- ---- a packet that is built
 

@@ -1,5 +1,5 @@
 -- Time and the user turn an end plainly too.
-use Rattle.std.proofs.Common.{◌≡◌, ℕ, not, ◌||◌, ◌==◌, Bool, true, false, List, [], ◌∷◌, Option, Some, None, refl, sym, subst}
+use Rattle.std.proofs.Common.{◌≡◌, ℕ, ◌⊎◌, inl, inr, not, ◌||◌, ◌==◌, Bool, true, false, List, [], ◌∷◌, Option, Some, None, refl, sym, subst}
 use Rattle.sctp_model.specs.Calls.{Call}
 use Rattle.sctp_model.specs.ReceiverView.{Handed}
 use Rattle.sctp_model.specs.SenderView.{SenderView}
@@ -14,7 +14,8 @@ use Rattle.std.specs.Prelude.{if◌then◌else◌, nat_lt, nat_le}
 use Rattle.sctp_model.specs.end.Closing.{rested}
 use Rattle.sctp_model.specs.end.Moments.{after_giving_up, due_again, rung, ring, rung_all, all_alarms, passed, ticked}
 use Rattle.sctp_model.specs.end.UserCalls.{SendAnswer, Ticket, Refused, NotOpen, send_leaves, is_open, abandoned_at, Takes, shut_in, shut, Aborts, TooLong, abort_answer, abort_answer_to, abort_leaves, abort_packet, peer_tag}
-use Rattle.sctp_safety.proofs.machine.Turns.{IsPlain, Stays, plain_same, plain_on, turn_begun, has_begun, begun_by_association, plain_rested, goes_from, left_closed}
+use Rattle.sctp_safety.specs.States.{UserShuts}
+use Rattle.sctp_safety.proofs.machine.Turns.{rested_has, by_stage, IsPlainTurn, IsPlain, Stays, plain_same, plain_on, plain_rested, goes_from, left_closed}
 
 -- ---- time
 
@@ -30,20 +31,48 @@ plain_again DataAlarm e = record { configuration = refl; role = refl; moment = r
 plain_again ShutdownAlarm e = record { configuration = refl; role = refl; moment = refl; terms = refl; turn = Stays e.phase }
 plain_again AckAlarm e = record { configuration = refl; role = refl; moment = refl; terms = refl; turn = Stays e.phase }
 
-rung_plain : (b : Bool) (a : Alarm) (e : EndView) → has_begun e.phase ≡ true → IsPlain e (rung b a e)
-rung_plain false a e has = plain_same e
-rung_plain true a e has = go (nat_lt (e.timers a).repeats (repeats_of a))
-  where
-    go : (c : Bool) → IsPlain e (if c then due_again a (with_timer a (expired_timer (e.timers a)) e) else closed TimedOut e)
-    go true = plain_on e (with_timer a (expired_timer (e.timers a)) e) (due_again a (with_timer a (expired_timer (e.timers a)) e)) (record { configuration = refl; role = refl; moment = refl; terms = refl; turn = Stays e.phase })
-        (plain_again a (with_timer a (expired_timer (e.timers a)) e))
-    go false = left_closed e TimedOut has
+-- it has an association still, or a timer gave up
+abbrev IsRung : EndView → Type 0
+IsRung e = (has_association e.phase ≡ true) ⊎ (e.phase ≡ Over TimedOut)
 
-all_plain : (alarms : List Alarm) (e : EndView) → has_begun e.phase ≡ true → IsPlain e (rung_all alarms e)
+rung_plain : (b : Bool) (a : Alarm) (e : EndView) → IsRung e → IsPlain e (rung b a e)
+rung_plain false a e has = plain_same e
+rung_plain true a e has = go (nat_lt (e.timers a).repeats (repeats_of a)) has
+  where
+    go : (c : Bool) → IsRung e → IsPlain e (if c then due_again a (with_timer a (expired_timer (e.timers a)) e) else closed TimedOut e)
+    go true h =
+        plain_on e (with_timer a (expired_timer (e.timers a)) e) (due_again a (with_timer a (expired_timer (e.timers a)) e))
+        (record { configuration = refl; role = refl; moment = refl; terms = refl; turn = Stays e.phase })
+        (plain_again a (with_timer a (expired_timer (e.timers a)) e))
+    go false (inl h) = left_closed e TimedOut h
+    go false (inr is) = record {
+      configuration = refl;
+      role = refl;
+      moment = refl;
+      terms = refl;
+      turn = subst (λ (h : Phase). IsPlainTurn h (Over TimedOut)) (sym is) (Stays (Over TimedOut));
+    }
+
+rung_on : (b : Bool) (a : Alarm) (e : EndView) → IsRung e → IsRung (rung b a e)
+rung_on false a e has = has
+rung_on true a e has = go (nat_lt (e.timers a).repeats (repeats_of a))
+  where
+    again : (c : Alarm) (t : EndView) → IsRung t → IsRung (due_again c t)
+    again InitAlarm t h = h
+    again CookieAlarm t h = h
+    again DataAlarm t h = h
+    again ShutdownAlarm t h = h
+    again AckAlarm t h = h
+
+    go : (c : Bool) → IsRung (if c then due_again a (with_timer a (expired_timer (e.timers a)) e) else closed TimedOut e)
+    go true = again a (with_timer a (expired_timer (e.timers a)) e) has
+    go false = inr refl
+
+all_plain : (alarms : List Alarm) (e : EndView) → IsRung e → IsPlain e (rung_all alarms e)
 all_plain [] e has = plain_same e
 all_plain (a ∷ more) e has =
-    let r = rung_plain (is_over_at e.moment (e.timers a).expiry) a e has in
-    plain_on e (ring a e) (rung_all more (ring a e)) r (all_plain more (ring a e) (turn_begun e.phase (ring a e).phase r.turn has))
+    let b = is_over_at e.moment (e.timers a).expiry in
+    plain_on e (ring a e) (rung_all more (ring a e)) (rung_plain b a e has) (all_plain more (ring a e) (rung_on b a e has))
 
 pub plain_ticked : (e : EndView) (now : ℕ) → IsPlain (at_moment e now) (ticked e now)
 plain_ticked e now = go (has_association e.phase) refl
@@ -51,9 +80,10 @@ plain_ticked e now = go (has_association e.phase) refl
     go : (b : Bool) → has_association e.phase ≡ b → IsPlain (at_moment e now) (if b then passed (at_moment e now) else at_moment e now)
     go false is = plain_same (at_moment e now)
     go true is =
+        let mid = settled (record (at_moment e now) { sender = expired_messages (at_moment e now).sender (at_moment e now).moment; due = record e.due { forward = e.due.forward || not (point (expired_messages (at_moment e now).sender (at_moment e now).moment) == point e.sender) } }) in
         let u = after_giving_up (at_moment e now) (expired_messages (at_moment e now).sender (at_moment e now).moment) in
         let g = plain_given_up (at_moment e now) (expired_messages (at_moment e now).sender (at_moment e now).moment) in
-        plain_on (at_moment e now) u (rung_all all_alarms u) g (all_plain all_alarms u (turn_begun e.phase u.phase g.turn (begun_by_association e.phase is)))
+        plain_on (at_moment e now) u (rung_all all_alarms u) g (all_plain all_alarms u (inl (rested_has mid is)))
 
 -- ---- the user
 
@@ -78,7 +108,7 @@ plain_shut e = go e.phase refl
     go : (h : Phase) → e.phase ≡ h → IsPlain e (shut_in h e)
     go (Open t Established) is =
         let mid = turned (Open t ShutdownPending) e in
-        plain_on e mid (rested mid) (record { configuration = refl; role = refl; moment = refl; terms = refl; turn = goes_from e t Established ShutdownPending is }) (plain_rested mid)
+        plain_on e mid (rested mid) (record { configuration = refl; role = refl; moment = refl; terms = refl; turn = goes_from e t Established ShutdownPending is (by_stage t Established ShutdownPending UserShuts) }) (plain_rested mid)
     go (Open t ShutdownPending) is = plain_same e
     go (Open t ShutdownSent) is = plain_same e
     go (Open t ShutdownReceived) is = plain_same e
@@ -92,13 +122,13 @@ plain_shut e = go e.phase refl
 pub plain_aborted : (e : EndView) (r : List ℕ) → IsPlain e (abort_leaves (abort_answer e r) e)
 plain_aborted e r = go (peer_tag e.phase) refl
   where
-    knows : (h : Phase) (n : ℕ) → peer_tag h ≡ Some n → has_begun h ≡ true
+    knows : (h : Phase) (n : ℕ) → peer_tag h ≡ Some n → has_association h ≡ true
     knows Idle n q = absurd (cc)
     knows Listening n q = absurd (cc)
     knows (Calling d) n q = refl
     knows (Echoing t xs) n q = refl
     knows (Open t g) n q = refl
-    knows (Over why) n q = refl
+    knows (Over why) n q = absurd (cc)
 
     by : (n : ℕ) → peer_tag e.phase ≡ Some n → (b : Bool) → IsPlain e (abort_leaves (if b then Aborts (abort_packet e n r) else TooLong) e)
     by n is true = left_closed e AbortedHere (knows e.phase n is)

@@ -1,36 +1,34 @@
-use Rattle.std.proofs.Common.{rules, ap, ap₂, refl, sym, subst, ◌∙◌, ◌≡◌, ℕ, List, codes, true, map, string_bytes}
-use Rattle.clap.specs.Words.{App, Shape, app_of, fault_of, is_simple_and_free, HasKind}
-use Rattle.clap.specs.Simple.{app_of_fields, new_app, on_top, with_subcommand}
+use Rattle.std.proofs.Common.{rules, ap, ap₂, refl, subst, ◌∙◌, ◌≡◌, ℕ, List, codes, true, false, map, string_bytes}
+use Rattle.clap.specs.Words.{App, Rule, FailsBy, app_of, rule_of, fault_of, is_simple_and_free}
+use Rattle.clap.specs.Simple.{app_of_fields, new_app, on_top, with_rule, with_subcommand}
 use Rattle.clap.proofs.OnLiterals.{clap_on_literals}
-use Rattle.sctp_trace.specs.ExitStatus.{commands}
+use Rattle.sctp_trace.specs.ExitStatus.{commands, hex_rule}
 use Rattle.sctp_trace.proofs.command_line.parse.Goals as goal
 
 is_free : is_simple_and_free commands ≡ true
 unfolding clap_on_literals
 is_free = refl
 
-pub returns-in_err-try_get_matches_from : goal.returns-in_err-try_get_matches_from
-returns-in_err-try_get_matches_from c =
-    let run : app_of c.about-run.result ≡ new_app (codes "run") = ap app_of_fields c.about-run.ensures ∙ c.new.ensures.app in
-    let named = ap app_of_fields c.in_ok-bin_name.ensures.0 in
-    let required = ap app_of_fields c.subcommand_required.ensures in
-    let about = ap app_of_fields c.about.ensures in
-    let top : app_of c.subcommand_required.result ≡ on_top (λ s. record s { subcommand_required = true }) (new_app (codes "sctp-trace")) =
-    required ∙ ap (on_top (λ s. record s { subcommand_required = true })) (about ∙ named ∙ c.new-2.ensures.app) in
-    let all : app_of c.in_ok-program.program ≡ commands = c.in_ok-program.ensures.shape (search rules)
-    ∙ ap₂ with_subcommand top (ap (λ (a : App). a.top) run) in
-    let failed = subst (λ (a : App). HasKind (fault_of a (map string_bytes c.args.words.now)) c.in_err-try_get_matches_from.field-0.0) all
-    (c.in_err-try_get_matches_from.ensures.kinds (ap is_simple_and_free all ∙ is_free)) in
-    search (rules, failed)
-
 pub returns : goal.returns
 returns c =
     let run : app_of c.about-run.result ≡ new_app (codes "run") = ap app_of_fields c.about-run.ensures ∙ c.new.ensures.app in
+    let first_hex : rule_of c.required-packet_hex.result ≡ hex_rule =
+    rw c.required-packet_hex.ensures (ap (λ (r : Rule). record r { required = true }) c.new-2.ensures.rule) in
+    let first_local : c.required-packet_hex.result.global ≡ false = rw c.required-packet_hex.ensures c.new-2.ensures.optional.1 in
+    let packet : app_of c.in_ok-packet.packet ≡ with_rule (new_app (codes "packet")) hex_rule =
+    c.in_ok-packet.ensures.shape first_local ∙ ap₂ with_rule (ap app_of_fields c.about.ensures ∙ c.new-3.ensures.app) first_hex in
+    let second_hex : rule_of c.required-chunks_hex.result ≡ hex_rule =
+    rw c.required-chunks_hex.ensures (ap (λ (r : Rule). record r { required = true }) c.new-4.ensures.rule) in
+    let second_local : c.required-chunks_hex.result.global ≡ false = rw c.required-chunks_hex.ensures c.new-4.ensures.optional.1 in
+    let chunks : app_of c.in_ok-chunks.chunks ≡ with_rule (new_app (codes "chunks")) hex_rule =
+    c.in_ok-chunks.ensures.shape second_local ∙ ap₂ with_rule (ap app_of_fields c.about-2.ensures ∙ c.new-5.ensures.app) second_hex in
     let named = ap app_of_fields c.in_ok-bin_name.ensures.0 in
-    let required = ap app_of_fields c.subcommand_required.ensures in
-    let about = ap app_of_fields c.about.ensures in
-    let top : app_of c.subcommand_required.result ≡ on_top (λ s. record s { subcommand_required = true }) (new_app (codes "sctp-trace")) =
-    required ∙ ap (on_top (λ s. record s { subcommand_required = true })) (about ∙ named ∙ c.new-2.ensures.app) in
-    let all : app_of c.in_ok-program.program ≡ commands = c.in_ok-program.ensures.shape (search rules)
-    ∙ ap₂ with_subcommand top (ap (λ (a : App). a.top) run) in
-    ap (λ (a : App). fault_of a (map string_bytes c.args.words.now)) (sym all) ∙ c.in_ok-try_get_matches_from.ensures.kinds (ap is_simple_and_free all ∙ is_free)
+    let about = ap app_of_fields c.about-3.ensures in
+    let required = ap app_of_fields c.subcommand_required-bare.ensures in
+    let top : app_of c.subcommand_required-bare.result ≡ on_top (λ s. record s { subcommand_required = true }) (new_app (codes "sctp-trace")) =
+    required ∙ ap (on_top (λ s. record s { subcommand_required = true })) (about ∙ named ∙ c.new-6.ensures.app) in
+    let first = c.in_ok-running.ensures.shape (rw c.about-run.ensures c.new.ensures.local) ∙ ap₂ with_subcommand top (ap (λ (a : App). a.top) run) in
+    let second = c.in_ok-printing.ensures.shape (rw (c.in_ok-packet.ensures.globals, c.about.ensures, c.new-3.ensures.local, first_local) refl) ∙ ap₂ with_subcommand first (ap (λ (a : App). a.top) packet) in
+    let all : app_of c.in_ok-program.program ≡ commands = c.in_ok-program.ensures.shape (rw (c.in_ok-chunks.ensures.globals, c.about-2.ensures, c.new-5.ensures.local, second_local) refl) ∙ ap₂ with_subcommand second (ap (λ (a : App). a.top) chunks) in
+    subst (λ (a : App). FailsBy (fault_of a (map string_bytes c.args.words.now)) c.try_get_matches_from.result) all
+    (c.try_get_matches_from.ensures.kinds (ap is_simple_and_free all ∙ is_free))

@@ -1,0 +1,49 @@
+-- Where nothing is due, giving changes nothing.
+use Rattle.std.proofs.Common.{◌≡◌, ℕ, zero, suc, ◌⊎◌, Bool, true, false, ◌==◌, List, [], ◌∷◌, ◌++◌, filter, refl, ap, sym, ◌∙◌, inl, inr, arith}
+use Rattle.std.specs.Prelude.{not}
+use Rattle.std.proofs.Math.Path.{fun_ext}
+use Rattle.std.proofs.lemmas.Bool.{cases_Bool}
+use Rattle.std.proofs.lemmas.Bool.Decides.{nat_tests}
+use Rattle.sctp_model.specs.Lists.{Has, at}
+use Rattle.sctp_model.specs.Format.{Format}
+use Rattle.sctp_model.specs.Pieces.{Piece}
+use Rattle.sctp_model.specs.ReceiverView.{ReceiverView}
+use Rattle.sctp_model.specs.Receiving.{Stop, is_below, without_below, GivesOrdered, GivesAll}
+use Rattle.sctp_model.specs.receiver.Laws.{IsIdle, IsSettled}
+
+-- ---- giving where nothing is due
+
+at_same : {A : Type 0} (g : ℕ → A) (s : ℕ) (v : A) → v ≡ g s → (q : ℕ) → g q ≡ at g s v q
+at_same g s v e q = go (cases_Bool (q == s))
+  where
+    go : (q == s ≡ true) ⊎ (q == s ≡ false) → g q ≡ at g s v q
+    go (inl p) = let same : q ≡ s = grind (arith, nat_tests) in rw p (ap g same ∙ sym e)
+    go (inr p) = rw p refl
+
+append_nil : {A : Type 0} (xs : List A) → xs ++ [] ≡ xs
+append_nil [] = refl
+append_nil (x ∷ xs) = ap (λ (ys : List _). x ∷ ys) (append_nil xs)
+
+filter_all : (test : Piece → Bool) (xs : List Piece) → ((x : Piece) → Has xs x → test x ≡ false) → filter (λ (x : Piece). not (test x)) xs ≡ xs
+filter_all test [] none = refl
+filter_all test (x ∷ xs) none =
+    let here = none x (inl refl) in
+    let more = filter_all test xs (λ y there. none y (inr there)) in
+    rw here (ap (λ (ys : List Piece). x ∷ ys) more)
+
+pub nothing_given : (f : Format) (r : ReceiverView) (s : ℕ) → IsIdle f r → IsSettled r → GivesOrdered f s r r
+nothing_given f r s idle settled = ([], r.next s, Stop (r.next s) (idle.ordered s).0 (idle.ordered s).1, same)
+  where
+    kept : r.kept ≡ without_below r.kept s (r.next s)
+    kept = sym (filter_all (is_below s (r.next s)) r.kept (settled s))
+
+    same : r ≡ record r { next = at r.next s (r.next s); waiting = at r.waiting s (r.waiting s ++ []); kept = without_below r.kept s (r.next s) }
+    same = λ i. record r {
+      next = fun_ext (λ (q : ℕ). at_same r.next s (r.next s) refl q) i;
+      waiting = fun_ext (λ (q : ℕ). at_same r.waiting s (r.waiting s ++ []) (append_nil (r.waiting s)) q) i;
+      kept = kept i;
+    }
+
+pub nothing_given_anywhere : (f : Format) (n : ℕ) (r : ReceiverView) → IsIdle f r → IsSettled r → GivesAll f n r r
+nothing_given_anywhere f zero r idle settled = refl
+nothing_given_anywhere f (suc n) r idle settled = (r, nothing_given_anywhere f n r idle settled, nothing_given f r n idle settled)

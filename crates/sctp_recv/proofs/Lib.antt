@@ -1,0 +1,7 @@
+mod RunLemmas
+mod SeenLemmas
+mod PartLemmas
+mod WireLemmas
+mod StreamLemmas
+mod BlockLemmas
+mod ReceiverSteps

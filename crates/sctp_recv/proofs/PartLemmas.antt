@@ -1,0 +1,22 @@
+-- The data of fragments, with one fragment more.
+use Rattle.std.proofs.Common.{◌≡◌, ℕ, zero, suc, ◌+◌, ◌<◌, List, [], ◌∷◌, ◌++◌, length, get_or, take, refl, sym, ◌∙◌, ap, append_assoc, add-one, length-append, arith}
+use Rattle.std.specs.declared.vec.Vec.{Vec}
+use Rattle.std.specs.declared.alloc.Global.{Global}
+use Rattle.sctp_recv.specs.Parts.{text_of_parts}
+
+append_nil : (xs : List ℕ) → xs ++ [] ≡ xs
+append_nil [] = refl
+append_nil (x ∷ xs) = ap (λ (ys : List ℕ). x ∷ ys) (append_nil xs)
+
+text_suc : (ps : List (Vec ℕ Global)) (i : ℕ) (p : Vec ℕ Global) → i < length ps → p ≡ get_or ps i p → text_of_parts (take (suc i) ps) ≡ text_of_parts (take i ps) ++ p.items
+text_suc [] i p l e = absurd (omega arith)
+text_suc (q ∷ ps) zero p l e = append_nil q.items ∙ ap (λ (v : Vec ℕ Global). v.items) (sym e)
+text_suc (q ∷ ps) (suc i) p l e = ap (λ (bs : List ℕ). q.items ++ bs) (text_suc ps i p (omega arith) e) ∙ sym (append_assoc q.items (text_of_parts (take i ps)) p.items)
+
+pub text_more : (ps : List (Vec ℕ Global)) (i : ℕ) (p : Vec ℕ Global) → i < length ps → p ≡ get_or ps i p → text_of_parts (take (i + 1) ps) ≡ text_of_parts (take i ps) ++ p.items
+text_more ps i p l e = rw add-one (text_suc ps i p l e)
+
+pub length_more : (ps : List (Vec ℕ Global)) (i : ℕ) (p : Vec ℕ Global) → i < length ps → p ≡ get_or ps i p → length (text_of_parts (take (i + 1) ps)) ≡ length (text_of_parts (take i ps)) + length p.items
+length_more ps i p l e = ap length (text_more ps i p l e) ∙ length-append (text_of_parts (take i ps)) p.items
+
+pub ruleset texts = (text_more, length_more)

@@ -1,0 +1,106 @@
+-- What a receiver keeps, after each of its smaller steps.
+use Rattle.std.proofs.Common.{◌≡◌, ℕ, suc, ◌+◌, ◌-◌, ◌<◌, false, ◌==◌, List, [], ◌∷◌, ◌++◌, length, set, replicate, inl, inr, refl, sym, ◌∙◌, ap, arith}
+use Rattle.std.proofs.lemmas.Bool.{cases_Bool}
+use Rattle.std.proofs.lemmas.Bool.Decides.{nat_tests}
+use Rattle.std.proofs.lemmas.Grind.{common_steps}
+use Rattle.sctp_model.specs.Lists.{at}
+use Rattle.sctp_model.specs.Format.{Format}
+use Rattle.sctp_model.specs.ReceiverView.{Handed, ReceiverView, IsCumulative, fresh_receiver, size_of_messages}
+use Rattle.sctp_recv.specs.Runs.{in_runs, AreRuns}
+use Rattle.sctp_recv.specs.SeenKept.{SeenKept}
+use Rattle.sctp_recv.specs.SeenStands.{SeenStands}
+use Rattle.sctp_recv.specs.ReceiverKept.{StreamKept, ReceiverKept, FRESH, stream_at}
+use Rattle.sctp_recv.specs.Reordered.{Empty}
+use Rattle.sctp_recv.specs.StandsFor.{KeepsView}
+use Rattle.sctp_recv.proofs.StreamLemmas.{fresh_at, length_fresh, no_waiting, stream_set_same, stream_set_other, length_set, waiting_set}
+
+-- ---- the cumulative index
+
+first_open : (c : ℕ) (rs : List _) → AreRuns c rs → in_runs rs (suc c) ≡ false
+first_open c [] h = refl
+first_open c (r ∷ rs) h = let more = above r.last rs h.2 (omega (arith, h.0, h.1)) in let low = h.0 in grind (arith, nat_tests, common_steps)
+  where
+    above : (d : ℕ) (ss : List _) → AreRuns d ss → suc c < suc d → in_runs ss (suc c) ≡ false
+    above d [] g l = refl
+    above d (s ∷ ss) g l = let more = above s.last ss g.2 (omega (arith, g.0, g.1)) in let low = g.0 in grind (arith, nat_tests, common_steps)
+
+pub cumulative_is : (k : SeenKept) (v : ReceiverView) → SeenStands k v.seen v.jump → IsCumulative v k.cumulative
+cumulative_is k v s = record {
+  reached = s.below;
+  open_end = λ r. elim r [
+    | inl came ↦ let no = s.above (suc k.cumulative) (omega arith) ∙ first_open k.cumulative k.runs s.runs in absurd (cc)
+    | inr under ↦ omega (arith, s.jumped)
+  ];
+}
+
+-- ---- a fresh receiver
+
+pub keeps_fresh : (f : Format) (seen : SeenKept) (ss : List StreamKept) (initial n buffer : ℕ) → SeenStands seen (λ i. false) 0 → ss ≡ replicate n FRESH →
+    KeepsView f (record { seen = seen; chains = []; streams = ss; duplicates = []; held = 0; initial = initial; buffer = buffer }) (fresh_receiver initial n buffer)
+keeps_fresh f seen ss initial n buffer s e = record {
+  seen = s;
+  kept = record { rows = []; stand = tt; same = Empty };
+  loose = λ c d h k. absurd h;
+  apart = tt;
+  recorded = λ x h. absurd h;
+  numbers = λ x m h is. absurd h;
+  next = λ q. sym (ap (λ (xs : List StreamKept). (stream_at xs q).next) e ∙ ap (λ (x : StreamKept). x.next) (fresh_at n q));
+  skip = λ q. sym (ap (λ (xs : List StreamKept). (stream_at xs q).skip) e ∙ ap (λ (x : StreamKept). x.skip) (fresh_at n q));
+  skipped = λ q. omega arith;
+  waiting = λ q. sym (ap (λ (xs : List StreamKept). (stream_at xs q).waiting) e ∙ ap (λ (x : StreamKept). x.waiting) (fresh_at n q));
+  streams = sym (ap (λ (xs : List StreamKept). length xs) e ∙ length_fresh n);
+  duplicates = refl;
+  held = let none = no_waiting n in omega arith;
+  room = omega arith;
+  initial = refl;
+  buffer = refl;
+}
+
+-- ---- a message taken
+
+pub keeps_taken : (f : Format) (k : ReceiverKept) (v : ReceiverView) (s held : ℕ) (h : Handed) (rest : List Handed) (x : StreamKept) → KeepsView f k v → s < length k.streams →
+    stream_at k.streams s ≡ record x { waiting = h ∷ rest } → x.waiting ≡ rest → held ≡ k.held - length h.bytes →
+    KeepsView f (record k { streams = set k.streams s x; held = held })
+    (record v { taken = at v.taken s (v.taken s ++ h ∷ []); waiting = at v.waiting s rest })
+keeps_taken f k v s held h rest x w l at_s left less = record {
+  seen = w.seen;
+  kept = w.kept;
+  loose = w.loose;
+  apart = w.apart;
+  recorded = w.recorded;
+  numbers = w.numbers;
+  next = λ q. elim (cases_Bool (q == s)) [
+    | inl e ↦
+        let same : q ≡ s = grind (arith, nat_tests) in
+        w.next q ∙ ap (λ (i : ℕ). (stream_at k.streams i).next) same ∙ ap (λ (y : StreamKept). y.next) at_s
+        ∙ sym (ap (λ (i : ℕ). (stream_at (set k.streams s x) i).next) same ∙ ap (λ (y : StreamKept). y.next) (stream_set_same k.streams s x l))
+    | inr e ↦ w.next q ∙ sym (ap (λ (y : StreamKept). y.next) (stream_set_other k.streams s q x (λ same. grind (arith, nat_tests))))
+  ];
+  skip = λ q. elim (cases_Bool (q == s)) [
+    | inl e ↦
+        let same : q ≡ s = grind (arith, nat_tests) in
+        w.skip q ∙ ap (λ (i : ℕ). (stream_at k.streams i).skip) same ∙ ap (λ (y : StreamKept). y.skip) at_s
+        ∙ sym (ap (λ (i : ℕ). (stream_at (set k.streams s x) i).skip) same ∙ ap (λ (y : StreamKept). y.skip) (stream_set_same k.streams s x l))
+    | inr e ↦ w.skip q ∙ sym (ap (λ (y : StreamKept). y.skip) (stream_set_other k.streams s q x (λ same. grind (arith, nat_tests))))
+  ];
+  skipped = w.skipped;
+  waiting = λ q. elim (cases_Bool (q == s)) [
+    | inl e ↦
+        let same : q ≡ s = grind (arith, nat_tests) in
+        let now : (stream_at (set k.streams s x) q).waiting ≡ rest = ap (λ (i : ℕ). (stream_at (set k.streams s x) i).waiting) same ∙ ap (λ (y : StreamKept). y.waiting) (stream_set_same k.streams s x l) ∙ left in
+        rw e (sym now)
+    | inr e ↦
+        let now : (stream_at (set k.streams s x) q).waiting ≡ (stream_at k.streams q).waiting = ap (λ (y : StreamKept). y.waiting) (stream_set_other k.streams s q x (λ same. grind (arith, nat_tests))) in
+        rw e (w.waiting q ∙ sym now)
+  ];
+  streams = w.streams ∙ sym (length_set k.streams s x);
+  duplicates = w.duplicates;
+  held =
+      let waits : v.waiting s ≡ h ∷ rest = w.waiting s ∙ ap (λ (y : StreamKept). y.waiting) at_s in
+      let sizes = waiting_set v.waiting s v.streams rest (omega (arith, w.streams)) in
+      let size : size_of_messages (v.waiting s) ≡ length h.bytes + size_of_messages rest = ap size_of_messages waits in
+      omega (arith, w.held);
+  room = omega (arith, w.room);
+  initial = w.initial;
+  buffer = w.buffer;
+}

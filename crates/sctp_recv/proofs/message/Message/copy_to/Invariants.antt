@@ -1,0 +1,9 @@
+use Rattle.std.proofs.Common.{◌≡◌, ◌++◌, length, take}
+use Rattle.sctp_recv.specs.Parts.{text_of_parts}
+use Rattle.sctp_recv.proofs.message.Message.copy_to.Given as goal
+
+abbrev pub invariant-loop-part : goal.invariant-loop-part
+invariant-loop-part l = record {
+  before : l.before ≡ length l.fn.out.items;
+  items : l.out.items ≡ l.fn.out.items ++ text_of_parts (take l.part-index l.self.parts.items);
+}

@@ -1,0 +1,10 @@
+use Rattle.std.proofs.Common.{◌≡◌, ◌%◌, length, map, take}
+use Rattle.sctp_wire.specs.Items.{blocks_in}
+use Rattle.sctp_recv.specs.Blocks.{block_of_run}
+use Rattle.sctp_recv.proofs.seen.Seen.put_blocks.Given as goal
+
+abbrev pub invariant-loop-i : goal.invariant-loop-i
+invariant-loop-i l = record {
+  blocks : blocks_in l.list.items ≡ map (block_of_run l.self-inside.cumulative) (take l.i l.self-inside.runs.items);
+  whole : length l.list.items % 4 ≡ 0;
+}

@@ -1,0 +1,15 @@
+pub mod Runs
+pub mod SeenKept
+pub mod SeenStands
+pub mod Blocks
+pub mod Parts
+pub mod HandedOf
+pub mod ReceiverKept
+pub mod Fields
+pub mod KeptOf
+pub mod Reordered
+pub mod Chains
+pub mod StandsFor
+pub mod AllRuns
+pub mod SackOf
+pub mod Laws

@@ -1,0 +1,12 @@
+-- What a SACK's own lists say.
+use Rattle.sctp_model.specs.Chunk.{SackMeaning}
+use Rattle.sctp_wire.specs.Items.{blocks_in, words_in}
+use Rattle.sctp_recv.specs.declared.sack.SackLists.{SackLists}
+
+abbrev pub lists_meaning : SackLists → SackMeaning
+lists_meaning s = record {
+  cumulative = s.cumulative;
+  rwnd = s.rwnd;
+  blocks = blocks_in s.blocks.items;
+  duplicates = words_in s.duplicates.items;
+}

@@ -1,0 +1,51 @@
+//! What a receiver knows of one stream.
+
+ghost use Rattle.std.specs.Prelude.{◌≡◌, [], ◌∷◌, map, replicate, IfOk, MatchOption};
+ghost use Rattle.sctp_recv.specs.Fields.{stream_of};
+ghost use Rattle.sctp_recv.specs.HandedOf.{handed_of};
+ghost use Rattle.sctp_recv.specs.ReceiverKept.{FRESH};
+
+use crate::message::Message;
+use sctp_wire::NoMemory;
+use std::alloc::Global;
+use std::collections::VecDeque;
+
+/// What is known of a stream.
+#[derive(Drop)]
+pub(crate) struct Inbound {
+    /// The lowest ordered number neither handed over nor skipped.
+    pub(crate) next: u32,
+    /// The lowest unordered number not skipped.
+    pub(crate) skip: u32,
+    /// What was handed over and waits for the user, first to last.
+    pub(crate) waiting: VecDeque<Message>,
+}
+
+/// So many streams on which nothing came.
+///
+/// # Errors
+/// Memory ran out.
+pub(crate) fn fresh_streams(alloc: Global, count: u16) -> Result<Vec<Inbound>, NoMemory>
+    ensures { IfOk result (λ streams. map stream_of streams.items ≡ replicate count FRESH) }
+{
+    let mut streams = Vec::new(alloc);
+    for _ in 0..count {
+        let fresh = Inbound {
+            next: 0,
+            skip: 0,
+            waiting: VecDeque::new(alloc),
+        };
+        streams.push(fresh).map_err(|_| NoMemory)?;
+    }
+    Ok(streams)
+}
+
+/// Takes the first message that waits, where one waits.
+pub(crate) fn take_first(inbound: &mut Inbound) -> Option<Message>
+    ensures { MatchOption result
+        (((stream_of inbound.old).waiting ≡ []) × (stream_of inbound.new ≡ stream_of inbound.old))
+        (λ m. stream_of inbound.old
+        ≡ record (stream_of inbound.new) { waiting = handed_of m ∷ (stream_of inbound.new).waiting }) }
+{
+    inbound.waiting.pop_front()
+}

@@ -1,0 +1,25 @@
+//! The receiving end of an association: what came, what is kept, and what waits for the user (RFC 9260, 6.2 and 6.6;
+//! RFC 3758, 3.6; RFC 8260, 2.2 and 2.3), in either format of user data.
+#![tactic(auto)]
+
+mod chain;
+mod inbound;
+mod laws;
+mod message;
+mod receiver;
+mod room;
+mod runs;
+mod sack;
+mod seen;
+mod tsn;
+
+pub use laws::{
+    cumulative_is_one, due_is_in_words, forward_is_one, nothing_is_given, piece_is_one,
+    words_are_one,
+};
+pub use message::Message;
+pub use receiver::Receiver;
+pub use sack::SackLists;
+
+#[cfg(test)]
+mod tests;

@@ -1,0 +1,63 @@
+//! A message as its user takes it.
+
+ghost use Rattle.std.specs.Prelude.{◌≡◌, ◌<◌, ◌^◌, ◌++◌, length, map, OnOk, OnErr};
+ghost use Rattle.sctp_model.specs.Lists.{joined};
+ghost use Rattle.sctp_recv.specs.Parts.{text_of_parts, bytes_of};
+ghost use Rattle.sctp_recv.specs.HandedOf.{message_bytes};
+
+use sctp_wire::NoMemory;
+
+/// A message that was handed over, whole, with its fragments as they came.
+#[derive(Debug, Drop)]
+pub struct Message {
+    pub(crate) first: u32,
+    /// The stream that it came on, from 0.
+    pub stream: u16,
+    /// Whether it is handed over in the order of the numbers.
+    pub ordered: bool,
+    /// Its number in its stream and kind, from 0; None for an unordered message under DATA.
+    pub number: Option<u32>,
+    /// The payload protocol identifier.
+    pub payload_id: u32,
+    pub(crate) parts: Vec<Vec<u8>>,
+}
+
+impl Message {
+    /// How many bytes it has.
+    #[tactic(auto, using(crate::proofs::PartLemmas::texts))]
+    pub fn len(&self) -> usize
+        ensures { length (message_bytes self.now) < 2 ^ 64 → result ≡ length (message_bytes self.now) }
+    {
+        let mut sum: usize = 0;
+        for part in &self.parts {
+            sum = sum.saturating_add(part.len());
+        }
+        sum
+    }
+
+    /// Its fragments' data, first to last, as they were recorded.
+    pub fn parts(&self) -> &[Vec<u8>]
+        ensures { joined (map bytes_of result.now) ≡ message_bytes self.now }
+    {
+        &self.parts
+    }
+
+    /// Appends its bytes.
+    ///
+    /// # Errors
+    /// Memory ran out, and nothing was appended.
+    #[tactic(auto, using(crate::proofs::PartLemmas::texts))]
+    pub fn copy_to(&self, out: &mut Vec<u8>) -> Result<(), NoMemory>
+        ensures copied { OnOk result (out.new.items ≡ out.old.items ++ message_bytes self.now) }
+        ensures refused { OnErr result (out.new.items ≡ out.old.items) }
+    {
+        let before = out.len();
+        for part in &self.parts {
+            if out.extend_from_slice(part).is_err() {
+                out.truncate(before);
+                return Err(NoMemory);
+            }
+        }
+        Ok(())
+    }
+}

@@ -1,0 +1,135 @@
+//! The receiving end of an association (RFC 9260, 6.2 and 6.6; RFC 3758, 3.6; RFC 8260, 2.2 and 2.3).
+
+ghost use Rattle.std.specs.Prelude.{◌≡◌, ℕ, ◌≤◌, ◌-◌, IfOk, OnOk, option_map, List, length};
+ghost use Rattle.sctp_model.specs.Chunk.{BlockMeaning};
+ghost use Rattle.sctp_model.specs.Serial.{tsn};
+ghost use Rattle.sctp_model.specs.ReceiverView.{ReceiverView, IsCumulative, fresh_receiver, held_bytes, room_left};
+ghost use Rattle.sctp_model.specs.receiver.SackMade.{IsSack, sack_sent, TakeLeaves};
+ghost use Rattle.sctp_recv.specs.HandedOf.{handed_of};
+ghost use Rattle.sctp_recv.specs.SackOf.{lists_meaning};
+ghost use Rattle.sctp_recv.specs.AllRuns.{AreAllRuns};
+ghost use Rattle.sctp_recv.specs.StandsFor.{StandsFor};
+
+use crate::chain::Chain;
+use crate::inbound::{Inbound, fresh_streams, take_first};
+use crate::message::Message;
+use crate::room::less;
+use crate::sack::{SackLists, put_words};
+use crate::seen::Seen;
+use crate::tsn::tsn_of;
+use sctp_framing::Framing;
+use sctp_wire::NoMemory;
+use std::alloc::Global;
+use std::marker::PhantomData;
+
+/// The receiving end, in one format of user data.
+#[derive(Drop)]
+pub struct Receiver<F: Framing> {
+    alloc: Global,
+    initial: u32,
+    buffer: u32,
+    held: u32,
+    seen: Seen,
+    kept: Vec<Chain>,
+    streams: Vec<Inbound>,
+    duplicates: Vec<u32>,
+    framing: PhantomData<F>,
+}
+
+#[tactic(auto, unfolding(crate::specs::StandsFor::StandsFor))]
+impl<F: Framing> Receiver<F> {
+    /// A receiver to which nothing came: the peer's first TSN, how many streams there are, and the room in bytes.
+    ///
+    /// # Errors
+    /// Memory ran out.
+    pub fn new(
+        alloc: Global,
+        initial_tsn: u32,
+        streams: u16,
+        buffer: u32,
+    ) -> Result<Receiver<F>, NoMemory>
+        ensures { IfOk result (λ r. StandsFor F.format r (fresh_receiver initial_tsn streams buffer)) }
+    {
+        let streams = fresh_streams(alloc, streams)?;
+        Ok(Receiver {
+            alloc,
+            initial: initial_tsn,
+            buffer,
+            held: 0,
+            seen: Seen::new(alloc),
+            kept: Vec::new(alloc),
+            streams,
+            duplicates: Vec::new(alloc),
+            framing: PhantomData,
+        })
+    }
+
+    /// The bytes of all data that was recorded and not taken yet.
+    pub fn held_bytes(&self) -> u32
+        ensures held { (v : ReceiverView) → StandsFor F.format self.now v → result ≡ held_bytes v }
+        ensures bound { (v : ReceiverView) → StandsFor F.format self.now v → result ≤ v.buffer }
+    {
+        self.held
+    }
+
+    /// The TSN up to which all came, or was passed by a FORWARD.
+    pub fn cumulative(&self) -> u32
+        ensures { (v : ReceiverView) → StandsFor F.format self.now v
+            → (c : ℕ) × IsCumulative v c × (result ≡ tsn v.initial c) }
+    {
+        tsn_of(self.initial, self.seen.cumulative())
+    }
+
+    /// How many runs of indexes that came there are above the cumulative one.
+    pub fn run_count(&self) -> u32
+        ensures runs { (v : ReceiverView) → StandsFor F.format self.now v
+            → (c : ℕ) × (bs : List BlockMeaning) × IsCumulative v c × AreAllRuns v c bs × (result ≡ length bs) }
+        ensures bound { result ≤ 16383 }
+    {
+        self.seen.run_count()
+    }
+
+    /// What a SACK says now. Nothing changes.
+    ///
+    /// # Errors
+    /// Memory ran out.
+    pub fn sack(&self) -> Result<SackLists, NoMemory>
+        ensures { (v : ReceiverView) → StandsFor F.format self.now v → IfOk result (λ s. IsSack v (lists_meaning s)) }
+    {
+        let mut blocks = Vec::new(self.alloc);
+        self.seen.put_blocks(&mut blocks)?;
+        let mut duplicates = Vec::new(self.alloc);
+        put_words(&self.duplicates, &mut duplicates)?;
+        Ok(SackLists {
+            cumulative: tsn_of(self.initial, self.seen.cumulative()),
+            rwnd: self.buffer.saturating_sub(self.held),
+            blocks,
+            duplicates,
+        })
+    }
+
+    /// A SACK was sent: the duplicates that it told are forgotten.
+    pub fn sack_sent(&mut self)
+        ensures { (v : ReceiverView) → StandsFor F.format self.old v → StandsFor F.format self.new (sack_sent v) }
+    {
+        self.duplicates.clear();
+    }
+
+    /// Takes the first message that waits on a stream: None exactly where none waits, as on a stream that isn't there.
+    pub fn take(&mut self, stream: u16) -> Option<Message>
+        ensures { (v : ReceiverView) → StandsFor F.format self.old v
+            → (t : ReceiverView) × TakeLeaves v stream (option_map handed_of result) t × StandsFor F.format self.new t }
+    {
+        let at = usize::from(stream);
+        if at >= self.streams.len() {
+            return None;
+        }
+        match take_first(&mut self.streams[at]) {
+            Some(message) => {
+                self.held = less(self.held, &message.parts);
+                Some(message)
+            }
+            None => None,
+        }
+    }
+}

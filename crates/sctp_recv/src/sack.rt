@@ -1,0 +1,50 @@
+//! A SACK's lists, owned.
+
+ghost use Rattle.std.specs.Prelude.{◌≡◌, ◌%◌, [], length, OnOk};
+ghost use Rattle.sctp_wire.specs.Items.{words_in};
+
+use sctp_wire::{Blocks, NoMemory, Sack, Words, put_word};
+
+/// What a SACK says, with lists of its own (RFC 9260, 3.3.4).
+#[derive(Drop)]
+pub struct SackLists {
+    pub(crate) cumulative: u32,
+    pub(crate) rwnd: u32,
+    pub(crate) blocks: Vec<u8>,
+    pub(crate) duplicates: Vec<u8>,
+    ghost whole_blocks: { length blocks.items % 4 ≡ 0 },
+    ghost whole_duplicates: { length duplicates.items % 4 ≡ 0 },
+}
+
+impl SackLists {
+    ghost use Rattle.std.specs.Prelude.{◌≡◌};
+    ghost use Rattle.sctp_wire.specs.ChunkTree.{sack_meaning};
+    ghost use Rattle.sctp_recv.specs.SackOf.{lists_meaning};
+
+    /// The SACK, with its lists lent.
+    pub fn view(&self) -> Sack<'_>
+        ensures { sack_meaning result ≡ lists_meaning self.now }
+    {
+        Sack {
+            cumulative: self.cumulative,
+            rwnd: self.rwnd,
+            blocks: Blocks::new(&self.blocks),
+            duplicates: Words::new(&self.duplicates),
+        }
+    }
+}
+
+/// Appends numbers of 32 bits.
+///
+/// # Errors
+/// Memory ran out.
+pub(crate) fn put_words(numbers: &[u32], list: &mut Vec<u8>) -> Result<(), NoMemory>
+    requires { list.old.items ≡ [] }
+    ensures words { OnOk result (words_in list.new.items ≡ numbers.now) }
+    ensures whole { length list.new.items % 4 ≡ 0 }
+{
+    for number in numbers {
+        put_word(*number, list)?;
+    }
+    Ok(())
+}

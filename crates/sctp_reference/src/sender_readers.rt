@@ -1,0 +1,15 @@
+//! What a sender's functions compute is what the relations say.
+//!
+//! No function here does anything: each carries a law as its contract.
+
+ghost use Rattle.sctp_reference.specs.readers.ReaderLaws.{ForwardIsComputed, PointIsComputed};
+
+/// The point of every view is the one that is computed (RFC 3758, 3.5).
+pub fn the_point_is_computed()
+    ensures { PointIsComputed }
+{}
+
+/// The FORWARD of every view that calls reach is the one that is computed (RFC 3758, 3.5; RFC 8260, 2.3.1).
+pub fn the_forward_is_computed()
+    ensures { ForwardIsComputed }
+{}
