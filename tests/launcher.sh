@@ -18,6 +18,7 @@ wanted=$main/stdout
 printf 'pair 1500 1400 65536 1 data\nopen\n' >"$room/many"
 awk 'BEGIN { for (i = 0; i < 120000; i++) print "take B 0" }' >>"$room/many"
 printf 'pair 1500 1400 65536 1 data\nopne\n' >"$room/faulty"
+printf 'UNKNOWN 63 flags 00 value -\n' >"$room/chunks"
 bytes=$(printf 'ru\377n')
 
 report() {
@@ -61,6 +62,9 @@ all_orders() {
     writes $wanted
     order "a faulty line, $1" 2 "$room/faulty" run
     says '^line 2: 2$'
+    order "chunks, $1" 0 /dev/null chunks 3f000004
+    writes "$room/chunks"
+    order "no bytes of a packet, $1" 2 /dev/null packet ''
     order "no words, $1" 1 /dev/null
     says 'requires a subcommand'
     order "a word that isn't UTF-8, $1" 1 /dev/null "$bytes"

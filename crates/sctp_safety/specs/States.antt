@@ -60,3 +60,8 @@ pub record IsLaterEnd (e t : EndView) : Type 0 where
 abbrev pub EndsFollowTheDiagram : Type 0
 EndsFollowTheDiagram = (s : Setup) (events more : List Event) (answers others : List (Option Outcome)) (w v : World) →
     Run (start s) events answers w → Run w more others v → (x : Side) → IsLaterEnd (end_of w x) (end_of v x)
+
+-- And an end that is closed stays closed, for the same reason.
+abbrev pub ClosedForGood : Type 0
+ClosedForGood = (s : Setup) (events more : List Event) (answers others : List (Option Outcome)) (w v : World) →
+    Run (start s) events answers w → Run w more others v → (x : Side) (why : Ended) → (end_of w x).phase ≡ Over why → (end_of v x).phase ≡ Over why

@@ -1,7 +1,7 @@
 //! What holds of one end, whatever comes to it.
 
 ghost use Rattle.sctp_safety.specs.Handshake.{AnAssociationCloses, AnAssociationOpens};
-ghost use Rattle.sctp_safety.specs.States.{EndsFollowTheDiagram};
+ghost use Rattle.sctp_safety.specs.States.{ClosedForGood, EndsFollowTheDiagram};
 ghost use Rattle.sctp_safety.specs.Strangers.{StrangersChangeNothing};
 
 /// A packet of a stranger, who carries no tag that was drawn and no cookie that opens, leaves an end as it was, whatever is answered to it (RFC 9260, 8.4, 8.5 and 5.1.3).
@@ -22,4 +22,9 @@ pub fn an_association_opens()
 /// And one that goes on with SHUTDOWN, SHUTDOWN ACK and SHUTDOWN COMPLETE, at whose end both ends are closed since both were done (RFC 9260, 9.2).
 pub fn an_association_closes()
     ensures { AnAssociationCloses }
+{}
+
+/// And an end that is closed stays closed, for the same reason, whatever comes and whatever its user calls.
+pub fn closed_for_good()
+    ensures { ClosedForGood }
 {}

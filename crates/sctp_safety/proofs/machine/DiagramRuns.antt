@@ -1,12 +1,12 @@
 -- Each step of the world takes each end along the diagram, so each run does.
 use Rattle.std.proofs.Common.{◌≡◌, max, true, false, List, [], ◌∷◌, Option, inl, inr, refl, sym, subst, ◌∙◌}
 use Rattle.sctp_model.specs.Packet.{Packet}
-use Rattle.sctp_model.specs.end.EndView.{Phase, Idle, Listening, Calling, Echoing, Open, Over, EndView}
+use Rattle.sctp_model.specs.end.EndView.{Ended, has_association, Phase, Idle, Listening, Calling, Echoing, Open, Over, EndView}
 use Rattle.sctp_model.specs.end.Strays.{Verdict, Taken, Dropped, Answer}
 use Rattle.sctp_model.specs.end.Moments.{ticked}
 use Rattle.sctp_model.specs.end.UserCalls.{Called, connect_answer, called, send_answer, send_leaves, abandoned_at, shut, AbortAnswer, Aborts, NoPeer, TooLong, abort_answer, abort_leaves}
 use Rattle.sctp_model.specs.World.{Side, A, B, other, Log, World, end_of, with_end, with_packet, with_log, end_now, came, with_verdict, with_abort, Event, Outcome, Step, Opens, OpenRefused, TimePasses, Draws, Connects, ConnectRefused, BuildsOne, BuildsNone, Comes, IsAbsent, ForeignComes, Unread, Sends, Abandons, TakesOne, ShutsDown, AbortsIt, CutFirst, CutLater, ForeignCutFirst, ForeignCutLater, NoMemory, Run, Rest, Then, start}
-use Rattle.sctp_safety.specs.States.{has_begun, IsLaterEnd, EndsFollowTheDiagram}
+use Rattle.sctp_safety.specs.States.{ClosedForGood, IsTurn, ByCall, ByInitAck, ByCookieAck, ByCookie, ByPair, ByStage, ByEnd, IsPath, Here, On, has_begun, IsLaterEnd, EndsFollowTheDiagram}
 use Rattle.sctp_safety.proofs.machine.Turns.{IsPlain, builds_plain}
 use Rattle.sctp_safety.proofs.machine.TurnsOfTime.{plain_ticked, plain_sent, plain_abandoned, plain_taken, plain_shut, plain_aborted}
 use Rattle.sctp_safety.proofs.machine.Diagram.{later_same, later_on, plain_later, plain_unbegun, later_now, later_ticked, later_called, later_opened, arrives_later}
@@ -184,3 +184,22 @@ run_onward w es os v f (Then _ mid _ e rest o others step run) =
 pub ends_follow_the_diagram : EndsFollowTheDiagram
 ends_follow_the_diagram s events more answers others w v before after x =
     (run_onward w more others v (run_onward (start s) events answers w (λ q. (refl, refl)) before).fresh after).later x
+
+-- ---- a closed end
+
+no_turn : (h k : Phase) (why : Ended) → h ≡ Over why → IsTurn h k → ⊥
+no_turn h k why is (ByCall d) = absurd (cc)
+no_turn h k why is (ByInitAck d peer cookie) = absurd (cc)
+no_turn h k why is (ByCookieAck t cookie) = absurd (cc)
+no_turn h k why is (ByCookie t) = absurd (cc)
+no_turn h k why is (ByPair t) = absurd (cc)
+no_turn h k why is (ByStage t g i turn) = absurd (cc)
+no_turn h k why is (ByEnd _ other has) = let q : false ≡ true = subst (λ (l : Phase). has_association l ≡ true) is has in absurd (cc)
+
+from_over : (h k : Phase) (why : Ended) → h ≡ Over why → IsPath h k → k ≡ Over why
+from_over h k why is (Here _) = is
+from_over h k why is (On _ m _ t rest) = absurd (no_turn h m why is t)
+
+pub closed_for_good : ClosedForGood
+closed_for_good s events more answers others w v before after x why is =
+    from_over (end_of w x).phase (end_of v x).phase why is (ends_follow_the_diagram s events more answers others w v before after x).path
