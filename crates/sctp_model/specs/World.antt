@@ -20,9 +20,11 @@ use Rattle.sctp_model.specs.end.Building.{Builds, packet_of}
 use Rattle.sctp_model.specs.end.Moments.{ticked}
 use Rattle.sctp_model.specs.end.UserCalls.{ConnectAnswer, Called, NotIdle, connect_answer, called, SendAnswer, Ticket, Refused, NotOpen, send_answer, send_leaves, abandons, abandoned_at, Takes, ShutdownAnswer, Shut, NotShut, shutdown_answer, shut, AbortAnswer, Aborts, NoPeer, TooLong, abort_answer, abort_leaves}
 
+-- the two ends: A the caller, B the listener
 pub data Side : Type 0 where
   A B : Side
 
+-- the end across
 abbrev pub other : Side → Side
 other A = B
 other B = A
@@ -49,26 +51,32 @@ pub record World : Type 0 where
 
 -- ---- words on worlds
 
+-- the end of a side
 abbrev pub end_of : World → Side → EndView
 end_of w A = w.a
 end_of w B = w.b
 
+-- the packets that an end ever gave, first to last
 abbrev pub bag_of : World → Side → List Packet
 bag_of w A = w.from_a
 bag_of w B = w.from_b
 
+-- what the user of an end asked for, and in which order
 abbrev pub log_of : World → Side → Log
 log_of w A = w.log_a
 log_of w B = w.log_b
 
+-- the world with one end changed
 abbrev pub with_end : World → Side → EndView → World
 with_end w A e = record w { a = e }
 with_end w B e = record w { b = e }
 
+-- the world with one packet more in the bag of an end
 abbrev pub with_packet : World → Side → Packet → World
 with_packet w A p = record w { from_a = w.from_a ++ p ∷ [] }
 with_packet w B p = record w { from_b = w.from_b ++ p ∷ [] }
 
+-- the world with the log of one end changed
 abbrev pub with_log : World → Side → Log → World
 with_log w A l = record w { log_a = l }
 with_log w B l = record w { log_b = l }
@@ -89,6 +97,7 @@ newly_abandoned v u zero = []
 newly_abandoned v u (suc n) =
     newly_abandoned v u n ++ (if abandoned u (suc n) && not (abandoned v (suc n)) then suc n ∷ [] else [])
 
+-- the log with those messages more, in their order, that were abandoned between the two views
 abbrev pub with_order : Log → SenderView → SenderView → Log
 with_order l v u = record l { order = l.order ++ newly_abandoned v u u.tickets }
 
@@ -131,28 +140,34 @@ told w s Taken = Acted
 told w s (Dropped n) = NotActed n
 told w s (Answer p) = Answered (suc (length (bag_of w s))) (size_of_packet p.chunks)
 
+-- an answer to a packet goes into the bag of the end that gave it
 abbrev pub with_verdict : World → Side → Verdict → World
 with_verdict w s Taken = w
 with_verdict w s (Dropped n) = w
 with_verdict w s (Answer p) = with_packet w s p
 
+-- the outcome of taking a message
 abbrev pub message_told : Option Handed → Outcome
 message_told None = NoMessage
 message_told (Some h) = Message h
 
+-- the outcome of a call of shutdown
 abbrev pub shutdown_told : ShutdownAnswer → Outcome
 shutdown_told Shut = Done
 shutdown_told NotShut = RefusedState
 
+-- the outcome of a call of connect
 abbrev pub connect_told : ConnectAnswer → Outcome
 connect_told Called = Done
 connect_told NotIdle = RefusedState
 
+-- the outcome of a call of abort
 abbrev pub abort_told : World → Side → AbortAnswer → Outcome
 abort_told w s (Aborts p) = Answered (suc (length (bag_of w s))) (size_of_packet p.chunks)
 abort_told w s NoPeer = RefusedState
 abort_told w s TooLong = AbortTooLong
 
+-- the ABORT that a call of abort gave goes into the bag
 abbrev pub with_abort : World → Side → AbortAnswer → World
 with_abort w s (Aborts p) = with_packet w s p
 with_abort w s NoPeer = w
@@ -160,6 +175,7 @@ with_abort w s TooLong = w
 
 -- ---- `open`: an end begins at once, is told the other's draw, and takes it to be set up alike
 
+-- the terms of two ends of one configuration
 abbrev pub terms_alike : Configuration → Draw → Draw → Terms
 terms_alike c own peer = record {
   own_tsn = own.tsn;
@@ -170,6 +186,7 @@ terms_alike c own peer = record {
   partial = c.partial;
 }
 
+-- an end of two that are opened without packets
 abbrev pub opened : Configuration → Draw → Draw → EndView
 opened c own peer = record (joined (terms_alike c own peer) c.buffer (fresh_end c Paired Idle)) {
   phase = Open (record { own = own.tag; peer = peer.tag }) Established;
@@ -177,11 +194,13 @@ opened c own peer = record (joined (terms_alike c own peer) c.buffer (fresh_end 
 
 -- ---- what the user is told
 
+-- the log with an accepted call of send more
 abbrev pub accepted : World → Side → SendAnswer → Call → Log
 accepted w s (Ticket t) c = record (log_of w s) { calls = (log_of w s).calls ++ c ∷ [] }
 accepted w s (Refused r) c = log_of w s
 accepted w s NotOpen c = log_of w s
 
+-- the log with one ticket more that abandon was called with
 abbrev pub named_at : Log → ℕ → Log
 named_at l ticket = record l { named = at l.named ticket true }
 
@@ -205,6 +224,7 @@ is_answer Taken = false
 is_answer (Dropped n) = false
 is_answer (Answer p) = true
 
+-- the event brings a packet to an end
 abbrev pub is_delivery : Event → Bool
 is_delivery (Deliver s n) = true
 is_delivery (Foreign s p) = true
@@ -212,6 +232,7 @@ is_delivery e = false
 
 -- ---- STEP: where the event comes in `w`, it is answered, and leads to a world; no answer (`None`) stands for want of memory
 
+-- STEP: a row for each way that an event can go. No answer (None) stands for want of memory.
 pub data Step (w : World) : Event → Option Outcome → World → Type 0 where
   Opens : (x y : Draw) → w.openable ≡ true → IsDraw x → IsDraw y →
       Step w (OpenBoth x y) (Some Done) (record w { a = opened w.a.configuration x y; b = opened w.b.configuration y x; openable = false })
@@ -273,10 +294,12 @@ pub record Setup : Type 0 where
   pub b_port : ℕ
   pub sealing : Sealing
 
+-- the configuration of an end: the ports are those of its side
 abbrev pub configuration_of : Setup → Side → Configuration
 configuration_of s A = record (s.common) { own_port = s.a_port; peer_port = s.b_port }
 configuration_of s B = record (s.common) { own_port = s.b_port; peer_port = s.a_port }
 
+-- nothing was asked for yet
 abbrev pub no_log : Log
 no_log = record { calls = []; named = λ t. false; order = [] }
 

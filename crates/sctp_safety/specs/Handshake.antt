@@ -25,7 +25,7 @@ pub record AnAssociationOpens : Type 0 where
   pub reached : IsReachable setup events last
   pub open_ends : AreOpen last
 
--- And one, longer by four packets, at whose end both ends are closed since both were done.
+-- And one, longer by three packets, at whose end both ends are closed since both were done.
 pub record AnAssociationCloses : Type 0 where
   pub setup : Setup
   pub events : List Event

@@ -18,6 +18,7 @@ use Rattle.sctp_model.specs.end.Opening.{InitAckActs, EchoActs, CookieAckActs}
 
 -- ---- chunks with data (6.2 and 6.5; RFC 8260, 2.1 and 2.2)
 
+-- the two formats are one
 abbrev pub same_format : Format → Format → Bool
 same_format Plain Plain = true
 same_format Plain Interleaved = false
@@ -37,6 +38,7 @@ piece_causes e p Passed = e.due.causes
 piece_causes e p NoRoom = e.due.causes
 piece_causes e p Taken = e.due.causes
 
+-- What a DATA or an I-DATA does.
 pub data PieceActs (f : Format) (e : EndView) (p : PieceMeaning) : After → Type 0 where
   NotHeard : hears takes_data e.phase ≡ false → PieceActs f e p PassedOver
   Empty : (t : Tags) (g : Stage) → e.phase ≡ Open t g → takes_data g ≡ true → length p.bytes ≡ 0 →
@@ -53,6 +55,7 @@ pub data PieceActs (f : Format) (e : EndView) (p : PieceMeaning) : After → Typ
 abbrev pub may_forward : Format → EndView → Bool
 may_forward f e = same_format f (format_of e) && e.sender.partial
 
+-- What a FORWARD-TSN or an I-FORWARD-TSN does.
 pub data ForwardActs (f : Format) (e : EndView) (m : ForwardMeaning) : After → Type 0 where
   NotHeard : hears takes_data e.phase ≡ false → ForwardActs f e m PassedOver
   WrongKind : (t : Tags) (g : Stage) → e.phase ≡ Open t g → takes_data g ≡ true → may_forward f e ≡ false →
@@ -72,6 +75,7 @@ sack_heard e s =
     let x = settled (record e { sender = sack_taken e.sender s; due = record e.due { forward = true } }) in
     with_timer DataAlarm (renewed e.moment (nat_lt e.sender.cum (sack_taken e.sender s).cum) (x.timers DataAlarm)) x
 
+-- What a SACK does.
 pub data SackActs (e : EndView) (s : SackMeaning) : After → Type 0 where
   NotHeard : hears takes_acknowledgements e.phase ≡ false → SackActs e s PassedOver
   IsStale : hears takes_acknowledgements e.phase ≡ true → sack_fault e.sender s ≡ Some Stale → SackActs e s (GoesOn e)
@@ -85,10 +89,12 @@ pub data SackActs (e : EndView) (s : SackMeaning) : After → Type 0 where
 abbrev pub heartbeat_heard : EndView → List ℕ → EndView
 heartbeat_heard e info = with_due (record e.due { heartbeat = if fits_alone e (HeartbeatAck info) then Some info else e.due.heartbeat }) e
 
+-- What a HEARTBEAT does.
 pub data HeartbeatActs (e : EndView) (info : List ℕ) : After → Type 0 where
   NotHeard : hears (λ g. true) e.phase ≡ false → HeartbeatActs e info PassedOver
   Counts : hears (λ g. true) e.phase ≡ true → HeartbeatActs e info (GoesOn (heartbeat_heard e info))
 
+-- a cause of this type is among these
 abbrev pub has_cause : ℕ → List Typed → Bool
 has_cause k [] = false
 has_cause k (x ∷ xs) = (x.kind == k) || has_cause k xs
@@ -98,6 +104,7 @@ abbrev pub is_stale_cookie : Phase → List ℕ → Bool
 is_stale_cookie (Echoing t xs) causes = has_cause STALE_COOKIE (typed_in causes)
 is_stale_cookie h causes = false
 
+-- What an ERROR does.
 pub data ErrorActs (e : EndView) (causes : List ℕ) : After → Type 0 where
   Closes : is_stale_cookie e.phase causes ≡ true → ErrorActs e causes (Ends (closed StaleCookie e))
   SaysNothing : is_stale_cookie e.phase causes ≡ false → ErrorActs e causes (GoesOn e)
@@ -108,6 +115,7 @@ pub data ErrorActs (e : EndView) (causes : List ℕ) : After → Type 0 where
 abbrev pub shutdown_heard : Tags → EndView → ℕ → EndView
 shutdown_heard t e tsn = turned (Open t ShutdownReceived) (settled (record e { sender = shutdown_taken e.sender tsn }))
 
+-- What a SHUTDOWN does.
 pub data ShutdownActs (e : EndView) (tsn : ℕ) : After → Type 0 where
   NotOpen : hears (λ g. true) e.phase ≡ false → ShutdownActs e tsn PassedOver
   IsWrong : (t : Tags) (g : Stage) → e.phase ≡ Open t g → takes_acknowledgements g ≡ true → shutdown_fault e.sender tsn ≡ Some Beyond →
@@ -127,11 +135,13 @@ awaits_ack ShutdownSent = true
 awaits_ack ShutdownReceived = false
 awaits_ack ShutdownAckSent = true
 
+-- What a SHUTDOWN ACK does.
 pub data ShutdownAckActs (e : EndView) : After → Type 0 where
   NotAwaited : hears awaits_ack e.phase ≡ false → ShutdownAckActs e PassedOver
   Completes : (t : Tags) (g : Stage) → e.phase ≡ Open t g → awaits_ack g ≡ true →
       ShutdownAckActs e (Replies (closed Completed e) (packet_to e.configuration t.peer (ShutdownComplete false)))
 
+-- a SHUTDOWN COMPLETE is awaited
 abbrev pub awaits_complete : Stage → Bool
 awaits_complete Established = false
 awaits_complete ShutdownPending = false
@@ -139,12 +149,14 @@ awaits_complete ShutdownSent = false
 awaits_complete ShutdownReceived = false
 awaits_complete ShutdownAckSent = true
 
+-- What a SHUTDOWN COMPLETE does.
 pub data CompleteActs (e : EndView) : After → Type 0 where
   NotAwaited : hears awaits_complete e.phase ≡ false → CompleteActs e PassedOver
   Completes : hears awaits_complete e.phase ≡ true → CompleteActs e (Ends (closed Completed e))
 
 -- ---- chunks of an unknown type (3.2)
 
+-- the cause that reports a chunk: its header and value, without padding
 abbrev pub unknown_item : ℕ → ℕ → List ℕ → Typed
 unknown_item kind flags value = item UNRECOGNIZED_CHUNK (kind ∷ flags ∷ (u16_bytes (4 + length value) ++ value))
 
@@ -153,6 +165,7 @@ abbrev pub may_report : Phase → Bool
 may_report (Calling d) = false
 may_report h = true
 
+-- the causes that wait, with the report where the rule asks for it
 abbrev pub unknown_causes : EndView → ℕ → ℕ → List ℕ → List Typed
 unknown_causes e kind flags value =
     if (chunk_rule kind).report && may_report e.phase then causes_with e (unknown_item kind flags value) else e.due.causes
@@ -162,12 +175,14 @@ abbrev pub unknown_leaves : Bool → EndView → After
 unknown_leaves true e = Ends e
 unknown_leaves false e = GoesOn e
 
+-- What a chunk of an unknown type does, by the two highest bits of its type.
 abbrev pub unknown_acts : EndView → ℕ → ℕ → List ℕ → After
 unknown_acts e kind flags value =
     unknown_leaves (chunk_rule kind).stop (with_causes (unknown_causes e kind flags value) e)
 
 -- ---- one clause for each type; the tag is that of the packet
 
+-- What one chunk does to an end, by its type.
 abbrev pub Acts : EndView → ℕ → ChunkMeaning → After → Type 0
 Acts e tag (Data p) a = PieceActs Plain e p a
 Acts e tag (IData p) a = PieceActs Interleaved e p a

@@ -24,17 +24,21 @@ pub data Slot : Type 0 where
 abbrev pub echoing_slots : List Slot
 echoing_slots = EchoSlot ∷ ErrorSlot ∷ []
 
+-- the order of filling while the association is open
 abbrev pub open_slots : List Slot
 open_slots = CookieAckSlot ∷ HeartbeatSlot ∷ ErrorSlot ∷ SackSlot ∷ ForwardSlot ∷ ShutdownSlot ∷ ShutdownAckSlot ∷ []
 
+-- there is a value
 abbrev pub has_some : Option (List ℕ) → Bool
 has_some None = false
 has_some (Some xs) = true
 
+-- there are causes
 abbrev pub has_causes : List Typed → Bool
 has_causes [] = false
 has_causes (x ∷ xs) = true
 
+-- something is due at this place
 abbrev pub is_due : Slot → EndView → Bool
 is_due EchoSlot e = e.due.cookie_echo
 is_due CookieAckSlot e = e.due.cookie_ack
@@ -84,14 +88,17 @@ timer_after e (w ∷ ws) = running e.moment (e.timers DataAlarm) (e.timers DataA
 abbrev pub filled_behind : EndView → List ChunkMeaning → Fill
 filled_behind e xs = fill (format_of e) (e.configuration.limit - size_of_packet xs) e.sender
 
+-- the end once fragments went out behind these chunks
 abbrev pub sent : EndView → List ChunkMeaning → EndView
 sent e xs = with_timer DataAlarm (timer_after e (filled_behind e xs).wishes) (record e { sender = (filled_behind e xs).view })
 
+-- the chunks of these fragments
 abbrev pub fragments : EndView → List ChunkMeaning → List ChunkMeaning
 fragments e xs = map (chunk_of (format_of e)) (filled_behind e xs).wishes
 
 -- ---- BUILD: the chunks of the next packet, none where there is no packet, and the end after it
 
+-- BUILD: the chunks of the next packet, in each phase.
 pub data Builds (e : EndView) : List ChunkMeaning → EndView → Type 0 where
   Sleeps : has_association e.phase ≡ false → Builds e [] e
   Waits : (d : Draw) → e.phase ≡ Calling d → e.due.init ≡ false → Builds e [] e
@@ -113,5 +120,6 @@ tag_to (Echoing t xs) = t.peer
 tag_to (Open t g) = t.peer
 tag_to (Over why) = 0
 
+-- the packet of these chunks
 abbrev pub packet_of : EndView → List ChunkMeaning → Packet
 packet_of e xs = record { source = e.configuration.own_port; destination = e.configuration.peer_port; tag = tag_to e.phase; chunks = xs }

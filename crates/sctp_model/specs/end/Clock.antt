@@ -10,9 +10,11 @@ use Rattle.sctp_model.specs.end.EndView.{ShutdownSent, ShutdownAckSent, Phase, C
 abbrev pub LONGEST_WAIT : ℕ
 LONGEST_WAIT = 60000
 
+-- the last moment that there is
 abbrev pub LAST_MOMENT : ℕ
 LAST_MOMENT = 2 ^ 64 - 1
 
+-- the moment so long after now, or the last one
 abbrev pub after_wait : ℕ → ℕ → ℕ
 after_wait now wait = min (now + wait) LAST_MOMENT
 
@@ -21,6 +23,7 @@ abbrev pub running : ℕ → Timer → Option ℕ → Timer
 running now t None = record t { expiry = Some (after_wait now t.wait) }
 running now t (Some m) = t
 
+-- the timer doesn't run
 abbrev pub stopped : Timer → Timer
 stopped t = record t { expiry = None }
 
@@ -43,6 +46,7 @@ repeats_of AckAlarm = 10
 
 -- ---- the timers of an end
 
+-- the two timers are one
 abbrev pub same_alarm : Alarm → Alarm → Bool
 same_alarm InitAlarm b = is_init b
   where
@@ -70,9 +74,11 @@ same_alarm AckAlarm b = is_ack b
     is_ack AckAlarm = true
     is_ack c = false
 
+-- the end with one timer changed
 abbrev pub with_timer : Alarm → Timer → EndView → EndView
 with_timer a t e = record e { timers = λ b. if same_alarm a b then t else e.timers b }
 
+-- the timer starts at the end's moment, where it doesn't run
 abbrev pub started : Alarm → EndView → EndView
 started a e = with_timer a (running e.moment (e.timers a) (e.timers a).expiry) e
 
@@ -129,6 +135,7 @@ abbrev pub renewed_expiry : ℕ → Option ℕ → Option ℕ
 renewed_expiry now None = None
 renewed_expiry now (Some m) = Some (after_wait now FIRST_WAIT)
 
+-- the data timer after a SACK that was taken, which moved CUM or did not
 abbrev pub renewed : ℕ → Bool → Timer → Timer
 renewed now false t = record t { repeats = 0 }
 renewed now true t = record { wait = FIRST_WAIT; repeats = 0; expiry = renewed_expiry now t.expiry }

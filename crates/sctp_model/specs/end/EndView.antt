@@ -67,6 +67,7 @@ pub record Terms : Type 0 where
 abbrev pub no_terms : Terms
 no_terms = record { own_tsn = 0; peer_tsn = 0; outbound = 0; inbound = 0; interleave = false; partial = false }
 
+-- the format, by whether I-DATA is on
 abbrev pub format_for : Bool → Format
 format_for true = Interleaved
 format_for false = Plain
@@ -85,6 +86,7 @@ pub record Due : Type 0 where
   pub shutdown : Bool
   pub shutdown_ack : Bool
 
+-- nothing is to be sent
 abbrev pub nothing_due : Due
 nothing_due = record {
   init = false;
@@ -114,6 +116,7 @@ pub record Timer : Type 0 where
 abbrev pub FIRST_WAIT : ℕ
 FIRST_WAIT = 1000
 
+-- a timer that never ran
 abbrev pub unused_timer : Timer
 unused_timer = record { wait = FIRST_WAIT; repeats = 0; expiry = None }
 

@@ -33,18 +33,22 @@ rung true a e =
     then due_again a (with_timer a (expired_timer (e.timers a)) e)
     else closed TimedOut e
 
+-- the timer expires if its moment has come
 abbrev pub ring : Alarm → EndView → EndView
 ring a e = rung (is_over_at e.moment (e.timers a).expiry) a e
 
+-- each of these timers in turn
 abbrev pub rung_all : List Alarm → EndView → EndView
 rung_all [] e = e
 rung_all (a ∷ more) e = rung_all more (ring a e)
 
+-- the timers, in the order in which they expire at one moment
 abbrev pub all_alarms : List Alarm
 all_alarms = InitAlarm ∷ CookieAlarm ∷ DataAlarm ∷ ShutdownAlarm ∷ AckAlarm ∷ []
 
 -- ---- a moment
 
+-- what a moment leaves at an end with an association
 abbrev pub passed : EndView → EndView
 passed e = rung_all all_alarms (after_giving_up e (expired e.sender e.moment))
 
@@ -54,11 +58,13 @@ ticked e now = if has_association e.phase then passed (at_moment e now) else at_
 
 -- ---- when to come again
 
+-- the earlier of two moments, where there are any
 abbrev pub earlier : Option ℕ → Option ℕ → Option ℕ
 earlier None n = n
 earlier (Some m) None = Some m
 earlier (Some m) (Some n) = Some (min m n)
 
+-- the earliest expiry among these timers
 abbrev pub earliest : EndView → List Alarm → Option ℕ
 earliest e [] = None
 earliest e (a ∷ more) = earlier (e.timers a).expiry (earliest e more)

@@ -35,6 +35,7 @@ terms_of_ack c d m = record {
   partial = agreed_partial c m.parameters;
 }
 
+-- the terms that a cookie remembers, as the listener sees them
 abbrev pub terms_of_body : Body → Terms
 terms_of_body b = record {
   own_tsn = b.listener_tsn;
@@ -58,6 +59,7 @@ own_init c d = Init (record {
   parameters = written (own_options c);
 })
 
+-- it offers or takes no stream
 abbrev pub has_no_stream : InitMeaning → Bool
 has_no_stream m = (m.outbound == 0) || (m.inbound == 0)
 
@@ -96,6 +98,7 @@ init_ack s e d m =
 
 -- ---- INIT ACK (5.1.2)
 
+-- the cause for a missing State Cookie
 abbrev pub missing_cookie : Typed
 missing_cookie = item MISSING_PARAMETER (u32_bytes 1 ++ u16_bytes STATE_COOKIE)
 
@@ -112,9 +115,11 @@ abbrev pub causes_with_all : EndView → List Typed → List Typed
 causes_with_all e [] = e.due.causes
 causes_with_all e (x ∷ xs) = causes_with e (item UNRECOGNIZED_PARAMETERS (written (x ∷ xs)))
 
+-- the ERROR of what waits and of these parameters fits a packet
 abbrev pub fits_in_error : EndView → List Typed → Bool
 fits_in_error e xs = fits_alone e (Error (written (e.due.causes ++ item UNRECOGNIZED_PARAMETERS (written xs) ∷ [])))
 
+-- the causes that wait once an INIT ACK was read
 abbrev pub ack_causes : EndView → InitMeaning → List Typed
 ack_causes e m = causes_with_all e (as_fit (fits_in_error e) [] (parameters_reported (typed_in m.parameters)))
 
@@ -124,6 +129,7 @@ echoing e d m xs =
     let t = turned (Echoing (record { own = d.tag; peer = m.tag }) xs) (joined (terms_of_ack e.configuration d m) m.rwnd e) in
     with_due (record t.due { cookie_echo = true; causes = ack_causes e m }) t
 
+-- the caller waits for an INIT ACK
 abbrev pub is_calling : Phase → Bool
 is_calling (Calling d) = true
 is_calling h = false
@@ -143,6 +149,7 @@ pub data InitAckActs (e : EndView) (m : InitMeaning) : After → Type 0 where
 abbrev pub COOKIE_LIFE : ℕ
 COOKIE_LIFE = 60000
 
+-- how old a cookie is, in milliseconds; one from a later moment is new
 abbrev pub age : EndView → Body → ℕ
 age e b = e.moment - b.made
 
@@ -160,10 +167,12 @@ pub data CookieRead : Type 0 where
   Opens Stale : Body → CookieRead
   Strange : CookieRead
 
+-- what a listener reads in a body, or in none
 abbrev pub body_read : EndView → ℕ → Option Body → CookieRead
 body_read e tag None = Strange
 body_read e tag (Some b) = if is_addressed e tag b then (if nat_le (age e b) COOKIE_LIFE then Opens b else Stale b) else Strange
 
+-- what a listener reads in the bytes of a cookie
 abbrev pub cookie_read : Sealing → EndView → ℕ → List ℕ → CookieRead
 cookie_read s e tag xs = body_read e tag (s.opened xs)
 
@@ -179,6 +188,7 @@ is_ours t (Opens b) = (b.listener_tag == t.own) && (b.caller_tag == t.peer)
 is_ours t (Stale b) = (b.listener_tag == t.own) && (b.caller_tag == t.peer)
 is_ours t Strange = false
 
+-- the seal of a listener
 abbrev pub seal_in : Role → Option Sealing
 seal_in (Listener s) = Some s
 seal_in Caller = None
@@ -194,10 +204,12 @@ pub data EchoActs (e : EndView) (tag : ℕ) (xs : List ℕ) : After → Type 0 w
 
 -- ---- COOKIE ACK (5.1, E)
 
+-- the caller waits for a COOKIE ACK
 abbrev pub is_echoing : Phase → Bool
 is_echoing (Echoing t xs) = true
 is_echoing h = false
 
+-- What a COOKIE ACK does.
 pub data CookieAckActs (e : EndView) : After → Type 0 where
   NotEchoing : is_echoing e.phase ≡ false → CookieAckActs e PassedOver
   CookieAcked : (t : Tags) (xs : List ℕ) → e.phase ≡ Echoing t xs → CookieAckActs e (GoesOn (turned (Open t Established) e))

@@ -7,15 +7,19 @@ use Rattle.sctp_model.specs.end.Reports.{item}
 
 -- ---- the parameters that this endpoint knows
 
+-- State Cookie (RFC 9260, 3.3.3.1)
 abbrev pub STATE_COOKIE : ℕ
 STATE_COOKIE = 7
 
+-- Unrecognized Parameter (RFC 9260, 3.3.3.1)
 abbrev pub UNRECOGNIZED : ℕ
 UNRECOGNIZED = 8
 
+-- Supported Extensions (RFC 5061, 4.2.7): a byte for each chunk type
 abbrev pub SUPPORTED_EXTENSIONS : ℕ
 SUPPORTED_EXTENSIONS = 0x8008
 
+-- Forward-TSN-Supported (RFC 3758, 3.1)
 abbrev pub FORWARD_TSN_SUPPORTED : ℕ
 FORWARD_TSN_SUPPORTED = 0xC000
 
@@ -25,14 +29,17 @@ value_of k bytes = first_of k (parameters_acted_on (typed_in bytes))
 
 -- ---- what both ends want
 
+-- the byte is among these
 abbrev pub has_byte : ℕ → List ℕ → Bool
 has_byte b [] = false
 has_byte b (x ∷ xs) = (x == b) || has_byte b xs
 
+-- the value lists this chunk type
 abbrev pub lists_type : ℕ → Option (List ℕ) → Bool
 lists_type b None = false
 lists_type b (Some xs) = has_byte b xs
 
+-- the parameter is there, whatever its value
 abbrev pub is_carried : Option (List ℕ) → Bool
 is_carried None = false
 is_carried (Some xs) = true
@@ -60,6 +67,7 @@ abbrev pub unless_empty : List ℕ → List Typed
 unless_empty [] = []
 unless_empty (x ∷ xs) = item SUPPORTED_EXTENSIONS (x ∷ xs) ∷ []
 
+-- what an end says of its options, in INIT and in INIT ACK
 abbrev pub own_options : Configuration → List Typed
 own_options c = (if c.partial then item FORWARD_TSN_SUPPORTED [] ∷ [] else []) ++ unless_empty (own_extensions c)
 

@@ -4,6 +4,7 @@ use Rattle.sctp_model.specs.Chunk.{ChunkMeaning, Init, Abort, ShutdownComplete}
 use Rattle.sctp_model.specs.Packet.{Packet}
 use Rattle.sctp_model.specs.end.EndView.{Configuration, Phase, Idle, Listening, Calling, Echoing, Open, Over}
 
+-- the packet is from the peer's port to this end's
 abbrev pub has_ports : Configuration → Packet → Bool
 has_ports c p = (p.source == c.peer_port) && (p.destination == c.own_port)
 
@@ -27,9 +28,11 @@ abbrev pub passes_first : Phase → ChunkMeaning → ℕ → Bool
 passes_first h (Init m) tag = tag == 0
 passes_first h x tag = passes_tag h (is_reflected x) tag
 
+-- the first chunk decides
 abbrev pub passes_chunks : Phase → ℕ → List ChunkMeaning → Bool
 passes_chunks h tag [] = passes_tag h false tag
 passes_chunks h tag (x ∷ xs) = passes_first h x tag
 
+-- The packet passes by its tag.
 abbrev pub passes : Phase → Packet → Bool
 passes h p = passes_chunks h p.tag p.chunks

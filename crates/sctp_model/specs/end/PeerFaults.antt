@@ -12,15 +12,19 @@ use Rattle.sctp_model.specs.end.Reports.{written, item, NO_USER_DATA, PROTOCOL_V
 abbrev pub FAULT : ℕ
 FAULT = 1
 
+-- other ports
 abbrev pub PORTS : ℕ
 PORTS = 2
 
+-- another tag, or the tag 0
 abbrev pub TAG : ℕ
 TAG = 3
 
+-- nothing in it is listed for the state
 abbrev pub STATE : ℕ
 STATE = 4
 
+-- a cookie that does not open
 abbrev pub COOKIE : ℕ
 COOKIE = 5
 
@@ -47,5 +51,6 @@ at_fault t x e = Replies (closed AbortedHere e) (packet_to e.configuration t.pee
 abbrev pub no_user_data : ℕ → Typed
 no_user_data tsn = item NO_USER_DATA (u32_bytes tsn)
 
+-- the cause for a broken rule
 abbrev pub violation : Typed
 violation = item PROTOCOL_VIOLATION []

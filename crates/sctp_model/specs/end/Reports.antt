@@ -15,33 +15,43 @@ written (x ∷ y ∷ ys) = filled (typed_bytes x) ++ written (y ∷ ys)
 
 -- ---- causes and parameters
 
+-- the types of causes (RFC 9260, 3.3.10)
 abbrev pub INVALID_STREAM : ℕ
 INVALID_STREAM = 1
 
+-- a mandatory parameter is missing (3.3.10.2)
 abbrev pub MISSING_PARAMETER : ℕ
 MISSING_PARAMETER = 2
 
+-- the cookie came too late (3.3.10.3)
 abbrev pub STALE_COOKIE : ℕ
 STALE_COOKIE = 3
 
+-- no resource (3.3.10.4)
 abbrev pub OUT_OF_RESOURCE : ℕ
 OUT_OF_RESOURCE = 4
 
+-- a chunk of an unknown type (3.3.10.6)
 abbrev pub UNRECOGNIZED_CHUNK : ℕ
 UNRECOGNIZED_CHUNK = 6
 
+-- a mandatory parameter is invalid (3.3.10.7)
 abbrev pub INVALID_PARAMETER : ℕ
 INVALID_PARAMETER = 7
 
+-- parameters of unknown types (3.3.10.8)
 abbrev pub UNRECOGNIZED_PARAMETERS : ℕ
 UNRECOGNIZED_PARAMETERS = 8
 
+-- a data chunk without data (3.3.10.9)
 abbrev pub NO_USER_DATA : ℕ
 NO_USER_DATA = 9
 
+-- the user aborts (3.3.10.12)
 abbrev pub USER_ABORT : ℕ
 USER_ABORT = 12
 
+-- the peer broke a rule (3.3.10.13)
 abbrev pub PROTOCOL_VIOLATION : ℕ
 PROTOCOL_VIOLATION = 13
 
@@ -59,6 +69,7 @@ fits_alone e x = nat_le (size_of_packet (x ∷ [])) e.configuration.limit
 abbrev pub causes_with : EndView → Typed → List Typed
 causes_with e x = if fits_alone e (Error (written (e.due.causes ++ x ∷ []))) then e.due.causes ++ x ∷ [] else e.due.causes
 
+-- the end with these causes waiting
 abbrev pub with_causes : List Typed → EndView → EndView
 with_causes xs e = record e { due = record e.due { causes = xs } }
 

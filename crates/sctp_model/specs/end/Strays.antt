@@ -15,10 +15,12 @@ pub data Verdict : Type 0 where
   Dropped : (reason : ℕ) → Verdict
   Answer : Packet → Verdict
 
+-- an ABORT
 abbrev pub is_abort : ChunkMeaning → Bool
 is_abort (Abort t causes) = true
 is_abort x = false
 
+-- one of the chunks is an ABORT
 abbrev pub holds_abort : List ChunkMeaning → Bool
 holds_abort [] = false
 holds_abort (x ∷ xs) = is_abort x || holds_abort xs
@@ -28,6 +30,7 @@ abbrev pub seal_at : Phase → Role → Option Sealing
 seal_at Listening r = seal_in r
 seal_at h r = None
 
+-- the seal of an end that listens now
 abbrev pub listens : EndView → Option Sealing
 listens e = seal_at e.phase e.role
 
@@ -44,6 +47,7 @@ cookie_verdict e (Stale b) = Answer (packet_to e.configuration b.caller_tag (Err
 cookie_verdict e (Opens b) = Dropped COOKIE
 cookie_verdict e Strange = Dropped COOKIE
 
+-- a COOKIE ECHO that begins nothing
 abbrev pub echo_verdict : Option Sealing → EndView → ℕ → List ℕ → Verdict
 echo_verdict None e tag cookie = Answer (packet_to e.configuration tag (Abort true []))
 echo_verdict (Some s) e tag cookie = cookie_verdict e (cookie_read s e tag cookie)
@@ -72,20 +76,24 @@ first_verdict e d tag (Shutdown tsn) = refused e tag
 first_verdict e d tag (ForwardTsn m) = refused e tag
 first_verdict e d tag (IForwardTsn m) = refused e tag
 
+-- what is told of these chunks
 abbrev pub chunks_verdict : EndView → Draw → ℕ → List ChunkMeaning → Verdict
 chunks_verdict e d tag [] = Dropped STATE
 chunks_verdict e d tag (x ∷ xs) = if holds_abort (x ∷ xs) then Dropped STATE else first_verdict e d tag x
 
+-- What is told of a packet at an end without an association.
 abbrev pub stray_verdict : EndView → Draw → Packet → Verdict
 stray_verdict e d p = chunks_verdict e d p.tag p.chunks
 
 -- ---- the cookie that begins an association
 
+-- the body of a cookie that opens
 abbrev pub body_of : CookieRead → Option Body
 body_of (Opens b) = Some b
 body_of (Stale b) = None
 body_of Strange = None
 
+-- the body that a listener finds in a chunk
 abbrev pub body_in : Option Sealing → EndView → ℕ → ChunkMeaning → Option Body
 body_in (Some s) e tag (CookieEcho cookie) = body_of (cookie_read s e tag cookie)
 body_in s e tag x = None
@@ -95,5 +103,6 @@ abbrev pub body_among : EndView → ℕ → List ChunkMeaning → Option Body
 body_among e tag [] = None
 body_among e tag (x ∷ xs) = if holds_abort (x ∷ xs) then None else body_in (listens e) e tag x
 
+-- THE COOKIE that begins an association: that of the first chunk, where no ABORT is in the packet.
 abbrev pub opened_by : EndView → Packet → Option Body
 opened_by e p = body_among e p.tag p.chunks

@@ -15,9 +15,11 @@ use Rattle.sctp_model.specs.end.Moments.{after_giving_up}
 
 -- ---- connect: once, by a caller that hasn't called yet (11.1.2)
 
+-- What is answered to connect.
 pub data ConnectAnswer : Type 0 where
   Called NotIdle : ConnectAnswer
 
+-- only an end that nothing happened to yet may call
 abbrev pub connect_answer : Phase → ConnectAnswer
 connect_answer Idle = Called
 connect_answer Listening = NotIdle
@@ -38,6 +40,7 @@ pub data SendAnswer : Type 0 where
   Refused : Refusal → SendAnswer
   NotOpen : SendAnswer
 
+-- the association is established
 abbrev pub is_established : Stage → Bool
 is_established Established = true
 is_established ShutdownPending = false
@@ -45,10 +48,12 @@ is_established ShutdownSent = false
 is_established ShutdownReceived = false
 is_established ShutdownAckSent = false
 
+-- the next ticket, or the refusal
 abbrev pub answer_for : EndView → Option Refusal → SendAnswer
 answer_for e None = Ticket (suc e.sender.tickets)
 answer_for e (Some r) = Refused r
 
+-- What is answered to send: an end that is not established first, then the refusals in their order.
 abbrev pub send_answer : EndView → Call → SendAnswer
 send_answer e c =
     if hears is_established e.phase then answer_for e (refusal e.sender c.lane.stream c.bytes) else NotOpen
@@ -61,6 +66,7 @@ send_leaves NotOpen e c = e
 
 -- ---- abandon (RFC 3758, 3.5)
 
+-- the association is open
 abbrev pub is_open : Phase → Bool
 is_open h = hears (λ g. true) h
 
@@ -75,6 +81,7 @@ abandoned_at e ticket =
 
 -- ---- take (11.1.6)
 
+-- What taking a message leaves.
 pub record Takes (e : EndView) (stream : ℕ) (answer : Option Handed) (t : EndView) : Type 0 where
   pub receiver : ReceiverView
   pub takes : TakeLeaves e.receiver stream answer receiver
@@ -82,9 +89,11 @@ pub record Takes (e : EndView) (stream : ℕ) (answer : Option Handed) (t : EndV
 
 -- ---- shutdown (11.1.3)
 
+-- What is answered to shutdown.
 pub data ShutdownAnswer : Type 0 where
   Shut NotShut : ShutdownAnswer
 
+-- an association that is open may be shut
 abbrev pub shutdown_answer : Phase → ShutdownAnswer
 shutdown_answer Idle = NotShut
 shutdown_answer Listening = NotShut
@@ -98,11 +107,13 @@ abbrev pub shut_in : Phase → EndView → EndView
 shut_in (Open t Established) e = rested (turned (Open t ShutdownPending) e)
 shut_in h e = e
 
+-- the end after shutdown
 abbrev pub shut : EndView → EndView
 shut e = shut_in e.phase e
 
 -- ---- abort (11.1.4)
 
+-- What is answered to abort.
 pub data AbortAnswer : Type 0 where
   Aborts : Packet → AbortAnswer
   NoPeer TooLong : AbortAnswer
@@ -116,17 +127,21 @@ peer_tag (Echoing t xs) = Some t.peer
 peer_tag (Open t g) = Some t.peer
 peer_tag (Over why) = None
 
+-- the ABORT of the user, with the reason
 abbrev pub abort_packet : EndView → ℕ → List ℕ → Packet
 abort_packet e tag reason = packet_to e.configuration tag (abort_for (item USER_ABORT reason))
 
+-- the packet to a known peer, if it fits
 abbrev pub abort_answer_to : EndView → List ℕ → Option ℕ → AbortAnswer
 abort_answer_to e reason None = NoPeer
 abort_answer_to e reason (Some tag) =
     if nat_le (size_of_packet (abort_packet e tag reason).chunks) e.configuration.limit then Aborts (abort_packet e tag reason) else TooLong
 
+-- what is answered to abort at this end
 abbrev pub abort_answer : EndView → List ℕ → AbortAnswer
 abort_answer e reason = abort_answer_to e reason (peer_tag e.phase)
 
+-- the end after abort
 abbrev pub abort_leaves : AbortAnswer → EndView → EndView
 abort_leaves (Aborts p) e = closed AbortedHere e
 abort_leaves NoPeer e = e

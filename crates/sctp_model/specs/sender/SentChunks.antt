@@ -17,6 +17,7 @@ abbrev pub is_unordered : Kind → Bool
 is_unordered Ordered = false
 is_unordered Unordered = true
 
+-- the payload id of a message
 abbrev pub payload_said : Option Message → ℕ
 payload_said None = 0
 payload_said (Some m) = m.payload
@@ -47,5 +48,6 @@ skip_said f x = record { stream = x.lane.stream; unordered = is_unordered x.lane
 abbrev pub forward_said : Format → SenderView → ForwardMeaning
 forward_said f v = record { cumulative = tsn v.initial (forward_of f v).point; skips = map (skip_said f) (forward_of f v).skips }
 
+-- the chunk of the FORWARD of a view
 abbrev pub forward_chunk_of : Format → SenderView → ChunkMeaning
 forward_chunk_of f v = forward_chunk f (forward_said f v)
