@@ -11,7 +11,8 @@ mkdir "$work/crates"
 for crate in sctp_model sctp_wire sctp_packet; do
     cp -R "$here/../crates/$crate" "$work/crates/$crate"
 done
-cp -R "$here/crc32c" "$work/crates/crc32c_bench"
+mkdir -p "$work/crates/crc32c_bench/src"
+cp "$here/crc32c.rattle" "$work/crates/crc32c_bench/src/main.rt"
 grep -E '^(sctp_model|sctp_wire|sctp_packet):' "$here/../crates.txt" > "$work/crates.txt"
 echo 'crc32c_bench: sctp_packet' >> "$work/crates.txt"
 cp "$here/../HANDLES" "$work/HANDLES"
