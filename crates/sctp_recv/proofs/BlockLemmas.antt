@@ -3,10 +3,11 @@ use Rattle.std.proofs.Common.{◌≡◌, ℕ, zero, suc, ◌+◌, ◌-◌, ◌<�
 use Rattle.std.proofs.lemmas.Bool.{cases_Bool, cases_lt}
 use Rattle.std.proofs.lemmas.Bool.Decides.{nat_tests}
 use Rattle.std.proofs.lemmas.Grind.{common_steps}
+use Rattle.sctp_model.specs.Limits.{BLOCK_LIMIT}
 use Rattle.sctp_model.specs.Lists.{Has}
 use Rattle.sctp_model.specs.Chunk.{BlockMeaning}
 use Rattle.sctp_model.specs.ReceiverView.{ReceiverView}
-use Rattle.sctp_model.specs.receiver.SackMade.{BLOCKS, IsRun, AreBlocksRising, AreLowestRuns}
+use Rattle.sctp_model.specs.receiver.SackMade.{IsRun, AreBlocksRising, AreLowestRuns}
 use Rattle.sctp_recv.specs.declared.runs.Run.{Run}
 use Rattle.sctp_recv.specs.Runs.{in_run, in_runs, AreRuns}
 use Rattle.sctp_recv.specs.Blocks.{block_of_run}
@@ -179,20 +180,20 @@ all_runs v c all h says = record {
 }
 
 pub lowest_runs : (v : ReceiverView) (c : ℕ) (all : List Run) → AreRuns c all → ((i : ℕ) → c < i → v.seen i ≡ in_runs all i) →
-    AreLowestRuns v c (map (block_of_run c) (take BLOCKS all))
+    AreLowestRuns v c (map (block_of_run c) (take BLOCK_LIMIT all))
 lowest_runs v c all h says = record {
-  few = let few = take_few BLOCKS all in let same = mapped_length c (take BLOCKS all) in omega arith;
-  runs = λ b there. let m = mapped_has c (take BLOCKS all) b there in subst (IsRun v c) m.2 (run_is v c all h says m.0 (has_take BLOCKS all m.0 m.1));
-  rising = blocks_rise c c (take BLOCKS all) (omega arith) (runs_take BLOCKS c all h);
+  few = let few = take_few BLOCK_LIMIT all in let same = mapped_length c (take BLOCK_LIMIT all) in omega arith;
+  runs = λ b there. let m = mapped_has c (take BLOCK_LIMIT all) b there in subst (IsRun v c) m.2 (run_is v c all h says m.0 (has_take BLOCK_LIMIT all m.0 m.1));
+  rising = blocks_rise c c (take BLOCK_LIMIT all) (omega arith) (runs_take BLOCK_LIMIT c all h);
   lowest = λ b run.
       let k = is_kept v c all h says b run in
-      elim (among_first BLOCKS c all k.0 h k.1) [
-        | inl there ↦ inl (subst (Has (map (block_of_run c) (take BLOCKS all))) k.2 (has_mapped c (take BLOCKS all) k.0 there))
+      elim (among_first BLOCK_LIMIT c all k.0 h k.1) [
+        | inl there ↦ inl (subst (Has (map (block_of_run c) (take BLOCK_LIMIT all))) k.2 (has_mapped c (take BLOCK_LIMIT all) k.0 there))
         | inr past ↦ inr (
-          mapped_length c (take BLOCKS all) ∙ past.0,
+          mapped_length c (take BLOCK_LIMIT all) ∙ past.0,
           λ a there.
-              let m = mapped_has c (take BLOCKS all) a there in
-              let above = has_above c all m.0 h (has_take BLOCKS all m.0 m.1) in
+              let m = mapped_has c (take BLOCK_LIMIT all) a there in
+              let above = has_above c all m.0 h (has_take BLOCK_LIMIT all m.0 m.1) in
               let end : m.0.last - c ≡ a.end = ap (λ (x : BlockMeaning). x.end) m.2 in
               let start : k.0.first - c ≡ b.start = ap (λ (x : BlockMeaning). x.start) k.2 in
               let below = past.1 m.0 m.1 in

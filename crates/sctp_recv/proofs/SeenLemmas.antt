@@ -4,11 +4,11 @@ use Rattle.std.specs.Prelude.{◌||◌, Result, Ok, Err, OnOk, OnErr}
 use Rattle.std.proofs.lemmas.Bool.{cases_Bool, cases_lt, or_parts, leb-false}
 use Rattle.std.proofs.lemmas.Bool.Decides.{nat_tests}
 use Rattle.std.proofs.lemmas.Grind.{common_steps}
-use Rattle.sctp_model.specs.receiver.Reading.{WINDOW}
 use Rattle.sctp_recv.specs.declared.runs.Run.{Run}
 use Rattle.sctp_recv.specs.Runs.{in_run, in_runs, AreRuns, extended, with_front, with_index}
 use Rattle.sctp_recv.specs.SeenKept.{seen_of, is_reached, IsKept}
 use Rattle.sctp_recv.specs.SeenStands.{SeenStands, Records}
+use Rattle.sctp_model.specs.Limits.{WINDOW}
 
 -- ---- they stay runs
 

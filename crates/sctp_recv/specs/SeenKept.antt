@@ -1,8 +1,8 @@
 -- What is kept of the indexes that came.
 use Rattle.std.specs.Prelude.{◌≡◌, ℕ, ◌+◌, ◌≤◌, Bool, true, ◌||◌, nat_le, List}
-use Rattle.sctp_model.specs.receiver.Reading.{WINDOW}
 use Rattle.sctp_recv.specs.declared.runs.Run.{Run}
 use Rattle.sctp_recv.specs.Runs.{in_runs, AreRuns}
+use Rattle.sctp_model.specs.Limits.{WINDOW}
 
 -- All indexes up to the cumulative one are reached, and above it those of the runs.
 pub record SeenKept : Type 0 where

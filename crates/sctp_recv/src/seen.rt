@@ -2,12 +2,12 @@
 
 ghost use Rattle.std.specs.Prelude.{◌≡◌, ℕ, ◌+◌, ◌≤◌, ◌<◌, ◌%◌, [], true, false, OnOk, OnErr, IfOk, IsOk, take, map, length};
 ghost use Rattle.std.specs.VecDeque.{deque_len, deque_capacity};
-ghost use Rattle.sctp_model.specs.receiver.Reading.{WINDOW};
 ghost use Rattle.sctp_wire.specs.Items.{blocks_in};
 ghost use Rattle.sctp_recv.specs.Blocks.{block_of_run};
 ghost use Rattle.sctp_recv.specs.Runs.{AreRuns, AreSpaced, in_runs, first_touches};
 ghost use Rattle.sctp_recv.specs.SeenKept.{is_reached, seen_of};
 ghost use Rattle.sctp_recv.specs.SeenStands.{SeenStands, Records, Jumps};
+ghost use Rattle.sctp_model.specs.Limits.{WINDOW};
 
 use crate::runs::{Run, insert, place};
 use sctp_wire::{GapBlock, NoMemory, put_block};

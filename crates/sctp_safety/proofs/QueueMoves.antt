@@ -2,10 +2,11 @@
 use Rattle.std.proofs.Common.{◌≡◌, ℕ, zero, suc, ◌+◌, ◌-◌, ◌<◌, ◌≤◌, ◌==◌, ◌||◌, nat_lt, nat_le, true, false, Bool, List, [], ◌∷◌, ◌++◌, length, take, drop, Option, None, Some, inl, inr, refl, sym, subst, ap, arith, ◌∙◌}
 use Rattle.std.specs.Prelude.{if◌then◌else◌}
 use Rattle.std.proofs.lemmas.Bool.Decides.{nat_tests}
+use Rattle.sctp_model.specs.Limits.{LONGEST_MESSAGE, QUEUE_LIMIT, TICKET_LIMIT, TSN_LIMIT}
 use Rattle.sctp_model.specs.Lists.{Has, joined}
 use Rattle.sctp_model.specs.Calls.{Call}
 use Rattle.sctp_model.specs.SenderView.{SenderView}
-use Rattle.sctp_model.specs.sender.Queueing.{Refusal, NoSuchStream, Empty, TooLong, QueueFull, Spent, LONGEST, QUEUE_LIMIT, TICKETS, TSNS, cut_at_most, cut, owed_for, promised, refusal, queued}
+use Rattle.sctp_model.specs.sender.Queueing.{Refusal, NoSuchStream, Empty, TooLong, QueueFull, Spent, cut_at_most, cut, owed_for, promised, refusal, queued}
 use Rattle.sctp_safety.specs.Way.{Way, Send, with_sender}
 use Rattle.sctp_safety.specs.SenderLaws.{QueueIsMoves}
 use Rattle.sctp_safety.proofs.Taken.{leads_on, leads_by, leads_same}
@@ -77,9 +78,9 @@ accepted_is v stream bytes h = go (nat_le v.streams stream) refl (length bytes =
   where
     rest : Option Refusal
     rest =
-        if nat_lt LONGEST (length bytes) then Some TooLong
+        if nat_lt LONGEST_MESSAGE (length bytes) then Some TooLong
         else if nat_le QUEUE_LIMIT (length v.queue) then Some QueueFull
-        else if nat_le TICKETS v.tickets || nat_lt TSNS (promised v + owed_for (length (cut v.fragment bytes))) then Some Spent
+        else if nat_le TICKET_LIMIT v.tickets || nat_lt TSN_LIMIT (promised v + owed_for (length (cut v.fragment bytes))) then Some Spent
         else None
 
     go : (a : Bool) → nat_le v.streams stream ≡ a → (b : Bool) → (length bytes == 0) ≡ b → (if a then Some NoSuchStream else if b then Some Empty else rest) ≡ None → IsAccepted v stream bytes

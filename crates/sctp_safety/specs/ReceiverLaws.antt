@@ -1,5 +1,6 @@
 -- Each call of a receiver is a list of moves of its direction: a data chunk by each answer, a FORWARD by each answer, the SACK, and taking a message.
 use Rattle.std.specs.Prelude.{◌≡◌, ℕ, ◌+◌, ◌^◌, ◌<◌, ◌≤◌, List, ◌∷◌, length, map, Option, Some}
+use Rattle.sctp_model.specs.Limits.{WINDOW}
 use Rattle.sctp_model.specs.Lists.{Has}
 use Rattle.sctp_model.specs.Serial.{tsn}
 use Rattle.sctp_model.specs.Chunk.{PieceMeaning, SackMeaning, ForwardMeaning}
@@ -11,7 +12,6 @@ use Rattle.sctp_model.specs.SenderView.{SenderView}
 use Rattle.sctp_model.specs.ReceiverView.{Handed, ReceiverView}
 use Rattle.sctp_model.specs.Acknowledgement.{Acknowledgement}
 use Rattle.sctp_model.specs.sender.SentChunks.{piece_said, skip_said}
-use Rattle.sctp_model.specs.receiver.Reading.{WINDOW}
 use Rattle.sctp_model.specs.receiver.PieceTaken.{Answer, PieceTaken}
 use Rattle.sctp_model.specs.receiver.ForwardTaken.{ForwardAnswer, ForwardTaken}
 use Rattle.sctp_model.specs.receiver.SackMade.{IsSack, TakeLeaves}

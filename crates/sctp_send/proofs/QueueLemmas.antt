@@ -6,11 +6,12 @@ use Rattle.std.proofs.Math.Nat.{div-eq-sub-div, div-eq_of_lt, mod-eq_of_lt}
 use Rattle.std.proofs.lemmas.List.{length-map, drop-map}
 use Rattle.std.proofs.Math.Seq.{drop-cons}
 use Rattle.std.proofs.lemmas.Bool.Decides.{nat_tests}
+use Rattle.sctp_model.specs.Limits.{LONGEST_MESSAGE, QUEUE_LIMIT, TICKET_LIMIT, TSN_LIMIT}
 use Rattle.sctp_model.specs.Format.{Format, Lane}
 use Rattle.sctp_model.specs.Plan.{Message, Entry, Part, End, Plan, message_at}
 use Rattle.sctp_model.specs.SenderView.{Queued, SenderView}
 use Rattle.sctp_model.specs.sender.Entries.{continued, fragments_from, one_if_some, sum_below, in_part, fragments_in}
-use Rattle.sctp_model.specs.sender.Queueing.{cut, cut_at_most, owed_for, owed_by_queue, owed_by_parts, promised, refusal, queued, Spent, LONGEST, QUEUE_LIMIT, TICKETS, TSNS}
+use Rattle.sctp_model.specs.sender.Queueing.{cut, cut_at_most, owed_for, owed_by_queue, owed_by_parts, promised, refusal, queued, Spent}
 use Rattle.sctp_model.specs.sender.Abandoning.{waits, name_of}
 use Rattle.sctp_model.specs.sender.Reached.{IsReached, Queues}
 use Rattle.sctp_model.proofs.sender.PlanLaws.{IsFollower, continued_is, AllNamed}
@@ -202,9 +203,9 @@ spent_ticket f s v stream bytes k fit over =
     let four = fit.waits in
     let a : nat_le v.streams stream ≡ false = grind (arith, nat_tests) in
     let b : (length bytes == 0) ≡ false = grind (arith, nat_tests) in
-    let c : nat_lt LONGEST (length bytes) ≡ false = grind (arith, nat_tests) in
+    let c : nat_lt LONGEST_MESSAGE (length bytes) ≡ false = grind (arith, nat_tests) in
     let d : nat_le QUEUE_LIMIT (length v.queue) ≡ false = grind (arith, nat_tests) in
-    let e : nat_le TICKETS v.tickets ≡ true = grind (arith, nat_tests) in
+    let e : nat_le TICKET_LIMIT v.tickets ≡ true = grind (arith, nat_tests) in
     rw (a, b, c, d, e) refl
 
 -- what the sum of what is promised and owed says
@@ -229,10 +230,10 @@ spent_owed f s v stream bytes p o k fit under promise owed over =
     let sum = sum_fits f s v bytes p o k fit.short promise owed in
     let a : nat_le v.streams stream ≡ false = grind (arith, nat_tests) in
     let b : (length bytes == 0) ≡ false = grind (arith, nat_tests) in
-    let c : nat_lt LONGEST (length bytes) ≡ false = grind (arith, nat_tests) in
+    let c : nat_lt LONGEST_MESSAGE (length bytes) ≡ false = grind (arith, nat_tests) in
     let d : nat_le QUEUE_LIMIT (length v.queue) ≡ false = grind (arith, nat_tests) in
-    let e : nat_le TICKETS v.tickets ≡ false = grind (arith, nat_tests) in
-    let g : nat_lt TSNS (promised v + owed_for (length (cut v.fragment bytes))) ≡ true = grind (arith, nat_tests) in
+    let e : nat_le TICKET_LIMIT v.tickets ≡ false = grind (arith, nat_tests) in
+    let g : nat_lt TSN_LIMIT (promised v + owed_for (length (cut v.fragment bytes))) ≡ true = grind (arith, nat_tests) in
     rw (a, b, c, d, e, g) refl
 
 pub none_refuses : (f : Format) (s : Kept) (v : SenderView) (stream : ℕ) (bytes : List ℕ) (p o : ℕ) → Keeps f s v → IsFit s stream bytes → length s.fates < 2 ^ 32 - 1 → p ≡ promised v → o ≡ owed_for (length (cut s.fragment bytes)) % 2 ^ 64
@@ -248,8 +249,8 @@ none_refuses f s v stream bytes p o k fit under promise owed within =
     let sum = sum_fits f s v bytes p o k fit.short promise owed in
     let a : nat_le v.streams stream ≡ false = grind (arith, nat_tests) in
     let b : (length bytes == 0) ≡ false = grind (arith, nat_tests) in
-    let c : nat_lt LONGEST (length bytes) ≡ false = grind (arith, nat_tests) in
+    let c : nat_lt LONGEST_MESSAGE (length bytes) ≡ false = grind (arith, nat_tests) in
     let d : nat_le QUEUE_LIMIT (length v.queue) ≡ false = grind (arith, nat_tests) in
-    let e : nat_le TICKETS v.tickets ≡ false = grind (arith, nat_tests) in
-    let g : nat_lt TSNS (promised v + owed_for (length (cut v.fragment bytes))) ≡ false = grind (arith, nat_tests) in
+    let e : nat_le TICKET_LIMIT v.tickets ≡ false = grind (arith, nat_tests) in
+    let g : nat_lt TSN_LIMIT (promised v + owed_for (length (cut v.fragment bytes))) ≡ false = grind (arith, nat_tests) in
     rw (a, b, c, d, e, g) refl

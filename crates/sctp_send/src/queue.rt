@@ -15,16 +15,16 @@ use std::rc::Rc;
 use thiserror::Error;
 
 /// The most bytes of a message.
-const LONGEST: usize = 65_536;
+const LONGEST_MESSAGE: usize = 65_536;
 
 /// The most messages that wait for a number at once.
 const QUEUE_LIMIT: usize = 1_024;
 
 /// The most tickets that are given.
-const TICKETS: usize = 0xffff_ffff;
+const TICKET_LIMIT: usize = 0xffff_ffff;
 
 /// The most TSNs that are assigned and owed.
-const TSNS: u64 = 0x7fff_ffff;
+const TSN_LIMIT: u64 = 0x7fff_ffff;
 
 /// Why a message is not accepted: the first reason that holds, in this order.
 #[derive(Clone, Copy, Debug, PartialEq, Eq, Error)]
@@ -74,7 +74,7 @@ impl<F: Framing> Sender<F> {
         if bytes.len() == 0 {
             return Err(SendFault::Empty);
         }
-        if bytes.len() > LONGEST {
+        if bytes.len() > LONGEST_MESSAGE {
             return Err(SendFault::TooLong);
         }
         if self.queue.len() >= QUEUE_LIMIT {
@@ -83,10 +83,10 @@ impl<F: Framing> Sender<F> {
         let promised = self.promised();
         let more = owed(fragments_of(self.fragment, &bytes));
         let given = self.fates.len();
-        if given >= TICKETS {
+        if given >= TICKET_LIMIT {
             return Err(SendFault::Spent);
         }
-        if promised.wrapping_add(more) > TSNS {
+        if promised.wrapping_add(more) > TSN_LIMIT {
             return Err(SendFault::Spent);
         }
         match self.fates.reserve(1) {

@@ -2,13 +2,14 @@
 use Rattle.std.proofs.Common.{◌≡◌, ℕ, zero, suc, ◌+◌, ◌%◌, ◌<◌, ◌≤◌, inl, inr, List, [], ◌∷◌, ◌++◌, length, Bool, true, false, Option, Some, None, refl, sym, ap, ◌∙◌, subst, arith, length-append}
 use Rattle.std.specs.Prelude.{◌==◌, nat_le, nat_lt, not, ◌&&◌, ◌||◌, if◌then◌else◌, slice_get, take, drop}
 use Rattle.std.proofs.lemmas.Bool.Decides.{nat_tests}
+use Rattle.sctp_model.specs.Limits.{LONGEST_MESSAGE, QUEUE_LIMIT, TICKET_LIMIT, TSN_LIMIT}
 use Rattle.sctp_model.specs.Lists.{at}
 use Rattle.sctp_model.specs.Format.{Format, Lane}
 use Rattle.sctp_model.specs.Chunk.{BlockMeaning, SackMeaning}
 use Rattle.sctp_model.specs.Plan.{Entry, Plan, entry_at, parts_from}
 use Rattle.sctp_model.specs.SenderView.{Queued, SenderView}
 use Rattle.sctp_model.specs.sender.Filling.{Wish, next_wish, gone, without_first_on}
-use Rattle.sctp_model.specs.sender.Queueing.{refusal, NoSuchStream, Empty, TooLong, QueueFull, Spent, LONGEST, QUEUE_LIMIT, TICKETS, TSNS, cut, cut_at_most, owed_for, promised}
+use Rattle.sctp_model.specs.sender.Queueing.{refusal, NoSuchStream, Empty, TooLong, QueueFull, Spent, cut, cut_at_most, owed_for, promised}
 use Rattle.sctp_model.specs.sender.SackTaken.{is_stale, is_beyond, index_of, some_ends_past, in_blocks, sack_covers, sack_fault, sack_taken, shutdown_fault, shutdown_taken, Stale, Beyond}
 use Rattle.sctp_model.specs.sender.Abandoning.{Name, AbandonAnswer, Withdrawn, Abandoned, Acknowledged, Unknown, Reliable, is_abandoned, waits, without, name_of, given_up, give_up, answer_for, abandon_named, abandon_after, end_mark, timed_out, unsettled_at}
 use Rattle.sctp_model.specs.sender.Reached.{IsReached, Begins, Queues, Goes, Covers, Closes, Abandons, Repeats}
@@ -137,19 +138,19 @@ filled_abandoned v t h = by_test (waits t v.queue)
 pub record IsAccepted (v : SenderView) (stream : ℕ) (bytes : List ℕ) : Type 0 where
   pub there : stream < v.streams
   pub some : 0 < length bytes
-  pub short : length bytes ≤ LONGEST
+  pub short : length bytes ≤ LONGEST_MESSAGE
   pub waits : length v.queue < QUEUE_LIMIT
-  pub ticket : v.tickets < TICKETS
-  pub owed : promised v + owed_for (length (cut v.fragment bytes)) ≤ TSNS
+  pub ticket : v.tickets < TICKET_LIMIT
+  pub owed : promised v + owed_for (length (cut v.fragment bytes)) ≤ TSN_LIMIT
 
 pub accepted : (v : SenderView) (stream : ℕ) (bytes : List ℕ) → refusal v stream bytes ≡ None → IsAccepted v stream bytes
 accepted v stream bytes none = by_stream (nat_le v.streams stream) refl
   where
-    by_spent : (b : Bool) → nat_le v.streams stream ≡ false → (length bytes == 0) ≡ false → nat_lt LONGEST (length bytes) ≡ false → nat_le QUEUE_LIMIT (length v.queue) ≡ false
-        → (nat_le TICKETS v.tickets || nat_lt TSNS (promised v + owed_for (length (cut v.fragment bytes)))) ≡ b → IsAccepted v stream bytes
+    by_spent : (b : Bool) → nat_le v.streams stream ≡ false → (length bytes == 0) ≡ false → nat_lt LONGEST_MESSAGE (length bytes) ≡ false → nat_le QUEUE_LIMIT (length v.queue) ≡ false
+        → (nat_le TICKET_LIMIT v.tickets || nat_lt TSN_LIMIT (promised v + owed_for (length (cut v.fragment bytes)))) ≡ b → IsAccepted v stream bytes
     by_spent true a d e g spent = let some : Some Spent ≡ None = rw (a, d, e, g, spent) at none in absurd (cc)
     by_spent false a d e g spent =
-        let parts = off_parts (nat_le TICKETS v.tickets) (nat_lt TSNS (promised v + owed_for (length (cut v.fragment bytes)))) spent in
+        let parts = off_parts (nat_le TICKET_LIMIT v.tickets) (nat_lt TSN_LIMIT (promised v + owed_for (length (cut v.fragment bytes)))) spent in
         let ticket = parts.0 in
         let owed = parts.1 in
         record {
@@ -165,17 +166,17 @@ accepted v stream bytes none = by_stream (nat_le v.streams stream) refl
         off_parts true y off = absurd (cc)
         off_parts false y off = (refl, off)
 
-    by_full : (b : Bool) → nat_le v.streams stream ≡ false → (length bytes == 0) ≡ false → nat_lt LONGEST (length bytes) ≡ false → nat_le QUEUE_LIMIT (length v.queue) ≡ b → IsAccepted v stream bytes
+    by_full : (b : Bool) → nat_le v.streams stream ≡ false → (length bytes == 0) ≡ false → nat_lt LONGEST_MESSAGE (length bytes) ≡ false → nat_le QUEUE_LIMIT (length v.queue) ≡ b → IsAccepted v stream bytes
     by_full true a d e full = let some : Some QueueFull ≡ None = rw (a, d, e, full) at none in absurd (cc)
-    by_full false a d e full = by_spent (nat_le TICKETS v.tickets || nat_lt TSNS (promised v + owed_for (length (cut v.fragment bytes)))) a d e full refl
+    by_full false a d e full = by_spent (nat_le TICKET_LIMIT v.tickets || nat_lt TSN_LIMIT (promised v + owed_for (length (cut v.fragment bytes)))) a d e full refl
 
-    by_long : (b : Bool) → nat_le v.streams stream ≡ false → (length bytes == 0) ≡ false → nat_lt LONGEST (length bytes) ≡ b → IsAccepted v stream bytes
+    by_long : (b : Bool) → nat_le v.streams stream ≡ false → (length bytes == 0) ≡ false → nat_lt LONGEST_MESSAGE (length bytes) ≡ b → IsAccepted v stream bytes
     by_long true a d long = let some : Some TooLong ≡ None = rw (a, d, long) at none in absurd (cc)
     by_long false a d long = by_full (nat_le QUEUE_LIMIT (length v.queue)) a d long refl
 
     by_empty : (b : Bool) → nat_le v.streams stream ≡ false → (length bytes == 0) ≡ b → IsAccepted v stream bytes
     by_empty true a empty = let some : Some Empty ≡ None = rw (a, empty) at none in absurd (cc)
-    by_empty false a empty = by_long (nat_lt LONGEST (length bytes)) a empty refl
+    by_empty false a empty = by_long (nat_lt LONGEST_MESSAGE (length bytes)) a empty refl
 
     by_stream : (b : Bool) → nat_le v.streams stream ≡ b → IsAccepted v stream bytes
     by_stream true out = let some : Some NoSuchStream ≡ None = rw out at none in absurd (cc)

@@ -3,12 +3,13 @@ use Rattle.std.proofs.Common.{◌≡◌, ℕ, zero, suc, ◌+◌, ◌-◌, ◌<�
 use Rattle.std.specs.Prelude.{◌==◌, nat_lt, nat_le, if◌then◌else◌}
 use Rattle.std.proofs.lemmas.Bool.{and_parts}
 use Rattle.std.proofs.lemmas.Bool.Decides.{nat_tests}
+use Rattle.sctp_model.specs.Limits.{TSN_LIMIT, WINDOW}
 use Rattle.sctp_model.specs.Format.{Format, Lane}
 use Rattle.sctp_model.specs.Plan.{Message, Entry, Part, End, Plan, message_at, parts_from}
 use Rattle.sctp_model.specs.SenderView.{Queued, SenderView}
 use Rattle.sctp_model.specs.sender.Entries.{fragments_in, is_of, is_entry_of, is_in_part, latest, follower, continued, fragments_from, one_if_some, sum_below, in_part, entry_lane}
-use Rattle.sctp_model.specs.sender.Queueing.{owed_for, owed_by_queue, owed_by_parts, promised, TSNS, cut}
-use Rattle.sctp_model.specs.sender.Filling.{meets_flow, meets_window, room_of, with_entry, first_on, without_first_on, WINDOW}
+use Rattle.sctp_model.specs.sender.Queueing.{owed_for, owed_by_queue, owed_by_parts, promised, cut}
+use Rattle.sctp_model.specs.sender.Filling.{meets_flow, meets_window, room_of, with_entry, first_on, without_first_on}
 use Rattle.sctp_model.specs.sender.Abandoning.{Name, without, given_up}
 use Rattle.sctp_model.specs.sender.Reached.{IsReached, Begins, Queues, Goes, Covers, Closes, Abandons, Repeats}
 use Rattle.sctp_model.proofs.sender.WishCases.{IsAssigned, Whole, Begun, Continued}
@@ -166,7 +167,7 @@ first_stream s q (x ∷ qs) is = by_test (x.lane.stream == s) refl (λ there. fi
     by_test false on further = further (rw on at is)
 
 abbrev pub IsPromised : SenderView → Type 0
-IsPromised v = promised v ≤ TSNS
+IsPromised v = promised v ≤ TSN_LIMIT
 
 -- what is owed at a stream
 abbrev owed_at : Plan → ℕ → ℕ
@@ -231,7 +232,7 @@ promised_given v n h lt k = by_test (is_in_part v n.lane n.number) refl
     of_plan (Some (Part l m x)) = refl
 
     by_test : (b : Bool) → is_in_part v n.lane n.number ≡ b
-        → length (v.plan.entries ++ (if b then End n.lane n.number ∷ [] else [])) + (owed_by_queue v.queue + sum_below (λ s. owed_at (record v.plan { entries = v.plan.entries ++ (if b then End n.lane n.number ∷ [] else []) }) s) v.streams) ≤ TSNS
+        → length (v.plan.entries ++ (if b then End n.lane n.number ∷ [] else [])) + (owed_by_queue v.queue + sum_below (λ s. owed_at (record v.plan { entries = v.plan.entries ++ (if b then End n.lane n.number ∷ [] else []) }) s) v.streams) ≤ TSN_LIMIT
     by_test true is = let less = fewer_owed v n h lt is in omega (arith, length-append v.plan.entries (End n.lane n.number ∷ []), less, k)
     by_test false is =
         let same = sum-same (λ s. owed_at (record v.plan { entries = v.plan.entries ++ [] }) s) (λ s. owed_at v.plan s) v.streams

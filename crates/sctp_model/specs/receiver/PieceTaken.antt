@@ -1,5 +1,6 @@
 -- What a receiver does with a data chunk (RFC 9260, 6.2 and 6.6; RFC 3758, 3.6; RFC 8260, 2.2).
 use Rattle.std.specs.Prelude.{◌≡◌, ℕ, ◌+◌, Bool, true, false, ◌||◌, ◌&&◌, nat_lt, nat_le, ◌==◌, List, [], ◌∷◌, ◌++◌, length, take, Option, Some, None, if◌then◌else◌}
+use Rattle.sctp_model.specs.Limits.{DUPLICATE_LIMIT}
 use Rattle.sctp_model.specs.Chunk.{PieceMeaning}
 use Rattle.sctp_model.specs.Format.{Format, Plain, Interleaved, Kind, Ordered, Unordered, Lane, same_lane}
 use Rattle.sctp_model.specs.Pieces.{Piece, same_number, fragment_of}
@@ -53,13 +54,9 @@ answer_to f r c p =
 
 -- ---- what each answer leaves
 
--- the first 16 TSNs that came again are noted for the next SACK
-abbrev pub DUPLICATES : ℕ
-DUPLICATES = 16
-
 -- the TSN came again, and is noted among the first few
 abbrev pub noted : ReceiverView → ℕ → ReceiverView
-noted r wire = record r { duplicates = take DUPLICATES (r.duplicates ++ wire ∷ []) }
+noted r wire = record r { duplicates = take DUPLICATE_LIMIT (r.duplicates ++ wire ∷ []) }
 
 -- Of a chunk that isn't wanted the index alone is recorded. One that is wanted is kept, and what is then due is handed over at once.
 abbrev pub Leaves : Format → ReceiverView → Piece → ℕ → Answer → ReceiverView → Type 0

@@ -1,6 +1,7 @@
 -- How a receiver reads the numbers of a chunk: TSNs from its cumulative index on, SSNs and MIDs near a count that it knows
 -- (RFC 9260, 2.6; RFC 8260, 2.1).
 use Rattle.std.specs.Prelude.{ℕ, ◌+◌, ◌-◌, nat_lt, nat_le, Bool, ◌||◌, ◌==◌, Option}
+use Rattle.sctp_model.specs.Limits.{WINDOW}
 use Rattle.sctp_model.specs.Serial.{COUNTS, tsn, ahead, half_space}
 use Rattle.sctp_model.specs.Chunk.{PieceMeaning}
 use Rattle.sctp_model.specs.Format.{Format, Kind, Ordered, Unordered, Lane, unordered_lane}
@@ -9,10 +10,6 @@ use Rattle.sctp_model.specs.Pieces.{Piece}
 use Rattle.sctp_model.specs.ReceiverView.{ReceiverView}
 
 -- ---- TSNs
-
--- how far an index may lie above the cumulative one
-abbrev pub WINDOW : ℕ
-WINDOW = 32767
 
 -- how far a TSN lies ahead of that of the cumulative index c
 abbrev pub offset : ReceiverView → ℕ → ℕ → ℕ

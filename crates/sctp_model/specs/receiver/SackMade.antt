@@ -1,15 +1,12 @@
 -- The SACK of a receiver (RFC 9260, 3.3.4 and 6.2.1), and what the calls of its user and of whoever sends SACKs leave.
 use Rattle.std.specs.Prelude.{◌≡◌, ℕ, suc, ◌+◌, ◌-◌, ◌<◌, ◌≤◌, ◌⊎◌, true, List, [], ◌∷◌, ◌++◌, length, Option, Some, None}
+use Rattle.sctp_model.specs.Limits.{BLOCK_LIMIT}
 use Rattle.sctp_model.specs.Lists.{Has, at}
 use Rattle.sctp_model.specs.Serial.{tsn}
 use Rattle.sctp_model.specs.Chunk.{BlockMeaning, SackMeaning}
 use Rattle.sctp_model.specs.ReceiverView.{Handed, ReceiverView, IsCumulative, held_bytes}
 
 -- ---- gap blocks
-
--- how many a SACK has at most
-abbrev pub BLOCKS : ℕ
-BLOCKS = 64
 
 -- A maximal run of recorded indexes above c, as offsets from it. The index after c isn't recorded.
 pub record IsRun (r : ReceiverView) (c : ℕ) (b : BlockMeaning) : Type 0 where
@@ -26,10 +23,10 @@ AreBlocksRising (b ∷ bs) = ((a : BlockMeaning) → Has bs a → b.end < a.star
 
 -- The lowest runs above c, as many as a SACK has room for.
 pub record AreLowestRuns (r : ReceiverView) (c : ℕ) (bs : List BlockMeaning) : Type 0 where
-  pub few : length bs ≤ BLOCKS
+  pub few : length bs ≤ BLOCK_LIMIT
   pub runs : (b : BlockMeaning) → Has bs b → IsRun r c b
   pub rising : AreBlocksRising bs
-  pub lowest : (b : BlockMeaning) → IsRun r c b → Has bs b ⊎ ((length bs ≡ BLOCKS) × ((a : BlockMeaning) → Has bs a → a.end < b.start))
+  pub lowest : (b : BlockMeaning) → IsRun r c b → Has bs b ⊎ ((length bs ≡ BLOCK_LIMIT) × ((a : BlockMeaning) → Has bs a → a.end < b.start))
 
 -- The SACK of a view.
 pub record IsSack (r : ReceiverView) (s : SackMeaning) : Type 0 where

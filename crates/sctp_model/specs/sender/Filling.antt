@@ -1,5 +1,6 @@
 -- What goes into a packet: the next wish, and FILL (RFC 9260, 6.1 and 6.3.3; RFC 8260, 2.2).
 use Rattle.std.specs.Prelude.{◌≡◌, ℕ, zero, suc, ◌+◌, ◌-◌, ◌%◌, ◌==◌, ◌≤◌, nat_le, if◌then◌else◌, Bool, true, false, ◌&&◌, ◌||◌, List, [], ◌∷◌, ◌++◌, length, Option, None, Some}
+use Rattle.sctp_model.specs.Limits.{WINDOW}
 use Rattle.sctp_model.specs.Lists.{at}
 use Rattle.sctp_model.specs.Format.{Format, Plain, Interleaved, at_lane, ordered_lane}
 use Rattle.sctp_model.specs.Chunk.{padded}
@@ -9,10 +10,6 @@ use Rattle.sctp_model.specs.Framing.{header_of}
 use Rattle.sctp_model.specs.sender.Entries.{entry_message, entry_bytes, lowest, is_unsent, in_flight, continued, in_part}
 
 -- ---- assigning: a message takes its number with its first index
-
--- the most indexes above CUM, and messages in part, at once
-abbrev pub WINDOW : ℕ
-WINDOW = 32767
 
 -- the message takes its number, and its first `count` fragments their indexes
 abbrev pub numbered : SenderView → Queued → ℕ → SenderView

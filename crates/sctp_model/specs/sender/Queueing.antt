@@ -1,5 +1,6 @@
 -- A message handed in: refused for the first reason that holds, or cut into fragments and queued (RFC 9260, 6.9).
 use Rattle.std.specs.Prelude.{ℕ, zero, suc, ◌+◌, ◌-◌, ◌^◌, ◌==◌, nat_lt, nat_le, if◌then◌else◌, ◌||◌, List, [], ◌∷◌, ◌++◌, length, take, drop, Option, None, Some}
+use Rattle.sctp_model.specs.Limits.{LONGEST_MESSAGE, QUEUE_LIMIT, TICKET_LIMIT, TSN_LIMIT}
 use Rattle.sctp_model.specs.Format.{Lane}
 use Rattle.sctp_model.specs.Plan.{Message}
 use Rattle.sctp_model.specs.SenderView.{Queued, SenderView}
@@ -8,22 +9,6 @@ use Rattle.sctp_model.specs.sender.Entries.{sum_below, continued, fragments_from
 -- why a message is refused
 pub data Refusal : Type 0 where
   NoSuchStream Empty TooLong QueueFull Spent : Refusal
-
--- the most bytes of a message
-abbrev pub LONGEST : ℕ
-LONGEST = 65536
-
--- the most messages that wait for a number at once
-abbrev pub QUEUE_LIMIT : ℕ
-QUEUE_LIMIT = 1024
-
--- the most tickets that are given
-abbrev pub TICKETS : ℕ
-TICKETS = 2 ^ 32 - 1
-
--- the most TSNs that are assigned and owed
-abbrev pub TSNS : ℕ
-TSNS = 2 ^ 31 - 1
 
 -- fragments of the full size, and the last with what is left; `most` bounds their number
 abbrev pub cut_at_most : ℕ → ℕ → List ℕ → List (List ℕ)
@@ -57,9 +42,9 @@ abbrev pub refusal : SenderView → ℕ → List ℕ → Option Refusal
 refusal v stream bytes =
     if nat_le v.streams stream then Some NoSuchStream
     else if length bytes == 0 then Some Empty
-    else if nat_lt LONGEST (length bytes) then Some TooLong
+    else if nat_lt LONGEST_MESSAGE (length bytes) then Some TooLong
     else if nat_le QUEUE_LIMIT (length v.queue) then Some QueueFull
-    else if nat_le TICKETS v.tickets || nat_lt TSNS (promised v + owed_for (length (cut v.fragment bytes))) then Some Spent
+    else if nat_le TICKET_LIMIT v.tickets || nat_lt TSN_LIMIT (promised v + owed_for (length (cut v.fragment bytes))) then Some Spent
     else None
 
 -- the message of the next ticket, cut into fragments

@@ -1,10 +1,11 @@
 -- A view has one SACK: there is one cumulative index, and one list of the lowest runs above it.
 use Rattle.std.proofs.Common.{◌≡◌, ℕ, zero, suc, ◌<◌, ◌≤◌, ◌⊎◌, List, [], ◌∷◌, length, inl, inr, refl, ap, sym, subst, ◌∙◌, arith}
+use Rattle.sctp_model.specs.Limits.{BLOCK_LIMIT}
 use Rattle.sctp_model.specs.Lists.{Has}
 use Rattle.sctp_model.specs.Serial.{tsn}
 use Rattle.sctp_model.specs.Chunk.{BlockMeaning, SackMeaning}
 use Rattle.sctp_model.specs.ReceiverView.{ReceiverView}
-use Rattle.sctp_model.specs.receiver.SackMade.{BLOCKS, AreBlocksRising, AreLowestRuns, IsSack}
+use Rattle.sctp_model.specs.receiver.SackMade.{AreBlocksRising, AreLowestRuns, IsSack}
 use Rattle.sctp_model.proofs.receiver.OneStep.{cumulative_only}
 
 -- each of the first list is in the second, or past all of it where that is full
@@ -63,7 +64,7 @@ same_lists (b ∷ bs) (d ∷ ds) (suc n) (low, r) (high, s) p q l m i j =
 
 pub runs_only : (r : ReceiverView) (c : ℕ) (bs ds : List BlockMeaning) → AreLowestRuns r c bs → AreLowestRuns r c ds → bs ≡ ds
 runs_only r c bs ds p q =
-    same_lists bs ds BLOCKS p.rising q.rising (λ b h. (p.runs b h).some) (λ b h. (q.runs b h).some) p.few q.few
+    same_lists bs ds BLOCK_LIMIT p.rising q.rising (λ b h. (p.runs b h).some) (λ b h. (q.runs b h).some) p.few q.few
     (λ b h. q.lowest b (p.runs b h)) (λ b h. p.lowest b (q.runs b h))
 
 abbrev sack_with : ℕ → ℕ → List BlockMeaning → List ℕ → SackMeaning

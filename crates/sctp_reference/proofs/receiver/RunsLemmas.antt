@@ -1,10 +1,11 @@
 -- The blocks computed are the lowest maximal runs, as many as a SACK has room for.
 use Rattle.std.proofs.Common.{◌≡◌, ℕ, zero, suc, ◌+◌, ◌-◌, ◌<◌, ◌≤◌, ◌⊎◌, Bool, true, false, List, [], ◌∷◌, length, take, Option, None, Some, inl, inr, refl, ap, sym, subst, arith}
 use Rattle.std.proofs.lemmas.Bool.{cases_eq, cases_lt}
+use Rattle.sctp_model.specs.Limits.{BLOCK_LIMIT}
 use Rattle.sctp_model.specs.Lists.{Has}
 use Rattle.sctp_model.specs.Chunk.{BlockMeaning}
 use Rattle.sctp_model.specs.ReceiverView.{ReceiverView, IsCumulative}
-use Rattle.sctp_model.specs.receiver.SackMade.{BLOCKS, IsRun, AreBlocksRising, AreLowestRuns}
+use Rattle.sctp_model.specs.receiver.SackMade.{IsRun, AreBlocksRising, AreLowestRuns}
 use Rattle.sctp_reference.specs.receiver.Runs.{block, walked, runs_from, lowest_runs}
 use Rattle.sctp_reference.specs.receiver.Steps.{IsBound}
 
@@ -207,8 +208,8 @@ runs_are r c bound within cumulative =
     let knows : Knows r c bound within None 2 = (omega arith, λ i e h. let same : i ≡ suc c = omega arith in cumulative.open_end (inl (subst (λ (j : ℕ). r.seen j ≡ true) same h))) in
     let all = walk r c bound within bound None 2 knows (omega arith) in
     record {
-      few = few BLOCKS (runs_from r.seen c bound None 2);
-      runs = λ b h. all.runs b (taken_has BLOCKS (runs_from r.seen c bound None 2) b h);
-      rising = taken_rising BLOCKS (runs_from r.seen c bound None 2) all.rising;
-      lowest = λ b run. let above = run.above in taken_or_past BLOCKS (runs_from r.seen c bound None 2) b all.rising (all.all b run (omega arith));
+      few = few BLOCK_LIMIT (runs_from r.seen c bound None 2);
+      runs = λ b h. all.runs b (taken_has BLOCK_LIMIT (runs_from r.seen c bound None 2) b h);
+      rising = taken_rising BLOCK_LIMIT (runs_from r.seen c bound None 2) all.rising;
+      lowest = λ b run. let above = run.above in taken_or_past BLOCK_LIMIT (runs_from r.seen c bound None 2) b all.rising (all.all b run (omega arith));
     }

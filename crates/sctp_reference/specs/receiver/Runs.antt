@@ -1,8 +1,8 @@
 -- The maximal runs of recorded indexes above the cumulative one, computed by a walk over the indexes.
 use Rattle.std.specs.Prelude.{ℕ, zero, suc, ◌+◌, ◌-◌, Bool, true, false, List, [], ◌∷◌, take, Option, Some, None}
+use Rattle.sctp_model.specs.Limits.{BLOCK_LIMIT}
 use Rattle.sctp_model.specs.Chunk.{BlockMeaning}
 use Rattle.sctp_model.specs.ReceiverView.{ReceiverView}
-use Rattle.sctp_model.specs.receiver.SackMade.{BLOCKS}
 
 -- a run from one offset on, up to the one before another
 abbrev pub block : ℕ → ℕ → BlockMeaning
@@ -27,4 +27,4 @@ runs_from seen c (suc depth) begun k = walked (seen (c + k)) begun k (runs_from 
 
 -- the lowest runs above c, as many as a SACK has room for, where no index above the bound was recorded
 abbrev pub lowest_runs : ReceiverView → (c bound : ℕ) → List BlockMeaning
-lowest_runs r c bound = take BLOCKS (runs_from r.seen c bound None 2)
+lowest_runs r c bound = take BLOCK_LIMIT (runs_from r.seen c bound None 2)
