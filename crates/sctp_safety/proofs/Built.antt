@@ -4,7 +4,8 @@ use Rattle.std.proofs.lemmas.Bool.{or_cases, and_parts}
 use Rattle.sctp_model.specs.Lists.{Has}
 use Rattle.sctp_model.specs.Forward.{StandsIn}
 use Rattle.sctp_model.specs.ReceiverView.{ReceiverView, IsReached, IsCumulative}
-use Rattle.sctp_model.specs.Acknowledgement.{Block, in_blocks, covers}
+use Rattle.sctp_model.specs.Chunk.{BlockMeaning}
+use Rattle.sctp_model.specs.Acknowledgement.{in_blocks, covers}
 use Rattle.sctp_safety.specs.Way.{Drop_piece}
 use Rattle.sctp_safety.specs.Exact.{ForwardIsAllowed, SackIsAllowed, ShutdownIsAllowed, PassingIsMoves}
 
@@ -17,12 +18,12 @@ forward_is_allowed w p q x point from to f = (
 )
 
 -- an index that blocks cover lies in one of them
-in_a_block : (c : ℕ) (bs : List Block) (i : ℕ) → in_blocks c bs i ≡ true → (b : Block) × Has bs b × (c + b.start ≤ i) × (i ≤ c + b.end)
+in_a_block : (c : ℕ) (bs : List BlockMeaning) (i : ℕ) → in_blocks c bs i ≡ true → (b : BlockMeaning) × Has bs b × (c + b.start ≤ i) × (i ≤ c + b.end)
 in_a_block c [] i h = absurd (cc)
 in_a_block c (b ∷ bs) i h = go (λ k. in_a_block c bs i k) (or_cases (nat_le (c + b.start) i && nat_le i (c + b.end)) (in_blocks c bs i) h)
   where
-    Found : List Block → Type 0
-    Found xs = (d : Block) × Has xs d × (c + d.start ≤ i) × (i ≤ c + d.end)
+    Found : List BlockMeaning → Type 0
+    Found xs = (d : BlockMeaning) × Has xs d × (c + d.start ≤ i) × (i ≤ c + d.end)
 
     go : (in_blocks c bs i ≡ true → Found bs) → ((nat_le (c + b.start) i && nat_le i (c + b.end)) ≡ true) ⊎ (in_blocks c bs i ≡ true) → Found (b ∷ bs)
     go more (inl k) =

@@ -7,11 +7,10 @@ use Rattle.sctp_model.specs.Lists.{Has}
 use Rattle.sctp_model.specs.Serial.{tsn, ahead, before}
 use Rattle.sctp_model.specs.Chunk.{BlockMeaning}
 use Rattle.sctp_model.specs.SenderView.{SenderView}
-use Rattle.sctp_model.specs.Acknowledgement.{Block, Acknowledgement, covers, in_blocks}
+use Rattle.sctp_model.specs.Acknowledgement.{Acknowledgement, covers}
 use Rattle.sctp_model.specs.sender.SackTaken.{SackFault, Stale, Beyond, BadBlock, is_stale, index_of, is_beyond, some_is_bad, sack_covers, covered_by}
-use Rattle.sctp_model.specs.sender.SackTaken.{in_blocks as in_meanings}
 use Rattle.sctp_safety.specs.Way.{Way, Sack_comes, Shutdown_comes, with_sender}
-use Rattle.sctp_safety.specs.SenderLaws.{blocks_meant, IsUsual, IsMoved, SackIsMoves, ShutdownIsMoves}
+use Rattle.sctp_safety.specs.SenderLaws.{IsUsual, IsMoved, SackIsMoves, ShutdownIsMoves}
 use Rattle.sctp_safety.proofs.Taken.{leads_on, leads_by}
 use Rattle.sctp_safety.proofs.UsualLemmas.{retuned, order_fewer}
 
@@ -35,15 +34,8 @@ read_at v i wire is low high fresh =
 
 -- ---- what is covered
 
-same_blocks : (c : ℕ) (bs : List Block) (i : ℕ) → in_blocks c bs i ≡ in_meanings c (blocks_meant bs) i
-same_blocks c [] i = refl
-same_blocks c (b ∷ bs) i = ap (λ (x : Bool). (nat_le (c + b.start) i && nat_le i (c + b.end)) || x) (same_blocks c bs i)
-
-same_covers : (a : Acknowledgement) → covers a ≡ sack_covers a.cum (blocks_meant a.blocks)
-same_covers a = λ t i. same i t
-  where
-    same : (i : ℕ) → covers a i ≡ sack_covers a.cum (blocks_meant a.blocks) i
-    same i = ap (λ (x : Bool). nat_le i a.cum || x) (same_blocks a.cum a.blocks i)
+same_covers : (a : Acknowledgement) → covers a ≡ sack_covers a.cum a.blocks
+same_covers a = refl
 
 -- ---- the moves
 

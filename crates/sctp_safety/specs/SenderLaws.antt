@@ -2,12 +2,12 @@
 use Rattle.std.specs.Prelude.{◌≡◌, ℕ, ◌^◌, ◌<◌, ◌≤◌, true, List, [], ◌∷◌, ◌++◌, length, None, Some}
 use Rattle.sctp_model.specs.Lists.{Has, at}
 use Rattle.sctp_model.specs.Serial.{tsn}
-use Rattle.sctp_model.specs.Chunk.{BlockMeaning, SackMeaning}
+use Rattle.sctp_model.specs.Chunk.{SackMeaning}
 use Rattle.sctp_model.specs.Format.{Format, Lane}
 use Rattle.sctp_model.specs.Plan.{Message, Part, End, Plan, entry_at, message_at}
 use Rattle.sctp_model.specs.Pieces.{Piece, piece_of}
 use Rattle.sctp_model.specs.SenderView.{SenderView}
-use Rattle.sctp_model.specs.Acknowledgement.{Block, Acknowledgement}
+use Rattle.sctp_model.specs.Acknowledgement.{Acknowledgement}
 use Rattle.sctp_model.specs.Calls.{Call}
 use Rattle.sctp_model.specs.sender.Queueing.{refusal, queued}
 use Rattle.sctp_model.specs.sender.Filling.{Wish, IsFill}
@@ -93,14 +93,10 @@ TimeoutIsMoves = (w : Way) → IsUsual w → IsMoved w (with_sender w (timed_out
 
 -- ---- what acknowledges
 
-abbrev pub blocks_meant : List Block → List BlockMeaning
-blocks_meant [] = []
-blocks_meant (b ∷ bs) = record { start = b.start; end = b.end } ∷ blocks_meant bs
-
 -- The SACK on the wire is this one: its TSN and its blocks.
 pub record IsSackOf (initial : ℕ) (a : Acknowledgement) (s : SackMeaning) : Type 0 where
   pub cumulative : s.cumulative ≡ tsn initial a.cum
-  pub blocks : s.blocks ≡ blocks_meant a.blocks
+  pub blocks : s.blocks ≡ a.blocks
 
 -- A SACK of the bag that is taken is moves, as long as counts lie less than half the space apart.
 abbrev pub SackIsMoves : Type 0

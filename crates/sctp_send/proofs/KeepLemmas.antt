@@ -9,7 +9,8 @@ use Rattle.sctp_model.specs.Plan.{Entry, entry_at}
 use Rattle.sctp_model.specs.Serial.{tsn, ahead, before}
 use Rattle.sctp_model.specs.SenderView.{SenderView, fresh_sender}
 use Rattle.sctp_model.specs.sender.Entries.{is_unsettled, in_part}
-use Rattle.sctp_model.specs.sender.SackTaken.{Stale, Beyond, BadBlock, is_stale, index_of, some_ends_past, some_is_bad, sack_fault, in_blocks, sack_covers, covered_by, sack_taken, sack_after, shutdown_fault, shutdown_taken, shutdown_after}
+use Rattle.sctp_model.specs.Acknowledgement.{in_blocks}
+use Rattle.sctp_model.specs.sender.SackTaken.{Stale, Beyond, BadBlock, is_stale, index_of, some_ends_past, some_is_bad, sack_fault, sack_covers, covered_by, sack_taken, sack_after, shutdown_fault, shutdown_taken, shutdown_after}
 use Rattle.sctp_model.specs.sender.Abandoning.{timed_out, unsettled_at}
 use Rattle.sctp_model.specs.sender.Reached.{IsReached, Begins, Covers, Closes, Repeats}
 use Rattle.sctp_model.proofs.sender.Bounds.{IsBounded, is_bounded, IsInside, sack_inside, shutdown_inside}

@@ -2,7 +2,8 @@
 
 ghost use Rattle.std.specs.Prelude.{◌≡◌, ℕ, Bool, false, ◌<◌, ◌≤◌, List, length, drop};
 ghost use Rattle.std.specs.VecDeque.{deque_capacity};
-ghost use Rattle.sctp_model.specs.sender.SackTaken.{in_blocks, some_is_bad, some_ends_past};
+ghost use Rattle.sctp_model.specs.Acknowledgement.{in_blocks};
+ghost use Rattle.sctp_model.specs.sender.SackTaken.{some_is_bad, some_ends_past};
 ghost use Rattle.sctp_send.specs.OutstandingFields.{painted, painted_first, timed, all_timed};
 
 use crate::message::Message;

@@ -10,7 +10,8 @@ use Rattle.sctp_model.specs.Plan.{Entry, Plan, entry_at, parts_from}
 use Rattle.sctp_model.specs.SenderView.{Queued, SenderView}
 use Rattle.sctp_model.specs.sender.Filling.{Wish, next_wish, gone, without_first_on}
 use Rattle.sctp_model.specs.sender.Queueing.{refusal, NoSuchStream, Empty, TooLong, QueueFull, Spent, cut, cut_at_most, owed_for, promised}
-use Rattle.sctp_model.specs.sender.SackTaken.{is_stale, is_beyond, index_of, some_ends_past, in_blocks, sack_covers, sack_fault, sack_taken, shutdown_fault, shutdown_taken, Stale, Beyond}
+use Rattle.sctp_model.specs.Acknowledgement.{in_blocks}
+use Rattle.sctp_model.specs.sender.SackTaken.{is_stale, is_beyond, index_of, some_ends_past, sack_covers, sack_fault, sack_taken, shutdown_fault, shutdown_taken, Stale, Beyond}
 use Rattle.sctp_model.specs.sender.Abandoning.{Name, AbandonAnswer, Withdrawn, Abandoned, Acknowledged, Unknown, Reliable, is_abandoned, waits, without, name_of, given_up, give_up, answer_for, abandon_named, abandon_after, end_mark, timed_out, unsettled_at}
 use Rattle.sctp_model.specs.sender.Reached.{IsReached, Begins, Queues, Goes, Covers, Closes, Abandons, Repeats}
 use Rattle.sctp_model.proofs.sender.WishCases.{IsAssigned, Whole, Begun, Continued, assigned_cases, wish_cases}

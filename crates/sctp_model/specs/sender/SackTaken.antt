@@ -3,6 +3,7 @@ use Rattle.std.specs.Prelude.{ℕ, ◌+◌, nat_lt, nat_le, if◌then◌else◌,
 use Rattle.sctp_model.specs.Chunk.{BlockMeaning, SackMeaning}
 use Rattle.sctp_model.specs.Serial.{tsn, ahead, before}
 use Rattle.sctp_model.specs.SenderView.{SenderView}
+use Rattle.sctp_model.specs.Acknowledgement.{in_blocks}
 
 -- why a SACK or a SHUTDOWN is not taken
 pub data SackFault : Type 0 where
@@ -41,11 +42,6 @@ sack_fault v x =
     else if is_beyond v (index_of v x.cumulative) x.blocks then Some Beyond
     else if some_is_bad 0 x.blocks then Some BadBlock
     else None
-
--- the index lies in a block, counted from index c
-abbrev pub in_blocks : ℕ → List BlockMeaning → ℕ → Bool
-in_blocks c [] i = false
-in_blocks c (b ∷ bs) i = (nat_le (c + b.start) i && nat_le i (c + b.end)) || in_blocks c bs i
 
 -- what a SACK covers: all up to its cumulative index, and what lies in a block
 abbrev pub sack_covers : ℕ → List BlockMeaning → ℕ → Bool

@@ -1,7 +1,8 @@
 use Rattle.std.proofs.Common.{◌≡◌, ◌∷◌, false, arith, ◌∙◌, ap, List, length}
 use Rattle.sctp_model.specs.Chunk.{BlockMeaning}
 use Rattle.sctp_wire.specs.ChunkTree.{block_meaning}
-use Rattle.sctp_model.specs.sender.SackTaken.{in_blocks, some_is_bad, some_ends_past}
+use Rattle.sctp_model.specs.Acknowledgement.{in_blocks}
+use Rattle.sctp_model.specs.sender.SackTaken.{some_is_bad, some_ends_past}
 use Rattle.sctp_send.proofs.SackLemmas.{good_first, ends_first, in_first, before_first, past_first}
 use Rattle.sctp_send.proofs.outstanding.cover.Goals as goal
 

@@ -1,5 +1,6 @@
 use Rattle.std.proofs.Common.{◌≡◌, ℕ, ◌<◌, ◌≤◌, false, length, deque_capacity}
-use Rattle.sctp_model.specs.sender.SackTaken.{in_blocks, some_is_bad, some_ends_past}
+use Rattle.sctp_model.specs.Acknowledgement.{in_blocks}
+use Rattle.sctp_model.specs.sender.SackTaken.{some_is_bad, some_ends_past}
 use Rattle.sctp_send.specs.OutstandingFields.{painted_first}
 use Rattle.sctp_send.proofs.outstanding.cover.Given as goal
 

@@ -1,7 +1,8 @@
 use Rattle.std.proofs.Common.{◌≡◌, ◌-◌, ◌∙◌, length, map, drop, subst, sym, refl, arith, length-drop}
 use Rattle.std.proofs.lemmas.List.{length-map, drop-map}
 use Rattle.sctp_wire.specs.ChunkTree.{sack_meaning}
-use Rattle.sctp_model.specs.sender.SackTaken.{Stale, Beyond, BadBlock, in_blocks}
+use Rattle.sctp_model.specs.Acknowledgement.{in_blocks}
+use Rattle.sctp_model.specs.sender.SackTaken.{Stale, Beyond, BadBlock}
 use Rattle.sctp_send.specs.OutstandingFields.{item_said}
 use Rattle.sctp_send.specs.SenderKept.{Kept}
 use Rattle.sctp_send.specs.SenderStands.{StandsFor, Keeps}
