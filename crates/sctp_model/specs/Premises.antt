@@ -1,79 +1,83 @@
--- What the theorem asks of chance and of strangers, and what it promises of every world.
-use Rattle.std.specs.Prelude.{◌≡◌, ℕ, ◌⊎◌, true, List, [], ◌∷◌, ◌++◌, Option, None, Some}
-use Rattle.sctp_model.specs.Lists.{Has}
+-- What is asked of chance and of strangers, and what is promised of every world.
+use Rattle.std.specs.Prelude.{◌≡◌, ℕ, ◌⊎◌, true, List, [], ◌∷◌, map, Option, None, Some}
+use Rattle.sctp_model.specs.Lists.{Has, joined}
 use Rattle.sctp_model.specs.Chunk.{ChunkMeaning, Init, CookieEcho}
 use Rattle.sctp_model.specs.Packet.{Packet}
-use Rattle.sctp_model.specs.Plan.{Entry, entry_at, IsOf}
+use Rattle.sctp_model.specs.Plan.{Entry, Plan, entry_at, IsOf}
 use Rattle.sctp_model.specs.Format.{Lane}
 use Rattle.sctp_model.specs.Calls.{Asked}
 use Rattle.sctp_model.specs.SenderView.{SenderView}
 use Rattle.sctp_model.specs.ReceiverView.{ReceiverView}
 use Rattle.sctp_model.specs.Safe.{Safe, WasHanded}
 use Rattle.sctp_model.specs.end.Sealing.{Body, Sealing}
-use Rattle.sctp_model.specs.end.EndView.{format_of, Completed, Over}
+use Rattle.sctp_model.specs.end.EndView.{Draw, format_of, Completed, Over}
 use Rattle.sctp_model.specs.end.Configured.{IsConfiguration}
-use Rattle.sctp_model.specs.World.{Side, other, World, end_of, log_of, Event, OpenBoth, Drawing, Connect, Foreign, Outcome, Run, Setup, configuration_of, start}
+use Rattle.sctp_model.specs.World.{Side, A, B, other, World, end_of, log_of, Setup, configuration_of, FIRST_DRAW, start}
+use Rattle.sctp_model.specs.Events.{Event, OpenBoth, Drawing, Connect, Foreign, Outcome}
+use Rattle.sctp_model.specs.Steps.{Run}
 
--- ---- premises
+-- ---- chance: which tags are drawn (RFC 9260, 5.3.1)
 
--- the tags that an event draws
-abbrev pub drawn_by : Event → List ℕ
-drawn_by (OpenBoth x y) = x.tag ∷ y.tag ∷ []
-drawn_by (Drawing d) = d.tag ∷ []
-drawn_by (Connect d) = d.tag ∷ []
-drawn_by e = []
+-- the draws that an event hands in
+abbrev pub draws_of : Event → List Draw
+draws_of (OpenBoth x y) = x ∷ y ∷ []
+draws_of (Connect d) = d ∷ []
+draws_of (Drawing d) = d ∷ []
+draws_of e = []
 
--- those of a run, its later part too, and the tag of the draw that stands at the start
+-- The tags of a whole run, those that are drawn late too, and that of the draw which stands at its start.
 abbrev pub drawn_in : List Event → List ℕ
-drawn_in [] = 1 ∷ []
-drawn_in (e ∷ es) = drawn_by e ++ drawn_in es
+drawn_in es = map (λ (d : Draw). d.tag) (FIRST_DRAW ∷ joined (map draws_of es))
 
--- an INIT under a tag that was drawn
-abbrev pub IsDrawnInit : List ℕ → ChunkMeaning → Type 0
-IsDrawnInit tags (Init m) = Has tags m.tag
-IsDrawnInit tags x = ⊥
+-- ---- strangers
 
-abbrev pub IsOpened : Option Body → Type 0
-IsOpened None = ⊥
-IsOpened (Some b) = Unit {0}
+-- the listener reads a body under its own seal
+abbrev pub IsBody : Option Body → Type 0
+IsBody (Some b) = Unit {0}
+IsBody None = ⊥
 
--- a cookie whose MAC is right under the listener's key
-abbrev pub HasCookie : Sealing → ChunkMeaning → Type 0
-HasCookie s (CookieEcho cookie) = IsOpened (s.opened cookie)
-HasCookie s x = ⊥
+-- A chunk that only the two ends could have made: an INIT that asks for a tag of theirs, or a COOKIE ECHO of a cookie whose MAC is right.
+abbrev pub IsTheirs : Sealing → List ℕ → ChunkMeaning → Type 0
+IsTheirs s tags (Init m) = Has tags m.tag
+IsTheirs s tags (CookieEcho cookie) = IsBody (s.opened cookie)
+IsTheirs s tags x = ⊥
 
--- A stranger's packet. FRESH: it carries no tag that was drawn anywhere in the run, and no INIT that asks for one. UNFORGED: it holds no cookie that opens.
+-- A stranger's packet. It carries none of these tags, and no INIT in it asks for one (FRESH), nor does a cookie in it open (UNFORGED).
 pub record IsStranger (s : Sealing) (tags : List ℕ) (p : Packet) : Type 0 where
-  pub tag : Has tags p.tag → ⊥
-  pub init : (x : ChunkMeaning) → Has p.chunks x → IsDrawnInit tags x → ⊥
-  pub cookie : (x : ChunkMeaning) → Has p.chunks x → HasCookie s x → ⊥
+  pub untagged : Has tags p.tag → ⊥
+  pub chunks : (x : ChunkMeaning) → Has p.chunks x → IsTheirs s tags x → ⊥
 
--- Both premises, of the events of a run. (That no drawn tag is 0 is said by each step that draws.)
+-- FRESH and UNFORGED, of the events of a run: whoever else sends to either end is a stranger. (That no tag is 0 is in each step that draws.)
 abbrev pub Premises : Sealing → List Event → Type 0
-Premises s es = (to : Side) (p : Packet) → Has es (Foreign to (Some p)) → IsStranger s (drawn_in es) p
+Premises s es = (x : Side) (p : Packet) → Has es (Foreign x (Some p)) → IsStranger s (drawn_in es) p
 
--- ---- what is promised
+-- ---- SAFE
 
--- what the user of an end asked for, by the world's clock
+-- what an end's user asked for, as its log and the world's clock tell it
 abbrev pub asked_at : World → Side → Asked
 asked_at w s = record { calls = (log_of w s).calls; named = (log_of w s).named; clock = w.clock }
 
--- SAFE: in both directions the five promises, under the format that the sending end agreed on
+-- SAFE: the five promises in both directions, in the format that the sending end agreed on.
 abbrev pub IsSafeWorld : World → Type 0
 IsSafeWorld w = (s : Side) → Safe (format_of (end_of w s)) (end_of w s).sender (end_of w (other s)).receiver (asked_at w s)
 
--- each message with an entry was handed over at the peer, or abandoned
+-- ---- CLOSING
+
+-- the message has an index
+abbrev pub HasEntry : Plan → Lane → ℕ → Type 0
+HasEntry p l n = (i : ℕ) × (e : Entry) × (entry_at p i ≡ Some e) × IsOf l n e
+
+-- nothing is missing of what one end sent: every message with an index was abandoned, or was handed over across
 abbrev pub IsAllArrived : SenderView → ReceiverView → Type 0
-IsAllArrived a r = (i : ℕ) (e : Entry) (l : Lane) (n : ℕ) → entry_at a.plan i ≡ Some e → IsOf l n e →
-    WasHanded a.plan r l n ⊎ (a.abandoned l n ≡ true)
+IsAllArrived a r = (l : Lane) (n : ℕ) → HasEntry a.plan l n → (a.abandoned l n ≡ true) ⊎ WasHanded a.plan r l n
 
--- CLOSING: where an end is completed, nothing is missing in either direction.
+-- CLOSING: once either end has completed, nothing is missing either way (RFC 9260, 9.2).
 abbrev pub IsClosedWorld : World → Type 0
-IsClosedWorld w = (s t : Side) → (end_of w s).phase ≡ Over Completed → IsAllArrived (end_of w t).sender (end_of w (other t)).receiver
+IsClosedWorld w = (s : Side) → (end_of w s).phase ≡ Over Completed → IsAllArrived w.a.sender w.b.receiver × IsAllArrived w.b.sender w.a.receiver
 
--- ---- worlds of runs that meet the premises
+-- ---- the worlds that the theorems speak of
 
--- The world ends a run from the start, of these events, which meets the premises.
+-- These events lead from START to this world, the ends are set up within the limits, and FRESH and UNFORGED hold.
 pub record IsReachable (s : Setup) (events : List Event) (w : World) : Type 0 where
   pub configured : (x : Side) → IsConfiguration (configuration_of s x)
   pub answers : List (Option Outcome)

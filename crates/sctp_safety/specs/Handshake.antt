@@ -3,7 +3,8 @@ use Rattle.std.specs.Prelude.{◌≡◌, List}
 use Rattle.sctp_model.specs.Lists.{Has}
 use Rattle.sctp_model.specs.end.EndView.{format_of, Draw, Tags, Established, Open, Completed, Over}
 use Rattle.sctp_model.specs.Format.{Interleaved}
-use Rattle.sctp_model.specs.World.{World, Event, OpenBoth, Setup}
+use Rattle.sctp_model.specs.World.{World, Setup}
+use Rattle.sctp_model.specs.Events.{Event, OpenBoth}
 use Rattle.sctp_model.specs.Premises.{IsReachable}
 
 -- both are established, and agree on tags, first TSNs and the format

@@ -9,3 +9,4 @@ pub mod ReceiverLaws
 pub mod Strangers
 pub mod States
 pub mod Handshake
+pub mod Agreement

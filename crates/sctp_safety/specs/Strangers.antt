@@ -1,24 +1,26 @@
--- What a stranger can do: nothing. Whoever carries no tag that was drawn, and no cookie that opens, leaves an end as it was.
-use Rattle.std.specs.Prelude.{◌≡◌, ℕ, List}
-use Rattle.sctp_model.specs.Lists.{Has}
+-- What a stranger can do to an end: nothing (RFC 9260, 5.1.3, 8.4 and 8.5).
+use Rattle.std.specs.Prelude.{◌≡◌, ℕ, List, [], ◌∷◌}
+use Rattle.sctp_model.specs.Lists.{IsWithin}
 use Rattle.sctp_model.specs.Packet.{Packet}
 use Rattle.sctp_model.specs.Places.{ArePlaced}
 use Rattle.sctp_model.specs.end.Sealing.{Sealing}
-use Rattle.sctp_model.specs.end.EndView.{Draw, Phase, Idle, Listening, Calling, Echoing, Open, Over, Listener, EndView}
+use Rattle.sctp_model.specs.end.EndView.{Draw, Phase, Calling, Echoing, Open, Listener, EndView}
 use Rattle.sctp_model.specs.end.Strays.{Verdict}
 use Rattle.sctp_model.specs.end.Arriving.{Arrives}
 use Rattle.sctp_model.specs.Premises.{IsStranger}
 
--- every tag that a state has was drawn
-abbrev pub IsDrawn : List ℕ → Phase → Type 0
-IsDrawn tags Idle = Unit {0}
-IsDrawn tags Listening = Unit {0}
-IsDrawn tags (Calling d) = Has tags d.tag
-IsDrawn tags (Echoing t xs) = Has tags t.own × Has tags t.peer
-IsDrawn tags (Open t g) = Has tags t.own × Has tags t.peer
-IsDrawn tags (Over why) = Unit {0}
+-- the tags that an end goes by where it stands
+abbrev pub tags_of : Phase → List ℕ
+tags_of (Calling d) = d.tag ∷ []
+tags_of (Echoing t cookie) = t.own ∷ t.peer ∷ []
+tags_of (Open t stage) = t.own ∷ t.peer ∷ []
+tags_of h = []
 
--- A stranger's packet leaves the end as it was, whatever is answered.
+-- Each of them was drawn.
+abbrev pub IsDrawn : List ℕ → Phase → Type 0
+IsDrawn drawn h = IsWithin (tags_of h) drawn
+
+-- Whatever a stranger's packet holds, and however it is answered, the end that it comes to stays as it was.
 abbrev pub StrangersChangeNothing : Type 0
-StrangersChangeNothing = (s : Sealing) (tags : List ℕ) (e : EndView) (d : Draw) (p : Packet) (t : EndView) (v : Verdict) →
-    ArePlaced p.chunks → IsStranger s tags p → IsDrawn tags e.phase → ((z : Sealing) → e.role ≡ Listener z → z ≡ s) → Arrives e d p t v → t ≡ e
+StrangersChangeNothing = (s : Sealing) (drawn : List ℕ) (e : EndView) (d : Draw) (p : Packet) (t : EndView) (v : Verdict) →
+    IsStranger s drawn p → ArePlaced p.chunks → IsDrawn drawn e.phase → ((z : Sealing) → e.role ≡ Listener z → z ≡ s) → Arrives e d p t v → t ≡ e

@@ -11,7 +11,7 @@ use Rattle.sctp_model.specs.receiver.PieceTaken.{Answer, Duplicate, Ahead, NoSuc
 use Rattle.sctp_model.specs.receiver.ForwardTaken.{OutOfDate, Bad, Moved, ForwardTaken}
 use Rattle.sctp_model.specs.end.EndView.{format_of, Tags, Completed, Aborted, StaleCookie, Stage, Established, ShutdownPending, ShutdownSent, ShutdownReceived, ShutdownAckSent, Phase, Calling, Echoing, Open, DataAlarm, EndView}
 use Rattle.sctp_model.specs.end.Clock.{turned, closed, with_timer, settled, renewed}
-use Rattle.sctp_model.specs.end.Closing.{with_due, answers_shutdown, takes_data, takes_acknowledgements, is_shutdown_sent, hears}
+use Rattle.sctp_model.specs.end.Closing.{with_due, answers_shutdown, takes_data, takes_acknowledgements, awaits_ack, awaits_complete, is_shutdown_sent, hears}
 use Rattle.sctp_model.specs.end.Reports.{item, causes_with, with_causes, fits_alone, INVALID_STREAM, STALE_COOKIE, UNRECOGNIZED_CHUNK}
 use Rattle.sctp_model.specs.end.PeerFaults.{After, GoesOn, Ends, PassedOver, Replies, packet_to, at_fault, no_user_data, violation}
 use Rattle.sctp_model.specs.end.Opening.{InitAckActs, EchoActs, CookieAckActs}
@@ -109,7 +109,7 @@ pub data ErrorActs (e : EndView) (causes : List ℕ) : After → Type 0 where
   Closes : is_stale_cookie e.phase causes ≡ true → ErrorActs e causes (Ends (closed StaleCookie e))
   SaysNothing : is_stale_cookie e.phase causes ≡ false → ErrorActs e causes (GoesOn e)
 
--- ---- SHUTDOWN, SHUTDOWN ACK, SHUTDOWN COMPLETE (9.2)
+-- ---- the three chunks that close an association (9.2)
 
 -- the peer says that it is done: its cumulative TSN acknowledges
 abbrev pub shutdown_heard : Tags → EndView → ℕ → EndView
@@ -127,27 +127,11 @@ pub data ShutdownActs (e : EndView) (tsn : ℕ) : After → Type 0 where
   Crosses : (t : Tags) → e.phase ≡ Open t ShutdownSent → ShutdownActs e tsn (GoesOn (answers_shutdown t e))
   Again : (t : Tags) → e.phase ≡ Open t ShutdownAckSent → ShutdownActs e tsn (GoesOn (with_due (record e.due { shutdown_ack = true }) e))
 
--- both ends may be done
-abbrev pub awaits_ack : Stage → Bool
-awaits_ack Established = false
-awaits_ack ShutdownPending = false
-awaits_ack ShutdownSent = true
-awaits_ack ShutdownReceived = false
-awaits_ack ShutdownAckSent = true
-
 -- What a SHUTDOWN ACK does.
 pub data ShutdownAckActs (e : EndView) : After → Type 0 where
   NotAwaited : hears awaits_ack e.phase ≡ false → ShutdownAckActs e PassedOver
   Completes : (t : Tags) (g : Stage) → e.phase ≡ Open t g → awaits_ack g ≡ true →
       ShutdownAckActs e (Replies (closed Completed e) (packet_to e.configuration t.peer (ShutdownComplete false)))
-
--- a SHUTDOWN COMPLETE is awaited
-abbrev pub awaits_complete : Stage → Bool
-awaits_complete Established = false
-awaits_complete ShutdownPending = false
-awaits_complete ShutdownSent = false
-awaits_complete ShutdownReceived = false
-awaits_complete ShutdownAckSent = true
 
 -- What a SHUTDOWN COMPLETE does.
 pub data CompleteActs (e : EndView) : After → Type 0 where

@@ -8,7 +8,7 @@ use Rattle.sctp_model.specs.ReceiverView.{IsCumulative}
 use Rattle.sctp_model.specs.sender.Filling.{Wish, Fill, fill}
 use Rattle.sctp_model.specs.sender.SentChunks.{chunk_of, forward_chunk_of}
 use Rattle.sctp_model.specs.receiver.SackMade.{IsSack, sack_sent}
-use Rattle.sctp_model.specs.end.EndView.{format_of, Draw, Tags, Stage, Phase, Idle, Listening, Calling, Echoing, Open, Over, InitAlarm, CookieAlarm, DataAlarm, ShutdownAlarm, AckAlarm, Timer, EndView, has_association}
+use Rattle.sctp_model.specs.end.EndView.{format_of, Draw, Tags, Stage, Phase, Calling, Echoing, Open, InitAlarm, CookieAlarm, DataAlarm, ShutdownAlarm, AckAlarm, Timer, EndView, has_association}
 use Rattle.sctp_model.specs.end.Clock.{running, with_timer, started, is_point_past}
 use Rattle.sctp_model.specs.end.Closing.{with_due}
 use Rattle.sctp_model.specs.end.Reports.{written}
@@ -16,7 +16,7 @@ use Rattle.sctp_model.specs.end.Opening.{own_init}
 
 -- ---- what is due
 
--- the places of a packet, in the order in which it is filled
+-- Where each kind of control chunk goes in a packet: before all user data, in this order (RFC 9260, 6.10).
 pub data Slot : Type 0 where
   EchoSlot CookieAckSlot HeartbeatSlot ErrorSlot SackSlot ForwardSlot ShutdownSlot ShutdownAckSlot : Slot
 
@@ -65,7 +65,7 @@ pub data Wants (e : EndView) : Slot → ChunkMeaning → EndView → Type 0 wher
 
 -- ---- filling
 
--- the chunk goes in behind these
+-- behind these chunks there is room for one more, up to the packet limit
 abbrev pub has_room : EndView → List ChunkMeaning → ChunkMeaning → Bool
 has_room e xs x = nat_le (size_of_packet (xs ++ x ∷ [])) e.configuration.limit
 
@@ -96,9 +96,9 @@ sent e xs = with_timer DataAlarm (timer_after e (filled_behind e xs).wishes) (re
 abbrev pub fragments : EndView → List ChunkMeaning → List ChunkMeaning
 fragments e xs = map (chunk_of (format_of e)) (filled_behind e xs).wishes
 
--- ---- BUILD: the chunks of the next packet, none where there is no packet, and the end after it
+-- ---- the next packet
 
--- BUILD: the chunks of the next packet, in each phase.
+-- BUILD: what the next packet of an end holds, and what building it leaves. Where it holds nothing there is no packet.
 pub data Builds (e : EndView) : List ChunkMeaning → EndView → Type 0 where
   Sleeps : has_association e.phase ≡ false → Builds e [] e
   Waits : (d : Draw) → e.phase ≡ Calling d → e.due.init ≡ false → Builds e [] e
@@ -111,14 +111,11 @@ pub data Builds (e : EndView) : List ChunkMeaning → EndView → Type 0 where
   Fills : (t : Tags) (g : Stage) (zs : List ChunkMeaning) (x : EndView) → e.phase ≡ Open t g → Puts open_slots e [] zs false x →
       Builds e (zs ++ fragments x zs) (sent x zs)
 
--- the tag that an end's packets carry; that of an INIT is 0 (8.5.1)
+-- the tag on an end's packets: the one that its peer asked for, once it knows it; an INIT has 0 (8.5.1)
 abbrev pub tag_to : Phase → ℕ
-tag_to Idle = 0
-tag_to Listening = 0
-tag_to (Calling d) = 0
-tag_to (Echoing t xs) = t.peer
-tag_to (Open t g) = t.peer
-tag_to (Over why) = 0
+tag_to (Echoing tags cookie) = tags.peer
+tag_to (Open tags stage) = tags.peer
+tag_to h = 0
 
 -- the packet of these chunks
 abbrev pub packet_of : EndView → List ChunkMeaning → Packet

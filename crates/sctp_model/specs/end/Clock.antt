@@ -1,5 +1,5 @@
 -- The timers of an end: when they start, stop and expire (RFC 9260, 6.3, 5.1 and 9.2; RFC 3758, 3.5).
-use Rattle.std.specs.Prelude.{ℕ, suc, ◌+◌, ◌-◌, ◌*◌, ◌^◌, min, max, nat_lt, nat_le, Bool, true, false, ◌&&◌, if◌then◌else◌, Option, None, Some}
+use Rattle.std.specs.Prelude.{ℕ, suc, ◌+◌, ◌-◌, ◌*◌, ◌^◌, min, max, ◌==◌, nat_lt, nat_le, Bool, true, false, ◌&&◌, if◌then◌else◌, Option, None, Some}
 use Rattle.sctp_model.specs.SenderView.{SenderView}
 use Rattle.sctp_model.specs.sender.Readers.{point, unsettled}
 use Rattle.sctp_model.specs.end.EndView.{ShutdownSent, ShutdownAckSent, Phase, Calling, Echoing, Open, Over, Ended, Due, nothing_due, Alarm, InitAlarm, CookieAlarm, DataAlarm, ShutdownAlarm, AckAlarm, Timer, FIRST_WAIT, EndView}
@@ -18,23 +18,23 @@ LAST_MOMENT = 2 ^ 64 - 1
 abbrev pub after_wait : ℕ → ℕ → ℕ
 after_wait now wait = min (now + wait) LAST_MOMENT
 
--- a timer starts where it doesn't run
+-- the timer, once its packet is built at this moment; while it runs another packet doesn't move its expiry
 abbrev pub running : ℕ → Timer → Option ℕ → Timer
-running now t None = record t { expiry = Some (after_wait now t.wait) }
 running now t (Some m) = t
+running now t None = record t { expiry = Some (after_wait now t.wait) }
 
--- the timer doesn't run
+-- the timer at rest: how long it waits and what it counted stay
 abbrev pub stopped : Timer → Timer
 stopped t = record t { expiry = None }
 
--- it expires: its packet goes out once more, and the next wait is twice as long
+-- the timer once it has expired: it counts one more, rests, and will wait twice as long, up to the longest wait (RFC 9260, 6.3.3, E2)
 abbrev pub expired : Timer → Timer
 expired t = record { wait = min (2 * t.wait) LONGEST_WAIT; repeats = suc t.repeats; expiry = None }
 
--- its moment has come
+-- an expiry that is set has come by now
 abbrev pub is_over_at : ℕ → Option ℕ → Bool
-is_over_at now None = false
 is_over_at now (Some m) = nat_le m now
+is_over_at now None = false
 
 -- how often its packet is repeated before the end gives up (Max.Init.Retransmits and Association.Max.Retrans of RFC 9260, 16)
 abbrev pub repeats_of : Alarm → ℕ
@@ -46,49 +46,29 @@ repeats_of AckAlarm = 10
 
 -- ---- the timers of an end
 
--- the two timers are one
-abbrev pub same_alarm : Alarm → Alarm → Bool
-same_alarm InitAlarm b = is_init b
-  where
-    is_init : Alarm → Bool
-    is_init InitAlarm = true
-    is_init c = false
-same_alarm CookieAlarm b = is_cookie b
-  where
-    is_cookie : Alarm → Bool
-    is_cookie CookieAlarm = true
-    is_cookie c = false
-same_alarm DataAlarm b = is_data b
-  where
-    is_data : Alarm → Bool
-    is_data DataAlarm = true
-    is_data c = false
-same_alarm ShutdownAlarm b = is_shutdown b
-  where
-    is_shutdown : Alarm → Bool
-    is_shutdown ShutdownAlarm = true
-    is_shutdown c = false
-same_alarm AckAlarm b = is_ack b
-  where
-    is_ack : Alarm → Bool
-    is_ack AckAlarm = true
-    is_ack c = false
+-- each timer by a number of its own, in the order in which they expire at one moment
+abbrev pub alarm_number : Alarm → ℕ
+alarm_number InitAlarm = 0
+alarm_number CookieAlarm = 1
+alarm_number DataAlarm = 2
+alarm_number ShutdownAlarm = 3
+alarm_number AckAlarm = 4
 
--- the end with one timer changed
+-- the end, with another timer in this one's place
 abbrev pub with_timer : Alarm → Timer → EndView → EndView
-with_timer a t e = record e { timers = λ b. if same_alarm a b then t else e.timers b }
+with_timer a t e = record e { timers = λ b. if alarm_number b == alarm_number a then t else e.timers b }
 
--- the timer starts at the end's moment, where it doesn't run
+-- the end, with this timer running from its moment on
 abbrev pub started : Alarm → EndView → EndView
 started a e = with_timer a (running e.moment (e.timers a) (e.timers a).expiry) e
 
--- a moment that is handed in; an earlier one than before counts as that one
+-- the end, told a moment: time doesn't run backwards, so one before its own counts as its own
 abbrev pub at_moment : EndView → ℕ → EndView
 at_moment e now = record e { moment = max e.moment now }
 
 -- ---- where a timer runs
 
--- the state that sends its packet
+-- the state whose packet this timer repeats: nowhere else does it run
 abbrev pub is_home : Alarm → Phase → Bool
 is_home InitAlarm (Calling d) = true
 is_home CookieAlarm (Echoing t xs) = true
@@ -97,7 +77,7 @@ is_home ShutdownAlarm (Open t ShutdownSent) = true
 is_home AckAlarm (Open t ShutdownAckSent) = true
 is_home a h = false
 
--- what a state sends is due no more when the end leaves it; everything else stays due
+-- What was due once the end has gone to this state: the packets that belong to one state alone are forgotten elsewhere, all others stay.
 abbrev pub due_in : Phase → Due → Due
 due_in h d = record d {
   init = d.init && is_home InitAlarm h;
@@ -106,7 +86,7 @@ due_in h d = record d {
   shutdown_ack = d.shutdown_ack && is_home AckAlarm h;
 }
 
--- An end turns to another state: the timers of what it left stop.
+-- The end goes to this state, and each timer that isn't at home there rests.
 abbrev pub turned : Phase → EndView → EndView
 turned h e = record e {
   phase = h;
@@ -114,7 +94,7 @@ turned h e = record e {
   timers = λ a. if is_home a h then e.timers a else stopped (e.timers a);
 }
 
--- Closed for good: no timer runs, nothing is due; the sender and the receiver stay for `take`, `abandon` and the readers.
+-- The end is closed for good, for this reason. It sends nothing and waits for nothing; what its user may still take or ask about stays.
 abbrev pub closed : Ended → EndView → EndView
 closed why e = record (turned (Over why) e) { due = nothing_due }
 

@@ -1,17 +1,18 @@
 -- How an end turns from state to state while an association is closed (RFC 9260, 9.2).
 use Rattle.std.specs.Prelude.{Bool, true, false}
 use Rattle.sctp_model.specs.sender.Readers.{drained}
-use Rattle.sctp_model.specs.end.EndView.{Tags, Stage, Established, ShutdownPending, ShutdownSent, ShutdownReceived, ShutdownAckSent, Phase, Idle, Listening, Calling, Echoing, Open, Over, Due, EndView}
+use Rattle.sctp_model.specs.end.EndView.{Tags, Stage, Established, ShutdownPending, ShutdownSent, ShutdownReceived, ShutdownAckSent, Phase, Open, Due, EndView}
 use Rattle.sctp_model.specs.end.Clock.{turned}
 
+-- the end, with this due
 abbrev pub with_due : Due → EndView → EndView
 with_due d e = record e { due = d }
 
--- SHUTDOWN SENT: a SHUTDOWN is due
+-- The end has nothing left to be acknowledged after its user shut the association, and tells its peer (RFC 9260, 9.2).
 abbrev pub says_shutdown : Tags → EndView → EndView
 says_shutdown t e = with_due (record (turned (Open t ShutdownSent) e).due { shutdown = true }) (turned (Open t ShutdownSent) e)
 
--- SHUTDOWN ACK SENT: a SHUTDOWN ACK is due
+-- The peer has told this end so, which has nothing left either, and answers (RFC 9260, 9.2).
 abbrev pub answers_shutdown : Tags → EndView → EndView
 answers_shutdown t e = with_due (record (turned (Open t ShutdownAckSent) e).due { shutdown_ack = true }) (turned (Open t ShutdownAckSent) e)
 
@@ -25,45 +26,51 @@ rested_in h b e = e
 abbrev pub rested : EndView → EndView
 rested e = rested_in e.phase (drained e.sender) e
 
--- ---- which stages hear a chunk
+-- ---- the state table: which chunks a stage hears (RFC 9260, 4, 5.2.4, 6.2 and 9.2)
 
--- data, and FORWARDs
+-- A row. What comes in the other columns is passed over: data and FORWARDs; what acknowledges, a SACK or the cumulative TSN of a SHUTDOWN; a
+-- COOKIE ECHO that comes again; SHUTDOWN ACK; SHUTDOWN COMPLETE.
+pub record Hears : Type 0 where
+  pub data_chunks : Bool
+  pub acknowledgements : Bool
+  pub cookies : Bool
+  pub shutdown_acks : Bool
+  pub completes : Bool
+
+-- The rows: data is heard until the peer has shut its direction, acknowledgements until this end has closed its own.
+abbrev pub row_of : Stage → Hears
+row_of Established = record { data_chunks = true; acknowledgements = true; cookies = true; shutdown_acks = false; completes = false }
+row_of ShutdownPending = record { data_chunks = true; acknowledgements = true; cookies = true; shutdown_acks = false; completes = false }
+row_of ShutdownSent = record { data_chunks = true; acknowledgements = false; cookies = true; shutdown_acks = true; completes = false }
+row_of ShutdownReceived = record { data_chunks = false; acknowledgements = true; cookies = true; shutdown_acks = false; completes = false }
+row_of ShutdownAckSent = record { data_chunks = false; acknowledgements = false; cookies = false; shutdown_acks = true; completes = true }
+
+-- the column of data and FORWARDs
 abbrev pub takes_data : Stage → Bool
-takes_data Established = true
-takes_data ShutdownPending = true
-takes_data ShutdownSent = true
-takes_data ShutdownReceived = false
-takes_data ShutdownAckSent = false
+takes_data g = (row_of g).data_chunks
 
--- what acknowledges: SACK, and the cumulative TSN of a SHUTDOWN
+-- the column of acknowledgements
 abbrev pub takes_acknowledgements : Stage → Bool
-takes_acknowledgements Established = true
-takes_acknowledgements ShutdownPending = true
-takes_acknowledgements ShutdownSent = false
-takes_acknowledgements ShutdownReceived = true
-takes_acknowledgements ShutdownAckSent = false
+takes_acknowledgements g = (row_of g).acknowledgements
 
--- a COOKIE ECHO that comes again
+-- the column of COOKIE ECHO
 abbrev pub takes_cookies : Stage → Bool
-takes_cookies Established = true
-takes_cookies ShutdownPending = true
-takes_cookies ShutdownSent = true
-takes_cookies ShutdownReceived = true
-takes_cookies ShutdownAckSent = false
+takes_cookies g = (row_of g).cookies
 
--- a SHUTDOWN was sent, and no answer came yet
+-- the column of SHUTDOWN ACK
+abbrev pub awaits_ack : Stage → Bool
+awaits_ack g = (row_of g).shutdown_acks
+
+-- the column of SHUTDOWN COMPLETE
+abbrev pub awaits_complete : Stage → Bool
+awaits_complete g = (row_of g).completes
+
+-- a SHUTDOWN was sent, and nothing came of it yet
 abbrev pub is_shutdown_sent : Stage → Bool
-is_shutdown_sent Established = false
-is_shutdown_sent ShutdownPending = false
 is_shutdown_sent ShutdownSent = true
-is_shutdown_sent ShutdownReceived = false
-is_shutdown_sent ShutdownAckSent = false
+is_shutdown_sent g = false
 
--- the end is open, in a stage that hears this
+-- An end hears a chunk where it is open, in a stage whose row says so.
 abbrev pub hears : (Stage → Bool) → Phase → Bool
-hears f Idle = false
-hears f Listening = false
-hears f (Calling d) = false
-hears f (Echoing t xs) = false
-hears f (Open t g) = f g
-hears f (Over why) = false
+hears says (Open t g) = says g
+hears says h = false

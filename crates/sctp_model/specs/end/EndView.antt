@@ -18,39 +18,62 @@ pub record Configuration : Type 0 where
   pub interleave : Bool
   pub partial : Bool
 
--- Chance is handed in: a verification tag, and the TSN of index 1.
+-- What chance gives to an end that begins: the tag that packets to it will carry, and the TSN of its index 1 (RFC 9260, 5.3.1 and 3.3.2).
 pub record Draw : Type 0 where
   pub tag : ℕ
   pub tsn : ℕ
 
--- the verification tags of an association: the one that its packets to this end carry, and the one that the peer asked for (RFC 9260, 8.5)
+-- The verification tags of an association, as one end sees them: packets to it carry the first, packets from it the second (RFC 9260, 8.5).
 pub record Tags : Type 0 where
   pub own : ℕ
   pub peer : ℕ
 
--- ---- the life of an end
+-- ---- where an end stands in its life
 
--- why an end is closed: both had ended, the peer aborted, this end did, a timer gave up, or the cookie came too late
+-- How an association ended, as the end itself saw it.
 pub data Ended : Type 0 where
-  Completed Aborted AbortedHere TimedOut StaleCookie : Ended
+  -- both ends had shut it, and said so (RFC 9260, 9.2)
+  Completed : Ended
+  -- the peer aborted it; this end or its user did (9.1)
+  Aborted AbortedHere : Ended
+  -- a packet was repeated as often as may be (8.1)
+  TimedOut : Ended
+  -- the listener found the cookie too old (5.2.6)
+  StaleCookie : Ended
 
--- the states in which both directions may be in use (RFC 9260, 4)
+-- The states in which an association has both its ends (RFC 9260, 4).
 pub data Stage : Type 0 where
-  Established ShutdownPending ShutdownSent ShutdownReceived ShutdownAckSent : Stage
+  -- both users may send
+  Established : Stage
+  -- the user has no more to send; what waits still goes out
+  ShutdownPending : Stage
+  -- all was acknowledged, and the peer is told
+  ShutdownSent : Stage
+  -- the peer has no more to send; what waits here still goes out
+  ShutdownReceived : Stage
+  -- all was acknowledged here too, and the peer is answered
+  ShutdownAckSent : Stage
 
--- Where an end stands, with what exists there alone. `Idle` and `Over` are both CLOSED: nothing began yet, or all is over.
--- `Listening` is the listener's wait, `Calling` COOKIE-WAIT with the caller's draw, `Echoing` COOKIE-ECHOED with the cookie.
+-- Every state, each with what an end remembers in it alone.
 pub data Phase : Type 0 where
-  Idle Listening : Phase
+  -- CLOSED, and nothing happened yet
+  Idle : Phase
+  -- the listener, which remembers nothing until a cookie comes (RFC 9260, 5.1)
+  Listening : Phase
+  -- COOKIE-WAIT: the caller remembers what it drew
   Calling : Draw → Phase
-  Echoing : Tags → (cookie : List ℕ) → Phase
-  Open : Tags → Stage → Phase
+  -- COOKIE-ECHOED: it knows both tags, and the cookie that it sends back
+  Echoing : (tags : Tags) (cookie : List ℕ) → Phase
+  -- the five states with both ends
+  Open : (tags : Tags) (stage : Stage) → Phase
+  -- CLOSED, and over for good
   Over : Ended → Phase
 
--- Who began: a caller, a listener with its seal, or either of two ends that were opened without packets.
+-- How an end came to be: it calls, it listens and has a seal for its cookies, or it was opened together with its peer, without packets.
 pub data Role : Type 0 where
-  Caller Paired : Role
-  Listener : Sealing → Role
+  Caller : Role
+  Listener : (seal : Sealing) → Role
+  Paired : Role
 
 -- ---- what both ends agreed on
 
@@ -72,41 +95,38 @@ abbrev pub format_for : Bool → Format
 format_for true = Interleaved
 format_for false = Plain
 
--- ---- what is to be sent
+-- ---- what is due
 
--- in the order in which a packet is filled; of ERROR the causes that wait, of HEARTBEAT ACK the value (RFC 9260, 6.10)
+-- What goes into an end's next packets, in the order in which a packet is filled (RFC 9260, 6.10).
 pub record Due : Type 0 where
   pub init : Bool
   pub cookie_echo : Bool
   pub cookie_ack : Bool
+  -- the value that the last HEARTBEAT asks back (8.3)
   pub heartbeat : Option (List ℕ)
+  -- what the peer is to be told in one ERROR (3.3.10)
   pub causes : List Typed
   pub sack : Bool
+  -- FORWARD-TSN, or I-FORWARD-TSN with I-DATA on (RFC 3758, 3.5; RFC 8260, 2.3.1)
   pub forward : Bool
   pub shutdown : Bool
   pub shutdown_ack : Bool
 
--- nothing is to be sent
+-- nothing at all
 abbrev pub nothing_due : Due
-nothing_due = record {
-  init = false;
-  cookie_echo = false;
-  cookie_ack = false;
-  heartbeat = None;
-  causes = [];
-  sack = false;
-  forward = false;
-  shutdown = false;
-  shutdown_ack = false;
-}
+nothing_due = record { init = false; cookie_echo = false; cookie_ack = false; heartbeat = None; causes = []; sack = false; forward = false; shutdown = false; shutdown_ack = false }
 
 -- ---- timers
 
--- a timer for each packet that is repeated: T1 of INIT and of COOKIE ECHO, T3, T2 of SHUTDOWN and of SHUTDOWN ACK (RFC 9260, 5.1, 6.3 and 9.2)
+-- One for each kind of packet that is sent again until it is answered: INIT, COOKIE ECHO (both T1), data or FORWARD (T3), SHUTDOWN and
+-- SHUTDOWN ACK (both T2) (RFC 9260, 5.1, 6.3 and 9.2).
 pub data Alarm : Type 0 where
-  InitAlarm CookieAlarm DataAlarm ShutdownAlarm AckAlarm : Alarm
+  InitAlarm CookieAlarm : Alarm
+  DataAlarm : Alarm
+  ShutdownAlarm AckAlarm : Alarm
 
--- how long it waits the next time, how often its packet was repeated, and when it expires, if it runs; in milliseconds
+-- A timer, in milliseconds: how long it will wait when it starts next, how many times it expired since all was well, and the moment at which it
+-- expires while it runs.
 pub record Timer : Type 0 where
   pub wait : ℕ
   pub repeats : ℕ
@@ -122,12 +142,13 @@ unused_timer = record { wait = FIRST_WAIT; repeats = 0; expiry = None }
 
 -- ---- the end
 
--- The terms, the sender and the receiver are of the association. Before there is one they are empty: `take` finds nothing there,
--- and `abandon` knows no ticket; when it is over they stay.
+-- An end. Terms, sender and receiver belong to the association: until there is one nothing stands in them, so that its user is told of no message
+-- and no ticket, and once it is over they stay for its user to read.
 pub record EndView : Type 0 where
   pub configuration : Configuration
   pub role : Role
   pub phase : Phase
+  -- the latest moment that it was told
   pub moment : ℕ
   pub due : Due
   pub timers : Alarm → Timer
@@ -135,12 +156,12 @@ pub record EndView : Type 0 where
   pub sender : SenderView
   pub receiver : ReceiverView
 
--- an end to which nothing happened yet
+-- an end as it is made, in CLOSED or listening
 abbrev pub fresh_end : Configuration → Role → Phase → EndView
-fresh_end c role phase = record {
+fresh_end c r h = record {
   configuration = c;
-  role = role;
-  phase = phase;
+  role = r;
+  phase = h;
   moment = 0;
   due = nothing_due;
   timers = λ a. unused_timer;
@@ -153,11 +174,9 @@ fresh_end c role phase = record {
 abbrev pub format_of : EndView → Format
 format_of e = format_for e.terms.interleave
 
--- in a state of an association: neither closed nor listening
+-- It has something to do with a peer: it is neither closed nor waiting for a call.
 abbrev pub has_association : Phase → Bool
-has_association Idle = false
-has_association Listening = false
 has_association (Calling d) = true
 has_association (Echoing t xs) = true
 has_association (Open t g) = true
-has_association (Over why) = false
+has_association h = false

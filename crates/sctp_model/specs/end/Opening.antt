@@ -14,17 +14,22 @@ use Rattle.sctp_model.specs.end.Reports.{written, item, fits_alone, causes_with,
 use Rattle.sctp_model.specs.end.Options.{STATE_COOKIE, value_of, agreed_interleave, agreed_partial, own_options, reports_of}
 use Rattle.sctp_model.specs.end.PeerFaults.{TAG, COOKIE, After, GoesOn, PassedOver, Replies, Drops, packet_to, abort_for}
 
--- ---- what both ends agreed on
+-- ---- an association that begins
 
--- An association begins: a sender and a receiver with nothing in them; the peer's window is in bytes.
-abbrev pub joined : Terms → (rwnd : ℕ) → EndView → EndView
-joined x rwnd e = record e {
+-- the tags that two draws give: the one's own, and its peer's
+abbrev pub tags_between : Draw → Draw → Tags
+tags_between own peer = record { own = own.tag; peer = peer.tag }
+
+-- The end joins an association on these terms: nothing is sent or heard in it yet. `window` is the peer's, in bytes.
+abbrev pub joined : Terms → (window : ℕ) → EndView → EndView
+joined x window e = record e {
   terms = x;
-  sender = fresh_sender x.own_tsn x.outbound e.configuration.fragment rwnd x.partial;
+  sender = fresh_sender x.own_tsn x.outbound e.configuration.fragment window x.partial;
   receiver = fresh_receiver x.peer_tsn x.inbound e.configuration.buffer;
 }
 
--- each direction has the lesser of what its sender sends on and what its receiver takes (RFC 9260, 5.1.1)
+-- The terms of a caller with this draw whom this INIT ACK answers. Each way has the lesser of the streams that its sender asks for and of those that
+-- its receiver allows (RFC 9260, 5.1.1).
 abbrev pub terms_of_ack : Configuration → Draw → InitMeaning → Terms
 terms_of_ack c d m = record {
   own_tsn = d.tsn;
@@ -35,61 +40,50 @@ terms_of_ack c d m = record {
   partial = agreed_partial c m.parameters;
 }
 
--- the terms that a cookie remembers, as the listener sees them
+-- The terms of a listener, by what its cookie says.
 abbrev pub terms_of_body : Body → Terms
 terms_of_body b = record {
-  own_tsn = b.listener_tsn;
-  peer_tsn = b.caller_tsn;
-  outbound = b.streams_to_caller;
-  inbound = b.streams_from_caller;
+  own_tsn = b.listener.tsn;
+  peer_tsn = b.caller.tsn;
+  outbound = b.to_caller;
+  inbound = b.from_caller;
   interleave = b.interleave;
   partial = b.partial;
 }
 
 -- ---- INIT (5.1.1)
 
--- the caller's INIT: its draw, and what it is set up with
+-- What an end says of itself to one that it wants an association with, in INIT and in INIT ACK alike: its draw, its room, its streams (3.3.2).
+abbrev pub introduction : Configuration → Draw → List ℕ → InitMeaning
+introduction c d parameters =
+    record { tag = d.tag; rwnd = c.buffer; outbound = c.outbound; inbound = c.inbound; tsn = d.tsn; parameters = parameters }
+
+-- the caller's INIT: of parameters it has its options alone
 abbrev pub own_init : Configuration → Draw → ChunkMeaning
-own_init c d = Init (record {
-  tag = d.tag;
-  rwnd = c.buffer;
-  outbound = c.outbound;
-  inbound = c.inbound;
-  tsn = d.tsn;
-  parameters = written (own_options c);
-})
+own_init c d = Init (introduction c d (written (own_options c)))
 
 -- it offers or takes no stream
 abbrev pub has_no_stream : InitMeaning → Bool
 has_no_stream m = (m.outbound == 0) || (m.inbound == 0)
 
--- all that the listener remembers
+-- The body of the cookie that answers an INIT: what the listener would remember, if it did (5.1.3).
 abbrev pub body_for : EndView → Draw → InitMeaning → Body
-body_for e d m = record {
-  made = e.moment;
-  listener_port = e.configuration.own_port;
-  caller_port = e.configuration.peer_port;
-  listener_tag = d.tag;
-  caller_tag = m.tag;
-  listener_tsn = d.tsn;
-  caller_tsn = m.tsn;
-  caller_rwnd = m.rwnd;
-  streams_to_caller = min e.configuration.outbound m.inbound;
-  streams_from_caller = min m.outbound e.configuration.inbound;
-  partial = agreed_partial e.configuration m.parameters;
-  interleave = agreed_interleave e.configuration m.parameters;
-}
+body_for e d m =
+    let c = e.configuration in record {
+      made = e.moment;
+      listener = record { port = c.own_port; tag = d.tag; tsn = d.tsn };
+      caller = record { port = c.peer_port; tag = m.tag; tsn = m.tsn };
+      rwnd = m.rwnd;
+      to_caller = min c.outbound m.inbound;
+      from_caller = min m.outbound c.inbound;
+      partial = agreed_partial c m.parameters;
+      interleave = agreed_interleave c m.parameters;
+    }
 
--- INIT ACK with these reports: the cookie first, then the listener's options (3.3.3)
+-- the INIT ACK that holds these reports: of parameters the cookie comes first, then the listener's options (3.3.3)
 abbrev pub init_ack_with : Sealing → EndView → Draw → InitMeaning → List Typed → ChunkMeaning
-init_ack_with s e d m reports = InitAck (record {
-  tag = d.tag;
-  rwnd = e.configuration.buffer;
-  outbound = e.configuration.outbound;
-  inbound = e.configuration.inbound;
-  tsn = d.tsn;
-  parameters = written (item STATE_COOKIE (s.sealed (body_for e d m)) ∷ (own_options e.configuration ++ reports));
-})
+init_ack_with s e d m reports =
+    InitAck (introduction e.configuration d (written (item STATE_COOKIE (s.sealed (body_for e d m)) ∷ (own_options e.configuration ++ reports))))
 
 -- the unknown parameters of the INIT are reported as far as they fit
 abbrev pub init_ack : Sealing → EndView → Draw → InitMeaning → ChunkMeaning
@@ -123,18 +117,18 @@ fits_in_error e xs = fits_alone e (Error (written (e.due.causes ++ item UNRECOGN
 abbrev pub ack_causes : EndView → InitMeaning → List Typed
 ack_causes e m = causes_with_all e (as_fit (fits_in_error e) [] (parameters_reported (typed_in m.parameters)))
 
--- The caller begins its association, and echoes the cookie.
+-- The caller has both tags and all terms now: it joins, and the cookie is to go back (5.1, C).
 abbrev pub echoing : EndView → Draw → InitMeaning → List ℕ → EndView
 echoing e d m xs =
     let t = turned (Echoing (record { own = d.tag; peer = m.tag }) xs) (joined (terms_of_ack e.configuration d m) m.rwnd e) in
     with_due (record t.due { cookie_echo = true; causes = ack_causes e m }) t
 
--- the caller waits for an INIT ACK
+-- COOKIE-WAIT
 abbrev pub is_calling : Phase → Bool
 is_calling (Calling d) = true
 is_calling h = false
 
--- An INIT ACK: only a caller that waits for one takes it, and the first one alone.
+-- What an INIT ACK does (5.1, C): a caller takes the first that it may, and passes over all that come later, as it waits for none any more (5.2.3).
 pub data InitAckActs (e : EndView) (m : InitMeaning) : After → Type 0 where
   NotCalling : is_calling e.phase ≡ false → InitAckActs e m PassedOver
   NoTag : (d : Draw) → e.phase ≡ Calling d → m.tag ≡ 0 → InitAckActs e m (Drops TAG)
@@ -149,20 +143,20 @@ pub data InitAckActs (e : EndView) (m : InitMeaning) : After → Type 0 where
 abbrev pub COOKIE_LIFE : ℕ
 COOKIE_LIFE = 60000
 
--- how old a cookie is, in milliseconds; one from a later moment is new
+-- the milliseconds since a cookie was made; none where that was later
 abbrev pub age : EndView → Body → ℕ
 age e b = e.moment - b.made
 
--- the microseconds past its life, as far as 32 bits go (3.3.10.3)
+-- by how many microseconds it outlived its life, as far as the field of 32 bits can tell (3.3.10.3)
 abbrev pub staleness : EndView → Body → ℕ
 staleness e b = min ((age e b - COOKIE_LIFE) * 1000) (2 ^ 32 - 1)
 
--- the body names this end's ports, and the tag that the packet has
+-- The cookie was made for this pair of ports, and for the tag under which it came back.
 abbrev pub is_addressed : EndView → ℕ → Body → Bool
 is_addressed e tag b =
-    (b.listener_port == e.configuration.own_port) && ((b.caller_port == e.configuration.peer_port) && (b.listener_tag == tag))
+    (b.listener.port == e.configuration.own_port) && ((b.caller.port == e.configuration.peer_port) && (b.listener.tag == tag))
 
--- what a listener reads in a cookie
+-- What a listener makes of a cookie: it opens, it would if it weren't too old, or it is nobody's.
 pub data CookieRead : Type 0 where
   Opens Stale : Body → CookieRead
   Strange : CookieRead
@@ -176,16 +170,24 @@ body_read e tag (Some b) = if is_addressed e tag b then (if nat_le (age e b) COO
 abbrev pub cookie_read : Sealing → EndView → ℕ → List ℕ → CookieRead
 cookie_read s e tag xs = body_read e tag (s.opened xs)
 
--- The listener begins its association.
+-- The tags that a cookie names, as its listener sees them.
+abbrev pub tags_of_body : Body → Tags
+tags_of_body b = record { own = b.listener.tag; peer = b.caller.tag }
+
+-- The listener joins on the terms of its cookie, and the caller is to be told (5.1, D).
 abbrev pub begun : Body → EndView → EndView
 begun b e =
-    let t = turned (Open (record { own = b.listener_tag; peer = b.caller_tag }) Established) (joined (terms_of_body b) b.caller_rwnd e) in
+    let t = turned (Open (tags_of_body b) Established) (joined (terms_of_body b) b.rwnd e) in
     with_due (record t.due { cookie_ack = true }) t
 
--- a cookie that opens, or is stale alone, and names both tags
+-- the two tags are the association's
+abbrev pub has_tags : Tags → Body → Bool
+has_tags t b = (b.listener.tag == t.own) && (b.caller.tag == t.peer)
+
+-- the cookie is the association's own, however old
 abbrev pub is_ours : Tags → CookieRead → Bool
-is_ours t (Opens b) = (b.listener_tag == t.own) && (b.caller_tag == t.peer)
-is_ours t (Stale b) = (b.listener_tag == t.own) && (b.caller_tag == t.peer)
+is_ours t (Opens b) = has_tags t b
+is_ours t (Stale b) = has_tags t b
 is_ours t Strange = false
 
 -- the seal of a listener
@@ -194,7 +196,7 @@ seal_in (Listener s) = Some s
 seal_in Caller = None
 seal_in Paired = None
 
--- A COOKIE ECHO at an end that has its association: the COOKIE ACK was lost.
+-- What a COOKIE ECHO does where the association is there already: its COOKIE ACK may have been lost, so it is told once more (5.2.4).
 pub data EchoActs (e : EndView) (tag : ℕ) (xs : List ℕ) : After → Type 0 where
   NotHere : (seal_in e.role ≡ None) ⊎ (hears takes_cookies e.phase ≡ false) → EchoActs e tag xs PassedOver
   EchoedAgain : (s : Sealing) (t : Tags) (g : Stage) → seal_in e.role ≡ Some s → e.phase ≡ Open t g → takes_cookies g ≡ true →
@@ -204,12 +206,12 @@ pub data EchoActs (e : EndView) (tag : ℕ) (xs : List ℕ) : After → Type 0 w
 
 -- ---- COOKIE ACK (5.1, E)
 
--- the caller waits for a COOKIE ACK
+-- COOKIE-ECHOED
 abbrev pub is_echoing : Phase → Bool
 is_echoing (Echoing t xs) = true
 is_echoing h = false
 
--- What a COOKIE ACK does.
+-- What a COOKIE ACK does (5.1, E).
 pub data CookieAckActs (e : EndView) : After → Type 0 where
   NotEchoing : is_echoing e.phase ≡ false → CookieAckActs e PassedOver
   CookieAcked : (t : Tags) (xs : List ℕ) → e.phase ≡ Echoing t xs → CookieAckActs e (GoesOn (turned (Open t Established) e))

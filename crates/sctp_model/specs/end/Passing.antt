@@ -2,37 +2,40 @@
 use Rattle.std.specs.Prelude.{ℕ, Bool, true, false, not, ◌&&◌, ◌==◌, if◌then◌else◌, List, [], ◌∷◌}
 use Rattle.sctp_model.specs.Chunk.{ChunkMeaning, Init, Abort, ShutdownComplete}
 use Rattle.sctp_model.specs.Packet.{Packet}
-use Rattle.sctp_model.specs.end.EndView.{Configuration, Phase, Idle, Listening, Calling, Echoing, Open, Over}
+use Rattle.sctp_model.specs.end.EndView.{Configuration, Phase, Calling, Echoing, Open}
 
--- the packet is from the peer's port to this end's
+-- It comes from the port that this end's peer has, and goes to this end's own.
 abbrev pub has_ports : Configuration → Packet → Bool
-has_ports c p = (p.source == c.peer_port) && (p.destination == c.own_port)
+has_ports c p = (p.destination == c.own_port) && (p.source == c.peer_port)
 
--- an ABORT or SHUTDOWN COMPLETE that shows the tag of its receiver's packets (T is 1)
+-- An ABORT or a SHUTDOWN COMPLETE with T = 1 shows the tag of the packet that it answers: it comes from an end that knows no other (8.5.1).
 abbrev pub is_reflected : ChunkMeaning → Bool
-is_reflected (Abort t causes) = t
-is_reflected (ShutdownComplete t) = t
+is_reflected (Abort shown causes) = shown
+is_reflected (ShutdownComplete shown) = shown
 is_reflected x = false
 
--- A reflected chunk wants the peer's tag, any other this end's own. A caller knows no tag of its peer; without an association no tag is asked for.
+-- The tag is one that the end looks for: its own, or its peer's where it is reflected. A caller has no peer's tag yet, and an end without an association
+-- asks for none.
 abbrev pub passes_tag : Phase → (reflected : Bool) → ℕ → Bool
-passes_tag Idle reflected tag = true
-passes_tag Listening reflected tag = true
 passes_tag (Calling d) reflected tag = not reflected && (tag == d.tag)
 passes_tag (Echoing t xs) reflected tag = tag == (if reflected then t.peer else t.own)
 passes_tag (Open t g) reflected tag = tag == (if reflected then t.peer else t.own)
-passes_tag (Over why) reflected tag = true
+passes_tag h reflected tag = true
 
--- An INIT has the tag 0. The first chunk decides.
+-- the tag of an INIT, whose sender can know none (8.5.1)
+abbrev pub NO_TAG : ℕ
+NO_TAG = 0
+
+-- The first chunk decides which tag is asked for.
 abbrev pub passes_first : Phase → ChunkMeaning → ℕ → Bool
-passes_first h (Init m) tag = tag == 0
+passes_first h (Init m) tag = tag == NO_TAG
 passes_first h x tag = passes_tag h (is_reflected x) tag
 
--- the first chunk decides
+-- the same of a packet's chunks
 abbrev pub passes_chunks : Phase → ℕ → List ChunkMeaning → Bool
+passes_chunks h tag (first ∷ others) = passes_first h first tag
 passes_chunks h tag [] = passes_tag h false tag
-passes_chunks h tag (x ∷ xs) = passes_first h x tag
 
--- The packet passes by its tag.
+-- The packet's tag is right.
 abbrev pub passes : Phase → Packet → Bool
 passes h p = passes_chunks h p.tag p.chunks

@@ -1,35 +1,43 @@
--- A listener's cookie without its bytes: what stands in it, and that the listener reads back what it sealed (RFC 9260, 5.1.3).
+-- A listener's cookie without its bytes: what stands in it, and that the listener reads again what it sealed (RFC 9260, 5.1.3).
 use Rattle.std.specs.Prelude.{◌≡◌, ℕ, ◌^◌, ◌<◌, Bool, List, length, Option, Some}
 
--- All that a listener remembers of an INIT, and it remembers it in the cookie alone. Moments are in milliseconds, windows in bytes.
+-- One of the two ends, as a cookie remembers it: its port, the tag that packets to it carry, and its first TSN.
+pub record Party : Type 0 where
+  pub port : ℕ
+  pub tag : ℕ
+  pub tsn : ℕ
+
+-- What a listener would have to remember of an INIT and of its own answer, had it no cookie: the moment in milliseconds, both ends, the caller's
+-- window in bytes, how many streams lead each way, and what is turned on (RFC 9260, 5.1.3).
 pub record Body : Type 0 where
   pub made : ℕ
-  pub listener_port : ℕ
-  pub caller_port : ℕ
-  pub listener_tag : ℕ
-  pub caller_tag : ℕ
-  pub listener_tsn : ℕ
-  pub caller_tsn : ℕ
-  pub caller_rwnd : ℕ
-  pub streams_to_caller : ℕ
-  pub streams_from_caller : ℕ
+  pub listener : Party
+  pub caller : Party
+  pub rwnd : ℕ
+  pub to_caller : ℕ
+  pub from_caller : ℕ
   pub partial : Bool
   pub interleave : Bool
 
--- each number has the bits of its field
+-- a port of 16 bits, a tag and a TSN of 32
+pub record IsPartyInRange (x : Party) : Type 0 where
+  pub port : x.port < 2 ^ 16
+  pub tag : x.tag < 2 ^ 32
+  pub tsn : x.tsn < 2 ^ 32
+
+-- Every number has room in its field of the cookie.
 pub record IsInRange (b : Body) : Type 0 where
-  pub made : b.made < 2 ^ 64
-  pub ports : (b.listener_port < 2 ^ 16) × (b.caller_port < 2 ^ 16)
-  pub tags : (b.listener_tag < 2 ^ 32) × (b.caller_tag < 2 ^ 32)
-  pub tsns : (b.listener_tsn < 2 ^ 32) × (b.caller_tsn < 2 ^ 32)
-  pub rwnd : b.caller_rwnd < 2 ^ 32
-  pub streams : (b.streams_to_caller < 2 ^ 16) × (b.streams_from_caller < 2 ^ 16)
+  pub moment : b.made < 2 ^ 64
+  pub parties : IsPartyInRange b.listener × IsPartyInRange b.caller
+  pub window : b.rwnd < 2 ^ 32
+  pub counts : (b.to_caller < 2 ^ 16) × (b.from_caller < 2 ^ 16)
 
 -- the bytes of a cookie: 40 of the body, 32 of the MAC
 abbrev pub COOKIE_SIZE : ℕ
 COOKIE_SIZE = 72
 
--- A listener's seal. `opened` is the body of a cookie of the right form under the right MAC, whatever its ports, tag and age are.
+-- A seal that a listener keeps to itself: how it makes a cookie of a body, and which body it finds in bytes. It finds none unless they have the
+-- form of a cookie and the right MAC; whose ports and tag it names, and how old it is, is looked at elsewhere. Nothing else is asked of a seal.
 pub record Sealing : Type 0 where
   pub sealed : Body → List ℕ
   pub opened : List ℕ → Option Body

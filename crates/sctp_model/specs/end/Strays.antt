@@ -43,7 +43,7 @@ init_verdict (Some s) e d m =
 
 -- a cookie that doesn't open
 abbrev pub cookie_verdict : EndView → CookieRead → Verdict
-cookie_verdict e (Stale b) = Answer (packet_to e.configuration b.caller_tag (Error (written (item STALE_COOKIE (u32_bytes (staleness e b)) ∷ []))))
+cookie_verdict e (Stale b) = Answer (packet_to e.configuration b.caller.tag (Error (written (item STALE_COOKIE (u32_bytes (staleness e b)) ∷ []))))
 cookie_verdict e (Opens b) = Dropped COOKIE
 cookie_verdict e Strange = Dropped COOKIE
 

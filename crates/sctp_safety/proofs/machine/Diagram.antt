@@ -13,7 +13,7 @@ use Rattle.sctp_model.specs.end.Arriving.{AllAct, NoneLeft, Next, Last, Answered
 use Rattle.sctp_model.specs.end.Arriving.{Over as Passes}
 use Rattle.sctp_model.specs.end.Moments.{ticked}
 use Rattle.sctp_model.specs.end.UserCalls.{called}
-use Rattle.sctp_model.specs.World.{opened}
+use Rattle.sctp_model.specs.Steps.{opened}
 use Rattle.sctp_safety.specs.States.{IsTurn, ByCall, ByInitAck, ByCookieAck, ByCookie, ByPair, ByStage, ByEnd, IsPath, Here, On, has_begun, has_agreed, IsLaterEnd}
 use Rattle.sctp_safety.proofs.machine.Strangers.{found_is}
 use Rattle.sctp_safety.proofs.machine.Turns.{IsPlainTurn, Stays, Leaves, Goes, IsPlain, path_on, one_turn, begun_by_association, plain_rested, rested_has, IsLeft, Plainly, Accepts, Acked, goes_left, ends_plain, replies_plain}
@@ -150,8 +150,8 @@ acts_later tag e b xs t v has (Stopped _ _ x ys n act) = later_same e
 begun_later : (b : Body) (e : EndView) → e.phase ≡ Listening → IsLaterEnd e (begun b e)
 begun_later b e is = record {
   configuration = refl;
-  path = subst (λ (k : Phase). IsPath k (Open (record { own = b.listener_tag; peer = b.caller_tag }) Established)) (sym is)
-      (one_turn Listening (Open (record { own = b.listener_tag; peer = b.caller_tag }) Established) (ByCookie (record { own = b.listener_tag; peer = b.caller_tag })));
+  path = subst (λ (k : Phase). IsPath k (Open (record { own = b.listener.tag; peer = b.caller.tag }) Established)) (sym is)
+      (one_turn Listening (Open (record { own = b.listener.tag; peer = b.caller.tag }) Established) (ByCookie (record { own = b.listener.tag; peer = b.caller.tag })));
   role = λ h. refl;
   terms = λ h. absurd (not_agreed e Listening is refl h);
 }

@@ -5,7 +5,9 @@ use Rattle.sctp_model.specs.end.EndView.{Ended, has_association, Phase, Idle, Li
 use Rattle.sctp_model.specs.end.Strays.{Verdict, Taken, Dropped, Answer}
 use Rattle.sctp_model.specs.end.Moments.{ticked}
 use Rattle.sctp_model.specs.end.UserCalls.{Called, connect_answer, called, send_answer, send_leaves, abandoned_at, shut, AbortAnswer, Aborts, NoPeer, TooLong, abort_answer, abort_leaves}
-use Rattle.sctp_model.specs.World.{Side, A, B, other, Log, World, end_of, with_end, with_packet, with_log, end_now, came, with_verdict, with_abort, Event, Outcome, Step, Opens, OpenRefused, TimePasses, Draws, Connects, ConnectRefused, BuildsOne, BuildsNone, Comes, IsAbsent, ForeignComes, Unread, Sends, Abandons, TakesOne, ShutsDown, AbortsIt, CutFirst, CutLater, ForeignCutFirst, ForeignCutLater, NoMemory, Run, Rest, Then, start}
+use Rattle.sctp_model.specs.World.{Side, A, B, other, Log, World, end_of, with_end, with_packet, with_log, end_now, came, start}
+use Rattle.sctp_model.specs.Events.{with_verdict, with_abort, Event, Outcome}
+use Rattle.sctp_model.specs.Steps.{Step, Opens, OpenRefused, TimePasses, Draws, Connects, ConnectRefused, BuildsOne, BuildsNone, Comes, IsAbsent, Unread, Sends, Abandons, TakesOne, ShutsDown, AbortsIt, CutFirst, CutLater, NoMemory, Run, Rest, Then}
 use Rattle.sctp_safety.specs.States.{ClosedForGood, IsTurn, ByCall, ByInitAck, ByCookieAck, ByCookie, ByPair, ByStage, ByEnd, IsPath, Here, On, has_begun, IsLaterEnd, EndsFollowTheDiagram}
 use Rattle.sctp_safety.proofs.machine.Turns.{IsPlain, builds_plain}
 use Rattle.sctp_safety.proofs.machine.TurnsOfTime.{plain_ticked, plain_sent, plain_abandoned, plain_taken, plain_shut, plain_aborted}
@@ -143,11 +145,9 @@ step_onward w e o v f (ConnectRefused d answer) = onward_same w f
 step_onward w e o v f (BuildsOne s x xs t b) =
     onward_kept w (with_end w s t) v (onward_now w s t f (builds_plain (end_now w s) (x ∷ xs) t b)) (kept_packet (with_end w s t) s _)
 step_onward w e o v f (BuildsNone s t b) = onward_now w s t f (builds_plain (end_now w s) [] t b)
-step_onward w e o v f (Comes s n p t d found arrives) =
-    onward_kept w (came w (other s) t) v (onward_arrives w (other s) t (arrives_later (end_now w (other s)) w.draw p t d arrives)) (kept_verdict (came w (other s) t) (other s) d)
-step_onward w e o v f (IsAbsent s n none) = onward_same w f
-step_onward w e o v f (ForeignComes s p t d placed arrives) =
+step_onward w e o v f (Comes _ s p t d brings arrives) =
     onward_kept w (came w s t) v (onward_arrives w s t (arrives_later (end_now w s) w.draw p t d arrives)) (kept_verdict (came w s t) s d)
+step_onward w e o v f (IsAbsent s n none) = onward_same w f
 step_onward w e o v f (Unread s) = onward_came w s (end_now w s) (later_now (end_of w s) w.clock)
 step_onward w e o v f (Sends s c) =
     onward_kept w (with_end w s (send_leaves (send_answer (end_of w s) c) (end_of w s) c)) v
@@ -162,12 +162,8 @@ step_onward w e o v f (AbortsIt s r) =
     onward_kept w (with_end w s (abort_leaves (abort_answer (end_of w s) r) (end_of w s))) v
     (onward_plain w s (abort_leaves (abort_answer (end_of w s) r) (end_of w s)) f (plain_aborted (end_of w s) r))
     (kept_abort (with_end w s (abort_leaves (abort_answer (end_of w s) r) (end_of w s))) s (abort_answer (end_of w s) r))
-step_onward w e o v f (CutFirst s n p found) = onward_came w (other s) (end_now w (other s)) (later_now (end_of w (other s)) w.clock)
-step_onward w e o v f (CutLater s n p y front back x t d found part arrives untold) =
-    onward_arrives w (other s) t (arrives_later (end_now w (other s)) w.draw _ t d arrives)
-step_onward w e o v f (ForeignCutFirst s p placed) = onward_came w s (end_now w s) (later_now (end_of w s) w.clock)
-step_onward w e o v f (ForeignCutLater s p y front back x t d placed part arrives untold) =
-    onward_arrives w s t (arrives_later (end_now w s) w.draw _ t d arrives)
+step_onward w e o v f (CutFirst _ s p brings) = onward_came w s (end_now w s) (later_now (end_of w s) w.clock)
+step_onward w e o v f (CutLater _ s p y front back x t d brings part arrives untold) = onward_arrives w s t (arrives_later (end_now w s) w.draw _ t d arrives)
 step_onward w e o v f (NoMemory _ other_event) = onward_same w f
 
 -- ---- runs

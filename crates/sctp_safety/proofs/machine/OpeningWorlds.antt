@@ -13,7 +13,8 @@ use Rattle.sctp_model.specs.end.Opening.{own_init, body_for, echoing, begun}
 use Rattle.sctp_model.specs.end.Strays.{stray_verdict}
 use Rattle.sctp_model.specs.end.Building.{sent, packet_of}
 use Rattle.sctp_model.specs.end.UserCalls.{called}
-use Rattle.sctp_model.specs.World.{A, B, World, with_end, with_packet, end_now, came, with_verdict, told, Event, Drawing, Connect, Build, Deliver, Outcome, Done, Sent, Acted, Setup, configuration_of, start}
+use Rattle.sctp_model.specs.World.{A, B, World, with_end, with_packet, end_now, came, Setup, configuration_of, start}
+use Rattle.sctp_model.specs.Events.{with_verdict, told, Event, Drawing, Connect, Build, Deliver, Outcome, Done, Sent, Acted}
 
 -- ---- a seal that hides nothing: the numbers of the body one after the other
 
@@ -23,21 +24,17 @@ bit false = 0
 
 abbrev pub numbers : Body → List ℕ
 numbers b =
-    b.made ∷ b.listener_port ∷ b.caller_port ∷ b.listener_tag ∷ b.caller_tag ∷ b.listener_tsn ∷ b.caller_tsn ∷ b.caller_rwnd
-    ∷ b.streams_to_caller ∷ b.streams_from_caller ∷ bit b.partial ∷ bit b.interleave ∷ replicate 60 0
+    b.made ∷ b.listener.port ∷ b.caller.port ∷ b.listener.tag ∷ b.caller.tag ∷ b.listener.tsn ∷ b.caller.tsn ∷ b.rwnd
+    ∷ b.to_caller ∷ b.from_caller ∷ bit b.partial ∷ bit b.interleave ∷ replicate 60 0
 
 abbrev pub read : List ℕ → Option Body
 read (made ∷ lp ∷ cp ∷ lt ∷ ct ∷ ln ∷ cn ∷ rwnd ∷ to ∷ from ∷ p ∷ i ∷ more) = Some (record {
   made = made;
-  listener_port = lp;
-  caller_port = cp;
-  listener_tag = lt;
-  caller_tag = ct;
-  listener_tsn = ln;
-  caller_tsn = cn;
-  caller_rwnd = rwnd;
-  streams_to_caller = to;
-  streams_from_caller = from;
+  listener = record { port = lp; tag = lt; tsn = ln };
+  caller = record { port = cp; tag = ct; tsn = cn };
+  rwnd = rwnd;
+  to_caller = to;
+  from_caller = from;
   partial = p == 1;
   interleave = i == 1;
 })
@@ -59,7 +56,7 @@ open_seal = record { sealed = numbers; opened = read; size = λ b. refl; opens =
 
 abbrev pub two : Setup
 two = record {
-  common = record {
+  alike = record {
     own_port = 0;
     peer_port = 0;
     limit = 1200;

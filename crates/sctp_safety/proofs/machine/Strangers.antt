@@ -1,53 +1,60 @@
--- A stranger's packet changes nothing at an end: no tag of it passes, an INIT is passed over, and no cookie of it opens.
-use Rattle.std.proofs.Common.{◌≡◌, ℕ, nat_le, Bool, true, false, List, [], ◌∷◌, Option, Some, None, inl, refl, sym, subst, ap, eqb-true, ◌∙◌}
+-- A stranger's packet changes nothing at an end: under no tag of its own does it pass, an INIT is passed over, and no cookie of its making opens.
+use Rattle.std.proofs.Common.{◌≡◌, ℕ, nat_le, Bool, true, false, List, [], ◌∷◌, Option, Some, None, inl, inr, refl, sym, subst, ap, eqb-true}
 use Rattle.std.specs.Prelude.{if◌then◌else◌}
 use Rattle.sctp_model.specs.Lists.{Has}
 use Rattle.sctp_model.specs.Chunk.{InitMeaning, ChunkMeaning, Data, IData, Init, InitAck, Sack, Heartbeat, HeartbeatAck, Abort, Shutdown, ShutdownAck, Error, CookieEcho, CookieAck, ShutdownComplete, ForwardTsn, IForwardTsn, Unknown}
 use Rattle.sctp_model.specs.Packet.{Packet}
 use Rattle.sctp_model.specs.Places.{ArePlaced, is_misplaced}
 use Rattle.sctp_model.specs.end.Sealing.{Body, Sealing}
-use Rattle.sctp_model.specs.end.EndView.{Phase, Idle, Listening, Calling, Echoing, Open, Over, Role, Caller, Paired, Listener, EndView, has_association}
+use Rattle.sctp_model.specs.end.EndView.{Tags, Phase, Idle, Listening, Calling, Echoing, Open, Over, Role, Caller, Paired, Listener, EndView, has_association}
 use Rattle.sctp_model.specs.end.Opening.{Opens, Stale, Strange, is_addressed, body_read, age, COOKIE_LIFE}
 use Rattle.sctp_model.specs.end.Passing.{passes_tag, passes_first, passes_chunks, passes}
 use Rattle.sctp_model.specs.end.Strays.{Verdict, holds_abort, seal_at, listens, body_of, body_in, body_among}
 use Rattle.sctp_model.specs.end.Arriving.{AllAct, NoneLeft, Next, Last, Answered, Stopped, Elsewhere, NotOurs, Stray, Begins, Heard}
 use Rattle.sctp_model.specs.end.Arriving.{Over as Passes}
-use Rattle.sctp_model.specs.Premises.{IsOpened, HasCookie, IsStranger}
-use Rattle.sctp_safety.specs.Strangers.{IsDrawn, StrangersChangeNothing}
+use Rattle.sctp_model.specs.Premises.{IsBody, IsStranger}
+use Rattle.sctp_safety.specs.Strangers.{tags_of, IsDrawn, StrangersChangeNothing}
 
 -- ---- tags
 
--- what passes the tags of an association was drawn
-drawn_by_passing : (tags : List ℕ) (h : Phase) (b : Bool) (n : ℕ) → IsDrawn tags h → has_association h ≡ true → passes_tag h b n ≡ true → Has tags n
-drawn_by_passing tags Idle b n d has e = absurd (cc)
-drawn_by_passing tags Listening b n d has e = absurd (cc)
-drawn_by_passing tags (Calling x) true n d has e = absurd (cc)
-drawn_by_passing tags (Calling x) false n d has e = subst (λ (k : ℕ). Has tags k) (sym (eqb-true n x.tag e)) d
-drawn_by_passing tags (Echoing t xs) true n (own, peer) has e = subst (λ (k : ℕ). Has tags k) (sym (eqb-true n t.peer e)) peer
-drawn_by_passing tags (Echoing t xs) false n (own, peer) has e = subst (λ (k : ℕ). Has tags k) (sym (eqb-true n t.own e)) own
-drawn_by_passing tags (Open t g) true n (own, peer) has e = subst (λ (k : ℕ). Has tags k) (sym (eqb-true n t.peer e)) peer
-drawn_by_passing tags (Open t g) false n (own, peer) has e = subst (λ (k : ℕ). Has tags k) (sym (eqb-true n t.own e)) own
-drawn_by_passing tags (Over w) b n d has e = absurd (cc)
+-- one of two tags, whichever is asked for
+either_tag : (t : Tags) (reflected : Bool) (n : ℕ) → n ≡ (if reflected then t.peer else t.own) → Has (t.own ∷ t.peer ∷ []) n
+either_tag t true n e = inr (inl (sym e))
+either_tag t false n e = inl (sym e)
 
--- a first chunk that isn't an INIT goes by the tags
-passes_by_tag : (h : Phase) (x : ChunkMeaning) (n : ℕ) → ((m : InitMeaning) → x ≡ Init m → ⊥) → passes_first h x n ≡ true → (b : Bool) × (passes_tag h b n ≡ true)
-passes_by_tag h (Init m) n other e = absurd (other m refl)
-passes_by_tag h (Abort b xs) n other e = (b, e)
-passes_by_tag h (ShutdownComplete b) n other e = (b, e)
-passes_by_tag h (Data p) n other e = (false, e)
-passes_by_tag h (IData p) n other e = (false, e)
-passes_by_tag h (InitAck m) n other e = (false, e)
-passes_by_tag h (Sack s) n other e = (false, e)
-passes_by_tag h (Heartbeat i) n other e = (false, e)
-passes_by_tag h (HeartbeatAck i) n other e = (false, e)
-passes_by_tag h (Shutdown k) n other e = (false, e)
-passes_by_tag h ShutdownAck n other e = (false, e)
-passes_by_tag h (Error xs) n other e = (false, e)
-passes_by_tag h (CookieEcho xs) n other e = (false, e)
-passes_by_tag h CookieAck n other e = (false, e)
-passes_by_tag h (ForwardTsn m) n other e = (false, e)
-passes_by_tag h (IForwardTsn m) n other e = (false, e)
-passes_by_tag h (Unknown k f v) n other e = (false, e)
+-- A tag that passes is one that the end goes by.
+pub passing_is_own : (h : Phase) (reflected : Bool) (n : ℕ) → has_association h ≡ true → passes_tag h reflected n ≡ true → Has (tags_of h) n
+passing_is_own Idle b n has e = absurd (cc)
+passing_is_own Listening b n has e = absurd (cc)
+passing_is_own (Calling d) true n has e = absurd (cc)
+passing_is_own (Calling d) false n has e = inl (sym (eqb-true n d.tag e))
+passing_is_own (Echoing t xs) b n has e = either_tag t b n (eqb-true n (if b then t.peer else t.own) e)
+passing_is_own (Open t g) b n has e = either_tag t b n (eqb-true n (if b then t.peer else t.own) e)
+passing_is_own (Over why) b n has e = absurd (cc)
+
+-- Every first chunk but an INIT goes by them.
+data GoesBy (h : Phase) (n : ℕ) : ChunkMeaning → Type 0 where
+  Zero : (m : InitMeaning) → GoesBy h n (Init m)
+  Tag : (x : ChunkMeaning) (reflected : Bool) → passes_tag h reflected n ≡ true → GoesBy h n x
+
+goes_by : (h : Phase) (x : ChunkMeaning) (n : ℕ) → passes_first h x n ≡ true → GoesBy h n x
+goes_by h (Init m) n e = Zero m
+goes_by h (Abort b xs) n e = Tag _ b e
+goes_by h (ShutdownComplete b) n e = Tag _ b e
+goes_by h (Data p) n e = Tag _ false e
+goes_by h (IData p) n e = Tag _ false e
+goes_by h (InitAck m) n e = Tag _ false e
+goes_by h (Sack s) n e = Tag _ false e
+goes_by h (Heartbeat i) n e = Tag _ false e
+goes_by h (HeartbeatAck i) n e = Tag _ false e
+goes_by h (Shutdown k) n e = Tag _ false e
+goes_by h ShutdownAck n e = Tag _ false e
+goes_by h (Error xs) n e = Tag _ false e
+goes_by h (CookieEcho xs) n e = Tag _ false e
+goes_by h CookieAck n e = Tag _ false e
+goes_by h (ForwardTsn m) n e = Tag _ false e
+goes_by h (IForwardTsn m) n e = Tag _ false e
+goes_by h (Unknown k f v) n e = Tag _ false e
 
 -- ---- an INIT
 
@@ -67,14 +74,14 @@ init_passed e t tag m v (Stopped _ _ _ _ _ act) = refl
 
 -- ---- a cookie
 
--- what a listener finds, and where
+-- A body that begins an association stood in a cookie, first in its packet, at a listener whose seal opened it.
 pub record IsFound (e : EndView) (tag : ℕ) (xs : List ChunkMeaning) (b : Body) : Type 0 where
   pub seal : Sealing
   pub role : e.role ≡ Listener seal
   pub phase : e.phase ≡ Listening
   pub cookie : List ℕ
-  pub rest : List ChunkMeaning
-  pub chunks : xs ≡ CookieEcho cookie ∷ rest
+  pub behind : List ChunkMeaning
+  pub chunks : xs ≡ CookieEcho cookie ∷ behind
   pub opens : seal.opened cookie ≡ Some b
   pub addressed : is_addressed e tag b ≡ true
 
@@ -109,7 +116,7 @@ found_is e tag (x ∷ xs) b h = go (holds_abort (x ∷ xs)) h
     by_chunk (Some z) is (CookieEcho cookie) q =
         let l = listener_is e.phase e.role z is in
         let o = opens_is e tag (z.opened cookie) b q in
-        record { seal = z; role = l.1; phase = l.0; cookie = cookie; rest = xs; chunks = refl; opens = o.0; addressed = o.1 }
+        record { seal = z; role = l.1; phase = l.0; cookie = cookie; behind = xs; chunks = refl; opens = o.0; addressed = o.1 }
     by_chunk None is (CookieEcho cookie) q = absurd (cc)
     by_chunk (Some z) is y q = absurd (cc)
     by_chunk None is y q = absurd (cc)
@@ -123,42 +130,36 @@ found_is e tag (x ∷ xs) b h = go (holds_abort (x ∷ xs)) h
 none_left : (tag : ℕ) (e t : EndView) (b : Bool) (v : Verdict) → AllAct tag e b [] t v → t ≡ e
 none_left tag e t b v (NoneLeft _ _) = refl
 
-module _ (s : Sealing) (tags : List ℕ) (e t : EndView) (p : Packet) (v : Verdict) (strange : IsStranger s tags p) (drawn : IsDrawn tags e.phase) (has : has_association e.phase ≡ true) where
-  heard_stays : (xs : List ChunkMeaning) → ArePlaced xs → passes_chunks e.phase p.tag xs ≡ true → AllAct p.tag e false xs t v → t ≡ e
-  heard_stays [] placed through all = none_left p.tag e t false v all
-  heard_stays (x ∷ xs) placed through all = go x refl
+module _ (s : Sealing) (drawn : List ℕ) (e t : EndView) (p : Packet) (v : Verdict) (strange : IsStranger s drawn p) (own : IsDrawn drawn e.phase) where
+  -- where there is an association
+  heard_stays : has_association e.phase ≡ true → (xs : List ChunkMeaning) → ArePlaced xs → passes_chunks e.phase p.tag xs ≡ true → AllAct p.tag e false xs t v → t ≡ e
+  heard_stays has [] placed may all = none_left p.tag e t false v all
+  heard_stays has (x ∷ xs) placed may all = by x (goes_by e.phase x p.tag may) placed all
     where
-      unless_init : (y : ChunkMeaning) → x ≡ y → ((m : InitMeaning) → y ≡ Init m → ⊥) → t ≡ e
-      unless_init y same other =
-          let b = passes_by_tag e.phase x p.tag (λ m q. other m (sym same ∙ q)) through in
-          absurd (strange.tag (drawn_by_passing tags e.phase b.0 p.tag drawn has b.1))
+      by : (y : ChunkMeaning) → GoesBy e.phase p.tag y → ArePlaced (y ∷ xs) → AllAct p.tag e false (y ∷ xs) t v → t ≡ e
+      by y (Tag _ reflected through) stands acts = absurd (strange.untagged (own p.tag (passing_is_own e.phase reflected p.tag has through)))
+      by y (Zero m) stands acts =
+          init_passed e t p.tag m v (subst (λ (ys : List ChunkMeaning). AllAct p.tag e false (Init m ∷ ys) t v) (init_alone m xs stands) acts)
 
-      by_init : (m : InitMeaning) → x ≡ Init m → t ≡ e
-      by_init m same =
-          let alone = init_alone m xs (subst (λ (y : ChunkMeaning). ArePlaced (y ∷ xs)) same placed) in
-          init_passed e t p.tag m v (subst (λ (ys : List ChunkMeaning). AllAct p.tag e false (Init m ∷ ys) t v) alone
-          (subst (λ (y : ChunkMeaning). AllAct p.tag e false (y ∷ xs) t v) same all))
+  -- no cookie of a stranger opens
+  nothing_found : ((z : Sealing) → e.role ≡ Listener z → z ≡ s) → (b : Body) → IsFound e p.tag p.chunks b → ⊥
+  nothing_found one b f = strange.chunks (CookieEcho f.cookie) held (is_body (s.opened f.cookie) opens)
+    where
+      held : Has p.chunks (CookieEcho f.cookie)
+      held = subst (λ (xs : List ChunkMeaning). Has xs (CookieEcho f.cookie)) (sym f.chunks) (inl refl)
 
-      go : (y : ChunkMeaning) → x ≡ y → t ≡ e
-      go (Init m) same = by_init m same
-      go y same = unless_init y same (λ m q. cc)
+      opens : s.opened f.cookie ≡ Some b
+      opens = subst (λ (z : Sealing). z.opened f.cookie ≡ Some b) (one f.seal f.role) f.opens
+
+      is_body : (o : Option Body) → o ≡ Some b → IsBody o
+      is_body (Some x) q = tt
+      is_body None q = absurd (cc)
 
 pub strangers_change_nothing : StrangersChangeNothing
-strangers_change_nothing s tags e d p t v placed strange drawn one (Elsewhere ports) = refl
-strangers_change_nothing s tags e d p t v placed strange drawn one (NotOurs ports passes) = refl
-strangers_change_nothing s tags e d p t v placed strange drawn one (Stray ports passes none closed) = refl
-strangers_change_nothing s tags e d p t v placed strange drawn one (Begins b _ _ ports passes none opens acts) = absurd (go (found_is e p.tag p.chunks b opens))
-  where
-    go : IsFound e p.tag p.chunks b → ⊥
-    go f = strange.cookie (CookieEcho f.cookie) (subst (λ (xs : List ChunkMeaning). Has xs (CookieEcho f.cookie)) (sym f.chunks) (inl refl)) opened
-      where
-        known : s.opened f.cookie ≡ Some b
-        known = subst (λ (z : Sealing). z.opened f.cookie ≡ Some b) (one f.seal f.role) f.opens
-
-        opened : HasCookie s (CookieEcho f.cookie)
-        opened = by (s.opened f.cookie) known
-          where
-            by : (o : Option Body) → o ≡ Some b → IsOpened o
-            by None q = absurd (cc)
-            by (Some x) q = tt
-strangers_change_nothing s tags e d p t v placed strange drawn one (Heard _ _ ports passes has acts) = heard_stays s tags e t p v strange drawn has p.chunks placed passes acts
+strangers_change_nothing s drawn e d p t v strange placed own one (Elsewhere ports) = refl
+strangers_change_nothing s drawn e d p t v strange placed own one (NotOurs ports passes) = refl
+strangers_change_nothing s drawn e d p t v strange placed own one (Stray ports passes none closed) = refl
+strangers_change_nothing s drawn e d p t v strange placed own one (Begins b _ _ ports passes none opens acts) =
+    absurd (nothing_found s drawn e t p v strange own one b (found_is e p.tag p.chunks b opens))
+strangers_change_nothing s drawn e d p t v strange placed own one (Heard _ _ ports passes has acts) =
+    heard_stays s drawn e t p v strange own has p.chunks placed passes acts

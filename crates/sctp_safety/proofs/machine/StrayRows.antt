@@ -26,15 +26,11 @@ init_of tag outbound = Init (record { tag = tag; rwnd = 65536; outbound = outbou
 abbrev body : Body
 body = record {
   made = 0;
-  listener_port = 5001;
-  caller_port = 5000;
-  listener_tag = 9;
-  caller_tag = 7;
-  listener_tsn = 200;
-  caller_tsn = 100;
-  caller_rwnd = 65536;
-  streams_to_caller = 2;
-  streams_from_caller = 2;
+  listener = record { port = 5001; tag = 9; tsn = 200 };
+  caller = record { port = 5000; tag = 7; tsn = 100 };
+  rwnd = 65536;
+  to_caller = 2;
+  from_caller = 2;
   partial = true;
   interleave = true;
 }

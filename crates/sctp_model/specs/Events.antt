@@ -1,0 +1,105 @@
+-- What may happen in the world, and what is told of it.
+use Rattle.std.specs.Prelude.{ℕ, suc, Bool, true, false, List, length, Option, None, Some}
+use Rattle.sctp_model.specs.Packet.{Packet, size_of_packet}
+use Rattle.sctp_model.specs.Calls.{Call}
+use Rattle.sctp_model.specs.ReceiverView.{Handed}
+use Rattle.sctp_model.specs.sender.Abandoning.{AbandonAnswer}
+use Rattle.sctp_model.specs.end.EndView.{Draw}
+use Rattle.sctp_model.specs.end.Strays.{Verdict, Taken, Dropped, Answer}
+use Rattle.sctp_model.specs.end.UserCalls.{ConnectAnswer, Called, NotIdle, SendAnswer, ShutdownAnswer, Shut, NotShut, AbortAnswer, Aborts, NoPeer, TooLong}
+use Rattle.sctp_model.specs.World.{Side, World, bag_of, with_packet}
+
+-- ---- events
+
+-- One constructor for each thing that can happen.
+pub data Event : Type 0 where
+  -- both ends are opened without a packet, each by its draw, and told the other's
+  OpenBoth : (of_a of_b : Draw) → Event
+  -- a moment, in milliseconds; the chance for packets that come later; the caller calls
+  At : ℕ → Event
+  Drawing Connect : Draw → Event
+  -- an end is asked for its next packet
+  Build : Side → Event
+  -- the n-th packet of an end's bag comes to the other one
+  Deliver : Side → ℕ → Event
+  -- somebody else's packet comes to this end, as it reads; None where its bytes don't read
+  Foreign : Side → Option Packet → Event
+  -- the calls of an end's user: a message, a ticket, a stream, nothing, the bytes of a reason
+  Send : Side → Call → Event
+  Abandon Take : Side → ℕ → Event
+  Shutdown : Side → Event
+  Abort : Side → List ℕ → Event
+
+-- a packet comes to an end
+abbrev pub brings_packet : Event → Bool
+brings_packet (Deliver s n) = true
+brings_packet (Foreign s p) = true
+brings_packet e = false
+
+-- ---- what is told
+
+-- Packets are told by their number in the bag, from 1, and their length in bytes.
+pub data Outcome : Type 0 where
+  -- a call that has one refusal, for the state
+  Done RefusedState : Outcome
+  -- a packet was built, or none
+  Sent : ℕ → ℕ → Outcome
+  Quiet : Outcome
+  -- a packet came: it acted, was answered by this one, or was dropped for this reason; or the bag has none of that number
+  Acted Absent : Outcome
+  Answered : ℕ → ℕ → Outcome
+  NotActed : ℕ → Outcome
+  -- what the user is told of a message: its ticket or why it is refused, its fate, the message itself
+  Told : SendAnswer → Outcome
+  Fate : AbandonAnswer → Outcome
+  Message : Handed → Outcome
+  NoMessage : Outcome
+  -- a reason too long for one packet
+  AbortTooLong : Outcome
+
+-- the number of the next packet of an end's bag
+abbrev pub next_number : World → Side → ℕ
+next_number w s = suc (length (bag_of w s))
+
+-- a packet that an end answers with: told by its place in that end's own bag
+abbrev pub told_answer : World → Side → Packet → Outcome
+told_answer w s p = Answered (next_number w s) (size_of_packet p.chunks)
+
+-- what is told of a packet that came to an end
+abbrev pub told : World → Side → Verdict → Outcome
+told w s (Answer p) = told_answer w s p
+told w s (Dropped reason) = NotActed reason
+told w s Taken = Acted
+
+-- and its answer, if any, in the end's bag
+abbrev pub with_verdict : World → Side → Verdict → World
+with_verdict w s (Answer p) = with_packet w s p
+with_verdict w s (Dropped reason) = w
+with_verdict w s Taken = w
+
+-- what is told of the user's abort
+abbrev pub abort_told : World → Side → AbortAnswer → Outcome
+abort_told w s (Aborts p) = told_answer w s p
+abort_told w s NoPeer = RefusedState
+abort_told w s TooLong = AbortTooLong
+
+-- and its ABORT, if any, in the end's bag
+abbrev pub with_abort : World → Side → AbortAnswer → World
+with_abort w s (Aborts p) = with_packet w s p
+with_abort w s NoPeer = w
+with_abort w s TooLong = w
+
+-- what is told of the user's connect
+abbrev pub connect_told : ConnectAnswer → Outcome
+connect_told Called = Done
+connect_told NotIdle = RefusedState
+
+-- what is told of the user's shutdown
+abbrev pub shutdown_told : ShutdownAnswer → Outcome
+shutdown_told Shut = Done
+shutdown_told NotShut = RefusedState
+
+-- what is told of taking a message
+abbrev pub message_told : Option Handed → Outcome
+message_told (Some h) = Message h
+message_told None = NoMessage

@@ -1,0 +1,57 @@
+-- What the opening gives, whichever way two ends are opened: once both have an association they agree on everything that it stands on (RFC 9260, 5.1).
+use Rattle.std.specs.Prelude.{◌≡◌, ℕ, ◌<◌, ◌⊎◌, true, false, List, Some}
+use Rattle.sctp_model.specs.Lists.{Has}
+use Rattle.sctp_model.specs.Packet.{Packet}
+use Rattle.sctp_model.specs.end.Sealing.{Body, Sealing}
+use Rattle.sctp_model.specs.end.EndView.{Terms, Phase, Listening, Echoing, Open, Listener}
+use Rattle.sctp_model.specs.end.Opening.{terms_of_body}
+use Rattle.sctp_model.specs.end.Strays.{opened_by}
+use Rattle.sctp_model.specs.end.UserCalls.{is_open}
+use Rattle.sctp_model.specs.World.{Side, B, World, end_of, end_now, Setup}
+use Rattle.sctp_model.specs.Events.{Event}
+use Rattle.sctp_model.specs.Premises.{drawn_in, IsReachable}
+use Rattle.sctp_safety.specs.States.{has_begun, has_agreed}
+use Rattle.sctp_safety.specs.Strangers.{IsDrawn}
+
+-- What the one sends with the other receives with, and the same is turned on: first TSNs, streams, I-DATA, partial reliability
+-- (RFC 9260, 5.1.1; RFC 8260, 2.2.1; RFC 3758, 3.1). Each way there is a stream.
+pub record AreAgreed (x y : Terms) : Type 0 where
+  pub first_tsn : y.peer_tsn ≡ x.own_tsn
+  pub first_tsn_back : y.own_tsn ≡ x.peer_tsn
+  pub streams : y.inbound ≡ x.outbound
+  pub streams_back : y.outbound ≡ x.inbound
+  pub interleave : y.interleave ≡ x.interleave
+  pub partial : y.partial ≡ x.partial
+  pub some_streams : (0 < x.outbound) × (0 < x.inbound)
+
+-- Where both ends go by tags, each puts on its packets the tag that the other looks for (RFC 9260, 8.5).
+abbrev pub AreEachOthers : Phase → Phase → Type 0
+AreEachOthers (Open t g) (Open u h) = (u.own ≡ t.peer) × (u.peer ≡ t.own)
+AreEachOthers (Echoing t cookie) (Open u h) = (u.own ≡ t.peer) × (u.peer ≡ t.own)
+AreEachOthers k l = Unit {0}
+
+-- No association has both its ends yet: the listener remembers nothing, and the caller, if it has called, was never open.
+pub record AreApart (w : World) : Type 0 where
+  pub listens : w.b.phase ≡ Listening
+  pub unopened : is_open w.a.phase ≡ false
+
+-- The association has, or had, both its ends, and they agree, for good.
+pub record HaveMet (w : World) : Type 0 where
+  pub caller : has_agreed w.a.phase ≡ true
+  pub listener : has_begun w.b.phase ≡ true
+  pub terms : AreAgreed w.a.terms w.b.terms
+  pub tags : AreEachOthers w.a.phase w.b.phase
+  pub closed_to_opening : w.openable ≡ false
+
+-- What the opening keeps in every world, as far as the tags go that were drawn: the ends go by drawn tags and the one seal, and every cookie of the
+-- caller's that would open says what the caller has joined on. So the ends are apart, or they have met.
+pub record IsOpening (s : Setup) (drawn : List ℕ) (w : World) : Type 0 where
+  pub drawn_tags : (x : Side) → IsDrawn drawn (end_of w x).phase
+  pub one_seal : (x : Side) (z : Sealing) → (end_of w x).role ≡ Listener z → z ≡ s.sealing
+  pub cookies : (p : Packet) (b : Body) → Has w.from_a p → opened_by (end_now w B) p ≡ Some b →
+      (has_agreed w.a.phase ≡ true) × AreAgreed w.a.terms (terms_of_body b)
+  pub met : AreApart w ⊎ HaveMet w
+
+-- THE ENDS AGREE: so it is in every world of every run that meets the premises.
+abbrev pub EndsAgree : Type 0
+EndsAgree = (s : Setup) (events : List Event) (w : World) → IsReachable s events w → IsOpening s (drawn_in events) w
