@@ -23,3 +23,8 @@ joined (x ∷ xs) = x ++ joined xs
 -- the same function, but for one argument
 abbrev pub at : {A : Type 0} → (ℕ → A) → ℕ → A → ℕ → A
 at f s v t = if t == s then v else f t
+
+-- each element of a list stands in this relation to all that are behind it
+abbrev pub AreInOrder : {A : Type 0} → (A → A → Type 0) → List A → Type 0
+AreInOrder R [] = Unit {0}
+AreInOrder R (x ∷ xs) = ((y : _) → Has xs y → R x y) × AreInOrder R xs

@@ -1,17 +1,15 @@
--- The runs kept are the maximal runs of the view, and the first 64 of them its lowest 64.
+-- The runs kept are the maximal runs of the view.
 use Rattle.std.proofs.Common.{◌≡◌, ℕ, zero, suc, ◌+◌, ◌-◌, ◌<◌, ◌≤◌, ◌⊎◌, true, false, List, [], ◌∷◌, length, take, map, inl, inr, refl, sym, ◌∙◌, ap, subst, arith}
 use Rattle.std.proofs.lemmas.Bool.{cases_Bool, cases_lt}
 use Rattle.std.proofs.lemmas.Bool.Decides.{nat_tests}
 use Rattle.std.proofs.lemmas.Grind.{common_steps}
-use Rattle.sctp_model.specs.Limits.{BLOCK_LIMIT}
 use Rattle.sctp_model.specs.Lists.{Has}
 use Rattle.sctp_model.specs.Chunk.{BlockMeaning}
 use Rattle.sctp_model.specs.ReceiverView.{ReceiverView}
-use Rattle.sctp_model.specs.receiver.SackMade.{IsRun, AreBlocksRising, AreLowestRuns}
+use Rattle.sctp_model.specs.receiver.SackMade.{IsRun, AreBlocksRising, AreAllRuns}
 use Rattle.sctp_recv.specs.declared.runs.Run.{Run}
 use Rattle.sctp_recv.specs.Runs.{in_run, in_runs, AreRuns}
 use Rattle.sctp_recv.specs.Blocks.{block_of_run}
-use Rattle.sctp_recv.specs.AllRuns.{AreAllRuns}
 
 -- ---- one run among runs
 
@@ -140,64 +138,9 @@ pub mapped_length : (c : ℕ) (rs : List Run) → length (map (block_of_run c) r
 mapped_length c [] = refl
 mapped_length c (r ∷ rs) = ap suc (mapped_length c rs)
 
-runs_take : (n c : ℕ) (rs : List Run) → AreRuns c rs → AreRuns c (take n rs)
-runs_take zero c rs h = tt
-runs_take (suc n) c [] h = tt
-runs_take (suc n) c (r ∷ rs) h = (h.0, h.1, runs_take n r.last rs h.2)
-
-has_take : (n : ℕ) (rs : List Run) (r : Run) → Has (take n rs) r → Has rs r
-has_take zero rs r there = absurd there
-has_take (suc n) [] r there = there
-has_take (suc n) (x ∷ xs) r (inl e) = inl e
-has_take (suc n) (x ∷ xs) r (inr there) = inr (has_take n xs r there)
-
-take_few : (n : ℕ) (rs : List Run) → length (take n rs) ≤ n
-take_few zero rs = omega arith
-take_few (suc n) [] = omega arith
-take_few (suc n) (r ∷ rs) = omega (arith, take_few n rs)
-
--- a run is among the first n, or there are n and they lie below it
-among_first : (n d : ℕ) (rs : List Run) (r : Run) → AreRuns d rs → Has rs r → Has (take n rs) r ⊎ ((length (take n rs) ≡ n) × ((s : Run) → Has (take n rs) s → s.last < r.first))
-among_first zero d rs r h there = inr (refl, λ s k. absurd k)
-among_first (suc n) d [] r h there = absurd there
-among_first (suc n) d (x ∷ xs) r h (inl e) = inl (inl e)
-among_first (suc n) d (x ∷ xs) r h (inr there) = elim (among_first n x.last xs r h.2 there) [
-  | inl k ↦ inl (inr k)
-  | inr past ↦ inr (
-    ap suc past.0,
-    λ s k. elim k [
-      | inl e ↦ let above = has_above x.last xs r h.2 there in let last : x.last ≡ s.last = ap (λ (y : Run). y.last) e in omega (arith, above.0)
-      | inr later ↦ past.1 s later
-    ],
-  )
-]
-
 pub all_runs : (v : ReceiverView) (c : ℕ) (all : List Run) → AreRuns c all → ((i : ℕ) → c < i → v.seen i ≡ in_runs all i) → AreAllRuns v c (map (block_of_run c) all)
 all_runs v c all h says = record {
   rising = blocks_rise c c all (omega arith) h;
   runs = λ b there. let m = mapped_has c all b there in subst (IsRun v c) m.2 (run_is v c all h says m.0 m.1);
   all = λ b run. let k = is_kept v c all h says b run in subst (Has (map (block_of_run c) all)) k.2 (has_mapped c all k.0 k.1);
-}
-
-pub lowest_runs : (v : ReceiverView) (c : ℕ) (all : List Run) → AreRuns c all → ((i : ℕ) → c < i → v.seen i ≡ in_runs all i) →
-    AreLowestRuns v c (map (block_of_run c) (take BLOCK_LIMIT all))
-lowest_runs v c all h says = record {
-  few = let few = take_few BLOCK_LIMIT all in let same = mapped_length c (take BLOCK_LIMIT all) in omega arith;
-  runs = λ b there. let m = mapped_has c (take BLOCK_LIMIT all) b there in subst (IsRun v c) m.2 (run_is v c all h says m.0 (has_take BLOCK_LIMIT all m.0 m.1));
-  rising = blocks_rise c c (take BLOCK_LIMIT all) (omega arith) (runs_take BLOCK_LIMIT c all h);
-  lowest = λ b run.
-      let k = is_kept v c all h says b run in
-      elim (among_first BLOCK_LIMIT c all k.0 h k.1) [
-        | inl there ↦ inl (subst (Has (map (block_of_run c) (take BLOCK_LIMIT all))) k.2 (has_mapped c (take BLOCK_LIMIT all) k.0 there))
-        | inr past ↦ inr (
-          mapped_length c (take BLOCK_LIMIT all) ∙ past.0,
-          λ a there.
-              let m = mapped_has c (take BLOCK_LIMIT all) a there in
-              let above = has_above c all m.0 h (has_take BLOCK_LIMIT all m.0 m.1) in
-              let end : m.0.last - c ≡ a.end = ap (λ (x : BlockMeaning). x.end) m.2 in
-              let start : k.0.first - c ≡ b.start = ap (λ (x : BlockMeaning). x.start) k.2 in
-              let below = past.1 m.0 m.1 in
-              omega (arith, above.0, above.1),
-        )
-      ];
 }

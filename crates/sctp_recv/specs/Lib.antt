@@ -10,6 +10,5 @@ pub mod KeptOf
 pub mod Reordered
 pub mod Chains
 pub mod StandsFor
-pub mod AllRuns
 pub mod SackOf
 pub mod Laws

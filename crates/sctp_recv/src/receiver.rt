@@ -4,10 +4,9 @@ ghost use Rattle.std.specs.Prelude.{◌≡◌, ℕ, ◌≤◌, ◌-◌, IfOk, On
 ghost use Rattle.sctp_model.specs.Chunk.{BlockMeaning};
 ghost use Rattle.sctp_model.specs.Serial.{tsn};
 ghost use Rattle.sctp_model.specs.ReceiverView.{ReceiverView, IsCumulative, fresh_receiver, held_bytes, room_left};
-ghost use Rattle.sctp_model.specs.receiver.SackMade.{IsSack, sack_sent, TakeLeaves};
+ghost use Rattle.sctp_model.specs.receiver.SackMade.{AreAllRuns, IsSack, sack_sent, TakeLeaves};
 ghost use Rattle.sctp_recv.specs.HandedOf.{handed_of};
 ghost use Rattle.sctp_recv.specs.SackOf.{lists_meaning};
-ghost use Rattle.sctp_recv.specs.AllRuns.{AreAllRuns};
 ghost use Rattle.sctp_recv.specs.StandsFor.{StandsFor};
 
 use crate::chain::Chain;

@@ -4,6 +4,5 @@ pub mod WholesLemmas
 pub mod NumberLemmas
 pub mod StepsLemmas
 pub mod RunsLemmas
-pub mod OneSack
 pub mod LawLemmas
 pub mod Examples

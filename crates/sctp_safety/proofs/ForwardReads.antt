@@ -1,8 +1,6 @@
 -- A FORWARD of the bag is read as it was built, whatever is answered to it, and what its answer leaves is moves.
-use Rattle.std.proofs.Common.{◌≡◌, ℕ, zero, suc, ◌+◌, ◌-◌, ◌^◌, ◌<◌, ◌≤◌, ◌⊎◌, ◌==◌, not, max, ◌||◌, nat_le, true, false, Bool, List, [], length, Some, inl, inr, refl, sym, subst, ap, arith, ◌∙◌, le_refl}
-use Rattle.std.specs.Prelude.{if◌then◌else◌}
-use Rattle.std.proofs.lemmas.Bool.{cases_lt}
-use Rattle.std.proofs.lemmas.Bool.Decides.{nat_tests}
+use Rattle.std.proofs.Common.{◌≡◌, ℕ, zero, suc, ◌+◌, ◌-◌, ◌^◌, ◌<◌, ◌≤◌, ◌⊎◌, max, ◌||◌, nat_le, true, false, List, [], length, Some, inl, inr, refl, sym, subst, ap, arith, ◌∙◌, le_refl}
+use Rattle.std.proofs.lemmas.Bool.{cases_lt, or_parts}
 use Rattle.sctp_model.specs.Lists.{Has}
 use Rattle.sctp_model.specs.Serial.{COUNTS, tsn, ahead, half_space}
 use Rattle.sctp_model.specs.Chunk.{SkipMeaning, ForwardMeaning}
@@ -10,13 +8,14 @@ use Rattle.sctp_model.specs.Format.{Format, Plain, Interleaved, Kind, Ordered, U
 use Rattle.sctp_model.specs.Framing.{wire_number, number_near}
 use Rattle.sctp_model.specs.Plan.{Message, Part, entry_at, message_at}
 use Rattle.sctp_model.specs.Pieces.{Piece}
-use Rattle.sctp_model.specs.Forward.{Skip, Forward}
+use Rattle.sctp_model.specs.Forward.{Skip, Forward, skipped}
 use Rattle.sctp_model.specs.ReceiverView.{ReceiverView, IsCumulative}
-use Rattle.sctp_model.specs.Receiving.{HasNoWhole, IsWholeWith, GivesAll}
+use Rattle.sctp_model.specs.Receiving.{HasNoWholeWith, GivesAll}
 use Rattle.sctp_model.specs.Safe.{WasHanded}
 use Rattle.sctp_model.specs.receiver.Reading.{offset, index_at, is_behind, is_ahead, reference_in}
-use Rattle.sctp_model.specs.receiver.ForwardTaken.{ForwardAnswer, OutOfDate, Bad, Moved, names_other_stream, skipped_by, jumped, is_left_behind, let_go, ForwardTaken}
-use Rattle.sctp_model.specs.receiver.Laws.{IsIdle}
+use Rattle.sctp_model.specs.receiver.ForwardTaken.{ForwardAnswer, OutOfDate, Bad, Moved, names_other_stream, skips_read, jumped, stays_by, let_go, ForwardTaken}
+use Rattle.sctp_model.specs.receiver.Laws.{IsWaiting, IsIdle}
+use Rattle.sctp_model.proofs.receiver.RowLemmas.{row_fails}
 use Rattle.sctp_safety.specs.Way.{Way, IsSkippedBy, Forward_comes, Let_go, with_receiver}
 use Rattle.sctp_safety.specs.SenderLaws.{IsUsual}
 use Rattle.sctp_safety.specs.ReceiverLaws.{IsJoined, IsCounted, IsReceived, IsForwardSaid, ForwardTakenIsMoves}
@@ -27,17 +26,11 @@ use Rattle.sctp_safety.proofs.UsualLemmas.{good_usual}
 use Rattle.sctp_safety.proofs.NearReads.{ahead_is, near_16, near_32}
 use Rattle.sctp_safety.proofs.WaitedFor.{not_far_above, not_far_below}
 use Rattle.sctp_safety.proofs.ReadBounds.{cumulative_within, cum_within, passed_within, skip_within, next_within}
-use Rattle.sctp_safety.proofs.IdleLemmas.{fewer_none, IsGivenBelow, all_given}
-use Rattle.sctp_safety.proofs.PieceReads.{waiting}
-use Rattle.sctp_safety.proofs.PieceAnswers.{or_none}
-use Rattle.sctp_safety.proofs.SkipReads.{ReadsSkip, ended, ended_grows, ended_within, ended_counts, ended_other, streams_are, let_go_is}
+use Rattle.sctp_safety.proofs.IdleLemmas.{still_waiting, IsGivenBelow, all_given}
+use Rattle.sctp_safety.proofs.PieceAnswers.{ahead_of}
+use Rattle.sctp_safety.proofs.SkipReads.{ReadsSkip, counting, read_again, counting_skips, counting_other, streams_are, let_go_is}
 
 -- ---- the answer
-
-moved_unless : (b d : Bool) → (if b then OutOfDate else if d then Bad else Moved) ≡ Moved → (b ≡ false) × (d ≡ false)
-moved_unless true d h = absurd (cc)
-moved_unless false true h = absurd (cc)
-moved_unless false false h = (refl, refl)
 
 module _ (w : Way) (m : ForwardMeaning) (usual : IsUsual w) (joined : IsJoined w) (counted : IsCounted w.sender) (idle : IsIdle w.format w.receiver)
     (said : IsForwardSaid w.format w.sender.initial w.sender.plan w.forwards m) where
@@ -67,8 +60,8 @@ module _ (w : Way) (m : ForwardMeaning) (usual : IsUsual w) (joined : IsJoined w
       wire : m.cumulative ≡ tsn w.receiver.initial x.point
       wire = said.cumulative ∙ ap (λ (i : ℕ). tsn i x.point) (sym joined.initial)
 
-      split : ((offset w.receiver c m.cumulative == 0) ≡ false) × (nat_le (half_space 32) (offset w.receiver c m.cumulative) ≡ false)
-      split = or_none (offset w.receiver c m.cumulative == 0) (nat_le (half_space 32) (offset w.receiver c m.cumulative)) new
+      new_tsn : (0 < offset w.receiver c m.cumulative) × (nat_le (half_space 32) (offset w.receiver c m.cumulative) ≡ false)
+      new_tsn = ahead_of w.receiver c m.cumulative new
 
       index : index_at w.receiver c m.cumulative ≡ x.point
       index =
@@ -77,10 +70,10 @@ module _ (w : Way) (m : ForwardMeaning) (usual : IsUsual w) (joined : IsJoined w
           let b = point_within in
           subst (λ (y : ℕ). c + ahead 32 (tsn w.receiver.initial c) y ≡ x.point) (sym wire)
           (ahead_is w.receiver.initial c x.point (omega (arith, a, t)) (omega (arith, b, t))
-          (subst (λ (y : ℕ). nat_le (half_space 32) (ahead 32 (tsn w.receiver.initial c) y) ≡ false) wire split.1))
+          (subst (λ (y : ℕ). nat_le (half_space 32) (ahead 32 (tsn w.receiver.initial c) y) ≡ false) wire new_tsn.1))
 
       past : c < x.point
-      past = let z = split.0 in let i = index in grind (arith, z, i, nat_tests)
+      past = let z = new_tsn.0 in let i = index in omega (arith, z, i)
 
   -- an ordered number that is listed lies within 16 bits of the next one
   ordered_reads : (c : ℕ) → IsCumulative w.receiver c → c < x.point → (y : Skip) → Has x.skips y → y.lane ≡ ordered_lane y.lane.stream → y.number < COUNTS - 1 →
@@ -109,7 +102,7 @@ module _ (w : Way) (m : ForwardMeaning) (usual : IsUsual w) (joined : IsJoined w
           go : (w.receiver.next s < y.number) ⊎ (y.number ≤ w.receiver.next s) → y.number < w.receiver.next s + 2 ^ 15
           go (inr l) = omega (arith, l)
           go (inl l) =
-              let h = not_far_above w.format w.sender w.receiver s c 32767 g.arranged g.held cumulative.reached (waiting w.format w.receiver s idle) window entry.0 y.number
+              let h = not_far_above w.format w.sender w.receiver s c 32767 g.arranged g.held cumulative.reached (idle.ordered s) window entry.0 y.number
               (Part (ordered_lane s) y.number 0) entry.1 (refl, refl) l in
               omega (arith, h)
 
@@ -179,7 +172,7 @@ module _ (w : Way) (m : ForwardMeaning) (usual : IsUsual w) (joined : IsJoined w
       reads = skip_reads c cumulative past
 
       skip : Lane → ℕ
-      skip = ended w.format w.receiver x.skips w.receiver.skip
+      skip = skipped w.receiver.skip (counting w.receiver x.skips)
 
       mid : ReceiverView
       mid = record w.receiver { jump = max w.receiver.jump x.point; skip = skip }
@@ -187,49 +180,50 @@ module _ (w : Way) (m : ForwardMeaning) (usual : IsUsual w) (joined : IsJoined w
       low : ReceiverView
       low = let_go w.format mid
 
+      -- the view after the FORWARD's index and entries were taken
+      Low : ℕ → List Skip → ReceiverView
+      Low i ys = let_go w.format (record w.receiver { jump = max w.receiver.jump i; skip = skipped w.receiver.skip ys })
+
+      entries : skips_read w.format w.receiver m.skips ≡ counting w.receiver x.skips
+      entries = ap (skips_read w.format w.receiver) said.skips ∙ read_again w.format w.receiver x.skips reads
+
       all : GivesAll w.format w.receiver.streams low t
-      all = subst (λ (i : ℕ). GivesAll w.format w.receiver.streams (let_go w.format (record w.receiver { jump = max w.receiver.jump i; skip = skip })) t) index
-          (subst (λ (ys : List SkipMeaning). GivesAll w.format w.receiver.streams
-          (let_go w.format (record w.receiver { jump = max w.receiver.jump (index_at w.receiver c m.cumulative); skip = skipped_by w.format w.receiver ys w.receiver.skip })) t) said.skips gives)
+      all = subst (λ (v : ReceiverView). GivesAll w.format w.receiver.streams v t) (λ i. Low (index i) (entries i)) gives
 
       by : IsSkippedBy w.receiver x.skips skip
-      by = record {
-        raised = ended_grows w.format w.receiver x.skips w.receiver.skip reads;
-        within = ended_within w.format w.receiver x.skips w.receiver.skip w.receiver.skip reads (λ l. le_refl (w.receiver.skip l));
-        counts = ended_counts w.format w.receiver x.skips w.receiver.skip reads;
-      }
+      by = counting_skips w.receiver x.skips
 
       given : IsGivenBelow w.format w.receiver.streams low t
       given = all_given w.format w.receiver.streams low t all
 
       fewer : (z : Piece) → Has t.kept z → Has w.receiver.kept z
-      fewer z h = Has-filtered (λ (y : Piece). not (is_left_behind w.format y.lane.kind mid y)) w.receiver.kept z (given.fewer z h)
+      fewer z h = Has-filtered (λ (y : Piece). stays_by y.lane.kind w.format mid y) w.receiver.kept z (given.fewer z h)
 
       unlisted : (s : ℕ) → w.receiver.streams ≤ s → skip (ordered_lane s) ≡ w.receiver.skip (ordered_lane s)
-      unlisted s b = ended_other w.format w.receiver x.skips w.receiver.skip (ordered_lane s) reads
+      unlisted s b = counting_other w.receiver x.skips (ordered_lane s)
           (λ y h e. let l = streams_are w.format w.receiver.streams x.skips (subst (λ (ys : List SkipMeaning). names_other_stream w.receiver.streams ys ≡ false) said.skips streams) y h in
           let q : s ≡ y.lane.stream = ap (λ (k : Lane). k.stream) e in
-          omega (arith, l, q, b))
+          omega (arith, l, q, b)) w.receiver.skip
 
-      ordered : (s : ℕ) → (s < w.receiver.streams) ⊎ (w.receiver.streams ≤ s) → (t.skip (ordered_lane s) ≤ t.next s) × HasNoWhole w.format t.kept (ordered_lane s) (t.next s)
+      ordered : (s : ℕ) → (s < w.receiver.streams) ⊎ (w.receiver.streams ≤ s) → IsWaiting w.format t s
       ordered s (inl b) = given.waits s b
       ordered s (inr b) =
           let i = idle.ordered s in
           let n : t.next s ≡ w.receiver.next s = given.others s b in
           let k : t.skip (ordered_lane s) ≡ w.receiver.skip (ordered_lane s) = ap (λ (q : Lane → ℕ). q (ordered_lane s)) given.skip ∙ unlisted s b in
-          let a = i.0 in
-          (omega (arith, a, n, k), subst (λ (j : ℕ). HasNoWhole w.format t.kept (ordered_lane s) j) (sym n) (fewer_none w.format w.receiver.kept t.kept (ordered_lane s) (w.receiver.next s) fewer i.1))
+          still_waiting w.format w.receiver t s fewer n k i
 
-      unordered : (y : Piece) (xs : List Piece) → y.lane.kind ≡ Unordered → IsWholeWith w.format t.kept y xs → ⊥
-      unordered y xs kind (whole, within, has) = idle.unordered y xs kind (whole, (λ z h. fewer z (within z h)), has)
+      unordered : (y : Piece) → y.lane.kind ≡ Unordered → HasNoWholeWith w.format t.kept y
+      unordered y kind xs (whole, within, has) = idle.unordered y kind xs (whole, (λ z h. fewer z (within z h)), has)
 
   received : (a : ForwardAnswer) (t : ReceiverView) → ForwardTaken w.format w.receiver m a t → IsReceived w t
   received OutOfDate t taken = subst (IsReceived w) (sym taken.leaves) same
   received Bad t taken = subst (IsReceived w) (sym taken.leaves) same
   received Moved t taken =
-      let a = moved_unless (is_behind w.receiver taken.c m.cumulative) (is_ahead w.receiver taken.c m.cumulative || names_other_stream w.receiver.streams m.skips) (sym taken.answer) in
-      let b = or_none (is_ahead w.receiver taken.c m.cumulative) (names_other_stream w.receiver.streams m.skips) a.1 in
-      moved taken.c t taken.cumulative (index_read taken.c taken.cumulative a.0) b.1 taken.leaves
+      let new = row_fails (is_behind w.receiver taken.c m.cumulative) OutOfDate _ Moved (sym taken.answer) (λ e. cc) in
+      let good = row_fails (is_ahead w.receiver taken.c m.cumulative || names_other_stream w.receiver.streams m.skips) Bad Moved Moved new.1 (λ e. cc) in
+      let parts = or_parts (is_ahead w.receiver taken.c m.cumulative) (names_other_stream w.receiver.streams m.skips) good.0 in
+      moved taken.c t taken.cumulative (index_read taken.c taken.cumulative new.0) parts.1 taken.leaves
 
 pub forward_taken_is_moves : ForwardTakenIsMoves
 forward_taken_is_moves w m a t usual joined counted idle said taken = received w m usual joined counted idle said a t taken

@@ -5,9 +5,10 @@ use Rattle.sctp_model.specs.Lists.{Has, IsWithin}
 use Rattle.sctp_model.specs.Format.{Format, Plain, Interleaved, Kind, Ordered, Unordered, Lane, ordered_lane, same_lane}
 use Rattle.sctp_model.specs.Pieces.{Piece, same_number}
 use Rattle.sctp_model.specs.Whole.{IsWhole}
-use Rattle.sctp_model.specs.ReceiverView.{Handed, ReceiverView, fresh_receiver}
-use Rattle.sctp_model.specs.Receiving.{IsWholeNumber, HasNoWhole, IsDue, Stop, Over, Past, without_below, GivesOrdered, GivesAll, GivesUnordered, Gives, IsWholeWith, has_index, goes_with, without_message, recorded, Takes, is_below}
-use Rattle.sctp_model.specs.receiver.Laws.{IsIdle}
+use Rattle.sctp_model.specs.ReceiverView.{ReceiverView, fresh_receiver}
+use Rattle.sctp_model.specs.Receiving.{IsWholeNumber, HasNoWhole, HasNoWholeWith, without_below, GivesOrdered, GivesAll, GivesUnordered, Gives, IsWholeWith, has_index, goes_with, without_message, recorded, Takes, is_below}
+use Rattle.sctp_model.specs.receiver.Laws.{IsWaiting, IsIdle}
+use Rattle.sctp_model.proofs.receiver.DueWords.{ends_at}
 use Rattle.sctp_safety.proofs.Basics.{at_same, at_other, same_lane-refl, Has-filtered, filter_is}
 use Rattle.sctp_safety.proofs.Taken.{row_same, none_stays}
 
@@ -51,21 +52,15 @@ fewer_none f kept less l n fewer none xs (whole, within, number) = none xs (whol
 
 pub idle_fresh : (f : Format) (initial streams buffer : ℕ) → IsIdle f (fresh_receiver initial streams buffer)
 idle_fresh f initial streams buffer = record {
-  ordered = λ s. (omega arith, λ xs h. let y = number_first f (ordered_lane s) 0 [] xs h in h.1 y.0 y.1);
-  unordered = λ y xs kind h. h.1 y h.2;
+  ordered = λ s. record { passed = omega arith; none = λ xs h. let y = number_first f (ordered_lane s) 0 [] xs h in h.1 y.0 y.1 };
+  unordered = λ y kind xs h. h.1 y h.2;
 }
 
 -- ---- what is due on a stream is handed over
 
--- after what is due, the number is neither skipped nor whole
-due_ends : (f : Format) (r : ReceiverView) (s n m : ℕ) (ms : List Handed) → IsDue f r s n ms m → (r.skip (ordered_lane s) ≤ m) × HasNoWhole f r.kept (ordered_lane s) m
-due_ends f r s n m ms (Stop _ skip none) = (skip, none)
-due_ends f r s n m ms (Over _ _ x xs rest whole lowest due) = due_ends f r s (suc n) m rest due
-due_ends f r s n m ms (Past _ _ _ below none due) = due_ends f r s (suc n) m ms due
-
 -- What one stream is given: its next number waits, and of the others nothing changes but that less is kept.
 pub record IsGiven (f : Format) (s : ℕ) (r t : ReceiverView) : Type 0 where
-  pub waits : (t.skip (ordered_lane s) ≤ t.next s) × HasNoWhole f t.kept (ordered_lane s) (t.next s)
+  pub waits : IsWaiting f t s
   pub others : (u : ℕ) → (u ≡ s → ⊥) → t.next u ≡ r.next u
   pub skip : t.skip ≡ r.skip
   pub fewer : IsWithin t.kept r.kept
@@ -75,8 +70,11 @@ pub record IsGiven (f : Format) (s : ℕ) (r t : ReceiverView) : Type 0 where
 
 pub ordered_given : (f : Format) (s : ℕ) (r t : ReceiverView) → GivesOrdered f s r t → IsGiven f s r t
 ordered_given f s r t (ms, n, due, e) = subst (IsGiven f s r) (sym e) (record {
-  waits = subst (λ (m : ℕ). (r.skip (ordered_lane s) ≤ m) × HasNoWhole f (without_below r.kept s n) (ordered_lane s) m) (sym (at_same r.next s n))
-      (ends.0, none_stays f r.kept s n ends.1);
+  waits = record {
+    passed = subst (λ (m : ℕ). r.skip (ordered_lane s) ≤ m) (sym (at_same r.next s n)) (ends_at f r s (r.next s) ms n due).0;
+    none = subst (HasNoWhole f (without_below r.kept s n) (ordered_lane s)) (sym (at_same r.next s n))
+        (none_stays f r.kept s n (ends_at f r s (r.next s) ms n due).1);
+  };
   others = λ u ne. at_other r.next s n u ne;
   skip = refl;
   fewer = λ x h. Has-filtered (λ (y : Piece). not (is_below s n y)) r.kept x h;
@@ -84,9 +82,14 @@ ordered_given f s r t (ms, n, due, e) = subst (IsGiven f s r) (sym e) (record {
   streams = refl;
   buffer = refl;
 })
-  where
-    ends : (r.skip (ordered_lane s) ≤ n) × HasNoWhole f r.kept (ordered_lane s) n
-    ends = due_ends f r s (r.next s) n ms due
+
+-- where fewer chunks are kept and a stream's numbers are as they were, it waits as before
+pub still_waiting : (f : Format) (r t : ReceiverView) (s : ℕ) → IsWithin t.kept r.kept → t.next s ≡ r.next s → t.skip (ordered_lane s) ≡ r.skip (ordered_lane s) →
+    IsWaiting f r s → IsWaiting f t s
+still_waiting f r t s fewer next skip waits = record {
+  passed = let p = waits.passed in omega (arith, p, next, skip);
+  none = subst (HasNoWhole f t.kept (ordered_lane s)) (sym next) (fewer_none f r.kept t.kept (ordered_lane s) (r.next s) fewer waits.none);
+}
 
 -- ---- a chunk that is taken
 
@@ -101,23 +104,18 @@ idle_ordered f r x t idle lane gives = record { ordered = ordered; unordered = u
     g : IsGiven f x.lane.stream (record (recorded r x) { kept = x ∷ r.kept }) t
     g = ordered_given f x.lane.stream (record (recorded r x) { kept = x ∷ r.kept }) t gives
 
-    ordered : (u : ℕ) → (t.skip (ordered_lane u) ≤ t.next u) × HasNoWhole f t.kept (ordered_lane u) (t.next u)
-    ordered u = go (cases_eq u x.lane.stream)
-      where
-        go : (u ≡ x.lane.stream) ⊎ (u ≡ x.lane.stream → ⊥) → (t.skip (ordered_lane u) ≤ t.next u) × HasNoWhole f t.kept (ordered_lane u) (t.next u)
-        go (inl e) = subst (λ (v : ℕ). (t.skip (ordered_lane v) ≤ t.next v) × HasNoWhole f t.kept (ordered_lane v) (t.next v)) (sym e) g.waits
-        go (inr ne) =
-            let i = idle.ordered u in
-            let n = g.others u ne in (
-              subst (λ (k : Lane → ℕ). k (ordered_lane u) ≤ t.next u) (sym g.skip) (subst (λ (m : ℕ). r.skip (ordered_lane u) ≤ m) (sym n) i.0),
-              subst (λ (m : ℕ). HasNoWhole f t.kept (ordered_lane u) m) (sym n)
-                  (fewer_none f (x ∷ r.kept) t.kept (ordered_lane u) (r.next u) g.fewer
-                  (other_none f x r.kept (ordered_lane u) (r.next u) (λ e. lane_other x.lane.stream u ne (e ∙ lane)) i.1)),
-            )
+    ordered : (u : ℕ) → IsWaiting f t u
+    ordered u = elim (cases_eq u x.lane.stream) [
+      | inl e ↦ subst (IsWaiting f t) (sym e) g.waits
+      | inr ne ↦ still_waiting f (record (recorded r x) { kept = x ∷ r.kept }) t u g.fewer (g.others u ne) (ap (λ (k : Lane → ℕ). k (ordered_lane u)) g.skip) (record {
+        passed = (idle.ordered u).passed;
+        none = other_none f x r.kept (ordered_lane u) (r.next u) (λ e. lane_other x.lane.stream u ne (e ∙ lane)) (idle.ordered u).none;
+      })
+    ]
 
-    unordered : (y : Piece) (xs : List Piece) → y.lane.kind ≡ Unordered → IsWholeWith f t.kept y xs → ⊥
-    unordered y xs kind (whole, within, has) =
-        idle.unordered y xs kind (whole, other_within f x r.kept xs y whole (λ z h. g.fewer z (within z h)) has other, has)
+    unordered : (y : Piece) → y.lane.kind ≡ Unordered → HasNoWholeWith f t.kept y
+    unordered y kind xs (whole, within, has) =
+        idle.unordered y kind xs (whole, other_within f x r.kept xs y whole (λ z h. g.fewer z (within z h)) has other, has)
       where
         other : y.lane ≡ x.lane → ⊥
         other e = let k : y.lane.kind ≡ Ordered = ap (λ (l : Lane). l.kind) (e ∙ lane) in absurd (cc)
@@ -156,12 +154,12 @@ idle_unordered f r x t idle kind gives = by gives
 
     ordered : (kept : List Piece) → IsWithin kept (x ∷ r.kept) → (u : ℕ) → (r.skip (ordered_lane u) ≤ r.next u) × HasNoWhole f kept (ordered_lane u) (r.next u)
     ordered kept fewer u =
-        let i = idle.ordered u in
-        (i.0, fewer_none f (x ∷ r.kept) kept (ordered_lane u) (r.next u) fewer (other_none f x r.kept (ordered_lane u) (r.next u) (not_ordered u) i.1))
+        let waits = idle.ordered u in
+        (waits.passed, fewer_none f (x ∷ r.kept) kept (ordered_lane u) (r.next u) fewer (other_none f x r.kept (ordered_lane u) (r.next u) (not_ordered u) waits.none))
 
     -- a whole message without the chunk was whole before
     without : (kept : List Piece) → IsWithin kept (x ∷ r.kept) → (y : Piece) (xs : List Piece) → y.lane.kind ≡ Unordered → IsWholeWith f kept y xs → (Has xs x → ⊥) → ⊥
-    without kept fewer y xs k (whole, within, has) free = idle.unordered y xs k (whole, old, has)
+    without kept fewer y xs k (whole, within, has) free = idle.unordered y k xs (whole, old, has)
       where
         old : IsWithin xs r.kept
         old z h = go (fewer z (within z h))
@@ -171,11 +169,11 @@ idle_unordered f r x t idle kind gives = by gives
             go (inr q) = q
 
     by : GivesUnordered f x mid t → IsIdle f t
-    by (inr (none, e)) = subst (IsIdle f) (sym e) (record { ordered = ordered (x ∷ r.kept) (λ z h. h); unordered = unordered })
+    by (inr (none, e)) = subst (IsIdle f) (sym e) (record { ordered = λ u. let o = ordered (x ∷ r.kept) (λ z h. h) u in record { passed = o.0; none = o.1 }; unordered = unordered })
       where
-        unordered : (y : Piece) (xs : List Piece) → y.lane.kind ≡ Unordered → IsWholeWith f (x ∷ r.kept) y xs → ⊥
-        unordered y xs k w = without (x ∷ r.kept) (λ z h. h) y xs k w (λ hx. none xs (w.0, w.1, hx))
-    by (inl (h, hs, (whole, within, has), e)) = subst (IsIdle f) (sym e) (record { ordered = ordered rest fewer; unordered = unordered })
+        unordered : (y : Piece) → y.lane.kind ≡ Unordered → HasNoWholeWith f (x ∷ r.kept) y
+        unordered y k xs w = without (x ∷ r.kept) (λ z h. h) y xs k w (λ hx. none xs (w.0, w.1, hx))
+    by (inl (h, hs, (whole, within, has), e)) = subst (IsIdle f) (sym e) (record { ordered = λ u. let o = ordered rest fewer u in record { passed = o.0; none = o.1 }; unordered = unordered })
       where
         rest : List Piece
         rest = without_message f (x ∷ r.kept) (h ∷ hs)
@@ -183,8 +181,8 @@ idle_unordered f r x t idle kind gives = by gives
         fewer : IsWithin rest (x ∷ r.kept)
         fewer z k = Has-filtered (λ (y : Piece). not (goes_with f (h ∷ hs) y)) (x ∷ r.kept) z k
 
-        unordered : (y : Piece) (xs : List Piece) → y.lane.kind ≡ Unordered → IsWholeWith f rest y xs → ⊥
-        unordered y xs k w = without rest fewer y xs k w (λ hx. gone_with f (x ∷ r.kept) x h hs whole has (w.1 x hx))
+        unordered : (y : Piece) → y.lane.kind ≡ Unordered → HasNoWholeWith f rest y
+        unordered y k xs w = without rest fewer y xs k w (λ hx. gone_with f (x ∷ r.kept) x h hs whole has (w.1 x hx))
 
 -- Nothing is due after a chunk that is taken.
 pub idle_taken : (f : Format) (r : ReceiverView) (x : Piece) (t : ReceiverView) → IsIdle f r → Takes f r x t → IsIdle f t
@@ -215,7 +213,7 @@ taken_constants f r x t takes = go x.lane.kind takes
 
 -- of the streams below n the next numbers wait; the others have the same numbers as before
 pub record IsGivenBelow (f : Format) (n : ℕ) (r t : ReceiverView) : Type 0 where
-  pub waits : (s : ℕ) → s < n → (t.skip (ordered_lane s) ≤ t.next s) × HasNoWhole f t.kept (ordered_lane s) (t.next s)
+  pub waits : (s : ℕ) → s < n → IsWaiting f t s
   pub others : (s : ℕ) → n ≤ s → t.next s ≡ r.next s
   pub skip : t.skip ≡ r.skip
   pub fewer : IsWithin t.kept r.kept
@@ -240,11 +238,6 @@ all_given f (suc n) r t (mid, all, here) = join (all_given f n r mid all) (order
       constants = record { initial = g.initial ∙ a.constants.initial; streams = g.streams ∙ a.constants.streams; buffer = g.buffer ∙ a.constants.buffer };
     }
       where
-        waits : (s : ℕ) → s < suc n → (s ≡ n) ⊎ (s ≡ n → ⊥) → (t.skip (ordered_lane s) ≤ t.next s) × HasNoWhole f t.kept (ordered_lane s) (t.next s)
-        waits s b (inl e) = subst (λ (u : ℕ). (t.skip (ordered_lane u) ≤ t.next u) × HasNoWhole f t.kept (ordered_lane u) (t.next u)) (sym e) g.waits
-        waits s b (inr ne) =
-            let w = a.waits s (omega (arith, b, ne)) in
-            let o = g.others s ne in (
-              subst (λ (k : Lane → ℕ). k (ordered_lane s) ≤ t.next s) (sym g.skip) (subst (λ (m : ℕ). mid.skip (ordered_lane s) ≤ m) (sym o) w.0),
-              subst (λ (m : ℕ). HasNoWhole f t.kept (ordered_lane s) m) (sym o) (fewer_none f mid.kept t.kept (ordered_lane s) (mid.next s) g.fewer w.1),
-            )
+        waits : (s : ℕ) → s < suc n → (s ≡ n) ⊎ (s ≡ n → ⊥) → IsWaiting f t s
+        waits s b (inl e) = subst (IsWaiting f t) (sym e) g.waits
+        waits s b (inr ne) = still_waiting f mid t s g.fewer (g.others s ne) (ap (λ (k : Lane → ℕ). k (ordered_lane s)) g.skip) (a.waits s (omega (arith, b, ne)))

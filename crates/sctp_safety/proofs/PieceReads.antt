@@ -1,8 +1,7 @@
 -- A data chunk of the bag is read as its piece, whatever is answered to it, and what its answer leaves is moves.
-use Rattle.std.proofs.Common.{◌≡◌, ℕ, suc, ◌+◌, ◌-◌, ◌^◌, ◌<◌, ◌≤◌, ◌⊎◌, ◌==◌, nat_le, true, false, [], length, Option, Some, None, inl, inr, refl, sym, subst, ap, arith, ◌∙◌, leb-true}
+use Rattle.std.proofs.Common.{◌≡◌, ℕ, suc, ◌+◌, ◌-◌, ◌^◌, ◌<◌, ◌≤◌, ◌⊎◌, nat_le, true, false, [], length, Option, Some, None, inl, inr, refl, sym, subst, ap, arith, ◌∙◌}
 use Rattle.std.specs.Prelude.{if◌then◌else◌}
 use Rattle.std.proofs.lemmas.Bool.{cases_lt, cases_Bool}
-use Rattle.std.proofs.lemmas.Bool.Decides.{nat_tests}
 use Rattle.sctp_model.specs.Serial.{COUNTS, tsn, ahead, half_space}
 use Rattle.sctp_model.specs.Chunk.{PieceMeaning}
 use Rattle.sctp_model.specs.Format.{Format, Plain, Interleaved, Kind, Ordered, Unordered, Lane, is_numbered, ordered_lane, unordered_lane}
@@ -15,25 +14,24 @@ use Rattle.sctp_model.specs.sender.SentChunks.{is_unordered, piece_said}
 use Rattle.sctp_model.specs.receiver.Reading.{offset, index_at, is_behind, reference_in, number_in, lane_of, piece_at}
 use Rattle.sctp_model.specs.receiver.PieceTaken.{Answer, Duplicate, Ahead, NoSuchStream, Passed, NoRoom, Taken, is_passed, noted, PieceTaken}
 use Rattle.sctp_model.specs.receiver.Laws.{IsIdle}
+use Rattle.sctp_model.proofs.receiver.Idle.{still_idle}
 use Rattle.sctp_safety.specs.Way.{Way, Note, with_receiver}
 use Rattle.sctp_safety.specs.SenderLaws.{IsUsual}
 use Rattle.sctp_safety.specs.ReceiverLaws.{IsJoined, IsCounted, IsReceived, IsPieceSaid, PieceTakenIsMoves}
 use Rattle.sctp_safety.proofs.Facts.{Good}
 use Rattle.sctp_safety.proofs.Basics.{item_at-within}
 use Rattle.sctp_safety.proofs.Framing.{number_counts}
+use Rattle.sctp_safety.proofs.Settled.{all_numbered}
 use Rattle.sctp_safety.proofs.Taken.{leads_by, taking_is_moves}
 use Rattle.sctp_safety.proofs.Built.{passing_is_moves}
 use Rattle.sctp_safety.proofs.UsualLemmas.{good_usual}
 use Rattle.sctp_safety.proofs.NearReads.{ahead_is, near_16, near_32}
-use Rattle.sctp_safety.proofs.WaitedFor.{IsWaiting, not_far_above, not_far_below}
+use Rattle.sctp_safety.proofs.WaitedFor.{not_far_above, not_far_below}
 use Rattle.sctp_safety.proofs.ReadBounds.{cumulative_within, cum_within, number_within, skip_within, next_within}
 use Rattle.sctp_safety.proofs.IdleLemmas.{idle_taken, taken_constants}
-use Rattle.sctp_safety.proofs.PieceAnswers.{rest_of, or_none, fresh_is, no_stream_is, passed_is, passed_by}
+use Rattle.sctp_safety.proofs.PieceAnswers.{ahead_of, fresh_is, no_stream_is, passed_is, passed_by}
 
 -- ---- the number
-
-pub waiting : (f : Format) (r : ReceiverView) (s : ℕ) → IsIdle f r → IsWaiting f r s
-waiting f r s idle = let i = idle.ordered s in record { passed = i.0; none = i.1 }
 
 -- An ordered number past the cumulative index lies within 16 bits of the next one.
 ordered_reads : (w : Way) (c i n : ℕ) (s : ℕ) (e : Entry) → (g : Good w) → IsIdle w.format w.receiver → IsCounted w.sender → IsCumulative w.receiver c → c < i →
@@ -52,7 +50,7 @@ ordered_reads w c i n s e g idle counted cumulative past here of small = near_16
         go : (w.receiver.next s < n) ⊎ (n ≤ w.receiver.next s) → n < w.receiver.next s + 2 ^ 15
         go (inr l) = omega (arith, l)
         go (inl l) =
-            let h = not_far_above w.format w.sender w.receiver s c 32767 g.arranged g.held cumulative.reached (waiting w.format w.receiver s idle) window i n e here of l in
+            let h = not_far_above w.format w.sender w.receiver s c 32767 g.arranged g.held cumulative.reached (idle.ordered s) window i n e here of l in
             omega (arith, h)
 
     below : w.receiver.next s < n + 2 ^ 15
@@ -113,14 +111,9 @@ piece_reads f r c initial i l n k m index number =
 
 -- ---- what the answer leaves
 
-unnumbered_kept : (f : Format) (r : ReceiverView) (x : Piece) → is_numbered f x.lane.kind ≡ false → is_passed f x.lane.kind r x ≡ false
-unnumbered_kept f r x e = go f x.lane.kind e
-  where
-    go : (g : Format) (k : Kind) → is_numbered g k ≡ false → is_passed g k r x ≡ false
-    go Plain Ordered h = absurd (cc)
-    go Plain Unordered h = refl
-    go Interleaved Ordered h = absurd (cc)
-    go Interleaved Unordered h = absurd (cc)
+unnumbered_kept : (f : Format) (r : ReceiverView) (x : Piece) → is_numbered f x.lane.kind ≡ false → is_passed f r x ≡ false
+unnumbered_kept Plain r x e = rw e refl
+unnumbered_kept Interleaved r x e = absurd (let h = all_numbered x.lane.kind in cc)
 
 module _ (w : Way) (p : PieceMeaning) (usual : IsUsual w) (joined : IsJoined w) (counted : IsCounted w.sender) (idle : IsIdle w.format w.receiver)
     (said : IsPieceSaid w.format w.sender.initial w.pieces p) where
@@ -151,8 +144,8 @@ module _ (w : Way) (p : PieceMeaning) (usual : IsUsual w) (joined : IsJoined w) 
   index_read : (c : ℕ) → IsCumulative w.receiver c → is_behind w.receiver c p.tsn ≡ false → (index_at w.receiver c p.tsn ≡ said.index) × (c < said.index)
   index_read c cumulative new = (index, past)
     where
-      split : ((offset w.receiver c p.tsn == 0) ≡ false) × (nat_le (half_space 32) (offset w.receiver c p.tsn) ≡ false)
-      split = or_none (offset w.receiver c p.tsn == 0) (nat_le (half_space 32) (offset w.receiver c p.tsn)) new
+      new_tsn : (0 < offset w.receiver c p.tsn) × (nat_le (half_space 32) (offset w.receiver c p.tsn) ≡ false)
+      new_tsn = ahead_of w.receiver c p.tsn new
 
       index : index_at w.receiver c p.tsn ≡ said.index
       index =
@@ -161,10 +154,10 @@ module _ (w : Way) (p : PieceMeaning) (usual : IsUsual w) (joined : IsJoined w) 
           let b = index_within in
           subst (λ (y : ℕ). c + ahead 32 (tsn w.receiver.initial c) y ≡ said.index) (sym wire)
           (ahead_is w.receiver.initial c said.index (omega (arith, a, t)) (omega (arith, b, t))
-          (subst (λ (y : ℕ). nat_le (half_space 32) (ahead 32 (tsn w.receiver.initial c) y) ≡ false) wire split.1))
+          (subst (λ (y : ℕ). nat_le (half_space 32) (ahead 32 (tsn w.receiver.initial c) y) ≡ false) wire new_tsn.1))
 
       past : c < said.index
-      past = let z = split.0 in let i = index in grind (arith, z, i, nat_tests)
+      past = let z = new_tsn.0 in let i = index in omega (arith, z, i)
 
   piece_read : (c : ℕ) → IsCumulative w.receiver c → is_behind w.receiver c p.tsn ≡ false → piece_at w.format w.receiver c p ≡ x
   piece_read c cumulative new =
@@ -194,7 +187,7 @@ module _ (w : Way) (p : PieceMeaning) (usual : IsUsual w) (joined : IsJoined w) 
   dropped : IsPassed w.format w.receiver x ⊎ (w.streams ≤ said.lane.stream) → w.receiver.seen said.index ≡ false → IsReceived w (recorded w.receiver x)
   dropped why unseen = record {
     leads = passing_is_moves w x said.put unseen why;
-    idle = record { ordered = idle.ordered; unordered = idle.unordered };
+    idle = still_idle w.format w.receiver (recorded w.receiver x) refl refl refl idle;
     initial = refl;
     streams = refl;
     buffer = refl;
@@ -203,7 +196,7 @@ module _ (w : Way) (p : PieceMeaning) (usual : IsUsual w) (joined : IsJoined w) 
   received : (a : Answer) (t : ReceiverView) → PieceTaken w.format w.receiver p a t → IsReceived w t
   received Duplicate t taken = subst (IsReceived w) (sym taken.leaves) (record {
     leads = leads_by w (with_receiver w (noted w.receiver p.tsn)) (Note (noted w.receiver p.tsn)) (refl, refl);
-    idle = record { ordered = idle.ordered; unordered = idle.unordered };
+    idle = still_idle w.format w.receiver (noted w.receiver p.tsn) refl refl refl idle;
     initial = refl;
     streams = refl;
     buffer = refl;
@@ -211,32 +204,32 @@ module _ (w : Way) (p : PieceMeaning) (usual : IsUsual w) (joined : IsJoined w) 
   received Ahead t taken = subst (IsReceived w) (sym taken.leaves) same
   received NoRoom t taken = subst (IsReceived w) (sym taken.leaves) same
   received NoSuchStream t taken =
-      let f = fresh_is w.format w.receiver taken.c p NoSuchStream taken.answer (λ e. cc) in
-      let r = piece_read taken.c taken.cumulative f.0.ahead in
-      subst (IsReceived w) (sym (subst (λ (y : Piece). t ≡ recorded w.receiver y) r taken.leaves))
-      (dropped (inr (stream f.1)) (subst (λ (y : Piece). w.receiver.seen y.index ≡ false) r f.0.unseen))
+      let new = fresh_is w.format w.receiver taken.c p NoSuchStream taken.answer (λ e. cc) in
+      let read = piece_read taken.c taken.cumulative new.ahead in
+      subst (IsReceived w) (sym (subst (λ (y : Piece). t ≡ recorded w.receiver y) read taken.leaves))
+      (dropped (inr stream) (subst (λ (y : Piece). w.receiver.seen y.index ≡ false) read new.unseen))
     where
-      stream : rest_of w.format w.receiver taken.c p ≡ NoSuchStream → w.streams ≤ said.lane.stream
-      stream h =
-          let b = leb-true w.receiver.streams p.stream (no_stream_is _ _ _ _ h) in
-          let s : p.stream ≡ said.lane.stream = ap (λ (y : PieceMeaning). y.stream) said.same in
+      stream : w.streams ≤ said.lane.stream
+      stream =
+          let other = no_stream_is w.format w.receiver taken.c p taken.answer in
+          let same : p.stream ≡ said.lane.stream = ap (λ (y : PieceMeaning). y.stream) said.same in
           let j = joined.streams in
-          omega (arith, b, s, j)
+          omega (arith, other, same, j)
   received Passed t taken =
-      let f = fresh_is w.format w.receiver taken.c p Passed taken.answer (λ e. cc) in
-      let r = piece_read taken.c taken.cumulative f.0.ahead in
-      subst (IsReceived w) (sym (subst (λ (y : Piece). t ≡ recorded w.receiver y) r taken.leaves))
-      (dropped (inl (passed (cases_Bool (is_numbered w.format said.lane.kind)) (subst (λ (y : Piece). is_passed w.format y.lane.kind w.receiver y ≡ true) r (passed_is _ _ _ _ f.1))))
-      (subst (λ (y : Piece). w.receiver.seen y.index ≡ false) r f.0.unseen))
+      let new = fresh_is w.format w.receiver taken.c p Passed taken.answer (λ e. cc) in
+      let read = piece_read taken.c taken.cumulative new.ahead in
+      let by_table = subst (λ (y : Piece). is_passed w.format w.receiver y ≡ true) read (passed_is w.format w.receiver taken.c p taken.answer) in
+      subst (IsReceived w) (sym (subst (λ (y : Piece). t ≡ recorded w.receiver y) read taken.leaves))
+      (dropped (inl (passed (cases_Bool (is_numbered w.format said.lane.kind)) by_table)) (subst (λ (y : Piece). w.receiver.seen y.index ≡ false) read new.unseen))
     where
-      passed : (is_numbered w.format said.lane.kind ≡ true) ⊎ (is_numbered w.format said.lane.kind ≡ false) → is_passed w.format said.lane.kind w.receiver x ≡ true → IsPassed w.format w.receiver x
-      passed (inl e) h = passed_by w.format w.receiver x said.number (number_counts w.format said.lane said.number e) e h
+      passed : (is_numbered w.format said.lane.kind ≡ true) ⊎ (is_numbered w.format said.lane.kind ≡ false) → is_passed w.format w.receiver x ≡ true → IsPassed w.format w.receiver x
+      passed (inl e) h = passed_by w.format w.receiver x said.number (number_counts w.format said.lane said.number e) h
       passed (inr e) h = absurd (let n = unnumbered_kept w.format w.receiver x e in cc)
   received Taken t taken =
       let f = fresh_is w.format w.receiver taken.c p Taken taken.answer (λ e. cc) in
-      let r = piece_read taken.c taken.cumulative f.0.ahead in
+      let r = piece_read taken.c taken.cumulative f.ahead in
       let k = subst (λ (y : Piece). Takes w.format w.receiver y t) r taken.leaves in
-      let u = subst (λ (y : Piece). w.receiver.seen y.index ≡ false) r f.0.unseen in
+      let u = subst (λ (y : Piece). w.receiver.seen y.index ≡ false) r f.unseen in
       let c = taken_constants w.format w.receiver x t k in
       record {
         leads = taking_is_moves w x t said.put u k;

@@ -1,130 +1,114 @@
--- The numbers that a FORWARD lists, each read as it was written, are skipped one by one; and what a receiver at rest then lets go.
-use Rattle.std.proofs.Common.{◌≡◌, ℕ, suc, ◌<◌, ◌≤◌, ◌⊎◌, not, max, nat_le, true, false, Bool, List, [], ◌∷◌, map, Option, Some, None, inl, inr, refl, sym, subst, ap, arith, ◌∙◌, leb-true, le_refl}
+-- A FORWARD's entries, written and read again, are the ones that it had; which of them count; and what a receiver at rest then lets go.
+use Rattle.std.proofs.Common.{◌≡◌, ℕ, suc, ◌<◌, ◌≤◌, ◌⊎◌, not, max, nat_lt, nat_le, true, false, Bool, List, [], ◌∷◌, map, Option, Some, None, inl, inr, refl, subst, ap, arith, ◌∙◌, leb-true}
 use Rattle.std.specs.Prelude.{if◌then◌else◌}
+use Rattle.std.proofs.lemmas.Bool.{cases_lt, or_parts}
 use Rattle.std.proofs.lemmas.Bool.Decides.{nat_tests}
 use Rattle.sctp_model.specs.Lists.{Has}
-use Rattle.sctp_model.specs.Format.{Format, Plain, Interleaved, Kind, Ordered, Unordered, Lane, at_lane}
+use Rattle.sctp_model.specs.Format.{Format, Plain, Interleaved, Kind, Ordered, Unordered, Lane}
 use Rattle.sctp_model.specs.Framing.{wire_number, number_near, is_skipped}
 use Rattle.sctp_model.specs.Pieces.{Piece, IsNumberBelow}
 use Rattle.sctp_model.specs.Forward.{Skip, skipped}
 use Rattle.sctp_model.specs.ReceiverView.{ReceiverView}
-use Rattle.sctp_model.specs.Receiving.{IsWholeWith, IsLeftBehind, LetsGo}
+use Rattle.sctp_model.specs.Receiving.{HasNoWholeWith, IsLeftBehind, LetsGo}
 use Rattle.sctp_model.specs.sender.SentChunks.{skip_said}
-use Rattle.sctp_model.specs.receiver.Reading.{reference_in, number_in, lane_of}
-use Rattle.sctp_model.specs.receiver.ForwardTaken.{names_other_stream, is_to_skip, skipped_by, is_left_behind, let_go}
-use Rattle.sctp_model.specs.receiver.ForwardTaken.{raised as raised_by}
+use Rattle.sctp_model.specs.receiver.Reading.{reference_in, number_in, lowest_in, is_late}
+use Rattle.sctp_model.specs.receiver.ForwardTaken.{names_other_stream, with_skip, skips_read, stays_by, let_go}
+use Rattle.sctp_safety.specs.Way.{IsSkippedBy}
 use Rattle.sctp_safety.proofs.Basics.{at_lane_cases, at_lane_other}
-use Rattle.sctp_safety.proofs.ForwardMove.{raised, raised_grows}
+use Rattle.sctp_safety.proofs.ForwardMove.{raised, raised_grows, skipped_grows, skipped_has}
 use Rattle.sctp_safety.proofs.PieceReads.{kind_reads}
-use Rattle.sctp_safety.proofs.PieceAnswers.{or_none}
 
--- ---- the numbers that are skipped, where each is read as it was written
+-- ---- the entries read again
 
--- an entry of a list is read as its number
+-- an entry is read as its number
 abbrev pub ReadsSkip : Format → ReceiverView → Skip → Type 0
 ReadsSkip f r y = number_near f y.lane.kind (wire_number f y.lane.kind y.number) (reference_in r y.lane.stream y.lane.kind) ≡ Some y.number
 
--- one entry more: raised, or an ordered number that is done with
-abbrev pub step_if : Bool → Skip → (Lane → ℕ) → Lane → ℕ
-step_if true y skip = raised skip y
-step_if false y skip = skip
+-- of these entries, those whose numbers aren't late
+abbrev pub counting : ReceiverView → List Skip → List Skip
+counting r [] = []
+counting r (y ∷ ys) = if is_late r y.lane (Some y.number) then counting r ys else y ∷ counting r ys
 
-entry_steps : (f : Format) (r : ReceiverView) (y : Skip) (skip : Lane → ℕ) → ReadsSkip f r y →
-    raised_by r (lane_of (skip_said f y).stream (skip_said f y).unordered) (number_in f r (lane_of (skip_said f y).stream (skip_said f y).unordered) (skip_said f y).number) skip
-    ≡ step_if (is_to_skip r y.lane y.lane.kind y.number) y skip
-entry_steps f r y skip reads =
-    ap (λ (l : Lane). raised_by r l (number_in f r l (wire_number f y.lane.kind y.number)) skip) (kind_reads y.lane)
-    ∙ ap (λ (o : Option ℕ). raised_by r y.lane o skip) reads ∙ by (is_to_skip r y.lane y.lane.kind y.number)
-  where
-    by : (b : Bool) → (if b then at_lane skip y.lane (max (skip y.lane) (suc y.number)) else skip) ≡ step_if b y skip
-    by true = refl
-    by false = refl
+pub read_again : (f : Format) (r : ReceiverView) (ys : List Skip) → ((y : Skip) → Has ys y → ReadsSkip f r y) → skips_read f r (map (skip_said f) ys) ≡ counting r ys
+read_again f r [] reads = refl
+read_again f r (y ∷ ys) reads =
+    ap (λ (l : Lane). with_skip r l (number_in f r l (wire_number f y.lane.kind y.number)) (skips_read f r (map (skip_said f) ys))) (kind_reads y.lane)
+    ∙ ap (λ (o : Option ℕ). with_skip r y.lane o (skips_read f r (map (skip_said f) ys))) (reads y (inl refl))
+    ∙ ap (with_skip r y.lane (Some y.number)) (read_again f r ys (λ z h. reads z (inr h)))
 
--- the numbers skipped in the end
-abbrev pub ended : Format → ReceiverView → List Skip → (Lane → ℕ) → Lane → ℕ
-ended f r xs skip = skipped_by f r (map (skip_said f) xs) skip
+-- ---- the numbers that are skipped then
 
-module _ (f : Format) (r : ReceiverView) where
-  first_steps : (x : Skip) (xs : List Skip) (skip : Lane → ℕ) → ReadsSkip f r x → ended f r (x ∷ xs) skip ≡ ended f r xs (step_if (is_to_skip r x.lane x.lane.kind x.number) x skip)
-  first_steps x xs skip reads = ap (λ (k : Lane → ℕ). ended f r xs k) (entry_steps f r x skip reads)
-
-  step_grows : (b : Bool) (y : Skip) (skip : Lane → ℕ) (l : Lane) → skip l ≤ step_if b y skip l
-  step_grows true y skip l = raised_grows skip y l
-  step_grows false y skip l = le_refl (skip l)
-
-  pub ended_grows : (xs : List Skip) (skip : Lane → ℕ) → ((y : Skip) → Has xs y → ReadsSkip f r y) → (l : Lane) → skip l ≤ ended f r xs skip l
-  ended_grows [] skip reads l = le_refl (skip l)
-  ended_grows (x ∷ xs) skip reads l =
-      let b = is_to_skip r x.lane x.lane.kind x.number in
-      let a = step_grows b x skip l in
-      let more = ended_grows xs (step_if b x skip) (λ y h. reads y (inr h)) l in
-      subst (λ (k : Lane → ℕ). skip l ≤ k l) (sym (first_steps x xs skip (reads x (inl refl)))) (omega (arith, a, more))
-
-  raised_more : (skip skip' : Lane → ℕ) (y : Skip) → ((l : Lane) → skip l ≤ skip' l) → (l : Lane) → raised skip y l ≤ raised skip' y l
-  raised_more skip skip' y le l = at_lane_cases (λ (b : ℕ). b ≤ raised skip' y l) skip y.lane (max (skip y.lane) (suc y.number)) l here there
+module _ (r : ReceiverView) where
+  -- an entry counts, or is late
+  counts_or_late : (ys : List Skip) (y : Skip) → Has ys y → Has (counting r ys) y ⊎ (is_late r y.lane (Some y.number) ≡ true)
+  counts_or_late [] y h = absurd h
+  counts_or_late (x ∷ xs) y h = go (is_late r x.lane (Some x.number)) refl h (counts_or_late xs y)
     where
-      here : l ≡ y.lane → max (skip y.lane) (suc y.number) ≤ raised skip' y l
-      here e = at_lane_cases (λ (b : ℕ). max (skip y.lane) (suc y.number) ≤ b) skip' y.lane (max (skip' y.lane) (suc y.number)) l
+      go : (b : Bool) → is_late r x.lane (Some x.number) ≡ b → Has (x ∷ xs) y → (Has xs y → Has (counting r xs) y ⊎ (is_late r y.lane (Some y.number) ≡ true)) →
+          Has (if b then counting r xs else x ∷ counting r xs) y ⊎ (is_late r y.lane (Some y.number) ≡ true)
+      go true late (inl e) more = inr (subst (λ (z : Skip). is_late r z.lane (Some z.number) ≡ true) e late)
+      go true late (inr k) more = more k
+      go false late (inl e) more = inl (inl e)
+      go false late (inr k) more = elim (more k) [ inl there ↦ inl (inr there) | inr old ↦ inr old ]
+
+  -- the fewer entries, the less is skipped
+  raised_more : (low high : Lane → ℕ) (y : Skip) → ((l : Lane) → low l ≤ high l) → (l : Lane) → raised low y l ≤ raised high y l
+  raised_more low high y le l = at_lane_cases (λ (b : ℕ). b ≤ raised high y l) low y.lane (max (low y.lane) (suc y.number)) l here there
+    where
+      here : l ≡ y.lane → max (low y.lane) (suc y.number) ≤ raised high y l
+      here e = at_lane_cases (λ (b : ℕ). max (low y.lane) (suc y.number) ≤ b) high y.lane (max (high y.lane) (suc y.number)) l
           (λ q. let a = le y.lane in omega (arith, a)) (λ ne. absurd (ne e))
 
-      there : (l ≡ y.lane → ⊥) → skip l ≤ raised skip' y l
-      there ne = let a = le l in let b = raised_grows skip' y l in omega (arith, a, b)
+      there : (l ≡ y.lane → ⊥) → low l ≤ raised high y l
+      there ne = let a = le l in let b = raised_grows high y l in omega (arith, a, b)
 
-  step_within : (b : Bool) (skip skip' : Lane → ℕ) (y : Skip) → ((l : Lane) → skip l ≤ skip' l) → (l : Lane) → step_if b y skip l ≤ raised skip' y l
-  step_within true skip skip' y le l = raised_more skip skip' y le l
-  step_within false skip skip' y le l = let a = le l in let b = raised_grows skip' y l in omega (arith, a, b)
-
-  pub ended_within : (xs : List Skip) (skip skip' : Lane → ℕ) → ((y : Skip) → Has xs y → ReadsSkip f r y) → ((l : Lane) → skip l ≤ skip' l) →
-      (l : Lane) → ended f r xs skip l ≤ skipped skip' xs l
-  ended_within [] skip skip' reads le l = le l
-  ended_within (x ∷ xs) skip skip' reads le l =
-      let b = is_to_skip r x.lane x.lane.kind x.number in
-      subst (λ (k : Lane → ℕ). k l ≤ skipped skip' (x ∷ xs) l) (sym (first_steps x xs skip (reads x (inl refl))))
-      (ended_within xs (step_if b x skip) (raised skip' x) (λ y h. reads y (inr h)) (step_within b skip skip' x le) l)
-
-  abbrev pub IsCountedIn : (Lane → ℕ) → Skip → Type 0
-  IsCountedIn skip y = (y.number < skip y.lane) ⊎ ((y.lane.kind ≡ Ordered) × (y.number < r.next y.lane.stream))
-
-  step_counts : (b : Bool) (y : Skip) (skip : Lane → ℕ) → is_to_skip r y.lane y.lane.kind y.number ≡ b → IsCountedIn (step_if b y skip) y
-  step_counts true y skip e = inl (at_lane_cases (λ (c : ℕ). y.number < c) skip y.lane (max (skip y.lane) (suc y.number)) y.lane (λ q. omega arith) (λ ne. absurd (ne refl)))
-  step_counts false y skip e = inr (by y.lane.kind refl e)
+  counting_less : (ys : List Skip) (low high : Lane → ℕ) → ((l : Lane) → low l ≤ high l) → (l : Lane) → skipped low (counting r ys) l ≤ skipped high ys l
+  counting_less [] low high le l = le l
+  counting_less (x ∷ xs) low high le l = go (is_late r x.lane (Some x.number)) (λ lower less. counting_less xs lower (raised high x) less l)
     where
-      by : (k : Kind) → y.lane.kind ≡ k → is_to_skip r y.lane k y.number ≡ false → (y.lane.kind ≡ Ordered) × (y.number < r.next y.lane.stream)
-      by Ordered q h = (q, grind (arith, h, nat_tests))
-      by Unordered q h = absurd (cc)
+      go : (b : Bool) → ((lower : Lane → ℕ) → ((k : Lane) → lower k ≤ raised high x k) → skipped lower (counting r xs) l ≤ skipped (raised high x) xs l) →
+          skipped low (if b then counting r xs else x ∷ counting r xs) l ≤ skipped high (x ∷ xs) l
+      go true more = more low (λ k. let a = le k in let b = raised_grows high x k in omega (arith, a, b))
+      go false more = more (raised low x) (raised_more low high x le)
 
-  pub ended_counts : (xs : List Skip) (skip : Lane → ℕ) → ((y : Skip) → Has xs y → ReadsSkip f r y) → (y : Skip) → Has xs y → IsCountedIn (ended f r xs skip) y
-  ended_counts [] skip reads y h = absurd h
-  ended_counts (x ∷ xs) skip reads y (inr h) =
-      let b = is_to_skip r x.lane x.lane.kind x.number in
-      subst (λ (k : Lane → ℕ). IsCountedIn k y) (sym (first_steps x xs skip (reads x (inl refl)))) (ended_counts xs (step_if b x skip) (λ z q. reads z (inr q)) y h)
-  ended_counts (x ∷ xs) skip reads y (inl e) = subst (λ (z : Skip). IsCountedIn (ended f r (x ∷ xs) skip) z) e
-      (subst (λ (k : Lane → ℕ). IsCountedIn k x) (sym (first_steps x xs skip (reads x (inl refl)))) (still (step_counts b x skip refl)))
+  -- a late number is skipped already, or it lies below the stream's next
+  late_is : (y : Skip) → is_late r y.lane (Some y.number) ≡ true → (y.number < r.skip y.lane) ⊎ ((y.lane.kind ≡ Ordered) × (y.number < r.next y.lane.stream))
+  late_is y late = go y.lane.kind refl late
     where
-      b : Bool
-      b = is_to_skip r x.lane x.lane.kind x.number
+      go : (k : Kind) → y.lane.kind ≡ k → nat_lt y.number (lowest_in r y.lane k) ≡ true → (y.number < r.skip y.lane) ⊎ ((y.lane.kind ≡ Ordered) × (y.number < r.next y.lane.stream))
+      go Unordered e h = inl (grind (arith, h, nat_tests))
+      go Ordered e h = elim (cases_lt y.number (r.next y.lane.stream)) [
+        | inl below ↦ inr (e, below)
+        | inr past ↦ inl (grind (arith, h, past, nat_tests))
+      ]
 
-      still : IsCountedIn (step_if b x skip) x → IsCountedIn (ended f r xs (step_if b x skip)) x
-      still (inr o) = inr o
-      still (inl l) = let g = ended_grows xs (step_if b x skip) (λ z q. reads z (inr q)) x.lane in inl (omega (arith, l, g))
-
-  step_other : (b : Bool) (y : Skip) (skip : Lane → ℕ) (l : Lane) → (l ≡ y.lane → ⊥) → step_if b y skip l ≡ skip l
-  step_other true y skip l ne = at_lane_other skip y.lane (max (skip y.lane) (suc y.number)) l ne
-  step_other false y skip l ne = refl
+  pub counting_skips : (ys : List Skip) → IsSkippedBy r ys (skipped r.skip (counting r ys))
+  counting_skips ys = record {
+    raised = skipped_grows (counting r ys) r.skip;
+    within = counting_less ys r.skip r.skip (λ l. omega arith);
+    counts = λ y h. elim (counts_or_late ys y h) [
+      | inl there ↦ inl (skipped_has (counting r ys) r.skip y there)
+      | inr late ↦ elim (late_is y late) [
+        | inl before ↦ let more = skipped_grows (counting r ys) r.skip y.lane in inl (omega (arith, before, more))
+        | inr behind ↦ inr behind
+      ]
+    ];
+  }
 
   -- a lane that isn't listed
-  pub ended_other : (xs : List Skip) (skip : Lane → ℕ) (l : Lane) → ((y : Skip) → Has xs y → ReadsSkip f r y) → ((y : Skip) → Has xs y → l ≡ y.lane → ⊥) → ended f r xs skip l ≡ skip l
-  ended_other [] skip l reads other = refl
-  ended_other (x ∷ xs) skip l reads other =
-      let b = is_to_skip r x.lane x.lane.kind x.number in
-      ap (λ (k : Lane → ℕ). k l) (first_steps x xs skip (reads x (inl refl)))
-      ∙ ended_other xs (step_if b x skip) l (λ y h. reads y (inr h)) (λ y h. other y (inr h)) ∙ step_other b x skip l (other x (inl refl))
+  pub counting_other : (ys : List Skip) (l : Lane) → ((y : Skip) → Has ys y → l ≡ y.lane → ⊥) → (skip : Lane → ℕ) → skipped skip (counting r ys) l ≡ skip l
+  counting_other [] l other skip = refl
+  counting_other (x ∷ xs) l other skip = go (is_late r x.lane (Some x.number)) (counting_other xs l (λ y h. other y (inr h)))
+    where
+      go : (b : Bool) → ((k : Lane → ℕ) → skipped k (counting r xs) l ≡ k l) → skipped skip (if b then counting r xs else x ∷ counting r xs) l ≡ skip l
+      go true more = more skip
+      go false more = more (raised skip x) ∙ at_lane_other skip x.lane (max (skip x.lane) (suc x.number)) l (other x (inl refl))
 
 -- each listed stream is there
 pub streams_are : (f : Format) (streams : ℕ) (xs : List Skip) → names_other_stream streams (map (skip_said f) xs) ≡ false → (y : Skip) → Has xs y → y.lane.stream < streams
 streams_are f streams [] h y has = absurd has
 streams_are f streams (x ∷ xs) h y has =
-    let b = or_none (nat_le streams x.lane.stream) (names_other_stream streams (map (skip_said f) xs)) h in
+    let b = or_parts (nat_le streams x.lane.stream) (names_other_stream streams (map (skip_said f) xs)) h in
     go b.0 (λ k. streams_are f streams xs b.1 y k) has
   where
     go : (nat_le streams x.lane.stream ≡ false) → (Has xs y → y.lane.stream < streams) → Has (x ∷ xs) y → y.lane.stream < streams
@@ -133,37 +117,34 @@ streams_are f streams (x ∷ xs) h y has =
 
 -- ---- what is let go
 
--- At rest no unordered message is whole, so all that is left behind goes.
-pub let_go_is : (f : Format) (r : ReceiverView) → ((y : Piece) (xs : List Piece) → y.lane.kind ≡ Unordered → IsWholeWith f r.kept y xs → ⊥) → LetsGo f r (let_go f r)
-let_go_is f r idle = record {
-  stays = λ (x : Piece). not (is_left_behind f x.lane.kind r x);
+-- At rest no unordered message is whole, so letting go of all that is left behind lets go of what can't become whole alone.
+pub let_go_is : (f : Format) (r : ReceiverView) → ((y : Piece) → y.lane.kind ≡ Unordered → HasNoWholeWith f r.kept y) → LetsGo f r (let_go f r)
+let_go_is f r rest = record {
+  stays = λ (x : Piece). stays_by x.lane.kind f r x;
   kept = refl;
-  gone = λ y h e. let b = gone y (is_left_behind f y.lane.kind r y) refl e in (b.1, λ xs w. idle y xs b.0 w);
-  left = λ y h e l. absurd (left y l e);
+  gone = λ y h e. let b = goes f y y.lane.kind refl e in (b.1, rest y b.0);
+  left = λ y h e l. absurd (stays f y y.lane.kind refl e l);
 }
   where
-    behind : (g : Format) (y : Piece) (k : Kind) → y.lane.kind ≡ k → is_left_behind g k r y ≡ true → (y.lane.kind ≡ Unordered) × IsLeftBehind g r y
-    behind g y Ordered e h = absurd (cc)
-    behind Plain y Unordered e h = (e, (e, leb-true y.index r.jump h))
-    behind Interleaved y Unordered e h = (e, (e, below y.number h))
-      where
-        below : (o : Option ℕ) → is_skipped o (r.skip y.lane) ≡ true → IsNumberBelow (r.skip y.lane) o
-        below None q = absurd (cc)
-        below (Some n) q = grind (arith, q, nat_tests)
+    not_false : (b : Bool) → not b ≡ false → b ≡ true
+    not_false true e = refl
+    not_false false e = absurd (cc)
 
-    gone : (y : Piece) (b : Bool) → is_left_behind f y.lane.kind r y ≡ b → not b ≡ false → (y.lane.kind ≡ Unordered) × IsLeftBehind f r y
-    gone y true e h = behind f y y.lane.kind refl e
-    gone y false e h = absurd (cc)
+    below : (o : Option ℕ) (n : ℕ) → is_skipped o n ≡ true → IsNumberBelow n o
+    below None n q = absurd (cc)
+    below (Some m) n q = grind (arith, q, nat_tests)
 
-    is_left : (g : Format) (y : Piece) (k : Kind) → y.lane.kind ≡ k → IsLeftBehind g r y → is_left_behind g k r y ≡ true
-    is_left Plain y Ordered e (kind, l) = absurd (cc)
-    is_left Plain y Unordered e (kind, l) = grind (arith, l, nat_tests)
-    is_left Interleaved y Ordered e (kind, l) = absurd (cc)
-    is_left Interleaved y Unordered e (kind, l) = below y.number l
-      where
-        below : (o : Option ℕ) → IsNumberBelow (r.skip y.lane) o → is_skipped o (r.skip y.lane) ≡ true
-        below None q = absurd q
-        below (Some n) q = grind (arith, q, nat_tests)
+    skipped_too : (o : Option ℕ) (n : ℕ) → IsNumberBelow n o → is_skipped o n ≡ true
+    skipped_too None n q = absurd q
+    skipped_too (Some m) n q = grind (arith, q, nat_tests)
 
-    left : (y : Piece) → IsLeftBehind f r y → not (is_left_behind f y.lane.kind r y) ≡ true → ⊥
-    left y l e = let t = is_left f y y.lane.kind refl l in absurd (cc)
+    goes : (g : Format) (y : Piece) (k : Kind) → y.lane.kind ≡ k → stays_by k g r y ≡ false → (y.lane.kind ≡ Unordered) × IsLeftBehind g r y
+    goes g y Ordered e h = absurd (cc)
+    goes Plain y Unordered e h = (e, (e, leb-true y.index r.jump (not_false _ h)))
+    goes Interleaved y Unordered e h = (e, (e, below y.number (r.skip y.lane) (not_false _ h)))
+
+    stays : (g : Format) (y : Piece) (k : Kind) → y.lane.kind ≡ k → stays_by k g r y ≡ true → IsLeftBehind g r y → ⊥
+    stays Plain y Ordered e h (kind, l) = absurd (cc)
+    stays Plain y Unordered e h (kind, l) = grind (arith, l, h, nat_tests)
+    stays Interleaved y Ordered e h (kind, l) = absurd (cc)
+    stays Interleaved y Unordered e h (kind, l) = let t = skipped_too y.number (r.skip y.lane) l in absurd (let u : not (is_skipped y.number (r.skip y.lane)) ≡ true = h in cc)

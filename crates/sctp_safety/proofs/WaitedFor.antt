@@ -6,8 +6,8 @@ use Rattle.sctp_model.specs.Plan.{Message, Entry, Part, End, entry_at, message_a
 use Rattle.sctp_model.specs.Pieces.{piece_of}
 use Rattle.sctp_model.specs.SenderView.{SenderView}
 use Rattle.sctp_model.specs.ReceiverView.{ReceiverView, IsReached}
-use Rattle.sctp_model.specs.Receiving.{HasNoWhole}
 use Rattle.sctp_model.specs.Safe.{WasHanded}
+use Rattle.sctp_model.specs.receiver.Laws.{IsWaiting}
 use Rattle.sctp_safety.proofs.Facts.{Arranged, Held, IsHonest, IsOver, IsDone, IsLost}
 use Rattle.std.proofs.lemmas.Bool.{cases_lt}
 use Rattle.sctp_safety.proofs.Basics.{each_or, item_at-above, item_at-within}
@@ -16,11 +16,6 @@ use Rattle.sctp_safety.proofs.PlanLemmas.{message_of, same_message, renamed}
 use Rattle.sctp_safety.proofs.Settled.{settled_at, ordered_numbered}
 use Rattle.sctp_safety.proofs.Framing.{whole_when_kept, number_counts}
 use Rattle.sctp_safety.proofs.Spread.{lower_to, spread}
-
--- of each stream the next number is neither skipped nor whole
-pub record IsWaiting (f : Format) (r : ReceiverView) (s : ℕ) : Type 0 where
-  pub passed : r.skip (ordered_lane s) ≤ r.next s
-  pub none : HasNoWhole f r.kept (ordered_lane s) (r.next s)
 
 module _ (f : Format) (a : SenderView) (r : ReceiverView) (s c : ℕ) (arranged : Arranged f a.plan) (held : Held f a r)
     (reached : (i : ℕ) → 0 < i → i ≤ c → IsReached r i) (waits : IsWaiting f r s) where

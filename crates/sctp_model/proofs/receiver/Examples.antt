@@ -2,12 +2,13 @@
 use Rattle.std.proofs.Common.{◌≡◌, ℕ, false, true, List, [], ◌∷◌, Some, None, refl}
 use Rattle.sctp_model.specs.Format.{Plain, Interleaved, ordered_lane, unordered_lane}
 use Rattle.sctp_model.specs.Lists.{at}
-use Rattle.sctp_model.specs.Chunk.{PieceMeaning}
+use Rattle.sctp_model.specs.Chunk.{PieceMeaning, SkipMeaning}
 use Rattle.sctp_model.specs.Pieces.{Piece}
+use Rattle.sctp_model.specs.Forward.{skipped}
 use Rattle.sctp_model.specs.ReceiverView.{ReceiverView, fresh_receiver}
 use Rattle.sctp_model.specs.receiver.Reading.{number_in, piece_at}
 use Rattle.sctp_model.specs.receiver.PieceTaken.{Duplicate, Ahead, NoSuchStream, Passed, NoRoom, Taken, answer_to, noted}
-use Rattle.sctp_model.specs.receiver.ForwardTaken.{forward_answer, skipped_by, OutOfDate, Bad}
+use Rattle.sctp_model.specs.receiver.ForwardTaken.{forward_answer, skips_read, OutOfDate, Bad}
 
 -- the first TSN is 4,294,967,295, there are two streams and three bytes of room, and each stream waits for number 65,534
 abbrev view : ReceiverView
@@ -95,9 +96,15 @@ other_stream_is_bad = refl
 far_is_bad : forward_answer view 0 (record { cumulative = 40000; skips = [] }) ≡ Bad
 far_is_bad = refl
 
--- of two numbers of a stream the larger one counts, over the wrap of the SSN; the entry of the MID half the space away is passed over
-larger_counts : skipped_by Plain view (record { stream = 1; unordered = false; number = 2 } ∷ record { stream = 1; unordered = false; number = 0 } ∷ []) view.skip (ordered_lane 1) ≡ 65539
+-- of two numbers of a stream the larger one counts, over the wrap of the SSN; one that lies behind doesn't; a MID half the space away has no number
+abbrev entry : ℕ → ℕ → SkipMeaning
+entry stream number = record { stream = stream; unordered = false; number = number }
+
+larger_counts : skipped view.skip (skips_read Plain view (entry 1 2 ∷ entry 1 0 ∷ entry 1 65533 ∷ [])) (ordered_lane 1) ≡ 65539
 larger_counts = refl
 
-none_is_passed_over : skipped_by Interleaved (fresh_receiver 1 1 3) (record { stream = 0; unordered = false; number = 2147483648 } ∷ []) (λ l. 0) (ordered_lane 0) ≡ 0
-none_is_passed_over = refl
+two_count : skips_read Plain view (entry 1 2 ∷ entry 1 0 ∷ entry 1 65533 ∷ []) ≡ record { lane = ordered_lane 1; number = 65538 } ∷ record { lane = ordered_lane 1; number = 65536 } ∷ []
+two_count = refl
+
+none_is_near : skips_read Interleaved (fresh_receiver 1 1 3) (entry 0 2147483648 ∷ []) ≡ []
+none_is_near = refl

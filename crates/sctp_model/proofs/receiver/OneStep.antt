@@ -1,18 +1,19 @@
--- Each step of a receiver has one result.
-use Rattle.std.proofs.Common.{◌≡◌, ℕ, zero, suc, ◌+◌, ◌⊎◌, Bool, true, false, cond, ◌==◌, nat_lt, nat_le, List, [], ◌∷◌, ◌++◌, length, filter, Option, Some, None, refl, ap, sym, ◌∙◌, subst, inl, inr, arith}
+-- From a view as calls leave it each step leads to one view: what is handed over, a chunk taken, a FORWARD taken.
+use Rattle.std.proofs.Common.{◌≡◌, ℕ, zero, suc, ◌⊎◌, Bool, true, false, ◌==◌, nat_le, List, [], ◌∷◌, filter, Option, Some, None, refl, ap, sym, ◌∙◌, subst, inl, inr, arith}
 use Rattle.std.specs.Prelude.{◌&&◌}
 use Rattle.std.proofs.lemmas.Bool.{cases_Bool, cases_order, or_parts, eq-eqb}
-use Rattle.sctp_model.specs.Lists.{Has, at}
+use Rattle.sctp_model.specs.Lists.{Has, IsWithin}
 use Rattle.sctp_model.specs.Format.{Format, Plain, Interleaved, Kind, Ordered, Unordered, Lane, same_kind, same_lane}
 use Rattle.sctp_model.specs.Chunk.{PieceMeaning, ForwardMeaning}
 use Rattle.sctp_model.specs.Pieces.{Piece, same_number, fragment_of}
-use Rattle.sctp_model.specs.ReceiverView.{Handed, ReceiverView, IsCumulative, held_bytes}
-use Rattle.sctp_model.specs.receiver.Reading.{is_ahead, piece_at}
-use Rattle.sctp_model.specs.Receiving.{recorded, handed_unordered, without_below, GivesOrdered, GivesUnordered, Gives, GivesAll}
+use Rattle.sctp_model.specs.ReceiverView.{ReceiverView, IsCumulative}
+use Rattle.sctp_model.specs.receiver.Reading.{is_behind, is_ahead, piece_at}
+use Rattle.sctp_model.specs.Receiving.{recorded, handed_ordered, handed_unordered, GivesOrdered, GivesUnordered, Gives, GivesAll}
 use Rattle.sctp_model.specs.receiver.PieceTaken.{Answer, Duplicate, Ahead, NoSuchStream, Passed, NoRoom, Taken, answer_to, is_duplicate, is_held, is_passed, Leaves, PieceTaken}
 use Rattle.sctp_model.specs.receiver.ForwardTaken.{ForwardAnswer, OutOfDate, Bad, Moved, forward_answer, jumped, let_go, ForwardLeaves, ForwardTaken}
 use Rattle.sctp_model.specs.receiver.Laws.{IsOnePlace, IsApart, IsOrdinary}
 use Rattle.sctp_model.proofs.receiver.OneWhole.{due_only, with_only}
+use Rattle.sctp_model.proofs.receiver.RowLemmas.{row_fails}
 
 pub cumulative_only : (r : ReceiverView) (c d : ℕ) → IsCumulative r c → IsCumulative r d → c ≡ d
 cumulative_only r c d h k = elim (cases_order c d) [
@@ -23,32 +24,39 @@ cumulative_only r c d h k = elim (cases_order c d) [
   ]
 ]
 
--- ---- giving
+-- a step leads to at most one view
+abbrev pub HasOne : (ReceiverView → Type 0) → Type 0
+HasOne step = (t u : ReceiverView) → step t → step u → t ≡ u
 
-given : ReceiverView → ℕ → List Handed → ℕ → ReceiverView
-given r s ms n = record r { next = at r.next s n; waiting = at r.waiting s (r.waiting s ++ ms); kept = without_below r.kept s n }
+-- ---- what is due is handed over
 
-pub ordered_only : (f : Format) (s : ℕ) (r t u : ReceiverView) → IsApart f r.kept → GivesOrdered f s r t → GivesOrdered f s r u → t ≡ u
-unfolding given
-ordered_only f s r t u apart (ms, n, due, e) (os, o, other, e') =
-    let same = due_only f r s apart (r.next s) ms n os o due other in
-    e ∙ ap (λ (hs : List Handed). given r s hs n) same.0 ∙ ap (λ (k : ℕ). given r s os k) same.1 ∙ sym e'
+module _ (f : Format) (r : ReceiverView) (apart : IsApart f r.kept) where
+  pub ordered_only : (s : ℕ) → HasOne (GivesOrdered f s r)
+  ordered_only s t u (ms, n, due, at_t) (os, o, other, at_u) =
+      let one = due_only f r s apart (r.next s) ms n os o due other in
+      at_t ∙ (λ i. handed_ordered r s (one.0 i) (one.1 i)) ∙ sym at_u
 
-pub unordered_only : (f : Format) (y : Piece) (r t u : ReceiverView) → IsApart f r.kept → GivesUnordered f y r t → GivesUnordered f y r u → t ≡ u
-unordered_only f y r t u apart (inl (x, xs, whole, e)) (inl (z, zs, other, e')) =
-    let same = with_only f r.kept y apart (x ∷ xs) (z ∷ zs) whole other in
-    let head : x ≡ z = cc in
-    let tail : xs ≡ zs = cc in
-    e ∙ ap (λ (w : Piece). handed_unordered f r w xs) head ∙ ap (λ (ws : List Piece). handed_unordered f r z ws) tail ∙ sym e'
-unordered_only f y r t u apart (inl (x, xs, whole, e)) (inr (none, e')) = absurd (none (x ∷ xs) whole)
-unordered_only f y r t u apart (inr (none, e)) (inl (z, zs, other, e')) = absurd (none (z ∷ zs) other)
-unordered_only f y r t u apart (inr (none, e)) (inr (empty, e')) = e ∙ sym e'
+  pub unordered_only : (y : Piece) → HasOne (GivesUnordered f y r)
+  unordered_only y t u (inr (none, at_t)) (inr (nothing, at_u)) = at_t ∙ sym at_u
+  unordered_only y t u (inr (none, at_t)) (inl (z, zs, whole, at_u)) = absurd (none (z ∷ zs) whole)
+  unordered_only y t u (inl (x, xs, whole, at_t)) (inr (nothing, at_u)) = absurd (nothing (x ∷ xs) whole)
+  unordered_only y t u (inl (x, xs, whole, at_t)) (inl (z, zs, other, at_u)) = at_t ∙ (λ i. handed_unordered f r (first i) (rest i)) ∙ sym at_u
+    where
+      one : x ∷ xs ≡ z ∷ zs
+      one = with_only f r.kept y apart (x ∷ xs) (z ∷ zs) whole other
 
-pub gives_only : (f : Format) (k : Kind) (y : Piece) (r t u : ReceiverView) → IsApart f r.kept → Gives f k y r t → Gives f k y r u → t ≡ u
-gives_only f Ordered y r t u apart g h = ordered_only f y.lane.stream r t u apart g h
-gives_only f Unordered y r t u apart g h = unordered_only f y r t u apart g h
+      first : x ≡ z
+      first = let e = one in cc
 
--- chunks that stay are apart
+      rest : xs ≡ zs
+      rest = let e = one in cc
+
+  pub gives_only : (k : Kind) (y : Piece) → HasOne (Gives f k y r)
+  gives_only Ordered y = ordered_only y.lane.stream
+  gives_only Unordered y = unordered_only y
+
+-- ---- fewer chunks are kept, and they are apart still
+
 pub filter_has : {A : Type 0} (test : A → Bool) (xs : List A) (x : A) → Has (filter test xs) x → Has xs x
 filter_has test [] x there = there
 filter_has test (y ∷ xs) x there = go (cases_Bool (test y)) (filter_has test xs x)
@@ -57,33 +65,37 @@ filter_has test (y ∷ xs) x there = go (cases_Bool (test y)) (filter_has test x
     go (inl p) more = elim (rw p at there) [ inl e ↦ inl e | inr later ↦ inr (more later) ]
     go (inr p) more = inr (more (rw p at there))
 
+pub fewer_apart : (f : Format) (kept fewer : List Piece) → IsWithin fewer kept → IsApart f kept → IsApart f fewer
+fewer_apart f kept fewer within apart x y here there = apart x y (within x here) (within y there)
+
 pub filter_apart : (f : Format) (test : Piece → Bool) (kept : List Piece) → IsApart f kept → IsApart f (filter test kept)
-filter_apart f test kept apart x y here there place = apart x y (filter_has test kept x here) (filter_has test kept y there) place
+filter_apart f test kept apart = fewer_apart f kept (filter test kept) (filter_has test kept) apart
 
-given_apart : (f : Format) (s : ℕ) (r t : ReceiverView) → IsApart f r.kept → GivesOrdered f s r t → IsApart f t.kept
-given_apart f s r t apart (ms, n, due, e) = subst (λ (v : ReceiverView). IsApart f v.kept) (sym e) (filter_apart f _ r.kept apart)
+pub given_within : (f : Format) (s : ℕ) (r t : ReceiverView) → GivesOrdered f s r t → IsWithin t.kept r.kept
+given_within f s r t (ms, n, due, is) = subst (λ (v : ReceiverView). IsWithin v.kept r.kept) (sym is) (filter_has _ r.kept)
 
-all_apart : (f : Format) (n : ℕ) (r t : ReceiverView) → IsApart f r.kept → GivesAll f n r t → IsApart f t.kept
-all_apart f zero r t apart e = subst (λ (v : ReceiverView). IsApart f v.kept) (sym e) apart
-all_apart f (suc n) r t apart (between, before, now) = given_apart f n between t (all_apart f n r between apart before) now
+pub all_within : (f : Format) (n : ℕ) (r t : ReceiverView) → GivesAll f n r t → IsWithin t.kept r.kept
+all_within f zero r t is x there = subst (λ (v : ReceiverView). Has v.kept x) is there
+all_within f (suc n) r t (between, before, now) x there = all_within f n r between before x (given_within f n between t now x there)
 
 pub all_only : (f : Format) (n : ℕ) (r t u : ReceiverView) → IsApart f r.kept → GivesAll f n r t → GivesAll f n r u → t ≡ u
-all_only f zero r t u apart e e' = e ∙ sym e'
-all_only f (suc n) r t u apart (between, before, now) (other, earlier, then) =
-    let same = all_only f n r between other apart before earlier in
-    ordered_only f n other t u (all_apart f n r other apart earlier) (subst (λ (v : ReceiverView). GivesOrdered f n v t) same now) then
+all_only f zero r t u apart at_t at_u = at_t ∙ sym at_u
+all_only f (suc n) r t u apart (one, before, now) (other, earlier, later) =
+    let same = all_only f n r one other apart before earlier in
+    let still = fewer_apart f r.kept other.kept (all_within f n r other earlier) apart in
+    ordered_only f other still n t u (subst (λ (v : ReceiverView). GivesOrdered f n v t) same now) later
 
--- ---- a chunk taken
+-- ---- one chunk more
 
--- a chunk is taken only if its index isn't recorded and it isn't passed
-pub taken_row : (a b d e g : Bool) → Taken ≡ cond a Duplicate (cond b Ahead (cond d NoSuchStream (cond e Passed (cond g NoRoom Taken)))) →
-    (a ≡ false) × (b ≡ false) × (d ≡ false) × (e ≡ false) × (g ≡ false)
-taken_row true b d e g is = absurd (cc)
-taken_row false true d e g is = absurd (cc)
-taken_row false false true e g is = absurd (cc)
-taken_row false false false true g is = absurd (cc)
-taken_row false false false false true is = absurd (cc)
-taken_row false false false false false is = (refl, refl, refl, refl, refl)
+pub one_more_apart : (f : Format) (kept : List Piece) (x : Piece) → IsApart f kept → ((y : Piece) → Has kept y → IsOnePlace f x y → ⊥) → IsApart f (x ∷ kept)
+one_more_apart f kept x apart alone y z (inr here) (inr there) place = apart y z here there place
+one_more_apart f kept x apart alone y z (inl is) (inl also) place = sym is ∙ also
+one_more_apart f kept x apart alone y z (inl is) (inr there) place = absurd (alone z there (subst (λ (w : Piece). IsOnePlace f w z) (sym is) place))
+one_more_apart f kept x apart alone y z (inr here) (inl is) place = absurd (alone y here (turned f y x (subst (IsOnePlace f y) (sym is) place)))
+  where
+    turned : (g : Format) (v w : Piece) → IsOnePlace g v w → IsOnePlace g w v
+    turned Plain v w e = sym e
+    turned Interleaved v w (lane, number, fragment) = (sym lane, sym number, sym fragment)
 
 kind_same : (k : Kind) → same_kind k k ≡ true
 kind_same Ordered = refl
@@ -107,67 +119,72 @@ not_held (z ∷ zs) x y none (inl e) place =
     absurd (let no : true ≡ false = rw (lane, number, fragment) at p in cc)
 not_held (z ∷ zs) x y none (inr there) place = not_held zs x y (or_parts _ _ none).1 there place
 
--- The new chunk is for no place of a kept one.
-pub new_place : (f : Format) (r : ReceiverView) (x : Piece) → IsOrdinary f r → r.seen x.index ≡ false → is_passed f x.lane.kind r x ≡ false →
-    (y : Piece) → Has r.kept y → IsOnePlace f y x → ⊥
+-- A chunk that is neither recorded nor passed fills a place of its own.
+pub new_place : (f : Format) (r : ReceiverView) (x : Piece) → IsOrdinary f r → r.seen x.index ≡ false → is_passed f r x ≡ false →
+    (y : Piece) → Has r.kept y → IsOnePlace f x y → ⊥
 new_place Plain r x o new wanted y there place =
     let came : r.seen y.index ≡ true = o.recorded y there in
-    let same : r.seen y.index ≡ r.seen x.index = ap r.seen place in
+    let same : r.seen x.index ≡ r.seen y.index = ap r.seen place in
     absurd (cc)
-new_place Interleaved r x o new wanted y there place = not_held r.kept x y (or_parts _ _ wanted).1 there place
+new_place Interleaved r x o new wanted y there (lane, number, fragment) = not_held r.kept x y (or_parts _ _ wanted).1 there (sym lane, sym number, sym fragment)
 
-place_sym : (f : Format) (x y : Piece) → IsOnePlace f x y → IsOnePlace f y x
-place_sym Plain x y e = sym e
-place_sym Interleaved x y (a, b, c) = (sym a, sym b, sym c)
+pub kept_apart : (f : Format) (r : ReceiverView) (x : Piece) → IsOrdinary f r → r.seen x.index ≡ false → is_passed f r x ≡ false → IsApart f (x ∷ r.kept)
+kept_apart f r x o new wanted = one_more_apart f r.kept x o.apart (new_place f r x o new wanted)
 
-pub kept_apart : (f : Format) (r : ReceiverView) (x : Piece) → IsOrdinary f r → r.seen x.index ≡ false → is_passed f x.lane.kind r x ≡ false → IsApart f (x ∷ r.kept)
-kept_apart f r x o new wanted y z (inl e) (inl e') place = sym e ∙ e'
-kept_apart f r x o new wanted y z (inl e) (inr there) place = absurd (new_place f r x o new wanted z there (place_sym f x z (subst (λ (w : Piece). IsOnePlace f w z) (sym e) place)))
-kept_apart f r x o new wanted y z (inr here) (inl e) place = absurd (new_place f r x o new wanted y here (subst (λ (w : Piece). IsOnePlace f y w) (sym e) place))
-kept_apart f r x o new wanted y z (inr here) (inr there) place = o.apart y z here there place
+-- ---- a chunk taken
 
-leaves_only : (f : Format) (r : ReceiverView) (c : ℕ) (p : PieceMeaning) (a : Answer) (t u : ReceiverView) → IsOrdinary f r → a ≡ answer_to f r c p →
-    Leaves f r (piece_at f r c p) p.tsn a t → Leaves f r (piece_at f r c p) p.tsn a u → t ≡ u
-leaves_only f r c p Duplicate t u o is g h = g ∙ sym h
-leaves_only f r c p Ahead t u o is g h = g ∙ sym h
-leaves_only f r c p NoSuchStream t u o is g h = g ∙ sym h
-leaves_only f r c p Passed t u o is g h = g ∙ sym h
-leaves_only f r c p NoRoom t u o is g h = g ∙ sym h
-leaves_only f r c p Taken t u o is g h =
-    let row = taken_row (is_duplicate f r c p) (is_ahead r c p.tsn) (nat_le r.streams p.stream) (is_passed f (piece_at f r c p).lane.kind r (piece_at f r c p)) (nat_lt r.buffer (held_bytes r + length p.bytes)) is in
-    let apart = kept_apart f r (piece_at f r c p) o (or_parts _ _ row.0).1 row.3 in
-    gives_only f (piece_at f r c p).lane.kind (piece_at f r c p) (record (recorded r (piece_at f r c p)) { kept = piece_at f r c p ∷ r.kept }) t u apart g h
+-- one that is taken wasn't recorded, and isn't passed
+pub taken_is_new : (f : Format) (r : ReceiverView) (c : ℕ) (p : PieceMeaning) → answer_to f r c p ≡ Taken → (r.seen (piece_at f r c p).index ≡ false) × (is_passed f r (piece_at f r c p) ≡ false)
+taken_is_new f r c p is =
+    let first = row_fails (is_duplicate f r c p) Duplicate _ Taken is (λ e. cc) in
+    let second = row_fails (is_ahead r c p.tsn) Ahead _ Taken first.1 (λ e. cc) in
+    let third = row_fails (nat_le r.streams p.stream) NoSuchStream _ Taken second.1 (λ e. cc) in
+    let fourth = row_fails (is_passed f r (piece_at f r c p)) Passed _ Taken third.1 (λ e. cc) in
+    ((or_parts (is_behind r c p.tsn) (r.seen (piece_at f r c p).index) first.0).1, fourth.0)
 
-pub piece_only : (f : Format) (r : ReceiverView) (p : PieceMeaning) (a b : Answer) (t u : ReceiverView) → IsOrdinary f r →
-    PieceTaken f r p a t → PieceTaken f r p b u → (a ≡ b) × (t ≡ u)
-piece_only f r p a b t u o g h = (answers, leaves_only f r g.c p a t u o g.answer g.leaves other)
-  where
-    one : h.c ≡ g.c
-    one = cumulative_only r h.c g.c h.cumulative g.cumulative
+taken_apart : (f : Format) (r : ReceiverView) (c : ℕ) (p : PieceMeaning) → IsOrdinary f r → answer_to f r c p ≡ Taken → IsApart f (piece_at f r c p ∷ r.kept)
+taken_apart f r c p o is = let new = taken_is_new f r c p is in kept_apart f r (piece_at f r c p) o new.0 new.1
 
-    answers : a ≡ b
-    answers = g.answer ∙ ap (λ (c : ℕ). answer_to f r c p) (sym one) ∙ sym h.answer
+leaves_only : (f : Format) (r : ReceiverView) (c : ℕ) (p : PieceMeaning) → IsOrdinary f r → (a : Answer) → answer_to f r c p ≡ a → HasOne (Leaves f r (piece_at f r c p) p.tsn a)
+leaves_only f r c p o Duplicate is t u at_t at_u = at_t ∙ sym at_u
+leaves_only f r c p o Ahead is t u at_t at_u = at_t ∙ sym at_u
+leaves_only f r c p o NoSuchStream is t u at_t at_u = at_t ∙ sym at_u
+leaves_only f r c p o Passed is t u at_t at_u = at_t ∙ sym at_u
+leaves_only f r c p o NoRoom is t u at_t at_u = at_t ∙ sym at_u
+leaves_only f r c p o Taken is t u at_t at_u =
+    gives_only f (record (recorded r (piece_at f r c p)) { kept = piece_at f r c p ∷ r.kept }) (taken_apart f r c p o is) (piece_at f r c p).lane.kind (piece_at f r c p) t u at_t at_u
 
-    other : Leaves f r (piece_at f r g.c p) p.tsn a u
-    other = subst (λ (d : Answer). Leaves f r (piece_at f r g.c p) p.tsn d u) (sym answers) (subst (λ (c : ℕ). Leaves f r (piece_at f r c p) p.tsn b u) one h.leaves)
+-- at the one cumulative index: the answer is the table's, and the view is as it leaves it
+pub piece_read : (f : Format) (r : ReceiverView) (c : ℕ) (p : PieceMeaning) (a : Answer) (t : ReceiverView) → IsCumulative r c → PieceTaken f r p a t →
+    (a ≡ answer_to f r c p) × Leaves f r (piece_at f r c p) p.tsn (answer_to f r c p) t
+piece_read f r c p a t is taken =
+    subst (λ (d : ℕ). (a ≡ answer_to f r d p) × Leaves f r (piece_at f r d p) p.tsn (answer_to f r d p) t) (cumulative_only r taken.c c taken.cumulative is)
+    (taken.answer, subst (λ (b : Answer). Leaves f r (piece_at f r taken.c p) p.tsn b t) taken.answer taken.leaves)
+
+pub piece_only : (f : Format) (r : ReceiverView) (p : PieceMeaning) (a b : Answer) (t u : ReceiverView) → IsOrdinary f r → PieceTaken f r p a t → PieceTaken f r p b u →
+    (a ≡ b) × (t ≡ u)
+piece_only f r p a b t u o one other =
+    let mine = piece_read f r one.c p a t one.cumulative one in
+    let its = piece_read f r one.c p b u one.cumulative other in
+    (mine.0 ∙ sym its.0, leaves_only f r one.c p o (answer_to f r one.c p) refl t u mine.1 its.1)
 
 -- ---- a FORWARD taken
 
-forward_leaves_only : (f : Format) (r : ReceiverView) (c : ℕ) (x : ForwardMeaning) (a : ForwardAnswer) (t u : ReceiverView) → IsApart f r.kept →
-    ForwardLeaves f r c x a t → ForwardLeaves f r c x a u → t ≡ u
-forward_leaves_only f r c x OutOfDate t u apart g h = g ∙ sym h
-forward_leaves_only f r c x Bad t u apart g h = g ∙ sym h
-forward_leaves_only f r c x Moved t u apart g h = all_only f r.streams (let_go f (jumped f r c x)) t u (filter_apart f _ r.kept apart) g h
+moves_only : (f : Format) (r : ReceiverView) (c : ℕ) (x : ForwardMeaning) → IsApart f r.kept → (a : ForwardAnswer) → HasOne (ForwardLeaves f r c x a)
+moves_only f r c x apart OutOfDate t u at_t at_u = at_t ∙ sym at_u
+moves_only f r c x apart Bad t u at_t at_u = at_t ∙ sym at_u
+moves_only f r c x apart Moved t u at_t at_u =
+    all_only f r.streams (let_go f (jumped f r c x)) t u (filter_apart f _ r.kept apart) at_t at_u
 
-pub forward_only : (f : Format) (r : ReceiverView) (x : ForwardMeaning) (a b : ForwardAnswer) (t u : ReceiverView) → IsApart f r.kept →
-    ForwardTaken f r x a t → ForwardTaken f r x b u → (a ≡ b) × (t ≡ u)
-forward_only f r x a b t u apart g h = (answers, forward_leaves_only f r g.c x a t u apart g.leaves other)
-  where
-    one : h.c ≡ g.c
-    one = cumulative_only r h.c g.c h.cumulative g.cumulative
+pub forward_read : (f : Format) (r : ReceiverView) (c : ℕ) (x : ForwardMeaning) (a : ForwardAnswer) (t : ReceiverView) → IsCumulative r c → ForwardTaken f r x a t →
+    (a ≡ forward_answer r c x) × ForwardLeaves f r c x (forward_answer r c x) t
+forward_read f r c x a t is taken =
+    subst (λ (d : ℕ). (a ≡ forward_answer r d x) × ForwardLeaves f r d x (forward_answer r d x) t) (cumulative_only r taken.c c taken.cumulative is)
+    (taken.answer, subst (λ (b : ForwardAnswer). ForwardLeaves f r taken.c x b t) taken.answer taken.leaves)
 
-    answers : a ≡ b
-    answers = g.answer ∙ ap (λ (c : ℕ). forward_answer r c x) (sym one) ∙ sym h.answer
-
-    other : ForwardLeaves f r g.c x a u
-    other = subst (λ (d : ForwardAnswer). ForwardLeaves f r g.c x d u) (sym answers) (subst (λ (c : ℕ). ForwardLeaves f r c x b u) one h.leaves)
+pub forward_only : (f : Format) (r : ReceiverView) (x : ForwardMeaning) (a b : ForwardAnswer) (t u : ReceiverView) → IsApart f r.kept → ForwardTaken f r x a t → ForwardTaken f r x b u →
+    (a ≡ b) × (t ≡ u)
+forward_only f r x a b t u apart one other =
+    let mine = forward_read f r one.c x a t one.cumulative one in
+    let its = forward_read f r one.c x b u one.cumulative other in
+    (mine.0 ∙ sym its.0, moves_only f r one.c x apart (forward_answer r one.c x) t u mine.1 its.1)

@@ -1,38 +1,38 @@
--- What is due on a stream, in words, beside the walk of `IsDue` (RFC 9260, 6.6; RFC 3758, 3.6).
-use Rattle.std.specs.Prelude.{◌≡◌, ℕ, ◌<◌, ◌≤◌, List, [], ◌∷◌, Some}
+-- What is due on a stream, said without a walk over its numbers (RFC 9260, 6.6; RFC 3758, 3.6).
+use Rattle.std.specs.Prelude.{◌≡◌, ℕ, ◌<◌, ◌≤◌, List, ◌∷◌}
 use Rattle.sctp_model.specs.Lists.{Has}
 use Rattle.sctp_model.specs.Format.{Format, ordered_lane}
 use Rattle.sctp_model.specs.Pieces.{Piece}
 use Rattle.sctp_model.specs.ReceiverView.{Handed, ReceiverView}
 use Rattle.sctp_model.specs.Receiving.{IsWholeNumber, IsLowest, HasNoWhole, message_of}
+use Rattle.sctp_model.specs.Safe.{IsRising}
 
--- m is the smallest number at or past `from` that is above the skipped ones and not whole
-pub record IsWaitedFor (f : Format) (r : ReceiverView) (s from m : ℕ) : Type 0 where
-  pub past : from ≤ m
-  pub above : r.skip (ordered_lane s) ≤ m
-  pub not_whole : HasNoWhole f r.kept (ordered_lane s) m
-  pub smallest : (n : ℕ) → from ≤ n → n < m → r.skip (ordered_lane s) ≤ n → HasNoWhole f r.kept (ordered_lane s) n → ⊥
+-- the smallest number with a property
+pub record IsSmallest (P : ℕ → Type 0) (m : ℕ) : Type 0 where
+  pub has : P m
+  pub least : (n : ℕ) → P n → m ≤ n
 
--- the message is the whole one of this number, of several the one with the lowest index
-pub record IsMessage (f : Format) (r : ReceiverView) (s n : ℕ) (h : Handed) : Type 0 where
-  pub first : Piece
-  pub others : List Piece
-  pub whole : IsWholeNumber f r.kept (ordered_lane s) n (first ∷ others)
-  pub lowest : IsLowest f r.kept (ordered_lane s) n (first ∷ others)
-  pub is : h ≡ message_of f first others
+-- the number is still to come: at or past `from`, above the skipped ones, and not whole
+abbrev pub IsToCome : Format → ReceiverView → (s from n : ℕ) → Type 0
+IsToCome f r s from n = (from ≤ n) × (r.skip (ordered_lane s) ≤ n) × HasNoWhole f r.kept (ordered_lane s) n
 
--- the message's number is below that of the other
-abbrev pub IsNumberBelow : Handed → Handed → Type 0
-IsNumberBelow h k = (n m : ℕ) → h.number ≡ Some n → k.number ≡ Some m → n < m
+-- these chunks are the stream's whole message of the number n; of several, those that begin lowest
+abbrev pub AreMessage : Format → ReceiverView → (s n : ℕ) → List Piece → Type 0
+AreMessage f r s n xs = IsWholeNumber f r.kept (ordered_lane s) n xs × IsLowest f r.kept (ordered_lane s) n xs
 
--- each message's number is below those of the messages after it
-abbrev pub AreRising : List Handed → Type 0
-AreRising [] = Unit {0}
-AreRising (h ∷ hs) = ((k : Handed) → Has hs k → IsNumberBelow h k) × AreRising hs
+-- a whole message with a number from `from` to m - 1
+pub record IsPassedWhole (f : Format) (r : ReceiverView) (s from m : ℕ) (h : Handed) : Type 0 where
+  pub number : ℕ
+  pub begun : from ≤ number
+  pub ended : number < m
+  pub head : Piece
+  pub rest : List Piece
+  pub chunks : AreMessage f r s number (head ∷ rest)
+  pub made : message_of f head rest ≡ h
 
--- Handed over are the whole messages numbered `from` to m - 1, in rising number; m is waited for next.
+-- DUE ON A STREAM, from a number on: m is the smallest one still to come, and handed over are all whole messages before it, in rising number.
 pub record IsDueInWords (f : Format) (r : ReceiverView) (s from : ℕ) (ms : List Handed) (m : ℕ) : Type 0 where
-  pub next : IsWaitedFor f r s from m
-  pub rising : AreRising ms
-  pub each : (h : Handed) → Has ms h → (n : ℕ) × (from ≤ n) × (n < m) × IsMessage f r s n h
-  pub all : (n : ℕ) (h : Handed) → from ≤ n → n < m → IsMessage f r s n h → Has ms h
+  pub waits : IsSmallest (IsToCome f r s from) m
+  pub in_order : IsRising ms
+  pub only : (h : Handed) → Has ms h → IsPassedWhole f r s from m h
+  pub all : (h : Handed) → IsPassedWhole f r s from m h → Has ms h

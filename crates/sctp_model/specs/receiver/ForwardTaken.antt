@@ -1,69 +1,76 @@
--- What a receiver does with a FORWARD-TSN or I-FORWARD-TSN (RFC 3758, 3.6; RFC 8260, 2.3).
-use Rattle.std.specs.Prelude.{◌≡◌, ℕ, suc, Bool, true, false, not, ◌||◌, nat_le, max, List, [], ◌∷◌, filter, Option, Some, None, if◌then◌else◌}
+-- A FORWARD comes to a receiver: its sender gave up all that is missing up to an index, and names the messages that are waited for in vain
+-- (RFC 3758, 3.6; RFC 8260, 2.3).
+use Rattle.std.specs.Prelude.{◌≡◌, ℕ, Bool, true, false, not, ◌||◌, nat_le, max, List, [], ◌∷◌, filter, Option, Some, None, if◌then◌else◌}
 use Rattle.sctp_model.specs.Chunk.{SkipMeaning, ForwardMeaning}
-use Rattle.sctp_model.specs.Format.{Format, Kind, Ordered, Unordered, Lane, at_lane}
+use Rattle.sctp_model.specs.Format.{Format, Kind, Ordered, Unordered, Lane}
 use Rattle.sctp_model.specs.Framing.{lets_go}
 use Rattle.sctp_model.specs.Pieces.{Piece}
+use Rattle.sctp_model.specs.Forward.{Skip, skipped}
 use Rattle.sctp_model.specs.ReceiverView.{ReceiverView, IsCumulative}
-use Rattle.sctp_model.specs.receiver.Reading.{index_at, is_behind, is_ahead, lane_of, number_in}
+use Rattle.sctp_model.specs.receiver.Rows.{first_of}
+use Rattle.sctp_model.specs.receiver.Reading.{index_at, is_behind, is_ahead, is_late, lane_of, number_in}
 use Rattle.sctp_model.specs.Receiving.{GivesAll}
 
--- What is answered to a FORWARD.
 pub data ForwardAnswer : Type 0 where
-  OutOfDate Bad Moved : ForwardAnswer
+  -- its TSN lies behind
+  OutOfDate : ForwardAnswer
+  -- its TSN is too far ahead, or it names a stream that isn't there
+  Bad : ForwardAnswer
+  -- the cumulative index moves
+  Moved : ForwardAnswer
 
--- an entry names a stream that isn't there
-abbrev pub names_other_stream : ℕ → List SkipMeaning → Bool
+-- one of the entries is for a stream that isn't there
+abbrev pub names_other_stream : (streams : ℕ) → List SkipMeaning → Bool
 names_other_stream streams [] = false
 names_other_stream streams (x ∷ xs) = nat_le streams x.stream || names_other_stream streams xs
 
--- The first of these that holds is the answer.
-abbrev pub forward_answer : ReceiverView → ℕ → ForwardMeaning → ForwardAnswer
-forward_answer r c x =
-    if is_behind r c x.cumulative then OutOfDate
-    else if is_ahead r c x.cumulative || names_other_stream r.streams x.skips then Bad
-    else Moved
+-- THE TABLE OF ANSWERS to a FORWARD; below it, it moves.
+abbrev pub forward_answer : ReceiverView → (c : ℕ) → ForwardMeaning → ForwardAnswer
+forward_answer r c x = first_of
+    ((is_behind r c x.cumulative, OutOfDate)
+    ∷ (is_ahead r c x.cumulative || names_other_stream r.streams x.skips, Bad)
+    ∷ [])
+    Moved
 
--- ---- the numbers that are waited for no longer
+-- ---- what it skips
 
--- an ordered number below the stream's next changes nothing
-abbrev pub is_to_skip : ReceiverView → Lane → Kind → ℕ → Bool
-is_to_skip r l Ordered n = nat_le (r.next l.stream) n
-is_to_skip r l Unordered n = true
+-- before those behind it, the entry of a lane, if its number counts there
+abbrev pub with_skip : ReceiverView → Lane → Option ℕ → List Skip → List Skip
+with_skip r l None others = others
+with_skip r l (Some n) others = if is_late r l (Some n) then others else record { lane = l; number = n } ∷ others
 
--- the skipped numbers with one entry more taken
-abbrev pub raised : ReceiverView → Lane → Option ℕ → (Lane → ℕ) → Lane → ℕ
-raised r l None skip = skip
-raised r l (Some n) skip = if is_to_skip r l l.kind n then at_lane skip l (max (skip l) (suc n)) else skip
+-- The entries in counts, each read as its chunks would be before the FORWARD came. One without a number, or with one too late, is passed over.
+abbrev pub skips_read : Format → ReceiverView → List SkipMeaning → List Skip
+skips_read f r [] = []
+skips_read f r (x ∷ xs) =
+    with_skip r (lane_of x.stream x.unordered) (number_in f r (lane_of x.stream x.unordered) x.number) (skips_read f r xs)
 
--- The numbers are read at the references from before the call. One without a count is passed over, and the largest counts.
-abbrev pub skipped_by : Format → ReceiverView → List SkipMeaning → (Lane → ℕ) → Lane → ℕ
-skipped_by f r [] skip = skip
-skipped_by f r (x ∷ xs) skip =
-    skipped_by f r xs (raised r (lane_of x.stream x.unordered) (number_in f r (lane_of x.stream x.unordered) x.number) skip)
+-- ---- what it leaves
 
--- ---- what a FORWARD leaves
+-- all indexes up to its own are passed, and of each lane all numbers up to the largest that it names
+abbrev pub jumped : Format → ReceiverView → (c : ℕ) → ForwardMeaning → ReceiverView
+jumped f r c x = record r { jump = max r.jump (index_at r c x.cumulative); skip = skipped r.skip (skips_read f r x.skips) }
 
--- its index and its numbers are taken
-abbrev pub jumped : Format → ReceiverView → ℕ → ForwardMeaning → ReceiverView
-jumped f r c x = record r { jump = max r.jump (index_at r c x.cumulative); skip = skipped_by f r x.skips r.skip }
+-- An ordered chunk stays, to be handed over or to go with its number; an unordered one goes by its index under DATA, and by its number under I-DATA.
+abbrev pub stays_by : Kind → Format → ReceiverView → Piece → Bool
+stays_by Ordered f r x = true
+stays_by Unordered f r x = not (lets_go f x.index x.number r.jump (r.skip x.lane))
 
--- an unordered chunk that it leaves behind: under DATA by its index, under I-DATA by its number
-abbrev pub is_left_behind : Format → Kind → ReceiverView → Piece → Bool
-is_left_behind f Ordered r x = false
-is_left_behind f Unordered r x = lets_go f x.index x.number r.jump (r.skip x.lane)
-
--- unordered chunks left behind go
+-- What a FORWARD leaves of the kept chunks. That nothing whole goes is a law of views at rest.
 abbrev pub let_go : Format → ReceiverView → ReceiverView
-let_go f r = record r { kept = filter (λ (x : Piece). not (is_left_behind f x.lane.kind r x)) r.kept }
+let_go f r = record r { kept = filter (λ (x : Piece). stays_by x.lane.kind f r x) r.kept }
 
--- Each answer's effect.
-abbrev pub ForwardLeaves : Format → ReceiverView → ℕ → ForwardMeaning → ForwardAnswer → ReceiverView → Type 0
+-- the view when its index and its entries were taken, and what can't become whole any more went
+abbrev pub forwarded : Format → ReceiverView → (c : ℕ) → ForwardMeaning → ReceiverView
+forwarded f r c x = let_go f (jumped f r c x)
+
+-- One that moves does that, and on every stream what is due then is handed over.
+abbrev pub ForwardLeaves : Format → ReceiverView → (c : ℕ) → ForwardMeaning → ForwardAnswer → ReceiverView → Type 0
 ForwardLeaves f r c x OutOfDate t = t ≡ r
 ForwardLeaves f r c x Bad t = t ≡ r
-ForwardLeaves f r c x Moved t = GivesAll f r.streams (let_go f (jumped f r c x)) t
+ForwardLeaves f r c x Moved t = GivesAll f r.streams (forwarded f r c x) t
 
--- A FORWARD TAKEN: its answer, and the view after it.
+-- A FORWARD TAKEN: read at the cumulative index c, it is answered by the table, and the answer leaves t.
 pub record ForwardTaken (f : Format) (r : ReceiverView) (x : ForwardMeaning) (a : ForwardAnswer) (t : ReceiverView) : Type 0 where
   pub c : ℕ
   pub cumulative : IsCumulative r c

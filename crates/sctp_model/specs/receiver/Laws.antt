@@ -1,30 +1,39 @@
--- What holds of every view that calls reach, and what makes each step of it one.
+-- Views as calls leave them. Every call of a receiver keeps these, and from such a view each step has one result.
 use Rattle.std.specs.Prelude.{◌≡◌, ℕ, ◌≤◌, true, false, List}
 use Rattle.sctp_model.specs.Lists.{Has}
 use Rattle.sctp_model.specs.Format.{Format, Plain, Interleaved, Unordered, ordered_lane}
 use Rattle.sctp_model.specs.Pieces.{Piece, fragment_of}
 use Rattle.sctp_model.specs.ReceiverView.{ReceiverView}
-use Rattle.sctp_model.specs.Receiving.{is_below, HasNoWhole, IsWholeWith}
+use Rattle.sctp_model.specs.Receiving.{is_below, HasNoWhole, HasNoWholeWith}
 
--- under DATA two chunks with one index, under I-DATA two fragments with one lane, number and fragment number
+-- ---- what is kept
+
+-- The two chunks fill one place: of a message's fragments under I-DATA, of the indexes under DATA.
 abbrev pub IsOnePlace : Format → Piece → Piece → Type 0
 IsOnePlace Plain x y = x.index ≡ y.index
 IsOnePlace Interleaved x y = (x.lane ≡ y.lane) × (x.number ≡ y.number) × (fragment_of x ≡ fragment_of y)
 
--- no two kept chunks are for one place
+-- no place is filled twice
 abbrev pub IsApart : Format → List Piece → Type 0
 IsApart f kept = (x y : Piece) → Has kept x → Has kept y → IsOnePlace f x y → x ≡ y
 
--- Kept chunks are apart, and the index of each was recorded.
+-- Each place is filled once, and by a chunk whose index was recorded.
 pub record IsOrdinary (f : Format) (r : ReceiverView) : Type 0 where
   pub apart : IsApart f r.kept
-  pub recorded : (x : Piece) → Has r.kept x → r.seen x.index ≡ true
+  pub recorded : (y : Piece) → Has r.kept y → r.seen y.index ≡ true
 
--- Nothing is due: on each stream the next number is neither whole nor skipped, and no unordered message is whole.
+-- ---- what is due
+
+-- the stream's next number really waits: it isn't skipped, and no whole message has it
+pub record IsWaiting (f : Format) (r : ReceiverView) (s : ℕ) : Type 0 where
+  pub passed : r.skip (ordered_lane s) ≤ r.next s
+  pub none : HasNoWhole f r.kept (ordered_lane s) (r.next s)
+
+-- AT REST: nothing is to be handed over, neither in order nor without.
 pub record IsIdle (f : Format) (r : ReceiverView) : Type 0 where
-  pub ordered : (s : ℕ) → (r.skip (ordered_lane s) ≤ r.next s) × HasNoWhole f r.kept (ordered_lane s) (r.next s)
-  pub unordered : (y : Piece) (xs : List Piece) → y.lane.kind ≡ Unordered → IsWholeWith f r.kept y xs → ⊥
+  pub ordered : (s : ℕ) → IsWaiting f r s
+  pub unordered : (y : Piece) → y.lane.kind ≡ Unordered → HasNoWholeWith f r.kept y
 
--- no ordered chunk that is kept lies behind the next number of its stream
+-- what was passed over is gone: no ordered chunk lies below its stream's next number
 abbrev pub IsSettled : ReceiverView → Type 0
 IsSettled r = (s : ℕ) (x : Piece) → Has r.kept x → is_below s (r.next s) x ≡ false

@@ -1,14 +1,14 @@
--- The SACK of a receiver (RFC 9260, 3.3.4 and 6.2.1), and what the calls of its user and of whoever sends SACKs leave.
-use Rattle.std.specs.Prelude.{◌≡◌, ℕ, suc, ◌+◌, ◌-◌, ◌<◌, ◌≤◌, ◌⊎◌, true, List, [], ◌∷◌, ◌++◌, length, Option, Some, None}
+-- What a receiver tells in a SACK (RFC 9260, 3.3.4 and 6.2.1), and what is left when it was sent, and when the user takes a message.
+use Rattle.std.specs.Prelude.{◌≡◌, ℕ, suc, ◌+◌, ◌<◌, ◌≤◌, true, List, [], ◌∷◌, ◌++◌, take, Option, Some, None}
 use Rattle.sctp_model.specs.Limits.{BLOCK_LIMIT}
-use Rattle.sctp_model.specs.Lists.{Has, at}
+use Rattle.sctp_model.specs.Lists.{Has, AreInOrder, at}
 use Rattle.sctp_model.specs.Serial.{tsn}
 use Rattle.sctp_model.specs.Chunk.{BlockMeaning, SackMeaning}
-use Rattle.sctp_model.specs.ReceiverView.{Handed, ReceiverView, IsCumulative, held_bytes}
+use Rattle.sctp_model.specs.ReceiverView.{Handed, ReceiverView, IsCumulative, room_left}
 
 -- ---- gap blocks
 
--- A maximal run of recorded indexes above c, as offsets from it. The index after c isn't recorded.
+-- A run above c: from start to end all are recorded, counted from c, and on neither side does it go on.
 pub record IsRun (r : ReceiverView) (c : ℕ) (b : BlockMeaning) : Type 0 where
   pub above : 1 < b.start
   pub some : b.start ≤ b.end
@@ -16,36 +16,49 @@ pub record IsRun (r : ReceiverView) (c : ℕ) (b : BlockMeaning) : Type 0 where
   pub before : (i : ℕ) → suc i ≡ c + b.start → r.seen i ≡ true → ⊥
   pub after : r.seen (suc (c + b.end)) ≡ true → ⊥
 
--- each block ends before those after it begin
+-- from the lowest up, each ended before the next begins
 abbrev pub AreBlocksRising : List BlockMeaning → Type 0
-AreBlocksRising [] = Unit {0}
-AreBlocksRising (b ∷ bs) = ((a : BlockMeaning) → Has bs a → b.end < a.start) × AreBlocksRising bs
+AreBlocksRising = AreInOrder (λ (low high : BlockMeaning). low.end < high.start)
 
--- The lowest runs above c, as many as a SACK has room for.
-pub record AreLowestRuns (r : ReceiverView) (c : ℕ) (bs : List BlockMeaning) : Type 0 where
-  pub few : length bs ≤ BLOCK_LIMIT
-  pub runs : (b : BlockMeaning) → Has bs b → IsRun r c b
+-- The list of all runs above c.
+pub record AreAllRuns (r : ReceiverView) (c : ℕ) (bs : List BlockMeaning) : Type 0 where
   pub rising : AreBlocksRising bs
-  pub lowest : (b : BlockMeaning) → IsRun r c b → Has bs b ⊎ ((length bs ≡ BLOCK_LIMIT) × ((a : BlockMeaning) → Has bs a → a.end < b.start))
+  pub runs : (b : BlockMeaning) → Has bs b → IsRun r c b
+  pub all : (b : BlockMeaning) → IsRun r c b → Has bs b
 
--- The SACK of a view.
+-- ---- THE SACK
+
+-- its words, from the cumulative index and all runs: of these the lowest, as many as there is room for
+abbrev pub sack_of : ReceiverView → (c : ℕ) → List BlockMeaning → SackMeaning
+sack_of r c runs = record {
+  cumulative = tsn r.initial c;
+  rwnd = room_left r;
+  blocks = take BLOCK_LIMIT runs;
+  duplicates = r.duplicates;
+}
+
+-- THE SACK OF A VIEW
 pub record IsSack (r : ReceiverView) (s : SackMeaning) : Type 0 where
   pub c : ℕ
+  pub runs : List BlockMeaning
   pub cumulative : IsCumulative r c
-  pub tsn : s.cumulative ≡ tsn r.initial c
-  pub rwnd : s.rwnd ≡ r.buffer - held_bytes r
-  pub blocks : AreLowestRuns r c s.blocks
-  pub duplicates : s.duplicates ≡ r.duplicates
+  pub all : AreAllRuns r c runs
+  pub is : s ≡ sack_of r c runs
 
--- ---- calls
-
--- `sack_sent`: the TSNs that came again are forgotten
+-- When it was sent, the duplicates that it told are forgotten.
 abbrev pub sack_sent : ReceiverView → ReceiverView
 sack_sent r = record r { duplicates = [] }
 
--- `take`: the first message that waits on a stream, where one waits; the rest waits on
-abbrev pub TakeLeaves : ReceiverView → ℕ → Option Handed → ReceiverView → Type 0
+-- ---- the user takes a message
+
+-- the first that waits on the stream is taken, and the rest waits on
+abbrev pub first_taken : ReceiverView → (stream : ℕ) → Handed → List Handed → ReceiverView
+first_taken r s first rest = record r {
+  taken = at r.taken s (r.taken s ++ first ∷ []);
+  waiting = at r.waiting s rest;
+}
+
+-- A message is taken where one waits; else there is none, and nothing changes.
+abbrev pub TakeLeaves : ReceiverView → (stream : ℕ) → Option Handed → ReceiverView → Type 0
 TakeLeaves r s None t = (r.waiting s ≡ []) × (t ≡ r)
-TakeLeaves r s (Some h) t =
-    (rest : List Handed) × (r.waiting s ≡ h ∷ rest)
-    × (t ≡ record r { taken = at r.taken s (r.taken s ++ h ∷ []); waiting = at r.waiting s rest })
+TakeLeaves r s (Some h) t = (rest : List Handed) × (r.waiting s ≡ h ∷ rest) × (t ≡ first_taken r s h rest)

@@ -7,7 +7,7 @@ use Rattle.sctp_model.specs.ReceiverView.{Handed, ReceiverView, fresh_receiver}
 use Rattle.sctp_model.specs.receiver.PieceTaken.{Duplicate, answer_to}
 use Rattle.sctp_model.specs.receiver.ForwardTaken.{OutOfDate, forward_answer}
 use Rattle.sctp_reference.specs.receiver.Steps.{cumulative, piece_step, forward_step}
-use Rattle.sctp_reference.specs.receiver.Runs.{lowest_runs}
+use Rattle.sctp_reference.specs.receiver.Runs.{all_runs}
 
 -- a chunk of one byte on stream 0, by its flags U, B and E
 abbrev chunk : (unordered begin end : Bool) → (tsn number word byte : ℕ) → PieceMeaning
@@ -146,5 +146,5 @@ late_is_behind = (refl, refl)
 abbrev seen_some : ReceiverView
 seen_some = record (fresh_receiver 1 1 100) { seen = λ i. (i == 2) || ((i == 3) || (i == 5)) }
 
-blocks_of : lowest_runs seen_some 0 9 ≡ record { start = 2; end = 3 } ∷ record { start = 5; end = 5 } ∷ []
+blocks_of : all_runs seen_some 0 9 ≡ record { start = 2; end = 3 } ∷ record { start = 5; end = 5 } ∷ []
 blocks_of = refl

@@ -1,12 +1,11 @@
--- The blocks computed are the lowest maximal runs, as many as a SACK has room for.
-use Rattle.std.proofs.Common.{◌≡◌, ℕ, zero, suc, ◌+◌, ◌-◌, ◌<◌, ◌≤◌, ◌⊎◌, Bool, true, false, List, [], ◌∷◌, length, take, Option, None, Some, inl, inr, refl, ap, sym, subst, arith}
+-- The blocks computed are all maximal runs above the cumulative index.
+use Rattle.std.proofs.Common.{◌≡◌, ℕ, zero, suc, ◌+◌, ◌-◌, ◌<◌, ◌≤◌, ◌⊎◌, Bool, true, false, List, [], ◌∷◌, Option, None, Some, inl, inr, refl, ap, sym, subst, arith}
 use Rattle.std.proofs.lemmas.Bool.{cases_eq, cases_lt}
-use Rattle.sctp_model.specs.Limits.{BLOCK_LIMIT}
 use Rattle.sctp_model.specs.Lists.{Has}
 use Rattle.sctp_model.specs.Chunk.{BlockMeaning}
 use Rattle.sctp_model.specs.ReceiverView.{ReceiverView, IsCumulative}
-use Rattle.sctp_model.specs.receiver.SackMade.{IsRun, AreBlocksRising, AreLowestRuns}
-use Rattle.sctp_reference.specs.receiver.Runs.{block, walked, runs_from, lowest_runs}
+use Rattle.sctp_model.specs.receiver.SackMade.{IsRun, AreBlocksRising, AreAllRuns}
+use Rattle.sctp_reference.specs.receiver.Runs.{block, walked, runs_from, all_runs}
 use Rattle.sctp_reference.specs.receiver.Steps.{IsBound}
 
 -- ---- the walk
@@ -168,48 +167,11 @@ module _ (r : ReceiverView) (c bound : ℕ) (within : IsBound r bound) where
       go false h on off =
           with_block s k (runs_from r.seen c depth None (suc k)) knows (λ y. cc (h, y)) (off (passes k past_one (λ y. cc (h, y))))
 
--- ---- the first of them
-
-few : (n : ℕ) (bs : List BlockMeaning) → length (take n bs) ≤ n
-few zero bs = omega arith
-few (suc n) [] = omega arith
-few (suc n) (b ∷ bs) = let l = few n bs in omega arith
-
-taken_has : (n : ℕ) (bs : List BlockMeaning) (b : BlockMeaning) → Has (take n bs) b → Has bs b
-taken_has zero bs b h = absurd h
-taken_has (suc n) [] b h = absurd h
-taken_has (suc n) (x ∷ bs) b (inl e) = inl e
-taken_has (suc n) (x ∷ bs) b (inr h) = inr (taken_has n bs b h)
-
-taken_rising : (n : ℕ) (bs : List BlockMeaning) → AreBlocksRising bs → AreBlocksRising (take n bs)
-taken_rising zero bs rising = tt
-taken_rising (suc n) [] rising = tt
-taken_rising (suc n) (x ∷ bs) (low, rising) = (λ a h. low a (taken_has n bs a h), taken_rising n bs rising)
-
--- each is among the first n, or the first n are all before it
-taken_or_past : (n : ℕ) (bs : List BlockMeaning) (b : BlockMeaning) → AreBlocksRising bs → Has bs b →
-    Has (take n bs) b ⊎ ((length (take n bs) ≡ n) × ((a : BlockMeaning) → Has (take n bs) a → a.end < b.start))
-taken_or_past zero bs b rising h = inr (refl, λ a k. absurd k)
-taken_or_past (suc n) [] b rising h = absurd h
-taken_or_past (suc n) (x ∷ bs) b (low, rising) (inl e) = inl (inl e)
-taken_or_past (suc n) (x ∷ bs) b (low, rising) (inr h) = go (taken_or_past n bs b rising h)
+pub runs_are : (r : ReceiverView) (c bound : ℕ) → IsBound r bound → IsCumulative r c → AreAllRuns r c (all_runs r c bound)
+runs_are r c bound within cumulative = record { rising = all.rising; runs = all.runs; all = λ b run. let above = run.above in all.all b run (omega arith) }
   where
-    before : ((a : BlockMeaning) → Has (take n bs) a → a.end < b.start) → (a : BlockMeaning) → Has (x ∷ take n bs) a → a.end < b.start
-    before more a (inl e) = subst (λ (z : BlockMeaning). z.end < b.start) e (low b h)
-    before more a (inr k) = more a k
+    knows : Knows r c bound within None 2
+    knows = (omega arith, λ i e h. let same : i ≡ suc c = omega arith in cumulative.open_end (inl (subst (λ (j : ℕ). r.seen j ≡ true) same h)))
 
-    go : Has (take n bs) b ⊎ ((length (take n bs) ≡ n) × ((a : BlockMeaning) → Has (take n bs) a → a.end < b.start)) →
-        Has (x ∷ take n bs) b ⊎ ((suc (length (take n bs)) ≡ suc n) × ((a : BlockMeaning) → Has (x ∷ take n bs) a → a.end < b.start))
-    go (inl k) = inl (inr k)
-    go (inr (e, more)) = inr (ap suc e, before more)
-
-pub runs_are : (r : ReceiverView) (c bound : ℕ) → IsBound r bound → IsCumulative r c → AreLowestRuns r c (lowest_runs r c bound)
-runs_are r c bound within cumulative =
-    let knows : Knows r c bound within None 2 = (omega arith, λ i e h. let same : i ≡ suc c = omega arith in cumulative.open_end (inl (subst (λ (j : ℕ). r.seen j ≡ true) same h))) in
-    let all = walk r c bound within bound None 2 knows (omega arith) in
-    record {
-      few = few BLOCK_LIMIT (runs_from r.seen c bound None 2);
-      runs = λ b h. all.runs b (taken_has BLOCK_LIMIT (runs_from r.seen c bound None 2) b h);
-      rising = taken_rising BLOCK_LIMIT (runs_from r.seen c bound None 2) all.rising;
-      lowest = λ b run. let above = run.above in taken_or_past BLOCK_LIMIT (runs_from r.seen c bound None 2) b all.rising (all.all b run (omega arith));
-    }
+    all : AreRuns r c bound within 2 (all_runs r c bound)
+    all = walk r c bound within bound None 2 knows (omega arith)

@@ -1,6 +1,5 @@
 -- The maximal runs of recorded indexes above the cumulative one, computed by a walk over the indexes.
-use Rattle.std.specs.Prelude.{ℕ, zero, suc, ◌+◌, ◌-◌, Bool, true, false, List, [], ◌∷◌, take, Option, Some, None}
-use Rattle.sctp_model.specs.Limits.{BLOCK_LIMIT}
+use Rattle.std.specs.Prelude.{ℕ, zero, suc, ◌+◌, ◌-◌, Bool, true, false, List, [], ◌∷◌, Option, Some, None}
 use Rattle.sctp_model.specs.Chunk.{BlockMeaning}
 use Rattle.sctp_model.specs.ReceiverView.{ReceiverView}
 
@@ -25,6 +24,6 @@ abbrev pub runs_from : (ℕ → Bool) → (c : ℕ) → (depth : ℕ) → Option
 runs_from seen c zero begun k = closed begun k
 runs_from seen c (suc depth) begun k = walked (seen (c + k)) begun k (runs_from seen c depth)
 
--- the lowest runs above c, as many as a SACK has room for, where no index above the bound was recorded
-abbrev pub lowest_runs : ReceiverView → (c bound : ℕ) → List BlockMeaning
-lowest_runs r c bound = take BLOCK_LIMIT (runs_from r.seen c bound None 2)
+-- all runs above c, where no index above the bound was recorded
+abbrev pub all_runs : ReceiverView → (c bound : ℕ) → List BlockMeaning
+all_runs r c bound = runs_from r.seen c bound None 2

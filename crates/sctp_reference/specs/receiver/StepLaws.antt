@@ -9,10 +9,10 @@ use Rattle.sctp_model.specs.ReceiverView.{ReceiverView, IsCumulative}
 use Rattle.sctp_model.specs.receiver.Laws.{IsApart, IsOrdinary}
 use Rattle.sctp_model.specs.receiver.PieceTaken.{Answer, PieceTaken, answer_to}
 use Rattle.sctp_model.specs.receiver.ForwardTaken.{ForwardAnswer, ForwardTaken, forward_answer}
-use Rattle.sctp_model.specs.receiver.SackMade.{AreLowestRuns, IsSack}
+use Rattle.sctp_model.specs.receiver.SackMade.{AreAllRuns, IsSack}
 use Rattle.sctp_reference.specs.receiver.Wholes.{wholes}
 use Rattle.sctp_reference.specs.receiver.Steps.{IsBound, cumulative, piece_step, forward_step}
-use Rattle.sctp_reference.specs.receiver.Runs.{lowest_runs}
+use Rattle.sctp_reference.specs.receiver.Runs.{all_runs}
 
 -- the lists computed are the whole messages among kept chunks, and no others
 abbrev pub WholesAreAll : Type 0
@@ -42,9 +42,9 @@ abbrev pub ForwardsAreTakenSo : Type 0
 ForwardsAreTakenSo = (f : Format) (r t : ReceiverView) (c : ℕ) (x : ForwardMeaning) (a : ForwardAnswer) → IsApart f r.kept → IsCumulative r c →
     ForwardTaken f r x a t ↔ ((a ≡ forward_answer r c x) × (t ≡ forward_step f r c x))
 
--- the blocks of a SACK, of a receiver that recorded no index above a bound
+-- the runs above the cumulative index, of a receiver that recorded no index above a bound
 abbrev pub RunsAreComputed : Type 0
-RunsAreComputed = (r : ReceiverView) (c bound : ℕ) → IsBound r bound → IsCumulative r c → AreLowestRuns r c (lowest_runs r c bound)
+RunsAreComputed = (r : ReceiverView) (c bound : ℕ) → IsBound r bound → IsCumulative r c → AreAllRuns r c (all_runs r c bound)
 
 -- a view has one SACK
 abbrev pub SackIsOne : Type 0

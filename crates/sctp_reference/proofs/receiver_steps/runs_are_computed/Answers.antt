@@ -1,4 +1,4 @@
-use Rattle.sctp_reference.proofs.receiver.OneSack.{sack_only}
+use Rattle.sctp_model.proofs.receiver.OneSack.{sack_only}
 use Rattle.sctp_reference.proofs.receiver.RunsLemmas.{runs_are}
 use Rattle.sctp_reference.proofs.receiver_steps.runs_are_computed.Goals as goal
 

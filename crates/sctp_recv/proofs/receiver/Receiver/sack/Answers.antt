@@ -1,9 +1,11 @@
-use Rattle.std.proofs.Common.{ℕ, List, sym, ◌∙◌, ap, subst, arith}
+use Rattle.std.proofs.Common.{◌≡◌, ◌-◌, ℕ, List, map, take, sym, ◌∙◌, ap, arith}
+use Rattle.std.proofs.lemmas.List.{take-map}
+use Rattle.sctp_model.specs.Limits.{BLOCK_LIMIT}
 use Rattle.sctp_model.specs.Serial.{tsn}
-use Rattle.sctp_model.specs.Chunk.{BlockMeaning}
-use Rattle.sctp_model.specs.receiver.SackMade.{AreLowestRuns}
+use Rattle.sctp_model.specs.ReceiverView.{held_bytes}
+use Rattle.sctp_recv.specs.Blocks.{block_of_run}
 use Rattle.sctp_recv.specs.StandsFor.{StandsFor}
-use Rattle.sctp_recv.proofs.BlockLemmas.{lowest_runs}
+use Rattle.sctp_recv.proofs.BlockLemmas.{all_runs}
 use Rattle.sctp_recv.proofs.ReceiverSteps.{cumulative_is}
 use Rattle.sctp_recv.proofs.receiver.Receiver.sack.Goals as goal
 
@@ -11,11 +13,14 @@ pub returns : goal.returns
 unfolding StandsFor
 returns g c = λ v w.
     let s = c.args.self.now.seen in
+    let first = c.tsn_of.ensures ∙ ap (λ (i : ℕ). tsn c.args.self.now.initial i) c.cumulative.ensures ∙ ap (λ (i : ℕ). tsn i s.cumulative) (sym w.initial) in
+    let room : c.saturating_sub.result ≡ v.buffer - held_bytes v = let held = w.held in let all = w.buffer in let left = c.saturating_sub.ensures in omega arith in
+    let lowest = c.in_ok-put_blocks.ensures.blocks ∙ sym (take-map (block_of_run s.cumulative) BLOCK_LIMIT s.runs) in
+    let again = c.in_ok-put_words.ensures.words ∙ c.deref.ensures.value ∙ sym w.duplicates in
     record {
       c = s.cumulative;
+      runs = map (block_of_run s.cumulative) s.runs;
       cumulative = cumulative_is s v w.seen;
-      tsn = c.tsn_of.ensures ∙ ap (λ (i : ℕ). tsn c.args.self.now.initial i) c.cumulative.ensures ∙ ap (λ (i : ℕ). tsn i s.cumulative) (sym w.initial);
-      rwnd = let held = w.held in let room = w.buffer in let left = c.saturating_sub.ensures in omega arith;
-      blocks = subst (λ (bs : List BlockMeaning). AreLowestRuns v s.cumulative bs) (sym c.in_ok-put_blocks.ensures.blocks) (lowest_runs v s.cumulative s.runs w.seen.runs w.seen.above);
-      duplicates = c.in_ok-put_words.ensures.words ∙ c.deref.ensures.value ∙ sym w.duplicates;
+      all = all_runs v s.cumulative s.runs w.seen.runs w.seen.above;
+      is = λ i. record { cumulative = first i; rwnd = room i; blocks = lowest i; duplicates = again i };
     }
