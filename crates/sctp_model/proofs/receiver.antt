@@ -3,6 +3,9 @@ pub mod OneWhole
 pub mod RowLemmas
 pub mod OneStep
 pub mod OneSack
+pub mod RowFacts
+pub mod Sizes
+pub mod SameDue
 pub mod DueWords
 pub mod Idle
 pub mod Examples

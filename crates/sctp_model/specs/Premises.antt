@@ -12,7 +12,7 @@ use Rattle.sctp_model.specs.Safe.{Safe, WasHanded}
 use Rattle.sctp_model.specs.end.Sealing.{Body, Sealing}
 use Rattle.sctp_model.specs.end.EndView.{Draw, format_of, Completed, Over}
 use Rattle.sctp_model.specs.end.Configured.{IsConfiguration}
-use Rattle.sctp_model.specs.World.{Side, A, B, other, World, end_of, log_of, Setup, configuration_of, FIRST_DRAW, start}
+use Rattle.sctp_model.specs.World.{Side, other, World, end_of, log_of, Setup, configuration_of, FIRST_DRAW, start}
 use Rattle.sctp_model.specs.Events.{Event, OpenBoth, Drawing, Connect, Foreign, Outcome}
 use Rattle.sctp_model.specs.Steps.{Run}
 

@@ -1,5 +1,5 @@
 -- The world of two ends: a caller and a listener, all that either ever gave to the network, the clock, and the chance for what comes next.
-use Rattle.std.specs.Prelude.{ℕ, zero, suc, Bool, true, false, not, ◌&&◌, if◌then◌else◌, List, [], ◌∷◌, ◌++◌, length}
+use Rattle.std.specs.Prelude.{ℕ, zero, suc, Bool, true, false, not, ◌&&◌, if◌then◌else◌, List, [], ◌∷◌, ◌++◌}
 use Rattle.sctp_model.specs.Packet.{Packet}
 use Rattle.sctp_model.specs.Calls.{Call}
 use Rattle.sctp_model.specs.SenderView.{SenderView}
