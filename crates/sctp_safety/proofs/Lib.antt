@@ -51,3 +51,4 @@ mod SkipReads
 mod ForwardReads
 mod SackMade
 mod machine
+mod runs

@@ -1,6 +1,6 @@
-mod EndWords
+pub mod EndWords
 mod Written
-mod Sides
+pub mod Sides
 pub mod Strangers
 mod Turns
 mod TurnsOfTime

@@ -1,0 +1,9 @@
+mod Grown
+mod Direction
+mod Sending
+mod Passing
+mod Hearing
+mod Pair
+mod Acted
+mod Packets
+mod Timed

@@ -1,0 +1,180 @@
+-- What a chunk of the peer does to an end that has met it.
+use Rattle.std.proofs.Common.{◌≡◌, ℕ, Bool, true, false, List, [], ◌∷◌, inl, inr, refl, sym, subst}
+use Rattle.sctp_model.specs.Lists.{Has}
+use Rattle.sctp_model.specs.Chunk.{InitMeaning, PieceMeaning, ForwardMeaning, ChunkMeaning, Data, IData, Init, InitAck, Sack, Heartbeat, HeartbeatAck, Abort, Shutdown, ShutdownAck, Error, CookieEcho, CookieAck, ShutdownComplete, ForwardTsn, IForwardTsn, Unknown}
+use Rattle.sctp_model.specs.Format.{Format}
+use Rattle.sctp_model.specs.SenderView.{SenderView}
+use Rattle.sctp_model.specs.ReceiverView.{ReceiverView}
+use Rattle.sctp_model.specs.Packet.{Packet}
+use Rattle.sctp_model.specs.Calls.{Asked}
+use Rattle.sctp_model.specs.receiver.PieceTaken.{Answer, PieceTaken}
+use Rattle.sctp_model.specs.receiver.ForwardTaken.{ForwardAnswer, ForwardTaken}
+use Rattle.sctp_model.specs.end.EndView.{Draw, Ended, Aborted, AbortedHere, Completed, StaleCookie, Phase, Calling, Over, EndView, format_of}
+use Rattle.sctp_model.specs.end.Clock.{closed}
+use Rattle.sctp_model.specs.end.Closing.{rested}
+use Rattle.sctp_model.specs.end.PeerFaults.{GoesOn, Ends, Replies}
+use Rattle.sctp_model.specs.end.Opening.{AcceptedAck, RefusedAck, EchoedAgain, CookieAcked}
+use Rattle.sctp_model.specs.end.Acting.{Acts, Empty, WrongFormat, Comes, WrongKind, IsBad, IsOld, IsStale, IsWrong, Counts, Closes, SaysNothing, Crosses, Again, Completes}
+use Rattle.sctp_safety.specs.States.{has_agreed}
+use Rattle.sctp_safety.proofs.machine.Sides.{unknown_goes, unknown_ends, unknown_never_replies}
+use Rattle.sctp_safety.proofs.machine.EndWords.{Keeps}
+use Rattle.sctp_safety.proofs.runs.Direction.{Direction}
+use Rattle.sctp_safety.proofs.runs.Sending.{after_sack, after_shutdown}
+use Rattle.sctp_safety.proofs.runs.Hearing.{after_piece, after_skip}
+use Rattle.sctp_safety.proofs.runs.Pair.{is_opening, AreOpening, IsMet, AreViews, views_same, met_same, met_rested}
+
+-- an end that waits for an INIT ACK has agreed on nothing
+pub not_calling : (h : Phase) (d : Draw) → h ≡ Calling d → has_agreed h ≡ true → ⊥
+not_calling h d is agreed = let q : false ≡ true = subst (λ (k : Phase). has_agreed k ≡ true) is agreed in absurd (cc)
+
+module _ (p : EndView) (u v : Asked) (out back : List ChunkMeaning) where
+  abbrev Met : EndView → Type 0
+  Met e = IsMet e p u v out back
+
+  -- ---- views that changed
+
+  with_receiver : (e : EndView) (r : ReceiverView) → Met e → Direction (format_of p) p.terms.outbound p.sender v r back out → Met (record e { receiver = r })
+  with_receiver e r m d = record {
+    going = m.going;
+    coming = d;
+    format = m.format;
+    phase = m.phase;
+    phase_there = m.phase_there;
+    moment = m.moment;
+    moment_there = m.moment_there;
+  }
+
+  with_sender : (e : EndView) (a : SenderView) → Met e → Direction (format_of e) e.terms.outbound a u p.receiver out back → Met (record e { sender = a })
+  with_sender e a m d = record {
+    going = d;
+    coming = m.coming;
+    format = m.format;
+    phase = m.phase;
+    phase_there = m.phase_there;
+    moment = m.moment;
+    moment_there = m.moment_there;
+  }
+
+  by_data : (e : EndView) (x : PieceMeaning) (o : Answer) (r : ReceiverView) → Met e → Has back (Data x) → PieceTaken (format_of e) e.receiver x o r → Met (record e { receiver = r })
+  by_data e x o r m has taken =
+      with_receiver e r m (after_piece (format_of p) p.terms.outbound p.sender v e.receiver back out m.coming (Data x) x o r has (λ h. h)
+      (subst (λ (f : Format). PieceTaken f e.receiver x o r) m.format taken))
+
+  by_i_data : (e : EndView) (x : PieceMeaning) (o : Answer) (r : ReceiverView) → Met e → Has back (IData x) → PieceTaken (format_of e) e.receiver x o r → Met (record e { receiver = r })
+  by_i_data e x o r m has taken =
+      with_receiver e r m (after_piece (format_of p) p.terms.outbound p.sender v e.receiver back out m.coming (IData x) x o r has (λ h. h)
+      (subst (λ (f : Format). PieceTaken f e.receiver x o r) m.format taken))
+
+  by_forward : (e : EndView) (x : ForwardMeaning) (o : ForwardAnswer) (r : ReceiverView) → Met e → Has back (ForwardTsn x) → ForwardTaken (format_of e) e.receiver x o r →
+      Met (record e { receiver = r })
+  by_forward e x o r m has taken =
+      with_receiver e r m (after_skip (format_of p) p.terms.outbound p.sender v e.receiver back out m.coming (ForwardTsn x) x o r has (λ h. h)
+      (subst (λ (f : Format). ForwardTaken f e.receiver x o r) m.format taken))
+
+  by_i_forward : (e : EndView) (x : ForwardMeaning) (o : ForwardAnswer) (r : ReceiverView) → Met e → Has back (IForwardTsn x) → ForwardTaken (format_of e) e.receiver x o r →
+      Met (record e { receiver = r })
+  by_i_forward e x o r m has taken =
+      with_receiver e r m (after_skip (format_of p) p.terms.outbound p.sender v e.receiver back out m.coming (IForwardTsn x) x o r has (λ h. h)
+      (subst (λ (f : Format). ForwardTaken f e.receiver x o r) m.format taken))
+
+  -- the same views in another state
+  still : (e t : EndView) → Met e → AreViews e t → has_agreed t.phase ≡ true → Met t
+  still e t m same phase = met_same e t p u v out back m same phase
+
+  over : (e : EndView) (why : Ended) → Met e → Met (closed why e)
+  over e why m = still e (closed why e) m (record { terms = refl; sender = refl; receiver = refl; moment = refl }) refl
+
+  -- ---- a chunk after which the packet goes on
+
+  goes : (e : EndView) (tag : ℕ) (x : ChunkMeaning) (t : EndView) → Has back x → Met e → Acts e tag x (GoesOn t) → Met t
+  goes e tag (Data d) t has m (Comes k g o r is hears some same taken) =
+      still (record e { receiver = r }) t (by_data e d o r m has taken) (record { terms = refl; sender = refl; receiver = refl; moment = refl }) m.phase
+  goes e tag (IData d) t has m (Comes k g o r is hears some same taken) =
+      still (record e { receiver = r }) t (by_i_data e d o r m has taken) (record { terms = refl; sender = refl; receiver = refl; moment = refl }) m.phase
+  goes e tag (Init i) t has m h = absurd (cc)
+  goes e tag (InitAck i) t has m (AcceptedAck d cookie is tagged value fault) = absurd (not_calling e.phase d is m.phase)
+  goes e tag (Sack s) t has m (IsStale hears fault) = m
+  goes e tag (Sack s) t has m (Counts hears none) =
+      still (record e { sender = _ }) t (with_sender e _ m (after_sack (format_of e) e.terms.outbound e.sender u p.receiver out back m.going s has none))
+      (record { terms = refl; sender = refl; receiver = refl; moment = refl }) m.phase
+  goes e tag (Heartbeat i) t has m (Counts hears) = still e t m (record { terms = refl; sender = refl; receiver = refl; moment = refl }) m.phase
+  goes e tag (HeartbeatAck i) t has m h = let q : t ≡ e = cc in subst Met (sym q) m
+  goes e tag (Abort b xs) t has m h = absurd (cc)
+  goes e tag (Shutdown n) t has m (IsStale k g is hears fault) = still e t m (record { terms = refl; sender = refl; receiver = refl; moment = refl }) refl
+  goes e tag (Shutdown n) t has m (Counts k g is hears none) =
+      still (record e { sender = _ }) t (with_sender e _ m (after_shutdown (format_of e) e.terms.outbound e.sender u p.receiver out back m.going n has none))
+      (record { terms = refl; sender = refl; receiver = refl; moment = refl }) refl
+  goes e tag (Shutdown n) t has m (Crosses k is) = still e t m (record { terms = refl; sender = refl; receiver = refl; moment = refl }) refl
+  goes e tag (Shutdown n) t has m (Again k is) = still e t m (record { terms = refl; sender = refl; receiver = refl; moment = refl }) m.phase
+  goes e tag ShutdownAck t has m h = elim h [ ]
+  goes e tag (Error xs) t has m (SaysNothing off) = m
+  goes e tag (CookieEcho xs) t has m (EchoedAgain _ _ _ _ _ _ _) = still e t m (record { terms = refl; sender = refl; receiver = refl; moment = refl }) m.phase
+  goes e tag CookieAck t has m (CookieAcked k xs is) = still e t m (record { terms = refl; sender = refl; receiver = refl; moment = refl }) refl
+  goes e tag (ShutdownComplete b) t has m h = elim h [ ]
+  goes e tag (ForwardTsn d) t has m (IsOld k g r is hears may taken) =
+      still (record e { receiver = r }) t (by_forward e d _ r m has taken) (record { terms = refl; sender = refl; receiver = refl; moment = refl }) m.phase
+  goes e tag (ForwardTsn d) t has m (Comes k g r is hears may taken) =
+      still (record e { receiver = r }) t (by_forward e d _ r m has taken) (record { terms = refl; sender = refl; receiver = refl; moment = refl }) m.phase
+  goes e tag (IForwardTsn d) t has m (IsOld k g r is hears may taken) =
+      still (record e { receiver = r }) t (by_i_forward e d _ r m has taken) (record { terms = refl; sender = refl; receiver = refl; moment = refl }) m.phase
+  goes e tag (IForwardTsn d) t has m (Comes k g r is hears may taken) =
+      still (record e { receiver = r }) t (by_i_forward e d _ r m has taken) (record { terms = refl; sender = refl; receiver = refl; moment = refl }) m.phase
+  goes e tag (Unknown k f w) t has m h =
+      subst Met (sym (unknown_goes e t k f w h).same) (still e _ m (record { terms = refl; sender = refl; receiver = refl; moment = refl }) m.phase)
+
+  -- ---- a chunk that ends its packet, and one that is answered
+
+  ends : (e : EndView) (tag : ℕ) (x : ChunkMeaning) (t : EndView) → Met e → Acts e tag x (Ends t) → Met t
+  ends e tag (Data d) t m h = elim h [ ]
+  ends e tag (IData d) t m h = elim h [ ]
+  ends e tag (Init i) t m h = absurd (cc)
+  ends e tag (InitAck i) t m h = elim h [ ]
+  ends e tag (Sack s) t m h = elim h [ ]
+  ends e tag (Heartbeat i) t m h = elim h [ ]
+  ends e tag (HeartbeatAck i) t m h = absurd (cc)
+  ends e tag (Abort b xs) t m h = let q : t ≡ closed Aborted e = cc in subst Met (sym q) (over e Aborted m)
+  ends e tag (Shutdown n) t m h = elim h [ ]
+  ends e tag ShutdownAck t m h = elim h [ ]
+  ends e tag (Error xs) t m (Closes on) = over e StaleCookie m
+  ends e tag (CookieEcho xs) t m h = elim h [ ]
+  ends e tag CookieAck t m h = elim h [ ]
+  ends e tag (ShutdownComplete b) t m (Completes on) = over e Completed m
+  ends e tag (ForwardTsn d) t m h = elim h [ ]
+  ends e tag (IForwardTsn d) t m h = elim h [ ]
+  ends e tag (Unknown k f w) t m h =
+      subst Met (sym (unknown_ends e t k f w h).same) (still e _ m (record { terms = refl; sender = refl; receiver = refl; moment = refl }) m.phase)
+
+  one : (x : ChunkMeaning) → is_opening x ≡ true → AreOpening (x ∷ [])
+  one x h y (inl e) = subst (λ (z : ChunkMeaning). is_opening z ≡ true) e h
+  one x h y (inr k) = absurd k
+
+  replies : (e : EndView) (tag : ℕ) (x : ChunkMeaning) (t : EndView) (r : Packet) → Met e → Acts e tag x (Replies t r) → Met t × AreOpening r.chunks
+  replies e tag (Data d) t r m (Empty _ _ _ _ _) = (over e AbortedHere m, one _ refl)
+  replies e tag (Data d) t r m (WrongFormat _ _ _ _ _ _) = (over e AbortedHere m, one _ refl)
+  replies e tag (IData d) t r m (Empty _ _ _ _ _) = (over e AbortedHere m, one _ refl)
+  replies e tag (IData d) t r m (WrongFormat _ _ _ _ _ _) = (over e AbortedHere m, one _ refl)
+  replies e tag (Init i) t r m h = absurd (cc)
+  replies e tag (InitAck i) t r m (RefusedAck _ _ _ _ _) = (over e AbortedHere m, one _ refl)
+  replies e tag (Sack s) t r m (IsWrong _ _ _ _ _) = (over e AbortedHere m, one _ refl)
+  replies e tag (Heartbeat i) t r m h = elim h [ ]
+  replies e tag (HeartbeatAck i) t r m h = absurd (cc)
+  replies e tag (Abort b xs) t r m h = absurd (cc)
+  replies e tag (Shutdown n) t r m (IsWrong _ _ _ _ _) = (over e AbortedHere m, one _ refl)
+  replies e tag ShutdownAck t r m (Completes _ _ _ _) = (over e Completed m, one _ refl)
+  replies e tag (Error xs) t r m h = elim h [ ]
+  replies e tag (CookieEcho xs) t r m h = elim h [ ]
+  replies e tag CookieAck t r m h = elim h [ ]
+  replies e tag (ShutdownComplete b) t r m h = elim h [ ]
+  replies e tag (ForwardTsn d) t r m (WrongKind _ _ _ _ _) = (over e AbortedHere m, one _ refl)
+  replies e tag (ForwardTsn d) t r m (IsBad _ _ _ _ _ _ _) = (over e AbortedHere m, one _ refl)
+  replies e tag (IForwardTsn d) t r m (WrongKind _ _ _ _ _) = (over e AbortedHere m, one _ refl)
+  replies e tag (IForwardTsn d) t r m (IsBad _ _ _ _ _ _ _) = (over e AbortedHere m, one _ refl)
+  replies e tag (Unknown k f w) t r m h = absurd (unknown_never_replies e t r k f w h)
+
+  -- Chunks of the peer keep both directions, and an answer to them says nothing of either.
+  pub chunks_keep : (tag : ℕ) → Keeps tag Met (λ x. Has back x) (λ r. AreOpening r.chunks)
+  chunks_keep tag = record {
+    goes = λ e x t has m act. met_rested t p u v out back (goes e tag x t has m act);
+    ends = λ e x t has m act. ends e tag x t m act;
+    replies = λ e x t r has m act. replies e tag x t r m act;
+  }

@@ -1,0 +1,134 @@
+-- A packet that an end builds keeps both directions: what stands in it is said.
+use Rattle.std.proofs.Common.{◌≡◌, ℕ, ◌-◌, Bool, true, false, List, [], ◌∷◌, ◌++◌, map, append_assoc, append-nil, inl, inr, refl, sym, subst}
+use Rattle.sctp_model.specs.Lists.{Has}
+use Rattle.sctp_model.specs.Serial.{tsn}
+use Rattle.sctp_model.specs.Chunk.{ChunkMeaning, Sack, Shutdown}
+use Rattle.sctp_model.specs.Packet.{size_of_packet}
+use Rattle.sctp_model.specs.Format.{Format, Plain, Interleaved}
+use Rattle.sctp_model.specs.Calls.{Asked}
+use Rattle.sctp_model.specs.sender.Filling.{Wish}
+use Rattle.sctp_model.specs.sender.SentChunks.{chunk_of, forward_chunk_of}
+use Rattle.sctp_model.specs.receiver.SackMade.{sack_sent}
+use Rattle.sctp_model.proofs.sender.FillLaws.{fill_is_fill}
+use Rattle.sctp_model.specs.end.EndView.{Draw, Phase, Calling, EndView, format_of}
+use Rattle.sctp_model.specs.end.Building.{Slot, Wants, EchoCookie, AckCookie, AckHeartbeat, ReportCauses, Acknowledge, PassOn, SayShutdown, AnswerShutdown, Puts, NoMore, NotDue, Put, IsFull, echoing_slots, open_slots, filled_behind, sent, fragments, Builds, Sleeps, Waits, Calls, Echoes, Ends, Fills}
+use Rattle.sctp_safety.specs.States.{has_agreed}
+use Rattle.sctp_safety.proofs.runs.Direction.{Direction}
+use Rattle.sctp_safety.proofs.runs.Sending.{after_fill, Has-map}
+use Rattle.sctp_safety.proofs.runs.Passing.{after_forward}
+use Rattle.sctp_safety.proofs.runs.Hearing.{after_note, after_sack_made, after_shutdown_made}
+use Rattle.sctp_safety.proofs.runs.Pair.{is_quiet, is_quiet_back, quiet_more, quiet_back_more, IsMet, AreViews, met_same}
+use Rattle.sctp_safety.proofs.runs.Acted.{not_calling}
+
+-- a chunk of this one says nothing
+one_quiet : (t : ChunkMeaning → Bool) (x : ChunkMeaning) → t x ≡ true → (y : ChunkMeaning) → Has (x ∷ []) y → t y ≡ true
+one_quiet t x h y (inl e) = subst (λ (z : ChunkMeaning). t z ≡ true) e h
+one_quiet t x h y (inr k) = absurd k
+
+module _ (p : EndView) (u v : Asked) (back : List ChunkMeaning) where
+  -- both directions after this was built so far
+  abbrev Met : List ChunkMeaning → EndView → Type 0
+  Met out e = IsMet e p u v out back
+
+  -- ---- one chunk
+
+  put_quiet : (out : List ChunkMeaning) (e t : EndView) (x : ChunkMeaning) → Met out e → is_quiet x ≡ true → is_quiet_back x ≡ true → AreViews e t → t.phase ≡ e.phase → Met (out ++ x ∷ []) t
+  put_quiet out e t x m quiet quiet_back same phase =
+      met_same e t p u v (out ++ x ∷ []) back (record {
+        going = quiet_more (format_of e) e.terms.outbound e.sender u p.receiver out back m.going (x ∷ []) (one_quiet is_quiet x quiet);
+        coming = quiet_back_more (format_of p) p.terms.outbound p.sender v e.receiver back out m.coming (x ∷ []) (one_quiet is_quiet_back x quiet_back);
+        format = m.format;
+        phase = m.phase;
+        phase_there = m.phase_there;
+        moment = m.moment;
+        moment_there = m.moment_there;
+      }) same (subst (λ (h : Phase). has_agreed h ≡ true) (sym phase) m.phase)
+
+  put_forward : (out : List ChunkMeaning) (e t : EndView) → Met out e → AreViews e t → t.phase ≡ e.phase → Met (out ++ forward_chunk_of (format_of e) e.sender ∷ []) t
+  put_forward out e t m same phase =
+      met_same e t p u v (out ++ forward_chunk_of (format_of e) e.sender ∷ []) back (record {
+        going = after_forward (format_of e) e.terms.outbound e.sender u p.receiver out back m.going;
+        coming = quiet_back_more (format_of p) p.terms.outbound p.sender v e.receiver back out m.coming (forward_chunk_of (format_of e) e.sender ∷ [])
+            (one_quiet is_quiet_back (forward_chunk_of (format_of e) e.sender) (by_format (format_of e)));
+        format = m.format;
+        phase = m.phase;
+        phase_there = m.phase_there;
+        moment = m.moment;
+        moment_there = m.moment_there;
+      }) same (subst (λ (h : Phase). has_agreed h ≡ true) (sym phase) m.phase)
+    where
+      by_format : (f : Format) → is_quiet_back (forward_chunk_of f e.sender) ≡ true
+      by_format Plain = refl
+      by_format Interleaved = refl
+
+  put_one : (s : Slot) (out : List ChunkMeaning) (e t : EndView) (x : ChunkMeaning) → Met out e → Wants e s x t → Met (out ++ x ∷ []) t
+  put_one s out e t x m (EchoCookie _ _ _) = put_quiet out e t x m refl refl (record { terms = refl; sender = refl; receiver = refl; moment = refl }) refl
+  put_one s out e t x m AckCookie = put_quiet out e t x m refl refl (record { terms = refl; sender = refl; receiver = refl; moment = refl }) refl
+  put_one s out e t x m (AckHeartbeat _ _) = put_quiet out e t x m refl refl (record { terms = refl; sender = refl; receiver = refl; moment = refl }) refl
+  put_one s out e t x m ReportCauses = put_quiet out e t x m refl refl (record { terms = refl; sender = refl; receiver = refl; moment = refl }) refl
+  put_one s out e t x m (Acknowledge made is) = record {
+    going = quiet_more (format_of e) e.terms.outbound e.sender u p.receiver out back m.going (Sack made ∷ []) (one_quiet is_quiet (Sack made) refl);
+    coming = after_note (format_of p) p.terms.outbound p.sender v e.receiver back (out ++ Sack made ∷ [])
+        (after_sack_made (format_of p) p.terms.outbound p.sender v e.receiver back out m.coming made is) [];
+    format = m.format;
+    phase = m.phase;
+    phase_there = m.phase_there;
+    moment = m.moment;
+    moment_there = m.moment_there;
+  }
+  put_one s out e t x m PassOn = put_forward out e t m (record { terms = refl; sender = refl; receiver = refl; moment = refl }) refl
+  put_one s out e t x m (SayShutdown c is) = record {
+    going = quiet_more (format_of e) e.terms.outbound e.sender u p.receiver out back m.going (Shutdown (tsn e.receiver.initial c) ∷ [])
+        (one_quiet is_quiet (Shutdown (tsn e.receiver.initial c)) refl);
+    coming = after_shutdown_made (format_of p) p.terms.outbound p.sender v e.receiver back out m.coming c is;
+    format = m.format;
+    phase = m.phase;
+    phase_there = m.phase_there;
+    moment = m.moment;
+    moment_there = m.moment_there;
+  }
+  put_one s out e t x m AnswerShutdown = put_quiet out e t x m refl refl (record { terms = refl; sender = refl; receiver = refl; moment = refl }) refl
+
+  -- ---- one after the other
+
+  puts_keep : (out : List ChunkMeaning) (ss : List Slot) (e : EndView) (xs zs : List ChunkMeaning) (full : Bool) (t : EndView) → Met (out ++ xs) e → Puts ss e xs zs full t → Met (out ++ zs) t
+  puts_keep out ss e xs zs full t m (NoMore _ _) = m
+  puts_keep out ss e xs zs full t m (NotDue _ more _ _ _ _ _ off rest) = puts_keep out more e xs zs full t m rest
+  puts_keep out ss e xs zs full t m (Put s more _ mid x _ _ _ _ due wants room rest) =
+      puts_keep out more mid (xs ++ x ∷ []) zs full t
+      (subst (λ (ys : List ChunkMeaning). Met ys mid) (append_assoc out xs (x ∷ [])) (put_one s (out ++ xs) e mid x m wants)) rest
+  puts_keep out ss e xs zs full t m (IsFull _ _ _ _ _ _ due wants room) = m
+
+  -- fragments behind what is due
+  fill_keeps : (out : List ChunkMeaning) (e : EndView) (zs : List ChunkMeaning) → Met (out ++ zs) e → Met (out ++ (zs ++ fragments e zs)) (sent e zs)
+  fill_keeps out e zs m = subst (λ (ys : List ChunkMeaning). Met ys (sent e zs)) (append_assoc out zs (fragments e zs)) (record {
+    going = after_fill (format_of e) e.terms.outbound e.sender u p.receiver (out ++ zs) back m.going (e.configuration.limit - size_of_packet zs)
+        (filled_behind e zs).wishes (filled_behind e zs).view (fill_is_fill (format_of e) (e.configuration.limit - size_of_packet zs) e.sender);
+    coming = quiet_back_more (format_of p) p.terms.outbound p.sender v e.receiver back (out ++ zs) m.coming (fragments e zs) quiet;
+    format = m.format;
+    phase = m.phase;
+    phase_there = m.phase_there;
+    moment = m.moment;
+    moment_there = m.moment_there;
+  })
+    where
+      by_format : (f : Format) (w : Wish) → is_quiet_back (chunk_of f w) ≡ true
+      by_format Plain w = refl
+      by_format Interleaved w = refl
+
+      quiet : (x : ChunkMeaning) → Has (fragments e zs) x → is_quiet_back x ≡ true
+      quiet x has =
+          let k = Has-map (chunk_of (format_of e)) (filled_behind e zs).wishes x has in
+          subst (λ (y : ChunkMeaning). is_quiet_back y ≡ true) k.2 (by_format (format_of e) k.0)
+
+  -- A packet that is built keeps both directions, and its chunks say what lies between the ends.
+  pub builds_keep : (out : List ChunkMeaning) (e : EndView) (zs : List ChunkMeaning) (t : EndView) → Met out e → Builds e zs t → Met (out ++ zs) t
+  builds_keep out e zs t m (Sleeps none) = subst (λ (ys : List ChunkMeaning). Met ys e) (sym (append-nil out)) m
+  builds_keep out e zs t m (Waits d is off) = absurd (not_calling e.phase d is m.phase)
+  builds_keep out e zs t m (Calls d is on) = absurd (not_calling e.phase d is m.phase)
+  builds_keep out e zs t m (Echoes k cookie _ full _ is puts) =
+      puts_keep out echoing_slots e [] zs full t (subst (λ (ys : List ChunkMeaning). Met ys e) (sym (append-nil out)) m) puts
+  builds_keep out e zs t m (Ends k g _ _ is puts) =
+      puts_keep out open_slots e [] zs true t (subst (λ (ys : List ChunkMeaning). Met ys e) (sym (append-nil out)) m) puts
+  builds_keep out e zs t m (Fills k g xs x is puts) =
+      fill_keeps out x xs (puts_keep out open_slots e [] xs false x (subst (λ (ys : List ChunkMeaning). Met ys e) (sym (append-nil out)) m) puts)

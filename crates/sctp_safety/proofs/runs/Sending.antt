@@ -1,0 +1,206 @@
+-- What a sender's calls do to its direction.
+use Rattle.std.proofs.Common.{◌≡◌, ℕ, zero, suc, ◌+◌, ◌^◌, ◌<◌, ◌≤◌, ◌⊎◌, ◌||◌, true, false, nat_le, max, List, [], ◌∷◌, ◌++◌, length, map, Option, Some, None, inl, inr, refl, sym, subst, ap, arith, ◌∙◌}
+use Rattle.std.proofs.lemmas.Bool.Decides.{nat_tests}
+use Rattle.sctp_model.specs.Lists.{Has, at}
+use Rattle.sctp_model.specs.Serial.{tsn}
+use Rattle.sctp_model.specs.Chunk.{SackMeaning, ChunkMeaning, Sack, Shutdown}
+use Rattle.sctp_model.specs.Format.{Format, Plain, Interleaved}
+use Rattle.sctp_model.specs.Plan.{Message, Entry, Part, entry_at, message_at}
+use Rattle.sctp_model.specs.Pieces.{Piece}
+use Rattle.sctp_model.specs.SenderView.{SenderView}
+use Rattle.sctp_model.specs.ReceiverView.{ReceiverView}
+use Rattle.sctp_model.specs.ReceiverView.{IsReached as IsCovered}
+use Rattle.sctp_model.specs.Acknowledgement.{Acknowledgement, covers, in_blocks}
+use Rattle.sctp_model.specs.Calls.{Call, Asked}
+use Rattle.sctp_model.specs.sender.Queueing.{refusal, queued}
+use Rattle.sctp_model.specs.sender.Entries.{entry_message}
+use Rattle.sctp_model.specs.sender.Filling.{Wish, entry_or_none, wished, gone, Follows, IsFill}
+use Rattle.sctp_model.specs.sender.SackTaken.{sack_fault, sack_taken, shutdown_fault, shutdown_taken}
+use Rattle.sctp_model.specs.sender.SentChunks.{piece_said, chunk_of}
+use Rattle.sctp_model.specs.sender.Abandoning.{abandon_after, expired, timed_out}
+use Rattle.sctp_model.specs.sender.Reached.{IsReached, Queues, Goes, Covers, Closes, Abandons, Repeats}
+use Rattle.sctp_model.proofs.sender.Bounds.{is_set, is_bounded}
+use Rattle.sctp_model.proofs.sender.AbandonedLaws.{expired_reached}
+use Rattle.sctp_safety.specs.Way.{Way, Tick}
+use Rattle.sctp_safety.specs.Exact.{Leads}
+use Rattle.sctp_safety.specs.ReceiverLaws.{IsPieceSaid}
+use Rattle.sctp_safety.specs.SenderLaws.{IsInOrder, IsMoved, IsPut, IsFilled, IsSackOf}
+use Rattle.sctp_safety.proofs.Basics.{Has-cases}
+use Rattle.sctp_safety.proofs.Facts.{Good}
+use Rattle.sctp_safety.proofs.Taken.{leads_by}
+use Rattle.sctp_safety.proofs.UsualLemmas.{good_usual, usual_moved, usual_on}
+use Rattle.sctp_safety.proofs.ReadBounds.{reached_within}
+use Rattle.sctp_safety.proofs.FillMoves.{fill_is_moves}
+use Rattle.sctp_safety.proofs.QueueMoves.{queue_is_moves}
+use Rattle.sctp_safety.proofs.GivingMoves.{abandon_is_moves, expire_is_moves, timeout_is_moves}
+use Rattle.sctp_safety.proofs.SackMoves.{sack_is_moves, shutdown_is_moves}
+use Rattle.sctp_safety.proofs.runs.Grown.{plan_lasts}
+use Rattle.sctp_safety.proofs.runs.Direction.{Bags, way_of, IsSaid, IsSaidBack, Direction, counted_in, IsMore, more_same, said_later, said_back_later}
+
+-- ---- in general
+
+-- The sender moved, and the bags hold no less.
+abbrev pub sender_moved : (f : Format) (n : ℕ) (a : SenderView) (u : Asked) (r : ReceiverView) (out back : List ChunkMeaning) (d : Direction f n a u r out back)
+    (b : SenderView) (v : Asked) (c : Bags) → IsMore d.bags c → IsReached f b → IsMoved (way_of f n a u r d.bags) (way_of f n b v r c) → Direction f n b v r out back
+sender_moved f n a u r out back d b v c more reached m = record {
+  bags = c;
+  usual = usual_moved (way_of f n a u r d.bags) (way_of f n b v r c) d.usual m;
+  reached = reached;
+  idle = d.idle;
+  initial = d.initial ∙ sym m.constants.initial;
+  outbound = m.constants.streams ∙ d.outbound;
+  inbound = d.inbound;
+  said = λ x has. subst (λ (i : ℕ). IsSaid f i b.plan c x) (sym m.constants.initial)
+      (said_later f a.initial a.plan b.plan d.bags c x (plan_lasts (way_of f n a u r d.bags) (way_of f n b v r c) m.leads) more (d.said x has));
+  said_back = λ x has. said_back_later r.initial d.bags c x more (d.said_back x has);
+}
+
+-- ---- the calls
+
+module _ (f : Format) (n : ℕ) (a : SenderView) (u : Asked) (r : ReceiverView) (out back : List ChunkMeaning) (d : Direction f n a u r out back) where
+  abbrev here : Way
+  here = way_of f n a u r d.bags
+
+  pub good_here : Good here
+  good_here = good_usual here d.usual
+
+  pub after_queue : (c : Call) → refusal a c.lane.stream c.bytes ≡ None →
+      Direction f n (queued a c.lane c.payload c.bytes c.until) (record u { calls = u.calls ++ c ∷ [] }) r out back
+  after_queue c none =
+      sender_moved f n a u r out back d _ _ d.bags (more_same d.bags) (Queues a c.lane c.payload c.bytes c.until d.reached none)
+      (queue_is_moves here c d.usual (is_set f a d.reached).fragment d.outbound none)
+
+  pub after_abandon : (t : ℕ) → Direction f n (abandon_after a t) (record u { named = at u.named t true }) r out back
+  after_abandon t =
+      sender_moved f n a u r out back d _ _ d.bags (more_same d.bags) (Abandons a t d.reached) (abandon_is_moves here t d.usual)
+
+  pub after_expiry : (now : ℕ) → now ≤ u.clock → Direction f n (expired a now) u r out back
+  after_expiry now past =
+      sender_moved f n a u r out back d _ _ d.bags (more_same d.bags) (expired_reached f a now d.reached) (expire_is_moves here now d.usual past)
+
+  pub after_timeout : Direction f n (timed_out a) u r out back
+  after_timeout = sender_moved f n a u r out back d _ _ d.bags (more_same d.bags) (Repeats a d.reached) (timeout_is_moves here d.usual)
+
+  -- time passes in the world
+  pub after_tick : (m : ℕ) → Direction f n a (record u { clock = max u.clock m }) r out back
+  after_tick m =
+      sender_moved f n a u r out back d _ _ d.bags (more_same d.bags) d.reached (record {
+        leads = leads_by here (way_of f n a (record u { clock = max u.clock m }) r d.bags) (Tick m) refl;
+        order = record { ends = d.usual.order.ends; marked = d.usual.order.marked; tickets = d.usual.order.tickets };
+        constants = record { initial = refl; streams = refl; fragment = refl; partial = refl };
+      })
+
+  -- ---- what acknowledges
+
+  -- an index whose predecessors were all reached is the plan's, or 0
+  acknowledged_within : (c : ℕ) → IsCovered r c → c ≤ length a.plan.entries
+  acknowledged_within zero h = omega arith
+  acknowledged_within (suc c) h = reached_within here good_here (suc c) (omega arith) h
+
+  below_half : (c : ℕ) → c ≤ length a.plan.entries → c < 2 ^ 31
+  below_half c le = let t = (counted_in f a d.reached).total in omega (arith, le, t)
+
+  cum_below : a.cum < 2 ^ 31
+  cum_below = below_half a.cum (is_bounded f a d.reached).within
+
+  pub after_sack : (s : SackMeaning) → Has back (Sack s) → sack_fault a s ≡ None → Direction f n (sack_taken a s) u r out back
+  after_sack s has none = go (d.said_back (Sack s) has)
+    where
+      itself : (x : Acknowledgement) → covers x x.cum ≡ true
+      itself x = let h : nat_le x.cum x.cum ≡ true = grind (arith, nat_tests) in rw h refl
+
+      go : (x : Acknowledgement) × Has d.bags.sacks x × IsSackOf r.initial x s → Direction f n (sack_taken a s) u r out back
+      go (x, put, of) =
+          sender_moved f n a u r out back d _ _ d.bags (more_same d.bags) (Covers a s d.reached none)
+          (sack_is_moves here x s d.usual put (subst (λ (i : ℕ). IsSackOf i x s) d.initial of) cum_below
+          (below_half x.cum (acknowledged_within x.cum (good_here.between.sacks x x.cum put (itself x)))) none)
+
+  pub after_shutdown : (wire : ℕ) → Has back (Shutdown wire) → shutdown_fault a wire ≡ None → Direction f n (shutdown_taken a wire) u r out back
+  after_shutdown wire has none = go (d.said_back (Shutdown wire) has)
+    where
+      go : (c : ℕ) × Has d.bags.shutdowns c × (wire ≡ tsn r.initial c) → Direction f n (shutdown_taken a wire) u r out back
+      go (c, put, is) =
+          let same : wire ≡ tsn a.initial c = is ∙ ap (λ (i : ℕ). tsn i c) d.initial in
+          sender_moved f n a u r out back d _ _ d.bags (more_same d.bags) (Closes a wire d.reached none)
+          (subst (λ (t : ℕ). IsMoved here (way_of f n (shutdown_taken a t) u r d.bags)) (sym same)
+          (shutdown_is_moves here c d.usual put cum_below (below_half c (acknowledged_within c (good_here.between.shutdowns c c put (omega arith))))
+          (subst (λ (t : ℕ). shutdown_fault a t ≡ None) same none)))
+
+-- ---- what is put into a packet
+
+-- Chunks more that the sender's end built, each of which says something of the direction.
+pub said_more : (f : Format) (n : ℕ) (a : SenderView) (u : Asked) (r : ReceiverView) (out back : List ChunkMeaning) (d : Direction f n a u r out back)
+    (xs : List ChunkMeaning) → ((x : ChunkMeaning) → Has xs x → IsSaid f a.initial a.plan d.bags x) → Direction f n a u r (out ++ xs) back
+said_more f n a u r out back d xs says = record {
+  bags = d.bags;
+  usual = d.usual;
+  reached = d.reached;
+  idle = d.idle;
+  initial = d.initial;
+  outbound = d.outbound;
+  inbound = d.inbound;
+  said = λ x has. which x (Has-cases out xs x has);
+  said_back = d.said_back;
+}
+  where
+    which : (x : ChunkMeaning) → Has out x ⊎ Has xs x → IsSaid f a.initial a.plan d.bags x
+    which x (inl h) = d.said x h
+    which x (inr h) = says x h
+
+-- ---- fragments
+
+follows_reached : (f : Format) (a : SenderView) (room : ℕ) (ws : List Wish) (b : SenderView) → IsReached f a → Follows f a room ws b → IsReached f b
+follows_reached f a room [] b h follows = subst (λ (x : SenderView). IsReached f x) (sym follows) h
+follows_reached f a room (w ∷ ws) b h (next, may, rest) = follows_reached f (gone w) _ ws b (Goes a room w h next may) rest
+
+-- the chunk of a fragment that was put between the ends says it
+piece_is_said : (f : Format) (i : ℕ) (ps : List Piece) (w : Wish) → w.view.initial ≡ i → IsPut f ps w →
+    IsPieceSaid f i ps (piece_said f w.view.initial w.index (wished w) (entry_message w.view.plan (wished w)))
+piece_is_said f i ps w initial p = record {
+  index = w.index;
+  lane = p.lane;
+  number = p.number;
+  fragment = p.fragment;
+  message = p.message;
+  put = p.put;
+  same = ap (λ (j : ℕ). piece_said f j w.index (wished w) (entry_message w.view.plan (wished w))) initial
+      ∙ ap (λ (e : Entry). piece_said f i w.index e (entry_message w.view.plan (wished w))) entry
+      ∙ ap (piece_said f i w.index (Part p.lane p.number p.fragment)) message;
+}
+  where
+    entry : wished w ≡ Part p.lane p.number p.fragment
+    entry = ap entry_or_none p.here
+
+    message : entry_message w.view.plan (wished w) ≡ Some p.message
+    message = ap (entry_message w.view.plan) entry ∙ p.named
+
+chunk_is_said : (f : Format) (b : SenderView) (c : Bags) (w : Wish) → w.view.initial ≡ b.initial → IsPut f c.pieces w → IsSaid f b.initial b.plan c (chunk_of f w)
+chunk_is_said Plain b c w initial p = piece_is_said Plain b.initial c.pieces w initial p
+chunk_is_said Interleaved b c w initial p = piece_is_said Interleaved b.initial c.pieces w initial p
+
+pub Has-map : {A B : Type 0} (g : A → B) (xs : List A) (y : B) → Has (map g xs) y → (x : A) × Has xs x × (g x ≡ y)
+Has-map g [] y h = absurd h
+Has-map g (x ∷ xs) y (inl e) = (x, inl refl, e)
+Has-map g (x ∷ xs) y (inr h) = let k = Has-map g xs y h in (k.0, inr k.1, k.2)
+
+-- What a packet is filled with.
+pub after_fill : (f : Format) (n : ℕ) (a : SenderView) (u : Asked) (r : ReceiverView) (out back : List ChunkMeaning) → Direction f n a u r out back →
+    (room : ℕ) (ws : List Wish) (b : SenderView) → IsFill f a room ws b → Direction f n b u r (out ++ map (chunk_of f) ws) back
+after_fill f n a u r out back d room ws b fill = said_more f n b u r out back moved (map (chunk_of f) ws) says
+  where
+    filled : IsFilled (way_of f n a u r d.bags) ws b
+    filled = fill_is_moves (way_of f n a u r d.bags) room ws b d.usual fill
+
+    bags : Bags
+    bags = record d.bags { pieces = filled.pieces }
+
+    moved : Direction f n b u r out back
+    moved = sender_moved f n a u r out back d b u bags
+        (record { pieces = filled.still; forwards = λ x h. h; sacks = λ x h. h; shutdowns = λ x h. h })
+        (follows_reached f a room ws b d.reached fill.follows) filled.moved
+
+    says : (x : ChunkMeaning) → Has (map (chunk_of f) ws) x → IsSaid f b.initial b.plan bags x
+    says x has =
+        let k = Has-map (chunk_of f) ws x has in
+        subst (λ (y : ChunkMeaning). IsSaid f b.initial b.plan bags y) k.2
+        (chunk_is_said f b bags k.0 (filled.same k.0 k.1 ∙ sym filled.moved.constants.initial) (filled.puts k.0 k.1))
