@@ -2,10 +2,10 @@ pub mod EndWords
 mod Written
 pub mod Sides
 pub mod Strangers
-mod Turns
-mod TurnsOfTime
+pub mod Turns
+pub mod TurnsOfTime
 mod OwnOptions
-mod Diagram
+pub mod Diagram
 pub mod DiagramRuns
 mod OpeningWorlds
 pub mod Handshake

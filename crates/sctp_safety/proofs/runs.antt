@@ -7,3 +7,12 @@ mod Pair
 mod Acted
 mod Packets
 mod Timed
+mod Answers
+mod Unmet
+mod Waiting
+mod Meeting
+mod Fronts
+mod Bags
+mod Brought
+mod MetWorld
+mod MetSteps

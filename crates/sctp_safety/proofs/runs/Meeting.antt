@@ -1,0 +1,119 @@
+-- Two ends meet: both are new and agree, so both directions start.
+use Rattle.std.proofs.Common.{◌≡◌, ℕ, zero, suc, ◌≤◌, ◌<◌, Bool, true, false, List, [], length, Some, refl, sym, subst, ap, arith, ◌∙◌}
+use Rattle.sctp_model.specs.Lists.{Has, item_at}
+use Rattle.sctp_model.specs.Chunk.{ChunkMeaning}
+use Rattle.sctp_model.specs.Format.{Format}
+use Rattle.sctp_model.specs.SenderView.{SenderView, fresh_sender}
+use Rattle.sctp_model.specs.ReceiverView.{ReceiverView, fresh_receiver}
+use Rattle.sctp_model.specs.Calls.{Call, Asked}
+use Rattle.sctp_model.specs.Safe.{Safe}
+use Rattle.sctp_model.specs.sender.Reached.{Begins}
+use Rattle.sctp_model.specs.end.EndView.{Phase, EndView, format_for, format_of}
+use Rattle.sctp_safety.specs.Way.{Way, IsStart}
+use Rattle.sctp_safety.specs.SenderLaws.{IsInOrder}
+use Rattle.sctp_safety.specs.States.{has_agreed}
+use Rattle.sctp_safety.specs.Agreement.{AreAgreed}
+use Rattle.sctp_safety.proofs.Always.{safe_always}
+use Rattle.sctp_safety.proofs.IdleLemmas.{idle_fresh}
+use Rattle.sctp_safety.proofs.runs.Direction.{Bags, way_of, Direction}
+use Rattle.sctp_safety.proofs.runs.Pair.{AreOpening, IsMet, opening_quiet, opening_quiet_back, quiet_says, quiet_says_back}
+use Rattle.sctp_safety.proofs.runs.Unmet.{IsBlank}
+
+-- nothing lies between the ends yet
+abbrev pub no_bags : Bags
+no_bags = record { pieces = []; forwards = []; sacks = []; shutdowns = [] }
+
+nothing_stands : {A : Type 0} (i : ℕ) (x : A) → item_at [] i ≡ Some x → ⊥
+nothing_stands zero x h = cc
+nothing_stands (suc i) x h = cc
+
+-- ---- a direction from new views
+
+module _ (f : Format) (tsn peer_tsn outbound inbound fragment rwnd buffer : ℕ) (partial : Bool) (u : Asked) (none : u.calls ≡ []) where
+  abbrev a : SenderView
+  a = fresh_sender tsn outbound fragment rwnd partial
+
+  abbrev r : ReceiverView
+  r = fresh_receiver peer_tsn inbound buffer
+
+  abbrev way : Way
+  way = way_of f outbound a u r no_bags
+
+  begins : IsStart way
+  begins = record {
+    queue = refl;
+    messages = refl;
+    entries = refl;
+    cum = refl;
+    covered = refl;
+    abandoned = refl;
+    seen = refl;
+    jump = refl;
+    kept = refl;
+    next = refl;
+    skip = refl;
+    taken = refl;
+    waiting = refl;
+    calls = none;
+    pieces = refl;
+    forwards = refl;
+    sacks = refl;
+    shutdowns = refl;
+  }
+
+  ordered : IsInOrder way
+  ordered = record {
+    ends = λ i j l n k here there. absurd (nothing_stands i _ here);
+    marked = λ i h. absurd (cc);
+    tickets = ap length (sym none);
+  }
+
+  pub new_is_safe : Safe f a r u
+  new_is_safe = safe_always way way [] begins refl
+
+  pub new_direction : (out back : List ChunkMeaning) → peer_tsn ≡ tsn → inbound ≡ outbound → 0 < outbound → 0 < fragment → AreOpening out → AreOpening back →
+      Direction f outbound a u r out back
+  new_direction out back same streams some large opening opening_back = record {
+    bags = no_bags;
+    usual = record { origin = way; started = begins; led = ([], refl); order = ordered };
+    reached = Begins tsn outbound fragment rwnd partial some large;
+    idle = idle_fresh f peer_tsn inbound buffer;
+    initial = same;
+    outbound = refl;
+    inbound = streams;
+    said = λ x has. quiet_says f tsn a.plan no_bags x (opening_quiet x (opening x has));
+    said_back = λ x has. quiet_says_back peer_tsn no_bags x (opening_quiet_back x (opening_back x has));
+  }
+
+-- ---- between two ends
+
+-- each direction of two ends with new views is safe
+pub blank_is_safe : (e p : EndView) (u : Asked) → u.calls ≡ [] → IsBlank e → IsBlank p → Safe (format_of e) e.sender p.receiver u
+blank_is_safe e p u none be bp =
+    subst (λ (x : SenderView). Safe (format_of e) x p.receiver u) (sym be.sender)
+    (subst (λ (y : ReceiverView). Safe (format_of e) (fresh_sender e.terms.own_tsn e.terms.outbound e.configuration.fragment be.rwnd e.terms.partial) y u) (sym bp.receiver)
+    (new_is_safe (format_of e) e.terms.own_tsn p.terms.peer_tsn e.terms.outbound p.terms.inbound e.configuration.fragment be.rwnd p.configuration.buffer e.terms.partial u none))
+
+one_way : (e p : EndView) (u : Asked) (out back : List ChunkMeaning) → u.calls ≡ [] → IsBlank e → IsBlank p →
+    p.terms.peer_tsn ≡ e.terms.own_tsn → p.terms.inbound ≡ e.terms.outbound → 0 < e.terms.outbound → 0 < e.configuration.fragment → AreOpening out → AreOpening back →
+    Direction (format_of e) e.terms.outbound e.sender u p.receiver out back
+one_way e p u out back none be bp same streams some large opening opening_back =
+    subst (λ (x : SenderView). Direction (format_of e) e.terms.outbound x u p.receiver out back) (sym be.sender)
+    (subst (λ (y : ReceiverView). Direction (format_of e) e.terms.outbound (fresh_sender e.terms.own_tsn e.terms.outbound e.configuration.fragment be.rwnd e.terms.partial) u y out back) (sym bp.receiver)
+    (new_direction (format_of e) e.terms.own_tsn p.terms.peer_tsn e.terms.outbound p.terms.inbound e.configuration.fragment be.rwnd p.configuration.buffer e.terms.partial u none
+    out back same streams some large opening opening_back))
+
+-- Two new ends that agree have met.
+pub ends_meet : (e p : EndView) (u v : Asked) (out back : List ChunkMeaning) → u.calls ≡ [] → v.calls ≡ [] → IsBlank e → IsBlank p → AreAgreed e.terms p.terms →
+    has_agreed e.phase ≡ true → has_agreed p.phase ≡ true → e.moment ≤ u.clock → p.moment ≤ v.clock →
+    0 < e.configuration.fragment → 0 < p.configuration.fragment → AreOpening out → AreOpening back → IsMet e p u v out back
+ends_meet e p u v out back none none_there be bp agreed phase phase_there moment moment_there large large_there opening opening_back = record {
+  going = one_way e p u out back none be bp agreed.first_tsn agreed.streams agreed.some_streams.0 large opening opening_back;
+  coming = one_way p e v back out none_there bp be (sym agreed.first_tsn_back) (sym agreed.streams_back)
+      (subst (λ (n : ℕ). 0 < n) (sym agreed.streams_back) agreed.some_streams.1) large_there opening_back opening;
+  format = ap format_for (sym agreed.interleave);
+  phase = phase;
+  phase_there = phase_there;
+  moment = moment;
+  moment_there = moment_there;
+}

@@ -1,0 +1,169 @@
+-- A world whose two ends have met stays one, whatever step comes.
+use Rattle.std.proofs.Common.{◌≡◌, ℕ, ◌≤◌, max, nat_le, if◌then◌else◌, Bool, true, false, List, [], ◌∷◌, ◌++◌, Option, Some, None, append-nil, inl, inr, refl, sym, subst, arith, ◌∙◌}
+use Rattle.sctp_model.specs.Lists.{Has, IsWithin}
+use Rattle.sctp_model.specs.Chunk.{ChunkMeaning}
+use Rattle.sctp_model.specs.Packet.{Packet, size_of_packet}
+use Rattle.sctp_model.specs.Calls.{Call, Asked}
+use Rattle.sctp_model.specs.end.EndView.{Draw, Phase, Idle, Listening, Calling, Echoing, Open, Over, Listener, EndView}
+use Rattle.sctp_model.specs.end.Sealing.{Sealing}
+use Rattle.sctp_model.specs.end.Strays.{Verdict, Taken, Dropped, Answer}
+use Rattle.sctp_model.specs.end.Arriving.{Arrives}
+use Rattle.sctp_model.specs.end.Moments.{ticked}
+use Rattle.sctp_model.specs.end.UserCalls.{connect_answer, Called, SendAnswer, Ticket, Refused, NotOpen, send_answer, send_leaves, abandoned_at, shut, AbortAnswer, Aborts, NoPeer, TooLong, peer_tag, abort_packet, abort_answer_to, abort_answer, abort_leaves}
+use Rattle.sctp_model.specs.World.{Side, A, B, other, Log, World, end_of, bag_of, with_end, with_packet, with_log, end_now, came, logged, Setup}
+use Rattle.sctp_model.specs.Events.{Event, Foreign, with_verdict, with_abort, Outcome}
+use Rattle.sctp_model.specs.Steps.{accepted, named_at, cut, Brings, Step, Opens, OpenRefused, TimePasses, Draws, Connects, ConnectRefused, BuildsOne, BuildsNone, Comes, IsAbsent, Unread, Sends, Abandons, TakesOne, ShutsDown, AbortsIt, CutFirst, CutLater, NoMemory}
+use Rattle.sctp_model.specs.Premises.{asked_at}
+use Rattle.sctp_safety.specs.States.{has_agreed}
+use Rattle.sctp_safety.proofs.Basics.{Has-left}
+use Rattle.sctp_safety.proofs.machine.EndWords.{OfAnswer}
+use Rattle.sctp_safety.proofs.runs.Bags.{chunks_in, chunks_push, chunk_of_bag}
+use Rattle.sctp_safety.proofs.runs.Pair.{is_opening, AreOpening, IsMet, turned_round, met_quiet}
+use Rattle.sctp_safety.proofs.runs.Packets.{builds_keep}
+use Rattle.sctp_safety.proofs.runs.Timed.{met_now, met_ticked, met_taken, met_shut, met_aborted, met_sent, met_abandoned, met_clock, asked_more}
+use Rattle.sctp_safety.proofs.runs.Answers.{OpensOrEnds, answer_opens, one_opening}
+use Rattle.sctp_safety.proofs.runs.Brought.{ComesFrom, comes_from, met_arrives}
+
+-- both directions between the end of this side and the one across
+abbrev pub MetAt : World → Side → Type 0
+MetAt w x = IsMet (end_of w x) (end_of w (other x)) (asked_at w x) (asked_at w (other x)) (chunks_in (bag_of w x)) (chunks_in (bag_of w (other x)))
+
+-- the ends have met, and are closed to an opening without packets
+pub record IsMetWorld (w : World) : Type 0 where
+  pub closed : w.openable ≡ false
+  pub met : MetAt w A
+
+pub at_side : (w : World) (x : Side) → MetAt w A → MetAt w x
+at_side w A m = m
+at_side w B m = turned_round w.a w.b (asked_at w A) (asked_at w B) (chunks_in w.from_a) (chunks_in w.from_b) m
+
+pub from_side : (w : World) (x : Side) → MetAt w x → MetAt w A
+from_side w A m = m
+from_side w B m = turned_round w.b w.a (asked_at w B) (asked_at w A) (chunks_in w.from_b) (chunks_in w.from_a) m
+
+-- the end of this side is another, after chunks of its own more
+abbrev pub MetWith : World → Side → EndView → List ChunkMeaning → Type 0
+MetWith w x t xs = IsMet t (end_of w (other x)) (asked_at w x) (asked_at w (other x)) (chunks_in (bag_of w x) ++ xs) (chunks_in (bag_of w (other x)))
+
+abbrev pub Before : World → Side → EndView → Type 0
+Before w x t = IsMet t (end_of w (other x)) (asked_at w x) (asked_at w (other x)) (chunks_in (bag_of w x)) (chunks_in (bag_of w (other x)))
+
+pub now_at : (w : World) (x : Side) → MetAt w x → Before w x (end_now w x)
+now_at w x m = met_now (end_of w (other x)) (asked_at w x) (asked_at w (other x)) (chunks_in (bag_of w x)) (chunks_in (bag_of w (other x))) (end_of w x) w.clock m (omega arith)
+
+-- ---- putting an end back into the world
+
+pub put_end : (w : World) (x : Side) (t : EndView) → Before w x t → MetAt (with_end w x t) x
+put_end w A t m = m
+put_end w B t m = m
+
+pub came_end : (w : World) (x : Side) (t : EndView) → Before w x t → MetAt (came w x t) x
+came_end w A t m = m
+came_end w B t m = m
+
+pub put_packet : (w : World) (x : Side) (p : Packet) → MetWith w x (end_of w x) p.chunks → MetAt (with_packet w x p) x
+put_packet w A p m = subst (λ (xs : List ChunkMeaning). IsMet w.a w.b (asked_at w A) (asked_at w B) xs (chunks_in w.from_b)) (sym (chunks_push w.from_a p)) m
+put_packet w B p m = subst (λ (xs : List ChunkMeaning). IsMet w.b w.a (asked_at w B) (asked_at w A) xs (chunks_in w.from_a)) (sym (chunks_push w.from_b p)) m
+
+pub put_both : (w : World) (x : Side) (t : EndView) (p : Packet) → MetWith w x t p.chunks → MetAt (with_packet (with_end w x t) x p) x
+put_both w A t p m = put_packet (with_end w A t) A p m
+put_both w B t p m = put_packet (with_end w B t) B p m
+
+pub quiet_packet : (w : World) (x : Side) (p : Packet) → AreOpening p.chunks → MetAt w x → MetAt (with_packet w x p) x
+quiet_packet w x p opening m =
+    put_packet w x p (met_quiet (end_of w x) (end_of w (other x)) (asked_at w x) (asked_at w (other x)) (chunks_in (bag_of w x)) (chunks_in (bag_of w (other x))) m p.chunks opening)
+
+pub put_verdict : (w : World) (x : Side) (v : Verdict) → OpensOrEnds v → MetAt w x → MetAt (with_verdict w x v) x
+put_verdict w x Taken opening m = m
+put_verdict w x (Dropped n) opening m = m
+put_verdict w x (Answer p) opening m = quiet_packet w x p opening m
+
+pub put_abort : (w : World) (x : Side) (e : EndView) (r : List ℕ) (m : MetAt w x) → MetAt (with_abort w x (abort_answer e r)) x
+put_abort w x e r m = go (peer_tag e.phase)
+  where
+    by : (n : ℕ) (b : Bool) → MetAt (with_abort w x (if b then Aborts (abort_packet e n r) else TooLong)) x
+    by n true = quiet_packet w x (abort_packet e n r) (one_opening _ refl) m
+    by n false = m
+
+    go : (o : Option ℕ) → MetAt (with_abort w x (abort_answer_to e r o)) x
+    go None = m
+    go (Some n) = by n (nat_le (size_of_packet (abort_packet e n r).chunks) e.configuration.limit)
+
+pub closed_verdict : (w : World) (x : Side) (v : Verdict) → (with_verdict w x v).openable ≡ w.openable
+closed_verdict w A Taken = refl
+closed_verdict w B Taken = refl
+closed_verdict w A (Dropped n) = refl
+closed_verdict w B (Dropped n) = refl
+closed_verdict w A (Answer p) = refl
+closed_verdict w B (Answer p) = refl
+
+pub closed_abort : (w : World) (x : Side) (a : AbortAnswer) → (with_abort w x a).openable ≡ w.openable
+closed_abort w A (Aborts p) = refl
+closed_abort w B (Aborts p) = refl
+closed_abort w x NoPeer = refl
+closed_abort w x TooLong = refl
+
+pub closed_end : (w : World) (x : Side) (t : EndView) → (with_end w x t).openable ≡ w.openable
+closed_end w A t = refl
+closed_end w B t = refl
+
+pub closed_packet : (w : World) (x : Side) (p : Packet) → (with_packet w x p).openable ≡ w.openable
+closed_packet w A p = refl
+closed_packet w B p = refl
+
+pub closed_came : (w : World) (x : Side) (t : EndView) → (came w x t).openable ≡ false
+closed_came w A t = refl
+closed_came w B t = refl
+
+-- ---- the user
+
+pub sent_at : (w : World) (x : Side) (c : Call) → MetAt w x →
+    MetAt (with_log (with_end w x (send_leaves (send_answer (end_of w x) c) (end_of w x) c)) x (accepted w x (send_answer (end_of w x) c) c)) x
+sent_at w A c m = go (send_answer w.a c) (met_sent w.a w.b (asked_at w A) (asked_at w B) (chunks_in w.from_a) (chunks_in w.from_b) c m)
+  where
+    go : (o : SendAnswer) → IsMet (send_leaves o w.a c) w.b (asked_more (asked_at w A) o c) (asked_at w B) (chunks_in w.from_a) (chunks_in w.from_b) →
+        MetAt (with_log (with_end w A (send_leaves o w.a c)) A (accepted w A o c)) A
+    go (Ticket t) k = k
+    go (Refused r) k = k
+    go NotOpen k = k
+sent_at w B c m = go (send_answer w.b c) (met_sent w.b w.a (asked_at w B) (asked_at w A) (chunks_in w.from_b) (chunks_in w.from_a) c m)
+  where
+    go : (o : SendAnswer) → IsMet (send_leaves o w.b c) w.a (asked_more (asked_at w B) o c) (asked_at w A) (chunks_in w.from_b) (chunks_in w.from_a) →
+        MetAt (with_log (with_end w B (send_leaves o w.b c)) B (accepted w B o c)) B
+    go (Ticket t) k = k
+    go (Refused r) k = k
+    go NotOpen k = k
+
+pub abandoned_there : (w : World) (x : Side) (k : ℕ) → MetAt w x →
+    MetAt (with_log (with_end w x (abandoned_at (end_of w x) k)) x (named_at (logged w x (abandoned_at (end_of w x) k)) k)) x
+abandoned_there w A k m = met_abandoned w.a w.b (asked_at w A) (asked_at w B) (chunks_in w.from_a) (chunks_in w.from_b) k m
+abandoned_there w B k m = met_abandoned w.b w.a (asked_at w B) (asked_at w A) (chunks_in w.from_b) (chunks_in w.from_a) k m
+
+pub closed_log : (w : World) (x : Side) (t : EndView) (l : Log) → (with_log (with_end w x t) x l).openable ≡ w.openable
+closed_log w A t l = refl
+closed_log w B t l = refl
+
+-- ---- a moment
+
+pub passes_at : (w : World) (m : ℕ) → MetAt w A → MetAt (record w {
+  a = ticked w.a (max w.clock m);
+  b = ticked w.b (max w.clock m);
+  log_a = logged w A (ticked w.a (max w.clock m));
+  log_b = logged w B (ticked w.b (max w.clock m));
+  clock = max w.clock m;
+}) A
+passes_at w m k =
+    turned_round (ticked w.b now) (ticked w.a now) v u (chunks_in w.from_b) (chunks_in w.from_a)
+    (met_ticked (ticked w.a now) v u (chunks_in w.from_b) (chunks_in w.from_a) w.b now
+    (turned_round (ticked w.a now) w.b u v (chunks_in w.from_a) (chunks_in w.from_b)
+    (met_ticked w.b u v (chunks_in w.from_a) (chunks_in w.from_b) w.a now
+    (met_clock w.a w.b (asked_at w A) (asked_at w B) (chunks_in w.from_a) (chunks_in w.from_b) m k) (omega arith))) (omega arith))
+  where
+    now : ℕ
+    now = max w.clock m
+
+    u : Asked
+    u = record (asked_at w A) { clock = now }
+
+    v : Asked
+    v = record (asked_at w B) { clock = now }

@@ -1,0 +1,157 @@
+-- An end that isn't open: its sender and its receiver are new, and only its opening's chunks go out.
+use Rattle.std.proofs.Common.{◌≡◌, ℕ, zero, suc, ◌≤◌, ◌||◌, nat_lt, Bool, true, false, not, ◌==◌, List, [], ◌∷◌, ◌++◌, Option, Some, None, inl, inr, refl, sym, subst, ap, arith, ◌∙◌, if◌then◌else◌}
+use Rattle.sctp_model.specs.Lists.{Has}
+use Rattle.sctp_model.specs.Chunk.{ChunkMeaning, Data, IData, Init, InitAck, Sack, Heartbeat, HeartbeatAck, Abort, Shutdown, ShutdownAck, Error, CookieEcho, CookieAck, ShutdownComplete, ForwardTsn, IForwardTsn, Unknown}
+use Rattle.sctp_model.specs.SenderView.{SenderView, fresh_sender}
+use Rattle.sctp_model.specs.ReceiverView.{Handed, ReceiverView, fresh_receiver}
+use Rattle.sctp_model.specs.Calls.{Call}
+use Rattle.sctp_model.specs.Packet.{Packet}
+use Rattle.sctp_model.specs.sender.Abandoning.{abandon_after, expired, timed_out}
+use Rattle.sctp_model.specs.sender.Readers.{point}
+use Rattle.sctp_model.specs.end.EndView.{Terms, Configuration, Tags, Stage, Draw, Ended, Aborted, AbortedHere, TimedOut, Completed, StaleCookie, Phase, Idle, Listening, Calling, Echoing, Open, Over, Alarm, InitAlarm, CookieAlarm, DataAlarm, ShutdownAlarm, AckAlarm, EndView, has_association}
+use Rattle.sctp_model.specs.end.Clock.{repeats_of, is_over_at, with_timer, closed, at_moment, settled}
+use Rattle.sctp_model.specs.end.Clock.{expired as expired_timer}
+use Rattle.sctp_model.specs.end.Closing.{hears, rested}
+use Rattle.sctp_model.specs.end.PeerFaults.{GoesOn, Ends, Replies}
+use Rattle.sctp_model.specs.end.Opening.{AcceptedAck, RefusedAck, EchoedAgain, CookieAcked}
+use Rattle.sctp_model.specs.end.Acting.{Acts, Closes, SaysNothing, Completes}
+use Rattle.sctp_model.specs.end.Building.{Slot, EchoSlot, CookieAckSlot, HeartbeatSlot, ErrorSlot, SackSlot, ForwardSlot, ShutdownSlot, ShutdownAckSlot, Wants, EchoCookie, AckCookie, AckHeartbeat, ReportCauses, Acknowledge, PassOn, SayShutdown, AnswerShutdown, Puts, NoMore, NotDue, Put, IsFull, echoing_slots, Builds, Sleeps, Waits, Calls, Echoes, Fills}
+use Rattle.sctp_model.specs.end.Building.{Ends as EndsFull}
+use Rattle.sctp_model.specs.end.Moments.{after_giving_up, due_again, rung, ring, rung_all, all_alarms, passed, ticked}
+use Rattle.sctp_model.specs.end.UserCalls.{SendAnswer, NotOpen, is_established, send_answer, is_open, abandoned_at, Takes, shut_in, shut, AbortAnswer, Aborts, NoPeer, TooLong, abort_leaves}
+use Rattle.sctp_safety.proofs.Basics.{Has-cases}
+use Rattle.sctp_safety.proofs.machine.EndWords.{rested_cases, Keeps}
+use Rattle.sctp_safety.proofs.runs.Pair.{is_opening, AreOpening, AreViews}
+use Rattle.sctp_safety.proofs.runs.Answers.{one_opening, reply_opens}
+
+-- ---- new views
+
+-- a sender and a receiver by the end's terms that nothing happened to
+pub record IsBlank (e : EndView) : Type 0 where
+  pub rwnd : ℕ
+  pub sender : e.sender ≡ fresh_sender e.terms.own_tsn e.terms.outbound e.configuration.fragment rwnd e.terms.partial
+  pub receiver : e.receiver ≡ fresh_receiver e.terms.peer_tsn e.terms.inbound e.configuration.buffer
+
+-- Not open yet, or never to be: neither listening nor open, with new views, at a moment that the clock has reached.
+pub record IsUnmet (clock : ℕ) (e : EndView) : Type 0 where
+  pub blank : IsBlank e
+  pub unopened : is_open e.phase ≡ false
+  pub moment : e.moment ≤ clock
+
+-- the data timer marks nothing where nothing went out
+pub timed_fresh : (initial streams fragment rwnd : ℕ) (partial : Bool) → timed_out (fresh_sender initial streams fragment rwnd partial) ≡ fresh_sender initial streams fragment rwnd partial
+timed_fresh initial streams fragment rwnd partial =
+    ap (λ (m : ℕ → Bool). record (fresh_sender initial streams fragment rwnd partial) { marked = m }) (λ i n. unmarked n i)
+  where
+    unmarked : (n : ℕ) → (timed_out (fresh_sender initial streams fragment rwnd partial)).marked n ≡ false
+    unmarked zero = refl
+    unmarked (suc n) = refl
+
+-- ---- the same end, and others with its views
+
+-- as before, with this configuration
+pub record IsAlike (e t : EndView) : Type 0 where
+  pub configuration : t.configuration ≡ e.configuration
+  pub views : AreViews e t
+
+abbrev pub alike : (e t : EndView) → t.configuration ≡ e.configuration → t.terms ≡ e.terms → t.sender ≡ e.sender → t.receiver ≡ e.receiver → t.moment ≡ e.moment → IsAlike e t
+alike e t c x a r m = record { configuration = c; views = record { terms = x; sender = a; receiver = r; moment = m } }
+
+pub blank_alike : (e t : EndView) → IsBlank e → IsAlike e t → IsBlank t
+blank_alike e t b l = record {
+  rwnd = b.rwnd;
+  sender = l.views.sender ∙ b.sender
+      ∙ ap (λ (x : Terms). fresh_sender x.own_tsn x.outbound e.configuration.fragment b.rwnd x.partial) (sym l.views.terms)
+      ∙ ap (λ (c : Configuration). fresh_sender t.terms.own_tsn t.terms.outbound c.fragment b.rwnd t.terms.partial) (sym l.configuration);
+  receiver = l.views.receiver ∙ b.receiver
+      ∙ ap (λ (x : Terms). fresh_receiver x.peer_tsn x.inbound e.configuration.buffer) (sym l.views.terms)
+      ∙ ap (λ (c : Configuration). fresh_receiver t.terms.peer_tsn t.terms.inbound c.buffer) (sym l.configuration);
+}
+
+-- an open end is open
+pub open_now : (h : Phase) (k : Tags) (g : Stage) → h ≡ Open k g → is_open h ≡ false → ⊥
+open_now h k g is off = let q : true ≡ false = subst (λ (l : Phase). is_open l ≡ false) is off in absurd (cc)
+
+module _ (clock : ℕ) where
+  abbrev Unmet : EndView → Type 0
+  Unmet e = IsUnmet clock e
+
+  pub still : (e t : EndView) → Unmet e → IsAlike e t → is_open t.phase ≡ false → Unmet t
+  still e t m l unopened = record {
+    blank = blank_alike e t m.blank l;
+    unopened = unopened;
+    moment = subst (λ (n : ℕ). n ≤ clock) (sym l.views.moment) m.moment;
+  }
+
+  pub over : (e : EndView) (why : Ended) → Unmet e → Unmet (closed why e)
+  over e why m = still e (closed why e) m (alike e (closed why e) refl refl refl refl refl) refl
+
+  -- an end that isn't open doesn't go on with closing
+  pub rests : (e : EndView) → Unmet e → Unmet (rested e)
+  rests e m = rested_cases Unmet e m (λ t is d. absurd (open_now e.phase t _ is m.unopened)) (λ t is d. absurd (open_now e.phase t _ is m.unopened))
+
+  -- ---- chunks of an opening
+
+  goes : (e : EndView) (tag : ℕ) (x : ChunkMeaning) (t : EndView) → is_opening x ≡ true → Unmet e → Acts e tag x (GoesOn t) → Unmet t
+  goes e tag (Data d) t on m h = absurd (cc)
+  goes e tag (IData d) t on m h = absurd (cc)
+  goes e tag (Init i) t on m h = absurd (cc)
+  goes e tag (InitAck i) t on m (AcceptedAck d cookie is tagged value fault) = record { blank = record { rwnd = i.rwnd; sender = refl; receiver = refl }; unopened = refl; moment = m.moment }
+  goes e tag (Sack s) t on m h = absurd (cc)
+  goes e tag (Heartbeat i) t on m h = absurd (cc)
+  goes e tag (HeartbeatAck i) t on m h = absurd (cc)
+  goes e tag (Abort b xs) t on m h = absurd (cc)
+  goes e tag (Shutdown n) t on m h = absurd (cc)
+  goes e tag ShutdownAck t on m h = absurd (cc)
+  goes e tag (Error xs) t on m (SaysNothing off) = m
+  goes e tag (CookieEcho xs) t on m (EchoedAgain _ k g _ is _ _) = absurd (open_now e.phase k g is m.unopened)
+  goes e tag CookieAck t on m h = absurd (cc)
+  goes e tag (ShutdownComplete b) t on m h = elim h [ ]
+  goes e tag (ForwardTsn d) t on m h = absurd (cc)
+  goes e tag (IForwardTsn d) t on m h = absurd (cc)
+  goes e tag (Unknown k f w) t on m h = absurd (cc)
+
+  ends : (e : EndView) (tag : ℕ) (x : ChunkMeaning) (t : EndView) → is_opening x ≡ true → Unmet e → Acts e tag x (Ends t) → Unmet t
+  ends e tag (Data d) t on m h = absurd (cc)
+  ends e tag (IData d) t on m h = absurd (cc)
+  ends e tag (Init i) t on m h = absurd (cc)
+  ends e tag (InitAck i) t on m h = elim h [ ]
+  ends e tag (Sack s) t on m h = absurd (cc)
+  ends e tag (Heartbeat i) t on m h = absurd (cc)
+  ends e tag (HeartbeatAck i) t on m h = absurd (cc)
+  ends e tag (Abort b xs) t on m h = let q : t ≡ closed Aborted e = cc h in subst Unmet (sym q) (over e Aborted m)
+  ends e tag (Shutdown n) t on m h = absurd (cc)
+  ends e tag ShutdownAck t on m h = absurd (cc)
+  ends e tag (Error xs) t on m (Closes late) = over e StaleCookie m
+  ends e tag (CookieEcho xs) t on m h = elim h [ ]
+  ends e tag CookieAck t on m h = absurd (cc)
+  ends e tag (ShutdownComplete b) t on m (Completes awaited) = over e Completed m
+  ends e tag (ForwardTsn d) t on m h = absurd (cc)
+  ends e tag (IForwardTsn d) t on m h = absurd (cc)
+  ends e tag (Unknown k f w) t on m h = absurd (cc)
+
+  replies : (e : EndView) (tag : ℕ) (x : ChunkMeaning) (t : EndView) (r : Packet) → is_opening x ≡ true → Unmet e → Acts e tag x (Replies t r) → Unmet t
+  replies e tag (Data d) t r on m h = absurd (cc)
+  replies e tag (IData d) t r on m h = absurd (cc)
+  replies e tag (Init i) t r on m h = absurd (cc)
+  replies e tag (InitAck i) t r on m (RefusedAck _ _ _ _ _) = over e AbortedHere m
+  replies e tag (Sack s) t r on m h = absurd (cc)
+  replies e tag (Heartbeat i) t r on m h = absurd (cc)
+  replies e tag (HeartbeatAck i) t r on m h = absurd (cc)
+  replies e tag (Abort b xs) t r on m h = absurd (cc)
+  replies e tag (Shutdown n) t r on m h = absurd (cc)
+  replies e tag ShutdownAck t r on m h = absurd (cc)
+  replies e tag (Error xs) t r on m h = elim h [ ]
+  replies e tag (CookieEcho xs) t r on m h = elim h [ ]
+  replies e tag CookieAck t r on m h = absurd (cc)
+  replies e tag (ShutdownComplete b) t r on m h = elim h [ ]
+  replies e tag (ForwardTsn d) t r on m h = absurd (cc)
+  replies e tag (IForwardTsn d) t r on m h = absurd (cc)
+  replies e tag (Unknown k f w) t r on m h = absurd (cc)
+
+  pub openings_keep : (tag : ℕ) → Keeps tag Unmet (λ x. is_opening x ≡ true) (λ r. AreOpening r.chunks)
+  openings_keep tag = record {
+    goes = λ e x t on m act. rests t (goes e tag x t on m act);
+    ends = λ e x t on m act. ends e tag x t on m act;
+    replies = λ e x t r on m act. (replies e tag x t r on m act, reply_opens e tag x t r act);
+  }

@@ -1,0 +1,186 @@
+-- What a moment, a packet to be built and the calls of its user do to an end that isn't open: its views stay new.
+use Rattle.std.proofs.Common.{◌≡◌, ℕ, ◌≤◌, ◌||◌, nat_lt, max, Bool, true, false, not, ◌==◌, List, [], ◌∷◌, ◌++◌, Option, Some, None, inl, inr, refl, sym, subst, ap, arith, ◌∙◌, ◌⊎◌, if◌then◌else◌}
+use Rattle.sctp_model.specs.Lists.{Has}
+use Rattle.sctp_model.specs.Chunk.{ChunkMeaning}
+use Rattle.sctp_model.specs.SenderView.{SenderView, fresh_sender}
+use Rattle.sctp_model.specs.ReceiverView.{Handed, ReceiverView}
+use Rattle.sctp_model.specs.Calls.{Call}
+use Rattle.sctp_model.specs.sender.Abandoning.{abandon_after, expired, timed_out}
+use Rattle.sctp_model.specs.sender.Readers.{point}
+use Rattle.sctp_model.specs.receiver.SackMade.{TakeLeaves}
+use Rattle.sctp_model.specs.end.EndView.{Draw, AbortedHere, TimedOut, Established, Phase, Idle, Listening, Calling, Echoing, Open, Over, Alarm, InitAlarm, CookieAlarm, DataAlarm, ShutdownAlarm, AckAlarm, EndView, has_association}
+use Rattle.sctp_model.specs.end.Clock.{repeats_of, is_over_at, with_timer, closed, at_moment, settled}
+use Rattle.sctp_model.specs.end.Clock.{expired as expired_timer}
+use Rattle.sctp_model.specs.end.Building.{Slot, EchoSlot, CookieAckSlot, HeartbeatSlot, ErrorSlot, SackSlot, ForwardSlot, ShutdownSlot, ShutdownAckSlot, Wants, EchoCookie, AckCookie, AckHeartbeat, ReportCauses, Acknowledge, PassOn, SayShutdown, AnswerShutdown, Puts, NoMore, NotDue, Put, IsFull, echoing_slots, Builds, Sleeps, Waits, Calls, Echoes, Fills}
+use Rattle.sctp_model.specs.end.Building.{Ends as EndsFull}
+use Rattle.sctp_model.specs.end.Closing.{hears}
+use Rattle.sctp_model.specs.end.Moments.{after_giving_up, due_again, rung, ring, rung_all, all_alarms, passed, ticked}
+use Rattle.sctp_model.specs.end.UserCalls.{SendAnswer, NotOpen, is_established, send_answer, send_leaves, is_open, abandoned_at, Takes, shut_in, shut, AbortAnswer, Aborts, NoPeer, TooLong, abort_leaves, called}
+use Rattle.sctp_safety.proofs.Basics.{Has-cases}
+use Rattle.sctp_safety.proofs.runs.Pair.{is_opening, AreOpening}
+use Rattle.sctp_safety.proofs.runs.Answers.{one_opening}
+use Rattle.sctp_safety.proofs.runs.Unmet.{IsBlank, IsUnmet, alike, timed_fresh, open_now, still, over, rests}
+
+-- ---- time
+
+-- giving up finds no message of a new sender, and neither does the data timer
+none_expires : (e : EndView) → IsBlank e → (now : ℕ) → expired e.sender now ≡ e.sender
+none_expires e b now = ap (λ (a : SenderView). expired a now) b.sender ∙ sym b.sender
+
+none_is_abandoned : (e : EndView) → IsBlank e → (k : ℕ) → abandon_after e.sender k ≡ e.sender
+none_is_abandoned e b k = ap (λ (a : SenderView). abandon_after a k) b.sender ∙ sym b.sender
+
+none_marked : (e : EndView) → IsBlank e → timed_out e.sender ≡ e.sender
+none_marked e b = ap timed_out b.sender ∙ timed_fresh e.terms.own_tsn e.terms.outbound e.configuration.fragment b.rwnd e.terms.partial ∙ sym b.sender
+
+module _ (clock : ℕ) where
+  abbrev Unmet : EndView → Type 0
+  Unmet e = IsUnmet clock e
+
+  pub waits_now : (e : EndView) (now : ℕ) → Unmet e → now ≤ clock → Unmet (at_moment e now)
+  waits_now e now m le = record {
+    blank = record { rwnd = m.blank.rwnd; sender = m.blank.sender; receiver = m.blank.receiver };
+    unopened = m.unopened;
+    moment = let b = m.moment in omega (arith, b, le);
+  }
+
+  gives_up : (e : EndView) (a : SenderView) → Unmet e → a ≡ e.sender → Unmet (after_giving_up e a)
+  gives_up e a m same =
+      rests clock (settled (record e { sender = a; due = record e.due { forward = e.due.forward || not (point a == point e.sender) } }))
+      (still clock e _ m (alike e _ refl refl same refl refl) m.unopened)
+
+  again : (a : Alarm) (e : EndView) → Unmet e → Unmet (due_again a e)
+  again InitAlarm e m = still clock e _ m (alike e _ refl refl refl refl refl) m.unopened
+  again CookieAlarm e m = still clock e _ m (alike e _ refl refl refl refl refl) m.unopened
+  again DataAlarm e m = still clock e _ m (alike e _ refl refl (none_marked e m.blank) refl refl) m.unopened
+  again ShutdownAlarm e m = still clock e _ m (alike e _ refl refl refl refl refl) m.unopened
+  again AckAlarm e m = still clock e _ m (alike e _ refl refl refl refl refl) m.unopened
+
+  rings : (b : Bool) (a : Alarm) (e : EndView) → Unmet e → Unmet (rung b a e)
+  rings false a e m = m
+  rings true a e m = go (nat_lt (e.timers a).repeats (repeats_of a))
+    where
+      go : (c : Bool) → Unmet (if c then due_again a (with_timer a (expired_timer (e.timers a)) e) else closed TimedOut e)
+      go true = again a (with_timer a (expired_timer (e.timers a)) e)
+          (still clock e (with_timer a (expired_timer (e.timers a)) e) m (alike e _ refl refl refl refl refl) m.unopened)
+      go false = over clock e TimedOut m
+
+  all_ring : (alarms : List Alarm) (e : EndView) → Unmet e → Unmet (rung_all alarms e)
+  all_ring [] e m = m
+  all_ring (a ∷ more) e m = all_ring more (ring a e) (rings (is_over_at e.moment (e.timers a).expiry) a e m)
+
+  pub waits_ticked : (e : EndView) (now : ℕ) → Unmet e → now ≤ clock → Unmet (ticked e now)
+  waits_ticked e now m le = go (has_association e.phase)
+    where
+      there : Unmet (at_moment e now)
+      there = waits_now e now m le
+
+      go : (b : Bool) → Unmet (if b then passed (at_moment e now) else at_moment e now)
+      go false = there
+      go true = all_ring all_alarms (after_giving_up (at_moment e now) (expired e.sender (at_moment e now).moment))
+          (gives_up (at_moment e now) (expired e.sender (at_moment e now).moment) there (none_expires e m.blank (at_moment e now).moment))
+
+  -- ---- a packet
+
+  -- the two places of a packet while a cookie is echoed
+  is_echo_slot : Slot → Bool
+  is_echo_slot EchoSlot = true
+  is_echo_slot ErrorSlot = true
+  is_echo_slot CookieAckSlot = false
+  is_echo_slot HeartbeatSlot = false
+  is_echo_slot SackSlot = false
+  is_echo_slot ForwardSlot = false
+  is_echo_slot ShutdownSlot = false
+  is_echo_slot ShutdownAckSlot = false
+
+  one_put : (s : Slot) (e : EndView) (x : ChunkMeaning) (t : EndView) → is_echo_slot s ≡ true → Unmet e → Wants e s x t → Unmet t × (is_opening x ≡ true)
+  unfolding is_echo_slot
+  one_put s e x t on m (EchoCookie _ _ _) = (still clock e t m (alike e t refl refl refl refl refl) m.unopened, refl)
+  one_put s e x t on m AckCookie = absurd (cc)
+  one_put s e x t on m (AckHeartbeat _ _) = absurd (cc)
+  one_put s e x t on m ReportCauses = (still clock e t m (alike e t refl refl refl refl refl) m.unopened, refl)
+  one_put s e x t on m (Acknowledge _ _) = absurd (cc)
+  one_put s e x t on m PassOn = absurd (cc)
+  one_put s e x t on m (SayShutdown _ _) = absurd (cc)
+  one_put s e x t on m AnswerShutdown = absurd (cc)
+
+  -- all opening, and one more
+  opening_push : (xs : List ChunkMeaning) (x : ChunkMeaning) → AreOpening xs → is_opening x ≡ true → AreOpening (xs ++ x ∷ [])
+  opening_push xs x all one y has = go (Has-cases xs (x ∷ []) y has)
+    where
+      go : Has xs y ⊎ Has (x ∷ []) y → is_opening y ≡ true
+      go (inl h) = all y h
+      go (inr h) = one_opening x one y h
+
+  puts : (ss : List Slot) (e : EndView) (xs zs : List ChunkMeaning) (full : Bool) (t : EndView) → ((s : Slot) → Has ss s → is_echo_slot s ≡ true) → Unmet e → AreOpening xs →
+      Puts ss e xs zs full t → Unmet t × AreOpening zs
+  puts ss e xs zs full t echo m all (NoMore _ _) = (m, all)
+  puts ss e xs zs full t echo m all (NotDue _ more _ _ _ _ _ off rest) = puts more e xs zs full t (λ s h. echo s (inr h)) m all rest
+  puts ss e xs zs full t echo m all (Put s more _ mid x _ _ _ _ due wants room rest) =
+      let one = one_put s e x mid (echo s (inl refl)) m wants in
+      puts more mid (xs ++ x ∷ []) zs full t (λ s h. echo s (inr h)) one.0 (opening_push xs x all one.1) rest
+  puts ss e xs zs full t echo m all (IsFull _ _ _ _ _ _ due wants room) = (m, all)
+
+  both_echo : (s : Slot) → Has echoing_slots s → is_echo_slot s ≡ true
+  unfolding is_echo_slot
+  both_echo s (inl e) = ap is_echo_slot (sym e)
+  both_echo s (inr (inl e)) = ap is_echo_slot (sym e)
+  both_echo s (inr (inr h)) = absurd h
+
+  pub waits_built : (e : EndView) (zs : List ChunkMeaning) (t : EndView) → Unmet e → Builds e zs t → Unmet t × AreOpening zs
+  waits_built e zs t m (Sleeps none) = (m, λ x h. absurd h)
+  waits_built e zs t m (Waits d is off) = (m, λ x h. absurd h)
+  waits_built e zs t m (Calls d is on) = (still clock e t m (alike e t refl refl refl refl refl) m.unopened, one_opening _ refl)
+  waits_built e zs t m (Echoes k cookie _ full _ is ps) = puts echoing_slots e [] zs full t both_echo m (λ x h. absurd h) ps
+  waits_built e zs t m (EndsFull k g _ _ is ps) = absurd (open_now e.phase k g is m.unopened)
+  waits_built e zs t m (Fills k g xs x is ps) = absurd (open_now e.phase k g is m.unopened)
+
+  -- ---- the user
+
+  not_established : (h : Phase) → is_open h ≡ false → hears is_established h ≡ false
+  not_established Idle off = refl
+  not_established Listening off = refl
+  not_established (Calling d) off = refl
+  not_established (Echoing t xs) off = refl
+  not_established (Open t g) off = absurd (cc)
+  not_established (Over why) off = refl
+
+  pub nothing_sent : (e : EndView) (c : Call) → Unmet e → send_answer e c ≡ NotOpen
+  nothing_sent e c m = let off = not_established e.phase m.unopened in rw off refl
+
+  pub waits_abandoned : (e : EndView) (k : ℕ) → Unmet e → Unmet (abandoned_at e k)
+  waits_abandoned e k m = go (is_open e.phase)
+    where
+      go : (b : Bool) → Unmet (if b then after_giving_up e (abandon_after e.sender k) else record e { sender = abandon_after e.sender k })
+      go true = gives_up e (abandon_after e.sender k) m (none_is_abandoned e m.blank k)
+      go false = still clock e (record e { sender = abandon_after e.sender k }) m (alike e _ refl refl (none_is_abandoned e m.blank k) refl refl) m.unopened
+
+  pub waits_taken : (e : EndView) (s : ℕ) (h : Option Handed) (t : EndView) → Unmet e → Takes e s h t → Unmet t
+  waits_taken e s h t m k = go h k.takes
+    where
+      go : (o : Option Handed) → TakeLeaves e.receiver s o k.receiver → Unmet t
+      go None (none, same) = subst Unmet (sym k.leaves) (still clock e (record e { receiver = k.receiver }) m (alike e _ refl refl refl same refl) m.unopened)
+      go (Some x) (rest, there, same) = absurd (let q : e.receiver.waiting s ≡ [] = ap (λ (r : ReceiverView). r.waiting s) m.blank.receiver in cc)
+
+  pub waits_shut : (e : EndView) → Unmet e → Unmet (shut e)
+  waits_shut e m = go e.phase m.unopened
+    where
+      go : (h : Phase) → is_open h ≡ false → Unmet (shut_in h e)
+      go Idle off = m
+      go Listening off = m
+      go (Calling d) off = m
+      go (Echoing t xs) off = m
+      go (Open t g) off = absurd (cc)
+      go (Over why) off = m
+
+  pub waits_aborted : (e : EndView) (a : AbortAnswer) → Unmet e → Unmet (abort_leaves a e)
+  waits_aborted e (Aborts x) m = over clock e AbortedHere m
+  waits_aborted e NoPeer m = m
+  waits_aborted e TooLong m = m
+
+  pub waits_called : (e : EndView) (d : Draw) → Unmet e → Unmet (called e d)
+  waits_called e d m = still clock e (called e d) m (alike e _ refl refl refl refl refl) refl
+
+-- a later clock
+pub waits_longer : (clock later : ℕ) (e : EndView) → clock ≤ later → IsUnmet clock e → IsUnmet later e
+waits_longer clock later e le m = record { blank = m.blank; unopened = m.unopened; moment = let b = m.moment in omega (arith, b, le) }
