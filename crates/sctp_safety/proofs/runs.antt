@@ -16,3 +16,6 @@ mod Bags
 mod Brought
 mod MetWorld
 mod MetSteps
+mod ApartWorld
+mod ApartSteps
+mod Safety

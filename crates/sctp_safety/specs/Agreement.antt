@@ -1,13 +1,13 @@
 -- What the opening gives, whichever way two ends are opened: once both have an association they agree on everything that it stands on (RFC 9260, 5.1).
 use Rattle.std.specs.Prelude.{◌≡◌, ℕ, ◌<◌, ◌⊎◌, true, false, List, Some}
 use Rattle.sctp_model.specs.Lists.{Has}
+use Rattle.sctp_model.specs.Chunk.{CookieEcho}
 use Rattle.sctp_model.specs.Packet.{Packet}
 use Rattle.sctp_model.specs.end.Sealing.{Body, Sealing}
 use Rattle.sctp_model.specs.end.EndView.{Terms, Phase, Listening, Echoing, Open, Listener}
 use Rattle.sctp_model.specs.end.Opening.{terms_of_body}
-use Rattle.sctp_model.specs.end.Strays.{opened_by}
 use Rattle.sctp_model.specs.end.UserCalls.{is_open}
-use Rattle.sctp_model.specs.World.{Side, B, World, end_of, end_now, Setup}
+use Rattle.sctp_model.specs.World.{Side, World, end_of, Setup}
 use Rattle.sctp_model.specs.Events.{Event}
 use Rattle.sctp_model.specs.Premises.{drawn_in, IsReachable}
 use Rattle.sctp_safety.specs.States.{has_begun, has_agreed}
@@ -48,7 +48,7 @@ pub record HaveMet (w : World) : Type 0 where
 pub record IsOpening (s : Setup) (drawn : List ℕ) (w : World) : Type 0 where
   pub drawn_tags : (x : Side) → IsDrawn drawn (end_of w x).phase
   pub one_seal : (x : Side) (z : Sealing) → (end_of w x).role ≡ Listener z → z ≡ s.sealing
-  pub cookies : (p : Packet) (b : Body) → Has w.from_a p → opened_by (end_now w B) p ≡ Some b →
+  pub cookies : w.b.phase ≡ Listening → (p : Packet) (cookie : List ℕ) (b : Body) → Has w.from_a p → Has p.chunks (CookieEcho cookie) → s.sealing.opened cookie ≡ Some b →
       (has_agreed w.a.phase ≡ true) × AreAgreed w.a.terms (terms_of_body b)
   pub met : AreApart w ⊎ HaveMet w
 

@@ -1,7 +1,7 @@
 -- What a chunk of the peer does to an end that has met it.
-use Rattle.std.proofs.Common.{◌≡◌, ℕ, Bool, true, false, List, [], ◌∷◌, inl, inr, refl, sym, subst}
+use Rattle.std.proofs.Common.{◌≡◌, ℕ, true, false, List, [], ◌∷◌, inl, inr, refl, sym, subst}
 use Rattle.sctp_model.specs.Lists.{Has}
-use Rattle.sctp_model.specs.Chunk.{InitMeaning, PieceMeaning, ForwardMeaning, ChunkMeaning, Data, IData, Init, InitAck, Sack, Heartbeat, HeartbeatAck, Abort, Shutdown, ShutdownAck, Error, CookieEcho, CookieAck, ShutdownComplete, ForwardTsn, IForwardTsn, Unknown}
+use Rattle.sctp_model.specs.Chunk.{PieceMeaning, ForwardMeaning, ChunkMeaning, Data, IData, Init, InitAck, Sack, Heartbeat, HeartbeatAck, Abort, Shutdown, ShutdownAck, Error, CookieEcho, CookieAck, ShutdownComplete, ForwardTsn, IForwardTsn, Unknown}
 use Rattle.sctp_model.specs.Format.{Format}
 use Rattle.sctp_model.specs.SenderView.{SenderView}
 use Rattle.sctp_model.specs.ReceiverView.{ReceiverView}
@@ -9,9 +9,8 @@ use Rattle.sctp_model.specs.Packet.{Packet}
 use Rattle.sctp_model.specs.Calls.{Asked}
 use Rattle.sctp_model.specs.receiver.PieceTaken.{Answer, PieceTaken}
 use Rattle.sctp_model.specs.receiver.ForwardTaken.{ForwardAnswer, ForwardTaken}
-use Rattle.sctp_model.specs.end.EndView.{Draw, Ended, Aborted, AbortedHere, Completed, StaleCookie, Phase, Calling, Over, EndView, format_of}
+use Rattle.sctp_model.specs.end.EndView.{Draw, Ended, Aborted, AbortedHere, Completed, StaleCookie, Phase, Calling, EndView, format_of}
 use Rattle.sctp_model.specs.end.Clock.{closed}
-use Rattle.sctp_model.specs.end.Closing.{rested}
 use Rattle.sctp_model.specs.end.PeerFaults.{GoesOn, Ends, Replies}
 use Rattle.sctp_model.specs.end.Opening.{AcceptedAck, RefusedAck, EchoedAgain, CookieAcked}
 use Rattle.sctp_model.specs.end.Acting.{Acts, Empty, WrongFormat, Comes, WrongKind, IsBad, IsOld, IsStale, IsWrong, Counts, Closes, SaysNothing, Crosses, Again, Completes}
@@ -21,7 +20,7 @@ use Rattle.sctp_safety.proofs.machine.EndWords.{Keeps}
 use Rattle.sctp_safety.proofs.runs.Direction.{Direction}
 use Rattle.sctp_safety.proofs.runs.Sending.{after_sack, after_shutdown}
 use Rattle.sctp_safety.proofs.runs.Hearing.{after_piece, after_skip}
-use Rattle.sctp_safety.proofs.runs.Pair.{is_opening, AreOpening, IsMet, AreViews, views_same, met_same, met_rested}
+use Rattle.sctp_safety.proofs.runs.Pair.{is_opening, AreOpening, IsMet, AreViews, met_same, met_rested}
 
 -- an end that waits for an INIT ACK has agreed on nothing
 pub not_calling : (h : Phase) (d : Draw) → h ≡ Calling d → has_agreed h ≡ true → ⊥

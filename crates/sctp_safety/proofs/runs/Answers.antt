@@ -1,16 +1,15 @@
 -- What an end answers to a packet, whoever sent it, opens an association or ends one: it says nothing of a direction.
-use Rattle.std.proofs.Common.{◌≡◌, ℕ, ◌==◌, nat_le, Bool, true, false, List, [], ◌∷◌, Option, Some, None, inl, inr, refl, subst, if◌then◌else◌}
-use Rattle.sctp_model.specs.Lists.{Has}
+use Rattle.std.proofs.Common.{◌≡◌, ℕ, ◌==◌, Bool, true, false, List, [], ◌∷◌, Option, Some, None, inl, inr, refl, subst, if◌then◌else◌}
 use Rattle.sctp_model.specs.Chunk.{InitMeaning, ChunkMeaning, Data, IData, Init, InitAck, Sack, Heartbeat, HeartbeatAck, Abort, Shutdown, ShutdownAck, Error, CookieEcho, CookieAck, ShutdownComplete, ForwardTsn, IForwardTsn, Unknown}
 use Rattle.sctp_model.specs.Packet.{Packet}
 use Rattle.sctp_model.specs.end.Sealing.{Sealing}
 use Rattle.sctp_model.specs.end.EndView.{Draw, EndView}
-use Rattle.sctp_model.specs.end.PeerFaults.{TAG, STATE, COOKIE, Replies, packet_to, abort_for}
+use Rattle.sctp_model.specs.end.PeerFaults.{TAG, STATE, Replies, packet_to, abort_for}
 use Rattle.sctp_model.specs.end.Reports.{item, INVALID_PARAMETER}
 use Rattle.sctp_model.specs.end.Opening.{RefusedAck, CookieRead, Opens, Stale, Strange, cookie_read, has_no_stream, init_ack}
 use Rattle.sctp_model.specs.end.Acting.{Acts, Empty, WrongFormat, WrongKind, IsBad, IsWrong, Completes}
-use Rattle.sctp_model.specs.end.Strays.{Verdict, Taken, Dropped, Answer, holds_abort, listens, init_verdict, cookie_verdict, echo_verdict, first_verdict, stray_verdict, chunks_verdict}
-use Rattle.sctp_model.specs.end.Arriving.{Arrives, Elsewhere, NotOurs, Stray, Begins, Heard, AllAct, verdict_of}
+use Rattle.sctp_model.specs.end.Strays.{Verdict, Dropped, Answer, holds_abort, listens, init_verdict, cookie_verdict, echo_verdict, first_verdict, chunks_verdict}
+use Rattle.sctp_model.specs.end.Arriving.{Arrives, Elsewhere, NotOurs, Stray, Begins, Heard}
 use Rattle.sctp_safety.proofs.machine.Sides.{unknown_never_replies}
 use Rattle.sctp_safety.proofs.machine.EndWords.{OfAnswer, Keeps, all_act_keeps}
 use Rattle.sctp_safety.proofs.runs.Pair.{is_opening, AreOpening}

@@ -1,12 +1,11 @@
 -- A packet that comes to one of two ends that have met, or to one that isn't open, from whom it may.
-use Rattle.std.proofs.Common.{◌≡◌, ℕ, ◌⊎◌, Bool, true, false, List, [], ◌∷◌, ◌++◌, drop, Option, Some, None, inl, inr, refl, sym, subst, ◌∙◌}
-use Rattle.sctp_model.specs.Lists.{Has, IsWithin, item_at}
+use Rattle.std.proofs.Common.{◌≡◌, ℕ, ◌⊎◌, true, false, List, Some, inl, inr, refl, subst}
+use Rattle.sctp_model.specs.Lists.{Has, IsWithin}
 use Rattle.sctp_model.specs.Chunk.{ChunkMeaning}
 use Rattle.sctp_model.specs.Packet.{Packet}
 use Rattle.sctp_model.specs.Places.{ArePlaced}
 use Rattle.sctp_model.specs.Calls.{Asked}
-use Rattle.sctp_model.specs.end.Sealing.{Body}
-use Rattle.sctp_model.specs.end.EndView.{Draw, Phase, Listening, EndView, has_association}
+use Rattle.sctp_model.specs.end.EndView.{Draw, Phase, Listening, EndView}
 use Rattle.sctp_model.specs.end.Strays.{Verdict}
 use Rattle.sctp_model.specs.end.Arriving.{Arrives, Elsewhere, NotOurs, Stray, Begins, Heard}
 use Rattle.sctp_model.specs.World.{Side, A, B, other, World, bag_of}
@@ -16,7 +15,7 @@ use Rattle.sctp_safety.specs.States.{has_agreed}
 use Rattle.sctp_safety.proofs.machine.EndWords.{all_act_keeps}
 use Rattle.sctp_safety.proofs.machine.Strangers.{found_is}
 use Rattle.sctp_safety.proofs.runs.Bags.{item_is_in}
-use Rattle.sctp_safety.proofs.runs.Pair.{is_opening, AreOpening, IsMet}
+use Rattle.sctp_safety.proofs.runs.Pair.{AreOpening, IsMet}
 use Rattle.sctp_safety.proofs.runs.Acted.{chunks_keep}
 use Rattle.sctp_safety.proofs.runs.Unmet.{IsUnmet, openings_keep}
 

@@ -1,28 +1,24 @@
 -- One direction between two ends of the machine: moves led there from a start, and every chunk that was built says something of it.
-use Rattle.std.proofs.Common.{◌≡◌, ℕ, zero, suc, ◌+◌, ◌^◌, ◌<◌, ◌≤◌, List, [], ◌∷◌, length, slice_get, Some, refl, sym, arith, ◌∙◌}
-use Rattle.sctp_model.specs.Limits.{WINDOW, TSN_LIMIT}
+use Rattle.std.proofs.Common.{◌≡◌, ℕ, zero, suc, ◌<◌, ◌≤◌, List, [], ◌∷◌, length, slice_get, Some, refl, sym, arith, ◌∙◌}
 use Rattle.sctp_model.specs.Lists.{Has, IsWithin}
 use Rattle.sctp_model.specs.Serial.{tsn}
-use Rattle.sctp_model.specs.Chunk.{PieceMeaning, SackMeaning, ForwardMeaning, ChunkMeaning, Data, IData, Sack, Shutdown, ForwardTsn, IForwardTsn}
+use Rattle.sctp_model.specs.Chunk.{PieceMeaning, ForwardMeaning, ChunkMeaning, Data, IData, Sack, Shutdown, ForwardTsn, IForwardTsn}
 use Rattle.sctp_model.specs.Format.{Format}
 use Rattle.sctp_model.specs.Plan.{Entry, Plan, entry_at}
 use Rattle.sctp_model.specs.Pieces.{Piece}
 use Rattle.sctp_model.specs.Forward.{Forward}
 use Rattle.sctp_model.specs.SenderView.{SenderView}
-use Rattle.sctp_model.specs.ReceiverView.{ReceiverView, IsReached as IsCovered}
+use Rattle.sctp_model.specs.ReceiverView.{ReceiverView}
 use Rattle.sctp_model.specs.Acknowledgement.{Acknowledgement}
 use Rattle.sctp_model.specs.Calls.{Asked}
 use Rattle.sctp_model.specs.sender.Reached.{IsReached}
 use Rattle.sctp_model.specs.receiver.Laws.{IsIdle}
 use Rattle.sctp_model.proofs.sender.OwedLaws.{is_windowed, is_promised}
 use Rattle.sctp_safety.specs.Way.{Way}
-use Rattle.sctp_safety.specs.Exact.{Leads}
-use Rattle.sctp_safety.specs.SenderLaws.{IsUsual, IsMoved, IsSackOf}
+use Rattle.sctp_safety.specs.SenderLaws.{IsUsual, IsSackOf}
 use Rattle.sctp_safety.specs.ReceiverLaws.{IsJoined, IsCounted, IsPieceSaid, IsForwardSaid, IsTopped}
-use Rattle.sctp_safety.proofs.Basics.{Has-push, item_at-within, item_at-above}
-use Rattle.sctp_safety.proofs.Facts.{Good}
-use Rattle.sctp_safety.proofs.UsualLemmas.{good_usual, usual_moved}
-use Rattle.sctp_safety.proofs.runs.Grown.{IsPrefix, plan_lasts}
+use Rattle.sctp_safety.proofs.Basics.{item_at-within, item_at-above}
+use Rattle.sctp_safety.proofs.runs.Grown.{IsPrefix}
 
 -- ---- what the chunks of a direction say
 

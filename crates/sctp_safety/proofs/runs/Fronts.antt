@@ -1,5 +1,5 @@
 -- Where each chunk of a packet stands where it may, so does each of the packet's beginning.
-use Rattle.std.proofs.Common.{◌≡◌, ℕ, ◌+◌, Bool, true, false, not, ◌&&◌, ◌||◌, List, [], ◌∷◌, ◌++◌, Option, Some, None, refl, if◌then◌else◌}
+use Rattle.std.proofs.Common.{◌≡◌, ℕ, ◌+◌, Bool, true, false, not, ◌&&◌, ◌||◌, List, [], ◌∷◌, ◌++◌, Some, None, refl, if◌then◌else◌}
 use Rattle.sctp_model.specs.Chunk.{ChunkMeaning, kind_of, size_of_chunk}
 use Rattle.sctp_model.specs.Places.{stands_alone, stands_first, is_misplaced, is_none, misplaced_from, ArePlaced}
 

@@ -1,5 +1,5 @@
 -- Moves take nothing out of a plan: what stands at an index stands there in every later world.
-use Rattle.std.proofs.Common.{◌≡◌, ℕ, List, [], ◌∷◌, ◌++◌, Some, sym, subst}
+use Rattle.std.proofs.Common.{◌≡◌, ℕ, List, [], ◌∷◌, Some, sym, subst}
 use Rattle.sctp_model.specs.Plan.{Entry, End, Plan, entry_at, parts_from}
 use Rattle.sctp_safety.specs.Way.{Way, Move, Send, Name, Tick, Number, Continue, Withdraw, Abandon, Mark, Retune, Sack_comes, Shutdown_comes, Put_piece, Put_forward, Put_sack, Put_shutdown, Keep_piece, Drop_piece, Forward_comes, Hand_over, Hand_unordered, Pass_over, Clear, Let_go, Take, Note, Step, Run}
 use Rattle.sctp_safety.specs.Exact.{Leads}

@@ -1,6 +1,6 @@
 -- What a receiver's calls do to its direction: what comes, what its user takes, and what it says back.
-use Rattle.std.proofs.Common.{◌≡◌, ℕ, ◌⊎◌, List, [], ◌∷◌, ◌++◌, Option, inl, inr, refl, sym, subst, ◌∙◌}
-use Rattle.sctp_model.specs.Lists.{Has, IsWithin}
+use Rattle.std.proofs.Common.{ℕ, ◌⊎◌, List, [], ◌∷◌, ◌++◌, Option, inl, inr, refl, sym, subst, ◌∙◌}
+use Rattle.sctp_model.specs.Lists.{Has}
 use Rattle.sctp_model.specs.Serial.{tsn}
 use Rattle.sctp_model.specs.Chunk.{PieceMeaning, SackMeaning, ForwardMeaning, ChunkMeaning, Sack, Shutdown}
 use Rattle.sctp_model.specs.Format.{Format}
@@ -9,7 +9,7 @@ use Rattle.sctp_model.specs.ReceiverView.{Handed, ReceiverView, IsCumulative}
 use Rattle.sctp_model.specs.Calls.{Asked}
 use Rattle.sctp_model.specs.receiver.PieceTaken.{Answer, PieceTaken}
 use Rattle.sctp_model.specs.receiver.ForwardTaken.{ForwardAnswer, ForwardTaken}
-use Rattle.sctp_model.specs.receiver.SackMade.{IsSack, sack_sent, TakeLeaves}
+use Rattle.sctp_model.specs.receiver.SackMade.{IsSack, TakeLeaves}
 use Rattle.sctp_safety.specs.Way.{Way, Put_shutdown, Note, with_receiver}
 use Rattle.sctp_safety.specs.Exact.{Leads}
 use Rattle.sctp_safety.specs.ReceiverLaws.{IsReceived, IsPieceSaid, IsSackPut}

@@ -1,14 +1,14 @@
 -- Two ends meet: both are new and agree, so both directions start.
-use Rattle.std.proofs.Common.{◌≡◌, ℕ, zero, suc, ◌≤◌, ◌<◌, Bool, true, false, List, [], length, Some, refl, sym, subst, ap, arith, ◌∙◌}
-use Rattle.sctp_model.specs.Lists.{Has, item_at}
+use Rattle.std.proofs.Common.{◌≡◌, ℕ, zero, suc, ◌≤◌, ◌<◌, Bool, true, List, [], length, Some, refl, sym, subst, ap}
+use Rattle.sctp_model.specs.Lists.{item_at}
 use Rattle.sctp_model.specs.Chunk.{ChunkMeaning}
 use Rattle.sctp_model.specs.Format.{Format}
 use Rattle.sctp_model.specs.SenderView.{SenderView, fresh_sender}
 use Rattle.sctp_model.specs.ReceiverView.{ReceiverView, fresh_receiver}
-use Rattle.sctp_model.specs.Calls.{Call, Asked}
+use Rattle.sctp_model.specs.Calls.{Asked}
 use Rattle.sctp_model.specs.Safe.{Safe}
 use Rattle.sctp_model.specs.sender.Reached.{Begins}
-use Rattle.sctp_model.specs.end.EndView.{Phase, EndView, format_for, format_of}
+use Rattle.sctp_model.specs.end.EndView.{EndView, format_for, format_of}
 use Rattle.sctp_safety.specs.Way.{Way, IsStart}
 use Rattle.sctp_safety.specs.SenderLaws.{IsInOrder}
 use Rattle.sctp_safety.specs.States.{has_agreed}

@@ -1,5 +1,5 @@
 -- Two ends that have met stay so: every step keeps both directions.
-use Rattle.std.proofs.Common.{◌≡◌, ℕ, true, false, List, [], ◌∷◌, ◌++◌, Option, Some, append-nil, inl, inr, refl, sym, subst, ◌⊎◌, ◌∙◌}
+use Rattle.std.proofs.Common.{◌≡◌, ℕ, true, List, [], ◌∷◌, ◌++◌, Option, Some, append-nil, inl, inr, sym, subst, ◌⊎◌, ◌∙◌}
 use Rattle.sctp_model.specs.Lists.{Has, IsWithin}
 use Rattle.sctp_model.specs.Chunk.{ChunkMeaning}
 use Rattle.sctp_model.specs.Packet.{Packet}
@@ -8,10 +8,10 @@ use Rattle.sctp_model.specs.end.EndView.{Phase, Idle, Listening, Calling, Echoin
 use Rattle.sctp_model.specs.end.Strays.{Verdict}
 use Rattle.sctp_model.specs.end.Arriving.{Arrives}
 use Rattle.sctp_model.specs.end.Building.{Builds, packet_of}
-use Rattle.sctp_model.specs.end.UserCalls.{connect_answer, Called, abort_answer, abort_leaves, shut, send_answer, send_leaves, abandoned_at}
-use Rattle.sctp_model.specs.World.{Side, A, B, other, World, end_of, bag_of, with_end, end_now, came, logged, Setup}
-use Rattle.sctp_model.specs.Events.{Event, Foreign, with_verdict, with_abort, Outcome}
-use Rattle.sctp_model.specs.Steps.{accepted, named_at, cut, Step, Opens, OpenRefused, TimePasses, Draws, Connects, ConnectRefused, BuildsOne, BuildsNone, Comes, IsAbsent, Unread, Sends, Abandons, TakesOne, ShutsDown, AbortsIt, CutFirst, CutLater, NoMemory}
+use Rattle.sctp_model.specs.end.UserCalls.{connect_answer, Called, abort_answer, abort_leaves, shut}
+use Rattle.sctp_model.specs.World.{Side, other, World, end_of, bag_of, with_end, end_now, Setup}
+use Rattle.sctp_model.specs.Events.{Event, Foreign, Outcome}
+use Rattle.sctp_model.specs.Steps.{cut, Step, Opens, OpenRefused, TimePasses, Draws, Connects, ConnectRefused, BuildsOne, BuildsNone, Comes, IsAbsent, Unread, Sends, Abandons, TakesOne, ShutsDown, AbortsIt, CutFirst, CutLater, NoMemory}
 use Rattle.sctp_model.specs.Premises.{asked_at, IsStranger}
 use Rattle.sctp_safety.specs.States.{has_agreed}
 use Rattle.sctp_safety.specs.Agreement.{IsOpening}
@@ -22,9 +22,9 @@ use Rattle.sctp_safety.proofs.runs.Fronts.{front_is_placed}
 use Rattle.sctp_safety.proofs.runs.Pair.{IsMet}
 use Rattle.sctp_safety.proofs.runs.Packets.{builds_keep}
 use Rattle.sctp_safety.proofs.runs.Timed.{met_taken, met_shut, met_aborted}
-use Rattle.sctp_safety.proofs.runs.Answers.{OpensOrEnds, answer_opens}
+use Rattle.sctp_safety.proofs.runs.Answers.{answer_opens}
 use Rattle.sctp_safety.proofs.runs.Brought.{ComesFrom, comes_from, met_arrives}
-use Rattle.sctp_safety.proofs.runs.MetWorld.{MetAt, MetWith, Before, IsMetWorld, at_side, from_side, now_at, put_end, came_end, put_both, put_verdict, put_abort, sent_at, abandoned_there, passes_at, closed_verdict, closed_abort, closed_end, closed_packet, closed_came, closed_log}
+use Rattle.sctp_safety.proofs.runs.MetWorld.{MetAt, MetWith, Before, IsMetWorld, at_side, from_side, now_at, put_end, put_both, told_of, only_came, put_abort, sent_at, abandoned_there, passes_at, closed_abort, closed_end, closed_packet, closed_log}
 
 -- the premises, of one event
 abbrev pub AreStrangers : Setup → List ℕ → Event → Type 0
@@ -48,8 +48,10 @@ front_from s drawn w x p xs ys parts from = go from
     go : IsFrom s drawn w x p → IsFrom s drawn w x (cut p xs)
     go (inl within) = inl (λ y h. within y (front y h))
     go (inr (strange, placed)) =
-        inr (record { untagged = strange.untagged; chunks = λ y h. strange.chunks y (front y h) },
-        front_is_placed xs ys (subst ArePlaced parts placed))
+        inr (
+          record { untagged = strange.untagged; chunks = λ y h. strange.chunks y (front y h) },
+          front_is_placed xs ys (subst ArePlaced parts placed),
+        )
 
 -- a stranger changes nothing
 pub stranger_stays : (s : Setup) (drawn : List ℕ) (w : World) (x : Side) (p : Packet) (t : EndView) (v : Verdict) → IsOpening s drawn w → IsStranger s.sealing drawn p →
@@ -89,15 +91,6 @@ module _ (s : Setup) (drawn : List ℕ) (w : World) (opening : IsOpening s drawn
   with_other : (x : Side) (t : EndView) → Before w x t → IsMetWorld (with_end w x t)
   with_other x t k = record { closed = closed_end w x t ∙ m.closed; met = from_side (with_end w x t) x (put_end w x t k) }
 
-  told_of : (x : Side) (t : EndView) (v : Verdict) → Before w x t → OpensOrEnds v → IsMetWorld (with_verdict (came w x t) x v)
-  told_of x t v k opens = record {
-    closed = closed_verdict (came w x t) x v ∙ closed_came w x t;
-    met = from_side (with_verdict (came w x t) x v) x (put_verdict (came w x t) x v opens (came_end w x t k));
-  }
-
-  only_came : (x : Side) (t : EndView) → Before w x t → IsMetWorld (came w x t)
-  only_came x t k = record { closed = closed_came w x t; met = from_side (came w x t) x (came_end w x t k) }
-
   pub met_step : (e : Event) (o : Option Outcome) (v : World) → AreStrangers s drawn e → Step w e o v → IsMetWorld v
   met_step e o v strange (Opens x y may dx dy) = absurd (let q = m.closed in cc)
   met_step e o v strange (OpenRefused x y off) = m
@@ -111,10 +104,10 @@ module _ (s : Setup) (drawn : List ℕ) (w : World) (opening : IsOpening s drawn
   }
   met_step e o v strange (BuildsNone x t b) = with_other x t (built_none w x t (built_one w x [] t (at x) b))
   met_step e o v strange (Comes _ x p t d brings arrives) =
-      told_of x t d (arrived s drawn w x p t d opening (at x) (whole_from s drawn w e x p strange (comes_from w e x p brings)) arrives)
+      told_of w x t d (arrived s drawn w x p t d opening (at x) (whole_from s drawn w e x p strange (comes_from w e x p brings)) arrives)
       (answer_opens (end_now w x) w.draw p t d arrives)
   met_step e o v strange (IsAbsent x n none) = m
-  met_step e o v strange (Unread x) = only_came x (end_now w x) (now_at w x (at x))
+  met_step e o v strange (Unread x) = only_came w x (end_now w x) (now_at w x (at x))
   met_step e o v strange (Sends x c) = record { closed = closed_log w x _ _ ∙ m.closed; met = from_side v x (sent_at w x c (at x)) }
   met_step e o v strange (Abandons x k) = record { closed = closed_log w x _ _ ∙ m.closed; met = from_side v x (abandoned_there w x k (at x)) }
   met_step e o v strange (TakesOne x n h t takes) =
@@ -129,8 +122,8 @@ module _ (s : Setup) (drawn : List ℕ) (w : World) (opening : IsOpening s drawn
         (met_aborted (end_of w (other x)) (asked_at w x) (asked_at w (other x)) (chunks_in (bag_of w x)) (chunks_in (bag_of w (other x))) (end_of w x)
         (abort_answer (end_of w x) r) (at x))));
   }
-  met_step e o v strange (CutFirst _ x p brings) = only_came x (end_now w x) (now_at w x (at x))
+  met_step e o v strange (CutFirst _ x p brings) = only_came w x (end_now w x) (now_at w x (at x))
   met_step e o v strange (CutLater _ x p y front back z t d brings parts arrives untold) =
-      only_came x t (arrived s drawn w x (cut p (y ∷ front)) t d opening (at x)
+      only_came w x t (arrived s drawn w x (cut p (y ∷ front)) t d opening (at x)
       (front_from s drawn w x p (y ∷ front) (z ∷ back) parts (whole_from s drawn w e x p strange (comes_from w e x p brings))) arrives)
   met_step e o v strange (NoMemory _ other_event) = m

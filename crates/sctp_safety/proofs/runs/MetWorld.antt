@@ -1,28 +1,20 @@
 -- A world whose two ends have met stays one, whatever step comes.
-use Rattle.std.proofs.Common.{◌≡◌, ℕ, ◌≤◌, max, nat_le, if◌then◌else◌, Bool, true, false, List, [], ◌∷◌, ◌++◌, Option, Some, None, append-nil, inl, inr, refl, sym, subst, arith, ◌∙◌}
-use Rattle.sctp_model.specs.Lists.{Has, IsWithin}
+use Rattle.std.proofs.Common.{◌≡◌, ℕ, max, nat_le, if◌then◌else◌, Bool, true, false, List, ◌++◌, Option, Some, None, refl, sym, subst, arith, ◌∙◌}
 use Rattle.sctp_model.specs.Chunk.{ChunkMeaning}
 use Rattle.sctp_model.specs.Packet.{Packet, size_of_packet}
 use Rattle.sctp_model.specs.Calls.{Call, Asked}
-use Rattle.sctp_model.specs.end.EndView.{Draw, Phase, Idle, Listening, Calling, Echoing, Open, Over, Listener, EndView}
-use Rattle.sctp_model.specs.end.Sealing.{Sealing}
+use Rattle.sctp_model.specs.end.EndView.{EndView}
 use Rattle.sctp_model.specs.end.Strays.{Verdict, Taken, Dropped, Answer}
-use Rattle.sctp_model.specs.end.Arriving.{Arrives}
 use Rattle.sctp_model.specs.end.Moments.{ticked}
-use Rattle.sctp_model.specs.end.UserCalls.{connect_answer, Called, SendAnswer, Ticket, Refused, NotOpen, send_answer, send_leaves, abandoned_at, shut, AbortAnswer, Aborts, NoPeer, TooLong, peer_tag, abort_packet, abort_answer_to, abort_answer, abort_leaves}
-use Rattle.sctp_model.specs.World.{Side, A, B, other, Log, World, end_of, bag_of, with_end, with_packet, with_log, end_now, came, logged, Setup}
-use Rattle.sctp_model.specs.Events.{Event, Foreign, with_verdict, with_abort, Outcome}
-use Rattle.sctp_model.specs.Steps.{accepted, named_at, cut, Brings, Step, Opens, OpenRefused, TimePasses, Draws, Connects, ConnectRefused, BuildsOne, BuildsNone, Comes, IsAbsent, Unread, Sends, Abandons, TakesOne, ShutsDown, AbortsIt, CutFirst, CutLater, NoMemory}
+use Rattle.sctp_model.specs.end.UserCalls.{SendAnswer, Ticket, Refused, NotOpen, send_answer, send_leaves, abandoned_at, AbortAnswer, Aborts, NoPeer, TooLong, peer_tag, abort_packet, abort_answer_to, abort_answer}
+use Rattle.sctp_model.specs.World.{Side, A, B, other, Log, World, end_of, bag_of, with_end, with_packet, with_log, end_now, came, logged}
+use Rattle.sctp_model.specs.Events.{with_verdict, with_abort}
+use Rattle.sctp_model.specs.Steps.{accepted, named_at}
 use Rattle.sctp_model.specs.Premises.{asked_at}
-use Rattle.sctp_safety.specs.States.{has_agreed}
-use Rattle.sctp_safety.proofs.Basics.{Has-left}
-use Rattle.sctp_safety.proofs.machine.EndWords.{OfAnswer}
-use Rattle.sctp_safety.proofs.runs.Bags.{chunks_in, chunks_push, chunk_of_bag}
-use Rattle.sctp_safety.proofs.runs.Pair.{is_opening, AreOpening, IsMet, turned_round, met_quiet}
-use Rattle.sctp_safety.proofs.runs.Packets.{builds_keep}
-use Rattle.sctp_safety.proofs.runs.Timed.{met_now, met_ticked, met_taken, met_shut, met_aborted, met_sent, met_abandoned, met_clock, asked_more}
-use Rattle.sctp_safety.proofs.runs.Answers.{OpensOrEnds, answer_opens, one_opening}
-use Rattle.sctp_safety.proofs.runs.Brought.{ComesFrom, comes_from, met_arrives}
+use Rattle.sctp_safety.proofs.runs.Bags.{chunks_in, chunks_push}
+use Rattle.sctp_safety.proofs.runs.Pair.{AreOpening, IsMet, turned_round, met_quiet}
+use Rattle.sctp_safety.proofs.runs.Timed.{met_now, met_ticked, met_sent, met_abandoned, met_clock, asked_more}
+use Rattle.sctp_safety.proofs.runs.Answers.{OpensOrEnds, one_opening}
 
 -- both directions between the end of this side and the one across
 abbrev pub MetAt : World → Side → Type 0
@@ -114,6 +106,17 @@ closed_packet w B p = refl
 pub closed_came : (w : World) (x : Side) (t : EndView) → (came w x t).openable ≡ false
 closed_came w A t = refl
 closed_came w B t = refl
+
+-- ---- a packet came
+
+pub told_of : (w : World) (x : Side) (t : EndView) (v : Verdict) → Before w x t → OpensOrEnds v → IsMetWorld (with_verdict (came w x t) x v)
+told_of w x t v k opens = record {
+  closed = closed_verdict (came w x t) x v ∙ closed_came w x t;
+  met = from_side (with_verdict (came w x t) x v) x (put_verdict (came w x t) x v opens (came_end w x t k));
+}
+
+pub only_came : (w : World) (x : Side) (t : EndView) → Before w x t → IsMetWorld (came w x t)
+only_came w x t k = record { closed = closed_came w x t; met = from_side (came w x t) x (came_end w x t k) }
 
 -- ---- the user
 

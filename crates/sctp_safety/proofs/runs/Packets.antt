@@ -1,5 +1,5 @@
 -- A packet that an end builds keeps both directions: what stands in it is said.
-use Rattle.std.proofs.Common.{◌≡◌, ℕ, ◌-◌, Bool, true, false, List, [], ◌∷◌, ◌++◌, map, append_assoc, append-nil, inl, inr, refl, sym, subst}
+use Rattle.std.proofs.Common.{◌≡◌, ◌-◌, Bool, true, false, List, [], ◌∷◌, ◌++◌, append_assoc, append-nil, inl, inr, refl, sym, subst}
 use Rattle.sctp_model.specs.Lists.{Has}
 use Rattle.sctp_model.specs.Serial.{tsn}
 use Rattle.sctp_model.specs.Chunk.{ChunkMeaning, Sack, Shutdown}
@@ -8,12 +8,10 @@ use Rattle.sctp_model.specs.Format.{Format, Plain, Interleaved}
 use Rattle.sctp_model.specs.Calls.{Asked}
 use Rattle.sctp_model.specs.sender.Filling.{Wish}
 use Rattle.sctp_model.specs.sender.SentChunks.{chunk_of, forward_chunk_of}
-use Rattle.sctp_model.specs.receiver.SackMade.{sack_sent}
 use Rattle.sctp_model.proofs.sender.FillLaws.{fill_is_fill}
-use Rattle.sctp_model.specs.end.EndView.{Draw, Phase, Calling, EndView, format_of}
+use Rattle.sctp_model.specs.end.EndView.{Phase, EndView, format_of}
 use Rattle.sctp_model.specs.end.Building.{Slot, Wants, EchoCookie, AckCookie, AckHeartbeat, ReportCauses, Acknowledge, PassOn, SayShutdown, AnswerShutdown, Puts, NoMore, NotDue, Put, IsFull, echoing_slots, open_slots, filled_behind, sent, fragments, Builds, Sleeps, Waits, Calls, Echoes, Ends, Fills}
 use Rattle.sctp_safety.specs.States.{has_agreed}
-use Rattle.sctp_safety.proofs.runs.Direction.{Direction}
 use Rattle.sctp_safety.proofs.runs.Sending.{after_fill, Has-map}
 use Rattle.sctp_safety.proofs.runs.Passing.{after_forward}
 use Rattle.sctp_safety.proofs.runs.Hearing.{after_note, after_sack_made, after_shutdown_made}

@@ -1,15 +1,14 @@
 -- Two ends that have met: both directions between them, and what each end's chunks say of both.
-use Rattle.std.proofs.Common.{◌≡◌, ℕ, ◌≤◌, ◌⊎◌, Bool, true, false, List, [], ◌∷◌, ◌++◌, inl, inr, refl, sym, subst, ◌∙◌}
+use Rattle.std.proofs.Common.{◌≡◌, ℕ, ◌≤◌, ◌⊎◌, Bool, true, false, List, ◌++◌, inl, inr, refl, sym, subst}
 use Rattle.sctp_model.specs.Lists.{Has}
-use Rattle.sctp_model.specs.Chunk.{InitMeaning, ChunkMeaning, Data, IData, Init, InitAck, Sack, Heartbeat, HeartbeatAck, Abort, Shutdown, ShutdownAck, Error, CookieEcho, CookieAck, ShutdownComplete, ForwardTsn, IForwardTsn, Unknown}
+use Rattle.sctp_model.specs.Chunk.{ChunkMeaning, Data, IData, Init, InitAck, Sack, Abort, Shutdown, Error, CookieEcho, ShutdownComplete, ForwardTsn, IForwardTsn}
 use Rattle.sctp_model.specs.Format.{Format}
 use Rattle.sctp_model.specs.Plan.{Plan}
 use Rattle.sctp_model.specs.SenderView.{SenderView}
 use Rattle.sctp_model.specs.ReceiverView.{ReceiverView}
-use Rattle.sctp_model.specs.Packet.{Packet}
 use Rattle.sctp_model.specs.Calls.{Asked}
-use Rattle.sctp_model.specs.end.EndView.{Terms, Phase, Idle, Listening, Calling, Echoing, Open, Over, EndView, format_of}
-use Rattle.sctp_model.specs.end.Closing.{says_shutdown, answers_shutdown, rested}
+use Rattle.sctp_model.specs.end.EndView.{Terms, EndView, format_of}
+use Rattle.sctp_model.specs.end.Closing.{rested}
 use Rattle.sctp_safety.specs.States.{has_agreed}
 use Rattle.sctp_safety.proofs.Basics.{Has-cases}
 use Rattle.sctp_safety.proofs.machine.EndWords.{rested_cases}

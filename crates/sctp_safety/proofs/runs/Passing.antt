@@ -1,12 +1,12 @@
 -- The FORWARD that a sender builds says one of its direction, and each number that it lists is the largest of its lane up to the point.
-use Rattle.std.proofs.Common.{◌≡◌, ℕ, suc, ◌<◌, ◌≤◌, ◌⊎◌, Bool, true, false, nat_le, List, [], ◌∷◌, ◌++◌, length, Some, inl, inr, refl, sym, subst, ap, arith}
+use Rattle.std.proofs.Common.{◌≡◌, ℕ, ◌<◌, ◌≤◌, ◌⊎◌, List, [], ◌∷◌, ◌++◌, length, Some, inl, inr, refl, subst, ap, arith}
 use Rattle.std.proofs.lemmas.Bool.{cases_lt}
 use Rattle.sctp_model.specs.Lists.{Has}
 use Rattle.sctp_model.specs.Chunk.{ChunkMeaning}
-use Rattle.sctp_model.specs.Format.{Format, Plain, Interleaved, Ordered, Unordered, Lane}
+use Rattle.sctp_model.specs.Format.{Format, Plain, Interleaved, Lane}
 use Rattle.sctp_model.specs.Plan.{Entry, Plan, entry_at, IsOf}
 use Rattle.sctp_model.specs.Forward.{Skip, Forward, StandsIn, IsLaneBefore, IsListed, IsForward}
-use Rattle.sctp_model.specs.SenderView.{SenderView, IsPoint}
+use Rattle.sctp_model.specs.SenderView.{SenderView}
 use Rattle.sctp_model.specs.ReceiverView.{ReceiverView}
 use Rattle.sctp_model.specs.Calls.{Asked}
 use Rattle.sctp_model.specs.sender.Readers.{point}
@@ -96,11 +96,11 @@ after_forward f n a u r out back d = said_more f n a u r out back moved (forward
     moved : Direction f n a u r out back
     moved = sender_moved f n a u r out back d a u bags
         (record { pieces = λ x h. h; forwards = λ x h. inr h; sacks = λ x h. h; shutdowns = λ x h. h }) d.reached (record {
-        leads = leads_by (way_of f n a u r d.bags) (way_of f n a u r bags) (Put_forward (forward_of f a))
-            (forward_is_allowed (way_of f n a u r d.bags) (point a) (point a) (forward_of f a) (point_is_point a) (point_is_point a).from (omega arith) is);
-        order = record { ends = d.usual.order.ends; marked = d.usual.order.marked; tickets = d.usual.order.tickets };
-        constants = record { initial = refl; streams = refl; fragment = refl; partial = refl };
-      })
+          leads = leads_by (way_of f n a u r d.bags) (way_of f n a u r bags) (Put_forward (forward_of f a))
+              (forward_is_allowed (way_of f n a u r d.bags) (point a) (point a) (forward_of f a) (point_is_point a) (point_is_point a).from (omega arith) is);
+          order = record { ends = d.usual.order.ends; marked = d.usual.order.marked; tickets = d.usual.order.tickets };
+          constants = record { initial = refl; streams = refl; fragment = refl; partial = refl };
+        })
 
     within : IsForwardIn f a.initial a.plan bags.forwards (forward_said f a)
     within = record {

@@ -1,16 +1,16 @@
 -- What a sender's calls do to its direction.
-use Rattle.std.proofs.Common.{◌≡◌, ℕ, zero, suc, ◌+◌, ◌^◌, ◌<◌, ◌≤◌, ◌⊎◌, ◌||◌, true, false, nat_le, max, List, [], ◌∷◌, ◌++◌, length, map, Option, Some, None, inl, inr, refl, sym, subst, ap, arith, ◌∙◌}
+use Rattle.std.proofs.Common.{◌≡◌, ℕ, zero, suc, ◌^◌, ◌<◌, ◌≤◌, ◌⊎◌, true, nat_le, max, List, [], ◌∷◌, ◌++◌, length, map, Some, None, inl, inr, refl, sym, subst, ap, arith, ◌∙◌}
 use Rattle.std.proofs.lemmas.Bool.Decides.{nat_tests}
 use Rattle.sctp_model.specs.Lists.{Has, at}
 use Rattle.sctp_model.specs.Serial.{tsn}
 use Rattle.sctp_model.specs.Chunk.{SackMeaning, ChunkMeaning, Sack, Shutdown}
 use Rattle.sctp_model.specs.Format.{Format, Plain, Interleaved}
-use Rattle.sctp_model.specs.Plan.{Message, Entry, Part, entry_at, message_at}
+use Rattle.sctp_model.specs.Plan.{Entry, Part}
 use Rattle.sctp_model.specs.Pieces.{Piece}
 use Rattle.sctp_model.specs.SenderView.{SenderView}
 use Rattle.sctp_model.specs.ReceiverView.{ReceiverView}
 use Rattle.sctp_model.specs.ReceiverView.{IsReached as IsCovered}
-use Rattle.sctp_model.specs.Acknowledgement.{Acknowledgement, covers, in_blocks}
+use Rattle.sctp_model.specs.Acknowledgement.{Acknowledgement, covers}
 use Rattle.sctp_model.specs.Calls.{Call, Asked}
 use Rattle.sctp_model.specs.sender.Queueing.{refusal, queued}
 use Rattle.sctp_model.specs.sender.Entries.{entry_message}
@@ -22,20 +22,19 @@ use Rattle.sctp_model.specs.sender.Reached.{IsReached, Queues, Goes, Covers, Clo
 use Rattle.sctp_model.proofs.sender.Bounds.{is_set, is_bounded}
 use Rattle.sctp_model.proofs.sender.AbandonedLaws.{expired_reached}
 use Rattle.sctp_safety.specs.Way.{Way, Tick}
-use Rattle.sctp_safety.specs.Exact.{Leads}
 use Rattle.sctp_safety.specs.ReceiverLaws.{IsPieceSaid}
-use Rattle.sctp_safety.specs.SenderLaws.{IsInOrder, IsMoved, IsPut, IsFilled, IsSackOf}
+use Rattle.sctp_safety.specs.SenderLaws.{IsMoved, IsPut, IsFilled, IsSackOf}
 use Rattle.sctp_safety.proofs.Basics.{Has-cases}
 use Rattle.sctp_safety.proofs.Facts.{Good}
 use Rattle.sctp_safety.proofs.Taken.{leads_by}
-use Rattle.sctp_safety.proofs.UsualLemmas.{good_usual, usual_moved, usual_on}
+use Rattle.sctp_safety.proofs.UsualLemmas.{good_usual, usual_moved}
 use Rattle.sctp_safety.proofs.ReadBounds.{reached_within}
 use Rattle.sctp_safety.proofs.FillMoves.{fill_is_moves}
 use Rattle.sctp_safety.proofs.QueueMoves.{queue_is_moves}
 use Rattle.sctp_safety.proofs.GivingMoves.{abandon_is_moves, expire_is_moves, timeout_is_moves}
 use Rattle.sctp_safety.proofs.SackMoves.{sack_is_moves, shutdown_is_moves}
 use Rattle.sctp_safety.proofs.runs.Grown.{plan_lasts}
-use Rattle.sctp_safety.proofs.runs.Direction.{Bags, way_of, IsSaid, IsSaidBack, Direction, counted_in, IsMore, more_same, said_later, said_back_later}
+use Rattle.sctp_safety.proofs.runs.Direction.{Bags, way_of, IsSaid, Direction, counted_in, IsMore, more_same, said_later, said_back_later}
 
 -- ---- in general
 

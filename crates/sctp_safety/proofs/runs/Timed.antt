@@ -11,14 +11,14 @@ use Rattle.sctp_model.specs.sender.Readers.{point}
 use Rattle.sctp_model.specs.end.EndView.{TimedOut, Established, ShutdownPending, ShutdownSent, ShutdownReceived, ShutdownAckSent, AbortedHere, Phase, Idle, Listening, Calling, Echoing, Open, Over, Alarm, InitAlarm, CookieAlarm, DataAlarm, ShutdownAlarm, AckAlarm, EndView, format_of, has_association}
 use Rattle.sctp_model.specs.end.Clock.{repeats_of, is_over_at, with_timer, turned, closed, at_moment, settled}
 use Rattle.sctp_model.specs.end.Clock.{expired as expired_timer}
-use Rattle.sctp_model.specs.end.Closing.{rested, hears}
+use Rattle.sctp_model.specs.end.Closing.{hears}
 use Rattle.sctp_model.specs.end.Moments.{after_giving_up, due_again, rung, ring, rung_all, all_alarms, passed, ticked}
 use Rattle.sctp_model.specs.end.UserCalls.{SendAnswer, Ticket, Refused, NotOpen, is_established, answer_for, send_answer, send_leaves, is_open, abandoned_at, Takes, shut_in, shut, AbortAnswer, Aborts, NoPeer, TooLong, abort_leaves}
 use Rattle.sctp_safety.specs.States.{has_agreed}
 use Rattle.sctp_safety.proofs.runs.Direction.{Direction}
 use Rattle.sctp_safety.proofs.runs.Sending.{after_queue, after_abandon, after_expiry, after_timeout, after_tick}
 use Rattle.sctp_safety.proofs.runs.Hearing.{after_take}
-use Rattle.sctp_safety.proofs.runs.Pair.{IsMet, AreViews, views_same, met_same, met_rested}
+use Rattle.sctp_safety.proofs.runs.Pair.{IsMet, AreViews, met_same, met_rested}
 
 module _ (p : EndView) (u v : Asked) (out back : List ChunkMeaning) where
   abbrev Met : EndView → Type 0

@@ -1,28 +1,20 @@
 -- An end that isn't open: its sender and its receiver are new, and only its opening's chunks go out.
-use Rattle.std.proofs.Common.{◌≡◌, ℕ, zero, suc, ◌≤◌, ◌||◌, nat_lt, Bool, true, false, not, ◌==◌, List, [], ◌∷◌, ◌++◌, Option, Some, None, inl, inr, refl, sym, subst, ap, arith, ◌∙◌, if◌then◌else◌}
-use Rattle.sctp_model.specs.Lists.{Has}
+use Rattle.std.proofs.Common.{◌≡◌, ℕ, zero, suc, ◌≤◌, Bool, true, false, refl, sym, subst, ap, ◌∙◌}
 use Rattle.sctp_model.specs.Chunk.{ChunkMeaning, Data, IData, Init, InitAck, Sack, Heartbeat, HeartbeatAck, Abort, Shutdown, ShutdownAck, Error, CookieEcho, CookieAck, ShutdownComplete, ForwardTsn, IForwardTsn, Unknown}
-use Rattle.sctp_model.specs.SenderView.{SenderView, fresh_sender}
-use Rattle.sctp_model.specs.ReceiverView.{Handed, ReceiverView, fresh_receiver}
-use Rattle.sctp_model.specs.Calls.{Call}
+use Rattle.sctp_model.specs.SenderView.{fresh_sender}
+use Rattle.sctp_model.specs.ReceiverView.{fresh_receiver}
 use Rattle.sctp_model.specs.Packet.{Packet}
-use Rattle.sctp_model.specs.sender.Abandoning.{abandon_after, expired, timed_out}
-use Rattle.sctp_model.specs.sender.Readers.{point}
-use Rattle.sctp_model.specs.end.EndView.{Terms, Configuration, Tags, Stage, Draw, Ended, Aborted, AbortedHere, TimedOut, Completed, StaleCookie, Phase, Idle, Listening, Calling, Echoing, Open, Over, Alarm, InitAlarm, CookieAlarm, DataAlarm, ShutdownAlarm, AckAlarm, EndView, has_association}
-use Rattle.sctp_model.specs.end.Clock.{repeats_of, is_over_at, with_timer, closed, at_moment, settled}
-use Rattle.sctp_model.specs.end.Clock.{expired as expired_timer}
-use Rattle.sctp_model.specs.end.Closing.{hears, rested}
+use Rattle.sctp_model.specs.sender.Abandoning.{timed_out}
+use Rattle.sctp_model.specs.end.EndView.{Terms, Configuration, Tags, Stage, Ended, Aborted, AbortedHere, Completed, StaleCookie, Phase, Open, EndView}
+use Rattle.sctp_model.specs.end.Clock.{closed}
+use Rattle.sctp_model.specs.end.Closing.{rested}
 use Rattle.sctp_model.specs.end.PeerFaults.{GoesOn, Ends, Replies}
-use Rattle.sctp_model.specs.end.Opening.{AcceptedAck, RefusedAck, EchoedAgain, CookieAcked}
+use Rattle.sctp_model.specs.end.Opening.{AcceptedAck, RefusedAck, EchoedAgain}
 use Rattle.sctp_model.specs.end.Acting.{Acts, Closes, SaysNothing, Completes}
-use Rattle.sctp_model.specs.end.Building.{Slot, EchoSlot, CookieAckSlot, HeartbeatSlot, ErrorSlot, SackSlot, ForwardSlot, ShutdownSlot, ShutdownAckSlot, Wants, EchoCookie, AckCookie, AckHeartbeat, ReportCauses, Acknowledge, PassOn, SayShutdown, AnswerShutdown, Puts, NoMore, NotDue, Put, IsFull, echoing_slots, Builds, Sleeps, Waits, Calls, Echoes, Fills}
-use Rattle.sctp_model.specs.end.Building.{Ends as EndsFull}
-use Rattle.sctp_model.specs.end.Moments.{after_giving_up, due_again, rung, ring, rung_all, all_alarms, passed, ticked}
-use Rattle.sctp_model.specs.end.UserCalls.{SendAnswer, NotOpen, is_established, send_answer, is_open, abandoned_at, Takes, shut_in, shut, AbortAnswer, Aborts, NoPeer, TooLong, abort_leaves}
-use Rattle.sctp_safety.proofs.Basics.{Has-cases}
+use Rattle.sctp_model.specs.end.UserCalls.{is_open}
 use Rattle.sctp_safety.proofs.machine.EndWords.{rested_cases, Keeps}
 use Rattle.sctp_safety.proofs.runs.Pair.{is_opening, AreOpening, AreViews}
-use Rattle.sctp_safety.proofs.runs.Answers.{one_opening, reply_opens}
+use Rattle.sctp_safety.proofs.runs.Answers.{reply_opens}
 
 -- ---- new views
 
