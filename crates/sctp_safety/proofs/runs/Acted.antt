@@ -20,7 +20,7 @@ use Rattle.sctp_safety.proofs.machine.EndWords.{Keeps}
 use Rattle.sctp_safety.proofs.runs.Direction.{Direction}
 use Rattle.sctp_safety.proofs.runs.Sending.{after_sack, after_shutdown}
 use Rattle.sctp_safety.proofs.runs.Hearing.{after_piece, after_skip}
-use Rattle.sctp_safety.proofs.runs.Pair.{is_opening, AreOpening, IsMet, AreViews, met_same, met_rested}
+use Rattle.sctp_safety.proofs.runs.Pair.{opens_or_ends, AreOpening, IsMet, AreViews, met_same, met_rested}
 
 -- an end that waits for an INIT ACK has agreed on nothing
 pub not_calling : (h : Phase) (d : Draw) → h ≡ Calling d → has_agreed h ≡ true → ⊥
@@ -143,8 +143,8 @@ module _ (p : EndView) (u v : Asked) (out back : List ChunkMeaning) where
   ends e tag (Unknown k f w) t m h =
       subst Met (sym (unknown_ends e t k f w h).same) (still e _ m (record { terms = refl; sender = refl; receiver = refl; moment = refl }) m.phase)
 
-  one : (x : ChunkMeaning) → is_opening x ≡ true → AreOpening (x ∷ [])
-  one x h y (inl e) = subst (λ (z : ChunkMeaning). is_opening z ≡ true) e h
+  one : (x : ChunkMeaning) → opens_or_ends x ≡ true → AreOpening (x ∷ [])
+  one x h y (inl e) = subst (λ (z : ChunkMeaning). opens_or_ends z ≡ true) e h
   one x h y (inr k) = absurd k
 
   replies : (e : EndView) (tag : ℕ) (x : ChunkMeaning) (t : EndView) (r : Packet) → Met e → Acts e tag x (Replies t r) → Met t × AreOpening r.chunks

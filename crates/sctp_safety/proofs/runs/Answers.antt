@@ -12,10 +12,10 @@ use Rattle.sctp_model.specs.end.Strays.{Verdict, Dropped, Answer, holds_abort, l
 use Rattle.sctp_model.specs.end.Arriving.{Arrives, Elsewhere, NotOurs, Stray, Begins, Heard}
 use Rattle.sctp_safety.proofs.machine.Sides.{unknown_never_replies}
 use Rattle.sctp_safety.proofs.machine.EndWords.{OfAnswer, Keeps, all_act_keeps}
-use Rattle.sctp_safety.proofs.runs.Pair.{is_opening, AreOpening}
+use Rattle.sctp_safety.proofs.runs.Pair.{opens_or_ends, AreOpening}
 
-pub one_opening : (x : ChunkMeaning) → is_opening x ≡ true → AreOpening (x ∷ [])
-one_opening x h y (inl e) = subst (λ (z : ChunkMeaning). is_opening z ≡ true) e h
+pub one_opening : (x : ChunkMeaning) → opens_or_ends x ≡ true → AreOpening (x ∷ [])
+one_opening x h y (inl e) = subst (λ (z : ChunkMeaning). opens_or_ends z ≡ true) e h
 one_opening x h y (inr k) = absurd k
 
 -- what is told of a packet, if it is an answer, is an opening one

@@ -18,7 +18,7 @@ use Rattle.sctp_safety.proofs.Basics.{Has-cases}
 use Rattle.sctp_safety.proofs.machine.Turns.{IsPlainTurn}
 use Rattle.sctp_safety.proofs.machine.Diagram.{plain_unbegun}
 use Rattle.sctp_safety.proofs.runs.Bags.{chunks_in, chunks_push}
-use Rattle.sctp_safety.proofs.runs.Pair.{is_opening, AreOpening}
+use Rattle.sctp_safety.proofs.runs.Pair.{opens_or_ends, AreOpening}
 use Rattle.sctp_safety.proofs.runs.Answers.{OpensOrEnds, one_opening}
 use Rattle.sctp_safety.proofs.runs.Unmet.{IsUnmet}
 use Rattle.sctp_safety.proofs.runs.Waiting.{waits_now, nothing_sent}
@@ -95,7 +95,7 @@ apart_log w B l none k = apart_same w (with_log w B l) refl refl refl refl refl 
 opening_more : (ps : List Packet) (p : Packet) → AreOpening (chunks_in ps) → AreOpening p.chunks → AreOpening (chunks_in (ps ++ p ∷ []))
 opening_more ps p all more y has = go (Has-cases (chunks_in ps) p.chunks y (subst (λ (xs : List ChunkMeaning). Has xs y) (chunks_push ps p) has))
   where
-    go : Has (chunks_in ps) y ⊎ Has p.chunks y → is_opening y ≡ true
+    go : Has (chunks_in ps) y ⊎ Has p.chunks y → opens_or_ends y ≡ true
     go (inl h) = all y h
     go (inr h) = more y h
 

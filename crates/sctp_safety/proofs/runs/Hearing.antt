@@ -60,7 +60,7 @@ module _ (f : Format) (n : ℕ) (a : SenderView) (u : Asked) (r : ReceiverView) 
   pub after_note : (ds : List ℕ) → Direction f n a u (record r { duplicates = ds }) out back
   after_note ds = received (record r { duplicates = ds }) (record {
     leads = leads_by here (with_receiver here (record r { duplicates = ds })) (Note (record r { duplicates = ds })) (refl, refl);
-    idle = record { ordered = d.idle.ordered; unordered = d.idle.unordered };
+    idle = record { ordered = λ s. record { passed = (d.idle.ordered s).passed; none = (d.idle.ordered s).none }; unordered = d.idle.unordered };
     initial = refl;
     streams = refl;
     buffer = refl;

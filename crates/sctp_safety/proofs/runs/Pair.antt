@@ -32,18 +32,18 @@ is_quiet_back (Shutdown n) = false
 is_quiet_back x = true
 
 -- those of an opening, and those that end an association: neither way
-abbrev pub is_opening : ChunkMeaning → Bool
-is_opening (Init m) = true
-is_opening (InitAck m) = true
-is_opening (Abort t xs) = true
-is_opening (Error xs) = true
-is_opening (CookieEcho xs) = true
-is_opening (ShutdownComplete t) = true
-is_opening x = false
+abbrev pub opens_or_ends : ChunkMeaning → Bool
+opens_or_ends (Init m) = true
+opens_or_ends (InitAck m) = true
+opens_or_ends (Abort t xs) = true
+opens_or_ends (Error xs) = true
+opens_or_ends (CookieEcho xs) = true
+opens_or_ends (ShutdownComplete t) = true
+opens_or_ends x = false
 
 -- each of these chunks is such a one
 abbrev pub AreOpening : List ChunkMeaning → Type 0
-AreOpening xs = (x : ChunkMeaning) → Has xs x → is_opening x ≡ true
+AreOpening xs = (x : ChunkMeaning) → Has xs x → opens_or_ends x ≡ true
 
 pub quiet_says : (f : Format) (i : ℕ) (p : Plan) (b : Bags) (x : ChunkMeaning) → is_quiet x ≡ true → IsSaid f i p b x
 quiet_says f i p b (Data m) h = absurd (cc)
@@ -57,14 +57,14 @@ quiet_says_back i b (Sack s) h = absurd (cc)
 quiet_says_back i b (Shutdown n) h = absurd (cc)
 quiet_says_back i b x h = tt
 
-pub opening_quiet : (x : ChunkMeaning) → is_opening x ≡ true → is_quiet x ≡ true
+pub opening_quiet : (x : ChunkMeaning) → opens_or_ends x ≡ true → is_quiet x ≡ true
 opening_quiet (Data m) h = absurd (cc)
 opening_quiet (IData m) h = absurd (cc)
 opening_quiet (ForwardTsn m) h = absurd (cc)
 opening_quiet (IForwardTsn m) h = absurd (cc)
 opening_quiet x h = refl
 
-pub opening_quiet_back : (x : ChunkMeaning) → is_opening x ≡ true → is_quiet_back x ≡ true
+pub opening_quiet_back : (x : ChunkMeaning) → opens_or_ends x ≡ true → is_quiet_back x ≡ true
 opening_quiet_back (Sack s) h = absurd (cc)
 opening_quiet_back (Shutdown n) h = absurd (cc)
 opening_quiet_back x h = refl

@@ -13,7 +13,7 @@ use Rattle.sctp_model.specs.end.Opening.{AcceptedAck, RefusedAck, EchoedAgain}
 use Rattle.sctp_model.specs.end.Acting.{Acts, Closes, SaysNothing, Completes}
 use Rattle.sctp_model.specs.end.UserCalls.{is_open}
 use Rattle.sctp_safety.proofs.machine.EndWords.{rested_cases, Keeps}
-use Rattle.sctp_safety.proofs.runs.Pair.{is_opening, AreOpening, AreViews}
+use Rattle.sctp_safety.proofs.runs.Pair.{opens_or_ends, AreOpening, AreViews}
 use Rattle.sctp_safety.proofs.runs.Answers.{reply_opens}
 
 -- ---- new views
@@ -84,7 +84,7 @@ module _ (clock : ℕ) where
 
   -- ---- chunks of an opening
 
-  goes : (e : EndView) (tag : ℕ) (x : ChunkMeaning) (t : EndView) → is_opening x ≡ true → Unmet e → Acts e tag x (GoesOn t) → Unmet t
+  goes : (e : EndView) (tag : ℕ) (x : ChunkMeaning) (t : EndView) → opens_or_ends x ≡ true → Unmet e → Acts e tag x (GoesOn t) → Unmet t
   goes e tag (Data d) t on m h = absurd (cc)
   goes e tag (IData d) t on m h = absurd (cc)
   goes e tag (Init i) t on m h = absurd (cc)
@@ -103,7 +103,7 @@ module _ (clock : ℕ) where
   goes e tag (IForwardTsn d) t on m h = absurd (cc)
   goes e tag (Unknown k f w) t on m h = absurd (cc)
 
-  ends : (e : EndView) (tag : ℕ) (x : ChunkMeaning) (t : EndView) → is_opening x ≡ true → Unmet e → Acts e tag x (Ends t) → Unmet t
+  ends : (e : EndView) (tag : ℕ) (x : ChunkMeaning) (t : EndView) → opens_or_ends x ≡ true → Unmet e → Acts e tag x (Ends t) → Unmet t
   ends e tag (Data d) t on m h = absurd (cc)
   ends e tag (IData d) t on m h = absurd (cc)
   ends e tag (Init i) t on m h = absurd (cc)
@@ -122,7 +122,7 @@ module _ (clock : ℕ) where
   ends e tag (IForwardTsn d) t on m h = absurd (cc)
   ends e tag (Unknown k f w) t on m h = absurd (cc)
 
-  replies : (e : EndView) (tag : ℕ) (x : ChunkMeaning) (t : EndView) (r : Packet) → is_opening x ≡ true → Unmet e → Acts e tag x (Replies t r) → Unmet t
+  replies : (e : EndView) (tag : ℕ) (x : ChunkMeaning) (t : EndView) (r : Packet) → opens_or_ends x ≡ true → Unmet e → Acts e tag x (Replies t r) → Unmet t
   replies e tag (Data d) t r on m h = absurd (cc)
   replies e tag (IData d) t r on m h = absurd (cc)
   replies e tag (Init i) t r on m h = absurd (cc)
@@ -141,7 +141,7 @@ module _ (clock : ℕ) where
   replies e tag (IForwardTsn d) t r on m h = absurd (cc)
   replies e tag (Unknown k f w) t r on m h = absurd (cc)
 
-  pub openings_keep : (tag : ℕ) → Keeps tag Unmet (λ x. is_opening x ≡ true) (λ r. AreOpening r.chunks)
+  pub openings_keep : (tag : ℕ) → Keeps tag Unmet (λ x. opens_or_ends x ≡ true) (λ r. AreOpening r.chunks)
   openings_keep tag = record {
     goes = λ e x t on m act. rests t (goes e tag x t on m act);
     ends = λ e x t on m act. ends e tag x t on m act;

@@ -17,7 +17,7 @@ use Rattle.sctp_model.specs.end.Closing.{hears}
 use Rattle.sctp_model.specs.end.Moments.{after_giving_up, due_again, rung, ring, rung_all, all_alarms, passed, ticked}
 use Rattle.sctp_model.specs.end.UserCalls.{NotOpen, is_established, send_answer, is_open, abandoned_at, Takes, shut_in, shut, AbortAnswer, Aborts, NoPeer, TooLong, abort_leaves, called}
 use Rattle.sctp_safety.proofs.Basics.{Has-cases}
-use Rattle.sctp_safety.proofs.runs.Pair.{is_opening, AreOpening}
+use Rattle.sctp_safety.proofs.runs.Pair.{opens_or_ends, AreOpening}
 use Rattle.sctp_safety.proofs.runs.Answers.{one_opening}
 use Rattle.sctp_safety.proofs.runs.Unmet.{IsBlank, IsUnmet, alike, timed_fresh, open_now, still, over, rests}
 
@@ -93,7 +93,7 @@ module _ (clock : ℕ) where
   is_echo_slot ShutdownSlot = false
   is_echo_slot ShutdownAckSlot = false
 
-  one_put : (s : Slot) (e : EndView) (x : ChunkMeaning) (t : EndView) → is_echo_slot s ≡ true → Unmet e → Wants e s x t → Unmet t × (is_opening x ≡ true)
+  one_put : (s : Slot) (e : EndView) (x : ChunkMeaning) (t : EndView) → is_echo_slot s ≡ true → Unmet e → Wants e s x t → Unmet t × (opens_or_ends x ≡ true)
   unfolding is_echo_slot
   one_put s e x t on m (EchoCookie _ _ _) = (still clock e t m (alike e t refl refl refl refl refl) m.unopened, refl)
   one_put s e x t on m AckCookie = absurd (cc)
@@ -105,10 +105,10 @@ module _ (clock : ℕ) where
   one_put s e x t on m AnswerShutdown = absurd (cc)
 
   -- all opening, and one more
-  opening_push : (xs : List ChunkMeaning) (x : ChunkMeaning) → AreOpening xs → is_opening x ≡ true → AreOpening (xs ++ x ∷ [])
+  opening_push : (xs : List ChunkMeaning) (x : ChunkMeaning) → AreOpening xs → opens_or_ends x ≡ true → AreOpening (xs ++ x ∷ [])
   opening_push xs x all one y has = go (Has-cases xs (x ∷ []) y has)
     where
-      go : Has xs y ⊎ Has (x ∷ []) y → is_opening y ≡ true
+      go : Has xs y ⊎ Has (x ∷ []) y → opens_or_ends y ≡ true
       go (inl h) = all y h
       go (inr h) = one_opening x one y h
 
