@@ -1,13 +1,24 @@
 pub mod EndWords
-mod Written
+pub mod Written
 pub mod Sides
 pub mod Strangers
 pub mod Turns
 pub mod TurnsOfTime
-mod OwnOptions
+pub mod OwnOptions
 pub mod Diagram
 pub mod DiagramRuns
-mod OpeningWorlds
+pub mod AnswerToInit
+pub mod Answering
+pub mod CallerFacts
+pub mod OneEnd
+pub mod Ground
+pub mod Met
+pub mod Fronts
+pub mod Apart
+pub mod CallerBuilds
+pub mod Story
+pub mod EndsAgree
+pub mod OpeningWorlds
 pub mod Handshake
 pub mod ClosingRun
 pub mod GivesUp

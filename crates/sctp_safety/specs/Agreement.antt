@@ -1,16 +1,16 @@
 -- What the opening gives, whichever way two ends are opened: once both have an association they agree on everything that it stands on (RFC 9260, 5.1).
-use Rattle.std.specs.Prelude.{◌≡◌, ℕ, ◌<◌, ◌⊎◌, true, false, List, Some}
+use Rattle.std.specs.Prelude.{◌≡◌, ℕ, ◌<◌, ◌⊎◌, Bool, true, false, List, Some}
 use Rattle.sctp_model.specs.Lists.{Has}
 use Rattle.sctp_model.specs.Chunk.{CookieEcho}
 use Rattle.sctp_model.specs.Packet.{Packet}
 use Rattle.sctp_model.specs.end.Sealing.{Body, Sealing}
-use Rattle.sctp_model.specs.end.EndView.{Terms, Phase, Listening, Echoing, Open, Listener}
+use Rattle.sctp_model.specs.end.EndView.{Terms, Phase, Listening, Echoing, Open, Over, Listener}
 use Rattle.sctp_model.specs.end.Opening.{terms_of_body}
 use Rattle.sctp_model.specs.end.UserCalls.{is_open}
 use Rattle.sctp_model.specs.World.{Side, World, end_of, Setup}
 use Rattle.sctp_model.specs.Events.{Event}
 use Rattle.sctp_model.specs.Premises.{drawn_in, IsReachable}
-use Rattle.sctp_safety.specs.States.{has_begun, has_agreed}
+use Rattle.sctp_safety.specs.States.{has_agreed}
 use Rattle.sctp_safety.specs.Strangers.{IsDrawn}
 
 -- What the one sends with the other receives with, and the same is turned on: first TSNs, streams, I-DATA, partial reliability
@@ -35,21 +35,27 @@ pub record AreApart (w : World) : Type 0 where
   pub listens : w.b.phase ≡ Listening
   pub unopened : is_open w.a.phase ≡ false
 
+-- the end is open, or it is over
+abbrev pub was_open : Phase → Bool
+was_open (Open t g) = true
+was_open (Over why) = true
+was_open h = false
+
 -- The association has, or had, both its ends, and they agree, for good.
 pub record HaveMet (w : World) : Type 0 where
   pub caller : has_agreed w.a.phase ≡ true
-  pub listener : has_begun w.b.phase ≡ true
+  pub listener : was_open w.b.phase ≡ true
   pub terms : AreAgreed w.a.terms w.b.terms
   pub tags : AreEachOthers w.a.phase w.b.phase
   pub closed_to_opening : w.openable ≡ false
 
 -- What the opening keeps in every world, as far as the tags go that were drawn: the ends go by drawn tags and the one seal, and every cookie of the
--- caller's that would open says what the caller has joined on. So the ends are apart, or they have met.
+-- caller's that would open at a listener says what the caller has joined on. So the ends are apart, or they have met.
 pub record IsOpening (s : Setup) (drawn : List ℕ) (w : World) : Type 0 where
   pub drawn_tags : (x : Side) → IsDrawn drawn (end_of w x).phase
   pub one_seal : (x : Side) (z : Sealing) → (end_of w x).role ≡ Listener z → z ≡ s.sealing
-  pub cookies : w.b.phase ≡ Listening → (p : Packet) (cookie : List ℕ) (b : Body) → Has w.from_a p → Has p.chunks (CookieEcho cookie) → s.sealing.opened cookie ≡ Some b →
-      (has_agreed w.a.phase ≡ true) × AreAgreed w.a.terms (terms_of_body b)
+  pub cookies : w.b.phase ≡ Listening → (p : Packet) (cookie : List ℕ) (b : Body) → Has w.from_a p → Has p.chunks (CookieEcho cookie) →
+      s.sealing.opened cookie ≡ Some b → (has_agreed w.a.phase ≡ true) × AreAgreed w.a.terms (terms_of_body b)
   pub met : AreApart w ⊎ HaveMet w
 
 -- THE ENDS AGREE: so it is in every world of every run that meets the premises.

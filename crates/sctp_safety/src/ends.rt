@@ -1,5 +1,6 @@
 //! What holds of one end, whatever comes to it.
 
+ghost use Rattle.sctp_safety.specs.Agreement.{EndsAgree};
 ghost use Rattle.sctp_safety.specs.Handshake.{AnAssociationCloses, AnAssociationOpens};
 ghost use Rattle.sctp_safety.specs.States.{ClosedForGood, EndsFollowTheDiagram};
 ghost use Rattle.sctp_safety.specs.Strangers.{StrangersChangeNothing};
@@ -27,4 +28,11 @@ pub fn an_association_closes()
 /// And an end that is closed stays closed, for the same reason, whatever comes and whatever its user calls.
 pub fn closed_for_good()
     ensures { ClosedForGood }
+{}
+
+/// Over every run of both ends that meets the premises, whichever way they are opened, however its packets are lost, repeated and reordered, and whatever
+/// strangers send: until the listener has opened a cookie the caller isn't open; from then on both agree, for good, on first TSNs, streams, I-DATA and partial
+/// reliability, and each goes by the other's tag (RFC 9260, 5.1 and 5.2).
+pub fn the_ends_agree()
+    ensures { EndsAgree }
 {}

@@ -43,7 +43,7 @@ path_begun : (h k : Phase) → IsPath h k → has_begun h ≡ true → has_begun
 path_begun h k (Here _) e = e
 path_begun h k (On _ m _ t rest) e = path_begun m k rest (turn_to_begun h m t)
 
-path_agreed : (h k : Phase) → IsPath h k → has_agreed h ≡ true → has_agreed k ≡ true
+pub path_agreed : (h k : Phase) → IsPath h k → has_agreed h ≡ true → has_agreed k ≡ true
 path_agreed h k (Here _) e = e
 path_agreed h k (On _ m _ t rest) e = path_agreed m k rest (turn_agreed h m t e)
 
@@ -131,12 +131,12 @@ left_later e x t (Acked u cookie _ q is configuration role moment terms phase) =
   terms = λ h. terms;
 }
 
-left_has : (e : EndView) (x : ChunkMeaning) (t : EndView) → IsLeft e x t → has_association e.phase ≡ true → has_association t.phase ≡ true
+pub left_has : (e : EndView) (x : ChunkMeaning) (t : EndView) → IsLeft e x t → has_association e.phase ≡ true → has_association t.phase ≡ true
 left_has e x t (Plainly _ p keeps) has = keeps has
 left_has e x t (Accepts m d cookie q is value) has = refl
 left_has e x t (Acked u cookie _ q is configuration role moment terms phase) has = subst (λ (k : Phase). has_association k ≡ true) (sym phase) refl
 
-acts_later : (tag : ℕ) (e : EndView) (b : Bool) (xs : List ChunkMeaning) (t : EndView) (v : Verdict) → has_association e.phase ≡ true → AllAct tag e b xs t v → IsLaterEnd e t
+pub acts_later : (tag : ℕ) (e : EndView) (b : Bool) (xs : List ChunkMeaning) (t : EndView) (v : Verdict) → has_association e.phase ≡ true → AllAct tag e b xs t v → IsLaterEnd e t
 acts_later tag e b xs t v has (NoneLeft _ _) = later_same e
 acts_later tag e b xs t v has (Next _ mid _ _ x ys _ act rest) =
     let l = goes_left e tag x mid act in

@@ -14,13 +14,13 @@ use Rattle.sctp_safety.proofs.machine.TurnsOfTime.{plain_ticked, plain_sent, pla
 use Rattle.sctp_safety.proofs.machine.Diagram.{later_same, later_on, plain_later, plain_unbegun, later_now, later_ticked, later_called, later_opened, arrives_later}
 
 -- while `open` is allowed nothing has begun
-abbrev IsFresh : World → Type 0
+abbrev pub IsFresh : World → Type 0
 IsFresh w = w.openable ≡ true → (w.a.phase ≡ Idle) × (w.b.phase ≡ Listening)
 
 -- what a step does to both ends
-record IsOnward (w v : World) : Type 0 where
-  later : (x : Side) → IsLaterEnd (end_of w x) (end_of v x)
-  fresh : IsFresh v
+pub record IsOnward (w v : World) : Type 0 where
+  pub later : (x : Side) → IsLaterEnd (end_of w x) (end_of v x)
+  pub fresh : IsFresh v
 
 -- the same ends
 record IsKept (w v : World) : Type 0 where
@@ -107,7 +107,7 @@ onward_arrives w s t l = onward_came w s t (later_on (end_of w s) (end_now w s) 
 
 -- ---- both ends act
 
-connect_idle : (h : Phase) → connect_answer h ≡ Called → h ≡ Idle
+pub connect_idle : (h : Phase) → connect_answer h ≡ Called → h ≡ Idle
 connect_idle Idle e = refl
 connect_idle Listening e = absurd (cc)
 connect_idle (Calling d) e = absurd (cc)
@@ -115,7 +115,7 @@ connect_idle (Echoing t xs) e = absurd (cc)
 connect_idle (Open t g) e = absurd (cc)
 connect_idle (Over why) e = absurd (cc)
 
-step_onward : (w : World) (e : Event) (o : Option Outcome) (v : World) → IsFresh w → Step w e o v → IsOnward w v
+pub step_onward : (w : World) (e : Event) (o : Option Outcome) (v : World) → IsFresh w → Step w e o v → IsOnward w v
 step_onward w e o v f (Opens x y may dx dy) = record { later = later; fresh = λ q. absurd (cc) }
   where
     later : (z : Side) → IsLaterEnd (end_of w z) (end_of v z)

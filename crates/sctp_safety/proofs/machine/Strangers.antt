@@ -6,11 +6,11 @@ use Rattle.sctp_model.specs.Chunk.{InitMeaning, ChunkMeaning, Data, IData, Init,
 use Rattle.sctp_model.specs.Packet.{Packet}
 use Rattle.sctp_model.specs.Places.{ArePlaced, is_misplaced}
 use Rattle.sctp_model.specs.end.Sealing.{Body, Sealing}
-use Rattle.sctp_model.specs.end.EndView.{Tags, Phase, Idle, Listening, Calling, Echoing, Open, Over, Role, Caller, Paired, Listener, EndView, has_association}
+use Rattle.sctp_model.specs.end.EndView.{Tags, Draw, Phase, Idle, Listening, Calling, Echoing, Open, Over, Role, Caller, Paired, Listener, EndView, has_association}
 use Rattle.sctp_model.specs.end.Opening.{Opens, Stale, Strange, is_addressed, body_read, age, COOKIE_LIFE}
-use Rattle.sctp_model.specs.end.Passing.{passes_tag, passes_first, passes_chunks, passes}
+use Rattle.sctp_model.specs.end.Passing.{passes_tag, passes_first, passes_chunks}
 use Rattle.sctp_model.specs.end.Strays.{Verdict, holds_abort, seal_at, listens, body_of, body_in, body_among}
-use Rattle.sctp_model.specs.end.Arriving.{AllAct, NoneLeft, Next, Last, Answered, Stopped, Elsewhere, NotOurs, Stray, Begins, Heard}
+use Rattle.sctp_model.specs.end.Arriving.{AllAct, NoneLeft, Next, Last, Answered, Stopped, Arrives, Elsewhere, NotOurs, Stray, Begins, Heard}
 use Rattle.sctp_model.specs.end.Arriving.{Over as Passes}
 use Rattle.sctp_model.specs.Premises.{IsBody, IsStranger}
 use Rattle.sctp_safety.specs.Strangers.{tags_of, IsDrawn, StrangersChangeNothing}
@@ -33,11 +33,11 @@ passing_is_own (Open t g) b n has e = either_tag t b n (eqb-true n (if b then t.
 passing_is_own (Over why) b n has e = absurd (cc)
 
 -- Every first chunk but an INIT goes by them.
-data GoesBy (h : Phase) (n : ℕ) : ChunkMeaning → Type 0 where
+pub data GoesBy (h : Phase) (n : ℕ) : ChunkMeaning → Type 0 where
   Zero : (m : InitMeaning) → GoesBy h n (Init m)
   Tag : (x : ChunkMeaning) (reflected : Bool) → passes_tag h reflected n ≡ true → GoesBy h n x
 
-goes_by : (h : Phase) (x : ChunkMeaning) (n : ℕ) → passes_first h x n ≡ true → GoesBy h n x
+pub goes_by : (h : Phase) (x : ChunkMeaning) (n : ℕ) → passes_first h x n ≡ true → GoesBy h n x
 goes_by h (Init m) n e = Zero m
 goes_by h (Abort b xs) n e = Tag _ b e
 goes_by h (ShutdownComplete b) n e = Tag _ b e
@@ -85,7 +85,7 @@ pub record IsFound (e : EndView) (tag : ℕ) (xs : List ChunkMeaning) (b : Body)
   pub opens : seal.opened cookie ≡ Some b
   pub addressed : is_addressed e tag b ≡ true
 
-listener_is : (h : Phase) (r : Role) (z : Sealing) → seal_at h r ≡ Some z → (h ≡ Listening) × (r ≡ Listener z)
+pub listener_is : (h : Phase) (r : Role) (z : Sealing) → seal_at h r ≡ Some z → (h ≡ Listening) × (r ≡ Listener z)
 listener_is Listening (Listener y) z e = let q : y ≡ z = cc in (refl, ap (λ (u : Sealing). Listener u) q)
 listener_is Listening Caller z e = absurd (cc)
 listener_is Listening Paired z e = absurd (cc)
@@ -127,22 +127,26 @@ found_is e tag (x ∷ xs) b h = go (holds_abort (x ∷ xs)) h
 
 -- ---- the law
 
-none_left : (tag : ℕ) (e t : EndView) (b : Bool) (v : Verdict) → AllAct tag e b [] t v → t ≡ e
+pub none_left : (tag : ℕ) (e t : EndView) (b : Bool) (v : Verdict) → AllAct tag e b [] t v → t ≡ e
 none_left tag e t b v (NoneLeft _ _) = refl
+
+-- where a packet begins with an INIT, that is all of it
+abbrev pub IsInitAlone : List ChunkMeaning → Type 0
+IsInitAlone ys = (m : InitMeaning) (xs : List ChunkMeaning) → ys ≡ Init m ∷ xs → xs ≡ []
 
 module _ (s : Sealing) (drawn : List ℕ) (e t : EndView) (p : Packet) (v : Verdict) (strange : IsStranger s drawn p) (own : IsDrawn drawn e.phase) where
   -- where there is an association
-  heard_stays : has_association e.phase ≡ true → (xs : List ChunkMeaning) → ArePlaced xs → passes_chunks e.phase p.tag xs ≡ true → AllAct p.tag e false xs t v → t ≡ e
-  heard_stays has [] placed may all = none_left p.tag e t false v all
-  heard_stays has (x ∷ xs) placed may all = by x (goes_by e.phase x p.tag may) placed all
+  heard_stays : has_association e.phase ≡ true → (xs : List ChunkMeaning) → IsInitAlone xs → passes_chunks e.phase p.tag xs ≡ true → AllAct p.tag e false xs t v → t ≡ e
+  heard_stays has [] alone may all = none_left p.tag e t false v all
+  heard_stays has (x ∷ xs) alone may all = by x (goes_by e.phase x p.tag may) alone all
     where
-      by : (y : ChunkMeaning) → GoesBy e.phase p.tag y → ArePlaced (y ∷ xs) → AllAct p.tag e false (y ∷ xs) t v → t ≡ e
+      by : (y : ChunkMeaning) → GoesBy e.phase p.tag y → IsInitAlone (y ∷ xs) → AllAct p.tag e false (y ∷ xs) t v → t ≡ e
       by y (Tag _ reflected through) stands acts = absurd (strange.untagged (own p.tag (passing_is_own e.phase reflected p.tag has through)))
       by y (Zero m) stands acts =
-          init_passed e t p.tag m v (subst (λ (ys : List ChunkMeaning). AllAct p.tag e false (Init m ∷ ys) t v) (init_alone m xs stands) acts)
+          init_passed e t p.tag m v (subst (λ (ys : List ChunkMeaning). AllAct p.tag e false (Init m ∷ ys) t v) (stands m xs refl) acts)
 
   -- no cookie of a stranger opens
-  nothing_found : ((z : Sealing) → e.role ≡ Listener z → z ≡ s) → (b : Body) → IsFound e p.tag p.chunks b → ⊥
+  pub nothing_found : ((z : Sealing) → e.role ≡ Listener z → z ≡ s) → (b : Body) → IsFound e p.tag p.chunks b → ⊥
   nothing_found one b f = strange.chunks (CookieEcho f.cookie) held (is_body (s.opened f.cookie) opens)
     where
       held : Has p.chunks (CookieEcho f.cookie)
@@ -155,11 +159,18 @@ module _ (s : Sealing) (drawn : List ℕ) (e t : EndView) (p : Packet) (v : Verd
       is_body (Some x) q = tt
       is_body None q = absurd (cc)
 
-pub strangers_change_nothing : StrangersChangeNothing
-strangers_change_nothing s drawn e d p t v strange placed own one (Elsewhere ports) = refl
-strangers_change_nothing s drawn e d p t v strange placed own one (NotOurs ports passes) = refl
-strangers_change_nothing s drawn e d p t v strange placed own one (Stray ports passes none closed) = refl
-strangers_change_nothing s drawn e d p t v strange placed own one (Begins b _ _ ports passes none opens acts) =
+-- So the end stays, even where a packet is cut before some chunk.
+pub stranger_stays : (s : Sealing) (drawn : List ℕ) (e : EndView) (d : Draw) (p : Packet) (t : EndView) (v : Verdict) →
+    IsStranger s drawn p → IsInitAlone p.chunks → IsDrawn drawn e.phase → ((z : Sealing) → e.role ≡ Listener z → z ≡ s) → Arrives e d p t v → t ≡ e
+stranger_stays s drawn e d p t v strange alone own one (Elsewhere ports) = refl
+stranger_stays s drawn e d p t v strange alone own one (NotOurs ports may) = refl
+stranger_stays s drawn e d p t v strange alone own one (Stray ports may none closed) = refl
+stranger_stays s drawn e d p t v strange alone own one (Begins b _ _ ports may none opens acts) =
     absurd (nothing_found s drawn e t p v strange own one b (found_is e p.tag p.chunks b opens))
-strangers_change_nothing s drawn e d p t v strange placed own one (Heard _ _ ports passes has acts) =
-    heard_stays s drawn e t p v strange own has p.chunks placed passes acts
+stranger_stays s drawn e d p t v strange alone own one (Heard _ _ ports may has acts) = heard_stays s drawn e t p v strange own has p.chunks alone may acts
+
+pub placed_alone : (ys : List ChunkMeaning) → ArePlaced ys → IsInitAlone ys
+placed_alone ys placed m xs is = init_alone m xs (subst ArePlaced is placed)
+
+pub strangers_change_nothing : StrangersChangeNothing
+strangers_change_nothing s drawn e d p t v strange placed own one arrives = stranger_stays s drawn e d p t v strange (placed_alone p.chunks placed) own one arrives

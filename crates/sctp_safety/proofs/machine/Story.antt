@@ -1,0 +1,262 @@
+-- The story of two ends: they are apart until they have met, step by step.
+use Rattle.std.proofs.Common.{◌≡◌, ℕ, ◌⊎◌, max, Bool, true, false, List, [], ◌∷◌, Option, Some, None, inl, inr, refl, sym, subst, ap, ◌∙◌}
+use Rattle.std.specs.Prelude.{◌<◌, min, if◌then◌else◌}
+use Rattle.sctp_model.specs.Lists.{Has}
+use Rattle.sctp_model.specs.Chunk.{ChunkMeaning, Init, CookieEcho}
+use Rattle.sctp_model.specs.Packet.{Packet}
+use Rattle.sctp_model.specs.end.Sealing.{Body}
+use Rattle.sctp_model.specs.end.EndView.{Configuration, Draw, Phase, Idle, Listening, Calling, Echoing, Open, EndView}
+use Rattle.sctp_model.specs.end.Configured.{IsConfiguration}
+use Rattle.sctp_model.specs.end.Strays.{Verdict, Taken, Dropped, Answer}
+use Rattle.sctp_model.specs.end.Arriving.{Arrives}
+use Rattle.sctp_model.specs.end.Building.{Builds, Sleeps, Waits, Calls, Echoes, Fills, packet_of}
+use Rattle.sctp_model.specs.end.Building.{Ends as EndsFull}
+use Rattle.sctp_model.specs.end.Moments.{ticked}
+use Rattle.sctp_model.specs.end.UserCalls.{called, send_answer, shut, Aborts, TooLong, abort_answer, abort_answer_to, abort_leaves, abort_packet, peer_tag}
+use Rattle.sctp_model.specs.World.{Side, A, B, World, end_of, end_now, came, Setup, configuration_of}
+use Rattle.sctp_model.specs.Events.{Event, Outcome, with_verdict}
+use Rattle.sctp_model.specs.Steps.{opened, terms_alike, IsDraw, is_answer, cut, Step, Opens, OpenRefused, TimePasses, Draws, Connects, ConnectRefused, BuildsOne, BuildsNone, Comes, IsAbsent, Unread, Sends, Abandons, TakesOne, ShutsDown, AbortsIt, CutFirst, CutLater, NoMemory}
+use Rattle.sctp_safety.specs.States.{has_begun, has_agreed}
+use Rattle.sctp_safety.specs.Strangers.{IsDrawn}
+use Rattle.sctp_safety.specs.Agreement.{AreAgreed, AreEachOthers, was_open}
+use Rattle.sctp_safety.proofs.machine.Turns.{IsPlainTurn, Stays, IsPlain, plain_same, builds_plain}
+use Rattle.sctp_safety.proofs.machine.TurnsOfTime.{plain_ticked, plain_sent, plain_abandoned, plain_taken, plain_shut, plain_aborted}
+use Rattle.sctp_safety.proofs.machine.Diagram.{plain_unbegun}
+use Rattle.sctp_safety.proofs.machine.DiagramRuns.{IsFresh, connect_idle}
+use Rattle.sctp_safety.proofs.machine.AnswerToInit.{both_some}
+use Rattle.sctp_safety.proofs.machine.Answering.{one_chunk}
+use Rattle.sctp_safety.proofs.machine.CallerFacts.{InitFits, AckFits, IsFit, IsCaller, caller_gives, caller_turns}
+use Rattle.sctp_safety.proofs.machine.CallerBuilds.{caller_builds}
+use Rattle.sctp_safety.proofs.machine.OneEnd.{bag_with, IsAt, at_end, at_log, at_packet, at_came, answer_of, at_verdict, abort_of, at_abort}
+use Rattle.sctp_safety.proofs.machine.Ground.{IsFine, IsGrounded}
+use Rattle.sctp_safety.proofs.machine.Met.{IsMet, met_step}
+use Rattle.sctp_safety.proofs.machine.Fronts.{From, from_whole, from_cut}
+use Rattle.sctp_safety.proofs.machine.Apart.{IsApart, IsQuiet, IsGiven, caller_comes, caller_quiet, Listened, Listens, Joins, given_quiet, listens_on, listener_comes}
+
+-- The listener listens and the caller isn't open, or both have met.
+pub data IsStory (s : Setup) (drawn : List ℕ) (w : World) : Type 0 where
+  AreApart : IsApart s drawn w.a w.b w.from_a w.from_b → IsStory s drawn w
+  HaveMet : IsMet drawn w → IsStory s drawn w
+
+-- an end that listens builds nothing
+sleeps : (e : EndView) (zs : List ChunkMeaning) (t : EndView) → e.phase ≡ Listening → Builds e zs t → zs ≡ []
+sleeps e zs t is (Sleeps _) = refl
+sleeps e zs t is (Waits _ _ _) = refl
+sleeps e zs t is (Calls d at due) = let q : Listening ≡ Calling d = sym is ∙ at in absurd (cc)
+sleeps e zs t is (Echoes u xs _ full _ at puts) = let q : Listening ≡ Echoing u xs = sym is ∙ at in absurd (cc)
+sleeps e zs t is (EndsFull u g _ _ at puts) = let q : Listening ≡ Open u g = sym is ∙ at in absurd (cc)
+sleeps e zs t is (Fills u g _ x at puts) = let q : Listening ≡ Open u g = sym is ∙ at in absurd (cc)
+
+-- what the user's abort gives opens nothing
+abort_quiet : (e : EndView) (r : List ℕ) → IsQuiet (abort_of (abort_answer e r))
+abort_quiet e r = go (peer_tag e.phase)
+  where
+    by : (n : ℕ) (b : Bool) → IsQuiet (abort_of (if b then Aborts (abort_packet e n r) else TooLong))
+    by n true = one_chunk e.configuration n _ refl
+    by n false = tt
+
+    go : (o : Option ℕ) → IsQuiet (abort_of (abort_answer_to e r o))
+    go None = tt
+    go (Some n) = by n _
+
+module _ (s : Setup) (drawn : List ℕ) (w : World) (ground : IsGrounded s drawn w) (apart : IsApart s drawn w.a w.b w.from_a w.from_b) where
+  -- ---- one end acts
+
+  -- the caller
+  at_caller : (v : World) (t : EndView) (given : Option Packet) → IsAt w v A t given → IsCaller s drawn (bag_with w.from_a given) w.from_b t → IsStory s drawn v
+  at_caller v t given at c = AreApart (record {
+    listens = subst (λ (e : EndView). e.phase ≡ Listening) (sym at.there) apart.listens;
+    caller = subst (λ (e : EndView). IsCaller s drawn v.from_a v.from_b e) (sym at.here)
+        (subst (λ (ps : List Packet). IsCaller s drawn ps v.from_b t) (sym at.bag) (subst (λ (ps : List Packet). IsCaller s drawn (bag_with w.from_a given) ps t) (sym at.bag_there) c));
+    answers = λ p x h. apart.answers p x (subst (λ (ps : List Packet). Has ps p) at.bag_there h);
+  })
+
+  -- the listener
+  at_listener : (v : World) (t : EndView) (given : Option Packet) → IsAt w v B t given → v.openable ≡ false ⊎ (t.phase ≡ Listening) → Listened s drawn w ground apart t given → IsStory s drawn v
+  at_listener v t given at may (Listens is c answers) = AreApart (record {
+    listens = subst (λ (e : EndView). e.phase ≡ Listening) (sym at.here) is;
+    caller = subst (λ (e : EndView). IsCaller s drawn v.from_a v.from_b e) (sym at.there)
+        (subst (λ (ps : List Packet). IsCaller s drawn v.from_a ps w.a) (sym at.bag) (subst (λ (ps : List Packet). IsCaller s drawn ps (bag_with w.from_b given) w.a) (sym at.bag_there) c));
+    answers = λ p x h. answers p x (subst (λ (ps : List Packet). Has ps p) at.bag h);
+  })
+  at_listener v t given at (inl closed) (Joins agreed opened terms tags drawn_tags) = HaveMet (record {
+    met = record {
+      caller = subst (λ (e : EndView). has_agreed e.phase ≡ true) (sym at.there) agreed;
+      listener = subst (λ (e : EndView). was_open e.phase ≡ true) (sym at.here) opened;
+      terms = subst (λ (e : EndView). AreAgreed v.a.terms e.terms) (sym at.here) (subst (λ (e : EndView). AreAgreed e.terms t.terms) (sym at.there) terms);
+      tags = subst (λ (e : EndView). AreEachOthers v.a.phase e.phase) (sym at.here) (subst (λ (e : EndView). AreEachOthers e.phase t.phase) (sym at.there) tags);
+      closed_to_opening = closed;
+    };
+    tags = each;
+  })
+    where
+      each : (x : Side) → IsDrawn drawn (end_of v x).phase
+      each A = subst (λ (e : EndView). IsDrawn drawn e.phase) (sym at.there) apart.caller.drawn_tags
+      each B = subst (λ (e : EndView). IsDrawn drawn e.phase) (sym at.here) drawn_tags
+  at_listener v t given at (inr is) (Joins agreed opened terms tags drawn_tags) =
+      let q : false ≡ true = subst (λ (h : Phase). was_open h ≡ true) is opened in absurd (cc)
+
+  -- a plain turn of either, and what it gives
+  at_plain : (v : World) (x : Side) (t : EndView) (given : Option Packet) → IsAt w v x t given → t.configuration ≡ (end_of w x).configuration → t.terms ≡ (end_of w x).terms →
+      IsPlainTurn (end_of w x).phase t.phase → IsQuiet given → IsStory s drawn v
+  at_plain v A t given at same terms turn quiet = at_caller v t given at (gives given quiet)
+    where
+      c : IsCaller s drawn w.from_a w.from_b t
+      c = caller_turns s drawn w.from_a w.from_b w.a t same terms turn apart.caller
+
+      gives : (o : Option Packet) → IsQuiet o → IsCaller s drawn (bag_with w.from_a o) w.from_b t
+      gives None off = c
+      gives (Some p) off = caller_gives s drawn w.from_a w.from_b t p c (λ m h. let q = off (Init m) h in absurd (cc)) (λ xs b h o. let q = off (CookieEcho xs) h in absurd (cc))
+  at_plain v B t given at same terms turn quiet = at_listener v t given at (inr is) (listens_on s drawn w ground apart t given is (gives given quiet))
+    where
+      is : t.phase ≡ Listening
+      is = plain_unbegun w.b.phase t.phase turn (subst (λ (h : Phase). has_begun h ≡ false) (sym apart.listens) refl) ∙ apart.listens
+
+      gives : (o : Option Packet) → IsQuiet o → (p : Packet) → o ≡ Some p → IsGiven s drawn w ground apart p
+      gives None off p e = absurd (cc)
+      gives (Some r) off p e = let q : r ≡ p = cc in subst (IsGiven s drawn w ground apart) q (given_quiet s drawn w ground apart r off)
+
+  by_plain : (v : World) (x : Side) (t : EndView) (given : Option Packet) → IsAt w v x t given → IsPlain (end_of w x) t → IsQuiet given → IsStory s drawn v
+  by_plain v x t given at p quiet = at_plain v x t given at p.configuration p.terms p.turn quiet
+
+  now_plain : (v : World) (x : Side) (t : EndView) (given : Option Packet) → IsAt w v x t given → IsPlain (end_now w x) t → IsQuiet given → IsStory s drawn v
+  now_plain v x t given at p quiet = at_plain v x t given at p.configuration p.terms p.turn quiet
+
+  -- ---- packets
+
+  builds_one : (v : World) (x : Side) (y : ChunkMeaning) (ys : List ChunkMeaning) (t : EndView) → IsAt w v x t (Some (packet_of (end_of w x) (y ∷ ys))) →
+      Builds (end_now w x) (y ∷ ys) t → IsStory s drawn v
+  builds_one v A y ys t at b =
+      at_caller v t (Some (packet_of w.a (y ∷ ys))) at
+      (caller_builds s drawn w.from_a w.from_b (end_now w A) (y ∷ ys) t (packet_of w.a (y ∷ ys)) refl b
+      (caller_turns s drawn w.from_a w.from_b w.a (end_now w A) refl refl (Stays w.a.phase) apart.caller))
+  builds_one v B y ys t at b = let q = sleeps (end_now w B) (y ∷ ys) t apart.listens b in absurd (cc)
+
+  module _ (configured : (x : Side) → IsConfiguration (configuration_of s x)) where
+    -- a packet comes whole
+    comes : (v : World) (x : Side) (q : Packet) (t : EndView) (d : Verdict) → IsAt w v x t (answer_of d) → v.openable ≡ false → From s drawn w x q → Arrives (end_now w x) w.draw q t d →
+        IsStory s drawn v
+    comes v A q t d at closed from arrives = at_caller v t (answer_of d) at (gives (answer_of d) (caller_quiet s drawn w ground apart q t d arrives))
+      where
+        c : IsCaller s drawn w.from_a w.from_b t
+        c = caller_comes s drawn w ground apart q t d from arrives
+
+        gives : (o : Option Packet) → IsQuiet o → IsCaller s drawn (bag_with w.from_a o) w.from_b t
+        gives None off = c
+        gives (Some p) off = caller_gives s drawn w.from_a w.from_b t p c (λ m h. let q = off (Init m) h in absurd (cc)) (λ xs b h o. let q = off (CookieEcho xs) h in absurd (cc))
+    comes v B q t d at closed from arrives = at_listener v t (answer_of d) at (inl closed) (listener_comes s drawn w ground apart configured q t d from arrives)
+
+    -- or cut, and what it leaves is told to nobody
+    comes_cut : (v : World) (x : Side) (q : Packet) (t : EndView) (d : Verdict) → IsAt w v x t None → v.openable ≡ false → is_answer d ≡ false → From s drawn w x q →
+        Arrives (end_now w x) w.draw q t d → IsStory s drawn v
+    comes_cut v x q t Taken at closed untold from arrives = comes v x q t Taken at closed from arrives
+    comes_cut v x q t (Dropped n) at closed untold from arrives = comes v x q t (Dropped n) at closed from arrives
+    comes_cut v x q t (Answer p) at closed untold from arrives = absurd (cc)
+
+    -- ---- every step
+
+    closed_verdict : (x : Side) (t : EndView) (d : Verdict) → (with_verdict (came w x t) x d).openable ≡ false
+    closed_verdict A t Taken = refl
+    closed_verdict A t (Dropped n) = refl
+    closed_verdict A t (Answer p) = refl
+    closed_verdict B t Taken = refl
+    closed_verdict B t (Dropped n) = refl
+    closed_verdict B t (Answer p) = refl
+
+    closed_came : (x : Side) (t : EndView) → (came w x t).openable ≡ false
+    closed_came A t = refl
+    closed_came B t = refl
+
+    -- the ends are opened without packets
+    opens : (x y : Draw) → Has drawn x.tag → Has drawn y.tag → IsMet drawn (record w { a = opened w.a.configuration x y; b = opened w.b.configuration y x; openable = false })
+    opens x y hx hy = record {
+      met = record {
+        caller = refl;
+        listener = refl;
+        terms = subst (λ (c : Configuration). AreAgreed (terms_alike c x y) (terms_alike w.b.configuration y x)) (sym (ground.ends A).configuration)
+            (subst (λ (c : Configuration). AreAgreed (terms_alike (configuration_of s A) x y) (terms_alike c y x)) (sym (ground.ends B).configuration) alike);
+        tags = (refl, refl);
+        closed_to_opening = refl;
+      };
+      tags = tags;
+    }
+      where
+        some : 0 < min (configuration_of s A).outbound (configuration_of s A).inbound
+        some = let c = configured A in both_some (configuration_of s A).outbound (configuration_of s A).inbound (c.outbound.0) (c.inbound.0)
+
+        alike : AreAgreed (terms_alike (configuration_of s A) x y) (terms_alike (configuration_of s B) y x)
+        alike = record { first_tsn = refl; first_tsn_back = refl; streams = refl; streams_back = refl; interleave = refl; partial = refl; some_streams = (some, some) }
+
+        either : (n : ℕ) → Has (x.tag ∷ y.tag ∷ []) n → Has drawn n
+        either n (inl e) = subst (Has drawn) e hx
+        either n (inr (inl e)) = subst (Has drawn) e hy
+        either n (inr (inr none)) = elim none [ ]
+
+        other_way : (n : ℕ) → Has (y.tag ∷ x.tag ∷ []) n → Has drawn n
+        other_way n (inl e) = subst (Has drawn) e hy
+        other_way n (inr (inl e)) = subst (Has drawn) e hx
+        other_way n (inr (inr none)) = elim none [ ]
+
+        tags : (z : Side) → IsDrawn drawn (end_of (record w { a = opened w.a.configuration x y; b = opened w.b.configuration y x; openable = false }) z).phase
+        tags A = either
+        tags B = other_way
+
+    -- the caller calls
+    calls : (d : Draw) → IsDraw d → Has drawn d.tag → w.a.phase ≡ Idle → IsCaller s drawn w.from_a w.from_b (called (end_now w A) d)
+    calls d dd tag is = record {
+      configuration = apart.caller.configuration;
+      unopened = refl;
+      calls = λ q. absurd (cc);
+      draws = λ x q. let r : d ≡ x = cc in subst IsDraw r dd;
+      drawn_tags = λ n h. own n h;
+      inits = λ p m h k. let none = subst (λ (j : Phase). InitFits s j m) is (apart.caller.inits p m h k) in elim none [ ];
+      acks = λ p m h t k. let none = subst (λ (j : Phase). AckFits s drawn j m) is (apart.caller.acks p m h t k) in elim none [ ];
+      echoed = λ p xs b h k o. absurd (never b (apart.caller.echoed p xs b h k o));
+      echoes = λ u xs b q o. absurd (cc);
+    }
+      where
+        own : (n : ℕ) → Has (d.tag ∷ []) n → Has drawn n
+        own n (inl e) = subst (Has drawn) e tag
+        own n (inr none) = elim none [ ]
+
+        never : (b : Body) → IsFit drawn w.a b → ⊥
+        never b f = let q : false ≡ true = sym (ap has_agreed is) ∙ f.agreed in absurd (cc)
+
+    apart_step : (e : Event) (o : Option Outcome) (v : World) → IsFine s drawn e → Step w e o v → IsStory s drawn v
+    apart_step e o v fine (Opens x y may dx dy) = HaveMet (opens x y (fine.draws x.tag (inl refl)) (fine.draws y.tag (inr (inl refl))))
+    apart_step e o v fine (OpenRefused x y closed) = AreApart apart
+    apart_step e o v fine (TimePasses m small) = AreApart (record {
+      listens = plain_unbegun w.b.phase _ (plain_ticked w.b (max w.clock m)).turn (subst (λ (h : Phase). has_begun h ≡ false) (sym apart.listens) refl) ∙ apart.listens;
+      caller =
+          let p = plain_ticked w.a (max w.clock m) in
+          caller_turns s drawn w.from_a w.from_b w.a (ticked w.a (max w.clock m)) p.configuration p.terms p.turn apart.caller;
+      answers = apart.answers;
+    })
+    apart_step e o v fine (Draws d dd) = AreApart apart
+    apart_step e o v fine (Connects d dd answer) = AreApart (record {
+      listens = apart.listens;
+      caller = calls d dd (fine.draws d.tag (inl refl)) (connect_idle w.a.phase answer);
+      answers = apart.answers;
+    })
+    apart_step e o v fine (ConnectRefused d answer) = AreApart apart
+    apart_step e o v fine (BuildsOne x y ys t b) = builds_one v x y ys t (at_packet w x t _) b
+    apart_step e o v fine (BuildsNone x t b) = now_plain v x t None (at_end w x t) (builds_plain (end_now w x) [] t b) tt
+    apart_step e o v fine (Comes _ x p t d brings arrives) = comes v x p t d (at_verdict w x t d) (closed_verdict x t d) (from_whole s drawn w e x p fine brings) arrives
+    apart_step e o v fine (IsAbsent x n none) = AreApart apart
+    apart_step e o v fine (Unread x) = now_plain v x (end_now w x) None (at_came w x (end_now w x)) (plain_same (end_now w x)) tt
+    apart_step e o v fine (Sends x c) = by_plain v x _ None (at_log w x _ _) (plain_sent (end_of w x) c (send_answer (end_of w x) c)) tt
+    apart_step e o v fine (Abandons x k) = by_plain v x _ None (at_log w x _ _) (plain_abandoned (end_of w x) k) tt
+    apart_step e o v fine (TakesOne x n h t takes) = by_plain v x t None (at_end w x t) (plain_taken (end_of w x) n h t takes) tt
+    apart_step e o v fine (ShutsDown x) = by_plain v x (shut (end_of w x)) None (at_end w x _) (plain_shut (end_of w x)) tt
+    apart_step e o v fine (AbortsIt x r) =
+        by_plain v x (abort_leaves (abort_answer (end_of w x) r) (end_of w x)) (abort_of (abort_answer (end_of w x) r)) (at_abort w x _ _) (plain_aborted (end_of w x) r) (abort_quiet (end_of w x) r)
+    apart_step e o v fine (CutFirst _ x p brings) = now_plain v x (end_now w x) None (at_came w x (end_now w x)) (plain_same (end_now w x)) tt
+    apart_step e o v fine (CutLater _ x p y front back c t d brings part arrives untold) =
+        comes_cut v x (cut p (y ∷ front)) t d (at_came w x t) (closed_came x t) untold (from_cut s drawn w e x p y front back c fine brings part) arrives
+    apart_step e o v fine (NoMemory _ other_event) = AreApart apart
+
+-- Whichever step comes, the story goes on.
+pub story_step : (s : Setup) (drawn : List ℕ) → ((x : Side) → IsConfiguration (configuration_of s x)) → (w : World) (e : Event) (o : Option Outcome) (v : World) →
+    IsFine s drawn e → IsGrounded s drawn w → IsFresh w → Step w e o v → IsStory s drawn w → IsStory s drawn v
+story_step s drawn configured w e o v fine ground fresh step (AreApart apart) = apart_step s drawn w ground apart configured e o v fine step
+story_step s drawn configured w e o v fine ground fresh step (HaveMet met) = HaveMet (met_step drawn w e o v fresh step met)
