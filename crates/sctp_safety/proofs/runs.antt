@@ -18,4 +18,4 @@ mod MetWorld
 mod MetSteps
 mod ApartWorld
 mod ApartSteps
-mod Safety
+pub mod Safety

@@ -10,3 +10,4 @@ pub mod Strangers
 pub mod States
 pub mod Handshake
 pub mod Agreement
+pub mod Runs

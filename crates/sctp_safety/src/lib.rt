@@ -7,6 +7,7 @@ mod ends;
 mod exact;
 mod laws;
 mod safety;
+mod two_ends;
 mod worlds;
 
 pub use ends::{
@@ -21,6 +22,7 @@ pub use exact::{
 };
 pub use laws::{skip_law, whole_law};
 pub use safety::{orderly_over_every_run, safe_over_every_run};
+pub use two_ends::two_ends_are_safe;
 pub use worlds::{
     a_message_arrives, every_event_is_answered, safe_in_every_run, safe_in_every_world,
 };

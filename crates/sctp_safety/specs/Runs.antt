@@ -1,0 +1,10 @@
+-- THE HEADLINE, of two ends over every run: whatever is called, built, delivered, lost, repeated, reordered or sent by strangers, however the ends were opened,
+-- and in whichever format and with whichever options they agreed.
+use Rattle.std.specs.Prelude.{List}
+use Rattle.sctp_model.specs.World.{World, Setup}
+use Rattle.sctp_model.specs.Events.{Event}
+use Rattle.sctp_model.specs.Premises.{IsReachable, IsSafeWorld}
+
+-- Both directions are safe in every world that a run reaches. The beginning of a run is a run, so this is each world of each run.
+abbrev pub TwoEndsAreSafe : Type 0
+TwoEndsAreSafe = (s : Setup) (events : List Event) (w : World) → IsReachable s events w → IsSafeWorld w
