@@ -11,7 +11,6 @@ use Rattle.sctp_model.specs.Pieces.{Piece}
 use Rattle.sctp_model.specs.Forward.{Skip, Forward, skipped}
 use Rattle.sctp_model.specs.ReceiverView.{ReceiverView, IsCumulative}
 use Rattle.sctp_model.specs.Receiving.{HasNoWholeWith, GivesAll}
-use Rattle.sctp_model.specs.Safe.{WasHanded}
 use Rattle.sctp_model.specs.receiver.Reading.{offset, index_at, is_behind, is_ahead, reference_in}
 use Rattle.sctp_model.specs.receiver.ForwardTaken.{ForwardAnswer, OutOfDate, Bad, Moved, names_other_stream, skips_read, jumped, stays_by, let_go, ForwardTaken}
 use Rattle.sctp_model.specs.receiver.Laws.{IsWaiting, IsIdle}
@@ -24,7 +23,7 @@ use Rattle.sctp_safety.proofs.Basics.{item_at-within, Has-filtered}
 use Rattle.sctp_safety.proofs.Taken.{leads_on, leads_by, giving_all_is_moves}
 use Rattle.sctp_safety.proofs.UsualLemmas.{good_usual}
 use Rattle.sctp_safety.proofs.NearReads.{ahead_is, near_16, near_32}
-use Rattle.sctp_safety.proofs.WaitedFor.{not_far_above, not_far_below}
+use Rattle.sctp_safety.proofs.WaitedFor.{not_far_above, begun_below, not_far_below}
 use Rattle.sctp_safety.proofs.ReadBounds.{cumulative_within, cum_within, passed_within, skip_within, next_within}
 use Rattle.sctp_safety.proofs.IdleLemmas.{still_waiting, IsGivenBelow, all_given}
 use Rattle.sctp_safety.proofs.PieceAnswers.{ahead_of}
@@ -112,7 +111,7 @@ module _ (w : Way) (m : ForwardMeaning) (usual : IsUsual w) (joined : IsJoined w
         where
           go : (x.point < j) ⊎ (j ≤ x.point) → w.receiver.next s ≤ y.number + 32767
           go (inl far) =
-              let h = not_far_below w.format w.sender w.receiver s (suc c) 32766 g.arranged g.held (omega (arith, window)) known j (suc y.number)
+              let h = not_far_below w.format w.sender w.receiver s g.arranged g.held known (suc c) 32766 (omega (arith, window)) j (suc y.number)
               (Part (ordered_lane s) (suc y.number) 0) there (refl, refl) (omega (arith, far, past)) l in
               omega (arith, h)
           go (inr near) =
@@ -122,14 +121,9 @@ module _ (w : Way) (m : ForwardMeaning) (usual : IsUsual w) (joined : IsJoined w
       below : w.receiver.next s < y.number + 2 ^ 15
       below = go (cases_lt (suc (suc y.number)) (w.receiver.next s))
         where
-          entry_of : WasHanded w.sender.plan w.receiver (ordered_lane s) (suc y.number) ⊎ (w.sender.abandoned (ordered_lane s) (suc y.number) ≡ true) →
-              (j : ℕ) × (entry_at w.sender.plan j ≡ Some (Part (ordered_lane s) (suc y.number) 0))
-          entry_of (inl (h, q, l, first)) = (h.first, first)
-          entry_of (inr gone) = let z = known (suc y.number) gone in g.arranged.begun (ordered_lane s) (suc y.number) z.0 z.1
-
           go : (suc (suc y.number) < w.receiver.next s) ⊎ (w.receiver.next s ≤ suc (suc y.number)) → w.receiver.next s < y.number + 2 ^ 15
           go (inr l) = omega (arith, l)
-          go (inl l) = let h = behind l (entry_of (g.held.told.passed s (suc y.number) (omega (arith, l)))) in omega (arith, h)
+          go (inl l) = let h = behind l (begun_below w.format w.sender w.receiver s g.arranged g.held known (suc y.number) (omega (arith, l))) in omega (arith, h)
 
   -- each number listed is read again
   skip_reads : (c : ℕ) → IsCumulative w.receiver c → c < x.point → (y : Skip) → Has x.skips y → ReadsSkip w.format w.receiver y

@@ -59,7 +59,7 @@ ordered_reads w c i n s e g idle counted cumulative past here of small = near_16
         go : (suc n < w.receiver.next s) ⊎ (w.receiver.next s ≤ suc n) → w.receiver.next s < n + 2 ^ 15
         go (inr l) = omega (arith, l)
         go (inl l) =
-            let h = not_far_below w.format w.sender w.receiver s c 32767 g.arranged g.held window known i n e here of past l in
+            let h = not_far_below w.format w.sender w.receiver s g.arranged g.held known c 32767 window i n e here of past l in
             omega (arith, h)
 
 -- The number of an entry past the cumulative index is read again, where the format has one.

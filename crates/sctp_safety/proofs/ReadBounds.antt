@@ -1,5 +1,5 @@
 -- How far the counts of a direction reach: no further than its plan, which is shorter than half the space of TSNs.
-use Rattle.std.proofs.Common.{◌≡◌, ℕ, zero, suc, ◌+◌, ◌<◌, ◌≤◌, ◌⊎◌, true, length, Some, inl, inr, refl, subst, arith}
+use Rattle.std.proofs.Common.{◌≡◌, ℕ, zero, suc, ◌<◌, ◌≤◌, ◌⊎◌, true, length, Some, inl, inr, refl, arith}
 use Rattle.std.proofs.lemmas.Bool.{cases_lt}
 use Rattle.sctp_model.specs.Format.{Lane, ordered_lane}
 use Rattle.sctp_model.specs.Plan.{Message, Part, entry_at, message_at}
@@ -41,11 +41,8 @@ module _ (w : Way) (g : Good w) where
 
   -- a message that has a number has fewer before it than the plan has entries
   pub number_within : (l : Lane) (n : ℕ) (m : Message) → message_at w.sender.plan l n ≡ Some m → n < length w.sender.plan.entries
-  number_within l n m named = go (g.arranged.begun l n m named) (lower_to (w.sender.plan.messages l) 0 n m (subst (λ (k : ℕ). message_at w.sender.plan l k ≡ Some m) z named))
+  number_within l n m named = go (g.arranged.begun l n m named) (lower_to (w.sender.plan.messages l) 0 n m (omega arith) named)
     where
-      z : n ≡ 0 + n
-      z = omega arith
-
       go : (i : ℕ) × (entry_at w.sender.plan i ≡ Some (Part l n 0)) → (y : Message) × (message_at w.sender.plan l 0 ≡ Some y) → n < length w.sender.plan.entries
       go (i, here) (y, first) = by n refl (g.arranged.begun l 0 y first)
         where

@@ -1,50 +1,56 @@
--- How far apart the numbers of a lane can be: no further than their indexes, since each message between has an entry between.
-use Rattle.std.proofs.Common.{◌≡◌, ℕ, zero, suc, ◌+◌, ◌-◌, ◌<◌, ◌≤◌, List, [], ◌∷◌, slice_get, Some, refl, sym, subst, arith}
+-- Numbers of a lane are spread over the plan: two of them lie no further from each other than their indexes.
+use Rattle.std.proofs.Common.{◌≡◌, ℕ, zero, suc, ◌+◌, ◌-◌, ◌<◌, ◌≤◌, List, [], ◌∷◌, length, slice_get, Some, refl, subst, arith}
 use Rattle.sctp_model.specs.Format.{Format, Lane}
 use Rattle.sctp_model.specs.Plan.{Entry, Part, Plan, entry_at, IsOf}
 use Rattle.sctp_safety.proofs.Facts.{Arranged}
+use Rattle.sctp_safety.proofs.Basics.{slice_get-within}
 use Rattle.sctp_safety.proofs.PlanLemmas.{message_of}
 use Rattle.sctp_safety.proofs.OrderlyPlan.{orderly_when_arranged}
 
--- where something stands in a list, something stands before it
-before_it : {A : Type 0} (xs : List A) (n : ℕ) (x : A) → slice_get xs (suc n) ≡ Some x → (y : A) × (slice_get xs n ≡ Some y)
-before_it [] n x h = absurd (cc)
-before_it (y ∷ ys) zero x h = (y, refl)
-before_it (y ∷ ys) (suc n) x h = before_it ys n x h
+-- ---- lists
 
--- every number up to one that a message has is a message's
-pub lower_to : {A : Type 0} (xs : List A) (n d : ℕ) (x : A) → slice_get xs (n + d) ≡ Some x → (y : A) × (slice_get xs n ≡ Some y)
-lower_to xs n zero x h =
-    let z : n + 0 ≡ n = omega arith in
-    (x, subst (λ (k : ℕ). slice_get xs k ≡ Some x) z h)
-lower_to xs n (suc d) x h =
-    let z : n + suc d ≡ suc (n + d) = omega arith in
-    let r = before_it xs (n + d) x (subst (λ (k : ℕ). slice_get xs k ≡ Some x) z h) in
-    lower_to xs n d r.0 r.1
+there_is : {A : Type 0} (xs : List A) (n : ℕ) → n < length xs → (x : A) × (slice_get xs n ≡ Some x)
+there_is [] n within = absurd (omega (arith, within))
+there_is (x ∷ xs) zero within = (x, refl)
+there_is (x ∷ xs) (suc n) within = there_is xs n (omega (arith, within))
 
--- by so many numbers and one, at least so many indexes and one
-spread_from : (f : Format) (p : Plan) → Arranged f p → (l : Lane) (n d i j : ℕ) (e g : Entry) →
-    entry_at p i ≡ Some e → IsOf l n e → entry_at p j ≡ Some g → IsOf l (suc (n + d)) g → i + suc d ≤ j
-spread_from f p a l n zero i j e g here of there og =
-    let c = (orderly_when_arranged f p a).counted in
-    let z : suc (n + 0) ≡ suc n = omega arith in
-    let below : i < j = c l n (suc n) (omega arith) i j e g here of there (subst (λ (k : ℕ). IsOf l k g) z og) in
-    omega arith
-spread_from f p a l n (suc d) i j e g here of there og =
-    let c = (orderly_when_arranged f p a).counted in
-    let z : suc (n + suc d) ≡ suc (suc (n + d)) = omega arith in
-    let o : IsOf l (suc (suc (n + d))) g = subst (λ (k : ℕ). IsOf l k g) z og in
-    let m = message_of f p a j g l (suc (suc (n + d))) there o in
-    let y = before_it (p.messages l) (suc (n + d)) m.0 m.1 in
-    let b = a.begun l (suc (n + d)) y.0 y.1 in
-    let far : i + suc d ≤ b.0 = spread_from f p a l n d i b.0 e (Part l (suc (n + d)) 0) here of b.1 (refl, refl) in
-    let below : b.0 < j = c l (suc (n + d)) (suc (suc (n + d))) (omega arith) b.0 j (Part l (suc (n + d)) 0) g b.1 (refl, refl) there o in
-    omega arith
+-- below a number that is in use each number is
+pub lower_to : {A : Type 0} (xs : List A) (low high : ℕ) (x : A) → low ≤ high → slice_get xs high ≡ Some x → (y : A) × (slice_get xs low ≡ Some y)
+lower_to xs low high x below there = let within = slice_get-within xs high x there in there_is xs low (omega (arith, below, within))
 
--- Entries of two numbers of a lane are at least as far apart as the numbers.
-pub spread : (f : Format) (p : Plan) → Arranged f p → (l : Lane) (n o i j : ℕ) (e g : Entry) →
-    entry_at p i ≡ Some e → IsOf l n e → entry_at p j ≡ Some g → IsOf l o g → n < o → i + (o - n) ≤ j
-spread f p a l n o i j e g here of there og less =
-    let z : suc (n + (o - suc n)) ≡ o = omega arith in
-    let h = spread_from f p a l n (o - suc n) i j e g here of there (subst (λ (k : ℕ). IsOf l k g) (sym z) og) in
-    omega arith
+-- ---- numbers that stand at places
+
+-- Where higher numbers stand at higher places, and each number stands somewhere that has one above it, places are as far apart as numbers.
+module _ (Stands : ℕ → ℕ → Type 0) (higher : (n o i j : ℕ) → n < o → Stands n i → Stands o j → i < j)
+    (lower : (o j : ℕ) → Stands (suc o) j → (i : ℕ) × Stands o i) where
+  pub places_apart : (steps n o i j : ℕ) → o ≡ n + suc steps → Stands n i → Stands o j → i + (o - n) ≤ j
+  places_apart zero n o i j is here there = omega (arith, is, higher n o i j (omega (arith, is)) here there)
+  places_apart (suc steps) n o i j is here there =
+      let one : o ≡ suc (o - 1) = omega (arith, is) in
+      let below = lower (o - 1) j (subst (λ (k : ℕ). Stands k j) one there) in
+      let far = places_apart steps n (o - 1) i below.0 (omega (arith, is)) here below.1 in
+      let near = higher (o - 1) o below.0 j (omega (arith, is)) below.1 there in
+      omega (arith, is, far, near)
+
+-- ---- a lane
+
+module _ (f : Format) (p : Plan) (arranged : Arranged f p) (l : Lane) where
+  -- the number's message has an entry there
+  StandsAt : ℕ → ℕ → Type 0
+  StandsAt n i = (e : Entry) × (entry_at p i ≡ Some e) × IsOf l n e
+
+  in_order : (n o i j : ℕ) → n < o → StandsAt n i → StandsAt o j → i < j
+  unfolding StandsAt
+  in_order n o i j less (e, here, own) (d, there, its) = (orderly_when_arranged f p arranged).counted l n o less i j e d here own there its
+
+  each_below : (o j : ℕ) → StandsAt (suc o) j → (i : ℕ) × StandsAt o i
+  unfolding StandsAt
+  each_below o j (d, there, its) =
+      let above = message_of f p arranged j d l (suc o) there its in
+      let named = lower_to (p.messages l) o (suc o) above.0 (omega arith) above.1 in
+      let first = arranged.begun l o named.0 named.1 in
+      (first.0, (Part l o 0, first.1, (refl, refl)))
+
+  pub spread : (n o i j : ℕ) (e d : Entry) → entry_at p i ≡ Some e → IsOf l n e → entry_at p j ≡ Some d → IsOf l o d → n < o → i + (o - n) ≤ j
+  unfolding StandsAt
+  spread n o i j e d here own there its less = places_apart StandsAt in_order each_below (o - suc n) n o i j (omega (arith, less)) (e, here, own) (d, there, its)
