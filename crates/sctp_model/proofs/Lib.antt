@@ -1,2 +1,5 @@
+pub mod NumberLemmas
+pub mod TypedLemmas
+pub mod TypedWriting
 pub mod sender
 pub mod receiver

@@ -1,4 +1,4 @@
--- What a chunk says, without where it lies in memory: plain numbers and lists (RFC 9260, 3.2 and 3.3).
+-- What chunks say, without where they lie in memory: plain numbers and lists (RFC 9260, 3.2 and 3.3; RFC 3758, 3.2; RFC 8260, 2).
 use Rattle.std.specs.Prelude.{ℕ, ◌+◌, ◌-◌, ◌*◌, ◌/◌, Bool, List, length}
 
 -- A piece of user data with its place (RFC 9260, 3.3.1; RFC 8260, 2.1). The number is that of its message
@@ -26,7 +26,8 @@ pub record SackMeaning : Type 0 where
   pub blocks : List BlockMeaning
   pub duplicates : List ℕ
 
--- What an end says of itself when an association begins (RFC 9260, 3.3.2 and 3.3.3). Its parameters are the bytes of their list.
+-- How an end offers to open an association, in INIT and in INIT ACK (RFC 9260, 3.3.2 and 3.3.3): its tag, its room in bytes, how many
+-- streams it sends on and how many it takes, its first TSN, and the bytes of its list of parameters.
 pub record InitMeaning : Type 0 where
   pub tag : ℕ
   pub rwnd : ℕ
@@ -35,32 +36,47 @@ pub record InitMeaning : Type 0 where
   pub tsn : ℕ
   pub parameters : List ℕ
 
--- An entry of a FORWARD: a stream, its kind, and the largest number skipped (RFC 3758, 3.2; RFC 8260, 2.3.1).
+-- The largest number given up of a stream's ordered or unordered messages (RFC 3758, 3.2; RFC 8260, 2.3.1).
 pub record SkipMeaning : Type 0 where
   pub stream : ℕ
   pub unordered : Bool
   pub number : ℕ
 
--- What a sender has given up: all up to the new cumulative TSN, and the numbers that it skips (RFC 3758, 3.2; RFC 8260, 2.3.1).
+-- A sender's point: its peer waits for nothing up to this TSN, nor for the messages up to these numbers (RFC 3758, 3.2; RFC 8260, 2.3.1).
 pub record ForwardMeaning : Type 0 where
   pub cumulative : ℕ
   pub skips : List SkipMeaning
 
--- A chunk (RFC 9260, 3.3; RFC 3758, 3.2; RFC 8260, 2.1 and 2.3.1). `Bool` is the flag T; parameters and causes are the bytes of their
--- list. One of an unknown type keeps its type, all its flags and its value (RFC 9260, 3.2).
+-- A chunk. Parameters and causes are the bytes of their list; `reflected` is the flag T: the packet has the tag that came, not the
+-- receiver's own.
 pub data ChunkMeaning : Type 0 where
-  Data IData : PieceMeaning → ChunkMeaning
-  Init InitAck : InitMeaning → ChunkMeaning
-  Sack : SackMeaning → ChunkMeaning
-  Heartbeat HeartbeatAck : (info : List ℕ) → ChunkMeaning
-  Abort : Bool → (causes : List ℕ) → ChunkMeaning
-  Shutdown : (cumulative : ℕ) → ChunkMeaning
+  -- user data, by SSN (RFC 9260, 3.3.1) and by MID (RFC 8260, 2.1)
+  Data : (piece : PieceMeaning) → ChunkMeaning
+  IData : (piece : PieceMeaning) → ChunkMeaning
+  -- the opening (RFC 9260, 3.3.2 and 3.3.3)
+  Init : (offer : InitMeaning) → ChunkMeaning
+  InitAck : (offer : InitMeaning) → ChunkMeaning
+  -- what was seen (3.3.4)
+  Sack : (seen : SackMeaning) → ChunkMeaning
+  -- asks for these bytes again, and the answer (3.3.5 and 3.3.6)
+  Heartbeat : (info : List ℕ) → ChunkMeaning
+  HeartbeatAck : (info : List ℕ) → ChunkMeaning
+  -- the association is over (3.3.7)
+  Abort : (reflected : Bool) → (causes : List ℕ) → ChunkMeaning
+  -- no more is sent, and all up to this TSN was seen (3.3.8); the answer (3.3.9)
+  Shutdown : (seen : ℕ) → ChunkMeaning
   ShutdownAck : ChunkMeaning
+  -- what was wrong (3.3.10)
   Error : (causes : List ℕ) → ChunkMeaning
+  -- the listener's cookie comes back, and is accepted (3.3.11 and 3.3.12)
   CookieEcho : (cookie : List ℕ) → ChunkMeaning
   CookieAck : ChunkMeaning
-  ShutdownComplete : Bool → ChunkMeaning
-  ForwardTsn IForwardTsn : ForwardMeaning → ChunkMeaning
+  -- the answer to SHUTDOWN ACK (3.3.13)
+  ShutdownComplete : (reflected : Bool) → ChunkMeaning
+  -- what was given up, by SSN (RFC 3758, 3.2) and by MID (RFC 8260, 2.3.1)
+  ForwardTsn : (point : ForwardMeaning) → ChunkMeaning
+  IForwardTsn : (point : ForwardMeaning) → ChunkMeaning
+  -- a type that has no case above: all of its flags, and its value (RFC 9260, 3.2)
   Unknown : (kind flags : ℕ) → (value : List ℕ) → ChunkMeaning
 
 -- ---- types and sizes

@@ -1,117 +1,90 @@
--- Lists of items with type and length: a chunk's parameters and causes (RFC 9260, 3.2.1 and 3.3.10).
-use Rattle.std.specs.Prelude.{◌≡◌, ℕ, zero, suc, ◌+◌, ◌<◌, ◌^◌, ◌⊎◌, Bool, true, false, if◌then◌else◌, ◌==◌, ◌&&◌, ◌||◌, nat_le, nat_lt, List, [], ◌∷◌, ◌++◌, length, drop, replicate, slice_range, Option, Some, None}
+-- Parameters and causes: lists of items that say their type and their length (RFC 9260, 3.2.1 and 3.3.10).
+use Rattle.std.specs.Prelude.{◌≡◌, ℕ, zero, suc, ◌+◌, ◌-◌, ◌<◌, ◌^◌, Bool, if◌then◌else◌, ◌==◌, ◌&&◌, ◌||◌, nat_le, List, [], ◌∷◌, ◌++◌, length, drop, replicate, slice_range, Option, Some, None, is_some, unwrap_or, option_map}
+use Rattle.std.specs.List.{AllByRecursion}
 use Rattle.sctp_model.specs.Chunk.{padded, padding_after}
 use Rattle.sctp_model.specs.Numbers.{u16_bytes, u16_at}
 
--- An item: its type and its value.
+-- ---- one item
+
+-- A parameter or a cause, without where it lies.
 pub record Typed : Type 0 where
   pub kind : ℕ
   pub value : List ℕ
 
--- its length field: header and value, without the padding behind them
+-- The length field counts the type, itself and the value, and none of the padding.
 abbrev pub typed_length : Typed → ℕ
-typed_length x = 4 + length x.value
+typed_length item = 4 + length item.value
 
--- its type and its length have 16 bits
-pub record IsTyped (x : Typed) : Type 0 where
-  pub kind : x.kind < 2 ^ 16
-  pub length : typed_length x < 2 ^ 16
+-- type and length are numbers of 16 bits
+pub record IsTyped (item : Typed) : Type 0 where
+  pub kind : item.kind < 2 ^ 16
+  pub length : typed_length item < 2 ^ 16
 
--- its bytes, without padding
+-- type, length and value, one behind the other
 abbrev pub typed_bytes : Typed → List ℕ
-typed_bytes x = u16_bytes x.kind ++ (u16_bytes (typed_length x) ++ x.value)
+typed_bytes item = u16_bytes item.kind ++ (u16_bytes (typed_length item) ++ item.value)
 
--- The bytes are these items. Each but the last has its padding, of any value; the last may have it.
-abbrev pub ReadsTyped : List ℕ → List Typed → Type 0
-ReadsTyped bytes [] = bytes ≡ []
-ReadsTyped bytes (x ∷ xs) =
-    IsTyped x × (((bytes ≡ typed_bytes x) × (xs ≡ []))
-    ⊎ ((padding rest : List ℕ) × (bytes ≡ typed_bytes x ++ (padding ++ rest)) × (length padding ≡ padding_after (typed_length x)) × ReadsTyped rest xs))
+-- ---- the grammar
 
--- bytes filled with zeros to a multiple of 4
+-- The bytes are this list: nothing; an item that ends them; or an item, its padding with any value, and a list. So the last item may
+-- have its padding, and need not.
+pub data ReadsTyped : List ℕ → List Typed → Type 0 where
+  Empty : ReadsTyped [] []
+  Ends : (item : Typed) → IsTyped item → ReadsTyped (typed_bytes item) (item ∷ [])
+  GoesOn : (item : Typed) (padding rest : List ℕ) (others : List Typed) → IsTyped item
+      → length padding ≡ padding_after (typed_length item) → ReadsTyped rest others
+      → ReadsTyped (typed_bytes item ++ (padding ++ rest)) (item ∷ others)
+
+-- zeros behind bytes, up to a multiple of 4
 abbrev pub filled : List ℕ → List ℕ
-filled bytes = bytes ++ replicate (padding_after (length bytes)) 0
+filled front = front ++ replicate (padding_after (length front)) 0
 
--- The bytes written for these items: the padding of each but the last is zero, the last one has none.
-abbrev pub WritesTyped : List ℕ → List Typed → Type 0
-WritesTyped bytes [] = bytes ≡ []
-WritesTyped bytes (x ∷ []) = IsTyped x × (bytes ≡ typed_bytes x)
-WritesTyped bytes (x ∷ y ∷ ys) =
-    IsTyped x × ((rest : List ℕ) × (bytes ≡ filled (typed_bytes x) ++ rest) × WritesTyped rest (y ∷ ys))
+-- the bytes written for a list: zeros fill each item before another one, and none stand behind the last
+abbrev pub written_typed : List Typed → List ℕ
+written_typed [] = []
+written_typed (item ∷ []) = typed_bytes item
+written_typed (item ∷ next ∷ others) = filled (typed_bytes item) ++ written_typed (next ∷ others)
 
--- ---- the same, read from left to right
+-- The bytes are those written for this list.
+pub record WritesTyped (bytes : List ℕ) (items : List Typed) : Type 0 where
+  pub bytes_are : bytes ≡ written_typed items
+  pub fit : AllByRecursion IsTyped items
 
--- what the first item's length field says
-abbrev pub stated : List ℕ → ℕ
-stated bytes = u16_at (drop 2 bytes)
+-- ---- the items of bytes, from left to right
 
--- The bytes begin with an item, behind which nothing is left or at least its padding.
+-- what the length field of an item says that begins here
+abbrev pub length_field : List ℕ → ℕ
+length_field bytes = u16_at (drop 2 bytes)
+
+-- An item begins here: the length covers its header, and behind it nothing is left, or its padding at least.
 unfoldable pub starts_typed : List ℕ → Bool
 starts_typed bytes =
-    nat_le 4 (length bytes) && (nat_le 4 (stated bytes) && ((stated bytes == length bytes) || nat_le (padded (stated bytes)) (length bytes)))
+    nat_le 4 (length_field bytes) && ((length bytes == length_field bytes) || nat_le (padded (length_field bytes)) (length bytes))
 
--- the first item
+-- the item that begins here
 abbrev pub typed_at : List ℕ → Typed
-typed_at bytes = record { kind = u16_at bytes; value = slice_range bytes 4 (stated bytes) }
+typed_at bytes = record { kind = u16_at bytes; value = slice_range bytes 4 (length_field bytes) }
 
--- what stands behind it and its padding
-abbrev pub after_typed : List ℕ → List ℕ
-after_typed bytes = drop (padded (stated bytes)) bytes
+-- The items, where so many bytes are still inside the item before or its padding. At each byte that isn't, one begins.
+abbrev pub items_after : (inside : ℕ) → List ℕ → Option (List Typed)
+items_after inside [] = Some []
+items_after (suc inside) (b ∷ bytes) = items_after inside bytes
+items_after zero (b ∷ bytes) =
+    if starts_typed (b ∷ bytes) then option_map (λ (others : List Typed). typed_at (b ∷ bytes) ∷ others) (items_after (padded (length_field (b ∷ bytes)) - 1) bytes)
+    else None
 
--- an item before those that follow, where they read
-abbrev pub before_typed : Typed → Option (List Typed) → Option (List Typed)
-before_typed x (Some xs) = Some (x ∷ xs)
-before_typed x None = None
-
--- at most this many items
-abbrev pub typed_within : ℕ → List ℕ → Option (List Typed)
-typed_within most [] = Some []
-typed_within zero (b ∷ bytes) = None
-typed_within (suc most) (b ∷ bytes) =
-    if starts_typed (b ∷ bytes) then before_typed (typed_at (b ∷ bytes)) (typed_within most (after_typed (b ∷ bytes))) else None
-
--- the items, where the bytes are a list
+-- the list that bytes are, if they are one
 unfoldable pub typed_of : List ℕ → Option (List Typed)
-typed_of bytes = typed_within (length bytes) bytes
-
--- they read as items
-abbrev pub is_list : Option (List Typed) → Bool
-is_list (Some xs) = true
-is_list None = false
-
--- the items, none where they do not read
-abbrev pub list_or_none : Option (List Typed) → List Typed
-list_or_none (Some xs) = xs
-list_or_none None = []
+typed_of bytes = items_after 0 bytes
 
 -- The bytes are a list.
 abbrev pub are_typed : List ℕ → Bool
-are_typed bytes = is_list (typed_of bytes)
+are_typed bytes = is_some (typed_of bytes)
 
--- The items of bytes that are a list.
+-- the items of a list
 abbrev pub typed_in : List ℕ → List Typed
-typed_in bytes = list_or_none (typed_of bytes)
+typed_in bytes = unwrap_or (typed_of bytes) []
 
--- ---- as it is written
-
--- all of these bytes are zero
-abbrev pub are_zero : List ℕ → Bool
-are_zero [] = true
-are_zero (b ∷ bytes) = (b == 0) && are_zero bytes
-
--- The first item ends the bytes, or its padding is zero and more follows.
-unfoldable pub is_plain_first : List ℕ → Bool
-is_plain_first bytes =
-    (stated bytes == length bytes)
-    || (nat_lt (padded (stated bytes)) (length bytes) && are_zero (slice_range bytes (stated bytes) (padded (stated bytes))))
-
--- of at most this many items
-abbrev pub plain_within : ℕ → List ℕ → Bool
-plain_within most [] = true
-plain_within zero (b ∷ bytes) = false
-plain_within (suc most) (b ∷ bytes) =
-    starts_typed (b ∷ bytes) && (is_plain_first (b ∷ bytes) && plain_within most (after_typed (b ∷ bytes)))
-
--- The bytes are a list as it is written: the padding is zero, and the last item has none.
-unfoldable pub are_plain : List ℕ → Bool
-are_plain bytes = plain_within (length bytes) bytes
+-- The bytes are as they would be written for their items: the padding between them is zero, and none stands behind the last.
+abbrev pub AreAsWritten : List ℕ → Type 0
+AreAsWritten bytes = bytes ≡ written_typed (typed_in bytes)

@@ -1,7 +1,7 @@
 -- A chunk's flags and value are read in one way, and what is read has that layout.
 use Rattle.std.proofs.Common.{◌≡◌, ℕ, ◌+◌, ◌/◌, ◌<◌, ◌≤◌, ◌^◌, true, List, [], ◌∷◌, length, drop, refl, sym, ap, ◌∙◌, arith}
 use Rattle.std.specs.Prelude.{◌==◌}
-use Rattle.std.proofs.lemmas.List.{append-nil}
+use Rattle.std.proofs.lemmas.List.{append-nil, drop_all}
 use Rattle.std.proofs.lemmas.Bool.{leb-true, le-leb}
 use Rattle.std.proofs.lemmas.Grind.{common_steps}
 use Rattle.sctp_model.specs.Chunk.{ChunkMeaning, Data, Init, InitAck, Sack, Heartbeat, HeartbeatAck, Abort, Shutdown, ShutdownAck, Error, CookieEcho, CookieAck, ShutdownComplete, IData, ForwardTsn, IForwardTsn, Unknown, kind_of, chunk_length}
@@ -12,7 +12,6 @@ use Rattle.sctp_wire.specs.chunks.Init.{init_value}
 use Rattle.sctp_wire.specs.Layouts.{flags_of, ReadsFlags, value_of, ReadsValue, is_laid_out, is_listed, IsInRange, IsReadable}
 use Rattle.sctp_wire.specs.Reading.{body_at}
 use Rattle.sctp_wire.proofs.NumberLemmas.{u32_at-bytes, length-u32, bytes-u32_at, u32_at-lt}
-use Rattle.sctp_wire.proofs.TypedLemmas.{drop_all}
 use Rattle.sctp_wire.proofs.KindLemmas.{IsType, is_data, is_init, is_init_ack, is_sack, is_heartbeat, is_heartbeat_ack, is_abort, is_shutdown, is_shutdown_ack, is_error, is_cookie_echo, is_cookie_ack, is_shutdown_complete, is_i_data, is_forward_tsn, is_i_forward_tsn, is_other, type_of, unlike}
 use Rattle.sctp_wire.proofs.PieceLemmas.{flags_split, i_flags_split, reflected_split, reflected_read, length-data_value, data_at-value, value-data_at, IsDataPiece-data_at, length-i_data_laid, i_data_at-laid, laid-i_data_at, IsIDataPiece-i_data_at}
 use Rattle.sctp_wire.proofs.InitLemmas.{drop-init_16, length-init_value, init_at-value, value-init_at, IsInit-init_at}
@@ -159,7 +158,7 @@ no_bytes (b ∷ value) h = absurd (grind (arith, common_steps))
 four_bytes : (value : List ℕ) → AreBytes value → (length value == 4) ≡ true → value ≡ u32_bytes (u32_at value)
 four_bytes value bytes h =
     let four : length value ≡ 4 = grind (arith, common_steps) in
-    let none : drop 4 value ≡ [] = drop_all value 4 (omega arith) in
+    let none : drop 4 value ≡ [] = drop_all 4 value (omega arith) in
     sym (bytes-u32_at value bytes (omega arith)) ∙ rw none (append-nil (u32_bytes (u32_at value)))
 
 body_by : (kind flags : ℕ) (value : List ℕ) → IsType kind → AreBytes value → kind < 256 → flags < 256 → is_laid_out kind value ≡ true → is_listed kind value ≡ true

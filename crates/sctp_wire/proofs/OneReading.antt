@@ -2,9 +2,9 @@
 use Rattle.std.proofs.Common.{◌≡◌, ℕ, zero, suc, ◌+◌, ◌-◌, ◌*◌, ◌<◌, ◌≤◌, List, [], ◌∷◌, ◌++◌, length, refl, sym, ap, ◌∙◌, subst, append_assoc, arith, length-append, ◌⊎◌, inl, inr, Bool, true, false, Ok, Err}
 use Rattle.std.specs.Prelude.{Option, Some, None, Result, IsOk, if◌then◌else◌}
 use Rattle.std.proofs.lemmas.List.{append-nil, drop_at}
-use Rattle.sctp_model.specs.Chunk.{ChunkMeaning, kind_of, size_of_chunk}
+use Rattle.sctp_model.specs.Chunk.{ChunkMeaning, size_of_chunk}
 use Rattle.sctp_model.specs.Numbers.{AreBytes}
-use Rattle.sctp_model.specs.Places.{is_misplaced, is_none, misplaced_from}
+use Rattle.sctp_model.specs.Places.{stands_alone, never_follows, misplaced_behind, first_misplaced}
 use Rattle.sctp_wire.specs.declared.fault.Reason.{Reason}
 use Rattle.sctp_wire.specs.declared.fault.Reason.TheVariants as reason
 use Rattle.sctp_wire.specs.declared.fault.WireFault.{WireFault}
@@ -20,7 +20,7 @@ use Rattle.sctp_wire.proofs.ReadingLemmas.{each_of-nil, each_of-chunk, each_of-o
 
 -- ---- all of the bytes
 
-pub reading_of-each : (bytes : List ℕ) (ms : List ChunkMeaning) → ReadsEach bytes ms → reading_of bytes ≡ where_placed ms (misplaced_from 0 true ms)
+pub reading_of-each : (bytes : List ℕ) (ms : List ChunkMeaning) → ReadsEach bytes ms → reading_of bytes ≡ where_placed ms (first_misplaced ms)
 unfolding reading_of
 reading_of-each bytes ms each = ap placed (each_of-ok bytes ms each)
 
@@ -133,7 +133,7 @@ abbrev Reading : List ℕ → Type 0
 Reading bytes = ((ms : List ChunkMeaning) × Reads bytes ms) ⊎ ((f : WireFault) × Faults bytes f)
 
 -- where whole chunks stand
-placed_or_not : (bytes : List ℕ) (ms : List ChunkMeaning) (o : Option ℕ) → misplaced_from 0 true ms ≡ o → ReadsEach bytes ms → Reading bytes
+placed_or_not : (bytes : List ℕ) (ms : List ChunkMeaning) (o : Option ℕ) → first_misplaced ms ≡ o → ReadsEach bytes ms → Reading bytes
 placed_or_not bytes ms None e each = inl (ms, record { each = each; placed = e })
 placed_or_not bytes ms (Some offset) e each = inr (NotAlone offset, record { chunks = ms; reads = each; misplaced = e })
 
@@ -148,7 +148,7 @@ read_on_by most b bytes rest (Err why) e short fits up on =
 
 read_on : (most : ℕ) (bytes rest : List ℕ) → length rest ≤ most → AreBytes bytes → IsReadUpTo bytes rest → Reading bytes
 read_on most bytes [] short fits up =
-    let all = read_all bytes [] up refl in placed_or_not bytes all.0 (misplaced_from 0 true all.0) refl all.1
+    let all = read_all bytes [] up refl in placed_or_not bytes all.0 (first_misplaced all.0) refl all.1
 read_on zero bytes (b ∷ rest) short fits up = absurd (omega arith)
 read_on (suc most) bytes (b ∷ rest) short fits up =
     read_on_by most b bytes rest (chunk_at (b ∷ rest)) refl (omega arith) fits up (λ after le more. read_on most bytes after le fits more)
@@ -167,12 +167,24 @@ reads_few (m ∷ ms) bytes (chunk, rest, joined, reads, others) =
     rw joined (omega (arith, length-append chunk rest, chunk-some chunk m reads, reads_few ms rest others))
 
 -- a misplaced chunk begins within the bytes
-within_by : (place later size offset long : ℕ) (rest : Option ℕ) (t : Bool) → (if t then Some place else rest) ≡ Some offset → (rest ≡ Some offset → offset ≤ place + size + later) → long ≡ size + later → offset ≤ place + long
-within_by place later size offset long rest true e others whole = let same : place ≡ offset = cc in omega arith
-within_by place later size offset long rest false e others whole = omega (arith, others e)
+behind_within : (ms : List ChunkMeaning) (rest : List ℕ) (before offset : ℕ) → ReadsEach rest ms → misplaced_behind before ms ≡ Some offset → offset ≤ before + length rest
+behind_within [] rest before offset each e = cc
+behind_within (m ∷ ms) rest before offset (chunk, more, joined, reads, others) e =
+    follows_within (never_follows m) (size_of_chunk m) (length more) (length rest) before offset (misplaced_behind (before + size_of_chunk m) ms) e
+    (λ later. behind_within ms more (before + size_of_chunk m) offset others later) (ap length joined ∙ omega (arith, length-append chunk more, length-chunk chunk m reads))
+  where
+    follows_within : (t : Bool) (size more long before offset : ℕ) (later : Option ℕ) → (if t then Some before else later) ≡ Some offset → (later ≡ Some offset → offset ≤ before + size + more) → long ≡ size + more → offset ≤ before + long
+    follows_within true size more long before offset later e others whole = let same : before ≡ offset = cc in omega arith
+    follows_within false size more long before offset later e others whole = omega (arith, others e)
 
-pub misplaced_within : (ms : List ChunkMeaning) (bytes : List ℕ) (place offset : ℕ) (first : Bool) → ReadsEach bytes ms → misplaced_from place first ms ≡ Some offset → offset ≤ place + length bytes
-misplaced_within [] bytes place offset first each e = cc
-misplaced_within (m ∷ ms) bytes place offset first (chunk, rest, joined, reads, others) e =
-    within_by place (length rest) (size_of_chunk m) offset (length bytes) (misplaced_from (place + size_of_chunk m) false ms) (is_misplaced first (is_none ms) (kind_of m)) e
-    (λ later. misplaced_within ms rest (place + size_of_chunk m) offset false others later) (ap length joined ∙ omega (arith, length-append chunk rest, length-chunk chunk m reads))
+first_within : (t : Bool) (offset long : ℕ) (later : Option ℕ) → (if t then Some 0 else later) ≡ Some offset → (later ≡ Some offset → offset ≤ long) → offset ≤ long
+first_within true offset long later e others = let same : 0 ≡ offset = cc in omega arith
+first_within false offset long later e others = others e
+
+pub misplaced_within : (ms : List ChunkMeaning) (bytes : List ℕ) (offset : ℕ) → ReadsEach bytes ms → first_misplaced ms ≡ Some offset → offset ≤ length bytes
+misplaced_within [] bytes offset each e = cc
+misplaced_within (m ∷ []) bytes offset each e = cc
+misplaced_within (m ∷ next ∷ ms) bytes offset (chunk, rest, joined, reads, others) e =
+    first_within (stands_alone m) offset (length bytes) (misplaced_behind (size_of_chunk m) (next ∷ ms)) e
+    (λ later. let within = behind_within (next ∷ ms) rest (size_of_chunk m) offset others later in
+    omega (arith, ap length joined, length-append chunk rest, length-chunk chunk m reads))

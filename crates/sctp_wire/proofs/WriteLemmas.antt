@@ -8,7 +8,7 @@ use Rattle.std.proofs.lemmas.List.Concat.{flat_map-append}
 use Rattle.std.proofs.lemmas.Grind.{common_steps}
 use Rattle.sctp_model.specs.Chunk.{ChunkMeaning, kind_of, chunk_length, padding_after, size_of_chunk}
 use Rattle.sctp_model.specs.Numbers.{u16_bytes}
-use Rattle.sctp_model.specs.Places.{is_misplaced, ArePlaced}
+use Rattle.sctp_model.specs.Places.{ArePlaced}
 use Rattle.sctp_wire.specs.Layouts.{flags_of, value_of, Fits}
 use Rattle.sctp_wire.specs.Reads.{ReadsChunk, ReadsEach, Reads}
 use Rattle.sctp_wire.specs.Writes.{written, Writes}
@@ -50,12 +50,8 @@ pub reads_writes : (bytes : List ℕ) (ms : List ChunkMeaning) → Writes bytes 
 reads_writes bytes ms w placed = record { each = reads_each_written bytes ms w; placed = placed }
 
 -- a chunk alone stands where it may
-alone_is_placed : (kind : ℕ) → is_misplaced true true kind ≡ false
-unfolding is_misplaced
-alone_is_placed kind = grind (arith, common_steps)
-
 pub placed_one : (m : ChunkMeaning) → ArePlaced (m ∷ [])
-placed_one m = rw (alone_is_placed (kind_of m)) refl
+placed_one m = refl
 
 -- what is written for a chunk is that of a list of one, and reads, alone, as that chunk
 pub writes_one : (m : ChunkMeaning) → Fits m → Writes (written m) (m ∷ [])

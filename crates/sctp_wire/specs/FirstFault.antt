@@ -3,7 +3,7 @@
 use Rattle.std.specs.Prelude.{◌≡◌, ℕ, ◌<◌, ◌≤◌, ◌⊎◌, true, false, List, ◌++◌, length, drop, slice_index, slice_range, Some}
 use Rattle.sctp_model.specs.Chunk.{ChunkMeaning, padded}
 use Rattle.sctp_model.specs.Numbers.{u16_at}
-use Rattle.sctp_model.specs.Places.{misplaced_from}
+use Rattle.sctp_model.specs.Places.{first_misplaced}
 use Rattle.sctp_wire.specs.declared.fault.Reason.{Reason}
 use Rattle.sctp_wire.specs.declared.fault.Reason.TheVariants as reason
 use Rattle.sctp_wire.specs.declared.fault.WireFault.{WireFault}
@@ -68,7 +68,7 @@ pub record FaultsAt (why : Reason) (bytes : List ℕ) (offset : ℕ) : Type 0 wh
 pub record MisplacedAt (bytes : List ℕ) (offset : ℕ) : Type 0 where
   pub chunks : List ChunkMeaning
   pub reads : ReadsEach bytes chunks
-  pub misplaced : misplaced_from 0 true chunks ≡ Some offset
+  pub misplaced : first_misplaced chunks ≡ Some offset
 
 -- The fault of the bytes.
 abbrev pub Faults : List ℕ → WireFault → Type 0

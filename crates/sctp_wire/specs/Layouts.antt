@@ -2,7 +2,7 @@
 use Rattle.std.specs.Prelude.{◌≡◌, ℕ, ◌+◌, ◌*◌, ◌<◌, ◌^◌, Bool, true, false, if◌then◌else◌, ◌==◌, ◌||◌, nat_le, List, [], ◌∷◌, length}
 use Rattle.sctp_model.specs.Chunk.{ChunkMeaning, Data, IData, Init, InitAck, Sack, Heartbeat, HeartbeatAck, Abort, Shutdown, ShutdownAck, Error, CookieEcho, CookieAck, ShutdownComplete, ForwardTsn, IForwardTsn, Unknown, chunk_length}
 use Rattle.sctp_model.specs.Numbers.{u32_bytes}
-use Rattle.sctp_model.specs.Typed.{are_typed, are_plain}
+use Rattle.sctp_model.specs.Typed.{are_typed, AreAsWritten}
 use Rattle.sctp_wire.specs.declared.codes.TheConstants.{DATA, INIT, INIT_ACK, SACK, ABORT, SHUTDOWN, SHUTDOWN_ACK, ERROR, COOKIE_ACK, SHUTDOWN_COMPLETE, I_DATA, FORWARD_TSN, I_FORWARD_TSN, REFLECTED}
 use Rattle.sctp_wire.specs.declared.skips.SkipForm.TheVariants.{Narrow, Wide}
 use Rattle.sctp_wire.specs.chunks.Piece.{flag, data_flags, data_value, is_data_value, IsDataPiece, i_data_laid, ReadsIData, is_i_data_value, IsIDataPiece}
@@ -115,10 +115,10 @@ IsInRange m = Unit {0}
 
 -- parameters and causes are lists as they are written: zero padding, and none behind the last item
 abbrev pub IsPlain : ChunkMeaning → Type 0
-IsPlain (Init i) = are_plain i.parameters ≡ true
-IsPlain (InitAck i) = are_plain i.parameters ≡ true
-IsPlain (Abort reflected causes) = are_plain causes ≡ true
-IsPlain (Error causes) = are_plain causes ≡ true
+IsPlain (Init i) = AreAsWritten i.parameters
+IsPlain (InitAck i) = AreAsWritten i.parameters
+IsPlain (Abort reflected causes) = AreAsWritten causes
+IsPlain (Error causes) = AreAsWritten causes
 IsPlain m = Unit {0}
 
 -- What may be read: the fields and the length are within their bits.

@@ -10,4 +10,5 @@ pub mod TypedTree
 pub mod ChunkTree
 pub mod RuleTree
 pub mod Reading
+pub mod Standing
 pub mod Laws

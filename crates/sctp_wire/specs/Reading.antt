@@ -3,7 +3,7 @@
 use Rattle.std.specs.Prelude.{ℕ, zero, suc, ◌≤◌, ◌+◌, ◌-◌, true, if◌then◌else◌, ◌==◌, nat_lt, List, [], ◌∷◌, length, drop, slice_index, Option, Some, None, Result, Ok, Err, IsOk}
 use Rattle.sctp_model.specs.Chunk.{ChunkMeaning, Data, IData, Init, InitAck, Sack, Heartbeat, HeartbeatAck, Abort, Shutdown, ShutdownAck, Error, CookieEcho, CookieAck, ShutdownComplete, ForwardTsn, IForwardTsn, Unknown, padded}
 use Rattle.sctp_model.specs.Numbers.{u32_at}
-use Rattle.sctp_model.specs.Places.{misplaced_from}
+use Rattle.sctp_model.specs.Places.{first_misplaced}
 use Rattle.sctp_wire.specs.declared.codes.TheConstants.{DATA, INIT, INIT_ACK, SACK, HEARTBEAT, HEARTBEAT_ACK, ABORT, SHUTDOWN, SHUTDOWN_ACK, ERROR, COOKIE_ECHO, COOKIE_ACK, SHUTDOWN_COMPLETE, I_DATA, FORWARD_TSN, I_FORWARD_TSN, REFLECTED}
 use Rattle.sctp_wire.specs.declared.fault.Reason.{Reason}
 use Rattle.sctp_wire.specs.declared.fault.Reason.TheVariants.{IsCut, HasShortLength, LacksPadding, HasOtherBody, HasNoList}
@@ -114,7 +114,7 @@ where_placed ms None = Ok ms
 where_placed ms (Some offset) = Err (NotAlone offset)
 
 abbrev pub placed : Result (List ChunkMeaning) FaultPlace → Result (List ChunkMeaning) WireFault
-placed (Ok ms) = where_placed ms (misplaced_from 0 true ms)
+placed (Ok ms) = where_placed ms (first_misplaced ms)
 placed (Err at) = Err (fault_at at.why at.offset)
 
 -- all of the bytes

@@ -4,6 +4,7 @@
 //! and lists. `write_chunk` appends a chunk's bytes, and the `put_` calls append an item of a list.
 #![tactic(auto)]
 
+mod as_written;
 mod chunk;
 mod chunks;
 pub mod codes;
@@ -24,7 +25,7 @@ pub use chunks::init::Init;
 pub use chunks::piece::Piece;
 pub use chunks::sack::Sack;
 pub use fault::{NoMemory, WireFault};
-pub use items::{put_block, put_word};
+pub use items::{put_block, put_cause, put_parameter, put_word};
 pub use laws::{
     chunks_are_read, chunks_join, one_reading, typed_one_reading, written_each_reads, written_reads,
 };
@@ -33,7 +34,6 @@ pub use read::{Chunks, read_chunks};
 pub use skips::{Skip, SkipForm, SkipIter, Skips, put_skip};
 pub use typed::{
     Cause, Causes, Parameter, Parameters, TypedItem, TypedItems, TypedIter, is_typed_list,
-    put_cause, put_parameter,
 };
 pub use unknown::{Rule, unknown_chunk, unknown_parameter};
 pub use write::write_chunk;

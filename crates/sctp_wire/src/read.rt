@@ -1,15 +1,16 @@
 //! Chunks from bytes: header, length, padding, body and list of each in the stated order, then where they stand
 //! (RFC 9260, 3.2).
 
-ghost use Rattle.std.specs.Prelude.{◌≡◌, ◌*◌, ◌≤◌, length, true, ◌<◌, ◌^◌, MatchResult, IfOk, IfErr, List, Ok, Err};
+ghost use Rattle.std.specs.Prelude.{◌≡◌, ◌-◌, ◌*◌, ◌==◌, ◌||◌, not, ◌≤◌, length, true, ◌<◌, ◌^◌, MatchResult, IfOk, IfErr, List, Ok, Err};
 ghost use Rattle.std.specs.Iterator.{YieldsFirstBy, item_count};
 ghost use Rattle.sctp_model.specs.Chunk.{ChunkMeaning};
-ghost use Rattle.sctp_model.specs.Places.{is_misplaced, misplaced_from};
+ghost use Rattle.sctp_model.specs.Places.{first_misplaced, misplaced_behind};
 ghost use Rattle.sctp_wire.specs.ChunkTree.{chunk_meaning};
 ghost use Rattle.sctp_wire.specs.FaultTree.{offset_of};
 ghost use Rattle.sctp_wire.specs.FirstFault.{stated_length, Faults};
 ghost use Rattle.sctp_wire.specs.Reading.{frame_at, chunk_at, chunks_of, AreChunks, IsWhole};
 ghost use Rattle.sctp_wire.specs.Reads.{Reads};
+ghost use Rattle.sctp_wire.specs.Standing.{is_alone, IsBehindFirst};
 
 use crate::chunk::{Chunk, is_laid_out, is_listed, read_body};
 use crate::codes::{COOKIE_ECHO, INIT, INIT_ACK, SHUTDOWN_COMPLETE};
@@ -89,33 +90,64 @@ pub fn read_chunks(bytes: &[u8]) -> Result<Chunks<'_>, WireFault>
     }
 }
 
-/// Where the first misplaced one of these chunks begins.
-fn misplaced(bytes: &[u8]) -> Option<usize>
-    requires { AreChunks bytes.now }
-    ensures { result ≡ misplaced_from 0 true (chunks_of bytes.now) }
+/// Where the first misplaced one of whole chunks begins: the first one, where it stands alone and others follow; else
+/// one that follows and never does.
+fn misplaced(chunks: &[u8]) -> Option<usize>
+    requires { AreChunks chunks.now }
+    ensures { result ≡ first_misplaced (chunks_of chunks.now) }
 {
-    let mut rest = bytes;
+    if chunks.is_empty() {
+        return None;
+    }
+    let behind = behind_first(chunks);
+    if behind.is_empty() {
+        return None;
+    }
+    if stands_alone(chunks[0]) {
+        return Some(0);
+    }
+    misplaced_behind(chunks.len(), behind)
+}
+
+/// Of the chunks that end bytes, so many in all, where the first begins that never follows another one.
+fn misplaced_behind(whole: usize, chunks: &[u8]) -> Option<usize>
+    requires chunks { AreChunks chunks.now }
+    requires within { length chunks.now ≤ whole }
+    ensures { result ≡ misplaced_behind (whole - length chunks.now) (chunks_of chunks.now) }
+{
+    let mut rest = chunks;
     while !rest.is_empty() {
-        match first_chunk(rest) {
-            Ok((_, after)) => {
-                if is_misplaced(rest.len() == bytes.len(), after.is_empty(), rest[0]) {
-                    return Some(bytes.len() - rest.len());
-                }
-                rest = after;
-            }
-            Err(_) => unreachable!(),
+        let others = behind_first(rest);
+        if !may_follow(rest[0]) {
+            return Some(whole - rest.len());
         }
+        rest = others;
     }
     None
 }
 
-/// Whether a chunk of this type is misplaced, as the first one or not and the last one or not.
-#[tactic(auto, unfolding(sctp_model::specs::Places::is_misplaced))]
-fn is_misplaced(first: bool, last: bool, kind: u8) -> bool
-    ensures { result ≡ is_misplaced first last kind }
+/// Whether a chunk of this type has a packet of its own.
+fn stands_alone(kind: u8) -> bool
+    ensures { result ≡ is_alone kind }
 {
-    let alone = kind == INIT || kind == INIT_ACK || kind == SHUTDOWN_COMPLETE;
-    (alone && !(first && last)) || (kind == COOKIE_ECHO && !first)
+    matches!(kind, INIT | INIT_ACK | SHUTDOWN_COMPLETE)
+}
+
+/// Whether a chunk of this type may stand behind another one.
+fn may_follow(kind: u8) -> bool
+    ensures { result ≡ not (is_alone kind || (kind == COOKIE_ECHO)) }
+{
+    !stands_alone(kind) && kind != COOKIE_ECHO
+}
+
+/// What stands behind the first of whole chunks.
+fn behind_first(chunks: &[u8]) -> &[u8]
+    requires some { 0 < length chunks.now }
+    requires chunks { AreChunks chunks.now }
+    ensures { IsBehindFirst chunks.now result.now }
+{
+    let size = usize::from(read_u16(&chunks[2..]));
+    &chunks[padded(size)..]
 }
 
 /// The first chunk and what follows it, or what is wrong with it.

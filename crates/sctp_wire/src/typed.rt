@@ -1,24 +1,26 @@
 //! Lists of items with type and length: parameters and causes (RFC 9260, 3.2.1 and 3.3.10).
 
-ghost use Rattle.std.specs.Prelude.{◌≡◌, ◌+◌, ◌<◌, ◌≤◌, ◌^◌, ◌++◌, [], ◌∷◌, List, true, false, MatchOption, length, vec_len, vec_capacity, IsOk, OnOk, OnErr};
+ghost use Rattle.std.specs.Prelude.{◌≡◌, ◌↔◌, ◌<◌, ◌≤◌, ◌^◌, [], true, IsTrue, length, drop};
 ghost use Rattle.std.specs.Iterator.{YieldsFirstBy, item_count};
 ghost use Rattle.sctp_model.specs.Chunk.{padded};
 ghost use Rattle.sctp_model.specs.Numbers.{AreBytes};
-ghost use Rattle.sctp_model.specs.Typed.{Typed, typed_at, starts_typed, after_typed, is_plain_first, are_typed, typed_in, are_plain, are_zero, filled, typed_bytes, ReadsTyped, WritesTyped};
+ghost use Rattle.sctp_model.specs.Typed.{length_field, starts_typed, typed_at, are_typed, typed_in, AreAsWritten};
 ghost use Rattle.sctp_wire.specs.TypedTree.{typed_meaning};
 
-use crate::fault::NoMemory;
-use crate::numbers::{append, append_u16, append_zeros, padded, read_u16};
+use crate::as_written::are_as_written;
+use crate::numbers::{padded, read_u16};
 use std::marker::Model;
 
-/// A parameter or a cause: its type and its value, without padding.
+/// A parameter or a cause, without its padding.
 #[derive(Clone, Copy, Debug)]
 pub struct TypedItem<'a> {
+    /// Its type.
     pub kind: u16,
+    /// What stands behind type and length.
     pub value: &'a [u8],
 }
 
-/// A list of items with type and length, seen as its bytes.
+/// Parameters or causes, one behind another: bytes that were checked once to be such a list.
 #[derive(Debug, Drop)]
 pub struct TypedItems<'a> {
     bytes: &'a [u8],
@@ -40,13 +42,13 @@ impl<'a> Model for TypedItems<'a> {
 
     ghost Value = { List ℕ };
 
-    ghost view = { λ s. s.bytes.now };
+    ghost view = { λ items. items.bytes.now };
 
-    ghost invariant = { λ s. (are_typed s.bytes.now ≡ true) × AreBytes s.bytes.now };
+    ghost invariant = { λ items. AreBytes items.bytes.now × (are_typed items.bytes.now ≡ true) };
 }
 
 impl<'a> TypedItems<'a> {
-    /// The items that stand in these bytes; `is_typed_list` tells whether there are some.
+    /// The items of these bytes, which are a list: `is_typed_list` tells.
     pub fn new(bytes: &'a [u8]) -> TypedItems<'a>
         requires { are_typed bytes.now ≡ true }
         ensures { result ≡ bytes.now }
@@ -84,11 +86,12 @@ impl<'a> TypedItems<'a> {
         self.bytes
     }
 
-    /// Whether they are as they are written: the padding between them is zero, and there is none behind the last.
+    /// Whether the bytes are as these items are written: the padding between them is zero, and none stands behind
+    /// the last.
     pub fn is_plain(&self) -> bool
-        ensures { result ≡ are_plain self.now }
+        ensures { IsTrue result ↔ AreAsWritten self.now }
     {
-        is_plain_list(self.bytes)
+        are_as_written(self.bytes)
     }
 }
 
@@ -104,181 +107,75 @@ impl<'a> Model for TypedIter<'a> {
 
     ghost Value = { List Typed };
 
-    ghost view = { λ s. typed_in s.rest.now };
+    ghost view = { λ iter. typed_in iter.rest.now };
 
-    ghost invariant = { λ s. are_typed s.rest.now ≡ true };
+    ghost invariant = { λ iter. are_typed iter.rest.now ≡ true };
 }
 
 impl<'a> Iterator for TypedIter<'a> {
     type Item = TypedItem<'a>;
 
-    ghost next_gives = { YieldsFirstBy typed_meaning (λ s. s) };
+    ghost next_gives = { YieldsFirstBy typed_meaning (λ items. items) };
 
-    ghost remaining = { item_count (λ s. s) };
+    ghost remaining = { item_count (λ items. items) };
 
     fn next(&mut self) -> Option<TypedItem<'a>> {
         if self.rest.is_empty() {
             return None;
         }
-        match first_item(self.rest) {
-            Some((item, rest)) => {
-                self.rest = rest;
-                Some(item)
-            }
-            None => unreachable!(),
-        }
+        let (item, rest) = split_first(self.rest);
+        self.rest = rest;
+        Some(item)
     }
 }
 
-/// The first item and what follows it and its padding, where nothing is left behind it or at least its padding.
-#[tactic(auto, unfolding(sctp_model::specs::Typed::starts_typed))]
-fn first_item(bytes: &[u8]) -> Option<(TypedItem<'_>, &[u8])>
-    ensures { MatchOption result (starts_typed bytes.now ≡ false)
-        (λ found. (starts_typed bytes.now ≡ true) × (typed_meaning found.0 ≡ typed_at bytes.now) × (found.1.now ≡ after_typed bytes.now)) }
-{
-    if bytes.len() < 4 {
-        return None;
-    }
-    let size = usize::from(read_u16(&bytes[2..]));
-    if size < 4 || bytes.len() < size {
-        return None;
-    }
-    let item = TypedItem {
-        kind: read_u16(bytes),
-        value: &bytes[4..size],
-    };
-    if bytes.len() == size {
-        return Some((item, &bytes[size..]));
-    }
-    if bytes.len() < padded(size) {
-        return None;
-    }
-    Some((item, &bytes[padded(size)..]))
-}
-
-/// Whether bytes are a list of items with type and length: each but the last has its padding, of any value, and
-/// the last may have it.
+/// Whether bytes are a list of parameters or causes: behind each item its padding, of any value, which the last may
+/// lack.
 pub fn is_typed_list(bytes: &[u8]) -> bool
     ensures { result ≡ are_typed bytes.now }
 {
     let mut rest = bytes;
-    while !rest.is_empty() {
-        match first_item(rest) {
-            Some((_, after)) => rest = after,
-            None => return false,
-        }
+    while starts_typed(rest) {
+        rest = split_first(rest).1;
     }
-    true
+    rest.is_empty()
 }
 
-/// Whether bytes are a list as it is written.
-fn is_plain_list(bytes: &[u8]) -> bool
-    ensures { result ≡ are_plain bytes.now }
+/// Whether an item begins bytes, behind which nothing stands, or its padding at least.
+#[tactic(auto, unfolding(sctp_model::specs::Typed::starts_typed))]
+pub fn starts_typed(bytes: &[u8]) -> bool
+    ensures { result ≡ starts_typed bytes.now }
 {
-    let mut rest = bytes;
-    while !rest.is_empty() {
-        match first_item(rest) {
-            Some((_, after)) => {
-                if !is_plain_first(rest) {
-                    return false;
-                }
-                rest = after;
-            }
-            None => return false,
-        }
+    if bytes.len() < 4 {
+        return false;
     }
-    true
+    let size = length_field(bytes);
+    size >= 4 && (bytes.len() == size || padded(size) <= bytes.len())
 }
 
-/// Whether the first item ends the bytes, or its padding is zero and more follows.
-#[tactic(auto, unfolding(sctp_model::specs::Typed::is_plain_first))]
-fn is_plain_first(bytes: &[u8]) -> bool
+/// The length field of the item that begins bytes.
+pub fn length_field(bytes: &[u8]) -> usize
+    requires { 4 ≤ length bytes.now }
+    ensures exact { result ≡ length_field bytes.now }
+    ensures small { result < 2 ^ 16 }
+{
+    usize::from(read_u16(&bytes[2..]))
+}
+
+/// The item that begins bytes, and what stands behind it and its padding.
+pub fn split_first(bytes: &[u8]) -> (TypedItem<'_>, &[u8])
     requires { starts_typed bytes.now ≡ true }
-    ensures { result ≡ is_plain_first bytes.now }
+    ensures item { typed_meaning result.0 ≡ typed_at bytes.now }
+    ensures rest { result.1.now ≡ drop (padded (length_field bytes.now)) bytes.now }
 {
-    let size = usize::from(read_u16(&bytes[2..]));
-    if size == bytes.len() {
-        return true;
+    let size = length_field(bytes);
+    let item = TypedItem {
+        kind: read_u16(bytes),
+        value: &bytes[4..size],
+    };
+    if padded(size) < bytes.len() {
+        (item, &bytes[padded(size)..])
+    } else {
+        (item, &[])
     }
-    padded(size) < bytes.len() && are_zero(&bytes[size..padded(size)])
-}
-
-/// Whether all bytes are zero.
-fn are_zero(bytes: &[u8]) -> bool
-    ensures { result ≡ are_zero bytes.now }
-{
-    let mut rest = bytes;
-    while let Some((first, after)) = rest.split_first() {
-        if *first != 0 {
-            return false;
-        }
-        rest = after;
-    }
-    true
-}
-
-/// Fills a list to a multiple of 4 with zeros, and appends an item.
-fn put_typed(kind: u16, value: &[u8], list: &mut Vec<u8>) -> Result<(), NoMemory>
-    requires short { 4 + length value.now < 2 ^ 16 }
-    requires small { length list.old.items < 2 ^ 31 }
-    ensures bytes { OnOk result (list.new.items
-        ≡ filled list.old.items ++ typed_bytes (record { kind = kind; value = value.now })) }
-    ensures reads { (xs : List Typed) → ReadsTyped list.old.items xs
-        → OnOk result (ReadsTyped list.new.items (xs ++ record { kind = kind; value = value.now } ∷ [])) }
-    ensures writes { (xs : List Typed) → WritesTyped list.old.items xs
-        → OnOk result (WritesTyped list.new.items (xs ++ record { kind = kind; value = value.now } ∷ [])) }
-    ensures len { OnOk result (vec_len list.new ≡ padded (vec_len list.old) + 4 + length value.now) }
-    ensures refused { OnErr result (list.new.items ≡ list.old.items) }
-    ensures memory { padded (vec_len list.old) + 4 + length value.now ≤ vec_capacity list.old → IsOk result }
-{
-    let padding = padded(list.len()) - list.len();
-    list.reserve(padding + 4 + value.len())
-        .map_err(|_| NoMemory)?;
-    append_zeros(list, padding);
-    append_u16(list, kind);
-    append_u16(list, (4 + value.len()) as u16);
-    append(list, value);
-    Ok(())
-}
-
-/// Fills the bytes of `Parameters` to a multiple of 4 with zeros, and appends a parameter (RFC 9260, 3.2.1).
-///
-/// # Errors
-/// `NoMemory` where there was no room and none was got; the list is then as before.
-pub fn put_parameter(kind: u16, value: &[u8], list: &mut Vec<u8>) -> Result<(), NoMemory>
-    requires short { 4 + length value.now < 2 ^ 16 }
-    requires small { length list.old.items < 2 ^ 31 }
-    ensures bytes { OnOk result (list.new.items
-        ≡ filled list.old.items ++ typed_bytes (record { kind = kind; value = value.now })) }
-    // Behind a list there are then its items and this one, read or as they are written.
-    ensures reads { (xs : List Typed) → ReadsTyped list.old.items xs
-        → OnOk result (ReadsTyped list.new.items (xs ++ record { kind = kind; value = value.now } ∷ [])) }
-    ensures writes { (xs : List Typed) → WritesTyped list.old.items xs
-        → OnOk result (WritesTyped list.new.items (xs ++ record { kind = kind; value = value.now } ∷ [])) }
-    ensures len { OnOk result (vec_len list.new ≡ padded (vec_len list.old) + 4 + length value.now) }
-    ensures refused { OnErr result (list.new.items ≡ list.old.items) }
-    ensures memory { padded (vec_len list.old) + 4 + length value.now ≤ vec_capacity list.old → IsOk result }
-{
-    put_typed(kind, value, list)
-}
-
-/// Fills the bytes of `Causes` to a multiple of 4 with zeros, and appends a cause (RFC 9260, 3.3.10).
-///
-/// # Errors
-/// `NoMemory` where there was no room and none was got; the list is then as before.
-pub fn put_cause(kind: u16, value: &[u8], list: &mut Vec<u8>) -> Result<(), NoMemory>
-    requires short { 4 + length value.now < 2 ^ 16 }
-    requires small { length list.old.items < 2 ^ 31 }
-    ensures bytes { OnOk result (list.new.items
-        ≡ filled list.old.items ++ typed_bytes (record { kind = kind; value = value.now })) }
-    // Behind a list there are then its items and this one, read or as they are written.
-    ensures reads { (xs : List Typed) → ReadsTyped list.old.items xs
-        → OnOk result (ReadsTyped list.new.items (xs ++ record { kind = kind; value = value.now } ∷ [])) }
-    ensures writes { (xs : List Typed) → WritesTyped list.old.items xs
-        → OnOk result (WritesTyped list.new.items (xs ++ record { kind = kind; value = value.now } ∷ [])) }
-    ensures len { OnOk result (vec_len list.new ≡ padded (vec_len list.old) + 4 + length value.now) }
-    ensures refused { OnErr result (list.new.items ≡ list.old.items) }
-    ensures memory { padded (vec_len list.old) + 4 + length value.now ≤ vec_capacity list.old → IsOk result }
-{
-    put_parameter(kind, value, list)
 }

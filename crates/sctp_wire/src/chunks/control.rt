@@ -15,7 +15,7 @@
 
 ghost use Rattle.std.specs.Prelude.{◌≡◌, ◌≤◌, ◌↔◌, IsTrue, true, length};
 ghost use Rattle.sctp_model.specs.Chunk as meaning;
-ghost use Rattle.sctp_model.specs.Typed.{are_typed, are_plain};
+ghost use Rattle.sctp_model.specs.Typed.{are_typed, AreAsWritten};
 ghost use Rattle.sctp_wire.specs.Layouts.{is_known, Fits};
 
 use crate::codes::{COOKIE_ACK, FORWARD_TSN, I_DATA, I_FORWARD_TSN, LONGEST, SHUTDOWN_COMPLETE};
@@ -30,7 +30,7 @@ pub fn bytes_fit(bytes: &[u8]) -> bool
 
 /// Whether the length of a chunk with these causes has 16 bits, and they are as they are written.
 pub fn list_fits(causes: &TypedItems<'_>) -> bool
-    ensures fits { IsTrue result ↔ ((length causes.now ≤ 65531) × (are_plain causes.now ≡ true)) }
+    ensures fits { IsTrue result ↔ ((length causes.now ≤ 65531) × AreAsWritten causes.now) }
     ensures listed { are_typed causes.now ≡ true }
 {
     causes.size() <= LONGEST - 4 && causes.is_plain()

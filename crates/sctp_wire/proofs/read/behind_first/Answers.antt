@@ -1,0 +1,32 @@
+use Rattle.std.proofs.Common.{◌≡◌, arith}
+use Rattle.std.proofs.lemmas.Grind.{common_steps}
+use Rattle.std.proofs.lemmas.List.{take_rest}
+use Rattle.sctp_model.specs.Chunk.{padded}
+use Rattle.sctp_wire.specs.FirstFault.{stated_length}
+use Rattle.sctp_wire.proofs.StandingLemmas.{whole_first, behind_is}
+use Rattle.sctp_wire.proofs.read.behind_first.Goals as goal
+
+pub slice_bounds-read_u16-count : goal.slice_bounds-read_u16-count
+slice_bounds-read_u16-count c =
+    let whole = whole_first c.args.chunks.now c.requires.some c.requires.chunks in omega arith
+
+pub slice_bounds-read_u16-start : goal.slice_bounds-read_u16-start
+slice_bounds-read_u16-start c =
+    let whole = whole_first c.args.chunks.now c.requires.some c.requires.chunks in omega arith
+
+pub read_u16-requires : goal.read_u16-requires
+read_u16-requires c =
+    let whole = whole_first c.args.chunks.now c.requires.some c.requires.chunks in grind (arith, common_steps)
+
+pub slice_bounds-result-count : goal.slice_bounds-result-count
+slice_bounds-result-count c =
+    let whole = whole_first c.args.chunks.now c.requires.some c.requires.chunks in grind (arith, common_steps)
+
+pub slice_bounds-result-start : goal.slice_bounds-result-start
+slice_bounds-result-start c =
+    let whole = whole_first c.args.chunks.now c.requires.some c.requires.chunks in grind (arith, common_steps)
+
+pub returns : goal.returns
+returns c =
+    let here : c.padded.result ≡ padded (stated_length c.args.chunks.now) = grind (arith, common_steps) in
+    rw (take_rest c.args.chunks.now c.padded.result, here) (behind_is c.args.chunks.now (λ i. omega (arith, c.type_inv.chunks i)) c.requires.some c.requires.chunks)
