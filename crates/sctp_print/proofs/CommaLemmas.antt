@@ -1,7 +1,8 @@
 -- Lists as words: what is put behind commas, and what is joined by them.
-use Rattle.std.proofs.Common.{◌≡◌, ℕ, zero, suc, ◌<◌, ◌≤◌, Bool, true, false, cond, List, [], ◌∷◌, ◌++◌, length, Option, Some, None, refl, append_assoc, arith}
+use Rattle.std.proofs.Common.{◌≡◌, ℕ, zero, suc, ◌-◌, ◌<◌, ◌≤◌, Bool, true, false, cond, List, [], ◌∷◌, ◌++◌, length, Option, Some, None, unwrap_or, option_map, refl, append_assoc, arith}
 use Rattle.std.specs.List.{flat_map}
-use Rattle.sctp_model.specs.Typed.{Typed, starts_typed, typed_at, after_typed, before_typed, typed_within, typed_of, list_or_none, typed_in}
+use Rattle.sctp_model.specs.Chunk.{padded}
+use Rattle.sctp_model.specs.Typed.{Typed, length_field, starts_typed, typed_at, items_after, typed_of, typed_in}
 use Rattle.sctp_print.specs.ChunkLines.{or_dash, each_behind_comma, joined}
 use Rattle.sctp_print.specs.Commas.{behind_comma}
 use Rattle.sctp_print.specs.declared.words.TheConstants.{COMMA}
@@ -27,22 +28,21 @@ lines_more line put x rest = append_assoc put (line x) (flat_map line rest)
 
 -- ---- items of a list with types and lengths
 
-few_before : (x : Typed) (found : Option (List Typed)) (most : ℕ) → length (list_or_none found) ≤ most → length (list_or_none (before_typed x found)) ≤ suc most
-few_before x (Some xs) most few = omega arith
-few_before x None most few = omega arith
+few_first : (begins : Bool) (item : Typed) (found : Option (List Typed)) (most : ℕ) → length (unwrap_or found []) ≤ most
+    → length (unwrap_or (cond begins (option_map (λ (others : List Typed). item ∷ others) found) None) []) ≤ suc most
+few_first true item (Some others) most few = omega arith
+few_first true item None most few = omega arith
+few_first false item found most few = omega arith
 
-few_if : (starts : Bool) (x : Typed) (found : Option (List Typed)) (most : ℕ) → length (list_or_none found) ≤ most
-    → length (list_or_none (cond starts (before_typed x found) None)) ≤ suc most
-few_if true x found most few = few_before x found most few
-few_if false x found most few = omega arith
-
-few_within : (most : ℕ) (bytes : List ℕ) → length (list_or_none (typed_within most bytes)) ≤ most
-few_within most [] = omega arith
-few_within zero (b ∷ bytes) = omega arith
-few_within (suc most) (b ∷ bytes) =
-    few_if (starts_typed (b ∷ bytes)) (typed_at (b ∷ bytes)) (typed_within most (after_typed (b ∷ bytes))) most (few_within most (after_typed (b ∷ bytes)))
+few_after : (inside : ℕ) (bytes : List ℕ) → length (unwrap_or (items_after inside bytes) []) ≤ length bytes
+few_after zero [] = omega arith
+few_after (suc inside) [] = omega arith
+few_after (suc inside) (b ∷ bytes) = omega (arith, few_after inside bytes)
+few_after zero (b ∷ bytes) =
+    let rest = padded (length_field (b ∷ bytes)) - 1 in
+    few_first (starts_typed (b ∷ bytes)) (typed_at (b ∷ bytes)) (items_after rest bytes) (length bytes) (few_after rest bytes)
 
 -- they are no more than the bytes
 pub few_items : (bytes : List ℕ) → length (typed_in bytes) ≤ length bytes
 unfolding typed_of
-few_items bytes = few_within (length bytes) bytes
+few_items bytes = few_after 0 bytes

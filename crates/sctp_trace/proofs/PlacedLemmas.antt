@@ -3,7 +3,7 @@ use Rattle.std.proofs.lemmas.List.{take_all}
 use Rattle.std.proofs.Common.{◌≡◌, ℕ, ◌+◌, ◌-◌, arith, length-drop, take, Bool, true, false, List, [], ◌∷◌, ◌++◌, length, drop, None, refl, sym, ap, subst, inl, inr}
 use Rattle.std.specs.List.{AllByRecursion}
 use Rattle.sctp_model.specs.Chunk.{ChunkMeaning, Data, Sack, size_of_chunk}
-use Rattle.sctp_model.specs.Places.{is_misplaced, misplaced_from, ArePlaced}
+use Rattle.sctp_model.specs.Places.{misplaced_behind, ArePlaced}
 use Rattle.sctp_model.specs.SenderView.{SenderView, Queued}
 use Rattle.sctp_model.specs.first.Sending.{numbered_one}
 use Rattle.sctp_model.specs.first.World.{Configuration, EndView, Packet, datas_of, Builds}
@@ -18,12 +18,18 @@ IsSackOrData (Data p) = Unit {0}
 IsSackOrData (Sack s) = Unit {0}
 IsSackOrData m = ⊥
 
-placed : (place : ℕ) (first : Bool) (ms : List ChunkMeaning) → AllByRecursion IsSackOrData ms → misplaced_from place first ms ≡ None
-unfolding is_misplaced
-placed place first [] all = refl
-placed place first (Data p ∷ ms) all = placed (place + size_of_chunk (Data p)) false ms all.1
-placed place first (Sack s ∷ ms) all = placed (place + size_of_chunk (Sack s)) false ms all.1
-placed place first (m ∷ ms) all = absurd all.0
+behind_placed : (before : ℕ) (ms : List ChunkMeaning) → AllByRecursion IsSackOrData ms → misplaced_behind before ms ≡ None
+behind_placed before [] all = refl
+behind_placed before (Data p ∷ ms) all = behind_placed (before + size_of_chunk (Data p)) ms all.1
+behind_placed before (Sack s ∷ ms) all = behind_placed (before + size_of_chunk (Sack s)) ms all.1
+behind_placed before (m ∷ ms) all = absurd all.0
+
+placed : (ms : List ChunkMeaning) → AllByRecursion IsSackOrData ms → ArePlaced ms
+placed [] all = refl
+placed (m ∷ []) all = refl
+placed (Data p ∷ next ∷ ms) all = behind_placed (size_of_chunk (Data p)) (next ∷ ms) all.1
+placed (Sack s ∷ next ∷ ms) all = behind_placed (size_of_chunk (Sack s)) (next ∷ ms) all.1
+placed (m ∷ next ∷ ms) all = absurd all.0
 
 all_datas : (v : SenderView) (qs : List Queued) → AllByRecursion IsSackOrData (datas_of v qs)
 all_datas v [] = tt
@@ -35,7 +41,7 @@ all_of v sacks rest (inr (due, (s, of, e))) all = rw e (tt, all)
 
 pub built_is_placed : (c : Configuration) (v : EndView) (ms : Packet) (t : EndView) → Builds c v ms t → ArePlaced ms
 built_is_placed c v ms t b =
-    subst (λ (xs : Packet). ArePlaced xs) (sym b.chunks) (placed 0 true _ (all_of v b.sacks _ b.sack (all_datas v.sender _)))
+    subst (λ (xs : Packet). ArePlaced xs) (sym b.chunks) (placed _ (all_of v b.sacks _ b.sack (all_datas v.sender _)))
 
 -- what is read behind the header of a packet
 pub packet_there : (bytes : List ℕ) (p : whole.Packet) → ReadsPacket bytes p → length bytes ≡ whole.size_of_packet p.chunks → IsPacketOf bytes p.chunks

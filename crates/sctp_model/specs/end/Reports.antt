@@ -2,16 +2,14 @@
 use Rattle.std.specs.Prelude.{ℕ, nat_le, Bool, if◌then◌else◌, List, [], ◌∷◌, ◌++◌}
 use Rattle.sctp_model.specs.Chunk.{ChunkMeaning, Error}
 use Rattle.sctp_model.specs.Packet.{size_of_packet}
-use Rattle.sctp_model.specs.Typed.{Typed, typed_bytes, filled}
+use Rattle.sctp_model.specs.Typed.{Typed, written_typed}
 use Rattle.sctp_model.specs.end.EndView.{EndView}
 
 -- ---- bytes
 
--- the bytes of a list of items: each but the last is filled to a multiple of 4 with zeros
+-- the bytes of a list of items
 abbrev pub written : List Typed → List ℕ
-written [] = []
-written (x ∷ []) = typed_bytes x
-written (x ∷ y ∷ ys) = filled (typed_bytes x) ++ written (y ∷ ys)
+written xs = written_typed xs
 
 -- ---- causes and parameters
 

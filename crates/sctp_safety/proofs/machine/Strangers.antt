@@ -4,7 +4,7 @@ use Rattle.std.specs.Prelude.{if◌then◌else◌}
 use Rattle.sctp_model.specs.Lists.{Has}
 use Rattle.sctp_model.specs.Chunk.{InitMeaning, ChunkMeaning, Data, IData, Init, InitAck, Sack, Heartbeat, HeartbeatAck, Abort, Shutdown, ShutdownAck, Error, CookieEcho, CookieAck, ShutdownComplete, ForwardTsn, IForwardTsn, Unknown}
 use Rattle.sctp_model.specs.Packet.{Packet}
-use Rattle.sctp_model.specs.Places.{ArePlaced, is_misplaced}
+use Rattle.sctp_model.specs.Places.{ArePlaced}
 use Rattle.sctp_model.specs.end.Sealing.{Body, Sealing}
 use Rattle.sctp_model.specs.end.EndView.{Tags, Draw, Phase, Idle, Listening, Calling, Echoing, Open, Over, Role, Caller, Paired, Listener, EndView, has_association}
 use Rattle.sctp_model.specs.end.Opening.{Opens, Stale, Strange, is_addressed, body_read, age, COOKIE_LIFE}
@@ -60,7 +60,6 @@ goes_by h (Unknown k f v) n e = Tag _ false e
 
 -- an INIT stands alone
 init_alone : (m : InitMeaning) (xs : List ChunkMeaning) → ArePlaced (Init m ∷ xs) → xs ≡ []
-unfolding is_misplaced
 init_alone m [] placed = refl
 init_alone m (y ∷ ys) placed = absurd (cc)
 
