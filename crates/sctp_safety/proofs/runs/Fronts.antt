@@ -1,37 +1,18 @@
 -- Where each chunk of a packet stands where it may, so does each of the packet's beginning.
-use Rattle.std.proofs.Common.{◌≡◌, ℕ, ◌+◌, Bool, true, false, not, ◌&&◌, ◌||◌, List, [], ◌∷◌, ◌++◌, Some, None, refl, if◌then◌else◌}
-use Rattle.sctp_model.specs.Chunk.{ChunkMeaning, kind_of, size_of_chunk}
-use Rattle.sctp_model.specs.Places.{stands_alone, stands_first, is_misplaced, is_none, misplaced_from, ArePlaced}
+use Rattle.std.proofs.Common.{◌≡◌, ℕ, ◌+◌, Bool, true, false, List, [], ◌∷◌, ◌++◌, Option, Some, None, refl, if◌then◌else◌}
+use Rattle.sctp_model.specs.Chunk.{ChunkMeaning, size_of_chunk}
+use Rattle.sctp_model.specs.Places.{stands_alone, never_follows, misplaced_behind, ArePlaced}
 
--- a chunk that may stand before another one may stand last
-last_may : (first last : Bool) (kind : ℕ) → is_misplaced first last kind ≡ false → is_misplaced first true kind ≡ false
-unfolding is_misplaced
-last_may first last kind h = go first last (stands_alone kind) (stands_first kind) h
-  where
-    go : (f l a c : Bool) → ((a && not (f && l)) || (c && not f)) ≡ false → ((a && not (f && true)) || (c && not f)) ≡ false
-    go true l true true h = refl
-    go true l true false h = refl
-    go true l false true h = refl
-    go true l false false h = refl
-    go false true a c h = h
-    go false false a c h = h
+-- a test that finds nothing passes on, and finds nothing where what follows doesn't
+found_later : (t : Bool) (here : ℕ) (more fewer : Option ℕ) → (if t then Some here else more) ≡ None → (more ≡ None → fewer ≡ None) → (if t then Some here else fewer) ≡ None
+found_later true here more fewer h less = absurd (cc)
+found_later false here more fewer h less = less h
 
--- in front of others, or last
-front_may : (first : Bool) (kind : ℕ) (xs ys : List ChunkMeaning) → is_misplaced first (is_none (xs ++ ys)) kind ≡ false → is_misplaced first (is_none xs) kind ≡ false
-front_may first kind [] ys h = last_may first (is_none ys) kind h
-front_may first kind (x ∷ xs) ys h = h
-
-front_placed : (place : ℕ) (first : Bool) (xs ys : List ChunkMeaning) → misplaced_from place first (xs ++ ys) ≡ None → misplaced_from place first xs ≡ None
-front_placed place first [] ys h = refl
-front_placed place first (x ∷ xs) ys h = go (is_misplaced first (is_none (xs ++ ys)) (kind_of x)) refl h (λ k. front_placed (place + size_of_chunk x) false xs ys k)
-  where
-    Rest : List ChunkMeaning → Type 0
-    Rest zs = misplaced_from (place + size_of_chunk x) false zs ≡ None
-
-    go : (b : Bool) → is_misplaced first (is_none (xs ++ ys)) (kind_of x) ≡ b →
-        (if b then Some place else misplaced_from (place + size_of_chunk x) false (xs ++ ys)) ≡ None → (Rest (xs ++ ys) → Rest xs) → misplaced_from place first (x ∷ xs) ≡ None
-    go true on k more = absurd (cc)
-    go false off k more = let here = front_may first (kind_of x) xs ys off in rw here (more k)
+front_behind : (before : ℕ) (xs ys : List ChunkMeaning) → misplaced_behind before (xs ++ ys) ≡ None → misplaced_behind before xs ≡ None
+front_behind before [] ys h = refl
+front_behind before (x ∷ xs) ys h = found_later (never_follows x) before _ _ h (front_behind (before + size_of_chunk x) xs ys)
 
 pub front_is_placed : (xs ys : List ChunkMeaning) → ArePlaced (xs ++ ys) → ArePlaced xs
-front_is_placed xs ys h = front_placed 0 true xs ys h
+front_is_placed [] ys h = refl
+front_is_placed (x ∷ []) ys h = refl
+front_is_placed (x ∷ next ∷ xs) ys h = found_later (stands_alone x) 0 _ _ h (front_behind (size_of_chunk x) (next ∷ xs) ys)
