@@ -19,8 +19,6 @@
 mod body;
 mod hmac;
 mod sealing;
-#[cfg(test)]
-mod tests;
 
 pub use body::{COOKIE_LENGTH, CookieBody, Ports};
 pub use hmac::{Key, hmac_sha256};

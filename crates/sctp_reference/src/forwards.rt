@@ -5,7 +5,8 @@ ghost use Rattle.sctp_model.specs.SenderView.{SenderView};
 ghost use Rattle.sctp_model.specs.Forward.{Forward, IsForward, skipped};
 ghost use Rattle.sctp_reference.specs.Names.{format_of, lane_of, skip_of};
 ghost use Rattle.sctp_reference.specs.Sender.{IsSenderOf};
-ghost use Rattle.sctp_reference.specs.Standing.{IsFoundAt, IsBetter, IsFirst};
+ghost use Rattle.sctp_reference.specs.Standing.{IsFirst};
+ghost use Rattle.sctp_reference.specs.inner.Places.{IsFoundAt, IsBetter};
 
 use crate::words::{Entry, Format, Lane, MessageName, Sender};
 use std::alloc::{AllocError, Global};

@@ -9,8 +9,9 @@ ghost use Rattle.sctp_model.specs.Pieces.{payload_of};
 ghost use Rattle.sctp_reference.specs.Names.{format_of};
 ghost use Rattle.sctp_reference.specs.Kept.{piece_of, pieces_of};
 ghost use Rattle.sctp_reference.specs.Search.{whole_of};
-ghost use Rattle.sctp_reference.specs.Apart.{IsApart};
-ghost use Rattle.sctp_reference.specs.Giving.{handed_of, IsNarrow, IsTurn};
+ghost use Rattle.sctp_model.specs.receiver.Laws.{IsApart};
+ghost use Rattle.sctp_reference.specs.Giving.{handed_of};
+ghost use Rattle.sctp_reference.specs.inner.Turns.{IsNarrow, IsTurn};
 
 use crate::pieces::{Piece, Whole};
 use crate::whole::whole_number;

@@ -26,6 +26,3 @@ pub use receiver_steps::{
 pub use sender_readers::{the_forward_is_computed, the_point_is_computed};
 pub use whole::{whole_number, whole_with};
 pub use words::{Entry, Format, Kind, Lane, MessageName, Sender};
-
-#[cfg(test)]
-mod tests;

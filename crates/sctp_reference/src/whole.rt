@@ -3,8 +3,9 @@
 ghost use Rattle.std.specs.Prelude.{IfOk};
 ghost use Rattle.sctp_reference.specs.Names.{format_of, lane_of};
 ghost use Rattle.sctp_reference.specs.Kept.{pieces_of};
-ghost use Rattle.sctp_reference.specs.Apart.{IsApart};
-ghost use Rattle.sctp_reference.specs.Search.{IsLeft, IsRowAnswer, IsWholeFrom, IsNumberFrom, IsLower, IsWholeAnswer, IsOnlyNumber, IsWithAnswer, IsOnlyWith};
+ghost use Rattle.sctp_model.specs.receiver.Laws.{IsApart};
+ghost use Rattle.sctp_reference.specs.Search.{IsWholeAnswer, IsOnlyNumber, IsWithAnswer, IsOnlyWith};
+ghost use Rattle.sctp_reference.specs.inner.Rows.{IsLeft, IsRowAnswer, IsWholeFrom, IsNumberFrom, IsLower};
 
 use crate::pieces::{Piece, Whole};
 use crate::words::{Format, Lane};

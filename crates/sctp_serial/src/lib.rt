@@ -9,6 +9,3 @@ mod widths;
 
 pub use counts::Serial;
 pub use widths::{S16, S32};
-
-#[cfg(test)]
-mod tests;

@@ -27,6 +27,3 @@ pub use line_reader::{LineReader, NextLine, ReadFault};
 pub use source_sink::{Failed, FromRead, Sink, Source, ToWrite};
 pub use words_of_line::Words;
 pub use writing::write_all;
-
-#[cfg(test)]
-mod word_tests;

@@ -202,6 +202,3 @@ fn first_line_feed(bytes: &[u8]) -> Option<usize>
 {
     bytes.iter().position(|byte| *byte == LINE_FEED)
 }
-
-#[cfg(test)]
-mod tests;

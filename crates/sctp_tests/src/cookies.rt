@@ -1,6 +1,6 @@
 //! Vectors of RFC 4231, the bytes of a cookie, and each answer to one.
 
-use crate::{CookieBody, CookieFault, Key, Ports, hmac_sha256, open, seal};
+use sctp_cookie::{CookieBody, CookieFault, Key, Ports, hmac_sha256, open, seal};
 use std::test::Fail;
 
 /// A key, a text and their MAC (RFC 4231, 4.2 to 4.5, 4.7 and 4.8).

@@ -1,6 +1,6 @@
 //! Words that are written and read.
 
-use crate::{Bytes, put_decimal, put_hex, read_decimal, read_hex};
+use sctp_text::{Bytes, put_decimal, put_hex, read_decimal, read_hex};
 use std::test::Fail;
 
 #[test]

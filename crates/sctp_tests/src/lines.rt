@@ -1,34 +1,9 @@
 //! Lines of readers that are slow or fail, and lines at the limits.
 
-use super::{LineReader, NextLine, ReadFault};
-use crate::block::Block;
-use crate::limits::LONGEST_TEXT;
-use crate::source_sink::{FromRead, Source};
+use crate::fakes::SlowReader;
+use sctp_text::{FromRead, LineReader, NextLine, ReadFault, Source};
 use std::alloc::Global;
-use std::io::{Error, ErrorKind, Read, Result as IoResult};
 use std::test::Fail;
-
-/// Gives a few bytes a call, and fails once, at the call of this number.
-#[derive(Drop)]
-struct Slow<'a> {
-    rest: &'a [u8],
-    step: usize,
-    call: usize,
-    fails_at: usize,
-}
-
-impl Read for Slow<'_> {
-    fn read(&mut self, buffer: &mut [u8]) -> IoResult<usize> {
-        self.call = self.call.saturating_add(1);
-        if self.call == self.fails_at {
-            return Err(Error::from(ErrorKind::BrokenPipe));
-        }
-        let count = self.step.min(self.rest.len()).min(buffer.len());
-        buffer[..count].copy_from_slice(&self.rest[..count]);
-        self.rest = &self.rest[count..];
-        Ok(count)
-    }
-}
 
 /// What a reader answers in turn, up to the end or a line that is too long, and how many calls failed.
 fn answers<S: Source>(
@@ -64,12 +39,7 @@ fn lines_come_whole_whatever_a_call_gives(rt: HostRuntime) -> Result<(), Fail> {
     ];
     for (text, wanted) in table {
         for step in [1, 2, 4_096] {
-            let mut source = FromRead::new(Slow {
-                rest: text.as_bytes(),
-                step,
-                call: 0,
-                fails_at: 0,
-            });
+            let mut source = FromRead::new(SlowReader::new(text, step, 0));
             let (told, failures) = answers(alloc, LineReader::new(alloc), &mut source)?;
             assert_eq!(rt; told.as_str(), wanted, "{text:?} by {step}");
             assert_eq!(rt; failures, 0);
@@ -89,12 +59,7 @@ fn a_call_that_fails_in_mid_line_loses_nothing(rt: HostRuntime) -> Result<(), Fa
         (6, "Ok(Ended([97, 98])) Ok(Last([99])) Err(Failed) Ok(End) "),
     ];
     for (fails_at, wanted) in table {
-        let mut source = FromRead::new(Slow {
-            rest: b"ab\nc",
-            step: 1,
-            call: 0,
-            fails_at,
-        });
+        let mut source = FromRead::new(SlowReader::new("ab\nc", 1, fails_at));
         let (told, failures) = answers(alloc, LineReader::new(alloc), &mut source)?;
         assert_eq!(rt; told.as_str(), wanted, "at call {fails_at}");
         assert_eq!(rt; failures, 1);
@@ -136,28 +101,6 @@ fn a_line_has_140000_bytes_at_most(rt: HostRuntime) -> Result<(), Fail> {
             Ok(wanted),
             "{length} {end:?}"
         );
-    }
-    Ok(())
-}
-
-#[test]
-fn a_text_has_2_to_the_40_bytes_at_most(rt: HostRuntime) -> Result<(), Fail> {
-    let alloc = rt.alloc();
-    let table = [
-        ("a\n", Some((1, true))),
-        ("ab", Some((2, false))),
-        ("ab\n", None),
-        ("abc", None),
-    ];
-    for (text, wanted) in table {
-        let reader = LineReader {
-            alloc,
-            line: Vec::new(alloc),
-            block: Block::new(),
-            given: LONGEST_TEXT - 2,
-        };
-        let mut source = FromRead::new(text.as_bytes());
-        assert_eq!(rt; first_line(reader, &mut source), Ok(wanted), "{text:?}");
     }
     Ok(())
 }

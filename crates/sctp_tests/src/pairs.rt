@@ -1,6 +1,6 @@
 //! A run of events with its report, and how many messages an end takes as yet.
 
-use sctp_trace::{Bytes, Draw, Event, Mode, Outcome, Pair, PairConfig, SendRefusal, Side};
+use sctp_trace::{Bytes, Draw, Event, Mode, Outcome, Pair, PairConfig, Refusal, Side};
 use std::alloc::Global;
 use std::test::Fail;
 
@@ -84,7 +84,7 @@ fn a_run_answers_each_event_and_the_report_has_what_waits(rt: HostRuntime) -> Re
         Outcome::Message {
             side: Side::B,
             stream: 0,
-            number: 0,
+            number: Some(0),
             payload_id: 0,
             bytes
         },
@@ -117,8 +117,8 @@ fn after_32_767_messages_an_end_is_spent(rt: HostRuntime) -> Result<(), Fail> {
     let spent = pair.step(&hi)?;
     assert_eq!(rt;
         spent,
-        Outcome::SendRefused {
-            refusal: SendRefusal::Spent
+        Outcome::Refused {
+            refusal: Refusal::Spent
         }
     );
     Ok(())

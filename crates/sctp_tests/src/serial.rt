@@ -3,7 +3,7 @@
 ghost use Rattle.std.specs.Prelude.{◌≡◌};
 ghost use Rattle.sctp_model.specs.Serial.{IsWithinHalf};
 
-use crate::{S16, S32, Serial};
+use sctp_serial::{S16, S32, Serial};
 
 /// A generic caller, which knows the widths by the trait's laws alone.
 fn read_again<S: Serial>(count: u32, reference: u32) -> Option<u32>

@@ -1,9 +1,6 @@
 //! Whole messages, and the order in which they are handed over.
 
-use crate::giving::due_from;
-use crate::pieces::{Piece, Whole};
-use crate::words::{Format, Kind, Lane};
-use crate::{whole_number, whole_with};
+use sctp_reference::{Format, Kind, Lane, Piece, Whole, due_from, whole_number, whole_with};
 use std::alloc::{AllocError, Global};
 use std::test::Fail;
 

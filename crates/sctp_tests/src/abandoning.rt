@@ -1,9 +1,9 @@
 //! Points, FORWARDs and cumulative indexes where messages are abandoned.
 
-use crate::giving::{Due, due_from};
-use crate::pieces::Piece;
-use crate::words::{Entry, Format, Kind, Lane, MessageName, Sender};
-use crate::{cumulative_index, forward, point, skip_after};
+use sctp_reference::{
+    Due, Entry, Format, Kind, Lane, MessageName, Piece, Sender, cumulative_index, due_from,
+    forward, point, skip_after,
+};
 use std::alloc::{AllocError, Global};
 use std::test::Fail;
 

@@ -1,4 +1,0 @@
-//! The examples, written out by hand.
-
-mod abandoning;
-mod handing_over;
