@@ -18,7 +18,15 @@ wanted=$main/stdout
 printf 'pair 1500 1400 65536 1 data\nopen\n' >"$room/many"
 awk 'BEGIN { for (i = 0; i < 120000; i++) print "take B 0" }' >>"$room/many"
 printf 'pair 1500 1400 65536 1 data\nopne\n' >"$room/faulty"
-printf 'UNKNOWN 63 flags 00 value -\n' >"$room/chunks"
+# what the rules say of bytes: a packet, chunks, and the first fault of others
+hi=0003001200000001000000000000000048690000
+data='DATA BE tsn 1 stream 0 ssn 0 id 0 data 4869'
+printf 'packet 5000 5001 tag 00000007\n%s\n' "$data" >"$room/packet"
+printf '%s\nUNKNOWN 63 flags 00 value -\n' "$data" >"$room/chunks"
+printf 'fault 2\n' >"$room/checksum"
+printf 'fault 3 4 at 20\n' >"$room/body"
+printf 'fault hex\n' >"$room/hexadecimal"
+: >"$room/nothing"
 bytes=$(printf 'ru\377n')
 
 report() {
@@ -62,9 +70,21 @@ all_orders() {
     writes $wanted
     order "a faulty line, $1" 2 "$room/faulty" run
     says '^line 2: 2$'
-    order "chunks, $1" 0 /dev/null chunks 3f000004
+    order "a packet, $1" 0 /dev/null packet 13881389000000078bb4efbb$hi
+    writes "$room/packet"
+    order "chunks, $1" 0 /dev/null chunks ${hi}3f000004
     writes "$room/chunks"
-    order "no bytes of a packet, $1" 2 /dev/null packet ''
+    order "no chunk, $1" 0 /dev/null chunks ''
+    writes "$room/nothing"
+    order "a packet with another checksum, $1" 2 /dev/null packet 138813890000000700000000$hi
+    writes "$room/checksum"
+    order "chunks of which the second isn't right, $1" 2 /dev/null chunks ${hi}0e000005ff000000
+    writes "$room/body"
+    order "no hexadecimal digits, $1" 2 /dev/null packet Hi
+    writes "$room/hexadecimal"
+    order "a packet without its word, $1" 1 /dev/null packet
+    says 'HEX'
+    order "a word too many, $1" 1 /dev/null chunks 00 00
     order "no words, $1" 1 /dev/null
     says 'requires a subcommand'
     order "a word that isn't UTF-8, $1" 1 /dev/null "$bytes"

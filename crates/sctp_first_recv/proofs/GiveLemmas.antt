@@ -8,7 +8,7 @@ use Rattle.sctp_model.specs.Pieces.{Piece}
 use Rattle.sctp_model.specs.ReceiverView.{Handed, ReceiverView}
 use Rattle.sctp_model.specs.Receiving.{IsDue, message_of, is_below, without_below}
 use Rattle.sctp_first_recv.specs.ReceiverKept.{StreamKept}
-use Rattle.sctp_first_recv.specs.HandsOver.{HandsOver}
+use Rattle.sctp_first_recv.specs.inner.HandsOver.{HandsOver}
 use Rattle.sctp_first_recv.proofs.KeptLists.{Has-filtered, Has-filter, Has-reverse, Has-reversed, Has-get_or, filter-filter, filter-set, length-fewer}
 use Rattle.sctp_first_recv.proofs.DueLemmas.{IsNumbered, IsOne, due-over, due-stop, below-next, below-here, below-more}
 

@@ -9,7 +9,7 @@ use Rattle.sctp_model.specs.Pieces.{Piece}
 use Rattle.sctp_model.specs.ReceiverView.{Handed}
 use Rattle.sctp_model.specs.Receiving.{message_of, without_below}
 use Rattle.sctp_first_recv.specs.ReceiverKept.{StreamKept}
-use Rattle.sctp_first_recv.specs.HandsOver.{IsAt, IsLowestOf, is_lower_than}
+use Rattle.sctp_first_recv.specs.inner.HandsOver.{IsAt, IsLowestOf, is_lower_than}
 use Rattle.sctp_first_recv.specs.ReceiverFields.{piece_of_kept}
 use Rattle.sctp_first_recv.specs.declared.kept.KeptPiece.{KeptPiece}
 use Rattle.sctp_first_recv.proofs.KeptLists.{Has-map}

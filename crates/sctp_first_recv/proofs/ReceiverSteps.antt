@@ -10,14 +10,14 @@ use Rattle.sctp_model.specs.Pieces.{Piece}
 use Rattle.sctp_model.specs.Chunk.{PieceMeaning}
 use Rattle.sctp_model.specs.ReceiverView.{Handed, ReceiverView, IsCumulative, size_of_pieces, size_of_waiting, room_left}
 use Rattle.sctp_model.specs.Receiving.{recorded, Takes, without_below, is_below}
-use Rattle.sctp_model.specs.first.World as world
-use Rattle.sctp_model.specs.first.World.{is_taken, piece_said, IsDuplicate, PieceTaken}
+use Rattle.sctp_model.specs.first.Ends as ends
+use Rattle.sctp_model.specs.first.Ends.{is_taken, piece_said, IsDuplicate, PieceTaken}
 use Rattle.sctp_first_recv.specs.ReceiverKept.{SeenKept, StreamKept, ReceiverKept, is_among}
-use Rattle.sctp_first_recv.specs.SeenStands.{is_reached, Records}
-use Rattle.sctp_first_recv.specs.HandsOver.{HandsOver, whole_piece}
+use Rattle.sctp_first_recv.specs.inner.Recording.{is_reached, Records, is_one_message}
+use Rattle.sctp_first_recv.specs.inner.HandsOver.{HandsOver, whole_piece}
 use Rattle.sctp_first_recv.specs.HandedOf.{handed_of}
 use Rattle.sctp_first_recv.specs.ReceiverStands.{stream_at, KeepsView}
-use Rattle.sctp_first_recv.specs.ReceiverCalls.{is_one_message, IsAnswered, taken_from, TakeLeaves}
+use Rattle.sctp_first_recv.specs.ReceiverCalls.{IsAnswered, taken_from, TakeLeaves}
 use Rattle.sctp_first_recv.specs.declared.message.Message.{Message}
 use Rattle.sctp_first_recv.specs.declared.give.InboundStream.{InboundStream}
 use Rattle.sctp_first_recv.specs.declared.receiver.Answer.TheVariants as answer
@@ -198,7 +198,7 @@ pub answer-duplicate : (k k' : ReceiverKept) (v : ReceiverView) (p : PieceMeanin
     p.stream < length k.streams → is_reached k.seen p.tsn ≡ true → (t : ReceiverView) × IsAnswered v p answer.Duplicate t × KeepsView k' t
 answer-duplicate k k' v p e keeps one there reached =
     let dup = duplicate-is k v p.tsn keeps reached in
-    (v, (taken-is v p one (rw keeps.streams there), dup, world.Duplicate dup), subst (λ (x : ReceiverKept). KeepsView x v) e keeps)
+    (v, (taken-is v p one (rw keeps.streams there), dup, ends.Duplicate dup), subst (λ (x : ReceiverKept). KeepsView x v) e keeps)
 
 pub answer-passed : (k : ReceiverKept) (v : ReceiverView) (p : PieceMeaning) (seen : SeenKept) → KeepsView k v → is_one_message p ≡ true →
     p.stream < length k.streams → is_reached k.seen p.tsn ≡ false → p.number < (stream_at k.streams p.stream).next → Records k.seen seen p.tsn →
@@ -206,7 +206,7 @@ pub answer-passed : (k : ReceiverKept) (v : ReceiverView) (p : PieceMeaning) (se
 answer-passed k v p seen keeps one there reached behind records =
     let new = duplicate-not k v p.tsn keeps reached in
     let less : p.number < v.next p.stream = rw (keeps.next p.stream) behind in
-    (recorded v (piece_said p), (taken-is v p one (rw keeps.streams there), (new, less), world.Passed new less), stands-passed k v seen (piece_said p) keeps records)
+    (recorded v (piece_said p), (taken-is v p one (rw keeps.streams there), (new, less), ends.Passed new less), stands-passed k v seen (piece_said p) keeps records)
 
 pub answer-taken : (k : ReceiverKept) (v : ReceiverView) (p : PieceMeaning) (seen : SeenKept) (left : List Piece) (after : StreamKept) (streams : List StreamKept) →
     slice_set k.streams p.stream after ≡ streams → KeepsView k v →
@@ -219,7 +219,7 @@ answer-taken k v p seen left after streams e keeps one there reached ahead recor
     let least : v.next p.stream ≤ p.number = rw (keeps.next p.stream) ahead in
     let made = stands-taken k v seen p left after keeps there records over in
     let takes : Takes Plain v (piece_said p) made.0 = subst (λ (x : Piece). Takes Plain v x made.0) (whole-is p one) made.1 in
-    (made.0, (taken-is v p one (rw keeps.streams there), (new, least), world.Taken made.0 new least takes), subst (λ (ss : List StreamKept). KeepsView (record { seen = seen; pieces = left; streams = ss; buffer = k.buffer }) made.0) e made.2)
+    (made.0, (taken-is v p one (rw keeps.streams there), (new, least), ends.Taken made.0 new least takes), subst (λ (ss : List StreamKept). KeepsView (record { seen = seen; pieces = left; streams = ss; buffer = k.buffer }) made.0) e made.2)
 
 -- ---- a message taken by the user
 

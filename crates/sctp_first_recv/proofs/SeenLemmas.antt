@@ -6,7 +6,8 @@ use Rattle.std.specs.Ordering.{nat_cmp}
 use Rattle.std.specs.BTreeMap.{is_at}
 use Rattle.sctp_model.specs.Lists.{at}
 use Rattle.sctp_first_recv.specs.ReceiverKept.{SeenKept, is_among}
-use Rattle.sctp_first_recv.specs.SeenStands.{SeenSays, is_reached, seen_of}
+use Rattle.sctp_first_recv.specs.SeenStands.{SeenSays, seen_of}
+use Rattle.sctp_first_recv.specs.inner.Recording.{is_reached}
 
 pub at-same : {A : Type 0} (f : ℕ → A) (s : ℕ) (v : A) (t : ℕ) → t ≡ s → at f s v t ≡ v
 at-same f s v t e = let q = eq-eqb t s e in rw q refl

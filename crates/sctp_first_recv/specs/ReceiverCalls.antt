@@ -1,9 +1,9 @@
 -- What a receiver's calls answer, and the views after them.
-use Rattle.std.specs.Prelude.{◌≡◌, ℕ, ◌<◌, ◌≤◌, nat_lt, length, Bool, not, ◌&&◌, true, false, List, [], ◌∷◌, ◌++◌, Option, None, Some, Result, Ok, Err}
+use Rattle.std.specs.Prelude.{◌≡◌, ℕ, ◌<◌, ◌≤◌, true, false, List, [], ◌∷◌, ◌++◌, Option, None, Some, Result, Ok, Err}
 use Rattle.sctp_model.specs.Lists.{at}
 use Rattle.sctp_model.specs.Chunk.{PieceMeaning}
 use Rattle.sctp_model.specs.ReceiverView.{Handed, ReceiverView, fresh_receiver}
-use Rattle.sctp_model.specs.first.World.{is_taken, piece_said, IsDuplicate, PieceTaken}
+use Rattle.sctp_model.specs.first.Ends.{is_taken, piece_said, IsDuplicate, PieceTaken}
 use Rattle.sctp_wire.specs.declared.fault.NoMemory.{NoMemory}
 use Rattle.sctp_first_recv.specs.declared.message.Message.{Message}
 use Rattle.sctp_first_recv.specs.declared.receiver.Answer.{Answer}
@@ -13,10 +13,6 @@ use Rattle.sctp_first_recv.specs.HandedOf.{handed_of}
 -- the receiver of a fresh end with so many streams and so much room
 abbrev pub receiver_of : ℕ → ℕ → ReceiverView
 receiver_of streams buffer = fresh_receiver 1 streams buffer
-
--- a whole ordered message with data
-abbrev pub is_one_message : PieceMeaning → Bool
-is_one_message p = p.begin && (p.end && (not p.unordered && nat_lt 0 (length p.bytes)))
 
 -- which row of PieceTaken an answer names
 abbrev pub IsRow : ReceiverView → PieceMeaning → Answer → Type 0

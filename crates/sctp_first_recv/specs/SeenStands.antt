@@ -1,6 +1,5 @@
 -- Which recorded indexes a receiver stands for, and what recording one more does (RFC 9260, 6.2).
-use Rattle.std.specs.Prelude.{◌≡◌, ℕ, suc, ◌<◌, ◌≤◌, Bool, true, false, ◌||◌, nat_le, List}
-use Rattle.sctp_model.specs.Lists.{at}
+use Rattle.std.specs.Prelude.{◌≡◌, ℕ, suc, ◌<◌, ◌≤◌, Bool, true, false, List}
 use Rattle.sctp_first_recv.specs.ReceiverKept.{SeenKept, is_among}
 
 -- What is kept says of each index from 1 on whether it was recorded.
@@ -13,17 +12,10 @@ pub record SeenStands (s : SeenKept) (seen : ℕ → Bool) : Type 0 where
   pub says : SeenSays s seen
   pub open_end : seen (suc s.cumulative) ≡ false
 
--- the index was recorded, or lies at or below the cumulative one
-abbrev pub is_reached : SeenKept → ℕ → Bool
-is_reached s i = nat_le i s.cumulative || is_among s.above i
-
--- whatever was recorded, now the index is too
-abbrev pub Records : SeenKept → SeenKept → ℕ → Type 0
-Records s t i = (seen : ℕ → Bool) → SeenStands s seen → SeenStands t (at seen i true)
-
 -- each of these lies above the cumulative index
 abbrev pub IsAbove : ℕ → List ℕ → Type 0
 IsAbove c ks = (i : ℕ) → is_among ks i ≡ true → c < i
 
+-- the cumulative index, and the indexes recorded above it
 abbrev pub seen_of : ℕ → List ℕ → SeenKept
 seen_of c ks = record { cumulative = c; above = ks }

@@ -4,9 +4,9 @@ ghost use Rattle.std.specs.Prelude.{◌≡◌, ◌+◌, ◌≤◌, false, [], �
 ghost use Rattle.std.specs.VecDeque.{deque_len, deque_capacity};
 ghost use Rattle.sctp_model.specs.Receiving.{is_below, without_below};
 ghost use Rattle.sctp_wire.specs.ChunkTree.{piece_meaning};
-ghost use Rattle.sctp_first_recv.specs.HandsOver.{HandsOver, whole_piece};
+ghost use Rattle.sctp_first_recv.specs.inner.HandsOver.{HandsOver, whole_piece};
 ghost use Rattle.sctp_first_recv.specs.ReceiverFields.{piece_of_kept, stream_of};
-ghost use Rattle.sctp_first_recv.specs.SeenStands.{is_reached, Records};
+ghost use Rattle.sctp_first_recv.specs.inner.Recording.{is_reached, Records};
 
 use crate::kept::{KeptPiece, lowest};
 use crate::message::Message;

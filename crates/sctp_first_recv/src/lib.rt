@@ -10,6 +10,3 @@ mod seen;
 
 pub use message::Message;
 pub use receiver::{Answer, Receiver, SackValues};
-
-#[cfg(test)]
-mod receiver_tests;

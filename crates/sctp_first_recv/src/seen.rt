@@ -2,7 +2,8 @@
 
 ghost use Rattle.std.specs.Prelude.{◌≡◌, ℕ, suc, ◌+◌, ◌<◌, ◌^◌, Bool, true, false, OnOk, OnErr};
 ghost use Rattle.sctp_first_recv.specs.ReceiverKept.{is_among};
-ghost use Rattle.sctp_first_recv.specs.SeenStands.{SeenSays, SeenStands, IsAbove, is_reached, Records, seen_of};
+ghost use Rattle.sctp_first_recv.specs.SeenStands.{SeenSays, SeenStands, IsAbove, seen_of};
+ghost use Rattle.sctp_first_recv.specs.inner.Recording.{is_reached, Records};
 
 use sctp_wire::NoMemory;
 use std::alloc::Global;

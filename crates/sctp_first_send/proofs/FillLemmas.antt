@@ -15,7 +15,8 @@ use Rattle.sctp_first_send.specs.declared.sender.Waiting.{Waiting}
 use Rattle.sctp_packet.specs.Draft.{Draft, room_in, has_room, with_chunks}
 use Rattle.sctp_first_send.specs.SenderFields.{waits_of, IsSmall}
 use Rattle.sctp_first_send.specs.SenderKept.{Waits, Kept}
-use Rattle.sctp_first_send.specs.SenderStands.{queued_of, queue_of, data_from, datas_from, Puts, Keeps, StandsFor}
+use Rattle.sctp_first_send.specs.SenderStands.{queued_of, queue_of, Keeps, StandsFor}
+use Rattle.sctp_first_send.specs.inner.Putting.{data_from, datas_from, Puts}
 use Rattle.sctp_first_send.specs.SenderSteps.{numbers_of, Fills, Stops}
 use Rattle.sctp_first_send.proofs.SenderLemmas.{room_of-queued, kept_datas}
 

@@ -9,11 +9,12 @@ use Rattle.sctp_model.specs.Plan.{Message, Plan}
 use Rattle.sctp_model.specs.SenderView.{Queued, SenderView, fresh_sender}
 use Rattle.sctp_model.specs.first.Sending.{MESSAGE_LIMIT, accepted, queued, room_of, numbered_one, numbered_all, went_out, acknowledged}
 use Rattle.sctp_model.specs.Chunk.{padded}
-use Rattle.sctp_model.specs.first.World.{data_of, datas_of}
+use Rattle.sctp_model.specs.first.Ends.{data_of, datas_of}
 use Rattle.sctp_first_send.specs.SenderFields.{IsSmall, AreFew}
 use Rattle.sctp_first_send.specs.SenderKept.{Waits, Kept}
 use Rattle.sctp_first_send.specs.declared.sender.Waiting.{Waiting}
-use Rattle.sctp_first_send.specs.SenderStands.{queued_of, queue_of, numbered_on, AreNumbered, data_from, datas_from, Keeps}
+use Rattle.sctp_first_send.specs.SenderStands.{queued_of, queue_of, numbered_on, AreNumbered, Keeps}
+use Rattle.sctp_first_send.specs.inner.Putting.{data_from, datas_from}
 
 -- ---- what the view's plan alone decides
 

@@ -5,6 +5,7 @@ use Rattle.sctp_model.specs.first.Sending.{MESSAGE_LIMIT}
 use Rattle.sctp_first_send.specs.SenderKept.{Waits, Kept}
 use Rattle.sctp_first_send.specs.declared.sender.Waiting.{Waiting}
 
+-- a message that waits, by its fields
 abbrev pub waits_of : Waiting → Waits
 waits_of w = record { ticket = w.ticket; stream = w.stream; number = w.number; payload = w.payload_id; bytes = w.bytes.items }
 

@@ -1,16 +1,15 @@
 -- Which views a sender stands for, while a message is one fragment of an ordered stream.
-use Rattle.std.specs.Prelude.{◌≡◌, ℕ, suc, true, false, List, [], ◌∷◌, length, map, take, slice_index}
-use Rattle.sctp_model.specs.Chunk.{ChunkMeaning, Data}
+use Rattle.std.specs.Prelude.{◌≡◌, ℕ, List, [], ◌∷◌, length, map, slice_index}
 use Rattle.sctp_model.specs.Format.{ordered_lane}
 use Rattle.sctp_model.specs.SenderView.{Queued, SenderView}
 use Rattle.sctp_model.specs.first.Sending.{message_for, numbered_one, numbered_all}
-use Rattle.sctp_packet.specs.Draft.{Draft, with_chunks}
 use Rattle.sctp_first_send.specs.SenderKept.{Waits, Kept}
 
 -- a message that waits, as the view has it: one fragment, on an ordered stream
 abbrev pub queued_of : Waits → Queued
 queued_of w = record { lane = ordered_lane w.stream; message = message_for w.ticket w.payload w.bytes }
 
+-- all messages that wait, first to last
 abbrev pub queue_of : List Waits → List Queued
 queue_of ws = map queued_of ws
 
@@ -22,29 +21,6 @@ numbered_on v s = length (v.plan.messages (ordered_lane s))
 abbrev pub AreNumbered : SenderView → List Waits → Type 0
 AreNumbered v [] = Unit {0}
 AreNumbered v (w ∷ ws) = (w.number ≡ numbered_on v w.stream) × AreNumbered (numbered_one v (queued_of w)) ws
-
--- the DATA chunk of a message that waits, with this TSN
-abbrev pub data_from : ℕ → Waits → ChunkMeaning
-data_from tsn w = Data (record {
-  immediate = false;
-  unordered = false;
-  begin = true;
-  end = true;
-  tsn = tsn;
-  stream = w.stream;
-  number = w.number;
-  word = w.payload;
-  bytes = w.bytes;
-})
-
--- the DATA chunks of messages that wait, with the TSNs from this one on
-abbrev pub datas_from : ℕ → List Waits → List ChunkMeaning
-datas_from tsn [] = []
-datas_from tsn (w ∷ ws) = data_from tsn w ∷ datas_from (suc tsn) ws
-
--- the chunks of the first `count` messages that wait were put into a packet
-abbrev pub Puts : ℕ → List Waits → Draft → Draft → ℕ → Type 0
-Puts tsn ws packet after count = after ≡ with_chunks packet (datas_from tsn (take count ws))
 
 -- What is kept tells the view's queue and numbers. All else of the view plays no part as yet.
 pub record Keeps (s : Kept) (v : SenderView) : Type 0 where

@@ -3,7 +3,7 @@ use Rattle.std.specs.Prelude.{◌≡◌, ℕ, suc, ◌≤◌, List, map, take, O
 use Rattle.sctp_model.specs.SenderView.{SenderView}
 use Rattle.sctp_model.specs.first.Sending.{Refusal, accepted, refusal, queued, IsFill, went_out}
 use Rattle.sctp_model.specs.first.Sending as model
-use Rattle.sctp_model.specs.first.World.{datas_of}
+use Rattle.sctp_model.specs.first.Ends.{datas_of}
 use Rattle.sctp_packet.specs.Draft.{Draft, room_in, with_chunks}
 use Rattle.sctp_first_send.specs.SenderKept.{Kept}
 use Rattle.sctp_first_send.specs.SenderStands.{StandsFor}
@@ -33,12 +33,14 @@ abbrev pub RefusalAnswer : SenderView → ℕ → List ℕ → Option SendFault 
 RefusalAnswer v stream bytes None = refusal v stream bytes ≡ None
 RefusalAnswer v stream bytes (Some fault) = (r : Refusal) × (reason_of fault ≡ Some r) × (refusal v stream bytes ≡ Some r)
 
+-- what a call of `queue` leaves: the message waits, or, refused, nothing changed
 abbrev pub queue_after : SenderView → ℕ → ℕ → List ℕ → Result Ticket SendFault → SenderView
 queue_after v stream payload bytes (Ok ticket) = queued v stream payload bytes
 queue_after v stream payload bytes (Err fault) = v
 
 -- ---- fill
 
+-- tickets as numbers
 abbrev pub numbers_of : List Ticket → List ℕ
 numbers_of ts = map (λ t. t.0) ts
 

@@ -9,7 +9,8 @@ ghost use Rattle.sctp_model.specs.first.Sending.{IsFill, room_of_all, acknowledg
 ghost use Rattle.sctp_model.specs.Chunk.{padded};
 ghost use Rattle.sctp_packet.specs.Draft.{room_in, with_chunks};
 ghost use Rattle.sctp_first_send.specs.SenderFields.{waits_of, IsSmall, CanCount};
-ghost use Rattle.sctp_first_send.specs.SenderStands.{StandsFor, queue_of, data_from, Puts};
+ghost use Rattle.sctp_first_send.specs.SenderStands.{StandsFor, queue_of};
+ghost use Rattle.sctp_first_send.specs.inner.Putting.{data_from, Puts};
 ghost use Rattle.sctp_first_send.specs.SenderSteps.{RefusalAnswer, QueueAnswer, queue_after, Fills, Stops, numbers_of};
 
 use sctp_packet::{PacketWriter, padded};
@@ -310,101 +311,5 @@ fn forget(waiting: &mut VecDeque<Waiting>, count: usize)
 {
     for _ in 0..count {
         let _ = waiting.pop_front();
-    }
-}
-
-#[cfg(test)]
-mod tests {
-    use super::*;
-    use sctp_wire::{Blocks, Words};
-    use std::test::Fail;
-
-    fn fill(
-        alloc: Global,
-        sender: &mut Sender,
-        limit: u16,
-    ) -> Result<(Vec<u8>, Vec<Ticket>), Fail> {
-        let mut packet = PacketWriter::new(alloc, limit, 0, 0, 0);
-        let filled = sender.fill(&mut packet)?;
-        Ok((packet.finish().ok_or("no chunk")?, filled.tickets))
-    }
-
-    #[test]
-    fn hi_goes_out_as_one_chunk_in_a_packet_of_32_bytes(rt: HostRuntime) -> Result<(), Fail> {
-        let mut sender = Sender::new(rt.alloc(), 1, 1_400);
-        assert_eq!(rt; sender.queue(0, 0, b"Hi".to_vec(rt.alloc())?)?, Ticket(1));
-        let (bytes, tickets) = fill(rt.alloc(), &mut sender, 1_500)?;
-        assert_eq!(rt;
-            (bytes.len(), tickets.as_slice()),
-            (32, [Ticket(1)].as_slice())
-        );
-        let (_, chunk) = bytes.as_slice().split_at(12);
-        assert_eq!(rt;
-            chunk,
-            b"\0\x03\0\x12\0\0\0\x01\0\0\0\0\0\0\0\0\x48\x69\0\0".as_slice()
-        );
-        Ok(())
-    }
-
-    #[test]
-    fn messages_go_out_in_order_and_are_acknowledged(rt: HostRuntime) -> Result<(), Fail> {
-        let mut sender = Sender::new(rt.alloc(), 2, 1_400);
-        for (stream, text) in [(1, "a"), (0, "bc"), (1, "defgh")] {
-            sender.queue(stream, 9, text.as_bytes().to_vec(rt.alloc())?)?;
-        }
-        // two chunks of 16 bytes and one word of data each, and then one of 16 bytes and two words
-        let (bytes, tickets) = fill(rt.alloc(), &mut sender, 75)?;
-        assert_eq!(rt;
-            (bytes.len(), tickets.as_slice()),
-            (52, [Ticket(1), Ticket(2)].as_slice())
-        );
-        let (bytes, tickets) = fill(rt.alloc(), &mut sender, 36)?;
-        assert_eq!(rt;
-            (bytes.len(), tickets.as_slice()),
-            (36, [Ticket(3)].as_slice())
-        );
-        assert_eq!(rt; sender.numbered(), 3);
-        let (_, chunk) = bytes.as_slice().split_at(12);
-        assert_eq!(rt;
-            chunk,
-            b"\0\x03\0\x15\0\0\0\x03\0\x01\0\x01\0\0\0\x09defgh\0\0\0".as_slice()
-        );
-        // a SACK that is stale, and one beyond, change nothing
-        for (cumulative, cum) in [(0, 0), (2, 2), (1, 2), (4, 2), (3, 3), (3, 3)] {
-            sender.on_sack(&Sack {
-                cumulative,
-                rwnd: 0,
-                blocks: Blocks::none(),
-                duplicates: Words::none(),
-            });
-            assert_eq!(rt; sender.cum(), cum, "after {cumulative}");
-        }
-        Ok(())
-    }
-
-    #[test]
-    fn of_all_reasons_the_first_counts(rt: HostRuntime) -> Result<(), Fail> {
-        let mut sender = Sender::new(rt.alloc(), 1, 4);
-        for count in 1..=32_767u32 {
-            assert_eq!(rt;
-                sender.queue(0, 0, b"a".to_vec(rt.alloc())?)?,
-                Ticket(count)
-            );
-            if count % 1_024 == 0 {
-                let more = sender.queue(0, 0, b"a".to_vec(rt.alloc())?);
-                assert_eq!(rt; more, Err(SendFault::QueueFull));
-                let _ = fill(rt.alloc(), &mut sender, u16::MAX)?;
-            }
-        }
-        for (stream, text, fault) in [
-            (1, "", SendFault::NoSuchStream),
-            (0, "", SendFault::Empty),
-            (0, "hello", SendFault::TooLong),
-            (0, "four", SendFault::Spent),
-        ] {
-            let bytes = text.as_bytes().to_vec(rt.alloc())?;
-            assert_eq!(rt; sender.queue(stream, 0, bytes), Err(fault), "{text}");
-        }
-        Ok(())
     }
 }

@@ -8,7 +8,7 @@ use Rattle.sctp_model.specs.ReceiverView.{Handed, ReceiverView}
 use Rattle.sctp_model.specs.Receiving.{IsWholeNumber, IsLowest, HasNoWhole, IsDue, Stop, Over, Past}
 use Rattle.sctp_reference.specs.declared.pieces.Piece.{Piece}
 use Rattle.sctp_reference.specs.Kept.{pieces_of}
-use Rattle.sctp_reference.specs.Giving.{IsHanded}
+use Rattle.sctp_reference.specs.inner.Turns.{IsHanded}
 
 text-push : (xs : List Piece) (y : Piece) → text_of (pieces_of (xs ++ y ∷ [])) ≡ text_of (pieces_of xs) ++ y.bytes.now
 text-push [] y = append-nil y.bytes.now

@@ -3,7 +3,6 @@ pub mod NameLemmas
 pub mod ListLemmas
 pub mod PointLemmas
 pub mod RowLemmas
-pub mod OneWhole
 pub mod WholeLemmas
 pub mod GivingLemmas
 pub mod LaneLemmas

@@ -8,7 +8,8 @@ use Rattle.sctp_model.specs.SenderView.{SenderView, IsGivenUp, IsPoint}
 use Rattle.sctp_reference.specs.declared.words.Sender.{Sender}
 use Rattle.sctp_reference.specs.declared.words.MessageName.{MessageName}
 use Rattle.sctp_reference.specs.Names.{lane_of, entry_of, message_of}
-use Rattle.sctp_reference.specs.Sender.{IsSenderOf, IsAbandonedAt}
+use Rattle.sctp_reference.specs.Sender.{IsSenderOf}
+use Rattle.sctp_reference.specs.inner.Places.{IsAbandonedAt}
 use Rattle.sctp_reference.proofs.NameLemmas.{same_message, its_message, of_message, entry_from, entry_to}
 
 pub given_up : (s : Sender) (v : SenderView) (i : ℕ) → IsSenderOf s v → IsAbandonedAt s i → IsGivenUp v (suc i)

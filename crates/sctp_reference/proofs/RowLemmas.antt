@@ -10,7 +10,7 @@ use Rattle.sctp_reference.specs.declared.words.Format.{Format}
 use Rattle.sctp_reference.specs.declared.pieces.Piece.{Piece}
 use Rattle.sctp_reference.specs.Names.{format_of}
 use Rattle.sctp_reference.specs.Kept.{piece_of, pieces_of}
-use Rattle.sctp_reference.specs.Search.{IsThrough, IsLeft, GoesOn}
+use Rattle.sctp_reference.specs.inner.Rows.{IsThrough, IsLeft, GoesOn}
 
 pub kept_has : (xs : List Piece) (j : ℕ) (y : Piece) → slice_get xs j ≡ Some y → Has (pieces_of xs) (piece_of y)
 kept_has [] j y e = cc

@@ -5,7 +5,8 @@ use Rattle.sctp_reference.specs.declared.words.Format.{Format}
 use Rattle.sctp_reference.specs.declared.words.Entry.{Entry}
 use Rattle.sctp_reference.specs.declared.words.MessageName.{MessageName}
 use Rattle.sctp_reference.specs.Names.{message_of, rank_of}
-use Rattle.sctp_reference.specs.Standing.{StandsAt, IsFoundAt, IsNoLater, IsFirst, IsBetter}
+use Rattle.sctp_reference.specs.Standing.{StandsAt, IsNoLater, IsFirst}
+use Rattle.sctp_reference.specs.inner.Places.{IsFoundAt, IsBetter}
 
 some_same : (d e : Entry) → Some d ≡ Some e → d ≡ e
 some_same d e h = cc

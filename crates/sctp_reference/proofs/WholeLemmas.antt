@@ -13,9 +13,10 @@ use Rattle.sctp_reference.specs.declared.pieces.Piece.{Piece}
 use Rattle.sctp_reference.specs.declared.pieces.Whole.{Whole}
 use Rattle.sctp_reference.specs.Names.{format_of}
 use Rattle.sctp_reference.specs.Kept.{piece_of, pieces_of}
-use Rattle.sctp_reference.specs.Search.{whole_of, Begins, BeginsNumber, IsWholeFrom, IsNumberFrom, IsLower, IsWholeAnswer, IsOnlyNumber, IsWithAnswer, IsOnlyWith}
-use Rattle.sctp_reference.specs.Apart.{IsApart}
-use Rattle.sctp_reference.proofs.OneWhole.{number_only, with_only}
+use Rattle.sctp_reference.specs.Search.{whole_of, IsWholeAnswer, IsOnlyNumber, IsWithAnswer, IsOnlyWith}
+use Rattle.sctp_reference.specs.inner.Rows.{Begins, BeginsNumber, IsWholeFrom, IsNumberFrom, IsLower}
+use Rattle.sctp_model.specs.receiver.Laws.{IsApart}
+use Rattle.sctp_model.proofs.receiver.OneWhole.{number_only, with_only}
 use Rattle.sctp_reference.proofs.RowLemmas.{kept_has, kept_at}
 
 some_same : (x y : Piece) → Some x ≡ Some y → x ≡ y

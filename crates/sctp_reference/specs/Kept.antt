@@ -6,6 +6,7 @@ use Rattle.sctp_reference.specs.declared.words.Format.TheVariants.{Plain, Interl
 use Rattle.sctp_reference.specs.declared.pieces.Piece.{Piece}
 use Rattle.sctp_reference.specs.Names.{lane_of}
 
+-- a chunk with user data
 abbrev pub piece_of : Piece → model.Piece
 piece_of x = record {
   index = x.index;
@@ -22,5 +23,6 @@ abbrev pub place_of : Format → Piece → ℕ
 place_of Plain x = x.index
 place_of Interleaved x = model.fragment_of (piece_of x)
 
+-- several of them, in the same order
 abbrev pub pieces_of : List Piece → List model.Piece
 pieces_of xs = map piece_of xs

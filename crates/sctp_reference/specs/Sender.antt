@@ -1,13 +1,12 @@
 -- Which views of a sender the program's sender stands for.
-use Rattle.std.specs.Prelude.{◌≡◌, ◌↔◌, ℕ, true, map, slice_get, Some}
+use Rattle.std.specs.Prelude.{◌≡◌, ◌↔◌, ℕ, true, map}
 use Rattle.std.specs.List.{Contains}
 use Rattle.sctp_model.specs.Format.{Lane}
 use Rattle.sctp_model.specs.SenderView.{SenderView}
-use Rattle.sctp_reference.specs.declared.words.Entry.{Entry}
 use Rattle.sctp_reference.specs.declared.words.Sender.{Sender}
 use Rattle.sctp_reference.specs.declared.words.MessageName.{MessageName}
 use Rattle.sctp_reference.specs.Lists.{lists}
-use Rattle.sctp_reference.specs.Names.{lane_of, entry_of, message_of}
+use Rattle.sctp_reference.specs.Names.{lane_of, entry_of}
 
 -- The view has these entries, cumulative index and covered indexes, and these messages alone are abandoned.
 pub record IsSenderOf (s : Sender) (v : SenderView) : Type 0 where
@@ -16,7 +15,3 @@ pub record IsSenderOf (s : Sender) (v : SenderView) : Type 0 where
   pub covered : v.covered ≡ lists s.covered.now
   pub abandoned : (l : Lane) (n : ℕ) →
       (v.abandoned l n ≡ true) ↔ ((m : MessageName) × Contains s.abandoned.now m × (lane_of m.lane ≡ l) × (m.number ≡ n))
-
--- at this place, counted from 0, stands an entry of an abandoned message
-abbrev pub IsAbandonedAt : Sender → ℕ → Type 0
-IsAbandonedAt s i = (e : Entry) × (slice_get s.entries.now i ≡ Some e) × Contains s.abandoned.now (message_of e)

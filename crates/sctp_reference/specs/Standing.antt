@@ -12,11 +12,6 @@ StandsAt f es c p i m =
     (c ≤ i) × (i < p) × (is_numbered (format_of f) (kind_of m.lane.kind) ≡ true)
     × ((e : Entry) × (slice_get es i ≡ Some e) × (message_of e ≡ m))
 
--- what stands at one place
-abbrev pub IsFoundAt : Format → List Entry → ℕ → ℕ → ℕ → Option MessageName → Type 0
-IsFoundAt f es c p i None = (m : MessageName) → StandsAt f es c p i m → ⊥
-IsFoundAt f es c p i (Some m) = StandsAt f es c p i m
-
 -- the lane comes before, or the lane is the same and the number is no smaller
 abbrev pub IsNoLater : MessageName → MessageName → Type 0
 IsNoLater b m = (rank_of b.lane < rank_of m.lane) ⊎ ((rank_of b.lane ≡ rank_of m.lane) × (m.number ≤ b.number))
@@ -27,10 +22,3 @@ IsFirst f es c p floor n None = (i : ℕ) (m : MessageName) → i < n → Stands
 IsFirst f es c p floor n (Some b) =
     ((i : ℕ) × StandsAt f es c p i b) × (floor ≤ rank_of b.lane)
     × ((i : ℕ) (m : MessageName) → i < n → StandsAt f es c p i m → floor ≤ rank_of m.lane → IsNoLater b m)
-
--- Whichever the new one is: the old one stays where the new one is none, is below the floor, or comes later.
-abbrev pub IsBetter : Option MessageName → ℕ → Option MessageName → Option MessageName → Type 0
-IsBetter best floor None r = r ≡ best
-IsBetter None floor (Some m) r = ((rank_of m.lane < floor) × (r ≡ None)) ⊎ ((floor ≤ rank_of m.lane) × (r ≡ Some m))
-IsBetter (Some b) floor (Some m) r =
-    (((rank_of m.lane < floor) ⊎ IsNoLater b m) × (r ≡ Some b)) ⊎ ((floor ≤ rank_of m.lane) × IsNoLater m b × (r ≡ Some m))

@@ -7,7 +7,8 @@ use Rattle.sctp_model.specs.Chunk.{PieceMeaning, Data}
 use Rattle.sctp_model.specs.ReceiverView.{ReceiverView}
 use Rattle.sctp_model.specs.Receiving.{IsWholeNumber, IsLowest, HasNoWhole, IsDue, Stop, Over, Takes, recorded, without_below}
 use Rattle.sctp_model.specs.first.Sending.{went_out}
-use Rattle.sctp_model.specs.first.World.{first_receiver, Ticket, Done, Message, Sent, Acted, Take, Send, Build, Deliver, Open, Step, A, B, Established, EndView, World, start, fresh_end, piece_said, IsDuplicate, Taken, Acts, Builds, with_end, with_packet, sent_by_user, taken_by_user}
+use Rattle.sctp_model.specs.first.Ends.{first_receiver, Established, EndView, fresh_end, piece_said, IsDuplicate, Taken, Acts, Builds}
+use Rattle.sctp_model.specs.first.World.{Ticket, Done, Message, Sent, Acted, Take, Send, Build, Deliver, Open, Step, A, B, World, start, with_end, with_packet, sent_by_user, taken_by_user}
 use Rattle.sctp_safety.specs.Example.{small, greeting, arrived, Arrives}
 
 -- ---- the worlds

@@ -5,7 +5,7 @@ use Rattle.sctp_model.specs.Chunk.{SackMeaning, Sack}
 use Rattle.sctp_model.specs.SenderView.{Queued}
 use Rattle.sctp_model.specs.ReceiverView.{ReceiverView, room_left}
 use Rattle.sctp_model.specs.first.Sending.{IsFill, room_of, room_of_all, went_out}
-use Rattle.sctp_model.specs.first.World.{Configuration, EndView, Packet, SackOf, datas_of, Builds, SACK_ROOM}
+use Rattle.sctp_model.specs.first.Ends.{Configuration, EndView, Packet, SackOf, datas_of, Builds, SACK_ROOM}
 use Rattle.sctp_model.specs.Packet.{HEADER_ROOM}
 use Rattle.sctp_safety.proofs.TotalReceiver.{IsSimple}
 use Rattle.sctp_safety.proofs.TotalTaken.{HasCumulative, has_cumulative}

@@ -7,7 +7,7 @@ use Rattle.sctp_model.specs.Chunk.{PieceMeaning, ChunkMeaning, Data, Sack}
 use Rattle.sctp_model.specs.ReceiverView.{ReceiverView}
 use Rattle.sctp_model.specs.Receiving.{recorded, is_below, Takes}
 use Rattle.sctp_model.specs.Format.{Plain}
-use Rattle.sctp_model.specs.first.World.{EndView, Packet, is_taken, piece_said, PieceTaken, Duplicate, Passed, Taken, Act, Acts}
+use Rattle.sctp_model.specs.first.Ends.{EndView, Packet, is_taken, piece_said, PieceTaken, Duplicate, Passed, Taken, Act, Acts}
 use Rattle.sctp_safety.proofs.Basics.{at_other, Has-filtered}
 
 -- a chunk is a message by itself

@@ -2,8 +2,9 @@
 use Rattle.std.proofs.Common.{◌≡◌, ℕ, suc, Bool, true, false, List, [], ◌∷◌, length, Option, Some, None, refl, sym, subst, inl, inr}
 use Rattle.sctp_model.specs.Lists.{item_at}
 use Rattle.sctp_model.specs.ReceiverView.{Handed}
-use Rattle.sctp_model.specs.first.Sending.{Refusal, accepted}
-use Rattle.sctp_model.specs.first.World.{first_receiver, State, Closed, Listen, Established, send_refusal, taken_by_user, sent_by_user, Side, A, B, Configuration, EndView, Packet, World, start, Acts, Event, Open, Send, Build, Deliver, Take, Outcome, Done, OpenRefused, SendRefused, Ticket, Sent, Quiet, Acted, Absent, Message, Nothing, end_of, other, bag_of, with_end, with_packet, Step, Run, last_of, IsReachable}
+use Rattle.sctp_model.specs.first.Sending.{Refusal, AlreadyOpen, accepted}
+use Rattle.sctp_model.specs.first.Ends.{first_receiver, State, Closed, Listen, Established, Configuration, EndView, Packet, Acts}
+use Rattle.sctp_model.specs.first.World.{send_refusal, taken_by_user, sent_by_user, Side, A, B, World, start, Event, Open, Send, Build, Deliver, Take, Outcome, Done, Refused, Ticket, Sent, Quiet, Acted, Absent, Message, Nothing, end_of, other, bag_of, with_end, with_packet, Step, Run, last_of, IsReachable}
 use Rattle.sctp_model.specs.Packet.{size_of_packet}
 use Rattle.sctp_safety.specs.Answered.{HasAnswer, EventsAreAnswered, HaveAnswers, ListsAreAnswered}
 use Rattle.sctp_safety.proofs.TotalReceiver.{IsSimple, acts_simple}
@@ -35,13 +36,13 @@ same_simple w v x e = subst AreSimple (sym e) x
 
 open_simple : (w v : World) (o : Option Outcome) → AreSimple w → Step w Open o v → AreSimple v
 open_simple w v (Some Done) x (closed, same) = subst AreSimple (sym same) (fresh_simple w.configuration, fresh_simple w.configuration)
-open_simple w v (Some OpenRefused) x (closed, same) = same_simple w v x same
+open_simple w v (Some (Refused r)) x (which, closed, same) = same_simple w v x same
 open_simple w v None x same = same_simple w v x same
 open_simple w v o x h = absurd h
 
 send_simple : (w v : World) (s : Side) (stream payload : ℕ) (bytes : List ℕ) (o : Option Outcome) → AreSimple w →
     Step w (Send s stream payload bytes) o v → AreSimple v
-send_simple w v s stream payload bytes (Some (SendRefused r)) x (why, same) = same_simple w v x same
+send_simple w v s stream payload bytes (Some (Refused r)) x (why, same) = same_simple w v x same
 send_simple w v s stream payload bytes (Some (Ticket y t)) x (side, allowed, ticket, same) = subst AreSimple (sym same)
     (end_simple w s (sent_by_user (end_of w s) stream payload bytes) x (simple_at w s x))
 send_simple w v s stream payload bytes None x (allowed, same) = same_simple w v x same
@@ -93,14 +94,14 @@ open_answered : (w : World) → HasAnswer w Open
 open_answered w = go w.opened refl
   where
     go : (b : Bool) → w.opened ≡ b → HasAnswer w Open
-    go true h = (OpenRefused, w, (h, refl))
+    go true h = (Refused AlreadyOpen, w, (refl, h, refl))
     go false h = (Done, _, (h, refl))
 
 send_answered : (w : World) (s : Side) (stream payload : ℕ) (bytes : List ℕ) → HasAnswer w (Send s stream payload bytes)
 send_answered w s stream payload bytes = go (send_refusal (end_of w s) stream bytes) refl
   where
     go : (r : Option Refusal) → send_refusal (end_of w s) stream bytes ≡ r → HasAnswer w (Send s stream payload bytes)
-    go (Some why) h = (SendRefused why, w, (h, refl))
+    go (Some why) h = (Refused why, w, (h, refl))
     go None h = (Ticket s (suc (accepted (end_of w s).sender)), _, (refl, h, refl, refl))
 
 build_answered : (w : World) (s : Side) → AreSimple w → HasAnswer w (Build s)

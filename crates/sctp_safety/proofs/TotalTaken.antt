@@ -7,7 +7,7 @@ use Rattle.sctp_model.specs.Pieces.{Piece}
 use Rattle.sctp_model.specs.Chunk.{PieceMeaning, ChunkMeaning, Data, Sack}
 use Rattle.sctp_model.specs.ReceiverView.{Handed, ReceiverView, IsReached, IsCumulative}
 use Rattle.sctp_model.specs.Receiving.{IsWholeNumber, IsLowest, HasNoWhole, message_of, IsDue, Stop, Over, Past, recorded, Takes}
-use Rattle.sctp_model.specs.first.World.{EndView, Packet, is_taken, piece_said, IsDuplicate, PieceTaken, Duplicate, Passed, Taken, Act, Acts}
+use Rattle.sctp_model.specs.first.Ends.{EndView, Packet, is_taken, piece_said, IsDuplicate, PieceTaken, Duplicate, Passed, Taken, Act, Acts}
 use Rattle.sctp_safety.proofs.Basics.{lane_cases}
 use Rattle.sctp_safety.proofs.TotalReceiver.{IsAlone, IsSimple, keeping_simple, taken_alone, acts_simple}
 

@@ -10,7 +10,7 @@ use Rattle.sctp_model.specs.ReceiverView.{ReceiverView}
 use Rattle.sctp_model.specs.Acknowledgement.{Acknowledgement}
 use Rattle.sctp_model.specs.Calls.{Asked}
 use Rattle.sctp_model.specs.first.Sending.{message_for, numbered_one, numbered_all, went_out}
-use Rattle.sctp_model.specs.first.World.{Configuration, EndView, Packet, piece_said, datas_of, SackOf, Builds}
+use Rattle.sctp_model.specs.first.Ends.{Configuration, EndView, Packet, piece_said, datas_of, SackOf, Builds}
 use Rattle.sctp_safety.specs.Way.{Way, Number, Put_piece, Put_sack, Retune, IsAllClosed}
 use Rattle.sctp_safety.specs.Exact.{Leads}
 use Rattle.sctp_safety.proofs.Basics.{Has-left, slice_get-end, at_lane_same, Has-cases, Has-push, Has-right}

@@ -9,7 +9,7 @@ use Rattle.sctp_model.specs.ReceiverView.{ReceiverView}
 use Rattle.sctp_model.specs.Acknowledgement.{Acknowledgement, covers}
 use Rattle.sctp_model.specs.Calls.{Asked}
 use Rattle.sctp_model.specs.first.Sending.{acknowledged}
-use Rattle.sctp_model.specs.first.World.{Configuration, EndView, Packet, piece_said, IsDuplicate, PieceTaken, Duplicate, Passed, Taken, Act, Acts}
+use Rattle.sctp_model.specs.first.Ends.{Configuration, EndView, Packet, piece_said, IsDuplicate, PieceTaken, Duplicate, Passed, Taken, Act, Acts}
 use Rattle.sctp_safety.specs.Way.{Sack_comes, Retune}
 use Rattle.sctp_safety.specs.Exact.{Leads}
 use Rattle.sctp_safety.proofs.Built.{passing_is_moves}

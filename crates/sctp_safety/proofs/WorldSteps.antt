@@ -4,7 +4,8 @@ use Rattle.sctp_model.specs.Lists.{Has, IsWithin, item_at}
 use Rattle.sctp_model.specs.SenderView.{SenderView}
 use Rattle.sctp_model.specs.first.Sending.{refusal}
 use Rattle.sctp_model.specs.Chunk.{ChunkMeaning, Data, Sack}
-use Rattle.sctp_model.specs.first.World.{first_receiver, first_sender, Closed, Listen, refusal_in, State, taken_by_user, sent_by_user, Side, A, B, Configuration, Established, EndView, Packet, World, fresh_end, start, Act, Acts, Event, Open, Send, Build, Deliver, Take, Outcome, Done, OpenRefused, SendRefused, Ticket, Sent, Quiet, Acted, Absent, Message, Nothing, end_of, other, bag_of, with_end, with_packet, Step, Run, last_of, IsReachable}
+use Rattle.sctp_model.specs.first.Ends.{first_receiver, first_sender, Closed, Listen, State, Configuration, Established, EndView, Packet, fresh_end, Act, Acts}
+use Rattle.sctp_model.specs.first.World.{refusal_in, taken_by_user, sent_by_user, Side, A, B, World, start, Event, Open, Send, Build, Deliver, Take, Outcome, Done, Refused, Ticket, Sent, Quiet, Acted, Absent, Message, Nothing, end_of, other, bag_of, with_end, with_packet, Step, Run, last_of, IsReachable}
 use Rattle.sctp_safety.specs.Worlds.{IsSafeWorld, SafeWorlds, AllSafe, SafeRuns}
 use Rattle.sctp_safety.proofs.Basics.{Has-left}
 use Rattle.sctp_safety.proofs.SafeWhenGood.{safe_when_good}
@@ -124,7 +125,7 @@ same_led w v l e = subst IsLedWorld (sym e) l
 
 open_led : (w v : World) (o : Option Outcome) → IsLedWorld w → Step w Open o v → IsLedWorld v
 open_led w v (Some Done) l (closed, same) = subst IsLedWorld (sym same) (opened w l closed)
-open_led w v (Some OpenRefused) l (closed, same) = same_led w v l same
+open_led w v (Some (Refused r)) l (which, closed, same) = same_led w v l same
 open_led w v None l same = same_led w v l same
 open_led w v o l h = absurd h
 
@@ -135,7 +136,7 @@ not_refused Listen a stream bytes h = absurd (cc h)
 not_refused Established a stream bytes h = h
 
 send_led : (w v : World) (s : Side) (stream payload : ℕ) (bytes : List ℕ) (o : Option Outcome) → IsLedWorld w → Step w (Send s stream payload bytes) o v → IsLedWorld v
-send_led w v s stream payload bytes (Some (SendRefused r)) l (why, same) = same_led w v l same
+send_led w v s stream payload bytes (Some (Refused r)) l (why, same) = same_led w v l same
 send_led w v s stream payload bytes (Some (Ticket x t)) l (side, allowed, ticket, same) = subst IsLedWorld (sym same)
     (own_changed w s (sent_by_user (end_of w s) stream payload bytes) l refl (sent (seen_from w s l)))
   where

@@ -7,7 +7,7 @@ use Rattle.sctp_model.specs.SenderView.{Queued, SenderView}
 use Rattle.sctp_model.specs.ReceiverView.{Handed, ReceiverView}
 use Rattle.sctp_model.specs.Calls.{Call, Asked}
 use Rattle.sctp_model.specs.first.Sending.{Refusal, NoSuchStream, Empty, TooLong, QueueFull, Spent, refusal, accepted, message_for, queued, QUEUE_LIMIT, MESSAGE_LIMIT}
-use Rattle.sctp_model.specs.first.World.{Configuration, Packet}
+use Rattle.sctp_model.specs.first.Ends.{Configuration, Packet}
 use Rattle.sctp_safety.specs.Way.{Way, Send, Take}
 use Rattle.sctp_safety.proofs.Basics.{Has-push}
 use Rattle.sctp_safety.proofs.Taken.{leads_by}

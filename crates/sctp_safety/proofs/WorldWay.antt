@@ -9,7 +9,8 @@ use Rattle.sctp_model.specs.ReceiverView.{ReceiverView}
 use Rattle.sctp_model.specs.Acknowledgement.{Acknowledgement}
 use Rattle.sctp_model.specs.Calls.{Asked}
 use Rattle.sctp_model.specs.first.Sending.{accepted, message_for}
-use Rattle.sctp_model.specs.first.World.{EndView, Configuration, Packet, World, piece_said, Established}
+use Rattle.sctp_model.specs.first.Ends.{EndView, Configuration, Packet, piece_said, Established}
+use Rattle.sctp_model.specs.first.World.{World}
 use Rattle.sctp_safety.specs.Way.{Way, IsStart}
 use Rattle.sctp_safety.specs.Exact.{Leads}
 use Rattle.sctp_safety.proofs.Facts.{Good}

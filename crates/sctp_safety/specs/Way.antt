@@ -27,6 +27,7 @@ pub record Way : Type 0 where
   pub sacks : List Acknowledgement
   pub shutdowns : List ℕ
 
+-- Everything that may happen to one direction. `Step`, below, says of each when it may and where it leads.
 pub data Move : Type 0 where
   -- the user of the sending end
   Send : (call : Call) (fragments : List (List ℕ)) → Move
@@ -58,9 +59,11 @@ pub data Move : Type 0 where
   Take : (stream : ℕ) (message : Handed) (rest : List Handed) → Move
   Note : ReceiverView → Move
 
+-- only the sender changed
 abbrev pub with_sender : Way → SenderView → Way
 with_sender w a = record w { sender = a }
 
+-- only the receiver changed
 abbrev pub with_receiver : Way → ReceiverView → Way
 with_receiver w r = record w { receiver = r }
 
@@ -79,6 +82,7 @@ numbered p l m count = record {
   entries = p.entries ++ parts_from l (length (p.messages l)) 0 count;
 }
 
+-- the plan after a message in part took its next `count` fragments, from fragment k on
 abbrev pub continued : Plan → Lane → ℕ → ℕ → ℕ → Plan
 continued p l n k count = record p { entries = p.entries ++ parts_from l n k count }
 

@@ -12,6 +12,7 @@ IsSafeWorld w = (s : Side) → Safe Plain (end_of w s).sender (end_of w (other s
 abbrev pub SafeWorlds : Type 0
 SafeWorlds = (w : World) → IsReachable w → IsSafeWorld w
 
+-- each of these worlds is safe
 abbrev pub AllSafe : List World → Type 0
 AllSafe [] = Unit {0}
 AllSafe (w ∷ ws) = IsSafeWorld w × AllSafe ws

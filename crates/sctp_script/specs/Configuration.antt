@@ -1,7 +1,7 @@
 -- What is wrong with sizes that a pair may not have, and what a configuration and a draw hold.
 use Rattle.std.specs.Prelude.{◌≢◌, ℕ, ◌+◌, ◌<◌, ◌⊎◌}
 use Rattle.sctp_model.specs.Chunk.{padded}
-use Rattle.sctp_model.specs.first.World.{Configuration}
+use Rattle.sctp_model.specs.first.Ends.{Configuration}
 use Rattle.sctp_script.specs.declared.config.ConfigFault.{ConfigFault}
 use Rattle.sctp_script.specs.declared.config.ConfigFault.TheVariants.{Port, PacketLimit, Fragment, Buffer, Streams}
 use Rattle.sctp_script.specs.declared.config.Mode.{Mode}

@@ -1,9 +1,9 @@
 -- What the events and outcomes of a pair say, in the words of the world.
-use Rattle.std.specs.Prelude.{◌≡◌, ℕ, List}
+use Rattle.std.specs.Prelude.{◌≡◌, ℕ, List, Option}
 use Rattle.sctp_model.specs.Format.{ordered_lane}
 use Rattle.sctp_model.specs.ReceiverView.{Handed}
-use Rattle.sctp_model.specs.first.Sending.{Refusal}
 use Rattle.sctp_model.specs.first.Sending as refusal
+use Rattle.sctp_model.specs.first.Ends as ends
 use Rattle.sctp_model.specs.first.World as world
 use Rattle.sctp_script.specs.declared.event.Side.{Side}
 use Rattle.sctp_script.specs.declared.event.Side.TheVariants as side
@@ -11,11 +11,10 @@ use Rattle.sctp_script.specs.declared.event.State.{State}
 use Rattle.sctp_script.specs.declared.event.State.TheVariants as state
 use Rattle.sctp_script.specs.declared.event.Event.{Event}
 use Rattle.sctp_script.specs.declared.event.Event.TheVariants.{Open, Send, Build, Deliver, Take}
-use Rattle.sctp_script.specs.declared.event.SendRefusal.{SendRefusal}
-use Rattle.sctp_script.specs.declared.event.SendRefusal.TheVariants.{NoSuchStream, Empty, TooLong, QueueFull, Spent, NotOpen}
+use Rattle.sctp_script.specs.declared.event.Refusal.{Refusal}
+use Rattle.sctp_script.specs.declared.event.Refusal.TheVariants.{AlreadyOpen, NoSuchStream, Empty, TooLong, QueueFull, Spent, NotOpen}
 use Rattle.sctp_script.specs.declared.event.Outcome.{Outcome}
 use Rattle.sctp_script.specs.declared.event.Outcome.TheVariants as outcome
-use Rattle.sctp_model.specs.first.World.{number_told}
 
 -- an end, in the words of the world
 abbrev pub side_meaning : Side → world.Side
@@ -23,10 +22,10 @@ side_meaning side.A = world.A
 side_meaning side.B = world.B
 
 -- a state
-abbrev pub state_meaning : State → world.State
-state_meaning state.Closed = world.Closed
-state_meaning state.Listen = world.Listen
-state_meaning state.Established = world.Established
+abbrev pub state_meaning : State → ends.State
+state_meaning state.Closed = ends.Closed
+state_meaning state.Listen = ends.Listen
+state_meaning state.Established = ends.Established
 
 -- what an event says; as yet the draws say nothing, since the first TSN counts as 1
 abbrev pub event_meaning : Event → world.Event
@@ -36,8 +35,9 @@ event_meaning (Build x) = world.Build (side_meaning x)
 event_meaning (Deliver x number) = world.Deliver (side_meaning x) number
 event_meaning (Take x stream) = world.Take (side_meaning x) stream
 
--- why a message isn't accepted
-abbrev pub refusal_meaning : SendRefusal → Refusal
+-- why a call is refused
+abbrev pub refusal_meaning : Refusal → refusal.Refusal
+refusal_meaning AlreadyOpen = refusal.AlreadyOpen
 refusal_meaning NoSuchStream = refusal.NoSuchStream
 refusal_meaning Empty = refusal.Empty
 refusal_meaning TooLong = refusal.TooLong
@@ -45,18 +45,17 @@ refusal_meaning QueueFull = refusal.QueueFull
 refusal_meaning Spent = refusal.Spent
 refusal_meaning NotOpen = refusal.NotOpen
 
--- What the user is told of a message that was handed over: all but the index of its first chunk.
-pub record IsToldOf (on n id : ℕ) (text : List ℕ) (h : Handed) : Type 0 where
+-- What the user is told of a message that was handed over: all but the index of its first chunk. A message that has no number is told so.
+pub record IsToldOf (on : ℕ) (n : Option ℕ) (id : ℕ) (text : List ℕ) (h : Handed) : Type 0 where
   pub lane : h.lane ≡ ordered_lane on
-  pub number : number_told h ≡ n
+  pub number : h.number ≡ n
   pub payload : h.payload ≡ id
   pub bytes : h.bytes ≡ text
 
 -- an outcome tells the answer of a step
 abbrev pub Answers : Outcome → world.Outcome → Type 0
 Answers outcome.Done o = o ≡ world.Done
-Answers outcome.OpenRefused o = o ≡ world.OpenRefused
-Answers (outcome.SendRefused r) o = o ≡ world.SendRefused (refusal_meaning r)
+Answers (outcome.Refused r) o = o ≡ world.Refused (refusal_meaning r)
 Answers (outcome.Ticket x ticket) o = o ≡ world.Ticket (side_meaning x) ticket
 Answers (outcome.Sent x number length) o = o ≡ world.Sent (side_meaning x) number length
 Answers (outcome.Quiet x) o = o ≡ world.Quiet (side_meaning x)

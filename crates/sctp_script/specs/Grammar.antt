@@ -1,6 +1,7 @@
 -- The script's grammar: what a line says. A line is bytes without the line feed.
 use Rattle.std.specs.Prelude.{◌≡◌, ◌≢◌, ℕ, ◌<◌, Bool, List, [], ◌∷◌, length}
-use Rattle.sctp_model.specs.first.World.{Configuration, Event, Open, Send, Build, Deliver, Take}
+use Rattle.sctp_model.specs.first.Ends.{Configuration}
+use Rattle.sctp_model.specs.first.World.{Event, Open, Send, Build, Deliver, Take}
 use Rattle.sctp_script.specs.declared.command.Command.{Command}
 use Rattle.sctp_script.specs.declared.command.Command.TheVariants as command
 use Rattle.sctp_script.specs.declared.line.TheConstants.{COMMENT}

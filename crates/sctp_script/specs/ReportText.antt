@@ -2,7 +2,8 @@
 use Rattle.std.specs.Prelude.{ℕ, zero, suc, List, [], ◌∷◌, ◌++◌, map, Option, Some, None, codes, decimal}
 use Rattle.sctp_model.specs.Plan.{Message, Entry, Part, End, Plan, message_at}
 use Rattle.sctp_model.specs.ReceiverView.{ReceiverView, handed}
-use Rattle.sctp_model.specs.first.World.{Side, A, B, State, Closed, Listen, Established, EndView, World, number_told}
+use Rattle.sctp_model.specs.first.Ends.{State, Closed, Listen, Established, EndView}
+use Rattle.sctp_model.specs.first.World.{Side, A, B, World}
 use Rattle.sctp_script.specs.OutcomeText.{side_word}
 use Rattle.sctp_text.specs.SpacedWords.{line_of}
 
@@ -45,9 +46,15 @@ tickets_in p (End lane number ∷ es) = tickets_in p es
 abbrev pub tickets_of : Plan → List ℕ
 tickets_of p = tickets_in p p.entries
 
+-- the numbers that are there, in their order: a message without one isn't listed
+abbrev pub numbers_there : List (Option ℕ) → List ℕ
+numbers_there [] = []
+numbers_there (None ∷ os) = numbers_there os
+numbers_there (Some n ∷ os) = n ∷ numbers_there os
+
 -- the numbers of all that was handed over on a stream, whether the user took it or not
 abbrev pub numbers_of : ReceiverView → ℕ → List ℕ
-numbers_of r stream = map number_told (handed r stream)
+numbers_of r stream = numbers_there (map (λ h. h.number) (handed r stream))
 
 -- the lines of streams 0 to n - 1
 abbrev pub handed_lines : Side → ReceiverView → ℕ → List ℕ

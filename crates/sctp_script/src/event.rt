@@ -68,9 +68,11 @@ pub enum Event {
     },
 }
 
-/// Why an end takes no message from its user; the first reason that holds, in this order but for the last one, which comes first.
+/// Why a call is refused. Of a message the first reason that holds counts, in this order but for the last one, which comes first.
 #[derive(Clone, Copy, Debug, PartialEq, Eq)]
-pub enum SendRefusal {
+pub enum Refusal {
+    /// 1: the ends were opened before.
+    AlreadyOpen,
     /// 1: there is no such stream.
     NoSuchStream,
     /// 2: the message has no byte.
@@ -85,7 +87,7 @@ pub enum SendRefusal {
     NotOpen,
 }
 
-impl SendRefusal {
+impl Refusal {
     ghost use Rattle.std.specs.Prelude.{◌≡◌};
     ghost use Rattle.sctp_script.specs.Events.{refusal_meaning};
     ghost use Rattle.sctp_script.specs.OutcomeText.{refusal_code};
@@ -95,12 +97,12 @@ impl SendRefusal {
         ensures { result ≡ refusal_code (refusal_meaning self) }
     {
         match self {
-            SendRefusal::NoSuchStream => 1,
-            SendRefusal::Empty => 2,
-            SendRefusal::TooLong => 3,
-            SendRefusal::QueueFull => 4,
-            SendRefusal::Spent => 5,
-            SendRefusal::NotOpen => 7,
+            Refusal::AlreadyOpen | Refusal::NoSuchStream => 1,
+            Refusal::Empty => 2,
+            Refusal::TooLong => 3,
+            Refusal::QueueFull => 4,
+            Refusal::Spent => 5,
+            Refusal::NotOpen => 7,
         }
     }
 }
@@ -110,11 +112,9 @@ impl SendRefusal {
 pub enum Outcome {
     /// `ok`: the ends were opened.
     Done,
-    /// `refused 1`: they were opened before.
-    OpenRefused,
-    /// `refused CODE`: the message isn't accepted.
-    SendRefused {
-        refusal: SendRefusal,
+    /// `refused CODE`: nothing changed.
+    Refused {
+        refusal: Refusal,
     },
     /// `ticket X K`: the message is accepted as the K-th of this end.
     Ticket {
@@ -137,11 +137,11 @@ pub enum Outcome {
     },
     /// `absent`: there is no such packet.
     Absent,
-    /// `message X STREAM KIND NUMBER ID HEX`: the message that was taken, with its number on the stream.
+    /// `message X STREAM KIND NUMBER ID HEX`: the message that was taken, with its number on the stream; None where it has none.
     Message {
         side: Side,
         stream: u16,
-        number: u32,
+        number: Option<u32>,
         payload_id: u32,
         bytes: Bytes,
     },

@@ -13,12 +13,9 @@ mod outcome_line;
 mod report;
 
 pub use config::{ConfigFault, Draw, Mode, PairConfig};
-pub use event::{Event, Outcome, SendRefusal, Side, State};
+pub use event::{Event, Outcome, Refusal, Side, State};
 pub use laws::{events_follow_the_pair, one_meaning};
 pub use line::{Acting, LineError, LineFault, read_line};
 pub use outcome_line::put_outcome;
 pub use report::{put_end, put_handed, put_numbered};
 pub use sctp_text::Bytes;
-
-#[cfg(test)]
-mod language_tests;

@@ -4,7 +4,7 @@ ghost use Rattle.std.specs.Prelude.{◌≡◌, ◌++◌, OnOk, OnErr};
 ghost use Rattle.sctp_model.specs.ReceiverView.{Handed};
 ghost use Rattle.sctp_model.specs.first.World as world;
 ghost use Rattle.sctp_script.specs.Events.{side_meaning, Answers, IsToldOf};
-ghost use Rattle.sctp_script.specs.OutcomeText.{side_word, outcome_line};
+ghost use Rattle.sctp_script.specs.OutcomeText.{side_word, number_word, outcome_line};
 ghost use Rattle.sctp_text.specs.WrittenWords.{text_of};
 
 use crate::event::{Outcome, Side};
@@ -22,8 +22,7 @@ pub fn put_outcome(outcome: &Outcome, out: &mut Vec<u8>) -> Result<(), NoMemory>
 {
     match outcome {
         Outcome::Done => put_line(b"ok", &[], &[], out),
-        Outcome::OpenRefused => put_line(b"refused", &[], &[1], out),
-        Outcome::SendRefused { refusal } => {
+        Outcome::Refused { refusal } => {
             put_line(b"refused", &[], &[u32::from(refusal.code())], out)
         }
         Outcome::Ticket { side, ticket } => {
@@ -61,7 +60,7 @@ pub fn put_outcome(outcome: &Outcome, out: &mut Vec<u8>) -> Result<(), NoMemory>
 fn put_message(
     side: Side,
     stream: u16,
-    number: u32,
+    number: Option<u32>,
     payload_id: u32,
     bytes: &Bytes,
     out: &mut Vec<u8>,
@@ -74,11 +73,21 @@ fn put_message(
         side_word(side),
         Word::Number(u64::from(stream)),
         Word::Text(b"o"),
-        Word::Number(u64::from(number)),
+        number_word(number),
         Word::Number(u64::from(payload_id)),
         Word::Hex(bytes.as_slice()),
     ];
     put_line(b"message", &words, &[], out)
+}
+
+/// A message's number, or that it has none.
+fn number_word(number: Option<u32>) -> Word<'static>
+    ensures { text_of result ≡ number_word number }
+{
+    match number {
+        Some(number) => Word::Number(u64::from(number)),
+        None => Word::Text(b"-"),
+    }
 }
 
 /// The name of an end.

@@ -4,8 +4,10 @@ use Rattle.std.specs.declared.vec.Vec.{Vec}
 use Rattle.std.specs.declared.alloc.Global.{Global}
 use Rattle.std.proofs.lemmas.Option.{slice_get_past}
 use Rattle.sctp_model.specs.Lists.{item_at}
-use Rattle.sctp_model.specs.first.World.{Side, A, B, Packet, World, EndView, end_of, other, bag_of, with_end, with_packet}
-use Rattle.sctp_trace.specs.PairStands.{IsPacketOf, ArePackets, with_bag}
+use Rattle.sctp_model.specs.first.Ends.{Packet, EndView}
+use Rattle.sctp_model.specs.first.World.{Side, A, B, World, end_of, other, bag_of, with_end, with_packet}
+use Rattle.sctp_trace.specs.PairStands.{IsPacketOf, ArePackets}
+use Rattle.sctp_trace.specs.inner.EndSteps.{with_bag}
 
 pub bag-push : (bag : List (Vec ℕ Global)) (ps : List Packet) (b : Vec ℕ Global) (p : Packet) → ArePackets bag ps → IsPacketOf b.items p
     → ArePackets (bag ++ b ∷ []) (ps ++ p ∷ [])

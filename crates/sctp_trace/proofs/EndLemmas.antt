@@ -1,11 +1,11 @@
 -- What the calls of its sender and receiver do to an end.
-use Rattle.std.proofs.Common.{◌≡◌, ℕ, zero, suc, ◌+◌, ◌*◌, ◌<◌, ◌≤◌, ◌⊎◌, Bool, true, false, ◌==◌, List, [], ◌∷◌, ◌++◌, length, map, take, drop, slice_get, Option, Some, None, Ok, Err, inl, inr, refl, sym, ap, ◌∙◌, subst, append_assoc, arith, length-append}
+use Rattle.std.proofs.Common.{◌≡◌, ℕ, zero, suc, ◌+◌, ◌*◌, ◌<◌, ◌≤◌, ◌⊎◌, Bool, true, false, ◌==◌, List, [], ◌∷◌, ◌++◌, length, map, take, drop, get_or, slice_get, Option, Some, None, Ok, Err, inl, inr, refl, sym, ap, ◌∙◌, subst, append_assoc, arith, length-append}
 use Rattle.std.specs.declared.vec.Vec.{Vec}
 use Rattle.std.specs.declared.alloc.Global.{Global}
 use Rattle.std.specs.Prelude.{Result, MatchResult, ◌-◌, filter, nat_lt, nat_le, ◌||◌, ◌&&◌}
 use Rattle.std.specs.List.{AllByRecursion}
 use Rattle.std.proofs.Math.Path.{fun_ext}
-use Rattle.std.proofs.lemmas.List.{append-nil, map-append, length-take}
+use Rattle.std.proofs.lemmas.List.{append-nil, map-append, length-take, take_more}
 use Rattle.std.proofs.lemmas.List.Elements.{filter-append}
 use Rattle.std.proofs.lemmas.Bool.{eq-eqb, eqb-false, eqb-true, cond_both, and_parts, cases_Bool}
 use Rattle.std.proofs.lemmas.Grind.{common_steps}
@@ -19,7 +19,8 @@ use Rattle.sctp_model.specs.ReceiverView.{Handed, ReceiverView}
 use Rattle.sctp_model.specs.Receiving.{IsDue, Stop, Over, Past}
 use Rattle.sctp_model.specs.first.World as world
 use Rattle.sctp_model.specs.first.Sending.{Refusal, NotOpen, refusal, IsFill, numbered_one, numbered_all, went_out, acknowledged}
-use Rattle.sctp_model.specs.first.World.{EndView, Packet, Act, Acts, is_taken, piece_said, SackOf, SACK_ROOM, State, Closed, Listen, Established, refusal_in, datas_of, Configuration, Builds, taken_by_user, PieceTaken, Duplicate, Passed, Taken, number_told}
+use Rattle.sctp_model.specs.first.Ends.{EndView, Packet, Act, Acts, is_taken, piece_said, SackOf, SACK_ROOM, State, Closed, Listen, Established, datas_of, Configuration, Builds, PieceTaken, Duplicate, Passed, Taken}
+use Rattle.sctp_model.specs.first.World.{refusal_in, taken_by_user}
 use Rattle.sctp_model.specs.Packet.{size_of_packet, size_of_chunks, HEADER_ROOM}
 use Rattle.sctp_wire.specs.declared.fault.NoMemory.{NoMemory}
 use Rattle.sctp_script.specs.Events.{Answers}
@@ -27,13 +28,14 @@ use Rattle.sctp_trace.specs.PairRuns.{Told}
 use Rattle.sctp_packet.specs.Draft.{Draft, room_in, with_chunks, empty_draft}
 use Rattle.sctp_script.specs.declared.event.Outcome.{Outcome}
 use Rattle.sctp_first_send.specs.declared.sender.SendFault.{SendFault}
-use Rattle.sctp_trace.specs.EndStands.{is_established, IsBeginning, HasMessage, IsOn, IsEnd, tickets_noted, numbers_taken}
+use Rattle.sctp_trace.specs.EndStands.{is_established, HasMessage, IsOn, IsEnd, tickets_noted, numbers_taken}
+use Rattle.sctp_trace.specs.inner.EndSteps.{IsBeginning}
 use Rattle.sctp_first_recv.specs.declared.message.Message.{Message}
 use Rattle.sctp_first_recv.specs.HandedOf.{handed_of}
 use Rattle.sctp_first_recv.specs.ReceiverCalls.{IsAnswered, taken_from}
 use Rattle.sctp_first_recv.specs.ReceiverKept.{ReceiverKept}
 use Rattle.sctp_first_recv.specs.ReceiverStands.{ReceiverStands}
-use Rattle.sctp_script.specs.ReportText.{ticket_of, tickets_in, tickets_of}
+use Rattle.sctp_script.specs.ReportText.{numbers_there, ticket_of, tickets_in, tickets_of}
 use Rattle.sctp_first_send.specs.SenderStands.{StandsFor}
 use Rattle.sctp_first_send.specs.SenderSteps.{reason_of, numbers_of, Fills}
 use Rattle.sctp_first_send.specs.SenderKept.{Kept}
@@ -139,7 +141,7 @@ data_heard e q v p a t k stands some answered = go a some answered
           streams = k.streams ∙ sym same.streams;
           numbered = k.numbered;
           messages = k.messages;
-          taken = λ s. k.taken s ∙ ap (λ (g : ℕ → List Handed). map number_told (g s)) (sym same.taken);
+          taken = λ s. k.taken s ∙ ap (λ (g : ℕ → List Handed). map (λ h. h.number) (g s)) (sym same.taken);
           lanes = same.lanes k.lanes;
         }
 
@@ -286,23 +288,45 @@ taken-other ms m s ne =
 
 -- ---- what was handed over: what was taken, and what waits
 
-map_handed : (ms : List Message) → map (λ m. number_told (handed_of m)) ms ≡ map number_told (map handed_of ms)
-map_handed [] = refl
-map_handed (m ∷ ms) = ap (λ (ns : List ℕ). number_told (handed_of m) ∷ ns) (map_handed ms)
+-- of two lists the numbers that are there are those of one and then of the other
+pub there-append : (os ps : List (Option ℕ)) → numbers_there (os ++ ps) ≡ numbers_there os ++ numbers_there ps
+there-append [] ps = refl
+there-append (None ∷ os) ps = there-append os ps
+there-append (Some n ∷ os) ps = ap (λ (ns : List ℕ). n ∷ ns) (there-append os ps)
 
-pub both_told : (taken waiting : List Handed) (numbers : List ℕ) (ms : List Message) → numbers ≡ map number_told taken → map handed_of ms ≡ waiting
-    → numbers ++ map (λ m. number_told (handed_of m)) ms ≡ map number_told (taken ++ waiting)
+-- one message more of those that the user took, and of those that wait
+pub there-taken : (ms : List TakenMessage) (i : ℕ) (d : TakenMessage) (s : ℕ) → i < length ms → (get_or ms i d).stream ≡ s
+    → numbers_there (numbers_taken (take (i + 1) ms) s) ≡ numbers_there (numbers_taken (take i ms) s) ++ numbers_there ((get_or ms i d).number ∷ [])
+there-taken ms i d s less on =
+    rw (take_more ms i d less, taken-push (take i ms) (get_or ms i d) s on) (there-append (numbers_taken (take i ms) s) ((get_or ms i d).number ∷ []))
+
+pub there-passed : (ms : List TakenMessage) (i : ℕ) (d : TakenMessage) (s : ℕ) → i < length ms → ((get_or ms i d).stream ≡ s → ⊥)
+    → numbers_there (numbers_taken (take (i + 1) ms) s) ≡ numbers_there (numbers_taken (take i ms) s)
+there-passed ms i d s less off = rw (take_more ms i d less, taken-other (take i ms) (get_or ms i d) s off) refl
+
+pub there-waiting : (ms : List Message) (i : ℕ) (m : Message) → i < length ms → m ≡ get_or ms i m
+    → numbers_there (map (λ x. x.number) (take (i + 1) ms)) ≡ numbers_there (map (λ x. x.number) (take i ms)) ++ numbers_there (m.number ∷ [])
+there-waiting ms i m less is =
+    rw (take_more ms i m less, ← is, map-append) (there-append (map (λ x. x.number) (take i ms)) (m.number ∷ []))
+
+-- a message handed over has the number that it is kept with
+numbers_kept : (ms : List Message) → map (λ m. m.number) ms ≡ map (λ h. h.number) (map handed_of ms)
+numbers_kept [] = refl
+numbers_kept (m ∷ ms) = ap (λ (os : List (Option ℕ)). m.number ∷ os) (numbers_kept ms)
+
+pub both_told : (taken waiting : List Handed) (numbers : List ℕ) (ms : List Message) → numbers ≡ numbers_there (map (λ h. h.number) taken)
+    → map handed_of ms ≡ waiting → numbers ++ numbers_there (map (λ m. m.number) ms) ≡ numbers_there (map (λ h. h.number) (taken ++ waiting))
 both_told taken waiting numbers ms told waits =
-    rw (told, map_handed ms, waits, map-append) refl
+    rw (told, numbers_kept ms, waits, map-append) (sym (there-append (map (λ h. h.number) taken) (map (λ h. h.number) waiting)))
 
-pub all_taken : (taken waiting : List Handed) (numbers : List ℕ) → numbers ≡ map number_told taken → waiting ≡ []
-    → numbers ≡ map number_told (taken ++ waiting)
+pub all_taken : (taken waiting : List Handed) (numbers : List ℕ) → numbers ≡ numbers_there (map (λ h. h.number) taken) → waiting ≡ []
+    → numbers ≡ numbers_there (map (λ h. h.number) (taken ++ waiting))
 all_taken taken waiting numbers told none = rw (told, none, append-nil) refl
 
 -- ---- the user takes a message
 
 pub end_took : (e : End) (q : ReceiverKept) (log : Vec TakenMessage Global) (m : TakenMessage) (v : EndView) (h : Handed) (rest : List Handed) → IsEnd e v
-    → v.receiver.waiting m.stream ≡ h ∷ rest → number_told h ≡ m.number → log.items ≡ e.taken.items ++ m ∷ [] → ReceiverStands q (taken_from v.receiver m.stream h rest)
+    → v.receiver.waiting m.stream ≡ h ∷ rest → h.number ≡ m.number → log.items ≡ e.taken.items ++ m ∷ [] → ReceiverStands q (taken_from v.receiver m.stream h rest)
     → IsEnd (record e { receiver = q; taken = log }) (taken_by_user v m.stream h rest)
 end_took e q log m v h rest k waits number is stands = record {
   state = k.state;
@@ -312,8 +336,8 @@ end_took e q log m v h rest k waits number is stands = record {
   streams = k.streams;
   numbered = k.numbered;
   messages = k.messages;
-  taken = λ s. at_cases (λ (hs : List Handed). numbers_taken log.items s ≡ map number_told hs) v.receiver.taken m.stream (v.receiver.taken m.stream ++ h ∷ []) s
-      (λ e. rw is (taken-push _ m s (sym e) ∙ (ap (λ (xs : List ℕ). xs ++ m.number ∷ []) (k.taken s)
+  taken = λ s. at_cases (λ (hs : List Handed). numbers_taken log.items s ≡ map (λ h. h.number) hs) v.receiver.taken m.stream (v.receiver.taken m.stream ++ h ∷ []) s
+      (λ e. rw is (taken-push _ m s (sym e) ∙ (ap (λ (xs : List (Option ℕ)). xs ++ m.number ∷ []) (k.taken s)
       ∙ rw (e, map-append, number) refl)))
       (λ ne. rw is (taken-other _ m s (λ e. ne (sym e)) ∙ k.taken s));
   lanes = λ s. at_cases (λ (hs : List Handed). AllByRecursion (IsOn s) hs) v.receiver.waiting m.stream rest s
@@ -342,12 +366,12 @@ pub isnt_open : (s : State) → is_established s ≡ false → s ≡ Established
 isnt_open s h e = cc (ap is_established e)
 
 abbrev pub Refused : Result Outcome NoMemory → SendFault → Type 0
-Refused r fault = MatchResult r (λ outcome. (x : Refusal) × (reason_of fault ≡ Some x) × Answers outcome (world.SendRefused x)) (λ _. reason_of fault ≡ None)
+Refused r fault = MatchResult r (λ outcome. (x : Refusal) × (reason_of fault ≡ Some x) × Answers outcome (world.Refused x)) (λ _. reason_of fault ≡ None)
 
-pub refused_told : (r : Result Outcome NoMemory) (fault : SendFault) (x : Refusal) → Refused r fault → reason_of fault ≡ Some x → Told r (Some (world.SendRefused x))
+pub refused_told : (r : Result Outcome NoMemory) (fault : SendFault) (x : Refusal) → Refused r fault → reason_of fault ≡ Some x → Told r (Some (world.Refused x))
 refused_told (Ok outcome) fault x (y, named, tells) is =
     let e : y ≡ x = cc in
-    subst (λ (z : Refusal). Answers outcome (world.SendRefused z)) e tells
+    subst (λ (z : Refusal). Answers outcome (world.Refused z)) e tells
 refused_told (Err _) fault x none is = cc
 
 pub refused_none : (r : Result Outcome NoMemory) (fault : SendFault) → Refused r fault → reason_of fault ≡ None → Told r None

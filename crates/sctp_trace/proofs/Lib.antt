@@ -1,3 +1,4 @@
+mod FormLemmas
 mod EndLemmas
 mod BagLemmas
 mod RunLemmas

@@ -6,11 +6,11 @@ use Rattle.sctp_model.specs.Chunk.{ChunkMeaning, Data, Sack, size_of_chunk}
 use Rattle.sctp_model.specs.Places.{misplaced_behind, ArePlaced}
 use Rattle.sctp_model.specs.SenderView.{SenderView, Queued}
 use Rattle.sctp_model.specs.first.Sending.{numbered_one}
-use Rattle.sctp_model.specs.first.World.{Configuration, EndView, Packet, datas_of, Builds}
+use Rattle.sctp_model.specs.first.Ends.{Configuration, EndView, Packet, datas_of, Builds}
 use Rattle.sctp_model.specs.Packet as whole
 use Rattle.sctp_wire.specs.Reads.{Reads}
 use Rattle.sctp_packet.specs.PacketBytes.{ReadsPacket}
-use Rattle.sctp_trace.specs.EndStands.{IsBeginning}
+use Rattle.sctp_trace.specs.inner.EndSteps.{IsBeginning}
 use Rattle.sctp_trace.specs.PairStands.{IsPacketOf}
 
 abbrev IsSackOrData : ChunkMeaning → Type 0

@@ -3,11 +3,11 @@ use Rattle.std.proofs.Common.{◌≡◌, ℕ, ◌+◌, ◌<◌, ◌⊎◌, List,
 use Rattle.std.specs.Prelude.{Result}
 use Rattle.std.proofs.lemmas.List.{take_more, map-append, take-append-drop}
 use Rattle.sctp_model.specs.first.World as world
-use Rattle.sctp_model.specs.first.World.{World, Step, Run, last_of, IsReachable}
+use Rattle.sctp_model.specs.first.World.{World, start, Step, Run, last_of, IsReachable}
 use Rattle.sctp_safety.specs.Worlds.{AllSafe, SafeRuns}
 use Rattle.sctp_wire.specs.declared.fault.NoMemory.{NoMemory}
 use Rattle.sctp_script.specs.Events.{event_meaning}
-use Rattle.sctp_trace.specs.PairRuns.{Told, AllTold, IsCutShort, Leads, Promises, Promised}
+use Rattle.sctp_trace.specs.PairRuns.{Told, AllTold, IsCutShort, Course, one_event, goes_on, course_to, RunsFrom, Promises, Promised}
 use Rattle.sctp_script.specs.declared.event.Event.{Event}
 use Rattle.sctp_script.specs.declared.event.Outcome.{Outcome}
 
@@ -47,9 +47,24 @@ pub cut_short : (outcomes : List Outcome) (answers : List (Option world.Outcome)
     → IsCutShort (answers ++ o ∷ [])
 cut_short outcomes answers e o all told = inr (outcomes, answers, all, ap (λ (x : Option world.Outcome). answers ++ x ∷ []) (told_none e o told))
 
--- every world of a run is safe
-pub promised_run : SafeRuns → (w : World) (es : List world.Event) (answers : List (Option world.Outcome)) (vs : List World) → Run w es answers vs → Promised w vs
-promised_run safe w es answers vs run = λ reachable. record { safe = safe w es answers vs reachable run }
+-- a run, and one that goes on where it ended, are one run
+run-append : (w : World) (es fs : List world.Event) (os ps : List (Option world.Outcome)) (vs xs : List World)
+    → Run w es os vs → Run (last_of w vs) fs ps xs → Run w (es ++ fs) (os ++ ps) (vs ++ xs)
+run-append w [] fs [] ps [] xs run more = more
+run-append w (e ∷ es) fs (o ∷ os) ps (v ∷ vs) xs (first, rest) more = (first, run-append v es fs os ps vs xs rest more)
+run-append w [] fs (o ∷ os) ps vs xs run more = absurd run
+run-append w [] fs [] ps (v ∷ vs) xs run more = absurd run
+run-append w (e ∷ es) fs [] ps vs xs run more = absurd run
+run-append w (e ∷ es) fs (o ∷ os) ps [] xs run more = absurd run
 
-pub promised_step : SafeRuns → (w x : World) (e : world.Event) (o : Option world.Outcome) → Step w e o x → Promised w (x ∷ [])
-promised_step safe w x e o step = promised_run safe w (e ∷ []) (o ∷ []) (x ∷ []) (step, tt)
+-- what is promised of a run
+pub promised_run : SafeRuns → (w : World) (c : Course) → RunsFrom w c → Promised w c
+promised_run safe w c run = λ before. record {
+  whole = run-append (start before.configuration) before.events c.events before.answers c.answers before.worlds c.worlds before.run
+      (subst (λ (x : World). RunsFrom x c) (sym before.here) run);
+  safe = safe w c.events c.answers c.worlds before run;
+}
+
+-- what is promised of a step
+pub promised_step : SafeRuns → (w x : World) (e : world.Event) (o : Option world.Outcome) → Step w e o x → Promised w (one_event e o x)
+promised_step safe w x e o step = promised_run safe w (one_event e o x) (step, tt)

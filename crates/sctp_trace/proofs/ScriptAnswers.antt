@@ -4,7 +4,7 @@ use Rattle.sctp_trace.specs.declared.script.ScriptFault.{ScriptFault}
 use Rattle.sctp_trace.specs.declared.script.ScriptFault.TheVariants.{Read, Write, NoMemory, Line}
 use Rattle.sctp_trace.specs.Script.{BeginsLines, BeginsOutput, IsAnswered}
 use Rattle.sctp_trace.specs.ScriptLaws.{LinesAreThere}
-use Rattle.sctp_trace.specs.ScriptSteps.{BeginsFront, EndsAs}
+use Rattle.sctp_trace.specs.inner.ScriptSteps.{BeginsFront, EndsAs}
 
 front_begins : LinesAreThere → (text written : List ℕ) → BeginsFront text written → BeginsLines text written
 front_begins there text written (front, rest, outcomes, more, state, is, begins) =

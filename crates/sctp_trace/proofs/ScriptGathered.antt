@@ -8,7 +8,7 @@ use Rattle.sctp_trace.specs.declared.script.Running.{Running}
 use Rattle.sctp_trace.specs.declared.script.ScriptFault.{ScriptFault}
 use Rattle.sctp_trace.specs.declared.script.ScriptFault.TheVariants.{Read, Write, NoMemory, Line}
 use Rattle.sctp_trace.specs.Script.{IsFront, BeginsOutput, FaultsFirst}
-use Rattle.sctp_trace.specs.ScriptSteps.{IsSoFar, IsWrittenOf, IsPassedOn, IsClosed, BeginsFront, EndsAs, RunsOn}
+use Rattle.sctp_trace.specs.inner.ScriptSteps.{IsSoFar, IsWrittenOf, IsPassedOn, IsClosed, BeginsFront, EndsAs, RunsOn}
 use Rattle.sctp_trace.proofs.ScriptLemmas.{front_of}
 use Rattle.sctp_text.specs.declared.limits.TheConstants.{LONGEST_TEXT}
 

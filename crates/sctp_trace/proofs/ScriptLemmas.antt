@@ -37,7 +37,7 @@ use Rattle.sctp_trace.specs.declared.script.ScriptFault.TheVariants.{Read, Write
 use Rattle.sctp_trace.specs.PairStands.{PairStands}
 use Rattle.sctp_trace.specs.PairRuns.{Told}
 use Rattle.sctp_trace.specs.Script.{is_paired, Does, LineActs, Goes, IsOutput, IsFront, HasNoPair, HasFirstFault, FaultsFirst, BeginsOutput}
-use Rattle.sctp_trace.specs.ScriptSteps.{StandsAt, IsGatheredOf, LineLeaves, Closes, IsSoFar, IsOver, fault_of, BeginsFront, EndsAs}
+use Rattle.sctp_trace.specs.inner.ScriptSteps.{StandsAt, IsGatheredOf, LineLeaves, Closes, IsSoFar, IsOver, fault_of, BeginsFront, EndsAs}
 use Rattle.sctp_text.specs.declared.limits.TheConstants.{LINE_FEED, LONGEST_LINE, LONGEST_TEXT}
 
 -- ---- lines one after another

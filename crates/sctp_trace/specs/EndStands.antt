@@ -7,7 +7,7 @@ use Rattle.sctp_model.specs.Chunk.{SackMeaning, ChunkMeaning, Sack}
 use Rattle.sctp_model.specs.Plan.{Plan, Entry, Part, End as EndMark}
 use Rattle.sctp_model.specs.ReceiverView.{Handed, ReceiverView}
 use Rattle.sctp_model.specs.first.Sending.{Refusal}
-use Rattle.sctp_model.specs.first.World.{State, Closed, Listen, Established, EndView, Packet, Act, Acts, SackOf, number_told}
+use Rattle.sctp_model.specs.first.Ends.{State, Closed, Listen, Established, EndView, Packet, Act, Acts, SackOf}
 use Rattle.sctp_wire.specs.declared.fault.NoMemory.{NoMemory}
 use Rattle.sctp_script.specs.Events.{state_meaning}
 use Rattle.sctp_script.specs.ReportText.{tickets_of}
@@ -18,6 +18,7 @@ use Rattle.sctp_trace.specs.declared.end.End.{End}
 use Rattle.sctp_trace.specs.declared.end.TakenMessage.{TakenMessage}
 use Rattle.sctp_first_send.specs.declared.sender.Filled.{Filled}
 
+-- an association is there (RFC 9260, 4)
 abbrev pub is_established : State → Bool
 is_established Closed = false
 is_established Listen = false
@@ -27,8 +28,8 @@ is_established Established = true
 abbrev pub tickets_noted : List Filled → List ℕ
 tickets_noted fs = joined (map (λ f. numbers_of f.tickets.items) fs)
 
--- the numbers of the messages that the user took from a stream, first to last
-abbrev pub numbers_taken : List TakenMessage → ℕ → List ℕ
+-- the numbers of the messages that the user took from a stream, first to last; none for one that has none
+abbrev pub numbers_taken : List TakenMessage → ℕ → List (Option ℕ)
 numbers_taken ms s = map (λ m. m.number) (filter (λ m. m.stream == s) ms)
 
 -- the message of an entry is in the plan
@@ -49,25 +50,9 @@ pub record IsEnd (e : End) (v : EndView) : Type 0 where
   pub streams : e.streams ≡ v.receiver.streams
   pub numbered : tickets_noted e.numbered.items ≡ tickets_of v.sender.plan
   pub messages : AllByRecursion (HasMessage v.sender.plan) v.sender.plan.entries
-  pub taken : (s : ℕ) → numbers_taken e.taken.items s ≡ map number_told (v.receiver.taken s)
+  pub taken : (s : ℕ) → numbers_taken e.taken.items s ≡ map (λ h. h.number) (v.receiver.taken s)
   pub lanes : (s : ℕ) → AllByRecursion (IsOn s) (v.receiver.waiting s)
 
 -- the end stands for this view
 unfoldable pub EndStands : End → EndView → Type 0
 EndStands e v = IsEnd e v
-
--- what a chunk leaves; nothing changes where memory is wanting
-abbrev pub ActLeaves : EndView → ChunkMeaning → Result (Unit {0}) NoMemory → EndView → Type 0
-ActLeaves e m (Ok _) t = Act e m t
-ActLeaves e m (Err _) t = t ≡ e
-
--- what chunks leave: all of them acted, or those before some chunk where memory is wanting
-abbrev pub ActsLeave : EndView → Packet → Result (Unit {0}) NoMemory → EndView → Type 0
-ActsLeave e p (Ok _) t = Acts e p t
-ActsLeave e p (Err _) t = (front : Packet) × (c : ChunkMeaning) × (back : Packet) × (p ≡ front ++ c ∷ back) × Acts e front t
-
--- the chunk that a packet begins with: the SACK where one is due
-abbrev pub IsBeginning : EndView → Packet → Type 0
-IsBeginning e sacks =
-    ((e.sack_due ≡ false) × (sacks ≡ []))
-    ⊎ ((e.sack_due ≡ true) × ((s : SackMeaning) × SackOf e.receiver s × (sacks ≡ Sack s ∷ [])))

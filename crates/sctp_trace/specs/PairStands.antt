@@ -2,7 +2,8 @@
 use Rattle.std.specs.Prelude.{◌≡◌, ℕ, List, [], ◌∷◌, length, drop}
 use Rattle.std.specs.declared.vec.Vec.{Vec}
 use Rattle.std.specs.declared.alloc.Global.{Global}
-use Rattle.sctp_model.specs.first.World.{Side, A, B, Packet, World}
+use Rattle.sctp_model.specs.first.Ends.{Packet}
+use Rattle.sctp_model.specs.first.World.{World}
 use Rattle.sctp_model.specs.Packet.{HEADER_ROOM, size_of_packet}
 use Rattle.sctp_wire.specs.Reads.{Reads}
 use Rattle.sctp_script.specs.Configuration.{configuration_meaning}
@@ -21,11 +22,7 @@ ArePackets (b ∷ bag) (p ∷ ps) = IsPacketOf b.items p × ArePackets bag ps
 ArePackets [] (p ∷ ps) = ⊥
 ArePackets (b ∷ bag) [] = ⊥
 
--- the world with this bag of one side
-abbrev pub with_bag : World → Side → List Packet → World
-with_bag w A ps = record w { from_a = ps }
-with_bag w B ps = record w { from_b = ps }
-
+-- Each part of a pair stands for its part of the world.
 pub record IsPair (p : Pair) (w : World) : Type 0 where
   pub configuration : configuration_meaning p.config ≡ w.configuration
   pub a : EndStands p.a w.a

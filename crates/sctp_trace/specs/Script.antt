@@ -116,7 +116,7 @@ IsAnswered end (Err Write) read written = BeginsLines read written ⊎ (end × B
 IsAnswered end (Err NoMemory) read written = BeginsLines read written ⊎ (end × BeginsOutput read written)
 IsAnswered end (Err (Line n fault)) read written = FaultsFirst end read n fault written
 
--- how many failures of the reader an answer tells, and how many of the writer
+-- how many failures of the reader an answer tells
 abbrev pub failed_reads : {X : Type 0} → Result X ScriptFault → ℕ
 failed_reads (Ok _) = 0
 failed_reads (Err Read) = 1
@@ -124,6 +124,7 @@ failed_reads (Err Write) = 0
 failed_reads (Err NoMemory) = 0
 failed_reads (Err (Line n fault)) = 0
 
+-- how many failures of the writer an answer tells
 abbrev pub failed_writes : {X : Type 0} → Result X ScriptFault → ℕ
 failed_writes (Ok _) = 0
 failed_writes (Err Read) = 0

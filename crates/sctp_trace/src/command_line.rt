@@ -1,9 +1,11 @@
 //! The command line of the program: what its words ask for, and the exit status.
 
 ghost use Rattle.std.specs.Prelude.{◌≡◌, ℕ, ◌⊎◌, ◌+◌, ◌-◌, ◌^◌, ◌<◌, ◌≤◌, List, map, string_bytes, IfOk, MatchResult};
-ghost use Rattle.clap.specs.Words.{FailsBy, fault_of};
+ghost use Rattle.clap.specs.Words.{FailsBy, HasMatchesOf, fault_of};
 ghost use Rattle.sctp_print.specs.PrintedText.{IsPacketTextOf, IsChunksTextOf};
-ghost use Rattle.sctp_trace.specs.ExitStatus.{commands, IsForm, Begins, Runs, Acts, Prints, status_of, Ends};
+ghost use Rattle.sctp_trace.specs.ExitStatus.{Begins, Runs, Acts, Prints, status_of, Ends};
+ghost use Rattle.sctp_trace.specs.Forms.{commands, IsForm, form_of};
+ghost use Rattle.sctp_trace.specs.inner.Asked.{form_meaning};
 
 use crate::script::{ScriptFault, run_script};
 use clap::error::ErrorKind;
@@ -70,7 +72,8 @@ enum Form<'a> {
 /// The form of the words; of words that are no form, a request for help among them, what is said.
 fn asked(alloc: Global, words: &[String]) -> Result<Result<Form<'_>, String>, NoMemory>
     ensures { IfOk result (λ asked. MatchResult asked
-        (λ _. IsForm (map string_bytes words.now)) (λ _. ¬ IsForm (map string_bytes words.now))) }
+        (λ form. IsForm (map string_bytes words.now) × (form_meaning form ≡ form_of (map string_bytes words.now)))
+        (λ _. ¬ IsForm (map string_bytes words.now))) }
 {
     match form_of(alloc, words) {
         Ok(form) => Ok(Ok(form)),
@@ -88,7 +91,8 @@ fn asked(alloc: Global, words: &[String]) -> Result<Result<Form<'_>, String>, No
 
 /// The form of the words: the subcommand, and the value of HEX.
 fn form_of(alloc: Global, words: &[String]) -> Result<Form<'_>, Error>
-    ensures { FailsBy (fault_of commands (map string_bytes words.now)) result }
+    ensures fails { FailsBy (fault_of commands (map string_bytes words.now)) result }
+    ensures form { IfOk result (λ form. form_meaning form ≡ form_of (map string_bytes words.now)) }
 {
     let matches = match parse(alloc, words) {
         Ok(matches) => matches,
@@ -105,7 +109,8 @@ fn form_of(alloc: Global, words: &[String]) -> Result<Form<'_>, Error>
 
 /// Parses the words: a subcommand, `run`, `packet` or `chunks`, the last two with HEX.
 fn parse(alloc: Global, words: &[String]) -> Result<ArgMatches<'_>, Error>
-    ensures { FailsBy (fault_of commands (map string_bytes words.now)) result }
+    ensures fails { FailsBy (fault_of commands (map string_bytes words.now)) result }
+    ensures matches { IfOk result (HasMatchesOf commands (map string_bytes words.now)) }
 {
     let run = Command::new(alloc, "run").about(
         "Runs the script on standard input; outcomes and report go to standard output",
@@ -140,7 +145,7 @@ fn act<R: Source, W: Sink, F: Sink>(
     requires writes { W.failures output.old < 2 ^ 64 - 1 }
     requires tells { F.failures faults.old < 2 ^ 64 - 1 }
     ensures acts { (read written said : List ℕ) × R.Reads input.old read input.new × W.Writes output.old written output.new
-        × F.Writes faults.old said faults.new × Acts (R.IsAtEnd input.new) result read written said }
+        × F.Writes faults.old said faults.new × Acts (R.IsAtEnd input.new) (form_meaning form.entry) result read written said }
     ensures well { result < FAILED → (R.failures input.new ≡ R.failures input.old) × (W.failures output.new ≡ W.failures output.old)
         × (F.failures faults.new ≡ F.failures faults.old) }
     ensures once { R.failures input.new + W.failures output.new + F.failures faults.new

@@ -1,17 +1,19 @@
 //! One end of a pair: its sender and its receiver, and what becomes of an event at it.
 
-ghost use Rattle.std.specs.Prelude.{◌≡◌, ◌≤◌, List, ◌∷◌, [], IfOk, OnOk, MatchResult, Option, Some, None};
+ghost use Rattle.std.specs.Prelude.{◌≡◌, ◌≤◌, List, ◌∷◌, [], IfOk, OnOk, MatchResult, Option, Some, None, option_map};
 ghost use Rattle.sctp_model.specs.Chunk.{SackMeaning};
 ghost use Rattle.sctp_model.specs.Chunk as meaning;
 ghost use Rattle.sctp_model.specs.ReceiverView.{ReceiverView};
-ghost use Rattle.sctp_model.specs.first.Sending.{Refusal};
+ghost use Rattle.sctp_model.specs.first.Sending as sending;
 ghost use Rattle.sctp_model.specs.first.World as world;
-ghost use Rattle.sctp_model.specs.first.World.{World, EndView, Packet, fresh_end, end_of, other, bag_of, with_end, SackOf, Sends, BuildsAt, Delivers, Takes_at};
+ghost use Rattle.sctp_model.specs.first.Ends.{EndView, Packet, fresh_end, SackOf};
+ghost use Rattle.sctp_model.specs.first.World.{World, end_of, other, bag_of, with_end, Sends, BuildsAt, Delivers, Takes_at};
 ghost use Rattle.sctp_wire.specs.ChunkTree.{chunk_meaning};
-ghost use Rattle.sctp_script.specs.Events.{side_meaning, state_meaning, Answers};
-ghost use Rattle.sctp_trace.specs.EndStands.{EndStands, is_established, ActLeaves, ActsLeave, IsBeginning};
+ghost use Rattle.sctp_script.specs.Events.{side_meaning, state_meaning, refusal_meaning, Answers};
+ghost use Rattle.sctp_trace.specs.EndStands.{EndStands, is_established};
+ghost use Rattle.sctp_trace.specs.inner.EndSteps.{ActLeaves, ActsLeave, IsBeginning, with_bag};
 ghost use Rattle.sctp_packet.specs.Draft.{empty_draft, with_chunks};
-ghost use Rattle.sctp_trace.specs.PairStands.{ArePackets, IsPacketOf, with_bag};
+ghost use Rattle.sctp_trace.specs.PairStands.{ArePackets, IsPacketOf};
 ghost use Rattle.sctp_trace.specs.PairRuns.{Told};
 ghost use Rattle.sctp_first_recv.specs.ReceiverStands.{ReceiverStands};
 ghost use Rattle.sctp_first_send.specs.SenderSteps.{reason_of};
@@ -20,18 +22,18 @@ ghost use Rattle.sctp_script.specs.Configuration.{configuration_meaning};
 use sctp_first_recv::{Answer, Receiver};
 use sctp_first_send::{Filled, SendFault, Sender};
 use sctp_packet::{PacketWriter, written_packet_reads};
-use sctp_script::{Bytes, Outcome, PairConfig, SendRefusal, Side, State};
+use sctp_script::{Bytes, Outcome, PairConfig, Refusal, Side, State};
 use sctp_wire::{Blocks, Chunk, Chunks, NoMemory, Sack, Words, read_chunks};
 use std::alloc::Global;
 
 /// The bytes of a packet's header (RFC 9260, 3.1).
 const HEADER: usize = 12;
 
-/// A message that the user took: its stream, and its number there.
+/// A message that the user took: its stream, and its number there, if it has one.
 #[derive(Clone, Copy, Debug)]
 pub(crate) struct TakenMessage {
     pub(crate) stream: u16,
-    pub(crate) number: u32,
+    pub(crate) number: Option<u32>,
 }
 
 /// An end.
@@ -100,8 +102,8 @@ pub(crate) fn send_at(
         × Sends w (side_meaning side) stream payload_id bytes.now o (with_end w (side_meaning side) t) × EndStands end.new t }
 {
     if !is_open(end.state) {
-        return Ok(Outcome::SendRefused {
-            refusal: SendRefusal::NotOpen,
+        return Ok(Outcome::Refused {
+            refusal: Refusal::NotOpen,
         });
     }
     if let Some(fault) = end.sender.refusal(stream, bytes.len()) {
@@ -120,18 +122,27 @@ pub(crate) fn send_at(
 /// What is answered where the sender takes no message.
 fn refused(fault: SendFault) -> Result<Outcome, NoMemory>
     ensures { MatchResult result
-        (λ outcome. (r : Refusal) × (reason_of fault ≡ Some r) × Answers outcome (world.SendRefused r))
+        (λ outcome. (r : sending.Refusal) × (reason_of fault ≡ Some r) × Answers outcome (world.Refused r))
         (λ _. reason_of fault ≡ None) }
 {
-    let refusal = match fault {
-        SendFault::NoSuchStream => SendRefusal::NoSuchStream,
-        SendFault::Empty => SendRefusal::Empty,
-        SendFault::TooLong => SendRefusal::TooLong,
-        SendFault::QueueFull => SendRefusal::QueueFull,
-        SendFault::Spent => SendRefusal::Spent,
-        SendFault::NoMemory => return Err(NoMemory),
-    };
-    Ok(Outcome::SendRefused { refusal })
+    match reason(fault) {
+        Some(refusal) => Ok(Outcome::Refused { refusal }),
+        None => Err(NoMemory),
+    }
+}
+
+/// The reason that a fault names; want of memory is none.
+fn reason(fault: SendFault) -> Option<Refusal>
+    ensures { option_map refusal_meaning result ≡ reason_of fault }
+{
+    match fault {
+        SendFault::NoSuchStream => Some(Refusal::NoSuchStream),
+        SendFault::Empty => Some(Refusal::Empty),
+        SendFault::TooLong => Some(Refusal::TooLong),
+        SendFault::QueueFull => Some(Refusal::QueueFull),
+        SendFault::Spent => Some(Refusal::Spent),
+        SendFault::NoMemory => None,
+    }
 }
 
 /// An end builds a packet, of the SACK where one is due and of as many messages as fit, and puts it into its bag.
@@ -294,7 +305,7 @@ pub(crate) fn take_at(side: Side, end: &mut End, stream: u16) -> Result<Outcome,
     match end.receiver.take(stream) {
         None => Ok(Outcome::Empty { side, stream }),
         Some(message) => {
-            let number = message.number.unwrap_or(0);
+            let number = message.number;
             end.taken.push_reserved(TakenMessage { stream, number });
             Ok(Outcome::Message {
                 side,

@@ -1,11 +1,10 @@
 //! The part of a report that speaks of one end.
 
-ghost use Rattle.std.specs.Prelude.{◌≡◌, ℕ, List, ◌++◌, map, IfOk, OnOk};
-ghost use Rattle.sctp_model.specs.first.World.{EndView, number_told};
+ghost use Rattle.std.specs.Prelude.{◌≡◌, ℕ, List, [], ◌∷◌, ◌++◌, map, IfOk, OnOk};
+ghost use Rattle.sctp_model.specs.first.Ends.{EndView};
 ghost use Rattle.sctp_script.specs.Events.{side_meaning};
 ghost use Rattle.sctp_trace.specs.EndStands.{EndStands, tickets_noted, numbers_taken};
-ghost use Rattle.sctp_first_recv.specs.HandedOf.{handed_of};
-ghost use Rattle.sctp_script.specs.ReportText.{numbers_of, handed_lines, end_report};
+ghost use Rattle.sctp_script.specs.ReportText.{numbers_there, numbers_of, handed_lines, end_report};
 ghost use Rattle.sctp_first_send.specs.SenderSteps as sender;
 
 use crate::end::{End, TakenMessage};
@@ -87,11 +86,11 @@ fn numbers_handed(alloc: Global, end: &End, stream: u16) -> Result<Vec<u32>, NoM
 
 /// Appends the numbers of the messages that the user took from a stream.
 fn append_taken(taken: &[TakenMessage], stream: u16, out: &mut Vec<u32>) -> Result<(), NoMemory>
-    ensures { OnOk result (out.new.items ≡ out.old.items ++ numbers_taken taken.now stream) }
+    ensures { OnOk result (out.new.items ≡ out.old.items ++ numbers_there (numbers_taken taken.now stream)) }
 {
     for message in taken {
         if message.stream == stream {
-            out.push(message.number).map_err(|_| NoMemory)?;
+            append_number(message.number, out)?;
         }
     }
     Ok(())
@@ -99,11 +98,20 @@ fn append_taken(taken: &[TakenMessage], stream: u16, out: &mut Vec<u32>) -> Resu
 
 /// Appends the numbers of messages that wait.
 fn append_waiting(waiting: &VecDeque<Message>, out: &mut Vec<u32>) -> Result<(), NoMemory>
-    ensures { OnOk result (out.new.items ≡ out.old.items ++ map (λ m. number_told (handed_of m)) waiting.now.items) }
+    ensures { OnOk result (out.new.items ≡ out.old.items ++ numbers_there (map (λ m. m.number) waiting.now.items)) }
 {
     for index in 0..waiting.len() {
-        out.push(waiting[index].number.unwrap_or(0))
-            .map_err(|_| NoMemory)?;
+        append_number(waiting[index].number, out)?;
     }
     Ok(())
+}
+
+/// Appends a number that is there.
+fn append_number(number: Option<u32>, out: &mut Vec<u32>) -> Result<(), NoMemory>
+    ensures { OnOk result (out.new.items ≡ out.old.items ++ numbers_there (number ∷ [])) }
+{
+    match number {
+        Some(number) => out.push(number).map_err(|_| NoMemory),
+        None => Ok(()),
+    }
 }

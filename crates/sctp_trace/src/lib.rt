@@ -13,6 +13,6 @@ pub use pair::Pair;
 pub use script::{ScriptFault, run_script};
 pub use script_laws::{every_script_is_safe, lines_are_there, one_first_fault};
 pub use sctp_script::{
-    Bytes, ConfigFault, Draw, Event, LineFault, Mode, Outcome, PairConfig, SendRefusal, Side,
+    Bytes, ConfigFault, Draw, Event, LineFault, Mode, Outcome, PairConfig, Refusal, Side,
 };
 pub use sctp_text::{Failed, FromRead, Sink, Source, ToWrite};

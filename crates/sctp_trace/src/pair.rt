@@ -1,18 +1,18 @@
 //! Two ends, and the packets between them.
 
-ghost use Rattle.std.specs.Prelude.{◌≡◌, ℕ, ◌∷◌, [], List, Option, IfOk};
+ghost use Rattle.std.specs.Prelude.{◌≡◌, Option, IfOk};
 ghost use Rattle.sctp_model.specs.first.World as world;
 ghost use Rattle.sctp_model.specs.first.World.{World, start, last_of, Opens, Sends, BuildsAt, Delivers, Takes_at};
-ghost use Rattle.sctp_script.specs.Events.{side_meaning};
+ghost use Rattle.sctp_script.specs.Events.{side_meaning, event_meaning};
 ghost use Rattle.sctp_trace.specs.PairStands.{PairStands};
-ghost use Rattle.sctp_trace.specs.PairRuns.{Told, Leads, Ran, Promised};
+ghost use Rattle.sctp_trace.specs.PairRuns.{Told, Leads, Course, one_event, Ran, Promised};
 ghost use Rattle.sctp_script.specs.ReportText.{report};
 ghost use Rattle.sctp_script.specs.Configuration.{configuration_meaning};
 
 use crate::end::{End, build_at, deliver_at, send_at, take_at};
 use crate::end_report::put_report;
 use sctp_safety::safe_in_every_run;
-use sctp_script::{Event, Outcome, PairConfig, Side, State};
+use sctp_script::{Event, Outcome, PairConfig, Refusal, Side, State};
 use sctp_wire::NoMemory;
 use std::alloc::Global;
 
@@ -56,7 +56,8 @@ impl Pair {
     /// Memory ran out. A delivery is then that of a packet cut before some chunk; any other event changed nothing.
     pub fn step(&mut self, event: &Event) -> Result<Outcome, NoMemory>
         ensures { (w : World) → PairStands self.old w
-            → (x : World) × Leads w event.now result x × Promised w (x ∷ []) × PairStands self.new x }
+            → (o : Option world.Outcome) × (x : World) × Leads w event.now result o x
+            × Promised w (one_event (event_meaning event.now) o x) × PairStands self.new x }
     {
         // It does nothing: its contract is the theorem that the promise cites.
         safe_in_every_run();
@@ -80,7 +81,7 @@ impl Pair {
     /// At the first one for which memory ran out, as `step` says; those before it happened.
     pub fn run(&mut self, events: &[Event]) -> Result<Vec<Outcome>, NoMemory>
         ensures { (w : World) → PairStands self.old w
-            → (trace : List World) × Ran w events.now result trace × Promised w trace × PairStands self.new (last_of w trace) }
+            → (c : Course) × Ran w events.now result c × Promised w c × PairStands self.new (last_of w c.worlds) }
     {
         // It does nothing: its contract is the theorem that the promise cites.
         safe_in_every_run();
@@ -114,7 +115,9 @@ impl Pair {
             → (o : Option world.Outcome) × (x : World) × Told result o × Opens w o x × PairStands self.new x }
     {
         if self.opened {
-            return Ok(Outcome::OpenRefused);
+            return Ok(Outcome::Refused {
+                refusal: Refusal::AlreadyOpen,
+            });
         }
         let a = End::new(self.alloc, &self.config, State::Established)?;
         let b = End::new(self.alloc, &self.config, State::Established)?;

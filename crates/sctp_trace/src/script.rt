@@ -6,7 +6,7 @@ ghost use Rattle.sctp_model.specs.first.World.{World};
 ghost use Rattle.sctp_script.specs.Events.{Answers};
 ghost use Rattle.sctp_script.specs.OutcomeText.{outcome_line};
 ghost use Rattle.sctp_trace.specs.Script.{IsAnswered, failed_reads, failed_writes};
-ghost use Rattle.sctp_trace.specs.ScriptSteps.{StandsAt, IsWrittenOf, IsGatheredOf, IsPassedOn, IsClosed, LineLeaves, Closes, IsSoFar, RunsOn, EndsAs, fault_of};
+ghost use Rattle.sctp_trace.specs.inner.ScriptSteps.{StandsAt, IsWrittenOf, IsGatheredOf, IsPassedOn, IsClosed, LineLeaves, Closes, IsSoFar, RunsOn, EndsAs, fault_of};
 ghost use Rattle.sctp_text.specs.TextLines.{MayBegin};
 ghost use Rattle.sctp_text.specs.declared.limits.TheConstants.{LONGEST_TEXT};
 

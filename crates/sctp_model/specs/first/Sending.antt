@@ -8,14 +8,16 @@ use Rattle.sctp_model.specs.Acknowledgement.{covers}
 
 -- ---- accepting a message
 
--- why a message is refused
+-- Why a call is refused: a message, since there is no such stream, it has no byte, it is longer than a fragment, too many wait, too many were
+-- accepted, or the end isn't open; and opening, since both ends were opened before.
 pub data Refusal : Type 0 where
-  NoSuchStream Empty TooLong QueueFull Spent NotOpen : Refusal
+  NoSuchStream Empty TooLong QueueFull Spent NotOpen AlreadyOpen : Refusal
 
--- messages accepted without a number at once, and messages accepted in all
+-- so many messages may wait for a number at once
 abbrev pub QUEUE_LIMIT : ℕ
 QUEUE_LIMIT = 1024
 
+-- so many messages may be accepted in all, so that no number of theirs comes near the wrap of 16 bits (RFC 9260, 3.3.1)
 abbrev pub MESSAGE_LIMIT : ℕ
 MESSAGE_LIMIT = 32767
 
@@ -49,6 +51,7 @@ queued v stream payload bytes = record v {
 abbrev pub room_of : Queued → ℕ
 room_of q = 16 + padded (length (bytes_of q.message))
 
+-- the room of the chunks of several messages
 abbrev pub room_of_all : List Queued → ℕ
 room_of_all [] = 0
 room_of_all (q ∷ qs) = room_of q + room_of_all qs
@@ -73,6 +76,7 @@ abbrev pub numbered_all : SenderView → List Queued → SenderView
 numbered_all v [] = v
 numbered_all v (q ∷ qs) = numbered_all (numbered_one v q) qs
 
+-- what goes out with a packet: the first `count` messages that wait take their numbers and indexes, wait no longer, and count as sent
 abbrev pub went_out : SenderView → ℕ → SenderView
 went_out v count = record (numbered_all v (take count v.queue)) {
   queue = drop count v.queue;

@@ -51,6 +51,7 @@ abbrev pub is_number_of : Lane → ℕ → List Piece → Bool
 is_number_of l n [] = false
 is_number_of l n (x ∷ xs) = same_lane x.lane l && same_number x.number (Some n)
 
+-- the index of the first chunk of a list
 abbrev pub first_index : List Piece → ℕ
 first_index [] = 0
 first_index (x ∷ xs) = x.index
@@ -60,6 +61,7 @@ abbrev pub lower : List Piece → Option (List Piece) → List Piece
 lower w None = w
 lower w (Some v) = if nat_lt (first_index v) (first_index w) then v else w
 
+-- of several lists the one whose first index is lowest
 abbrev pub lowest : List (List Piece) → Option (List Piece)
 lowest [] = None
 lowest (w ∷ ws) = Some (lower w (lowest ws))
@@ -75,15 +77,18 @@ same_bytes [] (y ∷ ys) = false
 same_bytes (x ∷ xs) [] = false
 same_bytes (x ∷ xs) (y ∷ ys) = (x == y) && same_bytes xs ys
 
+-- both are set, or neither
 abbrev pub same_flag : Bool → Bool → Bool
 same_flag true b = b
 same_flag false b = not b
 
+-- all fields are the same
 abbrev pub same_piece : Piece → Piece → Bool
 same_piece x y =
     (x.index == y.index) && (same_lane x.lane y.lane && (same_number x.number y.number
     && (same_flag x.begin y.begin && (same_flag x.end y.end && ((x.word == y.word) && same_bytes x.bytes y.bytes)))))
 
+-- the chunk is among these
 abbrev pub has_piece : List Piece → Piece → Bool
 has_piece [] y = false
 has_piece (x ∷ xs) y = same_piece x y || has_piece xs y

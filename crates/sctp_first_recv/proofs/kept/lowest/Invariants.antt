@@ -1,4 +1,4 @@
-use Rattle.sctp_first_recv.specs.HandsOver.{IsLowestOf}
+use Rattle.sctp_first_recv.specs.inner.HandsOver.{IsLowestOf}
 use Rattle.sctp_first_recv.proofs.kept.lowest.Given as goal
 
 abbrev pub invariant-loop-at : goal.invariant-loop-at

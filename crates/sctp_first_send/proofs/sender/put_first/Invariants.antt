@@ -1,6 +1,6 @@
 use Rattle.std.proofs.Common.{◌≡◌, suc, take, map}
 use Rattle.sctp_first_send.specs.SenderFields.{waits_of}
-use Rattle.sctp_first_send.specs.SenderStands.{Puts}
+use Rattle.sctp_first_send.specs.inner.Putting.{Puts}
 use Rattle.sctp_first_send.specs.SenderSteps.{numbers_of}
 use Rattle.sctp_first_send.proofs.sender.put_first.Given as goal
 

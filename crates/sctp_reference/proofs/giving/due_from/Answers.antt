@@ -5,8 +5,8 @@ use Rattle.sctp_reference.specs.Giving.{handed_of}
 use Rattle.sctp_reference.proofs.ListLemmas.{map-push}
 use Rattle.sctp_reference.proofs.GivingLemmas.{due_handed, due_passed, due_stopped}
 use Rattle.sctp_model.specs.Pieces.{Piece}
-use Rattle.sctp_reference.specs.Apart.{IsApart}
-use Rattle.sctp_reference.proofs.OneWhole.{due_only}
+use Rattle.sctp_model.specs.receiver.Laws.{IsApart}
+use Rattle.sctp_model.proofs.receiver.OneWhole.{due_only}
 use Rattle.sctp_reference.proofs.giving.due_from.Goals as goal
 use Rattle.sctp_reference.proofs.giving.due_from.Goals.{in-HandOver+in_ok-push-in-HandOver, in-PassOver}
 

@@ -1,8 +1,9 @@
 use Rattle.std.proofs.Common.{rules, ap, ap₂, refl, subst, ◌∙◌, ◌≡◌, ℕ, List, codes, true, false, map, string_bytes}
-use Rattle.clap.specs.Words.{App, Rule, FailsBy, app_of, rule_of, fault_of, is_simple_and_free}
+use Rattle.std.specs.Prelude.{IfOk}
+use Rattle.clap.specs.Words.{App, Rule, FailsBy, HasMatchesOf, app_of, rule_of, fault_of, is_simple_and_free}
 use Rattle.clap.specs.Simple.{app_of_fields, new_app, on_top, with_rule, with_subcommand}
 use Rattle.clap.proofs.OnLiterals.{clap_on_literals}
-use Rattle.sctp_trace.specs.ExitStatus.{commands, hex_rule}
+use Rattle.sctp_trace.specs.Forms.{commands, hex_rule}
 use Rattle.sctp_trace.proofs.command_line.parse.Goals as goal
 
 is_free : is_simple_and_free commands ≡ true
@@ -30,5 +31,9 @@ returns c =
     let first = c.in_ok-running.ensures.shape (rw c.about-run.ensures c.new.ensures.local) ∙ ap₂ with_subcommand top (ap (λ (a : App). a.top) run) in
     let second = c.in_ok-printing.ensures.shape (rw (c.in_ok-packet.ensures.globals, c.about.ensures, c.new-3.ensures.local, first_local) refl) ∙ ap₂ with_subcommand first (ap (λ (a : App). a.top) packet) in
     let all : app_of c.in_ok-program.program ≡ commands = c.in_ok-program.ensures.shape (rw (c.in_ok-chunks.ensures.globals, c.about-2.ensures, c.new-5.ensures.local, second_local) refl) ∙ ap₂ with_subcommand second (ap (λ (a : App). a.top) chunks) in
-    subst (λ (a : App). FailsBy (fault_of a (map string_bytes c.args.words.now)) c.try_get_matches_from.result) all
-    (c.try_get_matches_from.ensures.kinds (ap is_simple_and_free all ∙ is_free))
+    record {
+      fails = subst (λ (a : App). FailsBy (fault_of a (map string_bytes c.args.words.now)) c.try_get_matches_from.result) all
+          (c.try_get_matches_from.ensures.kinds (ap is_simple_and_free all ∙ is_free));
+      matches = subst (λ (a : App). IfOk c.try_get_matches_from.result (HasMatchesOf a (map string_bytes c.args.words.now))) all
+          c.try_get_matches_from.ensures.matches;
+    }

@@ -1,5 +1,5 @@
 use Rattle.std.proofs.Common.{◌≡◌, ◌++◌}
-use Rattle.sctp_model.specs.first.World.{EndView, Packet, Acts}
+use Rattle.sctp_model.specs.first.Ends.{EndView, Packet, Acts}
 use Rattle.sctp_trace.specs.EndStands.{EndStands}
 use Rattle.sctp_trace.proofs.end.act_all.Given as goal
 

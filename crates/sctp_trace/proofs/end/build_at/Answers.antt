@@ -3,7 +3,8 @@ use Rattle.std.proofs.lemmas.Grind.{common_steps}
 use Rattle.sctp_model.specs.SenderView.{SenderView}
 use Rattle.sctp_model.specs.first.Sending.{went_out}
 use Rattle.sctp_model.specs.first.World as world
-use Rattle.sctp_model.specs.first.World.{EndView, Packet, Builds, end_of, bag_of}
+use Rattle.sctp_model.specs.first.Ends.{EndView, Packet, Builds}
+use Rattle.sctp_model.specs.first.World.{end_of, bag_of}
 use Rattle.sctp_model.specs.Packet.{size_of_packet}
 use Rattle.sctp_script.specs.Events.{side_meaning, state_meaning}
 use Rattle.sctp_trace.specs.EndStands.{EndStands, is_established, tickets_noted}

@@ -2,7 +2,8 @@ use Rattle.std.proofs.Common.{◌≡◌, ◌+◌, ◌-◌, suc, ◌<◌, length,
 use Rattle.std.proofs.lemmas.Result.{err_from_is_err_and}
 use Rattle.sctp_model.specs.Lists.{item_at}
 use Rattle.sctp_model.specs.first.World as world
-use Rattle.sctp_model.specs.first.World.{Packet, end_of, other, bag_of}
+use Rattle.sctp_model.specs.first.Ends.{Packet}
+use Rattle.sctp_model.specs.first.World.{end_of, other, bag_of}
 use Rattle.sctp_script.specs.Events.{side_meaning}
 use Rattle.sctp_trace.proofs.BagLemmas.{bag-length, bag-there, item_there, item_outside, same_end}
 use Rattle.sctp_trace.proofs.end.deliver_at.Goals as goal

@@ -14,7 +14,7 @@ returns-then-not-is_open c = λ w stands.
     let s = side_meaning c.args.side in
     let v = end_of w s in
     let closed : is_established (state_meaning c.args.end.now.state) ≡ false = grind (arith, common_steps) in (
-      Some (world.SendRefused _),
+      Some (world.Refused _),
       v,
       refl,
       (not_open v.state v.sender c.args.stream c.args.bytes.now (rw (← stands.state) closed), same_end w s),
@@ -28,7 +28,7 @@ returns-in-Some c = λ w stands.
     let v = end_of w s in
     let opened : is_established (state_meaning c.args.end.now.state) ≡ true = grind (arith, common_steps) in
     let reason = c.in-Some.ensures.answer v.sender c.args.bytes.now stands.sender refl in (
-      Some (world.SendRefused reason.0),
+      Some (world.Refused reason.0),
       v,
       refused_told c.refused.result c.in-Some.fault reason.0 c.refused.ensures reason.1,
       (is_open_refusal v.state v.sender c.args.stream c.args.bytes.now (rw (← stands.state) opened) ∙ reason.2, same_end w s),

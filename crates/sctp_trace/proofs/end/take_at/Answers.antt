@@ -3,7 +3,7 @@ use Rattle.std.specs.List.{AllByRecursion}
 use Rattle.std.proofs.lemmas.Grind.{common_steps}
 use Rattle.sctp_model.specs.ReceiverView.{Handed, ReceiverView}
 use Rattle.sctp_model.specs.first.World as world
-use Rattle.sctp_model.specs.first.World.{end_of, taken_by_user, number_told}
+use Rattle.sctp_model.specs.first.World.{end_of, taken_by_user}
 use Rattle.sctp_script.specs.Events.{side_meaning}
 use Rattle.sctp_trace.specs.EndStands.{EndStands, IsOn}
 use Rattle.sctp_first_recv.specs.HandedOf.{handed_of}
@@ -42,17 +42,16 @@ returns-in-Some c = λ w stands.
     let s = side_meaning c.args.side in
     let v = end_of w s in
     let h = handed_of c.in-Some.message in
-    let m : TakenMessage = record { stream = c.args.stream; number = c.unwrap_or-number.result } in
+    let m : TakenMessage = record { stream = c.args.stream; number = c.in-Some.message.number } in
     let left = c.in-Some.ensures v.receiver stands.receiver in
     let rest = left.1.0 in
     let waits = left.1.1 in
-    let number : number_told h ≡ c.unwrap_or-number.result = grind (arith, common_steps) in
     let on = subst (λ (hs : List Handed). AllByRecursion (IsOn c.args.stream) hs) waits (stands.lanes c.args.stream) in
     let log : c.push_reserved.new.self.items ≡ c.args.end.now.taken.items ++ m ∷ [] = grind (arith, common_steps) in (
       Some (world.Message s c.args.stream h),
       taken_by_user v c.args.stream h rest,
-      (h, record { lane = on.0; number = number; payload = refl; bytes = sym c.new.ensures }, refl),
+      (h, record { lane = on.0; number = refl; payload = refl; bytes = sym c.new.ensures }, refl),
       (refl, refl, (rest, waits, refl)),
-      end_took c.args.end.now c.take.new.self c.push_reserved.new.self m v h rest stands waits number log
+      end_took c.args.end.now c.take.new.self c.push_reserved.new.self m v h rest stands waits refl log
           (subst (λ (r : ReceiverView). ReceiverStands c.take.new.self r) left.1.2 left.2),
     )

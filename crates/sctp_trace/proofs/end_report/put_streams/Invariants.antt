@@ -1,5 +1,5 @@
 use Rattle.std.proofs.Common.{◌≡◌, ◌++◌}
-use Rattle.sctp_model.specs.first.World.{EndView}
+use Rattle.sctp_model.specs.first.Ends.{EndView}
 use Rattle.sctp_script.specs.Events.{side_meaning}
 use Rattle.sctp_trace.specs.EndStands.{EndStands}
 use Rattle.sctp_script.specs.ReportText.{handed_lines}

@@ -40,8 +40,8 @@ returns-in_ok-outcome-in-Ok-Some-Event-clause-leaves c = λ state stands.
     let at = world_of c.args.pair.now c.in-Some.pair state c.in-Some.is stands in
     let now = c.step.ensures at.0 at.2 in
     let is = mapped_is _ c.step.result c.map_err-in-Ok-Some-Event.result outcome c.map_err-in-Ok-Some-Event.ensures.cases c.in_ok-outcome-in-Ok-Some-Event.was in
-    let led : Leads at.0 e.event (Ok outcome) now.0 = rw is at now.1 in
-    let told = told_some outcome led.0 led.1 in
-    let step = subst (λ (o : Option world.Outcome). Step at.0 (event_meaning e.event) o now.0) told.1 led.2 in
+    let led : Leads at.0 e.event (Ok outcome) now.0 now.1 = rw is at now.2 in
+    let told = told_some outcome now.0 led.0 in
+    let step = subst (λ (o : Option world.Outcome). Step at.0 (event_meaning e.event) o now.1) told.1 led.1 in
     let out = c.gather_outcome.ensures.gathers told.0 told.2 in
-    (out.0, out.1, outcome_leaves c.gather_outcome.result c.args.number state at.0 now.0 c.args.line.now (event_meaning e.event) told.0 out.0 c.step.new.self at.1 here step now.3 out.2)
+    (out.0, out.1, outcome_leaves c.gather_outcome.result c.args.number state at.0 now.1 c.args.line.now (event_meaning e.event) told.0 out.0 c.step.new.self at.1 here step now.4 out.2)

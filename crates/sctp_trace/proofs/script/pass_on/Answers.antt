@@ -1,5 +1,5 @@
 use Rattle.std.proofs.Common.{◌≡◌, [], rules}
-use Rattle.sctp_trace.specs.ScriptSteps.{IsWrittenOf}
+use Rattle.sctp_trace.specs.inner.ScriptSteps.{IsWrittenOf}
 use Rattle.sctp_trace.proofs.ScriptGathered.{passed}
 use Rattle.sctp_trace.proofs.script.pass_on.Goals as goal
 

@@ -1,7 +1,7 @@
 use Rattle.std.proofs.Common.{◌≡◌, true, false, List, [], ◌∷◌, ◌++◌, Ok, Err, refl, sym, subst, append-nil, arith}
 use Rattle.sctp_script.specs.declared.line.LineFault.TheVariants.{TooLong as LineTooLong}
 use Rattle.sctp_trace.specs.declared.script.ScriptFault.TheVariants.{Line}
-use Rattle.sctp_trace.specs.ScriptSteps.{BeginsFront}
+use Rattle.sctp_trace.specs.inner.ScriptSteps.{BeginsFront}
 use Rattle.std.proofs.lemmas.Grind.{common_steps}
 use Rattle.sctp_text.specs.TextLines.{ended}
 use Rattle.sctp_text.specs.declared.line_reader.NextLine.{NextLine}

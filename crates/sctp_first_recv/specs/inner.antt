@@ -1,0 +1,2 @@
+pub mod HandsOver
+pub mod Recording

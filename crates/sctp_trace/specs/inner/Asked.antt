@@ -1,0 +1,10 @@
+-- The form that the program's own value for it means.
+use Rattle.sctp_trace.specs.Forms as forms
+use Rattle.sctp_trace.specs.declared.command_line.Form.{Form}
+use Rattle.sctp_trace.specs.declared.command_line.Form.TheVariants.{Run, Packet, Chunks}
+
+-- what is asked for, without where its word lies
+abbrev pub form_meaning : Form → forms.Form
+form_meaning Run = forms.Run
+form_meaning (Packet hex) = forms.Packet hex.now
+form_meaning (Chunks hex) = forms.Chunks hex.now
