@@ -19,3 +19,8 @@ mod MetSteps
 mod ApartWorld
 mod ApartSteps
 pub mod Safety
+mod Arrived
+mod Drained
+mod Homes
+mod Ending
+mod EndingActs

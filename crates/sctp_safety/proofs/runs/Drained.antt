@@ -1,0 +1,80 @@
+-- A drained sender stays drained: it takes no index, and nothing of it is left to be given up. Only `send` could undo that.
+use Rattle.std.proofs.Common.{◌≡◌, ℕ, zero, suc, ◌<◌, ◌⊎◌, ◌&&◌, ◌==◌, Bool, true, false, List, [], ◌∷◌, ◌++◌, length, Option, Some, None, inl, inr, append-nil, refl, sym, subst, ap, arith, ◌∙◌, if◌then◌else◌}
+use Rattle.sctp_model.specs.Format.{Format, Lane}
+use Rattle.sctp_model.specs.Plan.{Entry, End}
+use Rattle.sctp_model.specs.SenderView.{Queued, SenderView}
+use Rattle.sctp_model.specs.sender.Entries.{is_entry_of, continued, is_in_part, in_part}
+use Rattle.sctp_model.specs.sender.Filling.{Wish, next_wish, gone, Follows, fill, first_on}
+use Rattle.sctp_model.specs.sender.Abandoning.{Name, name_of, waits, given_up, abandon_after, is_due, expired_one, expired_up_to, expired, timed_out}
+use Rattle.sctp_model.specs.sender.Readers.{drained}
+use Rattle.sctp_model.specs.sender.Reached.{IsReached, Goes, Abandons}
+use Rattle.sctp_model.proofs.sender.Bounds.{is_set}
+use Rattle.sctp_model.proofs.sender.CountLaws.{name_found, after_abandon, is_named}
+use Rattle.sctp_model.proofs.sender.FillLaws.{fill_is_fill}
+use Rattle.sctp_model.proofs.sender.WishCases.{IsAssigned, Whole, Begun, Continued, assigned_cases, IsRepeat, IsNew, wish_cases}
+use Rattle.sctp_safety.proofs.runs.Arrived.{IsEmpty, drained_is}
+
+-- ---- filling
+
+none_assigned : (f : Format) (v u : SenderView) → IsEmpty v → IsAssigned v f u → ⊥
+none_assigned f v u e (Whole q rest is) = let h = e.queue in cc
+none_assigned f v u e (Begun s q lt on first) =
+    let h : first_on s [] ≡ Some q = subst (λ (qs : List Queued). first_on s qs ≡ Some q) e.queue first in cc
+none_assigned f v u e (Continued s x lt on) = let h = e.idle s lt in cc
+
+drained_goes : (f : Format) (v : SenderView) (w : Wish) → IsReached f v → drained v ≡ true → next_wish f v ≡ Some w → drained (gone w) ≡ true
+drained_goes f v w h empty next = go (wish_cases f v w next)
+  where
+    go : IsRepeat v w ⊎ IsNew f v w → drained (gone w) ≡ true
+    go (inl r) = subst (λ (u : SenderView). drained u ≡ true) (sym r.view) empty
+    go (inr n) = absurd (none_assigned f v w.view (drained_is v empty) (assigned_cases f v w.view (is_set f v h).turn n.assigned))
+
+drained_follows : (f : Format) (v : SenderView) (room : ℕ) (ws : List Wish) (u : SenderView) → IsReached f v → drained v ≡ true → Follows f v room ws u → drained u ≡ true
+drained_follows f v room [] u h empty same = subst (λ (x : SenderView). drained x ≡ true) (sym same) empty
+drained_follows f v room (w ∷ ws) u h empty (next, may, rest) =
+    drained_follows f (gone w) _ ws u (Goes v room w h next may) (drained_goes f v w h empty next) rest
+
+pub drained_fill : (f : Format) (room : ℕ) (v : SenderView) → IsReached f v → drained v ≡ true → drained (fill f room v).view ≡ true
+drained_fill f room v h empty = drained_follows f v room (fill f room v).wishes (fill f room v).view h empty (fill_is_fill f room v).follows
+
+-- ---- giving up
+
+drained_given : (v : SenderView) (n : Name) → n.lane.stream < v.streams → drained v ≡ true → drained (given_up v n) ≡ true
+drained_given v n lt empty =
+    let idle = (drained_is v empty).idle n.lane.stream lt in
+    let off : is_in_part v n.lane n.number ≡ false = ap (is_entry_of n.lane n.number) idle in
+    go (is_in_part v n.lane n.number) off
+  where
+    with_entries : List Entry → Bool
+    with_entries es = drained (record v { plan = record v.plan { entries = es } })
+
+    go : (b : Bool) → b ≡ false → with_entries (v.plan.entries ++ (if b then End n.lane n.number ∷ [] else [])) ≡ true
+    go true e = absurd (cc)
+    go false e = subst (λ (es : List Entry). with_entries es ≡ true) (sym (append-nil v.plan.entries)) empty
+
+pub drained_abandoned : (f : Format) (v : SenderView) (t : ℕ) → IsReached f v → drained v ≡ true → drained (abandon_after v t) ≡ true
+drained_abandoned f v t h empty =
+    after_abandon (λ (u : SenderView). drained u ≡ true) v t empty
+    (λ on. let q : waits t [] ≡ true = subst (λ (qs : List Queued). waits t qs ≡ true) (drained_is v empty).queue on in absurd (cc))
+    (λ n is kept. drained_given v n (name_found v.streams v.plan t v.plan.entries n (is_named f v h) is).1 empty)
+
+-- a view that calls reach, drained
+abbrev IsDry : Format → SenderView → Type 0
+IsDry f v = IsReached f v × (drained v ≡ true)
+
+expires_dry : (f : Format) (v : SenderView) (now t : ℕ) → IsDry f v → IsDry f (expired_up_to v now t)
+expires_dry f v now zero h = h
+expires_dry f v now (suc t) h = one (expired_up_to v now t) (expires_dry f v now t h)
+  where
+    one : (u : SenderView) → IsDry f u → IsDry f (expired_one u now (suc t))
+    one u (reached, empty) = go (is_due u now (suc t))
+      where
+        go : (b : Bool) → IsDry f (if b then abandon_after u (suc t) else u)
+        go true = (Abandons u (suc t) reached, drained_abandoned f u (suc t) reached empty)
+        go false = (reached, empty)
+
+pub drained_expired : (f : Format) (v : SenderView) (now : ℕ) → IsReached f v → drained v ≡ true → drained (expired v now) ≡ true
+drained_expired f v now h empty = (expires_dry f v now v.tickets (h, empty)).1
+
+pub drained_timed_out : (v : SenderView) → drained v ≡ true → drained (timed_out v) ≡ true
+drained_timed_out v empty = empty

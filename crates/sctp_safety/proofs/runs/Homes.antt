@@ -1,0 +1,61 @@
+-- A SHUTDOWN and a SHUTDOWN ACK are due, and their timers run, in the state alone that sends them (RFC 9260, 9.2).
+use Rattle.std.proofs.Common.{◌≡◌, ℕ, ◌||◌, ◌&&◌, Bool, true, false, List, Option, Some, None, inl, inr, refl, sym, subst, if◌then◌else◌, ◌⊎◌}
+use Rattle.std.proofs.lemmas.Bool.{and_parts, or_cases}
+use Rattle.sctp_model.specs.sender.Readers.{drained}
+use Rattle.sctp_model.specs.end.EndView.{Tags, Stage, Established, ShutdownPending, ShutdownSent, ShutdownReceived, ShutdownAckSent, Ended, Phase, Open, Over, Alarm, ShutdownAlarm, AckAlarm, Timer, EndView}
+use Rattle.sctp_model.specs.end.Clock.{is_home, stopped, turned, closed}
+use Rattle.sctp_model.specs.end.Closing.{with_due, says_shutdown, answers_shutdown, is_shutdown_sent}
+use Rattle.sctp_model.specs.end.Acting.{acknowledges}
+
+pub record IsHome (e : EndView) : Type 0 where
+  pub shutdown : e.due.shutdown ≡ true → is_home ShutdownAlarm e.phase ≡ true
+  pub ack : e.due.shutdown_ack ≡ true → is_home AckAlarm e.phase ≡ true
+  pub shutdown_runs : (n : ℕ) → (e.timers ShutdownAlarm).expiry ≡ Some n → is_home ShutdownAlarm e.phase ≡ true
+  pub ack_runs : (n : ℕ) → (e.timers AckAlarm).expiry ≡ Some n → is_home AckAlarm e.phase ≡ true
+
+-- a timer that is kept at home alone
+runs_at_home : (b : Bool) (t : Timer) (n : ℕ) → (if b then t else stopped t).expiry ≡ Some n → b ≡ true
+runs_at_home true t n h = refl
+runs_at_home false t n h = absurd (cc)
+
+-- whoever goes to another state leaves the rest behind
+pub home_turned : (h : Phase) (e : EndView) → IsHome (turned h e)
+home_turned h e = record {
+  shutdown = λ on. (and_parts e.due.shutdown (is_home ShutdownAlarm h) on).1;
+  ack = λ on. (and_parts e.due.shutdown_ack (is_home AckAlarm h) on).1;
+  shutdown_runs = λ n on. runs_at_home (is_home ShutdownAlarm h) (e.timers ShutdownAlarm) n on;
+  ack_runs = λ n on. runs_at_home (is_home AckAlarm h) (e.timers AckAlarm) n on;
+}
+
+pub home_closed : (why : Ended) (e : EndView) → IsHome (closed why e)
+home_closed why e = record {
+  shutdown = λ on. absurd (cc);
+  ack = λ on. absurd (cc);
+  shutdown_runs = λ n on. absurd (cc);
+  ack_runs = λ n on. absurd (cc);
+}
+
+pub home_says : (t : Tags) (e : EndView) → IsHome (says_shutdown t e)
+home_says t e =
+    let h = home_turned (Open t ShutdownSent) e in
+    record { shutdown = λ on. refl; ack = h.ack; shutdown_runs = h.shutdown_runs; ack_runs = h.ack_runs }
+
+pub home_answers : (t : Tags) (e : EndView) → IsHome (answers_shutdown t e)
+home_answers t e =
+    let h = home_turned (Open t ShutdownAckSent) e in
+    record { shutdown = h.shutdown; ack = λ on. refl; shutdown_runs = h.shutdown_runs; ack_runs = h.ack_runs }
+
+-- only the state that sends SHUTDOWN repeats it
+pub sends_shutdown : (t : Tags) (g : Stage) → is_shutdown_sent g ≡ true → is_home ShutdownAlarm (Open t g) ≡ true
+sends_shutdown t Established on = absurd (cc)
+sends_shutdown t ShutdownPending on = absurd (cc)
+sends_shutdown t ShutdownSent on = refl
+sends_shutdown t ShutdownReceived on = absurd (cc)
+sends_shutdown t ShutdownAckSent on = absurd (cc)
+
+pub home_acknowledges : (t : Tags) (g : Stage) (e : EndView) → e.phase ≡ Open t g → IsHome e → IsHome (acknowledges g e)
+home_acknowledges t g e is h = record { shutdown = λ on. go (or_cases e.due.shutdown (is_shutdown_sent g) on); ack = h.ack; shutdown_runs = h.shutdown_runs; ack_runs = h.ack_runs }
+  where
+    go : (e.due.shutdown ≡ true) ⊎ (is_shutdown_sent g ≡ true) → is_home ShutdownAlarm e.phase ≡ true
+    go (inl on) = h.shutdown on
+    go (inr on) = subst (λ (k : Phase). is_home ShutdownAlarm k ≡ true) (sym is) (sends_shutdown t g on)
