@@ -68,7 +68,7 @@ module _ (f : Format) (a : SenderView) (r : ReceiverView) (s : ℕ) (held : Held
       ]
 
   -- So not all of it was reached, once it takes no more indexes: it would be whole.
-  not_all_reached : Arranged f a.plan → IsClosed a.plan (ordered_lane s) (r.next s) → ((i : ℕ) (e : Entry) → entry_at a.plan i ≡ Some e → IsAwaited e → IsReached r i) → ⊥
+  pub not_all_reached : Arranged f a.plan → IsClosed a.plan (ordered_lane s) (r.next s) → ((i : ℕ) (e : Entry) → entry_at a.plan i ≡ Some e → IsAwaited e → IsReached r i) → ⊥
   not_all_reached arranged (inl (i, here)) all = no_end i here (all i _ here (refl, refl))
   not_all_reached arranged (inr (m, (named, each))) all =
       let whole = whole_when_kept f a.plan arranged (ordered_lane s) (r.next s) m named r.kept held.kept

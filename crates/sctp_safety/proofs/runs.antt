@@ -24,3 +24,5 @@ mod Drained
 mod Homes
 mod Ending
 mod EndingActs
+mod EndingBuilds
+mod EndingTimes

@@ -1,19 +1,19 @@
 -- Where a sender is drained and the receiver at its peer is at rest, no message is missing: each was handed over, or abandoned.
-use Rattle.std.proofs.Common.{◌≡◌, ℕ, zero, suc, ◌+◌, ◌-◌, ◌<◌, ◌≤◌, ◌⊎◌, ◌==◌, ◌&&◌, Bool, true, false, List, [], ◌∷◌, length, Option, Some, None, inl, inr, refl, sym, subst, ap, arith, eqb-true, ◌∙◌}
+use Rattle.std.proofs.Common.{◌≡◌, ℕ, zero, suc, ◌<◌, ◌≤◌, ◌⊎◌, ◌==◌, ◌&&◌, true, List, [], ◌∷◌, length, Option, Some, None, inl, inr, refl, sym, subst, ap, arith, eqb-true, ◌∙◌}
 use Rattle.std.proofs.lemmas.Bool.{cases_lt, and_parts}
 use Rattle.sctp_model.specs.Lists.{Has}
 use Rattle.sctp_model.specs.Chunk.{ChunkMeaning}
 use Rattle.sctp_model.specs.Format.{Format, Kind, Ordered, Unordered, Lane, ordered_lane}
-use Rattle.sctp_model.specs.Plan.{Message, Entry, Part, Plan, entry_at, message_at, IsClosed}
+use Rattle.sctp_model.specs.Plan.{Message, Entry, Part, entry_at, message_at, IsClosed}
 use Rattle.sctp_model.specs.Pieces.{piece_of}
-use Rattle.sctp_model.specs.SenderView.{Queued, SenderView}
+use Rattle.sctp_model.specs.SenderView.{SenderView}
 use Rattle.sctp_model.specs.ReceiverView.{ReceiverView, IsReached}
 use Rattle.sctp_model.specs.Safe.{WasHanded}
 use Rattle.sctp_model.specs.Calls.{Asked}
 use Rattle.sctp_model.specs.sender.Entries.{continued, one_if_some, in_part, sum_below}
 use Rattle.sctp_model.specs.sender.Readers.{drained}
 use Rattle.sctp_model.specs.receiver.Laws.{IsIdle}
-use Rattle.sctp_model.specs.Premises.{HasEntry, IsAllArrived}
+use Rattle.sctp_model.specs.Premises.{IsAllArrived}
 use Rattle.sctp_safety.specs.Way.{Way}
 use Rattle.sctp_safety.proofs.Basics.{lane_is, each_or, item_at-within, item_at-above}
 use Rattle.sctp_safety.proofs.Facts.{Good, IsLost, IsOver}
@@ -23,7 +23,7 @@ use Rattle.sctp_safety.proofs.Framing.{whole_when_kept}
 use Rattle.sctp_safety.proofs.SafeWhenGood.{settled_at}
 use Rattle.sctp_safety.proofs.InPart.{idle_closed}
 use Rattle.sctp_safety.proofs.Spread.{lower_to}
-use Rattle.sctp_safety.proofs.WaitedFor.{next_is_past}
+use Rattle.sctp_safety.proofs.WaitedFor.{not_all_reached}
 use Rattle.sctp_safety.proofs.runs.Direction.{way_of, Direction}
 use Rattle.sctp_safety.proofs.runs.Sending.{good_here}
 
@@ -74,14 +74,11 @@ module _ (w : Way) (g : Good w) (idle : IsIdle w.format w.receiver) (all : w.sen
   all_reached : (i : ℕ) → 0 < i → i ≤ length w.sender.plan.entries → IsReached w.receiver i
   all_reached i some le = g.between.cum i (omega (arith, all, le))
 
-  -- a message that is waited for next would have an index past all of them
+  -- a message that is waited for next isn't all reached, once it is closed
   none_waits : (s : ℕ) (m : Message) → message_at w.sender.plan (ordered_lane s) (w.receiver.next s) ≡ Some m → ⊥
   none_waits s m named =
-      let past = next_is_past w.format w.sender w.receiver s (length w.sender.plan.entries) g.arranged g.held all_reached (idle.ordered s)
-          (closed (ordered_lane s) (w.receiver.next s) m named) in
-      let within = item_at-within w.sender.plan.entries past.0 past.1 past.3 in
-      let beyond = past.2 in
-      omega (arith, within, beyond)
+      not_all_reached w.format w.sender w.receiver s g.held (idle.ordered s) g.arranged (closed (ordered_lane s) (w.receiver.next s) m named)
+      (λ i e here own. all_reached i (item_at-above w.sender.plan.entries i e here) (item_at-within w.sender.plan.entries i e here))
 
   ordered_arrives : (s n : ℕ) (m : Message) → message_at w.sender.plan (ordered_lane s) n ≡ Some m → IsArrived (ordered_lane s) n
   ordered_arrives s n m named = go (cases_lt n (w.receiver.next s))
@@ -92,11 +89,7 @@ module _ (w : Way) (g : Good w) (idle : IsIdle w.format w.receiver) (all : w.sen
 
       go : (n < w.receiver.next s) ⊎ (w.receiver.next s ≤ n) → IsArrived (ordered_lane s) n
       go (inl below) = turn (g.held.told.passed s n below)
-      go (inr le) =
-          let z : n ≡ w.receiver.next s + (n - w.receiver.next s) = omega (arith, le) in
-          let first = lower_to (w.sender.plan.messages (ordered_lane s)) (w.receiver.next s) (n - w.receiver.next s) m
-              (subst (λ (k : ℕ). message_at w.sender.plan (ordered_lane s) k ≡ Some m) z named) in
-          absurd (none_waits s first.0 first.1)
+      go (inr le) = let first = lower_to (w.sender.plan.messages (ordered_lane s)) (w.receiver.next s) n m le named in absurd (none_waits s first.0 first.1)
 
   -- a fragment that was reached is kept, where its message isn't over
   kept_or_over : (l : Lane) (n : ℕ) (m : Message) → message_at w.sender.plan l n ≡ Some m → (k i : ℕ) → entry_at w.sender.plan i ≡ Some (Part l n k) →

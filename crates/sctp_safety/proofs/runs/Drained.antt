@@ -1,11 +1,11 @@
 -- A drained sender stays drained: it takes no index, and nothing of it is left to be given up. Only `send` could undo that.
-use Rattle.std.proofs.Common.{◌≡◌, ℕ, zero, suc, ◌<◌, ◌⊎◌, ◌&&◌, ◌==◌, Bool, true, false, List, [], ◌∷◌, ◌++◌, length, Option, Some, None, inl, inr, append-nil, refl, sym, subst, ap, arith, ◌∙◌, if◌then◌else◌}
-use Rattle.sctp_model.specs.Format.{Format, Lane}
+use Rattle.std.proofs.Common.{◌≡◌, ℕ, zero, suc, ◌<◌, ◌⊎◌, Bool, true, false, List, [], ◌∷◌, ◌++◌, Some, inl, inr, append-nil, sym, subst, ap, if◌then◌else◌}
+use Rattle.sctp_model.specs.Format.{Format}
 use Rattle.sctp_model.specs.Plan.{Entry, End}
 use Rattle.sctp_model.specs.SenderView.{Queued, SenderView}
-use Rattle.sctp_model.specs.sender.Entries.{is_entry_of, continued, is_in_part, in_part}
+use Rattle.sctp_model.specs.sender.Entries.{is_entry_of, is_in_part}
 use Rattle.sctp_model.specs.sender.Filling.{Wish, next_wish, gone, Follows, fill, first_on}
-use Rattle.sctp_model.specs.sender.Abandoning.{Name, name_of, waits, given_up, abandon_after, is_due, expired_one, expired_up_to, expired, timed_out}
+use Rattle.sctp_model.specs.sender.Abandoning.{Name, waits, given_up, abandon_after, is_due, expired_one, expired_up_to, expired, timed_out}
 use Rattle.sctp_model.specs.sender.Readers.{drained}
 use Rattle.sctp_model.specs.sender.Reached.{IsReached, Goes, Abandons}
 use Rattle.sctp_model.proofs.sender.Bounds.{is_set}

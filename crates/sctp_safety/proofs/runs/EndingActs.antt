@@ -1,5 +1,5 @@
 -- What a chunk of the peer does to the closing of an association.
-use Rattle.std.proofs.Common.{◌≡◌, ℕ, Bool, true, false, List, [], ◌∷◌, inl, inr, refl, sym, subst, ◌∙◌}
+use Rattle.std.proofs.Common.{◌≡◌, ℕ, true, false, List, refl, sym, subst, ◌∙◌}
 use Rattle.sctp_model.specs.Lists.{Has}
 use Rattle.sctp_model.specs.Chunk.{ChunkMeaning, Data, IData, Init, InitAck, Sack, Heartbeat, HeartbeatAck, Abort, Shutdown, ShutdownAck, Error, CookieEcho, CookieAck, ShutdownComplete, ForwardTsn, IForwardTsn, Unknown}
 use Rattle.sctp_model.specs.Packet.{Packet}
@@ -8,7 +8,7 @@ use Rattle.sctp_model.specs.sender.SackTaken.{shutdown_taken}
 use Rattle.sctp_model.specs.sender.Readers.{drained}
 use Rattle.sctp_model.specs.end.EndView.{Tags, Stage, Established, ShutdownPending, ShutdownSent, ShutdownReceived, ShutdownAckSent, Ended, Completed, Aborted, AbortedHere, StaleCookie, Phase, Idle, Listening, Calling, Echoing, Open, Over, AckAlarm, EndView}
 use Rattle.sctp_model.specs.end.Clock.{is_home, closed, settled}
-use Rattle.sctp_model.specs.end.Closing.{hears, takes_acknowledgements, awaits_ack, awaits_complete, answers_shutdown, rested}
+use Rattle.sctp_model.specs.end.Closing.{hears, takes_acknowledgements, awaits_ack, awaits_complete, answers_shutdown}
 use Rattle.sctp_model.specs.end.PeerFaults.{GoesOn, Ends, Replies}
 use Rattle.sctp_model.specs.end.Opening.{AcceptedAck, RefusedAck, EchoedAgain, CookieAcked}
 use Rattle.sctp_model.specs.end.Acting.{Acts, Empty, WrongFormat, Comes, WrongKind, IsBad, IsOld, IsStale, IsWrong, Counts, Closes, SaysNothing, Crosses, Again, Completes}

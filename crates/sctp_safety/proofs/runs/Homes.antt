@@ -1,10 +1,9 @@
 -- A SHUTDOWN and a SHUTDOWN ACK are due, and their timers run, in the state alone that sends them (RFC 9260, 9.2).
-use Rattle.std.proofs.Common.{◌≡◌, ℕ, ◌||◌, ◌&&◌, Bool, true, false, List, Option, Some, None, inl, inr, refl, sym, subst, if◌then◌else◌, ◌⊎◌}
+use Rattle.std.proofs.Common.{◌≡◌, ℕ, Bool, true, false, Some, inl, inr, refl, sym, subst, if◌then◌else◌, ◌⊎◌}
 use Rattle.std.proofs.lemmas.Bool.{and_parts, or_cases}
-use Rattle.sctp_model.specs.sender.Readers.{drained}
-use Rattle.sctp_model.specs.end.EndView.{Tags, Stage, Established, ShutdownPending, ShutdownSent, ShutdownReceived, ShutdownAckSent, Ended, Phase, Open, Over, Alarm, ShutdownAlarm, AckAlarm, Timer, EndView}
+use Rattle.sctp_model.specs.end.EndView.{Tags, Stage, Established, ShutdownPending, ShutdownSent, ShutdownReceived, ShutdownAckSent, Ended, Phase, Open, ShutdownAlarm, AckAlarm, Timer, EndView}
 use Rattle.sctp_model.specs.end.Clock.{is_home, stopped, turned, closed}
-use Rattle.sctp_model.specs.end.Closing.{with_due, says_shutdown, answers_shutdown, is_shutdown_sent}
+use Rattle.sctp_model.specs.end.Closing.{says_shutdown, answers_shutdown, is_shutdown_sent}
 use Rattle.sctp_model.specs.end.Acting.{acknowledges}
 
 pub record IsHome (e : EndView) : Type 0 where

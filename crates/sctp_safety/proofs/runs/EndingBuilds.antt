@@ -1,0 +1,144 @@
+-- A packet that is built says that its end is done only where it is.
+use Rattle.std.proofs.Common.{◌≡◌, ◌-◌, Bool, true, false, List, [], ◌∷◌, ◌++◌, append_assoc, append-nil, inl, inr, refl, sym, subst}
+use Rattle.sctp_model.specs.Lists.{Has}
+use Rattle.sctp_model.specs.Chunk.{ChunkMeaning}
+use Rattle.sctp_model.specs.Packet.{size_of_packet}
+use Rattle.sctp_model.specs.Format.{Format, Plain, Interleaved}
+use Rattle.sctp_model.specs.SenderView.{SenderView}
+use Rattle.sctp_model.specs.sender.Filling.{Wish}
+use Rattle.sctp_model.specs.sender.SentChunks.{chunk_of, forward_chunk_of}
+use Rattle.sctp_model.specs.sender.Readers.{drained}
+use Rattle.sctp_model.specs.sender.Reached.{IsReached}
+use Rattle.sctp_model.specs.end.EndView.{Terms, Established, ShutdownPending, ShutdownReceived, ShutdownSent, ShutdownAckSent, Phase, Idle, Listening, Calling, Echoing, Open, Over, ShutdownAlarm, AckAlarm, EndView, format_for, format_of}
+use Rattle.sctp_model.specs.end.Clock.{is_home}
+use Rattle.sctp_model.specs.end.Closing.{hears, awaits_ack}
+use Rattle.sctp_model.specs.end.Building.{Slot, is_due, Wants, EchoCookie, AckCookie, AckHeartbeat, ReportCauses, Acknowledge, PassOn, SayShutdown, AnswerShutdown, Puts, NoMore, NotDue, Put, IsFull, echoing_slots, open_slots, filled_behind, sent, fragments, Builds, Sleeps, Waits, Calls, Echoes, Ends, Fills}
+use Rattle.sctp_safety.specs.States.{has_agreed}
+use Rattle.sctp_safety.proofs.runs.Sending.{Has-map}
+use Rattle.sctp_safety.proofs.runs.Acted.{not_calling}
+use Rattle.sctp_safety.proofs.runs.Drained.{drained_fill}
+use Rattle.sctp_safety.proofs.runs.Homes.{IsHome}
+use Rattle.sctp_safety.proofs.runs.Ending.{IsDone, is_shutting, last_by_ack, AreEnding, ending_on, onward_same}
+
+-- the states that send SHUTDOWN and SHUTDOWN ACK wait for the answer
+home_awaits : (h : Phase) → is_home ShutdownAlarm h ≡ true → hears awaits_ack h ≡ true
+home_awaits (Open t ShutdownSent) on = refl
+home_awaits (Open t Established) on = absurd (cc)
+home_awaits (Open t ShutdownPending) on = absurd (cc)
+home_awaits (Open t ShutdownReceived) on = absurd (cc)
+home_awaits (Open t ShutdownAckSent) on = absurd (cc)
+home_awaits Idle on = absurd (cc)
+home_awaits Listening on = absurd (cc)
+home_awaits (Calling d) on = absurd (cc)
+home_awaits (Echoing t xs) on = absurd (cc)
+home_awaits (Over why) on = absurd (cc)
+
+ack_home_awaits : (h : Phase) → is_home AckAlarm h ≡ true → hears awaits_ack h ≡ true
+ack_home_awaits (Open t ShutdownAckSent) on = refl
+ack_home_awaits (Open t Established) on = absurd (cc)
+ack_home_awaits (Open t ShutdownPending) on = absurd (cc)
+ack_home_awaits (Open t ShutdownSent) on = absurd (cc)
+ack_home_awaits (Open t ShutdownReceived) on = absurd (cc)
+ack_home_awaits Idle on = absurd (cc)
+ack_home_awaits Listening on = absurd (cc)
+ack_home_awaits (Calling d) on = absurd (cc)
+ack_home_awaits (Echoing t xs) on = absurd (cc)
+ack_home_awaits (Over why) on = absurd (cc)
+
+forward_is_other : (f : Format) (a : SenderView) → is_shutting (forward_chunk_of f a) ≡ false
+forward_is_other Plain a = refl
+forward_is_other Interleaved a = refl
+
+fragment_is_other : (f : Format) (w : Wish) → is_shutting (chunk_of f w) ≡ false
+fragment_is_other Plain w = refl
+fragment_is_other Interleaved w = refl
+
+module _ (p : EndView) (back : List ChunkMeaning) where
+  abbrev Ending : List ChunkMeaning → EndView → Type 0
+  Ending out e = AreEnding e p out back
+
+  -- one chunk, which says that the end is done only if it is
+  put : (out : List ChunkMeaning) (e t : EndView) (x : ChunkMeaning) → Ending out e → IsHome t → t.phase ≡ e.phase → t.sender ≡ e.sender →
+      (is_shutting x ≡ true → IsDone t) → Ending (out ++ x ∷ []) t
+  put out e t x c home same sender says =
+      ending_on e p t out back (x ∷ []) c (onward_same p out back e t c home same (λ on. subst (λ (a : SenderView). drained a ≡ true) (sym sender) on)) one
+    where
+      one : (y : ChunkMeaning) → Has (x ∷ []) y → is_shutting y ≡ true → IsDone t
+      one y (inl q) on = says (subst (λ (z : ChunkMeaning). is_shutting z ≡ true) (sym q) on)
+      one y (inr h) on = absurd h
+
+  put_one : (s : Slot) (out : List ChunkMeaning) (e t : EndView) (x : ChunkMeaning) → Ending out e → is_due s e ≡ true → Wants e s x t → Ending (out ++ x ∷ []) t
+  put_one s out e t x c due (EchoCookie _ _ _) = put out e t x c (record { shutdown = c.this.home.shutdown; ack = c.this.home.ack; shutdown_runs = c.this.home.shutdown_runs; ack_runs = c.this.home.ack_runs }) refl refl (λ on. absurd (cc))
+  put_one s out e t x c due AckCookie = put out e t x c (record { shutdown = c.this.home.shutdown; ack = c.this.home.ack; shutdown_runs = c.this.home.shutdown_runs; ack_runs = c.this.home.ack_runs }) refl refl (λ on. absurd (cc))
+  put_one s out e t x c due (AckHeartbeat _ _) = put out e t x c (record { shutdown = c.this.home.shutdown; ack = c.this.home.ack; shutdown_runs = c.this.home.shutdown_runs; ack_runs = c.this.home.ack_runs }) refl refl (λ on. absurd (cc))
+  put_one s out e t x c due ReportCauses = put out e t x c (record { shutdown = c.this.home.shutdown; ack = c.this.home.ack; shutdown_runs = c.this.home.shutdown_runs; ack_runs = c.this.home.ack_runs }) refl refl (λ on. absurd (cc))
+  put_one s out e t x c due (Acknowledge made is) = put out e t x c (record { shutdown = c.this.home.shutdown; ack = c.this.home.ack; shutdown_runs = c.this.home.shutdown_runs; ack_runs = c.this.home.ack_runs }) refl refl (λ on. absurd (cc))
+  put_one s out e t x c due PassOn = put out e t x c (record { shutdown = c.this.home.shutdown; ack = c.this.home.ack; shutdown_runs = c.this.home.shutdown_runs; ack_runs = c.this.home.ack_runs }) refl refl (λ on. absurd (let off = forward_is_other (format_of e) e.sender in cc))
+  put_one s out e t x c due (SayShutdown k is) = put out e t x c (record {
+    shutdown = λ on. absurd (cc);
+    ack = c.this.home.ack;
+    shutdown_runs = λ n on. c.this.home.shutdown due;
+    ack_runs = c.this.home.ack_runs;
+  }) refl refl (λ on. let now = home_awaits e.phase (c.this.home.shutdown due) in record { empty = c.this.empty now; last = last_by_ack e.phase now })
+  put_one s out e t x c due AnswerShutdown = put out e t x c (record {
+    shutdown = c.this.home.shutdown;
+    ack = λ on. absurd (cc);
+    shutdown_runs = c.this.home.shutdown_runs;
+    ack_runs = λ n on. c.this.home.ack due;
+  }) refl refl (λ on. let now = ack_home_awaits e.phase (c.this.home.ack due) in record { empty = c.this.empty now; last = last_by_ack e.phase now })
+
+  puts_keep : (out : List ChunkMeaning) (ss : List Slot) (e : EndView) (xs zs : List ChunkMeaning) (full : Bool) (t : EndView) → Ending (out ++ xs) e → Puts ss e xs zs full t → Ending (out ++ zs) t
+  puts_keep out ss e xs zs full t c (NoMore _ _) = c
+  puts_keep out ss e xs zs full t c (NotDue _ more _ _ _ _ _ off rest) = puts_keep out more e xs zs full t c rest
+  puts_keep out ss e xs zs full t c (Put s more _ mid x _ _ _ _ due wants room rest) =
+      puts_keep out more mid (xs ++ x ∷ []) zs full t
+      (subst (λ (ys : List ChunkMeaning). Ending ys mid) (append_assoc out xs (x ∷ [])) (put_one s (out ++ xs) e mid x c due wants)) rest
+  puts_keep out ss e xs zs full t c (IsFull _ _ _ _ _ _ due wants room) = c
+
+  fill_keeps : (out : List ChunkMeaning) (e : EndView) (zs : List ChunkMeaning) → IsReached (format_of e) e.sender → Ending (out ++ zs) e → Ending (out ++ (zs ++ fragments e zs)) (sent e zs)
+  fill_keeps out e zs reached c = subst (λ (ys : List ChunkMeaning). Ending ys (sent e zs)) (append_assoc out zs (fragments e zs))
+      (ending_on e p (sent e zs) (out ++ zs) back (fragments e zs) c
+      (onward_same p (out ++ zs) back e (sent e zs) c (record { shutdown = c.this.home.shutdown; ack = c.this.home.ack; shutdown_runs = c.this.home.shutdown_runs; ack_runs = c.this.home.ack_runs }) refl (drained_fill (format_of e) (e.configuration.limit - size_of_packet zs) e.sender reached)) others)
+    where
+      others : (x : ChunkMeaning) → Has (fragments e zs) x → is_shutting x ≡ true → IsDone (sent e zs)
+      others x has on =
+          let k = Has-map (chunk_of (format_of e)) (filled_behind e zs).wishes x has in
+          let off = subst (λ (y : ChunkMeaning). is_shutting y ≡ false) k.2 (fragment_is_other (format_of e) k.0) in
+          absurd (cc)
+
+  -- What is due goes in without a change of the sender, so a view that calls reach stays one.
+  wants_sender : (s : Slot) (e : EndView) (x : ChunkMeaning) (t : EndView) → Wants e s x t → (t.sender ≡ e.sender) × (t.terms ≡ e.terms)
+  wants_sender s e x t (EchoCookie _ _ _) = (refl, refl)
+  wants_sender s e x t AckCookie = (refl, refl)
+  wants_sender s e x t (AckHeartbeat _ _) = (refl, refl)
+  wants_sender s e x t ReportCauses = (refl, refl)
+  wants_sender s e x t (Acknowledge _ _) = (refl, refl)
+  wants_sender s e x t PassOn = (refl, refl)
+  wants_sender s e x t (SayShutdown _ _) = (refl, refl)
+  wants_sender s e x t AnswerShutdown = (refl, refl)
+
+  abbrev Reached : EndView → Type 0
+  Reached e = IsReached (format_of e) e.sender
+
+  wants_reached : (e t : EndView) → (t.sender ≡ e.sender) × (t.terms ≡ e.terms) → Reached e → Reached t
+  wants_reached e t (sender, terms) h =
+      subst (λ (x : Terms). IsReached (format_for x.interleave) t.sender) (sym terms) (subst (λ (a : SenderView). IsReached (format_of e) a) (sym sender) h)
+
+  puts_reached : (ss : List Slot) (e : EndView) (xs zs : List ChunkMeaning) (full : Bool) (t : EndView) → Reached e → Puts ss e xs zs full t → Reached t
+  puts_reached ss e xs zs full t h (NoMore _ _) = h
+  puts_reached ss e xs zs full t h (NotDue _ more _ _ _ _ _ off rest) = puts_reached more e xs zs full t h rest
+  puts_reached ss e xs zs full t h (Put s more _ mid x _ _ _ _ due wants room rest) =
+      puts_reached more mid (xs ++ x ∷ []) zs full t (wants_reached e mid (wants_sender s e x mid wants) h) rest
+  puts_reached ss e xs zs full t h (IsFull _ _ _ _ _ _ due wants room) = h
+
+  pub ending_built : (out : List ChunkMeaning) (e : EndView) (zs : List ChunkMeaning) (t : EndView) → has_agreed e.phase ≡ true → Reached e → Ending out e → Builds e zs t → Ending (out ++ zs) t
+  ending_built out e zs t agreed h c (Sleeps none) = subst (λ (ys : List ChunkMeaning). Ending ys e) (sym (append-nil out)) c
+  ending_built out e zs t agreed h c (Waits d is off) = absurd (not_calling e.phase d is agreed)
+  ending_built out e zs t agreed h c (Calls d is on) = absurd (not_calling e.phase d is agreed)
+  ending_built out e zs t agreed h c (Echoes k cookie _ full _ is puts) =
+      puts_keep out echoing_slots e [] zs full t (subst (λ (ys : List ChunkMeaning). Ending ys e) (sym (append-nil out)) c) puts
+  ending_built out e zs t agreed h c (Ends k g _ _ is puts) =
+      puts_keep out open_slots e [] zs true t (subst (λ (ys : List ChunkMeaning). Ending ys e) (sym (append-nil out)) c) puts
+  ending_built out e zs t agreed h c (Fills k g xs x is puts) =
+      fill_keeps out x xs (puts_reached open_slots e [] xs false x h puts)
+      (puts_keep out open_slots e [] xs false x (subst (λ (ys : List ChunkMeaning). Ending ys e) (sym (append-nil out)) c) puts)
