@@ -50,5 +50,5 @@ mod PieceReads
 mod SkipReads
 mod ForwardReads
 mod SackMade
-mod machine
+pub mod machine
 mod runs

@@ -16,6 +16,7 @@ pub mod Met
 pub mod Fronts
 pub mod Apart
 pub mod CallerBuilds
+pub mod Beginnings
 pub mod Story
 pub mod EndsAgree
 pub mod OpeningWorlds

@@ -1,21 +1,20 @@
 -- The story of two ends: they are apart until they have met, step by step.
-use Rattle.std.proofs.Common.{◌≡◌, ℕ, ◌⊎◌, max, Bool, true, false, List, [], ◌∷◌, Option, Some, None, inl, inr, refl, sym, subst, ap, ◌∙◌}
-use Rattle.std.specs.Prelude.{◌<◌, min, if◌then◌else◌}
+use Rattle.std.proofs.Common.{◌≡◌, ℕ, ◌⊎◌, max, Bool, true, false, List, [], ◌∷◌, Option, Some, None, inl, inr, refl, sym, subst, ◌∙◌}
+use Rattle.std.specs.Prelude.{if◌then◌else◌}
 use Rattle.sctp_model.specs.Lists.{Has}
 use Rattle.sctp_model.specs.Chunk.{ChunkMeaning, Init, CookieEcho}
 use Rattle.sctp_model.specs.Packet.{Packet}
-use Rattle.sctp_model.specs.end.Sealing.{Body}
-use Rattle.sctp_model.specs.end.EndView.{Configuration, Draw, Phase, Idle, Listening, Calling, Echoing, Open, EndView}
+use Rattle.sctp_model.specs.end.EndView.{Phase, Listening, Calling, Echoing, Open, EndView}
 use Rattle.sctp_model.specs.end.Configured.{IsConfiguration}
 use Rattle.sctp_model.specs.end.Strays.{Verdict, Taken, Dropped, Answer}
 use Rattle.sctp_model.specs.end.Arriving.{Arrives}
 use Rattle.sctp_model.specs.end.Building.{Builds, Sleeps, Waits, Calls, Echoes, Fills, packet_of}
 use Rattle.sctp_model.specs.end.Building.{Ends as EndsFull}
 use Rattle.sctp_model.specs.end.Moments.{ticked}
-use Rattle.sctp_model.specs.end.UserCalls.{called, send_answer, shut, Aborts, TooLong, abort_answer, abort_answer_to, abort_leaves, abort_packet, peer_tag}
+use Rattle.sctp_model.specs.end.UserCalls.{send_answer, shut, Aborts, TooLong, abort_answer, abort_answer_to, abort_leaves, abort_packet, peer_tag}
 use Rattle.sctp_model.specs.World.{Side, A, B, World, end_of, end_now, came, Setup, configuration_of}
 use Rattle.sctp_model.specs.Events.{Event, Outcome, with_verdict}
-use Rattle.sctp_model.specs.Steps.{opened, terms_alike, IsDraw, is_answer, cut, Step, Opens, OpenRefused, TimePasses, Draws, Connects, ConnectRefused, BuildsOne, BuildsNone, Comes, IsAbsent, Unread, Sends, Abandons, TakesOne, ShutsDown, AbortsIt, CutFirst, CutLater, NoMemory}
+use Rattle.sctp_model.specs.Steps.{opened, is_answer, cut, Step, Opens, OpenRefused, TimePasses, Draws, Connects, ConnectRefused, BuildsOne, BuildsNone, Comes, IsAbsent, Unread, Sends, Abandons, TakesOne, ShutsDown, AbortsIt, CutFirst, CutLater, NoMemory}
 use Rattle.sctp_safety.specs.States.{has_begun, has_agreed}
 use Rattle.sctp_safety.specs.Strangers.{IsDrawn}
 use Rattle.sctp_safety.specs.Agreement.{AreAgreed, AreEachOthers, was_open}
@@ -23,9 +22,9 @@ use Rattle.sctp_safety.proofs.machine.Turns.{IsPlainTurn, Stays, IsPlain, plain_
 use Rattle.sctp_safety.proofs.machine.TurnsOfTime.{plain_ticked, plain_sent, plain_abandoned, plain_taken, plain_shut, plain_aborted}
 use Rattle.sctp_safety.proofs.machine.Diagram.{plain_unbegun}
 use Rattle.sctp_safety.proofs.machine.DiagramRuns.{IsFresh, connect_idle}
-use Rattle.sctp_safety.proofs.machine.AnswerToInit.{both_some}
 use Rattle.sctp_safety.proofs.machine.Answering.{one_chunk}
-use Rattle.sctp_safety.proofs.machine.CallerFacts.{InitFits, AckFits, IsFit, IsCaller, caller_gives, caller_turns}
+use Rattle.sctp_safety.proofs.machine.CallerFacts.{IsCaller, caller_gives, caller_turns}
+use Rattle.sctp_safety.proofs.machine.Beginnings.{opens, calls}
 use Rattle.sctp_safety.proofs.machine.CallerBuilds.{caller_builds}
 use Rattle.sctp_safety.proofs.machine.OneEnd.{bag_with, IsAt, at_end, at_log, at_packet, at_came, answer_of, at_verdict, abort_of, at_abort}
 use Rattle.sctp_safety.proofs.machine.Ground.{IsFine, IsGrounded}
@@ -167,63 +166,8 @@ module _ (s : Setup) (drawn : List ℕ) (w : World) (ground : IsGrounded s drawn
     closed_came A t = refl
     closed_came B t = refl
 
-    -- the ends are opened without packets
-    opens : (x y : Draw) → Has drawn x.tag → Has drawn y.tag → IsMet drawn (record w { a = opened w.a.configuration x y; b = opened w.b.configuration y x; openable = false })
-    opens x y hx hy = record {
-      met = record {
-        caller = refl;
-        listener = refl;
-        terms = subst (λ (c : Configuration). AreAgreed (terms_alike c x y) (terms_alike w.b.configuration y x)) (sym (ground.ends A).configuration)
-            (subst (λ (c : Configuration). AreAgreed (terms_alike (configuration_of s A) x y) (terms_alike c y x)) (sym (ground.ends B).configuration) alike);
-        tags = (refl, refl);
-        closed_to_opening = refl;
-      };
-      tags = tags;
-    }
-      where
-        some : 0 < min (configuration_of s A).outbound (configuration_of s A).inbound
-        some = let c = configured A in both_some (configuration_of s A).outbound (configuration_of s A).inbound (c.outbound.0) (c.inbound.0)
-
-        alike : AreAgreed (terms_alike (configuration_of s A) x y) (terms_alike (configuration_of s B) y x)
-        alike = record { first_tsn = refl; first_tsn_back = refl; streams = refl; streams_back = refl; interleave = refl; partial = refl; some_streams = (some, some) }
-
-        either : (n : ℕ) → Has (x.tag ∷ y.tag ∷ []) n → Has drawn n
-        either n (inl e) = subst (Has drawn) e hx
-        either n (inr (inl e)) = subst (Has drawn) e hy
-        either n (inr (inr none)) = elim none [ ]
-
-        other_way : (n : ℕ) → Has (y.tag ∷ x.tag ∷ []) n → Has drawn n
-        other_way n (inl e) = subst (Has drawn) e hy
-        other_way n (inr (inl e)) = subst (Has drawn) e hx
-        other_way n (inr (inr none)) = elim none [ ]
-
-        tags : (z : Side) → IsDrawn drawn (end_of (record w { a = opened w.a.configuration x y; b = opened w.b.configuration y x; openable = false }) z).phase
-        tags A = either
-        tags B = other_way
-
-    -- the caller calls
-    calls : (d : Draw) → IsDraw d → Has drawn d.tag → w.a.phase ≡ Idle → IsCaller s drawn w.from_a w.from_b (called (end_now w A) d)
-    calls d dd tag is = record {
-      configuration = apart.caller.configuration;
-      unopened = refl;
-      calls = λ q. absurd (cc);
-      draws = λ x q. let r : d ≡ x = cc in subst IsDraw r dd;
-      drawn_tags = λ n h. own n h;
-      inits = λ p m h k. let none = subst (λ (j : Phase). InitFits s j m) is (apart.caller.inits p m h k) in elim none [ ];
-      acks = λ p m h t k. let none = subst (λ (j : Phase). AckFits s drawn j m) is (apart.caller.acks p m h t k) in elim none [ ];
-      echoed = λ p xs b h k o. absurd (never b (apart.caller.echoed p xs b h k o));
-      echoes = λ u xs b q o. absurd (cc);
-    }
-      where
-        own : (n : ℕ) → Has (d.tag ∷ []) n → Has drawn n
-        own n (inl e) = subst (Has drawn) e tag
-        own n (inr none) = elim none [ ]
-
-        never : (b : Body) → IsFit drawn w.a b → ⊥
-        never b f = let q : false ≡ true = sym (ap has_agreed is) ∙ f.agreed in absurd (cc)
-
     apart_step : (e : Event) (o : Option Outcome) (v : World) → IsFine s drawn e → Step w e o v → IsStory s drawn v
-    apart_step e o v fine (Opens x y may dx dy) = HaveMet (opens x y (fine.draws x.tag (inl refl)) (fine.draws y.tag (inr (inl refl))))
+    apart_step e o v fine (Opens x y may dx dy) = HaveMet (opens s drawn w ground configured x y (fine.draws x.tag (inl refl)) (fine.draws y.tag (inr (inl refl))))
     apart_step e o v fine (OpenRefused x y closed) = AreApart apart
     apart_step e o v fine (TimePasses m small) = AreApart (record {
       listens = plain_unbegun w.b.phase _ (plain_ticked w.b (max w.clock m)).turn (subst (λ (h : Phase). has_begun h ≡ false) (sym apart.listens) refl) ∙ apart.listens;
@@ -235,7 +179,7 @@ module _ (s : Setup) (drawn : List ℕ) (w : World) (ground : IsGrounded s drawn
     apart_step e o v fine (Draws d dd) = AreApart apart
     apart_step e o v fine (Connects d dd answer) = AreApart (record {
       listens = apart.listens;
-      caller = calls d dd (fine.draws d.tag (inl refl)) (connect_idle w.a.phase answer);
+      caller = calls s drawn w apart.caller d dd (fine.draws d.tag (inl refl)) (connect_idle w.a.phase answer);
       answers = apart.answers;
     })
     apart_step e o v fine (ConnectRefused d answer) = AreApart apart

@@ -1,0 +1,101 @@
+-- Time and the calls of a user that take no message leave an end its receiver and its terms.
+use Rattle.std.proofs.Common.{◌≡◌, ℕ, not, ◌||◌, ◌==◌, Bool, true, false, List, [], ◌∷◌, refl, ◌∙◌}
+use Rattle.std.specs.Prelude.{if◌then◌else◌, nat_lt}
+use Rattle.sctp_model.specs.Calls.{Call}
+use Rattle.sctp_model.specs.SenderView.{SenderView}
+use Rattle.sctp_model.specs.sender.Readers.{point}
+use Rattle.sctp_model.specs.sender.Abandoning.{abandon_after}
+use Rattle.sctp_model.specs.sender.Abandoning.{expired as expired_messages}
+use Rattle.sctp_model.specs.end.EndView.{TimedOut, Phase, Idle, Listening, Calling, Echoing, Open, Over, Established, ShutdownPending, ShutdownSent, ShutdownReceived, ShutdownAckSent, Alarm, InitAlarm, CookieAlarm, DataAlarm, ShutdownAlarm, AckAlarm, EndView, has_association}
+use Rattle.sctp_model.specs.end.Clock.{at_moment, closed, settled, turned, with_timer, is_over_at, repeats_of}
+use Rattle.sctp_model.specs.end.Clock.{expired as expired_timer}
+use Rattle.sctp_model.specs.end.Closing.{rested}
+use Rattle.sctp_model.specs.end.Moments.{after_giving_up, due_again, rung, ring, rung_all, all_alarms, passed, ticked}
+use Rattle.sctp_model.specs.end.UserCalls.{SendAnswer, Ticket, Refused, NotOpen, send_leaves, is_open, abandoned_at, shut_in, shut, AbortAnswer, Aborts, NoPeer, TooLong, abort_leaves}
+use Rattle.sctp_safety.proofs.machine.EndWords.{rested_cases}
+
+-- an end whose receiver and terms are another's
+pub record IsUnheard (e t : EndView) : Type 0 where
+  pub receiver : t.receiver ≡ e.receiver
+  pub terms : t.terms ≡ e.terms
+
+pub unheard : (e : EndView) → IsUnheard e e
+unheard e = record { receiver = refl; terms = refl }
+
+pub unheard_on : (e t u : EndView) → IsUnheard e t → IsUnheard t u → IsUnheard e u
+unheard_on e t u a b = record { receiver = b.receiver ∙ a.receiver; terms = b.terms ∙ a.terms }
+
+pub unheard_rested : (e : EndView) → IsUnheard e (rested e)
+unheard_rested e = rested_cases (IsUnheard e) e (unheard e) (λ t is d. record { receiver = refl; terms = refl }) (λ t is d. record { receiver = refl; terms = refl })
+
+-- ---- time
+
+pub unheard_given_up : (e : EndView) (v : SenderView) → IsUnheard e (after_giving_up e v)
+unheard_given_up e v =
+    let mid = settled (record e { sender = v; due = record e.due { forward = e.due.forward || not (point v == point e.sender) } }) in
+    unheard_on e mid (after_giving_up e v) (record { receiver = refl; terms = refl }) (unheard_rested mid)
+
+pub unheard_again : (a : Alarm) (e : EndView) → IsUnheard e (due_again a e)
+unheard_again InitAlarm e = record { receiver = refl; terms = refl }
+unheard_again CookieAlarm e = record { receiver = refl; terms = refl }
+unheard_again DataAlarm e = record { receiver = refl; terms = refl }
+unheard_again ShutdownAlarm e = record { receiver = refl; terms = refl }
+unheard_again AckAlarm e = record { receiver = refl; terms = refl }
+
+pub unheard_rung : (b : Bool) (a : Alarm) (e : EndView) → IsUnheard e (rung b a e)
+unheard_rung false a e = unheard e
+unheard_rung true a e = go (nat_lt (e.timers a).repeats (repeats_of a))
+  where
+    go : (c : Bool) → IsUnheard e (if c then due_again a (with_timer a (expired_timer (e.timers a)) e) else closed TimedOut e)
+    go true =
+        unheard_on e (with_timer a (expired_timer (e.timers a)) e) (due_again a (with_timer a (expired_timer (e.timers a)) e))
+        (record { receiver = refl; terms = refl }) (unheard_again a (with_timer a (expired_timer (e.timers a)) e))
+    go false = record { receiver = refl; terms = refl }
+
+pub unheard_all : (alarms : List Alarm) (e : EndView) → IsUnheard e (rung_all alarms e)
+unheard_all [] e = unheard e
+unheard_all (a ∷ more) e = unheard_on e (ring a e) (rung_all more (ring a e)) (unheard_rung (is_over_at e.moment (e.timers a).expiry) a e) (unheard_all more (ring a e))
+
+pub unheard_ticked : (e : EndView) (now : ℕ) → IsUnheard e (ticked e now)
+unheard_ticked e now = go (has_association e.phase)
+  where
+    go : (b : Bool) → IsUnheard e (if b then passed (at_moment e now) else at_moment e now)
+    go false = record { receiver = refl; terms = refl }
+    go true =
+        let m = at_moment e now in
+        let u = after_giving_up m (expired_messages m.sender m.moment) in
+        unheard_on e u (rung_all all_alarms u) (unheard_on e m u (record { receiver = refl; terms = refl }) (unheard_given_up m (expired_messages m.sender m.moment))) (unheard_all all_alarms u)
+
+-- ---- the user
+
+pub unheard_sent : (e : EndView) (c : Call) (a : SendAnswer) → IsUnheard e (send_leaves a e c)
+unheard_sent e c (Ticket t) = record { receiver = refl; terms = refl }
+unheard_sent e c (Refused r) = unheard e
+unheard_sent e c NotOpen = unheard e
+
+pub unheard_abandoned : (e : EndView) (k : ℕ) → IsUnheard e (abandoned_at e k)
+unheard_abandoned e k = go (is_open e.phase)
+  where
+    go : (b : Bool) → IsUnheard e (if b then after_giving_up e (abandon_after e.sender k) else record e { sender = abandon_after e.sender k })
+    go true = unheard_given_up e (abandon_after e.sender k)
+    go false = record { receiver = refl; terms = refl }
+
+pub unheard_shut : (e : EndView) → IsUnheard e (shut e)
+unheard_shut e = go e.phase
+  where
+    go : (h : Phase) → IsUnheard e (shut_in h e)
+    go (Open t Established) = unheard_on e (turned (Open t ShutdownPending) e) (rested (turned (Open t ShutdownPending) e)) (record { receiver = refl; terms = refl }) (unheard_rested (turned (Open t ShutdownPending) e))
+    go (Open t ShutdownPending) = unheard e
+    go (Open t ShutdownSent) = unheard e
+    go (Open t ShutdownReceived) = unheard e
+    go (Open t ShutdownAckSent) = unheard e
+    go Idle = unheard e
+    go Listening = unheard e
+    go (Calling d) = unheard e
+    go (Echoing t xs) = unheard e
+    go (Over why) = unheard e
+
+pub unheard_aborted : (e : EndView) (a : AbortAnswer) → IsUnheard e (abort_leaves a e)
+unheard_aborted e (Aborts p) = record { receiver = refl; terms = refl }
+unheard_aborted e NoPeer = unheard e
+unheard_aborted e TooLong = unheard e

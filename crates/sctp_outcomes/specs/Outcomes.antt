@@ -1,0 +1,24 @@
+-- In every world that can be reached, each event has an outcome, and one only.
+use Rattle.std.specs.Prelude.{◌^◌, ◌<◌, List, Some}
+use Rattle.sctp_model.specs.Places.{ArePlaced}
+use Rattle.sctp_model.specs.World.{World, Setup}
+use Rattle.sctp_model.specs.Events.{Event, OpenBoth, At, Drawing, Connect, Foreign, Outcome}
+use Rattle.sctp_model.specs.Steps.{IsDraw, Step}
+use Rattle.sctp_model.specs.Premises.{IsReachable}
+
+-- What may happen: chance hands in draws, a moment has 64 bits, and in a foreign packet that reads each chunk stands where it may.
+abbrev pub CanHappen : Event → Type 0
+CanHappen (OpenBoth x y) = IsDraw x × IsDraw y
+CanHappen (At m) = m < 2 ^ 64
+CanHappen (Drawing d) = IsDraw d
+CanHappen (Connect d) = IsDraw d
+CanHappen (Foreign x (Some p)) = ArePlaced p.chunks
+CanHappen e = Unit {0}
+
+-- the event has an outcome that isn't want of memory, and leaves a world
+abbrev pub HasOutcome : World → Event → Type 0
+HasOutcome w e = (o : Outcome) × (v : World) × Step w e (Some o) v
+
+-- Every event that may happen has one.
+abbrev pub EventsHaveOutcomes : Type 0
+EventsHaveOutcomes = (s : Setup) (events : List Event) (w : World) → IsReachable s events w → (e : Event) → CanHappen e → HasOutcome w e
