@@ -1,9 +1,12 @@
+pub mod Words
 pub mod Entries
 pub mod Queueing
-pub mod Filling
+pub mod Assigning
 pub mod SackTaken
 pub mod Abandoning
 pub mod Readers
+pub mod PieceSaid
+pub mod Filling
 pub mod Forwarding
 pub mod Reached
 pub mod SentChunks

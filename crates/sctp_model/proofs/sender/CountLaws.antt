@@ -1,18 +1,19 @@
 -- The counts of a view that calls reach: the window, and the TSNs assigned and owed.
 use Rattle.std.proofs.Common.{◌≡◌, ℕ, ◌<◌, inl, inr, List, [], ◌∷◌, ◌++◌, length, Bool, true, false, Option, Some, None, refl, sym, subst, arith, length-append}
-use Rattle.std.specs.Prelude.{◌==◌, ◌&&◌, ◌||◌, if◌then◌else◌}
+use Rattle.std.specs.Prelude.{◌==◌, if◌then◌else◌, find, option_map}
 use Rattle.std.proofs.lemmas.Bool.{and_parts}
 use Rattle.std.proofs.lemmas.Bool.Decides.{nat_tests}
 use Rattle.sctp_model.specs.Format.{Format, Lane, same_lane}
-use Rattle.sctp_model.specs.Plan.{Entry, End, Plan, parts_from}
+use Rattle.sctp_model.specs.Plan.{Message, Entry, End, Plan, parts_from}
 use Rattle.sctp_model.specs.SenderView.{Queued, SenderView}
-use Rattle.sctp_model.specs.sender.Entries.{entry_lane, entry_number, entry_message, is_in_part}
-use Rattle.sctp_model.specs.sender.Filling.{Wish, next_wish, gone, with_entry, first_on}
-use Rattle.sctp_model.specs.sender.Abandoning.{Name, AbandonAnswer, Withdrawn, Abandoned, Acknowledged, Unknown, Reliable, is_abandoned, waits, without, name_of, name_among, has_ticket, given_up, give_up, answer_for, abandon_named, abandon_after, end_mark}
+use Rattle.sctp_model.specs.sender.Entries.{entry_lane, entry_number, entry_message}
+use Rattle.sctp_model.specs.sender.Assigning.{with_message, with_entry, first_on}
+use Rattle.sctp_model.specs.sender.Abandoning.{Name, name_at, name_of, name_among, has_ticket, ended, given_up}
 use Rattle.sctp_model.specs.sender.Reached.{IsReached, Begins, Queues, Goes, Covers, Closes, Abandons, Repeats}
-use Rattle.sctp_model.proofs.sender.WishCases.{IsAssigned, Whole, Begun, Continued, assigned_cases, wish_cases}
-use Rattle.sctp_model.proofs.sender.Bounds.{is_set, AllFilled, is_filled}
-use Rattle.sctp_model.proofs.sender.PlanLaws.{AllNamed, with_message, named_stays, named_append, named_parts, named_kept, continued_is, same_lane-self, lanes_same}
+use Rattle.sctp_model.proofs.sender.WishCases.{IsAssigned, Whole, Begun, Continued, after_wish}
+use Rattle.sctp_model.proofs.sender.AbandonCases.{same_lane-self, lanes_same, after_abandon, after_end, given_or_before}
+use Rattle.sctp_model.proofs.sender.SetLaws.{is_set, AllFilled, is_filled}
+use Rattle.sctp_model.proofs.sender.PlanLaws.{AllNamed, named_stays, named_append, named_parts, named_kept, continued_is}
 
 -- ---- each entry's message is there
 
@@ -40,63 +41,25 @@ named_assigned _ v _ full h (Begun s q lt on first) =
     (named_parts v.streams (with_message v.plan q 1) q.lane m 0 1 (new_number v.plan q 1) (first_there v.streams s q v.queue full first))
 named_assigned _ v _ full h (Continued s e lt on) =
     let next = continued_is v.streams v.plan s e h on in
-    named_append v.streams (with_entry v e).plan v.plan.entries (e ∷ []) (named_kept v.streams v.plan (v.plan.entries ++ e ∷ []) v.plan.entries h)
+    named_append v.streams (with_entry v.plan e) v.plan.entries (e ∷ []) (named_kept v.streams v.plan (v.plan.entries ++ e ∷ []) v.plan.entries h)
     (record { number = next.named.number; stream = next.named.stream }, tt)
 
 -- the entry that a name stands for
 pub name_found : (n : ℕ) (p : Plan) (t : ℕ) (es : List Entry) (m : Name) → AllNamed n p es → name_among p t es ≡ Some m → (m.number < length (p.messages m.lane)) × (m.lane.stream < n)
 name_found n p t [] m h is = absurd (cc)
-name_found n p t (e ∷ es) m h is = by_test (has_ticket t (entry_message p e)) refl (λ there. name_found n p t es m h.1 there)
+name_found n p t (e ∷ es) m h is = by_test (has_ticket t (entry_message p e)) is (λ there. name_found n p t es m h.1 there)
   where
-    by_test : (b : Bool) → has_ticket t (entry_message p e) ≡ b → (name_among p t es ≡ Some m → (m.number < length (p.messages m.lane)) × (m.lane.stream < n)) → (m.number < length (p.messages m.lane)) × (m.lane.stream < n)
-    by_test true on further =
-        let here : Some (record { lane = entry_lane e; number = entry_number e }) ≡ Some m = rw on at is in
-        let same : record { lane = entry_lane e; number = entry_number e } ≡ m = cc in
-        subst (λ (y : Name). (y.number < length (p.messages y.lane)) × (y.lane.stream < n)) same (h.0.number, h.0.stream)
-    by_test false on further = further (rw on at is)
+    by_test : (b : Bool) → option_map name_at (if b then Some e else find (λ d. has_ticket t (entry_message p d)) es) ≡ Some m
+        → (name_among p t es ≡ Some m → (m.number < length (p.messages m.lane)) × (m.lane.stream < n)) → (m.number < length (p.messages m.lane)) × (m.lane.stream < n)
+    by_test true here further = let same : name_at e ≡ m = cc in subst (λ (y : Name). (y.number < length (p.messages y.lane)) × (y.lane.stream < n)) same (h.0.number, h.0.stream)
+    by_test false here further = further here
 
 named_given : (v : SenderView) (n : Name) → AllNamed v.streams v.plan v.plan.entries → n.number < length (v.plan.messages n.lane) → n.lane.stream < v.streams
-    → AllNamed (given_up v n).streams (given_up v n).plan (given_up v n).plan.entries
+    → AllNamed v.streams (ended v n) (ended v n).entries
 named_given v n h number stream =
-    let more = v.plan.entries ++ end_mark v n in
-    named_append v.streams (record v.plan { entries = more }) v.plan.entries (end_mark v n) (named_kept v.streams v.plan more v.plan.entries h) (by_test (is_in_part v n.lane n.number))
-  where
-    by_test : (b : Bool) → AllNamed v.streams (record v.plan { entries = v.plan.entries ++ end_mark v n }) (if b then End n.lane n.number ∷ [] else [])
-    by_test true = (record { number = number; stream = stream }, tt)
-    by_test false = tt
-
--- What is so of a view is so after a ticket is abandoned, where it is so after a withdrawal and after a message with a number is given up.
-pub after_abandon : (P : SenderView → Type 0) (v : SenderView) (t : ℕ) → P v → (waits t v.queue ≡ true → P (record v { queue = without t v.queue }))
-    → ((n : Name) → name_of v t ≡ Some n → is_abandoned v n ≡ false → P (given_up v n)) → P (abandon_after v t)
-after_abandon P v t same withdrawn given = by_test (waits t v.queue) refl
-  where
-    by_kept : (n : Name) (b : Bool) → name_of v t ≡ Some n → is_abandoned v n ≡ b → P (if b then v else given_up v n)
-    by_kept n true is on = same
-    by_kept n false is on = given n is on
-
-    by_answer : (n : Name) (a : AbandonAnswer) → name_of v t ≡ Some n → P (give_up v n a)
-    by_answer n Abandoned is = by_kept n (is_abandoned v n) is refl
-    by_answer n Withdrawn is = same
-    by_answer n Acknowledged is = same
-    by_answer n Unknown is = same
-    by_answer n Reliable is = same
-
-    by_name : (o : Option Name) → name_of v t ≡ o → P (abandon_named v o)
-    by_name None is = same
-    by_name (Some n) is = by_answer n (answer_for v n) is
-
-    by_test : (b : Bool) → waits t v.queue ≡ b → P (if b then record v { queue = without t v.queue } else abandon_named v (name_of v t))
-    by_test true on = withdrawn on
-    by_test false on = by_name (name_of v t) refl
-
--- What is so of a view is so of the one that a wish leaves, where it is so of what is assigned and of what is sent.
-pub after_wish : (P : SenderView → Type 0) (f : Format) (v : SenderView) (w : Wish) → v.turn < v.streams → P v → ((u : SenderView) → IsAssigned v f u → P u) → ((u : SenderView) (i : ℕ) → P u → P (gone (record { index = i; view = u })))
-    → next_wish f v ≡ Some w → P (gone w)
-after_wish P f v w turn same assigned sent next =
-    elim (wish_cases f v w next) [
-      | inl r ↦ sent w.view w.index (subst (λ (x : SenderView). P x) (sym r.view) same)
-      | inr r ↦ sent w.view w.index (assigned w.view (assigned_cases f v w.view turn r.assigned))
-    ]
+    let more = v.plan.entries ++ End n.lane n.number ∷ [] in
+    after_end (λ (p : Plan). AllNamed v.streams p p.entries) v n (λ off. h)
+    (λ on. named_append v.streams (with_entry v.plan (End n.lane n.number)) v.plan.entries (End n.lane n.number ∷ []) (named_kept v.streams v.plan more v.plan.entries h) (record { number = number; stream = stream }, tt))
 
 -- the entries of a view and their messages
 abbrev pub HasMessages : SenderView → Type 0
@@ -135,15 +98,13 @@ knows_assigned _ v _ h (Begun s q lt on first) = knows_new v q 1 h
 knows_assigned _ v _ h (Continued s e lt on) = h
 
 knows_given : (v : SenderView) (n : Name) → KnowsAbandoned v → n.number < length (v.plan.messages n.lane) → KnowsAbandoned (given_up v n)
-knows_given v n h low l k on = by_test (same_lane n.lane l && (n.number == k)) refl on
-  where
-    by_test : (b : Bool) → (same_lane n.lane l && (n.number == k)) ≡ b → (b || v.abandoned l k) ≡ true → k < length (v.plan.messages l)
-    by_test true is some =
-        let parts = and_parts (same_lane n.lane l) (n.number == k) is in
-        let lane = lanes_same n.lane l parts.0 in
-        let number : n.number ≡ k = let e = parts.1 in grind (arith, nat_tests) in
-        subst (λ (y : ℕ). y < length (v.plan.messages l)) number (subst (λ (y : Lane). n.number < length (v.plan.messages y)) lane low)
-    by_test false is some = h l k some
+knows_given v n h low l k on =
+    let same : (ended v n).messages ≡ v.plan.messages = after_end (λ (p : Plan). p.messages ≡ v.plan.messages) v n (λ off. refl) (λ end. refl) in
+    subst (λ (ms : Lane → List Message). k < length (ms l)) (sym same)
+    (elim (given_or_before v n l k on) [
+      | inl this ↦ subst (λ (y : ℕ). y < length (v.plan.messages l)) (sym this.1) (subst (λ (y : Lane). n.number < length (v.plan.messages y)) (sym this.0) low)
+      | inr before ↦ h l k before
+    ])
 
 pub knows_abandoned : (f : Format) (v : SenderView) → IsReached f v → KnowsAbandoned v
 knows_abandoned f _ (Begins i s b r p some large) = λ l n on. absurd (cc)

@@ -11,7 +11,8 @@ use Rattle.sctp_model.specs.sender.Entries.{entry_lane, entry_number}
 use Rattle.sctp_model.specs.sender.Readers.{point}
 use Rattle.sctp_model.specs.sender.Forwarding.{larger, largest_in, passed, skip_in, skip_of, skips_on, skips_below, forward_of}
 use Rattle.sctp_model.specs.sender.Reached.{IsReached}
-use Rattle.sctp_model.proofs.sender.PlanLaws.{AllNamed, IsNamed, lanes_same, same_lane-self}
+use Rattle.sctp_model.proofs.sender.AbandonCases.{lanes_same, same_lane-self}
+use Rattle.sctp_model.proofs.sender.PlanLaws.{AllNamed, IsNamed}
 use Rattle.sctp_model.proofs.sender.CountLaws.{is_named}
 use Rattle.sctp_model.proofs.sender.PointLaws.{get-drop, of_itself, is_itself}
 

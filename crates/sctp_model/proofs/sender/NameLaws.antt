@@ -6,12 +6,15 @@ use Rattle.std.proofs.lemmas.Bool.Decides.{nat_tests}
 use Rattle.sctp_model.specs.Format.{Format, Lane, same_lane}
 use Rattle.sctp_model.specs.Plan.{Entry, Part, Plan, message_at}
 use Rattle.sctp_model.specs.SenderView.{SenderView}
-use Rattle.sctp_model.specs.sender.Entries.{entry_lane, entry_number, entry_message, is_of, is_entry_of, is_in_part, any_from, continued}
+use Rattle.sctp_model.specs.sender.Entries.{entry_lane, entry_number, entry_message, is_of, is_in_part, any_from, continued}
+use Rattle.sctp_model.specs.sender.Words.{some_passes}
 use Rattle.sctp_model.specs.sender.Abandoning.{Name, name_of, name_among, has_ticket, has_uncovered}
 use Rattle.sctp_model.specs.sender.Reached.{IsReached}
-use Rattle.sctp_model.proofs.sender.PlanLaws.{continued_is, lanes_same, same_lane-self}
+use Rattle.sctp_model.proofs.sender.AbandonCases.{lanes_same, same_lane-self}
+use Rattle.sctp_model.proofs.sender.PlanLaws.{continued_is}
 use Rattle.sctp_model.proofs.sender.CountLaws.{is_named, name_found}
-use Rattle.sctp_model.proofs.sender.TicketLaws.{Owns, AllOwn, is_ticketed, found_owns, latest_owns}
+use Rattle.sctp_model.proofs.sender.OwnLaws.{Owns, AllOwn, found_owns, latest_owns}
+use Rattle.sctp_model.proofs.sender.TicketLaws.{is_ticketed}
 
 -- ---- one message
 
@@ -78,7 +81,7 @@ continued_owns : (f : Format) (v : SenderView) (s : ℕ) (e : Entry) → IsReach
 continued_owns f v s e h on =
     let k = is_ticketed f v h in
     let next = continued_is v.streams v.plan s e (is_named f v h) on in
-    let before = latest_owns v.plan v.tickets v.plan.entries s None v.plan.entries (Part next.lane next.number next.fragment) (λ d none. absurd (cc)) k.owned next.before in
+    let before = latest_owns v.plan v.tickets v.plan.entries s v.plan.entries (Part next.lane next.number next.fragment) k.owned next.before in
     subst (λ (x : Entry). Owns v.plan v.tickets v.plan.entries (entry_lane x) (entry_number x)) (sym next.is) before
 
 pub in_part_by_ticket : (f : Format) (v : SenderView) (t : ℕ) (n : Name) → IsReached f v → name_of v t ≡ Some n
@@ -91,7 +94,7 @@ in_part_by_ticket f v t n h is = by_part (is_in_part v n.lane n.number) refl
     same : (s : ℕ) (e : Entry) → continued v.plan s ≡ Some e → has_ticket t (entry_message v.plan e) ≡ is_of n.lane n.number e
     same s e on = same_message v.plan v.tickets t v.plan.entries n (entry_lane e) (entry_number e) (continued_owns f v s e h on) is has
 
-    by_next : (o : Option Entry) → continued v.plan n.lane.stream ≡ o → is_entry_of n.lane n.number o ≡ true → goes_on_with v.plan t o ≡ true
+    by_next : (o : Option Entry) → continued v.plan n.lane.stream ≡ o → some_passes (is_of n.lane n.number) o ≡ true → goes_on_with v.plan t o ≡ true
     by_next None on here = absurd (cc)
     by_next (Some e) on here = same n.lane.stream e on ∙ here
 
@@ -107,7 +110,7 @@ in_part_by_ticket f v t n h is = by_part (is_in_part v n.lane n.number) refl
             let lane = lanes_same n.lane (entry_lane e) parts.0 in
             let there : (entry_lane e).stream ≡ s = ap (λ (x : Entry). (entry_lane x).stream) next.is ∙ next.on in
             let place : n.lane.stream ≡ s = ap (λ (l : Lane). l.stream) lane ∙ there in
-            let here : is_in_part v n.lane n.number ≡ true = ap (is_entry_of n.lane n.number) (ap (continued v.plan) place ∙ on) ∙ mine in
+            let here : is_in_part v n.lane n.number ≡ true = ap (some_passes (is_of n.lane n.number)) (ap (continued v.plan) place ∙ on) ∙ mine in
             absurd (cc)
 
     by_part : (b : Bool) → is_in_part v n.lane n.number ≡ b → b ≡ some_stream (λ s. goes_on_with v.plan t (continued v.plan s)) v.streams

@@ -1,148 +1,128 @@
--- Messages that are abandoned (RFC 3758, 3.5; RFC 8260, 2.3.1), and the data timer (RFC 9260, 6.3.3).
-use Rattle.std.specs.Prelude.{ℕ, zero, suc, ◌==◌, nat_lt, nat_le, if◌then◌else◌, Bool, false, not, ◌&&◌, ◌||◌, List, [], ◌∷◌, ◌++◌, Option, None, Some}
-use Rattle.sctp_model.specs.Format.{Lane, same_lane}
-use Rattle.sctp_model.specs.Plan.{Message, Entry, End, Plan, entry_at}
+-- Messages that are abandoned (RFC 3758, 3.5; RFC 8260, 2.3.1), those past their time, and the data timer (RFC 9260, 6.3.3).
+use Rattle.std.specs.Prelude.{ℕ, ◌==◌, nat_lt, nat_le, if◌then◌else◌, Bool, true, not, ◌&&◌, ◌||◌, List, [], ◌∷◌, Option, fold, find, unwrap_or, option_map, option_and_then}
+use Rattle.std.specs.Option.{option_map_or}
+use Rattle.std.specs.List.{list_any}
+use Rattle.sctp_model.specs.Lists.{at}
+use Rattle.sctp_model.specs.Format.{Lane, at_lane}
+use Rattle.sctp_model.specs.Plan.{Message, Entry, End, Plan, entry_at, message_at}
 use Rattle.sctp_model.specs.SenderView.{Queued, SenderView}
-use Rattle.sctp_model.specs.sender.Entries.{entry_lane, entry_number, entry_message, is_of, is_entry_of, is_in_part, is_unsettled, some_entry}
-
--- what abandoning a ticket's message is answered
-pub data AbandonAnswer : Type 0 where
-  Withdrawn Abandoned Acknowledged Unknown Reliable : AbandonAnswer
+use Rattle.sctp_model.specs.sender.Words.{when, first_there, some_passes, count_up}
+use Rattle.sctp_model.specs.sender.Entries.{entry_lane, entry_number, entry_message, is_of, is_in_part, is_unsettled, some_entry, passes_at}
+use Rattle.sctp_model.specs.sender.Assigning.{with_entry, without_first}
 
 -- ---- the message of a ticket
 
--- a message that has a number
+-- the message has this ticket
+abbrev pub has_ticket : (ticket : ℕ) → Option Message → Bool
+has_ticket t m = some_passes (λ x. x.ticket == t) m
+
+-- How a message with a number is found again: by its lane, and its place there.
 pub record Name : Type 0 where
   pub lane : Lane
   pub number : ℕ
 
--- the message has this ticket
-abbrev pub has_ticket : ℕ → Option Message → Bool
-has_ticket t None = false
-has_ticket t (Some m) = m.ticket == t
+-- the message that an entry belongs to
+abbrev pub name_at : Entry → Name
+name_at e = record { lane = entry_lane e; number = entry_number e }
 
--- the name of the message with this ticket, if it has a number
-abbrev pub name_among : Plan → ℕ → List Entry → Option Name
-name_among p t [] = None
-name_among p t (e ∷ es) = if has_ticket t (entry_message p e) then Some (record { lane = entry_lane e; number = entry_number e }) else name_among p t es
+-- the message with this ticket among those of some entries
+abbrev pub name_among : Plan → (ticket : ℕ) → List Entry → Option Name
+name_among p t es = option_map name_at (find (λ e. has_ticket t (entry_message p e)) es)
 
--- the lane and number of the message with this ticket, once it has a number
-abbrev pub name_of : SenderView → ℕ → Option Name
+-- The message with this ticket, where it has a number: so it has an index, too.
+abbrev pub name_of : SenderView → (ticket : ℕ) → Option Name
 name_of v t = name_among v.plan t v.plan.entries
 
--- it waits for its number
-abbrev pub waits : ℕ → List Queued → Bool
-waits t [] = false
-waits t (q ∷ qs) = (q.message.ticket == t) || waits t qs
+-- a message of the queue has this ticket
+abbrev pub waits : (ticket : ℕ) → List Queued → Bool
+waits t qs = list_any (λ q. q.message.ticket == t) qs
 
--- the queue without the message of this ticket
-abbrev pub without : ℕ → List Queued → List Queued
-without t [] = []
-without t (q ∷ qs) = if q.message.ticket == t then qs else q ∷ without t qs
+-- the messages that wait when that one is withdrawn
+abbrev pub without : (ticket : ℕ) → List Queued → List Queued
+without t qs = without_first (λ q. q.message.ticket == t) qs
 
--- ---- how far a message came
+-- ---- what became of a message with a number
 
--- the message was given up
+-- it was abandoned
 abbrev pub is_abandoned : SenderView → Name → Bool
 is_abandoned v n = v.abandoned n.lane n.number
 
--- some index of it is not covered
+-- one of its indexes is not covered
 abbrev pub has_uncovered : SenderView → Name → Bool
 has_uncovered v n = some_entry v (λ i e. is_of n.lane n.number e && not (v.covered i))
 
--- Acknowledged whole: its last fragment is assigned, and all its indexes are covered.
+-- Acknowledged whole: each fragment has an index, and each index is covered.
 abbrev pub is_covered : SenderView → Name → Bool
 is_covered v n = not (is_in_part v n.lane n.number) && not (has_uncovered v n)
 
--- ---- abandoning
+-- ---- what abandoning a ticket is answered
 
--- the answer for a message that has a number: the first that holds
+-- what `abandon` says of a ticket's message
+pub data AbandonAnswer : Type 0 where
+  -- it has no number, and won't take one; it is abandoned; it was acknowledged whole; there is none; it may not be abandoned
+  Withdrawn Abandoned Acknowledged Unknown Reliable : AbandonAnswer
+
+-- of a message with a number: abandoned already; else acknowledged; else not to be abandoned; and else it is abandoned now
 abbrev pub answer_for : SenderView → Name → AbandonAnswer
-answer_for v n =
-    if is_abandoned v n then Abandoned
-    else if is_covered v n then Acknowledged
-    else if not v.partial then Reliable
-    else Abandoned
+answer_for v n = unwrap_or (first_there (when (is_abandoned v n) Abandoned ∷ when (is_covered v n) Acknowledged ∷ when (not v.partial) Reliable ∷ [])) Abandoned
 
--- the answer where the message has a number, or none
-abbrev pub answer_named : SenderView → ℕ → Option Name → AbandonAnswer
-answer_named v t (Some n) = answer_for v n
-answer_named v t None = if nat_lt 0 t && nat_le t v.tickets then Withdrawn else Unknown
+-- What `abandon` answers: for a message with a number as above; a ticket that was given has a message without a number; no other has one.
+abbrev pub abandon_answer : SenderView → (ticket : ℕ) → AbandonAnswer
+abandon_answer v t = unwrap_or (first_there (option_map (answer_for v) (name_of v t) ∷ when (nat_lt 0 t && nat_le t v.tickets) Withdrawn ∷ [])) Unknown
 
--- What `abandon` answers to a ticket.
-abbrev pub abandon_answer : SenderView → ℕ → AbandonAnswer
-abandon_answer v t = if waits t v.queue then Withdrawn else answer_named v t (name_of v t)
+-- ---- what abandoning does
 
--- a message in part takes one index more, for its end mark
-abbrev pub end_mark : SenderView → Name → List Entry
-end_mark v n = if is_in_part v n.lane n.number then End n.lane n.number ∷ [] else []
+-- A message in part takes no further fragment: one index more is assigned, to its end mark (RFC 8260, 2.3.1: so its number isn't used again).
+abbrev pub ended : SenderView → Name → Plan
+ended v n = if is_in_part v n.lane n.number then with_entry v.plan (End n.lane n.number) else v.plan
 
--- the message is abandoned: its marks end, and where it is in part it takes its end mark
+-- the message is abandoned, and none of its fragments is to be repeated
 abbrev pub given_up : SenderView → Name → SenderView
 given_up v n = record v {
-  plan = record v.plan { entries = v.plan.entries ++ end_mark v n };
-  abandoned = λ l k. (same_lane n.lane l && (n.number == k)) || v.abandoned l k;
-  marked = λ i. v.marked i && not (is_entry_of n.lane n.number (entry_at v.plan i));
+  plan = ended v n;
+  abandoned = at_lane v.abandoned n.lane (at (v.abandoned n.lane) n.number true);
+  marked = λ i. v.marked i && not (passes_at v.plan (λ j e. is_of n.lane n.number e) i);
 }
 
--- what is done, by the answer for the message
-abbrev pub give_up : SenderView → Name → AbandonAnswer → SenderView
-give_up v n Abandoned = if is_abandoned v n then v else given_up v n
-give_up v n Withdrawn = v
-give_up v n Acknowledged = v
-give_up v n Unknown = v
-give_up v n Reliable = v
+-- a message with a number is abandoned where that is allowed, and it neither was before nor is acknowledged
+abbrev pub give_up : SenderView → Name → SenderView
+give_up v n = if v.partial && (not (is_abandoned v n) && not (is_covered v n)) then given_up v n else v
 
--- the view after a message with a number is given up, or as before
-abbrev pub abandon_named : SenderView → Option Name → SenderView
-abandon_named v None = v
-abandon_named v (Some n) = give_up v n (answer_for v n)
-
--- a message that has no number is withdrawn from the queue
-abbrev pub abandon_after : SenderView → ℕ → SenderView
-abandon_after v t = if waits t v.queue then record v { queue = without t v.queue } else abandon_named v (name_of v t)
+-- The view after `abandon`: a message without a number leaves the queue.
+abbrev pub abandon_after : SenderView → (ticket : ℕ) → SenderView
+abandon_after v t = option_map_or (give_up v) (name_of v t) (record v { queue = without t v.queue })
 
 -- ---- what is past its time
 
--- the moment until which a message is worth sending is now or earlier
-abbrev pub is_past : ℕ → Option ℕ → Bool
-is_past now None = false
-is_past now (Some until) = nat_le until now
+-- the moment until which it is worth sending is now or was before
+abbrev pub is_past : (now : ℕ) → Message → Bool
+is_past now m = some_passes (λ until. nat_le until now) m.until
 
--- this is the message with the ticket, and it is past its time
-abbrev pub is_past_with : ℕ → ℕ → Option Message → Bool
-is_past_with now t None = false
-is_past_with now t (Some m) = (m.ticket == t) && is_past now m.until
+-- the message with this ticket, whether it waits or has a number
+abbrev pub message_with : SenderView → (ticket : ℕ) → Option Message
+message_with v t = first_there (
+  option_map (λ q. q.message) (find (λ q. q.message.ticket == t) v.queue)
+  ∷ option_and_then (λ n. message_at v.plan n.lane n.number) (name_of v t)
+  ∷ [])
 
--- a message of this ticket waits without a number, past its time
-abbrev pub waits_past : ℕ → ℕ → List Queued → Bool
-waits_past now t [] = false
-waits_past now t (q ∷ qs) = is_past_with now t (Some q.message) || waits_past now t qs
+-- that message is past its time
+abbrev pub is_due : SenderView → (now ticket : ℕ) → Bool
+is_due v now t = some_passes (is_past now) (message_with v t)
 
--- the message with this ticket, with a number or without, is past its time
-abbrev pub is_due : SenderView → ℕ → ℕ → Bool
-is_due v now t = waits_past now t v.queue || some_entry v (λ i e. is_past_with now t (entry_message v.plan e))
+-- then it is abandoned
+abbrev pub expire_one : (now : ℕ) → SenderView → (ticket : ℕ) → SenderView
+expire_one now v t = if is_due v now t then abandon_after v t else v
 
--- the view after the message of one ticket was looked at
-abbrev pub expired_one : SenderView → ℕ → ℕ → SenderView
-expired_one v now t = if is_due v now t then abandon_after v t else v
-
--- by rising ticket, those with the tickets 1 to t
-abbrev pub expired_up_to : SenderView → ℕ → ℕ → SenderView
-expired_up_to v now zero = v
-expired_up_to v now (suc t) = expired_one (expired_up_to v now t) now (suc t)
-
--- EXPIRE: every message that is past its time is abandoned, by rising ticket.
-abbrev pub expired : SenderView → ℕ → SenderView
-expired v now = expired_up_to v now v.tickets
+-- EXPIRE: so it goes with each ticket given, by rising number.
+abbrev pub expired : SenderView → (now : ℕ) → SenderView
+expired v now = fold (expire_one now) v (count_up 1 v.tickets)
 
 -- ---- the data timer
 
--- the entry at this index is still to be acknowledged
+-- the entry at this index, if there is one, is unsettled
 abbrev pub unsettled_at : SenderView → ℕ → Option Entry → Bool
-unsettled_at v i None = false
-unsettled_at v i (Some e) = is_unsettled v i e
+unsettled_at v i e = some_passes (is_unsettled v i) e
 
--- the data timer expires: all that is unsettled is marked for repeating
+-- The data timer expires: what went out and is wanted still is marked for repeating.
 abbrev pub timed_out : SenderView → SenderView
 timed_out v = record v { marked = λ i. v.marked i || unsettled_at v i (entry_at v.plan i) }

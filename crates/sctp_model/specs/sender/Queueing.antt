@@ -1,59 +1,68 @@
--- A message handed in: refused for the first reason that holds, or cut into fragments and queued (RFC 9260, 6.9).
-use Rattle.std.specs.Prelude.{ℕ, zero, suc, ◌+◌, ◌-◌, ◌^◌, ◌==◌, nat_lt, nat_le, if◌then◌else◌, ◌||◌, List, [], ◌∷◌, ◌++◌, length, take, drop, Option, None, Some}
+-- A message that the user hands in: cut into fragments (RFC 9260, 6.9) and queued, or refused for the first reason that there is.
+use Rattle.std.specs.Prelude.{ℕ, suc, ◌+◌, ◌*◌, ◌==◌, min, nat_lt, nat_le, ◌||◌, List, [], ◌∷◌, ◌++◌, length, map, take, drop, Option}
+use Rattle.std.specs.Int.{div_ceil}
 use Rattle.sctp_model.specs.Limits.{LONGEST_MESSAGE, QUEUE_LIMIT, TICKET_LIMIT, TSN_LIMIT}
 use Rattle.sctp_model.specs.Format.{Lane}
 use Rattle.sctp_model.specs.Plan.{Message}
 use Rattle.sctp_model.specs.SenderView.{Queued, SenderView}
+use Rattle.sctp_model.specs.sender.Words.{when, first_there, count_up}
 use Rattle.sctp_model.specs.sender.Entries.{sum_below, continued, fragments_from}
 
--- why a message is refused
-pub data Refusal : Type 0 where
-  NoSuchStream Empty TooLong QueueFull Spent : Refusal
+-- ---- fragments
 
--- fragments of the full size, and the last with what is left; `most` bounds their number
-abbrev pub cut_at_most : ℕ → ℕ → List ℕ → List (List ℕ)
-cut_at_most zero size bytes = []
-cut_at_most (suc most) size bytes = if nat_le (length bytes) size then bytes ∷ [] else take size bytes ∷ cut_at_most most size (drop size bytes)
+-- The fragment with this number, counted from 0: the bytes behind those before it, as many as the size says, or what is left.
+abbrev pub fragment_of : (size : ℕ) → (bytes : List ℕ) → (number : ℕ) → List ℕ
+fragment_of size bytes k = take size (drop (k * size) bytes)
 
--- A message's fragments: each but the last has the full size.
-abbrev pub cut : ℕ → List ℕ → List (List ℕ)
-cut size bytes = cut_at_most (length bytes) size bytes
+-- all fragments of a message: as few as hold it
+abbrev pub cut : (size : ℕ) → (bytes : List ℕ) → List (List ℕ)
+cut size bytes = map (fragment_of size bytes) (count_up 0 (div_ceil (length bytes) size))
 
--- what a message owes whose unassigned fragments are so many: their TSNs, and one for an end mark
+-- ---- TSNs that are promised
+
+-- A message that has so many fragments without a TSN may take these and, given up half-way, one for its end mark.
 abbrev pub owed_for : ℕ → ℕ
-owed_for zero = 0
-owed_for (suc n) = suc (suc n)
+owed_for fragments = fragments + min 1 fragments
 
--- what the messages that wait owe
+-- what the messages that wait may take
 abbrev pub owed_by_queue : List Queued → ℕ
 owed_by_queue [] = 0
 owed_by_queue (q ∷ qs) = owed_for (length q.message.fragments) + owed_by_queue qs
 
--- what the messages in part owe
+-- what the messages in part may take
 abbrev pub owed_by_parts : SenderView → ℕ
 owed_by_parts v = sum_below (λ s. owed_for (fragments_from v.plan (continued v.plan s))) v.streams
 
--- the TSNs assigned, and those that the accepted messages may still take
+-- the TSNs that are assigned, and those that the accepted messages may still take
 abbrev pub promised : SenderView → ℕ
 promised v = length v.plan.entries + (owed_by_queue v.queue + owed_by_parts v)
 
--- the first reason that holds, in this order
-abbrev pub refusal : SenderView → ℕ → List ℕ → Option Refusal
-refusal v stream bytes =
-    if nat_le v.streams stream then Some NoSuchStream
-    else if length bytes == 0 then Some Empty
-    else if nat_lt LONGEST_MESSAGE (length bytes) then Some TooLong
-    else if nat_le QUEUE_LIMIT (length v.queue) then Some QueueFull
-    else if nat_le TICKET_LIMIT v.tickets || nat_lt TSN_LIMIT (promised v + owed_for (length (cut v.fragment bytes))) then Some Spent
-    else None
+-- ---- accepted or refused
 
--- the message of the next ticket, cut into fragments
-abbrev pub message_for : SenderView → ℕ → List ℕ → Option ℕ → Message
-message_for v payload bytes until = record { ticket = suc v.tickets; payload = payload; fragments = cut v.fragment bytes; until = until }
+-- why a message is refused
+pub data Refusal : Type 0 where
+  -- the stream isn't below the number of streams; the message has no byte; or more than a message may have
+  NoSuchStream Empty TooLong : Refusal
+  -- no further message may wait; tickets or TSNs would run out
+  QueueFull Spent : Refusal
 
--- The view with this message at the end of its queue. Tickets are 1, 2, 3, ..
-abbrev pub queued : SenderView → Lane → ℕ → List ℕ → Option ℕ → SenderView
+-- The first of these reasons that holds.
+abbrev pub refusal : SenderView → (stream : ℕ) → (bytes : List ℕ) → Option Refusal
+refusal v stream bytes = first_there (
+  when (nat_le v.streams stream) NoSuchStream
+  ∷ when (length bytes == 0) Empty
+  ∷ when (nat_lt LONGEST_MESSAGE (length bytes)) TooLong
+  ∷ when (nat_le QUEUE_LIMIT (length v.queue)) QueueFull
+  ∷ when (nat_le TICKET_LIMIT v.tickets || nat_lt TSN_LIMIT (promised v + owed_for (length (cut v.fragment bytes)))) Spent
+  ∷ [])
+
+-- the message of the next ticket: tickets are 1, 2, 3, ..
+abbrev pub new_message : SenderView → (payload : ℕ) → (bytes : List ℕ) → (until : Option ℕ) → Message
+new_message v payload bytes until = record { ticket = suc v.tickets; payload = payload; fragments = cut v.fragment bytes; until = until }
+
+-- The view in which it waits behind all others.
+abbrev pub queued : SenderView → Lane → (payload : ℕ) → (bytes : List ℕ) → (until : Option ℕ) → SenderView
 queued v lane payload bytes until = record v {
+  queue = v.queue ++ record { lane = lane; message = new_message v payload bytes until } ∷ [];
   tickets = suc v.tickets;
-  queue = v.queue ++ record { lane = lane; message = message_for v payload bytes until } ∷ [];
 }

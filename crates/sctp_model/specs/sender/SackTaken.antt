@@ -1,82 +1,81 @@
--- A SACK or a SHUTDOWN that comes (RFC 9260, 6.2.1 and 9.2).
-use Rattle.std.specs.Prelude.{ℕ, ◌+◌, nat_lt, nat_le, if◌then◌else◌, Bool, false, not, ◌&&◌, ◌||◌, List, [], ◌∷◌, length, Option, None, Some}
+-- What a SACK's acknowledgement, and that of a SHUTDOWN, do to a sender (RFC 9260, 6.2.1 and 9.2).
+use Rattle.std.specs.Prelude.{ℕ, ◌+◌, nat_lt, nat_le, if◌then◌else◌, Bool, false, not, ◌&&◌, ◌||◌, List, [], ◌∷◌, length, Option, is_some}
+use Rattle.std.specs.List.{list_any}
 use Rattle.sctp_model.specs.Chunk.{BlockMeaning, SackMeaning}
 use Rattle.sctp_model.specs.Serial.{tsn, ahead, before}
 use Rattle.sctp_model.specs.SenderView.{SenderView}
-use Rattle.sctp_model.specs.Acknowledgement.{in_blocks}
+use Rattle.sctp_model.specs.Acknowledgement.{covers}
+use Rattle.sctp_model.specs.sender.Words.{when, first_there}
 
--- why a SACK or a SHUTDOWN is not taken
+-- why it isn't taken: it is older than what was acknowledged; it acknowledges what has no TSN yet; its blocks aren't in order
 pub data SackFault : Type 0 where
   Stale Beyond BadBlock : SackFault
 
--- ---- reading the numbers
+-- ---- its numbers, as indexes
 
--- the TSN lies before that of CUM
-abbrev pub is_stale : SenderView → ℕ → Bool
+-- a cumulative TSN is older than CUM where it comes before its TSN
+abbrev pub is_stale : SenderView → (cumulative : ℕ) → Bool
 is_stale v wire = before 32 wire (tsn v.initial v.cum)
 
--- the index of a TSN that doesn't
-abbrev pub index_of : SenderView → ℕ → ℕ
+-- else it stands for the index that lies as far ahead of CUM
+abbrev pub index_of : SenderView → (cumulative : ℕ) → ℕ
 index_of v wire = v.cum + ahead 32 (tsn v.initial v.cum) wire
 
--- some block, counted from index c, ends past the last index
-abbrev pub some_ends_past : ℕ → ℕ → List BlockMeaning → Bool
-some_ends_past last c [] = false
-some_ends_past last c (b ∷ bs) = nat_lt last (c + b.end) || some_ends_past last c bs
+-- a block, counted from index c, ends past the last index assigned
+abbrev pub some_ends_past : (last c : ℕ) → List BlockMeaning → Bool
+some_ends_past last c blocks = list_any (λ b. nat_lt last (c + b.end)) blocks
 
--- what is acknowledged, cumulatively or by a block, has no TSN yet
-abbrev pub is_beyond : SenderView → ℕ → List BlockMeaning → Bool
+-- the cumulative index, or a block's end, is past the last index assigned
+abbrev pub is_beyond : SenderView → (c : ℕ) → List BlockMeaning → Bool
 is_beyond v c blocks = nat_lt (length v.plan.entries) c || some_ends_past (length v.plan.entries) c blocks
 
--- some block starts past its end, or not past the end of the one before it (the first: not past 0)
-abbrev pub some_is_bad : ℕ → List BlockMeaning → Bool
-some_is_bad before [] = false
-some_is_bad before (b ∷ bs) = (nat_le b.start before || nat_lt b.end b.start) || some_is_bad b.end bs
+-- a block that doesn't begin behind this offset, or that ends before it begins
+abbrev pub is_bad_behind : (offset : ℕ) → BlockMeaning → Bool
+is_bad_behind offset b = nat_le b.start offset || nat_lt b.end b.start
+
+-- one of the blocks is bad behind the one before it, the first one behind the cumulative index
+abbrev pub some_is_bad : (offset : ℕ) → List BlockMeaning → Bool
+some_is_bad offset [] = false
+some_is_bad offset (b ∷ bs) = is_bad_behind offset b || some_is_bad b.end bs
+
+-- ---- what is covered
+
+-- CUM moves here, and just these indexes are covered from now on: so an index may be uncovered again. A covered one needs no repeating.
+abbrev pub covered_by : SenderView → (cum : ℕ) → (covered : ℕ → Bool) → SenderView
+covered_by v cum covered = record v { cum = cum; covered = covered; marked = λ i. v.marked i && not (covered i) }
+
+-- what a SACK covers: the indexes up to its cumulative one, and those of its blocks
+abbrev pub sack_covers : (c : ℕ) → List BlockMeaning → ℕ → Bool
+sack_covers c blocks = covers (record { cum = c; blocks = blocks })
 
 -- ---- a SACK
 
--- the first fault that holds, in this order
+-- The first of these faults that it has.
 abbrev pub sack_fault : SenderView → SackMeaning → Option SackFault
-sack_fault v x =
-    if is_stale v x.cumulative then Some Stale
-    else if is_beyond v (index_of v x.cumulative) x.blocks then Some Beyond
-    else if some_is_bad 0 x.blocks then Some BadBlock
-    else None
+sack_fault v x = first_there (
+  when (is_stale v x.cumulative) Stale
+  ∷ when (is_beyond v (index_of v x.cumulative) x.blocks) Beyond
+  ∷ when (some_is_bad 0 x.blocks) BadBlock
+  ∷ [])
 
--- what a SACK covers: all up to its cumulative index, and what lies in a block
-abbrev pub sack_covers : ℕ → List BlockMeaning → ℕ → Bool
-sack_covers c blocks i = nat_le i c || in_blocks c blocks i
-
--- CUM moves, and this takes the place of what was covered; the mark of a covered index ends
-abbrev pub covered_by : SenderView → ℕ → (ℕ → Bool) → SenderView
-covered_by v c covered = record v { cum = c; covered = covered; marked = λ i. v.marked i && not (covered i) }
-
--- the view with a SACK taken
+-- the view that has taken it
 abbrev pub sack_taken : SenderView → SackMeaning → SenderView
-sack_taken v x = record (covered_by v (index_of v x.cumulative) (sack_covers (index_of v x.cumulative) x.blocks)) { rwnd = x.rwnd }
+sack_taken v x = let c = index_of v x.cumulative in record (covered_by v c (sack_covers c x.blocks)) { rwnd = x.rwnd }
 
--- the view after a call: as before where it is refused
-abbrev pub unless_fault : Option SackFault → SenderView → SenderView → SenderView
-unless_fault None v u = u
-unless_fault (Some fault) v u = v
-
--- the view after a SACK came: one with a fault changes nothing
+-- The view after it came: one with a fault changes nothing.
 abbrev pub sack_after : SenderView → SackMeaning → SenderView
-sack_after v x = unless_fault (sack_fault v x) v (sack_taken v x)
+sack_after v x = if is_some (sack_fault v x) then v else sack_taken v x
 
--- ---- a SHUTDOWN's cumulative TSN
+-- ---- a SHUTDOWN, which says a cumulative TSN alone
 
--- Why a SHUTDOWN is refused, if it is.
-abbrev pub shutdown_fault : SenderView → ℕ → Option SackFault
-shutdown_fault v wire =
-    if is_stale v wire then Some Stale
-    else if is_beyond v (index_of v wire) [] then Some Beyond
-    else None
+-- the first of these faults that it has
+abbrev pub shutdown_fault : SenderView → (cumulative : ℕ) → Option SackFault
+shutdown_fault v wire = first_there (when (is_stale v wire) Stale ∷ when (is_beyond v (index_of v wire) []) Beyond ∷ [])
 
--- what lay covered beyond it stays covered
-abbrev pub shutdown_taken : SenderView → ℕ → SenderView
+-- The view that has taken it: all up to its index is covered, and what lay covered beyond stays so.
+abbrev pub shutdown_taken : SenderView → (cumulative : ℕ) → SenderView
 shutdown_taken v wire = covered_by v (index_of v wire) (λ i. nat_le i (index_of v wire) || v.covered i)
 
--- the view after a SHUTDOWN, taken or refused
-abbrev pub shutdown_after : SenderView → ℕ → SenderView
-shutdown_after v wire = unless_fault (shutdown_fault v wire) v (shutdown_taken v wire)
+-- the view after it came
+abbrev pub shutdown_after : SenderView → (cumulative : ℕ) → SenderView
+shutdown_after v wire = if is_some (shutdown_fault v wire) then v else shutdown_taken v wire
