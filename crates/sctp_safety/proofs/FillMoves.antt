@@ -1,62 +1,63 @@
--- What goes into a packet goes out by moves: fragments take numbers and indexes, their chunks are put between the ends, and are noted as sent.
-use Rattle.std.proofs.Common.{◌≡◌, ℕ, zero, suc, ◌+◌, ◌-◌, ◌<◌, ◌≤◌, ◌⊎◌, not, ◌&&◌, true, false, Bool, List, [], ◌∷◌, ◌++◌, length, slice_get, Option, Some, None, inl, inr, refl, sym, subst, arith, ◌∙◌}
-use Rattle.std.specs.Prelude.{◌%◌}
-use Rattle.std.proofs.lemmas.Bool.{and_parts}
+-- What goes into a packet goes out by moves: a fragment takes its index where it has none yet, its chunk comes between the ends, and it counts as sent.
+use Rattle.std.proofs.Common.{◌≡◌, ℕ, zero, suc, ◌+◌, ◌-◌, ◌<◌, ◌≤◌, ◌⊎◌, not, ◌&&◌, ◌==◌, true, false, Bool, List, [], ◌∷◌, ◌++◌, length, slice_get, Option, Some, None, inl, inr, refl, sym, subst, arith, ◌∙◌, eqb-true}
+use Rattle.std.proofs.lemmas.Bool.{and_parts, eqb-false}
 use Rattle.sctp_model.specs.Lists.{Has, item_at}
 use Rattle.sctp_model.specs.Format.{Format, Plain, Interleaved, Lane}
 use Rattle.sctp_model.specs.Plan.{Message, Entry, Part, End, Plan, entry_at, message_at, HasEnd, parts_from}
 use Rattle.sctp_model.specs.Pieces.{Piece, piece_of}
 use Rattle.sctp_model.specs.SenderView.{Queued, SenderView}
-use Rattle.sctp_model.specs.sender.Entries.{is_unsent, lowest, continued}
-use Rattle.sctp_model.specs.sender.Filling.{Wish, Follows, gone, next_wish, assigned, whole_assigned, numbered, with_entry, served, turn_taken, first_on, wish_at, wish_beyond, or_wish, room_of}
+use Rattle.sctp_model.specs.sender.Entries.{is_wanted, is_unsent, passes_at, continued}
+use Rattle.sctp_model.specs.sender.Assigning.{with_message, with_entry, is_on, first_on, without_first, stream_after}
+use Rattle.sctp_model.specs.sender.Filling.{Wish, standing, newcomer, Follows, gone, goes, next_wish, room_of}
+use Rattle.sctp_model.proofs.sender.WordLaws.{some_is}
+use Rattle.sctp_model.proofs.sender.WishCases.{IsAssigned, Whole, Begun, Continued, assigned_cases, IsWished, Repeated, Unsent, New, wished_ways}
+use Rattle.sctp_model.proofs.sender.FillLaws.{goes_parts}
 use Rattle.sctp_safety.specs.Way.{Way, Number, Continue, Put_piece, IsAllClosed, HasNone, with_sender}
 use Rattle.sctp_safety.specs.SenderLaws.{HasPart, IsInOrder, IsMoved, IsPut, IsFilled, FillIsMoves}
 use Rattle.sctp_safety.proofs.Basics.{at_cases, at_lane_same, slice_get-end, slice_get-within, item_at-left, item_at-right, item_at-cases}
 use Rattle.sctp_safety.proofs.Facts.{Good}
 use Rattle.sctp_safety.proofs.PlanLemmas.{grown, parts_get, renamed}
 use Rattle.sctp_safety.proofs.Taken.{leads_on, leads_by}
-use Rattle.sctp_safety.proofs.Searches.{lowest_is, IsFirstOn, first_is, turn_is}
+use Rattle.sctp_safety.proofs.Searches.{IsFirstMeant, first_meant}
 use Rattle.sctp_safety.proofs.InPart.{AreEndsLast, idle_closed, GoesOnWith, goes_on_with}
 use Rattle.sctp_safety.proofs.UsualLemmas.{leads_good, good_usual, moved_on, nothing_moved, retuned}
 
--- ---- what a view keeps while its plan gains fragments
+-- ---- a plan that fragments of one message lengthen
 
-part_left : (p : Plan) (ms : Lane → List Message) (new : List Entry) (i : ℕ) → HasPart p i → HasPart (grown p ms new) i
-part_left p ms new i (l, n, k, h) = (l, n, k, item_at-left p.entries new i (Part l n k) h)
+-- an entry stands in the plan as it was, or is new
+new_or_old : (p : Plan) (ms : Lane → List Message) (l : Lane) (n k d i : ℕ) (e : Entry) → entry_at (grown p ms (parts_from l n k d)) i ≡ Some e → (entry_at p i ≡ Some e) ⊎ ((j : ℕ) × (Part l n (k + j) ≡ e))
+new_or_old p ms l n k d i e here =
+    elim (item_at-cases p.entries (parts_from l n k d) i e here) [
+      | inl before ↦ inl before
+      | inr new ↦ inr (new.0, (parts_get l n k d new.0 e new.2).1)
+    ]
 
--- fragments of a message that has no end mark, behind a plan
-ends_behind : (p : Plan) (ms : Lane → List Message) (l : Lane) (n k d : ℕ) → AreEndsLast p → (HasEnd p l n → ⊥) → AreEndsLast (grown p ms (parts_from l n k d))
-ends_behind p ms l n k d ends none i j b o c hi hj = go (item_at-cases p.entries new i (Part b o c) hi) (item_at-cases p.entries new j (End b o) hj)
+-- the message has no end mark so far, so end marks stay the last entries of theirs
+ends_stay : (p : Plan) (ms : Lane → List Message) (l : Lane) (n k d : ℕ) → AreEndsLast p → (HasEnd p l n → ⊥) → AreEndsLast (grown p ms (parts_from l n k d))
+ends_stay p ms l n k d ends unended i j b o c part mark = by_parts (new_or_old p ms l n k d i (Part b o c) part) (new_or_old p ms l n k d j (End b o) mark)
   where
-    new : List Entry
-    new = parts_from l n k d
+    by_parts : (entry_at p i ≡ Some (Part b o c)) ⊎ ((x : ℕ) × (Part l n (k + x) ≡ Part b o c)) → (entry_at p j ≡ Some (End b o)) ⊎ ((x : ℕ) × (Part l n (k + x) ≡ End b o)) → i < j
+    by_parts first (inr (x, same)) = absurd (cc)
+    by_parts (inl first) (inl second) = ends i j b o c first second
+    by_parts (inr (x, same)) (inl second) =
+        let lane : b ≡ l = cc in
+        let number : o ≡ n = cc in
+        absurd (unended (j, renamed (λ (y : Lane) (z : ℕ). entry_at p j ≡ Some (End y z)) b l o n lane number second))
 
-    New : ℕ → Entry → Type 0
-    New y e = (z : ℕ) × (y ≡ suc (length p.entries) + z) × (slice_get new z ≡ Some e)
-
-    go : (entry_at p i ≡ Some (Part b o c)) ⊎ New i (Part b o c) → (entry_at p j ≡ Some (End b o)) ⊎ New j (End b o) → i < j
-    go x (inr (z, s, h)) = let r : Part l n (k + z) ≡ End b o = (parts_get l n k d z (End b o) h).1 in absurd (cc)
-    go (inl x) (inl y) = ends i j b o c x y
-    go (inr (z, s, h)) (inl y) =
-        let r : Part l n (k + z) ≡ Part b o c = (parts_get l n k d z (Part b o c) h).1 in
-        let el : b ≡ l = cc in
-        let en : o ≡ n = cc in
-        absurd (none (j, renamed (λ (u : Lane) (x : ℕ). entry_at p j ≡ Some (End u x)) b l o n el en y))
-
-order_behind : (w : Way) (u : SenderView) (l : Lane) (n k d : ℕ) → IsInOrder w → (HasEnd w.sender.plan l n → ⊥) →
-    u.plan ≡ grown w.sender.plan u.plan.messages (parts_from l n k d) → u.marked ≡ w.sender.marked → u.tickets ≡ w.sender.tickets → IsInOrder (with_sender w u)
-order_behind w u l n k d order none plan marked tickets = record {
-  ends = subst AreEndsLast (sym plan) (ends_behind w.sender.plan u.plan.messages l n k d order.ends none);
-  marked = λ i h. part i (order.marked i (subst (λ (f : ℕ → Bool). f i ≡ true) marked h));
+order_stays : (w : Way) (u : SenderView) (l : Lane) (n k d : ℕ) → IsInOrder w → (HasEnd w.sender.plan l n → ⊥) → u.plan ≡ grown w.sender.plan u.plan.messages (parts_from l n k d)
+    → u.marked ≡ w.sender.marked → u.tickets ≡ w.sender.tickets → IsInOrder (with_sender w u)
+order_stays w u l n k d order unended plan marks tickets = record {
+  ends = subst AreEndsLast (sym plan) (ends_stay w.sender.plan u.plan.messages l n k d order.ends unended);
+  marked = λ i on. fragment i (order.marked i (subst (λ (test : ℕ → Bool). test i ≡ true) marks on));
   tickets = tickets ∙ order.tickets;
 }
   where
-    part : (i : ℕ) → HasPart w.sender.plan i → HasPart u.plan i
-    part i h = subst (λ (p : Plan). HasPart p i) (sym plan) (part_left w.sender.plan u.plan.messages (parts_from l n k d) i h)
+    fragment : (i : ℕ) → HasPart w.sender.plan i → HasPart u.plan i
+    fragment i (b, o, c, here) = subst (λ (p : Plan). HasPart p i) (sym plan) (b, o, c, item_at-left w.sender.plan.entries (parts_from l n k d) i (Part b o c) here)
 
 -- ---- what is assigned next
 
--- the moves by which the next fragment has its index, and what stands there
+-- moves lead to the view, and there the next index is a fragment's, of this message
 record Assigns (w : Way) (u : SenderView) : Type 0 where
   moved : IsMoved w (with_sender w u)
   lane : Lane
@@ -66,24 +67,29 @@ record Assigns (w : Way) (u : SenderView) : Type 0 where
   named : message_at u.plan lane number ≡ Some message
   here : entry_at u.plan (suc (length w.sender.plan.entries)) ≡ Some (Part lane number fragment)
 
--- a number that no message has yet has no end mark
+-- no entry has the number that a lane's next message takes
 unmarked : (w : Way) → Good w → (l : Lane) → HasEnd w.sender.plan l (length (w.sender.plan.messages l)) → ⊥
-unmarked w g l (i, h) =
-    let r = g.arranged.marked i l (length (w.sender.plan.messages l)) h in
-    let b : length (w.sender.plan.messages l) < length (w.sender.plan.messages l) = slice_get-within (w.sender.plan.messages l) (length (w.sender.plan.messages l)) r.0 r.1 in
-    omega (arith, b)
+unmarked w g l (i, mark) =
+    let named = g.arranged.marked i l (length (w.sender.plan.messages l)) mark in
+    let low : length (w.sender.plan.messages l) < length (w.sender.plan.messages l) = slice_get-within (w.sender.plan.messages l) (length (w.sender.plan.messages l)) named.0 named.1 in
+    omega (arith, low)
 
--- a message takes its number and its first fragments; the turn moves on
-begins : (w : Way) (u : SenderView) (before : List Queued) (q : Queued) (rest : List Queued) (d turn : ℕ) → Good w → IsInOrder w →
-    w.sender.queue ≡ before ++ q ∷ rest → HasNone before q.lane.stream → IsAllClosed w.sender.plan q.lane.stream →
-    suc d ≤ length q.message.fragments → (w.format ≡ Plain → suc d ≡ length q.message.fragments) →
-    record (numbered w.sender q (suc d)) { queue = before ++ rest; turn = turn } ≡ u → Assigns w u
-begins w u before q rest d turn g order queue none closed within all is = subst (Assigns w) is (record {
+-- why a message of the queue may begin: none of its stream stands before it, or has an index to come; and how many fragments begin
+record MayBegin (w : Way) (before : List Queued) (q : Queued) (rest : List Queued) (d : ℕ) : Type 0 where
+  queue : w.sender.queue ≡ before ++ q ∷ rest
+  none : HasNone before q.lane.stream
+  closed : IsAllClosed w.sender.plan q.lane.stream
+  within : suc d ≤ length q.message.fragments
+  all : w.format ≡ Plain → suc d ≡ length q.message.fragments
+
+begins : (w : Way) (before : List Queued) (q : Queued) (rest : List Queued) (d turn : ℕ) → Good w → IsInOrder w → MayBegin w before q rest d
+    → Assigns w (record w.sender { plan = with_message w.sender.plan q (suc d); queue = before ++ rest; turn = turn })
+begins w before q rest d turn g order may = record {
   moved = record {
-    leads = leads_on w mid (with_sender w b)
-        (leads_by w mid (Number before q rest (suc d)) (queue, none, closed, omega arith, within, all, refl))
-        (retuned mid b refl refl refl refl refl);
-    order = order_behind w b q.lane n 0 (suc d) order (unmarked w g q.lane) refl refl refl;
+    leads = leads_on w numbered (with_sender w after)
+        (leads_by w numbered (Number before q rest (suc d)) (may.queue, may.none, may.closed, omega arith, may.within, may.all, refl))
+        (retuned numbered after refl refl refl refl refl);
+    order = order_stays w after q.lane n 0 (suc d) order (unmarked w g q.lane) refl refl refl;
     constants = record { initial = refl; streams = refl; fragment = refl; partial = refl };
   };
   lane = q.lane;
@@ -93,33 +99,32 @@ begins w u before q rest d turn g order queue none closed within all is = subst 
   named = subst (λ (ms : List Message). slice_get ms n ≡ Some q.message)
       (sym (at_lane_same w.sender.plan.messages q.lane (w.sender.plan.messages q.lane ++ q.message ∷ [])))
       (slice_get-end (w.sender.plan.messages q.lane) q.message);
-  here = here;
-})
+  here = first;
+}
   where
     n : ℕ
     n = length (w.sender.plan.messages q.lane)
 
-    mid : Way
-    mid = with_sender w (record (numbered w.sender q (suc d)) { queue = before ++ rest })
+    after : SenderView
+    after = record w.sender { plan = with_message w.sender.plan q (suc d); queue = before ++ rest; turn = turn }
 
-    b : SenderView
-    b = record (numbered w.sender q (suc d)) { queue = before ++ rest; turn = turn }
+    numbered : Way
+    numbered = with_sender w (record w.sender { plan = with_message w.sender.plan q (suc d); queue = before ++ rest })
 
-    here : item_at (w.sender.plan.entries ++ parts_from q.lane n 0 (suc d)) (suc (length w.sender.plan.entries)) ≡ Some (Part q.lane n 0)
-    here =
-        let z : suc (length w.sender.plan.entries) + 0 ≡ suc (length w.sender.plan.entries) = omega arith in
-        subst (λ (i : ℕ). item_at (w.sender.plan.entries ++ parts_from q.lane n 0 (suc d)) i ≡ Some (Part q.lane n 0)) z
+    first : item_at (w.sender.plan.entries ++ parts_from q.lane n 0 (suc d)) (suc (length w.sender.plan.entries)) ≡ Some (Part q.lane n 0)
+    first =
+        let place : suc (length w.sender.plan.entries) + 0 ≡ suc (length w.sender.plan.entries) = omega arith in
+        subst (λ (i : ℕ). item_at (w.sender.plan.entries ++ parts_from q.lane n 0 (suc d)) i ≡ Some (Part q.lane n 0)) place
         (item_at-right w.sender.plan.entries (parts_from q.lane n 0 (suc d)) 0 (Part q.lane n 0) refl)
 
--- a message in part takes its next fragment
-continues : (w : Way) (u : SenderView) (s turn : ℕ) (e : Entry) → IsInOrder w → GoesOnWith w.sender.plan s e →
-    record (with_entry w.sender e) { turn = turn } ≡ u → Assigns w u
-continues w u s turn e order m is = subst (Assigns w) is (subst (λ (x : Entry). Assigns w (taken x)) m.same (record {
+-- the message in part of a stream takes its next index
+continues : (w : Way) (s turn : ℕ) (e : Entry) → IsInOrder w → GoesOnWith w.sender.plan s e → Assigns w (record w.sender { plan = with_entry w.sender.plan e; turn = turn })
+continues w s turn e order m = subst (λ (x : Entry). Assigns w (after x)) m.same (record {
   moved = record {
-    leads = leads_on w mid (with_sender w b)
-        (leads_by w mid (Continue m.lane m.number m.fragment 1) (m.message, m.named, omega arith, m.has, m.free, m.no_end, bound, refl))
-        (retuned mid b refl refl refl refl refl);
-    order = order_behind w b m.lane m.number (suc m.fragment) 1 order m.no_end refl refl refl;
+    leads = leads_on w longer (with_sender w (after part))
+        (leads_by w longer (Continue m.lane m.number m.fragment 1) (m.message, m.named, omega arith, m.has, m.free, m.no_end, bound, refl))
+        (retuned longer (after part) refl refl refl refl refl);
+    order = order_stays w (after part) m.lane m.number (suc m.fragment) 1 order m.no_end refl refl refl;
     constants = record { initial = refl; streams = refl; fragment = refl; partial = refl };
   };
   lane = m.lane;
@@ -127,78 +132,76 @@ continues w u s turn e order m is = subst (Assigns w) is (subst (λ (x : Entry).
   fragment = suc m.fragment;
   message = m.message;
   named = m.named;
-  here = slice_get-end w.sender.plan.entries (Part m.lane m.number (suc m.fragment));
-}))
+  here = slice_get-end w.sender.plan.entries part;
+})
   where
-    taken : Entry → SenderView
-    taken x = record (with_entry w.sender x) { turn = turn }
+    after : Entry → SenderView
+    after x = record w.sender { plan = with_entry w.sender.plan x; turn = turn }
 
-    b : SenderView
-    b = taken (Part m.lane m.number (suc m.fragment))
+    part : Entry
+    part = Part m.lane m.number (suc m.fragment)
 
-    mid : Way
-    mid = with_sender w (with_entry w.sender (Part m.lane m.number (suc m.fragment)))
+    longer : Way
+    longer = with_sender w (record w.sender { plan = with_entry w.sender.plan part })
 
     bound : suc m.fragment + 1 ≤ length m.message.fragments
-    bound = let x = m.bound in omega (arith, x)
+    bound = let low = m.bound in omega (arith, low)
 
--- under DATA the first message that waits takes all its indexes
-whole_assigns : (w : Way) (u : SenderView) (qs : List Queued) → Good w → IsInOrder w → w.format ≡ Plain → w.sender.queue ≡ qs →
-    whole_assigned w.sender qs ≡ Some u → Assigns w u
-whole_assigns w u [] g order plain queue h = absurd (cc)
-whole_assigns w u (q ∷ rest) g order plain queue h =
-    go (length q.message.fragments) refl h (g.waits.filled q (subst (λ (qs : List Queued). Has qs q) (sym queue) (inl refl))).0
+-- a message that waits has a fragment, so it begins with one or with as many as there are
+some_fragments : (w : Way) → Good w → (before : List Queued) (q : Queued) (rest : List Queued) → w.sender.queue ≡ before ++ q ∷ rest → 0 < length q.message.fragments
+some_fragments w g before q rest queue = (g.waits.filled q (subst (λ (qs : List Queued). Has qs q) (sym queue) (among before))).0
   where
-    closed : IsAllClosed w.sender.plan q.lane.stream
-    closed l n m same named = inr (m, g.arranged.complete plain l n m named)
+    among : (bs : List Queued) → Has (bs ++ q ∷ rest) q
+    among [] = inl refl
+    among (b ∷ bs) = inr (among bs)
 
-    go : (c : ℕ) → length q.message.fragments ≡ c → Some (record (numbered w.sender q c) { queue = rest }) ≡ Some u → 0 < c → Assigns w u
-    go zero e is some = absurd (omega arith)
-    go (suc d) e is some = begins w u [] q rest d w.sender.turn g order queue (λ x a. absurd a) closed (omega (arith, e)) (λ p. sym e) (cc)
+whole_begins : (w : Way) (q : Queued) (rest : List Queued) (d : ℕ) → Good w → IsInOrder w → w.format ≡ Plain → w.sender.queue ≡ q ∷ rest → length q.message.fragments ≡ d → 0 < d
+    → Assigns w (record w.sender { plan = with_message w.sender.plan q d; queue = rest })
+whole_begins w q rest zero g order plain queue long some = absurd (omega arith)
+whole_begins w q rest (suc d) g order plain queue long some = begins w [] q rest d w.sender.turn g order (record {
+  queue = queue;
+  none = λ x has. absurd has;
+  closed = λ l n m on named. inr (m, g.arranged.complete plain l n m named);
+  within = omega (arith, long);
+  all = λ same. sym long;
+})
 
--- under I-DATA the stream whose turn it is goes on, or begins a message
-turn_assigns : (w : Way) (u : SenderView) (s : ℕ) → Good w → IsInOrder w → w.format ≡ Interleaved →
-    (o : Option Entry) → continued w.sender.plan s ≡ o → (x : Option Queued) → first_on s w.sender.queue ≡ x →
-    turn_taken w.sender s o x ≡ Some u → Assigns w u
-turn_assigns w u s g order f (Some e) more x first h =
-    continues w u s (suc s % w.sender.streams) e order (goes_on_with w.format w.sender.plan g.arranged order.ends s e more) (cc)
-turn_assigns w u s g order f None idle (Some q) first h = go (first_is s w.sender.queue q first)
+-- the first message of an idle stream begins, with one fragment
+turn_begins : (w : Way) (s : ℕ) (q : Queued) → Good w → IsInOrder w → w.format ≡ Interleaved → continued w.sender.plan s ≡ None → first_on s w.sender.queue ≡ Some q
+    → Assigns w (record w.sender { plan = with_message w.sender.plan q 1; queue = without_first (is_on s) w.sender.queue; turn = stream_after w.sender s })
+turn_begins w s q g order turns idle first = by_place (first_meant (is_on s) w.sender.queue q first)
   where
-    go : IsFirstOn s w.sender.queue q → Assigns w u
-    go r = begins w u r.before q r.rest 0 (suc s % w.sender.streams) g order r.queue (subst (HasNone r.before) (sym r.stream) r.none)
-        (subst (IsAllClosed w.sender.plan) (sym r.stream) (idle_closed w.format w.sender.plan g.arranged s idle))
-        (some (g.waits.filled q has).0) (λ p. absurd (let z : Plain ≡ Interleaved = cc in cc))
-        (subst (λ (qs : List Queued). served (record (numbered w.sender q 1) { queue = qs }) s ≡ u) r.others (cc))
+    by_place : IsFirstMeant (is_on s) w.sender.queue q → Assigns w (record w.sender { plan = with_message w.sender.plan q 1; queue = without_first (is_on s) w.sender.queue; turn = stream_after w.sender s })
+    by_place r =
+        subst (λ (qs : List Queued). Assigns w (record w.sender { plan = with_message w.sender.plan q 1; queue = qs; turn = stream_after w.sender s })) (sym r.others)
+        (begins w r.before q r.rest 0 (stream_after w.sender s) g order (record {
+          queue = r.queue;
+          none = λ x has on. eqb-false x.lane.stream s (r.none x has) (on ∙ stream);
+          closed = subst (IsAllClosed w.sender.plan) (sym stream) (idle_closed w.format w.sender.plan g.arranged s idle);
+          within = let some = some_fragments w g r.before q r.rest r.queue in omega (arith, some);
+          all = λ plain. absurd (let both : Plain ≡ Interleaved = sym plain ∙ turns in cc);
+        }))
       where
-        inside : (bs : List Queued) → Has (bs ++ q ∷ r.rest) q
-        inside [] = inl refl
-        inside (y ∷ bs) = inr (inside bs)
+        stream : q.lane.stream ≡ s
+        stream = eqb-true q.lane.stream s r.is
 
-        has : Has w.sender.queue q
-        has = subst (λ (qs : List Queued). Has qs q) (sym r.queue) (inside r.before)
-
-        some : 0 < length q.message.fragments → 1 ≤ length q.message.fragments
-        some b = omega (arith, b)
-turn_assigns w u s g order f None idle None first h = absurd (cc)
-
-assigns : (w : Way) (u : SenderView) (f : Format) → Good w → IsInOrder w → w.format ≡ f → assigned f w.sender ≡ Some u → Assigns w u
-assigns w u Plain g order is h = whole_assigns w u w.sender.queue g order is refl h
-assigns w u Interleaved g order is h =
-    let r = turn_is w.sender u w.sender.turn w.sender.streams h in
-    turn_assigns w u r.stream g order is (continued w.sender.plan r.stream) refl (first_on r.stream w.sender.queue) refl r.takes
+assigns : (w : Way) (f : Format) (u : SenderView) → Good w → IsInOrder w → w.format ≡ f → IsAssigned w.sender f u → Assigns w u
+assigns w _ _ g order plain (Whole q rest queue) = whole_begins w q rest (length q.message.fragments) g order plain queue refl (some_fragments w g [] q rest queue)
+assigns w _ _ g order turns (Begun s q low idle first) = turn_begins w s q g order turns idle first
+assigns w _ _ g order turns (Continued s e low on) = continues w s (stream_after w.sender s) e order (goes_on_with w.format w.sender.plan g.arranged order.ends s e on)
 
 -- ---- a wish
 
--- what one wish does: its piece is put in front of the others
+-- what one wish does: its piece comes to the others between the ends
 record Goes (w : Way) (x : Wish) : Type 0 where
   piece : Piece
   moved : IsMoved w (record w { sender = gone x; pieces = piece ∷ w.pieces })
   same : x.view.initial ≡ w.sender.initial
   puts : IsPut w.format (piece ∷ w.pieces) x
 
-goes_out : (w : Way) (x : Wish) (l : Lane) (n k : ℕ) (m : Message) → IsMoved w (with_sender w x.view) →
-    entry_at x.view.plan x.index ≡ Some (Part l n k) → message_at x.view.plan l n ≡ Some m → Goes w x
-goes_out w x l n k m moved here named = record {
+-- moves lead to its view, where a fragment of a message stands at its index
+sent_on : (w : Way) (x : Wish) (l : Lane) (n k : ℕ) (m : Message) → IsMoved w (with_sender w x.view) → entry_at x.view.plan x.index ≡ Some (Part l n k) → message_at x.view.plan l n ≡ Some m → Goes w x
+sent_on w x l n k m moved here named = record {
   piece = p;
   moved = moved_on w (with_sender w x.view) out moved (record {
     leads = leads_on (with_sender w x.view) put out
@@ -206,8 +209,7 @@ goes_out w x l n k m moved here named = record {
         (retuned put (gone x) refl refl refl refl refl);
     order = record {
       ends = moved.order.ends;
-      marked = λ j. at_cases (λ (b : Bool). b ≡ true → HasPart x.view.plan j) x.view.marked x.index false j
-          (λ e h. absurd (cc)) (λ ne h. moved.order.marked j h);
+      marked = λ j. at_cases (λ (b : Bool). b ≡ true → HasPart x.view.plan j) x.view.marked x.index false j (λ same on. absurd (cc)) (λ other on. moved.order.marked j on);
       tickets = moved.order.tickets;
     };
     constants = record { initial = refl; streams = refl; fragment = refl; partial = refl };
@@ -226,77 +228,67 @@ goes_out w x l n k m moved here named = record {
     out = record w { sender = gone x; pieces = p ∷ w.pieces }
 
 -- a fragment that has its index
-stands : (w : Way) (i : ℕ) → Good w → IsInOrder w → HasPart w.sender.plan i → Goes w (record { index = i; view = w.sender })
-stands w i g order (l, n, k, here) =
-    let r = g.arranged.within i l n k here in
-    goes_out w (record { index = i; view = w.sender }) l n k r.0 (nothing_moved w order) here r.1
+stands : (w : Way) (i : ℕ) → Good w → IsInOrder w → HasPart w.sender.plan i → Goes w (standing w.sender i)
+stands w i g order (l, n, k, here) = let m = g.arranged.within i l n k here in sent_on w (standing w.sender i) l n k m.0 (nothing_moved w order) here m.1
 
--- what is unsent is a fragment, since the message of an end mark is given up
-unsent_part : (w : Way) → Good w → (i : ℕ) (e : Entry) → entry_at w.sender.plan i ≡ Some e → is_unsent w.sender i e ≡ true → HasPart w.sender.plan i
-unsent_part w g i (Part l n k) h t = (l, n, k, h)
-unsent_part w g i (End l n) h t =
-    let up = g.sound.ended i l n h in
-    let a = (and_parts (not (w.sender.sent i)) (not (w.sender.covered i) && not (w.sender.abandoned l n)) t).1 in
-    let b : not (w.sender.abandoned l n) ≡ true = (and_parts (not (w.sender.covered i)) (not (w.sender.abandoned l n)) a).1 in
-    let c : not true ≡ true = subst (λ (y : Bool). not y ≡ true) up b in
+-- what is wanted is a fragment: the message of an end mark was given up
+pub wanted_part : (w : Way) → Good w → (i : ℕ) (e : Entry) → entry_at w.sender.plan i ≡ Some e → is_wanted w.sender i e ≡ true → HasPart w.sender.plan i
+wanted_part w g i (Part l n k) here wanted = (l, n, k, here)
+wanted_part w g i (End l n) here wanted =
+    let kept : not (w.sender.abandoned l n) ≡ true = (and_parts (not (w.sender.covered i)) (not (w.sender.abandoned l n)) wanted).1 in
+    let lost : not true ≡ true = subst (λ (b : Bool). not b ≡ true) (g.sound.ended i l n here) kept in
     absurd (cc)
 
 wish_goes : (w : Way) (x : Wish) → Good w → IsInOrder w → next_wish w.format w.sender ≡ Some x → Goes w x
-wish_goes w x g order h =
-    go (lowest (λ i e. w.sender.marked i) 1 w.sender.plan.entries) refl (lowest (is_unsent w.sender) 1 w.sender.plan.entries) refl (assigned w.format w.sender) refl h
+wish_goes w x g order next = by_way x (wished_ways w.format w.sender x next)
   where
-    go : (a : Option ℕ) → lowest (λ i e. w.sender.marked i) 1 w.sender.plan.entries ≡ a → (b : Option ℕ) → lowest (is_unsent w.sender) 1 w.sender.plan.entries ≡ b →
-        (c : Option SenderView) → assigned w.format w.sender ≡ c →
-        or_wish (wish_at w.sender a) (or_wish (wish_at w.sender b) (wish_beyond w.sender c)) ≡ Some x → Goes w x
-    go (Some i) ha b hb c hc is =
-        let r = lowest_is (λ j e. w.sender.marked j) w.sender.plan i ha in
-        subst (Goes w) (cc) (stands w i g order (order.marked i r.passes))
-    go None ha (Some i) hb c hc is =
-        let r = lowest_is (is_unsent w.sender) w.sender.plan i hb in
-        subst (Goes w) (cc) (stands w i g order (unsent_part w g i r.entry r.here r.passes))
-    go None ha None hb (Some u) hc is =
-        let r = assigns w u w.format g order refl hc in
-        subst (Goes w) (cc) (goes_out w (record { index = suc (length w.sender.plan.entries); view = u }) r.lane r.number r.fragment r.message r.moved r.here r.named)
-    go None ha None hb None hc is = absurd (cc)
+    by_way : (y : Wish) → IsWished w.format w.sender y → Goes w y
+    by_way _ (Repeated i low) = stands w i g order (order.marked i low.passes)
+    by_way _ (Unsent i marks low) =
+        let there = some_is (is_unsent w.sender i) (entry_at w.sender.plan i) low.passes in
+        stands w i g order (wanted_part w g i there.0 there.1 (and_parts (not (w.sender.sent i)) (is_wanted w.sender i there.0) there.2).1)
+    by_way _ (New u marks unsent new) =
+        let a = assigns w w.format u g order refl (assigned_cases w.format w.sender u new) in
+        sent_on w (newcomer w.sender u) a.lane a.number a.fragment a.message a.moved a.here a.named
 
 -- ---- FILL
 
--- all that go out into one packet do so by moves
-follows_filled : (w : Way) (room : ℕ) (xs : List Wish) (u : SenderView) → Good w → IsInOrder w → Follows w.format w.sender room xs u → IsFilled w xs u
-follows_filled w room [] u g order e = subst (IsFilled w []) (sym e)
-    (record { pieces = w.pieces; moved = nothing_moved w order; same = λ x h. absurd h; puts = λ x h. absurd h; still = λ y h. h })
-follows_filled w room (x ∷ xs) u g order (next, may, rest) =
-    let r = wish_goes w x g order next in
-    let v : Way = record w { sender = gone x; pieces = r.piece ∷ w.pieces } in
-    join r (follows_filled v (room - room_of w.format x) xs u (leads_good w v g r.moved.leads) r.moved.order rest)
+-- one wish, and then the others
+then_filled : (w : Way) (x : Wish) (xs : List Wish) (u : SenderView) (r : Goes w x) → IsFilled (record w { sender = gone x; pieces = r.piece ∷ w.pieces }) xs u → IsFilled w (x ∷ xs) u
+then_filled w x xs u r m = record {
+  pieces = m.pieces;
+  moved = moved_on w (record w { sender = gone x; pieces = r.piece ∷ w.pieces }) (record w { sender = u; pieces = m.pieces }) r.moved m.moved;
+  same = same;
+  puts = puts;
+  still = λ y has. m.still y (inr has);
+}
   where
-    join : (r : Goes w x) → IsFilled (record w { sender = gone x; pieces = r.piece ∷ w.pieces }) xs u → IsFilled w (x ∷ xs) u
-    join r m = record {
-      pieces = m.pieces;
-      moved = moved_on w (record w { sender = gone x; pieces = r.piece ∷ w.pieces }) (record w { sender = u; pieces = m.pieces }) r.moved m.moved;
-      same = same;
-      puts = puts;
-      still = λ y h. m.still y (inr h);
+    same : (z : Wish) → Has (x ∷ xs) z → z.view.initial ≡ w.sender.initial
+    same z (inl this) = subst (λ (y : Wish). y.view.initial ≡ w.sender.initial) this r.same
+    same z (inr later) = m.same z later ∙ r.moved.constants.initial
+
+    put_still : IsPut w.format m.pieces x
+    put_still = let y = r.puts in record {
+      lane = y.lane;
+      number = y.number;
+      fragment = y.fragment;
+      message = y.message;
+      here = y.here;
+      named = y.named;
+      put = m.still (piece_of w.format x.index y.lane y.number y.fragment y.message) y.put;
     }
-      where
-        same : (z : Wish) → Has (x ∷ xs) z → z.view.initial ≡ w.sender.initial
-        same z (inl e) = subst (λ (y : Wish). y.view.initial ≡ w.sender.initial) e r.same
-        same z (inr h) = m.same z h ∙ r.moved.constants.initial
 
-        still_put : IsPut w.format (r.piece ∷ w.pieces) x → IsPut w.format m.pieces x
-        still_put y = record {
-          lane = y.lane;
-          number = y.number;
-          fragment = y.fragment;
-          message = y.message;
-          here = y.here;
-          named = y.named;
-          put = m.still (piece_of w.format x.index y.lane y.number y.fragment y.message) y.put;
-        }
+    puts : (z : Wish) → Has (x ∷ xs) z → IsPut w.format m.pieces z
+    puts z (inl this) = subst (IsPut w.format m.pieces) this put_still
+    puts z (inr later) = m.puts z later
 
-        puts : (z : Wish) → Has (x ∷ xs) z → IsPut w.format m.pieces z
-        puts z (inl e) = subst (IsPut w.format m.pieces) e (still_put r.puts)
-        puts z (inr h) = m.puts z h
+follows_filled : (w : Way) (room : ℕ) (xs : List Wish) (u : SenderView) → Good w → IsInOrder w → Follows w.format w.sender room xs u → IsFilled w xs u
+follows_filled w room [] u g order same =
+    subst (IsFilled w []) (sym same) (record { pieces = w.pieces; moved = nothing_moved w order; same = λ x has. absurd has; puts = λ x has. absurd has; still = λ y has. has })
+follows_filled w room (x ∷ xs) u g order (first, rest) =
+    let r = wish_goes w x g order (goes_parts w.format room w.sender x first).0 in
+    let v : Way = record w { sender = gone x; pieces = r.piece ∷ w.pieces } in
+    then_filled w x xs u r (follows_filled v (room - room_of w.format x) xs u (leads_good w v g r.moved.leads) r.moved.order rest)
 
 pub fill_is_moves : FillIsMoves
 fill_is_moves w room xs u usual fill = follows_filled w room xs u (good_usual w usual) usual.order fill.follows

@@ -1,12 +1,15 @@
--- Which message of a stream is in part: the one of its latest entry, or none.
+-- A message in part is the one of its stream's last entry: all others of the stream are closed, and it may take its next fragment.
 use Rattle.std.proofs.Common.{◌≡◌, ℕ, suc, ◌+◌, ◌-◌, ◌<◌, ◌≤◌, ◌⊎◌, ◌==◌, nat_lt, true, false, Bool, length, Option, Some, None, inl, inr, refl, sym, subst, arith, ◌∙◌, eqb-true}
-use Rattle.std.specs.Prelude.{if◌then◌else◌}
-use Rattle.std.proofs.lemmas.Bool.{cases_Bool, cases_eq, and_parts}
+use Rattle.std.specs.Prelude.{option_and_then}
+use Rattle.std.proofs.lemmas.Bool.{and_parts, cases_Bool, cases_eq}
 use Rattle.std.proofs.lemmas.Bool.Decides.{nat_tests}
 use Rattle.sctp_model.specs.Format.{Format, Lane, same_lane}
 use Rattle.sctp_model.specs.Plan.{Message, Entry, Part, End, Plan, entry_at, message_at, IsOf, IsAssigned, IsComplete, HasEnd, IsClosed}
 use Rattle.sctp_model.specs.SenderView.{SenderView}
-use Rattle.sctp_model.specs.sender.Entries.{entry_lane, entry_number, fragments_in, latest, follower, continued, is_of, is_entry_of, is_in_part}
+use Rattle.sctp_model.specs.sender.Words.{when}
+use Rattle.sctp_model.specs.sender.Entries.{entry_lane, entry_number, fragments_in, latest, next_part, continued, is_of, is_in_part}
+use Rattle.sctp_model.proofs.sender.WordLaws.{when_there, when_absent, some_is}
+use Rattle.sctp_model.proofs.sender.PointLaws.{of_itself}
 use Rattle.sctp_safety.specs.Way.{IsAllClosed}
 use Rattle.sctp_safety.proofs.Facts.{Arranged}
 use Rattle.sctp_safety.proofs.Basics.{same_lane-true}
@@ -17,72 +20,63 @@ use Rattle.sctp_safety.proofs.Searches.{IsLatestIn, latest_is, latest_none}
 abbrev pub AreEndsLast : Plan → Type 0
 AreEndsLast p = (i j : ℕ) (l : Lane) (n k : ℕ) → entry_at p i ≡ Some (Part l n k) → entry_at p j ≡ Some (End l n) → i < j
 
-own : (e : Entry) → IsOf (entry_lane e) (entry_number e) e
-own (Part l n k) = (refl, refl)
-own (End l n) = (refl, refl)
+-- ---- a stream whose last message is closed
 
--- All messages of a stream are closed where that of its latest entry is: the others came before it.
-closed_by_latest : (f : Format) (p : Plan) → Arranged f p → (s : ℕ) (e : Entry) → IsLatestIn p s e → IsClosed p (entry_lane e) (entry_number e) → IsAllClosed p s
-closed_by_latest f p a s e r done l n m t named = go (message_of f p a r.index e (entry_lane e) (entry_number e) r.here (own e)) (a.begun l n m named)
+-- two tickets: the first is lower, they are one, or the first is higher
+by_tickets : {P : Type 0} (a b : ℕ) → (a < b → P) → (a ≡ b → P) → (b < a → P) → P
+by_tickets {P} a b low one high = by_test (cases_Bool (nat_lt a b)) (cases_eq a b)
   where
-    go : (x : Message) × (message_at p (entry_lane e) (entry_number e) ≡ Some x) → IsAssigned p l n 0 → IsClosed p l n
-    go (x, hx) (i, h) = by (cases_Bool (nat_lt m.ticket x.ticket)) (cases_eq m.ticket x.ticket)
-      where
-        streams : l.stream ≡ (entry_lane e).stream
-        streams = t ∙ sym r.stream
+    by_test : (nat_lt a b ≡ true) ⊎ (nat_lt a b ≡ false) → (a ≡ b) ⊎ (a ≡ b → ⊥) → P
+    by_test (inl lt) same = low (grind (arith, lt, nat_tests))
+    by_test (inr ge) (inl same) = one same
+    by_test (inr ge) (inr other) = high (grind (arith, ge, other, nat_tests))
 
-        by : (nat_lt m.ticket x.ticket ≡ true) ⊎ (nat_lt m.ticket x.ticket ≡ false) → (m.ticket ≡ x.ticket) ⊎ (m.ticket ≡ x.ticket → ⊥) → IsClosed p l n
-        by (inl lt) same =
-            let below : m.ticket < x.ticket = grind (arith, lt, nat_tests) in
-            a.closed l (entry_lane e) n (entry_number e) m x named hx streams below
-        by (inr ge) (inl same) =
-            let d = a.different l (entry_lane e) n (entry_number e) m x named hx same in
-            renamed (λ (b : Lane) (c : ℕ). IsClosed p b c) (entry_lane e) l (entry_number e) n (sym d.0) (sym d.1) done
-        by (inr ge) (inr ne) =
-            let above : x.ticket < m.ticket = grind (arith, ge, ne, nat_tests) in
-            let past : r.index < i = a.order r.index i e (Part l n 0) (entry_lane e) l (entry_number e) n x m r.here (own e) hx h (refl, refl) named (sym streams) above in
-            let low : i ≤ r.index = r.last i (Part l n 0) h t in
-            absurd (omega (arith, past, low))
-
--- what the follower's test says
-follower_if : (p : Plan) (l : Lane) (n k : ℕ) (x : Message) (o : Option Entry) → message_at p l n ≡ Some x → follower p (Some (Part l n k)) ≡ o →
-    (if nat_lt (suc k) (length x.fragments) then Some (Part l n (suc k)) else None) ≡ o
-follower_if p l n k x o named h =
-    subst (λ (y : Option Message). (if nat_lt (suc k) (length (fragments_in y)) then Some (Part l n (suc k)) else None) ≡ o) named h
-
-no_more : (l : Lane) (n k c : ℕ) → (if nat_lt (suc k) c then Some (Part l n (suc k)) else None) ≡ None → c ≤ suc k
-no_more l n k c h = go (nat_lt (suc k) c) refl h
+-- A message of a stream is closed where that of the last entry is: with a lower ticket it was before; a higher ticket would have an entry behind.
+closed_with_last : (f : Format) (p : Plan) → Arranged f p → (s : ℕ) (e : Entry) → IsLatestIn p s e → IsClosed p (entry_lane e) (entry_number e) → IsAllClosed p s
+closed_with_last f p a s e r done l n m on named =
+    by_tickets m.ticket newest.0.ticket
+    (λ low. a.closed l (entry_lane e) n (entry_number e) m newest.0 named newest.1 streams low)
+    (λ one. let same = a.different l (entry_lane e) n (entry_number e) m newest.0 named newest.1 one in
+    renamed (IsClosed p) (entry_lane e) l (entry_number e) n (sym same.0) (sym same.1) done)
+    (λ high. absurd (let behind : r.index < first.0 = a.order r.index first.0 e (Part l n 0) (entry_lane e) l (entry_number e) n newest.0 m r.here (of_itself e) newest.1 first.1 (refl, refl) named (sym streams) high in
+    let before : first.0 ≤ r.index = r.last first.0 (Part l n 0) first.1 on in omega (arith, behind, before)))
   where
-    go : (b : Bool) → nat_lt (suc k) c ≡ b → (if b then Some (Part l n (suc k)) else None) ≡ None → c ≤ suc k
-    go true t e = absurd (cc)
-    go false t e = grind (arith, t, nat_tests)
+    newest : (x : Message) × (message_at p (entry_lane e) (entry_number e) ≡ Some x)
+    newest = message_of f p a r.index e (entry_lane e) (entry_number e) r.here (of_itself e)
 
-one_more : (l : Lane) (n k c : ℕ) (e : Entry) → (if nat_lt (suc k) c then Some (Part l n (suc k)) else None) ≡ Some e → (suc k < c) × (Part l n (suc k) ≡ e)
-one_more l n k c e h = go (nat_lt (suc k) c) refl h
+    first : IsAssigned p l n 0
+    first = a.begun l n m named
+
+    streams : l.stream ≡ (entry_lane e).stream
+    streams = on ∙ sym r.stream
+
+-- a message whose last fragment has an index is complete: each fragment has the one before it
+complete_to : (f : Format) (p : Plan) → Arranged f p → (i : ℕ) (l : Lane) (n k : ℕ) (m : Message) → entry_at p i ≡ Some (Part l n k) → message_at p l n ≡ Some m → length m.fragments ≤ suc k → IsComplete p l n m
+complete_to f p a i l n k m here named all = (named, each)
   where
-    go : (b : Bool) → nat_lt (suc k) c ≡ b → (if b then Some (Part l n (suc k)) else None) ≡ Some e → (suc k < c) × (Part l n (suc k) ≡ e)
-    go true t x = (grind (arith, t, nat_tests), cc)
-    go false t x = absurd (cc)
+    each : (j : ℕ) → j < length m.fragments → IsAssigned p l n j
+    each j low =
+        let place : k ≡ j + (k - j) = omega (arith, low, all) in
+        assigned_below f p a l n j (k - j) (i, subst (λ (x : ℕ). entry_at p i ≡ Some (Part l n x)) place here)
+
+-- the test of what comes behind a fragment, for its message
+behind_part : (p : Plan) (l : Lane) (n k : ℕ) (m : Message) (o : Option Entry) → message_at p l n ≡ Some m → next_part p (Part l n k) ≡ o → when (nat_lt (suc k) (length m.fragments)) (Part l n (suc k)) ≡ o
+behind_part p l n k m o named is = subst (λ (x : Option Message). when (nat_lt (suc k) (length (fragments_in x))) (Part l n (suc k)) ≡ o) named is
 
 -- Where a stream has nothing to go on with, all its messages are closed.
 pub idle_closed : (f : Format) (p : Plan) → Arranged f p → (s : ℕ) → continued p s ≡ None → IsAllClosed p s
-idle_closed f p a s h = go (latest s None p.entries) refl h
+idle_closed f p a s idle = by_last (latest s p.entries) refl idle
   where
-    go : (o : Option Entry) → latest s None p.entries ≡ o → follower p o ≡ None → IsAllClosed p s
-    go None is none = λ l n m t named. let b = a.begun l n m named in absurd (latest_none p s is b.0 (Part l n 0) b.1 t)
-    go (Some (End k o)) is none = let r = latest_is p s (End k o) is in closed_by_latest f p a s (End k o) r (inl (r.index, r.here))
-    go (Some (Part k o c)) is none =
-        let r = latest_is p s (Part k o c) is in
-        closed_by_latest f p a s (Part k o c) r (inr (whole r (a.within r.index k o c r.here)))
-      where
-        whole : IsLatestIn p s (Part k o c) → (x : Message) × (message_at p k o ≡ Some x) × (c < length x.fragments) → (x : Message) × IsComplete p k o x
-        whole r (x, hx, within) = (x, (hx, each))
-          where
-            each : (j : ℕ) → j < length x.fragments → IsAssigned p k o j
-            each j below =
-                let all = no_more k o c (length x.fragments) (follower_if p k o c x None hx none) in
-                let z : j + (c - j) ≡ c = omega (arith, below, all) in
-                assigned_below f p a k o j (c - j) (r.index, subst (λ (y : ℕ). entry_at p r.index ≡ Some (Part k o y)) (sym z) r.here)
+    by_last : (o : Option Entry) → latest s p.entries ≡ o → option_and_then (next_part p) o ≡ None → IsAllClosed p s
+    by_last None none quiet = λ l n m on named. let first = a.begun l n m named in absurd (latest_none p s none first.0 (Part l n 0) first.1 on)
+    by_last (Some (End l n)) found quiet = let r = latest_is p s (End l n) found in closed_with_last f p a s (End l n) r (inl (r.index, r.here))
+    by_last (Some (Part l n k)) found quiet =
+        let r = latest_is p s (Part l n k) found in
+        let m = a.within r.index l n k r.here in
+        let over = when_absent (nat_lt (suc k) (length m.0.fragments)) (Part l n (suc k)) (behind_part p l n k m.0 None m.1 quiet) in
+        closed_with_last f p a s (Part l n k) r (inr (m.0, complete_to f p a r.index l n k m.0 r.here m.1 (grind (arith, over, nat_tests))))
+
+-- ---- a stream with a message in part
 
 -- Where a stream goes on, the message in part may take this fragment.
 pub record GoesOnWith (p : Plan) (s : ℕ) (e : Entry) : Type 0 where
@@ -98,62 +92,66 @@ pub record GoesOnWith (p : Plan) (s : ℕ) (e : Entry) : Type 0 where
   pub no_end : HasEnd p lane number → ⊥
   pub bound : suc fragment < length message.fragments
 
-pub goes_on_with : (f : Format) (p : Plan) → Arranged f p → AreEndsLast p → (s : ℕ) (e : Entry) → continued p s ≡ Some e → GoesOnWith p s e
-goes_on_with f p a ends s e h = go (latest s None p.entries) refl h
+-- the last entry of the stream is the fragment before it: neither a further one nor an end mark stands behind
+goes_from : (f : Format) (p : Plan) → Arranged f p → AreEndsLast p → (s : ℕ) (e : Entry) (l : Lane) (n k : ℕ) → IsLatestIn p s (Part l n k) → next_part p (Part l n k) ≡ Some e → GoesOnWith p s e
+goes_from f p a ends s e l n k r next = record {
+  lane = l;
+  number = n;
+  fragment = k;
+  message = m.0;
+  stream = r.stream;
+  same = test.1;
+  named = m.1;
+  has = (r.index, r.here);
+  free = free;
+  no_end = no_end;
+  bound = grind (arith, lower, nat_tests);
+}
   where
-    go : (o : Option Entry) → latest s None p.entries ≡ o → follower p o ≡ Some e → GoesOnWith p s e
-    go None is some = absurd (cc)
-    go (Some (End k o)) is some = absurd (cc)
-    go (Some (Part k o c)) is some = let r = latest_is p s (Part k o c) is in part r (a.within r.index k o c r.here)
-      where
-        part : IsLatestIn p s (Part k o c) → (x : Message) × (message_at p k o ≡ Some x) × (c < length x.fragments) → GoesOnWith p s e
-        part r (x, hx, within) =
-            let one = one_more k o c (length x.fragments) e (follower_if p k o c x (Some e) hx some) in
-            record {
-              lane = k;
-              number = o;
-              fragment = c;
-              message = x;
-              stream = r.stream;
-              same = one.1;
-              named = hx;
-              has = (r.index, r.here);
-              free = free;
-              no_end = no_end;
-              bound = one.0;
-            }
-          where
-            free : IsAssigned p k o (suc c) → ⊥
-            free (j, t) =
-                let low = a.follows j k o c t in
-                let same : low.0 ≡ r.index = a.once low.0 r.index k o c low.2 r.here in
-                let last : j ≤ r.index = r.last j (Part k o (suc c)) t r.stream in
-                let less : low.0 < j = low.1 in
-                omega (arith, same, last, less)
+    m : (x : Message) × (message_at p l n ≡ Some x) × (k < length x.fragments)
+    m = a.within r.index l n k r.here
 
-            no_end : HasEnd p k o → ⊥
-            no_end (j, t) =
-                let past : r.index < j = ends r.index j k o c r.here t in
-                let last : j ≤ r.index = r.last j (End k o) t r.stream in
-                omega (arith, past, last)
+    test : (nat_lt (suc k) (length m.0.fragments) ≡ true) × (Part l n (suc k) ≡ e)
+    test = when_there (nat_lt (suc k) (length m.0.fragments)) (Part l n (suc k)) e (behind_part p l n k m.0 (Some e) m.1 next)
+
+    lower : nat_lt (suc k) (length m.0.fragments) ≡ true
+    lower = test.0
+
+    free : IsAssigned p l n (suc k) → ⊥
+    free (j, there) =
+        let before = a.follows j l n k there in
+        let one : before.0 ≡ r.index = a.once before.0 r.index l n k before.2 r.here in
+        let low : before.0 < j = before.1 in
+        let high : j ≤ r.index = r.last j (Part l n (suc k)) there r.stream in
+        omega (arith, one, low, high)
+
+    no_end : HasEnd p l n → ⊥
+    no_end (j, there) =
+        let behind : r.index < j = ends r.index j l n k r.here there in
+        let high : j ≤ r.index = r.last j (End l n) there r.stream in
+        omega (arith, behind, high)
+
+pub goes_on_with : (f : Format) (p : Plan) → Arranged f p → AreEndsLast p → (s : ℕ) (e : Entry) → continued p s ≡ Some e → GoesOnWith p s e
+goes_on_with f p a ends s e goes = by_last (latest s p.entries) refl goes
+  where
+    by_last : (o : Option Entry) → latest s p.entries ≡ o → option_and_then (next_part p) o ≡ Some e → GoesOnWith p s e
+    by_last None found next = absurd (cc)
+    by_last (Some (End l n)) found next = absurd (cc)
+    by_last (Some (Part l n k)) found next = goes_from f p a ends s e l n k (latest_is p s (Part l n k) found) next
 
 -- a message in part takes further indexes
 pub not_closed : (p : Plan) (s : ℕ) (e : Entry) → (g : GoesOnWith p s e) → IsClosed p g.lane g.number → ⊥
-not_closed p s e g (inl end) = g.no_end end
+not_closed p s e g (inl marked) = g.no_end marked
 not_closed p s e g (inr (x, (named, each))) =
-    let h = g.named in
-    let same : x ≡ g.message = cc in
-    g.free (each (suc g.fragment) (subst (λ (y : Message). suc g.fragment < length y.fragments) (sym same) g.bound))
+    let mine = g.named in
+    let same : g.message ≡ x = cc in
+    g.free (each (suc g.fragment) (subst (λ (y : Message). suc g.fragment < length y.fragments) same g.bound))
 
 -- what its stream goes on with tells whether a message is in part
 pub in_part_open : (f : Format) (v : SenderView) → Arranged f v.plan → AreEndsLast v.plan → (l : Lane) (n : ℕ) → is_in_part v l n ≡ true → IsClosed v.plan l n → ⊥
-in_part_open f v a ends l n h closed = go (continued v.plan l.stream) refl h
-  where
-    go : (o : Option Entry) → continued v.plan l.stream ≡ o → is_entry_of l n o ≡ true → ⊥
-    go None is t = absurd (cc)
-    go (Some e) is t =
-        let g = goes_on_with f v.plan a ends l.stream e is in
-        let u : is_of l n (Part g.lane g.number (suc g.fragment)) ≡ true = subst (λ (y : Entry). is_of l n y ≡ true) (sym g.same) t in
-        let b = and_parts (same_lane l g.lane) (n == g.number) u in
-        not_closed v.plan l.stream e g
-        (renamed (λ (k : Lane) (o : ℕ). IsClosed v.plan k o) l g.lane n g.number (same_lane-true l g.lane b.0) (eqb-true n g.number b.1) closed)
+in_part_open f v a ends l n in_part closed =
+    let there = some_is (is_of l n) (continued v.plan l.stream) in_part in
+    let g = goes_on_with f v.plan a ends l.stream there.0 there.1 in
+    let mine : is_of l n (Part g.lane g.number (suc g.fragment)) ≡ true = subst (λ (y : Entry). is_of l n y ≡ true) (sym g.same) there.2 in
+    let tests = and_parts (same_lane l g.lane) (n == g.number) mine in
+    not_closed v.plan l.stream there.0 g (renamed (IsClosed v.plan) l g.lane n g.number (same_lane-true l g.lane tests.0) (eqb-true n g.number tests.1) closed)

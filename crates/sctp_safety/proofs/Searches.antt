@@ -1,115 +1,66 @@
--- What a sender's searches find: the lowest index that passes, the latest entry of a stream, the first message that waits there.
-use Rattle.std.proofs.Common.{◌≡◌, ℕ, zero, suc, ◌+◌, ◌≤◌, ◌⊎◌, ◌==◌, ◌||◌, true, false, Bool, List, [], ◌∷◌, ◌++◌, slice_get, Option, Some, None, inl, inr, refl, sym, subst, ap, arith, eqb-true, ◌∙◌}
-use Rattle.std.specs.Prelude.{if◌then◌else◌, ◌%◌}
-use Rattle.std.proofs.lemmas.Bool.{eqb-false}
+-- What a sender's searches find: the last entry of a stream, by its index, and the first of the messages that are meant.
+use Rattle.std.proofs.Common.{◌≡◌, ℕ, zero, suc, ◌≤◌, ◌==◌, ◌||◌, true, false, Bool, List, [], ◌∷◌, ◌++◌, slice_get, Option, Some, None, inl, inr, refl, sym, subst, ap, arith, eqb-true, ◌∙◌}
+use Rattle.std.specs.Prelude.{if◌then◌else◌, find}
+use Rattle.std.specs.List.{list_any}
+use Rattle.sctp_model.specs.Lists.{Has}
 use Rattle.sctp_model.specs.Plan.{Entry, Plan, entry_at}
-use Rattle.sctp_model.specs.SenderView.{Queued, SenderView}
-use Rattle.sctp_model.specs.sender.Entries.{entry_lane, lowest, any_from, latest, continued}
-use Rattle.sctp_model.specs.sender.Filling.{first_on, without_first_on, turn_from, turn_taken, or_view}
-use Rattle.sctp_safety.specs.Way.{HasNone}
+use Rattle.sctp_model.specs.SenderView.{Queued}
+use Rattle.sctp_model.specs.sender.Words.{when}
+use Rattle.sctp_model.specs.sender.Entries.{entry_lane, latest}
+use Rattle.sctp_model.specs.sender.Assigning.{without_first}
+use Rattle.sctp_model.proofs.sender.WordLaws.{of_two, of_none, when_there, when_absent}
 
--- ---- the lowest index that passes, and whether one does
+-- ---- the last entry of a stream
 
--- an entry of the list, counted from `from` on, that passes
-pub record Passes (test : ℕ → Entry → Bool) (from : ℕ) (es : List Entry) (i : ℕ) : Type 0 where
-  pub place : ℕ
-  pub entry : Entry
-  pub index : i ≡ from + place
-  pub here : slice_get es place ≡ Some entry
-  pub passes : test i entry ≡ true
+-- the entry is of the stream
+abbrev IsOn : ℕ → Entry → Type 0
+IsOn s e = (entry_lane e).stream ≡ s
 
-first_passes : (test : ℕ → Entry → Bool) (from : ℕ) (e : Entry) (es : List Entry) → test from e ≡ true → Passes test from (e ∷ es) from
-first_passes test from e es t = record { place = 0; entry = e; index = omega arith; here = refl; passes = t }
+self : (n : ℕ) → (n == n) ≡ true
+self n = grind arith
 
-later_passes : (test : ℕ → Entry → Bool) (from i : ℕ) (e : Entry) (es : List Entry) → Passes test (suc from) es i → Passes test from (e ∷ es) i
-later_passes test from i e es r = let x = r.index in record { place = suc r.place; entry = r.entry; index = omega (arith, x); here = r.here; passes = r.passes }
+-- an entry that isn't found isn't of the stream
+not_on : (s : ℕ) (e d : Entry) → when ((entry_lane e).stream == s) e ≡ None → e ≡ d → IsOn s d → ⊥
+not_on s e d none same on =
+    let apart = when_absent ((entry_lane e).stream == s) e none in
+    let mine : IsOn s e = subst (λ (x : Entry). IsOn s x) (sym same) on in
+    let equal : ((entry_lane e).stream == s) ≡ true = rw mine (self s) in
+    cc (apart, equal)
 
-lowest_passes : (test : ℕ → Entry → Bool) (from : ℕ) (es : List Entry) (i : ℕ) → lowest test from es ≡ Some i → Passes test from es i
-lowest_passes test from [] i h = absurd (cc)
-lowest_passes test from (e ∷ es) i h = go (test from e) refl h (λ k. lowest_passes test (suc from) es i k)
-  where
-    go : (b : Bool) → test from e ≡ b → (if b then Some from else lowest test (suc from) es) ≡ Some i →
-        (lowest test (suc from) es ≡ Some i → Passes test (suc from) es i) → Passes test from (e ∷ es) i
-    go true t k more = let s : from ≡ i = cc in subst (λ (x : ℕ). Passes test from (e ∷ es) x) s (first_passes test from e es t)
-    go false t k more = later_passes test from i e es (more k)
+-- where none is found, none is there
+none_on : (s : ℕ) (es : List Entry) → latest s es ≡ None → (i : ℕ) (d : Entry) → slice_get es i ≡ Some d → IsOn s d → ⊥
+none_on s [] none i d here on = cc
+none_on s (e ∷ es) none zero d here on = not_on s e d (of_none (latest s es) (when ((entry_lane e).stream == s) e) none).1 (cc) on
+none_on s (e ∷ es) none (suc i) d here on = none_on s es (of_none (latest s es) (when ((entry_lane e).stream == s) e) none).0 i d here on
 
-any_passes : (test : ℕ → Entry → Bool) (from : ℕ) (es : List Entry) → any_from test from es ≡ true → (i : ℕ) × Passes test from es i
-any_passes test from [] h = absurd (cc)
-any_passes test from (e ∷ es) h = go (test from e) refl h (λ k. any_passes test (suc from) es k)
-  where
-    go : (b : Bool) → test from e ≡ b → (b || any_from test (suc from) es) ≡ true → (any_from test (suc from) es ≡ true → (i : ℕ) × Passes test (suc from) es i) →
-        (i : ℕ) × Passes test from (e ∷ es) i
-    go true t k more = (from, first_passes test from e es t)
-    go false t k more = let r = more k in (r.0, later_passes test from r.0 e es r.1)
-
--- the entry at an index that passes
-pub record IsAt (test : ℕ → Entry → Bool) (p : Plan) (i : ℕ) : Type 0 where
-  pub entry : Entry
-  pub here : entry_at p i ≡ Some entry
-  pub passes : test i entry ≡ true
-
-by_index : (test : ℕ → Entry → Bool) (p : Plan) (i : ℕ) → Passes test 1 p.entries i → IsAt test p i
-by_index test p i r =
-    let x = r.index in
-    let s : suc r.place ≡ i = omega (arith, x) in
-    record { entry = r.entry; here = subst (λ (y : ℕ). entry_at p y ≡ Some r.entry) s r.here; passes = r.passes }
-
-pub lowest_is : (test : ℕ → Entry → Bool) (p : Plan) (i : ℕ) → lowest test 1 p.entries ≡ Some i → IsAt test p i
-lowest_is test p i h = by_index test p i (lowest_passes test 1 p.entries i h)
-
-pub some_is : (test : ℕ → Entry → Bool) (p : Plan) → any_from test 1 p.entries ≡ true → (i : ℕ) × IsAt test p i
-some_is test p h = let r = any_passes test 1 p.entries h in (r.0, by_index test p r.0 r.1)
-
--- ---- the latest entry of a stream
-
--- no entry of the stream
-abbrev HasNoEntry : List Entry → ℕ → Type 0
-HasNoEntry es s = (i : ℕ) (d : Entry) → slice_get es i ≡ Some d → (entry_lane d).stream ≡ s → ⊥
-
-record IsLatestAmong (es : List Entry) (s : ℕ) (e : Entry) : Type 0 where
+-- the entry that is found stands on its stream, and none stands there behind it
+record IsLastOf (s : ℕ) (es : List Entry) (e : Entry) : Type 0 where
   place : ℕ
   here : slice_get es place ≡ Some e
-  stream : (entry_lane e).stream ≡ s
-  last : (i : ℕ) (d : Entry) → slice_get es i ≡ Some d → (entry_lane d).stream ≡ s → i ≤ place
+  on : IsOn s e
+  last : (i : ℕ) (d : Entry) → slice_get es i ≡ Some d → IsOn s d → i ≤ place
 
-none_before : (d : Entry) (es : List Entry) (s : ℕ) → ((entry_lane d).stream ≡ s → ⊥) → HasNoEntry es s → HasNoEntry (d ∷ es) s
-none_before d es s ne none zero x h t = ne (let e : d ≡ x = cc in subst (λ (y : Entry). (entry_lane y).stream ≡ s) (sym e) t)
-none_before d es s ne none (suc i) x h t = none i x h t
-
-latest_behind : (d : Entry) (es : List Entry) (s : ℕ) (e : Entry) → IsLatestAmong es s e → IsLatestAmong (d ∷ es) s e
-latest_behind d es s e r = record { place = suc r.place; here = r.here; stream = r.stream; last = last }
+last_of : (s : ℕ) (es : List Entry) (x : Entry) → latest s es ≡ Some x → IsLastOf s es x
+last_of s [] x is = absurd (cc)
+last_of s (e ∷ es) x is =
+    elim (of_two (latest s es) (when ((entry_lane e).stream == s) e) x is) [
+      | inl later ↦ behind (last_of s es x later)
+      | inr here ↦ let on = when_there ((entry_lane e).stream == s) e x here.1 in subst (IsLastOf s (e ∷ es)) on.1 (this here.0 (eqb-true (entry_lane e).stream s on.0))
+    ]
   where
-    last : (i : ℕ) (x : Entry) → slice_get (d ∷ es) i ≡ Some x → (entry_lane x).stream ≡ s → i ≤ suc r.place
-    last zero x k t = omega arith
-    last (suc i) x k t = let b = r.last i x k t in omega (arith, b)
+    behind : IsLastOf s es x → IsLastOf s (e ∷ es) x
+    behind r = record { place = suc r.place; here = r.here; on = r.on; last = low }
+      where
+        low : (i : ℕ) (d : Entry) → slice_get (e ∷ es) i ≡ Some d → IsOn s d → i ≤ suc r.place
+        low zero d first on = omega arith
+        low (suc i) d later on = let le = r.last i d later on in omega (arith, le)
 
-latest_first : (d : Entry) (es : List Entry) (s : ℕ) → (entry_lane d).stream ≡ s → HasNoEntry es s → IsLatestAmong (d ∷ es) s d
-latest_first d es s t none = record { place = 0; here = refl; stream = t; last = last }
-  where
-    last : (i : ℕ) (x : Entry) → slice_get (d ∷ es) i ≡ Some x → (entry_lane x).stream ≡ s → i ≤ 0
-    last zero x k u = omega arith
-    last (suc i) x k u = absurd (none i x k u)
-
-latest_found : (s : ℕ) (found : Option Entry) (es : List Entry) (e : Entry) → latest s found es ≡ Some e →
-    IsLatestAmong es s e ⊎ ((found ≡ Some e) × HasNoEntry es s)
-latest_found s found [] e h = inr (h, λ i d k t. absurd (cc))
-latest_found s found (d ∷ es) e h = go ((entry_lane d).stream == s) refl (latest_found s (if (entry_lane d).stream == s then Some d else found) es e h)
-  where
-    go : (b : Bool) → ((entry_lane d).stream == s) ≡ b → IsLatestAmong es s e ⊎ (((if b then Some d else found) ≡ Some e) × HasNoEntry es s) →
-        IsLatestAmong (d ∷ es) s e ⊎ ((found ≡ Some e) × HasNoEntry (d ∷ es) s)
-    go b t (inl r) = inl (latest_behind d es s e r)
-    go true t (inr (same, none)) =
-        let q : d ≡ e = cc in
-        inl (subst (λ (y : Entry). IsLatestAmong (d ∷ es) s y) q (latest_first d es s (eqb-true (entry_lane d).stream s t) none))
-    go false t (inr (same, none)) = inr (same, none_before d es s (eqb-false (entry_lane d).stream s t) none)
-
-latest_absent : (s : ℕ) (found : Option Entry) (es : List Entry) → latest s found es ≡ None → (found ≡ None) × HasNoEntry es s
-latest_absent s found [] h = (h, λ i d k t. absurd (cc))
-latest_absent s found (d ∷ es) h = go ((entry_lane d).stream == s) refl (latest_absent s (if (entry_lane d).stream == s then Some d else found) es h)
-  where
-    go : (b : Bool) → ((entry_lane d).stream == s) ≡ b → (((if b then Some d else found) ≡ None) × HasNoEntry es s) → (found ≡ None) × HasNoEntry (d ∷ es) s
-    go true t (same, none) = absurd (cc)
-    go false t (same, none) = (same, none_before d es s (eqb-false (entry_lane d).stream s t) none)
+    this : latest s es ≡ None → IsOn s e → IsLastOf s (e ∷ es) e
+    this none on = record { place = 0; here = refl; on = on; last = low }
+      where
+        low : (i : ℕ) (d : Entry) → slice_get (e ∷ es) i ≡ Some d → IsOn s d → i ≤ 0
+        low zero d first also = omega arith
+        low (suc i) d later also = absurd (none_on s es none i d later also)
 
 -- the same by index
 pub record IsLatestIn (p : Plan) (s : ℕ) (e : Entry) : Type 0 where
@@ -118,76 +69,66 @@ pub record IsLatestIn (p : Plan) (s : ℕ) (e : Entry) : Type 0 where
   pub stream : (entry_lane e).stream ≡ s
   pub last : (i : ℕ) (d : Entry) → entry_at p i ≡ Some d → (entry_lane d).stream ≡ s → i ≤ index
 
-pub latest_is : (p : Plan) (s : ℕ) (e : Entry) → latest s None p.entries ≡ Some e → IsLatestIn p s e
-latest_is p s e h = go (latest_found s None p.entries e h)
+pub latest_is : (p : Plan) (s : ℕ) (e : Entry) → latest s p.entries ≡ Some e → IsLatestIn p s e
+latest_is p s e found = by_index (last_of s p.entries e found)
   where
-    go : IsLatestAmong p.entries s e ⊎ ((None ≡ Some e) × HasNoEntry p.entries s) → IsLatestIn p s e
-    go (inr (a, none)) = absurd (cc)
-    go (inl r) = record { index = suc r.place; here = r.here; stream = r.stream; last = last }
+    by_index : IsLastOf s p.entries e → IsLatestIn p s e
+    by_index r = record { index = suc r.place; here = r.here; stream = r.on; last = low }
       where
-        last : (i : ℕ) (d : Entry) → entry_at p i ≡ Some d → (entry_lane d).stream ≡ s → i ≤ suc r.place
-        last zero d k t = absurd (cc)
-        last (suc i) d k t = let b = r.last i d k t in omega (arith, b)
+        low : (i : ℕ) (d : Entry) → entry_at p i ≡ Some d → IsOn s d → i ≤ suc r.place
+        low zero d here on = absurd (cc)
+        low (suc i) d here on = let le = r.last i d here on in omega (arith, le)
 
-pub latest_none : (p : Plan) (s : ℕ) → latest s None p.entries ≡ None → (i : ℕ) (d : Entry) → entry_at p i ≡ Some d → (entry_lane d).stream ≡ s → ⊥
-latest_none p s h zero d k t = absurd (cc)
-latest_none p s h (suc i) d k t = (latest_absent s None p.entries h).1 i d k t
+pub latest_none : (p : Plan) (s : ℕ) → latest s p.entries ≡ None → (i : ℕ) (d : Entry) → entry_at p i ≡ Some d → (entry_lane d).stream ≡ s → ⊥
+latest_none p s none zero d here on = cc
+latest_none p s none (suc i) d here on = none_on s p.entries none i d here on
 
--- ---- the first message that waits on a stream
+-- ---- the first message that is meant
 
-pub record IsFirstOn (s : ℕ) (qs : List Queued) (q : Queued) : Type 0 where
+-- it stands in the queue between some that aren't meant and some others, and is what the queue is left without
+pub record IsFirstMeant (meant : Queued → Bool) (qs : List Queued) (q : Queued) : Type 0 where
   pub before : List Queued
   pub rest : List Queued
   pub queue : qs ≡ before ++ q ∷ rest
-  pub none : HasNone before s
-  pub stream : q.lane.stream ≡ s
-  pub others : without_first_on s qs ≡ before ++ rest
+  pub others : without_first meant qs ≡ before ++ rest
+  pub none : (x : Queued) → Has before x → meant x ≡ false
+  pub is : meant q ≡ true
 
-pub first_is : (s : ℕ) (qs : List Queued) (q : Queued) → first_on s qs ≡ Some q → IsFirstOn s qs q
-first_is s [] q h = absurd (cc)
-first_is s (x ∷ qs) q h = go (x.lane.stream == s) refl h (λ k. first_is s qs q k)
+pub first_meant : (meant : Queued → Bool) (qs : List Queued) (q : Queued) → find meant qs ≡ Some q → IsFirstMeant meant qs q
+first_meant meant [] q found = absurd (cc)
+first_meant meant (x ∷ qs) q found = by_test (meant x) refl found (λ later. first_meant meant qs q later)
   where
-    rest_of : Bool → List Queued
-    rest_of b = if b then qs else x ∷ without_first_on s qs
+    left : Bool → List Queued
+    left b = if b then qs else x ∷ without_first meant qs
 
-    go : (b : Bool) → (x.lane.stream == s) ≡ b → (if b then Some x else first_on s qs) ≡ Some q → (first_on s qs ≡ Some q → IsFirstOn s qs q) → IsFirstOn s (x ∷ qs) q
-    go true t k more =
-        let e : x ≡ q = cc in
-        record {
-          before = [];
-          rest = qs;
-          queue = ap (λ (y : Queued). y ∷ qs) e;
-          none = λ y z. absurd z;
-          stream = subst (λ (y : Queued). y.lane.stream ≡ s) e (eqb-true x.lane.stream s t);
-          others = ap rest_of t;
-        }
-    go false t k more =
-        let r = more k in
-        record {
+    by_test : (b : Bool) → meant x ≡ b → (if b then Some x else find meant qs) ≡ Some q → (find meant qs ≡ Some q → IsFirstMeant meant qs q) → IsFirstMeant meant (x ∷ qs) q
+    by_test true on here further =
+        let same : x ≡ q = cc in
+        subst (IsFirstMeant meant (x ∷ qs)) same (record { before = []; rest = qs; queue = refl; others = ap left on; none = λ y has. absurd has; is = on })
+    by_test false off here further = behind (further here)
+      where
+        behind : IsFirstMeant meant qs q → IsFirstMeant meant (x ∷ qs) q
+        behind r = record {
           before = x ∷ r.before;
           rest = r.rest;
           queue = ap (λ (ys : List Queued). x ∷ ys) r.queue;
-          none = none r;
-          stream = r.stream;
-          others = ap rest_of t ∙ ap (λ (ys : List Queued). x ∷ ys) r.others;
+          others = ap left off ∙ ap (λ (ys : List Queued). x ∷ ys) r.others;
+          none = none;
+          is = r.is;
         }
-      where
-        none : (r : IsFirstOn s qs q) → HasNone (x ∷ r.before) s
-        none r y (inl e) z = eqb-false x.lane.stream s t (subst (λ (u : Queued). u.lane.stream ≡ s) (sym e) z)
-        none r y (inr k) z = r.none y k z
+          where
+            none : (y : Queued) → Has (x ∷ r.before) y → meant y ≡ false
+            none y (inl same) = subst (λ (z : Queued). meant z ≡ false) same off
+            none y (inr has) = r.none y has
 
--- ---- the stream whose turn it is
-
--- some stream has its turn
-pub record HasTurn (v u : SenderView) : Type 0 where
-  pub stream : ℕ
-  pub takes : turn_taken v stream (continued v.plan stream) (first_on stream v.queue) ≡ Some u
-
-pub turn_is : (v u : SenderView) (s count : ℕ) → turn_from v s count ≡ Some u → HasTurn v u
-turn_is v u s zero h = absurd (cc)
-turn_is v u s (suc count) h = go (turn_taken v s (continued v.plan s) (first_on s v.queue)) refl h (λ k. turn_is v u (suc s % v.streams) count k)
+-- where one is meant, a first one is
+pub some_meant : (meant : Queued → Bool) (qs : List Queued) → list_any meant qs ≡ true → (q : Queued) × IsFirstMeant meant qs q
+some_meant meant qs any = let r = found qs any in (r.0, first_meant meant qs r.0 r.1)
   where
-    go : (o : Option SenderView) → turn_taken v s (continued v.plan s) (first_on s v.queue) ≡ o → or_view o (turn_from v (suc s % v.streams) count) ≡ Some u →
-        (turn_from v (suc s % v.streams) count ≡ Some u → HasTurn v u) → HasTurn v u
-    go (Some y) e k more = record { stream = s; takes = e ∙ k }
-    go None e k more = more k
+    found : (xs : List Queued) → list_any meant xs ≡ true → (q : Queued) × (find meant xs ≡ Some q)
+    found [] any = absurd (cc)
+    found (x ∷ xs) any = by_test (meant x) any (λ later. found xs later)
+      where
+        by_test : (b : Bool) → (b || list_any meant xs) ≡ true → (list_any meant xs ≡ true → (q : Queued) × (find meant xs ≡ Some q)) → (q : Queued) × ((if b then Some x else find meant xs) ≡ Some q)
+        by_test true here further = (x, refl)
+        by_test false later further = further later

@@ -11,11 +11,14 @@ use Rattle.sctp_model.specs.Format.{Format, Lane}
 use Rattle.sctp_model.specs.Plan.{Message, Entry, Part, End, Plan, message_at}
 use Rattle.sctp_model.specs.SenderView.{Queued, SenderView}
 use Rattle.sctp_model.specs.sender.Entries.{continued, fragments_from, one_if_some, sum_below, in_part, fragments_in}
-use Rattle.sctp_model.specs.sender.Queueing.{cut, cut_at_most, owed_for, owed_by_queue, owed_by_parts, promised, refusal, queued, Spent}
+use Rattle.sctp_model.specs.sender.Queueing.{cut, owed_for, owed_by_queue, owed_by_parts, promised, refusal, queued, Spent}
 use Rattle.sctp_model.specs.sender.Abandoning.{waits, name_of}
 use Rattle.sctp_model.specs.sender.Reached.{IsReached, Queues}
 use Rattle.sctp_model.proofs.sender.PlanLaws.{IsFollower, continued_is, AllNamed}
 use Rattle.sctp_model.proofs.sender.CountLaws.{is_named, HasMessages}
+use Rattle.std.proofs.Math.Nat.{mul-le-mul_right}
+use Rattle.sctp_model.proofs.sender.CutLaws.{length-cut}
+use Rattle.sctp_model.proofs.sender.SetLaws.{is_set}
 use Rattle.sctp_model.proofs.sender.OwedLaws.{is_promised}
 use Rattle.sctp_model.proofs.sender.TicketLaws.{waits_push}
 use Rattle.sctp_send.specs.SenderKept.{Item, Rest, Track, Kept}
@@ -27,54 +30,8 @@ use Rattle.sctp_send.proofs.KeepLemmas.{kept_length}
 
 -- ---- fragments
 
-ceil_one : (n size : ℕ) → 0 < n → n ≤ size → div_ceil n size ≡ 1
-ceil_one n size some le = by_test (nat_lt n size) refl
-  where
-    by_test : (b : Bool) → nat_lt n size ≡ b → n / size + min 1 (n % size) ≡ 1
-    by_test true is =
-        let lt : n < size = grind (arith, nat_tests) in
-        let zeroed : n / size ≡ 0 = div-eq_of_lt lt in
-        let all : n % size ≡ n = mod-eq_of_lt lt in
-        rw (zeroed, all) (omega arith)
-    by_test false is =
-        let same : n ≡ size = let h : size ≤ n = grind (arith, nat_tests) in omega arith in
-        let p : 0 < size = omega arith in
-        let one : n / size ≡ (n - size) / size + 1 = div-eq-sub-div p (omega arith) in
-        let none : n - size ≡ 0 = omega arith in
-        let zeroed : (n - size) / size ≡ 0 = rw none (div-eq_of_lt p) in
-        let quotient : n / size ≡ 1 = omega (arith, one, zeroed) in
-        let left : n % size ≡ 0 = let h : size * (n / size) + n % size ≡ n = omega arith in let k : size * 1 + n % size ≡ n = rw quotient at h in omega arith in
-        rw (quotient, left) (omega arith)
-
-ceil_more : (n size : ℕ) → 0 < size → size < n → div_ceil n size ≡ suc (div_ceil (n - size) size)
-ceil_more n size p lt =
-    let one : n / size ≡ (n - size) / size + 1 = div-eq-sub-div p (omega arith) in
-    let left : n % size ≡ (n - size) % size =
-    let h : size * (n / size) + n % size ≡ n = omega arith in
-    let k : size * ((n - size) / size) + (n - size) % size ≡ n - size = omega arith in
-    let h2 : size * ((n - size) / size + 1) + n % size ≡ n = rw one at h in
-    omega arith in
-    rw (one, left) (omega arith)
-
-cut_count : (most size : ℕ) (bytes : List ℕ) → 0 < size → 0 < length bytes → length bytes ≤ most → length (cut_at_most most size bytes) ≡ div_ceil (length bytes) size
-cut_count zero size bytes p some le = absurd (omega arith)
-cut_count (suc most) size bytes p some le = by_test (nat_le (length bytes) size) refl (λ lt. cut_count most size (drop size bytes) p (let n = length-drop size bytes in omega arith) (let n = length-drop size bytes in omega arith))
-  where
-    by_test : (b : Bool) → nat_le (length bytes) size ≡ b → (size < length bytes → length (cut_at_most most size (drop size bytes)) ≡ div_ceil (length (drop size bytes)) size)
-        → length (if b then bytes ∷ [] else take size bytes ∷ cut_at_most most size (drop size bytes)) ≡ div_ceil (length bytes) size
-    by_test true is further = sym (ceil_one (length bytes) size some (grind (arith, nat_tests)))
-    by_test false is further =
-        let lt : size < length bytes = grind (arith, nat_tests) in
-        let rest = further lt in
-        let long = length-drop size bytes in
-        ap suc (rest ∙ rw long refl) ∙ sym (ceil_more (length bytes) size p lt)
-
 pub count_is : (size : ℕ) (bytes : List ℕ) → 0 < size → div_ceil (length bytes) size ≡ length (cut size bytes)
-count_is size bytes p = by_length (length bytes) refl
-  where
-    by_length : (n : ℕ) → length bytes ≡ n → div_ceil n size ≡ length (cut_at_most n size bytes)
-    by_length zero none = let zeroed : 0 / size ≡ 0 = div-eq_of_lt p in let left : 0 % size ≡ 0 = mod-eq_of_lt p in rw (zeroed, left) refl
-    by_length (suc n) long = sym (cut_count (suc n) size bytes p (omega arith) (omega arith) ∙ ap (λ (x : ℕ). div_ceil x size) long)
+count_is size bytes p = sym (length-cut size bytes)
 
 -- ---- sums
 
@@ -173,17 +130,14 @@ keeps_queued f s v lane payload ticket bytes until k free given =
 
 -- ---- the refusals
 
-cut_short : (most size : ℕ) (bytes : List ℕ) → length (cut_at_most most size bytes) ≤ most
-cut_short zero size bytes = omega arith
-cut_short (suc most) size bytes = by_test (nat_le (length bytes) size) (cut_short most size (drop size bytes))
-  where
-    by_test : (b : Bool) → length (cut_at_most most size (drop size bytes)) ≤ most → length (if b then bytes ∷ [] else take size bytes ∷ cut_at_most most size (drop size bytes)) ≤ suc most
-    by_test true rest = omega arith
-    by_test false rest = omega arith
+ceil_short : (n size : ℕ) → 0 < size → div_ceil n size ≤ n
+ceil_short n size p = let whole : size * (n / size) + n % size ≡ n = omega arith in let least : 1 * (n / size) ≤ size * (n / size) = mul-le-mul_right (n / size) p in omega (arith, whole, least)
+
+cut_short : (size : ℕ) (bytes : List ℕ) → 0 < size → length (cut size bytes) ≤ length bytes
+cut_short size bytes p = rw (length-cut size bytes) (ceil_short (length bytes) size p)
 
 owed_small : (n : ℕ) → n ≤ 65536 → owed_for n ≤ 65537
-owed_small zero le = omega arith
-owed_small (suc n) le = omega arith
+owed_small n le = omega arith
 
 -- the first four reasons don't hold
 pub record IsFit (s : Kept) (n : ℕ) (bytes : List ℕ) : Type 0 where
@@ -214,7 +168,7 @@ sum_fits : (f : Format) (s : Kept) (v : SenderView) (bytes : List ℕ) (p o : �
 sum_fits f s v bytes p o k short promise owed =
     let most = is_promised f v k.reached in
     let size = ap (λ (x : ℕ). owed_for (length (cut x bytes))) k.holds.fragment in
-    let little = owed_small (length (cut s.fragment bytes)) (let c = cut_short (length bytes) s.fragment bytes in omega arith) in
+    let little = owed_small (length (cut s.fragment bytes)) (let c = cut_short s.fragment bytes (let size = k.holds.fragment in let some = (is_set f v k.reached).fragment in omega arith) in omega arith) in
     omega (arith, most, size, little, promise, owed)
 
 pub spent_owed : (f : Format) (s : Kept) (v : SenderView) (stream : ℕ) (bytes : List ℕ) (p o : ℕ) → Keeps f s v → IsFit s stream bytes → length s.fates < 2 ^ 32 - 1 → p ≡ promised v → o ≡ owed_for (length (cut s.fragment bytes)) % 2 ^ 64

@@ -4,9 +4,10 @@ use Rattle.std.specs.Prelude.{nat_lt, nat_le, not, ◌&&◌, ◌||◌, ◌==◌,
 use Rattle.std.proofs.lemmas.Bool.Decides.{nat_tests}
 use Rattle.sctp_model.specs.Format.{Format}
 use Rattle.sctp_model.specs.Plan.{Entry}
+use Rattle.sctp_model.specs.sender.Words.{some_passes}
 use Rattle.sctp_model.specs.SenderView.{Queued, SenderView}
 use Rattle.sctp_model.specs.sender.Entries.{any_from, some_entry, is_unsettled, is_given_up, in_part}
-use Rattle.sctp_model.specs.sender.Readers.{given_up_run, point, unsettled, drained, outstanding, abandoned, abandoned_named}
+use Rattle.sctp_model.specs.sender.Readers.{given_up_run, point, unsettled, drained, outstanding, abandoned}
 use Rattle.sctp_model.specs.sender.Abandoning.{Name, waits, name_of, is_abandoned}
 use Rattle.sctp_model.proofs.sender.Bounds.{is_bounded}
 use Rattle.sctp_model.proofs.sender.OwedLaws.{is_promised, is_windowed}
@@ -148,16 +149,16 @@ abandoned_fate f v t h = by_wait (waits t v.queue) refl
     by_kept n true = refl
     by_kept n false = refl
 
-    by_name : (o : Option Name) → abandoned_named v o ≡ is_given_up_fate (fate_named v o)
+    by_name : (o : Option Name) → some_passes (is_abandoned v) o ≡ is_given_up_fate (fate_named v o)
     by_name None = refl
     by_name (Some n) = by_kept n (is_abandoned v n)
 
     by_wait : (b : Bool) → waits t v.queue ≡ b → abandoned v t ≡ is_given_up_fate (if b then Waiting else fate_named v (name_of v t))
-    by_wait true is = ap (abandoned_named v) (h.waiting t is).2
+    by_wait true is = ap (some_passes (is_abandoned v)) (h.waiting t is).2
     by_wait false is = by_name (name_of v t)
 
 pub not_abandoned : (f : Format) (s : Kept) (v : SenderView) (t : ℕ) → Keeps f s v → v.tickets < t → abandoned v t ≡ false
-not_abandoned f s v t k lt = ap (abandoned_named v) (name_of_none v t (is_ticketed f v k.reached) lt)
+not_abandoned f s v t k lt = ap (some_passes (is_abandoned v)) (name_of_none v t (is_ticketed f v k.reached) lt)
 
 pub is_abandoned_at : (f : Format) (s : Kept) (v : SenderView) (t : ℕ) (d : Fate) → Keeps f s v → 0 < t → t ≤ length s.fates → is_given_up_fate (get_or s.fates (t - 1) d) ≡ abandoned v t
 is_abandoned_at f s v t d k some le =
@@ -172,7 +173,7 @@ no_ticket f s v t k out =
       | inl zeroed ↦ by_name (name_of v t) refl zeroed
     ]
   where
-    by_name : (o : Option Name) → name_of v t ≡ o → t ≡ 0 → abandoned_named v o ≡ false
+    by_name : (o : Option Name) → name_of v t ≡ o → t ≡ 0 → some_passes (is_abandoned v) o ≡ false
     by_name None is none = refl
     by_name (Some n) is none =
         let h = is_ticketed f v k.reached in

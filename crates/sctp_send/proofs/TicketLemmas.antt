@@ -4,10 +4,11 @@ use Rattle.std.specs.Prelude.{not, ◌&&◌, ◌||◌, if◌then◌else◌}
 use Rattle.std.proofs.lemmas.List.{length-map}
 use Rattle.sctp_model.specs.Format.{Format}
 use Rattle.sctp_model.specs.Plan.{Entry}
+use Rattle.sctp_model.specs.sender.Words.{some_passes}
 use Rattle.sctp_model.specs.SenderView.{SenderView}
 use Rattle.sctp_model.specs.sender.Entries.{any_from, continued, entry_message, is_in_part}
 use Rattle.sctp_model.specs.sender.Abandoning.{Name, waits, name_of, is_abandoned, has_ticket, has_uncovered}
-use Rattle.sctp_model.specs.sender.Readers.{acknowledged, acknowledged_named}
+use Rattle.sctp_model.specs.sender.Readers.{acknowledged, is_acknowledged}
 use Rattle.sctp_model.proofs.sender.Bounds.{is_bounded}
 use Rattle.sctp_model.proofs.sender.TicketLaws.{is_ticketed, name_of_none, found_owns}
 use Rattle.sctp_model.proofs.sender.NameLaws.{goes_on_with, some_stream, in_part_by_ticket, uncovered_by_ticket}
@@ -84,11 +85,11 @@ with_false false = refl
 pub numbered_acknowledged : (f : Format) (s : Kept) (v : SenderView) (t : ℕ) → Keeps f s v → is_numbered_fate (fate_here v t) ≡ true → (not (any_rest t s.tracks) && not (any_uncovered t s.items)) ≡ acknowledged v t
 numbered_acknowledged f s v t k numbered = by_wait (waits t v.queue) refl numbered
   where
-    by_kept : (n : Name) (b : Bool) → name_of v t ≡ Some n → is_abandoned v n ≡ b → is_numbered_fate (if b then GivenUp else Numbered) ≡ true → (not (any_rest t s.tracks) && not (any_uncovered t s.items)) ≡ acknowledged_named v (Some n)
+    by_kept : (n : Name) (b : Bool) → name_of v t ≡ Some n → is_abandoned v n ≡ b → is_numbered_fate (if b then GivenUp else Numbered) ≡ true → (not (any_rest t s.tracks) && not (any_uncovered t s.items)) ≡ some_passes (is_acknowledged v) (Some n)
     by_kept n true is on here = absurd (cc)
     by_kept n false is off here = rw (kept_goes_on f s v t n k is, kept_uncovered f s v t n k is, off) (sym (with_true (not (is_in_part v n.lane n.number) && not (has_uncovered v n))))
 
-    by_name : (o : Option Name) → name_of v t ≡ o → is_numbered_fate (fate_named v o) ≡ true → (not (any_rest t s.tracks) && not (any_uncovered t s.items)) ≡ acknowledged_named v o
+    by_name : (o : Option Name) → name_of v t ≡ o → is_numbered_fate (fate_named v o) ≡ true → (not (any_rest t s.tracks) && not (any_uncovered t s.items)) ≡ some_passes (is_acknowledged v) o
     by_name None is here = absurd (cc)
     by_name (Some n) is here = by_kept n (is_abandoned v n) is refl here
 
@@ -99,16 +100,16 @@ numbered_acknowledged f s v t k numbered = by_wait (waits t v.queue) refl number
 pub other_acknowledged : (f : Format) (s : Kept) (v : SenderView) (t : ℕ) → Keeps f s v → is_numbered_fate (fate_here v t) ≡ false → acknowledged v t ≡ false
 other_acknowledged f s v t k other = by_wait (waits t v.queue) refl other
   where
-    by_kept : (n : Name) (b : Bool) → is_abandoned v n ≡ b → is_numbered_fate (if b then GivenUp else Numbered) ≡ false → acknowledged_named v (Some n) ≡ false
+    by_kept : (n : Name) (b : Bool) → is_abandoned v n ≡ b → is_numbered_fate (if b then GivenUp else Numbered) ≡ false → some_passes (is_acknowledged v) (Some n) ≡ false
     by_kept n true on here = rw on (with_false (not (is_in_part v n.lane n.number) && not (has_uncovered v n)))
     by_kept n false off here = absurd (cc)
 
-    by_name : (o : Option Name) → is_numbered_fate (fate_named v o) ≡ false → acknowledged_named v o ≡ false
+    by_name : (o : Option Name) → is_numbered_fate (fate_named v o) ≡ false → some_passes (is_acknowledged v) o ≡ false
     by_name None here = refl
     by_name (Some n) here = by_kept n (is_abandoned v n) refl here
 
     by_wait : (b : Bool) → waits t v.queue ≡ b → is_numbered_fate (if b then Waiting else fate_named v (name_of v t)) ≡ false → acknowledged v t ≡ false
-    by_wait true is here = ap (acknowledged_named v) ((is_ticketed f v k.reached).waiting t is).2
+    by_wait true is here = ap (some_passes (is_acknowledged v)) ((is_ticketed f v k.reached).waiting t is).2
     by_wait false is here = by_name (name_of v t) here
 
 -- by the fate that was read
@@ -120,7 +121,7 @@ numbered_read f s v t d k some le =
 pub not_acknowledged : (f : Format) (s : Kept) (v : SenderView) (t : ℕ) → Keeps f s v → t ≡ 0 → acknowledged v t ≡ false
 not_acknowledged f s v t k none = by_name (name_of v t) refl
   where
-    by_name : (o : Option Name) → name_of v t ≡ o → acknowledged_named v o ≡ false
+    by_name : (o : Option Name) → name_of v t ≡ o → some_passes (is_acknowledged v) o ≡ false
     by_name None is = refl
     by_name (Some n) is =
         let h = is_ticketed f v k.reached in
@@ -129,7 +130,7 @@ not_acknowledged f s v t k none = by_name (name_of v t) refl
         absurd (omega arith)
 
 pub never_acknowledged : (f : Format) (s : Kept) (v : SenderView) (t : ℕ) → Keeps f s v → length s.fates < t → acknowledged v t ≡ false
-never_acknowledged f s v t k over = let given = fates_given f s v k in ap (acknowledged_named v) (name_of_none v t (is_ticketed f v k.reached) (omega arith))
+never_acknowledged f s v t k over = let given = fates_given f s v k in ap (some_passes (is_acknowledged v)) (name_of_none v t (is_ticketed f v k.reached) (omega arith))
 
 -- ---- walks, entry by entry and stream by stream
 

@@ -28,7 +28,7 @@ assigning_abandons_none _ v _ (Begun s q lt on first) = refl
 assigning_abandons_none _ v _ (Continued s e lt on) = refl
 
 pub filling_abandons_none : (f : Format) (v : SenderView) (w : Wish) → IsReached f v → next_wish f v ≡ Some w → (gone w).abandoned ≡ v.abandoned
-filling_abandons_none f v w h next = after_wish (SameAbandoned v) f v w (is_set f v h).turn refl (λ u a. assigning_abandons_none f v u a) (λ u i same. same) next
+filling_abandons_none f v w h next = after_wish (SameAbandoned v) f v w refl (λ u a. assigning_abandons_none f v u a) (λ u i same. same) next
 
 pub sack_abandons_none : (v : SenderView) (x : SackMeaning) → (sack_after v x).abandoned ≡ v.abandoned
 sack_abandons_none v x = by_fault (is_some (sack_fault v x))

@@ -86,7 +86,7 @@ bounded_wish f v w k full h next =
     elim (wish_cases f v w next) [
       | inl r ↦ bounded_sent w.view w.index (subst (λ (x : SenderView). IsBounded x) (sym r.view) h) (let high = r.high in let same = ap (λ (x : SenderView). length x.plan.entries) r.view in omega arith)
       | inr r ↦
-          let u = assigned_cases f v w.view k.turn r.assigned in
+          let u = assigned_cases f v w.view r.assigned in
           bounded_sent w.view w.index (bounded_assigned f v w.view h u) (let at = r.index in let more = grown f v w.view full u in omega arith)
     ]
 

@@ -13,7 +13,8 @@ use Rattle.sctp_model.specs.sender.Queueing.{owed_for, owed_by_queue, owed_by_pa
 use Rattle.sctp_model.specs.sender.Assigning.{with_message, with_entry, is_on, first_on, without_first}
 use Rattle.sctp_model.specs.sender.Abandoning.{Name, given_up}
 use Rattle.sctp_model.specs.sender.Reached.{IsReached, Begins, Queues, Goes, Covers, Closes, Abandons, Repeats}
-use Rattle.sctp_model.proofs.sender.WordLaws.{sum-zero, sum-changed, found_is}
+use Rattle.sctp_model.proofs.sender.WordLaws.{sum-changed, found_is}
+pub use Rattle.sctp_model.proofs.sender.WordLaws.{sum-zero}
 use Rattle.sctp_model.proofs.sender.WishCases.{IsAssigned, Whole, Begun, Continued, after_wish}
 use Rattle.sctp_model.proofs.sender.AbandonCases.{after_abandon, after_end}
 use Rattle.sctp_model.proofs.sender.SetLaws.{is_set, AllFilled, is_filled, accepted}
@@ -21,6 +22,7 @@ use Rattle.sctp_model.proofs.sender.Bounds.{length-parts}
 use Rattle.sctp_model.proofs.sender.PlanLaws.{AllNamed, message_new, message_stays, continued_is, continued_new, continued_more}
 use Rattle.sctp_model.proofs.sender.CountLaws.{HasMessages, is_named, name_found, first_there}
 use Rattle.sctp_model.proofs.sender.PartLaws.{in_part_is, with_end, ended_here, ended_there}
+pub use Rattle.sctp_model.proofs.sender.PartLaws.{is_windowed}
 
 -- ---- a message in part gets its end mark
 
@@ -218,7 +220,7 @@ is_promised f _ (Queues v l p b u h free) =
     omega (arith, a.owed, owed_push v.queue (record { lane = l; message = record { ticket = suc v.tickets; payload = p; fragments = cut v.fragment b; until = u } }))
 is_promised f _ (Goes v room w h next may) =
     let k = is_promised f v h in
-    after_wish IsPromised f v w (is_set f v h).turn k (λ u a. let less = promised_assigned f v u (is_filled f v h) (is_named f v h) a in omega arith) (λ u i held. held) next
+    after_wish IsPromised f v w k (λ u a. let less = promised_assigned f v u (is_filled f v h) (is_named f v h) a in omega arith) (λ u i held. held) next
 is_promised f _ (Covers v x h none) = is_promised f v h
 is_promised f _ (Closes v x h none) = is_promised f v h
 is_promised f _ (Abandons v t h) =

@@ -1,18 +1,15 @@
 -- What every view that calls reach keeps: its constants; and of each message that waits, that it has a fragment and a stream that is there.
 use Rattle.std.proofs.Common.{◌≡◌, ℕ, zero, suc, ◌+◌, ◌*◌, ◌%◌, ◌<◌, ◌≤◌, List, [], ◌∷◌, ◌++◌, length, map, Bool, true, false, Option, Some, None, refl, subst, arith}
 use Rattle.std.specs.Prelude.{◌==◌, ◌/◌, nat_le, nat_lt, min, ◌||◌, if◌then◌else◌}
-use Rattle.std.specs.Int.{div_ceil}
-use Rattle.std.proofs.lemmas.List.{length-map}
 use Rattle.std.proofs.lemmas.Bool.Decides.{nat_tests}
 use Rattle.sctp_model.specs.Limits.{LONGEST_MESSAGE, QUEUE_LIMIT, TICKET_LIMIT, TSN_LIMIT}
 use Rattle.sctp_model.specs.Format.{Format}
 use Rattle.sctp_model.specs.SenderView.{Queued, SenderView}
-use Rattle.sctp_model.specs.sender.Words.{count_up}
-use Rattle.sctp_model.specs.sender.Queueing.{refusal, NoSuchStream, Empty, TooLong, QueueFull, Spent, fragment_of, cut, owed_for, promised}
+use Rattle.sctp_model.specs.sender.Queueing.{refusal, NoSuchStream, Empty, TooLong, QueueFull, Spent, cut, owed_for, promised}
 use Rattle.sctp_model.specs.sender.Assigning.{is_on, without_first}
 use Rattle.sctp_model.specs.sender.Abandoning.{without}
 use Rattle.sctp_model.specs.sender.Reached.{IsReached, Begins, Queues, Goes, Covers, Closes, Abandons, Repeats}
-use Rattle.sctp_model.proofs.sender.WordLaws.{length-count_up}
+use Rattle.sctp_model.proofs.sender.CutLaws.{cut_some}
 use Rattle.sctp_model.proofs.sender.WishCases.{IsAssigned, Whole, Begun, Continued, after_wish}
 use Rattle.sctp_model.proofs.sender.AbandonCases.{after_abandon}
 
@@ -33,7 +30,7 @@ is_set f _ (Begins i s b r p some large) = record { streams = some; fragment = l
 is_set f _ (Queues v l p b u h free) = let k = is_set f v h in record { streams = k.streams; fragment = k.fragment; turn = k.turn }
 is_set f _ (Goes v room w h next may) =
     let k = is_set f v h in
-    after_wish IsSet f v w k.turn k (λ u a. set_assigned f v u k a) (λ u i x. record { streams = x.streams; fragment = x.fragment; turn = x.turn }) next
+    after_wish IsSet f v w k (λ u a. set_assigned f v u k a) (λ u i x. record { streams = x.streams; fragment = x.fragment; turn = x.turn }) next
 is_set f _ (Covers v x h none) = let k = is_set f v h in record { streams = k.streams; fragment = k.fragment; turn = k.turn }
 is_set f _ (Closes v x h none) = let k = is_set f v h in record { streams = k.streams; fragment = k.fragment; turn = k.turn }
 is_set f _ (Abandons v t h) =
@@ -96,20 +93,6 @@ abbrev pub AllFilled : ℕ → List Queued → Type 0
 AllFilled n [] = Unit {0}
 AllFilled n (q ∷ qs) = ((0 < length q.message.fragments) × (q.lane.stream < n)) × AllFilled n qs
 
-pub length-cut : (size : ℕ) (bytes : List ℕ) → length (cut size bytes) ≡ div_ceil (length bytes) size
-length-cut size bytes = rw (length-map (count_up 0 (div_ceil (length bytes) size)) (fragment_of size bytes)) (length-count_up 0 (div_ceil (length bytes) size))
-
--- what has a byte takes a fragment
-ceil_some : (n size : ℕ) → 0 < n → 0 < size → 0 < n / size + min 1 (n % size)
-ceil_some n size some large = let whole : size * (n / size) + n % size ≡ n = omega arith in by_count (n / size) (n % size) whole
-  where
-    by_count : (x y : ℕ) → size * x + y ≡ n → 0 < x + min 1 y
-    by_count zero y is = let none : size * 0 ≡ 0 = omega arith in omega arith
-    by_count (suc x) y is = omega arith
-
-pub cut_some : (size : ℕ) (bytes : List ℕ) → 0 < size → 0 < length bytes → 0 < length (cut size bytes)
-cut_some size bytes large some = rw (length-cut size bytes) (ceil_some (length bytes) size some large)
-
 filled_push : (n : ℕ) (qs : List Queued) (q : Queued) → AllFilled n qs → 0 < length q.message.fragments → q.lane.stream < n → AllFilled n (qs ++ q ∷ [])
 filled_push n [] q h some there = ((some, there), tt)
 filled_push n (x ∷ qs) q h some there = (h.0, filled_push n qs q h.1 some there)
@@ -137,7 +120,7 @@ is_filled f _ (Begins i s b r p some large) = tt
 is_filled f _ (Queues v l p b u h free) =
     let a = accepted v l.stream b free in
     filled_push v.streams v.queue _ (is_filled f v h) (cut_some v.fragment b (is_set f v h).fragment a.some) a.there
-is_filled f _ (Goes v room w h next may) = after_wish IsQueueFilled f v w (is_set f v h).turn (is_filled f v h) (λ u a. filled_assigned f v u (is_filled f v h) a) (λ u i x. x) next
+is_filled f _ (Goes v room w h next may) = after_wish IsQueueFilled f v w (is_filled f v h) (λ u a. filled_assigned f v u (is_filled f v h) a) (λ u i x. x) next
 is_filled f _ (Covers v x h none) = is_filled f v h
 is_filled f _ (Closes v x h none) = is_filled f v h
 is_filled f _ (Abandons v t h) = let k = is_filled f v h in after_abandon IsQueueFilled v t k (λ on. filled_rest v.streams _ v.queue k) (λ n is kept. k)

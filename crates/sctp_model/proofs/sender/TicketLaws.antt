@@ -137,7 +137,7 @@ is_ticketed f _ (Begins i s b r p some large) = record { waiting = λ t is. absu
 is_ticketed f _ (Queues v l p b u h free) = ticketed_queued v _ (is_named f v h) refl (is_ticketed f v h)
 is_ticketed f _ (Goes v room w h next may) =
     let k = is_ticketed f v h in
-    after_wish IsTicketed f v w (is_set f v h).turn k (λ u a. ticketed_assigned f v u (is_filled f v h) (is_named f v h) k a) (λ u i x. record { waiting = x.waiting; apart = x.apart; owned = x.owned }) next
+    after_wish IsTicketed f v w k (λ u a. ticketed_assigned f v u (is_filled f v h) (is_named f v h) k a) (λ u i x. record { waiting = x.waiting; apart = x.apart; owned = x.owned }) next
 is_ticketed f _ (Covers v x h none) = let k = is_ticketed f v h in record { waiting = k.waiting; apart = k.apart; owned = k.owned }
 is_ticketed f _ (Closes v x h none) = let k = is_ticketed f v h in record { waiting = k.waiting; apart = k.apart; owned = k.owned }
 is_ticketed f _ (Abandons v t h) =

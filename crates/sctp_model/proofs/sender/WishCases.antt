@@ -8,7 +8,7 @@ use Rattle.sctp_model.specs.sender.Words.{first_there, lowest}
 use Rattle.sctp_model.specs.sender.Entries.{is_unsent, passes_at, continued}
 use Rattle.sctp_model.specs.sender.Assigning.{with_message, first_on, going_on, beginning, turn_of, turns, assigned}
 use Rattle.sctp_model.specs.sender.Filling.{Wish, standing, newcomer, next_wish, gone}
-use Rattle.sctp_model.proofs.sender.WordLaws.{answer_to, remainders_below, IsLowest, lowest_is}
+use Rattle.sctp_model.proofs.sender.WordLaws.{answer_to, in_turn, IsLowest, lowest_is}
 
 -- ---- what is assigned
 
@@ -31,11 +31,11 @@ turn_case v u s (Some e) q lt on first is = let same : going_on v s e ≡ u = cc
 turn_case v u s None (Some q) lt on first is = let same : beginning v s q ≡ u = cc in subst (λ (x : SenderView). IsAssigned v Interleaved x) same (Begun s q lt on first)
 turn_case v u s None None lt on first is = absurd (cc)
 
-pub assigned_cases : (f : Format) (v u : SenderView) → v.turn < v.streams → assigned f v ≡ Some u → IsAssigned v f u
-assigned_cases Plain v u lt is = whole_case v u v.queue refl is
-assigned_cases Interleaved v u lt is =
+pub assigned_cases : (f : Format) (v u : SenderView) → assigned f v ≡ Some u → IsAssigned v f u
+assigned_cases Plain v u is = whole_case v u v.queue refl is
+assigned_cases Interleaved v u is =
     let r = answer_to (turn_of v) (turns v) u is in
-    turn_case v u r.0 (continued v.plan r.0) (first_on r.0 v.queue) (remainders_below v.turn v.streams r.0 _ (omega arith) r.1) refl refl r.2
+    turn_case v u r.0 (continued v.plan r.0) (first_on r.0 v.queue) (in_turn v.turn v.streams r.0 r.1) refl refl r.2
 
 -- ---- the next wish
 
@@ -77,11 +77,11 @@ wish_cases f v w is = by_way w (wished_ways f v w is)
     by_way _ (New u marks unsent new) = inr (record { assigned = new; index = refl })
 
 -- What is so of a view is so of the one that a wish leaves, where it is so of what is assigned and of what is sent.
-pub after_wish : (P : SenderView → Type 0) (f : Format) (v : SenderView) (w : Wish) → v.turn < v.streams → P v → ((u : SenderView) → IsAssigned v f u → P u) → ((u : SenderView) (i : ℕ) → P u → P (gone (standing u i)))
+pub after_wish : (P : SenderView → Type 0) (f : Format) (v : SenderView) (w : Wish) → P v → ((u : SenderView) → IsAssigned v f u → P u) → ((u : SenderView) (i : ℕ) → P u → P (gone (standing u i)))
     → next_wish f v ≡ Some w → P (gone w)
-after_wish P f v w turn same assigned sent next = by_way w (wished_ways f v w next)
+after_wish P f v w same assigned sent next = by_way w (wished_ways f v w next)
   where
     by_way : (x : Wish) → IsWished f v x → P (gone x)
     by_way _ (Repeated i h) = sent v i same
     by_way _ (Unsent i marks h) = sent v i same
-    by_way _ (New u marks unsent new) = sent u (suc (length v.plan.entries)) (assigned u (assigned_cases f v u turn new))
+    by_way _ (New u marks unsent new) = sent u (suc (length v.plan.entries)) (assigned u (assigned_cases f v u new))

@@ -70,6 +70,11 @@ remainders_below t n s (d ∷ ds) some has =
       | inr later ↦ remainders_below t n s ds some later
     ]
 
+-- as many in turn as there are
+pub in_turn : (t n s : ℕ) → Has (map (λ d. (t + d) % n) (count_up 0 n)) s → s < n
+in_turn t zero s has = absurd has
+in_turn t (suc n) s has = remainders_below t (suc n) s (count_up 0 (suc n)) (omega arith) has
+
 -- ---- the lowest that passes
 
 pub record IsLowest (test : ℕ → Bool) (n i : ℕ) : Type 0 where
