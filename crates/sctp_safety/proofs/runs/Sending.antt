@@ -1,11 +1,12 @@
 -- What a sender's calls do to its direction.
-use Rattle.std.proofs.Common.{◌≡◌, ℕ, zero, suc, ◌^◌, ◌<◌, ◌≤◌, ◌⊎◌, true, nat_le, max, List, [], ◌∷◌, ◌++◌, length, map, Some, None, inl, inr, refl, sym, subst, ap, arith, ◌∙◌}
+use Rattle.std.proofs.Common.{◌≡◌, ℕ, zero, suc, ◌^◌, ◌<◌, ◌≤◌, ◌⊎◌, true, nat_le, max, List, [], ◌∷◌, ◌++◌, length, map, Option, Some, None, inl, inr, refl, sym, subst, ap, arith, ◌∙◌}
+use Rattle.std.specs.Prelude.{unwrap_or}
 use Rattle.std.proofs.lemmas.Bool.Decides.{nat_tests}
 use Rattle.sctp_model.specs.Lists.{Has, at}
 use Rattle.sctp_model.specs.Serial.{tsn}
 use Rattle.sctp_model.specs.Chunk.{SackMeaning, ChunkMeaning, Sack, Shutdown}
-use Rattle.sctp_model.specs.Format.{Format, Plain, Interleaved}
-use Rattle.sctp_model.specs.Plan.{Entry, Part}
+use Rattle.sctp_model.specs.Format.{Format, Plain, Interleaved, ordered_lane}
+use Rattle.sctp_model.specs.Plan.{Entry, Part, End}
 use Rattle.sctp_model.specs.Pieces.{Piece}
 use Rattle.sctp_model.specs.SenderView.{SenderView}
 use Rattle.sctp_model.specs.ReceiverView.{ReceiverView}
@@ -14,12 +15,14 @@ use Rattle.sctp_model.specs.Acknowledgement.{Acknowledgement, covers}
 use Rattle.sctp_model.specs.Calls.{Call, Asked}
 use Rattle.sctp_model.specs.sender.Queueing.{refusal, queued}
 use Rattle.sctp_model.specs.sender.Entries.{entry_message}
-use Rattle.sctp_model.specs.sender.Filling.{Wish, entry_or_none, wished, gone, Follows, IsFill}
+use Rattle.sctp_model.specs.sender.Filling.{Wish, wished, gone, Follows, IsFill}
 use Rattle.sctp_model.specs.sender.SackTaken.{sack_fault, sack_taken, shutdown_fault, shutdown_taken}
 use Rattle.sctp_model.specs.sender.SentChunks.{piece_said, chunk_of}
 use Rattle.sctp_model.specs.sender.Abandoning.{abandon_after, expired, timed_out}
 use Rattle.sctp_model.specs.sender.Reached.{IsReached, Queues, Goes, Covers, Closes, Abandons, Repeats}
-use Rattle.sctp_model.proofs.sender.Bounds.{is_set, is_bounded}
+use Rattle.sctp_model.proofs.sender.SetLaws.{is_set}
+use Rattle.sctp_model.proofs.sender.Bounds.{is_bounded}
+use Rattle.sctp_model.proofs.sender.FillLaws.{goes_parts}
 use Rattle.sctp_model.proofs.sender.AbandonedLaws.{expired_reached}
 use Rattle.sctp_safety.specs.Way.{Way, Tick}
 use Rattle.sctp_safety.specs.ReceiverLaws.{IsPieceSaid}
@@ -150,7 +153,7 @@ said_more f n a u r out back d xs says = record {
 
 follows_reached : (f : Format) (a : SenderView) (room : ℕ) (ws : List Wish) (b : SenderView) → IsReached f a → Follows f a room ws b → IsReached f b
 follows_reached f a room [] b h follows = subst (λ (x : SenderView). IsReached f x) (sym follows) h
-follows_reached f a room (w ∷ ws) b h (next, may, rest) = follows_reached f (gone w) _ ws b (Goes a room w h next may) rest
+follows_reached f a room (w ∷ ws) b h (first, rest) = let parts = goes_parts f room a w first in follows_reached f (gone w) _ ws b (Goes a room w h parts.0 parts.1) rest
 
 -- the chunk of a fragment that was put between the ends says it
 piece_is_said : (f : Format) (i : ℕ) (ps : List Piece) (w : Wish) → w.view.initial ≡ i → IsPut f ps w →
@@ -168,7 +171,7 @@ piece_is_said f i ps w initial p = record {
 }
   where
     entry : wished w ≡ Part p.lane p.number p.fragment
-    entry = ap entry_or_none p.here
+    entry = ap (λ (o : Option Entry). unwrap_or o (End (ordered_lane 0) 0)) p.here
 
     message : entry_message w.view.plan (wished w) ≡ Some p.message
     message = ap (entry_message w.view.plan) entry ∙ p.named
