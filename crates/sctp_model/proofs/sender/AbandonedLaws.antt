@@ -8,11 +8,10 @@ use Rattle.sctp_model.specs.SenderView.{Queued, SenderView}
 use Rattle.sctp_model.specs.sender.Words.{first_there, some_passes, count_up}
 use Rattle.sctp_model.specs.sender.Filling.{Wish, next_wish, gone}
 use Rattle.sctp_model.specs.sender.SackTaken.{sack_after, sack_fault, sack_taken, shutdown_after, shutdown_fault, shutdown_taken}
-use Rattle.sctp_model.specs.sender.Abandoning.{Name, waits, name_of, has_ticket, given_up, abandon_after, is_past, message_with, is_due, expire_one, expired, timed_out}
+use Rattle.sctp_model.specs.sender.Abandoning.{Name, waits, name_of, has_ticket, given_up, abandon_after, is_past, is_due, expire_one, expired, timed_out}
 use Rattle.sctp_model.specs.sender.Reached.{IsReached, Abandons}
 use Rattle.sctp_model.proofs.sender.WishCases.{IsAssigned, Whole, Begun, Continued, after_wish}
 use Rattle.sctp_model.proofs.sender.AbandonCases.{after_abandon, after_end, given_or_before}
-use Rattle.sctp_model.proofs.sender.SetLaws.{is_set}
 use Rattle.sctp_model.proofs.sender.OwnLaws.{found_owns}
 use Rattle.sctp_model.proofs.sender.TicketLaws.{is_ticketed}
 

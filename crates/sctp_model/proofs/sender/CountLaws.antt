@@ -1,18 +1,16 @@
 -- The counts of a view that calls reach: the window, and the TSNs assigned and owed.
-use Rattle.std.proofs.Common.{◌≡◌, ℕ, ◌<◌, inl, inr, List, [], ◌∷◌, ◌++◌, length, Bool, true, false, Option, Some, None, refl, sym, subst, arith, length-append}
+use Rattle.std.proofs.Common.{◌≡◌, ℕ, ◌<◌, inl, inr, List, [], ◌∷◌, ◌++◌, length, Bool, true, false, Some, refl, sym, subst, arith, length-append}
 use Rattle.std.specs.Prelude.{◌==◌, if◌then◌else◌, find, option_map}
-use Rattle.std.proofs.lemmas.Bool.{and_parts}
-use Rattle.std.proofs.lemmas.Bool.Decides.{nat_tests}
 use Rattle.sctp_model.specs.Format.{Format, Lane, same_lane}
 use Rattle.sctp_model.specs.Plan.{Message, Entry, End, Plan, parts_from}
 use Rattle.sctp_model.specs.SenderView.{Queued, SenderView}
-use Rattle.sctp_model.specs.sender.Entries.{entry_lane, entry_number, entry_message}
+use Rattle.sctp_model.specs.sender.Entries.{entry_message}
 use Rattle.sctp_model.specs.sender.Assigning.{with_message, with_entry, first_on}
-use Rattle.sctp_model.specs.sender.Abandoning.{Name, name_at, name_of, name_among, has_ticket, ended, given_up}
+use Rattle.sctp_model.specs.sender.Abandoning.{Name, name_at, name_among, has_ticket, ended, given_up}
 use Rattle.sctp_model.specs.sender.Reached.{IsReached, Begins, Queues, Goes, Covers, Closes, Abandons, Repeats}
 use Rattle.sctp_model.proofs.sender.WishCases.{IsAssigned, Whole, Begun, Continued, after_wish}
 use Rattle.sctp_model.proofs.sender.AbandonCases.{same_lane-self, lanes_same, after_abandon, after_end, given_or_before}
-use Rattle.sctp_model.proofs.sender.SetLaws.{is_set, AllFilled, is_filled}
+use Rattle.sctp_model.proofs.sender.SetLaws.{AllFilled, is_filled}
 use Rattle.sctp_model.proofs.sender.PlanLaws.{AllNamed, named_stays, named_append, named_parts, named_kept, continued_is}
 
 -- ---- each entry's message is there

@@ -1,5 +1,5 @@
 -- FILL: there is one; it is the list after which nothing may go; and the function computes it.
-use Rattle.std.proofs.Common.{◌≡◌, ℕ, zero, suc, ◌+◌, ◌-◌, ◌*◌, ◌/◌, ◌<◌, ◌≤◌, List, [], ◌∷◌, ◌++◌, length, Bool, true, false, Option, Some, None, refl, sym, ap, ◌∙◌, subst, arith, length-append}
+use Rattle.std.proofs.Common.{◌≡◌, ℕ, zero, suc, ◌+◌, ◌-◌, ◌*◌, ◌/◌, ◌<◌, ◌≤◌, List, [], ◌∷◌, ◌++◌, length, true, false, Option, Some, None, refl, sym, ap, ◌∙◌, subst, arith, length-append}
 use Rattle.std.specs.Prelude.{nat_le, fold, ◌&&◌, option_and_then}
 use Rattle.std.specs.Option.{option_map_or}
 use Rattle.std.proofs.lemmas.Bool.{and_parts}
@@ -9,7 +9,7 @@ use Rattle.sctp_model.specs.Format.{Format, Plain, Interleaved}
 use Rattle.sctp_model.specs.SenderView.{SenderView}
 use Rattle.sctp_model.specs.sender.Words.{when}
 use Rattle.sctp_model.specs.sender.Readers.{outstanding}
-use Rattle.sctp_model.specs.sender.Filling.{Wish, next_wish, is_let_flow, may_go, room_of, bytes_of_wish, goes, gone, Follows, IsFill, Fill, no_more, before_these, fill_at_most, fill}
+use Rattle.sctp_model.specs.sender.Filling.{Wish, next_wish, is_let_flow, may_go, room_of, bytes_of_wish, goes, gone, Follows, IsFill, no_more, before_these, fill_at_most, fill}
 use Rattle.sctp_model.proofs.sender.WordLaws.{when_there}
 
 -- ---- the wish that goes

@@ -17,7 +17,7 @@ use Rattle.sctp_model.proofs.sender.WordLaws.{sum-changed, found_is}
 pub use Rattle.sctp_model.proofs.sender.WordLaws.{sum-zero}
 use Rattle.sctp_model.proofs.sender.WishCases.{IsAssigned, Whole, Begun, Continued, after_wish}
 use Rattle.sctp_model.proofs.sender.AbandonCases.{after_abandon, after_end}
-use Rattle.sctp_model.proofs.sender.SetLaws.{is_set, AllFilled, is_filled, accepted}
+use Rattle.sctp_model.proofs.sender.SetLaws.{AllFilled, is_filled, accepted}
 use Rattle.sctp_model.proofs.sender.Bounds.{length-parts}
 use Rattle.sctp_model.proofs.sender.PlanLaws.{AllNamed, message_new, message_stays, continued_is, continued_new, continued_more}
 use Rattle.sctp_model.proofs.sender.CountLaws.{HasMessages, is_named, name_found, first_there}

@@ -1,23 +1,22 @@
 -- Tickets of a view that calls reach: each is of one message at most, and of one that was accepted.
 use Rattle.std.proofs.Common.{◌≡◌, ℕ, zero, suc, ◌<◌, ◌≤◌, List, [], ◌∷◌, ◌++◌, length, Bool, true, false, Option, Some, None, refl, sym, ap, ◌∙◌, subst, arith}
-use Rattle.std.specs.Prelude.{◌==◌, ◌||◌, if◌then◌else◌}
+use Rattle.std.specs.Prelude.{◌==◌, ◌||◌}
 use Rattle.std.specs.Option.{option_or}
 use Rattle.std.proofs.lemmas.Bool.Decides.{nat_tests}
 use Rattle.sctp_model.specs.Format.{Format, Lane}
 use Rattle.sctp_model.specs.Plan.{Entry, Part, End, Plan, parts_from}
 use Rattle.sctp_model.specs.SenderView.{Queued, SenderView}
-use Rattle.sctp_model.specs.sender.Words.{when}
 use Rattle.sctp_model.specs.sender.Entries.{entry_lane, entry_number, entry_message}
 use Rattle.sctp_model.specs.sender.Assigning.{with_message, with_entry, is_on, without_first}
-use Rattle.sctp_model.specs.sender.Abandoning.{Name, waits, without, name_of, name_among, has_ticket, ended, given_up}
+use Rattle.sctp_model.specs.sender.Abandoning.{Name, waits, without, name_of, name_among, has_ticket, given_up}
 use Rattle.sctp_model.specs.sender.Reached.{IsReached, Begins, Queues, Goes, Covers, Closes, Abandons, Repeats}
 use Rattle.sctp_model.proofs.sender.WishCases.{IsAssigned, Whole, Begun, Continued, after_wish}
 use Rattle.sctp_model.proofs.sender.AbandonCases.{after_abandon, after_end}
-use Rattle.sctp_model.proofs.sender.SetLaws.{is_set, AllFilled, is_filled}
+use Rattle.sctp_model.proofs.sender.SetLaws.{AllFilled, is_filled}
 use Rattle.sctp_model.proofs.sender.PlanLaws.{message_new, message_stays, continued_is}
 use Rattle.sctp_model.proofs.sender.CountLaws.{HasMessages, is_named}
 use Rattle.sctp_model.proofs.sender.OwnLaws.{Owns, AllOwn, name_among-append, name_among-same, name_among-stays, name_among-parts, own_push, all_own_push, all_own_append, some_first, latest_owns}
-use Rattle.sctp_model.proofs.sender.QueueLaws.{AreApart, IsTaken, taken_head, taken_first, self_same, apart_tests, right_or, fewer_without, apart_without, apart_push}
+use Rattle.sctp_model.proofs.sender.QueueLaws.{AreApart, IsTaken, taken_head, taken_first, apart_tests, fewer_without, apart_without, apart_push}
 pub use Rattle.sctp_model.proofs.sender.OwnLaws.{found_owns}
 pub use Rattle.sctp_model.proofs.sender.QueueLaws.{waits_push}
 

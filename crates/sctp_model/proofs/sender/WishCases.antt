@@ -1,5 +1,5 @@
 -- What the next wish is: the lowest index to be repeated, or the lowest that never went out, or what is assigned next; and what may be assigned.
-use Rattle.std.proofs.Common.{◌≡◌, ℕ, suc, ◌<◌, ◌≤◌, ◌⊎◌, inl, inr, List, [], ◌∷◌, length, drop, Option, Some, None, refl, subst, arith}
+use Rattle.std.proofs.Common.{◌≡◌, ℕ, suc, ◌<◌, ◌≤◌, ◌⊎◌, inl, inr, List, [], ◌∷◌, length, drop, Option, Some, None, refl, subst}
 use Rattle.std.specs.Prelude.{slice_get, option_map}
 use Rattle.sctp_model.specs.Format.{Format, Plain, Interleaved}
 use Rattle.sctp_model.specs.Plan.{Entry}

@@ -1,6 +1,6 @@
 -- What the sender's words say: which of several is there, what a search finds, how a sum changes.
-use Rattle.std.proofs.Common.{◌≡◌, ℕ, zero, suc, ◌+◌, ◌%◌, ◌<◌, ◌≤◌, ◌⊎◌, inl, inr, List, [], ◌∷◌, ◌++◌, length, map, Bool, true, false, Option, Some, None, refl, sym, ap, ◌∙◌, subst, arith}
-use Rattle.std.specs.Prelude.{◌==◌, if◌then◌else◌, slice_get, fold, find, option_map}
+use Rattle.std.proofs.Common.{◌≡◌, ℕ, zero, suc, ◌+◌, ◌%◌, ◌<◌, ◌≤◌, ◌⊎◌, inl, inr, List, [], ◌∷◌, ◌++◌, length, map, Bool, true, false, Option, Some, None, refl, ap, ◌∙◌, subst, arith}
+use Rattle.std.specs.Prelude.{◌==◌, if◌then◌else◌, fold, find}
 use Rattle.std.specs.Option.{option_or}
 use Rattle.std.proofs.lemmas.Bool.Decides.{nat_tests}
 use Rattle.sctp_model.specs.Lists.{Has}
@@ -100,7 +100,7 @@ lowest_is test (suc n) i is =
     elim (of_two (lowest test n) (when (test (suc n)) (suc n)) i is) [
       | inl before ↦ let r = lowest_is test n i before in let hi = r.within in record { some = r.some; within = omega arith; passes = r.passes; first = r.first }
       | inr last ↦ let on = when_there (test (suc n)) (suc n) i last.1 in
-        subst (λ (x : ℕ). IsLowest test (suc n) x) on.1 (record { some = omega arith; within = omega arith; passes = on.0; first = λ j lo hi. none_lowest test n last.0 j lo (omega arith) })
+          subst (λ (x : ℕ). IsLowest test (suc n) x) on.1 (record { some = omega arith; within = omega arith; passes = on.0; first = λ j lo hi. none_lowest test n last.0 j lo (omega arith) })
     ]
 
 -- where none passes, none is found

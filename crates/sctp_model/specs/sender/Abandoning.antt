@@ -101,9 +101,9 @@ is_past now m = some_passes (λ until. nat_le until now) m.until
 -- the message with this ticket, whether it waits or has a number
 abbrev pub message_with : SenderView → (ticket : ℕ) → Option Message
 message_with v t = first_there (
-  option_map (λ q. q.message) (find (λ q. q.message.ticket == t) v.queue)
-  ∷ option_and_then (λ n. message_at v.plan n.lane n.number) (name_of v t)
-  ∷ [])
+    option_map (λ q. q.message) (find (λ q. q.message.ticket == t) v.queue)
+    ∷ option_and_then (λ n. message_at v.plan n.lane n.number) (name_of v t)
+    ∷ [])
 
 -- that message is past its time
 abbrev pub is_due : SenderView → (now ticket : ℕ) → Bool

@@ -1,5 +1,5 @@
 -- What goes into a packet: one wish after the other, as long as room, flow and window allow (RFC 9260, 6.1 and 6.3.3).
-use Rattle.std.specs.Prelude.{◌≡◌, ℕ, zero, suc, ◌+◌, ◌-◌, ◌==◌, ◌≤◌, nat_le, if◌then◌else◌, Bool, true, false, not, ◌&&◌, ◌||◌, List, [], ◌∷◌, length, drop, filter_map, Option, None, Some, unwrap_or, option_map, option_and_then}
+use Rattle.std.specs.Prelude.{◌≡◌, ℕ, zero, suc, ◌+◌, ◌-◌, ◌==◌, ◌≤◌, nat_le, Bool, true, false, ◌&&◌, ◌||◌, List, [], ◌∷◌, length, drop, filter_map, Option, Some, unwrap_or, option_map, option_and_then}
 use Rattle.std.specs.Option.{option_map_or}
 use Rattle.sctp_model.specs.Limits.{WINDOW}
 use Rattle.sctp_model.specs.Lists.{at}
@@ -9,7 +9,7 @@ use Rattle.sctp_model.specs.Plan.{Entry, Part, End, Plan, entry_at}
 use Rattle.sctp_model.specs.SenderView.{SenderView}
 use Rattle.sctp_model.specs.Framing.{data_chunk}
 use Rattle.sctp_model.specs.sender.Words.{when, first_there, lowest}
-use Rattle.sctp_model.specs.sender.Entries.{entry_message, entry_bytes, entry_fragment, is_unsent, passes_at, in_flight}
+use Rattle.sctp_model.specs.sender.Entries.{entry_message, entry_bytes, is_unsent, passes_at, in_flight}
 use Rattle.sctp_model.specs.sender.Assigning.{assigned}
 use Rattle.sctp_model.specs.sender.Readers.{outstanding}
 use Rattle.sctp_model.specs.sender.PieceSaid.{piece_said}
@@ -32,10 +32,10 @@ newcomer v u = record { index = suc (length v.plan.entries); view = u }
 -- The first that there is: the lowest index to be repeated; the lowest that never went out; what is assigned next.
 abbrev pub next_wish : Format → SenderView → Option Wish
 next_wish f v = first_there (
-  option_map (standing v) (lowest v.marked (length v.plan.entries))
-  ∷ option_map (standing v) (lowest (passes_at v.plan (is_unsent v)) (length v.plan.entries))
-  ∷ option_map (newcomer v) (assigned f v)
-  ∷ [])
+    option_map (standing v) (lowest v.marked (length v.plan.entries))
+    ∷ option_map (standing v) (lowest (passes_at v.plan (is_unsent v)) (length v.plan.entries))
+    ∷ option_map (newcomer v) (assigned f v)
+    ∷ [])
 
 -- ---- its chunk
 

@@ -49,12 +49,12 @@ pub data Refusal : Type 0 where
 -- The first of these reasons that holds.
 abbrev pub refusal : SenderView → (stream : ℕ) → (bytes : List ℕ) → Option Refusal
 refusal v stream bytes = first_there (
-  when (nat_le v.streams stream) NoSuchStream
-  ∷ when (length bytes == 0) Empty
-  ∷ when (nat_lt LONGEST_MESSAGE (length bytes)) TooLong
-  ∷ when (nat_le QUEUE_LIMIT (length v.queue)) QueueFull
-  ∷ when (nat_le TICKET_LIMIT v.tickets || nat_lt TSN_LIMIT (promised v + owed_for (length (cut v.fragment bytes)))) Spent
-  ∷ [])
+    when (nat_le v.streams stream) NoSuchStream
+    ∷ when (length bytes == 0) Empty
+    ∷ when (nat_lt LONGEST_MESSAGE (length bytes)) TooLong
+    ∷ when (nat_le QUEUE_LIMIT (length v.queue)) QueueFull
+    ∷ when (nat_le TICKET_LIMIT v.tickets || nat_lt TSN_LIMIT (promised v + owed_for (length (cut v.fragment bytes)))) Spent
+    ∷ [])
 
 -- the message of the next ticket: tickets are 1, 2, 3, ..
 abbrev pub new_message : SenderView → (payload : ℕ) → (bytes : List ℕ) → (until : Option ℕ) → Message

@@ -53,10 +53,10 @@ sack_covers c blocks = covers (record { cum = c; blocks = blocks })
 -- The first of these faults that it has.
 abbrev pub sack_fault : SenderView → SackMeaning → Option SackFault
 sack_fault v x = first_there (
-  when (is_stale v x.cumulative) Stale
-  ∷ when (is_beyond v (index_of v x.cumulative) x.blocks) Beyond
-  ∷ when (some_is_bad 0 x.blocks) BadBlock
-  ∷ [])
+    when (is_stale v x.cumulative) Stale
+    ∷ when (is_beyond v (index_of v x.cumulative) x.blocks) Beyond
+    ∷ when (some_is_bad 0 x.blocks) BadBlock
+    ∷ [])
 
 -- the view that has taken it
 abbrev pub sack_taken : SenderView → SackMeaning → SenderView
