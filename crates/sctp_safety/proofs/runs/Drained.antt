@@ -1,16 +1,19 @@
 -- A drained sender stays drained: it takes no index, and nothing of it is left to be given up. Only `send` could undo that.
-use Rattle.std.proofs.Common.{◌≡◌, ℕ, zero, suc, ◌<◌, ◌⊎◌, Bool, true, false, List, [], ◌∷◌, ◌++◌, Some, inl, inr, append-nil, sym, subst, ap, if◌then◌else◌}
+use Rattle.std.proofs.Common.{◌≡◌, ℕ, ◌<◌, ◌⊎◌, Bool, true, false, List, [], ◌∷◌, Some, inl, inr, sym, subst, ap, if◌then◌else◌}
+use Rattle.std.specs.Prelude.{fold}
 use Rattle.sctp_model.specs.Format.{Format}
-use Rattle.sctp_model.specs.Plan.{Entry, End}
+use Rattle.sctp_model.specs.Plan.{Entry, Plan}
 use Rattle.sctp_model.specs.SenderView.{Queued, SenderView}
-use Rattle.sctp_model.specs.sender.Entries.{is_entry_of, is_in_part}
-use Rattle.sctp_model.specs.sender.Filling.{Wish, next_wish, gone, Follows, fill, first_on}
-use Rattle.sctp_model.specs.sender.Abandoning.{Name, waits, given_up, abandon_after, is_due, expired_one, expired_up_to, expired, timed_out}
+use Rattle.sctp_model.specs.sender.Words.{some_passes, count_up}
+use Rattle.sctp_model.specs.sender.Entries.{is_of, is_in_part}
+use Rattle.sctp_model.specs.sender.Assigning.{first_on}
+use Rattle.sctp_model.specs.sender.Filling.{Wish, next_wish, gone, Follows, fill}
+use Rattle.sctp_model.specs.sender.Abandoning.{Name, waits, given_up, abandon_after, is_due, expire_one, expired, timed_out}
 use Rattle.sctp_model.specs.sender.Readers.{drained}
 use Rattle.sctp_model.specs.sender.Reached.{IsReached, Goes, Abandons}
-use Rattle.sctp_model.proofs.sender.Bounds.{is_set}
-use Rattle.sctp_model.proofs.sender.CountLaws.{name_found, after_abandon, is_named}
-use Rattle.sctp_model.proofs.sender.FillLaws.{fill_is_fill}
+use Rattle.sctp_model.proofs.sender.AbandonCases.{after_abandon, after_end}
+use Rattle.sctp_model.proofs.sender.CountLaws.{name_found, is_named}
+use Rattle.sctp_model.proofs.sender.FillLaws.{fill_is_fill, goes_parts}
 use Rattle.sctp_model.proofs.sender.WishCases.{IsAssigned, Whole, Begun, Continued, assigned_cases, IsRepeat, IsNew, wish_cases}
 use Rattle.sctp_safety.proofs.runs.Arrived.{IsEmpty, drained_is}
 
@@ -27,12 +30,13 @@ drained_goes f v w h empty next = go (wish_cases f v w next)
   where
     go : IsRepeat v w ⊎ IsNew f v w → drained (gone w) ≡ true
     go (inl r) = subst (λ (u : SenderView). drained u ≡ true) (sym r.view) empty
-    go (inr n) = absurd (none_assigned f v w.view (drained_is v empty) (assigned_cases f v w.view (is_set f v h).turn n.assigned))
+    go (inr n) = absurd (none_assigned f v w.view (drained_is v empty) (assigned_cases f v w.view n.assigned))
 
 drained_follows : (f : Format) (v : SenderView) (room : ℕ) (ws : List Wish) (u : SenderView) → IsReached f v → drained v ≡ true → Follows f v room ws u → drained u ≡ true
 drained_follows f v room [] u h empty same = subst (λ (x : SenderView). drained x ≡ true) (sym same) empty
-drained_follows f v room (w ∷ ws) u h empty (next, may, rest) =
-    drained_follows f (gone w) _ ws u (Goes v room w h next may) (drained_goes f v w h empty next) rest
+drained_follows f v room (w ∷ ws) u h empty (first, rest) =
+    let parts = goes_parts f room v w first in
+    drained_follows f (gone w) _ ws u (Goes v room w h parts.0 parts.1) (drained_goes f v w h empty parts.0) rest
 
 pub drained_fill : (f : Format) (room : ℕ) (v : SenderView) → IsReached f v → drained v ≡ true → drained (fill f room v).view ≡ true
 drained_fill f room v h empty = drained_follows f v room (fill f room v).wishes (fill f room v).view h empty (fill_is_fill f room v).follows
@@ -40,17 +44,10 @@ drained_fill f room v h empty = drained_follows f v room (fill f room v).wishes 
 -- ---- giving up
 
 drained_given : (v : SenderView) (n : Name) → n.lane.stream < v.streams → drained v ≡ true → drained (given_up v n) ≡ true
-drained_given v n lt empty =
-    let idle = (drained_is v empty).idle n.lane.stream lt in
-    let off : is_in_part v n.lane n.number ≡ false = ap (is_entry_of n.lane n.number) idle in
-    go (is_in_part v n.lane n.number) off
+drained_given v n lt empty = after_end (λ (p : Plan). drained (record v { plan = p }) ≡ true) v n (λ off. empty) (λ on. absurd (let quiet = off in cc))
   where
-    with_entries : List Entry → Bool
-    with_entries es = drained (record v { plan = record v.plan { entries = es } })
-
-    go : (b : Bool) → b ≡ false → with_entries (v.plan.entries ++ (if b then End n.lane n.number ∷ [] else [])) ≡ true
-    go true e = absurd (cc)
-    go false e = subst (λ (es : List Entry). with_entries es ≡ true) (sym (append-nil v.plan.entries)) empty
+    off : is_in_part v n.lane n.number ≡ false
+    off = ap (some_passes (is_of n.lane n.number)) ((drained_is v empty).idle n.lane.stream lt)
 
 pub drained_abandoned : (f : Format) (v : SenderView) (t : ℕ) → IsReached f v → drained v ≡ true → drained (abandon_after v t) ≡ true
 drained_abandoned f v t h empty =
@@ -62,19 +59,16 @@ drained_abandoned f v t h empty =
 abbrev IsDry : Format → SenderView → Type 0
 IsDry f v = IsReached f v × (drained v ≡ true)
 
-expires_dry : (f : Format) (v : SenderView) (now t : ℕ) → IsDry f v → IsDry f (expired_up_to v now t)
-expires_dry f v now zero h = h
-expires_dry f v now (suc t) h = one (expired_up_to v now t) (expires_dry f v now t h)
+expires_dry : (f : Format) (v : SenderView) (now : ℕ) (ts : List ℕ) → IsDry f v → IsDry f (fold (expire_one now) v ts)
+expires_dry f v now [] dry = dry
+expires_dry f v now (t ∷ ts) (reached, empty) = expires_dry f (expire_one now v t) now ts (one (is_due v now t))
   where
-    one : (u : SenderView) → IsDry f u → IsDry f (expired_one u now (suc t))
-    one u (reached, empty) = go (is_due u now (suc t))
-      where
-        go : (b : Bool) → IsDry f (if b then abandon_after u (suc t) else u)
-        go true = (Abandons u (suc t) reached, drained_abandoned f u (suc t) reached empty)
-        go false = (reached, empty)
+    one : (b : Bool) → IsDry f (if b then abandon_after v t else v)
+    one true = (Abandons v t reached, drained_abandoned f v t reached empty)
+    one false = (reached, empty)
 
 pub drained_expired : (f : Format) (v : SenderView) (now : ℕ) → IsReached f v → drained v ≡ true → drained (expired v now) ≡ true
-drained_expired f v now h empty = (expires_dry f v now v.tickets (h, empty)).1
+drained_expired f v now h empty = (expires_dry f v now (count_up 1 v.tickets) (h, empty)).1
 
 pub drained_timed_out : (v : SenderView) → drained v ≡ true → drained (timed_out v) ≡ true
 drained_timed_out v empty = empty
