@@ -26,3 +26,4 @@ mod Ending
 mod EndingActs
 mod EndingBuilds
 mod EndingTimes
+mod Pairs

@@ -3,8 +3,13 @@
 use Rattle.std.specs.Prelude.{List}
 use Rattle.sctp_model.specs.World.{World, Setup}
 use Rattle.sctp_model.specs.Events.{Event}
-use Rattle.sctp_model.specs.Premises.{IsReachable, IsSafeWorld}
+use Rattle.sctp_model.specs.Premises.{IsReachable, IsSafeWorld, IsClosedWorld}
 
 -- Both directions are safe in every world that a run reaches. The beginning of a run is a run, so this is each world of each run.
 abbrev pub TwoEndsAreSafe : Type 0
 TwoEndsAreSafe = (s : Setup) (events : List Event) (w : World) → IsReachable s events w → IsSafeWorld w
+
+-- And in every such world: where either end has completed its association, no message with an index is missing, in either direction. Each was handed over
+-- to the peer's user, or waits for it, or was abandoned by its sender (RFC 9260, 9.2).
+abbrev pub NothingIsMissing : Type 0
+NothingIsMissing = (s : Setup) (events : List Event) (w : World) → IsReachable s events w → IsClosedWorld w

@@ -22,7 +22,7 @@ pub use exact::{
 };
 pub use laws::{skip_law, whole_law};
 pub use safety::{orderly_over_every_run, safe_over_every_run};
-pub use two_ends::two_ends_are_safe;
+pub use two_ends::{nothing_is_missing_once_completed, two_ends_are_safe};
 pub use worlds::{
     a_message_arrives, every_event_is_answered, safe_in_every_run, safe_in_every_world,
 };

@@ -5,8 +5,9 @@ use Rattle.sctp_model.specs.Chunk.{ChunkMeaning, CookieEcho}
 use Rattle.sctp_model.specs.Packet.{Packet}
 use Rattle.sctp_model.specs.Places.{ArePlaced}
 use Rattle.sctp_model.specs.end.Sealing.{Body, Sealing}
-use Rattle.sctp_model.specs.end.EndView.{Phase, Listening, EndView, has_association}
-use Rattle.sctp_model.specs.end.Opening.{begun}
+use Rattle.sctp_model.specs.end.EndView.{Established, Open, Phase, Listening, EndView, has_association}
+use Rattle.sctp_model.specs.end.Opening.{begun, joined, terms_of_body, tags_of_body}
+use Rattle.sctp_model.specs.end.Clock.{turned}
 use Rattle.sctp_model.specs.end.Strays.{Verdict}
 use Rattle.sctp_model.specs.end.Arriving.{AllAct, Arrives, NotOurs, Stray, Begins, Heard}
 use Rattle.sctp_model.specs.end.Arriving.{Elsewhere as WrongPorts}
@@ -25,13 +26,14 @@ use Rattle.sctp_safety.proofs.machine.Turns.{builds_plain}
 use Rattle.sctp_safety.proofs.machine.TurnsOfTime.{plain_ticked, plain_abandoned, plain_taken, plain_shut, plain_aborted}
 use Rattle.sctp_safety.proofs.runs.Bags.{chunks_in, chunk_of_bag}
 use Rattle.sctp_safety.proofs.runs.Fronts.{front_is_placed}
-use Rattle.sctp_safety.proofs.runs.Pair.{AreOpening, IsMet, turned_round}
-use Rattle.sctp_safety.proofs.runs.Acted.{chunks_keep}
+use Rattle.sctp_safety.proofs.runs.Pair.{AreOpening}
+use Rattle.sctp_safety.proofs.runs.Homes.{IsHome, home_turned}
+use Rattle.sctp_safety.proofs.runs.Pairs.{IsPair, pair_round, pair_acts}
 use Rattle.sctp_safety.proofs.runs.Answers.{OpensOrEnds, answer_opens}
 use Rattle.sctp_safety.proofs.runs.Brought.{ComesFrom, comes_from, unmet_arrives}
 use Rattle.sctp_safety.proofs.runs.Unmet.{IsUnmet}
 use Rattle.sctp_safety.proofs.runs.Waiting.{waits_ticked, waits_built, waits_abandoned, waits_taken, waits_shut, waits_aborted, waits_called, waits_longer}
-use Rattle.sctp_safety.proofs.runs.Meeting.{ends_meet}
+use Rattle.sctp_safety.proofs.runs.Meeting.{IsUnclosed, unmet_unclosed, ends_meet}
 use Rattle.sctp_safety.proofs.runs.MetWorld.{Before, IsMetWorld, told_of, only_came}
 use Rattle.sctp_safety.proofs.runs.MetSteps.{AreStrangers, stranger_stays}
 use Rattle.sctp_safety.proofs.runs.ApartWorld.{Stands, IsApartWorld, apart_end, apart_same, apart_came, apart_log, apart_packet, apart_verdict, apart_abort, now_unmet, stands_on, stands_now, apart_sent, AreSetUp, some_fragment, opened_meet}
@@ -72,7 +74,7 @@ module _ (s : Setup) (drawn : List ℕ) (w : World) (opening : IsOpening s drawn
   meets : (p q : Packet) (b : Body) (t : EndView) (v : Verdict) → Has w.from_a q → IsWithin p.chunks q.chunks → IsFound (end_now w B) p.tag p.chunks b →
       AllAct p.tag (begun b (end_now w B)) true (drop 1 p.chunks) t v → Before w B t
   meets p q b t v has within found acts =
-      (all_act_keeps p.tag _ _ _ (chunks_keep w.a (asked_at w B) (asked_at w A) (chunks_in w.from_b) (chunks_in w.from_a) p.tag) (begun b (end_now w B)) true (drop 1 p.chunks) t v
+      (all_act_keeps p.tag _ _ _ (pair_acts w.a (asked_at w B) (asked_at w A) (chunks_in w.from_b) (chunks_in w.from_a) p.tag) (begun b (end_now w B)) true (drop 1 p.chunks) t v
       (λ y h. chunk_of_bag w.from_a q y has (within y (has-drop p.chunks y h))) start acts).0
     where
       echo : Has q.chunks (CookieEcho found.cookie)
@@ -81,13 +83,25 @@ module _ (s : Setup) (drawn : List ℕ) (w : World) (opening : IsOpening s drawn
       ours : s.sealing.opened found.cookie ≡ Some b
       ours = subst (λ (z : Sealing). z.opened found.cookie ≡ Some b) (opening.one_seal B found.seal found.role) found.opens
 
-      start : IsMet (begun b (end_now w B)) w.a (asked_at w B) (asked_at w A) (chunks_in w.from_b) (chunks_in w.from_a)
+      turned_home : IsHome (turned (Open (tags_of_body b) Established) (joined (terms_of_body b) b.rwnd (end_now w B)))
+      turned_home = home_turned (Open (tags_of_body b) Established) (joined (terms_of_body b) b.rwnd (end_now w B))
+
+      begun_unclosed : IsUnclosed (begun b (end_now w B))
+      begun_unclosed = record {
+        home = record { shutdown = turned_home.shutdown; ack = turned_home.ack; shutdown_runs = turned_home.shutdown_runs; ack_runs = turned_home.ack_runs };
+        early = refl;
+        untold = refl;
+        uncompleted = λ is. absurd (cc);
+      }
+
+      start : IsPair (begun b (end_now w B)) w.a (asked_at w B) (asked_at w A) (chunks_in w.from_b) (chunks_in w.from_a)
       start =
           let fits = opening.cookies k.listens q found.cookie b has echo ours in
-          turned_round w.a (begun b (end_now w B)) (asked_at w A) (asked_at w B) (chunks_in w.from_a) (chunks_in w.from_b)
+          pair_round w.a (begun b (end_now w B)) (asked_at w A) (asked_at w B) (chunks_in w.from_a) (chunks_in w.from_b)
           (ends_meet w.a (begun b (end_now w B)) (asked_at w A) (asked_at w B) (chunks_in w.from_a) (chunks_in w.from_b) (k.calls A) (k.calls B)
           (k.ends A).blank (record { rwnd = b.rwnd; sender = refl; receiver = refl }) fits.1 fits.0 refl
-          (k.ends A).moment (now_unmet w B k).moment (some_fragment s w A set) (some_fragment s w B set) (k.opening A) (k.opening B))
+          (k.ends A).moment (now_unmet w B k).moment (some_fragment s w A set) (some_fragment s w B set) (k.opening A) (k.opening B)
+          (unmet_unclosed w.clock w.a (k.ends A)) begun_unclosed)
 
   listener_hears : (p q : Packet) (t : EndView) (v : Verdict) → Has w.from_a q → IsWithin p.chunks q.chunks → Arrives (end_now w B) w.draw p t v → (t ≡ end_now w B) ⊎ Before w B t
   listener_hears p q t v has within (WrongPorts ports) = inl refl

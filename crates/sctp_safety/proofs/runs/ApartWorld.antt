@@ -22,7 +22,7 @@ use Rattle.sctp_safety.proofs.runs.Pair.{opens_or_ends, AreOpening}
 use Rattle.sctp_safety.proofs.runs.Answers.{OpensOrEnds, one_opening}
 use Rattle.sctp_safety.proofs.runs.Unmet.{IsUnmet}
 use Rattle.sctp_safety.proofs.runs.Waiting.{waits_now, nothing_sent}
-use Rattle.sctp_safety.proofs.runs.Meeting.{ends_meet}
+use Rattle.sctp_safety.proofs.runs.Meeting.{IsUnclosed, ends_meet}
 use Rattle.sctp_safety.proofs.runs.MetWorld.{IsMetWorld}
 
 -- the listener is just that
@@ -191,6 +191,14 @@ opened_agree s w x y c = record {
     some = subst (λ (k : Configuration). 0 < min k.outbound k.inbound) (sym (c.alike A))
         (let o = (c.within A).outbound.0 in let i = (c.within A).inbound.0 in omega (arith, o, i))
 
+opened_unclosed : (c : Configuration) (own peer : Draw) → IsUnclosed (opened c own peer)
+opened_unclosed c own peer = record {
+  home = record { shutdown = λ on. absurd (cc); ack = λ on. absurd (cc); shutdown_runs = λ n on. absurd (cc); ack_runs = λ n on. absurd (cc) };
+  early = refl;
+  untold = refl;
+  uncompleted = λ is. absurd (cc);
+}
+
 pub opened_meet : (s : Setup) (w : World) (x y : Draw) → AreSetUp s w → IsApartWorld w →
     IsMetWorld (record w { a = opened w.a.configuration x y; b = opened w.b.configuration y x; openable = false })
 opened_meet s w x y c k = record {
@@ -198,5 +206,5 @@ opened_meet s w x y c k = record {
   met = ends_meet (opened w.a.configuration x y) (opened w.b.configuration y x) (asked_at w A) (asked_at w B) (chunks_in w.from_a) (chunks_in w.from_b)
       (k.calls A) (k.calls B)
       (record { rwnd = w.a.configuration.buffer; sender = refl; receiver = refl }) (record { rwnd = w.b.configuration.buffer; sender = refl; receiver = refl })
-      (opened_agree s w x y c) refl refl (omega arith) (omega arith) (some_fragment s w A c) (some_fragment s w B c) (k.opening A) (k.opening B);
+      (opened_agree s w x y c) refl refl (omega arith) (omega arith) (some_fragment s w A c) (some_fragment s w B c) (k.opening A) (k.opening B) (opened_unclosed w.a.configuration x y) (opened_unclosed w.b.configuration y x);
 }

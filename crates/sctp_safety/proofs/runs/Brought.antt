@@ -1,10 +1,8 @@
 -- A packet that comes to one of two ends that have met, or to one that isn't open, from whom it may.
-use Rattle.std.proofs.Common.{◌≡◌, ℕ, ◌⊎◌, true, false, List, Some, inl, inr, refl, subst}
-use Rattle.sctp_model.specs.Lists.{Has, IsWithin}
-use Rattle.sctp_model.specs.Chunk.{ChunkMeaning}
+use Rattle.std.proofs.Common.{◌≡◌, ℕ, ◌⊎◌, true, false, Some, inl, inr, refl, subst}
+use Rattle.sctp_model.specs.Lists.{Has}
 use Rattle.sctp_model.specs.Packet.{Packet}
 use Rattle.sctp_model.specs.Places.{ArePlaced}
-use Rattle.sctp_model.specs.Calls.{Asked}
 use Rattle.sctp_model.specs.end.EndView.{Draw, Phase, Listening, EndView}
 use Rattle.sctp_model.specs.end.Strays.{Verdict}
 use Rattle.sctp_model.specs.end.Arriving.{Arrives, Elsewhere, NotOurs, Stray, Begins, Heard}
@@ -15,8 +13,7 @@ use Rattle.sctp_safety.specs.States.{has_agreed}
 use Rattle.sctp_safety.proofs.machine.EndWords.{all_act_keeps}
 use Rattle.sctp_safety.proofs.machine.Strangers.{found_is}
 use Rattle.sctp_safety.proofs.runs.Bags.{item_is_in}
-use Rattle.sctp_safety.proofs.runs.Pair.{AreOpening, IsMet}
-use Rattle.sctp_safety.proofs.runs.Acted.{chunks_keep}
+use Rattle.sctp_safety.proofs.runs.Pair.{AreOpening}
 use Rattle.sctp_safety.proofs.runs.Unmet.{IsUnmet, openings_keep}
 
 -- ---- from whom
@@ -32,18 +29,8 @@ comes_from w e x p (FromStranger _ _ placed) = inr (refl, placed)
 
 -- ---- two ends that have met
 
-listens_not : (h : Phase) → h ≡ Listening → has_agreed h ≡ true → ⊥
+pub listens_not : (h : Phase) → h ≡ Listening → has_agreed h ≡ true → ⊥
 listens_not h is agreed = let q : false ≡ true = subst (λ (k : Phase). has_agreed k ≡ true) is agreed in absurd (cc)
-
--- A packet of the peer's chunks keeps both directions.
-pub met_arrives : (e p : EndView) (u v : Asked) (out back : List ChunkMeaning) (d : Draw) (k : Packet) (t : EndView) (o : Verdict) → IsMet e p u v out back →
-    IsWithin k.chunks back → Arrives e d k t o → IsMet t p u v out back
-met_arrives e p u v out back d k t o m within (Elsewhere ports) = m
-met_arrives e p u v out back d k t o m within (NotOurs ports passes) = m
-met_arrives e p u v out back d k t o m within (Stray ports passes none closed) = m
-met_arrives e p u v out back d k t o m within (Begins b _ _ ports passes none opens acts) = absurd (listens_not e.phase (found_is e k.tag k.chunks b opens).phase m.phase)
-met_arrives e p u v out back d k t o m within (Heard _ _ ports passes has acts) =
-    (all_act_keeps k.tag _ _ _ (chunks_keep p u v out back k.tag) e false k.chunks t o within m acts).0
 
 -- ---- an end that isn't open
 

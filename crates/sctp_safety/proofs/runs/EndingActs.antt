@@ -96,7 +96,7 @@ module _ (p : EndView) (out back : List ChunkMeaning) where
       awaits : hears awaits_ack e.phase ≡ true
       awaits = subst (λ (h : Phase). hears awaits_ack h ≡ true) (sym is) refl
 
-  goes : (e : EndView) (tag : ℕ) (x : ChunkMeaning) (t : EndView) → Has back x → has_agreed e.phase ≡ true → Ending e → Acts e tag x (GoesOn t) → Ending t
+  pub goes : (e : EndView) (tag : ℕ) (x : ChunkMeaning) (t : EndView) → Has back x → has_agreed e.phase ≡ true → Ending e → Acts e tag x (GoesOn t) → Ending t
   goes e tag (Data d) t has m c (Comes k g o r is hears some same taken) = still e t c (let y = home_acknowledges k g e is c.this.home in record { shutdown = y.shutdown; ack = y.ack; shutdown_runs = y.shutdown_runs; ack_runs = y.ack_runs }) refl refl
   goes e tag (IData d) t has m c (Comes k g o r is hears some same taken) = still e t c (let y = home_acknowledges k g e is c.this.home in record { shutdown = y.shutdown; ack = y.ack; shutdown_runs = y.shutdown_runs; ack_runs = y.ack_runs }) refl refl
   goes e tag (Init i) t has m c h = absurd (cc)
@@ -128,7 +128,7 @@ module _ (p : EndView) (out back : List ChunkMeaning) where
   goes e tag (IForwardTsn d) t has m c (Comes k g r is hears may taken) = still e t c (let y = home_acknowledges k g e is c.this.home in record { shutdown = y.shutdown; ack = y.ack; shutdown_runs = y.shutdown_runs; ack_runs = y.ack_runs }) refl refl
   goes e tag (Unknown k f w) t has m c h = subst Ending (sym (unknown_goes e t k f w h).same) (still e _ c (record { shutdown = c.this.home.shutdown; ack = c.this.home.ack; shutdown_runs = c.this.home.shutdown_runs; ack_runs = c.this.home.ack_runs }) refl refl)
 
-  ends : (e : EndView) (tag : ℕ) (x : ChunkMeaning) (t : EndView) → Ending e → Acts e tag x (Ends t) → Ending t
+  pub ends : (e : EndView) (tag : ℕ) (x : ChunkMeaning) (t : EndView) → Ending e → Acts e tag x (Ends t) → Ending t
   ends e tag (Data d) t c h = elim h [ ]
   ends e tag (IData d) t c h = elim h [ ]
   ends e tag (Init i) t c h = absurd (cc)
@@ -153,7 +153,7 @@ module _ (p : EndView) (out back : List ChunkMeaning) where
   fault : (e : EndView) → Ending e → Ending (closed AbortedHere e)
   fault e c = over e AbortedHere (λ z. absurd (cc)) c
 
-  replies : (e : EndView) (tag : ℕ) (x : ChunkMeaning) (t : EndView) (r : Packet) → Has back x → Ending e → Acts e tag x (Replies t r) → Ending t
+  pub replies : (e : EndView) (tag : ℕ) (x : ChunkMeaning) (t : EndView) (r : Packet) → Has back x → Ending e → Acts e tag x (Replies t r) → Ending t
   replies e tag (Data d) t r has c (Empty _ _ _ _ _) = fault e c
   replies e tag (Data d) t r has c (WrongFormat _ _ _ _ _ _) = fault e c
   replies e tag (IData d) t r has c (Empty _ _ _ _ _) = fault e c

@@ -18,6 +18,11 @@ use Rattle.sctp_safety.proofs.runs.Drained.{drained_abandoned, drained_expired, 
 use Rattle.sctp_safety.proofs.runs.Homes.{IsHome, home_turned}
 use Rattle.sctp_safety.proofs.runs.Ending.{is_last, last_by_ack, AreEnding, ending_still, onward_same, onward_over, onward_open, ending_rested}
 
+-- a timer that expires was running
+pub was_running : (now : ℕ) (o : Option ℕ) → is_over_at now o ≡ true → (n : ℕ) × (o ≡ Some n)
+was_running now None on = absurd (cc)
+was_running now (Some n) on = (n, refl)
+
 module _ (p : EndView) (out back : List ChunkMeaning) where
   abbrev Ending : EndView → Type 0
   Ending e = AreEnding e p out back
@@ -35,11 +40,6 @@ module _ (p : EndView) (out back : List ChunkMeaning) where
       (still e _ c (record { shutdown = c.this.home.shutdown; ack = c.this.home.ack; shutdown_runs = c.this.home.shutdown_runs; ack_runs = c.this.home.ack_runs }) refl keeps)
 
   -- ---- timers
-
-  -- a timer that expires was running
-  was_running : (now : ℕ) (o : Option ℕ) → is_over_at now o ≡ true → (n : ℕ) × (o ≡ Some n)
-  was_running now None on = absurd (cc)
-  was_running now (Some n) on = (n, refl)
 
   again : (a : Alarm) (e : EndView) → Ending e → is_over_at e.moment (e.timers a).expiry ≡ true → Ending (due_again a (with_timer a (expired_timer (e.timers a)) e))
   again InitAlarm e c on = still e _ c (record { shutdown = c.this.home.shutdown; ack = c.this.home.ack; shutdown_runs = c.this.home.shutdown_runs; ack_runs = c.this.home.ack_runs }) refl (λ y. y)

@@ -1,5 +1,5 @@
 -- Two ends meet: both are new and agree, so both directions start.
-use Rattle.std.proofs.Common.{◌≡◌, ℕ, zero, suc, ◌≤◌, ◌<◌, Bool, true, List, [], length, Some, refl, sym, subst, ap}
+use Rattle.std.proofs.Common.{false, ◌≡◌, ℕ, zero, suc, ◌≤◌, ◌<◌, Bool, true, List, [], length, Some, refl, sym, subst, ap}
 use Rattle.sctp_model.specs.Lists.{item_at}
 use Rattle.sctp_model.specs.Chunk.{ChunkMeaning}
 use Rattle.sctp_model.specs.Format.{Format}
@@ -8,7 +8,8 @@ use Rattle.sctp_model.specs.ReceiverView.{ReceiverView, fresh_receiver}
 use Rattle.sctp_model.specs.Calls.{Asked}
 use Rattle.sctp_model.specs.Safe.{Safe}
 use Rattle.sctp_model.specs.sender.Reached.{Begins}
-use Rattle.sctp_model.specs.end.EndView.{EndView, format_for, format_of}
+use Rattle.sctp_model.specs.end.EndView.{Completed, Phase, Idle, Listening, Calling, Echoing, Open, Over, EndView, format_for, format_of}
+use Rattle.sctp_model.specs.end.Closing.{hears, awaits_ack}
 use Rattle.sctp_safety.specs.Way.{Way, IsStart}
 use Rattle.sctp_safety.specs.SenderLaws.{IsInOrder}
 use Rattle.sctp_safety.specs.States.{has_agreed}
@@ -17,13 +18,16 @@ use Rattle.sctp_safety.proofs.Always.{safe_always}
 use Rattle.sctp_safety.proofs.IdleLemmas.{idle_fresh}
 use Rattle.sctp_safety.proofs.runs.Direction.{Bags, way_of, Direction}
 use Rattle.sctp_safety.proofs.runs.Pair.{AreOpening, IsMet, opening_quiet, opening_quiet_back, quiet_says, quiet_says_back}
-use Rattle.sctp_safety.proofs.runs.Unmet.{IsBlank}
+use Rattle.sctp_safety.proofs.runs.Unmet.{never_opened, IsBlank, IsUnmet}
+use Rattle.sctp_safety.proofs.runs.Homes.{IsHome}
+use Rattle.sctp_safety.proofs.runs.Ending.{was_told, IsEnding}
+use Rattle.sctp_safety.proofs.runs.Pairs.{IsPair, opening_other}
 
 -- nothing lies between the ends yet
 abbrev pub no_bags : Bags
 no_bags = record { pieces = []; forwards = []; sacks = []; shutdowns = [] }
 
-nothing_stands : {A : Type 0} (i : ℕ) (x : A) → item_at [] i ≡ Some x → ⊥
+pub nothing_stands : {A : Type 0} (i : ℕ) (x : A) → item_at [] i ≡ Some x → ⊥
 nothing_stands zero x h = cc
 nothing_stands (suc i) x h = cc
 
@@ -104,10 +108,10 @@ one_way e p u out back none be bp same streams some large opening opening_back =
     out back same streams some large opening opening_back))
 
 -- Two new ends that agree have met.
-pub ends_meet : (e p : EndView) (u v : Asked) (out back : List ChunkMeaning) → u.calls ≡ [] → v.calls ≡ [] → IsBlank e → IsBlank p → AreAgreed e.terms p.terms →
+directions_meet : (e p : EndView) (u v : Asked) (out back : List ChunkMeaning) → u.calls ≡ [] → v.calls ≡ [] → IsBlank e → IsBlank p → AreAgreed e.terms p.terms →
     has_agreed e.phase ≡ true → has_agreed p.phase ≡ true → e.moment ≤ u.clock → p.moment ≤ v.clock →
     0 < e.configuration.fragment → 0 < p.configuration.fragment → AreOpening out → AreOpening back → IsMet e p u v out back
-ends_meet e p u v out back none none_there be bp agreed phase phase_there moment moment_there large large_there opening opening_back = record {
+directions_meet e p u v out back none none_there be bp agreed phase phase_there moment moment_there large large_there opening opening_back = record {
   going = one_way e p u out back none be bp agreed.first_tsn agreed.streams agreed.some_streams.0 large opening opening_back;
   coming = one_way p e v back out none_there bp be (sym agreed.first_tsn_back) (sym agreed.streams_back)
       (subst (λ (n : ℕ). 0 < n) (sym agreed.streams_back) agreed.some_streams.1) large_there opening_back opening;
@@ -116,4 +120,44 @@ ends_meet e p u v out back none none_there be bp agreed phase phase_there moment
   phase_there = phase_there;
   moment = moment;
   moment_there = moment_there;
+}
+
+-- ---- nothing is closed yet
+
+-- an end that a new association leaves with nothing of closing due, and no timer of it running
+pub record IsUnclosed (e : EndView) : Type 0 where
+  pub home : IsHome e
+  pub early : hears awaits_ack e.phase ≡ false
+  pub untold : hears was_told e.phase ≡ false
+  pub uncompleted : e.phase ≡ Over Completed → ⊥
+
+-- an end that was never open is so
+never_closed : (h : Phase) → never_opened h ≡ true → (hears awaits_ack h ≡ false) × (hears was_told h ≡ false) × (h ≡ Over Completed → ⊥)
+never_closed Idle on = (refl, refl, λ q. cc)
+never_closed Listening on = (refl, refl, λ q. cc)
+never_closed (Calling d) on = (refl, refl, λ q. cc)
+never_closed (Echoing t xs) on = (refl, refl, λ q. cc)
+never_closed (Open t g) on = absurd (cc)
+never_closed (Over Completed) on = absurd (cc)
+never_closed (Over why) on = (refl, refl, λ q. cc)
+
+pub unmet_unclosed : (clock : ℕ) (e : EndView) → IsUnmet clock e → IsUnclosed e
+unmet_unclosed clock e m = let n = never_closed e.phase m.unopened in record { home = m.home; early = n.0; untold = n.1; uncompleted = n.2 }
+
+one_ending : (e p : EndView) (out back : List ChunkMeaning) → IsUnclosed e → AreOpening out → IsEnding e p out back
+one_ending e p out back k opening = record {
+  home = k.home;
+  empty = λ on. absurd (let q = k.early in cc);
+  said = λ x has on. absurd (opening_other x (opening x has) on);
+  told = λ on. absurd (let q = k.untold in cc);
+  completed = λ is. absurd (k.uncompleted is);
+}
+
+-- Both ends have met, and neither is closed.
+pub ends_meet : (e p : EndView) (u v : Asked) (out back : List ChunkMeaning) → u.calls ≡ [] → v.calls ≡ [] → IsBlank e → IsBlank p → AreAgreed e.terms p.terms →
+    has_agreed e.phase ≡ true → has_agreed p.phase ≡ true → e.moment ≤ u.clock → p.moment ≤ v.clock →
+    0 < e.configuration.fragment → 0 < p.configuration.fragment → AreOpening out → AreOpening back → IsUnclosed e → IsUnclosed p → IsPair e p u v out back
+ends_meet e p u v out back none none_there be bp agreed phase phase_there moment moment_there large large_there opening opening_back unclosed unclosed_there = record {
+  met = directions_meet e p u v out back none none_there be bp agreed phase phase_there moment moment_there large large_there opening opening_back;
+  ending = record { this = one_ending e p out back unclosed opening; there = one_ending p e back out unclosed_there opening_back };
 }

@@ -19,11 +19,9 @@ use Rattle.sctp_safety.proofs.Basics.{Has-left}
 use Rattle.sctp_safety.proofs.machine.Strangers.{strangers_change_nothing}
 use Rattle.sctp_safety.proofs.runs.Bags.{chunks_in, chunk_of_bag}
 use Rattle.sctp_safety.proofs.runs.Fronts.{front_is_placed}
-use Rattle.sctp_safety.proofs.runs.Pair.{IsMet}
-use Rattle.sctp_safety.proofs.runs.Packets.{builds_keep}
-use Rattle.sctp_safety.proofs.runs.Timed.{met_taken, met_shut, met_aborted}
+use Rattle.sctp_safety.proofs.runs.Pairs.{IsPair, pair_arrives, pair_built, pair_taken, pair_shut, pair_aborted}
 use Rattle.sctp_safety.proofs.runs.Answers.{answer_opens}
-use Rattle.sctp_safety.proofs.runs.Brought.{ComesFrom, comes_from, met_arrives}
+use Rattle.sctp_safety.proofs.runs.Brought.{ComesFrom, comes_from}
 use Rattle.sctp_safety.proofs.runs.MetWorld.{MetAt, MetWith, Before, IsMetWorld, at_side, from_side, now_at, put_end, put_both, told_of, only_came, put_abort, sent_at, abandoned_there, passes_at, closed_abort, closed_end, closed_packet, closed_log}
 
 -- the premises, of one event
@@ -62,7 +60,7 @@ stranger_stays s drawn w x p t v opening strange placed arrives =
 arrived : (s : Setup) (drawn : List ℕ) (w : World) (x : Side) (p : Packet) (t : EndView) (v : Verdict) → IsOpening s drawn w → MetAt w x → IsFrom s drawn w x p →
     Arrives (end_now w x) w.draw p t v → Before w x t
 arrived s drawn w x p t v opening m (inl within) arrives =
-    met_arrives (end_now w x) (end_of w (other x)) (asked_at w x) (asked_at w (other x)) (chunks_in (bag_of w x)) (chunks_in (bag_of w (other x))) w.draw p t v (now_at w x m) within arrives
+    pair_arrives (end_now w x) (end_of w (other x)) (asked_at w x) (asked_at w (other x)) (chunks_in (bag_of w x)) (chunks_in (bag_of w (other x))) w.draw p t v (now_at w x m) within arrives
 arrived s drawn w x p t v opening m (inr (strange, placed)) arrives =
     subst (Before w x) (sym (stranger_stays s drawn w x p t v opening strange placed arrives)) (now_at w x m)
 
@@ -77,11 +75,11 @@ no_call (Over why) e agreed = absurd (cc)
 
 built_one : (w : World) (x : Side) (zs : List ChunkMeaning) (t : EndView) → MetAt w x → Builds (end_now w x) zs t → MetWith w x t zs
 built_one w x zs t m b =
-    builds_keep (end_of w (other x)) (asked_at w x) (asked_at w (other x)) (chunks_in (bag_of w (other x))) (chunks_in (bag_of w x)) (end_now w x) zs t (now_at w x m) b
+    pair_built (end_of w (other x)) (asked_at w x) (asked_at w (other x)) (chunks_in (bag_of w (other x))) (chunks_in (bag_of w x)) (end_now w x) zs t (now_at w x m) b
 
 built_none : (w : World) (x : Side) (t : EndView) → MetWith w x t [] → Before w x t
 built_none w x t m = subst
-    (λ (xs : List ChunkMeaning). IsMet t (end_of w (other x)) (asked_at w x) (asked_at w (other x)) xs (chunks_in (bag_of w (other x)))) (append-nil (chunks_in (bag_of w x))) m
+    (λ (xs : List ChunkMeaning). IsPair t (end_of w (other x)) (asked_at w x) (asked_at w (other x)) xs (chunks_in (bag_of w (other x)))) (append-nil (chunks_in (bag_of w x))) m
 
 module _ (s : Setup) (drawn : List ℕ) (w : World) (opening : IsOpening s drawn w) (m : IsMetWorld w) where
   at : (x : Side) → MetAt w x
@@ -96,7 +94,7 @@ module _ (s : Setup) (drawn : List ℕ) (w : World) (opening : IsOpening s drawn
   met_step e o v strange (OpenRefused x y off) = m
   met_step e o v strange (TimePasses n small) = record { closed = m.closed; met = passes_at w n m.met }
   met_step e o v strange (Draws d dd) = record { closed = m.closed; met = m.met }
-  met_step e o v strange (Connects d dd answer) = absurd (no_call w.a.phase answer m.met.phase)
+  met_step e o v strange (Connects d dd answer) = absurd (no_call w.a.phase answer m.met.met.phase)
   met_step e o v strange (ConnectRefused d answer) = m
   met_step e o v strange (BuildsOne x y ys t b) = record {
     closed = closed_packet (with_end w x t) x (packet_of (end_of w x) (y ∷ ys)) ∙ closed_end w x t ∙ m.closed;
@@ -111,15 +109,15 @@ module _ (s : Setup) (drawn : List ℕ) (w : World) (opening : IsOpening s drawn
   met_step e o v strange (Sends x c) = record { closed = closed_log w x _ _ ∙ m.closed; met = from_side v x (sent_at w x c (at x)) }
   met_step e o v strange (Abandons x k) = record { closed = closed_log w x _ _ ∙ m.closed; met = from_side v x (abandoned_there w x k (at x)) }
   met_step e o v strange (TakesOne x n h t takes) =
-      with_other x t (met_taken (end_of w (other x)) (asked_at w x) (asked_at w (other x)) (chunks_in (bag_of w x)) (chunks_in (bag_of w (other x))) (end_of w x) n h t (at x) takes)
+      with_other x t (pair_taken (end_of w (other x)) (asked_at w x) (asked_at w (other x)) (chunks_in (bag_of w x)) (chunks_in (bag_of w (other x))) (end_of w x) n h t (at x) takes)
   met_step e o v strange (ShutsDown x) =
       with_other x (shut (end_of w x))
-      (met_shut (end_of w (other x)) (asked_at w x) (asked_at w (other x)) (chunks_in (bag_of w x)) (chunks_in (bag_of w (other x))) (end_of w x) (at x))
+      (pair_shut (end_of w (other x)) (asked_at w x) (asked_at w (other x)) (chunks_in (bag_of w x)) (chunks_in (bag_of w (other x))) (end_of w x) (at x))
   met_step e o v strange (AbortsIt x r) = record {
     closed = closed_abort (with_end w x _) x (abort_answer (end_of w x) r) ∙ closed_end w x _ ∙ m.closed;
     met = from_side v x (put_abort (with_end w x (abort_leaves (abort_answer (end_of w x) r) (end_of w x))) x (end_of w x) r
         (put_end w x (abort_leaves (abort_answer (end_of w x) r) (end_of w x))
-        (met_aborted (end_of w (other x)) (asked_at w x) (asked_at w (other x)) (chunks_in (bag_of w x)) (chunks_in (bag_of w (other x))) (end_of w x)
+        (pair_aborted (end_of w (other x)) (asked_at w x) (asked_at w (other x)) (chunks_in (bag_of w x)) (chunks_in (bag_of w (other x))) (end_of w x)
         (abort_answer (end_of w x) r) (at x))));
   }
   met_step e o v strange (CutFirst _ x p brings) = only_came w x (end_now w x) (now_at w x (at x))

@@ -12,13 +12,14 @@ use Rattle.sctp_model.specs.Events.{with_verdict, with_abort}
 use Rattle.sctp_model.specs.Steps.{accepted, named_at}
 use Rattle.sctp_model.specs.Premises.{asked_at}
 use Rattle.sctp_safety.proofs.runs.Bags.{chunks_in, chunks_push}
-use Rattle.sctp_safety.proofs.runs.Pair.{AreOpening, IsMet, turned_round, met_quiet}
-use Rattle.sctp_safety.proofs.runs.Timed.{met_now, met_ticked, met_sent, met_abandoned, met_clock, asked_more}
+use Rattle.sctp_safety.proofs.runs.Pair.{AreOpening}
+use Rattle.sctp_safety.proofs.runs.Timed.{asked_more}
+use Rattle.sctp_safety.proofs.runs.Pairs.{IsPair, pair_round, pair_quiet, pair_now, pair_ticked, pair_sent, pair_abandoned, pair_clock}
 use Rattle.sctp_safety.proofs.runs.Answers.{OpensOrEnds, one_opening}
 
 -- both directions between the end of this side and the one across
 abbrev pub MetAt : World → Side → Type 0
-MetAt w x = IsMet (end_of w x) (end_of w (other x)) (asked_at w x) (asked_at w (other x)) (chunks_in (bag_of w x)) (chunks_in (bag_of w (other x)))
+MetAt w x = IsPair (end_of w x) (end_of w (other x)) (asked_at w x) (asked_at w (other x)) (chunks_in (bag_of w x)) (chunks_in (bag_of w (other x)))
 
 -- the ends have met, and are closed to an opening without packets
 pub record IsMetWorld (w : World) : Type 0 where
@@ -27,21 +28,21 @@ pub record IsMetWorld (w : World) : Type 0 where
 
 pub at_side : (w : World) (x : Side) → MetAt w A → MetAt w x
 at_side w A m = m
-at_side w B m = turned_round w.a w.b (asked_at w A) (asked_at w B) (chunks_in w.from_a) (chunks_in w.from_b) m
+at_side w B m = pair_round w.a w.b (asked_at w A) (asked_at w B) (chunks_in w.from_a) (chunks_in w.from_b) m
 
 pub from_side : (w : World) (x : Side) → MetAt w x → MetAt w A
 from_side w A m = m
-from_side w B m = turned_round w.b w.a (asked_at w B) (asked_at w A) (chunks_in w.from_b) (chunks_in w.from_a) m
+from_side w B m = pair_round w.b w.a (asked_at w B) (asked_at w A) (chunks_in w.from_b) (chunks_in w.from_a) m
 
 -- the end of this side is another, after chunks of its own more
 abbrev pub MetWith : World → Side → EndView → List ChunkMeaning → Type 0
-MetWith w x t xs = IsMet t (end_of w (other x)) (asked_at w x) (asked_at w (other x)) (chunks_in (bag_of w x) ++ xs) (chunks_in (bag_of w (other x)))
+MetWith w x t xs = IsPair t (end_of w (other x)) (asked_at w x) (asked_at w (other x)) (chunks_in (bag_of w x) ++ xs) (chunks_in (bag_of w (other x)))
 
 abbrev pub Before : World → Side → EndView → Type 0
-Before w x t = IsMet t (end_of w (other x)) (asked_at w x) (asked_at w (other x)) (chunks_in (bag_of w x)) (chunks_in (bag_of w (other x)))
+Before w x t = IsPair t (end_of w (other x)) (asked_at w x) (asked_at w (other x)) (chunks_in (bag_of w x)) (chunks_in (bag_of w (other x)))
 
 pub now_at : (w : World) (x : Side) → MetAt w x → Before w x (end_now w x)
-now_at w x m = met_now (end_of w (other x)) (asked_at w x) (asked_at w (other x)) (chunks_in (bag_of w x)) (chunks_in (bag_of w (other x))) (end_of w x) w.clock m (omega arith)
+now_at w x m = pair_now (end_of w (other x)) (asked_at w x) (asked_at w (other x)) (chunks_in (bag_of w x)) (chunks_in (bag_of w (other x))) (end_of w x) w.clock m (omega arith)
 
 -- ---- putting an end back into the world
 
@@ -54,8 +55,8 @@ came_end w A t m = m
 came_end w B t m = m
 
 pub put_packet : (w : World) (x : Side) (p : Packet) → MetWith w x (end_of w x) p.chunks → MetAt (with_packet w x p) x
-put_packet w A p m = subst (λ (xs : List ChunkMeaning). IsMet w.a w.b (asked_at w A) (asked_at w B) xs (chunks_in w.from_b)) (sym (chunks_push w.from_a p)) m
-put_packet w B p m = subst (λ (xs : List ChunkMeaning). IsMet w.b w.a (asked_at w B) (asked_at w A) xs (chunks_in w.from_a)) (sym (chunks_push w.from_b p)) m
+put_packet w A p m = subst (λ (xs : List ChunkMeaning). IsPair w.a w.b (asked_at w A) (asked_at w B) xs (chunks_in w.from_b)) (sym (chunks_push w.from_a p)) m
+put_packet w B p m = subst (λ (xs : List ChunkMeaning). IsPair w.b w.a (asked_at w B) (asked_at w A) xs (chunks_in w.from_a)) (sym (chunks_push w.from_b p)) m
 
 pub put_both : (w : World) (x : Side) (t : EndView) (p : Packet) → MetWith w x t p.chunks → MetAt (with_packet (with_end w x t) x p) x
 put_both w A t p m = put_packet (with_end w A t) A p m
@@ -63,7 +64,7 @@ put_both w B t p m = put_packet (with_end w B t) B p m
 
 pub quiet_packet : (w : World) (x : Side) (p : Packet) → AreOpening p.chunks → MetAt w x → MetAt (with_packet w x p) x
 quiet_packet w x p opening m =
-    put_packet w x p (met_quiet (end_of w x) (end_of w (other x)) (asked_at w x) (asked_at w (other x)) (chunks_in (bag_of w x)) (chunks_in (bag_of w (other x))) m p.chunks opening)
+    put_packet w x p (pair_quiet (end_of w x) (end_of w (other x)) (asked_at w x) (asked_at w (other x)) (chunks_in (bag_of w x)) (chunks_in (bag_of w (other x))) m p.chunks opening)
 
 pub put_verdict : (w : World) (x : Side) (v : Verdict) → OpensOrEnds v → MetAt w x → MetAt (with_verdict w x v) x
 put_verdict w x Taken opening m = m
@@ -122,16 +123,16 @@ only_came w x t k = record { closed = closed_came w x t; met = from_side (came w
 
 pub sent_at : (w : World) (x : Side) (c : Call) → MetAt w x →
     MetAt (with_log (with_end w x (send_leaves (send_answer (end_of w x) c) (end_of w x) c)) x (accepted w x (send_answer (end_of w x) c) c)) x
-sent_at w A c m = go (send_answer w.a c) (met_sent w.a w.b (asked_at w A) (asked_at w B) (chunks_in w.from_a) (chunks_in w.from_b) c m)
+sent_at w A c m = go (send_answer w.a c) (pair_sent w.a w.b (asked_at w A) (asked_at w B) (chunks_in w.from_a) (chunks_in w.from_b) c m)
   where
-    go : (o : SendAnswer) → IsMet (send_leaves o w.a c) w.b (asked_more (asked_at w A) o c) (asked_at w B) (chunks_in w.from_a) (chunks_in w.from_b) →
+    go : (o : SendAnswer) → IsPair (send_leaves o w.a c) w.b (asked_more (asked_at w A) o c) (asked_at w B) (chunks_in w.from_a) (chunks_in w.from_b) →
         MetAt (with_log (with_end w A (send_leaves o w.a c)) A (accepted w A o c)) A
     go (Ticket t) k = k
     go (Refused r) k = k
     go NotOpen k = k
-sent_at w B c m = go (send_answer w.b c) (met_sent w.b w.a (asked_at w B) (asked_at w A) (chunks_in w.from_b) (chunks_in w.from_a) c m)
+sent_at w B c m = go (send_answer w.b c) (pair_sent w.b w.a (asked_at w B) (asked_at w A) (chunks_in w.from_b) (chunks_in w.from_a) c m)
   where
-    go : (o : SendAnswer) → IsMet (send_leaves o w.b c) w.a (asked_more (asked_at w B) o c) (asked_at w A) (chunks_in w.from_b) (chunks_in w.from_a) →
+    go : (o : SendAnswer) → IsPair (send_leaves o w.b c) w.a (asked_more (asked_at w B) o c) (asked_at w A) (chunks_in w.from_b) (chunks_in w.from_a) →
         MetAt (with_log (with_end w B (send_leaves o w.b c)) B (accepted w B o c)) B
     go (Ticket t) k = k
     go (Refused r) k = k
@@ -139,8 +140,8 @@ sent_at w B c m = go (send_answer w.b c) (met_sent w.b w.a (asked_at w B) (asked
 
 pub abandoned_there : (w : World) (x : Side) (k : ℕ) → MetAt w x →
     MetAt (with_log (with_end w x (abandoned_at (end_of w x) k)) x (named_at (logged w x (abandoned_at (end_of w x) k)) k)) x
-abandoned_there w A k m = met_abandoned w.a w.b (asked_at w A) (asked_at w B) (chunks_in w.from_a) (chunks_in w.from_b) k m
-abandoned_there w B k m = met_abandoned w.b w.a (asked_at w B) (asked_at w A) (chunks_in w.from_b) (chunks_in w.from_a) k m
+abandoned_there w A k m = pair_abandoned w.a w.b (asked_at w A) (asked_at w B) (chunks_in w.from_a) (chunks_in w.from_b) k m
+abandoned_there w B k m = pair_abandoned w.b w.a (asked_at w B) (asked_at w A) (chunks_in w.from_b) (chunks_in w.from_a) k m
 
 pub closed_log : (w : World) (x : Side) (t : EndView) (l : Log) → (with_log (with_end w x t) x l).openable ≡ w.openable
 closed_log w A t l = refl
@@ -156,11 +157,11 @@ pub passes_at : (w : World) (m : ℕ) → MetAt w A → MetAt (record w {
   clock = max w.clock m;
 }) A
 passes_at w m k =
-    turned_round (ticked w.b now) (ticked w.a now) v u (chunks_in w.from_b) (chunks_in w.from_a)
-    (met_ticked (ticked w.a now) v u (chunks_in w.from_b) (chunks_in w.from_a) w.b now
-    (turned_round (ticked w.a now) w.b u v (chunks_in w.from_a) (chunks_in w.from_b)
-    (met_ticked w.b u v (chunks_in w.from_a) (chunks_in w.from_b) w.a now
-    (met_clock w.a w.b (asked_at w A) (asked_at w B) (chunks_in w.from_a) (chunks_in w.from_b) m k) (omega arith))) (omega arith))
+    pair_round (ticked w.b now) (ticked w.a now) v u (chunks_in w.from_b) (chunks_in w.from_a)
+    (pair_ticked (ticked w.a now) v u (chunks_in w.from_b) (chunks_in w.from_a) w.b now
+    (pair_round (ticked w.a now) w.b u v (chunks_in w.from_a) (chunks_in w.from_b)
+    (pair_ticked w.b u v (chunks_in w.from_a) (chunks_in w.from_b) w.a now
+    (pair_clock w.a w.b (asked_at w A) (asked_at w B) (chunks_in w.from_a) (chunks_in w.from_b) m k) (omega arith))) (omega arith))
   where
     now : ℕ
     now = max w.clock m

@@ -2,16 +2,18 @@
 use Rattle.std.proofs.Common.{arith, ◌≡◌, ℕ, List, [], ◌∷◌, ◌++◌, Option, Some, map, append_assoc, inl, inr, refl, sym, subst, ap, ◌⊎◌}
 use Rattle.sctp_model.specs.Lists.{Has, joined}
 use Rattle.sctp_model.specs.Chunk.{ChunkMeaning, Init, CookieEcho}
+use Rattle.sctp_model.specs.Plan.{entry_at}
+use Rattle.sctp_model.specs.SenderView.{SenderView}
 use Rattle.sctp_model.specs.Packet.{Packet}
 use Rattle.sctp_model.specs.Calls.{Asked}
 use Rattle.sctp_model.specs.Safe.{Safe}
-use Rattle.sctp_model.specs.end.EndView.{Draw, Phase, Idle, Listening, EndView, format_of}
+use Rattle.sctp_model.specs.end.EndView.{Over, Completed, Draw, Phase, Idle, Listening, EndView, format_of}
 use Rattle.sctp_model.specs.end.Sealing.{Sealing}
 use Rattle.sctp_model.specs.end.Configured.{IsConfiguration}
 use Rattle.sctp_model.specs.World.{Side, A, B, World, end_of, bag_of, log_of, Setup, configuration_of, FIRST_DRAW, start}
 use Rattle.sctp_model.specs.Events.{Event, Foreign, Outcome}
 use Rattle.sctp_model.specs.Steps.{Step, Run, Rest, Then}
-use Rattle.sctp_model.specs.Premises.{IsTheirs, draws_of, drawn_in, IsStranger, Premises, asked_at, IsSafeWorld, IsReachable}
+use Rattle.sctp_model.specs.Premises.{IsTheirs, draws_of, drawn_in, IsStranger, Premises, asked_at, IsSafeWorld, IsAllArrived, IsClosedWorld, IsReachable}
 use Rattle.sctp_safety.specs.States.{IsTurn, ByCall, ByInitAck, ByCookieAck, ByCookie, ByPair, ByStage, ByEnd, IsPath, Here, On}
 use Rattle.sctp_safety.specs.Agreement.{EndsAgree, IsOpening}
 use Rattle.sctp_safety.proofs.Basics.{Has-cases, Has-right, Has-left}
@@ -21,8 +23,11 @@ use Rattle.sctp_safety.proofs.machine.DiagramRuns.{ends_follow_the_diagram}
 use Rattle.sctp_safety.proofs.runs.Bags.{chunks_in}
 use Rattle.sctp_safety.proofs.runs.Direction.{way_of, Direction}
 use Rattle.sctp_safety.proofs.runs.Pair.{AreOpening}
-use Rattle.sctp_safety.proofs.runs.Unmet.{IsUnmet}
-use Rattle.sctp_safety.proofs.runs.Meeting.{blank_is_safe}
+use Rattle.sctp_safety.proofs.runs.Unmet.{IsBlank, IsUnmet}
+use Rattle.sctp_safety.proofs.runs.Arrived.{drained_arrives}
+use Rattle.sctp_safety.proofs.runs.Ending.{IsDone}
+use Rattle.sctp_safety.proofs.runs.Pairs.{IsPair, pair_round}
+use Rattle.sctp_safety.proofs.runs.Meeting.{nothing_stands, blank_is_safe}
 use Rattle.sctp_safety.proofs.runs.MetWorld.{IsMetWorld}
 use Rattle.sctp_safety.proofs.runs.MetSteps.{AreStrangers, met_step}
 use Rattle.sctp_safety.proofs.runs.ApartWorld.{IsApartWorld, AreSetUp}
@@ -42,8 +47,8 @@ direction_safe e p u out back d =
 pub kept_safe : (w : World) → IsKept w → IsSafeWorld w
 kept_safe w (inl k) A = blank_is_safe w.a w.b (asked_at w A) (k.calls A) (k.ends A).blank (k.ends B).blank
 kept_safe w (inl k) B = blank_is_safe w.b w.a (asked_at w B) (k.calls B) (k.ends B).blank (k.ends A).blank
-kept_safe w (inr m) A = direction_safe w.a w.b (asked_at w A) (chunks_in w.from_a) (chunks_in w.from_b) m.met.going
-kept_safe w (inr m) B = direction_safe w.b w.a (asked_at w B) (chunks_in w.from_b) (chunks_in w.from_a) m.met.coming
+kept_safe w (inr m) A = direction_safe w.a w.b (asked_at w A) (chunks_in w.from_a) (chunks_in w.from_b) m.met.met.going
+kept_safe w (inr m) B = direction_safe w.b w.a (asked_at w B) (chunks_in w.from_b) (chunks_in w.from_a) m.met.met.coming
 
 -- ---- how the ends of a run are set up
 
@@ -129,8 +134,8 @@ kept_start : (s : Setup) → IsKept (start s)
 kept_start s = inl (record { listens = refl; ends = ends; calls = calls; opening = opening })
   where
     ends : (x : Side) → IsUnmet 0 (end_of (start s) x)
-    ends A = record { blank = record { rwnd = 0; sender = refl; receiver = refl }; unopened = refl; moment = omega arith }
-    ends B = record { blank = record { rwnd = 0; sender = refl; receiver = refl }; unopened = refl; moment = omega arith }
+    ends A = record { blank = record { rwnd = 0; sender = refl; receiver = refl }; unopened = refl; home = record { shutdown = λ on. absurd (cc); ack = λ on. absurd (cc); shutdown_runs = λ n on. absurd (cc); ack_runs = λ n on. absurd (cc) }; moment = omega arith }
+    ends B = record { blank = record { rwnd = 0; sender = refl; receiver = refl }; unopened = refl; home = record { shutdown = λ on. absurd (cc); ack = λ on. absurd (cc); shutdown_runs = λ n on. absurd (cc); ack_runs = λ n on. absurd (cc) }; moment = omega arith }
 
     calls : (x : Side) → (log_of (start s) x).calls ≡ []
     calls A = refl
@@ -169,3 +174,32 @@ kept_always agree s events w r = kept_run agree s r.configured [] [] (start s) e
 -- And so SAFE holds.
 pub safe_if_agreed : EndsAgree → (s : Setup) (events : List Event) (w : World) → IsReachable s events w → IsSafeWorld w
 safe_if_agreed agree s events w r = kept_safe w (kept_always agree s events w r)
+
+-- ---- CLOSING
+
+-- of a sender that nothing was asked of, nothing is missing
+blank_arrived : (e p : EndView) → IsBlank e → IsAllArrived e.sender p.receiver
+blank_arrived e p b l n (i, x, here, own) =
+    absurd (nothing_stands i x (subst (λ (a : SenderView). entry_at a.plan i ≡ Some x) b.sender here))
+
+done_arrived : (e p : EndView) (u v : Asked) (out back : List ChunkMeaning) → IsPair e p u v out back → IsDone e → IsAllArrived e.sender p.receiver
+done_arrived e p u v out back k d = drained_arrives (format_of e) e.terms.outbound e.sender u p.receiver out back k.met.going d.empty
+
+pub kept_closed : (w : World) → IsKept w → IsClosedWorld w
+kept_closed w (inl k) s over = (blank_arrived w.a w.b (k.ends A).blank, blank_arrived w.b w.a (k.ends B).blank)
+kept_closed w (inr m) s over = both (done s over)
+  where
+    done : (x : Side) → (end_of w x).phase ≡ Over Completed → IsDone w.a × IsDone w.b
+    done A is = m.met.ending.this.completed is
+    done B is = let d = m.met.ending.there.completed is in (d.1, d.0)
+
+    both : IsDone w.a × IsDone w.b → IsAllArrived w.a.sender w.b.receiver × IsAllArrived w.b.sender w.a.receiver
+    both (da, db) = (
+      done_arrived w.a w.b (asked_at w A) (asked_at w B) (chunks_in w.from_a) (chunks_in w.from_b) m.met da,
+      done_arrived w.b w.a (asked_at w B) (asked_at w A) (chunks_in w.from_b) (chunks_in w.from_a)
+          (pair_round w.a w.b (asked_at w A) (asked_at w B) (chunks_in w.from_a) (chunks_in w.from_b) m.met) db,
+    )
+
+-- And CLOSING holds.
+pub closed_if_agreed : EndsAgree → (s : Setup) (events : List Event) (w : World) → IsReachable s events w → IsClosedWorld w
+closed_if_agreed agree s events w r = kept_closed w (kept_always agree s events w r)

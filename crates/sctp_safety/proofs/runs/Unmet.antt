@@ -5,14 +5,14 @@ use Rattle.sctp_model.specs.SenderView.{fresh_sender}
 use Rattle.sctp_model.specs.ReceiverView.{fresh_receiver}
 use Rattle.sctp_model.specs.Packet.{Packet}
 use Rattle.sctp_model.specs.sender.Abandoning.{timed_out}
-use Rattle.sctp_model.specs.end.EndView.{Terms, Configuration, Tags, Stage, Ended, Aborted, AbortedHere, Completed, StaleCookie, Phase, Open, EndView}
-use Rattle.sctp_model.specs.end.Clock.{closed}
-use Rattle.sctp_model.specs.end.Closing.{rested}
+use Rattle.sctp_model.specs.end.EndView.{Idle, Listening, Echoing, Calling, Over, Terms, Configuration, Tags, Stage, Ended, Aborted, AbortedHere, Completed, StaleCookie, Phase, Open, EndView}
+use Rattle.sctp_model.specs.end.Clock.{turned, closed}
+use Rattle.sctp_model.specs.end.Closing.{awaits_complete, hears, rested}
 use Rattle.sctp_model.specs.end.PeerFaults.{GoesOn, Ends, Replies}
-use Rattle.sctp_model.specs.end.Opening.{AcceptedAck, RefusedAck, EchoedAgain}
+use Rattle.sctp_model.specs.end.Opening.{echoing, terms_of_ack, joined, AcceptedAck, RefusedAck, EchoedAgain}
 use Rattle.sctp_model.specs.end.Acting.{Acts, Closes, SaysNothing, Completes}
-use Rattle.sctp_model.specs.end.UserCalls.{is_open}
 use Rattle.sctp_safety.proofs.machine.EndWords.{rested_cases, Keeps}
+use Rattle.sctp_safety.proofs.runs.Homes.{IsHome, home_turned, home_closed}
 use Rattle.sctp_safety.proofs.runs.Pair.{opens_or_ends, AreOpening, AreViews}
 use Rattle.sctp_safety.proofs.runs.Answers.{reply_opens}
 
@@ -24,10 +24,17 @@ pub record IsBlank (e : EndView) : Type 0 where
   pub sender : e.sender ≡ fresh_sender e.terms.own_tsn e.terms.outbound e.configuration.fragment rwnd e.terms.partial
   pub receiver : e.receiver ≡ fresh_receiver e.terms.peer_tsn e.terms.inbound e.configuration.buffer
 
--- Not open yet, or never to be: neither listening nor open, with new views, at a moment that the clock has reached.
+-- not open yet, or closed before it ever was
+abbrev pub never_opened : Phase → Bool
+never_opened (Open t g) = false
+never_opened (Over Completed) = false
+never_opened h = true
+
+-- Not open yet, or never to be, with new views, at a moment that the clock has reached.
 pub record IsUnmet (clock : ℕ) (e : EndView) : Type 0 where
   pub blank : IsBlank e
-  pub unopened : is_open e.phase ≡ false
+  pub unopened : never_opened e.phase ≡ true
+  pub home : IsHome e
   pub moment : e.moment ≤ clock
 
 -- the data timer marks nothing where nothing went out
@@ -60,23 +67,33 @@ blank_alike e t b l = record {
       ∙ ap (λ (c : Configuration). fresh_receiver t.terms.peer_tsn t.terms.inbound c.buffer) (sym l.configuration);
 }
 
--- an open end is open
-pub open_now : (h : Phase) (k : Tags) (g : Stage) → h ≡ Open k g → is_open h ≡ false → ⊥
-open_now h k g is off = let q : true ≡ false = subst (λ (l : Phase). is_open l ≡ false) is off in absurd (cc)
+-- no SHUTDOWN COMPLETE is awaited there
+no_completion : (h : Phase) → hears awaits_complete h ≡ true → never_opened h ≡ true → ⊥
+no_completion (Open t g) on off = absurd (cc)
+no_completion Idle on off = absurd (cc)
+no_completion Listening on off = absurd (cc)
+no_completion (Calling d) on off = absurd (cc)
+no_completion (Echoing t xs) on off = absurd (cc)
+no_completion (Over why) on off = absurd (cc)
+
+-- an open end was opened
+pub open_now : (h : Phase) (k : Tags) (g : Stage) → h ≡ Open k g → never_opened h ≡ true → ⊥
+open_now h k g is off = let q : false ≡ true = subst (λ (l : Phase). never_opened l ≡ true) is off in absurd (cc)
 
 module _ (clock : ℕ) where
   abbrev Unmet : EndView → Type 0
   Unmet e = IsUnmet clock e
 
-  pub still : (e t : EndView) → Unmet e → IsAlike e t → is_open t.phase ≡ false → Unmet t
-  still e t m l unopened = record {
+  pub still : (e t : EndView) → Unmet e → IsAlike e t → never_opened t.phase ≡ true → IsHome t → Unmet t
+  still e t m l unopened home = record {
     blank = blank_alike e t m.blank l;
     unopened = unopened;
+    home = home;
     moment = subst (λ (n : ℕ). n ≤ clock) (sym l.views.moment) m.moment;
   }
 
-  pub over : (e : EndView) (why : Ended) → Unmet e → Unmet (closed why e)
-  over e why m = still e (closed why e) m (alike e (closed why e) refl refl refl refl refl) refl
+  pub over : (e : EndView) (why : Ended) → never_opened (Over why) ≡ true → Unmet e → Unmet (closed why e)
+  over e why before m = still e (closed why e) m (alike e (closed why e) refl refl refl refl refl) before (home_closed why e)
 
   -- an end that isn't open doesn't go on with closing
   pub rests : (e : EndView) → Unmet e → Unmet (rested e)
@@ -88,7 +105,13 @@ module _ (clock : ℕ) where
   goes e tag (Data d) t on m h = absurd (cc)
   goes e tag (IData d) t on m h = absurd (cc)
   goes e tag (Init i) t on m h = absurd (cc)
-  goes e tag (InitAck i) t on m (AcceptedAck d cookie is tagged value fault) = record { blank = record { rwnd = i.rwnd; sender = refl; receiver = refl }; unopened = refl; moment = m.moment }
+  goes e tag (InitAck i) t on m (AcceptedAck d cookie is tagged value fault) = record { blank = record { rwnd = i.rwnd; sender = refl; receiver = refl }; unopened = refl; home = home_echoing; moment = m.moment }
+    where
+      h : IsHome (turned (Echoing (record { own = d.tag; peer = i.tag }) cookie) (joined (terms_of_ack e.configuration d i) i.rwnd e))
+      h = home_turned (Echoing (record { own = d.tag; peer = i.tag }) cookie) (joined (terms_of_ack e.configuration d i) i.rwnd e)
+
+      home_echoing : IsHome (echoing e d i cookie)
+      home_echoing = record { shutdown = h.shutdown; ack = h.ack; shutdown_runs = h.shutdown_runs; ack_runs = h.ack_runs }
   goes e tag (Sack s) t on m h = absurd (cc)
   goes e tag (Heartbeat i) t on m h = absurd (cc)
   goes e tag (HeartbeatAck i) t on m h = absurd (cc)
@@ -111,13 +134,13 @@ module _ (clock : ℕ) where
   ends e tag (Sack s) t on m h = absurd (cc)
   ends e tag (Heartbeat i) t on m h = absurd (cc)
   ends e tag (HeartbeatAck i) t on m h = absurd (cc)
-  ends e tag (Abort b xs) t on m h = let q : t ≡ closed Aborted e = cc h in subst Unmet (sym q) (over e Aborted m)
+  ends e tag (Abort b xs) t on m h = let q : t ≡ closed Aborted e = cc h in subst Unmet (sym q) (over e Aborted refl m)
   ends e tag (Shutdown n) t on m h = absurd (cc)
   ends e tag ShutdownAck t on m h = absurd (cc)
-  ends e tag (Error xs) t on m (Closes late) = over e StaleCookie m
+  ends e tag (Error xs) t on m (Closes late) = over e StaleCookie refl m
   ends e tag (CookieEcho xs) t on m h = elim h [ ]
   ends e tag CookieAck t on m h = absurd (cc)
-  ends e tag (ShutdownComplete b) t on m (Completes awaited) = over e Completed m
+  ends e tag (ShutdownComplete b) t on m (Completes awaited) = absurd (no_completion e.phase awaited m.unopened)
   ends e tag (ForwardTsn d) t on m h = absurd (cc)
   ends e tag (IForwardTsn d) t on m h = absurd (cc)
   ends e tag (Unknown k f w) t on m h = absurd (cc)
@@ -126,7 +149,7 @@ module _ (clock : ℕ) where
   replies e tag (Data d) t r on m h = absurd (cc)
   replies e tag (IData d) t r on m h = absurd (cc)
   replies e tag (Init i) t r on m h = absurd (cc)
-  replies e tag (InitAck i) t r on m (RefusedAck _ _ _ _ _) = over e AbortedHere m
+  replies e tag (InitAck i) t r on m (RefusedAck _ _ _ _ _) = over e AbortedHere refl m
   replies e tag (Sack s) t r on m h = absurd (cc)
   replies e tag (Heartbeat i) t r on m h = absurd (cc)
   replies e tag (HeartbeatAck i) t r on m h = absurd (cc)

@@ -9,7 +9,7 @@ use Rattle.sctp_model.specs.sender.Abandoning.{abandon_after, expired, timed_out
 use Rattle.sctp_model.specs.sender.Readers.{point}
 use Rattle.sctp_model.specs.receiver.SackMade.{TakeLeaves}
 use Rattle.sctp_model.specs.end.EndView.{Draw, AbortedHere, TimedOut, Phase, Idle, Listening, Calling, Echoing, Open, Over, Alarm, InitAlarm, CookieAlarm, DataAlarm, ShutdownAlarm, AckAlarm, EndView, has_association}
-use Rattle.sctp_model.specs.end.Clock.{repeats_of, is_over_at, with_timer, closed, at_moment, settled}
+use Rattle.sctp_model.specs.end.Clock.{is_home, repeats_of, is_over_at, with_timer, closed, at_moment, settled}
 use Rattle.sctp_model.specs.end.Clock.{expired as expired_timer}
 use Rattle.sctp_model.specs.end.Building.{Slot, EchoSlot, CookieAckSlot, HeartbeatSlot, ErrorSlot, SackSlot, ForwardSlot, ShutdownSlot, ShutdownAckSlot, Wants, EchoCookie, AckCookie, AckHeartbeat, ReportCauses, Acknowledge, PassOn, SayShutdown, AnswerShutdown, Puts, NoMore, NotDue, Put, IsFull, echoing_slots, Builds, Sleeps, Waits, Calls, Echoes, Fills}
 use Rattle.sctp_model.specs.end.Building.{Ends as EndsFull}
@@ -17,9 +17,11 @@ use Rattle.sctp_model.specs.end.Closing.{hears}
 use Rattle.sctp_model.specs.end.Moments.{after_giving_up, due_again, rung, ring, rung_all, all_alarms, passed, ticked}
 use Rattle.sctp_model.specs.end.UserCalls.{NotOpen, is_established, send_answer, is_open, abandoned_at, Takes, shut_in, shut, AbortAnswer, Aborts, NoPeer, TooLong, abort_leaves, called}
 use Rattle.sctp_safety.proofs.Basics.{Has-cases}
+use Rattle.sctp_safety.proofs.runs.Homes.{home_turned}
+use Rattle.sctp_safety.proofs.runs.EndingTimes.{was_running}
 use Rattle.sctp_safety.proofs.runs.Pair.{opens_or_ends, AreOpening}
 use Rattle.sctp_safety.proofs.runs.Answers.{one_opening}
-use Rattle.sctp_safety.proofs.runs.Unmet.{IsBlank, IsUnmet, alike, timed_fresh, open_now, still, over, rests}
+use Rattle.sctp_safety.proofs.runs.Unmet.{never_opened, IsBlank, IsUnmet, alike, timed_fresh, open_now, still, over, rests}
 
 -- ---- time
 
@@ -33,6 +35,23 @@ none_is_abandoned e b k = ap (λ (a : SenderView). abandon_after a k) b.sender �
 none_marked : (e : EndView) → IsBlank e → timed_out e.sender ≡ e.sender
 none_marked e b = ap timed_out b.sender ∙ timed_fresh e.terms.own_tsn e.terms.outbound e.configuration.fragment b.rwnd e.terms.partial ∙ sym b.sender
 
+-- the timers of closing run in open ends alone
+no_shutdown_timer : (h : Phase) → never_opened h ≡ true → is_home ShutdownAlarm h ≡ true → ⊥
+no_shutdown_timer (Open t g) off on = absurd (cc)
+no_shutdown_timer Idle off on = absurd (cc)
+no_shutdown_timer Listening off on = absurd (cc)
+no_shutdown_timer (Calling d) off on = absurd (cc)
+no_shutdown_timer (Echoing t xs) off on = absurd (cc)
+no_shutdown_timer (Over why) off on = absurd (cc)
+
+no_ack_timer : (h : Phase) → never_opened h ≡ true → is_home AckAlarm h ≡ true → ⊥
+no_ack_timer (Open t g) off on = absurd (cc)
+no_ack_timer Idle off on = absurd (cc)
+no_ack_timer Listening off on = absurd (cc)
+no_ack_timer (Calling d) off on = absurd (cc)
+no_ack_timer (Echoing t xs) off on = absurd (cc)
+no_ack_timer (Over why) off on = absurd (cc)
+
 module _ (clock : ℕ) where
   abbrev Unmet : EndView → Type 0
   Unmet e = IsUnmet clock e
@@ -41,33 +60,33 @@ module _ (clock : ℕ) where
   waits_now e now m le = record {
     blank = record { rwnd = m.blank.rwnd; sender = m.blank.sender; receiver = m.blank.receiver };
     unopened = m.unopened;
+    home = record { shutdown = m.home.shutdown; ack = m.home.ack; shutdown_runs = m.home.shutdown_runs; ack_runs = m.home.ack_runs };
     moment = let b = m.moment in omega (arith, b, le);
   }
 
   gives_up : (e : EndView) (a : SenderView) → Unmet e → a ≡ e.sender → Unmet (after_giving_up e a)
   gives_up e a m same =
       rests clock (settled (record e { sender = a; due = record e.due { forward = e.due.forward || not (point a == point e.sender) } }))
-      (still clock e _ m (alike e _ refl refl same refl refl) m.unopened)
+      (still clock e _ m (alike e _ refl refl same refl refl) m.unopened (record { shutdown = m.home.shutdown; ack = m.home.ack; shutdown_runs = m.home.shutdown_runs; ack_runs = m.home.ack_runs }))
 
-  again : (a : Alarm) (e : EndView) → Unmet e → Unmet (due_again a e)
-  again InitAlarm e m = still clock e _ m (alike e _ refl refl refl refl refl) m.unopened
-  again CookieAlarm e m = still clock e _ m (alike e _ refl refl refl refl refl) m.unopened
-  again DataAlarm e m = still clock e _ m (alike e _ refl refl (none_marked e m.blank) refl refl) m.unopened
-  again ShutdownAlarm e m = still clock e _ m (alike e _ refl refl refl refl refl) m.unopened
-  again AckAlarm e m = still clock e _ m (alike e _ refl refl refl refl refl) m.unopened
+  again : (a : Alarm) (e : EndView) → Unmet e → is_over_at e.moment (e.timers a).expiry ≡ true → Unmet (due_again a (with_timer a (expired_timer (e.timers a)) e))
+  again InitAlarm e m on = still clock e _ m (alike e _ refl refl refl refl refl) m.unopened (record { shutdown = m.home.shutdown; ack = m.home.ack; shutdown_runs = m.home.shutdown_runs; ack_runs = m.home.ack_runs })
+  again CookieAlarm e m on = still clock e _ m (alike e _ refl refl refl refl refl) m.unopened (record { shutdown = m.home.shutdown; ack = m.home.ack; shutdown_runs = m.home.shutdown_runs; ack_runs = m.home.ack_runs })
+  again DataAlarm e m on = still clock e _ m (alike e _ refl refl (none_marked e m.blank) refl refl) m.unopened (record { shutdown = m.home.shutdown; ack = m.home.ack; shutdown_runs = m.home.shutdown_runs; ack_runs = m.home.ack_runs })
+  again ShutdownAlarm e m on = absurd (let r = was_running e.moment (e.timers ShutdownAlarm).expiry on in no_shutdown_timer e.phase m.unopened (m.home.shutdown_runs r.0 r.1))
+  again AckAlarm e m on = absurd (let r = was_running e.moment (e.timers AckAlarm).expiry on in no_ack_timer e.phase m.unopened (m.home.ack_runs r.0 r.1))
 
-  rings : (b : Bool) (a : Alarm) (e : EndView) → Unmet e → Unmet (rung b a e)
-  rings false a e m = m
-  rings true a e m = go (nat_lt (e.timers a).repeats (repeats_of a))
+  rings : (a : Alarm) (e : EndView) → Unmet e → (b : Bool) → is_over_at e.moment (e.timers a).expiry ≡ b → Unmet (rung b a e)
+  rings a e m false is = m
+  rings a e m true is = go (nat_lt (e.timers a).repeats (repeats_of a))
     where
       go : (c : Bool) → Unmet (if c then due_again a (with_timer a (expired_timer (e.timers a)) e) else closed TimedOut e)
-      go true = again a (with_timer a (expired_timer (e.timers a)) e)
-          (still clock e (with_timer a (expired_timer (e.timers a)) e) m (alike e _ refl refl refl refl refl) m.unopened)
-      go false = over clock e TimedOut m
+      go true = again a e m is
+      go false = over clock e TimedOut refl m
 
   all_ring : (alarms : List Alarm) (e : EndView) → Unmet e → Unmet (rung_all alarms e)
   all_ring [] e m = m
-  all_ring (a ∷ more) e m = all_ring more (ring a e) (rings (is_over_at e.moment (e.timers a).expiry) a e m)
+  all_ring (a ∷ more) e m = all_ring more (ring a e) (rings a e m (is_over_at e.moment (e.timers a).expiry) refl)
 
   pub waits_ticked : (e : EndView) (now : ℕ) → Unmet e → now ≤ clock → Unmet (ticked e now)
   waits_ticked e now m le = go (has_association e.phase)
@@ -95,10 +114,10 @@ module _ (clock : ℕ) where
 
   one_put : (s : Slot) (e : EndView) (x : ChunkMeaning) (t : EndView) → is_echo_slot s ≡ true → Unmet e → Wants e s x t → Unmet t × (opens_or_ends x ≡ true)
   unfolding is_echo_slot
-  one_put s e x t on m (EchoCookie _ _ _) = (still clock e t m (alike e t refl refl refl refl refl) m.unopened, refl)
+  one_put s e x t on m (EchoCookie _ _ _) = (still clock e t m (alike e t refl refl refl refl refl) m.unopened (record { shutdown = m.home.shutdown; ack = m.home.ack; shutdown_runs = m.home.shutdown_runs; ack_runs = m.home.ack_runs }), refl)
   one_put s e x t on m AckCookie = absurd (cc)
   one_put s e x t on m (AckHeartbeat _ _) = absurd (cc)
-  one_put s e x t on m ReportCauses = (still clock e t m (alike e t refl refl refl refl refl) m.unopened, refl)
+  one_put s e x t on m ReportCauses = (still clock e t m (alike e t refl refl refl refl refl) m.unopened (record { shutdown = m.home.shutdown; ack = m.home.ack; shutdown_runs = m.home.shutdown_runs; ack_runs = m.home.ack_runs }), refl)
   one_put s e x t on m (Acknowledge _ _) = absurd (cc)
   one_put s e x t on m PassOn = absurd (cc)
   one_put s e x t on m (SayShutdown _ _) = absurd (cc)
@@ -130,14 +149,14 @@ module _ (clock : ℕ) where
   pub waits_built : (e : EndView) (zs : List ChunkMeaning) (t : EndView) → Unmet e → Builds e zs t → Unmet t × AreOpening zs
   waits_built e zs t m (Sleeps none) = (m, λ x h. absurd h)
   waits_built e zs t m (Waits d is off) = (m, λ x h. absurd h)
-  waits_built e zs t m (Calls d is on) = (still clock e t m (alike e t refl refl refl refl refl) m.unopened, one_opening _ refl)
+  waits_built e zs t m (Calls d is on) = (still clock e t m (alike e t refl refl refl refl refl) m.unopened (record { shutdown = m.home.shutdown; ack = m.home.ack; shutdown_runs = m.home.shutdown_runs; ack_runs = m.home.ack_runs }), one_opening _ refl)
   waits_built e zs t m (Echoes k cookie _ full _ is ps) = puts echoing_slots e [] zs full t both_echo m (λ x h. absurd h) ps
   waits_built e zs t m (EndsFull k g _ _ is ps) = absurd (open_now e.phase k g is m.unopened)
   waits_built e zs t m (Fills k g xs x is ps) = absurd (open_now e.phase k g is m.unopened)
 
   -- ---- the user
 
-  not_established : (h : Phase) → is_open h ≡ false → hears is_established h ≡ false
+  not_established : (h : Phase) → never_opened h ≡ true → hears is_established h ≡ false
   not_established Idle off = refl
   not_established Listening off = refl
   not_established (Calling d) off = refl
@@ -153,19 +172,19 @@ module _ (clock : ℕ) where
     where
       go : (b : Bool) → Unmet (if b then after_giving_up e (abandon_after e.sender k) else record e { sender = abandon_after e.sender k })
       go true = gives_up e (abandon_after e.sender k) m (none_is_abandoned e m.blank k)
-      go false = still clock e (record e { sender = abandon_after e.sender k }) m (alike e _ refl refl (none_is_abandoned e m.blank k) refl refl) m.unopened
+      go false = still clock e (record e { sender = abandon_after e.sender k }) m (alike e _ refl refl (none_is_abandoned e m.blank k) refl refl) m.unopened (record { shutdown = m.home.shutdown; ack = m.home.ack; shutdown_runs = m.home.shutdown_runs; ack_runs = m.home.ack_runs })
 
   pub waits_taken : (e : EndView) (s : ℕ) (h : Option Handed) (t : EndView) → Unmet e → Takes e s h t → Unmet t
   waits_taken e s h t m k = go h k.takes
     where
       go : (o : Option Handed) → TakeLeaves e.receiver s o k.receiver → Unmet t
-      go None (none, same) = subst Unmet (sym k.leaves) (still clock e (record e { receiver = k.receiver }) m (alike e _ refl refl refl same refl) m.unopened)
+      go None (none, same) = subst Unmet (sym k.leaves) (still clock e (record e { receiver = k.receiver }) m (alike e _ refl refl refl same refl) m.unopened (record { shutdown = m.home.shutdown; ack = m.home.ack; shutdown_runs = m.home.shutdown_runs; ack_runs = m.home.ack_runs }))
       go (Some x) (rest, there, same) = absurd (let q : e.receiver.waiting s ≡ [] = ap (λ (r : ReceiverView). r.waiting s) m.blank.receiver in cc)
 
   pub waits_shut : (e : EndView) → Unmet e → Unmet (shut e)
   waits_shut e m = go e.phase m.unopened
     where
-      go : (h : Phase) → is_open h ≡ false → Unmet (shut_in h e)
+      go : (h : Phase) → never_opened h ≡ true → Unmet (shut_in h e)
       go Idle off = m
       go Listening off = m
       go (Calling d) off = m
@@ -174,13 +193,15 @@ module _ (clock : ℕ) where
       go (Over why) off = m
 
   pub waits_aborted : (e : EndView) (a : AbortAnswer) → Unmet e → Unmet (abort_leaves a e)
-  waits_aborted e (Aborts x) m = over clock e AbortedHere m
+  waits_aborted e (Aborts x) m = over clock e AbortedHere refl m
   waits_aborted e NoPeer m = m
   waits_aborted e TooLong m = m
 
   pub waits_called : (e : EndView) (d : Draw) → Unmet e → Unmet (called e d)
-  waits_called e d m = still clock e (called e d) m (alike e _ refl refl refl refl refl) refl
+  waits_called e d m =
+      let h = home_turned (Calling d) e in
+      still clock e (called e d) m (alike e _ refl refl refl refl refl) refl (record { shutdown = h.shutdown; ack = h.ack; shutdown_runs = h.shutdown_runs; ack_runs = h.ack_runs })
 
 -- a later clock
 pub waits_longer : (clock later : ℕ) (e : EndView) → clock ≤ later → IsUnmet clock e → IsUnmet later e
-waits_longer clock later e le m = record { blank = m.blank; unopened = m.unopened; moment = let b = m.moment in omega (arith, b, le) }
+waits_longer clock later e le m = record { blank = m.blank; unopened = m.unopened; home = m.home; moment = let b = m.moment in omega (arith, b, le) }

@@ -1,0 +1,130 @@
+-- All that is kept of two ends that have met: both directions between them, and how far their association is closed.
+use Rattle.std.proofs.Common.{◌≡◌, ℕ, ◌≤◌, max, true, false, List, ◌++◌, Option, refl}
+use Rattle.sctp_model.specs.Lists.{Has, IsWithin, at}
+use Rattle.sctp_model.specs.Chunk.{ChunkMeaning, Data, IData, Init, InitAck, Sack, Heartbeat, HeartbeatAck, Abort, Shutdown, ShutdownAck, Error, CookieEcho, CookieAck, ShutdownComplete, ForwardTsn, IForwardTsn, Unknown}
+use Rattle.sctp_model.specs.Packet.{Packet}
+use Rattle.sctp_model.specs.ReceiverView.{Handed}
+use Rattle.sctp_model.specs.Calls.{Call, Asked}
+use Rattle.sctp_model.specs.sender.Reached.{IsReached}
+use Rattle.sctp_model.specs.end.EndView.{Draw, EndView, format_of}
+use Rattle.sctp_model.specs.end.Clock.{at_moment}
+use Rattle.sctp_model.specs.end.Building.{Builds}
+use Rattle.sctp_model.specs.end.Moments.{ticked}
+use Rattle.sctp_model.specs.end.UserCalls.{send_answer, send_leaves, abandoned_at, Takes, shut, AbortAnswer, abort_leaves}
+use Rattle.sctp_model.specs.end.Strays.{Verdict}
+use Rattle.sctp_model.specs.end.Arriving.{Arrives, Elsewhere, NotOurs, Stray, Begins, Heard}
+use Rattle.sctp_safety.proofs.machine.EndWords.{Keeps, all_act_keeps}
+use Rattle.sctp_safety.proofs.machine.Strangers.{found_is}
+use Rattle.sctp_safety.proofs.runs.Pair.{opens_or_ends, AreOpening, IsMet, turned_round, met_quiet}
+use Rattle.sctp_safety.proofs.runs.Acted.{chunks_keep}
+use Rattle.sctp_safety.proofs.runs.Answers.{reply_opens}
+use Rattle.sctp_safety.proofs.runs.Packets.{builds_keep}
+use Rattle.sctp_safety.proofs.runs.Timed.{met_now, met_ticked, met_taken, met_shut, met_aborted, met_sent, met_abandoned, met_clock, asked_more}
+use Rattle.sctp_safety.proofs.runs.Brought.{listens_not}
+use Rattle.sctp_safety.proofs.runs.Ending.{is_shutting, AreEnding, ending_round, ending_on, onward_same, ending_rested}
+use Rattle.sctp_safety.proofs.runs.EndingActs.{goes, ends, replies}
+use Rattle.sctp_safety.proofs.runs.EndingBuilds.{ending_built}
+use Rattle.sctp_safety.proofs.runs.EndingTimes.{ending_now, ending_ticked, ending_sent, ending_abandoned, ending_taken, ending_shut, ending_aborted}
+
+pub record IsPair (e p : EndView) (u v : Asked) (out back : List ChunkMeaning) : Type 0 where
+  pub met : IsMet e p u v out back
+  pub ending : AreEnding e p out back
+
+pub pair_round : (e p : EndView) (u v : Asked) (out back : List ChunkMeaning) → IsPair e p u v out back → IsPair p e v u back out
+pair_round e p u v out back k = record { met = turned_round e p u v out back k.met; ending = ending_round e p out back k.ending }
+
+-- the sender of an end that has met its peer is one that calls reach
+reached_by : (e p : EndView) (u v : Asked) (out back : List ChunkMeaning) → IsPair e p u v out back → IsReached (format_of e) e.sender
+reached_by e p u v out back k = k.met.going.reached
+
+-- ---- chunks that say nothing of either direction, nor of its end
+
+pub opening_other : (x : ChunkMeaning) → opens_or_ends x ≡ true → is_shutting x ≡ true → ⊥
+opening_other (Shutdown n) a b = absurd (cc)
+opening_other ShutdownAck a b = absurd (cc)
+opening_other (Data m) a b = absurd (cc)
+opening_other (IData m) a b = absurd (cc)
+opening_other (Init m) a b = absurd (cc)
+opening_other (InitAck m) a b = absurd (cc)
+opening_other (Sack m) a b = absurd (cc)
+opening_other (Heartbeat xs) a b = absurd (cc)
+opening_other (HeartbeatAck xs) a b = absurd (cc)
+opening_other (Abort t xs) a b = absurd (cc)
+opening_other (Error xs) a b = absurd (cc)
+opening_other (CookieEcho xs) a b = absurd (cc)
+opening_other CookieAck a b = absurd (cc)
+opening_other (ShutdownComplete t) a b = absurd (cc)
+opening_other (ForwardTsn m) a b = absurd (cc)
+opening_other (IForwardTsn m) a b = absurd (cc)
+opening_other (Unknown k f v) a b = absurd (cc)
+
+pub pair_quiet : (e p : EndView) (u v : Asked) (out back : List ChunkMeaning) → IsPair e p u v out back → (xs : List ChunkMeaning) → AreOpening xs → IsPair e p u v (out ++ xs) back
+pair_quiet e p u v out back k xs opening = record {
+  met = met_quiet e p u v out back k.met xs opening;
+  ending = ending_on e p e out back xs k.ending (onward_same p out back e e k.ending k.ending.this.home refl (λ on. on)) (λ x has on. absurd (opening_other x (opening x has) on));
+}
+
+-- ---- what comes
+
+pub pair_acts : (p : EndView) (u v : Asked) (out back : List ChunkMeaning) (tag : ℕ) →
+    Keeps tag (λ e. IsPair e p u v out back) (λ x. Has back x) (λ r. AreOpening r.chunks)
+pair_acts p u v out back tag = record {
+  goes = λ e x t has k act. record {
+    met = (chunks_keep p u v out back tag).goes e x t has k.met act;
+    ending = ending_rested p out back t (goes p out back e tag x t has k.met.phase k.ending act);
+  };
+  ends = λ e x t has k act. record { met = (chunks_keep p u v out back tag).ends e x t has k.met act; ending = ends p out back e tag x t k.ending act };
+  replies = λ e x t r has k act. (
+    record { met = ((chunks_keep p u v out back tag).replies e x t r has k.met act).0; ending = replies p out back e tag x t r has k.ending act },
+    reply_opens e tag x t r act,
+  );
+}
+
+pub pair_arrives : (e p : EndView) (u v : Asked) (out back : List ChunkMeaning) (d : Draw) (k : Packet) (t : EndView) (o : Verdict) → IsPair e p u v out back →
+    IsWithin k.chunks back → Arrives e d k t o → IsPair t p u v out back
+pair_arrives e p u v out back d k t o m within (Elsewhere ports) = m
+pair_arrives e p u v out back d k t o m within (NotOurs ports passes) = m
+pair_arrives e p u v out back d k t o m within (Stray ports passes none closed) = m
+pair_arrives e p u v out back d k t o m within (Begins b _ _ ports passes none opens acts) = absurd (listens_not e.phase (found_is e k.tag k.chunks b opens).phase m.met.phase)
+pair_arrives e p u v out back d k t o m within (Heard _ _ ports passes has acts) =
+    (all_act_keeps k.tag _ _ _ (pair_acts p u v out back k.tag) e false k.chunks t o within m acts).0
+
+-- ---- what is built, called, and passes
+
+pub pair_built : (p : EndView) (u v : Asked) (back out : List ChunkMeaning) (e : EndView) (zs : List ChunkMeaning) (t : EndView) → IsPair e p u v out back → Builds e zs t →
+    IsPair t p u v (out ++ zs) back
+pair_built p u v back out e zs t k b = record {
+  met = builds_keep p u v back out e zs t k.met b;
+  ending = ending_built p back out e zs t k.met.phase (reached_by e p u v out back k) k.ending b;
+}
+
+module _ (p : EndView) (u v : Asked) (out back : List ChunkMeaning) where
+  pub pair_now : (e : EndView) (now : ℕ) → IsPair e p u v out back → now ≤ u.clock → IsPair (at_moment e now) p u v out back
+  pair_now e now k le = record { met = met_now p u v out back e now k.met le; ending = ending_now p out back e now k.ending }
+
+  pub pair_ticked : (e : EndView) (now : ℕ) → IsPair e p u v out back → now ≤ u.clock → IsPair (ticked e now) p u v out back
+  pair_ticked e now k le = record { met = met_ticked p u v out back e now k.met le; ending = ending_ticked p out back e now (reached_by e p u v out back k) k.ending }
+
+  pub pair_taken : (e : EndView) (s : ℕ) (h : Option Handed) (t : EndView) → IsPair e p u v out back → Takes e s h t → IsPair t p u v out back
+  pair_taken e s h t k takes = record { met = met_taken p u v out back e s h t k.met takes; ending = ending_taken p out back e s h t k.ending takes }
+
+  pub pair_shut : (e : EndView) → IsPair e p u v out back → IsPair (shut e) p u v out back
+  pair_shut e k = record { met = met_shut p u v out back e k.met; ending = ending_shut p out back e k.ending }
+
+  pub pair_aborted : (e : EndView) (a : AbortAnswer) → IsPair e p u v out back → IsPair (abort_leaves a e) p u v out back
+  pair_aborted e a k = record { met = met_aborted p u v out back e a k.met; ending = ending_aborted p out back e a k.ending }
+
+pub pair_sent : (e p : EndView) (u v : Asked) (out back : List ChunkMeaning) (c : Call) → IsPair e p u v out back →
+    IsPair (send_leaves (send_answer e c) e c) p (asked_more u (send_answer e c) c) v out back
+pair_sent e p u v out back c k = record { met = met_sent e p u v out back c k.met; ending = ending_sent p out back e c k.ending }
+
+pub pair_abandoned : (e p : EndView) (u v : Asked) (out back : List ChunkMeaning) (n : ℕ) → IsPair e p u v out back →
+    IsPair (abandoned_at e n) p (record u { named = at u.named n true }) v out back
+pair_abandoned e p u v out back n k = record {
+  met = met_abandoned e p u v out back n k.met;
+  ending = ending_abandoned p out back e n (reached_by e p u v out back k) k.ending;
+}
+
+pub pair_clock : (e p : EndView) (u v : Asked) (out back : List ChunkMeaning) (m : ℕ) → IsPair e p u v out back →
+    IsPair e p (record u { clock = max u.clock m }) (record v { clock = max v.clock m }) out back
+pair_clock e p u v out back m k = record { met = met_clock e p u v out back m k.met; ending = k.ending }
