@@ -8,4 +8,7 @@ pub mod Sizes
 pub mod SameDue
 pub mod DueWords
 pub mod Idle
+pub mod Giving
+pub mod AtRest
+pub mod ForwardAtRest
 pub mod Examples

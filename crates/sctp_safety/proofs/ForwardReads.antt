@@ -3,31 +3,31 @@ use Rattle.std.proofs.Common.{◌≡◌, ℕ, zero, suc, ◌+◌, ◌-◌, ◌^�
 use Rattle.std.proofs.lemmas.Bool.{cases_lt, or_parts}
 use Rattle.sctp_model.specs.Lists.{Has}
 use Rattle.sctp_model.specs.Serial.{COUNTS, tsn, ahead, half_space}
-use Rattle.sctp_model.specs.Chunk.{SkipMeaning, ForwardMeaning}
+use Rattle.sctp_model.specs.Chunk.{ForwardMeaning}
 use Rattle.sctp_model.specs.Format.{Format, Plain, Interleaved, Kind, Ordered, Unordered, Lane, is_numbered, ordered_lane, unordered_lane}
 use Rattle.sctp_model.specs.Framing.{wire_number, number_near}
 use Rattle.sctp_model.specs.Plan.{Message, Part, entry_at, message_at}
-use Rattle.sctp_model.specs.Pieces.{Piece}
 use Rattle.sctp_model.specs.Forward.{Skip, Forward, skipped}
 use Rattle.sctp_model.specs.ReceiverView.{ReceiverView, IsCumulative}
-use Rattle.sctp_model.specs.Receiving.{HasNoWholeWith, GivesAll}
+use Rattle.sctp_model.specs.Receiving.{GivesAll}
 use Rattle.sctp_model.specs.receiver.Reading.{offset, index_at, is_behind, is_ahead, reference_in}
-use Rattle.sctp_model.specs.receiver.ForwardTaken.{ForwardAnswer, OutOfDate, Bad, Moved, names_other_stream, skips_read, jumped, stays_by, let_go, ForwardTaken}
-use Rattle.sctp_model.specs.receiver.Laws.{IsWaiting, IsIdle}
+use Rattle.sctp_model.specs.receiver.ForwardTaken.{ForwardAnswer, OutOfDate, Bad, Moved, names_other_stream, skips_read, jumped, let_go, ForwardTaken}
+use Rattle.sctp_model.specs.receiver.Laws.{IsIdle}
 use Rattle.sctp_model.proofs.receiver.RowLemmas.{row_fails}
+use Rattle.sctp_model.proofs.receiver.Giving.{IsGiving, all_served}
+use Rattle.sctp_model.proofs.receiver.ForwardAtRest.{moved_idle, let_go_is}
 use Rattle.sctp_safety.specs.Way.{Way, IsSkippedBy, Forward_comes, Let_go, with_receiver}
 use Rattle.sctp_safety.specs.SenderLaws.{IsUsual}
 use Rattle.sctp_safety.specs.ReceiverLaws.{IsJoined, IsCounted, IsReceived, IsForwardSaid, ForwardTakenIsMoves}
 use Rattle.sctp_safety.proofs.Facts.{Good, IsFair, IsLostBy, MayPass}
-use Rattle.sctp_safety.proofs.Basics.{item_at-within, Has-filtered}
+use Rattle.sctp_safety.proofs.Basics.{item_at-within}
 use Rattle.sctp_safety.proofs.Taken.{leads_on, leads_by, giving_all_is_moves}
 use Rattle.sctp_safety.proofs.UsualLemmas.{good_usual}
 use Rattle.sctp_safety.proofs.NearReads.{ahead_is, near_16, near_32}
 use Rattle.sctp_safety.proofs.WaitedFor.{not_far_above, begun_below, not_far_below}
 use Rattle.sctp_safety.proofs.ReadBounds.{cumulative_within, cum_within, passed_within, skip_within, next_within}
-use Rattle.sctp_safety.proofs.IdleLemmas.{still_waiting, IsGivenBelow, all_given}
 use Rattle.sctp_safety.proofs.PieceAnswers.{ahead_of}
-use Rattle.sctp_safety.proofs.SkipReads.{ReadsSkip, counting, read_again, counting_skips, counting_other, streams_are, let_go_is}
+use Rattle.sctp_safety.proofs.SkipReads.{ReadsSkip, counting, read_again, counting_skips}
 
 -- ---- the answer
 
@@ -156,10 +156,10 @@ module _ (w : Way) (m : ForwardMeaning) (usual : IsUsual w) (joined : IsJoined w
         (leads_on (with_receiver w mid) (with_receiver w low) (with_receiver w t)
         (leads_by (with_receiver w mid) (with_receiver w low) (Let_go low) (let_go_is w.format mid idle.unordered, refl))
         (giving_all_is_moves w w.receiver.streams low t all));
-    idle = record { ordered = λ s. ordered s (cases_lt s w.receiver.streams); unordered = unordered };
-    initial = given.constants.initial;
-    streams = given.constants.streams;
-    buffer = given.constants.buffer;
+    idle = moved_idle w.format w.receiver t c m streams gives idle;
+    initial = given.initial;
+    streams = given.streams;
+    buffer = given.buffer;
   }
     where
       reads : (y : Skip) → Has x.skips y → ReadsSkip w.format w.receiver y
@@ -187,28 +187,8 @@ module _ (w : Way) (m : ForwardMeaning) (usual : IsUsual w) (joined : IsJoined w
       by : IsSkippedBy w.receiver x.skips skip
       by = counting_skips w.receiver x.skips
 
-      given : IsGivenBelow w.format w.receiver.streams low t
-      given = all_given w.format w.receiver.streams low t all
-
-      fewer : (z : Piece) → Has t.kept z → Has w.receiver.kept z
-      fewer z h = Has-filtered (λ (y : Piece). stays_by y.lane.kind w.format mid y) w.receiver.kept z (given.fewer z h)
-
-      unlisted : (s : ℕ) → w.receiver.streams ≤ s → skip (ordered_lane s) ≡ w.receiver.skip (ordered_lane s)
-      unlisted s b = counting_other w.receiver x.skips (ordered_lane s)
-          (λ y h e. let l = streams_are w.format w.receiver.streams x.skips (subst (λ (ys : List SkipMeaning). names_other_stream w.receiver.streams ys ≡ false) said.skips streams) y h in
-          let q : s ≡ y.lane.stream = ap (λ (k : Lane). k.stream) e in
-          omega (arith, l, q, b)) w.receiver.skip
-
-      ordered : (s : ℕ) → (s < w.receiver.streams) ⊎ (w.receiver.streams ≤ s) → IsWaiting w.format t s
-      ordered s (inl b) = given.waits s b
-      ordered s (inr b) =
-          let i = idle.ordered s in
-          let n : t.next s ≡ w.receiver.next s = given.others s b in
-          let k : t.skip (ordered_lane s) ≡ w.receiver.skip (ordered_lane s) = ap (λ (q : Lane → ℕ). q (ordered_lane s)) given.skip ∙ unlisted s b in
-          still_waiting w.format w.receiver t s fewer n k i
-
-      unordered : (y : Piece) → y.lane.kind ≡ Unordered → HasNoWholeWith w.format t.kept y
-      unordered y kind xs (whole, within, has) = idle.unordered y kind xs (whole, (λ z h. fewer z (within z h)), has)
+      given : IsGiving low t
+      given = (all_served w.format w.receiver.streams low t all).giving
 
   received : (a : ForwardAnswer) (t : ReceiverView) → ForwardTaken w.format w.receiver m a t → IsReceived w t
   received OutOfDate t taken = subst (IsReceived w) (sym taken.leaves) same

@@ -43,7 +43,6 @@ mod TotalSteps
 mod Spread
 mod WaitedFor
 mod NearReads
-mod IdleLemmas
 mod ReadBounds
 mod PieceAnswers
 mod PieceReads
@@ -52,3 +51,4 @@ mod ForwardReads
 mod SackMade
 pub mod machine
 mod runs
+mod RestLaws

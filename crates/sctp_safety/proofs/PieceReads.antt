@@ -15,6 +15,7 @@ use Rattle.sctp_model.specs.receiver.Reading.{offset, index_at, is_behind, refer
 use Rattle.sctp_model.specs.receiver.PieceTaken.{Answer, Duplicate, Ahead, NoSuchStream, Passed, NoRoom, Taken, is_passed, noted, PieceTaken}
 use Rattle.sctp_model.specs.receiver.Laws.{IsIdle}
 use Rattle.sctp_model.proofs.receiver.Idle.{still_idle}
+use Rattle.sctp_model.proofs.receiver.AtRest.{takes_idle, takes_giving}
 use Rattle.sctp_safety.specs.Way.{Way, Note, with_receiver}
 use Rattle.sctp_safety.specs.SenderLaws.{IsUsual}
 use Rattle.sctp_safety.specs.ReceiverLaws.{IsJoined, IsCounted, IsReceived, IsPieceSaid, PieceTakenIsMoves}
@@ -28,7 +29,6 @@ use Rattle.sctp_safety.proofs.UsualLemmas.{good_usual}
 use Rattle.sctp_safety.proofs.NearReads.{ahead_is, near_16, near_32}
 use Rattle.sctp_safety.proofs.WaitedFor.{not_far_above, not_far_below}
 use Rattle.sctp_safety.proofs.ReadBounds.{cumulative_within, cum_within, number_within, skip_within, next_within}
-use Rattle.sctp_safety.proofs.IdleLemmas.{idle_taken, taken_constants}
 use Rattle.sctp_safety.proofs.PieceAnswers.{ahead_of, fresh_is, no_stream_is, passed_is, passed_by}
 
 -- ---- the number
@@ -230,10 +230,10 @@ module _ (w : Way) (p : PieceMeaning) (usual : IsUsual w) (joined : IsJoined w) 
       let r = piece_read taken.c taken.cumulative f.ahead in
       let k = subst (λ (y : Piece). Takes w.format w.receiver y t) r taken.leaves in
       let u = subst (λ (y : Piece). w.receiver.seen y.index ≡ false) r f.unseen in
-      let c = taken_constants w.format w.receiver x t k in
+      let c = takes_giving w.format w.receiver t x k in
       record {
         leads = taking_is_moves w x t said.put u k;
-        idle = idle_taken w.format w.receiver x t idle k;
+        idle = takes_idle w.format w.receiver t x idle k;
         initial = c.initial;
         streams = c.streams;
         buffer = c.buffer;

@@ -1,20 +1,18 @@
--- A FORWARD's entries, written and read again, are the ones that it had; which of them count; and what a receiver at rest then lets go.
-use Rattle.std.proofs.Common.{◌≡◌, ℕ, suc, ◌<◌, ◌≤◌, ◌⊎◌, not, max, nat_lt, nat_le, true, false, Bool, List, [], ◌∷◌, map, Option, Some, None, inl, inr, refl, subst, ap, arith, ◌∙◌, leb-true}
+-- A FORWARD's entries, written and read again, are the ones that it had; which of them count.
+use Rattle.std.proofs.Common.{◌≡◌, ℕ, suc, ◌<◌, ◌≤◌, ◌⊎◌, max, nat_lt, true, false, Bool, List, [], ◌∷◌, map, Option, Some, inl, inr, refl, subst, ap, arith, ◌∙◌}
 use Rattle.std.specs.Prelude.{if◌then◌else◌}
-use Rattle.std.proofs.lemmas.Bool.{cases_lt, or_parts}
+use Rattle.std.proofs.lemmas.Bool.{cases_lt}
 use Rattle.std.proofs.lemmas.Bool.Decides.{nat_tests}
 use Rattle.sctp_model.specs.Lists.{Has}
-use Rattle.sctp_model.specs.Format.{Format, Plain, Interleaved, Kind, Ordered, Unordered, Lane}
-use Rattle.sctp_model.specs.Framing.{wire_number, number_near, is_skipped}
-use Rattle.sctp_model.specs.Pieces.{Piece, IsNumberBelow}
+use Rattle.sctp_model.specs.Format.{Format, Kind, Ordered, Unordered, Lane}
+use Rattle.sctp_model.specs.Framing.{wire_number, number_near}
 use Rattle.sctp_model.specs.Forward.{Skip, skipped}
 use Rattle.sctp_model.specs.ReceiverView.{ReceiverView}
-use Rattle.sctp_model.specs.Receiving.{HasNoWholeWith, IsLeftBehind, LetsGo}
 use Rattle.sctp_model.specs.sender.SentChunks.{skip_said}
 use Rattle.sctp_model.specs.receiver.Reading.{reference_in, number_in, lowest_in, is_late}
-use Rattle.sctp_model.specs.receiver.ForwardTaken.{names_other_stream, with_skip, skips_read, stays_by, let_go}
+use Rattle.sctp_model.specs.receiver.ForwardTaken.{with_skip, skips_read}
 use Rattle.sctp_safety.specs.Way.{IsSkippedBy}
-use Rattle.sctp_safety.proofs.Basics.{at_lane_cases, at_lane_other}
+use Rattle.sctp_safety.proofs.Basics.{at_lane_cases}
 use Rattle.sctp_safety.proofs.ForwardMove.{raised, raised_grows, skipped_grows, skipped_has}
 use Rattle.sctp_safety.proofs.PieceReads.{kind_reads}
 
@@ -94,57 +92,3 @@ module _ (r : ReceiverView) where
       ]
     ];
   }
-
-  -- a lane that isn't listed
-  pub counting_other : (ys : List Skip) (l : Lane) → ((y : Skip) → Has ys y → l ≡ y.lane → ⊥) → (skip : Lane → ℕ) → skipped skip (counting r ys) l ≡ skip l
-  counting_other [] l other skip = refl
-  counting_other (x ∷ xs) l other skip = go (is_late r x.lane (Some x.number)) (counting_other xs l (λ y h. other y (inr h)))
-    where
-      go : (b : Bool) → ((k : Lane → ℕ) → skipped k (counting r xs) l ≡ k l) → skipped skip (if b then counting r xs else x ∷ counting r xs) l ≡ skip l
-      go true more = more skip
-      go false more = more (raised skip x) ∙ at_lane_other skip x.lane (max (skip x.lane) (suc x.number)) l (other x (inl refl))
-
--- each listed stream is there
-pub streams_are : (f : Format) (streams : ℕ) (xs : List Skip) → names_other_stream streams (map (skip_said f) xs) ≡ false → (y : Skip) → Has xs y → y.lane.stream < streams
-streams_are f streams [] h y has = absurd has
-streams_are f streams (x ∷ xs) h y has =
-    let b = or_parts (nat_le streams x.lane.stream) (names_other_stream streams (map (skip_said f) xs)) h in
-    go b.0 (λ k. streams_are f streams xs b.1 y k) has
-  where
-    go : (nat_le streams x.lane.stream ≡ false) → (Has xs y → y.lane.stream < streams) → Has (x ∷ xs) y → y.lane.stream < streams
-    go a later (inl e) = subst (λ (z : Skip). z.lane.stream < streams) e (grind (arith, a, nat_tests))
-    go a later (inr k) = later k
-
--- ---- what is let go
-
--- At rest no unordered message is whole, so letting go of all that is left behind lets go of what can't become whole alone.
-pub let_go_is : (f : Format) (r : ReceiverView) → ((y : Piece) → y.lane.kind ≡ Unordered → HasNoWholeWith f r.kept y) → LetsGo f r (let_go f r)
-let_go_is f r rest = record {
-  stays = λ (x : Piece). stays_by x.lane.kind f r x;
-  kept = refl;
-  gone = λ y h e. let b = goes f y y.lane.kind refl e in (b.1, rest y b.0);
-  left = λ y h e l. absurd (stays f y y.lane.kind refl e l);
-}
-  where
-    not_false : (b : Bool) → not b ≡ false → b ≡ true
-    not_false true e = refl
-    not_false false e = absurd (cc)
-
-    below : (o : Option ℕ) (n : ℕ) → is_skipped o n ≡ true → IsNumberBelow n o
-    below None n q = absurd (cc)
-    below (Some m) n q = grind (arith, q, nat_tests)
-
-    skipped_too : (o : Option ℕ) (n : ℕ) → IsNumberBelow n o → is_skipped o n ≡ true
-    skipped_too None n q = absurd q
-    skipped_too (Some m) n q = grind (arith, q, nat_tests)
-
-    goes : (g : Format) (y : Piece) (k : Kind) → y.lane.kind ≡ k → stays_by k g r y ≡ false → (y.lane.kind ≡ Unordered) × IsLeftBehind g r y
-    goes g y Ordered e h = absurd (cc)
-    goes Plain y Unordered e h = (e, (e, leb-true y.index r.jump (not_false _ h)))
-    goes Interleaved y Unordered e h = (e, (e, below y.number (r.skip y.lane) (not_false _ h)))
-
-    stays : (g : Format) (y : Piece) (k : Kind) → y.lane.kind ≡ k → stays_by k g r y ≡ true → IsLeftBehind g r y → ⊥
-    stays Plain y Ordered e h (kind, l) = absurd (cc)
-    stays Plain y Unordered e h (kind, l) = grind (arith, l, h, nat_tests)
-    stays Interleaved y Ordered e h (kind, l) = absurd (cc)
-    stays Interleaved y Unordered e h (kind, l) = let t = skipped_too y.number (r.skip y.lane) l in absurd (let u : not (is_skipped y.number (r.skip y.lane)) ≡ true = h in cc)

@@ -22,6 +22,7 @@ use Rattle.sctp_safety.specs.SenderLaws.{IsUsual, IsSackOf}
 
 -- ---- what the ends of a direction agree on, and how far apart counts are
 
+-- The receiver knows the sender's first TSN and how many streams there are (RFC 9260, 3.3.2 and 3.3.3).
 pub record IsJoined (w : Way) : Type 0 where
   pub initial : w.receiver.initial ≡ w.sender.initial
   pub streams : w.receiver.streams ≡ w.streams
@@ -33,6 +34,7 @@ pub record IsCounted (v : SenderView) : Type 0 where
 
 -- ---- what a call leaves: moves lead there, nothing is due, and the constants are as they were
 
+-- Moves of the direction lead to the view, which waits for its next numbers, and whose constants are those from before (RFC 9260, 6.6).
 pub record IsReceived (w : Way) (t : ReceiverView) : Type 0 where
   pub leads : Leads w (with_receiver w t)
   pub idle : IsIdle w.format t
@@ -82,6 +84,7 @@ pub record IsSackPut (w : Way) (s : SackMeaning) : Type 0 where
   pub of : IsSackOf w.receiver.initial sack s
   pub leads : Leads w (record w { sacks = sack ∷ w.sacks })
 
+-- A SACK that a receiver makes may be put between the ends (RFC 9260, 6.2).
 abbrev pub SackMadeIsMoves : Type 0
 SackMadeIsMoves = (w : Way) (s : SackMeaning) → IsSack w.receiver s → IsSackPut w s
 

@@ -6,6 +6,7 @@
 mod ends;
 mod exact;
 mod laws;
+mod rest;
 mod safety;
 mod two_ends;
 mod worlds;
@@ -21,6 +22,7 @@ pub use exact::{
     take_is_moves, taking_is_moves, timeout_is_moves,
 };
 pub use laws::{skip_law, whole_law};
+pub use rest::{every_call_leaves_rest, nothing_more_is_due, nothing_whole_is_let_go};
 pub use safety::{orderly_over_every_run, safe_over_every_run};
 pub use two_ends::{nothing_is_missing_once_completed, two_ends_are_safe};
 pub use worlds::{

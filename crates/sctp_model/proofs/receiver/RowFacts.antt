@@ -1,6 +1,6 @@
 -- The chunks of one message: of one lane and number, each at a place of its own, and gone together.
-use Rattle.std.proofs.Common.{◌≡◌, ℕ, suc, ◌<◌, ◌==◌, true, List, [], ◌∷◌, length, Option, Some, None, refl, ap, sym, ◌∙◌, subst, inl, inr, arith}
-use Rattle.std.proofs.lemmas.Bool.{eq-eqb, or_right}
+use Rattle.std.proofs.Common.{◌≡◌, ℕ, suc, ◌<◌, ◌==◌, true, List, [], ◌∷◌, length, Option, Some, None, refl, ap, sym, ◌∙◌, subst, inl, inr, arith, eqb-true}
+use Rattle.std.proofs.lemmas.Bool.{eq-eqb, or_right, and_parts}
 use Rattle.std.proofs.lemmas.List.{length-append}
 use Rattle.sctp_model.specs.Lists.{Has, AreInOrder}
 use Rattle.sctp_model.specs.Format.{Format, Plain, Interleaved, Kind, Ordered, Unordered, Lane, same_kind, same_lane}
@@ -58,6 +58,25 @@ lane_same l k e = rw e (let a = eq-eqb k.stream k.stream refl in let b = kind_sa
     kind_same : (z : Kind) → same_kind z z ≡ true
     kind_same Ordered = refl
     kind_same Unordered = refl
+
+-- and two lanes that the test finds the same are one
+pub lanes_same : (l k : Lane) → same_lane l k ≡ true → l ≡ k
+lanes_same l k test = λ i. record { stream = stream i; kind = kind i }
+  where
+    parts : ((l.stream == k.stream) ≡ true) × (same_kind l.kind k.kind ≡ true)
+    parts = and_parts (l.stream == k.stream) (same_kind l.kind k.kind) test
+
+    stream : l.stream ≡ k.stream
+    stream = eqb-true l.stream k.stream parts.0
+
+    kinds : (a b : Kind) → same_kind a b ≡ true → a ≡ b
+    kinds Ordered Ordered e = refl
+    kinds Ordered Unordered e = absurd (cc)
+    kinds Unordered Ordered e = absurd (cc)
+    kinds Unordered Unordered e = refl
+
+    kind : l.kind ≡ k.kind
+    kind = kinds l.kind k.kind parts.1
 
 number_same : (m n : Option ℕ) → m ≡ n → same_number m n ≡ true
 number_same m n e = subst (λ (o : Option ℕ). same_number o n ≡ true) (sym e) (own n)

@@ -19,7 +19,7 @@ pub record IsPicked {A : Type 0} (k : A) (ys : List A) : Type 0 where
   pub is : ys ≡ front ++ k ∷ back
 
 -- of what is within a list, the first element is one, or all is within the rest
-pick : {A : Type 0} (k : A) (ks ys : List A) → IsWithin ys (k ∷ ks) → IsWithin ys ks ⊎ IsPicked k ys
+pub pick : {A : Type 0} (k : A) (ks ys : List A) → IsWithin ys (k ∷ ks) → IsWithin ys ks ⊎ IsPicked k ys
 pick k ks [] within = inl (λ z there. absurd there)
 pick k ks (y ∷ ys) within = elim (within y (inl refl)) [
   | inl here ↦ inr (record { front = []; back = ys; is = ap (λ z. z ∷ ys) (sym here) })
@@ -34,7 +34,7 @@ around [] back k z there = inr there
 around (y ∷ ys) back k z (inl is) = inl is
 around (y ∷ ys) back k z (inr there) = inr (around ys back k z there)
 
-between : {A : Type 0} (front back : List A) (k : A) → Has (front ++ k ∷ back) k
+pub between : {A : Type 0} (front back : List A) (k : A) → Has (front ++ k ∷ back) k
 between [] back k = inl refl
 between (y ∷ ys) back k = inr (between ys back k)
 

@@ -37,3 +37,9 @@ pub record IsIdle (f : Format) (r : ReceiverView) : Type 0 where
 -- what was passed over is gone: no ordered chunk lies below its stream's next number
 abbrev pub IsSettled : ReceiverView → Type 0
 IsSettled r = (s : ℕ) (x : Piece) → Has r.kept x → is_below s (r.next s) x ≡ false
+
+-- A VIEW AS CALLS LEAVE IT
+pub record IsAtRest (f : Format) (r : ReceiverView) : Type 0 where
+  pub ordinary : IsOrdinary f r
+  pub idle : IsIdle f r
+  pub settled : IsSettled r

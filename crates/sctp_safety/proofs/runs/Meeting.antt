@@ -15,7 +15,7 @@ use Rattle.sctp_safety.specs.SenderLaws.{IsInOrder}
 use Rattle.sctp_safety.specs.States.{has_agreed}
 use Rattle.sctp_safety.specs.Agreement.{AreAgreed}
 use Rattle.sctp_safety.proofs.Always.{safe_always}
-use Rattle.sctp_safety.proofs.IdleLemmas.{idle_fresh}
+use Rattle.sctp_model.proofs.receiver.AtRest.{fresh_at_rest}
 use Rattle.sctp_safety.proofs.runs.Direction.{Bags, way_of, Direction}
 use Rattle.sctp_safety.proofs.runs.Pair.{AreOpening, IsMet, opening_quiet, opening_quiet_back, quiet_says, quiet_says_back}
 use Rattle.sctp_safety.proofs.runs.Unmet.{never_opened, IsBlank, IsUnmet}
@@ -81,7 +81,7 @@ module _ (f : Format) (tsn peer_tsn outbound inbound fragment rwnd buffer : ℕ)
     bags = no_bags;
     usual = record { origin = way; started = begins; led = ([], refl); order = ordered };
     reached = Begins tsn outbound fragment rwnd partial some large;
-    idle = idle_fresh f peer_tsn inbound buffer;
+    idle = (fresh_at_rest f peer_tsn inbound buffer).idle;
     initial = same;
     outbound = refl;
     inbound = streams;

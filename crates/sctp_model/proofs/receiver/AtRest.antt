@@ -1,0 +1,256 @@
+-- Every call of a receiver but a FORWARD leaves its view at rest: new, a chunk taken whatever is answered, a SACK sent, a message taken by the user.
+use Rattle.std.proofs.Common.{◌≡◌, ℕ, ◌⊎◌, ◌==◌, nat_lt, Bool, true, false, List, [], ◌∷◌, Option, Some, None, refl, ap, sym, ◌∙◌, subst, inl, inr, arith}
+use Rattle.std.specs.Prelude.{◌&&◌, not}
+use Rattle.std.proofs.lemmas.Bool.{cases_Bool, cases_eq, or_parts}
+use Rattle.std.proofs.lemmas.Bool.Decides.{nat_tests}
+use Rattle.std.proofs.lemmas.Grind.{common_steps}
+use Rattle.sctp_model.specs.Lists.{Has, IsWithin, at}
+use Rattle.sctp_model.specs.Format.{Format, Plain, Interleaved, Kind, Ordered, Unordered, Lane, is_numbered, same_lane, ordered_lane}
+use Rattle.sctp_model.specs.Chunk.{PieceMeaning}
+use Rattle.sctp_model.specs.Pieces.{Piece, is_number_below}
+use Rattle.sctp_model.specs.Whole.{IsWhole}
+use Rattle.sctp_model.specs.ReceiverView.{Handed, ReceiverView, fresh_receiver}
+use Rattle.sctp_model.specs.Receiving.{IsWholeNumber, HasNoWhole, is_below, goes_with, recorded, GivesOrdered, GivesUnordered, Gives, Takes}
+use Rattle.sctp_model.specs.receiver.Reading.{lowest_in, is_late, piece_at}
+use Rattle.sctp_model.specs.receiver.PieceTaken.{Answer, Duplicate, Ahead, NoSuchStream, Passed, NoRoom, Taken, answer_to, is_passed, is_repeated, Leaves, PieceTaken}
+use Rattle.sctp_model.specs.receiver.SackMade.{sack_sent, first_taken, TakeLeaves}
+use Rattle.sctp_model.specs.receiver.Laws.{IsApart, IsOrdinary, IsWaiting, IsIdle, IsSettled, IsAtRest}
+use Rattle.sctp_model.proofs.receiver.OneStep.{fewer_apart, kept_apart, taken_is_new}
+use Rattle.sctp_model.proofs.receiver.RowFacts.{row_same, goes_own}
+use Rattle.sctp_model.proofs.receiver.Sizes.{pick, between}
+use Rattle.sctp_model.proofs.receiver.Idle.{still_idle}
+use Rattle.sctp_model.proofs.receiver.Giving.{at_here, at_elsewhere, filter_passes, IsGiving, giving, giving_ordered, giving_unordered, IsClear, IsServed, served, still_waiting, still_clear}
+
+-- ---- a new receiver
+
+pub fresh_at_rest : (f : Format) (initial streams buffer : ℕ) → IsAtRest f (fresh_receiver initial streams buffer)
+fresh_at_rest f initial streams buffer = record {
+  ordinary = record { apart = λ x y here there place. absurd here; recorded = λ y there. absurd there };
+  idle = record {
+    ordered = λ s. record { passed = omega arith; none = λ xs whole. nothing (ordered_lane s) 0 xs whole };
+    unordered = λ y kind xs whole. whole.1 y whole.2;
+  };
+  settled = λ s x there. absurd there;
+}
+  where
+    nothing : (l : Lane) (n : ℕ) (xs : List Piece) → IsWholeNumber f [] l n xs → ⊥
+    nothing l n [] whole = whole.0
+    nothing l n (x ∷ xs) whole = whole.1 x (inl refl)
+
+-- ---- one chunk more
+
+-- of what is within the chunks kept and a new one, the new one is there or all is old
+pub new_or_old : (y : Piece) (kept xs : List Piece) → IsWithin xs (y ∷ kept) → Has xs y ⊎ IsWithin xs kept
+new_or_old y kept xs within = elim (pick y kept xs within) [
+  | inl old ↦ inr old
+  | inr p ↦ inl (subst (λ (zs : List Piece). Has zs y) (sym p.is) (between p.front p.back y))
+]
+
+-- all chunks of a whole message are of one lane
+pub one_lane : (f : Format) (xs : List Piece) (y z : Piece) → IsWhole f xs → Has xs y → Has xs z → y.lane ≡ z.lane
+one_lane f [] y z whole here there = absurd here
+one_lane f (x ∷ xs) y z whole here there = (row_same f x xs y whole.1 here).0 ∙ sym (row_same f x xs z whole.1 there).0
+
+none_with_other : (f : Format) (y : Piece) (kept : List Piece) (l : Lane) (n : ℕ) → (y.lane ≡ l → ⊥) → HasNoWhole f kept l n → HasNoWhole f (y ∷ kept) l n
+none_with_other f y kept l n other none [] whole = whole.0
+none_with_other f y kept l n other none (x ∷ xs) (whole, within, (lane, number)) = elim (new_or_old y kept (x ∷ xs) within) [
+  | inl there ↦ other ((row_same f x xs y whole.1 there).0 ∙ lane)
+  | inr old ↦ none (x ∷ xs) (whole, old, (lane, number))
+]
+
+-- the view with the chunk recorded and kept, before anything is handed over
+abbrev pub with_chunk : ReceiverView → Piece → ReceiverView
+with_chunk r x = record (recorded r x) { kept = x ∷ r.kept }
+
+not_both : (l : Lane) (s : ℕ) → l.kind ≡ Unordered → l ≡ ordered_lane s → ⊥
+not_both l s kind lane = let e : Unordered ≡ Ordered = sym kind ∙ ap (λ (k : Lane). k.kind) lane in cc
+
+module _ (f : Format) (r t : ReceiverView) (x : Piece) where
+  -- what the stream of an ordered chunk waits for then, and the others
+  ordered_idle : x.lane ≡ ordered_lane x.lane.stream → IsIdle f r → GivesOrdered f x.lane.stream (with_chunk r x) t → IsIdle f t
+  ordered_idle lane idle gives = record {
+    ordered = λ u. elim (cases_eq u x.lane.stream) [
+      | inl here ↦ subst (IsWaiting f t) (sym here) one.waits
+      | inr other ↦ still_waiting f (with_chunk r x) t u g.fewer (one.others u other) (ap (λ (k : Lane → ℕ). k (ordered_lane u)) g.skip) (record {
+        passed = (idle.ordered u).passed;
+        none = none_with_other f x r.kept (ordered_lane u) (r.next u) (λ e. other (ap (λ (l : Lane). l.stream) (sym e))) (idle.ordered u).none;
+      })
+    ];
+    unordered = λ y kind xs (whole, within, has). elim (new_or_old x r.kept xs (λ z there. g.fewer z (within z there))) [
+      | inl there ↦ not_both y.lane x.lane.stream kind (one_lane f xs y x whole has there ∙ lane)
+      | inr old ↦ idle.unordered y kind xs (whole, old, has)
+    ];
+  }
+    where
+      one : IsServed f x.lane.stream (with_chunk r x) t
+      one = served f x.lane.stream (with_chunk r x) t gives
+
+      g : IsGiving (with_chunk r x) t
+      g = giving_ordered f x.lane.stream (with_chunk r x) t gives
+
+  -- an unordered chunk leaves all streams waiting, and its message is handed over where it is whole
+  unordered_idle : x.lane.kind ≡ Unordered → IsIdle f r → GivesUnordered f x (with_chunk r x) t → IsIdle f t
+  unordered_idle kind idle gives = record {
+    ordered = λ u. still_waiting f (with_chunk r x) t u g.fewer (ap (λ (k : ℕ → ℕ). k u) (next gives)) (ap (λ (k : Lane → ℕ). k (ordered_lane u)) g.skip) (record {
+      passed = (idle.ordered u).passed;
+      none = none_with_other f x r.kept (ordered_lane u) (r.next u) (not_both x.lane u kind) (idle.ordered u).none;
+    });
+    unordered = λ y its xs (whole, within, has). elim (new_or_old x r.kept xs (λ z there. g.fewer z (within z there))) [
+      | inl there ↦ gone gives xs whole within there
+      | inr old ↦ idle.unordered y its xs (whole, old, has)
+    ];
+  }
+    where
+      g : IsGiving (with_chunk r x) t
+      g = giving_unordered f x (with_chunk r x) t gives
+
+      next : GivesUnordered f x (with_chunk r x) t → t.next ≡ r.next
+      next (inl (h, hs, whole, is)) = ap (λ (v : ReceiverView). v.next) is
+      next (inr (none, is)) = ap (λ (v : ReceiverView). v.next) is
+
+      -- no whole message with the new chunk is left
+      gone : GivesUnordered f x (with_chunk r x) t → (xs : List Piece) → IsWhole f xs → IsWithin xs t.kept → Has xs x → ⊥
+      gone (inr (none, is)) xs whole within has = none xs (whole, subst (λ (v : ReceiverView). IsWithin xs v.kept) is within, has)
+      gone (inl (h, hs, (its, inside, mine), is)) xs whole within has =
+          let there = subst (λ (v : ReceiverView). Has v.kept x) is (within x has) in
+          let stays = filter_passes (λ (y : Piece). not (goes_with f (h ∷ hs) y)) (x ∷ r.kept) x there in
+          let goes = goes_own f h hs x its mine in
+          absurd (cc)
+
+  gives_idle : (k : Kind) → x.lane.kind ≡ k → IsIdle f r → Gives f k x (with_chunk r x) t → IsIdle f t
+  gives_idle Ordered kind idle gives = ordered_idle (ap (λ (k : Kind). record { stream = x.lane.stream; kind = k }) kind) idle gives
+  gives_idle Unordered kind idle gives = unordered_idle kind idle gives
+
+  pub takes_idle : IsIdle f r → Takes f r x t → IsIdle f t
+  takes_idle idle takes = gives_idle x.lane.kind refl idle takes
+
+-- ---- a chunk that isn't passed isn't below its stream's next number
+
+below_of_stream : (r : ReceiverView) (l : Lane) (o : Option ℕ) → l.kind ≡ Ordered → is_late r l o ≡ false → (s : ℕ) → (same_lane l (ordered_lane s) && is_number_below (r.next s) o) ≡ false
+below_of_stream r l None kind wanted s = absurd (cc)
+below_of_stream r l (Some n) kind wanted s = go (cases_Bool (l.stream == s))
+  where
+    low : nat_lt n (r.next l.stream) ≡ false
+    low = let w : nat_lt n (lowest_in r l Ordered) ≡ false = subst (λ (k : Kind). nat_lt n (lowest_in r l k) ≡ false) kind wanted in grind (arith, w, nat_tests)
+
+    go : (l.stream == s ≡ true) ⊎ (l.stream == s ≡ false) → (same_lane l (ordered_lane s) && is_number_below (r.next s) (Some n)) ≡ false
+    go (inr other) = grind (arith, other, common_steps)
+    go (inl here) =
+        let same : l.stream ≡ s = grind (arith, here, nat_tests) in
+        let at_next : nat_lt n (r.next s) ≡ false = subst (λ (i : ℕ). nat_lt n (r.next i) ≡ false) same low in
+        grind (arith, here, at_next, common_steps)
+
+ordered_numbered : (f : Format) (k : Kind) → k ≡ Ordered → is_numbered f k ≡ true
+ordered_numbered Plain Ordered e = refl
+ordered_numbered Interleaved Ordered e = refl
+ordered_numbered f Unordered e = absurd (cc)
+
+pub wanted_clear : (f : Format) (r : ReceiverView) (x : Piece) → is_passed f r x ≡ false → (s : ℕ) → is_below s (r.next s) x ≡ false
+wanted_clear f r x wanted s = go x.lane.kind refl
+  where
+    late : (is_numbered f x.lane.kind && is_late r x.lane x.number) ≡ false
+    late = (or_parts (is_numbered f x.lane.kind && is_late r x.lane x.number) (is_repeated f r.kept x) wanted).0
+
+    go : (k : Kind) → x.lane.kind ≡ k → is_below s (r.next s) x ≡ false
+    go Unordered kind = rw kind (grind (arith, common_steps))
+    go Ordered kind = let numbered = ordered_numbered f x.lane.kind kind in below_of_stream r x.lane x.number kind (rw numbered at late) s
+
+-- ---- a chunk taken
+
+pub takes_giving : (f : Format) (r t : ReceiverView) (x : Piece) → Takes f r x t → IsGiving (with_chunk r x) t
+takes_giving f r t x takes = giving f x.lane.kind x (with_chunk r x) t takes
+
+-- what is kept then lies at or past the next numbers
+takes_settled : (f : Format) (r t : ReceiverView) (x : Piece) → IsSettled r → is_passed f r x ≡ false → Takes f r x t → IsSettled t
+takes_settled f r t x settled wanted takes s = go x.lane.kind takes
+  where
+    before : IsClear (with_chunk r x) s
+    before y (inl is) = subst (λ (z : Piece). is_below s (r.next s) z ≡ false) is (wanted_clear f r x wanted s)
+    before y (inr there) = settled s y there
+
+    same_next : (v : ReceiverView) → v.next ≡ r.next → IsWithin v.kept (x ∷ r.kept) → IsClear v s
+    same_next v next fewer = still_clear (with_chunk r x) v s fewer (ap (λ (k : ℕ → ℕ). k s) next) before
+
+    go : (k : Kind) → Gives f k x (with_chunk r x) t → IsClear t s
+    go Ordered gives = elim (cases_eq s x.lane.stream) [
+      | inl here ↦ subst (IsClear t) (sym here) (served f x.lane.stream (with_chunk r x) t gives).clear
+      | inr other ↦ still_clear (with_chunk r x) t s (giving_ordered f x.lane.stream (with_chunk r x) t gives).fewer ((served f x.lane.stream (with_chunk r x) t gives).others s other) before
+    ]
+    go Unordered (inl (h, hs, whole, is)) = same_next t (ap (λ (v : ReceiverView). v.next) is) (giving_unordered f x (with_chunk r x) t (inl (h, hs, whole, is))).fewer
+    go Unordered (inr (none, is)) = same_next t (ap (λ (v : ReceiverView). v.next) is) (giving_unordered f x (with_chunk r x) t (inr (none, is))).fewer
+
+recorded_more : (r : ReceiverView) (x : Piece) (i : ℕ) → r.seen i ≡ true → at r.seen x.index true i ≡ true
+recorded_more r x i seen = elim (cases_eq i x.index) [
+  | inl here ↦ subst (λ (j : ℕ). at r.seen x.index true j ≡ true) (sym here) (at_here r.seen x.index true)
+  | inr other ↦ at_elsewhere r.seen x.index true i other ∙ seen
+]
+
+takes_ordinary : (f : Format) (r t : ReceiverView) (x : Piece) → IsApart f (x ∷ r.kept) → IsOrdinary f r → Takes f r x t → IsOrdinary f t
+takes_ordinary f r t x apart o takes = record {
+  apart = fewer_apart f (x ∷ r.kept) t.kept g.fewer apart;
+  recorded = λ y there. subst (λ (k : ℕ → Bool). k y.index ≡ true) (sym g.seen) (elim (g.fewer y there) [
+    | inl is ↦ subst (λ (z : Piece). at r.seen x.index true z.index ≡ true) is (at_here r.seen x.index true)
+    | inr old ↦ recorded_more r x y.index (o.recorded y old)
+  ]);
+}
+  where
+    g : IsGiving (with_chunk r x) t
+    g = takes_giving f r t x takes
+
+-- each answer leaves the view at rest
+module _ (f : Format) (r t : ReceiverView) (c : ℕ) (p : PieceMeaning) where
+  leaves_idle : (a : Answer) → IsIdle f r → Leaves f r (piece_at f r c p) p.tsn a t → IsIdle f t
+  leaves_idle Duplicate idle is = still_idle f r t (sym (ap (λ (v : ReceiverView). v.kept) is)) (sym (ap (λ (v : ReceiverView). v.next) is)) (sym (ap (λ (v : ReceiverView). v.skip) is)) idle
+  leaves_idle Ahead idle is = subst (IsIdle f) (sym is) idle
+  leaves_idle NoSuchStream idle is = still_idle f r t (sym (ap (λ (v : ReceiverView). v.kept) is)) (sym (ap (λ (v : ReceiverView). v.next) is)) (sym (ap (λ (v : ReceiverView). v.skip) is)) idle
+  leaves_idle Passed idle is = still_idle f r t (sym (ap (λ (v : ReceiverView). v.kept) is)) (sym (ap (λ (v : ReceiverView). v.next) is)) (sym (ap (λ (v : ReceiverView). v.skip) is)) idle
+  leaves_idle NoRoom idle is = subst (IsIdle f) (sym is) idle
+  leaves_idle Taken idle takes = takes_idle f r t (piece_at f r c p) idle takes
+
+  leaves_settled : (a : Answer) → answer_to f r c p ≡ a → IsSettled r → Leaves f r (piece_at f r c p) p.tsn a t → IsSettled t
+  leaves_settled Duplicate answer settled is = subst IsSettled (sym is) settled
+  leaves_settled Ahead answer settled is = subst IsSettled (sym is) settled
+  leaves_settled NoSuchStream answer settled is = subst IsSettled (sym is) settled
+  leaves_settled Passed answer settled is = subst IsSettled (sym is) settled
+  leaves_settled NoRoom answer settled is = subst IsSettled (sym is) settled
+  leaves_settled Taken answer settled takes = takes_settled f r t (piece_at f r c p) settled (taken_is_new f r c p answer).1 takes
+
+  leaves_ordinary : (a : Answer) → answer_to f r c p ≡ a → IsOrdinary f r → Leaves f r (piece_at f r c p) p.tsn a t → IsOrdinary f t
+  leaves_ordinary Duplicate answer o is = subst (IsOrdinary f) (sym is) (record { apart = o.apart; recorded = o.recorded })
+  leaves_ordinary Ahead answer o is = subst (IsOrdinary f) (sym is) o
+  leaves_ordinary NoSuchStream answer o is = subst (IsOrdinary f) (sym is) (record { apart = o.apart; recorded = λ y there. recorded_more r (piece_at f r c p) y.index (o.recorded y there) })
+  leaves_ordinary Passed answer o is = subst (IsOrdinary f) (sym is) (record { apart = o.apart; recorded = λ y there. recorded_more r (piece_at f r c p) y.index (o.recorded y there) })
+  leaves_ordinary NoRoom answer o is = subst (IsOrdinary f) (sym is) o
+  leaves_ordinary Taken answer o takes =
+      let new = taken_is_new f r c p answer in
+      takes_ordinary f r t (piece_at f r c p) (kept_apart f r (piece_at f r c p) o new.0 new.1) o takes
+
+pub piece_idle : (f : Format) (r : ReceiverView) (p : PieceMeaning) (a : Answer) (t : ReceiverView) → IsIdle f r → PieceTaken f r p a t → IsIdle f t
+piece_idle f r p a t idle taken = leaves_idle f r t taken.c p a idle taken.leaves
+
+pub piece_ordinary : (f : Format) (r : ReceiverView) (p : PieceMeaning) (a : Answer) (t : ReceiverView) → IsOrdinary f r → PieceTaken f r p a t → IsOrdinary f t
+piece_ordinary f r p a t o taken = leaves_ordinary f r t taken.c p a (sym taken.answer) o taken.leaves
+
+pub piece_at_rest : (f : Format) (r : ReceiverView) (p : PieceMeaning) (a : Answer) (t : ReceiverView) → IsAtRest f r → PieceTaken f r p a t → IsAtRest f t
+piece_at_rest f r p a t rest taken = record {
+  ordinary = piece_ordinary f r p a t rest.ordinary taken;
+  idle = piece_idle f r p a t rest.idle taken;
+  settled = leaves_settled f r t taken.c p a (sym taken.answer) rest.settled taken.leaves;
+}
+
+-- ---- a SACK sent, and a message taken by the user
+
+pub sent_at_rest : (f : Format) (r : ReceiverView) → IsAtRest f r → IsAtRest f (sack_sent r)
+sent_at_rest f r rest = record {
+  ordinary = record { apart = rest.ordinary.apart; recorded = rest.ordinary.recorded };
+  idle = still_idle f r (sack_sent r) refl refl refl rest.idle;
+  settled = rest.settled;
+}
+
+pub take_at_rest : (f : Format) (r : ReceiverView) (s : ℕ) (h : Option Handed) (t : ReceiverView) → IsAtRest f r → TakeLeaves r s h t → IsAtRest f t
+take_at_rest f r s None t rest (none, is) = subst (IsAtRest f) (sym is) rest
+take_at_rest f r s (Some h) t rest (others, waits, is) = subst (IsAtRest f) (sym is) (record {
+  ordinary = record { apart = rest.ordinary.apart; recorded = rest.ordinary.recorded };
+  idle = still_idle f r (first_taken r s h others) refl refl refl rest.idle;
+  settled = rest.settled;
+})

@@ -1,0 +1,23 @@
+//! A receiver's view at rest: every call leaves it, and from it the short forms of the definitions are the full ones.
+
+ghost use Rattle.sctp_safety.specs.RestLaws.{FilterIsWords, ForwardLeavesRest, NewIsAtRest, NothingMoreIsDue, PieceLeavesRest, SentLeavesRest, TakeLeavesRest};
+
+/// Whatever comes, and whatever its user does, a receiver's view is at rest after each call: no place is filled twice, nothing is to be handed over,
+/// and no chunk is kept that was passed over (RFC 9260, 6.6 and 6.9; RFC 3758, 3.6; RFC 8260, 2.2).
+pub fn every_call_leaves_rest()
+    ensures begins { NewIsAtRest }
+    ensures piece { PieceLeavesRest }
+    ensures forward { ForwardLeavesRest }
+    ensures take { TakeLeavesRest }
+    ensures sent { SentLeavesRest }
+{}
+
+/// So after a chunk nothing more is due on any stream, whatever was answered.
+pub fn nothing_more_is_due()
+    ensures { NothingMoreIsDue }
+{}
+
+/// And what a FORWARD lets go is just what isn't whole of what it leaves behind.
+pub fn nothing_whole_is_let_go()
+    ensures { FilterIsWords }
+{}
