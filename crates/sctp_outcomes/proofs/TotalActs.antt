@@ -1,11 +1,11 @@
 -- Every chunk does something to an end whose receiver is bounded.
-use Rattle.std.proofs.Common.{◌≡◌, ℕ, zero, suc, ◌<◌, Bool, true, false, List, [], length, Option, Some, None, inl, inr, refl, sym, subst, ap, arith, ◌∙◌}
-use Rattle.std.specs.Prelude.{if◌then◌else◌}
+use Rattle.std.proofs.Common.{◌≡◌, ℕ, zero, suc, ◌<◌, Bool, true, false, List, [], ◌∷◌, length, Option, Some, None, inl, inr, refl, sym, subst, ap, arith, ◌∙◌}
 use Rattle.sctp_model.specs.Chunk.{PieceMeaning, SackMeaning, ForwardMeaning, InitMeaning, ChunkMeaning, Data, IData, Init, InitAck, Sack, Heartbeat, HeartbeatAck, Abort, Shutdown, ShutdownAck, Error, CookieEcho, CookieAck, ShutdownComplete, ForwardTsn, IForwardTsn, Unknown}
 use Rattle.sctp_model.specs.Format.{Format, Plain, Interleaved}
 use Rattle.sctp_model.specs.SenderView.{SenderView}
 use Rattle.sctp_model.specs.ReceiverView.{IsCumulative}
 use Rattle.sctp_model.specs.receiver.ForwardTaken.{ForwardAnswer, OutOfDate, Bad, Moved, ForwardTaken, forward_answer}
+use Rattle.sctp_model.specs.sender.Words.{when, first_there}
 use Rattle.sctp_model.specs.sender.SackTaken.{SackFault, Stale, Beyond, BadBlock, is_stale, is_beyond, index_of, sack_fault, shutdown_fault}
 use Rattle.sctp_model.specs.Typed.{Typed}
 use Rattle.sctp_model.specs.end.Sealing.{Sealing}
@@ -50,15 +50,12 @@ pub record Acted (e : EndView) (tag : ℕ) (x : ChunkMeaning) : Type 0 where
 
 -- a SHUTDOWN has no blocks
 no_bad_block : (v : SenderView) (wire : ℕ) → shutdown_fault v wire ≡ Some BadBlock → ⊥
-no_bad_block v wire e = go (is_stale v wire) e
+no_bad_block v wire e = by_tests (is_stale v wire) (is_beyond v (index_of v wire) []) e
   where
-    inner : (b : Bool) → (if b then Some Beyond else None) ≡ Some BadBlock → ⊥
-    inner true q = absurd (cc)
-    inner false q = absurd (cc)
-
-    go : (b : Bool) → (if b then Some Stale else if is_beyond v (index_of v wire) [] then Some Beyond else None) ≡ Some BadBlock → ⊥
-    go true q = absurd (cc)
-    go false q = inner (is_beyond v (index_of v wire) []) q
+    by_tests : (b c : Bool) → first_there (when b Stale ∷ when c Beyond ∷ []) ≡ Some BadBlock → ⊥
+    by_tests true c q = absurd (cc)
+    by_tests false true q = absurd (cc)
+    by_tests false false q = absurd (cc)
 
 module _ (e : EndView) (tag : ℕ) (b : IsBounded (format_of e) e.receiver) where
   abbrev c : ℕ
