@@ -1,14 +1,14 @@
 -- What goes into a packet goes out by moves: a fragment takes its index where it has none yet, its chunk comes between the ends, and it counts as sent.
-use Rattle.std.proofs.Common.{◌≡◌, ℕ, zero, suc, ◌+◌, ◌-◌, ◌<◌, ◌≤◌, ◌⊎◌, not, ◌&&◌, ◌==◌, true, false, Bool, List, [], ◌∷◌, ◌++◌, length, slice_get, Option, Some, None, inl, inr, refl, sym, subst, arith, ◌∙◌, eqb-true}
+use Rattle.std.proofs.Common.{◌≡◌, ℕ, zero, suc, ◌+◌, ◌-◌, ◌<◌, ◌≤◌, ◌⊎◌, not, true, false, Bool, List, [], ◌∷◌, ◌++◌, length, slice_get, Some, None, inl, inr, refl, sym, subst, arith, ◌∙◌, eqb-true}
 use Rattle.std.proofs.lemmas.Bool.{and_parts, eqb-false}
 use Rattle.sctp_model.specs.Lists.{Has, item_at}
 use Rattle.sctp_model.specs.Format.{Format, Plain, Interleaved, Lane}
 use Rattle.sctp_model.specs.Plan.{Message, Entry, Part, End, Plan, entry_at, message_at, HasEnd, parts_from}
 use Rattle.sctp_model.specs.Pieces.{Piece, piece_of}
 use Rattle.sctp_model.specs.SenderView.{Queued, SenderView}
-use Rattle.sctp_model.specs.sender.Entries.{is_wanted, is_unsent, passes_at, continued}
+use Rattle.sctp_model.specs.sender.Entries.{is_wanted, is_unsent, continued}
 use Rattle.sctp_model.specs.sender.Assigning.{with_message, with_entry, is_on, first_on, without_first, stream_after}
-use Rattle.sctp_model.specs.sender.Filling.{Wish, standing, newcomer, Follows, gone, goes, next_wish, room_of}
+use Rattle.sctp_model.specs.sender.Filling.{Wish, standing, newcomer, Follows, gone, next_wish, room_of}
 use Rattle.sctp_model.proofs.sender.WordLaws.{some_is}
 use Rattle.sctp_model.proofs.sender.WishCases.{IsAssigned, Whole, Begun, Continued, assigned_cases, IsWished, Repeated, Unsent, New, wished_ways}
 use Rattle.sctp_model.proofs.sender.FillLaws.{goes_parts}

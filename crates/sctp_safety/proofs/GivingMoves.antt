@@ -1,15 +1,15 @@
 -- Abandoning is moves: a message that waits leaves the queue; one with a number is given up, and takes its end mark where it is in part.
-use Rattle.std.proofs.Common.{◌≡◌, ℕ, suc, ◌+◌, ◌<◌, ◌≤◌, ◌⊎◌, ◌==◌, not, ◌&&◌, ◌||◌, true, false, Bool, List, [], ◌∷◌, ◌++◌, length, zero, slice_get, Option, Some, None, inl, inr, refl, sym, subst, ap, arith, ◌∙◌, eqb-true, leb-true}
+use Rattle.std.proofs.Common.{◌≡◌, ℕ, suc, ◌+◌, ◌<◌, ◌≤◌, ◌⊎◌, ◌==◌, not, ◌&&◌, ◌||◌, true, false, Bool, List, [], ◌∷◌, ◌++◌, length, zero, slice_get, Option, Some, None, inl, inr, refl, sym, subst, arith, ◌∙◌, eqb-true, leb-true}
 use Rattle.std.specs.Prelude.{if◌then◌else◌, fold, find, option_map, option_and_then}
 use Rattle.std.proofs.lemmas.Bool.{and_parts}
-use Rattle.sctp_model.specs.Lists.{Has, at}
+use Rattle.sctp_model.specs.Lists.{at}
 use Rattle.sctp_model.specs.Format.{Lane, at_lane}
 use Rattle.sctp_model.specs.Plan.{Message, Entry, Part, End, Plan, entry_at, message_at}
 use Rattle.sctp_model.specs.SenderView.{Queued, SenderView}
 use Rattle.sctp_model.specs.sender.Words.{first_there, some_passes, count_up}
 use Rattle.sctp_model.specs.sender.Entries.{entry_message, is_of, is_in_part, is_wanted, is_unsettled, passes_at}
 use Rattle.sctp_model.specs.sender.Assigning.{with_entry}
-use Rattle.sctp_model.specs.sender.Abandoning.{has_ticket, name_at, name_of, waits, without, ended, given_up, abandon_after, is_past, is_due, expire_one, expired, unsettled_at, timed_out}
+use Rattle.sctp_model.specs.sender.Abandoning.{has_ticket, name_at, name_of, waits, without, given_up, abandon_after, is_past, is_due, expire_one, unsettled_at, timed_out}
 use Rattle.sctp_model.specs.sender.Abandoning.{Name as Named}
 use Rattle.sctp_model.proofs.sender.WordLaws.{some_is, found_is}
 use Rattle.sctp_model.proofs.sender.AbandonCases.{after_abandon}

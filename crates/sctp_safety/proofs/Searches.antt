@@ -1,5 +1,5 @@
 -- What a sender's searches find: the last entry of a stream, by its index, and the first of the messages that are meant.
-use Rattle.std.proofs.Common.{◌≡◌, ℕ, zero, suc, ◌≤◌, ◌==◌, ◌||◌, true, false, Bool, List, [], ◌∷◌, ◌++◌, slice_get, Option, Some, None, inl, inr, refl, sym, subst, ap, arith, eqb-true, ◌∙◌}
+use Rattle.std.proofs.Common.{◌≡◌, ℕ, zero, suc, ◌≤◌, ◌==◌, ◌||◌, true, false, Bool, List, [], ◌∷◌, ◌++◌, slice_get, Some, None, inl, inr, refl, sym, subst, ap, arith, eqb-true, ◌∙◌}
 use Rattle.std.specs.Prelude.{if◌then◌else◌, find}
 use Rattle.std.specs.List.{list_any}
 use Rattle.sctp_model.specs.Lists.{Has}

@@ -11,7 +11,6 @@ mod Answers
 mod Unmet
 mod Waiting
 mod Meeting
-mod Fronts
 mod Bags
 mod Brought
 mod MetWorld

@@ -6,7 +6,7 @@ use Rattle.sctp_model.specs.end.EndView.{Draw, Phase, Listener}
 use Rattle.sctp_model.specs.end.Configured.{IsConfiguration}
 use Rattle.sctp_model.specs.World.{Side, A, B, World, end_of, Setup, configuration_of, start}
 use Rattle.sctp_model.specs.Events.{Event, Outcome}
-use Rattle.sctp_model.specs.Steps.{Run, Rest, Then}
+use Rattle.sctp_model.specs.Steps.{Step, Run, Rest, Then}
 use Rattle.sctp_model.specs.Premises.{draws_of, drawn_in, Premises}
 use Rattle.sctp_safety.specs.Strangers.{IsDrawn}
 use Rattle.sctp_safety.specs.Agreement.{was_open, IsOpening, EndsAgree}
@@ -55,19 +55,21 @@ pub record IsSound (s : Setup) (drawn : List ℕ) (w : World) : Type 0 where
   pub story : IsStory s drawn w
 
 module _ (s : Setup) (drawn : List ℕ) (configured : (x : Side) → IsConfiguration (configuration_of s x)) where
+  pub sound_step : (w : World) (e : Event) (o : Option Outcome) (v : World) → IsFine s drawn e → Step w e o v → IsSound s drawn w → IsSound s drawn v
+  sound_step w e o v fine step i = record {
+    ground = ground_step s drawn w e o v fine i.ground step;
+    fresh = (step_onward w e o v i.fresh step).fresh;
+    story = story_step s drawn configured w e o v fine i.ground i.fresh step i.story;
+  }
+
   pub sound_run : (w : World) (es : List Event) (os : List (Option Outcome)) (v : World) → ((e : Event) → Has es e → IsFine s drawn e) → Run w es os v → IsSound s drawn w → IsSound s drawn v
   sound_run w es os v fine (Rest _) i = i
   sound_run w es os v fine (Then _ mid _ e rest o others step run) i =
-      let f = fine e (inl refl) in
-      sound_run mid rest others v (λ x h. fine x (inr h)) run (record {
-        ground = ground_step s drawn w e o mid f i.ground step;
-        fresh = (step_onward w e o mid i.fresh step).fresh;
-        story = story_step s drawn configured w e o mid f i.ground i.fresh step i.story;
-      })
+      sound_run mid rest others v (λ x h. fine x (inr h)) run (sound_step w e o mid (fine e (inl refl)) step i)
 
 -- ---- START
 
-sound_start : (s : Setup) (drawn : List ℕ) → Has drawn 1 → IsSound s drawn (start s)
+pub sound_start : (s : Setup) (drawn : List ℕ) → Has drawn 1 → IsSound s drawn (start s)
 sound_start s drawn one = record {
   ground = record { ends = ends; clock = omega arith; draw = record { some = omega arith; tag = omega arith; tsn = omega arith }; draw_tag = one };
   fresh = λ q. (refl, refl);
@@ -94,7 +96,7 @@ sound_start s drawn one = record {
 
 -- ---- what it gives
 
-opening_of : (s : Setup) (drawn : List ℕ) (w : World) → IsSound s drawn w → IsOpening s drawn w
+pub opening_of : (s : Setup) (drawn : List ℕ) (w : World) → IsSound s drawn w → IsOpening s drawn w
 opening_of s drawn w i = by i.story
   where
     seals : (x : Side) (z : Sealing) → (end_of w x).role ≡ Listener z → z ≡ s.sealing

@@ -1,5 +1,5 @@
 -- What a chunk of the peer does to an end that has met it.
-use Rattle.std.proofs.Common.{◌≡◌, ℕ, true, false, List, [], ◌∷◌, inl, inr, refl, sym, subst}
+use Rattle.std.proofs.Common.{◌≡◌, ℕ, true, false, List, refl, sym, subst}
 use Rattle.sctp_model.specs.Lists.{Has}
 use Rattle.sctp_model.specs.Chunk.{PieceMeaning, ForwardMeaning, ChunkMeaning, Data, IData, Init, InitAck, Sack, Heartbeat, HeartbeatAck, Abort, Shutdown, ShutdownAck, Error, CookieEcho, CookieAck, ShutdownComplete, ForwardTsn, IForwardTsn, Unknown}
 use Rattle.sctp_model.specs.Format.{Format}
@@ -16,11 +16,10 @@ use Rattle.sctp_model.specs.end.Opening.{AcceptedAck, RefusedAck, EchoedAgain, C
 use Rattle.sctp_model.specs.end.Acting.{Acts, Empty, WrongFormat, Comes, WrongKind, IsBad, IsOld, IsStale, IsWrong, Counts, Closes, SaysNothing, Crosses, Again, Completes}
 use Rattle.sctp_safety.specs.States.{has_agreed}
 use Rattle.sctp_safety.proofs.machine.Sides.{unknown_goes, unknown_ends, unknown_never_replies}
-use Rattle.sctp_safety.proofs.machine.EndWords.{Keeps}
 use Rattle.sctp_safety.proofs.runs.Direction.{Direction}
 use Rattle.sctp_safety.proofs.runs.Sending.{after_sack, after_shutdown}
 use Rattle.sctp_safety.proofs.runs.Hearing.{after_piece, after_skip}
-use Rattle.sctp_safety.proofs.runs.Pair.{opens_or_ends, AreOpening, IsMet, AreViews, met_same, met_rested}
+use Rattle.sctp_safety.proofs.runs.Pair.{IsMet, AreViews, met_same}
 
 -- an end that waits for an INIT ACK has agreed on nothing
 pub not_calling : (h : Phase) (d : Draw) → h ≡ Calling d → has_agreed h ≡ true → ⊥
@@ -85,7 +84,7 @@ module _ (p : EndView) (u v : Asked) (out back : List ChunkMeaning) where
 
   -- ---- a chunk after which the packet goes on
 
-  goes : (e : EndView) (tag : ℕ) (x : ChunkMeaning) (t : EndView) → Has back x → Met e → Acts e tag x (GoesOn t) → Met t
+  pub goes : (e : EndView) (tag : ℕ) (x : ChunkMeaning) (t : EndView) → Has back x → Met e → Acts e tag x (GoesOn t) → Met t
   goes e tag (Data d) t has m (Comes k g o r is hears some same taken) =
       still (record e { receiver = r }) t (by_data e d o r m has taken) (record { terms = refl; sender = refl; receiver = refl; moment = refl }) m.phase
   goes e tag (IData d) t has m (Comes k g o r is hears some same taken) =
@@ -123,7 +122,7 @@ module _ (p : EndView) (u v : Asked) (out back : List ChunkMeaning) where
 
   -- ---- a chunk that ends its packet, and one that is answered
 
-  ends : (e : EndView) (tag : ℕ) (x : ChunkMeaning) (t : EndView) → Met e → Acts e tag x (Ends t) → Met t
+  pub ends : (e : EndView) (tag : ℕ) (x : ChunkMeaning) (t : EndView) → Met e → Acts e tag x (Ends t) → Met t
   ends e tag (Data d) t m h = elim h [ ]
   ends e tag (IData d) t m h = elim h [ ]
   ends e tag (Init i) t m h = absurd (cc)
@@ -143,37 +142,25 @@ module _ (p : EndView) (u v : Asked) (out back : List ChunkMeaning) where
   ends e tag (Unknown k f w) t m h =
       subst Met (sym (unknown_ends e t k f w h).same) (still e _ m (record { terms = refl; sender = refl; receiver = refl; moment = refl }) m.phase)
 
-  one : (x : ChunkMeaning) → opens_or_ends x ≡ true → AreOpening (x ∷ [])
-  one x h y (inl e) = subst (λ (z : ChunkMeaning). opens_or_ends z ≡ true) e h
-  one x h y (inr k) = absurd k
-
-  replies : (e : EndView) (tag : ℕ) (x : ChunkMeaning) (t : EndView) (r : Packet) → Met e → Acts e tag x (Replies t r) → Met t × AreOpening r.chunks
-  replies e tag (Data d) t r m (Empty _ _ _ _ _) = (over e AbortedHere m, one _ refl)
-  replies e tag (Data d) t r m (WrongFormat _ _ _ _ _ _) = (over e AbortedHere m, one _ refl)
-  replies e tag (IData d) t r m (Empty _ _ _ _ _) = (over e AbortedHere m, one _ refl)
-  replies e tag (IData d) t r m (WrongFormat _ _ _ _ _ _) = (over e AbortedHere m, one _ refl)
+  pub replies : (e : EndView) (tag : ℕ) (x : ChunkMeaning) (t : EndView) (r : Packet) → Met e → Acts e tag x (Replies t r) → Met t
+  replies e tag (Data d) t r m (Empty _ _ _ _ _) = over e AbortedHere m
+  replies e tag (Data d) t r m (WrongFormat _ _ _ _ _ _) = over e AbortedHere m
+  replies e tag (IData d) t r m (Empty _ _ _ _ _) = over e AbortedHere m
+  replies e tag (IData d) t r m (WrongFormat _ _ _ _ _ _) = over e AbortedHere m
   replies e tag (Init i) t r m h = absurd (cc)
-  replies e tag (InitAck i) t r m (RefusedAck _ _ _ _ _) = (over e AbortedHere m, one _ refl)
-  replies e tag (Sack s) t r m (IsWrong _ _ _ _ _) = (over e AbortedHere m, one _ refl)
+  replies e tag (InitAck i) t r m (RefusedAck _ _ _ _ _) = over e AbortedHere m
+  replies e tag (Sack s) t r m (IsWrong _ _ _ _ _) = over e AbortedHere m
   replies e tag (Heartbeat i) t r m h = elim h [ ]
   replies e tag (HeartbeatAck i) t r m h = absurd (cc)
   replies e tag (Abort b xs) t r m h = absurd (cc)
-  replies e tag (Shutdown n) t r m (IsWrong _ _ _ _ _) = (over e AbortedHere m, one _ refl)
-  replies e tag ShutdownAck t r m (Completes _ _ _ _) = (over e Completed m, one _ refl)
+  replies e tag (Shutdown n) t r m (IsWrong _ _ _ _ _) = over e AbortedHere m
+  replies e tag ShutdownAck t r m (Completes _ _ _ _) = over e Completed m
   replies e tag (Error xs) t r m h = elim h [ ]
   replies e tag (CookieEcho xs) t r m h = elim h [ ]
   replies e tag CookieAck t r m h = elim h [ ]
   replies e tag (ShutdownComplete b) t r m h = elim h [ ]
-  replies e tag (ForwardTsn d) t r m (WrongKind _ _ _ _ _) = (over e AbortedHere m, one _ refl)
-  replies e tag (ForwardTsn d) t r m (IsBad _ _ _ _ _ _ _) = (over e AbortedHere m, one _ refl)
-  replies e tag (IForwardTsn d) t r m (WrongKind _ _ _ _ _) = (over e AbortedHere m, one _ refl)
-  replies e tag (IForwardTsn d) t r m (IsBad _ _ _ _ _ _ _) = (over e AbortedHere m, one _ refl)
+  replies e tag (ForwardTsn d) t r m (WrongKind _ _ _ _ _) = over e AbortedHere m
+  replies e tag (ForwardTsn d) t r m (IsBad _ _ _ _ _ _ _) = over e AbortedHere m
+  replies e tag (IForwardTsn d) t r m (WrongKind _ _ _ _ _) = over e AbortedHere m
+  replies e tag (IForwardTsn d) t r m (IsBad _ _ _ _ _ _ _) = over e AbortedHere m
   replies e tag (Unknown k f w) t r m h = absurd (unknown_never_replies e t r k f w h)
-
-  -- Chunks of the peer keep both directions, and an answer to them says nothing of either.
-  pub chunks_keep : (tag : ℕ) → Keeps tag Met (λ x. Has back x) (λ r. AreOpening r.chunks)
-  chunks_keep tag = record {
-    goes = λ e x t has m act. met_rested t p u v out back (goes e tag x t has m act);
-    ends = λ e x t has m act. ends e tag x t m act;
-    replies = λ e x t r has m act. replies e tag x t r m act;
-  }

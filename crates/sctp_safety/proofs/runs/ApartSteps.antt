@@ -1,64 +1,39 @@
 -- Two ends that are apart stay apart, or meet: by `open`, or when the listener opens the cookie of what the caller has joined on.
-use Rattle.std.proofs.Common.{◌≡◌, ℕ, max, true, false, List, [], ◌∷◌, ◌++◌, drop, Option, Some, inl, inr, refl, sym, subst, arith, ◌⊎◌}
+use Rattle.std.proofs.Common.{◌≡◌, ℕ, max, true, false, List, [], ◌∷◌, drop, Option, Some, inl, inr, refl, sym, subst, arith, ◌⊎◌}
 use Rattle.sctp_model.specs.Lists.{Has, IsWithin}
 use Rattle.sctp_model.specs.Chunk.{ChunkMeaning, CookieEcho}
 use Rattle.sctp_model.specs.Packet.{Packet}
-use Rattle.sctp_model.specs.Places.{ArePlaced}
 use Rattle.sctp_model.specs.end.Sealing.{Body, Sealing}
 use Rattle.sctp_model.specs.end.EndView.{Established, Open, Phase, Listening, EndView, has_association}
 use Rattle.sctp_model.specs.end.Opening.{begun, joined, terms_of_body, tags_of_body}
 use Rattle.sctp_model.specs.end.Clock.{turned}
 use Rattle.sctp_model.specs.end.Strays.{Verdict}
-use Rattle.sctp_model.specs.end.Arriving.{AllAct, Arrives, NotOurs, Stray, Begins, Heard}
-use Rattle.sctp_model.specs.end.Arriving.{Elsewhere as WrongPorts}
+use Rattle.sctp_model.specs.end.Arriving.{AllAct, Arrives, Elsewhere, NotOurs, Stray, Begins, Heard}
 use Rattle.sctp_model.specs.end.Building.{Builds, packet_of}
 use Rattle.sctp_model.specs.end.Moments.{ticked}
 use Rattle.sctp_model.specs.end.UserCalls.{called, abandoned_at, shut, abort_answer, abort_leaves}
-use Rattle.sctp_model.specs.World.{Side, A, B, other, World, end_of, bag_of, log_of, with_end, end_now, came, logged, Setup}
+use Rattle.sctp_model.specs.World.{Side, A, B, World, end_of, bag_of, log_of, with_end, end_now, came, logged, Setup}
 use Rattle.sctp_model.specs.Events.{Event, with_verdict, Outcome}
 use Rattle.sctp_model.specs.Steps.{named_at, cut, Step, Opens, OpenRefused, TimePasses, Draws, Connects, ConnectRefused, BuildsOne, BuildsNone, Comes, IsAbsent, Unread, Sends, Abandons, TakesOne, ShutsDown, AbortsIt, CutFirst, CutLater, NoMemory}
-use Rattle.sctp_model.specs.Premises.{asked_at, IsStranger}
+use Rattle.sctp_model.specs.Premises.{asked_at}
 use Rattle.sctp_safety.specs.Agreement.{IsOpening}
-use Rattle.sctp_safety.proofs.Basics.{Has-left}
 use Rattle.sctp_safety.proofs.machine.EndWords.{all_act_keeps}
-use Rattle.sctp_safety.proofs.machine.Strangers.{IsFound, found_is}
+use Rattle.sctp_safety.proofs.machine.Strangers.{IsFound, found_is, stranger_stays}
+use Rattle.sctp_safety.proofs.machine.Ground.{IsFine}
+use Rattle.sctp_safety.proofs.machine.Fronts.{From, FromPeer, FromOutside, from_whole, from_cut}
 use Rattle.sctp_safety.proofs.machine.Turns.{builds_plain}
 use Rattle.sctp_safety.proofs.machine.TurnsOfTime.{plain_ticked, plain_abandoned, plain_taken, plain_shut, plain_aborted}
 use Rattle.sctp_safety.proofs.runs.Bags.{chunks_in, chunk_of_bag}
-use Rattle.sctp_safety.proofs.runs.Fronts.{front_is_placed}
 use Rattle.sctp_safety.proofs.runs.Pair.{AreOpening}
 use Rattle.sctp_safety.proofs.runs.Homes.{IsHome, home_turned}
 use Rattle.sctp_safety.proofs.runs.Pairs.{IsPair, pair_round, pair_acts}
 use Rattle.sctp_safety.proofs.runs.Answers.{OpensOrEnds, answer_opens}
-use Rattle.sctp_safety.proofs.runs.Brought.{ComesFrom, comes_from, unmet_arrives}
+use Rattle.sctp_safety.proofs.runs.Brought.{unmet_arrives}
 use Rattle.sctp_safety.proofs.runs.Unmet.{IsUnmet}
 use Rattle.sctp_safety.proofs.runs.Waiting.{waits_ticked, waits_built, waits_abandoned, waits_taken, waits_shut, waits_aborted, waits_called, waits_longer}
 use Rattle.sctp_safety.proofs.runs.Meeting.{IsUnclosed, unmet_unclosed, ends_meet}
 use Rattle.sctp_safety.proofs.runs.MetWorld.{Before, IsMetWorld, told_of, only_came}
-use Rattle.sctp_safety.proofs.runs.MetSteps.{AreStrangers, stranger_stays}
 use Rattle.sctp_safety.proofs.runs.ApartWorld.{Stands, IsApartWorld, apart_end, apart_same, apart_came, apart_log, apart_packet, apart_verdict, apart_abort, now_unmet, stands_on, stands_now, apart_sent, AreSetUp, some_fragment, opened_meet}
-
--- ---- what comes
-
--- what comes is part of a packet of the end across, or a stranger's
-pub data Source (s : Setup) (drawn : List ℕ) (w : World) (x : Side) (k : Packet) : Type 0 where
-  Across : (p : Packet) → Has (bag_of w (other x)) p → IsWithin k.chunks p.chunks → Source s drawn w x k
-  Elsewhere : IsStranger s.sealing drawn k → ArePlaced k.chunks → Source s drawn w x k
-
-whole_source : (s : Setup) (drawn : List ℕ) (w : World) (e : Event) (x : Side) (p : Packet) → AreStrangers s drawn e → ComesFrom w e x p → Source s drawn w x p
-whole_source s drawn w e x p strange (inl has) = Across p has (λ y h. h)
-whole_source s drawn w e x p strange (inr (is, placed)) = Elsewhere (strange x p is) placed
-
-front_source : (s : Setup) (drawn : List ℕ) (w : World) (x : Side) (p : Packet) (xs ys : List ChunkMeaning) → p.chunks ≡ xs ++ ys → Source s drawn w x p → Source s drawn w x (cut p xs)
-front_source s drawn w x p xs ys parts from = go from
-  where
-    front : IsWithin xs p.chunks
-    front y h = subst (λ (zs : List ChunkMeaning). Has zs y) (sym parts) (Has-left xs ys y h)
-
-    go : Source s drawn w x p → Source s drawn w x (cut p xs)
-    go (Across q has within) = Across q has (λ y h. within y (front y h))
-    go (Elsewhere strange placed) =
-        Elsewhere (record { untagged = strange.untagged; chunks = λ y h. strange.chunks y (front y h) }) (front_is_placed xs ys (subst ArePlaced parts placed))
 
 -- ---- the listener
 
@@ -104,7 +79,7 @@ module _ (s : Setup) (drawn : List ℕ) (w : World) (opening : IsOpening s drawn
           (unmet_unclosed w.clock w.a (k.ends A)) begun_unclosed)
 
   listener_hears : (p q : Packet) (t : EndView) (v : Verdict) → Has w.from_a q → IsWithin p.chunks q.chunks → Arrives (end_now w B) w.draw p t v → (t ≡ end_now w B) ⊎ Before w B t
-  listener_hears p q t v has within (WrongPorts ports) = inl refl
+  listener_hears p q t v has within (Elsewhere ports) = inl refl
   listener_hears p q t v has within (NotOurs ports passes) = inl refl
   listener_hears p q t v has within (Stray ports passes none closed) = inl refl
   listener_hears p q t v has within (Begins b _ _ ports passes none opens acts) = inr (meets p q b t v has within (found_is (end_now w B) p.tag p.chunks b opens) acts)
@@ -119,11 +94,12 @@ module _ (s : Setup) (drawn : List ℕ) (w : World) (opening : IsOpening s drawn
   as_it_was : (x : Side) (t : EndView) → t ≡ end_now w x → Left x t
   as_it_was x t same = inl (subst (IsUnmet w.clock) (sym same) (now_unmet w x k), subst (λ (e : EndView). Stands x e.phase) (sym same) (stands_now w x k))
 
-  hears : (caller : w.a.phase ≡ Listening → ⊥) (x : Side) (p : Packet) (t : EndView) (v : Verdict) → Source s drawn w x p → Arrives (end_now w x) w.draw p t v → Left x t
-  hears caller x p t v (Elsewhere strange placed) arrives = as_it_was x t (stranger_stays s drawn w x p t v opening strange placed arrives)
-  hears caller A p t v (Across q has within) arrives =
-      inl (unmet_arrives w.clock (end_now w A) w.draw p t v (now_unmet w A k) caller (λ y h. k.opening B y (chunk_of_bag w.from_b q y has (within y h))) arrives, tt)
-  hears caller B p t v (Across q has within) arrives = go (listener_hears p q t v has within arrives)
+  hears : (caller : w.a.phase ≡ Listening → ⊥) (x : Side) (p : Packet) (t : EndView) (v : Verdict) → From s drawn w x p → Arrives (end_now w x) w.draw p t v → Left x t
+  hears caller x p t v (FromOutside strange alone) arrives =
+      as_it_was x t (stranger_stays s.sealing drawn (end_now w x) w.draw p t v strange alone (opening.drawn_tags x) (opening.one_seal x) arrives)
+  hears caller A p t v (FromPeer q has front) arrives =
+      inl (unmet_arrives w.clock (end_now w A) w.draw p t v (now_unmet w A k) caller (λ y h. k.opening B y (chunk_of_bag w.from_b q y has (front.chunks y h))) arrives, tt)
+  hears caller B p t v (FromPeer q has front) arrives = go (listener_hears p q t v has front.chunks arrives)
     where
       go : (t ≡ end_now w B) ⊎ Before w B t → Left B t
       go (inl same) = as_it_was B t same
@@ -171,35 +147,35 @@ module _ (s : Setup) (drawn : List ℕ) (w : World) (opening : IsOpening s drawn
       let m = waits_built w.clock (end_now w x) zs t (now_unmet w x k) b in
       (m.0, m.1, stands_on w x t.phase k (builds_plain (end_now w x) zs t b).turn)
 
-  pub apart_step : (caller : w.a.phase ≡ Listening → ⊥) (e : Event) (o : Option Outcome) (v : World) → AreStrangers s drawn e → Step w e o v → IsApartWorld v ⊎ IsMetWorld v
-  apart_step caller e o v strange (Opens x y may dx dy) = inr (opened_meet s w x y set k)
-  apart_step caller e o v strange (OpenRefused x y off) = inl k
-  apart_step caller e o v strange (TimePasses n small) = inl (passes n)
-  apart_step caller e o v strange (Draws d dd) = inl (apart_same w v refl refl refl refl refl refl refl k)
-  apart_step caller e o v strange (Connects d dd answer) =
+  pub apart_step : (caller : w.a.phase ≡ Listening → ⊥) (e : Event) (o : Option Outcome) (v : World) → IsFine s drawn e → Step w e o v → IsApartWorld v ⊎ IsMetWorld v
+  apart_step caller e o v fine (Opens x y may dx dy) = inr (opened_meet s w x y set k)
+  apart_step caller e o v fine (OpenRefused x y off) = inl k
+  apart_step caller e o v fine (TimePasses n small) = inl (passes n)
+  apart_step caller e o v fine (Draws d dd) = inl (apart_same w v refl refl refl refl refl refl refl k)
+  apart_step caller e o v fine (Connects d dd answer) =
       inl (apart_same (with_end w A (called (end_now w A) d)) v refl refl refl refl refl refl refl
       (apart_end w A (called (end_now w A) d) k (waits_called w.clock (end_now w A) d (now_unmet w A k)) tt))
-  apart_step caller e o v strange (ConnectRefused d answer) = inl k
-  apart_step caller e o v strange (BuildsOne x y ys t b) =
+  apart_step caller e o v fine (ConnectRefused d answer) = inl k
+  apart_step caller e o v fine (BuildsOne x y ys t b) =
       let m = builds x (y ∷ ys) t b in
       inl (apart_packet (with_end w x t) x (packet_of (end_of w x) (y ∷ ys)) m.1 (apart_end w x t k m.0 m.2))
-  apart_step caller e o v strange (BuildsNone x t b) = let m = builds x [] t b in inl (apart_end w x t k m.0 m.2)
-  apart_step caller e o v strange (Comes _ x p t d brings arrives) =
-      told x t d (answer_opens (end_now w x) w.draw p t d arrives) (hears caller x p t d (whole_source s drawn w e x p strange (comes_from w e x p brings)) arrives)
-  apart_step caller e o v strange (IsAbsent x n none) = inl k
-  apart_step caller e o v strange (Unread x) = inl (apart_came w x (end_now w x) k (now_unmet w x k) (stands_now w x k))
-  apart_step caller e o v strange (Sends x c) = inl (apart_sent w x c k)
-  apart_step caller e o v strange (Abandons x n) =
+  apart_step caller e o v fine (BuildsNone x t b) = let m = builds x [] t b in inl (apart_end w x t k m.0 m.2)
+  apart_step caller e o v fine (Comes _ x p t d brings arrives) =
+      told x t d (answer_opens (end_now w x) w.draw p t d arrives) (hears caller x p t d (from_whole s drawn w e x p fine brings) arrives)
+  apart_step caller e o v fine (IsAbsent x n none) = inl k
+  apart_step caller e o v fine (Unread x) = inl (apart_came w x (end_now w x) k (now_unmet w x k) (stands_now w x k))
+  apart_step caller e o v fine (Sends x c) = inl (apart_sent w x c k)
+  apart_step caller e o v fine (Abandons x n) =
       inl (apart_log (with_end w x (abandoned_at (end_of w x) n)) x (named_at (logged w x (abandoned_at (end_of w x) n)) n) (k.calls x)
       (apart_end w x (abandoned_at (end_of w x) n) k (waits_abandoned w.clock (end_of w x) n (k.ends x)) (stands_on w x _ k (plain_abandoned (end_of w x) n).turn)))
-  apart_step caller e o v strange (TakesOne x n h t takes) =
+  apart_step caller e o v fine (TakesOne x n h t takes) =
       inl (apart_end w x t k (waits_taken w.clock (end_of w x) n h t (k.ends x) takes) (stands_on w x t.phase k (plain_taken (end_of w x) n h t takes).turn))
-  apart_step caller e o v strange (ShutsDown x) =
+  apart_step caller e o v fine (ShutsDown x) =
       inl (apart_end w x (shut (end_of w x)) k (waits_shut w.clock (end_of w x) (k.ends x)) (stands_on w x _ k (plain_shut (end_of w x)).turn))
-  apart_step caller e o v strange (AbortsIt x r) =
+  apart_step caller e o v fine (AbortsIt x r) =
       inl (apart_abort (with_end w x (abort_leaves (abort_answer (end_of w x) r) (end_of w x))) x (end_of w x) r
       (apart_end w x _ k (waits_aborted w.clock (end_of w x) (abort_answer (end_of w x) r) (k.ends x)) (stands_on w x _ k (plain_aborted (end_of w x) r).turn)))
-  apart_step caller e o v strange (CutFirst _ x p brings) = inl (apart_came w x (end_now w x) k (now_unmet w x k) (stands_now w x k))
-  apart_step caller e o v strange (CutLater _ x p y front back z t d brings parts arrives silent) =
-      untold x t (hears caller x (cut p (y ∷ front)) t d (front_source s drawn w x p (y ∷ front) (z ∷ back) parts (whole_source s drawn w e x p strange (comes_from w e x p brings))) arrives)
-  apart_step caller e o v strange (NoMemory _ other_event) = inl k
+  apart_step caller e o v fine (CutFirst _ x p brings) = inl (apart_came w x (end_now w x) k (now_unmet w x k) (stands_now w x k))
+  apart_step caller e o v fine (CutLater _ x p y front back z t d brings parts arrives silent) =
+      untold x t (hears caller x (cut p (y ∷ front)) t d (from_cut s drawn w e x p y front back z fine brings parts) arrives)
+  apart_step caller e o v fine (NoMemory _ other_event) = inl k

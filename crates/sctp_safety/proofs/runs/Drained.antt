@@ -2,7 +2,7 @@
 use Rattle.std.proofs.Common.{◌≡◌, ℕ, ◌<◌, ◌⊎◌, Bool, true, false, List, [], ◌∷◌, Some, inl, inr, sym, subst, ap, if◌then◌else◌}
 use Rattle.std.specs.Prelude.{fold}
 use Rattle.sctp_model.specs.Format.{Format}
-use Rattle.sctp_model.specs.Plan.{Entry, Plan}
+use Rattle.sctp_model.specs.Plan.{Plan}
 use Rattle.sctp_model.specs.SenderView.{Queued, SenderView}
 use Rattle.sctp_model.specs.sender.Words.{some_passes, count_up}
 use Rattle.sctp_model.specs.sender.Entries.{is_of, is_in_part}

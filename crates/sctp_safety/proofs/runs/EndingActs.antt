@@ -15,7 +15,7 @@ use Rattle.sctp_model.specs.end.Acting.{Acts, Empty, WrongFormat, Comes, WrongKi
 use Rattle.sctp_safety.specs.States.{has_agreed}
 use Rattle.sctp_safety.proofs.machine.Sides.{unknown_goes, unknown_ends, unknown_never_replies}
 use Rattle.sctp_safety.proofs.runs.Acted.{not_calling}
-use Rattle.sctp_safety.proofs.runs.Homes.{IsHome, home_turned, home_answers, home_acknowledges}
+use Rattle.sctp_safety.proofs.runs.Homes.{home_like, IsHome, home_turned, home_answers, home_acknowledges}
 use Rattle.sctp_safety.proofs.runs.Ending.{was_told, is_last, IsDone, last_by_ack, AreEnding, ending_still, onward_same, onward_over, onward_complete, onward_open}
 
 -- an end that hears acknowledgements has more to come
@@ -102,8 +102,8 @@ module _ (p : EndView) (out back : List ChunkMeaning) where
   goes e tag (Init i) t has m c h = absurd (cc)
   goes e tag (InitAck i) t has m c (AcceptedAck d cookie is tagged value fault) = absurd (not_calling e.phase d is m)
   goes e tag (Sack s) t has m c (IsStale hears fault) = c
-  goes e tag (Sack s) t has m c (Counts on none) = acknowledged e t c (record { shutdown = c.this.home.shutdown; ack = c.this.home.ack; shutdown_runs = c.this.home.shutdown_runs; ack_runs = c.this.home.ack_runs }) refl on
-  goes e tag (Heartbeat i) t has m c (Counts on) = still e t c (record { shutdown = c.this.home.shutdown; ack = c.this.home.ack; shutdown_runs = c.this.home.shutdown_runs; ack_runs = c.this.home.ack_runs }) refl refl
+  goes e tag (Sack s) t has m c (Counts on none) = acknowledged e t c (home_like e _ c.this.home refl refl refl refl refl) refl on
+  goes e tag (Heartbeat i) t has m c (Counts on) = still e t c (home_like e _ c.this.home refl refl refl refl refl) refl refl
   goes e tag (HeartbeatAck i) t has m c h = let q : t ≡ e = cc in subst Ending (sym q) c
   goes e tag (Abort b xs) t has m c h = absurd (cc)
   goes e tag (Shutdown n) t has m c (IsStale k g is on fault) = hears_shutdown e t k g n c has is on (home_turned (Open k ShutdownReceived) e) refl
@@ -118,7 +118,7 @@ module _ (p : EndView) (out back : List ChunkMeaning) where
   }) refl refl
   goes e tag ShutdownAck t has m c h = elim h [ ]
   goes e tag (Error xs) t has m c (SaysNothing off) = c
-  goes e tag (CookieEcho xs) t has m c (EchoedAgain _ _ _ _ _ _ _) = still e t c (record { shutdown = c.this.home.shutdown; ack = c.this.home.ack; shutdown_runs = c.this.home.shutdown_runs; ack_runs = c.this.home.ack_runs }) refl refl
+  goes e tag (CookieEcho xs) t has m c (EchoedAgain _ _ _ _ _ _ _) = still e t c (home_like e _ c.this.home refl refl refl refl refl) refl refl
   goes e tag CookieAck t has m c (CookieAcked k xs is) = ending_still e p t out back c (onward_open p out back e t k Established
       (λ last. let q : false ≡ true = subst (λ (h : Phase). is_last h ≡ true) is last in absurd (cc)) (home_turned (Open k Established) e) refl (λ off. absurd (cc)) (λ off. absurd (cc)))
   goes e tag (ShutdownComplete b) t has m c h = elim h [ ]
@@ -126,7 +126,7 @@ module _ (p : EndView) (out back : List ChunkMeaning) where
   goes e tag (ForwardTsn d) t has m c (Comes k g r is hears may taken) = still e t c (let y = home_acknowledges k g e is c.this.home in record { shutdown = y.shutdown; ack = y.ack; shutdown_runs = y.shutdown_runs; ack_runs = y.ack_runs }) refl refl
   goes e tag (IForwardTsn d) t has m c (IsOld k g r is hears may taken) = still e t c (let y = home_acknowledges k g e is c.this.home in record { shutdown = y.shutdown; ack = y.ack; shutdown_runs = y.shutdown_runs; ack_runs = y.ack_runs }) refl refl
   goes e tag (IForwardTsn d) t has m c (Comes k g r is hears may taken) = still e t c (let y = home_acknowledges k g e is c.this.home in record { shutdown = y.shutdown; ack = y.ack; shutdown_runs = y.shutdown_runs; ack_runs = y.ack_runs }) refl refl
-  goes e tag (Unknown k f w) t has m c h = subst Ending (sym (unknown_goes e t k f w h).same) (still e _ c (record { shutdown = c.this.home.shutdown; ack = c.this.home.ack; shutdown_runs = c.this.home.shutdown_runs; ack_runs = c.this.home.ack_runs }) refl refl)
+  goes e tag (Unknown k f w) t has m c h = subst Ending (sym (unknown_goes e t k f w h).same) (still e _ c (home_like e _ c.this.home refl refl refl refl refl) refl refl)
 
   pub ends : (e : EndView) (tag : ℕ) (x : ChunkMeaning) (t : EndView) → Ending e → Acts e tag x (Ends t) → Ending t
   ends e tag (Data d) t c h = elim h [ ]
@@ -148,7 +148,7 @@ module _ (p : EndView) (out back : List ChunkMeaning) where
       complete e c (done_by_ack e c last.0) (c.there.said (Shutdown told.0) told.1 refl)
   ends e tag (ForwardTsn d) t c h = elim h [ ]
   ends e tag (IForwardTsn d) t c h = elim h [ ]
-  ends e tag (Unknown k f w) t c h = subst Ending (sym (unknown_ends e t k f w h).same) (still e _ c (record { shutdown = c.this.home.shutdown; ack = c.this.home.ack; shutdown_runs = c.this.home.shutdown_runs; ack_runs = c.this.home.ack_runs }) refl refl)
+  ends e tag (Unknown k f w) t c h = subst Ending (sym (unknown_ends e t k f w h).same) (still e _ c (home_like e _ c.this.home refl refl refl refl refl) refl refl)
 
   fault : (e : EndView) → Ending e → Ending (closed AbortedHere e)
   fault e c = over e AbortedHere (λ z. absurd (cc)) c

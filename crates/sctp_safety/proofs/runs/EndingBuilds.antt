@@ -17,7 +17,7 @@ use Rattle.sctp_safety.specs.States.{has_agreed}
 use Rattle.sctp_safety.proofs.runs.Sending.{Has-map}
 use Rattle.sctp_safety.proofs.runs.Acted.{not_calling}
 use Rattle.sctp_safety.proofs.runs.Drained.{drained_fill}
-use Rattle.sctp_safety.proofs.runs.Homes.{IsHome}
+use Rattle.sctp_safety.proofs.runs.Homes.{home_like, IsHome}
 use Rattle.sctp_safety.proofs.runs.Ending.{IsDone, is_shutting, last_by_ack, AreEnding, ending_on, onward_same}
 
 -- the states that send SHUTDOWN and SHUTDOWN ACK wait for the answer
@@ -68,12 +68,12 @@ module _ (p : EndView) (back : List ChunkMeaning) where
       one y (inr h) on = absurd h
 
   put_one : (s : Slot) (out : List ChunkMeaning) (e t : EndView) (x : ChunkMeaning) → Ending out e → is_due s e ≡ true → Wants e s x t → Ending (out ++ x ∷ []) t
-  put_one s out e t x c due (EchoCookie _ _ _) = put out e t x c (record { shutdown = c.this.home.shutdown; ack = c.this.home.ack; shutdown_runs = c.this.home.shutdown_runs; ack_runs = c.this.home.ack_runs }) refl refl (λ on. absurd (cc))
-  put_one s out e t x c due AckCookie = put out e t x c (record { shutdown = c.this.home.shutdown; ack = c.this.home.ack; shutdown_runs = c.this.home.shutdown_runs; ack_runs = c.this.home.ack_runs }) refl refl (λ on. absurd (cc))
-  put_one s out e t x c due (AckHeartbeat _ _) = put out e t x c (record { shutdown = c.this.home.shutdown; ack = c.this.home.ack; shutdown_runs = c.this.home.shutdown_runs; ack_runs = c.this.home.ack_runs }) refl refl (λ on. absurd (cc))
-  put_one s out e t x c due ReportCauses = put out e t x c (record { shutdown = c.this.home.shutdown; ack = c.this.home.ack; shutdown_runs = c.this.home.shutdown_runs; ack_runs = c.this.home.ack_runs }) refl refl (λ on. absurd (cc))
-  put_one s out e t x c due (Acknowledge made is) = put out e t x c (record { shutdown = c.this.home.shutdown; ack = c.this.home.ack; shutdown_runs = c.this.home.shutdown_runs; ack_runs = c.this.home.ack_runs }) refl refl (λ on. absurd (cc))
-  put_one s out e t x c due PassOn = put out e t x c (record { shutdown = c.this.home.shutdown; ack = c.this.home.ack; shutdown_runs = c.this.home.shutdown_runs; ack_runs = c.this.home.ack_runs }) refl refl (λ on. absurd (let off = forward_is_other (format_of e) e.sender in cc))
+  put_one s out e t x c due (EchoCookie _ _ _) = put out e t x c (home_like e _ c.this.home refl refl refl refl refl) refl refl (λ on. absurd (cc))
+  put_one s out e t x c due AckCookie = put out e t x c (home_like e _ c.this.home refl refl refl refl refl) refl refl (λ on. absurd (cc))
+  put_one s out e t x c due (AckHeartbeat _ _) = put out e t x c (home_like e _ c.this.home refl refl refl refl refl) refl refl (λ on. absurd (cc))
+  put_one s out e t x c due ReportCauses = put out e t x c (home_like e _ c.this.home refl refl refl refl refl) refl refl (λ on. absurd (cc))
+  put_one s out e t x c due (Acknowledge made is) = put out e t x c (home_like e _ c.this.home refl refl refl refl refl) refl refl (λ on. absurd (cc))
+  put_one s out e t x c due PassOn = put out e t x c (home_like e _ c.this.home refl refl refl refl refl) refl refl (λ on. absurd (let off = forward_is_other (format_of e) e.sender in cc))
   put_one s out e t x c due (SayShutdown k is) = put out e t x c (record {
     shutdown = λ on. absurd (cc);
     ack = c.this.home.ack;
@@ -98,7 +98,7 @@ module _ (p : EndView) (back : List ChunkMeaning) where
   fill_keeps : (out : List ChunkMeaning) (e : EndView) (zs : List ChunkMeaning) → IsReached (format_of e) e.sender → Ending (out ++ zs) e → Ending (out ++ (zs ++ fragments e zs)) (sent e zs)
   fill_keeps out e zs reached c = subst (λ (ys : List ChunkMeaning). Ending ys (sent e zs)) (append_assoc out zs (fragments e zs))
       (ending_on e p (sent e zs) (out ++ zs) back (fragments e zs) c
-      (onward_same p (out ++ zs) back e (sent e zs) c (record { shutdown = c.this.home.shutdown; ack = c.this.home.ack; shutdown_runs = c.this.home.shutdown_runs; ack_runs = c.this.home.ack_runs }) refl (drained_fill (format_of e) (e.configuration.limit - size_of_packet zs) e.sender reached)) others)
+      (onward_same p (out ++ zs) back e (sent e zs) c (home_like e _ c.this.home refl refl refl refl refl) refl (drained_fill (format_of e) (e.configuration.limit - size_of_packet zs) e.sender reached)) others)
     where
       others : (x : ChunkMeaning) → Has (fragments e zs) x → is_shutting x ≡ true → IsDone (sent e zs)
       others x has on =

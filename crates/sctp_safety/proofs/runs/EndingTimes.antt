@@ -15,7 +15,7 @@ use Rattle.sctp_model.specs.end.Closing.{hears}
 use Rattle.sctp_model.specs.end.Moments.{after_giving_up, due_again, rung, ring, rung_all, all_alarms, passed, ticked}
 use Rattle.sctp_model.specs.end.UserCalls.{NotOpen, is_established, answer_for, send_answer, send_leaves, is_open, abandoned_at, Takes, shut_in, shut, AbortAnswer, Aborts, NoPeer, TooLong, abort_leaves}
 use Rattle.sctp_safety.proofs.runs.Drained.{drained_abandoned, drained_expired, drained_timed_out}
-use Rattle.sctp_safety.proofs.runs.Homes.{IsHome, home_turned}
+use Rattle.sctp_safety.proofs.runs.Homes.{home_like, IsHome, home_turned}
 use Rattle.sctp_safety.proofs.runs.Ending.{is_last, last_by_ack, AreEnding, ending_still, onward_same, onward_over, onward_open, ending_rested}
 
 -- a timer that expires was running
@@ -32,19 +32,19 @@ module _ (p : EndView) (out back : List ChunkMeaning) where
   still e t c home same keeps = ending_still e p t out back c (onward_same p out back e t c home same keeps)
 
   pub ending_now : (e : EndView) (now : ℕ) → Ending e → Ending (at_moment e now)
-  ending_now e now c = still e (at_moment e now) c (record { shutdown = c.this.home.shutdown; ack = c.this.home.ack; shutdown_runs = c.this.home.shutdown_runs; ack_runs = c.this.home.ack_runs }) refl (λ on. on)
+  ending_now e now c = still e (at_moment e now) c (home_like e _ c.this.home refl refl refl refl refl) refl (λ on. on)
 
   gives_up : (e : EndView) (a : SenderView) → Ending e → (drained e.sender ≡ true → drained a ≡ true) → Ending (after_giving_up e a)
   gives_up e a c keeps =
       ending_rested p out back (settled (record e { sender = a; due = record e.due { forward = e.due.forward || not (point a == point e.sender) } }))
-      (still e _ c (record { shutdown = c.this.home.shutdown; ack = c.this.home.ack; shutdown_runs = c.this.home.shutdown_runs; ack_runs = c.this.home.ack_runs }) refl keeps)
+      (still e _ c (home_like e _ c.this.home refl refl refl refl refl) refl keeps)
 
   -- ---- timers
 
   again : (a : Alarm) (e : EndView) → Ending e → is_over_at e.moment (e.timers a).expiry ≡ true → Ending (due_again a (with_timer a (expired_timer (e.timers a)) e))
-  again InitAlarm e c on = still e _ c (record { shutdown = c.this.home.shutdown; ack = c.this.home.ack; shutdown_runs = c.this.home.shutdown_runs; ack_runs = c.this.home.ack_runs }) refl (λ y. y)
-  again CookieAlarm e c on = still e _ c (record { shutdown = c.this.home.shutdown; ack = c.this.home.ack; shutdown_runs = c.this.home.shutdown_runs; ack_runs = c.this.home.ack_runs }) refl (λ y. y)
-  again DataAlarm e c on = still e _ c (record { shutdown = c.this.home.shutdown; ack = c.this.home.ack; shutdown_runs = c.this.home.shutdown_runs; ack_runs = c.this.home.ack_runs }) refl (drained_timed_out e.sender)
+  again InitAlarm e c on = still e _ c (home_like e _ c.this.home refl refl refl refl refl) refl (λ y. y)
+  again CookieAlarm e c on = still e _ c (home_like e _ c.this.home refl refl refl refl refl) refl (λ y. y)
+  again DataAlarm e c on = still e _ c (home_like e _ c.this.home refl refl refl refl refl) refl (drained_timed_out e.sender)
   again ShutdownAlarm e c on = still e _ c (record {
     shutdown = λ z. let r = was_running e.moment (e.timers ShutdownAlarm).expiry on in c.this.home.shutdown_runs r.0 r.1;
     ack = c.this.home.ack;
@@ -122,10 +122,10 @@ module _ (p : EndView) (out back : List ChunkMeaning) where
     where
       go : (b : Bool) → Ending (if b then after_giving_up e (abandon_after e.sender k) else record e { sender = abandon_after e.sender k })
       go true = gives_up e (abandon_after e.sender k) c (drained_abandoned (format_of e) e.sender k h)
-      go false = still e (record e { sender = abandon_after e.sender k }) c (record { shutdown = c.this.home.shutdown; ack = c.this.home.ack; shutdown_runs = c.this.home.shutdown_runs; ack_runs = c.this.home.ack_runs }) refl (drained_abandoned (format_of e) e.sender k h)
+      go false = still e (record e { sender = abandon_after e.sender k }) c (home_like e _ c.this.home refl refl refl refl refl) refl (drained_abandoned (format_of e) e.sender k h)
 
   pub ending_taken : (e : EndView) (s : ℕ) (h : Option Handed) (t : EndView) → Ending e → Takes e s h t → Ending t
-  ending_taken e s h t c k = subst Ending (sym k.leaves) (still e (record e { receiver = k.receiver }) c (record { shutdown = c.this.home.shutdown; ack = c.this.home.ack; shutdown_runs = c.this.home.shutdown_runs; ack_runs = c.this.home.ack_runs }) refl (λ on. on))
+  ending_taken e s h t c k = subst Ending (sym k.leaves) (still e (record e { receiver = k.receiver }) c (home_like e _ c.this.home refl refl refl refl refl) refl (λ on. on))
 
   pub ending_shut : (e : EndView) → Ending e → Ending (shut e)
   ending_shut e c = go e.phase refl

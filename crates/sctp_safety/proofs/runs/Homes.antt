@@ -1,5 +1,5 @@
 -- A SHUTDOWN and a SHUTDOWN ACK are due, and their timers run, in the state alone that sends them (RFC 9260, 9.2).
-use Rattle.std.proofs.Common.{◌≡◌, ℕ, Bool, true, false, Some, inl, inr, refl, sym, subst, if◌then◌else◌, ◌⊎◌}
+use Rattle.std.proofs.Common.{◌≡◌, ℕ, Bool, true, false, Some, inl, inr, refl, sym, subst, ap, ◌∙◌, if◌then◌else◌, ◌⊎◌}
 use Rattle.std.proofs.lemmas.Bool.{and_parts, or_cases}
 use Rattle.sctp_model.specs.end.EndView.{Tags, Stage, Established, ShutdownPending, ShutdownSent, ShutdownReceived, ShutdownAckSent, Ended, Phase, Open, ShutdownAlarm, AckAlarm, Timer, EndView}
 use Rattle.sctp_model.specs.end.Clock.{is_home, stopped, turned, closed}
@@ -11,6 +11,16 @@ pub record IsHome (e : EndView) : Type 0 where
   pub ack : e.due.shutdown_ack ≡ true → is_home AckAlarm e.phase ≡ true
   pub shutdown_runs : (n : ℕ) → (e.timers ShutdownAlarm).expiry ≡ Some n → is_home ShutdownAlarm e.phase ≡ true
   pub ack_runs : (n : ℕ) → (e.timers AckAlarm).expiry ≡ Some n → is_home AckAlarm e.phase ≡ true
+
+-- in the same state, with the same of these due, and these timers as they were
+pub home_like : (e t : EndView) → IsHome e → t.phase ≡ e.phase → t.due.shutdown ≡ e.due.shutdown → t.due.shutdown_ack ≡ e.due.shutdown_ack →
+    t.timers ShutdownAlarm ≡ e.timers ShutdownAlarm → t.timers AckAlarm ≡ e.timers AckAlarm → IsHome t
+home_like e t h phase shutdown ack shutdown_timer ack_timer = record {
+  shutdown = λ on. subst (λ (k : Phase). is_home ShutdownAlarm k ≡ true) (sym phase) (h.shutdown (sym shutdown ∙ on));
+  ack = λ on. subst (λ (k : Phase). is_home AckAlarm k ≡ true) (sym phase) (h.ack (sym ack ∙ on));
+  shutdown_runs = λ n on. subst (λ (k : Phase). is_home ShutdownAlarm k ≡ true) (sym phase) (h.shutdown_runs n (sym (ap (λ (x : Timer). x.expiry) shutdown_timer) ∙ on));
+  ack_runs = λ n on. subst (λ (k : Phase). is_home AckAlarm k ≡ true) (sym phase) (h.ack_runs n (sym (ap (λ (x : Timer). x.expiry) ack_timer) ∙ on));
+}
 
 -- a timer that is kept at home alone
 runs_at_home : (b : Bool) (t : Timer) (n : ℕ) → (if b then t else stopped t).expiry ≡ Some n → b ≡ true

@@ -15,8 +15,8 @@ use Rattle.sctp_model.specs.end.Strays.{Verdict}
 use Rattle.sctp_model.specs.end.Arriving.{Arrives, Elsewhere, NotOurs, Stray, Begins, Heard}
 use Rattle.sctp_safety.proofs.machine.EndWords.{Keeps, all_act_keeps}
 use Rattle.sctp_safety.proofs.machine.Strangers.{found_is}
-use Rattle.sctp_safety.proofs.runs.Pair.{opens_or_ends, AreOpening, IsMet, turned_round, met_quiet}
-use Rattle.sctp_safety.proofs.runs.Acted.{chunks_keep}
+use Rattle.sctp_safety.proofs.runs.Pair.{opens_or_ends, AreOpening, IsMet, turned_round, met_rested, met_quiet}
+use Rattle.sctp_safety.proofs.runs.Acted.{goes as met_goes, ends as met_ends, replies as met_replies}
 use Rattle.sctp_safety.proofs.runs.Answers.{reply_opens}
 use Rattle.sctp_safety.proofs.runs.Packets.{builds_keep}
 use Rattle.sctp_safety.proofs.runs.Timed.{met_now, met_ticked, met_taken, met_shut, met_aborted, met_sent, met_abandoned, met_clock, asked_more}
@@ -70,12 +70,12 @@ pub pair_acts : (p : EndView) (u v : Asked) (out back : List ChunkMeaning) (tag 
     Keeps tag (λ e. IsPair e p u v out back) (λ x. Has back x) (λ r. AreOpening r.chunks)
 pair_acts p u v out back tag = record {
   goes = λ e x t has k act. record {
-    met = (chunks_keep p u v out back tag).goes e x t has k.met act;
+    met = met_rested t p u v out back (met_goes p u v out back e tag x t has k.met act);
     ending = ending_rested p out back t (goes p out back e tag x t has k.met.phase k.ending act);
   };
-  ends = λ e x t has k act. record { met = (chunks_keep p u v out back tag).ends e x t has k.met act; ending = ends p out back e tag x t k.ending act };
+  ends = λ e x t has k act. record { met = met_ends p u v out back e tag x t k.met act; ending = ends p out back e tag x t k.ending act };
   replies = λ e x t r has k act. (
-    record { met = ((chunks_keep p u v out back tag).replies e x t r has k.met act).0; ending = replies p out back e tag x t r has k.ending act },
+    record { met = met_replies p u v out back e tag x t r k.met act; ending = replies p out back e tag x t r has k.ending act },
     reply_opens e tag x t r act,
   );
 }

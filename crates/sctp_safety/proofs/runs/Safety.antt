@@ -1,25 +1,25 @@
--- SAFE in every world of every run, from what the opening gives.
-use Rattle.std.proofs.Common.{arith, ◌≡◌, ℕ, List, [], ◌∷◌, ◌++◌, Option, Some, map, append_assoc, inl, inr, refl, sym, subst, ap, ◌⊎◌}
-use Rattle.sctp_model.specs.Lists.{Has, joined}
-use Rattle.sctp_model.specs.Chunk.{ChunkMeaning, Init, CookieEcho}
+-- SAFE and CLOSING in every world of every run: each step keeps the ends apart, or lets them meet, or keeps what they have since they met.
+use Rattle.std.proofs.Common.{arith, ◌≡◌, ℕ, List, [], Option, Some, inl, inr, refl, subst, ◌⊎◌}
+use Rattle.sctp_model.specs.Lists.{Has}
+use Rattle.sctp_model.specs.Chunk.{ChunkMeaning}
 use Rattle.sctp_model.specs.Plan.{entry_at}
 use Rattle.sctp_model.specs.SenderView.{SenderView}
-use Rattle.sctp_model.specs.Packet.{Packet}
 use Rattle.sctp_model.specs.Calls.{Asked}
 use Rattle.sctp_model.specs.Safe.{Safe}
-use Rattle.sctp_model.specs.end.EndView.{Over, Completed, Draw, Phase, Idle, Listening, EndView, format_of}
-use Rattle.sctp_model.specs.end.Sealing.{Sealing}
+use Rattle.sctp_model.specs.end.EndView.{Over, Completed, Phase, Listening, EndView, format_of}
 use Rattle.sctp_model.specs.end.Configured.{IsConfiguration}
-use Rattle.sctp_model.specs.World.{Side, A, B, World, end_of, bag_of, log_of, Setup, configuration_of, FIRST_DRAW, start}
-use Rattle.sctp_model.specs.Events.{Event, Foreign, Outcome}
+use Rattle.sctp_model.specs.World.{Side, A, B, World, end_of, bag_of, log_of, Setup, configuration_of, start}
+use Rattle.sctp_model.specs.Events.{Event, Outcome}
 use Rattle.sctp_model.specs.Steps.{Step, Run, Rest, Then}
-use Rattle.sctp_model.specs.Premises.{IsTheirs, draws_of, drawn_in, IsStranger, Premises, asked_at, IsSafeWorld, IsAllArrived, IsClosedWorld, IsReachable}
+use Rattle.sctp_model.specs.Premises.{drawn_in, asked_at, IsSafeWorld, IsAllArrived, IsClosedWorld, IsReachable}
 use Rattle.sctp_safety.specs.States.{IsTurn, ByCall, ByInitAck, ByCookieAck, ByCookie, ByPair, ByStage, ByEnd, IsPath, Here, On}
-use Rattle.sctp_safety.specs.Agreement.{EndsAgree, IsOpening}
-use Rattle.sctp_safety.proofs.Basics.{Has-cases, Has-right, Has-left}
+use Rattle.sctp_safety.specs.Agreement.{IsOpening}
+use Rattle.sctp_safety.specs.Runs.{TwoEndsAreSafe, NothingIsMissing}
+use Rattle.sctp_safety.proofs.machine.Ground.{IsFine}
+use Rattle.sctp_safety.proofs.machine.EndsAgree.{fine_by, IsSound, sound_step, sound_start, opening_of}
 use Rattle.sctp_safety.proofs.SafeWhenGood.{safe_when_good}
 use Rattle.sctp_safety.proofs.UsualLemmas.{good_usual}
-use Rattle.sctp_safety.proofs.machine.DiagramRuns.{ends_follow_the_diagram}
+use Rattle.sctp_safety.proofs.machine.DiagramRuns.{step_onward}
 use Rattle.sctp_safety.proofs.runs.Bags.{chunks_in}
 use Rattle.sctp_safety.proofs.runs.Direction.{way_of, Direction}
 use Rattle.sctp_safety.proofs.runs.Pair.{AreOpening}
@@ -29,7 +29,7 @@ use Rattle.sctp_safety.proofs.runs.Ending.{IsDone}
 use Rattle.sctp_safety.proofs.runs.Pairs.{IsPair, pair_round}
 use Rattle.sctp_safety.proofs.runs.Meeting.{nothing_stands, blank_is_safe}
 use Rattle.sctp_safety.proofs.runs.MetWorld.{IsMetWorld}
-use Rattle.sctp_safety.proofs.runs.MetSteps.{AreStrangers, met_step}
+use Rattle.sctp_safety.proofs.runs.MetSteps.{met_step}
 use Rattle.sctp_safety.proofs.runs.ApartWorld.{IsApartWorld, AreSetUp}
 use Rattle.sctp_safety.proofs.runs.ApartSteps.{apart_step}
 
@@ -65,71 +65,6 @@ listens_from : (h k : Phase) → IsPath h k → k ≡ Listening → h ≡ Listen
 listens_from h k (Here _) e = e
 listens_from h k (On _ m _ turn rest) e = absurd (no_listener h m turn (listens_from m k rest e))
 
-module _ (s : Setup) (within : (x : Side) → IsConfiguration (configuration_of s x)) (events : List Event) (answers : List (Option Outcome)) (w : World) (run : Run (start s) events answers w) where
-  set_up : AreSetUp s w
-  set_up = record { alike = alike; within = within }
-    where
-      alike : (x : Side) → (end_of w x).configuration ≡ configuration_of s x
-      alike A = (ends_follow_the_diagram s [] events [] answers (start s) w (Rest (start s)) run A).configuration
-      alike B = (ends_follow_the_diagram s [] events [] answers (start s) w (Rest (start s)) run B).configuration
-
-  no_calls_to_caller : w.a.phase ≡ Listening → ⊥
-  no_calls_to_caller e =
-      let q : Idle ≡ Listening = listens_from Idle w.a.phase (ends_follow_the_diagram s [] events [] answers (start s) w (Rest (start s)) run A).path e in
-      absurd (cc)
-
--- ---- the premises, of the beginning of a run
-
-map-Has : {T U : Type 0} (f : T → U) (xs ys : List T) → ((x : T) → Has xs x → Has ys x) → (u : U) → Has (map f xs) u → Has (map f ys) u
-map-Has f [] ys more u h = absurd h
-map-Has f (x ∷ xs) ys more u (inl e) = subst (λ (z : _). Has (map f ys) z) e (image ys (more x (inl refl)))
-  where
-    image : (zs : List _) → Has zs x → Has (map f zs) (f x)
-    image [] h = absurd h
-    image (z ∷ zs) (inl q) = inl (ap f q)
-    image (z ∷ zs) (inr h) = inr (image zs h)
-map-Has f (x ∷ xs) ys more u (inr h) = map-Has f xs ys (λ y k. more y (inr k)) u h
-
-draws_before : (xs ys : List Event) (d : Draw) → Has (joined (map draws_of xs)) d → Has (joined (map draws_of (xs ++ ys))) d
-draws_before [] ys d h = absurd h
-draws_before (x ∷ xs) ys d h = go (Has-cases (draws_of x) (joined (map draws_of xs)) d h) (λ k. draws_before xs ys d k)
-  where
-    go : Has (draws_of x) d ⊎ Has (joined (map draws_of xs)) d → (Has (joined (map draws_of xs)) d → Has (joined (map draws_of (xs ++ ys))) d) →
-        Has (draws_of x ++ joined (map draws_of (xs ++ ys))) d
-    go (inl k) more = Has-left (draws_of x) (joined (map draws_of (xs ++ ys))) d k
-    go (inr k) more = Has-right (draws_of x) (joined (map draws_of (xs ++ ys))) d (more k)
-
-drawn_before : (xs ys : List Event) (n : ℕ) → Has (drawn_in xs) n → Has (drawn_in (xs ++ ys)) n
-drawn_before xs ys n h =
-    map-Has (λ (d : Draw). d.tag) (FIRST_DRAW ∷ joined (map draws_of xs)) (FIRST_DRAW ∷ joined (map draws_of (xs ++ ys))) more n h
-  where
-    more : (d : Draw) → Has (FIRST_DRAW ∷ joined (map draws_of xs)) d → Has (FIRST_DRAW ∷ joined (map draws_of (xs ++ ys))) d
-    more d (inl e) = inl e
-    more d (inr k) = inr (draws_before xs ys d k)
-
-fewer_tags : (s : Sealing) (xs ys : List ℕ) (p : Packet) → ((n : ℕ) → Has xs n → Has ys n) → IsStranger s ys p → IsStranger s xs p
-fewer_tags s xs ys p more strange = record { untagged = λ h. strange.untagged (more p.tag h); chunks = λ x h. theirs x (strange.chunks x h) }
-  where
-    theirs : (x : ChunkMeaning) → (IsTheirs s ys x → ⊥) → IsTheirs s xs x → ⊥
-    theirs (Init m) no_one h = no_one (more m.tag h)
-    theirs (CookieEcho cookie) no_one h = no_one h
-    theirs x no_one h = absurd h
-
--- the premises of a run are those of its beginning, and of the event that comes next
-premises_before : (s : Sealing) (xs ys : List Event) → Premises s (xs ++ ys) → Premises s xs
-premises_before s xs ys premises x p has =
-    fewer_tags s (drawn_in xs) (drawn_in (xs ++ ys)) p (drawn_before xs ys) (premises x p (Has-left xs ys (Foreign x (Some p)) has))
-
-next_strangers : (s : Setup) (xs : List Event) (e : Event) (ys : List Event) → Premises s.sealing (xs ++ e ∷ ys) → AreStrangers s (drawn_in xs) e
-next_strangers s xs e ys premises x p is =
-    fewer_tags s.sealing (drawn_in xs) (drawn_in (xs ++ e ∷ ys)) p (drawn_before xs (e ∷ ys)) (premises x p (Has-right xs (e ∷ ys) (Foreign x (Some p)) (inl is)))
-
--- ---- runs
-
-run_push : (u w v : World) (xs : List Event) (os : List (Option Outcome)) (e : Event) (o : Option Outcome) → Run u xs os w → Step w e o v → Run u (xs ++ e ∷ []) (os ++ o ∷ []) v
-run_push u w v xs os e o (Rest _) step = Then u v v e [] o [] step (Rest v)
-run_push u w v xs os e o (Then _ mid _ d ds a more first rest) step = Then u mid v d (ds ++ e ∷ []) a (more ++ o ∷ []) first (run_push mid w v ds more e o rest step)
-
 kept_start : (s : Setup) → IsKept (start s)
 kept_start s = inl (record { listens = refl; ends = ends; calls = calls; opening = opening })
   where
@@ -145,35 +80,49 @@ kept_start s = inl (record { listens = refl; ends = ends; calls = calls; opening
     opening A y h = absurd h
     opening B y h = absurd h
 
-module _ (agree : EndsAgree) (s : Setup) (within : (x : Side) → IsConfiguration (configuration_of s x)) where
-  kept_step : (xs : List Event) (os : List (Option Outcome)) (w : World) (e : Event) (ys : List Event) (o : Option Outcome) (v : World) → Run (start s) xs os w →
-      Premises s.sealing (xs ++ e ∷ ys) → IsKept w → Step w e o v → IsKept v
-  kept_step xs os w e ys o v run premises kept step = go kept
-    where
-      opening : IsOpening s (drawn_in xs) w
-      opening = agree s xs w (record { configured = within; answers = os; run = run; premises = premises_before s.sealing xs (e ∷ ys) premises })
+-- ---- runs
 
-      strange : AreStrangers s (drawn_in xs) e
-      strange = next_strangers s xs e ys premises
+-- what the opening keeps, that the caller never listens, and what is kept of both ends
+record IsSteady (s : Setup) (drawn : List ℕ) (w : World) : Type 0 where
+  sound : IsSound s drawn w
+  caller : w.a.phase ≡ Listening → ⊥
+  kept : IsKept w
+
+module _ (s : Setup) (drawn : List ℕ) (within : (x : Side) → IsConfiguration (configuration_of s x)) where
+  set_up : (w : World) → IsSteady s drawn w → AreSetUp s w
+  set_up w i = record { alike = λ x. (i.sound.ground.ends x).configuration; within = within }
+
+  kept_step : (w v : World) (e : Event) (o : Option Outcome) → IsFine s drawn e → IsSteady s drawn w → Step w e o v → IsKept v
+  kept_step w v e o fine i step = go i.kept
+    where
+      opening : IsOpening s drawn w
+      opening = opening_of s drawn w i.sound
 
       go : IsKept w → IsKept v
-      go (inl k) = apart_step s (drawn_in xs) w opening (set_up s within xs os w run) k (no_calls_to_caller s within xs os w run) e o v strange step
-      go (inr m) = inr (met_step s (drawn_in xs) w opening m e o v strange step)
+      go (inl k) = apart_step s drawn w opening (set_up w i) k i.caller e o v fine step
+      go (inr m) = inr (met_step s drawn w opening m e o v fine step)
 
-  kept_run : (xs : List Event) (os : List (Option Outcome)) (w : World) (ys : List Event) (ps : List (Option Outcome)) (v : World) → Run (start s) xs os w → Run w ys ps v →
-      Premises s.sealing (xs ++ ys) → IsKept w → IsKept v
-  kept_run xs os w ys ps v before (Rest _) premises kept = kept
-  kept_run xs os w ys ps v before (Then _ mid _ e es o more step rest) premises kept =
-      kept_run (xs ++ e ∷ []) (os ++ o ∷ []) mid es more v (run_push (start s) w mid xs os e o before step) rest
-      (subst (Premises s.sealing) (sym (append_assoc xs (e ∷ []) es)) premises) (kept_step xs os w e es o mid before premises kept step)
+  steady_step : (w v : World) (e : Event) (o : Option Outcome) → IsFine s drawn e → IsSteady s drawn w → Step w e o v → IsSteady s drawn v
+  steady_step w v e o fine i step = record {
+    sound = sound_step s drawn within w e o v fine step i.sound;
+    caller = λ q. i.caller (listens_from w.a.phase v.a.phase ((step_onward w e o v i.sound.fresh step).later A).path q);
+    kept = kept_step w v e o fine i step;
+  }
+
+  steady_run : (w : World) (es : List Event) (os : List (Option Outcome)) (v : World) → ((e : Event) → Has es e → IsFine s drawn e) → Run w es os v → IsSteady s drawn w → IsSteady s drawn v
+  steady_run w es os v fine (Rest _) i = i
+  steady_run w es os v fine (Then _ mid _ e rest o others step run) i =
+      steady_run mid rest others v (λ x h. fine x (inr h)) run (steady_step w mid e o (fine e (inl refl)) i step)
 
 -- In every world of every run that meets the premises the ends are apart, or have met.
-pub kept_always : EndsAgree → (s : Setup) (events : List Event) (w : World) → IsReachable s events w → IsKept w
-kept_always agree s events w r = kept_run agree s r.configured [] [] (start s) events r.answers w (Rest (start s)) r.run r.premises (kept_start s)
+pub kept_always : (s : Setup) (events : List Event) (w : World) → IsReachable s events w → IsKept w
+kept_always s events w r =
+    (steady_run s (drawn_in events) r.configured (start s) events r.answers w (fine_by s events r.premises) r.run
+    (record { sound = sound_start s (drawn_in events) (inl refl); caller = λ q. absurd (cc); kept = kept_start s })).kept
 
 -- And so SAFE holds.
-pub safe_if_agreed : EndsAgree → (s : Setup) (events : List Event) (w : World) → IsReachable s events w → IsSafeWorld w
-safe_if_agreed agree s events w r = kept_safe w (kept_always agree s events w r)
+pub two_ends_are_safe : TwoEndsAreSafe
+two_ends_are_safe s events w r = kept_safe w (kept_always s events w r)
 
 -- ---- CLOSING
 
@@ -201,5 +150,5 @@ kept_closed w (inr m) s over = both (done s over)
     )
 
 -- And CLOSING holds.
-pub closed_if_agreed : EndsAgree → (s : Setup) (events : List Event) (w : World) → IsReachable s events w → IsClosedWorld w
-closed_if_agreed agree s events w r = kept_closed w (kept_always agree s events w r)
+pub nothing_is_missing : NothingIsMissing
+nothing_is_missing s events w r = kept_closed w (kept_always s events w r)

@@ -17,7 +17,7 @@ use Rattle.sctp_model.specs.end.Closing.{hears}
 use Rattle.sctp_model.specs.end.Moments.{after_giving_up, due_again, rung, ring, rung_all, all_alarms, passed, ticked}
 use Rattle.sctp_model.specs.end.UserCalls.{NotOpen, is_established, send_answer, is_open, abandoned_at, Takes, shut_in, shut, AbortAnswer, Aborts, NoPeer, TooLong, abort_leaves, called}
 use Rattle.sctp_safety.proofs.Basics.{Has-cases}
-use Rattle.sctp_safety.proofs.runs.Homes.{home_turned}
+use Rattle.sctp_safety.proofs.runs.Homes.{home_like, home_turned}
 use Rattle.sctp_safety.proofs.runs.EndingTimes.{was_running}
 use Rattle.sctp_safety.proofs.runs.Pair.{opens_or_ends, AreOpening}
 use Rattle.sctp_safety.proofs.runs.Answers.{one_opening}
@@ -67,12 +67,12 @@ module _ (clock : ℕ) where
   gives_up : (e : EndView) (a : SenderView) → Unmet e → a ≡ e.sender → Unmet (after_giving_up e a)
   gives_up e a m same =
       rests clock (settled (record e { sender = a; due = record e.due { forward = e.due.forward || not (point a == point e.sender) } }))
-      (still clock e _ m (alike e _ refl refl same refl refl) m.unopened (record { shutdown = m.home.shutdown; ack = m.home.ack; shutdown_runs = m.home.shutdown_runs; ack_runs = m.home.ack_runs }))
+      (still clock e _ m (alike e _ refl refl same refl refl) m.unopened (home_like e _ m.home refl refl refl refl refl))
 
   again : (a : Alarm) (e : EndView) → Unmet e → is_over_at e.moment (e.timers a).expiry ≡ true → Unmet (due_again a (with_timer a (expired_timer (e.timers a)) e))
-  again InitAlarm e m on = still clock e _ m (alike e _ refl refl refl refl refl) m.unopened (record { shutdown = m.home.shutdown; ack = m.home.ack; shutdown_runs = m.home.shutdown_runs; ack_runs = m.home.ack_runs })
-  again CookieAlarm e m on = still clock e _ m (alike e _ refl refl refl refl refl) m.unopened (record { shutdown = m.home.shutdown; ack = m.home.ack; shutdown_runs = m.home.shutdown_runs; ack_runs = m.home.ack_runs })
-  again DataAlarm e m on = still clock e _ m (alike e _ refl refl (none_marked e m.blank) refl refl) m.unopened (record { shutdown = m.home.shutdown; ack = m.home.ack; shutdown_runs = m.home.shutdown_runs; ack_runs = m.home.ack_runs })
+  again InitAlarm e m on = still clock e _ m (alike e _ refl refl refl refl refl) m.unopened (home_like e _ m.home refl refl refl refl refl)
+  again CookieAlarm e m on = still clock e _ m (alike e _ refl refl refl refl refl) m.unopened (home_like e _ m.home refl refl refl refl refl)
+  again DataAlarm e m on = still clock e _ m (alike e _ refl refl (none_marked e m.blank) refl refl) m.unopened (home_like e _ m.home refl refl refl refl refl)
   again ShutdownAlarm e m on = absurd (let r = was_running e.moment (e.timers ShutdownAlarm).expiry on in no_shutdown_timer e.phase m.unopened (m.home.shutdown_runs r.0 r.1))
   again AckAlarm e m on = absurd (let r = was_running e.moment (e.timers AckAlarm).expiry on in no_ack_timer e.phase m.unopened (m.home.ack_runs r.0 r.1))
 
@@ -114,10 +114,10 @@ module _ (clock : ℕ) where
 
   one_put : (s : Slot) (e : EndView) (x : ChunkMeaning) (t : EndView) → is_echo_slot s ≡ true → Unmet e → Wants e s x t → Unmet t × (opens_or_ends x ≡ true)
   unfolding is_echo_slot
-  one_put s e x t on m (EchoCookie _ _ _) = (still clock e t m (alike e t refl refl refl refl refl) m.unopened (record { shutdown = m.home.shutdown; ack = m.home.ack; shutdown_runs = m.home.shutdown_runs; ack_runs = m.home.ack_runs }), refl)
+  one_put s e x t on m (EchoCookie _ _ _) = (still clock e t m (alike e t refl refl refl refl refl) m.unopened (home_like e _ m.home refl refl refl refl refl), refl)
   one_put s e x t on m AckCookie = absurd (cc)
   one_put s e x t on m (AckHeartbeat _ _) = absurd (cc)
-  one_put s e x t on m ReportCauses = (still clock e t m (alike e t refl refl refl refl refl) m.unopened (record { shutdown = m.home.shutdown; ack = m.home.ack; shutdown_runs = m.home.shutdown_runs; ack_runs = m.home.ack_runs }), refl)
+  one_put s e x t on m ReportCauses = (still clock e t m (alike e t refl refl refl refl refl) m.unopened (home_like e _ m.home refl refl refl refl refl), refl)
   one_put s e x t on m (Acknowledge _ _) = absurd (cc)
   one_put s e x t on m PassOn = absurd (cc)
   one_put s e x t on m (SayShutdown _ _) = absurd (cc)
@@ -149,7 +149,7 @@ module _ (clock : ℕ) where
   pub waits_built : (e : EndView) (zs : List ChunkMeaning) (t : EndView) → Unmet e → Builds e zs t → Unmet t × AreOpening zs
   waits_built e zs t m (Sleeps none) = (m, λ x h. absurd h)
   waits_built e zs t m (Waits d is off) = (m, λ x h. absurd h)
-  waits_built e zs t m (Calls d is on) = (still clock e t m (alike e t refl refl refl refl refl) m.unopened (record { shutdown = m.home.shutdown; ack = m.home.ack; shutdown_runs = m.home.shutdown_runs; ack_runs = m.home.ack_runs }), one_opening _ refl)
+  waits_built e zs t m (Calls d is on) = (still clock e t m (alike e t refl refl refl refl refl) m.unopened (home_like e _ m.home refl refl refl refl refl), one_opening _ refl)
   waits_built e zs t m (Echoes k cookie _ full _ is ps) = puts echoing_slots e [] zs full t both_echo m (λ x h. absurd h) ps
   waits_built e zs t m (EndsFull k g _ _ is ps) = absurd (open_now e.phase k g is m.unopened)
   waits_built e zs t m (Fills k g xs x is ps) = absurd (open_now e.phase k g is m.unopened)
@@ -172,13 +172,13 @@ module _ (clock : ℕ) where
     where
       go : (b : Bool) → Unmet (if b then after_giving_up e (abandon_after e.sender k) else record e { sender = abandon_after e.sender k })
       go true = gives_up e (abandon_after e.sender k) m (none_is_abandoned e m.blank k)
-      go false = still clock e (record e { sender = abandon_after e.sender k }) m (alike e _ refl refl (none_is_abandoned e m.blank k) refl refl) m.unopened (record { shutdown = m.home.shutdown; ack = m.home.ack; shutdown_runs = m.home.shutdown_runs; ack_runs = m.home.ack_runs })
+      go false = still clock e (record e { sender = abandon_after e.sender k }) m (alike e _ refl refl (none_is_abandoned e m.blank k) refl refl) m.unopened (home_like e _ m.home refl refl refl refl refl)
 
   pub waits_taken : (e : EndView) (s : ℕ) (h : Option Handed) (t : EndView) → Unmet e → Takes e s h t → Unmet t
   waits_taken e s h t m k = go h k.takes
     where
       go : (o : Option Handed) → TakeLeaves e.receiver s o k.receiver → Unmet t
-      go None (none, same) = subst Unmet (sym k.leaves) (still clock e (record e { receiver = k.receiver }) m (alike e _ refl refl refl same refl) m.unopened (record { shutdown = m.home.shutdown; ack = m.home.ack; shutdown_runs = m.home.shutdown_runs; ack_runs = m.home.ack_runs }))
+      go None (none, same) = subst Unmet (sym k.leaves) (still clock e (record e { receiver = k.receiver }) m (alike e _ refl refl refl same refl) m.unopened (home_like e _ m.home refl refl refl refl refl))
       go (Some x) (rest, there, same) = absurd (let q : e.receiver.waiting s ≡ [] = ap (λ (r : ReceiverView). r.waiting s) m.blank.receiver in cc)
 
   pub waits_shut : (e : EndView) → Unmet e → Unmet (shut e)
