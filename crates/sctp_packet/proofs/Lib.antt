@@ -8,5 +8,6 @@ pub mod HeaderLemmas
 pub mod PacketLemmas
 pub mod DraftLemmas
 pub mod StepLemmas
+pub mod EightLemmas
 pub mod TableLemmas
 pub mod StepBits

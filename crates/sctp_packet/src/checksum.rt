@@ -65,7 +65,7 @@ fn after_byte(register: u32, byte: u8) -> u32
     ensures { bits 32 result ≡ register_after (drop 1 divisor) (bits 32 register) (bits 8 byte) }
 {
     let mixed = register ^ u32::from(byte);
-    (mixed >> 8) ^ entry(0, u64::from(mixed) % 256)
+    (mixed >> 8) ^ entry(0, mixed % 256)
 }
 
 /// The register after the first eight bytes: what each byte leaves, added up, where the first four have the register added.
@@ -74,12 +74,12 @@ fn after_eight(register: u32, bytes: &[u8]) -> u32
     requires { 8 ≤ length bytes.now }
     ensures { bits 32 result ≡ register_after (drop 1 divisor) (bits 32 register) (message_bits (take 8 bytes.now)) }
 {
-    let mixed = u64::from(register) ^ LittleEndian::read_u64(bytes);
-    entry(0, mixed >> 56)
-        ^ entry(1, (mixed >> 48) % 256)
-        ^ entry(2, (mixed >> 40) % 256)
-        ^ entry(3, (mixed >> 32) % 256)
-        ^ entry(4, (mixed >> 24) % 256)
+    let mixed = register ^ LittleEndian::read_u32(bytes);
+    entry(0, u32::from(bytes[7]))
+        ^ entry(1, u32::from(bytes[6]))
+        ^ entry(2, u32::from(bytes[5]))
+        ^ entry(3, u32::from(bytes[4]))
+        ^ entry(4, mixed >> 24)
         ^ entry(5, (mixed >> 16) % 256)
         ^ entry(6, (mixed >> 8) % 256)
         ^ entry(7, mixed % 256)
@@ -87,7 +87,7 @@ fn after_eight(register: u32, bytes: &[u8]) -> u32
 
 /// What the table has for a byte that so many bytes follow.
 #[inline(always)]
-fn entry(place: usize, byte: u64) -> u32
+fn entry(place: usize, byte: u32) -> u32
     requires place { place < 8 }
     requires byte { byte < 256 }
     ensures steps { result ≡ steps (8 * place + 8) byte }
