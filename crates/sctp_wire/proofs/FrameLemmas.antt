@@ -8,7 +8,7 @@ use Rattle.sctp_model.specs.Chunk.{ChunkMeaning, kind_of, chunk_length, padded, 
 use Rattle.sctp_model.specs.Numbers.{u16_bytes, AreBytes}
 use Rattle.sctp_wire.specs.declared.fault.Reason.{Reason}
 use Rattle.sctp_wire.specs.declared.fault.Reason.TheVariants as reason
-use Rattle.sctp_wire.specs.Layouts.{ReadsFlags, ReadsValue, is_laid_out, is_listed, IsReadable}
+use Rattle.sctp_wire.specs.Layouts.{ReadsFlags, ReadsValue, has_layout, has_list, IsReadable}
 use Rattle.sctp_wire.specs.Reads.{header, ReadsChunk}
 use Rattle.sctp_wire.specs.FirstFault.{stated_length, value_at, HasHeader, IsTooSmall, IsUnpadded, IsWrong}
 use Rattle.sctp_wire.specs.Reading.{body_at, frame_at, framed, chunk_at, IsWhole}
@@ -45,8 +45,8 @@ frame_at-unpadded bytes h =
 -- of its layout, with a list where it has one
 pub record IsShaped (bytes : List ℕ) : Type 0 where
   pub whole : IsWhole bytes
-  pub laid_out : is_laid_out (slice_index bytes 0) (value_at bytes) ≡ true
-  pub listed : is_listed (slice_index bytes 0) (value_at bytes) ≡ true
+  pub laid : has_layout (slice_index bytes 0) (value_at bytes) ≡ true
+  pub list : has_list (slice_index bytes 0) (value_at bytes) ≡ true
 
 whole_from_padded : (bytes : List ℕ) → HasHeader bytes → padded (stated_length bytes) ≤ length bytes → IsWhole bytes
 whole_from_padded bytes h filled = record { head = h.0; stated = h.1; fits = omega arith; filled = filled }
@@ -66,20 +66,20 @@ chunk_at-wrong bytes reason.HasNoList h =
 pub chunk_at-shaped : (bytes : List ℕ) → IsShaped bytes
     → chunk_at bytes ≡ Ok (body_at (slice_index bytes 0) (slice_index bytes 1) (value_at bytes), drop (padded (stated_length bytes)) bytes)
 unfolding chunk_at
-chunk_at-shaped bytes s = ap (framed bytes) (frame_at-whole bytes s.whole) ∙ rw (s.laid_out, s.listed) refl
+chunk_at-shaped bytes s = ap (framed bytes) (frame_at-whole bytes s.whole) ∙ rw (s.laid, s.list) refl
 
 -- wrong in some way, or right
 pub data FirstChunk (bytes : List ℕ) : Type 0 where
   wrong : (why : Reason) → IsWrong why bytes → FirstChunk bytes
   right : IsShaped bytes → FirstChunk bytes
 
-listed_or_not : (bytes : List ℕ) → IsWhole bytes → is_laid_out (slice_index bytes 0) (value_at bytes) ≡ true → (b : Bool) → is_listed (slice_index bytes 0) (value_at bytes) ≡ b → FirstChunk bytes
-listed_or_not bytes w l true e = right (record { whole = w; laid_out = l; listed = e })
-listed_or_not bytes w l false e = wrong reason.HasNoList ((w.head, w.stated), w.filled, l, e)
+listed_by : (bytes : List ℕ) → IsWhole bytes → has_layout (slice_index bytes 0) (value_at bytes) ≡ true → (b : Bool) → has_list (slice_index bytes 0) (value_at bytes) ≡ b → FirstChunk bytes
+listed_by bytes w l true e = right (record { whole = w; laid = l; list = e })
+listed_by bytes w l false e = wrong reason.HasNoList ((w.head, w.stated), w.filled, l, e)
 
-laid_or_not : (bytes : List ℕ) → IsWhole bytes → (b : Bool) → is_laid_out (slice_index bytes 0) (value_at bytes) ≡ b → FirstChunk bytes
-laid_or_not bytes w true e = listed_or_not bytes w e _ refl
-laid_or_not bytes w false e = wrong reason.HasOtherBody ((w.head, w.stated), w.filled, e)
+laid_by : (bytes : List ℕ) → IsWhole bytes → (b : Bool) → has_layout (slice_index bytes 0) (value_at bytes) ≡ b → FirstChunk bytes
+laid_by bytes w true e = listed_by bytes w e _ refl
+laid_by bytes w false e = wrong reason.HasOtherBody ((w.head, w.stated), w.filled, e)
 
 pub first_chunk_is : (bytes : List ℕ) → 0 < length bytes → FirstChunk bytes
 first_chunk_is bytes some =
@@ -87,7 +87,7 @@ first_chunk_is bytes some =
     (λ (head : 4 ≤ length bytes). ⊎_elim (λ (low : stated_length bytes < 4). wrong reason.HasShortLength (head, low))
     (λ (stated : 4 ≤ stated_length bytes). ⊎_elim (λ (past : length bytes < stated_length bytes). wrong reason.IsCut (inr ((head, stated), past)))
     (λ (fits : stated_length bytes ≤ length bytes). ⊎_elim (λ (bare : length bytes < padded (stated_length bytes)). wrong reason.LacksPadding ((head, stated), fits, bare))
-    (λ (filled : padded (stated_length bytes) ≤ length bytes). laid_or_not bytes (record { head = head; stated = stated; fits = fits; filled = filled }) _ refl)
+    (λ (filled : padded (stated_length bytes) ≤ length bytes). laid_by bytes (record { head = head; stated = stated; fits = fits; filled = filled }) _ refl)
     (cases_lt (length bytes) (padded (stated_length bytes))))
     (cases_lt (length bytes) (stated_length bytes)))
     (cases_lt (stated_length bytes) 4))
@@ -141,7 +141,7 @@ begins_shaped bytes fits s =
     let value_length : length value ≡ size - 4 = length-take-le (size - 4) tail (omega arith) in
     let behind = length-drop (size - 4) tail in
     let padding_length : length padding ≡ padded size - size = length-take-le (padded size - size) (drop (size - 4) tail) (omega arith) in
-    let body = body_of kind flags value (AreBytes-take (size - 4) tail (AreBytes-drop 4 bytes fits)) (fits 0) (fits 1) s.laid_out s.listed in
+    let body = body_of kind flags value (AreBytes-take (size - 4) tail (AreBytes-drop 4 bytes fits)) (fits 0) (fits 1) s.laid s.list in
     let same_size : chunk_length m ≡ size = sym (length-value m value body.value) ∙ omega arith in
     let rest_at : drop (padded size - size) (drop (size - 4) tail) ≡ drop (padded size) bytes =
     drop-drop (padded size - size) (size - 4) tail ∙ drop-drop (size - 4 + (padded size - size)) 4 bytes ∙ ap (λ (n : ℕ). drop n bytes) (omega arith) in
@@ -218,7 +218,7 @@ chunk_at-laid m flags value padding rest flagged valued filled readable =
     let whole : IsWhole bytes = record { head = omega arith; stated = omega arith; fits = omega arith; filled = omega arith } in
     let kind = kind-laid (kind_of m) flags size value padding rest in
     let kept = flags-laid (kind_of m) flags size value padding rest in
-    chunk_at-shaped bytes (record { whole = whole; laid_out = rw (kind, is_value) read.laid_out; listed = rw (kind, is_value) read.listed }) ∙ rw (kind, kept, is_value, after, read.body) refl
+    chunk_at-shaped bytes (record { whole = whole; laid = rw (kind, is_value) read.laid; list = rw (kind, is_value) read.list }) ∙ rw (kind, kept, is_value, after, read.body) refl
 
 -- a chunk is read whatever follows it
 pub chunk_at-chunk : (chunk : List ℕ) (m : ChunkMeaning) (rest : List ℕ) → ReadsChunk chunk m → chunk_at (chunk ++ rest) ≡ Ok (m, rest)
@@ -231,7 +231,7 @@ chunk_at-chunk chunk m rest r =
 
 -- ---- a chunk takes some bytes
 
--- a chunk takes its length and its padding
+-- with its padding a chunk takes its length, filled to a multiple of 4
 pub length-chunk : (chunk : List ℕ) (m : ChunkMeaning) → ReadsChunk chunk m → length chunk ≡ padded (chunk_length m)
 length-chunk chunk m r =
     omega (arith, ap length r.layout, length-append (u16_bytes (chunk_length m)) (r.value ++ r.padding), length-u16 (chunk_length m), length-append r.value r.padding, r.filled, length-value m r.value r.valued)

@@ -1,57 +1,48 @@
--- The value of INIT and INIT ACK is read in one way.
-use Rattle.std.proofs.Common.{◌≡◌, ℕ, ◌+◌, ◌≤◌, true, List, ◌++◌, length, drop, refl, arith, length-drop}
-use Rattle.std.proofs.lemmas.List.{drop-drop}
+-- What INIT and INIT ACK offer is read in one way from their value.
+use Rattle.std.proofs.Common.{◌≡◌, ℕ, ◌+◌, ◌≤◌, true, List, ◌++◌, length, drop, refl, ◌∙◌, arith}
 use Rattle.sctp_model.specs.Chunk.{InitMeaning}
-use Rattle.sctp_model.specs.Numbers.{u16_bytes, u32_bytes, AreBytes}
-use Rattle.sctp_wire.specs.chunks.Init.{init_value, init_at, is_init_listed, IsInit}
-use Rattle.sctp_wire.proofs.NumberLemmas.{u16_at-bytes, u32_at-bytes, bytes-u16_at, bytes-u32_at, u16_at-lt, u32_at-lt, AreBytes-drop}
+use Rattle.sctp_model.specs.Numbers.{u16_bytes, u32_bytes, u16_at, u32_at, AreBytes}
+use Rattle.sctp_wire.specs.chunks.Init.{init_numbers, init_value, has_init_list, IsInit, init_at}
+use Rattle.sctp_wire.proofs.NumberLemmas.{u16_at-bytes, u32_at-bytes, next_u16, next_u32, u16_at-lt, u32_at-lt, AreBytes-drop}
 
-drop-init_4 : (i : InitMeaning) → drop 4 (init_value i) ≡ u32_bytes i.rwnd ++ (u16_bytes i.outbound ++ (u16_bytes i.inbound ++ (u32_bytes i.tsn ++ i.parameters)))
-unfolding u32_bytes
-drop-init_4 i = refl
-
-drop-init_8 : (i : InitMeaning) → drop 8 (init_value i) ≡ u16_bytes i.outbound ++ (u16_bytes i.inbound ++ (u32_bytes i.tsn ++ i.parameters))
-unfolding u32_bytes
-drop-init_8 i = refl
-
-drop-init_10 : (i : InitMeaning) → drop 10 (init_value i) ≡ u16_bytes i.inbound ++ (u32_bytes i.tsn ++ i.parameters)
+-- the numbers one behind another, and what follows them
+numbers_then : (offer : InitMeaning) (rest : List ℕ)
+    → init_numbers offer ++ rest ≡ u32_bytes offer.tag ++ (u32_bytes offer.rwnd ++ (u16_bytes offer.outbound ++ (u16_bytes offer.inbound ++ (u32_bytes offer.tsn ++ rest))))
 unfolding u32_bytes u16_bytes
-drop-init_10 i = refl
+numbers_then offer rest = refl
 
-drop-init_12 : (i : InitMeaning) → drop 12 (init_value i) ≡ u32_bytes i.tsn ++ i.parameters
+pub list_behind : (offer : InitMeaning) → drop 16 (init_value offer) ≡ offer.parameters
 unfolding u32_bytes u16_bytes
-drop-init_12 i = refl
+list_behind offer = refl
 
-pub drop-init_16 : (i : InitMeaning) → drop 16 (init_value i) ≡ i.parameters
+pub init_length : (offer : InitMeaning) → length (init_value offer) ≡ 16 + length offer.parameters
 unfolding u32_bytes u16_bytes
-drop-init_16 i = refl
+init_length offer = omega arith
 
-pub length-init_value : (i : InitMeaning) → length (init_value i) ≡ 16 + length i.parameters
-unfolding u32_bytes u16_bytes
-length-init_value i = omega arith
+pub offer_read : (offer : InitMeaning) → IsInit offer → init_at (init_value offer) ≡ offer
+unfolding init_at u32_bytes u16_bytes
+offer_read offer fits =
+    let value = init_value offer in
+    let tag : u32_at value ≡ offer.tag = u32_at-bytes offer.tag _ fits.tag in
+    let rwnd : u32_at (drop 4 value) ≡ offer.rwnd = u32_at-bytes offer.rwnd _ fits.rwnd in
+    let outbound : u16_at (drop 8 value) ≡ offer.outbound = u16_at-bytes offer.outbound _ fits.outbound in
+    let inbound : u16_at (drop 10 value) ≡ offer.inbound = u16_at-bytes offer.inbound _ fits.inbound in
+    let tsn : u32_at (drop 12 value) ≡ offer.tsn = u32_at-bytes offer.tsn _ fits.tsn in
+    rw (tag, rwnd, outbound, inbound, tsn) refl
 
-pub init_at-value : (i : InitMeaning) → IsInit i → init_at (init_value i) ≡ i
+pub value_offered : (value : List ℕ) → AreBytes value → 16 ≤ length value → init_value (init_at value) ≡ value
 unfolding init_at
-init_at-value i fits =
-    rw (u32_at-bytes i.tag _ fits.tag, drop-init_4 i, u32_at-bytes i.rwnd _ fits.rwnd, drop-init_8 i, u16_at-bytes i.outbound _ fits.outbound, drop-init_10 i, u16_at-bytes i.inbound _ fits.inbound, drop-init_12 i, u32_at-bytes i.tsn _ fits.tsn, drop-init_16 i) refl
+value_offered value ranged room =
+    numbers_then (init_at value) (drop 16 value)
+    ∙ rw (next_u32 12 value ranged (omega arith), next_u16 10 value ranged (omega arith), next_u16 8 value ranged (omega arith), next_u32 4 value ranged (omega arith)) (next_u32 0 value ranged (omega arith))
 
-pub value-init_at : (value : List ℕ) → AreBytes value → 16 ≤ length value → init_value (init_at value) ≡ value
+pub offer_in_range : (value : List ℕ) → AreBytes value → has_init_list value ≡ true → IsInit (init_at value)
 unfolding init_at
-value-init_at value bytes long =
-    let at_12 = bytes-u32_at (drop 12 value) (AreBytes-drop 12 value bytes) (omega (arith, length-drop 12 value)) in
-    let at_10 = bytes-u16_at (drop 10 value) (AreBytes-drop 10 value bytes) (omega (arith, length-drop 10 value)) in
-    let at_8 = bytes-u16_at (drop 8 value) (AreBytes-drop 8 value bytes) (omega (arith, length-drop 8 value)) in
-    let at_4 = bytes-u32_at (drop 4 value) (AreBytes-drop 4 value bytes) (omega (arith, length-drop 4 value)) in
-    let at_0 = bytes-u32_at value bytes (omega arith) in
-    rw (← drop-drop 4 12 value, at_12, ← drop-drop 2 10 value, at_10, ← drop-drop 2 8 value, at_8, ← drop-drop 4 4 value, at_4) at_0
-
-pub IsInit-init_at : (value : List ℕ) → AreBytes value → is_init_listed value ≡ true → IsInit (init_at value)
-unfolding init_at
-IsInit-init_at value bytes listed = record {
-  tag = u32_at-lt value bytes;
-  rwnd = u32_at-lt (drop 4 value) (AreBytes-drop 4 value bytes);
-  outbound = u16_at-lt (drop 8 value) (AreBytes-drop 8 value bytes);
-  inbound = u16_at-lt (drop 10 value) (AreBytes-drop 10 value bytes);
-  tsn = u32_at-lt (drop 12 value) (AreBytes-drop 12 value bytes);
-  parameters = listed;
+offer_in_range value ranged listed = record {
+  tag = u32_at-lt value ranged;
+  rwnd = u32_at-lt (drop 4 value) (AreBytes-drop 4 value ranged);
+  outbound = u16_at-lt (drop 8 value) (AreBytes-drop 8 value ranged);
+  inbound = u16_at-lt (drop 10 value) (AreBytes-drop 10 value ranged);
+  tsn = u32_at-lt (drop 12 value) (AreBytes-drop 12 value ranged);
+  listed = listed;
 }

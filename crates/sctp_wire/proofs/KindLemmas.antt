@@ -3,7 +3,7 @@ use Rattle.std.proofs.Common.{◌≡◌, ℕ, ◌≤◌, Bool, true, false, refl
 use Rattle.std.specs.Prelude.{◌==◌, nat_le}
 use Rattle.std.proofs.lemmas.Bool.Decides.{eqb_tells}
 use Rattle.std.proofs.lemmas.Grind.{common_steps}
-use Rattle.sctp_wire.specs.Layouts.{is_known}
+use Rattle.sctp_wire.specs.chunks.Other.{is_known}
 
 -- the types, one by one
 pub data IsType (kind : ℕ) : Type 0 where

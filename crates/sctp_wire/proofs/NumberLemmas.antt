@@ -1,7 +1,7 @@
 -- Numbers read back from their bytes, and bytes from their numbers.
-use Rattle.std.proofs.Common.{◌≡◌, ℕ, zero, suc, ◌+◌, ◌<◌, ◌≤◌, ◌^◌, List, [], ◌∷◌, ◌++◌, length, take, drop, refl, ap, get_or, ⊎_elim, arith, length-append}
+use Rattle.std.proofs.Common.{◌≡◌, ℕ, zero, suc, ◌+◌, ◌<◌, ◌≤◌, ◌^◌, List, [], ◌∷◌, ◌++◌, length, take, drop, refl, sym, ap, ◌∙◌, get_or, ⊎_elim, arith, length-append, length-drop}
 use Rattle.std.proofs.lemmas.Nat.{be_bytes_2, be_bytes_4}
-use Rattle.std.proofs.lemmas.List.{get_or-drop, get_or_past}
+use Rattle.std.proofs.lemmas.List.{get_or-drop, get_or_past, drop-drop}
 use Rattle.std.proofs.Math.ListN.{get_or-append}
 use Rattle.std.proofs.lemmas.Bool.{cases_lt}
 use Rattle.byteorder.specs.Numbers.{big_number-reads_back}
@@ -85,3 +85,15 @@ pub AreBytes-front : (xs ys zs : List ℕ) → zs ≡ xs ++ ys → ((i d : ℕ) 
 AreBytes-front xs ys zs e fits i =
     ⊎_elim (λ (h : i < length xs). rw (← get_or-append xs ys 0 i h, ← e) (fits i 0 (omega (arith, ap length e, length-append xs ys))))
     (λ (h : length xs ≤ i). omega (arith, get_or_past xs i 0 h)) (cases_lt i (length xs))
+
+-- ---- a number within bytes, and what stands behind it
+
+pub next_u16 : (n : ℕ) (bytes : List ℕ) → AreBytes bytes → n + 2 ≤ length bytes → u16_bytes (u16_at (drop n bytes)) ++ drop (n + 2) bytes ≡ drop n bytes
+next_u16 n bytes ranged room =
+    ap (λ (rest : List ℕ). u16_bytes (u16_at (drop n bytes)) ++ rest) (sym (drop-drop 2 n bytes))
+    ∙ bytes-u16_at (drop n bytes) (AreBytes-drop n bytes ranged) (omega (arith, length-drop n bytes))
+
+pub next_u32 : (n : ℕ) (bytes : List ℕ) → AreBytes bytes → n + 4 ≤ length bytes → u32_bytes (u32_at (drop n bytes)) ++ drop (n + 4) bytes ≡ drop n bytes
+next_u32 n bytes ranged room =
+    ap (λ (rest : List ℕ). u32_bytes (u32_at (drop n bytes)) ++ rest) (sym (drop-drop 4 n bytes))
+    ∙ bytes-u32_at (drop n bytes) (AreBytes-drop n bytes ranged) (omega (arith, length-drop n bytes))

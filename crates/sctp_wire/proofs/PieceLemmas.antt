@@ -7,7 +7,10 @@ use Rattle.std.proofs.lemmas.List.{drop-drop}
 use Rattle.std.proofs.lemmas.Grind.{common_steps}
 use Rattle.sctp_model.specs.Chunk.{PieceMeaning}
 use Rattle.sctp_model.specs.Numbers.{u16_bytes, u32_bytes, u16_at, AreBytes}
-use Rattle.sctp_wire.specs.chunks.Piece.{flag, has_flag, data_flags, data_value, IsDataPiece, data_at, i_data_laid, IsIDataPiece, i_data_at}
+use Rattle.sctp_wire.specs.chunks.Flags.{flag, has_flag}
+use Rattle.sctp_wire.specs.chunks.Piece.{data_flags}
+use Rattle.sctp_wire.specs.chunks.Data.{data_value, IsDataPiece, data_at}
+use Rattle.sctp_wire.specs.chunks.IData.{i_data_laid, IsIDataPiece, i_data_at}
 use Rattle.sctp_wire.proofs.NumberLemmas.{u16_at-bytes, u32_at-bytes, bytes-u16_at, bytes-u32_at, u16_at-lt, u32_at-lt, AreBytes-drop}
 
 -- ---- flags

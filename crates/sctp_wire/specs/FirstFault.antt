@@ -8,7 +8,7 @@ use Rattle.sctp_wire.specs.declared.fault.Reason.{Reason}
 use Rattle.sctp_wire.specs.declared.fault.Reason.TheVariants as reason
 use Rattle.sctp_wire.specs.declared.fault.WireFault.{WireFault}
 use Rattle.sctp_wire.specs.declared.fault.WireFault.TheVariants.{Cut, LengthTooSmall, PaddingMissing, ChunkBody, ParameterLength, NotAlone}
-use Rattle.sctp_wire.specs.Layouts.{is_laid_out, is_listed}
+use Rattle.sctp_wire.specs.Layouts.{has_layout, has_list}
 use Rattle.sctp_wire.specs.Reads.{ReadsEach}
 
 -- what a header's length field says
@@ -38,13 +38,13 @@ IsUnpadded bytes = HasHeader bytes × (stated_length bytes ≤ length bytes) × 
 -- all is there, and isn't of its type's layout
 abbrev pub IsMisshapen : List ℕ → Type 0
 IsMisshapen bytes =
-    HasHeader bytes × (padded (stated_length bytes) ≤ length bytes) × (is_laid_out (slice_index bytes 0) (value_at bytes) ≡ false)
+    HasHeader bytes × (padded (stated_length bytes) ≤ length bytes) × (has_layout (slice_index bytes 0) (value_at bytes) ≡ false)
 
 -- all is there and of the layout, and the parameters or causes aren't a list
 abbrev pub IsMislisted : List ℕ → Type 0
 IsMislisted bytes =
-    HasHeader bytes × (padded (stated_length bytes) ≤ length bytes) × (is_laid_out (slice_index bytes 0) (value_at bytes) ≡ true)
-    × (is_listed (slice_index bytes 0) (value_at bytes) ≡ false)
+    HasHeader bytes × (padded (stated_length bytes) ≤ length bytes) × (has_layout (slice_index bytes 0) (value_at bytes) ≡ true)
+    × (has_list (slice_index bytes 0) (value_at bytes) ≡ false)
 
 -- what is wrong with the chunk that bytes begin with
 abbrev pub IsWrong : Reason → List ℕ → Type 0

@@ -9,13 +9,15 @@ use Rattle.sctp_wire.specs.declared.fault.Reason.{Reason}
 use Rattle.sctp_wire.specs.declared.fault.Reason.TheVariants.{IsCut, HasShortLength, LacksPadding, HasOtherBody, HasNoList}
 use Rattle.sctp_wire.specs.declared.fault.WireFault.{WireFault}
 use Rattle.sctp_wire.specs.declared.fault.WireFault.TheVariants.{NotAlone}
-use Rattle.sctp_wire.specs.declared.skips.SkipForm.TheVariants.{Narrow, Wide}
 use Rattle.sctp_wire.specs.FaultTree.{fault_at}
-use Rattle.sctp_wire.specs.chunks.Piece.{has_flag, data_at, i_data_at}
+use Rattle.sctp_wire.specs.chunks.Flags.{has_flag}
+use Rattle.sctp_wire.specs.chunks.Data.{data_at}
+use Rattle.sctp_wire.specs.chunks.IData.{i_data_at}
 use Rattle.sctp_wire.specs.chunks.Init.{init_at}
 use Rattle.sctp_wire.specs.chunks.Sack.{sack_at}
-use Rattle.sctp_wire.specs.chunks.Forward.{forward_at}
-use Rattle.sctp_wire.specs.Layouts.{is_laid_out, is_listed}
+use Rattle.sctp_wire.specs.chunks.ForwardTsn.{forward_tsn_at}
+use Rattle.sctp_wire.specs.chunks.IForwardTsn.{i_forward_tsn_at}
+use Rattle.sctp_wire.specs.Layouts.{has_layout, has_list}
 use Rattle.sctp_wire.specs.FirstFault.{stated_length, value_at}
 
 -- the chunk of a type, its flags and its value
@@ -35,8 +37,8 @@ body_at kind flags value =
     else if kind == COOKIE_ACK then CookieAck
     else if kind == SHUTDOWN_COMPLETE then ShutdownComplete (has_flag flags REFLECTED)
     else if kind == I_DATA then IData (i_data_at flags value)
-    else if kind == FORWARD_TSN then ForwardTsn (forward_at Narrow value)
-    else if kind == I_FORWARD_TSN then IForwardTsn (forward_at Wide value)
+    else if kind == FORWARD_TSN then ForwardTsn (forward_tsn_at value)
+    else if kind == I_FORWARD_TSN then IForwardTsn (i_forward_tsn_at value)
     else Unknown kind flags value
 
 -- the length field of the first chunk, where the header, the length and the padding are right
@@ -58,8 +60,8 @@ pub record IsWhole (bytes : List ℕ) : Type 0 where
 -- the first chunk and what follows it, where its frame is right
 abbrev pub framed : List ℕ → Result ℕ Reason → Result (ChunkMeaning × List ℕ) Reason
 framed bytes (Ok size) =
-    if is_laid_out (slice_index bytes 0) (value_at bytes) then (
-    if is_listed (slice_index bytes 0) (value_at bytes)
+    if has_layout (slice_index bytes 0) (value_at bytes) then (
+    if has_list (slice_index bytes 0) (value_at bytes)
     then Ok (body_at (slice_index bytes 0) (slice_index bytes 1) (value_at bytes), drop (padded size) bytes)
     else Err HasNoList
     )

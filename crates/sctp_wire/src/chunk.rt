@@ -3,25 +3,35 @@
 ghost use Rattle.std.specs.Prelude.{◌≡◌, ◌+◌, ◌≤◌, ◌<◌, ◌^◌, ◌↔◌, ◌++◌, IsTrue, true, length, vec_len, vec_capacity};
 ghost use Rattle.sctp_model.specs.Chunk.{kind_of, chunk_length, size_of_chunk};
 ghost use Rattle.sctp_wire.specs.ChunkTree.{chunk_meaning, HasZeroReserved};
-ghost use Rattle.sctp_wire.specs.Layouts.{is_laid_out, is_listed, flags_of, value_of, Fits};
+ghost use Rattle.sctp_wire.specs.Layouts.{has_layout, has_list, flags_of, value_of, Fits};
 ghost use Rattle.sctp_wire.specs.Reading.{body_at};
 ghost use Rattle.sctp_wire.specs.Writes.{written};
 
-use crate::chunks::control::{bytes_fit, list_fits, unknown_fits};
-use crate::chunks::forward::{Forward, append_forward, forward_fits, is_forward, read_forward};
-use crate::chunks::init::{Init, append_init, init_fits, read_init};
-use crate::chunks::piece::{
-    Piece, append_data, append_i_data, data_fits, data_flags, flag, i_data_fits, is_set, read_data,
-    read_i_data,
-};
+use crate::chunks::abort::{abort_fits, is_abort_list, reflected_flag};
+use crate::chunks::cookie_ack::is_cookie_ack;
+use crate::chunks::cookie_echo::cookie_echo_fits;
+use crate::chunks::error::{error_fits, is_error_list};
+use crate::chunks::flags::is_set;
+use crate::chunks::forward::{Forward, append_forward};
+use crate::chunks::forward_tsn::{forward_tsn_fits, is_forward_tsn, read_forward_tsn};
+use crate::chunks::heartbeat::heartbeat_fits;
+use crate::chunks::i_data::{append_i_data, i_data_fits, is_i_data, read_i_data};
+use crate::chunks::i_forward_tsn::{i_forward_tsn_fits, is_i_forward_tsn, read_i_forward_tsn};
+use crate::chunks::init::{Init, append_init, has_parameters, init_fits, is_init, read_init};
+use crate::chunks::other::other_fits;
+use crate::chunks::piece::{Piece, data_flags};
 use crate::chunks::sack::{Sack, append_sack, is_sack, read_sack, sack_fits};
+use crate::chunks::shutdown::{is_shutdown, shutdown_fits};
+use crate::chunks::shutdown_ack::is_shutdown_ack;
+use crate::chunks::shutdown_complete::is_shutdown_complete;
+use crate::chunks::user_data::{append_data, data_fits, is_data, read_data};
 use crate::codes::{
     ABORT, COOKIE_ACK, COOKIE_ECHO, DATA, ERROR, FORWARD_TSN, HEARTBEAT, HEARTBEAT_ACK, I_DATA,
     I_FORWARD_TSN, INIT, INIT_ACK, REFLECTED, SACK, SHUTDOWN, SHUTDOWN_ACK, SHUTDOWN_COMPLETE,
 };
 use crate::numbers::{append, append_u32, padded, read_u32};
 use crate::skips::SkipForm;
-use crate::typed::{Causes, is_typed_list};
+use crate::typed::Causes;
 
 /// A chunk (RFC 9260, 3.2).
 #[derive(Debug, Drop)]
@@ -90,25 +100,18 @@ impl Chunk<'_> {
     {
         match self {
             Chunk::Data(piece) => data_fits(piece),
-            Chunk::Init(init) => init_fits(init),
-            Chunk::InitAck(init) => init_fits(init),
-            Chunk::Sack(sack) => sack_fits(sack),
-            Chunk::Heartbeat { info } => bytes_fit(info),
-            Chunk::HeartbeatAck { info } => bytes_fit(info),
-            Chunk::Abort { causes, .. } => list_fits(causes),
-            Chunk::Error { causes } => list_fits(causes),
-            Chunk::CookieEcho { cookie } => bytes_fit(cookie),
             Chunk::IData(piece) => i_data_fits(piece),
-            Chunk::ForwardTsn(forward) => forward_fits(SkipForm::Narrow, forward),
-            Chunk::IForwardTsn(forward) => forward_fits(SkipForm::Wide, forward),
-            Chunk::Unknown { kind, flags, value } => unknown_fits(*kind, *flags, value),
-            Chunk::Shutdown { cumulative } => {
-                let _cumulative = *cumulative;
-                true
-            }
-            Chunk::ShutdownAck => true,
-            Chunk::CookieAck => true,
-            Chunk::ShutdownComplete { .. } => true,
+            Chunk::Init(offer) | Chunk::InitAck(offer) => init_fits(offer),
+            Chunk::Sack(sack) => sack_fits(sack),
+            Chunk::Heartbeat { info } | Chunk::HeartbeatAck { info } => heartbeat_fits(info),
+            Chunk::Abort { reflected, causes } => abort_fits(*reflected, causes),
+            Chunk::Error { causes } => error_fits(causes),
+            Chunk::CookieEcho { cookie } => cookie_echo_fits(cookie),
+            Chunk::Shutdown { cumulative } => shutdown_fits(*cumulative),
+            Chunk::ShutdownAck | Chunk::CookieAck | Chunk::ShutdownComplete { .. } => true,
+            Chunk::ForwardTsn(point) => forward_tsn_fits(point),
+            Chunk::IForwardTsn(point) => i_forward_tsn_fits(point),
+            Chunk::Unknown { kind, flags, value } => other_fits(*kind, *flags, value),
         }
     }
 
@@ -131,21 +134,16 @@ pub fn length_of(chunk: &Chunk<'_>) -> usize
 {
     match chunk {
         Chunk::Data(piece) => 16 + piece.bytes.len(),
-        Chunk::Init(init) => 20 + init.parameters.size(),
-        Chunk::InitAck(init) => 20 + init.parameters.size(),
-        Chunk::Sack(sack) => 16 + 4 * (sack.blocks.len() + sack.duplicates.len()),
-        Chunk::Heartbeat { info } => 4 + info.len(),
-        Chunk::HeartbeatAck { info } => 4 + info.len(),
-        Chunk::Abort { causes, .. } => 4 + causes.size(),
-        Chunk::Shutdown { .. } => 8,
-        Chunk::ShutdownAck => 4,
-        Chunk::Error { causes } => 4 + causes.size(),
-        Chunk::CookieEcho { cookie } => 4 + cookie.len(),
-        Chunk::CookieAck => 4,
-        Chunk::ShutdownComplete { .. } => 4,
         Chunk::IData(piece) => 20 + piece.bytes.len(),
-        Chunk::ForwardTsn(forward) => 8 + 4 * forward.skips.len(),
-        Chunk::IForwardTsn(forward) => 8 + 8 * forward.skips.len(),
+        Chunk::Init(offer) | Chunk::InitAck(offer) => 20 + offer.parameters.size(),
+        Chunk::Sack(sack) => 16 + 4 * (sack.blocks.len() + sack.duplicates.len()),
+        Chunk::Heartbeat { info } | Chunk::HeartbeatAck { info } => 4 + info.len(),
+        Chunk::Abort { causes, .. } | Chunk::Error { causes } => 4 + causes.size(),
+        Chunk::CookieEcho { cookie } => 4 + cookie.len(),
+        Chunk::Shutdown { .. } => 8,
+        Chunk::ShutdownAck | Chunk::CookieAck | Chunk::ShutdownComplete { .. } => 4,
+        Chunk::ForwardTsn(point) => 8 + 4 * point.skips.len(),
+        Chunk::IForwardTsn(point) => 8 + 8 * point.skips.len(),
         Chunk::Unknown { value, .. } => 4 + value.len(),
     }
 }
@@ -180,10 +178,10 @@ pub fn flags_of(chunk: &Chunk<'_>) -> u8
     ensures { result ≡ flags_of (chunk_meaning chunk.now) }
 {
     match chunk {
-        Chunk::Data(piece) => data_flags(piece),
-        Chunk::IData(piece) => data_flags(piece),
-        Chunk::Abort { reflected, .. } => flag(REFLECTED, *reflected),
-        Chunk::ShutdownComplete { reflected } => flag(REFLECTED, *reflected),
+        Chunk::Data(piece) | Chunk::IData(piece) => data_flags(piece),
+        Chunk::Abort { reflected, .. } | Chunk::ShutdownComplete { reflected } => {
+            reflected_flag(*reflected)
+        }
         Chunk::Unknown { flags, .. } => *flags,
         _ => 0,
     }
@@ -199,91 +197,86 @@ pub fn append_value(out: &mut Vec<u8>, chunk: &Chunk<'_>)
 {
     match chunk {
         Chunk::Data(piece) => append_data(out, piece),
-        Chunk::Init(init) => append_init(out, init),
-        Chunk::InitAck(init) => append_init(out, init),
-        Chunk::Sack(sack) => append_sack(out, sack),
-        Chunk::Heartbeat { info } => append(out, info),
-        Chunk::HeartbeatAck { info } => append(out, info),
-        Chunk::Abort { causes, .. } => append(out, causes.bytes()),
-        Chunk::Shutdown { cumulative } => append_u32(out, *cumulative),
-        Chunk::ShutdownAck => {}
-        Chunk::Error { causes } => append(out, causes.bytes()),
-        Chunk::CookieEcho { cookie } => append(out, cookie),
-        Chunk::CookieAck => {}
-        Chunk::ShutdownComplete { .. } => {}
         Chunk::IData(piece) => append_i_data(out, piece),
-        Chunk::ForwardTsn(forward) => append_forward(SkipForm::Narrow, out, forward),
-        Chunk::IForwardTsn(forward) => append_forward(SkipForm::Wide, out, forward),
+        Chunk::Init(offer) | Chunk::InitAck(offer) => append_init(out, offer),
+        Chunk::Sack(sack) => append_sack(out, sack),
+        Chunk::Heartbeat { info } | Chunk::HeartbeatAck { info } => append(out, info),
+        Chunk::Abort { causes, .. } | Chunk::Error { causes } => append(out, causes.bytes()),
+        Chunk::CookieEcho { cookie } => append(out, cookie),
+        Chunk::Shutdown { cumulative } => append_u32(out, *cumulative),
+        Chunk::ShutdownAck | Chunk::CookieAck | Chunk::ShutdownComplete { .. } => {}
+        Chunk::ForwardTsn(point) => append_forward(SkipForm::Narrow, out, point),
+        Chunk::IForwardTsn(point) => append_forward(SkipForm::Wide, out, point),
         Chunk::Unknown { value, .. } => append(out, value),
     }
 }
 
-/// Whether a value is of its type's layout.
-pub fn is_laid_out(kind: u8, value: &[u8]) -> bool
-    ensures { result ≡ is_laid_out kind value.now }
+/// Whether a value has the layout of its type.
+pub fn has_layout(kind: u8, value: &[u8]) -> bool
+    ensures { result ≡ has_layout kind value.now }
 {
     match kind {
-        DATA => value.len() >= 12,
-        INIT => value.len() >= 16,
-        INIT_ACK => value.len() >= 16,
+        DATA => is_data(value),
+        INIT | INIT_ACK => is_init(value),
         SACK => is_sack(value),
-        SHUTDOWN => value.len() == 4,
-        SHUTDOWN_ACK => value.is_empty(),
-        COOKIE_ACK => value.is_empty(),
-        SHUTDOWN_COMPLETE => value.is_empty(),
-        I_DATA => value.len() >= 16,
-        FORWARD_TSN => is_forward(SkipForm::Narrow, value),
-        I_FORWARD_TSN => is_forward(SkipForm::Wide, value),
+        SHUTDOWN => is_shutdown(value),
+        SHUTDOWN_ACK => is_shutdown_ack(value),
+        COOKIE_ACK => is_cookie_ack(value),
+        SHUTDOWN_COMPLETE => is_shutdown_complete(value),
+        I_DATA => is_i_data(value),
+        FORWARD_TSN => is_forward_tsn(value),
+        I_FORWARD_TSN => is_i_forward_tsn(value),
         _ => true,
     }
 }
 
-/// Whether the parameters or causes in a value of the type's layout are a list.
-pub fn is_listed(kind: u8, value: &[u8]) -> bool
-    requires { is_laid_out kind value.now ≡ true }
-    ensures { result ≡ is_listed kind value.now }
+/// Whether what should be a list of parameters or causes, in a value of the layout, is one.
+pub fn has_list(kind: u8, value: &[u8]) -> bool
+    requires { has_layout kind value.now ≡ true }
+    ensures { result ≡ has_list kind value.now }
 {
     match kind {
-        INIT => is_typed_list(&value[16..]),
-        INIT_ACK => is_typed_list(&value[16..]),
-        ABORT => is_typed_list(value),
-        ERROR => is_typed_list(value),
+        INIT | INIT_ACK => has_parameters(value),
+        ABORT => is_abort_list(value),
+        ERROR => is_error_list(value),
         _ => true,
     }
 }
 
-/// The chunk of a type, its flags and its value.
+/// What a type, its flags and a value of its layout say.
 #[tactic(auto, unfolding(crate::specs::Reading::body_at))]
-pub fn read_body(kind: u8, flags: u8, value: &[u8]) -> Chunk<'_>
-    requires laid_out { is_laid_out kind value.now ≡ true }
-    requires listed { is_listed kind value.now ≡ true }
+pub fn read_value(kind: u8, flags: u8, value: &[u8]) -> Chunk<'_>
+    requires layout { has_layout kind value.now ≡ true }
+    requires list { has_list kind value.now ≡ true }
     ensures { chunk_meaning result ≡ body_at kind flags value.now }
 {
     let reflected = is_set(flags, REFLECTED);
     match kind {
         DATA => Chunk::Data(read_data(flags, value)),
+        I_DATA => Chunk::IData(read_i_data(flags, value)),
         INIT => Chunk::Init(read_init(value)),
         INIT_ACK => Chunk::InitAck(read_init(value)),
         SACK => Chunk::Sack(read_sack(value)),
         HEARTBEAT => Chunk::Heartbeat { info: value },
         HEARTBEAT_ACK => Chunk::HeartbeatAck { info: value },
-        ABORT => Chunk::Abort {
-            reflected,
-            causes: Causes::new(value),
-        },
-        SHUTDOWN => Chunk::Shutdown {
-            cumulative: read_u32(value),
-        },
+        ABORT => {
+            let causes = Causes::new(value);
+            Chunk::Abort { reflected, causes }
+        }
+        SHUTDOWN => {
+            let cumulative = read_u32(value);
+            Chunk::Shutdown { cumulative }
+        }
         SHUTDOWN_ACK => Chunk::ShutdownAck,
-        ERROR => Chunk::Error {
-            causes: Causes::new(value),
-        },
+        ERROR => {
+            let causes = Causes::new(value);
+            Chunk::Error { causes }
+        }
         COOKIE_ECHO => Chunk::CookieEcho { cookie: value },
         COOKIE_ACK => Chunk::CookieAck,
         SHUTDOWN_COMPLETE => Chunk::ShutdownComplete { reflected },
-        I_DATA => Chunk::IData(read_i_data(flags, value)),
-        FORWARD_TSN => Chunk::ForwardTsn(read_forward(SkipForm::Narrow, value)),
-        I_FORWARD_TSN => Chunk::IForwardTsn(read_forward(SkipForm::Wide, value)),
+        FORWARD_TSN => Chunk::ForwardTsn(read_forward_tsn(value)),
+        I_FORWARD_TSN => Chunk::IForwardTsn(read_i_forward_tsn(value)),
         _ => Chunk::Unknown { kind, flags, value },
     }
 }

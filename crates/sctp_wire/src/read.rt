@@ -12,7 +12,7 @@ ghost use Rattle.sctp_wire.specs.Reading.{frame_at, chunk_at, chunks_of, AreChun
 ghost use Rattle.sctp_wire.specs.Reads.{Reads};
 ghost use Rattle.sctp_wire.specs.Standing.{is_alone, IsBehindFirst};
 
-use crate::chunk::{Chunk, is_laid_out, is_listed, read_body};
+use crate::chunk::{Chunk, has_layout, has_list, read_value};
 use crate::codes::{COOKIE_ECHO, INIT, INIT_ACK, SHUTDOWN_COMPLETE};
 use crate::fault::{Reason, WireFault};
 use crate::numbers::{padded, read_u16};
@@ -157,14 +157,15 @@ fn first_chunk(bytes: &[u8]) -> Result<(Chunk<'_>, &[u8]), Reason>
         (λ reason. chunk_at bytes.now ≡ Err reason) }
 {
     let size = frame(bytes)?;
-    let (kind, value) = (bytes[0], &bytes[4..size]);
-    if !is_laid_out(kind, value) {
+    let value = &bytes[4..size];
+    if !has_layout(bytes[0], value) {
         return Err(Reason::HasOtherBody);
     }
-    if !is_listed(kind, value) {
+    if !has_list(bytes[0], value) {
         return Err(Reason::HasNoList);
     }
-    Ok((read_body(kind, bytes[1], value), &bytes[padded(size)..]))
+    let chunk = read_value(bytes[0], bytes[1], value);
+    Ok((chunk, &bytes[padded(size)..]))
 }
 
 /// The length field of the first chunk, where the header, the length and the padding are right.

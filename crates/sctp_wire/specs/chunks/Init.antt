@@ -1,31 +1,36 @@
--- INIT and INIT ACK: initiate tag, a_rwnd, outbound and inbound streams, initial TSN, parameters (RFC 9260, 3.3.2 and 3.3.3).
+-- INIT and INIT ACK (RFC 9260, 3.3.2 and 3.3.3): 16 bytes of numbers, and a list of parameters.
 use Rattle.std.specs.Prelude.{◌≡◌, ℕ, ◌<◌, ◌^◌, Bool, true, nat_le, List, ◌++◌, length, drop}
 use Rattle.sctp_model.specs.Chunk.{InitMeaning}
 use Rattle.sctp_model.specs.Numbers.{u16_bytes, u32_bytes, u16_at, u32_at}
 use Rattle.sctp_model.specs.Typed.{are_typed}
 
+-- the numbers, in the order in which they stand: initiate tag, a_rwnd, outbound and inbound streams, initial TSN
+abbrev pub init_numbers : InitMeaning → List ℕ
+init_numbers offer =
+    u32_bytes offer.tag ++ (u32_bytes offer.rwnd ++ (u16_bytes offer.outbound ++ (u16_bytes offer.inbound ++ u32_bytes offer.tsn)))
+
+-- the value: the numbers, and the parameters' bytes
 abbrev pub init_value : InitMeaning → List ℕ
-init_value i =
-    u32_bytes i.tag ++ (u32_bytes i.rwnd ++ (u16_bytes i.outbound ++ (u16_bytes i.inbound ++ (u32_bytes i.tsn ++ i.parameters))))
+init_value offer = init_numbers offer ++ offer.parameters
 
--- the values that the layout accepts
-abbrev pub is_init_value : List ℕ → Bool
-is_init_value value = nat_le 16 (length value)
+-- The layout accepts what has room for the numbers;
+abbrev pub has_init_numbers : List ℕ → Bool
+has_init_numbers value = nat_le 16 (length value)
 
--- what stands behind the fields is a list of parameters
-abbrev pub is_init_listed : List ℕ → Bool
-is_init_listed value = are_typed (drop 16 value)
+-- and what stands behind them must be a list.
+abbrev pub has_init_list : List ℕ → Bool
+has_init_list value = are_typed (drop 16 value)
 
--- the fields are within their bits, and the parameters are a list
-pub record IsInit (i : InitMeaning) : Type 0 where
-  pub tag : i.tag < 2 ^ 32
-  pub rwnd : i.rwnd < 2 ^ 32
-  pub outbound : i.outbound < 2 ^ 16
-  pub inbound : i.inbound < 2 ^ 16
-  pub tsn : i.tsn < 2 ^ 32
-  pub parameters : are_typed i.parameters ≡ true
+-- each number is within its bits, and the parameters are a list
+pub record IsInit (offer : InitMeaning) : Type 0 where
+  pub tag : offer.tag < 2 ^ 32
+  pub rwnd : offer.rwnd < 2 ^ 32
+  pub outbound : offer.outbound < 2 ^ 16
+  pub inbound : offer.inbound < 2 ^ 16
+  pub tsn : offer.tsn < 2 ^ 32
+  pub listed : are_typed offer.parameters ≡ true
 
--- the fields of a value
+-- what a value offers
 unfoldable pub init_at : List ℕ → InitMeaning
 init_at value = record {
   tag = u32_at value;

@@ -1,79 +1,9 @@
--- DATA and I-DATA: the flags, and what stands behind the header (RFC 9260, 3.3.1; RFC 8260, 2.1).
-use Rattle.std.specs.Prelude.{◌≡◌, ℕ, ◌+◌, ◌<◌, ◌^◌, Bool, not, if◌then◌else◌, ◌==◌, nat_le, bit_and, List, ◌++◌, length, drop}
+-- What DATA and I-DATA have in common: the four flags I, U, B and E (RFC 9260, 3.3.1; RFC 8260, 2.1).
+use Rattle.std.specs.Prelude.{ℕ, ◌+◌}
 use Rattle.sctp_model.specs.Chunk.{PieceMeaning}
-use Rattle.sctp_model.specs.Numbers.{u16_bytes, u32_bytes, u16_at, u32_at}
 use Rattle.sctp_wire.specs.declared.codes.TheConstants.{IMMEDIATE, UNORDERED, BEGIN, END}
+use Rattle.sctp_wire.specs.chunks.Flags.{flag}
 
--- a flag's bit where it is set
-abbrev pub flag : ℕ → Bool → ℕ
-flag bit set = if set then bit else 0
-
--- a flag of a header
-abbrev pub has_flag : ℕ → ℕ → Bool
-has_flag flags bit = not (bit_and flags bit == 0)
-
--- the four flags I, U, B and E
+-- the flags of a piece, unused ones zero
 abbrev pub data_flags : PieceMeaning → ℕ
 data_flags p = flag IMMEDIATE p.immediate + flag UNORDERED p.unordered + flag BEGIN p.begin + flag END p.end
-
--- ---- DATA: TSN, stream, SSN, payload protocol identifier, data
-
-abbrev pub data_value : PieceMeaning → List ℕ
-data_value p = u32_bytes p.tsn ++ (u16_bytes p.stream ++ (u16_bytes p.number ++ (u32_bytes p.word ++ p.bytes)))
-
--- the values that the layout accepts
-abbrev pub is_data_value : List ℕ → Bool
-is_data_value value = nat_le 12 (length value)
-
--- the fields are within their bits
-pub record IsDataPiece (p : PieceMeaning) : Type 0 where
-  pub tsn : p.tsn < 2 ^ 32
-  pub stream : p.stream < 2 ^ 16
-  pub number : p.number < 2 ^ 16
-  pub word : p.word < 2 ^ 32
-
--- the fields of a value
-unfoldable pub data_at : ℕ → List ℕ → PieceMeaning
-data_at flags value = record {
-  immediate = has_flag flags IMMEDIATE;
-  unordered = has_flag flags UNORDERED;
-  begin = has_flag flags BEGIN;
-  end = has_flag flags END;
-  tsn = u32_at value;
-  stream = u16_at (drop 4 value);
-  number = u16_at (drop 6 value);
-  word = u32_at (drop 8 value);
-  bytes = drop 12 value;
-}
-
--- ---- I-DATA: TSN, stream, 16 reserved bits, MID, payload protocol identifier or FSN, data
-
-abbrev pub i_data_laid : (reserved : ℕ) → PieceMeaning → List ℕ
-i_data_laid reserved p =
-    u32_bytes p.tsn ++ (u16_bytes p.stream ++ (u16_bytes reserved ++ (u32_bytes p.number ++ (u32_bytes p.word ++ p.bytes))))
-
--- with any value in the reserved bits
-abbrev pub ReadsIData : List ℕ → PieceMeaning → Type 0
-ReadsIData value p = (reserved : ℕ) × (value ≡ i_data_laid reserved p)
-
-abbrev pub is_i_data_value : List ℕ → Bool
-is_i_data_value value = nat_le 16 (length value)
-
-pub record IsIDataPiece (p : PieceMeaning) : Type 0 where
-  pub tsn : p.tsn < 2 ^ 32
-  pub stream : p.stream < 2 ^ 16
-  pub number : p.number < 2 ^ 32
-  pub word : p.word < 2 ^ 32
-
-unfoldable pub i_data_at : ℕ → List ℕ → PieceMeaning
-i_data_at flags value = record {
-  immediate = has_flag flags IMMEDIATE;
-  unordered = has_flag flags UNORDERED;
-  begin = has_flag flags BEGIN;
-  end = has_flag flags END;
-  tsn = u32_at value;
-  stream = u16_at (drop 4 value);
-  number = u32_at (drop 8 value);
-  word = u32_at (drop 12 value);
-  bytes = drop 16 value;
-}

@@ -1,4 +1,4 @@
-//! FORWARD-TSN and I-FORWARD-TSN: what a sender has given up (RFC 3758, 3.2; RFC 8260, 2.3.1).
+//! What FORWARD-TSN and I-FORWARD-TSN have in common: a point, and the numbers skipped (RFC 3758, 3.2; RFC 8260, 2.3.1).
 
 ghost use Rattle.std.specs.Prelude.{◌≡◌, ◌↔◌, ◌+◌, ◌*◌, ◌≤◌, true, ◌++◌, IsTrue, length, vec_len, vec_capacity};
 ghost use Rattle.std.specs.List.{AllByRecursion};

@@ -1,0 +1,40 @@
+-- I-DATA: TSN, stream, 16 reserved bits, MID, payload protocol identifier where B is set, else FSN, data (RFC 8260, 2.1).
+use Rattle.std.specs.Prelude.{◌≡◌, ℕ, ◌<◌, ◌^◌, Bool, nat_le, List, ◌++◌, length, drop}
+use Rattle.sctp_model.specs.Chunk.{PieceMeaning}
+use Rattle.sctp_model.specs.Numbers.{u16_bytes, u32_bytes, u16_at, u32_at}
+use Rattle.sctp_wire.specs.declared.codes.TheConstants.{IMMEDIATE, UNORDERED, BEGIN, END}
+use Rattle.sctp_wire.specs.chunks.Flags.{has_flag}
+
+-- the value, field behind field, with this number in the reserved bits
+abbrev pub i_data_laid : (reserved : ℕ) → PieceMeaning → List ℕ
+i_data_laid reserved p =
+    u32_bytes p.tsn ++ (u16_bytes p.stream ++ (u16_bytes reserved ++ (u32_bytes p.number ++ (u32_bytes p.word ++ p.bytes))))
+
+-- with any value in the reserved bits
+abbrev pub ReadsIData : List ℕ → PieceMeaning → Type 0
+ReadsIData value p = (reserved : ℕ) × (value ≡ i_data_laid reserved p)
+
+-- the values that the layout accepts
+abbrev pub is_i_data_value : List ℕ → Bool
+is_i_data_value value = nat_le 16 (length value)
+
+-- the fields are within their bits
+pub record IsIDataPiece (p : PieceMeaning) : Type 0 where
+  pub tsn : p.tsn < 2 ^ 32
+  pub stream : p.stream < 2 ^ 16
+  pub number : p.number < 2 ^ 32
+  pub word : p.word < 2 ^ 32
+
+-- the fields of a value
+unfoldable pub i_data_at : ℕ → List ℕ → PieceMeaning
+i_data_at flags value = record {
+  immediate = has_flag flags IMMEDIATE;
+  unordered = has_flag flags UNORDERED;
+  begin = has_flag flags BEGIN;
+  end = has_flag flags END;
+  tsn = u32_at value;
+  stream = u16_at (drop 4 value);
+  number = u32_at (drop 8 value);
+  word = u32_at (drop 12 value);
+  bytes = drop 16 value;
+}

@@ -1,0 +1,36 @@
+//! ABORT: the association is over (RFC 9260, 3.3.7).
+//!
+//! | at | size | field |
+//! |---|---|---|
+//! | 0 | any | causes |
+
+ghost use Rattle.std.specs.Prelude.{◌≡◌, ◌↔◌, IsTrue};
+ghost use Rattle.sctp_model.specs.Chunk as meaning;
+ghost use Rattle.sctp_wire.specs.Layouts.{Fits};
+ghost use Rattle.sctp_wire.specs.chunks.Abort.{has_abort_list};
+ghost use Rattle.sctp_wire.specs.chunks.Flags.{flag};
+
+use crate::chunks::flags::flag;
+use crate::codes::{LONGEST, REFLECTED};
+use crate::typed::{Causes, is_typed_list};
+
+/// Whether the length has 16 bits, and the causes are as they are written.
+pub fn abort_fits(reflected: bool, causes: &Causes<'_>) -> bool
+    ensures { IsTrue result ↔ Fits (meaning.Abort reflected causes.now) }
+{
+    causes.size() <= LONGEST - 4 && causes.is_plain()
+}
+
+/// The flags: T, and the unused ones zero.
+pub fn reflected_flag(reflected: bool) -> u8
+    ensures { result ≡ flag REFLECTED reflected }
+{
+    flag(REFLECTED, reflected)
+}
+
+/// Whether a value is a list of causes.
+pub fn is_abort_list(value: &[u8]) -> bool
+    ensures { result ≡ has_abort_list value.now }
+{
+    is_typed_list(value)
+}

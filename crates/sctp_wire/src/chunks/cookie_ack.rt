@@ -1,0 +1,11 @@
+//! COOKIE ACK: the answer to COOKIE ECHO (RFC 9260, 3.3.12). It has no value.
+
+ghost use Rattle.std.specs.Prelude.{◌≡◌};
+ghost use Rattle.sctp_wire.specs.chunks.CookieAck.{is_cookie_ack_value};
+
+/// Whether there is no value.
+pub fn is_cookie_ack(value: &[u8]) -> bool
+    ensures { result ≡ is_cookie_ack_value value.now }
+{
+    value.is_empty()
+}

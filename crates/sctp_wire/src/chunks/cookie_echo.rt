@@ -1,0 +1,18 @@
+//! COOKIE ECHO: the listener's cookie comes back (RFC 9260, 3.3.11).
+//!
+//! | at | size | field |
+//! |---|---|---|
+//! | 0 | any | cookie |
+
+ghost use Rattle.std.specs.Prelude.{◌↔◌, IsTrue};
+ghost use Rattle.sctp_model.specs.Chunk as meaning;
+ghost use Rattle.sctp_wire.specs.Layouts.{Fits};
+
+use crate::codes::LONGEST;
+
+/// Whether the length has 16 bits.
+pub fn cookie_echo_fits(cookie: &[u8]) -> bool
+    ensures { IsTrue result ↔ Fits (meaning.CookieEcho cookie.now) }
+{
+    cookie.len() <= LONGEST - 4
+}

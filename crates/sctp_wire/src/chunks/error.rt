@@ -1,0 +1,27 @@
+//! ERROR: something was wrong (RFC 9260, 3.3.10).
+//!
+//! | at | size | field |
+//! |---|---|---|
+//! | 0 | any | causes |
+
+ghost use Rattle.std.specs.Prelude.{◌≡◌, ◌↔◌, IsTrue};
+ghost use Rattle.sctp_model.specs.Chunk as meaning;
+ghost use Rattle.sctp_wire.specs.Layouts.{Fits};
+ghost use Rattle.sctp_wire.specs.chunks.Error.{has_error_list};
+
+use crate::codes::LONGEST;
+use crate::typed::{Causes, is_typed_list};
+
+/// Whether the length has 16 bits, and the causes are as they are written.
+pub fn error_fits(causes: &Causes<'_>) -> bool
+    ensures { IsTrue result ↔ Fits (meaning.Error causes.now) }
+{
+    causes.size() <= LONGEST - 4 && causes.is_plain()
+}
+
+/// Whether a value is a list of causes.
+pub fn is_error_list(value: &[u8]) -> bool
+    ensures { result ≡ has_error_list value.now }
+{
+    is_typed_list(value)
+}

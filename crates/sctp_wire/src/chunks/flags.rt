@@ -1,0 +1,18 @@
+//! The flags of a chunk's header, a bit each (RFC 9260, 3.2).
+
+ghost use Rattle.std.specs.Prelude.{◌≡◌};
+ghost use Rattle.sctp_wire.specs.chunks.Flags.{flag, has_flag};
+
+/// Whether a flag of a header is set.
+pub fn is_set(flags: u8, bit: u8) -> bool
+    ensures { result ≡ has_flag flags bit }
+{
+    flags & bit != 0
+}
+
+/// A flag's bit where it is set.
+pub fn flag(bit: u8, set: bool) -> u8
+    ensures { result ≡ flag bit set }
+{
+    if set { bit } else { 0 }
+}

@@ -1,0 +1,11 @@
+//! SHUTDOWN COMPLETE: the answer to SHUTDOWN ACK, with the flag T as ABORT has it (RFC 9260, 3.3.13). It has no value.
+
+ghost use Rattle.std.specs.Prelude.{◌≡◌};
+ghost use Rattle.sctp_wire.specs.chunks.ShutdownComplete.{is_shutdown_complete_value};
+
+/// Whether there is no value.
+pub fn is_shutdown_complete(value: &[u8]) -> bool
+    ensures { result ≡ is_shutdown_complete_value value.now }
+{
+    value.is_empty()
+}
