@@ -28,15 +28,15 @@ one_more f r t j e b = record { bound = max b.bound j; within = λ i h. go i (su
     go : (i : ℕ) → at r.seen j true i ≡ true → i ≤ max b.bound j
     go i h = let w = b.within i in grind (arith, nat_tests)
 
-given_seen : (f : Format) (s : ℕ) (r t : ReceiverView) → GivesOrdered f s r t → t.seen ≡ r.seen
+pub given_seen : (f : Format) (s : ℕ) (r t : ReceiverView) → GivesOrdered f s r t → t.seen ≡ r.seen
 given_seen f s r t (ms, n, due, is) = subst (λ (u : ReceiverView). u.seen ≡ r.seen) (sym is) refl
 
-gives_seen : (f : Format) (k : Kind) (y : Piece) (r t : ReceiverView) → Gives f k y r t → t.seen ≡ r.seen
+pub gives_seen : (f : Format) (k : Kind) (y : Piece) (r t : ReceiverView) → Gives f k y r t → t.seen ≡ r.seen
 gives_seen f Ordered y r t g = given_seen f y.lane.stream r t g
 gives_seen f Unordered y r t (inl (x, xs, whole, is)) = subst (λ (u : ReceiverView). u.seen ≡ r.seen) (sym is) refl
 gives_seen f Unordered y r t (inr (none, is)) = subst (λ (u : ReceiverView). u.seen ≡ r.seen) (sym is) refl
 
-all_seen : (f : Format) (n : ℕ) (r t : ReceiverView) → GivesAll f n r t → t.seen ≡ r.seen
+pub all_seen : (f : Format) (n : ℕ) (r t : ReceiverView) → GivesAll f n r t → t.seen ≡ r.seen
 all_seen f zero r t is = subst (λ (u : ReceiverView). u.seen ≡ r.seen) (sym is) refl
 all_seen f (suc n) r t (mid, before, g) = subst (λ (u : _). t.seen ≡ u) (all_seen f n r mid before) (given_seen f n mid t g)
 

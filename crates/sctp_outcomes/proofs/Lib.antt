@@ -1,7 +1,12 @@
 pub mod Unheard
 pub mod Receivers
 pub mod Bounded
+pub mod Ordinary
+pub mod OneAct
+pub mod OnePacket
+pub mod OneBuild
 pub mod TotalActs
 pub mod TotalPackets
 pub mod TotalBuilds
 pub mod TotalSteps
+pub mod OneOutcome

@@ -1,5 +1,5 @@
 -- In every world that can be reached, each event has an outcome, and one only.
-use Rattle.std.specs.Prelude.{◌^◌, ◌<◌, List, Some}
+use Rattle.std.specs.Prelude.{◌≡◌, ◌^◌, ◌<◌, List, Some}
 use Rattle.sctp_model.specs.Places.{ArePlaced}
 use Rattle.sctp_model.specs.World.{World, Setup}
 use Rattle.sctp_model.specs.Events.{Event, OpenBoth, At, Drawing, Connect, Foreign, Outcome}
@@ -22,3 +22,8 @@ HasOutcome w e = (o : Outcome) × (v : World) × Step w e (Some o) v
 -- Every event that may happen has one.
 abbrev pub EventsHaveOutcomes : Type 0
 EventsHaveOutcomes = (s : Setup) (events : List Event) (w : World) → IsReachable s events w → (e : Event) → CanHappen e → HasOutcome w e
+
+-- And no event has two: what is answered, unless memory is wanted, and the world that is left are one.
+abbrev pub OutcomesAreOne : Type 0
+OutcomesAreOne = (s : Setup) (events : List Event) (w : World) → IsReachable s events w → (e : Event) (o p : Outcome) (v u : World) →
+    Step w e (Some o) v → Step w e (Some p) u → (o ≡ p) × (v ≡ u)

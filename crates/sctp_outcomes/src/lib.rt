@@ -5,4 +5,4 @@
 
 mod outcomes;
 
-pub use outcomes::every_event_has_an_outcome;
+pub use outcomes::{every_event_has_an_outcome, every_event_has_one_outcome};
