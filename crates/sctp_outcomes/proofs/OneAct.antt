@@ -1,11 +1,10 @@
 -- What a chunk leaves is one: no two rows of the state table hold at once, and each leaves one end.
-use Rattle.std.proofs.Common.{◌≡◌, ℕ, ◌<◌, ◌⊎◌, Bool, true, false, List, Option, Some, None, inl, inr, refl, sym, subst, ap, arith, ◌∙◌}
+use Rattle.std.proofs.Common.{◌≡◌, ℕ, Bool, true, false, List, Some, None, inl, inr, refl, sym, subst, ap, arith, ◌∙◌}
 use Rattle.sctp_model.specs.Typed.{Typed}
 use Rattle.sctp_model.specs.Format.{Format, Plain, Interleaved}
 use Rattle.sctp_model.specs.Chunk.{PieceMeaning, SackMeaning, ForwardMeaning, InitMeaning, ChunkMeaning, Data, IData, Init, InitAck, Sack, Heartbeat, HeartbeatAck, Abort, Shutdown, ShutdownAck, Error, CookieEcho, CookieAck, ShutdownComplete, ForwardTsn, IForwardTsn, Unknown}
 use Rattle.sctp_model.specs.ReceiverView.{ReceiverView}
 use Rattle.sctp_model.specs.receiver.PieceTaken.{Answer}
-use Rattle.sctp_model.specs.receiver.ForwardTaken.{OutOfDate, Bad, Moved}
 use Rattle.sctp_model.specs.receiver.Laws.{IsOrdinary}
 use Rattle.sctp_model.proofs.receiver.OneStep.{piece_only, forward_only}
 use Rattle.sctp_model.specs.end.Sealing.{Sealing}
@@ -13,7 +12,7 @@ use Rattle.sctp_model.specs.end.EndView.{Tags, Draw, Stage, Established, Shutdow
 use Rattle.sctp_model.specs.end.Clock.{turned, closed}
 use Rattle.sctp_model.specs.end.Closing.{answers_shutdown, hears, takes_data, takes_acknowledgements, takes_cookies, awaits_ack}
 use Rattle.sctp_model.specs.end.Reports.{with_causes}
-use Rattle.sctp_model.specs.end.PeerFaults.{After, GoesOn, Ends, PassedOver, Replies, Drops, packet_to, abort_for, at_fault, no_user_data, violation}
+use Rattle.sctp_model.specs.end.PeerFaults.{After, GoesOn, Replies, packet_to, abort_for, at_fault, no_user_data, violation}
 use Rattle.sctp_model.specs.end.Opening.{ack_fault, is_calling, echoing, InitAckActs, NotCalling, NoTag, RefusedAck, AcceptedAck, seal_in, is_ours, cookie_read, EchoActs, NotHere, EchoedAgain, IsStrange, is_echoing, CookieAckActs, NotEchoing, CookieAcked}
 use Rattle.sctp_model.specs.end.Acting.{acknowledges, piece_causes, PieceActs, NotHeard, Empty, WrongFormat, Comes, ForwardActs, WrongKind, IsBad, IsOld, SackActs, IsStale, IsWrong, Counts, HeartbeatActs, ErrorActs, Closes, SaysNothing, shutdown_heard, ShutdownActs, NotOpen, Crosses, Again, ShutdownAckActs, NotAwaited, Completes, CompleteActs, Acts}
 
@@ -200,7 +199,7 @@ module _ (e : EndView) (o : IsOrdinary (format_of e) e.receiver) where
       let seal : s ≡ z = cc in
       let tags = (same_open e.phase t u g h i j).0 in
       let moved : is_ours u (cookie_read z e tag xs) ≡ true =
-          subst (λ (v : Tags). is_ours v (cookie_read z e tag xs) ≡ true) tags (subst (λ (v : Sealing). is_ours t (cookie_read v e tag xs) ≡ true) seal q) in
+      subst (λ (v : Tags). is_ours v (cookie_read z e tag xs) ≡ true) tags (subst (λ (v : Sealing). is_ours t (cookie_read v e tag xs) ≡ true) seal q) in
       absurd (clash moved w)
 
   one_echo : (tag : ℕ) (xs : List ℕ) (x y : After) → EchoActs e tag xs x → EchoActs e tag xs y → x ≡ y

@@ -1,5 +1,5 @@
 -- In every world that can be reached an event has one outcome, and leaves one world.
-use Rattle.std.proofs.Common.{◌≡◌, ℕ, Bool, true, false, List, [], ◌∷◌, ◌++◌, Option, Some, None, refl, sym, subst, ap, ◌∙◌}
+use Rattle.std.proofs.Common.{◌≡◌, ℕ, List, [], ◌∷◌, Option, Some, None, refl, sym, subst, ap, ◌∙◌}
 use Rattle.sctp_model.specs.Lists.{item_at}
 use Rattle.sctp_model.specs.Chunk.{ChunkMeaning}
 use Rattle.sctp_model.specs.Packet.{Packet, size_of_packet}
@@ -12,7 +12,7 @@ use Rattle.sctp_model.specs.end.Arriving.{Arrives}
 use Rattle.sctp_model.specs.end.Building.{packet_of}
 use Rattle.sctp_model.specs.end.UserCalls.{Called, NotIdle}
 use Rattle.sctp_model.specs.World.{Side, other, World, end_of, bag_of, with_end, with_packet, end_now, came}
-use Rattle.sctp_model.specs.Events.{Event, Deliver, Foreign, Outcome, Sent, next_number, told, with_verdict, message_told}
+use Rattle.sctp_model.specs.Events.{Event, Deliver, Outcome, Sent, next_number, told, with_verdict, message_told}
 use Rattle.sctp_model.specs.Steps.{FromBag, FromStranger, Brings, Step, Opens, OpenRefused, TimePasses, Draws, Connects, ConnectRefused, BuildsOne, BuildsNone, Comes, IsAbsent, Unread, Sends, Abandons, TakesOne, ShutsDown, AbortsIt}
 use Rattle.sctp_outcomes.specs.Outcomes.{OutcomesAreOne}
 use Rattle.sctp_outcomes.proofs.Receivers.{HoldsIn, holds_always}
@@ -70,10 +70,11 @@ one_step w ordinary e o p v u (ConnectRefused _ _) (ConnectRefused _ _) = (refl,
 one_step w ordinary e o p v u (ConnectRefused _ _) (Comes _ _ _ _ _ brings _) = elim brings [ ]
 one_step w ordinary e o p v u (Comes _ _ _ _ _ brings _) (ConnectRefused _ _) = elim brings [ ]
 one_step w ordinary e o p v u (BuildsOne s x xs t a) (BuildsOne _ y ys r b) =
-    let q = one_built (end_now w s) (x ∷ xs) (y ∷ ys) t r a b in
-    (ap (λ (cs : List ChunkMeaning). Sent (next_number w s) (size_of_packet cs)) q.0,
-    ap (λ (cs : List ChunkMeaning). with_packet (with_end w s t) s (packet_of (end_of w s) cs)) q.0
-    ∙ ap (λ (z : EndView). with_packet (with_end w s z) s (packet_of (end_of w s) (y ∷ ys))) q.1)
+    let q = one_built (end_now w s) (x ∷ xs) (y ∷ ys) t r a b in (
+      ap (λ (cs : List ChunkMeaning). Sent (next_number w s) (size_of_packet cs)) q.0,
+      ap (λ (cs : List ChunkMeaning). with_packet (with_end w s t) s (packet_of (end_of w s) cs)) q.0
+          ∙ ap (λ (z : EndView). with_packet (with_end w s z) s (packet_of (end_of w s) (y ∷ ys))) q.1,
+    )
 one_step w ordinary e o p v u (BuildsOne s x xs t a) (BuildsNone _ r b) = let q = (one_built (end_now w s) (x ∷ xs) [] t r a b).0 in absurd (cc)
 one_step w ordinary e o p v u (BuildsOne _ _ _ _ _) (Comes _ _ _ _ _ brings _) = elim brings [ ]
 one_step w ordinary e o p v u (Comes _ _ _ _ _ brings _) (BuildsOne _ _ _ _ _) = elim brings [ ]
@@ -108,10 +109,11 @@ one_step w ordinary e o p v u (Comes _ _ _ _ _ brings _) (AbortsIt _ _) = elim b
 one_step w ordinary e o p v u (Comes _ x q t d b a) (Comes _ y r z k c f) =
     let m = one_brought w e x y q r b c in
     let g : Arrives (end_now w x) w.draw q z k =
-        subst (λ (s : Side). Arrives (end_now w s) w.draw q z k) (sym m.0) (subst (λ (s : Packet). Arrives (end_now w y) w.draw s z k) (sym m.1) f) in
-    let n = one_arrives (end_now w x) w.draw q t z d k (ordinary x) a g in
-    (ap (λ (j : Verdict). told w x j) n.1 ∙ ap (λ (s : Side). told w s k) m.0,
-    ap (λ (i : EndView). with_verdict (came w x i) x d) n.0 ∙ ap (λ (j : Verdict). with_verdict (came w x z) x j) n.1 ∙ ap (λ (s : Side). with_verdict (came w s z) s k) m.0)
+    subst (λ (s : Side). Arrives (end_now w s) w.draw q z k) (sym m.0) (subst (λ (s : Packet). Arrives (end_now w y) w.draw s z k) (sym m.1) f) in
+    let n = one_arrives (end_now w x) w.draw q t z d k (ordinary x) a g in (
+      ap (λ (j : Verdict). told w x j) n.1 ∙ ap (λ (s : Side). told w s k) m.0,
+      ap (λ (i : EndView). with_verdict (came w x i) x d) n.0 ∙ ap (λ (j : Verdict). with_verdict (came w x z) x j) n.1 ∙ ap (λ (s : Side). with_verdict (came w s z) s k) m.0,
+    )
 
 pub outcomes_are_one : OutcomesAreOne
 outcomes_are_one s events w r e o p v u one other = one_step w (holds_always IsOrdinary ordinary_law s events r.answers w r.run) e o p v u one other

@@ -1,10 +1,10 @@
 -- What a packet leaves is one end, and it has one verdict.
-use Rattle.std.proofs.Common.{◌≡◌, ℕ, Bool, true, false, List, [], ◌∷◌, drop, Option, Some, None, refl, sym, subst, ap, ◌∙◌}
+use Rattle.std.proofs.Common.{◌≡◌, ℕ, Bool, true, false, List, [], ◌∷◌, drop, Some, None, refl, sym, subst, ◌∙◌}
 use Rattle.sctp_model.specs.Chunk.{ChunkMeaning}
 use Rattle.sctp_model.specs.Packet.{Packet}
 use Rattle.sctp_model.specs.receiver.Laws.{IsOrdinary}
 use Rattle.sctp_model.specs.end.Sealing.{Body}
-use Rattle.sctp_model.specs.end.EndView.{Draw, EndView, format_of, has_association}
+use Rattle.sctp_model.specs.end.EndView.{Draw, EndView, format_of}
 use Rattle.sctp_model.specs.end.Closing.{rested}
 use Rattle.sctp_model.specs.end.Opening.{begun}
 use Rattle.sctp_model.specs.end.PeerFaults.{After, GoesOn, Ends, PassedOver, Replies, Drops}
