@@ -54,9 +54,7 @@ fn run_case(rt: &HostRuntime, case: &str) -> Result<()> {
             None => lines.extend(Line::read(rt.alloc(), text, text)?)?,
             Some(rest) => {
                 if !is_run {
-                    for line in &lines {
-                        writeln!(rt.stdout(), "{}", line.shown)?;
-                    }
+                    show(rt, &lines)?;
                 }
                 is_run = true;
                 let above = lines.len();
@@ -72,14 +70,28 @@ fn run_case(rt: &HostRuntime, case: &str) -> Result<()> {
     writeln!(rt.stdout(), "")
 }
 
-/// Runs the program once, and prints what it does behind the lines that are hidden.
-fn run(rt: &HostRuntime, words: &str, lines: &[Line<'_>], above: usize) -> Result<()> {
+/// Prints lines as they stand in the case.
+fn show(rt: &HostRuntime, lines: &[Line<'_>]) -> Result<()> {
+    for line in lines {
+        writeln!(rt.stdout(), "{}", line.shown)?;
+    }
+    Ok(())
+}
+
+/// The words behind `$`, none in a case without it.
+fn words_of(rt: &HostRuntime, words: &str) -> Result<Vec<String>> {
     let mut list = Vec::new(rt.alloc());
     if let Some(words) = words.strip_prefix("$ ") {
         for word in words.split(' ') {
             list.push(String::from_str(rt.alloc(), word)?)?;
         }
     }
+    Ok(list)
+}
+
+/// Runs the program once, and prints what it does behind the lines that are hidden.
+fn run(rt: &HostRuntime, words: &str, lines: &[Line<'_>], above: usize) -> Result<()> {
+    let list = words_of(rt, words)?;
     let hidden = Cell::new(false);
     let mut said = Vec::new(rt.alloc());
     let status = run_words(
@@ -89,9 +101,15 @@ fn run(rt: &HostRuntime, words: &str, lines: &[Line<'_>], above: usize) -> Resul
         &mut ToWrite::new(Shown::new(rt.stdout(), &hidden)),
         &mut ToWrite::new(&mut said),
     );
-    for line in str::from_utf8(&said).unwrap_or("").lines() {
+    tell(rt, str::from_utf8(&said).unwrap_or(""))?;
+    writeln!(rt.stdout(), "status {status}")
+}
+
+/// Prints what was said of faults, each line behind `!`.
+fn tell(rt: &HostRuntime, said: &str) -> Result<()> {
+    for line in said.lines() {
         let space = if line.is_empty() { "" } else { " " };
         writeln!(rt.stdout(), "!{space}{line}")?;
     }
-    writeln!(rt.stdout(), "status {status}")
+    Ok(())
 }
