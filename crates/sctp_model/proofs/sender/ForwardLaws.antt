@@ -18,15 +18,15 @@ use Rattle.sctp_model.proofs.sender.PointLaws.{get-drop, of_itself, is_itself}
 
 -- ---- lists
 
-has_left : {A : Type 0} (xs ys : List A) (x : A) → Has xs x → Has (xs ++ ys) x
+pub has_left : {A : Type 0} (xs ys : List A) (x : A) → Has xs x → Has (xs ++ ys) x
 has_left [] ys x has = absurd has
 has_left (y ∷ xs) ys x has = elim has [ inl e ↦ inl e | inr h ↦ inr (has_left xs ys x h) ]
 
-has_right : {A : Type 0} (xs ys : List A) (x : A) → Has ys x → Has (xs ++ ys) x
+pub has_right : {A : Type 0} (xs ys : List A) (x : A) → Has ys x → Has (xs ++ ys) x
 has_right [] ys x has = has
 has_right (y ∷ xs) ys x has = inr (has_right xs ys x has)
 
-has_either : {A : Type 0} (xs ys : List A) (x : A) → Has (xs ++ ys) x → Has xs x ⊎ Has ys x
+pub has_either : {A : Type 0} (xs ys : List A) (x : A) → Has (xs ++ ys) x → Has xs x ⊎ Has ys x
 has_either [] ys x has = inr has
 has_either (y ∷ xs) ys x has = elim has [ inl e ↦ inl (inl e) | inr h ↦ elim (has_either xs ys x h) [ inl a ↦ inl (inr a) | inr b ↦ inr b ] ]
 
