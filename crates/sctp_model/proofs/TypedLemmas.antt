@@ -1,16 +1,14 @@
 -- A list of parameters or causes is read in one way, and what is written for one is read again.
-use Rattle.std.proofs.Common.{◌≡◌, ℕ, zero, suc, ◌+◌, ◌-◌, ◌*◌, ◌/◌, ◌%◌, ◌<◌, ◌≤◌, ◌^◌, inl, inr, ◌⊎◌, Bool, true, false, List, [], ◌∷◌, ◌++◌, length, take, drop, replicate, refl, sym, ap, subst, ◌∙◌, append_assoc, append-nil, arith, length-append, length-drop, ⊎_elim, ◌≢◌}
-use Rattle.std.specs.Prelude.{Option, Some, None, ◌==◌, ◌&&◌, ◌||◌, nat_le, option_map, is_some, unwrap_or, if◌then◌else◌}
-use Rattle.std.specs.List.{AllByRecursion}
-use Rattle.std.proofs.Math.ListN.{length-replicate}
-use Rattle.std.proofs.lemmas.List.{drop-drop, drop_all, take-append-drop, take_at, drop_at, length-take-le, nil_from_length}
-use Rattle.std.proofs.lemmas.Bool.{le-leb, leb-true, eq-eqb}
+use Rattle.std.proofs.Common.{◌≡◌, ℕ, zero, suc, ◌+◌, ◌-◌, ◌*◌, ◌/◌, ◌%◌, ◌<◌, ◌≤◌, ◌^◌, Bool, true, false, List, [], ◌∷◌, ◌++◌, length, take, drop, refl, sym, ap, subst, ◌∙◌, append_assoc, append-nil, arith, length-append, length-drop, ⊎_elim, ◌≢◌}
+use Rattle.std.specs.Prelude.{Option, Some, None, ◌==◌, ◌||◌, option_map, is_some, unwrap_or}
+use Rattle.std.proofs.lemmas.List.{drop-drop, drop_all, take-append-drop, take_at, drop_at, length-take-le}
+use Rattle.std.proofs.lemmas.Bool.{le-leb, eq-eqb}
 use Rattle.std.proofs.lemmas.Bool.Decides.{eqb_tells}
 use Rattle.std.proofs.lemmas.Grind.{common_steps}
 use Rattle.sctp_model.specs.Chunk.{padded, padding_after}
 use Rattle.sctp_model.specs.Numbers.{u16_bytes, u16_at, AreBytes}
-use Rattle.sctp_model.specs.Typed.{Typed, IsTyped, typed_length, typed_bytes, ReadsTyped, Empty, Ends, GoesOn, filled, written_typed, WritesTyped, length_field, starts_typed, typed_at, items_after, typed_of, are_typed, typed_in}
-use Rattle.sctp_model.proofs.NumberLemmas.{u16_at-bytes, length-u16, drop-u16, bytes-u16_at, u16_at-lt, AreBytes-drop}
+use Rattle.sctp_model.specs.Typed.{Typed, IsTyped, typed_length, typed_bytes, ReadsTyped, Empty, Ends, GoesOn, length_field, starts_typed, typed_at, items_after, typed_of, are_typed, typed_in}
+use Rattle.sctp_model.proofs.NumberLemmas.{u16_at-bytes, u16_at-lt}
 
 -- ---- the walk
 

@@ -1,11 +1,11 @@
 -- What is written for a list of parameters or causes: it is read again, and it grows by one item at a time.
-use Rattle.std.proofs.Common.{◌≡◌, ℕ, ◌+◌, ◌%◌, ◌<◌, true, List, [], ◌∷◌, ◌++◌, length, replicate, refl, sym, ap, subst, ◌∙◌, append_assoc, append-nil, arith, length-append}
+use Rattle.std.proofs.Common.{◌≡◌, ℕ, ◌%◌, true, List, [], ◌∷◌, ◌++◌, length, replicate, refl, sym, ap, subst, ◌∙◌, append_assoc, arith, length-append}
 use Rattle.std.specs.Prelude.{Option, Some, None, is_some, unwrap_or}
 use Rattle.std.specs.List.{AllByRecursion}
 use Rattle.std.proofs.Math.ListN.{length-replicate}
 use Rattle.sctp_model.specs.Chunk.{padding_after}
 use Rattle.sctp_model.specs.Numbers.{AreBytes}
-use Rattle.sctp_model.specs.Typed.{Typed, IsTyped, typed_length, typed_bytes, ReadsTyped, Empty, Ends, GoesOn, filled, written_typed, WritesTyped, typed_of, are_typed, typed_in, AreAsWritten}
+use Rattle.sctp_model.specs.Typed.{Typed, IsTyped, typed_bytes, ReadsTyped, Empty, Ends, GoesOn, filled, written_typed, WritesTyped, typed_of, are_typed, typed_in, AreAsWritten}
 use Rattle.sctp_model.proofs.TypedLemmas.{typed_of-nil, length-item, typed_of-reads, reads_typed_in}
 
 pub zeros_long : (n : ℕ) → length {A = ℕ} (replicate n 0) ≡ n

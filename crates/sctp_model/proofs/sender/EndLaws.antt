@@ -1,12 +1,11 @@
 -- End marks of a view that calls reach are of abandoned messages.
-use Rattle.std.proofs.Common.{◌≡◌, ℕ, zero, suc, inl, inr, List, [], ◌∷◌, ◌++◌, Bool, true, false, Some, None, refl, sym, ap, ◌∙◌, subst, arith}
+use Rattle.std.proofs.Common.{◌≡◌, ℕ, zero, suc, inl, inr, List, [], ◌∷◌, ◌++◌, Bool, true, false, Some, refl, sym, ap, ◌∙◌, subst}
 use Rattle.std.specs.Prelude.{◌==◌, slice_get, if◌then◌else◌}
-use Rattle.std.proofs.lemmas.Bool.Decides.{nat_tests}
 use Rattle.sctp_model.specs.Lists.{Has}
 use Rattle.sctp_model.specs.Format.{Format, Lane, same_lane}
 use Rattle.sctp_model.specs.Plan.{Entry, End, Plan, entry_at}
 use Rattle.sctp_model.specs.SenderView.{SenderView}
-use Rattle.sctp_model.specs.sender.Abandoning.{Name, ended, given_up}
+use Rattle.sctp_model.specs.sender.Abandoning.{Name, given_up}
 use Rattle.sctp_model.specs.sender.Reached.{IsReached, Begins, Queues, Goes, Covers, Closes, Abandons, Repeats}
 use Rattle.sctp_model.proofs.sender.WishCases.{IsAssigned, Whole, Begun, Continued, after_wish}
 use Rattle.sctp_model.proofs.sender.AbandonCases.{lanes_same, after_abandon, after_end, given_itself}

@@ -1,26 +1,24 @@
 -- Marks and end marks of a view that calls reach: what is marked for repeating went out and is of no abandoned message; an end mark is of an abandoned one.
-use Rattle.std.proofs.Common.{◌≡◌, ℕ, zero, suc, ◌<◌, ◌≤◌, ◌⊎◌, inl, inr, List, [], ◌∷◌, ◌++◌, length, Bool, true, false, Option, Some, None, refl, sym, ap, ◌∙◌, subst, arith}
+use Rattle.std.proofs.Common.{◌≡◌, ℕ, zero, suc, ◌<◌, ◌≤◌, inl, inr, List, [], ◌∷◌, ◌++◌, length, Bool, true, false, Option, Some, refl, sym, ap, ◌∙◌, subst, arith}
 use Rattle.std.specs.Prelude.{◌==◌, not, ◌&&◌, ◌||◌, slice_get, nat_lt, if◌then◌else◌}
 use Rattle.std.proofs.lemmas.Bool.{and_parts}
 use Rattle.std.proofs.lemmas.Bool.Decides.{nat_tests}
 use Rattle.sctp_model.specs.Lists.{Has, item_at}
-use Rattle.sctp_model.specs.Format.{Format, Lane, same_lane}
-use Rattle.sctp_model.specs.Plan.{Entry, Part, End, Plan, entry_at, parts_from}
+use Rattle.sctp_model.specs.Format.{Format, Lane}
+use Rattle.sctp_model.specs.Plan.{Entry, End, Plan, entry_at, parts_from}
 use Rattle.sctp_model.specs.SenderView.{SenderView}
 use Rattle.sctp_model.specs.sender.Words.{some_passes}
 use Rattle.sctp_model.specs.sender.Entries.{entry_lane, entry_number, is_of, is_given_up, is_wanted, is_unsettled, passes_at}
-use Rattle.sctp_model.specs.sender.Assigning.{with_entry}
-use Rattle.sctp_model.specs.sender.Filling.{with_sent, gone, standing}
+use Rattle.sctp_model.specs.sender.Filling.{with_sent}
 use Rattle.sctp_model.specs.sender.SackTaken.{covered_by}
 use Rattle.sctp_model.specs.sender.Abandoning.{Name, ended, given_up, timed_out, unsettled_at}
 use Rattle.sctp_model.specs.sender.Reached.{IsReached, Begins, Queues, Goes, Covers, Closes, Abandons, Repeats}
 use Rattle.sctp_model.proofs.sender.WordLaws.{some_is}
 use Rattle.sctp_model.proofs.sender.WishCases.{IsAssigned, Whole, Begun, Continued, after_wish}
-use Rattle.sctp_model.proofs.sender.AbandonCases.{same_lane-self, after_abandon, after_end, given_other, given_itself}
+use Rattle.sctp_model.proofs.sender.AbandonCases.{same_lane-self, after_abandon, after_end, given_other}
 use Rattle.sctp_model.proofs.sender.Bounds.{IsBounded, is_bounded}
 use Rattle.sctp_model.proofs.sender.PlanLaws.{continued_is}
 use Rattle.sctp_model.proofs.sender.CountLaws.{HasMessages, is_named}
-use Rattle.sctp_model.proofs.sender.ForwardLaws.{has_either}
 
 -- ---- a longer plan
 

@@ -77,7 +77,7 @@ none_below test zero off = refl
 none_below test (suc n) off = rw (off n (omega arith)) (none_below test n (λ s lt. off s (omega arith)))
 
 -- what a stream goes on with is owned
-continued_owns : (f : Format) (v : SenderView) (s : ℕ) (e : Entry) → IsReached f v → continued v.plan s ≡ Some e → Owns v.plan v.tickets v.plan.entries (entry_lane e) (entry_number e)
+pub continued_owns : (f : Format) (v : SenderView) (s : ℕ) (e : Entry) → IsReached f v → continued v.plan s ≡ Some e → Owns v.plan v.tickets v.plan.entries (entry_lane e) (entry_number e)
 continued_owns f v s e h on =
     let k = is_ticketed f v h in
     let next = continued_is v.streams v.plan s e (is_named f v h) on in
