@@ -10,3 +10,4 @@ pub mod TotalPackets
 pub mod TotalBuilds
 pub mod TotalSteps
 pub mod OneOutcome
+pub mod OneEnd

@@ -125,7 +125,7 @@ module _ (P : Format → ReceiverView → Type 0) (law : IsReceiverLaw P) where
   holds_acts tag e b xs t v k (Answered _ _ _ x ys p act) = holds_replies e tag x t p k act
   holds_acts tag e b xs t v k (Stopped _ _ x ys n act) = k
 
-  holds_arrives : (e : EndView) (d : Draw) (p : Packet) (t : EndView) (v : Verdict) → Holds e → Arrives e d p t v → Holds t
+  pub holds_arrives : (e : EndView) (d : Draw) (p : Packet) (t : EndView) (v : Verdict) → Holds e → Arrives e d p t v → Holds t
   holds_arrives e d p t v k (Elsewhere _) = k
   holds_arrives e d p t v k (NotOurs _ _) = k
   holds_arrives e d p t v k (Stray _ _ _ _) = k
@@ -150,7 +150,7 @@ module _ (P : Format → ReceiverView → Type 0) (law : IsReceiverLaw P) where
   holds_puts ss e xs zs full t k (Put s more _ mid x _ _ _ _ due wants room rest) = holds_puts more mid (xs ++ x ∷ []) zs full t (holds_wants s e x mid k wants) rest
   holds_puts ss e xs zs full t k (IsFull _ _ _ _ _ _ due wants room) = k
 
-  holds_builds : (e : EndView) (zs : List ChunkMeaning) (t : EndView) → Holds e → Builds e zs t → Holds t
+  pub holds_builds : (e : EndView) (zs : List ChunkMeaning) (t : EndView) → Holds e → Builds e zs t → Holds t
   holds_builds e zs t k (Sleeps _) = k
   holds_builds e zs t k (Waits _ _ _) = k
   holds_builds e zs t k (Calls _ _ _) = k

@@ -1,8 +1,10 @@
-//! The world of two ends is never stuck, and never in two minds: in every world that can be reached each event has an outcome, and one only.
+//! The machine of an end and the world of two ends are functions: whatever may happen has an outcome, and one only.
 //!
 //! No function here does anything: each carries a theorem as its contract.
 #![tactic(auto)]
 
 mod outcomes;
+mod steps;
 
 pub use outcomes::{every_event_has_an_outcome, every_event_has_one_outcome};
+pub use steps::{each_end_has_one_next_packet, each_packet_has_one_verdict};
