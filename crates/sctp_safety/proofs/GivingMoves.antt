@@ -51,7 +51,7 @@ part_still : (p : Plan) (l : Lane) (n i : ℕ) → HasPart p i → HasPart (with
 part_still p l n i (b, o, c, here) = (b, o, c, item_at-left p.entries (End l n ∷ []) i (Part b o c) here)
 
 -- A message that the user may give up: abandoned; its marks end; and its end mark takes an index where it is in part.
-given_up_moved : (w : Way) (n : Named) (m : Message) → Good w → IsInOrder w → message_at w.sender.plan n.lane n.number ≡ Some m → IsAskedFor w.asked m → IsMoved w (with_sender w (given_up w.sender n))
+pub given_up_moved : (w : Way) (n : Named) (m : Message) → Good w → IsInOrder w → message_at w.sender.plan n.lane n.number ≡ Some m → IsAskedFor w.asked m → IsMoved w (with_sender w (given_up w.sender n))
 given_up_moved w n m g order named asked = by_part (is_in_part w.sender n.lane n.number) refl
   where
     lost : Lane → ℕ → Bool
@@ -95,7 +95,7 @@ given_up_moved w n m g order named asked = by_part (is_in_part w.sender n.lane n
 -- ---- by ticket
 
 -- the message that waits leaves the queue by a move
-withdrawn_moved : (w : Way) (t : ℕ) → IsInOrder w → waits t w.sender.queue ≡ true → IsMoved w (with_sender w (record w.sender { queue = without t w.sender.queue }))
+pub withdrawn_moved : (w : Way) (t : ℕ) → IsInOrder w → waits t w.sender.queue ≡ true → IsMoved w (with_sender w (record w.sender { queue = without t w.sender.queue }))
 withdrawn_moved w t order waiting = by_place (some_meant (λ q. q.message.ticket == t) w.sender.queue waiting)
   where
     by_place : (q : Queued) × IsFirstMeant (λ x. x.message.ticket == t) w.sender.queue q → IsMoved w (with_sender w (record w.sender { queue = without t w.sender.queue }))
@@ -106,12 +106,12 @@ withdrawn_moved w t order waiting = by_place (some_meant (λ q. q.message.ticket
     })
 
 -- what a ticket names is a message of the plan with this ticket
-record Bears (p : Plan) (t : ℕ) (n : Named) : Type 0 where
-  message : Message
-  named : message_at p n.lane n.number ≡ Some message
-  ticket : message.ticket ≡ t
+pub record Bears (p : Plan) (t : ℕ) (n : Named) : Type 0 where
+  pub message : Message
+  pub named : message_at p n.lane n.number ≡ Some message
+  pub ticket : message.ticket ≡ t
 
-name_bears : (v : SenderView) (t : ℕ) (n : Named) → name_of v t ≡ Some n → Bears v.plan t n
+pub name_bears : (v : SenderView) (t : ℕ) (n : Named) → name_of v t ≡ Some n → Bears v.plan t n
 name_bears v t n is = by_found (find (λ e. has_ticket t (entry_message v.plan e)) v.plan.entries) refl is
   where
     by_found : (o : Option Entry) → find (λ e. has_ticket t (entry_message v.plan e)) v.plan.entries ≡ o → option_map name_at o ≡ Some n → Bears v.plan t n

@@ -26,10 +26,13 @@ mod Always
 mod Searches
 mod InPart
 mod UsualLemmas
+mod AssignMoves
 mod FillMoves
 mod GivingMoves
 mod SackMoves
 mod QueueMoves
+mod OrderlyCalls
+mod SenderCalls
 mod WorldWay
 mod WorldUser
 mod WorldBuild

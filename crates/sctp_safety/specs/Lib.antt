@@ -5,6 +5,7 @@ pub mod Worlds
 pub mod Example
 pub mod Answered
 pub mod SenderLaws
+pub mod SenderCalls
 pub mod ReceiverLaws
 pub mod RestLaws
 pub mod Strangers

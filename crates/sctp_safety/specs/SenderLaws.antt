@@ -18,6 +18,7 @@ use Rattle.sctp_safety.specs.Exact.{Leads}
 
 -- ---- what a sender's view keeps, and moves don't speak of
 
+-- a fragment stands at the index
 abbrev pub HasPart : Plan → ℕ → Type 0
 HasPart p i = (l : Lane) × (n : ℕ) × (k : ℕ) × (entry_at p i ≡ Some (Part l n k))
 

@@ -8,6 +8,7 @@ mod exact;
 mod laws;
 mod rest;
 mod safety;
+mod sender;
 mod two_ends;
 mod worlds;
 
@@ -24,6 +25,9 @@ pub use exact::{
 pub use laws::{skip_law, whole_law};
 pub use rest::{every_call_leaves_rest, nothing_more_is_due, nothing_whole_is_let_go};
 pub use safety::{orderly_over_every_run, safe_over_every_run};
+pub use sender::{
+    abandoned_only_asked, drained_is_told, each_call_has_one_result, plan_stays_orderly,
+};
 pub use two_ends::{nothing_is_missing_once_completed, two_ends_are_safe};
 pub use worlds::{
     a_message_arrives, every_event_is_answered, safe_in_every_run, safe_in_every_world,

@@ -199,7 +199,7 @@ has_below f es (suc s) l y lt has = by_last (l.stream == s) refl (λ less. has_b
         has_right (skips_below f es s) (skips_on f es s) y (subst (λ (x : ℕ). Has (skips_on f es x) y) same (has_on f es l y has))
     by_last false off further = has_left (skips_below f es s) (skips_on f es s) y (further (let ne : (l.stream ≡ s → ⊥) = λ e. grind (arith, nat_tests) in omega arith))
 
-named_at : (n : ℕ) (p : Plan) (es : List Entry) (j : ℕ) (e : Entry) → AllNamed n p es → slice_get es j ≡ Some e → IsNamed n p e
+pub named_at : (n : ℕ) (p : Plan) (es : List Entry) (j : ℕ) (e : Entry) → AllNamed n p es → slice_get es j ≡ Some e → IsNamed n p e
 named_at n p [] j e h is = absurd (cc)
 named_at n p (d ∷ es) zero e h is = let same : d ≡ e = (let some : Some d ≡ Some e = is in cc) in subst (λ (x : Entry). IsNamed n p x) same h.0
 named_at n p (d ∷ es) (suc j) e h is = named_at n p es j e h.1 is

@@ -1,0 +1,69 @@
+-- Laws of a sender's calls, whatever its peer says: the plan stays orderly, nothing is abandoned unasked, and each call has one result.
+use Rattle.std.specs.Prelude.{◌≡◌, ℕ, ◌⊎◌, true, List, Some, Option}
+use Rattle.sctp_model.specs.Format.{Format, Lane}
+use Rattle.sctp_model.specs.Chunk.{SackMeaning}
+use Rattle.sctp_model.specs.Plan.{Message, message_at}
+use Rattle.sctp_model.specs.Orderly.{Orderly}
+use Rattle.sctp_model.specs.Forward.{Forward, IsForward}
+use Rattle.sctp_model.specs.SenderView.{SenderView, IsDrained, IsPoint}
+use Rattle.sctp_model.specs.sender.Queueing.{queued}
+use Rattle.sctp_model.specs.sender.Filling.{Wish, IsFill, fill}
+use Rattle.sctp_model.specs.sender.SackTaken.{sack_after, shutdown_after}
+use Rattle.sctp_model.specs.sender.Abandoning.{has_ticket, abandon_after, is_past, expired, timed_out}
+use Rattle.sctp_model.specs.sender.Readers.{point, drained}
+use Rattle.sctp_model.specs.sender.Forwarding.{forward_of}
+use Rattle.sctp_model.specs.sender.Reached.{IsReached}
+
+-- ---- the plan
+
+-- The plan of every view that calls reach is orderly (RFC 9260, 6.6 and 6.9; RFC 8260, 2.2).
+abbrev pub PlanStaysOrderly : Type 0
+PlanStaysOrderly = (f : Format) (v : SenderView) → IsReached f v → Orderly f v.plan
+
+-- ---- what is abandoned
+
+-- the same messages are abandoned in both
+abbrev pub SameAbandoned : SenderView → SenderView → Type 0
+SameAbandoned v u = u.abandoned ≡ v.abandoned
+
+-- what is abandoned afterwards was so before, or is a message with this ticket
+abbrev pub OnlyOfTicket : SenderView → (ticket : ℕ) → SenderView → Type 0
+OnlyOfTicket v t u = (l : Lane) (n : ℕ) → u.abandoned l n ≡ true → (v.abandoned l n ≡ true) ⊎ (has_ticket t (message_at v.plan l n) ≡ true)
+
+-- what is abandoned afterwards was so before, or is a message past its time
+abbrev pub OnlyPastTime : SenderView → (now : ℕ) → SenderView → Type 0
+OnlyPastTime v now u =
+    (l : Lane) (n : ℕ) → u.abandoned l n ≡ true → (v.abandoned l n ≡ true) ⊎ ((m : Message) × (message_at v.plan l n ≡ Some m) × (is_past now m ≡ true))
+
+-- A message is abandoned by a call that names its ticket, or where its time is past, and by nothing else.
+pub record AbandonsAlone (f : Format) (v : SenderView) : Type 0 where
+  pub queueing : (l : Lane) (payload : ℕ) (bytes : List ℕ) (until : Option ℕ) → SameAbandoned v (queued v l payload bytes until)
+  pub filling : (room : ℕ) → SameAbandoned v (fill f room v).view
+  pub sack : (x : SackMeaning) → SameAbandoned v (sack_after v x)
+  pub shutdown : (wire : ℕ) → SameAbandoned v (shutdown_after v wire)
+  pub timer : SameAbandoned v (timed_out v)
+  pub abandoning : (t : ℕ) → OnlyOfTicket v t (abandon_after v t)
+  pub expiring : (now : ℕ) → OnlyPastTime v now (expired v now)
+
+abbrev pub AbandonedOnlyAsked : Type 0
+AbandonedOnlyAsked = (f : Format) (v : SenderView) → IsReached f v → AbandonsAlone f v
+
+-- ---- one result
+
+-- What is determined by its property: there is one FILL, one point and one FORWARD, and the functions give them. All other calls are functions as they stand.
+pub record HasOneResult (f : Format) (v : SenderView) : Type 0 where
+  pub fill_is : (room : ℕ) → IsFill f v room (fill f room v).wishes (fill f room v).view
+  pub fill_one : (room : ℕ) (ws : List Wish) (u : SenderView) → IsFill f v room ws u → (ws ≡ (fill f room v).wishes) × (u ≡ (fill f room v).view)
+  pub point_is : IsPoint v (point v)
+  pub point_one : (p : ℕ) → IsPoint v p → p ≡ point v
+  pub forward_is : IsForward f v.plan v.cum (point v) (forward_of f v)
+  pub forward_one : (x : Forward) → IsForward f v.plan v.cum (point v) x → x ≡ forward_of f v
+
+abbrev pub EachCallHasOneResult : Type 0
+EachCallHasOneResult = (f : Format) (v : SenderView) → IsReached f v → HasOneResult f v
+
+-- ---- drained
+
+-- The test tells just when nothing waits, nothing is in part, and all that has an index is acknowledged (RFC 9260, 9.2).
+abbrev pub DrainedIsTold : Type 0
+DrainedIsTold = (f : Format) (v : SenderView) → IsReached f v → (drained v ≡ true → IsDrained v) × (IsDrained v → drained v ≡ true)

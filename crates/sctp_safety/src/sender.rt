@@ -1,0 +1,23 @@
+//! What a sender's calls keep, whatever its peer says.
+
+ghost use Rattle.sctp_safety.specs.SenderCalls.{AbandonedOnlyAsked, DrainedIsTold, EachCallHasOneResult, PlanStaysOrderly};
+
+/// The plan of every view that calls reach is orderly, under both formats, whatever SACKs came (RFC 9260, 6.6 and 6.9; RFC 8260, 2.2).
+pub fn plan_stays_orderly()
+    ensures { PlanStaysOrderly }
+{}
+
+/// A message is abandoned by a call that names its ticket, or where its time is past, and by nothing else (RFC 3758, 3.5).
+pub fn abandoned_only_asked()
+    ensures { AbandonedOnlyAsked }
+{}
+
+/// What is determined by its property is one: what goes into a packet, the point, and the FORWARD; and the functions give it.
+pub fn each_call_has_one_result()
+    ensures { EachCallHasOneResult }
+{}
+
+/// A sender is told drained just where nothing waits, nothing is in part, and all that has an index is acknowledged (RFC 9260, 9.2).
+pub fn drained_is_told()
+    ensures { DrainedIsTold }
+{}
