@@ -1,7 +1,14 @@
 pub mod TableLemmas
 pub mod ItemLemmas
-pub mod SackLemmas
+pub mod CoverLemmas
 pub mod KeepLemmas
+pub mod SackLemmas
 pub mod QueueLemmas
 pub mod ReaderLemmas
 pub mod TicketLemmas
+pub mod TrackLemmas
+pub mod WithdrawLemmas
+pub mod GivenLemmas
+pub mod EndLemmas
+pub mod AnswerLemmas
+pub mod ForwardLemmas

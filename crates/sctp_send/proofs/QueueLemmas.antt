@@ -1,28 +1,25 @@
 -- Fragments counted, what is owed summed up, and a message more in the queue.
-use Rattle.std.proofs.Common.{◌≡◌, ℕ, zero, suc, ◌+◌, ◌-◌, ◌*◌, ◌/◌, ◌%◌, ◌^◌, ◌<◌, ◌≤◌, List, [], ◌∷◌, ◌++◌, length, map, take, drop, Bool, true, false, Option, Some, None, refl, sym, ap, ◌∙◌, arith, length-drop, get_or}
-use Rattle.std.specs.Prelude.{nat_lt, nat_le, min, if◌then◌else◌, ◌==◌, ◌||◌}
+use Rattle.std.proofs.Common.{◌≡◌, ℕ, zero, suc, ◌+◌, ◌-◌, ◌*◌, ◌/◌, ◌%◌, ◌^◌, ◌<◌, ◌≤◌, List, [], ◌∷◌, ◌++◌, length, drop, Bool, true, false, Option, Some, None, refl, sym, ap, ◌∙◌, arith, get_or}
+use Rattle.std.specs.Prelude.{nat_lt, nat_le, if◌then◌else◌, ◌==◌, ◌||◌}
 use Rattle.std.specs.Int.{div_ceil}
-use Rattle.std.proofs.Math.Nat.{div-eq-sub-div, div-eq_of_lt, mod-eq_of_lt}
-use Rattle.std.proofs.lemmas.List.{length-map, drop-map}
-use Rattle.std.proofs.Math.Seq.{drop-cons}
 use Rattle.std.proofs.lemmas.Bool.Decides.{nat_tests}
 use Rattle.sctp_model.specs.Limits.{LONGEST_MESSAGE, QUEUE_LIMIT, TICKET_LIMIT, TSN_LIMIT}
 use Rattle.sctp_model.specs.Format.{Format, Lane}
-use Rattle.sctp_model.specs.Plan.{Message, Entry, Part, End, Plan, message_at}
+use Rattle.sctp_model.specs.Plan.{Entry, Part, End}
 use Rattle.sctp_model.specs.SenderView.{Queued, SenderView}
-use Rattle.sctp_model.specs.sender.Entries.{continued, fragments_from, one_if_some, sum_below, in_part, fragments_in}
+use Rattle.sctp_model.specs.sender.Entries.{continued, fragments_from, one_if_some, sum_below, in_part}
 use Rattle.sctp_model.specs.sender.Queueing.{cut, owed_for, owed_by_queue, owed_by_parts, promised, refusal, queued, Spent}
 use Rattle.sctp_model.specs.sender.Abandoning.{waits, name_of}
-use Rattle.sctp_model.specs.sender.Reached.{IsReached, Queues}
-use Rattle.sctp_model.proofs.sender.PlanLaws.{IsFollower, continued_is, AllNamed}
-use Rattle.sctp_model.proofs.sender.CountLaws.{is_named, HasMessages}
+use Rattle.sctp_model.specs.sender.Reached.{Queues}
+use Rattle.sctp_model.proofs.sender.PlanLaws.{continued_is}
+use Rattle.sctp_model.proofs.sender.CountLaws.{is_named}
 use Rattle.std.proofs.Math.Nat.{mul-le-mul_right}
 use Rattle.sctp_model.proofs.sender.CutLaws.{length-cut}
 use Rattle.sctp_model.proofs.sender.SetLaws.{is_set}
 use Rattle.sctp_model.proofs.sender.OwedLaws.{is_promised}
 use Rattle.sctp_model.proofs.sender.TicketLaws.{waits_push}
-use Rattle.sctp_send.specs.SenderKept.{Item, Rest, Track, Kept}
-use Rattle.sctp_send.specs.SenderStands.{items_from, table, total, one_if_rest, rest_owes, rest_here, track_here, fate_here, fate_named, Holds, Keeps}
+use Rattle.sctp_send.specs.SenderKept.{Track, Kept}
+use Rattle.sctp_send.specs.SenderStands.{table, total, one_if_rest, rest_owes, rest_here, track_here, fate_here, fate_named, Keeps}
 use Rattle.sctp_send.specs.declared.message.Fate.{Fate}
 use Rattle.sctp_send.specs.declared.message.Fate.TheVariants.{Waiting}
 use Rattle.sctp_send.proofs.TableLemmas.{table-push, table-same, length-table}

@@ -1,30 +1,30 @@
 -- What a sender tells of itself, from what it keeps.
-use Rattle.std.proofs.Common.{◌≡◌, ℕ, zero, suc, ◌+◌, ◌-◌, ◌%◌, ◌^◌, ◌<◌, ◌≤◌, List, [], ◌∷◌, length, map, drop, Bool, true, false, Option, Some, None, refl, sym, ap, ◌∙◌, ◌⊎◌, inl, inr, arith, length-drop, get_or}
-use Rattle.std.specs.Prelude.{nat_lt, nat_le, not, ◌&&◌, ◌||◌, ◌==◌, if◌then◌else◌}
+use Rattle.std.proofs.Common.{◌≡◌, ℕ, zero, suc, ◌+◌, ◌-◌, ◌%◌, ◌^◌, ◌<◌, ◌≤◌, List, [], ◌∷◌, length, map, drop, Bool, true, false, Option, Some, None, refl, sym, ap, ◌∙◌, ◌⊎◌, inl, inr, arith, get_or}
+use Rattle.std.specs.Prelude.{nat_lt, not, ◌&&◌, ◌||◌, ◌==◌, if◌then◌else◌}
 use Rattle.std.proofs.lemmas.Bool.Decides.{nat_tests}
 use Rattle.sctp_model.specs.Format.{Format}
 use Rattle.sctp_model.specs.Plan.{Entry}
 use Rattle.sctp_model.specs.sender.Words.{some_passes}
 use Rattle.sctp_model.specs.SenderView.{Queued, SenderView}
-use Rattle.sctp_model.specs.sender.Entries.{any_from, some_entry, is_unsettled, is_given_up, in_part}
+use Rattle.sctp_model.specs.sender.Entries.{any_from, some_entry, is_unsettled, in_part}
 use Rattle.sctp_model.specs.sender.Readers.{given_up_run, point, unsettled, drained, outstanding, abandoned}
 use Rattle.sctp_model.specs.sender.Abandoning.{Name, waits, name_of, is_abandoned}
 use Rattle.sctp_model.proofs.sender.Bounds.{is_bounded}
 use Rattle.sctp_model.proofs.sender.OwedLaws.{is_promised, is_windowed}
 use Rattle.sctp_model.proofs.sender.TicketLaws.{IsTicketed, is_ticketed, name_of_none, found_owns}
 use Rattle.sctp_send.specs.SenderKept.{Item, Track, Kept}
-use Rattle.sctp_send.specs.SenderStands.{items_from, given_up_items, is_item_unsettled, any_unsettled, total, one_if_rest, is_given_up_fate, table, fate_here, fate_named, Holds, Keeps}
+use Rattle.sctp_send.specs.SenderStands.{items_from, given_up_items, is_item_unsettled, any_unsettled, total, one_if_rest, is_given_up_fate, fate_here, fate_named, Keeps}
 use Rattle.sctp_send.specs.declared.message.Fate.{Fate}
-use Rattle.sctp_send.specs.declared.message.Fate.TheVariants.{Waiting, Numbered, Withdrawn, GivenUp}
-use Rattle.sctp_send.proofs.KeepLemmas.{kept_length, length-items_from}
+use Rattle.sctp_send.specs.declared.message.Fate.TheVariants.{Waiting, Numbered, GivenUp}
+use Rattle.sctp_send.proofs.KeepLemmas.{kept_length}
 use Rattle.sctp_send.proofs.QueueLemmas.{kept_in_part, total_drop, sum_queue}
 use Rattle.sctp_send.proofs.ItemLemmas.{item_read}
 use Rattle.std.proofs.lemmas.List.{length-map}
 use Rattle.std.specs.declared.rc.Rc.{Rc}
 use Rattle.std.specs.declared.alloc.Global.{Global}
 use Rattle.sctp_model.specs.sender.Queueing.{cut, owed_for, owed_by_queue}
-use Rattle.sctp_send.specs.OutstandingFields.{item_said}
-use Rattle.sctp_send.specs.SenderFields.{track_said, queued_by}
+use Rattle.sctp_send.specs.OutstandingFields.{item_meaning}
+use Rattle.sctp_send.specs.SenderFields.{track_meaning, queued_by}
 use Rattle.sctp_send.specs.declared.message.Message.{Message as MessageFields}
 use Rattle.sctp_send.specs.declared.outstanding.Outstanding.{Outstanding}
 use Rattle.sctp_send.specs.declared.sender.Track.{Track as TrackFields}
@@ -42,11 +42,11 @@ any_step [] at d lt = absurd (omega arith)
 any_step (x ∷ xs) zero d lt = refl
 any_step (x ∷ xs) (suc at) d lt = any_step xs at d (omega arith)
 
-run_items : (v : SenderView) (i : ℕ) (es : List Entry) → given_up_items (items_from v i es) ≡ given_up_run v es
+pub run_items : (v : SenderView) (i : ℕ) (es : List Entry) → given_up_items (items_from v i es) ≡ given_up_run v es
 run_items v i [] = refl
 run_items v i (e ∷ es) = rw (run_items v (suc i) es) refl
 
-run_within : (xs : List Item) → given_up_items xs ≤ length xs
+pub run_within : (xs : List Item) → given_up_items xs ≤ length xs
 run_within [] = omega arith
 run_within (x ∷ xs) = by_test x.given_up (run_within xs)
   where
@@ -184,24 +184,24 @@ no_ticket f s v t k out =
 -- ---- walks, entry by entry
 
 pub walked_run : (size : ℕ) (es : List Outstanding) (at run : ℕ) (x : Outstanding) → at < length es → x ≡ get_or es at x → x.given_up ≡ true
-    → given_up_items (map (item_said size) es) % 2 ^ 32 ≡ (run + given_up_items (drop at (map (item_said size) es))) % 2 ^ 32
-    → given_up_items (map (item_said size) es) % 2 ^ 32 ≡ ((run + 1) % 2 ^ 32 + given_up_items (drop (at + 1) (map (item_said size) es))) % 2 ^ 32
+    → given_up_items (map (item_meaning size) es) % 2 ^ 32 ≡ (run + given_up_items (drop at (map (item_meaning size) es))) % 2 ^ 32
+    → given_up_items (map (item_meaning size) es) % 2 ^ 32 ≡ ((run + 1) % 2 ^ 32 + given_up_items (drop (at + 1) (map (item_meaning size) es))) % 2 ^ 32
 walked_run size es at run x lt read on before =
-    let long = length-map es (item_said size) in
-    let step = run_step (map (item_said size) es) at (item_said size x) (omega arith) in
-    let here : (get_or (map (item_said size) es) at (item_said size x)).given_up ≡ true = rw (item_read size es at x read) on in
+    let long = length-map es (item_meaning size) in
+    let step = run_step (map (item_meaning size) es) at (item_meaning size x) (omega arith) in
+    let here : (get_or (map (item_meaning size) es) at (item_meaning size x)).given_up ≡ true = rw (item_read size es at x read) on in
     let one : at + 1 ≡ suc at = omega arith in
-    let more : given_up_items (drop at (map (item_said size) es)) ≡ suc (given_up_items (drop (suc at) (map (item_said size) es))) = step ∙ rw here refl in
+    let more : given_up_items (drop at (map (item_meaning size) es)) ≡ suc (given_up_items (drop (suc at) (map (item_meaning size) es))) = step ∙ rw here refl in
     rw one (omega (arith, before, more))
 
 pub stopped_run : (size : ℕ) (es : List Outstanding) (at run : ℕ) (x : Outstanding) → at < length es → run < 2 ^ 32 → x ≡ get_or es at x → x.given_up ≡ false
-    → given_up_items (map (item_said size) es) % 2 ^ 32 ≡ (run + given_up_items (drop at (map (item_said size) es))) % 2 ^ 32
-    → run ≡ given_up_items (map (item_said size) es) % 2 ^ 32
+    → given_up_items (map (item_meaning size) es) % 2 ^ 32 ≡ (run + given_up_items (drop at (map (item_meaning size) es))) % 2 ^ 32
+    → run ≡ given_up_items (map (item_meaning size) es) % 2 ^ 32
 stopped_run size es at run x lt small read off before =
-    let long = length-map es (item_said size) in
-    let step = run_step (map (item_said size) es) at (item_said size x) (omega arith) in
-    let here : (get_or (map (item_said size) es) at (item_said size x)).given_up ≡ false = rw (item_read size es at x read) off in
-    let none : given_up_items (drop at (map (item_said size) es)) ≡ 0 = step ∙ rw here refl in
+    let long = length-map es (item_meaning size) in
+    let step = run_step (map (item_meaning size) es) at (item_meaning size x) (omega arith) in
+    let here : (get_or (map (item_meaning size) es) at (item_meaning size x)).given_up ≡ false = rw (item_read size es at x read) off in
+    let none : given_up_items (drop at (map (item_meaning size) es)) ≡ 0 = step ∙ rw here refl in
     omega (arith, before, none)
 
 pub none_behind : {A : Type 0} (n : ℕ) (xs : List A) → length xs ≤ n → drop n xs ≡ []
@@ -211,45 +211,45 @@ none_behind (suc n) [] le = refl
 none_behind (suc n) (x ∷ xs) le = none_behind n xs (omega arith)
 
 pub ended_run : (size : ℕ) (es : List Outstanding) (at run : ℕ) → length es ≤ at → run < 2 ^ 32
-    → given_up_items (map (item_said size) es) % 2 ^ 32 ≡ (run + given_up_items (drop at (map (item_said size) es))) % 2 ^ 32
-    → run ≡ given_up_items (map (item_said size) es) % 2 ^ 32
+    → given_up_items (map (item_meaning size) es) % 2 ^ 32 ≡ (run + given_up_items (drop at (map (item_meaning size) es))) % 2 ^ 32
+    → run ≡ given_up_items (map (item_meaning size) es) % 2 ^ 32
 ended_run size es at run le small before =
-    let long = length-map es (item_said size) in
-    let none = ap given_up_items (none_behind at (map (item_said size) es) (omega arith)) in
+    let long = length-map es (item_meaning size) in
+    let none = ap given_up_items (none_behind at (map (item_meaning size) es) (omega arith)) in
     omega (arith, before, none)
 
-pub walked_any : (size : ℕ) (es : List Outstanding) (at : ℕ) (x : Outstanding) (b : Bool) → at < length es → x ≡ get_or es at x → b ≡ is_item_unsettled (item_said size x)
-    → any_unsettled (map (item_said size) es) ≡ any_unsettled (drop at (map (item_said size) es)) → any_unsettled (map (item_said size) es) ≡ (b || any_unsettled (drop (at + 1) (map (item_said size) es)))
+pub walked_any : (size : ℕ) (es : List Outstanding) (at : ℕ) (x : Outstanding) (b : Bool) → at < length es → x ≡ get_or es at x → b ≡ is_item_unsettled (item_meaning size x)
+    → any_unsettled (map (item_meaning size) es) ≡ any_unsettled (drop at (map (item_meaning size) es)) → any_unsettled (map (item_meaning size) es) ≡ (b || any_unsettled (drop (at + 1) (map (item_meaning size) es)))
 walked_any size es at x b lt read is before =
-    let long = length-map es (item_said size) in
-    let step = any_step (map (item_said size) es) at (item_said size x) (omega arith) in
+    let long = length-map es (item_meaning size) in
+    let step = any_step (map (item_meaning size) es) at (item_meaning size x) (omega arith) in
     let one : at + 1 ≡ suc at = omega arith in
     before ∙ step ∙ rw (item_read size es at x read, ← is, one) refl
 
-pub ended_any : (size : ℕ) (es : List Outstanding) (at : ℕ) → length es ≤ at → any_unsettled (map (item_said size) es) ≡ any_unsettled (drop at (map (item_said size) es)) → false ≡ any_unsettled (map (item_said size) es)
+pub ended_any : (size : ℕ) (es : List Outstanding) (at : ℕ) → length es ≤ at → any_unsettled (map (item_meaning size) es) ≡ any_unsettled (drop at (map (item_meaning size) es)) → false ≡ any_unsettled (map (item_meaning size) es)
 ended_any size es at le before =
-    let long = length-map es (item_said size) in
-    sym (before ∙ ap any_unsettled (none_behind at (map (item_said size) es) (omega arith)))
+    let long = length-map es (item_meaning size) in
+    sym (before ∙ ap any_unsettled (none_behind at (map (item_meaning size) es) (omega arith)))
 
 -- ---- sums, stream by stream
 
-pub track_read : (size : ℕ) (ts : List TrackFields) (i : ℕ) (x : TrackFields) → x ≡ get_or ts i x → get_or (map (track_said size) ts) i (track_said size x) ≡ track_said size x
-track_read size ts i x read = of_map ts i x ∙ ap (track_said size) (sym read)
+pub track_read : (size : ℕ) (ts : List TrackFields) (i : ℕ) (x : TrackFields) → x ≡ get_or ts i x → get_or (map (track_meaning size) ts) i (track_meaning size x) ≡ track_meaning size x
+track_read size ts i x read = of_map ts i x ∙ ap (track_meaning size) (sym read)
   where
-    of_map : (ds : List TrackFields) (j : ℕ) (d : TrackFields) → get_or (map (track_said size) ds) j (track_said size d) ≡ track_said size (get_or ds j d)
+    of_map : (ds : List TrackFields) (j : ℕ) (d : TrackFields) → get_or (map (track_meaning size) ds) j (track_meaning size d) ≡ track_meaning size (get_or ds j d)
     of_map [] j d = refl
     of_map (e ∷ ds) zero d = refl
     of_map (e ∷ ds) (suc j) d = of_map ds j d
 
 pub total_more : (f : Track → ℕ) (size : ℕ) (ts : List TrackFields) (at : ℕ) (x : TrackFields) → at < length ts → x ≡ get_or ts at x
-    → total f (drop at (map (track_said size) ts)) ≡ f (track_said size x) + total f (drop (at + 1) (map (track_said size) ts))
+    → total f (drop at (map (track_meaning size) ts)) ≡ f (track_meaning size x) + total f (drop (at + 1) (map (track_meaning size) ts))
 total_more f size ts at x lt read =
-    let long = length-map ts (track_said size) in
+    let long = length-map ts (track_meaning size) in
     let one : at + 1 ≡ suc at = omega arith in
-    total_drop f (map (track_said size) ts) at (track_said size x) (omega arith) ∙ rw (track_read size ts at x read, one) refl
+    total_drop f (map (track_meaning size) ts) at (track_meaning size x) (omega arith) ∙ rw (track_read size ts at x read, one) refl
 
-pub total_end : (f : Track → ℕ) (size : ℕ) (ts : List TrackFields) (at : ℕ) → length ts ≤ at → total f (drop at (map (track_said size) ts)) ≡ 0
-total_end f size ts at le = let long = length-map ts (track_said size) in ap (total f) (none_behind at (map (track_said size) ts) (omega arith))
+pub total_end : (f : Track → ℕ) (size : ℕ) (ts : List TrackFields) (at : ℕ) → length ts ≤ at → total f (drop at (map (track_meaning size) ts)) ≡ 0
+total_end f size ts at le = let long = length-map ts (track_meaning size) in ap (total f) (none_behind at (map (track_meaning size) ts) (omega arith))
 
 queue_read : (size : ℕ) (ms : List (Rc MessageFields Global)) (i : ℕ) (x : Rc MessageFields Global) → x ≡ get_or ms i x → get_or (map (queued_by size) ms) i (queued_by size x) ≡ queued_by size x
 queue_read size ms i x read = of_map ms i x ∙ ap (queued_by size) (sym read)

@@ -1,36 +1,124 @@
--- What a SACK or a SHUTDOWN does to what is kept.
-use Rattle.std.proofs.Common.{◌≡◌, ℕ, zero, suc, ◌+◌, ◌-◌, ◌<◌, ◌≤◌, List, [], ◌∷◌, length, drop, Bool, true, false, Some, None, refl, ap, ◌∙◌, arith, length-drop}
-use Rattle.std.specs.Prelude.{nat_lt, nat_le}
+-- Why a SACK or a SHUTDOWN is refused, from what a sender keeps.
+use Rattle.std.proofs.Common.{◌≡◌, ℕ, ◌+◌, ◌^◌, ◌<◌, ◌≤◌, ◌⊎◌, inl, inr, List, [], ◌∷◌, length, Bool, true, false, Option, Some, None, refl, sym, ap, ◌∙◌, arith}
+use Rattle.std.specs.Prelude.{nat_lt, ◌&&◌, if◌then◌else◌, is_some}
 use Rattle.std.proofs.lemmas.Bool.Decides.{nat_tests}
-use Rattle.sctp_model.specs.Chunk.{BlockMeaning}
-use Rattle.sctp_model.specs.Acknowledgement.{in_blocks}
-use Rattle.sctp_model.specs.sender.SackTaken.{some_is_bad, some_ends_past}
+use Rattle.sctp_model.specs.Format.{Format}
+use Rattle.sctp_model.specs.Chunk.{BlockMeaning, SackMeaning}
+use Rattle.sctp_model.specs.Serial.{tsn, ahead, before}
+use Rattle.sctp_model.specs.SenderView.{SenderView}
+use Rattle.sctp_model.specs.sender.SackTaken as taken
+use Rattle.sctp_model.specs.sender.SackTaken.{is_stale, index_of, some_ends_past, some_is_bad, sack_fault, sack_taken, sack_after, shutdown_fault, shutdown_taken, shutdown_after}
+use Rattle.sctp_send.specs.SenderKept.{Kept}
+use Rattle.sctp_send.specs.SenderStands.{Keeps}
+use Rattle.sctp_send.specs.SenderAnswers.{fault_meaning}
+use Rattle.sctp_send.specs.inner.Acknowledging.{IsPassing, Refuses, block_fault}
+use Rattle.sctp_send.specs.declared.sack.SackFault.{SackFault}
+use Rattle.sctp_send.specs.declared.sack.SackFault.TheVariants.{Stale, Beyond, BadBlock}
+use Rattle.sctp_send.proofs.KeepLemmas.{kept_length}
 
--- ---- blocks, one by one
+-- ---- a cumulative TSN
 
-in_blocks-below : (before i : ℕ) (bs : List BlockMeaning) → some_is_bad before bs ≡ false → i ≤ before → in_blocks 0 bs i ≡ false
-in_blocks-below before i [] good le = refl
-in_blocks-below before i (b ∷ bs) good le =
-    let parts : (before < b.start) × (b.start ≤ b.end) × (some_is_bad b.end bs ≡ false) = grind (arith, nat_tests) in
-    let rest = in_blocks-below b.end i bs parts.2 (omega (arith, parts.0, parts.1)) in
-    grind (arith, nat_tests, rest, parts.0, parts.1)
+-- the two ways around the circle
+around : (x n : ℕ) → x + n ≡ 2 ^ 32 → n < 2 ^ 32 → (nat_lt 0 x && nat_lt x (2 ^ 31)) ≡ nat_lt (2 ^ 31) n
+around x n sum small = by_test (nat_lt (2 ^ 31) n) refl
+  where
+    by_test : (c : Bool) → nat_lt (2 ^ 31) n ≡ c → (nat_lt 0 x && nat_lt x (2 ^ 31)) ≡ c
+    by_test true far =
+        let over : 2 ^ 31 < n = grind (arith, nat_tests) in
+        let some : 0 < x = omega (arith, sum, small) in
+        let short : x < 2 ^ 31 = omega (arith, sum, over) in
+        grind (arith, nat_tests)
+    by_test false close =
+        let near : n ≤ 2 ^ 31 = grind (arith, nat_tests) in
+        let long : nat_lt x (2 ^ 31) ≡ false = let le : 2 ^ 31 ≤ x = omega (arith, sum, near) in grind (arith, nat_tests) in
+        rw long (off (nat_lt 0 x))
+      where
+        off : (b : Bool) → (b && false) ≡ false
+        off true = refl
+        off false = refl
 
-pub good_first : (before : ℕ) (b : BlockMeaning) (bs : List BlockMeaning) → some_is_bad before (b ∷ bs) ≡ false
-    → (before < b.start) × (b.start ≤ b.end) × (some_is_bad b.end bs ≡ false)
-good_first before b bs good = grind (arith, nat_tests)
+-- a TSN lies before another exactly where it is more than half the space ahead of it
+behind_is_far : (a b : ℕ) → before 32 a b ≡ nat_lt (2 ^ 31) (ahead 32 b a)
+behind_is_far a b = by_way (round a b)
+  where
+    round : (x y : ℕ) → ((ahead 32 x y ≡ 0) × (ahead 32 y x ≡ 0)) ⊎ (ahead 32 x y + ahead 32 y x ≡ 2 ^ 32)
+    round x y = by_zero (nat_lt 0 (ahead 32 x y)) refl
+      where
+        by_zero : (c : Bool) → nat_lt 0 (ahead 32 x y) ≡ c → ((ahead 32 x y ≡ 0) × (ahead 32 y x ≡ 0)) ⊎ (ahead 32 x y + ahead 32 y x ≡ 2 ^ 32)
+        by_zero true some = let lt : 0 < ahead 32 x y = grind (arith, nat_tests) in inr (omega (arith, lt))
+        by_zero false none = let is : ahead 32 x y ≡ 0 = grind (arith, nat_tests) in inl (is, omega (arith, is))
 
-pub ends_first : (last : ℕ) (b : BlockMeaning) (bs : List BlockMeaning) → some_ends_past last 0 (b ∷ bs) ≡ false
-    → (b.end ≤ last) × (some_ends_past last 0 bs ≡ false)
-ends_first last b bs ends = grind (arith, nat_tests)
+    by_way : ((ahead 32 a b ≡ 0) × (ahead 32 b a ≡ 0)) ⊎ (ahead 32 a b + ahead 32 b a ≡ 2 ^ 32) → before 32 a b ≡ nat_lt (2 ^ 31) (ahead 32 b a)
+    by_way (inl none) = rw (none.0, none.1) refl
+    by_way (inr sum) = around (ahead 32 a b) (ahead 32 b a) sum (omega arith)
 
-pub in_first : (b : BlockMeaning) (bs : List BlockMeaning) (i : ℕ) → b.start ≤ i → i ≤ b.end → in_blocks 0 (b ∷ bs) i ≡ true
-in_first b bs i lo hi = grind (arith, nat_tests)
+-- what stands where it does on the circle
+stale_here : (f : Format) (s : Kept) (v : SenderView) (wire n : ℕ) → Keeps f s v → n ≡ ahead 32 (tsn s.initial s.cum) wire → is_stale v wire ≡ nat_lt (2 ^ 31) n
+stale_here f s v wire n k is = behind_is_far wire (tsn v.initial v.cum) ∙ rw (is, k.holds.initial, k.holds.cum) refl
 
-pub before_first : (before : ℕ) (b : BlockMeaning) (bs : List BlockMeaning) (i : ℕ) → some_is_bad before (b ∷ bs) ≡ false → i < b.start → in_blocks 0 (b ∷ bs) i ≡ false
-before_first before b bs i good lt =
-    let parts = good_first before b bs good in
-    let rest = in_blocks-below b.end i bs parts.2 (omega (arith, parts.1)) in
-    grind (arith, nat_tests, rest)
+index_here : (f : Format) (s : Kept) (v : SenderView) (wire n : ℕ) → Keeps f s v → n ≡ ahead 32 (tsn s.initial s.cum) wire → index_of v wire ≡ v.cum + n
+index_here f s v wire n k is = rw (is, k.holds.initial, k.holds.cum) refl
 
-pub past_first : (b : BlockMeaning) (bs : List BlockMeaning) (i : ℕ) → b.end < i → in_blocks 0 (b ∷ bs) i ≡ in_blocks 0 bs i
-past_first b bs i lt = grind (arith, nat_tests)
+pub refused_stale : (f : Format) (s : Kept) (v : SenderView) (wire n : ℕ) → Keeps f s v → n ≡ ahead 32 (tsn s.initial s.cum) wire → 2 ^ 31 < n → Refuses v wire Stale
+refused_stale f s v wire n k is far = stale_here f s v wire n k is ∙ grind (arith, nat_tests)
+
+pub refused_beyond : (f : Format) (s : Kept) (v : SenderView) (wire n : ℕ) → Keeps f s v → n ≡ ahead 32 (tsn s.initial s.cum) wire → n ≤ 2 ^ 31 → length s.items < n → Refuses v wire Beyond
+refused_beyond f s v wire n k is near past =
+    let long = kept_length f s v k in
+    let over : length v.plan.entries < v.cum + n = omega (arith, long, past) in
+    (stale_here f s v wire n k is ∙ grind (arith, nat_tests), rw (index_here f s v wire n k is) (grind (arith, nat_tests)))
+
+pub passing : (f : Format) (s : Kept) (v : SenderView) (wire n : ℕ) → Keeps f s v → n ≡ ahead 32 (tsn s.initial s.cum) wire → n ≤ 2 ^ 31 → n ≤ length s.items → IsPassing v wire n
+passing f s v wire n k is near le =
+    let long = kept_length f s v k in
+    record { fresh = stale_here f s v wire n k is ∙ grind (arith, nat_tests); index = index_here f s v wire n k is; within = omega (arith, long, le) }
+
+-- ---- the answers
+
+pub sack_refused : (v : SenderView) (x : SackMeaning) (fault : SackFault) → Refuses v x.cumulative fault → sack_fault v x ≡ Some (fault_meaning fault)
+sack_refused v x Stale stale = rw stale refl
+sack_refused v x Beyond past = rw (past.0, past.1) refl
+sack_refused v x BadBlock never = absurd never
+
+pub shutdown_refused : (v : SenderView) (wire : ℕ) (fault : SackFault) → Refuses v wire fault → shutdown_fault v wire ≡ Some (fault_meaning fault)
+shutdown_refused v wire Stale stale = rw stale refl
+shutdown_refused v wire Beyond past = rw (past.0, past.1) refl
+shutdown_refused v wire BadBlock never = absurd never
+
+inside_plan : (v : SenderView) (wire n : ℕ) → IsPassing v wire n → nat_lt (length v.plan.entries) (index_of v wire) ≡ false
+inside_plan v wire n p = let le = p.within in rw p.index (grind (arith, nat_tests))
+
+pub shutdown_passes : (v : SenderView) (wire n : ℕ) → IsPassing v wire n → shutdown_fault v wire ≡ None
+shutdown_passes v wire n p = rw (p.fresh, inside_plan v wire n p) refl
+
+-- blocks counted from another index
+counted_from : (c last : ℕ) (bs : List BlockMeaning) → some_ends_past last 0 bs ≡ some_ends_past (c + last) c bs
+counted_from c last [] = refl
+counted_from c last (b ∷ bs) =
+    let here : nat_lt last (0 + b.end) ≡ nat_lt (c + last) (c + b.end) = grind (arith, nat_tests) in
+    rw (here, counted_from c last bs) refl
+
+-- what is left to be wrong with a SACK is in its blocks
+pub sack_by_blocks : (f : Format) (s : Kept) (v : SenderView) (x : SackMeaning) (n left : ℕ) → Keeps f s v → IsPassing v x.cumulative n → left + n ≡ length s.items → sack_fault v x ≡ block_fault left x.blocks
+sack_by_blocks f s v x n left k p is =
+    let long = kept_length f s v k in
+    let all : length v.plan.entries ≡ (v.cum + n) + left = omega (arith, long, is) in
+    let ends : some_ends_past (length v.plan.entries) (index_of v x.cumulative) x.blocks ≡ some_ends_past left 0 x.blocks =
+    rw (p.index, all) (sym (counted_from (v.cum + n) left x.blocks)) in
+    rw (p.fresh, inside_plan v x.cumulative n p, ends) refl
+
+pub blocks_past : (left : ℕ) (bs : List BlockMeaning) → some_ends_past left 0 bs ≡ true → block_fault left bs ≡ Some taken.Beyond
+blocks_past left bs past = rw past refl
+
+pub blocks_bad : (left : ℕ) (bs : List BlockMeaning) → some_ends_past left 0 bs ≡ false → some_is_bad 0 bs ≡ true → block_fault left bs ≡ Some taken.BadBlock
+blocks_bad left bs inside bad = rw (inside, bad) refl
+
+pub blocks_good : (left : ℕ) (bs : List BlockMeaning) → some_ends_past left 0 bs ≡ false → some_is_bad 0 bs ≡ false → block_fault left bs ≡ None
+blocks_good left bs inside good = rw (inside, good) refl
+
+-- what has a fault changes nothing
+pub sack_faulty : (v : SenderView) (x : SackMeaning) (fault : taken.SackFault) → sack_fault v x ≡ Some fault → sack_after v x ≡ v
+sack_faulty v x fault is = ap (λ (o : Option taken.SackFault). if is_some o then v else sack_taken v x) is
+
+pub shutdown_faulty : (v : SenderView) (wire : ℕ) (fault : taken.SackFault) → shutdown_fault v wire ≡ Some fault → shutdown_after v wire ≡ v
+shutdown_faulty v wire fault is = ap (λ (o : Option taken.SackFault). if is_some o then v else shutdown_taken v wire) is

@@ -13,11 +13,11 @@ use Rattle.sctp_model.proofs.sender.Bounds.{is_bounded}
 use Rattle.sctp_model.proofs.sender.TicketLaws.{is_ticketed, name_of_none, found_owns}
 use Rattle.sctp_model.proofs.sender.NameLaws.{goes_on_with, some_stream, in_part_by_ticket, uncovered_by_ticket}
 use Rattle.sctp_send.specs.SenderKept.{Item, Track, Kept}
-use Rattle.sctp_send.specs.OutstandingFields.{item_said}
-use Rattle.sctp_send.specs.SenderFields.{track_said}
-use Rattle.sctp_send.specs.SenderStands.{items_from, table, track_here, rest_here, fate_here, fate_named, is_numbered_fate, any_uncovered, is_item_uncovered, any_rest, rest_has, Holds, Keeps}
+use Rattle.sctp_send.specs.OutstandingFields.{item_meaning}
+use Rattle.sctp_send.specs.SenderFields.{track_meaning}
+use Rattle.sctp_send.specs.SenderStands.{items_from, table, track_here, rest_here, fate_here, fate_named, is_numbered_fate, any_uncovered, is_item_uncovered, any_rest, rest_has, Keeps}
 use Rattle.sctp_send.specs.declared.message.Fate.{Fate}
-use Rattle.sctp_send.specs.declared.message.Fate.TheVariants.{Waiting, Numbered, Withdrawn, GivenUp}
+use Rattle.sctp_send.specs.declared.message.Fate.TheVariants.{Waiting, Numbered, GivenUp}
 use Rattle.sctp_send.specs.declared.outstanding.Outstanding.{Outstanding}
 use Rattle.sctp_send.specs.declared.sender.Track.{Track as TrackFields}
 use Rattle.sctp_send.proofs.TableLemmas.{table-push}
@@ -43,7 +43,7 @@ uncovered_above v t i (suc n) (e ∷ es) on le =
     by_ticket true = refl
     by_ticket false = refl
 
-kept_uncovered : (f : Format) (s : Kept) (v : SenderView) (t : ℕ) (n : Name) → Keeps f s v → name_of v t ≡ Some n → any_uncovered t s.items ≡ has_uncovered v n
+pub kept_uncovered : (f : Format) (s : Kept) (v : SenderView) (t : ℕ) (n : Name) → Keeps f s v → name_of v t ≡ Some n → any_uncovered t s.items ≡ has_uncovered v n
 kept_uncovered f s v t n k is =
     let b = is_bounded f v k.reached in
     let one : 1 + v.cum ≡ suc v.cum = omega arith in
@@ -69,7 +69,7 @@ rest_table v t (suc n) =
     same None = refl
     same (Some e) = refl
 
-kept_goes_on : (f : Format) (s : Kept) (v : SenderView) (t : ℕ) (n : Name) → Keeps f s v → name_of v t ≡ Some n → any_rest t s.tracks ≡ is_in_part v n.lane n.number
+pub kept_goes_on : (f : Format) (s : Kept) (v : SenderView) (t : ℕ) (n : Name) → Keeps f s v → name_of v t ≡ Some n → any_rest t s.tracks ≡ is_in_part v n.lane n.number
 kept_goes_on f s v t n k is = ap (any_rest t) k.holds.tracks ∙ rest_table v t v.streams ∙ sym (in_part_by_ticket f v t n k.reached is)
 
 -- ---- acknowledged
@@ -144,28 +144,28 @@ step_rest t [] at d lt = absurd (omega arith)
 step_rest t (x ∷ xs) zero d lt = refl
 step_rest t (x ∷ xs) (suc at) d lt = step_rest t xs at d (omega arith)
 
-pub walked_uncovered : (t size : ℕ) (es : List Outstanding) (at : ℕ) (x : Outstanding) (b : Bool) → at < length es → x ≡ get_or es at x → b ≡ is_item_uncovered t (item_said size x)
-    → any_uncovered t (map (item_said size) es) ≡ any_uncovered t (drop at (map (item_said size) es)) → any_uncovered t (map (item_said size) es) ≡ (b || any_uncovered t (drop (at + 1) (map (item_said size) es)))
+pub walked_uncovered : (t size : ℕ) (es : List Outstanding) (at : ℕ) (x : Outstanding) (b : Bool) → at < length es → x ≡ get_or es at x → b ≡ is_item_uncovered t (item_meaning size x)
+    → any_uncovered t (map (item_meaning size) es) ≡ any_uncovered t (drop at (map (item_meaning size) es)) → any_uncovered t (map (item_meaning size) es) ≡ (b || any_uncovered t (drop (at + 1) (map (item_meaning size) es)))
 walked_uncovered t size es at x b lt read is before =
-    let long = length-map es (item_said size) in
-    let step = step_uncovered t (map (item_said size) es) at (item_said size x) (omega arith) in
+    let long = length-map es (item_meaning size) in
+    let step = step_uncovered t (map (item_meaning size) es) at (item_meaning size x) (omega arith) in
     let one : at + 1 ≡ suc at = omega arith in
     before ∙ step ∙ rw (item_read size es at x read, ← is, one) refl
 
-pub ended_uncovered : (t size : ℕ) (es : List Outstanding) (at : ℕ) → length es ≤ at → any_uncovered t (map (item_said size) es) ≡ any_uncovered t (drop at (map (item_said size) es)) → false ≡ any_uncovered t (map (item_said size) es)
+pub ended_uncovered : (t size : ℕ) (es : List Outstanding) (at : ℕ) → length es ≤ at → any_uncovered t (map (item_meaning size) es) ≡ any_uncovered t (drop at (map (item_meaning size) es)) → false ≡ any_uncovered t (map (item_meaning size) es)
 ended_uncovered t size es at le before =
-    let long = length-map es (item_said size) in
-    sym (before ∙ ap (any_uncovered t) (none_behind at (map (item_said size) es) (omega arith)))
+    let long = length-map es (item_meaning size) in
+    sym (before ∙ ap (any_uncovered t) (none_behind at (map (item_meaning size) es) (omega arith)))
 
-pub walked_rest : (t size : ℕ) (ts : List TrackFields) (at : ℕ) (x : TrackFields) (b : Bool) → at < length ts → x ≡ get_or ts at x → b ≡ rest_has t (track_said size x).rest
-    → any_rest t (map (track_said size) ts) ≡ any_rest t (drop at (map (track_said size) ts)) → any_rest t (map (track_said size) ts) ≡ (b || any_rest t (drop (at + 1) (map (track_said size) ts)))
+pub walked_rest : (t size : ℕ) (ts : List TrackFields) (at : ℕ) (x : TrackFields) (b : Bool) → at < length ts → x ≡ get_or ts at x → b ≡ rest_has t (track_meaning size x).rest
+    → any_rest t (map (track_meaning size) ts) ≡ any_rest t (drop at (map (track_meaning size) ts)) → any_rest t (map (track_meaning size) ts) ≡ (b || any_rest t (drop (at + 1) (map (track_meaning size) ts)))
 walked_rest t size ts at x b lt read is before =
-    let long = length-map ts (track_said size) in
-    let step = step_rest t (map (track_said size) ts) at (track_said size x) (omega arith) in
+    let long = length-map ts (track_meaning size) in
+    let step = step_rest t (map (track_meaning size) ts) at (track_meaning size x) (omega arith) in
     let one : at + 1 ≡ suc at = omega arith in
     before ∙ step ∙ rw (track_read size ts at x read, ← is, one) refl
 
-pub ended_rest : (t size : ℕ) (ts : List TrackFields) (at : ℕ) → length ts ≤ at → any_rest t (map (track_said size) ts) ≡ any_rest t (drop at (map (track_said size) ts)) → false ≡ any_rest t (map (track_said size) ts)
+pub ended_rest : (t size : ℕ) (ts : List TrackFields) (at : ℕ) → length ts ≤ at → any_rest t (map (track_meaning size) ts) ≡ any_rest t (drop at (map (track_meaning size) ts)) → false ≡ any_rest t (map (track_meaning size) ts)
 ended_rest t size ts at le before =
-    let long = length-map ts (track_said size) in
-    sym (before ∙ ap (any_rest t) (none_behind at (map (track_said size) ts) (omega arith)))
+    let long = length-map ts (track_meaning size) in
+    sym (before ∙ ap (any_rest t) (none_behind at (map (track_meaning size) ts) (omega arith)))

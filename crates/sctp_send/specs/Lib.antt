@@ -3,3 +3,4 @@ pub mod SenderStands
 pub mod OutstandingFields
 pub mod SenderFields
 pub mod SenderAnswers
+pub mod inner

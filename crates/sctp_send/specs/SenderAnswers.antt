@@ -1,11 +1,14 @@
 -- What the calls of a sender answer, in terms of a view that it stands for, and the view that they leave.
-use Rattle.std.specs.Prelude.{◌≡◌, ℕ, suc, Bool, true, false, not, List, Option, None, Some, Result, Ok, Err}
+use Rattle.std.specs.Prelude.{◌≡◌, ℕ, suc, Bool, not, List, Option, None, Some, Result, Ok, Err}
 use Rattle.sctp_model.specs.Format.{Lane}
 use Rattle.sctp_model.specs.Framing.{kind_of}
 use Rattle.sctp_model.specs.SenderView.{SenderView}
 use Rattle.sctp_model.specs.sender.Queueing as model
 use Rattle.sctp_model.specs.sender.Queueing.{refusal, queued}
 use Rattle.sctp_model.specs.sender.SackTaken as taken
+use Rattle.sctp_model.specs.sender.Abandoning as gone
+use Rattle.sctp_send.specs.declared.abandon.Abandoned.{Abandoned as AbandonedFields}
+use Rattle.sctp_send.specs.declared.abandon.Abandoned.TheVariants.{Withdrawn, Abandoned, Acknowledged, Unknown, Reliable}
 use Rattle.sctp_send.specs.declared.message.Ticket.{Ticket}
 use Rattle.sctp_send.specs.declared.queue.SendFault.{SendFault}
 use Rattle.sctp_send.specs.declared.queue.SendFault.TheVariants.{NoSuchStream, Empty, TooLong, QueueFull, Spent, NoMemory}
@@ -14,14 +17,14 @@ use Rattle.sctp_send.specs.declared.sack.SackFault.TheVariants.{Stale, Beyond, B
 
 -- ---- a SACK
 
-abbrev pub fault_said : SackFault → taken.SackFault
-fault_said Stale = taken.Stale
-fault_said Beyond = taken.Beyond
-fault_said BadBlock = taken.BadBlock
+abbrev pub fault_meaning : SackFault → taken.SackFault
+fault_meaning Stale = taken.Stale
+fault_meaning Beyond = taken.Beyond
+fault_meaning BadBlock = taken.BadBlock
 
-abbrev pub reason_said : Result (Unit {0}) SackFault → Option taken.SackFault
-reason_said (Ok _) = None
-reason_said (Err fault) = Some (fault_said fault)
+abbrev pub reason_meaning : Result (Unit {0}) SackFault → Option taken.SackFault
+reason_meaning (Ok _) = None
+reason_meaning (Err fault) = Some (fault_meaning fault)
 
 -- ---- a message handed in
 
@@ -46,3 +49,13 @@ queue_after v lane payload bytes until (Err fault) = v
 -- the lane of a call
 abbrev pub lane_for : ℕ → Bool → Lane
 lane_for stream ordered = record { stream = stream; kind = kind_of (not ordered) }
+
+-- ---- a message abandoned
+
+-- what `abandon` answers, by its name in the model
+abbrev pub answer_meaning : AbandonedFields → gone.AbandonAnswer
+answer_meaning Withdrawn = gone.Withdrawn
+answer_meaning Abandoned = gone.Abandoned
+answer_meaning Acknowledged = gone.Acknowledged
+answer_meaning Unknown = gone.Unknown
+answer_meaning Reliable = gone.Reliable

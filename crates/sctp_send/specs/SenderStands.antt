@@ -1,9 +1,9 @@
 -- Which views a sender stands for.
-use Rattle.std.specs.Prelude.{◌≡◌, ℕ, zero, suc, ◌+◌, ◌-◌, ◌≤◌, Bool, true, false, not, ◌&&◌, ◌||◌, if◌then◌else◌, List, [], ◌∷◌, length, drop, Option, None, Some}
+use Rattle.std.specs.Prelude.{◌≡◌, ℕ, zero, suc, ◌+◌, ◌-◌, ◌≤◌, Bool, true, false, not, ◌&&◌, ◌||◌, if◌then◌else◌, List, [], ◌∷◌, length, drop, slice_get, slice_set, Option, None, Some}
 use Rattle.sctp_model.specs.Format.{Format, ordered_lane, unordered_lane}
-use Rattle.sctp_model.specs.Plan.{Entry, Plan}
+use Rattle.sctp_model.specs.Plan.{Entry, End, Plan}
 use Rattle.sctp_model.specs.SenderView.{SenderView}
-use Rattle.sctp_model.specs.sender.Entries.{entry_message, entry_fragment, fragments_in, is_given_up, continued, in_part}
+use Rattle.sctp_model.specs.sender.Entries.{entry_lane, entry_number, entry_message, entry_fragment, fragments_in, is_given_up, continued, in_part}
 use Rattle.sctp_model.specs.sender.Queueing.{owed_for}
 use Rattle.sctp_model.specs.sender.Abandoning.{Name, name_of, waits, has_ticket, is_abandoned}
 use Rattle.sctp_model.specs.sender.Reached.{IsReached}
@@ -130,3 +130,29 @@ rest_has t (Some r) = has_ticket t r.message
 abbrev pub any_rest : ℕ → List Track → Bool
 any_rest t [] = false
 any_rest t (x ∷ xs) = rest_has t x.rest || any_rest t xs
+
+-- the stream at this place goes on with the message with this ticket
+pub record GoesOnAt (t at : ℕ) (tracks : List Track) : Type 0 where
+  pub track : Track
+  pub there : slice_get tracks at ≡ Some track
+  pub mine : rest_has t track.rest ≡ true
+
+-- the stream that went on with this rest of the message goes on with nothing
+pub record EndsAt (t : ℕ) (r : Rest) (before after : List Track) : Type 0 where
+  pub at : ℕ
+  pub track : Track
+  pub there : slice_get before at ≡ Some track
+  pub rest : track.rest ≡ Some r
+  pub mine : has_ticket t r.message ≡ true
+  pub now : after ≡ slice_set before at (record track { rest = None })
+
+-- the end mark of a message with this rest (RFC 3758, 3.5: what is abandoned is not sent)
+abbrev pub end_item : Rest → Item
+end_item r = record {
+  entry = End (entry_lane r.entry) (entry_number r.entry);
+  message = r.message;
+  sent = false;
+  marked = false;
+  covered = false;
+  given_up = true;
+}

@@ -2,6 +2,8 @@
 //! 3758, 3.5; RFC 8260, 2).
 #![tactic(auto)]
 
+mod abandon;
+mod forward;
 mod message;
 mod outstanding;
 mod queue;
@@ -9,6 +11,7 @@ mod readers;
 mod sack;
 mod sender;
 
+pub use abandon::Abandoned;
 pub use message::Ticket;
 pub use queue::SendFault;
 pub use sack::SackFault;

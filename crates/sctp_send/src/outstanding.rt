@@ -1,10 +1,10 @@
 //! What has an index above CUM: a deque whose first entry has index CUM + 1, reached by offset.
 
-ghost use Rattle.std.specs.Prelude.{◌≡◌, ℕ, Bool, false, ◌<◌, ◌≤◌, List, length, drop};
+ghost use Rattle.std.specs.Prelude.{◌≡◌, ℕ, Bool, false, ◌≤◌, List, length, drop, None};
 ghost use Rattle.std.specs.VecDeque.{deque_capacity};
 ghost use Rattle.sctp_model.specs.Acknowledgement.{in_blocks};
-ghost use Rattle.sctp_model.specs.sender.SackTaken.{some_is_bad, some_ends_past};
-ghost use Rattle.sctp_send.specs.OutstandingFields.{painted, painted_first, timed, all_timed};
+ghost use Rattle.sctp_send.specs.inner.Changes.{unmarked, as_covered, as_uncovered, all_told, or_run, timed, all_timed};
+ghost use Rattle.sctp_send.specs.inner.Acknowledging.{block_fault};
 
 use crate::message::Message;
 use sctp_wire::Blocks;
@@ -43,72 +43,86 @@ pub struct Outstanding {
     pub given_up: bool,
 }
 
-/// An entry is covered or not, as a SACK says; its mark ends where it is.
-fn paint_one(entry: &mut Outstanding, covered: bool)
-    ensures { entry.new ≡ painted covered entry.old }
+/// The same standing without its mark.
+pub fn unmarked(standing: Standing) -> Standing
+    ensures { result ≡ unmarked standing }
 {
-    entry.covered = covered;
-    if covered && entry.standing == Standing::Marked {
-        entry.standing = Standing::Sent;
+    match standing {
+        Standing::Unsent => Standing::Unsent,
+        Standing::Sent | Standing::Marked => Standing::Sent,
     }
 }
 
-/// The entries at the offsets from `from` to before `to` are covered or not.
-fn paint(outstanding: &mut VecDeque<Outstanding>, from: usize, to: usize, covered: bool)
+/// The peer has an entry: there is nothing to repeat.
+fn cover_one(entry: &mut Outstanding)
+    ensures { entry.new ≡ as_covered entry.old }
+{
+    entry.covered = true;
+    entry.standing = unmarked(entry.standing);
+}
+
+/// A run of entries is covered: those from the offset `from` up to before the offset `to`.
+fn cover_run(outstanding: &mut VecDeque<Outstanding>, from: usize, to: usize)
     requires order { from ≤ to }
     requires within { to ≤ length outstanding.old.items }
-    ensures length { length outstanding.new.items ≡ length outstanding.old.items }
+    ensures long { length outstanding.new.items ≡ length outstanding.old.items }
     ensures capacity { deque_capacity outstanding.new ≡ deque_capacity outstanding.old }
-    ensures painted { (covers : ℕ → Bool) (first : List Outstanding)
-        → ((i : ℕ) → from < i → i ≤ to → covers i ≡ covered)
-        → outstanding.old.items ≡ painted_first covers 1 from first
-        → outstanding.new.items ≡ painted_first covers 1 to first }
+    ensures run { (test : ℕ → Bool) (es : List Outstanding)
+        → outstanding.old.items ≡ all_told test 1 es → outstanding.new.items ≡ all_told (or_run test from to) 1 es }
 {
     for at in from..to {
-        paint_one(&mut outstanding[at], covered);
+        cover_one(&mut outstanding[at]);
     }
 }
 
-/// What the blocks cover, and nothing else, is covered: run by run.
+/// No entry is covered.
+fn uncover(outstanding: &mut VecDeque<Outstanding>)
+    ensures items { outstanding.new.items ≡ all_told (λ i. false) 1 outstanding.old.items }
+    ensures capacity { deque_capacity outstanding.new ≡ deque_capacity outstanding.old }
+{
+    for at in 0..outstanding.len() {
+        outstanding[at].covered = false;
+    }
+}
+
+/// What lies in a block is covered, and nothing else: what an earlier SACK covered counts no more.
 pub fn cover(outstanding: &mut VecDeque<Outstanding>, blocks: &Blocks<'_>)
-    requires good { some_is_bad 0 blocks.now ≡ false }
-    requires within { some_ends_past (length outstanding.old.items) 0 blocks.now ≡ false }
+    requires { block_fault (length outstanding.old.items) blocks.now ≡ None }
+    ensures covered { outstanding.new.items ≡ all_told (in_blocks 0 blocks.now) 1 outstanding.old.items }
     ensures capacity { deque_capacity outstanding.new ≡ deque_capacity outstanding.old }
-    ensures painted { outstanding.new.items
-        ≡ painted_first (in_blocks 0 blocks.now) 1 (length outstanding.old.items) outstanding.old.items }
 {
-    let mut next = 0;
+    uncover(outstanding);
     for block in blocks.iter() {
-        let (start, end) = (usize::from(block.start), usize::from(block.end));
-        paint(outstanding, next, start - 1, false);
-        paint(outstanding, start - 1, end, true);
-        next = end;
+        cover_run(
+            outstanding,
+            usize::from(block.start) - 1,
+            usize::from(block.end),
+        );
     }
-    let all = outstanding.len();
-    paint(outstanding, next, all, false);
 }
 
-/// The first `count` entries are given up.
-pub fn forget(outstanding: &mut VecDeque<Outstanding>, count: usize)
-    requires within { count ≤ length outstanding.old.items }
+/// The first entries go: so many are acknowledged cumulatively.
+pub fn forget(outstanding: &mut VecDeque<Outstanding>, passed: usize)
+    requires { passed ≤ length outstanding.old.items }
+    ensures items { outstanding.new.items ≡ drop passed outstanding.old.items }
     ensures capacity { deque_capacity outstanding.new ≡ deque_capacity outstanding.old }
-    ensures rest { outstanding.new.items ≡ drop count outstanding.old.items }
 {
-    for _ in 0..count {
-        let _first = outstanding.pop_front();
+    for _ in 0..passed {
+        let _acknowledged = outstanding.pop_front();
     }
 }
 
-/// An entry that went out, is not covered and not given up is marked for repeating.
+/// An entry that the peer may still need is marked.
 fn time_one(entry: &mut Outstanding)
     ensures { entry.new ≡ timed entry.old }
 {
-    if entry.standing == Standing::Sent && !entry.covered && !entry.given_up {
+    let needed = !entry.covered && !entry.given_up;
+    if needed && entry.standing == Standing::Sent {
         entry.standing = Standing::Marked;
     }
 }
 
-/// Each entry that went out, is not covered and not given up is marked for repeating.
+/// Each entry that the peer may still need is marked.
 pub fn mark_unsettled(outstanding: &mut VecDeque<Outstanding>)
     ensures items { outstanding.new.items ≡ all_timed outstanding.old.items }
     ensures capacity { deque_capacity outstanding.new ≡ deque_capacity outstanding.old }

@@ -3,7 +3,7 @@
 ghost use Rattle.std.specs.Prelude.{◌≡◌, ℕ, ◌<◌, ◌^◌, ◌%◌, ◌+◌, map, length};
 ghost use Rattle.sctp_model.specs.SenderView.{SenderView};
 ghost use Rattle.sctp_model.specs.sender.Queueing.{cut, owed_for, owed_by_queue, promised};
-ghost use Rattle.sctp_send.specs.SenderFields.{track_said, queued_by};
+ghost use Rattle.sctp_send.specs.SenderFields.{track_meaning, queued_by};
 ghost use Rattle.sctp_send.specs.SenderStands.{StandsFor, total, rest_owes};
 ghost use Rattle.sctp_send.specs.SenderAnswers.{QueueAnswer, queue_after, lane_for};
 
@@ -161,7 +161,7 @@ fn owed_by_queue(queue: &VecDeque<Rc<Message>>, size: u16) -> u64
 /// What the messages in part owe.
 fn owed_by_tracks(tracks: &[Track], size: u16) -> u64
     requires { 0 < size }
-    ensures { result ≡ total (λ t. rest_owes t.rest) (map (track_said size) tracks.now) % 2 ^ 64 }
+    ensures { result ≡ total (λ t. rest_owes t.rest) (map (track_meaning size) tracks.now) % 2 ^ 64 }
 {
     let mut total = 0u64;
     for track in tracks {
@@ -173,7 +173,7 @@ fn owed_by_tracks(tracks: &[Track], size: u16) -> u64
 /// What the message in part of a stream owes.
 fn owed_by_track(track: &Track, size: u16) -> u64
     requires { 0 < size }
-    ensures { result ≡ rest_owes (track_said size track.now).rest % 2 ^ 64 }
+    ensures { result ≡ rest_owes (track_meaning size track.now).rest % 2 ^ 64 }
 {
     match &track.rest {
         Some(rest) => {

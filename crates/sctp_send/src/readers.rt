@@ -1,10 +1,10 @@
 //! What a sender tells of itself.
 
-ghost use Rattle.std.specs.Prelude.{◌≡◌, ℕ, Bool, ◌<◌, ◌^◌, ◌%◌, map, length};
+ghost use Rattle.std.specs.Prelude.{◌≡◌, ℕ, Bool, ◌<◌, ◌^◌, ◌%◌, ◌&&◌, not, map, length};
 ghost use Rattle.sctp_model.specs.SenderView.{SenderView};
 ghost use Rattle.sctp_model.specs.sender.Readers.{point, unsettled, drained, outstanding, abandoned, acknowledged};
-ghost use Rattle.sctp_send.specs.OutstandingFields.{item_said};
-ghost use Rattle.sctp_send.specs.SenderFields.{track_said};
+ghost use Rattle.sctp_send.specs.OutstandingFields.{item_meaning};
+ghost use Rattle.sctp_send.specs.SenderFields.{track_meaning};
 ghost use Rattle.sctp_send.specs.SenderStands.{StandsFor, total, one_if_rest, given_up_items, any_unsettled, is_item_unsettled, is_given_up_fate, is_numbered_fate, any_uncovered, is_item_uncovered, any_rest, rest_has};
 
 use crate::message::{Fate, Ticket};
@@ -75,10 +75,7 @@ impl<F: Framing> Sender<F> {
         if !is_numbered(fate) {
             return false;
         }
-        if some_goes_on(&self.tracks, ticket.0) {
-            return false;
-        }
-        !some_uncovered(&self.outstanding, ticket.0)
+        is_all_covered(&self.tracks, &self.outstanding, ticket.0)
     }
 
     /// Whether the message with this ticket has a number and was abandoned.
@@ -117,9 +114,17 @@ fn is_numbered(fate: Fate) -> bool
     }
 }
 
+/// All of the message with this ticket is assigned and covered.
+pub fn is_all_covered(tracks: &[Track], outstanding: &VecDeque<Outstanding>, ticket: u32) -> bool
+    ensures { (size : ℕ) → result
+        ≡ (not (any_rest ticket (map (track_meaning size) tracks.now)) && not (any_uncovered ticket (map (item_meaning size) outstanding.now.items))) }
+{
+    !some_goes_on(tracks, ticket) && !some_uncovered(outstanding, ticket)
+}
+
 /// Some entry of the message with this ticket is not covered.
 fn some_uncovered(outstanding: &VecDeque<Outstanding>, ticket: u32) -> bool
-    ensures { (size : ℕ) → result ≡ any_uncovered ticket (map (item_said size) outstanding.now.items) }
+    ensures { (size : ℕ) → result ≡ any_uncovered ticket (map (item_meaning size) outstanding.now.items) }
 {
     for at in 0..outstanding.len() {
         let entry = &outstanding[at];
@@ -132,14 +137,14 @@ fn some_uncovered(outstanding: &VecDeque<Outstanding>, ticket: u32) -> bool
 
 /// An entry is of the message with this ticket, and not covered.
 fn is_uncovered(entry: &Outstanding, ticket: u32) -> bool
-    ensures { (size : ℕ) → result ≡ is_item_uncovered ticket (item_said size entry.now) }
+    ensures { (size : ℕ) → result ≡ is_item_uncovered ticket (item_meaning size entry.now) }
 {
     entry.message.ticket == ticket && !entry.covered
 }
 
 /// Some stream goes on with the message with this ticket.
 fn some_goes_on(tracks: &[Track], ticket: u32) -> bool
-    ensures { (size : ℕ) → result ≡ any_rest ticket (map (track_said size) tracks.now) }
+    ensures { (size : ℕ) → result ≡ any_rest ticket (map (track_meaning size) tracks.now) }
 {
     for track in tracks {
         if goes_on(track, ticket) {
@@ -150,8 +155,8 @@ fn some_goes_on(tracks: &[Track], ticket: u32) -> bool
 }
 
 /// A stream goes on with the message with this ticket.
-fn goes_on(track: &Track, ticket: u32) -> bool
-    ensures { (size : ℕ) → result ≡ rest_has ticket (track_said size track.now).rest }
+pub fn goes_on(track: &Track, ticket: u32) -> bool
+    ensures { (size : ℕ) → result ≡ rest_has ticket (track_meaning size track.now).rest }
 {
     match &track.rest {
         Some(rest) => rest.message.ticket == ticket,
@@ -167,8 +172,8 @@ fn count_of(outstanding: &VecDeque<Outstanding>) -> u32
 }
 
 /// How many of the first entries are of abandoned messages.
-fn given_up_run(outstanding: &VecDeque<Outstanding>) -> u32
-    ensures { (size : ℕ) → result ≡ given_up_items (map (item_said size) outstanding.now.items) % 2 ^ 32 }
+pub fn given_up_run(outstanding: &VecDeque<Outstanding>) -> u32
+    ensures { (size : ℕ) → result ≡ given_up_items (map (item_meaning size) outstanding.now.items) % 2 ^ 32 }
 {
     let mut run = 0u32;
     for at in 0..outstanding.len() {
@@ -183,7 +188,7 @@ fn given_up_run(outstanding: &VecDeque<Outstanding>) -> u32
 
 /// Some entry went out, and is neither covered nor abandoned.
 fn some_unsettled(outstanding: &VecDeque<Outstanding>) -> bool
-    ensures { (size : ℕ) → result ≡ any_unsettled (map (item_said size) outstanding.now.items) }
+    ensures { (size : ℕ) → result ≡ any_unsettled (map (item_meaning size) outstanding.now.items) }
 {
     for at in 0..outstanding.len() {
         let entry = &outstanding[at];
@@ -196,14 +201,14 @@ fn some_unsettled(outstanding: &VecDeque<Outstanding>) -> bool
 
 /// An entry went out, and is neither covered nor abandoned.
 fn is_unsettled(entry: &Outstanding) -> bool
-    ensures { (size : ℕ) → result ≡ is_item_unsettled (item_said size entry.now) }
+    ensures { (size : ℕ) → result ≡ is_item_unsettled (item_meaning size entry.now) }
 {
     entry.standing != Standing::Unsent && !entry.covered && !entry.given_up
 }
 
 /// How many messages are in part.
 pub fn in_part(tracks: &[Track]) -> u32
-    ensures { (size : ℕ) → result ≡ total (λ t. one_if_rest t.rest) (map (track_said size) tracks.now) % 2 ^ 32 }
+    ensures { (size : ℕ) → result ≡ total (λ t. one_if_rest t.rest) (map (track_meaning size) tracks.now) % 2 ^ 32 }
 {
     let mut count = 0u32;
     for track in tracks {
@@ -214,7 +219,7 @@ pub fn in_part(tracks: &[Track]) -> u32
 
 /// One where a stream has a message in part.
 fn one_if_in_part(track: &Track) -> u32
-    ensures { (size : ℕ) → result ≡ one_if_rest (track_said size track.now).rest }
+    ensures { (size : ℕ) → result ≡ one_if_rest (track_meaning size track.now).rest }
 {
     match &track.rest {
         Some(_) => 1,

@@ -1,13 +1,14 @@
 //! SACKs and SHUTDOWNs that come (RFC 9260, 6.2.1 and 9.2).
 
-ghost use Rattle.std.specs.Prelude.{◌≡◌, ℕ};
-ghost use Rattle.sctp_model.specs.Serial.{tsn, ahead, before};
+ghost use Rattle.std.specs.Prelude.{◌≡◌, ◌≤◌, length, IfOk};
+ghost use Rattle.sctp_model.specs.Serial.{tsn, ahead};
 ghost use Rattle.sctp_model.specs.SenderView.{SenderView};
 ghost use Rattle.sctp_model.specs.sender.SackTaken.{some_is_bad, some_ends_past, sack_fault, sack_after, shutdown_fault, shutdown_after};
 ghost use Rattle.sctp_model.specs.sender.Abandoning.{timed_out};
 ghost use Rattle.sctp_wire.specs.ChunkTree.{sack_meaning};
 ghost use Rattle.sctp_send.specs.SenderStands.{StandsFor};
-ghost use Rattle.sctp_send.specs.SenderAnswers.{reason_said};
+ghost use Rattle.sctp_send.specs.SenderAnswers.{reason_meaning};
+ghost use Rattle.sctp_send.specs.inner.Acknowledging.{PassingAnswer};
 
 use crate::outstanding::{cover, forget, mark_unsettled};
 use crate::sender::Sender;
@@ -31,51 +32,40 @@ pub enum SackFault {
 
 #[tactic(auto, unfolding(crate::specs::SenderStands::StandsFor))]
 impl<F: Framing> Sender<F> {
-    /// Takes a SACK that came: what it covers takes the place of what was covered, and what is at or below its
-    /// cumulative TSN is forgotten (RFC 9260, 6.2.1). It takes no memory.
+    /// Takes a SACK: the entries up to its cumulative TSN go, and of the others its blocks, and nothing else, count as covered (RFC 9260,
+    /// 6.2.1). It takes no memory.
     ///
     /// # Errors
     /// The first reason of `SackFault` that holds; nothing changes then.
     pub fn on_sack(&mut self, sack: &Sack<'_>) -> Result<(), SackFault>
-        ensures answer { (v : SenderView) → StandsFor F.format self.old v → reason_said result ≡ sack_fault v (sack_meaning sack.now) }
+        ensures answer { (v : SenderView) → StandsFor F.format self.old v → reason_meaning result ≡ sack_fault v (sack_meaning sack.now) }
         ensures step { (v : SenderView) → StandsFor F.format self.old v → StandsFor F.format self.new (sack_after v (sack_meaning sack.now)) }
     {
-        if is_behind(self.initial, self.cum, sack.cumulative) {
-            return Err(SackFault::Stale);
-        }
-        let count = ahead_of(self.initial, self.cum, sack.cumulative);
-        if count as usize > self.outstanding.len() {
+        let passed = self.passed_by(sack.cumulative)?;
+        let left = self.outstanding.len() - passed as usize;
+        if reach_past(&sack.blocks, left) {
             return Err(SackFault::Beyond);
         }
-        if ends_past(&sack.blocks, self.outstanding.len() - count as usize) {
-            return Err(SackFault::Beyond);
-        }
-        if is_bad(&sack.blocks) {
+        if are_disordered(&sack.blocks) {
             return Err(SackFault::BadBlock);
         }
-        forget(&mut self.outstanding, count as usize);
+        forget(&mut self.outstanding, passed as usize);
         cover(&mut self.outstanding, &sack.blocks);
-        self.cum = self.cum.wrapping_add(count);
+        self.cum = self.cum.wrapping_add(passed);
         self.rwnd = sack.rwnd;
         Ok(())
     }
 
-    /// Takes the cumulative TSN of a SHUTDOWN that came; what lay covered beyond it stays covered (RFC 9260, 9.2). It
-    /// takes no memory.
+    /// Takes the cumulative TSN of a SHUTDOWN: the entries up to it go, and what lay covered beyond stays so (RFC 9260, 9.2). It takes no
+    /// memory.
     ///
     /// # Errors
     /// The first reason of `SackFault` that holds; nothing changes then.
     pub fn on_shutdown(&mut self, tsn: u32) -> Result<(), SackFault>
-        ensures answer { (v : SenderView) → StandsFor F.format self.old v → reason_said result ≡ shutdown_fault v tsn }
+        ensures answer { (v : SenderView) → StandsFor F.format self.old v → reason_meaning result ≡ shutdown_fault v tsn }
         ensures step { (v : SenderView) → StandsFor F.format self.old v → StandsFor F.format self.new (shutdown_after v tsn) }
     {
-        if is_behind(self.initial, self.cum, tsn) {
-            return Err(SackFault::Stale);
-        }
-        let passed = ahead_of(self.initial, self.cum, tsn);
-        if passed as usize > self.outstanding.len() {
-            return Err(SackFault::Beyond);
-        }
+        let passed = self.passed_by(tsn)?;
         forget(&mut self.outstanding, passed as usize);
         self.cum = self.cum.wrapping_add(passed);
         Ok(())
@@ -88,48 +78,59 @@ impl<F: Framing> Sender<F> {
     {
         mark_unsettled(&mut self.outstanding);
     }
+
+    /// How many entries a cumulative TSN passes. More than half the space ahead, it lies before that of CUM.
+    fn passed_by(&self, wire: u32) -> Result<u32, SackFault>
+        ensures answer { (v : SenderView) → StandsFor F.format self.now v → PassingAnswer v wire result }
+        ensures within { IfOk result (λ passed. passed ≤ length self.now.items) }
+    {
+        let passed = ahead_of(tsn_of(self.initial, self.cum), wire);
+        if passed > 0x8000_0000 {
+            return Err(SackFault::Stale);
+        }
+        if passed as usize > self.outstanding.len() {
+            return Err(SackFault::Beyond);
+        }
+        Ok(passed)
+    }
 }
 
-/// How far a TSN lies ahead of that of an index.
-fn ahead_of(initial: u32, index: u32, wire: u32) -> u32
-    ensures { result ≡ ahead 32 (tsn initial index) wire }
+/// The TSN of an index (RFC 9260, 3.3.2: the first one is the initial TSN).
+pub fn tsn_of(initial: u32, index: u32) -> u32
+    ensures { result ≡ tsn initial index }
 {
-    wire.wrapping_sub(initial.wrapping_add(index).wrapping_sub(1))
+    initial.wrapping_add(index).wrapping_sub(1)
 }
 
-/// A TSN lies before that of an index.
-fn is_behind(initial: u32, index: u32, wire: u32) -> bool
-    ensures { result ≡ before 32 wire (tsn initial index) }
+/// How far a TSN lies ahead of another on their circle.
+fn ahead_of(from: u32, to: u32) -> u32
+    ensures { result ≡ ahead 32 from to }
 {
-    let behind = initial
-        .wrapping_add(index)
-        .wrapping_sub(1)
-        .wrapping_sub(wire);
-    behind > 0 && behind < 0x8000_0000
+    to.wrapping_sub(from)
 }
 
-/// A block ends past the last one of so many entries.
-fn ends_past(blocks: &Blocks<'_>, entries: usize) -> bool
-    ensures { result ≡ some_ends_past entries 0 blocks.now }
+/// Some block ends past the last of so many entries.
+fn reach_past(blocks: &Blocks<'_>, last: usize) -> bool
+    ensures { result ≡ some_ends_past last 0 blocks.now }
 {
     for block in blocks.iter() {
-        if usize::from(block.end) > entries {
+        if last < usize::from(block.end) {
             return true;
         }
     }
     false
 }
 
-/// A block starts past its end, or not past the end of the one before.
-fn is_bad(blocks: &Blocks<'_>) -> bool
+/// Some block starts past its own end, or not past the end of the block before it.
+fn are_disordered(blocks: &Blocks<'_>) -> bool
     ensures { result ≡ some_is_bad 0 blocks.now }
 {
-    let mut before = 0;
+    let mut end = 0;
     for block in blocks.iter() {
-        if block.start <= before || block.end < block.start {
+        if block.start <= end || block.end < block.start {
             return true;
         }
-        before = block.end;
+        end = block.end;
     }
     false
 }

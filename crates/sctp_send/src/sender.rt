@@ -60,8 +60,8 @@ impl<F: Framing> Model for Sender<F> {
 
     ghost Value = { Kept };
 
-    ghost use Rattle.sctp_send.specs.OutstandingFields.{item_said};
-    ghost use Rattle.sctp_send.specs.SenderFields.{track_said, queued_by, IsConfigured};
+    ghost use Rattle.sctp_send.specs.OutstandingFields.{item_meaning};
+    ghost use Rattle.sctp_send.specs.SenderFields.{track_meaning, queued_by, IsConfigured};
 
     ghost view = { λ s. record {
       initial = s.initial;
@@ -71,9 +71,9 @@ impl<F: Framing> Model for Sender<F> {
       cum = s.cum;
       rwnd = s.rwnd;
       turn = s.turn;
-      items = map (item_said s.fragment) s.outstanding.items;
+      items = map (item_meaning s.fragment) s.outstanding.items;
       queue = map (queued_by s.fragment) s.queue.items;
-      tracks = map (track_said s.fragment) s.tracks.items;
+      tracks = map (track_meaning s.fragment) s.tracks.items;
       fates = s.fates.items;
       capacity = deque_capacity s.outstanding;
     } };

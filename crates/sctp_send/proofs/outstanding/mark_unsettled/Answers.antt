@@ -1,5 +1,5 @@
-use Rattle.std.proofs.Common.{◌≡◌, length, arith, ◌∙◌}
-use Rattle.sctp_send.specs.OutstandingFields.{timed}
+use Rattle.std.proofs.Common.{arith, ◌∙◌}
+use Rattle.sctp_send.specs.inner.Changes.{timed}
 use Rattle.sctp_send.proofs.ItemLemmas.{change_step, change_long, first_changed-all}
 use Rattle.sctp_send.proofs.outstanding.mark_unsettled.Goals as goal
 

@@ -1,5 +1,5 @@
 use Rattle.std.proofs.Common.{◌≡◌, deque_capacity}
-use Rattle.sctp_send.specs.OutstandingFields.{timed}
+use Rattle.sctp_send.specs.inner.Changes.{timed}
 use Rattle.sctp_send.proofs.ItemLemmas.{first_changed}
 use Rattle.sctp_send.proofs.outstanding.mark_unsettled.Given as goal
 

@@ -1,4 +1,4 @@
-use Rattle.std.proofs.Common.{◌≡◌, ℕ, ◌+◌, ◌%◌, ◌^◌, map, drop}
+use Rattle.std.proofs.Common.{◌≡◌, ◌+◌, ◌%◌, ◌^◌, map, drop}
 use Rattle.sctp_model.specs.sender.Queueing.{owed_by_queue}
 use Rattle.sctp_send.specs.SenderFields.{queued_by}
 use Rattle.sctp_send.proofs.queue.owed_by_queue.Given as goal

@@ -1,4 +1,4 @@
-use Rattle.std.proofs.Common.{arith, sym, ◌∙◌, ap}
+use Rattle.std.proofs.Common.{arith, sym, ◌∙◌}
 use Rattle.sctp_send.proofs.ReaderLemmas.{walked_any, ended_any}
 use Rattle.sctp_send.proofs.readers.some_unsettled.Goals as goal
 

@@ -1,4 +1,4 @@
-use Rattle.std.proofs.Common.{◌≡◌, ◌∙◌, subst, sym, ap, arith}
+use Rattle.std.proofs.Common.{◌∙◌, subst, sym, ap, arith}
 use Rattle.sctp_send.specs.SenderKept.{Kept}
 use Rattle.sctp_send.specs.SenderStands.{StandsFor, Keeps, is_numbered_fate}
 use Rattle.sctp_send.proofs.TicketLemmas.{numbered_acknowledged, other_acknowledged, numbered_read, not_acknowledged, never_acknowledged}
@@ -24,16 +24,6 @@ returns-then-not-is_numbered g c = λ v stands.
     let fate = ap is_numbered_fate c.index-fate.ensures ∙ numbered_read g.F.Framing.format _ v c.args.ticket.0 c.index-fate.result.now keeps (omega arith) (omega arith) in
     sym (other_acknowledged g.F.Framing.format _ v c.args.ticket.0 keeps (sym fate ∙ sym c.is_numbered.ensures ∙ c.if-not-is_numbered.true))
 
-pub returns-then-some_goes_on : goal.returns-then-some_goes_on
-unfolding StandsFor
-returns-then-some_goes_on g c = λ v stands.
-    let s = c.self.inside in
-    let keeps = subst (λ (k : Kept). Keeps g.F.Framing.format k v) (sym c.self.view_is) stands in
-    let fate = ap is_numbered_fate c.index-fate.ensures ∙ numbered_read g.F.Framing.format _ v c.args.ticket.0 c.index-fate.result.now keeps (omega arith) (omega arith) in
-    let is = numbered_acknowledged g.F.Framing.format _ v c.args.ticket.0 keeps (sym fate ∙ sym c.is_numbered.ensures ∙ c.if-not-is_numbered.false) in
-    let on = sym (rw c.deref.ensures.value at (c.some_goes_on.ensures s.fragment)) ∙ c.if-some_goes_on.true in
-    rw on at is
-
 pub returns : goal.returns
 unfolding StandsFor
 returns g c = λ v stands.
@@ -41,5 +31,4 @@ returns g c = λ v stands.
     let keeps = subst (λ (k : Kept). Keeps g.F.Framing.format k v) (sym c.self.view_is) stands in
     let fate = ap is_numbered_fate c.index-fate.ensures ∙ numbered_read g.F.Framing.format _ v c.args.ticket.0 c.index-fate.result.now keeps (omega arith) (omega arith) in
     let is = numbered_acknowledged g.F.Framing.format _ v c.args.ticket.0 keeps (sym fate ∙ sym c.is_numbered.ensures ∙ c.if-not-is_numbered.false) in
-    let off = sym (rw c.deref.ensures.value at (c.some_goes_on.ensures s.fragment)) ∙ c.if-some_goes_on.false in
-    rw (c.some_uncovered.ensures s.fragment) (rw off at is)
+    rw (c.is_all_covered.ensures s.fragment, c.deref.ensures.value) is

@@ -1,9 +1,9 @@
-use Rattle.std.proofs.Common.{◌≡◌, ◌∙◌, ℕ, ◌<◌, ◌≤◌, map, length, subst, sym, refl, ap, arith, inl, inr, deque_len, vec_len}
+use Rattle.std.proofs.Common.{◌≡◌, length, subst, sym, arith, deque_len}
 use Rattle.std.proofs.lemmas.List.{length-map}
-use Rattle.sctp_send.specs.OutstandingFields.{item_said}
+use Rattle.sctp_send.specs.OutstandingFields.{item_meaning}
 use Rattle.sctp_send.specs.SenderKept.{Kept}
-use Rattle.sctp_send.specs.SenderFields.{queued_by, track_said}
-use Rattle.sctp_send.specs.SenderStands.{StandsFor, Keeps, is_given_up_fate, total, one_if_rest}
+use Rattle.sctp_send.specs.SenderFields.{queued_by}
+use Rattle.sctp_send.specs.SenderStands.{StandsFor, Keeps}
 use Rattle.sctp_send.proofs.ReaderLemmas.{some_waits, some_in_part, nothing_waits}
 use Rattle.sctp_send.proofs.sender.Sender.drained.Goals as goal
 
@@ -30,7 +30,7 @@ returns g c = λ v stands.
     let s = c.self.inside in
     let keeps = subst (λ (k : Kept). Keeps g.F.Framing.format k v) (sym c.self.view_is) stands in
     let long = length-map s.queue.items (queued_by s.fragment) in
-    let more = length-map s.outstanding.items (item_said s.fragment) in
+    let more = length-map s.outstanding.items (item_meaning s.fragment) in
     let parts = rw c.deref.ensures.value at (c.in_part.ensures s.fragment) in
     let is = nothing_waits g.F.Framing.format _ v keeps (omega arith) (omega (arith, parts)) in
     let n : deque_len s.outstanding ≡ length s.outstanding.items = omega arith in

@@ -1,15 +1,15 @@
 use Rattle.std.proofs.Common.{◌≡◌, ℕ, zero, suc, List, ◌∷◌, map, refl, ap, deque_capacity}
-use Rattle.std.specs.Prelude.{replicate, None}
+use Rattle.std.specs.Prelude.{replicate}
 use Rattle.sctp_send.specs.SenderKept.{Track}
-use Rattle.sctp_send.specs.SenderFields.{track_said}
+use Rattle.sctp_send.specs.SenderFields.{track_meaning}
 use Rattle.sctp_send.specs.SenderStands.{StandsFor}
 use Rattle.sctp_send.specs.declared.sender.Track.{Track as TrackFields}
 use Rattle.sctp_send.proofs.KeepLemmas.{keeps_fresh}
 use Rattle.sctp_send.proofs.sender.Sender.new.Goals as goal
 
-map-replicate : (size n : ℕ) (t : TrackFields) → map (track_said size) (replicate n t) ≡ replicate n (track_said size t)
+map-replicate : (size n : ℕ) (t : TrackFields) → map (track_meaning size) (replicate n t) ≡ replicate n (track_meaning size t)
 map-replicate size zero t = refl
-map-replicate size (suc n) t = ap (λ (ts : List Track). track_said size t ∷ ts) (map-replicate size n t)
+map-replicate size (suc n) t = ap (λ (ts : List Track). track_meaning size t ∷ ts) (map-replicate size n t)
 
 pub returns : goal.returns
 unfolding StandsFor

@@ -1,6 +1,6 @@
-use Rattle.std.proofs.Common.{◌≡◌, ◌∙◌, ℕ, map, length, subst, sym, refl, ap, arith}
+use Rattle.std.proofs.Common.{subst, sym}
 use Rattle.std.proofs.lemmas.List.{length-map}
-use Rattle.sctp_send.specs.OutstandingFields.{item_said}
+use Rattle.sctp_send.specs.OutstandingFields.{item_meaning}
 use Rattle.sctp_send.specs.SenderKept.{Kept}
 use Rattle.sctp_send.specs.SenderStands.{StandsFor, Keeps}
 use Rattle.sctp_send.proofs.ReaderLemmas.{outstanding_is}
@@ -12,5 +12,5 @@ returns g c = λ v stands.
     let s = c.self.inside in
     let keeps = subst (λ (k : Kept). Keeps g.F.Framing.format k v) (sym c.self.view_is) stands in
     let is = outstanding_is g.F.Framing.format _ v keeps in
-    let long = length-map s.outstanding.items (item_said s.fragment) in
+    let long = length-map s.outstanding.items (item_meaning s.fragment) in
     rw (c.count_of.ensures, c.in_part.ensures s.fragment, c.deref.ensures.value) (rw long at is)

@@ -1,9 +1,8 @@
-use Rattle.std.proofs.Common.{◌≡◌, ◌∙◌, ℕ, ◌<◌, ◌≤◌, map, length, subst, sym, refl, ap, arith, inl, inr, deque_len, vec_len}
+use Rattle.std.proofs.Common.{◌≡◌, length, subst, sym, arith, deque_len}
 use Rattle.std.proofs.lemmas.List.{length-map}
-use Rattle.sctp_send.specs.OutstandingFields.{item_said}
+use Rattle.sctp_send.specs.OutstandingFields.{item_meaning}
 use Rattle.sctp_send.specs.SenderKept.{Kept}
-use Rattle.sctp_send.specs.SenderFields.{queued_by, track_said}
-use Rattle.sctp_send.specs.SenderStands.{StandsFor, Keeps, is_given_up_fate, total, one_if_rest}
+use Rattle.sctp_send.specs.SenderStands.{StandsFor, Keeps}
 use Rattle.sctp_send.proofs.QueueLemmas.{promised_is}
 use Rattle.sctp_send.proofs.sender.Sender.promised.Goals as goal
 
@@ -13,6 +12,6 @@ returns g c = λ v stands.
     let s = c.self.inside in
     let keeps = subst (λ (k : Kept). Keeps g.F.Framing.format k v) (sym c.self.view_is) stands in
     let is = promised_is g.F.Framing.format _ v keeps in
-    let long = length-map s.outstanding.items (item_said s.fragment) in
+    let long = length-map s.outstanding.items (item_meaning s.fragment) in
     let n : deque_len s.outstanding ≡ length s.outstanding.items = omega arith in
     rw (c.from.ensures, c.len.ensures, n, c.owed_by_queue.ensures, c.owed_by_tracks.ensures, c.deref.ensures.value) (rw long at is)

@@ -1,10 +1,9 @@
-use Rattle.std.proofs.Common.{◌≡◌, ◌∙◌, ℕ, ◌<◌, ◌≤◌, map, length, subst, sym, refl, ap, arith, inl, inr, deque_len, vec_len}
+use Rattle.std.proofs.Common.{◌≡◌, ◌∙◌, ℕ, length, subst, sym, refl, ap, arith, vec_len}
 use Rattle.std.proofs.lemmas.List.{length-map}
-use Rattle.sctp_send.specs.OutstandingFields.{item_said}
 use Rattle.sctp_send.specs.SenderKept.{Kept}
-use Rattle.sctp_send.specs.SenderFields.{queued_by, track_said}
-use Rattle.sctp_send.specs.SenderStands.{StandsFor, Keeps, is_given_up_fate, total, one_if_rest}
-use Rattle.std.proofs.Common.{◌%◌, ◌^◌, ◌+◌, ◌∷◌, ◌++◌, [], List, suc, true, is_ok}
+use Rattle.sctp_send.specs.SenderFields.{queued_by}
+use Rattle.sctp_send.specs.SenderStands.{StandsFor, Keeps}
+use Rattle.std.proofs.Common.{◌%◌, ◌^◌, ◌+◌, ◌∷◌, ◌++◌, [], List, true, is_ok}
 use Rattle.std.proofs.lemmas.List.{map-append}
 use Rattle.sctp_model.specs.sender.Queueing.{cut, owed_for}
 use Rattle.sctp_send.specs.SenderAnswers.{lane_for}

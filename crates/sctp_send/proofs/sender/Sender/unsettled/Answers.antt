@@ -1,9 +1,6 @@
-use Rattle.std.proofs.Common.{◌≡◌, ◌∙◌, ℕ, ◌<◌, ◌≤◌, map, length, subst, sym, refl, ap, arith, inl, inr}
-use Rattle.std.proofs.lemmas.List.{length-map}
-use Rattle.sctp_send.specs.OutstandingFields.{item_said}
+use Rattle.std.proofs.Common.{◌∙◌, subst, sym}
 use Rattle.sctp_send.specs.SenderKept.{Kept}
-use Rattle.sctp_send.specs.SenderFields.{queued_by, track_said}
-use Rattle.sctp_send.specs.SenderStands.{StandsFor, Keeps, is_given_up_fate, total, one_if_rest}
+use Rattle.sctp_send.specs.SenderStands.{StandsFor, Keeps}
 use Rattle.sctp_send.proofs.ReaderLemmas.{some_is_unsettled, point_alone}
 use Rattle.sctp_send.proofs.sender.Sender.unsettled.Goals as goal
 

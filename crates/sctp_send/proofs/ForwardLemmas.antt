@@ -1,0 +1,256 @@
+-- The FORWARD, from what a sender keeps: the largest numbers that were passed, as entries on the wire.
+use Rattle.std.proofs.Common.{◌≡◌, ℕ, zero, suc, ◌+◌, ◌-◌, ◌*◌, ◌%◌, ◌^◌, ◌<◌, ◌≤◌, ◌⊎◌, inl, inr, List, [], ◌∷◌, ◌++◌, length, map, take, drop, Bool, true, false, Option, Some, None, refl, sym, ap, ◌∙◌, arith, get_or, append_assoc}
+use Rattle.std.specs.Prelude.{◌==◌, ◌&&◌, nat_lt, if◌then◌else◌}
+use Rattle.std.specs.List.{AllByRecursion}
+use Rattle.std.proofs.lemmas.List.{length-map, map-append, length-take-le}
+use Rattle.std.proofs.lemmas.Bool.Decides.{nat_tests}
+use Rattle.sctp_model.specs.Format.{Format, Plain, Interleaved, Lane, same_kind, same_lane, is_numbered}
+use Rattle.sctp_model.specs.Framing.{kind_of, wire_number, forward_chunk}
+use Rattle.sctp_model.specs.Serial.{tsn}
+use Rattle.sctp_model.specs.Plan.{Entry}
+use Rattle.sctp_model.specs.Chunk.{SkipMeaning, ForwardMeaning, chunk_length}
+use Rattle.sctp_model.specs.Packet.{size_of_packet}
+use Rattle.sctp_model.specs.SenderView.{SenderView}
+use Rattle.sctp_model.specs.sender.Entries.{entry_lane, entry_number}
+use Rattle.sctp_model.specs.sender.Readers.{point}
+use Rattle.sctp_model.specs.sender.Forwarding.{larger, largest_in, passed, skip_in, skip_of, skips_on, skips_below}
+use Rattle.sctp_model.specs.sender.SentChunks.{is_unordered, skip_said, forward_said}
+use Rattle.sctp_model.proofs.sender.OwedLaws.{is_promised}
+use Rattle.sctp_wire.specs.declared.chunk.Chunk.{Chunk}
+use Rattle.sctp_wire.specs.declared.skips.SkipForm.{SkipForm}
+use Rattle.sctp_wire.specs.ChunkTree.{chunk_meaning}
+use Rattle.sctp_wire.specs.Skips.{skip_size, skips_in, IsSkip, SkipList, skip_list}
+use Rattle.sctp_wire.specs.Layouts.{Fits}
+use Rattle.sctp_packet.specs.Draft.{Draft, room_in, has_room}
+use Rattle.sctp_packet.proofs.DraftLemmas.{size_of_more}
+use Rattle.sctp_framing.specs.SkipForms.{skip_form}
+use Rattle.sctp_send.specs.SenderKept.{Item, Kept}
+use Rattle.sctp_send.specs.OutstandingFields.{lane_meaning, lane_of, entry_meaning, item_meaning, entries_of}
+use Rattle.sctp_send.specs.SenderStands.{items_from, given_up_items, Keeps}
+use Rattle.sctp_send.specs.declared.outstanding.Place.{Place}
+use Rattle.sctp_send.specs.declared.outstanding.Place.TheVariants.{Fragment, EndMark}
+use Rattle.sctp_send.specs.declared.outstanding.Outstanding.{Outstanding}
+use Rattle.sctp_send.proofs.KeepLemmas.{kept_length}
+use Rattle.sctp_send.proofs.ReaderLemmas.{none_behind, run_items, run_within}
+
+-- ---- one entry
+
+lane_said : (l : Lane) (n : ℕ) (p : Place) → entry_lane (entry_meaning l n p) ≡ l
+lane_said l n (Fragment k) = refl
+lane_said l n EndMark = refl
+
+number_said : (l : Lane) (n : ℕ) (p : Place) → entry_number (entry_meaning l n p) ≡ n
+number_said l n (Fragment k) = refl
+number_said l n EndMark = refl
+
+kinds_differ : (a b : Bool) → (a ≡ b → ⊥) → same_kind (kind_of b) (kind_of a) ≡ false
+kinds_differ true true ne = absurd (ne refl)
+kinds_differ true false ne = refl
+kinds_differ false true ne = refl
+kinds_differ false false ne = absurd (ne refl)
+
+kind_itself : (b : Bool) → same_kind (kind_of b) (kind_of b) ≡ true
+kind_itself true = refl
+kind_itself false = refl
+
+-- an entry of the lane counts
+pub counts : (size stream : ℕ) (unordered : Bool) (found : Option ℕ) (e : Outstanding) → e.message.value.stream ≡ stream → e.message.value.unordered ≡ unordered
+    → largest_in (lane_of stream unordered) found ((item_meaning size e).entry ∷ []) ≡ larger found e.number
+counts size stream unordered found e on kind =
+    let here : (stream == e.message.value.stream) ≡ true = grind (arith, nat_tests) in
+    let lane : same_lane (lane_of stream unordered) (lane_meaning e.message.value) ≡ true = rw (here, kind) (kind_itself unordered) in
+    rw (lane_said (lane_meaning e.message.value) e.number e.place, number_said (lane_meaning e.message.value) e.number e.place, lane) refl
+
+-- an entry of another lane doesn't
+pub passes_by : (size stream : ℕ) (unordered : Bool) (found : Option ℕ) (e : Outstanding) → (e.message.value.stream ≡ stream → ⊥) ⊎ (e.message.value.unordered ≡ unordered → ⊥)
+    → largest_in (lane_of stream unordered) found ((item_meaning size e).entry ∷ []) ≡ found
+passes_by size stream unordered found e other =
+    let lane : same_lane (lane_of stream unordered) (lane_meaning e.message.value) ≡ false = apart other in
+    rw (lane_said (lane_meaning e.message.value) e.number e.place, lane) refl
+  where
+    with_false : (b : Bool) → (b && false) ≡ false
+    with_false true = refl
+    with_false false = refl
+
+    off : (b : Bool) → (stream == e.message.value.stream) ≡ b → (e.message.value.stream ≡ stream → ⊥) → b ≡ false
+    off false is ne = refl
+    off true is ne = absurd (ne (grind (arith, nat_tests)))
+
+    apart : (e.message.value.stream ≡ stream → ⊥) ⊎ (e.message.value.unordered ≡ unordered → ⊥) → same_lane (lane_of stream unordered) (lane_meaning e.message.value) ≡ false
+    apart (inl ne) = rw (off (stream == e.message.value.stream) refl ne) refl
+    apart (inr ne) = rw (kinds_differ e.message.value.unordered unordered ne) (with_false (stream == e.message.value.stream))
+
+-- ---- entry by entry
+
+entries_step : (l : Lane) (found : Option ℕ) (es : List Entry) (at : ℕ) (d : Entry) → at < length es → largest_in l found (drop at es) ≡ largest_in l (largest_in l found (get_or es at d ∷ [])) (drop (suc at) es)
+entries_step l found [] at d lt = absurd (omega arith)
+entries_step l found (e ∷ es) zero d lt = refl
+entries_step l found (e ∷ es) (suc at) d lt = entries_step l found es at d (omega arith)
+
+-- the entries of the first `run` items
+first_length : (size run : ℕ) (es : List Outstanding) → run ≤ length es → length (entries_of (map (item_meaning size) (take run es))) ≡ run
+first_length size run es le =
+    length-map (map (item_meaning size) (take run es)) (λ x. x.entry) ∙ length-map (take run es) (item_meaning size) ∙ length-take-le run es le
+
+first_read : (size run at : ℕ) (es : List Outstanding) (x : Outstanding) → at < run → x ≡ get_or es at x
+    → get_or (entries_of (map (item_meaning size) (take run es))) at (item_meaning size x).entry ≡ (item_meaning size x).entry
+first_read size run at es x lt read = of_map run es at x lt ∙ ap (λ (y : Outstanding). (item_meaning size y).entry) (sym read)
+  where
+    of_map : (n : ℕ) (ds : List Outstanding) (j : ℕ) (d : Outstanding) → j < n → get_or (entries_of (map (item_meaning size) (take n ds))) j (item_meaning size d).entry ≡ (item_meaning size (get_or ds j d)).entry
+    of_map zero ds j d less = absurd (omega arith)
+    of_map (suc n) [] j d less = refl
+    of_map (suc n) (y ∷ ds) zero d less = refl
+    of_map (suc n) (y ∷ ds) (suc j) d less = of_map n ds j d (omega arith)
+
+pub walked_largest : (size stream run at : ℕ) (unordered : Bool) (found next : Option ℕ) (es : List Outstanding) (x : Outstanding) → run ≤ length es → at < run → x ≡ get_or es at x
+    → next ≡ largest_in (lane_of stream unordered) found ((item_meaning size x).entry ∷ [])
+    → largest_in (lane_of stream unordered) None (entries_of (map (item_meaning size) (take run es))) ≡ largest_in (lane_of stream unordered) found (drop at (entries_of (map (item_meaning size) (take run es))))
+    → largest_in (lane_of stream unordered) None (entries_of (map (item_meaning size) (take run es))) ≡ largest_in (lane_of stream unordered) next (drop (at + 1) (entries_of (map (item_meaning size) (take run es))))
+walked_largest size stream run at unordered found next es x le lt read is before =
+    let one : at + 1 ≡ suc at = omega arith in
+    let long = first_length size run es le in
+    before ∙ entries_step (lane_of stream unordered) found (entries_of (map (item_meaning size) (take run es))) at (item_meaning size x).entry (omega arith)
+    ∙ rw (first_read size run at es x lt read, ← is, one) refl
+
+pub ended_largest : (size stream run at : ℕ) (unordered : Bool) (found : Option ℕ) (es : List Outstanding) → run ≤ length es → run ≤ at
+    → largest_in (lane_of stream unordered) None (entries_of (map (item_meaning size) (take run es))) ≡ largest_in (lane_of stream unordered) found (drop at (entries_of (map (item_meaning size) (take run es))))
+    → found ≡ largest_in (lane_of stream unordered) None (entries_of (map (item_meaning size) (take run es)))
+ended_largest size stream run at unordered found es le past before =
+    let long = first_length size run es le in
+    sym (before ∙ ap (largest_in (lane_of stream unordered) found) (none_behind at (entries_of (map (item_meaning size) (take run es))) (omega arith)))
+
+-- ---- an entry on the wire
+
+kind_said : (unordered : Bool) → is_unordered (kind_of unordered) ≡ unordered
+kind_said true = refl
+kind_said false = refl
+
+pub skip_here : (f : Format) (stream n : ℕ) (unordered : Bool) → skip_said f (record { lane = lane_of stream unordered; number = n }) ≡ record { stream = stream; unordered = unordered; number = wire_number f (kind_of unordered) n }
+skip_here f stream n unordered = rw (kind_said unordered) refl
+
+pub skip_fits : (f : Format) (stream n : ℕ) (unordered : Bool) → stream < 2 ^ 16 → is_numbered f (kind_of unordered) ≡ true
+    → IsSkip (skip_form f) (record { stream = stream; unordered = unordered; number = wire_number f (kind_of unordered) n })
+skip_fits Plain stream n true small on = absurd (cc)
+skip_fits Plain stream n false small on = (small, omega arith, refl)
+skip_fits Interleaved stream n unordered small on = (small, omega arith)
+
+-- one stream more
+pub lanes_more : (f : Format) (es : List Entry) (s : ℕ) (before half after : List SkipMeaning) → half ≡ before ++ map (skip_said f) (skip_of f es (lane_of s false)) → after ≡ half ++ map (skip_said f) (skip_of f es (lane_of s true))
+    → before ≡ map (skip_said f) (skips_below f es s) → after ≡ map (skip_said f) (skips_below f es (s + 1))
+lanes_more f es s before half after ordered unordered is =
+    let one : s + 1 ≡ suc s = omega arith in
+    unordered ∙ rw (ordered, is, one, map-append (skip_said f) (skips_below f es s) (skips_on f es s), map-append (skip_said f) (skip_of f es (lane_of s false)) (skip_of f es (lane_of s true)))
+    (append_assoc (map (skip_said f) (skips_below f es s)) (map (skip_said f) (skip_of f es (lane_of s false))) (map (skip_said f) (skip_of f es (lane_of s true))))
+
+pub none_in : (f : Format) → skips_in (skip_form f) [] ≡ []
+unfolding skips_in
+none_in Plain = refl
+none_in Interleaved = refl
+
+pub none_counted : (f : Format) (xs : List ℕ) → xs ≡ [] → (length xs ≡ skip_size (skip_form f) * length (skips_in (skip_form f) xs)) × (skips_in (skip_form f) xs ≡ [])
+none_counted f xs is = rw is (count f, none_in f)
+  where
+    count : (g : Format) → 0 ≡ skip_size (skip_form g) * length (skips_in (skip_form g) [])
+    count Plain = rw (none_in Plain) refl
+    count Interleaved = rw (none_in Interleaved) refl
+
+-- ---- the whole chunk
+
+forward_length : (f : Format) (x : ForwardMeaning) → chunk_length (forward_chunk f x) ≡ 8 + skip_size (skip_form f) * length x.skips
+forward_length Plain x = refl
+forward_length Interleaved x = refl
+
+all_joined : {A : Type 0} (P : A → Type 0) (xs ys : List A) → AllByRecursion P xs → AllByRecursion P ys → AllByRecursion P (xs ++ ys)
+all_joined P [] ys h k = k
+all_joined P (x ∷ xs) ys h k = (h.0, all_joined P xs ys h.1 k)
+
+lane_fits : (f : Format) (es : List Entry) (stream : ℕ) (unordered : Bool) → stream < 2 ^ 16 → AllByRecursion (IsSkip (skip_form f)) (map (skip_said f) (skip_of f es (lane_of stream unordered)))
+lane_fits f es stream unordered small = by_kind (is_numbered f (kind_of unordered)) refl
+  where
+    by_largest : is_numbered f (kind_of unordered) ≡ true → (o : Option ℕ) → AllByRecursion (IsSkip (skip_form f)) (map (skip_said f) (skip_in (lane_of stream unordered) o))
+    by_largest on None = tt
+    by_largest on (Some n) = rw (kind_said unordered) (skip_fits f stream n unordered small on, tt)
+
+    by_kind : (b : Bool) → is_numbered f (kind_of unordered) ≡ b → AllByRecursion (IsSkip (skip_form f)) (map (skip_said f) (if b then skip_in (lane_of stream unordered) (largest_in (lane_of stream unordered) None es) else []))
+    by_kind false off = tt
+    by_kind true on = by_largest on (largest_in (lane_of stream unordered) None es)
+
+-- the entries of a FORWARD are within their bits
+pub all_fit : (f : Format) (es : List Entry) (streams : ℕ) → streams ≤ 2 ^ 16 → AllByRecursion (IsSkip (skip_form f)) (map (skip_said f) (skips_below f es streams))
+all_fit f es zero le = tt
+all_fit f es (suc s) le =
+    rw (map-append (skip_said f) (skips_below f es s) (skips_on f es s), map-append (skip_said f) (skip_of f es (lane_of s false)) (skip_of f es (lane_of s true)))
+    (all_joined (IsSkip (skip_form f)) (map (skip_said f) (skips_below f es s)) (map (skip_said f) (skip_of f es (lane_of s false)) ++ map (skip_said f) (skip_of f es (lane_of s true))) (all_fit f es s (omega arith))
+    (all_joined (IsSkip (skip_form f)) (map (skip_said f) (skip_of f es (lane_of s false))) (map (skip_said f) (skip_of f es (lane_of s true))) (lane_fits f es s false (omega arith)) (lane_fits f es s true (omega arith))))
+
+pub forward_fits : (f : Format) (x : ForwardMeaning) → x.cumulative < 2 ^ 32 → AllByRecursion (IsSkip (skip_form f)) x.skips → skip_size (skip_form f) * length x.skips < 65528 → Fits (forward_chunk f x)
+forward_fits Plain x small skips few = record { fields = record { cumulative = small; skips = skips }; length = omega (arith, few); plain = tt }
+forward_fits Interleaved x small skips few = record { fields = record { cumulative = small; skips = skips }; length = omega (arith, few); plain = tt }
+
+-- no room for so many entries
+pub no_room : (f : Format) (d : Draft) (x : ForwardMeaning) → room_in d - 8 < skip_size (skip_form f) * length x.skips → has_room d (forward_chunk f x) ≡ false
+no_room f d x over =
+    let more = size_of_more d.chunks (forward_chunk f x) in
+    let long = forward_length f x in
+    let past : d.limit < size_of_packet (d.chunks ++ forward_chunk f x ∷ []) = omega (arith, more, long, over) in
+    grind (arith, nat_tests)
+
+-- ---- what is kept, and the view
+
+entries_back : (v : SenderView) (i : ℕ) (es : List Entry) → entries_of (items_from v i es) ≡ es
+entries_back v i [] = refl
+entries_back v i (e ∷ es) = ap (λ (xs : List Entry). e ∷ xs) (entries_back v (suc i) es)
+
+first_entries : (size run : ℕ) (es : List Outstanding) → entries_of (map (item_meaning size) (take run es)) ≡ take run (entries_of (map (item_meaning size) es))
+first_entries size zero es = refl
+first_entries size (suc run) [] = refl
+first_entries size (suc run) (e ∷ es) = ap (λ (xs : List Entry). (item_meaning size e).entry ∷ xs) (first_entries size run es)
+
+-- how far the point is past CUM
+pub record IsPassed (v : SenderView) (run : ℕ) : Type 0 where
+  pub point : point v ≡ v.cum + run
+  pub within : v.cum + run < 2 ^ 31
+
+pub is_passed : (f : Format) (s : Kept) (v : SenderView) → Keeps f s v → IsPassed v (given_up_items s.items % 2 ^ 32)
+is_passed f s v k =
+    let run = ap given_up_items k.holds.items ∙ run_items v (suc v.cum) (drop v.cum v.plan.entries) in
+    let within = run_within s.items in
+    let long = kept_length f s v k in
+    let most = is_promised f v k.reached in
+    record { point = omega (arith, run, within, long, most); within = omega (arith, run, within, long, most) }
+
+pub entries_passed : (f : Format) (s : Kept) (v : SenderView) (size run : ℕ) (es : List Outstanding) → Keeps f s v → s.items ≡ map (item_meaning size) es → IsPassed v run
+    → entries_of (map (item_meaning size) (take run es)) ≡ passed v
+entries_passed f s v size run es k is p =
+    let count : point v - v.cum ≡ run = omega (arith, p.point) in
+    first_entries size run es ∙ ap (λ (xs : List Item). take run (entries_of xs)) (sym is ∙ k.holds.items) ∙ ap (take run) (entries_back v (suc v.cum) (drop v.cum v.plan.entries))
+    ∙ rw count refl
+
+-- the chunk's cumulative TSN
+pub passed_tsn : (f : Format) (s : Kept) (v : SenderView) (run : ℕ) → Keeps f s v → IsPassed v run → tsn s.initial ((s.cum + run) % 2 ^ 32) ≡ tsn v.initial (point v)
+passed_tsn f s v run k p =
+    let there : (v.cum + run) % 2 ^ 32 ≡ point v = omega (arith, p.point, p.within) in
+    rw (k.holds.initial, k.holds.cum, there) refl
+
+-- the chunk, by what was put together
+pub forward_chunk_is : (f : Format) (chunk : Chunk) (cumulative : ℕ) (form : SkipForm) (bytes xs : List ℕ) (skips : SkipList) → chunk_meaning chunk ≡ forward_chunk f (record { cumulative = cumulative; skips = skips.skips })
+    → skips ≡ skip_list form bytes → form ≡ skip_form f → bytes ≡ xs → chunk_meaning chunk ≡ forward_chunk f (record { cumulative = cumulative; skips = skips_in (skip_form f) xs })
+forward_chunk_is f chunk cumulative form bytes xs skips is list by_form by_bytes =
+    is ∙ ap (λ (l : SkipList). forward_chunk f (record { cumulative = cumulative; skips = l.skips })) list ∙ rw (by_form, by_bytes) refl
+
+pub not_passed : (v : SenderView) (run : ℕ) → IsPassed v run → run ≡ 0 → nat_lt v.cum (point v) ≡ false
+not_passed v run p none = let there = p.point in grind (arith, nat_tests)
+
+pub some_passed : (v : SenderView) (run : ℕ) → IsPassed v run → (run ≡ 0 → ⊥) → nat_lt v.cum (point v) ≡ true
+some_passed v run p some = let there = p.point in let lt : 0 < run = omega arith in grind (arith, nat_tests)
+
+-- the FORWARD is the one that the view says
+pub forward_is : (f : Format) (s : Kept) (v : SenderView) (size run cumulative : ℕ) (es : List Outstanding) (xs : List SkipMeaning) → Keeps f s v → s.items ≡ map (item_meaning size) es → IsPassed v run
+    → xs ≡ map (skip_said f) (skips_below f (entries_of (map (item_meaning size) (take run es))) s.streams) → cumulative ≡ tsn v.initial (point v) → record { cumulative = cumulative; skips = xs } ≡ forward_said f v
+forward_is f s v size run cumulative es xs k items p is tsn_is =
+    let streams = k.holds.streams in
+    rw (tsn_is, is, entries_passed f s v size run es k items p, streams) refl
+
+pub with_false : (b : Bool) → (b && false) ≡ false
+with_false true = refl
+with_false false = refl

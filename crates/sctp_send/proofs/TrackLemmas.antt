@@ -1,0 +1,49 @@
+-- What a stream goes on with: taken out, as clauses see it.
+use Rattle.std.proofs.Common.{◌≡◌, ℕ, zero, suc, ◌<◌, List, [], ◌∷◌, length, map, set, get_or, Option, Some, None, refl, sym, ap, ◌∙◌, arith, IfSome, IfNone, slice_get}
+use Rattle.std.proofs.lemmas.List.{length-map, map-set}
+use Rattle.std.proofs.lemmas.Option.{get_or_from_slice_get}
+use Rattle.sctp_send.specs.SenderKept.{Track}
+use Rattle.sctp_send.specs.SenderFields.{rest_meaning, rests_meaning, track_meaning}
+use Rattle.sctp_send.specs.SenderStands.{rest_has, GoesOnAt, EndsAt}
+use Rattle.sctp_send.specs.declared.sender.Rest.{Rest as RestFields}
+use Rattle.sctp_send.specs.declared.sender.Track.{Track as TrackFields}
+use Rattle.sctp_send.proofs.ReaderLemmas.{track_read}
+
+pub rest_taken : (size t at : ℕ) (ts : List TrackFields) (x : TrackFields) → x ≡ get_or ts at x → GoesOnAt t at (map (track_meaning size) ts)
+    → IfSome x.rest (λ rest. EndsAt t (rest_meaning size rest) (map (track_meaning size) ts) (map (track_meaning size) (set ts at (record x { rest = None }))))
+rest_taken size t at ts x read g = by_rest x.rest refl
+  where
+    same : g.track ≡ track_meaning size x
+    same = sym (get_or_from_slice_get (map (track_meaning size) ts) at g.track (track_meaning size x) g.there) ∙ track_read size ts at x read
+
+    by_rest : (o : Option RestFields) → x.rest ≡ o → IfSome o (λ rest. EndsAt t (rest_meaning size rest) (map (track_meaning size) ts) (map (track_meaning size) (set ts at (record x { rest = None }))))
+    by_rest None is = tt
+    by_rest (Some r) is =
+        let rest : g.track.rest ≡ Some (rest_meaning size r) = ap (λ (y : Track). y.rest) same ∙ ap (rests_meaning size) is in
+        record {
+          at = at;
+          track = g.track;
+          there = g.there;
+          rest = rest;
+          mine = sym (ap (rest_has t) rest) ∙ g.mine;
+          now = map-set (track_meaning size) ts at (record x { rest = None }) ∙ ap (λ (y : Track). set (map (track_meaning size) ts) at (record y { rest = None })) (sym same);
+        }
+
+-- a stream that goes on is one of them, and goes on with something
+pub within_there : (size t at : ℕ) (ts : List TrackFields) → GoesOnAt t at (map (track_meaning size) ts) → at < length ts
+within_there size t at ts g = let long = length-map ts (track_meaning size) in let lt = within (map (track_meaning size) ts) at g.track g.there in omega (arith, long, lt)
+  where
+    within : (xs : List Track) (i : ℕ) (y : Track) → slice_get xs i ≡ Some y → i < length xs
+    within [] i y is = absurd (cc)
+    within (x ∷ xs) zero y is = omega arith
+    within (x ∷ xs) (suc i) y is = let rest = within xs i y is in omega arith
+
+pub never_none : (size t at : ℕ) (ts : List TrackFields) (x : TrackFields) (P : Type 0) → x ≡ get_or ts at x → GoesOnAt t at (map (track_meaning size) ts) → IfNone x.rest P
+never_none size t at ts x P read g = by_rest x.rest refl
+  where
+    same : g.track ≡ track_meaning size x
+    same = sym (get_or_from_slice_get (map (track_meaning size) ts) at g.track (track_meaning size x) g.there) ∙ track_read size ts at x read
+
+    by_rest : (o : Option RestFields) → x.rest ≡ o → IfNone o P
+    by_rest (Some r) is = tt
+    by_rest None is = let none : g.track.rest ≡ None = ap (λ (y : Track). y.rest) same ∙ ap (rests_meaning size) is in let off = sym (ap (rest_has t) none) ∙ g.mine in absurd (cc)

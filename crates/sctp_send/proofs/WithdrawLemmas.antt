@@ -1,0 +1,136 @@
+-- A message withdrawn: its place in the queue, and what is kept without it.
+use Rattle.std.proofs.Common.{◌≡◌, ℕ, zero, suc, ◌+◌, ◌-◌, ◌<◌, ◌≤◌, List, [], ◌∷◌, ◌++◌, length, map, take, drop, set, Bool, true, false, Option, Some, None, refl, sym, ap, ◌∙◌, arith, get_or, append-nil, take_all, OnSome, IfNone, IsSome, ◌↔◌, remove, deque_len}
+use Rattle.std.specs.Prelude.{◌==◌, nat_lt, if◌then◌else◌}
+use Rattle.std.proofs.lemmas.List.{length-map, map-append, take-map, drop-map}
+use Rattle.std.proofs.lemmas.Bool.Decides.{nat_tests}
+use Rattle.std.specs.declared.collections.VecDeque.{VecDeque}
+use Rattle.std.specs.declared.rc.Rc.{Rc}
+use Rattle.std.specs.declared.alloc.Global.{Global}
+use Rattle.sctp_model.specs.Format.{Format}
+use Rattle.sctp_model.specs.SenderView.{Queued, SenderView}
+use Rattle.std.specs.Option.{option_map_or}
+use Rattle.sctp_model.specs.sender.Abandoning.{Name, waits, without, name_of, give_up, abandon_after}
+use Rattle.sctp_model.specs.sender.Reached.{Abandons}
+use Rattle.sctp_model.proofs.sender.TicketLaws.{is_ticketed}
+use Rattle.sctp_model.proofs.sender.QueueLaws.{without_other, without_self}
+use Rattle.sctp_send.specs.SenderKept.{Kept}
+use Rattle.sctp_send.specs.SenderFields.{queued_by}
+use Rattle.sctp_send.specs.SenderStands.{table, fate_here, fate_named, Keeps}
+use Rattle.sctp_send.specs.declared.message.Message.{Message as MessageFields}
+use Rattle.sctp_send.specs.declared.message.Fate.TheVariants.{Waiting, Withdrawn}
+use Rattle.sctp_send.proofs.TableLemmas.{table-set}
+use Rattle.sctp_send.proofs.ReaderLemmas.{none_behind}
+
+-- ---- the place of a message that waits
+
+split_at : (t : ℕ) (qs : List Queued) (at : ℕ) (d : Queued) → at < length qs → take at qs ++ without t (drop at qs) ≡ take at qs ++ (if (get_or qs at d).message.ticket == t then drop (suc at) qs else get_or qs at d ∷ without t (drop (suc at) qs))
+split_at t [] at d lt = absurd (omega arith)
+split_at t (q ∷ qs) zero d lt = refl
+split_at t (q ∷ qs) (suc at) d lt = ap (λ (xs : List Queued). q ∷ xs) (split_at t qs at d (omega arith))
+
+take_more : (qs : List Queued) (at : ℕ) (d : Queued) (rest : List Queued) → at < length qs → take at qs ++ (get_or qs at d ∷ rest) ≡ take (suc at) qs ++ rest
+take_more [] at d rest lt = absurd (omega arith)
+take_more (q ∷ qs) zero d rest lt = refl
+take_more (q ∷ qs) (suc at) d rest lt = ap (λ (xs : List Queued). q ∷ xs) (take_more qs at d rest (omega arith))
+
+message_read : (size : ℕ) (ms : List (Rc MessageFields Global)) (i : ℕ) (x : Rc MessageFields Global) → x ≡ get_or ms i x → get_or (map (queued_by size) ms) i (queued_by size x) ≡ queued_by size x
+message_read size ms i x read = of_map ms i x ∙ ap (queued_by size) (sym read)
+  where
+    of_map : (ds : List (Rc MessageFields Global)) (j : ℕ) (d : Rc MessageFields Global) → get_or (map (queued_by size) ds) j (queued_by size d) ≡ queued_by size (get_or ds j d)
+    of_map [] j d = refl
+    of_map (e ∷ ds) zero d = refl
+    of_map (e ∷ ds) (suc j) d = of_map ds j d
+
+pub walked_place : (t size : ℕ) (ms : List (Rc MessageFields Global)) (at : ℕ) (x : Rc MessageFields Global) → at < length ms → x ≡ get_or ms at x → (x.value.ticket ≡ t → ⊥)
+    → without t (map (queued_by size) ms) ≡ take at (map (queued_by size) ms) ++ without t (drop at (map (queued_by size) ms))
+    → without t (map (queued_by size) ms) ≡ take (at + 1) (map (queued_by size) ms) ++ without t (drop (at + 1) (map (queued_by size) ms))
+walked_place t size ms at x lt read ne before =
+    let long = length-map ms (queued_by size) in
+    let off : (x.value.ticket == t) ≡ false = grind (arith, nat_tests) in
+    let here = message_read size ms at x read in
+    let one : at + 1 ≡ suc at = omega arith in
+    let split = split_at t (map (queued_by size) ms) at (queued_by size x) (omega arith) in
+    let more = take_more (map (queued_by size) ms) at (queued_by size x) (without t (drop (suc at) (map (queued_by size) ms))) (omega arith) in
+    before ∙ split ∙ rw (here, off, one) (rw here at more)
+
+pub found_place : (t size : ℕ) (ms : List (Rc MessageFields Global)) (at : ℕ) (x : Rc MessageFields Global) → at < length ms → x ≡ get_or ms at x → x.value.ticket ≡ t
+    → without t (map (queued_by size) ms) ≡ take at (map (queued_by size) ms) ++ without t (drop at (map (queued_by size) ms))
+    → without t (map (queued_by size) ms) ≡ take at (map (queued_by size) ms) ++ drop (at + 1) (map (queued_by size) ms)
+found_place t size ms at x lt read same before =
+    let long = length-map ms (queued_by size) in
+    let on : (x.value.ticket == t) ≡ true = grind (arith, nat_tests) in
+    let here = message_read size ms at x read in
+    let one : at + 1 ≡ suc at = omega arith in
+    let split = split_at t (map (queued_by size) ms) at (queued_by size x) (omega arith) in
+    before ∙ split ∙ rw (here, on, one) refl
+
+pub ended_place : (t size : ℕ) (ms : List (Rc MessageFields Global)) (at n : ℕ) → length ms ≤ at → n ≡ length ms
+    → without t (map (queued_by size) ms) ≡ take at (map (queued_by size) ms) ++ without t (drop at (map (queued_by size) ms))
+    → without t (map (queued_by size) ms) ≡ take n (map (queued_by size) ms) ++ drop (n + 1) (map (queued_by size) ms)
+ended_place t size ms at n le is before =
+    let long = length-map ms (queued_by size) in
+    let none = none_behind at (map (queued_by size) ms) (omega arith) in
+    let past = none_behind (n + 1) (map (queued_by size) ms) (omega arith) in
+    before ∙ rw (none, past) (ap (λ (xs : List Queued). xs ++ []) (all_taken at n (map (queued_by size) ms) (omega arith) (omega arith)))
+  where
+    all_taken : (a b : ℕ) (qs : List Queued) → length qs ≤ a → length qs ≤ b → take a qs ≡ take b qs
+    all_taken zero zero qs x y = refl
+    all_taken zero (suc b) [] x y = refl
+    all_taken zero (suc b) (q ∷ qs) x y = absurd (omega arith)
+    all_taken (suc a) zero [] x y = refl
+    all_taken (suc a) zero (q ∷ qs) x y = absurd (omega arith)
+    all_taken (suc a) (suc b) [] x y = refl
+    all_taken (suc a) (suc b) (q ∷ qs) x y = ap (λ (xs : List Queued). q ∷ xs) (all_taken a b qs (omega arith) (omega arith))
+
+-- what stands around the place, or all where it is past the end
+pub withdrawn_is : (size t p : ℕ) (old new : VecDeque (Rc MessageFields Global) Global) (taken : Option (Rc MessageFields Global)) → deque_len old ≡ length old.items
+    → OnSome taken (new.items ≡ remove old.items p) → IfNone taken (new ≡ old) → IsSome taken ↔ (p < deque_len old)
+    → without t (map (queued_by size) old.items) ≡ take p (map (queued_by size) old.items) ++ drop (p + 1) (map (queued_by size) old.items)
+    → map (queued_by size) new.items ≡ without t (map (queued_by size) old.items)
+withdrawn_is size t p old new (Some m) long items same some is =
+    let one : p + 1 ≡ suc p = omega arith in
+    ap (map (queued_by size)) items ∙ map-append (queued_by size) (take p old.items) (drop (suc p) old.items)
+    ∙ sym (is ∙ rw (one, take-map (queued_by size) p old.items, drop-map (queued_by size) (suc p) old.items) refl)
+withdrawn_is size t p old new None long items same some is =
+    let past : length old.items ≤ p = by_test (nat_lt p (deque_len old)) refl in
+    let count = length-map old.items (queued_by size) in
+    ap (λ (d : VecDeque (Rc MessageFields Global) Global). map (queued_by size) d.items) same
+    ∙ sym (is ∙ rw (none_behind (p + 1) (map (queued_by size) old.items) (omega arith), take_all p (map (queued_by size) old.items) (omega arith)) (append-nil (map (queued_by size) old.items)))
+  where
+    by_test : (b : Bool) → nat_lt p (deque_len old) ≡ b → length old.items ≤ p
+    by_test true on = let there = some.1 (let lt : p < deque_len old = grind (arith, nat_tests) in lt) in absurd (cc)
+    by_test false off = let le : deque_len old ≤ p = grind (arith, nat_tests) in omega (arith, le, long)
+
+-- ---- a message withdrawn
+
+pub keeps_withdrawn : (f : Format) (s : Kept) (v : SenderView) (t : ℕ) → Keeps f s v → waits t v.queue ≡ true → Keeps f (record s { queue = without t s.queue; fates = set s.fates (t - 1) Withdrawn }) (abandon_after v t)
+keeps_withdrawn f s v t k on =
+    let h = is_ticketed f v k.reached in
+    let w = h.waiting t on in
+    let low = w.0 in
+    let high = w.1 in
+    let u : SenderView = record v { queue = without t v.queue } in
+    let back : 1 + (t - 1) ≡ t = omega arith in
+    let self : fate_here u (1 + (t - 1)) ≡ Withdrawn = rw back (ap (λ (b : Bool). if b then Waiting else fate_named u (name_of u t)) (without_self t v.queue h.apart) ∙ ap (fate_named u) w.2) in
+    let others : (j : ℕ) → 1 ≤ j → j < 1 + v.tickets → (j ≡ 1 + (t - 1) → ⊥) → fate_here u j ≡ fate_here v j = λ j lo hi ne.
+    ap (λ (b : Bool). if b then Waiting else fate_named v (name_of v j)) (without_other t j v.queue (λ e. ne (omega arith))) in
+    let fates : set s.fates (t - 1) Withdrawn ≡ table (fate_here u) 1 v.tickets = rw (k.holds.fates, table-set (fate_here v) (fate_here u) 1 v.tickets (t - 1) (omega arith) others, self) refl in
+    let reached = Abandons v t k.reached in
+    let after : abandon_after v t ≡ u = ap (λ (o : Option Name). option_map_or (give_up v) o u) w.2 in
+    rw after (record {
+      holds = record {
+        initial = k.holds.initial;
+        streams = k.holds.streams;
+        fragment = k.holds.fragment;
+        partial = k.holds.partial;
+        cum = k.holds.cum;
+        rwnd = k.holds.rwnd;
+        turn = k.holds.turn;
+        items = k.holds.items;
+        queue = rw k.holds.queue refl;
+        tracks = k.holds.tracks;
+        fates = fates;
+        room = k.holds.room;
+      };
+      reached = rw after at reached;
+    })

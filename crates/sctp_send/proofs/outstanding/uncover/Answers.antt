@@ -1,0 +1,21 @@
+use Rattle.std.proofs.Common.{arith, ◌∙◌}
+use Rattle.sctp_send.specs.inner.Changes.{as_uncovered}
+use Rattle.sctp_send.proofs.ItemLemmas.{change_step, change_long, first_changed-all}
+use Rattle.sctp_send.proofs.CoverLemmas.{none_told}
+use Rattle.sctp_send.proofs.outstanding.uncover.Goals as goal
+
+pub index_mut-requires : goal.index_mut-requires
+index_mut-requires c = omega (arith, change_long as_uncovered c.loop-at.at c.args.outstanding.now.items c.loop-at.outstanding.items c.loop-at.invariant.items)
+
+pub loop-at-preserved : goal.loop-at-preserved
+loop-at-preserved c =
+    let before = c.loop-at.invariant in
+    let long = change_long as_uncovered c.loop-at.at c.args.outstanding.now.items c.loop-at.outstanding.items before.items in
+    record {
+      items = change_step as_uncovered c.loop-at.at c.args.outstanding.now.items c.loop-at.outstanding.items c.index_mut.result.now (omega (arith, long)) c.index_mut.ensures.value before.items;
+      capacity = before.capacity;
+    }
+
+pub returns-clause-items : goal.returns-clause-items
+returns-clause-items c =
+    c.loop-at.invariant.items ∙ first_changed-all as_uncovered c.loop-at.at c.args.outstanding.now.items (omega arith) ∙ none_told c.args.outstanding.now.items 1

@@ -1,0 +1,103 @@
+use Rattle.std.proofs.Common.{subst, sym, ap, arith, inl, inr}
+use Rattle.sctp_send.specs.SenderKept.{Kept}
+use Rattle.sctp_send.specs.SenderStands.{StandsFor, Keeps, is_numbered_fate}
+use Rattle.sctp_send.specs.declared.message.Fate.TheVariants.{Waiting, Numbered, Withdrawn, GivenUp}
+use Rattle.sctp_send.proofs.WithdrawLemmas.{keeps_withdrawn}
+use Rattle.sctp_send.proofs.AnswerLemmas.{fate_read, answered_unknown, AnsweredBy, answered_by}
+use Rattle.sctp_send.proofs.sender.Sender.abandon.Goals as goal
+
+pub returns-then-at-eq0-clause-answer : goal.returns-then-at-eq0-clause-answer
+unfolding StandsFor
+returns-then-at-eq0-clause-answer g c = λ v stands.
+    (answered_unknown g.F.Framing.format _ v c.args.ticket.0 stands (inl c.if-at-eq0.true)).answer
+
+pub returns-then-at-eq0-clause-step : goal.returns-then-at-eq0-clause-step
+unfolding StandsFor
+returns-then-at-eq0-clause-step g c = λ v stands.
+    rw (answered_unknown g.F.Framing.format _ v c.args.ticket.0 stands (inl c.if-at-eq0.true)).after stands
+
+pub returns-then-at-len-clause-answer : goal.returns-then-at-len-clause-answer
+unfolding StandsFor
+returns-then-at-len-clause-answer g c = λ v stands.
+    let s = c.self.inside in
+    let keeps = subst (λ (k : Kept). Keeps g.F.Framing.format k v) (sym c.self.view_is) stands in
+    (answered_unknown g.F.Framing.format _ v c.args.ticket.0 keeps (inr (omega arith))).answer
+
+pub returns-then-at-len-clause-step : goal.returns-then-at-len-clause-step
+unfolding StandsFor
+returns-then-at-len-clause-step g c = λ v stands.
+    let s = c.self.inside in
+    let keeps = subst (λ (k : Kept). Keeps g.F.Framing.format k v) (sym c.self.view_is) stands in
+    rw (answered_unknown g.F.Framing.format _ v c.args.ticket.0 keeps (inr (omega arith))).after stands
+
+pub returns-in-Withdrawn-clause-answer : goal.returns-in-Withdrawn-clause-answer
+unfolding StandsFor
+returns-in-Withdrawn-clause-answer g c = λ v stands.
+    let s = c.self.inside in
+    let keeps = subst (λ (k : Kept). Keeps g.F.Framing.format k v) (sym c.self.view_is) stands in
+    let fate = fate_read g.F.Framing.format _ v c.args.ticket.0 c.index.result.now Withdrawn keeps (omega arith) (omega arith) c.index.ensures c.in-Withdrawn.is in
+    let by = subst (AnsweredBy v c.args.ticket.0) fate (answered_by g.F.Framing.format _ v c.args.ticket.0 keeps (omega arith) (omega arith)) in
+    by.answer
+
+pub returns-in-Withdrawn-clause-step : goal.returns-in-Withdrawn-clause-step
+unfolding StandsFor
+returns-in-Withdrawn-clause-step g c = λ v stands.
+    let s = c.self.inside in
+    let keeps = subst (λ (k : Kept). Keeps g.F.Framing.format k v) (sym c.self.view_is) stands in
+    let fate = fate_read g.F.Framing.format _ v c.args.ticket.0 c.index.result.now Withdrawn keeps (omega arith) (omega arith) c.index.ensures c.in-Withdrawn.is in
+    let by = subst (AnsweredBy v c.args.ticket.0) fate (answered_by g.F.Framing.format _ v c.args.ticket.0 keeps (omega arith) (omega arith)) in
+    rw by.after stands
+
+pub returns-in-GivenUp-clause-answer : goal.returns-in-GivenUp-clause-answer
+unfolding StandsFor
+returns-in-GivenUp-clause-answer g c = λ v stands.
+    let s = c.self.inside in
+    let keeps = subst (λ (k : Kept). Keeps g.F.Framing.format k v) (sym c.self.view_is) stands in
+    let fate = fate_read g.F.Framing.format _ v c.args.ticket.0 c.index.result.now GivenUp keeps (omega arith) (omega arith) c.index.ensures c.in-GivenUp.is in
+    let by = subst (AnsweredBy v c.args.ticket.0) fate (answered_by g.F.Framing.format _ v c.args.ticket.0 keeps (omega arith) (omega arith)) in
+    by.answer
+
+pub returns-in-GivenUp-clause-step : goal.returns-in-GivenUp-clause-step
+unfolding StandsFor
+returns-in-GivenUp-clause-step g c = λ v stands.
+    let s = c.self.inside in
+    let keeps = subst (λ (k : Kept). Keeps g.F.Framing.format k v) (sym c.self.view_is) stands in
+    let fate = fate_read g.F.Framing.format _ v c.args.ticket.0 c.index.result.now GivenUp keeps (omega arith) (omega arith) c.index.ensures c.in-GivenUp.is in
+    let by = subst (AnsweredBy v c.args.ticket.0) fate (answered_by g.F.Framing.format _ v c.args.ticket.0 keeps (omega arith) (omega arith)) in
+    rw by.after stands
+
+pub returns-in-Waiting-clause-answer : goal.returns-in-Waiting-clause-answer
+unfolding StandsFor
+returns-in-Waiting-clause-answer g c = λ v stands.
+    let s = c.self.inside in
+    let keeps = subst (λ (k : Kept). Keeps g.F.Framing.format k v) (sym c.self.view_is) stands in
+    let fate = fate_read g.F.Framing.format _ v c.args.ticket.0 c.index.result.now Waiting keeps (omega arith) (omega arith) c.index.ensures c.in-Waiting.is in
+    let by = subst (AnsweredBy v c.args.ticket.0) fate (answered_by g.F.Framing.format _ v c.args.ticket.0 keeps (omega arith) (omega arith)) in
+    by.0
+
+pub returns-in-Waiting-clause-step : goal.returns-in-Waiting-clause-step
+unfolding StandsFor
+returns-in-Waiting-clause-step g c = λ v stands.
+    let s = c.self.inside in
+    let keeps = subst (λ (k : Kept). Keeps g.F.Framing.format k v) (sym c.self.view_is) stands in
+    let fate = fate_read g.F.Framing.format _ v c.args.ticket.0 c.index.result.now Waiting keeps (omega arith) (omega arith) c.index.ensures c.in-Waiting.is in
+    let by = subst (AnsweredBy v c.args.ticket.0) fate (answered_by g.F.Framing.format _ v c.args.ticket.0 keeps (omega arith) (omega arith)) in
+    rw (c.withdraw.ensures s.fragment) (keeps_withdrawn g.F.Framing.format _ v c.args.ticket.0 keeps by.1)
+
+pub returns-in-Numbered-clause-answer : goal.returns-in-Numbered-clause-answer
+unfolding StandsFor
+returns-in-Numbered-clause-answer g c = λ v stands.
+    let s = c.self.inside in
+    let keeps = subst (λ (k : Kept). Keeps g.F.Framing.format k v) (sym c.self.view_is) stands in
+    let fate = fate_read g.F.Framing.format _ v c.args.ticket.0 c.index.result.now Numbered keeps (omega arith) (omega arith) c.index.ensures c.in-Numbered.is in
+    let on = ap is_numbered_fate fate in
+    c.abandon_numbered.ensures.answer v stands on
+
+pub returns-in-Numbered-clause-step : goal.returns-in-Numbered-clause-step
+unfolding StandsFor
+returns-in-Numbered-clause-step g c = λ v stands.
+    let s = c.self.inside in
+    let keeps = subst (λ (k : Kept). Keeps g.F.Framing.format k v) (sym c.self.view_is) stands in
+    let fate = fate_read g.F.Framing.format _ v c.args.ticket.0 c.index.result.now Numbered keeps (omega arith) (omega arith) c.index.ensures c.in-Numbered.is in
+    let on = ap is_numbered_fate fate in
+    c.abandon_numbered.ensures.step v stands on

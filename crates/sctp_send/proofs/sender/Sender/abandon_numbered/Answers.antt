@@ -1,0 +1,92 @@
+use Rattle.std.proofs.Common.{◌≡◌, ◌<◌, ◌∙◌, List, map, length, ap, subst, sym, arith, deque_capacity}
+use Rattle.std.proofs.lemmas.List.{length-map}
+use Rattle.std.specs.Prelude.{not, ◌&&◌, true, false}
+use Rattle.sctp_send.specs.OutstandingFields.{item_meaning}
+use Rattle.sctp_send.specs.inner.Changes.{given}
+use Rattle.sctp_send.specs.SenderFields.{track_meaning}
+use Rattle.sctp_send.specs.SenderKept.{Kept}
+use Rattle.sctp_send.specs.declared.outstanding.Outstanding.{Outstanding}
+use Rattle.sctp_send.specs.SenderStands.{StandsFor, any_rest, any_uncovered, Keeps}
+use Rattle.sctp_send.proofs.GivenLemmas.{items_given}
+use Rattle.sctp_send.proofs.EndLemmas.{keeps_given, keeps_ended}
+use Rattle.sctp_send.proofs.AnswerLemmas.{answered_whole, answered_reliable, answered_given}
+use Rattle.sctp_send.proofs.sender.Sender.abandon_numbered.Goals as goal
+
+pub returns-then-is_all_covered-clause-answer : goal.returns-then-is_all_covered-clause-answer
+unfolding StandsFor
+returns-then-is_all_covered-clause-answer g c = λ v stands on.
+    let s = c.self.inside in
+    let keeps = subst (λ (k : Kept). Keeps g.F.Framing.format k v) (sym c.self.view_is) stands in
+    let whole : (not (any_rest c.args.ticket (map (track_meaning s.fragment) s.tracks.items)) && not (any_uncovered c.args.ticket (map (item_meaning s.fragment) s.outstanding.items))) ≡ true =
+    rw c.deref.ensures.value at (sym (c.is_all_covered.ensures s.fragment) ∙ c.if-is_all_covered.true) in
+    (answered_whole g.F.Framing.format _ v c.args.ticket keeps on whole).answer
+
+pub returns-then-is_all_covered-clause-step : goal.returns-then-is_all_covered-clause-step
+unfolding StandsFor
+returns-then-is_all_covered-clause-step g c = λ v stands on.
+    let s = c.self.inside in
+    let keeps = subst (λ (k : Kept). Keeps g.F.Framing.format k v) (sym c.self.view_is) stands in
+    let whole : (not (any_rest c.args.ticket (map (track_meaning s.fragment) s.tracks.items)) && not (any_uncovered c.args.ticket (map (item_meaning s.fragment) s.outstanding.items))) ≡ true =
+    rw c.deref.ensures.value at (sym (c.is_all_covered.ensures s.fragment) ∙ c.if-is_all_covered.true) in
+    rw (answered_whole g.F.Framing.format _ v c.args.ticket keeps on whole).after stands
+
+pub returns-then-not-self-clause-answer : goal.returns-then-not-self-clause-answer
+unfolding StandsFor
+returns-then-not-self-clause-answer g c = λ v stands on.
+    let s = c.self.inside in
+    let keeps = subst (λ (k : Kept). Keeps g.F.Framing.format k v) (sym c.self.view_is) stands in
+    let missing : (not (any_rest c.args.ticket (map (track_meaning s.fragment) s.tracks.items)) && not (any_uncovered c.args.ticket (map (item_meaning s.fragment) s.outstanding.items))) ≡ false =
+    rw c.deref.ensures.value at (sym (c.is_all_covered.ensures s.fragment) ∙ c.if-is_all_covered.false) in
+    (answered_reliable g.F.Framing.format _ v c.args.ticket keeps on missing c.if-not-self.true).answer
+
+pub returns-then-not-self-clause-step : goal.returns-then-not-self-clause-step
+unfolding StandsFor
+returns-then-not-self-clause-step g c = λ v stands on.
+    let s = c.self.inside in
+    let keeps = subst (λ (k : Kept). Keeps g.F.Framing.format k v) (sym c.self.view_is) stands in
+    let missing : (not (any_rest c.args.ticket (map (track_meaning s.fragment) s.tracks.items)) && not (any_uncovered c.args.ticket (map (item_meaning s.fragment) s.outstanding.items))) ≡ false =
+    rw c.deref.ensures.value at (sym (c.is_all_covered.ensures s.fragment) ∙ c.if-is_all_covered.false) in
+    rw (answered_reliable g.F.Framing.format _ v c.args.ticket keeps on missing c.if-not-self.true).after stands
+
+pub returns-in-Some-clause-answer : goal.returns-in-Some-clause-answer
+unfolding StandsFor
+returns-in-Some-clause-answer g c = λ v stands on.
+    let s = c.self.inside in
+    let keeps = subst (λ (k : Kept). Keeps g.F.Framing.format k v) (sym c.self.view_is) stands in
+    let missing : (not (any_rest c.args.ticket (map (track_meaning s.fragment) s.tracks.items)) && not (any_uncovered c.args.ticket (map (item_meaning s.fragment) s.outstanding.items))) ≡ false =
+    rw c.deref.ensures.value at (sym (c.is_all_covered.ensures s.fragment) ∙ c.if-is_all_covered.false) in
+    (answered_given g.F.Framing.format _ v c.args.ticket keeps on missing c.if-not-self.false).answer
+
+pub returns-in_default-clause-answer : goal.returns-in_default-clause-answer
+unfolding StandsFor
+returns-in_default-clause-answer g c = λ v stands on.
+    let s = c.self.inside in
+    let keeps = subst (λ (k : Kept). Keeps g.F.Framing.format k v) (sym c.self.view_is) stands in
+    let missing : (not (any_rest c.args.ticket (map (track_meaning s.fragment) s.tracks.items)) && not (any_uncovered c.args.ticket (map (item_meaning s.fragment) s.outstanding.items))) ≡ false =
+    rw c.deref.ensures.value at (sym (c.is_all_covered.ensures s.fragment) ∙ c.if-is_all_covered.false) in
+    (answered_given g.F.Framing.format _ v c.args.ticket keeps on missing c.if-not-self.false).answer
+
+pub returns-in-Some-clause-step : goal.returns-in-Some-clause-step
+unfolding StandsFor
+returns-in-Some-clause-step g c = λ v stands on.
+    let s = c.self.inside in
+    let keeps = subst (λ (k : Kept). Keeps g.F.Framing.format k v) (sym c.self.view_is) stands in
+    let missing : (not (any_rest c.args.ticket (map (track_meaning s.fragment) s.tracks.items)) && not (any_uncovered c.args.ticket (map (item_meaning s.fragment) s.outstanding.items))) ≡ false =
+    rw c.deref.ensures.value at (sym (c.is_all_covered.ensures s.fragment) ∙ c.if-is_all_covered.false) in
+    let m = answered_given g.F.Framing.format _ v c.args.ticket keeps on missing c.if-not-self.false in
+    let taken = keeps_ended g.F.Framing.format _ v c.args.ticket m.name _ _ keeps m.kept m.uncovered m.partial (c.in-Some.ensures.some s.fragment) in
+    let long = length-map s.outstanding.items (item_meaning s.fragment) in
+    let same = ap (λ (es : List Outstanding). length es) c.give_up.ensures.items ∙ length-map s.outstanding.items (given c.args.ticket) in
+    let room : length c.give_up.new.outstanding.items < deque_capacity c.give_up.new.outstanding = omega (arith, taken.0, long, same, c.give_up.ensures.capacity) in
+    rw (c.push_end.ensures.items s.fragment room, c.give_up.ensures.items, items_given, c.push_end.ensures.capacity room, c.give_up.ensures.capacity) taken.1
+
+pub returns-in_default-clause-step : goal.returns-in_default-clause-step
+unfolding StandsFor
+returns-in_default-clause-step g c = λ v stands on.
+    let s = c.self.inside in
+    let keeps = subst (λ (k : Kept). Keeps g.F.Framing.format k v) (sym c.self.view_is) stands in
+    let missing : (not (any_rest c.args.ticket (map (track_meaning s.fragment) s.tracks.items)) && not (any_uncovered c.args.ticket (map (item_meaning s.fragment) s.outstanding.items))) ≡ false =
+    rw c.deref.ensures.value at (sym (c.is_all_covered.ensures s.fragment) ∙ c.if-is_all_covered.false) in
+    let m = answered_given g.F.Framing.format _ v c.args.ticket keeps on missing c.if-not-self.false in
+    let taken = keeps_given g.F.Framing.format _ v c.args.ticket m.name keeps m.kept m.uncovered m.partial (c.in_default.ensures.none s.fragment) in
+    rw (c.give_up.ensures.items, items_given, c.in_default.ensures.same, c.give_up.ensures.capacity) taken

@@ -1,0 +1,61 @@
+-- What the calls make of entries, one by one.
+use Rattle.std.specs.Prelude.{ℕ, suc, nat_lt, nat_le, Bool, true, false, not, ◌&&◌, ◌||◌, ◌==◌, if◌then◌else◌, List, [], ◌∷◌, map}
+use Rattle.sctp_send.specs.declared.outstanding.Standing.{Standing}
+use Rattle.sctp_send.specs.declared.outstanding.Standing.TheVariants.{Unsent, Sent, Marked}
+use Rattle.sctp_send.specs.declared.outstanding.Outstanding.{Outstanding}
+
+-- the standing without its mark
+abbrev pub unmarked : Standing → Standing
+unmarked Unsent = Unsent
+unmarked Sent = Sent
+unmarked Marked = Sent
+
+-- ---- covered or not (RFC 9260, 6.2.1)
+
+-- the peer has it: there is nothing to repeat
+abbrev pub as_covered : Outstanding → Outstanding
+as_covered e = record e { covered = true; standing = unmarked e.standing }
+
+-- the peer says that it hasn't, or no longer
+abbrev pub as_uncovered : Outstanding → Outstanding
+as_uncovered e = record e { covered = false }
+
+-- one of the two
+abbrev pub told : Bool → Outstanding → Outstanding
+told b e = if b then as_covered e else as_uncovered e
+
+-- entries told by their indexes, the first of which is i
+abbrev pub all_told : (ℕ → Bool) → ℕ → List Outstanding → List Outstanding
+all_told test i [] = []
+all_told test i (e ∷ es) = told (test i) e ∷ all_told test (suc i) es
+
+-- those that pass, and a run: after `from`, up to `to`
+abbrev pub or_run : (ℕ → Bool) → ℕ → ℕ → ℕ → Bool
+or_run test from to i = test i || (nat_lt from i && nat_le i to)
+
+-- ---- the data timer expires (RFC 9260, 6.3.3)
+
+-- a standing after the timer, of an entry that the peer may still need, or of another
+abbrev pub marked_if : Bool → Standing → Standing
+marked_if needed Unsent = Unsent
+marked_if true Sent = Marked
+marked_if false Sent = Sent
+marked_if needed Marked = Marked
+
+-- an entry after the timer
+abbrev pub timed : Outstanding → Outstanding
+timed e = record e { standing = marked_if (not e.covered && not e.given_up) e.standing }
+
+-- all entries after the timer
+abbrev pub all_timed : List Outstanding → List Outstanding
+all_timed es = map timed es
+
+-- ---- given up (RFC 3758, 3.5)
+
+-- an entry of the message with this ticket is given up, and its mark ends
+abbrev pub given : ℕ → Outstanding → Outstanding
+given t e = if e.message.value.ticket == t then record e { given_up = true; standing = unmarked e.standing } else e
+
+-- each entry of that message is given up
+abbrev pub all_given : ℕ → List Outstanding → List Outstanding
+all_given t es = map (given t) es

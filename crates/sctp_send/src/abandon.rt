@@ -1,0 +1,173 @@
+//! Messages that are abandoned (RFC 3758, 3.5; RFC 8260, 2.3.1).
+
+ghost use Rattle.std.specs.Prelude.{◌≡◌, ℕ, ◌<◌, ◌≤◌, ◌+◌, [], ◌∷◌, ◌++◌, true, false, List, length, map, take, drop, set, IfSome, IfNone};
+ghost use Rattle.std.specs.VecDeque.{deque_capacity};
+ghost use Rattle.sctp_model.specs.SenderView.{SenderView};
+ghost use Rattle.sctp_model.specs.sender.Abandoning.{AbandonAnswer, abandon_answer, abandon_after, without};
+ghost use Rattle.sctp_send.specs.OutstandingFields.{item_meaning};
+ghost use Rattle.sctp_send.specs.inner.Changes.{given, all_given};
+ghost use Rattle.sctp_send.specs.SenderFields.{queued_by, track_meaning, rest_meaning};
+ghost use Rattle.sctp_send.specs.SenderStands.{StandsFor, fate_here, is_numbered_fate, any_rest, end_item, GoesOnAt, EndsAt};
+ghost use Rattle.sctp_send.specs.SenderAnswers.{answer_meaning};
+
+use crate::message::{Fate, Message, Ticket};
+use crate::outstanding::{Outstanding, Place, Standing, unmarked};
+use crate::readers::{goes_on, is_all_covered};
+use crate::sender::{Rest, Sender, Track};
+use sctp_framing::Framing;
+use std::collections::VecDeque;
+use std::rc::Rc;
+
+/// What abandoning a ticket's message is answered.
+#[derive(Clone, Copy, Debug, PartialEq, Eq)]
+pub enum Abandoned {
+    /// It has no number, and is withdrawn, now or already before.
+    Withdrawn,
+    /// It is abandoned, now or already before.
+    Abandoned,
+    /// It was acknowledged whole.
+    Acknowledged,
+    /// There is no message with this ticket.
+    Unknown,
+    /// It has a number, and messages with one may not be abandoned.
+    Reliable,
+}
+
+#[tactic(auto, unfolding(crate::specs::SenderStands::StandsFor))]
+impl<F: Framing> Sender<F> {
+    /// Abandons the message with this ticket: one without a number is withdrawn; one with a number is not sent or repeated
+    /// again, and where it was assigned in part, an end mark takes one index more. It takes no memory.
+    pub fn abandon(&mut self, ticket: Ticket) -> Abandoned
+        ensures answer { (v : SenderView) → StandsFor F.format self.old v → answer_meaning result ≡ abandon_answer v ticket.0 }
+        ensures step { (v : SenderView) → StandsFor F.format self.old v → StandsFor F.format self.new (abandon_after v ticket.0) }
+    {
+        let at = ticket.0 as usize;
+        if at == 0 {
+            return Abandoned::Unknown;
+        }
+        if at > self.fates.len() {
+            return Abandoned::Unknown;
+        }
+        match self.fates[at - 1] {
+            Fate::Withdrawn => Abandoned::Withdrawn,
+            Fate::GivenUp => Abandoned::Abandoned,
+            Fate::Waiting => {
+                withdraw(&mut self.queue, ticket.0);
+                self.fates[at - 1] = Fate::Withdrawn;
+                Abandoned::Withdrawn
+            }
+            Fate::Numbered => self.abandon_numbered(ticket.0),
+        }
+    }
+
+    /// Abandons the message with this ticket, which has a number and was not abandoned.
+    fn abandon_numbered(&mut self, ticket: u32) -> Abandoned
+        requires some { 0 < ticket }
+        requires given { ticket ≤ length self.old.fates }
+        ensures answer { (v : SenderView) → StandsFor F.format self.old v → is_numbered_fate (fate_here v ticket) ≡ true → answer_meaning result ≡ abandon_answer v ticket }
+        ensures step { (v : SenderView) → StandsFor F.format self.old v → is_numbered_fate (fate_here v ticket) ≡ true → StandsFor F.format self.new (abandon_after v ticket) }
+    {
+        if is_all_covered(&self.tracks, &self.outstanding, ticket) {
+            return Abandoned::Acknowledged;
+        }
+        if !self.partial {
+            return Abandoned::Reliable;
+        }
+        self.fates[ticket as usize - 1] = Fate::GivenUp;
+        give_up(&mut self.outstanding, ticket);
+        if let Some(rest) = end(&mut self.tracks, ticket) {
+            push_end(&mut self.outstanding, rest);
+        }
+        Abandoned::Abandoned
+    }
+}
+
+/// The place of the message with this ticket among those that wait, or how many there are.
+fn place_of(queue: &VecDeque<Rc<Message>>, ticket: u32) -> usize
+    ensures { (size : ℕ) → without ticket (map (queued_by size) queue.now.items)
+        ≡ take result (map (queued_by size) queue.now.items) ++ drop (result + 1) (map (queued_by size) queue.now.items) }
+{
+    for at in 0..queue.len() {
+        let message = &queue[at];
+        if message.ticket == ticket {
+            return at;
+        }
+    }
+    queue.len()
+}
+
+/// The message with this ticket waits no more.
+fn withdraw(queue: &mut VecDeque<Rc<Message>>, ticket: u32)
+    ensures { (size : ℕ) → map (queued_by size) queue.new.items ≡ without ticket (map (queued_by size) queue.old.items) }
+{
+    let place = place_of(queue, ticket);
+    let _withdrawn = queue.remove(place);
+}
+
+/// An entry of the message with this ticket is given up; its mark ends.
+fn give_one(entry: &mut Outstanding, ticket: u32)
+    ensures { entry.new ≡ given ticket entry.old }
+{
+    if entry.message.ticket == ticket {
+        entry.given_up = true;
+        entry.standing = unmarked(entry.standing);
+    }
+}
+
+/// Each entry of the message with this ticket is given up.
+fn give_up(outstanding: &mut VecDeque<Outstanding>, ticket: u32)
+    ensures items { outstanding.new.items ≡ all_given ticket outstanding.old.items }
+    ensures capacity { deque_capacity outstanding.new ≡ deque_capacity outstanding.old }
+{
+    for at in 0..outstanding.len() {
+        give_one(&mut outstanding[at], ticket);
+    }
+}
+
+/// The stream that goes on with the message with this ticket goes on with nothing; what was left of the message, where there is such a stream.
+fn end(tracks: &mut Vec<Track>, ticket: u32) -> Option<Rest>
+    ensures none { (size : ℕ) → IfNone result (any_rest ticket (map (track_meaning size) tracks.old.items) ≡ false) }
+    ensures same { IfNone result (tracks.new.items ≡ tracks.old.items) }
+    ensures some { (size : ℕ) → IfSome result (λ rest. EndsAt ticket (rest_meaning size rest) (map (track_meaning size) tracks.old.items) (map (track_meaning size) tracks.new.items)) }
+{
+    match stream_of(tracks, ticket) {
+        Some(at) => tracks[at].rest.take(),
+        None => None,
+    }
+}
+
+/// The stream that goes on with the message with this ticket.
+fn stream_of(tracks: &[Track], ticket: u32) -> Option<usize>
+    ensures none { (size : ℕ) → IfNone result (any_rest ticket (map (track_meaning size) tracks.now) ≡ false) }
+    ensures some { (size : ℕ) → IfSome result (λ at. GoesOnAt ticket at (map (track_meaning size) tracks.now)) }
+{
+    for at in 0..tracks.len() {
+        if goes_on(&tracks[at], ticket) {
+            return Some(at);
+        }
+    }
+    None
+}
+
+/// The end mark of a message stands behind the other entries. There is room for it since the message took its number.
+fn push_end(outstanding: &mut VecDeque<Outstanding>, rest: Rest)
+    ensures items { (size : ℕ) → length outstanding.old.items < deque_capacity outstanding.old
+        → map (item_meaning size) outstanding.new.items ≡ map (item_meaning size) outstanding.old.items ++ end_item (rest_meaning size rest) ∷ [] }
+    ensures capacity { length outstanding.old.items < deque_capacity outstanding.old → deque_capacity outstanding.new ≡ deque_capacity outstanding.old }
+{
+    let _kept = outstanding.push_back(end_mark(rest));
+}
+
+/// The end mark of a message in part.
+fn end_mark(rest: Rest) -> Outstanding
+    ensures { (size : ℕ) → item_meaning size result ≡ end_item (rest_meaning size rest) }
+{
+    Outstanding {
+        message: rest.message,
+        number: rest.number,
+        place: Place::EndMark,
+        standing: Standing::Unsent,
+        covered: false,
+        given_up: true,
+    }
+}

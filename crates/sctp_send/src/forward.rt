@@ -1,0 +1,136 @@
+//! How far the point went is told to the peer: FORWARD-TSN and I-FORWARD-TSN (RFC 3758, 3.5; RFC 8260, 2.3.1).
+
+ghost use Rattle.std.specs.Prelude.{◌≡◌, ℕ, ◌<◌, ◌≤◌, ◌*◌, [], ◌∷◌, ◌++◌, ◌&&◌, None, List, length, map, take, nat_lt, IfOk, OnErr, OnOk};
+ghost use Rattle.sctp_model.specs.Format.{Lane, is_numbered};
+ghost use Rattle.sctp_model.specs.SenderView.{SenderView};
+ghost use Rattle.sctp_model.specs.sender.Readers.{point};
+ghost use Rattle.sctp_model.specs.sender.Forwarding.{larger, largest_in, skip_of, skips_below};
+ghost use Rattle.sctp_model.specs.sender.SentChunks.{skip_said, forward_chunk_of};
+ghost use Rattle.sctp_wire.specs.Skips.{skip_size, skips_in};
+ghost use Rattle.sctp_framing.specs.SkipForms.{skip_form};
+ghost use Rattle.sctp_packet.specs.Draft.{has_room, after_try};
+ghost use Rattle.sctp_send.specs.OutstandingFields.{item_meaning, lane_of, entries_of};
+ghost use Rattle.sctp_send.specs.SenderStands.{StandsFor};
+
+use crate::outstanding::Outstanding;
+use crate::readers::given_up_run;
+use crate::sack::tsn_of;
+use crate::sender::Sender;
+use sctp_framing::Framing;
+use sctp_packet::PacketWriter;
+use sctp_wire::{Forward, NoMemory, Skip, Skips, put_skip};
+use std::alloc::Global;
+use std::collections::VecDeque;
+
+#[tactic(auto, unfolding(crate::specs::SenderStands::StandsFor))]
+impl<F: Framing> Sender<F> {
+    /// Puts the FORWARD chunk into a packet: the point, and of each stream and numbered kind the largest number up to it. False
+    /// exactly where the point is CUM, or the chunk doesn't fit. The sender stays as it is.
+    ///
+    /// # Errors
+    /// `NoMemory`; the packet is then as before.
+    pub fn put_forward(&self, packet: &mut PacketWriter) -> Result<bool, NoMemory>
+        ensures answer { (v : SenderView) → StandsFor F.format self.now v
+            → IfOk result (λ put. put ≡ (nat_lt v.cum (point v) && has_room packet.old (forward_chunk_of F.format v))) }
+        ensures after { (v : SenderView) → StandsFor F.format self.now v
+            → IfOk result (λ put. packet.new ≡ after_try packet.old (forward_chunk_of F.format v) put) }
+        ensures unchanged { OnErr result (packet.new ≡ packet.old) }
+    {
+        let run = given_up_run(&self.outstanding);
+        if run == 0 {
+            return Ok(false);
+        }
+        let list = skips_below::<F>(self.alloc, &self.outstanding, run, self.streams)?;
+        // Header and cumulative TSN take 8 bytes.
+        if list.len() > packet.room().saturating_sub(8) {
+            return Ok(false);
+        }
+        let chunk = F::forward_chunk(Forward {
+            cumulative: tsn_of(self.initial, self.cum.wrapping_add(run)),
+            skips: Skips::new(F::skip_form(), &list),
+        });
+        packet.try_chunk(&chunk)
+    }
+}
+
+/// What a FORWARD over the first `run` entries lists of the streams below `streams`.
+fn skips_below<F: Framing>(
+    alloc: Global,
+    outstanding: &VecDeque<Outstanding>,
+    run: u32,
+    streams: u16,
+) -> Result<Vec<u8>, NoMemory>
+    requires { run ≤ length outstanding.now.items }
+    ensures count { IfOk result (λ list. length list.items ≡ skip_size (skip_form F.format) * length (skips_in (skip_form F.format) list.items)) }
+    ensures skips { (size : ℕ) → IfOk result (λ list. skips_in (skip_form F.format) list.items
+        ≡ map (skip_said F.format) (skips_below F.format (entries_of (map (item_meaning size) (take run outstanding.now.items))) streams)) }
+{
+    let mut list = Vec::new(alloc);
+    for stream in 0..streams {
+        put_lane::<F>(outstanding, run, stream, false, &mut list)?;
+        put_lane::<F>(outstanding, run, stream, true, &mut list)?;
+    }
+    Ok(list)
+}
+
+/// Puts the largest number of a lane among the first `run` entries, if the lane is numbered and has one there.
+fn put_lane<F: Framing>(
+    outstanding: &VecDeque<Outstanding>,
+    run: u32,
+    stream: u16,
+    unordered: bool,
+    list: &mut Vec<u8>,
+) -> Result<(), NoMemory>
+    requires run { run ≤ length outstanding.now.items }
+    requires count { length list.old.items ≡ skip_size (skip_form F.format) * length (skips_in (skip_form F.format) list.old.items) }
+    ensures count { OnOk result (length list.new.items ≡ skip_size (skip_form F.format) * length (skips_in (skip_form F.format) list.new.items)) }
+    ensures skips { (size : ℕ) → OnOk result (skips_in (skip_form F.format) list.new.items
+        ≡ skips_in (skip_form F.format) list.old.items
+        ++ map (skip_said F.format) (skip_of F.format (entries_of (map (item_meaning size) (take run outstanding.now.items))) (lane_of stream unordered))) }
+{
+    if !F::is_numbered(unordered) {
+        return Ok(());
+    }
+    match largest_in(outstanding, run, stream, unordered) {
+        None => Ok(()),
+        Some(number) => {
+            let skip = Skip {
+                stream,
+                unordered,
+                number: F::wire_number(unordered, number),
+            };
+            put_skip(F::skip_form(), skip, list)
+        }
+    }
+}
+
+/// The largest number of a lane among the first `run` entries.
+fn largest_in(
+    outstanding: &VecDeque<Outstanding>,
+    run: u32,
+    stream: u16,
+    unordered: bool,
+) -> Option<u32>
+    requires { run ≤ length outstanding.now.items }
+    ensures { (size : ℕ) → result
+        ≡ largest_in (lane_of stream unordered) None (entries_of (map (item_meaning size) (take run outstanding.now.items))) }
+{
+    let mut found = None;
+    for at in 0..run {
+        found = larger_with(found, &outstanding[at as usize], stream, unordered);
+    }
+    found
+}
+
+/// The larger of a number, if there is one, and that of an entry, if it is of the lane.
+fn larger_with(found: Option<u32>, entry: &Outstanding, stream: u16, unordered: bool) -> Option<u32>
+    ensures { (size : ℕ) → result ≡ largest_in (lane_of stream unordered) found ((item_meaning size entry.now).entry ∷ []) }
+{
+    if entry.message.stream != stream || entry.message.unordered != unordered {
+        return found;
+    }
+    match found {
+        None => Some(entry.number),
+        Some(number) => Some(number.max(entry.number)),
+    }
+}
