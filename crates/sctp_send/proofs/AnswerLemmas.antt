@@ -11,7 +11,8 @@ use Rattle.sctp_model.proofs.sender.AbandonCases.{without_none}
 use Rattle.sctp_model.proofs.sender.OwnLaws.{found_owns}
 use Rattle.sctp_model.proofs.sender.TicketLaws.{IsTicketed, is_ticketed}
 use Rattle.sctp_send.specs.SenderKept.{Kept}
-use Rattle.sctp_send.specs.SenderStands.{fate_here, fate_named, is_numbered_fate, any_rest, any_uncovered, Keeps}
+use Rattle.sctp_send.specs.SenderStands.{fate_here, fate_named, Keeps}
+use Rattle.sctp_send.specs.inner.Walks.{is_numbered_fate, any_rest, any_uncovered}
 use Rattle.sctp_send.specs.declared.message.Fate.{Fate}
 use Rattle.sctp_send.specs.declared.message.Fate.TheVariants.{Waiting, Numbered, Withdrawn, GivenUp}
 use Rattle.sctp_send.proofs.ReaderLemmas.{fate_at, fates_given}

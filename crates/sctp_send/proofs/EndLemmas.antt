@@ -18,7 +18,8 @@ use Rattle.sctp_model.proofs.sender.TicketLaws.{is_ticketed}
 use Rattle.sctp_model.proofs.sender.NameLaws.{goes_on_with, goes_on_stream}
 use Rattle.sctp_model.proofs.sender.AbandonCases.{given_itself}
 use Rattle.sctp_send.specs.SenderKept.{Item, Rest, Track, Kept}
-use Rattle.sctp_send.specs.SenderStands.{item_here, items_from, table, rest_here, track_here, any_rest, rest_has, end_item, EndsAt, Keeps}
+use Rattle.sctp_send.specs.SenderStands.{item_here, items_from, table, rest_here, track_here, Keeps}
+use Rattle.sctp_send.specs.inner.Walks.{any_rest, rest_has, end_item, EndsAt}
 use Rattle.sctp_send.specs.declared.message.Fate.TheVariants.{GivenUp}
 use Rattle.sctp_send.proofs.TableLemmas.{table-set, table-same}
 use Rattle.sctp_send.proofs.TicketLemmas.{kept_goes_on}

@@ -26,7 +26,8 @@ use Rattle.sctp_packet.proofs.DraftLemmas.{size_of_more}
 use Rattle.sctp_framing.specs.SkipForms.{skip_form}
 use Rattle.sctp_send.specs.SenderKept.{Item, Kept}
 use Rattle.sctp_send.specs.OutstandingFields.{lane_meaning, lane_of, entry_meaning, item_meaning, entries_of}
-use Rattle.sctp_send.specs.SenderStands.{items_from, given_up_items, Keeps}
+use Rattle.sctp_send.specs.SenderStands.{items_from, Keeps}
+use Rattle.sctp_send.specs.inner.Walks.{given_up_items}
 use Rattle.sctp_send.specs.declared.outstanding.Place.{Place}
 use Rattle.sctp_send.specs.declared.outstanding.Place.TheVariants.{Fragment, EndMark}
 use Rattle.sctp_send.specs.declared.outstanding.Outstanding.{Outstanding}

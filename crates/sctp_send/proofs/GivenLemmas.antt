@@ -21,7 +21,8 @@ use Rattle.sctp_model.proofs.sender.GivenLaws.{names_given, others_given}
 use Rattle.sctp_send.specs.SenderKept.{Item, Kept}
 use Rattle.sctp_send.specs.OutstandingFields.{was_sent, is_marked, item_meaning}
 use Rattle.sctp_send.specs.inner.Changes.{unmarked, given, all_given}
-use Rattle.sctp_send.specs.SenderStands.{item_here, items_from, table, fate_here, fate_named, is_numbered_fate, Keeps}
+use Rattle.sctp_send.specs.SenderStands.{item_here, items_from, table, fate_here, fate_named, Keeps}
+use Rattle.sctp_send.specs.inner.Walks.{is_numbered_fate}
 use Rattle.sctp_send.specs.declared.message.Fate.{Fate}
 use Rattle.sctp_send.specs.declared.message.Fate.TheVariants.{Waiting, Numbered, GivenUp}
 use Rattle.sctp_send.specs.declared.outstanding.Standing.{Standing}

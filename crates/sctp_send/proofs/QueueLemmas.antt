@@ -19,7 +19,8 @@ use Rattle.sctp_model.proofs.sender.SetLaws.{is_set}
 use Rattle.sctp_model.proofs.sender.OwedLaws.{is_promised}
 use Rattle.sctp_model.proofs.sender.TicketLaws.{waits_push}
 use Rattle.sctp_send.specs.SenderKept.{Track, Kept}
-use Rattle.sctp_send.specs.SenderStands.{table, total, one_if_rest, rest_owes, rest_here, track_here, fate_here, fate_named, Keeps}
+use Rattle.sctp_send.specs.SenderStands.{table, rest_here, track_here, fate_here, fate_named, Keeps}
+use Rattle.sctp_send.specs.inner.Walks.{total, one_if_rest, rest_owes}
 use Rattle.sctp_send.specs.declared.message.Fate.{Fate}
 use Rattle.sctp_send.specs.declared.message.Fate.TheVariants.{Waiting}
 use Rattle.sctp_send.proofs.TableLemmas.{table-push, table-same, length-table}

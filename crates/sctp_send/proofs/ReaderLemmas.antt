@@ -13,7 +13,8 @@ use Rattle.sctp_model.proofs.sender.Bounds.{is_bounded}
 use Rattle.sctp_model.proofs.sender.OwedLaws.{is_promised, is_windowed}
 use Rattle.sctp_model.proofs.sender.TicketLaws.{IsTicketed, is_ticketed, name_of_none, found_owns}
 use Rattle.sctp_send.specs.SenderKept.{Item, Track, Kept}
-use Rattle.sctp_send.specs.SenderStands.{items_from, given_up_items, is_item_unsettled, any_unsettled, total, one_if_rest, is_given_up_fate, fate_here, fate_named, Keeps}
+use Rattle.sctp_send.specs.SenderStands.{items_from, fate_here, fate_named, Keeps}
+use Rattle.sctp_send.specs.inner.Walks.{given_up_items, is_item_unsettled, any_unsettled, total, one_if_rest, is_given_up_fate}
 use Rattle.sctp_send.specs.declared.message.Fate.{Fate}
 use Rattle.sctp_send.specs.declared.message.Fate.TheVariants.{Waiting, Numbered, GivenUp}
 use Rattle.sctp_send.proofs.KeepLemmas.{kept_length}

@@ -15,7 +15,8 @@ use Rattle.sctp_model.proofs.sender.NameLaws.{goes_on_with, some_stream, in_part
 use Rattle.sctp_send.specs.SenderKept.{Item, Track, Kept}
 use Rattle.sctp_send.specs.OutstandingFields.{item_meaning}
 use Rattle.sctp_send.specs.SenderFields.{track_meaning}
-use Rattle.sctp_send.specs.SenderStands.{items_from, table, track_here, rest_here, fate_here, fate_named, is_numbered_fate, any_uncovered, is_item_uncovered, any_rest, rest_has, Keeps}
+use Rattle.sctp_send.specs.SenderStands.{items_from, table, track_here, rest_here, fate_here, fate_named, Keeps}
+use Rattle.sctp_send.specs.inner.Walks.{is_numbered_fate, any_uncovered, is_item_uncovered, any_rest, rest_has}
 use Rattle.sctp_send.specs.declared.message.Fate.{Fate}
 use Rattle.sctp_send.specs.declared.message.Fate.TheVariants.{Waiting, Numbered, GivenUp}
 use Rattle.sctp_send.specs.declared.outstanding.Outstanding.{Outstanding}

@@ -4,7 +4,7 @@ use Rattle.std.proofs.lemmas.List.{length-map, map-set}
 use Rattle.std.proofs.lemmas.Option.{get_or_from_slice_get}
 use Rattle.sctp_send.specs.SenderKept.{Track}
 use Rattle.sctp_send.specs.SenderFields.{rest_meaning, rests_meaning, track_meaning}
-use Rattle.sctp_send.specs.SenderStands.{rest_has, GoesOnAt, EndsAt}
+use Rattle.sctp_send.specs.inner.Walks.{rest_has, GoesOnAt, EndsAt}
 use Rattle.sctp_send.specs.declared.sender.Rest.{Rest as RestFields}
 use Rattle.sctp_send.specs.declared.sender.Track.{Track as TrackFields}
 use Rattle.sctp_send.proofs.ReaderLemmas.{track_read}

@@ -17,17 +17,20 @@ use Rattle.sctp_send.specs.declared.sack.SackFault.TheVariants.{Stale, Beyond, B
 
 -- ---- a SACK
 
+-- a fault, by its name in the model (RFC 9260, 6.2.1)
 abbrev pub fault_meaning : SackFault → taken.SackFault
 fault_meaning Stale = taken.Stale
 fault_meaning Beyond = taken.Beyond
 fault_meaning BadBlock = taken.BadBlock
 
+-- why a SACK or a SHUTDOWN was refused, if it was
 abbrev pub reason_meaning : Result (Unit {0}) SackFault → Option taken.SackFault
 reason_meaning (Ok _) = None
 reason_meaning (Err fault) = Some (fault_meaning fault)
 
 -- ---- a message handed in
 
+-- the refusal given is the first that holds; want of memory is told where none does
 abbrev pub refused_with : Option model.Refusal → SendFault → Type 0
 refused_with r NoSuchStream = r ≡ Some model.NoSuchStream
 refused_with r Empty = r ≡ Some model.Empty

@@ -14,13 +14,16 @@ use Rattle.sctp_send.specs.declared.sender.Track.{Track as TrackFields}
 abbrev pub queued_by : ℕ → Rc MessageFields Global → Queued
 queued_by size m = queued_meaning size m.value
 
+-- what is left of a message in part: its next fragment, and the message
 abbrev pub rest_meaning : ℕ → RestFields → Rest
 rest_meaning size r = record { entry = Part (lane_meaning r.message.value) r.number r.fragment; message = Some (message_meaning size r.message.value) }
 
+-- the same, where a stream has one
 abbrev pub rests_meaning : ℕ → Option RestFields → Option Rest
 rests_meaning size None = None
 rests_meaning size (Some r) = Some (rest_meaning size r)
 
+-- what is kept of a stream
 abbrev pub track_meaning : ℕ → TrackFields → Track
 track_meaning size t = record { ordered = t.ordered; unordered = t.unordered; rest = rests_meaning size t.rest }
 

@@ -4,7 +4,7 @@ use Rattle.sctp_model.specs.Plan.{Message, Entry}
 use Rattle.sctp_model.specs.SenderView.{Queued}
 use Rattle.sctp_send.specs.declared.message.Fate.{Fate}
 
--- an entry above CUM, with its message and its state
+-- what is kept of one index above CUM
 pub record Item : Type 0 where
   pub entry : Entry
   pub message : Option Message
@@ -24,6 +24,7 @@ pub record Track : Type 0 where
   pub unordered : ℕ
   pub rest : Option Rest
 
+-- All that a sender keeps: its constants, CUM, the peer's window and the turn, then indexes, the queue, streams and tickets.
 pub record Kept : Type 0 where
   pub initial : ℕ
   pub streams : ℕ

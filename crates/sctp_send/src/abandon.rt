@@ -7,7 +7,8 @@ ghost use Rattle.sctp_model.specs.sender.Abandoning.{AbandonAnswer, abandon_answ
 ghost use Rattle.sctp_send.specs.OutstandingFields.{item_meaning};
 ghost use Rattle.sctp_send.specs.inner.Changes.{given, all_given};
 ghost use Rattle.sctp_send.specs.SenderFields.{queued_by, track_meaning, rest_meaning};
-ghost use Rattle.sctp_send.specs.SenderStands.{StandsFor, fate_here, is_numbered_fate, any_rest, end_item, GoesOnAt, EndsAt};
+ghost use Rattle.sctp_send.specs.SenderStands.{StandsFor, fate_here};
+ghost use Rattle.sctp_send.specs.inner.Walks.{is_numbered_fate, any_rest, end_item, GoesOnAt, EndsAt};
 ghost use Rattle.sctp_send.specs.SenderAnswers.{answer_meaning};
 
 use crate::message::{Fate, Message, Ticket};

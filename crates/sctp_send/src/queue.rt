@@ -4,7 +4,8 @@ ghost use Rattle.std.specs.Prelude.{◌≡◌, ℕ, ◌<◌, ◌^◌, ◌%◌, �
 ghost use Rattle.sctp_model.specs.SenderView.{SenderView};
 ghost use Rattle.sctp_model.specs.sender.Queueing.{cut, owed_for, owed_by_queue, promised};
 ghost use Rattle.sctp_send.specs.SenderFields.{track_meaning, queued_by};
-ghost use Rattle.sctp_send.specs.SenderStands.{StandsFor, total, rest_owes};
+ghost use Rattle.sctp_send.specs.SenderStands.{StandsFor};
+ghost use Rattle.sctp_send.specs.inner.Walks.{total, rest_owes};
 ghost use Rattle.sctp_send.specs.SenderAnswers.{QueueAnswer, queue_after, lane_for};
 
 use crate::message::{Fate, Message, Ticket};

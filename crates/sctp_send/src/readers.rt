@@ -5,7 +5,8 @@ ghost use Rattle.sctp_model.specs.SenderView.{SenderView};
 ghost use Rattle.sctp_model.specs.sender.Readers.{point, unsettled, drained, outstanding, abandoned, acknowledged};
 ghost use Rattle.sctp_send.specs.OutstandingFields.{item_meaning};
 ghost use Rattle.sctp_send.specs.SenderFields.{track_meaning};
-ghost use Rattle.sctp_send.specs.SenderStands.{StandsFor, total, one_if_rest, given_up_items, any_unsettled, is_item_unsettled, is_given_up_fate, is_numbered_fate, any_uncovered, is_item_uncovered, any_rest, rest_has};
+ghost use Rattle.sctp_send.specs.SenderStands.{StandsFor};
+ghost use Rattle.sctp_send.specs.inner.Walks.{total, one_if_rest, given_up_items, any_unsettled, is_item_unsettled, is_given_up_fate, is_numbered_fate, any_uncovered, is_item_uncovered, any_rest, rest_has};
 
 use crate::message::{Fate, Ticket};
 use crate::outstanding::{Outstanding, Standing};

@@ -1,6 +1,6 @@
 use Rattle.std.proofs.Common.{map, arith}
 use Rattle.sctp_send.specs.SenderFields.{track_meaning}
-use Rattle.sctp_send.specs.SenderStands.{GoesOnAt}
+use Rattle.sctp_send.specs.inner.Walks.{GoesOnAt}
 use Rattle.sctp_send.proofs.TrackLemmas.{rest_taken, within_there, never_none}
 use Rattle.sctp_send.proofs.abandon.end.Goals as goal
 

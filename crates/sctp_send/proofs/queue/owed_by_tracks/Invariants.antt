@@ -1,6 +1,6 @@
 use Rattle.std.proofs.Common.{◌≡◌, ◌+◌, ◌%◌, ◌^◌, map, drop}
 use Rattle.sctp_send.specs.SenderFields.{track_meaning}
-use Rattle.sctp_send.specs.SenderStands.{total, rest_owes}
+use Rattle.sctp_send.specs.inner.Walks.{total, rest_owes}
 use Rattle.sctp_send.proofs.queue.owed_by_tracks.Given as goal
 
 abbrev pub invariant-loop-track : goal.invariant-loop-track

@@ -1,6 +1,6 @@
 use Rattle.std.proofs.Common.{◌≡◌, ℕ, ◌+◌, ◌%◌, ◌^◌, map, drop}
 use Rattle.sctp_send.specs.OutstandingFields.{item_meaning}
-use Rattle.sctp_send.specs.SenderStands.{given_up_items}
+use Rattle.sctp_send.specs.inner.Walks.{given_up_items}
 use Rattle.sctp_send.proofs.readers.given_up_run.Given as goal
 
 abbrev pub invariant-loop-at : goal.invariant-loop-at

@@ -1,5 +1,5 @@
 use Rattle.std.proofs.Common.{arith}
-use Rattle.sctp_send.specs.SenderStands.{one_if_rest}
+use Rattle.sctp_send.specs.inner.Walks.{one_if_rest}
 use Rattle.sctp_send.proofs.ReaderLemmas.{total_more, total_end}
 use Rattle.sctp_send.proofs.readers.in_part.Goals as goal
 

@@ -1,6 +1,6 @@
 use Rattle.std.proofs.Common.{◌≡◌, ℕ, ◌+◌, ◌%◌, ◌^◌, map, drop}
 use Rattle.sctp_send.specs.SenderFields.{track_meaning}
-use Rattle.sctp_send.specs.SenderStands.{total, one_if_rest}
+use Rattle.sctp_send.specs.inner.Walks.{total, one_if_rest}
 use Rattle.sctp_send.proofs.readers.in_part.Given as goal
 
 abbrev pub invariant-loop-track : goal.invariant-loop-track

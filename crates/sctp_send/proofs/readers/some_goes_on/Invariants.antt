@@ -1,6 +1,6 @@
 use Rattle.std.proofs.Common.{◌≡◌, ℕ, map, drop}
 use Rattle.sctp_send.specs.SenderFields.{track_meaning}
-use Rattle.sctp_send.specs.SenderStands.{any_rest}
+use Rattle.sctp_send.specs.inner.Walks.{any_rest}
 use Rattle.sctp_send.proofs.readers.some_goes_on.Given as goal
 
 abbrev pub invariant-loop-track : goal.invariant-loop-track

@@ -1,6 +1,6 @@
 use Rattle.std.proofs.Common.{◌≡◌, ℕ, map, drop}
 use Rattle.sctp_send.specs.OutstandingFields.{item_meaning}
-use Rattle.sctp_send.specs.SenderStands.{any_uncovered}
+use Rattle.sctp_send.specs.inner.Walks.{any_uncovered}
 use Rattle.sctp_send.proofs.readers.some_uncovered.Given as goal
 
 abbrev pub invariant-loop-at : goal.invariant-loop-at

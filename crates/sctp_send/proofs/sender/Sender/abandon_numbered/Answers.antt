@@ -6,7 +6,8 @@ use Rattle.sctp_send.specs.inner.Changes.{given}
 use Rattle.sctp_send.specs.SenderFields.{track_meaning}
 use Rattle.sctp_send.specs.SenderKept.{Kept}
 use Rattle.sctp_send.specs.declared.outstanding.Outstanding.{Outstanding}
-use Rattle.sctp_send.specs.SenderStands.{StandsFor, any_rest, any_uncovered, Keeps}
+use Rattle.sctp_send.specs.SenderStands.{StandsFor, Keeps}
+use Rattle.sctp_send.specs.inner.Walks.{any_rest, any_uncovered}
 use Rattle.sctp_send.proofs.GivenLemmas.{items_given}
 use Rattle.sctp_send.proofs.EndLemmas.{keeps_given, keeps_ended}
 use Rattle.sctp_send.proofs.AnswerLemmas.{answered_whole, answered_reliable, answered_given}

@@ -1,6 +1,7 @@
 use Rattle.std.proofs.Common.{◌∙◌, subst, sym, ap, arith, inl, inr}
 use Rattle.sctp_send.specs.SenderKept.{Kept}
-use Rattle.sctp_send.specs.SenderStands.{StandsFor, Keeps, is_given_up_fate}
+use Rattle.sctp_send.specs.SenderStands.{StandsFor, Keeps}
+use Rattle.sctp_send.specs.inner.Walks.{is_given_up_fate}
 use Rattle.sctp_send.proofs.ReaderLemmas.{is_abandoned_at, no_ticket}
 use Rattle.sctp_send.proofs.sender.Sender.abandoned.Goals as goal
 

@@ -1,6 +1,7 @@
 use Rattle.std.proofs.Common.{◌∙◌, subst, sym, ap, arith}
 use Rattle.sctp_send.specs.SenderKept.{Kept}
-use Rattle.sctp_send.specs.SenderStands.{StandsFor, Keeps, is_numbered_fate}
+use Rattle.sctp_send.specs.SenderStands.{StandsFor, Keeps}
+use Rattle.sctp_send.specs.inner.Walks.{is_numbered_fate}
 use Rattle.sctp_send.proofs.TicketLemmas.{numbered_acknowledged, other_acknowledged, numbered_read, not_acknowledged, never_acknowledged}
 use Rattle.sctp_send.proofs.sender.Sender.acknowledged.Goals as goal
 
