@@ -11,4 +11,5 @@ pub mod ChunkTree
 pub mod RuleTree
 pub mod Reading
 pub mod Standing
+pub mod UnknownLaws
 pub mod Laws

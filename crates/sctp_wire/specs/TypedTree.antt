@@ -8,6 +8,10 @@ use Rattle.sctp_wire.specs.declared.typed.TypedItem.{TypedItem}
 abbrev pub typed_meaning : TypedItem → Typed
 typed_meaning item = record { kind = item.kind; value = item.value.now }
 
+-- a parameter or a cause of this type with this value
+abbrev pub item : ℕ → List ℕ → Typed
+item kind value = record { kind = kind; value = value }
+
 -- The first item ends the bytes, or its padding is zero and another item follows.
 abbrev pub IsFirstAsWritten : List ℕ → Type 0
 IsFirstAsWritten bytes =
