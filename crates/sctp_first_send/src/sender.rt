@@ -13,8 +13,8 @@ ghost use Rattle.sctp_first_send.specs.SenderStands.{StandsFor, queue_of};
 ghost use Rattle.sctp_first_send.specs.inner.Putting.{data_from, Puts};
 ghost use Rattle.sctp_first_send.specs.SenderSteps.{RefusalAnswer, QueueAnswer, queue_after, Fills, Stops, numbers_of};
 
-use sctp_packet::{PacketWriter, padded};
-use sctp_wire::{Chunk, NoMemory, Piece, Sack};
+use sctp_packet::PacketWriter;
+use sctp_wire::{Chunk, NoMemory, Piece, Sack, padded};
 use std::alloc::Global;
 use std::collections::VecDeque;
 use std::marker::Model;

@@ -12,7 +12,7 @@ pub use checksum::crc32c;
 pub use fault::PacketFault;
 pub use laws::{one_packet, written_packet_reads};
 pub use read::{Packet, read_packet};
-pub use writer::{PacketWriter, padded};
+pub use writer::PacketWriter;
 
 #[cfg(test)]
 mod tests;

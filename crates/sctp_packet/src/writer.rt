@@ -2,7 +2,6 @@
 
 ghost use Rattle.std.specs.Prelude.{◌≡◌, ◌<◌, ◌≤◌, ◌^◌, ◌⊎◌, ◌++◌, [], true, length, take, drop, IfOk, OnOk, OnErr, IfSome, MatchOption};
 ghost use Rattle.byteorder.specs.Endian.{little_bytes};
-ghost use Rattle.sctp_model.specs.Chunk.{padded};
 ghost use Rattle.sctp_model.specs.Packet.{size_of_packet};
 ghost use Rattle.sctp_wire.specs.ChunkTree.{chunk_meaning};
 ghost use Rattle.sctp_wire.specs.Layouts.{Fits};
@@ -137,14 +136,6 @@ fn header(source: u16, destination: u16, tag: u32) -> [u8; 12]
     let [c, d] = destination.to_be_bytes();
     let [e, f, g, h] = tag.to_be_bytes();
     [a, b, c, d, e, f, g, h, 0, 0, 0, 0]
-}
-
-/// A length filled up to a multiple of 4 (RFC 9260, 3.2).
-pub fn padded(length: usize) -> usize
-    requires { length < 2 ^ 32 }
-    ensures { result ≡ padded length }
-{
-    (length + 3) / 4 * 4
 }
 
 #[cfg(test)]

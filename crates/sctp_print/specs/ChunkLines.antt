@@ -63,30 +63,36 @@ kind_word x = decimal x.kind
 abbrev pub word_name : Bool → List ℕ
 word_name begin = if begin then codes "id" else codes "fsn"
 
+-- DATA (RFC 9260, 3.3.1): its flags, and its fields behind their names
 abbrev pub data_words : PieceMeaning → List (List ℕ)
 data_words p =
     codes "DATA" ∷ flags_word p ∷ codes "tsn" ∷ decimal p.tsn ∷ codes "stream" ∷ decimal p.stream ∷ codes "ssn" ∷ decimal p.number
     ∷ codes "id" ∷ decimal p.word ∷ codes "data" ∷ hex_word p.bytes ∷ []
 
+-- I-DATA (RFC 8260, 2.1) alike
 abbrev pub i_data_words : PieceMeaning → List (List ℕ)
 i_data_words p =
     codes "I-DATA" ∷ flags_word p ∷ codes "tsn" ∷ decimal p.tsn ∷ codes "stream" ∷ decimal p.stream ∷ codes "mid" ∷ decimal p.number
     ∷ word_name p.begin ∷ decimal p.word ∷ codes "data" ∷ hex_word p.bytes ∷ []
 
+-- INIT and INIT ACK (RFC 9260, 3.3.2 and 3.3.3): of the parameters the number
 abbrev pub init_words : List ℕ → InitMeaning → List (List ℕ)
 init_words name i =
     name ∷ codes "tag" ∷ tag_word i.tag ∷ codes "rwnd" ∷ decimal i.rwnd ∷ codes "out" ∷ decimal i.outbound ∷ codes "in" ∷ decimal i.inbound
     ∷ codes "tsn" ∷ decimal i.tsn ∷ codes "params" ∷ decimal (length (typed_in i.parameters)) ∷ []
 
+-- SACK (RFC 9260, 3.3.4): its blocks and duplicates in order
 abbrev pub sack_words : SackMeaning → List (List ℕ)
 sack_words s =
     codes "SACK" ∷ codes "cum" ∷ decimal s.cumulative ∷ codes "rwnd" ∷ decimal s.rwnd ∷ codes "blocks" ∷ joined block_word s.blocks
     ∷ codes "dups" ∷ joined decimal s.duplicates ∷ []
 
+-- a type without a case of its own: the type in decimal, flags and value in hexadecimal digits (RFC 9260, 3.2)
 abbrev pub unknown_words : ℕ → ℕ → List ℕ → List (List ℕ)
 unknown_words kind flags value =
     codes "UNKNOWN" ∷ decimal kind ∷ codes "flags" ∷ encode_lower (flags ∷ []) ∷ codes "value" ∷ hex_word value ∷ []
 
+-- FORWARD-TSN and I-FORWARD-TSN (RFC 3758, 3.2; RFC 8260, 2.3.1): the point, and its entries as this word says them
 abbrev pub forward_words : List ℕ → (SkipMeaning → List ℕ) → ForwardMeaning → List (List ℕ)
 forward_words name word f = name ∷ codes "cum" ∷ decimal f.cumulative ∷ codes "skips" ∷ joined word f.skips ∷ []
 

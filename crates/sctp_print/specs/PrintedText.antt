@@ -69,10 +69,11 @@ abbrev pub IsTextOf : (List ℕ → List ℕ → Bool → Type 0) → Result (Li
 IsTextOf IsText (Ok bytes) text was_read = IsText bytes text was_read
 IsTextOf IsText (Err e) text was_read = (was_read ≡ false) × (text ≡ hex_fault_line)
 
--- the same for packets, and for chunks
+-- what is printed for the word behind `packet`
 abbrev pub IsPacketTextOf : List ℕ → List ℕ → Bool → Type 0
 IsPacketTextOf word text was_read = IsTextOf IsPacketText (decode_of word) text was_read
 
+-- what is printed for the word behind `chunks`
 abbrev pub IsChunksTextOf : List ℕ → List ℕ → Bool → Type 0
 IsChunksTextOf word text was_read = IsTextOf IsChunksText (decode_of word) text was_read
 

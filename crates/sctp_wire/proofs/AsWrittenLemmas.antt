@@ -10,7 +10,7 @@ use Rattle.sctp_model.specs.Numbers.{AreBytes}
 use Rattle.sctp_model.specs.Typed.{Typed, typed_bytes, typed_length, filled, written_typed, length_field, starts_typed, typed_at, typed_of, are_typed, typed_in, AreAsWritten}
 use Rattle.sctp_model.proofs.TypedLemmas.{typed_of-nil, typed_of-first, typed_of-none, in_front, behind_first, HasFirst, has_first, IsCutOff, cut_off, length-item}
 use Rattle.sctp_model.proofs.TypedWriting.{zeros_long}
-use Rattle.sctp_wire.specs.TypedTree.{IsFirstAsWritten}
+use Rattle.sctp_wire.specs.inner.FirstAsWritten.{IsFirstAsWritten}
 
 -- ---- a list and its first item
 

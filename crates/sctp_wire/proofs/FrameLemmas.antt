@@ -11,7 +11,8 @@ use Rattle.sctp_wire.specs.declared.fault.Reason.TheVariants as reason
 use Rattle.sctp_wire.specs.Layouts.{ReadsFlags, ReadsValue, has_layout, has_list, IsReadable}
 use Rattle.sctp_wire.specs.Reads.{header, ReadsChunk}
 use Rattle.sctp_wire.specs.FirstFault.{stated_length, value_at, HasHeader, IsTooSmall, IsUnpadded, IsWrong}
-use Rattle.sctp_wire.specs.Reading.{body_at, frame_at, framed, chunk_at, IsWhole}
+use Rattle.sctp_wire.specs.Reading.{body_at, frame_at, framed, chunk_at}
+use Rattle.sctp_wire.specs.inner.Frame.{IsWhole}
 use Rattle.sctp_wire.proofs.NumberLemmas.{u16_at-bytes, length-u16, bytes-u16_at, u16_at-lt, AreBytes-drop, AreBytes-take}
 use Rattle.sctp_wire.proofs.BodyLemmas.{body_of, body_read, length-value}
 

@@ -12,7 +12,7 @@ use Rattle.sctp_wire.specs.declared.fault.WireFault.TheVariants.{Cut, LengthTooS
 use Rattle.sctp_wire.specs.FaultTree.{fault_at, offset_of}
 use Rattle.sctp_wire.specs.Reads.{ReadsChunk, ReadsEach, Reads}
 use Rattle.sctp_wire.specs.FirstFault.{IsWrong, FaultsAt, Faults}
-use Rattle.sctp_wire.specs.Reading.{chunk_at, FaultPlace, onto, each_of, AreChunks, chunks_or_none, chunks_of, where_placed, placed, reading_of}
+use Rattle.sctp_wire.specs.Reading.{chunk_at, FaultPlace, onto, each_of, AreChunks, chunks_or_none, chunks_of}
 use Rattle.sctp_wire.specs.Laws.{ReadInOneWay}
 use Rattle.sctp_wire.proofs.NumberLemmas.{AreBytes-drop}
 use Rattle.sctp_wire.proofs.FrameLemmas.{BeginsWith, begins_first, wrong_first, chunk-some, length-chunk}
@@ -20,18 +20,34 @@ use Rattle.sctp_wire.proofs.ReadingLemmas.{each_of-nil, each_of-chunk, each_of-o
 
 -- ---- all of the bytes
 
-pub reading_of-each : (bytes : List ℕ) (ms : List ChunkMeaning) → ReadsEach bytes ms → reading_of bytes ≡ where_placed ms (first_misplaced ms)
-unfolding reading_of
+-- chunks, where the first misplaced one is here
+where_placed : List ChunkMeaning → Option ℕ → Result (List ChunkMeaning) WireFault
+where_placed ms None = Ok ms
+where_placed ms (Some offset) = Err (NotAlone offset)
+
+-- what is read of each chunk by itself, and then of where they stand
+placed : Result (List ChunkMeaning) FaultPlace → Result (List ChunkMeaning) WireFault
+placed (Ok ms) = where_placed ms (first_misplaced ms)
+placed (Err at) = Err (fault_at at.why at.offset)
+
+-- the chunks that bytes are, or their fault
+reading_of : List ℕ → Result (List ChunkMeaning) WireFault
+reading_of bytes = placed (each_of bytes)
+
+reading_of-each : (bytes : List ℕ) (ms : List ChunkMeaning) → ReadsEach bytes ms → reading_of bytes ≡ where_placed ms (first_misplaced ms)
+unfolding reading_of placed
 reading_of-each bytes ms each = ap placed (each_of-ok bytes ms each)
 
-pub reading_of-ok : (bytes : List ℕ) (ms : List ChunkMeaning) → Reads bytes ms → reading_of bytes ≡ Ok ms
+reading_of-ok : (bytes : List ℕ) (ms : List ChunkMeaning) → Reads bytes ms → reading_of bytes ≡ Ok ms
+unfolding where_placed
 reading_of-ok bytes ms reads = reading_of-each bytes ms reads.each ∙ ap (where_placed ms) reads.placed
 
 faulted : (why : Reason) (bytes : List ℕ) (offset : ℕ) → FaultsAt why bytes offset → reading_of bytes ≡ Err (fault_at why offset)
-unfolding reading_of
+unfolding reading_of placed
 faulted why bytes offset h = ap placed (each_of-err why bytes offset h)
 
-pub reading_of-err : (bytes : List ℕ) (f : WireFault) → Faults bytes f → reading_of bytes ≡ Err f
+reading_of-err : (bytes : List ℕ) (f : WireFault) → Faults bytes f → reading_of bytes ≡ Err f
+unfolding where_placed
 reading_of-err bytes (Cut offset) h = faulted reason.IsCut bytes offset h
 reading_of-err bytes (LengthTooSmall offset) h = faulted reason.HasShortLength bytes offset h
 reading_of-err bytes (PaddingMissing offset) h = faulted reason.LacksPadding bytes offset h

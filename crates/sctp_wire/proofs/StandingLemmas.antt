@@ -6,8 +6,9 @@ use Rattle.sctp_model.specs.Numbers.{AreBytes}
 use Rattle.sctp_model.specs.Places.{stands_alone, never_follows, misplaced_behind, first_misplaced}
 use Rattle.sctp_wire.specs.FirstFault.{stated_length}
 use Rattle.sctp_wire.specs.Layouts.{IsReadable}
-use Rattle.sctp_wire.specs.Reading.{chunk_at, AreChunks, chunks_of, IsWhole}
-use Rattle.sctp_wire.specs.Standing.{is_alone, IsBehindFirst}
+use Rattle.sctp_wire.specs.Reading.{chunk_at, AreChunks, chunks_of}
+use Rattle.sctp_wire.specs.inner.Frame.{IsWhole}
+use Rattle.sctp_wire.specs.inner.Standing.{is_alone, IsBehindFirst}
 use Rattle.sctp_wire.proofs.KindLemmas.{unlike}
 use Rattle.sctp_wire.proofs.FrameLemmas.{FirstChunk, wrong, right, first_chunk_is, chunk_at-wrong, chunk_at-shaped, begins_first, length-chunk, chunk-some}
 use Rattle.sctp_wire.proofs.ReadingLemmas.{each_of-fault}

@@ -10,6 +10,6 @@ pub mod TypedTree
 pub mod ChunkTree
 pub mod RuleTree
 pub mod Reading
-pub mod Standing
+pub mod inner
 pub mod UnknownLaws
 pub mod Laws

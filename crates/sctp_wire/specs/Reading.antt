@@ -3,13 +3,9 @@
 use Rattle.std.specs.Prelude.{ℕ, zero, suc, ◌≤◌, ◌+◌, ◌-◌, true, if◌then◌else◌, ◌==◌, nat_lt, List, [], ◌∷◌, length, drop, slice_index, Option, Some, None, Result, Ok, Err, IsOk}
 use Rattle.sctp_model.specs.Chunk.{ChunkMeaning, Data, IData, Init, InitAck, Sack, Heartbeat, HeartbeatAck, Abort, Shutdown, ShutdownAck, Error, CookieEcho, CookieAck, ShutdownComplete, ForwardTsn, IForwardTsn, Unknown, padded}
 use Rattle.sctp_model.specs.Numbers.{u32_at}
-use Rattle.sctp_model.specs.Places.{first_misplaced}
 use Rattle.sctp_wire.specs.declared.codes.TheConstants.{DATA, INIT, INIT_ACK, SACK, HEARTBEAT, HEARTBEAT_ACK, ABORT, SHUTDOWN, SHUTDOWN_ACK, ERROR, COOKIE_ECHO, COOKIE_ACK, SHUTDOWN_COMPLETE, I_DATA, FORWARD_TSN, I_FORWARD_TSN, REFLECTED}
 use Rattle.sctp_wire.specs.declared.fault.Reason.{Reason}
 use Rattle.sctp_wire.specs.declared.fault.Reason.TheVariants.{IsCut, HasShortLength, LacksPadding, HasOtherBody, HasNoList}
-use Rattle.sctp_wire.specs.declared.fault.WireFault.{WireFault}
-use Rattle.sctp_wire.specs.declared.fault.WireFault.TheVariants.{NotAlone}
-use Rattle.sctp_wire.specs.FaultTree.{fault_at}
 use Rattle.sctp_wire.specs.chunks.Flags.{has_flag}
 use Rattle.sctp_wire.specs.chunks.Data.{data_at}
 use Rattle.sctp_wire.specs.chunks.IData.{i_data_at}
@@ -49,13 +45,6 @@ frame_at bytes =
     else if nat_lt (length bytes) (stated_length bytes) then Err IsCut
     else if nat_lt (length bytes) (padded (stated_length bytes)) then Err LacksPadding
     else Ok (stated_length bytes)
-
--- all of the first chunk is there, with its padding
-pub record IsWhole (bytes : List ℕ) : Type 0 where
-  pub head : 4 ≤ length bytes
-  pub stated : 4 ≤ stated_length bytes
-  pub fits : stated_length bytes ≤ length bytes
-  pub filled : padded (stated_length bytes) ≤ length bytes
 
 -- the first chunk and what follows it, where its frame is right
 abbrev pub framed : List ℕ → Result ℕ Reason → Result (ChunkMeaning × List ℕ) Reason
@@ -102,6 +91,7 @@ each_of bytes = chunks_within (length bytes) bytes
 abbrev pub AreChunks : List ℕ → Type 0
 AreChunks bytes = IsOk (each_of bytes)
 
+-- these chunks, none where a fault was found
 abbrev pub chunks_or_none : Result (List ChunkMeaning) FaultPlace → List ChunkMeaning
 chunks_or_none (Ok ms) = ms
 chunks_or_none (Err at) = []
@@ -109,16 +99,3 @@ chunks_or_none (Err at) = []
 -- the chunks of bytes that are whole chunks
 abbrev pub chunks_of : List ℕ → List ChunkMeaning
 chunks_of bytes = chunks_or_none (each_of bytes)
-
--- chunks, where the first misplaced one is here
-abbrev pub where_placed : List ChunkMeaning → Option ℕ → Result (List ChunkMeaning) WireFault
-where_placed ms None = Ok ms
-where_placed ms (Some offset) = Err (NotAlone offset)
-
-abbrev pub placed : Result (List ChunkMeaning) FaultPlace → Result (List ChunkMeaning) WireFault
-placed (Ok ms) = where_placed ms (first_misplaced ms)
-placed (Err at) = Err (fault_at at.why at.offset)
-
--- all of the bytes
-unfoldable pub reading_of : List ℕ → Result (List ChunkMeaning) WireFault
-reading_of bytes = placed (each_of bytes)

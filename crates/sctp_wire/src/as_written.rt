@@ -3,7 +3,7 @@
 ghost use Rattle.std.specs.Prelude.{◌≡◌, ◌↔◌, true, IsTrue, EachIndex, slice_index};
 ghost use Rattle.sctp_model.specs.Numbers.{AreBytes};
 ghost use Rattle.sctp_model.specs.Typed.{starts_typed, are_typed, AreAsWritten};
-ghost use Rattle.sctp_wire.specs.TypedTree.{IsFirstAsWritten};
+ghost use Rattle.sctp_wire.specs.inner.FirstAsWritten.{IsFirstAsWritten};
 
 use crate::numbers::padded;
 use crate::typed::{length_field, split_first, starts_typed};

@@ -31,6 +31,7 @@ pub use laws::{
     written_each_reads, written_reads,
 };
 pub use lists::{BlockIter, Blocks, GapBlock, WordIter, Words};
+pub use numbers::padded;
 pub use read::{Chunks, read_chunks};
 pub use skips::{Skip, SkipForm, SkipIter, Skips, put_skip};
 pub use typed::{

@@ -24,9 +24,9 @@ pub fn read_u32(bytes: &[u8]) -> u32
     BigEndian::read_u32(bytes)
 }
 
-/// A length filled up to a multiple of 4.
+/// A length filled up to a multiple of 4 (RFC 9260, 3.2), as a chunk's, a parameter's or a cause's.
 pub fn padded(size: usize) -> usize
-    requires { size < 2 ^ 63 }
+    requires { size + 3 < 2 ^ 64 }
     ensures { result ≡ padded size }
 {
     (size + 3) / 4 * 4

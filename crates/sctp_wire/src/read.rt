@@ -8,9 +8,10 @@ ghost use Rattle.sctp_model.specs.Places.{first_misplaced, misplaced_behind};
 ghost use Rattle.sctp_wire.specs.ChunkTree.{chunk_meaning};
 ghost use Rattle.sctp_wire.specs.FaultTree.{offset_of};
 ghost use Rattle.sctp_wire.specs.FirstFault.{stated_length, Faults};
-ghost use Rattle.sctp_wire.specs.Reading.{frame_at, chunk_at, chunks_of, AreChunks, IsWhole};
+ghost use Rattle.sctp_wire.specs.Reading.{frame_at, chunk_at, chunks_of, AreChunks};
+ghost use Rattle.sctp_wire.specs.inner.Frame.{IsWhole};
 ghost use Rattle.sctp_wire.specs.Reads.{Reads};
-ghost use Rattle.sctp_wire.specs.Standing.{is_alone, IsBehindFirst};
+ghost use Rattle.sctp_wire.specs.inner.Standing.{is_alone, IsBehindFirst};
 
 use crate::chunk::{Chunk, has_layout, has_list, read_value};
 use crate::codes::{COOKIE_ECHO, INIT, INIT_ACK, SHUTDOWN_COMPLETE};

@@ -6,6 +6,7 @@ use Rattle.sctp_model.specs.Numbers.{u32_bytes, u32_at}
 use Rattle.sctp_wire.specs.declared.skips.SkipForm.{SkipForm}
 use Rattle.sctp_wire.specs.Skips.{skip_size, skip_bytes, IsSkip, ReadsSkips, skips_in}
 
+-- the value, reserved bits zero
 abbrev pub forward_value : SkipForm → ForwardMeaning → List ℕ
 forward_value form f = u32_bytes f.cumulative ++ flat_map (skip_bytes form) f.skips
 

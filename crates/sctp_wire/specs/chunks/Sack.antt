@@ -5,6 +5,7 @@ use Rattle.sctp_model.specs.Chunk.{SackMeaning}
 use Rattle.sctp_model.specs.Numbers.{u16_bytes, u32_bytes, u16_at, u32_at}
 use Rattle.sctp_wire.specs.Items.{block_bytes, IsBlock, IsWord, blocks_in, words_in}
 
+-- the value: the numbers, then the lists
 abbrev pub sack_value : SackMeaning → List ℕ
 sack_value s =
     u32_bytes s.cumulative ++ (u32_bytes s.rwnd ++ (u16_bytes (length s.blocks) ++ (u16_bytes (length s.duplicates)

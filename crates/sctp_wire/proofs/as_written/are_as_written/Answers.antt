@@ -3,7 +3,7 @@ use Rattle.std.proofs.lemmas.Grind.{common_steps}
 use Rattle.sctp_model.specs.Chunk.{padded}
 use Rattle.sctp_model.specs.Typed.{starts_typed, length_field, AreAsWritten}
 use Rattle.sctp_model.proofs.NumberLemmas.{AreBytes-drop}
-use Rattle.sctp_wire.specs.TypedTree.{IsFirstAsWritten}
+use Rattle.sctp_wire.specs.inner.FirstAsWritten.{IsFirstAsWritten}
 use Rattle.sctp_wire.proofs.AsWrittenLemmas.{a_list, listed_at_end, behind_shorter, as_written_step, nothing_as_written}
 use Rattle.sctp_wire.proofs.as_written.are_as_written.Goals as goal
 

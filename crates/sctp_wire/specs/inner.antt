@@ -1,0 +1,3 @@
+pub mod Frame
+pub mod Standing
+pub mod FirstAsWritten
