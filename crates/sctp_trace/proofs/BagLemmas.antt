@@ -1,11 +1,11 @@
 -- Bags of packets, and worlds of which one end or one bag changed.
-use Rattle.std.proofs.Common.{◌≡◌, ◌⊎◌, inl, inr, ℕ, zero, suc, ◌+◌, ◌-◌, ◌<◌, ◌≤◌, List, [], ◌∷◌, ◌++◌, length, slice_get, get_or, Option, Some, None, refl, sym, ap, arith}
+use Rattle.std.proofs.Common.{◌≡◌, ◌⊎◌, inl, inr, ℕ, zero, suc, ◌<◌, List, [], ◌∷◌, ◌++◌, length, slice_get, get_or, Some, None, refl, ap, arith}
 use Rattle.std.specs.declared.vec.Vec.{Vec}
 use Rattle.std.specs.declared.alloc.Global.{Global}
 use Rattle.std.proofs.lemmas.Option.{slice_get_past}
 use Rattle.sctp_model.specs.Lists.{item_at}
 use Rattle.sctp_model.specs.first.Ends.{Packet, EndView}
-use Rattle.sctp_model.specs.first.World.{Side, A, B, World, end_of, other, bag_of, with_end, with_packet}
+use Rattle.sctp_model.specs.first.World.{Side, A, B, World, end_of, bag_of, with_end, with_packet}
 use Rattle.sctp_trace.specs.PairStands.{IsPacketOf, ArePackets}
 use Rattle.sctp_trace.specs.inner.EndSteps.{with_bag}
 

@@ -1,6 +1,6 @@
 -- What clap's matches of the program's words ask for.
-use Rattle.std.proofs.Common.{◌≡◌, ℕ, Bool, true, false, List, [], codes, Option, Some, None, refl, sym, ap, subst, ◌∙◌, inl, inr, ◌⊎◌}
-use Rattle.std.specs.Prelude.{option_map, option_and_then, unwrap_or, Box}
+use Rattle.std.proofs.Common.{◌≡◌, ℕ, true, false, List, [], codes, Option, Some, None, refl, sym, ap, ◌∙◌, inl, inr, ◌⊎◌}
+use Rattle.std.specs.Prelude.{option_map, unwrap_or, Box}
 use Rattle.std.specs.Str.{bytes_eq}
 use Rattle.std.specs.Box.{box_value}
 use Rattle.std.proofs.lemmas.Bool.{cases_Bool}
@@ -8,13 +8,13 @@ use Rattle.std.proofs.lemmas.Slice.Eq.{bytes_eq-Decides}
 use Rattle.std.specs.Borrow.{Bor}
 use Rattle.clap.specs.Matches.{subcommand_name_of, found_of, first_value}
 use Rattle.clap.specs.Simple.{is_simple, subcommand_of, subcommand_rows, subcommand_rows_of}
-use Rattle.clap.specs.Walk.{Row, rows_of, first_of}
+use Rattle.clap.specs.Walk.{Row, rows_of}
 use Rattle.clap.proofs.OnLiterals.{clap_on_literals}
 use Rattle.clap.proofs.WalkLemmas.{first_value-rows}
 use Rattle.clap.specs.declared.parser.matches.ArgMatches.{ArgMatches}
 use Rattle.clap.specs.declared.parser.matches.ArgMatches.TheViews.{out-ArgMatches, out-SubCommand}
 use Rattle.clap.specs.declared.parser.matches.SubCommand.{SubCommand}
-use Rattle.sctp_trace.specs.Forms.{commands, Form, Run, Packet, Chunks, hex_of, asked_by}
+use Rattle.sctp_trace.specs.Forms.{commands, Run, Packet, Chunks, hex_of, asked_by}
 
 -- another name than this one
 other_name : (xs ys : List ℕ) → (xs ≡ ys → ⊥) → bytes_eq xs ys ≡ false

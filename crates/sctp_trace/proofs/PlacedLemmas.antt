@@ -1,6 +1,6 @@
 -- The chunks of a packet that is built stand where they may: they are SACKs and DATA, which may stand anywhere.
 use Rattle.std.proofs.lemmas.List.{take_all}
-use Rattle.std.proofs.Common.{◌≡◌, ℕ, ◌+◌, ◌-◌, arith, length-drop, take, Bool, true, false, List, [], ◌∷◌, ◌++◌, length, drop, None, refl, sym, ap, subst, inl, inr}
+use Rattle.std.proofs.Common.{◌≡◌, ℕ, ◌+◌, ◌-◌, arith, length-drop, take, List, [], ◌∷◌, ◌++◌, length, drop, None, refl, sym, ap, subst, inl, inr}
 use Rattle.std.specs.List.{AllByRecursion}
 use Rattle.sctp_model.specs.Chunk.{ChunkMeaning, Data, Sack, size_of_chunk}
 use Rattle.sctp_model.specs.Places.{misplaced_behind, ArePlaced}

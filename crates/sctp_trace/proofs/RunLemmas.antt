@@ -1,13 +1,12 @@
 -- Runs that grow by an event at a time, and what is promised of them.
-use Rattle.std.proofs.Common.{◌≡◌, ℕ, ◌+◌, ◌<◌, ◌⊎◌, List, [], ◌∷◌, ◌++◌, length, map, take, drop, get_or, Option, Some, None, Ok, Err, inl, inr, refl, sym, ap, ◌∙◌, subst}
-use Rattle.std.specs.Prelude.{Result}
-use Rattle.std.proofs.lemmas.List.{take_more, map-append, take-append-drop}
+use Rattle.std.proofs.Common.{◌≡◌, ℕ, ◌+◌, ◌<◌, List, [], ◌∷◌, ◌++◌, length, map, take, get_or, Option, Some, None, Ok, Err, inr, refl, sym, ap, subst}
+use Rattle.std.proofs.lemmas.List.{take_more, map-append}
 use Rattle.sctp_model.specs.first.World as world
 use Rattle.sctp_model.specs.first.World.{World, start, Step, Run, last_of, IsReachable}
-use Rattle.sctp_safety.specs.Worlds.{AllSafe, SafeRuns}
+use Rattle.sctp_safety.specs.Worlds.{SafeRuns}
 use Rattle.sctp_wire.specs.declared.fault.NoMemory.{NoMemory}
 use Rattle.sctp_script.specs.Events.{event_meaning}
-use Rattle.sctp_trace.specs.PairRuns.{Told, AllTold, IsCutShort, Course, one_event, goes_on, course_to, RunsFrom, Promises, Promised}
+use Rattle.sctp_trace.specs.PairRuns.{StepAnswer, StepAnswers, IsCutShort, Course, one_event, RunsFrom, Promised}
 use Rattle.sctp_script.specs.declared.event.Event.{Event}
 use Rattle.sctp_script.specs.declared.event.Outcome.{Outcome}
 
@@ -25,13 +24,13 @@ last-push w [] x = refl
 last-push w (v ∷ vs) x = last-push v vs x
 
 pub told-push : (outcomes : List Outcome) (answers : List (Option world.Outcome)) (outcome : Outcome) (o : Option world.Outcome)
-    → AllTold outcomes answers → Told (Ok outcome) o → AllTold (outcomes ++ outcome ∷ []) (answers ++ o ∷ [])
+    → StepAnswers outcomes answers → StepAnswer (Ok outcome) o → StepAnswers (outcomes ++ outcome ∷ []) (answers ++ o ∷ [])
 told-push [] [] outcome o all told = (told, tt)
 told-push (x ∷ xs) (a ∷ answers) outcome o (first, rest) told = (first, told-push xs answers outcome o rest told)
 told-push [] (a ∷ answers) outcome o all told = absurd all
 told-push (x ∷ xs) [] outcome o all told = absurd all
 
-pub told_none : (e : NoMemory) (o : Option world.Outcome) → Told (Err e) o → o ≡ None
+pub told_none : (e : NoMemory) (o : Option world.Outcome) → StepAnswer (Err e) o → o ≡ None
 told_none e None told = refl
 told_none e (Some o) told = absurd told
 
@@ -43,7 +42,7 @@ run_more w events i event answers vs o x less is run step =
     rw (take_more events i event less, map-append, ← is) (run-push w _ answers vs (event_meaning event) o x run step)
 
 -- memory was wanting in the last event
-pub cut_short : (outcomes : List Outcome) (answers : List (Option world.Outcome)) (e : NoMemory) (o : Option world.Outcome) → AllTold outcomes answers → Told (Err e) o
+pub cut_short : (outcomes : List Outcome) (answers : List (Option world.Outcome)) (e : NoMemory) (o : Option world.Outcome) → StepAnswers outcomes answers → StepAnswer (Err e) o
     → IsCutShort (answers ++ o ∷ [])
 cut_short outcomes answers e o all told = inr (outcomes, answers, all, ap (λ (x : Option world.Outcome). answers ++ x ∷ []) (told_none e o told))
 

@@ -1,5 +1,5 @@
 -- What first lines of a script write is a beginning of what is written for all its lines.
-use Rattle.std.proofs.Common.{◌≡◌, ℕ, ◌++◌, ◌⊎◌, inl, inr, List, Result, Ok, Err, sym, ap, ◌∙◌, append_assoc}
+use Rattle.std.proofs.Common.{ℕ, ◌++◌, ◌⊎◌, inl, inr, List, Result, Ok, Err, ap, ◌∙◌, append_assoc}
 use Rattle.sctp_trace.specs.declared.script.ScriptFault.{ScriptFault}
 use Rattle.sctp_trace.specs.declared.script.ScriptFault.TheVariants.{Read, Write, NoMemory, Line}
 use Rattle.sctp_trace.specs.Script.{BeginsLines, BeginsOutput, IsAnswered}

@@ -1,5 +1,5 @@
 -- Output that is gathered before it is written: what is written stays a beginning of what the lines of a script write.
-use Rattle.std.proofs.Common.{◌≡◌, ℕ, ◌++◌, ◌⊎◌, inl, inr, List, [], Bool, Option, None, ◌≤◌, Result, Ok, Err, refl, sym, ap, ◌∙◌, subst, arith, append_assoc, append-nil}
+use Rattle.std.proofs.Common.{◌≡◌, ℕ, ◌++◌, inl, inr, List, [], Bool, Option, None, ◌≤◌, Result, Ok, Err, refl, sym, ap, ◌∙◌, subst, arith, append_assoc, append-nil}
 use Rattle.std.proofs.lemmas.List.Elements.{All-nil}
 use Rattle.sctp_text.specs.TextLines.{IsOneLine}
 use Rattle.sctp_model.specs.first.World.{World}
@@ -9,7 +9,7 @@ use Rattle.sctp_trace.specs.declared.script.ScriptFault.{ScriptFault}
 use Rattle.sctp_trace.specs.declared.script.ScriptFault.TheVariants.{Read, Write, NoMemory, Line}
 use Rattle.sctp_trace.specs.Script.{IsFront, BeginsOutput, FaultsFirst}
 use Rattle.sctp_trace.specs.inner.ScriptSteps.{IsSoFar, IsWrittenOf, IsPassedOn, IsClosed, BeginsFront, EndsAs, RunsOn}
-use Rattle.sctp_trace.proofs.ScriptLemmas.{front_of}
+use Rattle.sctp_trace.proofs.ScriptRuns.{front_of}
 use Rattle.sctp_text.specs.declared.limits.TheConstants.{LONGEST_TEXT}
 
 -- ---- what is written of the bytes that were gathered

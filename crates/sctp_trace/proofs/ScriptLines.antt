@@ -1,9 +1,9 @@
 -- LINES is there for every text: first lines without a fault go on to the first line with one, or to the last that a line feed ends.
-use Rattle.std.proofs.Common.{◌≡◌, ℕ, ◌+◌, ◌<◌, ◌≤◌, ◌⊎◌, inl, inr, Bool, true, false, List, [], ◌∷◌, ◌++◌, length, Option, Some, None, refl, sym, ap, ◌∙◌, subst, arith, append_assoc, length-append}
+use Rattle.std.proofs.Common.{◌≡◌, ℕ, ◌+◌, ◌<◌, ◌≤◌, ◌⊎◌, inl, inr, Bool, true, List, [], ◌∷◌, ◌++◌, length, Option, Some, None, refl, sym, ap, ◌∙◌, subst, arith, append_assoc, length-append}
 use Rattle.std.specs.List.{All}
 use Rattle.std.proofs.lemmas.Bool.{cases_lt}
 use Rattle.std.proofs.lemmas.List.Elements.{All-nil, All-cons, All-head, All-tail}
-use Rattle.sctp_model.specs.first.World.{World, Event, Step, IsReachable, start}
+use Rattle.sctp_model.specs.first.World.{World, Event, start}
 use Rattle.sctp_safety.specs.Answered.{EventsAreAnswered}
 use Rattle.sctp_script.specs.declared.line.LineFault.TheVariants.{TooLong}
 use Rattle.sctp_script.specs.Grammar.{SaysOneThing}
@@ -12,8 +12,8 @@ use Rattle.sctp_text.specs.TextLines.{SplitInOneWay}
 use Rattle.sctp_text.specs.TextLines as split
 use Rattle.sctp_text.specs.TextLines.{IsOneLine, IsTooLong, ended, joined, ended_lines_of, first_length, first_end}
 use Rattle.sctp_script.specs.OutcomeText.{outcome_line}
-use Rattle.sctp_trace.specs.Script.{is_paired, Does, LineActs, Goes, HasFirstFault, IsFront, Stops, IsLines}
-use Rattle.sctp_trace.proofs.ScriptLemmas.{first_length-ended, front_goes_on}
+use Rattle.sctp_trace.specs.Script.{is_paired, Does, Goes, IsFront, Stops, IsLines}
+use Rattle.sctp_trace.proofs.ScriptRuns.{first_length-ended, front_goes_on}
 use Rattle.sctp_trace.proofs.ScriptSafety.{IsReached, at_start, one_step, all_lines}
 use Rattle.sctp_text.specs.declared.limits.TheConstants.{LINE_FEED, LONGEST_LINE, LONGEST_TEXT}
 

@@ -11,7 +11,7 @@ use Rattle.sctp_script.specs.Grammar.{LineMeaning, Silent, Pairs, Acts, Fault, S
 use Rattle.sctp_text.specs.TextLines.{IsOneLine, is_line_feed, ended, joined, first_length}
 use Rattle.sctp_trace.specs.Script.{is_paired, Does, LineActs, Goes, BeginsWith, HasFirstFault}
 use Rattle.sctp_trace.specs.ScriptOneFault.{HasOneFault}
-use Rattle.sctp_trace.proofs.ScriptLemmas.{first_length-ended}
+use Rattle.sctp_trace.proofs.ScriptRuns.{first_length-ended}
 use Rattle.sctp_text.specs.declared.limits.TheConstants.{LINE_FEED, LONGEST_LINE, LONGEST_TEXT}
 
 -- ---- a text begins with one line

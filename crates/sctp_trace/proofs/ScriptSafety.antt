@@ -1,7 +1,7 @@
 -- The lines of a script lead to worlds that a run from the start reaches.
-use Rattle.std.proofs.Common.{◌≡◌, ℕ, ◌∷◌, [], ◌++◌, List, Option, None, Some, refl, sym, ap, ◌∙◌, subst}
+use Rattle.std.proofs.Common.{ℕ, ◌∷◌, [], ◌++◌, List, Option, None, Some, refl, sym, subst}
 use Rattle.sctp_model.specs.first.Ends.{Configuration}
-use Rattle.sctp_model.specs.first.World.{World, Event, Outcome, Step, Run, IsReachable, start, last_of}
+use Rattle.sctp_model.specs.first.World.{World, Event, Outcome, Step, IsReachable, start}
 use Rattle.sctp_safety.specs.Worlds.{IsSafeWorld, SafeWorlds}
 use Rattle.sctp_script.specs.Grammar.{LineMeaning, Silent, Pairs, Acts, Fault}
 use Rattle.sctp_trace.specs.Script.{Does, Goes}

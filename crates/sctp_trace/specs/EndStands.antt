@@ -1,14 +1,11 @@
 -- Which end stands for which view, and what its work on a packet leaves.
-use Rattle.std.specs.Prelude.{◌≡◌, ℕ, ◌<◌, ◌⊎◌, Bool, true, false, ◌==◌, List, [], ◌∷◌, ◌++◌, length, map, filter, Option, Some, None, Result, Ok, Err}
+use Rattle.std.specs.Prelude.{◌≡◌, ℕ, ◌<◌, Bool, true, false, ◌==◌, List, length, map, filter, Option}
 use Rattle.std.specs.List.{AllByRecursion}
 use Rattle.sctp_model.specs.Lists.{joined}
 use Rattle.sctp_model.specs.Format.{ordered_lane}
-use Rattle.sctp_model.specs.Chunk.{SackMeaning, ChunkMeaning, Sack}
 use Rattle.sctp_model.specs.Plan.{Plan, Entry, Part, End as EndMark}
-use Rattle.sctp_model.specs.ReceiverView.{Handed, ReceiverView}
-use Rattle.sctp_model.specs.first.Sending.{Refusal}
-use Rattle.sctp_model.specs.first.Ends.{State, Closed, Listen, Established, EndView, Packet, Act, Acts, SackOf}
-use Rattle.sctp_wire.specs.declared.fault.NoMemory.{NoMemory}
+use Rattle.sctp_model.specs.ReceiverView.{Handed}
+use Rattle.sctp_model.specs.first.Ends.{State, Closed, Listen, Established, EndView}
 use Rattle.sctp_script.specs.Events.{state_meaning}
 use Rattle.sctp_script.specs.ReportText.{tickets_of}
 use Rattle.sctp_first_recv.specs.ReceiverStands.{ReceiverStands}
@@ -42,7 +39,7 @@ abbrev pub IsOn : ℕ → Handed → Type 0
 IsOn s h = h.lane ≡ ordered_lane s
 
 -- Each part of an end stands for its part of the view, and the logs say what the view does.
-pub record IsEnd (e : End) (v : EndView) : Type 0 where
+pub record KeepsEnd (e : End) (v : EndView) : Type 0 where
   pub state : state_meaning e.state ≡ v.state
   pub sender : StandsFor e.sender v.sender
   pub receiver : ReceiverStands e.receiver v.receiver
@@ -55,4 +52,4 @@ pub record IsEnd (e : End) (v : EndView) : Type 0 where
 
 -- the end stands for this view
 unfoldable pub EndStands : End → EndView → Type 0
-EndStands e v = IsEnd e v
+EndStands e v = KeepsEnd e v

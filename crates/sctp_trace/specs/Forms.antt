@@ -1,5 +1,5 @@
 -- Which words are a form of the program's, and what a form asks for: both as clap reads words.
-use Rattle.std.specs.Prelude.{◌≡◌, ℕ, true, if◌then◌else◌, List, [], ◌∷◌, Option, Some, None, codes, unwrap_or}
+use Rattle.std.specs.Prelude.{◌≡◌, ℕ, true, if◌then◌else◌, List, [], Option, Some, None, codes, unwrap_or}
 use Rattle.std.specs.Str.{bytes_eq}
 use Rattle.clap.specs.Simple.{App, Shape, new_shape, new_app, new_rule, with_rule, with_subcommand, subcommand_of}
 use Rattle.clap.specs.Walk.{Rule, Row, first_of}

@@ -13,15 +13,15 @@ use Rattle.sctp_script.specs.declared.event.Outcome.{Outcome}
 -- ---- one event
 
 -- A result tells what a step answers; want of memory is the answer that isn't there.
-abbrev pub Told : Result Outcome NoMemory → Option world.Outcome → Type 0
-Told (Ok outcome) (Some o) = Answers outcome o
-Told (Ok outcome) None = ⊥
-Told (Err _) (Some o) = ⊥
-Told (Err _) None = Unit {0}
+abbrev pub StepAnswer : Result Outcome NoMemory → Option world.Outcome → Type 0
+StepAnswer (Ok outcome) (Some o) = Answers outcome o
+StepAnswer (Ok outcome) None = ⊥
+StepAnswer (Err _) (Some o) = ⊥
+StepAnswer (Err _) None = Unit {0}
 
 -- an event is answered by o, as the result tells, and leads from one world to another
-abbrev pub Leads : World → Event → Result Outcome NoMemory → Option world.Outcome → World → Type 0
-Leads w event result o x = Told result o × Step w (event_meaning event) o x
+abbrev pub StepLeaves : World → Event → Result Outcome NoMemory → Option world.Outcome → World → Type 0
+StepLeaves w event result o x = StepAnswer result o × Step w (event_meaning event) o x
 
 -- ---- several events
 
@@ -44,20 +44,20 @@ abbrev pub RunsFrom : World → Course → Type 0
 RunsFrom w c = Run w c.events c.answers c.worlds
 
 -- outcomes tell answers, each its own
-abbrev pub AllTold : List Outcome → List (Option world.Outcome) → Type 0
-AllTold [] [] = Unit {0}
-AllTold (outcome ∷ outcomes) (o ∷ os) = Told (Ok outcome) o × AllTold outcomes os
-AllTold [] (o ∷ os) = ⊥
-AllTold (outcome ∷ outcomes) [] = ⊥
+abbrev pub StepAnswers : List Outcome → List (Option world.Outcome) → Type 0
+StepAnswers [] [] = Unit {0}
+StepAnswers (outcome ∷ outcomes) (o ∷ os) = StepAnswer (Ok outcome) o × StepAnswers outcomes os
+StepAnswers [] (o ∷ os) = ⊥
+StepAnswers (outcome ∷ outcomes) [] = ⊥
 
 -- Memory was wanting before the first event, or in the last one, and in none before.
 abbrev pub IsCutShort : List (Option world.Outcome) → Type 0
-IsCutShort answers = (answers ≡ []) ⊎ ((outcomes : List Outcome) × (front : List (Option world.Outcome)) × AllTold outcomes front × (answers ≡ front ++ None ∷ []))
+IsCutShort answers = (answers ≡ []) ⊎ ((outcomes : List Outcome) × (front : List (Option world.Outcome)) × StepAnswers outcomes front × (answers ≡ front ++ None ∷ []))
 
 -- a run over all events with these outcomes, or one over the events so far
-abbrev pub Ran : World → List Event → Result (Vec Outcome Global) NoMemory → Course → Type 0
-Ran w events (Ok outcomes) c = AllTold outcomes.items c.answers × (c.events ≡ map event_meaning events) × RunsFrom w c
-Ran w events (Err _) c =
+abbrev pub RunLeaves : World → List Event → Result (Vec Outcome Global) NoMemory → Course → Type 0
+RunLeaves w events (Ok outcomes) c = StepAnswers outcomes.items c.answers × (c.events ≡ map event_meaning events) × RunsFrom w c
+RunLeaves w events (Err _) c =
     (done rest : List Event) × (events ≡ done ++ rest) × (c.events ≡ map event_meaning done) × IsCutShort c.answers × RunsFrom w c
 
 -- ---- what is promised

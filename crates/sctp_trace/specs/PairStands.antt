@@ -23,7 +23,7 @@ ArePackets [] (p ∷ ps) = ⊥
 ArePackets (b ∷ bag) [] = ⊥
 
 -- Each part of a pair stands for its part of the world.
-pub record IsPair (p : Pair) (w : World) : Type 0 where
+pub record KeepsPair (p : Pair) (w : World) : Type 0 where
   pub configuration : configuration_meaning p.config ≡ w.configuration
   pub a : EndStands p.a w.a
   pub b : EndStands p.b w.b
@@ -33,4 +33,4 @@ pub record IsPair (p : Pair) (w : World) : Type 0 where
 
 -- the pair stands for this world
 unfoldable pub PairStands : Pair → World → Type 0
-PairStands p w = IsPair p w
+PairStands p w = KeepsPair p w

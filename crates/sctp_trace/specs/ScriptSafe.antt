@@ -1,5 +1,5 @@
 -- The theorem on scripts: wherever the lines of a script lead, both directions are safe.
-use Rattle.std.specs.Prelude.{ℕ, List, Option, None, Some}
+use Rattle.std.specs.Prelude.{ℕ, List, None, Some}
 use Rattle.sctp_model.specs.first.World.{World}
 use Rattle.sctp_safety.specs.Worlds.{IsSafeWorld}
 use Rattle.sctp_trace.specs.Script.{Goes}

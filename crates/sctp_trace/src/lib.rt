@@ -4,6 +4,8 @@
 mod command_line;
 mod end;
 mod end_report;
+mod gathered;
+mod packets;
 mod pair;
 mod script;
 mod script_laws;

@@ -5,12 +5,13 @@ ghost use Rattle.sctp_model.specs.first.World as world;
 ghost use Rattle.sctp_model.specs.first.World.{World, start, last_of, Opens, Sends, BuildsAt, Delivers, Takes_at};
 ghost use Rattle.sctp_script.specs.Events.{side_meaning, event_meaning};
 ghost use Rattle.sctp_trace.specs.PairStands.{PairStands};
-ghost use Rattle.sctp_trace.specs.PairRuns.{Told, Leads, Course, one_event, Ran, Promised};
+ghost use Rattle.sctp_trace.specs.PairRuns.{StepAnswer, StepLeaves, Course, one_event, RunLeaves, Promised};
 ghost use Rattle.sctp_script.specs.ReportText.{report};
 ghost use Rattle.sctp_script.specs.Configuration.{configuration_meaning};
 
-use crate::end::{End, build_at, deliver_at, send_at, take_at};
+use crate::end::{End, send_at, take_at};
 use crate::end_report::put_report;
+use crate::packets::{build_at, deliver_at};
 use sctp_safety::safe_in_every_run;
 use sctp_script::{Event, Outcome, PairConfig, Refusal, Side, State};
 use sctp_wire::NoMemory;
@@ -56,7 +57,7 @@ impl Pair {
     /// Memory ran out. A delivery is then that of a packet cut before some chunk; any other event changed nothing.
     pub fn step(&mut self, event: &Event) -> Result<Outcome, NoMemory>
         ensures { (w : World) → PairStands self.old w
-            → (o : Option world.Outcome) × (x : World) × Leads w event.now result o x
+            → (o : Option world.Outcome) × (x : World) × StepLeaves w event.now result o x
             × Promised w (one_event (event_meaning event.now) o x) × PairStands self.new x }
     {
         // It does nothing: its contract is the theorem that the promise cites.
@@ -81,7 +82,7 @@ impl Pair {
     /// At the first one for which memory ran out, as `step` says; those before it happened.
     pub fn run(&mut self, events: &[Event]) -> Result<Vec<Outcome>, NoMemory>
         ensures { (w : World) → PairStands self.old w
-            → (c : Course) × Ran w events.now result c × Promised w c × PairStands self.new (last_of w c.worlds) }
+            → (c : Course) × RunLeaves w events.now result c × Promised w c × PairStands self.new (last_of w c.worlds) }
     {
         // It does nothing: its contract is the theorem that the promise cites.
         safe_in_every_run();
@@ -112,7 +113,7 @@ impl Pair {
     #[tactic(auto, unfolding(crate::specs::PairStands::PairStands))]
     fn open(&mut self) -> Result<Outcome, NoMemory>
         ensures { (w : World) → PairStands self.old w
-            → (o : Option world.Outcome) × (x : World) × Told result o × Opens w o x × PairStands self.new x }
+            → (o : Option world.Outcome) × (x : World) × StepAnswer result o × Opens w o x × PairStands self.new x }
     {
         if self.opened {
             return Ok(Outcome::Refused {
@@ -137,7 +138,7 @@ impl Pair {
         bytes: &[u8],
     ) -> Result<Outcome, NoMemory>
         ensures { (w : World) → PairStands self.old w
-            → (o : Option world.Outcome) × (x : World) × Told result o
+            → (o : Option world.Outcome) × (x : World) × StepAnswer result o
             × Sends w (side_meaning side) stream payload_id bytes.now o x × PairStands self.new x }
     {
         match side {
@@ -150,7 +151,7 @@ impl Pair {
     #[tactic(auto, unfolding(crate::specs::PairStands::PairStands))]
     fn build(&mut self, side: Side) -> Result<Outcome, NoMemory>
         ensures { (w : World) → PairStands self.old w
-            → (o : Option world.Outcome) × (x : World) × Told result o
+            → (o : Option world.Outcome) × (x : World) × StepAnswer result o
             × BuildsAt w (side_meaning side) o x × PairStands self.new x }
     {
         let limit = self.config.limit();
@@ -164,7 +165,7 @@ impl Pair {
     #[tactic(auto, unfolding(crate::specs::PairStands::PairStands))]
     fn deliver(&mut self, side: Side, number: u32) -> Result<Outcome, NoMemory>
         ensures { (w : World) → PairStands self.old w
-            → (o : Option world.Outcome) × (x : World) × Told result o
+            → (o : Option world.Outcome) × (x : World) × StepAnswer result o
             × Delivers w (side_meaning side) number o x × PairStands self.new x }
     {
         match side {
@@ -177,7 +178,7 @@ impl Pair {
     #[tactic(auto, unfolding(crate::specs::PairStands::PairStands))]
     fn take(&mut self, side: Side, stream: u16) -> Result<Outcome, NoMemory>
         ensures { (w : World) → PairStands self.old w
-            → (o : Option world.Outcome) × (x : World) × Told result o
+            → (o : Option world.Outcome) × (x : World) × StepAnswer result o
             × Takes_at w (side_meaning side) stream o x × PairStands self.new x }
     {
         match side {

@@ -10,6 +10,7 @@ ghost use Rattle.sctp_trace.specs.inner.ScriptSteps.{StandsAt, IsWrittenOf, IsGa
 ghost use Rattle.sctp_text.specs.TextLines.{MayBegin};
 ghost use Rattle.sctp_text.specs.declared.limits.TheConstants.{LONGEST_TEXT};
 
+use crate::gathered::{close, finish, gather_outcome, pass_on};
 use crate::pair::Pair;
 use crate::script_laws::lines_are_there;
 use sctp_script::{
@@ -21,9 +22,6 @@ use sctp_text::{
 use sctp_wire::NoMemory;
 use std::alloc::Global;
 use thiserror::Error;
-
-/// With so many bytes gathered they are written, also where the next line needn't be waited for.
-const ENOUGH: usize = 4_096;
 
 /// Why a script ended before its report was written.
 #[derive(Clone, Copy, Debug, PartialEq, Eq, Error)]
@@ -88,26 +86,6 @@ fn run_lines<R: Source, W: Sink>(
     finish(&running.pair, gathered)
 }
 
-/// Writes what is gathered, unless a call failed already: before a call of the reader nothing is gathered.
-fn close<W: Sink>(
-    ended: Result<(), ScriptFault>,
-    gathered: &[u8],
-    output: &mut W,
-) -> Result<(), ScriptFault>
-    requires { failed_writes ended ≡ 0 → W.failures output.old < 2 ^ 64 - 1 }
-    ensures closed { (written : List ℕ) × W.Writes output.old written output.new × IsClosed ended result gathered.now written }
-    ensures failed_reads { failed_reads result ≡ failed_reads ended }
-    ensures failed_writes { W.failures output.new + failed_writes ended ≡ W.failures output.old + failed_writes result }
-{
-    match ended {
-        Err(ScriptFault::Read | ScriptFault::Write) => ended,
-        _ => {
-            write_bytes(output, gathered)?;
-            ended
-        }
-    }
-}
-
 /// A script that is being run: the reader of its lines, the pair once there is one, and the number of the next line.
 #[derive(Drop)]
 struct Running {
@@ -169,28 +147,6 @@ impl Running {
     }
 }
 
-/// Writes what is gathered where the next line may be waited for, or where enough is gathered for a write.
-fn pass_on<W: Sink>(
-    lines: &LineReader,
-    gathered: &mut Vec<u8>,
-    output: &mut W,
-) -> Result<(), ScriptFault>
-    requires { W.failures output.old < 2 ^ 64 - 1 }
-    ensures written { (written : List ℕ) × W.Writes output.old written output.new
-        × IsPassedOn result gathered.old.items written gathered.new.items }
-    // Where the next line is still to be read nothing stays gathered.
-    ensures answered { OnOk result ((gathered.new.items ≡ []) ⊎ (¬ MayBegin lines.now.given lines.now.held)) }
-    ensures failed_writes { W.failures output.new ≡ W.failures output.old + failed_writes result }
-    ensures no_reads { failed_reads result ≡ 0 }
-{
-    if lines.is_ready() && gathered.len() < ENOUGH {
-        return Ok(());
-    }
-    let written = write_bytes(output, gathered);
-    gathered.clear();
-    written
-}
-
 /// A line acts, and the line of its outcome is gathered.
 fn act(
     alloc: Global,
@@ -218,49 +174,6 @@ fn act(
         }
         Err(LineError::Fault(fault)) => Err(ScriptFault::Line(number, fault)),
         Err(LineError::NoMemory) => Err(ScriptFault::NoMemory),
-    }
-}
-
-/// Gathers the line of an outcome.
-fn gather_outcome(outcome: &Outcome, gathered: &mut Vec<u8>) -> Result<(), ScriptFault>
-    ensures gathers { (o : world.Outcome) → Answers outcome.now o
-        → (here : List ℕ) × (gathered.new.items ≡ gathered.old.items ++ here) × IsGatheredOf result (outcome_line o) here }
-    ensures no_calls { (failed_reads result ≡ 0) × (failed_writes result ≡ 0) }
-{
-    match put_outcome(outcome, gathered) {
-        Ok(()) => Ok(()),
-        Err(NoMemory) => Err(ScriptFault::NoMemory),
-    }
-}
-
-/// Gathers the report of the pair, at the end of a script.
-fn finish(pair: &Option<Pair>, gathered: &mut Vec<u8>) -> Result<(), ScriptFault>
-    ensures closes { (state : Option World) → StandsAt pair.now state
-        → (here : List ℕ) × (gathered.new.items ≡ gathered.old.items ++ here) × Closes result state here }
-    ensures no_calls { (failed_reads result ≡ 0) × (failed_writes result ≡ 0) }
-{
-    match pair {
-        Some(pair) => {
-            let report = pair.report().map_err(|_| ScriptFault::NoMemory)?;
-            match gathered.extend_from_slice(&report) {
-                Ok(()) => Ok(()),
-                Err(_) => Err(ScriptFault::NoMemory),
-            }
-        }
-        None => Err(ScriptFault::Line(1, LineFault::PairOrder)),
-    }
-}
-
-/// Writes all of the bytes.
-fn write_bytes<W: Sink>(output: &mut W, bytes: &[u8]) -> Result<(), ScriptFault>
-    requires { W.failures output.old < 2 ^ 64 - 1 }
-    ensures written { (written : List ℕ) × W.Writes output.old written output.new × IsWrittenOf result bytes.now written }
-    ensures failed_writes { W.failures output.new ≡ W.failures output.old + failed_writes result }
-    ensures no_reads { failed_reads result ≡ 0 }
-{
-    match write_all(output, bytes) {
-        Ok(()) => Ok(()),
-        Err(Failed) => Err(ScriptFault::Write),
     }
 }
 

@@ -1,7 +1,6 @@
 -- How far a script has been run, and what one line, its outcome and the report leave.
 use Rattle.std.specs.Prelude.{◌≡◌, ℕ, suc, ◌≤◌, ◌⊎◌, Bool, true, false, List, [], ◌++◌, length, Option, Some, None, Result, Ok, Err}
 use Rattle.sctp_model.specs.first.World.{World}
-use Rattle.sctp_script.specs.declared.line.LineFault.{LineFault}
 use Rattle.sctp_script.specs.declared.line.LineFault.TheVariants.{PairOrder}
 use Rattle.sctp_text.specs.declared.line_reader.ReadFault.{ReadFault}
 use Rattle.sctp_text.specs.declared.line_reader.ReadFault.TheVariants as read

@@ -1,4 +1,4 @@
-use Rattle.std.proofs.Common.{rules, ap, ap₂, refl, subst, ◌∙◌, ◌≡◌, ℕ, List, codes, true, false, map, string_bytes}
+use Rattle.std.proofs.Common.{ap, ap₂, refl, subst, ◌∙◌, ◌≡◌, codes, true, false, map, string_bytes}
 use Rattle.std.specs.Prelude.{IfOk}
 use Rattle.clap.specs.Words.{App, Rule, FailsBy, HasMatchesOf, app_of, rule_of, fault_of, is_simple_and_free}
 use Rattle.clap.specs.Simple.{app_of_fields, new_app, on_top, with_rule, with_subcommand}

@@ -1,4 +1,4 @@
-use Rattle.std.proofs.Common.{rules, refl, inl, inr, List, ℕ, [], ◌++◌, ◌∙◌, ◌≡◌, ap, subst}
+use Rattle.std.proofs.Common.{inl, inr, List, ℕ, ◌++◌, ◌∙◌, ◌≡◌, ap, subst}
 use Rattle.sctp_trace.specs.ExitStatus.{Begins}
 use Rattle.sctp_trace.proofs.command_line.print_chunks_of.Goals as goal
 

@@ -1,4 +1,4 @@
-use Rattle.std.proofs.Common.{rules, arith, refl, ◌≡◌, inl, inr, List, ℕ, [], subst}
+use Rattle.std.proofs.Common.{rules, arith, refl, ◌≡◌, inl, inr, [], subst}
 use Rattle.std.proofs.lemmas.Grind.{common_steps}
 use Rattle.std.specs.Prelude.{Ok, Err}
 use Rattle.sctp_trace.specs.declared.script.ScriptFault.TheVariants.{Line}

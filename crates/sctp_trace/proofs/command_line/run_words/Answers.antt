@@ -1,4 +1,4 @@
-use Rattle.std.proofs.Common.{rules, refl, ◌≡◌, inl, inr, List, ℕ, [], map, string_bytes, subst, MatchResult}
+use Rattle.std.proofs.Common.{rules, refl, ◌≡◌, inl, inr, [], map, string_bytes, subst, MatchResult}
 use Rattle.sctp_trace.specs.ExitStatus.{Acts}
 use Rattle.sctp_trace.specs.Forms.{IsForm, form_of}
 use Rattle.sctp_trace.specs.inner.Asked.{form_meaning}

@@ -1,11 +1,11 @@
-use Rattle.std.proofs.Common.{◌≡◌, ℕ, List, Some, None, true, false, ◌∷◌, [], refl, sym, subst, ap, ◌∙◌, arith}
+use Rattle.std.proofs.Common.{◌≡◌, Some, true, false, refl, ◌∙◌, arith}
 use Rattle.std.proofs.lemmas.Grind.{common_steps}
 use Rattle.sctp_model.specs.first.World as world
 use Rattle.sctp_model.specs.first.World.{end_of, sent_by_user}
 use Rattle.sctp_script.specs.Events.{side_meaning, state_meaning}
 use Rattle.sctp_trace.specs.EndStands.{EndStands, is_established}
 use Rattle.sctp_trace.proofs.BagLemmas.{same_end}
-use Rattle.sctp_trace.proofs.EndLemmas.{not_open, is_open_refusal, refused_told, refused_none}
+use Rattle.sctp_trace.proofs.EndSends.{not_open, is_open_refusal, refused_told}
 use Rattle.sctp_trace.proofs.end.send_at.Goals as goal
 
 pub returns-then-not-is_open : goal.returns-then-not-is_open

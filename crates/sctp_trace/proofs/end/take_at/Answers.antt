@@ -1,4 +1,4 @@
-use Rattle.std.proofs.Common.{◌≡◌, ℕ, List, Some, ◌∷◌, ◌++◌, [], refl, sym, subst, ap, ◌∙◌, arith}
+use Rattle.std.proofs.Common.{◌≡◌, List, Some, ◌∷◌, ◌++◌, [], refl, sym, subst, arith}
 use Rattle.std.specs.List.{AllByRecursion}
 use Rattle.std.proofs.lemmas.Grind.{common_steps}
 use Rattle.sctp_model.specs.ReceiverView.{Handed, ReceiverView}
@@ -10,7 +10,7 @@ use Rattle.sctp_first_recv.specs.HandedOf.{handed_of}
 use Rattle.sctp_first_recv.specs.ReceiverStands.{ReceiverStands}
 use Rattle.sctp_trace.specs.declared.end.TakenMessage.{TakenMessage}
 use Rattle.sctp_trace.proofs.BagLemmas.{same_end}
-use Rattle.sctp_trace.proofs.EndLemmas.{end_took}
+use Rattle.sctp_trace.proofs.EndLogs.{end_took}
 use Rattle.sctp_trace.proofs.end.take_at.Goals as goal
 
 pub returns-in-None : goal.returns-in-None

@@ -1,8 +1,5 @@
-use Rattle.std.proofs.Common.{◌∙◌, ap, sym, ◌++◌, List, ℕ}
 use Rattle.std.proofs.lemmas.List.{take_more}
-use Rattle.sctp_first_send.specs.SenderSteps.{numbers_of}
-use Rattle.sctp_trace.specs.EndStands.{tickets_noted}
-use Rattle.sctp_trace.proofs.EndLemmas.{noted-push}
+use Rattle.sctp_trace.proofs.EndLogs.{noted-push}
 use Rattle.sctp_trace.proofs.end_report.all_tickets.Goals as goal
 
 pub loop-filled-preserved : goal.loop-filled-preserved

@@ -2,7 +2,7 @@ use Rattle.std.proofs.Common.{◌≡◌, ◌++◌, [], ◌∷◌, None, take, ge
 use Rattle.sctp_script.specs.ReportText.{numbers_there}
 use Rattle.sctp_trace.specs.EndStands.{numbers_taken}
 use Rattle.sctp_trace.specs.declared.end.TakenMessage.{TakenMessage}
-use Rattle.sctp_trace.proofs.EndLemmas.{there-taken, there-passed}
+use Rattle.sctp_trace.proofs.EndLogs.{there-taken, there-passed}
 use Rattle.sctp_trace.proofs.end_report.append_taken.Goals as goal
 
 pub loop-message-preserved : goal.loop-message-preserved

@@ -1,7 +1,7 @@
 use Rattle.std.proofs.Common.{◌≡◌, ◌<◌, ◌++◌, [], ◌∷◌, length, take, get_or, map, append_assoc, arith}
 use Rattle.std.proofs.lemmas.Grind.{common_steps}
 use Rattle.sctp_script.specs.ReportText.{numbers_there}
-use Rattle.sctp_trace.proofs.EndLemmas.{there-waiting}
+use Rattle.sctp_trace.proofs.EndLogs.{there-waiting}
 use Rattle.sctp_trace.proofs.end_report.append_waiting.Goals as goal
 
 pub loop-index-preserved : goal.loop-index-preserved

@@ -1,6 +1,6 @@
 use Rattle.std.proofs.Common.{◌≡◌, ◌∙◌, ap, map}
 use Rattle.sctp_trace.specs.EndStands.{EndStands}
-use Rattle.sctp_trace.proofs.EndLemmas.{both_told, all_taken}
+use Rattle.sctp_trace.proofs.EndLogs.{both_told, all_taken}
 use Rattle.sctp_trace.proofs.end_report.numbers_handed.Goals as goal
 use Rattle.sctp_trace.proofs.end_report.numbers_handed.Goals.{in-Some+in_ok-append_waiting, in_default}
 use Rattle.sctp_script.specs.ReportText.{numbers_there}

@@ -1,13 +1,12 @@
-use Rattle.std.proofs.Common.{◌≡◌, [], Some, Ok, refl, subst, Option, sym, append-nil}
+use Rattle.std.proofs.Common.{[], Some, Ok, refl, subst, Option, sym, append-nil}
 use Rattle.sctp_model.specs.first.World as world
 use Rattle.sctp_model.specs.first.World.{World, Step, start}
 use Rattle.sctp_script.specs.Events.{event_meaning}
 use Rattle.sctp_script.specs.Grammar.{Silent, Pairs, Acts, Says}
-use Rattle.sctp_script.specs.ReadLineAnswer.{Finds}
 use Rattle.sctp_script.specs.Configuration.{configuration_meaning}
-use Rattle.sctp_trace.specs.PairRuns.{Leads}
+use Rattle.sctp_trace.specs.PairRuns.{StepLeaves}
 use Rattle.sctp_trace.specs.PairStands.{PairStands}
-use Rattle.sctp_trace.proofs.ScriptLemmas.{says_here, world_of, told_some, outcome_leaves, mapped_is, finds_event, finds_pair, no_pair}
+use Rattle.sctp_trace.proofs.LineActs.{says_here, world_of, told_some, outcome_leaves, mapped_is, finds_event, finds_pair, no_pair}
 use Rattle.sctp_trace.proofs.script.act.Goals as goal
 
 pub unreachable-requires : goal.unreachable-requires
@@ -40,7 +39,7 @@ returns-in_ok-outcome-in-Ok-Some-Event-clause-leaves c = λ state stands.
     let at = world_of c.args.pair.now c.in-Some.pair state c.in-Some.is stands in
     let now = c.step.ensures at.0 at.2 in
     let is = mapped_is _ c.step.result c.map_err-in-Ok-Some-Event.result outcome c.map_err-in-Ok-Some-Event.ensures.cases c.in_ok-outcome-in-Ok-Some-Event.was in
-    let led : Leads at.0 e.event (Ok outcome) now.0 now.1 = rw is at now.2 in
+    let led : StepLeaves at.0 e.event (Ok outcome) now.0 now.1 = rw is at now.2 in
     let told = told_some outcome now.0 led.0 in
     let step = subst (λ (o : Option world.Outcome). Step at.0 (event_meaning e.event) o now.1) told.1 led.1 in
     let out = c.gather_outcome.ensures.gathers told.0 told.2 in

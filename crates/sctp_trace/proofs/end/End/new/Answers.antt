@@ -1,4 +1,4 @@
-use Rattle.std.proofs.Common.{refl, ◌∷◌, []}
+use Rattle.std.proofs.Common.{refl}
 use Rattle.sctp_trace.specs.EndStands.{EndStands}
 use Rattle.sctp_script.specs.Configuration.{configuration_meaning}
 use Rattle.sctp_trace.proofs.end.End.new.Goals as goal

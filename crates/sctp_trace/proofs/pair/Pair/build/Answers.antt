@@ -1,6 +1,4 @@
-use Rattle.std.proofs.Common.{◌≡◌, Some, true, false, refl, sym, subst, ap, ◌∙◌, arith}
-use Rattle.std.proofs.lemmas.Grind.{common_steps}
-use Rattle.sctp_model.specs.first.World as world
+use Rattle.std.proofs.Common.{sym, ap, ◌∙◌}
 use Rattle.sctp_model.specs.first.World.{A, B, with_end}
 use Rattle.sctp_trace.specs.PairStands.{PairStands}
 use Rattle.sctp_trace.specs.inner.EndSteps.{with_bag}

@@ -1,8 +1,7 @@
-use Rattle.std.proofs.Common.{◌≡◌, ◌+◌, [], ◌∷◌, ◌++◌, take, drop, sym, refl, inl, inr, map, arith}
+use Rattle.std.proofs.Common.{◌≡◌, ◌+◌, [], ◌∷◌, ◌++◌, take, drop, sym, refl, inl, map, arith}
 use Rattle.std.proofs.lemmas.Grind.{common_steps}
 use Rattle.std.proofs.lemmas.Result.{err_from_is_err_and}
 use Rattle.std.proofs.lemmas.List.{take-append-drop}
-use Rattle.sctp_model.specs.first.World.{last_of}
 use Rattle.sctp_script.specs.Events.{event_meaning}
 use Rattle.sctp_trace.specs.PairRuns.{Course}
 use Rattle.sctp_trace.proofs.RunLemmas.{run_more, last-push, told-push, cut_short, promised_run}

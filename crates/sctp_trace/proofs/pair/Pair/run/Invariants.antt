@@ -3,7 +3,7 @@ use Rattle.std.specs.Prelude.{vec_capacity}
 use Rattle.sctp_model.specs.first.World as world
 use Rattle.sctp_model.specs.first.World.{World, Run, last_of}
 use Rattle.sctp_script.specs.Events.{event_meaning}
-use Rattle.sctp_trace.specs.PairRuns.{AllTold}
+use Rattle.sctp_trace.specs.PairRuns.{StepAnswers}
 use Rattle.sctp_trace.specs.PairStands.{PairStands}
 use Rattle.sctp_trace.proofs.pair.Pair.run.Given as goal
 
@@ -12,5 +12,5 @@ abbrev pub invariant-loop-event : goal.invariant-loop-event
 invariant-loop-event l =
     (vec_len l.outcomes ≡ l.event-index) × (length l.events ≤ vec_capacity l.outcomes)
     × ((w : World) → PairStands l.fn.self w
-    → (trace : List World) × (answers : List (Option world.Outcome)) × AllTold l.outcomes.items answers
+    → (trace : List World) × (answers : List (Option world.Outcome)) × StepAnswers l.outcomes.items answers
     × Run w (map event_meaning (take l.event-index l.events)) answers trace × PairStands l.self (last_of w trace))

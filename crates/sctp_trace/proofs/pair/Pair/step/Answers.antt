@@ -1,4 +1,3 @@
-use Rattle.std.proofs.Common.{◌∷◌, []}
 use Rattle.sctp_model.specs.first.World.{Step}
 use Rattle.sctp_script.specs.Events.{event_meaning}
 use Rattle.sctp_trace.proofs.RunLemmas.{promised_step}

@@ -1,11 +1,9 @@
-use Rattle.std.proofs.Common.{◌≡◌, true, false, List, [], ◌∷◌, ◌++◌, Ok, Err, refl, sym, subst, append-nil, arith}
+use Rattle.std.proofs.Common.{◌≡◌, true, false, [], ◌∷◌, ◌++◌, Ok, Err, refl, sym, subst, append-nil, arith}
 use Rattle.sctp_script.specs.declared.line.LineFault.TheVariants.{TooLong as LineTooLong}
 use Rattle.sctp_trace.specs.declared.script.ScriptFault.TheVariants.{Line}
 use Rattle.sctp_trace.specs.inner.ScriptSteps.{BeginsFront}
 use Rattle.std.proofs.lemmas.Grind.{common_steps}
-use Rattle.sctp_text.specs.TextLines.{ended}
 use Rattle.sctp_text.specs.declared.line_reader.NextLine.{NextLine}
-use Rattle.sctp_text.specs.declared.line_reader.NextLine.TheVariants.{Ended, Last, TooLong, End}
 use Rattle.sctp_trace.proofs.ScriptLemmas.{Got, ended_come, last_come, last_small, line_acted, ended_stops, last_stops, last_over, long_stops, end_over, line_unmade, unread}
 use Rattle.sctp_trace.proofs.ScriptGathered.{passed_on, runs_behind, stopped_writing}
 use Rattle.sctp_trace.proofs.script.Running.run_line.Goals as goal

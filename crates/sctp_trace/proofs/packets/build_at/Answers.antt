@@ -1,11 +1,10 @@
-use Rattle.std.proofs.Common.{◌≡◌, ℕ, suc, List, Some, true, false, ◌∷◌, ◌++◌, [], length, refl, sym, subst, ap, ◌∙◌, inl, inr, arith}
+use Rattle.std.proofs.Common.{◌≡◌, ℕ, suc, Some, true, false, ◌∷◌, ◌++◌, [], length, refl, sym, subst, ap, ◌∙◌, inl, inr, arith}
 use Rattle.std.proofs.lemmas.Grind.{common_steps}
 use Rattle.sctp_model.specs.SenderView.{SenderView}
 use Rattle.sctp_model.specs.first.Sending.{went_out}
 use Rattle.sctp_model.specs.first.World as world
 use Rattle.sctp_model.specs.first.Ends.{EndView, Packet, Builds}
 use Rattle.sctp_model.specs.first.World.{end_of, bag_of}
-use Rattle.sctp_model.specs.Packet.{size_of_packet}
 use Rattle.sctp_script.specs.Events.{side_meaning, state_meaning}
 use Rattle.sctp_trace.specs.EndStands.{EndStands, is_established, tickets_noted}
 use Rattle.sctp_packet.specs.Draft.{with_chunks, empty_draft}
@@ -13,8 +12,9 @@ use Rattle.sctp_trace.specs.PairStands.{IsPacketOf}
 use Rattle.sctp_trace.proofs.PlacedLemmas.{built_is_placed, packet_there}
 use Rattle.sctp_first_send.specs.SenderStands.{StandsFor}
 use Rattle.sctp_trace.proofs.BagLemmas.{bag-push, bag-length, same_bag, packet_bag}
-use Rattle.sctp_trace.proofs.EndLemmas.{is_open, isnt_open, is_built, is_idle, end_reserved, end_built, has_first}
-use Rattle.sctp_trace.proofs.end.build_at.Goals as goal
+use Rattle.sctp_trace.proofs.EndSends.{is_open, isnt_open}
+use Rattle.sctp_trace.proofs.EndBuilds.{is_built, is_idle, end_reserved, end_built, has_first}
+use Rattle.sctp_trace.proofs.packets.build_at.Goals as goal
 
 pub returns-then-not-is_open : goal.returns-then-not-is_open
 unfolding EndStands

@@ -1,7 +1,7 @@
 use Rattle.std.proofs.Common.{◌≡◌, [], rules}
 use Rattle.sctp_trace.specs.inner.ScriptSteps.{IsWrittenOf}
 use Rattle.sctp_trace.proofs.ScriptGathered.{passed}
-use Rattle.sctp_trace.proofs.script.pass_on.Goals as goal
+use Rattle.sctp_trace.proofs.gathered.pass_on.Goals as goal
 
 pub returns-clause-written : goal.returns-clause-written
 returns-clause-written g c =

@@ -1,7 +1,7 @@
 use Rattle.std.proofs.Common.{◌≡◌, Err, arith}
 use Rattle.std.proofs.lemmas.Grind.{common_steps}
 use Rattle.sctp_trace.proofs.ScriptGathered.{not_written}
-use Rattle.sctp_trace.proofs.script.close.Goals as goal
+use Rattle.sctp_trace.proofs.gathered.close.Goals as goal
 
 pub returns-in_err-write_bytes-in_default-clause-closed : goal.returns-in_err-write_bytes-in_default-clause-closed
 returns-in_err-write_bytes-in_default-clause-closed g c =

@@ -1,4 +1,4 @@
-use Rattle.std.proofs.Common.{◌≡◌, ◌+◌, ◌-◌, suc, ◌<◌, length, None, Some, refl, sym, ap, ◌∙◌, inl, inr, arith}
+use Rattle.std.proofs.Common.{◌≡◌, ◌-◌, None, Some, refl, sym, ap, ◌∙◌, inl, inr, arith}
 use Rattle.std.proofs.lemmas.Result.{err_from_is_err_and}
 use Rattle.sctp_model.specs.Lists.{item_at}
 use Rattle.sctp_model.specs.first.World as world
@@ -6,8 +6,8 @@ use Rattle.sctp_model.specs.first.Ends.{Packet}
 use Rattle.sctp_model.specs.first.World.{end_of, other, bag_of}
 use Rattle.sctp_script.specs.Events.{side_meaning}
 use Rattle.sctp_trace.proofs.BagLemmas.{bag-length, bag-there, item_there, item_outside, same_end}
-use Rattle.sctp_trace.proofs.end.deliver_at.Goals as goal
-use Rattle.sctp_trace.proofs.end.deliver_at.Goals.{then-index-eq0-via-then-index-eq0, then-index-eq0-via-else-index-eq0+then-index-bag}
+use Rattle.sctp_trace.proofs.packets.deliver_at.Goals as goal
+use Rattle.sctp_trace.proofs.packets.deliver_at.Goals.{then-index-eq0-via-then-index-eq0, then-index-eq0-via-else-index-eq0+then-index-bag}
 
 pub returns-then-index-eq0 : goal.returns-then-index-eq0
 returns-then-index-eq0 c = λ w stands packets.

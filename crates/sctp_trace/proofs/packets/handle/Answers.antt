@@ -1,6 +1,6 @@
 use Rattle.std.proofs.Common.{◌≡◌, drop, ◌∙◌}
 use Rattle.sctp_trace.proofs.PlacedLemmas.{all_behind}
-use Rattle.sctp_trace.proofs.end.handle.Goals as goal
+use Rattle.sctp_trace.proofs.packets.handle.Goals as goal
 
 pub returns-in-Err : goal.returns-in-Err
 returns-in-Err c = λ v ms stands is.

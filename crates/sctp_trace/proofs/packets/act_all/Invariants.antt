@@ -1,7 +1,7 @@
 use Rattle.std.proofs.Common.{◌≡◌, ◌++◌}
 use Rattle.sctp_model.specs.first.Ends.{EndView, Packet, Acts}
 use Rattle.sctp_trace.specs.EndStands.{EndStands}
-use Rattle.sctp_trace.proofs.end.act_all.Given as goal
+use Rattle.sctp_trace.proofs.packets.act_all.Given as goal
 
 -- those before what is left have acted
 abbrev pub invariant-loop-chunk : goal.invariant-loop-chunk

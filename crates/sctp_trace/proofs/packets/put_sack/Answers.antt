@@ -1,5 +1,5 @@
-use Rattle.std.proofs.Common.{refl, arith}
-use Rattle.sctp_trace.proofs.end.put_sack.Goals as goal
+use Rattle.std.proofs.Common.{arith}
+use Rattle.sctp_trace.proofs.packets.put_sack.Goals as goal
 
 pub try_chunk-requires : goal.try_chunk-requires
 try_chunk-requires c =

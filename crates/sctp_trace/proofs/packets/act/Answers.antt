@@ -1,11 +1,9 @@
-use Rattle.std.proofs.Common.{refl, sym, subst, ap}
-use Rattle.sctp_model.specs.SenderView.{SenderView}
-use Rattle.sctp_model.specs.Plan.{Plan}
+use Rattle.std.proofs.Common.{refl}
 use Rattle.sctp_model.specs.first.Sending.{acknowledged}
-use Rattle.sctp_wire.specs.ChunkTree.{chunk_meaning, piece_meaning}
+use Rattle.sctp_wire.specs.ChunkTree.{piece_meaning}
 use Rattle.sctp_trace.specs.EndStands.{EndStands}
 use Rattle.sctp_trace.proofs.EndLemmas.{not_over, data_heard, end_acknowledged}
-use Rattle.sctp_trace.proofs.end.act.Goals as goal
+use Rattle.sctp_trace.proofs.packets.act.Goals as goal
 
 pub returns-in-Duplicate : goal.returns-in-Duplicate
 unfolding EndStands

@@ -1,6 +1,6 @@
 use Rattle.std.proofs.Common.{take, drop, sym}
 use Rattle.std.proofs.lemmas.List.{take-append-drop}
-use Rattle.sctp_trace.proofs.script.write_bytes.Goals as goal
+use Rattle.sctp_trace.proofs.gathered.write_bytes.Goals as goal
 
 pub returns-in-Err-clause-written : goal.returns-in-Err-clause-written
 returns-in-Err-clause-written g c =
