@@ -21,6 +21,7 @@ pub mod Story
 pub mod EndsAgree
 pub mod OpeningWorlds
 pub mod Handshake
+pub mod TwoAnswers
 pub mod ClosingRun
 pub mod GivesUp
 pub mod StrayRows

@@ -1,10 +1,12 @@
 -- The machine opens: a run by packets alone at whose end both ends are established, with each other's tags.
-use Rattle.std.specs.Prelude.{◌≡◌, List}
+use Rattle.std.specs.Prelude.{◌≡◌, ℕ, List, Option, Some}
 use Rattle.sctp_model.specs.Lists.{Has}
-use Rattle.sctp_model.specs.end.EndView.{format_of, Draw, Tags, Established, Open, Completed, Over}
+use Rattle.sctp_model.specs.end.EndView.{format_of, Draw, Tags, Established, Echoing, Open, Completed, Over}
 use Rattle.sctp_model.specs.Format.{Interleaved}
+use Rattle.sctp_model.specs.end.PeerFaults.{STATE}
 use Rattle.sctp_model.specs.World.{World, Setup}
-use Rattle.sctp_model.specs.Events.{Event, OpenBoth}
+use Rattle.sctp_model.specs.Events.{Event, OpenBoth, Outcome, NotActed}
+use Rattle.sctp_model.specs.Steps.{Step, Run}
 use Rattle.sctp_model.specs.Premises.{IsReachable}
 
 -- both are established, and agree on tags, first TSNs and the format
@@ -35,3 +37,25 @@ pub record AnAssociationCloses : Type 0 where
   pub reached : IsReachable setup events last
   pub a : last.a.phase ≡ Over Completed
   pub b : last.b.phase ≡ Over Completed
+
+-- And one in which the INIT comes twice, and is answered under two tags. The caller takes the answer that comes first, here the second one,
+-- and drops the other; when its cookie comes both ends go by the tags that it says.
+pub record TheFirstAnswerCounts : Type 0 where
+  pub setup : Setup
+  pub events : List Event
+  pub later : Event
+  pub before : World
+  pub last : World
+  pub answers : List (Option Outcome)
+  pub reached : IsReachable setup events before
+  -- the answer that was made first comes later, and is dropped for the state
+  pub dropped : Step before later (Some (NotActed STATE)) last
+  pub same : last.a.phase ≡ before.a.phase
+  pub tags : Tags
+  pub cookie : List ℕ
+  pub a : before.a.phase ≡ Echoing tags cookie
+  pub more : List Event
+  pub open_world : World
+  pub goes_on : Run last more answers open_world
+  pub b : open_world.b.phase ≡ Open (record { own = tags.peer; peer = tags.own }) Established
+  pub agreed : open_world.b.terms.own_tsn ≡ open_world.a.terms.peer_tsn

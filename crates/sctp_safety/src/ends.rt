@@ -1,7 +1,7 @@
 //! What holds of one end, whatever comes to it.
 
 ghost use Rattle.sctp_safety.specs.Agreement.{EndsAgree};
-ghost use Rattle.sctp_safety.specs.Handshake.{AnAssociationCloses, AnAssociationOpens};
+ghost use Rattle.sctp_safety.specs.Handshake.{AnAssociationCloses, AnAssociationOpens, TheFirstAnswerCounts};
 ghost use Rattle.sctp_safety.specs.States.{ClosedForGood, EndsFollowTheDiagram};
 ghost use Rattle.sctp_safety.specs.Strangers.{StrangersChangeNothing};
 
@@ -35,4 +35,10 @@ pub fn closed_for_good()
 /// reliability, and each goes by the other's tag (RFC 9260, 5.1 and 5.2).
 pub fn the_ends_agree()
     ensures { EndsAgree }
+{}
+
+/// There is a run in which the INIT comes twice, and is answered twice under other tags and TSNs: the caller takes the answer that comes first, here the second one, and
+/// drops the other; when its cookie comes, both ends go by the tags that it says (RFC 9260, 5.2.3).
+pub fn the_first_answer_counts()
+    ensures { TheFirstAnswerCounts }
 {}

@@ -14,7 +14,7 @@ mod worlds;
 
 pub use ends::{
     an_association_closes, an_association_opens, closed_for_good, ends_follow_the_diagram,
-    strangers_change_nothing, the_ends_agree,
+    strangers_change_nothing, the_ends_agree, the_first_answer_counts,
 };
 pub use exact::{
     abandon_is_moves, expire_is_moves, fill_is_moves, forward_is_allowed, forward_is_moves,

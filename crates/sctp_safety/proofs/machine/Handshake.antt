@@ -25,16 +25,16 @@ draw_a = record { some = omega arith; tag = omega arith; tsn = omega arith }
 draw_b : IsDraw of_b
 draw_b = record { some = omega arith; tag = omega arith; tsn = omega arith }
 
-step_1 : Step w0 (Connect of_a) (Some Done) w1
+pub step_1 : Step w0 (Connect of_a) (Some Done) w1
 step_1 = Connects of_a draw_a refl
 
-step_2 : Step w1 (Build A) (Some (Sent 1 (size_of_packet (init ∷ [])))) w2
+pub step_2 : Step w1 (Build A) (Some (Sent 1 (size_of_packet (init ∷ [])))) w2
 step_2 = BuildsOne A init [] (started InitAlarm (with_due (record (end_now w1 A).due { init = false }) (end_now w1 A))) (Calls of_a refl refl)
 
-step_3 : Step w2 (Drawing of_b) (Some Done) w3
+pub step_3 : Step w2 (Drawing of_b) (Some Done) w3
 step_3 = Draws of_b draw_b
 
-step_4 : Step w3 (Deliver A 1) (Some (told w3 B (stray_verdict (end_now w3 B) of_b packet_1))) w4
+pub step_4 : Step w3 (Deliver A 1) (Some (told w3 B (stray_verdict (end_now w3 B) of_b packet_1))) w4
 unfolding u16_bytes u32_bytes u16_at u32_at starts_typed typed_of
 step_4 = Comes (Deliver A 1) B packet_1 (end_now w3 B) (stray_verdict (end_now w3 B) of_b packet_1) (FromBag A 1 packet_1 refl) (Stray refl refl refl refl)
 
