@@ -11,3 +11,4 @@ pub mod TotalBuilds
 pub mod TotalSteps
 pub mod OneOutcome
 pub mod OneEnd
+pub mod examples

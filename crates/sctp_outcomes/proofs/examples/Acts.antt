@@ -1,0 +1,42 @@
+-- What data, a FORWARD, a SACK and the chunks of closing do to an open end, computed.
+use Rattle.std.proofs.Common.{◌≡◌, ℕ, ◌<◌, ◌≤◌, ◌==◌, Bool, true, false, List, length, ◌⊎◌, inl, inr, None, refl, arith, subst}
+use Rattle.std.proofs.lemmas.Bool.{cond_both, eqb-true}
+use Rattle.sctp_model.specs.Lists.{at}
+use Rattle.sctp_model.specs.Chunk.{PieceMeaning, ForwardMeaning}
+use Rattle.sctp_model.specs.Format.{Format}
+use Rattle.sctp_model.specs.ReceiverView.{ReceiverView}
+use Rattle.sctp_model.specs.receiver.PieceTaken.{answer_to}
+use Rattle.sctp_model.specs.receiver.ForwardTaken.{Moved, forward_answer}
+use Rattle.sctp_model.specs.end.EndView.{Tags, Stage, Open, EndView, format_of}
+use Rattle.sctp_model.specs.end.Closing.{takes_data}
+use Rattle.sctp_model.specs.end.Reports.{with_causes}
+use Rattle.sctp_model.specs.end.PeerFaults.{GoesOn}
+use Rattle.sctp_model.specs.end.Acting.{same_format, acknowledges, piece_causes, may_forward, PieceActs, ForwardActs}
+use Rattle.sctp_model.specs.end.Acting.{Comes as Piece_comes}
+use Rattle.sctp_reference.specs.receiver.Steps.{IsBound, cumulative, piece_step, forward_step}
+use Rattle.sctp_reference.proofs.receiver.StepsLemmas.{cumulative_is, piece_steps, forward_steps}
+
+-- ---- bounds of what was recorded
+
+pub bound_none : (r : ReceiverView) → r.seen ≡ (λ i. false) → IsBound r 0
+bound_none r none i on = absurd (let q : r.seen i ≡ false = λ j. none j i in cc)
+
+-- one index more
+pub bound_more : (seen : ℕ → Bool) (n bound : ℕ) → n ≤ bound → ((i : ℕ) → seen i ≡ true → i ≤ bound) → (i : ℕ) → at seen n true i ≡ true → i ≤ bound
+bound_more seen n bound le within i = cond_both (i == n) true (seen i) (λ (b : Bool). b ≡ true → i ≤ bound)
+    (λ same on. let e = eqb-true i n same in omega (arith, e, le)) (λ other on. within i on)
+
+-- ---- chunks
+
+-- the end after a data chunk
+abbrev pub after_data : Stage → EndView → (bound : ℕ) → PieceMeaning → EndView
+after_data g e bound p =
+    let c = cumulative e.receiver bound in
+    acknowledges g (with_causes (piece_causes e p (answer_to (format_of e) e.receiver c p)) (record e { receiver = piece_step (format_of e) e.receiver c p }))
+
+pub data_acts : (f : Format) (e : EndView) (t : Tags) (g : Stage) (bound : ℕ) (p : PieceMeaning) → IsBound e.receiver bound → e.phase ≡ Open t g → takes_data g ≡ true →
+    0 < length p.bytes → same_format f (format_of e) ≡ true → PieceActs f e p (GoesOn (after_data g e bound p))
+data_acts f e t g bound p within is hears some same =
+    let c = cumulative e.receiver bound in
+    Piece_comes t g (answer_to (format_of e) e.receiver c p) (piece_step (format_of e) e.receiver c p) is hears some same
+    (piece_steps (format_of e) e.receiver c p (cumulative_is e.receiver bound within))
