@@ -11,4 +11,4 @@ pub mod TotalBuilds
 pub mod TotalSteps
 pub mod OneOutcome
 pub mod OneEnd
-pub mod examples
+pub mod stories

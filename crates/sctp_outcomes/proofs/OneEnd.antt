@@ -1,7 +1,4 @@
 -- The steps of an end alone.
-use Rattle.std.proofs.Common.{◌≡◌, ℕ, List, refl}
-use Rattle.sctp_model.specs.Format.{Format}
-use Rattle.sctp_model.specs.ReceiverView.{ReceiverView}
 use Rattle.sctp_model.specs.receiver.Laws.{IsOrdinary}
 use Rattle.sctp_model.specs.end.EndView.{EndView, format_of}
 use Rattle.sctp_outcomes.specs.OneEnd.{IsReal, ActIsOne, BuildIsOne}

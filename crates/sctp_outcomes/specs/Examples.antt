@@ -1,5 +1,5 @@
 -- Runs of two ends, from the start and by themselves alone, that show that the promises over every run aren't empty.
-use Rattle.std.specs.Prelude.{◌≡◌, ◌<◌, suc, true, false, List, [], ◌∷◌, Some}
+use Rattle.std.specs.Prelude.{◌≡◌, true, List, [], ◌∷◌, Some}
 use Rattle.sctp_model.specs.Lists.{Has}
 use Rattle.sctp_model.specs.Format.{Plain, Interleaved, ordered_lane}
 use Rattle.sctp_model.specs.Plan.{End, entry_at}
@@ -7,7 +7,7 @@ use Rattle.sctp_model.specs.Calls.{Call}
 use Rattle.sctp_model.specs.ReceiverView.{Handed, handed}
 use Rattle.sctp_model.specs.end.EndView.{Draw, Completed, Over, format_of}
 use Rattle.sctp_model.specs.World.{A, World, Setup}
-use Rattle.sctp_model.specs.Events.{Event, OpenBoth, Send, Abandon}
+use Rattle.sctp_model.specs.Events.{Event, OpenBoth, Deliver, Send, Abandon}
 use Rattle.sctp_model.specs.Premises.{IsReachable}
 
 -- the run that leads to a world
@@ -40,6 +40,7 @@ pub record AMessageIsPassedOver : Type 0 where
   pub first : Call
   pub second : Call
   pub sent : Has events (Send A first) × Has events (Send A second)
+  pub lost : Has events (Deliver A 1) → ⊥
   pub named : Has events (Abandon A 1)
   pub given_up : last.a.sender.abandoned (ordered_lane 0) 0 ≡ true
   pub message : Handed
@@ -57,6 +58,7 @@ pub record AMessageIsEnded : Type 0 where
   pub interleaved : format_of last.a ≡ Interleaved
   pub call : Call
   pub sent : Has events (Send A call)
+  pub came : Has events (Deliver A 1)
   pub named : Has events (Abandon A 1)
   pub ended : entry_at last.a.sender.plan 2 ≡ Some (End (ordered_lane 0) 0)
   pub passed : last.b.receiver.next 0 ≡ 1

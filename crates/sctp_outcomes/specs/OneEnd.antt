@@ -2,7 +2,6 @@
 use Rattle.std.specs.Prelude.{◌≡◌, ℕ, ◌≤◌, true, List}
 use Rattle.sctp_model.specs.Chunk.{ChunkMeaning}
 use Rattle.sctp_model.specs.Packet.{Packet}
-use Rattle.sctp_model.specs.ReceiverView.{ReceiverView}
 use Rattle.sctp_model.specs.receiver.Laws.{IsOrdinary}
 use Rattle.sctp_model.specs.end.EndView.{Draw, EndView, format_of}
 use Rattle.sctp_model.specs.end.Strays.{Verdict}

@@ -1,17 +1,16 @@
 -- A message on its way: two ends open by packets, one sends, the message arrives, is taken and acknowledged, and both ends close, each completed.
-use Rattle.std.proofs.Common.{◌≡◌, ℕ, ◌≤◌, ◌⊎◌, true, false, List, [], ◌∷◌, ◌++◌, Option, Some, None, inl, inr, refl, arith}
-use Rattle.sctp_model.specs.Lists.{Has}
+use Rattle.std.proofs.Common.{◌≡◌, ℕ, ◌≤◌, true, false, List, [], ◌∷◌, ◌++◌, Option, Some, None, inl, inr, refl, arith}
 use Rattle.sctp_model.specs.Numbers.{u16_bytes, u32_bytes, u16_at, u32_at}
 use Rattle.sctp_model.specs.Typed.{starts_typed, typed_of}
 use Rattle.sctp_model.specs.Serial.{tsn}
 use Rattle.sctp_model.specs.Format.{Interleaved, ordered_lane}
-use Rattle.sctp_model.specs.Chunk.{PieceMeaning, SackMeaning, ChunkMeaning, IData, Sack, ShutdownAck, ShutdownComplete}
+use Rattle.sctp_model.specs.Chunk.{PieceMeaning, SackMeaning, IData, Sack, ShutdownAck, ShutdownComplete}
 use Rattle.sctp_model.specs.Chunk.{Shutdown as Says}
 use Rattle.sctp_model.specs.Packet.{Packet, size_of_packet}
 use Rattle.sctp_model.specs.Calls.{Call}
-use Rattle.sctp_model.specs.ReceiverView.{Handed, handed}
+use Rattle.sctp_model.specs.ReceiverView.{Handed}
 use Rattle.sctp_model.specs.receiver.SackMade.{first_taken}
-use Rattle.sctp_model.specs.end.EndView.{Tags, Established, ShutdownSent, ShutdownAckSent, Completed, Over, EndView}
+use Rattle.sctp_model.specs.end.EndView.{Tags, Established, ShutdownSent, ShutdownAckSent, Completed, EndView}
 use Rattle.sctp_model.specs.end.Clock.{closed}
 use Rattle.sctp_model.specs.end.Closing.{rested}
 use Rattle.sctp_model.specs.end.PeerFaults.{packet_to}
@@ -20,15 +19,15 @@ use Rattle.sctp_model.specs.end.Strays.{Taken, Answer}
 use Rattle.sctp_model.specs.end.Arriving.{Heard, NoneLeft, Next, Last, Answered}
 use Rattle.sctp_model.specs.end.Building.{packet_of}
 use Rattle.sctp_model.specs.end.UserCalls.{send_answer, send_leaves, shut}
-use Rattle.sctp_model.specs.World.{Side, A, B, World, end_of, with_end, with_packet, with_log, end_now, came}
-use Rattle.sctp_model.specs.Events.{told, Event, OpenBoth, Foreign, Send, Take, Build, Deliver, Shutdown, Outcome, Done, Told, Message, Sent, Acted}
+use Rattle.sctp_model.specs.World.{A, B, World, with_end, with_packet, with_log, end_now, came}
+use Rattle.sctp_model.specs.Events.{told, Event, Send, Take, Build, Deliver, Shutdown, Outcome, Done, Told, Message, Sent, Acted}
 use Rattle.sctp_model.specs.Steps.{accepted, Step, BuildsOne, FromBag, Comes, Sends, TakesOne, ShutsDown, Run, Rest, Then}
 use Rattle.sctp_safety.proofs.machine.OpeningWorlds.{two, tags_a, opening, answers, w0, w9}
 use Rattle.sctp_safety.proofs.machine.Handshake.{run, configured}
 use Rattle.sctp_outcomes.specs.Examples.{AMessageArrives}
-use Rattle.sctp_outcomes.proofs.examples.Ours.{premises_of_ours, opened_by_packets, run_on}
-use Rattle.sctp_outcomes.proofs.examples.Packets.{packet_built, builds_are}
-use Rattle.sctp_outcomes.proofs.examples.Acts.{bound_none, bound_more, after_data, data_acts}
+use Rattle.sctp_outcomes.proofs.stories.Ours.{premises_of_ours, opened_by_packets, run_on}
+use Rattle.sctp_outcomes.proofs.stories.Packets.{packet_built, builds_are}
+use Rattle.sctp_outcomes.proofs.stories.Acts.{bound_none, bound_more, after_data, data_acts}
 
 abbrev pub tags_b : Tags
 tags_b = record { own = 9; peer = 7 }
@@ -93,6 +92,7 @@ abbrev w14 : World
 w14 = with_packet (with_end w13 B (packet_built (end_now w13 B) 1).after) B packet_4
 
 one_recorded : (i : ℕ) → w13.b.receiver.seen i ≡ true → i ≤ 1
+unfolding u16_bytes u32_bytes u16_at u32_at starts_typed typed_of
 one_recorded = bound_more (λ i. false) 1 1 (omega arith) (λ i on. absurd (cc))
 
 step_14 : Step w13 (Build B) (Some (Sent 3 (size_of_packet (Sack sack ∷ [])))) w14
@@ -116,6 +116,10 @@ step_15 = Comes (Deliver B 3) A packet_4 (rested e15) Taken (FromBag B 3 packet_
 -- A's user shuts the association, and A is drained
 abbrev w16 : World
 w16 = with_end w15 A (shut w15.a)
+
+step_16 : Step w15 (Shutdown A) (Some Done) w16
+unfolding u16_bytes u32_bytes u16_at u32_at starts_typed typed_of
+step_16 = ShutsDown A
 
 abbrev packet_5 : Packet
 packet_5 = packet_of w16.a (Says (tsn 200 0) ∷ [])
@@ -183,7 +187,7 @@ told_story =
 goes_on : Run w9 story told_story w21
 goes_on =
     Then w9 w10 w21 _ _ _ _ (Sends A greeting) (Then w10 w11 w21 _ _ _ _ step_11 (Then w11 w12 w21 _ _ _ _ step_12 (Then w12 w13 w21 _ _ _ _ step_13
-    (Then w13 w14 w21 _ _ _ _ step_14 (Then w14 w15 w21 _ _ _ _ step_15 (Then w15 w16 w21 _ _ _ _ (ShutsDown A) (Then w16 w17 w21 _ _ _ _ step_17
+    (Then w13 w14 w21 _ _ _ _ step_14 (Then w14 w15 w21 _ _ _ _ step_15 (Then w15 w16 w21 _ _ _ _ step_16 (Then w16 w17 w21 _ _ _ _ step_17
     (Then w17 w18 w21 _ _ _ _ step_18 (Then w18 w19 w21 _ _ _ _ step_19 (Then w19 w20 w21 _ _ _ _ step_20 (Then w20 w21 w21 _ _ _ _ step_21 (Rest w21))))))))))))
 
 pub a_message_arrives : AMessageArrives

@@ -1,10 +1,9 @@
 -- The packet that an open end builds, computed: what is due at each place, in their order, and then fragments.
-use Rattle.std.proofs.Common.{◌≡◌, ℕ, ◌≤◌, Bool, true, false, List, [], ◌∷◌, ◌++◌, Option, Some, None, refl, sym, subst, if◌then◌else◌}
+use Rattle.std.proofs.Common.{◌≡◌, ℕ, Bool, true, false, List, [], ◌∷◌, ◌++◌, Option, Some, None, refl, if◌then◌else◌}
 use Rattle.sctp_model.specs.Serial.{tsn}
 use Rattle.sctp_model.specs.Chunk.{ChunkMeaning, Sack, HeartbeatAck, Shutdown, ShutdownAck, Error, CookieEcho, CookieAck}
 use Rattle.sctp_model.specs.sender.SentChunks.{forward_chunk_of}
 use Rattle.sctp_model.specs.receiver.SackMade.{sack_of, sack_sent}
-use Rattle.sctp_model.specs.ReceiverView.{ReceiverView}
 use Rattle.sctp_model.specs.end.EndView.{Tags, Stage, Open, DataAlarm, ShutdownAlarm, AckAlarm, EndView, format_of}
 use Rattle.sctp_model.specs.end.Clock.{started}
 use Rattle.sctp_model.specs.end.Closing.{with_due}
@@ -85,10 +84,10 @@ bound_after ShutdownAckSlot e bound within = within
 -- ---- all places
 
 -- chunks so far, whether the packet is full, and the end that has built them
-record Built : Type 0 where
-  chunks : List ChunkMeaning
-  full : Bool
-  after : EndView
+pub record Built : Type 0 where
+  pub chunks : List ChunkMeaning
+  pub full : Bool
+  pub after : EndView
 
 -- one place, and the others
 abbrev built_at : (due room : Bool) → Slot → EndView → ℕ → List ChunkMeaning → (EndView → List ChunkMeaning → Built) → Built
@@ -106,10 +105,10 @@ AreOpenSlots (s ∷ ss) = (is_open_slot s ≡ true) × AreOpenSlots ss
 
 puts_are : (ss : List Slot) (bound : ℕ) (e : EndView) (xs : List ChunkMeaning) → AreOpenSlots ss → IsBound e.receiver bound →
     Puts ss e xs (built_over ss bound e xs).chunks (built_over ss bound e xs).full (built_over ss bound e xs).after
-puts_are [] bound e xs open within = NoMore e xs
-puts_are (s ∷ ss) bound e xs open within =
-    go (is_due s e) refl (has_room e xs (chunk_at s e bound)) refl (puts_are ss bound e xs open.1 within)
-    (puts_are ss bound (after_slot s e) (xs ++ chunk_at s e bound ∷ []) open.1 (bound_after s e bound within))
+puts_are [] bound e xs places within = NoMore e xs
+puts_are (s ∷ ss) bound e xs places within =
+    go (is_due s e) refl (has_room e xs (chunk_at s e bound)) refl (puts_are ss bound e xs places.1 within)
+    (puts_are ss bound (after_slot s e) (xs ++ chunk_at s e bound ∷ []) places.1 (bound_after s e bound within))
   where
     It : Built → Type 0
     It b = Puts (s ∷ ss) e xs b.chunks b.full b.after
@@ -120,8 +119,8 @@ puts_are (s ∷ ss) bound e xs open within =
     go : (due : Bool) → is_due s e ≡ due → (room : Bool) → has_room e xs (chunk_at s e bound) ≡ room → Rest e xs → Rest (after_slot s e) (xs ++ chunk_at s e bound ∷ []) →
         It (built_at due room s e bound xs (built_over ss bound))
     go false off room is same more = NotDue s ss e xs _ _ _ off same
-    go true on false is same more = IsFull s ss e (after_slot s e) (chunk_at s e bound) xs on (wanted s e bound within open.0 on) is
-    go true on true is same more = Put s ss e (after_slot s e) (chunk_at s e bound) xs _ _ _ on (wanted s e bound within open.0 on) is more
+    go true on false is same more = IsFull s ss e (after_slot s e) (chunk_at s e bound) xs on (wanted s e bound within places.0 on) is
+    go true on true is same more = Put s ss e (after_slot s e) (chunk_at s e bound) xs _ _ _ on (wanted s e bound within places.0 on) is more
 
 -- ---- the packet
 
@@ -136,7 +135,7 @@ packet_built e bound = with_fragments (built_over open_slots bound e [])
 -- So much an open end builds.
 pub builds_are : (t : Tags) (g : Stage) (e : EndView) (bound : ℕ) → e.phase ≡ Open t g → IsBound e.receiver bound →
     Builds e (packet_built e bound).chunks (packet_built e bound).after
-builds_are t g e bound is within = go (built_over open_slots bound e []) (puts_are open_slots bound e [] (refl, refl, refl, refl, refl, refl, refl, tt) within)
+builds_are t g e bound is within = go (built_over open_slots bound e []) (puts_are open_slots bound e [] (refl, (refl, (refl, (refl, (refl, (refl, (refl, tt))))))) within)
   where
     by : (zs : List ChunkMeaning) (full : Bool) (x : EndView) → Puts open_slots e [] zs full x →
         Builds e (with_fragments (record { chunks = zs; full = full; after = x })).chunks (with_fragments (record { chunks = zs; full = full; after = x })).after

@@ -1,0 +1,84 @@
+-- Two ends that are opened without packets, set up for small packets: one full fragment in each.
+use Rattle.std.proofs.Common.{ℕ, ◌<◌, ◌^◌, Bool, true, false, Some, refl, arith}
+use Rattle.sctp_model.specs.Calls.{Call}
+use Rattle.sctp_model.specs.end.EndView.{Draw, Tags}
+use Rattle.sctp_model.specs.end.Configured.{IsConfiguration}
+use Rattle.sctp_model.specs.end.UserCalls.{send_answer, send_leaves, abandoned_at}
+use Rattle.sctp_model.specs.World.{Side, A, B, World, with_end, with_log, logged, Setup, configuration_of, start}
+use Rattle.sctp_model.specs.Events.{OpenBoth, Done}
+use Rattle.sctp_model.specs.Steps.{opened, accepted, named_at, IsDraw, Step, Opens}
+use Rattle.sctp_safety.proofs.machine.OpeningWorlds.{open_seal}
+
+-- ---- two ends without packets
+
+-- small packets, each of one full fragment
+abbrev pub small : Bool → Setup
+small interleave = record {
+  alike = record {
+    own_port = 0;
+    peer_port = 0;
+    limit = 576;
+    fragment = 544;
+    buffer = 65536;
+    outbound = 1;
+    inbound = 1;
+    interleave = interleave;
+    partial = true;
+  };
+  a_port = 5000;
+  b_port = 5001;
+  sealing = open_seal;
+}
+
+pub small_configured : (i : Bool) (x : Side) → IsConfiguration (configuration_of (small i) x)
+small_configured i A = record {
+  own_port = (omega arith, omega arith);
+  peer_port = (omega arith, omega arith);
+  limit = (omega arith, omega arith);
+  fragment = (omega arith, omega arith, omega arith);
+  buffer = (omega arith, omega arith);
+  outbound = (omega arith, omega arith);
+  inbound = (omega arith, omega arith);
+}
+small_configured i B = record {
+  own_port = (omega arith, omega arith);
+  peer_port = (omega arith, omega arith);
+  limit = (omega arith, omega arith);
+  fragment = (omega arith, omega arith, omega arith);
+  buffer = (omega arith, omega arith);
+  outbound = (omega arith, omega arith);
+  inbound = (omega arith, omega arith);
+}
+
+abbrev pub of_a : Draw
+of_a = record { tag = 7; tsn = 100 }
+
+abbrev pub of_b : Draw
+of_b = record { tag = 9; tsn = 200 }
+
+abbrev pub tags_a : Tags
+tags_a = record { own = 7; peer = 9 }
+
+abbrev pub tags_b : Tags
+tags_b = record { own = 9; peer = 7 }
+
+drawn : (n t : ℕ) → 0 < n → n < 2 ^ 32 → t < 2 ^ 32 → IsDraw (record { tag = n; tsn = t })
+drawn n t some tag first = record { some = some; tag = tag; tsn = first }
+
+-- opened, each told the other's draw
+abbrev pub open_world : Bool → World
+open_world i = record (start (small i)) {
+  a = opened (configuration_of (small i) A) of_a of_b;
+  b = opened (configuration_of (small i) B) of_b of_a;
+  openable = false;
+}
+
+pub opens : (i : Bool) → Step (start (small i)) (OpenBoth of_a of_b) (Some Done) (open_world i)
+opens i = Opens of_a of_b refl (drawn 7 100 (omega arith) (omega arith) (omega arith)) (drawn 9 200 (omega arith) (omega arith) (omega arith))
+
+-- the world in which A's user has sent a message, or abandoned one
+abbrev pub after_send : World → Call → World
+after_send w c = with_log (with_end w A (send_leaves (send_answer w.a c) w.a c)) A (accepted w A (send_answer w.a c) c)
+
+abbrev pub after_abandon : World → ℕ → World
+after_abandon w k = with_log (with_end w A (abandoned_at w.a k)) A (named_at (logged w A (abandoned_at w.a k)) k)

@@ -1,0 +1,21 @@
+//! Runs that show that the promises over every run aren't empty: each is computed from the definitions, event by event.
+
+ghost use Rattle.sctp_outcomes.specs.Examples.{AMessageArrives, AMessageIsEnded, AMessageIsPassedOver};
+
+/// There is a run in which two ends open by packets, a message of the one is taken by the other's user as it was sent, and is acknowledged, and both ends close,
+/// each completed (RFC 9260, 5.1, 6.2 and 9.2).
+pub fn a_message_arrives()
+    ensures { AMessageArrives }
+{}
+
+/// There is a run under DATA in which the packet of a message is lost, the message is abandoned, and a FORWARD-TSN passes it over: the next message is handed
+/// over (RFC 3758, 3.5 and 3.6).
+pub fn a_message_is_passed_over()
+    ensures { AMessageIsPassedOver }
+{}
+
+/// There is a run under I-DATA in which a message is abandoned of whose two fragments one came: it takes one index more, for its end mark, and the receiver lets
+/// the fragment go (RFC 8260, 2.3.1).
+pub fn a_message_in_part_is_ended()
+    ensures { AMessageIsEnded }
+{}
