@@ -1,4 +1,4 @@
-// The same loop in C: eight tables of 256 numbers, eight bytes a turn.
+// The same loop in C: eight tables of 256 numbers, eight bytes a turn, the upper four one by one.
 #include <stdint.h>
 #include <stdio.h>
 #include <stdlib.h>
@@ -21,11 +21,11 @@ static void make_tables(void) {
 __attribute__((noinline)) static uint32_t crc32c(const uint8_t *bytes, size_t length) {
     uint32_t value = 0xFFFFFFFFu;
     while (length >= 8) {
-        uint64_t eight;
-        memcpy(&eight, bytes, 8);
-        eight ^= value;
-        value = tables[0][eight >> 56] ^ tables[1][eight >> 48 & 0xFF] ^ tables[2][eight >> 40 & 0xFF] ^ tables[3][eight >> 32 & 0xFF]
-            ^ tables[4][eight >> 24 & 0xFF] ^ tables[5][eight >> 16 & 0xFF] ^ tables[6][eight >> 8 & 0xFF] ^ tables[7][eight & 0xFF];
+        uint32_t mixed;
+        memcpy(&mixed, bytes, 4);
+        mixed ^= value;
+        value = tables[0][bytes[7]] ^ tables[1][bytes[6]] ^ tables[2][bytes[5]] ^ tables[3][bytes[4]]
+            ^ tables[4][mixed >> 24] ^ tables[5][mixed >> 16 & 0xFF] ^ tables[6][mixed >> 8 & 0xFF] ^ tables[7][mixed & 0xFF];
         bytes += 8;
         length -= 8;
     }
