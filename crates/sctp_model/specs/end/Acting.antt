@@ -29,7 +29,7 @@ same_format Interleaved Interleaved = true
 abbrev pub acknowledges : Stage → EndView → EndView
 acknowledges g e = with_due (record e.due { sack = true; shutdown = e.due.shutdown || is_shutdown_sent g }) e
 
--- a stream that isn't there is reported
+-- a stream that isn't there is reported (6.5)
 abbrev pub piece_causes : EndView → PieceMeaning → Answer → List Typed
 piece_causes e p NoSuchStream = causes_with e (item INVALID_STREAM (u16_bytes p.stream ++ 0 ∷ 0 ∷ []))
 piece_causes e p Duplicate = e.due.causes
@@ -38,7 +38,7 @@ piece_causes e p Passed = e.due.causes
 piece_causes e p NoRoom = e.due.causes
 piece_causes e p Taken = e.due.causes
 
--- What a DATA or an I-DATA does.
+-- What a DATA or an I-DATA does (6.2; RFC 8260, 2.1).
 pub data PieceActs (f : Format) (e : EndView) (p : PieceMeaning) : After → Type 0 where
   NotHeard : hears takes_data e.phase ≡ false → PieceActs f e p PassedOver
   Empty : (t : Tags) (g : Stage) → e.phase ≡ Open t g → takes_data g ≡ true → length p.bytes ≡ 0 →
@@ -55,7 +55,7 @@ pub data PieceActs (f : Format) (e : EndView) (p : PieceMeaning) : After → Typ
 abbrev pub may_forward : Format → EndView → Bool
 may_forward f e = same_format f (format_of e) && e.sender.partial
 
--- What a FORWARD-TSN or an I-FORWARD-TSN does.
+-- What a FORWARD-TSN or an I-FORWARD-TSN does (RFC 3758, 3.6).
 pub data ForwardActs (f : Format) (e : EndView) (m : ForwardMeaning) : After → Type 0 where
   NotHeard : hears takes_data e.phase ≡ false → ForwardActs f e m PassedOver
   WrongKind : (t : Tags) (g : Stage) → e.phase ≡ Open t g → takes_data g ≡ true → may_forward f e ≡ false →
@@ -75,7 +75,7 @@ sack_heard e s =
     let x = settled (record e { sender = sack_taken e.sender s; due = record e.due { forward = true } }) in
     with_timer DataAlarm (renewed e.moment (nat_lt e.sender.cum (sack_taken e.sender s).cum) (x.timers DataAlarm)) x
 
--- What a SACK does.
+-- What a SACK does (6.2.1).
 pub data SackActs (e : EndView) (s : SackMeaning) : After → Type 0 where
   NotHeard : hears takes_acknowledgements e.phase ≡ false → SackActs e s PassedOver
   IsStale : hears takes_acknowledgements e.phase ≡ true → sack_fault e.sender s ≡ Some Stale → SackActs e s (GoesOn e)
@@ -85,11 +85,11 @@ pub data SackActs (e : EndView) (s : SackMeaning) : After → Type 0 where
 
 -- ---- HEARTBEAT, HEARTBEAT ACK (8.3), ERROR (3.3.10), ABORT (9.1)
 
--- the answer to the latest HEARTBEAT is due, if it fits a packet
+-- the answer to the latest HEARTBEAT is due (8.3), if it fits a packet
 abbrev pub heartbeat_heard : EndView → List ℕ → EndView
 heartbeat_heard e info = with_due (record e.due { heartbeat = if fits_alone e (HeartbeatAck info) then Some info else e.due.heartbeat }) e
 
--- What a HEARTBEAT does.
+-- What a HEARTBEAT does (8.3).
 pub data HeartbeatActs (e : EndView) (info : List ℕ) : After → Type 0 where
   NotHeard : hears (λ g. true) e.phase ≡ false → HeartbeatActs e info PassedOver
   Counts : hears (λ g. true) e.phase ≡ true → HeartbeatActs e info (GoesOn (heartbeat_heard e info))
@@ -104,18 +104,18 @@ abbrev pub is_stale_cookie : Phase → List ℕ → Bool
 is_stale_cookie (Echoing t xs) causes = has_cause STALE_COOKIE (typed_in causes)
 is_stale_cookie h causes = false
 
--- What an ERROR does.
+-- What an ERROR does (3.3.10): a cookie that is too old ends the caller (5.2.6).
 pub data ErrorActs (e : EndView) (causes : List ℕ) : After → Type 0 where
   Closes : is_stale_cookie e.phase causes ≡ true → ErrorActs e causes (Ends (closed StaleCookie e))
   SaysNothing : is_stale_cookie e.phase causes ≡ false → ErrorActs e causes (GoesOn e)
 
 -- ---- the three chunks that close an association (9.2)
 
--- the peer says that it is done: its cumulative TSN acknowledges
+-- the peer says that it is done (9.2): its cumulative TSN acknowledges
 abbrev pub shutdown_heard : Tags → EndView → ℕ → EndView
 shutdown_heard t e tsn = turned (Open t ShutdownReceived) (settled (record e { sender = shutdown_taken e.sender tsn }))
 
--- What a SHUTDOWN does.
+-- What a SHUTDOWN does (3.3.8 and 9.2).
 pub data ShutdownActs (e : EndView) (tsn : ℕ) : After → Type 0 where
   NotOpen : hears (λ g. true) e.phase ≡ false → ShutdownActs e tsn PassedOver
   IsWrong : (t : Tags) (g : Stage) → e.phase ≡ Open t g → takes_acknowledgements g ≡ true → shutdown_fault e.sender tsn ≡ Some Beyond →
@@ -127,20 +127,20 @@ pub data ShutdownActs (e : EndView) (tsn : ℕ) : After → Type 0 where
   Crosses : (t : Tags) → e.phase ≡ Open t ShutdownSent → ShutdownActs e tsn (GoesOn (answers_shutdown t e))
   Again : (t : Tags) → e.phase ≡ Open t ShutdownAckSent → ShutdownActs e tsn (GoesOn (with_due (record e.due { shutdown_ack = true }) e))
 
--- What a SHUTDOWN ACK does.
+-- What a SHUTDOWN ACK does (3.3.9 and 9.2).
 pub data ShutdownAckActs (e : EndView) : After → Type 0 where
   NotAwaited : hears awaits_ack e.phase ≡ false → ShutdownAckActs e PassedOver
   Completes : (t : Tags) (g : Stage) → e.phase ≡ Open t g → awaits_ack g ≡ true →
       ShutdownAckActs e (Replies (closed Completed e) (packet_to e.configuration t.peer (ShutdownComplete false)))
 
--- What a SHUTDOWN COMPLETE does.
+-- What a SHUTDOWN COMPLETE does (3.3.13 and 9.2).
 pub data CompleteActs (e : EndView) : After → Type 0 where
   NotAwaited : hears awaits_complete e.phase ≡ false → CompleteActs e PassedOver
   Completes : hears awaits_complete e.phase ≡ true → CompleteActs e (Ends (closed Completed e))
 
 -- ---- chunks of an unknown type (3.2)
 
--- the cause that reports a chunk: its header and value, without padding
+-- the cause that reports a chunk (3.3.10.6): its header and value, without padding
 abbrev pub unknown_item : ℕ → ℕ → List ℕ → Typed
 unknown_item kind flags value = item UNRECOGNIZED_CHUNK (kind ∷ flags ∷ (u16_bytes (4 + length value) ++ value))
 
@@ -159,14 +159,14 @@ abbrev pub unknown_leaves : Bool → EndView → After
 unknown_leaves true e = Ends e
 unknown_leaves false e = GoesOn e
 
--- What a chunk of an unknown type does, by the two highest bits of its type.
+-- What a chunk of an unknown type does, by the two highest bits of its type (3.2).
 abbrev pub unknown_acts : EndView → ℕ → ℕ → List ℕ → After
 unknown_acts e kind flags value =
     unknown_leaves (chunk_rule kind).stop (with_causes (unknown_causes e kind flags value) e)
 
 -- ---- one clause for each type; the tag is that of the packet
 
--- What one chunk does to an end, by its type.
+-- What one chunk does to an end, by its type (3.2, table 1).
 abbrev pub Acts : EndView → ℕ → ChunkMeaning → After → Type 0
 Acts e tag (Data p) a = PieceActs Plain e p a
 Acts e tag (IData p) a = PieceActs Interleaved e p a

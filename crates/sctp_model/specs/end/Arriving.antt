@@ -11,12 +11,12 @@ use Rattle.sctp_model.specs.end.Acting.{Acts}
 use Rattle.sctp_model.specs.end.Passing.{has_ports, passes}
 use Rattle.sctp_model.specs.end.Strays.{Verdict, Taken, Dropped, Answer, stray_verdict, opened_by}
 
--- taken where some chunk was listed, else dropped for the state
+-- taken where some chunk was listed, else dropped for the state (RFC 9260, 4)
 abbrev pub verdict_of : Bool → Verdict
 verdict_of true = Taken
 verdict_of false = Dropped STATE
 
--- Chunks act in their order, each on what the one before left; a drained end goes on with closing before the next one acts.
+-- Chunks act in their order, each on what the one before left (RFC 9260, 6.10); a drained end goes on with closing before the next one acts (9.2).
 -- The truth value says whether some chunk so far was listed.
 pub data AllAct (tag : ℕ) : EndView → Bool → List ChunkMeaning → EndView → Verdict → Type 0 where
   NoneLeft : (e : EndView) (b : Bool) → AllAct tag e b [] e (verdict_of b)
@@ -29,7 +29,7 @@ pub data AllAct (tag : ℕ) : EndView → Bool → List ChunkMeaning → EndView
       Acts e tag x (Replies t p) → AllAct tag e b (x ∷ xs) t (Answer p)
   Stopped : (e : EndView) (b : Bool) (x : ChunkMeaning) (xs : List ChunkMeaning) (n : ℕ) → Acts e tag x (Drops n) → AllAct tag e b (x ∷ xs) e (Dropped n)
 
--- A packet that reads, at the end's moment, with this draw: the end after it, and what is told.
+-- ACT: a packet that reads, at the end's moment, with this draw: the end after it, and what is told (8.4 and 8.5).
 pub data Arrives (e : EndView) (d : Draw) (p : Packet) : EndView → Verdict → Type 0 where
   Elsewhere : has_ports e.configuration p ≡ false → Arrives e d p e (Dropped PORTS)
   NotOurs : has_ports e.configuration p ≡ true → passes e.phase p ≡ false → Arrives e d p e (Dropped TAG)

@@ -24,7 +24,7 @@ pub data Slot : Type 0 where
 abbrev pub echoing_slots : List Slot
 echoing_slots = EchoSlot ∷ ErrorSlot ∷ []
 
--- the order of filling while the association is open
+-- the order of filling while the association is open (RFC 9260, 6.10)
 abbrev pub open_slots : List Slot
 open_slots = CookieAckSlot ∷ HeartbeatSlot ∷ ErrorSlot ∷ SackSlot ∷ ForwardSlot ∷ ShutdownSlot ∷ ShutdownAckSlot ∷ []
 
@@ -49,7 +49,7 @@ is_due ForwardSlot e = e.due.forward && is_point_past e.sender
 is_due ShutdownSlot e = e.due.shutdown
 is_due ShutdownAckSlot e = e.due.shutdown_ack
 
--- The chunk that is due at a place, and the end once it is built.
+-- The chunk that is due at a place, and the end once it is built; a chunk that is repeated starts its timer (RFC 9260, 6.3.2, R1).
 pub data Wants (e : EndView) : Slot → ChunkMeaning → EndView → Type 0 where
   EchoCookie : (t : Tags) (xs : List ℕ) → e.phase ≡ Echoing t xs →
       Wants e EchoSlot (CookieEcho xs) (started CookieAlarm (with_due (record e.due { cookie_echo = false }) e))
@@ -65,7 +65,7 @@ pub data Wants (e : EndView) : Slot → ChunkMeaning → EndView → Type 0 wher
 
 -- ---- filling
 
--- behind these chunks there is room for one more, up to the packet limit
+-- behind these chunks there is room for one more, up to the packet limit (RFC 9260, 6.10)
 abbrev pub has_room : EndView → List ChunkMeaning → ChunkMeaning → Bool
 has_room e xs x = nat_le (size_of_packet (xs ++ x ∷ [])) e.configuration.limit
 
@@ -79,12 +79,12 @@ pub data Puts : List Slot → EndView → List ChunkMeaning → List ChunkMeanin
   IsFull : (s : Slot) (ss : List Slot) (e mid : EndView) (x : ChunkMeaning) (xs : List ChunkMeaning) → is_due s e ≡ true →
       Wants e s x mid → has_room e xs x ≡ false → Puts (s ∷ ss) e xs xs true e
 
--- fragments that go out start the data timer
+-- fragments that go out start the data timer (RFC 9260, 6.3.2, R1)
 abbrev pub timer_after : EndView → List Wish → Timer
 timer_after e [] = e.timers DataAlarm
 timer_after e (w ∷ ws) = running e.moment (e.timers DataAlarm) (e.timers DataAlarm).expiry
 
--- what fits behind these chunks is filled with fragments
+-- what fits behind these chunks is filled with fragments (RFC 9260, 6.1)
 abbrev pub filled_behind : EndView → List ChunkMeaning → Fill
 filled_behind e xs = fill (format_of e) (e.configuration.limit - size_of_packet xs) e.sender
 
@@ -98,7 +98,7 @@ fragments e xs = map (chunk_of (format_of e)) (filled_behind e xs).wishes
 
 -- ---- the next packet
 
--- BUILD: what the next packet of an end holds, and what building it leaves. Where it holds nothing there is no packet.
+-- BUILD: what the next packet of an end holds (RFC 9260, 6.10), and what building it leaves. Where it holds nothing there is no packet.
 pub data Builds (e : EndView) : List ChunkMeaning → EndView → Type 0 where
   Sleeps : has_association e.phase ≡ false → Builds e [] e
   Waits : (d : Draw) → e.phase ≡ Calling d → e.due.init ≡ false → Builds e [] e
@@ -117,6 +117,6 @@ tag_to (Echoing tags cookie) = tags.peer
 tag_to (Open tags stage) = tags.peer
 tag_to h = 0
 
--- the packet of these chunks
+-- the packet of these chunks (RFC 9260, 3)
 abbrev pub packet_of : EndView → List ChunkMeaning → Packet
 packet_of e xs = record { source = e.configuration.own_port; destination = e.configuration.peer_port; tag = tag_to e.phase; chunks = xs }

@@ -18,12 +18,12 @@ LAST_MOMENT = 2 ^ 64 - 1
 abbrev pub after_wait : ℕ → ℕ → ℕ
 after_wait now wait = min (now + wait) LAST_MOMENT
 
--- the timer, once its packet is built at this moment; while it runs another packet doesn't move its expiry
+-- the timer, once its packet is built at this moment (RFC 9260, 6.3.2, R1); while it runs another packet doesn't move its expiry
 abbrev pub running : ℕ → Timer → Option ℕ → Timer
 running now t (Some m) = t
 running now t None = record t { expiry = Some (after_wait now t.wait) }
 
--- the timer at rest: how long it waits and what it counted stay
+-- the timer at rest (6.3.2, R2): how long it waits and what it counted stay
 abbrev pub stopped : Timer → Timer
 stopped t = record t { expiry = None }
 
@@ -86,7 +86,7 @@ due_in h d = record d {
   shutdown_ack = d.shutdown_ack && is_home AckAlarm h;
 }
 
--- The end goes to this state, and each timer that isn't at home there rests.
+-- The end goes to this state (RFC 9260, 4), and each timer that isn't at home there rests.
 abbrev pub turned : Phase → EndView → EndView
 turned h e = record e {
   phase = h;
@@ -94,7 +94,7 @@ turned h e = record e {
   timers = λ a. if is_home a h then e.timers a else stopped (e.timers a);
 }
 
--- The end is closed for good, for this reason. It sends nothing and waits for nothing; what its user may still take or ask about stays.
+-- The end is closed for good, for this reason (RFC 9260, 9). It sends nothing and waits for nothing; what its user may still take or ask about stays.
 abbrev pub closed : Ended → EndView → EndView
 closed why e = record (turned (Over why) e) { due = nothing_due }
 
@@ -104,7 +104,7 @@ closed why e = record (turned (Over why) e) { due = nothing_due }
 abbrev pub is_point_past : SenderView → Bool
 is_point_past v = nat_lt v.cum (point v)
 
--- The data timer stops where nothing is unsettled, and a FORWARD is due no more where the point is CUM.
+-- The data timer stops where nothing is unsettled (RFC 9260, 6.3.2, R2), and a FORWARD is due no more where the point is CUM (RFC 3758, 3.5).
 abbrev pub settled : EndView → EndView
 settled e = record (with_timer DataAlarm (if unsettled e.sender then e.timers DataAlarm else stopped (e.timers DataAlarm)) e) {
   due = record e.due { forward = e.due.forward && is_point_past e.sender };

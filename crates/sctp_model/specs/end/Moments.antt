@@ -10,14 +10,14 @@ use Rattle.sctp_model.specs.end.Closing.{with_due, rested}
 
 -- ---- giving up
 
--- What giving up messages leaves: a FORWARD is due where the point moved, and the end is at rest again.
+-- What giving up messages leaves: a FORWARD is due where the point moved, and the end is at rest again (RFC 3758, 3.5).
 abbrev pub after_giving_up : EndView → SenderView → EndView
 after_giving_up e v =
     rested (settled (record e { sender = v; due = record e.due { forward = e.due.forward || not (point v == point e.sender) } }))
 
 -- ---- timers
 
--- what goes out once more after an expiry; of the data timer all that is unsettled, and a FORWARD where the point is past CUM
+-- what goes out once more after an expiry (RFC 9260, 6.3.3, E3); of the data timer all that is unsettled, and a FORWARD where the point is past CUM
 abbrev pub due_again : Alarm → EndView → EndView
 due_again InitAlarm e = with_due (record e.due { init = true }) e
 due_again CookieAlarm e = with_due (record e.due { cookie_echo = true }) e
@@ -25,7 +25,7 @@ due_again DataAlarm e = record e { sender = timed_out e.sender; due = record e.d
 due_again ShutdownAlarm e = with_due (record e.due { shutdown = true }) e
 due_again AckAlarm e = with_due (record e.due { shutdown_ack = true }) e
 
--- A timer that is due expires; the last time the end gives up, and sends nothing.
+-- A timer that is due expires; the last time the end gives up, and sends nothing (8.1).
 abbrev pub rung : Bool → Alarm → EndView → EndView
 rung false a e = e
 rung true a e =

@@ -16,7 +16,7 @@ use Rattle.sctp_model.specs.end.PeerFaults.{TAG, COOKIE, After, GoesOn, PassedOv
 
 -- ---- an association that begins
 
--- the tags that two draws give: the one's own, and its peer's
+-- the tags that two draws give: the one's own, and its peer's (RFC 9260, 5.3.1)
 abbrev pub tags_between : Draw → Draw → Tags
 tags_between own peer = record { own = own.tag; peer = peer.tag }
 
@@ -40,7 +40,7 @@ terms_of_ack c d m = record {
   partial = agreed_partial c m.parameters;
 }
 
--- The terms of a listener, by what its cookie says.
+-- The terms of a listener, by what its cookie says (5.1.3).
 abbrev pub terms_of_body : Body → Terms
 terms_of_body b = record {
   own_tsn = b.listener.tsn;
@@ -58,11 +58,11 @@ abbrev pub introduction : Configuration → Draw → List ℕ → InitMeaning
 introduction c d parameters =
     record { tag = d.tag; rwnd = c.buffer; outbound = c.outbound; inbound = c.inbound; tsn = d.tsn; parameters = parameters }
 
--- the caller's INIT: of parameters it has its options alone
+-- the caller's INIT (3.3.2): of parameters it has its options alone
 abbrev pub own_init : Configuration → Draw → ChunkMeaning
 own_init c d = Init (introduction c d (written (own_options c)))
 
--- it offers or takes no stream
+-- it offers or takes no stream (3.3.2)
 abbrev pub has_no_stream : InitMeaning → Bool
 has_no_stream m = (m.outbound == 0) || (m.inbound == 0)
 
@@ -85,18 +85,18 @@ abbrev pub init_ack_with : Sealing → EndView → Draw → InitMeaning → List
 init_ack_with s e d m reports =
     InitAck (introduction e.configuration d (written (item STATE_COOKIE (s.sealed (body_for e d m)) ∷ (own_options e.configuration ++ reports))))
 
--- the unknown parameters of the INIT are reported as far as they fit
+-- the unknown parameters of the INIT are reported as far as they fit (3.2.2)
 abbrev pub init_ack : Sealing → EndView → Draw → InitMeaning → ChunkMeaning
 init_ack s e d m =
     init_ack_with s e d m (as_fit (λ xs. fits_alone e (init_ack_with s e d m xs)) [] (reports_of (parameters_reported (typed_in m.parameters))))
 
 -- ---- INIT ACK (5.1.2)
 
--- the cause for a missing State Cookie
+-- the cause for a missing State Cookie (3.3.10.2)
 abbrev pub missing_cookie : Typed
 missing_cookie = item MISSING_PARAMETER (u32_bytes 1 ++ u16_bytes STATE_COOKIE)
 
--- why an INIT ACK is refused: no stream, no cookie, or one too large to echo in one packet
+-- why an INIT ACK is refused: no stream (3.3.3), no cookie, or one too large to echo in one packet (5.1.2)
 abbrev pub ack_fault : EndView → InitMeaning → Option (List ℕ) → Option Typed
 ack_fault e m None = Some (if has_no_stream m then item INVALID_PARAMETER [] else missing_cookie)
 ack_fault e m (Some xs) =
@@ -104,7 +104,7 @@ ack_fault e m (Some xs) =
     else if fits_alone e (CookieEcho xs) then None
     else Some (item OUT_OF_RESOURCE [])
 
--- the unknown parameters of an INIT ACK are reported in one cause, as a list, as far as the ERROR fits
+-- the unknown parameters of an INIT ACK are reported in one cause (3.3.10.8), as a list, as far as the ERROR fits
 abbrev pub causes_with_all : EndView → List Typed → List Typed
 causes_with_all e [] = e.due.causes
 causes_with_all e (x ∷ xs) = causes_with e (item UNRECOGNIZED_PARAMETERS (written (x ∷ xs)))
@@ -123,7 +123,7 @@ echoing e d m xs =
     let t = turned (Echoing (record { own = d.tag; peer = m.tag }) xs) (joined (terms_of_ack e.configuration d m) m.rwnd e) in
     with_due (record t.due { cookie_echo = true; causes = ack_causes e m }) t
 
--- COOKIE-WAIT
+-- COOKIE-WAIT (4)
 abbrev pub is_calling : Phase → Bool
 is_calling (Calling d) = true
 is_calling h = false
@@ -151,12 +151,12 @@ age e b = e.moment - b.made
 abbrev pub staleness : EndView → Body → ℕ
 staleness e b = min ((age e b - COOKIE_LIFE) * 1000) (2 ^ 32 - 1)
 
--- The cookie was made for this pair of ports, and for the tag under which it came back.
+-- The cookie was made for this pair of ports, and for the tag under which it came back (5.1.5, item 2).
 abbrev pub is_addressed : EndView → ℕ → Body → Bool
 is_addressed e tag b =
     (b.listener.port == e.configuration.own_port) && ((b.caller.port == e.configuration.peer_port) && (b.listener.tag == tag))
 
--- What a listener makes of a cookie: it opens, it would if it weren't too old, or it is nobody's.
+-- What a listener makes of a cookie (5.1.5): it opens, it would if it weren't too old, or it is nobody's.
 pub data CookieRead : Type 0 where
   Opens Stale : Body → CookieRead
   Strange : CookieRead
@@ -206,7 +206,7 @@ pub data EchoActs (e : EndView) (tag : ℕ) (xs : List ℕ) : After → Type 0 w
 
 -- ---- COOKIE ACK (5.1, E)
 
--- COOKIE-ECHOED
+-- COOKIE-ECHOED (4)
 abbrev pub is_echoing : Phase → Bool
 is_echoing (Echoing t xs) = true
 is_echoing h = false

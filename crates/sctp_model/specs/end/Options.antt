@@ -23,7 +23,7 @@ SUPPORTED_EXTENSIONS = 0x8008
 abbrev pub FORWARD_TSN_SUPPORTED : ℕ
 FORWARD_TSN_SUPPORTED = 0xC000
 
--- the value of a parameter of a list, if it is acted on; of a repeated one the first counts
+-- the value of a parameter of a list, if it is acted on (RFC 9260, 3.2.1); of a repeated one the first counts
 abbrev pub value_of : ℕ → List ℕ → Option (List ℕ)
 value_of k bytes = first_of k (parameters_acted_on (typed_in bytes))
 
@@ -44,11 +44,11 @@ abbrev pub is_carried : Option (List ℕ) → Bool
 is_carried None = false
 is_carried (Some xs) = true
 
--- I-DATA: both are set up for it, and list its chunk type
+-- I-DATA: both are set up for it, and list its chunk type (RFC 8260, 2.2.1)
 abbrev pub agreed_interleave : Configuration → List ℕ → Bool
 agreed_interleave c bytes = c.interleave && lists_type 64 (value_of SUPPORTED_EXTENSIONS bytes)
 
--- partial reliability: both are set up for it, and say so; with I-DATA they list I-FORWARD-TSN too
+-- partial reliability: both are set up for it, and say so (RFC 3758, 3.3); with I-DATA they list I-FORWARD-TSN too (RFC 8260, 2.3.1)
 abbrev pub agreed_partial : Configuration → List ℕ → Bool
 agreed_partial c bytes =
     c.partial && (is_carried (value_of FORWARD_TSN_SUPPORTED bytes)
@@ -56,7 +56,7 @@ agreed_partial c bytes =
 
 -- ---- an end's own options
 
--- the chunk types of its extensions, rising
+-- the chunk types of its extensions, rising (RFC 5061, 4.2.7)
 abbrev pub own_extensions : Configuration → List ℕ
 own_extensions c =
     (if c.interleave then 64 ∷ [] else [])
@@ -67,7 +67,7 @@ abbrev pub unless_empty : List ℕ → List Typed
 unless_empty [] = []
 unless_empty (x ∷ xs) = item SUPPORTED_EXTENSIONS (x ∷ xs) ∷ []
 
--- what an end says of its options, in INIT and in INIT ACK
+-- what an end says of its options, in INIT and in INIT ACK (RFC 9260, 3.3.2 and 3.3.3)
 abbrev pub own_options : Configuration → List Typed
 own_options c = (if c.partial then item FORWARD_TSN_SUPPORTED [] ∷ [] else []) ++ unless_empty (own_extensions c)
 

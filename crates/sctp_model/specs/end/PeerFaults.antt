@@ -12,19 +12,19 @@ use Rattle.sctp_model.specs.end.Reports.{written, item, NO_USER_DATA, PROTOCOL_V
 abbrev pub FAULT : ℕ
 FAULT = 1
 
--- other ports
+-- other ports than those of the association (3.1)
 abbrev pub PORTS : ℕ
 PORTS = 2
 
--- another tag, or the tag 0
+-- another tag, or the tag 0 (8.5)
 abbrev pub TAG : ℕ
 TAG = 3
 
--- nothing in it is listed for the state
+-- nothing in it is listed for the state (4)
 abbrev pub STATE : ℕ
 STATE = 4
 
--- a cookie that does not open
+-- a cookie that does not open (5.1.5)
 abbrev pub COOKIE : ℕ
 COOKIE = 5
 
@@ -35,22 +35,22 @@ pub data After : Type 0 where
   Replies : EndView → Packet → After
   Drops : (reason : ℕ) → After
 
--- a packet of one chunk, from this end
+-- a packet of one chunk, from this end (3)
 abbrev pub packet_to : Configuration → ℕ → ChunkMeaning → Packet
 packet_to c tag x = record { source = c.own_port; destination = c.peer_port; tag = tag; chunks = x ∷ [] }
 
--- an ABORT of this cause
+-- an ABORT of this cause (3.3.7)
 abbrev pub abort_for : Typed → ChunkMeaning
 abort_for x = Abort false (written (x ∷ []))
 
--- the end closes with an ABORT
+-- the end closes with an ABORT, which goes to the peer's tag (9.1)
 abbrev pub at_fault : Tags → Typed → EndView → After
 at_fault t x e = Replies (closed AbortedHere e) (packet_to e.configuration t.peer (abort_for x))
 
--- a chunk without data, and its TSN
+-- a chunk without data, and its TSN (3.3.10.9)
 abbrev pub no_user_data : ℕ → Typed
 no_user_data tsn = item NO_USER_DATA (u32_bytes tsn)
 
--- the cause for a broken rule
+-- the cause for a broken rule (3.3.10.13)
 abbrev pub violation : Typed
 violation = item PROTOCOL_VIOLATION []

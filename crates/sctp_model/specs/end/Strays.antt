@@ -9,7 +9,7 @@ use Rattle.sctp_model.specs.end.Reports.{written, item, STALE_COOKIE, INVALID_PA
 use Rattle.sctp_model.specs.end.PeerFaults.{TAG, STATE, COOKIE, packet_to, abort_for}
 use Rattle.sctp_model.specs.end.Opening.{CookieRead, Opens, Stale, Strange, cookie_read, staleness, seal_in, has_no_stream, init_ack}
 
--- What is told of a packet that came: it acted, it was dropped for a reason, or this packet is to be sent at once.
+-- What is told of a packet that came: it acted, it was dropped for a reason, or this packet is to be sent at once (RFC 9260, 8.4).
 pub data Verdict : Type 0 where
   Taken : Verdict
   Dropped : (reason : ℕ) → Verdict
@@ -20,7 +20,7 @@ abbrev pub is_abort : ChunkMeaning → Bool
 is_abort (Abort t causes) = true
 is_abort x = false
 
--- one of the chunks is an ABORT
+-- one of the chunks is an ABORT: such a packet is never answered (8.4, rule 2)
 abbrev pub holds_abort : List ChunkMeaning → Bool
 holds_abort [] = false
 holds_abort (x ∷ xs) = is_abort x || holds_abort xs
@@ -34,14 +34,14 @@ seal_at h r = None
 abbrev pub listens : EndView → Option Sealing
 listens e = seal_at e.phase e.role
 
--- an INIT at a listener, or where none listens
+-- an INIT at a listener, or where none listens (5.1, B)
 abbrev pub init_verdict : Option Sealing → EndView → Draw → InitMeaning → Verdict
 init_verdict None e d m = Answer (packet_to e.configuration m.tag (Abort false []))
 init_verdict (Some s) e d m =
     if has_no_stream m then Answer (packet_to e.configuration m.tag (abort_for (item INVALID_PARAMETER [])))
     else Answer (packet_to e.configuration m.tag (init_ack s e d m))
 
--- a cookie that doesn't open
+-- a cookie that doesn't open: one that is too old alone is told by how much (5.1.5, item 3)
 abbrev pub cookie_verdict : EndView → CookieRead → Verdict
 cookie_verdict e (Stale b) = Answer (packet_to e.configuration b.caller.tag (Error (written (item STALE_COOKIE (u32_bytes (staleness e b)) ∷ []))))
 cookie_verdict e (Opens b) = Dropped COOKIE
@@ -52,11 +52,11 @@ abbrev pub echo_verdict : Option Sealing → EndView → ℕ → List ℕ → Ve
 echo_verdict None e tag cookie = Answer (packet_to e.configuration tag (Abort true []))
 echo_verdict (Some s) e tag cookie = cookie_verdict e (cookie_read s e tag cookie)
 
--- an ABORT that shows the packet's own tag
+-- an ABORT that shows the packet's own tag (8.4, rule 8; 8.5.1, B)
 abbrev pub refused : EndView → ℕ → Verdict
 refused e tag = Answer (packet_to e.configuration tag (Abort true []))
 
--- by the first chunk, a row for each type
+-- by the first chunk, a row for each type (8.4)
 abbrev pub first_verdict : EndView → Draw → ℕ → ChunkMeaning → Verdict
 first_verdict e d tag (Init m) = if m.tag == 0 then Dropped TAG else init_verdict (listens e) e d m
 first_verdict e d tag (CookieEcho cookie) = echo_verdict (listens e) e tag cookie
@@ -87,7 +87,7 @@ stray_verdict e d p = chunks_verdict e d p.tag p.chunks
 
 -- ---- the cookie that begins an association
 
--- the body of a cookie that opens
+-- the body of a cookie that opens (5.1.5)
 abbrev pub body_of : CookieRead → Option Body
 body_of (Opens b) = Some b
 body_of (Stale b) = None

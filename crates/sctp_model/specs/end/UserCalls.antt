@@ -15,7 +15,7 @@ use Rattle.sctp_model.specs.end.Moments.{after_giving_up}
 
 -- ---- connect: once, by a caller that hasn't called yet (11.1.2)
 
--- What is answered to connect.
+-- What is answered to connect (RFC 9260, 11.1.2).
 pub data ConnectAnswer : Type 0 where
   Called NotIdle : ConnectAnswer
 
@@ -28,7 +28,7 @@ connect_answer (Echoing t xs) = NotIdle
 connect_answer (Open t g) = NotIdle
 connect_answer (Over why) = NotIdle
 
--- INIT is due
+-- INIT is due (5.1, A)
 abbrev pub called : EndView → Draw → EndView
 called e d = with_due (record (turned (Calling d) e).due { init = true }) (turned (Calling d) e)
 
@@ -53,7 +53,7 @@ abbrev pub answer_for : EndView → Option Refusal → SendAnswer
 answer_for e None = Ticket (suc e.sender.tickets)
 answer_for e (Some r) = Refused r
 
--- What is answered to send: an end that is not established first, then the refusals in their order.
+-- What is answered to send (11.1.5): an end that is not established first, then the refusals in their order.
 abbrev pub send_answer : EndView → Call → SendAnswer
 send_answer e c =
     if hears is_established e.phase then answer_for e (refusal e.sender c.lane.stream c.bytes) else NotOpen
@@ -70,7 +70,7 @@ send_leaves NotOpen e c = e
 abbrev pub is_open : Phase → Bool
 is_open h = hears (λ g. true) h
 
--- what the sender of an end answers, whether it is open or closed
+-- what the sender of an end answers to abandon (RFC 3758, 3.5), whether it is open or closed
 abbrev pub abandons : EndView → ℕ → AbandonAnswer
 abandons e ticket = abandon_answer e.sender ticket
 
@@ -81,7 +81,7 @@ abandoned_at e ticket =
 
 -- ---- take (11.1.6)
 
--- What taking a message leaves.
+-- What taking a message leaves (11.1.6).
 pub record Takes (e : EndView) (stream : ℕ) (answer : Option Handed) (t : EndView) : Type 0 where
   pub receiver : ReceiverView
   pub takes : TakeLeaves e.receiver stream answer receiver
@@ -89,7 +89,7 @@ pub record Takes (e : EndView) (stream : ℕ) (answer : Option Handed) (t : EndV
 
 -- ---- shutdown (11.1.3)
 
--- What is answered to shutdown.
+-- What is answered to shutdown (11.1.3).
 pub data ShutdownAnswer : Type 0 where
   Shut NotShut : ShutdownAnswer
 
@@ -102,7 +102,7 @@ shutdown_answer (Echoing t xs) = NotShut
 shutdown_answer (Open t g) = Shut
 shutdown_answer (Over why) = NotShut
 
--- once it is begun, the call changes nothing
+-- the association is shut (9.2); once that is begun, the call changes nothing
 abbrev pub shut_in : Phase → EndView → EndView
 shut_in (Open t Established) e = rested (turned (Open t ShutdownPending) e)
 shut_in h e = e
@@ -113,7 +113,7 @@ shut e = shut_in e.phase e
 
 -- ---- abort (11.1.4)
 
--- What is answered to abort.
+-- What is answered to abort (11.1.4).
 pub data AbortAnswer : Type 0 where
   Aborts : Packet → AbortAnswer
   NoPeer TooLong : AbortAnswer
@@ -127,7 +127,7 @@ peer_tag (Echoing t xs) = Some t.peer
 peer_tag (Open t g) = Some t.peer
 peer_tag (Over why) = None
 
--- the ABORT of the user, with the reason
+-- the ABORT of the user (3.3.10.12), with the reason
 abbrev pub abort_packet : EndView → ℕ → List ℕ → Packet
 abort_packet e tag reason = packet_to e.configuration tag (abort_for (item USER_ABORT reason))
 
