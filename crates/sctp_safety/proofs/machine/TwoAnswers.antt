@@ -1,11 +1,11 @@
 -- An INIT that comes twice, and is answered twice: step by step, computed from the definitions (RFC 9260, 5.2.3).
-use Rattle.std.proofs.Common.{◌≡◌, ℕ, ◌<◌, true, false, List, [], ◌∷◌, ◌++◌, Option, Some, None, inl, inr, refl, arith}
+use Rattle.std.proofs.Common.{ℕ, ◌<◌, true, false, List, [], ◌∷◌, ◌++◌, Some, inl, inr, refl, arith}
 use Rattle.sctp_model.specs.Lists.{Has}
 use Rattle.sctp_model.specs.Numbers.{u16_bytes, u32_bytes, u16_at, u32_at}
 use Rattle.sctp_model.specs.Typed.{starts_typed, typed_of}
 use Rattle.sctp_model.specs.Chunk.{InitMeaning, InitAck, CookieEcho}
 use Rattle.sctp_model.specs.Packet.{Packet, size_of_packet}
-use Rattle.sctp_model.specs.end.EndView.{Draw, Tags, EndView, CookieAlarm}
+use Rattle.sctp_model.specs.end.EndView.{Draw, EndView, CookieAlarm}
 use Rattle.sctp_model.specs.end.Clock.{started}
 use Rattle.sctp_model.specs.end.Closing.{with_due}
 use Rattle.sctp_model.specs.end.Reports.{written, item}
@@ -17,10 +17,10 @@ use Rattle.sctp_model.specs.end.Arriving.{Stray, Begins, Heard, NoneLeft, Next}
 use Rattle.sctp_model.specs.end.Arriving.{Over as Passes}
 use Rattle.sctp_model.specs.end.Building.{EchoSlot, ErrorSlot, EchoCookie, NoMore, NotDue, Put, Echoes, packet_of}
 use Rattle.sctp_model.specs.World.{Side, A, B, World, with_end, with_packet, end_now, came, configuration_of}
-use Rattle.sctp_model.specs.Events.{Event, Drawing, Connect, Build, Deliver, Foreign, Outcome, Done, Sent, Acted, NotActed, told, with_verdict}
-use Rattle.sctp_model.specs.Steps.{IsDraw, Step, Draws, BuildsOne, FromBag, Comes, Run, Rest, Then}
+use Rattle.sctp_model.specs.Events.{Event, Drawing, Connect, Build, Deliver, Foreign, Done, Sent, Acted, NotActed, told, with_verdict}
+use Rattle.sctp_model.specs.Steps.{IsDraw, Step, Draws, BuildsOne, FromBag, Comes, Rest, Then}
 use Rattle.sctp_safety.specs.Handshake.{TheFirstAnswerCounts}
-use Rattle.sctp_safety.proofs.machine.OpeningWorlds.{two, of_a, of_b, numbers, w0, w1, init, w2, w3, init_meaning, packet_1, w4, packet_2, ack_meaning}
+use Rattle.sctp_safety.proofs.machine.OpeningWorlds.{two, of_a, of_b, numbers, w0, w1, w2, w3, init_meaning, packet_1, w4, packet_2, ack_meaning}
 use Rattle.sctp_safety.proofs.machine.Handshake.{step_1, step_2, step_3, step_4, configured}
 
 -- another draw, and the INIT once more

@@ -19,7 +19,7 @@ use Rattle.sctp_safety.proofs.machine.Sides.{unknown_goes, unknown_ends, unknown
 use Rattle.sctp_safety.proofs.runs.Direction.{Direction}
 use Rattle.sctp_safety.proofs.runs.Sending.{after_sack, after_shutdown}
 use Rattle.sctp_safety.proofs.runs.Hearing.{after_piece, after_skip}
-use Rattle.sctp_safety.proofs.runs.Pair.{IsMet, AreViews, met_same}
+use Rattle.sctp_safety.proofs.runs.Pair.{met_views, IsMet, AreViews, met_same}
 
 -- an end that waits for an INIT ACK has agreed on nothing
 pub not_calling : (h : Phase) (d : Draw) → h ≡ Calling d → has_agreed h ≡ true → ⊥
@@ -32,26 +32,10 @@ module _ (p : EndView) (u v : Asked) (out back : List ChunkMeaning) where
   -- ---- views that changed
 
   with_receiver : (e : EndView) (r : ReceiverView) → Met e → Direction (format_of p) p.terms.outbound p.sender v r back out → Met (record e { receiver = r })
-  with_receiver e r m d = record {
-    going = m.going;
-    coming = d;
-    format = m.format;
-    phase = m.phase;
-    phase_there = m.phase_there;
-    moment = m.moment;
-    moment_there = m.moment_there;
-  }
+  with_receiver e r m d = met_views e p u v out back out m e.sender r m.going d
 
   with_sender : (e : EndView) (a : SenderView) → Met e → Direction (format_of e) e.terms.outbound a u p.receiver out back → Met (record e { sender = a })
-  with_sender e a m d = record {
-    going = d;
-    coming = m.coming;
-    format = m.format;
-    phase = m.phase;
-    phase_there = m.phase_there;
-    moment = m.moment;
-    moment_there = m.moment_there;
-  }
+  with_sender e a m d = met_views e p u v out back out m a e.receiver d m.coming
 
   by_data : (e : EndView) (x : PieceMeaning) (o : Answer) (r : ReceiverView) → Met e → Has back (Data x) → PieceTaken (format_of e) e.receiver x o r → Met (record e { receiver = r })
   by_data e x o r m has taken =

@@ -76,6 +76,21 @@ pub record Direction (f : Format) (n : ℕ) (a : SenderView) (u : Asked) (r : Re
   pub said : (x : ChunkMeaning) → Has out x → IsSaid f a.initial a.plan bags x
   pub said_back : (x : ChunkMeaning) → Has back x → IsSaidBack r.initial bags x
 
+-- the same direction, between ends that built these chunks
+pub with_chunks : (f : Format) (n : ℕ) (a : SenderView) (u : Asked) (r : ReceiverView) (out back : List ChunkMeaning) (d : Direction f n a u r out back) (xs ys : List ChunkMeaning) →
+    ((x : ChunkMeaning) → Has xs x → IsSaid f a.initial a.plan d.bags x) → ((y : ChunkMeaning) → Has ys y → IsSaidBack r.initial d.bags y) → Direction f n a u r xs ys
+with_chunks f n a u r out back d xs ys said said_back = record {
+  bags = d.bags;
+  usual = d.usual;
+  reached = d.reached;
+  idle = d.idle;
+  initial = d.initial;
+  outbound = d.outbound;
+  inbound = d.inbound;
+  said = said;
+  said_back = said_back;
+}
+
 pub joined_in : (f : Format) (n : ℕ) (a : SenderView) (u : Asked) (r : ReceiverView) (out back : List ChunkMeaning) (d : Direction f n a u r out back) →
     IsJoined (way_of f n a u r d.bags)
 joined_in f n a u r out back d = record { initial = d.initial; streams = d.inbound }

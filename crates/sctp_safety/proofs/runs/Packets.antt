@@ -1,10 +1,13 @@
 -- A packet that an end builds keeps both directions: what stands in it is said.
 use Rattle.std.proofs.Common.{◌≡◌, ◌-◌, Bool, true, false, List, [], ◌∷◌, ◌++◌, append_assoc, append-nil, inl, inr, refl, sym, subst}
 use Rattle.sctp_model.specs.Lists.{Has}
-use Rattle.sctp_model.specs.Serial.{tsn}
-use Rattle.sctp_model.specs.Chunk.{ChunkMeaning, Sack, Shutdown}
+use Rattle.sctp_model.specs.Chunk.{ChunkMeaning, Sack}
 use Rattle.sctp_model.specs.Packet.{size_of_packet}
 use Rattle.sctp_model.specs.Format.{Format, Plain, Interleaved}
+use Rattle.sctp_model.specs.SenderView.{SenderView}
+use Rattle.sctp_model.specs.ReceiverView.{ReceiverView}
+use Rattle.sctp_model.specs.receiver.SackMade.{sack_sent}
+use Rattle.sctp_safety.proofs.runs.Direction.{Direction}
 use Rattle.sctp_model.specs.Calls.{Asked}
 use Rattle.sctp_model.specs.sender.Filling.{Wish}
 use Rattle.sctp_model.specs.sender.SentChunks.{chunk_of, forward_chunk_of}
@@ -15,7 +18,7 @@ use Rattle.sctp_safety.specs.States.{has_agreed}
 use Rattle.sctp_safety.proofs.runs.Sending.{after_fill, Has-map}
 use Rattle.sctp_safety.proofs.runs.Passing.{after_forward}
 use Rattle.sctp_safety.proofs.runs.Hearing.{after_note, after_sack_made, after_shutdown_made}
-use Rattle.sctp_safety.proofs.runs.Pair.{is_quiet, is_quiet_back, quiet_more, quiet_back_more, IsMet, AreViews, met_same}
+use Rattle.sctp_safety.proofs.runs.Pair.{met_views, is_quiet, is_quiet_back, quiet_more, quiet_back_more, IsMet, AreViews, met_same}
 use Rattle.sctp_safety.proofs.runs.Acted.{not_calling}
 
 -- a chunk of this one says nothing
@@ -30,62 +33,38 @@ module _ (p : EndView) (u v : Asked) (back : List ChunkMeaning) where
 
   -- ---- one chunk
 
-  put_quiet : (out : List ChunkMeaning) (e t : EndView) (x : ChunkMeaning) → Met out e → is_quiet x ≡ true → is_quiet_back x ≡ true → AreViews e t → t.phase ≡ e.phase → Met (out ++ x ∷ []) t
-  put_quiet out e t x m quiet quiet_back same phase =
-      met_same e t p u v (out ++ x ∷ []) back (record {
-        going = quiet_more (format_of e) e.terms.outbound e.sender u p.receiver out back m.going (x ∷ []) (one_quiet is_quiet x quiet);
-        coming = quiet_back_more (format_of p) p.terms.outbound p.sender v e.receiver back out m.coming (x ∷ []) (one_quiet is_quiet_back x quiet_back);
-        format = m.format;
-        phase = m.phase;
-        phase_there = m.phase_there;
-        moment = m.moment;
-        moment_there = m.moment_there;
-      }) same (subst (λ (h : Phase). has_agreed h ≡ true) (sym phase) m.phase)
+  -- the end with these views, and else as it was but for what is due and for timers
+  put : (out : List ChunkMeaning) (e t : EndView) (x : ChunkMeaning) → Met out e → (r : ReceiverView) →
+      Direction (format_of e) e.terms.outbound e.sender u p.receiver (out ++ x ∷ []) back → Direction (format_of p) p.terms.outbound p.sender v r back (out ++ x ∷ []) →
+      AreViews (record e { receiver = r }) t → t.phase ≡ e.phase → Met (out ++ x ∷ []) t
+  put out e t x m r going coming same phase =
+      met_same (record e { receiver = r }) t p u v (out ++ x ∷ []) back (met_views e p u v out back (out ++ x ∷ []) m e.sender r going coming) same
+      (subst (λ (h : Phase). has_agreed h ≡ true) (sym phase) m.phase)
 
-  put_forward : (out : List ChunkMeaning) (e t : EndView) → Met out e → AreViews e t → t.phase ≡ e.phase → Met (out ++ forward_chunk_of (format_of e) e.sender ∷ []) t
-  put_forward out e t m same phase =
-      met_same e t p u v (out ++ forward_chunk_of (format_of e) e.sender ∷ []) back (record {
-        going = after_forward (format_of e) e.terms.outbound e.sender u p.receiver out back m.going;
-        coming = quiet_back_more (format_of p) p.terms.outbound p.sender v e.receiver back out m.coming (forward_chunk_of (format_of e) e.sender ∷ [])
-            (one_quiet is_quiet_back (forward_chunk_of (format_of e) e.sender) (by_format (format_of e)));
-        format = m.format;
-        phase = m.phase;
-        phase_there = m.phase_there;
-        moment = m.moment;
-        moment_there = m.moment_there;
-      }) same (subst (λ (h : Phase). has_agreed h ≡ true) (sym phase) m.phase)
-    where
-      by_format : (f : Format) → is_quiet_back (forward_chunk_of f e.sender) ≡ true
-      by_format Plain = refl
-      by_format Interleaved = refl
+  -- what says nothing one way, or the other
+  going_quiet : (out : List ChunkMeaning) (e : EndView) (x : ChunkMeaning) → Met out e → is_quiet x ≡ true → Direction (format_of e) e.terms.outbound e.sender u p.receiver (out ++ x ∷ []) back
+  going_quiet out e x m quiet = quiet_more (format_of e) e.terms.outbound e.sender u p.receiver out back m.going (x ∷ []) (one_quiet is_quiet x quiet)
+
+  coming_quiet : (out : List ChunkMeaning) (e : EndView) (x : ChunkMeaning) → Met out e → is_quiet_back x ≡ true → Direction (format_of p) p.terms.outbound p.sender v e.receiver back (out ++ x ∷ [])
+  coming_quiet out e x m quiet = quiet_back_more (format_of p) p.terms.outbound p.sender v e.receiver back out m.coming (x ∷ []) (one_quiet is_quiet_back x quiet)
+
+  forward_is_quiet_back : (f : Format) (a : SenderView) → is_quiet_back (forward_chunk_of f a) ≡ true
+  forward_is_quiet_back Plain a = refl
+  forward_is_quiet_back Interleaved a = refl
 
   put_one : (s : Slot) (out : List ChunkMeaning) (e t : EndView) (x : ChunkMeaning) → Met out e → Wants e s x t → Met (out ++ x ∷ []) t
-  put_one s out e t x m (EchoCookie _ _ _) = put_quiet out e t x m refl refl (record { terms = refl; sender = refl; receiver = refl; moment = refl }) refl
-  put_one s out e t x m AckCookie = put_quiet out e t x m refl refl (record { terms = refl; sender = refl; receiver = refl; moment = refl }) refl
-  put_one s out e t x m (AckHeartbeat _ _) = put_quiet out e t x m refl refl (record { terms = refl; sender = refl; receiver = refl; moment = refl }) refl
-  put_one s out e t x m ReportCauses = put_quiet out e t x m refl refl (record { terms = refl; sender = refl; receiver = refl; moment = refl }) refl
-  put_one s out e t x m (Acknowledge made is) = record {
-    going = quiet_more (format_of e) e.terms.outbound e.sender u p.receiver out back m.going (Sack made ∷ []) (one_quiet is_quiet (Sack made) refl);
-    coming = after_note (format_of p) p.terms.outbound p.sender v e.receiver back (out ++ Sack made ∷ [])
-        (after_sack_made (format_of p) p.terms.outbound p.sender v e.receiver back out m.coming made is) [];
-    format = m.format;
-    phase = m.phase;
-    phase_there = m.phase_there;
-    moment = m.moment;
-    moment_there = m.moment_there;
-  }
-  put_one s out e t x m PassOn = put_forward out e t m (record { terms = refl; sender = refl; receiver = refl; moment = refl }) refl
-  put_one s out e t x m (SayShutdown c is) = record {
-    going = quiet_more (format_of e) e.terms.outbound e.sender u p.receiver out back m.going (Shutdown (tsn e.receiver.initial c) ∷ [])
-        (one_quiet is_quiet (Shutdown (tsn e.receiver.initial c)) refl);
-    coming = after_shutdown_made (format_of p) p.terms.outbound p.sender v e.receiver back out m.coming c is;
-    format = m.format;
-    phase = m.phase;
-    phase_there = m.phase_there;
-    moment = m.moment;
-    moment_there = m.moment_there;
-  }
-  put_one s out e t x m AnswerShutdown = put_quiet out e t x m refl refl (record { terms = refl; sender = refl; receiver = refl; moment = refl }) refl
+  put_one s out e t x m (EchoCookie _ _ _) = put out e t x m e.receiver (going_quiet out e x m refl) (coming_quiet out e x m refl) (record { terms = refl; sender = refl; receiver = refl; moment = refl }) refl
+  put_one s out e t x m AckCookie = put out e t x m e.receiver (going_quiet out e x m refl) (coming_quiet out e x m refl) (record { terms = refl; sender = refl; receiver = refl; moment = refl }) refl
+  put_one s out e t x m (AckHeartbeat _ _) = put out e t x m e.receiver (going_quiet out e x m refl) (coming_quiet out e x m refl) (record { terms = refl; sender = refl; receiver = refl; moment = refl }) refl
+  put_one s out e t x m ReportCauses = put out e t x m e.receiver (going_quiet out e x m refl) (coming_quiet out e x m refl) (record { terms = refl; sender = refl; receiver = refl; moment = refl }) refl
+  put_one s out e t x m (Acknowledge made is) = put out e t x m (sack_sent e.receiver) (going_quiet out e x m refl)
+      (after_note (format_of p) p.terms.outbound p.sender v e.receiver back (out ++ Sack made ∷ [])
+      (after_sack_made (format_of p) p.terms.outbound p.sender v e.receiver back out m.coming made is) []) (record { terms = refl; sender = refl; receiver = refl; moment = refl }) refl
+  put_one s out e t x m PassOn = put out e t x m e.receiver (after_forward (format_of e) e.terms.outbound e.sender u p.receiver out back m.going)
+      (coming_quiet out e x m (forward_is_quiet_back (format_of e) e.sender)) (record { terms = refl; sender = refl; receiver = refl; moment = refl }) refl
+  put_one s out e t x m (SayShutdown c is) = put out e t x m e.receiver (going_quiet out e x m refl)
+      (after_shutdown_made (format_of p) p.terms.outbound p.sender v e.receiver back out m.coming c is) (record { terms = refl; sender = refl; receiver = refl; moment = refl }) refl
+  put_one s out e t x m AnswerShutdown = put out e t x m e.receiver (going_quiet out e x m refl) (coming_quiet out e x m refl) (record { terms = refl; sender = refl; receiver = refl; moment = refl }) refl
 
   -- ---- one after the other
 
@@ -99,16 +78,13 @@ module _ (p : EndView) (u v : Asked) (back : List ChunkMeaning) where
 
   -- fragments behind what is due
   fill_keeps : (out : List ChunkMeaning) (e : EndView) (zs : List ChunkMeaning) → Met (out ++ zs) e → Met (out ++ (zs ++ fragments e zs)) (sent e zs)
-  fill_keeps out e zs m = subst (λ (ys : List ChunkMeaning). Met ys (sent e zs)) (append_assoc out zs (fragments e zs)) (record {
-    going = after_fill (format_of e) e.terms.outbound e.sender u p.receiver (out ++ zs) back m.going (e.configuration.limit - size_of_packet zs)
-        (filled_behind e zs).wishes (filled_behind e zs).view (fill_is_fill (format_of e) (e.configuration.limit - size_of_packet zs) e.sender);
-    coming = quiet_back_more (format_of p) p.terms.outbound p.sender v e.receiver back (out ++ zs) m.coming (fragments e zs) quiet;
-    format = m.format;
-    phase = m.phase;
-    phase_there = m.phase_there;
-    moment = m.moment;
-    moment_there = m.moment_there;
-  })
+  fill_keeps out e zs m = subst (λ (ys : List ChunkMeaning). Met ys (sent e zs)) (append_assoc out zs (fragments e zs))
+      (met_same (record e { sender = (filled_behind e zs).view }) (sent e zs) p u v ((out ++ zs) ++ fragments e zs) back
+      (met_views e p u v (out ++ zs) back ((out ++ zs) ++ fragments e zs) m (filled_behind e zs).view e.receiver
+      (after_fill (format_of e) e.terms.outbound e.sender u p.receiver (out ++ zs) back m.going (e.configuration.limit - size_of_packet zs)
+      (filled_behind e zs).wishes (filled_behind e zs).view (fill_is_fill (format_of e) (e.configuration.limit - size_of_packet zs) e.sender))
+      (quiet_back_more (format_of p) p.terms.outbound p.sender v e.receiver back (out ++ zs) m.coming (fragments e zs) quiet))
+      (record { terms = refl; sender = refl; receiver = refl; moment = refl }) m.phase)
     where
       by_format : (f : Format) (w : Wish) → is_quiet_back (chunk_of f w) ≡ true
       by_format Plain w = refl

@@ -12,7 +12,7 @@ use Rattle.sctp_model.specs.end.Closing.{rested}
 use Rattle.sctp_safety.specs.States.{has_agreed}
 use Rattle.sctp_safety.proofs.Basics.{Has-cases}
 use Rattle.sctp_safety.proofs.machine.EndWords.{rested_cases}
-use Rattle.sctp_safety.proofs.runs.Direction.{Bags, IsSaid, IsSaidBack, Direction}
+use Rattle.sctp_safety.proofs.runs.Direction.{with_chunks, Bags, IsSaid, IsSaidBack, Direction}
 use Rattle.sctp_safety.proofs.runs.Sending.{said_more}
 
 -- ---- chunks that say nothing of a direction
@@ -72,17 +72,7 @@ opening_quiet_back x h = refl
 -- chunks more that the receiver's end built, and that say nothing of the direction
 pub quiet_back_more : (f : Format) (n : ℕ) (a : SenderView) (u : Asked) (r : ReceiverView) (out back : List ChunkMeaning) (d : Direction f n a u r out back)
     (xs : List ChunkMeaning) → ((x : ChunkMeaning) → Has xs x → is_quiet_back x ≡ true) → Direction f n a u r out (back ++ xs)
-quiet_back_more f n a u r out back d xs quiet = record {
-  bags = d.bags;
-  usual = d.usual;
-  reached = d.reached;
-  idle = d.idle;
-  initial = d.initial;
-  outbound = d.outbound;
-  inbound = d.inbound;
-  said = d.said;
-  said_back = λ x has. which x (Has-cases back xs x has);
-}
+quiet_back_more f n a u r out back d xs quiet = with_chunks f n a u r out back d out (back ++ xs) d.said (λ x has. which x (Has-cases back xs x has))
   where
     which : (x : ChunkMeaning) → Has back x ⊎ Has xs x → IsSaidBack r.initial d.bags x
     which x (inl h) = d.said_back x h
@@ -114,6 +104,20 @@ turned_round e p u v out back m = record {
   phase_there = m.phase;
   moment = m.moment_there;
   moment_there = m.moment;
+}
+
+-- an end with these views, once its chunks are these
+pub met_views : (e p : EndView) (u v : Asked) (out back more : List ChunkMeaning) → IsMet e p u v out back → (a : SenderView) (r : ReceiverView) →
+    Direction (format_of e) e.terms.outbound a u p.receiver more back → Direction (format_of p) p.terms.outbound p.sender v r back more →
+    IsMet (record e { sender = a; receiver = r }) p u v more back
+met_views e p u v out back more m a r going coming = record {
+  going = going;
+  coming = coming;
+  format = m.format;
+  phase = m.phase;
+  phase_there = m.phase_there;
+  moment = m.moment;
+  moment_there = m.moment_there;
 }
 
 -- the same views, terms and moment
@@ -155,12 +159,7 @@ met_rested e p u v out back m = met_same e (rested e) p u v out back m (views_re
 
 -- the end built chunks that say nothing of either direction
 pub met_quiet : (e p : EndView) (u v : Asked) (out back : List ChunkMeaning) → IsMet e p u v out back → (xs : List ChunkMeaning) → AreOpening xs → IsMet e p u v (out ++ xs) back
-met_quiet e p u v out back m xs opening = record {
-  going = quiet_more (format_of e) e.terms.outbound e.sender u p.receiver out back m.going xs (λ x has. opening_quiet x (opening x has));
-  coming = quiet_back_more (format_of p) p.terms.outbound p.sender v e.receiver back out m.coming xs (λ x has. opening_quiet_back x (opening x has));
-  format = m.format;
-  phase = m.phase;
-  phase_there = m.phase_there;
-  moment = m.moment;
-  moment_there = m.moment_there;
-}
+met_quiet e p u v out back m xs opening =
+    met_views e p u v out back (out ++ xs) m e.sender e.receiver
+    (quiet_more (format_of e) e.terms.outbound e.sender u p.receiver out back m.going xs (λ x has. opening_quiet x (opening x has)))
+    (quiet_back_more (format_of p) p.terms.outbound p.sender v e.receiver back out m.coming xs (λ x has. opening_quiet_back x (opening x has)))

@@ -37,7 +37,7 @@ use Rattle.sctp_safety.proofs.QueueMoves.{queue_is_moves}
 use Rattle.sctp_safety.proofs.GivingMoves.{abandon_is_moves, expire_is_moves, timeout_is_moves}
 use Rattle.sctp_safety.proofs.SackMoves.{sack_is_moves, shutdown_is_moves}
 use Rattle.sctp_safety.proofs.runs.Grown.{plan_lasts}
-use Rattle.sctp_safety.proofs.runs.Direction.{Bags, way_of, IsSaid, Direction, counted_in, IsMore, more_same, said_later, said_back_later}
+use Rattle.sctp_safety.proofs.runs.Direction.{with_chunks, Bags, way_of, IsSaid, Direction, counted_in, IsMore, more_same, said_later, said_back_later}
 
 -- ---- in general
 
@@ -133,17 +133,7 @@ module _ (f : Format) (n : ℕ) (a : SenderView) (u : Asked) (r : ReceiverView) 
 -- Chunks more that the sender's end built, each of which says something of the direction.
 pub said_more : (f : Format) (n : ℕ) (a : SenderView) (u : Asked) (r : ReceiverView) (out back : List ChunkMeaning) (d : Direction f n a u r out back)
     (xs : List ChunkMeaning) → ((x : ChunkMeaning) → Has xs x → IsSaid f a.initial a.plan d.bags x) → Direction f n a u r (out ++ xs) back
-said_more f n a u r out back d xs says = record {
-  bags = d.bags;
-  usual = d.usual;
-  reached = d.reached;
-  idle = d.idle;
-  initial = d.initial;
-  outbound = d.outbound;
-  inbound = d.inbound;
-  said = λ x has. which x (Has-cases out xs x has);
-  said_back = d.said_back;
-}
+said_more f n a u r out back d xs says = with_chunks f n a u r out back d (out ++ xs) back (λ x has. which x (Has-cases out xs x has)) d.said_back
   where
     which : (x : ChunkMeaning) → Has out x ⊎ Has xs x → IsSaid f a.initial a.plan d.bags x
     which x (inl h) = d.said x h

@@ -18,7 +18,7 @@ use Rattle.sctp_safety.specs.States.{has_agreed}
 use Rattle.sctp_safety.proofs.runs.Direction.{Direction}
 use Rattle.sctp_safety.proofs.runs.Sending.{after_queue, after_abandon, after_expiry, after_timeout, after_tick}
 use Rattle.sctp_safety.proofs.runs.Hearing.{after_take}
-use Rattle.sctp_safety.proofs.runs.Pair.{IsMet, AreViews, met_same, met_rested}
+use Rattle.sctp_safety.proofs.runs.Pair.{met_views, IsMet, AreViews, met_same, met_rested}
 
 module _ (p : EndView) (u v : Asked) (out back : List ChunkMeaning) where
   abbrev Met : EndView → Type 0
@@ -28,15 +28,7 @@ module _ (p : EndView) (u v : Asked) (out back : List ChunkMeaning) where
   still e t m same phase = met_same e t p u v out back m same phase
 
   with_sender : (e : EndView) (a : SenderView) → Met e → Direction (format_of e) e.terms.outbound a u p.receiver out back → Met (record e { sender = a })
-  with_sender e a m d = record {
-    going = d;
-    coming = m.coming;
-    format = m.format;
-    phase = m.phase;
-    phase_there = m.phase_there;
-    moment = m.moment;
-    moment_there = m.moment_there;
-  }
+  with_sender e a m d = met_views e p u v out back out m a e.receiver d m.coming
 
   -- ---- time
 
@@ -96,15 +88,8 @@ module _ (p : EndView) (u v : Asked) (out back : List ChunkMeaning) where
   -- ---- calls that change nothing of the sender
 
   pub met_taken : (e : EndView) (s : ℕ) (h : Option Handed) (t : EndView) → Met e → Takes e s h t → Met t
-  met_taken e s h t m k = subst Met (sym k.leaves) (record {
-    going = m.going;
-    coming = after_take (format_of p) p.terms.outbound p.sender v e.receiver back out m.coming s h k.receiver k.takes;
-    format = m.format;
-    phase = m.phase;
-    phase_there = m.phase_there;
-    moment = m.moment;
-    moment_there = m.moment_there;
-  })
+  met_taken e s h t m k = subst Met (sym k.leaves)
+      (met_views e p u v out back out m e.sender k.receiver m.going (after_take (format_of p) p.terms.outbound p.sender v e.receiver back out m.coming s h k.receiver k.takes))
 
   pub met_shut : (e : EndView) → Met e → Met (shut e)
   met_shut e m = go e.phase
