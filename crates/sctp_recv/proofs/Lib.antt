@@ -1,3 +1,6 @@
+mod RowLemmas
+mod WholeLemmas
+mod DueLemmas
 mod RunLemmas
 mod SeenLemmas
 mod PartLemmas

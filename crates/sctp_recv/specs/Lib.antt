@@ -7,8 +7,8 @@ pub mod HandedOf
 pub mod ReceiverKept
 pub mod Fields
 pub mod KeptOf
-pub mod Reordered
-pub mod Chains
+pub mod Kept
 pub mod StandsFor
 pub mod SackOf
 pub mod Laws
+pub mod inner

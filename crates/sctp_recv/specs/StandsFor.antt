@@ -1,30 +1,33 @@
 -- Which receiver stands for which view.
-use Rattle.std.specs.Prelude.{◌≡◌, ℕ, suc, ◌≤◌, true, Some, length}
+use Rattle.std.specs.Prelude.{◌≡◌, ℕ, suc, ◌<◌, ◌≤◌, true, Some, length}
 use Rattle.sctp_model.specs.Lists.{Has}
 use Rattle.sctp_model.specs.Serial.{COUNTS}
+use Rattle.sctp_model.specs.Limits.{DUPLICATE_LIMIT}
 use Rattle.sctp_model.specs.Format.{Format, ordered_lane, unordered_lane}
 use Rattle.sctp_model.specs.Pieces.{Piece}
 use Rattle.sctp_model.specs.ReceiverView.{ReceiverView, held_bytes}
+use Rattle.sctp_model.specs.receiver.Laws.{IsApart}
 use Rattle.sctp_recv.specs.ReceiverKept.{ReceiverKept, stream_at}
 use Rattle.sctp_recv.specs.SeenStands.{SeenStands}
-use Rattle.sctp_recv.specs.Chains.{AreLoose, AreApart, BagStands}
 use Rattle.sctp_recv.specs.KeptOf.{kept_of}
 use Rattle.sctp_recv.specs.declared.receiver.Receiver.{Receiver}
 
--- What is kept is the view's; the kept chunks are apart, each of a stream that there is, with its index recorded, and all fits the buffer.
+-- What is kept says the view, up to what the receiver has let go: the indexes at or below the cumulative one, the messages taken, and the
+-- skipped ordered numbers, of which none is past the next. The chunks kept are apart, each was recorded, and all that is held fits the buffer.
 pub record KeepsView (f : Format) (k : ReceiverKept) (v : ReceiverView) : Type 0 where
   pub seen : SeenStands k.seen v.seen v.jump
-  pub kept : BagStands f k.chains v.kept
-  pub loose : AreLoose k.chains
-  pub apart : AreApart f v.kept
+  pub counts : (i : ℕ) → v.seen i ≡ true → suc i < COUNTS
+  pub kept : v.kept ≡ k.kept
+  pub apart : IsApart f v.kept
   pub recorded : (x : Piece) → Has v.kept x → v.seen x.index ≡ true
-  pub numbers : (x : Piece) (n : ℕ) → Has v.kept x → x.number ≡ Some n → suc n ≤ COUNTS
+  pub numbers : (x : Piece) (n : ℕ) → Has v.kept x → x.number ≡ Some n → suc n < COUNTS
   pub next : (s : ℕ) → v.next s ≡ (stream_at k.streams s).next
   pub skip : (s : ℕ) → v.skip (unordered_lane s) ≡ (stream_at k.streams s).skip
   pub skipped : (s : ℕ) → v.skip (ordered_lane s) ≤ v.next s
   pub waiting : (s : ℕ) → v.waiting s ≡ (stream_at k.streams s).waiting
   pub streams : v.streams ≡ length k.streams
   pub duplicates : v.duplicates ≡ k.duplicates
+  pub few : length k.duplicates ≤ DUPLICATE_LIMIT
   pub held : k.held ≡ held_bytes v
   pub room : k.held ≤ k.buffer
   pub initial : v.initial ≡ k.initial

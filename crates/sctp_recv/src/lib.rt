@@ -2,7 +2,9 @@
 //! RFC 3758, 3.6; RFC 8260, 2.2 and 2.3), in either format of user data.
 #![tactic(auto)]
 
-mod chain;
+mod due;
+mod fragment;
+mod give;
 mod inbound;
 mod laws;
 mod message;
@@ -12,6 +14,7 @@ mod runs;
 mod sack;
 mod seen;
 mod tsn;
+mod whole;
 
 pub use laws::{
     cumulative_is_one, due_is_in_words, forward_is_one, nothing_is_given, piece_is_one,

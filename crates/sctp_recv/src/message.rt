@@ -1,6 +1,6 @@
 //! A message as its user takes it.
 
-ghost use Rattle.std.specs.Prelude.{◌≡◌, ◌<◌, ◌^◌, ◌++◌, length, map, OnOk, OnErr};
+ghost use Rattle.std.specs.Prelude.{◌≡◌, ◌-◌, ◌^◌, ◌++◌, min, length, map, OnOk, OnErr};
 ghost use Rattle.sctp_model.specs.Lists.{joined};
 ghost use Rattle.sctp_recv.specs.Parts.{text_of_parts, bytes_of};
 ghost use Rattle.sctp_recv.specs.HandedOf.{message_bytes};
@@ -23,10 +23,10 @@ pub struct Message {
 }
 
 impl Message {
-    /// How many bytes it has.
+    /// How many bytes it has, 2^64 - 1 where there are more.
     #[tactic(auto, using(crate::proofs::PartLemmas::texts))]
     pub fn len(&self) -> usize
-        ensures { length (message_bytes self.now) < 2 ^ 64 → result ≡ length (message_bytes self.now) }
+        ensures { result ≡ min (length (message_bytes self.now)) (2 ^ 64 - 1) }
     {
         let mut sum: usize = 0;
         for part in &self.parts {

@@ -9,7 +9,7 @@ ghost use Rattle.sctp_recv.specs.HandedOf.{handed_of};
 ghost use Rattle.sctp_recv.specs.SackOf.{lists_meaning};
 ghost use Rattle.sctp_recv.specs.StandsFor.{StandsFor};
 
-use crate::chain::Chain;
+use crate::fragment::Fragment;
 use crate::inbound::{Inbound, fresh_streams, take_first};
 use crate::message::Message;
 use crate::room::less;
@@ -29,7 +29,7 @@ pub struct Receiver<F: Framing> {
     buffer: u32,
     held: u32,
     seen: Seen,
-    kept: Vec<Chain>,
+    kept: Vec<Fragment>,
     streams: Vec<Inbound>,
     duplicates: Vec<u32>,
     framing: PhantomData<F>,
