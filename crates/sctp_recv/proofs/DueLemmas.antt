@@ -83,13 +83,18 @@ number_begins : (f : Format) (kept : List Fragment) (s from last n : ℕ) (xs : 
     (j : ℕ) × (x : Piece) × (j < length kept) × BeginsWhole f kept s from last j n x × ((ys : List Piece) × (xs ≡ x ∷ ys))
 number_begins f kept s from last n [] low high h = absurd h.0
 number_begins f kept s from last n (x ∷ xs) low high h =
-    let at = has_here (pieces_of kept) x (h.1 x (inl refl)) in
-    (at.0, x, omega (arith, at.1, length_pieces kept), record {
-      here = at.2;
-      begins = record { lane = h.2.0; number = h.2.1; begins = first_begins f x h.0.0; low = low; high = high };
-      others = xs;
-      goes_on = (h.0.1, λ z there. h.1 z (inr there));
-    }, (xs, refl))
+    let at = has_here (pieces_of kept) x (h.1 x (inl refl)) in (
+      at.0,
+      x,
+      omega (arith, at.1, length_pieces kept),
+      record {
+        here = at.2;
+        begins = record { lane = h.2.0; number = h.2.1; begins = first_begins f x h.0.0; low = low; high = high };
+        others = xs;
+        goes_on = (h.0.1, λ z there. h.1 z (inr there));
+      },
+      (xs, refl),
+    )
 
 begins_number : (f : Format) (kept : List Fragment) (s from last j n : ℕ) (x : Piece) (b : BeginsWhole f kept s from last j n x) →
     IsWholeNumber f (pieces_of kept) (ordered_lane s) n (x ∷ b.others)

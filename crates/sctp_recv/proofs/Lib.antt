@@ -1,6 +1,13 @@
 mod RowLemmas
 mod WholeLemmas
 mod DueLemmas
+mod NewestLemmas
+mod RoomLemmas
+mod KeptLemmas
+mod ResultLemmas
+mod AnswerLemmas
+mod TakenLemmas
+mod HeldLemmas
 mod RunLemmas
 mod SeenLemmas
 mod PartLemmas

@@ -1,5 +1,5 @@
 -- What a receiver keeps, after each of its smaller steps.
-use Rattle.std.proofs.Common.{◌≡◌, ℕ, suc, ◌+◌, ◌-◌, ◌<◌, false, ◌==◌, List, [], ◌∷◌, ◌++◌, length, set, replicate, inl, inr, refl, sym, ◌∙◌, ap, arith}
+use Rattle.std.proofs.Common.{◌≡◌, ℕ, suc, ◌+◌, ◌-◌, ◌^◌, ◌<◌, true, false, ◌==◌, List, [], ◌∷◌, ◌++◌, length, set, replicate, inl, inr, refl, sym, ◌∙◌, ap, arith}
 use Rattle.std.proofs.lemmas.Bool.{cases_Bool}
 use Rattle.std.proofs.lemmas.Bool.Decides.{nat_tests}
 use Rattle.std.proofs.lemmas.Grind.{common_steps}
@@ -10,7 +10,6 @@ use Rattle.sctp_recv.specs.Runs.{in_runs, AreRuns}
 use Rattle.sctp_recv.specs.SeenKept.{SeenKept}
 use Rattle.sctp_recv.specs.SeenStands.{SeenStands}
 use Rattle.sctp_recv.specs.ReceiverKept.{StreamKept, ReceiverKept, FRESH, stream_at}
-use Rattle.sctp_recv.specs.Reordered.{Empty}
 use Rattle.sctp_recv.specs.StandsFor.{KeepsView}
 use Rattle.sctp_recv.proofs.StreamLemmas.{fresh_at, length_fresh, no_waiting, stream_set_same, stream_set_other, length_set, waiting_set}
 
@@ -35,13 +34,13 @@ cumulative_is k v s = record {
 
 -- ---- a fresh receiver
 
-pub keeps_fresh : (f : Format) (seen : SeenKept) (ss : List StreamKept) (initial n buffer : ℕ) → SeenStands seen (λ i. false) 0 → ss ≡ replicate n FRESH →
-    KeepsView f (record { seen = seen; chains = []; streams = ss; duplicates = []; held = 0; initial = initial; buffer = buffer }) (fresh_receiver initial n buffer)
-keeps_fresh f seen ss initial n buffer s e = record {
+pub keeps_fresh : (f : Format) (seen : SeenKept) (ss : List StreamKept) (initial n buffer : ℕ) → SeenStands seen (λ i. false) 0 → ss ≡ replicate n FRESH → buffer < 2 ^ 32 →
+    KeepsView f (record { seen = seen; kept = []; streams = ss; duplicates = []; held = 0; initial = initial; buffer = buffer }) (fresh_receiver initial n buffer)
+keeps_fresh f seen ss initial n buffer s e fits = record {
   seen = s;
-  kept = record { rows = []; stand = tt; same = Empty };
-  loose = λ c d h k. absurd h;
-  apart = tt;
+  counts = λ i came. absurd (let never : false ≡ true = came in cc);
+  kept = refl;
+  apart = λ x y h. absurd h;
   recorded = λ x h. absurd h;
   numbers = λ x m h is. absurd h;
   next = λ q. sym (ap (λ (xs : List StreamKept). (stream_at xs q).next) e ∙ ap (λ (x : StreamKept). x.next) (fresh_at n q));
@@ -50,8 +49,10 @@ keeps_fresh f seen ss initial n buffer s e = record {
   waiting = λ q. sym (ap (λ (xs : List StreamKept). (stream_at xs q).waiting) e ∙ ap (λ (x : StreamKept). x.waiting) (fresh_at n q));
   streams = sym (ap (λ (xs : List StreamKept). length xs) e ∙ length_fresh n);
   duplicates = refl;
+  few = omega arith;
   held = let none = no_waiting n in omega arith;
   room = omega arith;
+  small = fits;
   initial = refl;
   buffer = refl;
 }
@@ -64,8 +65,8 @@ pub keeps_taken : (f : Format) (k : ReceiverKept) (v : ReceiverView) (s held : �
     (record v { taken = at v.taken s (v.taken s ++ h ∷ []); waiting = at v.waiting s rest })
 keeps_taken f k v s held h rest x w l at_s left less = record {
   seen = w.seen;
+  counts = w.counts;
   kept = w.kept;
-  loose = w.loose;
   apart = w.apart;
   recorded = w.recorded;
   numbers = w.numbers;
@@ -95,12 +96,14 @@ keeps_taken f k v s held h rest x w l at_s left less = record {
   ];
   streams = w.streams ∙ sym (length_set k.streams s x);
   duplicates = w.duplicates;
+  few = w.few;
   held =
       let waits : v.waiting s ≡ h ∷ rest = w.waiting s ∙ ap (λ (y : StreamKept). y.waiting) at_s in
       let sizes = waiting_set v.waiting s v.streams rest (omega (arith, w.streams)) in
       let size : size_of_messages (v.waiting s) ≡ length h.bytes + size_of_messages rest = ap size_of_messages waits in
       omega (arith, w.held);
   room = omega (arith, w.room);
+  small = w.small;
   initial = w.initial;
   buffer = w.buffer;
 }

@@ -3,6 +3,7 @@ use Rattle.std.proofs.Common.{◌≡◌, ℕ, zero, suc, ◌+◌, ◌-◌, ◌<�
 use Rattle.std.specs.Prelude.{◌&&◌, ◌||◌}
 use Rattle.std.proofs.lemmas.Bool.{cases_Bool}
 use Rattle.std.proofs.lemmas.Bool.Decides.{nat_tests}
+use Rattle.std.proofs.lemmas.Grind.{common_steps}
 use Rattle.sctp_model.specs.Lists.{Has, IsWithin}
 use Rattle.sctp_model.specs.Format.{Format, Plain, Interleaved, Kind, Ordered, Unordered, Lane, same_kind, same_lane}
 use Rattle.sctp_model.specs.Pieces.{Piece, same_number}
@@ -93,3 +94,22 @@ kinds Ordered Ordered e = refl
 kinds Ordered Unordered e = absurd (cc)
 kinds Unordered Ordered e = absurd (cc)
 kinds Unordered Unordered e = refl
+
+pub lane_is : (l k : Lane) → same_lane l k ≡ true → l ≡ k
+lane_is l k e =
+    let stream : l.stream ≡ k.stream = grind (arith, nat_tests, common_steps) in
+    let both : same_kind l.kind k.kind ≡ true = grind (arith, common_steps) in
+    ap (λ (s : ℕ). record { stream = s; kind = l.kind }) stream ∙ ap (λ (t : Kind). record { stream = k.stream; kind = t }) (kinds l.kind k.kind both)
+
+pub number_is : (m n : Option ℕ) → same_number m n ≡ true → m ≡ n
+number_is None None e = refl
+number_is None (Some n) e = absurd (cc)
+number_is (Some m) None e = absurd (cc)
+number_is (Some m) (Some n) e = let same : m ≡ n = grind (arith, nat_tests) in ap (λ (i : ℕ). Some i) same
+
+pub number_same : (m n : Option ℕ) → m ≡ n → same_number m n ≡ true
+number_same m n e = subst (λ (o : Option ℕ). same_number m o ≡ true) e (own m)
+  where
+    own : (o : Option ℕ) → same_number o o ≡ true
+    own None = refl
+    own (Some i) = let same : (i == i) ≡ true = grind (arith, nat_tests) in same

@@ -52,6 +52,14 @@ below_and_here kept P k x at here before j y low there = elim (cases_lt j k) [
   | inr late ↦ let same : k ≡ j = omega arith in subst P (some_same x y (sym at ∙ (ap (slice_get (pieces_of kept)) same ∙ there))) here
 ]
 
+-- the same, of whatever stands at k
+pub each_place : (kept : List Fragment) (P : Piece → Type 0) (k : ℕ) → ((j : ℕ) (y : Piece) → j < k → StandsAt kept j y → P y) →
+    ((y : Piece) → StandsAt kept k y → P y) → (j : ℕ) (y : Piece) → j < k + 1 → StandsAt kept j y → P y
+each_place kept P k before here j y low there = elim (cases_lt j k) [
+  | inl earlier ↦ before j y earlier there
+  | inr late ↦ let same : k ≡ j = omega arith in here y (ap (slice_get (pieces_of kept)) same ∙ there)
+]
+
 -- what holds at each place holds of each chunk
 pub each_has : (kept : List Fragment) (P : Piece → Type 0) (n : ℕ) → length kept ≤ n → ((j : ℕ) (y : Piece) → j < n → StandsAt kept j y → P y) → (y : Piece) → Has (pieces_of kept) y → P y
 each_has kept P n all each y there =
@@ -78,9 +86,13 @@ pub come_on : (f : Format) (kept : List Fragment) (i j k : ℕ) (z : Piece) → 
 come_on f kept i j k z come here on next x at =
     let c = come x at in
     let same : c.0 ≡ z = one_here kept j c.0 z c.2 here in
-    let follows : Follows f c.0 next.1.0 = subst (λ (v : Piece). Follows f v next.1.0) (sym same) next.1.2 in
-    (next.1.0, c.1 ++ next.1.0 ∷ [], next.1.1, way_more f x c.1 c.0 next.1.0 c.3 (ap (λ (v : Piece). v.end) same ∙ on) follows,
-    within_more (pieces_of kept) c.1 next.1.0 c.4 (here_has (pieces_of kept) k next.1.0 next.1.1))
+    let follows : Follows f c.0 next.1.0 = subst (λ (v : Piece). Follows f v next.1.0) (sym same) next.1.2 in (
+      next.1.0,
+      c.1 ++ next.1.0 ∷ [],
+      next.1.1,
+      way_more f x c.1 c.0 next.1.0 c.3 (ap (λ (v : Piece). v.end) same ∙ on) follows,
+      within_more (pieces_of kept) c.1 next.1.0 c.4 (here_has (pieces_of kept) k next.1.0 next.1.1),
+    )
 
 -- how far the search is: the place of the chunk that it has come to
 abbrev pub place_there : Format → Option Piece → ℕ
@@ -159,10 +171,14 @@ pub taken_on : (f : Format) (kept : List Fragment) (i j k : ℕ) (z : Piece) (te
 taken_on f kept i j k z texts taken here on next x at =
     let c = taken x at in
     let same : c.0 ≡ z = one_here kept j c.0 z c.2 here in
-    let follows : Follows f c.0 next.1.0 = subst (λ (v : Piece). Follows f v next.1.0) (sym same) next.1.2 in
-    (next.1.0, c.1 ++ next.1.0 ∷ [], next.1.1, way_more f x c.1 c.0 next.1.0 c.3 (ap (λ (v : Piece). v.end) same ∙ on) follows,
-    within_more (pieces_of kept) c.1 next.1.0 c.4 (here_has (pieces_of kept) k next.1.0 next.1.1),
-    taken_all f x c.1 c.0 z texts same c.3 c.5 ∙ sym (ap (map (λ (v : Piece). v.bytes)) (before_more x c.1 next.1.0)))
+    let follows : Follows f c.0 next.1.0 = subst (λ (v : Piece). Follows f v next.1.0) (sym same) next.1.2 in (
+      next.1.0,
+      c.1 ++ next.1.0 ∷ [],
+      next.1.1,
+      way_more f x c.1 c.0 next.1.0 c.3 (ap (λ (v : Piece). v.end) same ∙ on) follows,
+      within_more (pieces_of kept) c.1 next.1.0 c.4 (here_has (pieces_of kept) k next.1.0 next.1.1),
+      taken_all f x c.1 c.0 z texts same c.3 c.5 ∙ sym (ap (map (λ (v : Piece). v.bytes)) (before_more x c.1 next.1.0)),
+    )
 
 row_ends : (f : Format) (y : Piece) (ws : List Piece) → y.end ≡ true → IsRow f y ws → ws ≡ []
 row_ends f y [] end row = refl

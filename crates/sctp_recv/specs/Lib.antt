@@ -11,4 +11,5 @@ pub mod Kept
 pub mod StandsFor
 pub mod SackOf
 pub mod Laws
+pub mod AnswerOf
 pub mod inner

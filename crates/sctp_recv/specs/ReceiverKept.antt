@@ -1,5 +1,5 @@
 -- What contracts see of a receiver: what it keeps, without where it lies in memory.
-use Rattle.std.specs.Prelude.{ℕ, List, [], slice_index_or}
+use Rattle.std.specs.Prelude.{ℕ, Bool, true, false, nat_lt, Option, None, Some, List, [], slice_index_or}
 use Rattle.sctp_model.specs.Pieces.{Piece}
 use Rattle.sctp_model.specs.ReceiverView.{Handed}
 use Rattle.sctp_recv.specs.SeenKept.{SeenKept}
@@ -27,3 +27,13 @@ FRESH = record { next = 0; skip = 0; waiting = [] }
 -- the stream with this number, or a fresh one where there is none
 abbrev pub stream_at : List StreamKept → ℕ → StreamKept
 stream_at streams s = slice_index_or streams s FRESH
+
+-- the count near which numbers of one kind are read, and the lowest that still counts
+abbrev pub reference_of : StreamKept → (unordered : Bool) → ℕ
+reference_of a true = a.skip
+reference_of a false = a.next
+
+-- there is no number, or it is below n
+abbrev pub is_below_or_none : ℕ → Option ℕ → Bool
+is_below_or_none n None = true
+is_below_or_none n (Some m) = nat_lt m n

@@ -1,5 +1,5 @@
 -- Which receiver stands for which view.
-use Rattle.std.specs.Prelude.{◌≡◌, ℕ, suc, ◌<◌, ◌≤◌, true, Some, length}
+use Rattle.std.specs.Prelude.{◌≡◌, ℕ, suc, ◌^◌, ◌<◌, ◌≤◌, true, Some, length}
 use Rattle.sctp_model.specs.Lists.{Has}
 use Rattle.sctp_model.specs.Serial.{COUNTS}
 use Rattle.sctp_model.specs.Limits.{DUPLICATE_LIMIT}
@@ -30,6 +30,7 @@ pub record KeepsView (f : Format) (k : ReceiverKept) (v : ReceiverView) : Type 0
   pub few : length k.duplicates ≤ DUPLICATE_LIMIT
   pub held : k.held ≡ held_bytes v
   pub room : k.held ≤ k.buffer
+  pub small : k.buffer < 2 ^ 32
   pub initial : v.initial ≡ k.initial
   pub buffer : v.buffer ≡ k.buffer
 

@@ -1,3 +1,4 @@
 pub mod Search
 pub mod DueSearch
 pub mod Giving
+pub mod Rows

@@ -38,10 +38,7 @@ fn number_within<F: Framing>(chunk: &Fragment, stream: u16, from: u32, last: u32
                 && !chunk.unordered
                 && from <= number
                 && number <= last
-                && chunk.begins::<F>() =>
-        {
-            Some(number)
-        }
+                && chunk.begins::<F>() => { Some(number) }
         _ => None,
     }
 }
@@ -88,12 +85,7 @@ fn first_of(best: Option<Lowest>, found: Option<Lowest>) -> Option<Lowest>
 
 /// Of the whole ordered messages of a stream that are numbered `from` to `last` the one with the lowest number; of several
 /// with one number, the one that begins at the lowest index.
-fn lowest_whole<F: Framing>(
-    kept: &[Fragment],
-    stream: u16,
-    from: u32,
-    last: u32,
-) -> Option<Lowest>
+fn lowest_whole<F: Framing>(kept: &[Fragment], stream: u16, from: u32, last: u32) -> Option<Lowest>
     ensures lowest { IsLowestWhole F.format kept.now stream from last result }
     ensures within { IfSome result (λ found. found.at < length kept.now) }
     ensures low { IfSome result (λ found. from ≤ found.number) }

@@ -1,13 +1,14 @@
 //! Handing over: a chunk is recorded, and what is due with it goes to what waits for the user (RFC 9260, 6.6).
 
-ghost use Rattle.std.specs.Prelude.{◌≡◌, ◌<◌, [], ◌++◌, map, length, OnOk, OnErr, IfOk};
+ghost use Rattle.std.specs.Prelude.{◌≡◌, ◌<◌, ◌++◌, filter, length, map, not, IfOk, OnErr, OnOk};
 ghost use Rattle.sctp_model.specs.Receiving.{without_below};
 ghost use Rattle.sctp_recv.specs.Kept.{pieces_of};
 ghost use Rattle.sctp_recv.specs.HandedOf.{handed_of};
 ghost use Rattle.sctp_recv.specs.Fields.{stream_of};
-ghost use Rattle.sctp_recv.specs.inner.Giving.{GivesDue, GivesNewest, RecordsNew};
+ghost use Rattle.sctp_recv.specs.inner.DueSearch.{takes};
+ghost use Rattle.sctp_recv.specs.inner.Giving.{GivesDue, GivesNewest, RecordsNew, TakesIn};
 
-use crate::due::{due_from, whole_with_newest};
+use crate::due::{Whole, due_from, push_message, whole_with_newest};
 use crate::fragment::Fragment;
 use crate::inbound::Inbound;
 use crate::message::Message;
@@ -61,7 +62,11 @@ pub(crate) fn give_ordered<F: Framing>(
     inbound.next = due.next;
     let before = bytes_kept(kept);
     drop_below(kept, stream, due.next);
-    Ok(before.saturating_sub(bytes_kept(kept)).saturating_sub(given))
+    Ok(
+        before
+            .saturating_sub(bytes_kept(kept))
+            .saturating_sub(given),
+    )
 }
 
 /// Drops the ordered chunks of a stream below a number.
@@ -92,13 +97,51 @@ pub(crate) fn give_unordered<F: Framing>(
         seen.add(index)?;
         return Ok(0);
     };
+    let message = message_from::<F>(alloc, kept, whole.at)?;
     let mut messages = VecDeque::new(alloc);
-    messages
-        .push_back(message_from::<F>(alloc, kept, whole.at)?)
-        .map_err(|_| NoMemory)?;
+    push_message(&mut messages, message)?;
     let given = bytes_of_messages(&messages);
     record_and_push(seen, index, &mut inbound.waiting, &mut messages)?;
     let before = bytes_kept(kept);
+    drop_taken::<F>(kept, whole);
+    Ok(
+        before
+            .saturating_sub(bytes_kept(kept))
+            .saturating_sub(given),
+    )
+}
+
+/// Drops the chunks that go with a message.
+fn drop_taken<F: Framing>(kept: &mut Vec<Fragment>, whole: Whole)
+    ensures { pieces_of kept.new.items ≡ filter (λ x. not (takes F.format whole x)) (pieces_of kept.old.items) }
+{
     kept.retain(|chunk| !whole.takes::<F>(chunk));
-    Ok(before.saturating_sub(bytes_kept(kept)).saturating_sub(given))
+}
+
+/// Keeps a chunk, records its index, and hands over what is due with it. It answers how many bytes are held no longer.
+///
+/// # Errors
+/// Memory ran out, and nothing changed.
+pub(crate) fn take_in<F: Framing>(
+    alloc: Global,
+    kept: &mut Vec<Fragment>,
+    inbound: &mut Inbound,
+    seen: &mut Seen,
+    chunk: Fragment,
+) -> Result<u32, NoMemory>
+    ensures recorded { OnOk result (RecordsNew seen.old seen.new chunk.index) }
+    ensures given { IfOk result (λ bytes. TakesIn F.format chunk kept.old.items kept.new.items (stream_of inbound.old) (stream_of inbound.new) bytes) }
+    ensures refused { OnErr result ((seen.new ≡ seen.old) × (kept.new.items ≡ kept.old.items) × (stream_of inbound.new ≡ stream_of inbound.old)) }
+{
+    let (index, stream, unordered) = (chunk.index, chunk.stream, chunk.unordered);
+    kept.insert(0, chunk).map_err(|_| NoMemory)?;
+    let given = if unordered {
+        give_unordered::<F>(alloc, kept, inbound, seen, index)
+    } else {
+        give_ordered::<F>(alloc, kept, inbound, seen, stream, index)
+    };
+    if given.is_err() {
+        let _ = kept.remove(0);
+    }
+    given
 }

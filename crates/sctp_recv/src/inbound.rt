@@ -1,11 +1,14 @@
 //! What a receiver knows of one stream.
 
-ghost use Rattle.std.specs.Prelude.{◌≡◌, [], ◌∷◌, map, replicate, IfOk, MatchOption};
+ghost use Rattle.std.specs.Prelude.{◌≡◌, [], ◌∷◌, ◌&&◌, map, replicate, IfOk, MatchOption};
 ghost use Rattle.sctp_recv.specs.Fields.{stream_of};
 ghost use Rattle.sctp_recv.specs.HandedOf.{handed_of};
-ghost use Rattle.sctp_recv.specs.ReceiverKept.{FRESH};
+ghost use Rattle.sctp_recv.specs.ReceiverKept.{FRESH, reference_of, is_below_or_none};
+ghost use Rattle.sctp_model.specs.Format.{is_numbered};
+ghost use Rattle.sctp_model.specs.Framing.{kind_of, number_near};
 
 use crate::message::Message;
+use sctp_framing::Framing;
 use sctp_wire::NoMemory;
 use std::alloc::Global;
 use std::collections::VecDeque;
@@ -19,6 +22,33 @@ pub(crate) struct Inbound {
     pub(crate) skip: u32,
     /// What was handed over and waits for the user, first to last.
     pub(crate) waiting: VecDeque<Message>,
+}
+
+impl Inbound {
+    /// The count near which a number is read, and below which it comes too late.
+    fn reference(&self, unordered: bool) -> u32
+        ensures { result ≡ reference_of (stream_of self.now) unordered }
+    {
+        if unordered { self.skip } else { self.next }
+    }
+
+    /// The number that a wire value stands for.
+    pub(crate) fn number_near<F: Framing>(&self, unordered: bool, wire: u32) -> Option<u32>
+        ensures { result ≡ number_near F.format (kind_of unordered) wire (reference_of (stream_of self.now) unordered) }
+    {
+        F::number_near(unordered, wire, self.reference(unordered))
+    }
+
+    /// Whether a chunk comes too late: its number is below those that count, or there is none where there should be one.
+    pub(crate) fn is_late<F: Framing>(&self, unordered: bool, number: Option<u32>) -> bool
+        ensures { result ≡ (is_numbered F.format (kind_of unordered) && is_below_or_none (reference_of (stream_of self.now) unordered) number) }
+    {
+        F::is_numbered(unordered)
+            && match number {
+                Some(number) => number < self.reference(unordered),
+                None => true,
+            }
+    }
 }
 
 /// So many streams on which nothing came.

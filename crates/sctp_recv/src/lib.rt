@@ -2,6 +2,7 @@
 //! RFC 3758, 3.6; RFC 8260, 2.2 and 2.3), in either format of user data.
 #![tactic(auto)]
 
+mod answer;
 mod due;
 mod fragment;
 mod give;
@@ -16,6 +17,7 @@ mod seen;
 mod tsn;
 mod whole;
 
+pub use answer::Answer;
 pub use laws::{
     cumulative_is_one, due_is_in_words, forward_is_one, nothing_is_given, piece_is_one,
     words_are_one,

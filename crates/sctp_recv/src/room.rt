@@ -26,6 +26,7 @@ pub(crate) fn less(held: u32, parts: &[Vec<u8>]) -> u32
 }
 
 /// The bytes of kept chunks, at most 2^32 - 1.
+#[tactic(auto, using(crate::proofs::RoomLemmas::sums))]
 pub(crate) fn bytes_kept(kept: &[Fragment]) -> u32
     ensures { result ≡ min (size_of_pieces (pieces_of kept.now)) (2 ^ 32 - 1) }
 {
@@ -37,6 +38,7 @@ pub(crate) fn bytes_kept(kept: &[Fragment]) -> u32
 }
 
 /// The bytes of messages, at most 2^32 - 1.
+#[tactic(auto, using(crate::proofs::RoomLemmas::sums))]
 pub(crate) fn bytes_of_messages(messages: &VecDeque<Message>) -> u32
     ensures { result ≡ min (size_of_messages (map handed_of messages.now.items)) (2 ^ 32 - 1) }
 {
@@ -48,7 +50,7 @@ pub(crate) fn bytes_of_messages(messages: &VecDeque<Message>) -> u32
 }
 
 /// A number of bytes, at most 2^32 - 1.
-fn small_len(bytes: usize) -> u32
+pub(crate) fn small_len(bytes: usize) -> u32
     ensures { result ≡ min bytes (2 ^ 32 - 1) }
 {
     u32::try_from(bytes).unwrap_or(u32::MAX)

@@ -5,7 +5,7 @@ ghost use Rattle.std.specs.VecDeque.{deque_len, deque_capacity};
 ghost use Rattle.sctp_wire.specs.Items.{blocks_in};
 ghost use Rattle.sctp_recv.specs.Blocks.{block_of_run};
 ghost use Rattle.sctp_recv.specs.Runs.{AreRuns, AreSpaced, in_runs, first_touches};
-ghost use Rattle.sctp_recv.specs.SeenKept.{is_reached, seen_of};
+ghost use Rattle.sctp_recv.specs.SeenKept.{is_reached, seen_of, AreWithin};
 ghost use Rattle.sctp_recv.specs.SeenStands.{SeenStands, Records, Jumps};
 ghost use Rattle.sctp_model.specs.Limits.{WINDOW};
 
@@ -50,7 +50,8 @@ impl Seen {
 
     /// The index up to which all came.
     pub(crate) fn cumulative(&self) -> u32
-        ensures { result ≡ self.now.cumulative }
+        ensures value { result ≡ self.now.cumulative }
+        ensures within { AreWithin (self.now.cumulative + WINDOW) self.now.runs }
     {
         self.cumulative
     }

@@ -90,11 +90,7 @@ fn parts_from<F: Framing>(
 }
 
 /// Appends a chunk's data.
-fn push_data(
-    alloc: Global,
-    parts: &mut Vec<Vec<u8>>,
-    chunk: &Fragment,
-) -> Result<(), NoMemory>
+fn push_data(alloc: Global, parts: &mut Vec<Vec<u8>>, chunk: &Fragment) -> Result<(), NoMemory>
     ensures { OnOk result (map bytes_of parts.new.items ≡ map bytes_of parts.old.items ++ (piece_of chunk.now).bytes ∷ []) }
 {
     let data = Vec::from_slice(alloc, &chunk.data).map_err(|_| NoMemory)?;

@@ -1,5 +1,5 @@
 -- What handing over leaves.
-use Rattle.std.specs.Prelude.{◌≡◌, ℕ, ◌+◌, ◌-◌, ◌^◌, ◌≤◌, ◌⊎◌, min, not, false, List, [], ◌∷◌, ◌++◌, filter, None, Some}
+use Rattle.std.specs.Prelude.{◌≡◌, ℕ, ◌+◌, ◌-◌, ◌^◌, ◌≤◌, ◌⊎◌, min, not, Bool, true, false, List, [], ◌∷◌, ◌++◌, filter, None, Some}
 use Rattle.sctp_model.specs.Format.{Format}
 use Rattle.sctp_model.specs.Pieces.{Piece}
 use Rattle.sctp_model.specs.ReceiverView.{Handed, size_of_pieces, size_of_messages}
@@ -52,6 +52,15 @@ pub record GivesNone (f : Format) (old new : List Fragment) (a b : StreamKept) (
 -- an unordered message is handed over, if it is whole
 abbrev pub GivesNewest : Format → (old new : List Fragment) → (a b : StreamKept) → (less : ℕ) → Type 0
 GivesNewest f old new a b less = GivesWhole f old new a b less ⊎ GivesNone f old new a b less
+
+-- by its kind
+abbrev pub GivesBy : (unordered : Bool) → Format → (stream : ℕ) → (old new : List Fragment) → (a b : StreamKept) → (less : ℕ) → Type 0
+GivesBy true f s old new a b less = GivesNewest f old new a b less
+GivesBy false f s old new a b less = GivesDue f s old new a b less
+
+-- a chunk is kept, and what is due with it is handed over
+abbrev pub TakesIn : Format → Fragment → (old new : List Fragment) → (a b : StreamKept) → (less : ℕ) → Type 0
+TakesIn f x old new a b less = GivesBy x.unordered f x.stream (x ∷ old) new a b less
 
 -- the index is recorded, if it may be
 abbrev pub RecordsNew : SeenKept → SeenKept → ℕ → Type 0

@@ -1,0 +1,199 @@
+-- The answer to a data chunk, row by row.
+use Rattle.std.proofs.Common.{◌≡◌, ℕ, zero, suc, ◌+◌, ◌-◌, ◌<◌, ◌≤◌, ◌⊎◌, ◌↔◌, Bool, true, false, max, ◌==◌, nat_lt, nat_le, List, [], ◌∷◌, length, Option, Some, None, inl, inr, refl, sym, ◌∙◌, ap, subst, arith}
+use Rattle.std.specs.Prelude.{◌&&◌, ◌||◌, not}
+use Rattle.std.proofs.lemmas.Bool.{cases_Bool, or_parts}
+use Rattle.std.proofs.lemmas.Bool.Decides.{nat_tests}
+use Rattle.std.proofs.lemmas.Grind.{common_steps}
+use Rattle.sctp_model.specs.Limits.{WINDOW}
+use Rattle.sctp_model.specs.Serial.{COUNTS, tsn, ahead, before, near}
+use Rattle.sctp_model.specs.Lists.{Has}
+use Rattle.sctp_model.specs.Chunk.{PieceMeaning}
+use Rattle.sctp_model.specs.Format.{Format, Plain, Interleaved, Kind, Ordered, Unordered, Lane, is_numbered, ordered_lane, unordered_lane}
+use Rattle.sctp_model.specs.Framing.{kind_of, number_near, as_number}
+use Rattle.sctp_model.specs.Pieces.{Piece, fragment_of}
+use Rattle.sctp_model.specs.ReceiverView.{ReceiverView, held_bytes}
+use Rattle.sctp_model.specs.receiver.Rows.{first_of}
+use Rattle.sctp_model.specs.receiver.Reading.{index_at, is_behind, is_ahead, lane_of, number_in, is_late, lowest_in, reference_in, piece_at}
+use Rattle.sctp_model.specs.receiver.PieceTaken.{Answer, Duplicate, Ahead, NoSuchStream, Passed, NoRoom, Taken, are_one_fragment, is_held, is_repeated, is_passed, is_too_much, answer_to}
+use Rattle.sctp_recv.specs.Runs.{in_runs}
+use Rattle.sctp_recv.specs.SeenKept.{SeenKept, is_reached, AreWithin}
+use Rattle.sctp_recv.specs.Kept.{counted}
+use Rattle.sctp_recv.specs.ReceiverKept.{ReceiverKept, StreamKept, stream_at, reference_of, is_below_or_none}
+use Rattle.sctp_recv.specs.StandsFor.{KeepsView}
+use Rattle.sctp_recv.specs.inner.Rows.{offset_from, IsAbove, IsNewIndex, IsWanted, answer_at}
+
+-- ---- the table, its tests told
+
+table : (behind seen far other passed much : Bool) → Answer
+table a b d e g h = first_of ((a || b, Duplicate) ∷ (d, Ahead) ∷ (e, NoSuchStream) ∷ (g, Passed) ∷ (h, NoRoom) ∷ []) Taken
+
+table_behind : (a b d e g h : Bool) → a ≡ true → table a b d e g h ≡ Duplicate
+unfolding table
+table_behind a b d e g h is = rw is refl
+
+table_seen : (a b d e g h : Bool) → a ≡ false → b ≡ true → table a b d e g h ≡ Duplicate
+unfolding table
+table_seen a b d e g h is too = rw (is, too) refl
+
+table_ahead : (a b d e g h : Bool) → a ≡ false → b ≡ false → d ≡ true → table a b d e g h ≡ Ahead
+unfolding table
+table_ahead a b d e g h i j k = rw (i, j, k) refl
+
+table_stream : (a b d e g h : Bool) → a ≡ false → b ≡ false → d ≡ false → e ≡ true → table a b d e g h ≡ NoSuchStream
+unfolding table
+table_stream a b d e g h i j k l = rw (i, j, k, l) refl
+
+table_passed : (a b d e g h : Bool) → a ≡ false → b ≡ false → d ≡ false → e ≡ false → g ≡ true → table a b d e g h ≡ Passed
+unfolding table
+table_passed a b d e g h i j k l m = rw (i, j, k, l, m) refl
+
+table_room : (a b d e g h : Bool) → a ≡ false → b ≡ false → d ≡ false → e ≡ false → g ≡ false → h ≡ true → table a b d e g h ≡ NoRoom
+unfolding table
+table_room a b d e g h i j k l m n = rw (i, j, k, l, m, n) refl
+
+table_taken : (a b d e g h : Bool) → a ≡ false → b ≡ false → d ≡ false → e ≡ false → g ≡ false → h ≡ false → table a b d e g h ≡ Taken
+unfolding table
+table_taken a b d e g h i j k l m n = rw (i, j, k, l, m, n) refl
+
+-- ---- a chunk that comes to a receiver
+
+module _ (f : Format) (k : ReceiverKept) (v : ReceiverView) (p : PieceMeaning) (w : KeepsView f k v) (within : AreWithin (k.seen.cumulative + WINDOW) k.seen.runs) where
+  reads : answer_at f k v p ≡ table (is_behind v k.seen.cumulative p.tsn) (v.seen (piece_at f v k.seen.cumulative p).index) (is_ahead v k.seen.cumulative p.tsn)
+      (nat_le v.streams p.stream) (is_passed f v (piece_at f v k.seen.cumulative p)) (is_too_much v p)
+  unfolding table
+  reads = refl
+
+  behind_is : (b : Bool) → before 32 (tsn k.initial k.seen.cumulative) p.tsn ≡ b → is_behind v k.seen.cumulative p.tsn ≡ not b
+  behind_is b e = ap (λ (i : ℕ). not (before 32 (tsn i k.seen.cumulative) p.tsn)) w.initial ∙ ap not e
+
+  offset_is : index_at v k.seen.cumulative p.tsn ≡ k.seen.cumulative + offset_from k.initial k.seen.cumulative p.tsn
+  offset_is = ap (λ (i : ℕ). k.seen.cumulative + offset_from i k.seen.cumulative p.tsn) w.initial
+
+  pub row_behind : before 32 (tsn k.initial k.seen.cumulative) p.tsn ≡ false → answer_at f k v p ≡ Duplicate
+  row_behind e = reads ∙ table_behind _ _ _ _ _ _ (behind_is false e)
+
+  -- what lies above the window wasn't recorded, nor a count too large
+  unseen_far : (i : ℕ) → k.seen.cumulative < i → (k.seen.cumulative + WINDOW < i) ⊎ (COUNTS ≤ suc i) → v.seen i ≡ false
+  unseen_far i above (inl far) = elim (cases_Bool (v.seen i)) [
+    | inl came ↦ absurd (let low = within i (sym (w.seen.above i above) ∙ came) in omega arith)
+    | inr unseen ↦ unseen
+  ]
+  unseen_far i above (inr large) = elim (cases_Bool (v.seen i)) [
+    | inl came ↦ absurd (let low = w.counts i came in omega arith)
+    | inr unseen ↦ unseen
+  ]
+
+  far_is : (o : ℕ) → (nat_lt WINDOW o || nat_le (COUNTS - 1) (k.seen.cumulative + o)) ≡ true → (k.seen.cumulative + WINDOW < k.seen.cumulative + o) ⊎ (COUNTS ≤ suc (k.seen.cumulative + o))
+  far_is o e = elim (cases_Bool (nat_lt WINDOW o)) [
+    | inl far ↦ inl (grind (arith, nat_tests))
+    | inr near ↦ inr (let large : nat_le (COUNTS - 1) (k.seen.cumulative + o) ≡ true = rw near at e in grind (arith, nat_tests))
+  ]
+
+  pub row_ahead : before 32 (tsn k.initial k.seen.cumulative) p.tsn ≡ true → 0 < offset_from k.initial k.seen.cumulative p.tsn →
+      (nat_lt WINDOW (offset_from k.initial k.seen.cumulative p.tsn) || nat_le (COUNTS - 1) (k.seen.cumulative + offset_from k.initial k.seen.cumulative p.tsn)) ≡ true → answer_at f k v p ≡ Ahead
+  row_ahead e some far =
+      let o = offset_from k.initial k.seen.cumulative p.tsn in
+      let unseen : v.seen (index_at v k.seen.cumulative p.tsn) ≡ false = ap v.seen offset_is ∙ unseen_far (k.seen.cumulative + o) (omega arith) (far_is o far) in
+      let ahead_is : is_ahead v k.seen.cumulative p.tsn ≡ true = ap (λ (i : ℕ). nat_lt WINDOW (offset_from i k.seen.cumulative p.tsn) || nat_le (COUNTS - 1) (k.seen.cumulative + offset_from i k.seen.cumulative p.tsn)) w.initial ∙ far in
+      reads ∙ table_ahead _ _ _ _ _ _ (behind_is true e) unseen ahead_is
+
+  module _ (i : ℕ) (a : IsAbove k.initial k.seen.cumulative p.tsn i) where
+    same_index : i ≡ (piece_at f v k.seen.cumulative p).index
+    same_index = a.index ∙ sym offset_is
+
+    behind_not : is_behind v k.seen.cumulative p.tsn ≡ false
+    behind_not = behind_is true a.ahead
+
+    near_o : (o : ℕ) → o ≤ WINDOW → suc (k.seen.cumulative + o) < COUNTS → (nat_lt WINDOW o || nat_le (COUNTS - 1) (k.seen.cumulative + o)) ≡ false
+    near_o o low small = grind (arith, nat_tests, common_steps)
+
+    ahead_not : is_ahead v k.seen.cumulative p.tsn ≡ false
+    ahead_not =
+        ap (λ (j : ℕ). nat_lt WINDOW (offset_from j k.seen.cumulative p.tsn) || nat_le (COUNTS - 1) (k.seen.cumulative + offset_from j k.seen.cumulative p.tsn)) w.initial
+        ∙ near_o (offset_from k.initial k.seen.cumulative p.tsn) a.window (subst (λ (j : ℕ). suc j < COUNTS) a.index a.count)
+
+    seen_is : (b : Bool) → is_reached k.seen i ≡ b → v.seen (piece_at f v k.seen.cumulative p).index ≡ b
+    seen_is b e =
+        let out : nat_le i k.seen.cumulative ≡ false = let high = a.above in grind (arith, nat_tests) in
+        let run : in_runs k.seen.runs i ≡ b = let r : is_reached k.seen i ≡ in_runs k.seen.runs i = rw out refl in sym r ∙ e in
+        ap v.seen (sym same_index) ∙ w.seen.above i a.above ∙ run
+
+    pub row_seen : is_reached k.seen i ≡ true → answer_at f k v p ≡ Duplicate
+    row_seen e = reads ∙ table_seen _ _ _ _ _ _ behind_not (seen_is true e)
+
+    module _ (new : is_reached k.seen i ≡ false) where
+      pub new_index : IsNewIndex f k v p i
+      new_index = record {
+        index = same_index;
+        new = new;
+        unseen = ap v.seen same_index ∙ seen_is false new;
+        near = omega (arith, a.index, a.window);
+        count = a.count;
+      }
+
+      pub row_stream : length k.streams ≤ p.stream → answer_at f k v p ≡ NoSuchStream
+      row_stream high =
+          let no_stream : nat_le v.streams p.stream ≡ true = let n = w.streams in grind (arith, nat_tests) in
+          reads ∙ table_stream _ _ _ _ _ _ behind_not (seen_is false new) ahead_not no_stream
+
+      module _ (low : p.stream < length k.streams) where
+        there : nat_le v.streams p.stream ≡ false
+        there = let n = w.streams in grind (arith, nat_tests)
+
+        pub row_passed : is_passed f v (piece_at f v k.seen.cumulative p) ≡ true → answer_at f k v p ≡ Passed
+        row_passed e = reads ∙ table_passed _ _ _ _ _ _ behind_not (seen_is false new) ahead_not there e
+
+        much_is : (b : Bool) → nat_lt k.buffer (k.held + length p.bytes) ≡ b → is_too_much v p ≡ b
+        much_is b e = ap (λ (n : ℕ). nat_lt n (held_bytes v + length p.bytes)) w.buffer ∙ ap (λ (n : ℕ). nat_lt k.buffer (n + length p.bytes)) (sym w.held) ∙ e
+
+        pub row_room : is_passed f v (piece_at f v k.seen.cumulative p) ≡ false → k.buffer < k.held + length p.bytes → answer_at f k v p ≡ NoRoom
+        row_room e large = reads ∙ table_room _ _ _ _ _ _ behind_not (seen_is false new) ahead_not there e (much_is true (grind (arith, nat_tests)))
+
+        pub row_taken : is_passed f v (piece_at f v k.seen.cumulative p) ≡ false → k.held + length p.bytes ≤ k.buffer → answer_at f k v p ≡ Taken
+        row_taken e fits = reads ∙ table_taken _ _ _ _ _ _ behind_not (seen_is false new) ahead_not there e (much_is false (grind (arith, nat_tests)))
+
+  -- ---- whether it is passed
+
+  reference_same : (u : Bool) → reference_in v p.stream (kind_of u) ≡ reference_of (stream_at k.streams p.stream) u
+  reference_same true = w.skip p.stream
+  reference_same false = w.next p.stream
+
+  lowest_same : (u : Bool) → lowest_in v (lane_of p.stream u) (kind_of u) ≡ reference_of (stream_at k.streams p.stream) u
+  lowest_same true = w.skip p.stream
+  lowest_same false = let low = w.skipped p.stream in let next = w.next p.stream in omega arith
+
+  late_same : (n : Option ℕ) (u : Bool) → is_late v (lane_of p.stream u) n ≡ is_below_or_none (reference_of (stream_at k.streams p.stream) u) n
+  late_same None u = refl
+  late_same (Some n) u = ap (λ (m : ℕ). nat_lt n m) (lowest_same u)
+
+  pub number_same : number_near f (kind_of p.unordered) p.number (reference_of (stream_at k.streams p.stream) p.unordered) ≡ (piece_at f v k.seen.cumulative p).number
+  number_same = ap (λ (m : ℕ). number_near f (kind_of p.unordered) p.number m) (sym (reference_same p.unordered))
+
+  pub passed_late : (n : Option ℕ) → n ≡ (piece_at f v k.seen.cumulative p).number →
+      (is_numbered f (kind_of p.unordered) && is_below_or_none (reference_of (stream_at k.streams p.stream) p.unordered) n) ≡ true → is_passed f v (piece_at f v k.seen.cumulative p) ≡ true
+  passed_late n number late =
+      let one : (is_numbered f (kind_of p.unordered) && is_late v (lane_of p.stream p.unordered) n) ≡ true = ap (λ (t : Bool). is_numbered f (kind_of p.unordered) && t) (late_same n p.unordered) ∙ late in
+      subst (λ (m : Option ℕ). ((is_numbered f (kind_of p.unordered) && is_late v (lane_of p.stream p.unordered) m) || is_repeated f v.kept (counted (piece_at f v k.seen.cumulative p).index p m)) ≡ true) number
+      (ap (λ (t : Bool). t || is_repeated f v.kept (counted (piece_at f v k.seen.cumulative p).index p n)) one)
+
+  pub passed_is : (n : Option ℕ) (a b : Bool) → n ≡ (piece_at f v k.seen.cumulative p).number →
+      a ≡ (is_numbered f (kind_of p.unordered) && is_below_or_none (reference_of (stream_at k.streams p.stream) p.unordered) n) →
+      ((i : ℕ) → b ≡ is_repeated f k.kept (counted i p n)) → is_passed f v (piece_at f v k.seen.cumulative p) ≡ (a || b)
+  passed_is n a b number late held =
+      let one : (is_numbered f (kind_of p.unordered) && is_late v (lane_of p.stream p.unordered) n) ≡ a = ap (λ (t : Bool). is_numbered f (kind_of p.unordered) && t) (late_same n p.unordered) ∙ sym late in
+      let two : is_repeated f v.kept (counted (piece_at f v k.seen.cumulative p).index p n) ≡ b = ap (λ (ks : List Piece). is_repeated f ks (counted (piece_at f v k.seen.cumulative p).index p n)) w.kept ∙ sym (held (piece_at f v k.seen.cumulative p).index) in
+      subst (λ (m : Option ℕ). ((is_numbered f (kind_of p.unordered) && is_late v (lane_of p.stream p.unordered) m) || is_repeated f v.kept (counted (piece_at f v k.seen.cumulative p).index p m)) ≡ (a || b)) number
+      (ap (λ (t : Bool). t || is_repeated f v.kept (counted (piece_at f v k.seen.cumulative p).index p n)) one ∙ ap (λ (t : Bool). a || t) two)
+
+-- a number that is read is below the largest count
+as_small : (o : Option ℕ) (m : ℕ) → as_number o ≡ Some m → suc m < COUNTS
+as_small None m e = absurd (let no : None ≡ Some m = e in cc)
+as_small (Some n) m e = elim (cases_Bool (nat_lt n (COUNTS - 1))) [
+  | inl small ↦ let same : Some n ≡ Some m = rw small at e in let is : n ≡ m = cc in grind (arith, nat_tests)
+  | inr large ↦ absurd (let no : None ≡ Some m = rw large at e in cc)
+]
+
+pub near_small : (f : Format) (k : Kind) (wire reference m : ℕ) → number_near f k wire reference ≡ Some m → suc m < COUNTS
+near_small Plain Ordered wire reference m e = as_small (near 16 wire reference) m e
+near_small Plain Unordered wire reference m e = absurd (let no : None ≡ Some m = e in cc)
+near_small Interleaved k wire reference m e = as_small (near 32 wire reference) m e

@@ -1,0 +1,13 @@
+use Rattle.std.proofs.Common.{sym, ◌∙◌, ap, not, map, rules}
+use Rattle.std.proofs.lemmas.Fn.{filter_same}
+use Rattle.sctp_model.specs.Pieces.{Piece}
+use Rattle.sctp_model.specs.Receiving.{is_below}
+use Rattle.sctp_recv.specs.declared.fragment.Fragment.{Fragment}
+use Rattle.sctp_recv.specs.Kept.{piece_of}
+use Rattle.sctp_recv.proofs.KeptLemmas.{filter_pieces}
+use Rattle.sctp_recv.proofs.give.drop_below.Goals as goal
+
+pub returns : goal.returns
+returns c =
+    let kept = filter_same _ (λ (x : Fragment). not (is_below c.args.stream c.args.number (piece_of x))) _ (λ x b f k. (search rules, search rules)) _ _ c.retain.ensures.filtered in
+    ap (map piece_of) kept ∙ sym (filter_pieces (λ (x : Piece). not (is_below c.args.stream c.args.number x)) c.args.kept.now.items)

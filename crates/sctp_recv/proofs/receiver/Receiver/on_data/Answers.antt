@@ -1,0 +1,53 @@
+use Rattle.std.proofs.Common.{refl, sym}
+use Rattle.sctp_wire.specs.ChunkTree.{piece_meaning}
+use Rattle.sctp_recv.specs.KeptOf.{kept_of}
+use Rattle.sctp_recv.specs.StandsFor.{StandsFor}
+use Rattle.sctp_recv.proofs.ReceiverSteps.{cumulative_is}
+use Rattle.sctp_recv.proofs.TakenLemmas.{keeps_new}
+use Rattle.sctp_recv.proofs.receiver.Receiver.on_data.Goals as goal
+
+pub returns-in_ok-note-in-Duplicate-clause-step : goal.returns-in_ok-note-in-Duplicate-clause-step
+unfolding StandsFor
+returns-in_ok-note-in-Duplicate-clause-step g c = λ v w.
+    let s = c.args.self.now.seen in
+    (_, record { c = s.cumulative; cumulative = cumulative_is s v w.seen; answer = sym (c.in-Duplicate.ensures v w); leaves = refl }, c.in_ok-note-in-Duplicate.ensures.noted v w)
+
+pub returns-in-Ahead-clause-step : goal.returns-in-Ahead-clause-step
+unfolding StandsFor
+returns-in-Ahead-clause-step g c = λ v w.
+    let s = c.args.self.now.seen in
+    (v, record { c = s.cumulative; cumulative = cumulative_is s v w.seen; answer = sym (c.in-Ahead.ensures v w); leaves = refl }, w)
+
+pub returns-in_ok-add-in-NoSuchStream-clause-step : goal.returns-in_ok-add-in-NoSuchStream-clause-step
+unfolding StandsFor
+returns-in_ok-add-in-NoSuchStream-clause-step g c = λ v w.
+    let s = c.args.self.now.seen in
+    let row = c.in-NoSuchStream.ensures v w in (
+      _,
+      record { c = s.cumulative; cumulative = cumulative_is s v w.seen; answer = sym row.0; leaves = refl },
+      keeps_new g.F.Framing.format (kept_of c.args.self.now) v (piece_meaning c.args.piece.now) c.in-NoSuchStream.index _ w row.1 c.in_ok-add-in-NoSuchStream.ensures.recorded,
+    )
+
+pub returns-in_ok-add-in-Passed-clause-step : goal.returns-in_ok-add-in-Passed-clause-step
+unfolding StandsFor
+returns-in_ok-add-in-Passed-clause-step g c = λ v w.
+    let s = c.args.self.now.seen in
+    let row = c.in-Passed.ensures v w in (
+      _,
+      record { c = s.cumulative; cumulative = cumulative_is s v w.seen; answer = sym row.0; leaves = refl },
+      keeps_new g.F.Framing.format (kept_of c.args.self.now) v (piece_meaning c.args.piece.now) c.in-Passed.index _ w row.1 c.in_ok-add-in-Passed.ensures.recorded,
+    )
+
+pub returns-in-NoRoom-clause-step : goal.returns-in-NoRoom-clause-step
+unfolding StandsFor
+returns-in-NoRoom-clause-step g c = λ v w.
+    let s = c.args.self.now.seen in
+    (v, record { c = s.cumulative; cumulative = cumulative_is s v w.seen; answer = sym (c.in-NoRoom.ensures v w); leaves = refl }, w)
+
+pub returns-in_ok-keep-in-Taken-clause-step : goal.returns-in_ok-keep-in-Taken-clause-step
+unfolding StandsFor
+returns-in_ok-keep-in-Taken-clause-step g c = λ v w.
+    let s = c.args.self.now.seen in
+    let row = c.in-Taken.ensures v w in
+    let t = c.in_ok-keep-in-Taken.ensures.kept v w row.1 in
+    (t.0, record { c = s.cumulative; cumulative = cumulative_is s v w.seen; answer = sym row.0; leaves = t.1 }, t.2)

@@ -1,0 +1,63 @@
+//! What a chunk is answered, and where its TSN lies (RFC 9260, 6.2 and 6.6; RFC 3758, 3.6; RFC 8260, 2.2).
+
+ghost use Rattle.std.specs.Prelude.{◌≡◌};
+ghost use Rattle.sctp_recv.specs.inner.Rows.{IsTsnPlace};
+
+use crate::seen::WINDOW;
+use crate::tsn::tsn_of;
+
+/// What was done with a chunk.
+#[derive(Clone, Copy, Debug, PartialEq, Eq)]
+pub enum Answer {
+    /// Its TSN came before: it is noted for the next SACK (RFC 9260, 6.2).
+    Duplicate,
+    /// Its TSN is too far ahead: nothing was done.
+    Ahead,
+    /// There is no such stream: its TSN was recorded, and its data dropped.
+    NoSuchStream,
+    /// Its message isn't waited for any longer, or has this fragment: its TSN was recorded, and its data dropped.
+    Passed,
+    /// Its data doesn't fit the buffer: nothing was done.
+    NoRoom,
+    /// It was recorded and kept, and what was then due was handed over.
+    Taken,
+}
+
+/// What is to be done with a chunk: its answer, and what that needs.
+#[derive(Clone, Copy)]
+pub(crate) enum Row {
+    Duplicate,
+    Ahead,
+    NoSuchStream { index: u32 },
+    Passed { index: u32 },
+    NoRoom,
+    Taken { index: u32, number: Option<u32> },
+}
+
+/// Where a TSN lies, seen from the cumulative index.
+#[derive(Clone, Copy)]
+pub(crate) enum TsnPlace {
+    /// It is that of the cumulative index, or lies behind it.
+    Behind,
+    /// It lies past the window, or its index is no count below the largest.
+    Ahead,
+    /// Above the cumulative index, it stands for this one.
+    At(u32),
+}
+
+/// Where a TSN lies, where the first one is of index 1.
+pub(crate) fn place_of_tsn(initial: u32, cumulative: u32, tsn: u32) -> TsnPlace
+    ensures { IsTsnPlace initial cumulative tsn result }
+{
+    let offset = tsn.wrapping_sub(tsn_of(initial, cumulative));
+    if offset == 0 || offset >= 2_147_483_648 {
+        return TsnPlace::Behind;
+    }
+    if offset > WINDOW {
+        return TsnPlace::Ahead;
+    }
+    match cumulative.checked_add(offset) {
+        Some(index) if index < u32::MAX => TsnPlace::At(index),
+        _ => TsnPlace::Ahead,
+    }
+}
