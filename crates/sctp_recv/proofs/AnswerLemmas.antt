@@ -1,26 +1,25 @@
 -- The answer to a data chunk, row by row.
-use Rattle.std.proofs.Common.{◌≡◌, ℕ, zero, suc, ◌+◌, ◌-◌, ◌<◌, ◌≤◌, ◌⊎◌, ◌↔◌, Bool, true, false, max, ◌==◌, nat_lt, nat_le, List, [], ◌∷◌, length, Option, Some, None, inl, inr, refl, sym, ◌∙◌, ap, subst, arith}
+use Rattle.std.proofs.Common.{◌≡◌, ℕ, suc, ◌+◌, ◌-◌, ◌<◌, ◌≤◌, ◌⊎◌, Bool, true, false, nat_lt, nat_le, List, [], ◌∷◌, length, Option, Some, None, inl, inr, refl, sym, ◌∙◌, ap, subst, arith}
 use Rattle.std.specs.Prelude.{◌&&◌, ◌||◌, not}
-use Rattle.std.proofs.lemmas.Bool.{cases_Bool, or_parts}
+use Rattle.std.proofs.lemmas.Bool.{cases_Bool}
 use Rattle.std.proofs.lemmas.Bool.Decides.{nat_tests}
 use Rattle.std.proofs.lemmas.Grind.{common_steps}
 use Rattle.sctp_model.specs.Limits.{WINDOW}
-use Rattle.sctp_model.specs.Serial.{COUNTS, tsn, ahead, before, near}
-use Rattle.sctp_model.specs.Lists.{Has}
+use Rattle.sctp_model.specs.Serial.{COUNTS, tsn, before, near}
 use Rattle.sctp_model.specs.Chunk.{PieceMeaning}
-use Rattle.sctp_model.specs.Format.{Format, Plain, Interleaved, Kind, Ordered, Unordered, Lane, is_numbered, ordered_lane, unordered_lane}
+use Rattle.sctp_model.specs.Format.{Format, Plain, Interleaved, Kind, Ordered, Unordered, is_numbered}
 use Rattle.sctp_model.specs.Framing.{kind_of, number_near, as_number}
-use Rattle.sctp_model.specs.Pieces.{Piece, fragment_of}
+use Rattle.sctp_model.specs.Pieces.{Piece}
 use Rattle.sctp_model.specs.ReceiverView.{ReceiverView, held_bytes}
 use Rattle.sctp_model.specs.receiver.Rows.{first_of}
-use Rattle.sctp_model.specs.receiver.Reading.{index_at, is_behind, is_ahead, lane_of, number_in, is_late, lowest_in, reference_in, piece_at}
-use Rattle.sctp_model.specs.receiver.PieceTaken.{Answer, Duplicate, Ahead, NoSuchStream, Passed, NoRoom, Taken, are_one_fragment, is_held, is_repeated, is_passed, is_too_much, answer_to}
+use Rattle.sctp_model.specs.receiver.Reading.{index_at, is_behind, is_ahead, lane_of, is_late, lowest_in, reference_in, piece_at}
+use Rattle.sctp_model.specs.receiver.PieceTaken.{Answer, Duplicate, Ahead, NoSuchStream, Passed, NoRoom, Taken, is_repeated, is_passed, is_too_much}
 use Rattle.sctp_recv.specs.Runs.{in_runs}
-use Rattle.sctp_recv.specs.SeenKept.{SeenKept, is_reached, AreWithin}
+use Rattle.sctp_recv.specs.SeenKept.{is_reached, AreWithin}
 use Rattle.sctp_recv.specs.Kept.{counted}
-use Rattle.sctp_recv.specs.ReceiverKept.{ReceiverKept, StreamKept, stream_at, reference_of, is_below_or_none}
+use Rattle.sctp_recv.specs.ReceiverKept.{ReceiverKept, stream_at, reference_of, is_below_or_none}
 use Rattle.sctp_recv.specs.StandsFor.{KeepsView}
-use Rattle.sctp_recv.specs.inner.Rows.{offset_from, IsAbove, IsNewIndex, IsWanted, answer_at}
+use Rattle.sctp_recv.specs.inner.Rows.{offset_from, IsAbove, IsNewIndex, answer_at}
 
 -- ---- the table, its tests told
 

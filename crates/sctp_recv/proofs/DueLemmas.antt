@@ -1,20 +1,19 @@
 -- The search for the first whole message of a stream, and what is then due.
-use Rattle.std.proofs.Common.{◌≡◌, ℕ, zero, suc, ◌+◌, ◌-◌, ◌^◌, ◌<◌, ◌≤◌, ◌⊎◌, true, false, max, List, [], ◌∷◌, ◌++◌, length, Option, Some, None, inl, inr, refl, sym, ◌∙◌, ap, subst, append_assoc, arith}
+use Rattle.std.proofs.Common.{◌≡◌, ℕ, zero, suc, ◌+◌, ◌-◌, ◌^◌, ◌<◌, ◌≤◌, max, List, [], ◌∷◌, ◌++◌, length, Option, Some, None, inl, inr, refl, sym, ◌∙◌, ap, subst, append_assoc, arith}
 use Rattle.std.specs.Option.{IfSome}
 use Rattle.std.proofs.lemmas.Bool.{cases_lt}
-use Rattle.sctp_model.specs.Lists.{Has, IsWithin}
+use Rattle.sctp_model.specs.Lists.{Has}
 use Rattle.sctp_model.specs.Serial.{COUNTS}
 use Rattle.sctp_model.specs.Format.{Format, ordered_lane}
 use Rattle.sctp_model.specs.Pieces.{Piece}
-use Rattle.sctp_model.specs.Whole.{IsFirst, IsRow, IsWhole}
 use Rattle.sctp_model.specs.ReceiverView.{Handed, ReceiverView}
 use Rattle.sctp_model.specs.Receiving.{IsWholeNumber, IsLowest, HasNoWhole, message_of, IsDue, Stop, Over, Past}
 use Rattle.sctp_model.specs.receiver.Laws.{IsApart}
 use Rattle.sctp_recv.specs.declared.fragment.Fragment.{Fragment}
 use Rattle.sctp_recv.specs.declared.due.Lowest.{Lowest}
-use Rattle.sctp_recv.specs.Kept.{piece_of, pieces_of, begins_of}
+use Rattle.sctp_recv.specs.Kept.{pieces_of}
 use Rattle.sctp_recv.specs.inner.Search.{StandsAt, GoesOn}
-use Rattle.sctp_recv.specs.inner.DueSearch.{BeginsNumber, BeginsWhole, IsNoLater, IsWholeAt, IsFirstOf, IsBestBelow, IsLowestWhole, IsDueView}
+use Rattle.sctp_recv.specs.inner.DueSearch.{BeginsWhole, IsNoLater, IsWholeAt, IsFirstOf, IsBestBelow, IsLowestWhole, IsDueView}
 use Rattle.sctp_recv.proofs.RowLemmas.{first_by, first_begins}
 use Rattle.sctp_recv.proofs.WholeLemmas.{one_here, here_has, has_here, length_pieces}
 

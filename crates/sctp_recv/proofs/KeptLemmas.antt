@@ -1,5 +1,5 @@
 -- Kept chunks as the view's: what is filtered there is filtered here.
-use Rattle.std.proofs.Common.{◌≡◌, ◌⊎◌, Bool, true, false, List, [], ◌∷◌, filter, map, inl, inr, refl, ap}
+use Rattle.std.proofs.Common.{◌≡◌, ◌⊎◌, Bool, true, false, List, [], ◌∷◌, filter, inl, inr, refl, ap}
 use Rattle.std.proofs.lemmas.Bool.{cases_Bool}
 use Rattle.sctp_model.specs.Pieces.{Piece}
 use Rattle.sctp_recv.specs.declared.fragment.Fragment.{Fragment}

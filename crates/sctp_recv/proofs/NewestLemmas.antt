@@ -1,22 +1,22 @@
 -- The search for the whole message of the newest chunk, and what goes with it.
-use Rattle.std.proofs.Common.{◌≡◌, ℕ, zero, suc, ◌+◌, ◌-◌, ◌<◌, ◌≤◌, ◌⊎◌, Bool, true, false, cond, nat_le, ◌==◌, List, [], ◌∷◌, length, filter, Option, Some, None, inl, inr, refl, sym, ◌∙◌, ap, subst, arith}
-use Rattle.std.specs.Prelude.{◌&&◌, ◌||◌, not}
-use Rattle.std.proofs.lemmas.Bool.{cases_Bool, cases_lt}
+use Rattle.std.proofs.Common.{◌≡◌, ℕ, suc, ◌+◌, ◌<◌, ◌≤◌, Bool, true, cond, nat_le, List, [], ◌∷◌, length, filter, Option, Some, inl, inr, refl, sym, ◌∙◌, ap, subst, arith}
+use Rattle.std.specs.Prelude.{◌&&◌, not}
+use Rattle.std.proofs.lemmas.Bool.{cases_lt}
 use Rattle.std.proofs.lemmas.Bool.Decides.{nat_tests}
 use Rattle.std.proofs.lemmas.Grind.{common_steps}
 use Rattle.sctp_model.specs.Lists.{Has, IsWithin}
-use Rattle.sctp_model.specs.Format.{Format, Plain, Interleaved, Unordered, same_lane}
+use Rattle.sctp_model.specs.Format.{Format, Plain, Interleaved, same_lane}
 use Rattle.sctp_model.specs.Pieces.{Piece, same_number}
-use Rattle.sctp_model.specs.Whole.{IsFirst, IsRow, IsWhole}
+use Rattle.sctp_model.specs.Whole.{IsRow, IsWhole}
 use Rattle.sctp_model.specs.Receiving.{IsWholeWith, has_index, goes_with, without_message}
 use Rattle.sctp_model.specs.receiver.Reading.{lane_of}
 use Rattle.sctp_model.specs.receiver.Laws.{IsApart}
 use Rattle.sctp_model.proofs.receiver.OneWhole.{row_only}
 use Rattle.sctp_recv.specs.declared.fragment.Fragment.{Fragment}
 use Rattle.sctp_recv.specs.declared.due.Whole.{Whole}
-use Rattle.sctp_recv.specs.Kept.{piece_of, pieces_of, place_of, begins_of, IsBeside}
-use Rattle.sctp_recv.specs.inner.Search.{StandsAt, GoesOn, IsEndOf}
-use Rattle.sctp_recv.specs.inner.DueSearch.{takes, IsExtent, IsWholeFrom, IsWithNewest}
+use Rattle.sctp_recv.specs.Kept.{pieces_of, place_of, begins_of, IsBeside}
+use Rattle.sctp_recv.specs.inner.Search.{StandsAt, IsEndOf}
+use Rattle.sctp_recv.specs.inner.DueSearch.{takes, IsExtent}
 use Rattle.sctp_recv.proofs.RowLemmas.{step_of, first_by, first_begins, one_place}
 use Rattle.sctp_recv.proofs.WholeLemmas.{here_has, has_here, length_pieces}
 

@@ -1,9 +1,9 @@
 -- Sums of bytes, one chunk or message more at a time.
-use Rattle.std.proofs.Common.{◌≡◌, ℕ, zero, suc, ◌+◌, ◌<◌, List, [], ◌∷◌, ◌++◌, length, get_or, take, map, refl, sym, ◌∙◌, ap, add-one, arith}
-use Rattle.sctp_model.specs.ReceiverView.{Handed, size_of_pieces, size_of_messages}
+use Rattle.std.proofs.Common.{◌≡◌, ℕ, zero, suc, ◌+◌, ◌<◌, List, [], ◌∷◌, length, get_or, take, map, ap, add-one, arith}
+use Rattle.sctp_model.specs.ReceiverView.{size_of_pieces, size_of_messages}
 use Rattle.sctp_recv.specs.declared.fragment.Fragment.{Fragment}
 use Rattle.sctp_recv.specs.declared.message.Message.{Message}
-use Rattle.sctp_recv.specs.Kept.{piece_of, pieces_of}
+use Rattle.sctp_recv.specs.Kept.{pieces_of}
 use Rattle.sctp_recv.specs.HandedOf.{handed_of, message_bytes}
 
 kept_suc : (ks : List Fragment) (i : ℕ) (x : Fragment) → i < length ks → x ≡ get_or ks i x → size_of_pieces (pieces_of (take (suc i) ks)) ≡ size_of_pieces (pieces_of (take i ks)) + length x.data.items

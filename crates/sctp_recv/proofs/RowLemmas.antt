@@ -1,13 +1,12 @@
 -- Rows of chunks: what follows what, and the way from a chunk to a later one of its message.
-use Rattle.std.proofs.Common.{◌≡◌, ℕ, zero, suc, ◌+◌, ◌-◌, ◌<◌, ◌≤◌, ◌⊎◌, Bool, true, false, cond, ◌==◌, List, [], ◌∷◌, ◌++◌, length, map, Option, Some, None, inl, inr, refl, sym, ◌∙◌, ap, subst, arith}
-use Rattle.std.specs.Prelude.{◌&&◌, ◌||◌}
-use Rattle.std.proofs.lemmas.Bool.{cases_Bool}
+use Rattle.std.proofs.Common.{◌≡◌, ℕ, suc, ◌+◌, Bool, true, false, cond, ◌==◌, List, [], ◌∷◌, ◌++◌, length, Option, Some, None, inl, inr, refl, sym, ◌∙◌, ap, subst, arith}
+use Rattle.std.specs.Prelude.{◌||◌}
 use Rattle.std.proofs.lemmas.Bool.Decides.{nat_tests}
 use Rattle.std.proofs.lemmas.Grind.{common_steps}
-use Rattle.sctp_model.specs.Lists.{Has, IsWithin}
+use Rattle.sctp_model.specs.Lists.{IsWithin}
 use Rattle.sctp_model.specs.Format.{Format, Plain, Interleaved, Kind, Ordered, Unordered, Lane, same_kind, same_lane}
 use Rattle.sctp_model.specs.Pieces.{Piece, same_number}
-use Rattle.sctp_model.specs.Whole.{IsFirst, Follows, IsRow, IsWhole}
+use Rattle.sctp_model.specs.Whole.{IsFirst, Follows, IsRow}
 use Rattle.sctp_model.specs.receiver.Laws.{IsOnePlace, IsApart}
 use Rattle.sctp_recv.specs.Kept.{place_of, begins_of}
 

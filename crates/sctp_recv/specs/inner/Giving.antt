@@ -3,7 +3,7 @@ use Rattle.std.specs.Prelude.{◌≡◌, ℕ, ◌+◌, ◌-◌, ◌^◌, ◌≤�
 use Rattle.sctp_model.specs.Format.{Format}
 use Rattle.sctp_model.specs.Pieces.{Piece}
 use Rattle.sctp_model.specs.ReceiverView.{Handed, size_of_pieces, size_of_messages}
-use Rattle.sctp_model.specs.Receiving.{without_below, IsWholeWith, message_of}
+use Rattle.sctp_model.specs.Receiving.{without_below, message_of}
 use Rattle.sctp_recv.specs.declared.fragment.Fragment.{Fragment}
 use Rattle.sctp_recv.specs.declared.due.Whole.{Whole}
 use Rattle.sctp_recv.specs.Kept.{pieces_of}

@@ -1,11 +1,11 @@
 -- What a chunk or a FORWARD is read as, before anything is done with it.
-use Rattle.std.specs.Prelude.{◌≡◌, ℕ, suc, ◌+◌, ◌-◌, ◌<◌, ◌≤◌, Bool, true, false, ◌||◌, not, nat_lt, nat_le, Option, Some, length}
+use Rattle.std.specs.Prelude.{◌≡◌, ℕ, suc, ◌+◌, ◌-◌, ◌<◌, ◌≤◌, true, false, ◌||◌, nat_lt, nat_le, Option, Some, length}
 use Rattle.sctp_model.specs.Limits.{WINDOW}
 use Rattle.sctp_model.specs.Serial.{COUNTS, tsn, ahead, before}
 use Rattle.sctp_model.specs.Format.{Format}
 use Rattle.sctp_model.specs.Chunk.{PieceMeaning}
 use Rattle.sctp_model.specs.ReceiverView.{ReceiverView}
-use Rattle.sctp_model.specs.receiver.Reading.{index_at, is_behind, is_ahead, piece_at}
+use Rattle.sctp_model.specs.receiver.Reading.{piece_at}
 use Rattle.sctp_model.specs.receiver.PieceTaken as model
 use Rattle.sctp_recv.specs.declared.answer.Row.{Row}
 use Rattle.sctp_recv.specs.declared.answer.Row.TheVariants.{Duplicate, Ahead, NoSuchStream, Passed, NoRoom, Taken}

@@ -1,16 +1,16 @@
 -- What the searches among kept chunks answer.
-use Rattle.std.specs.Prelude.{◌≡◌, ℕ, suc, ◌+◌, ◌<◌, ◌≤◌, ◌⊎◌, ◌^◌, List, ◌∷◌, map, length, slice_get, Option, None, Some}
+use Rattle.std.specs.Prelude.{◌≡◌, ℕ, ◌+◌, ◌<◌, ◌^◌, List, ◌∷◌, map, length, slice_get, Option, None, Some}
 use Rattle.std.specs.declared.vec.Vec.{Vec}
 use Rattle.std.specs.declared.alloc.Global.{Global}
 use Rattle.sctp_model.specs.Lists.{Has, IsWithin}
-use Rattle.sctp_model.specs.Format.{Format, ordered_lane}
+use Rattle.sctp_model.specs.Format.{Format}
 use Rattle.sctp_model.specs.Pieces.{Piece}
 use Rattle.sctp_model.specs.Whole.{Follows, IsRow}
 use Rattle.sctp_model.specs.Receiving.{message_of}
 use Rattle.sctp_model.specs.receiver.Laws.{IsApart}
 use Rattle.sctp_recv.specs.declared.fragment.Fragment.{Fragment}
 use Rattle.sctp_recv.specs.declared.message.Message.{Message}
-use Rattle.sctp_recv.specs.Kept.{piece_of, pieces_of, place_of}
+use Rattle.sctp_recv.specs.Kept.{pieces_of, place_of}
 use Rattle.sctp_recv.specs.Parts.{bytes_of}
 use Rattle.sctp_recv.specs.HandedOf.{handed_of}
 

@@ -1,4 +1,4 @@
-use Rattle.std.proofs.Common.{map, max, Some, None, ℕ, ◌≡◌, suc, ◌-◌, ◌^◌, ◌<◌, ◌≤◌, List, subst, sym, ◌∙◌, rules, arith}
+use Rattle.std.proofs.Common.{map, Some, None, ℕ, ◌≡◌, suc, ◌-◌, ◌^◌, ◌<◌, ◌≤◌, List, subst, sym, arith}
 use Rattle.sctp_model.specs.ReceiverView.{Handed}
 use Rattle.sctp_model.specs.Receiving.{IsDue}
 use Rattle.sctp_recv.specs.HandedOf.{handed_of}

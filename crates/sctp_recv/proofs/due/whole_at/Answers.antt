@@ -1,4 +1,4 @@
-use Rattle.std.proofs.Common.{refl, sym, subst}
+use Rattle.std.proofs.Common.{refl, subst}
 use Rattle.sctp_model.specs.Pieces.{Piece}
 use Rattle.sctp_recv.specs.Kept.{piece_of}
 use Rattle.sctp_recv.specs.inner.DueSearch.{BeginsNumber}

@@ -1,4 +1,4 @@
-use Rattle.std.proofs.Common.{List, ◌∷◌, sym, subst, arith}
+use Rattle.std.proofs.Common.{List, ◌∷◌, subst, arith}
 use Rattle.sctp_model.specs.Pieces.{Piece}
 use Rattle.sctp_model.specs.Receiving.{IsWholeWith}
 use Rattle.sctp_recv.specs.Kept.{piece_of, pieces_of}

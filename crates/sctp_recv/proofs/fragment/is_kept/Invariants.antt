@@ -1,4 +1,4 @@
-use Rattle.std.proofs.Common.{◌≡◌, ℕ, ◌<◌, false}
+use Rattle.std.proofs.Common.{ℕ, ◌<◌}
 use Rattle.sctp_model.specs.Pieces.{Piece}
 use Rattle.sctp_recv.specs.Kept.{counted, IsSameFragment}
 use Rattle.sctp_wire.specs.ChunkTree.{piece_meaning}

@@ -1,4 +1,3 @@
-use Rattle.std.proofs.Common.{arith}
 use Rattle.sctp_model.specs.Pieces.{Piece}
 use Rattle.sctp_model.specs.Whole.{Follows}
 use Rattle.sctp_recv.specs.Kept.{piece_of}

@@ -1,7 +1,7 @@
-use Rattle.std.proofs.Common.{map, ◌∙◌, List, ◌++◌, ◌∷◌, [], ap, subst, sym}
+use Rattle.std.proofs.Common.{map, ◌∙◌}
 use Rattle.sctp_recv.specs.Kept.{piece_of}
 use Rattle.sctp_recv.specs.Parts.{bytes_of}
-use Rattle.sctp_recv.proofs.WholeLemmas.{HasTaken, stands, taken_on, place_rises, taken_row, taken_none}
+use Rattle.sctp_recv.proofs.WholeLemmas.{stands, taken_on, place_rises, taken_row, taken_none}
 use Rattle.sctp_recv.proofs.whole.parts_from.Goals as goal
 use Rattle.sctp_recv.proofs.whole.parts_from.Goals.{In-Some}
 

@@ -1,4 +1,4 @@
-use Rattle.std.proofs.Common.{◌≡◌, ◌<◌, ◌-◌, ◌^◌, length, map}
+use Rattle.std.proofs.Common.{◌<◌, ◌-◌, ◌^◌, length, map}
 use Rattle.std.specs.List.{slice_get}
 use Rattle.sctp_recv.specs.Kept.{pieces_of}
 use Rattle.sctp_recv.specs.Parts.{bytes_of}

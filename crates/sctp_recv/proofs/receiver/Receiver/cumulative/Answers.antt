@@ -8,4 +8,4 @@ pub returns : goal.returns
 unfolding StandsFor
 returns g c = λ v w.
     let s = c.args.self.now.seen in
-    (s.cumulative, cumulative_is s v w.seen, c.tsn_of.ensures ∙ ap (λ (i : ℕ). tsn c.args.self.now.initial i) c.cumulative.ensures ∙ ap (λ (i : ℕ). tsn i s.cumulative) (sym w.initial))
+    (s.cumulative, cumulative_is s v w.seen, c.tsn_of.ensures ∙ ap (λ (i : ℕ). tsn c.args.self.now.initial i) c.cumulative.ensures.value ∙ ap (λ (i : ℕ). tsn i s.cumulative) (sym w.initial))

@@ -1,4 +1,4 @@
-use Rattle.std.proofs.Common.{◌≡◌, ℕ, ◌<◌, ◌≤◌, ◌+◌, Bool, true, false, Option, length, map, sym, ◌∙◌, ap, subst, arith}
+use Rattle.std.proofs.Common.{◌≡◌, ℕ, ◌<◌, ◌≤◌, ◌+◌, Bool, true, false, length, sym, ◌∙◌, ap, subst, arith}
 use Rattle.std.specs.Prelude.{◌||◌, ◌&&◌}
 use Rattle.std.proofs.lemmas.List.{length-map}
 use Rattle.sctp_model.specs.Format.{is_numbered}
@@ -9,7 +9,7 @@ use Rattle.sctp_wire.specs.ChunkTree.{piece_meaning}
 use Rattle.sctp_recv.specs.Fields.{stream_of}
 use Rattle.sctp_recv.specs.ReceiverKept.{StreamKept, stream_at, reference_of, is_below_or_none}
 use Rattle.sctp_recv.specs.KeptOf.{kept_of}
-use Rattle.sctp_recv.specs.StandsFor.{StandsFor, KeepsView}
+use Rattle.sctp_recv.specs.StandsFor.{StandsFor}
 use Rattle.sctp_recv.specs.SeenKept.{is_reached}
 use Rattle.sctp_recv.specs.inner.Rows.{IsAbove}
 use Rattle.sctp_recv.proofs.StreamLemmas.{stream_mapped}

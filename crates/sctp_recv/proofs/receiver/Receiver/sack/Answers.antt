@@ -1,4 +1,4 @@
-use Rattle.std.proofs.Common.{◌≡◌, ◌-◌, ℕ, List, map, take, sym, ◌∙◌, ap, arith}
+use Rattle.std.proofs.Common.{◌≡◌, ◌-◌, ℕ, map, sym, ◌∙◌, ap, arith}
 use Rattle.std.proofs.lemmas.List.{take-map}
 use Rattle.sctp_model.specs.Limits.{BLOCK_LIMIT}
 use Rattle.sctp_model.specs.Serial.{tsn}
@@ -13,7 +13,7 @@ pub returns : goal.returns
 unfolding StandsFor
 returns g c = λ v w.
     let s = c.args.self.now.seen in
-    let first = c.tsn_of.ensures ∙ ap (λ (i : ℕ). tsn c.args.self.now.initial i) c.cumulative.ensures ∙ ap (λ (i : ℕ). tsn i s.cumulative) (sym w.initial) in
+    let first = c.tsn_of.ensures ∙ ap (λ (i : ℕ). tsn c.args.self.now.initial i) c.cumulative.ensures.value ∙ ap (λ (i : ℕ). tsn i s.cumulative) (sym w.initial) in
     let room : c.saturating_sub.result ≡ v.buffer - held_bytes v = let held = w.held in let all = w.buffer in let left = c.saturating_sub.ensures in omega arith in
     let lowest = c.in_ok-put_blocks.ensures.blocks ∙ sym (take-map (block_of_run s.cumulative) BLOCK_LIMIT s.runs) in
     let again = c.in_ok-put_words.ensures.words ∙ c.deref.ensures.value ∙ sym w.duplicates in
