@@ -8,139 +8,134 @@ use Rattle.sctp_model.specs.Chunk.{BlockMeaning}
 use Rattle.sctp_model.specs.ReceiverView.{ReceiverView}
 use Rattle.sctp_model.specs.receiver.SackMade.{IsRun, AreBlocksRising, AreAllRuns}
 use Rattle.sctp_recv.specs.declared.runs.Run.{Run}
-use Rattle.sctp_recv.specs.Runs.{in_run, in_runs, AreRuns}
+use Rattle.sctp_recv.specs.Runs.{in_run, in_runs, IsApart, AreRuns}
 use Rattle.sctp_recv.specs.Blocks.{block_of_run}
+use Rattle.sctp_recv.proofs.RunLemmas.{in_none}
+use Rattle.sctp_recv.proofs.ListOrder.{either_order}
 
 -- ---- one run among runs
 
-has_above : (c : ℕ) (rs : List Run) (r : Run) → AreRuns c rs → Has rs r → (suc c < r.first) × (r.first ≤ r.last)
-has_above c [] r h there = absurd there
-has_above c (x ∷ xs) r h (inl e) = subst (λ (y : Run). (suc c < y.first) × (y.first ≤ y.last)) e (h.0, h.1)
-has_above c (x ∷ xs) r h (inr there) = let more = has_above x.last xs r h.2 there in (omega (arith, h.0, h.1, more.0), more.1)
+-- a run's own indexes are in the runs, and an index in them is some run's
+held_by : (rs : List Run) (r : Run) (i : ℕ) → Has rs r → in_run r i ≡ true → in_runs rs i ≡ true
+held_by [] r i there inside = absurd there
+held_by (x ∷ xs) r i (inl is) inside = let own : in_run x i ≡ true = subst (λ (y : Run). in_run y i ≡ true) (sym is) inside in rw own refl
+held_by (x ∷ xs) r i (inr there) inside = let more = held_by xs r i there inside in grind (arith, more, common_steps)
 
-inside : (rs : List Run) (r : Run) (i : ℕ) → Has rs r → r.first ≤ i → i ≤ r.last → in_runs rs i ≡ true
-inside [] r i there low high = absurd there
-inside (x ∷ xs) r i (inl e) low high = let here : in_run x i ≡ true = subst (λ (y : Run). in_run y i ≡ true) (sym e) (grind (arith, nat_tests, common_steps)) in rw here refl
-inside (x ∷ xs) r i (inr there) low high = let more = inside xs r i there low high in grind (arith, nat_tests, common_steps)
-
-under : (d : ℕ) (rs : List Run) (i : ℕ) → AreRuns d rs → i ≤ suc d → in_runs rs i ≡ false
-under d [] i h le = refl
-under d (x ∷ xs) i h le = let more = under x.last xs i h.2 (omega (arith, h.0, h.1)) in let low = h.0 in grind (arith, nat_tests, common_steps)
-
--- the index before a run and the one after it are in none
-gap_before : (c : ℕ) (rs : List Run) (r : Run) (i : ℕ) → AreRuns c rs → Has rs r → suc i ≡ r.first → in_runs rs i ≡ false
-gap_before c [] r i h there at = absurd there
-gap_before c (x ∷ xs) r i h (inl e) at =
-    let first : x.first ≡ r.first = ap (λ (y : Run). y.first) e in
-    let order = h.1 in
-    let more = under x.last xs i h.2 (omega arith) in
-    grind (arith, nat_tests, common_steps)
-gap_before c (x ∷ xs) r i h (inr there) at =
-    let above = (has_above x.last xs r h.2 there).0 in
-    let more = gap_before x.last xs r i h.2 there at in
-    grind (arith, nat_tests, common_steps)
-
-gap_after : (c : ℕ) (rs : List Run) (r : Run) → AreRuns c rs → Has rs r → in_runs rs (suc r.last) ≡ false
-gap_after c [] r h there = absurd there
-gap_after c (x ∷ xs) r h (inl e) =
-    let last : x.last ≡ r.last = ap (λ (y : Run). y.last) e in
-    let more = under x.last xs (suc r.last) h.2 (omega arith) in
-    grind (arith, nat_tests, common_steps)
-gap_after c (x ∷ xs) r h (inr there) =
-    let above = has_above x.last xs r h.2 there in
-    let low = above.0 in
-    let order = above.1 in
-    let more = gap_after x.last xs r h.2 there in
-    grind (arith, nat_tests, common_steps)
-
-run_with : (rs : List Run) (i : ℕ) → in_runs rs i ≡ true → (r : Run) × Has rs r × (r.first ≤ i) × (i ≤ r.last)
-run_with [] i e = absurd (cc)
-run_with (x ∷ xs) i e = go (run_with xs i) (cases_Bool (in_run x i))
+holder : (rs : List Run) (i : ℕ) → in_runs rs i ≡ true → (r : Run) × Has rs r × (in_run r i ≡ true)
+holder [] i held = absurd (cc)
+holder (x ∷ xs) i held = go (holder xs i) (cases_Bool (in_run x i))
   where
-    go : (in_runs xs i ≡ true → (r : Run) × Has xs r × (r.first ≤ i) × (i ≤ r.last)) → (in_run x i ≡ true) ⊎ (in_run x i ≡ false) → (r : Run) × Has (x ∷ xs) r × (r.first ≤ i) × (i ≤ r.last)
-    go more (inl here) = (x, inl refl, grind (arith, nat_tests, common_steps), grind (arith, nat_tests, common_steps))
-    go more (inr other) = let rest : in_runs xs i ≡ true = grind (arith, nat_tests, common_steps) in let m = more rest in (m.0, inr m.1, m.2, m.3)
+    go : (in_runs xs i ≡ true → (r : Run) × Has xs r × (in_run r i ≡ true)) → (in_run x i ≡ true) ⊎ (in_run x i ≡ false) → (r : Run) × Has (x ∷ xs) r × (in_run r i ≡ true)
+    go more (inl own) = (x, inl refl, own)
+    go more (inr other) = let m = more (rw other at held) in (m.0, inr m.1, m.2)
+
+-- an index right before a run, or right after it, is in none
+module _ (c : ℕ) (rs : List Run) (h : AreRuns c rs) (r : Run) (there : Has rs r) where
+  beside : (i : ℕ) → (suc i ≡ r.first) ⊎ (i ≡ suc r.last) → in_runs rs i ≡ false
+  beside i next = in_none rs i (λ q held. no q held next (either_order IsApart rs h.spaced.apart q r held there))
+    where
+      no : (q : Run) → Has rs q → (suc i ≡ r.first) ⊎ (i ≡ suc r.last) → (q ≡ r) ⊎ (IsApart q r ⊎ IsApart r q) → in_run q i ≡ false
+      no q held (inl before) (inl is) = let first : q.first ≡ r.first = ap (λ (y : Run). y.first) is in grind (arith, before, first, nat_tests)
+      no q held (inr after) (inl is) = let last : q.last ≡ r.last = ap (λ (y : Run). y.last) is in grind (arith, after, last, nat_tests)
+      no q held (inl before) (inr (inl low)) = grind (arith, before, low, nat_tests)
+      no q held (inr after) (inr (inl low)) = let some = h.spaced.some r there in grind (arith, after, low, some, nat_tests)
+      no q held (inl before) (inr (inr high)) = let some = h.spaced.some r there in grind (arith, before, high, some, nat_tests)
+      no q held (inr after) (inr (inr high)) = grind (arith, after, high, nat_tests)
 
 block_same : (b : BlockMeaning) (s e : ℕ) → s ≡ b.start → e ≡ b.end → record { start = s; end = e } ≡ b
 block_same b s e p q = rw (p, q) refl
 
-module _ (v : ReceiverView) (c : ℕ) (all : List Run) (h : AreRuns c all) (says : (i : ℕ) → c < i → v.seen i ≡ in_runs all i) where
-  run_is : (r : Run) → Has all r → IsRun v c (block_of_run c r)
-  run_is r there =
-      let above = has_above c all r h there in
-      record {
-        above = omega (arith, above.0);
-        some = omega (arith, above.0, above.1);
-        seen = λ i low high. says i (omega (arith, above.0)) ∙ inside all r i there (omega (arith, above.0)) (omega (arith, above.0, above.1));
-        before = λ i at came.
-            let first : suc i ≡ r.first = omega (arith, above.0) in
-            let no = says i (omega (arith, above.0)) ∙ gap_before c all r i h there first in
-            absurd (cc);
-        after = λ came.
-            let last : suc (c + (r.last - c)) ≡ suc r.last = omega (arith, above.0, above.1) in
-            let no : v.seen (suc r.last) ≡ false = says (suc r.last) (omega (arith, above.0, above.1)) ∙ gap_after c all r h there in
-            let yes : v.seen (suc r.last) ≡ true = subst (λ (i : ℕ). v.seen i ≡ true) last came in
-            absurd (cc);
-      }
+-- Where what was recorded above c is what the runs have, they are the view's runs, and it has no others.
+module _ (v : ReceiverView) (c : ℕ) (rs : List Run) (h : AreRuns c rs) (says : (i : ℕ) → c < i → v.seen i ≡ in_runs rs i) where
+  came : (r : Run) → Has rs r → (i : ℕ) → r.first ≤ i → i ≤ r.last → v.seen i ≡ true
+  came r there i low high = let above = h.above r there in says i (omega (arith, above, low)) ∙ held_by rs r i there (grind (arith, low, high, nat_tests))
 
-  is_kept : (b : BlockMeaning) → IsRun v c b → (r : Run) × Has all r × (block_of_run c r ≡ b)
-  is_kept b run =
-      let start = run.above in
-      let order = run.some in
-      let came : in_runs all (c + b.start) ≡ true = sym (says (c + b.start) (omega arith)) ∙ run.seen (c + b.start) (omega arith) (omega arith) in
-      let found = run_with all (c + b.start) came in
-      let r = found.0 in
-      let above = has_above c all r h found.1 in
-      let low : c + b.start ≤ r.first = elim (cases_lt r.first (c + b.start)) [
-        | inl less ↦
-            let i : ℕ = c + b.start - 1 in
-            let next : suc i ≡ c + b.start = omega arith in
-            absurd (run.before i next (says i (omega (arith, above.0)) ∙ inside all r i found.1 (omega arith) (omega (arith, found.3))))
-        | inr le ↦ le
-      ] in
-      let high : r.last ≤ c + b.end = elim (cases_lt (c + b.end) r.last) [
-        | inl more ↦ absurd (run.after (says (suc (c + b.end)) (omega arith) ∙ inside all r (suc (c + b.end)) found.1 (omega (arith, found.2)) (omega arith)))
-        | inr le ↦ le
-      ] in
-      let top : c + b.end ≤ r.last = elim (cases_lt r.last (c + b.end)) [
-        | inl less ↦
-            let yes = run.seen (suc r.last) (omega (arith, found.3)) (omega arith) in
-            let no = says (suc r.last) (omega (arith, above.0, above.1)) ∙ gap_after c all r h found.1 in
-            absurd (cc)
-        | inr le ↦ le
-      ] in
-      (r, found.1, block_same b (r.first - c) (r.last - c) (omega (arith, found.2)) (omega arith))
+  missing : (r : Run) → Has rs r → (i : ℕ) → (suc i ≡ r.first) ⊎ (i ≡ suc r.last) → v.seen i ≡ true → ⊥
+  missing r there i next seen = let no = says i (high next) ∙ beside c rs h r there i next in absurd (cc)
+    where
+      high : (suc i ≡ r.first) ⊎ (i ≡ suc r.last) → c < i
+      high (inl before) = let above = h.above r there in omega (arith, above, before)
+      high (inr after) = let above = h.above r there in let some = h.spaced.some r there in omega (arith, above, some, after)
+
+  run_is : (r : Run) → Has rs r → IsRun v c (block_of_run c r)
+  run_is r there = let above = h.above r there in let order = h.spaced.some r there in record {
+    above = omega (arith, above);
+    some = omega (arith, above, order);
+    seen = λ i low high. came r there i (omega (arith, above, low)) (omega (arith, above, order, high));
+    before = λ i at seen. missing r there i (inl (omega (arith, above, at))) seen;
+    after = λ seen. let last : suc (c + (r.last - c)) ≡ suc r.last = omega (arith, above, order) in missing r there (suc r.last) (inr refl) (subst (λ (i : ℕ). v.seen i ≡ true) last seen);
+  }
+
+  is_kept : (b : BlockMeaning) → IsRun v c b → (r : Run) × Has rs r × (block_of_run c r ≡ b)
+  is_kept b run = (r, found.1, block_same b (r.first - c) (r.last - c) (omega (arith, starts)) (omega (arith, ends, starts, start, order)))
+    where
+      start : 1 < b.start
+      start = run.above
+
+      order : b.start ≤ b.end
+      order = run.some
+
+      found : (r : Run) × Has rs r × (in_run r (c + b.start) ≡ true)
+      found = holder rs (c + b.start) (sym (says (c + b.start) (omega (arith, start))) ∙ run.seen (c + b.start) (omega arith) (omega (arith, order)))
+
+      r : Run
+      r = found.0
+
+      low : r.first ≤ c + b.start
+      low = let inside = found.2 in grind (arith, inside, nat_tests, common_steps)
+
+      high : c + b.start ≤ r.last
+      high = let inside = found.2 in grind (arith, inside, nat_tests, common_steps)
+
+      starts : r.first ≡ c + b.start
+      starts = elim (cases_lt r.first (c + b.start)) [
+        | inr le ↦ let l = low in omega (arith, l, le)
+        | inl less ↦ absurd (run.before (c + b.start - 1) (omega (arith, start)) (came r found.1 (c + b.start - 1) (omega (arith, less)) (let t = high in omega (arith, t))))
+      ]
+
+      ends : r.last ≡ c + b.end
+      ends = elim (cases_lt r.last (c + b.end)) [
+        | inl less ↦ absurd (missing r found.1 (suc r.last) (inr refl) (run.seen (suc r.last) (let t = high in omega (arith, t)) (omega (arith, less))))
+        | inr le ↦ elim (cases_lt (c + b.end) r.last) [
+          | inr same ↦ omega (arith, le, same)
+          | inl more ↦ absurd (run.after (came r found.1 (suc (c + b.end)) (let l = low in omega (arith, l, order)) (omega (arith, more))))
+        ]
+      ]
 
 -- ---- lists of blocks
 
 mapped_has : (c : ℕ) (rs : List Run) (b : BlockMeaning) → Has (map (block_of_run c) rs) b → (r : Run) × Has rs r × (block_of_run c r ≡ b)
-mapped_has c [] b there = absurd there
-mapped_has c (r ∷ rs) b (inl e) = (r, inl refl, e)
-mapped_has c (r ∷ rs) b (inr there) = let m = mapped_has c rs b there in (m.0, inr m.1, m.2)
+mapped_has c [] b none = absurd none
+mapped_has c (r ∷ rs) b (inl is) = (r, inl refl, is)
+mapped_has c (r ∷ rs) b (inr later) = let found = mapped_has c rs b later in (found.0, inr found.1, found.2)
 
 has_mapped : (c : ℕ) (rs : List Run) (r : Run) → Has rs r → Has (map (block_of_run c) rs) (block_of_run c r)
-has_mapped c [] r there = absurd there
-has_mapped c (x ∷ xs) r (inl e) = inl (ap (block_of_run c) e)
-has_mapped c (x ∷ xs) r (inr there) = inr (has_mapped c xs r there)
+has_mapped c (x ∷ xs) r (inl is) = inl (ap (block_of_run c) is)
+has_mapped c (x ∷ xs) r (inr later) = inr (has_mapped c xs r later)
+has_mapped c [] r none = absurd none
 
-blocks_rise : (c d : ℕ) (rs : List Run) → c ≤ d → AreRuns d rs → AreBlocksRising (map (block_of_run c) rs)
-blocks_rise c d [] le h = tt
-blocks_rise c d (r ∷ rs) le h = (
-  λ a there.
-      let m = mapped_has c rs a there in
-      let above = has_above r.last rs m.0 h.2 m.1 in
-      let start : m.0.first - c ≡ a.start = ap (λ (b : BlockMeaning). b.start) m.2 in
-      omega (arith, above.0, h.0, h.1),
-  blocks_rise c r.last rs (omega (arith, h.0, h.1)) h.2,
+-- blocks above c rise as their runs do
+blocks_rise : (c : ℕ) (rs : List Run) → AreRuns c rs → AreBlocksRising (map (block_of_run c) rs)
+blocks_rise c [] h = tt
+blocks_rise c (r ∷ rs) h = (
+  λ b later.
+      let found = mapped_has c rs b later in
+      let gap = h.spaced.apart.0 found.0 found.1 in
+      let start : found.0.first - c ≡ b.start = ap (λ (x : BlockMeaning). x.start) found.2 in
+      let above = h.above r (inl refl) in
+      let order = h.spaced.some r (inl refl) in
+      omega (arith, gap, start, above, order),
+  blocks_rise c rs (record { spaced = record { some = λ q later. h.spaced.some q (inr later); apart = h.spaced.apart.1 }; above = λ q later. h.above q (inr later) }),
 )
 
 pub mapped_length : (c : ℕ) (rs : List Run) → length (map (block_of_run c) rs) ≡ length rs
 mapped_length c [] = refl
-mapped_length c (r ∷ rs) = ap suc (mapped_length c rs)
+mapped_length c (r ∷ rs) = let rest = mapped_length c rs in omega (arith, rest)
 
-pub all_runs : (v : ReceiverView) (c : ℕ) (all : List Run) → AreRuns c all → ((i : ℕ) → c < i → v.seen i ≡ in_runs all i) → AreAllRuns v c (map (block_of_run c) all)
-all_runs v c all h says = record {
-  rising = blocks_rise c c all (omega arith) h;
-  runs = λ b there. let m = mapped_has c all b there in subst (IsRun v c) m.2 (run_is v c all h says m.0 m.1);
-  all = λ b run. let k = is_kept v c all h says b run in subst (Has (map (block_of_run c) all)) k.2 (has_mapped c all k.0 k.1);
+-- They are all runs of the view.
+pub all_runs : (v : ReceiverView) (c : ℕ) (rs : List Run) → AreRuns c rs → ((i : ℕ) → c < i → v.seen i ≡ in_runs rs i) → AreAllRuns v c (map (block_of_run c) rs)
+all_runs v c rs h says = record {
+  rising = blocks_rise c rs h;
+  runs = λ b there. let found = mapped_has c rs b there in subst (IsRun v c) found.2 (run_is v c rs h says found.0 found.1);
+  all = λ b run. let kept = is_kept v c rs h says b run in subst (Has (map (block_of_run c) rs)) kept.2 (has_mapped c rs kept.0 kept.1);
 }

@@ -8,7 +8,10 @@ mod ResultLemmas
 mod AnswerLemmas
 mod TakenLemmas
 mod HeldLemmas
+mod ListOrder
 mod RunLemmas
+mod RunGains
+mod RunBounds
 mod SeenLemmas
 mod PartLemmas
 mod WireLemmas

@@ -2,32 +2,23 @@
 use Rattle.std.proofs.Common.{◌≡◌, ℕ, suc, ◌+◌, ◌-◌, ◌^◌, ◌<◌, true, false, ◌==◌, List, [], ◌∷◌, ◌++◌, length, set, replicate, inl, inr, refl, sym, ◌∙◌, ap, arith}
 use Rattle.std.proofs.lemmas.Bool.{cases_Bool}
 use Rattle.std.proofs.lemmas.Bool.Decides.{nat_tests}
-use Rattle.std.proofs.lemmas.Grind.{common_steps}
 use Rattle.sctp_model.specs.Lists.{at}
 use Rattle.sctp_model.specs.Format.{Format}
 use Rattle.sctp_model.specs.ReceiverView.{Handed, ReceiverView, IsCumulative, fresh_receiver, size_of_messages}
-use Rattle.sctp_recv.specs.Runs.{in_runs, AreRuns}
 use Rattle.sctp_recv.specs.SeenKept.{SeenKept}
 use Rattle.sctp_recv.specs.SeenStands.{SeenStands}
 use Rattle.sctp_recv.specs.ReceiverKept.{StreamKept, ReceiverKept, FRESH, stream_at}
 use Rattle.sctp_recv.specs.StandsFor.{KeepsView}
+use Rattle.sctp_recv.proofs.RunLemmas.{none_after}
 use Rattle.sctp_recv.proofs.StreamLemmas.{fresh_at, length_fresh, no_waiting, stream_set_same, stream_set_other, length_set, waiting_set}
 
 -- ---- the cumulative index
-
-first_open : (c : ℕ) (rs : List _) → AreRuns c rs → in_runs rs (suc c) ≡ false
-first_open c [] h = refl
-first_open c (r ∷ rs) h = let more = above r.last rs h.2 (omega (arith, h.0, h.1)) in let low = h.0 in grind (arith, nat_tests, common_steps)
-  where
-    above : (d : ℕ) (ss : List _) → AreRuns d ss → suc c < suc d → in_runs ss (suc c) ≡ false
-    above d [] g l = refl
-    above d (s ∷ ss) g l = let more = above s.last ss g.2 (omega (arith, g.0, g.1)) in let low = g.0 in grind (arith, nat_tests, common_steps)
 
 pub cumulative_is : (k : SeenKept) (v : ReceiverView) → SeenStands k v.seen v.jump → IsCumulative v k.cumulative
 cumulative_is k v s = record {
   reached = s.below;
   open_end = λ r. elim r [
-    | inl came ↦ let no = s.above (suc k.cumulative) (omega arith) ∙ first_open k.cumulative k.runs s.runs in absurd (cc)
+    | inl came ↦ let no = s.above (suc k.cumulative) (omega arith) ∙ none_after k.cumulative k.runs s.runs in absurd (cc)
     | inr under ↦ omega (arith, s.jumped)
   ];
 }

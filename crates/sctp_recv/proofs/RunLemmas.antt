@@ -1,196 +1,139 @@
--- Lists of runs: where an index belongs, one index more, and how many there can be.
-use Rattle.std.proofs.Common.{◌≡◌, ℕ, zero, suc, ◌+◌, ◌*◌, ◌-◌, ◌<◌, ◌≤◌, ◌⊎◌, true, false, ◌==◌, nat_lt, nat_le, max, List, [], ◌∷◌, ◌++◌, length, get_or, set, take, drop, inl, inr, refl, sym, ◌∙◌, ap, subst, arith}
-use Rattle.std.specs.List.{insert}
+-- Runs in order: where an index belongs among them, and what they hold.
+use Rattle.std.proofs.Common.{◌≡◌, ℕ, zero, suc, ◌<◌, ◌≤◌, Bool, true, false, nat_lt, List, [], ◌∷◌, ◌++◌, length, get_or, set, take, drop, inl, inr, refl, sym, ◌∙◌, ap, subst, arith}
+use Rattle.std.specs.Prelude.{◌||◌}
+use Rattle.std.specs.List.{remove}
 use Rattle.std.specs.List.Sorted.{IsPartitionPoint, IsPartitionedBy}
-use Rattle.std.proofs.lemmas.List.{set_split, get_or_default, drop_all}
-use Rattle.std.proofs.lemmas.Bool.{cases_Bool, cases_lt}
+use Rattle.std.proofs.lemmas.List.Folds.{list_any-append}
 use Rattle.std.proofs.lemmas.Bool.Decides.{nat_tests}
-use Rattle.std.proofs.lemmas.Grind.{common_steps}
+use Rattle.sctp_model.specs.Lists.{Has, AreInOrder}
 use Rattle.sctp_recv.specs.declared.runs.Run.{Run}
-use Rattle.sctp_recv.specs.Runs.{in_runs, AreRuns, AreSpaced, count_before, extended, with_front, with_index, first_touches}
-use Rattle.sctp_recv.specs.SeenKept.{seen_of, is_reached, AreWithin}
+use Rattle.sctp_recv.specs.Runs.{in_run, in_runs, IsApart, AreSpaced, AreRuns, begins_by, IsPlace}
+use Rattle.sctp_recv.proofs.ListOrder.{order_across}
 
-pub spaced : (c : ℕ) (rs : List Run) → AreRuns c rs → AreSpaced rs
-spaced c [] h = tt
-spaced c (r ∷ rs) h = (h.1, h.2)
+-- ---- places
 
--- ---- where an index belongs
-
-last_above : (c : ℕ) (rs : List Run) (j : ℕ) (d : Run) → AreRuns c rs → j < length rs → suc c < (get_or rs j d).last
-last_above c [] j d h l = absurd (omega arith)
-last_above c (r ∷ rs) zero d h l = omega (arith, h.0, h.1)
-last_above c (r ∷ rs) (suc j) d h l = let more = last_above r.last rs j d h.2 (omega arith) in omega (arith, h.0, h.1)
-
-lasts_rise : (rs : List Run) → AreSpaced rs → (i j : ℕ) (d : Run) → i ≤ j → j < length rs → (get_or rs i d).last ≤ (get_or rs j d).last
-lasts_rise [] h i j d le l = absurd (omega arith)
-lasts_rise (r ∷ rs) h zero zero d le l = omega arith
-lasts_rise (r ∷ rs) h zero (suc j) d le l = let more = last_above r.last rs j d h.1 (omega arith) in omega arith
-lasts_rise (r ∷ rs) h (suc i) zero d le l = absurd (omega arith)
-lasts_rise (r ∷ rs) h (suc i) (suc j) d le l = lasts_rise rs (spaced r.last rs h.1) i j d (omega arith) (omega arith)
-
-pub parted : (rs : List Run) (i : ℕ) → AreSpaced rs → IsPartitionedBy (λ (r : Run). nat_lt r.last i) rs
-parted rs i h j k d le l e = let rise = lasts_rise rs h j k d le l in grind (arith, nat_tests)
-
-pub counted : (rs : List Run) (i k : ℕ) → k ≤ length rs → IsPartitionPoint (λ (r : Run). nat_lt r.last i ≡ true) (λ (r : Run). nat_lt r.last i ≡ false) rs k →
-    k ≡ count_before rs i
-counted [] i zero le h = refl
-counted [] i (suc k) le h = absurd (omega arith)
-counted (r ∷ rs) i zero le h = let high : nat_lt r.last i ≡ false = h.1 0 r (omega arith) (omega arith) in rw high refl
-counted (r ∷ rs) i (suc k) le h =
-    let low : nat_lt r.last i ≡ true = h.0 0 r (omega arith) (omega arith) in
-    let more = counted rs i k (omega arith) (λ j d l u. h.0 (suc j) d (omega arith) (omega arith), λ j d l u. h.1 (suc j) d (omega arith) (omega arith)) in
-    rw low (ap suc more)
-
--- the index is in the run at its place, or in none
-pub in_place : (c : ℕ) (rs : List Run) (i k : ℕ) (r : Run) → AreRuns c rs → k ≡ count_before rs i → k < length rs → r ≡ get_or rs k r → in_runs rs i ≡ nat_le r.first i
-in_place c [] i k r h count l at = absurd (omega arith)
-in_place c (x ∷ xs) i k r h count l at = go (λ j e m a. in_place x.last xs i j r h.2 e m a) (cases_Bool (nat_lt x.last i)) k count l at
-  where
-    beyond : (d : ℕ) (ys : List Run) → AreRuns d ys → i ≤ suc d → in_runs ys i ≡ false
-    beyond d [] g le = refl
-    beyond d (y ∷ ys) g le = let more = beyond y.last ys g.2 (omega (arith, g.0, g.1)) in let first = g.0 in grind (arith, nat_tests, common_steps)
-
-    go : ((j : ℕ) → j ≡ count_before xs i → j < length xs → r ≡ get_or xs j r → in_runs xs i ≡ nat_le r.first i) →
-        (nat_lt x.last i ≡ true) ⊎ (nat_lt x.last i ≡ false) → (k : ℕ) → k ≡ count_before (x ∷ xs) i → k < suc (length xs) → r ≡ get_or (x ∷ xs) k r →
-        in_runs (x ∷ xs) i ≡ nat_le r.first i
-    go rest (inl p) zero count' l' at' = absurd (let one : count_before (x ∷ xs) i ≡ suc (count_before xs i) = rw p refl in omega arith)
-    go rest (inl p) (suc j) count' l' at' =
-        let one : count_before (x ∷ xs) i ≡ suc (count_before xs i) = rw p refl in
-        let more = rest j (omega arith) (omega arith) at' in
-        grind (arith, nat_tests, common_steps)
-    go rest (inr p) zero count' l' at' =
-        let none = beyond x.last xs h.2 (grind (arith, nat_tests)) in
-        let first : r.first ≡ x.first = ap (λ (y : Run). y.first) at' in
-        grind (arith, nat_tests, common_steps)
-    go rest (inr p) (suc j) count' l' at' = absurd (let one : count_before (x ∷ xs) i ≡ 0 = rw p refl in omega arith)
-
-pub past_all : (rs : List Run) (i : ℕ) → length rs ≤ count_before rs i → in_runs rs i ≡ false
-past_all [] i le = refl
-past_all (r ∷ rs) i le = go (past_all rs i) (cases_Bool (nat_lt r.last i))
-  where
-    go : (length rs ≤ count_before rs i → in_runs rs i ≡ false) → (nat_lt r.last i ≡ true) ⊎ (nat_lt r.last i ≡ false) → in_runs (r ∷ rs) i ≡ false
-    go rest (inl p) =
-        let one : count_before (r ∷ rs) i ≡ suc (count_before rs i) = rw p refl in
-        let more = rest (omega arith) in
-        grind (arith, nat_tests, common_steps)
-    go rest (inr p) = absurd (let one : count_before (r ∷ rs) i ≡ 0 = rw p refl in omega arith)
-
--- ---- one index more, as the code writes it
-
--- the run before the place ends right before the index
-pub split_extended : (xs : List Run) (j i : ℕ) (r : Run) → AreSpaced xs → suc j ≡ count_before xs i → j < length xs → r ≡ get_or xs j r → (i - r.last == 1) ≡ true →
-    take j xs ++ extended (drop j xs) i ≡ with_index xs i
-split_extended [] j i r h count l at touch = absurd (omega arith)
-split_extended (x ∷ xs) j i r h count l at touch = go (λ k e m a. split_extended xs k i r (spaced x.last xs h.1) e m a touch) (cases_Bool (nat_lt x.last i)) j count l at
-  where
-    go : ((k : ℕ) → suc k ≡ count_before xs i → k < length xs → r ≡ get_or xs k r → take k xs ++ extended (drop k xs) i ≡ with_index xs i) → (nat_lt x.last i ≡ true) ⊎ (nat_lt x.last i ≡ false) → (j : ℕ) → suc j ≡ count_before (x ∷ xs) i → j < suc (length xs) → r ≡ get_or (x ∷ xs) j r →
-        take j (x ∷ xs) ++ extended (drop j (x ∷ xs)) i ≡ with_index (x ∷ xs) i
-    go rest (inr p) j' count' l' at' = absurd (let one : count_before (x ∷ xs) i ≡ 0 = rw p refl in omega arith)
-    go rest (inl p) zero count' l' at' =
-        let t : (i - x.last == 1) ≡ true = subst (λ (y : Run). (i - y.last == 1) ≡ true) at' touch in
-        rw (p, t) refl
-    go rest (inl p) (suc k) count' l' at' =
-        let one : count_before (x ∷ xs) i ≡ suc (count_before xs i) = rw p refl in
-        let more = rest k (omega arith) (omega arith) at' in
-        let high = last_above x.last xs k r h.1 (omega arith) in
-        let last : r.last ≡ (get_or xs k r).last = ap (λ (y : Run). y.last) at' in
-        let t : (i - x.last == 1) ≡ false = grind (arith, nat_tests) in
-        rw (p, t) (ap (λ (ys : List Run). x ∷ ys) more)
-
--- no run ends right before the index
-pub split_front : (xs : List Run) (k i : ℕ) → AreSpaced xs → k ≡ count_before xs i → ((j : ℕ) (r : Run) → k ≡ suc j → j < length xs → r ≡ get_or xs j r → (i - r.last == 1) ≡ false) →
-    take k xs ++ with_front (drop k xs) i ≡ with_index xs i
-split_front [] zero i h count apart = refl
-split_front [] (suc k) i h count apart = absurd (omega arith)
-split_front (x ∷ xs) k i h count apart = go (λ j e other. split_front xs j i (spaced x.last xs h.1) e other) (cases_Bool (nat_lt x.last i)) k count apart
-  where
-    far : (j : ℕ) (ys : List Run) → suc j ≡ count_before ys i → AreRuns x.last ys → (i - x.last == 1) ≡ false
-    far j [] e g = absurd (omega arith)
-    far j (y ∷ ys) e g = low (cases_Bool (nat_lt y.last i))
-      where
-        low : (nat_lt y.last i ≡ true) ⊎ (nat_lt y.last i ≡ false) → (i - x.last == 1) ≡ false
-        low (inl q) = let a = g.0 in let b = g.1 in grind (arith, nat_tests)
-        low (inr q) = absurd (let none : count_before (y ∷ ys) i ≡ 0 = rw q refl in omega arith)
-
-    touch : (j : ℕ) → j ≡ count_before xs i → ((m : ℕ) (r : Run) → suc j ≡ suc m → m < suc (length xs) → r ≡ get_or (x ∷ xs) m r → (i - r.last == 1) ≡ false) → (i - x.last == 1) ≡ false
-    touch zero e other = other 0 x refl (omega arith) refl
-    touch (suc m) e other = far m xs e h.1
-
-    go : ((j : ℕ) → j ≡ count_before xs i → ((m : ℕ) (r : Run) → j ≡ suc m → m < length xs → r ≡ get_or xs m r → (i - r.last == 1) ≡ false) → take j xs ++ with_front (drop j xs) i ≡ with_index xs i) →
-        (nat_lt x.last i ≡ true) ⊎ (nat_lt x.last i ≡ false) → (k : ℕ) → k ≡ count_before (x ∷ xs) i →
-        ((j : ℕ) (r : Run) → k ≡ suc j → j < suc (length xs) → r ≡ get_or (x ∷ xs) j r → (i - r.last == 1) ≡ false) → take k (x ∷ xs) ++ with_front (drop k (x ∷ xs)) i ≡ with_index (x ∷ xs) i
-    go rest (inr p) zero count' other = rw p refl
-    go rest (inr p) (suc j) count' other = absurd (let one : count_before (x ∷ xs) i ≡ 0 = rw p refl in omega arith)
-    go rest (inl p) zero count' other = absurd (let one : count_before (x ∷ xs) i ≡ suc (count_before xs i) = rw p refl in omega arith)
-    go rest (inl p) (suc j) count' other =
-        let one : count_before (x ∷ xs) i ≡ suc (count_before xs i) = rw p refl in
-        let t = touch j (omega arith) other in
-        let more = rest j (omega arith) (λ m r e l at. other (suc m) r (omega arith) (omega arith) at) in
-        rw (p, t) (ap (λ (ys : List Run). x ∷ ys) more)
+pub split : {A : Type 0} (xs : List A) (k : ℕ) → take k xs ++ drop k xs ≡ xs
+split xs zero = refl
+split [] (suc k) = refl
+split (x ∷ xs) (suc k) = ap (λ zs. x ∷ zs) (split xs k)
 
 pub head_is : (xs : List Run) (k : ℕ) (r : Run) → k < length xs → r ≡ get_or xs k r → drop k xs ≡ r ∷ drop (suc k) xs
 head_is [] k r l e = absurd (omega arith)
 head_is (x ∷ xs) zero r l e = ap (λ (y : Run). y ∷ xs) (sym e)
 head_is (x ∷ xs) (suc k) r l e = head_is xs k r (omega arith) e
 
-pub sets_front : (xs : List Run) (k i : ℕ) (r : Run) → k < length xs → r ≡ get_or xs k r → (r.first - i == 1) ≡ true →
-    set xs k (record { first = i; last = r.last }) ≡ take k xs ++ with_front (drop k xs) i
-sets_front xs k i r l at touch = set_split xs k (record { first = i; last = r.last }) l ∙ ap (λ (ys : List Run). take k xs ++ ys) (rw (head_is xs k r l at, touch) refl)
+-- the runs before a place, the one there, and those behind it
+pub split_at : (xs : List Run) (k : ℕ) (r : Run) → k < length xs → r ≡ get_or xs k r → take k xs ++ r ∷ drop (suc k) xs ≡ xs
+split_at xs k r l at = ap (λ (ys : List Run). take k xs ++ ys) (sym (head_is xs k r l at)) ∙ split xs k
 
-pub inserts_alone : (xs : List Run) (k i : ℕ) → ((r : Run) → k < length xs → r ≡ get_or xs k r → (r.first - i == 1) ≡ false) →
-    insert xs k (record { first = i; last = i }) ≡ take k xs ++ with_front (drop k xs) i
-inserts_alone xs k i apart = ap (λ (ys : List Run). take k xs ++ ys) (same (cases_lt k (length xs)))
+pub has_at : (xs : List Run) (k : ℕ) (d : Run) → k < length xs → Has xs (get_or xs k d)
+has_at [] k d l = absurd (omega arith)
+has_at (x ∷ xs) zero d l = inl refl
+has_at (x ∷ xs) (suc k) d l = inr (has_at xs k d (omega arith))
+
+pub spaced_tail : (x : Run) (xs : List Run) → AreSpaced (x ∷ xs) → AreSpaced xs
+spaced_tail x xs h = record { some = λ r there. h.some r (inr there); apart = h.apart.1 }
+
+-- a test that passes on to earlier runs has a place
+parted : (test : Run → Bool) → ((low high : Run) → IsApart low high → low.first ≤ low.last → high.first ≤ high.last → test high ≡ true → test low ≡ true) →
+    (rs : List Run) → AreSpaced rs → IsPartitionedBy test rs
+parted test down [] h j k d le l e = absurd (omega arith)
+parted test down (r ∷ rs) h zero zero d le l e = e
+parted test down (r ∷ rs) h zero (suc k) d le l e =
+    let there = has_at rs k d (omega arith) in
+    down r (get_or rs k d) (h.apart.0 (get_or rs k d) there) (h.some r (inl refl)) (h.some (get_or rs k d) (inr there)) e
+parted test down (r ∷ rs) h (suc j) zero d le l e = absurd (omega arith)
+parted test down (r ∷ rs) h (suc j) (suc k) d le l e = parted test down rs (spaced_tail r rs h) j k d (omega arith) (omega arith) e
+
+pub ends_parted : (b : ℕ) (rs : List Run) → AreSpaced rs → IsPartitionedBy (λ (r : Run). nat_lt r.last b) rs
+ends_parted b = parted (λ (r : Run). nat_lt r.last b) (λ low high apart some also e. grind (arith, apart, also, e, nat_tests))
+
+pub by_parted : (i : ℕ) (rs : List Run) → AreSpaced rs → IsPartitionedBy (begins_by i) rs
+by_parted i = parted (begins_by i) (λ low high apart some also e. grind (arith, apart, some, e, nat_tests))
+
+pub placed : (test : Run → Bool) (rs : List Run) (k : ℕ) → k ≤ length rs → IsPartitionPoint (λ (r : Run). test r ≡ true) (λ (r : Run). test r ≡ false) rs k → IsPlace test rs k
+placed test [] zero le point = record { front = λ r there. absurd there; back = λ r there. absurd there }
+placed test [] (suc k) le point = absurd (omega arith)
+placed test (x ∷ xs) zero le point = record {
+  front = λ r there. absurd there;
+  back = λ r there. elim there [
+    | inl is ↦ subst (λ (y : Run). test y ≡ false) is (point.1 0 x (omega arith) (omega arith))
+    | inr later ↦ (placed test xs zero (omega arith) (λ j d low high. absurd (omega arith), λ j d low high. point.1 (suc j) d (omega arith) (omega arith))).back r later
+  ];
+}
+placed test (x ∷ xs) (suc k) le point =
+    let rest = placed test xs k (omega arith) (λ j d low high. point.0 (suc j) d (omega arith) (omega arith), λ j d low high. point.1 (suc j) d (omega arith) (omega arith)) in
+    record {
+      front = λ r there. elim there [
+        | inl is ↦ subst (λ (y : Run). test y ≡ true) is (point.0 0 x (omega arith) (omega arith))
+        | inr later ↦ rest.front r later
+      ];
+      back = rest.back;
+    }
+
+-- a run that takes another's place, and the next one taken out
+removed_at : (xs : List Run) (k : ℕ) (m : Run) → suc k < length xs → remove (set xs k m) (suc k) ≡ take k xs ++ m ∷ drop (suc (suc k)) xs
+removed_at [] k m less = absurd (omega (arith, less))
+removed_at (x ∷ xs) zero m less = refl
+removed_at (x ∷ xs) (suc k) m less = ap (λ (ys : List Run). x ∷ ys) (removed_at xs k m (omega (arith, less)))
+
+pub removed_next : (xs : List Run) (k next : ℕ) (m : Run) → next ≡ suc k → suc k < length xs → remove (set xs k m) next ≡ take k xs ++ m ∷ drop (suc (suc k)) xs
+removed_next xs k next m is less = ap (remove (set xs k m)) is ∙ removed_at xs k m less
+
+-- one more run left out
+pub dropped_one : (xs : List Run) (k : ℕ) → drop 1 (drop k xs) ≡ drop (suc k) xs
+dropped_one xs zero = refl
+dropped_one [] (suc k) = refl
+dropped_one (x ∷ xs) (suc k) = dropped_one xs k
+
+-- ---- what runs hold
+
+pub in_none : (rs : List Run) (i : ℕ) → ((r : Run) → Has rs r → in_run r i ≡ false) → in_runs rs i ≡ false
+in_none [] i none = refl
+in_none (r ∷ rs) i none = let here = none r (inl refl) in rw here (in_none rs i (λ q there. none q (inr there)))
+
+pub in_parts : (front back : List Run) (j : ℕ) → in_runs (front ++ back) j ≡ (in_runs front j || in_runs back j)
+in_parts front back j = list_any-append (λ (r : Run). in_run r j) front back
+
+-- the index right after c is in none
+pub none_after : (c : ℕ) (rs : List Run) → AreRuns c rs → in_runs rs (suc c) ≡ false
+none_after c rs h = in_none rs (suc c) (λ r there. let above = h.above r there in grind (arith, above, nat_tests))
+
+-- a run is among those up to its place
+pub taken_before : (xs : List Run) (k u : ℕ) (r : Run) → k < length xs → k < u → r ≡ get_or xs k r → Has (take u xs) r
+taken_before [] k u r less low is = absurd (omega (arith, less))
+taken_before (x ∷ xs) k zero r less low is = absurd (omega (arith, low))
+taken_before (x ∷ xs) zero (suc u) r less low is = inl (sym is)
+taken_before (x ∷ xs) (suc k) (suc u) r less low is = inr (taken_before xs k u r (omega (arith, less)) (omega (arith, low)) is)
+
+pub taken : (xs : List Run) (k : ℕ) (r : Run) → k < length xs → r ≡ get_or xs k r → Has (take (suc k) xs) r
+taken xs k r less is = taken_before xs k (suc k) r less (omega arith) is
+
+-- an index is in the last run that begins by it, or in none
+pub held_at : (rs : List Run) (i k : ℕ) (r : Run) → AreSpaced rs → k < length rs → r ≡ get_or rs k r → IsPlace (begins_by i) rs (suc k) → in_runs rs i ≡ in_run r i
+held_at rs i k r h l at place = ap (λ (xs : List Run). in_runs xs i) (sym whole) ∙ in_parts (take k rs) (r ∷ drop (suc k) rs) i ∙ parts
   where
-    same : (k < length xs) ⊎ (length xs ≤ k) → record { first = i; last = i } ∷ drop k xs ≡ with_front (drop k xs) i
-    same (inl l) =
-        let r = get_or xs k (record { first = 0; last = 0 }) in
-        let at : r ≡ get_or xs k r = get_or_default xs k (record { first = 0; last = 0 }) r l in
-        rw (head_is xs k r l at, apart r l at) refl
-    same (inr l) = rw (drop_all k xs l) refl
+    whole : take k rs ++ r ∷ drop (suc k) rs ≡ rs
+    whole = split_at rs k r l at
 
--- the run at j ends at i now; the next one touches it, or doesn't
-pub extends_joined : (xs : List Run) (j i : ℕ) (r s : Run) → suc j < length xs → r ≡ get_or xs j r → s ≡ get_or xs (suc j) s → (s.first - i == 1) ≡ true →
-    extended (drop j xs) i ≡ record { first = r.first; last = s.last } ∷ drop (suc (suc j)) xs
-extends_joined xs j i r s l at next touch = rw (head_is xs j r (omega arith) at, head_is xs (suc j) s l next, touch) refl
+    order : AreInOrder IsApart (take k rs ++ r ∷ drop (suc k) rs)
+    order = subst (AreInOrder IsApart) (sym whole) h.apart
 
-pub extends_alone : (xs : List Run) (j i : ℕ) (r : Run) → j < length xs → r ≡ get_or xs j r → ((s : Run) → suc j < length xs → s ≡ get_or xs (suc j) s → (s.first - i == 1) ≡ false) →
-    set xs j (record { first = r.first; last = i }) ≡ take j xs ++ extended (drop j xs) i
-extends_alone xs j i r l at apart = set_split xs j (record { first = r.first; last = i }) l ∙ ap (λ (ys : List Run). take j xs ++ ys) (same (cases_lt (suc j) (length xs)))
-  where
-    same : (suc j < length xs) ⊎ (length xs ≤ suc j) → record { first = r.first; last = i } ∷ drop (suc j) xs ≡ extended (drop j xs) i
-    same (inl low) =
-        let s = get_or xs (suc j) r in
-        let next : s ≡ get_or xs (suc j) s = get_or_default xs (suc j) r s low in
-        rw (head_is xs j r l at, head_is xs (suc j) s low next, apart s low next) refl
-    same (inr high) = rw (head_is xs j r l at, drop_all (suc j) xs high) refl
+    begins : begins_by i r ≡ true
+    begins = place.front r (taken rs k r l at)
 
--- ---- the cumulative index moves over the first run
+    front : in_runs (take k rs) i ≡ false
+    front = in_none (take k rs) i (λ q there. let low = order_across IsApart (take k rs) (r ∷ drop (suc k) rs) order q r there (inl refl) in let b = begins in grind (arith, low, b, nat_tests))
 
-pub advance-spaced : (c : ℕ) (rs : List Run) → AreSpaced rs → first_touches rs c ≡ false → AreRuns c rs
-advance-spaced c [] h apart = tt
-advance-spaced c (r ∷ rs) h apart = (grind (arith, nat_tests), h.0, h.1)
+    back : in_runs (drop (suc k) rs) i ≡ false
+    back = in_none (drop (suc k) rs) i (λ q there. let late = place.back q there in grind (arith, late, nat_tests))
 
-pub advance-same : (c i : ℕ) (r : Run) (rs : List Run) → AreSpaced (r ∷ rs) → first_touches (r ∷ rs) c ≡ true →
-    is_reached (seen_of (max r.last c) rs) i ≡ is_reached (seen_of c (r ∷ rs)) i
-advance-same c i r rs h touch = let order = h.0 in grind (arith, nat_tests, common_steps)
+    parts : (in_runs (take k rs) i || (in_run r i || in_runs (drop (suc k) rs) i)) ≡ in_run r i
+    parts = let f = front in let b = back in rw (f, b) (right (in_run r i))
+      where
+        right : (b : Bool) → (b || false) ≡ b
+        right true = refl
+        right false = refl
 
--- ---- how many there are
-
-last-in : (r : Run) (rs : List Run) → r.first ≤ r.last → in_runs (r ∷ rs) r.last ≡ true
-last-in r rs h = grind (arith, nat_tests, common_steps)
-
-later-in : (r : Run) (rs : List Run) (n : ℕ) → AreWithin n (r ∷ rs) → AreWithin n rs
-later-in r rs n within i k = within i (grind (arith, nat_tests, common_steps))
-
-pub runs-few : (c n : ℕ) (rs : List Run) → AreRuns c rs → AreWithin n rs → c ≤ n → c + 2 * length rs ≤ n
-runs-few c n [] h within le = omega arith
-runs-few c n (r ∷ rs) h within le =
-    let more = runs-few r.last n rs h.2 (later-in r rs n within) (within r.last (last-in r rs h.1)) in
-    omega (arith, h.0, h.1)
-
-pub run-at : (c n : ℕ) (rs : List Run) (j : ℕ) (r : Run) → AreRuns c rs → AreWithin n rs → j < length rs → r ≡ get_or rs j r → (c < r.first) × (r.first ≤ r.last) × (r.last ≤ n)
-run-at c n [] j r h within l e = absurd (omega arith)
-run-at c n (x ∷ xs) zero r h within l e = rw e (omega (arith, h.0), h.1, within x.last (last-in x xs h.1))
-run-at c n (x ∷ xs) (suc j) r h within l e =
-    let more = run-at x.last n xs j r h.2 (later-in x xs n within) (omega arith) e in
-    (omega (arith, h.0, h.1, more.0), more.1, more.2)
+pub held_nowhere : (rs : List Run) (i : ℕ) → IsPlace (begins_by i) rs 0 → in_runs rs i ≡ false
+held_nowhere rs i place = in_none rs i (λ q there. let late = place.back q there in grind (arith, late, nat_tests))

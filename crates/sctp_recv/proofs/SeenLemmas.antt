@@ -1,141 +1,127 @@
--- The runs with one index more: they stay runs, and have that index beside the old ones.
-use Rattle.std.proofs.Common.{◌≡◌, ℕ, suc, ◌+◌, ◌-◌, ◌<◌, ◌≤◌, ◌⊎◌, Bool, true, false, ◌==◌, nat_lt, List, [], ◌∷◌, inl, inr, refl, sym, subst, arith}
-use Rattle.std.specs.Prelude.{◌||◌, Result, Ok, Err, OnOk, OnErr}
+-- What is kept of the indexes stands for them still: one index more, and from an index on.
+use Rattle.std.proofs.Common.{◌≡◌, ℕ, suc, ◌+◌, ◌-◌, ◌<◌, ◌≤◌, ◌⊎◌, Bool, true, false, ◌==◌, nat_le, max, List, inl, inr, refl, sym, ◌∙◌, subst, arith}
+use Rattle.std.specs.Prelude.{◌||◌, if◌then◌else◌, Result, Ok, Err, OnOk, OnErr}
 use Rattle.std.proofs.lemmas.Bool.{cases_Bool, cases_lt, or_parts, leb-false}
 use Rattle.std.proofs.lemmas.Bool.Decides.{nat_tests}
 use Rattle.std.proofs.lemmas.Grind.{common_steps}
-use Rattle.sctp_recv.specs.declared.runs.Run.{Run}
-use Rattle.sctp_recv.specs.Runs.{in_run, in_runs, AreRuns, extended, with_front, with_index}
-use Rattle.sctp_recv.specs.SeenKept.{seen_of, is_reached, IsKept}
-use Rattle.sctp_recv.specs.SeenStands.{SeenStands, Records}
 use Rattle.sctp_model.specs.Limits.{WINDOW}
+use Rattle.sctp_model.specs.Lists.{at}
+use Rattle.sctp_recv.specs.declared.runs.Run.{Run}
+use Rattle.sctp_recv.specs.Runs.{in_runs, HaveMore, Gain}
+use Rattle.sctp_recv.specs.SeenKept.{SeenKept, seen_of, is_reached, IsKept, IsAdvanced}
+use Rattle.sctp_recv.specs.SeenStands.{SeenStands, Records, Jumps}
 
--- ---- they stay runs
+-- ---- one index more in the runs
 
-extended-runs : (c i : ℕ) (r : Run) (rs : List Run) → AreRuns c (r ∷ rs) → suc r.last ≡ i → in_runs rs i ≡ false → AreRuns c (extended (r ∷ rs) i)
-extended-runs c i r [] h touch out = (h.0, omega (arith, h.1), tt)
-extended-runs c i r (s ∷ ss) h touch out = go (cases_Bool (s.first - i == 1))
+-- a new index that isn't right above the cumulative one lies apart from it, in no run
+new_apart : (c i : ℕ) (rs : List Run) → is_reached (seen_of c rs) i ≡ false → (i - c ≡ 1 → ⊥) → (suc c < i) × (in_runs rs i ≡ false)
+new_apart c i rs new far =
+    let parts = or_parts (nat_le i c) (in_runs rs i) new in
+    let above = leb-false i c parts.0 in
+    (elim (cases_lt (suc c) i) [ inl past ↦ past | inr upto ↦ absurd (far (omega (arith, above, upto))) ], parts.1)
+
+pub kept_gained : (c i : ℕ) (old new : List Run) → IsKept c old → is_reached (seen_of c old) i ≡ false → (i - c ≡ 1 → ⊥) → i ≤ c + WINDOW → Gain i old new → IsKept c new
+kept_gained c i old new k fresh far near gain = record { runs = more.runs; within = within }
   where
-    go : (s.first - i == 1 ≡ true) ⊎ (s.first - i == 1 ≡ false) → AreRuns c (extended (r ∷ s ∷ ss) i)
-    go (inl e) = rw e (h.0, omega (arith, h.1, h.2.0, h.2.1), h.2.2)
-    go (inr e) = let a = h.2.0 in let b = h.2.1 in rw e (h.0, omega (arith, h.1), (grind (arith, nat_tests), h.2.1, h.2.2))
+    apart : (suc c < i) × (in_runs old i ≡ false)
+    apart = new_apart c i old fresh far
 
-front-runs : (c i : ℕ) (r : Run) (rs : List Run) → AreRuns c (r ∷ rs) → suc c < i → in_runs (r ∷ rs) i ≡ false → nat_lt r.last i ≡ false → AreRuns c (with_front (r ∷ rs) i)
-front-runs c i r rs h high out low = go (cases_Bool (r.first - i == 1))
-  where
-    order : r.first ≤ r.last
-    order = h.1
+    more : HaveMore c i old new
+    more = gain c k.runs apart.0 apart.1
 
-    go : (r.first - i == 1 ≡ true) ⊎ (r.first - i == 1 ≡ false) → AreRuns c (with_front (r ∷ rs) i)
-    go (inl b) = let o = order in rw b (high, grind (arith, nat_tests, common_steps), h.2)
-    go (inr b) = let o = order in rw b (high, omega arith, (grind (arith, nat_tests, common_steps), h.1, h.2))
+    within : (j : ℕ) → in_runs new j ≡ true → j ≤ c + WINDOW
+    within j there = elim (cases_Bool (in_runs old j)) [
+      | inl before ↦ k.within j before
+      | inr other ↦ let both = more.holds j in let same : j ≡ i = grind (arith, both, there, other, nat_tests, common_steps) in omega (arith, same, near)
+    ]
 
-pub with_index-runs : (c i : ℕ) (rs : List Run) → AreRuns c rs → suc c < i → in_runs rs i ≡ false → AreRuns c (with_index rs i)
-with_index-runs c i [] h high out = (high, omega arith, tt)
-with_index-runs c i (r ∷ rs) h high out = go (with_index-runs r.last i rs h.2) (cases_Bool (nat_lt r.last i)) (cases_Bool (i - r.last == 1))
-  where
-    rest : in_runs rs i ≡ false
-    rest = grind (arith, nat_tests, common_steps)
-
-    go : (suc r.last < i → in_runs rs i ≡ false → AreRuns r.last (with_index rs i)) → (nat_lt r.last i ≡ true) ⊎ (nat_lt r.last i ≡ false) → (i - r.last == 1 ≡ true) ⊎ (i - r.last == 1 ≡ false) →
-        AreRuns c (with_index (r ∷ rs) i)
-    go more (inl a) (inl b) = let touch : suc r.last ≡ i = grind (arith, nat_tests) in rw (a, b) (extended-runs c i r rs h touch rest)
-    go more (inl a) (inr b) = let past : suc r.last < i = grind (arith, nat_tests) in rw (a, b) (h.0, h.1, more past rest)
-    go more (inr a) b = rw a (front-runs c i r rs h high out a)
-
--- ---- and have that index
-
-extended-in : (c i j : ℕ) (r : Run) (rs : List Run) → AreRuns c (r ∷ rs) → suc r.last ≡ i → in_runs (extended (r ∷ rs) i) j ≡ (in_runs (r ∷ rs) j || (j == i))
-extended-in c i j r [] h touch = let a = h.1 in grind (arith, nat_tests, common_steps)
-extended-in c i j r (s ∷ ss) h touch = go (cases_Bool (s.first - i == 1))
-  where
-    go : (s.first - i == 1 ≡ true) ⊎ (s.first - i == 1 ≡ false) → in_runs (extended (r ∷ s ∷ ss) i) j ≡ (in_runs (r ∷ s ∷ ss) j || (j == i))
-    go (inl e) = let a = h.1 in let b = h.2.0 in let d = h.2.1 in rw e (grind (arith, nat_tests, common_steps))
-    go (inr e) = let a = h.1 in let b = h.2.0 in let d = h.2.1 in rw e (grind (arith, nat_tests, common_steps))
-
-front-in : (i j : ℕ) (r : Run) (rs : List Run) → r.first ≤ r.last → in_runs (r ∷ rs) i ≡ false → nat_lt r.last i ≡ false → in_runs (with_front (r ∷ rs) i) j ≡ (in_runs (r ∷ rs) j || (j == i))
-front-in i j r rs h out low = go (cases_Bool (r.first - i == 1))
-  where
-    go : (r.first - i == 1 ≡ true) ⊎ (r.first - i == 1 ≡ false) → in_runs (with_front (r ∷ rs) i) j ≡ (in_runs (r ∷ rs) j || (j == i))
-    go (inl b) = rw b (grind (arith, nat_tests, common_steps))
-    go (inr b) = rw b (grind (arith, nat_tests, common_steps))
-
-or-assoc : (a b c : Bool) → (a || (b || c)) ≡ ((a || b) || c)
-or-assoc true b c = refl
-or-assoc false b c = refl
-
-pub with_index-in : (c i j : ℕ) (rs : List Run) → AreRuns c rs → in_runs rs i ≡ false → in_runs (with_index rs i) j ≡ (in_runs rs j || (j == i))
-with_index-in c i j [] h out = grind (arith, nat_tests, common_steps)
-with_index-in c i j (r ∷ rs) h out = go (with_index-in r.last i j rs h.2) (cases_Bool (nat_lt r.last i)) (cases_Bool (i - r.last == 1))
-  where
-    rest : in_runs rs i ≡ false
-    rest = grind (arith, nat_tests, common_steps)
-
-    go : (in_runs rs i ≡ false → in_runs (with_index rs i) j ≡ (in_runs rs j || (j == i))) → (nat_lt r.last i ≡ true) ⊎ (nat_lt r.last i ≡ false) → (i - r.last == 1 ≡ true) ⊎ (i - r.last == 1 ≡ false) →
-        in_runs (with_index (r ∷ rs) i) j ≡ (in_runs (r ∷ rs) j || (j == i))
-    go more (inl a) (inl b) = let touch : suc r.last ≡ i = grind (arith, nat_tests) in rw (a, b) (extended-in c i j r rs h touch)
-    go more (inl a) (inr b) = rw (a, b, more rest) (or-assoc (in_run r j) (in_runs rs j) (j == i))
-    go more (inr a) b = rw a (front-in i j r rs h.1 out a)
-
--- ---- what is kept
-
-pub kept-more : (c i : ℕ) (rs : List Run) → IsKept c rs → is_reached (seen_of c rs) i ≡ false → (i - c ≡ 1 → ⊥) → i ≤ c + WINDOW → IsKept c (with_index rs i)
-kept-more c i rs k new other near =
-    let p = or_parts _ _ new in
-    let high = leb-false i c p.0 in
-    record {
-      runs = with_index-runs c i rs k.runs (omega arith) p.1;
-      within = λ j e. elim (cases_Bool (in_runs rs j)) [
-        | inl old ↦ k.within j old
-        | inr old ↦
-            let both = with_index-in c i j rs k.runs p.1 in
-            let same : j ≡ i = grind (arith, nat_tests, common_steps) in
-            omega arith
-      ];
-    }
-
-pub stands-inserted : (c i : ℕ) (rs : List Run) → AreRuns c rs → is_reached (seen_of c rs) i ≡ false → (i - c ≡ 1 → ⊥) → Records (seen_of c rs) (seen_of c (with_index rs i)) i
-stands-inserted c i rs h new other seen jump s =
-    let p = or_parts _ _ new in
-    let high = leb-false i c p.0 in
-    record {
-      runs = with_index-runs c i rs h (omega arith) p.1;
-      below = λ j some low. elim (s.below j some low) [
-        | inl came ↦ let apart : (j == i) ≡ false = grind (arith, nat_tests) in inl (rw apart came)
-        | inr under ↦ inr under
-      ];
-      above = λ j over.
-          let both = with_index-in c i j rs h p.1 in
-          let old = s.above j over in
-          grind (arith, nat_tests, common_steps);
-      jumped = s.jumped;
-    }
-
--- all up to p is reached now, and above it nothing changed
-pub stands-moved : (c p d : ℕ) (rs ss : List Run) (seen new : ℕ → Bool) (jump now : ℕ) → SeenStands (seen_of c rs) seen jump → c ≤ p → p ≤ d → AreRuns d ss →
-    ((i : ℕ) → is_reached (seen_of d ss) i ≡ is_reached (seen_of p rs) i) → ((i : ℕ) → 0 < i → i ≤ p → (new i ≡ true) ⊎ (i ≤ now)) → ((i : ℕ) → p < i → new i ≡ seen i) → now ≤ p →
-    SeenStands (seen_of d ss) new now
-stands-moved c p d rs ss seen new jump now s le more runs same low high top = record {
-  runs = runs;
-  below = λ i some under. elim (cases_lt p i) [
-    | inl over ↦
-        let old = s.above i (omega arith) in
-        let reached = same i in
-        let is = high i over in
-        inl (grind (arith, nat_tests, common_steps))
-    | inr under' ↦ low i some under'
+pub records_gained : (c i : ℕ) (old new : List Run) → is_reached (seen_of c old) i ≡ false → (i - c ≡ 1 → ⊥) → Gain i old new → Records (seen_of c old) (seen_of c new) i
+records_gained c i old new fresh far gain seen jump s = record {
+  runs = more.runs;
+  below = λ j some low. elim (s.below j some low) [
+    | inl came ↦ let other : (j == i) ≡ false = let past = apart.0 in grind (arith, past, low, nat_tests) in inl (rw other came)
+    | inr passed ↦ inr passed
   ];
-  above = λ i over.
-      let old = s.above i (omega arith) in
-      let reached = same i in
-      let is = high i (omega arith) in
-      grind (arith, nat_tests, common_steps);
-  jumped = omega arith;
+  above = λ j high. let both = more.holds j in let was = s.above j high in recorded (seen j) (j == i) (in_runs old j) was ∙ sym both;
+  jumped = s.jumped;
+}
+  where
+    apart : (suc c < i) × (in_runs old i ≡ false)
+    apart = new_apart c i old fresh far
+
+    more : HaveMore c i old new
+    more = gain c s.runs apart.0 apart.1
+
+    recorded : (came here held : Bool) → came ≡ held → (if here then true else came) ≡ (held || here)
+    recorded came true true is = refl
+    recorded came true false is = refl
+    recorded came false true is = is
+    recorded came false false is = is
+
+-- ---- from an index on
+
+-- Where a view's indexes up to p were recorded or passed, and above p nothing changed, what was kept from p on stands for it.
+advanced_stands : (c p : ℕ) (rs : List Run) (k : SeenKept) (seen new : ℕ → Bool) (jump now : ℕ) → SeenStands (seen_of c rs) seen jump → IsAdvanced p rs k → c ≤ p →
+    ((i : ℕ) → 0 < i → i ≤ p → (new i ≡ true) ⊎ (i ≤ now)) → ((i : ℕ) → p < i → new i ≡ seen i) → now ≤ p → SeenStands k new now
+advanced_stands c p rs k seen new jump now s moved le low high top = record {
+  runs = moved.runs;
+  below = λ i some upto. elim (cases_lt p i) [
+    | inl over ↦ inl (high i over ∙ s.above i (omega (arith, le, over)) ∙ from_runs i over (let t : is_reached k i ≡ true = let y : nat_le i k.cumulative ≡ true = grind (arith, upto, nat_tests) in rw y refl in sym (moved.same i) ∙ t))
+    | inr under ↦ low i some under
+  ];
+  above = λ i past. high i (omega (arith, past, moved.past)) ∙ s.above i (omega (arith, past, moved.past, le)) ∙ sym (to_runs i past);
+  jumped = let past = moved.past in omega (arith, top, past);
+}
+  where
+    from_runs : (i : ℕ) → p < i → (nat_le i p || in_runs rs i) ≡ true → in_runs rs i ≡ true
+    from_runs i over reached = let no : nat_le i p ≡ false = grind (arith, over, nat_tests) in rw no at reached
+
+    to_runs : (i : ℕ) → k.cumulative < i → in_runs k.runs i ≡ in_runs rs i
+    to_runs i past =
+        let own : nat_le i k.cumulative ≡ false = grind (arith, past, nat_tests) in
+        let no : nat_le i p ≡ false = let q = moved.past in grind (arith, past, q, nat_tests) in
+        let same = moved.same i in
+        rw (own, no) at same
+
+-- the index right above the cumulative one was recorded
+pub records_next : (c i : ℕ) (rs : List Run) (k : SeenKept) → i - c ≡ 1 → IsAdvanced i rs k → Records (seen_of c rs) k i
+records_next c i rs k next moved seen jump s = advanced_stands c i rs k seen (at seen i true) jump jump s moved (omega (arith, next)) low high (let j = s.jumped in omega (arith, j, next))
+  where
+    low : (j : ℕ) → 0 < j → j ≤ i → (at seen i true j ≡ true) ⊎ (j ≤ jump)
+    low j some upto = elim (cases_Bool (j == i)) [
+      | inl here ↦ inl (rw here refl)
+      | inr other ↦ elim (s.below j some (grind (arith, upto, other, next, nat_tests))) [ inl came ↦ inl (rw other came) | inr passed ↦ inr passed ]
+    ]
+
+    high : (j : ℕ) → i < j → at seen i true j ≡ seen j
+    high j past = let other : (j == i) ≡ false = grind (arith, past, nat_tests) in rw other refl
+
+-- a FORWARD up to an index was taken
+pub jumps_to : (c i : ℕ) (rs : List Run) (k : SeenKept) → c ≤ i → IsAdvanced i rs k → Jumps (seen_of c rs) k i
+jumps_to c i rs k le moved seen jump s = advanced_stands c i rs k seen seen jump (max jump i) s moved le (λ j some upto. inr (omega (arith, upto))) (λ j past. refl) (let j = s.jumped in omega (arith, j, le))
+
+-- a run that isn't past the window stays so where runs are dropped
+pub kept_advanced : (c i : ℕ) (rs : List Run) (k : SeenKept) → IsKept c rs → c ≤ i → IsAdvanced i rs k → IsKept k.cumulative k.runs
+kept_advanced c i rs k old le moved = record {
+  runs = moved.runs;
+  within = λ j there. elim (cases_lt k.cumulative j) [
+    | inr upto ↦ omega (arith, upto)
+    | inl past ↦
+        let own : nat_le j k.cumulative ≡ false = grind (arith, past, nat_tests) in
+        let no : nat_le j i ≡ false = let q = moved.past in grind (arith, past, q, nat_tests) in
+        let same = moved.same j in
+        let held : in_runs k.runs j ≡ in_runs rs j = rw (own, no) at same in
+        let top = old.within j (sym held ∙ there) in
+        let q = moved.past in
+        omega (arith, top, q, le)
+  ];
 }
 
-pub either_way : {A E B : Type 0} (r : Result A E) (P : B → Type 0) (a b new : B) → OnOk r (new ≡ a) → OnErr r (new ≡ b) → P a → P b → P new
-either_way (Ok x) P a b new ok err p q = subst P (sym ok) p
-either_way (Err x) P a b new ok err p q = subst P (sym err) q
+-- ---- of a result
+
+pub either_way : {A E B : Type 0} (r : Result A E) (P : B → Type 0) (old new : B) → OnOk r (P new) → OnErr r (new ≡ old) → P old → P new
+either_way (Ok x) P old new done refused before = done
+either_way (Err x) P old new done refused before = subst P (sym refused) before
 
 pub on_ok : {A E : Type 0} (r : Result A E) (P Q : Type 0) → (P → Q) → OnOk r P → OnOk r Q
 on_ok (Ok x) P Q f p = f p

@@ -1,48 +1,57 @@
--- Lists of runs, each with its first and its last index.
-use Rattle.std.specs.Prelude.{ℕ, suc, ◌-◌, ◌<◌, ◌≤◌, Bool, false, ◌&&◌, ◌||◌, nat_lt, nat_le, ◌==◌, if◌then◌else◌, List, [], ◌∷◌}
+-- Runs of indexes, each told by its first and its last.
+use Rattle.std.specs.Prelude.{◌≡◌, ℕ, suc, ◌-◌, ◌<◌, ◌≤◌, Bool, true, false, ◌&&◌, ◌||◌, nat_lt, nat_le, ◌==◌, List, take, drop}
+use Rattle.std.specs.List.{list_any}
+use Rattle.sctp_model.specs.Lists.{Has, AreInOrder}
 use Rattle.sctp_recv.specs.declared.runs.Run.{Run}
 
+-- ---- what runs hold
+
+-- the run has the index
 abbrev pub in_run : Run → ℕ → Bool
 in_run r i = nat_le r.first i && nat_le i r.last
 
+-- one of the runs has it
 abbrev pub in_runs : List Run → ℕ → Bool
-in_runs [] i = false
-in_runs (r ∷ rs) i = in_run r i || in_runs rs i
+in_runs rs i = list_any (λ (r : Run). in_run r i) rs
 
--- No run is empty, and an index is missing between two, and between c and the first.
-abbrev pub AreRuns : ℕ → List Run → Type 0
-AreRuns c [] = Unit {0}
-AreRuns c (r ∷ rs) = (suc c < r.first) × (r.first ≤ r.last) × AreRuns r.last rs
+-- ---- runs that neither touch nor overlap
 
--- the same, wherever the first begins
-abbrev pub AreSpaced : List Run → Type 0
-AreSpaced [] = Unit {0}
-AreSpaced (r ∷ rs) = (r.first ≤ r.last) × AreRuns r.last rs
+-- an index lies between the end of the one and the beginning of the other
+abbrev pub IsApart : Run → Run → Type 0
+IsApart low high = suc low.last < high.first
 
--- how many runs end before an index
-abbrev pub count_before : List Run → ℕ → ℕ
-count_before [] i = 0
-count_before (r ∷ rs) i = if nat_lt r.last i then suc (count_before rs i) else 0
+-- Every run has an index, and each lies apart from those behind it.
+pub record AreSpaced (rs : List Run) : Type 0 where
+  pub some : (r : Run) → Has rs r → r.first ≤ r.last
+  pub apart : AreInOrder IsApart rs
 
--- the first run ends at the index now, or where the next one does if they then touch
-abbrev pub extended : List Run → ℕ → List Run
-extended [] i = []
-extended (r ∷ []) i = record { first = r.first; last = i } ∷ []
-extended (r ∷ s ∷ ss) i = if s.first - i == 1 then record { first = r.first; last = s.last } ∷ ss else record { first = r.first; last = i } ∷ s ∷ ss
+-- Every run lies apart from c, too.
+pub record AreRuns (c : ℕ) (rs : List Run) : Type 0 where
+  pub spaced : AreSpaced rs
+  pub above : (r : Run) → Has rs r → suc c < r.first
 
--- the index before a run, joined with it where they touch
-abbrev pub with_front : List Run → ℕ → List Run
-with_front [] i = record { first = i; last = i } ∷ []
-with_front (r ∷ rs) i = if r.first - i == 1 then record { first = i; last = r.last } ∷ rs else record { first = i; last = i } ∷ r ∷ rs
+-- ---- places
 
--- the runs with one more index
-abbrev pub with_index : List Run → ℕ → List Run
-with_index [] i = with_front [] i
-with_index (r ∷ rs) i =
-    if nat_lt r.last i then (if i - r.last == 1 then extended (r ∷ rs) i else r ∷ with_index rs i)
-    else with_front (r ∷ rs) i
+-- the run ends before the index, and doesn't touch it
+abbrev pub lies_below : ℕ → Run → Bool
+lies_below i r = nat_lt r.last (i - 1)
 
--- the first run begins at the index after this one, or before
-abbrev pub first_touches : List Run → ℕ → Bool
-first_touches [] c = false
-first_touches (r ∷ rs) c = nat_le (r.first - c) 1
+-- the run begins at the index right after this one at the latest
+abbrev pub begins_by : ℕ → Run → Bool
+begins_by i r = nat_le (r.first - 1) i
+
+-- So many runs at the front pass the test, and none behind them does.
+pub record IsPlace (test : Run → Bool) (rs : List Run) (k : ℕ) : Type 0 where
+  pub front : (r : Run) → Has (take k rs) r → test r ≡ true
+  pub back : (r : Run) → Has (drop k rs) r → test r ≡ false
+
+-- ---- one index more
+
+-- the runs above c have this index now, beside those that they had
+pub record HaveMore (c i : ℕ) (old new : List Run) : Type 0 where
+  pub runs : AreRuns c new
+  pub holds : (j : ℕ) → in_runs new j ≡ (in_runs old j || (j == i))
+
+-- they have it whatever c is, if only it lies apart from c and is new
+abbrev pub Gain : ℕ → List Run → List Run → Type 0
+Gain i old new = (c : ℕ) → AreRuns c old → suc c < i → in_runs old i ≡ false → HaveMore c i old new

@@ -1,26 +1,33 @@
--- What is kept of the indexes that came.
+-- The indexes that came, as they are kept.
 use Rattle.std.specs.Prelude.{◌≡◌, ℕ, ◌+◌, ◌≤◌, Bool, true, ◌||◌, nat_le, List}
+use Rattle.sctp_model.specs.Limits.{WINDOW}
 use Rattle.sctp_recv.specs.declared.runs.Run.{Run}
 use Rattle.sctp_recv.specs.Runs.{in_runs, AreRuns}
-use Rattle.sctp_model.specs.Limits.{WINDOW}
 
--- All indexes up to the cumulative one are reached, and above it those of the runs.
+-- The index up to which nothing is missing, and the runs above it.
 pub record SeenKept : Type 0 where
   pub cumulative : ℕ
   pub runs : List Run
 
-abbrev pub seen_of : ℕ → List Run → SeenKept
+-- the same by its two parts
+abbrev pub seen_of : (cumulative : ℕ) → List Run → SeenKept
 seen_of c rs = record { cumulative = c; runs = rs }
 
--- the index is at or below the cumulative one, or in a run
+-- nothing is missing up to the index, or a run has it
 abbrev pub is_reached : SeenKept → ℕ → Bool
 is_reached k i = nat_le i k.cumulative || in_runs k.runs i
 
--- each index of a run is at most this
-abbrev pub AreWithin : ℕ → List Run → Type 0
-AreWithin n rs = (i : ℕ) → in_runs rs i ≡ true → i ≤ n
+-- no run has an index past the bound
+abbrev pub AreWithin : (bound : ℕ) → List Run → Type 0
+AreWithin bound rs = (i : ℕ) → in_runs rs i ≡ true → i ≤ bound
 
--- Runs above the cumulative index that don't touch it, within the window.
+-- What always holds of it: the runs lie apart from the cumulative index and from each other, within the window (RFC 9260, 6.2).
 pub record IsKept (c : ℕ) (rs : List Run) : Type 0 where
   pub runs : AreRuns c rs
   pub within : AreWithin (c + WINDOW) rs
+
+-- From an index on, what it touches was passed: the same indexes are reached.
+pub record IsAdvanced (i : ℕ) (rs : List Run) (k : SeenKept) : Type 0 where
+  pub runs : AreRuns k.cumulative k.runs
+  pub past : i ≤ k.cumulative
+  pub same : (j : ℕ) → is_reached k j ≡ is_reached (seen_of i rs) j

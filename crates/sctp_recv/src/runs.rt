@@ -1,67 +1,83 @@
-//! Runs of indexes that neither touch nor overlap, in rising order. Nothing here knows of a cumulative index.
+//! Runs of indexes in rising order, with an index missing between any two. Nothing here knows of a cumulative index.
 
-ghost use Rattle.std.specs.Prelude.{◌≡◌, ◌<◌, ◌≤◌, ◌-◌, ◌==◌, ◌++◌, take, drop, false, length, nat_lt, OnOk, OnErr, IsOk};
+ghost use Rattle.std.specs.Prelude.{◌≡◌, ℕ, ◌<◌, ◌≤◌, ◌-◌, ◌&&◌, nat_lt, nat_le, length, OnOk, OnErr, IsOk};
 ghost use Rattle.std.specs.VecDeque.{deque_len, deque_capacity};
-ghost use Rattle.sctp_recv.specs.Runs.{AreSpaced, in_runs, count_before, extended, with_index};
+ghost use Rattle.sctp_recv.specs.Runs.{AreSpaced, in_run, lies_below, begins_by, IsPlace, Gain};
 
 use sctp_wire::NoMemory;
 use std::collections::VecDeque;
 
-/// A run: all indexes from the first to the last came.
+/// Indexes that came, from the first to the last.
 #[derive(Clone, Copy, Debug, PartialEq, Eq)]
 pub(crate) struct Run {
     pub(crate) first: u32,
     pub(crate) last: u32,
 }
 
-/// How many runs end before an index.
-pub(crate) fn place(runs: &VecDeque<Run>, index: u32) -> usize
+impl Run {
+    /// Whether the index is one of these.
+    pub(crate) fn has(self, index: u32) -> bool
+        ensures { result ≡ in_run self index }
+    {
+        self.first <= index && index <= self.last
+    }
+}
+
+/// How many runs lie below an index and don't touch it.
+fn below(runs: &VecDeque<Run>, index: u32) -> usize
     ensures bound { result ≤ length runs.now.items }
-    ensures place { AreSpaced runs.now.items → result ≡ count_before runs.now.items index }
+    ensures place { AreSpaced runs.now.items → IsPlace (lies_below index) runs.now.items result }
 {
+    let before = index.saturating_sub(1);
     runs.partition_point(
         |run: &Run| -> bool
-            ensures { result ≡ nat_lt run.now.last index }
-        { run.last < index },
+            ensures { result ≡ nat_lt run.now.last before }
+        { run.last < before },
     )
 }
 
-/// Lets the run at a place end at the index behind it, and joins it with the next run where they then touch.
-fn extend(runs: &mut VecDeque<Run>, place: usize, index: u32)
-    requires { place < length runs.old.items }
-    ensures { runs.new.items ≡ take place runs.old.items ++ extended (drop place runs.old.items) index }
+/// How many runs lie below an index, have it, or touch it.
+pub(crate) fn upto(runs: &VecDeque<Run>, index: u32) -> usize
+    ensures bound { result ≤ length runs.now.items }
+    ensures place { AreSpaced runs.now.items → IsPlace (begins_by index) runs.now.items result }
 {
-    let next = place + 1;
-    if next < runs.len() && runs[next].first.saturating_sub(index) == 1 {
-        runs[place].last = runs[next].last;
-        let _ = runs.remove(next);
-    } else {
-        runs[place].last = index;
-    }
+    runs.partition_point(
+        |run: &Run| -> bool
+            ensures { result ≡ nat_le (run.now.first - 1) index }
+        { run.first.saturating_sub(1) <= index },
+    )
 }
 
-/// Puts an index into the runs, one that is in none of them: it joins those that it touches, or is a run of its own.
+/// Puts a new index into the runs: one of its own, a run that grows by it, or two that become one.
 ///
 /// # Errors
 /// Memory ran out, and nothing changed.
-pub(crate) fn insert(runs: &mut VecDeque<Run>, at: usize, index: u32) -> Result<(), NoMemory>
-    requires { at ≤ length runs.old.items }
-    ensures inserted { OnOk result (AreSpaced runs.old.items → at ≡ count_before runs.old.items index
-        → runs.new.items ≡ with_index runs.old.items index) }
+pub(crate) fn insert(runs: &mut VecDeque<Run>, index: u32) -> Result<(), NoMemory>
+    ensures inserted { OnOk result (Gain index runs.old.items runs.new.items) }
     ensures refused { OnErr result (runs.new.items ≡ runs.old.items) }
     ensures memory { deque_len runs.old < deque_capacity runs.old → IsOk result }
 {
-    if at > 0 && index.saturating_sub(runs[at - 1].last) == 1 {
-        extend(runs, at - 1, index);
-        return Ok(());
+    let at = below(runs, index);
+    match upto(runs, index).saturating_sub(at) {
+        0 => {
+            let alone = Run {
+                first: index,
+                last: index,
+            };
+            return runs.insert(at, alone).map_err(|_| NoMemory);
+        }
+        1 => {
+            let run = runs[at];
+            runs[at] = Run {
+                first: run.first.min(index),
+                last: run.last.max(index),
+            };
+        }
+        _ => {
+            let end = runs[at + 1].last;
+            runs[at].last = end;
+            let _ = runs.remove(at + 1);
+        }
     }
-    if at < runs.len() && runs[at].first.saturating_sub(index) == 1 {
-        runs[at].first = index;
-        return Ok(());
-    }
-    let alone = Run {
-        first: index,
-        last: index,
-    };
-    runs.insert(at, alone).map_err(|_| NoMemory)
+    Ok(())
 }

@@ -1,15 +1,16 @@
-//! The indexes that came: all up to the cumulative one, and the runs above it. Nothing here knows of data.
+//! Which indexes came: none is missing up to the cumulative one, and above it there are runs. Nothing here knows of data.
 
 ghost use Rattle.std.specs.Prelude.{◌≡◌, ℕ, ◌+◌, ◌≤◌, ◌<◌, ◌%◌, [], true, false, OnOk, OnErr, IfOk, IsOk, take, map, length};
 ghost use Rattle.std.specs.VecDeque.{deque_len, deque_capacity};
 ghost use Rattle.sctp_wire.specs.Items.{blocks_in};
+ghost use Rattle.sctp_wire.specs.ChunkTree.{block_meaning};
 ghost use Rattle.sctp_recv.specs.Blocks.{block_of_run};
-ghost use Rattle.sctp_recv.specs.Runs.{AreRuns, AreSpaced, in_runs, first_touches};
-ghost use Rattle.sctp_recv.specs.SeenKept.{is_reached, seen_of, AreWithin};
+ghost use Rattle.sctp_recv.specs.Runs.{AreRuns, AreSpaced, in_runs};
+ghost use Rattle.sctp_recv.specs.SeenKept.{is_reached, seen_of, AreWithin, IsAdvanced};
 ghost use Rattle.sctp_recv.specs.SeenStands.{SeenStands, Records, Jumps};
 ghost use Rattle.sctp_model.specs.Limits.{WINDOW};
 
-use crate::runs::{Run, insert, place};
+use crate::runs::{Run, insert, upto};
 use sctp_wire::{GapBlock, NoMemory, put_block};
 use std::alloc::Global;
 use std::collections::VecDeque;
@@ -73,13 +74,9 @@ impl Seen {
         ensures blocks { OnOk result (blocks_in list.new.items ≡ map (block_of_run self.now.cumulative) (take 64 self.now.runs)) }
         ensures whole { length list.new.items % 4 ≡ 0 }
     {
-        for i in 0..self.runs.len().min(64) {
-            let run = self.runs[i];
-            let block = GapBlock {
-                start: (run.first - self.cumulative) as u16,
-                end: (run.last - self.cumulative) as u16,
-            };
-            put_block(block, list)?;
+        let told = self.runs.len().min(64);
+        for i in 0..told {
+            put_block(block_above(self.cumulative, self.runs[i]), list)?;
         }
         Ok(())
     }
@@ -91,8 +88,10 @@ impl Seen {
         if index <= self.cumulative {
             return true;
         }
-        let at = place(&self.runs, index);
-        at < self.runs.len() && self.runs[at].first <= index
+        match upto(&self.runs, index) {
+            0 => false,
+            some => self.runs[some - 1].has(index),
+        }
     }
 
     /// Makes room for one run more.
@@ -121,8 +120,7 @@ impl Seen {
             advance(&mut self.cumulative, &mut self.runs, index);
             return Ok(());
         }
-        let at = place(&self.runs, index);
-        insert(&mut self.runs, at, index)
+        insert(&mut self.runs, index)
     }
 
     /// All up to an index counts as reached from now on.
@@ -135,28 +133,30 @@ impl Seen {
     }
 }
 
-/// Moves the cumulative index up to an index, and on over the runs that it then touches or lies in.
-fn advance(cumulative: &mut u32, runs: &mut VecDeque<Run>, index: u32)
-    requires above { cumulative.old ≤ index }
-    requires spaced { AreSpaced runs.old.items }
-    ensures runs { AreRuns cumulative.new runs.new.items }
-    ensures higher { index ≤ cumulative.new }
-    ensures same { (i : ℕ) → is_reached (seen_of cumulative.new runs.new.items) i ≡ is_reached (seen_of index runs.old.items) i }
+/// A run as the offsets of its ends above an index.
+fn block_above(index: u32, run: Run) -> GapBlock
+    requires below { index ≤ run.first }
+    requires order { run.first ≤ run.last }
+    requires near { run.last ≤ index + WINDOW }
+    ensures { block_meaning result ≡ block_of_run index run }
 {
-    *cumulative = index;
-    while touches(runs, *cumulative) {
-        if let Some(run) = runs.pop_front() {
-            *cumulative = run.last.max(*cumulative);
-        }
+    GapBlock {
+        start: (run.first - index) as u16,
+        end: (run.last - index) as u16,
     }
 }
 
-/// Whether the first run begins at the index after this one, or before.
-fn touches(runs: &VecDeque<Run>, cumulative: u32) -> bool
-    ensures { result ≡ first_touches runs.now.items cumulative }
+/// Moves the cumulative index up to an index, and on to the end of the run that it then touches or lies in. What it passes is dropped.
+fn advance(cumulative: &mut u32, runs: &mut VecDeque<Run>, index: u32)
+    requires { AreSpaced runs.old.items }
+    ensures { IsAdvanced index runs.old.items (seen_of cumulative.new runs.new.items) }
 {
-    match runs.front() {
-        Some(run) => run.first.saturating_sub(cumulative) <= 1,
-        None => false,
+    let passed = upto(runs, index);
+    *cumulative = match passed {
+        0 => index,
+        some => runs[some - 1].last.max(index),
+    };
+    for _ in 0..passed {
+        let _ = runs.pop_front();
     }
 }

@@ -1,60 +1,42 @@
-use Rattle.std.proofs.Common.{◌≡◌, ℕ, suc, ◌-◌, ◌<◌, ◌==◌, true, false, length, get_or, sym, ◌∙◌, ap, subst, rules, arith}
-use Rattle.std.specs.List.{insert}
-use Rattle.std.proofs.lemmas.Bool.Decides.{nat_tests}
-use Rattle.std.proofs.lemmas.List.{get_or_default}
+use Rattle.std.proofs.Common.{◌≡◌, ℕ, suc, ◌+◌, ◌<◌, ◌++◌, ◌∷◌, length, get_or, set, take, drop, sym, ◌∙◌, subst, rules, arith}
+use Rattle.std.specs.Prelude.{OnOk}
+use Rattle.std.specs.List.{insert, remove}
+use Rattle.std.proofs.lemmas.List.{set_split}
 use Rattle.sctp_recv.specs.declared.runs.Run.{Run}
-use Rattle.sctp_recv.specs.Runs.{AreSpaced, count_before, with_index}
-use Rattle.sctp_recv.proofs.RunLemmas.{split_extended, split_front, sets_front, inserts_alone}
+use Rattle.sctp_recv.specs.Runs.{Gain, HaveMore, IsPlace, begins_by}
+use Rattle.sctp_recv.proofs.RunGains.{gains_alone, gains_one, gains_two}
+use Rattle.sctp_recv.proofs.RunLemmas.{removed_next}
+use Rattle.sctp_recv.proofs.SeenLemmas.{on_ok}
 use Rattle.sctp_recv.proofs.runs.insert.Goals as goal
-use Rattle.sctp_recv.proofs.runs.insert.Goals.{else-at-gt0-via-then-at-gt0+else-saturating_sub-eq1, else-at-gt0-via-else-at-gt0, else-at-len-via-then-at-len+else-saturating_sub-eq1-2, else-at-len-via-else-at-len}
 
-pub returns-then-saturating_sub-eq1-clause-inserted : goal.returns-then-saturating_sub-eq1-clause-inserted
-returns-then-saturating_sub-eq1-clause-inserted c = λ spaced at.
+pub returns-in-0-clause-inserted : goal.returns-in-0-clause-inserted
+returns-in-0-clause-inserted c =
     let xs = c.args.runs.now.items in
-    let touch : (c.args.index - c.index.result.now.last == 1) ≡ true = grind (arith, nat_tests) in
-    c.extend.ensures ∙ split_extended xs (c.args.at - 1) c.args.index c.index.result.now spaced (omega arith) (omega arith) c.index.ensures touch
+    let gain : Gain c.args.index xs (insert xs c.below-at.result (record { first = c.args.index; last = c.args.index })) = λ d h high new.
+    gains_alone xs c.below-at.result c.upto.result d c.args.index (omega (arith, c.in-0.is, c.saturating_sub.ensures)) (c.below-at.ensures.place h.spaced) (c.upto.ensures.place h.spaced) h high in
+    let items : OnOk c.map_err.result (c.insert.new.self.items ≡ insert xs c.below-at.result (record { first = c.args.index; last = c.args.index })) = let done = c.insert.ensures.items in search rules in
+    on_ok c.map_err.result _ _ (λ e. subst (Gain c.args.index xs) (sym e) gain) items
 
-pub returns-then-saturating_sub-eq1-2-clause-inserted : goal.returns-then-saturating_sub-eq1-2-clause-inserted
-returns-then-saturating_sub-eq1-2-clause-inserted c = λ spaced at.
+pub returns-in-1-clause-inserted : goal.returns-in-1-clause-inserted
+returns-in-1-clause-inserted c = λ d h high new.
     let xs = c.args.runs.now.items in
-    let l : c.args.at < length xs = omega (arith, c.args.runs.now.ok) in
-    let same : c.index_mut.result.now ≡ c.index-then-at-len.result.now = c.index_mut.ensures.value ∙ get_or_default xs c.args.at _ _ l ∙ sym c.index-then-at-len.ensures in
-    let touch : (c.index-then-at-len.result.now.first - c.args.index == 1) ≡ true = grind (arith, nat_tests) in
-    let apart : (j : ℕ) (r : Run) → c.args.at ≡ suc j → j < length xs → r ≡ get_or xs j r → (c.args.index - r.last == 1) ≡ false = λ j r next low there.
-    elim c.else-at-gt0.branch [
-      | else-at-gt0-via-then-at-gt0+else-saturating_sub-eq1 w ↦
-          let place : c.args.at - 1 ≡ j = omega arith in
-          let read = subst (λ (k : ℕ). w.index.result.now ≡ get_or xs k w.index.result.now) place w.index.ensures in
-          let is : r ≡ w.index.result.now = there ∙ get_or_default xs j _ _ low ∙ sym read in
-          let last : r.last ≡ w.index.result.now.last = ap (λ (y : Run). y.last) is in
-          grind (arith, nat_tests)
-      | else-at-gt0-via-else-at-gt0 w ↦ absurd (omega arith)
-    ] in
-    rw same (sets_front xs c.args.at c.args.index c.index-then-at-len.result.now l c.index-then-at-len.ensures touch
-    ∙ split_front xs c.args.at c.args.index spaced at apart)
+    let run = c.index-run.result.now in
+    let next : c.upto.result ≡ suc c.below-at.result = omega (arith, c.in-1.is, c.saturating_sub.ensures) in
+    let less : c.below-at.result < length xs = omega (arith, next, c.upto.ensures.bound) in
+    let by = subst (IsPlace (begins_by c.args.index) xs) next (c.upto.ensures.place h.spaced) in
+    let is = set_split xs c.below-at.result (record { first = c.min.result; last = c.max.result }) less
+    ∙ (λ i. take c.below-at.result xs ++ record { first = c.min.ensures i; last = c.max.ensures i } ∷ drop (suc c.below-at.result) xs) in
+    subst (HaveMore d c.args.index xs) (sym is) (gains_one xs c.below-at.result d c.args.index run less c.index-run.ensures (c.below-at.ensures.place h.spaced) by h high new)
 
-pub returns-clause-inserted : goal.returns-clause-inserted
-returns-clause-inserted c =
+pub returns-in_default-clause-inserted : goal.returns-in_default-clause-inserted
+returns-in_default-clause-inserted c = λ d h high new.
     let xs = c.args.runs.now.items in
-    let apart : (j : ℕ) (r : Run) → c.args.at ≡ suc j → j < length xs → r ≡ get_or xs j r → (c.args.index - r.last == 1) ≡ false = λ j r next low there.
-    elim c.else-at-gt0.branch [
-      | else-at-gt0-via-then-at-gt0+else-saturating_sub-eq1 w ↦
-          let place : c.args.at - 1 ≡ j = omega arith in
-          let read = subst (λ (k : ℕ). w.index.result.now ≡ get_or xs k w.index.result.now) place w.index.ensures in
-          let is : r ≡ w.index.result.now = there ∙ get_or_default xs j _ _ low ∙ sym read in
-          let last : r.last ≡ w.index.result.now.last = ap (λ (y : Run). y.last) is in
-          grind (arith, nat_tests)
-      | else-at-gt0-via-else-at-gt0 w ↦ absurd (omega arith)
-    ] in
-    let other : (r : Run) → c.args.at < length xs → r ≡ get_or xs c.args.at r → (r.first - c.args.index == 1) ≡ false = λ r low there.
-    elim c.else-at-len.branch [
-      | else-at-len-via-then-at-len+else-saturating_sub-eq1-2 w ↦
-          let is : r ≡ w.index-then-at-len.result.now = there ∙ get_or_default xs c.args.at _ _ low ∙ sym w.index-then-at-len.ensures in
-          let first : r.first ≡ w.index-then-at-len.result.now.first = ap (λ (y : Run). y.first) is in
-          grind (arith, nat_tests)
-      | else-at-len-via-else-at-len w ↦ absurd (omega (arith, c.args.runs.now.ok))
-    ] in
-    let is : AreSpaced xs → c.args.at ≡ count_before xs c.args.index → insert xs c.args.at (record { first = c.args.index; last = c.args.index }) ≡ with_index xs c.args.index =
-    λ spaced at. inserts_alone xs c.args.at c.args.index other ∙ split_front xs c.args.at c.args.index spaced at apart in
-    let done = c.insert.ensures.items in
-    search rules
+    let far : suc c.below-at.result < c.upto.result = omega (arith, c.in_default, c.saturating_sub.ensures) in
+    let less : suc c.below-at.result < length xs = omega (arith, far, c.upto.ensures.bound) in
+    let wide : Run = record { first = c.index_mut-in_default.result.now.first; last = c.index.result.now.last } in
+    let removed : c.remove.new.self.items ≡ remove (set xs c.below-at.result wide) (c.below-at.result + 1) = let done = c.remove.ensures.items in search rules in
+    let one : c.below-at.result + 1 ≡ suc c.below-at.result = omega arith in
+    let other = subst (λ (n : ℕ). c.index.result.now ≡ get_or xs n c.index.result.now) one c.index.ensures in
+    subst (HaveMore d c.args.index xs) (sym (removed ∙ removed_next xs c.below-at.result (c.below-at.result + 1) _ one less))
+    (gains_two xs c.below-at.result c.upto.result d c.args.index c.index_mut-in_default.result.now c.index.result.now less far c.index_mut-in_default.ensures.value other
+    (c.below-at.ensures.place h.spaced) (c.upto.ensures.place h.spaced) h high)

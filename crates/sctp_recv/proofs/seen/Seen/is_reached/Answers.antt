@@ -1,19 +1,23 @@
-use Rattle.std.proofs.Common.{arith}
+use Rattle.std.proofs.Common.{◌≡◌, suc, ◌-◌, ◌<◌, nat_le, false, length, refl, subst, arith}
 use Rattle.std.proofs.lemmas.Bool.Decides.{nat_tests}
-use Rattle.std.proofs.lemmas.Grind.{common_steps}
-use Rattle.sctp_recv.proofs.RunLemmas.{spaced, in_place, past_all}
+use Rattle.sctp_recv.specs.Runs.{IsPlace, begins_by}
+use Rattle.sctp_recv.proofs.RunLemmas.{held_at, held_nowhere}
 use Rattle.sctp_recv.proofs.seen.Seen.is_reached.Goals as goal
 
-pub returns-then-at-len : goal.returns-then-at-len
-returns-then-at-len c =
-    let s = c.self.inside in
-    let place = c.place-at.ensures.place (spaced s.cumulative s.runs.items c.self.invariant.runs) in
-    let in_it = in_place s.cumulative s.runs.items c.args.index c.place-at.result c.index.result.now c.self.invariant.runs place (omega (arith, s.runs.ok)) c.index.ensures in
-    rw (← c.self.view_is) (grind (arith, nat_tests, common_steps))
+pub returns-in-0 : goal.returns-in-0
+returns-in-0 c =
+    let runs = c.self.inside.runs.items in
+    let place = subst (IsPlace (begins_by c.args.index) runs) c.in-0.is (c.upto.ensures.place c.self.invariant.runs.spaced) in
+    let nowhere = held_nowhere runs c.args.index place in
+    let above : nat_le c.args.index c.self.inside.cumulative ≡ false = let high = c.if-index-self.false in grind (arith, high, nat_tests) in
+    rw (← c.self.view_is) (rw (above, nowhere) refl)
 
-pub returns-else-at-len : goal.returns-else-at-len
-returns-else-at-len c =
-    let s = c.self.inside in
-    let place = c.place-at.ensures.place (spaced s.cumulative s.runs.items c.self.invariant.runs) in
-    let out = past_all s.runs.items c.args.index (omega (arith, s.runs.ok)) in
-    rw (← c.self.view_is) (grind (arith, nat_tests, common_steps))
+pub returns-in_default : goal.returns-in_default
+returns-in_default c =
+    let runs = c.self.inside.runs.items in
+    let next : c.upto.result ≡ suc (c.upto.result - 1) = omega (arith, c.in_default) in
+    let less : c.upto.result - 1 < length runs = omega (arith, next, c.upto.ensures.bound) in
+    let place = subst (IsPlace (begins_by c.args.index) runs) next (c.upto.ensures.place c.self.invariant.runs.spaced) in
+    let held = held_at runs c.args.index (c.upto.result - 1) c.index.result.now c.self.invariant.runs.spaced less c.index.ensures place in
+    let above : nat_le c.args.index c.self.inside.cumulative ≡ false = let high = c.if-index-self.false in grind (arith, high, nat_tests) in
+    rw (← c.self.view_is) (rw (above, held) c.has.ensures)

@@ -5,6 +5,6 @@ use Rattle.sctp_recv.proofs.seen.Seen.put_blocks.Given as goal
 
 abbrev pub invariant-loop-i : goal.invariant-loop-i
 invariant-loop-i l = record {
-  blocks : blocks_in l.list.items ≡ map (block_of_run l.self-inside.cumulative) (take l.i l.self-inside.runs.items);
-  whole : length l.list.items % 4 ≡ 0;
+  told : blocks_in l.list.items ≡ map (block_of_run l.self-inside.cumulative) (take l.i l.self-inside.runs.items);
+  fours : length l.list.items % 4 ≡ 0;
 }
