@@ -5,3 +5,6 @@ pub mod Small
 pub mod Arrival
 pub mod Abandoning
 pub mod Ending
+pub mod ScriptOpening
+pub mod ScriptSending
+pub mod ScriptClosing

@@ -1,3 +1,4 @@
 pub mod Outcomes
 pub mod OneEnd
 pub mod Examples
+pub mod Script
