@@ -12,3 +12,6 @@ pub mod GivenLemmas
 pub mod EndLemmas
 pub mod AnswerLemmas
 pub mod ForwardLemmas
+pub mod GoneLemmas
+pub mod WishLemmas
+pub mod AssignLemmas

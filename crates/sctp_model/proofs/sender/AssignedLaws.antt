@@ -47,7 +47,7 @@ name_new f v q d t h =
     ∙ ap (option_or (name_of v t)) (name_among-parts v.plan q (suc d) t 0 d)
 
 -- a message takes its number, and the queue is left without it
-numbered_ticket : (f : Format) (v : SenderView) (q : Queued) (rest : List Queued) (d turn t : ℕ) → IsReached f v → IsTaken q rest v.queue
+pub numbered_ticket : (f : Format) (v : SenderView) (q : Queued) (rest : List Queued) (d turn t : ℕ) → IsReached f v → IsTaken q rest v.queue
     → IsSameTicket v (record v { plan = with_message v.plan q (suc d); queue = rest; turn = turn }) t ⊎ IsNumberedNow v (record v { plan = with_message v.plan q (suc d); queue = rest; turn = turn }) t
 numbered_ticket f v q rest d turn t h taken = by_ticket (q.message.ticket == t) refl
   where
