@@ -1,6 +1,6 @@
-//! A sender's messages: accepted or refused, put into packets, and acknowledged.
+//! A sender's calls where they succeed: messages accepted, put into packets, and acknowledged.
 
-use sctp_first_send::{SendFault, Sender, Ticket};
+use sctp_first_send::{Sender, Ticket};
 use sctp_packet::PacketWriter;
 use sctp_wire::{Blocks, Sack, Words};
 use std::alloc::Global;
@@ -10,23 +10,6 @@ fn fill(alloc: Global, sender: &mut Sender, limit: u16) -> Result<(Vec<u8>, Vec<
     let mut packet = PacketWriter::new(alloc, limit, 0, 0, 0);
     let filled = sender.fill(&mut packet)?;
     Ok((packet.finish().ok_or("no chunk")?, filled.tickets))
-}
-
-#[test]
-fn hi_goes_out_as_one_chunk_in_a_packet_of_32_bytes(rt: HostRuntime) -> Result<(), Fail> {
-    let mut sender = Sender::new(rt.alloc(), 1, 1_400);
-    assert_eq!(rt; sender.queue(0, 0, b"Hi".to_vec(rt.alloc())?)?, Ticket(1));
-    let (bytes, tickets) = fill(rt.alloc(), &mut sender, 1_500)?;
-    assert_eq!(rt;
-        (bytes.len(), tickets.as_slice()),
-        (32, [Ticket(1)].as_slice())
-    );
-    let (_, chunk) = bytes.as_slice().split_at(12);
-    assert_eq!(rt;
-        chunk,
-        b"\0\x03\0\x12\0\0\0\x01\0\0\0\0\0\0\0\0\x48\x69\0\0".as_slice()
-    );
-    Ok(())
 }
 
 #[test]
@@ -61,32 +44,6 @@ fn messages_go_out_in_order_and_are_acknowledged(rt: HostRuntime) -> Result<(), 
             duplicates: Words::none(),
         });
         assert_eq!(rt; sender.cum(), cum, "after {cumulative}");
-    }
-    Ok(())
-}
-
-#[test]
-fn of_all_reasons_the_first_counts(rt: HostRuntime) -> Result<(), Fail> {
-    let mut sender = Sender::new(rt.alloc(), 1, 4);
-    for count in 1..=32_767u32 {
-        assert_eq!(rt;
-            sender.queue(0, 0, b"a".to_vec(rt.alloc())?)?,
-            Ticket(count)
-        );
-        if count % 1_024 == 0 {
-            let more = sender.queue(0, 0, b"a".to_vec(rt.alloc())?);
-            assert_eq!(rt; more, Err(SendFault::QueueFull));
-            let _ = fill(rt.alloc(), &mut sender, u16::MAX)?;
-        }
-    }
-    for (stream, text, fault) in [
-        (1, "", SendFault::NoSuchStream),
-        (0, "", SendFault::Empty),
-        (0, "hello", SendFault::TooLong),
-        (0, "four", SendFault::Spent),
-    ] {
-        let bytes = text.as_bytes().to_vec(rt.alloc())?;
-        assert_eq!(rt; sender.queue(stream, 0, bytes), Err(fault), "{text}");
     }
     Ok(())
 }
