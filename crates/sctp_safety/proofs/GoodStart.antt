@@ -4,10 +4,10 @@ use Rattle.sctp_model.specs.Lists.{Has, item_at}
 use Rattle.sctp_model.specs.Format.{Lane}
 use Rattle.sctp_model.specs.Plan.{Message, Entry, Part, End, entry_at, message_at}
 use Rattle.sctp_model.specs.Pieces.{Piece}
-use Rattle.sctp_model.specs.SenderView.{Queued}
+use Rattle.sctp_model.specs.SenderView.{Queued, SenderView, fresh_sender}
 use Rattle.sctp_model.specs.Forward.{Forward}
 use Rattle.sctp_model.specs.Acknowledgement.{Acknowledgement}
-use Rattle.sctp_model.specs.ReceiverView.{Handed, handed}
+use Rattle.sctp_model.specs.ReceiverView.{Handed, ReceiverView, fresh_receiver, handed}
 use Rattle.sctp_model.specs.Safe.{IsRising, IsApart}
 use Rattle.sctp_safety.specs.Way.{Way, IsStart}
 use Rattle.sctp_safety.proofs.Facts.{IsQueue, Good}
@@ -114,3 +114,29 @@ module _ (w : Way) (s : IsStart w) where
       };
     };
   }
+
+-- ---- ends that are new
+
+-- A direction of a new sender and a new receiver, with nothing between them and nothing asked, is a start.
+pub new_ends_start : (w : Way) (initial streams fragment rwnd : ℕ) (partial : Bool) (first inbound buffer : ℕ) → w.sender ≡ fresh_sender initial streams fragment rwnd partial
+    → w.receiver ≡ fresh_receiver first inbound buffer → w.asked.calls ≡ [] → w.pieces ≡ [] → w.forwards ≡ [] → w.sacks ≡ [] → w.shutdowns ≡ [] → IsStart w
+new_ends_start w initial streams fragment rwnd partial first inbound buffer sender receiver calls pieces forwards sacks shutdowns = record {
+  queue = ap (λ (v : SenderView). v.queue) sender;
+  messages = ap (λ (v : SenderView). v.plan.messages) sender;
+  entries = ap (λ (v : SenderView). v.plan.entries) sender;
+  cum = ap (λ (v : SenderView). v.cum) sender;
+  covered = ap (λ (v : SenderView). v.covered) sender;
+  abandoned = ap (λ (v : SenderView). v.abandoned) sender;
+  seen = ap (λ (r : ReceiverView). r.seen) receiver;
+  jump = ap (λ (r : ReceiverView). r.jump) receiver;
+  kept = ap (λ (r : ReceiverView). r.kept) receiver;
+  next = ap (λ (r : ReceiverView). r.next) receiver;
+  skip = ap (λ (r : ReceiverView). r.skip) receiver;
+  taken = ap (λ (r : ReceiverView). r.taken) receiver;
+  waiting = ap (λ (r : ReceiverView). r.waiting) receiver;
+  calls = calls;
+  pieces = pieces;
+  forwards = forwards;
+  sacks = sacks;
+  shutdowns = shutdowns;
+}

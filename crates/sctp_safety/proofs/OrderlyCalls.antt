@@ -25,6 +25,7 @@ use Rattle.sctp_safety.specs.SenderLaws.{HasPart, IsUsual, IsMoved}
 use Rattle.sctp_safety.specs.SenderCalls.{PlanStaysOrderly}
 use Rattle.sctp_safety.proofs.Basics.{at_cases, at_same}
 use Rattle.sctp_safety.proofs.Taken.{leads_by}
+use Rattle.sctp_safety.proofs.GoodStart.{new_ends_start}
 use Rattle.sctp_safety.proofs.OrderlyPlan.{orderly_when_arranged}
 use Rattle.sctp_safety.proofs.UsualLemmas.{good_usual, usual_moved, constants_same, retuned}
 use Rattle.sctp_safety.proofs.AssignMoves.{assigns}
@@ -81,26 +82,7 @@ begins f initial streams fragment rwnd partial = record {
     }
 
     started : IsStart start
-    started = record {
-      queue = refl;
-      messages = refl;
-      entries = refl;
-      cum = refl;
-      covered = refl;
-      abandoned = refl;
-      seen = refl;
-      jump = refl;
-      kept = refl;
-      next = refl;
-      skip = refl;
-      taken = refl;
-      waiting = refl;
-      calls = refl;
-      pieces = refl;
-      forwards = refl;
-      sacks = refl;
-      shutdowns = refl;
-    }
+    started = new_ends_start start initial streams fragment rwnd partial 0 streams 0 refl refl refl refl refl refl refl
 
     nothing : {e : Entry} (i : ℕ) → entry_at (fresh_sender initial streams fragment rwnd partial).plan i ≡ Some e → ⊥
     nothing zero here = cc

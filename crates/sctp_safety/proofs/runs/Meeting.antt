@@ -14,6 +14,7 @@ use Rattle.sctp_safety.specs.Way.{Way, IsStart}
 use Rattle.sctp_safety.specs.SenderLaws.{IsInOrder}
 use Rattle.sctp_safety.specs.States.{has_agreed}
 use Rattle.sctp_safety.specs.Agreement.{AreAgreed}
+use Rattle.sctp_safety.proofs.GoodStart.{new_ends_start}
 use Rattle.sctp_safety.proofs.Always.{safe_always}
 use Rattle.sctp_model.proofs.receiver.AtRest.{fresh_at_rest}
 use Rattle.sctp_safety.proofs.runs.Direction.{Bags, way_of, Direction}
@@ -44,26 +45,7 @@ module _ (f : Format) (tsn peer_tsn outbound inbound fragment rwnd buffer : ℕ)
   way = way_of f outbound a u r no_bags
 
   begins : IsStart way
-  begins = record {
-    queue = refl;
-    messages = refl;
-    entries = refl;
-    cum = refl;
-    covered = refl;
-    abandoned = refl;
-    seen = refl;
-    jump = refl;
-    kept = refl;
-    next = refl;
-    skip = refl;
-    taken = refl;
-    waiting = refl;
-    calls = none;
-    pieces = refl;
-    forwards = refl;
-    sacks = refl;
-    shutdowns = refl;
-  }
+  begins = new_ends_start way tsn outbound fragment rwnd partial peer_tsn inbound buffer refl refl none refl refl refl refl
 
   ordered : IsInOrder way
   ordered = record {
