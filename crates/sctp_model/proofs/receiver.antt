@@ -9,6 +9,7 @@ pub mod SameDue
 pub mod DueWords
 pub mod Idle
 pub mod Giving
+pub mod OneKept
 pub mod AtRest
 pub mod ForwardAtRest
 pub mod Examples

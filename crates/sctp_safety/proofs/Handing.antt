@@ -11,7 +11,7 @@ use Rattle.sctp_model.specs.Safe.{IsRising, IsApart, WasHanded, IsNumberLess}
 use Rattle.sctp_safety.proofs.Facts.{IsOver, IsAllSeen, Arranged, IsHonest, Held, Told}
 use Rattle.sctp_safety.proofs.Basics.{at_cases, Has-left, Has-right, Has-push}
 use Rattle.sctp_safety.proofs.Later.{Learns, Grows-refl, Extends-refl, lost-later, IsRetired-later, MayPass-later, IsAllSeen-later}
-use Rattle.sctp_safety.proofs.Framing.{IsOneMessage}
+use Rattle.sctp_safety.proofs.OneMessage.{IsOneMessage}
 use Rattle.sctp_safety.proofs.Settled.{settled_on}
 use Rattle.sctp_safety.proofs.Numbers.{below_more, is_below_by, less_by}
 

@@ -2,6 +2,7 @@ mod Basics
 mod Numbers
 mod Facts
 mod Framing
+mod OneMessage
 mod Later
 mod BagMoves
 mod SafeWhenGood

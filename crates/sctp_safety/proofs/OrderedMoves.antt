@@ -13,7 +13,7 @@ use Rattle.sctp_safety.specs.Way.{Way, Hand_over, Pass_over, Clear, Step}
 use Rattle.sctp_safety.proofs.Facts.{IsOver, IsAllSeen, MayPass, Held, Good}
 use Rattle.sctp_safety.proofs.Basics.{at_cases, at_same, Has-filter, Has-filtered, filter_is, same_lane-true, same_lane-refl}
 use Rattle.sctp_safety.proofs.Later.{by_receiver}
-use Rattle.sctp_safety.proofs.Framing.{IsOneMessage, IsGathered, honest_whole, number_counts}
+use Rattle.sctp_safety.proofs.OneMessage.{IsOneMessage, IsGathered, honest_whole, number_counts}
 use Rattle.sctp_safety.proofs.Settled.{ordered_numbered, number_is, one_number, over_unless_whole}
 use Rattle.sctp_safety.proofs.Handing.{after, after-Learns, after_held, same_told, more_told, more_waiting, was_new, still_handed, which_handed}
 use Rattle.sctp_safety.proofs.Numbers.{below_is, is_below_by, below-true, true-below}

@@ -15,13 +15,14 @@ use Rattle.sctp_model.specs.receiver.Reading.{offset, index_at, is_behind, refer
 use Rattle.sctp_model.specs.receiver.PieceTaken.{Answer, Duplicate, Ahead, NoSuchStream, Passed, NoRoom, Taken, is_passed, noted, PieceTaken}
 use Rattle.sctp_model.specs.receiver.Laws.{IsIdle}
 use Rattle.sctp_model.proofs.receiver.Idle.{still_idle}
-use Rattle.sctp_model.proofs.receiver.AtRest.{takes_idle, takes_giving}
+use Rattle.sctp_model.proofs.receiver.AtRest.{takes_giving}
+use Rattle.sctp_model.proofs.receiver.OneKept.{takes_idle}
 use Rattle.sctp_safety.specs.Way.{Way, Note, with_receiver}
 use Rattle.sctp_safety.specs.SenderLaws.{IsUsual}
 use Rattle.sctp_safety.specs.ReceiverLaws.{IsJoined, IsCounted, IsReceived, IsPieceSaid, PieceTakenIsMoves}
 use Rattle.sctp_safety.proofs.Facts.{Good}
 use Rattle.sctp_safety.proofs.Basics.{item_at-within}
-use Rattle.sctp_safety.proofs.Framing.{number_counts}
+use Rattle.sctp_safety.proofs.OneMessage.{number_counts}
 use Rattle.sctp_safety.proofs.Settled.{all_numbered}
 use Rattle.sctp_safety.proofs.Taken.{leads_by, taking_is_moves}
 use Rattle.sctp_safety.proofs.Built.{passing_is_moves}

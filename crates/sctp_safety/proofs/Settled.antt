@@ -9,7 +9,7 @@ use Rattle.sctp_model.specs.ReceiverView.{ReceiverView}
 use Rattle.sctp_model.specs.Safe.{WasHanded}
 use Rattle.sctp_safety.proofs.Facts.{Held, IsOver, IsSettled, IsAllSeen, Arranged}
 use Rattle.sctp_safety.proofs.Basics.{each_or}
-use Rattle.sctp_safety.proofs.Framing.{whole_when_kept, IsGathered, number_counts}
+use Rattle.sctp_safety.proofs.OneMessage.{whole_when_kept, IsGathered, number_counts}
 use Rattle.sctp_safety.proofs.Later.{Learns, IsDone-later}
 
 pub ordered_numbered : (f : Format) (k : Kind) → k ≡ Ordered → is_numbered f k ≡ true

@@ -11,7 +11,8 @@ use Rattle.sctp_model.specs.Forward.{StandsIn}
 use Rattle.sctp_model.specs.Receiving.{IsWholeWith}
 use Rattle.sctp_model.specs.FormatLaws.{IsTaken, IsUpTo, MakesGo, SkipLaw}
 use Rattle.sctp_safety.proofs.Basics.{each_or, item_at-above}
-use Rattle.sctp_safety.proofs.Framing.{part_by_fragment, part_number, number_counts, one_when_kept}
+use Rattle.sctp_safety.proofs.Framing.{part_by_fragment, part_number}
+use Rattle.sctp_safety.proofs.OneMessage.{number_counts, one_when_kept}
 use Rattle.sctp_safety.proofs.WholeLaw.{framed_by_orderly, some_fragment}
 use Rattle.sctp_safety.proofs.Numbers.{below_is}
 

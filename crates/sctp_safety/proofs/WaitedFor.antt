@@ -15,7 +15,7 @@ use Rattle.sctp_safety.proofs.Basics.{item_at-above, item_at-within}
 use Rattle.sctp_safety.proofs.Numbers.{below_is}
 use Rattle.sctp_safety.proofs.PlanLemmas.{message_of, same_message, renamed}
 use Rattle.sctp_safety.proofs.Settled.{settled_at, ordered_numbered}
-use Rattle.sctp_safety.proofs.Framing.{whole_when_kept, number_counts}
+use Rattle.sctp_safety.proofs.OneMessage.{whole_when_kept, number_counts}
 use Rattle.sctp_safety.proofs.Spread.{lower_to, spread}
 
 -- ---- the awaited message

@@ -7,7 +7,8 @@ use Rattle.sctp_model.specs.Orderly.{Orderly}
 use Rattle.sctp_model.specs.Pieces.{Piece, piece_of, IsFragment}
 use Rattle.sctp_model.specs.Whole.{IsWhole}
 use Rattle.sctp_model.specs.FormatLaws.{IsMessage, WholeLaw}
-use Rattle.sctp_safety.proofs.Framing.{IsFramed, IsPart, AreFrom, whole_is_one, is_first, is_row, first_payload, text_from}
+use Rattle.sctp_safety.proofs.Framing.{IsFramed, IsPart, AreFrom, is_first, is_row, text_from}
+use Rattle.sctp_safety.proofs.OneMessage.{whole_is_one, first_payload}
 
 pub framed_by_orderly : (f : Format) (p : Plan) → Orderly f p → IsFramed f p
 framed_by_orderly f p o = record { within = o.numbered.within; once = o.numbered.once; consecutive = λ e. (o.together e).consecutive }

@@ -78,7 +78,7 @@ module _ (f : Format) (r : ReceiverView) (s : ℕ) where
   module _ (apart : IsApart f r.kept) where
     -- a number has one message
     one_message : (n : ℕ) (x z : Piece) (xs zs : List Piece) → AreMessage f r s n (x ∷ xs) → AreMessage f r s n (z ∷ zs) → message_of f x xs ≡ message_of f z zs
-    one_message n x z xs zs (whole, low) (other, least) = same_message f x z xs zs (number_only f r.kept (ordered_lane s) n apart (x ∷ xs) (z ∷ zs) whole low other least)
+    one_message n x z xs zs (whole, low) (other, least) = same_message f x xs z zs (number_only f r.kept (ordered_lane s) n apart (x ∷ xs) (z ∷ zs) whole low other least)
 
     every_passed : (n : ℕ) (ms : List Handed) (m : ℕ) → IsDue f r s n ms m → (h : Handed) → IsPassedWhole f r s n m h → Has ms h
     every_passed _ _ _ (Stop n high none) h p = absurd (omega (arith, p.begun, p.ended))

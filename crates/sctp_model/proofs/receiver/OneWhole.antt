@@ -33,17 +33,19 @@ module _ (f : Format) (kept : List Piece) (apart : IsApart f kept) where
       let row = subst (λ (w : Piece). IsRow f w ys) (sym same) k.1 in
       ap (λ (w : Piece). w ∷ xs) same ∙ ap (λ (ws : List Piece). y ∷ ws) (row_only x xs ys h.1 row within there)
 
-first_place : (f : Format) (l : Lane) (n : Option ℕ) (x y : Piece) → x.index ≤ y.index → y.index ≤ x.index → IsFirst f x → IsFirst f y →
-    x.lane ≡ l → y.lane ≡ l → x.number ≡ n → y.number ≡ n → IsOnePlace f x y
-first_place Plain l n x y low high h k a b c d = omega arith
-first_place Interleaved l n x y low high h k a b c d = (a ∙ sym b, c ∙ sym d, h ∙ sym k)
+-- two first chunks of one lane and number, neither before the other, fill one place
+firsts_meet : (f : Format) (x y : Piece) → IsFirst f x → IsFirst f y → (x.lane ≡ y.lane) × (x.number ≡ y.number) → x.index ≡ y.index → IsOnePlace f x y
+firsts_meet Plain x y one other same here = here
+firsts_meet Interleaved x y one other (lane, number) here = (lane, number, one ∙ sym other)
 
 pub number_only : (f : Format) (kept : List Piece) (l : Lane) (n : ℕ) → IsApart f kept → (xs ys : List Piece) →
     IsWholeNumber f kept l n xs → IsLowest f kept l n xs → IsWholeNumber f kept l n ys → IsLowest f kept l n ys → xs ≡ ys
 number_only f kept l n apart [] ys h low k least = elim h.0 [ ]
 number_only f kept l n apart (x ∷ xs) [] h low k least = elim k.0 [ ]
 number_only f kept l n apart (x ∷ xs) (y ∷ ys) h low k least =
-    let place = first_place f l (Some n) x y (low y ys k) (least x xs h) h.0.0 k.0.0 h.2.0 k.2.0 h.2.1 k.2.1 in
+    let low_x = low y ys k in
+    let low_y = least x xs h in
+    let place = firsts_meet f x y h.0.0 k.0.0 (h.2.0 ∙ sym k.2.0, h.2.1 ∙ sym k.2.1) (omega (arith, low_x, low_y)) in
     let same = apart x y (h.1 x (inl refl)) (k.1 y (inl refl)) place in
     whole_same f kept apart x y xs ys same h.0 k.0 (tail_within kept x xs h.1) (tail_within kept y ys k.1)
 
@@ -110,11 +112,14 @@ with_only f kept y apart (x ∷ xs) (z ∷ zs) h k =
 abbrev IsSameDue : List Handed → ℕ → List Handed → ℕ → Type 0
 IsSameDue ms m os o = (ms ≡ os) × (m ≡ o)
 
-pub same_message : (f : Format) (x y : Piece) (xs ys : List Piece) → x ∷ xs ≡ y ∷ ys → message_of f x xs ≡ message_of f y ys
-same_message f x y xs ys e =
-    let head : x ≡ y = cc in
-    let tail : xs ≡ ys = cc in
-    ap (λ (z : Piece). message_of f z xs) head ∙ ap (λ (zs : List Piece). message_of f y zs) tail
+pub same_message : (f : Format) (x : Piece) (xs : List Piece) (y : Piece) (ys : List Piece) → x ∷ xs ≡ y ∷ ys → message_of f x xs ≡ message_of f y ys
+same_message f x xs y ys e = λ i. message_of f (first i) (others i)
+  where
+    first : x ≡ y
+    first = let both = e in cc
+
+    others : xs ≡ ys
+    others = let both = e in cc
 
 pub due_only : (f : Format) (r : ReceiverView) (s : ℕ) → IsApart f r.kept → (n : ℕ) (ms : List Handed) (m : ℕ) (os : List Handed) (o : ℕ) →
     IsDue f r s n ms m → IsDue f r s n os o → IsSameDue ms m os o
@@ -125,7 +130,7 @@ due_only f r s apart _ _ _ _ _ (Over n m x xs ms whole low rest) (Stop _ high em
 due_only f r s apart _ _ _ _ _ (Over n m x xs ms whole low rest) (Over _ o y ys os its least others) =
     let same = number_only f r.kept (ordered_lane s) n apart (x ∷ xs) (y ∷ ys) whole low its least in
     let tail = due_only f r s apart (suc n) ms m os o rest others in
-    (ap (λ (h : Handed). h ∷ ms) (same_message f x y xs ys same) ∙ ap (λ (hs : List Handed). message_of f y ys ∷ hs) tail.0, tail.1)
+    (ap (λ (h : Handed). h ∷ ms) (same_message f x xs y ys same) ∙ ap (λ (hs : List Handed). message_of f y ys ∷ hs) tail.0, tail.1)
 due_only f r s apart _ _ _ _ _ (Over n m x xs ms whole low rest) (Past _ o os below empty others) = absurd (empty (x ∷ xs) whole)
 due_only f r s apart _ _ _ _ _ (Past n m ms below none rest) (Stop _ high empty) = absurd (omega arith)
 due_only f r s apart _ _ _ _ _ (Past n m ms below none rest) (Over _ o y ys os its least others) = absurd (none (y ∷ ys) its)
