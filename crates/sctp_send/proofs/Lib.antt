@@ -15,3 +15,5 @@ pub mod ForwardLemmas
 pub mod GoneLemmas
 pub mod WishLemmas
 pub mod AssignLemmas
+pub mod ExpireLemmas
+pub mod ExpireKept

@@ -1,5 +1,5 @@
 -- When a sender stands for a view: what it keeps is what the view says, and the view is one that calls reach.
-use Rattle.std.specs.Prelude.{◌≡◌, ℕ, zero, suc, ◌+◌, ◌-◌, ◌≤◌, if◌then◌else◌, List, [], ◌∷◌, length, drop, Option, None, Some}
+use Rattle.std.specs.Prelude.{◌≡◌, ℕ, zero, suc, ◌+◌, ◌≤◌, if◌then◌else◌, List, [], ◌∷◌, length, drop, Option, None, Some}
 use Rattle.sctp_model.specs.Format.{Format, ordered_lane, unordered_lane}
 use Rattle.sctp_model.specs.Plan.{Entry, Plan}
 use Rattle.sctp_model.specs.SenderView.{SenderView}

@@ -1,3 +1,4 @@
 pub mod Changes
 pub mod Acknowledging
 pub mod Walks
+pub mod Expiring

@@ -3,6 +3,7 @@
 #![tactic(auto)]
 
 mod abandon;
+mod expire;
 mod forward;
 mod message;
 mod outstanding;

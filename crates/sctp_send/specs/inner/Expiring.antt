@@ -1,0 +1,46 @@
+-- Messages past their time, among those that a sender keeps.
+use Rattle.std.specs.Prelude.{ℕ, nat_lt, ◌&&◌, min, List, [], ◌∷◌, ◌++◌, map, Option, None, Some, option_and_then}
+use Rattle.sctp_model.specs.Plan.{Message}
+use Rattle.sctp_model.specs.SenderView.{Queued}
+use Rattle.sctp_model.specs.sender.Words.{when}
+use Rattle.sctp_model.specs.sender.Abandoning.{is_past}
+use Rattle.sctp_send.specs.SenderKept.{Item, Track, Kept}
+
+-- ---- the messages that are kept
+
+-- those that wait
+abbrev pub queue_messages : List Queued → List (Option Message)
+queue_messages qs = map (λ q. Some q.message) qs
+
+-- those with an entry above CUM
+abbrev pub item_messages : List Item → List (Option Message)
+item_messages xs = map (λ x. x.message) xs
+
+-- the one in part of a stream
+abbrev pub rest_message : Track → Option Message
+rest_message t = option_and_then (λ r. r.message) t.rest
+
+-- those in part
+abbrev pub rest_messages : List Track → List (Option Message)
+rest_messages ts = map rest_message ts
+
+-- all of them
+abbrev pub kept_messages : Kept → List (Option Message)
+kept_messages s = queue_messages s.queue ++ (item_messages s.items ++ rest_messages s.tracks)
+
+-- ---- the lowest ticket of those past their time
+
+-- a message's ticket, if it lies above the last one, and the message is past its time
+abbrev pub late_after : (now last : ℕ) → Option Message → Option ℕ
+late_after now last m = option_and_then (λ x. when (nat_lt last x.ticket && is_past now x) x.ticket) m
+
+-- the lower of two tickets, or the one that is there
+abbrev pub sooner : Option ℕ → Option ℕ → Option ℕ
+sooner None late = late
+sooner (Some t) None = Some t
+sooner (Some t) (Some u) = Some (min t u)
+
+-- the lowest of these, or one found before
+abbrev pub soonest : (now last : ℕ) → Option ℕ → List (Option Message) → Option ℕ
+soonest now last found [] = found
+soonest now last found (m ∷ ms) = soonest now last (sooner found (late_after now last m)) ms
