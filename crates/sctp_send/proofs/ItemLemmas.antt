@@ -74,7 +74,7 @@ change_step g at first now x lt read is =
 pub change_long : (g : Outstanding → Outstanding) (at : ℕ) (first now : List Outstanding) → now ≡ first_changed g at first → length now ≡ length first
 change_long g at first now is = rw is (length-first_changed g at first)
 
--- the item of an entry that was read
+-- reading an entry is reading its item
 pub item_read : (size : ℕ) (es : List Outstanding) (i : ℕ) (x : Outstanding) → x ≡ get_or es i x → get_or (map (item_meaning size) es) i (item_meaning size x) ≡ item_meaning size x
 item_read size es i x read = of_map es i x ∙ ap (item_meaning size) (sym read)
   where

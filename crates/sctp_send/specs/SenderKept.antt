@@ -1,4 +1,4 @@
--- What a sender keeps, as clauses see it.
+-- A sender's state as its clauses name it.
 use Rattle.std.specs.Prelude.{ℕ, Bool, List, Option}
 use Rattle.sctp_model.specs.Plan.{Message, Entry}
 use Rattle.sctp_model.specs.SenderView.{Queued}

@@ -67,6 +67,6 @@ pub record Keeps (f : Format) (s : Kept) (v : SenderView) : Type 0 where
   pub holds : Holds s v
   pub reached : IsReached f v
 
--- the sender stands for this view
+-- Stands for: hidden from the crates above, which know it by the clauses alone.
 unfoldable pub StandsFor : Format → Kept → SenderView → Type 0
 StandsFor f s v = Keeps f s v

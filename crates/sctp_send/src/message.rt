@@ -4,7 +4,7 @@
 #[derive(Clone, Copy, Debug, PartialEq, Eq)]
 pub struct Ticket(pub u32);
 
-/// A message as it was handed in; its fragments are ranges of its bytes.
+/// What `queue` was given for a message. Its bytes are kept once: fragments are ranges of them.
 #[derive(Debug, Drop)]
 pub struct Message {
     pub ticket: u32,

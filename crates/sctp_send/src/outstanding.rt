@@ -1,4 +1,4 @@
-//! What has an index above CUM: a deque whose first entry has index CUM + 1, reached by offset.
+//! What was assigned and isn't acknowledged cumulatively: an entry for each index, the one of CUM + 1 in front.
 
 ghost use Rattle.std.specs.Prelude.{◌≡◌, ℕ, Bool, false, ◌≤◌, List, length, drop, None};
 ghost use Rattle.std.specs.VecDeque.{deque_capacity};
@@ -11,14 +11,14 @@ use sctp_wire::Blocks;
 use std::collections::VecDeque;
 use std::rc::Rc;
 
-/// How far an entry came.
+/// Whether an entry went out, and whether it is to go out again.
 #[derive(Clone, Copy, Debug, PartialEq, Eq)]
 pub enum Standing {
-    /// It has an index and did not go out.
+    /// It never went out.
     Unsent,
     /// It went out.
     Sent,
-    /// It went out, and is to go out again.
+    /// It went out, and waits to be repeated.
     Marked,
 }
 
@@ -31,11 +31,11 @@ pub enum Place {
     EndMark,
 }
 
-/// An entry with an index above CUM.
+/// One index above CUM: the fragment or end mark that has it, and what became of it.
 #[derive(Debug, Drop)]
 pub struct Outstanding {
     pub message: Rc<Message>,
-    /// The number of its message.
+    /// Its message's place in the lane (SSN or MID, as a count).
     pub number: u32,
     pub place: Place,
     pub standing: Standing,

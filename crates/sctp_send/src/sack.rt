@@ -19,13 +19,13 @@ use thiserror::Error;
 /// Why a SACK or a SHUTDOWN is not taken: the first reason that holds, in this order.
 #[derive(Clone, Copy, Debug, PartialEq, Eq, Error)]
 pub enum SackFault {
-    /// Its cumulative TSN lies before the one acknowledged.
+    /// It is older than what was acknowledged: its cumulative TSN comes before that of CUM.
     #[error("it is older than one taken")]
     Stale,
-    /// It acknowledges what has no TSN yet.
+    /// Its cumulative TSN, or the end of a block, is past the last TSN assigned.
     #[error("it acknowledges what was not sent")]
     Beyond,
-    /// A block starts at 0, past its end, or not past the block before.
+    /// Its blocks aren't in order: one begins at 0, ends before it begins, or begins within the one before it.
     #[error("its blocks are out of order")]
     BadBlock,
 }
@@ -36,7 +36,7 @@ impl<F: Framing> Sender<F> {
     /// 6.2.1). It takes no memory.
     ///
     /// # Errors
-    /// The first reason of `SackFault` that holds; nothing changes then.
+    /// A `SackFault`, the first that it has; the sender is then as before.
     pub fn on_sack(&mut self, sack: &Sack<'_>) -> Result<(), SackFault>
         ensures answer { (v : SenderView) → StandsFor F.format self.old v → reason_meaning result ≡ sack_fault v (sack_meaning sack.now) }
         ensures step { (v : SenderView) → StandsFor F.format self.old v → StandsFor F.format self.new (sack_after v (sack_meaning sack.now)) }
@@ -60,7 +60,7 @@ impl<F: Framing> Sender<F> {
     /// memory.
     ///
     /// # Errors
-    /// The first reason of `SackFault` that holds; nothing changes then.
+    /// A `SackFault`, the first that it has; the sender is then as before.
     pub fn on_shutdown(&mut self, tsn: u32) -> Result<(), SackFault>
         ensures answer { (v : SenderView) → StandsFor F.format self.old v → reason_meaning result ≡ shutdown_fault v tsn }
         ensures step { (v : SenderView) → StandsFor F.format self.old v → StandsFor F.format self.new (shutdown_after v tsn) }

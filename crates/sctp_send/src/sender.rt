@@ -30,7 +30,7 @@ pub struct Track {
     pub rest: Option<Rest>,
 }
 
-/// The sender of one end.
+/// One end's sending half: what it was given, what has a TSN, and what its peer told.
 #[derive(Debug, Drop)]
 pub struct Sender<F: Framing> {
     pub(crate) alloc: Global,
@@ -38,13 +38,13 @@ pub struct Sender<F: Framing> {
     pub(crate) streams: u16,
     pub(crate) fragment: u16,
     pub(crate) partial: bool,
-    // the cumulative acknowledged index
+    // CUM: all indexes up to it are acknowledged
     pub(crate) cum: u32,
     // the peer's last advertised window, in bytes
     pub(crate) rwnd: u32,
     // the stream from which the next turn is looked for
     pub(crate) turn: u16,
-    // the first entry has index CUM + 1
+    // by offset from CUM + 1
     pub(crate) outstanding: VecDeque<Outstanding>,
     pub(crate) queue: VecDeque<Rc<Message>>,
     pub(crate) tracks: Vec<Track>,
