@@ -10,7 +10,7 @@ use Rattle.sctp_model.specs.sender.Reached.{IsReached, Begins, Queues, Goes, Cov
 use Rattle.sctp_model.proofs.sender.WishCases.{IsAssigned, Whole, Begun, Continued, after_wish}
 use Rattle.sctp_model.proofs.sender.AbandonCases.{lanes_same, after_abandon, after_end, given_itself}
 use Rattle.sctp_model.proofs.sender.CountLaws.{HasMessages, is_named}
-use Rattle.sctp_model.proofs.sender.ForwardLaws.{has_either}
+use Rattle.sctp_model.proofs.sender.WordLaws.{has_either}
 use Rattle.sctp_model.proofs.sender.MarkLaws.{IsPutBehind, put_behind}
 
 -- the message of each end mark is abandoned

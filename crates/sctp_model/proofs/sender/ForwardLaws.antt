@@ -11,24 +11,13 @@ use Rattle.sctp_model.specs.sender.Entries.{entry_lane, entry_number}
 use Rattle.sctp_model.specs.sender.Readers.{point}
 use Rattle.sctp_model.specs.sender.Forwarding.{larger, largest_in, passed, skip_in, skip_of, skips_on, skips_below, forward_of}
 use Rattle.sctp_model.specs.sender.Reached.{IsReached}
+use Rattle.sctp_model.proofs.sender.WordLaws.{has_left, has_right, has_either}
 use Rattle.sctp_model.proofs.sender.AbandonCases.{lanes_same, same_lane-self}
 use Rattle.sctp_model.proofs.sender.PlanLaws.{AllNamed, IsNamed}
 use Rattle.sctp_model.proofs.sender.CountLaws.{is_named}
 use Rattle.sctp_model.proofs.sender.PointLaws.{get-drop, of_itself, is_itself}
 
 -- ---- lists
-
-pub has_left : {A : Type 0} (xs ys : List A) (x : A) → Has xs x → Has (xs ++ ys) x
-has_left [] ys x has = absurd has
-has_left (y ∷ xs) ys x has = elim has [ inl e ↦ inl e | inr h ↦ inr (has_left xs ys x h) ]
-
-pub has_right : {A : Type 0} (xs ys : List A) (x : A) → Has ys x → Has (xs ++ ys) x
-has_right [] ys x has = has
-has_right (y ∷ xs) ys x has = inr (has_right xs ys x has)
-
-pub has_either : {A : Type 0} (xs ys : List A) (x : A) → Has (xs ++ ys) x → Has xs x ⊎ Has ys x
-has_either [] ys x has = inr has
-has_either (y ∷ xs) ys x has = elim has [ inl e ↦ inl (inl e) | inr h ↦ elim (has_either xs ys x h) [ inl a ↦ inl (inr a) | inr b ↦ inr b ] ]
 
 listed_append : (xs ys : List Skip) → IsListed xs → IsListed ys → ((x y : Skip) → Has xs x → Has ys y → IsLaneBefore x.lane y.lane) → IsListed (xs ++ ys)
 listed_append [] ys a b apart = b

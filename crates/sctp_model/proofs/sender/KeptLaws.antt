@@ -1,20 +1,20 @@
 -- A message in part isn't abandoned: giving it up would have ended it.
-use Rattle.std.proofs.Common.{◌≡◌, ℕ, zero, suc, ◌<◌, ◌≤◌, List, [], ◌∷◌, length, Bool, true, false, Option, Some, None, refl, sym, ap, ◌∙◌, subst, arith}
+use Rattle.std.proofs.Common.{◌≡◌, ℕ, zero, suc, ◌<◌, List, length, Bool, true, false, Some, refl, sym, ap, ◌∙◌, subst, arith}
 use Rattle.std.specs.Prelude.{◌==◌, nat_lt, if◌then◌else◌}
 use Rattle.std.proofs.lemmas.Bool.Decides.{nat_tests}
-use Rattle.sctp_model.specs.Format.{Format, Lane, same_lane}
-use Rattle.sctp_model.specs.Plan.{Message, Entry, Part, End, Plan, message_at}
+use Rattle.sctp_model.specs.Format.{Format, Lane}
+use Rattle.sctp_model.specs.Plan.{Entry, Part, End, Plan}
 use Rattle.sctp_model.specs.SenderView.{Queued, SenderView}
 use Rattle.sctp_model.specs.sender.Words.{when, some_passes}
 use Rattle.sctp_model.specs.sender.Entries.{entry_lane, entry_number, is_of, is_given_up, is_in_part, next_part, continued}
 use Rattle.sctp_model.specs.sender.Assigning.{with_message, with_entry}
-use Rattle.sctp_model.specs.sender.Abandoning.{Name, ended, given_up}
+use Rattle.sctp_model.specs.sender.Abandoning.{Name, given_up}
 use Rattle.sctp_model.specs.sender.Reached.{IsReached, Begins, Queues, Goes, Covers, Closes, Abandons, Repeats}
 use Rattle.sctp_model.proofs.sender.WordLaws.{when_there}
 use Rattle.sctp_model.proofs.sender.WishCases.{IsAssigned, Whole, Begun, Continued, after_wish}
 use Rattle.sctp_model.proofs.sender.AbandonCases.{same_lane-self, after_abandon, after_end, given_other}
 use Rattle.sctp_model.proofs.sender.SetLaws.{AllFilled, is_filled}
-use Rattle.sctp_model.proofs.sender.PlanLaws.{IsFollower, continued_is, continued_new, continued_more}
+use Rattle.sctp_model.proofs.sender.PlanLaws.{continued_is, continued_new, continued_more}
 use Rattle.sctp_model.proofs.sender.CountLaws.{HasMessages, is_named, new_kept}
 use Rattle.sctp_model.proofs.sender.PartLaws.{ended_here, ended_there}
 

@@ -47,6 +47,20 @@ found_is test (y ∷ xs) x is = by_test (test y) refl is (λ later. found_is tes
     by_test true on here further = let same : y ≡ x = cc in (inl same, subst (λ (z : _). test z ≡ true) same on)
     by_test false off here further = let r = further here in (inr r.0, r.1)
 
+-- ---- elements of two lists, one behind the other
+
+pub has_left : {A : Type 0} (xs ys : List A) (x : A) → Has xs x → Has (xs ++ ys) x
+has_left [] ys x has = absurd has
+has_left (y ∷ xs) ys x has = elim has [ inl e ↦ inl e | inr h ↦ inr (has_left xs ys x h) ]
+
+pub has_right : {A : Type 0} (xs ys : List A) (x : A) → Has ys x → Has (xs ++ ys) x
+has_right [] ys x has = has
+has_right (y ∷ xs) ys x has = inr (has_right xs ys x has)
+
+pub has_either : {A : Type 0} (xs ys : List A) (x : A) → Has (xs ++ ys) x → Has xs x ⊎ Has ys x
+has_either [] ys x has = inr has
+has_either (y ∷ xs) ys x has = elim has [ inl e ↦ inl (inl e) | inr h ↦ elim (has_either xs ys x h) [ inl a ↦ inl (inr a) | inr b ↦ inr b ] ]
+
 -- ---- counting up
 
 pub count_push : (i n : ℕ) → count_up i (suc n) ≡ count_up i n ++ (i + n) ∷ []
