@@ -12,4 +12,5 @@ pub mod Giving
 pub mod OneKept
 pub mod AtRest
 pub mod ForwardAtRest
+pub mod HeldBytes
 pub mod Examples

@@ -7,7 +7,7 @@ use Rattle.sctp_model.specs.Receiving.{LetsGo, GivesAll}
 use Rattle.sctp_model.specs.receiver.PieceTaken.{Answer, PieceTaken}
 use Rattle.sctp_model.specs.receiver.ForwardTaken.{ForwardAnswer, jumped, forwarded, ForwardTaken}
 use Rattle.sctp_model.specs.receiver.SackMade.{sack_sent, TakeLeaves}
-use Rattle.sctp_model.specs.receiver.Laws.{IsAtRest}
+use Rattle.sctp_model.specs.receiver.Laws.{IsAtRest, FitsBuffer}
 
 -- ---- every call leaves rest
 
@@ -30,6 +30,28 @@ TakeLeavesRest = (f : Format) (r : ReceiverView) (s : ℕ) (h : Option Handed) (
 -- and a SACK that was sent
 abbrev pub SentLeavesRest : Type 0
 SentLeavesRest = (f : Format) (r : ReceiverView) → IsAtRest f r → IsAtRest f (sack_sent r)
+
+-- ---- no call passes the buffer, whatever the peer sends
+
+-- a new receiver holds nothing
+abbrev pub NewFits : Type 0
+NewFits = (initial streams buffer : ℕ) → FitsBuffer (fresh_receiver initial streams buffer)
+
+-- a chunk is taken where it fits, and handing over needs no room
+abbrev pub PieceFits : Type 0
+PieceFits = (f : Format) (r : ReceiverView) (p : PieceMeaning) (a : Answer) (t : ReceiverView) → FitsBuffer r → PieceTaken f r p a t → FitsBuffer t
+
+-- nor does a FORWARD
+abbrev pub ForwardFits : Type 0
+ForwardFits = (f : Format) (r : ReceiverView) (x : ForwardMeaning) (a : ForwardAnswer) (t : ReceiverView) → FitsBuffer r → ForwardTaken f r x a t → FitsBuffer t
+
+-- nor the user
+abbrev pub TakeFits : Type 0
+TakeFits = (r : ReceiverView) (s : ℕ) (h : Option Handed) (t : ReceiverView) → FitsBuffer r → TakeLeaves r s h t → FitsBuffer t
+
+-- nor a SACK
+abbrev pub SentFits : Type 0
+SentFits = (r : ReceiverView) → FitsBuffer r → FitsBuffer (sack_sent r)
 
 -- ---- short forms
 

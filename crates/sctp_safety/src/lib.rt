@@ -23,7 +23,9 @@ pub use exact::{
     take_is_moves, taking_is_moves, timeout_is_moves,
 };
 pub use laws::{skip_law, whole_law};
-pub use rest::{every_call_leaves_rest, nothing_more_is_due, nothing_whole_is_let_go};
+pub use rest::{
+    every_call_leaves_rest, no_call_passes_the_buffer, nothing_more_is_due, nothing_whole_is_let_go,
+};
 pub use safety::{orderly_over_every_run, safe_over_every_run};
 pub use sender::{
     abandoned_only_asked, drained_is_told, each_call_has_one_result, plan_stays_orderly,

@@ -1,6 +1,6 @@
 -- Among kept chunks of which no two are for one place, a number has one whole message, a chunk belongs to one at most,
 -- and one thing is due.
-use Rattle.std.proofs.Common.{◌≡◌, ℕ, suc, ◌<◌, ◌≤◌, true, false, List, [], ◌∷◌, Option, Some, refl, ap, sym, ◌∙◌, subst, inl, inr, arith}
+use Rattle.std.proofs.Common.{◌≡◌, ℕ, suc, ◌<◌, ◌≤◌, true, false, List, [], ◌∷◌, refl, ap, sym, ◌∙◌, subst, inl, inr, arith}
 use Rattle.std.proofs.lemmas.Bool.{cases_lt, cases_order}
 use Rattle.sctp_model.specs.Lists.{Has, IsWithin}
 use Rattle.sctp_model.specs.Format.{Format, Plain, Interleaved, Lane, ordered_lane}

@@ -3,7 +3,7 @@ use Rattle.std.specs.Prelude.{◌≡◌, ℕ, ◌≤◌, true, false, List}
 use Rattle.sctp_model.specs.Lists.{Has}
 use Rattle.sctp_model.specs.Format.{Format, Plain, Interleaved, Unordered, ordered_lane}
 use Rattle.sctp_model.specs.Pieces.{Piece, fragment_of}
-use Rattle.sctp_model.specs.ReceiverView.{ReceiverView}
+use Rattle.sctp_model.specs.ReceiverView.{ReceiverView, held_bytes}
 use Rattle.sctp_model.specs.Receiving.{is_below, HasNoWhole, HasNoWholeWith}
 
 -- ---- what is kept
@@ -43,3 +43,7 @@ pub record IsAtRest (f : Format) (r : ReceiverView) : Type 0 where
   pub ordinary : IsOrdinary f r
   pub idle : IsIdle f r
   pub settled : IsSettled r
+
+-- WHAT IS HELD FITS THE BUFFER (a_rwnd: RFC 9260, 3.3.4)
+abbrev pub FitsBuffer : ReceiverView → Type 0
+FitsBuffer r = held_bytes r ≤ r.buffer
