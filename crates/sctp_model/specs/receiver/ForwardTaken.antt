@@ -11,6 +11,7 @@ use Rattle.sctp_model.specs.receiver.Rows.{first_of}
 use Rattle.sctp_model.specs.receiver.Reading.{index_at, is_behind, is_ahead, is_late, lane_of, number_in}
 use Rattle.sctp_model.specs.Receiving.{GivesAll}
 
+-- What it answers to a FORWARD (RFC 3758, 3.6).
 pub data ForwardAnswer : Type 0 where
   -- its TSN lies behind
   OutOfDate : ForwardAnswer

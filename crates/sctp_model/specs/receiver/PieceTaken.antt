@@ -9,6 +9,7 @@ use Rattle.sctp_model.specs.receiver.Rows.{first_of}
 use Rattle.sctp_model.specs.receiver.Reading.{is_behind, is_ahead, is_late, piece_at}
 use Rattle.sctp_model.specs.Receiving.{recorded, Takes}
 
+-- What a receiver answers to a data chunk, in the order of the rows below (RFC 9260, 6.2).
 pub data Answer : Type 0 where
   -- its TSN came before, or lies behind
   Duplicate : Answer
