@@ -9,6 +9,7 @@ use Rattle.sctp_model.specs.first.World.{refusal_in, taken_by_user, sent_by_user
 use Rattle.sctp_safety.specs.Worlds.{IsSafeWorld, SafeWorlds, AllSafe, SafeRuns}
 use Rattle.sctp_safety.proofs.Basics.{Has-left}
 use Rattle.sctp_safety.proofs.SafeWhenGood.{safe_when_good}
+use Rattle.sctp_safety.proofs.GoodStart.{new_ends_start}
 use Rattle.sctp_safety.proofs.WorldWay.{Direction, Directions, IsLedWorld, led_good, item_has}
 use Rattle.sctp_safety.proofs.WorldUser.{sends, takes}
 use Rattle.sctp_safety.proofs.WorldBuild.{builds}
@@ -26,26 +27,7 @@ fresh_direction c out back no_out no_back = record {
   sacks = [];
   led = (
     _,
-    record {
-      queue = refl;
-      messages = refl;
-      entries = refl;
-      cum = refl;
-      covered = refl;
-      abandoned = refl;
-      seen = refl;
-      jump = refl;
-      kept = refl;
-      next = refl;
-      skip = refl;
-      taken = refl;
-      waiting = refl;
-      calls = refl;
-      pieces = refl;
-      forwards = refl;
-      sacks = refl;
-      shutdowns = refl;
-    },
+    new_ends_start _ 1 c.streams c.fragment c.buffer false 1 c.streams c.buffer refl refl refl refl refl refl refl,
     ([], refl),
   );
   has_pieces = λ p d h. absurd (no_packet out no_out p h);
