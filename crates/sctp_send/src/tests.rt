@@ -1,7 +1,8 @@
 //! The calls that take memory succeed where there is enough, and refusals come in their order.
 
-use crate::{SendFault, Sender, Ticket};
+use crate::{Abandoned, SendFault, Sender, Ticket};
 use sctp_framing::{DataFraming, IDataFraming};
+use sctp_packet::PacketWriter;
 use std::test::Fail;
 
 #[test]
@@ -51,5 +52,42 @@ fn the_queue_holds_1024_messages(rt: HostRuntime) -> Result<(), Fail> {
         Err(SendFault::QueueFull)
     );
     assert_eq!(rt; sender.outstanding(), 0);
+    Ok(())
+}
+
+#[test]
+fn a_message_that_waits_is_withdrawn(rt: HostRuntime) -> Result<(), Fail> {
+    let mut sender: Sender<DataFraming> = Sender::new(rt.alloc(), 1, 1, 500, 65_536, true)?;
+    let bytes = vec![in rt.alloc(); 7u8]?;
+    assert_eq!(rt; sender.queue(0, true, 0, bytes, None), Ok(Ticket(1)));
+    assert_eq!(rt; sender.abandon(Ticket(2)), Abandoned::Unknown);
+    for _ in 0..2 {
+        assert_eq!(rt; sender.abandon(Ticket(1)), Abandoned::Withdrawn);
+        assert!(rt; sender.drained());
+        assert!(rt; !sender.abandoned(Ticket(1)));
+    }
+    Ok(())
+}
+
+#[test]
+fn what_is_past_its_time_goes(rt: HostRuntime) -> Result<(), Fail> {
+    let mut sender: Sender<IDataFraming> = Sender::new(rt.alloc(), 1, 1, 500, 65_536, true)?;
+    for until in [501, 500] {
+        let bytes = vec![in rt.alloc(); 7u8]?;
+        assert!(rt; sender.queue(0, true, 0, bytes, Some(until)).is_ok());
+    }
+    sender.expire(500);
+    assert!(rt; !sender.drained());
+    sender.expire(501);
+    assert!(rt; sender.drained());
+    Ok(())
+}
+
+#[test]
+fn there_is_no_forward_where_nothing_was_passed(rt: HostRuntime) -> Result<(), Fail> {
+    let sender: Sender<IDataFraming> = Sender::new(rt.alloc(), 1, 1, 500, 65_536, true)?;
+    let mut packet = PacketWriter::new(rt.alloc(), 1_500, 1, 2, 3);
+    assert!(rt; !sender.put_forward(&mut packet)?);
+    assert!(rt; packet.finish().is_none());
     Ok(())
 }
