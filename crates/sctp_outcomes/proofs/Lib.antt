@@ -11,4 +11,5 @@ pub mod TotalBuilds
 pub mod TotalSteps
 pub mod OneOutcome
 pub mod OneEnd
+pub mod InOrder
 pub mod stories

@@ -2,3 +2,4 @@ pub mod Outcomes
 pub mod OneEnd
 pub mod Examples
 pub mod Script
+pub mod Views

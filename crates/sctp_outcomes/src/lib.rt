@@ -6,9 +6,11 @@
 mod examples;
 mod outcomes;
 mod steps;
+mod views;
 
 pub use examples::{
     a_message_arrives, a_message_in_part_is_ended, a_message_is_passed_over, the_script_runs,
 };
 pub use outcomes::{every_event_has_an_outcome, every_event_has_one_outcome};
 pub use steps::{each_end_has_one_next_packet, each_packet_has_one_verdict};
+pub use views::both_views_are_in_order;

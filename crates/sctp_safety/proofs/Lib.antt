@@ -32,7 +32,7 @@ mod FillMoves
 mod GivingMoves
 mod SackMoves
 mod QueueMoves
-mod OrderlyCalls
+pub mod OrderlyCalls
 mod SenderCalls
 mod WorldWay
 mod WorldUser
@@ -54,5 +54,5 @@ mod SkipReads
 mod ForwardReads
 mod SackMade
 pub mod machine
-mod runs
+pub mod runs
 mod RestLaws

@@ -1,21 +1,21 @@
 mod Grown
-mod Direction
+pub mod Direction
 mod Sending
 mod Passing
 mod Hearing
-mod Pair
+pub mod Pair
 mod Acted
 mod Packets
 mod Timed
 mod Answers
-mod Unmet
+pub mod Unmet
 mod Waiting
 mod Meeting
 mod Bags
 mod Brought
-mod MetWorld
+pub mod MetWorld
 mod MetSteps
-mod ApartWorld
+pub mod ApartWorld
 mod ApartSteps
 pub mod Safety
 mod Arrived
@@ -25,4 +25,4 @@ mod Ending
 mod EndingActs
 mod EndingBuilds
 mod EndingTimes
-mod Pairs
+pub mod Pairs

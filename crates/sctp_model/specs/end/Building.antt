@@ -49,7 +49,7 @@ is_due ForwardSlot e = e.due.forward && is_point_past e.sender
 is_due ShutdownSlot e = e.due.shutdown
 is_due ShutdownAckSlot e = e.due.shutdown_ack
 
--- The chunk that is due at a place, and the end once it is built; a chunk that is repeated starts its timer (RFC 9260, 6.3.2, R1).
+-- The chunk that is due at a place, and the end once it is built; a chunk that is repeated starts its timer (RFC 9260, 6.3.2).
 pub data Wants (e : EndView) : Slot → ChunkMeaning → EndView → Type 0 where
   EchoCookie : (t : Tags) (xs : List ℕ) → e.phase ≡ Echoing t xs →
       Wants e EchoSlot (CookieEcho xs) (started CookieAlarm (with_due (record e.due { cookie_echo = false }) e))
@@ -79,7 +79,7 @@ pub data Puts : List Slot → EndView → List ChunkMeaning → List ChunkMeanin
   IsFull : (s : Slot) (ss : List Slot) (e mid : EndView) (x : ChunkMeaning) (xs : List ChunkMeaning) → is_due s e ≡ true →
       Wants e s x mid → has_room e xs x ≡ false → Puts (s ∷ ss) e xs xs true e
 
--- fragments that go out start the data timer (RFC 9260, 6.3.2, R1)
+-- fragments that go out start the data timer (RFC 9260, 6.3.2)
 abbrev pub timer_after : EndView → List Wish → Timer
 timer_after e [] = e.timers DataAlarm
 timer_after e (w ∷ ws) = running e.moment (e.timers DataAlarm) (e.timers DataAlarm).expiry

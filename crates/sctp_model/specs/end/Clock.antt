@@ -18,16 +18,16 @@ LAST_MOMENT = 2 ^ 64 - 1
 abbrev pub after_wait : ℕ → ℕ → ℕ
 after_wait now wait = min (now + wait) LAST_MOMENT
 
--- the timer, once its packet is built at this moment (RFC 9260, 6.3.2, R1); while it runs another packet doesn't move its expiry
+-- the timer, once its packet is built at this moment (RFC 9260, 6.3.2); while it runs another packet doesn't move its expiry
 abbrev pub running : ℕ → Timer → Option ℕ → Timer
 running now t (Some m) = t
 running now t None = record t { expiry = Some (after_wait now t.wait) }
 
--- the timer at rest (6.3.2, R2): how long it waits and what it counted stay
+-- the timer at rest (RFC 9260, 6.3.2): how long it waits and what it counted stay
 abbrev pub stopped : Timer → Timer
 stopped t = record t { expiry = None }
 
--- the timer once it has expired: it counts one more, rests, and will wait twice as long, up to the longest wait (RFC 9260, 6.3.3, E2)
+-- the timer once it has expired: it counts one more, rests, and will wait twice as long, up to the longest wait (RFC 9260, 6.3.3)
 abbrev pub expired : Timer → Timer
 expired t = record { wait = min (2 * t.wait) LONGEST_WAIT; repeats = suc t.repeats; expiry = None }
 
@@ -104,7 +104,7 @@ closed why e = record (turned (Over why) e) { due = nothing_due }
 abbrev pub is_point_past : SenderView → Bool
 is_point_past v = nat_lt v.cum (point v)
 
--- The data timer stops where nothing is unsettled (RFC 9260, 6.3.2, R2), and a FORWARD is due no more where the point is CUM (RFC 3758, 3.5).
+-- The data timer stops where nothing is unsettled (RFC 9260, 6.3.2), and a FORWARD is due no more where the point is CUM (RFC 3758, 3.5).
 abbrev pub settled : EndView → EndView
 settled e = record (with_timer DataAlarm (if unsettled e.sender then e.timers DataAlarm else stopped (e.timers DataAlarm)) e) {
   due = record e.due { forward = e.due.forward && is_point_past e.sender };

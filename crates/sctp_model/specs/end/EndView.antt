@@ -118,8 +118,8 @@ nothing_due = record { init = false; cookie_echo = false; cookie_ack = false; he
 
 -- ---- timers
 
--- One for each kind of packet that is sent again until it is answered: INIT, COOKIE ECHO (both T1), data or FORWARD (T3), SHUTDOWN and
--- SHUTDOWN ACK (both T2) (RFC 9260, 5.1, 6.3 and 9.2).
+-- One for each kind of packet that is sent again until it is answered: INIT, COOKIE ECHO, data or FORWARD, SHUTDOWN, SHUTDOWN ACK
+-- (RFC 9260, 5.1, 6.3 and 9.2).
 pub data Alarm : Type 0 where
   InitAlarm CookieAlarm : Alarm
   DataAlarm : Alarm

@@ -17,7 +17,7 @@ after_giving_up e v =
 
 -- ---- timers
 
--- what goes out once more after an expiry (RFC 9260, 6.3.3, E3); of the data timer all that is unsettled, and a FORWARD where the point is past CUM
+-- what goes out once more after an expiry (RFC 9260, 6.3.3); of the data timer all that is unsettled, and a FORWARD where the point is past CUM
 abbrev pub due_again : Alarm → EndView → EndView
 due_again InitAlarm e = with_due (record e.due { init = true }) e
 due_again CookieAlarm e = with_due (record e.due { cookie_echo = true }) e

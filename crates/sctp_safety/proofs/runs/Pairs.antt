@@ -34,7 +34,7 @@ pub pair_round : (e p : EndView) (u v : Asked) (out back : List ChunkMeaning) �
 pair_round e p u v out back k = record { met = turned_round e p u v out back k.met; ending = ending_round e p out back k.ending }
 
 -- the sender of an end that has met its peer is one that calls reach
-reached_by : (e p : EndView) (u v : Asked) (out back : List ChunkMeaning) → IsPair e p u v out back → IsReached (format_of e) e.sender
+pub reached_by : (e p : EndView) (u v : Asked) (out back : List ChunkMeaning) → IsPair e p u v out back → IsReached (format_of e) e.sender
 reached_by e p u v out back k = k.met.going.reached
 
 -- ---- chunks that say nothing of either direction, nor of its end

@@ -1,0 +1,52 @@
+-- Both plans are orderly, both receivers at rest, and both senders as their calls leave them.
+use Rattle.std.proofs.Common.{◌≡◌, ℕ, ◌<◌, true, false, List, inl, inr, refl, sym, subst, ap, arith, ◌∙◌}
+use Rattle.sctp_model.specs.Format.{Format}
+use Rattle.sctp_model.specs.Orderly.{Orderly}
+use Rattle.sctp_model.specs.SenderView.{SenderView, fresh_sender}
+use Rattle.sctp_model.specs.sender.Reached.{IsReached, Begins}
+use Rattle.sctp_model.specs.receiver.Laws.{IsAtRest}
+use Rattle.sctp_model.proofs.receiver.AtRest.{fresh_at_rest, piece_at_rest, sent_at_rest, take_at_rest}
+use Rattle.sctp_model.proofs.receiver.ForwardAtRest.{forward_at_rest}
+use Rattle.sctp_model.specs.end.EndView.{Phase, Listening, EndView, format_of}
+use Rattle.sctp_model.specs.World.{Side, A, B, World, end_of}
+use Rattle.sctp_safety.specs.Agreement.{was_open}
+use Rattle.sctp_safety.proofs.OrderlyCalls.{plan_stays_orderly}
+use Rattle.sctp_safety.proofs.runs.Unmet.{IsBlank}
+use Rattle.sctp_safety.proofs.runs.Safety.{IsKept, kept_always}
+use Rattle.sctp_outcomes.specs.Views.{IsInOrder, AreViewsInOrder, ViewsAreInOrder}
+use Rattle.sctp_outcomes.proofs.Receivers.{IsReceiverLaw, holds_always}
+
+rest_law : IsReceiverLaw IsAtRest
+rest_law = record {
+  fresh = λ f i n b. fresh_at_rest f i n b;
+  piece = λ f r p a t o came. piece_at_rest f r p a t o came;
+  forward = λ f r m a t o came. forward_at_rest f r m a t o came;
+  sent = λ f r o. sent_at_rest f r o;
+  taken = λ f r s h t o takes. take_at_rest f r s h t o takes;
+}
+
+-- a plan with nothing in it
+nothing_planned : (f : Format) (i n k r : ℕ) (p : _) → Orderly f (fresh_sender i n k r p).plan
+nothing_planned f i n k r p = plan_stays_orderly f (fresh_sender i 1 1 r p) (Begins i 1 1 r p (omega arith) (omega arith))
+
+blank_orderly : (e : EndView) → IsBlank e → Orderly (format_of e) e.sender.plan
+blank_orderly e b =
+    subst (λ (v : SenderView). Orderly (format_of e) v.plan) (sym b.sender) (nothing_planned (format_of e) e.terms.own_tsn e.terms.outbound e.configuration.fragment b.rwnd e.terms.partial)
+
+senders_reached : (w : World) → IsKept w → was_open w.b.phase ≡ true → (x : Side) → IsReached (format_of (end_of w x)) (end_of w x).sender
+senders_reached w (inl k) on x = let q : false ≡ true = subst (λ (h : Phase). was_open h ≡ true) k.listens on in absurd (cc)
+senders_reached w (inr m) on A = m.met.met.going.reached
+senders_reached w (inr m) on B = m.met.met.coming.reached
+
+plans_orderly : (w : World) → IsKept w → (x : Side) → Orderly (format_of (end_of w x)) (end_of w x).sender.plan
+plans_orderly w (inl k) x = blank_orderly (end_of w x) (k.ends x).blank
+plans_orderly w (inr m) A = plan_stays_orderly (format_of w.a) w.a.sender m.met.met.going.reached
+plans_orderly w (inr m) B = plan_stays_orderly (format_of w.b) w.b.sender m.met.met.coming.reached
+
+pub views_are_in_order : ViewsAreInOrder
+views_are_in_order s events w r =
+    let k = kept_always s events w r in
+    record {
+      ends = λ x. record { plan = plans_orderly w k x; receiver = holds_always IsAtRest rest_law s events r.answers w r.run x };
+      senders = senders_reached w k;
+    }
