@@ -14,6 +14,8 @@ pub mod AnswerLemmas
 pub mod ForwardLemmas
 pub mod GoneLemmas
 pub mod WishLemmas
+pub mod NewItems
 pub mod AssignLemmas
 pub mod ExpireLemmas
 pub mod ExpireKept
+pub mod GoingOnLemmas

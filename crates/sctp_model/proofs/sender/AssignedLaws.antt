@@ -76,7 +76,7 @@ numbered_ticket f v q rest d turn t h taken = by_ticket (q.message.ticket == t) 
     })
 
 -- a message in part takes its next fragment: it has its number already
-continued_ticket : (f : Format) (v : SenderView) (s t : ℕ) (e : Entry) → IsReached f v → continued v.plan s ≡ Some e → name_among (with_entry v.plan e) t (v.plan.entries ++ e ∷ []) ≡ name_of v t
+pub continued_ticket : (f : Format) (v : SenderView) (s t : ℕ) (e : Entry) → IsReached f v → continued v.plan s ≡ Some e → name_among (with_entry v.plan e) t (v.plan.entries ++ e ∷ []) ≡ name_of v t
 continued_ticket f v s t e h on =
     let p2 = with_entry v.plan e in
     name_among-same v.plan p2 t (v.plan.entries ++ e ∷ []) (λ x. refl) ∙ name_among-append v.plan t v.plan.entries (e ∷ []) ∙ by_ticket (has_ticket t (entry_message v.plan e)) refl
