@@ -13,11 +13,11 @@ abbrev pub given_up_run : SenderView → List Entry → ℕ
 given_up_run v [] = 0
 given_up_run v (e ∷ es) = if is_given_up v e then suc (given_up_run v es) else 0
 
--- The point: CUM, and so many indexes behind it as are all of abandoned messages (RFC 3758, 3.5, C1).
+-- The point: CUM, and so many indexes behind it as are all of abandoned messages (RFC 3758, 3.5).
 abbrev pub point : SenderView → ℕ
 point v = v.cum + given_up_run v (drop v.cum v.plan.entries)
 
--- The data timer is wanted: something is unsettled, or a FORWARD is due as long as CUM hasn't reached the point (RFC 3758, 3.5, C4).
+-- The data timer is wanted: something is unsettled, or a FORWARD is due as long as CUM hasn't reached the point (RFC 3758, 3.5).
 abbrev pub unsettled : SenderView → Bool
 unsettled v = some_entry v (is_unsettled v) || not (point v == v.cum)
 
