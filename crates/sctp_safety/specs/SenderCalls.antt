@@ -45,6 +45,7 @@ pub record AbandonsAlone (f : Format) (v : SenderView) : Type 0 where
   pub abandoning : (t : ℕ) → OnlyOfTicket v t (abandon_after v t)
   pub expiring : (now : ℕ) → OnlyPastTime v now (expired v now)
 
+-- So it is of every view that calls reach (RFC 3758, 3.5).
 abbrev pub AbandonedOnlyAsked : Type 0
 AbandonedOnlyAsked = (f : Format) (v : SenderView) → IsReached f v → AbandonsAlone f v
 
@@ -59,6 +60,7 @@ pub record HasOneResult (f : Format) (v : SenderView) : Type 0 where
   pub forward_is : IsForward f v.plan v.cum (point v) (forward_of f v)
   pub forward_one : (x : Forward) → IsForward f v.plan v.cum (point v) x → x ≡ forward_of f v
 
+-- So it is of every view that calls reach.
 abbrev pub EachCallHasOneResult : Type 0
 EachCallHasOneResult = (f : Format) (v : SenderView) → IsReached f v → HasOneResult f v
 
