@@ -196,3 +196,9 @@ due_never f kept s from floor next ms m b lowest large r v =
     let best = lowest v.apart in
     let small : suc b.number < COUNTS = v.numbers best.0.0 b.number (here_has (pieces_of kept) b.at best.0.0 best.0.1.here) best.0.1.begins.number in
     absurd (omega arith)
+
+-- what is due ends above the skipped numbers
+pub due_above : (f : Format) (r : ReceiverView) (s n : ℕ) (ms : List Handed) (m : ℕ) → IsDue f r s n ms m → (r.skip (ordered_lane s) ≤ m) × (n ≤ m)
+due_above f r s _ _ _ (Stop n above none) = (above, omega arith)
+due_above f r s _ _ _ (Over n m x xs ms whole low rest) = let more = due_above f r s (suc n) ms m rest in (more.0, omega (arith, more.1))
+due_above f r s _ _ _ (Past n m ms below none rest) = let more = due_above f r s (suc n) ms m rest in (more.0, omega (arith, more.1))

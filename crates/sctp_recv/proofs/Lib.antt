@@ -6,6 +6,7 @@ mod RoomLemmas
 mod KeptLemmas
 mod ResultLemmas
 mod AnswerLemmas
+mod RecordedLemmas
 mod TakenLemmas
 mod HeldLemmas
 mod ListOrder

@@ -40,6 +40,29 @@ set_unchanged [] i x y l e same = refl
 set_unchanged (z ∷ xs) zero x y l e same = ap (λ (k : StreamKept). k ∷ map stream_of xs) (same ∙ ap stream_of e)
 set_unchanged (z ∷ xs) (suc i) x y l e same = ap (λ (ks : List StreamKept). stream_of z ∷ ks) (set_unchanged xs i x y (omega arith) e same)
 
+-- one stream is another, and all others are as before
+pub one_stream : {A : Type 0} (g : ℕ → A) (field : StreamKept → A) (ss : List StreamKept) (s : ℕ) (b : StreamKept) (y : A) → s < length ss → ((q : ℕ) → g q ≡ field (stream_at ss q)) → y ≡ field b →
+    (q : ℕ) → at g s y q ≡ field (stream_at (set ss s b) q)
+one_stream g field ss s b y l each here q = elim (cases_Bool (q == s)) [
+  | inl e ↦
+      let same : q ≡ s = grind (arith, nat_tests) in
+      let now : field (stream_at (set ss s b) q) ≡ field b = ap (λ (i : ℕ). field (stream_at (set ss s b) i)) same ∙ ap field (stream_set_same ss s b l) in
+      rw e (here ∙ sym now)
+  | inr e ↦
+      let now = ap field (stream_set_other ss s q b (λ same. grind (arith, nat_tests))) in
+      rw e (each q ∙ sym now)
+]
+
+-- a field of the stream stays
+pub same_field : {A : Type 0} (field : StreamKept → A) (ss : List StreamKept) (s : ℕ) (b : StreamKept) → s < length ss → field b ≡ field (stream_at ss s) →
+    (q : ℕ) → field (stream_at (set ss s b) q) ≡ field (stream_at ss q)
+same_field field ss s b l same q = elim (cases_Bool (q == s)) [
+  | inl e ↦
+      let here : q ≡ s = grind (arith, nat_tests) in
+      ap (λ (i : ℕ). field (stream_at (set ss s b) i)) here ∙ ap field (stream_set_same ss s b l) ∙ same ∙ ap (λ (i : ℕ). field (stream_at ss i)) (sym here)
+  | inr e ↦ ap field (stream_set_other ss s q b (λ here. grind (arith, nat_tests)))
+]
+
 pub length_set : (ss : List StreamKept) (s : ℕ) (x : StreamKept) → length (set ss s x) ≡ length ss
 length_set [] s x = refl
 length_set (y ∷ ss) zero x = refl

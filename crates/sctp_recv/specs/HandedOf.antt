@@ -9,6 +9,7 @@ use Rattle.sctp_recv.specs.declared.message.Message.{Message}
 abbrev pub message_bytes : Message → List ℕ
 message_bytes m = text_of_parts m.parts.items
 
+-- the message as the view has it
 abbrev pub handed_of : Message → Handed
 handed_of m = record {
   first = m.first;

@@ -4,6 +4,7 @@ use Rattle.std.specs.declared.vec.Vec.{Vec}
 use Rattle.std.specs.declared.alloc.Global.{Global}
 use Rattle.sctp_model.specs.Lists.{joined}
 
+-- the data of one fragment
 abbrev pub bytes_of : Vec ℕ Global → List ℕ
 bytes_of v = v.items
 

@@ -17,7 +17,7 @@ ghost use Rattle.sctp_recv.specs.Kept.{pieces_of, counted};
 ghost use Rattle.sctp_recv.specs.KeptOf.{kept_of};
 ghost use Rattle.sctp_recv.specs.inner.Rows.{IsRowOf, IsWanted};
 
-use crate::answer::{Answer, Row, TsnPlace, place_of_tsn};
+use crate::answer::{Answer, DUPLICATE_LIMIT, Row, TsnPlace, place_of_tsn};
 use crate::fragment::{Fragment, fragment_of, is_kept};
 use crate::give::take_in;
 use crate::inbound::{Inbound, fresh_streams, take_first};
@@ -30,9 +30,6 @@ use sctp_framing::Framing;
 use sctp_wire::{NoMemory, Piece};
 use std::alloc::Global;
 use std::marker::PhantomData;
-
-/// How many TSNs that came again are told in a SACK.
-const DUPLICATE_LIMIT: usize = 16;
 
 /// The receiving end, in one format of user data.
 #[derive(Drop)]

@@ -54,6 +54,7 @@ pub record IsWanted (f : Format) (k : ReceiverKept) (v : ReceiverView) (p : Piec
   pub wanted : model.is_passed f v (piece_at f v k.seen.cumulative p) ≡ false
   pub fits : k.held + length p.bytes ≤ k.buffer
 
+-- its answer by the table, read at the cumulative index that is kept
 abbrev pub answer_at : Format → ReceiverKept → ReceiverView → PieceMeaning → model.Answer
 answer_at f k v p = model.answer_to f v k.seen.cumulative p
 

@@ -32,6 +32,7 @@ abbrev pub IsEndOf : Format → List Fragment → Piece → Option ℕ → Type 
 IsEndOf f kept x None = (xs : List Piece) → GoesOn f kept x xs → ⊥
 IsEndOf f kept x (Some p) = (xs : List Piece) × GoesOn f kept x xs × (p ≡ place_of f x + length xs)
 
+-- the same of the chunk at a place, where kept chunks are apart
 abbrev pub IsRowEnd : Format → List Fragment → ℕ → Option ℕ → Type 0
 IsRowEnd f kept i end = (x : Piece) → IsApart f (pieces_of kept) → StandsAt kept i x → IsEndOf f kept x end
 

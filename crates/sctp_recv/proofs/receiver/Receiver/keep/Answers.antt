@@ -14,7 +14,8 @@ use Rattle.sctp_recv.specs.StandsFor.{StandsFor, KeepsView}
 use Rattle.sctp_recv.specs.inner.Giving.{TakesIn, RecordsNew}
 use Rattle.sctp_recv.proofs.ResultLemmas.{if_err}
 use Rattle.sctp_recv.proofs.StreamLemmas.{stream_mapped, set_mapped, set_unchanged}
-use Rattle.sctp_recv.proofs.TakenLemmas.{keeps_same, IsKeepable, keeps_taken_in}
+use Rattle.sctp_recv.proofs.RecordedLemmas.{keeps_same, IsKeepable}
+use Rattle.sctp_recv.proofs.TakenLemmas.{keeps_taken_in}
 use Rattle.sctp_recv.proofs.receiver.Receiver.keep.Goals as goal
 
 pub returns-in_err-freed-clause-refused : goal.returns-in_err-freed-clause-refused

@@ -1,7 +1,7 @@
 use Rattle.std.proofs.Common.{arith}
 use Rattle.sctp_recv.specs.KeptOf.{kept_of}
 use Rattle.sctp_recv.specs.StandsFor.{StandsFor}
-use Rattle.sctp_recv.proofs.TakenLemmas.{keeps_full}
+use Rattle.sctp_recv.proofs.RecordedLemmas.{keeps_full}
 use Rattle.sctp_recv.proofs.receiver.Receiver.note.Goals as goal
 
 pub returns-else-len-lt-DUPLICATE_LIMIT-clause-noted : goal.returns-else-len-lt-DUPLICATE_LIMIT-clause-noted

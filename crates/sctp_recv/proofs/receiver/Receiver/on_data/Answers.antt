@@ -3,7 +3,7 @@ use Rattle.sctp_wire.specs.ChunkTree.{piece_meaning}
 use Rattle.sctp_recv.specs.KeptOf.{kept_of}
 use Rattle.sctp_recv.specs.StandsFor.{StandsFor}
 use Rattle.sctp_recv.proofs.ReceiverSteps.{cumulative_is}
-use Rattle.sctp_recv.proofs.TakenLemmas.{keeps_new}
+use Rattle.sctp_recv.proofs.RecordedLemmas.{keeps_new}
 use Rattle.sctp_recv.proofs.receiver.Receiver.on_data.Goals as goal
 
 pub returns-in_ok-note-in-Duplicate-clause-step : goal.returns-in_ok-note-in-Duplicate-clause-step

@@ -1,0 +1,140 @@
+-- What a receiver keeps once an index was recorded, or a TSN noted; and what makes a chunk one that can be kept.
+use Rattle.std.proofs.Common.{◌≡◌, ℕ, zero, suc, ◌+◌, ◌-◌, ◌<◌, ◌≤◌, ◌⊎◌, Bool, true, false, ◌==◌, take, List, [], ◌∷◌, ◌++◌, length, set, filter, Some, inl, inr, refl, sym, ◌∙◌, ap, subst, length-append, arith}
+use Rattle.std.specs.Prelude.{not}
+use Rattle.std.proofs.lemmas.Bool.{cases_Bool}
+use Rattle.std.proofs.lemmas.Bool.Decides.{nat_tests}
+use Rattle.sctp_model.specs.Limits.{WINDOW, DUPLICATE_LIMIT}
+use Rattle.sctp_model.specs.Serial.{COUNTS}
+use Rattle.sctp_model.specs.Lists.{Has, at}
+use Rattle.sctp_model.specs.Format.{Format, Kind, Lane, ordered_lane, unordered_lane}
+use Rattle.sctp_model.specs.Pieces.{Piece}
+use Rattle.sctp_model.specs.Whole.{text_of}
+use Rattle.sctp_model.specs.ReceiverView.{Handed, ReceiverView, size_of_pieces, size_of_messages, size_of_waiting}
+use Rattle.sctp_model.specs.Receiving.{IsDue, Stop, Over, Past, is_below, without_below, handed_ordered, without_message, goes_with, handed_unordered, IsWholeWith, message_of, recorded, GivesOrdered, GivesUnordered, Gives, Takes}
+use Rattle.sctp_model.specs.receiver.Reading.{lane_of, piece_at}
+use Rattle.sctp_model.specs.Chunk.{PieceMeaning}
+use Rattle.sctp_model.specs.receiver.Laws.{IsApart}
+use Rattle.sctp_model.specs.receiver.PieceTaken.{is_passed, noted}
+use Rattle.sctp_model.proofs.receiver.OneStep.{filter_has, filter_apart, kept_apart}
+use Rattle.sctp_model.proofs.receiver.Sizes.{due_size, message_size}
+use Rattle.sctp_recv.specs.declared.fragment.Fragment.{Fragment}
+use Rattle.sctp_recv.specs.Kept.{piece_of, pieces_of}
+use Rattle.sctp_recv.specs.SeenKept.{SeenKept, is_reached}
+use Rattle.sctp_recv.specs.ReceiverKept.{StreamKept, ReceiverKept, stream_at}
+use Rattle.sctp_recv.specs.StandsFor.{KeepsView}
+use Rattle.sctp_recv.specs.inner.DueSearch.{IsDueView, IsExtent}
+use Rattle.sctp_recv.specs.inner.Giving.{freed, GivesDue, GivesWhole, GivesNone, GivesBy, TakesIn, RecordsNew}
+use Rattle.sctp_recv.specs.inner.Rows.{IsNewIndex}
+use Rattle.sctp_recv.proofs.StreamLemmas.{stream_set_same, stream_set_other, length_set, waiting_set, size_append}
+use Rattle.sctp_recv.proofs.NewestLemmas.{whole_says, left_without}
+
+-- ---- an index recorded
+
+pub at_cases : (g : ℕ → Bool) (i j : ℕ) → at g i true j ≡ true → (j ≡ i) ⊎ (g j ≡ true)
+at_cases g i j e = elim (cases_Bool (j == i)) [
+  | inl same ↦ inl (grind (arith, nat_tests))
+  | inr other ↦ inr (rw other at e)
+]
+
+pub at_stays : (g : ℕ → Bool) (i j : ℕ) → g j ≡ true → at g i true j ≡ true
+at_stays g i j e = elim (cases_Bool (j == i)) [ inl same ↦ rw same refl | inr other ↦ rw other e ]
+
+pub at_here : (g : ℕ → Bool) (i : ℕ) → at g i true i ≡ true
+at_here g i = let same : (i == i) ≡ true = grind (arith, nat_tests) in rw same refl
+
+pub keeps_recorded : (f : Format) (k : ReceiverKept) (v : ReceiverView) (x : Piece) (seen : SeenKept) → KeepsView f k v → RecordsNew k.seen seen x.index →
+    is_reached k.seen x.index ≡ false → x.index ≤ k.seen.cumulative + WINDOW → suc x.index < COUNTS → KeepsView f (record k { seen = seen }) (recorded v x)
+keeps_recorded f k v x seen w records new near small = record {
+  seen = records new near v.seen v.jump w.seen;
+  counts = λ j came. elim (at_cases v.seen x.index j came) [ inl same ↦ omega arith | inr old ↦ w.counts j old ];
+  kept = w.kept;
+  apart = w.apart;
+  recorded = λ y there. at_stays v.seen x.index y.index (w.recorded y there);
+  numbers = w.numbers;
+  next = w.next;
+  skip = w.skip;
+  skipped = w.skipped;
+  waiting = w.waiting;
+  streams = w.streams;
+  duplicates = w.duplicates;
+  few = w.few;
+  held = w.held;
+  room = w.room;
+  small = w.small;
+  initial = w.initial;
+  buffer = w.buffer;
+}
+
+pub keeps_new : (f : Format) (k : ReceiverKept) (v : ReceiverView) (p : PieceMeaning) (i : ℕ) (seen : SeenKept) → KeepsView f k v → IsNewIndex f k v p i → RecordsNew k.seen seen i →
+    KeepsView f (record k { seen = seen }) (recorded v (piece_at f v k.seen.cumulative p))
+keeps_new f k v p i seen w n records =
+    keeps_recorded f k v (piece_at f v k.seen.cumulative p) seen w (subst (λ (j : ℕ). RecordsNew k.seen seen j) n.index records) (subst (λ (j : ℕ). is_reached k.seen j ≡ false) n.index n.new)
+    (subst (λ (j : ℕ). j ≤ k.seen.cumulative + WINDOW) n.index n.near) (subst (λ (j : ℕ). suc j < COUNTS) n.index n.count)
+
+-- nothing changed
+pub keeps_same : (f : Format) (k : ReceiverKept) (v : ReceiverView) (seen : SeenKept) (kept : List Piece) (ss : List StreamKept) → KeepsView f k v → seen ≡ k.seen → kept ≡ k.kept → ss ≡ k.streams →
+    KeepsView f (record k { seen = seen; kept = kept; streams = ss }) v
+keeps_same f k v seen kept ss w a b c =
+    subst (λ (n : SeenKept). KeepsView f (record k { seen = n; kept = kept; streams = ss }) v) (sym a)
+    (subst (λ (n : List Piece). KeepsView f (record k { kept = n; streams = ss }) v) (sym b) (subst (λ (n : List StreamKept). KeepsView f (record k { streams = n }) v) (sym c) w))
+
+-- ---- a TSN noted
+
+pub keeps_duplicates : (f : Format) (k : ReceiverKept) (v : ReceiverView) (ds es : List ℕ) → KeepsView f k v → es ≡ ds → length ds ≤ DUPLICATE_LIMIT → KeepsView f (record k { duplicates = ds }) (record v { duplicates = es })
+keeps_duplicates f k v ds es w same few = record {
+  seen = w.seen;
+  counts = w.counts;
+  kept = w.kept;
+  apart = w.apart;
+  recorded = w.recorded;
+  numbers = w.numbers;
+  next = w.next;
+  skip = w.skip;
+  skipped = w.skipped;
+  waiting = w.waiting;
+  streams = w.streams;
+  duplicates = same;
+  few = few;
+  held = w.held;
+  room = w.room;
+  small = w.small;
+  initial = w.initial;
+  buffer = w.buffer;
+}
+
+take_all : (n : ℕ) (xs : List ℕ) → length xs ≤ n → take n xs ≡ xs
+take_all zero [] l = refl
+take_all (suc n) [] l = refl
+take_all zero (x ∷ xs) l = absurd (omega arith)
+take_all (suc n) (x ∷ xs) l = ap (λ (ys : List ℕ). x ∷ ys) (take_all n xs (omega arith))
+
+take_front : (n : ℕ) (xs ys : List ℕ) → n ≡ length xs → take n (xs ++ ys) ≡ xs
+take_front zero [] ys e = refl
+take_front zero (x ∷ xs) ys e = absurd (omega arith)
+take_front (suc n) [] ys e = absurd (omega arith)
+take_front (suc n) (x ∷ xs) ys e = ap (λ (zs : List ℕ). x ∷ zs) (take_front n xs ys (omega arith))
+
+pub keeps_noted : (f : Format) (k : ReceiverKept) (v : ReceiverView) (wire : ℕ) → KeepsView f k v → length k.duplicates < DUPLICATE_LIMIT →
+    KeepsView f (record k { duplicates = k.duplicates ++ wire ∷ [] }) (noted v wire)
+keeps_noted f k v wire w room =
+    let size = length-append k.duplicates (wire ∷ []) in
+    keeps_duplicates f k v (k.duplicates ++ wire ∷ []) (noted v wire).duplicates w
+    (ap (λ (ds : List ℕ). take DUPLICATE_LIMIT (ds ++ wire ∷ [])) w.duplicates ∙ take_all DUPLICATE_LIMIT (k.duplicates ++ wire ∷ []) (omega arith)) (omega arith)
+
+pub keeps_full : (f : Format) (k : ReceiverKept) (v : ReceiverView) (wire : ℕ) → KeepsView f k v → DUPLICATE_LIMIT ≤ length k.duplicates → KeepsView f k (noted v wire)
+keeps_full f k v wire w full =
+    keeps_duplicates f k v k.duplicates (noted v wire).duplicates w
+    (ap (λ (ds : List ℕ). take DUPLICATE_LIMIT (ds ++ wire ∷ [])) w.duplicates ∙ take_front DUPLICATE_LIMIT k.duplicates (wire ∷ []) (let few = w.few in omega arith)) w.few
+
+-- what a chunk must be to be kept
+pub record IsKeepable (f : Format) (k : ReceiverKept) (v : ReceiverView) (x : Piece) (seen : SeenKept) : Type 0 where
+  pub keeps : KeepsView f k v
+  pub records : RecordsNew k.seen seen x.index
+  pub new : is_reached k.seen x.index ≡ false
+  pub near : x.index ≤ k.seen.cumulative + WINDOW
+  pub small : suc x.index < COUNTS
+  pub unseen : v.seen x.index ≡ false
+  pub wanted : is_passed f v x ≡ false
+  pub number : (n : ℕ) → x.number ≡ Some n → suc n < COUNTS
+  pub stream : x.lane.stream < length k.streams
+  pub fits : k.held + length x.bytes ≤ k.buffer
