@@ -1,11 +1,12 @@
 #!/bin/sh
 # Shows what the launcher ./sctp-trace does in each order of commands: before a build, after one, and after sources have changed.
 # To be run by hand: tests/launcher.sh. It works on a copy of the repository, proves and builds the program there (with what `out/`
-# keeps a minute or two, else a quarter of an hour), prints a line for each order, and ends with 0 where all are as they should be.
+# keeps a minute or two, else a quarter of an hour), prints a line for each order, and ends with 0 where all are as they should be. Before a build each order takes half a minute.
 
 root=$(CDPATH='' cd -- "$(dirname -- "$0")/.." && pwd -P) || exit 3
 room=$(mktemp -d) || exit 3
 trap 'rm -rf -- "$room"' EXIT
+trap 'exit 130' HUP INT TERM
 cp -a -- "$root" "$room/copy" && cd -- "$room/copy" || exit 3
 main=crates/sctp_trace_main
 source=crates/sctp_trace/src/pair.rt
