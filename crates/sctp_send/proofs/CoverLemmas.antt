@@ -83,11 +83,6 @@ off_run from to i out = by_test (nat_lt from i) (nat_le i to) refl refl
     by_test true false lo hi = refl
     by_test true true lo hi = absurd (out (grind (arith, nat_tests)) (grind (arith, nat_tests)))
 
--- nothing is covered yet
-pub run_begins : (test : ℕ → Bool) (from : ℕ) (es now : List Outstanding) → now ≡ all_told test 1 es → now ≡ all_told (or_run test from from) 1 es
-run_begins test from es now is =
-    is ∙ told_same test (or_run test from from) es 1 (λ j le. sym (rw (off_run from from j (λ lo hi. omega arith)) (or_nothing (test j))))
-
 pub run_grows : (test : ℕ → Bool) (from at : ℕ) (es now : List Outstanding) (x : Outstanding) → from ≤ at → at < length now → x ≡ get_or now at x
     → now ≡ all_told (or_run test from at) 1 es → set now at (as_covered x) ≡ all_told (or_run test from (at + 1)) 1 es
 run_grows test from at es now x le lt read is =

@@ -9,7 +9,6 @@ use Rattle.sctp_model.specs.sender.Words.{when}
 use Rattle.sctp_model.specs.sender.Abandoning.{is_past}
 use Rattle.sctp_model.proofs.sender.ExpiredLaws.{is_late}
 use Rattle.sctp_send.specs.inner.Expiring.{late_after, sooner, soonest}
-use Rattle.sctp_send.proofs.ReaderLemmas.{none_behind}
 
 -- a message with this ticket is past its time
 abbrev pub any_late : ℕ → ℕ → List (Option Message) → Bool
@@ -35,21 +34,7 @@ late_walked g f now last start found next xs at x lt read is before =
     let one : at + 1 ≡ suc at = omega arith in
     before ∙ late_step g f now last found xs at x lt ∙ ap (λ y. soonest now last (sooner found (late_after now last (f (g y)))) (drop (suc at) (map f (map g xs)))) (sym read) ∙ rw (← is, one) refl
 
-count_maps : {A B : Type 0} (g : A → B) (f : B → Option Message) (xs : List A) → length (map f (map g xs)) ≡ length xs
-count_maps g f [] = refl
-count_maps g f (x ∷ xs) = ap suc (count_maps g f xs)
-
-pub late_ended : {A B : Type 0} (g : A → B) (f : B → Option Message) (now last : ℕ) (start found : Option ℕ) (xs : List A) (at : ℕ) → length xs ≤ at
-    → soonest now last start (map f (map g xs)) ≡ soonest now last found (drop at (map f (map g xs))) → found ≡ soonest now last start (map f (map g xs))
-late_ended g f now last start found xs at le before =
-    let long = count_maps g f xs in
-    sym (before ∙ ap (soonest now last found) (none_behind at (map f (map g xs)) (omega arith)))
-
 -- ---- the lowest
-
-either : (b c : Bool) → (b || c) ≡ true → (b ≡ true) ⊎ (c ≡ true)
-either true c on = inl refl
-either false c on = inr on
 
 neither : (b c : Bool) → b ≡ false → c ≡ false → (b || c) ≡ false
 neither b c off none = rw (off, none) refl

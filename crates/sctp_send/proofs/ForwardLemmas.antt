@@ -1,19 +1,18 @@
 -- The FORWARD, from what a sender keeps: the largest numbers that were passed, as entries on the wire.
-use Rattle.std.proofs.Common.{◌≡◌, ℕ, zero, suc, ◌+◌, ◌-◌, ◌*◌, ◌%◌, ◌^◌, ◌<◌, ◌≤◌, ◌⊎◌, inl, inr, List, [], ◌∷◌, ◌++◌, length, map, take, drop, Bool, true, false, Option, Some, None, refl, sym, ap, ◌∙◌, arith, get_or, append_assoc}
-use Rattle.std.specs.Prelude.{◌==◌, ◌&&◌, nat_lt, if◌then◌else◌}
+use Rattle.std.proofs.Common.{◌≡◌, ℕ, zero, suc, ◌+◌, ◌-◌, ◌*◌, ◌%◌, ◌^◌, ◌<◌, ◌≤◌, List, [], ◌∷◌, ◌++◌, length, map, take, drop, Bool, true, false, Option, Some, None, refl, sym, ap, ◌∙◌, arith, get_or, append_assoc}
+use Rattle.std.specs.Prelude.{◌&&◌, nat_lt, if◌then◌else◌}
 use Rattle.std.specs.List.{AllByRecursion}
 use Rattle.std.proofs.lemmas.List.{length-map, map-append, length-take-le}
 use Rattle.std.proofs.lemmas.Bool.Decides.{nat_tests}
-use Rattle.sctp_model.specs.Format.{Format, Plain, Interleaved, Lane, same_kind, same_lane, is_numbered}
+use Rattle.sctp_model.specs.Format.{Format, Plain, Interleaved, Lane, is_numbered}
 use Rattle.sctp_model.specs.Framing.{kind_of, wire_number, forward_chunk}
 use Rattle.sctp_model.specs.Serial.{tsn}
 use Rattle.sctp_model.specs.Plan.{Entry}
 use Rattle.sctp_model.specs.Chunk.{SkipMeaning, ForwardMeaning, chunk_length}
 use Rattle.sctp_model.specs.Packet.{size_of_packet}
 use Rattle.sctp_model.specs.SenderView.{SenderView}
-use Rattle.sctp_model.specs.sender.Entries.{entry_lane, entry_number}
 use Rattle.sctp_model.specs.sender.Readers.{point}
-use Rattle.sctp_model.specs.sender.Forwarding.{larger, largest_in, passed, skip_in, skip_of, skips_on, skips_below}
+use Rattle.sctp_model.specs.sender.Forwarding.{largest_in, passed, skip_in, skip_of, skips_on, skips_below}
 use Rattle.sctp_model.specs.sender.SentChunks.{is_unordered, skip_said, forward_said}
 use Rattle.sctp_model.proofs.sender.OwedLaws.{is_promised}
 use Rattle.sctp_wire.specs.declared.chunk.Chunk.{Chunk}
@@ -25,61 +24,12 @@ use Rattle.sctp_packet.specs.Draft.{Draft, room_in, has_room}
 use Rattle.sctp_packet.proofs.DraftLemmas.{size_of_more}
 use Rattle.sctp_framing.specs.SkipForms.{skip_form}
 use Rattle.sctp_send.specs.SenderKept.{Item, Kept}
-use Rattle.sctp_send.specs.OutstandingFields.{lane_meaning, lane_of, entry_meaning, item_meaning, entries_of}
+use Rattle.sctp_send.specs.OutstandingFields.{lane_of, item_meaning, entries_of}
 use Rattle.sctp_send.specs.SenderStands.{items_from, Keeps}
 use Rattle.sctp_send.specs.inner.Walks.{given_up_items}
-use Rattle.sctp_send.specs.declared.outstanding.Place.{Place}
-use Rattle.sctp_send.specs.declared.outstanding.Place.TheVariants.{Fragment, EndMark}
 use Rattle.sctp_send.specs.declared.outstanding.Outstanding.{Outstanding}
 use Rattle.sctp_send.proofs.KeepLemmas.{kept_length}
-use Rattle.sctp_send.proofs.ReaderLemmas.{none_behind, run_items, run_within}
-
--- ---- one entry
-
-lane_said : (l : Lane) (n : ℕ) (p : Place) → entry_lane (entry_meaning l n p) ≡ l
-lane_said l n (Fragment k) = refl
-lane_said l n EndMark = refl
-
-number_said : (l : Lane) (n : ℕ) (p : Place) → entry_number (entry_meaning l n p) ≡ n
-number_said l n (Fragment k) = refl
-number_said l n EndMark = refl
-
-kinds_differ : (a b : Bool) → (a ≡ b → ⊥) → same_kind (kind_of b) (kind_of a) ≡ false
-kinds_differ true true ne = absurd (ne refl)
-kinds_differ true false ne = refl
-kinds_differ false true ne = refl
-kinds_differ false false ne = absurd (ne refl)
-
-kind_itself : (b : Bool) → same_kind (kind_of b) (kind_of b) ≡ true
-kind_itself true = refl
-kind_itself false = refl
-
--- an entry of the lane counts
-pub counts : (size stream : ℕ) (unordered : Bool) (found : Option ℕ) (e : Outstanding) → e.message.value.stream ≡ stream → e.message.value.unordered ≡ unordered
-    → largest_in (lane_of stream unordered) found ((item_meaning size e).entry ∷ []) ≡ larger found e.number
-counts size stream unordered found e on kind =
-    let here : (stream == e.message.value.stream) ≡ true = grind (arith, nat_tests) in
-    let lane : same_lane (lane_of stream unordered) (lane_meaning e.message.value) ≡ true = rw (here, kind) (kind_itself unordered) in
-    rw (lane_said (lane_meaning e.message.value) e.number e.place, number_said (lane_meaning e.message.value) e.number e.place, lane) refl
-
--- an entry of another lane doesn't
-pub passes_by : (size stream : ℕ) (unordered : Bool) (found : Option ℕ) (e : Outstanding) → (e.message.value.stream ≡ stream → ⊥) ⊎ (e.message.value.unordered ≡ unordered → ⊥)
-    → largest_in (lane_of stream unordered) found ((item_meaning size e).entry ∷ []) ≡ found
-passes_by size stream unordered found e other =
-    let lane : same_lane (lane_of stream unordered) (lane_meaning e.message.value) ≡ false = apart other in
-    rw (lane_said (lane_meaning e.message.value) e.number e.place, lane) refl
-  where
-    with_false : (b : Bool) → (b && false) ≡ false
-    with_false true = refl
-    with_false false = refl
-
-    off : (b : Bool) → (stream == e.message.value.stream) ≡ b → (e.message.value.stream ≡ stream → ⊥) → b ≡ false
-    off false is ne = refl
-    off true is ne = absurd (ne (grind (arith, nat_tests)))
-
-    apart : (e.message.value.stream ≡ stream → ⊥) ⊎ (e.message.value.unordered ≡ unordered → ⊥) → same_lane (lane_of stream unordered) (lane_meaning e.message.value) ≡ false
-    apart (inl ne) = rw (off (stream == e.message.value.stream) refl ne) refl
-    apart (inr ne) = rw (kinds_differ e.message.value.unordered unordered ne) (with_false (stream == e.message.value.stream))
+use Rattle.sctp_send.proofs.ReaderLemmas.{run_items, run_within}
 
 -- ---- entry by entry
 
@@ -113,21 +63,11 @@ walked_largest size stream run at unordered found next es x le lt read is before
     before ∙ entries_step (lane_of stream unordered) found (entries_of (map (item_meaning size) (take run es))) at (item_meaning size x).entry (omega arith)
     ∙ rw (first_read size run at es x lt read, ← is, one) refl
 
-pub ended_largest : (size stream run at : ℕ) (unordered : Bool) (found : Option ℕ) (es : List Outstanding) → run ≤ length es → run ≤ at
-    → largest_in (lane_of stream unordered) None (entries_of (map (item_meaning size) (take run es))) ≡ largest_in (lane_of stream unordered) found (drop at (entries_of (map (item_meaning size) (take run es))))
-    → found ≡ largest_in (lane_of stream unordered) None (entries_of (map (item_meaning size) (take run es)))
-ended_largest size stream run at unordered found es le past before =
-    let long = first_length size run es le in
-    sym (before ∙ ap (largest_in (lane_of stream unordered) found) (none_behind at (entries_of (map (item_meaning size) (take run es))) (omega arith)))
-
 -- ---- an entry on the wire
 
 kind_said : (unordered : Bool) → is_unordered (kind_of unordered) ≡ unordered
 kind_said true = refl
 kind_said false = refl
-
-pub skip_here : (f : Format) (stream n : ℕ) (unordered : Bool) → skip_said f (record { lane = lane_of stream unordered; number = n }) ≡ record { stream = stream; unordered = unordered; number = wire_number f (kind_of unordered) n }
-skip_here f stream n unordered = rw (kind_said unordered) refl
 
 pub skip_fits : (f : Format) (stream n : ℕ) (unordered : Bool) → stream < 2 ^ 16 → is_numbered f (kind_of unordered) ≡ true
     → IsSkip (skip_form f) (record { stream = stream; unordered = unordered; number = wire_number f (kind_of unordered) n })

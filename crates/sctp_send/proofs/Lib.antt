@@ -5,6 +5,7 @@ pub mod KeepLemmas
 pub mod SackLemmas
 pub mod QueueLemmas
 pub mod ReaderLemmas
+pub mod WalkLemmas
 pub mod TicketLemmas
 pub mod TrackLemmas
 pub mod WithdrawLemmas

@@ -1,5 +1,5 @@
 -- What a sender tells of itself, from what it keeps.
-use Rattle.std.proofs.Common.{◌≡◌, ℕ, zero, suc, ◌+◌, ◌-◌, ◌%◌, ◌^◌, ◌<◌, ◌≤◌, List, [], ◌∷◌, length, map, drop, Bool, true, false, Option, Some, None, refl, sym, ap, ◌∙◌, ◌⊎◌, inl, inr, arith, get_or}
+use Rattle.std.proofs.Common.{◌≡◌, ℕ, zero, suc, ◌+◌, ◌-◌, ◌%◌, ◌^◌, ◌<◌, ◌≤◌, List, [], ◌∷◌, length, drop, Bool, true, false, Option, Some, None, refl, sym, ap, ◌∙◌, ◌⊎◌, inl, inr, arith, get_or}
 use Rattle.std.specs.Prelude.{nat_lt, not, ◌&&◌, ◌||◌, ◌==◌, if◌then◌else◌}
 use Rattle.std.proofs.lemmas.Bool.Decides.{nat_tests}
 use Rattle.sctp_model.specs.Format.{Format}
@@ -12,23 +12,13 @@ use Rattle.sctp_model.specs.sender.Abandoning.{Name, waits, name_of, is_abandone
 use Rattle.sctp_model.proofs.sender.Bounds.{is_bounded}
 use Rattle.sctp_model.proofs.sender.OwedLaws.{is_promised, is_windowed}
 use Rattle.sctp_model.proofs.sender.TicketLaws.{IsTicketed, is_ticketed, name_of_none, found_owns}
-use Rattle.sctp_send.specs.SenderKept.{Item, Track, Kept}
+use Rattle.sctp_send.specs.SenderKept.{Item, Kept}
 use Rattle.sctp_send.specs.SenderStands.{items_from, fate_here, fate_named, Keeps}
 use Rattle.sctp_send.specs.inner.Walks.{given_up_items, is_item_unsettled, any_unsettled, total, one_if_rest, is_given_up_fate}
 use Rattle.sctp_send.specs.declared.message.Fate.{Fate}
 use Rattle.sctp_send.specs.declared.message.Fate.TheVariants.{Waiting, Numbered, GivenUp}
 use Rattle.sctp_send.proofs.KeepLemmas.{kept_length}
-use Rattle.sctp_send.proofs.QueueLemmas.{kept_in_part, total_drop, sum_queue}
-use Rattle.sctp_send.proofs.ItemLemmas.{item_read}
-use Rattle.std.proofs.lemmas.List.{length-map}
-use Rattle.std.specs.declared.rc.Rc.{Rc}
-use Rattle.std.specs.declared.alloc.Global.{Global}
-use Rattle.sctp_model.specs.sender.Queueing.{cut, owed_for, owed_by_queue}
-use Rattle.sctp_send.specs.OutstandingFields.{item_meaning}
-use Rattle.sctp_send.specs.SenderFields.{track_meaning, queued_by}
-use Rattle.sctp_send.specs.declared.message.Message.{Message as MessageFields}
-use Rattle.sctp_send.specs.declared.outstanding.Outstanding.{Outstanding}
-use Rattle.sctp_send.specs.declared.sender.Track.{Track as TrackFields}
+use Rattle.sctp_send.proofs.QueueLemmas.{kept_in_part}
 use Rattle.sctp_send.proofs.TableLemmas.{get_or-table, length-table}
 
 -- ---- walks
@@ -181,94 +171,6 @@ no_ticket f s v t k out =
         let own = found_owns v.plan v.tickets t v.plan.entries v.plan.entries n h.owned is in
         let low = (own.0 t own.1).0 in
         absurd (omega arith)
-
--- ---- walks, entry by entry
-
-pub walked_run : (size : ℕ) (es : List Outstanding) (at run : ℕ) (x : Outstanding) → at < length es → x ≡ get_or es at x → x.given_up ≡ true
-    → given_up_items (map (item_meaning size) es) % 2 ^ 32 ≡ (run + given_up_items (drop at (map (item_meaning size) es))) % 2 ^ 32
-    → given_up_items (map (item_meaning size) es) % 2 ^ 32 ≡ ((run + 1) % 2 ^ 32 + given_up_items (drop (at + 1) (map (item_meaning size) es))) % 2 ^ 32
-walked_run size es at run x lt read on before =
-    let long = length-map es (item_meaning size) in
-    let step = run_step (map (item_meaning size) es) at (item_meaning size x) (omega arith) in
-    let here : (get_or (map (item_meaning size) es) at (item_meaning size x)).given_up ≡ true = rw (item_read size es at x read) on in
-    let one : at + 1 ≡ suc at = omega arith in
-    let more : given_up_items (drop at (map (item_meaning size) es)) ≡ suc (given_up_items (drop (suc at) (map (item_meaning size) es))) = step ∙ rw here refl in
-    rw one (omega (arith, before, more))
-
-pub stopped_run : (size : ℕ) (es : List Outstanding) (at run : ℕ) (x : Outstanding) → at < length es → run < 2 ^ 32 → x ≡ get_or es at x → x.given_up ≡ false
-    → given_up_items (map (item_meaning size) es) % 2 ^ 32 ≡ (run + given_up_items (drop at (map (item_meaning size) es))) % 2 ^ 32
-    → run ≡ given_up_items (map (item_meaning size) es) % 2 ^ 32
-stopped_run size es at run x lt small read off before =
-    let long = length-map es (item_meaning size) in
-    let step = run_step (map (item_meaning size) es) at (item_meaning size x) (omega arith) in
-    let here : (get_or (map (item_meaning size) es) at (item_meaning size x)).given_up ≡ false = rw (item_read size es at x read) off in
-    let none : given_up_items (drop at (map (item_meaning size) es)) ≡ 0 = step ∙ rw here refl in
-    omega (arith, before, none)
-
-pub none_behind : {A : Type 0} (n : ℕ) (xs : List A) → length xs ≤ n → drop n xs ≡ []
-none_behind zero [] le = refl
-none_behind zero (x ∷ xs) le = absurd (omega arith)
-none_behind (suc n) [] le = refl
-none_behind (suc n) (x ∷ xs) le = none_behind n xs (omega arith)
-
-pub ended_run : (size : ℕ) (es : List Outstanding) (at run : ℕ) → length es ≤ at → run < 2 ^ 32
-    → given_up_items (map (item_meaning size) es) % 2 ^ 32 ≡ (run + given_up_items (drop at (map (item_meaning size) es))) % 2 ^ 32
-    → run ≡ given_up_items (map (item_meaning size) es) % 2 ^ 32
-ended_run size es at run le small before =
-    let long = length-map es (item_meaning size) in
-    let none = ap given_up_items (none_behind at (map (item_meaning size) es) (omega arith)) in
-    omega (arith, before, none)
-
-pub walked_any : (size : ℕ) (es : List Outstanding) (at : ℕ) (x : Outstanding) (b : Bool) → at < length es → x ≡ get_or es at x → b ≡ is_item_unsettled (item_meaning size x)
-    → any_unsettled (map (item_meaning size) es) ≡ any_unsettled (drop at (map (item_meaning size) es)) → any_unsettled (map (item_meaning size) es) ≡ (b || any_unsettled (drop (at + 1) (map (item_meaning size) es)))
-walked_any size es at x b lt read is before =
-    let long = length-map es (item_meaning size) in
-    let step = any_step (map (item_meaning size) es) at (item_meaning size x) (omega arith) in
-    let one : at + 1 ≡ suc at = omega arith in
-    before ∙ step ∙ rw (item_read size es at x read, ← is, one) refl
-
-pub ended_any : (size : ℕ) (es : List Outstanding) (at : ℕ) → length es ≤ at → any_unsettled (map (item_meaning size) es) ≡ any_unsettled (drop at (map (item_meaning size) es)) → false ≡ any_unsettled (map (item_meaning size) es)
-ended_any size es at le before =
-    let long = length-map es (item_meaning size) in
-    sym (before ∙ ap any_unsettled (none_behind at (map (item_meaning size) es) (omega arith)))
-
--- ---- sums, stream by stream
-
-pub track_read : (size : ℕ) (ts : List TrackFields) (i : ℕ) (x : TrackFields) → x ≡ get_or ts i x → get_or (map (track_meaning size) ts) i (track_meaning size x) ≡ track_meaning size x
-track_read size ts i x read = of_map ts i x ∙ ap (track_meaning size) (sym read)
-  where
-    of_map : (ds : List TrackFields) (j : ℕ) (d : TrackFields) → get_or (map (track_meaning size) ds) j (track_meaning size d) ≡ track_meaning size (get_or ds j d)
-    of_map [] j d = refl
-    of_map (e ∷ ds) zero d = refl
-    of_map (e ∷ ds) (suc j) d = of_map ds j d
-
-pub total_more : (f : Track → ℕ) (size : ℕ) (ts : List TrackFields) (at : ℕ) (x : TrackFields) → at < length ts → x ≡ get_or ts at x
-    → total f (drop at (map (track_meaning size) ts)) ≡ f (track_meaning size x) + total f (drop (at + 1) (map (track_meaning size) ts))
-total_more f size ts at x lt read =
-    let long = length-map ts (track_meaning size) in
-    let one : at + 1 ≡ suc at = omega arith in
-    total_drop f (map (track_meaning size) ts) at (track_meaning size x) (omega arith) ∙ rw (track_read size ts at x read, one) refl
-
-pub total_end : (f : Track → ℕ) (size : ℕ) (ts : List TrackFields) (at : ℕ) → length ts ≤ at → total f (drop at (map (track_meaning size) ts)) ≡ 0
-total_end f size ts at le = let long = length-map ts (track_meaning size) in ap (total f) (none_behind at (map (track_meaning size) ts) (omega arith))
-
-queue_read : (size : ℕ) (ms : List (Rc MessageFields Global)) (i : ℕ) (x : Rc MessageFields Global) → x ≡ get_or ms i x → get_or (map (queued_by size) ms) i (queued_by size x) ≡ queued_by size x
-queue_read size ms i x read = of_map ms i x ∙ ap (queued_by size) (sym read)
-  where
-    of_map : (ds : List (Rc MessageFields Global)) (j : ℕ) (d : Rc MessageFields Global) → get_or (map (queued_by size) ds) j (queued_by size d) ≡ queued_by size (get_or ds j d)
-    of_map [] j d = refl
-    of_map (e ∷ ds) zero d = refl
-    of_map (e ∷ ds) (suc j) d = of_map ds j d
-
-pub queue_more : (size : ℕ) (ms : List (Rc MessageFields Global)) (at : ℕ) (x : Rc MessageFields Global) → at < length ms → x ≡ get_or ms at x
-    → owed_by_queue (drop at (map (queued_by size) ms)) ≡ owed_for (length (cut size x.value.bytes.items)) + owed_by_queue (drop (at + 1) (map (queued_by size) ms))
-queue_more size ms at x lt read =
-    let long = length-map ms (queued_by size) in
-    let one : at + 1 ≡ suc at = omega arith in
-    sum_queue (map (queued_by size) ms) at (queued_by size x) (omega arith) ∙ rw (queue_read size ms at x read, one) refl
-
-pub queue_end : (size : ℕ) (ms : List (Rc MessageFields Global)) (at : ℕ) → length ms ≤ at → owed_by_queue (drop at (map (queued_by size) ms)) ≡ 0
-queue_end size ms at le = let long = length-map ms (queued_by size) in ap owed_by_queue (none_behind at (map (queued_by size) ms) (omega arith))
 
 -- ---- the readers, branch by branch
 

@@ -10,10 +10,8 @@ use Rattle.sctp_model.specs.sender.SackTaken as taken
 use Rattle.sctp_model.specs.sender.SackTaken.{is_stale, index_of, some_ends_past, some_is_bad, sack_fault, sack_taken, sack_after, shutdown_fault, shutdown_taken, shutdown_after}
 use Rattle.sctp_send.specs.SenderKept.{Kept}
 use Rattle.sctp_send.specs.SenderStands.{Keeps}
-use Rattle.sctp_send.specs.SenderAnswers.{fault_meaning}
 use Rattle.sctp_send.specs.inner.Acknowledging.{IsPassing, Refuses, block_fault}
-use Rattle.sctp_send.specs.declared.sack.SackFault.{SackFault}
-use Rattle.sctp_send.specs.declared.sack.SackFault.TheVariants.{Stale, Beyond, BadBlock}
+use Rattle.sctp_send.specs.declared.sack.SackFault.TheVariants.{Beyond}
 use Rattle.sctp_send.proofs.KeepLemmas.{kept_length}
 
 -- ---- a cumulative TSN
@@ -59,9 +57,6 @@ stale_here f s v wire n k is = behind_is_far wire (tsn v.initial v.cum) ∙ rw (
 index_here : (f : Format) (s : Kept) (v : SenderView) (wire n : ℕ) → Keeps f s v → n ≡ ahead 32 (tsn s.initial s.cum) wire → index_of v wire ≡ v.cum + n
 index_here f s v wire n k is = rw (is, k.holds.initial, k.holds.cum) refl
 
-pub refused_stale : (f : Format) (s : Kept) (v : SenderView) (wire n : ℕ) → Keeps f s v → n ≡ ahead 32 (tsn s.initial s.cum) wire → 2 ^ 31 < n → Refuses v wire Stale
-refused_stale f s v wire n k is far = stale_here f s v wire n k is ∙ grind (arith, nat_tests)
-
 pub refused_beyond : (f : Format) (s : Kept) (v : SenderView) (wire n : ℕ) → Keeps f s v → n ≡ ahead 32 (tsn s.initial s.cum) wire → n ≤ 2 ^ 31 → length s.items < n → Refuses v wire Beyond
 refused_beyond f s v wire n k is near past =
     let long = kept_length f s v k in
@@ -74,16 +69,6 @@ passing f s v wire n k is near le =
     record { fresh = stale_here f s v wire n k is ∙ grind (arith, nat_tests); index = index_here f s v wire n k is; within = omega (arith, long, le) }
 
 -- ---- the answers
-
-pub sack_refused : (v : SenderView) (x : SackMeaning) (fault : SackFault) → Refuses v x.cumulative fault → sack_fault v x ≡ Some (fault_meaning fault)
-sack_refused v x Stale stale = rw stale refl
-sack_refused v x Beyond past = rw (past.0, past.1) refl
-sack_refused v x BadBlock never = absurd never
-
-pub shutdown_refused : (v : SenderView) (wire : ℕ) (fault : SackFault) → Refuses v wire fault → shutdown_fault v wire ≡ Some (fault_meaning fault)
-shutdown_refused v wire Stale stale = rw stale refl
-shutdown_refused v wire Beyond past = rw (past.0, past.1) refl
-shutdown_refused v wire BadBlock never = absurd never
 
 inside_plan : (v : SenderView) (wire n : ℕ) → IsPassing v wire n → nat_lt (length v.plan.entries) (index_of v wire) ≡ false
 inside_plan v wire n p = let le = p.within in rw p.index (grind (arith, nat_tests))
@@ -119,6 +104,3 @@ blocks_good left bs inside good = rw (inside, good) refl
 -- what has a fault changes nothing
 pub sack_faulty : (v : SenderView) (x : SackMeaning) (fault : taken.SackFault) → sack_fault v x ≡ Some fault → sack_after v x ≡ v
 sack_faulty v x fault is = ap (λ (o : Option taken.SackFault). if is_some o then v else sack_taken v x) is
-
-pub shutdown_faulty : (v : SenderView) (wire : ℕ) (fault : taken.SackFault) → shutdown_fault v wire ≡ Some fault → shutdown_after v wire ≡ v
-shutdown_faulty v wire fault is = ap (λ (o : Option taken.SackFault). if is_some o then v else shutdown_taken v wire) is

@@ -23,7 +23,8 @@ use Rattle.sctp_send.specs.declared.outstanding.Outstanding.{Outstanding}
 use Rattle.sctp_send.specs.declared.sender.Track.{Track as TrackFields}
 use Rattle.sctp_send.proofs.TableLemmas.{table-push}
 use Rattle.sctp_send.proofs.ItemLemmas.{item_read}
-use Rattle.sctp_send.proofs.ReaderLemmas.{fate_at, fates_given, none_behind, track_read}
+use Rattle.sctp_send.proofs.ReaderLemmas.{fate_at, fates_given}
+use Rattle.sctp_send.proofs.WalkLemmas.{none_behind, track_read}
 
 -- ---- what is kept, and the view
 

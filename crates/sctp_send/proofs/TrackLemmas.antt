@@ -7,7 +7,7 @@ use Rattle.sctp_send.specs.SenderFields.{rest_meaning, rests_meaning, track_mean
 use Rattle.sctp_send.specs.inner.Walks.{rest_has, GoesOnAt, EndsAt}
 use Rattle.sctp_send.specs.declared.sender.Rest.{Rest as RestFields}
 use Rattle.sctp_send.specs.declared.sender.Track.{Track as TrackFields}
-use Rattle.sctp_send.proofs.ReaderLemmas.{track_read}
+use Rattle.sctp_send.proofs.WalkLemmas.{track_read}
 
 pub rest_taken : (size t at : ℕ) (ts : List TrackFields) (x : TrackFields) → x ≡ get_or ts at x → GoesOnAt t at (map (track_meaning size) ts)
     → IfSome x.rest (λ rest. EndsAt t (rest_meaning size rest) (map (track_meaning size) ts) (map (track_meaning size) (set ts at (record x { rest = None }))))

@@ -19,7 +19,7 @@ use Rattle.sctp_send.specs.SenderStands.{table, fate_here, fate_named, Keeps}
 use Rattle.sctp_send.specs.declared.message.Message.{Message as MessageFields}
 use Rattle.sctp_send.specs.declared.message.Fate.TheVariants.{Waiting, Withdrawn}
 use Rattle.sctp_send.proofs.TableLemmas.{table-set}
-use Rattle.sctp_send.proofs.ReaderLemmas.{none_behind}
+use Rattle.sctp_send.proofs.WalkLemmas.{none_behind}
 
 -- ---- the place of a message that waits
 

@@ -2,7 +2,7 @@ use Rattle.std.proofs.Common.{ap, sym, ◌∙◌, arith, map, Some}
 use Rattle.std.proofs.lemmas.List.{length-map}
 use Rattle.std.proofs.lemmas.Option.{slice_get-get_or}
 use Rattle.sctp_send.specs.SenderFields.{track_meaning}
-use Rattle.sctp_send.proofs.ReaderLemmas.{track_read}
+use Rattle.sctp_send.proofs.WalkLemmas.{track_read}
 use Rattle.sctp_send.proofs.TicketLemmas.{walked_rest, ended_rest}
 use Rattle.sctp_send.proofs.abandon.stream_of.Goals as goal
 

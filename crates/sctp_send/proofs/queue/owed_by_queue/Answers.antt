@@ -1,7 +1,7 @@
 use Rattle.std.proofs.Common.{◌≡◌, ℕ, List, length, arith, ap, ◌∙◌}
 use Rattle.sctp_model.specs.sender.Queueing.{cut, owed_for}
 use Rattle.sctp_send.specs.declared.message.Message.{Message as MessageFields}
-use Rattle.sctp_send.proofs.ReaderLemmas.{queue_more, queue_end}
+use Rattle.sctp_send.proofs.WalkLemmas.{queue_more, queue_end}
 use Rattle.sctp_send.proofs.queue.owed_by_queue.Goals as goal
 
 pub loop-at-preserved : goal.loop-at-preserved

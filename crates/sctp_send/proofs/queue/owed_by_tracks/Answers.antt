@@ -1,6 +1,6 @@
 use Rattle.std.proofs.Common.{arith}
 use Rattle.sctp_send.specs.inner.Walks.{rest_owes}
-use Rattle.sctp_send.proofs.ReaderLemmas.{total_more, total_end}
+use Rattle.sctp_send.proofs.WalkLemmas.{total_more, total_end}
 use Rattle.sctp_send.proofs.queue.owed_by_tracks.Goals as goal
 
 pub loop-track-preserved : goal.loop-track-preserved

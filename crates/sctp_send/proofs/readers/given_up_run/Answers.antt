@@ -1,5 +1,5 @@
 use Rattle.std.proofs.Common.{arith}
-use Rattle.sctp_send.proofs.ReaderLemmas.{walked_run, stopped_run, ended_run}
+use Rattle.sctp_send.proofs.WalkLemmas.{walked_run, stopped_run, ended_run}
 use Rattle.sctp_send.proofs.readers.given_up_run.Goals as goal
 
 pub loop-at-preserved : goal.loop-at-preserved

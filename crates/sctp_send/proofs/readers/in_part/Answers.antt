@@ -1,6 +1,6 @@
 use Rattle.std.proofs.Common.{arith}
 use Rattle.sctp_send.specs.inner.Walks.{one_if_rest}
-use Rattle.sctp_send.proofs.ReaderLemmas.{total_more, total_end}
+use Rattle.sctp_send.proofs.WalkLemmas.{total_more, total_end}
 use Rattle.sctp_send.proofs.readers.in_part.Goals as goal
 
 pub loop-track-preserved : goal.loop-track-preserved

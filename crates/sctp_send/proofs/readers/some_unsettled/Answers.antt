@@ -1,5 +1,5 @@
 use Rattle.std.proofs.Common.{arith, sym, ◌∙◌}
-use Rattle.sctp_send.proofs.ReaderLemmas.{walked_any, ended_any}
+use Rattle.sctp_send.proofs.WalkLemmas.{walked_any, ended_any}
 use Rattle.sctp_send.proofs.readers.some_unsettled.Goals as goal
 
 pub loop-at-preserved : goal.loop-at-preserved
