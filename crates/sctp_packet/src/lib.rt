@@ -13,6 +13,3 @@ pub use fault::PacketFault;
 pub use laws::{one_packet, written_packet_reads};
 pub use read::{Packet, read_packet};
 pub use writer::PacketWriter;
-
-#[cfg(test)]
-mod tests;

@@ -14,6 +14,3 @@ mod words;
 
 pub use chunk::put_chunk;
 pub use text::{print_chunks, print_packet};
-
-#[cfg(test)]
-mod tests;

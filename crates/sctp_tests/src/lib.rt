@@ -6,6 +6,12 @@
 #[cfg(test)]
 mod abandoning;
 #[cfg(test)]
+mod checksums;
+#[cfg(test)]
+mod chunk_lists;
+#[cfg(test)]
+mod chunks;
+#[cfg(test)]
 mod cookies;
 #[cfg(test)]
 mod fakes;
@@ -18,7 +24,11 @@ mod handing_over;
 #[cfg(test)]
 mod lines;
 #[cfg(test)]
+mod packet_writer;
+#[cfg(test)]
 mod pairs;
+#[cfg(test)]
+mod printed;
 #[cfg(test)]
 mod script_lines;
 #[cfg(test)]

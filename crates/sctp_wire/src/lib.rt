@@ -5,6 +5,7 @@
 #![tactic(auto)]
 
 mod as_written;
+mod body;
 mod chunk;
 mod chunks;
 pub mod codes;
@@ -39,6 +40,3 @@ pub use typed::{
 };
 pub use unknown::{Rule, unknown_chunk, unknown_parameter};
 pub use write::write_chunk;
-
-#[cfg(test)]
-mod tests;

@@ -13,7 +13,8 @@ ghost use Rattle.sctp_wire.specs.inner.Frame.{IsWhole};
 ghost use Rattle.sctp_wire.specs.Reads.{Reads};
 ghost use Rattle.sctp_wire.specs.inner.Standing.{is_alone, IsBehindFirst};
 
-use crate::chunk::{Chunk, has_layout, has_list, read_value};
+use crate::body::{has_layout, has_list, read_value};
+use crate::chunk::Chunk;
 use crate::codes::{COOKIE_ECHO, INIT, INIT_ACK, SHUTDOWN_COMPLETE};
 use crate::fault::{Reason, WireFault};
 use crate::numbers::{padded, read_u16};

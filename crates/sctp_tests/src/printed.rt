@@ -1,6 +1,6 @@
 //! Lines of known packets and chunks.
 
-use crate::{print_chunks, print_packet};
+use sctp_print::{print_chunks, print_packet};
 use std::test::Fail;
 
 /// Text that says chunks, the lines that are printed for it, and whether it was read.

@@ -1,6 +1,6 @@
 //! Checksums of known inputs, and packets with each fault.
 
-use crate::{PacketFault, crc32c, read_packet};
+use sctp_packet::{PacketFault, crc32c, read_packet};
 
 /// Bytes, and their checksum: the check value of the polynomial, and the vectors of RFC 3720, B.4.
 const SUMS: [(&[u8], u32); 6] = [
