@@ -11,7 +11,7 @@ use Rattle.sctp_model.specs.ReceiverView.{ReceiverView, IsReached}
 use Rattle.sctp_model.specs.Acknowledgement.{Acknowledgement, covers}
 use Rattle.sctp_safety.specs.Way.{Way, Put_piece, Put_forward, Put_sack, Put_shutdown, Step}
 use Rattle.sctp_safety.proofs.Basics.{each_or, item_at-above}
-use Rattle.sctp_safety.proofs.Facts.{IsDone, IsLost, IsLostBy, IsSettled, MayPass, IsRetired, IsAhead, IsFair, Arranged, Good}
+use Rattle.sctp_safety.proofs.Facts.{IsDone, IsLost, IsLostBy, IsSettled, MayPass, IsRetired, IsAhead, IsSendersForward, IsOrderedPlan, Good}
 use Rattle.sctp_safety.proofs.Later.{by_bags}
 
 pub IsOf_same : (l k : Lane) (n m : ℕ) (e : Entry) → IsOf l n e → IsOf k m e → (l ≡ k) × (n ≡ m)
@@ -42,7 +42,7 @@ slice_get-below (z ∷ xs) zero (suc m) x h l = (z, refl)
 slice_get-below (z ∷ xs) (suc n) (suc m) x h l = slice_get-below xs n m x h (omega arith)
 
 -- the first fragment of a message stands before the others
-first_below : (f : Format) (p : Plan) → Arranged f p → (l : Lane) (n k x i : ℕ) →
+first_below : (f : Format) (p : Plan) → IsOrderedPlan f p → (l : Lane) (n k x i : ℕ) →
     entry_at p x ≡ Some (Part l n 0) → entry_at p i ≡ Some (Part l n k) → x ≤ i
 first_below f p g l n zero x i hx hi = let e : x ≡ i = g.once x i l n 0 hx hi in omega arith
 first_below f p g l n (suc k) x i hx hi =
@@ -51,7 +51,7 @@ first_below f p g l n (suc k) x i hx hi =
     omega arith
 
 -- Under DATA the indexes between two fragments of a message are the message's.
-between_fragments : (p : Plan) → Arranged Plain p → (l : Lane) (n k c i : ℕ) → entry_at p i ≡ Some (Part l n k) → i ≤ c →
+between_fragments : (p : Plan) → IsOrderedPlan Plain p → (l : Lane) (n k c i : ℕ) → entry_at p i ≡ Some (Part l n k) → i ≤ c →
     (d x j : ℕ) → x ≡ suc c + d → entry_at p x ≡ Some (Part l n j) → (o : ℕ) × (entry_at p (suc c) ≡ Some (Part l n o))
 between_fragments p g l n k c i hi below zero x j e hx =
     let q : x ≡ suc c = omega arith in
@@ -233,8 +233,8 @@ module _ (w : Way) (x : Forward) (g : Good w) (gone : IsAllGivenUp w.sender w.se
           plan : Plan
           plan = w.sender.plan
 
-          arranged : Arranged Plain w.sender.plan
-          arranged = subst (λ (f : Format). Arranged f w.sender.plan) plain g.arranged
+          arranged : IsOrderedPlan Plain w.sender.plan
+          arranged = subst (λ (f : Format). IsOrderedPlan f w.sender.plan) plain g.arranged
 
           part : (k : ℕ) → k < length h.message.fragments →
               ((z : ℕ) × (entry_at w.sender.plan z ≡ Some (Part h.lane h.number k)) × (w.receiver.seen z ≡ true)) ⊎ (w.sender.abandoned h.lane h.number ≡ true)
@@ -269,7 +269,7 @@ module _ (w : Way) (x : Forward) (g : Good w) (gone : IsAllGivenUp w.sender w.se
           which (inl s) = of_settled h (g.held.seen i s)
           which (inr d) = of_lost d
 
-  pub fair_forward : IsFair w.format w.sender w.receiver x
+  pub fair_forward : IsSendersForward w.format w.sender w.receiver x
   fair_forward = record {
     upto = upto;
     listed = λ y has n l. may_pass y.lane y.number n (listed y has).1 l;
@@ -281,6 +281,6 @@ pub kept_by-Put_forward : (w v : Way) (x : Forward) → Good w → Step w (Put_f
 kept_by-Put_forward w v x g (gone, listed, each, e) =
     subst Good (sym e) (by_bags w w.pieces (x ∷ w.forwards) w.sacks w.shutdowns g g.between.pieces forwards g.between.sacks g.between.shutdowns)
   where
-    forwards : (y : Forward) → Has (x ∷ w.forwards) y → IsFair w.format w.sender w.receiver y
-    forwards y (inl h) = subst (IsFair w.format w.sender w.receiver) h (fair_forward w x g gone listed each)
+    forwards : (y : Forward) → Has (x ∷ w.forwards) y → IsSendersForward w.format w.sender w.receiver y
+    forwards y (inl h) = subst (IsSendersForward w.format w.sender w.receiver) h (fair_forward w x g gone listed each)
     forwards y (inr h) = g.between.forwards y h

@@ -73,14 +73,14 @@ abbrev pub IsAhead : ReceiverView → ℕ → Type 0
 IsAhead r p = (j : ℕ) × (j ≤ p) × (IsReached r j → ⊥)
 
 -- a FORWARD is its sender's
-pub record IsFair (f : Format) (a : SenderView) (r : ReceiverView) (x : Forward) : Type 0 where
+pub record IsSendersForward (f : Format) (a : SenderView) (r : ReceiverView) (x : Forward) : Type 0 where
   pub upto : (i : ℕ) → 0 < i → i ≤ x.point → (r.seen i ≡ true) ⊎ IsLostBy f a r x.skips i
   pub listed : (y : Skip) → Has x.skips y → (n : ℕ) → n ≤ y.number → MayPass a r y.lane n
   pub numbered : (y : Skip) → Has x.skips y → is_numbered f y.lane.kind ≡ true
   pub old : f ≡ Plain → IsAhead r x.point → (i : ℕ) → 0 < i → i ≤ x.point → IsRetired a r i
 
 -- The plan is orderly, by tickets.
-pub record Arranged (f : Format) (p : Plan) : Type 0 where
+pub record IsOrderedPlan (f : Format) (p : Plan) : Type 0 where
   pub begun : (l : Lane) (n : ℕ) (m : Message) → message_at p l n ≡ Some m → IsAssigned p l n 0
   pub filled : (l : Lane) (n : ℕ) (m : Message) → message_at p l n ≡ Some m →
       (0 < length m.fragments) × ((x : List ℕ) → Has m.fragments x → 0 < length x)
@@ -128,7 +128,7 @@ abbrev pub IsAskedFor : Asked → Message → Type 0
 IsAskedFor u m = (u.named m.ticket ≡ true) ⊎ ((t : ℕ) × (m.until ≡ Some t) × (t ≤ u.clock))
 
 -- The plan holds what was asked for, and what is abandoned is a message that was to be.
-pub record Sound (streams : ℕ) (a : SenderView) (u : Asked) : Type 0 where
+pub record IsAskedPlan (streams : ℕ) (a : SenderView) (u : Asked) : Type 0 where
   pub streamed : (l : Lane) (n : ℕ) (m : Message) → message_at a.plan l n ≡ Some m → l.stream < streams
   pub called : (l : Lane) (n : ℕ) (m : Message) → message_at a.plan l n ≡ Some m → IsCalled u l m
   pub abandoned : (l : Lane) (n : ℕ) → a.abandoned l n ≡ true → (m : Message) × (message_at a.plan l n ≡ Some m) × IsAskedFor u m
@@ -137,7 +137,7 @@ pub record Sound (streams : ℕ) (a : SenderView) (u : Asked) : Type 0 where
 -- What lies between the two ends, and what the sender took from there.
 pub record Between (w : Way) : Type 0 where
   pub pieces : (x : Piece) → Has w.pieces x → IsFragment w.format w.sender.plan x
-  pub forwards : (x : Forward) → Has w.forwards x → IsFair w.format w.sender w.receiver x
+  pub forwards : (x : Forward) → Has w.forwards x → IsSendersForward w.format w.sender w.receiver x
   pub sacks : (x : Acknowledgement) (i : ℕ) → Has w.sacks x → covers x i ≡ true → IsReached w.receiver i
   pub shutdowns : (c i : ℕ) → Has w.shutdowns c → i ≤ c → IsReached w.receiver i
   pub covered : (i : ℕ) → w.sender.covered i ≡ true → IsReached w.receiver i
@@ -150,7 +150,7 @@ pub record IsHonest (f : Format) (p : Plan) (s : ℕ) (h : Handed) : Type 0 wher
   pub counted : is_numbered f h.lane.kind ≡ true → h.number ≡ Some sent.number
 
 -- What is handed over.
-pub record Told (f : Format) (a : SenderView) (r : ReceiverView) : Type 0 where
+pub record IsHandedRightly (f : Format) (a : SenderView) (r : ReceiverView) : Type 0 where
   pub all_seen : (l : Lane) (n : ℕ) → WasHanded a.plan r l n → IsAllSeen a.plan r l n
   pub below : (s : ℕ) (h : Handed) → Has (handed r s) h → h.lane.kind ≡ Ordered → IsNumberBelow (r.next s) h.number
   pub rising : (s : ℕ) → IsRising (handed r s)
@@ -168,11 +168,11 @@ pub record Held (f : Format) (a : SenderView) (r : ReceiverView) : Type 0 where
   pub unskipped : (l : Lane) → is_numbered f l.kind ≡ false → r.skip l ≡ 0
   pub kept_seen : (x : Piece) → Has r.kept x → r.seen x.index ≡ true
   pub fresh : (x : Piece) (n k : ℕ) → Has r.kept x → entry_at a.plan x.index ≡ Some (Part x.lane n k) → WasHanded a.plan r x.lane n → ⊥
-  pub told : Told f a r
+  pub told : IsHandedRightly f a r
 
 pub record Good (w : Way) : Type 0 where
-  pub arranged : Arranged w.format w.sender.plan
+  pub arranged : IsOrderedPlan w.format w.sender.plan
   pub waits : Waits w.streams w.sender.plan w.asked w.sender.queue
-  pub sound : Sound w.streams w.sender w.asked
+  pub sound : IsAskedPlan w.streams w.sender w.asked
   pub between : Between w
   pub held : Held w.format w.sender w.receiver

@@ -7,7 +7,7 @@ use Rattle.sctp_model.specs.SenderView.{SenderView}
 use Rattle.sctp_model.specs.Forward.{Skip, Forward, skipped}
 use Rattle.sctp_model.specs.ReceiverView.{ReceiverView}
 use Rattle.sctp_safety.specs.Way.{Way, IsSkippedBy, Forward_comes, Step}
-use Rattle.sctp_safety.proofs.Facts.{IsDone, IsLost, IsLostBy, IsRetired, IsFair, MayPass, Held, Good}
+use Rattle.sctp_safety.proofs.Facts.{IsDone, IsLost, IsLostBy, IsRetired, IsSendersForward, MayPass, Held, Good}
 use Rattle.sctp_safety.proofs.Basics.{at_lane_cases}
 use Rattle.sctp_safety.proofs.Later.{Learns, Grows-refl, lost-later, IsDone-later, IsRetired-later, MayPass-later, IsAllSeen-later, by_receiver}
 use Rattle.sctp_safety.proofs.Settled.{settled_on}
@@ -115,7 +115,7 @@ kept_by-Forward_comes w v x skip g (has, ahead, by, e) = subst Good (sym e) (by_
     learns : Learns r t
     learns = record { seen = λ j h. h; jump = omega arith; next = λ s. le_refl (r.next s); skip = by.raised }
 
-    fair : IsFair f a r x
+    fair : IsSendersForward f a r x
     fair = g.between.forwards x has
 
     lost : {i : ℕ} → (r.seen i ≡ true) ⊎ IsLostBy f a r x.skips i → (r.seen i ≡ true) ⊎ IsLost f a t i

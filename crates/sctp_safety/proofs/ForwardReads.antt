@@ -19,7 +19,7 @@ use Rattle.sctp_model.proofs.receiver.ForwardAtRest.{moved_idle, let_go_is}
 use Rattle.sctp_safety.specs.Way.{Way, IsSkippedBy, Forward_comes, Let_go, with_receiver}
 use Rattle.sctp_safety.specs.SenderLaws.{IsUsual}
 use Rattle.sctp_safety.specs.ReceiverLaws.{IsJoined, IsCounted, IsReceived, IsForwardSaid, ForwardTakenIsMoves}
-use Rattle.sctp_safety.proofs.Facts.{Good, IsFair, IsLostBy, MayPass}
+use Rattle.sctp_safety.proofs.Facts.{Good, IsSendersForward, IsLostBy, MayPass}
 use Rattle.sctp_safety.proofs.Basics.{item_at-within}
 use Rattle.sctp_safety.proofs.Taken.{leads_on, leads_by, giving_all_is_moves}
 use Rattle.sctp_safety.proofs.UsualLemmas.{good_usual}
@@ -39,7 +39,7 @@ module _ (w : Way) (m : ForwardMeaning) (usual : IsUsual w) (joined : IsJoined w
   abbrev x : Forward
   x = said.forward
 
-  fair : IsFair w.format w.sender w.receiver x
+  fair : IsSendersForward w.format w.sender w.receiver x
   fair = g.between.forwards x said.put
 
   point_within : x.point ≤ length w.sender.plan.entries

@@ -9,7 +9,7 @@ use Rattle.sctp_model.specs.Plan.{Message, Part, Plan, entry_at, message_at}
 use Rattle.sctp_model.specs.Pieces.{Piece, number_of, piece_of, fragment_of, IsFragment}
 use Rattle.sctp_model.specs.Whole.{IsFirst, Follows, IsRow, text_of}
 use Rattle.sctp_safety.proofs.Basics.{item_at-above}
-use Rattle.sctp_safety.proofs.Facts.{Arranged}
+use Rattle.sctp_safety.proofs.Facts.{IsOrderedPlan}
 
 -- What framing stands on: a fragment is one of its message, it has one index, and under DATA indexes are consecutive.
 pub record IsFramed (f : Format) (p : Plan) : Type 0 where
@@ -18,7 +18,7 @@ pub record IsFramed (f : Format) (p : Plan) : Type 0 where
   pub once : (i j : ℕ) (l : Lane) (n k : ℕ) → entry_at p i ≡ Some (Part l n k) → entry_at p j ≡ Some (Part l n k) → i ≡ j
   pub consecutive : f ≡ Plain → (j : ℕ) (l : Lane) (n k : ℕ) → entry_at p j ≡ Some (Part l n (suc k)) → entry_at p (j - 1) ≡ Some (Part l n k)
 
-pub framed_by_arranged : (f : Format) (p : Plan) → Arranged f p → IsFramed f p
+pub framed_by_arranged : (f : Format) (p : Plan) → IsOrderedPlan f p → IsFramed f p
 framed_by_arranged f p a = record { within = a.within; once = a.once; consecutive = a.consecutive }
 
 -- the chunk is fragment k of this message, at its index

@@ -6,11 +6,11 @@ use Rattle.sctp_model.specs.Format.{Format, Plain, Lane, at_lane}
 use Rattle.sctp_model.specs.Plan.{Message, Entry, Part, End, Plan, entry_at, message_at, IsOf, IsAssigned, IsComplete, HasEnd, IsClosed, parts_from}
 use Rattle.sctp_safety.specs.Way.{IsAllClosed}
 use Rattle.sctp_safety.proofs.Basics.{at_lane_cases, at_lane_same, slice_get-left, slice_get-end, slice_get-push, slice_get-within, item_at-left, item_at-within, item_at-cases, item_at-right}
-use Rattle.sctp_safety.proofs.Facts.{Arranged}
+use Rattle.sctp_safety.proofs.Facts.{IsOrderedPlan}
 use Rattle.sctp_safety.proofs.PlanLemmas.{parts_get, parts_at, assigned_below, grown, IsLatest, arranged_more}
 
 -- a message that is not closed is the latest of its stream
-pub latest_open : (f : Format) (p : Plan) → Arranged f p → (l : Lane) (n : ℕ) (m : Message) → message_at p l n ≡ Some m →
+pub latest_open : (f : Format) (p : Plan) → IsOrderedPlan f p → (l : Lane) (n : ℕ) (m : Message) → message_at p l n ≡ Some m →
     (IsClosed p l n → ⊥) → IsLatest p p.messages l n m
 latest_open f p a l n m h unclosed = record {
   named = h;
@@ -29,7 +29,7 @@ latest_open f p a l n m h unclosed = record {
     last k o x e s (inr le) = le
 
 -- so is a new one with a later ticket
-pub latest_new : (f : Format) (p : Plan) → Arranged f p → (l : Lane) (m : Message) →
+pub latest_new : (f : Format) (p : Plan) → IsOrderedPlan f p → (l : Lane) (m : Message) →
     ((k : Lane) (o : ℕ) (x : Message) → message_at p k o ≡ Some x → k.stream ≡ l.stream → x.ticket < m.ticket) →
     ((k : Lane) (o : ℕ) (x : Message) → message_at p k o ≡ Some x → x.ticket ≡ m.ticket → ⊥) →
     IsAllClosed p l.stream → (0 < length m.fragments) × ((y : List ℕ) → Has m.fragments y → 0 < length y) →
@@ -98,7 +98,7 @@ zero_or_more (suc c) = inr (c, refl)
 
 -- The next fragments of the latest message of a stream.
 module _ (f : Format) (p : Plan) (ms : Lane → List Message) (l : Lane) (n k d : ℕ) (m : Message)
-    (a : Arranged f p) (t : IsLatest p ms l n m) (some : 0 < d) (bound : k + d ≤ length m.fragments)
+    (a : IsOrderedPlan f p) (t : IsLatest p ms l n m) (some : 0 < d) (bound : k + d ≤ length m.fragments)
     (free : IsAssigned p l n k → ⊥) (before : (c : ℕ) → k ≡ suc c → IsAssigned p l n c) (no_end : HasEnd p l n → ⊥)
     (all : f ≡ Plain → (k ≡ 0) × (d ≡ length m.fragments)) where
   abbrev run : List Entry
@@ -159,7 +159,7 @@ module _ (f : Format) (p : Plan) (ms : Lane → List Message) (l : Lane) (n k d 
   complete : k ≡ 0 → d ≡ length m.fragments → IsComplete after l n m
   complete e s = (t.named, λ c b. (suc (length p.entries) + c, here c c (omega arith) (omega arith)))
 
-  pub run_keeps : Arranged f after
+  pub run_keeps : IsOrderedPlan f after
   run_keeps = arranged_more f p ms run l n m a t (record {
     own = λ j e h. subst (λ (y : Entry). IsOf l n y) (parts_get l n k d j e h).1 (refl, refl);
     begun = begun (zero_or_more k);
@@ -173,7 +173,7 @@ module _ (f : Format) (p : Plan) (ms : Lane → List Message) (l : Lane) (n k d 
   })
 
 -- The end mark of a message that is not closed.
-module _ (f : Format) (p : Plan) (l : Lane) (n : ℕ) (m : Message) (a : Arranged f p) (h : message_at p l n ≡ Some m)
+module _ (f : Format) (p : Plan) (l : Lane) (n : ℕ) (m : Message) (a : IsOrderedPlan f p) (h : message_at p l n ≡ Some m)
     (unclosed : IsClosed p l n → ⊥) where
   abbrev mark : List Entry
   mark = End l n ∷ []
@@ -193,7 +193,7 @@ module _ (f : Format) (p : Plan) (l : Lane) (n : ℕ) (m : Message) (a : Arrange
   had i k (inl s) = (i, s)
   had i k (inr (j, e, s)) = absurd (no_part j k s)
 
-  pub mark_keeps : Arranged f with_mark
+  pub mark_keeps : IsOrderedPlan f with_mark
   mark_keeps = arranged_more f p p.messages mark l n m a (latest_open f p a l n m h unclosed) (record {
     own = λ j e s. subst (λ (y : Entry). IsOf l n y) (only j e s) (refl, refl);
     begun = let r = a.begun l n m h in (r.0, item_at-left p.entries mark r.0 (Part l n 0) r.1);

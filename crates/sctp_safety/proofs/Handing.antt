@@ -8,7 +8,7 @@ use Rattle.sctp_model.specs.SenderView.{SenderView}
 use Rattle.sctp_model.specs.ReceiverView.{Handed, ReceiverView, handed}
 use Rattle.sctp_model.specs.Receiving.{message_of}
 use Rattle.sctp_model.specs.Safe.{IsRising, IsApart, WasHanded, IsNumberLess}
-use Rattle.sctp_safety.proofs.Facts.{IsOver, IsAllSeen, Arranged, IsHonest, Held, Told}
+use Rattle.sctp_safety.proofs.Facts.{IsOver, IsAllSeen, IsOrderedPlan, IsHonest, Held, IsHandedRightly}
 use Rattle.sctp_safety.proofs.Basics.{at_cases, Has-left, Has-right, Has-push}
 use Rattle.sctp_safety.proofs.Later.{Learns, Grows-refl, Extends-refl, lost-later, IsRetired-later, MayPass-later, IsAllSeen-later}
 use Rattle.sctp_safety.proofs.OneMessage.{IsOneMessage}
@@ -47,7 +47,7 @@ module _ (f : Format) (a : SenderView) (r : ReceiverView) (kept : List Piece) (n
   pub after_held : Held f a r → ((x : Piece) → Has kept x → Has r.kept x) →
       ((x : Piece) (n k : ℕ) → Has r.kept x → entry_at a.plan x.index ≡ Some (Part x.lane n k) → Has kept x ⊎ IsOver f a then x.lane n) →
       ((x : Piece) (n k : ℕ) → Has kept x → entry_at a.plan x.index ≡ Some (Part x.lane n k) → WasHanded a.plan then x.lane n → ⊥) →
-      ((l : Lane) (n : ℕ) → WasHanded a.plan r l n → WasHanded a.plan then l n) → Told f a then → Held f a then
+      ((l : Lane) (n : ℕ) → WasHanded a.plan r l n → WasHanded a.plan then l n) → IsHandedRightly f a then → Held f a then
   after_held held fewer gone fresh still told = record {
     jumped = λ i l m. lost-later f a a r then (Grows-refl a) after-Learns i (held.jumped i l m);
     old = λ e i l m. IsRetired-later f a a r then (Grows-refl a) after-Learns i (held.old e i l m);
@@ -61,8 +61,8 @@ module _ (f : Format) (a : SenderView) (r : ReceiverView) (kept : List Piece) (n
   }
 
 -- Nothing more is handed over.
-pub same_told : (f : Format) (a : SenderView) (r : ReceiverView) (kept : List Piece) (next : ℕ → ℕ) → ((s : ℕ) → r.next s ≤ next s) → Told f a r →
-    ((s n : ℕ) → n < next s → WasHanded a.plan r (ordered_lane s) n ⊎ (a.abandoned (ordered_lane s) n ≡ true)) → Told f a (after r kept next r.waiting)
+pub same_told : (f : Format) (a : SenderView) (r : ReceiverView) (kept : List Piece) (next : ℕ → ℕ) → ((s : ℕ) → r.next s ≤ next s) → IsHandedRightly f a r →
+    ((s n : ℕ) → n < next s → WasHanded a.plan r (ordered_lane s) n ⊎ (a.abandoned (ordered_lane s) n ≡ true)) → IsHandedRightly f a (after r kept next r.waiting)
 same_told f a r kept next forth told passed = record {
   all_seen = λ l n h. IsAllSeen-later a.plan a.plan (Extends-refl a.plan) r (after r kept next r.waiting) (after-Learns f a r kept next r.waiting forth) l n (told.all_seen l n h);
   below = λ s h k o. below_more (r.next s) (next s) h.number (forth s) (told.below s h k o);
@@ -121,9 +121,9 @@ module _ (f : Format) (a : SenderView) (r : ReceiverView) (kept : List Piece) (n
           inr (cc, cc)
 
   -- Its chunks were kept, and wasn't handed over before; it is behind all ordered messages of the stream.
-  pub more_told : Arranged f a.plan → Held f a r → IsWithin (x ∷ xs) r.kept → ((u : ℕ) → r.next u ≤ next u) →
+  pub more_told : IsOrderedPlan f a.plan → Held f a r → IsWithin (x ∷ xs) r.kept → ((u : ℕ) → r.next u ≤ next u) →
       (x.lane.kind ≡ Ordered → (n : ℕ) × (x.number ≡ Some n) × (r.next s ≤ n) × (n < next s)) →
-      ((u n : ℕ) → n < next u → WasHanded a.plan told_more (ordered_lane u) n ⊎ (a.abandoned (ordered_lane u) n ≡ true)) → Told f a told_more
+      ((u n : ℕ) → n < next u → WasHanded a.plan told_more (ordered_lane u) n ⊎ (a.abandoned (ordered_lane u) n ≡ true)) → IsHandedRightly f a told_more
   more_told arranged held within forth place passed = record {
     all_seen = λ l n h. IsAllSeen-later a.plan a.plan (Extends-refl a.plan) r told_more (after-Learns f a r kept next more_waiting forth) l n (all_seen l n (which_handed l n h));
     below = λ u h. on (λ (y : ℕ) (hs : List Handed). Has hs h → h.lane.kind ≡ Ordered → IsNumberBelow (next y) h.number)

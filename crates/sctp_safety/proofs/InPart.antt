@@ -11,7 +11,7 @@ use Rattle.sctp_model.specs.sender.Entries.{entry_lane, entry_number, fragments_
 use Rattle.sctp_model.proofs.sender.WordLaws.{when_there, when_absent, some_is}
 use Rattle.sctp_model.proofs.sender.PointLaws.{of_itself}
 use Rattle.sctp_safety.specs.Way.{IsAllClosed}
-use Rattle.sctp_safety.proofs.Facts.{Arranged}
+use Rattle.sctp_safety.proofs.Facts.{IsOrderedPlan}
 use Rattle.sctp_safety.proofs.Basics.{same_lane-true}
 use Rattle.sctp_safety.proofs.PlanLemmas.{message_of, assigned_below, renamed}
 use Rattle.sctp_safety.proofs.Searches.{IsLatestIn, latest_is, latest_none}
@@ -32,7 +32,7 @@ by_tickets {P} a b low one high = by_test (cases_Bool (nat_lt a b)) (cases_eq a 
     by_test (inr ge) (inr other) = high (grind (arith, ge, other, nat_tests))
 
 -- A message of a stream is closed where that of the last entry is: with a lower ticket it was before; a higher ticket would have an entry behind.
-closed_with_last : (f : Format) (p : Plan) → Arranged f p → (s : ℕ) (e : Entry) → IsLatestIn p s e → IsClosed p (entry_lane e) (entry_number e) → IsAllClosed p s
+closed_with_last : (f : Format) (p : Plan) → IsOrderedPlan f p → (s : ℕ) (e : Entry) → IsLatestIn p s e → IsClosed p (entry_lane e) (entry_number e) → IsAllClosed p s
 closed_with_last f p a s e r done l n m on named =
     by_tickets m.ticket newest.0.ticket
     (λ low. a.closed l (entry_lane e) n (entry_number e) m newest.0 named newest.1 streams low)
@@ -51,7 +51,7 @@ closed_with_last f p a s e r done l n m on named =
     streams = on ∙ sym r.stream
 
 -- a message whose last fragment has an index is complete: each fragment has the one before it
-complete_to : (f : Format) (p : Plan) → Arranged f p → (i : ℕ) (l : Lane) (n k : ℕ) (m : Message) → entry_at p i ≡ Some (Part l n k) → message_at p l n ≡ Some m → length m.fragments ≤ suc k → IsComplete p l n m
+complete_to : (f : Format) (p : Plan) → IsOrderedPlan f p → (i : ℕ) (l : Lane) (n k : ℕ) (m : Message) → entry_at p i ≡ Some (Part l n k) → message_at p l n ≡ Some m → length m.fragments ≤ suc k → IsComplete p l n m
 complete_to f p a i l n k m here named all = (named, each)
   where
     each : (j : ℕ) → j < length m.fragments → IsAssigned p l n j
@@ -64,7 +64,7 @@ behind_part : (p : Plan) (l : Lane) (n k : ℕ) (m : Message) (o : Option Entry)
 behind_part p l n k m o named is = subst (λ (x : Option Message). when (nat_lt (suc k) (length (fragments_in x))) (Part l n (suc k)) ≡ o) named is
 
 -- Where a stream has nothing to go on with, all its messages are closed.
-pub idle_closed : (f : Format) (p : Plan) → Arranged f p → (s : ℕ) → continued p s ≡ None → IsAllClosed p s
+pub idle_closed : (f : Format) (p : Plan) → IsOrderedPlan f p → (s : ℕ) → continued p s ≡ None → IsAllClosed p s
 idle_closed f p a s idle = by_last (latest s p.entries) refl idle
   where
     by_last : (o : Option Entry) → latest s p.entries ≡ o → option_and_then (next_part p) o ≡ None → IsAllClosed p s
@@ -93,7 +93,7 @@ pub record GoesOnWith (p : Plan) (s : ℕ) (e : Entry) : Type 0 where
   pub bound : suc fragment < length message.fragments
 
 -- the last entry of the stream is the fragment before it: neither a further one nor an end mark stands behind
-goes_from : (f : Format) (p : Plan) → Arranged f p → AreEndsLast p → (s : ℕ) (e : Entry) (l : Lane) (n k : ℕ) → IsLatestIn p s (Part l n k) → next_part p (Part l n k) ≡ Some e → GoesOnWith p s e
+goes_from : (f : Format) (p : Plan) → IsOrderedPlan f p → AreEndsLast p → (s : ℕ) (e : Entry) (l : Lane) (n k : ℕ) → IsLatestIn p s (Part l n k) → next_part p (Part l n k) ≡ Some e → GoesOnWith p s e
 goes_from f p a ends s e l n k r next = record {
   lane = l;
   number = n;
@@ -131,7 +131,7 @@ goes_from f p a ends s e l n k r next = record {
         let high : j ≤ r.index = r.last j (End l n) there r.stream in
         omega (arith, behind, high)
 
-pub goes_on_with : (f : Format) (p : Plan) → Arranged f p → AreEndsLast p → (s : ℕ) (e : Entry) → continued p s ≡ Some e → GoesOnWith p s e
+pub goes_on_with : (f : Format) (p : Plan) → IsOrderedPlan f p → AreEndsLast p → (s : ℕ) (e : Entry) → continued p s ≡ Some e → GoesOnWith p s e
 goes_on_with f p a ends s e goes = by_last (latest s p.entries) refl goes
   where
     by_last : (o : Option Entry) → latest s p.entries ≡ o → option_and_then (next_part p) o ≡ Some e → GoesOnWith p s e
@@ -148,7 +148,7 @@ not_closed p s e g (inr (x, (named, each))) =
     g.free (each (suc g.fragment) (subst (λ (y : Message). suc g.fragment < length y.fragments) same g.bound))
 
 -- what its stream goes on with tells whether a message is in part
-pub in_part_open : (f : Format) (v : SenderView) → Arranged f v.plan → AreEndsLast v.plan → (l : Lane) (n : ℕ) → is_in_part v l n ≡ true → IsClosed v.plan l n → ⊥
+pub in_part_open : (f : Format) (v : SenderView) → IsOrderedPlan f v.plan → AreEndsLast v.plan → (l : Lane) (n : ℕ) → is_in_part v l n ≡ true → IsClosed v.plan l n → ⊥
 in_part_open f v a ends l n in_part closed =
     let there = some_is (is_of l n) (continued v.plan l.stream) in_part in
     let g = goes_on_with f v.plan a ends l.stream there.0 there.1 in

@@ -11,7 +11,7 @@ use Rattle.sctp_model.specs.Acknowledgement.{Acknowledgement, covers}
 use Rattle.sctp_model.specs.Calls.{Asked}
 use Rattle.sctp_model.specs.Safe.{IsSent, WasHanded}
 use Rattle.sctp_safety.specs.Way.{Way, with_receiver}
-use Rattle.sctp_safety.proofs.Facts.{IsDone, IsLost, IsLostBy, IsOver, IsSettled, IsAllSeen, MayPass, IsRetired, IsAhead, IsFair, Arranged, Waits, Sound, IsHonest, Held, Good}
+use Rattle.sctp_safety.proofs.Facts.{IsDone, IsLost, IsLostBy, IsOver, IsSettled, IsAllSeen, MayPass, IsRetired, IsAhead, IsSendersForward, IsOrderedPlan, Waits, IsAskedPlan, IsHonest, Held, Good}
 
 -- the plan gained entries and messages, and lost none
 pub record Extends (p q : Plan) : Type 0 where
@@ -149,8 +149,8 @@ module _ (f : Format) (a b : SenderView) (r t : ReceiverView) (grows : Grows a b
     may = λ k. MayPass-later h.lane h.number (h.may k);
   }
 
-  pub IsFair-later : (x : Forward) → IsFair f a r x → IsFair f b t x
-  IsFair-later x h = record {
+  pub IsSendersForward-later : (x : Forward) → IsSendersForward f a r x → IsSendersForward f b t x
+  IsSendersForward-later x h = record {
     upto = λ i l m. lost_by-later x.skips i (h.upto i l m);
     listed = λ y k n l. MayPass-later y.lane n (h.listed y k n l);
     numbered = h.numbered;
@@ -158,8 +158,8 @@ module _ (f : Format) (a b : SenderView) (r t : ReceiverView) (grows : Grows a b
   }
 
 -- A move of the sender or its user. It says why the plan is in order, and why what is covered was reached.
-pub by_sender : (w : Way) (b : SenderView) (u : Asked) → Good w → Grows w.sender b → Arranged w.format b.plan →
-    Waits w.streams b.plan u b.queue → Sound w.streams b u →
+pub by_sender : (w : Way) (b : SenderView) (u : Asked) → Good w → Grows w.sender b → IsOrderedPlan w.format b.plan →
+    Waits w.streams b.plan u b.queue → IsAskedPlan w.streams b u →
     ((i : ℕ) → b.covered i ≡ true → IsReached w.receiver i) → ((i : ℕ) → i ≤ b.cum → IsReached w.receiver i) →
     Good (record w { sender = b; asked = u })
 by_sender w b u g grows arranged waits sound covered cum = record {
@@ -168,7 +168,7 @@ by_sender w b u g grows arranged waits sound covered cum = record {
   sound = sound;
   between = record {
     pieces = λ x h. IsFragment-later a.plan b.plan grows.plan f x (g.between.pieces x h);
-    forwards = λ x h. IsFair-later f a b r r grows still x (g.between.forwards x h);
+    forwards = λ x h. IsSendersForward-later f a b r r grows still x (g.between.forwards x h);
     sacks = g.between.sacks;
     shutdowns = g.between.shutdowns;
     covered = covered;
@@ -248,7 +248,7 @@ by_receiver w t g learns held = record {
   sound = g.sound;
   between = record {
     pieces = g.between.pieces;
-    forwards = λ x h. IsFair-later w.format w.sender w.sender w.receiver t (Grows-refl w.sender) learns x (g.between.forwards x h);
+    forwards = λ x h. IsSendersForward-later w.format w.sender w.sender w.receiver t (Grows-refl w.sender) learns x (g.between.forwards x h);
     sacks = λ x i h k. IsReached-later w.receiver t learns i (g.between.sacks x i h k);
     shutdowns = λ c i h k. IsReached-later w.receiver t learns i (g.between.shutdowns c i h k);
     covered = λ i h. IsReached-later w.receiver t learns i (g.between.covered i h);
@@ -260,7 +260,7 @@ by_receiver w t g learns held = record {
 -- A chunk more in the bags.
 pub by_bags : (w : Way) (pieces : List Piece) (forwards : List Forward) (sacks : List Acknowledgement) (shutdowns : List ℕ) → Good w →
     ((x : Piece) → Has pieces x → IsFragment w.format w.sender.plan x) →
-    ((x : Forward) → Has forwards x → IsFair w.format w.sender w.receiver x) →
+    ((x : Forward) → Has forwards x → IsSendersForward w.format w.sender w.receiver x) →
     ((x : Acknowledgement) (i : ℕ) → Has sacks x → covers x i ≡ true → IsReached w.receiver i) →
     ((c i : ℕ) → Has shutdowns c → i ≤ c → IsReached w.receiver i) →
     Good (record w { pieces = pieces; forwards = forwards; sacks = sacks; shutdowns = shutdowns })

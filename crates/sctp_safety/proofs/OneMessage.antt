@@ -5,7 +5,7 @@ use Rattle.sctp_model.specs.Format.{Format, Plain, Interleaved, Lane, is_numbere
 use Rattle.sctp_model.specs.Plan.{Message, bytes_of, Part, Plan, entry_at, message_at, IsComplete}
 use Rattle.sctp_model.specs.Pieces.{Piece, number_of, piece_of, payload_of, IsFragment}
 use Rattle.sctp_model.specs.Whole.{IsWhole, text_of}
-use Rattle.sctp_safety.proofs.Facts.{Arranged}
+use Rattle.sctp_safety.proofs.Facts.{IsOrderedPlan}
 use Rattle.sctp_safety.proofs.Framing.{IsFramed, framed_by_arranged, IsPart, AreFrom, part_by_fragment, part_here, part_number, part_lane, first_is, is_first, row_is, is_row, text_from, each_from, all_from, gather}
 
 -- What a whole row of a plan's chunks is.
@@ -55,7 +55,7 @@ whole_is_one f p framed x xs all (first, row) =
     (row_is f p framed x.lane h.number h.message h.named xs x 0 part (λ y has. all y (inr has)) row)
 
 -- What is whole is a message that was sent, each fragment of it assigned.
-pub honest_whole : (f : Format) (p : Plan) → Arranged f p → (x : Piece) (xs : List Piece) →
+pub honest_whole : (f : Format) (p : Plan) → IsOrderedPlan f p → (x : Piece) (xs : List Piece) →
     ((y : Piece) → Has (x ∷ xs) y → IsFragment f p y) → IsWhole f (x ∷ xs) → IsOneMessage f p x xs
 honest_whole f p a = whole_is_one f p (framed_by_arranged f p a)
 
@@ -102,7 +102,7 @@ one_when_kept f p framed l n m named some kept all each =
             subst (Has (x ∷ xs)) q r.1
 
 -- Where each fragment is kept, the message is whole.
-pub whole_when_kept : (f : Format) (p : Plan) → Arranged f p → (l : Lane) (n : ℕ) (m : Message) → message_at p l n ≡ Some m →
+pub whole_when_kept : (f : Format) (p : Plan) → IsOrderedPlan f p → (l : Lane) (n : ℕ) (m : Message) → message_at p l n ≡ Some m →
     (kept : List Piece) → ((y : Piece) → Has kept y → IsFragment f p y) →
     ((k : ℕ) → k < length m.fragments → (i : ℕ) × (entry_at p i ≡ Some (Part l n k)) × Has kept (piece_of f i l n k m)) →
     IsGathered f p l n m kept

@@ -9,7 +9,7 @@ use Rattle.sctp_model.specs.SenderView.{SenderView}
 use Rattle.sctp_model.specs.ReceiverView.{Handed, ReceiverView}
 use Rattle.sctp_model.specs.Receiving.{is_below, without_below}
 use Rattle.sctp_model.specs.Safe.{WasHanded}
-use Rattle.sctp_safety.specs.Way.{Way, Hand_over, Pass_over, Clear, Step}
+use Rattle.sctp_safety.specs.Way.{Way, Hand_over, Pass_over, Drop_below_next, Step}
 use Rattle.sctp_safety.proofs.Facts.{IsOver, IsAllSeen, MayPass, Held, Good}
 use Rattle.sctp_safety.proofs.Basics.{at_cases, at_same, Has-filter, Has-filtered, filter_is, same_lane-true, same_lane-refl}
 use Rattle.sctp_safety.proofs.Later.{by_receiver}
@@ -201,8 +201,8 @@ kept_by-Pass_over w v s g (skipped, not_whole, e) = subst Good (sym e)
     done : (u n : ℕ) → n < up u → Past u n
     done = passed f a r s held Past held.told.passed (now (held.skips (ordered_lane s) (r.next s) skipped))
 
-pub kept_by-Clear : (w v : Way) (s : ℕ) → Good w → Step w (Clear s) v → Good v
-kept_by-Clear w v s g e = subst Good (sym e)
+pub kept_by-Drop_below_next : (w v : Way) (s : ℕ) → Good w → Step w (Drop_below_next s) v → Good v
+kept_by-Drop_below_next w v s g e = subst Good (sym e)
     (by_receiver w (after r ps r.next r.waiting) g (after-Learns f a r ps r.next r.waiting still)
     (after_held f a r ps r.next r.waiting still held fewer_left gone_below (λ y n k h. held.fresh y n k (fewer_left y h)) (λ l n h. h)
     (same_told f a r ps r.next still held.told held.told.passed)))

@@ -5,7 +5,7 @@ use Rattle.sctp_model.specs.Lists.{Has}
 use Rattle.sctp_model.specs.Format.{Format, Lane}
 use Rattle.sctp_model.specs.Plan.{Message, Part, Plan, entry_at, message_at, IsClosed}
 use Rattle.sctp_model.specs.Orderly.{IsNumbered, IsBefore, IsCounted, Orderly}
-use Rattle.sctp_safety.proofs.Facts.{Arranged}
+use Rattle.sctp_safety.proofs.Facts.{IsOrderedPlan}
 use Rattle.sctp_safety.proofs.PlanLemmas.{message_of}
 
 Has-index : {A : Type 0} (xs : List A) (k : ℕ) (d : A) → k < length xs → Has xs (slice_index_or xs k d)
@@ -29,7 +29,7 @@ three_cases m n = go (cases_lt m n) (cases_lt n m)
     go (inr h) (inl e) = inr (inl e)
     go (inr h) (inr e) = inr (inr (omega arith))
 
-module _ (f : Format) (p : Plan) (a : Arranged f p) where
+module _ (f : Format) (p : Plan) (a : IsOrderedPlan f p) where
   -- of two messages of a stream, the one with the lower ticket stands before
   before : (l k : Lane) (n o : ℕ) (m x : Message) → message_at p l n ≡ Some m → message_at p k o ≡ Some x → l.stream ≡ k.stream →
       m.ticket < x.ticket → IsBefore p l n k o
@@ -87,7 +87,7 @@ module _ (f : Format) (p : Plan) (a : Arranged f p) where
           absurd (omega arith)
 
 -- The five conditions follow.
-pub orderly_when_arranged : (f : Format) (p : Plan) → Arranged f p → Orderly f p
+pub orderly_when_arranged : (f : Format) (p : Plan) → IsOrderedPlan f p → Orderly f p
 orderly_when_arranged f p a = record {
   numbered = numbered f p a;
   ended = record { apart = λ l n m c i h. a.ended i l n m h c; message = a.marked };

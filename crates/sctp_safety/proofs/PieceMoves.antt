@@ -10,7 +10,7 @@ use Rattle.sctp_model.specs.ReceiverView.{ReceiverView}
 use Rattle.sctp_model.specs.Receiving.{IsPassed, IsBehind}
 use Rattle.sctp_model.specs.Safe.{WasHanded}
 use Rattle.sctp_safety.specs.Way.{Way, Keep_piece, Drop_piece, Step}
-use Rattle.sctp_safety.proofs.Facts.{IsDone, IsOver, IsSettled, MayPass, Arranged, Held, Good}
+use Rattle.sctp_safety.proofs.Facts.{IsDone, IsOver, IsSettled, MayPass, IsOrderedPlan, Held, Good}
 use Rattle.sctp_safety.proofs.Basics.{at_cases, at_same, at_other, lane_is}
 use Rattle.sctp_safety.proofs.Later.{Learns, Grows-refl, lost-later, IsRetired-later, MayPass-later, IsAllSeen-later, by_receiver}
 use Rattle.sctp_safety.proofs.Framing.{part_fragment, part_by_fragment}
@@ -122,7 +122,7 @@ fragment_is : (p : Plan) (x : Piece) (y : IsFragment Interleaved p x) → fragme
 fragment_is p x y = part_fragment p x.lane y.number y.message y.fragment x (part_by_fragment Interleaved p x y)
 
 -- A chunk that wasn't seen, and is no longer wanted, is of a message that is over.
-module _ (f : Format) (a : SenderView) (r : ReceiverView) (x : Piece) (y : IsFragment f a.plan x) (arranged : Arranged f a.plan)
+module _ (f : Format) (a : SenderView) (r : ReceiverView) (x : Piece) (y : IsFragment f a.plan x) (arranged : IsOrderedPlan f a.plan)
     (held : Held f a r) (unseen : r.seen x.index ≡ false) where
   over : IsDone f r x.lane y.number → WasHanded a.plan r x.lane y.number ⊎ (a.abandoned x.lane y.number ≡ true) → IsOver f a r x.lane y.number
   over d (inl h) = inl h
@@ -152,7 +152,7 @@ module _ (f : Format) (a : SenderView) (r : ReceiverView) (x : Piece) (y : IsFra
           over (inr (inl below)) (may (held.skips x.lane y.number below))
       go (inr e) = absurd (not_below_none x.number (subst (λ (z : ℕ). IsNumberBelow z x.number) (held.unskipped x.lane e) b))
 
-same_seen : (a : SenderView) (r : ReceiverView) (x : Piece) (y : IsFragment Interleaved a.plan x) → Arranged Interleaved a.plan →
+same_seen : (a : SenderView) (r : ReceiverView) (x : Piece) (y : IsFragment Interleaved a.plan x) → IsOrderedPlan Interleaved a.plan →
     Held Interleaved a r → r.seen x.index ≡ false → (z : Piece) → Has r.kept z → z.lane ≡ x.lane → z.number ≡ x.number → fragment_of z ≡ fragment_of x → ⊥
 same_seen a r x y arranged held unseen z has lane number fragment =
     let seen = held.kept_seen z has in
@@ -172,7 +172,7 @@ same_seen a r x y arranged held unseen z has lane number fragment =
         let j = fragment_is a.plan z u in
         cc (lane, number, fragment)
 
-pub passed_over : (f : Format) (a : SenderView) (r : ReceiverView) (x : Piece) (y : IsFragment f a.plan x) → Arranged f a.plan →
+pub passed_over : (f : Format) (a : SenderView) (r : ReceiverView) (x : Piece) (y : IsFragment f a.plan x) → IsOrderedPlan f a.plan →
     Held f a r → r.seen x.index ≡ false → IsPassed f r x → IsOver f a r x.lane y.number
 passed_over Plain a r x y arranged held unseen (inl h) = when_behind Plain a r x y arranged held unseen x.lane.kind refl h
 passed_over Plain a r x y arranged held unseen (inr h) = when_skipped Plain a r x y arranged held unseen h

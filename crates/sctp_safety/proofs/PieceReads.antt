@@ -17,7 +17,7 @@ use Rattle.sctp_model.specs.receiver.Laws.{IsIdle}
 use Rattle.sctp_model.proofs.receiver.Idle.{still_idle}
 use Rattle.sctp_model.proofs.receiver.AtRest.{takes_giving}
 use Rattle.sctp_model.proofs.receiver.OneKept.{takes_idle}
-use Rattle.sctp_safety.specs.Way.{Way, Note, with_receiver}
+use Rattle.sctp_safety.specs.Way.{Way, Note_duplicates, with_receiver}
 use Rattle.sctp_safety.specs.SenderLaws.{IsUsual}
 use Rattle.sctp_safety.specs.ReceiverLaws.{IsJoined, IsCounted, IsReceived, IsPieceSaid, PieceTakenIsMoves}
 use Rattle.sctp_safety.proofs.Facts.{Good}
@@ -196,7 +196,7 @@ module _ (w : Way) (p : PieceMeaning) (usual : IsUsual w) (joined : IsJoined w) 
 
   received : (a : Answer) (t : ReceiverView) → PieceTaken w.format w.receiver p a t → IsReceived w t
   received Duplicate t taken = subst (IsReceived w) (sym taken.leaves) (record {
-    leads = leads_by w (with_receiver w (noted w.receiver p.tsn)) (Note (noted w.receiver p.tsn)) (refl, refl);
+    leads = leads_by w (with_receiver w (noted w.receiver p.tsn)) (Note_duplicates (noted w.receiver p.tsn)) (refl, refl);
     idle = still_idle w.format w.receiver (noted w.receiver p.tsn) refl refl refl idle;
     initial = refl;
     streams = refl;

@@ -5,7 +5,7 @@ use Rattle.sctp_model.specs.Lists.{Has}
 use Rattle.sctp_model.specs.Format.{Format, Plain, Lane}
 use Rattle.sctp_model.specs.Plan.{Message, Entry, Part, End, Plan, entry_at, message_at, IsOf, IsAssigned, IsComplete, HasEnd, IsClosed, parts_from}
 use Rattle.sctp_safety.proofs.Basics.{lane_cases, item_at-left, item_at-within, item_at-cases}
-use Rattle.sctp_safety.proofs.Facts.{Arranged}
+use Rattle.sctp_safety.proofs.Facts.{IsOrderedPlan}
 use Rattle.sctp_safety.proofs.Later.{Extends, IsAssigned-later, IsComplete-later, IsClosed-later}
 
 -- what stands in a run of fragments
@@ -37,7 +37,7 @@ pub renamed : (P : Lane → ℕ → Type 0) (l k : Lane) (n o : ℕ) → l ≡ k
 renamed P l k n o p q h = subst (λ (b : Lane). P b o) p (subst (λ (c : ℕ). P l c) q h)
 
 -- each entry is of a message that has a number
-pub message_of : (f : Format) (p : Plan) → Arranged f p → (i : ℕ) (e : Entry) (l : Lane) (n : ℕ) → entry_at p i ≡ Some e → IsOf l n e →
+pub message_of : (f : Format) (p : Plan) → IsOrderedPlan f p → (i : ℕ) (e : Entry) (l : Lane) (n : ℕ) → entry_at p i ≡ Some e → IsOf l n e →
     (m : Message) × (message_at p l n ≡ Some m)
 message_of f p a i (Part k o c) l n h (x, y) =
     let r = a.within i k o c h in
@@ -47,7 +47,7 @@ message_of f p a i (End k o) l n h (x, y) =
     (r.0, renamed (λ (b : Lane) (d : ℕ). message_at p b d ≡ Some r.0) k l o n x y r.1)
 
 -- the fragments below one that has an index have theirs
-pub assigned_below : (f : Format) (p : Plan) → Arranged f p → (l : Lane) (n k d : ℕ) → IsAssigned p l n (k + d) → IsAssigned p l n k
+pub assigned_below : (f : Format) (p : Plan) → IsOrderedPlan f p → (l : Lane) (n k d : ℕ) → IsAssigned p l n (k + d) → IsAssigned p l n k
 assigned_below f p a l n k zero (i, h) =
     let z : k + 0 ≡ k = omega arith in
     (i, subst (λ (c : ℕ). entry_at p i ≡ Some (Part l n c)) z h)
@@ -88,7 +88,7 @@ pub record IsNext (f : Format) (p q : Plan) (l : Lane) (n : ℕ) (m : Message) (
 
 -- Such entries keep the plan in order.
 pub arranged_more : (f : Format) (p : Plan) (ms : Lane → List Message) (new : List Entry) (l : Lane) (n : ℕ) (m : Message) →
-    Arranged f p → IsLatest p ms l n m → IsNext f p (grown p ms new) l n m new → Arranged f (grown p ms new)
+    IsOrderedPlan f p → IsLatest p ms l n m → IsNext f p (grown p ms new) l n m new → IsOrderedPlan f (grown p ms new)
 arranged_more f p ms new l n m a t g = record {
   begun = λ k o x h. begun k o x (t.gains k o x h);
   filled = t.filled;

@@ -8,9 +8,9 @@ use Rattle.sctp_model.specs.SenderView.{Queued, SenderView}
 use Rattle.sctp_model.specs.Acknowledgement.{Acknowledgement, covers, in_blocks}
 use Rattle.sctp_model.specs.ReceiverView.{IsReached}
 use Rattle.sctp_model.specs.Calls.{Call, Asked}
-use Rattle.sctp_safety.specs.Way.{Way, Send, Name, Tick, Number, Continue, Withdraw, Abandon, Mark, Retune, Sack_comes, Shutdown_comes, Step, numbered, with_sender}
+use Rattle.sctp_safety.specs.Way.{Way, Send, Name, Time_passes, Number, Continue, Withdraw, Abandon, Mark, Change_sending, Sack_comes, Shutdown_comes, Step, numbered, with_sender}
 use Rattle.sctp_safety.proofs.Basics.{slice_get-within, at_cases, at_lane_cases, Has-push, Has-cases, Has-right, item_at-left, item_at-cases}
-use Rattle.sctp_safety.proofs.Facts.{Arranged, IsCalled, Waits, IsAskedFor, Good}
+use Rattle.sctp_safety.proofs.Facts.{IsOrderedPlan, IsCalled, Waits, IsAskedFor, Good}
 use Rattle.sctp_safety.proofs.Later.{Grows-refl, by_sender}
 use Rattle.sctp_safety.proofs.PlanLemmas.{renamed, parts_get, grown, IsLatest}
 use Rattle.sctp_safety.proofs.Gains.{latest_open, latest_new, run_keeps, mark_keeps}
@@ -105,8 +105,8 @@ kept_by-Name w v ticket g e = subst Good (sym e)
     (λ t h. at_cases (λ (b : Bool). b ≡ true) w.asked.named ticket true t (λ s. refl) (λ ne. h))
     (le_refl w.asked.clock))
 
-pub kept_by-Tick : (w v : Way) (moment : ℕ) → Good w → Step w (Tick moment) v → Good v
-kept_by-Tick w v moment g e = subst Good (sym e)
+pub kept_by-Time_passes : (w v : Way) (moment : ℕ) → Good w → Step w (Time_passes moment) v → Good v
+kept_by-Time_passes w v moment g e = subst Good (sym e)
     (asks_more w (record w.asked { clock = max w.asked.clock moment }) g refl (λ t h. h) (omega arith))
 
 -- the sender
@@ -211,7 +211,7 @@ kept_by-Number w v before q rest count g (queue, none, closed, some, bound, all,
     ended i k o (inr (j, s, h)) = let r : Part l n (0 + j) ≡ End k o = (parts_get l n 0 count j (End k o) h).1 in absurd (cc)
 
 -- the plan gained entries, and no message
-gains_entries : (w : Way) (new : List Entry) → Good w → Arranged w.format (grown w.sender.plan w.sender.plan.messages new) →
+gains_entries : (w : Way) (new : List Entry) → Good w → IsOrderedPlan w.format (grown w.sender.plan w.sender.plan.messages new) →
     ((j : ℕ) (l : Lane) (n : ℕ) → slice_get new j ≡ Some (End l n) → w.sender.abandoned l n ≡ true) →
     Good (with_sender w (record w.sender { plan = grown w.sender.plan w.sender.plan.messages new }))
 gains_entries w new g arranged marks = by_sender w (record w.sender { plan = grown p p.messages new }) w.asked g
@@ -309,8 +309,8 @@ kept_by-Abandon w v l n g (m, named, asked, e) = subst Good (sym e)
         (λ ne h. g.sound.abandoned k o (subst (λ (c : Lane). old c o ≡ true) (sym s) h)))
         (λ ne h. g.sound.abandoned k o h)
 
-pub kept_by-Retune : (w v : Way) (b : SenderView) → Good w → Step w (Retune b) v → Good v
-kept_by-Retune w v b g (same, e) = subst Good (sym e)
+pub kept_by-Change_sending : (w v : Way) (b : SenderView) → Good w → Step w (Change_sending b) v → Good v
+kept_by-Change_sending w v b g (same, e) = subst Good (sym e)
     (by_sender w b w.asked g
     (record {
       plan = record {
@@ -319,7 +319,7 @@ kept_by-Retune w v b g (same, e) = subst Good (sym e)
       };
       abandoned = λ l n h. abandoned l n true h;
     })
-    (subst (λ (p : Plan). Arranged w.format p) (sym same.plan) g.arranged)
+    (subst (λ (p : Plan). IsOrderedPlan w.format p) (sym same.plan) g.arranged)
     (subst (λ (p : Plan). Waits w.streams p w.asked b.queue) (sym same.plan)
     (subst (λ (qs : List Queued). Waits w.streams a.plan w.asked qs) (sym same.queue) g.waits))
     (record {

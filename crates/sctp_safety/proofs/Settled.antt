@@ -7,7 +7,7 @@ use Rattle.sctp_model.specs.Pieces.{Piece, piece_of, number_of, IsFragment}
 use Rattle.sctp_model.specs.SenderView.{SenderView}
 use Rattle.sctp_model.specs.ReceiverView.{ReceiverView}
 use Rattle.sctp_model.specs.Safe.{WasHanded}
-use Rattle.sctp_safety.proofs.Facts.{Held, IsOver, IsSettled, IsAllSeen, Arranged}
+use Rattle.sctp_safety.proofs.Facts.{Held, IsOver, IsSettled, IsAllSeen, IsOrderedPlan}
 use Rattle.sctp_safety.proofs.Basics.{each_or}
 use Rattle.sctp_safety.proofs.OneMessage.{whole_when_kept, IsGathered, number_counts}
 use Rattle.sctp_safety.proofs.Later.{Learns, IsDone-later}
@@ -91,7 +91,7 @@ settled_at f a r i l n k m here named x =
     message = let h = x.named in cc (same, named)
 
 -- A chunk that wasn't seen is not of a message all of which was.
-pub not_all_seen : (f : Format) (a : SenderView) (r : ReceiverView) (x : Piece) (y : IsFragment f a.plan x) → Arranged f a.plan →
+pub not_all_seen : (f : Format) (a : SenderView) (r : ReceiverView) (x : Piece) (y : IsFragment f a.plan x) → IsOrderedPlan f a.plan →
     r.seen x.index ≡ false → IsAllSeen a.plan r x.lane y.number → ⊥
 not_all_seen f a r x y arranged unseen all = no (all.seen y.fragment within)
   where
@@ -109,7 +109,7 @@ not_all_seen f a r x y arranged unseen all = no (all.seen y.fragment within)
         absurd (cc)
 
 -- A message all of which was seen is over, where it isn't whole.
-pub over_unless_whole : (f : Format) (a : SenderView) (r : ReceiverView) → Arranged f a.plan → Held f a r → (l : Lane) (n : ℕ) →
+pub over_unless_whole : (f : Format) (a : SenderView) (r : ReceiverView) → IsOrderedPlan f a.plan → Held f a r → (l : Lane) (n : ℕ) →
     (x : IsAllSeen a.plan r l n) → (IsGathered f a.plan l n x.message r.kept → ⊥) → IsOver f a r l n
 over_unless_whole f a r arranged held l n x not_whole = go (each_or (length x.message.fragments) each)
   where

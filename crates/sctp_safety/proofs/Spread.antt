@@ -2,7 +2,7 @@
 use Rattle.std.proofs.Common.{◌≡◌, ℕ, zero, suc, ◌+◌, ◌-◌, ◌<◌, ◌≤◌, List, [], ◌∷◌, length, slice_get, Some, refl, subst, arith}
 use Rattle.sctp_model.specs.Format.{Format, Lane}
 use Rattle.sctp_model.specs.Plan.{Entry, Part, Plan, entry_at, IsOf}
-use Rattle.sctp_safety.proofs.Facts.{Arranged}
+use Rattle.sctp_safety.proofs.Facts.{IsOrderedPlan}
 use Rattle.sctp_safety.proofs.Basics.{slice_get-within}
 use Rattle.sctp_safety.proofs.PlanLemmas.{message_of}
 use Rattle.sctp_safety.proofs.OrderlyPlan.{orderly_when_arranged}
@@ -34,7 +34,7 @@ module _ (Stands : ℕ → ℕ → Type 0) (higher : (n o i j : ℕ) → n < o �
 
 -- ---- a lane
 
-module _ (f : Format) (p : Plan) (arranged : Arranged f p) (l : Lane) where
+module _ (f : Format) (p : Plan) (arranged : IsOrderedPlan f p) (l : Lane) where
   -- the number's message has an entry there
   StandsAt : ℕ → ℕ → Type 0
   StandsAt n i = (e : Entry) × (entry_at p i ≡ Some e) × IsOf l n e

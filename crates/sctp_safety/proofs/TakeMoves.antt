@@ -6,7 +6,7 @@ use Rattle.sctp_model.specs.Format.{Format, Lane, ordered_lane}
 use Rattle.sctp_model.specs.SenderView.{SenderView}
 use Rattle.sctp_model.specs.ReceiverView.{Handed, ReceiverView, handed}
 use Rattle.sctp_model.specs.Safe.{IsRising, IsApart, WasHanded}
-use Rattle.sctp_safety.specs.Way.{Way, Take, Note, Step, with_receiver}
+use Rattle.sctp_safety.specs.Way.{Way, Take, Note_duplicates, Step, with_receiver}
 use Rattle.sctp_safety.proofs.Facts.{Held, Good}
 use Rattle.sctp_safety.proofs.Basics.{at_same, at_other}
 use Rattle.sctp_safety.proofs.Later.{Learns, Grows-refl, lost-later, IsRetired-later, MayPass-later, IsAllSeen-later, by_receiver}
@@ -82,6 +82,6 @@ kept_by-Take w v s h rest g (some, e) = subst Good (sym e) (by_same w taken wait
     same u (inl e) = subst (λ (y : ℕ). taken y ++ waiting y ≡ handed r y) (sym e) (rw (at_same r.taken s (r.taken s ++ h ∷ []), at_same r.waiting s rest, some, append_assoc))
     same u (inr ne) = simp at_other
 
-pub kept_by-Note : (w v : Way) (t : ReceiverView) → Good w → Step w (Note t) v → Good v
-kept_by-Note w v t g (same, e) = subst Good (sym e) (subst (λ (r : ReceiverView). Good (with_receiver w r)) (sym same)
+pub kept_by-Note_duplicates : (w v : Way) (t : ReceiverView) → Good w → Step w (Note_duplicates t) v → Good v
+kept_by-Note_duplicates w v t g (same, e) = subst Good (sym e) (subst (λ (r : ReceiverView). Good (with_receiver w r)) (sym same)
     (by_same w w.receiver.taken w.receiver.waiting t.duplicates g (λ u. refl)))

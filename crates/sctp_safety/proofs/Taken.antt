@@ -9,7 +9,7 @@ use Rattle.sctp_model.specs.Whole.{Follows, IsRow}
 use Rattle.sctp_model.specs.Forward.{skipped}
 use Rattle.sctp_model.specs.ReceiverView.{Handed, ReceiverView}
 use Rattle.sctp_model.specs.Receiving.{IsWholeNumber, HasNoWhole, message_of, IsDue, Stop, Over, Past, is_below, without_below, GivesOrdered, GivesAll, GivesUnordered, Gives, recorded}
-use Rattle.sctp_safety.specs.Way.{Way, Move, Keep_piece, Hand_over, Hand_unordered, Pass_over, Clear, Forward_comes, Let_go, with_receiver, past, Step, Run}
+use Rattle.sctp_safety.specs.Way.{Way, Move, Keep_piece, Hand_over, Hand_unordered, Pass_over, Drop_below_next, Forward_comes, Let_go, with_receiver, past, Step, Run}
 use Rattle.sctp_safety.specs.Exact.{Leads, TakingIsMoves, ForwardIsMoves}
 use Rattle.sctp_safety.proofs.ForwardMove.{all_skipped}
 use Rattle.sctp_safety.proofs.Basics.{at_cases, at_same, Has-filter, Has-filtered}
@@ -163,7 +163,7 @@ due_is_moves w r s n m ms done (Past k l zs within none more) =
 pub giving_is_moves : (w : Way) (s : ℕ) (r t : ReceiverView) → GivesOrdered w.format s r t → Leads (with_receiver w r) (with_receiver w t)
 giving_is_moves w s r t (ms, n, due, e) =
     leads_on (with_receiver w r) (with_receiver w (given r s (r.next s) [])) _
-    (leads_same _ _ _ (leads_by _ _ (Clear s) refl) (ap (with_receiver w) cleared))
+    (leads_same _ _ _ (leads_by _ _ (Drop_below_next s) refl) (ap (with_receiver w) cleared))
     (leads_same _ _ _ (due_is_moves w r s (r.next s) n ms [] due) (ap (with_receiver w) (sym e)))
   where
     cleared : record r { kept = without_below r.kept s (r.next s) } ≡ given r s (r.next s) []

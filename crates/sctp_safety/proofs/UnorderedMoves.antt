@@ -10,7 +10,7 @@ use Rattle.sctp_model.specs.ReceiverView.{Handed, ReceiverView}
 use Rattle.sctp_model.specs.Receiving.{IsWholeWith, IsLeftBehind, has_index, goes_with, without_message}
 use Rattle.sctp_model.specs.Safe.{WasHanded}
 use Rattle.sctp_safety.specs.Way.{Way, Hand_unordered, Let_go, with_receiver, Step}
-use Rattle.sctp_safety.proofs.Facts.{IsDone, IsOver, IsRetired, MayPass, Arranged, Held, Good}
+use Rattle.sctp_safety.proofs.Facts.{IsDone, IsOver, IsRetired, MayPass, IsOrderedPlan, Held, Good}
 use Rattle.sctp_safety.proofs.Basics.{Has-filter, Has-filtered, filter_is, item_at-above, same_lane-true, same_lane-refl}
 use Rattle.sctp_safety.proofs.Later.{by_receiver}
 use Rattle.sctp_safety.proofs.OneMessage.{IsOneMessage, honest_whole}
@@ -33,7 +33,7 @@ has_index-is (y ∷ ys) x (inl e) = let i : y.index ≡ x.index = ap (λ (z : Pi
 has_index-is (y ∷ ys) x (inr h) = let b = has_index-is ys x h in grind (arith, b)
 
 -- a chunk goes with a message's chunks if it is of that message
-goes_if : (f : Format) (p : Plan) → Arranged f p → (x : Piece) (xs : List Piece) (one : IsOneMessage f p x xs)
+goes_if : (f : Format) (p : Plan) → IsOrderedPlan f p → (x : Piece) (xs : List Piece) (one : IsOneMessage f p x xs)
     (y : Piece) (v : IsFragment f p y) → y.lane ≡ x.lane → v.number ≡ one.number → goes_with f (x ∷ xs) y ≡ true
 goes_if Plain p arranged x xs one y v lane number =
     let z = one.all v.fragment within in
@@ -149,7 +149,7 @@ kept_by-Hand_unordered w v x xs g (kind, whole, within, e) = subst Good (sym e)
             absurd (cc)
 
 -- A chunk that a FORWARD leaves behind is of a message that is over, where it isn't whole.
-module _ (f : Format) (a : SenderView) (r : ReceiverView) (arranged : Arranged f a.plan) (held : Held f a r) (x : Piece) (has : Has r.kept x) where
+module _ (f : Format) (a : SenderView) (r : ReceiverView) (arranged : IsOrderedPlan f a.plan) (held : Held f a r) (x : Piece) (has : Has r.kept x) where
   abbrev u : IsFragment f a.plan x
   u = held.kept x has
 
@@ -165,7 +165,7 @@ module _ (f : Format) (a : SenderView) (r : ReceiverView) (arranged : Arranged f
       subst (λ (l : Lane). MayPass a r l u.number) (sym e.0) (subst (λ (n : ℕ). MayPass a r h.lane n) (sym e.1)
       (h.may (let q : x.lane.kind ≡ h.lane.kind = ap (λ (l : Lane). l.kind) e.0 in cc)))
 
-left_over : (f : Format) (a : SenderView) (r : ReceiverView) (arranged : Arranged f a.plan) (held : Held f a r) (x : Piece) (has : Has r.kept x) →
+left_over : (f : Format) (a : SenderView) (r : ReceiverView) (arranged : IsOrderedPlan f a.plan) (held : Held f a r) (x : Piece) (has : Has r.kept x) →
     IsLeftBehind f r x → ((xs : List Piece) → IsWholeWith f r.kept x xs → ⊥) → IsOver f a r x.lane (held.kept x has).number
 left_over Plain a r arranged held x has (kind, below) not_whole = not_wanted Plain a r arranged held x has
     (retired Plain a r arranged held x has (held.old refl x.index (item_at-above a.plan.entries x.index _ (held.kept x has).here) below) kind)

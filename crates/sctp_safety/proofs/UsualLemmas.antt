@@ -2,7 +2,7 @@
 use Rattle.std.proofs.Common.{◌≡◌, ℕ, [], length, true, refl, sym, subst, ap, ◌∙◌}
 use Rattle.sctp_model.specs.Plan.{Plan}
 use Rattle.sctp_model.specs.SenderView.{SenderView}
-use Rattle.sctp_safety.specs.Way.{Way, Retune, with_sender}
+use Rattle.sctp_safety.specs.Way.{Way, Change_sending, with_sender}
 use Rattle.sctp_safety.specs.Exact.{Leads}
 use Rattle.sctp_safety.specs.SenderLaws.{HasPart, IsInOrder, HasConstants, IsUsual, IsMoved}
 use Rattle.sctp_safety.proofs.Facts.{Good}
@@ -47,7 +47,7 @@ nothing_moved w order = record { leads = ([], refl); order = order; constants = 
 -- a change of what moves don't speak of
 pub retuned : (w : Way) (b : SenderView) → b.queue ≡ w.sender.queue → b.plan ≡ w.sender.plan → b.cum ≡ w.sender.cum →
     b.covered ≡ w.sender.covered → b.abandoned ≡ w.sender.abandoned → Leads w (with_sender w b)
-retuned w b queue plan cum covered abandoned = leads_by w (with_sender w b) (Retune b)
+retuned w b queue plan cum covered abandoned = leads_by w (with_sender w b) (Change_sending b)
     (record { queue = queue; plan = plan; cum = cum; covered = covered; abandoned = abandoned }, refl)
 
 -- the same plan and tickets, and no mark more

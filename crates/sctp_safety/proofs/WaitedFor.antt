@@ -10,7 +10,7 @@ use Rattle.sctp_model.specs.SenderView.{SenderView}
 use Rattle.sctp_model.specs.ReceiverView.{ReceiverView, IsReached}
 use Rattle.sctp_model.specs.Safe.{WasHanded}
 use Rattle.sctp_model.specs.receiver.Laws.{IsWaiting}
-use Rattle.sctp_safety.proofs.Facts.{Arranged, Held, IsDone, IsLost}
+use Rattle.sctp_safety.proofs.Facts.{IsOrderedPlan, Held, IsDone, IsLost}
 use Rattle.sctp_safety.proofs.Basics.{item_at-above, item_at-within}
 use Rattle.sctp_safety.proofs.Numbers.{below_is}
 use Rattle.sctp_safety.proofs.PlanLemmas.{message_of, same_message, renamed}
@@ -68,7 +68,7 @@ module _ (f : Format) (a : SenderView) (r : ReceiverView) (s : ℕ) (held : Held
       ]
 
   -- So not all of it was reached, once it takes no more indexes: it would be whole.
-  pub not_all_reached : Arranged f a.plan → IsClosed a.plan (ordered_lane s) (r.next s) → ((i : ℕ) (e : Entry) → entry_at a.plan i ≡ Some e → IsAwaited e → IsReached r i) → ⊥
+  pub not_all_reached : IsOrderedPlan f a.plan → IsClosed a.plan (ordered_lane s) (r.next s) → ((i : ℕ) (e : Entry) → entry_at a.plan i ≡ Some e → IsAwaited e → IsReached r i) → ⊥
   not_all_reached arranged (inl (i, here)) all = no_end i here (all i _ here (refl, refl))
   not_all_reached arranged (inr (m, (named, each))) all =
       let whole = whole_when_kept f a.plan arranged (ordered_lane s) (r.next s) m named r.kept held.kept
@@ -78,7 +78,7 @@ module _ (f : Format) (a : SenderView) (r : ReceiverView) (s : ℕ) (held : Held
 
 -- ---- numbers above the next
 
-module _ (f : Format) (a : SenderView) (r : ReceiverView) (s c w : ℕ) (arranged : Arranged f a.plan) (held : Held f a r)
+module _ (f : Format) (a : SenderView) (r : ReceiverView) (s c w : ℕ) (arranged : IsOrderedPlan f a.plan) (held : Held f a r)
     (reached : (i : ℕ) → 0 < i → i ≤ c → IsReached r i) (waits : IsWaiting f r s) (window : length a.plan.entries ≤ c + w) where
   -- A number that lies too far above the next one would leave all of the awaited message up to c.
   pub not_far_above : (i n : ℕ) (e : Entry) → entry_at a.plan i ≡ Some e → IsOf (ordered_lane s) n e → r.next s < n → n < r.next s + w
@@ -106,7 +106,7 @@ module _ (f : Format) (a : SenderView) (r : ReceiverView) (s c w : ℕ) (arrange
 
 -- ---- numbers below the next
 
-module _ (f : Format) (a : SenderView) (r : ReceiverView) (s : ℕ) (arranged : Arranged f a.plan) (held : Held f a r)
+module _ (f : Format) (a : SenderView) (r : ReceiverView) (s : ℕ) (arranged : IsOrderedPlan f a.plan) (held : Held f a r)
     (known : (n : ℕ) → a.abandoned (ordered_lane s) n ≡ true → (m : Message) × (message_at a.plan (ordered_lane s) n ≡ Some m)) where
   -- each was handed over or abandoned, so its message begins somewhere
   pub begun_below : (n : ℕ) → n < r.next s → (i : ℕ) × (entry_at a.plan i ≡ Some (Part (ordered_lane s) n 0))

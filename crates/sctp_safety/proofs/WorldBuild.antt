@@ -11,7 +11,7 @@ use Rattle.sctp_model.specs.Acknowledgement.{Acknowledgement}
 use Rattle.sctp_model.specs.Calls.{Asked}
 use Rattle.sctp_model.specs.first.Sending.{message_for, numbered_one, numbered_all, went_out}
 use Rattle.sctp_model.specs.first.Ends.{Configuration, EndView, Packet, piece_said, datas_of, SackOf, Builds}
-use Rattle.sctp_safety.specs.Way.{Way, Number, Put_piece, Put_sack, Retune, IsAllClosed}
+use Rattle.sctp_safety.specs.Way.{Way, Number, Put_piece, Put_sack, Change_sending, IsAllClosed}
 use Rattle.sctp_safety.specs.Exact.{Leads}
 use Rattle.sctp_safety.proofs.Basics.{Has-left, slice_get-end, at_lane_same, Has-cases, Has-push, Has-right}
 use Rattle.sctp_safety.proofs.Facts.{Good}
@@ -168,7 +168,7 @@ datas_out c a u r out back first count none d = done
       pieces = m.more;
       sacks = d.sacks;
       led = led_on (way_of c (record (numbered_all a (take count a.queue)) { queue = drop count a.queue }) u r m.more d.sacks) _ m.led
-          (leads_by _ _ (Retune (went_out a count)) (record { queue = refl; plan = refl; cum = refl; covered = refl; abandoned = refl }, refl));
+          (leads_by _ _ (Change_sending (went_out a count)) (record { queue = refl; plan = refl; cum = refl; covered = refl; abandoned = refl }, refl));
       has_pieces = λ p x sent within. which p x within (Has-push out packet p sent);
       has_sacks = d.has_sacks;
       plain = plain_out c a u count d.plain;

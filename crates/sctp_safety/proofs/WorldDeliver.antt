@@ -10,7 +10,7 @@ use Rattle.sctp_model.specs.Acknowledgement.{Acknowledgement, covers}
 use Rattle.sctp_model.specs.Calls.{Asked}
 use Rattle.sctp_model.specs.first.Sending.{acknowledged}
 use Rattle.sctp_model.specs.first.Ends.{Configuration, EndView, Packet, piece_said, IsDuplicate, PieceTaken, Duplicate, Passed, Taken, Act, Acts}
-use Rattle.sctp_safety.specs.Way.{Sack_comes, Retune}
+use Rattle.sctp_safety.specs.Way.{Sack_comes, Change_sending}
 use Rattle.sctp_safety.specs.Exact.{Leads}
 use Rattle.sctp_safety.proofs.Built.{passing_is_moves}
 use Rattle.sctp_safety.proofs.Taken.{leads_on, leads_by, taking_is_moves}
@@ -59,7 +59,7 @@ sack_counts c a u r out back cum rwnd d has newer = record {
   led = led_on (way_of c a u r d.pieces d.sacks) (way_of c (covered_to a cum rwnd) u r d.pieces d.sacks) d.led
       (leads_on (way_of c a u r d.pieces d.sacks) (way_of c (covered_to a cum a.rwnd) u r d.pieces d.sacks) _
       (leads_by _ _ (Sack_comes (record { cum = cum; blocks = [] })) (has, newer, refl))
-      (leads_by _ _ (Retune (covered_to a cum rwnd)) (record { queue = refl; plan = refl; cum = refl; covered = refl; abandoned = refl }, refl)));
+      (leads_by _ _ (Change_sending (covered_to a cum rwnd)) (record { queue = refl; plan = refl; cum = refl; covered = refl; abandoned = refl }, refl)));
   has_pieces = d.has_pieces;
   has_sacks = d.has_sacks;
   plain = record { streams = d.plain.streams; tickets = d.plain.tickets; single = d.plain.single };

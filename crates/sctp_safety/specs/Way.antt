@@ -32,14 +32,14 @@ pub data Move : Type 0 where
   -- the user of the sending end
   Send : (call : Call) (fragments : List (List ℕ)) → Move
   Name : (ticket : ℕ) → Move
-  Tick : (moment : ℕ) → Move
+  Time_passes : (moment : ℕ) → Move
   -- the sender
   Number : (before : List Queued) (q : Queued) (rest : List Queued) (count : ℕ) → Move
   Continue : (lane : Lane) (number fragment count : ℕ) → Move
   Withdraw : (before : List Queued) (q : Queued) (rest : List Queued) → Move
   Abandon : (lane : Lane) (number : ℕ) → Move
   Mark : (lane : Lane) (number : ℕ) → Move
-  Retune : SenderView → Move
+  Change_sending : SenderView → Move
   Sack_comes : Acknowledgement → Move
   Shutdown_comes : (cum : ℕ) → Move
   -- what is built
@@ -54,10 +54,10 @@ pub data Move : Type 0 where
   Hand_over : (stream : ℕ) (first : Piece) (others : List Piece) → Move
   Hand_unordered : (first : Piece) (others : List Piece) → Move
   Pass_over : (stream : ℕ) → Move
-  Clear : (stream : ℕ) → Move
+  Drop_below_next : (stream : ℕ) → Move
   Let_go : ReceiverView → Move
   Take : (stream : ℕ) (message : Handed) (rest : List Handed) → Move
-  Note : ReceiverView → Move
+  Note_duplicates : ReceiverView → Move
 
 -- only the sender changed
 abbrev pub with_sender : Way → SenderView → Way
@@ -91,7 +91,7 @@ abbrev pub past : ReceiverView → ℕ → ReceiverView
 past r s = record r { next = at r.next s (suc (r.next s)); kept = without_below r.kept s (suc (r.next s)) }
 
 -- what safety doesn't speak of: what went out, what is marked, the peer's window, the turn
-pub record SameButTuning (a b : SenderView) : Type 0 where
+pub record IsSameBesideSending (a b : SenderView) : Type 0 where
   pub queue : b.queue ≡ a.queue
   pub plan : b.plan ≡ a.plan
   pub cum : b.cum ≡ a.cum
@@ -120,7 +120,7 @@ Step w (Send call fragments) v =
     sent : Call → List (List ℕ) → Message
     sent c xs = record { ticket = suc (length w.asked.calls); payload = c.payload; fragments = xs; until = c.until }
 Step w (Name t) v = v ≡ record w { asked = record w.asked { named = at w.asked.named t true } }
-Step w (Tick t) v = v ≡ record w { asked = record w.asked { clock = max w.asked.clock t } }
+Step w (Time_passes t) v = v ≡ record w { asked = record w.asked { clock = max w.asked.clock t } }
 -- The first message of its stream takes its number, and its first indexes: under DATA all of them.
 Step w (Number before q rest count) v =
     (w.sender.queue ≡ before ++ q ∷ rest) × HasNone before q.lane.stream × IsAllClosed w.sender.plan q.lane.stream
@@ -143,7 +143,7 @@ Step w (Abandon l n) v =
 Step w (Mark l n) v =
     (m : Message) × (message_at w.sender.plan l n ≡ Some m) × (w.sender.abandoned l n ≡ true) × (IsClosed w.sender.plan l n → ⊥)
     × (v ≡ with_sender w (record w.sender { plan = record w.sender.plan { entries = w.sender.plan.entries ++ End l n ∷ [] } }))
-Step w (Retune b) v = SameButTuning w.sender b × (v ≡ with_sender w b)
+Step w (Change_sending b) v = IsSameBesideSending w.sender b × (v ≡ with_sender w b)
 Step w (Sack_comes x) v =
     Has w.sacks x × (w.sender.cum ≤ x.cum) × (v ≡ with_sender w (record w.sender { cum = x.cum; covered = covers x }))
 Step w (Shutdown_comes c) v =
@@ -183,7 +183,7 @@ Step w (Pass_over s) v =
     (w.receiver.next s < w.receiver.skip (ordered_lane s))
     × HasNoWhole w.format w.receiver.kept (ordered_lane s) (w.receiver.next s)
     × (v ≡ with_receiver w (past w.receiver s))
-Step w (Clear s) v =
+Step w (Drop_below_next s) v =
     v ≡ with_receiver w (record w.receiver { kept = without_below w.receiver.kept s (w.receiver.next s) })
 -- Unordered chunks that a FORWARD left behind go, where they are of no whole message.
 Step w (Let_go t) v = LetsGo w.format w.receiver t × (v ≡ with_receiver w t)
@@ -193,7 +193,7 @@ Step w (Take s h rest) v =
       taken = at w.receiver.taken s (w.receiver.taken s ++ h ∷ []);
       waiting = at w.receiver.waiting s rest;
     }))
-Step w (Note t) v =
+Step w (Note_duplicates t) v =
     (t ≡ record w.receiver { duplicates = t.duplicates }) × (v ≡ with_receiver w t)
 
 -- The moves may lead from the one to the other. The beginning of a run is a run, so what holds after each run holds in each of its worlds.

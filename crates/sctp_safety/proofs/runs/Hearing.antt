@@ -10,7 +10,7 @@ use Rattle.sctp_model.specs.Calls.{Asked}
 use Rattle.sctp_model.specs.receiver.PieceTaken.{Answer, PieceTaken}
 use Rattle.sctp_model.specs.receiver.ForwardTaken.{ForwardAnswer, ForwardTaken}
 use Rattle.sctp_model.specs.receiver.SackMade.{IsSack, TakeLeaves}
-use Rattle.sctp_safety.specs.Way.{Way, Put_shutdown, Note, with_receiver}
+use Rattle.sctp_safety.specs.Way.{Way, Put_shutdown, Note_duplicates, with_receiver}
 use Rattle.sctp_safety.specs.Exact.{Leads}
 use Rattle.sctp_safety.specs.ReceiverLaws.{IsReceived, IsPieceSaid, IsSackPut}
 use Rattle.sctp_safety.proofs.Basics.{Has-cases}
@@ -59,7 +59,7 @@ module _ (f : Format) (n : ℕ) (a : SenderView) (u : Asked) (r : ReceiverView) 
   -- what came again is noted, or forgotten
   pub after_note : (ds : List ℕ) → Direction f n a u (record r { duplicates = ds }) out back
   after_note ds = received (record r { duplicates = ds }) (record {
-    leads = leads_by here (with_receiver here (record r { duplicates = ds })) (Note (record r { duplicates = ds })) (refl, refl);
+    leads = leads_by here (with_receiver here (record r { duplicates = ds })) (Note_duplicates (record r { duplicates = ds })) (refl, refl);
     idle = record { ordered = λ s. record { passed = (d.idle.ordered s).passed; none = (d.idle.ordered s).none }; unordered = d.idle.unordered };
     initial = refl;
     streams = refl;

@@ -18,7 +18,7 @@ use Rattle.sctp_model.proofs.sender.ForwardLaws.{forward_is_forward}
 use Rattle.sctp_safety.specs.Way.{Put_forward}
 use Rattle.sctp_safety.specs.ReceiverLaws.{IsTopped}
 use Rattle.sctp_safety.proofs.Basics.{item_at-within}
-use Rattle.sctp_safety.proofs.Facts.{Arranged, Good}
+use Rattle.sctp_safety.proofs.Facts.{IsOrderedPlan, Good}
 use Rattle.sctp_safety.proofs.OrderlyPlan.{orderly_when_arranged}
 use Rattle.sctp_safety.proofs.Built.{forward_is_allowed}
 use Rattle.sctp_safety.proofs.Taken.{leads_by}
@@ -42,7 +42,7 @@ listed_once (x ∷ xs) h y z (inr a) (inr b) e = listed_once xs h.1 y z a b e
 
 -- ---- the largest number up to the point
 
-module _ (f : Format) (p : Plan) (c q : ℕ) (x : Forward) (arranged : Arranged f p) (is : IsForward f p c q x) where
+module _ (f : Format) (p : Plan) (c q : ℕ) (x : Forward) (arranged : IsOrderedPlan f p) (is : IsForward f p c q x) where
   -- an entry past CUM is among those that the list was made of
   topped_past : (y : Skip) (i n : ℕ) (e : Entry) → Has x.skips y → c < i → i ≤ q → entry_at p i ≡ Some e → IsOf y.lane n e → n ≤ y.number
   topped_past y i n e has lo hi here of =

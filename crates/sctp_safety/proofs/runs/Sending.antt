@@ -24,7 +24,7 @@ use Rattle.sctp_model.proofs.sender.SetLaws.{is_set}
 use Rattle.sctp_model.proofs.sender.Bounds.{is_bounded}
 use Rattle.sctp_model.proofs.sender.FillLaws.{goes_parts}
 use Rattle.sctp_model.proofs.sender.AbandonedLaws.{expired_reached}
-use Rattle.sctp_safety.specs.Way.{Way, Tick}
+use Rattle.sctp_safety.specs.Way.{Way, Time_passes}
 use Rattle.sctp_safety.specs.ReceiverLaws.{IsPieceSaid}
 use Rattle.sctp_safety.specs.SenderLaws.{IsMoved, IsPut, IsFilled, IsSackOf}
 use Rattle.sctp_safety.proofs.Basics.{Has-cases}
@@ -87,7 +87,7 @@ module _ (f : Format) (n : ℕ) (a : SenderView) (u : Asked) (r : ReceiverView) 
   pub after_tick : (m : ℕ) → Direction f n a (record u { clock = max u.clock m }) r out back
   after_tick m =
       sender_moved f n a u r out back d _ _ d.bags (more_same d.bags) d.reached (record {
-        leads = leads_by here (way_of f n a (record u { clock = max u.clock m }) r d.bags) (Tick m) refl;
+        leads = leads_by here (way_of f n a (record u { clock = max u.clock m }) r d.bags) (Time_passes m) refl;
         order = record { ends = d.usual.order.ends; marked = d.usual.order.marked; tickets = d.usual.order.tickets };
         constants = record { initial = refl; streams = refl; fragment = refl; partial = refl };
       })
