@@ -1,6 +1,10 @@
 //! Worked chunks both ways, and the laws of chunks called once. Bytes are spaced by field.
 
-use sctp_wire::{Chunk, Init, Rule, Skip, chunks_are_read, chunks_join, one_reading, read_chunks, typed_one_reading, unknown_chunk, unknown_parameter, unknown_types, write_chunk, written_each_reads, written_reads};
+use sctp_wire::{
+    Chunk, Init, Rule, Skip, chunks_are_read, chunks_join, one_reading, read_chunks,
+    typed_one_reading, unknown_chunk, unknown_parameter, unknown_types, write_chunk,
+    written_each_reads, written_reads,
+};
 use std::test::Fail;
 
 // Chunks as they are written: they read, fit and are written again as the same bytes.
