@@ -1,6 +1,10 @@
 //! Lists of chunks put together, what does not fit, and the faults of bytes that are no chunks. Bytes are spaced by field.
 
-use sctp_wire::{Blocks, Causes, Chunk, Forward, GapBlock, Init, Parameters, Piece, Sack, Skip, SkipForm, Skips, WireFault, Words, is_typed_list, put_block, put_cause, put_parameter, put_skip, put_word, read_chunks};
+use sctp_wire::{
+    Blocks, Causes, Chunk, Forward, GapBlock, Init, Parameters, Piece, Sack, Skip, SkipForm, Skips,
+    WireFault, Words, is_typed_list, put_block, put_cause, put_parameter, put_skip, put_word,
+    read_chunks,
+};
 use std::test::Fail;
 
 #[test]
@@ -32,7 +36,6 @@ fn lists_are_put_together(rt: HostRuntime) -> Result<(), Fail> {
     assert_eq!(rt; causes.as_slice(), [0, 9, 0, 8, 0, 0, 0, 0x64].as_slice());
     Ok(())
 }
-
 
 // Bytes, and their fault.
 const FAULTS: [(&[u8], WireFault); 12] = [
