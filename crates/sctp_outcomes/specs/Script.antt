@@ -34,6 +34,7 @@ script_setup sealing = record {
 abbrev pub greeting : Call
 greeting = record { lane = ordered_lane 0; payload = 0; bytes = 72 ∷ 105 ∷ []; until = None }
 
+-- it, as B's user takes it: the first fragment is index 1, the first number of its stream 0 (RFC 9260, 6.5)
 abbrev pub arrived : Handed
 arrived = record { first = 1; lane = ordered_lane 0; number = Some 0; payload = 0; bytes = 72 ∷ 105 ∷ [] }
 
@@ -55,6 +56,7 @@ opening_told =
 abbrev pub sending_events : List Event
 sending_events = Send A greeting ∷ Build A ∷ Deliver A 3 ∷ Deliver A 3 ∷ Build B ∷ Deliver B 4 ∷ Deliver B 4 ∷ Take B 0 ∷ []
 
+-- DATA and SACK take 32 bytes each; both times that each of them comes it acts, the second DATA as a duplicate (RFC 9260, 6.2)
 abbrev pub sending_told : List (Option Outcome)
 sending_told = Some (Told (Ticket 1)) ∷ Some (Sent 3 32) ∷ Some Acted ∷ Some Acted ∷ Some (Sent 4 32) ∷ Some Acted ∷ Some Acted ∷ Some (Message arrived) ∷ []
 
@@ -62,6 +64,7 @@ sending_told = Some (Told (Ticket 1)) ∷ Some (Sent 3 32) ∷ Some Acted ∷ So
 abbrev pub closing_events : List Event
 closing_events = Shutdown A ∷ Build A ∷ Deliver A 4 ∷ Deliver A 4 ∷ Build B ∷ Deliver B 5 ∷ Deliver B 5 ∷ Deliver A 5 ∷ Deliver A 5 ∷ []
 
+-- SHUTDOWN takes 20 bytes, the others 16; the SHUTDOWN COMPLETE that comes again finds B closed (RFC 9260, 9.2 and 8.4)
 abbrev pub closing_told : List (Option Outcome)
 closing_told =
     Some Done ∷ Some (Sent 4 20) ∷ Some Acted ∷ Some Acted ∷ Some (Sent 5 16) ∷ Some (Answered 5 16) ∷ Some (Answered 6 16) ∷ Some Acted ∷ Some (NotActed STATE) ∷ []
