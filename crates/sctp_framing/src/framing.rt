@@ -9,7 +9,7 @@ use sctp_wire::{Chunk, Forward, Piece, SkipForm};
 pub trait Framing {
     ghost use Rattle.std.specs.Prelude.{◌≡◌};
     ghost use Rattle.sctp_model.specs.Format.{Format, is_numbered};
-    ghost use Rattle.sctp_model.specs.Framing.{kind_of, data_chunk, header_of, wire_number, takes_turns, number_near, place_in, begins_in, payload_in, forward_chunk, lets_go};
+    ghost use Rattle.sctp_model.specs.Framing.{lane_kind, data_chunk, header_of, wire_number, takes_turns, number_near, place_in, begins_in, payload_in, forward_chunk, lets_go};
     ghost use Rattle.sctp_model.specs.Pieces.{word_of};
     ghost use Rattle.sctp_wire.specs.ChunkTree.{piece_meaning, forward_meaning, chunk_meaning};
     ghost use Rattle.sctp_framing.specs.SkipForms.{skip_form};
@@ -30,7 +30,7 @@ pub trait Framing {
 
     /// What stands on the wire for a message's number: an SSN, 0 for an unordered DATA, or a MID.
     fn wire_number(unordered: bool, number: u32) -> u32
-        ensures { result ≡ wire_number format (kind_of unordered) number };
+        ensures { result ≡ wire_number format (lane_kind unordered) number };
 
     /// The word of a fragment: the payload id, or behind an I-DATA message's first fragment the fragment number.
     fn wire_word(payload: u32, fragment: u32) -> u32
@@ -43,7 +43,7 @@ pub trait Framing {
     /// Whether messages of this kind are numbered: a FORWARD lists these, and a receiver files them by number.
     /// Others, the unordered ones of DATA, are known by their indexes alone.
     fn is_numbered(unordered: bool) -> bool
-        ensures { result ≡ is_numbered format (kind_of unordered) };
+        ensures { result ≡ is_numbered format (lane_kind unordered) };
 
     /// The chunk of a FORWARD: a FORWARD-TSN or an I-FORWARD-TSN.
     fn forward_chunk(forward: Forward<'_>) -> Chunk<'_>
@@ -59,7 +59,7 @@ pub trait Framing {
     ///
     /// None where the format has none, where no count is near, and for a count of 2^32 - 1.
     fn number_near(unordered: bool, wire: u32, reference: u32) -> Option<u32>
-        ensures { result ≡ number_near format (kind_of unordered) wire reference };
+        ensures { result ≡ number_near format (lane_kind unordered) wire reference };
 
     /// What rises by one from a fragment of a message to the next: the index, or the fragment number.
     fn place(index: u32, begin: bool, word: u32) -> u32

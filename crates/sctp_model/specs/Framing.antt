@@ -6,9 +6,9 @@ use Rattle.sctp_model.specs.Chunk.{PieceMeaning, ForwardMeaning, ChunkMeaning, D
 use Rattle.sctp_model.specs.Serial.{COUNTS, ssn, mid, near}
 
 -- the kind that the flag U says (RFC 9260, 3.3.1)
-abbrev pub kind_of : (unordered : Bool) → Kind
-kind_of true = Unordered
-kind_of false = Ordered
+abbrev pub lane_kind : (unordered : Bool) → Kind
+lane_kind true = Unordered
+lane_kind false = Ordered
 
 -- ---- a fragment's chunk
 

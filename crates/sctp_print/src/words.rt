@@ -8,7 +8,7 @@ ghost use Rattle.sctp_print.specs.ChunkLines.{letter, flags_word, each_behind_co
 ghost use Rattle.sctp_print.specs.Commas.{behind_comma};
 
 use sctp_text::{put_decimal, put_hex};
-use sctp_wire::{Blocks, Causes, GapBlock, Parameters, Piece, Skip, Skips, Words};
+use sctp_wire::{Blocks, Causes, GapBlock, Parameters, Piece, Skip, Skips, Tsns};
 use std::alloc::{AllocError, Global};
 
 /// Stands between the items of a list.
@@ -40,7 +40,7 @@ fn put_block(block: &GapBlock, word: &mut Vec<u8>) -> Result<(), AllocError>
 }
 
 /// The numbers, each behind a comma.
-pub(crate) fn numbers_word(alloc: Global, numbers: &Words<'_>) -> Result<Vec<u8>, AllocError>
+pub(crate) fn numbers_word(alloc: Global, numbers: &Tsns<'_>) -> Result<Vec<u8>, AllocError>
     ensures { IfOk result (λ word. word.items ≡ each_behind_comma decimal numbers.now) }
 {
     let mut word = Vec::new(alloc);

@@ -8,7 +8,7 @@ use Rattle.sctp_model.specs.Limits.{WINDOW}
 use Rattle.sctp_model.specs.Serial.{COUNTS, tsn, before, near}
 use Rattle.sctp_model.specs.Chunk.{PieceMeaning}
 use Rattle.sctp_model.specs.Format.{Format, Plain, Interleaved, Kind, Ordered, Unordered, is_numbered}
-use Rattle.sctp_model.specs.Framing.{kind_of, number_near, as_number}
+use Rattle.sctp_model.specs.Framing.{lane_kind, number_near, as_number}
 use Rattle.sctp_model.specs.Pieces.{Piece}
 use Rattle.sctp_model.specs.ReceiverView.{ReceiverView, held_bytes}
 use Rattle.sctp_model.specs.receiver.Rows.{first_of}
@@ -153,11 +153,11 @@ module _ (f : Format) (k : ReceiverKept) (v : ReceiverView) (p : PieceMeaning) (
 
   -- ---- whether it is passed
 
-  reference_same : (u : Bool) → reference_in v p.stream (kind_of u) ≡ reference_of (stream_at k.streams p.stream) u
+  reference_same : (u : Bool) → reference_in v p.stream (lane_kind u) ≡ reference_of (stream_at k.streams p.stream) u
   reference_same true = w.skip p.stream
   reference_same false = w.next p.stream
 
-  lowest_same : (u : Bool) → lowest_in v (lane_of p.stream u) (kind_of u) ≡ reference_of (stream_at k.streams p.stream) u
+  lowest_same : (u : Bool) → lowest_in v (lane_of p.stream u) (lane_kind u) ≡ reference_of (stream_at k.streams p.stream) u
   lowest_same true = w.skip p.stream
   lowest_same false = let low = w.skipped p.stream in let next = w.next p.stream in omega arith
 
@@ -165,23 +165,23 @@ module _ (f : Format) (k : ReceiverKept) (v : ReceiverView) (p : PieceMeaning) (
   late_same None u = refl
   late_same (Some n) u = ap (λ (m : ℕ). nat_lt n m) (lowest_same u)
 
-  pub number_same : number_near f (kind_of p.unordered) p.number (reference_of (stream_at k.streams p.stream) p.unordered) ≡ (piece_at f v k.seen.cumulative p).number
-  number_same = ap (λ (m : ℕ). number_near f (kind_of p.unordered) p.number m) (sym (reference_same p.unordered))
+  pub number_same : number_near f (lane_kind p.unordered) p.number (reference_of (stream_at k.streams p.stream) p.unordered) ≡ (piece_at f v k.seen.cumulative p).number
+  number_same = ap (λ (m : ℕ). number_near f (lane_kind p.unordered) p.number m) (sym (reference_same p.unordered))
 
   pub passed_late : (n : Option ℕ) → n ≡ (piece_at f v k.seen.cumulative p).number →
-      (is_numbered f (kind_of p.unordered) && is_below_or_none (reference_of (stream_at k.streams p.stream) p.unordered) n) ≡ true → is_passed f v (piece_at f v k.seen.cumulative p) ≡ true
+      (is_numbered f (lane_kind p.unordered) && is_below_or_none (reference_of (stream_at k.streams p.stream) p.unordered) n) ≡ true → is_passed f v (piece_at f v k.seen.cumulative p) ≡ true
   passed_late n number late =
-      let one : (is_numbered f (kind_of p.unordered) && is_late v (lane_of p.stream p.unordered) n) ≡ true = ap (λ (t : Bool). is_numbered f (kind_of p.unordered) && t) (late_same n p.unordered) ∙ late in
-      subst (λ (m : Option ℕ). ((is_numbered f (kind_of p.unordered) && is_late v (lane_of p.stream p.unordered) m) || is_repeated f v.kept (counted (piece_at f v k.seen.cumulative p).index p m)) ≡ true) number
+      let one : (is_numbered f (lane_kind p.unordered) && is_late v (lane_of p.stream p.unordered) n) ≡ true = ap (λ (t : Bool). is_numbered f (lane_kind p.unordered) && t) (late_same n p.unordered) ∙ late in
+      subst (λ (m : Option ℕ). ((is_numbered f (lane_kind p.unordered) && is_late v (lane_of p.stream p.unordered) m) || is_repeated f v.kept (counted (piece_at f v k.seen.cumulative p).index p m)) ≡ true) number
       (ap (λ (t : Bool). t || is_repeated f v.kept (counted (piece_at f v k.seen.cumulative p).index p n)) one)
 
   pub passed_is : (n : Option ℕ) (a b : Bool) → n ≡ (piece_at f v k.seen.cumulative p).number →
-      a ≡ (is_numbered f (kind_of p.unordered) && is_below_or_none (reference_of (stream_at k.streams p.stream) p.unordered) n) →
+      a ≡ (is_numbered f (lane_kind p.unordered) && is_below_or_none (reference_of (stream_at k.streams p.stream) p.unordered) n) →
       ((i : ℕ) → b ≡ is_repeated f k.kept (counted i p n)) → is_passed f v (piece_at f v k.seen.cumulative p) ≡ (a || b)
   passed_is n a b number late held =
-      let one : (is_numbered f (kind_of p.unordered) && is_late v (lane_of p.stream p.unordered) n) ≡ a = ap (λ (t : Bool). is_numbered f (kind_of p.unordered) && t) (late_same n p.unordered) ∙ sym late in
+      let one : (is_numbered f (lane_kind p.unordered) && is_late v (lane_of p.stream p.unordered) n) ≡ a = ap (λ (t : Bool). is_numbered f (lane_kind p.unordered) && t) (late_same n p.unordered) ∙ sym late in
       let two : is_repeated f v.kept (counted (piece_at f v k.seen.cumulative p).index p n) ≡ b = ap (λ (ks : List Piece). is_repeated f ks (counted (piece_at f v k.seen.cumulative p).index p n)) w.kept ∙ sym (held (piece_at f v k.seen.cumulative p).index) in
-      subst (λ (m : Option ℕ). ((is_numbered f (kind_of p.unordered) && is_late v (lane_of p.stream p.unordered) m) || is_repeated f v.kept (counted (piece_at f v k.seen.cumulative p).index p m)) ≡ (a || b)) number
+      subst (λ (m : Option ℕ). ((is_numbered f (lane_kind p.unordered) && is_late v (lane_of p.stream p.unordered) m) || is_repeated f v.kept (counted (piece_at f v k.seen.cumulative p).index p m)) ≡ (a || b)) number
       (ap (λ (t : Bool). t || is_repeated f v.kept (counted (piece_at f v k.seen.cumulative p).index p n)) one ∙ ap (λ (t : Bool). a || t) two)
 
 -- a number that is read is below the largest count

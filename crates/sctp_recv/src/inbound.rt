@@ -5,7 +5,7 @@ ghost use Rattle.sctp_recv.specs.Fields.{stream_of};
 ghost use Rattle.sctp_recv.specs.HandedOf.{handed_of};
 ghost use Rattle.sctp_recv.specs.ReceiverKept.{FRESH, reference_of, is_below_or_none};
 ghost use Rattle.sctp_model.specs.Format.{is_numbered};
-ghost use Rattle.sctp_model.specs.Framing.{kind_of, number_near};
+ghost use Rattle.sctp_model.specs.Framing.{lane_kind, number_near};
 
 use crate::message::Message;
 use sctp_framing::Framing;
@@ -34,14 +34,14 @@ impl Inbound {
 
     /// The number that a wire value stands for.
     pub(crate) fn number_near<F: Framing>(&self, unordered: bool, wire: u32) -> Option<u32>
-        ensures { result ≡ number_near F.format (kind_of unordered) wire (reference_of (stream_of self.now) unordered) }
+        ensures { result ≡ number_near F.format (lane_kind unordered) wire (reference_of (stream_of self.now) unordered) }
     {
         F::number_near(unordered, wire, self.reference(unordered))
     }
 
     /// Whether a chunk comes too late: its number is below those that count, or there is none where there should be one.
     pub(crate) fn is_late<F: Framing>(&self, unordered: bool, number: Option<u32>) -> bool
-        ensures { result ≡ (is_numbered F.format (kind_of unordered) && is_below_or_none (reference_of (stream_of self.now) unordered) number) }
+        ensures { result ≡ (is_numbered F.format (lane_kind unordered) && is_below_or_none (reference_of (stream_of self.now) unordered) number) }
     {
         F::is_numbered(unordered)
             && match number {

@@ -3,7 +3,7 @@
 ghost use Rattle.std.specs.Prelude.{◌≡◌, ◌%◌, [], length, OnOk};
 ghost use Rattle.sctp_wire.specs.Items.{words_in};
 
-use sctp_wire::{Blocks, NoMemory, Sack, Words, put_word};
+use sctp_wire::{Blocks, NoMemory, Sack, Tsns, put_word};
 
 /// What a SACK says, with lists of its own (RFC 9260, 3.3.4).
 #[derive(Drop)]
@@ -29,7 +29,7 @@ impl SackLists {
             cumulative: self.cumulative,
             rwnd: self.rwnd,
             blocks: Blocks::new(&self.blocks),
-            duplicates: Words::new(&self.duplicates),
+            duplicates: Tsns::new(&self.duplicates),
         }
     }
 }

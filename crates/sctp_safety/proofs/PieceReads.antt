@@ -5,7 +5,7 @@ use Rattle.std.proofs.lemmas.Bool.{cases_lt, cases_Bool}
 use Rattle.sctp_model.specs.Serial.{COUNTS, tsn, ahead, half_space}
 use Rattle.sctp_model.specs.Chunk.{PieceMeaning}
 use Rattle.sctp_model.specs.Format.{Format, Plain, Interleaved, Kind, Ordered, Unordered, Lane, is_numbered, ordered_lane, unordered_lane}
-use Rattle.sctp_model.specs.Framing.{kind_of, wire_number, number_near}
+use Rattle.sctp_model.specs.Framing.{lane_kind, wire_number, number_near}
 use Rattle.sctp_model.specs.Plan.{IsOf, Message, Entry, Part, entry_at, message_at}
 use Rattle.sctp_model.specs.Pieces.{Piece, piece_of, number_of, IsFragment}
 use Rattle.sctp_model.specs.ReceiverView.{ReceiverView, IsCumulative}
@@ -94,7 +94,7 @@ number_reads w c i l n k m g idle counted cumulative past here named = go w.form
 pub kind_reads : (l : Lane) → lane_of l.stream (is_unordered l.kind) ≡ l
 kind_reads l = go l.kind refl
   where
-    go : (k : Kind) → l.kind ≡ k → record { stream = l.stream; kind = kind_of (is_unordered k) } ≡ l
+    go : (k : Kind) → l.kind ≡ k → record { stream = l.stream; kind = lane_kind (is_unordered k) } ≡ l
     go Ordered e = ap (λ (k : Kind). record { stream = l.stream; kind = k }) (sym e)
     go Unordered e = ap (λ (k : Kind). record { stream = l.stream; kind = k }) (sym e)
 

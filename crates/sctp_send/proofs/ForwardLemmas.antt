@@ -5,7 +5,7 @@ use Rattle.std.specs.List.{AllByRecursion}
 use Rattle.std.proofs.lemmas.List.{length-map, map-append, length-take-le}
 use Rattle.std.proofs.lemmas.Bool.Decides.{nat_tests}
 use Rattle.sctp_model.specs.Format.{Format, Plain, Interleaved, Lane, is_numbered}
-use Rattle.sctp_model.specs.Framing.{kind_of, wire_number, forward_chunk}
+use Rattle.sctp_model.specs.Framing.{lane_kind, wire_number, forward_chunk}
 use Rattle.sctp_model.specs.Serial.{tsn}
 use Rattle.sctp_model.specs.Plan.{Entry}
 use Rattle.sctp_model.specs.Chunk.{SkipMeaning, ForwardMeaning, chunk_length}
@@ -65,12 +65,12 @@ walked_largest size stream run at unordered found next es x le lt read is before
 
 -- ---- an entry on the wire
 
-kind_said : (unordered : Bool) → is_unordered (kind_of unordered) ≡ unordered
+kind_said : (unordered : Bool) → is_unordered (lane_kind unordered) ≡ unordered
 kind_said true = refl
 kind_said false = refl
 
-pub skip_fits : (f : Format) (stream n : ℕ) (unordered : Bool) → stream < 2 ^ 16 → is_numbered f (kind_of unordered) ≡ true
-    → IsSkip (skip_form f) (record { stream = stream; unordered = unordered; number = wire_number f (kind_of unordered) n })
+pub skip_fits : (f : Format) (stream n : ℕ) (unordered : Bool) → stream < 2 ^ 16 → is_numbered f (lane_kind unordered) ≡ true
+    → IsSkip (skip_form f) (record { stream = stream; unordered = unordered; number = wire_number f (lane_kind unordered) n })
 skip_fits Plain stream n true small on = absurd (cc)
 skip_fits Plain stream n false small on = (small, omega arith, refl)
 skip_fits Interleaved stream n unordered small on = (small, omega arith)
@@ -106,13 +106,13 @@ all_joined P [] ys h k = k
 all_joined P (x ∷ xs) ys h k = (h.0, all_joined P xs ys h.1 k)
 
 lane_fits : (f : Format) (es : List Entry) (stream : ℕ) (unordered : Bool) → stream < 2 ^ 16 → AllByRecursion (IsSkip (skip_form f)) (map (skip_said f) (skip_of f es (lane_of stream unordered)))
-lane_fits f es stream unordered small = by_kind (is_numbered f (kind_of unordered)) refl
+lane_fits f es stream unordered small = by_kind (is_numbered f (lane_kind unordered)) refl
   where
-    by_largest : is_numbered f (kind_of unordered) ≡ true → (o : Option ℕ) → AllByRecursion (IsSkip (skip_form f)) (map (skip_said f) (skip_in (lane_of stream unordered) o))
+    by_largest : is_numbered f (lane_kind unordered) ≡ true → (o : Option ℕ) → AllByRecursion (IsSkip (skip_form f)) (map (skip_said f) (skip_in (lane_of stream unordered) o))
     by_largest on None = tt
     by_largest on (Some n) = rw (kind_said unordered) (skip_fits f stream n unordered small on, tt)
 
-    by_kind : (b : Bool) → is_numbered f (kind_of unordered) ≡ b → AllByRecursion (IsSkip (skip_form f)) (map (skip_said f) (if b then skip_in (lane_of stream unordered) (largest_in (lane_of stream unordered) None es) else []))
+    by_kind : (b : Bool) → is_numbered f (lane_kind unordered) ≡ b → AllByRecursion (IsSkip (skip_form f)) (map (skip_said f) (if b then skip_in (lane_of stream unordered) (largest_in (lane_of stream unordered) None es) else []))
     by_kind false off = tt
     by_kind true on = by_largest on (largest_in (lane_of stream unordered) None es)
 

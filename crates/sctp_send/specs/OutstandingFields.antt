@@ -1,7 +1,7 @@
 -- What an entry above CUM says: its message, its place, how far it came.
 use Rattle.std.specs.Prelude.{ℕ, Bool, true, false, List, map, Some}
 use Rattle.sctp_model.specs.Format.{Lane}
-use Rattle.sctp_model.specs.Framing.{kind_of}
+use Rattle.sctp_model.specs.Framing.{lane_kind}
 use Rattle.sctp_model.specs.Plan.{Message, Entry, Part, End}
 use Rattle.sctp_model.specs.SenderView.{Queued}
 use Rattle.sctp_model.specs.sender.Queueing.{cut}
@@ -27,7 +27,7 @@ is_marked Marked = true
 
 -- the lane in which a message was handed in
 abbrev pub lane_meaning : MessageFields → Lane
-lane_meaning m = record { stream = m.stream; kind = kind_of m.unordered }
+lane_meaning m = record { stream = m.stream; kind = lane_kind m.unordered }
 
 -- the message that was handed in, cut into fragments (RFC 9260, 6.9)
 abbrev pub message_meaning : ℕ → MessageFields → Message
@@ -55,7 +55,7 @@ item_meaning size e = record {
 
 -- the lane of a stream, ordered or not
 abbrev pub lane_of : ℕ → Bool → Lane
-lane_of stream unordered = record { stream = stream; kind = kind_of unordered }
+lane_of stream unordered = record { stream = stream; kind = lane_kind unordered }
 
 -- what stands at the indexes of items
 abbrev pub entries_of : List Item → List Entry

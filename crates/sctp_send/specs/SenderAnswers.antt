@@ -1,7 +1,7 @@
 -- What the calls of a sender answer, in terms of a view that it stands for, and the view that they leave.
 use Rattle.std.specs.Prelude.{◌≡◌, ℕ, suc, Bool, not, List, Option, None, Some, Result, Ok, Err}
 use Rattle.sctp_model.specs.Format.{Lane}
-use Rattle.sctp_model.specs.Framing.{kind_of}
+use Rattle.sctp_model.specs.Framing.{lane_kind}
 use Rattle.sctp_model.specs.SenderView.{SenderView}
 use Rattle.sctp_model.specs.sender.Queueing as model
 use Rattle.sctp_model.specs.sender.Queueing.{refusal, queued}
@@ -51,7 +51,7 @@ queue_after v lane payload bytes until (Err fault) = v
 
 -- the lane of a call
 abbrev pub lane_for : ℕ → Bool → Lane
-lane_for stream ordered = record { stream = stream; kind = kind_of (not ordered) }
+lane_for stream ordered = record { stream = stream; kind = lane_kind (not ordered) }
 
 -- ---- a message abandoned
 

@@ -2,7 +2,7 @@
 
 use sctp_wire::{
     Blocks, Causes, Chunk, Forward, GapBlock, Init, Parameters, Piece, Sack, Skip, SkipForm, Skips,
-    WireFault, Words, is_typed_list, put_block, put_cause, put_parameter, put_skip, put_word,
+    Tsns, WireFault, is_typed_list, put_block, put_cause, put_parameter, put_skip, put_word,
     read_chunks,
 };
 use std::test::Fail;
@@ -155,7 +155,7 @@ fn what_is_not_as_it_is_written_does_not_fit(rt: HostRuntime) -> Result<(), Fail
         cumulative: 1,
         rwnd: 0,
         blocks: Blocks::none(),
-        duplicates: Words::none(),
+        duplicates: Tsns::none(),
     };
     assert!(rt; Chunk::Sack(sack).fits());
     Ok(())

@@ -2,7 +2,7 @@
 
 use sctp_first_send::{Sender, Ticket};
 use sctp_packet::PacketWriter;
-use sctp_wire::{Blocks, Sack, Words};
+use sctp_wire::{Blocks, Sack, Tsns};
 use std::alloc::Global;
 use std::test::Fail;
 
@@ -41,7 +41,7 @@ fn messages_go_out_in_order_and_are_acknowledged(rt: HostRuntime) -> Result<(), 
             cumulative,
             rwnd: 0,
             blocks: Blocks::none(),
-            duplicates: Words::none(),
+            duplicates: Tsns::none(),
         });
         assert_eq!(rt; sender.cum(), cum, "after {cumulative}");
     }

@@ -1,7 +1,7 @@
 //! Packets filled up to their limit, and read again.
 
 use sctp_packet::{PacketWriter, read_packet};
-use sctp_wire::{Blocks, Chunk, Sack, Words};
+use sctp_wire::{Blocks, Chunk, Sack, Tsns};
 use std::test::Fail;
 
 fn unknown(value: &[u8]) -> Chunk<'_> {
@@ -33,7 +33,7 @@ fn a_packet_is_its_header_and_its_chunks_padded(rt: HostRuntime) -> Result<(), F
         cumulative: 10,
         rwnd: 65_536,
         blocks: Blocks::none(),
-        duplicates: Words::none(),
+        duplicates: Tsns::none(),
     });
     let other = unknown(b"a");
     assert!(rt; sack.fits() && other.fits());

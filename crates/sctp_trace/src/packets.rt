@@ -20,7 +20,7 @@ use crate::end::{End, is_open};
 use sctp_first_recv::{Answer, Receiver};
 use sctp_packet::{PacketWriter, written_packet_reads};
 use sctp_script::{Outcome, Side};
-use sctp_wire::{Blocks, Chunk, Chunks, NoMemory, Sack, Words, read_chunks};
+use sctp_wire::{Blocks, Chunk, Chunks, NoMemory, Sack, Tsns, read_chunks};
 use std::alloc::Global;
 
 /// The bytes of a packet's header (RFC 9260, 3.1).
@@ -97,7 +97,7 @@ fn put_sack(receiver: &Receiver, packet: &mut PacketWriter) -> Result<(), NoMemo
         cumulative: values.cumulative,
         rwnd: values.rwnd,
         blocks: Blocks::none(),
-        duplicates: Words::none(),
+        duplicates: Tsns::none(),
     };
     if packet.try_chunk(&Chunk::Sack(sack))? {
         Ok(())

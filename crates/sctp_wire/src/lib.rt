@@ -31,7 +31,7 @@ pub use laws::{
     chunks_are_read, chunks_join, one_reading, typed_one_reading, unknown_types,
     written_each_reads, written_reads,
 };
-pub use lists::{BlockIter, Blocks, GapBlock, WordIter, Words};
+pub use lists::{BlockIter, Blocks, GapBlock, TsnIter, Tsns};
 pub use numbers::padded;
 pub use read::{Chunks, read_chunks};
 pub use skips::{Skip, SkipForm, SkipIter, Skips, put_skip};

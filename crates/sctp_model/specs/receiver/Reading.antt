@@ -5,7 +5,7 @@ use Rattle.sctp_model.specs.Limits.{WINDOW}
 use Rattle.sctp_model.specs.Serial.{COUNTS, tsn, ahead, before}
 use Rattle.sctp_model.specs.Chunk.{PieceMeaning}
 use Rattle.sctp_model.specs.Format.{Format, Kind, Ordered, Unordered, Lane, unordered_lane}
-use Rattle.sctp_model.specs.Framing.{kind_of, number_near}
+use Rattle.sctp_model.specs.Framing.{lane_kind, number_near}
 use Rattle.sctp_model.specs.Pieces.{Piece}
 use Rattle.sctp_model.specs.ReceiverView.{ReceiverView}
 
@@ -31,7 +31,7 @@ is_ahead r c wire = nat_lt WINDOW (offset r c wire) || nat_le (COUNTS - 1) (inde
 
 -- the stream and the flag U of a chunk as a lane
 abbrev pub lane_of : ℕ → Bool → Lane
-lane_of stream unordered = record { stream = stream; kind = kind_of unordered }
+lane_of stream unordered = record { stream = stream; kind = lane_kind unordered }
 
 -- The count near which numbers of a stream are read: what its ordered messages wait for, or its lowest unordered number that isn't skipped.
 abbrev pub reference_in : ReceiverView → (stream : ℕ) → Kind → ℕ

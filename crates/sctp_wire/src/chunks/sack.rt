@@ -7,7 +7,7 @@ ghost use Rattle.sctp_wire.specs.Layouts.{Fits};
 ghost use Rattle.sctp_wire.specs.chunks.Sack.{sack_value, is_sack_value, sack_at};
 
 use crate::codes::LONGEST;
-use crate::lists::{Blocks, Words};
+use crate::lists::{Blocks, Tsns};
 use crate::numbers::{append, append_u16, append_u32, read_u16, read_u32};
 
 /// What a receiver has seen.
@@ -20,7 +20,7 @@ pub struct Sack<'a> {
     /// The runs of TSNs that came above the cumulative one.
     pub blocks: Blocks<'a>,
     /// The TSNs that came more than once.
-    pub duplicates: Words<'a>,
+    pub duplicates: Tsns<'a>,
 }
 
 /// Whether the counts fill the length.
@@ -64,7 +64,7 @@ pub fn read_sack(value: &[u8]) -> Sack<'_>
         cumulative: read_u32(value),
         rwnd: read_u32(&value[4..]),
         blocks: Blocks::new(blocks),
-        duplicates: Words::new(duplicates),
+        duplicates: Tsns::new(duplicates),
     }
 }
 

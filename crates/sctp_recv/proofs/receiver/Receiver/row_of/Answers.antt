@@ -2,7 +2,7 @@ use Rattle.std.proofs.Common.{◌≡◌, ℕ, ◌<◌, ◌≤◌, ◌+◌, Bool,
 use Rattle.std.specs.Prelude.{◌||◌, ◌&&◌}
 use Rattle.std.proofs.lemmas.List.{length-map}
 use Rattle.sctp_model.specs.Format.{is_numbered}
-use Rattle.sctp_model.specs.Framing.{kind_of, number_near}
+use Rattle.sctp_model.specs.Framing.{lane_kind, number_near}
 use Rattle.sctp_model.specs.receiver.Reading.{piece_at}
 use Rattle.sctp_model.specs.receiver.PieceTaken.{is_passed}
 use Rattle.sctp_wire.specs.ChunkTree.{piece_meaning}
@@ -30,9 +30,9 @@ returns-then-is_late g c = λ v w.
     let low : p.stream < length k.streams = let n = length-map items stream_of in omega (arith, within, c.from-stream.ensures) in
     let inbound : stream_of c.index-inbound.result.now ≡ stream_at k.streams p.stream =
     sym (stream_mapped items c.from-stream.result c.index-inbound.result.now within c.index-inbound.ensures) ∙ ap (λ (i : ℕ). stream_at k.streams i) c.from-stream.ensures in
-    let number = c.number_near-number.ensures ∙ ap (λ (a : StreamKept). number_near f (kind_of p.unordered) p.number (reference_of a p.unordered)) inbound ∙ number_same f k v p w c.cumulative.ensures.within in
-    let late : c.is_late.result ≡ (is_numbered f (kind_of p.unordered) && is_below_or_none (reference_of (stream_at k.streams p.stream) p.unordered) c.number_near-number.result) =
-    c.is_late.ensures ∙ ap (λ (a : StreamKept). is_numbered f (kind_of p.unordered) && is_below_or_none (reference_of a p.unordered) c.number_near-number.result) inbound in
+    let number = c.number_near-number.ensures ∙ ap (λ (a : StreamKept). number_near f (lane_kind p.unordered) p.number (reference_of a p.unordered)) inbound ∙ number_same f k v p w c.cumulative.ensures.within in
+    let late : c.is_late.result ≡ (is_numbered f (lane_kind p.unordered) && is_below_or_none (reference_of (stream_at k.streams p.stream) p.unordered) c.number_near-number.result) =
+    c.is_late.ensures ∙ ap (λ (a : StreamKept). is_numbered f (lane_kind p.unordered) && is_below_or_none (reference_of a p.unordered) c.number_near-number.result) inbound in
     let passed : is_passed f v (piece_at f v k.seen.cumulative p) ≡ true = elim c.then-is_late.branch [
       | then-is_late-via-then-is_late u ↦ passed_late f k v p w c.cumulative.ensures.within c.number_near-number.result number (sym late ∙ u.if-is_late.true)
       | then-is_late-via-else-is_late+then-has_fragment u ↦
@@ -54,9 +54,9 @@ returns-then-piece-saturating_sub g c = λ v w.
     let low : p.stream < length k.streams = let n = length-map items stream_of in omega (arith, within, c.from-stream.ensures) in
     let inbound : stream_of c.index-inbound.result.now ≡ stream_at k.streams p.stream =
     sym (stream_mapped items c.from-stream.result c.index-inbound.result.now within c.index-inbound.ensures) ∙ ap (λ (i : ℕ). stream_at k.streams i) c.from-stream.ensures in
-    let number = c.number_near-number.ensures ∙ ap (λ (a : StreamKept). number_near f (kind_of p.unordered) p.number (reference_of a p.unordered)) inbound ∙ number_same f k v p w c.cumulative.ensures.within in
-    let late : c.is_late.result ≡ (is_numbered f (kind_of p.unordered) && is_below_or_none (reference_of (stream_at k.streams p.stream) p.unordered) c.number_near-number.result) =
-    c.is_late.ensures ∙ ap (λ (a : StreamKept). is_numbered f (kind_of p.unordered) && is_below_or_none (reference_of a p.unordered) c.number_near-number.result) inbound in
+    let number = c.number_near-number.ensures ∙ ap (λ (a : StreamKept). number_near f (lane_kind p.unordered) p.number (reference_of a p.unordered)) inbound ∙ number_same f k v p w c.cumulative.ensures.within in
+    let late : c.is_late.result ≡ (is_numbered f (lane_kind p.unordered) && is_below_or_none (reference_of (stream_at k.streams p.stream) p.unordered) c.number_near-number.result) =
+    c.is_late.ensures ∙ ap (λ (a : StreamKept). is_numbered f (lane_kind p.unordered) && is_below_or_none (reference_of a p.unordered) c.number_near-number.result) inbound in
     let passed : is_passed f v (piece_at f v k.seen.cumulative p) ≡ false =
     passed_is f k v p w c.cumulative.ensures.within c.number_near-number.result c.is_late.result c.has_fragment.result number late c.has_fragment.ensures
     ∙ ap (λ (b : Bool). b || c.has_fragment.result) c.if-is_late.false ∙ c.if-has_fragment.false in
@@ -76,9 +76,9 @@ returns g c = λ v w.
     let low : p.stream < length k.streams = let n = length-map items stream_of in omega (arith, within, c.from-stream.ensures) in
     let inbound : stream_of c.index-inbound.result.now ≡ stream_at k.streams p.stream =
     sym (stream_mapped items c.from-stream.result c.index-inbound.result.now within c.index-inbound.ensures) ∙ ap (λ (i : ℕ). stream_at k.streams i) c.from-stream.ensures in
-    let number = c.number_near-number.ensures ∙ ap (λ (a : StreamKept). number_near f (kind_of p.unordered) p.number (reference_of a p.unordered)) inbound ∙ number_same f k v p w c.cumulative.ensures.within in
-    let late : c.is_late.result ≡ (is_numbered f (kind_of p.unordered) && is_below_or_none (reference_of (stream_at k.streams p.stream) p.unordered) c.number_near-number.result) =
-    c.is_late.ensures ∙ ap (λ (a : StreamKept). is_numbered f (kind_of p.unordered) && is_below_or_none (reference_of a p.unordered) c.number_near-number.result) inbound in
+    let number = c.number_near-number.ensures ∙ ap (λ (a : StreamKept). number_near f (lane_kind p.unordered) p.number (reference_of a p.unordered)) inbound ∙ number_same f k v p w c.cumulative.ensures.within in
+    let late : c.is_late.result ≡ (is_numbered f (lane_kind p.unordered) && is_below_or_none (reference_of (stream_at k.streams p.stream) p.unordered) c.number_near-number.result) =
+    c.is_late.ensures ∙ ap (λ (a : StreamKept). is_numbered f (lane_kind p.unordered) && is_below_or_none (reference_of a p.unordered) c.number_near-number.result) inbound in
     let passed : is_passed f v (piece_at f v k.seen.cumulative p) ≡ false =
     passed_is f k v p w c.cumulative.ensures.within c.number_near-number.result c.is_late.result c.has_fragment.result number late c.has_fragment.ensures
     ∙ ap (λ (b : Bool). b || c.has_fragment.result) c.if-is_late.false ∙ c.if-has_fragment.false in
@@ -87,7 +87,7 @@ returns g c = λ v w.
       record {
         new = new_index f k v p w c.cumulative.ensures.within c.in-At.index above new;
         number = number;
-        small = λ m is. near_small f (kind_of p.unordered) p.number (reference_of (stream_of c.index-inbound.result.now) p.unordered) m (sym c.number_near-number.ensures ∙ is);
+        small = λ m is. near_small f (lane_kind p.unordered) p.number (reference_of (stream_of c.index-inbound.result.now) p.unordered) m (sym c.number_near-number.ensures ∙ is);
         stream = low;
         wanted = passed;
         fits = fits;
