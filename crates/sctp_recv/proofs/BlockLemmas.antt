@@ -6,7 +6,8 @@ use Rattle.std.proofs.lemmas.Grind.{common_steps}
 use Rattle.sctp_model.specs.Lists.{Has}
 use Rattle.sctp_model.specs.Chunk.{BlockMeaning}
 use Rattle.sctp_model.specs.ReceiverView.{ReceiverView}
-use Rattle.sctp_model.specs.receiver.SackMade.{IsRun, AreBlocksRising, AreAllRuns}
+use Rattle.sctp_model.specs.Acknowledgement.{IsRun}
+use Rattle.sctp_model.specs.receiver.SackMade.{AreBlocksRising, AreAllRuns}
 use Rattle.sctp_recv.specs.declared.runs.Run.{Run}
 use Rattle.sctp_recv.specs.Runs.{in_run, in_runs, IsApart, AreRuns}
 use Rattle.sctp_recv.specs.Blocks.{block_of_run}

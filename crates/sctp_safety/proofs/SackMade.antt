@@ -1,12 +1,11 @@
 -- The SACK that a receiver makes may be put between the ends, and taking a message is a move.
-use Rattle.std.proofs.Common.{◌≡◌, ℕ, zero, suc, List, [], ◌∷◌, take, Some, None, inl, inr, refl, sym, subst, ap, arith}
+use Rattle.std.proofs.Common.{◌≡◌, ℕ, zero, suc, List, [], ◌∷◌, take, Some, None, inl, inr, refl, sym, subst, ap}
 use Rattle.sctp_model.specs.Limits.{BLOCK_LIMIT}
 use Rattle.sctp_model.specs.Lists.{Has}
 use Rattle.sctp_model.specs.Chunk.{BlockMeaning, SackMeaning}
 use Rattle.sctp_model.specs.ReceiverView.{ReceiverView}
-use Rattle.sctp_model.specs.Acknowledgement.{Acknowledgement}
-use Rattle.sctp_model.specs.Acknowledgement.{IsRun as IsRunFrom}
-use Rattle.sctp_model.specs.receiver.SackMade.{IsRun, first_taken}
+use Rattle.sctp_model.specs.Acknowledgement.{Acknowledgement, IsRun}
+use Rattle.sctp_model.specs.receiver.SackMade.{first_taken}
 use Rattle.sctp_model.proofs.receiver.Idle.{still_idle}
 use Rattle.sctp_safety.specs.Way.{Put_sack, Take, with_receiver}
 use Rattle.sctp_safety.specs.ReceiverLaws.{IsReceived, SackMadeIsMoves, TakeIsMoves}
@@ -20,10 +19,6 @@ among_all (suc n) [] x there = there
 among_all (suc n) (y ∷ xs) x (inl e) = inl e
 among_all (suc n) (y ∷ xs) x (inr there) = inr (among_all n xs x there)
 
--- a run above c, of which none is at the index after c, is a run from c
-run_of : (r : ReceiverView) (c : ℕ) (b : BlockMeaning) → IsRun r c b → IsRunFrom r c b
-run_of r c b run = record { above = omega (arith, run.above); some = run.some; seen = run.seen; before = λ i at came past. run.before i at came; after = run.after }
-
 pub sack_made_is_moves : SackMadeIsMoves
 sack_made_is_moves w s made = record {
   sack = sack;
@@ -34,10 +29,10 @@ sack_made_is_moves w s made = record {
     sack : Acknowledgement
     sack = record { cum = made.c; blocks = s.blocks }
 
-    runs : (b : BlockMeaning) → Has s.blocks b → IsRunFrom w.receiver made.c b
+    runs : (b : BlockMeaning) → Has s.blocks b → IsRun w.receiver made.c b
     runs b there =
         let lowest : s.blocks ≡ take BLOCK_LIMIT made.runs = ap (λ (z : SackMeaning). z.blocks) made.is in
-        run_of w.receiver made.c b (made.all.runs b (among_all BLOCK_LIMIT made.runs b (subst (λ (bs : List BlockMeaning). Has bs b) lowest there)))
+        made.all.runs b (among_all BLOCK_LIMIT made.runs b (subst (λ (bs : List BlockMeaning). Has bs b) lowest there))
 
 pub take_is_moves : TakeIsMoves
 take_is_moves w s None t idle (none, e) = subst (IsReceived w) (sym e) (record { leads = ([], refl); idle = idle; initial = refl; streams = refl; buffer = refl })

@@ -1,20 +1,13 @@
 -- What a receiver tells in a SACK (RFC 9260, 3.3.4 and 6.2.1), and what is left when it was sent, and when the user takes a message.
-use Rattle.std.specs.Prelude.{◌≡◌, ℕ, suc, ◌+◌, ◌<◌, ◌≤◌, true, List, [], ◌∷◌, ◌++◌, take, Option, Some, None}
+use Rattle.std.specs.Prelude.{◌≡◌, ℕ, ◌<◌, List, [], ◌∷◌, ◌++◌, take, Option, Some, None}
 use Rattle.sctp_model.specs.Limits.{BLOCK_LIMIT}
 use Rattle.sctp_model.specs.Lists.{Has, AreInOrder, at}
 use Rattle.sctp_model.specs.Serial.{tsn}
 use Rattle.sctp_model.specs.Chunk.{BlockMeaning, SackMeaning}
 use Rattle.sctp_model.specs.ReceiverView.{Handed, ReceiverView, IsCumulative, room_left}
+use Rattle.sctp_model.specs.Acknowledgement.{IsRun}
 
 -- ---- gap blocks
-
--- A run above c: from start to end all are recorded, counted from c, and on neither side does it go on.
-pub record IsRun (r : ReceiverView) (c : ℕ) (b : BlockMeaning) : Type 0 where
-  pub above : 1 < b.start
-  pub some : b.start ≤ b.end
-  pub seen : (i : ℕ) → c + b.start ≤ i → i ≤ c + b.end → r.seen i ≡ true
-  pub before : (i : ℕ) → suc i ≡ c + b.start → r.seen i ≡ true → ⊥
-  pub after : r.seen (suc (c + b.end)) ≡ true → ⊥
 
 -- from the lowest up, each ended before the next begins
 abbrev pub AreBlocksRising : List BlockMeaning → Type 0

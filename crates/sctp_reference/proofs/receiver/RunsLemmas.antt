@@ -4,7 +4,8 @@ use Rattle.std.proofs.lemmas.Bool.{cases_eq, cases_lt}
 use Rattle.sctp_model.specs.Lists.{Has}
 use Rattle.sctp_model.specs.Chunk.{BlockMeaning}
 use Rattle.sctp_model.specs.ReceiverView.{ReceiverView, IsCumulative}
-use Rattle.sctp_model.specs.receiver.SackMade.{IsRun, AreBlocksRising, AreAllRuns}
+use Rattle.sctp_model.specs.Acknowledgement.{IsRun}
+use Rattle.sctp_model.specs.receiver.SackMade.{AreBlocksRising, AreAllRuns}
 use Rattle.sctp_reference.specs.receiver.Runs.{block, walked, runs_from, all_runs}
 use Rattle.sctp_reference.specs.receiver.Steps.{IsBound}
 
