@@ -1,34 +1,62 @@
 #!/bin/sh
-# Counts the instructions that a byte of crc32c takes, over packets of 1,472 bytes: of the program that `rt run` proves and builds, and of the
-# same loop in C at -O2. Needs rt, valgrind and cc.
+# Counts instructions by callgrind, of programs that `rt run` proves and builds: what a byte of crc32c takes (beside the same loop in C at -O2), and what a
+# receiver takes for a message. `./run.sh` runs all, `./run.sh crc32c` and `./run.sh receiver` one of them. Needs rt, valgrind and cc.
 set -e
 here=$(cd "$(dirname "$0")" && pwd)
 work=$(mktemp -d)
 trap 'rm -rf "$work"' EXIT
 
-# a repository of its own: the crates as they are, and the program
-mkdir "$work/crates"
-for crate in sctp_model sctp_wire sctp_packet; do
-    cp -R "$here/../crates/$crate" "$work/crates/$crate"
-done
-mkdir -p "$work/crates/crc32c_bench/src"
-cp "$here/crc32c.rattle" "$work/crates/crc32c_bench/src/main.rt"
-grep -E '^(sctp_model|sctp_wire|sctp_packet):' "$here/../crates.txt" > "$work/crates.txt"
-echo 'crc32c_bench: sctp_packet' >> "$work/crates.txt"
-cp "$here/../HANDLES" "$work/HANDLES"
-
-(cd "$work/crates/crc32c_bench" && rt run -- 1 > /dev/null)
-cc -O2 -o "$work/c" "$here/crc32c.c"
-program=$work/crates/crc32c_bench/out/crc32c_bench
-
-# the instructions of a run with so many packets
-count() {
-    valgrind --tool=callgrind --callgrind-out-file="$work/out" "$1" "$2" 2>&1 >/dev/null | sed -n 's/.*Collected : \([0-9]*\).*/\1/p'
+# a repository of its own: the crates that the program named first stands on, as they are, and the program; it is built
+build() {
+    program=$1
+    shift
+    mkdir -p "$work/crates/$program/src"
+    : > "$work/crates.txt"
+    for crate in "$@"; do
+        [ -d "$work/crates/$crate" ] || cp -R "$here/../crates/$crate" "$work/crates/$crate"
+        grep "^$crate:" "$here/../crates.txt" >> "$work/crates.txt"
+    done
+    echo "$program: $*" >> "$work/crates.txt"
+    cp "$here/$program.rattle" "$work/crates/$program/src/main.rt"
+    cp "$here/../HANDLES" "$work/HANDLES"
+    (cd "$work/crates/$program" && rt run -- none 1 > "$work/log" 2>&1) || { cat "$work/log" >&2; exit 1; }
+    built=$work/crates/$program/out/$program
 }
 
-# what a byte takes: the difference of two runs, so that the beginning and the end fall away
-for name in "$program" "$work/c"; do
-    few=$(count "$name" 1000)
-    many=$(count "$name" 3000)
-    echo "$(basename "$name") $few $many" | awk '{ printf "%s: %.3f instructions a byte\n", $1, ($3 - $2) / 2000 / 1472 }'
-done
+# the instructions of a run of these words
+count() {
+    valgrind --tool=callgrind --callgrind-out-file="$work/out" "$@" 2>&1 > /dev/null | sed -n 's/.*Collected : \([0-9]*\).*/\1/p'
+}
+
+# what one of them takes: NAME FEW MANY PER PROGRAM [WORD], the difference of two runs, so that the beginning and the end fall away
+each() {
+    name=$1 few=$2 many=$3 per=$4
+    shift 4
+    low=$(count "$@" "$few")
+    high=$(count "$@" "$many")
+    echo "$low $high" | awk -v name="$name" -v turns=$((many - few)) -v per="$per" '{ printf "%s: %.2f instructions\n", name, ($2 - $1) / turns / per }'
+}
+
+crc32c() {
+    build crc32c sctp_model sctp_wire sctp_packet
+    cc -O2 -o "$work/c" "$here/crc32c.c"
+    each 'a byte of crc32c' 1000 3000 1472 "$built"
+    each 'a byte of crc32c in C' 1000 3000 1472 "$work/c"
+}
+
+receiver() {
+    build receiver sctp_model sctp_safety sctp_serial sctp_wire sctp_framing sctp_recv
+    for range in '1000 2000' '10000 20000'; do
+        # shellcheck disable=SC2086
+        each "a message of 64 bytes in order ($range)" $range 1 "$built" order
+        # shellcheck disable=SC2086
+        each "a message of 64 bytes in swapped pairs ($range)" $range 1 "$built" swapped
+    done
+    each 'a message of 65,536 bytes, its 47 fragments backwards' 10 20 1 "$built" backwards
+    each 'a SACK with 16,383 runs' 1 11 1 "$built" sack
+}
+
+case ${1:-all} in
+    all) crc32c; receiver ;;
+    *) "$1" ;;
+esac
