@@ -20,3 +20,4 @@ pub mod AssignLemmas
 pub mod ExpireLemmas
 pub mod ExpireKept
 pub mod GoingOnLemmas
+pub mod AssignedKept
