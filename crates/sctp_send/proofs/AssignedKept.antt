@@ -1,23 +1,27 @@
--- What is kept when a fragment takes its index and goes out at once: of a message that begins, and of one in part.
-use Rattle.std.proofs.Common.{◌≡◌, ℕ, zero, suc, ◌+◌, ◌-◌, ◌%◌, ◌<◌, ◌≤◌, List, [], ◌∷◌, ◌++◌, length, drop, get_or, set, Option, Some, None, refl, sym, ap, ◌∙◌, subst, arith, length-append, length-set}
-use Rattle.std.specs.Prelude.{slice_get, option_and_then}
-use Rattle.std.proofs.lemmas.Option.{slice_get-get_or}
-use Rattle.sctp_model.specs.Format.{Format, Plain, Interleaved, Lane}
-use Rattle.sctp_model.specs.Plan.{Message, Entry, Part}
+-- What is kept when a fragment takes its index and goes out at once: of a message that begins, and of one in part; and how much is outstanding then.
+use Rattle.std.proofs.Common.{◌≡◌, ℕ, zero, suc, ◌+◌, ◌-◌, ◌<◌, ◌≤◌, List, [], ◌∷◌, ◌++◌, length, drop, get_or, set, Bool, true, false, Option, Some, None, refl, sym, ap, ◌∙◌, subst, arith, length-append, length-set}
+use Rattle.std.specs.Prelude.{◌==◌, nat_lt}
+use Rattle.std.proofs.lemmas.Bool.Decides.{nat_tests}
+use Rattle.sctp_model.specs.Format.{Format, Lane}
+use Rattle.sctp_model.specs.Plan.{Message, Entry, Part, End, parts_from}
 use Rattle.sctp_model.specs.SenderView.{Queued, SenderView}
-use Rattle.sctp_model.specs.sender.Entries.{entry_message, continued, in_part, one_if_some, sum_below}
-use Rattle.sctp_model.specs.sender.Assigning.{is_on, without_first, first_on, stream_after, going_on, beginning}
+use Rattle.sctp_model.specs.sender.Words.{when}
+use Rattle.sctp_model.specs.sender.Entries.{entry_lane, entry_message, fragments_in, next_part, continued, in_part, one_if_some, sum_below}
+use Rattle.sctp_model.specs.sender.Readers.{outstanding}
 use Rattle.sctp_model.specs.sender.Filling.{newcomer, with_sent, goes, gone}
 use Rattle.sctp_model.specs.sender.Reached.{Goes}
+use Rattle.sctp_model.proofs.sender.WordLaws.{sum-changed}
 use Rattle.sctp_model.proofs.sender.FillLaws.{goes_parts}
-use Rattle.sctp_model.proofs.sender.SetLaws.{AllFilled, is_filled}
-use Rattle.sctp_model.proofs.sender.CountLaws.{first_there}
-use Rattle.sctp_model.proofs.sender.QueueLaws.{IsTaken, taken_head, taken_first}
+use Rattle.sctp_model.proofs.sender.Bounds.{length-parts}
+use Rattle.sctp_model.proofs.sender.PlanLaws.{continued_is, continued_new, continued_more}
+use Rattle.sctp_model.proofs.sender.CountLaws.{is_named}
+use Rattle.sctp_model.proofs.sender.QueueLaws.{IsTaken}
 use Rattle.sctp_send.specs.SenderKept.{Item, Rest, Track, Kept}
-use Rattle.sctp_send.specs.SenderStands.{items_from, rest_here, track_here, Holds, Keeps}
+use Rattle.sctp_send.specs.SenderStands.{rest_here, Holds, Keeps}
+use Rattle.sctp_send.specs.inner.Walks.{total, one_if_rest}
 use Rattle.sctp_send.specs.declared.message.Fate.TheVariants.{Numbered}
-use Rattle.sctp_send.proofs.TableLemmas.{length-table}
 use Rattle.sctp_send.proofs.KeepLemmas.{count_items, kept_length}
+use Rattle.sctp_send.proofs.QueueLemmas.{kept_in_part}
 use Rattle.sctp_send.proofs.GoneLemmas.{gone_item, items_sent}
 use Rattle.sctp_send.proofs.NewItems.{new_item, new_items, numbered}
 use Rattle.sctp_send.proofs.AssignLemmas.{number_in, begun_track, track_at, holds_begun}
@@ -62,6 +66,24 @@ holds_first s u i xs ys y h is =
     let now = subst (λ (zs : List Item). Holds (record s { items = zs }) (with_sent u (suc (u.cum + length xs)))) (set_behind xs ys y y) sent in
     subst (λ (j : ℕ). Holds (record s { items = xs ++ gone_item y ∷ ys }) (with_sent u j)) (sym is) now
 
+-- ---- room for end marks
+
+one_at_most : (p : ℕ → Option Entry) (n : ℕ) → sum_below (λ j. one_if_some (p j)) n ≤ n
+one_at_most p zero = omega arith
+one_at_most p (suc n) = by_next (p n) (one_at_most p n)
+  where
+    by_next : (o : Option Entry) → sum_below (λ j. one_if_some (p j)) n ≤ n → sum_below (λ j. one_if_some (p j)) n + one_if_some o ≤ suc n
+    by_next None rest = omega arith
+    by_next (Some e) rest = omega arith
+
+-- a stream has one message in part at most
+pub in_part_streams : (v : SenderView) → in_part v ≤ v.streams
+in_part_streams v = one_at_most (continued v.plan) v.streams
+
+pub length-new_items : (l : Lane) (n : ℕ) (m : Message) (k d : ℕ) → length (new_items l n m k d) ≡ d
+length-new_items l n m k zero = refl
+length-new_items l n m k (suc d) = ap suc (length-new_items l n m (suc k) d)
+
 -- ---- a message begins
 
 -- its first fragment goes out, and the others that have an index wait for their turn
@@ -79,56 +101,70 @@ after_begun s q rest d turn capacity t = record s {
   capacity = capacity;
 }
 
-keeps_numbered : (f : Format) (s : Kept) (v : SenderView) (q : Queued) (rest : List Queued) (d turn capacity room : ℕ) (x : Track) → Keeps f s v → IsTaken q rest v.queue → q.lane.stream < v.streams
-    → goes f room v ≡ Some (newcomer v (numbered v q (suc d) rest turn))
-    → in_part (numbered v q (suc d) rest turn) + length (after_begun s q rest d turn capacity (get_or s.tracks q.lane.stream x)).items ≤ capacity
+pub begun_kept : (f : Format) (s : Kept) (v : SenderView) (q : Queued) (rest : List Queued) (d turn capacity room : ℕ) (x : Track) → Keeps f s v → IsTaken q rest v.queue → q.lane.stream < v.streams
+    → goes f room v ≡ Some (newcomer v (numbered v q (suc d) rest turn)) → v.streams + (length s.items + suc d) ≤ capacity
     → Keeps f (after_begun s q rest d turn capacity (get_or s.tracks q.lane.stream x)) (gone (newcomer v (numbered v q (suc d) rest turn)))
-keeps_numbered f s v q rest d turn capacity room x k taken low first space =
+begun_kept f s v q rest d turn capacity room x k taken low first space =
     let u = numbered v q (suc d) rest turn in
     let n = number_in q.lane.kind (get_or s.tracks q.lane.stream x) in
     let behind = new_items q.lane n q.message 1 d in
     let parts = goes_parts f room v (newcomer v u) first in
     let before = length-append s.items (new_item (Part q.lane n 0) q.message ∷ behind) in
-    let after = length-append s.items (begun_items q.lane n q.message d) in
-    let h = holds_begun f s v q rest d turn capacity x k taken low (omega (arith, before, after, space)) in
+    let many = length-new_items q.lane n q.message 1 d in
+    let ends = in_part_streams u in
+    let h = holds_begun f s v q rest d turn capacity x k taken low (omega (arith, before, many, ends, space)) in
     let count = kept_length f s v k in
     record {
       holds = holds_first (after_begun s q rest d turn capacity (get_or s.tracks q.lane.stream x)) u (suc (length v.plan.entries)) s.items behind (new_item (Part q.lane n 0) q.message) h (omega (arith, count));
       reached = Goes v room (newcomer v u) k.reached parts.0 parts.1;
     }
 
--- DATA: the message that has waited longest, with all its fragments
-pub keeps_whole : (s : Kept) (v : SenderView) (q : Queued) (rest : List Queued) (d capacity room : ℕ) (x : Track) → Keeps Plain s v → s.queue ≡ q ∷ rest
-    → goes Plain room v ≡ Some (newcomer v (numbered v q (suc d) rest v.turn))
-    → in_part (numbered v q (suc d) rest v.turn) + length (after_begun s q rest d s.turn capacity (get_or s.tracks q.lane.stream x)).items ≤ capacity
-    → Keeps Plain (after_begun s q rest d s.turn capacity (get_or s.tracks q.lane.stream x)) (gone (newcomer v (numbered v q (suc d) rest v.turn)))
-keeps_whole s v q rest d capacity room x k queue first space =
-    let waits : v.queue ≡ q ∷ rest = sym k.holds.queue ∙ queue in
-    let there = (subst (λ (qs : List Queued). AllFilled v.streams qs) waits (is_filled Plain v k.reached)).0.1 in
-    let taken = subst (λ (qs : List Queued). IsTaken q rest qs) (sym waits) (taken_head q rest) in
-    let turn = k.holds.turn in
-    subst (λ (n : ℕ). Keeps Plain (after_begun s q rest d n capacity (get_or s.tracks q.lane.stream x)) (gone (newcomer v (numbered v q (suc d) rest v.turn)))) (sym turn)
-    (keeps_numbered Plain s v q rest d v.turn capacity room x k taken there first space)
+-- how many entries a view has above CUM
+above : (f : Format) (s : Kept) (v : SenderView) (more : List Entry) (n : ℕ) → Keeps f s v → length more ≡ n → length (v.plan.entries ++ more) - v.cum ≡ length s.items + n
+above f s v more n k is =
+    let long = length-append v.plan.entries more in
+    let count = kept_length f s v k in
+    omega (arith, long, count, is)
 
--- I-DATA: the first message of the stream whose turn it is, with its first fragment
-pub keeps_begun : (s : Kept) (v : SenderView) (j : ℕ) (q : Queued) (capacity room : ℕ) (x : Track) → Keeps Interleaved s v → first_on j s.queue ≡ Some q
-    → goes Interleaved room v ≡ Some (newcomer v (beginning v j q))
-    → in_part (beginning v j q) + length (after_begun s q (without_first (is_on j) s.queue) 0 (suc j % s.streams) capacity (get_or s.tracks q.lane.stream x)).items ≤ capacity
-    → Keeps Interleaved (after_begun s q (without_first (is_on j) s.queue) 0 (suc j % s.streams) capacity (get_or s.tracks q.lane.stream x)) (gone (newcomer v (beginning v j q)))
-keeps_begun s v j q capacity room x k queue first space =
-    let waits : first_on j v.queue ≡ Some q = ap (first_on j) (sym k.holds.queue) ∙ queue in
-    let there = first_there v.streams j q v.queue (is_filled Interleaved v k.reached) waits in
-    let taken = taken_first j q v.queue waits in
-    let left = ap (without_first (is_on j)) k.holds.queue in
-    let turn : suc j % s.streams ≡ stream_after v j = ap (λ (n : ℕ). suc j % n) k.holds.streams in
-    let kept = keeps_numbered Interleaved s v q (without_first (is_on j) v.queue) 0 (stream_after v j) capacity room x k taken there first space in
-    rw (left, turn) kept
+-- a sum over streams of which one has changed
+changed_part : (f : Format) (s : Kept) (v u : SenderView) (j : ℕ) (x : Track) → Keeps f s v → j < v.streams → u.streams ≡ v.streams → ((i : ℕ) → (i ≡ j → ⊥) → continued v.plan i ≡ continued u.plan i)
+    → in_part u + one_if_rest (get_or s.tracks j x).rest ≡ total (λ t. one_if_rest t.rest) s.tracks + one_if_some (continued u.plan j)
+changed_part f s v u j x k low streams others =
+    let change = sum-changed (λ i. one_if_some (continued v.plan i)) (λ i. one_if_some (continued u.plan i)) v.streams j low (λ i apart. ap one_if_some (others i apart)) in
+    let all = kept_in_part f s v k in
+    let same : in_part u ≡ sum_below (λ i. one_if_some (continued u.plan i)) v.streams = ap (sum_below (λ i. one_if_some (continued u.plan i))) streams in
+    let own : one_if_rest (get_or s.tracks j x).rest ≡ one_if_some (continued v.plan j) = ap (λ (t : Track). one_if_rest t.rest) (track_at f s v j x k low) ∙ rest_counts (continued v.plan j) in
+    omega (arith, change, all, same, own)
+  where
+    rest_counts : (o : Option Entry) → one_if_rest (rest_here v.plan o) ≡ one_if_some o
+    rest_counts None = refl
+    rest_counts (Some e) = refl
+
+-- how much is outstanding when a message has begun
+pub outstanding_begun : (f : Format) (s : Kept) (v : SenderView) (q : Queued) (rest : List Queued) (d turn : ℕ) (x : Track) → Keeps f s v → q.lane.stream < v.streams
+    → outstanding (numbered v q (suc d) rest turn) + one_if_rest (get_or s.tracks q.lane.stream x).rest
+    ≡ (length s.items + suc d) + (total (λ t. one_if_rest t.rest) s.tracks + one_if_rest (begun_track q (suc d) (get_or s.tracks q.lane.stream x)).rest)
+outstanding_begun f s v q rest d turn x k low =
+    let u = numbered v q (suc d) rest turn in
+    let j = q.lane.stream in
+    let named = is_named f v k.reached in
+    let n = length (v.plan.messages q.lane) in
+    let entries = above f s v (parts_from q.lane n 0 (suc d)) (suc d) k (length-parts q.lane n 0 (suc d)) in
+    let self : (j == j) ≡ true = grind (arith, nat_tests) in
+    let parts = changed_part f s v u j x k low refl (λ i apart. sym (continued_new v.streams v.plan q d i named ∙ rw (off i (j == i) refl apart) refl)) in
+    let own : one_if_some (continued u.plan j) ≡ one_if_rest (begun_track q (suc d) (get_or s.tracks j x)).rest =
+    ap one_if_some (continued_new v.streams v.plan q d j named ∙ rw self refl) ∙ when_counts (Part q.lane n (suc d)) (record { entry = Part q.lane (number_in q.lane.kind (get_or s.tracks j x)) (suc d); message = Some q.message }) (nat_lt (suc d) (length q.message.fragments)) in
+    omega (arith, entries, parts, own)
+  where
+    off : (i : ℕ) (b : Bool) → (q.lane.stream == i) ≡ b → (i ≡ q.lane.stream → ⊥) → b ≡ false
+    off i false is apart = refl
+    off i true is apart = absurd (apart (grind (arith, nat_tests)))
+
+    when_counts : (e : Entry) (r : Rest) (b : Bool) → one_if_some (when b e) ≡ one_if_rest (when b r)
+    when_counts e r true = refl
+    when_counts e r false = refl
 
 -- ---- a message goes on
-
--- what is left of a stream's message in part
-abbrev pub rest_of : Kept → (stream : ℕ) → Option Rest
-rest_of s j = option_and_then (λ t. t.rest) (slice_get s.tracks j)
 
 -- What is kept then: its next fragment went out, and its stream goes on with what is left.
 abbrev pub after_continued : Kept → (stream : ℕ) → Rest → (turn capacity : ℕ) → Track → Kept
@@ -139,67 +175,44 @@ after_continued s j r turn capacity t = record s {
   capacity = capacity;
 }
 
--- the same before the fragment went out
-abbrev went_on : Kept → (stream : ℕ) → Rest → (turn capacity : ℕ) → Track → Kept
-went_on s j r turn capacity t = record (after_continued s j r turn capacity t) { items = s.items ++ rest_item r ∷ [] }
-
--- a track that was read is the stream's
-pub rest_read : (s : Kept) (j : ℕ) (x : Track) (r : Option Rest) → j < length s.tracks → (get_or s.tracks j x).rest ≡ r → rest_of s j ≡ r
-rest_read s j x r low is = rw (slice_get-get_or s.tracks j x low) is
-
--- and is the one that the view says
-pub kept_rest : (f : Format) (s : Kept) (v : SenderView) (j : ℕ) → Keeps f s v → j < v.streams → rest_of s j ≡ rest_here v.plan (continued v.plan j)
-kept_rest f s v j k low =
-    let x = track_here v j in
-    let long = ap (λ (ts : List Track). length ts) k.holds.tracks ∙ length-table (track_here v) 0 v.streams in
-    rest_read s j x (rest_here v.plan (continued v.plan j)) (omega (arith, long)) (ap (λ (t : Track). t.rest) (track_at f s v j x k low))
-
--- what is left is of the fragment that the plan says
-pub record IsLeft (v : SenderView) (j : ℕ) (r : Rest) : Type 0 where
-  pub entry : continued v.plan j ≡ Some r.entry
-  pub message : r.message ≡ entry_message v.plan r.entry
-
-pub rest_left : (f : Format) (s : Kept) (v : SenderView) (j : ℕ) (r : Rest) → Keeps f s v → j < v.streams → rest_of s j ≡ Some r → IsLeft v j r
-rest_left f s v j r k low is = by_next (continued v.plan j) refl (sym (kept_rest f s v j k low) ∙ is)
-  where
-    by_next : (o : Option Entry) → continued v.plan j ≡ o → rest_here v.plan o ≡ Some r → IsLeft v j r
-    by_next None on there = absurd (cc)
-    by_next (Some e) on there =
-        let same : record { entry = e; message = entry_message v.plan e } ≡ r = cc in
-        subst (λ (x : Rest). IsLeft v j x) same (record { entry = on; message = refl })
-
--- I-DATA: the next fragment of the message in part of the stream whose turn it is
-pub keeps_continued : (s : Kept) (v : SenderView) (j : ℕ) (r : Rest) (capacity room : ℕ) (x : Track) → Keeps Interleaved s v → j < s.streams → rest_of s j ≡ Some r
-    → goes Interleaved room v ≡ Some (newcomer v (going_on v j r.entry))
-    → in_part (going_on v j r.entry) + length (after_continued s j r (suc j % s.streams) capacity (get_or s.tracks j x)).items ≤ capacity
-    → Keeps Interleaved (after_continued s j r (suc j % s.streams) capacity (get_or s.tracks j x)) (gone (newcomer v (going_on v j r.entry)))
-keeps_continued s v j r capacity room x k low is first space =
-    let streams = k.holds.streams in
-    let there : j < v.streams = omega arith in
-    let left = rest_left Interleaved s v j r k there is in
-    let turn : stream_after v j ≡ suc j % s.streams = ap (λ (n : ℕ). suc j % n) (sym streams) in
-    let parts = goes_parts Interleaved room v (newcomer v (going_on v j r.entry)) first in
-    let before = length-append s.items (rest_item (record { entry = r.entry; message = entry_message v.plan r.entry }) ∷ []) in
-    let after = length-append s.items (gone_item (rest_item r) ∷ []) in
-    let count = kept_length Interleaved s v k in
-    let h = holds_continued Interleaved s v j (stream_after v j) capacity r.entry x k there left.entry (omega (arith, before, after, space)) in
-    let mine = subst (λ (m : Option Message). Holds (went_on s j (record { entry = r.entry; message = m }) (stream_after v j) capacity (get_or s.tracks j x)) (going_on v j r.entry)) (sym left.message) h in
-    let turned = subst (λ (n : ℕ). Holds (went_on s j r n capacity (get_or s.tracks j x)) (going_on v j r.entry)) turn mine in
+pub continued_kept : (f : Format) (s : Kept) (v : SenderView) (j turn capacity room : ℕ) (e : Entry) (x : Track) → Keeps f s v → j < v.streams → continued v.plan j ≡ Some e
+    → goes f room v ≡ Some (newcomer v (gone_on v e turn)) → v.streams + (length s.items + 1) ≤ capacity
+    → Keeps f (after_continued s j (record { entry = e; message = entry_message v.plan e }) turn capacity (get_or s.tracks j x)) (gone (newcomer v (gone_on v e turn)))
+continued_kept f s v j turn capacity room e x k low on first space =
+    let u = gone_on v e turn in
+    let r : Rest = record { entry = e; message = entry_message v.plan e } in
+    let parts = goes_parts f room v (newcomer v u) first in
+    let before = length-append s.items (rest_item r ∷ []) in
+    let ends = in_part_streams u in
+    let h = holds_continued f s v j turn capacity e x k low on (omega (arith, before, ends, space)) in
+    let count = kept_length f s v k in
     record {
-      holds = holds_first (after_continued s j r (suc j % s.streams) capacity (get_or s.tracks j x)) (going_on v j r.entry) (suc (length v.plan.entries)) s.items [] (rest_item r) turned (omega (arith, count));
-      reached = Goes v room (newcomer v (going_on v j r.entry)) k.reached parts.0 parts.1;
+      holds = holds_first (after_continued s j r turn capacity (get_or s.tracks j x)) u (suc (length v.plan.entries)) s.items [] (rest_item r) h (omega (arith, count));
+      reached = Goes v room (newcomer v u) k.reached parts.0 parts.1;
     }
 
--- ---- room for end marks
-
-one_at_most : (p : ℕ → Option Entry) (n : ℕ) → sum_below (λ j. one_if_some (p j)) n ≤ n
-one_at_most p zero = omega arith
-one_at_most p (suc n) = let rest = one_at_most p n in by_next (p n) rest
+-- how much is outstanding when a message has gone on
+pub outstanding_continued : (f : Format) (s : Kept) (v : SenderView) (j turn : ℕ) (e : Entry) (x : Track) → Keeps f s v → j < v.streams → continued v.plan j ≡ Some e
+    → outstanding (gone_on v e turn) + one_if_rest (get_or s.tracks j x).rest
+    ≡ (length s.items + 1) + (total (λ t. one_if_rest t.rest) s.tracks + one_if_rest (rest_after e (entry_message v.plan e)))
+outstanding_continued f s v j turn e x k low on =
+    let u = gone_on v e turn in
+    let next = continued_is v.streams v.plan j e (is_named f v k.reached) on in
+    let stream : (entry_lane e).stream ≡ j = ap (λ (y : Entry). (entry_lane y).stream) next.is ∙ next.on in
+    let entries = above f s v (e ∷ []) 1 k refl in
+    let self : (j == j) ≡ true = grind (arith, nat_tests) in
+    let parts = changed_part f s v u j x k low refl (λ i apart. sym (continued_more v.plan e i ∙ rw (stream, off i (j == i) refl apart) refl)) in
+    let own : one_if_some (continued u.plan j) ≡ one_if_rest (rest_after e (entry_message v.plan e)) = ap one_if_some (continued_more v.plan e j ∙ rw (stream, self) refl) ∙ next_counts e in
+    omega (arith, entries, parts, own)
   where
-    by_next : (o : Option Entry) → sum_below (λ j. one_if_some (p j)) n ≤ n → sum_below (λ j. one_if_some (p j)) n + one_if_some o ≤ suc n
-    by_next None rest = omega arith
-    by_next (Some e) rest = omega arith
+    off : (i : ℕ) (b : Bool) → (j == i) ≡ b → (i ≡ j → ⊥) → b ≡ false
+    off i false is apart = refl
+    off i true is apart = absurd (apart (grind (arith, nat_tests)))
 
--- a stream has one message in part at most
-pub in_part_streams : (v : SenderView) → in_part v ≤ v.streams
-in_part_streams v = one_at_most (continued v.plan) v.streams
+    next_counts : (y : Entry) → one_if_some (next_part v.plan y) ≡ one_if_rest (rest_after y (entry_message v.plan y))
+    next_counts (End l n) = refl
+    next_counts (Part l n m) = by_more (nat_lt (suc m) (length (fragments_in (entry_message v.plan (Part l n m)))))
+      where
+        by_more : (b : Bool) → one_if_some (when b (Part l n (suc m))) ≡ one_if_rest (when b (record { entry = Part l n (suc m); message = entry_message v.plan (Part l n m) }))
+        by_more true = refl
+        by_more false = refl

@@ -21,3 +21,4 @@ pub mod ExpireLemmas
 pub mod ExpireKept
 pub mod GoingOnLemmas
 pub mod AssignedKept
+pub mod RoomLemmas
