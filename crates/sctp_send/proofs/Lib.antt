@@ -22,3 +22,4 @@ pub mod ExpireKept
 pub mod GoingOnLemmas
 pub mod AssignedKept
 pub mod RoomLemmas
+pub mod ChunkLemmas
