@@ -41,7 +41,7 @@ begun_track q d t = record (counted_in q.lane.kind t) { rest = when (nat_lt d (l
 lane_of_kind : (l : Lane) (k : Kind) → l.kind ≡ k → l ≡ record { stream = l.stream; kind = k }
 lane_of_kind l k is = ap (λ (x : Kind). record { stream = l.stream; kind = x }) is
 
-number_is : (v : SenderView) (l : Lane) → number_in l.kind (track_here v l.stream) ≡ length (v.plan.messages l)
+pub number_is : (v : SenderView) (l : Lane) → number_in l.kind (track_here v l.stream) ≡ length (v.plan.messages l)
 number_is v l = by_kind l.kind refl
   where
     by_kind : (k : Kind) → l.kind ≡ k → number_in k (track_here v l.stream) ≡ length (v.plan.messages l)

@@ -26,7 +26,7 @@ items_behind : (v : SenderView) (i from : ℕ) (es : List Entry) → i < from �
 items_behind v i from [] low = refl
 items_behind v i from (e ∷ es) low = rw (item_other v i from e (λ same. omega arith), items_behind v i (suc from) es (omega arith)) refl
 
-items_sent : (v : SenderView) (i from at : ℕ) (es : List Entry) (d : Item) → i ≡ from + at → at < length es
+pub items_sent : (v : SenderView) (i from at : ℕ) (es : List Entry) (d : Item) → i ≡ from + at → at < length es
     → items_from (with_sent v i) from es ≡ set (items_from v from es) at (gone_item (get_or (items_from v from es) at d))
 items_sent v i from at [] d is low = absurd (omega arith)
 items_sent v i from zero (e ∷ es) d is low =

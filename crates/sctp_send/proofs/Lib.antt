@@ -20,3 +20,6 @@ pub mod AssignLemmas
 pub mod ExpireLemmas
 pub mod ExpireKept
 pub mod GoingOnLemmas
+pub mod AssignedKept
+pub mod RoomLemmas
+pub mod ChunkLemmas

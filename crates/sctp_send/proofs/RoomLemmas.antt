@@ -1,0 +1,126 @@
+-- Whether the next wish may go, by what is kept: room in the packet, bytes in flight, and the window.
+use Rattle.std.proofs.Common.{◌≡◌, ℕ, suc, ◌+◌, ◌-◌, ◌<◌, ◌≤◌, List, [], ◌∷◌, ◌++◌, length, drop, Bool, true, false, Option, Some, None, refl, sym, ap, ◌∙◌, arith}
+use Rattle.std.specs.Prelude.{nat_le, ◌==◌, not, ◌&&◌, ◌||◌, if◌then◌else◌}
+use Rattle.std.proofs.lemmas.Bool.Decides.{nat_tests}
+use Rattle.sctp_model.specs.Limits.{WINDOW}
+use Rattle.sctp_model.specs.Format.{Format}
+use Rattle.sctp_model.specs.Chunk.{ChunkMeaning, size_of_chunk}
+use Rattle.sctp_model.specs.Packet.{size_of_chunks, size_of_packet}
+use Rattle.sctp_model.specs.Plan.{Entry}
+use Rattle.sctp_model.specs.SenderView.{SenderView}
+use Rattle.sctp_model.specs.sender.Entries.{bytes_in, sum_from, flight_of, in_flight, in_part}
+use Rattle.sctp_model.specs.sender.Assigning.{assigned}
+use Rattle.sctp_model.specs.sender.Readers.{outstanding}
+use Rattle.sctp_model.specs.sender.Filling.{Wish, standing, newcomer, bytes_of_wish, chunk_of, room_of, may_go, goes}
+use Rattle.sctp_model.specs.sender.Reached.{IsReached}
+use Rattle.sctp_model.proofs.sender.WishCases.{IsAssigned, Whole, Begun, Continued, assigned_cases}
+use Rattle.sctp_model.proofs.sender.FillLaws.{room_some, room_fits, goes_parts}
+use Rattle.sctp_model.proofs.sender.Bounds.{is_bounded}
+use Rattle.sctp_model.proofs.sender.MarkLaws.{is_marked_well}
+use Rattle.sctp_model.proofs.sender.FlightLaws.{flight_above, flight_assigned}
+use Rattle.sctp_model.proofs.sender.OwedLaws.{is_windowed}
+use Rattle.sctp_packet.specs.Draft.{Draft, room_in, has_room, with_chunks}
+use Rattle.sctp_send.specs.SenderKept.{Item, Kept}
+use Rattle.sctp_send.specs.SenderStands.{items_from, Keeps}
+
+-- ---- room in the packet
+
+size_joined : (ms : List ChunkMeaning) (m : ChunkMeaning) → size_of_chunks (ms ++ m ∷ []) ≡ size_of_chunks ms + size_of_chunk m
+size_joined [] m = omega arith
+size_joined (x ∷ ms) m = let rest = size_joined ms m in omega arith
+
+-- a chunk that takes some room fits where there is so much room
+fits_room : (d : Draft) (m : ChunkMeaning) → 0 < size_of_chunk m → has_room d m ≡ nat_le (size_of_chunk m) (room_in d)
+fits_room d m some = let more = size_joined d.chunks m in same d.limit (size_of_chunks d.chunks) (size_of_chunk m) (size_of_packet (d.chunks ++ m ∷ [])) some (omega arith)
+  where
+    same : (limit old new all : ℕ) → 0 < new → all ≡ 12 + (old + new) → nat_le all limit ≡ nat_le new (limit - (12 + old))
+    same limit old new all p is = rw is (grind (arith, nat_tests))
+
+pub has_room_is : (f : Format) (d : Draft) (w : Wish) → has_room d (chunk_of f w) ≡ nat_le (room_of f w) (room_in d)
+has_room_is f d w = fits_room d (chunk_of f w) (room_some f w)
+
+-- what is left behind a chunk
+pub room_more : (d : Draft) (m : ChunkMeaning) → room_in (with_chunks d (m ∷ [])) ≡ room_in d - size_of_chunk m
+room_more d m = let more = size_joined d.chunks m in omega arith
+
+-- where no room is left nothing may go
+pub goes_nowhere : (f : Format) (room : ℕ) (v : SenderView) → room ≡ 0 → goes f room v ≡ None
+goes_nowhere f room v none = by_goes (goes f room v) refl
+  where
+    by_goes : (o : Option Wish) → goes f room v ≡ o → o ≡ None
+    by_goes None is = refl
+    by_goes (Some w) is =
+        let fits = room_fits f room w (goes_parts f room v w is).1 in
+        let some = room_some f w in
+        absurd (omega (arith, fits, some, none))
+
+-- ---- bytes in flight
+
+-- the data of an item
+abbrev pub item_bytes : Item → List ℕ
+item_bytes x = bytes_in x.entry x.message
+
+-- how many bytes of it are in flight
+abbrev pub item_weight : Item → ℕ
+item_weight x = if not x.marked && (x.sent && (not x.covered && not x.given_up)) then length (item_bytes x) else 0
+
+-- and of all items
+abbrev pub item_flight : List Item → ℕ
+item_flight [] = 0
+item_flight (x ∷ xs) = item_weight x + item_flight xs
+
+-- nothing is in flight, or the peer's window has room for these bytes too
+abbrev pub lets_flow : (flight bytes rwnd : ℕ) → Bool
+lets_flow flight bytes rwnd = (flight == 0) || nat_le (flight + bytes) rwnd
+
+items_fly : (v : SenderView) (i : ℕ) (es : List Entry) → item_flight (items_from v i es) ≡ sum_from (flight_of v) i es
+items_fly v i [] = refl
+items_fly v i (e ∷ es) = ap (λ (n : ℕ). flight_of v i e + n) (items_fly v (suc i) es)
+
+pub flight_kept : (f : Format) (s : Kept) (v : SenderView) → Keeps f s v → in_flight v ≡ item_flight s.items
+flight_kept f s v k = flight_above f v k.reached ∙ sym (items_fly v (suc v.cum) (drop v.cum v.plan.entries)) ∙ ap item_flight (sym k.holds.items)
+
+-- ---- the tests in the order of the code
+
+-- a view that calls reach has no more outstanding than the window holds
+within_window : (f : Format) (v : SenderView) → IsReached f v → nat_le (outstanding v) WINDOW ≡ true
+within_window f v h = let most = is_windowed f v h in let low = (is_bounded f v h).within in test (length v.plan.entries - v.cum + in_part v) WINDOW (omega arith)
+  where
+    test : (a b : ℕ) → a ≤ b → nat_le a b ≡ true
+    test a b le = grind (arith, nat_tests)
+
+and_true : (b : Bool) → (b && true) ≡ b
+and_true true = refl
+and_true false = refl
+
+-- a repeat needs room alone
+pub go_marked : (f : Format) (s : Kept) (v : SenderView) (room i : ℕ) → Keeps f s v → v.marked i ≡ true → may_go f room (standing v i) ≡ nat_le (room_of f (standing v i)) room
+go_marked f s v room i k on = rw ((is_marked_well f v k.reached).sent i on, within_window f v k.reached) (and_true (nat_le (room_of f (standing v i)) room))
+
+-- what has its index and never went out must be let flow, too
+pub go_unsent : (f : Format) (s : Kept) (v : SenderView) (room i : ℕ) → Keeps f s v → v.sent i ≡ false
+    → may_go f room (standing v i) ≡ (nat_le (room_of f (standing v i)) room && lets_flow (item_flight s.items) (length (bytes_of_wish (standing v i))) s.rwnd)
+go_unsent f s v room i k off =
+    let flight = flight_kept f s v k in
+    let rwnd = k.holds.rwnd in
+    rw (off, within_window f v k.reached, ← flight, rwnd) (ap (λ (b : Bool). nat_le (room_of f (standing v i)) room && b) (and_true (lets_flow (in_flight v) (length (bytes_of_wish (standing v i))) v.rwnd)))
+
+-- an assignment sends nothing, and says nothing of the peer
+record IsQuiet (v u : SenderView) : Type 0 where
+  sent : u.sent ≡ v.sent
+  rwnd : u.rwnd ≡ v.rwnd
+
+is_quiet : (f : Format) (v u : SenderView) → IsAssigned v f u → IsQuiet v u
+is_quiet _ v _ (Whole q rest is) = record { sent = refl; rwnd = refl }
+is_quiet _ v _ (Begun j q lt idle first) = record { sent = refl; rwnd = refl }
+is_quiet _ v _ (Continued j e lt on) = record { sent = refl; rwnd = refl }
+
+-- what is assigned next must leave no more outstanding than the window holds
+pub go_new : (f : Format) (s : Kept) (v u : SenderView) (room : ℕ) → Keeps f s v → assigned f v ≡ Some u
+    → may_go f room (newcomer v u) ≡ (nat_le (room_of f (newcomer v u)) room && (lets_flow (item_flight s.items) (length (bytes_of_wish (newcomer v u))) s.rwnd && nat_le (outstanding u) WINDOW))
+go_new f s v u room k is =
+    let quiet = is_quiet f v u (assigned_cases f v u is) in
+    let off : u.sent (suc (length v.plan.entries)) ≡ false = ap (λ (g : ℕ → Bool). g (suc (length v.plan.entries))) quiet.sent ∙ (is_bounded f v k.reached).unsent (suc (length v.plan.entries)) (omega arith) in
+    let flight : in_flight u ≡ item_flight s.items = flight_assigned f v u k.reached is ∙ flight_kept f s v k in
+    let rwnd : u.rwnd ≡ s.rwnd = quiet.rwnd ∙ sym k.holds.rwnd in
+    rw (off, flight, rwnd) refl
