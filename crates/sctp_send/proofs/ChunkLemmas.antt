@@ -1,5 +1,5 @@
 -- The chunk of the fragment that goes out, by its item: what it says, which bytes it has, and that it can be written.
-use Rattle.std.proofs.Common.{◌≡◌, ℕ, zero, suc, ◌+◌, ◌*◌, ◌<◌, ◌≤◌, ◌^◌, List, [], ◌∷◌, ◌++◌, length, map, get_or, take, drop, Bool, true, false, Option, Some, None, refl, sym, ap, ◌∙◌, subst, arith, length-drop}
+use Rattle.std.proofs.Common.{◌≡◌, ℕ, zero, suc, ◌+◌, ◌*◌, ◌<◌, ◌≤◌, ◌^◌, List, [], ◌∷◌, ◌++◌, length, map, get_or, take, drop, Bool, true, false, Option, Some, refl, sym, ap, ◌∙◌, subst, arith}
 use Rattle.std.specs.Prelude.{slice_get, slice_index_or, unwrap_or, nat_lt, ◌==◌, if◌then◌else◌}
 use Rattle.std.specs.Int.{div_ceil}
 use Rattle.std.proofs.Math.Nat.{mul-le-mul_right}
@@ -8,14 +8,12 @@ use Rattle.std.proofs.lemmas.Grind.{div_ceil_times}
 use Rattle.std.proofs.lemmas.List.{length-take}
 use Rattle.std.proofs.lemmas.Bool.Decides.{nat_tests}
 use Rattle.sctp_model.specs.Format.{Format, Plain, Interleaved, Kind, Ordered, Unordered, ordered_lane}
-use Rattle.sctp_model.specs.Chunk.{PieceMeaning, ChunkMeaning}
 use Rattle.sctp_model.specs.Framing.{data_chunk, wire_number}
 use Rattle.sctp_model.specs.Pieces.{word_of}
-use Rattle.sctp_model.specs.Serial.{tsn}
 use Rattle.sctp_model.specs.Plan.{Message, Entry, Part, End, entry_at}
 use Rattle.sctp_model.specs.SenderView.{Queued, SenderView}
 use Rattle.sctp_model.specs.sender.Words.{count_up}
-use Rattle.sctp_model.specs.sender.Entries.{entry_lane, entry_number, entry_fragment, entry_message, bytes_in, continued}
+use Rattle.sctp_model.specs.sender.Entries.{entry_lane, entry_number, entry_fragment, entry_message, bytes_in}
 use Rattle.sctp_model.specs.sender.Queueing.{fragment_of, cut}
 use Rattle.sctp_model.specs.sender.PieceSaid.{piece_said}
 use Rattle.sctp_model.specs.sender.Filling.{Wish, standing, newcomer, wished, bytes_of_wish, chunk_of}

@@ -23,3 +23,5 @@ pub mod GoingOnLemmas
 pub mod AssignedKept
 pub mod RoomLemmas
 pub mod ChunkLemmas
+pub mod FewLemmas
+pub mod NewlyLemmas

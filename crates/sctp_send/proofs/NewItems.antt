@@ -25,7 +25,7 @@ new_items l n m k (suc d) = new_item (Part l n k) m ∷ new_items l n m (suc k) 
 abbrev pub numbered : SenderView → Queued → (d : ℕ) → List Queued → (turn : ℕ) → SenderView
 numbered v q d rest turn = record v { plan = with_message v.plan q d; queue = rest; turn = turn }
 
-named_drop : (n : ℕ) (p : Plan) (c : ℕ) (es : List Entry) → AllNamed n p es → AllNamed n p (drop c es)
+pub named_drop : (n : ℕ) (p : Plan) (c : ℕ) (es : List Entry) → AllNamed n p es → AllNamed n p (drop c es)
 named_drop n p zero es h = h
 named_drop n p (suc c) [] h = h
 named_drop n p (suc c) (e ∷ es) h = named_drop n p c es h.1
