@@ -11,3 +11,4 @@ pub mod OneForward
 pub mod ForwardLemmas
 pub mod SkipLemmas
 pub mod receiver
+pub mod sender

@@ -1,5 +1,5 @@
-//! The definitions of `sctp_model`, computed: a plain, slow program for each definition that is a function, with the
-//! definition itself as its contract, and tests that run it on examples written out by hand.
+//! The definitions of `sctp_model`, computed: a plain, slow program for each definition that is a relation, with the
+//! definition itself as its contract, and examples written out by hand.
 //!
 //! Nothing here is part of an association. It shows that the definitions can be computed, and that they say what was meant.
 #![tactic(auto)]
@@ -23,6 +23,6 @@ pub use receiver_steps::{
     forwards_are_computed, pieces_are_computed, runs_are_computed,
     the_cumulative_index_is_computed, wholes_are_computed,
 };
-pub use sender_readers::{the_forward_is_computed, the_point_is_computed};
+pub use sender_readers::{the_fill_is_computed, the_forward_is_computed, the_point_is_computed};
 pub use whole::{whole_number, whole_with};
 pub use words::{Entry, Format, Kind, Lane, MessageName, Sender};

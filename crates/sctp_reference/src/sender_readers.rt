@@ -2,7 +2,13 @@
 //!
 //! No function here does anything: each carries a law as its contract.
 
-ghost use Rattle.sctp_reference.specs.readers.ReaderLaws.{ForwardIsComputed, PointIsComputed};
+ghost use Rattle.sctp_reference.specs.readers.ReaderLaws.{FillIsComputed, FillIsOne, ForwardIsComputed, PointIsComputed};
+
+/// FILL of every view and room is the one that is computed (RFC 9260, 6.1).
+pub fn the_fill_is_computed()
+    ensures is { FillIsComputed }
+    ensures only { FillIsOne }
+{}
 
 /// The point of every view is the one that is computed (RFC 3758, 3.5).
 pub fn the_point_is_computed()

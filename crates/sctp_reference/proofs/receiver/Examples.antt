@@ -1,10 +1,11 @@
--- Small receivers, computed: chunks over the wraps, fragments of two messages, a dishonest pair, FORWARDs over what is not whole, blocks.
+-- Small receivers, computed: chunks over the wraps, fragments of two messages, a dishonest pair, room to the last byte, FORWARDs over what is not
+-- whole, blocks.
 use Rattle.std.proofs.Common.{◌≡◌, ℕ, Bool, true, false, ◌||◌, ◌==◌, List, [], ◌∷◌, map, Option, Some, None, refl}
 use Rattle.sctp_model.specs.Chunk.{PieceMeaning, SkipMeaning, ForwardMeaning}
 use Rattle.sctp_model.specs.Format.{Format, Plain, Interleaved}
 use Rattle.sctp_model.specs.Pieces.{Piece}
-use Rattle.sctp_model.specs.ReceiverView.{Handed, ReceiverView, fresh_receiver}
-use Rattle.sctp_model.specs.receiver.PieceTaken.{Duplicate, answer_to}
+use Rattle.sctp_model.specs.ReceiverView.{Handed, ReceiverView, fresh_receiver, held_bytes, room_left}
+use Rattle.sctp_model.specs.receiver.PieceTaken.{Duplicate, Passed, NoRoom, Taken, answer_to}
 use Rattle.sctp_model.specs.receiver.ForwardTaken.{OutOfDate, forward_answer}
 use Rattle.sctp_reference.specs.receiver.Steps.{cumulative, piece_step, forward_step}
 use Rattle.sctp_reference.specs.receiver.Runs.{all_runs}
@@ -96,6 +97,31 @@ pair_due = takes Plain pair_came (chunk false true true 1 0 7 1)
 
 lower_counts : (texts (pair_due.waiting 0) ≡ (1 ∷ []) ∷ (2 ∷ []) ∷ []) × (pair_due.kept ≡ [])
 lower_counts = (refl, refl)
+
+-- ---- room: what is kept and what waits for the user fill the buffer to its last byte
+
+-- two bytes wait and one is kept, of four
+abbrev three_held : ReceiverView
+three_held = takes Plain (takes Plain (fresh_receiver 1 1 4) (record (chunk false true true 1 0 7 1) { bytes = 1 ∷ 2 ∷ [] })) (chunk false true true 3 2 7 3)
+
+-- one byte more fills it; two don't fit, and leave all as it was
+abbrev two_more : PieceMeaning
+two_more = record (chunk false true true 4 3 7 4) { bytes = 4 ∷ 5 ∷ [] }
+
+one_fits : (held_bytes three_held ≡ 3) × (answer_to Plain three_held 1 (chunk false true true 4 3 7 4) ≡ Taken) × (answer_to Plain three_held 1 two_more ≡ NoRoom) × (takes Plain three_held two_more ≡ three_held)
+one_fits = (refl, refl, refl, refl)
+
+-- then not a byte more fits, also of the message that is due; what came again, or is waited for no longer, is told before
+abbrev four_held : ReceiverView
+four_held = takes Plain three_held (chunk false true true 4 3 7 4)
+
+none_fits : (room_left four_held ≡ 0) × (answer_to Plain four_held 1 (chunk false true true 2 1 7 2) ≡ NoRoom) × (answer_to Plain four_held 1 (chunk false true true 4 3 7 4) ≡ Duplicate)
+    × (answer_to Plain four_held 1 (chunk false true true 2 0 7 2) ≡ Passed)
+none_fits = (refl, refl, refl, refl)
+
+-- when the user has taken what waits, the missing one fits, and all is due
+due_again : texts ((takes Plain (record four_held { waiting = λ s. [] }) (chunk false true true 2 1 7 2)).waiting 0) ≡ (2 ∷ []) ∷ (3 ∷ []) ∷ (4 ∷ []) ∷ []
+due_again = refl
 
 -- ---- FORWARDs over what is not whole
 

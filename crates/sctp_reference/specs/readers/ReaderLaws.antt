@@ -1,10 +1,20 @@
--- What a sender's functions compute is what the relations say: the point, and the FORWARD up to it.
+-- What a sender's functions compute is what the relations say: FILL, the point, and the FORWARD up to it.
+use Rattle.std.specs.Prelude.{◌≡◌, ℕ, List}
 use Rattle.sctp_model.specs.Format.{Format}
 use Rattle.sctp_model.specs.SenderView.{SenderView, IsPoint}
 use Rattle.sctp_model.specs.Forward.{IsForward}
+use Rattle.sctp_model.specs.sender.Filling.{Wish, IsFill, fill}
 use Rattle.sctp_model.specs.sender.Readers.{point}
 use Rattle.sctp_model.specs.sender.Forwarding.{forward_of}
 use Rattle.sctp_model.specs.sender.Reached.{IsReached}
+
+-- of every view and room, the longest list of wishes that follow each other
+abbrev pub FillIsComputed : Type 0
+FillIsComputed = (f : Format) (v : SenderView) (room : ℕ) → IsFill f v room (fill f room v).wishes (fill f room v).view
+
+-- and there is no other
+abbrev pub FillIsOne : Type 0
+FillIsOne = (f : Format) (v u : SenderView) (room : ℕ) (ws : List Wish) → IsFill f v room ws u → (ws ≡ (fill f room v).wishes) × (u ≡ (fill f room v).view)
 
 -- the point of every view
 abbrev pub PointIsComputed : Type 0
