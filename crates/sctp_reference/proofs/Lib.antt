@@ -12,3 +12,4 @@ pub mod ForwardLemmas
 pub mod SkipLemmas
 pub mod receiver
 pub mod sender
+pub mod calls

@@ -7,4 +7,5 @@ pub mod Sender
 pub mod Standing
 pub mod receiver
 pub mod readers
+pub mod calls
 pub mod inner

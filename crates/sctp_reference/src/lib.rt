@@ -10,6 +10,7 @@ mod giving;
 mod pieces;
 mod points;
 mod receiver_steps;
+mod sender_calls;
 mod sender_readers;
 mod whole;
 mod words;
@@ -23,6 +24,7 @@ pub use receiver_steps::{
     forwards_are_computed, pieces_are_computed, runs_are_computed,
     the_cumulative_index_is_computed, wholes_are_computed,
 };
+pub use sender_calls::{sacks_are_taken, shutdowns_are_taken};
 pub use sender_readers::{the_fill_is_computed, the_forward_is_computed, the_point_is_computed};
 pub use whole::{whole_number, whole_with};
 pub use words::{Entry, Format, Kind, Lane, MessageName, Sender};

@@ -1,0 +1,2 @@
+pub mod SackCases
+pub mod SackTold

@@ -1,0 +1,2 @@
+pub mod Sacks
+pub mod SackLaws
