@@ -10,6 +10,3 @@ mod numbers;
 pub use data::DataFraming;
 pub use framing::Framing;
 pub use idata::IDataFraming;
-
-#[cfg(test)]
-mod tests;

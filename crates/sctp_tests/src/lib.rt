@@ -20,6 +20,8 @@ mod first_receiver;
 #[cfg(test)]
 mod first_sender;
 #[cfg(test)]
+mod framing;
+#[cfg(test)]
 mod handing_over;
 #[cfg(test)]
 mod lines;

@@ -1,6 +1,6 @@
-//! Each method once, at both formats, called through the trait.
+//! Each method of the formats once, at both of them, called through the trait.
 
-use crate::{DataFraming, Framing, IDataFraming};
+use sctp_framing::{DataFraming, Framing, IDataFraming};
 use sctp_wire::{Chunk, Forward, Piece, SkipForm, Skips};
 
 /// What a sender writes for an ordered and for an unordered fragment, through the trait alone.
