@@ -4,7 +4,9 @@ use Rattle.sctp_safety.specs.Always.{SafeAlways, OrderlyAlways}
 use Rattle.sctp_safety.proofs.OrderlyPlan.{orderly_when_arranged}
 use Rattle.sctp_safety.specs.Way.{Way, Move, Send, Name, Time_passes, Number, Continue, Withdraw, Abandon, Mark, Change_sending, Sack_comes, Shutdown_comes, Put_piece, Put_forward, Put_sack, Put_shutdown, Keep_piece, Drop_piece, Forward_comes, Hand_over, Hand_unordered, Pass_over, Drop_below_next, Let_go, Take, Note_duplicates, Step, Run}
 use Rattle.sctp_safety.proofs.Facts.{Good}
-use Rattle.sctp_safety.proofs.SenderMoves.{kept_by-Send, kept_by-Name, kept_by-Time_passes, kept_by-Number, kept_by-Continue, kept_by-Withdraw, kept_by-Abandon, kept_by-Mark, kept_by-Change_sending, kept_by-Sack_comes, kept_by-Shutdown_comes}
+use Rattle.sctp_safety.proofs.UserMoves.{kept_by-Send, kept_by-Name, kept_by-Time_passes}
+use Rattle.sctp_safety.proofs.NumberMoves.{kept_by-Number, kept_by-Continue, kept_by-Mark}
+use Rattle.sctp_safety.proofs.SenderMoves.{kept_by-Withdraw, kept_by-Abandon, kept_by-Change_sending, kept_by-Sack_comes, kept_by-Shutdown_comes}
 use Rattle.sctp_safety.proofs.BagMoves.{kept_by-Put_piece, kept_by-Put_forward, kept_by-Put_sack, kept_by-Put_shutdown}
 use Rattle.sctp_safety.proofs.PieceMoves.{kept_by-Keep_piece, kept_by-Drop_piece}
 use Rattle.sctp_safety.proofs.ForwardMove.{kept_by-Forward_comes}

@@ -12,7 +12,8 @@ use Rattle.sctp_safety.specs.Way.{Way, Number, Continue, IsAllClosed, HasNone, w
 use Rattle.sctp_safety.specs.SenderLaws.{HasPart, IsInOrder, IsMoved}
 use Rattle.sctp_safety.proofs.Basics.{at_lane_same, slice_get-end, slice_get-within, item_at-left, item_at-right, item_at-cases}
 use Rattle.sctp_safety.proofs.Facts.{Good}
-use Rattle.sctp_safety.proofs.PlanLemmas.{grown, parts_get, renamed}
+use Rattle.sctp_safety.proofs.PlanGrows.{grown}
+use Rattle.sctp_safety.proofs.PlanLemmas.{parts_get, renamed}
 use Rattle.sctp_safety.proofs.Taken.{leads_on, leads_by}
 use Rattle.sctp_safety.proofs.Searches.{IsFirstMeant, first_meant}
 use Rattle.sctp_safety.proofs.InPart.{AreEndsLast, idle_closed, GoesOnWith, goes_on_with}

@@ -9,7 +9,8 @@ use Rattle.sctp_model.specs.ReceiverView.{ReceiverView}
 use Rattle.sctp_safety.specs.Way.{Way, IsSkippedBy, Forward_comes, Step}
 use Rattle.sctp_safety.proofs.Facts.{IsDone, IsLost, IsLostBy, IsRetired, IsSendersForward, MayPass, Held, Good}
 use Rattle.sctp_safety.proofs.Basics.{at_lane_cases}
-use Rattle.sctp_safety.proofs.Later.{Learns, Grows-refl, lost-later, IsDone-later, IsRetired-later, MayPass-later, IsAllSeen-later, by_receiver}
+use Rattle.sctp_safety.proofs.Later.{Learns, Grows-refl, lost-later, IsDone-later, IsRetired-later, MayPass-later, IsAllSeen-later}
+use Rattle.sctp_safety.proofs.MovesBySide.{by_receiver}
 use Rattle.sctp_safety.proofs.Settled.{settled_on}
 
 -- a lane's number after one skip more

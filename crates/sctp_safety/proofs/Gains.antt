@@ -7,7 +7,8 @@ use Rattle.sctp_model.specs.Plan.{Message, Entry, Part, End, Plan, entry_at, mes
 use Rattle.sctp_safety.specs.Way.{IsAllClosed}
 use Rattle.sctp_safety.proofs.Basics.{at_lane_cases, at_lane_same, slice_get-left, slice_get-end, slice_get-push, slice_get-within, item_at-left, item_at-within, item_at-cases, item_at-right}
 use Rattle.sctp_safety.proofs.Facts.{IsOrderedPlan}
-use Rattle.sctp_safety.proofs.PlanLemmas.{parts_get, parts_at, assigned_below, grown, IsLatest, arranged_more}
+use Rattle.sctp_safety.proofs.PlanLemmas.{parts_get, parts_at, assigned_below}
+use Rattle.sctp_safety.proofs.PlanGrows.{grown, IsLatest, arranged_more}
 
 -- a message that is not closed is the latest of its stream
 pub latest_open : (f : Format) (p : Plan) → IsOrderedPlan f p → (l : Lane) (n : ℕ) (m : Message) → message_at p l n ≡ Some m →

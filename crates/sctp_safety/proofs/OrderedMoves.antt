@@ -12,7 +12,7 @@ use Rattle.sctp_model.specs.Safe.{WasHanded}
 use Rattle.sctp_safety.specs.Way.{Way, Hand_over, Pass_over, Drop_below_next, Step}
 use Rattle.sctp_safety.proofs.Facts.{IsOver, IsAllSeen, MayPass, Held, Good}
 use Rattle.sctp_safety.proofs.Basics.{at_cases, at_same, Has-filter, Has-filtered, filter_is, same_lane-true, same_lane-refl}
-use Rattle.sctp_safety.proofs.Later.{by_receiver}
+use Rattle.sctp_safety.proofs.MovesBySide.{by_receiver}
 use Rattle.sctp_safety.proofs.OneMessage.{IsOneMessage, IsGathered, honest_whole, number_counts}
 use Rattle.sctp_safety.proofs.Settled.{ordered_numbered, number_is, one_number, over_unless_whole}
 use Rattle.sctp_safety.proofs.Handing.{after, after-Learns, after_held, same_told, more_told, more_waiting, was_new, still_handed, which_handed}
@@ -34,7 +34,19 @@ not_below s n x h e l =
     absurd (grind (arith, a, b))
 
 -- The next number of a stream is done with, and what lies below goes.
-module _ (f : Format) (a : SenderView) (r : ReceiverView) (s : ℕ) (held : Held f a r) where
+module _ (w : Way) (s : ℕ) (g : Good w) where
+  abbrev f : Format
+  f = w.format
+
+  abbrev a : SenderView
+  a = w.sender
+
+  abbrev r : ReceiverView
+  r = w.receiver
+
+  abbrev held : Held f a r
+  held = g.held
+
   abbrev next : ℕ → ℕ
   next = at r.next s (suc (r.next s))
 
@@ -89,158 +101,119 @@ module _ (f : Format) (a : SenderView) (r : ReceiverView) (s : ℕ) (held : Held
           let m : n < next s = subst (λ (b : ℕ). n < b) (sym d) (omega arith) in
           inr (subst (λ (y : Lane). IsOver f a (after r kept next waiting) y n) (sym lane) (over m (told s n m)))
 
+  hands_over : (v : Way) (x : Piece) (xs : List Piece) → Step w (Hand_over s x xs) v → Good v
+  hands_over v x xs ((whole, within, (lane, number)), e) = subst Good (sym e)
+      (by_receiver w (after r kept next hs) g (after-Learns f a r kept next hs forth)
+      (after_held f a r kept next hs forth held fewer (gone hs done) fresh
+      (still_handed f a r kept next s x xs one stream)
+      (more_told f a r kept next s x xs one stream g.arranged held within forth place done)))
+    where
+      one : IsOneMessage f a.plan x xs
+      one = honest_whole f a.plan g.arranged x xs (λ y h. held.kept y (within y h)) whole
+
+      stream : x.lane.stream ≡ s
+      stream = ap (λ (l : Lane). l.stream) lane
+
+      hs : ℕ → List Handed
+      hs = more_waiting f a r kept next s x xs one stream
+
+      count : one.number ≡ r.next s
+      count = let c = one.counted (ordered_numbered f x.lane.kind (ap (λ (l : Lane). l.kind) lane)) in cc (number, c)
+
+      Past : ℕ → ℕ → Type 0
+      Past u n = WasHanded a.plan (after r kept next hs) (ordered_lane u) n ⊎ (a.abandoned (ordered_lane u) n ≡ true)
+
+      before : (u n : ℕ) → n < r.next u → Past u n
+      before u n l = go (held.told.passed u n l)
+        where
+          go : WasHanded a.plan r (ordered_lane u) n ⊎ (a.abandoned (ordered_lane u) n ≡ true) → Past u n
+          go (inl h) = inl (still_handed f a r kept next s x xs one stream (ordered_lane u) n h)
+          go (inr h) = inr h
+
+      now : Past s (r.next s)
+      now = inl (subst (λ (n : ℕ). WasHanded a.plan (after r kept next hs) (ordered_lane s) n) count
+          (subst (λ (l : Lane). WasHanded a.plan (after r kept next hs) l one.number) lane (was_new f a r kept next s x xs one stream)))
+
+      done : (u n : ℕ) → n < next u → Past u n
+      done = passed Past before now
+
+      place : x.lane.kind ≡ Ordered → (n : ℕ) × (x.number ≡ Some n) × (r.next s ≤ n) × (n < next s)
+      place k = (r.next s, number, le_refl (r.next s), let d = at_same r.next s (suc (r.next s)) in omega arith)
+
+      fresh : (y : Piece) (n k : ℕ) → Has kept y → entry_at a.plan y.index ≡ Some (Part y.lane n k) → WasHanded a.plan (after r kept next hs) y.lane n → ⊥
+      fresh y n k h here was = go (which_handed f a r kept next s x xs one stream y.lane n was)
+        where
+          go : WasHanded a.plan r y.lane n ⊎ ((y.lane ≡ x.lane) × (n ≡ one.number)) → ⊥
+          go (inl b) = held.fresh y n k (fewer y h) here b
+          go (inr (el, en)) =
+              let l : y.lane ≡ ordered_lane s = cc lane in
+              let c = counted y n k (fewer y h) here l in
+              not_of_next y h l (cc (count, c))
+
+  passes_over : (v : Way) → Step w (Pass_over s) v → Good v
+  passes_over v (skipped, not_whole, e) = subst Good (sym e)
+      (by_receiver w (after r kept next r.waiting) g (after-Learns f a r kept next r.waiting forth)
+      (after_held f a r kept next r.waiting forth held fewer (gone r.waiting done)
+      (λ y n k h. held.fresh y n k (fewer y h)) (λ l n h. h)
+      (same_told f a r kept next forth held.told done)))
+    where
+      Past : ℕ → ℕ → Type 0
+      Past u n = WasHanded a.plan r (ordered_lane u) n ⊎ (a.abandoned (ordered_lane u) n ≡ true)
+
+      over : IsOver f a r (ordered_lane s) (r.next s) → Past s (r.next s)
+      over (inl h) = inl h
+      over (inr h) = inr h.0
+
+      no_row : (x : IsAllSeen a.plan r (ordered_lane s) (r.next s)) → IsGathered f a.plan (ordered_lane s) (r.next s) x.message r.kept → ⊥
+      no_row x row =
+          let c = row.number in
+          let d = number_counts f (ordered_lane s) (r.next s) (ordered_numbered f Ordered refl) in
+          not_whole (row.head ∷ row.rest) (row.whole, row.within, (row.lane, cc))
+
+      now : MayPass a r (ordered_lane s) (r.next s) → Past s (r.next s)
+      now (inl h) = inr h
+      now (inr x) = over (over_unless_whole f a r g.arranged held (ordered_lane s) (r.next s) x (no_row x))
+
+      done : (u n : ℕ) → n < next u → Past u n
+      done = passed Past held.told.passed (now (held.skips (ordered_lane s) (r.next s) skipped))
+
+  drops_below : (v : Way) → Step w (Drop_below_next s) v → Good v
+  drops_below v e = subst Good (sym e)
+      (by_receiver w (after r ps r.next r.waiting) g (after-Learns f a r ps r.next r.waiting still)
+      (after_held f a r ps r.next r.waiting still held fewer_left gone_below (λ y n k h. held.fresh y n k (fewer_left y h)) (λ l n h. h)
+      (same_told f a r ps r.next still held.told held.told.passed)))
+    where
+      test : Piece → Bool
+      test y = not (is_below s (r.next s) y)
+
+      ps : List Piece
+      ps = without_below r.kept s (r.next s)
+
+      still : (u : ℕ) → r.next u ≤ r.next u
+      still u = le_refl (r.next u)
+
+      fewer_left : (y : Piece) → Has ps y → Has r.kept y
+      fewer_left y h = Has-filtered test r.kept y h
+
+      gone_below : (y : Piece) (n k : ℕ) → Has r.kept y → entry_at a.plan y.index ≡ Some (Part y.lane n k) → Has ps y ⊎ IsOver f a r y.lane n
+      gone_below y n k h here = go (below_or_not s (r.next s) y)
+        where
+          go : (test y ≡ true) ⊎ ((y.lane ≡ ordered_lane s) × IsNumberBelow (r.next s) y.number) → Has ps y ⊎ IsOver f a r y.lane n
+          go (inl b) = inl (Has-filter test r.kept y b h)
+          go (inr (lane, l)) =
+              let number = counted y n k h here lane in
+              let below = below_is (r.next s) n y.number number l in
+              inr (subst (λ (u : Lane). IsOver f a r u n) (sym lane) (over below (held.told.passed s n below)))
+            where
+              over : n < r.next s → WasHanded a.plan r (ordered_lane s) n ⊎ (a.abandoned (ordered_lane s) n ≡ true) → IsOver f a r (ordered_lane s) n
+              over b (inl was) = inl was
+              over b (inr dead) = inr (dead, inr (inr (refl, b)))
+
 pub kept_by-Hand_over : (w v : Way) (s : ℕ) (x : Piece) (xs : List Piece) → Good w → Step w (Hand_over s x xs) v → Good v
-kept_by-Hand_over w v s x xs g ((whole, within, (lane, number)), e) = subst Good (sym e)
-    (by_receiver w (after r ps up hs) g (after-Learns f a r ps up hs (forth f a r s held))
-    (after_held f a r ps up hs (forth f a r s held) held (fewer f a r s held) (gone f a r s held hs done) fresh
-    (still_handed f a r ps up s x xs one stream)
-    (more_told f a r ps up s x xs one stream g.arranged held within (forth f a r s held) place done)))
-  where
-    f : Format
-    f = w.format
-
-    a : SenderView
-    a = w.sender
-
-    r : ReceiverView
-    r = w.receiver
-
-    held : Held f a r
-    held = g.held
-
-    ps : List Piece
-    ps = without_below r.kept s (suc (r.next s))
-
-    up : ℕ → ℕ
-    up = at r.next s (suc (r.next s))
-
-    one : IsOneMessage f a.plan x xs
-    one = honest_whole f a.plan g.arranged x xs (λ y h. held.kept y (within y h)) whole
-
-    stream : x.lane.stream ≡ s
-    stream = ap (λ (l : Lane). l.stream) lane
-
-    hs : ℕ → List Handed
-    hs = more_waiting f a r ps up s x xs one stream
-
-    count : one.number ≡ r.next s
-    count = let c = one.counted (ordered_numbered f x.lane.kind (ap (λ (l : Lane). l.kind) lane)) in cc (number, c)
-
-    Past : ℕ → ℕ → Type 0
-    Past u n = WasHanded a.plan (after r ps up hs) (ordered_lane u) n ⊎ (a.abandoned (ordered_lane u) n ≡ true)
-
-    before : (u n : ℕ) → n < r.next u → Past u n
-    before u n l = go (held.told.passed u n l)
-      where
-        go : WasHanded a.plan r (ordered_lane u) n ⊎ (a.abandoned (ordered_lane u) n ≡ true) → Past u n
-        go (inl h) = inl (still_handed f a r ps up s x xs one stream (ordered_lane u) n h)
-        go (inr h) = inr h
-
-    now : Past s (r.next s)
-    now = inl (subst (λ (n : ℕ). WasHanded a.plan (after r ps up hs) (ordered_lane s) n) count
-        (subst (λ (l : Lane). WasHanded a.plan (after r ps up hs) l one.number) lane (was_new f a r ps up s x xs one stream)))
-
-    done : (u n : ℕ) → n < up u → Past u n
-    done = passed f a r s held Past before now
-
-    place : x.lane.kind ≡ Ordered → (n : ℕ) × (x.number ≡ Some n) × (r.next s ≤ n) × (n < up s)
-    place k = (r.next s, number, le_refl (r.next s), let d = at_same r.next s (suc (r.next s)) in omega arith)
-
-    fresh : (y : Piece) (n k : ℕ) → Has ps y → entry_at a.plan y.index ≡ Some (Part y.lane n k) → WasHanded a.plan (after r ps up hs) y.lane n → ⊥
-    fresh y n k h here was = go (which_handed f a r ps up s x xs one stream y.lane n was)
-      where
-        go : WasHanded a.plan r y.lane n ⊎ ((y.lane ≡ x.lane) × (n ≡ one.number)) → ⊥
-        go (inl b) = held.fresh y n k (fewer f a r s held y h) here b
-        go (inr (el, en)) =
-            let l : y.lane ≡ ordered_lane s = cc lane in
-            let c = counted f a r s held y n k (fewer f a r s held y h) here l in
-            not_of_next f a r s held y h l (cc (count, c))
+kept_by-Hand_over w v s x xs g = hands_over w s g v x xs
 
 pub kept_by-Pass_over : (w v : Way) (s : ℕ) → Good w → Step w (Pass_over s) v → Good v
-kept_by-Pass_over w v s g (skipped, not_whole, e) = subst Good (sym e)
-    (by_receiver w (after r ps up r.waiting) g (after-Learns f a r ps up r.waiting (forth f a r s held))
-    (after_held f a r ps up r.waiting (forth f a r s held) held (fewer f a r s held) (gone f a r s held r.waiting done)
-    (λ y n k h. held.fresh y n k (fewer f a r s held y h)) (λ l n h. h)
-    (same_told f a r ps up (forth f a r s held) held.told done)))
-  where
-    f : Format
-    f = w.format
-
-    a : SenderView
-    a = w.sender
-
-    r : ReceiverView
-    r = w.receiver
-
-    held : Held f a r
-    held = g.held
-
-    ps : List Piece
-    ps = without_below r.kept s (suc (r.next s))
-
-    up : ℕ → ℕ
-    up = at r.next s (suc (r.next s))
-
-    Past : ℕ → ℕ → Type 0
-    Past u n = WasHanded a.plan r (ordered_lane u) n ⊎ (a.abandoned (ordered_lane u) n ≡ true)
-
-    over : IsOver f a r (ordered_lane s) (r.next s) → Past s (r.next s)
-    over (inl h) = inl h
-    over (inr h) = inr h.0
-
-    no_row : (x : IsAllSeen a.plan r (ordered_lane s) (r.next s)) → IsGathered f a.plan (ordered_lane s) (r.next s) x.message r.kept → ⊥
-    no_row x row =
-        let c = row.number in
-        let d = number_counts f (ordered_lane s) (r.next s) (ordered_numbered f Ordered refl) in
-        not_whole (row.head ∷ row.rest) (row.whole, row.within, (row.lane, cc))
-
-    now : MayPass a r (ordered_lane s) (r.next s) → Past s (r.next s)
-    now (inl h) = inr h
-    now (inr x) = over (over_unless_whole f a r g.arranged held (ordered_lane s) (r.next s) x (no_row x))
-
-    done : (u n : ℕ) → n < up u → Past u n
-    done = passed f a r s held Past held.told.passed (now (held.skips (ordered_lane s) (r.next s) skipped))
+kept_by-Pass_over w v s g = passes_over w s g v
 
 pub kept_by-Drop_below_next : (w v : Way) (s : ℕ) → Good w → Step w (Drop_below_next s) v → Good v
-kept_by-Drop_below_next w v s g e = subst Good (sym e)
-    (by_receiver w (after r ps r.next r.waiting) g (after-Learns f a r ps r.next r.waiting still)
-    (after_held f a r ps r.next r.waiting still held fewer_left gone_below (λ y n k h. held.fresh y n k (fewer_left y h)) (λ l n h. h)
-    (same_told f a r ps r.next still held.told held.told.passed)))
-  where
-    f : Format
-    f = w.format
-
-    a : SenderView
-    a = w.sender
-
-    r : ReceiverView
-    r = w.receiver
-
-    held : Held f a r
-    held = g.held
-
-    test : Piece → Bool
-    test y = not (is_below s (r.next s) y)
-
-    ps : List Piece
-    ps = without_below r.kept s (r.next s)
-
-    still : (u : ℕ) → r.next u ≤ r.next u
-    still u = le_refl (r.next u)
-
-    fewer_left : (y : Piece) → Has ps y → Has r.kept y
-    fewer_left y h = Has-filtered test r.kept y h
-
-    gone_below : (y : Piece) (n k : ℕ) → Has r.kept y → entry_at a.plan y.index ≡ Some (Part y.lane n k) → Has ps y ⊎ IsOver f a r y.lane n
-    gone_below y n k h here = go (below_or_not s (r.next s) y)
-      where
-        go : (test y ≡ true) ⊎ ((y.lane ≡ ordered_lane s) × IsNumberBelow (r.next s) y.number) → Has ps y ⊎ IsOver f a r y.lane n
-        go (inl b) = inl (Has-filter test r.kept y b h)
-        go (inr (lane, l)) =
-            let number = counted f a r s held y n k h here lane in
-            let below = below_is (r.next s) n y.number number l in
-            inr (subst (λ (u : Lane). IsOver f a r u n) (sym lane) (over below (held.told.passed s n below)))
-          where
-            over : n < r.next s → WasHanded a.plan r (ordered_lane s) n ⊎ (a.abandoned (ordered_lane s) n ≡ true) → IsOver f a r (ordered_lane s) n
-            over b (inl was) = inl was
-            over b (inr dead) = inr (dead, inr (inr (refl, b)))
+kept_by-Drop_below_next w v s g = drops_below w s g v

@@ -12,7 +12,8 @@ use Rattle.sctp_model.specs.Safe.{WasHanded}
 use Rattle.sctp_safety.specs.Way.{Way, Keep_piece, Drop_piece, Step}
 use Rattle.sctp_safety.proofs.Facts.{IsDone, IsOver, IsSettled, MayPass, IsOrderedPlan, Held, Good}
 use Rattle.sctp_safety.proofs.Basics.{at_cases, at_same, at_other, lane_is}
-use Rattle.sctp_safety.proofs.Later.{Learns, Grows-refl, lost-later, IsRetired-later, MayPass-later, IsAllSeen-later, by_receiver}
+use Rattle.sctp_safety.proofs.Later.{Learns, Grows-refl, lost-later, IsRetired-later, MayPass-later, IsAllSeen-later}
+use Rattle.sctp_safety.proofs.MovesBySide.{by_receiver}
 use Rattle.sctp_safety.proofs.Framing.{part_fragment, part_by_fragment}
 use Rattle.sctp_safety.proofs.Settled.{ordered_numbered, all_numbered, number_is, one_number, settled_on, not_all_seen}
 use Rattle.sctp_safety.proofs.Numbers.{below_is, not_below_none}

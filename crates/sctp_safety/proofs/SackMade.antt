@@ -3,7 +3,6 @@ use Rattle.std.proofs.Common.{◌≡◌, ℕ, zero, suc, List, [], ◌∷◌, ta
 use Rattle.sctp_model.specs.Limits.{BLOCK_LIMIT}
 use Rattle.sctp_model.specs.Lists.{Has}
 use Rattle.sctp_model.specs.Chunk.{BlockMeaning, SackMeaning}
-use Rattle.sctp_model.specs.ReceiverView.{ReceiverView}
 use Rattle.sctp_model.specs.Acknowledgement.{Acknowledgement, IsRun}
 use Rattle.sctp_model.specs.receiver.SackMade.{first_taken}
 use Rattle.sctp_model.proofs.receiver.Idle.{still_idle}

@@ -10,7 +10,7 @@ use Rattle.sctp_model.specs.Safe.{IsSent, WasHanded, IsHeldWhole, IsInOrder, IsP
 use Rattle.sctp_safety.specs.Way.{Way}
 use Rattle.sctp_safety.proofs.Basics.{each_or, item_at-above, lane_is}
 use Rattle.sctp_safety.proofs.Facts.{IsLost, IsOver, IsSettled, Good}
-use Rattle.sctp_safety.proofs.BagMoves.{lost_at}
+use Rattle.sctp_safety.proofs.EntryLemmas.{lost_at}
 
 pub ordered_numbered : (f : Format) → is_numbered f Ordered ≡ true
 ordered_numbered Plain = refl

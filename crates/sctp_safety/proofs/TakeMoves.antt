@@ -9,7 +9,8 @@ use Rattle.sctp_model.specs.Safe.{IsRising, IsApart, WasHanded}
 use Rattle.sctp_safety.specs.Way.{Way, Take, Note_duplicates, Step, with_receiver}
 use Rattle.sctp_safety.proofs.Facts.{Held, Good}
 use Rattle.sctp_safety.proofs.Basics.{at_same, at_other}
-use Rattle.sctp_safety.proofs.Later.{Learns, Grows-refl, lost-later, IsRetired-later, MayPass-later, IsAllSeen-later, by_receiver}
+use Rattle.sctp_safety.proofs.Later.{Learns, Grows-refl, lost-later, IsRetired-later, MayPass-later, IsAllSeen-later}
+use Rattle.sctp_safety.proofs.MovesBySide.{by_receiver}
 use Rattle.sctp_safety.proofs.Settled.{settled_on}
 
 -- What is handed over stays the same, and so does all else but the duplicates.

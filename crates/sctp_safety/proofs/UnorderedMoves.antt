@@ -12,7 +12,7 @@ use Rattle.sctp_model.specs.Safe.{WasHanded}
 use Rattle.sctp_safety.specs.Way.{Way, Hand_unordered, Let_go, with_receiver, Step}
 use Rattle.sctp_safety.proofs.Facts.{IsDone, IsOver, IsRetired, MayPass, IsOrderedPlan, Held, Good}
 use Rattle.sctp_safety.proofs.Basics.{Has-filter, Has-filtered, filter_is, item_at-above, same_lane-true, same_lane-refl}
-use Rattle.sctp_safety.proofs.Later.{by_receiver}
+use Rattle.sctp_safety.proofs.MovesBySide.{by_receiver}
 use Rattle.sctp_safety.proofs.OneMessage.{IsOneMessage, honest_whole}
 use Rattle.sctp_safety.proofs.Settled.{all_numbered, number_is, one_number, one_message, over_unless_whole}
 use Rattle.sctp_safety.proofs.Handing.{after, after-Learns, after_held, same_told, more_told, more_waiting, was_new, still_handed, which_handed}

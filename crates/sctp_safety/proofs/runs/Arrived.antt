@@ -17,7 +17,7 @@ use Rattle.sctp_model.specs.Premises.{IsAllArrived}
 use Rattle.sctp_safety.specs.Way.{Way}
 use Rattle.sctp_safety.proofs.Basics.{lane_is, each_or, item_at-within, item_at-above}
 use Rattle.sctp_safety.proofs.Facts.{Good, IsLost, IsOver}
-use Rattle.sctp_safety.proofs.BagMoves.{lost_at}
+use Rattle.sctp_safety.proofs.EntryLemmas.{lost_at}
 use Rattle.sctp_safety.proofs.PlanLemmas.{message_of}
 use Rattle.sctp_safety.proofs.OneMessage.{whole_when_kept}
 use Rattle.sctp_safety.proofs.SafeWhenGood.{settled_at}
