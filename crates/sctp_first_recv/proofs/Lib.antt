@@ -5,3 +5,4 @@ mod LowestLemmas
 mod RoomLemmas
 mod SeenLemmas
 mod ReceiverSteps
+mod TakeSteps

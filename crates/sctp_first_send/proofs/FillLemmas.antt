@@ -11,7 +11,7 @@ use Rattle.sctp_model.specs.Packet.{size_of_chunks}
 use Rattle.sctp_wire.specs.Layouts.{Fits}
 use Rattle.sctp_wire.specs.chunks.Data.{IsDataPiece}
 use Rattle.sctp_first_send.specs.declared.sender.Filled.{Filled}
-use Rattle.sctp_first_send.specs.declared.sender.Waiting.{Waiting}
+use Rattle.sctp_first_send.specs.declared.waiting.Waiting.{Waiting}
 use Rattle.sctp_packet.specs.Draft.{Draft, room_in, has_room, with_chunks}
 use Rattle.sctp_first_send.specs.SenderFields.{waits_of, IsSmall}
 use Rattle.sctp_first_send.specs.SenderKept.{Waits, Kept}

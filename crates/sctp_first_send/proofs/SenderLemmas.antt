@@ -12,7 +12,7 @@ use Rattle.sctp_model.specs.Chunk.{padded}
 use Rattle.sctp_model.specs.first.Ends.{data_of, datas_of}
 use Rattle.sctp_first_send.specs.SenderFields.{IsSmall, AreFew}
 use Rattle.sctp_first_send.specs.SenderKept.{Waits, Kept}
-use Rattle.sctp_first_send.specs.declared.sender.Waiting.{Waiting}
+use Rattle.sctp_first_send.specs.declared.waiting.Waiting.{Waiting}
 use Rattle.sctp_first_send.specs.SenderStands.{queued_of, queue_of, numbered_on, AreNumbered, Keeps}
 use Rattle.sctp_first_send.specs.inner.Putting.{data_from, datas_from}
 

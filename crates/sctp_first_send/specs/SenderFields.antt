@@ -3,7 +3,7 @@ use Rattle.std.specs.Prelude.{ℕ, ◌+◌, ◌<◌, ◌≤◌, ◌^◌, List, l
 use Rattle.std.specs.List.{AllByRecursion}
 use Rattle.sctp_model.specs.first.Sending.{MESSAGE_LIMIT}
 use Rattle.sctp_first_send.specs.SenderKept.{Waits, Kept}
-use Rattle.sctp_first_send.specs.declared.sender.Waiting.{Waiting}
+use Rattle.sctp_first_send.specs.declared.waiting.Waiting.{Waiting}
 
 -- a message that waits, by its fields
 abbrev pub waits_of : Waiting → Waits

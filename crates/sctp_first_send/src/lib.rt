@@ -2,5 +2,6 @@
 #![tactic(auto)]
 
 mod sender;
+mod waiting;
 
 pub use sender::{Filled, SendFault, Sender, Ticket};

@@ -5,7 +5,8 @@ use Rattle.sctp_wire.specs.ChunkTree.{piece_meaning}
 use Rattle.sctp_first_recv.specs.ReceiverFields.{piece_of_kept, stream_of}
 use Rattle.sctp_first_recv.specs.ReceiverKept.{ReceiverKept}
 use Rattle.sctp_first_recv.specs.ReceiverStands.{ReceiverStands, KeepsView, stream_at}
-use Rattle.sctp_first_recv.proofs.ReceiverSteps.{stream-read, stream-written, stands-same, answer-duplicate, answer-passed, answer-taken}
+use Rattle.sctp_first_recv.proofs.TakeSteps.{stream-read, stream-written, stands-same}
+use Rattle.sctp_first_recv.proofs.ReceiverSteps.{answer-duplicate, answer-passed, answer-taken}
 use Rattle.sctp_first_recv.proofs.receiver.Receiver.on_data.Goals as goal
 
 pub returns-then-reached : goal.returns-then-reached

@@ -4,7 +4,7 @@ use Rattle.sctp_first_recv.specs.ReceiverFields.{stream_of}
 use Rattle.sctp_first_recv.specs.declared.give.InboundStream.{InboundStream}
 use Rattle.sctp_first_recv.specs.ReceiverKept.{StreamKept, ReceiverKept}
 use Rattle.sctp_first_recv.specs.ReceiverStands.{ReceiverStands, KeepsView}
-use Rattle.sctp_first_recv.proofs.ReceiverSteps.{stream-read, stream-written, answer-take}
+use Rattle.sctp_first_recv.proofs.TakeSteps.{stream-read, stream-written, answer-take}
 use Rattle.sctp_first_recv.proofs.receiver.Receiver.take.Goals as goal
 
 pub returns : goal.returns

@@ -6,7 +6,7 @@ use Rattle.sctp_model.specs.first.Sending.{MESSAGE_LIMIT, accepted}
 use Rattle.sctp_first_send.specs.SenderFields.{waits_of, IsSmall}
 use Rattle.sctp_first_send.specs.SenderKept.{Kept}
 use Rattle.sctp_first_send.specs.SenderStands.{Keeps, StandsFor}
-use Rattle.sctp_first_send.specs.declared.sender.Waiting.{Waiting}
+use Rattle.sctp_first_send.specs.declared.waiting.Waiting.{Waiting}
 use Rattle.sctp_first_send.proofs.SenderLemmas.{few_more, keeps_given, keeps_queued, kept_accepted, read_more}
 use Rattle.sctp_first_send.proofs.sender.Sender.queue.Goals as goal
 

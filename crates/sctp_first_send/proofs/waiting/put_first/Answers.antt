@@ -7,7 +7,7 @@ use Rattle.sctp_packet.specs.Draft.{room_in}
 use Rattle.sctp_first_send.specs.SenderFields.{waits_of}
 use Rattle.sctp_first_send.specs.SenderStands.{queue_of}
 use Rattle.sctp_first_send.proofs.FillLemmas.{room_more, room_first, puts_room, puts_more, take_waits}
-use Rattle.sctp_first_send.proofs.sender.put_first.Goals as goal
+use Rattle.sctp_first_send.proofs.waiting.put_first.Goals as goal
 
 -- the room left so far
 left : (c : goal.After-put_message-arg-1) → 16 + padded (length c.index-message.result.now.bytes.items) ≤ room_in c.loop-index.packet

@@ -1,7 +1,7 @@
 use Rattle.std.proofs.Common.{◌+◌, ◌<◌, length, arith}
 use Rattle.sctp_model.specs.Chunk.{padded}
 use Rattle.sctp_first_send.proofs.FillLemmas.{room_more, fill_stops}
-use Rattle.sctp_first_send.proofs.sender.how_many_fit.Goals as goal
+use Rattle.sctp_first_send.proofs.waiting.how_many_fit.Goals as goal
 
 pub returns-then-size-left : goal.returns-then-size-left
 returns-then-size-left c =

@@ -2,7 +2,7 @@ use Rattle.std.proofs.Common.{◌≡◌, suc, take, map}
 use Rattle.sctp_first_send.specs.SenderFields.{waits_of}
 use Rattle.sctp_first_send.specs.inner.Putting.{Puts}
 use Rattle.sctp_first_send.specs.SenderSteps.{numbers_of}
-use Rattle.sctp_first_send.proofs.sender.put_first.Given as goal
+use Rattle.sctp_first_send.proofs.waiting.put_first.Given as goal
 
 abbrev pub invariant-loop-index : goal.invariant-loop-index
 invariant-loop-index l = record {

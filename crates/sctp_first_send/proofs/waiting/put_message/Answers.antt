@@ -1,6 +1,6 @@
 use Rattle.std.proofs.Common.{arith}
 use Rattle.sctp_first_send.proofs.FillLemmas.{fits_waiting}
-use Rattle.sctp_first_send.proofs.sender.put_message.Goals as goal
+use Rattle.sctp_first_send.proofs.waiting.put_message.Goals as goal
 
 pub try_chunk-requires : goal.try_chunk-requires
 try_chunk-requires c =
