@@ -87,7 +87,7 @@ all_orders() {
     says 'HEX'
     order "a word too many, $1" 1 /dev/null chunks 00 00
     order "no words, $1" 1 /dev/null
-    says 'requires a subcommand'
+    says 'a subcommand is required'
     order "a word that isn't UTF-8, $1" 1 /dev/null "$bytes"
     says "a word isn't UTF-8"
     ln -sf "$room/copy/sctp-trace" "$room/linked"

@@ -1,7 +1,10 @@
 -- Output that is gathered before it is written: what is written stays a beginning of what the lines of a script write.
-use Rattle.std.proofs.Common.{◌≡◌, ℕ, ◌++◌, inl, inr, List, [], Bool, Option, None, ◌≤◌, Result, Ok, Err, refl, sym, ap, ◌∙◌, subst, arith, append_assoc, append-nil}
+use Rattle.std.proofs.Common.{◌≡◌, ℕ, ◌+◌, length, ◌++◌, inl, inr, List, [], Bool, Option, None, ◌≤◌, Result, Ok, Err, refl, sym, ap, ◌∙◌, subst, arith, append_assoc, append-nil}
 use Rattle.std.proofs.lemmas.List.Elements.{All-nil}
-use Rattle.sctp_text.specs.TextLines.{IsOneLine}
+use Rattle.sctp_text.specs.TextLines.{Reading, IsOneLine}
+use Rattle.sctp_text.specs.NextLineAnswer.{given_by, IsAnswer, LeadsOn}
+use Rattle.sctp_text.specs.declared.line_reader.NextLine.{NextLine}
+use Rattle.sctp_text.specs.declared.line_reader.ReadFault.{ReadFault}
 use Rattle.sctp_model.specs.first.World.{World}
 use Rattle.sctp_script.specs.declared.line.LineFault.{LineFault}
 use Rattle.sctp_trace.specs.declared.script.Running.{Running}
@@ -10,6 +13,7 @@ use Rattle.sctp_trace.specs.declared.script.ScriptFault.TheVariants.{Read, Write
 use Rattle.sctp_trace.specs.Script.{IsFront, BeginsOutput, FaultsFirst}
 use Rattle.sctp_trace.specs.inner.ScriptSteps.{IsSoFar, IsWrittenOf, IsPassedOn, IsClosed, BeginsFront, EndsAs, RunsOn}
 use Rattle.sctp_trace.proofs.ScriptRuns.{front_of}
+use Rattle.sctp_trace.proofs.ScriptLemmas.{Got}
 use Rattle.sctp_text.specs.declared.limits.TheConstants.{LONGEST_TEXT}
 
 -- ---- what is written of the bytes that were gathered
@@ -84,7 +88,18 @@ passed_on s text done before written rest lines state is so =
     let parts : done ++ before ≡ (done ++ written) ++ rest = ap (λ (bytes : List ℕ). done ++ bytes) is ∙ sym (append_assoc done written rest) in
     rw parts at so
 
--- the same behind a line that was read and run
+-- The same, and the reader of lines gave the answer that was met.
+pub got_line : ((text : List ℕ) (lines : List (List ℕ)) (now : Reading) (bytes : List ℕ) (answer : Result NextLine ReadFault) (after : Reading) → LeadsOn text lines now bytes answer after)
+    → (s : Running) (text done before written rest : List ℕ) (lines : List (List ℕ)) (state : Option World) → before ≡ written ++ rest
+    → IsSoFar s text (done ++ before) lines state → s.lines.given ≤ LONGEST_TEXT → (bytes : List ℕ) (told answer : NextLine) (now : Reading) → told ≡ answer
+    → s.lines.held ++ bytes ≡ given_by (Ok told) ++ now.held → now.given ≡ s.lines.given + length (given_by (Ok told)) → IsAnswer (Ok told) now
+    → Got s text ((done ++ written) ++ rest) lines state bytes answer now
+got_line law s text done before written rest lines state parts before_so small bytes told answer now is on count answered =
+    let so = passed_on s text done before written rest lines state parts before_so in
+    subst (λ (a : NextLine). Got s text ((done ++ written) ++ rest) lines state bytes a now) is
+    (record { so = so; small = small; on = on; count = count; is = answered; gives = law text lines s.lines bytes (Ok told) now so.given on count answered })
+
+-- what was written stands behind all that was written before, also behind a line that was read and run
 pub runs_behind : (end : Type 0) (result : Result Bool ScriptFault) (s : Running) (text done before here after : List ℕ) → after ≡ before ++ here
     → RunsOn end result s text ((done ++ before) ++ here) → RunsOn end result s text (done ++ after)
 runs_behind end result s text done before here after is runs =

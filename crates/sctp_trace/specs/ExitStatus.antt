@@ -1,11 +1,15 @@
 -- How the program ends by its words: the exit status, and what was read, written and said of faults.
-use Rattle.std.specs.Prelude.{◌≡◌, ℕ, ◌⊎◌, Bool, if◌then◌else◌, List, [], ◌++◌, Result, Ok, Err, codes, decimal}
+use Rattle.std.specs.Prelude.{◌≡◌, ℕ, ◌⊎◌, Bool, if◌then◌else◌, List, [], ◌++◌, Result, Ok, Err, Option, Some, None, codes, decimal}
+use Rattle.clap.specs.Faults.{fault_of}
+use Rattle.clap.specs.Kinds.{IsAmong}
+use Rattle.clap.specs.Values.{kind_text}
+use Rattle.clap.specs.declared.error.kind.ErrorKind.{ErrorKind}
 use Rattle.sctp_script.specs.Grammar.{kind_of}
 use Rattle.sctp_script.specs.declared.line.LineFault.{LineFault}
 use Rattle.sctp_print.specs.PrintedText.{IsPacketTextOf, IsChunksTextOf}
-use Rattle.sctp_trace.specs.Forms.{IsForm, Form, Run, Packet, Chunks, form_of}
+use Rattle.sctp_trace.specs.Forms.{commands, IsForm, Form, Run, Packet, Chunks, form_of}
 use Rattle.sctp_trace.specs.Script.{IsAnswered}
-use Rattle.sctp_trace.specs.declared.command_line.TheConstants.{DONE, WRONG_WORDS, REFUSED, FAILED}
+use Rattle.sctp_trace.specs.declared.command_line.TheConstants.{DONE, WRONG_WORDS, REFUSED, FAILED, USAGE}
 use Rattle.sctp_trace.specs.declared.script.ScriptFault.{ScriptFault}
 use Rattle.sctp_trace.specs.declared.script.ScriptFault.TheVariants.{Read, Write, NoMemory, Line}
 
@@ -49,10 +53,23 @@ Acts end Run status read written said = Runs end status read written said
 Acts end (Packet hex) status read written said = (read ≡ []) × (said ≡ []) × Prints (IsPacketTextOf hex) status written
 Acts end (Chunks hex) status read written said = (read ≡ []) × (said ≡ []) × Prints (IsChunksTextOf hex) status written
 
--- Of words that are a form what it asks was done. Of others nothing was read or written, and the status is 1, or 3 where their text wasn't said.
--- Where memory failed before the words were read, nothing was done.
+-- what is wrong with words, in clap's words for its kind; a request for help is none
+abbrev pub reason_line : Option (List ℕ) → List ℕ
+reason_line None = []
+reason_line (Some reason) = codes "sctp-trace: " ++ reason ++ codes "\n"
+
+-- what is said of words that are no form, by what is wrong with them
+abbrev pub words_text : ErrorKind → List ℕ
+words_text kind = reason_line (kind_text kind) ++ USAGE.now
+
+-- The exit status of words that are no form, and what was said: all of it, or the status is that of a failure.
+abbrev pub Says : ErrorKind → ℕ → List ℕ → Type 0
+Says kind status said = ((status ≡ WRONG_WORDS) × (said ≡ words_text kind)) ⊎ ((status ≡ FAILED) × Begins said (words_text kind))
+
+-- Of words that are a form what it asks was done. Of others nothing was read or written, and a kind of fault that clap finds in them was
+-- said, with the forms. Where memory failed before that, nothing was done.
 abbrev pub Ends : Type 0 → List (List ℕ) → ℕ → List ℕ → List ℕ → List ℕ → Type 0
 Ends end words status read written said =
     (IsForm words × Acts end (form_of words) status read written said)
-    ⊎ (((¬ IsForm words) × (read ≡ []) × (written ≡ []) × ((status ≡ WRONG_WORDS) ⊎ (status ≡ FAILED)))
+    ⊎ (((read ≡ []) × (written ≡ []) × ((kind : ErrorKind) × IsAmong kind (fault_of commands words) × Says kind status said))
     ⊎ ((status ≡ FAILED) × (read ≡ []) × (written ≡ []) × (said ≡ [])))

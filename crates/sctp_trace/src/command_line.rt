@@ -1,10 +1,10 @@
 //! The command line of the program: what its words ask for, and the exit status.
 
-ghost use Rattle.std.specs.Prelude.{◌≡◌, ℕ, ◌⊎◌, ◌+◌, ◌-◌, ◌^◌, ◌<◌, ◌≤◌, List, map, string_bytes, IfOk, MatchResult};
+ghost use Rattle.std.specs.Prelude.{◌≡◌, ◌≢◌, ℕ, ◌⊎◌, ◌+◌, ◌-◌, ◌^◌, ◌<◌, ◌≤◌, List, [], map, string_bytes, IfOk};
 ghost use Rattle.clap.specs.Words.{FailsBy, HasMatchesOf, fault_of};
 ghost use Rattle.sctp_print.specs.PrintedText.{IsPacketTextOf, IsChunksTextOf};
-ghost use Rattle.sctp_trace.specs.ExitStatus.{Begins, Runs, Acts, Prints, status_of, Ends};
-ghost use Rattle.sctp_trace.specs.Forms.{commands, IsForm, form_of};
+ghost use Rattle.sctp_trace.specs.ExitStatus.{Begins, Runs, Acts, Prints, status_of, words_text, Says, Ends};
+ghost use Rattle.sctp_trace.specs.Forms.{commands, form_of};
 ghost use Rattle.sctp_trace.specs.inner.Asked.{form_meaning};
 
 use crate::script::{ScriptFault, run_script};
@@ -12,11 +12,14 @@ use clap::error::ErrorKind;
 use clap::{Arg, ArgMatches, Command, Error};
 use sctp_print::{print_chunks, print_packet};
 use sctp_text::{Sink, Source, write_all};
-use sctp_wire::NoMemory;
-use std::alloc::Global;
+use std::alloc::{AllocError, Global};
 
-/// The name of the program in what is said of its words.
-const PROGRAM: &str = "sctp-trace";
+/// The forms, as they are said where words are none of them.
+pub const USAGE: &str = "usage:
+  sctp-trace run         runs the script on standard input; outcomes and report go to standard output
+  sctp-trace packet HEX  prints the packet that HEX says, a line for its header and one for each chunk
+  sctp-trace chunks HEX  prints the chunks that HEX says, a line each
+";
 /// The exit status of a script that was run whole.
 pub const DONE: u8 = 0;
 /// The exit status of words that are no form of the program's.
@@ -31,7 +34,7 @@ pub const FAILED: u8 = 3;
 /// The forms are `run`: the script is read from `input`, and its outcomes and report are written to `output`; `packet HEX` and
 /// `chunks HEX`: the lines of the packet, or of the chunks, that HEX says in hexadecimal are written to `output`. The status is
 /// - 0 where the script was run whole, or the packet or chunks were read,
-/// - 1 where the words are no form, a request for help among them: the text about the words is written to `faults`,
+/// - 1 where the words are no form, a request for help among them: what is wrong with them and the forms are written to `faults`,
 /// - 2 where a line of the script was refused: `line N: K` is written to `faults`, the line counted from 1 and the kind of its fault;
 ///   or HEX, the packet or the chunks were refused: the line of that is written to `output`,
 /// - 3 where reading, writing (to `faults` too) or memory failed.
@@ -54,10 +57,9 @@ pub fn run_words<R: Source, W: Sink, F: Sink>(
     ensures once { R.failures input.new + W.failures output.new + F.failures faults.new
         ≤ R.failures input.old + W.failures output.old + F.failures faults.old + 1 }
 {
-    match asked(alloc, words) {
-        Ok(Ok(form)) => act(alloc, form, input, output, faults),
-        Ok(Err(text)) => tell(faults, text.as_str(), WRONG_WORDS),
-        Err(NoMemory) => FAILED,
+    match form_of(alloc, words) {
+        Ok(form) => act(alloc, form, input, output, faults),
+        Err(error) => refuse(alloc, error.kind(), faults),
     }
 }
 
@@ -67,26 +69,6 @@ enum Form<'a> {
     Run,
     Packet(&'a str),
     Chunks(&'a str),
-}
-
-/// The form of the words; of words that are no form, a request for help among them, what is said.
-fn asked(alloc: Global, words: &[String]) -> Result<Result<Form<'_>, String>, NoMemory>
-    ensures { IfOk result (λ asked. MatchResult asked
-        (λ form. IsForm (map string_bytes words.now) × (form_meaning form ≡ form_of (map string_bytes words.now)))
-        (λ _. ¬ IsForm (map string_bytes words.now))) }
-{
-    match form_of(alloc, words) {
-        Ok(form) => Ok(Ok(form)),
-        Err(error) => {
-            if matches!(error.kind(), ErrorKind::OutOfMemory) {
-                return Err(NoMemory);
-            }
-            match error.to_string(alloc) {
-                Ok(text) => Ok(Err(text)),
-                Err(_) => Err(NoMemory),
-            }
-        }
-    }
 }
 
 /// The form of the words: the subcommand, and the value of HEX.
@@ -112,21 +94,12 @@ fn parse(alloc: Global, words: &[String]) -> Result<ArgMatches<'_>, Error>
     ensures fails { FailsBy (fault_of commands (map string_bytes words.now)) result }
     ensures matches { IfOk result (HasMatchesOf commands (map string_bytes words.now)) }
 {
-    let run = Command::new(alloc, "run").about(
-        "Runs the script on standard input; outcomes and report go to standard output",
-    );
+    let run = Command::new(alloc, "run");
     let packet_hex = Arg::new(alloc, "HEX").required(true);
-    let packet = Command::new(alloc, "packet")
-        .about("Prints the packet that HEX says, a line for its header and one for each chunk")
-        .arg(packet_hex)?;
+    let packet = Command::new(alloc, "packet").arg(packet_hex)?;
     let chunks_hex = Arg::new(alloc, "HEX").required(true);
-    let chunks = Command::new(alloc, "chunks")
-        .about("Prints the chunks that HEX says, a line each")
-        .arg(chunks_hex)?;
-    let bare = Command::new(alloc, PROGRAM)
-        .bin_name(PROGRAM)?
-        .about("Runs scripts over the two ends of an association, and prints packets and chunks")
-        .subcommand_required(true);
+    let chunks = Command::new(alloc, "chunks").arg(chunks_hex)?;
+    let bare = Command::new(alloc, "sctp-trace").subcommand_required(true);
     let running = bare.subcommand(run)?;
     let printing = running.subcommand(packet)?;
     let program = printing.subcommand(chunks)?;
@@ -232,6 +205,33 @@ fn run<R: Source, W: Sink, F: Sink>(
             }
         }
         Err(ScriptFault::Read | ScriptFault::Write | ScriptFault::NoMemory) => FAILED,
+    }
+}
+
+/// Says of words that are no form what is wrong with them, and the forms; nothing where memory was wanting.
+fn refuse<F: Sink>(alloc: Global, kind: ErrorKind, faults: &mut F) -> u8
+    requires { F.failures faults.old < 2 ^ 64 - 1 }
+    ensures says { (said : List ℕ) × F.Writes faults.old said faults.new
+        × (((kind ≢ ErrorKind.OutOfMemory) × Says kind result said) ⊎ ((result ≡ FAILED) × (said ≡ []))) }
+    ensures well { result < FAILED → F.failures faults.new ≡ F.failures faults.old }
+    ensures once { F.failures faults.new ≤ F.failures faults.old + 1 }
+{
+    if matches!(kind, ErrorKind::OutOfMemory) {
+        return FAILED;
+    }
+    match words_text(alloc, kind) {
+        Ok(text) => tell(faults, text.as_str(), WRONG_WORDS),
+        Err(_) => FAILED,
+    }
+}
+
+/// What is wrong with words that are no form, by its kind, and the forms. Of a request for help it is the forms alone.
+fn words_text(alloc: Global, kind: ErrorKind) -> Result<String, AllocError>
+    ensures { IfOk result (λ text. string_bytes text ≡ words_text kind) }
+{
+    match kind.as_str() {
+        Some(reason) => format!(in alloc; "sctp-trace: {reason}\n{USAGE}"),
+        None => String::from_str(alloc, USAGE),
     }
 }
 

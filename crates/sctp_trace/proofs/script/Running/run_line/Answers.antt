@@ -1,118 +1,75 @@
-use Rattle.std.proofs.Common.{◌≡◌, true, false, [], ◌∷◌, ◌++◌, Ok, Err, refl, sym, subst, append-nil, arith}
+use Rattle.std.proofs.Common.{◌≡◌, true, false, [], ◌∷◌, ◌++◌, Ok, Err, refl, sym, append-nil, arith}
 use Rattle.sctp_script.specs.declared.line.LineFault.TheVariants.{TooLong as LineTooLong}
 use Rattle.sctp_trace.specs.declared.script.ScriptFault.TheVariants.{Line}
 use Rattle.sctp_trace.specs.inner.ScriptSteps.{BeginsFront}
 use Rattle.std.proofs.lemmas.Grind.{common_steps}
-use Rattle.sctp_text.specs.declared.line_reader.NextLine.{NextLine}
-use Rattle.sctp_trace.proofs.ScriptLemmas.{Got, ended_come, last_come, last_small, line_acted, ended_stops, last_stops, last_over, long_stops, end_over, line_unmade, unread}
-use Rattle.sctp_trace.proofs.ScriptGathered.{passed_on, runs_behind, stopped_writing}
+use Rattle.sctp_trace.proofs.ScriptLemmas.{ended_come, last_come, last_small, line_acted, ended_stops, last_stops, last_over, long_stops, end_over, line_unmade, unread}
+use Rattle.sctp_trace.proofs.ScriptGathered.{passed_on, got_line, runs_behind, stopped_writing}
 use Rattle.sctp_trace.proofs.script.Running.run_line.Goals as goal
 
 pub returns-in_err-act-in-Ok-Ended-clause-runs : goal.returns-in_err-act-in-Ok-Ended-clause-runs
 returns-in_err-act-in-Ok-Ended-clause-runs g c = λ text written lines state gathered.
     let p = c.in_ok-pass_on.ensures.written in
-    let done = (written ++ p.0) ++ c.pass_on.new.gathered.items in
-    let so = passed_on c.args.self.now text written c.args.gathered.now.items p.0 c.pass_on.new.gathered.items lines state p.2 gathered in
     let i = c.in-Ok-Ended in
-    let s = c.args.self.now in
-    let now = c.next_line.new.self in
     let b = i.ensures.bytes in
-    let given = c.line_after_line.ensures text lines s.lines b.0 (Ok i.field-0) now so.given b.3 i.ensures.given i.ensures.answer in
-    let first : Got s text done lines state b.0 i.field-0 now =
-    record { so = so; small = c.requires.small; on = b.3; count = i.ensures.given; is = i.ensures.answer; gives = given } in
-    let got = subst (λ (answer : NextLine). Got s text done lines state b.0 answer now) i.field-0-is first in
+    let got = got_line c.line_after_line.ensures c.args.self.now text written _ p.0 c.pass_on.new.gathered.items lines state p.2 gathered c.requires.small b.0 i.field-0 _ _ i.field-0-is b.3 i.ensures.given i.ensures.answer in
     let fault = c.in_err-act-in-Ok-Ended.field-0.0 in
-    let out = rw c.deref.ensures.value at (c.in_err-act-in-Ok-Ended.ensures.leaves state so.stands) in
+    let out = rw c.deref.ensures.value at (c.in_err-act-in-Ok-Ended.ensures.leaves state got.so.stands) in
     let same : c.from_residual-in_err-act-in-Ok-Ended.result ≡ Err fault = grind (arith, common_steps) in
-    let come = ended_come s text done lines state b.0 i.line now got in
-    (b.0, p.0, b.1, p.1, rw same (runs_behind _ (Err fault) s (text ++ b.0) (written ++ p.0) c.pass_on.new.gathered.items out.0 _ out.1 (ended_stops _ fault s now text done lines state b.0 i.line.items out.0 _ come got.gives got.is.2 out.2)))
+    let come = ended_come _ text _ lines state b.0 i.line _ got in
+    (b.0, p.0, b.1, p.1, rw same (runs_behind _ (Err fault) c.args.self.now (text ++ b.0) (written ++ p.0) c.pass_on.new.gathered.items out.0 _ out.1 (ended_stops _ fault _ _ text _ lines state b.0 i.line.items out.0 _ come got.gives got.is.2 out.2)))
 
 pub returns-in_err-act-in-Ok-Last-clause-runs : goal.returns-in_err-act-in-Ok-Last-clause-runs
 returns-in_err-act-in-Ok-Last-clause-runs g c = λ text written lines state gathered.
     let p = c.in_ok-pass_on.ensures.written in
-    let done = (written ++ p.0) ++ c.pass_on.new.gathered.items in
-    let so = passed_on c.args.self.now text written c.args.gathered.now.items p.0 c.pass_on.new.gathered.items lines state p.2 gathered in
     let i = c.in-Ok-Last in
-    let s = c.args.self.now in
-    let now = c.next_line.new.self in
     let b = i.ensures.bytes in
-    let given = c.line_after_line.ensures text lines s.lines b.0 (Ok i.field-0) now so.given b.3 i.ensures.given i.ensures.answer in
-    let first : Got s text done lines state b.0 i.field-0 now =
-    record { so = so; small = c.requires.small; on = b.3; count = i.ensures.given; is = i.ensures.answer; gives = given } in
-    let got = subst (λ (answer : NextLine). Got s text done lines state b.0 answer now) i.field-0-is first in
+    let got = got_line c.line_after_line.ensures c.args.self.now text written _ p.0 c.pass_on.new.gathered.items lines state p.2 gathered c.requires.small b.0 i.field-0 _ _ i.field-0-is b.3 i.ensures.given i.ensures.answer in
     let end = rw i.field-0-is at i.ensures.end in
     let fault = c.in_err-act-in-Ok-Last.field-0.0 in
-    let out = rw c.deref-in-Ok-Last.ensures.value at (c.in_err-act-in-Ok-Last.ensures.leaves state so.stands) in
+    let out = rw c.deref-in-Ok-Last.ensures.value at (c.in_err-act-in-Ok-Last.ensures.leaves state got.so.stands) in
     let same : c.from_residual-in_err-act-in-Ok-Last.result ≡ Err fault = grind (arith, common_steps) in
-    let come = last_come s text done lines state b.0 i.line now got in
-    let small = last_small s text done lines state b.0 i.line now got in
-    (b.0, p.0, b.1, p.1, rw same (runs_behind _ (Err fault) s (text ++ b.0) (written ++ p.0) c.pass_on.new.gathered.items out.0 _ out.1 (last_stops _ fault s text done lines state b.0 i.line.items out.0 _ end come got.is.1 small got.gives.1 out.2)))
+    let come = last_come _ text _ lines state b.0 i.line _ got in
+    let small = last_small _ text _ lines state b.0 i.line _ got in
+    (b.0, p.0, b.1, p.1, rw same (runs_behind _ (Err fault) c.args.self.now (text ++ b.0) (written ++ p.0) c.pass_on.new.gathered.items out.0 _ out.1 (last_stops _ fault _ text _ lines state b.0 i.line.items out.0 _ end come got.is.1 small got.gives.1 out.2)))
 
 pub returns-in_ok-act-in-Ok-Ended-clause-runs : goal.returns-in_ok-act-in-Ok-Ended-clause-runs
 returns-in_ok-act-in-Ok-Ended-clause-runs g c = λ text written lines state gathered.
     let p = c.in_ok-pass_on.ensures.written in
-    let done = (written ++ p.0) ++ c.pass_on.new.gathered.items in
-    let so = passed_on c.args.self.now text written c.args.gathered.now.items p.0 c.pass_on.new.gathered.items lines state p.2 gathered in
     let i = c.in-Ok-Ended in
-    let s = c.args.self.now in
-    let now = c.next_line.new.self in
     let b = i.ensures.bytes in
-    let given = c.line_after_line.ensures text lines s.lines b.0 (Ok i.field-0) now so.given b.3 i.ensures.given i.ensures.answer in
-    let first : Got s text done lines state b.0 i.field-0 now =
-    record { so = so; small = c.requires.small; on = b.3; count = i.ensures.given; is = i.ensures.answer; gives = given } in
-    let got = subst (λ (answer : NextLine). Got s text done lines state b.0 answer now) i.field-0-is first in
-    let out = rw c.deref.ensures.value at (c.in_ok-act-in-Ok-Ended.ensures.leaves state so.stands) in
+    let got = got_line c.line_after_line.ensures c.args.self.now text written _ p.0 c.pass_on.new.gathered.items lines state p.2 gathered c.requires.small b.0 i.field-0 _ _ i.field-0-is b.3 i.ensures.given i.ensures.answer in
+    let out = rw c.deref.ensures.value at (c.in_ok-act-in-Ok-Ended.ensures.leaves state got.so.stands) in
     let left = out.2 in
-    (b.0, p.0, b.1, p.1, runs_behind (Unit {0}) (Ok true) _ (text ++ b.0) (written ++ p.0) c.pass_on.new.gathered.items out.0 _ out.1 (lines ++ i.line.items ∷ [], left.0, line_acted s _ text done lines state left.0 b.0 i.line.items out.0 so got.gives left.1 left.2 refl))
+    (b.0, p.0, b.1, p.1, runs_behind (Unit {0}) (Ok true) _ (text ++ b.0) (written ++ p.0) c.pass_on.new.gathered.items out.0 _ out.1 (lines ++ i.line.items ∷ [], left.0, line_acted _ _ text _ lines state left.0 b.0 i.line.items out.0 got.so got.gives left.1 left.2 refl))
 
 pub returns-in_ok-act-in-Ok-Last-clause-runs : goal.returns-in_ok-act-in-Ok-Last-clause-runs
 returns-in_ok-act-in-Ok-Last-clause-runs g c = λ text written lines state gathered.
     let p = c.in_ok-pass_on.ensures.written in
-    let done = (written ++ p.0) ++ c.pass_on.new.gathered.items in
-    let so = passed_on c.args.self.now text written c.args.gathered.now.items p.0 c.pass_on.new.gathered.items lines state p.2 gathered in
     let i = c.in-Ok-Last in
-    let s = c.args.self.now in
-    let now = c.next_line.new.self in
     let b = i.ensures.bytes in
-    let given = c.line_after_line.ensures text lines s.lines b.0 (Ok i.field-0) now so.given b.3 i.ensures.given i.ensures.answer in
-    let first : Got s text done lines state b.0 i.field-0 now =
-    record { so = so; small = c.requires.small; on = b.3; count = i.ensures.given; is = i.ensures.answer; gives = given } in
-    let got = subst (λ (answer : NextLine). Got s text done lines state b.0 answer now) i.field-0-is first in
+    let got = got_line c.line_after_line.ensures c.args.self.now text written _ p.0 c.pass_on.new.gathered.items lines state p.2 gathered c.requires.small b.0 i.field-0 _ _ i.field-0-is b.3 i.ensures.given i.ensures.answer in
     let end = rw i.field-0-is at i.ensures.end in
-    let out = rw c.deref-in-Ok-Last.ensures.value at (c.in_ok-act-in-Ok-Last.ensures.leaves state so.stands) in
+    let out = rw c.deref-in-Ok-Last.ensures.value at (c.in_ok-act-in-Ok-Last.ensures.leaves state got.so.stands) in
     let left = out.2 in
-    (b.0, p.0, b.1, p.1, runs_behind _ (Ok false) _ (text ++ b.0) (written ++ p.0) c.pass_on.new.gathered.items out.0 _ out.1 (end, (left.0, last_over s _ text done lines state left.0 b.0 i.line now out.0 got left.1 left.2)))
+    (b.0, p.0, b.1, p.1, runs_behind _ (Ok false) _ (text ++ b.0) (written ++ p.0) c.pass_on.new.gathered.items out.0 _ out.1 (end, (left.0, last_over _ _ text _ lines state left.0 b.0 i.line _ out.0 got left.1 left.2)))
 
 pub returns-in-Ok-TooLong-clause-runs : goal.returns-in-Ok-TooLong-clause-runs
 returns-in-Ok-TooLong-clause-runs g c = λ text written lines state gathered.
     let p = c.in_ok-pass_on.ensures.written in
-    let done = (written ++ p.0) ++ c.pass_on.new.gathered.items in
-    let so = passed_on c.args.self.now text written c.args.gathered.now.items p.0 c.pass_on.new.gathered.items lines state p.2 gathered in
     let i = c.in-Ok-TooLong in
-    let s = c.args.self.now in
-    let now = c.next_line.new.self in
     let b = i.ensures.bytes in
-    let given = c.line_after_line.ensures text lines s.lines b.0 (Ok i.field-0) now so.given b.3 i.ensures.given i.ensures.answer in
-    let first : Got s text done lines state b.0 i.field-0 now =
-    record { so = so; small = c.requires.small; on = b.3; count = i.ensures.given; is = i.ensures.answer; gives = given } in
-    let got = subst (λ (answer : NextLine). Got s text done lines state b.0 answer now) i.field-0-is first in
-    (b.0, p.0, b.1, p.1, runs_behind _ (Err (Line s.number LineTooLong)) s (text ++ b.0) (written ++ p.0) c.pass_on.new.gathered.items [] _ (sym (append-nil _)) (long_stops _ s text done lines state b.0 now got))
+    let got = got_line c.line_after_line.ensures c.args.self.now text written _ p.0 c.pass_on.new.gathered.items lines state p.2 gathered c.requires.small b.0 i.field-0 _ _ i.field-0-is b.3 i.ensures.given i.ensures.answer in
+    (b.0, p.0, b.1, p.1, runs_behind _ (Err (Line c.args.self.now.number LineTooLong)) c.args.self.now (text ++ b.0) (written ++ p.0) c.pass_on.new.gathered.items [] _ (sym (append-nil _)) (long_stops _ _ text _ lines state b.0 _ got))
 
 pub returns-in-Ok-End-clause-runs : goal.returns-in-Ok-End-clause-runs
 returns-in-Ok-End-clause-runs g c = λ text written lines state gathered.
     let p = c.in_ok-pass_on.ensures.written in
-    let done = (written ++ p.0) ++ c.pass_on.new.gathered.items in
-    let so = passed_on c.args.self.now text written c.args.gathered.now.items p.0 c.pass_on.new.gathered.items lines state p.2 gathered in
     let i = c.in-Ok-End in
-    let s = c.args.self.now in
-    let now = c.next_line.new.self in
     let b = i.ensures.bytes in
-    let given = c.line_after_line.ensures text lines s.lines b.0 (Ok i.field-0) now so.given b.3 i.ensures.given i.ensures.answer in
-    let first : Got s text done lines state b.0 i.field-0 now =
-    record { so = so; small = c.requires.small; on = b.3; count = i.ensures.given; is = i.ensures.answer; gives = given } in
-    let got = subst (λ (answer : NextLine). Got s text done lines state b.0 answer now) i.field-0-is first in
+    let got = got_line c.line_after_line.ensures c.args.self.now text written _ p.0 c.pass_on.new.gathered.items lines state p.2 gathered c.requires.small b.0 i.field-0 _ _ i.field-0-is b.3 i.ensures.given i.ensures.answer in
     let end = rw i.field-0-is at i.ensures.end in
-    (b.0, p.0, b.1, p.1, runs_behind _ (Ok false) _ (text ++ b.0) (written ++ p.0) c.pass_on.new.gathered.items [] _ (sym (append-nil _)) (end, (state, end_over s _ text done lines state b.0 now got so.stands)))
+    (b.0, p.0, b.1, p.1, runs_behind _ (Ok false) _ (text ++ b.0) (written ++ p.0) c.pass_on.new.gathered.items [] _ (sym (append-nil _)) (end, (state, end_over _ _ text _ lines state b.0 _ got got.so.stands)))
 
 pub returns-in-Err-clause-runs : goal.returns-in-Err-clause-runs
 returns-in-Err-clause-runs g c = λ text written lines state gathered.
