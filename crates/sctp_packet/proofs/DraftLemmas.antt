@@ -1,6 +1,6 @@
 -- The bytes of a packet in the making: how many they are, that they are written chunks, and which ones.
-use Rattle.std.proofs.Common.{◌≡◌, ℕ, zero, suc, ◌+◌, ◌-◌, ◌*◌, ◌/◌, ◌<◌, ◌≤◌, ◌^◌, List, [], ◌∷◌, ◌++◌, length, take, drop, replicate, refl, sym, ap, ◌∙◌, subst, append_assoc, arith, length-append, length-drop}
-use Rattle.std.specs.Prelude.{nat_le, max, true, false}
+use Rattle.std.proofs.Common.{◌≡◌, ℕ, ◌+◌, ◌<◌, ◌≤◌, List, [], ◌∷◌, ◌++◌, length, take, drop, refl, sym, ap, ◌∙◌, subst, arith, length-append, length-drop}
+use Rattle.std.specs.Prelude.{max}
 use Rattle.std.specs.List.{flat_map, AllByRecursion}
 use Rattle.std.proofs.lemmas.List.{take_all, append-nil, length-take, take-append-drop, nil_from_length, take-append-le, drop-append-le}
 use Rattle.std.proofs.lemmas.Grind.{common_steps, flat_map-append}
@@ -8,7 +8,6 @@ use Rattle.sctp_model.specs.Chunk.{ChunkMeaning, Data, Init, InitAck, Sack, IDat
 use Rattle.sctp_model.specs.Packet.{Packet, HEADER_ROOM, size_of_chunks, size_of_packet}
 use Rattle.sctp_wire.specs.Layouts.{Fits}
 use Rattle.sctp_wire.specs.Reading.{chunks_of, each_of}
-use Rattle.sctp_wire.specs.Reads.{Reads}
 use Rattle.sctp_wire.specs.Writes.{written, Writes}
 use Rattle.byteorder.specs.Endian.{little_bytes}
 use Rattle.sctp_packet.specs.Checksum.{crc32c}

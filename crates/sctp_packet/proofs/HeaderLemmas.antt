@@ -1,15 +1,14 @@
 -- A packet's header read back from its bytes, and the bytes from what is read: its fields are where they are written, and the checksum is taken
 -- over the bytes with zero in its field.
-use Rattle.std.proofs.Common.{◌≡◌, ℕ, zero, suc, ◌+◌, ◌-◌, ◌*◌, ◌^◌, ◌<◌, ◌≤◌, Bool, true, false, not, List, [], ◌∷◌, ◌++◌, map, length, take, drop, get_or, refl, sym, ap, subst, ◌∙◌, arith, length-append, length-drop, append_assoc}
+use Rattle.std.proofs.Common.{◌≡◌, ℕ, zero, suc, ◌+◌, ◌^◌, ◌<◌, ◌≤◌, Bool, true, false, not, List, [], ◌∷◌, ◌++◌, map, length, drop, get_or, refl, sym, ap, subst, ◌∙◌, arith, length-drop}
 use Rattle.std.proofs.lemmas.Nat.{be_bytes_2, be_bytes_4, le_bytes_4}
 use Rattle.std.proofs.lemmas.List.{drop-drop, get_or-drop, length-map}
 use Rattle.std.proofs.Math.Nat.{pow-suc}
 use Rattle.byteorder.specs.Endian.{big_bytes, big_number, little_bytes, little_number}
 use Rattle.byteorder.specs.Numbers.{big_number-reads_back, little_number-reads_back}
 use Rattle.sctp_model.specs.Packet.{Packet, HEADER_ROOM}
-use Rattle.sctp_packet.specs.Remainder.{IsRemainder, remainder}
-use Rattle.sctp_packet.specs.Checksum.{number, divisor, dividend, crc32c, IsChecksum}
-use Rattle.sctp_packet.specs.PacketBytes.{header_bytes, with_sum, packet_bytes, without_sum, IsHeader, IsChecked}
+use Rattle.sctp_packet.specs.Checksum.{number, divisor, crc32c}
+use Rattle.sctp_packet.specs.PacketBytes.{with_sum, packet_bytes, without_sum, IsHeader, IsChecked}
 use Rattle.sctp_packet.proofs.ChecksumLaws.{checksum_is, length_tail, divisor_is}
 
 -- ---- a checksum has 32 bits

@@ -1,5 +1,5 @@
 -- A packet and its bytes: what is read says all of the bytes, so that there is one packet or one fault, and what is written reads back.
-use Rattle.std.proofs.Common.{◌≡◌, ℕ, zero, suc, ◌+◌, ◌-◌, ◌*◌, ◌^◌, ◌<◌, ◌≤◌, ◌⊎◌, inl, inr, List, [], ◌∷◌, ◌++◌, length, take, drop, get_or, refl, sym, ap, subst, ◌∙◌, arith, length-append, length-drop}
+use Rattle.std.proofs.Common.{◌≡◌, ℕ, ◌-◌, ◌<◌, ◌⊎◌, inl, inr, List, [], ◌∷◌, length, take, drop, refl, sym, ap, subst, ◌∙◌, arith, length-append, length-drop}
 use Rattle.std.proofs.lemmas.List.{take_all}
 use Rattle.std.proofs.lemmas.Bool.{cases_lt, cases_eq}
 use Rattle.byteorder.specs.Endian.{big_number, little_number}
@@ -10,11 +10,10 @@ use Rattle.sctp_wire.specs.FirstFault.{Faults}
 use Rattle.sctp_wire.specs.Laws as wire
 use Rattle.sctp_wire.specs.FaultTree.{moved}
 use Rattle.sctp_wire.specs.Reads.{ReadsEach, Reads}
-use Rattle.sctp_wire.specs.Writes.{Writes}
 use Rattle.sctp_packet.specs.Checksum.{crc32c}
 use Rattle.sctp_packet.specs.declared.fault.PacketFault.{PacketFault}
 use Rattle.sctp_packet.specs.declared.fault.PacketFault.TheVariants.{Short, Checksum, NoChunk, Wire}
-use Rattle.sctp_packet.specs.PacketBytes.{with_sum, packet_bytes, without_sum, IsHeader, IsChecked, ReadsPacket, WritesPacket, FaultsPacket}
+use Rattle.sctp_packet.specs.PacketBytes.{with_sum, packet_bytes, without_sum, IsHeader, IsChecked, ReadsPacket, FaultsPacket}
 use Rattle.sctp_packet.specs.PacketLaws.{ReadInOneWay}
 use Rattle.sctp_packet.proofs.HeaderLemmas.{AreLow, low_behind, length-with_sum, source_of, destination_of, tag_of, sum_left_out, packet_is_checked, header_back}
 

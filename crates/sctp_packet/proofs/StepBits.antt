@@ -1,5 +1,5 @@
 -- The register as a number and as bits: where zero bits come in, and where bytes do.
-use Rattle.std.proofs.Common.{◌≡◌, ℕ, zero, suc, ◌+◌, ◌-◌, ◌*◌, ◌/◌, ◌%◌, ◌^◌, ◌<◌, ◌≤◌, Bool, true, false, nat_eq, cond, bit_xor, lit<, List, [], ◌∷◌, ◌++◌, length, take, drop, get_or, refl, sym, ap, subst, ◌∙◌, arith, append_assoc, length-append, drop-cons}
+use Rattle.std.proofs.Common.{◌≡◌, ℕ, zero, suc, ◌+◌, ◌-◌, ◌*◌, ◌/◌, ◌%◌, ◌^◌, ◌<◌, ◌≤◌, Bool, true, false, nat_eq, cond, bit_xor, lit<, List, ◌∷◌, ◌++◌, length, take, drop, get_or, refl, sym, ap, subst, ◌∙◌, arith, append_assoc, length-append, drop-cons}
 use Rattle.std.specs.Int.Bits.{xor_assoc, xor_zero_r}
 use Rattle.std.proofs.lemmas.Nat.{xor_lt, xor_comm}
 use Rattle.std.proofs.lemmas.List.{length-replicate}
@@ -12,7 +12,7 @@ use Rattle.sctp_packet.proofs.AddLemmas.{add_zeros}
 use Rattle.sctp_packet.proofs.BitLemmas.{length_bits, bits_above, step_of}
 use Rattle.sctp_packet.proofs.RegisterLemmas.{register_is_remainder, register_after-append}
 use Rattle.sctp_packet.proofs.ChecksumLaws.{tail_is, length_tail, divisor_is, byte_is_eight_steps}
-use Rattle.sctp_packet.proofs.StepLemmas.{step_sum, steps_sum, steps_then, steps_down, byte_apart}
+use Rattle.sctp_packet.proofs.StepLemmas.{steps_sum, steps_then, byte_apart}
 
 -- ---- zero bits
 

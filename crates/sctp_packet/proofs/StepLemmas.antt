@@ -1,8 +1,8 @@
 -- A register over which zero bits go is a sum: of numbers added without carries, each goes its own way, and what stands above the bits that
 -- have gone comes down. So eight bytes leave what each leaves in its place.
-use Rattle.std.proofs.Common.{◌≡◌, ℕ, zero, suc, ◌+◌, ◌*◌, ◌/◌, ◌%◌, ◌^◌, ◌<◌, ◌≤◌, nat_eq, cond, bit_xor, refl, sym, ap, ◌∙◌, arith}
-use Rattle.std.specs.Int.Bits.{xor_assoc, xor_zero_l, xor_zero_r}
-use Rattle.std.proofs.lemmas.Nat.{xor_mod, xor_shr, xor_comm, xor_block, xor_lt, shr-shr}
+use Rattle.std.proofs.Common.{◌≡◌, ℕ, zero, suc, ◌+◌, ◌*◌, ◌/◌, ◌%◌, ◌^◌, ◌<◌, bit_xor, refl, sym, ap, ◌∙◌, arith}
+use Rattle.std.specs.Int.Bits.{xor_assoc, xor_zero_r}
+use Rattle.std.proofs.lemmas.Nat.{xor_mod, xor_shr, xor_comm, xor_block, shr-shr}
 use Rattle.std.proofs.Math.Nat.{pow-suc}
 use Rattle.sctp_packet.specs.Tables.{taken_away, step, steps}
 

@@ -10,11 +10,11 @@ use Rattle.sctp_script.specs.declared.line.Acting.{Acting}
 use Rattle.sctp_script.specs.declared.line.Acting.TheVariants as acting
 use Rattle.sctp_script.specs.Commands.{fields_of, arguments_of, is_pair}
 use Rattle.sctp_script.specs.Configuration.{IsFirstFault, sizes}
-use Rattle.sctp_script.specs.Fields.{Values, AreValues}
+use Rattle.sctp_script.specs.Fields.{AMode, Values, AreValues, IsNumber, IsValue}
 use Rattle.sctp_script.specs.Grammar.{LineMeaning, AreGood, Spells, IsLineOf, HasFault, IsFirstFaultOf, HasNoFault, Says, kind_of}
 use Rattle.sctp_script.specs.ReadLineAnswer.{acting_meaning}
 use Rattle.sctp_script.proofs.CommandLemmas.{same_command}
-use Rattle.sctp_script.proofs.FieldLemmas.{one_values}
+use Rattle.sctp_script.proofs.FieldLemmas.{one_values, no_words}
 use Rattle.sctp_text.specs.declared.limits.TheConstants.{LONGEST_LINE}
 
 -- ---- one command
@@ -77,6 +77,15 @@ in_order paired line c args (acting.Pair config) r order = (faultless paired lin
 in_order paired line c args (acting.Event event) r order = (faultless paired line c args _ r order, (c, args, r.line_is, r.says))
 
 -- ---- a `pair` line
+
+-- the five words behind `pair`, one by one
+pub pair_words : (args a b c d rest : List (List ℕ)) (t u v w x : List ℕ) (limit fragment buffer streams : ℕ) (mode : Mode) → length args ≡ 5
+    → args ≡ t ∷ a → a ≡ u ∷ b → b ≡ v ∷ c → c ≡ w ∷ d → d ≡ x ∷ rest
+    → IsNumber 16 t limit → IsNumber 16 u fragment → IsNumber 32 v buffer → IsNumber 16 w streams → IsValue AMode x mode
+    → AreValues (fields_of command.Pair) args (limit, (fragment, (buffer, (streams, (mode, tt)))))
+pair_words args a b c d rest t u v w x limit fragment buffer streams mode five first second third fourth fifth is_limit is_fragment is_buffer are_streams is_mode =
+    let none : rest ≡ [] = no_words rest (omega (arith, five, ap length first, ap length second, ap length third, ap length fourth, ap length fifth)) in
+    (_, _, first, is_limit, (_, _, second, is_fragment, (_, _, third, is_buffer, (_, _, fourth, are_streams, (_, _, fifth, is_mode, none)))))
 
 -- sizes with a fault say no configuration
 pub says_nothing : (args : List (List ℕ)) (l f b s : ℕ) (mode : Mode) (fault : ConfigFault)

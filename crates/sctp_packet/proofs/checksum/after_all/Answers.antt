@@ -1,4 +1,4 @@
-use Rattle.std.proofs.Common.{◌≡◌, ℕ, ◌-◌, List, Bool, take, length, drop, arith, ◌∙◌, ap}
+use Rattle.std.proofs.Common.{◌≡◌, ◌-◌, List, Bool, take, length, drop, arith, ◌∙◌, ap}
 use Rattle.std.proofs.lemmas.Grind.{common_steps}
 use Rattle.sctp_packet.specs.Checksum.{bits, divisor, message_bits}
 use Rattle.sctp_packet.specs.Register.{register_after}

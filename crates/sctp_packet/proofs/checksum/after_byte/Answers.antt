@@ -1,4 +1,4 @@
-use Rattle.std.proofs.Common.{◌≡◌, ℕ, bit_xor, arith, ◌∙◌, ap, ◌/◌, ◌%◌, ◌^◌}
+use Rattle.std.proofs.Common.{◌≡◌, bit_xor, arith, ◌∙◌, ap, ◌/◌, ◌%◌, ◌^◌}
 use Rattle.sctp_packet.specs.Checksum.{bits}
 use Rattle.sctp_packet.specs.Tables.{steps}
 use Rattle.sctp_packet.proofs.StepLemmas.{byte_left}

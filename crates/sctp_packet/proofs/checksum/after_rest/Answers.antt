@@ -1,4 +1,4 @@
-use Rattle.std.proofs.Common.{◌≡◌, ℕ, List, Bool, drop, get_or, arith, ◌∙◌, ap, sym}
+use Rattle.std.proofs.Common.{List, Bool, drop, get_or, arith, ◌∙◌, ap, sym}
 use Rattle.sctp_packet.specs.Checksum.{bits, divisor}
 use Rattle.sctp_packet.specs.Register.{register_after}
 use Rattle.sctp_packet.proofs.ChecksumLaws.{register_after_byte}

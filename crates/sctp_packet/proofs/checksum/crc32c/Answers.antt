@@ -1,5 +1,5 @@
-use Rattle.std.proofs.Common.{◌≡◌, ℕ, List, Bool, drop, arith, ◌∙◌, ap, sym, subst}
-use Rattle.sctp_packet.specs.Checksum.{bits, divisor, message_bits, IsChecksum}
+use Rattle.std.proofs.Common.{ℕ, List, Bool, drop, arith, ◌∙◌, ap, sym, subst}
+use Rattle.sctp_packet.specs.Checksum.{divisor, message_bits, IsChecksum}
 use Rattle.sctp_packet.specs.Register.{register_after}
 use Rattle.sctp_packet.proofs.ChecksumLaws.{ones_is, checksum_of_register, checksum_is, checksum_only}
 use Rattle.sctp_packet.proofs.checksum.crc32c.Goals as goal

@@ -1,4 +1,4 @@
-use Rattle.std.proofs.Common.{◌≡◌, ℕ, [], sym, subst}
+use Rattle.std.proofs.Common.{ℕ, sym, subst}
 use Rattle.sctp_packet.specs.Tables.{IsEntry}
 use Rattle.sctp_packet.proofs.StepBits.{entry_divides}
 use Rattle.sctp_packet.proofs.TableLemmas.{entry_is}

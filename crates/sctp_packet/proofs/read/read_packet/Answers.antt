@@ -1,4 +1,4 @@
-use Rattle.std.proofs.Common.{◌≡◌, ℕ, ◌-◌, ◌<◌, List, take, length, drop, arith, ◌∙◌, ap, rules}
+use Rattle.std.proofs.Common.{◌≡◌, ◌-◌, take, length, drop, arith, ◌∙◌, ap, rules}
 use Rattle.byteorder.specs.Endian.{big_number}
 use Rattle.sctp_packet.specs.declared.fault.PacketFault.TheVariants.{Wire}
 use Rattle.sctp_packet.specs.PacketBytes.{IsChecked}

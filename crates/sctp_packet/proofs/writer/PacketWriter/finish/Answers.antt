@@ -1,8 +1,8 @@
-use Rattle.std.proofs.Common.{◌≡◌, ◌++◌, ◌∙◌, ap, List, ℕ, length, take, drop, refl, arith, sym, subst}
+use Rattle.std.proofs.Common.{◌≡◌, ◌++◌, ◌∙◌, ap, length, take, drop, refl, arith}
 use Rattle.sctp_model.specs.Packet.{Packet, HEADER_ROOM}
 use Rattle.sctp_wire.specs.Reading.{chunks_of}
 use Rattle.sctp_packet.specs.Checksum.{crc32c}
-use Rattle.sctp_packet.specs.PacketBytes.{header_bytes, WritesPacket}
+use Rattle.sctp_packet.specs.PacketBytes.{header_bytes}
 use Rattle.sctp_packet.specs.Draft.{packet_of}
 use Rattle.sctp_packet.proofs.DraftLemmas.{finished, IsFinished, kept_all, length-finished, draft_packet, draft_none}
 use Rattle.sctp_packet.proofs.writer.PacketWriter.finish.Goals as goal
