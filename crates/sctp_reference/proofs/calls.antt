@@ -1,2 +1,5 @@
 pub mod SackCases
 pub mod SackTold
+pub mod TurnCases
+pub mod WishTold
+pub mod CutTold

@@ -1,2 +1,5 @@
 pub mod Sacks
 pub mod SackLaws
+pub mod Wishes
+pub mod WishLaws
+pub mod Cuts

@@ -24,7 +24,9 @@ pub use receiver_steps::{
     forwards_are_computed, pieces_are_computed, runs_are_computed,
     the_cumulative_index_is_computed, wholes_are_computed,
 };
-pub use sender_calls::{sacks_are_taken, shutdowns_are_taken};
+pub use sender_calls::{
+    messages_are_cut, next_wishes_are_computed, sacks_are_taken, shutdowns_are_taken,
+};
 pub use sender_readers::{the_fill_is_computed, the_forward_is_computed, the_point_is_computed};
 pub use whole::{whole_number, whole_with};
 pub use words::{Entry, Format, Kind, Lane, MessageName, Sender};
