@@ -40,6 +40,8 @@ mod SackMoves
 mod QueueMoves
 pub mod OrderlyCalls
 mod SenderCalls
+mod NameFacts
+mod ToldLemmas
 mod WorldWay
 mod WorldUser
 mod WorldNumber

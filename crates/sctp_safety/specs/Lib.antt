@@ -6,6 +6,7 @@ pub mod Example
 pub mod Answered
 pub mod SenderLaws
 pub mod SenderCalls
+pub mod Told
 pub mod ReceiverLaws
 pub mod RestLaws
 pub mod Strangers
