@@ -97,8 +97,19 @@ fn the_point_stops_at_a_covered_message_that_is_not_abandoned(rt: HostRuntime) -
     assert_eq!(rt; numbers(rt.alloc(), &due)?.as_slice(), [Some(1)].as_slice());
     assert_eq!(rt; due.next, 2);
     assert_eq!(rt; cumulative_index(&[2], 1), 2);
+    Ok(())
+}
 
-    let later = Sender { cum: 2, ..sender };
+#[test]
+fn the_point_goes_on_behind_a_message_that_is_acknowledged(rt: HostRuntime) -> Result<(), Fail> {
+    let entries = [part(0, 0), part(1, 0), part(2, 0)];
+    let abandoned = [name(0), name(2)];
+    let later = Sender {
+        entries: &entries,
+        cum: 2,
+        covered: &[2],
+        abandoned: &abandoned,
+    };
     assert_eq!(rt; point(&later), 3);
     let skips = forward(rt.alloc(), Format::Plain, &later, 3)?;
     assert_eq!(rt; skips.as_slice(), [name(2)].as_slice());

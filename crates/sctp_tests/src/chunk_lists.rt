@@ -142,6 +142,11 @@ fn what_is_not_as_it_is_written_does_not_fit(rt: HostRuntime) -> Result<(), Fail
         }
         .fits()
     );
+    Ok(())
+}
+
+#[test]
+fn chunks_with_empty_lists_fit(rt: HostRuntime) -> Result<(), Fail> {
     let init = Init {
         tag: 1,
         rwnd: 0,

@@ -41,13 +41,12 @@ fn taking() -> Event {
     }
 }
 
-#[test]
-fn a_run_answers_each_event_and_the_report_has_what_waits(rt: HostRuntime) -> Result<(), Fail> {
-    let mut pair = fresh(rt.alloc())?;
-    let events = vec![in rt.alloc();
+/// Two messages go out, are acknowledged, and one of them is taken.
+fn two_messages(alloc: Global) -> Result<Vec<Event>, Fail> {
+    let events = vec![in alloc;
         opening(),
-        sending(rt.alloc(), &HI)?,
-        sending(rt.alloc(), &HI)?,
+        sending(alloc, &HI)?,
+        sending(alloc, &HI)?,
         Event::Build { side: Side::A },
         delivery(1),
         Event::Build { side: Side::B },
@@ -57,29 +56,38 @@ fn a_run_answers_each_event_and_the_report_has_what_waits(rt: HostRuntime) -> Re
         },
         taking(),
     ]?;
-    let outcomes = pair.run(&events)?;
+    Ok(events)
+}
+
+/// A ticket that A gave.
+fn ticket(ticket: u32) -> Outcome {
+    Outcome::Ticket {
+        side: Side::A,
+        ticket,
+    }
+}
+
+/// A packet that an end built first.
+fn sent(side: Side, length: usize) -> Outcome {
+    Outcome::Sent {
+        side,
+        number: 1,
+        length,
+    }
+}
+
+#[test]
+fn a_run_answers_each_event_and_the_report_has_what_waits(rt: HostRuntime) -> Result<(), Fail> {
+    let mut pair = fresh(rt.alloc())?;
+    let outcomes = pair.run(&two_messages(rt.alloc())?)?;
     let bytes = Bytes::copied(rt.alloc(), &HI)?;
     let wanted = vec![in rt.alloc();
         Outcome::Done,
-        Outcome::Ticket {
-            side: Side::A,
-            ticket: 1
-        },
-        Outcome::Ticket {
-            side: Side::A,
-            ticket: 2
-        },
-        Outcome::Sent {
-            side: Side::A,
-            number: 1,
-            length: 52
-        },
+        ticket(1),
+        ticket(2),
+        sent(Side::A, 52),
         Outcome::Taken { side: Side::B },
-        Outcome::Sent {
-            side: Side::B,
-            number: 1,
-            length: 28
-        },
+        sent(Side::B, 28),
         Outcome::Taken { side: Side::A },
         Outcome::Message {
             side: Side::B,
