@@ -11,6 +11,7 @@ pub mod Idle
 pub mod Giving
 pub mod OneKept
 pub mod AtRest
+pub mod AllGiven
 pub mod ForwardAtRest
 pub mod HeldBytes
 pub mod Examples

@@ -9,6 +9,10 @@ mod AnswerLemmas
 mod RecordedLemmas
 mod TakenLemmas
 mod HeldLemmas
+mod ForwardLists
+mod ForwardSkips
+mod ForwardKeeps
+mod ForwardRows
 mod ListOrder
 mod RunLemmas
 mod RunGains

@@ -25,9 +25,9 @@ cumulative_is k v s = record {
 
 -- ---- a fresh receiver
 
-pub keeps_fresh : (f : Format) (seen : SeenKept) (ss : List StreamKept) (initial n buffer : ℕ) → SeenStands seen (λ i. false) 0 → ss ≡ replicate n FRESH → buffer < 2 ^ 32 →
+pub keeps_fresh : (f : Format) (seen : SeenKept) (ss : List StreamKept) (initial n buffer : ℕ) → SeenStands seen (λ i. false) 0 → ss ≡ replicate n FRESH → n < 2 ^ 16 → buffer < 2 ^ 32 →
     KeepsView f (record { seen = seen; kept = []; streams = ss; duplicates = []; held = 0; initial = initial; buffer = buffer }) (fresh_receiver initial n buffer)
-keeps_fresh f seen ss initial n buffer s e fits = record {
+keeps_fresh f seen ss initial n buffer s e few fits = record {
   seen = s;
   counts = λ i came. absurd (let never : false ≡ true = came in cc);
   kept = refl;
@@ -39,6 +39,7 @@ keeps_fresh f seen ss initial n buffer s e fits = record {
   skipped = λ q. omega arith;
   waiting = λ q. sym (ap (λ (xs : List StreamKept). (stream_at xs q).waiting) e ∙ ap (λ (x : StreamKept). x.waiting) (fresh_at n q));
   streams = sym (ap (λ (xs : List StreamKept). length xs) e ∙ length_fresh n);
+  few_streams = let count = ap (λ (xs : List StreamKept). length xs) e ∙ length_fresh n in omega arith;
   duplicates = refl;
   few = omega arith;
   held = let none = no_waiting n in omega arith;
@@ -86,6 +87,7 @@ keeps_taken f k v s held h rest x w l at_s left less = record {
         rw e (w.waiting q ∙ sym now)
   ];
   streams = w.streams ∙ sym (length_set k.streams s x);
+  few_streams = let few = w.few_streams in let same = length_set k.streams s x in omega arith;
   duplicates = w.duplicates;
   few = w.few;
   held =

@@ -1,32 +1,22 @@
 -- What a receiver keeps once an index was recorded, or a TSN noted; and what makes a chunk one that can be kept.
-use Rattle.std.proofs.Common.{◌≡◌, ℕ, zero, suc, ◌+◌, ◌-◌, ◌<◌, ◌≤◌, ◌⊎◌, Bool, true, false, ◌==◌, take, List, [], ◌∷◌, ◌++◌, length, set, filter, Some, inl, inr, refl, sym, ◌∙◌, ap, subst, length-append, arith}
-use Rattle.std.specs.Prelude.{not}
+use Rattle.std.proofs.Common.{◌≡◌, ℕ, zero, suc, ◌+◌, ◌<◌, ◌≤◌, ◌⊎◌, Bool, true, false, ◌==◌, take, List, [], ◌∷◌, ◌++◌, length, Some, inl, inr, refl, sym, ◌∙◌, ap, subst, length-append, arith}
 use Rattle.std.proofs.lemmas.Bool.{cases_Bool}
 use Rattle.std.proofs.lemmas.Bool.Decides.{nat_tests}
 use Rattle.sctp_model.specs.Limits.{WINDOW, DUPLICATE_LIMIT}
 use Rattle.sctp_model.specs.Serial.{COUNTS}
-use Rattle.sctp_model.specs.Lists.{Has, at}
-use Rattle.sctp_model.specs.Format.{Format, Kind, Lane, ordered_lane, unordered_lane}
+use Rattle.sctp_model.specs.Lists.{at}
+use Rattle.sctp_model.specs.Format.{Format}
 use Rattle.sctp_model.specs.Pieces.{Piece}
-use Rattle.sctp_model.specs.Whole.{text_of}
-use Rattle.sctp_model.specs.ReceiverView.{Handed, ReceiverView, size_of_pieces, size_of_messages, size_of_waiting}
-use Rattle.sctp_model.specs.Receiving.{IsDue, Stop, Over, Past, is_below, without_below, handed_ordered, without_message, goes_with, handed_unordered, IsWholeWith, message_of, recorded, GivesOrdered, GivesUnordered, Gives, Takes}
-use Rattle.sctp_model.specs.receiver.Reading.{lane_of, piece_at}
+use Rattle.sctp_model.specs.ReceiverView.{ReceiverView}
+use Rattle.sctp_model.specs.Receiving.{recorded}
+use Rattle.sctp_model.specs.receiver.Reading.{piece_at}
 use Rattle.sctp_model.specs.Chunk.{PieceMeaning}
-use Rattle.sctp_model.specs.receiver.Laws.{IsApart}
 use Rattle.sctp_model.specs.receiver.PieceTaken.{is_passed, noted}
-use Rattle.sctp_model.proofs.receiver.OneStep.{filter_has, filter_apart, kept_apart}
-use Rattle.sctp_model.proofs.receiver.Sizes.{due_size, message_size}
-use Rattle.sctp_recv.specs.declared.fragment.Fragment.{Fragment}
-use Rattle.sctp_recv.specs.Kept.{piece_of, pieces_of}
 use Rattle.sctp_recv.specs.SeenKept.{SeenKept, is_reached}
-use Rattle.sctp_recv.specs.ReceiverKept.{StreamKept, ReceiverKept, stream_at}
+use Rattle.sctp_recv.specs.ReceiverKept.{StreamKept, ReceiverKept}
 use Rattle.sctp_recv.specs.StandsFor.{KeepsView}
-use Rattle.sctp_recv.specs.inner.DueSearch.{IsDueView, IsExtent}
-use Rattle.sctp_recv.specs.inner.Giving.{freed, GivesDue, GivesWhole, GivesNone, GivesBy, TakesIn, RecordsNew}
+use Rattle.sctp_recv.specs.inner.Giving.{RecordsNew}
 use Rattle.sctp_recv.specs.inner.Rows.{IsNewIndex}
-use Rattle.sctp_recv.proofs.StreamLemmas.{stream_set_same, stream_set_other, length_set, waiting_set, size_append}
-use Rattle.sctp_recv.proofs.NewestLemmas.{whole_says, left_without}
 
 -- ---- an index recorded
 
@@ -56,6 +46,7 @@ keeps_recorded f k v x seen w records new near small = record {
   skipped = w.skipped;
   waiting = w.waiting;
   streams = w.streams;
+  few_streams = w.few_streams;
   duplicates = w.duplicates;
   few = w.few;
   held = w.held;
@@ -93,6 +84,7 @@ keeps_duplicates f k v ds es w same few = record {
   skipped = w.skipped;
   waiting = w.waiting;
   streams = w.streams;
+  few_streams = w.few_streams;
   duplicates = same;
   few = few;
   held = w.held;

@@ -1,30 +1,26 @@
 -- What a receiver keeps once a chunk was kept, and what was due with it handed over.
-use Rattle.std.proofs.Common.{◌≡◌, ℕ, zero, suc, ◌+◌, ◌-◌, ◌<◌, ◌≤◌, ◌⊎◌, Bool, true, false, ◌==◌, take, List, [], ◌∷◌, ◌++◌, length, set, filter, Some, inl, inr, refl, sym, ◌∙◌, ap, subst, length-append, arith}
+use Rattle.std.proofs.Common.{◌≡◌, ℕ, suc, ◌+◌, ◌-◌, ◌<◌, ◌≤◌, Bool, true, false, ◌==◌, List, [], ◌∷◌, ◌++◌, length, set, filter, Some, inl, inr, refl, sym, ◌∙◌, ap, subst, arith}
 use Rattle.std.specs.Prelude.{not}
 use Rattle.std.proofs.lemmas.Bool.{cases_Bool}
 use Rattle.std.proofs.lemmas.Bool.Decides.{nat_tests}
-use Rattle.sctp_model.specs.Limits.{WINDOW, DUPLICATE_LIMIT}
 use Rattle.sctp_model.specs.Serial.{COUNTS}
 use Rattle.sctp_model.specs.Lists.{Has, at}
 use Rattle.sctp_model.specs.Format.{Format, Kind, Lane, ordered_lane, unordered_lane}
 use Rattle.sctp_model.specs.Pieces.{Piece}
 use Rattle.sctp_model.specs.Whole.{text_of}
 use Rattle.sctp_model.specs.ReceiverView.{Handed, ReceiverView, size_of_pieces, size_of_messages, size_of_waiting}
-use Rattle.sctp_model.specs.Receiving.{IsDue, Stop, Over, Past, is_below, without_below, handed_ordered, without_message, goes_with, handed_unordered, IsWholeWith, message_of, recorded, GivesOrdered, GivesUnordered, Gives, Takes}
-use Rattle.sctp_model.specs.receiver.Reading.{lane_of, piece_at}
-use Rattle.sctp_model.specs.Chunk.{PieceMeaning}
+use Rattle.sctp_model.specs.Receiving.{IsDue, is_below, without_below, handed_ordered, without_message, goes_with, handed_unordered, IsWholeWith, message_of, recorded, GivesOrdered, GivesUnordered, Gives, Takes}
+use Rattle.sctp_model.specs.receiver.Reading.{lane_of}
 use Rattle.sctp_model.specs.receiver.Laws.{IsApart}
-use Rattle.sctp_model.specs.receiver.PieceTaken.{is_passed, noted}
 use Rattle.sctp_model.proofs.receiver.OneStep.{filter_has, filter_apart, kept_apart}
 use Rattle.sctp_model.proofs.receiver.Sizes.{due_size, message_size}
 use Rattle.sctp_recv.specs.declared.fragment.Fragment.{Fragment}
 use Rattle.sctp_recv.specs.Kept.{piece_of, pieces_of}
-use Rattle.sctp_recv.specs.SeenKept.{SeenKept, is_reached}
+use Rattle.sctp_recv.specs.SeenKept.{SeenKept}
 use Rattle.sctp_recv.specs.ReceiverKept.{StreamKept, ReceiverKept, stream_at}
 use Rattle.sctp_recv.specs.StandsFor.{KeepsView}
 use Rattle.sctp_recv.specs.inner.DueSearch.{IsDueView, IsExtent}
-use Rattle.sctp_recv.specs.inner.Giving.{freed, GivesDue, GivesWhole, GivesNone, GivesBy, TakesIn, RecordsNew}
-use Rattle.sctp_recv.specs.inner.Rows.{IsNewIndex}
+use Rattle.sctp_recv.specs.inner.Giving.{freed, GivesDue, GivesWhole, GivesNone, GivesBy, TakesIn}
 use Rattle.sctp_recv.proofs.StreamLemmas.{one_stream, same_field, length_set, waiting_set, size_append}
 use Rattle.sctp_recv.proofs.NewestLemmas.{whole_says, left_without}
 use Rattle.sctp_recv.proofs.DueLemmas.{due_above}
@@ -67,6 +63,7 @@ module _ (f : Format) (k : ReceiverKept) (v : ReceiverView) (x : Piece) (seen : 
     waiting = one_stream v.waiting (λ (a : StreamKept). a.waiting) k.streams s b (v.waiting s ++ ms) l h.keeps.waiting
         (ap (λ (hs : List Handed). hs ++ ms) (h.keeps.waiting s) ∙ sym waits);
     streams = h.keeps.streams ∙ sym (length_set k.streams s b);
+    few_streams = let few = h.keeps.few_streams in let same = length_set k.streams s b in omega arith;
     duplicates = h.keeps.duplicates;
     few = h.keeps.few;
     held = held_now;
@@ -214,6 +211,7 @@ module _ (f : Format) (k : ReceiverKept) (v : ReceiverView) (x : Piece) (seen : 
         skipped = h.keeps.skipped;
         waiting = waits;
         streams = h.keeps.streams ∙ sym (length_set k.streams y.stream b);
+        few_streams = let few = h.keeps.few_streams in let same = length_set k.streams y.stream b in omega arith;
         duplicates = h.keeps.duplicates;
         few = h.keeps.few;
         held = let old_held : k.held ≡ size_of_pieces v.kept + size_of_waiting v.waiting v.streams = h.keeps.held in let less_is : less ≡ 0 = g.bytes in omega (arith, old_held, less_is, counts);

@@ -1,7 +1,10 @@
 -- The answers as the model's.
 use Rattle.sctp_model.specs.receiver.PieceTaken as model
+use Rattle.sctp_model.specs.receiver.ForwardTaken as model_forward
 use Rattle.sctp_recv.specs.declared.answer.Answer.{Answer}
 use Rattle.sctp_recv.specs.declared.answer.Answer.TheVariants.{Duplicate, Ahead, NoSuchStream, Passed, NoRoom, Taken}
+use Rattle.sctp_recv.specs.declared.forward.ForwardAnswer.{ForwardAnswer}
+use Rattle.sctp_recv.specs.declared.forward.ForwardAnswer.TheVariants.{OutOfDate, Bad, Moved}
 
 -- what a data chunk is answered
 abbrev pub answer_of : Answer → model.Answer
@@ -11,3 +14,9 @@ answer_of NoSuchStream = model.NoSuchStream
 answer_of Passed = model.Passed
 answer_of NoRoom = model.NoRoom
 answer_of Taken = model.Taken
+
+-- what a FORWARD is answered
+abbrev pub forward_answer_of : ForwardAnswer → model_forward.ForwardAnswer
+forward_answer_of OutOfDate = model_forward.OutOfDate
+forward_answer_of Bad = model_forward.Bad
+forward_answer_of Moved = model_forward.Moved

@@ -13,7 +13,8 @@ use Rattle.sctp_recv.specs.KeptOf.{kept_of}
 use Rattle.sctp_recv.specs.declared.receiver.Receiver.{Receiver}
 
 -- What is kept says the view, up to what the receiver has let go: the indexes at or below the cumulative one, the messages taken, and the
--- skipped ordered numbers, of which none is past the next. The chunks kept are apart, each was recorded, and all that is held fits the buffer.
+-- skipped ordered numbers, of which none is past the next. The chunks kept are apart, each was recorded, and all that is held fits the buffer;
+-- a stream's number has 16 bits.
 pub record KeepsView (f : Format) (k : ReceiverKept) (v : ReceiverView) : Type 0 where
   pub seen : SeenStands k.seen v.seen v.jump
   pub counts : (i : ℕ) → v.seen i ≡ true → suc i < COUNTS
@@ -26,6 +27,7 @@ pub record KeepsView (f : Format) (k : ReceiverKept) (v : ReceiverView) : Type 0
   pub skipped : (s : ℕ) → v.skip (ordered_lane s) ≤ v.next s
   pub waiting : (s : ℕ) → v.waiting s ≡ (stream_at k.streams s).waiting
   pub streams : v.streams ≡ length k.streams
+  pub few_streams : length k.streams < 2 ^ 16
   pub duplicates : v.duplicates ≡ k.duplicates
   pub few : length k.duplicates ≤ DUPLICATE_LIMIT
   pub held : k.held ≡ held_bytes v

@@ -2,3 +2,4 @@ pub mod Search
 pub mod DueSearch
 pub mod Giving
 pub mod Rows
+pub mod Forwarding

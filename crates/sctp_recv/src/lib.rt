@@ -4,6 +4,7 @@
 
 mod answer;
 mod due;
+mod forward;
 mod fragment;
 mod give;
 mod inbound;
@@ -18,6 +19,7 @@ mod tsn;
 mod whole;
 
 pub use answer::Answer;
+pub use forward::ForwardAnswer;
 pub use laws::{
     cumulative_is_one, due_is_in_words, forward_is_one, nothing_is_given, piece_is_one,
     words_are_one,
@@ -26,5 +28,7 @@ pub use message::Message;
 pub use receiver::Receiver;
 pub use sack::SackLists;
 
+#[cfg(test)]
+mod forward_tests;
 #[cfg(test)]
 mod tests;

@@ -34,13 +34,13 @@ use std::marker::PhantomData;
 /// The receiving end, in one format of user data.
 #[derive(Drop)]
 pub struct Receiver<F: Framing> {
-    alloc: Global,
-    initial: u32,
-    buffer: u32,
-    held: u32,
-    seen: Seen,
-    kept: Vec<Fragment>,
-    streams: Vec<Inbound>,
+    pub(crate) alloc: Global,
+    pub(crate) initial: u32,
+    pub(crate) buffer: u32,
+    pub(crate) held: u32,
+    pub(crate) seen: Seen,
+    pub(crate) kept: Vec<Fragment>,
+    pub(crate) streams: Vec<Inbound>,
     duplicates: Vec<u32>,
     framing: PhantomData<F>,
 }

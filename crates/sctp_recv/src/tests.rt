@@ -21,7 +21,7 @@ fn sack_of<F: Framing>(receiver: &Receiver<F>) -> Result<(u32, u32, usize, usize
 }
 
 /// A whole ordered message on stream 0.
-fn whole(tsn: u32, number: u32, bytes: &[u8]) -> Piece<'_> {
+pub(crate) fn whole(tsn: u32, number: u32, bytes: &[u8]) -> Piece<'_> {
     Piece {
         immediate: false,
         unordered: false,
@@ -36,7 +36,7 @@ fn whole(tsn: u32, number: u32, bytes: &[u8]) -> Piece<'_> {
 }
 
 /// A fragment of an unordered message on stream 1: its first where `word` is 0, its last where it is 2.
-fn unordered(tsn: u32, number: u32, word: u32, bytes: &[u8]) -> Piece<'_> {
+pub(crate) fn unordered(tsn: u32, number: u32, word: u32, bytes: &[u8]) -> Piece<'_> {
     Piece {
         immediate: false,
         unordered: true,
@@ -51,7 +51,7 @@ fn unordered(tsn: u32, number: u32, word: u32, bytes: &[u8]) -> Piece<'_> {
 }
 
 /// A message was taken, with these bytes.
-fn expect(
+pub(crate) fn expect(
     rt: &impl Abort,
     alloc: Global,
     taken: Option<Message>,
