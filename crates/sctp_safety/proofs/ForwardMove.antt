@@ -9,7 +9,7 @@ use Rattle.sctp_model.specs.ReceiverView.{ReceiverView}
 use Rattle.sctp_safety.specs.Way.{Way, IsSkippedBy, Forward_comes, Step}
 use Rattle.sctp_safety.proofs.Facts.{IsDone, IsLost, IsLostBy, IsRetired, IsSendersForward, MayPass, Held, Good}
 use Rattle.sctp_safety.proofs.Basics.{at_lane_cases}
-use Rattle.sctp_safety.proofs.Later.{Learns, Grows-refl, lost-later, IsDone-later, IsRetired-later, MayPass-later, IsAllSeen-later}
+use Rattle.sctp_safety.proofs.Later.{Learns, Grows-refl, lost-later, IsDone-later, IsRetired-later, MayPass-later, told_later}
 use Rattle.sctp_safety.proofs.MovesBySide.{by_receiver}
 use Rattle.sctp_safety.proofs.Settled.{settled_on}
 
@@ -85,14 +85,7 @@ kept_by-Forward_comes w v x skip g (has, ahead, by, e) = subst Good (sym e) (by_
   unskipped = λ l q. let z = skipped_unnumbered f x.skips r.skip fair.numbered l q (held.unskipped l q) in let y = by.within l in omega (arith, z, y);
   kept_seen = held.kept_seen;
   fresh = held.fresh;
-  told = record {
-    all_seen = λ l n h. IsAllSeen-later a.plan a.plan (Grows-refl a).plan r t learns l n (held.told.all_seen l n h);
-    below = held.told.below;
-    rising = held.told.rising;
-    apart = held.told.apart;
-    honest = held.told.honest;
-    passed = held.told.passed;
-  };
+  told = told_later f a r t.seen t.jump t.skip t.kept learns held.told;
 }))
   where
     f : Format

@@ -1,5 +1,5 @@
 -- Plan, messages, abandoned ones, indexes seen and numbers passed only grow, and most facts last while they do.
-use Rattle.std.proofs.Common.{◌≡◌, ℕ, ◌≤◌, ◌⊎◌, true, List, Some, inl, inr, subst, arith, le_refl}
+use Rattle.std.proofs.Common.{Bool, ◌≡◌, ℕ, ◌≤◌, ◌⊎◌, true, List, Some, inl, inr, subst, arith, le_refl}
 use Rattle.sctp_model.specs.Lists.{Has}
 use Rattle.sctp_model.specs.Format.{Format, Lane}
 use Rattle.sctp_model.specs.Plan.{Message, Entry, Part, Plan, entry_at, message_at, IsAssigned, IsComplete, IsClosed}
@@ -8,7 +8,7 @@ use Rattle.sctp_model.specs.SenderView.{SenderView}
 use Rattle.sctp_model.specs.Forward.{Skip, Forward}
 use Rattle.sctp_model.specs.ReceiverView.{Handed, ReceiverView, handed, IsReached}
 use Rattle.sctp_model.specs.Safe.{IsSent, WasHanded}
-use Rattle.sctp_safety.proofs.Facts.{IsDone, IsLost, IsLostBy, IsAllSeen, MayPass, IsRetired, IsAhead, IsSendersForward, IsHonest}
+use Rattle.sctp_safety.proofs.Facts.{IsHandedRightly, IsDone, IsLost, IsLostBy, IsAllSeen, MayPass, IsRetired, IsAhead, IsSendersForward, IsHonest}
 
 -- the plan gained entries and messages, and lost none
 pub record Extends (p q : Plan) : Type 0 where
@@ -153,3 +153,16 @@ module _ (f : Format) (a b : SenderView) (r t : ReceiverView) (grows : Grows a b
     numbered = h.numbered;
     old = λ e ahead i l m. IsRetired-later i (h.old e (IsAhead-earlier r t learns x.point ahead) i l m);
   }
+
+-- What was handed over stays so rightly where a receiver learns and hands nothing over.
+pub told_later : (f : Format) (a : SenderView) (r : ReceiverView) (seen : ℕ → Bool) (jump : ℕ) (skip : Lane → ℕ) (kept : List Piece)
+    → Learns r (record r { seen = seen; jump = jump; skip = skip; kept = kept }) → IsHandedRightly f a r
+    → IsHandedRightly f a (record r { seen = seen; jump = jump; skip = skip; kept = kept })
+told_later f a r seen jump skip kept learns told = record {
+  all_seen = λ l n h. IsAllSeen-later a.plan a.plan (Extends-refl a.plan) r _ learns l n (told.all_seen l n h);
+  below = told.below;
+  rising = told.rising;
+  apart = told.apart;
+  honest = told.honest;
+  passed = told.passed;
+}

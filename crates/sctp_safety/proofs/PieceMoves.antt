@@ -12,7 +12,7 @@ use Rattle.sctp_model.specs.Safe.{WasHanded}
 use Rattle.sctp_safety.specs.Way.{Way, Keep_piece, Drop_piece, Step}
 use Rattle.sctp_safety.proofs.Facts.{IsDone, IsOver, IsSettled, MayPass, IsOrderedPlan, Held, Good}
 use Rattle.sctp_safety.proofs.Basics.{at_cases, at_same, at_other, lane_is}
-use Rattle.sctp_safety.proofs.Later.{Learns, Grows-refl, lost-later, IsRetired-later, MayPass-later, IsAllSeen-later}
+use Rattle.sctp_safety.proofs.Later.{Learns, Grows-refl, lost-later, IsRetired-later, MayPass-later, told_later}
 use Rattle.sctp_safety.proofs.MovesBySide.{by_receiver}
 use Rattle.sctp_safety.proofs.Framing.{part_fragment, part_by_fragment}
 use Rattle.sctp_safety.proofs.Settled.{ordered_numbered, all_numbered, number_is, one_number, settled_on, not_all_seen}
@@ -48,14 +48,7 @@ module _ (f : Format) (a : SenderView) (r : ReceiverView) (i : ℕ) (ps : List P
     unskipped = held.unskipped;
     kept_seen = λ x h. kept_seen x (from x h);
     fresh = λ x n k h. fresh x n k (from x h);
-    told = record {
-      all_seen = λ l n h. IsAllSeen-later a.plan a.plan (Grows-refl a).plan r t learns l n (held.told.all_seen l n h);
-      below = held.told.below;
-      rising = held.told.rising;
-      apart = held.told.apart;
-      honest = held.told.honest;
-      passed = held.told.passed;
-    };
+    told = told_later f a r t.seen t.jump t.skip t.kept learns held.told;
   }
     where
       t : ReceiverView
