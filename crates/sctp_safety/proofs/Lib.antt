@@ -42,6 +42,7 @@ pub mod OrderlyCalls
 mod SenderCalls
 mod NameFacts
 mod ToldLemmas
+mod GivenUpLemmas
 mod WorldWay
 mod WorldUser
 mod WorldNumber

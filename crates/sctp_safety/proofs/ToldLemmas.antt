@@ -29,12 +29,12 @@ off_of true never = absurd (never refl)
 off_of false never = refl
 
 -- what a plan that calls reach is
-record IsInOrder (f : Format) (v : SenderView) : Type 0 where
-  format : Format
-  plan : IsOrderedPlan format v.plan
-  ends : AreEndsLast v.plan
+pub record IsInOrder (f : Format) (v : SenderView) : Type 0 where
+  pub format : Format
+  pub plan : IsOrderedPlan format v.plan
+  pub ends : AreEndsLast v.plan
 
-in_order : (f : Format) (v : SenderView) → IsReached f v → IsInOrder f v
+pub in_order : (f : Format) (v : SenderView) → IsReached f v → IsInOrder f v
 in_order f v h =
     let k = is_shadowed f v h in
     record { format = k.base.format; plan = (good_usual (with_sender k.base (shadow v)) k.usual).arranged; ends = k.usual.order.ends }
@@ -50,15 +50,15 @@ module _ (f : Format) (v : SenderView) (reached : IsReached f v) (t : ℕ) where
   found : (h : HasNumber v t) → name_of v t ≡ Some (name_in v t h)
   found h = is_named o.format v o.plan t h.lane h.number h.message h.named h.ticket
 
-  abbrev number_of : (n : Name) → name_of v t ≡ Some n → HasNumber v t
+  abbrev pub number_of : (n : Name) → name_of v t ≡ Some n → HasNumber v t
   number_of n is = let r = has_number v t n is in record { lane = n.lane; number = n.number; message = r.0; named = r.1; ticket = r.2 }
 
-  none_has : name_of v t ≡ None → HasNumber v t → ⊥
+  pub none_has : name_of v t ≡ None → HasNumber v t → ⊥
   none_has none h = let some = found h in absurd (cc)
 
   -- ---- acknowledged whole
 
-  acknowledged_name : (n : Name) → name_of v t ≡ Some n → is_covered v n ≡ true → is_abandoned v n ≡ false → WasAcknowledged v t
+  pub acknowledged_name : (n : Name) → name_of v t ≡ Some n → is_covered v n ≡ true → is_abandoned v n ≡ false → WasAcknowledged v t
   acknowledged_name n is covered kept = record { has = h; kept = kept; complete = by_close closed; covered = all_covered v n.lane n.number (not_true (has_uncovered v n) parts.1) }
     where
       h : HasNumber v t
@@ -92,7 +92,7 @@ module _ (f : Format) (v : SenderView) (reached : IsReached f v) (t : ℕ) where
       by_name None none here = absurd (cc)
       by_name (Some n) some here = let parts = and_parts (is_covered v n) (not (is_abandoned v n)) here in acknowledged_name n some parts.0 (not_true (is_abandoned v n) parts.1)
 
-  tells : WasAcknowledged v t → acknowledged v t ≡ true
+  pub tells : WasAcknowledged v t → acknowledged v t ≡ true
   tells w =
       let name = found w.has in
       let cover = covered_name w in
@@ -108,7 +108,7 @@ module _ (f : Format) (v : SenderView) (reached : IsReached f v) (t : ℕ) where
       by_name None none here = absurd (cc)
       by_name (Some n) some here = record { has = number_of n some; given = here }
 
-  gives : WasAbandoned v t → abandoned v t ≡ true
+  pub gives : WasAbandoned v t → abandoned v t ≡ true
   gives w = let name = found w.has in rw name w.given
 
   -- ---- what `abandon` answers
