@@ -15,6 +15,15 @@ answer_of Passed = model.Passed
 answer_of NoRoom = model.NoRoom
 answer_of Taken = model.Taken
 
+-- what is done with a chunk of this answer needs memory
+abbrev pub NeedsMemory : model.Answer → Type 0
+NeedsMemory model.Duplicate = Unit {0}
+NeedsMemory model.Ahead = ⊥
+NeedsMemory model.NoSuchStream = Unit {0}
+NeedsMemory model.Passed = Unit {0}
+NeedsMemory model.NoRoom = ⊥
+NeedsMemory model.Taken = Unit {0}
+
 -- what a FORWARD is answered
 abbrev pub forward_answer_of : ForwardAnswer → model_forward.ForwardAnswer
 forward_answer_of OutOfDate = model_forward.OutOfDate

@@ -1,11 +1,11 @@
 //! A FORWARD: its sender gave up all that is missing up to an index, and names the messages that are waited for in vain
 //! (RFC 3758, 3.6; RFC 8260, 2.3).
 
-ghost use Rattle.std.specs.Prelude.{◌≡◌, ◌-◌, ◌^◌, false, min, map, filter, length, IfOk, OnOk, OnErr};
-ghost use Rattle.sctp_model.specs.ReceiverView.{ReceiverView};
+ghost use Rattle.std.specs.Prelude.{◌≡◌, ℕ, ◌-◌, ◌^◌, false, min, map, filter, length, IfOk, OnOk, OnErr};
+ghost use Rattle.sctp_model.specs.ReceiverView.{ReceiverView, IsCumulative};
 ghost use Rattle.sctp_model.specs.Receiving.{GivesAll};
 ghost use Rattle.sctp_model.specs.receiver.Reading.{lane_of};
-ghost use Rattle.sctp_model.specs.receiver.ForwardTaken.{ForwardTaken, forwarded, names_other_stream};
+ghost use Rattle.sctp_model.specs.receiver.ForwardTaken.{Moved, ForwardTaken, forward_answer, forwarded, names_other_stream};
 ghost use Rattle.sctp_model.specs.Chunk.{ForwardMeaning};
 ghost use Rattle.sctp_model.specs.Format.{same_lane};
 ghost use Rattle.sctp_wire.specs.ChunkTree.{skip_meaning, forward_meaning};
@@ -208,6 +208,8 @@ impl<F: Framing> Receiver<F> {
         ensures step { (v : ReceiverView) → StandsFor F.format self.old v
             → IfOk result (λ a. (t : ReceiverView) × ForwardTaken F.format v (forward_meaning forward.now) (forward_answer_of a) t × StandsFor F.format self.new t) }
         ensures refused { (v : ReceiverView) → StandsFor F.format self.old v → OnErr result (StandsFor F.format self.new v) }
+        ensures memory { (v : ReceiverView) → StandsFor F.format self.old v
+            → OnErr result ((c : ℕ) × IsCumulative v c × (forward_answer v c (forward_meaning forward.now) ≡ Moved)) }
     {
         let index = match place_of_tsn(self.initial, self.seen.cumulative(), forward.cumulative) {
             TsnPlace::Behind => return Ok(ForwardAnswer::OutOfDate),

@@ -10,6 +10,7 @@ mod give;
 mod inbound;
 mod laws;
 mod message;
+mod pieces;
 mod receiver;
 mod room;
 mod runs;

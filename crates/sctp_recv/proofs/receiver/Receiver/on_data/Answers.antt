@@ -1,5 +1,7 @@
-use Rattle.std.proofs.Common.{refl, sym}
+use Rattle.std.proofs.Common.{refl, sym, subst}
+use Rattle.sctp_recv.proofs.ResultLemmas.{if_err}
 use Rattle.sctp_wire.specs.ChunkTree.{piece_meaning}
+use Rattle.sctp_recv.specs.AnswerOf.{NeedsMemory}
 use Rattle.sctp_recv.specs.KeptOf.{kept_of}
 use Rattle.sctp_recv.specs.StandsFor.{StandsFor}
 use Rattle.sctp_recv.proofs.ReceiverSteps.{cumulative_is}
@@ -51,3 +53,27 @@ returns-in_ok-keep-in-Taken-clause-step g c = λ v w.
     let row = c.in-Taken.ensures v w in
     let t = c.in_ok-keep-in-Taken.ensures.kept v w row.1 in
     (t.0, record { c = s.cumulative; cumulative = cumulative_is s v w.seen; answer = sym row.0; leaves = t.1 }, t.2)
+
+pub returns-in_err-note-in-Duplicate-clause-memory : goal.returns-in_err-note-in-Duplicate-clause-memory
+unfolding StandsFor
+returns-in_err-note-in-Duplicate-clause-memory g c = λ v w.
+    let s = c.args.self.now.seen in
+    if_err c.from_residual.result (s.cumulative, cumulative_is s v w.seen, subst NeedsMemory (sym (c.in-Duplicate.ensures v w)) tt)
+
+pub returns-in_err-add-in-NoSuchStream-clause-memory : goal.returns-in_err-add-in-NoSuchStream-clause-memory
+unfolding StandsFor
+returns-in_err-add-in-NoSuchStream-clause-memory g c = λ v w.
+    let s = c.args.self.now.seen in
+    if_err c.from_residual-in_err-add-in-NoSuchStream.result (s.cumulative, cumulative_is s v w.seen, subst NeedsMemory (sym (c.in-NoSuchStream.ensures v w).0) tt)
+
+pub returns-in_err-add-in-Passed-clause-memory : goal.returns-in_err-add-in-Passed-clause-memory
+unfolding StandsFor
+returns-in_err-add-in-Passed-clause-memory g c = λ v w.
+    let s = c.args.self.now.seen in
+    if_err c.from_residual-in_err-add-in-Passed.result (s.cumulative, cumulative_is s v w.seen, subst NeedsMemory (sym (c.in-Passed.ensures v w).0) tt)
+
+pub returns-in_err-keep-in-Taken-clause-memory : goal.returns-in_err-keep-in-Taken-clause-memory
+unfolding StandsFor
+returns-in_err-keep-in-Taken-clause-memory g c = λ v w.
+    let s = c.args.self.now.seen in
+    if_err c.from_residual-in_err-keep-in-Taken.result (s.cumulative, cumulative_is s v w.seen, subst NeedsMemory (sym (c.in-Taken.ensures v w).0) tt)

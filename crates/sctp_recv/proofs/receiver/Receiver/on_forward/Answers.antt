@@ -8,6 +8,7 @@ use Rattle.sctp_recv.specs.StandsFor.{StandsFor}
 use Rattle.sctp_recv.specs.declared.answer.TsnPlace.TheVariants.{Behind, Ahead, At}
 use Rattle.sctp_recv.specs.inner.Rows.{IsTsnPlace}
 use Rattle.sctp_recv.proofs.ReceiverSteps.{cumulative_is}
+use Rattle.sctp_recv.proofs.ResultLemmas.{if_err}
 use Rattle.sctp_recv.proofs.ForwardRows.{row_out_of_date, row_far, row_other, row_moved}
 use Rattle.sctp_recv.proofs.receiver.Receiver.on_forward.Goals as goal
 
@@ -51,3 +52,14 @@ returns-clause-step g c = λ v w.
     let kept_named : names_other_stream (length (kept_of c.args.self.now).streams) x.skips ≡ false = ap (λ (n : ℕ). names_other_stream n x.skips) m ∙ named in
     let t = c.in_ok-pass_to.ensures.passed v w x refl place named in
     (t.0, record { c = s.cumulative; cumulative = cumulative_is s v w.seen; answer = sym (row_moved g.F.Framing.format (kept_of c.args.self.now) v x w c.in-At.index place kept_named); leaves = t.1 }, t.2)
+
+pub returns-in_err-pass_to-clause-memory : goal.returns-in_err-pass_to-clause-memory
+unfolding StandsFor
+returns-in_err-pass_to-clause-memory g c = λ v w.
+    let s = c.args.self.now.seen in
+    let x = forward_meaning c.args.forward.now in
+    let items = c.args.self.now.streams.items in
+    let place = subst (λ (n : ℕ). IsTsnPlace c.args.self.now.initial n x.cumulative (At c.in-At.index)) c.cumulative.ensures.value c.in-At.ensures in
+    let count : length (kept_of c.args.self.now).streams ≡ c.len.result = let m = length-map items stream_of in omega (arith, m, c.len.ensures, c.args.self.now.streams.ok) in
+    let named : names_other_stream (length (kept_of c.args.self.now).streams) x.skips ≡ false = ap (λ (n : ℕ). names_other_stream n x.skips) count ∙ sym c.names_other_stream.ensures ∙ c.if-names_other_stream.false in
+    if_err c.from_residual.result (s.cumulative, cumulative_is s v w.seen, row_moved g.F.Framing.format (kept_of c.args.self.now) v x w c.in-At.index place named)
