@@ -11,6 +11,7 @@ use Rattle.sctp_recv.specs.declared.inbound.Inbound.{Inbound}
 use Rattle.sctp_recv.specs.declared.fragment.Fragment.{Fragment}
 use Rattle.sctp_model.specs.Chunk.{SkipMeaning}
 use Rattle.sctp_model.specs.Format.{Format}
+use Rattle.std.proofs.lemmas.List.{length-set}
 use Rattle.std.proofs.lemmas.Option.{slice_get_within, slice_get-map, get_or_from_slice_get}
 use Rattle.sctp_recv.specs.inner.Forwarding.{StreamForwarded, NOTHING_FORWARDED, forwarded_at, forwarded_of, IsForwardedOn, HasRoom, AreForwarded, after_forward, size_of_forwarded}
 use Rattle.sctp_recv.proofs.StreamLemmas.{set_mapped}
@@ -60,14 +61,9 @@ AreDoneBelow k old new all = (s : ℕ) → s < k → (a b : StreamKept) → slic
 pub same_first : {A : Type 0} (xs : List A) → AreSameFrom 0 xs xs
 same_first xs = record { length = refl; same = λ s low. refl }
 
-length_set : {A : Type 0} (xs : List A) (i : ℕ) (x : A) → length (set xs i x) ≡ length xs
-length_set [] i x = refl
-length_set (y ∷ xs) zero x = refl
-length_set (y ∷ xs) (suc i) x = ap suc (length_set xs i x)
-
 pub same_next : {A : Type 0} (k : ℕ) (old new : List A) (x : A) → AreSameFrom k old new → AreSameFrom (k + 1) old (set new k x)
 same_next k old new x h = record {
-  length = length_set new k x ∙ h.length;
+  length = length-set new k x ∙ h.length;
   same = λ s low. got_set_other new k s x (λ e. omega (arith, low, e)) ∙ h.same s (omega (arith, low));
 }
 

@@ -1,7 +1,6 @@
 //! Which indexes came: none is missing up to the cumulative one, and above it there are runs. Nothing here knows of data.
 
 ghost use Rattle.std.specs.Prelude.{◌≡◌, ℕ, ◌+◌, ◌≤◌, ◌<◌, ◌%◌, [], true, false, OnOk, OnErr, IfOk, IsOk, take, map, length};
-ghost use Rattle.std.specs.VecDeque.{deque_len, deque_capacity};
 ghost use Rattle.sctp_wire.specs.Items.{blocks_in};
 ghost use Rattle.sctp_wire.specs.ChunkTree.{block_meaning};
 ghost use Rattle.sctp_recv.specs.Blocks.{block_of_run};
@@ -92,16 +91,6 @@ impl Seen {
             0 => false,
             some => self.runs[some - 1].has(index),
         }
-    }
-
-    /// Makes room for one run more.
-    ///
-    /// # Errors
-    /// Memory ran out.
-    pub(crate) fn reserve(&mut self) -> Result<(), NoMemory>
-        ensures { self.new ≡ self.old }
-    {
-        self.runs.reserve(1).map_err(|_| NoMemory)
     }
 
     /// Records an index that was not reached, at most 32,767 above the cumulative one. Another changes nothing.
