@@ -43,6 +43,8 @@ mod SenderCalls
 mod NameFacts
 mod ToldLemmas
 mod GivenUpLemmas
+mod EndedLemmas
+mod ExpiredLemmas
 mod WorldWay
 mod WorldUser
 mod WorldNumber

@@ -47,7 +47,7 @@ module _ (f : Format) (v : SenderView) (reached : IsReached f v) (t : ℕ) where
   o : IsInOrder f v
   o = in_order f v reached
 
-  found : (h : HasNumber v t) → name_of v t ≡ Some (name_in v t h)
+  pub found : (h : HasNumber v t) → name_of v t ≡ Some (name_in v t h)
   found h = is_named o.format v o.plan t h.lane h.number h.message h.named h.ticket
 
   abbrev pub number_of : (n : Name) → name_of v t ≡ Some n → HasNumber v t

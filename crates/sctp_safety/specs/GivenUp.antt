@@ -2,9 +2,9 @@
 use Rattle.std.specs.Prelude.{◌≡◌, ◌↔◌, ◌⊎◌, ℕ, true, false, List, [], ◌∷◌, ◌++◌, Some}
 use Rattle.sctp_model.specs.Lists.{Has}
 use Rattle.sctp_model.specs.Format.{Format, Lane}
-use Rattle.sctp_model.specs.Plan.{Entry, End, entry_at, IsOf, IsInPart}
+use Rattle.sctp_model.specs.Plan.{Message, Entry, End, entry_at, message_at, IsOf, IsInPart}
 use Rattle.sctp_model.specs.SenderView.{Queued, SenderView}
-use Rattle.sctp_model.specs.sender.Abandoning.{abandon_after}
+use Rattle.sctp_model.specs.sender.Abandoning.{is_past, abandon_after, expired}
 use Rattle.sctp_model.specs.sender.Reached.{IsReached}
 use Rattle.sctp_safety.specs.Told.{HasNumber, WasAbandoned, WasAcknowledged}
 
@@ -32,3 +32,15 @@ pub data AbandonLeaves (v : SenderView) (t : ℕ) : SenderView → Type 0 where
 -- So it is of every view that calls reach.
 abbrev pub AbandonIsTaken : Type 0
 AbandonIsTaken = (f : Format) (v : SenderView) (t : ℕ) → IsReached f v → AbandonLeaves v t (abandon_after v t)
+
+-- ---- what is past its time
+
+-- Nothing is left to expire: no message that waits is past its time; and one with a number that is was abandoned or acknowledged, where abandoning is allowed.
+pub record HasNoneToExpire (v : SenderView) (now : ℕ) : Type 0 where
+  pub queue : (q : Queued) → Has v.queue q → is_past now q.message ≡ false
+  pub plan : (l : Lane) (n : ℕ) (m : Message) → message_at v.plan l n ≡ Some m → is_past now m ≡ true → v.partial ≡ true
+      → WasAbandoned v m.ticket ⊎ WasAcknowledged v m.ticket
+
+-- So it is when what was past its time has expired, in every view that calls reach.
+abbrev pub NoneIsLeftToExpire : Type 0
+NoneIsLeftToExpire = (f : Format) (v : SenderView) (now : ℕ) → IsReached f v → HasNoneToExpire (expired v now) now

@@ -31,7 +31,9 @@ pub use safety::{orderly_over_every_run, safe_over_every_run};
 pub use sender::{
     abandoned_only_asked, drained_is_told, each_call_has_one_result, plan_stays_orderly,
 };
-pub use told::{a_message_is_given_up_by_its_ticket, a_message_is_told_by_its_ticket};
+pub use told::{
+    a_message_is_given_up_by_its_ticket, a_message_is_told_by_its_ticket, nothing_is_left_to_expire,
+};
 pub use two_ends::{nothing_is_missing_once_completed, two_ends_are_safe};
 pub use worlds::{
     a_message_arrives, every_event_is_answered, safe_in_every_run, safe_in_every_world,
