@@ -18,25 +18,12 @@ use Rattle.sctp_model.proofs.sender.TicketLaws.{is_ticketed}
 use Rattle.sctp_model.proofs.sender.AssignedLaws.{IsSameTicket, IsNumberedNow, numbered_ticket}
 use Rattle.sctp_send.specs.SenderKept.{Rest, Track, Kept}
 use Rattle.sctp_send.specs.SenderStands.{table, rest_here, track_here, fate_here, Holds, Keeps}
+pub use Rattle.sctp_send.specs.inner.Newcomers.{number_in, counted_in, begun_track}
 use Rattle.sctp_send.specs.declared.message.Fate.TheVariants.{Numbered}
 use Rattle.sctp_send.proofs.TableLemmas.{table-set, get_or-table}
 use Rattle.sctp_send.proofs.NewItems.{new_items, numbered, numbered_items}
 
 -- ---- streams
-
--- the number that the next message of this kind takes
-abbrev pub number_in : Kind → Track → ℕ
-number_in Ordered t = t.ordered
-number_in Unordered t = t.unordered
-
--- it took it
-abbrev pub counted_in : Kind → Track → Track
-counted_in Ordered t = record t { ordered = suc t.ordered }
-counted_in Unordered t = record t { unordered = suc t.unordered }
-
--- and its stream goes on with what is left of it
-abbrev pub begun_track : Queued → (d : ℕ) → Track → Track
-begun_track q d t = record (counted_in q.lane.kind t) { rest = when (nat_lt d (length q.message.fragments)) (record { entry = Part q.lane (number_in q.lane.kind t) d; message = Some q.message }) }
 
 lane_of_kind : (l : Lane) (k : Kind) → l.kind ≡ k → l ≡ record { stream = l.stream; kind = k }
 lane_of_kind l k is = ap (λ (x : Kind). record { stream = l.stream; kind = x }) is

@@ -20,6 +20,7 @@ use Rattle.sctp_send.specs.SenderKept.{Item, Rest, Track, Kept}
 use Rattle.sctp_send.specs.SenderStands.{rest_here, Holds, Keeps}
 use Rattle.sctp_send.specs.inner.Walks.{total, one_if_rest}
 use Rattle.sctp_send.specs.declared.message.Fate.TheVariants.{Numbered}
+pub use Rattle.sctp_send.specs.inner.Newcomers.{begun_items}
 use Rattle.sctp_send.proofs.KeepLemmas.{count_items, kept_length}
 use Rattle.sctp_send.proofs.QueueLemmas.{kept_in_part}
 use Rattle.sctp_send.proofs.GoneLemmas.{gone_item, items_sent}
@@ -86,14 +87,10 @@ length-new_items l n m k (suc d) = ap suc (length-new_items l n m (suc k) d)
 
 -- ---- a message begins
 
--- its first fragment goes out, and the others that have an index wait for their turn
-abbrev pub begun_items : Lane → (number : ℕ) → Message → (more : ℕ) → List Item
-begun_items l n m d = gone_item (new_item (Part l n 0) m) ∷ new_items l n m 1 d
-
 -- What is kept then: so many fragments more than one have an index.
 abbrev pub after_begun : Kept → Queued → (rest : List Queued) → (more turn capacity : ℕ) → Track → Kept
 after_begun s q rest d turn capacity t = record s {
-  items = s.items ++ begun_items q.lane (number_in q.lane.kind t) q.message d;
+  items = s.items ++ begun_items q.lane (number_in q.lane.kind t) q.message (suc d);
   queue = rest;
   tracks = set s.tracks q.lane.stream (begun_track q (suc d) t);
   fates = set s.fates (q.message.ticket - 1) Numbered;

@@ -50,18 +50,18 @@ bytes_for w e m for = ap (λ (x : Entry). bytes_in x (entry_message w.view.plan 
 
 -- ---- what has its index
 
-item_read : (v : SenderView) (i : ℕ) (es : List Entry) (at : ℕ) (d : Item) → at < length (items_from v i es) → (e : Entry) × (slice_get es at ≡ Some e) × (get_or (items_from v i es) at d ≡ item_here v (i + at) e)
-item_read v i [] at d low = absurd (omega arith)
-item_read v i (e ∷ es) zero d low = let same : i + 0 ≡ i = omega arith in (e, refl, rw same refl)
-item_read v i (e ∷ es) (suc at) d low =
-    let r = item_read v (suc i) es at d (omega arith) in
+pub item_there : (v : SenderView) (i : ℕ) (es : List Entry) (at : ℕ) (d : Item) → at < length (items_from v i es) → (e : Entry) × (slice_get es at ≡ Some e) × (get_or (items_from v i es) at d ≡ item_here v (i + at) e)
+item_there v i [] at d low = absurd (omega arith)
+item_there v i (e ∷ es) zero d low = let same : i + 0 ≡ i = omega arith in (e, refl, rw same refl)
+item_there v i (e ∷ es) (suc at) d low =
+    let r = item_there v (suc i) es at d (omega arith) in
     let next : suc i + at ≡ i + suc at = omega arith in
     (r.0, r.1, rw next at r.2)
 
 stands_for : (f : Format) (s : Kept) (v : SenderView) (at : ℕ) (d : Item) → Keeps f s v → at < length s.items → IsFor (standing v (suc (v.cum + at))) (get_or s.items at d).entry (get_or s.items at d).message
 stands_for f s v at d k low =
     let es = drop v.cum v.plan.entries in
-    let r = item_read v (suc v.cum) es at d (subst (λ (xs : List Item). at < length xs) k.holds.items low) in
+    let r = item_there v (suc v.cum) es at d (subst (λ (xs : List Item). at < length xs) k.holds.items low) in
     let item = ap (λ (xs : List Item). get_or xs at d) k.holds.items ∙ r.2 in
     let entry = ap (λ (x : Item). x.entry) item in
     let there : entry_at v.plan (suc (v.cum + at)) ≡ Some r.0 = get-drop v.cum v.plan.entries at ∙ r.1 in

@@ -16,18 +16,10 @@ use Rattle.sctp_model.proofs.sender.CountLaws.{is_named}
 use Rattle.sctp_model.proofs.sender.KeptLaws.{are_parts_kept}
 use Rattle.sctp_model.proofs.sender.AssignedLaws.{continued_ticket}
 use Rattle.sctp_send.specs.SenderKept.{Item, Rest, Track, Kept}
+pub use Rattle.sctp_send.specs.inner.Newcomers.{rest_item, rest_after}
 use Rattle.sctp_send.specs.SenderStands.{item_here, items_from, table, rest_here, track_here, fate_here, Holds, Keeps}
 use Rattle.sctp_send.proofs.TableLemmas.{table-same, table-set}
 use Rattle.sctp_send.proofs.AssignLemmas.{track_at}
-
--- the item of a rest's fragment
-abbrev pub rest_item : Rest → Item
-rest_item r = record { entry = r.entry; message = r.message; sent = false; marked = false; covered = false; given_up = false }
-
--- what is left behind this fragment
-abbrev pub rest_after : Entry → Option Message → Option Rest
-rest_after (Part l n k) m = when (nat_lt (suc k) (length (fragments_in m))) (record { entry = Part l n (suc k); message = m })
-rest_after (End l n) m = None
 
 -- the view in which a stream's message in part took its next index
 abbrev pub gone_on : SenderView → Entry → (turn : ℕ) → SenderView

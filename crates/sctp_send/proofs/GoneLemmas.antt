@@ -10,10 +10,7 @@ use Rattle.sctp_model.specs.sender.Reached.{Goes}
 use Rattle.sctp_model.proofs.sender.FillLaws.{goes_parts}
 use Rattle.sctp_send.specs.SenderKept.{Item, Kept}
 use Rattle.sctp_send.specs.SenderStands.{item_here, items_from, Keeps}
-
--- the item went out
-abbrev pub gone_item : Item → Item
-gone_item x = record x { sent = true; marked = false }
+pub use Rattle.sctp_send.specs.inner.Newcomers.{gone_item}
 
 item_other : (v : SenderView) (i j : ℕ) (e : Entry) → (j ≡ i → ⊥) → item_here (with_sent v i) j e ≡ item_here v j e
 item_other v i j e apart = let off : (j == i) ≡ false = grind (arith, nat_tests) in rw off refl

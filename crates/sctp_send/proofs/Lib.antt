@@ -20,8 +20,16 @@ pub mod AssignLemmas
 pub mod ExpireLemmas
 pub mod ExpireKept
 pub mod GoingOnLemmas
+pub mod PlaceLemmas
+pub mod TurnLemmas
 pub mod AssignedKept
 pub mod RoomLemmas
 pub mod ChunkLemmas
+pub mod EnterLemmas
 pub mod FewLemmas
 pub mod NewlyLemmas
+pub mod PutLemmas
+pub mod NewMayLemmas
+pub mod BegunPut
+pub mod ContinuedPut
+pub mod FilledLemmas

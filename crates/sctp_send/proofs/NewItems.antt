@@ -11,15 +11,7 @@ use Rattle.sctp_model.proofs.sender.PlanLaws.{AllNamed, message_new, message_sta
 use Rattle.sctp_model.proofs.sender.CountLaws.{is_named, new_kept}
 use Rattle.sctp_send.specs.SenderKept.{Item, Kept}
 use Rattle.sctp_send.specs.SenderStands.{item_here, items_from, Keeps}
-
--- a fragment that never went out
-abbrev pub new_item : Entry → Message → Item
-new_item e m = record { entry = e; message = Some m; sent = false; marked = false; covered = false; given_up = false }
-
--- so many fragments of a message, from one on
-abbrev pub new_items : Lane → (number : ℕ) → Message → (from many : ℕ) → List Item
-new_items l n m k zero = []
-new_items l n m k (suc d) = new_item (Part l n k) m ∷ new_items l n m (suc k) d
+pub use Rattle.sctp_send.specs.inner.Newcomers.{new_item, new_items}
 
 -- a view in which a message took its number
 abbrev pub numbered : SenderView → Queued → (d : ℕ) → List Queued → (turn : ℕ) → SenderView

@@ -1,6 +1,6 @@
 -- Whether the next wish may go, by what is kept: room in the packet, bytes in flight, and the window.
 use Rattle.std.proofs.Common.{◌≡◌, ℕ, suc, ◌+◌, ◌-◌, ◌<◌, ◌≤◌, List, [], ◌∷◌, ◌++◌, length, drop, Bool, true, false, Option, Some, None, refl, sym, ap, ◌∙◌, arith}
-use Rattle.std.specs.Prelude.{nat_le, ◌==◌, not, ◌&&◌, ◌||◌, if◌then◌else◌}
+use Rattle.std.specs.Prelude.{nat_le, ◌&&◌}
 use Rattle.std.proofs.lemmas.Bool.Decides.{nat_tests}
 use Rattle.sctp_model.specs.Limits.{WINDOW}
 use Rattle.sctp_model.specs.Format.{Format}
@@ -8,7 +8,7 @@ use Rattle.sctp_model.specs.Chunk.{ChunkMeaning, size_of_chunk}
 use Rattle.sctp_model.specs.Packet.{size_of_chunks, size_of_packet}
 use Rattle.sctp_model.specs.Plan.{Entry}
 use Rattle.sctp_model.specs.SenderView.{SenderView}
-use Rattle.sctp_model.specs.sender.Entries.{bytes_in, sum_from, flight_of, in_flight, in_part}
+use Rattle.sctp_model.specs.sender.Entries.{sum_from, flight_of, in_flight, in_part}
 use Rattle.sctp_model.specs.sender.Assigning.{assigned}
 use Rattle.sctp_model.specs.sender.Readers.{outstanding}
 use Rattle.sctp_model.specs.sender.Filling.{Wish, standing, newcomer, bytes_of_wish, chunk_of, room_of, may_go, goes}
@@ -20,8 +20,9 @@ use Rattle.sctp_model.proofs.sender.MarkLaws.{is_marked_well}
 use Rattle.sctp_model.proofs.sender.FlightLaws.{flight_above, flight_assigned}
 use Rattle.sctp_model.proofs.sender.OwedLaws.{is_windowed}
 use Rattle.sctp_packet.specs.Draft.{Draft, room_in, has_room, with_chunks}
-use Rattle.sctp_send.specs.SenderKept.{Item, Kept}
+use Rattle.sctp_send.specs.SenderKept.{Kept}
 use Rattle.sctp_send.specs.SenderStands.{items_from, Keeps}
+pub use Rattle.sctp_send.specs.inner.Wishing.{item_bytes, item_weight, item_flight, lets_flow}
 
 -- ---- room in the packet
 
@@ -56,23 +57,6 @@ goes_nowhere f room v none = by_goes (goes f room v) refl
 
 -- ---- bytes in flight
 
--- the data of an item
-abbrev pub item_bytes : Item → List ℕ
-item_bytes x = bytes_in x.entry x.message
-
--- how many bytes of it are in flight
-abbrev pub item_weight : Item → ℕ
-item_weight x = if not x.marked && (x.sent && (not x.covered && not x.given_up)) then length (item_bytes x) else 0
-
--- and of all items
-abbrev pub item_flight : List Item → ℕ
-item_flight [] = 0
-item_flight (x ∷ xs) = item_weight x + item_flight xs
-
--- nothing is in flight, or the peer's window has room for these bytes too
-abbrev pub lets_flow : (flight bytes rwnd : ℕ) → Bool
-lets_flow flight bytes rwnd = (flight == 0) || nat_le (flight + bytes) rwnd
-
 items_fly : (v : SenderView) (i : ℕ) (es : List Entry) → item_flight (items_from v i es) ≡ sum_from (flight_of v) i es
 items_fly v i [] = refl
 items_fly v i (e ∷ es) = ap (λ (n : ℕ). flight_of v i e + n) (items_fly v (suc i) es)
@@ -83,7 +67,7 @@ flight_kept f s v k = flight_above f v k.reached ∙ sym (items_fly v (suc v.cum
 -- ---- the tests in the order of the code
 
 -- a view that calls reach has no more outstanding than the window holds
-within_window : (f : Format) (v : SenderView) → IsReached f v → nat_le (outstanding v) WINDOW ≡ true
+pub within_window : (f : Format) (v : SenderView) → IsReached f v → nat_le (outstanding v) WINDOW ≡ true
 within_window f v h = let most = is_windowed f v h in let low = (is_bounded f v h).within in test (length v.plan.entries - v.cum + in_part v) WINDOW (omega arith)
   where
     test : (a b : ℕ) → a ≤ b → nat_le a b ≡ true

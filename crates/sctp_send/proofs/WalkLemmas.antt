@@ -86,7 +86,7 @@ total_more f size ts at x lt read =
 pub total_end : (f : Track → ℕ) (size : ℕ) (ts : List TrackFields) (at : ℕ) → length ts ≤ at → total f (drop at (map (track_meaning size) ts)) ≡ 0
 total_end f size ts at le = let long = length-map ts (track_meaning size) in ap (total f) (none_behind at (map (track_meaning size) ts) (omega arith))
 
-queue_read : (size : ℕ) (ms : List (Rc MessageFields Global)) (i : ℕ) (x : Rc MessageFields Global) → x ≡ get_or ms i x → get_or (map (queued_by size) ms) i (queued_by size x) ≡ queued_by size x
+pub queue_read : (size : ℕ) (ms : List (Rc MessageFields Global)) (i : ℕ) (x : Rc MessageFields Global) → x ≡ get_or ms i x → get_or (map (queued_by size) ms) i (queued_by size x) ≡ queued_by size x
 queue_read size ms i x read = of_map ms i x ∙ ap (queued_by size) (sym read)
   where
     of_map : (ds : List (Rc MessageFields Global)) (j : ℕ) (d : Rc MessageFields Global) → get_or (map (queued_by size) ds) j (queued_by size d) ≡ queued_by size (get_or ds j d)

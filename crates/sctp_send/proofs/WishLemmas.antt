@@ -15,19 +15,7 @@ use Rattle.sctp_model.proofs.sender.PointLaws.{get-drop}
 use Rattle.sctp_model.proofs.sender.Bounds.{IsBounded, is_bounded}
 use Rattle.sctp_send.specs.SenderKept.{Item, Kept}
 use Rattle.sctp_send.specs.SenderStands.{item_here, items_from, Keeps}
-
--- the first place at which an item passes
-abbrev pub first_place : (Item → Bool) → List Item → Option ℕ
-first_place test [] = None
-first_place test (x ∷ xs) = if test x then Some 0 else option_map suc (first_place test xs)
-
--- it is marked for repeating
-abbrev pub is_item_marked : Item → Bool
-is_item_marked x = x.marked
-
--- it never went out, and is wanted
-abbrev pub is_item_unsent : Item → Bool
-is_item_unsent x = not x.sent && (not x.covered && not x.given_up)
+pub use Rattle.sctp_send.specs.inner.Wishing.{first_place, is_item_marked, is_item_unsent}
 
 -- the items from an index on pass just where their indexes do
 abbrev Agrees : SenderView → (Item → Bool) → (ℕ → Bool) → ℕ → List Entry → Type 0

@@ -3,4 +3,5 @@ pub mod SenderStands
 pub mod OutstandingFields
 pub mod SenderFields
 pub mod SenderAnswers
+pub mod FillAnswers
 pub mod inner

@@ -3,20 +3,30 @@
 #![tactic(auto)]
 
 mod abandon;
+mod assigning;
+mod draft;
+mod entering;
 mod expire;
+mod fill;
 mod forward;
 mod message;
 mod outstanding;
+mod pieces;
+mod putting;
 mod queue;
 mod readers;
 mod sack;
 mod sender;
+mod wishes;
 
 pub use abandon::Abandoned;
+pub use fill::Filled;
 pub use message::Ticket;
 pub use queue::SendFault;
 pub use sack::SackFault;
 pub use sender::Sender;
 
+#[cfg(test)]
+mod filling_tests;
 #[cfg(test)]
 mod tests;

@@ -1,0 +1,137 @@
+-- One wish after the other: the packet and the draft after some steps, and when none may go any more.
+use Rattle.std.proofs.Common.{◌≡◌, ℕ, ◌+◌, ◌-◌, ◌≤◌, List, [], ◌∷◌, ◌++◌, length, map, Some, None, refl, sym, ap, ◌∙◌, subst, arith, append-nil, append_assoc, length-append}
+use Rattle.std.proofs.lemmas.List.{map-append}
+use Rattle.sctp_model.specs.Format.{Format}
+use Rattle.sctp_model.specs.Chunk.{ChunkMeaning}
+use Rattle.sctp_model.specs.SenderView.{SenderView}
+use Rattle.sctp_model.specs.sender.Filling.{Wish, chunk_of, room_of, goes, gone, Follows, newly_numbered}
+use Rattle.sctp_model.specs.sender.Reached.{IsReached}
+use Rattle.sctp_model.proofs.sender.FillLaws.{goes_parts, room_some, room_fits, room_after, follows_on, follows_more, stopped_is_fill}
+use Rattle.sctp_packet.specs.Draft.{Draft as PacketDraft, room_in, with_chunks}
+use Rattle.sctp_send.specs.SenderKept.{Kept}
+use Rattle.sctp_send.specs.SenderStands.{Keeps, StandsFor}
+use Rattle.sctp_send.specs.FillAnswers.{FillAnswer, PutSomeOf}
+use Rattle.sctp_send.specs.inner.Drafting.{numbers_of, drafted, IsPut, IsStopped, AllPut}
+use Rattle.sctp_send.specs.declared.draft.Draft.{Draft}
+use Rattle.sctp_send.specs.declared.fill.Filled.{Filled}
+use Rattle.sctp_send.proofs.RoomLemmas.{room_more, goes_nowhere}
+use Rattle.sctp_send.proofs.NewlyLemmas.{newly_self, newly_more}
+
+-- ---- chunks behind chunks
+
+pub chunks_joined : (p : PacketDraft) (xs ys : List ChunkMeaning) → with_chunks (with_chunks p xs) ys ≡ with_chunks p (xs ++ ys)
+chunks_joined p xs ys = ap (λ (ms : List ChunkMeaning). record p { chunks = ms }) (append_assoc p.chunks xs ys)
+
+pub no_chunks : (p : PacketDraft) → with_chunks p [] ≡ p
+no_chunks p = ap (λ (ms : List ChunkMeaning). record p { chunks = ms }) (append-nil p.chunks)
+
+-- the room that is left in the packet is what the wishes leave
+room_left : (f : Format) (p : PacketDraft) (ws : List Wish) → room_in (with_chunks p (map (chunk_of f) ws)) ≡ room_after f (room_in p) ws
+room_left f p [] = ap room_in (no_chunks p)
+room_left f p (w ∷ ws) =
+    ap room_in (sym (chunks_joined p (chunk_of f w ∷ []) (map (chunk_of f) ws))) ∙ room_left f (with_chunks p (chunk_of f w ∷ [])) ws ∙ ap (λ (n : ℕ). room_after f n ws) (room_more p (chunk_of f w))
+
+-- each wish takes room
+room_used : (f : Format) (v u : SenderView) (room : ℕ) (ws : List Wish) → Follows f v room ws u → room_after f room ws + length ws ≤ room
+room_used f v u room [] is = omega arith
+room_used f v u room (w ∷ ws) is =
+    let rest = room_used f (gone w) u (room - room_of f w) ws is.1 in
+    let some = room_some f w in
+    let fits = room_fits f room w (goes_parts f room v w is.0).1 in
+    omega (arith, rest, some, fits)
+
+-- ---- step by step
+
+-- So many wishes went: their chunks are in the packet, and the draft keeps what they leave.
+pub record IsSoFar (f : Format) (s : Kept) (v : SenderView) (p now : PacketDraft) (d : Draft) (steps : ℕ) : Type 0 where
+  pub wishes : List Wish
+  pub view : SenderView
+  pub from : IsReached f v
+  pub follows : Follows f v (room_in p) wishes view
+  pub chunks : now ≡ with_chunks p (map (chunk_of f) wishes)
+  pub keeps : Keeps f (drafted s d) view
+  pub told : numbers_of d.tickets.items ≡ newly_numbered v view
+  pub many : length wishes ≡ steps
+
+pub loop_init : (f : Format) (s : Kept) (v : SenderView) (p : PacketDraft) (d : Draft) → Keeps f (drafted s d) v → d.tickets.items ≡ [] → IsSoFar f s v p p d 0
+loop_init f s v p d k none = record {
+  wishes = [];
+  view = v;
+  from = k.reached;
+  follows = refl;
+  chunks = sym (no_chunks p);
+  keeps = k;
+  told = ap numbers_of none ∙ sym (newly_self v);
+  many = refl;
+}
+
+-- the room at a step
+room_now : (f : Format) (s : Kept) (v : SenderView) (p now : PacketDraft) (d : Draft) (steps : ℕ) → (x : IsSoFar f s v p now d steps) → room_in now ≡ room_after f (room_in p) x.wishes
+room_now f s v p now d steps x = ap room_in x.chunks ∙ room_left f p x.wishes
+
+-- chunks behind those that are there
+chunks_more : (f : Format) (p now later : PacketDraft) (ws xs : List Wish) → now ≡ with_chunks p (map (chunk_of f) ws) → later ≡ with_chunks now (map (chunk_of f) xs) → later ≡ with_chunks p (map (chunk_of f) (ws ++ xs))
+chunks_more f p now later ws xs here then =
+    then ∙ ap (λ (y : PacketDraft). with_chunks y (map (chunk_of f) xs)) here ∙ chunks_joined p (map (chunk_of f) ws) (map (chunk_of f) xs) ∙ ap (with_chunks p) (sym (map-append (chunk_of f) ws xs))
+
+pub loop_more : (f : Format) (s : Kept) (v : SenderView) (p now later : PacketDraft) (old new : Draft) (steps : ℕ) → (x : IsSoFar f s v p now old steps) → IsPut f s x.view now later old new → IsSoFar f s v p later new (steps + 1)
+loop_more f s v p now later old new steps x put =
+    let next : goes f (room_after f (room_in p) x.wishes) x.view ≡ Some put.wish = ap (λ (n : ℕ). goes f n x.view) (sym (room_now f s v p now old steps x)) ∙ put.next in
+    record {
+      wishes = x.wishes ++ put.wish ∷ [];
+      view = gone put.wish;
+      from = x.from;
+      follows = follows_more f v x.view (room_in p) x.wishes put.wish x.follows next;
+      chunks = chunks_more f p now later x.wishes (put.wish ∷ []) x.chunks put.chunk;
+      keeps = put.keeps;
+      told = put.told ∙ ap (λ (ts : List ℕ). ts ++ newly_numbered x.view (gone put.wish)) x.told ∙ sym (newly_more f v x.view (room_in p) x.wishes put.wish x.from x.follows next);
+      many = let long = length-append x.wishes (put.wish ∷ []) in let before = x.many in omega (arith, long, before);
+    }
+
+-- ---- the end
+
+-- the next wish may not go
+pub loop_stopped : (f : Format) (s : Kept) (v : SenderView) (p now later : PacketDraft) (old new : Draft) (steps : ℕ) → (x : IsSoFar f s v p now old steps) → IsStopped f s x.view now later old new → AllPut f s v p later new
+loop_stopped f s v p now later old new steps x stop =
+    let none : goes f (room_after f (room_in p) x.wishes) x.view ≡ None = ap (λ (n : ℕ). goes f n x.view) (sym (room_now f s v p now old steps x)) ∙ stop.none in
+    record {
+      wishes = x.wishes;
+      view = x.view;
+      fill = stopped_is_fill f v x.view (room_in p) x.wishes x.follows none;
+      chunks = stop.packet ∙ x.chunks;
+      keeps = subst (λ (d : Draft). Keeps f (drafted s d) x.view) (sym stop.draft) x.keeps;
+      told = ap (λ (d : Draft). numbers_of d.tickets.items) stop.draft ∙ x.told;
+    }
+
+-- as many went as there was room, so none is left
+pub loop_full : (f : Format) (s : Kept) (v : SenderView) (p now : PacketDraft) (d : Draft) (steps : ℕ) → IsSoFar f s v p now d steps → room_in p ≤ steps → AllPut f s v p now d
+loop_full f s v p now d steps x all =
+    let used = room_used f v x.view (room_in p) x.wishes x.follows in
+    let count = x.many in
+    let none = goes_nowhere f (room_after f (room_in p) x.wishes) x.view (omega (arith, used, count, all)) in
+    record { wishes = x.wishes; view = x.view; fill = stopped_is_fill f v x.view (room_in p) x.wishes x.follows none; chunks = x.chunks; keeps = x.keeps; told = x.told }
+
+-- memory ran out in a step
+pub loop_some : (f : Format) (s : Kept) (v : SenderView) (p now later : PacketDraft) (d : Draft) (steps : ℕ) → (x : IsSoFar f s v p now d steps) → PutSomeOf f x.view now later → PutSomeOf f v p later
+loop_some f s v p now later d steps x some = record {
+  wishes = x.wishes ++ some.wishes;
+  view = some.view;
+  follows = follows_on f v x.view some.view (room_in p) x.wishes some.wishes x.follows (subst (λ (n : ℕ). Follows f x.view n some.wishes some.view) (room_now f s v p now d steps x) some.follows);
+  chunks = chunks_more f p now later x.wishes some.wishes x.chunks some.chunks;
+}
+
+-- nothing went
+pub none_put : (f : Format) (v : SenderView) (p r : PacketDraft) → r ≡ p → PutSomeOf f v p r
+none_put f v p r same = record { wishes = []; view = v; follows = refl; chunks = same ∙ sym (no_chunks p) }
+
+-- the draft takes the sender's place
+pub filled_is : (f : Format) (s new : Kept) (v : SenderView) (p r : PacketDraft) (d : Draft) (filled : Filled) → AllPut f s v p r d → new ≡ drafted s d → filled.tickets ≡ d.tickets → FillAnswer f v p r new filled
+unfolding StandsFor
+filled_is f s new v p r d filled all kept tickets = record {
+  wishes = all.wishes;
+  view = all.view;
+  fill = all.fill;
+  chunks = all.chunks;
+  stands = subst (λ (y : Kept). Keeps f y all.view) (sym kept) all.keeps;
+  tickets = ap (λ (ts : _). numbers_of ts.items) tickets ∙ all.told;
+}

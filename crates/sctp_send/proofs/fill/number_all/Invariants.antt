@@ -1,0 +1,6 @@
+use Rattle.std.proofs.Common.{◌≡◌, take, drop}
+use Rattle.sctp_send.specs.inner.Drafting.{numbers_of, all_numbered}
+use Rattle.sctp_send.proofs.fill.number_all.Given as goal
+
+abbrev pub invariant-loop-ticket : goal.invariant-loop-ticket
+invariant-loop-ticket l = all_numbered l.initial.fates.items (numbers_of l.tickets) ≡ all_numbered l.fates.items (drop l.ticket-index (numbers_of l.tickets))

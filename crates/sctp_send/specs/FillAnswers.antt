@@ -1,0 +1,27 @@
+-- What `fill` answers, in terms of a view that the sender stands for.
+use Rattle.std.specs.Prelude.{◌≡◌, List, map}
+use Rattle.sctp_model.specs.Format.{Format}
+use Rattle.sctp_model.specs.SenderView.{SenderView}
+use Rattle.sctp_model.specs.sender.Filling.{Wish, IsFill, Follows, newly_numbered}
+use Rattle.sctp_model.specs.sender.SentChunks.{chunk_of}
+use Rattle.sctp_packet.specs.Draft.{Draft, room_in, with_chunks}
+use Rattle.sctp_send.specs.SenderKept.{Kept}
+use Rattle.sctp_send.specs.SenderStands.{StandsFor}
+use Rattle.sctp_send.specs.declared.fill.Filled.{Filled}
+
+-- The packet takes the chunks of FILL, the longest list of wishes that may go; the sender stands for the view that they leave; the tickets
+-- told are those of the messages that took their numbers, by first TSN.
+pub record FillAnswer (f : Format) (v : SenderView) (before after : Draft) (s : Kept) (filled : Filled) : Type 0 where
+  pub wishes : List Wish
+  pub view : SenderView
+  pub fill : IsFill f v (room_in before) wishes view
+  pub chunks : after ≡ with_chunks before (map (chunk_of f) wishes)
+  pub stands : StandsFor f s view
+  pub tickets : map (λ t. t.0) filled.tickets.items ≡ newly_numbered v view
+
+-- Some of the chunks went in, each whole: those of a beginning of FILL.
+pub record PutSomeOf (f : Format) (v : SenderView) (before after : Draft) : Type 0 where
+  pub wishes : List Wish
+  pub view : SenderView
+  pub follows : Follows f v (room_in before) wishes view
+  pub chunks : after ≡ with_chunks before (map (chunk_of f) wishes)

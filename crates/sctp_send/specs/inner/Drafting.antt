@@ -1,0 +1,155 @@
+-- What a draft of a sender keeps, and what each wish makes of it and of the packet.
+use Rattle.std.specs.Prelude.{◌≡◌, ℕ, suc, nat_lt, ◌-◌, ◌<◌, Bool, true, false, List, [], ◌∷◌, ◌++◌, ◌+◌, ◌&&◌, map, length, slice_set, Option, None, Some, option_map}
+use Rattle.std.specs.VecDeque.{deque_capacity}
+use Rattle.sctp_model.specs.Format.{Format, Kind}
+use Rattle.sctp_model.specs.Plan.{Part}
+use Rattle.sctp_model.specs.sender.Words.{when}
+use Rattle.sctp_model.specs.sender.Queueing.{cut}
+use Rattle.sctp_model.specs.sender.Assigning.{turn_of, assigned}
+use Rattle.sctp_model.specs.Chunk.{ChunkMeaning}
+use Rattle.sctp_model.specs.Framing.{data_chunk}
+use Rattle.sctp_model.specs.SenderView.{SenderView}
+use Rattle.sctp_model.specs.sender.PieceSaid.{piece_said}
+use Rattle.sctp_model.specs.sender.Filling.{Wish, standing, newcomer, next_wish, is_let_flow, goes, gone, IsFill, newly_numbered}
+use Rattle.sctp_model.specs.sender.Entries.{bytes_in}
+use Rattle.sctp_send.specs.inner.Wishing.{item_flight, lets_flow}
+use Rattle.sctp_model.specs.sender.SentChunks.{chunk_of}
+use Rattle.sctp_packet.specs.Draft.{Draft as PacketDraft, room_in, with_chunks, has_room, after_try}
+use Rattle.sctp_send.specs.SenderKept.{Item, Rest, Track, Kept}
+use Rattle.sctp_send.specs.SenderStands.{Keeps}
+use Rattle.sctp_send.specs.OutstandingFields.{was_sent, is_marked, item_meaning, lane_meaning, message_meaning, entry_meaning}
+use Rattle.sctp_send.specs.SenderFields.{queued_by, track_meaning}
+use Rattle.sctp_send.specs.inner.Newcomers.{counted_in, IsBegun, IsContinued, IsTurnBegun, IsTurnContinued}
+use Rattle.sctp_send.specs.declared.assigning.Next.{Next}
+use Rattle.sctp_send.specs.declared.assigning.Next.TheVariants.{Begins, Continues}
+use Rattle.sctp_send.specs.declared.draft.Draft.{Draft}
+use Rattle.sctp_send.specs.declared.message.Fate.{Fate}
+use Rattle.sctp_send.specs.declared.message.Fate.TheVariants.{Numbered}
+use Rattle.sctp_send.specs.declared.message.Ticket.{Ticket}
+use Rattle.sctp_send.specs.declared.message.Message.{Message as MessageFields}
+use Rattle.sctp_send.specs.declared.outstanding.Place.{Place}
+use Rattle.sctp_send.specs.declared.outstanding.Place.TheVariants.{Fragment}
+use Rattle.sctp_send.specs.declared.outstanding.Standing.{Standing}
+use Rattle.sctp_send.specs.declared.outstanding.Standing.TheVariants.{Sent}
+use Rattle.sctp_send.specs.declared.outstanding.Outstanding.{Outstanding}
+
+-- ---- what a draft keeps
+
+-- the numbers of tickets
+abbrev pub numbers_of : List Ticket → List ℕ
+numbers_of ts = map (λ t. t.0) ts
+
+-- fates, once these tickets' messages have their numbers
+abbrev pub all_numbered : List Fate → List ℕ → List Fate
+all_numbered fates [] = fates
+all_numbered fates (t ∷ ts) = all_numbered (slice_set fates (t - 1) Numbered) ts
+
+-- what a sender keeps, with a draft's parts in place of its own
+abbrev pub drafted : Kept → Draft → Kept
+drafted s d = record s {
+  turn = d.turn;
+  items = map (item_meaning s.fragment) d.outstanding.items;
+  queue = map (queued_by s.fragment) d.queue.items;
+  tracks = map (track_meaning s.fragment) d.tracks.items;
+  fates = all_numbered s.fates (numbers_of d.tickets.items);
+  capacity = deque_capacity d.outstanding;
+}
+
+-- ---- one wish
+
+-- the chunk of a fragment at an index
+abbrev pub fragment_chunk : Format → (size initial i : ℕ) → MessageFields → (number : ℕ) → Place → ChunkMeaning
+fragment_chunk f size initial i m n place = data_chunk f (piece_said f initial i (entry_meaning (lane_meaning m) n place) (Some (message_meaning size m)))
+
+-- the item of a fragment
+abbrev pub fragment_item : (size : ℕ) → MessageFields → (number fragment : ℕ) → Standing → Item
+fragment_item size m n k standing = record {
+  entry = Part (lane_meaning m) n k;
+  message = Some (message_meaning size m);
+  sent = was_sent standing;
+  marked = is_marked standing;
+  covered = false;
+  given_up = false;
+}
+
+-- what is left of a message from a fragment on
+abbrev pub rest_from : (size : ℕ) → MessageFields → (number next : ℕ) → Option Rest
+rest_from size m n next = when (nat_lt next (length (cut size m.bytes.items))) (record { entry = Part (lane_meaning m) n next; message = Some (message_meaning size m) })
+
+-- a message took its number on a stream, and so much of it is left
+abbrev pub counted_track : Kind → Option Rest → Track → Track
+counted_track k rest t = record (counted_in k t) { rest = rest }
+
+-- so much is left of the message in part of a stream
+abbrev pub left_track : Option Rest → Track → Track
+left_track rest t = record t { rest = rest }
+
+-- an entry went out
+abbrev pub went_out : Outstanding → Outstanding
+went_out e = record e { standing = Sent }
+
+-- The next wish went: its chunk is in the packet, and the draft keeps what it leaves.
+pub record IsPut (f : Format) (s : Kept) (v : SenderView) (before after : PacketDraft) (old new : Draft) : Type 0 where
+  pub wish : Wish
+  pub next : goes f (room_in before) v ≡ Some wish
+  pub chunk : after ≡ with_chunks before (chunk_of f wish ∷ [])
+  pub keeps : Keeps f (drafted s new) (gone wish)
+  pub told : numbers_of new.tickets.items ≡ numbers_of old.tickets.items ++ newly_numbered v (gone wish)
+
+-- No wish may go.
+pub record IsStopped (f : Format) (s : Kept) (v : SenderView) (before after : PacketDraft) (old new : Draft) : Type 0 where
+  pub none : goes f (room_in before) v ≡ None
+  pub packet : after ≡ before
+  pub draft : new ≡ old
+
+-- one of the two
+abbrev pub PutAnswer : Format → Kept → SenderView → (before after : PacketDraft) → (old new : Draft) → (put : Bool) → Type 0
+PutAnswer f s v before after old new true = IsPut f s v before after old new
+PutAnswer f s v before after old new false = IsStopped f s v before after old new
+
+-- the premises on which an entry goes: it is the next wish, and may flow
+pub record IsNextEntry (f : Format) (v : SenderView) (at : ℕ) : Type 0 where
+  pub next : next_wish f v ≡ Some (standing v (suc (v.cum + at)))
+  pub flows : is_let_flow (standing v (suc (v.cum + at))) ≡ true
+
+-- the same of one that never went out
+pub record IsNextUnsent (f : Format) (v : SenderView) (at : ℕ) : Type 0 where
+  pub next : next_wish f v ≡ Some (standing v (suc (v.cum + at)))
+  pub unsent : v.sent (suc (v.cum + at)) ≡ false
+
+-- nothing that has an index is to go out: then the next wish is for what is assigned next
+abbrev pub NothingStands : Format → SenderView → Type 0
+NothingStands f v = next_wish f v ≡ option_map (newcomer v) (assigned f v)
+
+-- A fragment was offered for the next index: it is in the packet exactly where it may flow and fits.
+pub record IsOffered (f : Format) (s : Kept) (d : Draft) (before after : PacketDraft) (m : MessageFields) (number fragment : ℕ) (put : Bool) : Type 0 where
+  pub answer : put ≡ (lets_flow (item_flight (map (item_meaning s.fragment) d.outstanding.items)) (length (bytes_in (Part (lane_meaning m) number fragment) (Some (message_meaning s.fragment m)))) s.rwnd
+      && has_room before (fragment_chunk f s.fragment s.initial (suc (s.cum + length d.outstanding.items)) m number (Fragment fragment)))
+  pub packet : after ≡ after_try before (fragment_chunk f s.fragment s.initial (suc (s.cum + length d.outstanding.items)) m number (Fragment fragment)) put
+
+-- All of FILL is in the packet, and the draft keeps what it leaves.
+pub record AllPut (f : Format) (s : Kept) (v : SenderView) (before after : PacketDraft) (d : Draft) : Type 0 where
+  pub wishes : List Wish
+  pub view : SenderView
+  pub fill : IsFill f v (room_in before) wishes view
+  pub chunks : after ≡ with_chunks before (map (chunk_of f) wishes)
+  pub keeps : Keeps f (drafted s d) view
+  pub told : numbers_of d.tickets.items ≡ newly_numbered v view
+
+-- what takes an index next
+abbrev pub NewAnswer : Format → SenderView → Option Next → Type 0
+NewAnswer f v None = assigned f v ≡ None
+NewAnswer f v (Some (Begins next)) = IsBegun f v next.place next.count next.turn
+NewAnswer f v (Some (Continues stream)) = IsContinued f v stream
+
+-- its place, its count or its stream is there
+abbrev pub IsNextWithin : Draft → (streams : ℕ) → Option Next → Type 0
+IsNextWithin d streams None = Unit {0}
+IsNextWithin d streams (Some (Begins next)) = (next.place < length d.queue.items) × (0 < next.count)
+IsNextWithin d streams (Some (Continues stream)) = stream < streams
+
+-- what a stream does in its turn
+abbrev pub TurnAnswer : SenderView → (stream : ℕ) → Option Next → Type 0
+TurnAnswer v stream None = turn_of v stream ≡ None
+TurnAnswer v stream (Some (Begins next)) = IsTurnBegun v stream next.place next.count next.turn
+TurnAnswer v stream (Some (Continues s)) = (s ≡ stream) × IsTurnContinued v stream

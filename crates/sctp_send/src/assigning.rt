@@ -1,0 +1,164 @@
+//! What takes an index next, found among what waits and what is in part (RFC 9260, 6.9; RFC 8260, 2.2.1).
+
+ghost use Rattle.std.specs.Prelude.{◌≡◌, ℕ, suc, ◌+◌, ◌<◌, ◌≤◌, ◌%◌, ◌^◌, true, map, length, nat_le, IfOk, IfSome};
+ghost use Rattle.sctp_model.specs.Format.{Plain, Interleaved};
+ghost use Rattle.sctp_model.specs.Limits.{WINDOW};
+ghost use Rattle.sctp_model.specs.SenderView.{SenderView};
+ghost use Rattle.sctp_send.specs.SenderKept.{Kept};
+ghost use Rattle.sctp_send.specs.SenderStands.{Keeps};
+ghost use Rattle.sctp_send.specs.SenderFields.{queued_by, track_meaning, rests_meaning};
+ghost use Rattle.sctp_send.specs.inner.Walks.{total, one_if_rest};
+ghost use Rattle.sctp_send.specs.inner.Drafting.{drafted, NewAnswer, TurnAnswer, IsNextWithin};
+ghost use Rattle.sctp_send.specs.inner.Newcomers.{rest_at, has_rest, one_if, FirstOnAnswer};
+
+use crate::draft::{Draft, copied_rest};
+use crate::message::Message;
+use crate::queue::fragments_of;
+use crate::readers::in_part;
+use crate::sender::{Rest, Track};
+use sctp_framing::Framing;
+use sctp_wire::NoMemory;
+use std::collections::VecDeque;
+use std::rc::Rc;
+
+/// The most indexes above CUM and messages in part.
+const WINDOW: usize = 32_767;
+
+/// A message that takes its number: it stands at this place of the queue, so many of its fragments take their indexes, and this stream's turn
+/// is next then.
+#[derive(Clone, Copy, Debug)]
+pub struct Beginning {
+    pub place: usize,
+    pub count: usize,
+    pub turn: u16,
+}
+
+/// What takes the next index.
+#[derive(Clone, Copy, Debug)]
+pub enum Next {
+    /// A message that has no number yet.
+    Begins(Beginning),
+    /// The next fragment of the message in part of this stream.
+    Continues(u16),
+}
+
+/// What takes the next index: under DATA the message that has waited longest, whole; under I-DATA the streams take turns.
+pub fn next_new<F: Framing>(draft: &Draft, streams: u16, size: u16) -> Option<Next>
+    requires { 0 < size }
+    ensures next { (s : Kept) (v : SenderView) → s.streams ≡ streams → s.fragment ≡ size → Keeps F.format (drafted s draft.now) v → NewAnswer F.format v result }
+    ensures within { IsNextWithin draft.now streams result }
+{
+    if F::takes_turns() {
+        next_in_turn(draft, streams)
+    } else {
+        next_whole(draft, size)
+    }
+}
+
+/// The message that has waited longest, whole.
+fn next_whole(draft: &Draft, size: u16) -> Option<Next>
+    requires { 0 < size }
+    ensures next { (s : Kept) (v : SenderView) → s.fragment ≡ size → Keeps Plain (drafted s draft.now) v → NewAnswer Plain v result }
+    ensures within { (streams : ℕ) → IsNextWithin draft.now streams result }
+{
+    if draft.queue.len() == 0 {
+        return None;
+    }
+    let message = &draft.queue[0];
+    Some(Next::Begins(Beginning {
+        place: 0,
+        count: fragments_of(size, &message.bytes).max(1),
+        turn: draft.turn,
+    }))
+}
+
+/// What the first stream in turn that has something to send does.
+fn next_in_turn(draft: &Draft, streams: u16) -> Option<Next>
+    ensures next { (s : Kept) (v : SenderView) → s.streams ≡ streams → Keeps Interleaved (drafted s draft.now) v → NewAnswer Interleaved v result }
+    ensures within { IsNextWithin draft.now streams result }
+{
+    for step in 0..streams {
+        let stream = ((u32::from(draft.turn) + u32::from(step)) % u32::from(streams)) as u16;
+        if let Some(next) = turn_of(draft, stream, streams) {
+            return Some(next);
+        }
+    }
+    None
+}
+
+/// What a stream does in its turn: it goes on with its message in part, or else begins the message that has waited longest on it.
+fn turn_of(draft: &Draft, stream: u16, streams: u16) -> Option<Next>
+    requires { stream < streams }
+    ensures does { (s : Kept) (v : SenderView) → s.streams ≡ streams → Keeps Interleaved (drafted s draft.now) v → TurnAnswer v stream result }
+    ensures within { IsNextWithin draft.now streams result }
+{
+    if goes_on_at(&draft.tracks, stream) {
+        return Some(Next::Continues(stream));
+    }
+    match first_on(&draft.queue, stream) {
+        Some(place) => Some(Next::Begins(Beginning {
+            place,
+            count: 1,
+            turn: stream_after(stream, streams),
+        })),
+        None => None,
+    }
+}
+
+/// The stream behind this one, upward and cyclic.
+pub fn stream_after(stream: u16, streams: u16) -> u16
+    requires { stream < streams }
+    ensures { result ≡ suc stream % streams }
+{
+    ((u32::from(stream) + 1) % u32::from(streams)) as u16
+}
+
+/// A stream has a message in part.
+fn goes_on_at(tracks: &[Track], stream: u16) -> bool
+    ensures { (size : ℕ) → result ≡ has_rest (rest_at (map (track_meaning size) tracks.now) stream) }
+{
+    match tracks.get(usize::from(stream)) {
+        Some(track) => track.rest.is_some(),
+        None => false,
+    }
+}
+
+/// The place of the message that has waited longest on a stream.
+fn first_on(queue: &VecDeque<Rc<Message>>, stream: u16) -> Option<usize>
+    ensures first { (size : ℕ) → FirstOnAnswer stream (map (queued_by size) queue.now.items) result }
+    ensures within { IfSome result (λ at. at < length queue.now.items) }
+{
+    for at in 0..queue.len() {
+        let message = &queue[at];
+        if message.stream == stream {
+            return Some(at);
+        }
+    }
+    None
+}
+
+/// A copy of what is left of the message in part of a stream.
+pub fn rest_of(tracks: &[Track], stream: u16) -> Result<Option<Rest>, NoMemory>
+    ensures { (size : ℕ) → IfOk result (λ rest. rests_meaning size rest ≡ rest_at (map (track_meaning size) tracks.now) stream) }
+{
+    match tracks.get(usize::from(stream)) {
+        Some(track) => copied_rest(&track.rest),
+        None => Ok(None),
+    }
+}
+
+/// So many indexes more keep within the window, where the stream then has a message in part or not.
+pub fn has_window(draft: &Draft, stream: u16, count: usize, more: bool) -> bool
+    requires { 0 < count }
+    ensures fits { (size : ℕ) → result ≡ nat_le (length draft.now.outstanding.items + count + (total (λ t. one_if_rest t.rest) (map (track_meaning size) draft.now.tracks.items) % 2 ^ 32 + one_if more))
+        (WINDOW + one_if (has_rest (rest_at (map (track_meaning size) draft.now.tracks.items) stream))) }
+    ensures few { result ≡ true → count ≤ 32_768 }
+{
+    let outstanding = draft.outstanding.len();
+    if outstanding > WINDOW || count > WINDOW + 1 {
+        return false;
+    }
+    let parts = in_part(&draft.tracks) as usize + usize::from(more);
+    let had = usize::from(goes_on_at(&draft.tracks, stream));
+    outstanding + count + parts <= WINDOW + had
+}

@@ -1,0 +1,91 @@
+//! A fragment's bytes and its chunk (RFC 9260, 3.3.1 and 6.9; RFC 8260, 2.1).
+
+ghost use Rattle.std.specs.Prelude.{◌≡◌, ℕ, ◌<◌, ◌≤◌, IfOk, OnErr, Some};
+ghost use Rattle.sctp_model.specs.Format.{Lane};
+ghost use Rattle.sctp_model.specs.Serial as serial;
+ghost use Rattle.sctp_model.specs.sender.Entries.{entry_fragment, bytes_in};
+ghost use Rattle.sctp_packet.specs.Draft.{has_room, after_try};
+ghost use Rattle.sctp_send.specs.OutstandingFields.{message_meaning, entry_meaning};
+ghost use Rattle.sctp_send.specs.inner.Drafting.{fragment_chunk};
+
+use crate::message::Message;
+use crate::outstanding::Place;
+use crate::queue::fragments_of;
+use sctp_framing::Framing;
+use sctp_packet::PacketWriter;
+use sctp_wire::{NoMemory, Piece};
+
+/// The bytes of a fragment: a range of its message's. An end mark has none.
+pub fn bytes_of(message: &Message, place: Place, size: u16) -> &[u8]
+    requires { 0 < size }
+    ensures { (l : Lane) (n : ℕ) → result.now ≡ bytes_in (entry_meaning l n place) (Some (message_meaning size message.now)) }
+{
+    let bytes = message.bytes.as_slice();
+    match place {
+        Place::Fragment(fragment) => {
+            let from = (fragment as usize * usize::from(size)).min(bytes.len());
+            let to = (from + usize::from(size)).min(bytes.len());
+            &bytes[from..to]
+        }
+        Place::EndMark => &bytes[0..0],
+    }
+}
+
+/// Which fragment of its message it is; an end mark counts as the first.
+fn fragment_of(place: Place) -> u32
+    ensures { (l : Lane) (n : ℕ) → result ≡ entry_fragment (entry_meaning l n place) }
+{
+    match place {
+        Place::Fragment(fragment) => fragment,
+        Place::EndMark => 0,
+    }
+}
+
+/// The stream of a message.
+fn stream_of(message: &Message) -> u16
+    ensures { result ≡ message.now.stream }
+{
+    message.stream
+}
+
+/// The payload id of a message.
+fn payload_of(message: &Message) -> u32
+    ensures { result ≡ message.now.payload_id }
+{
+    message.payload_id
+}
+
+/// Puts the chunk of a fragment into a packet, if it fits.
+///
+/// # Errors
+/// `NoMemory`; the packet is then as before.
+pub fn put_fragment<F: Framing>(
+    message: &Message,
+    number: u32,
+    place: Place,
+    size: u16,
+    tsn: u32,
+    packet: &mut PacketWriter,
+) -> Result<bool, NoMemory>
+    requires some { 0 < size }
+    requires short { size ≤ 1400 }
+    ensures answer { (initial i : ℕ) → tsn ≡ serial.tsn initial i → IfOk result (λ put. put ≡ has_room packet.old (fragment_chunk F.format size initial i message.now number place)) }
+    ensures after { (initial i : ℕ) → tsn ≡ serial.tsn initial i → IfOk result (λ put. packet.new ≡ after_try packet.old (fragment_chunk F.format size initial i message.now number place) put) }
+    ensures unchanged { OnErr result (packet.new ≡ packet.old) }
+{
+    let fragment = fragment_of(place);
+    let stream = stream_of(message);
+    let payload_id = payload_of(message);
+    let piece = Piece {
+        immediate: false,
+        unordered: message.unordered,
+        begin: fragment == 0,
+        end: fragment as usize + 1 == fragments_of(size, &message.bytes),
+        tsn,
+        stream,
+        number: F::wire_number(message.unordered, number),
+        word: F::wire_word(payload_id, fragment),
+        bytes: bytes_of(message, place, size),
+    };
+    packet.try_chunk(&F::data_chunk(piece))
+}

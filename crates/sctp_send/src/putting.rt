@@ -1,0 +1,191 @@
+//! One wish after the other goes into a packet, and into a draft (RFC 9260, 6.1 and 6.3.3; RFC 8260, 2.2).
+
+ghost use Rattle.std.specs.Prelude.{◌≡◌, suc, ◌+◌, ◌<◌, length, IfOk, OnErr};
+ghost use Rattle.sctp_model.specs.SenderView.{SenderView};
+ghost use Rattle.sctp_model.specs.Serial.{tsn};
+ghost use Rattle.sctp_send.specs.SenderStands.{Keeps};
+ghost use Rattle.sctp_send.specs.FillAnswers.{PutSomeOf};
+ghost use Rattle.sctp_send.specs.inner.Drafting.{drafted, went_out, PutAnswer, IsNextEntry, IsNextUnsent, NothingStands, IsOffered};
+ghost use Rattle.sctp_send.specs.inner.Newcomers.{IsBegun, IsContinued};
+
+use crate::assigning::{Beginning, Next, has_window, next_new, rest_of};
+use crate::draft::{Draft, shared};
+use crate::entering::number_next;
+use crate::message::Message;
+use crate::outstanding::{Outstanding, Place, Standing};
+use crate::pieces::{bytes_of, put_fragment};
+use crate::queue::fragments_of;
+use crate::sack::tsn_of;
+use crate::sender::Sender;
+use crate::wishes::{first_marked, first_unsent, may_flow};
+use sctp_framing::Framing;
+use sctp_packet::PacketWriter;
+use sctp_wire::NoMemory;
+use std::rc::Rc;
+
+impl<F: Framing> Sender<F> {
+    /// Puts the next wish into the packet; false where there is none that may go.
+    pub(crate) fn put_next(
+        &self,
+        draft: &mut Draft,
+        packet: &mut PacketWriter,
+    ) -> Result<bool, NoMemory>
+        ensures put { (v : SenderView) → Keeps F.format (drafted self.now draft.old) v
+            → IfOk result (λ put. PutAnswer F.format self.now v packet.old packet.new draft.old draft.new put) }
+        ensures some { (v : SenderView) → Keeps F.format (drafted self.now draft.old) v → OnErr result (PutSomeOf F.format v packet.old packet.new) }
+    {
+        if let Some(at) = first_marked(&draft.outstanding) {
+            return self.put_entry(draft, at, packet);
+        }
+        if let Some(at) = first_unsent(&draft.outstanding) {
+            return self.put_unsent(draft, at, packet);
+        }
+        match next_new::<F>(draft, self.streams, self.fragment) {
+            Some(Next::Begins(next)) => self.put_begun(draft, next, packet),
+            Some(Next::Continues(stream)) => self.put_continued(draft, stream, packet),
+            None => Ok(false),
+        }
+    }
+
+    /// Puts the entry at this offset, where it fits.
+    fn put_entry(
+        &self,
+        draft: &mut Draft,
+        at: usize,
+        packet: &mut PacketWriter,
+    ) -> Result<bool, NoMemory>
+        requires { at < length draft.old.outstanding.items }
+        ensures put { (v : SenderView) → Keeps F.format (drafted self.now draft.old) v → IsNextEntry F.format v at
+            → IfOk result (λ put. PutAnswer F.format self.now v packet.old packet.new draft.old draft.new put) }
+        ensures unchanged { OnErr result (packet.new ≡ packet.old) }
+    {
+        let entry = &draft.outstanding[at];
+        let tsn = self.tsn_at(at);
+        let put = put_fragment::<F>(
+            &entry.message,
+            entry.number,
+            entry.place,
+            self.fragment,
+            tsn,
+            packet,
+        )?;
+        if put {
+            send_out(&mut draft.outstanding[at]);
+        }
+        Ok(put)
+    }
+
+    /// Puts the entry at this offset for the first time, where it fits and may flow.
+    fn put_unsent(
+        &self,
+        draft: &mut Draft,
+        at: usize,
+        packet: &mut PacketWriter,
+    ) -> Result<bool, NoMemory>
+        requires { at < length draft.old.outstanding.items }
+        ensures put { (v : SenderView) → Keeps F.format (drafted self.now draft.old) v → IsNextUnsent F.format v at
+            → IfOk result (λ put. PutAnswer F.format self.now v packet.old packet.new draft.old draft.new put) }
+        ensures unchanged { OnErr result (packet.new ≡ packet.old) }
+    {
+        let entry = &draft.outstanding[at];
+        let bytes = bytes_of(&entry.message, entry.place, self.fragment).len();
+        if !may_flow(&draft.outstanding, self.fragment, bytes, self.rwnd) {
+            return Ok(false);
+        }
+        self.put_entry(draft, at, packet)
+    }
+
+    /// A message takes its number, where its first fragment fits and may flow, and the window has room for all that take an index.
+    fn put_begun(
+        &self,
+        draft: &mut Draft,
+        next: Beginning,
+        packet: &mut PacketWriter,
+    ) -> Result<bool, NoMemory>
+        requires place { next.place < length draft.old.queue.items }
+        requires some { 0 < next.count }
+        ensures put { (v : SenderView) → Keeps F.format (drafted self.now draft.old) v → NothingStands F.format v → IsBegun F.format v next.place next.count next.turn
+            → IfOk result (λ put. PutAnswer F.format self.now v packet.old packet.new draft.old draft.new put) }
+        ensures some { (v : SenderView) → Keeps F.format (drafted self.now draft.old) v → NothingStands F.format v → IsBegun F.format v next.place next.count next.turn
+            → OnErr result (PutSomeOf F.format v packet.old packet.new) }
+    {
+        let message = shared(&draft.queue[next.place])?;
+        let Some(track) = draft.tracks.get(usize::from(message.stream)) else {
+            return Ok(false);
+        };
+        let number = number_next(track, message.unordered);
+        let more = next.count < fragments_of(self.fragment, &message.bytes);
+        if !has_window(draft, message.stream, next.count, more) {
+            return Ok(false);
+        }
+        if !self.put_newcomer(draft, &message, number, 0, packet)? {
+            return Ok(false);
+        }
+        self.begin(draft, next, &message, number)?;
+        Ok(true)
+    }
+
+    /// The message in part of a stream takes its next index, where its fragment fits and may flow.
+    fn put_continued(
+        &self,
+        draft: &mut Draft,
+        stream: u16,
+        packet: &mut PacketWriter,
+    ) -> Result<bool, NoMemory>
+        requires { stream < self.now.streams }
+        ensures put { (v : SenderView) → Keeps F.format (drafted self.now draft.old) v → NothingStands F.format v → IsContinued F.format v stream
+            → IfOk result (λ put. PutAnswer F.format self.now v packet.old packet.new draft.old draft.new put) }
+        ensures some { (v : SenderView) → Keeps F.format (drafted self.now draft.old) v → NothingStands F.format v → IsContinued F.format v stream
+            → OnErr result (PutSomeOf F.format v packet.old packet.new) }
+    {
+        let Some(rest) = rest_of(&draft.tracks, stream)? else {
+            return Ok(false);
+        };
+        let next = rest.fragment.wrapping_add(1);
+        let more = (next as usize) < fragments_of(self.fragment, &rest.message.bytes);
+        if !has_window(draft, stream, 1, more) {
+            return Ok(false);
+        }
+        if !self.put_newcomer(draft, &rest.message, rest.number, rest.fragment, packet)? {
+            return Ok(false);
+        }
+        self.go_on(draft, stream, &rest)?;
+        Ok(true)
+    }
+
+    /// Puts a fragment that is to take the next index, where it fits and may flow.
+    fn put_newcomer(
+        &self,
+        draft: &Draft,
+        message: &Rc<Message>,
+        number: u32,
+        fragment: u32,
+        packet: &mut PacketWriter,
+    ) -> Result<bool, NoMemory>
+        ensures put { IfOk result (λ put. IsOffered F.format self.now draft.now packet.old packet.new message.now.value number fragment put) }
+        ensures unchanged { OnErr result (packet.new ≡ packet.old) }
+    {
+        let place = Place::Fragment(fragment);
+        let bytes = bytes_of(message, place, self.fragment).len();
+        if !may_flow(&draft.outstanding, self.fragment, bytes, self.rwnd) {
+            return Ok(false);
+        }
+        let tsn = self.tsn_at(draft.outstanding.len());
+        put_fragment::<F>(message, number, place, self.fragment, tsn, packet)
+    }
+
+    /// The TSN of the entry at this offset.
+    fn tsn_at(&self, at: usize) -> u32
+        ensures { result ≡ tsn self.now.initial (suc (self.now.cum + at)) }
+    {
+        let offset = (at % 0x1_0000_0000) as u32;
+        tsn_of(self.initial, self.cum.wrapping_add(offset).wrapping_add(1))
+    }
+}
+
+/// An entry goes out.
+fn send_out(entry: &mut Outstanding)
+    ensures { entry.new ≡ went_out entry.old }
+{
+    entry.standing = Standing::Sent;
+}
