@@ -28,8 +28,3 @@ pub use laws::{
 pub use message::Message;
 pub use receiver::Receiver;
 pub use sack::SackLists;
-
-#[cfg(test)]
-mod forward_tests;
-#[cfg(test)]
-mod tests;

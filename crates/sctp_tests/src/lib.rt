@@ -32,6 +32,10 @@ mod pairs;
 #[cfg(test)]
 mod printed;
 #[cfg(test)]
+mod receiver;
+#[cfg(test)]
+mod receiver_forwards;
+#[cfg(test)]
 mod script_lines;
 #[cfg(test)]
 mod serial;

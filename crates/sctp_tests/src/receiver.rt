@@ -1,9 +1,8 @@
 //! What chunks are answered and hand over, in both formats, and the worst that a peer can do to the runs.
 
-use crate::seen::Seen;
-use crate::{Answer, Message, Receiver};
 use sctp_framing::{DataFraming, Framing, IDataFraming};
-use sctp_wire::Piece;
+use sctp_recv::{Answer, Message, Receiver};
+use sctp_wire::{GapBlock, Piece};
 use std::alloc::Global;
 use std::process::Abort;
 use std::test::Fail;
@@ -158,18 +157,46 @@ fn fragments_of_unordered_messages_come_in_any_order(rt: HostRuntime) -> Result<
 
 #[test]
 fn every_other_index_makes_as_many_runs_as_there_can_be(rt: HostRuntime) -> Result<(), Fail> {
-    let mut seen = Seen::new(rt.alloc());
+    let mut receiver: Receiver<DataFraming> = Receiver::new(rt.alloc(), 1, 1, 65_536)?;
     for i in 1..16_384_u32 {
-        seen.add(2 * i)?;
+        // Its number is behind the stream's next one: it is recorded, and nothing is kept.
+        assert_eq!(rt;
+            receiver.on_data(&whole(2 * i, 65_535, b"x"))?,
+            Answer::Passed
+        );
     }
-    assert_eq!(rt; seen.run_count(), 16_383);
-    let mut blocks = Vec::new(rt.alloc());
-    seen.put_blocks(&mut blocks)?;
-    assert_eq!(rt; blocks.len(), 256);
-    assert_eq!(rt; &blocks[..4], [0, 2, 0, 2].as_slice());
-    assert_eq!(rt; &blocks[252..], [0, 128, 0, 128].as_slice());
-    seen.add(1)?;
-    assert_eq!(rt; seen.cumulative(), 2);
-    assert_eq!(rt; seen.run_count(), 16_382);
+    assert_eq!(rt; receiver.run_count(), 16_383);
+    assert_eq!(rt; sack_of(&receiver)?, (0, 65_536, 64, 0));
+    assert_eq!(rt; receiver.on_data(&whole(32_768, 0, b"x"))?, Answer::Ahead);
+    assert_eq!(rt; receiver.on_data(&whole(1, 0, b"one"))?, Answer::Taken);
+    assert_eq!(rt; receiver.cumulative(), 2);
+    assert_eq!(rt; receiver.run_count(), 16_382);
+    Ok(())
+}
+
+#[test]
+fn the_blocks_of_a_sack_are_the_lowest_runs(rt: HostRuntime) -> Result<(), Fail> {
+    let mut receiver: Receiver<DataFraming> = Receiver::new(rt.alloc(), 1, 1, 65_536)?;
+    for i in 1..66_u32 {
+        assert_eq!(rt;
+            receiver.on_data(&whole(2 * i, 65_535, b"x"))?,
+            Answer::Passed
+        );
+    }
+    let lists = receiver.sack()?;
+    let blocks = lists.view().blocks;
+    assert_eq!(rt; blocks.len(), 64);
+    assert_eq!(rt; blocks.iter().next(), Some(GapBlock { start: 2, end: 2 }));
+    let mut last = None;
+    for block in blocks.iter() {
+        last = Some(block);
+    }
+    assert_eq!(rt;
+        last,
+        Some(GapBlock {
+            start: 128,
+            end: 128
+        })
+    );
     Ok(())
 }

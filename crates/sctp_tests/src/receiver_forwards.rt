@@ -2,9 +2,9 @@
 
 ghost use Rattle.std.specs.Prelude.{◌≡◌, ◌%◌, length};
 
-use crate::tests::{expect, unordered, whole};
-use crate::{Answer, ForwardAnswer, Receiver};
+use crate::receiver::{expect, unordered, whole};
 use sctp_framing::{DataFraming, Framing, IDataFraming};
+use sctp_recv::{Answer, ForwardAnswer, Receiver};
 use sctp_wire::{Forward, Piece, SkipForm, Skips};
 use std::alloc::Global;
 use std::process::Abort;
