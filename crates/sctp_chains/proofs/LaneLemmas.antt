@@ -1,0 +1,1 @@
+-- (as yet empty)

@@ -1,0 +1,16 @@
+mod ListLemmas
+mod SameLemmas
+mod MemoryLemmas
+mod CellLemmas
+mod ChainLemmas
+mod FilingLemmas
+mod JoiningLemmas
+mod FindingLemmas
+mod SearchLemmas
+mod SizeLemmas
+mod DroppingLemmas
+mod TrimLemmas
+mod GoingLemmas
+mod RankLemmas
+mod WholeLemmas
+mod LaneLemmas
