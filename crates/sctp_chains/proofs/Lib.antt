@@ -14,3 +14,6 @@ mod GoingLemmas
 mod RankLemmas
 mod WholeLemmas
 mod LaneLemmas
+mod HeldLemmas
+mod TakeLemmas
+mod WithLemmas

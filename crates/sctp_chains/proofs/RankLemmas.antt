@@ -24,7 +24,7 @@ place_small Interleaved l x h = small x.begin x.word h.word
     small false w less = less
 
 -- of two messages of a lane with one key the numbers are one
-one_number : (b : Bool) (m n : Option ℕ) → is_some m ≡ b → is_some n ≡ b → key_of m ≡ key_of n → m ≡ n
+pub one_number : (b : Bool) (m n : Option ℕ) → is_some m ≡ b → is_some n ≡ b → key_of m ≡ key_of n → m ≡ n
 one_number b None None p q same = refl
 one_number b None (Some n) p q same = absurd (let e : false ≡ true = p ∙ sym q in cc)
 one_number b (Some m) None p q same = absurd (let e : true ≡ false = p ∙ sym q in cc)
