@@ -1,7 +1,6 @@
 -- Chains in their order: what they hold, and how one takes the place of others.
-use Rattle.std.proofs.Common.{◌==◌, ◌≡◌, ℕ, zero, suc, ◌+◌, ◌-◌, ◌<◌, ◌≤◌, ◌⊎◌, Bool, true, false, List, [], ◌∷◌, ◌++◌, map, length, Option, Some, None, inl, inr, refl, sym, ◌∙◌, ap, subst, arith}
+use Rattle.std.proofs.Common.{◌==◌, ◌≡◌, ℕ, suc, ◌+◌, ◌-◌, ◌<◌, ◌≤◌, ◌⊎◌, Bool, true, false, List, [], ◌∷◌, ◌++◌, map, length, Option, Some, None, inl, inr, refl, sym, ◌∙◌, ap, subst, arith}
 use Rattle.std.proofs.lemmas.Bool.Decides.{nat_tests}
-use Rattle.std.proofs.lemmas.Grind.{common_steps}
 use Rattle.std.proofs.lemmas.List.{map-append, length-append}
 use Rattle.std.proofs.lemmas.Bool.{and_parts}
 use Rattle.std.specs.Prelude.{◌&&◌, not, is_some}
@@ -9,7 +8,7 @@ use Rattle.sctp_model.specs.Lists.{Has, AreInOrder, joined}
 use Rattle.sctp_chains.specs.Cells.{Cell}
 use Rattle.sctp_chains.specs.Links.{ChainKept, cells_from, cells_in, cells_of, is_linked, join, IsChain, IsBelow, AreChains}
 use Rattle.sctp_chains.specs.declared.chain.Head.{Head}
-use Rattle.sctp_chains.proofs.ListLemmas.{in_front, in_back, in_part, in_around, in_midst, order_front, order_back, order_across, order_join, either_order, joined_parts}
+use Rattle.sctp_chains.proofs.ListLemmas.{in_front, in_back, in_part, order_front, order_back, order_across, order_join, either_order, joined_parts}
 use Rattle.sctp_chains.proofs.CellLemmas.{cell_ranks, one_cell, cells_join}
 
 -- ---- what they hold

@@ -1,19 +1,16 @@
 -- Fragments that go: a chain taken out, chains up to a rank, and the front of a chain.
-use Rattle.std.proofs.Common.{◌≡◌, ℕ, zero, suc, ◌+◌, ◌-◌, ◌<◌, ◌≤◌, ◌⊎◌, Bool, true, false, List, [], ◌∷◌, ◌++◌, length, get_or, set, take, drop, filter, None, inl, inr, refl, sym, ◌∙◌, ap, subst, arith}
+use Rattle.std.proofs.Common.{◌≡◌, ℕ, zero, suc, ◌+◌, ◌-◌, ◌<◌, ◌≤◌, true, false, List, [], ◌∷◌, ◌++◌, length, get_or, take, drop, filter, inl, inr, refl, sym, ◌∙◌, ap, subst, arith}
 use Rattle.std.specs.List.{remove}
-use Rattle.std.proofs.lemmas.Bool.{cases_lt}
 use Rattle.std.proofs.lemmas.Bool.Decides.{nat_tests}
 use Rattle.std.proofs.lemmas.Grind.{common_steps}
-use Rattle.std.proofs.lemmas.List.{set_split, length-drop}
-use Rattle.sctp_model.specs.Lists.{Has, AreInOrder}
-use Rattle.sctp_chains.specs.Same.{total}
+use Rattle.sctp_model.specs.Lists.{Has}
 use Rattle.sctp_chains.specs.Cells.{Cell}
-use Rattle.sctp_chains.specs.Links.{ChainKept, cells_in, cells_of, is_linked, IsChain, IsBelow, AreChains}
-use Rattle.sctp_chains.specs.inner.LettingGo.{size_of_cells, size_of_parts, is_outside, passing, Leaves, IsCut, LetsGo, TakesOut, trimmed}
-use Rattle.sctp_chains.proofs.ListLemmas.{in_front, in_back, in_part, in_around, in_midst, around, here_first, halves, dropped_has, none_dropped, take_removed, drop_removed, at_same, filter_parts, filter_all, filter_none, filter_twice, order_front, order_back, order_across}
+use Rattle.sctp_chains.specs.Links.{ChainKept, cells_in, cells_of, IsChain, IsBelow, AreChains}
+use Rattle.sctp_chains.specs.inner.LettingGo.{size_of_cells, size_of_parts, is_outside, passing, Leaves, TakesOut}
+use Rattle.sctp_chains.proofs.ListLemmas.{in_part, in_midst, around, take_removed, drop_removed, at_same, filter_parts, filter_all, filter_none, order_back, order_across}
 use Rattle.sctp_chains.proofs.SameLemmas.{total_parts}
-use Rattle.sctp_chains.proofs.CellLemmas.{cells_size, cells_behind}
-use Rattle.sctp_chains.proofs.ChainLemmas.{chain_order, chain_ranks, cells_parts, cell_chain, far_apart, left_out, replaced}
+use Rattle.sctp_chains.proofs.CellLemmas.{cells_size}
+use Rattle.sctp_chains.proofs.ChainLemmas.{chain_order, chain_ranks, cells_parts, cell_chain, left_out}
 
 pub outside_low : (low high r : ℕ) → r < low → is_outside low high r ≡ true
 outside_low low high r less = grind (arith, less, nat_tests, common_steps)

@@ -1,5 +1,5 @@
 -- A fragment is filed: in each of four ways the chains have one fragment more.
-use Rattle.std.proofs.Common.{◌≡◌, ℕ, zero, suc, ◌+◌, ◌<◌, ◌≤◌, ◌⊎◌, Bool, true, false, List, [], ◌∷◌, ◌++◌, length, get_or, set, take, drop, Some, None, inl, inr, refl, sym, ◌∙◌, ap, subst, append_assoc, arith}
+use Rattle.std.proofs.Common.{◌≡◌, ℕ, zero, suc, ◌<◌, ◌≤◌, true, false, List, [], ◌∷◌, ◌++◌, length, get_or, set, take, drop, Some, None, inl, inr, refl, sym, ◌∙◌, ap, subst, append_assoc, arith}
 use Rattle.std.specs.List.{remove}
 use Rattle.std.proofs.lemmas.Bool.{cases_lt}
 use Rattle.std.proofs.lemmas.List.{set_split}
@@ -11,7 +11,7 @@ use Rattle.sctp_chains.specs.inner.Filing.{IsPlace, Avoids, IsLinkBefore, IsLink
 use Rattle.sctp_chains.proofs.ListLemmas.{in_front, in_back, in_part, in_around, in_midst, around, here_first, at_same, take_one, set_removed, taken_has, dropped_has, none_dropped, order_across, order_back, halves}
 use Rattle.sctp_chains.proofs.SameLemmas.{same_as, same_through, same_back, same_midst, same_before, same_behind}
 use Rattle.sctp_chains.proofs.CellLemmas.{cell_there}
-use Rattle.sctp_chains.proofs.ChainLemmas.{chain_order, cells_parts, chain_cell, linked_says, far_apart, joined_chain, joined_cells, replaced}
+use Rattle.sctp_chains.proofs.ChainLemmas.{chain_order, cells_parts, chain_cell, far_apart, joined_chain, joined_cells, replaced}
 
 -- ---- where the fragment belongs
 

@@ -1,15 +1,14 @@
 -- Chains that go, as they lie in memory.
-use Rattle.std.proofs.Common.{◌≡◌, ℕ, suc, ◌-◌, ◌<◌, ◌≤◌, List, [], ◌∷◌, ◌++◌, length, get_or, set, take, drop, map, inl, inr, refl, sym, ◌∙◌, ap, subst, arith}
+use Rattle.std.proofs.Common.{◌≡◌, ℕ, suc, ◌-◌, ◌<◌, ◌≤◌, List, length, get_or, set, take, map, sym, ◌∙◌, ap, subst, arith}
 use Rattle.std.specs.List.{remove}
-use Rattle.sctp_model.specs.Lists.{Has}
-use Rattle.sctp_chains.specs.Links.{ChainKept, chain_of, AreChains, IsChain}
+use Rattle.sctp_chains.specs.Links.{ChainKept, chain_of}
 use Rattle.sctp_chains.specs.declared.chain.Chain.{Chain}
-use Rattle.sctp_chains.specs.inner.LettingGo.{size_of_parts, IsCut, LetsGo, TakesOut, Trims, trimmed}
-use Rattle.sctp_chains.proofs.ListLemmas.{at_same, none_dropped, dropped_has}
+use Rattle.sctp_chains.specs.inner.LettingGo.{size_of_parts, LetsGo, TakesOut, Trims}
+use Rattle.sctp_chains.proofs.ListLemmas.{none_dropped, dropped_has}
 use Rattle.sctp_chains.proofs.MemoryLemmas.{at_kept, length_kept, set_kept, remove_kept}
 use Rattle.sctp_chains.proofs.DroppingLemmas.{takes_out}
 use Rattle.sctp_chains.proofs.SearchLemmas.{not_lower, stands_in}
-use Rattle.sctp_chains.proofs.TrimLemmas.{IsDropped, Drops, drops_more, drops_end, drops_front}
+use Rattle.sctp_chains.proofs.TrimLemmas.{Drops, drops_more, drops_end, drops_front}
 
 module _ (cs : List Chain) (k : ℕ) (x : Chain) (l : k < length cs) (at : x ≡ get_or cs k x) where
   within : k < length (map chain_of cs)

@@ -1,22 +1,21 @@
 -- A fragment that is kept already, and a fragment to be filed.
-use Rattle.std.proofs.Common.{get_or, length, ◌≡◌, ℕ, zero, suc, ◌+◌, ◌<◌, ◌≤◌, ◌⊎◌, Bool, true, false, ◌==◌, List, [], ◌∷◌, Option, Some, None, inl, inr, refl, sym, ◌∙◌, ap, subst, arith}
-use Rattle.std.specs.Prelude.{◌&&◌, ◌||◌}
+use Rattle.std.proofs.Common.{get_or, length, ◌≡◌, ℕ, ◌<◌, ◌≤◌, Bool, true, false, ◌==◌, List, [], ◌∷◌, Option, Some, None, inl, inr, refl, sym, ◌∙◌, ap, subst, arith}
+use Rattle.std.specs.Prelude.{◌&&◌}
 use Rattle.std.proofs.lemmas.Bool.{cases_Bool, eq-eqb, and_parts, or_right}
 use Rattle.std.proofs.lemmas.Bool.Decides.{nat_tests}
-use Rattle.std.proofs.lemmas.Grind.{common_steps}
 use Rattle.sctp_model.specs.Lists.{Has}
 use Rattle.sctp_model.specs.Format.{Format, Plain, Interleaved, Lane, Unordered, is_numbered, same_lane}
 use Rattle.sctp_model.specs.Framing.{place_in}
 use Rattle.sctp_model.specs.Pieces.{Piece, same_number, fragment_of}
 use Rattle.sctp_model.specs.receiver.PieceTaken.{are_one_fragment, is_held, is_repeated}
-use Rattle.sctp_model.proofs.receiver.RowFacts.{lane_same, lanes_same}
+use Rattle.sctp_model.proofs.receiver.RowFacts.{lane_same}
 use Rattle.sctp_chains.specs.Cells.{Cell, key_of, rank_at, rank_of, cell_of, IsOf}
-use Rattle.sctp_chains.specs.Links.{ChainKept, cells_in, one_of, is_linked, AreChains}
+use Rattle.sctp_chains.specs.Links.{ChainKept, cells_in, one_of, AreChains}
 use Rattle.sctp_chains.specs.StandsFor.{KeepsLane}
 use Rattle.sctp_chains.specs.declared.chain.Part.{Part}
 use Rattle.sctp_chains.specs.inner.Filing.{IsPlace}
 use Rattle.sctp_chains.specs.inner.Finding.{IsIn}
-use Rattle.sctp_chains.proofs.ListLemmas.{at_same, dropped_has, none_dropped}
+use Rattle.sctp_chains.proofs.ListLemmas.{none_dropped}
 use Rattle.sctp_chains.proofs.CellLemmas.{cell_there}
 use Rattle.sctp_chains.proofs.ChainLemmas.{chain_ranks, cell_chain, chain_cell}
 use Rattle.sctp_chains.proofs.RankLemmas.{same_rank}

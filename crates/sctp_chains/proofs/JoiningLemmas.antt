@@ -1,5 +1,5 @@
 -- A fragment is filed among chains as they lie in memory.
-use Rattle.std.proofs.Common.{◌≡◌, ℕ, suc, ◌<◌, ◌≤◌, List, [], ◌∷◌, ◌++◌, length, get_or, set, take, drop, map, Some, None, refl, sym, ◌∙◌, ap, subst, arith}
+use Rattle.std.proofs.Common.{◌≡◌, ℕ, ◌<◌, ◌≤◌, List, ◌∷◌, ◌++◌, length, get_or, set, take, drop, map, Some, None, refl, sym, ◌∙◌, ap, subst, arith}
 use Rattle.std.specs.List.{insert, remove}
 use Rattle.sctp_chains.specs.Links.{ChainKept, chain_of, one_of, join, IsChain, AreChains}
 use Rattle.sctp_chains.specs.declared.chain.Chain.{Chain}

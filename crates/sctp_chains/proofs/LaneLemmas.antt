@@ -1,24 +1,23 @@
 -- What chains stand for: a chunk more, and what stays when some go.
-use Rattle.std.proofs.Common.{◌≡◌, ℕ, zero, suc, ◌+◌, ◌-◌, ◌*◌, ◌^◌, ◌<◌, ◌≤◌, ◌⊎◌, Bool, true, false, nat_lt, nat_le, List, [], ◌∷◌, ◌++◌, map, length, filter, take, drop, Option, Some, None, inl, inr, refl, sym, ◌∙◌, ap, subst, arith}
+use Rattle.std.proofs.Common.{◌≡◌, ℕ, suc, ◌+◌, ◌-◌, ◌*◌, ◌^◌, ◌<◌, Bool, true, false, nat_lt, nat_le, List, [], ◌∷◌, ◌++◌, map, length, filter, Option, Some, None, inl, inr, refl, sym, ◌∙◌, ap, subst, arith}
 use Rattle.std.specs.Prelude.{not, is_some}
 use Rattle.std.proofs.lemmas.Bool.{cases_lt}
 use Rattle.std.proofs.lemmas.Bool.Decides.{nat_tests}
-use Rattle.std.proofs.lemmas.Grind.{common_steps}
 use Rattle.sctp_model.specs.Lists.{Has}
-use Rattle.sctp_model.specs.Format.{Format, Plain, Interleaved, Lane, Kind, Ordered, Unordered, is_numbered}
+use Rattle.sctp_model.specs.Format.{Format, Plain, Interleaved, Lane, Unordered, is_numbered}
 use Rattle.sctp_model.specs.Framing.{place_in, lets_go, is_skipped}
 use Rattle.sctp_model.specs.Pieces.{Piece, is_number_below}
 use Rattle.sctp_model.specs.ReceiverView.{size_of_pieces}
 use Rattle.sctp_model.specs.receiver.Laws.{IsOnePlace, IsApart}
 use Rattle.sctp_chains.specs.Same.{total, AreSame}
 use Rattle.sctp_chains.specs.Cells.{Cell, cell_of, rank_at, rank_of, IsOf}
-use Rattle.sctp_chains.specs.Links.{ChainKept, cells_in, cells_of, AreChains}
+use Rattle.sctp_chains.specs.Links.{ChainKept, cells_in, cells_of}
 use Rattle.sctp_chains.specs.StandsFor.{KeepsLane, IsNew}
 use Rattle.sctp_chains.specs.WholeOf.{from_number}
 use Rattle.sctp_chains.specs.inner.Filing.{Avoids, HaveMore}
 use Rattle.sctp_chains.specs.inner.LettingGo.{size_of_cells, is_outside, passing, Leaves, IsCut, LetsGo}
 use Rattle.sctp_chains.proofs.ListLemmas.{has_filter, filter_same, filter_map, filter_all, filter_twice}
-use Rattle.sctp_chains.proofs.SameLemmas.{same_more, same_through, same_back, same_as, same_filter, total_map}
+use Rattle.sctp_chains.proofs.SameLemmas.{same_more, same_through, same_back, same_filter, total_map}
 use Rattle.sctp_chains.proofs.DroppingLemmas.{outside_high, inside}
 use Rattle.sctp_chains.proofs.RankLemmas.{rank_place, place_small}
 use Rattle.sctp_chains.proofs.WholeLemmas.{piece_at}

@@ -1,16 +1,13 @@
 -- Ranks of a lane's chunks: what follows what, and which place is whose.
-use Rattle.std.proofs.Common.{◌≡◌, ℕ, zero, suc, ◌+◌, ◌*◌, ◌^◌, ◌<◌, ◌≤◌, ◌⊎◌, Bool, true, false, cond, ◌==◌, List, [], ◌∷◌, Option, Some, None, inl, inr, refl, sym, ◌∙◌, ap, subst, arith}
+use Rattle.std.proofs.Common.{◌≡◌, ℕ, suc, ◌+◌, ◌*◌, ◌^◌, ◌<◌, Bool, true, false, cond, ◌==◌, Option, Some, None, refl, sym, ◌∙◌, ap, arith}
 use Rattle.std.specs.Prelude.{◌||◌, is_some}
-use Rattle.std.proofs.lemmas.Bool.{cases_Bool}
 use Rattle.std.proofs.lemmas.Bool.Decides.{nat_tests}
-use Rattle.std.proofs.lemmas.Grind.{common_steps}
-use Rattle.sctp_model.specs.Lists.{Has}
 use Rattle.sctp_model.specs.Format.{Format, Plain, Interleaved, Lane}
 use Rattle.sctp_model.specs.Framing.{place_in, begins_in, payload_in}
 use Rattle.sctp_model.specs.Pieces.{Piece, payload_of}
-use Rattle.sctp_model.specs.Whole.{IsFirst, Follows, IsRow}
+use Rattle.sctp_model.specs.Whole.{IsFirst, Follows}
 use Rattle.sctp_model.specs.receiver.Laws.{IsOnePlace}
-use Rattle.sctp_chains.specs.Cells.{key_of, rank_at, rank_of, head_of, Cell, cell_of, IsOf}
+use Rattle.sctp_chains.specs.Cells.{key_of, rank_of, head_of, IsOf}
 use Rattle.sctp_chains.specs.declared.chain.Head.{Head}
 
 -- ---- places

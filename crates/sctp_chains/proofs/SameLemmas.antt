@@ -2,9 +2,8 @@
 use Rattle.std.proofs.Common.{map, ◌≡◌, ℕ, ◌+◌, ◌⊎◌, Bool, true, false, List, [], ◌∷◌, ◌++◌, filter, inl, inr, refl, sym, ◌∙◌, ap, arith}
 use Rattle.std.specs.Prelude.{if◌then◌else◌}
 use Rattle.std.proofs.lemmas.Bool.{cases_Bool}
-use Rattle.sctp_model.specs.Lists.{Has}
 use Rattle.sctp_chains.specs.Same.{total, AreSame}
-use Rattle.sctp_chains.proofs.ListLemmas.{in_front, in_back, in_part, in_around, in_midst, has_filter, filter_has}
+use Rattle.sctp_chains.proofs.ListLemmas.{in_front, in_back, in_part, has_filter, filter_has}
 
 module _ {A : Type 0} where
   pub same_as : (xs ys : List A) → xs ≡ ys → AreSame xs ys

@@ -1,13 +1,13 @@
 -- Whole messages among chains: by a rank, and the first within bounds.
-use Rattle.std.proofs.Common.{◌≡◌, ℕ, zero, suc, ◌<◌, ◌≤◌, ◌⊎◌, true, false, List, [], ◌∷◌, ◌++◌, length, get_or, take, drop, Option, Some, None, inl, inr, refl, sym, ◌∙◌, ap, subst, arith}
+use Rattle.std.proofs.Common.{◌≡◌, ℕ, suc, ◌<◌, ◌≤◌, ◌⊎◌, true, false, List, [], ◌∷◌, length, get_or, take, drop, Option, Some, None, inl, inr, refl, sym, ◌∙◌, ap, subst, arith}
 use Rattle.std.specs.Prelude.{is_some}
 use Rattle.std.proofs.lemmas.Bool.{cases_lt}
 use Rattle.sctp_model.specs.Lists.{Has, AreInOrder}
-use Rattle.sctp_chains.specs.Links.{ChainKept, is_whole, IsChain, IsBelow, AreChains}
+use Rattle.sctp_chains.specs.Links.{ChainKept, is_whole, IsBelow, AreChains}
 use Rattle.sctp_chains.specs.declared.search.Found.{Found}
 use Rattle.sctp_chains.specs.inner.Filing.{IsPlace}
 use Rattle.sctp_chains.specs.inner.Finding.{IsStart, IsIn, IsWholeAt, IsWholeHere, IsWholeWithRank, IsFirstWhole}
-use Rattle.sctp_chains.proofs.ListLemmas.{in_part, in_back, halves, around, here_first, at_same, take_one, dropped_has, none_dropped, order_back}
+use Rattle.sctp_chains.proofs.ListLemmas.{in_part, halves, around, here_first, at_same, take_one, dropped_has, none_dropped, order_back}
 use Rattle.sctp_chains.proofs.ChainLemmas.{chain_order, one_chain}
 
 module _ (cs : List ChainKept) (h : AreChains cs) where

@@ -1,30 +1,30 @@
 -- Whole messages taken out: what they say, and what stays.
-use Rattle.std.proofs.Common.{◌≡◌, ℕ, zero, suc, ◌+◌, ◌-◌, ◌*◌, ◌/◌, ◌^◌, ◌<◌, ◌≤◌, ◌⊎◌, Bool, true, false, List, [], ◌∷◌, map, length, get_or, filter, Option, Some, None, inl, inr, refl, sym, ◌∙◌, ap, subst, arith}
+use Rattle.std.proofs.Common.{◌≡◌, ℕ, suc, ◌+◌, ◌-◌, ◌*◌, ◌/◌, ◌^◌, ◌<◌, ◌≤◌, ◌⊎◌, Bool, true, false, List, [], ◌∷◌, map, length, Option, Some, None, inl, inr, refl, sym, ◌∙◌, ap, subst, arith}
 use Rattle.std.specs.Prelude.{not, is_some}
-use Rattle.std.proofs.lemmas.Bool.{cases_lt, cases_Bool}
+use Rattle.std.proofs.lemmas.Bool.{cases_lt}
 use Rattle.std.proofs.lemmas.Bool.Decides.{nat_tests}
 use Rattle.std.proofs.lemmas.Grind.{common_steps}
-use Rattle.sctp_model.specs.Lists.{Has, IsWithin}
-use Rattle.sctp_model.specs.Format.{Format, Plain, Interleaved, Lane, Unordered, is_numbered}
+use Rattle.sctp_model.specs.Lists.{Has}
+use Rattle.sctp_model.specs.Format.{Format, Plain, Interleaved, Lane, is_numbered}
 use Rattle.sctp_model.specs.Framing.{place_in}
-use Rattle.sctp_model.specs.Pieces.{Piece, is_number_below, payload_of}
-use Rattle.sctp_model.specs.Whole.{IsFirst, IsWhole}
-use Rattle.sctp_model.specs.Receiving.{IsNumberOf, IsWholeNumber, IsLowest, HasNoWhole, IsWholeWith, HasNoWholeWith}
+use Rattle.sctp_model.specs.Pieces.{Piece, is_number_below}
+use Rattle.sctp_model.specs.Whole.{IsFirst}
+use Rattle.sctp_model.specs.Receiving.{IsWholeNumber, HasNoWhole}
 use Rattle.sctp_model.proofs.receiver.RowFacts.{row_same}
-use Rattle.sctp_chains.specs.Cells.{Cell, cell_of, key_of, rank_at, rank_of, head_of, IsOf}
-use Rattle.sctp_chains.specs.Links.{ChainKept, chain_of, bytes_of, cells_from, cells_in, cells_of, is_whole, AreChains}
+use Rattle.sctp_chains.specs.Cells.{Cell, cell_of, key_of, rank_at, rank_of, IsOf}
+use Rattle.sctp_chains.specs.Links.{ChainKept, chain_of, cells_from, is_whole}
 use Rattle.sctp_chains.specs.StandsFor.{KeepsLane, StandsFor}
-use Rattle.sctp_chains.specs.WholeOf.{IsWholeOf, IsMadeOf, from_number, TakesNumber, TakesLowest}
+use Rattle.sctp_chains.specs.WholeOf.{IsWholeOf, IsMadeOf, TakesLowest}
 use Rattle.sctp_chains.specs.declared.chain.Head.{Head}
 use Rattle.sctp_chains.specs.declared.search.Found.{Found}
 use Rattle.sctp_chains.specs.declared.whole.Whole.{Whole}
 use Rattle.sctp_chains.specs.declared.chains.Chains.{Chains}
-use Rattle.sctp_chains.specs.inner.Finding.{IsIn, IsWholeAt, IsFirstWhole}
+use Rattle.sctp_chains.specs.inner.Finding.{IsIn, IsFirstWhole}
 use Rattle.sctp_chains.specs.inner.LettingGo.{Leaves, is_outside, LetsGo, TakesOut}
-use Rattle.sctp_chains.proofs.ListLemmas.{has_at, has_map, map_has}
+use Rattle.sctp_chains.proofs.ListLemmas.{has_at, map_has}
 use Rattle.sctp_chains.proofs.CellLemmas.{cell_there}
-use Rattle.sctp_chains.proofs.ChainLemmas.{chain_order, chain_ranks, one_chain}
-use Rattle.sctp_chains.proofs.RankLemmas.{place_small, has_head, rank_place, same_rank}
+use Rattle.sctp_chains.proofs.ChainLemmas.{chain_order}
+use Rattle.sctp_chains.proofs.RankLemmas.{place_small, has_head, rank_place}
 use Rattle.sctp_chains.proofs.WholeLemmas.{AreOf, whole_chain, whole_is_chain}
 use Rattle.sctp_chains.proofs.LaneLemmas.{stays, leaves_both, cut_low, below_agrees}
 

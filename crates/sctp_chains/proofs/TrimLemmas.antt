@@ -1,5 +1,5 @@
 -- From a place on, chains go up to a rank: one after another, and then the front of one.
-use Rattle.std.proofs.Common.{false, ◌≡◌, ℕ, zero, suc, ◌+◌, ◌-◌, ◌<◌, ◌≤◌, ◌⊎◌, List, [], ◌∷◌, ◌++◌, length, get_or, set, take, drop, filter, inl, inr, refl, sym, ◌∙◌, ap, subst, arith}
+use Rattle.std.proofs.Common.{false, ◌≡◌, ℕ, suc, ◌-◌, ◌<◌, ◌≤◌, List, [], ◌∷◌, ◌++◌, length, get_or, set, take, drop, filter, inl, inr, refl, sym, ◌∙◌, ap, subst, arith}
 use Rattle.std.specs.List.{remove}
 use Rattle.std.proofs.lemmas.List.{set_split, length-drop}
 use Rattle.sctp_model.specs.Lists.{Has}
@@ -10,7 +10,7 @@ use Rattle.sctp_chains.proofs.ListLemmas.{in_midst, in_front, in_back, in_part, 
 use Rattle.sctp_chains.proofs.CellLemmas.{cells_behind}
 use Rattle.sctp_chains.proofs.ChainLemmas.{chain_order, chain_ranks, cells_parts, cell_chain, far_apart, replaced}
 use Rattle.sctp_chains.proofs.DroppingLemmas.{outside_low, outside_high, size_parts, chain_size, size_less, size_cut, own, low_front, high_back, rest_chains, own_gone, split, split_chains}
-use Rattle.sctp_chains.proofs.SearchLemmas.{front_or_back, not_lower, stands_in}
+use Rattle.sctp_chains.proofs.SearchLemmas.{front_or_back, stands_in}
 
 -- What has gone so far had ranks within the bounds, and what is left of these is at the place and behind it.
 pub record IsDropped (low high k : ℕ) (old new : List ChainKept) (held left : ℕ) : Type 0 where

@@ -1,23 +1,23 @@
 -- The whole message of one chunk: whether there is one, and what goes with it.
-use Rattle.std.proofs.Common.{◌≡◌, ℕ, zero, suc, ◌+◌, ◌-◌, ◌*◌, ◌^◌, ◌<◌, ◌≤◌, ◌⊎◌, Bool, true, false, ◌==◌, nat_le, List, [], ◌∷◌, map, length, get_or, Option, Some, None, inl, inr, refl, sym, ◌∙◌, ap, subst, arith}
-use Rattle.std.specs.Prelude.{not, ◌&&◌, ◌||◌}
+use Rattle.std.proofs.Common.{◌≡◌, ℕ, ◌+◌, ◌-◌, ◌*◌, ◌^◌, ◌<◌, ◌≤◌, true, false, ◌==◌, List, [], ◌∷◌, map, Option, Some, None, inl, inr, refl, sym, ◌∙◌, ap, subst, arith}
+use Rattle.std.specs.Prelude.{not, ◌&&◌}
 use Rattle.std.proofs.lemmas.Bool.{cases_Bool, eq-eqb, or_right}
 use Rattle.std.proofs.lemmas.Bool.Decides.{nat_tests}
 use Rattle.std.proofs.lemmas.Grind.{common_steps}
-use Rattle.sctp_model.specs.Lists.{Has, IsWithin}
+use Rattle.sctp_model.specs.Lists.{Has}
 use Rattle.sctp_model.specs.Format.{Format, Plain, Interleaved, Lane, Unordered, is_numbered, same_lane}
 use Rattle.sctp_model.specs.Framing.{place_in}
 use Rattle.sctp_model.specs.Pieces.{Piece, same_number}
-use Rattle.sctp_model.specs.Receiving.{has_index, goes_with, IsWholeWith, HasNoWholeWith}
+use Rattle.sctp_model.specs.Receiving.{has_index, goes_with, HasNoWholeWith}
 use Rattle.sctp_model.proofs.receiver.RowFacts.{row_same, lane_same}
 use Rattle.sctp_chains.specs.Cells.{Cell, cell_of, key_of, rank_at, rank_of, IsOf}
-use Rattle.sctp_chains.specs.Links.{ChainKept, chain_of, cells_in, is_whole}
+use Rattle.sctp_chains.specs.Links.{ChainKept, chain_of}
 use Rattle.sctp_chains.specs.StandsFor.{KeepsLane, StandsFor}
 use Rattle.sctp_chains.specs.WholeOf.{IsWholeOf, TakesMessage}
 use Rattle.sctp_chains.specs.declared.search.Found.{Found}
 use Rattle.sctp_chains.specs.declared.whole.Whole.{Whole}
 use Rattle.sctp_chains.specs.declared.chains.Chains.{Chains}
-use Rattle.sctp_chains.specs.inner.Finding.{IsIn, IsWholeAt, IsWholeWithRank}
+use Rattle.sctp_chains.specs.inner.Finding.{IsIn, IsWholeWithRank}
 use Rattle.sctp_chains.specs.inner.LettingGo.{is_outside, Leaves, IsCut, LetsGo, TakesOut}
 use Rattle.sctp_chains.proofs.ListLemmas.{has_at, has_map}
 use Rattle.sctp_chains.proofs.ChainLemmas.{chain_ranks}

@@ -1,5 +1,5 @@
 -- What a lane keeps of each of its chunks (RFC 9260, 6.9; RFC 8260, 2.2.2).
-use Rattle.std.specs.Prelude.{◌≡◌, ℕ, suc, ◌+◌, ◌*◌, ◌^◌, ◌<◌, Bool, List, length, Option, Some, None, is_some, if◌then◌else◌}
+use Rattle.std.specs.Prelude.{◌≡◌, ℕ, suc, ◌+◌, ◌*◌, ◌^◌, ◌<◌, Bool, List, Option, Some, None, is_some, if◌then◌else◌}
 use Rattle.sctp_model.specs.Serial.{COUNTS}
 use Rattle.sctp_model.specs.Format.{Format, Lane, is_numbered}
 use Rattle.sctp_model.specs.Framing.{place_in, begins_in, payload_in}

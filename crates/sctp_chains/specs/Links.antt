@@ -1,5 +1,5 @@
 -- Chains of fragments that follow one another: a chain is a whole message exactly where it begins and ends one.
-use Rattle.std.specs.Prelude.{◌≡◌, ℕ, suc, ◌+◌, ◌-◌, ◌<◌, not, ◌&&◌, ◌==◌, Bool, true, false, List, [], ◌∷◌, ◌++◌, map, length, Option, None, is_some}
+use Rattle.std.specs.Prelude.{◌≡◌, ℕ, suc, ◌+◌, ◌-◌, ◌<◌, not, ◌&&◌, ◌==◌, Bool, false, List, [], ◌∷◌, ◌++◌, map, length, Option, None, is_some}
 use Rattle.std.specs.declared.vec.Vec.{Vec}
 use Rattle.std.specs.declared.alloc.Global.{Global}
 use Rattle.sctp_model.specs.Lists.{Has, AreInOrder, joined}

@@ -1,7 +1,7 @@
 -- What searches among chains find.
 use Rattle.std.specs.Prelude.{◌≡◌, ℕ, ◌<◌, ◌≤◌, true, false, List, length, get_or, take, drop, Option, Some, None}
 use Rattle.sctp_model.specs.Lists.{Has}
-use Rattle.sctp_chains.specs.Links.{ChainKept, is_whole, AreChains}
+use Rattle.sctp_chains.specs.Links.{ChainKept, is_whole}
 use Rattle.sctp_chains.specs.declared.search.Found.{Found}
 
 -- So many chains at the front begin below a rank, and none behind them does.

@@ -1,4 +1,4 @@
-use Rattle.std.proofs.Common.{◌≡◌, ℕ, suc, ◌<◌, ◌≤◌, List, Option, sym, ap, subst, length, map, rules, arith}
+use Rattle.std.proofs.Common.{◌≡◌, ℕ, ◌<◌, List, Option, sym, subst, length, map, rules, arith}
 use Rattle.std.specs.Prelude.{OnOk}
 use Rattle.std.specs.List.{insert}
 use Rattle.sctp_chains.specs.declared.chain.Chain.{Chain}

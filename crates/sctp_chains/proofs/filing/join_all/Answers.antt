@@ -1,4 +1,4 @@
-use Rattle.std.proofs.Common.{◌≡◌, ℕ, suc, ◌<◌, length, sym, ◌∙◌, ap, subst, rules, arith}
+use Rattle.std.proofs.Common.{◌<◌, length, arith}
 use Rattle.sctp_chains.proofs.MemoryLemmas.{any_err, set_same}
 use Rattle.sctp_chains.proofs.JoiningLemmas.{joined_up}
 use Rattle.sctp_chains.proofs.filing.join_all.Goals as goal

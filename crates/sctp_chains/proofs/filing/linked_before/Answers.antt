@@ -1,5 +1,5 @@
-use Rattle.std.proofs.Common.{◌≡◌, ℕ, suc, false, sym, ◌∙◌, subst, arith}
-use Rattle.sctp_chains.specs.Links.{ChainKept, chain_of, one_of, is_linked}
+use Rattle.std.proofs.Common.{◌≡◌, false, sym, ◌∙◌, subst, arith}
+use Rattle.sctp_chains.specs.Links.{ChainKept, one_of, is_linked}
 use Rattle.sctp_chains.proofs.MemoryLemmas.{same_at, length_kept}
 use Rattle.sctp_chains.proofs.filing.linked_before.Goals as goal
 use Rattle.sctp_chains.proofs.filing.linked_before.Goals.{else-before-len-via-then-before-len+else-goes_on, else-before-len-via-else-before-len}

@@ -1,4 +1,4 @@
-use Rattle.std.proofs.Common.{◌≡◌, ◌-◌, ◌<◌, ◌≤◌, ℕ, List, length, map, ap, sym, ◌∙◌, subst, arith}
+use Rattle.std.proofs.Common.{◌≡◌, ◌-◌, ◌<◌, ◌≤◌, length, map, ap, sym, ◌∙◌, arith}
 use Rattle.sctp_chains.specs.declared.chain.Chain.{Chain}
 use Rattle.sctp_chains.specs.Links.{chain_of, bytes_of}
 use Rattle.sctp_chains.specs.inner.LettingGo.{size_of_parts}

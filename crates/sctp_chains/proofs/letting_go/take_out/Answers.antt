@@ -1,4 +1,4 @@
-use Rattle.std.proofs.Common.{◌≡◌, ◌-◌, ◌<◌, ℕ, List, length, map, refl, ap, ◌∙◌, subst, arith}
+use Rattle.std.proofs.Common.{◌-◌, ◌<◌, length, map, refl, ap, ◌∙◌, arith}
 use Rattle.sctp_chains.specs.Links.{bytes_of}
 use Rattle.sctp_chains.specs.inner.LettingGo.{size_of_parts}
 use Rattle.sctp_chains.proofs.GoingLemmas.{out_of}

@@ -1,5 +1,5 @@
-use Rattle.std.proofs.Common.{◌≡◌, ◌+◌, ◌-◌, ◌<◌, ℕ, suc, None, List, ◌++◌, length, map, take, drop, refl, sym, ap, ◌∙◌, subst, arith}
-use Rattle.sctp_chains.specs.Links.{ChainKept, bytes_of}
+use Rattle.std.proofs.Common.{◌≡◌, ◌-◌, ℕ, suc, None, List, map, take, drop, ap, ◌∙◌, arith}
+use Rattle.sctp_chains.specs.Links.{bytes_of}
 use Rattle.sctp_chains.specs.inner.LettingGo.{size_of_parts}
 use Rattle.sctp_chains.proofs.SizeLemmas.{kept_behind, kept_front}
 use Rattle.sctp_chains.proofs.letting_go.trim.Goals as goal

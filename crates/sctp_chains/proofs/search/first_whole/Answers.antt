@@ -1,5 +1,5 @@
-use Rattle.std.proofs.Common.{◌≡◌, ◌<◌, ◌≤◌, ◌+◌, ℕ, suc, length, map, refl, sym, ap, ◌∙◌, subst, arith}
-use Rattle.sctp_chains.specs.Links.{ChainKept, chain_of}
+use Rattle.std.proofs.Common.{◌≡◌, ◌<◌, ◌≤◌, ◌+◌, suc, length, map, sym, ◌∙◌, subst, arith}
+use Rattle.sctp_chains.specs.Links.{chain_of}
 use Rattle.sctp_chains.proofs.MemoryLemmas.{at_kept, length_kept}
 use Rattle.sctp_chains.proofs.SearchLemmas.{IsPassed, passed_on, first_found, none_further, none_at_all}
 use Rattle.sctp_chains.proofs.search.first_whole.Goals as goal

@@ -1,7 +1,6 @@
-use Rattle.std.proofs.Common.{◌≡◌, ℕ, true, false, nat_lt, length, map, rules, of_calls, arith}
+use Rattle.std.proofs.Common.{nat_lt, rules, of_calls, arith}
 use Rattle.std.proofs.lemmas.Fn.{always_returns_same}
 use Rattle.sctp_chains.specs.declared.chain.Chain.{Chain}
-use Rattle.sctp_chains.specs.Links.{chain_of}
 use Rattle.sctp_chains.proofs.FindingLemmas.{begins_below, begins_placed}
 use Rattle.sctp_chains.proofs.search.start.Goals as goal
 

@@ -1,4 +1,4 @@
-use Rattle.std.proofs.Common.{◌≡◌, ◌<◌, ℕ, length, map, refl, sym, ap, ◌∙◌, arith}
+use Rattle.std.proofs.Common.{◌<◌, length, map, refl, sym, ap, arith}
 use Rattle.sctp_chains.specs.Links.{ChainKept, chain_of}
 use Rattle.sctp_chains.proofs.MemoryLemmas.{at_kept, same_at, length_kept}
 use Rattle.sctp_chains.proofs.SearchLemmas.{with_rank, none_with}

@@ -1,4 +1,4 @@
-use Rattle.std.proofs.Common.{◌≡◌, ℕ, suc, map, Some, sym, subst, arith}
+use Rattle.std.proofs.Common.{◌≡◌, ℕ, suc, map, sym, subst, arith}
 use Rattle.sctp_chains.specs.Links.{chain_of}
 use Rattle.sctp_chains.specs.StandsFor.{StandsFor, KeepsLane}
 use Rattle.sctp_chains.specs.WholeOf.{from_number}

@@ -1,8 +1,8 @@
-use Rattle.std.proofs.Common.{◌≡◌, ◌<◌, ◌≤◌, ℕ, true, false, nat_lt, nat_le, length, map, sym, ap, ◌∙◌, subst, arith}
+use Rattle.std.proofs.Common.{◌<◌, ◌≤◌, nat_lt, nat_le, length, map, sym, ap, ◌∙◌, arith}
 use Rattle.std.proofs.lemmas.Bool.Decides.{nat_tests}
 use Rattle.sctp_wire.specs.ChunkTree.{piece_meaning}
 use Rattle.sctp_chains.specs.Cells.{counted, rank_at}
-use Rattle.sctp_chains.specs.Links.{ChainKept, chain_of}
+use Rattle.sctp_chains.specs.Links.{chain_of}
 use Rattle.sctp_chains.specs.StandsFor.{StandsFor}
 use Rattle.sctp_chains.proofs.MemoryLemmas.{at_kept, length_kept}
 use Rattle.sctp_chains.proofs.ListLemmas.{dropped_has}

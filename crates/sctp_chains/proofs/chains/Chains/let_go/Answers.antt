@@ -1,7 +1,7 @@
-use Rattle.std.proofs.Common.{◌≡◌, ℕ, true, false, map, sym, ap, ◌∙◌, subst, arith}
+use Rattle.std.proofs.Common.{map, sym, ap, ◌∙◌, subst}
 use Rattle.sctp_model.specs.Format.{is_numbered}
 use Rattle.sctp_chains.specs.Links.{chain_of}
-use Rattle.sctp_chains.specs.StandsFor.{StandsFor, KeepsLane}
+use Rattle.sctp_chains.specs.StandsFor.{StandsFor}
 use Rattle.sctp_chains.proofs.LaneLemmas.{left_behind, by_number}
 use Rattle.sctp_chains.proofs.chains.Chains.let_go.Goals as goal
 

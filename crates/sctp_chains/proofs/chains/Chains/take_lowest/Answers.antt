@@ -1,4 +1,4 @@
-use Rattle.std.proofs.Common.{◌≡◌, ◌/◌, ◌^◌, ℕ, Option, None, Some, map, refl, sym, subst}
+use Rattle.std.proofs.Common.{◌/◌, ◌^◌, Option, map, refl, sym, subst}
 use Rattle.sctp_chains.specs.Links.{chain_of}
 use Rattle.sctp_chains.specs.StandsFor.{StandsFor}
 use Rattle.sctp_chains.specs.WholeOf.{TakesLowest}

@@ -1,4 +1,4 @@
-use Rattle.std.proofs.Common.{◌≡◌, ℕ, Option, None, Some, map, refl, sym, ap, ◌∙◌, subst}
+use Rattle.std.proofs.Common.{◌≡◌, Option, map, sym, ap, ◌∙◌, subst}
 use Rattle.sctp_wire.specs.ChunkTree.{piece_meaning}
 use Rattle.sctp_chains.specs.Cells.{counted, rank_at, rank_of}
 use Rattle.sctp_chains.specs.Links.{chain_of}
