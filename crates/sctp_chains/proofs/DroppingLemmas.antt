@@ -69,8 +69,8 @@ module _ (front back : List ChainKept) (c : ChainKept) (h : AreChains (front ++ 
       let test = λ (x : Cell). is_outside low high x.rank in
       ap (filter test) (cells_parts front (c ∷ back)) ∙ filter_parts test (cells_of front) (cells_of (c ∷ back))
       ∙ ap (λ (xs : List Cell). filter test (cells_of front) ++ xs) (filter_parts test (cells_in c) (cells_of back)
-        ∙ ap (λ (xs : List Cell). xs ++ filter test (cells_of back)) (filter_none test (cells_in c) (λ x there.
-          let ranks = chain_ranks c own x there in let a = ranks.0 in let b = ranks.1 in inside low high x.rank (omega (arith, above, a)) (omega (arith, below, b)))))
+      ∙ ap (λ (xs : List Cell). xs ++ filter test (cells_of back)) (filter_none test (cells_in c) (λ x there.
+      let ranks = chain_ranks c own x there in let a = ranks.0 in let b = ranks.1 in inside low high x.rank (omega (arith, above, a)) (omega (arith, below, b)))))
       ∙ sym (filter_parts test (cells_of front) (cells_of back)) ∙ ap (filter test) (sym (cells_parts front back))
 
   -- taken out

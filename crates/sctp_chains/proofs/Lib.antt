@@ -3,6 +3,7 @@ mod SameLemmas
 mod MemoryLemmas
 mod CellLemmas
 mod ChainLemmas
+mod SpotLemmas
 mod FilingLemmas
 mod JoiningLemmas
 mod FindingLemmas

@@ -68,7 +68,7 @@ rank_follows Plain l x y h k next begin =
     (k.lane ∙ sym h.lane, sym (one_number _ x.number y.number h.numbered k.numbered s.0), s.1, begin)
 rank_follows Interleaved l x y h k next begin =
     let s = next_key (key_of x.number) (key_of y.number) (cond x.begin 0 x.word) (cond y.begin 0 y.word) (place_small Interleaved l x h) (place_small Interleaved l y k) next
-        (not_zero y.begin y.word begin) in
+    (not_zero y.begin y.word begin) in
     (k.lane ∙ sym h.lane, sym (one_number _ x.number y.number h.numbered k.numbered s.0), s.1)
 
 -- ---- where a message begins

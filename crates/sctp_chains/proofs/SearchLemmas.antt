@@ -91,11 +91,16 @@ module _ (cs : List ChainKept) (h : AreChains cs) where
   first_found from last k x (Some v) less at p high found is =
       let same = found_here k x v less at found.0 found.1.0 found.1.1 in
       let first = ap (λ (z : ChainKept). z.first) same in
-      let low = p.back x (stands_in k x less at) in
-      (found.1.0, found.1.1, omega (arith, first, low), omega (arith, first, high), λ d there from_on below. elim (front_or_back k d there) [
-        | inl front ↦ p.none d front from_on
-        | inr back ↦ let lowest = not_lower k x less at d back in absurd (omega (arith, lowest, below, first))
-      ])
+      let low = p.back x (stands_in k x less at) in (
+        found.1.0,
+        found.1.1,
+        omega (arith, first, low),
+        omega (arith, first, high),
+        λ d there from_on below. elim (front_or_back k d there) [
+          | inl front ↦ p.none d front from_on
+          | inr back ↦ let lowest = not_lower k x less at d back in absurd (omega (arith, lowest, below, first))
+        ],
+      )
 
   pub none_further : (from last k : ℕ) (x : ChainKept) → k < length cs → x ≡ get_or cs k x → IsPassed from k → last < x.first → IsFirstWhole cs from last None
   none_further from last k x less at p past = λ c there low high. elim (front_or_back k c there) [

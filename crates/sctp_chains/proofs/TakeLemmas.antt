@@ -117,18 +117,21 @@ module _ (f : Format) (l : Lane) (cs : List ChainKept) (bytes : ℕ) (kept : Lis
       IsFirstWhole cs (rank_at (Some from) 0) (rank_at (Some last) (2 ^ 32 - 1)) (Some w) → TakesOut w.at cs mid bytes b d → num ≡ d.first / 2 ^ 32 → high ≡ rank_at (Some num) (2 ^ 32 - 1) →
       LetsGo high 0 mid (map chain_of new.chains.items) b new.held → IsWholeOf d w.head (Some num) m → TakesLowest f l kept from last (Some m) new
   unfolding StandsFor
-  took_lowest from last w mid b d num high m new numbered (c, at, low, up, before) taken num_is high_is lets says = (n, record {
-    number = says.number ∙ ap (λ (i : ℕ). Some i) same_num;
-    low = let e = rank_in.1 in omega (arith, low, first, e);
-    high = let e = rank_in.0 in omega (arith, up, first, e);
-    before = λ k from_on under. no_whole k (λ e there a z. before e there (omega (arith, from_on, a)) (let i = rank_in.0 in omega (arith, under, z, first, i)));
-    head = x;
-    rest = xs;
-    whole = (o.whole, o.within, (of.lane, number));
-    lowest = λ y ys w. lowest y ys w;
-    made = made f kept d x xs w.head (Some num) m (subst (λ (e : ChainKept). AreOf f kept e x xs) (sym same) o) (ap (λ (e : ChainKept). e.head) same ∙ at.head) says (ap (λ (i : ℕ). Some i) same_num ∙ sym number);
-    left = stays f l cs (map chain_of new.chains.items) bytes new.held kept h (is_outside 0 top) (λ (z : Piece). not (is_number_below (suc n) z.number)) leaves (λ z there. below_agrees f l z n (h.of z there) numbered);
-  })
+  took_lowest from last w mid b d num high m new numbered (c, at, low, up, before) taken num_is high_is lets says = (
+    n,
+    record {
+      number = says.number ∙ ap (λ (i : ℕ). Some i) same_num;
+      low = let e = rank_in.1 in omega (arith, low, first, e);
+      high = let e = rank_in.0 in omega (arith, up, first, e);
+      before = λ k from_on under. no_whole k (λ e there a z. before e there (omega (arith, from_on, a)) (let i = rank_in.0 in omega (arith, under, z, first, i)));
+      head = x;
+      rest = xs;
+      whole = (o.whole, o.within, (of.lane, number));
+      lowest = λ y ys w. lowest y ys w;
+      made = made f kept d x xs w.head (Some num) m (subst (λ (e : ChainKept). AreOf f kept e x xs) (sym same) o) (ap (λ (e : ChainKept). e.head) same ∙ at.head) says (ap (λ (i : ℕ). Some i) same_num ∙ sym number);
+      left = stays f l cs (map chain_of new.chains.items) bytes new.held kept h (is_outside 0 top) (λ (z : Piece). not (is_number_below (suc n) z.number)) leaves (λ z there. below_agrees f l z n (h.of z there) numbered);
+    },
+  )
     where
       same : d ≡ c
       same = sym (taken.here c at.within) ∙ at.here c

@@ -118,14 +118,14 @@ module _ (high k : ℕ) (old new : List ChainKept) (held left : ℕ) (d : Drops 
           let test = λ (y : Cell). is_outside low high y.rank in
           cells_parts front (trimmed high x ∷ back)
           ∙ ap (λ (xs : List Cell). xs ++ cells_of (trimmed high x ∷ back)) (sym (filter_all test (cells_of front) (λ y there.
-            let m = cell_chain front y there in
-            let ranks = chain_ranks m.0 (parts.each m.0 (in_front front (x ∷ back) m.0 m.1)) y m.2 in
-            let l = s.cut.front m.0 m.1 in let r = ranks.1 in outside_low low high y.rank (omega (arith, l, r)))))
+          let m = cell_chain front y there in
+          let ranks = chain_ranks m.0 (parts.each m.0 (in_front front (x ∷ back) m.0 m.1)) y m.2 in
+          let l = s.cut.front m.0 m.1 in let r = ranks.1 in outside_low low high y.rank (omega (arith, l, r)))))
           ∙ ap (λ (xs : List Cell). filter test (cells_of front) ++ xs) (
-            ap (λ (xs : List Cell). xs ++ cells_of back) (sym (let last = good.last in let e = high_end in cells_behind low high x.first x.head x.ends x.parts above low_end (omega (arith, last, e))))
-            ∙ ap (λ (xs : List Cell). filter test (cells_in x) ++ xs) (sym (filter_all test (cells_of back) (λ y there.
-              let m = cell_chain back y there in
-              let ranks = chain_ranks m.0 (parts.each m.0 (in_back front (x ∷ back) m.0 (inr m.1))) y m.2 in
-              let l = behind m.0 m.1 in let r = ranks.0 in let e = high_end in outside_high low high y.rank (omega (arith, l, r, e)))))
-            ∙ sym (filter_parts test (cells_in x) (cells_of back)))
+          ap (λ (xs : List Cell). xs ++ cells_of back) (sym (let last = good.last in let e = high_end in cells_behind low high x.first x.head x.ends x.parts above low_end (omega (arith, last, e))))
+          ∙ ap (λ (xs : List Cell). filter test (cells_in x) ++ xs) (sym (filter_all test (cells_of back) (λ y there.
+          let m = cell_chain back y there in
+          let ranks = chain_ranks m.0 (parts.each m.0 (in_back front (x ∷ back) m.0 (inr m.1))) y m.2 in
+          let l = behind m.0 m.1 in let r = ranks.0 in let e = high_end in outside_high low high y.rank (omega (arith, l, r, e)))))
+          ∙ sym (filter_parts test (cells_in x) (cells_of back)))
           ∙ sym (filter_parts test (cells_of front) (cells_of (x ∷ back))) ∙ ap (filter test) (sym (cells_parts front (x ∷ back)))

@@ -45,27 +45,33 @@ module _ (f : Format) (l : Lane) (cs : List ChainKept) (bytes : ℕ) (kept : Lis
   row_of : (r : ℕ) (g : Option Head) (b : List ℕ) (ps : List (List ℕ)) → ((k : Cell) → Has (cells_from r g true (b ∷ ps)) k → Has (cells_of cs) k) →
       (x : Piece) × (xs : List Piece) × Begins f kept r g (cells_from r g true (b ∷ ps)) x xs
   row_of r g b [] there =
-      let p = piece_at (record { rank = r; head = g; end = true; bytes = b }) (there _ (inl refl)) in
-      (p.0, [], record {
-        row = ap (λ (k : Cell). k.end) p.2;
-        within = λ z here. elim here [ inl is ↦ subst (Has kept) is p.1 | inr end ↦ absurd end ];
-        cells_are = ap (λ (k : Cell). k ∷ []) p.2;
-        rank = ap (λ (k : Cell). k.rank) p.2;
-        head = ap (λ (k : Cell). k.head) p.2;
-      })
+      let p = piece_at (record { rank = r; head = g; end = true; bytes = b }) (there _ (inl refl)) in (
+        p.0,
+        [],
+        record {
+          row = ap (λ (k : Cell). k.end) p.2;
+          within = λ z here. elim here [ inl is ↦ subst (Has kept) is p.1 | inr end ↦ absurd end ];
+          cells_are = ap (λ (k : Cell). k ∷ []) p.2;
+          rank = ap (λ (k : Cell). k.rank) p.2;
+          head = ap (λ (k : Cell). k.head) p.2;
+        },
+      )
   row_of r g b (d ∷ ds) there =
       let p = piece_at (record { rank = r; head = g; end = false; bytes = b }) (there _ (inl refl)) in
       let more = row_of (suc r) None d ds (λ k later. there k (inr later)) in
       let y = more.0 in
       let m = more.2 in
-      let next : rank_of f y ≡ suc (rank_of f p.0) = let here = ap (λ (k : Cell). k.rank) p.2 in let later = m.rank in omega (arith, here, later) in
-      (p.0, y ∷ more.1, record {
-        row = (ap (λ (k : Cell). k.end) p.2, rank_follows f l p.0 y (h.of p.0 p.1) (h.of y (m.within y (inl refl))) next (no_head f y m.head), m.row);
-        within = λ z here. elim here [ inl is ↦ subst (Has kept) is p.1 | inr later ↦ m.within z later ];
-        cells_are = ap (λ (k : Cell). k ∷ map (cell_of f) (y ∷ more.1)) p.2 ∙ ap (λ (ks : List Cell). record { rank = r; head = g; end = false; bytes = b } ∷ ks) m.cells_are;
-        rank = ap (λ (k : Cell). k.rank) p.2;
-        head = ap (λ (k : Cell). k.head) p.2;
-      })
+      let next : rank_of f y ≡ suc (rank_of f p.0) = let here = ap (λ (k : Cell). k.rank) p.2 in let later = m.rank in omega (arith, here, later) in (
+        p.0,
+        y ∷ more.1,
+        record {
+          row = (ap (λ (k : Cell). k.end) p.2, rank_follows f l p.0 y (h.of p.0 p.1) (h.of y (m.within y (inl refl))) next (no_head f y m.head), m.row);
+          within = λ z here. elim here [ inl is ↦ subst (Has kept) is p.1 | inr later ↦ m.within z later ];
+          cells_are = ap (λ (k : Cell). k ∷ map (cell_of f) (y ∷ more.1)) p.2 ∙ ap (λ (ks : List Cell). record { rank = r; head = g; end = false; bytes = b } ∷ ks) m.cells_are;
+          rank = ap (λ (k : Cell). k.rank) p.2;
+          head = ap (λ (k : Cell). k.head) p.2;
+        },
+      )
 
   by_parts : (r : ℕ) (g : Option Head) (ps : List (List ℕ)) → 0 < length ps → ((k : Cell) → Has (cells_from r g true ps) k → Has (cells_of cs) k) →
       (x : Piece) × (xs : List Piece) × Begins f kept r g (cells_from r g true ps) x xs
@@ -76,14 +82,17 @@ module _ (f : Format) (l : Lane) (cs : List ChainKept) (bytes : ℕ) (kept : Lis
   whole_chain c g there ends head =
       let ended : cells_from c.first c.head true c.parts ≡ cells_in c = ap (λ (e : Bool). cells_from c.first c.head e c.parts) (sym ends) in
       let m = by_parts c.first c.head c.parts (h.chains.each c there).some (λ k here. chain_cell cs c k there (subst (λ (ks : List Cell). Has ks k) ended here)) in
-      let b = m.2 in
-      (m.0, m.1, record {
-        whole = (begins_first f m.0 (has_head f m.0 g (b.head ∙ head)).0, b.row);
-        within = b.within;
-        cells = b.cells_are ∙ ended;
-        rank = b.rank;
-        head = b.head;
-      })
+      let b = m.2 in (
+        m.0,
+        m.1,
+        record {
+          whole = (begins_first f m.0 (has_head f m.0 g (b.head ∙ head)).0, b.row);
+          within = b.within;
+          cells = b.cells_are ∙ ended;
+          rank = b.rank;
+          head = b.head;
+        },
+      )
 
   -- ---- a whole message is a whole chain
 

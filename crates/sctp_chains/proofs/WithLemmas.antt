@@ -84,10 +84,10 @@ plain_agrees : (l : Lane) (cs : List ChainKept) (bytes : ℕ) (kept : List Piece
 plain_agrees l cs bytes kept h c x xs there o z here = elim (cases_Bool (is_outside c.first c.last (rank_of Plain z))) [
   | inl out ↦
       let none = index_none (x ∷ xs) z.index (λ w in_xs same.
-          let is = h.apart w z (o.within w in_xs) here same in
-          let in_it = rank_in Plain l cs bytes kept h c x xs there o z (subst (Has (x ∷ xs)) is in_xs) in
-          let not_out = inside c.first c.last (rank_of Plain z) in_it.0 in_it.1 in
-          let no_way : true ≡ false = sym out ∙ not_out in cc) in
+      let is = h.apart w z (o.within w in_xs) here same in
+      let in_it = rank_in Plain l cs bytes kept h c x xs there o z (subst (Has (x ∷ xs)) is in_xs) in
+      let not_out = inside c.first c.last (rank_of Plain z) in_it.0 in_it.1 in
+      let no_way : true ≡ false = sym out ∙ not_out in cc) in
       rw (none, out) refl
   | inr in_it ↦
       let own = index_own (x ∷ xs) z (in_message Plain l cs bytes kept h c x xs there o z here (inside_says c.first c.last (rank_of Plain z) in_it)) in
@@ -106,7 +106,7 @@ numbered_agrees l cs bytes kept h c x xs o z here = rw lane (elim (cases_Bool (s
     | inr within ↦
         let at = inside_says c.first (rank_at x.number (2 ^ 32 - 1)) (rank_of Interleaved z) within in
         let key = key_within (key_of z.number) (key_of x.number) (place_in Interleaved z.index z.begin z.word) (place_small Interleaved l z of_z)
-            (let low = at.0 in omega (arith, low, first)) (let high = at.1 in omega (arith, high)) in
+        (let low = at.0 in omega (arith, low, first)) (let high = at.1 in omega (arith, high)) in
         let same = (same_numbers z.number x.number).0 (one_number _ z.number x.number of_z.numbered of_x.numbered key) in
         absurd (let no_way : true ≡ false = sym same ∙ e in cc)
   ]

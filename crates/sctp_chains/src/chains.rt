@@ -71,7 +71,12 @@ impl<F: Framing> Chains<F> {
     ///
     /// # Errors
     /// Memory ran out, and nothing changed.
-    pub fn add(&mut self, piece: &Piece<'_>, index: u32, number: Option<u32>) -> Result<(), NoMemory>
+    pub fn add(
+        &mut self,
+        piece: &Piece<'_>,
+        index: u32,
+        number: Option<u32>,
+    ) -> Result<(), NoMemory>
         ensures kept { (l : Lane) (kept : Kept) → StandsFor F.format self.old l kept → IsNew F.format l kept (counted index (piece_meaning piece.now) number)
             → OnOk result (StandsFor F.format self.new l (counted index (piece_meaning piece.now) number ∷ kept)) }
         ensures refused { (l : Lane) (kept : Kept) → StandsFor F.format self.old l kept → OnErr result (StandsFor F.format self.new l kept) }

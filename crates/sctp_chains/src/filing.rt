@@ -46,16 +46,15 @@ fn linked_behind(chains: &VecDeque<Chain>, at: usize, part: &Part) -> Option<usi
 ///
 /// # Errors
 /// Memory ran out, and nothing changed.
-pub(crate) fn file(
-    alloc: Global,
-    chains: &mut VecDeque<Chain>,
-    part: Part,
-) -> Result<(), NoMemory>
+pub(crate) fn file(alloc: Global, chains: &mut VecDeque<Chain>, part: Part) -> Result<(), NoMemory>
     ensures filed { OnOk result (Gains (one_of part) (map chain_of chains.old.items) (map chain_of chains.new.items)) }
     ensures refused { OnErr result (map chain_of chains.new.items ≡ map chain_of chains.old.items) }
 {
     let at = place(chains, part.rank);
-    match (linked_before(chains, at, &part), linked_behind(chains, at, &part)) {
+    match (
+        linked_before(chains, at, &part),
+        linked_behind(chains, at, &part),
+    ) {
         (Some(left), Some(right)) => join_all(chains, left, part, right),
         (Some(left), None) => chains[left].push_back(part),
         (None, Some(right)) => chains[right].push_front(part),

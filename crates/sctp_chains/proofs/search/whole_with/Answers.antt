@@ -20,10 +20,10 @@ returns c = λ chains.
     let cs = c.args.chains.now.items in
     let k = c.place-at.result in
     none_with (map chain_of cs) chains k c.args.rank (c.place-at.ensures.place chains) (λ y less at low.
-        let l : k < length cs = let n = length_kept cs in omega (arith, less, n) in
-        elim c.else-at-len.branch [
-          | else-at-len-via-then-at-len+else-index-rank w ↦
-              let first = ap (λ (z : ChainKept). z.first) (same_at cs k k w.index.result.now y refl l w.index.ensures at) in
-              omega (arith, first, low, w.if-index-rank.false)
-          | else-at-len-via-else-at-len w ↦ omega (arith, l, w.if-at-len.false, c.len.ensures)
-        ])
+    let l : k < length cs = let n = length_kept cs in omega (arith, less, n) in
+    elim c.else-at-len.branch [
+      | else-at-len-via-then-at-len+else-index-rank w ↦
+          let first = ap (λ (z : ChainKept). z.first) (same_at cs k k w.index.result.now y refl l w.index.ensures at) in
+          omega (arith, first, low, w.if-index-rank.false)
+      | else-at-len-via-else-at-len w ↦ omega (arith, l, w.if-at-len.false, c.len.ensures)
+    ])

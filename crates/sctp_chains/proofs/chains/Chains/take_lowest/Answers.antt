@@ -10,9 +10,11 @@ pub returns-in_err-found : goal.returns-in_err-found
 unfolding StandsFor
 returns-in_err-found g c = λ l kept stands numbered.
     let f = g.F.Framing.format in
-    subst (λ (o : Option Whole). TakesLowest f l kept c.args.from c.args.last o c.args.self.now) (sym c.from_residual.ensures)
-    (none_lowest_by f l (map chain_of c.args.self.now.chains.items) c.args.self.now.held kept stands c.args.from c.args.last c.rank_at.result c.rank_at-2.result
-    c.rank_at.ensures c.rank_at-2.ensures (c.in_err-found.ensures stands.chains), stands)
+    subst (λ (o : Option Whole). TakesLowest f l kept c.args.from c.args.last o c.args.self.now) (sym c.from_residual.ensures) (
+      none_lowest_by f l (map chain_of c.args.self.now.chains.items) c.args.self.now.held kept stands c.args.from c.args.last c.rank_at.result c.rank_at-2.result
+          c.rank_at.ensures c.rank_at-2.ensures (c.in_err-found.ensures stands.chains),
+      stands,
+    )
 
 pub returns : goal.returns
 unfolding StandsFor
