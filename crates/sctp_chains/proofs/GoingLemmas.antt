@@ -1,0 +1,50 @@
+-- Chains that go, as they lie in memory.
+use Rattle.std.proofs.Common.{◌≡◌, ℕ, suc, ◌-◌, ◌<◌, ◌≤◌, List, length, get_or, set, take, map, sym, ◌∙◌, ap, subst, arith}
+use Rattle.std.specs.List.{remove}
+use Rattle.sctp_chains.specs.Links.{ChainKept, chain_of}
+use Rattle.sctp_chains.specs.declared.chain.Chain.{Chain}
+use Rattle.sctp_chains.specs.inner.LettingGo.{size_of_parts, LetsGo, TakesOut, Trims}
+use Rattle.sctp_chains.proofs.ListLemmas.{none_dropped, dropped_has}
+use Rattle.sctp_chains.proofs.MemoryLemmas.{at_kept, length_kept, set_kept, remove_kept}
+use Rattle.sctp_chains.proofs.DroppingLemmas.{takes_out}
+use Rattle.sctp_chains.proofs.SearchLemmas.{not_lower, stands_in}
+use Rattle.sctp_chains.proofs.TrimLemmas.{Drops, drops_more, drops_end, drops_front}
+
+module _ (cs : List Chain) (k : ℕ) (x : Chain) (l : k < length cs) (at : x ≡ get_or cs k x) where
+  within : k < length (map chain_of cs)
+  within = let n = length_kept cs in omega (arith, l, n)
+
+  here : chain_of x ≡ get_or (map chain_of cs) k (chain_of x)
+  here = sym (at_kept cs k x l at (chain_of x))
+
+  pub out_of : (new : List Chain) (held left : ℕ) → new ≡ remove cs k → left ≡ held - size_of_parts (chain_of x).parts →
+      TakesOut k (map chain_of cs) (map chain_of new) held left (chain_of x)
+  out_of new held left is less =
+      subst (λ (n : ℕ). TakesOut k (map chain_of cs) (map chain_of new) held n (chain_of x)) (sym less)
+      (subst (λ (ks : List ChainKept). TakesOut k (map chain_of cs) ks held (held - size_of_parts (chain_of x).parts) (chain_of x)) (sym (ap (map chain_of) is ∙ remove_kept cs k))
+      (takes_out (map chain_of cs) k (chain_of x) within here held))
+
+  pub one_more : (high : ℕ) (old : List ChainKept) (new : List Chain) (held left after : ℕ) → Drops high k old (map chain_of cs) held left → x.last ≤ high → new ≡ remove cs k →
+      after ≡ left - size_of_parts (chain_of x).parts → Drops high k old (map chain_of new) held after
+  one_more high old new held left after d low is less =
+      subst (λ (n : ℕ). Drops high k old (map chain_of new) held n) (sym less)
+      (subst (λ (ks : List ChainKept). Drops high k old ks held (left - size_of_parts (chain_of x).parts)) (sym (ap (map chain_of) is ∙ remove_kept cs k))
+      (drops_more high k old (map chain_of cs) held left d (chain_of x) within here low))
+
+  pub front_more : (high : ℕ) (old : List ChainKept) (y : Chain) (held left after : ℕ) → Drops high k old (map chain_of cs) held left → x.first ≤ high → high < x.last →
+      Trims high (chain_of x) (chain_of y) left after → LetsGo high k old (map chain_of (set cs k y)) held after
+  front_more high old y held left after d low up trims h bound cut =
+      let s = d h bound cut in
+      let good = s.chains.each (chain_of x) (dropped_has (map chain_of cs) k (chain_of x) (stands_in (map chain_of cs) s.chains k (chain_of x) within here)) in
+      let t = trims good low up in
+      (subst (λ (n : ℕ). LetsGo high k old (map chain_of (set cs k y)) held n) (sym t.1)
+      (subst (λ (ks : List ChainKept). LetsGo high k old ks held (left - size_of_parts (take (suc (high - x.first)) (chain_of x).parts))) (sym (set_kept cs k y ∙ ap (set (map chain_of cs) k) t.0))
+      (drops_front high k old (map chain_of cs) held left d (chain_of x) within here low up))) h bound cut
+
+  pub none_more : (high : ℕ) (old : List ChainKept) (held left : ℕ) → Drops high k old (map chain_of cs) held left → high < x.first → LetsGo high k old (map chain_of cs) held left
+  none_more high old held left d past = drops_end high k old (map chain_of cs) held left d (λ c h there.
+      let low = not_lower (map chain_of cs) h k (chain_of x) within here c there in omega (arith, low, past))
+
+pub none_left : (cs : List Chain) (k high : ℕ) (old : List ChainKept) (held left : ℕ) → length cs ≤ k → Drops high k old (map chain_of cs) held left → LetsGo high k old (map chain_of cs) held left
+none_left cs k high old held left past d = drops_end high k old (map chain_of cs) held left d (λ c h there.
+    absurd (none_dropped (map chain_of cs) k c (let n = length_kept cs in omega (arith, past, n)) there))

@@ -1,0 +1,67 @@
+-- A fragment is filed among chains as they lie in memory.
+use Rattle.std.proofs.Common.{◌≡◌, ℕ, ◌<◌, ◌≤◌, List, ◌∷◌, ◌++◌, length, get_or, set, take, drop, map, Some, None, refl, sym, ◌∙◌, ap, subst, arith}
+use Rattle.std.specs.List.{insert, remove}
+use Rattle.sctp_chains.specs.Links.{ChainKept, chain_of, one_of, join, IsChain, AreChains}
+use Rattle.sctp_chains.specs.declared.chain.Chain.{Chain}
+use Rattle.sctp_chains.specs.declared.chain.Part.{Part}
+use Rattle.sctp_chains.specs.inner.Filing.{IsPlace, IsLinkBefore, IsLinkBehind, IsJoined, Gains}
+use Rattle.sctp_chains.proofs.MemoryLemmas.{at_kept, same_at, length_kept, set_kept, remove_kept, insert_kept, left_at, other_at, set_twice}
+use Rattle.sctp_chains.proofs.ListLemmas.{at_same}
+use Rattle.sctp_chains.proofs.FilingLemmas.{files_alone, files_back, files_front, files_both}
+
+one_own : (p : Part) → IsChain (one_of p)
+one_own p = record { some = omega arith; last = omega arith }
+
+module _ (cs : List Chain) (k : ℕ) (p : Part) (le : k ≤ length cs) (place : AreChains (map chain_of cs) → IsPlace p.rank (map chain_of cs) k) where
+  within : k ≤ length (map chain_of cs)
+  within = let n = length_kept cs in omega (arith, le, n)
+
+  pub filed_back : (j : ℕ) (x y : Chain) → j < length cs → x ≡ get_or cs j x → chain_of y ≡ join (chain_of x) (one_of p) → IsLinkBefore (map chain_of cs) k (one_of p) (Some j) →
+      IsLinkBehind (map chain_of cs) k (one_of p) None → Gains (one_of p) (map chain_of cs) (map chain_of (set cs j y))
+  filed_back j x y less at is before behind =
+      subst (Gains (one_of p) (map chain_of cs)) (sym (set_kept cs j y ∙ ap (set (map chain_of cs) j) is))
+      (files_back (map chain_of cs) k (one_of p) within (one_own p) refl place j (chain_of x) (sym (at_kept cs j x less at (chain_of x))) before behind)
+
+  pub filed_front : (j : ℕ) (x y : Chain) → j < length cs → x ≡ get_or cs j x → chain_of y ≡ join (one_of p) (chain_of x) → IsLinkBefore (map chain_of cs) k (one_of p) None →
+      IsLinkBehind (map chain_of cs) k (one_of p) (Some j) → Gains (one_of p) (map chain_of cs) (map chain_of (set cs j y))
+  filed_front j x y less at is before behind =
+      subst (Gains (one_of p) (map chain_of cs)) (sym (set_kept cs j y ∙ ap (set (map chain_of cs) j) is))
+      (files_front (map chain_of cs) k (one_of p) within (one_own p) refl place j (chain_of x) (sym (at_kept cs j x less at (chain_of x))) before behind)
+
+  pub filed_alone : (x : Chain) → chain_of x ≡ one_of p → IsLinkBefore (map chain_of cs) k (one_of p) None → IsLinkBehind (map chain_of cs) k (one_of p) None →
+      Gains (one_of p) (map chain_of cs) (map chain_of (insert cs k x))
+  filed_alone x is before behind =
+      subst (Gains (one_of p) (map chain_of cs)) (sym (insert_kept cs k x ∙ ap (λ (c : ChainKept). take k (map chain_of cs) ++ c ∷ drop k (map chain_of cs)) is))
+      (files_alone (map chain_of cs) k (one_of p) within (one_own p) refl place before behind)
+
+  pub filed_both : (i j : ℕ) (new : List Chain) → IsLinkBefore (map chain_of cs) k (one_of p) (Some i) → IsLinkBehind (map chain_of cs) k (one_of p) (Some j) →
+      IsJoined (map chain_of cs) i (one_of p) j (map chain_of new) → Gains (one_of p) (map chain_of cs) (map chain_of new)
+  filed_both i j new before behind joined =
+      let kept = map chain_of cs in
+      let c = get_or kept i (one_of p) in
+      let d = get_or kept j (one_of p) in
+      let at : c ≡ get_or kept i c = at_same kept i (one_of p) c before.1 in
+      let also : d ≡ get_or kept j d = at_same kept j (one_of p) d behind.1 in
+      subst (Gains (one_of p) kept) (sym (joined c d at also)) (files_both kept k (one_of p) within (one_own p) refl place i j c d at also before behind)
+
+-- ---- one chain of two, and the fragment between them
+
+pub joined_up : (cs new : List Chain) (i j : ℕ) (p : Part) (x y z w r : Chain) → i < j → j < length cs → x ≡ get_or cs i x → chain_of y ≡ chain_of x →
+    r ≡ get_or (set cs i y) j r → new ≡ remove (set cs i y) j → w ≡ get_or new i w → chain_of z ≡ join (join (chain_of w) (one_of p)) (chain_of r) →
+    IsJoined (map chain_of cs) i (one_of p) j (map chain_of (set new i z))
+joined_up cs new i j p x y z w r order less at same taken left again is c d here there =
+    set_kept new i z ∙ ap (λ (xs : List Chain). set (map chain_of xs) i (chain_of z)) left
+    ∙ ap (λ (xs : List ChainKept). set xs i (chain_of z)) (remove_kept (set cs i y) j ∙ ap (λ (xs : List ChainKept). remove xs j) (set_kept cs i y))
+    ∙ set_twice (map chain_of cs) i j (chain_of y) (chain_of z) order ∙ ap (λ (m : ChainKept). remove (set (map chain_of cs) i m) j) all
+  where
+    first : chain_of x ≡ c
+    first = same_at cs i i x c refl (let o = order in let l = less in omega (arith, o, l)) at here
+
+    second : chain_of r ≡ d
+    second = same_at cs j j r d refl less (taken ∙ other_at cs i j y r order) there
+
+    kept : w ≡ y
+    kept = again ∙ ap (λ (xs : List Chain). get_or xs i w) left ∙ left_at cs i j y w order less
+
+    all : chain_of z ≡ join (join c (one_of p)) d
+    all = is ∙ ap (λ (v : ChainKept). join (join v (one_of p)) (chain_of r)) (ap chain_of kept ∙ same ∙ first) ∙ ap (join (join c (one_of p))) second

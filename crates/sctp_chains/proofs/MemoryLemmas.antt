@@ -1,0 +1,89 @@
+-- Chains as they lie in memory, and what they say.
+use Rattle.std.proofs.Common.{◌≡◌, ℕ, zero, suc, ◌<◌, List, [], ◌∷◌, ◌++◌, length, get_or, set, take, drop, map, Result, Ok, Err, refl, sym, ◌∙◌, ap, arith}
+use Rattle.std.specs.Prelude.{OnOk, OnErr}
+use Rattle.std.specs.List.{insert, remove}
+use Rattle.std.proofs.lemmas.List.{map-append}
+use Rattle.sctp_chains.specs.Links.{ChainKept, chain_of}
+use Rattle.sctp_chains.specs.declared.chain.Chain.{Chain}
+
+pub on_ok : {A E : Type 0} (r : Result A E) (P Q : Type 0) → (P → Q) → OnOk r P → OnOk r Q
+on_ok (Ok x) P Q f p = f p
+on_ok (Err x) P Q f p = p
+
+pub on_err : {A E : Type 0} (r : Result A E) (P Q : Type 0) → (P → Q) → OnErr r P → OnErr r Q
+on_err (Ok x) P Q f p = p
+on_err (Err x) P Q f p = f p
+
+pub any_err : {A E : Type 0} (r : Result A E) (P : Type 0) → P → OnErr r P
+any_err (Ok x) P p = tt
+any_err (Err x) P p = p
+
+-- ---- places
+
+pub at_kept : (cs : List Chain) (i : ℕ) (x : Chain) → i < length cs → x ≡ get_or cs i x → (d : ChainKept) → get_or (map chain_of cs) i d ≡ chain_of x
+at_kept [] i x less at d = absurd (omega (arith, less))
+at_kept (c ∷ cs) zero x less at d = ap chain_of (sym at)
+at_kept (c ∷ cs) (suc i) x less at d = at_kept cs i x (omega (arith, less)) at d
+
+-- what is read at a place is what stands there
+pub same_at : (cs : List Chain) (i j : ℕ) (x : Chain) (c : ChainKept) → i ≡ j → i < length cs → x ≡ get_or cs i x → c ≡ get_or (map chain_of cs) j c → chain_of x ≡ c
+same_at cs i j x c is less at kept = sym (at_kept cs i x less at c) ∙ ap (λ (n : ℕ). get_or (map chain_of cs) n c) is ∙ sym kept
+
+pub length_kept : (cs : List Chain) → length (map chain_of cs) ≡ length cs
+length_kept [] = refl
+length_kept (c ∷ cs) = ap suc (length_kept cs)
+
+-- ---- changes
+
+pub take_kept : (cs : List Chain) (k : ℕ) → map chain_of (take k cs) ≡ take k (map chain_of cs)
+take_kept cs zero = refl
+take_kept [] (suc k) = refl
+take_kept (c ∷ cs) (suc k) = ap (λ (xs : List ChainKept). chain_of c ∷ xs) (take_kept cs k)
+
+pub drop_kept : (cs : List Chain) (k : ℕ) → map chain_of (drop k cs) ≡ drop k (map chain_of cs)
+drop_kept cs zero = refl
+drop_kept [] (suc k) = refl
+drop_kept (c ∷ cs) (suc k) = drop_kept cs k
+
+pub set_kept : (cs : List Chain) (i : ℕ) (x : Chain) → map chain_of (set cs i x) ≡ set (map chain_of cs) i (chain_of x)
+set_kept [] i x = refl
+set_kept (c ∷ cs) zero x = refl
+set_kept (c ∷ cs) (suc i) x = ap (λ (xs : List ChainKept). chain_of c ∷ xs) (set_kept cs i x)
+
+pub remove_kept : (cs : List Chain) (i : ℕ) → map chain_of (remove cs i) ≡ remove (map chain_of cs) i
+remove_kept cs i = map-append chain_of (take i cs) (drop (suc i) cs) ∙ ap (λ (xs : List ChainKept). xs ++ map chain_of (drop (suc i) cs)) (take_kept cs i)
+    ∙ ap (λ (xs : List ChainKept). take i (map chain_of cs) ++ xs) (drop_kept cs (suc i))
+
+pub insert_kept : (cs : List Chain) (i : ℕ) (x : Chain) → map chain_of (insert cs i x) ≡ take i (map chain_of cs) ++ chain_of x ∷ drop i (map chain_of cs)
+insert_kept cs i x = map-append chain_of (take i cs) (x ∷ drop i cs) ∙ ap (λ (xs : List ChainKept). xs ++ chain_of x ∷ map chain_of (drop i cs)) (take_kept cs i)
+    ∙ ap (λ (xs : List ChainKept). take i (map chain_of cs) ++ chain_of x ∷ xs) (drop_kept cs i)
+
+-- what stands there already
+pub set_same : (cs : List Chain) (i : ℕ) (x y : Chain) → i < length cs → x ≡ get_or cs i x → chain_of y ≡ chain_of x → map chain_of (set cs i y) ≡ map chain_of cs
+set_same [] i x y less at same = refl
+set_same (c ∷ cs) zero x y less at same = ap (λ (z : ChainKept). z ∷ map chain_of cs) (same ∙ ap chain_of at)
+set_same (c ∷ cs) (suc i) x y less at same = ap (λ (xs : List ChainKept). chain_of c ∷ xs) (set_same cs i x y (omega (arith, less)) at same)
+
+-- ---- one chain changes, a later one is taken out, and the first changes again
+
+pub left_at : (cs : List Chain) (i j : ℕ) (y d : Chain) → i < j → j < length cs → get_or (remove (set cs i y) j) i d ≡ y
+left_at [] i j y d order less = absurd (omega (arith, less))
+left_at (c ∷ cs) i zero y d order less = absurd (omega (arith, order))
+left_at (c ∷ cs) zero (suc j) y d order less = refl
+left_at (c ∷ cs) (suc i) (suc j) y d order less = left_at cs i j y d (omega (arith, order)) (omega (arith, less))
+
+pub other_at : (cs : List Chain) (i j : ℕ) (y d : Chain) → i < j → get_or (set cs i y) j d ≡ get_or cs j d
+other_at [] i j y d order = refl
+other_at (c ∷ cs) i zero y d order = absurd (omega (arith, order))
+other_at (c ∷ cs) zero (suc j) y d order = refl
+other_at (c ∷ cs) (suc i) (suc j) y d order = other_at cs i j y d (omega (arith, order))
+
+pub set_twice : (cs : List ChainKept) (i j : ℕ) (y z : ChainKept) → i < j → set (remove (set cs i y) j) i z ≡ remove (set cs i z) j
+set_twice [] i j y z order = nothing i j
+  where
+    nothing : (a b : ℕ) → set (remove [] b) a z ≡ remove [] b
+    nothing a zero = refl
+    nothing a (suc b) = refl
+set_twice (c ∷ cs) i zero y z order = absurd (omega (arith, order))
+set_twice (c ∷ cs) zero (suc j) y z order = refl
+set_twice (c ∷ cs) (suc i) (suc j) y z order = ap (λ (xs : List ChainKept). c ∷ xs) (set_twice cs i j y z (omega (arith, order)))

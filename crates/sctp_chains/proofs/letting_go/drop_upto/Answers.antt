@@ -1,0 +1,48 @@
+use Rattle.std.proofs.Common.{◌≡◌, ◌-◌, ◌<◌, ◌≤◌, length, map, ap, sym, ◌∙◌, arith}
+use Rattle.sctp_chains.specs.declared.chain.Chain.{Chain}
+use Rattle.sctp_chains.specs.Links.{chain_of, bytes_of}
+use Rattle.sctp_chains.specs.inner.LettingGo.{size_of_parts}
+use Rattle.sctp_chains.proofs.ListLemmas.{at_same}
+use Rattle.sctp_chains.proofs.GoingLemmas.{one_more, front_more, none_more, none_left}
+use Rattle.sctp_chains.proofs.letting_go.drop_upto.Goals as goal
+use Rattle.sctp_chains.proofs.letting_go.drop_upto.Goals.{then-loop-chains-test+else-index-upto, else-loop-chains-test, else-at-len-via-then-at-len+else-index-upto-2, else-at-len-via-else-at-len}
+
+pub loop-chains-preserved-in-Some : goal.loop-chains-preserved-in-Some
+loop-chains-preserved-in-Some c =
+    let cs = c.loop-chains.chains.items in
+    let k = c.args.at in
+    let x = c.in-Some.chain in
+    let l : k < length cs = omega (arith, c.loop-chains-test.true, c.len.ensures) in
+    let same : x ≡ c.index.result.now = c.in-Some.ensures.value ∙ at_same cs k x c.index.result.now l ∙ sym c.index.ensures in
+    let low : x.last ≤ c.args.upto = let e = ap (λ (z : Chain). z.last) same in let h = c.if-index-upto.true in omega (arith, e, h) in
+    one_more cs k x l c.in-Some.ensures.value c.args.upto (map chain_of c.args.chains.now.items) c.remove.new.self.items c.args.held c.loop-chains.left c.less-left.result
+    c.loop-chains.invariant low c.in-Some.ensures.items (c.less-left.ensures ∙ ap (λ ps. c.loop-chains.left - size_of_parts (map bytes_of ps)) c.deref.ensures.value)
+
+pub returns-then-index-upto-2 : goal.returns-then-index-upto-2
+returns-then-index-upto-2 c =
+    let cs = c.loop-chains.chains.items in
+    let k = c.args.at in
+    let x = c.index_mut.result.now in
+    let l : k < length cs = omega (arith, c.if-at-len.true, c.len-2.ensures) in
+    let same : x ≡ c.index-then-at-len.result.now = c.index_mut.ensures.value ∙ at_same cs k x c.index-then-at-len.result.now l ∙ sym c.index-then-at-len.ensures in
+    let low : x.first ≤ c.args.upto = let e = ap (λ (z : Chain). z.first) same in let h = c.if-index-upto-2.true in omega (arith, e, h) in
+    let high : c.args.upto < x.last = elim c.loop-chains-test.branch [
+      | then-loop-chains-test+else-index-upto w ↦
+          let e = ap (λ (z : Chain). z.last) (c.index_mut.ensures.value ∙ at_same cs k x w.index.result.now l ∙ sym w.index.ensures) in let h = w.if-index-upto.false in omega (arith, e, h)
+      | else-loop-chains-test w ↦ absurd (let h = w.loop-chains-test.false in omega (arith, h, l, c.len.ensures))
+    ] in
+    front_more cs k x l c.index_mut.ensures.value c.args.upto (map chain_of c.args.chains.now.items) c.trim-left.new.chain c.args.held c.loop-chains.left c.trim-left.result
+    c.loop-chains.invariant low high c.trim-left.ensures
+
+pub returns-else-at-len : goal.returns-else-at-len
+returns-else-at-len c =
+    let cs = c.loop-chains.chains.items in
+    let k = c.args.at in
+    elim c.else-at-len.branch [
+      | else-at-len-via-then-at-len+else-index-upto-2 w ↦
+          let l : k < length cs = let h = w.if-at-len.true in omega (arith, h, c.len-2.ensures) in
+          none_more cs k w.index-then-at-len.result.now l w.index-then-at-len.ensures c.args.upto (map chain_of c.args.chains.now.items) c.args.held c.loop-chains.left
+          c.loop-chains.invariant (let h = w.if-index-upto-2.false in omega (arith, h))
+      | else-at-len-via-else-at-len w ↦
+          none_left cs k c.args.upto (map chain_of c.args.chains.now.items) c.args.held c.loop-chains.left (let h = w.if-at-len.false in omega (arith, h, c.len-2.ensures)) c.loop-chains.invariant
+    ]

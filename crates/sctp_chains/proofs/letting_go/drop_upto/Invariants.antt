@@ -1,0 +1,10 @@
+use Rattle.std.proofs.Common.{length, map}
+use Rattle.sctp_chains.specs.Links.{chain_of}
+use Rattle.sctp_chains.proofs.TrimLemmas.{Drops}
+use Rattle.sctp_chains.proofs.letting_go.drop_upto.Given as goal
+
+abbrev pub invariant-loop-chains : goal.invariant-loop-chains
+invariant-loop-chains l = Drops l.upto l.at (map chain_of l.initial.chains.items) (map chain_of l.chains.items) l.fn.held l.left
+
+abbrev pub decreases-loop-chains : goal.decreases-loop-chains
+decreases-loop-chains l = length l.chains.items

@@ -1,0 +1,6 @@
+pub mod Same
+pub mod Cells
+pub mod Links
+pub mod StandsFor
+pub mod WholeOf
+pub mod inner

@@ -1,0 +1,30 @@
+-- Which chains stand for which kept chunks of one lane.
+use Rattle.std.specs.Prelude.{◌≡◌, ℕ, ◌+◌, ◌<◌, List, map, length}
+use Rattle.sctp_model.specs.Lists.{Has}
+use Rattle.sctp_model.specs.Serial.{COUNTS}
+use Rattle.sctp_model.specs.Format.{Format, Lane}
+use Rattle.sctp_model.specs.Pieces.{Piece}
+use Rattle.sctp_model.specs.ReceiverView.{size_of_pieces}
+use Rattle.sctp_model.specs.receiver.Laws.{IsOnePlace, IsApart}
+use Rattle.sctp_chains.specs.Same.{AreSame}
+use Rattle.sctp_chains.specs.Cells.{cell_of, IsOf}
+use Rattle.sctp_chains.specs.Links.{ChainKept, chain_of, cells_of, AreChains}
+use Rattle.sctp_chains.specs.declared.chains.Chains.{Chains}
+
+-- The chains have just the chunks of the list, in whatever order, which are of the lane and fill no place twice; and their bytes are counted.
+pub record KeepsLane (f : Format) (l : Lane) (cs : List ChainKept) (bytes : ℕ) (kept : List Piece) : Type 0 where
+  pub of : (x : Piece) → Has kept x → IsOf f l x
+  pub apart : IsApart f kept
+  pub chains : AreChains cs
+  pub same : AreSame (map (cell_of f) kept) (cells_of cs)
+  pub held : bytes ≡ size_of_pieces kept
+
+-- they stand for these chunks of the lane
+unfoldable pub StandsFor : {F : Type 0} → Format → Chains F → Lane → List Piece → Type 0
+StandsFor f r l kept = KeepsLane f l (map chain_of r.chains.items) r.held kept
+
+-- A chunk of the lane for a place that none fills, and all bytes can be counted.
+pub record IsNew (f : Format) (l : Lane) (kept : List Piece) (x : Piece) : Type 0 where
+  pub of : IsOf f l x
+  pub free : (y : Piece) → Has kept y → IsOnePlace f x y → ⊥
+  pub fits : size_of_pieces kept + length x.bytes < COUNTS

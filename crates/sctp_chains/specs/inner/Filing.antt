@@ -1,0 +1,40 @@
+-- A fragment is filed.
+use Rattle.std.specs.Prelude.{◌≡◌, ℕ, suc, ◌<◌, ◌≤◌, true, false, List, ◌++◌, length, get_or, set, take, drop, Option, Some, None}
+use Rattle.std.specs.List.{remove}
+use Rattle.sctp_model.specs.Lists.{Has}
+use Rattle.sctp_chains.specs.Same.{AreSame}
+use Rattle.sctp_chains.specs.Cells.{Cell}
+use Rattle.sctp_chains.specs.Links.{ChainKept, cells_in, cells_of, is_linked, join, AreChains}
+
+-- So many chains at the front lie below a rank, and none behind them does.
+pub record IsPlace (rank : ℕ) (cs : List ChainKept) (k : ℕ) : Type 0 where
+  pub front : (c : ChainKept) → Has (take k cs) c → c.last < rank
+  pub back : (c : ChainKept) → Has (drop k cs) c → rank ≤ c.last
+
+-- no fragment has the rank
+abbrev pub Avoids : (rank : ℕ) → List ChainKept → Type 0
+Avoids r cs = (x : Cell) → Has (cells_of cs) x → x.rank ≡ r → ⊥
+
+-- the chain before place k that the fragment goes on after, or that there is none
+abbrev pub IsLinkBefore : List ChainKept → (k : ℕ) → ChainKept → Option ℕ → Type 0
+IsLinkBefore cs k a None = (j : ℕ) → suc j ≡ k → (c : ChainKept) → j < length cs → c ≡ get_or cs j c → is_linked c a ≡ false
+IsLinkBefore cs k a (Some j) = (suc j ≡ k) × (j < length cs) × ((c : ChainKept) → c ≡ get_or cs j c → is_linked c a ≡ true)
+
+-- the chain at place k that goes on after the fragment, or that there is none
+abbrev pub IsLinkBehind : List ChainKept → (k : ℕ) → ChainKept → Option ℕ → Type 0
+IsLinkBehind cs k a None = (c : ChainKept) → k < length cs → c ≡ get_or cs k c → is_linked a c ≡ false
+IsLinkBehind cs k a (Some j) = (j ≡ k) × (j < length cs) × ((c : ChainKept) → c ≡ get_or cs j c → is_linked a c ≡ true)
+
+-- a chain, the fragment behind it, and the chain behind that are one chain, at the place of the first
+abbrev pub IsJoined : (old : List ChainKept) → (left : ℕ) → ChainKept → (right : ℕ) → (new : List ChainKept) → Type 0
+IsJoined old left a right new =
+    (c d : ChainKept) → c ≡ get_or old left c → d ≡ get_or old right d → new ≡ remove (set old left (join (join c a) d)) right
+
+-- The chains have the fragments of one more.
+pub record HaveMore (a : ChainKept) (old new : List ChainKept) : Type 0 where
+  pub chains : AreChains new
+  pub cells : AreSame (cells_of new) (cells_in a ++ cells_of old)
+
+-- they do, if it is new to them
+abbrev pub Gains : ChainKept → (old new : List ChainKept) → Type 0
+Gains a old new = AreChains old → Avoids a.first old → HaveMore a old new

@@ -1,0 +1,119 @@
+//! Fragments that follow one another. Nothing here knows of numbers or formats.
+
+ghost use Rattle.std.specs.Prelude.{◌≡◌, ◌≤◌, ◌+◌, ◌<◌, vec_len, vec_capacity, OnOk, OnErr, IfOk};
+ghost use Rattle.sctp_chains.specs.Links.{chain_of, one_of, is_linked, is_whole, join};
+
+use sctp_wire::NoMemory;
+use std::alloc::Global;
+
+/// What the chunk that begins a message says of it: its own index, and the payload protocol identifier.
+#[derive(Clone, Copy, Debug, PartialEq, Eq)]
+pub(crate) struct Head {
+    pub(crate) index: u32,
+    pub(crate) payload_id: u32,
+}
+
+/// Fragments of consecutive ranks. Only with the first may a message begin, and only with the last may one end.
+#[derive(Drop)]
+pub(crate) struct Chain {
+    pub(crate) first: u64,
+    pub(crate) last: u64,
+    pub(crate) head: Option<Head>,
+    pub(crate) ends: bool,
+    pub(crate) parts: Vec<Vec<u8>>,
+}
+
+/// One fragment, to be filed.
+#[derive(Drop)]
+pub(crate) struct Part {
+    pub(crate) rank: u64,
+    pub(crate) head: Option<Head>,
+    pub(crate) end: bool,
+    pub(crate) data: Vec<u8>,
+}
+
+impl Chain {
+    /// Whether a fragment goes on where it stops.
+    pub(crate) fn goes_on(&self, part: &Part) -> bool
+        ensures { result ≡ is_linked (chain_of self.now) (one_of part.now) }
+    {
+        part.rank.saturating_sub(self.last) == 1 && (!self.ends && part.head.is_none())
+    }
+
+    /// Puts a fragment behind it.
+    ///
+    /// # Errors
+    /// Memory ran out, and nothing changed.
+    pub(crate) fn push_back(&mut self, part: Part) -> Result<(), NoMemory>
+        ensures joined { OnOk result (chain_of self.new ≡ join (chain_of self.old) (one_of part)) }
+        ensures refused { OnErr result (chain_of self.new ≡ chain_of self.old) }
+    {
+        self.parts.push(part.data).map_err(|_| NoMemory)?;
+        self.last = part.rank;
+        self.ends = part.end;
+        Ok(())
+    }
+
+    /// Puts a fragment before it.
+    ///
+    /// # Errors
+    /// Memory ran out, and nothing changed.
+    pub(crate) fn push_front(&mut self, part: Part) -> Result<(), NoMemory>
+        ensures joined { OnOk result (chain_of self.new ≡ join (one_of part) (chain_of self.old)) }
+        ensures refused { OnErr result (chain_of self.new ≡ chain_of self.old) }
+    {
+        self.parts.insert(0, part.data).map_err(|_| NoMemory)?;
+        self.first = part.rank;
+        self.head = part.head;
+        Ok(())
+    }
+
+    /// Makes room for so many fragments more.
+    ///
+    /// # Errors
+    /// Memory ran out.
+    pub(crate) fn reserve(&mut self, more: usize) -> Result<(), NoMemory>
+        ensures same { chain_of self.new ≡ chain_of self.old }
+        ensures room { OnOk result (vec_len self.new.parts + more ≤ vec_capacity self.new.parts) }
+    {
+        self.parts.reserve(more).map_err(|_| NoMemory)
+    }
+
+    /// Puts a fragment behind it, and another chain behind that. There is room for all of them.
+    pub(crate) fn close_gap(&mut self, part: Part, mut right: Chain)
+        requires { vec_len self.old.parts + (vec_len right.parts + 1) ≤ vec_capacity self.old.parts }
+        ensures { chain_of self.new ≡ join (join (chain_of self.old) (one_of part)) (chain_of right) }
+    {
+        self.parts.push_reserved(part.data);
+        let _ = self.parts.append(&mut right.parts);
+        self.last = right.last;
+        self.ends = right.ends;
+    }
+}
+
+impl Part {
+    /// Whether a chain goes on where it stops.
+    pub(crate) fn leads_to(&self, chain: &Chain) -> bool
+        ensures { result ≡ is_linked (one_of self.now) (chain_of chain.now) }
+    {
+        chain.first.saturating_sub(self.rank) == 1 && (!self.end && chain.head.is_none())
+    }
+}
+
+/// A chain of one fragment.
+///
+/// # Errors
+/// Memory ran out.
+pub(crate) fn alone(alloc: Global, part: Part) -> Result<Chain, NoMemory>
+    ensures { IfOk result (λ c. chain_of c ≡ one_of part) }
+{
+    let mut parts = Vec::new(alloc);
+    parts.push(part.data).map_err(|_| NoMemory)?;
+    Ok(Chain {
+        first: part.rank,
+        last: part.rank,
+        head: part.head,
+        ends: part.end,
+        parts,
+    })
+}

@@ -1,0 +1,196 @@
+//! The kept chunks of one lane.
+
+ghost use Rattle.std.specs.Prelude.{◌≡◌, ◌-◌, ◌^◌, ℕ, min, true, not, [], ◌∷◌, filter, IfOk, OnOk, OnErr};
+ghost use Rattle.sctp_model.specs.Format.{Lane, Unordered, is_numbered};
+ghost use Rattle.sctp_model.specs.Framing.{lets_go};
+ghost use Rattle.sctp_model.specs.Lists.{Has};
+ghost use Rattle.sctp_model.specs.ReceiverView.{size_of_pieces};
+ghost use Rattle.sctp_model.specs.receiver.PieceTaken.{is_repeated};
+ghost use Rattle.sctp_wire.specs.ChunkTree.{piece_meaning};
+ghost use Rattle.sctp_chains.specs.Cells.{Kept, cell_of, counted, IsOf};
+ghost use Rattle.sctp_chains.specs.StandsFor.{StandsFor, IsNew};
+ghost use Rattle.sctp_chains.specs.Links.{chain_of, one_of, cells_in};
+ghost use Rattle.sctp_chains.specs.WholeOf.{TakesLowest, TakesWith, from_number, IsWholeOf};
+
+use crate::chain::{Chain, Head, Part};
+use crate::filing::{file, place};
+use crate::letting_go::{drop_upto, take_out};
+use crate::rank::rank_at;
+use crate::search::{Found, first_whole, whole_with};
+use crate::whole::Whole;
+use sctp_framing::Framing;
+use sctp_wire::{NoMemory, Piece};
+use std::alloc::Global;
+use std::collections::VecDeque;
+use std::marker::PhantomData;
+
+/// The kept chunks of one lane, in one format of user data.
+#[derive(Drop)]
+pub struct Chains<F: Framing> {
+    alloc: Global,
+    chains: VecDeque<Chain>,
+    held: u32,
+    framing: PhantomData<F>,
+}
+
+#[tactic(auto, unfolding(crate::specs::StandsFor::StandsFor))]
+impl<F: Framing> Chains<F> {
+    /// Of a lane of which nothing is kept.
+    pub fn new(alloc: Global) -> Chains<F>
+        ensures { (l : Lane) → StandsFor F.format result l [] }
+    {
+        Chains {
+            alloc,
+            chains: VecDeque::new(alloc),
+            held: 0,
+            framing: PhantomData,
+        }
+    }
+
+    /// The bytes of all chunks kept.
+    pub fn held_bytes(&self) -> u32
+        ensures { (l : Lane) (kept : Kept) → StandsFor F.format self.now l kept → result ≡ size_of_pieces kept }
+    {
+        self.held
+    }
+
+    /// Whether this fragment of this message is kept already, where that can be: under DATA a fragment is its TSN.
+    pub fn is_held(&self, piece: &Piece<'_>, number: Option<u32>) -> bool
+        ensures { (i : ℕ) (l : Lane) (kept : Kept) → StandsFor F.format self.now l kept → IsOf F.format l (counted i (piece_meaning piece.now) number)
+            → result ≡ is_repeated F.format kept (counted i (piece_meaning piece.now) number) }
+    {
+        if !F::is_numbered(true) {
+            return false;
+        }
+        let rank = rank_at(number, F::place(0, piece.begin, piece.word));
+        let at = place(&self.chains, rank);
+        at < self.chains.len() && self.chains[at].first <= rank
+    }
+
+    /// Keeps a chunk, with this index and number in place of its wire values. Its data is copied.
+    ///
+    /// # Errors
+    /// Memory ran out, and nothing changed.
+    pub fn add(
+        &mut self,
+        piece: &Piece<'_>,
+        index: u32,
+        number: Option<u32>,
+    ) -> Result<(), NoMemory>
+        ensures kept { (l : Lane) (kept : Kept) → StandsFor F.format self.old l kept → IsNew F.format l kept (counted index (piece_meaning piece.now) number)
+            → OnOk result (StandsFor F.format self.new l (counted index (piece_meaning piece.now) number ∷ kept)) }
+        ensures refused { (l : Lane) (kept : Kept) → StandsFor F.format self.old l kept → OnErr result (StandsFor F.format self.new l kept) }
+    {
+        let part = part_of::<F>(self.alloc, piece, index, number)?;
+        file(self.alloc, &mut self.chains, part)?;
+        self.held = self.held.saturating_add(small_len(piece.bytes.len()));
+        Ok(())
+    }
+
+    /// Takes the whole message with the lowest number within these bounds, and lets go of all chunks up to its number. Of several with one
+    /// number, which an honest peer never sends, it is the one that begins with the lowest index.
+    pub fn take_lowest(&mut self, from: u32, last: u32) -> Option<Whole>
+        ensures { (l : Lane) (kept : Kept) → StandsFor F.format self.old l kept → is_numbered F.format l.kind ≡ true
+            → TakesLowest F.format l kept from last result self.new }
+    {
+        let found = first_whole(
+            &self.chains,
+            rank_at(Some(from), 0),
+            rank_at(Some(last), u32::MAX),
+        )?;
+        let chain = take_out(&mut self.chains, &mut self.held, found.at)?;
+        let number = (chain.first / 4_294_967_296) as u32;
+        let upto = rank_at(Some(number), u32::MAX);
+        self.held = drop_upto(&mut self.chains, self.held, 0, upto);
+        Some(whole_of(chain, found.head, Some(number)))
+    }
+
+    /// Takes the whole message that this chunk is one of, and lets go of what goes with it: under I-DATA all chunks of its number.
+    pub fn take_with(&mut self, piece: &Piece<'_>, index: u32, number: Option<u32>) -> Option<Whole>
+        ensures { (l : Lane) (kept : Kept) → StandsFor F.format self.old l kept → Has kept (counted index (piece_meaning piece.now) number)
+            → TakesWith F.format l kept (counted index (piece_meaning piece.now) number) result self.new }
+    {
+        let place = F::place(index, piece.begin, piece.word);
+        let found = whole_with(&self.chains, rank_at(number, place))?;
+        let chain = take_out(&mut self.chains, &mut self.held, found.at)?;
+        let upto = if F::is_numbered(true) {
+            rank_at(number, u32::MAX)
+        } else {
+            chain.last
+        };
+        self.held = drop_upto(&mut self.chains, self.held, found.at, upto);
+        Some(whole_of(chain, found.head, number))
+    }
+
+    /// Lets go of the chunks below a number, in a lane that is numbered.
+    pub fn drop_below(&mut self, number: u32)
+        ensures { (l : Lane) (kept : Kept) → StandsFor F.format self.old l kept → is_numbered F.format l.kind ≡ true
+            → StandsFor F.format self.new l (from_number number kept) }
+    {
+        if let Some(last) = number.checked_sub(1) {
+            let upto = rank_at(Some(last), u32::MAX);
+            self.held = drop_upto(&mut self.chains, self.held, 0, upto);
+        }
+    }
+
+    /// Lets go of the unordered chunks that a FORWARD leaves behind: those up to its index or, where they are numbered, those below
+    /// one past the largest number skipped.
+    pub fn let_go(&mut self, jump: u32, skip: u32)
+        ensures { (l : Lane) (kept : Kept) → StandsFor F.format self.old l kept → l.kind ≡ Unordered
+            → StandsFor F.format self.new l (filter (λ x. not (lets_go F.format x.index x.number jump skip)) kept) }
+    {
+        if F::is_numbered(true) {
+            self.drop_below(skip);
+        } else {
+            self.held = drop_upto(&mut self.chains, self.held, 0, rank_at(None, jump));
+        }
+    }
+}
+
+/// A chunk as a fragment to be filed, its data copied.
+///
+/// # Errors
+/// Memory ran out.
+fn part_of<F: Framing>(
+    alloc: Global,
+    piece: &Piece<'_>,
+    index: u32,
+    number: Option<u32>,
+) -> Result<Part, NoMemory>
+    ensures { IfOk result (λ p. cells_in (one_of p) ≡ cell_of F.format (counted index (piece_meaning piece.now) number) ∷ []) }
+{
+    let data = Vec::from_slice(alloc, piece.bytes).map_err(|_| NoMemory)?;
+    let head = if F::begins(piece.begin, piece.word) {
+        Some(Head {
+            index,
+            payload_id: F::payload(piece.begin, piece.word),
+        })
+    } else {
+        None
+    };
+    Ok(Part {
+        rank: rank_at(number, F::place(index, piece.begin, piece.word)),
+        head,
+        end: piece.end,
+        data,
+    })
+}
+
+/// A number of bytes, at most 2^32 - 1.
+fn small_len(bytes: usize) -> u32
+    ensures { result ≡ min bytes (2 ^ 32 - 1) }
+{
+    u32::try_from(bytes).unwrap_or(u32::MAX)
+}
+
+/// A chain as the whole message that it is.
+fn whole_of(chain: Chain, head: Head, number: Option<u32>) -> Whole
+    ensures { IsWholeOf (chain_of chain) head number result }
+{
+    Whole {
+        first: head.index,
+        number,
+        payload_id: head.payload_id,
+        parts: chain.parts,
+    }
+}

@@ -1,0 +1,89 @@
+//! A fragment is filed: it lengthens a chain, closes the gap between two, or is a chain of its own.
+
+ghost use Rattle.std.specs.Prelude.{◌≡◌, ◌≤◌, ◌<◌, nat_lt, length, map, OnOk, OnErr};
+ghost use Rattle.sctp_chains.specs.Links.{chain_of, one_of, AreChains};
+ghost use Rattle.sctp_chains.specs.inner.Filing.{IsPlace, IsLinkBefore, IsLinkBehind, IsJoined, Gains};
+
+use crate::chain::{Chain, Part, alone};
+use sctp_wire::NoMemory;
+use std::alloc::Global;
+use std::collections::VecDeque;
+
+/// How many chains lie below a rank.
+pub(crate) fn place(chains: &VecDeque<Chain>, rank: u64) -> usize
+    ensures bound { result ≤ length chains.now.items }
+    ensures place { AreChains (map chain_of chains.now.items) → IsPlace rank (map chain_of chains.now.items) result }
+{
+    chains.partition_point(
+        |chain: &Chain| -> bool
+            ensures { result ≡ nat_lt chain.now.last rank }
+        { chain.last < rank },
+    )
+}
+
+/// The chain before a place that a fragment goes on after.
+fn linked_before(chains: &VecDeque<Chain>, at: usize, part: &Part) -> Option<usize>
+    ensures { at ≤ length chains.now.items → IsLinkBefore (map chain_of chains.now.items) at (one_of part.now) result }
+{
+    let before = at.checked_sub(1)?;
+    if before < chains.len() && chains[before].goes_on(part) {
+        return Some(before);
+    }
+    None
+}
+
+/// The chain at a place, if it goes on after a fragment.
+fn linked_behind(chains: &VecDeque<Chain>, at: usize, part: &Part) -> Option<usize>
+    ensures { IsLinkBehind (map chain_of chains.now.items) at (one_of part.now) result }
+{
+    if at < chains.len() && part.leads_to(&chains[at]) {
+        return Some(at);
+    }
+    None
+}
+
+/// Files a fragment.
+///
+/// # Errors
+/// Memory ran out, and nothing changed.
+pub(crate) fn file(alloc: Global, chains: &mut VecDeque<Chain>, part: Part) -> Result<(), NoMemory>
+    ensures filed { OnOk result (Gains (one_of part) (map chain_of chains.old.items) (map chain_of chains.new.items)) }
+    ensures refused { OnErr result (map chain_of chains.new.items ≡ map chain_of chains.old.items) }
+{
+    let at = place(chains, part.rank);
+    match (
+        linked_before(chains, at, &part),
+        linked_behind(chains, at, &part),
+    ) {
+        (Some(left), Some(right)) => join_all(chains, left, part, right),
+        (Some(left), None) => chains[left].push_back(part),
+        (None, Some(right)) => chains[right].push_front(part),
+        (None, None) => {
+            let chain = alone(alloc, part)?;
+            chains.insert(at, chain).map_err(|_| NoMemory)
+        }
+    }
+}
+
+/// Makes one chain of a chain, a fragment behind it, and the chain behind that.
+///
+/// # Errors
+/// Memory ran out, and nothing changed.
+fn join_all(
+    chains: &mut VecDeque<Chain>,
+    left: usize,
+    part: Part,
+    right: usize,
+) -> Result<(), NoMemory>
+    requires order { left < right }
+    requires within { right < length chains.old.items }
+    ensures joined { OnOk result (IsJoined (map chain_of chains.old.items) left (one_of part) right (map chain_of chains.new.items)) }
+    ensures refused { OnErr result (map chain_of chains.new.items ≡ map chain_of chains.old.items) }
+{
+    let more = chains[right].parts.len().saturating_add(1);
+    chains[left].reserve(more)?;
+    if let Some(chain) = chains.remove(right) {
+        chains[left].close_gap(part, chain);
+    }
+    Ok(())
+}

@@ -1,0 +1,70 @@
+//! Fragments go: a message that is taken, or what a rank leaves behind. The bytes held are counted.
+
+ghost use Rattle.std.specs.Prelude.{◌≡◌, ◌≤◌, ◌-◌, length, map, MatchOption};
+ghost use Rattle.sctp_chains.specs.Links.{chain_of, bytes_of};
+ghost use Rattle.sctp_chains.specs.inner.LettingGo.{size_of_parts, LetsGo, TakesOut, Trims};
+
+use crate::chain::Chain;
+use std::collections::VecDeque;
+
+/// A number less the bytes of these parts, 0 where there are more.
+#[tactic(auto, using(crate::proofs::SizeLemmas::size_more))]
+fn less(held: u32, parts: &[Vec<u8>]) -> u32
+    ensures { result ≡ held - size_of_parts (map bytes_of parts.now) }
+{
+    let mut left = held;
+    for part in parts {
+        left = match u32::try_from(part.len()) {
+            Ok(bytes) => left.saturating_sub(bytes),
+            Err(_) => 0,
+        };
+    }
+    left
+}
+
+/// Takes out the chain at a place.
+pub(crate) fn take_out(chains: &mut VecDeque<Chain>, held: &mut u32, at: usize) -> Option<Chain>
+    ensures { MatchOption result (length chains.old.items ≤ at) (λ c. TakesOut at (map chain_of chains.old.items) (map chain_of chains.new.items) held.old held.new (chain_of c)) }
+{
+    let chain = chains.remove(at)?;
+    *held = less(*held, &chain.parts);
+    Some(chain)
+}
+
+/// From a place on, lets go of all fragments of ranks up to this one.
+pub(crate) fn drop_upto(chains: &mut VecDeque<Chain>, held: u32, at: usize, upto: u64) -> u32
+    ensures { LetsGo upto at (map chain_of chains.old.items) (map chain_of chains.new.items) held result }
+{
+    let mut left = held;
+    while at < chains.len() && chains[at].last <= upto {
+        if let Some(chain) = chains.remove(at) {
+            left = less(left, &chain.parts);
+        }
+    }
+    if at < chains.len() && chains[at].first <= upto {
+        left = trim(&mut chains[at], left, upto);
+    }
+    left
+}
+
+/// Lets go of a chain's fragments of ranks up to this one, and keeps those behind.
+fn trim(chain: &mut Chain, held: u32, upto: u64) -> u32
+    ensures { Trims upto (chain_of chain.old) (chain_of chain.new) held result }
+{
+    let last = chain.last;
+    if last <= upto {
+        return held;
+    }
+    let passed = upto.saturating_sub(chain.first) as usize;
+    let gone = passed.saturating_add(1);
+    if gone >= chain.parts.len() {
+        return held;
+    }
+    let stay = chain.parts.len() - gone;
+    let left = less(held, &chain.parts[..gone]);
+    chain.parts.rotate_left(gone);
+    chain.parts.truncate(stay);
+    chain.first = upto.saturating_add(1);
+    chain.head = None;
+    left
+}

@@ -1,0 +1,12 @@
+//! Where a fragment stands in its lane, as one number.
+
+ghost use Rattle.std.specs.Prelude.{◌≡◌};
+ghost use Rattle.sctp_chains.specs.Cells.{rank_at};
+
+/// Of two fragments the one of the lower message number has the lower rank, and within a message the one at the lower place.
+pub(crate) fn rank_at(number: Option<u32>, place: u32) -> u64
+    ensures { result ≡ rank_at number place }
+{
+    let key = number.unwrap_or(0);
+    u64::from(key) * 4_294_967_296 + u64::from(place)
+}
