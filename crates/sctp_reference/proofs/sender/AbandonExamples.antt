@@ -5,6 +5,7 @@ use Rattle.sctp_model.specs.Chunk.{PieceMeaning, ForwardMeaning, IData, ForwardT
 use Rattle.sctp_model.specs.Plan.{Part, End}
 use Rattle.sctp_model.specs.SenderView.{SenderView, fresh_sender}
 use Rattle.sctp_model.specs.ReceiverView.{Handed, ReceiverView, fresh_receiver}
+use Rattle.sctp_model.specs.receiver.ForwardTaken.{OutOfDate, forward_answer}
 use Rattle.sctp_model.specs.sender.Queueing.{queued}
 use Rattle.sctp_model.specs.sender.Filling.{fill}
 use Rattle.sctp_model.specs.sender.SackTaken.{sack_after}
@@ -76,6 +77,19 @@ closed = sack_after answered (sack 3 100 [])
 told_apart : (map (acknowledged closed) (1 ∷ 2 ∷ 3 ∷ []) ≡ false ∷ true ∷ false ∷ []) × (map (abandoned closed) (1 ∷ 2 ∷ 3 ∷ []) ≡ true ∷ false ∷ true ∷ [])
     × (drained answered ∷ unsettled answered ∷ [] ≡ false ∷ true ∷ []) × (drained closed ∷ unsettled closed ∷ [] ≡ true ∷ false ∷ [])
 told_apart = (refl, refl, refl, refl)
+
+-- ---- one message that comes late, when it was abandoned and before its FORWARD
+
+abbrev late : SenderView
+late = abandon_after (fill Plain 200 (asks (fresh_sender 1 1 4 100 true) 0 0 (10 ∷ []))).view 1
+
+-- it is handed over, and the FORWARD that names it is out of date
+abbrev late_came : ReceiverView
+late_came = takes Plain (fresh_receiver 1 1 100) (piece false true true 1 0 0 0 (10 ∷ []))
+
+late_arrives : (forward_chunk_of Plain late ≡ ForwardTsn (names_one 1 0 0)) × (texts (late_came.waiting 0) ≡ (10 ∷ []) ∷ []) × (forward_answer late_came (cumulative late_came 9) (forward_said Plain late) ≡ OutOfDate)
+    × (forwards Plain late_came (forward_said Plain late) ≡ late_came)
+late_arrives = (refl, refl, refl, refl)
 
 -- ---- an end mark, under I-DATA
 
