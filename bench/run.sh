@@ -1,6 +1,6 @@
 #!/bin/sh
 # Counts instructions by callgrind, of programs that `rt run` proves and builds: what a byte of crc32c takes (beside the same loop in C at -O2), and what a
-# receiver takes for a message. `./run.sh` runs all, `./run.sh crc32c` and `./run.sh receiver` one of them. Needs rt, valgrind and cc.
+# receiver and a sender take for a message. `./run.sh` runs all, `./run.sh crc32c`, `./run.sh receiver` and `./run.sh sender` one of them. Needs rt, valgrind and cc.
 set -e
 here=$(cd "$(dirname "$0")" && pwd)
 work=$(mktemp -d)
@@ -56,7 +56,21 @@ receiver() {
     each 'a SACK with 16,383 runs' 1 11 1 "$built" sack
 }
 
+sender() {
+    build sender sctp_model sctp_safety sctp_serial sctp_wire sctp_framing sctp_packet sctp_send
+    for range in '1000 2000' '10000 20000'; do
+        # shellcheck disable=SC2086
+        each "a message of 64 bytes queued, filled and acknowledged ($range)" $range 1 "$built" sent
+    done
+    for range in '740 1480' '7400 14800'; do
+        # shellcheck disable=SC2086
+        each "a message of one byte filled, none acknowledged ($range)" $range 1 "$built" window
+    done
+    # the window holds 32,767, and one more waits
+    "$built" window 32768
+}
+
 case ${1:-all} in
-    all) crc32c; receiver ;;
+    all) crc32c; receiver; sender ;;
     *) "$1" ;;
 esac

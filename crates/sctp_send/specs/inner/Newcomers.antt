@@ -1,11 +1,11 @@
 -- What takes an index next, among what is kept, and what is kept then (RFC 9260, 6.9; RFC 8260, 2.2.1).
-use Rattle.std.specs.Prelude.{◌≡◌, ℕ, zero, suc, ◌+◌, ◌-◌, ◌<◌, ◌⊎◌, nat_lt, Bool, true, false, List, [], ◌∷◌, ◌++◌, length, take, drop, slice_get, slice_set, Option, None, Some, option_and_then}
+use Rattle.std.specs.Prelude.{◌≡◌, ℕ, zero, suc, ◌-◌, ◌<◌, ◌⊎◌, nat_lt, Bool, true, false, List, [], ◌∷◌, ◌++◌, length, take, drop, slice_get, slice_set, Option, None, Some, option_and_then}
 use Rattle.std.specs.Prelude.{slice_index_or}
 use Rattle.sctp_model.specs.Format.{Format, Kind, Ordered, Unordered, Lane}
 use Rattle.sctp_model.specs.Plan.{Message, Entry, Part, End}
 use Rattle.sctp_model.specs.SenderView.{Queued, SenderView}
 use Rattle.sctp_model.specs.sender.Words.{when}
-use Rattle.sctp_model.specs.sender.Entries.{entry_message, fragments_in, continued}
+use Rattle.sctp_model.specs.sender.Entries.{fragments_in, continued}
 use Rattle.sctp_model.specs.sender.Assigning.{with_message, is_on, first_on, without_first, stream_after, going_on, beginning, turn_of, assigned}
 use Rattle.sctp_send.specs.SenderKept.{Item, Rest, Track, Kept}
 use Rattle.sctp_send.specs.declared.message.Fate.TheVariants.{Numbered}

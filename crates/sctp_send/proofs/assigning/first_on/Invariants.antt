@@ -1,4 +1,4 @@
-use Rattle.std.proofs.Common.{◌≡◌, ℕ, map, take, drop}
+use Rattle.std.proofs.Common.{ℕ, map}
 use Rattle.sctp_send.specs.SenderFields.{queued_by}
 use Rattle.sctp_send.proofs.TurnLemmas.{IsPassedOn}
 use Rattle.sctp_send.proofs.assigning.first_on.Given as goal

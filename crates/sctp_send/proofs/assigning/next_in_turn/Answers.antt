@@ -1,4 +1,4 @@
-use Rattle.std.proofs.Common.{◌≡◌, ◌∙◌, ◌+◌, ◌%◌, ◌<◌, ℕ, refl, sym, ap, arith}
+use Rattle.std.proofs.Common.{◌≡◌, ◌∙◌, ◌+◌, ◌%◌, refl, sym, arith}
 use Rattle.sctp_send.proofs.TurnLemmas.{turns_all, turns_none, turns_more, new_in_turn}
 use Rattle.sctp_send.proofs.assigning.next_in_turn.Goals as goal
 

@@ -1,6 +1,5 @@
-use Rattle.std.proofs.Common.{◌≡◌, ◌∙◌, ◌^◌, ◌<◌, suc, ap, sym, arith}
+use Rattle.std.proofs.Common.{◌∙◌, ◌^◌, ◌<◌, suc, ap, sym}
 use Rattle.sctp_model.specs.Framing.{lane_kind}
-use Rattle.sctp_send.specs.SenderKept.{Track}
 use Rattle.sctp_send.specs.SenderFields.{track_meaning, rests_meaning}
 use Rattle.sctp_send.specs.inner.Newcomers.{number_in}
 use Rattle.sctp_send.specs.inner.Drafting.{counted_track}

@@ -1,5 +1,5 @@
-use Rattle.std.proofs.Common.{◌≡◌, ◌∙◌, ap, sym, arith}
-use Rattle.sctp_send.specs.SenderFields.{track_meaning, rests_meaning}
+use Rattle.std.proofs.Common.{ap, sym}
+use Rattle.sctp_send.specs.SenderFields.{rests_meaning}
 use Rattle.sctp_send.specs.inner.Drafting.{left_track}
 use Rattle.sctp_send.proofs.EnterLemmas.{set_on, track_there}
 use Rattle.sctp_send.proofs.entering.leave_on.Goals as goal

@@ -1,4 +1,4 @@
-use Rattle.std.proofs.Common.{arith, refl, set}
+use Rattle.std.proofs.Common.{arith, refl}
 use Rattle.sctp_send.proofs.EnterLemmas.{numbered_more, numbered_end, set_past}
 use Rattle.sctp_send.proofs.fill.number_all.Goals as goal
 use Rattle.sctp_send.proofs.fill.number_all.Goals.{then-at-len, else-at-len}

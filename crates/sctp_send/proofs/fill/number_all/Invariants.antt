@@ -1,4 +1,4 @@
-use Rattle.std.proofs.Common.{◌≡◌, take, drop}
+use Rattle.std.proofs.Common.{◌≡◌, drop}
 use Rattle.sctp_send.specs.inner.Drafting.{numbers_of, all_numbered}
 use Rattle.sctp_send.proofs.fill.number_all.Given as goal
 

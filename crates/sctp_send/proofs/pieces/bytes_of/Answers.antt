@@ -1,4 +1,4 @@
-use Rattle.std.proofs.Common.{◌≡◌, ◌∙◌, ◌+◌, ◌*◌, ℕ, List, min, take, drop, length, ap, sym, arith}
+use Rattle.std.proofs.Common.{◌≡◌, ◌+◌, ◌*◌, min, length}
 use Rattle.sctp_send.proofs.EnterLemmas.{range_is}
 use Rattle.sctp_send.proofs.pieces.bytes_of.Goals as goal
 

@@ -1,6 +1,4 @@
-use Rattle.std.proofs.Common.{◌≡◌, ◌∙◌, ◌<◌, ◌^◌, ℕ, length, ap, sym, arith}
-use Rattle.sctp_model.specs.Framing.{data_chunk}
-use Rattle.sctp_model.specs.Pieces.{word_of}
+use Rattle.std.proofs.Common.{◌≡◌, ◌∙◌, ◌<◌, ◌^◌, length, ap, arith}
 use Rattle.sctp_model.specs.Serial.{tsn}
 use Rattle.sctp_model.specs.sender.Queueing.{cut}
 use Rattle.sctp_wire.specs.ChunkTree.{chunk_meaning}

@@ -1,7 +1,7 @@
-use Rattle.std.proofs.Common.{sym, ◌∙◌, arith, Some, map, drop}
+use Rattle.std.proofs.Common.{sym, ◌∙◌, arith, map}
 use Rattle.sctp_send.specs.OutstandingFields.{item_meaning}
 use Rattle.sctp_send.specs.inner.Wishing.{first_place, is_item_marked}
-use Rattle.sctp_send.proofs.PlaceLemmas.{further, further_none, walked_place, passed_place, ended_place}
+use Rattle.sctp_send.proofs.PlaceLemmas.{further_none, walked_place, passed_place, ended_place}
 use Rattle.sctp_send.proofs.wishes.first_marked.Goals as goal
 
 pub loop-at-init : goal.loop-at-init

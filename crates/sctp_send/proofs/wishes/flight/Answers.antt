@@ -1,4 +1,4 @@
-use Rattle.std.proofs.Common.{sym, ◌∙◌, arith}
+use Rattle.std.proofs.Common.{arith}
 use Rattle.sctp_send.proofs.PlaceLemmas.{walked_flight, ended_flight}
 use Rattle.sctp_send.proofs.wishes.flight.Goals as goal
 

@@ -1,4 +1,4 @@
-use Rattle.std.proofs.Common.{◌≡◌, ◌∙◌, ◌+◌, ◌≤◌, length, map, refl, subst, ap, arith, deque_capacity}
+use Rattle.std.proofs.Common.{◌∙◌, ◌+◌, ◌≤◌, length, map, refl, subst, ap, arith, deque_capacity}
 use Rattle.sctp_send.specs.SenderFields.{track_meaning}
 use Rattle.sctp_send.specs.SenderKept.{Kept}
 use Rattle.sctp_send.specs.SenderStands.{StandsFor, Keeps}

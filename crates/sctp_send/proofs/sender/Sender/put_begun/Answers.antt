@@ -1,4 +1,4 @@
-use Rattle.std.proofs.Common.{◌≡◌, ℕ, suc, ◌+◌, ◌%◌, ◌^◌, length, map, refl, sym, ap, ◌∙◌, subst, arith, ◌<◌, true, false, Bool, IsSome}
+use Rattle.std.proofs.Common.{ℕ, length, map, refl, sym, ap, ◌∙◌, subst, arith, ◌<◌, true, false, Bool}
 use Rattle.std.specs.Prelude.{nat_lt}
 use Rattle.std.specs.VecDeque.{deque_capacity}
 use Rattle.sctp_send.specs.SenderKept.{Kept}

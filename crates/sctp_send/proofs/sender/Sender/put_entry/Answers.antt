@@ -1,5 +1,4 @@
-use Rattle.std.proofs.Common.{◌≡◌, ℕ, suc, ◌+◌, refl, ap, ◌∙◌, true, false, Bool}
-use Rattle.sctp_model.specs.SenderView.{SenderView}
+use Rattle.std.proofs.Common.{suc, ◌+◌, refl, ap, ◌∙◌}
 use Rattle.sctp_send.specs.SenderKept.{Kept}
 use Rattle.sctp_send.specs.inner.Drafting.{went_out}
 use Rattle.sctp_send.proofs.PutLemmas.{entry_put, read_once, sent_draft}

@@ -1,8 +1,6 @@
-use Rattle.std.proofs.Common.{◌≡◌, refl, sym, ap, ◌∙◌, true, false, Bool}
-use Rattle.sctp_packet.specs.Draft.{has_room, after_try}
+use Rattle.std.proofs.Common.{sym, ap, ◌∙◌}
 use Rattle.sctp_send.specs.SenderKept.{Kept}
 use Rattle.sctp_send.specs.OutstandingFields.{lane_meaning}
-use Rattle.sctp_send.specs.inner.Drafting.{IsOffered}
 use Rattle.sctp_send.specs.declared.outstanding.Place.TheVariants.{Fragment}
 use Rattle.sctp_send.proofs.NewMayLemmas.{flow_read, offered, offered_not, of_both}
 use Rattle.sctp_send.proofs.sender.Sender.put_newcomer.Goals as goal

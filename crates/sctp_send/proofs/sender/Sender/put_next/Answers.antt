@@ -1,4 +1,4 @@
-use Rattle.std.proofs.Common.{◌≡◌, ◌∙◌, Some, None, false, refl, ap, sym, subst}
+use Rattle.std.proofs.Common.{◌∙◌, Some, None, false, refl, ap, sym, subst}
 use Rattle.std.specs.Prelude.{option_map}
 use Rattle.sctp_model.specs.Format.{ordered_lane}
 use Rattle.sctp_model.specs.Plan.{End}

@@ -1,4 +1,4 @@
-use Rattle.std.proofs.Common.{refl, sym, ap, ◌∙◌, true, false, Bool}
+use Rattle.std.proofs.Common.{refl, sym, ap, ◌∙◌}
 use Rattle.sctp_send.specs.SenderKept.{Kept}
 use Rattle.sctp_send.specs.OutstandingFields.{lane_meaning}
 use Rattle.sctp_send.proofs.NewMayLemmas.{flow_read}
