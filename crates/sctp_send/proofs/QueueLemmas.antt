@@ -1,6 +1,6 @@
 -- Fragments counted, what is owed summed up, and a message more in the queue.
-use Rattle.std.proofs.Common.{◌≡◌, ℕ, zero, suc, ◌+◌, ◌-◌, ◌*◌, ◌/◌, ◌%◌, ◌^◌, ◌<◌, ◌≤◌, List, [], ◌∷◌, ◌++◌, length, drop, Bool, true, false, Option, Some, None, refl, sym, ap, ◌∙◌, arith, get_or}
-use Rattle.std.specs.Prelude.{nat_lt, nat_le, if◌then◌else◌, ◌==◌, ◌||◌}
+use Rattle.std.proofs.Common.{◌≡◌, ℕ, zero, suc, ◌+◌, ◌-◌, ◌*◌, ◌/◌, ◌%◌, ◌^◌, ◌<◌, ◌≤◌, List, [], ◌∷◌, ◌++◌, length, drop, Bool, true, false, Option, Some, None, refl, sym, ap, ◌∙◌, subst, arith, get_or}
+use Rattle.std.specs.Prelude.{nat_lt, nat_le, if◌then◌else◌, ◌==◌, ◌||◌, Result, Ok, Err, IsErrAnd}
 use Rattle.std.specs.Int.{div_ceil}
 use Rattle.std.proofs.lemmas.Bool.Decides.{nat_tests}
 use Rattle.sctp_model.specs.Limits.{LONGEST_MESSAGE, QUEUE_LIMIT, TICKET_LIMIT, TSN_LIMIT}
@@ -18,6 +18,10 @@ use Rattle.sctp_model.proofs.sender.CutLaws.{length-cut}
 use Rattle.sctp_model.proofs.sender.SetLaws.{is_set}
 use Rattle.sctp_model.proofs.sender.OwedLaws.{is_promised}
 use Rattle.sctp_model.proofs.sender.TicketLaws.{waits_push}
+use Rattle.sctp_send.specs.SenderAnswers.{refused_with, QueueAnswer}
+use Rattle.sctp_send.specs.declared.message.Ticket.{Ticket}
+use Rattle.sctp_send.specs.declared.queue.SendFault.{SendFault}
+use Rattle.sctp_send.specs.declared.queue.SendFault.TheVariants.{NoMemory}
 use Rattle.sctp_send.specs.SenderKept.{Track, Kept}
 use Rattle.sctp_send.specs.SenderStands.{table, rest_here, track_here, fate_here, fate_named, Keeps}
 use Rattle.sctp_send.specs.inner.Walks.{total, one_if_rest, rest_owes}
@@ -206,3 +210,8 @@ none_refuses f s v stream bytes p o k fit under promise owed within =
     let e : nat_le TICKET_LIMIT v.tickets ≡ false = grind (arith, nat_tests) in
     let g : nat_lt TSN_LIMIT (promised v + owed_for (length (cut v.fragment bytes))) ≡ false = grind (arith, nat_tests) in
     rw (a, b, c, d, e, g) refl
+
+-- want of memory is told where nothing refuses
+pub memory_told : (v : SenderView) (stream : ℕ) (bytes : List ℕ) (r : Result Ticket SendFault) (P : SendFault → Type 0) → IsErrAnd r P → ((e : SendFault) → P e → e ≡ NoMemory) → refusal v stream bytes ≡ None → QueueAnswer v stream bytes r
+memory_told v stream bytes (Err e) P told only none = subst (λ (x : SendFault). refused_with (refusal v stream bytes) x) (sym (only e told)) none
+memory_told v stream bytes (Ok t) P told only none = absurd told

@@ -1,9 +1,11 @@
 //! Messages handed in: refused for the first reason that holds, or queued (RFC 9260, 6.9).
 
-ghost use Rattle.std.specs.Prelude.{◌≡◌, ℕ, ◌<◌, ◌^◌, ◌%◌, ◌+◌, map, length};
+ghost use Rattle.std.specs.Prelude.{◌≡◌, ℕ, ◌<◌, ◌^◌, ◌%◌, ◌+◌, ◌++◌, ◌∷◌, [], map, length, OnOk, OnErr, IfErr};
 ghost use Rattle.sctp_model.specs.SenderView.{SenderView};
 ghost use Rattle.sctp_model.specs.sender.Queueing.{cut, owed_for, owed_by_queue, promised};
+ghost use Rattle.sctp_send.specs.OutstandingFields.{queued_meaning};
 ghost use Rattle.sctp_send.specs.SenderFields.{track_meaning, queued_by};
+ghost use Rattle.sctp_send.specs.declared.queue.SendFault.TheVariants.{NoMemory};
 ghost use Rattle.sctp_send.specs.SenderStands.{StandsFor};
 ghost use Rattle.sctp_send.specs.inner.Walks.{total, rest_owes};
 ghost use Rattle.sctp_send.specs.SenderAnswers.{QueueAnswer, queue_after, lane_for};
@@ -11,6 +13,7 @@ ghost use Rattle.sctp_send.specs.SenderAnswers.{QueueAnswer, queue_after, lane_f
 use crate::message::{Fate, Message, Ticket};
 use crate::sender::{Sender, Track};
 use sctp_framing::Framing;
+use std::alloc::Global;
 use std::collections::VecDeque;
 use std::rc::Rc;
 use thiserror::Error;
@@ -103,14 +106,7 @@ impl<F: Framing> Sender<F> {
             until,
             bytes,
         };
-        let message = match Rc::new(self.alloc, message) {
-            Ok(message) => message,
-            Err(_) => return Err(SendFault::NoMemory),
-        };
-        match self.queue.push_back(message) {
-            Ok(()) => {}
-            Err(_) => return Err(SendFault::NoMemory),
-        }
+        wait_behind(&mut self.queue, self.alloc, message)?;
         // There is room for it.
         let _kept = self.fates.push(Fate::Waiting);
         Ok(Ticket(ticket))
@@ -124,6 +120,26 @@ impl<F: Framing> Sender<F> {
             .wrapping_add(self.outstanding.len() as u64)
             .wrapping_add(owed_by_queue(&self.queue, self.fragment))
             .wrapping_add(owed_by_tracks(&self.tracks, self.fragment))
+    }
+}
+
+/// A message waits behind the others.
+fn wait_behind(
+    queue: &mut VecDeque<Rc<Message>>,
+    alloc: Global,
+    message: Message,
+) -> Result<(), SendFault>
+    ensures waits { (size : ℕ) → OnOk result (map (queued_by size) queue.new.items ≡ map (queued_by size) queue.old.items ++ queued_meaning size message ∷ []) }
+    ensures unchanged { OnErr result (queue.new.items ≡ queue.old.items) }
+    ensures memory { IfErr result (λ fault. fault ≡ NoMemory) }
+{
+    let message = match Rc::new(alloc, message) {
+        Ok(message) => message,
+        Err(_) => return Err(SendFault::NoMemory),
+    };
+    match queue.push_back(message) {
+        Ok(()) => Ok(()),
+        Err(_) => Err(SendFault::NoMemory),
     }
 }
 

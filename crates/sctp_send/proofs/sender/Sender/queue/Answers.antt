@@ -8,7 +8,7 @@ use Rattle.std.proofs.lemmas.List.{map-append}
 use Rattle.sctp_model.specs.sender.Queueing.{cut, owed_for}
 use Rattle.sctp_send.specs.SenderAnswers.{lane_for}
 use Rattle.sctp_send.specs.declared.message.Fate.TheVariants.{Waiting}
-use Rattle.sctp_send.proofs.QueueLemmas.{spent_ticket, spent_owed, none_refuses, keeps_queued}
+use Rattle.sctp_send.proofs.QueueLemmas.{memory_told, spent_ticket, spent_owed, none_refuses, keeps_queued}
 use Rattle.sctp_send.proofs.ReaderLemmas.{fates_given}
 use Rattle.sctp_send.proofs.sender.Sender.queue.Goals as goal
 
@@ -41,25 +41,16 @@ returns-in-Err-clause-answer g c = λ v stands.
     let more = c.owed-more.ensures ∙ ap (λ (n : ℕ). owed_for n % 2 ^ 64) (c.fragments_of.ensures ∙ ap (λ (b : List ℕ). length (cut s.fragment b)) c.deref.ensures.value) in
     none_refuses g.F.Framing.format _ v c.args.stream c.args.bytes.items c.promised-promised.result c.owed-more.result keeps (record { stream = omega arith; some = omega arith; short = omega arith; waits = omega arith }) (omega arith) (c.promised-promised.ensures v stands) more (omega arith)
 
-pub returns-in-Err-new-clause-answer : goal.returns-in-Err-new-clause-answer
+pub returns-in_err-wait_behind-clause-answer : goal.returns-in_err-wait_behind-clause-answer
 unfolding StandsFor
-returns-in-Err-new-clause-answer g c = λ v stands.
+returns-in_err-wait_behind-clause-answer g c = λ v stands.
     let s = c.self.inside in
     let keeps = subst (λ (k : Kept). Keeps g.F.Framing.format k v) (sym c.self.view_is) stands in
     let long = length-map s.queue.items (queued_by s.fragment) in
     let count : length c.args.bytes.items ≡ vec_len c.args.bytes = ap (λ (b : List ℕ). length b) (sym c.deref.ensures.value) ∙ c.deref.ensures.len in
     let more = c.owed-more.ensures ∙ ap (λ (n : ℕ). owed_for n % 2 ^ 64) (c.fragments_of.ensures ∙ ap (λ (b : List ℕ). length (cut s.fragment b)) c.deref.ensures.value) in
-    none_refuses g.F.Framing.format _ v c.args.stream c.args.bytes.items c.promised-promised.result c.owed-more.result keeps (record { stream = omega arith; some = omega arith; short = omega arith; waits = omega arith }) (omega arith) (c.promised-promised.ensures v stands) more (omega arith)
-
-pub returns-in-Err-push_back-clause-answer : goal.returns-in-Err-push_back-clause-answer
-unfolding StandsFor
-returns-in-Err-push_back-clause-answer g c = λ v stands.
-    let s = c.self.inside in
-    let keeps = subst (λ (k : Kept). Keeps g.F.Framing.format k v) (sym c.self.view_is) stands in
-    let long = length-map s.queue.items (queued_by s.fragment) in
-    let count : length c.args.bytes.items ≡ vec_len c.args.bytes = ap (λ (b : List ℕ). length b) (sym c.deref.ensures.value) ∙ c.deref.ensures.len in
-    let more = c.owed-more.ensures ∙ ap (λ (n : ℕ). owed_for n % 2 ^ 64) (c.fragments_of.ensures ∙ ap (λ (b : List ℕ). length (cut s.fragment b)) c.deref.ensures.value) in
-    none_refuses g.F.Framing.format _ v c.args.stream c.args.bytes.items c.promised-promised.result c.owed-more.result keeps (record { stream = omega arith; some = omega arith; short = omega arith; waits = omega arith }) (omega arith) (c.promised-promised.ensures v stands) more (omega arith)
+    let none = none_refuses g.F.Framing.format _ v c.args.stream c.args.bytes.items c.promised-promised.result c.owed-more.result keeps (record { stream = omega arith; some = omega arith; short = omega arith; waits = omega arith }) (omega arith) (c.promised-promised.ensures v stands) more (omega arith) in
+    memory_told v c.args.stream c.args.bytes.items c.from_residual.result _ c.from_residual.ensures.1 (λ e is. is ∙ c.in_err-wait_behind.ensures.memory) none
 
 pub returns-clause-answer : goal.returns-clause-answer
 unfolding StandsFor
@@ -85,4 +76,4 @@ returns-clause-step g c = λ v stands.
     let ok : is_ok c.push-kept.result ≡ true = c.push-kept.ensures.succeeds (omega (arith, c.in-Ok.ensures.ok)) in
     let fates : c.push-kept.new.self.items ≡ s.fates.items ++ Waiting ∷ [] = rw (c.push-kept.ensures.items, ok, c.in-Ok.ensures.items) refl in
     let taken = keeps_queued g.F.Framing.format _ v (lane_for c.args.stream c.args.ordered) c.args.payload_id (c.len-given.result + 1) c.args.bytes.items c.args.until keeps none (omega (arith, given)) in
-    rw (c.in-Ok-push_back.ensures.items, map-append, c.in-Ok-new.ensures.ok, fates) taken
+    rw (c.in_ok-wait_behind.ensures.waits s.fragment, fates) taken
