@@ -1,5 +1,5 @@
 -- Chains as they lie in memory, and what they say.
-use Rattle.std.proofs.Common.{◌≡◌, ℕ, zero, suc, ◌<◌, List, [], ◌∷◌, ◌++◌, length, get_or, set, take, drop, map, Result, Ok, Err, refl, sym, ◌∙◌, ap, arith}
+use Rattle.std.proofs.Common.{◌≡◌, ℕ, zero, suc, ◌<◌, ◌≤◌, List, [], ◌∷◌, ◌++◌, length, get_or, set, take, drop, map, Result, Ok, Err, refl, sym, ◌∙◌, ap, arith}
 use Rattle.std.specs.Prelude.{OnOk, OnErr}
 use Rattle.std.specs.List.{insert, remove}
 use Rattle.std.proofs.lemmas.List.{map-append}
@@ -13,6 +13,10 @@ on_ok (Err x) P Q f p = p
 pub on_err : {A E : Type 0} (r : Result A E) (P Q : Type 0) → (P → Q) → OnErr r P → OnErr r Q
 on_err (Ok x) P Q f p = p
 on_err (Err x) P Q f p = f p
+
+pub any_ok : {A E : Type 0} (r : Result A E) (P : Type 0) → P → OnOk r P
+any_ok (Ok x) P p = p
+any_ok (Err x) P p = tt
 
 pub any_err : {A E : Type 0} (r : Result A E) (P : Type 0) → P → OnErr r P
 any_err (Ok x) P p = tt
@@ -63,6 +67,23 @@ pub set_same : (cs : List Chain) (i : ℕ) (x y : Chain) → i < length cs → x
 set_same [] i x y less at same = refl
 set_same (c ∷ cs) zero x y less at same = ap (λ (z : ChainKept). z ∷ map chain_of cs) (same ∙ ap chain_of at)
 set_same (c ∷ cs) (suc i) x y less at same = ap (λ (xs : List ChainKept). chain_of c ∷ xs) (set_same cs i x y (omega (arith, less)) at same)
+
+-- ---- how many there are
+
+pub as_long : (cs : List Chain) (i : ℕ) (x : Chain) → length (set cs i x) ≡ length cs
+as_long [] i x = refl
+as_long (c ∷ cs) zero x = refl
+as_long (c ∷ cs) (suc i) x = ap suc (as_long cs i x)
+
+pub one_longer : (cs : List Chain) (i : ℕ) (x : Chain) → i ≤ length cs → length (insert cs i x) ≡ suc (length cs)
+one_longer cs zero x le = refl
+one_longer [] (suc i) x le = absurd (omega (arith, le))
+one_longer (c ∷ cs) (suc i) x le = ap suc (one_longer cs i x (omega (arith, le)))
+
+pub one_shorter : (cs : List Chain) (i : ℕ) → i < length cs → suc (length (remove cs i)) ≡ length cs
+one_shorter [] i less = absurd (omega (arith, less))
+one_shorter (c ∷ cs) zero less = refl
+one_shorter (c ∷ cs) (suc i) less = ap suc (one_shorter cs i (omega (arith, less)))
 
 -- ---- one chain changes, a later one is taken out, and the first changes again
 

@@ -1,6 +1,6 @@
 //! The kept chunks of one lane.
 
-ghost use Rattle.std.specs.Prelude.{◌≡◌, ◌-◌, ◌^◌, ℕ, min, true, not, [], ◌∷◌, filter, IfOk, OnOk, OnErr};
+ghost use Rattle.std.specs.Prelude.{◌≡◌, ◌≤◌, ◌-◌, ◌^◌, ℕ, suc, min, true, not, [], ◌∷◌, filter, IfOk, OnOk, OnErr, OnSome};
 ghost use Rattle.sctp_model.specs.Format.{Lane, Unordered, is_numbered};
 ghost use Rattle.sctp_model.specs.Framing.{lets_go};
 ghost use Rattle.sctp_model.specs.Lists.{Has};
@@ -8,7 +8,7 @@ ghost use Rattle.sctp_model.specs.ReceiverView.{size_of_pieces};
 ghost use Rattle.sctp_model.specs.receiver.PieceTaken.{is_repeated};
 ghost use Rattle.sctp_wire.specs.ChunkTree.{piece_meaning};
 ghost use Rattle.sctp_chains.specs.Cells.{Kept, cell_of, counted, IsOf};
-ghost use Rattle.sctp_chains.specs.StandsFor.{StandsFor, IsNew};
+ghost use Rattle.sctp_chains.specs.StandsFor.{StandsFor, IsNew, chain_count};
 ghost use Rattle.sctp_chains.specs.Links.{chain_of, one_of, cells_in};
 ghost use Rattle.sctp_chains.specs.WholeOf.{TakesLowest, TakesWith, from_number, IsWholeOf};
 
@@ -33,7 +33,7 @@ pub struct Chains<F: Framing> {
     framing: PhantomData<F>,
 }
 
-#[tactic(auto, unfolding(crate::specs::StandsFor::StandsFor))]
+#[tactic(auto, unfolding(crate::specs::StandsFor::StandsFor, crate::specs::StandsFor::chain_count))]
 impl<F: Framing> Chains<F> {
     /// Of a lane of which nothing is kept.
     pub fn new(alloc: Global) -> Chains<F>
@@ -52,6 +52,13 @@ impl<F: Framing> Chains<F> {
         ensures { (l : Lane) (kept : Kept) → StandsFor F.format self.now l kept → result ≡ size_of_pieces kept }
     {
         self.held
+    }
+
+    /// How many chains there are: no more messages than that can be taken out before another chunk is added.
+    pub fn count(&self) -> usize
+        ensures { result ≡ chain_count self.now }
+    {
+        self.chains.len()
     }
 
     /// Whether this fragment of this message is kept already, where that can be: under DATA a fragment is its TSN.
@@ -80,6 +87,7 @@ impl<F: Framing> Chains<F> {
         ensures kept { (l : Lane) (kept : Kept) → StandsFor F.format self.old l kept → IsNew F.format l kept (counted index (piece_meaning piece.now) number)
             → OnOk result (StandsFor F.format self.new l (counted index (piece_meaning piece.now) number ∷ kept)) }
         ensures refused { (l : Lane) (kept : Kept) → StandsFor F.format self.old l kept → OnErr result (StandsFor F.format self.new l kept) }
+        ensures count { OnOk result (chain_count self.new ≤ suc (chain_count self.old)) }
     {
         let part = part_of::<F>(self.alloc, piece, index, number)?;
         file(self.alloc, &mut self.chains, part)?;
@@ -90,8 +98,9 @@ impl<F: Framing> Chains<F> {
     /// Takes the whole message with the lowest number within these bounds, and lets go of all chunks up to its number. Of several with one
     /// number, which an honest peer never sends, it is the one that begins with the lowest index.
     pub fn take_lowest(&mut self, from: u32, last: u32) -> Option<Whole>
-        ensures { (l : Lane) (kept : Kept) → StandsFor F.format self.old l kept → is_numbered F.format l.kind ≡ true
+        ensures taken { (l : Lane) (kept : Kept) → StandsFor F.format self.old l kept → is_numbered F.format l.kind ≡ true
             → TakesLowest F.format l kept from last result self.new }
+        ensures count { OnSome result (suc (chain_count self.new) ≤ chain_count self.old) }
     {
         let found = first_whole(
             &self.chains,
@@ -107,8 +116,9 @@ impl<F: Framing> Chains<F> {
 
     /// Takes the whole message that this chunk is one of, and lets go of what goes with it: under I-DATA all chunks of its number.
     pub fn take_with(&mut self, piece: &Piece<'_>, index: u32, number: Option<u32>) -> Option<Whole>
-        ensures { (l : Lane) (kept : Kept) → StandsFor F.format self.old l kept → Has kept (counted index (piece_meaning piece.now) number)
+        ensures taken { (l : Lane) (kept : Kept) → StandsFor F.format self.old l kept → Has kept (counted index (piece_meaning piece.now) number)
             → TakesWith F.format l kept (counted index (piece_meaning piece.now) number) result self.new }
+        ensures count { OnSome result (suc (chain_count self.new) ≤ chain_count self.old) }
     {
         let place = F::place(index, piece.begin, piece.word);
         let found = whole_with(&self.chains, rank_at(number, place))?;

@@ -1,6 +1,6 @@
 //! A fragment is filed: it lengthens a chain, closes the gap between two, or is a chain of its own.
 
-ghost use Rattle.std.specs.Prelude.{◌≡◌, ◌≤◌, ◌<◌, nat_lt, length, map, OnOk, OnErr};
+ghost use Rattle.std.specs.Prelude.{◌≡◌, ◌≤◌, ◌<◌, suc, nat_lt, length, map, OnOk, OnErr};
 ghost use Rattle.sctp_chains.specs.Links.{chain_of, one_of, AreChains};
 ghost use Rattle.sctp_chains.specs.inner.Filing.{IsPlace, IsLinkBefore, IsLinkBehind, IsJoined, Gains};
 
@@ -47,6 +47,7 @@ fn linked_behind(chains: &VecDeque<Chain>, at: usize, part: &Part) -> Option<usi
 /// # Errors
 /// Memory ran out, and nothing changed.
 pub(crate) fn file(alloc: Global, chains: &mut VecDeque<Chain>, part: Part) -> Result<(), NoMemory>
+    ensures few { OnOk result (length chains.new.items ≤ suc (length chains.old.items)) }
     ensures filed { OnOk result (Gains (one_of part) (map chain_of chains.old.items) (map chain_of chains.new.items)) }
     ensures refused { OnErr result (map chain_of chains.new.items ≡ map chain_of chains.old.items) }
 {
@@ -77,6 +78,7 @@ fn join_all(
 ) -> Result<(), NoMemory>
     requires order { left < right }
     requires within { right < length chains.old.items }
+    ensures few { OnOk result (length chains.new.items ≤ suc (length chains.old.items)) }
     ensures joined { OnOk result (IsJoined (map chain_of chains.old.items) left (one_of part) right (map chain_of chains.new.items)) }
     ensures refused { OnErr result (map chain_of chains.new.items ≡ map chain_of chains.old.items) }
 {

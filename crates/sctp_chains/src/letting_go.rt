@@ -1,6 +1,6 @@
 //! Fragments go: a message that is taken, or what a rank leaves behind. The bytes held are counted.
 
-ghost use Rattle.std.specs.Prelude.{◌≡◌, ◌≤◌, ◌-◌, length, map, MatchOption};
+ghost use Rattle.std.specs.Prelude.{◌≡◌, ◌≤◌, ◌-◌, suc, length, map, MatchOption, OnSome};
 ghost use Rattle.sctp_chains.specs.Links.{chain_of, bytes_of};
 ghost use Rattle.sctp_chains.specs.inner.LettingGo.{size_of_parts, LetsGo, TakesOut, Trims};
 
@@ -24,7 +24,8 @@ fn less(held: u32, parts: &[Vec<u8>]) -> u32
 
 /// Takes out the chain at a place.
 pub(crate) fn take_out(chains: &mut VecDeque<Chain>, held: &mut u32, at: usize) -> Option<Chain>
-    ensures { MatchOption result (length chains.old.items ≤ at) (λ c. TakesOut at (map chain_of chains.old.items) (map chain_of chains.new.items) held.old held.new (chain_of c)) }
+    ensures fewer { OnSome result (suc (length chains.new.items) ≡ length chains.old.items) }
+    ensures taken { MatchOption result (length chains.old.items ≤ at) (λ c. TakesOut at (map chain_of chains.old.items) (map chain_of chains.new.items) held.old held.new (chain_of c)) }
 {
     let chain = chains.remove(at)?;
     *held = less(*held, &chain.parts);
@@ -33,7 +34,8 @@ pub(crate) fn take_out(chains: &mut VecDeque<Chain>, held: &mut u32, at: usize) 
 
 /// From a place on, lets go of all fragments of ranks up to this one.
 pub(crate) fn drop_upto(chains: &mut VecDeque<Chain>, held: u32, at: usize, upto: u64) -> u32
-    ensures { LetsGo upto at (map chain_of chains.old.items) (map chain_of chains.new.items) held result }
+    ensures fewer { length chains.new.items ≤ length chains.old.items }
+    ensures left { LetsGo upto at (map chain_of chains.old.items) (map chain_of chains.new.items) held result }
 {
     let mut left = held;
     while at < chains.len() && chains[at].last <= upto {

@@ -3,6 +3,7 @@ use Rattle.sctp_chains.specs.declared.chain.Chain.{Chain}
 use Rattle.sctp_chains.specs.Links.{chain_of, bytes_of}
 use Rattle.sctp_chains.specs.inner.LettingGo.{size_of_parts}
 use Rattle.sctp_chains.proofs.ListLemmas.{at_same}
+use Rattle.sctp_chains.proofs.MemoryLemmas.{as_long, one_shorter}
 use Rattle.sctp_chains.proofs.GoingLemmas.{one_more, front_more, none_more, none_left}
 use Rattle.sctp_chains.proofs.letting_go.drop_upto.Goals as goal
 use Rattle.sctp_chains.proofs.letting_go.drop_upto.Goals.{then-loop-chains-test+else-index-upto, else-loop-chains-test, else-at-len-via-then-at-len+else-index-upto-2, else-at-len-via-else-at-len}
@@ -15,11 +16,15 @@ loop-chains-preserved-in-Some c =
     let l : k < length cs = omega (arith, c.loop-chains-test.true, c.len.ensures) in
     let same : x ≡ c.index.result.now = c.in-Some.ensures.value ∙ at_same cs k x c.index.result.now l ∙ sym c.index.ensures in
     let low : x.last ≤ c.args.upto = let e = ap (λ (z : Chain). z.last) same in let h = c.if-index-upto.true in omega (arith, e, h) in
-    one_more cs k x l c.in-Some.ensures.value c.args.upto (map chain_of c.args.chains.now.items) c.remove.new.self.items c.args.held c.loop-chains.left c.less-left.result
-    c.loop-chains.invariant low c.in-Some.ensures.items (c.less-left.ensures ∙ ap (λ ps. c.loop-chains.left - size_of_parts (map bytes_of ps)) c.deref.ensures.value)
+    record {
+      drops = one_more cs k x l c.in-Some.ensures.value c.args.upto (map chain_of c.args.chains.now.items) c.remove.new.self.items c.args.held c.loop-chains.left c.less-left.result
+          c.loop-chains.invariant.drops low c.in-Some.ensures.items (c.less-left.ensures ∙ ap (λ ps. c.loop-chains.left - size_of_parts (map bytes_of ps)) c.deref.ensures.value);
+      fewer =
+          let one = one_shorter cs k l in let all = ap length c.in-Some.ensures.items in let before = c.loop-chains.invariant.fewer in omega (arith, one, all, before);
+    }
 
-pub returns-then-index-upto-2 : goal.returns-then-index-upto-2
-returns-then-index-upto-2 c =
+pub returns-then-index-upto-2-clause-left : goal.returns-then-index-upto-2-clause-left
+returns-then-index-upto-2-clause-left c =
     let cs = c.loop-chains.chains.items in
     let k = c.args.at in
     let x = c.index_mut.result.now in
@@ -32,17 +37,21 @@ returns-then-index-upto-2 c =
       | else-loop-chains-test w ↦ absurd (let h = w.loop-chains-test.false in omega (arith, h, l, c.len.ensures))
     ] in
     front_more cs k x l c.index_mut.ensures.value c.args.upto (map chain_of c.args.chains.now.items) c.trim-left.new.chain c.args.held c.loop-chains.left c.trim-left.result
-    c.loop-chains.invariant low high c.trim-left.ensures
+    c.loop-chains.invariant.drops low high c.trim-left.ensures
 
-pub returns-else-at-len : goal.returns-else-at-len
-returns-else-at-len c =
+pub returns-else-at-len-clause-left : goal.returns-else-at-len-clause-left
+returns-else-at-len-clause-left c =
     let cs = c.loop-chains.chains.items in
     let k = c.args.at in
     elim c.else-at-len.branch [
       | else-at-len-via-then-at-len+else-index-upto-2 w ↦
           let l : k < length cs = let h = w.if-at-len.true in omega (arith, h, c.len-2.ensures) in
           none_more cs k w.index-then-at-len.result.now l w.index-then-at-len.ensures c.args.upto (map chain_of c.args.chains.now.items) c.args.held c.loop-chains.left
-          c.loop-chains.invariant (let h = w.if-index-upto-2.false in omega (arith, h))
+          c.loop-chains.invariant.drops (let h = w.if-index-upto-2.false in omega (arith, h))
       | else-at-len-via-else-at-len w ↦
-          none_left cs k c.args.upto (map chain_of c.args.chains.now.items) c.args.held c.loop-chains.left (let h = w.if-at-len.false in omega (arith, h, c.len-2.ensures)) c.loop-chains.invariant
+          none_left cs k c.args.upto (map chain_of c.args.chains.now.items) c.args.held c.loop-chains.left (let h = w.if-at-len.false in omega (arith, h, c.len-2.ensures)) c.loop-chains.invariant.drops
     ]
+
+pub returns-then-index-upto-2-clause-fewer : goal.returns-then-index-upto-2-clause-fewer
+returns-then-index-upto-2-clause-fewer c =
+    let all = as_long c.loop-chains.chains.items c.args.at c.trim-left.new.chain in let before = c.loop-chains.invariant.fewer in omega (arith, all, before)

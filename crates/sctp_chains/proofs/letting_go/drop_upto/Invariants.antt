@@ -1,10 +1,13 @@
-use Rattle.std.proofs.Common.{length, map}
+use Rattle.std.proofs.Common.{◌≤◌, length, map}
 use Rattle.sctp_chains.specs.Links.{chain_of}
 use Rattle.sctp_chains.proofs.TrimLemmas.{Drops}
 use Rattle.sctp_chains.proofs.letting_go.drop_upto.Given as goal
 
 abbrev pub invariant-loop-chains : goal.invariant-loop-chains
-invariant-loop-chains l = Drops l.upto l.at (map chain_of l.initial.chains.items) (map chain_of l.chains.items) l.fn.held l.left
+invariant-loop-chains l = record {
+  drops : Drops l.upto l.at (map chain_of l.initial.chains.items) (map chain_of l.chains.items) l.fn.held l.left;
+  fewer : length l.chains.items ≤ length l.initial.chains.items;
+}
 
 abbrev pub decreases-loop-chains : goal.decreases-loop-chains
 decreases-loop-chains l = length l.chains.items

@@ -1,12 +1,20 @@
-use Rattle.std.proofs.Common.{◌-◌, ◌<◌, length, map, refl, ap, ◌∙◌, arith}
+use Rattle.std.proofs.Common.{List, suc, ◌-◌, ◌<◌, length, map, refl, ap, ◌∙◌, arith}
 use Rattle.sctp_chains.specs.Links.{bytes_of}
 use Rattle.sctp_chains.specs.inner.LettingGo.{size_of_parts}
+use Rattle.sctp_chains.specs.declared.chain.Chain.{Chain}
+use Rattle.sctp_chains.proofs.MemoryLemmas.{one_shorter}
 use Rattle.sctp_chains.proofs.GoingLemmas.{out_of}
 use Rattle.sctp_chains.proofs.letting_go.take_out.Goals as goal
 
-pub returns : goal.returns
-returns c =
+pub returns-clause-taken : goal.returns-clause-taken
+returns-clause-taken c =
     let cs = c.args.chains.now.items in
     let l : c.args.at < length cs = let some = c.in_ok-chain.ensures.variant.0 refl in omega (arith, some, c.args.chains.now.ok) in
     out_of cs c.args.at c.in_ok-chain.chain l c.in_ok-chain.ensures.value c.remove.new.self.items c.args.held.now c.less.result c.in_ok-chain.ensures.items
     (c.less.ensures ∙ ap (λ ps. c.args.held.now - size_of_parts (map bytes_of ps)) c.deref.ensures.value)
+
+pub returns-clause-fewer : goal.returns-clause-fewer
+returns-clause-fewer c =
+    let cs = c.args.chains.now.items in
+    let l : c.args.at < length cs = let some = c.in_ok-chain.ensures.variant.0 refl in omega (arith, some, c.args.chains.now.ok) in
+    ap (λ (xs : List Chain). suc (length xs)) c.in_ok-chain.ensures.items ∙ one_shorter cs c.args.at l

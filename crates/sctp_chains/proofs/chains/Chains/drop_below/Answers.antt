@@ -10,7 +10,7 @@ unfolding StandsFor
 returns-in-Some g c = λ l kept stands numbered.
     let is : c.args.number ≡ suc c.in-Some.last = omega (arith, c.in-Some.ensures) in
     dropped g.F.Framing.format l (map chain_of c.args.self.now.chains.items) (map chain_of c.drop_upto-self.new.chains.items) c.args.self.now.held c.drop_upto-self.result kept stands numbered
-    c.args.number c.in-Some.last c.rank_at-upto.result is c.rank_at-upto.ensures c.drop_upto-self.ensures
+    c.args.number c.in-Some.last c.rank_at-upto.result is c.rank_at-upto.ensures c.drop_upto-self.ensures.left
 
 pub returns-in_default : goal.returns-in_default
 unfolding StandsFor

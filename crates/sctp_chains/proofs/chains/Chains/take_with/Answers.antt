@@ -9,18 +9,18 @@ use Rattle.sctp_chains.proofs.WithLemmas.{top_of, top_numbered, top_plain, none_
 use Rattle.sctp_chains.proofs.chains.Chains.take_with.Goals as goal
 use Rattle.sctp_chains.proofs.chains.Chains.take_with.Goals.{then-is_numbered, else-is_numbered}
 
-pub returns-in_err-found : goal.returns-in_err-found
+pub returns-in_err-found-clause-taken : goal.returns-in_err-found-clause-taken
 unfolding StandsFor
-returns-in_err-found g c = λ l kept stands there.
+returns-in_err-found-clause-taken g c = λ l kept stands there.
     let f = g.F.Framing.format in
     let y = counted c.args.index (piece_meaning c.args.piece.now) c.args.number in
     let rank : c.rank_at.result ≡ rank_of f y = c.rank_at.ensures ∙ ap (rank_at c.args.number) c.place-place.ensures in
     subst (λ (o : Option Whole). TakesWith f l kept y o c.args.self.now) (sym c.from_residual.ensures)
     (none_with f l (map chain_of c.args.self.now.chains.items) c.args.self.now.held kept stands c.rank_at.result y (c.in_err-found.ensures stands.chains) rank, stands)
 
-pub returns : goal.returns
+pub returns-clause-taken : goal.returns-clause-taken
 unfolding StandsFor
-returns g c = λ l kept stands there.
+returns-clause-taken g c = λ l kept stands there.
     let f = g.F.Framing.format in
     let y = counted c.args.index (piece_meaning c.args.piece.now) c.args.number in
     let d = chain_of c.in_ok-chain.chain in
@@ -32,4 +32,4 @@ returns g c = λ l kept stands there.
     took_with f l (map chain_of c.args.self.now.chains.items) c.args.self.now.held kept stands y there c.rank_at.result c.in_ok-found.found (map chain_of c.take_out.new.chains.items)
     c.take_out.new.held d c.if-is_numbered.upto c.whole_of.result
     (record { alloc = c.args.self.now.alloc; chains = c.drop_upto-self.new.chains; held = c.drop_upto-self.result; framing = c.args.self.now.framing })
-    rank (c.in_ok-found.ensures stands.chains) c.in_ok-chain.ensures top c.drop_upto-self.ensures c.whole_of.ensures
+    rank (c.in_ok-found.ensures stands.chains) c.in_ok-chain.ensures.taken top c.drop_upto-self.ensures.left c.whole_of.ensures
