@@ -1,5 +1,5 @@
 -- What is kept when a fragment takes its index and goes out at once: of a message that begins, and of one in part; and how much is outstanding then.
-use Rattle.std.proofs.Common.{◌≡◌, ℕ, zero, suc, ◌+◌, ◌-◌, ◌<◌, ◌≤◌, List, [], ◌∷◌, ◌++◌, length, drop, get_or, set, Bool, true, false, Option, Some, None, refl, sym, ap, ◌∙◌, subst, arith, length-append, length-set}
+use Rattle.std.proofs.Common.{◌≡◌, ℕ, zero, suc, ◌+◌, ◌-◌, ◌<◌, ◌≤◌, List, [], ◌∷◌, ◌++◌, length, get_or, set, Bool, true, false, Option, Some, None, refl, sym, ap, ◌∙◌, subst, arith, length-append}
 use Rattle.std.specs.Prelude.{◌==◌, nat_lt}
 use Rattle.std.proofs.lemmas.Bool.Decides.{nat_tests}
 use Rattle.sctp_model.specs.Format.{Format, Lane}
@@ -21,38 +21,14 @@ use Rattle.sctp_send.specs.SenderStands.{rest_here, Holds, Keeps}
 use Rattle.sctp_send.specs.inner.Walks.{total, one_if_rest}
 use Rattle.sctp_send.specs.declared.message.Fate.TheVariants.{Numbered}
 pub use Rattle.sctp_send.specs.inner.Newcomers.{begun_items}
-use Rattle.sctp_send.proofs.KeepLemmas.{count_items, kept_length}
+use Rattle.sctp_send.proofs.KeepLemmas.{kept_length}
 use Rattle.sctp_send.proofs.QueueLemmas.{kept_in_part}
-use Rattle.sctp_send.proofs.GoneLemmas.{gone_item, items_sent}
+use Rattle.sctp_send.proofs.GoneLemmas.{gone_item, holds_sent}
 use Rattle.sctp_send.proofs.NewItems.{new_item, new_items, numbered}
 use Rattle.sctp_send.proofs.AssignLemmas.{number_in, begun_track, track_at, holds_begun}
 use Rattle.sctp_send.proofs.GoingOnLemmas.{rest_item, rest_after, gone_on, holds_continued}
 
 -- ---- one of the items goes out
-
--- what is kept of a view is kept of it once the fragment at this place went out
-holds_sent : (s : Kept) (u : SenderView) (at : ℕ) (d : Item) → Holds s u → at < length s.items
-    → Holds (record s { items = set s.items at (gone_item (get_or s.items at d)) }) (with_sent u (suc (u.cum + at)))
-holds_sent s u at d h low =
-    let es = drop u.cum u.plan.entries in
-    let long = ap (λ (xs : List Item). length xs) h.items ∙ count_items u es (suc u.cum) in
-    let sent = items_sent u (suc (u.cum + at)) (suc u.cum) at es d (omega arith) (omega arith) in
-    let kept = length-set s.items at (gone_item (get_or s.items at d)) in
-    let space = h.room in
-    record {
-      initial = h.initial;
-      streams = h.streams;
-      fragment = h.fragment;
-      partial = h.partial;
-      cum = h.cum;
-      rwnd = h.rwnd;
-      turn = h.turn;
-      items = ap (λ (xs : List Item). set xs at (gone_item (get_or xs at d))) h.items ∙ sym sent;
-      queue = h.queue;
-      tracks = h.tracks;
-      fates = h.fates;
-      room = omega (arith, kept, space);
-    }
 
 set_behind : (xs ys : List Item) (y d : Item) → set (xs ++ y ∷ ys) (length xs) (gone_item (get_or (xs ++ y ∷ ys) (length xs) d)) ≡ xs ++ gone_item y ∷ ys
 set_behind [] ys y d = refl

@@ -1,5 +1,5 @@
 -- A message that begins is put into a packet, or isn't.
-use Rattle.std.proofs.Common.{◌≡◌, ℕ, suc, ◌+◌, ◌%◌, ◌^◌, ◌<◌, ◌≤◌, inl, inr, List, [], ◌∷◌, ◌++◌, length, map, get_or, Bool, true, false, Some, refl, sym, ap, ◌∙◌, subst, arith, length-append}
+use Rattle.std.proofs.Common.{◌≡◌, ℕ, suc, ◌+◌, ◌^◌, ◌<◌, ◌≤◌, inl, inr, List, [], ◌∷◌, ◌++◌, length, map, get_or, Bool, true, false, Some, refl, sym, ap, ◌∙◌, subst, arith, length-append}
 use Rattle.std.specs.Prelude.{nat_le, nat_lt, ◌&&◌, Option, IsSome, None}
 use Rattle.std.proofs.lemmas.Option.{get_or_from_slice_get}
 use Rattle.std.proofs.lemmas.List.{length-map}
@@ -28,7 +28,6 @@ use Rattle.sctp_send.specs.OutstandingFields.{item_meaning, lane_meaning, messag
 use Rattle.sctp_send.specs.SenderFields.{queued_by, track_meaning}
 use Rattle.sctp_send.specs.FillAnswers.{PutSomeOf}
 use Rattle.sctp_send.specs.inner.Walks.{total, one_if_rest}
-use Rattle.sctp_send.specs.inner.Wishing.{item_flight, lets_flow}
 use Rattle.sctp_send.specs.inner.Newcomers.{begun_items, number_in, begun_track, rest_at, has_rest, one_if, without_place, fresh_track, number_on, begun, IsBegun}
 use Rattle.sctp_send.specs.inner.Drafting.{numbers_of, drafted, fragment_chunk, IsPut, IsStopped, IsOffered, NothingStands}
 use Rattle.sctp_model.specs.Framing.{lane_kind}
@@ -45,7 +44,7 @@ use Rattle.sctp_send.proofs.AssignedKept.{begun_kept, outstanding_begun, length-
 use Rattle.sctp_send.proofs.ChunkLemmas.{chunk_begun, bytes_begun}
 use Rattle.sctp_send.proofs.FewLemmas.{few_messages}
 use Rattle.sctp_send.proofs.NewlyLemmas.{newly_begun}
-use Rattle.sctp_send.proofs.NewMayLemmas.{new_may, next_is, few_parts, rest_read, when_rest, window_test, and_off, map_read}
+use Rattle.sctp_send.proofs.NewMayLemmas.{flows, in_window, new_may, next_is, few_parts, rest_read, when_rest, window_test, and_off, map_read}
 
 -- ---- a message begins
 
@@ -149,7 +148,7 @@ module _ (f : Format) (s : Kept) (v : SenderView) (old : Draft) (m : MessageFiel
       ∙ ap (λ (n : ℕ). fragment_chunk f s.fragment s.initial (suc (s.cum + length old.outstanding.items)) m n (Fragment 0)) (sym its)
 
   begun_may : (p : PacketDraft) → may_go f (room_in p) (newcomer v led)
-      ≡ ((lets_flow (item_flight (map (item_meaning s.fragment) old.outstanding.items)) (length (bytes_in (Part (lane_meaning m) number 0) (Some (message_meaning s.fragment m)))) s.rwnd
+      ≡ ((flows s old (bytes_in (Part (lane_meaning m) number 0) (Some (message_meaning s.fragment m)))
       && has_room p (fragment_chunk f s.fragment s.initial (suc (s.cum + length old.outstanding.items)) m number (Fragment 0))) && nat_le (outstanding led) WINDOW)
   begun_may p =
       let q = queued_meaning s.fragment m in
@@ -158,7 +157,7 @@ module _ (f : Format) (s : Kept) (v : SenderView) (old : Draft) (m : MessageFiel
 
   -- how the code tests the window
   begun_window : (more : Bool) → more ≡ nat_lt count (length (cut s.fragment m.bytes.items)) → nat_le (outstanding led) WINDOW
-      ≡ nat_le (length old.outstanding.items + count + (total (λ t. one_if_rest t.rest) (map (track_meaning s.fragment) old.tracks.items) % 2 ^ 32 + one_if more)) (WINDOW + one_if (has_rest (rest_at (map (track_meaning s.fragment) old.tracks.items) m.stream)))
+      ≡ in_window s old count m.stream more
   begun_window more is =
       let q = queued_meaning s.fragment m in
       let ts = map (track_meaning s.fragment) old.tracks.items in
@@ -174,8 +173,8 @@ module _ (f : Format) (s : Kept) (v : SenderView) (old : Draft) (m : MessageFiel
       (omega (arith, all, had, left, long, some)) (few_parts f (drafted s old) v k)
 
   begun_goes : (p : PacketDraft) (more : Bool) → more ≡ nat_lt count (length (cut s.fragment m.bytes.items))
-      → nat_le (length old.outstanding.items + count + (total (λ t. one_if_rest t.rest) (map (track_meaning s.fragment) old.tracks.items) % 2 ^ 32 + one_if more)) (WINDOW + one_if (has_rest (rest_at (map (track_meaning s.fragment) old.tracks.items) m.stream))) ≡ true
-      → (lets_flow (item_flight (map (item_meaning s.fragment) old.outstanding.items)) (length (bytes_in (Part (lane_meaning m) number 0) (Some (message_meaning s.fragment m)))) s.rwnd
+      → in_window s old count m.stream more ≡ true
+      → (flows s old (bytes_in (Part (lane_meaning m) number 0) (Some (message_meaning s.fragment m)))
       && has_room p (fragment_chunk f s.fragment s.initial (suc (s.cum + length old.outstanding.items)) m number (Fragment 0))) ≡ true
       → goes f (room_in p) v ≡ Some (newcomer v led)
   begun_goes p more is window offered =
@@ -191,7 +190,7 @@ module _ (f : Format) (s : Kept) (v : SenderView) (old : Draft) (m : MessageFiel
 
   -- the window has no room for it
   pub begun_full : (p r : PacketDraft) (new : Draft) (more : Bool) → more ≡ nat_lt count (length (cut s.fragment m.bytes.items))
-      → nat_le (length old.outstanding.items + count + (total (λ t. one_if_rest t.rest) (map (track_meaning s.fragment) old.tracks.items) % 2 ^ 32 + one_if more)) (WINDOW + one_if (has_rest (rest_at (map (track_meaning s.fragment) old.tracks.items) m.stream))) ≡ false
+      → in_window s old count m.stream more ≡ false
       → r ≡ p → new ≡ old → IsStopped f s v p r old new
   begun_full p r new more is window packet same = record {
     none = goes_not f (room_in p) v (newcomer v led) (next_is f v led stands by.assigned) (begun_may p ∙ and_off _ (nat_le (outstanding led) WINDOW) (begun_window more is ∙ window));
@@ -201,7 +200,7 @@ module _ (f : Format) (s : Kept) (v : SenderView) (old : Draft) (m : MessageFiel
 
   -- it is in the packet, and took its number
   pub begun_put : (p r : PacketDraft) (new : Draft) (more : Bool) (capacity : ℕ) → more ≡ nat_lt count (length (cut s.fragment m.bytes.items))
-      → nat_le (length old.outstanding.items + count + (total (λ t. one_if_rest t.rest) (map (track_meaning s.fragment) old.tracks.items) % 2 ^ 32 + one_if more)) (WINDOW + one_if (has_rest (rest_at (map (track_meaning s.fragment) old.tracks.items) m.stream))) ≡ true
+      → in_window s old count m.stream more ≡ true
       → IsOffered f s old p r m number 0 true → drafted s new ≡ begun (drafted s old) (queued_meaning s.fragment m) place count turn capacity → s.streams + length new.outstanding.items ≤ capacity
       → numbers_of new.tickets.items ≡ numbers_of old.tickets.items ++ m.ticket ∷ [] → IsPut f s v p r old new
   begun_put p r new more capacity is window offer kept room tickets =
@@ -226,7 +225,7 @@ module _ (f : Format) (s : Kept) (v : SenderView) (old : Draft) (m : MessageFiel
 
   -- it is in the packet, and memory ran out then
   pub begun_some : (p r : PacketDraft) (more : Bool) → more ≡ nat_lt count (length (cut s.fragment m.bytes.items))
-      → nat_le (length old.outstanding.items + count + (total (λ t. one_if_rest t.rest) (map (track_meaning s.fragment) old.tracks.items) % 2 ^ 32 + one_if more)) (WINDOW + one_if (has_rest (rest_at (map (track_meaning s.fragment) old.tracks.items) m.stream))) ≡ true
+      → in_window s old count m.stream more ≡ true
       → IsOffered f s old p r m number 0 true → PutSomeOf f v p r
   begun_some p r more is window offer = record {
     wishes = newcomer v led ∷ [];

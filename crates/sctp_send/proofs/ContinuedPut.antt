@@ -23,7 +23,6 @@ use Rattle.sctp_send.specs.OutstandingFields.{item_meaning, lane_meaning, messag
 use Rattle.sctp_send.specs.SenderFields.{track_meaning, rest_meaning}
 use Rattle.sctp_send.specs.FillAnswers.{PutSomeOf}
 use Rattle.sctp_send.specs.inner.Walks.{total, one_if_rest}
-use Rattle.sctp_send.specs.inner.Wishing.{item_flight, lets_flow}
 use Rattle.sctp_send.specs.inner.Newcomers as kept
 use Rattle.sctp_send.specs.inner.Newcomers.{gone_item, rest_item, rest_after, begun_items, number_in, begun_track, rest_at, has_rest, one_if, without_place, fresh_track, track_of, number_on, begun, IsBegun, IsContinued}
 use Rattle.sctp_send.specs.inner.Drafting.{numbers_of, drafted, fragment_chunk, IsPut, IsStopped, IsOffered, NothingStands}
@@ -37,7 +36,7 @@ use Rattle.sctp_send.proofs.AssignedKept.{continued_kept, outstanding_continued}
 use Rattle.sctp_send.proofs.ChunkLemmas.{chunk_continued, bytes_continued}
 use Rattle.sctp_send.proofs.FewLemmas.{few_fragments}
 use Rattle.sctp_send.proofs.NewlyLemmas.{newly_continued}
-use Rattle.sctp_send.proofs.NewMayLemmas.{new_may, next_is, few_parts, rest_read, when_rest, window_test, and_off}
+use Rattle.sctp_send.proofs.NewMayLemmas.{flows, in_window, new_may, next_is, few_parts, rest_read, when_rest, window_test, and_off}
 
 -- ---- a message goes on
 
@@ -105,13 +104,13 @@ module _ (f : Format) (s : Kept) (v : SenderView) (old : Draft) (r : RestFields)
       ∙ ap (λ (x : Option Message). data_chunk f (piece_said f s.initial (suc (s.cum + length old.outstanding.items)) e x)) (sym left.message)
 
   continued_may : (p : PacketDraft) → may_go f (room_in p) (newcomer v led)
-      ≡ ((lets_flow (item_flight (map (item_meaning s.fragment) old.outstanding.items)) (length (bytes_in e (Some (message_meaning s.fragment r.message.value)))) s.rwnd
+      ≡ ((flows s old (bytes_in e (Some (message_meaning s.fragment r.message.value)))
       && has_room p (fragment_chunk f s.fragment s.initial (suc (s.cum + length old.outstanding.items)) r.message.value r.number (Fragment r.fragment))) && nat_le (outstanding led) WINDOW)
   continued_may p = new_may f s v led p old _ _ k led_is continued_chunk (bytes_continued v e (stream_after v stream) ∙ ap (bytes_in e) (sym left.message))
 
   -- how the code tests the window
   continued_window : (more : Bool) → more ≡ nat_lt (suc r.fragment) (length (cut s.fragment r.message.value.bytes.items)) → nat_le (outstanding led) WINDOW
-      ≡ nat_le (length old.outstanding.items + 1 + (total (λ t. one_if_rest t.rest) (map (track_meaning s.fragment) old.tracks.items) % 2 ^ 32 + one_if more)) (WINDOW + one_if (has_rest (rest_at (map (track_meaning s.fragment) old.tracks.items) stream)))
+      ≡ in_window s old 1 stream more
   continued_window more is =
       let ts = map (track_meaning s.fragment) old.tracks.items in
       let long = length-map old.outstanding.items (item_meaning s.fragment) in
@@ -125,8 +124,8 @@ module _ (f : Format) (s : Kept) (v : SenderView) (old : Draft) (r : RestFields)
       (omega (arith, all, had, next, long)) (few_parts f (drafted s old) v k)
 
   continued_goes : (p : PacketDraft) (more : Bool) → more ≡ nat_lt (suc r.fragment) (length (cut s.fragment r.message.value.bytes.items))
-      → nat_le (length old.outstanding.items + 1 + (total (λ t. one_if_rest t.rest) (map (track_meaning s.fragment) old.tracks.items) % 2 ^ 32 + one_if more)) (WINDOW + one_if (has_rest (rest_at (map (track_meaning s.fragment) old.tracks.items) stream))) ≡ true
-      → (lets_flow (item_flight (map (item_meaning s.fragment) old.outstanding.items)) (length (bytes_in e (Some (message_meaning s.fragment r.message.value)))) s.rwnd
+      → in_window s old 1 stream more ≡ true
+      → (flows s old (bytes_in e (Some (message_meaning s.fragment r.message.value)))
       && has_room p (fragment_chunk f s.fragment s.initial (suc (s.cum + length old.outstanding.items)) r.message.value r.number (Fragment r.fragment))) ≡ true
       → goes f (room_in p) v ≡ Some (newcomer v led)
   continued_goes p more is window offered =
@@ -142,7 +141,7 @@ module _ (f : Format) (s : Kept) (v : SenderView) (old : Draft) (r : RestFields)
 
   -- the window has no room for it
   pub continued_full : (p q : PacketDraft) (new : Draft) (more : Bool) → more ≡ nat_lt (suc r.fragment) (length (cut s.fragment r.message.value.bytes.items))
-      → nat_le (length old.outstanding.items + 1 + (total (λ t. one_if_rest t.rest) (map (track_meaning s.fragment) old.tracks.items) % 2 ^ 32 + one_if more)) (WINDOW + one_if (has_rest (rest_at (map (track_meaning s.fragment) old.tracks.items) stream))) ≡ false
+      → in_window s old 1 stream more ≡ false
       → q ≡ p → new ≡ old → IsStopped f s v p q old new
   continued_full p q new more is window packet same = record {
     none = goes_not f (room_in p) v (newcomer v led) (next_is f v led stands led_is) (continued_may p ∙ and_off _ (nat_le (outstanding led) WINDOW) (continued_window more is ∙ window));
@@ -152,7 +151,7 @@ module _ (f : Format) (s : Kept) (v : SenderView) (old : Draft) (r : RestFields)
 
   -- it is in the packet, and took its index
   pub continued_put : (p q : PacketDraft) (new : Draft) (more : Bool) (capacity : ℕ) → more ≡ nat_lt (suc r.fragment) (length (cut s.fragment r.message.value.bytes.items))
-      → nat_le (length old.outstanding.items + 1 + (total (λ t. one_if_rest t.rest) (map (track_meaning s.fragment) old.tracks.items) % 2 ^ 32 + one_if more)) (WINDOW + one_if (has_rest (rest_at (map (track_meaning s.fragment) old.tracks.items) stream))) ≡ true
+      → in_window s old 1 stream more ≡ true
       → IsOffered f s old p q r.message.value r.number r.fragment true → drafted s new ≡ kept.gone_on (drafted s old) (rest_meaning s.fragment r) stream (suc stream % s.streams) capacity
       → s.streams + length new.outstanding.items ≤ capacity → new.tickets ≡ old.tickets → IsPut f s v p q old new
   continued_put p q new more capacity is window offer same room tickets =
@@ -175,7 +174,7 @@ module _ (f : Format) (s : Kept) (v : SenderView) (old : Draft) (r : RestFields)
 
   -- it is in the packet, and memory ran out then
   pub continued_some : (p q : PacketDraft) (more : Bool) → more ≡ nat_lt (suc r.fragment) (length (cut s.fragment r.message.value.bytes.items))
-      → nat_le (length old.outstanding.items + 1 + (total (λ t. one_if_rest t.rest) (map (track_meaning s.fragment) old.tracks.items) % 2 ^ 32 + one_if more)) (WINDOW + one_if (has_rest (rest_at (map (track_meaning s.fragment) old.tracks.items) stream))) ≡ true
+      → in_window s old 1 stream more ≡ true
       → IsOffered f s old p q r.message.value r.number r.fragment true → PutSomeOf f v p q
   continued_some p q more is window offer = record {
     wishes = newcomer v led ∷ [];

@@ -9,7 +9,7 @@ use Rattle.sctp_model.specs.sender.Filling.{standing, with_sent, goes, gone}
 use Rattle.sctp_model.specs.sender.Reached.{Goes}
 use Rattle.sctp_model.proofs.sender.FillLaws.{goes_parts}
 use Rattle.sctp_send.specs.SenderKept.{Item, Kept}
-use Rattle.sctp_send.specs.SenderStands.{item_here, items_from, Keeps}
+use Rattle.sctp_send.specs.SenderStands.{item_here, items_from, Holds, Keeps}
 pub use Rattle.sctp_send.specs.inner.Newcomers.{gone_item}
 
 item_other : (v : SenderView) (i j : ℕ) (e : Entry) → (j ≡ i → ⊥) → item_here (with_sent v i) j e ≡ item_here v j e
@@ -23,7 +23,7 @@ items_behind : (v : SenderView) (i from : ℕ) (es : List Entry) → i < from �
 items_behind v i from [] low = refl
 items_behind v i from (e ∷ es) low = rw (item_other v i from e (λ same. omega arith), items_behind v i (suc from) es (omega arith)) refl
 
-pub items_sent : (v : SenderView) (i from at : ℕ) (es : List Entry) (d : Item) → i ≡ from + at → at < length es
+items_sent : (v : SenderView) (i from at : ℕ) (es : List Entry) (d : Item) → i ≡ from + at → at < length es
     → items_from (with_sent v i) from es ≡ set (items_from v from es) at (gone_item (get_or (items_from v from es) at d))
 items_sent v i from at [] d is low = absurd (omega arith)
 items_sent v i from zero (e ∷ es) d is low =
@@ -36,31 +36,33 @@ count_items : (v : SenderView) (from : ℕ) (es : List Entry) → length (items_
 count_items v from [] = refl
 count_items v from (e ∷ es) = ap suc (count_items v (suc from) es)
 
+-- what is kept of a view is kept of it once the fragment at this place went out
+pub holds_sent : (s : Kept) (u : SenderView) (at : ℕ) (d : Item) → Holds s u → at < length s.items
+    → Holds (record s { items = set s.items at (gone_item (get_or s.items at d)) }) (with_sent u (suc (u.cum + at)))
+holds_sent s u at d h low =
+    let es = drop u.cum u.plan.entries in
+    let long = ap (λ (xs : List Item). length xs) h.items ∙ count_items u (suc u.cum) es in
+    let sent = items_sent u (suc (u.cum + at)) (suc u.cum) at es d (omega arith) (omega arith) in
+    let kept = length-set s.items at (gone_item (get_or s.items at d)) in
+    let space = h.room in
+    record {
+      initial = h.initial;
+      streams = h.streams;
+      fragment = h.fragment;
+      partial = h.partial;
+      cum = h.cum;
+      rwnd = h.rwnd;
+      turn = h.turn;
+      items = ap (λ (xs : List Item). set xs at (gone_item (get_or xs at d))) h.items ∙ sym sent;
+      queue = h.queue;
+      tracks = h.tracks;
+      fates = h.fates;
+      room = omega (arith, kept, space);
+    }
+
 -- What is kept once the fragment at this place went.
 pub keeps_gone : (f : Format) (s : Kept) (v : SenderView) (room at : ℕ) (d : Item) → Keeps f s v → goes f room v ≡ Some (standing v (suc (v.cum + at))) → at < length s.items
     → Keeps f (record s { items = set s.items at (gone_item (get_or s.items at d)) }) (gone (standing v (suc (v.cum + at))))
 keeps_gone f s v room at d k first low =
-    let i = suc (v.cum + at) in
-    let es = drop v.cum v.plan.entries in
-    let long = ap (λ (xs : List Item). length xs) k.holds.items ∙ count_items v (suc v.cum) es in
-    let sent = items_sent v i (suc v.cum) at es d (omega arith) (omega arith) in
-    let parts = goes_parts f room v (standing v i) first in
-    let kept = length-set s.items at (gone_item (get_or s.items at d)) in
-    let space = k.holds.room in
-    record {
-      holds = record {
-        initial = k.holds.initial;
-        streams = k.holds.streams;
-        fragment = k.holds.fragment;
-        partial = k.holds.partial;
-        cum = k.holds.cum;
-        rwnd = k.holds.rwnd;
-        turn = k.holds.turn;
-        items = ap (λ (xs : List Item). set xs at (gone_item (get_or xs at d))) k.holds.items ∙ sym sent;
-        queue = k.holds.queue;
-        tracks = k.holds.tracks;
-        fates = k.holds.fates;
-        room = omega (arith, kept, space);
-      };
-      reached = Goes v room (standing v i) k.reached parts.0 parts.1;
-    }
+    let parts = goes_parts f room v (standing v (suc (v.cum + at))) first in
+    record { holds = holds_sent s v at d k.holds low; reached = Goes v room (standing v (suc (v.cum + at))) k.reached parts.0 parts.1 }

@@ -35,6 +35,18 @@ use Rattle.sctp_send.specs.declared.outstanding.Place.TheVariants.{Fragment}
 use Rattle.sctp_send.proofs.QueueLemmas.{kept_in_part}
 use Rattle.sctp_send.proofs.RoomLemmas.{has_room_is, go_new}
 
+-- ---- the tests, as the code makes them
+
+-- these bytes may flow, by what a draft keeps
+abbrev pub flows : Kept → Draft → List ℕ → Bool
+flows s d bytes = lets_flow (item_flight (map (item_meaning s.fragment) d.outstanding.items)) (length bytes) s.rwnd
+
+-- the window has room for so many indexes more of a stream, whose message then has more fragments or not
+abbrev pub in_window : Kept → Draft → (count stream : ℕ) → (more : Bool) → Bool
+in_window s d count stream more =
+    nat_le (length d.outstanding.items + count + (total (λ t. one_if_rest t.rest) (map (track_meaning s.fragment) d.tracks.items) % 2 ^ 32 + one_if more))
+    (WINDOW + one_if (has_rest (rest_at (map (track_meaning s.fragment) d.tracks.items) stream)))
+
 -- ---- may it go
 
 -- what is assigned next goes exactly where it may flow, fits, and keeps within the window

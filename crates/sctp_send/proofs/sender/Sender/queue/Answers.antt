@@ -4,7 +4,6 @@ use Rattle.sctp_send.specs.SenderKept.{Kept}
 use Rattle.sctp_send.specs.SenderFields.{queued_by}
 use Rattle.sctp_send.specs.SenderStands.{StandsFor, Keeps}
 use Rattle.std.proofs.Common.{◌%◌, ◌^◌, ◌+◌, ◌∷◌, ◌++◌, [], List, true, is_ok}
-use Rattle.std.proofs.lemmas.List.{map-append}
 use Rattle.sctp_model.specs.sender.Queueing.{cut, owed_for}
 use Rattle.sctp_send.specs.SenderAnswers.{lane_for}
 use Rattle.sctp_send.specs.declared.message.Fate.TheVariants.{Waiting}
