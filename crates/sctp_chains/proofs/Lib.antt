@@ -18,3 +18,4 @@ mod LaneLemmas
 mod HeldLemmas
 mod TakeLemmas
 mod WithLemmas
+mod LawLemmas

@@ -49,7 +49,7 @@ index_own [] y there = absurd there
 index_own (x ∷ xs) y (inl is) = let same = eq-eqb x.index y.index (ap (λ (z : Piece). z.index) is) in rw same refl
 index_own (x ∷ xs) y (inr there) = or_right (x.index == y.index) (has_index xs y.index) (index_own xs y there)
 
-index_none : (xs : List Piece) (i : ℕ) → ((w : Piece) → Has xs w → w.index ≡ i → ⊥) → has_index xs i ≡ false
+pub index_none : (xs : List Piece) (i : ℕ) → ((w : Piece) → Has xs w → w.index ≡ i → ⊥) → has_index xs i ≡ false
 index_none [] i none = refl
 index_none (x ∷ xs) i none = elim (cases_Bool (x.index == i)) [
   | inl e ↦ absurd (none x (inl refl) (grind (arith, e, nat_tests)))

@@ -3,4 +3,5 @@ pub mod Cells
 pub mod Links
 pub mod StandsFor
 pub mod WholeOf
+pub mod Lanes
 pub mod inner

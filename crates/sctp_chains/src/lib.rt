@@ -18,12 +18,16 @@
 mod chain;
 mod chains;
 mod filing;
+mod laws;
 mod letting_go;
 mod rank;
 mod search;
 mod whole;
 
 pub use chains::Chains;
+pub use laws::{
+    below_goes_alone, lane_is_alone, message_goes_alone, message_is_alone, numbers_stay,
+};
 pub use whole::Whole;
 
 #[cfg(test)]
