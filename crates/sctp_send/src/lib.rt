@@ -25,8 +25,3 @@ pub use message::Ticket;
 pub use queue::SendFault;
 pub use sack::SackFault;
 pub use sender::Sender;
-
-#[cfg(test)]
-mod filling_tests;
-#[cfg(test)]
-mod tests;

@@ -38,6 +38,10 @@ mod receiver_forwards;
 #[cfg(test)]
 mod script_lines;
 #[cfg(test)]
+mod sender;
+#[cfg(test)]
+mod sender_filling;
+#[cfg(test)]
 mod serial;
 #[cfg(test)]
 mod statuses;

@@ -1,8 +1,8 @@
 //! What goes into packets, in order: over the wrap, fragments beside other streams, repeats before what is new.
 
-use crate::{Sender, Ticket};
 use sctp_framing::{DataFraming, Framing, IDataFraming};
 use sctp_packet::{PacketWriter, read_packet};
+use sctp_send::{Sender, Ticket};
 use sctp_wire::Chunk;
 use std::alloc::Global;
 use std::test::Fail;

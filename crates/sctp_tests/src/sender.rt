@@ -1,8 +1,8 @@
 //! The calls that take memory succeed where there is enough, and refusals come in their order.
 
-use crate::{Abandoned, SendFault, Sender, Ticket};
 use sctp_framing::{DataFraming, IDataFraming};
 use sctp_packet::PacketWriter;
+use sctp_send::{Abandoned, SendFault, Sender, Ticket};
 use std::test::Fail;
 
 #[test]
