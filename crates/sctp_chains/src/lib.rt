@@ -29,6 +29,3 @@ pub use laws::{
     below_goes_alone, lane_is_alone, message_goes_alone, message_is_alone, numbers_stay,
 };
 pub use whole::Whole;
-
-#[cfg(test)]
-mod tests;

@@ -6,6 +6,8 @@
 #[cfg(test)]
 mod abandoning;
 #[cfg(test)]
+mod chains;
+#[cfg(test)]
 mod checksums;
 #[cfg(test)]
 mod chunk_lists;

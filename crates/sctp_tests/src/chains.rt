@@ -1,6 +1,6 @@
 //! Fragments in any order, at both formats.
 
-use crate::{Chains, Whole};
+use sctp_chains::{Chains, Whole};
 use sctp_framing::{DataFraming, IDataFraming};
 use sctp_wire::Piece;
 use std::process::Abort;
