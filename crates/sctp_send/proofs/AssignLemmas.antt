@@ -207,5 +207,6 @@ holds_begun f s v q rest d turn capacity x k taken low room =
       queue = refl;
       tracks = numbered_tracks f s v q rest d turn x k low;
       fates = numbered_fates f s v q rest d turn k taken;
+      covered = k.holds.covered;
       room = room;
     }

@@ -107,6 +107,7 @@ keeps_given f s v t n k m off partial none =
         queue = k.holds.queue;
         tracks = k.holds.tracks ∙ table-same (track_here v) (track_here u) 0 v.streams (λ j lo hi. sym (track_same v n j (goes_on j)));
         fates = given_fates f s v t n k m.named m.low m.high;
+        covered = k.holds.covered;
         room = omega (arith, long, fewer, room);
       };
       reached = rw after at reached;
@@ -179,6 +180,7 @@ keeps_ended f s v t n r tracks k m off partial ends =
           queue = k.holds.queue;
           tracks = now;
           fates = given_fates f s v t n k m.named m.low m.high;
+          covered = k.holds.covered;
           room = omega (arith, long, more, fewer, parts, room);
         };
         reached = rw after at reached;

@@ -203,6 +203,7 @@ keeps_copied f s v d k items queue tracks turned none room =
         queue = queue ∙ k.holds.queue;
         tracks = tracks ∙ k.holds.tracks;
         fates = fates ∙ k.holds.fates;
+        covered = k.holds.covered;
         room = omega (arith, room, long, parts, k.holds.streams);
       };
       reached = k.reached;

@@ -113,5 +113,6 @@ holds_continued f s v j turn capacity e x k low on room = record {
   queue = k.holds.queue;
   tracks = gone_tracks f s v j turn e x k low on;
   fates = k.holds.fates ∙ table-same (fate_here v) (fate_here (gone_on v e turn)) 1 v.tickets (λ t lo hi. sym (gone_fate f v j t turn e k.reached on));
+  covered = k.holds.covered;
   room = room;
 }

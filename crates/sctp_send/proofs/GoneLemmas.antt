@@ -57,6 +57,7 @@ holds_sent s u at d h low =
       queue = h.queue;
       tracks = h.tracks;
       fates = h.fates;
+      covered = h.covered;
       room = omega (arith, kept, space);
     }
 

@@ -1,6 +1,6 @@
 -- What a SACK, a SHUTDOWN and the data timer leave of what is kept, for each view that it stands for.
 use Rattle.std.proofs.Common.{◌≡◌, ℕ, zero, suc, ◌+◌, ◌%◌, ◌^◌, ◌<◌, ◌≤◌, List, [], ◌∷◌, length, map, drop, Bool, true, false, Some, None, refl, sym, ap, ◌∙◌, arith, length-drop}
-use Rattle.std.specs.Prelude.{nat_le, slice_get, not, ◌&&◌, ◌||◌, replicate}
+use Rattle.std.specs.Prelude.{nat_le, slice_get, not, ◌&&◌, ◌||◌, replicate, Option, option_map}
 use Rattle.std.proofs.lemmas.List.{drop-drop, length-map}
 use Rattle.std.proofs.lemmas.Bool.Decides.{nat_tests}
 use Rattle.sctp_model.specs.Format.{Format}
@@ -15,10 +15,13 @@ use Rattle.sctp_model.proofs.sender.Bounds.{is_bounded}
 use Rattle.sctp_model.proofs.sender.OwedLaws.{is_promised, sum-zero}
 use Rattle.sctp_model.proofs.sender.PointLaws.{get-drop}
 use Rattle.sctp_send.specs.SenderKept.{Item, Kept}
+use Rattle.sctp_send.specs.CoveredRuns.{AreCovered, runs_behind}
+use Rattle.sctp_send.specs.declared.outstanding.Run.{Run}
 use Rattle.sctp_send.specs.SenderStands.{items_from, Keeps}
 use Rattle.sctp_send.specs.inner.Acknowledging.{IsPassing}
 use Rattle.sctp_send.proofs.TableLemmas.{table-replicate}
 use Rattle.sctp_send.proofs.ItemLemmas.{timed_item}
+use Rattle.sctp_send.proofs.RunLemmas.{AreOfBlocks, covered_behind}
 use Rattle.sctp_send.proofs.CoverLemmas.{items_told, count_items_told}
 
 -- ---- how much is kept
@@ -75,9 +78,14 @@ offset_blocks c i (b ∷ bs) =
 beyond_covers : (c i : ℕ) (bs : List BlockMeaning) → 0 < i → in_blocks 0 bs i ≡ sack_covers c bs (c + i)
 beyond_covers c i bs some = let past : nat_le (c + i) c ≡ false = grind (arith, nat_tests) in rw past (sym (offset_blocks c i bs))
 
-pub keeps_sacked : (f : Format) (s : Kept) (v : SenderView) (x : SackMeaning) (n : ℕ) → Keeps f s v → IsPassing v x.cumulative n → sack_fault v x ≡ None
-    → Keeps f (record s { cum = (s.cum + n) % 2 ^ 32; rwnd = x.rwnd; items = items_told (in_blocks 0 x.blocks) 1 (drop n s.items) }) (sack_after v x)
-keeps_sacked f s v x n k p none =
+-- the runs of a SACK's blocks are what it covers above its index
+sacked_runs : (o : Option (List Run)) (c : ℕ) (bs : List BlockMeaning) → AreOfBlocks o bs → AreCovered o (sack_covers c bs) c
+sacked_runs None c bs h = tt
+sacked_runs (Some rs) c bs h = λ i some. sym (beyond_covers c i bs some) ∙ sym (h i some)
+
+pub keeps_sacked : (f : Format) (s : Kept) (v : SenderView) (x : SackMeaning) (n : ℕ) (rs : Option (List Run)) → Keeps f s v → IsPassing v x.cumulative n → sack_fault v x ≡ None → AreOfBlocks rs x.blocks
+    → Keeps f (record s { cum = (s.cum + n) % 2 ^ 32; rwnd = x.rwnd; items = items_told (in_blocks 0 x.blocks) 1 (drop n s.items); runs = rs }) (sack_after v x)
+keeps_sacked f s v x n rs k p none runs =
     let c = v.cum + n in
     let start : suc (c + 0) ≡ suc c = omega arith in
     let told = rw start at (told_items v c (sack_covers c x.blocks) (drop c v.plan.entries) 0) in
@@ -98,6 +106,7 @@ keeps_sacked f s v x n k p none =
         queue = k.holds.queue;
         tracks = k.holds.tracks;
         fates = k.holds.fates;
+        covered = sacked_runs rs (index_of v x.cumulative) x.blocks runs;
         room = omega (arith, count, fewer, room);
       };
       reached = Covers v x k.reached none;
@@ -121,7 +130,7 @@ beyond_stays v c (e ∷ es) i lt apart =
     by_cover false off = and_true (v.marked i)
 
 pub keeps_shut : (f : Format) (s : Kept) (v : SenderView) (wire n : ℕ) → Keeps f s v → IsPassing v wire n → shutdown_fault v wire ≡ None
-    → Keeps f (record s { cum = (s.cum + n) % 2 ^ 32; items = drop n s.items }) (shutdown_after v wire)
+    → Keeps f (record s { cum = (s.cum + n) % 2 ^ 32; items = drop n s.items; runs = option_map (runs_behind n) s.runs }) (shutdown_after v wire)
 keeps_shut f s v wire n k p none =
     let c = v.cum + n in
     let stays = beyond_stays v c (drop c v.plan.entries) (suc c) (omega arith) (is_bounded f v k.reached).apart in
@@ -140,6 +149,7 @@ keeps_shut f s v wire n k p none =
         queue = k.holds.queue;
         tracks = k.holds.tracks;
         fates = k.holds.fates;
+        covered = covered_behind s.runs v.covered v.cum (index_of v wire) n p.index k.holds.covered;
         room = omega (arith, fewer, room);
       };
       reached = Closes v wire k.reached none;
@@ -174,6 +184,7 @@ keeps_timed f s v k =
         queue = k.holds.queue;
         tracks = k.holds.tracks;
         fates = k.holds.fates;
+        covered = k.holds.covered;
         room = omega (arith, long, room);
       };
       reached = Repeats v k.reached;
@@ -181,7 +192,7 @@ keeps_timed f s v k =
 
 -- a sender that was given nothing
 pub keeps_fresh : (f : Format) (initial streams fragment rwnd capacity : ℕ) (partial : Bool) → 0 < streams → 0 < fragment
-    → Keeps f (record { initial = initial; streams = streams; fragment = fragment; partial = partial; cum = 0; rwnd = rwnd; turn = 0; items = []; queue = []; tracks = replicate streams (record { ordered = 0; unordered = 0; rest = None }); fates = []; capacity = capacity })
+    → Keeps f (record { initial = initial; streams = streams; fragment = fragment; partial = partial; cum = 0; rwnd = rwnd; turn = 0; items = []; queue = []; tracks = replicate streams (record { ordered = 0; unordered = 0; rest = None }); fates = []; runs = Some []; capacity = capacity })
     (fresh_sender initial streams fragment rwnd partial)
 keeps_fresh f initial streams fragment rwnd capacity partial some large = record {
   holds = record {
@@ -196,6 +207,7 @@ keeps_fresh f initial streams fragment rwnd capacity partial some large = record
     queue = refl;
     tracks = sym (table-replicate (record { ordered = 0; unordered = 0; rest = None }) 0 streams);
     fates = refl;
+    covered = λ i some. refl;
     room = let none = sum-zero (λ j. 0) streams (λ j. refl) in omega (arith, none);
   };
   reached = Begins initial streams fragment rwnd partial some large;

@@ -1,6 +1,7 @@
 pub mod TableLemmas
 pub mod ItemLemmas
 pub mod CoverLemmas
+pub mod RunLemmas
 pub mod KeepLemmas
 pub mod SackLemmas
 pub mod QueueLemmas

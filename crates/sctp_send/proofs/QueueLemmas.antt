@@ -117,6 +117,7 @@ keeps_queued f s v lane payload ticket bytes until k free given =
         queue = rw (k.holds.queue, k.holds.fragment, given) refl;
         tracks = k.holds.tracks;
         fates = fates;
+        covered = k.holds.covered;
         room = k.holds.room;
       };
       reached = Queues v lane payload bytes until k.reached free;

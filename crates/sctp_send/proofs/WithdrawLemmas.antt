@@ -130,6 +130,7 @@ keeps_withdrawn f s v t k on =
         queue = rw k.holds.queue refl;
         tracks = k.holds.tracks;
         fates = fates;
+        covered = k.holds.covered;
         room = k.holds.room;
       };
       reached = rw after at reached;

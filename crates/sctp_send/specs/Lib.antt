@@ -1,3 +1,4 @@
+pub mod CoveredRuns
 pub mod SenderKept
 pub mod SenderStands
 pub mod OutstandingFields

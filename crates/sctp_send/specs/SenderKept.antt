@@ -3,6 +3,7 @@ use Rattle.std.specs.Prelude.{ℕ, Bool, List, Option}
 use Rattle.sctp_model.specs.Plan.{Message, Entry}
 use Rattle.sctp_model.specs.SenderView.{Queued}
 use Rattle.sctp_send.specs.declared.message.Fate.{Fate}
+use Rattle.sctp_send.specs.declared.outstanding.Run.{Run}
 
 -- what is kept of one index above CUM
 pub record Item : Type 0 where
@@ -38,5 +39,7 @@ pub record Kept : Type 0 where
   pub tracks : List Track
   -- by ticket, from 1 on
   pub fates : List Fate
+  -- what is covered above CUM, where that is known
+  pub runs : Option (List Run)
   -- how many entries above CUM there is room for
   pub capacity : ℕ

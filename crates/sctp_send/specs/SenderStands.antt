@@ -7,6 +7,7 @@ use Rattle.sctp_model.specs.sender.Entries.{entry_message, is_given_up, continue
 use Rattle.sctp_model.specs.sender.Abandoning.{Name, name_of, waits, is_abandoned}
 use Rattle.sctp_model.specs.sender.Reached.{IsReached}
 use Rattle.sctp_send.specs.SenderKept.{Item, Rest, Track, Kept}
+use Rattle.sctp_send.specs.CoveredRuns.{AreCovered}
 use Rattle.sctp_send.specs.declared.message.Fate.{Fate}
 use Rattle.sctp_send.specs.declared.message.Fate.TheVariants.{Waiting, Numbered, Withdrawn, GivenUp}
 
@@ -59,6 +60,7 @@ pub record Holds (s : Kept) (v : SenderView) : Type 0 where
   pub queue : s.queue ≡ v.queue
   pub tracks : s.tracks ≡ table (track_here v) 0 v.streams
   pub fates : s.fates ≡ table (fate_here v) 1 v.tickets
+  pub covered : AreCovered s.runs v.covered v.cum
   -- each message in part has room for its end mark
   pub room : in_part v + length s.items ≤ s.capacity
 

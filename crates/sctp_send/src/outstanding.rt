@@ -1,9 +1,10 @@
 //! What was assigned and isn't acknowledged cumulatively: an entry for each index, the one of CUM + 1 in front.
 
-ghost use Rattle.std.specs.Prelude.{◌≡◌, ℕ, Bool, false, ◌≤◌, List, length, drop, None};
+ghost use Rattle.std.specs.Prelude.{◌≡◌, ℕ, Bool, true, false, ◌<◌, ◌≤◌, List, length, drop, None};
 ghost use Rattle.std.specs.VecDeque.{deque_capacity};
 ghost use Rattle.sctp_model.specs.Acknowledgement.{in_blocks};
 ghost use Rattle.sctp_send.specs.inner.Changes.{unmarked, as_covered, as_uncovered, all_told, or_run, timed, all_timed};
+ghost use Rattle.sctp_send.specs.CoveredRuns.{in_runs, run_behind, runs_behind};
 ghost use Rattle.sctp_send.specs.inner.Acknowledging.{block_fault};
 
 use crate::message::Message;
@@ -42,6 +43,16 @@ pub struct Outstanding {
     pub covered: bool,
     pub given_up: bool,
 }
+
+/// A run of entries that the peer has, by their offsets above CUM: those behind `from`, up to `to`.
+#[derive(Clone, Copy, Debug, PartialEq, Eq)]
+pub struct Run {
+    pub from: usize,
+    pub to: usize,
+}
+
+/// The most runs that are kept: as many as a SACK of ours has blocks.
+pub const RUNS: usize = 64;
 
 /// The same standing without its mark.
 pub fn unmarked(standing: Standing) -> Standing
@@ -110,6 +121,42 @@ pub fn forget(outstanding: &mut VecDeque<Outstanding>, passed: usize)
     for _ in 0..passed {
         let _acknowledged = outstanding.pop_front();
     }
+}
+
+/// The runs as seen from so many entries further on.
+pub fn move_on(runs: &mut Vec<Run>, passed: usize)
+    ensures { runs.new.items ≡ runs_behind passed runs.old.items }
+{
+    for at in 0..runs.len() {
+        runs[at] = run_behind(runs[at], passed);
+    }
+}
+
+/// A run as seen from so many entries further on.
+fn run_behind(run: Run, passed: usize) -> Run
+    ensures { result ≡ run_behind passed run }
+{
+    Run {
+        from: run.from.saturating_sub(passed),
+        to: run.to.saturating_sub(passed),
+    }
+}
+
+/// Keeps what blocks cover, in place of what was kept; false where they are too many.
+pub fn remember(runs: &mut Vec<Run>, blocks: &Blocks<'_>) -> bool
+    ensures { result ≡ true → (i : ℕ) → 0 < i → in_runs runs.new.items i ≡ in_blocks 0 blocks.now i }
+{
+    runs.clear();
+    for block in blocks.iter() {
+        let run = Run {
+            from: usize::from(block.start).saturating_sub(1),
+            to: usize::from(block.end),
+        };
+        if runs.len() >= RUNS || runs.push(run).is_err() {
+            return false;
+        }
+    }
+    true
 }
 
 /// An entry that the peer may still need is marked.

@@ -10,7 +10,7 @@ ghost use Rattle.sctp_send.specs.SenderStands.{StandsFor};
 ghost use Rattle.sctp_send.specs.SenderAnswers.{reason_meaning};
 ghost use Rattle.sctp_send.specs.inner.Acknowledging.{PassingAnswer};
 
-use crate::outstanding::{cover, forget, mark_unsettled};
+use crate::outstanding::{cover, forget, mark_unsettled, move_on, remember};
 use crate::sender::Sender;
 use sctp_framing::Framing;
 use sctp_wire::{Blocks, Sack};
@@ -51,6 +51,7 @@ impl<F: Framing> Sender<F> {
         }
         forget(&mut self.outstanding, passed as usize);
         cover(&mut self.outstanding, &sack.blocks);
+        self.is_known = remember(&mut self.covered, &sack.blocks);
         self.cum = self.cum.wrapping_add(passed);
         self.rwnd = sack.rwnd;
         Ok(())
@@ -67,6 +68,7 @@ impl<F: Framing> Sender<F> {
     {
         let passed = self.passed_by(tsn)?;
         forget(&mut self.outstanding, passed as usize);
+        move_on(&mut self.covered, passed as usize);
         self.cum = self.cum.wrapping_add(passed);
         Ok(())
     }

@@ -6,7 +6,7 @@ ghost use Rattle.sctp_model.specs.SenderView.{SenderView, fresh_sender};
 ghost use Rattle.sctp_send.specs.SenderStands.{StandsFor};
 
 use crate::message::{Fate, Message};
-use crate::outstanding::Outstanding;
+use crate::outstanding::{Outstanding, RUNS, Run};
 use sctp_framing::Framing;
 use sctp_wire::NoMemory;
 use std::alloc::Global;
@@ -50,12 +50,16 @@ pub struct Sender<F: Framing> {
     pub(crate) tracks: Vec<Track>,
     // by ticket, from 1 on
     pub(crate) fates: Vec<Fate>,
+    // what the last SACK covers above CUM, unless it had too many blocks
+    pub(crate) covered: Vec<Run>,
+    pub(crate) is_known: bool,
     pub(crate) format: PhantomData<F>,
 }
 
 impl<F: Framing> Model for Sender<F> {
     ghost use Rattle.std.specs.Prelude.{map};
     ghost use Rattle.std.specs.VecDeque.{deque_capacity};
+    ghost use Rattle.sctp_model.specs.sender.Words.{when};
     ghost use Rattle.sctp_send.specs.SenderKept.{Kept};
 
     ghost Value = { Kept };
@@ -75,6 +79,7 @@ impl<F: Framing> Model for Sender<F> {
       queue = map (queued_by s.fragment) s.queue.items;
       tracks = map (track_meaning s.fragment) s.tracks.items;
       fates = s.fates.items;
+      runs = when s.is_known s.covered.items;
       capacity = deque_capacity s.outstanding;
     } };
 
@@ -102,6 +107,8 @@ impl<F: Framing> Sender<F> {
         ensures { IfOk result (λ sender. StandsFor F.format sender (fresh_sender initial_tsn streams fragment peer_rwnd partial)) }
     {
         let tracks = fresh_tracks(alloc, streams)?;
+        let mut covered = Vec::new(alloc);
+        covered.reserve(RUNS).map_err(|_| NoMemory)?;
         Ok(Sender {
             alloc,
             initial: initial_tsn,
@@ -115,6 +122,8 @@ impl<F: Framing> Sender<F> {
             queue: VecDeque::new(alloc),
             tracks,
             fates: Vec::new(alloc),
+            covered,
+            is_known: true,
             format: PhantomData,
         })
     }

@@ -3,6 +3,7 @@ use Rattle.std.proofs.lemmas.List.{drop-map}
 use Rattle.sctp_send.specs.OutstandingFields.{item_meaning}
 use Rattle.sctp_send.specs.SenderKept.{Kept}
 use Rattle.sctp_send.specs.SenderStands.{StandsFor, Keeps}
+use Rattle.sctp_send.proofs.RunLemmas.{when_behind}
 use Rattle.sctp_send.proofs.KeepLemmas.{keeps_shut}
 use Rattle.sctp_send.proofs.SackLemmas.{shutdown_passes}
 use Rattle.sctp_send.proofs.sender.Sender.on_shutdown.Goals as goal
@@ -16,4 +17,5 @@ returns-clause-step g c = λ v stands.
     let p = c.in_ok-passed.ensures.answer v stands in
     let taken = keeps_shut g.F.Framing.format _ v c.args.tsn n keeps p (shutdown_passes v c.args.tsn n p) in
     let items : map (item_meaning s.fragment) c.forget.new.outstanding.items ≡ drop n (map (item_meaning s.fragment) s.outstanding.items) = rw (c.forget.ensures.items, drop-map) refl in
-    rw (items, c.forget.ensures.capacity) taken
+    let runs = when_behind s.is_known n s.covered.items c.move_on.new.runs.items c.move_on.ensures in
+    rw (items, c.forget.ensures.capacity, runs) taken
