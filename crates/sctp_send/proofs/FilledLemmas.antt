@@ -53,7 +53,7 @@ pub record IsSoFar (f : Format) (s : Kept) (v : SenderView) (p now : PacketDraft
   pub told : numbers_of d.tickets.items ≡ newly_numbered v view
   pub many : length wishes ≡ steps
 
-pub loop_init : (f : Format) (s : Kept) (v : SenderView) (p : PacketDraft) (d : Draft) → Keeps f (drafted s d) v → d.tickets.items ≡ [] → IsSoFar f s v p p d 0
+abbrev pub loop_init : (f : Format) (s : Kept) (v : SenderView) (p : PacketDraft) (d : Draft) → Keeps f (drafted s d) v → d.tickets.items ≡ [] → IsSoFar f s v p p d 0
 loop_init f s v p d k none = record {
   wishes = [];
   view = v;
@@ -66,15 +66,15 @@ loop_init f s v p d k none = record {
 }
 
 -- the room at a step
-room_now : (f : Format) (s : Kept) (v : SenderView) (p now : PacketDraft) (d : Draft) (steps : ℕ) → (x : IsSoFar f s v p now d steps) → room_in now ≡ room_after f (room_in p) x.wishes
+pub room_now : (f : Format) (s : Kept) (v : SenderView) (p now : PacketDraft) (d : Draft) (steps : ℕ) → (x : IsSoFar f s v p now d steps) → room_in now ≡ room_after f (room_in p) x.wishes
 room_now f s v p now d steps x = ap room_in x.chunks ∙ room_left f p x.wishes
 
 -- chunks behind those that are there
-chunks_more : (f : Format) (p now later : PacketDraft) (ws xs : List Wish) → now ≡ with_chunks p (map (chunk_of f) ws) → later ≡ with_chunks now (map (chunk_of f) xs) → later ≡ with_chunks p (map (chunk_of f) (ws ++ xs))
+pub chunks_more : (f : Format) (p now later : PacketDraft) (ws xs : List Wish) → now ≡ with_chunks p (map (chunk_of f) ws) → later ≡ with_chunks now (map (chunk_of f) xs) → later ≡ with_chunks p (map (chunk_of f) (ws ++ xs))
 chunks_more f p now later ws xs here then =
     then ∙ ap (λ (y : PacketDraft). with_chunks y (map (chunk_of f) xs)) here ∙ chunks_joined p (map (chunk_of f) ws) (map (chunk_of f) xs) ∙ ap (with_chunks p) (sym (map-append (chunk_of f) ws xs))
 
-pub loop_more : (f : Format) (s : Kept) (v : SenderView) (p now later : PacketDraft) (old new : Draft) (steps : ℕ) → (x : IsSoFar f s v p now old steps) → IsPut f s x.view now later old new → IsSoFar f s v p later new (steps + 1)
+abbrev pub loop_more : (f : Format) (s : Kept) (v : SenderView) (p now later : PacketDraft) (old new : Draft) (steps : ℕ) → (x : IsSoFar f s v p now old steps) → IsPut f s x.view now later old new → IsSoFar f s v p later new (steps + 1)
 loop_more f s v p now later old new steps x put =
     let next : goes f (room_after f (room_in p) x.wishes) x.view ≡ Some put.wish = ap (λ (n : ℕ). goes f n x.view) (sym (room_now f s v p now old steps x)) ∙ put.next in
     record {

@@ -34,3 +34,6 @@ pub mod NewMayLemmas
 pub mod BegunPut
 pub mod ContinuedPut
 pub mod FilledLemmas
+pub mod WentLemmas
+pub mod WentFlight
+pub mod CursorLemmas

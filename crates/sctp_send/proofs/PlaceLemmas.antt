@@ -27,6 +27,27 @@ pub further_none : (o : Option ℕ) → further 0 o ≡ o
 further_none None = refl
 further_none (Some k) = let same : 0 + k ≡ k = omega arith in ap (λ (n : ℕ). Some n) same
 
+-- the first ones don't pass
+pub skipped_place : (test : Item → Bool) (xs : List Item) (n : ℕ) → first_place test (take n xs) ≡ None → first_place test xs ≡ further n (first_place test (drop n xs))
+skipped_place test xs zero none = sym (further_none (first_place test xs))
+skipped_place test [] (suc n) none = refl
+skipped_place test (x ∷ xs) (suc n) none = by_test (test x) none (skipped_place test xs n)
+  where
+    absent : (o : Option ℕ) → option_map suc o ≡ None → o ≡ None
+    absent None is = refl
+    absent (Some k) is = absurd (cc)
+
+    by_test : (b : Bool) → (if b then Some 0 else option_map suc (first_place test (take n xs))) ≡ None → (first_place test (take n xs) ≡ None → first_place test xs ≡ further n (first_place test (drop n xs)))
+        → (if b then Some 0 else option_map suc (first_place test xs)) ≡ further (suc n) (first_place test (drop n xs))
+    by_test true is rest = absurd (cc)
+    by_test false is rest =
+        let one : n + 1 ≡ suc n = omega arith in
+        ap (option_map suc) (rest (absent (first_place test (take n xs)) is)) ∙ shifted n (first_place test (drop n xs))
+      where
+        shifted : (m : ℕ) (o : Option ℕ) → option_map suc (further m o) ≡ further (suc m) o
+        shifted m None = refl
+        shifted m (Some k) = let same : suc (m + k) ≡ suc m + k = omega arith in ap (λ (i : ℕ). Some i) same
+
 -- one that doesn't pass
 pub walked_place : (test : Item → Bool) (size : ℕ) (es : List Outstanding) (at : ℕ) (x : Outstanding) (all : Option ℕ) → at < length es → x ≡ get_or es at x → test (item_meaning size x) ≡ false
     → all ≡ further at (first_place test (drop at (map (item_meaning size) es))) → all ≡ further (at + 1) (first_place test (drop (at + 1) (map (item_meaning size) es)))

@@ -18,19 +18,19 @@ use Rattle.sctp_send.specs.SenderStands.{item_here, items_from, Keeps}
 pub use Rattle.sctp_send.specs.inner.Wishing.{first_place, is_item_marked, is_item_unsent}
 
 -- the items from an index on pass just where their indexes do
-abbrev Agrees : SenderView → (Item → Bool) → (ℕ → Bool) → ℕ → List Entry → Type 0
+abbrev pub Agrees : SenderView → (Item → Bool) → (ℕ → Bool) → ℕ → List Entry → Type 0
 Agrees v test on from es = (k : ℕ) (e : Entry) → slice_get es k ≡ Some e → test (item_here v (from + k) e) ≡ on (from + k)
 
-agrees_on : (v : SenderView) (test : Item → Bool) (on : ℕ → Bool) (from : ℕ) (e : Entry) (es : List Entry) → Agrees v test on from (e ∷ es) → Agrees v test on (suc from) es
+pub agrees_on : (v : SenderView) (test : Item → Bool) (on : ℕ → Bool) (from : ℕ) (e : Entry) (es : List Entry) → Agrees v test on from (e ∷ es) → Agrees v test on (suc from) es
 agrees_on v test on from e es h k d here = let next : from + suc k ≡ suc from + k = omega arith in rw next at (h (suc k) d here)
 
 -- what was found passes, and what stands before doesn't
-record IsFirstPlace (on : ℕ → Bool) (from at count : ℕ) : Type 0 where
-  within : at < count
-  passes : on (from + at) ≡ true
-  before : (k : ℕ) → k < at → on (from + k) ≡ false
+pub record IsFirstPlace (on : ℕ → Bool) (from at count : ℕ) : Type 0 where
+  pub within : at < count
+  pub passes : on (from + at) ≡ true
+  pub before : (k : ℕ) → k < at → on (from + k) ≡ false
 
-found_place : (v : SenderView) (test : Item → Bool) (on : ℕ → Bool) (from at : ℕ) (es : List Entry) → Agrees v test on from es → first_place test (items_from v from es) ≡ Some at → IsFirstPlace on from at (length es)
+pub found_place : (v : SenderView) (test : Item → Bool) (on : ℕ → Bool) (from at : ℕ) (es : List Entry) → Agrees v test on from es → first_place test (items_from v from es) ≡ Some at → IsFirstPlace on from at (length es)
 found_place v test on from at [] h is = absurd (cc)
 found_place v test on from at (e ∷ es) h is = by_test (test (item_here v from e)) here is (λ k. found_place v test on (suc from) k es (agrees_on v test on from e es h))
   where
@@ -59,7 +59,7 @@ found_place v test on from at (e ∷ es) h is = by_test (test (item_here v from 
     by_test false same some further = by_place (first_place test (items_from v (suc from) es)) (sym same) some further
 
 -- where none was found, none passes
-none_place : (v : SenderView) (test : Item → Bool) (on : ℕ → Bool) (from : ℕ) (es : List Entry) → Agrees v test on from es → first_place test (items_from v from es) ≡ None → (k : ℕ) → k < length es → on (from + k) ≡ false
+pub none_place : (v : SenderView) (test : Item → Bool) (on : ℕ → Bool) (from : ℕ) (es : List Entry) → Agrees v test on from es → first_place test (items_from v from es) ≡ None → (k : ℕ) → k < length es → on (from + k) ≡ false
 none_place v test on from [] h is k lt = absurd (omega arith)
 none_place v test on from (e ∷ es) h is k lt = by_test (test (item_here v from e)) here is (λ none j low. none_place v test on (suc from) es (agrees_on v test on from e es h) none j low) k lt
   where
@@ -118,10 +118,10 @@ none_at_all f s v test on k h below is = lowest_none on (length v.plan.entries) 
         let back = split v.cum j past in
         rw back at (none_place v test on (suc v.cum) (drop v.cum v.plan.entries) h (ap (first_place test) (sym k.holds.items) ∙ is) (j - suc v.cum) (omega arith))
 
-marks_agree : (v : SenderView) → Agrees v is_item_marked v.marked (suc v.cum) (drop v.cum v.plan.entries)
+pub marks_agree : (v : SenderView) → Agrees v is_item_marked v.marked (suc v.cum) (drop v.cum v.plan.entries)
 marks_agree v k e here = refl
 
-unsent_agree : (v : SenderView) → Agrees v is_item_unsent (passes_at v.plan (is_unsent v)) (suc v.cum) (drop v.cum v.plan.entries)
+pub unsent_agree : (v : SenderView) → Agrees v is_item_unsent (passes_at v.plan (is_unsent v)) (suc v.cum) (drop v.cum v.plan.entries)
 unsent_agree v k e here =
     let place : suc v.cum + k ≡ suc (v.cum + k) = omega arith in
     let there : entry_at v.plan (suc (v.cum + k)) ≡ Some e = get-drop v.cum v.plan.entries k ∙ here in

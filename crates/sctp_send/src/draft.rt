@@ -23,6 +23,15 @@ pub struct Draft {
     pub tickets: Vec<Ticket>,
 }
 
+/// How far a fill came: no entry before the first offset waits to be repeated, and none before the second is to go out for the first time; and
+/// the bytes in flight, or the largest number where there are more.
+#[derive(Debug, Drop)]
+pub struct Cursors {
+    pub marked: usize,
+    pub unsent: usize,
+    pub flight: u64,
+}
+
 /// The same message, owned once more.
 pub fn shared(message: &Rc<Message>) -> Result<Rc<Message>, NoMemory>
     ensures { IfOk result (λ copy. copy.value ≡ message.now.value) }

@@ -6,9 +6,10 @@ ghost use Rattle.sctp_send.specs.SenderStands.{StandsFor, Keeps};
 ghost use Rattle.sctp_send.specs.FillAnswers.{FillAnswer, PutSomeOf};
 ghost use Rattle.sctp_send.specs.inner.Drafting.{numbers_of, all_numbered, drafted, AllPut};
 
-use crate::draft::{Draft, copied_entries, copied_queue, copied_tracks};
+use crate::draft::{Cursors, Draft, copied_entries, copied_queue, copied_tracks};
 use crate::message::{Fate, Ticket};
 use crate::sender::Sender;
+use crate::wishes::flight;
 use sctp_framing::Framing;
 use sctp_packet::PacketWriter;
 use sctp_wire::NoMemory;
@@ -80,9 +81,14 @@ impl<F: Framing> Sender<F> {
         ensures all { (v : SenderView) → Keeps F.format (drafted self.now draft.old) v → OnOk result (AllPut F.format self.now v packet.old packet.new draft.new) }
         ensures some { (v : SenderView) → Keeps F.format (drafted self.now draft.old) v → OnErr result (PutSomeOf F.format v packet.old packet.new) }
     {
+        let mut cursors = Cursors {
+            marked: 0,
+            unsent: 0,
+            flight: flight(&draft.outstanding, self.fragment),
+        };
         // Each chunk takes room.
         for _ in 0..packet.room() {
-            if !self.put_next(draft, packet)? {
+            if !self.put_next(draft, &mut cursors, packet)? {
                 return Ok(());
             }
         }

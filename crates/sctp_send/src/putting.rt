@@ -1,15 +1,15 @@
 //! One wish after the other goes into a packet, and into a draft (RFC 9260, 6.1 and 6.3.3; RFC 8260, 2.2).
 
-ghost use Rattle.std.specs.Prelude.{◌≡◌, suc, ◌+◌, ◌<◌, length, IfOk, OnErr};
+ghost use Rattle.std.specs.Prelude.{◌≡◌, suc, ◌+◌, ◌<◌, true, false, length, IfOk, OnErr};
 ghost use Rattle.sctp_model.specs.SenderView.{SenderView};
 ghost use Rattle.sctp_model.specs.Serial.{tsn};
 ghost use Rattle.sctp_send.specs.SenderStands.{Keeps};
 ghost use Rattle.sctp_send.specs.FillAnswers.{PutSomeOf};
-ghost use Rattle.sctp_send.specs.inner.Drafting.{drafted, went_out, PutAnswer, IsNextEntry, IsNextUnsent, NothingStands, IsOffered};
+ghost use Rattle.sctp_send.specs.inner.Drafting.{drafted, went_out, PutAnswer, NextAnswer, IsTracked, IsFlying, more_flies, IsNextEntry, IsNextUnsent, NothingStands, IsOffered};
 ghost use Rattle.sctp_send.specs.inner.Newcomers.{IsBegun, IsContinued};
 
 use crate::assigning::{Beginning, Next, has_window, next_new, rest_of};
-use crate::draft::{Draft, shared};
+use crate::draft::{Cursors, Draft, shared};
 use crate::entering::number_next;
 use crate::message::Message;
 use crate::outstanding::{Outstanding, Place, Standing};
@@ -28,21 +28,60 @@ impl<F: Framing> Sender<F> {
     pub(crate) fn put_next(
         &self,
         draft: &mut Draft,
+        cursors: &mut Cursors,
         packet: &mut PacketWriter,
     ) -> Result<bool, NoMemory>
-        ensures put { (v : SenderView) → Keeps F.format (drafted self.now draft.old) v
-            → IfOk result (λ put. PutAnswer F.format self.now v packet.old packet.new draft.old draft.new put) }
-        ensures some { (v : SenderView) → Keeps F.format (drafted self.now draft.old) v → OnErr result (PutSomeOf F.format v packet.old packet.new) }
+        ensures put { (v : SenderView) → Keeps F.format (drafted self.now draft.old) v → IsTracked v cursors.old
+            → IfOk result (λ put. NextAnswer F.format self.now v packet.old packet.new draft.old draft.new cursors.new put) }
+        ensures some { (v : SenderView) → Keeps F.format (drafted self.now draft.old) v → IsTracked v cursors.old
+            → OnErr result (PutSomeOf F.format v packet.old packet.new) }
     {
-        if let Some(at) = first_marked(&draft.outstanding) {
-            return self.put_entry(draft, at, packet);
+        let behind = draft.outstanding.len();
+        if let Some(at) = first_marked(&draft.outstanding, cursors.marked) {
+            cursors.marked = at;
+            let put = self.put_entry(draft, at, packet)?;
+            return Ok(self.counted(draft, cursors, at, put));
         }
-        if let Some(at) = first_unsent(&draft.outstanding) {
-            return self.put_unsent(draft, at, packet);
+        cursors.marked = behind;
+        if let Some(at) = first_unsent(&draft.outstanding, cursors.unsent) {
+            cursors.unsent = at;
+            let put = self.put_unsent(draft, at, cursors.flight, packet)?;
+            return Ok(self.counted(draft, cursors, at, put));
         }
+        cursors.unsent = behind;
+        let put = self.put_new(draft, cursors.flight, packet)?;
+        Ok(self.counted(draft, cursors, behind, put))
+    }
+
+    /// What went out at this offset, if it did, is in flight from now on.
+    fn counted(&self, draft: &Draft, cursors: &mut Cursors, at: usize, put: bool) -> bool
+        ensures same { result ≡ put }
+        ensures stopped { put ≡ false → cursors.new ≡ cursors.old }
+        ensures put { put ≡ true → at < length draft.now.outstanding.items → cursors.new ≡ more_flies self.now draft.now at cursors.old }
+    {
+        if put && at < draft.outstanding.len() {
+            let entry = &draft.outstanding[at];
+            let bytes = bytes_of(&entry.message, entry.place, self.fragment).len();
+            cursors.flight = cursors.flight.saturating_add(bytes as u64);
+        }
+        put
+    }
+
+    /// What is to take the next index does, where its fragment may go.
+    fn put_new(
+        &self,
+        draft: &mut Draft,
+        flying: u64,
+        packet: &mut PacketWriter,
+    ) -> Result<bool, NoMemory>
+        ensures put { (v : SenderView) → Keeps F.format (drafted self.now draft.old) v → NothingStands F.format v → IsFlying self.now draft.old flying
+            → IfOk result (λ put. PutAnswer F.format self.now v packet.old packet.new draft.old draft.new put) }
+        ensures some { (v : SenderView) → Keeps F.format (drafted self.now draft.old) v → NothingStands F.format v → IsFlying self.now draft.old flying
+            → OnErr result (PutSomeOf F.format v packet.old packet.new) }
+    {
         match next_new::<F>(draft, self.streams, self.fragment) {
-            Some(Next::Begins(next)) => self.put_begun(draft, next, packet),
-            Some(Next::Continues(stream)) => self.put_continued(draft, stream, packet),
+            Some(Next::Begins(next)) => self.put_begun(draft, next, flying, packet),
+            Some(Next::Continues(stream)) => self.put_continued(draft, stream, flying, packet),
             None => Ok(false),
         }
     }
@@ -80,16 +119,17 @@ impl<F: Framing> Sender<F> {
         &self,
         draft: &mut Draft,
         at: usize,
+        flying: u64,
         packet: &mut PacketWriter,
     ) -> Result<bool, NoMemory>
         requires { at < length draft.old.outstanding.items }
-        ensures put { (v : SenderView) → Keeps F.format (drafted self.now draft.old) v → IsNextUnsent F.format v at
+        ensures put { (v : SenderView) → Keeps F.format (drafted self.now draft.old) v → IsNextUnsent F.format v at → IsFlying self.now draft.old flying
             → IfOk result (λ put. PutAnswer F.format self.now v packet.old packet.new draft.old draft.new put) }
         ensures unchanged { OnErr result (packet.new ≡ packet.old) }
     {
         let entry = &draft.outstanding[at];
         let bytes = bytes_of(&entry.message, entry.place, self.fragment).len();
-        if !may_flow(&draft.outstanding, self.fragment, bytes, self.rwnd) {
+        if !may_flow(flying, bytes, self.rwnd) {
             return Ok(false);
         }
         self.put_entry(draft, at, packet)
@@ -100,13 +140,14 @@ impl<F: Framing> Sender<F> {
         &self,
         draft: &mut Draft,
         next: Beginning,
+        flying: u64,
         packet: &mut PacketWriter,
     ) -> Result<bool, NoMemory>
         requires place { next.place < length draft.old.queue.items }
         requires some { 0 < next.count }
-        ensures put { (v : SenderView) → Keeps F.format (drafted self.now draft.old) v → NothingStands F.format v → IsBegun F.format v next.place next.count next.turn
+        ensures put { (v : SenderView) → Keeps F.format (drafted self.now draft.old) v → NothingStands F.format v → IsBegun F.format v next.place next.count next.turn → IsFlying self.now draft.old flying
             → IfOk result (λ put. PutAnswer F.format self.now v packet.old packet.new draft.old draft.new put) }
-        ensures some { (v : SenderView) → Keeps F.format (drafted self.now draft.old) v → NothingStands F.format v → IsBegun F.format v next.place next.count next.turn
+        ensures some { (v : SenderView) → Keeps F.format (drafted self.now draft.old) v → NothingStands F.format v → IsBegun F.format v next.place next.count next.turn → IsFlying self.now draft.old flying
             → OnErr result (PutSomeOf F.format v packet.old packet.new) }
     {
         let message = shared(&draft.queue[next.place])?;
@@ -118,7 +159,7 @@ impl<F: Framing> Sender<F> {
         if !has_window(draft, message.stream, next.count, more) {
             return Ok(false);
         }
-        if !self.put_newcomer(draft, &message, number, 0, packet)? {
+        if !self.put_newcomer(draft, &message, number, 0, flying, packet)? {
             return Ok(false);
         }
         self.begin(draft, next, &message, number)?;
@@ -130,12 +171,13 @@ impl<F: Framing> Sender<F> {
         &self,
         draft: &mut Draft,
         stream: u16,
+        flying: u64,
         packet: &mut PacketWriter,
     ) -> Result<bool, NoMemory>
         requires { stream < self.now.streams }
-        ensures put { (v : SenderView) → Keeps F.format (drafted self.now draft.old) v → NothingStands F.format v → IsContinued F.format v stream
+        ensures put { (v : SenderView) → Keeps F.format (drafted self.now draft.old) v → NothingStands F.format v → IsContinued F.format v stream → IsFlying self.now draft.old flying
             → IfOk result (λ put. PutAnswer F.format self.now v packet.old packet.new draft.old draft.new put) }
-        ensures some { (v : SenderView) → Keeps F.format (drafted self.now draft.old) v → NothingStands F.format v → IsContinued F.format v stream
+        ensures some { (v : SenderView) → Keeps F.format (drafted self.now draft.old) v → NothingStands F.format v → IsContinued F.format v stream → IsFlying self.now draft.old flying
             → OnErr result (PutSomeOf F.format v packet.old packet.new) }
     {
         let Some(rest) = rest_of(&draft.tracks, stream)? else {
@@ -146,7 +188,14 @@ impl<F: Framing> Sender<F> {
         if !has_window(draft, stream, 1, more) {
             return Ok(false);
         }
-        if !self.put_newcomer(draft, &rest.message, rest.number, rest.fragment, packet)? {
+        if !self.put_newcomer(
+            draft,
+            &rest.message,
+            rest.number,
+            rest.fragment,
+            flying,
+            packet,
+        )? {
             return Ok(false);
         }
         self.go_on(draft, stream, &rest)?;
@@ -160,14 +209,15 @@ impl<F: Framing> Sender<F> {
         message: &Rc<Message>,
         number: u32,
         fragment: u32,
+        flying: u64,
         packet: &mut PacketWriter,
     ) -> Result<bool, NoMemory>
-        ensures put { IfOk result (λ put. IsOffered F.format self.now draft.now packet.old packet.new message.now.value number fragment put) }
+        ensures put { IsFlying self.now draft.now flying → IfOk result (λ put. IsOffered F.format self.now draft.now packet.old packet.new message.now.value number fragment put) }
         ensures unchanged { OnErr result (packet.new ≡ packet.old) }
     {
         let place = Place::Fragment(fragment);
         let bytes = bytes_of(message, place, self.fragment).len();
-        if !may_flow(&draft.outstanding, self.fragment, bytes, self.rwnd) {
+        if !may_flow(flying, bytes, self.rwnd) {
             return Ok(false);
         }
         let tsn = self.tsn_at(draft.outstanding.len());

@@ -1,5 +1,5 @@
 -- What a draft of a sender keeps, and what each wish makes of it and of the packet.
-use Rattle.std.specs.Prelude.{◌≡◌, ℕ, suc, nat_lt, ◌-◌, ◌<◌, Bool, true, false, List, [], ◌∷◌, ◌++◌, ◌+◌, ◌&&◌, map, length, slice_set, Option, None, Some, option_map}
+use Rattle.std.specs.Prelude.{◌≡◌, ℕ, suc, nat_lt, ◌-◌, ◌<◌, Bool, true, false, List, [], ◌∷◌, ◌++◌, ◌+◌, ◌&&◌, ◌^◌, ◌≤◌, min, map, length, slice_get, slice_set, Option, None, Some, option_map}
 use Rattle.std.specs.VecDeque.{deque_capacity}
 use Rattle.sctp_model.specs.Format.{Format, Kind}
 use Rattle.sctp_model.specs.Plan.{Part}
@@ -11,8 +11,8 @@ use Rattle.sctp_model.specs.Framing.{data_chunk}
 use Rattle.sctp_model.specs.SenderView.{SenderView}
 use Rattle.sctp_model.specs.sender.PieceSaid.{piece_said}
 use Rattle.sctp_model.specs.sender.Filling.{Wish, standing, newcomer, next_wish, is_let_flow, goes, gone, IsFill, newly_numbered}
-use Rattle.sctp_model.specs.sender.Entries.{bytes_in}
-use Rattle.sctp_send.specs.inner.Wishing.{item_flight, lets_flow}
+use Rattle.sctp_model.specs.sender.Entries.{bytes_in, is_unsent, passes_at, in_flight}
+use Rattle.sctp_send.specs.inner.Wishing.{item_bytes, item_flight, lets_flow}
 use Rattle.sctp_model.specs.sender.SentChunks.{chunk_of}
 use Rattle.sctp_packet.specs.Draft.{Draft as PacketDraft, room_in, with_chunks, has_room, after_try}
 use Rattle.sctp_send.specs.SenderKept.{Item, Rest, Track, Kept}
@@ -23,6 +23,7 @@ use Rattle.sctp_send.specs.inner.Newcomers.{counted_in, IsBegun, IsContinued, Is
 use Rattle.sctp_send.specs.declared.assigning.Next.{Next}
 use Rattle.sctp_send.specs.declared.assigning.Next.TheVariants.{Begins, Continues}
 use Rattle.sctp_send.specs.declared.draft.Draft.{Draft}
+use Rattle.sctp_send.specs.declared.draft.Cursors.{Cursors}
 use Rattle.sctp_send.specs.declared.message.Fate.{Fate}
 use Rattle.sctp_send.specs.declared.message.Fate.TheVariants.{Numbered}
 use Rattle.sctp_send.specs.declared.message.Ticket.{Ticket}
@@ -126,6 +127,38 @@ pub record IsOffered (f : Format) (s : Kept) (d : Draft) (before after : PacketD
   pub answer : put ≡ (lets_flow (item_flight (map (item_meaning s.fragment) d.outstanding.items)) (length (bytes_in (Part (lane_meaning m) number fragment) (Some (message_meaning s.fragment m)))) s.rwnd
       && has_room before (fragment_chunk f s.fragment s.initial (suc (s.cum + length d.outstanding.items)) m number (Fragment fragment)))
   pub packet : after ≡ after_try before (fragment_chunk f s.fragment s.initial (suc (s.cum + length d.outstanding.items)) m number (Fragment fragment)) put
+
+-- ---- how far a fill came
+
+-- the data of an entry, where there is one
+abbrev pub bytes_at : (size : ℕ) → Option Outstanding → List ℕ
+bytes_at size None = []
+bytes_at size (Some e) = item_bytes (item_meaning size e)
+
+-- so many bytes are in flight, or more than the largest number
+abbrev pub IsFlying : Kept → Draft → ℕ → Type 0
+IsFlying s d flying = flying ≡ min (item_flight (map (item_meaning s.fragment) d.outstanding.items)) (2 ^ 64 - 1)
+
+-- Nothing before the cursors is to go out, and the bytes in flight are counted.
+pub record IsTracked (v : SenderView) (c : Cursors) : Type 0 where
+  pub marked : (k : ℕ) → k < c.marked → v.marked (suc (v.cum + k)) ≡ false
+  pub unsent : (k : ℕ) → k < c.unsent → passes_at v.plan (is_unsent v) (suc (v.cum + k)) ≡ false
+  pub within : c.unsent + v.cum ≤ length v.plan.entries
+  pub flight : c.flight ≡ min (in_flight v) (2 ^ 64 - 1)
+
+-- the data at an offset is in flight, too
+abbrev pub more_flies : Kept → Draft → (at : ℕ) → Cursors → Cursors
+more_flies s d at c = record c { flight = min (c.flight + length (bytes_at s.fragment (slice_get d.outstanding.items at))) (2 ^ 64 - 1) }
+
+-- The next wish went, and the cursors follow.
+pub record IsPutOn (f : Format) (s : Kept) (v : SenderView) (before after : PacketDraft) (old new : Draft) (c : Cursors) : Type 0 where
+  pub put : IsPut f s v before after old new
+  pub tracked : IsTracked (gone put.wish) c
+
+-- or none may go
+abbrev pub NextAnswer : Format → Kept → SenderView → (before after : PacketDraft) → (old new : Draft) → Cursors → (put : Bool) → Type 0
+NextAnswer f s v before after old new c true = IsPutOn f s v before after old new c
+NextAnswer f s v before after old new c false = IsStopped f s v before after old new
 
 -- All of FILL is in the packet, and the draft keeps what it leaves.
 pub record AllPut (f : Format) (s : Kept) (v : SenderView) (before after : PacketDraft) (d : Draft) : Type 0 where

@@ -12,7 +12,7 @@ use Rattle.sctp_send.proofs.BegunPut.{begun_message, begun_there, number_read, w
 use Rattle.sctp_send.proofs.sender.Sender.put_begun.Goals as goal
 
 pub returns-in_default-clause-put : goal.returns-in_default-clause-put
-returns-in_default-clause-put g c = λ v k stands next.
+returns-in_default-clause-put g c = λ v k stands next flying.
     let f = g.F.Framing.format in
     let s = c.args.self.now in
     let d = c.args.draft.now in
@@ -24,7 +24,7 @@ returns-in_default-clause-put g c = λ v k stands next.
     absurd (never_none c.get.result (c.from.result < length c.deref.result.now) c.in_default.is c.get.ensures.lookup.2 (omega (arith, stream, there, wide)))
 
 pub returns-then-not-has_window-clause-put : goal.returns-then-not-has_window-clause-put
-returns-then-not-has_window-clause-put g c = λ v k stands next.
+returns-then-not-has_window-clause-put g c = λ v k stands next flying.
     let f = g.F.Framing.format in
     let s = c.args.self.now in
     let d = c.args.draft.now in
@@ -39,7 +39,7 @@ returns-then-not-has_window-clause-put g c = λ v k stands next.
     begun_full f s v d m c.args.next.place c.args.next.count c.args.next.turn c.number_next-number.result k stands next mine its c.args.packet.now c.args.packet.now _ (nat_lt c.args.next.count c.fragments_of.result) more window refl refl
 
 pub returns-then-not-branch-clause-put : goal.returns-then-not-branch-clause-put
-returns-then-not-branch-clause-put g c = λ v k stands next.
+returns-then-not-branch-clause-put g c = λ v k stands next flying.
     let f = g.F.Framing.format in
     let s = c.args.self.now in
     let d = c.args.draft.now in
@@ -49,10 +49,10 @@ returns-then-not-branch-clause-put g c = λ v k stands next.
     let stream = c.from.ensures ∙ ap (λ (y : MessageFields). y.stream) c.deref-2.ensures in
     let its = number_read s.fragment c.from.result c.number_next-number.result c.deref.result.now d.tracks.items c.in-Some.track.now m c.deref-3.result.now c.deref.ensures.value stream c.deref-3.ensures (subst (λ (i : ℕ). i < length d.tracks.items) (sym stream) there)
     c.in-Some.ensures.lookup.1 (c.number_next-number.ensures s.fragment) in
-    begun_held f s v d m c.args.next.place c.args.next.count c.args.next.turn c.number_next-number.result k stands next mine its c.args.packet.now c.put_newcomer.new.packet _ (subst (λ (b : Bool). IsOffered f s d c.args.packet.now c.put_newcomer.new.packet m c.number_next-number.result 0 b) c.if-not-branch.true c.in_ok-put_newcomer.ensures.put) refl
+    begun_held f s v d m c.args.next.place c.args.next.count c.args.next.turn c.number_next-number.result k stands next mine its c.args.packet.now c.put_newcomer.new.packet _ (subst (λ (b : Bool). IsOffered f s d c.args.packet.now c.put_newcomer.new.packet m c.number_next-number.result 0 b) c.if-not-branch.true (c.in_ok-put_newcomer.ensures.put flying)) refl
 
 pub returns-in_err-begin-clause-some : goal.returns-in_err-begin-clause-some
-returns-in_err-begin-clause-some g c = λ v k stands next.
+returns-in_err-begin-clause-some g c = λ v k stands next flying.
     let f = g.F.Framing.format in
     let s = c.args.self.now in
     let d = c.args.draft.now in
@@ -65,10 +65,10 @@ returns-in_err-begin-clause-some g c = λ v k stands next.
     let more = left_over c.args.next.count c.self.inside.fragment s.fragment c.fragments_of.result c.deref-5.result.now m c.deref-4.result.now c.fragments_of.ensures (ap (λ (y : Kept). y.fragment) c.self.view_is) c.deref-5.ensures.value c.deref-4.ensures in
     let window = window_read _ (map (track_meaning s.fragment) d.tracks.items) m c.deref-6.result.now c.has_window.result true c.deref-6.ensures (c.has_window.ensures.fits s.fragment) c.if-not-has_window.false in
     on_err (PutSomeOf f v c.args.packet.now c.put_newcomer.new.packet) c.from_residual-in_err-begin.result
-    (begun_some f s v d m c.args.next.place c.args.next.count c.args.next.turn c.number_next-number.result k stands next mine its c.args.packet.now c.put_newcomer.new.packet (nat_lt c.args.next.count c.fragments_of.result) more window (subst (λ (b : Bool). IsOffered f s d c.args.packet.now c.put_newcomer.new.packet m c.number_next-number.result 0 b) c.if-not-branch.false c.in_ok-put_newcomer.ensures.put))
+    (begun_some f s v d m c.args.next.place c.args.next.count c.args.next.turn c.number_next-number.result k stands next mine its c.args.packet.now c.put_newcomer.new.packet (nat_lt c.args.next.count c.fragments_of.result) more window (subst (λ (b : Bool). IsOffered f s d c.args.packet.now c.put_newcomer.new.packet m c.number_next-number.result 0 b) c.if-not-branch.false (c.in_ok-put_newcomer.ensures.put flying)))
 
 pub returns-clause-put : goal.returns-clause-put
-returns-clause-put g c = λ v k stands next.
+returns-clause-put g c = λ v k stands next flying.
     let f = g.F.Framing.format in
     let s = c.args.self.now in
     let d = c.args.draft.now in
@@ -81,5 +81,5 @@ returns-clause-put g c = λ v k stands next.
     let more = left_over c.args.next.count c.self.inside.fragment s.fragment c.fragments_of.result c.deref-5.result.now m c.deref-4.result.now c.fragments_of.ensures (ap (λ (y : Kept). y.fragment) c.self.view_is) c.deref-5.ensures.value c.deref-4.ensures in
     let window = window_read _ (map (track_meaning s.fragment) d.tracks.items) m c.deref-6.result.now c.has_window.result true c.deref-6.ensures (c.has_window.ensures.fits s.fragment) c.if-not-has_window.false in
     let few = begun_few f s v d m c.args.next.place c.args.next.count c.args.next.turn c.number_next-number.result k stands next mine its in
-    begun_put f s v d m c.args.next.place c.args.next.count c.args.next.turn c.number_next-number.result k stands next mine its c.args.packet.now c.put_newcomer.new.packet c.begin.new.draft (nat_lt c.args.next.count c.fragments_of.result) (deque_capacity c.begin.new.draft.outstanding) more window (subst (λ (b : Bool). IsOffered f s d c.args.packet.now c.put_newcomer.new.packet m c.number_next-number.result 0 b) c.if-not-branch.false c.in_ok-put_newcomer.ensures.put)
+    begun_put f s v d m c.args.next.place c.args.next.count c.args.next.turn c.number_next-number.result k stands next mine its c.args.packet.now c.put_newcomer.new.packet c.begin.new.draft (nat_lt c.args.next.count c.fragments_of.result) (deque_capacity c.begin.new.draft.outstanding) more window (subst (λ (b : Bool). IsOffered f s d c.args.packet.now c.put_newcomer.new.packet m c.number_next-number.result 0 b) c.if-not-branch.false (c.in_ok-put_newcomer.ensures.put flying))
     (c.in_ok-begin.ensures.kept c.requires.place few its there) c.in_ok-begin.ensures.room c.in_ok-begin.ensures.told

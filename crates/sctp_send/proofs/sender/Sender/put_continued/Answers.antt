@@ -12,13 +12,13 @@ use Rattle.sctp_send.proofs.ContinuedPut.{never_ended, continued_few, continued_
 use Rattle.sctp_send.proofs.sender.Sender.put_continued.Goals as goal
 
 pub returns-in_default-clause-put : goal.returns-in_default-clause-put
-returns-in_default-clause-put g c = λ v k stands next.
+returns-in_default-clause-put g c = λ v k stands next flying.
     let n = c.args.self.now.fragment in
     absurd (never_ended g.F.Framing.format c.args.self.now v c.args.draft.now c.args.stream k next
     (sym (ap (rests_meaning n) c.in_default.is) ∙ c.in_ok-rest.ensures n ∙ ap (λ (ts : _). rest_at (map (track_meaning n) ts) c.args.stream) c.deref.ensures.value))
 
 pub returns-then-not-has_window-clause-put : goal.returns-then-not-has_window-clause-put
-returns-then-not-has_window-clause-put g c = λ v k stands next.
+returns-then-not-has_window-clause-put g c = λ v k stands next flying.
     let f = g.F.Framing.format in
     let s = c.args.self.now in
     let r = c.in-Some.rest in
@@ -30,16 +30,16 @@ returns-then-not-has_window-clause-put g c = λ v k stands next.
     (sym (c.has_window.ensures.fits s.fragment) ∙ c.if-not-has_window.true) refl refl
 
 pub returns-then-not-branch-clause-put : goal.returns-then-not-branch-clause-put
-returns-then-not-branch-clause-put g c = λ v k stands next.
+returns-then-not-branch-clause-put g c = λ v k stands next flying.
     let f = g.F.Framing.format in
     let s = c.args.self.now in
     let r = c.in-Some.rest in
     let its = left_read s.fragment c.args.stream c.in_ok-rest.field-0 r c.deref.result.now c.args.draft.now.tracks.items c.in-Some.is (c.in_ok-rest.ensures s.fragment) c.deref.ensures.value in
     continued_held f s v c.args.draft.now r c.args.stream k stands next its c.args.packet.now c.put_newcomer.new.packet _
-    (subst (λ (b : Bool). IsOffered f s c.args.draft.now c.args.packet.now c.put_newcomer.new.packet r.message.value r.number r.fragment b) c.if-not-branch.true c.in_ok-put_newcomer.ensures.put) refl
+    (subst (λ (b : Bool). IsOffered f s c.args.draft.now c.args.packet.now c.put_newcomer.new.packet r.message.value r.number r.fragment b) c.if-not-branch.true (c.in_ok-put_newcomer.ensures.put flying)) refl
 
 pub returns-in_err-go_on-clause-some : goal.returns-in_err-go_on-clause-some
-returns-in_err-go_on-clause-some g c = λ v k stands next.
+returns-in_err-go_on-clause-some g c = λ v k stands next flying.
     let f = g.F.Framing.format in
     let s = c.args.self.now in
     let r = c.in-Some.rest in
@@ -50,10 +50,10 @@ returns-in_err-go_on-clause-some g c = λ v k stands next.
     on_err (PutSomeOf f v c.args.packet.now c.put_newcomer.new.packet) c.from_residual-in_err-go_on.result
     (continued_some f s v c.args.draft.now r c.args.stream k stands next its c.args.packet.now c.put_newcomer.new.packet (nat_lt ((r.fragment + 1) % 2 ^ 32) c.fragments_of.result) more
     (sym (c.has_window.ensures.fits s.fragment) ∙ c.if-not-has_window.false)
-    (subst (λ (b : Bool). IsOffered f s c.args.draft.now c.args.packet.now c.put_newcomer.new.packet r.message.value r.number r.fragment b) c.if-not-branch.false c.in_ok-put_newcomer.ensures.put))
+    (subst (λ (b : Bool). IsOffered f s c.args.draft.now c.args.packet.now c.put_newcomer.new.packet r.message.value r.number r.fragment b) c.if-not-branch.false (c.in_ok-put_newcomer.ensures.put flying)))
 
 pub returns-clause-put : goal.returns-clause-put
-returns-clause-put g c = λ v k stands next.
+returns-clause-put g c = λ v k stands next flying.
     let f = g.F.Framing.format in
     let s = c.args.self.now in
     let r = c.in-Some.rest in
@@ -64,5 +64,5 @@ returns-clause-put g c = λ v k stands next.
     (c.deref-3.ensures.value ∙ ap (λ (m : MessageFields). m.bytes.items) c.deref-2.ensures) in
     continued_put f s v c.args.draft.now r c.args.stream k stands next its c.args.packet.now c.put_newcomer.new.packet c.go_on.new.draft (nat_lt ((r.fragment + 1) % 2 ^ 32) c.fragments_of.result) (deque_capacity c.go_on.new.draft.outstanding) more
     (sym (c.has_window.ensures.fits s.fragment) ∙ c.if-not-has_window.false)
-    (subst (λ (b : Bool). IsOffered f s c.args.draft.now c.args.packet.now c.put_newcomer.new.packet r.message.value r.number r.fragment b) c.if-not-branch.false c.in_ok-put_newcomer.ensures.put)
+    (subst (λ (b : Bool). IsOffered f s c.args.draft.now c.args.packet.now c.put_newcomer.new.packet r.message.value r.number r.fragment b) c.if-not-branch.false (c.in_ok-put_newcomer.ensures.put flying))
     (c.in_ok-go_on.ensures.kept few there) c.in_ok-go_on.ensures.room c.in_ok-go_on.ensures.told
