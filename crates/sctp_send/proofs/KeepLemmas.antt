@@ -48,7 +48,7 @@ items_beyond v [] i (suc n) = refl
 items_beyond v (e ∷ es) i (suc n) = let same : suc n + i ≡ n + suc i = omega arith in ap (λ (j : ℕ). items_from v j (drop n es)) same ∙ items_beyond v es (suc i) n
 
 -- what is left are the entries beyond it
-left_items : (f : Format) (s : Kept) (v : SenderView) (n : ℕ) → Keeps f s v → drop n s.items ≡ items_from v (suc (v.cum + n)) (drop (v.cum + n) v.plan.entries)
+pub left_items : (f : Format) (s : Kept) (v : SenderView) (n : ℕ) → Keeps f s v → drop n s.items ≡ items_from v (suc (v.cum + n)) (drop (v.cum + n) v.plan.entries)
 left_items f s v n k =
     let index : n + suc v.cum ≡ suc (v.cum + n) = omega arith in
     ap (drop n) k.holds.items ∙ sym (items_beyond v (drop v.cum v.plan.entries) (suc v.cum) n) ∙ rw (index, drop-drop n v.cum v.plan.entries) refl

@@ -3,6 +3,9 @@ pub mod ItemLemmas
 pub mod CoverLemmas
 pub mod RunLemmas
 pub mod KeepLemmas
+pub mod TellLemmas
+pub mod GapLemmas
+pub mod RecoverLemmas
 pub mod SackLemmas
 pub mod QueueLemmas
 pub mod ReaderLemmas

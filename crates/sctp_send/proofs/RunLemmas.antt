@@ -23,7 +23,7 @@ one_behind n i r some = both (nat_lt r.from (n + i)) (nat_le (n + i) r.to) (nat_
     both : (a b c d : Bool) → a ≡ c → b ≡ d → (a && b) ≡ (c && d)
     both a b c d x y = ap (λ (z : Bool). z && b) x ∙ ap (λ (z : Bool). c && z) y
 
-all_behind : (n i : ℕ) (rs : List Run) → 0 < i → in_runs rs (n + i) ≡ in_runs (runs_behind n rs) i
+pub all_behind : (n i : ℕ) (rs : List Run) → 0 < i → in_runs rs (n + i) ≡ in_runs (runs_behind n rs) i
 all_behind n i [] some = refl
 all_behind n i (r ∷ rs) some = rw (one_behind n i r some, all_behind n i rs some) refl
 
@@ -81,7 +81,7 @@ pub when_remembered : (b : Bool) (xs : List Run) (bs : List BlockMeaning) → (b
 when_remembered true xs bs h = h refl
 when_remembered false xs bs h = tt
 
-runs_more : (rs : List Run) (r : Run) (i : ℕ) → in_runs (rs ++ r ∷ []) i ≡ (in_runs rs i || in_run r i)
+pub runs_more : (rs : List Run) (r : Run) (i : ℕ) → in_runs (rs ++ r ∷ []) i ≡ (in_runs rs i || in_run r i)
 runs_more [] r i = or_none (in_run r i)
   where
     or_none : (b : Bool) → (b || false) ≡ b

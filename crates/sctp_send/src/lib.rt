@@ -15,6 +15,7 @@ mod pieces;
 mod putting;
 mod queue;
 mod readers;
+mod recover;
 mod sack;
 mod sender;
 mod wishes;

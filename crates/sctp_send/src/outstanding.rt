@@ -65,7 +65,7 @@ pub fn unmarked(standing: Standing) -> Standing
 }
 
 /// The peer has an entry: there is nothing to repeat.
-fn cover_one(entry: &mut Outstanding)
+pub fn cover_one(entry: &mut Outstanding)
     ensures { entry.new ≡ as_covered entry.old }
 {
     entry.covered = true;

@@ -10,7 +10,8 @@ ghost use Rattle.sctp_send.specs.SenderStands.{StandsFor};
 ghost use Rattle.sctp_send.specs.SenderAnswers.{reason_meaning};
 ghost use Rattle.sctp_send.specs.inner.Acknowledging.{PassingAnswer};
 
-use crate::outstanding::{cover, forget, mark_unsettled, move_on, remember};
+use crate::outstanding::{forget, mark_unsettled, move_on};
+use crate::recover::take_blocks;
 use crate::sender::Sender;
 use sctp_framing::Framing;
 use sctp_wire::{Blocks, Sack};
@@ -50,8 +51,14 @@ impl<F: Framing> Sender<F> {
             return Err(SackFault::BadBlock);
         }
         forget(&mut self.outstanding, passed as usize);
-        cover(&mut self.outstanding, &sack.blocks);
-        self.is_known = remember(&mut self.covered, &sack.blocks);
+        move_on(&mut self.covered, passed as usize);
+        self.is_known = take_blocks(
+            &mut self.outstanding,
+            &mut self.covered,
+            &mut self.spare,
+            self.is_known,
+            &sack.blocks,
+        );
         self.cum = self.cum.wrapping_add(passed);
         self.rwnd = sack.rwnd;
         Ok(())
@@ -68,7 +75,8 @@ impl<F: Framing> Sender<F> {
     {
         let passed = self.passed_by(tsn)?;
         forget(&mut self.outstanding, passed as usize);
-        move_on(&mut self.covered, passed as usize);
+        let gone = passed as usize;
+        move_on(&mut self.covered, gone);
         self.cum = self.cum.wrapping_add(passed);
         Ok(())
     }

@@ -53,6 +53,8 @@ pub struct Sender<F: Framing> {
     // what the last SACK covers above CUM, unless it had too many blocks
     pub(crate) covered: Vec<Run>,
     pub(crate) is_known: bool,
+    // the place of the next SACK's runs
+    pub(crate) spare: Vec<Run>,
     pub(crate) format: PhantomData<F>,
 }
 
@@ -109,6 +111,8 @@ impl<F: Framing> Sender<F> {
         let tracks = fresh_tracks(alloc, streams)?;
         let mut covered = Vec::new(alloc);
         covered.reserve(RUNS).map_err(|_| NoMemory)?;
+        let mut spare = Vec::new(alloc);
+        spare.reserve(RUNS).map_err(|_| NoMemory)?;
         Ok(Sender {
             alloc,
             initial: initial_tsn,
@@ -124,6 +128,7 @@ impl<F: Framing> Sender<F> {
             fates: Vec::new(alloc),
             covered,
             is_known: true,
+            spare,
             format: PhantomData,
         })
     }

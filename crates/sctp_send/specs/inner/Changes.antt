@@ -1,7 +1,9 @@
 -- What the calls make of entries, one by one.
-use Rattle.std.specs.Prelude.{ℕ, suc, nat_lt, nat_le, Bool, true, false, not, ◌&&◌, ◌||◌, ◌==◌, if◌then◌else◌, List, [], ◌∷◌, map}
+use Rattle.std.specs.Prelude.{◌≡◌, ℕ, suc, nat_lt, nat_le, Bool, true, false, not, ◌&&◌, ◌||◌, ◌==◌, if◌then◌else◌, List, [], ◌∷◌, map}
 use Rattle.sctp_send.specs.declared.outstanding.Standing.{Standing}
 use Rattle.sctp_send.specs.declared.outstanding.Standing.TheVariants.{Unsent, Sent, Marked}
+use Rattle.sctp_send.specs.CoveredRuns.{in_runs}
+use Rattle.sctp_send.specs.declared.outstanding.Run.{Run}
 use Rattle.sctp_send.specs.declared.outstanding.Outstanding.{Outstanding}
 
 -- the standing without its mark
@@ -28,6 +30,28 @@ told b e = if b then as_covered e else as_uncovered e
 abbrev pub all_told : (ℕ → Bool) → ℕ → List Outstanding → List Outstanding
 all_told test i [] = []
 all_told test i (e ∷ es) = told (test i) e ∷ all_told test (suc i) es
+
+-- entries that pass are told so, and the others stay
+abbrev pub told_where : Bool → (ℕ → Bool) → ℕ → List Outstanding → List Outstanding
+told_where b test i [] = []
+told_where b test i (e ∷ es) = (if test i then told b e else e) ∷ told_where b test (suc i) es
+
+-- each entry is as its run says
+abbrev pub IsExact : (known : Bool) → List Run → List Outstanding → Type 0
+IsExact false rs es = Unit {0}
+IsExact true rs es = all_told (in_runs rs) 1 es ≡ es
+
+-- behind one offset, up to another
+abbrev pub is_between : ℕ → ℕ → ℕ → Bool
+is_between from to i = nat_lt from i && nat_le i to
+
+-- there, and in none of the runs
+abbrev pub in_gaps : List Run → (from to : ℕ) → ℕ → Bool
+in_gaps rs from to i = is_between from to i && not (in_runs rs i)
+
+-- in one of the runs, and in none of the others
+abbrev pub in_alone : (runs others : List Run) → ℕ → Bool
+in_alone rs os i = in_runs rs i && not (in_runs os i)
 
 -- those that pass, and a run: after `from`, up to `to`
 abbrev pub or_run : (ℕ → Bool) → ℕ → ℕ → ℕ → Bool

@@ -1,6 +1,6 @@
 use Rattle.std.proofs.Common.{sym, ◌∙◌, arith, map}
 use Rattle.sctp_send.specs.OutstandingFields.{item_meaning}
-use Rattle.sctp_send.specs.inner.Wishing.{first_place, is_item_marked}
+use Rattle.sctp_send.specs.inner.Wishing.{is_item_marked}
 use Rattle.sctp_send.proofs.PlaceLemmas.{skipped_place, walked_place, passed_place, ended_place}
 use Rattle.sctp_send.proofs.wishes.first_marked.Goals as goal
 

@@ -9,6 +9,7 @@ use Rattle.sctp_send.specs.SenderStands.{StandsFor, Keeps}
 use Rattle.sctp_send.proofs.CoverLemmas.{items_told, all_told_meaning}
 use Rattle.sctp_model.specs.sender.Words.{when}
 use Rattle.sctp_send.proofs.RunLemmas.{when_remembered}
+use Rattle.sctp_send.proofs.RecoverLemmas.{exact_kept}
 use Rattle.sctp_send.proofs.KeepLemmas.{keeps_sacked}
 use Rattle.sctp_send.proofs.SackLemmas.{sack_by_blocks, blocks_past, blocks_bad, blocks_good, sack_faulty}
 use Rattle.sctp_send.proofs.sender.Sender.on_sack.Goals as goal
@@ -83,8 +84,10 @@ returns-clause-step g c = λ v stands.
     let long = length-map s.outstanding.items (item_meaning s.fragment) in
     let within : n ≤ length (map (item_meaning s.fragment) s.outstanding.items) = subst (λ (k : Kept). n ≤ length k.items) (sym c.self.view_is) c.in_ok-passed.ensures.within in
     let by = sack_by_blocks g.F.Framing.format _ v (sack_meaning c.args.sack.now) n (c.len.result - n) keeps p (omega (arith, long, within, c.len.ensures)) in
-    let runs = when_remembered c.remember-self-inside.result c.remember-self-inside.new.runs.items c.args.sack.now.blocks c.remember-self-inside.ensures in
-    let taken = keeps_sacked g.F.Framing.format _ v (sack_meaning c.args.sack.now) n (when c.remember-self-inside.result c.remember-self-inside.new.runs.items) keeps p (by ∙ blocks_good (c.len.result - n) c.args.sack.now.blocks (sym c.reach_past.ensures ∙ c.if-reach_past.false) (sym c.are_disordered.ensures ∙ c.if-are_disordered.false)) runs in
-    let items : map (item_meaning s.fragment) c.cover.new.outstanding.items ≡ items_told (in_blocks 0 c.args.sack.now.blocks) 1 (drop n (map (item_meaning s.fragment) s.outstanding.items)) =
-    rw (c.cover.ensures.covered, all_told_meaning, c.forget.ensures.items, drop-map) refl in
-    rw (items, c.cover.ensures.capacity, c.forget.ensures.capacity) taken
+    let runs = when_remembered c.take_blocks-self-inside.result c.take_blocks-self-inside.new.covered.items c.args.sack.now.blocks c.take_blocks-self-inside.ensures.runs in
+    let taken = keeps_sacked g.F.Framing.format _ v (sack_meaning c.args.sack.now) n (when c.take_blocks-self-inside.result c.take_blocks-self-inside.new.covered.items) keeps p (by ∙ blocks_good (c.len.result - n) c.args.sack.now.blocks (sym c.reach_past.ensures ∙ c.if-reach_past.false) (sym c.are_disordered.ensures ∙ c.if-are_disordered.false)) runs in
+    let exact = exact_kept g.F.Framing.format _ v s.fragment n s.outstanding.items c.forget.new.outstanding.items s.is_known s.covered.items c.move_on.new.runs.items keeps refl refl c.forget.ensures.items c.move_on.ensures in
+    let told = c.take_blocks-self-inside.ensures.told exact in
+    let items : map (item_meaning s.fragment) c.take_blocks-self-inside.new.outstanding.items ≡ items_told (in_blocks 0 c.args.sack.now.blocks) 1 (drop n (map (item_meaning s.fragment) s.outstanding.items)) =
+    rw (told, all_told_meaning, c.forget.ensures.items, drop-map) refl in
+    rw (items, c.take_blocks-self-inside.ensures.capacity, c.forget.ensures.capacity) taken

@@ -1,4 +1,4 @@
-use Rattle.std.proofs.Common.{◌≡◌, ◌∙◌, ℕ, ◌-◌, ◌^◌, min, map, Bool, ap, arith, subst}
+use Rattle.std.proofs.Common.{◌∙◌, ◌-◌, ◌^◌, min, map, Bool, ap, arith, subst}
 use Rattle.std.proofs.lemmas.Result.{err_from_is_err_and}
 use Rattle.sctp_send.specs.OutstandingFields.{item_meaning}
 use Rattle.sctp_send.specs.SenderKept.{Kept}

@@ -1,4 +1,4 @@
-use Rattle.std.proofs.Common.{◌≡◌, ◌∙◌, Some, None, refl, ap, sym, subst}
+use Rattle.std.proofs.Common.{◌∙◌, Some, refl, ap, sym, subst}
 use Rattle.std.specs.Prelude.{option_map}
 use Rattle.sctp_model.specs.sender.Filling.{newcomer}
 use Rattle.sctp_model.proofs.sender.FillLaws.{goes_none}
