@@ -177,10 +177,10 @@ module _ (f : Format) (k : ReceiverKept) (v : ReceiverView) (p : PieceMeaning) (
 
   pub passed_is : (n : Option ℕ) (a b : Bool) → n ≡ (piece_at f v k.seen.cumulative p).number →
       a ≡ (is_numbered f (lane_kind p.unordered) && is_below_or_none (reference_of (stream_at k.streams p.stream) p.unordered) n) →
-      ((i : ℕ) → b ≡ is_repeated f k.kept (counted i p n)) → is_passed f v (piece_at f v k.seen.cumulative p) ≡ (a || b)
+      b ≡ is_repeated f v.kept (counted (piece_at f v k.seen.cumulative p).index p n) → is_passed f v (piece_at f v k.seen.cumulative p) ≡ (a || b)
   passed_is n a b number late held =
       let one : (is_numbered f (lane_kind p.unordered) && is_late v (lane_of p.stream p.unordered) n) ≡ a = ap (λ (t : Bool). is_numbered f (lane_kind p.unordered) && t) (late_same n p.unordered) ∙ sym late in
-      let two : is_repeated f v.kept (counted (piece_at f v k.seen.cumulative p).index p n) ≡ b = ap (λ (ks : List Piece). is_repeated f ks (counted (piece_at f v k.seen.cumulative p).index p n)) w.kept ∙ sym (held (piece_at f v k.seen.cumulative p).index) in
+      let two : is_repeated f v.kept (counted (piece_at f v k.seen.cumulative p).index p n) ≡ b = sym held in
       subst (λ (m : Option ℕ). ((is_numbered f (lane_kind p.unordered) && is_late v (lane_of p.stream p.unordered) m) || is_repeated f v.kept (counted (piece_at f v k.seen.cumulative p).index p m)) ≡ (a || b)) number
       (ap (λ (t : Bool). t || is_repeated f v.kept (counted (piece_at f v k.seen.cumulative p).index p n)) one ∙ ap (λ (t : Bool). a || t) two)
 
