@@ -1,9 +1,8 @@
 -- What is due on a stream, one message after another taken out of its ordered chunks.
-use Rattle.std.proofs.Common.{◌≡◌, ◌↔◌, ℕ, zero, suc, ◌+◌, ◌-◌, ◌<◌, ◌≤◌, max, nat_lt, Bool, true, false, List, [], ◌∷◌, ◌++◌, filter, Option, None, Some, inl, inr, refl, sym, ◌∙◌, ap, subst, append_assoc, arith}
+use Rattle.std.proofs.Common.{◌≡◌, ◌↔◌, ℕ, zero, suc, ◌+◌, ◌-◌, ◌<◌, ◌≤◌, max, nat_lt, true, List, [], ◌∷◌, ◌++◌, Option, None, Some, refl, sym, ◌∙◌, ap, subst, append_assoc, arith}
 use Rattle.std.specs.Prelude.{not, ◌&&◌}
 use Rattle.std.proofs.lemmas.Bool.Decides.{nat_tests}
 use Rattle.std.proofs.lemmas.Grind.{common_steps}
-use Rattle.sctp_model.specs.Lists.{Has}
 use Rattle.sctp_model.specs.Format.{Format, Lane, ordered_lane}
 use Rattle.sctp_model.specs.Pieces.{Piece, is_number_below}
 use Rattle.sctp_model.specs.ReceiverView.{Handed, ReceiverView}
@@ -32,8 +31,12 @@ not_below_own n = grind (arith, nat_tests)
 number_from : (f : Format) (kept : List Piece) (l : Lane) (n : ℕ) (xs : List Piece) → IsWholeNumber f kept l n xs ↔ IsWholeNumber f (from_number n kept) l n xs
 number_from f kept l n [] = ((λ w. absurd w.0), (λ w. absurd w.0))
 number_from f kept l n (x ∷ xs) = (
-  (λ w. (w.0, (λ z there. filter_passed (λ (y : Piece). not (is_number_below n y.number)) kept z
-      (ap (λ (o : Option ℕ). not (is_number_below n o)) ((row_same f x xs z w.0.1 there).1 ∙ w.2.1) ∙ not_below_own n) (w.1 z there)), w.2)),
+  (λ w. (
+    w.0,
+    (λ z there. filter_passed (λ (y : Piece). not (is_number_below n y.number)) kept z
+        (ap (λ (o : Option ℕ). not (is_number_below n o)) ((row_same f x xs z w.0.1 there).1 ∙ w.2.1) ∙ not_below_own n) (w.1 z there)),
+    w.2,
+  )),
   (λ w. (w.0, (λ z there. filter_has (λ (y : Piece). not (is_number_below n y.number)) kept z (w.1 z there)), w.2)),
 )
 

@@ -1,16 +1,15 @@
 -- What a receiver keeps once a FORWARD was taken, and what was then due handed over.
-use Rattle.std.proofs.Common.{◌≡◌, ℕ, zero, suc, ◌+◌, ◌-◌, ◌^◌, ◌<◌, ◌≤◌, ◌⊎◌, max, Bool, true, false, List, [], ◌∷◌, ◌++◌, length, map, filter, Option, None, Some, inl, inr, refl, sym, ◌∙◌, ap, subst, arith}
+use Rattle.std.proofs.Common.{◌≡◌, ℕ, zero, suc, ◌+◌, ◌<◌, ◌≤◌, max, Bool, false, List, [], ◌∷◌, ◌++◌, length, map, Some, inl, inr, refl, sym, ◌∙◌, ap, subst, arith}
 use Rattle.std.specs.Prelude.{not, slice_get}
 use Rattle.std.proofs.lemmas.Bool.{cases_lt}
 use Rattle.std.proofs.lemmas.List.{length-map}
-use Rattle.std.proofs.lemmas.Option.{slice_get-get_or}
-use Rattle.sctp_model.specs.Lists.{Has, at}
+use Rattle.sctp_model.specs.Lists.{Has}
 use Rattle.sctp_model.specs.Chunk.{ForwardMeaning}
-use Rattle.sctp_model.specs.Format.{Format, Kind, Ordered, Unordered, Lane, same_lane, ordered_lane, unordered_lane}
+use Rattle.sctp_model.specs.Format.{Format, Lane, same_lane, ordered_lane, unordered_lane}
 use Rattle.sctp_model.specs.Framing.{lets_go}
 use Rattle.sctp_model.specs.Pieces.{Piece}
-use Rattle.sctp_model.specs.ReceiverView.{Handed, ReceiverView, held_bytes, size_of_pieces, size_of_waiting}
-use Rattle.sctp_model.specs.Receiving.{GivesAll, handed_ordered}
+use Rattle.sctp_model.specs.ReceiverView.{ReceiverView, held_bytes, size_of_pieces, size_of_waiting}
+use Rattle.sctp_model.specs.Receiving.{GivesAll}
 use Rattle.sctp_model.specs.receiver.Reading.{index_at}
 use Rattle.sctp_model.specs.receiver.ForwardTaken.{names_other_stream, skips_read, jumped, forwarded}
 use Rattle.sctp_model.specs.receiver.ForwardTaken as model
@@ -27,7 +26,7 @@ use Rattle.sctp_recv.specs.SeenStands.{SeenStands, Jumps}
 use Rattle.sctp_recv.specs.ReceiverKept.{StreamKept, ReceiverKept, FRESH, stream_at}
 use Rattle.sctp_recv.specs.StandsFor.{KeepsView}
 use Rattle.sctp_recv.specs.inner.Rows.{offset_from, IsAbove}
-use Rattle.sctp_recv.specs.inner.Forwarding.{lowest_after, stay, HaveRoom, IsStreamOf, AreToPass, ArePassed}
+use Rattle.sctp_recv.specs.inner.Forwarding.{lowest_after, stay, HaveRoom, AreToPass, ArePassed}
 use Rattle.sctp_recv.proofs.StreamLemmas.{past_streams, got_stream}
 use Rattle.sctp_recv.proofs.ForwardSkips.{unordered_read, ordered_read}
 
@@ -87,9 +86,9 @@ module _ (f : Format) (k : ReceiverKept) (v : ReceiverView) (x : ForwardMeaning)
         filter_turned (λ (y : Piece). same_lane y.lane (unordered_lane q)) stays v.kept
         ∙ filter_where stays (λ (y : Piece). not (lets_go f y.index y.number i (lowest_after f (unordered_lane q) z.skip x.skips))) (of_lane (unordered_lane q) v.kept)
         (λ y has.
-            let lane = (of_says (unordered_lane q) v.kept y has).1 in
-            ap (λ (l : Lane). model.stays_by l.kind f passed y) lane
-            ∙ (λ j. not (lets_go f y.index y.number (jump_is j) ((ap passed.skip lane ∙ skip_now q z got) j))))
+        let lane = (of_says (unordered_lane q) v.kept y has).1 in
+        ap (λ (l : Lane). model.stays_by l.kind f passed y) lane
+        ∙ (λ j. not (lets_go f y.index y.number (jump_is j) ((ap passed.skip lane ∙ skip_now q z got) j))))
 
     pub to_pass : AreFiled f v.kept streams → HaveRoom streams → AreToPass f i x.skips v left streams k.held
     to_pass filed room = record {

@@ -1,5 +1,5 @@
 -- Handing over what is due on a stream, one message after another.
-use Rattle.std.proofs.Common.{◌≡◌, ℕ, suc, ◌+◌, ◌<◌, ◌≤◌, max, true, List, [], ◌∷◌, ◌++◌, length, Option, None, Some, inl, inr, refl, sym, ◌∙◌, ap, subst, append_assoc, arith}
+use Rattle.std.proofs.Common.{◌≡◌, ℕ, true, List, ◌++◌, refl, ◌∙◌, ap, subst}
 use Rattle.sctp_model.specs.Lists.{Has}
 use Rattle.sctp_model.specs.Format.{Format, Plain, Interleaved, Ordered, Lane, is_numbered, ordered_lane}
 use Rattle.sctp_model.specs.Pieces.{Piece}
@@ -9,7 +9,7 @@ use Rattle.sctp_recv.specs.declared.inbound.Inbound.{Inbound}
 use Rattle.sctp_recv.specs.Fields.{stream_of}
 use Rattle.sctp_recv.specs.ReceiverKept.{StreamKept}
 use Rattle.sctp_recv.specs.inner.Giving.{sized, HasRoom, IsDueFrom, GivesDue}
-use Rattle.sctp_recv.proofs.DueLemmas.{IsRest, rest_first, rest_next, IsDueSoFar, due_first, due_more, due_end}
+use Rattle.sctp_recv.proofs.DueLemmas.{IsRest, IsDueSoFar}
 
 -- what was handed over so far, and what is left of the stream's ordered chunks
 pub record IsGivenSoFar {F : Type 0} (f : Format) (s floor : ℕ) (kept : List Piece) (old now : Inbound F) (given : ℕ) : Type 0 where

@@ -1,34 +1,18 @@
 -- What a receiver keeps once a chunk was kept, with some of the chunks gone and one stream changed; and the bytes held.
-use Rattle.std.proofs.Common.{◌≡◌, ℕ, zero, suc, ◌+◌, ◌-◌, ◌^◌, ◌<◌, ◌≤◌, ◌⊎◌, min, Bool, true, false, ◌==◌, List, [], ◌∷◌, ◌++◌, length, set, map, filter, Some, inl, inr, refl, sym, ◌∙◌, ap, subst, arith}
-use Rattle.std.specs.Prelude.{not, slice_get}
-use Rattle.std.proofs.lemmas.Bool.{cases_Bool, cases_eq}
-use Rattle.std.proofs.lemmas.Bool.Decides.{nat_tests}
-use Rattle.std.proofs.lemmas.List.{length-map}
+use Rattle.std.proofs.Common.{◌≡◌, ℕ, suc, ◌+◌, ◌-◌, ◌^◌, ◌<◌, ◌≤◌, Bool, true, List, ◌∷◌, ◌++◌, length, set, filter, Some, inl, inr, sym, ◌∙◌, ap, arith}
 use Rattle.sctp_model.specs.Serial.{COUNTS}
 use Rattle.sctp_model.specs.Lists.{Has, at}
-use Rattle.sctp_model.specs.Format.{Format, Kind, Ordered, Unordered, Lane, ordered_lane, unordered_lane}
+use Rattle.sctp_model.specs.Format.{Format, ordered_lane}
 use Rattle.sctp_model.specs.Pieces.{Piece}
-use Rattle.sctp_model.specs.Whole.{text_of}
 use Rattle.sctp_model.specs.ReceiverView.{Handed, ReceiverView, size_of_pieces, size_of_messages, size_of_waiting}
-use Rattle.sctp_model.specs.Receiving.{IsDue, is_below, without_below, handed_ordered, without_message, goes_with, handed_unordered, IsWholeWith, message_of, recorded, GivesOrdered, GivesUnordered, Gives, Takes}
-use Rattle.sctp_model.specs.receiver.Reading.{lane_of}
+use Rattle.sctp_model.specs.Receiving.{recorded}
 use Rattle.sctp_model.specs.receiver.Laws.{IsApart}
-use Rattle.sctp_model.proofs.receiver.OfLane.{of_more, of_other, of_below, of_below_other, with_of, without_of, without_other}
 use Rattle.sctp_model.proofs.receiver.OneStep.{filter_has, filter_apart, kept_apart}
-use Rattle.sctp_model.proofs.receiver.RowFacts.{row_same}
-use Rattle.sctp_model.proofs.receiver.Sizes.{due_size, message_size}
-use Rattle.sctp_chains.specs.StandsFor as lane
-use Rattle.sctp_chains.specs.WholeOf.{from_number}
-use Rattle.sctp_recv.specs.declared.inbound.Inbound.{Inbound}
-use Rattle.sctp_recv.specs.Fields.{stream_of}
-use Rattle.sctp_recv.specs.Filed.{of_lane, IsFiledOn, AreFiled}
 use Rattle.sctp_recv.specs.SeenKept.{SeenKept}
-use Rattle.sctp_recv.specs.ReceiverKept.{StreamKept, ReceiverKept, FRESH, stream_at}
+use Rattle.sctp_recv.specs.ReceiverKept.{StreamKept, ReceiverKept, stream_at}
 use Rattle.sctp_recv.specs.StandsFor.{KeepsView}
-use Rattle.sctp_recv.specs.inner.Giving.{sized, IsDueView, GivesDue, GivesWhole, GivesNone, GivesNewest, GivesBy}
-use Rattle.sctp_recv.proofs.StreamLemmas.{one_stream, same_field, length_set, waiting_set, size_append, got_stream}
-use Rattle.sctp_recv.proofs.FiledLemmas.{SameOff, filed_set, sum_has, stream_size, all_sizes, size_changed}
-use Rattle.sctp_recv.proofs.DueLemmas.{due_above}
+use Rattle.sctp_recv.specs.inner.Giving.{sized}
+use Rattle.sctp_recv.proofs.StreamLemmas.{one_stream, same_field, length_set, waiting_set, size_append}
 use Rattle.sctp_recv.proofs.RecordedLemmas.{at_cases, at_stays, at_here, IsKeepable}
 
 -- the view with the chunk kept, before anything is handed over

@@ -1,25 +1,25 @@
 -- A FORWARD on one stream after the other: what is due on each is handed over in a view, and the bytes held are counted.
-use Rattle.std.proofs.Common.{◌≡◌, ℕ, zero, suc, ◌+◌, ◌-◌, ◌^◌, ◌<◌, ◌≤◌, max, List, [], ◌∷◌, ◌++◌, length, set, filter, Some, inl, inr, refl, sym, ◌∙◌, ap, subst, arith}
+use Rattle.std.proofs.Common.{◌≡◌, ℕ, suc, ◌+◌, ◌-◌, ◌^◌, ◌<◌, ◌≤◌, List, ◌++◌, length, set, Some, inl, inr, refl, sym, ◌∙◌, ap, subst, arith}
 use Rattle.std.specs.Prelude.{not, slice_get}
 use Rattle.std.proofs.lemmas.Bool.{cases_eq}
 use Rattle.std.proofs.lemmas.Option.{slice_get_within}
 use Rattle.sctp_model.specs.Lists.{Has, at}
 use Rattle.sctp_model.specs.Chunk.{SkipMeaning}
-use Rattle.sctp_model.specs.Format.{Format, Kind, Ordered, Unordered, Lane, ordered_lane, unordered_lane}
+use Rattle.sctp_model.specs.Format.{Format, Ordered, Unordered, Lane, ordered_lane, unordered_lane}
 use Rattle.sctp_model.specs.Framing.{lets_go}
 use Rattle.sctp_model.specs.Pieces.{Piece}
 use Rattle.sctp_model.specs.ReceiverView.{Handed, ReceiverView, size_of_pieces, size_of_messages, size_of_waiting}
 use Rattle.sctp_model.specs.Receiving.{IsDue, is_below, without_below, handed_ordered, GivesAll}
 use Rattle.sctp_model.proofs.receiver.Giving.{at_here, at_elsewhere}
 use Rattle.sctp_model.proofs.receiver.HeldBytes.{filter_size}
-use Rattle.sctp_model.proofs.receiver.OfLane.{of_below, of_below_other, off_below, off_lane, size_of_lane}
+use Rattle.sctp_model.proofs.receiver.OfLane.{of_below, of_below_other, off_below, size_of_lane}
 use Rattle.sctp_model.proofs.receiver.OneStep.{filter_has}
 use Rattle.sctp_model.proofs.receiver.Sizes.{due_size}
 use Rattle.sctp_chains.specs.StandsFor as lane
 use Rattle.sctp_chains.specs.WholeOf.{from_number}
 use Rattle.sctp_recv.specs.declared.inbound.Inbound.{Inbound}
 use Rattle.sctp_recv.specs.Fields.{stream_of}
-use Rattle.sctp_recv.specs.Filed.{of_lane, IsFiledOn, AreFiled}
+use Rattle.sctp_recv.specs.Filed.{of_lane, IsFiledOn}
 use Rattle.sctp_recv.specs.ReceiverKept.{StreamKept}
 use Rattle.sctp_recv.specs.inner.Giving.{sized, IsDueView}
 use Rattle.sctp_recv.specs.inner.Forwarding.{lowest_after, stay, PassesOn, IsStreamOf, AreToPass, ArePassed}

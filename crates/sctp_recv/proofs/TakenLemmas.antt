@@ -1,20 +1,17 @@
 -- What a receiver keeps once a chunk was kept, and what was due with it handed over.
-use Rattle.std.proofs.Common.{◌≡◌, ℕ, zero, suc, ◌+◌, ◌-◌, ◌^◌, ◌<◌, ◌≤◌, ◌⊎◌, min, Bool, true, false, ◌==◌, List, [], ◌∷◌, ◌++◌, length, set, map, filter, Some, inl, inr, refl, sym, ◌∙◌, ap, subst, arith}
+use Rattle.std.proofs.Common.{◌≡◌, ℕ, ◌+◌, ◌-◌, ◌<◌, ◌≤◌, ◌⊎◌, Bool, true, false, ◌==◌, List, [], ◌∷◌, ◌++◌, length, set, map, Some, inl, inr, refl, sym, ◌∙◌, ap, subst, arith}
 use Rattle.std.specs.Prelude.{not, slice_get}
-use Rattle.std.proofs.lemmas.Bool.{cases_Bool, cases_eq}
+use Rattle.std.proofs.lemmas.Bool.{cases_Bool}
 use Rattle.std.proofs.lemmas.Bool.Decides.{nat_tests}
 use Rattle.std.proofs.lemmas.List.{length-map}
-use Rattle.sctp_model.specs.Serial.{COUNTS}
 use Rattle.sctp_model.specs.Lists.{Has, at}
 use Rattle.sctp_model.specs.Format.{Format, Kind, Ordered, Unordered, Lane, ordered_lane, unordered_lane}
 use Rattle.sctp_model.specs.Pieces.{Piece}
-use Rattle.sctp_model.specs.Whole.{text_of}
 use Rattle.sctp_model.specs.ReceiverView.{Handed, ReceiverView, size_of_pieces, size_of_messages, size_of_waiting}
-use Rattle.sctp_model.specs.Receiving.{IsDue, is_below, without_below, handed_ordered, without_message, goes_with, handed_unordered, IsWholeWith, message_of, recorded, GivesOrdered, GivesUnordered, Gives, Takes}
+use Rattle.sctp_model.specs.Receiving.{IsDue, is_below, without_below, handed_ordered, without_message, goes_with, handed_unordered, IsWholeWith, message_of, GivesOrdered, GivesUnordered, Gives, Takes}
 use Rattle.sctp_model.specs.receiver.Reading.{lane_of}
-use Rattle.sctp_model.specs.receiver.Laws.{IsApart}
 use Rattle.sctp_model.proofs.receiver.OfLane.{of_more, of_other, of_below, of_below_other, with_of, without_of, without_other}
-use Rattle.sctp_model.proofs.receiver.OneStep.{filter_has, filter_apart, kept_apart}
+use Rattle.sctp_model.proofs.receiver.OneStep.{filter_has}
 use Rattle.sctp_model.proofs.receiver.RowFacts.{row_same}
 use Rattle.sctp_model.proofs.receiver.Sizes.{due_size, message_size}
 use Rattle.sctp_chains.specs.StandsFor as lane
@@ -23,14 +20,14 @@ use Rattle.sctp_recv.specs.declared.inbound.Inbound.{Inbound}
 use Rattle.sctp_recv.specs.Fields.{stream_of}
 use Rattle.sctp_recv.specs.Filed.{of_lane, IsFiledOn, AreFiled}
 use Rattle.sctp_recv.specs.SeenKept.{SeenKept}
-use Rattle.sctp_recv.specs.ReceiverKept.{StreamKept, ReceiverKept, FRESH, stream_at}
+use Rattle.sctp_recv.specs.ReceiverKept.{StreamKept, ReceiverKept, stream_at}
 use Rattle.sctp_recv.specs.StandsFor.{KeepsView}
-use Rattle.sctp_recv.specs.inner.Giving.{sized, IsDueView, GivesDue, GivesWhole, GivesNone, GivesNewest, GivesBy}
-use Rattle.sctp_recv.proofs.StreamLemmas.{one_stream, same_field, length_set, waiting_set, size_append, got_stream}
+use Rattle.sctp_recv.specs.inner.Giving.{sized, IsDueView, GivesDue, GivesWhole, GivesNone, GivesBy}
+use Rattle.sctp_recv.proofs.StreamLemmas.{one_stream, same_field, length_set, got_stream}
 use Rattle.sctp_recv.proofs.FiledLemmas.{SameOff, filed_set, sum_has, stream_size, all_sizes, size_changed}
 use Rattle.sctp_recv.proofs.DueLemmas.{due_above}
 use Rattle.sctp_recv.proofs.KeptLemmas.{with_chunk, held_counted, all_apart, all_recorded, all_numbers, keeps_fewer}
-use Rattle.sctp_recv.proofs.RecordedLemmas.{at_cases, at_stays, at_here, IsKeepable}
+use Rattle.sctp_recv.proofs.RecordedLemmas.{at_cases, IsKeepable}
 
 module _ (f : Format) (k : ReceiverKept) (v : ReceiverView) (x : Piece) (seen : SeenKept) (h : IsKeepable f k v x seen) where
   module _ {F : Type 0} (streams : List (Inbound F)) (s : ℕ) (old new : Inbound F) (streams_are : k.streams ≡ map stream_of streams) (filed : AreFiled f v.kept streams)
@@ -150,7 +147,7 @@ module _ (f : Format) (k : ReceiverKept) (v : ReceiverView) (x : Piece) (seen : 
           here = record {
             ordered = subst (λ (ps : List Piece). lane.StandsFor f new.ordered (ordered_lane s) ps)
                 (sym (without_other f (x ∷ v.kept) (ordered_lane s) g.head g.rest x (all_apart f k v x seen h) whole (λ e. let no : Unordered ≡ Ordered = ap (λ (l : Lane). l.kind) (sym head_lane ∙ e) in cc)
-                    ∙ of_other (ordered_lane s) x v.kept not_ordered)) ordered_here;
+                ∙ of_other (ordered_lane s) x v.kept not_ordered)) ordered_here;
             unordered = subst (λ (ps : List Piece). lane.StandsFor f new.unordered (unordered_lane s) ps)
                 (sym (without_of f (x ∷ v.kept) (unordered_lane s) (g.head ∷ g.rest) ∙ ap (λ (ps : List Piece). without_message f ps (g.head ∷ g.rest)) more)) g.left;
           }

@@ -131,13 +131,7 @@ fn pass_on_all<F: Framing>(
     let mut left = held;
     let count = u16::try_from(streams.len()).unwrap_or(u16::MAX);
     for stream in 0..count {
-        left = pass_on(
-            &mut streams[usize::from(stream)],
-            stream,
-            skips,
-            jump,
-            left,
-        );
+        left = pass_on(&mut streams[usize::from(stream)], stream, skips, jump, left);
     }
     left
 }

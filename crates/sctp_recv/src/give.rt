@@ -129,10 +129,7 @@ fn take_unordered<F: Framing>(
     make_one(&mut inbound.waiting)?;
     inbound.unordered.add(piece, index, number)?;
     match inbound.unordered.take_with(piece, index, number) {
-        Some(whole) => Ok(wait(
-            &mut inbound.waiting,
-            message_of(whole, piece.stream, false),
-        )),
+        Some(whole) => Ok(wait(&mut inbound.waiting, message_of(whole, piece.stream, false))),
         None => Ok(0),
     }
 }

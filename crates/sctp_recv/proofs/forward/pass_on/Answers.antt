@@ -1,11 +1,9 @@
-use Rattle.std.proofs.Common.{◌≡◌, ℕ, ◌+◌, ◌-◌, ◌++◌, List, refl, sym, ◌∙◌, ap, subst}
-use Rattle.sctp_model.specs.Format.{Lane, ordered_lane, unordered_lane}
-use Rattle.sctp_model.specs.Pieces.{Piece}
+use Rattle.std.proofs.Common.{◌≡◌, ℕ, ◌+◌, ◌-◌, ◌++◌, refl, ◌∙◌, subst}
+use Rattle.sctp_model.specs.Format.{ordered_lane, unordered_lane}
 use Rattle.sctp_model.specs.ReceiverView.{size_of_pieces, size_of_messages}
 use Rattle.sctp_chains.specs.StandsFor as lane
 use Rattle.sctp_chains.specs.WholeOf.{from_number}
 use Rattle.sctp_recv.specs.Fields.{stream_of}
-use Rattle.sctp_recv.specs.ReceiverKept.{StreamKept}
 use Rattle.sctp_recv.specs.inner.Giving.{sized, IsDueFrom}
 use Rattle.sctp_recv.specs.inner.Forwarding.{lowest_after, stay}
 use Rattle.sctp_recv.proofs.forward.pass_on.Goals as goal

@@ -1,4 +1,4 @@
-use Rattle.std.proofs.Common.{◌≡◌, ℕ, suc, ◌+◌, ◌<◌, ◌≤◌, length, set, Some, refl, sym, ◌∙◌, ap, subst, add-one, arith}
+use Rattle.std.proofs.Common.{◌≡◌, ℕ, suc, ◌+◌, ◌<◌, length, set, Some, refl, sym, ◌∙◌, subst, arith}
 use Rattle.std.specs.Prelude.{slice_get}
 use Rattle.std.proofs.lemmas.Grind.{common_steps}
 use Rattle.std.proofs.lemmas.List.{length-set}
@@ -36,9 +36,9 @@ loop-stream-preserved g c =
           let filed = h.filed.each k x got in
           let p = subst (λ (q : ℕ). PassesOn f q c.args.jump c.args.skips.now.skips (of_lane (ordered_lane q) v.kept) (of_lane (unordered_lane q) v.kept) x y c.loop-stream.left c.pass_on-left.result) same
           (c.pass_on-left.ensures (of_lane (ordered_lane c.loop-stream.stream) v.kept) (of_lane (unordered_lane c.loop-stream.stream) v.kept)
-              (subst (λ (q : ℕ). lane.StandsFor f x.ordered (ordered_lane q) (of_lane (ordered_lane q) v.kept)) (sym same) filed.ordered)
-              (subst (λ (q : ℕ). lane.StandsFor f x.unordered (unordered_lane q) (of_lane (unordered_lane q) v.kept)) (sym same) filed.unordered)
-              (λ z n has number. h.counted z n (of_says (ordered_lane c.loop-stream.stream) v.kept z has).0 number) (h.room k x got)) in
+          (subst (λ (q : ℕ). lane.StandsFor f x.ordered (ordered_lane q) (of_lane (ordered_lane q) v.kept)) (sym same) filed.ordered)
+          (subst (λ (q : ℕ). lane.StandsFor f x.unordered (unordered_lane q) (of_lane (unordered_lane q) v.kept)) (sym same) filed.unordered)
+          (λ z n has number. h.counted z n (of_says (ordered_lane c.loop-stream.stream) v.kept z has).0 number) (h.room k x got)) in
           let next = upto_next f c.args.jump c.args.skips.now.skips v r olds items c.args.held c.loop-stream.left k m.0 h u x y (omega (arith, low, inv.size)) inv.size got c.pass_on-left.result p in
           let at_next : suc k ≡ c.loop-stream.stream + 1 = omega (arith, same) in
           (handed_ordered m.0 k p.messages p.next, subst (λ (q : ℕ). IsUpTo f v r olds (set items k y) c.args.held c.pass_on-left.result q (handed_ordered m.0 k p.messages p.next)) at_next next);

@@ -1,11 +1,11 @@
-use Rattle.std.proofs.Common.{◌≡◌, ℕ, suc, ◌+◌, ◌<◌, ◌≤◌, max, List, [], ◌∷◌, ◌++◌, map, length, Some, inl, refl, sym, ◌∙◌, ap, subst, append_assoc, arith}
+use Rattle.std.proofs.Common.{◌≡◌, ℕ, suc, ◌<◌, ◌≤◌, max, List, [], ◌∷◌, ◌++◌, map, length, inl, refl, sym, ◌∙◌, ap, subst, append_assoc, arith}
 use Rattle.std.specs.Prelude.{not}
 use Rattle.std.specs.VecDeque.{deque_len, deque_capacity}
 use Rattle.std.proofs.lemmas.List.{append-nil}
 use Rattle.sctp_model.specs.Serial.{COUNTS}
 use Rattle.sctp_model.specs.Format.{ordered_lane}
 use Rattle.sctp_model.specs.Pieces.{Piece, is_number_below}
-use Rattle.sctp_model.specs.ReceiverView.{Handed, size_of_messages}
+use Rattle.sctp_model.specs.ReceiverView.{Handed}
 use Rattle.sctp_model.specs.Receiving.{message_of, IsDue}
 use Rattle.sctp_model.proofs.receiver.OneStep.{filter_has}
 use Rattle.sctp_chains.specs.StandsFor as lane
@@ -13,10 +13,9 @@ use Rattle.sctp_chains.specs.WholeOf.{from_number}
 use Rattle.sctp_recv.specs.HandedOf.{handed_of}
 use Rattle.sctp_recv.specs.Fields.{stream_of}
 use Rattle.sctp_recv.specs.ReceiverKept.{StreamKept}
-use Rattle.sctp_recv.specs.inner.Giving.{sized, HasRoom}
 use Rattle.sctp_recv.proofs.StreamLemmas.{size_append}
 use Rattle.sctp_recv.proofs.DueLemmas.{IsRest, rest_first, rest_next, IsDueSoFar, due_first, due_more, due_end}
-use Rattle.sctp_recv.proofs.GiveLemmas.{IsGivenSoFar, ordered_numbered}
+use Rattle.sctp_recv.proofs.GiveLemmas.{ordered_numbered}
 use Rattle.sctp_recv.proofs.give.give_ordered.Goals as goal
 
 pub loop-whole-init : goal.loop-whole-init

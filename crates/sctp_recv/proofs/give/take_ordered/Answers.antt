@@ -1,4 +1,4 @@
-use Rattle.std.proofs.Common.{◌≡◌, ◌∷◌, ◌≤◌, refl, arith}
+use Rattle.std.proofs.Common.{◌∷◌, arith}
 use Rattle.sctp_model.specs.Format.{ordered_lane}
 use Rattle.sctp_wire.specs.ChunkTree.{piece_meaning}
 use Rattle.sctp_recv.specs.Kept.{counted}

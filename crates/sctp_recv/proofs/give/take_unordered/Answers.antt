@@ -1,5 +1,5 @@
-use Rattle.std.proofs.Common.{◌≡◌, ◌∷◌, [], ◌++◌, List, length, map, inl, inr, refl, sym, ◌∙◌, ap, arith}
-use Rattle.sctp_model.specs.Format.{Lane, unordered_lane}
+use Rattle.std.proofs.Common.{◌≡◌, ◌∷◌, [], ◌++◌, List, length, map, inl, inr, refl, sym, ◌∙◌, ap}
+use Rattle.sctp_model.specs.Format.{unordered_lane}
 use Rattle.sctp_model.specs.ReceiverView.{Handed}
 use Rattle.sctp_model.specs.Receiving.{message_of}
 use Rattle.sctp_model.specs.Whole.{text_of}

@@ -1,6 +1,6 @@
-use Rattle.std.proofs.Common.{◌≡◌, ◌∷◌, ◌++◌, [], List, sym, subst, arith, rules}
+use Rattle.std.proofs.Common.{◌≡◌, ◌∷◌, ◌++◌, [], sym, subst, arith, rules}
 use Rattle.std.proofs.lemmas.Grind.{common_steps}
-use Rattle.sctp_recv.proofs.FiledLemmas.{IsFresh, AreFresh, fresh_more, fresh_filed}
+use Rattle.sctp_recv.proofs.FiledLemmas.{AreFresh, fresh_more, fresh_filed}
 use Rattle.sctp_recv.proofs.inbound.fresh_streams.Goals as goal
 
 pub loop-preserved : goal.loop-preserved

@@ -1,5 +1,4 @@
-use Rattle.std.proofs.Common.{◌≡◌, ℕ, suc, ◌+◌, ◌-◌, ◌<◌, ◌≤◌, false, Option, Some, List, ◌∷◌, length, set, inl, inr, refl, sym, ◌∙◌, ap, subst, arith}
-use Rattle.std.proofs.lemmas.List.{length-map}
+use Rattle.std.proofs.Common.{◌≡◌, ℕ, suc, ◌+◌, ◌-◌, ◌<◌, ◌≤◌, false, Option, Some, ◌∷◌, length, set, inl, inr, refl, sym, ◌∙◌, ap, subst, arith}
 use Rattle.std.proofs.lemmas.Option.{slice_get_read}
 use Rattle.sctp_model.specs.Limits.{WINDOW}
 use Rattle.sctp_model.specs.Serial.{COUNTS}
@@ -8,15 +7,13 @@ use Rattle.sctp_model.specs.Format.{ordered_lane, unordered_lane}
 use Rattle.sctp_model.specs.Pieces.{Piece}
 use Rattle.sctp_model.specs.receiver.Reading.{lane_of, piece_at}
 use Rattle.sctp_model.proofs.receiver.OfLane.{of_says}
-use Rattle.sctp_chains.specs.StandsFor as lane
 use Rattle.sctp_chains.specs.StandsFor.{IsNew}
 use Rattle.sctp_wire.specs.ChunkTree.{piece_meaning}
 use Rattle.std.specs.Prelude.{slice_get}
 use Rattle.sctp_chains.specs.Cells.{IsOf}
 use Rattle.sctp_recv.specs.Fields.{stream_of}
 use Rattle.sctp_recv.specs.Kept.{counted}
-use Rattle.sctp_recv.specs.Filed.{of_lane, IsFiledOn, AreFiled}
-use Rattle.sctp_recv.specs.ReceiverKept.{StreamKept, stream_at}
+use Rattle.sctp_recv.specs.Filed.{of_lane, AreFiled}
 use Rattle.sctp_recv.specs.KeptOf.{kept_of}
 use Rattle.sctp_recv.specs.SeenKept.{SeenKept, is_reached}
 use Rattle.sctp_recv.specs.StandsFor.{StandsFor, KeepsView}
