@@ -44,6 +44,8 @@ mod sender;
 #[cfg(test)]
 mod sender_filling;
 #[cfg(test)]
+mod sender_forwards;
+#[cfg(test)]
 mod serial;
 #[cfg(test)]
 mod statuses;
