@@ -153,7 +153,7 @@ pub begun_is : (s : Kept) (old new : Draft) (m : MessageFields) (place count num
     → map (track_meaning s.fragment) new.tracks.items ≡ set (map (track_meaning s.fragment) old.tracks.items) m.stream (counted_track (lane_kind m.unordered) left (track_of (map (track_meaning s.fragment) old.tracks.items) m.stream))
     → left ≡ rest_from s.fragment m number count → numbers_of new.tickets.items ≡ numbers_of old.tickets.items ++ m.ticket ∷ [] → new.turn ≡ turn
     → number ≡ number_on (map (track_meaning s.fragment) old.tracks.items) (lane_meaning m)
-    → drafted s new ≡ begun (drafted s old) (queued_meaning s.fragment m) place count turn (deque_capacity new.outstanding)
+    → drafted s new ≡ begun (drafted s old) (queued_meaning s.fragment m) place count turn (new.outstanding.capacity)
 begun_is s old new m place count number turn left items queue tracks rest told turned numbered =
     let fates : all_numbered s.fates (numbers_of new.tickets.items) ≡ set (all_numbered s.fates (numbers_of old.tickets.items)) (m.ticket - 1) Numbered = ap (all_numbered s.fates) told ∙ numbered_push s.fates (numbers_of old.tickets.items) m.ticket in
     rw (items, queue, tracks, fates, turned, rest, numbered) refl
@@ -164,7 +164,7 @@ pub gone_on_is : (s : Kept) (old new : Draft) (r : RestFields) (stream turn : �
     → new.queue ≡ old.queue
     → map (track_meaning s.fragment) new.tracks.items ≡ set (map (track_meaning s.fragment) old.tracks.items) stream (left_track left (track_of (map (track_meaning s.fragment) old.tracks.items) stream))
     → left ≡ rest_from s.fragment r.message.value r.number (suc r.fragment) → new.tickets ≡ old.tickets → new.turn ≡ turn
-    → drafted s new ≡ gone_on (drafted s old) (rest_meaning s.fragment r) stream turn (deque_capacity new.outstanding)
+    → drafted s new ≡ gone_on (drafted s old) (rest_meaning s.fragment r) stream turn (new.outstanding.capacity)
 gone_on_is s old new r stream turn left items queue tracks rest told turned = rw (items, queue, tracks, told, turned, rest) refl
 
 -- a place of the queue is empty now
@@ -185,7 +185,7 @@ track_there size at stream ts x same low read = ap (track_of (map (track_meaning
 
 -- a copy keeps what the sender keeps
 pub keeps_copied : (f : Format) (s : Kept) (v : SenderView) (d : Draft) → Keeps f s v → map (item_meaning s.fragment) d.outstanding.items ≡ s.items → map (queued_by s.fragment) d.queue.items ≡ s.queue
-    → map (track_meaning s.fragment) d.tracks.items ≡ s.tracks → d.turn ≡ s.turn → d.tickets.items ≡ [] → s.streams + length d.outstanding.items ≤ deque_capacity d.outstanding → Keeps f (drafted s d) v
+    → map (track_meaning s.fragment) d.tracks.items ≡ s.tracks → d.turn ≡ s.turn → d.tickets.items ≡ [] → s.streams + length d.outstanding.items ≤ d.outstanding.capacity → Keeps f (drafted s d) v
 keeps_copied f s v d k items queue tracks turned none room =
     let fates : all_numbered s.fates (numbers_of d.tickets.items) ≡ s.fates = rw none refl in
     let long = length-map d.outstanding.items (item_meaning s.fragment) in

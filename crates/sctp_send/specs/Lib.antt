@@ -1,4 +1,5 @@
 pub mod CoveredRuns
+pub mod WindowKept
 pub mod SenderKept
 pub mod SenderStands
 pub mod OutstandingFields

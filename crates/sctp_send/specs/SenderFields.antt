@@ -1,5 +1,5 @@
 -- What a sender's fields hold.
-use Rattle.std.specs.Prelude.{ℕ, ◌<◌, ◌≤◌, Option, None, Some}
+use Rattle.std.specs.Prelude.{◌≡◌, ℕ, ◌<◌, ◌≤◌, Option, None, Some}
 use Rattle.std.specs.declared.rc.Rc.{Rc}
 use Rattle.std.specs.declared.alloc.Global.{Global}
 use Rattle.sctp_model.specs.Plan.{Part}
@@ -27,8 +27,11 @@ rests_meaning size (Some r) = Some (rest_meaning size r)
 abbrev pub track_meaning : ℕ → TrackFields → Track
 track_meaning size t = record { ordered = t.ordered; unordered = t.unordered; rest = rests_meaning size t.rest }
 
--- the constants are within their limits
-pub record IsConfigured (n size : ℕ) : Type 0 where
+-- the constants are within their limits, and all parts have fragments of the same size
+pub record IsConfigured (n size w q t : ℕ) : Type 0 where
   pub streams : 0 < n
   pub some : 0 < size
   pub short : size ≤ 1400
+  pub window : w ≡ size
+  pub queue : q ≡ size
+  pub tracks : t ≡ size

@@ -5,3 +5,5 @@ pub mod Expiring
 pub mod Wishing
 pub mod Newcomers
 pub mod Drafting
+pub mod Counting
+pub mod Undoing

@@ -1,7 +1,7 @@
 //! Messages that are abandoned (RFC 3758, 3.5; RFC 8260, 2.3.1).
 
 ghost use Rattle.std.specs.Prelude.{◌≡◌, ℕ, ◌<◌, ◌≤◌, ◌+◌, [], ◌∷◌, ◌++◌, true, false, List, length, map, take, drop, set, IfSome, IfNone};
-ghost use Rattle.std.specs.VecDeque.{deque_capacity};
+ghost use Rattle.sctp_send.specs.WindowKept.{IsSameRoom, changed};
 ghost use Rattle.sctp_model.specs.SenderView.{SenderView};
 ghost use Rattle.sctp_model.specs.sender.Abandoning.{AbandonAnswer, abandon_answer, abandon_after, without};
 ghost use Rattle.sctp_send.specs.OutstandingFields.{item_meaning};
@@ -11,13 +11,14 @@ ghost use Rattle.sctp_send.specs.SenderStands.{StandsFor, fate_here};
 ghost use Rattle.sctp_send.specs.inner.Walks.{is_numbered_fate, any_rest, end_item, GoesOnAt, EndsAt};
 ghost use Rattle.sctp_send.specs.SenderAnswers.{answer_meaning};
 
-use crate::message::{Fate, Message, Ticket};
+use crate::message::{Fate, Ticket};
 use crate::outstanding::{Outstanding, Place, Standing, unmarked};
 use crate::readers::{goes_on, is_all_covered};
 use crate::sender::{Rest, Sender, Track};
+use crate::streams::Streams;
+use crate::waiting::Waiting;
+use crate::window::Window;
 use sctp_framing::Framing;
-use std::collections::VecDeque;
-use std::rc::Rc;
 
 /// What abandoning a ticket's message is answered.
 #[derive(Clone, Copy, Debug, PartialEq, Eq)]
@@ -68,7 +69,7 @@ impl<F: Framing> Sender<F> {
         ensures answer { (v : SenderView) → StandsFor F.format self.old v → is_numbered_fate (fate_here v ticket) ≡ true → answer_meaning result ≡ abandon_answer v ticket }
         ensures step { (v : SenderView) → StandsFor F.format self.old v → is_numbered_fate (fate_here v ticket) ≡ true → StandsFor F.format self.new (abandon_after v ticket) }
     {
-        if is_all_covered(&self.tracks, &self.outstanding, ticket) {
+        if is_all_covered(self.tracks.tracks(), &self.outstanding, ticket) {
             return Abandoned::Acknowledged;
         }
         if !self.partial {
@@ -84,12 +85,12 @@ impl<F: Framing> Sender<F> {
 }
 
 /// The place of the message with this ticket among those that wait, or how many there are.
-fn place_of(queue: &VecDeque<Rc<Message>>, ticket: u32) -> usize
+fn place_of(queue: &Waiting, ticket: u32) -> usize
     ensures { (size : ℕ) → without ticket (map (queued_by size) queue.now.items)
         ≡ take result (map (queued_by size) queue.now.items) ++ drop (result + 1) (map (queued_by size) queue.now.items) }
 {
     for at in 0..queue.len() {
-        let message = &queue[at];
+        let message = queue.get(at);
         if message.ticket == ticket {
             return at;
         }
@@ -98,43 +99,52 @@ fn place_of(queue: &VecDeque<Rc<Message>>, ticket: u32) -> usize
 }
 
 /// The message with this ticket waits no more.
-fn withdraw(queue: &mut VecDeque<Rc<Message>>, ticket: u32)
-    ensures { (size : ℕ) → map (queued_by size) queue.new.items ≡ without ticket (map (queued_by size) queue.old.items) }
+fn withdraw(queue: &mut Waiting, ticket: u32)
+    ensures size { queue.new.size ≡ queue.old.size }
+    ensures items { (size : ℕ) → map (queued_by size) queue.new.items ≡ without ticket (map (queued_by size) queue.old.items) }
 {
     let place = place_of(queue, ticket);
     let _withdrawn = queue.remove(place);
 }
 
 /// An entry of the message with this ticket is given up; its mark ends.
-fn give_one(entry: &mut Outstanding, ticket: u32)
-    ensures { entry.new ≡ given ticket entry.old }
+fn give_one(outstanding: &mut Window, at: usize, ticket: u32)
+    requires { at < length outstanding.old.items }
+    ensures { outstanding.new ≡ changed (given ticket) at outstanding.old }
 {
+    let entry = outstanding.get(at);
     if entry.message.ticket == ticket {
-        entry.given_up = true;
-        entry.standing = unmarked(entry.standing);
+        let standing = unmarked(entry.standing);
+        let covered = entry.covered;
+        outstanding.stand(at, standing, covered, true);
     }
 }
 
 /// Each entry of the message with this ticket is given up.
-fn give_up(outstanding: &mut VecDeque<Outstanding>, ticket: u32)
+fn give_up(outstanding: &mut Window, ticket: u32)
     ensures items { outstanding.new.items ≡ all_given ticket outstanding.old.items }
-    ensures capacity { deque_capacity outstanding.new ≡ deque_capacity outstanding.old }
+    ensures kept { IsSameRoom outstanding.old outstanding.new }
 {
     for at in 0..outstanding.len() {
-        give_one(&mut outstanding[at], ticket);
+        give_one(outstanding, at, ticket);
     }
 }
 
 /// The stream that goes on with the message with this ticket goes on with nothing; what was left of the message, where there is such a stream.
-fn end(tracks: &mut Vec<Track>, ticket: u32) -> Option<Rest>
+fn end(tracks: &mut Streams, ticket: u32) -> Option<Rest>
+    ensures size { tracks.new.size ≡ tracks.old.size }
     ensures none { (size : ℕ) → IfNone result (any_rest ticket (map (track_meaning size) tracks.old.items) ≡ false) }
     ensures same { IfNone result (tracks.new.items ≡ tracks.old.items) }
     ensures some { (size : ℕ) → IfSome result (λ rest. EndsAt ticket (rest_meaning size rest) (map (track_meaning size) tracks.old.items) (map (track_meaning size) tracks.new.items)) }
 {
-    match stream_of(tracks, ticket) {
-        Some(at) => tracks[at].rest.take(),
-        None => None,
-    }
+    let at = stream_of(tracks.tracks(), ticket)?;
+    let track = &tracks.tracks()[at];
+    let next = Track {
+        ordered: track.ordered,
+        unordered: track.unordered,
+        rest: None,
+    };
+    tracks.replace(at, next).rest
 }
 
 /// The stream that goes on with the message with this ticket.
@@ -151,12 +161,13 @@ fn stream_of(tracks: &[Track], ticket: u32) -> Option<usize>
 }
 
 /// The end mark of a message stands behind the other entries. There is room for it since the message took its number.
-fn push_end(outstanding: &mut VecDeque<Outstanding>, rest: Rest)
-    ensures items { (size : ℕ) → length outstanding.old.items < deque_capacity outstanding.old
+fn push_end(outstanding: &mut Window, rest: Rest)
+    ensures items { (size : ℕ) → length outstanding.old.items < outstanding.old.capacity
         → map (item_meaning size) outstanding.new.items ≡ map (item_meaning size) outstanding.old.items ++ end_item (rest_meaning size rest) ∷ [] }
-    ensures capacity { length outstanding.old.items < deque_capacity outstanding.old → deque_capacity outstanding.new ≡ deque_capacity outstanding.old }
+    ensures kept { length outstanding.old.items < outstanding.old.capacity → IsSameRoom outstanding.old outstanding.new }
+    ensures size { outstanding.new.size ≡ outstanding.old.size }
 {
-    let _kept = outstanding.push_back(end_mark(rest));
+    let _kept = outstanding.push(end_mark(rest));
 }
 
 /// The end mark of a message in part.

@@ -12,14 +12,11 @@ ghost use Rattle.sctp_send.specs.inner.Drafting.{drafted, NewAnswer, TurnAnswer,
 ghost use Rattle.sctp_send.specs.inner.Newcomers.{rest_at, has_rest, one_if, FirstOnAnswer};
 
 use crate::draft::{Draft, copied_rest};
-use crate::message::Message;
 use crate::queue::fragments_of;
-use crate::readers::in_part;
 use crate::sender::{Rest, Track};
+use crate::waiting::Waiting;
 use sctp_framing::Framing;
 use sctp_wire::NoMemory;
-use std::collections::VecDeque;
-use std::rc::Rc;
 
 /// The most indexes above CUM and messages in part.
 const WINDOW: usize = 32_767;
@@ -64,7 +61,7 @@ fn next_whole(draft: &Draft, size: u16) -> Option<Next>
     if draft.queue.len() == 0 {
         return None;
     }
-    let message = &draft.queue[0];
+    let message = draft.queue.get(0);
     Some(Next::Begins(Beginning {
         place: 0,
         count: fragments_of(size, &message.bytes).max(1),
@@ -92,7 +89,7 @@ fn turn_of(draft: &Draft, stream: u16, streams: u16) -> Option<Next>
     ensures does { (s : Kept) (v : SenderView) → s.streams ≡ streams → Keeps Interleaved (drafted s draft.now) v → TurnAnswer v stream result }
     ensures within { IsNextWithin draft.now streams result }
 {
-    if goes_on_at(&draft.tracks, stream) {
+    if goes_on_at(draft.tracks.tracks(), stream) {
         return Some(Next::Continues(stream));
     }
     match first_on(&draft.queue, stream) {
@@ -124,12 +121,12 @@ fn goes_on_at(tracks: &[Track], stream: u16) -> bool
 }
 
 /// The place of the message that has waited longest on a stream.
-fn first_on(queue: &VecDeque<Rc<Message>>, stream: u16) -> Option<usize>
+fn first_on(queue: &Waiting, stream: u16) -> Option<usize>
     ensures first { (size : ℕ) → FirstOnAnswer stream (map (queued_by size) queue.now.items) result }
     ensures within { IfSome result (λ at. at < length queue.now.items) }
 {
     for at in 0..queue.len() {
-        let message = &queue[at];
+        let message = queue.get(at);
         if message.stream == stream {
             return Some(at);
         }
@@ -139,7 +136,8 @@ fn first_on(queue: &VecDeque<Rc<Message>>, stream: u16) -> Option<usize>
 
 /// A copy of what is left of the message in part of a stream.
 pub fn rest_of(tracks: &[Track], stream: u16) -> Result<Option<Rest>, NoMemory>
-    ensures { (size : ℕ) → IfOk result (λ rest. rests_meaning size rest ≡ rest_at (map (track_meaning size) tracks.now) stream) }
+    ensures there { IfOk result (λ rest. IfSome rest (λ _. stream < length tracks.now)) }
+    ensures rest { (size : ℕ) → IfOk result (λ rest. rests_meaning size rest ≡ rest_at (map (track_meaning size) tracks.now) stream) }
 {
     match tracks.get(usize::from(stream)) {
         Some(track) => copied_rest(&track.rest),
@@ -150,7 +148,7 @@ pub fn rest_of(tracks: &[Track], stream: u16) -> Result<Option<Rest>, NoMemory>
 /// So many indexes more keep within the window, where the stream then has a message in part or not.
 pub fn has_window(draft: &Draft, stream: u16, count: usize, more: bool) -> bool
     requires { 0 < count }
-    ensures fits { (size : ℕ) → result ≡ nat_le (length draft.now.outstanding.items + count + (total (λ t. one_if_rest t.rest) (map (track_meaning size) draft.now.tracks.items) % 2 ^ 32 + one_if more))
+    ensures fits { (size : ℕ) → size ≡ draft.now.tracks.size → result ≡ nat_le (length draft.now.outstanding.items + count + (total (λ t. one_if_rest t.rest) (map (track_meaning size) draft.now.tracks.items) % 2 ^ 32 + one_if more))
         (WINDOW + one_if (has_rest (rest_at (map (track_meaning size) draft.now.tracks.items) stream))) }
     ensures few { result ≡ true → count ≤ 32_768 }
 {
@@ -158,7 +156,7 @@ pub fn has_window(draft: &Draft, stream: u16, count: usize, more: bool) -> bool
     if outstanding > WINDOW || count > WINDOW + 1 {
         return false;
     }
-    let parts = in_part(&draft.tracks) as usize + usize::from(more);
-    let had = usize::from(goes_on_at(&draft.tracks, stream));
+    let parts = draft.tracks.in_part() as usize + usize::from(more);
+    let had = usize::from(goes_on_at(draft.tracks.tracks(), stream));
     outstanding + count + parts <= WINDOW + had
 }

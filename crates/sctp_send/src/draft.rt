@@ -1,35 +1,136 @@
-//! What filling a packet changes of a sender: a copy, which takes the sender's place once all chunks are in the packet.
+//! What filling a packet changes of a sender: moved out of it, changed, and put back; where memory runs out, the changes are taken back first.
 
-ghost use Rattle.std.specs.Prelude.{◌≡◌, ℕ, ◌+◌, ◌≤◌, map, length, IfOk};
-ghost use Rattle.std.specs.VecDeque.{deque_capacity};
-ghost use Rattle.sctp_send.specs.OutstandingFields.{item_meaning};
-ghost use Rattle.sctp_send.specs.SenderFields.{queued_by, track_meaning, rests_meaning};
+ghost use Rattle.std.specs.Prelude.{◌≡◌, ℕ, ◌<◌, ◌≤◌, ◌+◌, ◌++◌, ◌∷◌, [], set, length, IfOk};
+ghost use Rattle.std.specs.Vec.{vec_len, vec_capacity};
+ghost use Rattle.sctp_send.specs.SenderFields.{rests_meaning};
+ghost use Rattle.sctp_send.specs.WindowKept.{changed};
+ghost use Rattle.sctp_send.specs.inner.Undoing.{parts_of, undone, origin, stands_so, waits_again, IsKeptRoom};
 
 use crate::message::{Message, Ticket};
-use crate::outstanding::Outstanding;
+use crate::outstanding::Standing;
 use crate::sender::{Rest, Track};
+use crate::streams::Streams;
+use crate::waiting::Waiting;
+use crate::window::Window;
 use sctp_wire::NoMemory;
-use std::alloc::Global;
-use std::collections::VecDeque;
 use std::rc::Rc;
 
-/// What filling changes: entries, the queue, streams and the turn as in a sender, and the messages that took their numbers, in order.
+/// What filling changes: entries, the queue, streams and the turn as in a sender; the messages that took their numbers, in order; and what was
+/// changed, the last change last.
 #[derive(Debug, Drop)]
 pub struct Draft {
-    pub outstanding: VecDeque<Outstanding>,
-    pub queue: VecDeque<Rc<Message>>,
-    pub tracks: Vec<Track>,
+    pub outstanding: Window,
+    pub queue: Waiting,
+    pub tracks: Streams,
     pub turn: u16,
     pub tickets: Vec<Ticket>,
+    pub log: Vec<Change>,
 }
 
-/// How far a fill came: no entry before the first offset waits to be repeated, and none before the second is to go out for the first time; and
-/// the bytes in flight, or the largest number where there are more.
+/// One change, with what was before it.
 #[derive(Debug, Drop)]
-pub struct Cursors {
-    pub marked: usize,
-    pub unsent: usize,
-    pub flight: u64,
+pub enum Change {
+    /// The entry at an offset went out; it stood so.
+    Out {
+        at: usize,
+        standing: Standing,
+    },
+    /// A message stopped waiting; it had this place in the queue.
+    Taken {
+        place: usize,
+        message: Rc<Message>,
+    },
+    /// So many entries came behind the others; the stream and the turn were so.
+    In {
+        count: usize,
+        stream: u16,
+        track: Track,
+        turn: u16,
+    },
+}
+
+/// A change is noted, where there is room for that.
+pub fn note(log: &mut Vec<Change>, change: Change)
+    requires { vec_len log.old < vec_capacity log.old }
+    ensures items { log.new.items ≡ log.old.items ++ change ∷ [] }
+    ensures long { vec_len log.new ≡ vec_len log.old + 1 }
+    ensures capacity { vec_capacity log.new ≡ vec_capacity log.old }
+{
+    let _noted = log.push(change);
+}
+
+/// All changes are taken back, the last one first.
+pub fn take_back(draft: &mut Draft)
+    requires { length (origin draft.old).queue ≤ draft.old.queue.capacity }
+    ensures parts { parts_of draft.new ≡ origin draft.old }
+    ensures tickets { draft.new.tickets.items ≡ [] }
+    ensures room { IsKeptRoom draft.old draft.new }
+{
+    draft.tickets.clear();
+    for _ in 0..draft.log.len() {
+        if let Some(change) = draft.log.pop() {
+            undo(draft, change);
+        }
+    }
+}
+
+/// A change is taken back.
+fn undo(draft: &mut Draft, change: Change)
+    requires { length (undone change (parts_of draft.old)).queue ≤ draft.old.queue.capacity }
+    ensures parts { parts_of draft.new ≡ undone change (parts_of draft.old) }
+    ensures log { draft.new.log ≡ draft.old.log }
+    ensures tickets { draft.new.tickets ≡ draft.old.tickets }
+    ensures room { IsKeptRoom draft.old draft.new }
+{
+    match change {
+        Change::Out { at, standing } => stand_again(&mut draft.outstanding, at, standing),
+        Change::Taken { place, message } => wait_again(&mut draft.queue, place, message),
+        Change::In {
+            count,
+            stream,
+            track,
+            turn,
+        } => {
+            let left = draft.outstanding.len().saturating_sub(count);
+            draft.outstanding.truncate(left);
+            go_on_again(&mut draft.tracks, stream, track);
+            draft.turn = turn;
+        }
+    }
+}
+
+/// The entry at an offset, where there is one, stands as before.
+fn stand_again(outstanding: &mut Window, at: usize, standing: Standing)
+    ensures { outstanding.new ≡ changed (stands_so standing) at outstanding.old }
+{
+    if at < outstanding.len() {
+        let entry = outstanding.get(at);
+        let covered = entry.covered;
+        let given_up = entry.given_up;
+        outstanding.stand(at, standing, covered, given_up);
+    }
+}
+
+/// A message waits again at its place, where there is such a place.
+fn wait_again(queue: &mut Waiting, place: usize, message: Rc<Message>)
+    requires { place ≤ length queue.old.items → length queue.old.items < queue.old.capacity }
+    ensures size { queue.new.size ≡ queue.old.size }
+    ensures items { queue.new.items ≡ waits_again place message queue.old.items }
+    ensures capacity { queue.old.capacity ≤ queue.new.capacity }
+{
+    if place <= queue.len() {
+        queue.put_back(place, message);
+    }
+}
+
+/// A stream, where there is such a one, goes on as before.
+fn go_on_again(tracks: &mut Streams, stream: u16, track: Track)
+    ensures { tracks.new ≡ record tracks.old { items = set tracks.old.items stream track } }
+{
+    let at = usize::from(stream);
+    if at < tracks.tracks().len() {
+        let _later = tracks.replace(at, track);
+    }
 }
 
 /// The same message, owned once more.
@@ -37,54 +138,6 @@ pub fn shared(message: &Rc<Message>) -> Result<Rc<Message>, NoMemory>
     ensures { IfOk result (λ copy. copy.value ≡ message.now.value) }
 {
     message.clone().map_err(|_| NoMemory)
-}
-
-/// A copy of an entry.
-fn copied_entry(entry: &Outstanding) -> Result<Outstanding, NoMemory>
-    ensures { (size : ℕ) → IfOk result (λ copy. item_meaning size copy ≡ item_meaning size entry.now) }
-{
-    let message = shared(&entry.message)?;
-    Ok(Outstanding {
-        message,
-        number: entry.number,
-        place: entry.place,
-        standing: entry.standing,
-        covered: entry.covered,
-        given_up: entry.given_up,
-    })
-}
-
-/// A copy of all entries, with room for so many more.
-pub fn copied_entries(
-    alloc: Global,
-    entries: &VecDeque<Outstanding>,
-    more: usize,
-) -> Result<VecDeque<Outstanding>, NoMemory>
-    ensures items { (size : ℕ) → IfOk result (λ copy. map (item_meaning size) copy.items ≡ map (item_meaning size) entries.now.items) }
-    ensures room { IfOk result (λ copy. length copy.items + more ≤ deque_capacity copy) }
-{
-    let mut copy = VecDeque::new(alloc);
-    for at in 0..entries.len() {
-        let entry = copied_entry(&entries[at])?;
-        copy.push_back(entry).map_err(|_| NoMemory)?;
-    }
-    copy.reserve(more).map_err(|_| NoMemory)?;
-    Ok(copy)
-}
-
-/// A copy of the messages that wait.
-pub fn copied_queue(
-    alloc: Global,
-    queue: &VecDeque<Rc<Message>>,
-) -> Result<VecDeque<Rc<Message>>, NoMemory>
-    ensures { (size : ℕ) → IfOk result (λ copy. map (queued_by size) copy.items ≡ map (queued_by size) queue.now.items) }
-{
-    let mut copy = VecDeque::new(alloc);
-    for at in 0..queue.len() {
-        let message = shared(&queue[at])?;
-        copy.push_back(message).map_err(|_| NoMemory)?;
-    }
-    Ok(copy)
 }
 
 /// A copy of what is left of a message in part, where there is one.
@@ -102,21 +155,4 @@ pub fn copied_rest(rest: &Option<Rest>) -> Result<Option<Rest>, NoMemory>
         }
         None => Ok(None),
     }
-}
-
-/// A copy of all streams.
-pub fn copied_tracks(alloc: Global, tracks: &[Track]) -> Result<Vec<Track>, NoMemory>
-    ensures { (size : ℕ) → IfOk result (λ copy. map (track_meaning size) copy.items ≡ map (track_meaning size) tracks.now) }
-{
-    let mut copy = Vec::new(alloc);
-    for track in tracks {
-        let rest = copied_rest(&track.rest)?;
-        copy.push(Track {
-            ordered: track.ordered,
-            unordered: track.unordered,
-            rest,
-        })
-        .map_err(|_| NoMemory)?;
-    }
-    Ok(copy)
 }

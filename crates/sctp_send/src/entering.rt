@@ -1,26 +1,32 @@
 //! A message takes its number, or its next index: what becomes of a draft.
 
-ghost use Rattle.std.specs.Prelude.{◌≡◌, ℕ, suc, ◌+◌, ◌<◌, ◌≤◌, ◌%◌, ◌^◌, ◌∷◌, [], ◌++◌, map, length, slice_set, IfOk, OnOk};
-ghost use Rattle.std.specs.VecDeque.{deque_capacity};
+ghost use Rattle.std.specs.Prelude.{◌≡◌, ℕ, suc, ◌+◌, ◌<◌, ◌≤◌, ◌%◌, ◌^◌, ◌∷◌, [], ◌++◌, ◌-◌, map, take, set, length, slice_set, IfOk, OnOk, OnErr};
+ghost use Rattle.std.specs.Vec.{vec_len, vec_capacity};
 ghost use Rattle.sctp_model.specs.Framing.{lane_kind};
 ghost use Rattle.sctp_send.specs.OutstandingFields.{item_meaning, lane_meaning, message_meaning, queued_meaning};
 ghost use Rattle.sctp_send.specs.SenderFields.{queued_by, track_meaning, rest_meaning, rests_meaning};
 ghost use Rattle.sctp_send.specs.inner.Newcomers.{number_in, number_on, begun_items, track_of, without_place, begun, gone_on};
 ghost use Rattle.sctp_send.specs.inner.Drafting.{numbers_of, drafted, fragment_item, rest_from, counted_track, left_track};
+ghost use Rattle.sctp_send.specs.inner.Undoing.{origin, IsSized, IsBehind};
+ghost use Rattle.sctp_send.specs.declared.draft.Change.TheVariants.{In};
 
 use crate::assigning::{Beginning, stream_after};
-use crate::draft::{Draft, shared};
+use crate::draft::{Change, Draft, note, shared};
 use crate::message::{Message, Ticket};
-use crate::outstanding::{Outstanding, Place, Standing};
+use crate::outstanding::Standing;
+use crate::pushing::{push_begun, push_fragment};
 use crate::queue::fragments_of;
 use crate::sender::{Rest, Sender, Track};
+use crate::streams::Streams;
 use sctp_framing::Framing;
 use sctp_wire::NoMemory;
-use std::collections::VecDeque;
 use std::rc::Rc;
 
 impl<F: Framing> Sender<F> {
     /// The message at a place of the queue takes its number, and so many of its fragments their indexes.
+    ///
+    /// # Errors
+    /// `NoMemory`: the draft has its parts as before.
     pub(crate) fn begin(
         &self,
         draft: &mut Draft,
@@ -30,34 +36,47 @@ impl<F: Framing> Sender<F> {
     ) -> Result<(), NoMemory>
         requires some { 0 < next.count }
         requires few { next.count ≤ 32_768 }
-        ensures kept { next.place < length draft.old.queue.items → suc number < 2 ^ 32 → number ≡ number_on (drafted self.now draft.old).tracks (lane_meaning message.now.value)
-            → message.now.value.stream < length draft.old.tracks.items
+        requires place { next.place < length draft.old.queue.items }
+        requires stream { message.now.value.stream < length draft.old.tracks.items }
+        requires sized { IsSized self.now.fragment draft.old }
+        ensures kept { suc number < 2 ^ 32 → number ≡ number_on (drafted self.now draft.old).tracks (lane_meaning message.now.value)
             → OnOk result (drafted self.now draft.new
-            ≡ begun (drafted self.now draft.old) (queued_meaning self.now.fragment message.now.value) next.place next.count next.turn (deque_capacity draft.new.outstanding)) }
-        ensures room { OnOk result (self.now.streams + length draft.new.outstanding.items ≤ deque_capacity draft.new.outstanding) }
+            ≡ begun (drafted self.now draft.old) (queued_meaning self.now.fragment message.now.value) next.place next.count next.turn draft.new.outstanding.capacity) }
+        ensures room { OnOk result (self.now.streams + length draft.new.outstanding.items ≤ draft.new.outstanding.capacity) }
         ensures told { OnOk result (numbers_of draft.new.tickets.items ≡ numbers_of draft.old.tickets.items ++ message.now.value.ticket ∷ []) }
+        ensures behind { IsBehind draft.old draft.new }
     {
         let rest = rest_from(message, number, next.count as u32, self.fragment)?;
+        draft.log.reserve(2).map_err(|_| NoMemory)?;
         tell(&mut draft.tickets, message.ticket)?;
-        push_fragments(&mut draft.outstanding, message, number, next.count)?;
-        draft
-            .outstanding
-            .reserve(usize::from(self.streams))
-            .map_err(|_| NoMemory)?;
-        take_out(&mut draft.queue, next.place);
-        count_on(&mut draft.tracks, message.stream, message.unordered, rest);
-        draft.turn = next.turn;
+        push_begun(
+            &mut draft.outstanding,
+            message,
+            number,
+            next.count,
+            self.streams,
+        )?;
+        take_out(draft, next.place);
+        let stream = message.stream;
+        let track = count_on(&mut draft.tracks, stream, message.unordered, rest);
+        come_in(draft, next.count, stream, track, next.turn);
         Ok(())
     }
 
     /// The message in part of a stream takes its next index.
+    ///
+    /// # Errors
+    /// `NoMemory`: the draft has its parts as before.
     pub(crate) fn go_on(&self, draft: &mut Draft, stream: u16, rest: &Rest) -> Result<(), NoMemory>
-        requires { stream < self.now.streams }
-        ensures kept { suc rest.now.fragment < 2 ^ 32 → stream < length draft.old.tracks.items
+        requires within { stream < self.now.streams }
+        requires stream { stream < length draft.old.tracks.items }
+        requires sized { IsSized self.now.fragment draft.old }
+        ensures kept { suc rest.now.fragment < 2 ^ 32
             → OnOk result (drafted self.now draft.new
-            ≡ gone_on (drafted self.now draft.old) (rest_meaning self.now.fragment rest.now) stream (suc stream % self.now.streams) (deque_capacity draft.new.outstanding)) }
-        ensures room { OnOk result (self.now.streams + length draft.new.outstanding.items ≤ deque_capacity draft.new.outstanding) }
+            ≡ gone_on (drafted self.now draft.old) (rest_meaning self.now.fragment rest.now) stream (suc stream % self.now.streams) draft.new.outstanding.capacity) }
+        ensures room { OnOk result (self.now.streams + length draft.new.outstanding.items ≤ draft.new.outstanding.capacity) }
         ensures told { OnOk result (draft.new.tickets ≡ draft.old.tickets) }
+        ensures behind { IsBehind draft.old draft.new }
     {
         let left = rest_from(
             &rest.message,
@@ -65,6 +84,10 @@ impl<F: Framing> Sender<F> {
             rest.fragment.wrapping_add(1),
             self.fragment,
         )?;
+        draft.log.reserve(1).map_err(|_| NoMemory)?;
+        draft
+            .outstanding
+            .reserve(usize::from(self.streams).saturating_add(1))?;
         push_fragment(
             &mut draft.outstanding,
             &rest.message,
@@ -72,61 +95,26 @@ impl<F: Framing> Sender<F> {
             rest.fragment,
             Standing::Sent,
         )?;
-        draft
-            .outstanding
-            .reserve(usize::from(self.streams))
-            .map_err(|_| NoMemory)?;
-        leave_on(&mut draft.tracks, stream, left);
-        draft.turn = stream_after(stream, self.streams);
+        let track = leave_on(&mut draft.tracks, stream, left);
+        come_in(draft, 1, stream, track, stream_after(stream, self.streams));
         Ok(())
     }
 }
 
-/// A fragment takes the next index.
-fn push_fragment(
-    outstanding: &mut VecDeque<Outstanding>,
-    message: &Rc<Message>,
-    number: u32,
-    fragment: u32,
-    standing: Standing,
-) -> Result<(), NoMemory>
-    ensures items { (size : ℕ) → OnOk result (map (item_meaning size) outstanding.new.items
-        ≡ map (item_meaning size) outstanding.old.items ++ fragment_item size message.now.value number fragment standing ∷ []) }
+/// So many entries came, and a stream went on otherwise than so: that is noted, and the turn is another's.
+fn come_in(draft: &mut Draft, count: usize, stream: u16, track: Track, turn: u16)
+    requires { vec_len draft.old.log < vec_capacity draft.old.log }
+    ensures draft { draft.new ≡ record draft.old { turn = turn; log = draft.new.log } }
+    ensures log { draft.new.log.items ≡ draft.old.log.items ++ In count stream track draft.old.turn ∷ [] }
 {
-    let entry = Outstanding {
-        message: shared(message)?,
-        number,
-        place: Place::Fragment(fragment),
-        standing,
-        covered: false,
-        given_up: false,
+    let change = Change::In {
+        count,
+        stream,
+        track,
+        turn: draft.turn,
     };
-    outstanding.push_back(entry).map_err(|_| NoMemory)
-}
-
-/// The first fragments of a message take the next indexes; the very first of them goes out.
-fn push_fragments(
-    outstanding: &mut VecDeque<Outstanding>,
-    message: &Rc<Message>,
-    number: u32,
-    count: usize,
-) -> Result<(), NoMemory>
-    requires some { 0 < count }
-    requires few { count < 2 ^ 32 }
-    ensures items { (size : ℕ) → OnOk result (map (item_meaning size) outstanding.new.items
-        ≡ map (item_meaning size) outstanding.old.items ++ begun_items (lane_meaning message.now.value) number (message_meaning size message.now.value) count) }
-{
-    push_fragment(outstanding, message, number, 0, Standing::Sent)?;
-    for fragment in 1..count {
-        push_fragment(
-            outstanding,
-            message,
-            number,
-            fragment as u32,
-            Standing::Unsent,
-        )?;
-    }
-    Ok(())
+    note(&mut draft.log, change);
+    draft.turn = turn;
 }
 
 /// What is left of a message from a fragment on.
@@ -160,47 +148,70 @@ pub fn number_next(track: &Track, unordered: bool) -> u32
     }
 }
 
-/// A message took its number on a stream, and so much of it is left.
-fn count_message(track: &mut Track, unordered: bool, rest: Option<Rest>)
-    ensures { (size : ℕ) → suc (number_in (lane_kind unordered) (track_meaning size track.old)) < 2 ^ 32
-        → track_meaning size track.new ≡ counted_track (lane_kind unordered) (rests_meaning size rest) (track_meaning size track.old) }
+/// A stream on which a message of this kind took its number, and so much of it is left.
+fn counted(track: &Track, unordered: bool, rest: Option<Rest>) -> Track
+    ensures { (size : ℕ) → suc (number_in (lane_kind unordered) (track_meaning size track.now)) < 2 ^ 32
+        → track_meaning size result ≡ counted_track (lane_kind unordered) (rests_meaning size rest) (track_meaning size track.now) }
 {
-    if unordered {
-        track.unordered = track.unordered.wrapping_add(1);
+    let (ordered, more) = if unordered {
+        (track.ordered, track.unordered.wrapping_add(1))
     } else {
-        track.ordered = track.ordered.wrapping_add(1);
+        (track.ordered.wrapping_add(1), track.unordered)
+    };
+    Track {
+        ordered,
+        unordered: more,
+        rest,
     }
-    track.rest = rest;
 }
 
-/// The same at a stream's place.
-fn count_on(tracks: &mut Vec<Track>, stream: u16, unordered: bool, rest: Option<Rest>)
-    ensures { (size : ℕ) → stream < length tracks.old.items → suc (number_in (lane_kind unordered) (track_of (map (track_meaning size) tracks.old.items) stream)) < 2 ^ 32
+/// A message took its number on a stream, and so much of it is left. It answers how the stream was.
+fn count_on(tracks: &mut Streams, stream: u16, unordered: bool, rest: Option<Rest>) -> Track
+    requires { stream < length tracks.old.items }
+    ensures size { tracks.new.size ≡ tracks.old.size }
+    ensures items { (size : ℕ) → suc (number_in (lane_kind unordered) (track_of (map (track_meaning size) tracks.old.items) stream)) < 2 ^ 32
         → map (track_meaning size) tracks.new.items
         ≡ slice_set (map (track_meaning size) tracks.old.items) stream (counted_track (lane_kind unordered) (rests_meaning size rest) (track_of (map (track_meaning size) tracks.old.items) stream)) }
+    ensures before { set tracks.new.items stream result ≡ tracks.old.items }
 {
     let at = usize::from(stream);
-    if at < tracks.len() {
-        count_message(&mut tracks[at], unordered, rest);
-    }
+    let next = counted(&tracks.tracks()[at], unordered, rest);
+    tracks.replace(at, next)
 }
 
-/// So much is left of the message in part of a stream.
-fn leave_on(tracks: &mut Vec<Track>, stream: u16, rest: Option<Rest>)
-    ensures { (size : ℕ) → stream < length tracks.old.items → map (track_meaning size) tracks.new.items
+/// So much is left of the message in part of a stream. It answers how the stream was.
+fn leave_on(tracks: &mut Streams, stream: u16, rest: Option<Rest>) -> Track
+    requires { stream < length tracks.old.items }
+    ensures size { tracks.new.size ≡ tracks.old.size }
+    ensures items { (size : ℕ) → map (track_meaning size) tracks.new.items
         ≡ slice_set (map (track_meaning size) tracks.old.items) stream (left_track (rests_meaning size rest) (track_of (map (track_meaning size) tracks.old.items) stream)) }
+    ensures before { set tracks.new.items stream result ≡ tracks.old.items }
 {
     let at = usize::from(stream);
-    if at < tracks.len() {
-        tracks[at].rest = rest;
-    }
+    let track = &tracks.tracks()[at];
+    let next = Track {
+        ordered: track.ordered,
+        unordered: track.unordered,
+        rest,
+    };
+    tracks.replace(at, next)
 }
 
-/// The message at a place of the queue waits no more.
-fn take_out(queue: &mut VecDeque<Rc<Message>>, place: usize)
-    ensures { (size : ℕ) → place < length queue.old.items → map (queued_by size) queue.new.items ≡ without_place place (map (queued_by size) queue.old.items) }
+/// The message at a place of the queue waits no more; that is noted.
+fn take_out(draft: &mut Draft, place: usize)
+    requires place { place < length draft.old.queue.items }
+    requires room { vec_len draft.old.log < vec_capacity draft.old.log }
+    ensures queue { (size : ℕ) → map (queued_by size) draft.new.queue.items ≡ without_place place (map (queued_by size) draft.old.queue.items) }
+    ensures others { draft.new ≡ record draft.old { queue = draft.new.queue; log = draft.new.log } }
+    ensures origin { origin draft.new ≡ origin draft.old }
+    ensures size { draft.new.queue.size ≡ draft.old.queue.size }
+    ensures capacity { draft.new.queue.capacity ≡ draft.old.queue.capacity }
+    ensures log { vec_len draft.new.log ≡ vec_len draft.old.log + 1 }
+    ensures log_room { vec_capacity draft.new.log ≡ vec_capacity draft.old.log }
 {
-    let _numbered = queue.remove(place);
+    if let Some(message) = draft.queue.remove(place) {
+        note(&mut draft.log, Change::Taken { place, message });
+    }
 }
 
 /// The message with this ticket took its number.

@@ -1,18 +1,22 @@
 //! What goes into a packet (RFC 9260, 6.1 and 6.3.3; RFC 8260, 2.2).
 
-ghost use Rattle.std.specs.Prelude.{◌≡◌, [], IfOk, OnErr, OnOk};
+ghost use Rattle.std.specs.Prelude.{◌≡◌, ◌≤◌, [], length, IfOk, OnErr, OnOk};
 ghost use Rattle.sctp_model.specs.SenderView.{SenderView};
 ghost use Rattle.sctp_send.specs.SenderStands.{StandsFor, Keeps};
 ghost use Rattle.sctp_send.specs.FillAnswers.{FillAnswer, PutSomeOf};
 ghost use Rattle.sctp_send.specs.inner.Drafting.{numbers_of, all_numbered, drafted, AllPut};
+ghost use Rattle.sctp_send.specs.inner.Undoing.{IsSized, IsBehind};
 
-use crate::draft::{Cursors, Draft, copied_entries, copied_queue, copied_tracks};
+use crate::draft::{Draft, take_back};
 use crate::message::{Fate, Ticket};
 use crate::sender::Sender;
-use crate::wishes::flight;
+use crate::streams::Streams;
+use crate::waiting::Waiting;
+use crate::window::Window;
 use sctp_framing::Framing;
 use sctp_packet::PacketWriter;
 use sctp_wire::NoMemory;
+use std::mem;
 
 /// The tickets of messages that took their numbers, by their first TSN.
 #[derive(Debug, Drop)]
@@ -32,31 +36,41 @@ impl<F: Framing> Sender<F> {
         ensures memory { (v : SenderView) → StandsFor F.format self.old v → OnErr result (StandsFor F.format self.new v) }
         ensures some { (v : SenderView) → StandsFor F.format self.old v → OnErr result (PutSomeOf F.format v packet.old packet.new) }
     {
-        let mut draft = self.draft()?;
-        self.put_all(&mut draft, packet)?;
-        Ok(self.take_over(draft))
+        let mut draft = self.draft();
+        match self.put_all(&mut draft, packet) {
+            Ok(()) => Ok(self.take_over(draft)),
+            Err(failed) => {
+                take_back(&mut draft);
+                let _as_before = self.take_over(draft);
+                Err(failed)
+            }
+        }
     }
 
-    /// A draft that keeps what the sender does.
-    fn draft(&self) -> Result<Draft, NoMemory>
-        ensures keeps { (v : SenderView) → StandsFor F.format self.now v → IfOk result (λ draft. Keeps F.format (drafted self.now draft) v) }
-        ensures fresh { IfOk result (λ draft. draft.tickets.items ≡ []) }
+    /// The parts that filling changes, moved out: a draft that keeps what the sender did.
+    fn draft(&mut self) -> Draft
+        ensures same { drafted self.new result ≡ self.old }
+        ensures sized { IsSized self.new.fragment result }
+        ensures fresh { result.tickets.items ≡ [] }
+        ensures unlogged { result.log.items ≡ [] }
+        ensures room { length result.queue.items ≤ result.queue.capacity }
     {
-        let more = usize::from(self.streams);
-        let outstanding = copied_entries(self.alloc, &self.outstanding, more)?;
-        let queue = copied_queue(self.alloc, &self.queue)?;
-        let tracks = copied_tracks(self.alloc, &self.tracks)?;
-        Ok(Draft {
-            outstanding,
-            queue,
-            tracks,
+        let (alloc, size) = (self.alloc, self.fragment);
+        let mut log = mem::replace(&mut self.log, Vec::new(alloc));
+        log.clear();
+        Draft {
+            outstanding: mem::replace(&mut self.outstanding, Window::new(alloc, size)),
+            queue: mem::replace(&mut self.queue, Waiting::new(alloc, size)),
+            tracks: mem::replace(&mut self.tracks, Streams::none(alloc, size)),
             turn: self.turn,
-            tickets: Vec::new(self.alloc),
-        })
+            tickets: Vec::new(alloc),
+            log,
+        }
     }
 
     /// The draft takes the place of the sender's own parts.
     fn take_over(&mut self, draft: Draft) -> Filled
+        requires { IsSized self.old.fragment draft }
         ensures kept { self.new ≡ drafted self.old draft }
         ensures tickets { result.tickets ≡ draft.tickets }
     {
@@ -66,29 +80,29 @@ impl<F: Framing> Sender<F> {
             tracks,
             turn,
             tickets,
+            mut log,
         } = draft;
+        log.clear();
         self.outstanding = outstanding;
         self.queue = queue;
         self.tracks = tracks;
         self.turn = turn;
+        self.log = log;
         number_all(&mut self.fates, &tickets);
         Filled { tickets }
     }
 
     /// Puts one wish after the other, until none may go.
     fn put_all(&self, draft: &mut Draft, packet: &mut PacketWriter) -> Result<(), NoMemory>
-        requires { draft.old.tickets.items ≡ [] }
+        requires fresh { draft.old.tickets.items ≡ [] }
+        requires sized { IsSized self.now.fragment draft.old }
+        ensures behind { IsBehind draft.old draft.new }
         ensures all { (v : SenderView) → Keeps F.format (drafted self.now draft.old) v → OnOk result (AllPut F.format self.now v packet.old packet.new draft.new) }
         ensures some { (v : SenderView) → Keeps F.format (drafted self.now draft.old) v → OnErr result (PutSomeOf F.format v packet.old packet.new) }
     {
-        let mut cursors = Cursors {
-            marked: 0,
-            unsent: 0,
-            flight: flight(&draft.outstanding, self.fragment),
-        };
         // Each chunk takes room.
         for _ in 0..packet.room() {
-            if !self.put_next(draft, &mut cursors, packet)? {
+            if !self.put_next(draft, packet)? {
                 return Ok(());
             }
         }

@@ -16,11 +16,11 @@ use crate::outstanding::Outstanding;
 use crate::readers::given_up_run;
 use crate::sack::tsn_of;
 use crate::sender::Sender;
+use crate::window::Window;
 use sctp_framing::Framing;
 use sctp_packet::PacketWriter;
 use sctp_wire::{Forward, NoMemory, Skip, Skips, put_skip};
 use std::alloc::Global;
-use std::collections::VecDeque;
 
 #[tactic(auto, unfolding(crate::specs::SenderStands::StandsFor))]
 impl<F: Framing> Sender<F> {
@@ -56,7 +56,7 @@ impl<F: Framing> Sender<F> {
 /// What a FORWARD over the first `run` entries lists of the streams below `streams`.
 fn skips_below<F: Framing>(
     alloc: Global,
-    outstanding: &VecDeque<Outstanding>,
+    outstanding: &Window,
     run: u32,
     streams: u16,
 ) -> Result<Vec<u8>, NoMemory>
@@ -75,7 +75,7 @@ fn skips_below<F: Framing>(
 
 /// Puts the largest number of a lane among the first `run` entries, if the lane is numbered and has one there.
 fn put_lane<F: Framing>(
-    outstanding: &VecDeque<Outstanding>,
+    outstanding: &Window,
     run: u32,
     stream: u16,
     unordered: bool,
@@ -105,19 +105,14 @@ fn put_lane<F: Framing>(
 }
 
 /// The largest number of a lane among the first `run` entries.
-fn largest_in(
-    outstanding: &VecDeque<Outstanding>,
-    run: u32,
-    stream: u16,
-    unordered: bool,
-) -> Option<u32>
+fn largest_in(outstanding: &Window, run: u32, stream: u16, unordered: bool) -> Option<u32>
     requires { run ≤ length outstanding.now.items }
     ensures { (size : ℕ) → result
         ≡ largest_in (lane_of stream unordered) None (entries_of (map (item_meaning size) (take run outstanding.now.items))) }
 {
     let mut found = None;
     for at in 0..run {
-        found = larger_with(found, &outstanding[at as usize], stream, unordered);
+        found = larger_with(found, outstanding.get(at as usize), stream, unordered);
     }
     found
 }

@@ -4,6 +4,7 @@
 
 mod abandon;
 mod assigning;
+mod counts;
 mod draft;
 mod entering;
 mod expire;
@@ -12,12 +13,16 @@ mod forward;
 mod message;
 mod outstanding;
 mod pieces;
+mod pushing;
 mod putting;
 mod queue;
 mod readers;
 mod recover;
 mod sack;
 mod sender;
+mod streams;
+mod waiting;
+mod window;
 mod wishes;
 
 pub use abandon::Abandoned;

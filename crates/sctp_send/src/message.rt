@@ -1,5 +1,9 @@
 //! A message as it was handed in, and the name that its user has for it.
 
+ghost use Rattle.std.specs.Prelude.{◌≡◌, ℕ, Some};
+ghost use Rattle.sctp_send.specs.OutstandingFields.{message_meaning};
+ghost use Rattle.sctp_send.specs.inner.Counting.{moment_from};
+
 /// The name of an accepted message: 1 for the first one, and so on.
 #[derive(Clone, Copy, Debug, PartialEq, Eq)]
 pub struct Ticket(pub u32);
@@ -14,6 +18,16 @@ pub struct Message {
     /// The moment from which it is worthless, in milliseconds.
     pub until: Option<u64>,
     pub bytes: Vec<u8>,
+}
+
+/// The moment from which a message is worthless; the last moment, where it has none.
+pub fn moment_of(message: &Message) -> u64
+    ensures { (size : ℕ) → result ≡ moment_from (Some (message_meaning size message.now)) }
+{
+    match message.until {
+        Some(until) => until,
+        None => u64::MAX,
+    }
 }
 
 /// What became of an accepted message.

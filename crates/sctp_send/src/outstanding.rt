@@ -1,15 +1,15 @@
 //! What was assigned and isn't acknowledged cumulatively: an entry for each index, the one of CUM + 1 in front.
 
 ghost use Rattle.std.specs.Prelude.{◌≡◌, ℕ, Bool, true, false, ◌<◌, ◌≤◌, List, length, drop, None};
-ghost use Rattle.std.specs.VecDeque.{deque_capacity};
+ghost use Rattle.sctp_send.specs.WindowKept.{IsSameRoom, changed};
 ghost use Rattle.sctp_model.specs.Acknowledgement.{in_blocks};
-ghost use Rattle.sctp_send.specs.inner.Changes.{unmarked, as_covered, as_uncovered, all_told, or_run, timed, all_timed};
+ghost use Rattle.sctp_send.specs.inner.Changes.{unmarked, told, all_told, or_run, timed, all_timed};
 ghost use Rattle.sctp_send.specs.CoveredRuns.{in_runs, run_behind, runs_behind};
 ghost use Rattle.sctp_send.specs.inner.Acknowledging.{block_fault};
 
 use crate::message::Message;
+use crate::window::Window;
 use sctp_wire::Blocks;
-use std::collections::VecDeque;
 use std::rc::Rc;
 
 /// Whether an entry went out, and whether it is to go out again.
@@ -64,43 +64,50 @@ pub fn unmarked(standing: Standing) -> Standing
     }
 }
 
-/// The peer has an entry: there is nothing to repeat.
-pub fn cover_one(entry: &mut Outstanding)
-    ensures { entry.new ≡ as_covered entry.old }
+/// An entry is told covered, where there is nothing to repeat, or not.
+pub fn tell_one(outstanding: &mut Window, at: usize, covered: bool)
+    requires { at < length outstanding.old.items }
+    ensures { outstanding.new ≡ changed (told covered) at outstanding.old }
 {
-    entry.covered = true;
-    entry.standing = unmarked(entry.standing);
+    let entry = outstanding.get(at);
+    let standing = if covered {
+        unmarked(entry.standing)
+    } else {
+        entry.standing
+    };
+    let given_up = entry.given_up;
+    outstanding.stand(at, standing, covered, given_up);
 }
 
 /// A run of entries is covered: those from the offset `from` up to before the offset `to`.
-fn cover_run(outstanding: &mut VecDeque<Outstanding>, from: usize, to: usize)
+fn cover_run(outstanding: &mut Window, from: usize, to: usize)
     requires order { from ≤ to }
     requires within { to ≤ length outstanding.old.items }
     ensures long { length outstanding.new.items ≡ length outstanding.old.items }
-    ensures capacity { deque_capacity outstanding.new ≡ deque_capacity outstanding.old }
+    ensures kept { IsSameRoom outstanding.old outstanding.new }
     ensures run { (test : ℕ → Bool) (es : List Outstanding)
         → outstanding.old.items ≡ all_told test 1 es → outstanding.new.items ≡ all_told (or_run test from to) 1 es }
 {
     for at in from..to {
-        cover_one(&mut outstanding[at]);
+        tell_one(outstanding, at, true);
     }
 }
 
 /// No entry is covered.
-fn uncover(outstanding: &mut VecDeque<Outstanding>)
+fn uncover(outstanding: &mut Window)
     ensures items { outstanding.new.items ≡ all_told (λ i. false) 1 outstanding.old.items }
-    ensures capacity { deque_capacity outstanding.new ≡ deque_capacity outstanding.old }
+    ensures kept { IsSameRoom outstanding.old outstanding.new }
 {
     for at in 0..outstanding.len() {
-        outstanding[at].covered = false;
+        tell_one(outstanding, at, false);
     }
 }
 
 /// What lies in a block is covered, and nothing else: what an earlier SACK covered counts no more.
-pub fn cover(outstanding: &mut VecDeque<Outstanding>, blocks: &Blocks<'_>)
+pub fn cover(outstanding: &mut Window, blocks: &Blocks<'_>)
     requires { block_fault (length outstanding.old.items) blocks.now ≡ None }
     ensures covered { outstanding.new.items ≡ all_told (in_blocks 0 blocks.now) 1 outstanding.old.items }
-    ensures capacity { deque_capacity outstanding.new ≡ deque_capacity outstanding.old }
+    ensures kept { IsSameRoom outstanding.old outstanding.new }
 {
     uncover(outstanding);
     for block in blocks.iter() {
@@ -113,13 +120,13 @@ pub fn cover(outstanding: &mut VecDeque<Outstanding>, blocks: &Blocks<'_>)
 }
 
 /// The first entries go: so many are acknowledged cumulatively.
-pub fn forget(outstanding: &mut VecDeque<Outstanding>, passed: usize)
+pub fn forget(outstanding: &mut Window, passed: usize)
     requires { passed ≤ length outstanding.old.items }
     ensures items { outstanding.new.items ≡ drop passed outstanding.old.items }
-    ensures capacity { deque_capacity outstanding.new ≡ deque_capacity outstanding.old }
+    ensures kept { IsSameRoom outstanding.old outstanding.new }
 {
     for _ in 0..passed {
-        let _acknowledged = outstanding.pop_front();
+        outstanding.pop_front();
     }
 }
 
@@ -160,21 +167,23 @@ pub fn remember(runs: &mut Vec<Run>, blocks: &Blocks<'_>) -> bool
 }
 
 /// An entry that the peer may still need is marked.
-fn time_one(entry: &mut Outstanding)
-    ensures { entry.new ≡ timed entry.old }
+fn time_one(outstanding: &mut Window, at: usize)
+    requires { at < length outstanding.old.items }
+    ensures { outstanding.new ≡ changed timed at outstanding.old }
 {
+    let entry = outstanding.get(at);
     let needed = !entry.covered && !entry.given_up;
     if needed && entry.standing == Standing::Sent {
-        entry.standing = Standing::Marked;
+        outstanding.stand(at, Standing::Marked, false, false);
     }
 }
 
 /// Each entry that the peer may still need is marked.
-pub fn mark_unsettled(outstanding: &mut VecDeque<Outstanding>)
+pub fn mark_unsettled(outstanding: &mut Window)
     ensures items { outstanding.new.items ≡ all_timed outstanding.old.items }
-    ensures capacity { deque_capacity outstanding.new ≡ deque_capacity outstanding.old }
+    ensures kept { IsSameRoom outstanding.old outstanding.new }
 {
     for at in 0..outstanding.len() {
-        time_one(&mut outstanding[at]);
+        time_one(outstanding, at);
     }
 }

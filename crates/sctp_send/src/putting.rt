@@ -5,19 +5,22 @@ ghost use Rattle.sctp_model.specs.SenderView.{SenderView};
 ghost use Rattle.sctp_model.specs.Serial.{tsn};
 ghost use Rattle.sctp_send.specs.SenderStands.{Keeps};
 ghost use Rattle.sctp_send.specs.FillAnswers.{PutSomeOf};
-ghost use Rattle.sctp_send.specs.inner.Drafting.{drafted, went_out, PutAnswer, NextAnswer, IsTracked, IsFlying, more_flies, IsNextEntry, IsNextUnsent, NothingStands, IsOffered};
+ghost use Rattle.sctp_send.specs.WindowKept.{changed};
+ghost use Rattle.sctp_send.specs.inner.Undoing.{IsSized, IsBehind};
+ghost use Rattle.sctp_send.specs.inner.Drafting.{drafted, went_out, PutAnswer, IsFlying, IsNextEntry, IsNextUnsent, NothingStands, IsOffered};
 ghost use Rattle.sctp_send.specs.inner.Newcomers.{IsBegun, IsContinued};
 
 use crate::assigning::{Beginning, Next, has_window, next_new, rest_of};
-use crate::draft::{Cursors, Draft, shared};
+use crate::draft::{Change, Draft, note, shared};
 use crate::entering::number_next;
 use crate::message::Message;
-use crate::outstanding::{Outstanding, Place, Standing};
+use crate::outstanding::{Place, Standing};
 use crate::pieces::{bytes_of, put_fragment};
 use crate::queue::fragments_of;
 use crate::sack::tsn_of;
 use crate::sender::Sender;
-use crate::wishes::{first_marked, first_unsent, may_flow};
+use crate::window::Window;
+use crate::wishes::may_flow;
 use sctp_framing::Framing;
 use sctp_packet::PacketWriter;
 use sctp_wire::NoMemory;
@@ -28,43 +31,23 @@ impl<F: Framing> Sender<F> {
     pub(crate) fn put_next(
         &self,
         draft: &mut Draft,
-        cursors: &mut Cursors,
         packet: &mut PacketWriter,
     ) -> Result<bool, NoMemory>
-        ensures put { (v : SenderView) → Keeps F.format (drafted self.now draft.old) v → IsTracked v cursors.old
-            → IfOk result (λ put. NextAnswer F.format self.now v packet.old packet.new draft.old draft.new cursors.new put) }
-        ensures some { (v : SenderView) → Keeps F.format (drafted self.now draft.old) v → IsTracked v cursors.old
+        requires { IsSized self.now.fragment draft.old }
+        ensures put { (v : SenderView) → Keeps F.format (drafted self.now draft.old) v
+            → IfOk result (λ put. PutAnswer F.format self.now v packet.old packet.new draft.old draft.new put) }
+        ensures some { (v : SenderView) → Keeps F.format (drafted self.now draft.old) v
             → OnErr result (PutSomeOf F.format v packet.old packet.new) }
+        ensures behind { IsBehind draft.old draft.new }
     {
-        let behind = draft.outstanding.len();
-        if let Some(at) = first_marked(&draft.outstanding, cursors.marked) {
-            cursors.marked = at;
-            let put = self.put_entry(draft, at, packet)?;
-            return Ok(self.counted(draft, cursors, at, put));
+        if let Some(at) = draft.outstanding.first_marked() {
+            return self.put_entry(draft, at, packet);
         }
-        cursors.marked = behind;
-        if let Some(at) = first_unsent(&draft.outstanding, cursors.unsent) {
-            cursors.unsent = at;
-            let put = self.put_unsent(draft, at, cursors.flight, packet)?;
-            return Ok(self.counted(draft, cursors, at, put));
+        let flying = draft.outstanding.flight();
+        if let Some(at) = draft.outstanding.first_unsent() {
+            return self.put_unsent(draft, at, flying, packet);
         }
-        cursors.unsent = behind;
-        let put = self.put_new(draft, cursors.flight, packet)?;
-        Ok(self.counted(draft, cursors, behind, put))
-    }
-
-    /// What went out at this offset, if it did, is in flight from now on.
-    fn counted(&self, draft: &Draft, cursors: &mut Cursors, at: usize, put: bool) -> bool
-        ensures same { result ≡ put }
-        ensures stopped { put ≡ false → cursors.new ≡ cursors.old }
-        ensures put { put ≡ true → at < length draft.now.outstanding.items → cursors.new ≡ more_flies self.now draft.now at cursors.old }
-    {
-        if put && at < draft.outstanding.len() {
-            let entry = &draft.outstanding[at];
-            let bytes = bytes_of(&entry.message, entry.place, self.fragment).len();
-            cursors.flight = cursors.flight.saturating_add(bytes as u64);
-        }
-        put
+        self.put_new(draft, flying, packet)
     }
 
     /// What is to take the next index does, where its fragment may go.
@@ -74,10 +57,12 @@ impl<F: Framing> Sender<F> {
         flying: u64,
         packet: &mut PacketWriter,
     ) -> Result<bool, NoMemory>
+        requires sized { IsSized self.now.fragment draft.old }
         ensures put { (v : SenderView) → Keeps F.format (drafted self.now draft.old) v → NothingStands F.format v → IsFlying self.now draft.old flying
             → IfOk result (λ put. PutAnswer F.format self.now v packet.old packet.new draft.old draft.new put) }
         ensures some { (v : SenderView) → Keeps F.format (drafted self.now draft.old) v → NothingStands F.format v → IsFlying self.now draft.old flying
             → OnErr result (PutSomeOf F.format v packet.old packet.new) }
+        ensures behind { IsBehind draft.old draft.new }
     {
         match next_new::<F>(draft, self.streams, self.fragment) {
             Some(Next::Begins(next)) => self.put_begun(draft, next, flying, packet),
@@ -93,12 +78,15 @@ impl<F: Framing> Sender<F> {
         at: usize,
         packet: &mut PacketWriter,
     ) -> Result<bool, NoMemory>
-        requires { at < length draft.old.outstanding.items }
+        requires sized { IsSized self.now.fragment draft.old }
+        requires within { at < length draft.old.outstanding.items }
         ensures put { (v : SenderView) → Keeps F.format (drafted self.now draft.old) v → IsNextEntry F.format v at
             → IfOk result (λ put. PutAnswer F.format self.now v packet.old packet.new draft.old draft.new put) }
         ensures unchanged { OnErr result (packet.new ≡ packet.old) }
+        ensures behind { IsBehind draft.old draft.new }
     {
-        let entry = &draft.outstanding[at];
+        draft.log.reserve(1).map_err(|_| NoMemory)?;
+        let entry = draft.outstanding.get(at);
         let tsn = self.tsn_at(at);
         let put = put_fragment::<F>(
             &entry.message,
@@ -109,7 +97,9 @@ impl<F: Framing> Sender<F> {
             packet,
         )?;
         if put {
-            send_out(&mut draft.outstanding[at]);
+            let standing = entry.standing;
+            note(&mut draft.log, Change::Out { at, standing });
+            send_out(&mut draft.outstanding, at);
         }
         Ok(put)
     }
@@ -122,12 +112,14 @@ impl<F: Framing> Sender<F> {
         flying: u64,
         packet: &mut PacketWriter,
     ) -> Result<bool, NoMemory>
-        requires { at < length draft.old.outstanding.items }
+        requires sized { IsSized self.now.fragment draft.old }
+        requires within { at < length draft.old.outstanding.items }
         ensures put { (v : SenderView) → Keeps F.format (drafted self.now draft.old) v → IsNextUnsent F.format v at → IsFlying self.now draft.old flying
             → IfOk result (λ put. PutAnswer F.format self.now v packet.old packet.new draft.old draft.new put) }
         ensures unchanged { OnErr result (packet.new ≡ packet.old) }
+        ensures behind { IsBehind draft.old draft.new }
     {
-        let entry = &draft.outstanding[at];
+        let entry = draft.outstanding.get(at);
         let bytes = bytes_of(&entry.message, entry.place, self.fragment).len();
         if !may_flow(flying, bytes, self.rwnd) {
             return Ok(false);
@@ -143,15 +135,17 @@ impl<F: Framing> Sender<F> {
         flying: u64,
         packet: &mut PacketWriter,
     ) -> Result<bool, NoMemory>
+        requires sized { IsSized self.now.fragment draft.old }
         requires place { next.place < length draft.old.queue.items }
         requires some { 0 < next.count }
         ensures put { (v : SenderView) → Keeps F.format (drafted self.now draft.old) v → NothingStands F.format v → IsBegun F.format v next.place next.count next.turn → IsFlying self.now draft.old flying
             → IfOk result (λ put. PutAnswer F.format self.now v packet.old packet.new draft.old draft.new put) }
         ensures some { (v : SenderView) → Keeps F.format (drafted self.now draft.old) v → NothingStands F.format v → IsBegun F.format v next.place next.count next.turn → IsFlying self.now draft.old flying
             → OnErr result (PutSomeOf F.format v packet.old packet.new) }
+        ensures behind { IsBehind draft.old draft.new }
     {
-        let message = shared(&draft.queue[next.place])?;
-        let Some(track) = draft.tracks.get(usize::from(message.stream)) else {
+        let message = shared(draft.queue.get(next.place))?;
+        let Some(track) = draft.tracks.tracks().get(usize::from(message.stream)) else {
             return Ok(false);
         };
         let number = number_next(track, message.unordered);
@@ -174,13 +168,15 @@ impl<F: Framing> Sender<F> {
         flying: u64,
         packet: &mut PacketWriter,
     ) -> Result<bool, NoMemory>
-        requires { stream < self.now.streams }
+        requires sized { IsSized self.now.fragment draft.old }
+        requires within { stream < self.now.streams }
         ensures put { (v : SenderView) → Keeps F.format (drafted self.now draft.old) v → NothingStands F.format v → IsContinued F.format v stream → IsFlying self.now draft.old flying
             → IfOk result (λ put. PutAnswer F.format self.now v packet.old packet.new draft.old draft.new put) }
         ensures some { (v : SenderView) → Keeps F.format (drafted self.now draft.old) v → NothingStands F.format v → IsContinued F.format v stream → IsFlying self.now draft.old flying
             → OnErr result (PutSomeOf F.format v packet.old packet.new) }
+        ensures behind { IsBehind draft.old draft.new }
     {
-        let Some(rest) = rest_of(&draft.tracks, stream)? else {
+        let Some(rest) = rest_of(draft.tracks.tracks(), stream)? else {
             return Ok(false);
         };
         let next = rest.fragment.wrapping_add(1);
@@ -234,8 +230,12 @@ impl<F: Framing> Sender<F> {
 }
 
 /// An entry goes out.
-fn send_out(entry: &mut Outstanding)
-    ensures { entry.new ≡ went_out entry.old }
+fn send_out(outstanding: &mut Window, at: usize)
+    requires { at < length outstanding.old.items }
+    ensures { outstanding.new ≡ changed went_out at outstanding.old }
 {
-    entry.standing = Standing::Sent;
+    let entry = outstanding.get(at);
+    let covered = entry.covered;
+    let given_up = entry.given_up;
+    outstanding.stand(at, Standing::Sent, covered, given_up);
 }

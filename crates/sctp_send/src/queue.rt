@@ -2,19 +2,19 @@
 
 ghost use Rattle.std.specs.Prelude.{◌≡◌, ℕ, ◌<◌, ◌^◌, ◌%◌, ◌+◌, ◌++◌, ◌∷◌, [], map, length, OnOk, OnErr, IfErr};
 ghost use Rattle.sctp_model.specs.SenderView.{SenderView};
-ghost use Rattle.sctp_model.specs.sender.Queueing.{cut, owed_for, owed_by_queue, promised};
-ghost use Rattle.sctp_send.specs.OutstandingFields.{queued_meaning};
+ghost use Rattle.sctp_model.specs.sender.Queueing.{cut, owed_for, promised};
+ghost use Rattle.sctp_send.specs.OutstandingFields.{message_meaning, queued_meaning};
 ghost use Rattle.sctp_send.specs.SenderFields.{track_meaning, queued_by};
 ghost use Rattle.sctp_send.specs.declared.queue.SendFault.TheVariants.{NoMemory};
 ghost use Rattle.sctp_send.specs.SenderStands.{StandsFor};
-ghost use Rattle.sctp_send.specs.inner.Walks.{total, rest_owes};
+ghost use Rattle.sctp_send.specs.inner.Walks.{rest_owes};
 ghost use Rattle.sctp_send.specs.SenderAnswers.{QueueAnswer, queue_after, lane_for};
 
 use crate::message::{Fate, Message, Ticket};
 use crate::sender::{Sender, Track};
+use crate::waiting::Waiting;
 use sctp_framing::Framing;
 use std::alloc::Global;
-use std::collections::VecDeque;
 use std::rc::Rc;
 use thiserror::Error;
 
@@ -118,17 +118,14 @@ impl<F: Framing> Sender<F> {
     {
         u64::from(self.cum)
             .wrapping_add(self.outstanding.len() as u64)
-            .wrapping_add(owed_by_queue(&self.queue, self.fragment))
-            .wrapping_add(owed_by_tracks(&self.tracks, self.fragment))
+            .wrapping_add(self.queue.owed())
+            .wrapping_add(self.tracks.owed())
     }
 }
 
 /// A message waits behind the others.
-fn wait_behind(
-    queue: &mut VecDeque<Rc<Message>>,
-    alloc: Global,
-    message: Message,
-) -> Result<(), SendFault>
+fn wait_behind(queue: &mut Waiting, alloc: Global, message: Message) -> Result<(), SendFault>
+    ensures size { queue.new.size ≡ queue.old.size }
     ensures waits { (size : ℕ) → OnOk result (map (queued_by size) queue.new.items ≡ map (queued_by size) queue.old.items ++ queued_meaning size message ∷ []) }
     ensures unchanged { OnErr result (queue.new.items ≡ queue.old.items) }
     ensures memory { IfErr result (λ fault. fault ≡ NoMemory) }
@@ -137,7 +134,7 @@ fn wait_behind(
         Ok(message) => message,
         Err(_) => return Err(SendFault::NoMemory),
     };
-    match queue.push_back(message) {
+    match queue.push(message) {
         Ok(()) => Ok(()),
         Err(_) => Err(SendFault::NoMemory),
     }
@@ -162,33 +159,16 @@ fn owed(count: usize) -> u64
     }
 }
 
-/// What the messages that wait owe.
-fn owed_by_queue(queue: &VecDeque<Rc<Message>>, size: u16) -> u64
+/// What a message that waits owes.
+pub fn owed_by_message(message: &Message, size: u16) -> u64
     requires { 0 < size }
-    ensures { result ≡ owed_by_queue (map (queued_by size) queue.now.items) % 2 ^ 64 }
+    ensures { result ≡ owed_for (length (message_meaning size message.now).fragments) % 2 ^ 64 }
 {
-    let mut total = 0u64;
-    for at in 0..queue.len() {
-        let message = &queue[at];
-        total = total.wrapping_add(owed(fragments_of(size, &message.bytes)));
-    }
-    total
-}
-
-/// What the messages in part owe.
-fn owed_by_tracks(tracks: &[Track], size: u16) -> u64
-    requires { 0 < size }
-    ensures { result ≡ total (λ t. rest_owes t.rest) (map (track_meaning size) tracks.now) % 2 ^ 64 }
-{
-    let mut total = 0u64;
-    for track in tracks {
-        total = total.wrapping_add(owed_by_track(track, size));
-    }
-    total
+    owed(fragments_of(size, &message.bytes))
 }
 
 /// What the message in part of a stream owes.
-fn owed_by_track(track: &Track, size: u16) -> u64
+pub fn owed_by_track(track: &Track, size: u16) -> u64
     requires { 0 < size }
     ensures { result ≡ rest_owes (track_meaning size track.now).rest % 2 ^ 64 }
 {

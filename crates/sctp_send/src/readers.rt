@@ -9,10 +9,10 @@ ghost use Rattle.sctp_send.specs.SenderStands.{StandsFor};
 ghost use Rattle.sctp_send.specs.inner.Walks.{total, one_if_rest, given_up_items, any_unsettled, is_item_unsettled, is_given_up_fate, is_numbered_fate, any_uncovered, is_item_uncovered, any_rest, rest_has};
 
 use crate::message::{Fate, Ticket};
-use crate::outstanding::{Outstanding, Standing};
+use crate::outstanding::Outstanding;
 use crate::sender::{Sender, Track};
+use crate::window::Window;
 use sctp_framing::Framing;
-use std::collections::VecDeque;
 
 #[tactic(auto, unfolding(crate::specs::SenderStands::StandsFor))]
 impl<F: Framing> Sender<F> {
@@ -34,7 +34,7 @@ impl<F: Framing> Sender<F> {
     pub fn unsettled(&self) -> bool
         ensures { (v : SenderView) → StandsFor F.format self.now v → result ≡ unsettled v }
     {
-        if some_unsettled(&self.outstanding) {
+        if self.outstanding.is_unsettled() {
             return true;
         }
         given_up_run(&self.outstanding) > 0
@@ -44,7 +44,7 @@ impl<F: Framing> Sender<F> {
     pub fn outstanding(&self) -> u32
         ensures { (v : SenderView) → StandsFor F.format self.now v → result ≡ outstanding v }
     {
-        count_of(&self.outstanding).wrapping_add(in_part(&self.tracks))
+        count_of(&self.outstanding).wrapping_add(self.tracks.in_part())
     }
 
     /// Whether nothing waits, nothing is in part, and all that has an index is acknowledged (RFC 9260, 9.2).
@@ -54,7 +54,7 @@ impl<F: Framing> Sender<F> {
         if self.queue.len() > 0 {
             return false;
         }
-        if in_part(&self.tracks) > 0 {
+        if self.tracks.in_part() > 0 {
             return false;
         }
         self.outstanding.len() == 0
@@ -76,7 +76,7 @@ impl<F: Framing> Sender<F> {
         if !is_numbered(fate) {
             return false;
         }
-        is_all_covered(&self.tracks, &self.outstanding, ticket.0)
+        is_all_covered(self.tracks.tracks(), &self.outstanding, ticket.0)
     }
 
     /// Whether the message with this ticket has a number and was abandoned.
@@ -116,7 +116,7 @@ fn is_numbered(fate: Fate) -> bool
 }
 
 /// All of the message with this ticket is assigned and covered.
-pub fn is_all_covered(tracks: &[Track], outstanding: &VecDeque<Outstanding>, ticket: u32) -> bool
+pub fn is_all_covered(tracks: &[Track], outstanding: &Window, ticket: u32) -> bool
     ensures { (size : ℕ) → result
         ≡ (not (any_rest ticket (map (track_meaning size) tracks.now)) && not (any_uncovered ticket (map (item_meaning size) outstanding.now.items))) }
 {
@@ -124,11 +124,11 @@ pub fn is_all_covered(tracks: &[Track], outstanding: &VecDeque<Outstanding>, tic
 }
 
 /// Some entry of the message with this ticket is not covered.
-fn some_uncovered(outstanding: &VecDeque<Outstanding>, ticket: u32) -> bool
+fn some_uncovered(outstanding: &Window, ticket: u32) -> bool
     ensures { (size : ℕ) → result ≡ any_uncovered ticket (map (item_meaning size) outstanding.now.items) }
 {
     for at in 0..outstanding.len() {
-        let entry = &outstanding[at];
+        let entry = outstanding.get(at);
         if is_uncovered(entry, ticket) {
             return true;
         }
@@ -166,64 +166,23 @@ pub fn goes_on(track: &Track, ticket: u32) -> bool
 }
 
 /// How many entries there are.
-fn count_of(outstanding: &VecDeque<Outstanding>) -> u32
+fn count_of(outstanding: &Window) -> u32
     ensures { result ≡ length outstanding.now.items % 2 ^ 32 }
 {
     (outstanding.len() % 0x1_0000_0000) as u32
 }
 
 /// How many of the first entries are of abandoned messages.
-pub fn given_up_run(outstanding: &VecDeque<Outstanding>) -> u32
+pub fn given_up_run(outstanding: &Window) -> u32
     ensures { (size : ℕ) → result ≡ given_up_items (map (item_meaning size) outstanding.now.items) % 2 ^ 32 }
 {
     let mut run = 0u32;
     for at in 0..outstanding.len() {
-        let entry = &outstanding[at];
+        let entry = outstanding.get(at);
         if !entry.given_up {
             return run;
         }
         run = run.wrapping_add(1);
     }
     run
-}
-
-/// Some entry went out, and is neither covered nor abandoned.
-fn some_unsettled(outstanding: &VecDeque<Outstanding>) -> bool
-    ensures { (size : ℕ) → result ≡ any_unsettled (map (item_meaning size) outstanding.now.items) }
-{
-    for at in 0..outstanding.len() {
-        let entry = &outstanding[at];
-        if is_unsettled(entry) {
-            return true;
-        }
-    }
-    false
-}
-
-/// An entry went out, and is neither covered nor abandoned.
-fn is_unsettled(entry: &Outstanding) -> bool
-    ensures { (size : ℕ) → result ≡ is_item_unsettled (item_meaning size entry.now) }
-{
-    entry.standing != Standing::Unsent && !entry.covered && !entry.given_up
-}
-
-/// How many messages are in part.
-pub fn in_part(tracks: &[Track]) -> u32
-    ensures { (size : ℕ) → result ≡ total (λ t. one_if_rest t.rest) (map (track_meaning size) tracks.now) % 2 ^ 32 }
-{
-    let mut count = 0u32;
-    for track in tracks {
-        count = count.wrapping_add(one_if_in_part(track));
-    }
-    count
-}
-
-/// One where a stream has a message in part.
-fn one_if_in_part(track: &Track) -> u32
-    ensures { (size : ℕ) → result ≡ one_if_rest (track_meaning size track.now).rest }
-{
-    match &track.rest {
-        Some(_) => 1,
-        None => 0,
-    }
 }

@@ -1,22 +1,22 @@
 //! What a SACK changes of what is covered: it is told by whole runs, so that what stays covered or uncovered costs nothing (RFC 9260, 6.2.1).
 
 ghost use Rattle.std.specs.Prelude.{◌≡◌, ℕ, ◌<◌, ◌≤◌, true, false, suc, min, List, length, None, MatchOption};
-ghost use Rattle.std.specs.VecDeque.{deque_capacity};
+ghost use Rattle.sctp_send.specs.WindowKept.{IsSameRoom};
 ghost use Rattle.sctp_model.specs.Acknowledgement.{in_blocks};
 ghost use Rattle.sctp_send.specs.CoveredRuns.{in_runs};
 ghost use Rattle.sctp_send.specs.inner.Acknowledging.{block_fault};
 ghost use Rattle.sctp_send.specs.inner.Changes.{told, all_told, told_where, is_between, in_gaps, in_alone, IsExact};
 
-use crate::outstanding::{Outstanding, Run, cover, cover_one, remember};
+use crate::outstanding::{Run, cover, remember, tell_one};
+use crate::window::Window;
 use sctp_wire::Blocks;
-use std::collections::VecDeque;
 use std::mem;
 
 /// What lies in a block is covered, and nothing else; the runs are those of the blocks then. False where there are too many to keep.
 ///
 /// It costs the blocks, the runs, and the entries that change; where the runs weren't known, all entries.
 pub fn take_blocks(
-    outstanding: &mut VecDeque<Outstanding>,
+    outstanding: &mut Window,
     covered: &mut Vec<Run>,
     spare: &mut Vec<Run>,
     is_known: bool,
@@ -25,7 +25,7 @@ pub fn take_blocks(
     requires { block_fault (length outstanding.old.items) blocks.now ≡ None }
     ensures told { IsExact is_known covered.old.items outstanding.old.items → outstanding.new.items ≡ all_told (in_blocks 0 blocks.now) 1 outstanding.old.items }
     ensures runs { result ≡ true → (i : ℕ) → 0 < i → in_runs covered.new.items i ≡ in_blocks 0 blocks.now i }
-    ensures capacity { deque_capacity outstanding.new ≡ deque_capacity outstanding.old }
+    ensures kept { IsSameRoom outstanding.old outstanding.new }
 {
     let fits = remember(spare, blocks);
     retell(outstanding, covered, spare, is_known && fits, blocks);
@@ -34,17 +34,11 @@ pub fn take_blocks(
 }
 
 /// What lies in a block is covered, and nothing else: by what changes, where both the old runs and the new ones are known.
-fn retell(
-    outstanding: &mut VecDeque<Outstanding>,
-    old: &[Run],
-    new: &[Run],
-    are_known: bool,
-    blocks: &Blocks<'_>,
-)
+fn retell(outstanding: &mut Window, old: &[Run], new: &[Run], are_known: bool, blocks: &Blocks<'_>)
     requires { block_fault (length outstanding.old.items) blocks.now ≡ None }
     ensures told { IsExact are_known old.now outstanding.old.items → (are_known ≡ true → (i : ℕ) → 0 < i → in_runs new.now i ≡ in_blocks 0 blocks.now i)
         → outstanding.new.items ≡ all_told (in_blocks 0 blocks.now) 1 outstanding.old.items }
-    ensures capacity { deque_capacity outstanding.new ≡ deque_capacity outstanding.old }
+    ensures kept { IsSameRoom outstanding.old outstanding.new }
 {
     if are_known {
         recover(outstanding, old, new);
@@ -54,18 +48,18 @@ fn retell(
 }
 
 /// What lay in the old runs lies in the new ones: entries in one alone are told so.
-fn recover(outstanding: &mut VecDeque<Outstanding>, old: &[Run], new: &[Run])
+fn recover(outstanding: &mut Window, old: &[Run], new: &[Run])
     ensures covered { IsExact true old.now outstanding.old.items → outstanding.new.items ≡ all_told (in_runs new.now) 1 outstanding.old.items }
-    ensures capacity { deque_capacity outstanding.new ≡ deque_capacity outstanding.old }
+    ensures kept { IsSameRoom outstanding.old outstanding.new }
 {
     tell_alone(outstanding, new, old, true);
     tell_alone(outstanding, old, new, false);
 }
 
 /// Entries in some run, and in none of the others, are told covered, or not.
-fn tell_alone(outstanding: &mut VecDeque<Outstanding>, runs: &[Run], others: &[Run], covered: bool)
+fn tell_alone(outstanding: &mut Window, runs: &[Run], others: &[Run], covered: bool)
     ensures items { outstanding.new.items ≡ told_where covered (in_alone runs.now others.now) 1 outstanding.old.items }
-    ensures capacity { deque_capacity outstanding.new ≡ deque_capacity outstanding.old }
+    ensures kept { IsSameRoom outstanding.old outstanding.new }
 {
     let last = outstanding.len();
     for run in runs {
@@ -74,16 +68,10 @@ fn tell_alone(outstanding: &mut VecDeque<Outstanding>, runs: &[Run], others: &[R
 }
 
 /// Entries behind `from`, up to `to`, that lie in none of the runs are told covered, or not.
-fn tell_gaps(
-    outstanding: &mut VecDeque<Outstanding>,
-    runs: &[Run],
-    covered: bool,
-    from: usize,
-    to: usize,
-)
+fn tell_gaps(outstanding: &mut Window, runs: &[Run], covered: bool, from: usize, to: usize)
     requires { to ≤ length outstanding.old.items }
     ensures items { outstanding.new.items ≡ told_where covered (in_gaps runs.now from to) 1 outstanding.old.items }
-    ensures capacity { deque_capacity outstanding.new ≡ deque_capacity outstanding.old }
+    ensures kept { IsSameRoom outstanding.old outstanding.new }
 {
     let mut at = from;
     // Each step ends a run or a gap.
@@ -96,20 +84,14 @@ fn tell_gaps(
 }
 
 /// Entries behind `at` are told covered, or not, as far as no run holds them; where one does, they stay. It answers how far that goes.
-fn tell_edge(
-    outstanding: &mut VecDeque<Outstanding>,
-    runs: &[Run],
-    covered: bool,
-    at: usize,
-    to: usize,
-) -> usize
+fn tell_edge(outstanding: &mut Window, runs: &[Run], covered: bool, at: usize, to: usize) -> usize
     requires some { at < to }
     requires within { to ≤ length outstanding.old.items }
     ensures further { at < result }
     ensures gaps { (from : ℕ) (es : List Outstanding) → from ≤ at → outstanding.old.items ≡ told_where covered (in_gaps runs.now from (min at to)) 1 es
         → outstanding.new.items ≡ told_where covered (in_gaps runs.now from (min result to)) 1 es }
     ensures long { length outstanding.new.items ≡ length outstanding.old.items }
-    ensures capacity { deque_capacity outstanding.new ≡ deque_capacity outstanding.old }
+    ensures kept { IsSameRoom outstanding.old outstanding.new }
 {
     match end_of_run(runs, at) {
         Some(end) => end,
@@ -122,25 +104,14 @@ fn tell_edge(
 }
 
 /// Entries behind `from`, up to `to`, are told covered, or not.
-fn tell_run(outstanding: &mut VecDeque<Outstanding>, covered: bool, from: usize, to: usize)
+fn tell_run(outstanding: &mut Window, covered: bool, from: usize, to: usize)
     requires order { from ≤ to }
     requires within { to ≤ length outstanding.old.items }
     ensures items { outstanding.new.items ≡ told_where covered (is_between from to) 1 outstanding.old.items }
-    ensures capacity { deque_capacity outstanding.new ≡ deque_capacity outstanding.old }
+    ensures kept { IsSameRoom outstanding.old outstanding.new }
 {
     for at in from..to {
-        tell_one(&mut outstanding[at], covered);
-    }
-}
-
-/// An entry is told covered, or not.
-fn tell_one(entry: &mut Outstanding, covered: bool)
-    ensures { entry.new ≡ told covered entry.old }
-{
-    if covered {
-        cover_one(entry);
-    } else {
-        entry.covered = false;
+        tell_one(outstanding, at, covered);
     }
 }
 

@@ -1,16 +1,19 @@
 //! The sender of one end: its parts, and what it tells of itself.
 
 ghost use Rattle.std.specs.Prelude.{◌≡◌, ℕ, ◌<◌, ◌≤◌};
-ghost use Rattle.std.specs.Prelude.{IfOk, replicate};
+ghost use Rattle.std.specs.Prelude.{IfOk};
 ghost use Rattle.sctp_model.specs.SenderView.{SenderView, fresh_sender};
 ghost use Rattle.sctp_send.specs.SenderStands.{StandsFor};
 
+use crate::draft::Change;
 use crate::message::{Fate, Message};
-use crate::outstanding::{Outstanding, RUNS, Run};
+use crate::outstanding::{RUNS, Run};
+use crate::streams::Streams;
+use crate::waiting::Waiting;
+use crate::window::Window;
 use sctp_framing::Framing;
 use sctp_wire::NoMemory;
 use std::alloc::Global;
-use std::collections::VecDeque;
 use std::marker::{Model, PhantomData};
 use std::rc::Rc;
 
@@ -45,9 +48,9 @@ pub struct Sender<F: Framing> {
     // the stream from which the next turn is looked for
     pub(crate) turn: u16,
     // by offset from CUM + 1
-    pub(crate) outstanding: VecDeque<Outstanding>,
-    pub(crate) queue: VecDeque<Rc<Message>>,
-    pub(crate) tracks: Vec<Track>,
+    pub(crate) outstanding: Window,
+    pub(crate) queue: Waiting,
+    pub(crate) tracks: Streams,
     // by ticket, from 1 on
     pub(crate) fates: Vec<Fate>,
     // what the last SACK covers above CUM, unless it had too many blocks
@@ -55,12 +58,13 @@ pub struct Sender<F: Framing> {
     pub(crate) is_known: bool,
     // the place of the next SACK's runs
     pub(crate) spare: Vec<Run>,
+    // the place of the next fill's changes
+    pub(crate) log: Vec<Change>,
     pub(crate) format: PhantomData<F>,
 }
 
 impl<F: Framing> Model for Sender<F> {
     ghost use Rattle.std.specs.Prelude.{map};
-    ghost use Rattle.std.specs.VecDeque.{deque_capacity};
     ghost use Rattle.sctp_model.specs.sender.Words.{when};
     ghost use Rattle.sctp_send.specs.SenderKept.{Kept};
 
@@ -82,10 +86,10 @@ impl<F: Framing> Model for Sender<F> {
       tracks = map (track_meaning s.fragment) s.tracks.items;
       fates = s.fates.items;
       runs = when s.is_known s.covered.items;
-      capacity = deque_capacity s.outstanding;
+      capacity = s.outstanding.capacity;
     } };
 
-    ghost invariant = { λ s. IsConfigured s.streams s.fragment };
+    ghost invariant = { λ s. IsConfigured s.streams s.fragment s.outstanding.size s.queue.size s.tracks.size };
 }
 
 #[tactic(auto, unfolding(crate::specs::SenderStands::StandsFor))]
@@ -108,7 +112,7 @@ impl<F: Framing> Sender<F> {
         requires short { fragment ≤ 1400 }
         ensures { IfOk result (λ sender. StandsFor F.format sender (fresh_sender initial_tsn streams fragment peer_rwnd partial)) }
     {
-        let tracks = fresh_tracks(alloc, streams)?;
+        let tracks = Streams::new(alloc, streams, fragment)?;
         let mut covered = Vec::new(alloc);
         covered.reserve(RUNS).map_err(|_| NoMemory)?;
         let mut spare = Vec::new(alloc);
@@ -122,31 +126,15 @@ impl<F: Framing> Sender<F> {
             cum: 0,
             rwnd: peer_rwnd,
             turn: 0,
-            outstanding: VecDeque::new(alloc),
-            queue: VecDeque::new(alloc),
+            outstanding: Window::new(alloc, fragment),
+            queue: Waiting::new(alloc, fragment),
             tracks,
             fates: Vec::new(alloc),
             covered,
             is_known: true,
             spare,
+            log: Vec::new(alloc),
             format: PhantomData,
         })
     }
-}
-
-/// Streams that have no message with a number.
-fn fresh_tracks(alloc: Global, streams: u16) -> Result<Vec<Track>, NoMemory>
-    ensures { IfOk result (λ tracks. tracks.items ≡ replicate streams (record { ordered = 0; unordered = 0; rest = None })) }
-{
-    let mut tracks = Vec::new(alloc);
-    for _ in 0..streams {
-        tracks
-            .push(Track {
-                ordered: 0,
-                unordered: 0,
-                rest: None,
-            })
-            .map_err(|_| NoMemory)?;
-    }
-    Ok(tracks)
 }

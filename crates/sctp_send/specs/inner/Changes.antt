@@ -12,6 +12,10 @@ unmarked Unsent = Unsent
 unmarked Sent = Sent
 unmarked Marked = Sent
 
+-- an entry with this standing, covered or not, given up or not
+abbrev pub stood : Standing → (covered given_up : Bool) → Outstanding → Outstanding
+stood s c g e = record e { standing = s; covered = c; given_up = g }
+
 -- ---- covered or not (RFC 9260, 6.2.1)
 
 -- the peer has it: there is nothing to repeat

@@ -1,6 +1,5 @@
 -- What a draft of a sender keeps, and what each wish makes of it and of the packet.
 use Rattle.std.specs.Prelude.{◌≡◌, ℕ, suc, nat_lt, ◌-◌, ◌<◌, Bool, true, false, List, [], ◌∷◌, ◌++◌, ◌+◌, ◌&&◌, ◌^◌, ◌≤◌, min, map, length, slice_get, slice_set, Option, None, Some, option_map}
-use Rattle.std.specs.VecDeque.{deque_capacity}
 use Rattle.sctp_model.specs.Format.{Format, Kind}
 use Rattle.sctp_model.specs.Plan.{Part}
 use Rattle.sctp_model.specs.sender.Words.{when}
@@ -23,7 +22,6 @@ use Rattle.sctp_send.specs.inner.Newcomers.{counted_in, IsBegun, IsContinued, Is
 use Rattle.sctp_send.specs.declared.assigning.Next.{Next}
 use Rattle.sctp_send.specs.declared.assigning.Next.TheVariants.{Begins, Continues}
 use Rattle.sctp_send.specs.declared.draft.Draft.{Draft}
-use Rattle.sctp_send.specs.declared.draft.Cursors.{Cursors}
 use Rattle.sctp_send.specs.declared.message.Fate.{Fate}
 use Rattle.sctp_send.specs.declared.message.Fate.TheVariants.{Numbered}
 use Rattle.sctp_send.specs.declared.message.Ticket.{Ticket}
@@ -53,7 +51,7 @@ drafted s d = record s {
   queue = map (queued_by s.fragment) d.queue.items;
   tracks = map (track_meaning s.fragment) d.tracks.items;
   fates = all_numbered s.fates (numbers_of d.tickets.items);
-  capacity = deque_capacity d.outstanding;
+  capacity = d.outstanding.capacity;
 }
 
 -- ---- one wish
@@ -101,7 +99,8 @@ pub record IsPut (f : Format) (s : Kept) (v : SenderView) (before after : Packet
 pub record IsStopped (f : Format) (s : Kept) (v : SenderView) (before after : PacketDraft) (old new : Draft) : Type 0 where
   pub none : goes f (room_in before) v ≡ None
   pub packet : after ≡ before
-  pub draft : new ≡ old
+  pub kept : drafted s new ≡ drafted s old
+  pub tickets : new.tickets ≡ old.tickets
 
 -- one of the two
 abbrev pub PutAnswer : Format → Kept → SenderView → (before after : PacketDraft) → (old new : Draft) → (put : Bool) → Type 0
@@ -128,37 +127,11 @@ pub record IsOffered (f : Format) (s : Kept) (d : Draft) (before after : PacketD
       && has_room before (fragment_chunk f s.fragment s.initial (suc (s.cum + length d.outstanding.items)) m number (Fragment fragment)))
   pub packet : after ≡ after_try before (fragment_chunk f s.fragment s.initial (suc (s.cum + length d.outstanding.items)) m number (Fragment fragment)) put
 
--- ---- how far a fill came
+-- ---- what is in flight, and all of FILL
 
--- the data of an entry, where there is one
-abbrev pub bytes_at : (size : ℕ) → Option Outstanding → List ℕ
-bytes_at size None = []
-bytes_at size (Some e) = item_bytes (item_meaning size e)
-
--- so many bytes are in flight, or more than the largest number
+-- so many bytes are in flight
 abbrev pub IsFlying : Kept → Draft → ℕ → Type 0
-IsFlying s d flying = flying ≡ min (item_flight (map (item_meaning s.fragment) d.outstanding.items)) (2 ^ 64 - 1)
-
--- Nothing before the cursors is to go out, and the bytes in flight are counted.
-pub record IsTracked (v : SenderView) (c : Cursors) : Type 0 where
-  pub marked : (k : ℕ) → k < c.marked → v.marked (suc (v.cum + k)) ≡ false
-  pub unsent : (k : ℕ) → k < c.unsent → passes_at v.plan (is_unsent v) (suc (v.cum + k)) ≡ false
-  pub within : c.unsent + v.cum ≤ length v.plan.entries
-  pub flight : c.flight ≡ min (in_flight v) (2 ^ 64 - 1)
-
--- the data at an offset is in flight, too
-abbrev pub more_flies : Kept → Draft → (at : ℕ) → Cursors → Cursors
-more_flies s d at c = record c { flight = min (c.flight + length (bytes_at s.fragment (slice_get d.outstanding.items at))) (2 ^ 64 - 1) }
-
--- The next wish went, and the cursors follow.
-pub record IsPutOn (f : Format) (s : Kept) (v : SenderView) (before after : PacketDraft) (old new : Draft) (c : Cursors) : Type 0 where
-  pub put : IsPut f s v before after old new
-  pub tracked : IsTracked (gone put.wish) c
-
--- or none may go
-abbrev pub NextAnswer : Format → Kept → SenderView → (before after : PacketDraft) → (old new : Draft) → Cursors → (put : Bool) → Type 0
-NextAnswer f s v before after old new c true = IsPutOn f s v before after old new c
-NextAnswer f s v before after old new c false = IsStopped f s v before after old new
+IsFlying s d flying = flying ≡ item_flight (map (item_meaning s.fragment) d.outstanding.items)
 
 -- All of FILL is in the packet, and the draft keeps what it leaves.
 pub record AllPut (f : Format) (s : Kept) (v : SenderView) (before after : PacketDraft) (d : Draft) : Type 0 where

@@ -1,5 +1,5 @@
 -- Messages past their time, among those that a sender keeps.
-use Rattle.std.specs.Prelude.{ℕ, nat_lt, ◌&&◌, min, List, [], ◌∷◌, ◌++◌, map, Option, None, Some, option_and_then}
+use Rattle.std.specs.Prelude.{ℕ, nat_lt, ◌&&◌, min, if◌then◌else◌, List, [], ◌∷◌, ◌++◌, map, Option, None, Some, option_and_then}
 use Rattle.sctp_model.specs.Plan.{Message}
 use Rattle.sctp_model.specs.SenderView.{Queued}
 use Rattle.sctp_model.specs.sender.Words.{when}
@@ -12,9 +12,13 @@ use Rattle.sctp_send.specs.SenderKept.{Item, Track, Kept}
 abbrev pub queue_messages : List Queued → List (Option Message)
 queue_messages qs = map (λ q. Some q.message) qs
 
--- those with an entry above CUM
+-- the message of an entry above CUM, unless it was given up
+abbrev pub item_message : Item → Option Message
+item_message x = if x.given_up then None else x.message
+
+-- those of all entries
 abbrev pub item_messages : List Item → List (Option Message)
-item_messages xs = map (λ x. x.message) xs
+item_messages xs = map item_message xs
 
 -- the one in part of a stream
 abbrev pub rest_message : Track → Option Message
@@ -24,9 +28,9 @@ rest_message t = option_and_then (λ r. r.message) t.rest
 abbrev pub rest_messages : List Track → List (Option Message)
 rest_messages ts = map rest_message ts
 
--- all of them
+-- all that may be abandoned: messages with a number may where the sender is partially reliable (RFC 3758, 3.5)
 abbrev pub kept_messages : Kept → List (Option Message)
-kept_messages s = queue_messages s.queue ++ (item_messages s.items ++ rest_messages s.tracks)
+kept_messages s = queue_messages s.queue ++ (if s.partial then item_messages s.items ++ rest_messages s.tracks else [])
 
 -- ---- the lowest ticket of those past their time
 

@@ -1,8 +1,0 @@
-use Rattle.std.proofs.Common.{◌≡◌, ℕ, None, map, take, drop}
-use Rattle.sctp_send.specs.OutstandingFields.{item_meaning}
-use Rattle.sctp_send.specs.inner.Wishing.{first_place, is_item_unsent}
-use Rattle.sctp_send.proofs.PlaceLemmas.{further}
-use Rattle.sctp_send.proofs.wishes.first_unsent.Given as goal
-
-abbrev pub invariant-loop-at : goal.invariant-loop-at
-invariant-loop-at l = (size : ℕ) → first_place is_item_unsent (take l.from (map (item_meaning size) l.outstanding.items)) ≡ None → first_place is_item_unsent (map (item_meaning size) l.outstanding.items) ≡ further l.at (first_place is_item_unsent (drop l.at (map (item_meaning size) l.outstanding.items)))

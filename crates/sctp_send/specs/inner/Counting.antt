@@ -1,0 +1,92 @@
+-- What is counted of entries, of messages that wait, and of streams.
+use Rattle.std.specs.Prelude.{◌≡◌, ℕ, ◌+◌, ◌-◌, ◌%◌, ◌^◌, ◌<◌, ◌≤◌, min, Bool, if◌then◌else◌, List, [], ◌∷◌, map, take, length, Option, None, Some, unwrap_or}
+use Rattle.std.specs.declared.rc.Rc.{Rc}
+use Rattle.std.specs.declared.alloc.Global.{Global}
+use Rattle.sctp_model.specs.Plan.{Message}
+use Rattle.sctp_model.specs.sender.Queueing.{owed_by_queue}
+use Rattle.sctp_send.specs.SenderKept.{Item, Track}
+use Rattle.sctp_send.specs.OutstandingFields.{item_meaning}
+use Rattle.sctp_send.specs.SenderFields.{queued_by, track_meaning}
+use Rattle.sctp_send.specs.inner.Wishing.{first_place, is_item_marked, is_item_unsent, item_weight, item_flight}
+use Rattle.sctp_send.specs.inner.Walks.{total, one_if_rest, rest_owes, is_item_unsettled}
+use Rattle.sctp_send.specs.inner.Newcomers.{one_if}
+use Rattle.sctp_send.specs.inner.Expiring.{item_message, rest_message, queue_messages, item_messages, rest_messages}
+use Rattle.sctp_send.specs.declared.counts.Counts.{Counts}
+use Rattle.sctp_send.specs.declared.message.Message.{Message as MessageFields}
+use Rattle.sctp_send.specs.declared.outstanding.Outstanding.{Outstanding}
+use Rattle.sctp_send.specs.declared.sender.Track.{Track as TrackFields}
+
+-- ---- moments
+
+-- the last moment
+abbrev pub LAST_MOMENT : ℕ
+LAST_MOMENT = 2 ^ 64 - 1
+
+-- the moment from which a message is worthless, or the last one
+abbrev pub moment_from : Option Message → ℕ
+moment_from None = LAST_MOMENT
+moment_from (Some m) = unwrap_or m.until LAST_MOMENT
+
+-- that of an entry's message, unless it was given up
+abbrev pub moment : Item → ℕ
+moment x = moment_from (item_message x)
+
+-- none of these messages is worthless before a moment
+abbrev pub AreWorth : (earliest : ℕ) → List (Option Message) → Type 0
+AreWorth earliest [] = Unit {0}
+AreWorth earliest (m ∷ ms) = (earliest ≤ moment_from m) × AreWorth earliest ms
+
+-- ---- entries
+
+-- how many of the items went out, and are neither covered nor given up
+abbrev pub count_unsettled : List Item → ℕ
+count_unsettled [] = 0
+count_unsettled (x ∷ xs) = one_if (is_item_unsettled x) + count_unsettled xs
+
+-- one item more is counted
+abbrev pub entered : Item → Counts → Counts
+entered x c = record c {
+  flight = (c.flight + item_weight x) % 2 ^ 64;
+  unsettled = (c.unsettled + one_if (is_item_unsettled x)) % 2 ^ 64;
+  earliest = min c.earliest (moment x);
+}
+
+-- an item is counted no more
+abbrev pub left : Item → Counts → Counts
+left x c = record c {
+  flight = (c.flight + (2 ^ 64 - item_weight x)) % 2 ^ 64;
+  unsettled = (c.unsettled + (2 ^ 64 - one_if (is_item_unsettled x))) % 2 ^ 64;
+}
+
+-- an item at an offset may have to go out
+abbrev pub lowered : (at : ℕ) → Item → Counts → Counts
+lowered at x c = record c {
+  marked = if is_item_marked x then min c.marked at else c.marked;
+  unsent = if is_item_unsent x then min c.unsent at else c.unsent;
+}
+
+-- The counts are those of the entries: before two offsets nothing is to go out; the sums are modulo 2^64.
+pub record IsCounted (size : ℕ) (es : List Outstanding) (c : Counts) : Type 0 where
+  pub some : 0 < size
+  pub marked : first_place is_item_marked (take c.marked (map (item_meaning size) es)) ≡ None
+  pub marked_within : c.marked ≤ length es
+  pub unsent : first_place is_item_unsent (take c.unsent (map (item_meaning size) es)) ≡ None
+  pub unsent_within : c.unsent ≤ length es
+  pub flight : c.flight ≡ item_flight (map (item_meaning size) es) % 2 ^ 64
+  pub unsettled : c.unsettled ≡ count_unsettled (map (item_meaning size) es) % 2 ^ 64
+  pub earliest : AreWorth c.earliest (item_messages (map (item_meaning size) es))
+
+-- ---- messages that wait, and streams
+
+-- what the messages that wait may take, and when the first of them is worthless
+pub record IsOwedOf (size : ℕ) (ms : List (Rc MessageFields Global)) (sum first : ℕ) : Type 0 where
+  pub some : 0 < size
+  pub owed : sum ≡ owed_by_queue (map (queued_by size) ms) % 2 ^ 64
+  pub earliest : AreWorth first (queue_messages (map (queued_by size) ms))
+
+-- how many messages are in part, what they may take, and when the first of them is worthless
+pub record IsCountedOf (size : ℕ) (ts : List TrackFields) (many sum first : ℕ) : Type 0 where
+  pub some : 0 < size
+  pub parts : many ≡ total (λ t. one_if_rest t.rest) (map (track_meaning size) ts) % 2 ^ 32
+  pub owed : sum ≡ total (λ t. rest_owes t.rest) (map (track_meaning size) ts) % 2 ^ 64
+  pub earliest : AreWorth first (rest_messages (map (track_meaning size) ts))

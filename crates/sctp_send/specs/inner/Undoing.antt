@@ -1,0 +1,65 @@
+-- What a fill changed, and how it is taken back.
+use Rattle.std.specs.Prelude.{◌≡◌, ℕ, ◌-◌, ◌≤◌, nat_le, if◌then◌else◌, List, [], ◌∷◌, length, take, set, insert}
+use Rattle.std.specs.declared.rc.Rc.{Rc}
+use Rattle.std.specs.declared.alloc.Global.{Global}
+use Rattle.sctp_send.specs.WindowKept.{at_place}
+use Rattle.sctp_send.specs.declared.draft.Change.{Change}
+use Rattle.sctp_send.specs.declared.draft.Change.TheVariants.{Out, Taken, In}
+use Rattle.sctp_send.specs.declared.draft.Draft.{Draft}
+use Rattle.sctp_send.specs.declared.message.Message.{Message}
+use Rattle.sctp_send.specs.declared.outstanding.Outstanding.{Outstanding}
+use Rattle.sctp_send.specs.declared.outstanding.Standing.{Standing}
+use Rattle.sctp_send.specs.declared.sender.Track.{Track}
+
+-- what a fill may change
+pub record Parts : Type 0 where
+  pub items : List Outstanding
+  pub queue : List (Rc Message Global)
+  pub tracks : List Track
+  pub turn : ℕ
+
+-- the parts of a draft
+abbrev pub parts_of : Draft → Parts
+parts_of d = record { items = d.outstanding.items; queue = d.queue.items; tracks = d.tracks.items; turn = d.turn }
+
+-- an entry with this standing
+abbrev pub stands_so : Standing → Outstanding → Outstanding
+stands_so s e = record e { standing = s }
+
+-- a message waits again at its place, where there is such a place
+abbrev pub waits_again : (place : ℕ) → Rc Message Global → List (Rc Message Global) → List (Rc Message Global)
+waits_again place m ms = if nat_le place (length ms) then insert ms place m else ms
+
+-- the parts before a change
+abbrev pub undone : Change → Parts → Parts
+undone (Out at standing) p = record p { items = at_place (stands_so standing) at p.items }
+undone (Taken place m) p = record p { queue = waits_again place m p.queue }
+undone (In count stream track turn) p = record p { items = take (length p.items - count) p.items; tracks = set p.tracks stream track; turn = turn }
+
+-- the parts before all of these changes, of which the last is undone first
+abbrev pub before_all : List Change → Parts → Parts
+before_all [] p = p
+before_all (c ∷ cs) p = undone c (before_all cs p)
+
+-- what the parts of a draft were before all that is noted
+abbrev pub origin : Draft → Parts
+origin d = before_all d.log.items (parts_of d)
+
+-- all parts have fragments of the same size
+pub record IsSized (size : ℕ) (d : Draft) : Type 0 where
+  pub window : d.outstanding.size ≡ size
+  pub queue : d.queue.size ≡ size
+  pub tracks : d.tracks.size ≡ size
+
+-- the sizes stay, and no room is lost
+pub record IsKeptRoom (old new : Draft) : Type 0 where
+  pub window : new.outstanding.size ≡ old.outstanding.size
+  pub queue : new.queue.size ≡ old.queue.size
+  pub tracks : new.tracks.size ≡ old.tracks.size
+  pub entries : old.outstanding.capacity ≤ new.outstanding.capacity
+  pub messages : old.queue.capacity ≤ new.queue.capacity
+
+-- A draft goes on from another: taking back what is noted leads to the same parts.
+pub record IsBehind (old new : Draft) : Type 0 where
+  pub origin : origin new ≡ origin old
+  pub room : IsKeptRoom old new

@@ -1,0 +1,81 @@
+//! What is counted of the entries above CUM: each count follows an entry that comes, goes or changes.
+
+ghost use Rattle.std.specs.Prelude.{◌≡◌, ℕ, ◌<◌, min};
+ghost use Rattle.sctp_send.specs.OutstandingFields.{item_meaning};
+ghost use Rattle.sctp_send.specs.inner.Counting.{entered, left, lowered, moment};
+
+use crate::message::moment_of;
+use crate::outstanding::Outstanding;
+use crate::wishes::{is_first_sending, is_repeat, is_unsettled, weight};
+
+/// Counts of entries, by their offsets above CUM. Sums are modulo 2^64.
+#[derive(Clone, Copy, Debug)]
+pub struct Counts {
+    /// Before this offset nothing waits to be repeated.
+    pub marked: usize,
+    /// Before this offset nothing is to go out for the first time.
+    pub unsent: usize,
+    /// The bytes in flight.
+    pub flight: u64,
+    /// How many entries went out, and are neither covered nor given up.
+    pub unsettled: u64,
+    /// Before this moment no message is past its time, of entries that are not given up.
+    pub earliest: u64,
+}
+
+impl Counts {
+    /// Those of no entry.
+    pub fn none() -> Counts
+        ensures { result ≡ record { marked = 0; unsent = 0; flight = 0; unsettled = 0; earliest = 0xffff_ffff_ffff_ffff } }
+    {
+        Counts {
+            marked: 0,
+            unsent: 0,
+            flight: 0,
+            unsettled: 0,
+            earliest: u64::MAX,
+        }
+    }
+
+    /// One entry more counts.
+    pub fn enter(&mut self, entry: &Outstanding, size: u16)
+        requires { 0 < size }
+        ensures { self.new ≡ entered (item_meaning size entry.now) self.old }
+    {
+        self.flight = self.flight.wrapping_add(weight(entry, size));
+        self.unsettled = self.unsettled.wrapping_add(u64::from(is_unsettled(entry)));
+        self.earliest = self.earliest.min(moment(entry));
+    }
+
+    /// An entry counts no more.
+    pub fn leave(&mut self, entry: &Outstanding, size: u16)
+        requires { 0 < size }
+        ensures { self.new ≡ left (item_meaning size entry.now) self.old }
+    {
+        self.flight = self.flight.wrapping_sub(weight(entry, size));
+        self.unsettled = self.unsettled.wrapping_sub(u64::from(is_unsettled(entry)));
+    }
+
+    /// What stands at an offset may have to go out.
+    pub fn lower(&mut self, at: usize, entry: &Outstanding)
+        ensures { (size : ℕ) → self.new ≡ lowered at (item_meaning size entry.now) self.old }
+    {
+        if is_repeat(entry) {
+            self.marked = self.marked.min(at);
+        }
+        if is_first_sending(entry) {
+            self.unsent = self.unsent.min(at);
+        }
+    }
+}
+
+/// The moment from which the message of an entry is worthless, if it has one and the entry is not given up; else the last moment.
+pub fn moment(entry: &Outstanding) -> u64
+    ensures { (size : ℕ) → result ≡ moment (item_meaning size entry.now) }
+{
+    if entry.given_up {
+        u64::MAX
+    } else {
+        moment_of(&entry.message)
+    }
+}
