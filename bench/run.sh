@@ -66,6 +66,7 @@ sender() {
         # shellcheck disable=SC2086
         each "a message of one byte filled, none acknowledged ($range)" $range 1 "$built" window
     done
+    each 'a SACK of 64 blocks over 32,767 outstanding, each block one index further on' 10 60 1 "$built" sacks
     # the window holds 32,767, and one more waits
     "$built" window 32768
 }
