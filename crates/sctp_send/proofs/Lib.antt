@@ -1,3 +1,4 @@
+pub mod PlacedLemmas
 pub mod TableLemmas
 pub mod ItemLemmas
 pub mod CoverLemmas
