@@ -1,14 +1,15 @@
 -- Messages past their time: the lowest ticket among those kept, and one ticket after the other.
 use Rattle.std.proofs.Common.{◌≡◌, ℕ, zero, suc, ◌+◌, ◌<◌, ◌≤◌, ◌⊎◌, inl, inr, min, List, [], ◌∷◌, ◌++◌, length, map, drop, Bool, true, false, Option, Some, None, refl, sym, ap, ◌∙◌, arith, get_or}
-use Rattle.std.specs.Prelude.{◌==◌, ◌&&◌, ◌||◌, nat_lt}
+use Rattle.std.specs.Prelude.{◌==◌, ◌&&◌, ◌||◌, nat_lt, nat_le, unwrap_or}
 use Rattle.std.specs.List.{list_any}
 use Rattle.std.proofs.lemmas.Bool.{and_parts}
 use Rattle.std.proofs.lemmas.Bool.Decides.{nat_tests}
 use Rattle.sctp_model.specs.Plan.{Message}
-use Rattle.sctp_model.specs.sender.Words.{when}
+use Rattle.sctp_model.specs.sender.Words.{when, some_passes}
 use Rattle.sctp_model.specs.sender.Abandoning.{is_past}
 use Rattle.sctp_model.proofs.sender.ExpiredLaws.{is_late}
 use Rattle.sctp_send.specs.inner.Expiring.{late_after, sooner, soonest}
+use Rattle.sctp_send.specs.inner.Counting.{LAST_MOMENT, moment_from, AreWorth}
 
 -- a message with this ticket is past its time
 abbrev pub any_late : ℕ → ℕ → List (Option Message) → Bool
@@ -33,6 +34,33 @@ pub late_walked : {A B : Type 0} (g : A → B) (f : B → Option Message) (now l
 late_walked g f now last start found next xs at x lt read is before =
     let one : at + 1 ≡ suc at = omega arith in
     before ∙ late_step g f now last found xs at x lt ∙ ap (λ y. soonest now last (sooner found (late_after now last (f (g y)))) (drop (suc at) (map f (map g xs)))) (sym read) ∙ rw (← is, one) refl
+
+-- ---- where nothing is worthless yet
+
+-- a message that isn't worthless before a later moment gives no ticket
+not_late : (now last earliest : ℕ) (m : Option Message) → now < earliest → earliest ≤ moment_from m → late_after now last m ≡ None
+not_late now last earliest None lt worth = refl
+not_late now last earliest (Some x) lt worth = by_until x.until worth
+  where
+    never : (b : Bool) → when (b && false) x.ticket ≡ None
+    never true = refl
+    never false = refl
+
+    by_until : (o : Option ℕ) → earliest ≤ unwrap_or o LAST_MOMENT → when (nat_lt last x.ticket && some_passes (λ until. nat_le until now) o) x.ticket ≡ None
+    by_until None le = never (nat_lt last x.ticket)
+    by_until (Some until) le = let off : nat_le until now ≡ false = grind (arith, nat_tests) in rw off (never (nat_lt last x.ticket))
+
+unfound : (found : Option ℕ) → sooner found None ≡ found
+unfound None = refl
+unfound (Some t) = refl
+
+-- before the first moment at which one of them is worthless, no message need be looked at
+pub none_sooner : (now last earliest : ℕ) (found : Option ℕ) (ms : List (Option Message)) → now < earliest → AreWorth earliest ms → soonest now last found ms ≡ found
+none_sooner now last earliest found [] lt worth = refl
+none_sooner now last earliest found (m ∷ ms) lt worth =
+    ap (λ (o : Option ℕ). soonest now last (sooner found o) ms) (not_late now last earliest m lt worth.0)
+    ∙ ap (λ (o : Option ℕ). soonest now last o ms) (unfound found)
+    ∙ none_sooner now last earliest found ms lt worth.1
 
 -- ---- the lowest
 

@@ -23,6 +23,7 @@ pub mod WishLemmas
 pub mod NewItems
 pub mod AssignLemmas
 pub mod ExpireLemmas
+pub mod WorthLemmas
 pub mod ExpireKept
 pub mod GoingOnLemmas
 pub mod PlaceLemmas
