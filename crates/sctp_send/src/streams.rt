@@ -3,7 +3,8 @@
 ghost use Rattle.std.specs.Prelude.{◌≡◌, ℕ, ◌+◌, ◌<◌, ◌≤◌, ◌%◌, ◌^◌, map, length, set, replicate, slice_index_or, IfOk};
 ghost use Rattle.sctp_send.specs.SenderFields.{track_meaning};
 ghost use Rattle.sctp_send.specs.inner.Walks.{total, one_if_rest, rest_owes};
-ghost use Rattle.sctp_send.specs.inner.Expiring.{soonest, rest_messages};
+ghost use Rattle.sctp_send.specs.inner.Expiring.{soonest, rest_message, rest_messages};
+ghost use Rattle.sctp_send.specs.inner.Counting.{moment_from};
 
 use crate::expire::sooner_rest;
 use crate::message::moment_of;
@@ -168,7 +169,7 @@ fn one_if_in_part(track: &Track) -> u32
 
 /// The moment from which the message in part of a stream is worthless; the last moment, where there is none.
 fn moment_of_track(track: &Track) -> u64
-    ensures { (size : ℕ) → result ≡ moment_in (track_meaning size track.now) }
+    ensures { (size : ℕ) → result ≡ moment_from (rest_message (track_meaning size track.now)) }
 {
     match &track.rest {
         Some(rest) => moment_of(&rest.message),
