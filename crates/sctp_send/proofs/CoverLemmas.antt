@@ -7,6 +7,7 @@ use Rattle.sctp_model.specs.Acknowledgement.{in_blocks}
 use Rattle.sctp_model.specs.sender.Words.{when, first_there}
 use Rattle.sctp_model.specs.sender.SackTaken as taken
 use Rattle.sctp_model.specs.sender.SackTaken.{some_is_bad, some_ends_past}
+use Rattle.sctp_send.specs.WindowKept.{at_place}
 use Rattle.sctp_send.specs.SenderKept.{Item}
 use Rattle.sctp_send.specs.OutstandingFields.{item_meaning}
 use Rattle.sctp_send.specs.inner.Changes.{unmarked, as_covered, as_uncovered, told, all_told, or_run}
@@ -41,16 +42,16 @@ cover_told true e = rw (unmarked_twice e.standing) refl
 cover_told false e = refl
 
 -- one index more is covered
-cover_next : (test other : ℕ → Bool) (es : List Outstanding) (i n : ℕ) (d : Outstanding) → n < length es → other (i + n) ≡ true → ((j : ℕ) → i ≤ j → (j ≡ i + n → ⊥) → other j ≡ test j)
-    → set (all_told test i es) n (as_covered (get_or (all_told test i es) n d)) ≡ all_told other i es
-cover_next test other [] i n d lt on same = absurd (omega arith)
-cover_next test other (e ∷ es) i zero d lt on same =
+cover_next : (test other : ℕ → Bool) (es : List Outstanding) (i n : ℕ) → n < length es → other (i + n) ≡ true → ((j : ℕ) → i ≤ j → (j ≡ i + n → ⊥) → other j ≡ test j)
+    → at_place as_covered n (all_told test i es) ≡ all_told other i es
+cover_next test other [] i n lt on same = absurd (omega arith)
+cover_next test other (e ∷ es) i zero lt on same =
     let here : i + 0 ≡ i = omega arith in
     let first : other i ≡ true = rw here at on in
     rw (cover_told (test i) e, first, told_same test other es (suc i) (λ j le. sym (same j (omega arith) (λ is. omega arith)))) refl
-cover_next test other (e ∷ es) i (suc n) d lt on same =
+cover_next test other (e ∷ es) i (suc n) lt on same =
     let next : suc i + n ≡ i + suc n = omega arith in
-    let rest = cover_next test other es (suc i) n d (omega arith) (ap other next ∙ on) (λ j le ne. same j (omega arith) (λ is. ne (is ∙ sym next))) in
+    let rest = cover_next test other es (suc i) n (omega arith) (ap other next ∙ on) (λ j le ne. same j (omega arith) (λ is. ne (is ∙ sym next))) in
     rw (same i (omega arith) (λ is. omega arith)) (ap (λ (xs : List Outstanding). told (test i) e ∷ xs) rest)
 
 -- uncovering first changes nothing of what is told then
@@ -83,15 +84,12 @@ off_run from to i out = by_test (nat_lt from i) (nat_le i to) refl refl
     by_test true false lo hi = refl
     by_test true true lo hi = absurd (out (grind (arith, nat_tests)) (grind (arith, nat_tests)))
 
-pub run_grows : (test : ℕ → Bool) (from at : ℕ) (es now : List Outstanding) (x : Outstanding) → from ≤ at → at < length now → x ≡ get_or now at x
-    → now ≡ all_told (or_run test from at) 1 es → set now at (as_covered x) ≡ all_told (or_run test from (at + 1)) 1 es
-run_grows test from at es now x le lt read is =
+pub run_grows : (test : ℕ → Bool) (from at : ℕ) (es now : List Outstanding) → from ≤ at → at < length now → now ≡ all_told (or_run test from at) 1 es → at_place as_covered at now ≡ all_told (or_run test from (at + 1)) 1 es
+run_grows test from at es now le lt is =
     let long : at < length es = rw (is, count_told (or_run test from at) es 1) at lt in
-    let value : x ≡ get_or (all_told (or_run test from at) 1 es) at x = read ∙ ap (λ (ys : List Outstanding). get_or ys at x) is in
     let here : or_run test from (at + 1) (1 + at) ≡ true = rw (in_run from (at + 1) (1 + at) (omega arith) (omega arith)) (or_sure (test (1 + at))) in
     let others : (j : ℕ) → 1 ≤ j → (j ≡ 1 + at → ⊥) → or_run test from (at + 1) j ≡ or_run test from at j = λ j lo ne. ap (λ (b : Bool). test j || b) (same_run j ne) in
-    let grown = cover_next (or_run test from at) (or_run test from (at + 1)) es 1 at x long here others in
-    ap (λ (ys : List Outstanding). set ys at (as_covered x)) is ∙ ap (λ (y : Outstanding). set (all_told (or_run test from at) 1 es) at (as_covered y)) value ∙ grown
+    ap (at_place as_covered at) is ∙ cover_next (or_run test from at) (or_run test from (at + 1)) es 1 at long here others
   where
     same_run : (j : ℕ) → (j ≡ 1 + at → ⊥) → (nat_lt from j && nat_le j (at + 1)) ≡ (nat_lt from j && nat_le j at)
     same_run j ne = ap (λ (b : Bool). nat_lt from j && b) (by_test (nat_le j at) refl)

@@ -1,6 +1,7 @@
 -- From entries to items: what is marked, changed one by one, or read, as clauses see it.
 use Rattle.std.proofs.Common.{◌≡◌, ℕ, zero, suc, ◌+◌, ◌<◌, ◌≤◌, List, [], ◌∷◌, length, get_or, set, map, Bool, true, false, refl, sym, ap, ◌∙◌, arith}
 use Rattle.std.specs.Prelude.{not, ◌&&◌, ◌||◌}
+use Rattle.sctp_send.specs.WindowKept.{at_place}
 use Rattle.sctp_send.specs.SenderKept.{Item}
 use Rattle.sctp_send.specs.OutstandingFields.{was_sent, is_marked, item_meaning}
 use Rattle.sctp_send.specs.inner.Changes.{marked_if, timed, all_timed}
@@ -44,16 +45,11 @@ length-first_changed g zero es = refl
 length-first_changed g (suc n) [] = refl
 length-first_changed g (suc n) (e ∷ es) = ap suc (length-first_changed g n es)
 
-get_or-first_changed : (g : Outstanding → Outstanding) (n : ℕ) (es : List Outstanding) (d : Outstanding) → get_or (first_changed g n es) n d ≡ get_or es n d
-get_or-first_changed g zero es d = refl
-get_or-first_changed g (suc n) [] d = refl
-get_or-first_changed g (suc n) (e ∷ es) d = get_or-first_changed g n es d
-
-first_changed-more : (g : Outstanding → Outstanding) (n : ℕ) (es : List Outstanding) (d : Outstanding) → n < length es
-    → first_changed g (suc n) es ≡ set (first_changed g n es) n (g (get_or es n d))
-first_changed-more g n [] d lt = absurd (omega arith)
-first_changed-more g zero (e ∷ es) d lt = refl
-first_changed-more g (suc n) (e ∷ es) d lt = ap (λ (xs : List Outstanding). g e ∷ xs) (first_changed-more g n es d (omega arith))
+first_changed-more : (g : Outstanding → Outstanding) (n : ℕ) (es : List Outstanding) → at_place g n (first_changed g n es) ≡ first_changed g (suc n) es
+first_changed-more g zero [] = refl
+first_changed-more g (suc n) [] = refl
+first_changed-more g zero (e ∷ es) = refl
+first_changed-more g (suc n) (e ∷ es) = ap (λ (xs : List Outstanding). g e ∷ xs) (first_changed-more g n es)
 
 pub first_changed-all : (g : Outstanding → Outstanding) (n : ℕ) (es : List Outstanding) → length es ≤ n → first_changed g n es ≡ map g es
 first_changed-all g zero [] le = refl
@@ -62,14 +58,8 @@ first_changed-all g (suc n) [] le = refl
 first_changed-all g (suc n) (e ∷ es) le = ap (λ (xs : List Outstanding). g e ∷ xs) (first_changed-all g n es (omega arith))
 
 -- one entry more is changed
-pub change_step : (g : Outstanding → Outstanding) (at : ℕ) (first now : List Outstanding) (x : Outstanding) → at < length now → x ≡ get_or now at x
-    → now ≡ first_changed g at first → set now at (g x) ≡ first_changed g (at + 1) first
-change_step g at first now x lt read is =
-    let long : at < length first = rw (is, length-first_changed g at first) at lt in
-    let same : x ≡ get_or first at x = read ∙ ap (λ (xs : List Outstanding). get_or xs at x) is ∙ get_or-first_changed g at first x in
-    let one : at + 1 ≡ suc at = omega arith in
-    let more = first_changed-more g at first x long in
-    rw (one, more, ← same, ← is) refl
+pub change_step : (g : Outstanding → Outstanding) (at : ℕ) (first now : List Outstanding) → now ≡ first_changed g at first → at_place g at now ≡ first_changed g (at + 1) first
+change_step g at first now is = let one : at + 1 ≡ suc at = omega arith in rw (one, is) (first_changed-more g at first)
 
 pub change_long : (g : Outstanding → Outstanding) (at : ℕ) (first now : List Outstanding) → now ≡ first_changed g at first → length now ≡ length first
 change_long g at first now is = rw is (length-first_changed g at first)

@@ -1,5 +1,6 @@
 pub mod PlacedLemmas
 pub mod TableLemmas
+pub mod StoodLemmas
 pub mod ItemLemmas
 pub mod CoverLemmas
 pub mod RunLemmas

@@ -2,6 +2,7 @@
 use Rattle.std.proofs.Common.{◌≡◌, ℕ, zero, suc, ◌+◌, ◌<◌, ◌≤◌, List, [], ◌∷◌, length, get_or, set, Bool, true, false, refl, sym, ap, ◌∙◌, arith}
 use Rattle.std.specs.Prelude.{nat_lt, nat_le, ◌&&◌, ◌||◌, if◌then◌else◌}
 use Rattle.std.proofs.lemmas.Bool.Decides.{nat_tests}
+use Rattle.sctp_send.specs.WindowKept.{at_place}
 use Rattle.sctp_send.specs.inner.Changes.{unmarked, told, told_where, is_between}
 use Rattle.sctp_send.specs.declared.outstanding.Standing.{Standing}
 use Rattle.sctp_send.specs.declared.outstanding.Standing.TheVariants.{Unsent, Sent, Marked}
@@ -45,18 +46,18 @@ where_joined b test other i (e ∷ es) = by_tests (test i) (other i) (where_join
     by_tests false false rest = ap (λ (xs : List Outstanding). e ∷ xs) rest
 
 -- one index more
-where_next : (b : Bool) (test other : ℕ → Bool) (es : List Outstanding) (i n : ℕ) (d : Outstanding) → n < length es → test (i + n) ≡ false → other (i + n) ≡ true → ((j : ℕ) → i ≤ j → (j ≡ i + n → ⊥) → other j ≡ test j)
-    → set (told_where b test i es) n (told b (get_or (told_where b test i es) n d)) ≡ told_where b other i es
-where_next b test other [] i n d lt off on same = absurd (omega arith)
-where_next b test other (e ∷ es) i zero d lt off on same =
+where_next : (b : Bool) (test other : ℕ → Bool) (es : List Outstanding) (i n : ℕ) → n < length es → test (i + n) ≡ false → other (i + n) ≡ true → ((j : ℕ) → i ≤ j → (j ≡ i + n → ⊥) → other j ≡ test j)
+    → at_place (told b) n (told_where b test i es) ≡ told_where b other i es
+where_next b test other [] i n lt off on same = absurd (omega arith)
+where_next b test other (e ∷ es) i zero lt off on same =
     let here : i + 0 ≡ i = omega arith in
     let was : test i ≡ false = rw here at off in
     let now : other i ≡ true = rw here at on in
     let rest = where_same b test other (suc i) es (λ j lo hi. sym (same j (omega arith) (λ is. omega arith))) in
     rw (was, now) (ap (λ (xs : List Outstanding). told b e ∷ xs) rest)
-where_next b test other (e ∷ es) i (suc n) d lt off on same =
+where_next b test other (e ∷ es) i (suc n) lt off on same =
     let next : suc i + n ≡ i + suc n = omega arith in
-    let rest = where_next b test other es (suc i) n d (omega arith) (ap test next ∙ off) (ap other next ∙ on) (λ j le ne. same j (omega arith) (λ is. ne (is ∙ sym next))) in
+    let rest = where_next b test other es (suc i) n (omega arith) (ap test next ∙ off) (ap other next ∙ on) (λ j le ne. same j (omega arith) (λ is. ne (is ∙ sym next))) in
     rw (same i (omega arith) (λ is. omega arith)) (ap (λ (xs : List Outstanding). (if test i then told b e else e) ∷ xs) rest)
 
 -- ---- a run
@@ -88,10 +89,8 @@ run_starts b from es = sym (where_none b (is_between from from) 1 es (λ j lo. b
     by_test j true le = between_low from from j (grind (arith, nat_tests))
     by_test j false gt = between_high from from j (grind (arith, nat_tests))
 
-pub run_step : (b : Bool) (from at : ℕ) (es now : List Outstanding) (x : Outstanding) → from ≤ at → at < length now → x ≡ get_or now at x → now ≡ told_where b (is_between from at) 1 es
-    → set now at (told b x) ≡ told_where b (is_between from (at + 1)) 1 es
-run_step b from at es now x le lt read is =
+pub run_step : (b : Bool) (from at : ℕ) (es now : List Outstanding) → from ≤ at → at < length now → now ≡ told_where b (is_between from at) 1 es → at_place (told b) at now ≡ told_where b (is_between from (at + 1)) 1 es
+run_step b from at es now le lt is =
     let long : at < length es = rw (is, length-told_where b (is_between from at) 1 es) at lt in
-    let value : x ≡ get_or (told_where b (is_between from at) 1 es) at x = read ∙ ap (λ (ys : List Outstanding). get_or ys at x) is in
-    let grown = where_next b (is_between from at) (is_between from (at + 1)) es 1 at x long (between_high from at (1 + at) (omega arith)) (between_on from (at + 1) (1 + at) (omega arith) (omega arith)) (λ j lo ne. between_other from at j ne) in
-    ap (λ (ys : List Outstanding). set ys at (told b x)) is ∙ ap (λ (y : Outstanding). set (told_where b (is_between from at) 1 es) at (told b y)) value ∙ grown
+    let grown = where_next b (is_between from at) (is_between from (at + 1)) es 1 at long (between_high from at (1 + at) (omega arith)) (between_on from (at + 1) (1 + at) (omega arith) (omega arith)) (λ j lo ne. between_other from at j ne) in
+    ap (at_place (told b) at) is ∙ grown

@@ -20,7 +20,7 @@ loop-block-init c =
       ordered = rw all good.1;
       inside = rw (all, count) good.0;
       count = refl;
-      capacity = refl;
+      room = record { size = refl; capacity = refl };
       test = λ i. false;
       told = plain ∙ sym (told_again (λ i. false) before 1) ∙ ap (all_told (λ i. false) 1) (sym plain);
       rest = λ i. rw all refl;
@@ -42,7 +42,7 @@ loop-block-preserved c =
       ordered = next.ordered;
       inside = next.inside;
       count = c.cover_run.ensures.long ∙ so_far.count;
-      capacity = c.cover_run.ensures.capacity ∙ so_far.capacity;
+      room = record { size = c.cover_run.ensures.kept.size ∙ so_far.room.size; capacity = c.cover_run.ensures.kept.capacity ∙ so_far.room.capacity };
       test = or_run so_far.test (b.start - 1) b.end;
       told = rw (c.from.ensures, c.from-in-loop-block.ensures) at run;
       rest = λ i.
@@ -59,3 +59,8 @@ returns-clause-covered c =
     let same : (i : ℕ) → done.test i ≡ in_blocks 0 c.args.blocks.now i = λ i. let all : (done.test i || false) ≡ in_blocks 0 c.args.blocks.now i = rw none at (done.rest i) in sym (or_nothing (done.test i)) ∙ all in
     done.told ∙ told_same done.test (in_blocks 0 c.args.blocks.now) c.uncover.new.outstanding.items 1 (λ j le. same j)
     ∙ ap (all_told (in_blocks 0 c.args.blocks.now) 1) c.uncover.ensures.items ∙ told_again (in_blocks 0 c.args.blocks.now) before 1
+
+pub returns-clause-kept : goal.returns-clause-kept
+returns-clause-kept c =
+    let done = c.loop-block.invariant.room in
+    record { size = done.size ∙ c.uncover.ensures.kept.size; capacity = done.capacity ∙ c.uncover.ensures.kept.capacity }

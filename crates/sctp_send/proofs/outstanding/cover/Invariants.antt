@@ -1,8 +1,9 @@
-use Rattle.std.proofs.Common.{◌≡◌, ℕ, Bool, false, length, deque_capacity}
+use Rattle.std.proofs.Common.{◌≡◌, ℕ, Bool, false, length}
 use Rattle.std.specs.Prelude.{◌||◌}
 use Rattle.sctp_model.specs.Acknowledgement.{in_blocks}
 use Rattle.sctp_model.specs.sender.SackTaken.{some_is_bad, some_ends_past}
 use Rattle.sctp_send.specs.inner.Changes.{all_told}
+use Rattle.sctp_send.specs.WindowKept.{IsSameRoom}
 use Rattle.sctp_send.proofs.outstanding.cover.Given as goal
 
 -- what the blocks so far cover, and what is asked of those still to come
@@ -12,7 +13,7 @@ invariant-loop-block l = record {
   ordered : some_is_bad last l.block-iterator ≡ false;
   inside : some_ends_past (length l.initial.outstanding.items) 0 l.block-iterator ≡ false;
   count : length l.outstanding.items ≡ length l.initial.outstanding.items;
-  capacity : deque_capacity l.outstanding ≡ deque_capacity l.initial.outstanding;
+  room : IsSameRoom l.initial.outstanding l.outstanding;
   test : ℕ → Bool;
   told : l.outstanding.items ≡ all_told test 1 l.initial.outstanding.items;
   rest : (i : ℕ) → (test i || in_blocks 0 l.block-iterator i) ≡ in_blocks 0 l.blocks i;

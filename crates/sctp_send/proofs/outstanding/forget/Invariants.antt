@@ -1,8 +1,9 @@
-use Rattle.std.proofs.Common.{◌≡◌, drop, deque_capacity}
+use Rattle.std.proofs.Common.{◌≡◌, drop}
+use Rattle.sctp_send.specs.WindowKept.{IsSameRoom}
 use Rattle.sctp_send.proofs.outstanding.forget.Given as goal
 
 abbrev pub invariant-loop : goal.invariant-loop
 invariant-loop l = record {
   items : l.outstanding.items ≡ drop l.counter l.initial.outstanding.items;
-  capacity : deque_capacity l.outstanding ≡ deque_capacity l.initial.outstanding;
+  room : IsSameRoom l.initial.outstanding l.outstanding;
 }

@@ -4,17 +4,16 @@ use Rattle.sctp_send.proofs.ItemLemmas.{change_step, change_long, first_changed-
 use Rattle.sctp_send.proofs.CoverLemmas.{none_told}
 use Rattle.sctp_send.proofs.outstanding.uncover.Goals as goal
 
-pub index_mut-requires : goal.index_mut-requires
-index_mut-requires c = omega (arith, change_long as_uncovered c.loop-at.at c.args.outstanding.now.items c.loop-at.outstanding.items c.loop-at.invariant.items)
+pub tell_one-requires : goal.tell_one-requires
+tell_one-requires c = omega (arith, change_long as_uncovered c.loop-at.at c.args.outstanding.now.items c.loop-at.outstanding.items c.loop-at.invariant.items)
 
 pub loop-at-preserved : goal.loop-at-preserved
 loop-at-preserved c =
     let before = c.loop-at.invariant in
-    let long = change_long as_uncovered c.loop-at.at c.args.outstanding.now.items c.loop-at.outstanding.items before.items in
-    record {
-      items = change_step as_uncovered c.loop-at.at c.args.outstanding.now.items c.loop-at.outstanding.items c.index_mut.result.now (omega (arith, long)) c.index_mut.ensures.value before.items;
-      capacity = before.capacity;
-    }
+    rw c.tell_one.ensures (record {
+      items = change_step as_uncovered c.loop-at.at c.args.outstanding.now.items c.loop-at.outstanding.items before.items;
+      room = record { size = before.room.size; capacity = before.room.capacity };
+    })
 
 pub returns-clause-items : goal.returns-clause-items
 returns-clause-items c =

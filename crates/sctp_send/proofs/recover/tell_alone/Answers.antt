@@ -7,7 +7,7 @@ use Rattle.sctp_send.proofs.RecoverLemmas.{alone_start, alone_more, alone_all}
 use Rattle.sctp_send.proofs.recover.tell_alone.Goals as goal
 
 pub loop-run-init : goal.loop-run-init
-loop-run-init c = record { items = alone_start c.args.covered c.args.others.now c.args.outstanding.now.items; count = refl; capacity = refl }
+loop-run-init c = record { items = alone_start c.args.covered c.args.others.now c.args.outstanding.now.items; count = refl; room = record { size = refl; capacity = refl } }
 
 pub loop-run-preserved : goal.loop-run-preserved
 loop-run-preserved c =
@@ -18,9 +18,9 @@ loop-run-preserved c =
     c.tell_gaps.ensures.items ∙ ap (λ (n : ℕ). told_where c.args.covered (in_gaps c.args.others.now r.from n) 1 now) c.min.ensures in
     record {
       items = alone_more c.args.covered c.args.runs.now c.args.others.now c.loop-run.run-index c.len-last.result r (record { from = 0; to = 0 }) c.args.outstanding.now.items now c.tell_gaps.new.outstanding.items (omega arith) refl
-          (c.len-last.ensures ∙ c.args.outstanding.now.ok.0) before.items told;
+          c.len-last.ensures before.items told;
       count = ap (λ (es : List Outstanding). length es) c.tell_gaps.ensures.items ∙ length-told_where c.args.covered _ 1 now ∙ before.count;
-      capacity = c.tell_gaps.ensures.capacity ∙ before.capacity;
+      room = record { size = c.tell_gaps.ensures.kept.size ∙ before.room.size; capacity = c.tell_gaps.ensures.kept.capacity ∙ before.room.capacity };
     }
 
 pub returns-clause-items : goal.returns-clause-items

@@ -8,7 +8,7 @@ loop-init c = record {
   counted = omega arith;
   items = gaps_start c.args.covered c.args.runs.now c.args.from c.args.to c.args.outstanding.now.items;
   count = refl;
-  capacity = refl;
+  room = record { size = refl; capacity = refl };
 }
 
 pub loop-preserved : goal.loop-preserved
@@ -19,7 +19,7 @@ loop-preserved c =
       counted = omega (arith, before.counted, c.tell_edge-at.ensures.further);
       items = c.tell_edge-at.ensures.gaps c.args.from c.args.outstanding.now.items before.low before.items;
       count = c.tell_edge-at.ensures.long ∙ before.count;
-      capacity = c.tell_edge-at.ensures.capacity ∙ before.capacity;
+      room = record { size = c.tell_edge-at.ensures.kept.size ∙ before.room.size; capacity = c.tell_edge-at.ensures.kept.capacity ∙ before.room.capacity };
     }
 
 pub returns-then-at-to-clause-items : goal.returns-then-at-to-clause-items

@@ -1,21 +1,20 @@
 use Rattle.std.proofs.Common.{refl, ◌∙◌, ◌≡◌, arith}
-use Rattle.std.proofs.lemmas.List.{length-set}
 use Rattle.sctp_send.specs.inner.Changes.{told}
+use Rattle.sctp_send.proofs.StoodLemmas.{length-placed}
 use Rattle.sctp_send.proofs.TellLemmas.{run_starts, run_step}
 use Rattle.sctp_send.proofs.recover.tell_run.Goals as goal
 
 pub loop-at-init : goal.loop-at-init
-loop-at-init c = record { items = run_starts c.args.covered c.args.from c.args.outstanding.now.items; count = refl; capacity = refl }
+loop-at-init c = record { items = run_starts c.args.covered c.args.from c.args.outstanding.now.items; count = refl; room = record { size = refl; capacity = refl } }
 
 pub loop-at-preserved : goal.loop-at-preserved
 loop-at-preserved c =
     let before = c.loop-at.invariant in
-    let x = c.index_mut.result.now in
     let now = c.loop-at.outstanding.items in
     rw c.tell_one.ensures (record {
-      items = run_step c.args.covered c.args.from c.loop-at.at c.args.outstanding.now.items now x (omega arith) (omega (arith, before.count)) c.index_mut.ensures.value before.items;
-      count = length-set now c.loop-at.at (told c.args.covered x) ∙ before.count;
-      capacity = before.capacity;
+      items = run_step c.args.covered c.args.from c.loop-at.at c.args.outstanding.now.items now (omega arith) (omega (arith, before.count)) before.items;
+      count = length-placed (told c.args.covered) c.loop-at.at now ∙ before.count;
+      room = record { size = before.room.size; capacity = before.room.capacity };
     })
 
 pub returns-clause-items : goal.returns-clause-items

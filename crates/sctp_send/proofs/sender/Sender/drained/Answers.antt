@@ -1,4 +1,4 @@
-use Rattle.std.proofs.Common.{◌≡◌, length, subst, sym, arith, deque_len}
+use Rattle.std.proofs.Common.{◌≡◌, length, subst, sym, arith}
 use Rattle.std.proofs.lemmas.List.{length-map}
 use Rattle.sctp_send.specs.OutstandingFields.{item_meaning}
 use Rattle.sctp_send.specs.SenderKept.{Kept}
@@ -21,7 +21,7 @@ returns-then-in_part-gt0 g c = λ v stands.
     let s = c.self.inside in
     let keeps = subst (λ (k : Kept). Keeps g.F.Framing.format k v) (sym c.self.view_is) stands in
     let long = length-map s.queue.items (queued_by s.fragment) in
-    let parts = rw c.deref.ensures.value at (c.in_part.ensures s.fragment) in
+    let parts = rw c.self.invariant.tracks at c.in_part.ensures in
     some_in_part g.F.Framing.format _ v keeps (omega arith) (omega (arith, parts))
 
 pub returns : goal.returns
@@ -31,7 +31,6 @@ returns g c = λ v stands.
     let keeps = subst (λ (k : Kept). Keeps g.F.Framing.format k v) (sym c.self.view_is) stands in
     let long = length-map s.queue.items (queued_by s.fragment) in
     let more = length-map s.outstanding.items (item_meaning s.fragment) in
-    let parts = rw c.deref.ensures.value at (c.in_part.ensures s.fragment) in
+    let parts = rw c.self.invariant.tracks at c.in_part.ensures in
     let is = nothing_waits g.F.Framing.format _ v keeps (omega arith) (omega (arith, parts)) in
-    let n : deque_len s.outstanding ≡ length s.outstanding.items = omega arith in
-    rw (c.len-2.ensures, n) (rw more at is)
+    rw c.len-2.ensures (rw more at is)

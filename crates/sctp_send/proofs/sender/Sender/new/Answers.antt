@@ -1,4 +1,4 @@
-use Rattle.std.proofs.Common.{◌≡◌, ℕ, zero, suc, List, ◌∷◌, map, refl, ap, deque_capacity}
+use Rattle.std.proofs.Common.{◌≡◌, ℕ, zero, suc, List, ◌∷◌, map, refl, ap}
 use Rattle.std.specs.Prelude.{replicate}
 use Rattle.sctp_send.specs.SenderKept.{Track}
 use Rattle.sctp_send.specs.SenderFields.{track_meaning}
@@ -14,5 +14,5 @@ map-replicate size (suc n) t = ap (λ (ts : List Track). track_meaning size t �
 pub returns : goal.returns
 unfolding StandsFor
 returns g c =
-    rw (c.reserve.ensures.items, c.new-covered.ensures.items, c.new.ensures.items, c.new-2.ensures.items, c.new-3.ensures.items, c.in_ok-tracks.ensures, map-replicate)
-    (keeps_fresh g.F.Framing.format c.args.initial_tsn c.args.streams c.args.fragment c.args.peer_rwnd (deque_capacity c.new.result) c.args.partial c.requires.streams c.requires.some)
+    rw (c.reserve.ensures.items, c.new-covered.ensures.items, c.new.ensures.items, c.new-2.ensures.items, c.new-3.ensures.items, c.in_ok-tracks.ensures.items, map-replicate)
+    (keeps_fresh g.F.Framing.format c.args.initial_tsn c.args.streams c.args.fragment c.args.peer_rwnd c.new.result.capacity c.args.partial c.requires.streams c.requires.some)

@@ -90,4 +90,4 @@ returns-clause-step g c = λ v stands.
     let told = c.take_blocks-self-inside.ensures.told exact in
     let items : map (item_meaning s.fragment) c.take_blocks-self-inside.new.outstanding.items ≡ items_told (in_blocks 0 c.args.sack.now.blocks) 1 (drop n (map (item_meaning s.fragment) s.outstanding.items)) =
     rw (told, all_told_meaning, c.forget.ensures.items, drop-map) refl in
-    rw (items, c.take_blocks-self-inside.ensures.capacity, c.forget.ensures.capacity) taken
+    rw (items, c.take_blocks-self-inside.ensures.kept.capacity, c.forget.ensures.kept.capacity) taken

@@ -10,4 +10,4 @@ unfolding StandsFor
 returns g c = λ v stands.
     let s = c.self.inside in
     let keeps = subst (λ (k : Kept). Keeps g.F.Framing.format k v) (sym c.self.view_is) stands in
-    rw (c.mark_unsettled.ensures.items, items-timed, c.mark_unsettled.ensures.capacity) (keeps_timed g.F.Framing.format _ v keeps)
+    rw (c.mark_unsettled.ensures.items, items-timed, c.mark_unsettled.ensures.kept.capacity) (keeps_timed g.F.Framing.format _ v keeps)

@@ -13,4 +13,5 @@ returns g c = λ v stands.
     let keeps = subst (λ (k : Kept). Keeps g.F.Framing.format k v) (sym c.self.view_is) stands in
     let is = outstanding_is g.F.Framing.format _ v keeps in
     let long = length-map s.outstanding.items (item_meaning s.fragment) in
-    rw (c.count_of.ensures, c.in_part.ensures s.fragment, c.deref.ensures.value) (rw long at is)
+    let parts = rw c.self.invariant.tracks at c.in_part.ensures in
+    rw (c.count_of.ensures, parts) (rw long at is)
