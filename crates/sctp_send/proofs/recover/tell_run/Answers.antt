@@ -1,6 +1,6 @@
 use Rattle.std.proofs.Common.{refl, ◌∙◌, ◌≡◌, arith}
 use Rattle.sctp_send.specs.inner.Changes.{told}
-use Rattle.sctp_send.proofs.StoodLemmas.{length-placed}
+use Rattle.sctp_send.proofs.PlacedLemmas.{count_placed}
 use Rattle.sctp_send.proofs.TellLemmas.{run_starts, run_step}
 use Rattle.sctp_send.proofs.recover.tell_run.Goals as goal
 
@@ -13,7 +13,7 @@ loop-at-preserved c =
     let now = c.loop-at.outstanding.items in
     rw c.tell_one.ensures (record {
       items = run_step c.args.covered c.args.from c.loop-at.at c.args.outstanding.now.items now (omega arith) (omega (arith, before.count)) before.items;
-      count = length-placed (told c.args.covered) c.loop-at.at now ∙ before.count;
+      count = count_placed (told c.args.covered) c.loop-at.at now ∙ before.count;
       room = record { size = before.room.size; capacity = before.room.capacity };
     })
 
