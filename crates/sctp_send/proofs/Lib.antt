@@ -25,6 +25,7 @@ pub mod NewItems
 pub mod AssignLemmas
 pub mod ExpireLemmas
 pub mod WorthLemmas
+pub mod OwedLemmas
 pub mod ExpireKept
 pub mod GoingOnLemmas
 pub mod PlaceLemmas

@@ -47,3 +47,9 @@ never_none size t at ts x P read g = by_rest x.rest refl
     by_rest : (o : Option RestFields) → x.rest ≡ o → IfNone o P
     by_rest (Some r) is = tt
     by_rest None is = let none : g.track.rest ≡ None = ap (λ (y : Track). y.rest) same ∙ ap (rests_meaning size) is in let off = sym (ap (rest_has t) none) ∙ g.mine in absurd (cc)
+
+-- what stands at a place is one, whatever stands for what is beyond the list
+pub same_read : (ts : List TrackFields) (at : ℕ) (x y : TrackFields) → at < length ts → x ≡ get_or ts at x → y ≡ get_or ts at y → x ≡ y
+same_read [] at x y lt one two = absurd (omega arith)
+same_read (t ∷ ts) zero x y lt one two = one ∙ sym two
+same_read (t ∷ ts) (suc at) x y lt one two = same_read ts at x y (omega arith) one two

@@ -1,9 +1,8 @@
 -- A message withdrawn: its place in the queue, and what is kept without it.
-use Rattle.std.proofs.Common.{◌≡◌, ℕ, zero, suc, ◌+◌, ◌-◌, ◌<◌, ◌≤◌, List, [], ◌∷◌, ◌++◌, length, map, take, drop, set, Bool, true, false, Option, Some, None, refl, sym, ap, ◌∙◌, arith, get_or, append-nil, take_all, OnSome, IfNone, IsSome, ◌↔◌, remove, deque_len}
-use Rattle.std.specs.Prelude.{◌==◌, nat_lt, if◌then◌else◌}
+use Rattle.std.proofs.Common.{◌≡◌, ℕ, zero, suc, ◌+◌, ◌-◌, ◌<◌, ◌≤◌, List, [], ◌∷◌, ◌++◌, length, map, take, drop, set, Bool, true, false, Option, Some, None, refl, sym, ap, ◌∙◌, arith, get_or, append-nil, take_all, IfSome, IfNone, remove}
+use Rattle.std.specs.Prelude.{◌==◌, if◌then◌else◌}
 use Rattle.std.proofs.lemmas.List.{length-map, map-append, take-map, drop-map}
 use Rattle.std.proofs.lemmas.Bool.Decides.{nat_tests}
-use Rattle.std.specs.declared.collections.VecDeque.{VecDeque}
 use Rattle.std.specs.declared.rc.Rc.{Rc}
 use Rattle.std.specs.declared.alloc.Global.{Global}
 use Rattle.sctp_model.specs.Format.{Format}
@@ -14,6 +13,7 @@ use Rattle.sctp_model.specs.sender.Reached.{Abandons}
 use Rattle.sctp_model.proofs.sender.TicketLaws.{is_ticketed}
 use Rattle.sctp_model.proofs.sender.QueueLaws.{without_other, without_self}
 use Rattle.sctp_send.specs.SenderKept.{Kept}
+use Rattle.sctp_send.specs.WindowKept.{WaitingKept}
 use Rattle.sctp_send.specs.SenderFields.{queued_by}
 use Rattle.sctp_send.specs.SenderStands.{table, fate_here, fate_named, Keeps}
 use Rattle.sctp_send.specs.declared.message.Message.{Message as MessageFields}
@@ -82,24 +82,20 @@ ended_place t size ms at n le is before =
     all_taken (suc a) (suc b) [] x y = refl
     all_taken (suc a) (suc b) (q ∷ qs) x y = ap (λ (xs : List Queued). q ∷ xs) (all_taken a b qs (omega arith) (omega arith))
 
--- what stands around the place, or all where it is past the end
-pub withdrawn_is : (size t p : ℕ) (old new : VecDeque (Rc MessageFields Global) Global) (taken : Option (Rc MessageFields Global)) → deque_len old ≡ length old.items
-    → OnSome taken (new.items ≡ remove old.items p) → IfNone taken (new ≡ old) → IsSome taken ↔ (p < deque_len old)
-    → without t (map (queued_by size) old.items) ≡ take p (map (queued_by size) old.items) ++ drop (p + 1) (map (queued_by size) old.items)
-    → map (queued_by size) new.items ≡ without t (map (queued_by size) old.items)
-withdrawn_is size t p old new (Some m) long items same some is =
+-- what is left around the place, or all where it is past the end
+pub withdrawn_is : (p : ℕ) (old new : WaitingKept) (taken : Option (Rc MessageFields Global)) → (p < length old.items → new ≡ record old { items = remove old.items p }) → IfSome taken (λ m. (p < length old.items) × (m ≡ get_or old.items p m))
+    → IfNone taken ((length old.items ≤ p) × (new ≡ old)) → new ≡ record old { items = remove old.items p }
+withdrawn_is p old new (Some m) there some none = there some.0
+withdrawn_is p old new None there some none =
+    let all : remove old.items p ≡ old.items = rw (none_behind (suc p) old.items (omega (arith, none.0)), take_all p old.items none.0) (append-nil old.items) in
+    none.1 ∙ ap (λ (ms : List (Rc MessageFields Global)). record old { items = ms }) (sym all)
+
+-- the message with a ticket waits no more
+pub withdrawn_place : (size t p : ℕ) (ms : List (Rc MessageFields Global)) → without t (map (queued_by size) ms) ≡ take p (map (queued_by size) ms) ++ drop (p + 1) (map (queued_by size) ms)
+    → map (queued_by size) (remove ms p) ≡ without t (map (queued_by size) ms)
+withdrawn_place size t p ms is =
     let one : p + 1 ≡ suc p = omega arith in
-    ap (map (queued_by size)) items ∙ map-append (queued_by size) (take p old.items) (drop (suc p) old.items)
-    ∙ sym (is ∙ rw (one, take-map (queued_by size) p old.items, drop-map (queued_by size) (suc p) old.items) refl)
-withdrawn_is size t p old new None long items same some is =
-    let past : length old.items ≤ p = by_test (nat_lt p (deque_len old)) refl in
-    let count = length-map old.items (queued_by size) in
-    ap (λ (d : VecDeque (Rc MessageFields Global) Global). map (queued_by size) d.items) same
-    ∙ sym (is ∙ rw (none_behind (p + 1) (map (queued_by size) old.items) (omega arith), take_all p (map (queued_by size) old.items) (omega arith)) (append-nil (map (queued_by size) old.items)))
-  where
-    by_test : (b : Bool) → nat_lt p (deque_len old) ≡ b → length old.items ≤ p
-    by_test true on = let there = some.1 (let lt : p < deque_len old = grind (arith, nat_tests) in lt) in absurd (cc)
-    by_test false off = let le : deque_len old ≤ p = grind (arith, nat_tests) in omega (arith, le, long)
+    map-append (queued_by size) (take p ms) (drop (suc p) ms) ∙ sym (is ∙ rw (one, take-map (queued_by size) p ms, drop-map (queued_by size) (suc p) ms) refl)
 
 -- ---- a message withdrawn
 

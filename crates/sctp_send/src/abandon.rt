@@ -149,6 +149,7 @@ fn end(tracks: &mut Streams, ticket: u32) -> Option<Rest>
 
 /// The stream that goes on with the message with this ticket.
 fn stream_of(tracks: &[Track], ticket: u32) -> Option<usize>
+    ensures within { IfSome result (λ at. at < length tracks.now) }
     ensures none { (size : ℕ) → IfNone result (any_rest ticket (map (track_meaning size) tracks.now) ≡ false) }
     ensures some { (size : ℕ) → IfSome result (λ at. GoesOnAt ticket at (map (track_meaning size) tracks.now)) }
 {

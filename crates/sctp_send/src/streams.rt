@@ -119,7 +119,8 @@ impl Streams {
             return found;
         }
         let mut found = found;
-        for track in &self.tracks {
+        for at in 0..self.tracks.len() {
+            let track = &self.tracks[at];
             found = sooner_rest(found, track, last, now);
         }
         found
@@ -133,7 +134,8 @@ impl Streams {
             return;
         }
         let mut earliest = u64::MAX;
-        for track in &self.tracks {
+        for at in 0..self.tracks.len() {
+            let track = &self.tracks[at];
             earliest = earliest.min(moment_of_track(track));
         }
         self.earliest = earliest;

@@ -88,7 +88,10 @@ impl Waiting {
     {
         let owed = owed_by_message(&message, self.size);
         let moment = moment_of(&message);
-        self.messages.push_back(message).map_err(|_| NoMemory)?;
+        match self.messages.push_back(message) {
+            Ok(()) => {}
+            Err(_) => return Err(NoMemory),
+        }
         self.owed = self.owed.wrapping_add(owed);
         self.earliest = self.earliest.min(moment);
         Ok(())
@@ -116,8 +119,9 @@ impl Waiting {
     {
         let owed = owed_by_message(&message, self.size);
         let moment = moment_of(&message);
-        if self.messages.insert(place, message).is_err() {
-            return;
+        match self.messages.insert(place, message) {
+            Ok(()) => {}
+            Err(_) => return,
         }
         self.owed = self.owed.wrapping_add(owed);
         self.earliest = self.earliest.min(moment);
@@ -132,7 +136,8 @@ impl Waiting {
         }
         let mut found = found;
         for at in 0..self.messages.len() {
-            found = sooner(found, &self.messages[at], last, now);
+            let message = &self.messages[at];
+            found = sooner(found, message, last, now);
         }
         found
     }
@@ -146,7 +151,8 @@ impl Waiting {
         }
         let mut earliest = u64::MAX;
         for at in 0..self.messages.len() {
-            earliest = earliest.min(moment_of(&self.messages[at]));
+            let message = &self.messages[at];
+            earliest = earliest.min(moment_of(message));
         }
         self.earliest = earliest;
     }

@@ -6,12 +6,12 @@ use Rattle.sctp_send.proofs.abandon.place_of.Goals as goal
 pub loop-at-preserved : goal.loop-at-preserved
 loop-at-preserved c = λ size.
     let ticket = ap (λ (m : MessageFields). m.ticket) c.deref.ensures in
-    walked_place c.args.ticket size c.args.queue.now.items c.loop-at.at c.index-message.result.now (omega arith) c.index-message.ensures (λ e. c.if-deref-ticket.false (ticket ∙ e)) (c.loop-at.invariant size)
+    walked_place c.args.ticket size c.args.queue.now.items c.loop-at.at c.get-message.result.now (omega arith) c.get-message.ensures (λ e. c.if-deref-ticket.false (ticket ∙ e)) (c.loop-at.invariant size)
 
 pub returns-then-deref-ticket : goal.returns-then-deref-ticket
 returns-then-deref-ticket c = λ size.
     let ticket = ap (λ (m : MessageFields). m.ticket) c.deref.ensures in
-    found_place c.args.ticket size c.args.queue.now.items c.loop-at.at c.index-message.result.now (omega arith) c.index-message.ensures (sym ticket ∙ c.if-deref-ticket.true) (c.loop-at.invariant size)
+    found_place c.args.ticket size c.args.queue.now.items c.loop-at.at c.get-message.result.now (omega arith) c.get-message.ensures (sym ticket ∙ c.if-deref-ticket.true) (c.loop-at.invariant size)
 
 pub returns : goal.returns
 returns c = λ size. ended_place c.args.ticket size c.args.queue.now.items c.loop-at.at c.len.result (omega arith) (omega arith) (c.loop-at.invariant size)

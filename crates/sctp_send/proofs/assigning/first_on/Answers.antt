@@ -12,13 +12,13 @@ loop-at-init c = λ size. passed_none c.args.stream _
 pub loop-at-preserved : goal.loop-at-preserved
 loop-at-preserved c = λ size.
     let long = length-map c.args.queue.now.items (queued_by size) in
-    passed_more c.args.stream c.loop-at.at _ (queued_by size c.index-message.result.now) (omega arith) (queue_read size c.args.queue.now.items c.loop-at.at c.index-message.result.now c.index-message.ensures)
+    passed_more c.args.stream c.loop-at.at _ (queued_by size c.get-message.result.now) (omega arith) (queue_read size c.args.queue.now.items c.loop-at.at c.get-message.result.now c.get-message.ensures)
     (λ same. c.if-deref-stream.false (ap (λ (m : MessageFields). m.stream) c.deref.ensures ∙ same)) (c.loop-at.invariant size)
 
 pub returns-then-deref-stream-clause-first : goal.returns-then-deref-stream-clause-first
 returns-then-deref-stream-clause-first c = λ size.
     let long = length-map c.args.queue.now.items (queued_by size) in
-    passed_here c.args.stream c.loop-at.at _ (queued_by size c.index-message.result.now) (omega arith) (queue_read size c.args.queue.now.items c.loop-at.at c.index-message.result.now c.index-message.ensures)
+    passed_here c.args.stream c.loop-at.at _ (queued_by size c.get-message.result.now) (omega arith) (queue_read size c.args.queue.now.items c.loop-at.at c.get-message.result.now c.get-message.ensures)
     (sym (ap (λ (m : MessageFields). m.stream) c.deref.ensures) ∙ c.if-deref-stream.true) (c.loop-at.invariant size)
 
 pub returns-clause-first : goal.returns-clause-first

@@ -18,11 +18,11 @@ returns-then-len-eq0-clause-next c = λ s v size keeps.
 pub returns-clause-next : goal.returns-clause-next
 returns-clause-next c = λ s v size keeps.
     let es = c.args.draft.now.queue.items in
-    let x = c.index-message.result.now in
+    let x = c.get-message.result.now in
     let q = queued_by s.fragment x in
     let long = length-map es (queued_by s.fragment) in
     let same = ap (λ (qs : List Queued). length qs) keeps.holds.queue in
-    let read : get_or v.queue 0 q ≡ q = ap (λ (qs : List Queued). get_or qs 0 q) (sym keeps.holds.queue) ∙ queue_read s.fragment es 0 x c.index-message.ensures in
+    let read : get_or v.queue 0 q ≡ q = ap (λ (qs : List Queued). get_or qs 0 q) (sym keeps.holds.queue) ∙ queue_read s.fragment es 0 x c.get-message.ensures in
     let bytes = c.deref-2.ensures.value ∙ ap (λ (m : MessageFields). m.bytes.items) c.deref.ensures in
     let count : c.fragments_of.result ≡ length q.message.fragments = c.fragments_of.ensures ∙ ap (λ (b : List ℕ). length (cut c.args.size b)) bytes ∙ ap (λ (n : ℕ). length (cut n x.value.bytes.items)) (sym size) in
     let some = first_filled Plain v q keeps.reached read (omega (arith, long, same)) in

@@ -1,4 +1,4 @@
-use Rattle.std.proofs.Common.{◌≡◌, length, subst, sym, arith, deque_len}
+use Rattle.std.proofs.Common.{subst, sym}
 use Rattle.std.proofs.lemmas.List.{length-map}
 use Rattle.sctp_send.specs.OutstandingFields.{item_meaning}
 use Rattle.sctp_send.specs.SenderKept.{Kept}
@@ -13,5 +13,4 @@ returns g c = λ v stands.
     let keeps = subst (λ (k : Kept). Keeps g.F.Framing.format k v) (sym c.self.view_is) stands in
     let is = promised_is g.F.Framing.format _ v keeps in
     let long = length-map s.outstanding.items (item_meaning s.fragment) in
-    let n : deque_len s.outstanding ≡ length s.outstanding.items = omega arith in
-    rw (c.from.ensures, c.len.ensures, n, c.owed_by_queue.ensures, c.owed_by_tracks.ensures, c.deref.ensures.value) (rw long at is)
+    rw (c.from.ensures, c.len.ensures, c.owed.ensures, c.owed-2.ensures, c.self.invariant.queue, c.self.invariant.tracks) (rw long at is)

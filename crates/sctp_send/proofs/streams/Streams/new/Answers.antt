@@ -1,0 +1,5 @@
+use Rattle.sctp_send.proofs.OwedLemmas.{counted_fresh}
+use Rattle.sctp_send.proofs.streams.Streams.new.Goals as goal
+
+pub invariant_of-result : goal.invariant_of-result
+invariant_of-result c = counted_fresh c.args.size c.args.streams c.in_ok-tracks.tracks.items c.requires c.in_ok-tracks.ensures
