@@ -13,10 +13,11 @@ use Rattle.sctp_model.specs.sender.Reached.{IsReached}
 use Rattle.sctp_model.proofs.sender.AbandonCases.{after_abandon}
 use Rattle.sctp_model.proofs.sender.OwnLaws.{found_owns}
 use Rattle.sctp_model.proofs.sender.TicketLaws.{is_ticketed}
-use Rattle.sctp_model.proofs.sender.ExpiredLaws.{is_late, late_waits, due_waits, due_above, due_rest, expires_idle, expired_to, expired_next}
+use Rattle.sctp_model.proofs.sender.ExpiredLaws.{is_late, late_waits, due_waits, due_rest, expired_to, expired_next}
 use Rattle.sctp_send.specs.SenderKept.{Item, Rest, Track, Kept}
 use Rattle.sctp_send.specs.SenderStands.{items_from, table, rest_here, track_here, Keeps}
 use Rattle.sctp_send.specs.inner.Expiring.{queue_messages, item_messages, rest_message, rest_messages, kept_messages, soonest}
+use Rattle.sctp_send.proofs.ShownLemmas.{shown_message, due_shown, passes_over}
 use Rattle.sctp_send.proofs.ExpireLemmas.{any_late, soonest_joined, soonest_none, soonest_some, soonest_late}
 
 any_joined : {A : Type 0} (test : A → Bool) (xs ys : List A) → list_any test (xs ++ ys) ≡ (list_any test xs || list_any test ys)
@@ -31,9 +32,9 @@ late_queue : (now t : ℕ) (qs : List Queued) → any_late now t (queue_messages
 late_queue now t [] = refl
 late_queue now t (q ∷ qs) = ap (λ (b : Bool). is_late now t (Some q.message) || b) (late_queue now t qs)
 
-late_items : (v : SenderView) (now t : ℕ) (es : List Entry) (i : ℕ) → any_late now t (item_messages (items_from v i es)) ≡ any_from (λ j e. is_late now t (entry_message v.plan e)) i es
+late_items : (v : SenderView) (now t : ℕ) (es : List Entry) (i : ℕ) → any_late now t (item_messages (items_from v i es)) ≡ any_from (λ j e. is_late now t (shown_message v e)) i es
 late_items v now t [] i = refl
-late_items v now t (e ∷ es) i = ap (λ (b : Bool). is_late now t (entry_message v.plan e) || b) (late_items v now t es (suc i))
+late_items v now t (e ∷ es) i = ap (λ (b : Bool). is_late now t (shown_message v e) || b) (late_items v now t es (suc i))
 
 -- what a stream goes on with
 rest_of : (p : Plan) (o : Option Entry) → option_and_then (λ (r : Rest). r.message) (rest_here p o) ≡ option_and_then (λ e. entry_message p e) o
@@ -77,36 +78,57 @@ quiet_rests v now t i (suc n) off s e lo hi is = by_place (nat_lt i s) refl (λ 
 
 -- ---- what is kept, and the view
 
-kept_parts : (now t : ℕ) (s : Kept) → any_late now t (kept_messages s) ≡ (any_late now t (queue_messages s.queue) || (any_late now t (item_messages s.items) || any_late now t (rest_messages s.tracks)))
-kept_parts now t s =
-    any_joined (λ m. is_late now t m) (queue_messages s.queue) (item_messages s.items ++ rest_messages s.tracks)
-    ∙ ap (λ (b : Bool). any_late now t (queue_messages s.queue) || b) (any_joined (λ m. is_late now t m) (item_messages s.items) (rest_messages s.tracks))
+-- messages with a number count where the sender is partially reliable
+kept_where : (now t : ℕ) (s : Kept) (b : Bool) → s.partial ≡ b
+    → any_late now t (kept_messages s) ≡ (any_late now t (queue_messages s.queue) || any_late now t (if b then item_messages s.items ++ rest_messages s.tracks else []))
+kept_where now t s b is =
+    ap (λ (c : Bool). any_late now t (queue_messages s.queue ++ (if c then item_messages s.items ++ rest_messages s.tracks else []))) is
+    ∙ any_joined (λ m. is_late now t m) (queue_messages s.queue) (if b then item_messages s.items ++ rest_messages s.tracks else [])
 
 -- the same, of the view
-in_view : (f : Format) (s : Kept) (v : SenderView) (now t : ℕ) → Keeps f s v → any_late now t (kept_messages s)
-    ≡ (late_waits now t v.queue || (any_from (λ j e. is_late now t (entry_message v.plan e)) (suc v.cum) (drop v.cum v.plan.entries) || any_late now t (rest_messages (table (track_here v) 0 v.streams))))
-in_view f s v now t k =
-    kept_parts now t s
+in_view : (f : Format) (s : Kept) (v : SenderView) (now t : ℕ) → Keeps f s v → s.partial ≡ true → any_late now t (kept_messages s)
+    ≡ (late_waits now t v.queue || (any_from (λ j e. is_late now t (shown_message v e)) (suc v.cum) (drop v.cum v.plan.entries) || any_late now t (rest_messages (table (track_here v) 0 v.streams))))
+in_view f s v now t k partial =
+    kept_where now t s true partial
+    ∙ ap (λ (b : Bool). any_late now t (queue_messages s.queue) || b) (any_joined (λ m. is_late now t m) (item_messages s.items) (rest_messages s.tracks))
     ∙ rw (ap queue_messages k.holds.queue, late_queue now t v.queue, ap item_messages k.holds.items, late_items v now t (drop v.cum v.plan.entries) (suc v.cum), ap rest_messages k.holds.tracks) refl
 
-pub kept_due : (f : Format) (s : Kept) (v : SenderView) (now t : ℕ) → Keeps f s v → any_late now t (kept_messages s) ≡ true → is_due v now t ≡ true
-kept_due f s v now t k on = by_queue (late_waits now t v.queue) (any_from (λ j e. is_late now t (entry_message v.plan e)) (suc v.cum) (drop v.cum v.plan.entries)) refl refl (sym (in_view f s v now t k) ∙ on)
+in_queue : (f : Format) (s : Kept) (v : SenderView) (now t : ℕ) → Keeps f s v → s.partial ≡ false → any_late now t (kept_messages s) ≡ late_waits now t v.queue
+in_queue f s v now t k reliable =
+    kept_where now t s false reliable ∙ alone (any_late now t (queue_messages s.queue)) ∙ ap (λ (qs : List Queued). any_late now t (queue_messages qs)) k.holds.queue ∙ late_queue now t v.queue
   where
-    by_queue : (a b : Bool) → late_waits now t v.queue ≡ a → any_from (λ j e. is_late now t (entry_message v.plan e)) (suc v.cum) (drop v.cum v.plan.entries) ≡ b
+    alone : (b : Bool) → (b || false) ≡ b
+    alone true = refl
+    alone false = refl
+
+pub kept_due : (f : Format) (s : Kept) (v : SenderView) (now t : ℕ) → Keeps f s v → any_late now t (kept_messages s) ≡ true → is_due v now t ≡ true
+kept_due f s v now t k on = by_partial s.partial refl
+  where
+    by_queue : (a b : Bool) → late_waits now t v.queue ≡ a → any_from (λ j e. is_late now t (shown_message v e)) (suc v.cum) (drop v.cum v.plan.entries) ≡ b
         → (a || (b || any_late now t (rest_messages (table (track_here v) 0 v.streams)))) ≡ true → is_due v now t ≡ true
     by_queue true b queue items there = due_waits f v now t k.reached queue
-    by_queue false true queue items there = due_above f v now t k.reached items
+    by_queue false true queue items there = due_shown f v now t k.reached items
     by_queue false false queue items there = let rest = late_rests v now t 0 v.streams there in due_rest f v now t rest.0 rest.1 k.reached rest.2 rest.3
 
+    by_partial : (b : Bool) → s.partial ≡ b → is_due v now t ≡ true
+    by_partial true is = by_queue (late_waits now t v.queue) (any_from (λ j e. is_late now t (shown_message v e)) (suc v.cum) (drop v.cum v.plan.entries)) refl refl (sym (in_view f s v now t k is) ∙ on)
+    by_partial false is = due_waits f v now t k.reached (sym (in_queue f s v now t k is) ∙ on)
+
 pub kept_idle : (f : Format) (s : Kept) (v : SenderView) (now t : ℕ) → Keeps f s v → any_late now t (kept_messages s) ≡ false → expire_one now v t ≡ v
-kept_idle f s v now t k off = by_parts (late_waits now t v.queue) (any_from (λ j e. is_late now t (entry_message v.plan e)) (suc v.cum) (drop v.cum v.plan.entries)) refl refl (sym (in_view f s v now t k) ∙ off)
+kept_idle f s v now t k off = by_partial s.partial refl
   where
-    by_parts : (a b : Bool) → late_waits now t v.queue ≡ a → any_from (λ j e. is_late now t (entry_message v.plan e)) (suc v.cum) (drop v.cum v.plan.entries) ≡ b
+    by_parts : (a b : Bool) → late_waits now t v.queue ≡ a → any_from (λ j e. is_late now t (shown_message v e)) (suc v.cum) (drop v.cum v.plan.entries) ≡ b
         → (a || (b || any_late now t (rest_messages (table (track_here v) 0 v.streams)))) ≡ false → expire_one now v t ≡ v
     by_parts true b queue items there = absurd (cc)
     by_parts false true queue items there = absurd (cc)
     by_parts false false queue items there =
-        expires_idle f v now t k.reached (record { queue = queue; entries = items; rests = λ s e lt is. quiet_rests v now t 0 v.streams there s e (omega arith) (omega arith) is })
+        passes_over f v now t k.reached (record { queue = queue; entries = λ on. items; rests = λ on s e lt is. quiet_rests v now t 0 v.streams there s e (omega arith) (omega arith) is })
+
+    by_partial : (b : Bool) → s.partial ≡ b → expire_one now v t ≡ v
+    by_partial true is = by_parts (late_waits now t v.queue) (any_from (λ j e. is_late now t (shown_message v e)) (suc v.cum) (drop v.cum v.plan.entries)) refl refl (sym (in_view f s v now t k is) ∙ off)
+    by_partial false is =
+        let reliable : v.partial ≡ false = sym k.holds.partial ∙ is in
+        passes_over f v now t k.reached (record { queue = sym (in_queue f s v now t k is) ∙ off; entries = λ on. absurd (cc); rests = λ on s e lt next. absurd (cc) })
 
 -- ---- one ticket after the other
 
@@ -179,9 +201,15 @@ late_none f s v u now last k is le none =
     let all : last + (v.tickets - last) ≡ v.tickets = omega arith in
     ap (expired_to now v) (sym all) ∙ idle_to v u now last (v.tickets - last) is (λ x lo hi. kept_idle f s u now x k (quiet x lo))
 
+-- what is found in the queue alone, where messages with a number don't count
+pub queue_soonest : (now last : ℕ) (partial : Bool) (qs : List Queued) (xs : List Item) (ts : List Track) (a : Option ℕ) → partial ≡ false → a ≡ soonest now last None (queue_messages qs)
+    → a ≡ soonest now last None (queue_messages qs ++ (if partial then item_messages xs ++ rest_messages ts else []))
+queue_soonest now last partial qs xs ts a off one = rw off (one ∙ sym (soonest_joined now last None (queue_messages qs) []))
+
 -- what is found in the queue, then above CUM, then in part
-pub kept_soonest : (now last : ℕ) (qs : List Queued) (xs : List Item) (ts : List Track) (a b c : Option ℕ) → a ≡ soonest now last None (queue_messages qs) → b ≡ soonest now last a (item_messages xs) → c ≡ soonest now last b (rest_messages ts)
-    → c ≡ soonest now last None (queue_messages qs ++ (item_messages xs ++ rest_messages ts))
-kept_soonest now last qs xs ts a b c one two three =
-    three ∙ ap (λ (o : Option ℕ). soonest now last o (rest_messages ts)) (two ∙ ap (λ (o : Option ℕ). soonest now last o (item_messages xs)) one)
-    ∙ sym (soonest_joined now last None (queue_messages qs) (item_messages xs ++ rest_messages ts) ∙ soonest_joined now last (soonest now last None (queue_messages qs)) (item_messages xs) (rest_messages ts))
+pub kept_soonest : (now last : ℕ) (partial : Bool) (qs : List Queued) (xs : List Item) (ts : List Track) (a b c : Option ℕ) → partial ≡ true → a ≡ soonest now last None (queue_messages qs)
+    → b ≡ soonest now last a (item_messages xs) → c ≡ soonest now last b (rest_messages ts)
+    → c ≡ soonest now last None (queue_messages qs ++ (if partial then item_messages xs ++ rest_messages ts else []))
+kept_soonest now last partial qs xs ts a b c on one two three =
+    rw on (three ∙ ap (λ (o : Option ℕ). soonest now last o (rest_messages ts)) (two ∙ ap (λ (o : Option ℕ). soonest now last o (item_messages xs)) one)
+    ∙ sym (soonest_joined now last None (queue_messages qs) (item_messages xs ++ rest_messages ts) ∙ soonest_joined now last (soonest now last None (queue_messages qs)) (item_messages xs) (rest_messages ts)))
