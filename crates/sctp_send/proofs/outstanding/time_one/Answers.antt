@@ -1,4 +1,4 @@
-use Rattle.std.proofs.Common.{◌≡◌, ◌∙◌, refl, sym, Bool, true, false}
+use Rattle.std.proofs.Common.{◌≡◌, ◌∙◌, refl, sym, true, false}
 use Rattle.std.specs.Prelude.{not, ◌&&◌}
 use denote.Enum.Bare.{sameb}
 use Rattle.sctp_send.specs.contracts.outstanding.Standing.{the_type}
