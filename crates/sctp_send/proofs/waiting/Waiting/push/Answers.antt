@@ -11,5 +11,5 @@ invariant_of-self-2 c =
     let w = c.self.inside in
     let owed = c.owed_by_message-owed.ensures ∙ ap (λ (m : MessageFields). owed_for (length (cut w.size m.bytes.items)) % 2 ^ 64) c.deref.ensures in
     let moment = c.moment_of-moment.ensures w.size ∙ ap (λ (m : MessageFields). moment_from (Some (message_meaning w.size m))) c.deref-2.ensures in
-    owed_pushed w.size w.owed w.earliest c.owed_by_message-owed.result c.moment_of-moment.result c.min-self-inside.result w.messages.items c.push_back.new.self.items c.args.message c.self.invariant c.in-Ok.ensures.items owed moment
+    owed_pushed w.size w.owed w.earliest c.owed_by_message-owed.result c.moment_of-moment.result c.min-self-inside.result w.messages.items _ c.args.message c.self.invariant c.in-Ok.ensures.items owed moment
     c.min-self-inside.ensures
