@@ -30,6 +30,9 @@ pub mod ShownLemmas
 pub mod ExpireKept
 pub mod GoingOnLemmas
 pub mod PlaceLemmas
+pub mod OffLemmas
+pub mod WeightLemmas
+pub mod CountLemmas
 pub mod TurnLemmas
 pub mod AssignedKept
 pub mod RoomLemmas

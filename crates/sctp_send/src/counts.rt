@@ -1,8 +1,9 @@
 //! What is counted of the entries above CUM: each count follows an entry that comes, goes or changes.
 
-ghost use Rattle.std.specs.Prelude.{◌≡◌, ℕ, ◌<◌, min};
+ghost use Rattle.std.specs.Prelude.{◌≡◌, ℕ, ◌<◌, min, if◌then◌else◌};
 ghost use Rattle.sctp_send.specs.OutstandingFields.{item_meaning};
 ghost use Rattle.sctp_send.specs.inner.Counting.{entered, left, lowered, moment};
+ghost use Rattle.sctp_send.specs.inner.Newcomers.{one_if};
 
 use crate::message::moment_of;
 use crate::outstanding::Outstanding;
@@ -43,7 +44,7 @@ impl Counts {
         ensures { self.new ≡ entered (item_meaning size entry.now) self.old }
     {
         self.flight = self.flight.wrapping_add(weight(entry, size));
-        self.unsettled = self.unsettled.wrapping_add(u64::from(is_unsettled(entry)));
+        self.unsettled = self.unsettled.wrapping_add(one_if(is_unsettled(entry)));
         self.earliest = self.earliest.min(moment(entry));
     }
 
@@ -53,20 +54,30 @@ impl Counts {
         ensures { self.new ≡ left (item_meaning size entry.now) self.old }
     {
         self.flight = self.flight.wrapping_sub(weight(entry, size));
-        self.unsettled = self.unsettled.wrapping_sub(u64::from(is_unsettled(entry)));
+        self.unsettled = self.unsettled.wrapping_sub(one_if(is_unsettled(entry)));
     }
 
     /// What stands at an offset may have to go out.
     pub fn lower(&mut self, at: usize, entry: &Outstanding)
         ensures { (size : ℕ) → self.new ≡ lowered at (item_meaning size entry.now) self.old }
     {
-        if is_repeat(entry) {
-            self.marked = self.marked.min(at);
-        }
-        if is_first_sending(entry) {
-            self.unsent = self.unsent.min(at);
-        }
+        self.marked = lowest(self.marked, at, is_repeat(entry));
+        self.unsent = lowest(self.unsent, at, is_first_sending(entry));
     }
+}
+
+/// A cursor; or an offset below it, where that counts.
+fn lowest(cursor: usize, at: usize, counts: bool) -> usize
+    ensures { result ≡ (if counts then min cursor at else cursor) }
+{
+    if counts { cursor.min(at) } else { cursor }
+}
+
+/// One, where an entry counts.
+fn one_if(counts: bool) -> u64
+    ensures { result ≡ one_if counts }
+{
+    if counts { 1 } else { 0 }
 }
 
 /// The moment from which the message of an entry is worthless, if it has one and the entry is not given up; else the last moment.

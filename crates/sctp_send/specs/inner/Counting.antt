@@ -68,6 +68,7 @@ lowered at x c = record c {
 -- The counts are those of the entries: before two offsets nothing is to go out; the sums are modulo 2^64.
 pub record IsCounted (size : ℕ) (es : List Outstanding) (c : Counts) : Type 0 where
   pub some : 0 < size
+  pub small : size < 2 ^ 16
   pub marked : first_place is_item_marked (take c.marked (map (item_meaning size) es)) ≡ None
   pub marked_within : c.marked ≤ length es
   pub unsent : first_place is_item_unsent (take c.unsent (map (item_meaning size) es)) ≡ None

@@ -1,8 +1,16 @@
-use Rattle.std.proofs.Common.{◌≡◌, ℕ, None, map, take, drop}
+use Rattle.std.proofs.Common.{◌≡◌, None, map, take}
+use Rattle.std.specs.VecDeque.{deque_capacity}
 use Rattle.sctp_send.specs.OutstandingFields.{item_meaning}
+use Rattle.sctp_send.specs.WindowKept.{WindowKept}
 use Rattle.sctp_send.specs.inner.Wishing.{first_place, is_item_marked}
-use Rattle.sctp_send.proofs.PlaceLemmas.{further}
+use Rattle.sctp_send.specs.inner.Counting.{IsCounted}
 use Rattle.sctp_send.proofs.window.Window.first_marked.Given as goal
 
 abbrev pub invariant-loop-at : goal.invariant-loop-at
-invariant-loop-at l = (size : ℕ) → first_place is_item_marked (take l.from (map (item_meaning size) l.outstanding.items)) ≡ None → first_place is_item_marked (map (item_meaning size) l.outstanding.items) ≡ further l.at (first_place is_item_marked (drop l.at (map (item_meaning size) l.outstanding.items)))
+invariant-loop-at l =
+    let s = l.self-inside in
+    record {
+      counted : IsCounted s.size s.entries.items s.counts;
+      same : ◌≡◌ {A = WindowKept} (record { size = s.size; items = s.entries.items; capacity = deque_capacity s.entries }) l.fn.self;
+      none : first_place is_item_marked (take l.at (map (item_meaning s.size) s.entries.items)) ≡ None;
+    }
