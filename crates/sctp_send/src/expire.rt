@@ -21,6 +21,9 @@ impl<F: Framing> Sender<F> {
     {
         self.expire_all(now);
         self.queue.look_again(now);
+        if !self.partial {
+            return;
+        }
         self.outstanding.look_again(now);
         self.tracks.look_again(now);
     }
