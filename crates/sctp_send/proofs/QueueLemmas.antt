@@ -1,5 +1,5 @@
--- Fragments counted, what is owed summed up, and a message more in the queue.
-use Rattle.std.proofs.Common.{◌≡◌, ℕ, zero, suc, ◌+◌, ◌-◌, ◌*◌, ◌/◌, ◌%◌, ◌^◌, ◌<◌, ◌≤◌, List, [], ◌∷◌, ◌++◌, length, drop, Bool, true, false, Option, Some, None, refl, sym, ap, ◌∙◌, subst, arith, get_or}
+-- Fragments counted, sums over the streams, what is promised, and a message more in the queue.
+use Rattle.std.proofs.Common.{◌≡◌, ℕ, zero, suc, ◌+◌, ◌-◌, ◌*◌, ◌/◌, ◌%◌, ◌^◌, ◌<◌, ◌≤◌, List, [], ◌∷◌, ◌++◌, length, Bool, true, false, Option, Some, None, refl, sym, ap, ◌∙◌, subst, arith}
 use Rattle.std.specs.Prelude.{nat_lt, nat_le, if◌then◌else◌, ◌==◌, ◌||◌, Result, Ok, Err, IsErrAnd}
 use Rattle.std.specs.Int.{div_ceil}
 use Rattle.std.proofs.lemmas.Bool.Decides.{nat_tests}
@@ -36,16 +36,6 @@ pub count_is : (size : ℕ) (bytes : List ℕ) → 0 < size → div_ceil (length
 count_is size bytes p = sym (length-cut size bytes)
 
 -- ---- sums
-
-pub sum_queue : (qs : List Queued) (at : ℕ) (d : Queued) → at < length qs → owed_by_queue (drop at qs) ≡ owed_for (length (get_or qs at d).message.fragments) + owed_by_queue (drop (suc at) qs)
-sum_queue [] at d lt = absurd (omega arith)
-sum_queue (q ∷ qs) zero d lt = refl
-sum_queue (q ∷ qs) (suc at) d lt = sum_queue qs at d (omega arith)
-
-pub total_drop : (f : Track → ℕ) (ts : List Track) (at : ℕ) (d : Track) → at < length ts → total f (drop at ts) ≡ f (get_or ts at d) + total f (drop (suc at) ts)
-total_drop f [] at d lt = absurd (omega arith)
-total_drop f (t ∷ ts) zero d lt = refl
-total_drop f (t ∷ ts) (suc at) d lt = total_drop f ts at d (omega arith)
 
 total_push : (f : Track → ℕ) (ts : List Track) (t : Track) → total f (ts ++ t ∷ []) ≡ total f ts + f t
 total_push f [] t = omega arith

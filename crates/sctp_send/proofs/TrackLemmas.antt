@@ -1,6 +1,6 @@
 -- What a stream goes on with: taken out, as clauses see it.
-use Rattle.std.proofs.Common.{◌≡◌, ℕ, zero, suc, ◌<◌, List, [], ◌∷◌, length, map, set, get_or, Option, Some, None, refl, sym, ap, ◌∙◌, arith, IfSome, IfNone, slice_get}
-use Rattle.std.proofs.lemmas.List.{length-map, map-set}
+use Rattle.std.proofs.Common.{◌≡◌, ℕ, zero, suc, ◌<◌, List, [], ◌∷◌, length, map, set, get_or, Option, Some, None, refl, sym, ap, ◌∙◌, arith, IfSome, IfNone}
+use Rattle.std.proofs.lemmas.List.{map-set}
 use Rattle.std.proofs.lemmas.Option.{get_or_from_slice_get}
 use Rattle.sctp_send.specs.SenderKept.{Track}
 use Rattle.sctp_send.specs.SenderFields.{rest_meaning, rests_meaning, track_meaning}
@@ -28,15 +28,6 @@ rest_taken size t at ts x read g = by_rest x.rest refl
           mine = sym (ap (rest_has t) rest) ∙ g.mine;
           now = map-set (track_meaning size) ts at (record x { rest = None }) ∙ ap (λ (y : Track). set (map (track_meaning size) ts) at (record y { rest = None })) (sym same);
         }
-
--- a stream that goes on is one of them, and goes on with something
-pub within_there : (size t at : ℕ) (ts : List TrackFields) → GoesOnAt t at (map (track_meaning size) ts) → at < length ts
-within_there size t at ts g = let long = length-map ts (track_meaning size) in let lt = within (map (track_meaning size) ts) at g.track g.there in omega (arith, long, lt)
-  where
-    within : (xs : List Track) (i : ℕ) (y : Track) → slice_get xs i ≡ Some y → i < length xs
-    within [] i y is = absurd (cc)
-    within (x ∷ xs) zero y is = omega arith
-    within (x ∷ xs) (suc i) y is = let rest = within xs i y is in omega arith
 
 pub never_none : (size t at : ℕ) (ts : List TrackFields) (x : TrackFields) (P : Type 0) → x ≡ get_or ts at x → GoesOnAt t at (map (track_meaning size) ts) → IfNone x.rest P
 never_none size t at ts x P read g = by_rest x.rest refl

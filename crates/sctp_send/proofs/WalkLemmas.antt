@@ -1,14 +1,11 @@
 -- Walks over entries, streams and the queue: one step more, and the end.
 use Rattle.std.proofs.Common.{◌≡◌, ℕ, zero, suc, ◌+◌, ◌%◌, ◌^◌, ◌<◌, ◌≤◌, List, [], ◌∷◌, length, map, drop, Bool, true, false, refl, sym, ap, ◌∙◌, arith, get_or}
 use Rattle.std.specs.Prelude.{◌||◌}
-use Rattle.sctp_send.specs.SenderKept.{Track}
-use Rattle.sctp_send.specs.inner.Walks.{given_up_items, is_item_unsettled, any_unsettled, total}
-use Rattle.sctp_send.proofs.QueueLemmas.{total_drop, sum_queue}
+use Rattle.sctp_send.specs.inner.Walks.{given_up_items, is_item_unsettled, any_unsettled}
 use Rattle.sctp_send.proofs.ItemLemmas.{item_read}
 use Rattle.std.proofs.lemmas.List.{length-map}
 use Rattle.std.specs.declared.rc.Rc.{Rc}
 use Rattle.std.specs.declared.alloc.Global.{Global}
-use Rattle.sctp_model.specs.sender.Queueing.{cut, owed_for, owed_by_queue}
 use Rattle.sctp_send.specs.OutstandingFields.{item_meaning}
 use Rattle.sctp_send.specs.SenderFields.{track_meaning, queued_by}
 use Rattle.sctp_send.specs.declared.message.Message.{Message as MessageFields}
@@ -66,7 +63,7 @@ ended_any size es at le before =
     let long = length-map es (item_meaning size) in
     sym (before ∙ ap any_unsettled (none_behind at (map (item_meaning size) es) (omega arith)))
 
--- ---- sums, stream by stream
+-- ---- what is read of streams and of the queue
 
 pub track_read : (size : ℕ) (ts : List TrackFields) (i : ℕ) (x : TrackFields) → x ≡ get_or ts i x → get_or (map (track_meaning size) ts) i (track_meaning size x) ≡ track_meaning size x
 track_read size ts i x read = of_map ts i x ∙ ap (track_meaning size) (sym read)
@@ -76,16 +73,6 @@ track_read size ts i x read = of_map ts i x ∙ ap (track_meaning size) (sym rea
     of_map (e ∷ ds) zero d = refl
     of_map (e ∷ ds) (suc j) d = of_map ds j d
 
-pub total_more : (f : Track → ℕ) (size : ℕ) (ts : List TrackFields) (at : ℕ) (x : TrackFields) → at < length ts → x ≡ get_or ts at x
-    → total f (drop at (map (track_meaning size) ts)) ≡ f (track_meaning size x) + total f (drop (at + 1) (map (track_meaning size) ts))
-total_more f size ts at x lt read =
-    let long = length-map ts (track_meaning size) in
-    let one : at + 1 ≡ suc at = omega arith in
-    total_drop f (map (track_meaning size) ts) at (track_meaning size x) (omega arith) ∙ rw (track_read size ts at x read, one) refl
-
-pub total_end : (f : Track → ℕ) (size : ℕ) (ts : List TrackFields) (at : ℕ) → length ts ≤ at → total f (drop at (map (track_meaning size) ts)) ≡ 0
-total_end f size ts at le = let long = length-map ts (track_meaning size) in ap (total f) (none_behind at (map (track_meaning size) ts) (omega arith))
-
 pub queue_read : (size : ℕ) (ms : List (Rc MessageFields Global)) (i : ℕ) (x : Rc MessageFields Global) → x ≡ get_or ms i x → get_or (map (queued_by size) ms) i (queued_by size x) ≡ queued_by size x
 queue_read size ms i x read = of_map ms i x ∙ ap (queued_by size) (sym read)
   where
@@ -93,13 +80,3 @@ queue_read size ms i x read = of_map ms i x ∙ ap (queued_by size) (sym read)
     of_map [] j d = refl
     of_map (e ∷ ds) zero d = refl
     of_map (e ∷ ds) (suc j) d = of_map ds j d
-
-pub queue_more : (size : ℕ) (ms : List (Rc MessageFields Global)) (at : ℕ) (x : Rc MessageFields Global) → at < length ms → x ≡ get_or ms at x
-    → owed_by_queue (drop at (map (queued_by size) ms)) ≡ owed_for (length (cut size x.value.bytes.items)) + owed_by_queue (drop (at + 1) (map (queued_by size) ms))
-queue_more size ms at x lt read =
-    let long = length-map ms (queued_by size) in
-    let one : at + 1 ≡ suc at = omega arith in
-    sum_queue (map (queued_by size) ms) at (queued_by size x) (omega arith) ∙ rw (queue_read size ms at x read, one) refl
-
-pub queue_end : (size : ℕ) (ms : List (Rc MessageFields Global)) (at : ℕ) → length ms ≤ at → owed_by_queue (drop at (map (queued_by size) ms)) ≡ 0
-queue_end size ms at le = let long = length-map ms (queued_by size) in ap owed_by_queue (none_behind at (map (queued_by size) ms) (omega arith))

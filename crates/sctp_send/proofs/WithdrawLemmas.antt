@@ -19,7 +19,7 @@ use Rattle.sctp_send.specs.SenderStands.{table, fate_here, fate_named, Keeps}
 use Rattle.sctp_send.specs.declared.message.Message.{Message as MessageFields}
 use Rattle.sctp_send.specs.declared.message.Fate.TheVariants.{Waiting, Withdrawn}
 use Rattle.sctp_send.proofs.TableLemmas.{table-set}
-use Rattle.sctp_send.proofs.WalkLemmas.{none_behind}
+use Rattle.sctp_send.proofs.WalkLemmas.{none_behind, queue_read}
 
 -- ---- the place of a message that waits
 
@@ -33,21 +33,13 @@ take_more [] at d rest lt = absurd (omega arith)
 take_more (q ∷ qs) zero d rest lt = refl
 take_more (q ∷ qs) (suc at) d rest lt = ap (λ (xs : List Queued). q ∷ xs) (take_more qs at d rest (omega arith))
 
-message_read : (size : ℕ) (ms : List (Rc MessageFields Global)) (i : ℕ) (x : Rc MessageFields Global) → x ≡ get_or ms i x → get_or (map (queued_by size) ms) i (queued_by size x) ≡ queued_by size x
-message_read size ms i x read = of_map ms i x ∙ ap (queued_by size) (sym read)
-  where
-    of_map : (ds : List (Rc MessageFields Global)) (j : ℕ) (d : Rc MessageFields Global) → get_or (map (queued_by size) ds) j (queued_by size d) ≡ queued_by size (get_or ds j d)
-    of_map [] j d = refl
-    of_map (e ∷ ds) zero d = refl
-    of_map (e ∷ ds) (suc j) d = of_map ds j d
-
 pub walked_place : (t size : ℕ) (ms : List (Rc MessageFields Global)) (at : ℕ) (x : Rc MessageFields Global) → at < length ms → x ≡ get_or ms at x → (x.value.ticket ≡ t → ⊥)
     → without t (map (queued_by size) ms) ≡ take at (map (queued_by size) ms) ++ without t (drop at (map (queued_by size) ms))
     → without t (map (queued_by size) ms) ≡ take (at + 1) (map (queued_by size) ms) ++ without t (drop (at + 1) (map (queued_by size) ms))
 walked_place t size ms at x lt read ne before =
     let long = length-map ms (queued_by size) in
     let off : (x.value.ticket == t) ≡ false = grind (arith, nat_tests) in
-    let here = message_read size ms at x read in
+    let here = queue_read size ms at x read in
     let one : at + 1 ≡ suc at = omega arith in
     let split = split_at t (map (queued_by size) ms) at (queued_by size x) (omega arith) in
     let more = take_more (map (queued_by size) ms) at (queued_by size x) (without t (drop (suc at) (map (queued_by size) ms))) (omega arith) in
@@ -59,7 +51,7 @@ pub found_place : (t size : ℕ) (ms : List (Rc MessageFields Global)) (at : ℕ
 found_place t size ms at x lt read same before =
     let long = length-map ms (queued_by size) in
     let on : (x.value.ticket == t) ≡ true = grind (arith, nat_tests) in
-    let here = message_read size ms at x read in
+    let here = queue_read size ms at x read in
     let one : at + 1 ≡ suc at = omega arith in
     let split = split_at t (map (queued_by size) ms) at (queued_by size x) (omega arith) in
     before ∙ split ∙ rw (here, on, one) refl
