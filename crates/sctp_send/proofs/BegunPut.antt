@@ -181,21 +181,23 @@ module _ (f : Format) (s : Kept) (v : SenderView) (old : Draft) (m : MessageFiel
       goes_is f (room_in p) v (newcomer v led) (next_is f v led stands by.assigned) (begun_may p ∙ ap (λ (x : Bool). x && nat_le (outstanding led) WINDOW) offered ∙ begun_window more is ∙ window)
 
   -- it was not let flow, or did not fit
-  pub begun_held : (p r : PacketDraft) (new : Draft) → IsOffered f s old p r m number 0 false → new ≡ old → IsStopped f s v p r old new
-  begun_held p r new offer same = record {
+  pub begun_held : (p r : PacketDraft) (new : Draft) → IsOffered f s old p r m number 0 false → drafted s new ≡ drafted s old → new.tickets ≡ old.tickets → IsStopped f s v p r old new
+  begun_held p r new offer kept tickets = record {
     none = goes_not f (room_in p) v (newcomer v led) (next_is f v led stands by.assigned) (begun_may p ∙ ap (λ (x : Bool). x && nat_le (outstanding led) WINDOW) (sym offer.answer));
     packet = offer.packet;
-    draft = same;
+    kept = kept;
+    tickets = tickets;
   }
 
   -- the window has no room for it
   pub begun_full : (p r : PacketDraft) (new : Draft) (more : Bool) → more ≡ nat_lt count (length (cut s.fragment m.bytes.items))
       → in_window s old count m.stream more ≡ false
-      → r ≡ p → new ≡ old → IsStopped f s v p r old new
-  begun_full p r new more is window packet same = record {
+      → r ≡ p → drafted s new ≡ drafted s old → new.tickets ≡ old.tickets → IsStopped f s v p r old new
+  begun_full p r new more is window packet kept tickets = record {
     none = goes_not f (room_in p) v (newcomer v led) (next_is f v led stands by.assigned) (begun_may p ∙ and_off _ (nat_le (outstanding led) WINDOW) (begun_window more is ∙ window));
     packet = packet;
-    draft = same;
+    kept = kept;
+    tickets = tickets;
   }
 
   -- it is in the packet, and took its number

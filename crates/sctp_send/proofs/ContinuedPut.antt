@@ -132,21 +132,23 @@ module _ (f : Format) (s : Kept) (v : SenderView) (old : Draft) (r : RestFields)
       goes_is f (room_in p) v (newcomer v led) (next_is f v led stands led_is) (continued_may p ∙ ap (λ (x : Bool). x && nat_le (outstanding led) WINDOW) offered ∙ continued_window more is ∙ window)
 
   -- it was not let flow, or did not fit
-  pub continued_held : (p q : PacketDraft) (new : Draft) → IsOffered f s old p q r.message.value r.number r.fragment false → new ≡ old → IsStopped f s v p q old new
-  continued_held p q new offer same = record {
+  pub continued_held : (p q : PacketDraft) (new : Draft) → IsOffered f s old p q r.message.value r.number r.fragment false → drafted s new ≡ drafted s old → new.tickets ≡ old.tickets → IsStopped f s v p q old new
+  continued_held p q new offer kept tickets = record {
     none = goes_not f (room_in p) v (newcomer v led) (next_is f v led stands led_is) (continued_may p ∙ ap (λ (x : Bool). x && nat_le (outstanding led) WINDOW) (sym offer.answer));
     packet = offer.packet;
-    draft = same;
+    kept = kept;
+    tickets = tickets;
   }
 
   -- the window has no room for it
   pub continued_full : (p q : PacketDraft) (new : Draft) (more : Bool) → more ≡ nat_lt (suc r.fragment) (length (cut s.fragment r.message.value.bytes.items))
       → in_window s old 1 stream more ≡ false
-      → q ≡ p → new ≡ old → IsStopped f s v p q old new
-  continued_full p q new more is window packet same = record {
+      → q ≡ p → drafted s new ≡ drafted s old → new.tickets ≡ old.tickets → IsStopped f s v p q old new
+  continued_full p q new more is window packet kept tickets = record {
     none = goes_not f (room_in p) v (newcomer v led) (next_is f v led stands led_is) (continued_may p ∙ and_off _ (nat_le (outstanding led) WINDOW) (continued_window more is ∙ window));
     packet = packet;
-    draft = same;
+    kept = kept;
+    tickets = tickets;
   }
 
   -- it is in the packet, and took its index

@@ -1,8 +1,8 @@
 -- Fragments that take indexes, tickets that are numbered, the chunk of a fragment: what the code writes is what is kept.
-use Rattle.std.proofs.Common.{◌≡◌, ℕ, zero, suc, ◌+◌, ◌-◌, ◌*◌, ◌<◌, ◌≤◌, min, List, [], ◌∷◌, ◌++◌, length, map, take, drop, get_or, set, Bool, true, false, Option, Some, None, refl, sym, ap, ◌∙◌, arith, length-drop, deque_capacity, deque_len, OnSome, IsSome, ◌↔◌, remove}
+use Rattle.std.proofs.Common.{◌≡◌, ℕ, zero, suc, ◌+◌, ◌-◌, ◌*◌, ◌<◌, ◌≤◌, min, List, [], ◌∷◌, ◌++◌, length, map, take, drop, get_or, set, Bool, true, false, Option, Some, None, refl, sym, ap, ◌∙◌, arith, length-drop, remove}
 use Rattle.std.specs.Prelude.{◌==◌, nat_le}
 use Rattle.std.proofs.lemmas.Bool.Decides.{nat_tests}
-use Rattle.std.proofs.lemmas.List.{length-map, map-append, map-set, take-map, drop-map, take_all}
+use Rattle.std.proofs.lemmas.List.{length-map, map-append, map-set, take-map, drop-map, take_all, take-take}
 use Rattle.sctp_model.specs.Format.{Format, Lane}
 use Rattle.sctp_model.specs.Framing.{lane_kind, data_chunk, wire_number}
 use Rattle.sctp_model.specs.Pieces.{word_of}
@@ -11,21 +11,19 @@ use Rattle.sctp_model.specs.Plan.{Message, Part}
 use Rattle.sctp_model.specs.sender.Entries.{entry_fragment, bytes_in}
 use Rattle.sctp_model.specs.sender.Queueing.{cut}
 use Rattle.sctp_model.specs.sender.PieceSaid.{is_unordered}
-use Rattle.sctp_model.specs.SenderView.{SenderView}
-use Rattle.sctp_send.specs.SenderStands.{Keeps}
-use Rattle.sctp_send.proofs.AssignedKept.{in_part_streams}
+use Rattle.sctp_send.specs.WindowKept.{WindowKept, IsSameRoom}
 use Rattle.sctp_send.specs.SenderKept.{Item, Rest, Track, Kept}
 use Rattle.sctp_send.specs.OutstandingFields.{item_meaning, queued_meaning, lane_meaning, message_meaning, entry_meaning}
 use Rattle.sctp_send.specs.inner.Newcomers.{gone_item, new_item, new_items, begun_items, fresh_track, track_of, number_on, without_place, begun, gone_on}
 use Rattle.sctp_send.specs.inner.Drafting.{numbers_of, all_numbered, drafted, fragment_chunk, fragment_item, rest_from, counted_track, left_track}
 use Rattle.sctp_send.specs.SenderFields.{queued_by, track_meaning, rest_meaning}
 use Rattle.std.specs.declared.alloc.Global.{Global}
-use Rattle.std.specs.declared.collections.VecDeque.{VecDeque}
 use Rattle.std.specs.declared.rc.Rc.{Rc}
 use Rattle.sctp_send.specs.declared.sender.Track.{Track as TrackFields}
 use Rattle.sctp_send.specs.declared.draft.Draft.{Draft}
 use Rattle.sctp_send.specs.declared.sender.Rest.{Rest as RestFields}
 use Rattle.sctp_send.specs.declared.outstanding.Standing.TheVariants.{Sent}
+use Rattle.sctp_send.specs.declared.outstanding.Outstanding.{Outstanding}
 use Rattle.sctp_send.specs.declared.message.Fate.{Fate}
 use Rattle.sctp_send.specs.declared.message.Fate.TheVariants.{Numbered}
 use Rattle.sctp_send.specs.declared.message.Message.{Message as MessageFields}
@@ -48,6 +46,23 @@ begun_push l n m (suc d) some =
     let next : suc d + 1 ≡ suc (suc d) = omega arith in
     let place : 1 + d ≡ suc d = omega arith in
     rw next (ap (λ (xs : List Item). gone_item (new_item (Part l n 0) m) ∷ xs) (rw place at (new_push l n m 1 d)))
+
+-- So many first fragments of a message came behind the entries that there were, and there is as much room.
+pub record IsPushed (old new : WindowKept) (m : MessageFields) (number count : ℕ) : Type 0 where
+  pub items : (size : ℕ) → map (item_meaning size) new.items ≡ map (item_meaning size) old.items ++ begun_items (lane_meaning m) number (message_meaning size m) count
+  pub before : old.items ≡ take (length old.items) new.items
+  pub long : length new.items ≡ length old.items + count
+  pub room : IsSameRoom old new
+
+-- those before are the same where one more comes
+pub before_more : (xs ys zs : List Outstanding) → xs ≡ take (length xs) ys → length xs ≤ length ys → ys ≡ take (length zs - 1) zs → length zs ≡ length ys + 1 → xs ≡ take (length xs) zs
+before_more xs ys zs first le more long =
+    let one : length zs - 1 ≡ length ys = omega arith in
+    first ∙ ap (take (length xs)) (more ∙ ap (λ (n : ℕ). take n zs) one) ∙ take-take (length xs) (length ys) zs le
+
+-- one that came is behind all before
+pub before_one : (xs ys : List Outstanding) → xs ≡ take (length ys - 1) ys → length ys ≡ length xs + 1 → xs ≡ take (length xs) ys
+before_one xs ys more long = let one : length ys - 1 ≡ length xs = omega arith in more ∙ ap (λ (n : ℕ). take n ys) one
 
 -- ---- bytes of a fragment
 
@@ -168,43 +183,22 @@ pub gone_on_is : (s : Kept) (old new : Draft) (r : RestFields) (stream turn : �
 gone_on_is s old new r stream turn left items queue tracks rest told turned = rw (items, queue, tracks, told, turned, rest) refl
 
 -- a place of the queue is empty now
-pub taken_out : (size place : ℕ) (old new : VecDeque (Rc MessageFields Global) Global) (taken : Option (Rc MessageFields Global)) → place < length old.items → deque_len old ≡ length old.items
-    → OnSome taken (new.items ≡ remove old.items place) → IsSome taken ↔ (place < deque_len old) → map (queued_by size) new.items ≡ without_place place (map (queued_by size) old.items)
-taken_out size place old new (Some m) low long items some =
-    ap (map (queued_by size)) items ∙ map-append (queued_by size) (take place old.items) (drop (suc place) old.items)
-    ∙ sym (rw (take-map (queued_by size) place old.items, drop-map (queued_by size) (suc place) old.items) refl)
-taken_out size place old new None low long items some = let there = some.1 (omega arith) in absurd (cc)
+pub taken_out : (size place : ℕ) (ms : List (Rc MessageFields Global)) → map (queued_by size) (remove ms place) ≡ without_place place (map (queued_by size) ms)
+taken_out size place ms = map-append (queued_by size) (take place ms) (drop (suc place) ms) ∙ sym (rw (take-map (queued_by size) place ms, drop-map (queued_by size) (suc place) ms) refl)
 
 -- a stream's track is another now
 pub set_on : (size at stream : ℕ) (ts : List TrackFields) (y : TrackFields) (z : Track) → at ≡ stream → track_meaning size y ≡ z → map (track_meaning size) (set ts at y) ≡ set (map (track_meaning size) ts) stream z
 set_on size at stream ts y z same is = map-set (track_meaning size) ts at y ∙ rw (same, is) refl
 
+-- a stream that is replaced, and replaced by what it was
+pub replaced : (at stream : ℕ) (ts us : List TrackFields) (y before : TrackFields) → at ≡ stream → us ≡ set ts at y → before ≡ get_or ts at before → set us stream before ≡ ts
+replaced at stream ts us y before same is read = rw (is, ← same) (twice at ts read)
+  where
+    twice : (n : ℕ) (xs : List TrackFields) → before ≡ get_or xs n before → set (set xs n y) n before ≡ xs
+    twice n [] here = refl
+    twice zero (x ∷ xs) here = ap (λ (z : TrackFields). z ∷ xs) here
+    twice (suc n) (x ∷ xs) here = ap (λ (zs : List TrackFields). x ∷ zs) (twice n xs here)
+
 -- the track that was read
 pub track_there : (size at stream : ℕ) (ts : List TrackFields) (x : TrackFields) → at ≡ stream → stream < length ts → x ≡ get_or ts at x → track_of (map (track_meaning size) ts) stream ≡ track_meaning size x
 track_there size at stream ts x same low read = ap (track_of (map (track_meaning size) ts)) (sym same) ∙ read_at (track_meaning size) ts at x fresh_track (omega arith) read
-
--- a copy keeps what the sender keeps
-pub keeps_copied : (f : Format) (s : Kept) (v : SenderView) (d : Draft) → Keeps f s v → map (item_meaning s.fragment) d.outstanding.items ≡ s.items → map (queued_by s.fragment) d.queue.items ≡ s.queue
-    → map (track_meaning s.fragment) d.tracks.items ≡ s.tracks → d.turn ≡ s.turn → d.tickets.items ≡ [] → s.streams + length d.outstanding.items ≤ d.outstanding.capacity → Keeps f (drafted s d) v
-keeps_copied f s v d k items queue tracks turned none room =
-    let fates : all_numbered s.fates (numbers_of d.tickets.items) ≡ s.fates = rw none refl in
-    let long = length-map d.outstanding.items (item_meaning s.fragment) in
-    let parts = in_part_streams v in
-    record {
-      holds = record {
-        initial = k.holds.initial;
-        streams = k.holds.streams;
-        fragment = k.holds.fragment;
-        partial = k.holds.partial;
-        cum = k.holds.cum;
-        rwnd = k.holds.rwnd;
-        turn = turned ∙ k.holds.turn;
-        items = items ∙ k.holds.items;
-        queue = queue ∙ k.holds.queue;
-        tracks = tracks ∙ k.holds.tracks;
-        fates = fates ∙ k.holds.fates;
-        covered = k.holds.covered;
-        room = omega (arith, room, long, parts, k.holds.streams);
-      };
-      reached = k.reached;
-    }

@@ -10,8 +10,11 @@ use Rattle.sctp_model.proofs.sender.FillLaws.{goes_parts, room_some, room_fits, 
 use Rattle.sctp_packet.specs.Draft.{Draft as PacketDraft, room_in, with_chunks}
 use Rattle.sctp_send.specs.SenderKept.{Kept}
 use Rattle.sctp_send.specs.SenderStands.{Keeps, StandsFor}
+use Rattle.sctp_send.specs.OutstandingFields.{item_meaning}
+use Rattle.sctp_send.specs.SenderFields.{queued_by, track_meaning}
 use Rattle.sctp_send.specs.FillAnswers.{FillAnswer, PutSomeOf}
 use Rattle.sctp_send.specs.inner.Drafting.{numbers_of, drafted, IsPut, IsStopped, AllPut}
+use Rattle.sctp_send.specs.inner.Undoing.{IsSized, IsBehind}
 use Rattle.sctp_send.specs.declared.draft.Draft.{Draft}
 use Rattle.sctp_send.specs.declared.fill.Filled.{Filled}
 use Rattle.sctp_send.proofs.RoomLemmas.{room_more, goes_nowhere}
@@ -88,6 +91,12 @@ loop_more f s v p now later old new steps x put =
       many = let long = length-append x.wishes (put.wish ∷ []) in let before = x.many in omega (arith, long, before);
     }
 
+-- What holds at each step: the draft leads back to what it was, with parts of one size, and so many wishes went.
+pub record IsFilledSoFar (f : Format) (s : Kept) (p now : PacketDraft) (old new : Draft) (steps : ℕ) : Type 0 where
+  pub sized : IsSized s.fragment new
+  pub behind : IsBehind old new
+  pub so_far : (v : SenderView) → Keeps f (drafted s old) v → IsSoFar f s v p now new steps
+
 -- ---- the end
 
 -- the next wish may not go
@@ -99,8 +108,8 @@ loop_stopped f s v p now later old new steps x stop =
       view = x.view;
       fill = stopped_is_fill f v x.view (room_in p) x.wishes x.follows none;
       chunks = stop.packet ∙ x.chunks;
-      keeps = subst (λ (d : Draft). Keeps f (drafted s d) x.view) (sym stop.draft) x.keeps;
-      told = ap (λ (d : Draft). numbers_of d.tickets.items) stop.draft ∙ x.told;
+      keeps = subst (λ (y : Kept). Keeps f y x.view) (sym stop.kept) x.keeps;
+      told = ap (λ (ts : _). numbers_of ts.items) stop.tickets ∙ x.told;
     }
 
 -- as many went as there was room, so none is left
@@ -123,6 +132,11 @@ loop_some f s v p now later d steps x some = record {
 -- nothing went
 pub none_put : (f : Format) (v : SenderView) (p r : PacketDraft) → r ≡ p → PutSomeOf f v p r
 none_put f v p r same = record { wishes = []; view = v; follows = refl; chunks = same ∙ sym (no_chunks p) }
+
+-- a draft of what a sender keeps
+pub moved_is : (s : Kept) (d : Draft) → map (item_meaning s.fragment) d.outstanding.items ≡ s.items → map (queued_by s.fragment) d.queue.items ≡ s.queue → map (track_meaning s.fragment) d.tracks.items ≡ s.tracks
+    → d.turn ≡ s.turn → d.tickets.items ≡ [] → d.outstanding.capacity ≡ s.capacity → drafted s d ≡ s
+moved_is s d items queue tracks turn told room = rw (items, queue, tracks, turn, told, room) refl
 
 -- the draft takes the sender's place
 pub filled_is : (f : Format) (s new : Kept) (v : SenderView) (p r : PacketDraft) (d : Draft) (filled : Filled) → AllPut f s v p r d → new ≡ drafted s d → filled.tickets ≡ d.tickets → FillAnswer f v p r new filled

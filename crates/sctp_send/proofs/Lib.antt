@@ -45,6 +45,5 @@ pub mod NewMayLemmas
 pub mod BegunPut
 pub mod ContinuedPut
 pub mod FilledLemmas
-pub mod WentLemmas
-pub mod WentFlight
-pub mod CursorLemmas
+pub mod UndoLemmas
+pub mod BehindLemmas

@@ -1,5 +1,5 @@
 -- Whether what is assigned next may go, as the code tests it: flow, room, and the window.
-use Rattle.std.proofs.Common.{◌≡◌, ℕ, zero, suc, ◌+◌, ◌%◌, ◌^◌, ◌<◌, List, [], ◌∷◌, length, map, get_or, Bool, true, false, Option, Some, None, refl, sym, ap, ◌∙◌, arith}
+use Rattle.std.proofs.Common.{◌≡◌, ℕ, zero, suc, ◌+◌, ◌*◌, ◌%◌, ◌^◌, ◌<◌, ◌≤◌, List, [], ◌∷◌, length, map, get_or, Bool, true, false, Option, Some, None, refl, sym, ap, ◌∙◌, arith}
 use Rattle.std.specs.Prelude.{nat_le, ◌&&◌, option_map, Result, Ok, Err, IfOk, OnErr, nat_lt}
 use Rattle.std.proofs.lemmas.Bool.Decides.{nat_tests}
 use Rattle.std.proofs.lemmas.Option.{slice_get-get_or}
@@ -24,7 +24,10 @@ use Rattle.sctp_send.specs.SenderFields.{track_meaning, rest_meaning, rests_mean
 use Rattle.sctp_send.specs.inner.Walks.{total, one_if_rest}
 use Rattle.sctp_send.specs.inner.Wishing.{item_flight, lets_flow}
 use Rattle.sctp_send.specs.inner.Newcomers.{rest_at, has_rest, one_if}
-use Rattle.sctp_send.specs.inner.Drafting.{drafted, fragment_chunk, IsOffered, NothingStands}
+use Rattle.sctp_send.specs.inner.Drafting.{drafted, fragment_chunk, IsOffered, IsFlying, NothingStands}
+use Rattle.sctp_send.specs.WindowKept.{WindowKept}
+use Rattle.sctp_send.proofs.KeepLemmas.{kept_length}
+use Rattle.std.proofs.lemmas.List.{length-map}
 use Rattle.sctp_send.specs.declared.draft.Draft.{Draft}
 use Rattle.sctp_send.specs.declared.message.Message.{Message as MessageFields}
 use Rattle.sctp_send.specs.declared.sender.Rest.{Rest as RestFields}
@@ -101,6 +104,20 @@ window_test o had count all more w is small = let same : all % 2 ^ 32 ≡ all = 
 pub and_off : (a b : Bool) → b ≡ false → (a && b) ≡ false
 and_off true b is = is
 and_off false b is = refl
+
+-- ---- what is in flight
+
+-- what is counted modulo 2^64 is all that is in flight: so few entries hold no more
+pub flying_is : (f : Format) (s : Kept) (v : SenderView) (d : Draft) (w : WindowKept) (flying : ℕ) → Keeps f (drafted s d) v → w ≡ d.outstanding → d.outstanding.size ≡ s.fragment
+    → flying ≡ item_flight (map (item_meaning w.size) w.items) % 2 ^ 64 → item_flight (map (item_meaning w.size) w.items) ≤ length w.items * 65535 → IsFlying s d flying
+flying_is f s v d w flying k same sized counted few =
+    let here = ap (λ (y : WindowKept). item_flight (map (item_meaning y.size) y.items)) same ∙ ap (λ (n : ℕ). item_flight (map (item_meaning n) d.outstanding.items)) sized in
+    let items = ap (λ (y : WindowKept). length y.items) same in
+    let count = kept_length f (drafted s d) v k in
+    let long = length-map d.outstanding.items (item_meaning s.fragment) in
+    let most = is_windowed f v k.reached in
+    let all : item_flight (map (item_meaning w.size) w.items) % 2 ^ 64 ≡ item_flight (map (item_meaning w.size) w.items) = omega (arith, few, items, count, long, most) in
+    counted ∙ all ∙ here
 
 -- ---- lists
 

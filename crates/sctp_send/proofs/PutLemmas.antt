@@ -1,10 +1,9 @@
 -- What has its index is put into a packet, or isn't: the answers for an entry that is marked, and for one that never went out.
-use Rattle.std.proofs.Common.{◌≡◌, ℕ, suc, ◌+◌, ◌<◌, List, [], ◌∷◌, ◌++◌, length, map, drop, get_or, set, Bool, true, false, Option, Some, None, refl, sym, ap, ◌∙◌, subst, arith, append-nil}
+use Rattle.std.proofs.Common.{◌≡◌, ℕ, zero, suc, ◌+◌, ◌<◌, List, [], ◌∷◌, ◌++◌, length, map, drop, get_or, set, Bool, true, false, Option, Some, None, refl, sym, ap, ◌∙◌, subst, arith, append-nil}
 use Rattle.std.specs.Prelude.{nat_le, not, ◌&&◌, ◌||◌, if◌then◌else◌, option_map}
 use Rattle.std.proofs.lemmas.Bool.{and_parts}
-use Rattle.std.proofs.lemmas.List.{length-map, map-set}
+use Rattle.std.proofs.lemmas.List.{length-map}
 use Rattle.std.proofs.lemmas.Option.{slice_get_read}
-use Rattle.std.specs.VecDeque.{deque_with_item}
 use Rattle.sctp_model.specs.Format.{Format}
 use Rattle.sctp_model.specs.Chunk.{ChunkMeaning}
 use Rattle.sctp_model.specs.Plan.{Entry}
@@ -18,6 +17,7 @@ use Rattle.sctp_model.specs.sender.PieceSaid.{piece_said}
 use Rattle.sctp_packet.specs.Draft.{Draft as PacketDraft, room_in, has_room, with_chunks, after_try}
 use Rattle.sctp_send.specs.SenderKept.{Item, Kept}
 use Rattle.sctp_send.specs.SenderStands.{item_here, Keeps}
+use Rattle.sctp_send.specs.WindowKept.{WindowKept, at_place, changed}
 use Rattle.sctp_send.specs.OutstandingFields.{item_meaning, lane_meaning, message_meaning, entry_meaning}
 use Rattle.sctp_send.specs.inner.Wishing.{first_place, is_item_marked, is_item_unsent, item_flight, lets_flow}
 use Rattle.sctp_send.specs.inner.Newcomers.{gone_item}
@@ -65,6 +65,12 @@ kept_there f s v at d k low =
     let r = item_there v (suc v.cum) (drop v.cum v.plan.entries) at d (subst (λ (xs : List Item). at < length xs) k.holds.items low) in
     let index : suc v.cum + at ≡ suc (v.cum + at) = omega arith in
     record { entry = r.0; item = ap (λ (xs : List Item). get_or xs at d) k.holds.items ∙ rw index at r.2 }
+
+-- what a search in the window answers, by what a sender with its size keeps
+pub searched : (s : Kept) (d : Draft) (w : WindowKept) (test : Item → Bool) (o : Option ℕ) → w ≡ d.outstanding → d.outstanding.size ≡ s.fragment → o ≡ first_place test (map (item_meaning w.size) w.items)
+    → first_place test (drafted s d).items ≡ o
+searched s d w test o same sized is =
+    sym (is ∙ ap (λ (y : WindowKept). first_place test (map (item_meaning y.size) y.items)) same ∙ ap (λ (n : ℕ). first_place test (map (item_meaning n) d.outstanding.items)) sized)
 
 -- what is marked is the next wish, and is never held back
 pub marked_next : (f : Format) (s : Kept) (v : SenderView) (at : ℕ) (d : Item) → Keeps f s v → first_place is_item_marked s.items ≡ Some at → (at < length s.items) × IsNextEntry f v at
@@ -140,17 +146,17 @@ entry_goes f s v before after old new at x k premise low read room packet kept t
 -- it doesn't where its chunk doesn't fit
 pub entry_stops : (f : Format) (s : Kept) (v : SenderView) (before after : PacketDraft) (old new : Draft) (at : ℕ) (x : Outstanding) → Keeps f (drafted s old) v → IsNextEntry f v at
     → at < length old.outstanding.items → x ≡ get_or old.outstanding.items at x → has_room before (fragment_chunk f s.fragment s.initial (suc (s.cum + at)) x.message.value x.number x.place) ≡ false
-    → after ≡ before → new ≡ old → IsStopped f s v before after old new
-entry_stops f s v before after old new at x k premise low read room packet same =
+    → after ≡ before → drafted s new ≡ drafted s old → new.tickets ≡ old.tickets → IsStopped f s v before after old new
+entry_stops f s v before after old new at x k premise low read room packet kept tickets =
     let chunk = standing_chunk f s v old at x k low read in
     let may = may_where_fits f (drafted s old) v before (suc (v.cum + at)) k premise.flows ∙ ap (has_room before) chunk ∙ room in
-    record { none = goes_not f (room_in before) v (standing v (suc (v.cum + at))) premise.next may; packet = packet; draft = same }
+    record { none = goes_not f (room_in before) v (standing v (suc (v.cum + at))) premise.next may; packet = packet; kept = kept; tickets = tickets }
 
 -- one of the two, as the packet answered; size and message as the code has them
 pub entry_put : (f : Format) (s : Kept) (v : SenderView) (before after : PacketDraft) (old new : Draft) (at : ℕ) (x : Outstanding) (size : ℕ) (m : MessageFields) (put : Bool) → Keeps f (drafted s old) v → IsNextEntry f v at
     → at < length old.outstanding.items → x ≡ get_or old.outstanding.items at x → size ≡ s.fragment → m ≡ x.message.value
     → put ≡ has_room before (fragment_chunk f size s.initial (suc (s.cum + at)) m x.number x.place) → after ≡ after_try before (fragment_chunk f size s.initial (suc (s.cum + at)) m x.number x.place) put
-    → (put ≡ true → (drafted s new ≡ with_gone s old at x) × (new.tickets ≡ old.tickets)) → (put ≡ false → new ≡ old) → PutAnswer f s v before after old new put
+    → (put ≡ true → (drafted s new ≡ with_gone s old at x) × (new.tickets ≡ old.tickets)) → (put ≡ false → (drafted s new ≡ drafted s old) × (new.tickets ≡ old.tickets)) → PutAnswer f s v before after old new put
 entry_put f s v before after old new at x size m put k premise low read sized mine room packet went stayed = by_put put refl
   where
     chunk : fragment_chunk f size s.initial (suc (s.cum + at)) m x.number x.place ≡ fragment_chunk f s.fragment s.initial (suc (s.cum + at)) x.message.value x.number x.place
@@ -162,16 +168,20 @@ entry_put f s v before after old new at x size m put k premise low read sized mi
         (packet ∙ ap (after_try before (fragment_chunk f size s.initial (suc (s.cum + at)) m x.number x.place)) is ∙ ap (λ (c : ChunkMeaning). with_chunks before (c ∷ [])) chunk) (went is).0 (ap (λ (ts : _). numbers_of ts.items) (went is).1)
     by_put false is =
         entry_stops f s v before after old new at x k premise low read (ap (has_room before) (sym chunk) ∙ sym room ∙ is)
-        (packet ∙ ap (after_try before (fragment_chunk f size s.initial (suc (s.cum + at)) m x.number x.place)) is) (stayed is)
+        (packet ∙ ap (after_try before (fragment_chunk f size s.initial (suc (s.cum + at)) m x.number x.place)) is) (stayed is).0 (stayed is).1
 
 -- an entry that was read twice is one
 pub read_once : (xs : List Outstanding) (at : ℕ) (x y : Outstanding) → at < length xs → x ≡ get_or xs at x → y ≡ get_or xs at y → x ≡ y
 read_once xs at x y low one two = let here = slice_get_read xs (length xs) at x refl low one in let there = slice_get_read xs (length xs) at y refl low two in let same : Some x ≡ Some y = sym here ∙ there in cc
 
 -- the draft in which an entry went out
-pub sent_draft : (s : Kept) (old : Draft) (at : ℕ) (x e : Outstanding) → e ≡ went_out x → drafted s (record old { outstanding = deque_with_item old.outstanding at e }) ≡ with_gone s old at x
-sent_draft s old at x e is =
-    ap (λ (xs : List Item). record (drafted s old) { items = xs }) (map-set (item_meaning s.fragment) old.outstanding.items at e ∙ ap (λ (y : Outstanding). set (map (item_meaning s.fragment) old.outstanding.items) at (item_meaning s.fragment y)) is)
+pub sent_draft : (s : Kept) (old : Draft) (w : WindowKept) (at : ℕ) (x : Outstanding) → x ≡ get_or old.outstanding.items at x → w ≡ changed went_out at old.outstanding → drafted s (record old { outstanding = w }) ≡ with_gone s old at x
+sent_draft s old w at x read is = ap (λ (y : WindowKept). drafted s (record old { outstanding = y })) is ∙ ap (λ (xs : List Item). record (drafted s old) { items = xs }) (placed at old.outstanding.items read)
+  where
+    placed : (n : ℕ) (es : List Outstanding) → x ≡ get_or es n x → map (item_meaning s.fragment) (at_place went_out n es) ≡ set (map (item_meaning s.fragment) es) n (item_meaning s.fragment (went_out x))
+    placed n [] here = refl
+    placed zero (e ∷ es) here = ap (λ (y : Outstanding). item_meaning s.fragment (went_out y) ∷ map (item_meaning s.fragment) es) (sym here)
+    placed (suc n) (e ∷ es) here = ap (λ (xs : List Item). item_meaning s.fragment e ∷ xs) (placed n es here)
 
 -- ---- an entry that never went out
 
@@ -195,12 +205,12 @@ unsent_flows f s v old at x k premise low read flows = record { next = premise.n
 pub unsent_stops : (f : Format) (s : Kept) (v : SenderView) (before after : PacketDraft) (old new : Draft) (at : ℕ) (x : Outstanding) → Keeps f (drafted s old) v → IsNextUnsent f v at
     → at < length old.outstanding.items → x ≡ get_or old.outstanding.items at x
     → lets_flow (item_flight (map (item_meaning s.fragment) old.outstanding.items)) (length (bytes_in (entry_meaning (lane_meaning x.message.value) x.number x.place) (Some (message_meaning s.fragment x.message.value)))) s.rwnd ≡ false
-    → after ≡ before → new ≡ old → IsStopped f s v before after old new
-unsent_stops f s v before after old new at x k premise low read held packet same =
+    → after ≡ before → drafted s new ≡ drafted s old → new.tickets ≡ old.tickets → IsStopped f s v before after old new
+unsent_stops f s v before after old new at x k premise low read held packet kept tickets =
     let w = standing v (suc (v.cum + at)) in
     let off = unsent_flow f s v old at x k premise low read ∙ held in
     let may : may_go f (room_in before) w ≡ false = rw off (and_false (nat_le (room_of f w) (room_in before))) in
-    record { none = goes_not f (room_in before) v w premise.next may; packet = packet; draft = same }
+    record { none = goes_not f (room_in before) v w premise.next may; packet = packet; kept = kept; tickets = tickets }
   where
     and_false : (b : Bool) → (b && false) ≡ false
     and_false true = refl

@@ -54,7 +54,7 @@ pub fn note(log: &mut Vec<Change>, change: Change)
     requires { vec_len log.old < vec_capacity log.old }
     ensures items { log.new.items ≡ log.old.items ++ change ∷ [] }
     ensures long { vec_len log.new ≡ vec_len log.old + 1 }
-    ensures capacity { vec_capacity log.new ≡ vec_capacity log.old }
+    ensures capacity { vec_capacity log.old ≤ vec_capacity log.new }
 {
     let _noted = log.push(change);
 }

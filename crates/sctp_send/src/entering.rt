@@ -7,8 +7,7 @@ ghost use Rattle.sctp_send.specs.OutstandingFields.{item_meaning, lane_meaning, 
 ghost use Rattle.sctp_send.specs.SenderFields.{queued_by, track_meaning, rest_meaning, rests_meaning};
 ghost use Rattle.sctp_send.specs.inner.Newcomers.{number_in, number_on, begun_items, track_of, without_place, begun, gone_on};
 ghost use Rattle.sctp_send.specs.inner.Drafting.{numbers_of, drafted, fragment_item, rest_from, counted_track, left_track};
-ghost use Rattle.sctp_send.specs.inner.Undoing.{origin, IsSized, IsBehind};
-ghost use Rattle.sctp_send.specs.declared.draft.Change.TheVariants.{In};
+ghost use Rattle.sctp_send.specs.inner.Undoing.{Parts, before_all, IsSized, IsBehind};
 
 use crate::assigning::{Beginning, stream_after};
 use crate::draft::{Change, Draft, note, shared};
@@ -18,6 +17,7 @@ use crate::pushing::{push_begun, push_fragment};
 use crate::queue::fragments_of;
 use crate::sender::{Rest, Sender, Track};
 use crate::streams::Streams;
+use crate::waiting::Waiting;
 use sctp_framing::Framing;
 use sctp_wire::NoMemory;
 use std::rc::Rc;
@@ -56,10 +56,17 @@ impl<F: Framing> Sender<F> {
             next.count,
             self.streams,
         )?;
-        take_out(draft, next.place);
+        take_out(&mut draft.queue, &mut draft.log, next.place);
         let stream = message.stream;
         let track = count_on(&mut draft.tracks, stream, message.unordered, rest);
-        come_in(draft, next.count, stream, track, next.turn);
+        let change = Change::In {
+            count: next.count,
+            stream,
+            track,
+            turn: draft.turn,
+        };
+        note(&mut draft.log, change);
+        draft.turn = next.turn;
         Ok(())
     }
 
@@ -96,25 +103,16 @@ impl<F: Framing> Sender<F> {
             Standing::Sent,
         )?;
         let track = leave_on(&mut draft.tracks, stream, left);
-        come_in(draft, 1, stream, track, stream_after(stream, self.streams));
+        let change = Change::In {
+            count: 1,
+            stream,
+            track,
+            turn: draft.turn,
+        };
+        note(&mut draft.log, change);
+        draft.turn = stream_after(stream, self.streams);
         Ok(())
     }
-}
-
-/// So many entries came, and a stream went on otherwise than so: that is noted, and the turn is another's.
-fn come_in(draft: &mut Draft, count: usize, stream: u16, track: Track, turn: u16)
-    requires { vec_len draft.old.log < vec_capacity draft.old.log }
-    ensures draft { draft.new ≡ record draft.old { turn = turn; log = draft.new.log } }
-    ensures log { draft.new.log.items ≡ draft.old.log.items ++ In count stream track draft.old.turn ∷ [] }
-{
-    let change = Change::In {
-        count,
-        stream,
-        track,
-        turn: draft.turn,
-    };
-    note(&mut draft.log, change);
-    draft.turn = turn;
 }
 
 /// What is left of a message from a fragment on.
@@ -198,19 +196,18 @@ fn leave_on(tracks: &mut Streams, stream: u16, rest: Option<Rest>) -> Track
 }
 
 /// The message at a place of the queue waits no more; that is noted.
-fn take_out(draft: &mut Draft, place: usize)
-    requires place { place < length draft.old.queue.items }
-    requires room { vec_len draft.old.log < vec_capacity draft.old.log }
-    ensures queue { (size : ℕ) → map (queued_by size) draft.new.queue.items ≡ without_place place (map (queued_by size) draft.old.queue.items) }
-    ensures others { draft.new ≡ record draft.old { queue = draft.new.queue; log = draft.new.log } }
-    ensures origin { origin draft.new ≡ origin draft.old }
-    ensures size { draft.new.queue.size ≡ draft.old.queue.size }
-    ensures capacity { draft.new.queue.capacity ≡ draft.old.queue.capacity }
-    ensures log { vec_len draft.new.log ≡ vec_len draft.old.log + 1 }
-    ensures log_room { vec_capacity draft.new.log ≡ vec_capacity draft.old.log }
+fn take_out(queue: &mut Waiting, log: &mut Vec<Change>, place: usize)
+    requires place { place < length queue.old.items }
+    requires room { vec_len log.old < vec_capacity log.old }
+    ensures queue { (size : ℕ) → map (queued_by size) queue.new.items ≡ without_place place (map (queued_by size) queue.old.items) }
+    ensures back { (p : Parts) → p.queue ≡ queue.new.items → before_all log.new.items p ≡ before_all log.old.items (record p { queue = queue.old.items }) }
+    ensures size { queue.new.size ≡ queue.old.size }
+    ensures capacity { queue.new.capacity ≡ queue.old.capacity }
+    ensures log { vec_len log.new ≡ vec_len log.old + 1 }
+    ensures log_room { vec_capacity log.old ≤ vec_capacity log.new }
 {
-    if let Some(message) = draft.queue.remove(place) {
-        note(&mut draft.log, Change::Taken { place, message });
+    if let Some(message) = queue.remove(place) {
+        note(log, Change::Taken { place, message });
     }
 }
 

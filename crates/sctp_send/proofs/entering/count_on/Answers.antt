@@ -1,15 +1,26 @@
-use Rattle.std.proofs.Common.{◌∙◌, ◌^◌, ◌<◌, suc, ap, sym}
+use Rattle.std.proofs.Common.{◌∙◌, ◌≡◌, List, map, get_or, ◌^◌, ◌<◌, suc, ap, sym}
 use Rattle.sctp_model.specs.Framing.{lane_kind}
 use Rattle.sctp_send.specs.SenderFields.{track_meaning, rests_meaning}
+use Rattle.sctp_send.specs.WindowKept.{StreamsKept}
 use Rattle.sctp_send.specs.inner.Newcomers.{number_in}
 use Rattle.sctp_send.specs.inner.Drafting.{counted_track}
-use Rattle.sctp_send.proofs.EnterLemmas.{set_on, track_there}
+use Rattle.sctp_send.specs.declared.sender.Track.{Track}
+use Rattle.sctp_send.proofs.EnterLemmas.{set_on, track_there, replaced}
 use Rattle.sctp_send.proofs.entering.count_on.Goals as goal
 
-pub returns-then-at-len : goal.returns-then-at-len
-returns-then-at-len c = λ size low small.
+pub returns-clause-items : goal.returns-clause-items
+returns-clause-items c = λ size small.
     let k = lane_kind c.args.unordered in
     let left = rests_meaning size c.args.rest in
-    let there = track_there size c.from-at.result c.args.stream c.args.tracks.now.items c.index_mut.result.now c.from-at.ensures low c.index_mut.ensures.value in
-    let few : suc (number_in k (track_meaning size c.index_mut.result.now)) < 2 ^ 32 = rw there at small in
-    set_on size c.from-at.result c.args.stream c.args.tracks.now.items c.count_message.new.track _ c.from-at.ensures (c.count_message.ensures size few ∙ ap (counted_track k left) (sym there))
+    let x = c.index-tracks-at.result in
+    let ts = c.args.tracks.now.items in
+    let place = c.from-at.result in
+    let read = c.index-tracks-at.is ∙ ap (λ (ys : List Track). get_or ys place x) c.tracks.ensures in
+    let there = track_there size place c.args.stream ts x c.from-at.ensures c.requires read in
+    let few : suc (number_in k (track_meaning size x)) < 2 ^ 32 = rw there at small in
+    ap (λ (w : StreamsKept). map (track_meaning size) w.items) c.replace.ensures.after
+    ∙ set_on size place c.args.stream ts c.counted-next.result _ c.from-at.ensures (c.counted-next.ensures size few ∙ ap (counted_track k left) (sym there))
+
+pub returns-clause-before : goal.returns-clause-before
+returns-clause-before c =
+    replaced c.from-at.result c.args.stream c.args.tracks.now.items c.replace.new.self.items c.counted-next.result c.replace.result c.from-at.ensures (ap (λ (w : StreamsKept). w.items) c.replace.ensures.after) c.replace.ensures.before

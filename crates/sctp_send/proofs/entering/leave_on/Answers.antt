@@ -1,10 +1,23 @@
-use Rattle.std.proofs.Common.{ap, sym}
-use Rattle.sctp_send.specs.SenderFields.{rests_meaning}
+use Rattle.std.proofs.Common.{◌∙◌, List, map, get_or, ap, sym}
+use Rattle.sctp_send.specs.SenderFields.{track_meaning, rests_meaning}
+use Rattle.sctp_send.specs.WindowKept.{StreamsKept}
 use Rattle.sctp_send.specs.inner.Drafting.{left_track}
-use Rattle.sctp_send.proofs.EnterLemmas.{set_on, track_there}
+use Rattle.sctp_send.specs.declared.sender.Track.{Track}
+use Rattle.sctp_send.proofs.EnterLemmas.{set_on, track_there, replaced}
 use Rattle.sctp_send.proofs.entering.leave_on.Goals as goal
 
-pub returns-then-at-len : goal.returns-then-at-len
-returns-then-at-len c = λ size low.
-    let there = track_there size c.from-at.result c.args.stream c.args.tracks.now.items c.index_mut.result.now c.from-at.ensures low c.index_mut.ensures.value in
-    set_on size c.from-at.result c.args.stream c.args.tracks.now.items _ _ c.from-at.ensures (ap (left_track (rests_meaning size c.args.rest)) (sym there))
+pub returns-clause-items : goal.returns-clause-items
+returns-clause-items c = λ size.
+    let left = rests_meaning size c.args.rest in
+    let x = c.index-tracks-at.result in
+    let ts = c.args.tracks.now.items in
+    let place = c.from-at.result in
+    let read = c.index-tracks-at.is ∙ ap (λ (ys : List Track). get_or ys place x) c.tracks.ensures in
+    let there = track_there size place c.args.stream ts x c.from-at.ensures c.requires read in
+    let y : Track = record { ordered = x.ordered; unordered = x.unordered; rest = c.args.rest } in
+    ap (λ (w : StreamsKept). map (track_meaning size) w.items) c.replace.ensures.after
+    ∙ set_on size place c.args.stream ts y _ c.from-at.ensures (ap (left_track left) (sym there))
+
+pub returns-clause-before : goal.returns-clause-before
+returns-clause-before c =
+    replaced c.from-at.result c.args.stream c.args.tracks.now.items c.replace.new.self.items (record { ordered = c.index-tracks-at.result.ordered; unordered = c.index-tracks-at.result.unordered; rest = c.args.rest }) c.replace.result c.from-at.ensures (ap (λ (w : StreamsKept). w.items) c.replace.ensures.after) c.replace.ensures.before

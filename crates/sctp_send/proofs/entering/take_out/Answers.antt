@@ -1,8 +1,14 @@
-use Rattle.std.proofs.Common.{arith}
+use Rattle.std.proofs.Common.{◌∙◌, map, ap}
+use Rattle.sctp_send.specs.SenderFields.{queued_by}
+use Rattle.sctp_send.specs.WindowKept.{WaitingKept}
 use Rattle.sctp_send.proofs.EnterLemmas.{taken_out}
+use Rattle.sctp_send.proofs.BehindLemmas.{taken_behind}
 use Rattle.sctp_send.proofs.entering.take_out.Goals as goal
 
-pub returns : goal.returns
-returns c = λ size low.
-    let taken = c.remove-numbered in
-    taken_out size c.args.place c.args.queue.now taken.new.self taken.result low (omega arith) taken.ensures.items taken.ensures.variant
+pub returns-in-Some-clause-queue : goal.returns-in-Some-clause-queue
+returns-in-Some-clause-queue c = λ size. ap (λ (w : WaitingKept). map (queued_by size) w.items) (c.remove.ensures.some c.requires.place) ∙ taken_out size c.args.place c.args.queue.now.items
+
+pub returns-in-Some-clause-back : goal.returns-in-Some-clause-back
+returns-in-Some-clause-back c = λ p is.
+    taken_behind c.args.log.now.items c.note.new.log.items c.args.place c.args.queue.now.items c.remove.new.self.items c.in-Some.message p c.requires.place c.in-Some.ensures.message.1
+    (ap (λ (w : WaitingKept). w.items) (c.remove.ensures.some c.requires.place)) c.note.ensures.items is

@@ -1,8 +1,9 @@
-use Rattle.std.proofs.Common.{◌≡◌, ℕ, ◌++◌, map}
+use Rattle.std.proofs.Common.{◌≡◌, ℕ, ◌+◌, ◌++◌, length, map, take}
 use Rattle.sctp_send.specs.OutstandingFields.{item_meaning, lane_meaning, message_meaning}
+use Rattle.sctp_send.specs.WindowKept.{IsSameRoom}
 use Rattle.sctp_send.specs.inner.Newcomers.{begun_items}
+use Rattle.sctp_send.proofs.EnterLemmas.{IsPushed}
 use Rattle.sctp_send.proofs.pushing.push_fragments.Given as goal
 
 abbrev pub invariant-loop-fragment : goal.invariant-loop-fragment
-invariant-loop-fragment l = (size : ℕ) → map (item_meaning size) l.outstanding.items
-    ≡ map (item_meaning size) l.fn.outstanding.items ++ begun_items (lane_meaning l.message.value) l.number (message_meaning size l.message.value) l.fragment
+invariant-loop-fragment l = IsPushed l.fn.outstanding l.outstanding l.message.value l.number l.fragment

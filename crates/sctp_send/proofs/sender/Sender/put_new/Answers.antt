@@ -47,4 +47,4 @@ returns-in-None-clause-put g c = λ v keeps stands flying.
     let streams = ap (λ (k : Kept). k.streams) (sym c.self.view_is) in
     let fragment = ap (λ (k : Kept). k.fragment) (sym c.self.view_is) in
     let none = stands ∙ ap (option_map (newcomer v)) (c.in-None.ensures.next s v streams fragment keeps) in
-    record { none = goes_none f (room_in c.args.packet.now) v none; packet = refl; draft = refl }
+    record { none = goes_none f (room_in c.args.packet.now) v none; packet = refl; kept = refl; tickets = refl }

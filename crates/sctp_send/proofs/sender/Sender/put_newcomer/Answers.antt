@@ -1,28 +1,30 @@
-use Rattle.std.proofs.Common.{◌≡◌, ℕ, ◌-◌, ◌^◌, min, map, sym, ap, subst, ◌∙◌}
+use Rattle.std.proofs.Common.{◌≡◌, ℕ, length, map, sym, ap, subst, ◌∙◌}
 use Rattle.sctp_send.specs.SenderKept.{Kept}
 use Rattle.sctp_send.specs.OutstandingFields.{lane_meaning, item_meaning}
-use Rattle.sctp_send.specs.inner.Wishing.{item_flight}
+use Rattle.sctp_send.specs.inner.Wishing.{item_flight, lets_flow}
 use Rattle.sctp_send.specs.declared.outstanding.Place.TheVariants.{Fragment}
 use Rattle.sctp_send.proofs.NewMayLemmas.{flow_read, offered, offered_not, of_both}
 use Rattle.sctp_send.proofs.sender.Sender.put_newcomer.Goals as goal
 
 pub returns-then-not-may_flow-clause-put : goal.returns-then-not-may_flow-clause-put
 returns-then-not-may_flow-clause-put g c = λ flying.
-    let mine = subst (λ (n : ℕ). c.args.flying ≡ min (item_flight (map (item_meaning n) c.args.draft.now.outstanding.items)) (2 ^ 64 - 1)) (sym (ap (λ (y : Kept). y.fragment) c.self.view_is)) flying in
+    let mine = subst (λ (n : ℕ). c.args.flying ≡ item_flight (map (item_meaning n) c.args.draft.now.outstanding.items)) (sym (ap (λ (y : Kept). y.fragment) c.self.view_is)) flying in
     let s = c.args.self.now in
     let m = c.args.message.now.value in
     let flow = flow_read c.self.inside.fragment s.fragment c.self.inside.rwnd s.rwnd c.args.draft.now.outstanding.items c.bytes_of-bytes.result.now (lane_meaning m) c.args.number (Fragment c.args.fragment) c.deref.result.now m
     (ap (λ (y : Kept). y.fragment) c.self.view_is) (ap (λ (y : Kept). y.rwnd) c.self.view_is) c.deref.ensures (c.bytes_of-bytes.ensures (lane_meaning m) c.args.number) in
-    offered_not g.F.Framing.format s c.args.draft.now c.args.packet.now m c.args.number c.args.fragment (sym flow ∙ sym (c.may_flow.ensures _ mine) ∙ c.if-not-may_flow.true)
+    let may = c.may_flow.ensures ∙ ap (λ (n : ℕ). lets_flow n (length c.bytes_of-bytes.result.now) c.self.inside.rwnd) mine in
+    offered_not g.F.Framing.format s c.args.draft.now c.args.packet.now m c.args.number c.args.fragment (sym flow ∙ sym may ∙ c.if-not-may_flow.true)
 
 pub returns-clause-put : goal.returns-clause-put
 returns-clause-put g c = λ flying.
-    let mine = subst (λ (n : ℕ). c.args.flying ≡ min (item_flight (map (item_meaning n) c.args.draft.now.outstanding.items)) (2 ^ 64 - 1)) (sym (ap (λ (y : Kept). y.fragment) c.self.view_is)) flying in
+    let mine = subst (λ (n : ℕ). c.args.flying ≡ item_flight (map (item_meaning n) c.args.draft.now.outstanding.items)) (sym (ap (λ (y : Kept). y.fragment) c.self.view_is)) flying in
     let s = c.args.self.now in
     let m = c.args.message.now.value in
     let flow = flow_read c.self.inside.fragment s.fragment c.self.inside.rwnd s.rwnd c.args.draft.now.outstanding.items c.bytes_of-bytes.result.now (lane_meaning m) c.args.number (Fragment c.args.fragment) c.deref.result.now m
     (ap (λ (y : Kept). y.fragment) c.self.view_is) (ap (λ (y : Kept). y.rwnd) c.self.view_is) c.deref.ensures (c.bytes_of-bytes.ensures (lane_meaning m) c.args.number) in
+    let may = c.may_flow.ensures ∙ ap (λ (n : ℕ). lets_flow n (length c.bytes_of-bytes.result.now) c.self.inside.rwnd) mine in
     of_both _ _ _ c.put_fragment.result
     (λ put room packet. offered g.F.Framing.format s c.args.draft.now c.args.packet.now c.put_fragment.new.packet c.deref-2.result.now m c.self.inside.fragment c.len.result c.args.number c.args.fragment put
-    (ap (λ (y : Kept). y.fragment) c.self.view_is) c.deref-2.ensures (c.len.ensures ∙ c.args.draft.now.outstanding.ok.0) (sym flow ∙ sym (c.may_flow.ensures _ mine) ∙ c.if-not-may_flow.false) room packet)
+    (ap (λ (y : Kept). y.fragment) c.self.view_is) c.deref-2.ensures c.len.ensures (sym flow ∙ sym may ∙ c.if-not-may_flow.false) room packet)
     (c.put_fragment.ensures.answer s.initial _ c.tsn_at-tsn.ensures) (c.put_fragment.ensures.after s.initial _ c.tsn_at-tsn.ensures)

@@ -1,25 +1,27 @@
-use Rattle.std.proofs.Common.{◌≡◌, ℕ, ◌-◌, ◌^◌, min, map, refl, sym, ap, subst, ◌∙◌}
+use Rattle.std.proofs.Common.{◌≡◌, ℕ, length, map, refl, sym, ap, subst, ◌∙◌}
 use Rattle.sctp_send.specs.SenderKept.{Kept}
 use Rattle.sctp_send.specs.OutstandingFields.{lane_meaning, item_meaning}
-use Rattle.sctp_send.specs.inner.Wishing.{item_flight}
+use Rattle.sctp_send.specs.inner.Wishing.{item_flight, lets_flow}
 use Rattle.sctp_send.proofs.NewMayLemmas.{flow_read}
 use Rattle.sctp_send.proofs.PutLemmas.{unsent_flows, unsent_stops}
 use Rattle.sctp_send.proofs.sender.Sender.put_unsent.Goals as goal
 
 pub returns-then-not-may_flow-clause-put : goal.returns-then-not-may_flow-clause-put
 returns-then-not-may_flow-clause-put g c = λ v k premise flying.
-    let mine = subst (λ (n : ℕ). c.args.flying ≡ min (item_flight (map (item_meaning n) c.args.draft.now.outstanding.items)) (2 ^ 64 - 1)) (sym (ap (λ (y : Kept). y.fragment) c.self.view_is)) flying in
-    let x = c.index-entry.result.now in
+    let mine = subst (λ (n : ℕ). c.args.flying ≡ item_flight (map (item_meaning n) c.args.draft.now.outstanding.items)) (sym (ap (λ (y : Kept). y.fragment) c.self.view_is)) flying in
+    let x = c.get-entry.result.now in
     let s = c.args.self.now in
     let flow = flow_read c.self.inside.fragment s.fragment c.self.inside.rwnd s.rwnd c.args.draft.now.outstanding.items c.bytes_of-bytes.result.now (lane_meaning x.message.value) x.number x.place c.deref.result.now x.message.value
     (ap (λ (y : Kept). y.fragment) c.self.view_is) (ap (λ (y : Kept). y.rwnd) c.self.view_is) c.deref.ensures (c.bytes_of-bytes.ensures (lane_meaning x.message.value) x.number) in
-    unsent_stops g.F.Framing.format s v c.args.packet.now c.args.packet.now c.args.draft.now _ c.args.at x k premise c.requires c.index-entry.ensures (sym flow ∙ sym (c.may_flow.ensures _ mine) ∙ c.if-not-may_flow.true) refl refl
+    let may = c.may_flow.ensures ∙ ap (λ (n : ℕ). lets_flow n (length c.bytes_of-bytes.result.now) c.self.inside.rwnd) mine in
+    unsent_stops g.F.Framing.format s v c.args.packet.now c.args.packet.now c.args.draft.now c.args.draft.now c.args.at x k premise c.requires.within c.get-entry.ensures (sym flow ∙ sym may ∙ c.if-not-may_flow.true) refl refl refl
 
 pub returns-clause-put : goal.returns-clause-put
 returns-clause-put g c = λ v k premise flying.
-    let mine = subst (λ (n : ℕ). c.args.flying ≡ min (item_flight (map (item_meaning n) c.args.draft.now.outstanding.items)) (2 ^ 64 - 1)) (sym (ap (λ (y : Kept). y.fragment) c.self.view_is)) flying in
-    let x = c.index-entry.result.now in
+    let mine = subst (λ (n : ℕ). c.args.flying ≡ item_flight (map (item_meaning n) c.args.draft.now.outstanding.items)) (sym (ap (λ (y : Kept). y.fragment) c.self.view_is)) flying in
+    let x = c.get-entry.result.now in
     let s = c.args.self.now in
     let flow = flow_read c.self.inside.fragment s.fragment c.self.inside.rwnd s.rwnd c.args.draft.now.outstanding.items c.bytes_of-bytes.result.now (lane_meaning x.message.value) x.number x.place c.deref.result.now x.message.value
     (ap (λ (y : Kept). y.fragment) c.self.view_is) (ap (λ (y : Kept). y.rwnd) c.self.view_is) c.deref.ensures (c.bytes_of-bytes.ensures (lane_meaning x.message.value) x.number) in
-    c.put_entry.ensures.put v k (unsent_flows g.F.Framing.format s v c.args.draft.now c.args.at x k premise c.requires c.index-entry.ensures (sym flow ∙ sym (c.may_flow.ensures _ mine) ∙ c.if-not-may_flow.false))
+    let may = c.may_flow.ensures ∙ ap (λ (n : ℕ). lets_flow n (length c.bytes_of-bytes.result.now) c.self.inside.rwnd) mine in
+    c.put_entry.ensures.put v k (unsent_flows g.F.Framing.format s v c.args.draft.now c.args.at x k premise c.requires.within c.get-entry.ensures (sym flow ∙ sym may ∙ c.if-not-may_flow.false))

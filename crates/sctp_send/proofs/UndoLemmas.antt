@@ -1,0 +1,212 @@
+-- What a fill noted is taken back, the last change first: then the parts are as they were.
+use Rattle.std.proofs.Common.{◌≡◌, ℕ, zero, suc, ◌+◌, ◌-◌, ◌<◌, ◌≤◌, List, [], ◌∷◌, ◌++◌, length, take, drop, get_or, set, remove, insert, Bool, true, false, refl, sym, ap, ◌∙◌, subst, arith, length-append}
+use Rattle.std.specs.Prelude.{nat_le, if◌then◌else◌}
+use Rattle.std.proofs.lemmas.Bool.Decides.{nat_tests}
+use Rattle.std.proofs.lemmas.List.Edits.{length-insert, length-remove}
+use Rattle.std.specs.declared.rc.Rc.{Rc}
+use Rattle.std.specs.declared.alloc.Global.{Global}
+use Rattle.sctp_model.specs.Format.{Format}
+use Rattle.sctp_model.specs.SenderView.{SenderView}
+use Rattle.sctp_send.specs.SenderKept.{Kept}
+use Rattle.sctp_send.specs.SenderStands.{Keeps}
+use Rattle.sctp_send.specs.WindowKept.{WindowKept, at_place, changed}
+use Rattle.sctp_send.specs.inner.Changes.{stood}
+use Rattle.sctp_send.specs.inner.Drafting.{numbers_of, drafted, went_out}
+use Rattle.sctp_send.specs.inner.Undoing.{Parts, parts_of, stands_so, waits_again, undone, before_all, origin, IsSized, IsKeptRoom, IsBehind}
+use Rattle.sctp_send.specs.declared.draft.Change.{Change}
+use Rattle.sctp_send.specs.declared.draft.Change.TheVariants.{Out, Taken, In}
+use Rattle.sctp_send.specs.declared.draft.Draft.{Draft}
+use Rattle.sctp_send.specs.declared.message.Message.{Message}
+use Rattle.sctp_send.specs.declared.outstanding.Outstanding.{Outstanding}
+use Rattle.sctp_send.specs.declared.outstanding.Standing.{Standing}
+use Rattle.sctp_send.specs.declared.outstanding.Standing.TheVariants.{Sent}
+
+-- ---- one element
+
+-- two changes that agree on the element at a place
+pub at_place_like : {A : Type 0} (f g : A → A) (n : ℕ) (xs : List A) (x : A) → x ≡ get_or xs n x → f x ≡ g x → at_place f n xs ≡ at_place g n xs
+at_place_like f g n [] x read same = refl
+at_place_like f g zero (y ∷ ys) x read same = ap (λ z. z ∷ ys) (subst (λ z. f z ≡ g z) read same)
+at_place_like f g (suc n) (y ∷ ys) x read same = ap (λ zs. y ∷ zs) (at_place_like f g n ys x read same)
+
+-- there is no such element
+pub at_place_past : {A : Type 0} (f : A → A) (n : ℕ) (xs : List A) → length xs ≤ n → xs ≡ at_place f n xs
+at_place_past f n [] le = refl
+at_place_past f zero (y ∷ ys) le = absurd (omega arith)
+at_place_past f (suc n) (y ∷ ys) le = ap (λ zs. y ∷ zs) (at_place_past f n ys (omega arith))
+
+pub set_nowhere : {A : Type 0} (n : ℕ) (xs : List A) (x : A) → length xs ≤ n → xs ≡ set xs n x
+set_nowhere n [] x le = refl
+set_nowhere zero (y ∷ ys) x le = absurd (omega arith)
+set_nowhere (suc n) (y ∷ ys) x le = ap (λ zs. y ∷ zs) (set_nowhere n ys x (omega arith))
+
+-- ---- one change is taken back
+
+-- an entry that went out stands as before
+pub out_undone : (at : ℕ) (es : List Outstanding) (x : Outstanding) → x ≡ get_or es at x → at_place (stands_so x.standing) at (at_place went_out at es) ≡ es
+out_undone at [] x read = refl
+out_undone zero (e ∷ es) x read = ap (λ (y : Outstanding). stands_so y.standing (went_out e) ∷ es) read
+out_undone (suc at) (e ∷ es) x read = ap (λ (ys : List Outstanding). e ∷ ys) (out_undone at es x read)
+
+inserted : {A : Type 0} (n : ℕ) (xs : List A) (x : A) → n < length xs → x ≡ get_or xs n x → insert (remove xs n) n x ≡ xs
+inserted n [] x lt read = absurd (omega arith)
+inserted zero (y ∷ ys) x lt read = ap (λ z. z ∷ ys) read
+inserted (suc n) (y ∷ ys) x lt read = ap (λ zs. y ∷ zs) (inserted n ys x (omega arith) read)
+
+-- a message that was taken out waits at its place
+pub taken_undone : (place : ℕ) (ms : List (Rc Message Global)) (m : Rc Message Global) → place < length ms → m ≡ get_or ms place m → waits_again place m (remove ms place) ≡ ms
+taken_undone place ms m low read =
+    let long = length-remove ms place low in
+    let le : nat_le place (length (remove ms place)) ≡ true = test place (length (remove ms place)) (omega arith) in
+    rw le (inserted place ms m low read)
+  where
+    test : (a b : ℕ) → a ≤ b → nat_le a b ≡ true
+    test a b h = grind (arith, nat_tests)
+
+-- an entry that was read stands as it is told
+pub stood_again : (w : WindowKept) (at : ℕ) (x : Outstanding) (s : Standing) → x ≡ get_or w.items at x → changed (stood s x.covered x.given_up) at w ≡ changed (stands_so s) at w
+stood_again w at x s read = ap (λ (es : List Outstanding). record w { items = es }) (at_place_like (stood s x.covered x.given_up) (stands_so s) at w.items x read refl)
+
+pub stood_sent : (w : WindowKept) (at : ℕ) (x : Outstanding) → x ≡ get_or w.items at x → changed (stood Sent x.covered x.given_up) at w ≡ changed went_out at w
+stood_sent w at x read = ap (λ (es : List Outstanding). record w { items = es }) (at_place_like (stood Sent x.covered x.given_up) went_out at w.items x read refl)
+
+pub stood_nowhere : (f : Outstanding → Outstanding) (w : WindowKept) (at : ℕ) → length w.items ≤ at → w ≡ changed f at w
+stood_nowhere f w at le = ap (λ (es : List Outstanding). record w { items = es }) (at_place_past f at w.items le)
+
+-- ---- all of them
+
+-- the last of them is undone first
+pub before_last : (cs : List Change) (c : Change) (p : Parts) → before_all (cs ++ c ∷ []) p ≡ before_all cs (undone c p)
+before_last [] c p = refl
+before_last (d ∷ cs) c p = ap (undone d) (before_last cs c p)
+
+-- no message is lost from the queue
+queue_grows : (c : Change) (p : Parts) → length p.queue ≤ length (undone c p).queue
+queue_grows (Out at standing) p = omega arith
+queue_grows (Taken place m) p = by_test (nat_le place (length p.queue)) refl
+  where
+    by_test : (b : Bool) → nat_le place (length p.queue) ≡ b → length p.queue ≤ length (if b then insert p.queue place m else p.queue)
+    by_test true le = let low : place ≤ length p.queue = grind (arith, nat_tests) in let long = length-insert p.queue place m low in omega arith
+    by_test false gt = omega arith
+queue_grows (In count stream track turn) p = omega arith
+
+pub queue_grown : (cs : List Change) (p : Parts) → length p.queue ≤ length (before_all cs p).queue
+queue_grown [] p = omega arith
+queue_grown (c ∷ cs) p = let rest = queue_grown cs p in let one = queue_grows c (before_all cs p) in omega arith
+
+-- ---- drafts one behind the other
+
+pub room_on : (a b c : Draft) → IsKeptRoom a b → IsKeptRoom b c → IsKeptRoom a c
+room_on a b c x y = record {
+  window = y.window ∙ x.window;
+  queue = y.queue ∙ x.queue;
+  tracks = y.tracks ∙ x.tracks;
+  entries = omega (arith, x.entries, y.entries);
+  messages = omega (arith, x.messages, y.messages);
+}
+
+pub room_same : (d : Draft) → IsKeptRoom d d
+room_same d = record { window = refl; queue = refl; tracks = refl; entries = omega arith; messages = omega arith }
+
+pub behind_on : (a b c : Draft) → IsBehind a b → IsBehind b c → IsBehind a c
+behind_on a b c x y = record { origin = y.origin ∙ x.origin; room = room_on a b c x.room y.room }
+
+pub behind_same : (d : Draft) → IsBehind d d
+behind_same d = record { origin = refl; room = room_same d }
+
+-- and the sizes are the same
+pub sized_on : (size : ℕ) (a b : Draft) → IsSized size a → IsKeptRoom a b → IsSized size b
+sized_on size a b x y = record { window = y.window ∙ x.window; queue = y.queue ∙ x.queue; tracks = y.tracks ∙ x.tracks }
+
+-- ---- step by step
+
+-- So many changes are taken back.
+pub record IsTakenBack (old now : Draft) (steps : ℕ) : Type 0 where
+  pub origin : origin now ≡ origin old
+  pub tickets : now.tickets.items ≡ []
+  pub left : length now.log.items + steps ≡ length old.log.items
+  pub room : IsKeptRoom old now
+
+-- one more is
+pub taken_more : (old now next : Draft) (c : Change) (cs : List Change) (steps : ℕ) → IsTakenBack old now steps → now.log.items ≡ cs ++ c ∷ [] → next.log.items ≡ cs → parts_of next ≡ undone c (parts_of now)
+    → next.tickets.items ≡ now.tickets.items → IsKeptRoom now next → IsTakenBack old next (steps + 1)
+taken_more old now next c cs steps x last rest parts told room =
+    let long = length-append cs (c ∷ []) in
+    let before = ap (λ (ds : List Change). length ds) last in
+    let after = ap (λ (ds : List Change). length ds) rest in
+    let count = x.left in
+    record {
+      origin = ap (λ (ds : List Change). before_all ds (parts_of next)) rest ∙ ap (before_all cs) parts ∙ sym (before_last cs c (parts_of now)) ∙ ap (λ (ds : List Change). before_all ds (parts_of now)) (sym last) ∙ x.origin;
+      tickets = told ∙ x.tickets;
+      left = omega (arith, long, before, after, count);
+      room = room_on old now next x.room room;
+    }
+
+-- there is room for a message that waits again
+pub taken_fits : (old now : Draft) (c : Change) (cs : List Change) (steps : ℕ) → IsTakenBack old now steps → now.log.items ≡ cs ++ c ∷ [] → length (origin old).queue ≤ old.queue.capacity
+    → length (undone c (parts_of now)).queue ≤ now.queue.capacity
+taken_fits old now c cs steps x last fits =
+    let all = queue_grown cs (undone c (parts_of now)) in
+    let same : length (before_all cs (undone c (parts_of now))).queue ≡ length (origin old).queue =
+    ap (λ (p : Parts). length p.queue) (sym (before_last cs c (parts_of now)) ∙ ap (λ (ds : List Change). before_all ds (parts_of now)) (sym last) ∙ x.origin) in
+    let more = x.room.messages in
+    omega (arith, all, same, more, fits)
+
+-- all are
+pub taken_all : (old now : Draft) (steps : ℕ) → IsTakenBack old now steps → length old.log.items ≤ steps → parts_of now ≡ origin old
+taken_all old now steps x all = let none : now.log.items ≡ [] = empty now.log.items (let left = x.left in omega arith) in sym (ap (λ (ds : List Change). before_all ds (parts_of now)) none) ∙ x.origin
+  where
+    empty : (ds : List Change) → length ds ≡ 0 → ds ≡ []
+    empty [] is = refl
+    empty (d ∷ ds) is = absurd (omega arith)
+
+-- ---- the sender afterwards
+
+-- more room does no harm
+pub more_room : (f : Format) (s : Kept) (v : SenderView) (n : ℕ) → Keeps f s v → s.capacity ≤ n → Keeps f (record s { capacity = n }) v
+more_room f s v n k le = record {
+  holds = record {
+    initial = k.holds.initial;
+    streams = k.holds.streams;
+    fragment = k.holds.fragment;
+    partial = k.holds.partial;
+    cum = k.holds.cum;
+    rwnd = k.holds.rwnd;
+    turn = k.holds.turn;
+    items = k.holds.items;
+    queue = k.holds.queue;
+    tracks = k.holds.tracks;
+    fates = k.holds.fates;
+    covered = k.holds.covered;
+    room = let room = k.holds.room in omega (arith, room, le);
+  };
+  reached = k.reached;
+}
+
+-- a draft with these parts again keeps the same
+pub keeps_again : (f : Format) (s : Kept) (v : SenderView) (old new : Draft) → Keeps f (drafted s old) v → parts_of new ≡ parts_of old → new.tickets.items ≡ old.tickets.items → old.outstanding.capacity ≤ new.outstanding.capacity
+    → Keeps f (drafted s new) v
+keeps_again f s v old new k parts told room =
+    let items : new.outstanding.items ≡ old.outstanding.items = ap (λ (p : Parts). p.items) parts in
+    let queue : new.queue.items ≡ old.queue.items = ap (λ (p : Parts). p.queue) parts in
+    let tracks : new.tracks.items ≡ old.tracks.items = ap (λ (p : Parts). p.tracks) parts in
+    let turn : new.turn ≡ old.turn = ap (λ (p : Parts). p.turn) parts in
+    let same : drafted s new ≡ record (drafted s old) { capacity = new.outstanding.capacity } = rw (items, queue, tracks, turn, told) refl in
+    subst (λ (y : Kept). Keeps f y v) (sym same) (more_room f (drafted s old) v new.outstanding.capacity k room)
+
+-- a draft that took nothing back yet is what its parts were
+pub origin_fresh : (d : Draft) → d.log.items ≡ [] → origin d ≡ parts_of d
+origin_fresh d none = ap (λ (cs : List Change). before_all cs (parts_of d)) none
+
+-- there is room for all messages that waited
+pub origin_fits : (fresh now : Draft) → IsBehind fresh now → fresh.log.items ≡ [] → length fresh.queue.items ≤ fresh.queue.capacity → length (origin now).queue ≤ now.queue.capacity
+origin_fits fresh now b none fits =
+    let same : length (origin now).queue ≡ length fresh.queue.items = ap (λ (p : Parts). length p.queue) (b.origin ∙ origin_fresh fresh none) in
+    let more = b.room.messages in
+    omega (arith, same, more, fits)
+
+-- all is taken back: the draft keeps what it kept when it was fresh
+pub keeps_taken : (f : Format) (s : Kept) (v : SenderView) (fresh now back : Draft) → Keeps f (drafted s fresh) v → fresh.log.items ≡ [] → fresh.tickets.items ≡ [] → IsBehind fresh now → parts_of back ≡ origin now → back.tickets.items ≡ []
+    → IsKeptRoom now back → Keeps f (drafted s back) v
+keeps_taken f s v fresh now back k none untold b parts told room =
+    keeps_again f s v fresh back k (parts ∙ b.origin ∙ origin_fresh fresh none) (told ∙ sym untold) (room_on fresh now back b.room room).entries
