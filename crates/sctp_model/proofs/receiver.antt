@@ -12,6 +12,7 @@ pub mod Giving
 pub mod OneKept
 pub mod AtRest
 pub mod AllGiven
+pub mod OfLane
 pub mod ForwardAtRest
 pub mod HeldBytes
 pub mod Examples

@@ -1,4 +1,5 @@
 use Rattle.std.proofs.Common.{sym, ◌∙◌, arith}
+use Rattle.std.proofs.lemmas.Bool.Decides.{nat_tests}
 use Rattle.sctp_recv.specs.SeenKept.{IsKept}
 use Rattle.sctp_recv.proofs.SeenLemmas.{kept_gained, records_gained, either_way, on_ok}
 use Rattle.sctp_recv.proofs.seen.Seen.add.Goals as goal
@@ -16,3 +17,6 @@ returns-clause-recorded c =
     let s = c.self.inside in
     let new = rw (← c.self.view_is) at (sym c.is_reached.ensures ∙ c.if-is_reached.false) in
     rw (← c.self.view_is) (on_ok c.insert.result _ _ (λ gain fresh near. records_gained s.cumulative c.args.index s.runs.items c.insert.new.runs.items new (λ e. c.if-index-self-eq1.false e) gain) c.insert.ensures.inserted)
+
+pub returns-clause-memory : goal.returns-clause-memory
+returns-clause-memory c = λ room. let spare = rw (← c.self.view_is) at room in c.insert.ensures.memory (grind (arith, spare, nat_tests))
