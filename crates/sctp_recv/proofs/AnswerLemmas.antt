@@ -15,7 +15,7 @@ use Rattle.sctp_model.specs.receiver.Reading.{index_at, is_behind, is_ahead, lan
 use Rattle.sctp_model.specs.receiver.PieceTaken.{Answer, Duplicate, Ahead, NoSuchStream, Passed, NoRoom, Taken, is_repeated, is_passed, is_too_much}
 use Rattle.sctp_recv.specs.Runs.{in_runs}
 use Rattle.sctp_recv.specs.SeenKept.{is_reached, AreWithin}
-use Rattle.sctp_recv.specs.Kept.{counted}
+use Rattle.sctp_chains.specs.Cells.{counted}
 use Rattle.sctp_recv.specs.ReceiverKept.{ReceiverKept, stream_at, reference_of, is_below_or_none}
 use Rattle.sctp_recv.specs.StandsFor.{KeepsView}
 use Rattle.sctp_recv.specs.inner.Rows.{offset_from, IsAbove, IsNewIndex, answer_at}

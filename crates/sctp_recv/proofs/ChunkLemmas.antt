@@ -15,8 +15,9 @@ use Rattle.sctp_chains.specs.Cells.{IsOf}
 use Rattle.sctp_chains.specs.StandsFor as lane
 use Rattle.sctp_chains.specs.StandsFor.{IsNew}
 use Rattle.sctp_recv.specs.declared.inbound.Inbound.{Inbound}
-use Rattle.sctp_recv.specs.Kept.{counted}
-use Rattle.sctp_recv.specs.Filed.{of_lane, IsFiledOn}
+use Rattle.sctp_chains.specs.Cells.{counted}
+use Rattle.sctp_model.specs.receiver.KeptOfLane.{of_lane}
+use Rattle.sctp_recv.specs.Filed.{IsFiledOn}
 use Rattle.sctp_recv.specs.ReceiverKept.{ReceiverKept, is_below_or_none}
 use Rattle.sctp_recv.specs.SeenKept.{SeenKept}
 use Rattle.sctp_recv.specs.inner.Giving.{lane_in}

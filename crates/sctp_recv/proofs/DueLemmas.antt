@@ -7,7 +7,7 @@ use Rattle.sctp_model.specs.Format.{Format, Lane, ordered_lane}
 use Rattle.sctp_model.specs.Pieces.{Piece, is_number_below}
 use Rattle.sctp_model.specs.ReceiverView.{Handed, ReceiverView}
 use Rattle.sctp_model.specs.Receiving.{IsWholeNumber, IsLowest, HasNoWhole, message_of, IsDue, Stop, Over, Past}
-use Rattle.sctp_model.proofs.receiver.AllGiven.{filter_both, filter_alike, filter_passed}
+use Rattle.sctp_model.proofs.receiver.Filters.{filter_both, filter_where, filter_passed}
 use Rattle.sctp_model.proofs.receiver.OneStep.{filter_has}
 use Rattle.sctp_model.proofs.receiver.OfLane.{whole_of}
 use Rattle.sctp_model.proofs.receiver.RowFacts.{row_same}
@@ -23,7 +23,7 @@ both_from j k (Some n) le = grind (arith, le, nat_tests, common_steps)
 pub from_twice : (j k : ℕ) (xs : List Piece) → j ≤ k → from_number k (from_number j xs) ≡ from_number k xs
 from_twice j k xs le =
     filter_both (λ (x : Piece). not (is_number_below j x.number)) (λ (x : Piece). not (is_number_below k x.number)) xs
-    ∙ filter_alike (λ (x : Piece). not (is_number_below j x.number) && not (is_number_below k x.number)) (λ (x : Piece). not (is_number_below k x.number)) xs (λ x. both_from j k x.number le)
+    ∙ filter_where (λ (x : Piece). not (is_number_below j x.number) && not (is_number_below k x.number)) (λ (x : Piece). not (is_number_below k x.number)) xs (λ x there. both_from j k x.number le)
 
 not_below_own : (n : ℕ) → not (nat_lt n n) ≡ true
 not_below_own n = grind (arith, nat_tests)

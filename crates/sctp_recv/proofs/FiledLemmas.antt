@@ -10,7 +10,8 @@ use Rattle.sctp_model.specs.ReceiverView.{size_of_pieces}
 use Rattle.sctp_model.proofs.receiver.OfLane.{of_more, of_other}
 use Rattle.sctp_chains.specs.StandsFor as lane
 use Rattle.sctp_recv.specs.declared.inbound.Inbound.{Inbound}
-use Rattle.sctp_recv.specs.Filed.{of_lane, IsFiledOn, AreFiled}
+use Rattle.sctp_model.specs.receiver.KeptOfLane.{of_lane}
+use Rattle.sctp_recv.specs.Filed.{IsFiledOn, AreFiled}
 use Rattle.sctp_recv.specs.inner.Giving.{HasRoom}
 use Rattle.std.proofs.lemmas.Option.{slice_get_within}
 

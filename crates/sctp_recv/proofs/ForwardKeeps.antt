@@ -16,11 +16,13 @@ use Rattle.sctp_model.specs.receiver.ForwardTaken as model
 use Rattle.sctp_model.proofs.receiver.ForwardAtRest.{skips_below, skipped_other}
 use Rattle.sctp_model.proofs.receiver.Giving.{at_elsewhere, AreServed, all_served}
 use Rattle.sctp_model.proofs.receiver.HeldBytes.{all_holds, filter_size}
-use Rattle.sctp_model.proofs.receiver.OfLane.{of_says, filter_turned, filter_where, filter_none}
+use Rattle.sctp_model.proofs.receiver.Filters.{filter_turned, filter_where, filter_none}
+use Rattle.sctp_model.proofs.receiver.OfLane.{of_says}
 use Rattle.sctp_model.proofs.receiver.OneStep.{filter_has, fewer_apart}
 use Rattle.sctp_recv.specs.declared.inbound.Inbound.{Inbound}
 use Rattle.sctp_recv.specs.Fields.{stream_of}
-use Rattle.sctp_recv.specs.Filed.{of_lane, AreFiled}
+use Rattle.sctp_model.specs.receiver.KeptOfLane.{of_lane}
+use Rattle.sctp_recv.specs.Filed.{AreFiled}
 use Rattle.sctp_recv.specs.SeenKept.{SeenKept}
 use Rattle.sctp_recv.specs.SeenStands.{SeenStands, Jumps}
 use Rattle.sctp_recv.specs.ReceiverKept.{StreamKept, ReceiverKept, FRESH, stream_at}

@@ -9,6 +9,7 @@ mod FiledLemmas
 mod KeptLemmas
 mod TakenLemmas
 mod ChunkLemmas
+mod ReadLemmas
 mod PassLemmas
 mod ForwardKeeps
 mod ListOrder

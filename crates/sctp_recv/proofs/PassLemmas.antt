@@ -19,7 +19,8 @@ use Rattle.sctp_chains.specs.StandsFor as lane
 use Rattle.sctp_chains.specs.WholeOf.{from_number}
 use Rattle.sctp_recv.specs.declared.inbound.Inbound.{Inbound}
 use Rattle.sctp_recv.specs.Fields.{stream_of}
-use Rattle.sctp_recv.specs.Filed.{of_lane, IsFiledOn}
+use Rattle.sctp_model.specs.receiver.KeptOfLane.{of_lane}
+use Rattle.sctp_recv.specs.Filed.{IsFiledOn}
 use Rattle.sctp_recv.specs.ReceiverKept.{StreamKept}
 use Rattle.sctp_recv.specs.inner.Giving.{sized, IsDueView}
 use Rattle.sctp_recv.specs.inner.Forwarding.{lowest_after, stay, PassesOn, IsStreamOf, AreToPass, ArePassed}

@@ -1,14 +1,11 @@
 -- Where the chunks kept are: each in its stream and kind.
-use Rattle.std.specs.Prelude.{◌≡◌, ℕ, ◌<◌, List, length, filter, slice_get, Some}
+use Rattle.std.specs.Prelude.{◌≡◌, ℕ, ◌<◌, List, length, slice_get, Some}
 use Rattle.sctp_model.specs.Lists.{Has}
-use Rattle.sctp_model.specs.Format.{Format, Lane, same_lane, ordered_lane, unordered_lane}
+use Rattle.sctp_model.specs.Format.{Format, ordered_lane, unordered_lane}
 use Rattle.sctp_model.specs.Pieces.{Piece}
+use Rattle.sctp_model.specs.receiver.KeptOfLane.{of_lane}
 use Rattle.sctp_chains.specs.StandsFor as lane
 use Rattle.sctp_recv.specs.declared.inbound.Inbound.{Inbound}
-
--- the chunks of a lane, among those kept
-abbrev pub of_lane : Lane → List Piece → List Piece
-of_lane l kept = filter (λ (x : Piece). same_lane x.lane l) kept
 
 -- A stream keeps its chunks, by their kind.
 pub record IsFiledOn {F : Type 0} (f : Format) (kept : List Piece) (s : ℕ) (x : Inbound F) : Type 0 where

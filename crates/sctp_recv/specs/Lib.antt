@@ -8,7 +8,6 @@ pub mod ReceiverKept
 pub mod Fields
 pub mod KeptOf
 pub mod Filed
-pub mod Kept
 pub mod StandsFor
 pub mod SackOf
 pub mod Laws

@@ -8,7 +8,7 @@ ghost use Rattle.sctp_wire.specs.ChunkTree.{piece_meaning};
 ghost use Rattle.sctp_chains.specs.Cells.{Kept};
 ghost use Rattle.sctp_chains.specs.StandsFor as lane;
 ghost use Rattle.sctp_chains.specs.StandsFor.{IsNew};
-ghost use Rattle.sctp_recv.specs.Kept.{counted};
+ghost use Rattle.sctp_chains.specs.Cells.{counted};
 ghost use Rattle.sctp_recv.specs.Fields.{stream_of};
 ghost use Rattle.sctp_recv.specs.HandedOf.{handed_of, message_bytes};
 ghost use Rattle.sctp_recv.specs.inner.Giving.{sized, HasRoom, SameChunks, AreCounted, GivesDue, GivesNewest, GivesBy, lane_in};

@@ -11,7 +11,7 @@ ghost use Rattle.sctp_chains.specs.StandsFor as lane;
 ghost use Rattle.sctp_recv.specs.Fields.{stream_of};
 ghost use Rattle.sctp_recv.specs.Filed.{AreFiled};
 ghost use Rattle.sctp_recv.specs.HandedOf.{handed_of};
-ghost use Rattle.sctp_recv.specs.Kept.{counted};
+ghost use Rattle.sctp_chains.specs.Cells.{counted};
 ghost use Rattle.sctp_recv.specs.ReceiverKept.{FRESH, reference_of, is_below_or_none};
 ghost use Rattle.sctp_recv.specs.inner.Giving.{sized, SameChunks, lane_in};
 

@@ -1,24 +1,21 @@
 -- The kept chunks of one lane: what happens to a lane happens to its own chunks, and leaves those of all others as they were.
-use Rattle.std.proofs.Common.{◌≡◌, ◌↔◌, ℕ, ◌+◌, ◌⊎◌, ◌==◌, Bool, true, false, List, [], ◌∷◌, filter, refl, ap, sym, ◌∙◌, subst, inl, inr, arith, eqb-true}
-use Rattle.std.specs.Prelude.{not, ◌&&◌, ◌||◌}
+use Rattle.std.proofs.Common.{◌≡◌, ◌↔◌, ℕ, ◌+◌, ◌⊎◌, ◌==◌, Bool, true, false, List, [], ◌∷◌, filter, refl, ap, sym, ◌∙◌, inl, inr, arith, eqb-true}
+use Rattle.std.specs.Prelude.{not, ◌||◌}
 use Rattle.std.proofs.lemmas.Bool.{cases_Bool}
-use Rattle.sctp_model.specs.Lists.{Has, IsWithin}
+use Rattle.sctp_model.specs.Lists.{Has}
 use Rattle.sctp_model.specs.Format.{Format, Plain, Interleaved, Lane, same_lane, ordered_lane}
-use Rattle.sctp_model.specs.Pieces.{Piece, is_number_below, same_number, fragment_of}
+use Rattle.sctp_model.specs.Pieces.{Piece, is_number_below}
 use Rattle.sctp_model.specs.ReceiverView.{size_of_pieces}
-use Rattle.sctp_model.specs.Receiving.{IsWholeNumber, IsLowest, HasNoWhole, IsWholeWith, HasNoWholeWith, is_below, without_below, has_index, goes_with, without_message}
+use Rattle.sctp_model.specs.Receiving.{IsWholeNumber, IsLowest, HasNoWhole, IsWholeWith, is_below, without_below, has_index, goes_with, without_message}
+use Rattle.sctp_model.specs.receiver.KeptOfLane.{of_lane}
 use Rattle.sctp_model.specs.receiver.Laws.{IsApart}
 use Rattle.sctp_model.specs.receiver.PieceTaken.{are_one_fragment, is_held, is_repeated}
-use Rattle.sctp_model.proofs.receiver.AllGiven.{filter_both, filter_alike, filter_passed}
+use Rattle.sctp_model.proofs.receiver.Filters.{filter_passed, filter_where, filter_none, filter_turned}
 use Rattle.sctp_model.proofs.receiver.Giving.{filter_passes}
 use Rattle.sctp_model.proofs.receiver.OneStep.{filter_has}
 use Rattle.sctp_model.proofs.receiver.RowFacts.{row_same, lane_same, lanes_same}
-use Rattle.sctp_model.proofs.receiver.SameDue.{number_within}
 
--- the chunks of a lane, and all others
-abbrev pub of_lane : Lane → List Piece → List Piece
-of_lane l kept = filter (λ (x : Piece). same_lane x.lane l) kept
-
+-- the chunks of all other lanes
 abbrev pub off_lane : Lane → List Piece → List Piece
 off_lane l kept = filter (λ (x : Piece). not (same_lane x.lane l)) kept
 
@@ -42,34 +39,6 @@ of_other l x kept other = let apart = differs x.lane l other in rw apart refl
 
 pub off_own : (l : Lane) (x : Piece) (kept : List Piece) → x.lane ≡ l → off_lane l (x ∷ kept) ≡ off_lane l kept
 off_own l x kept lane = let same = lane_same x.lane l lane in rw same refl
-
--- ---- filters
-
--- tests that agree on the chunks of the list
-pub filter_where : (one other : Piece → Bool) (kept : List Piece) → ((x : Piece) → Has kept x → one x ≡ other x) → filter one kept ≡ filter other kept
-filter_where one other [] same = refl
-filter_where one other (x ∷ kept) same = go (cases_Bool (other x)) (filter_where one other kept (λ y there. same y (inr there)))
-  where
-    go : (other x ≡ true) ⊎ (other x ≡ false) → filter one kept ≡ filter other kept → filter one (x ∷ kept) ≡ filter other (x ∷ kept)
-    go (inl e) more = let first : one x ≡ true = same x (inl refl) ∙ e in rw (first, e) (ap (λ (ys : List Piece). x ∷ ys) more)
-    go (inr e) more = let first : one x ≡ false = same x (inl refl) ∙ e in rw (first, e) more
-
--- one that all of them pass
-pub filter_none : (test : Piece → Bool) (kept : List Piece) → ((x : Piece) → Has kept x → test x ≡ true) → filter test kept ≡ kept
-filter_none test [] all = refl
-filter_none test (x ∷ kept) all = let first = all x (inl refl) in rw first (ap (λ (ys : List Piece). x ∷ ys) (filter_none test kept (λ y there. all y (inr there))))
-
-and_turned : (a b : Bool) → (a && b) ≡ (b && a)
-and_turned true true = refl
-and_turned true false = refl
-and_turned false true = refl
-and_turned false false = refl
-
-pub filter_turned : (one other : Piece → Bool) (kept : List Piece) → filter one (filter other kept) ≡ filter other (filter one kept)
-filter_turned one other kept =
-    filter_both other one kept
-    ∙ filter_alike (λ (x : Piece). other x && one x) (λ (x : Piece). one x && other x) kept (λ x. and_turned (other x) (one x))
-    ∙ sym (filter_both one other kept)
 
 -- ---- ordered chunks below a number go
 
@@ -104,6 +73,13 @@ off_below s n kept =
     ∙ filter_none (λ (x : Piece). not (is_below s n x)) (off_lane (ordered_lane s) kept) (λ x there. not_below s n x (off_says (ordered_lane s) kept x there))
 
 -- ---- whole messages
+
+-- a whole message of a lane is one of all lists that have that lane's chunks
+number_within : (f : Format) (l : Lane) (kept others : List Piece) → ((x : Piece) → x.lane ≡ l → Has kept x → Has others x) →
+    (n : ℕ) (xs : List Piece) → IsWholeNumber f kept l n xs → IsWholeNumber f others l n xs
+number_within f l kept others to n [] (whole, within, number) = absurd number
+number_within f l kept others to n (x ∷ xs) (whole, within, (lane, number)) =
+    (whole, (λ y there. to y ((row_same f x xs y whole.1 there).0 ∙ lane) (within y there)), (lane, number))
 
 pub whole_of : (f : Format) (kept : List Piece) (l : Lane) (n : ℕ) (xs : List Piece) → IsWholeNumber f kept l n xs ↔ IsWholeNumber f (of_lane l kept) l n xs
 whole_of f kept l n xs = (

@@ -15,7 +15,7 @@ use Rattle.sctp_chains.specs.StandsFor.{chain_count}
 use Rattle.sctp_chains.specs.WholeOf.{from_number}
 use Rattle.sctp_recv.specs.declared.inbound.Inbound.{Inbound}
 use Rattle.sctp_recv.specs.Fields.{stream_of}
-use Rattle.sctp_recv.specs.Filed.{of_lane}
+use Rattle.sctp_model.specs.receiver.KeptOfLane.{of_lane}
 use Rattle.sctp_recv.specs.SeenKept.{SeenKept, is_reached}
 use Rattle.sctp_recv.specs.SeenStands.{Records}
 

@@ -7,7 +7,7 @@ use Rattle.sctp_model.specs.Chunk.{PieceMeaning}
 use Rattle.sctp_model.specs.ReceiverView.{ReceiverView}
 use Rattle.sctp_model.specs.receiver.Reading.{lane_of, piece_at}
 use Rattle.sctp_chains.specs.Cells.{IsOf}
-use Rattle.sctp_recv.specs.Kept.{counted}
+use Rattle.sctp_chains.specs.Cells.{counted}
 use Rattle.sctp_model.specs.receiver.PieceTaken as model
 use Rattle.sctp_recv.specs.declared.answer.Row.{Row}
 use Rattle.sctp_recv.specs.declared.answer.Row.TheVariants.{Duplicate, Ahead, NoSuchStream, Passed, NoRoom, Taken}

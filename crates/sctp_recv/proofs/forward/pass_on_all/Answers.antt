@@ -7,7 +7,7 @@ use Rattle.sctp_model.specs.Format.{ordered_lane, unordered_lane}
 use Rattle.sctp_model.specs.Receiving.{handed_ordered}
 use Rattle.sctp_model.proofs.receiver.OfLane.{of_says}
 use Rattle.sctp_chains.specs.StandsFor as lane
-use Rattle.sctp_recv.specs.Filed.{of_lane}
+use Rattle.sctp_model.specs.receiver.KeptOfLane.{of_lane}
 use Rattle.sctp_recv.specs.inner.Forwarding.{PassesOn}
 use Rattle.sctp_recv.proofs.PassLemmas.{IsUpTo, upto_first, upto_next, upto_all}
 use Rattle.sctp_recv.proofs.forward.pass_on_all.Goals as goal

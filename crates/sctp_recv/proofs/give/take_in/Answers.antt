@@ -4,7 +4,7 @@ use Rattle.sctp_model.specs.receiver.Reading.{lane_of}
 use Rattle.sctp_wire.specs.ChunkTree.{piece_meaning}
 use Rattle.sctp_chains.specs.StandsFor as lane
 use Rattle.sctp_chains.specs.StandsFor.{IsNew}
-use Rattle.sctp_recv.specs.Kept.{counted}
+use Rattle.sctp_chains.specs.Cells.{counted}
 use Rattle.sctp_recv.specs.inner.Giving.{GivesBy, lane_in}
 use Rattle.sctp_recv.proofs.give.take_in.Goals as goal
 

@@ -1,7 +1,7 @@
 use Rattle.std.proofs.Common.{◌∷◌, arith}
 use Rattle.sctp_model.specs.Format.{ordered_lane}
 use Rattle.sctp_wire.specs.ChunkTree.{piece_meaning}
-use Rattle.sctp_recv.specs.Kept.{counted}
+use Rattle.sctp_chains.specs.Cells.{counted}
 use Rattle.sctp_recv.proofs.ResultLemmas.{if_err}
 use Rattle.sctp_recv.proofs.GiveLemmas.{gives_from}
 use Rattle.sctp_recv.proofs.give.take_ordered.Goals as goal

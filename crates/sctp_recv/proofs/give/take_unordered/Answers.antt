@@ -5,7 +5,7 @@ use Rattle.sctp_model.specs.Receiving.{message_of}
 use Rattle.sctp_model.specs.Whole.{text_of}
 use Rattle.sctp_model.proofs.receiver.RowFacts.{row_same}
 use Rattle.sctp_wire.specs.ChunkTree.{piece_meaning}
-use Rattle.sctp_recv.specs.Kept.{counted}
+use Rattle.sctp_chains.specs.Cells.{counted}
 use Rattle.sctp_recv.specs.Fields.{stream_of}
 use Rattle.sctp_recv.specs.HandedOf.{handed_of}
 use Rattle.sctp_recv.specs.inner.Giving.{sized}

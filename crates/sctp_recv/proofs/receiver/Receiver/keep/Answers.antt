@@ -12,8 +12,9 @@ use Rattle.sctp_wire.specs.ChunkTree.{piece_meaning}
 use Rattle.std.specs.Prelude.{slice_get}
 use Rattle.sctp_chains.specs.Cells.{IsOf}
 use Rattle.sctp_recv.specs.Fields.{stream_of}
-use Rattle.sctp_recv.specs.Kept.{counted}
-use Rattle.sctp_recv.specs.Filed.{of_lane, AreFiled}
+use Rattle.sctp_chains.specs.Cells.{counted}
+use Rattle.sctp_model.specs.receiver.KeptOfLane.{of_lane}
+use Rattle.sctp_recv.specs.Filed.{AreFiled}
 use Rattle.sctp_recv.specs.KeptOf.{kept_of}
 use Rattle.sctp_recv.specs.SeenKept.{SeenKept, is_reached}
 use Rattle.sctp_recv.specs.StandsFor.{StandsFor, KeepsView}
