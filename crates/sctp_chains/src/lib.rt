@@ -17,6 +17,7 @@
 
 mod chain;
 mod chains;
+mod ends;
 mod filing;
 mod letting_go;
 mod rank;

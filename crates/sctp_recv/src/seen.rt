@@ -88,6 +88,9 @@ impl Seen {
         if index <= self.cumulative {
             return true;
         }
+        if index - self.cumulative == 1 {
+            return false;
+        }
         match upto(&self.runs, index) {
             0 => false,
             some => self.runs[some - 1].has(index),
@@ -115,11 +118,12 @@ impl Seen {
         ensures refused { OnErr result (self.new.kept ≡ self.old.kept) }
         ensures memory { self.old.room ≡ true → IsOk result }
     {
-        if self.is_reached(index) || index - self.cumulative > WINDOW {
+        let above = index.saturating_sub(self.cumulative);
+        if above == 1 {
+            advance(&mut self.cumulative, &mut self.runs, index);
             return Ok(());
         }
-        if index - self.cumulative == 1 {
-            advance(&mut self.cumulative, &mut self.runs, index);
+        if above > WINDOW || self.is_reached(index) {
             return Ok(());
         }
         insert(&mut self.runs, index)
