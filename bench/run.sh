@@ -45,8 +45,8 @@ crc32c() {
 }
 
 receiver() {
-    build receiver sctp_model sctp_safety sctp_serial sctp_wire sctp_framing sctp_recv
-    for range in '1000 2000' '10000 20000'; do
+    build receiver sctp_model sctp_safety sctp_serial sctp_wire sctp_framing sctp_chains sctp_recv
+    for range in '1000 2000' '10000 20000' '100000 200000'; do
         # shellcheck disable=SC2086
         each "a message of 64 bytes in order ($range)" $range 1 "$built" order
         # shellcheck disable=SC2086

@@ -16,6 +16,6 @@ mod RankLemmas
 mod WholeLemmas
 mod LaneLemmas
 mod HeldLemmas
+mod FoundLemmas
 mod TakeLemmas
 mod WithLemmas
-mod LawLemmas

@@ -21,11 +21,12 @@ use Rattle.sctp_chains.specs.declared.whole.Whole.{Whole}
 use Rattle.sctp_chains.specs.declared.chains.Chains.{Chains}
 use Rattle.sctp_chains.specs.inner.Finding.{IsIn, IsFirstWhole}
 use Rattle.sctp_chains.specs.inner.LettingGo.{Leaves, is_outside, LetsGo, TakesOut}
-use Rattle.sctp_chains.proofs.ListLemmas.{has_at, map_has}
+use Rattle.sctp_chains.proofs.ListLemmas.{map_has}
 use Rattle.sctp_chains.proofs.CellLemmas.{cell_there}
 use Rattle.sctp_chains.proofs.ChainLemmas.{chain_order}
 use Rattle.sctp_chains.proofs.RankLemmas.{place_small, has_head, rank_place}
-use Rattle.sctp_chains.proofs.WholeLemmas.{AreOf, whole_chain, whole_is_chain}
+use Rattle.sctp_chains.proofs.WholeLemmas.{AreOf, whole_is_chain}
+use Rattle.sctp_chains.proofs.FoundLemmas.{IsFoundOut, found_out}
 use Rattle.sctp_chains.proofs.LaneLemmas.{stays, leaves_both, cut_low, below_agrees}
 
 -- ---- what a whole chain says
@@ -125,34 +126,22 @@ module _ (f : Format) (l : Lane) (cs : List ChainKept) (bytes : ℕ) (kept : Lis
       high = let e = rank_in.0 in omega (arith, up, first, e);
       before = λ k from_on under. no_whole k (λ e there a z. before e there (omega (arith, from_on, a)) (let i = rank_in.0 in omega (arith, under, z, first, i)));
       head = x;
-      rest = xs;
-      whole = (o.whole, o.within, (of.lane, number));
+      rest = q.rest;
+      whole = (q.of.whole, q.of.within, (of.lane, number));
       lowest = λ y ys w. lowest y ys w;
-      made = made f kept d x xs w.head (Some num) m (subst (λ (e : ChainKept). AreOf f kept e x xs) (sym same) o) (ap (λ (e : ChainKept). e.head) same ∙ at.head) says (ap (λ (i : ℕ). Some i) same_num ∙ sym number);
+      made = made f kept d x q.rest w.head (Some num) m (subst (λ (e : ChainKept). AreOf f kept e x q.rest) (sym q.same) q.of) (ap (λ (e : ChainKept). e.head) q.same ∙ at.head) says (ap (λ (i : ℕ). Some i) same_num ∙ sym number);
       left = stays f l cs (map chain_of new.chains.items) bytes new.held kept h (is_outside 0 top) (λ (z : Piece). not (is_number_below (suc n) z.number)) leaves (λ z there. below_agrees f l z n (h.of z there) numbered);
     },
   )
     where
-      same : d ≡ c
-      same = sym (taken.here c at.within) ∙ at.here c
-
-      here : Has cs c
-      here = subst (Has cs) (at.here c) (has_at cs w.at c at.within)
-
-      found : (x : Piece) × (xs : List Piece) × AreOf f kept c x xs
-      found = whole_chain f l cs bytes kept h c w.head here at.ends at.head
+      q : IsFoundOut f kept cs mid bytes b c d
+      q = found_out f l cs mid bytes b kept w c d h at taken
 
       x : Piece
-      x = found.0
-
-      xs : List Piece
-      xs = found.1
-
-      o : AreOf f kept c x xs
-      o = found.2
+      x = q.head
 
       of : IsOf f l x
-      of = h.of x (o.within x (inl refl))
+      of = h.of x (q.of.within x (inl refl))
 
       n : ℕ
       n = (some_number x.number (of.numbered ∙ numbered)).0
@@ -161,13 +150,13 @@ module _ (f : Format) (l : Lane) (cs : List ChainKept) (bytes : ℕ) (kept : Lis
       number = (some_number x.number (of.numbered ∙ numbered)).1
 
       first : rank_of f x ≡ c.first
-      first = o.rank
+      first = q.of.rank
 
       rank_in : (n * 2 ^ 32 ≤ rank_of f x) × (rank_of f x ≤ n * 2 ^ 32 + (2 ^ 32 - 1))
       rank_in = in_number f l x of n (ap key_of number)
 
       same_num : num ≡ n
-      same_num = num_is ∙ ap (λ (e : ChainKept). e.first / 2 ^ 32) same ∙ ap (λ (r : ℕ). r / 2 ^ 32) (sym first ∙ ap (λ (k : ℕ). k * 2 ^ 32 + place_in f x.index x.begin x.word) (ap key_of number))
+      same_num = num_is ∙ ap (λ (e : ChainKept). e.first / 2 ^ 32) q.same ∙ ap (λ (r : ℕ). r / 2 ^ 32) (sym first ∙ ap (λ (k : ℕ). k * 2 ^ 32 + place_in f x.index x.begin x.word) (ap key_of number))
           ∙ divided n (place_in f x.index x.begin x.word) (place_small f l x of)
 
       top : ℕ
@@ -177,14 +166,11 @@ module _ (f : Format) (l : Lane) (cs : List ChainKept) (bytes : ℕ) (kept : Lis
       high_top = high_is ∙ ap (λ (i : ℕ). rank_at (Some i) (2 ^ 32 - 1)) same_num
 
       inside_top : c.last ≤ top
-      inside_top = subst (λ (i : Option ℕ). c.last ≤ rank_at i (2 ^ 32 - 1)) number (chain_end c x xs here o)
-
-      out : Leaves (is_outside c.first c.last) cs mid bytes b
-      out = subst (λ (e : ChainKept). Leaves (is_outside e.first e.last) cs mid bytes b) same (taken.leaves h.chains at.within)
+      inside_top = subst (λ (i : Option ℕ). c.last ≤ rank_at i (2 ^ 32 - 1)) number (chain_end c x q.rest q.here q.of)
 
       leaves : Leaves (is_outside 0 top) cs (map chain_of new.chains.items) bytes new.held
-      leaves = leaves_both (is_outside c.first c.last) (is_outside 0 top) cs mid (map chain_of new.chains.items) bytes b new.held out
-          (subst (λ (u : ℕ). LetsGo u 0 mid (map chain_of new.chains.items) b new.held) high_top lets out.chains 0 (cut_low mid)) (λ r e. out_of_both 0 c.first c.last top r (omega arith) inside_top e)
+      leaves = leaves_both (is_outside c.first c.last) (is_outside 0 top) cs mid (map chain_of new.chains.items) bytes b new.held q.out
+          (subst (λ (u : ℕ). LetsGo u 0 mid (map chain_of new.chains.items) b new.held) high_top lets q.out.chains 0 (cut_low mid)) (λ r e. out_of_both 0 c.first c.last top r (omega arith) inside_top e)
 
       lowest : (y : Piece) (ys : List Piece) → IsWholeNumber f kept l n (y ∷ ys) → x.index ≤ y.index
       lowest y ys whole =
@@ -198,10 +184,10 @@ module _ (f : Format) (l : Lane) (cs : List ChainKept) (bytes : ℕ) (kept : Lis
                 let no_way : true ≡ false = sym yes_so ∙ not_so in cc)
           ] in
           let rank_y = e.3 in
-          elim (first_place f x y o.whole.0 whole.0.0 (number ∙ sym whole.2.1) (omega (arith, after, first, rank_y))) [
+          elim (first_place f x y q.of.whole.0 whole.0.0 (number ∙ sym whole.2.1) (omega (arith, after, first, rank_y))) [
             | inl le ↦ le
             | inr rank ↦
-                let is = ap (λ (z : Piece). z.index) (h.apart x y (o.within x (inl refl)) (whole.1 y (inl refl)) (rank_place f l x y of of_y rank)) in
+                let is = ap (λ (z : Piece). z.index) (h.apart x y (q.of.within x (inl refl)) (whole.1 y (inl refl)) (rank_place f l x y of of_y rank)) in
                 omega (arith, is)
           ]
 

@@ -19,12 +19,13 @@ use Rattle.sctp_chains.specs.declared.whole.Whole.{Whole}
 use Rattle.sctp_chains.specs.declared.chains.Chains.{Chains}
 use Rattle.sctp_chains.specs.inner.Finding.{IsIn, IsWholeWithRank}
 use Rattle.sctp_chains.specs.inner.LettingGo.{is_outside, Leaves, IsCut, LetsGo, TakesOut}
-use Rattle.sctp_chains.proofs.ListLemmas.{has_at, has_map}
+use Rattle.sctp_chains.proofs.ListLemmas.{has_map}
 use Rattle.sctp_chains.proofs.ChainLemmas.{chain_ranks}
 use Rattle.sctp_chains.proofs.DroppingLemmas.{inside}
 use Rattle.sctp_chains.proofs.RankLemmas.{place_small, rank_place, one_number}
 use Rattle.sctp_chains.proofs.HeldLemmas.{same_numbers}
-use Rattle.sctp_chains.proofs.WholeLemmas.{AreOf, whole_chain, whole_is_chain}
+use Rattle.sctp_chains.proofs.WholeLemmas.{AreOf, whole_is_chain}
+use Rattle.sctp_chains.proofs.FoundLemmas.{IsFoundOut, found_out}
 use Rattle.sctp_chains.proofs.LaneLemmas.{stays, leaves_both}
 use Rattle.sctp_chains.proofs.TakeLemmas.{made, rank_has, in_number, out_of_both, chain_end}
 
@@ -141,49 +142,34 @@ module _ {F : Type 0} (f : Format) (l : Lane) (cs : List ChainKept) (bytes : ℕ
   unfolding StandsFor
   took_with r w mid b d high m new r_is (c, at, in_it) taken high_is lets says = record {
     head = x;
-    rest = xs;
-    whole = (o.whole, o.within, has);
-    made = made f kept d x xs w.head y.number m (subst (λ (e : ChainKept). AreOf f kept e x xs) (sym same) o) (ap (λ (e : ChainKept). e.head) same ∙ at.head) says number;
-    left = stays f l cs (map chain_of new.chains.items) bytes new.held kept h (is_outside c.first top) (λ (z : Piece). not (goes_with f (x ∷ xs) z)) leaves (λ z z_kept. goes_agrees f l cs bytes kept h c x xs here o z z_kept);
+    rest = q.rest;
+    whole = (q.of.whole, q.of.within, has);
+    made = made f kept d x q.rest w.head y.number m (subst (λ (e : ChainKept). AreOf f kept e x q.rest) (sym q.same) q.of) (ap (λ (e : ChainKept). e.head) q.same ∙ at.head) says number;
+    left = stays f l cs (map chain_of new.chains.items) bytes new.held kept h (is_outside c.first top) (λ (z : Piece). not (goes_with f (x ∷ q.rest) z)) leaves (λ z z_kept. goes_agrees f l cs bytes kept h c x q.rest q.here q.of z z_kept);
   }
     where
-      same : d ≡ c
-      same = sym (taken.here c at.within) ∙ at.here c
-
-      here : Has cs c
-      here = subst (Has cs) (at.here c) (has_at cs w.at c at.within)
-
-      found : (x : Piece) × (xs : List Piece) × AreOf f kept c x xs
-      found = whole_chain f l cs bytes kept h c w.head here at.ends at.head
+      q : IsFoundOut f kept cs mid bytes b c d
+      q = found_out f l cs mid bytes b kept w c d h at taken
 
       x : Piece
-      x = found.0
+      x = q.head
 
-      xs : List Piece
-      xs = found.1
-
-      o : AreOf f kept c x xs
-      o = found.2
-
-      has : Has (x ∷ xs) y
-      has = in_message f l cs bytes kept h c x xs here o y there (subst (λ (i : ℕ). IsIn i c) r_is in_it)
+      has : Has (x ∷ q.rest) y
+      has = in_message f l cs bytes kept h c x q.rest q.here q.of y there (subst (λ (i : ℕ). IsIn i c) r_is in_it)
 
       number : y.number ≡ x.number
-      number = (row_same f x xs y o.whole.1 has).1
+      number = (row_same f x q.rest y q.of.whole.1 has).1
 
       top : ℕ
       top = top_of f c x.number
 
       high_top : high ≡ top
-      high_top = high_is ∙ (λ i. top_of f (same i) (number i))
-
-      out : Leaves (is_outside c.first c.last) cs mid bytes b
-      out = subst (λ (e : ChainKept). Leaves (is_outside e.first e.last) cs mid bytes b) same (taken.leaves h.chains at.within)
+      high_top = high_is ∙ (λ i. top_of f (q.same i) (number i))
 
       rest : Leaves (is_outside c.first top) mid (map chain_of new.chains.items) b new.held
       rest = subst (λ (u : ℕ). Leaves (is_outside c.first u) mid (map chain_of new.chains.items) b new.held) high_top
-          (lets out.chains c.first (subst (λ (e : ChainKept). IsCut e.first mid w.at) same (taken.rest h.chains at.within)))
+          (lets q.out.chains c.first (subst (λ (e : ChainKept). IsCut e.first mid w.at) q.same (taken.rest h.chains at.within)))
 
       leaves : Leaves (is_outside c.first top) cs (map chain_of new.chains.items) bytes new.held
-      leaves = leaves_both (is_outside c.first c.last) (is_outside c.first top) cs mid (map chain_of new.chains.items) bytes b new.held out rest
-          (λ i e. out_of_both c.first c.first c.last top i (omega arith) (top_high f c x.number (chain_end f l cs bytes kept h c x xs here o)) e)
+      leaves = leaves_both (is_outside c.first c.last) (is_outside c.first top) cs mid (map chain_of new.chains.items) bytes b new.held q.out rest
+          (λ i e. out_of_both c.first c.first c.last top i (omega arith) (top_high f c x.number (chain_end f l cs bytes kept h c x q.rest q.here q.of)) e)

@@ -3,5 +3,4 @@ pub mod Cells
 pub mod Links
 pub mod StandsFor
 pub mod WholeOf
-pub mod Lanes
 pub mod inner

@@ -107,8 +107,8 @@ impl Part {
 pub(crate) fn alone(alloc: Global, part: Part) -> Result<Chain, NoMemory>
     ensures { IfOk result (λ c. chain_of c ≡ one_of part) }
 {
-    let mut parts = Vec::new(alloc);
-    parts.push(part.data).map_err(|_| NoMemory)?;
+    let mut parts = Vec::with_capacity(alloc, 1).map_err(|_| NoMemory)?;
+    parts.push_reserved(part.data);
     Ok(Chain {
         first: part.rank,
         last: part.rank,

@@ -5,6 +5,7 @@ ghost use Rattle.sctp_chains.specs.Links.{chain_of, one_of, AreChains};
 ghost use Rattle.sctp_chains.specs.inner.Filing.{IsPlace, IsLinkBefore, IsLinkBehind, IsJoined, Gains};
 
 use crate::chain::{Chain, Part, alone};
+use crate::ends::put_at;
 use sctp_wire::NoMemory;
 use std::alloc::Global;
 use std::collections::VecDeque;
@@ -61,7 +62,7 @@ pub(crate) fn file(alloc: Global, chains: &mut VecDeque<Chain>, part: Part) -> R
         (None, Some(right)) => chains[right].push_front(part),
         (None, None) => {
             let chain = alone(alloc, part)?;
-            chains.insert(at, chain).map_err(|_| NoMemory)
+            put_at(chains, at, chain)
         }
     }
 }

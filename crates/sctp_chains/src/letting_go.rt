@@ -5,6 +5,7 @@ ghost use Rattle.sctp_chains.specs.Links.{chain_of, bytes_of};
 ghost use Rattle.sctp_chains.specs.inner.LettingGo.{size_of_parts, LetsGo, TakesOut, Trims};
 
 use crate::chain::Chain;
+use crate::ends::take_at;
 use std::collections::VecDeque;
 
 /// A number less the bytes of these parts, 0 where there are more.
@@ -27,7 +28,7 @@ pub(crate) fn take_out(chains: &mut VecDeque<Chain>, held: &mut u32, at: usize) 
     ensures fewer { OnSome result (suc (length chains.new.items) ≡ length chains.old.items) }
     ensures taken { MatchOption result (length chains.old.items ≤ at) (λ c. TakesOut at (map chain_of chains.old.items) (map chain_of chains.new.items) held.old held.new (chain_of c)) }
 {
-    let chain = chains.remove(at)?;
+    let chain = take_at(chains, at)?;
     *held = less(*held, &chain.parts);
     Some(chain)
 }
@@ -39,7 +40,7 @@ pub(crate) fn drop_upto(chains: &mut VecDeque<Chain>, held: u32, at: usize, upto
 {
     let mut left = held;
     while at < chains.len() && chains[at].last <= upto {
-        if let Some(chain) = chains.remove(at) {
+        if let Some(chain) = take_at(chains, at) {
             left = less(left, &chain.parts);
         }
     }

@@ -1,14 +1,14 @@
 //! The chunks that a receiver keeps of one lane (a stream and a kind) until their messages are whole, filed as chains of
 //! fragments that follow one another (RFC 9260, 6.9; RFC 8260, 2.2.2), in either format of user data.
 //!
-//! A receiver is to have two `Chains` a stream, one for its ordered and one for its unordered chunks, each standing for its own kept
+//! A receiver has two `Chains` a stream, one for its ordered and one for its unordered chunks, each standing for its own kept
 //! chunks of that lane, and its calls use them so:
 //!
 //! - A data chunk: `is_held` tells a fragment that came again under I-DATA. Then what can be refused comes first: room for what may wait,
 //!   which is one message more than `count` says, room for the index, and `add`, which changes nothing where it is refused; then the
 //!   index is recorded. After an unordered chunk
-//!   `take_with` gives its message, if it is whole. After an ordered one with the number that is waited for, `take_lowest(next, next)`
-//!   gives that message, if it is whole, and so on with the number after it, until none is; what lies below went with them.
+//!   `take_with` gives its message, if it is whole. After an ordered one `take_lowest(next, next)`
+//!   gives the message that is waited for, if it is whole, and so on with the number after it, until none is; what lies below went with them.
 //! - A FORWARD: of the unordered chunks of each stream `let_go` drops those that it leaves behind. Of the ordered ones
 //!   `take_lowest(next, next.max(floor))` gives what is due, one message after another, where all numbers below `floor` are skipped;
 //!   then `drop_below` drops what is left below the number that is waited for.
@@ -17,15 +17,12 @@
 
 mod chain;
 mod chains;
+mod ends;
 mod filing;
-mod laws;
 mod letting_go;
 mod rank;
 mod search;
 mod whole;
 
 pub use chains::Chains;
-pub use laws::{
-    below_goes_alone, lane_is_alone, message_goes_alone, message_is_alone, numbers_stay,
-};
 pub use whole::Whole;

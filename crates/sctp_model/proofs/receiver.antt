@@ -5,13 +5,13 @@ pub mod OneStep
 pub mod OneSack
 pub mod RowFacts
 pub mod Sizes
-pub mod SameDue
 pub mod DueWords
 pub mod Idle
 pub mod Giving
 pub mod OneKept
 pub mod AtRest
-pub mod AllGiven
+pub mod Filters
+pub mod OfLane
 pub mod ForwardAtRest
 pub mod HeldBytes
 pub mod Examples

@@ -1,5 +1,6 @@
 pub mod Rows
 pub mod Reading
+pub mod KeptOfLane
 pub mod DueInWords
 pub mod PieceTaken
 pub mod ForwardTaken

@@ -1,5 +1,5 @@
 -- The answer to a data chunk, row by row.
-use Rattle.std.proofs.Common.{◌≡◌, ℕ, suc, ◌+◌, ◌-◌, ◌<◌, ◌≤◌, ◌⊎◌, Bool, true, false, nat_lt, nat_le, List, [], ◌∷◌, length, Option, Some, None, inl, inr, refl, sym, ◌∙◌, ap, subst, arith}
+use Rattle.std.proofs.Common.{◌≡◌, ℕ, suc, ◌+◌, ◌-◌, ◌<◌, ◌≤◌, ◌⊎◌, Bool, true, false, nat_lt, nat_le, [], ◌∷◌, length, Option, Some, None, inl, inr, refl, sym, ◌∙◌, ap, subst, arith}
 use Rattle.std.specs.Prelude.{◌&&◌, ◌||◌, not}
 use Rattle.std.proofs.lemmas.Bool.{cases_Bool}
 use Rattle.std.proofs.lemmas.Bool.Decides.{nat_tests}
@@ -9,14 +9,13 @@ use Rattle.sctp_model.specs.Serial.{COUNTS, tsn, before, near}
 use Rattle.sctp_model.specs.Chunk.{PieceMeaning}
 use Rattle.sctp_model.specs.Format.{Format, Plain, Interleaved, Kind, Ordered, Unordered, is_numbered}
 use Rattle.sctp_model.specs.Framing.{lane_kind, number_near, as_number}
-use Rattle.sctp_model.specs.Pieces.{Piece}
 use Rattle.sctp_model.specs.ReceiverView.{ReceiverView, held_bytes}
 use Rattle.sctp_model.specs.receiver.Rows.{first_of}
 use Rattle.sctp_model.specs.receiver.Reading.{index_at, is_behind, is_ahead, lane_of, is_late, lowest_in, reference_in, piece_at}
 use Rattle.sctp_model.specs.receiver.PieceTaken.{Answer, Duplicate, Ahead, NoSuchStream, Passed, NoRoom, Taken, is_repeated, is_passed, is_too_much}
 use Rattle.sctp_recv.specs.Runs.{in_runs}
 use Rattle.sctp_recv.specs.SeenKept.{is_reached, AreWithin}
-use Rattle.sctp_recv.specs.Kept.{counted}
+use Rattle.sctp_chains.specs.Cells.{counted}
 use Rattle.sctp_recv.specs.ReceiverKept.{ReceiverKept, stream_at, reference_of, is_below_or_none}
 use Rattle.sctp_recv.specs.StandsFor.{KeepsView}
 use Rattle.sctp_recv.specs.inner.Rows.{offset_from, IsAbove, IsNewIndex, answer_at}
@@ -177,10 +176,10 @@ module _ (f : Format) (k : ReceiverKept) (v : ReceiverView) (p : PieceMeaning) (
 
   pub passed_is : (n : Option ℕ) (a b : Bool) → n ≡ (piece_at f v k.seen.cumulative p).number →
       a ≡ (is_numbered f (lane_kind p.unordered) && is_below_or_none (reference_of (stream_at k.streams p.stream) p.unordered) n) →
-      ((i : ℕ) → b ≡ is_repeated f k.kept (counted i p n)) → is_passed f v (piece_at f v k.seen.cumulative p) ≡ (a || b)
+      b ≡ is_repeated f v.kept (counted (piece_at f v k.seen.cumulative p).index p n) → is_passed f v (piece_at f v k.seen.cumulative p) ≡ (a || b)
   passed_is n a b number late held =
       let one : (is_numbered f (lane_kind p.unordered) && is_late v (lane_of p.stream p.unordered) n) ≡ a = ap (λ (t : Bool). is_numbered f (lane_kind p.unordered) && t) (late_same n p.unordered) ∙ sym late in
-      let two : is_repeated f v.kept (counted (piece_at f v k.seen.cumulative p).index p n) ≡ b = ap (λ (ks : List Piece). is_repeated f ks (counted (piece_at f v k.seen.cumulative p).index p n)) w.kept ∙ sym (held (piece_at f v k.seen.cumulative p).index) in
+      let two : is_repeated f v.kept (counted (piece_at f v k.seen.cumulative p).index p n) ≡ b = sym held in
       subst (λ (m : Option ℕ). ((is_numbered f (lane_kind p.unordered) && is_late v (lane_of p.stream p.unordered) m) || is_repeated f v.kept (counted (piece_at f v k.seen.cumulative p).index p m)) ≡ (a || b)) number
       (ap (λ (t : Bool). t || is_repeated f v.kept (counted (piece_at f v k.seen.cumulative p).index p n)) one ∙ ap (λ (t : Bool). a || t) two)
 

@@ -1,74 +1,52 @@
 -- What a receiver keeps once a FORWARD was taken, and what was then due handed over.
-use Rattle.std.proofs.Common.{◌≡◌, ◌↔◌, ℕ, zero, suc, ◌+◌, ◌-◌, ◌<◌, ◌≤◌, max, Bool, true, false, List, [], ◌∷◌, ◌++◌, length, filter, Option, None, Some, inl, inr, refl, sym, ◌∙◌, ap, subst, arith}
-use Rattle.std.specs.Prelude.{not, ◌&&◌}
+use Rattle.std.proofs.Common.{◌≡◌, ℕ, zero, suc, ◌+◌, ◌<◌, ◌≤◌, max, Bool, false, List, [], ◌∷◌, ◌++◌, length, map, Some, inl, inr, refl, sym, ◌∙◌, ap, subst, arith}
+use Rattle.std.specs.Prelude.{not, slice_get}
 use Rattle.std.proofs.lemmas.Bool.{cases_lt}
-use Rattle.std.proofs.lemmas.Bool.Decides.{nat_tests}
-use Rattle.std.proofs.lemmas.Option.{slice_get-get_or}
-use Rattle.sctp_model.specs.Serial.{COUNTS}
+use Rattle.std.proofs.lemmas.List.{length-map}
 use Rattle.sctp_model.specs.Lists.{Has}
 use Rattle.sctp_model.specs.Chunk.{ForwardMeaning}
-use Rattle.sctp_model.specs.Format.{Format, Kind, Ordered, Unordered, Lane, ordered_lane, unordered_lane}
+use Rattle.sctp_model.specs.Format.{Format, Lane, same_lane, ordered_lane, unordered_lane}
 use Rattle.sctp_model.specs.Framing.{lets_go}
-use Rattle.sctp_model.specs.Pieces.{Piece, is_number_below}
-use Rattle.sctp_model.specs.ReceiverView.{Handed, ReceiverView, size_of_pieces, size_of_messages, size_of_waiting}
-use Rattle.sctp_model.specs.Receiving.{IsDue, GivesAll}
+use Rattle.sctp_model.specs.Pieces.{Piece}
+use Rattle.sctp_model.specs.ReceiverView.{ReceiverView, held_bytes, size_of_pieces, size_of_waiting}
+use Rattle.sctp_model.specs.Receiving.{GivesAll}
 use Rattle.sctp_model.specs.receiver.Reading.{index_at}
 use Rattle.sctp_model.specs.receiver.ForwardTaken.{names_other_stream, skips_read, jumped, forwarded}
 use Rattle.sctp_model.specs.receiver.ForwardTaken as model
-use Rattle.sctp_model.specs.receiver.Laws.{IsApart}
-use Rattle.sctp_model.proofs.receiver.AllGiven.{filter_both, filter_alike, filter_passed, given, stays_given, stays_unordered, stays_past, stays_below, next_below, next_past, waiting_below, waiting_past, size_given, waiting_size, gives_given}
 use Rattle.sctp_model.proofs.receiver.ForwardAtRest.{skips_below, skipped_other}
-use Rattle.sctp_model.proofs.receiver.Giving.{all_served}
+use Rattle.sctp_model.proofs.receiver.Giving.{at_elsewhere, AreServed, all_served}
 use Rattle.sctp_model.proofs.receiver.HeldBytes.{all_holds, filter_size}
-use Rattle.sctp_model.proofs.receiver.OneStep.{filter_has, filter_apart}
-use Rattle.sctp_model.proofs.receiver.SameDue.{due_same}
-use Rattle.sctp_recv.specs.declared.fragment.Fragment.{Fragment}
-use Rattle.sctp_recv.specs.Kept.{pieces_of}
+use Rattle.sctp_model.proofs.receiver.Filters.{filter_turned, filter_where, filter_none}
+use Rattle.sctp_model.proofs.receiver.OfLane.{of_says}
+use Rattle.sctp_model.proofs.receiver.OneStep.{filter_has, fewer_apart}
+use Rattle.sctp_recv.specs.declared.inbound.Inbound.{Inbound}
+use Rattle.sctp_recv.specs.Fields.{stream_of}
+use Rattle.sctp_model.specs.receiver.KeptOfLane.{of_lane}
+use Rattle.sctp_recv.specs.Filed.{AreFiled}
 use Rattle.sctp_recv.specs.SeenKept.{SeenKept}
 use Rattle.sctp_recv.specs.SeenStands.{SeenStands, Jumps}
 use Rattle.sctp_recv.specs.ReceiverKept.{StreamKept, ReceiverKept, FRESH, stream_at}
 use Rattle.sctp_recv.specs.StandsFor.{KeepsView}
-use Rattle.sctp_recv.specs.inner.DueSearch.{IsDueView}
-use Rattle.sctp_recv.specs.inner.Giving.{freed}
 use Rattle.sctp_recv.specs.inner.Rows.{offset_from, IsAbove}
-use Rattle.sctp_recv.specs.inner.Forwarding.{StreamForwarded, NOTHING_FORWARDED, forwarded_at, lowest_after, IsForwardedOn, after_forward, AreAfter, stays_by, stays_after, size_of_forwarded}
-use Rattle.sctp_recv.proofs.StreamLemmas.{past_streams}
+use Rattle.sctp_recv.specs.inner.Forwarding.{lowest_after, stay, HaveRoom, AreToPass, ArePassed}
+use Rattle.sctp_recv.proofs.StreamLemmas.{past_streams, got_stream}
 use Rattle.sctp_recv.proofs.ForwardSkips.{unordered_read, ordered_read}
 
--- ---- lists of what is found out
+-- ---- what handing over on all streams leaves
 
-past_forwarded : (all : List StreamForwarded) (s : ℕ) → length all ≤ s → forwarded_at all s ≡ NOTHING_FORWARDED
-past_forwarded [] s le = refl
-past_forwarded (b ∷ all) zero le = absurd (omega arith)
-past_forwarded (b ∷ all) (suc s) le = past_forwarded all s (omega arith)
+pub gives_rest : (f : Format) (n : ℕ) (r t : ReceiverView) → GivesAll f n r t → (t.jump ≡ r.jump) × (t.duplicates ≡ r.duplicates)
+gives_rest f zero r t is = (ap (λ (v : ReceiverView). v.jump) is, ap (λ (v : ReceiverView). v.duplicates) is)
+gives_rest f (suc n) r t (mid, before, (ms, m, due, is)) =
+    let b = gives_rest f n r mid before in
+    (ap (λ (v : ReceiverView). v.jump) is ∙ b.0, ap (λ (v : ReceiverView). v.duplicates) is ∙ b.1)
 
-first_given : (ms : ℕ → List Handed) (m : ℕ → ℕ) (n : ℕ) → size_given ms m (suc n) ≡ size_of_messages (ms 0) + size_given (λ (s : ℕ). ms (suc s)) m n
-first_given ms m zero = omega arith
-first_given ms m (suc n) = let more = first_given ms m n in omega (arith, more)
+pub gives_past : (f : Format) (n : ℕ) (r t : ReceiverView) → GivesAll f n r t → (q : ℕ) → n ≤ q → t.waiting q ≡ r.waiting q
+gives_past f zero r t is q high = ap (λ (v : ReceiverView). v.waiting q) is
+gives_past f (suc n) r t (mid, before, (ms, m, due, is)) q high =
+    ap (λ (v : ReceiverView). v.waiting q) is ∙ at_elsewhere mid.waiting n (mid.waiting n ++ ms) q (λ e. omega (arith, high, e)) ∙ gives_past f n r mid before q (omega (arith, high))
 
-given_forwarded : (all : List StreamForwarded) (m : ℕ → ℕ) → size_given (λ (s : ℕ). (forwarded_at all s).messages) m (length all) ≡ size_of_forwarded all
-given_forwarded [] m = refl
-given_forwarded (b ∷ all) m =
-    let first = first_given (λ (s : ℕ). (forwarded_at (b ∷ all) s).messages) m (length all) in
-    let more = given_forwarded all m in
-    omega (arith, first, more)
-
-after_is : (old new : List StreamKept) (all : List StreamForwarded) → AreAfter old new all → length all ≡ length old → (s : ℕ) → s < length old →
-    stream_at new s ≡ after_forward (stream_at old s) (forwarded_at all s)
-after_is old new all h count s low =
-    h.each s (stream_at old s) (stream_at new s) (slice_get-get_or old s FRESH low) (slice_get-get_or new s FRESH (omega (arith, h.length, low)))
-    (forwarded_at all s) (slice_get-get_or all s NOTHING_FORWARDED (omega (arith, count, low)))
-
--- what was found out of a FORWARD that moves the cumulative index, before anything changes
-pub record IsPassable (f : Format) (k : ReceiverKept) (v : ReceiverView) (x : ForwardMeaning) (i : ℕ) (kept : List Fragment) (all : List StreamForwarded) : Type 0 where
-  pub keeps : KeepsView f k v
-  pub above : IsAbove k.initial k.seen.cumulative x.cumulative i
-  pub named : names_other_stream (length k.streams) x.skips ≡ false
-  pub same : pieces_of kept ≡ k.kept
-  pub count : length all ≡ length k.streams
-  pub each : (s : ℕ) → s < length k.streams → IsForwardedOn f kept x.skips s (stream_at k.streams s) (forwarded_at all s)
-
-module _ (f : Format) (k : ReceiverKept) (v : ReceiverView) (x : ForwardMeaning) (i : ℕ) (kept : List Fragment) (all : List StreamForwarded) (h : IsPassable f k v x i kept all) where
+module _ (f : Format) (k : ReceiverKept) (v : ReceiverView) (x : ForwardMeaning) (i : ℕ) (h : KeepsView f k v) (above : IsAbove k.initial k.seen.cumulative x.cumulative i)
+    (named : names_other_stream (length k.streams) x.skips ≡ false) where
   -- the view with index and numbers taken, and the one without what is let go
   abbrev passed : ReceiverView
   passed = jumped f v k.seen.cumulative x
@@ -76,163 +54,139 @@ module _ (f : Format) (k : ReceiverKept) (v : ReceiverView) (x : ForwardMeaning)
   abbrev left : ReceiverView
   left = forwarded f v k.seen.cumulative x
 
-  abbrev messages : ℕ → List Handed
-  messages s = (forwarded_at all s).messages
-
-  abbrev nexts : ℕ → ℕ
-  nexts s = (forwarded_at all s).next
-
-  -- and the one with all handed over
-  abbrev pub handed : ReceiverView
-  handed = given messages nexts left v.streams
-
   index_is : index_at v k.seen.cumulative x.cumulative ≡ i
-  index_is = ap (λ (n : ℕ). k.seen.cumulative + offset_from n k.seen.cumulative x.cumulative) h.keeps.initial ∙ sym h.above.index
+  index_is = ap (λ (n : ℕ). k.seen.cumulative + offset_from n k.seen.cumulative x.cumulative) h.initial ∙ sym above.index
 
   jump_is : passed.jump ≡ i
-  jump_is = let same = index_is in let low = h.keeps.seen.jumped in let high = h.above.above in omega (arith, same, low, high)
+  jump_is = let same = index_is in let low = h.seen.jumped in let high = above.above in omega (arith, same, low, high)
 
   -- a lane of a stream that isn't there
-  skip_other : (l : Lane) → v.streams ≤ l.stream → passed.skip l ≡ v.skip l
+  skip_other : (l : Lane) → length k.streams ≤ l.stream → passed.skip l ≡ v.skip l
   skip_other l past = skipped_other (skips_read f v x.skips) l
-      (λ y there same. let low = skips_below f v (length k.streams) x.skips h.named y there in let stream : l.stream ≡ y.lane.stream = ap (λ (o : Lane). o.stream) same in let n = h.keeps.streams in omega (arith, low, stream, past, n)) v.skip
+      (λ y there same. let low = skips_below f v (length k.streams) x.skips named y there in let stream : l.stream ≡ y.lane.stream = ap (λ (o : Lane). o.stream) same in omega (arith, low, stream, past)) v.skip
 
-  skip_is : (s : ℕ) → passed.skip (unordered_lane s) ≡ (forwarded_at all s).skip
-  skip_is s = elim (cases_lt s (length k.streams)) [
-    | inl there ↦
-        unordered_read f v s x.skips
-        ∙ ap (λ (n : ℕ). lowest_after f (unordered_lane s) n x.skips) (h.keeps.skip s)
-        ∙ sym (h.each s there).skip
-    | inr past ↦
-        skip_other (unordered_lane s) (let n = h.keeps.streams in omega (arith, n, past))
-        ∙ h.keeps.skip s
-        ∙ ap (λ (a : StreamKept). a.skip) (past_streams k.streams s past)
-        ∙ sym (ap (λ (b : StreamForwarded). b.skip) (past_forwarded all s (let n = h.count in omega (arith, n, past))))
-  ]
+  abbrev stays : Piece → Bool
+  stays y = model.stays_by y.lane.kind f passed y
 
-  -- ---- what is due
+  module _ {F : Type 0} (streams : List (Inbound F)) (streams_are : k.streams ≡ map stream_of streams) where
+    count : length k.streams ≡ length streams
+    count = ap (λ (ss : List StreamKept). length ss) streams_are ∙ length-map streams stream_of
 
-  due_view : (s : ℕ) → IsDueView f kept s (stream_at k.streams s).next (lowest_after f (ordered_lane s) (stream_at k.streams s).next x.skips) passed
-  due_view s = record {
-    same = h.keeps.kept ∙ sym h.same;
-    apart = subst (λ (ps : List Piece). IsApart f ps) (h.keeps.kept ∙ sym h.same) h.keeps.apart;
-    numbers = subst (λ (ps : List Piece). (z : Piece) (n : ℕ) → Has ps z → z.number ≡ Some n → suc n < COUNTS) (h.keeps.kept ∙ sym h.same) h.keeps.numbers;
-    above = let both = read in omega (arith, both);
-    skipped = λ n low high. let both = read in omega (arith, both, low, high);
-  }
-    where
-      read : max (stream_at k.streams s).next (passed.skip (ordered_lane s)) ≡ lowest_after f (ordered_lane s) (stream_at k.streams s).next x.skips
-      read = subst (λ (n : ℕ). max n (passed.skip (ordered_lane s)) ≡ lowest_after f (ordered_lane s) n x.skips) (h.keeps.next s) (ordered_read f v s x.skips (h.keeps.skipped s))
+    stream_is : (q : ℕ) (z : Inbound F) → slice_get streams q ≡ Some z → stream_at k.streams q ≡ stream_of z
+    stream_is q z got = ap (λ (ss : List StreamKept). stream_at ss q) streams_are ∙ got_stream streams q z got
 
-  ordered_stays : (s : ℕ) (y : Piece) → y.lane ≡ ordered_lane s → Has passed.kept y ↔ Has left.kept y
-  ordered_stays s y lane = (
-    (λ there. filter_passed (λ (z : Piece). model.stays_by z.lane.kind f passed z) passed.kept y (ap (λ (l : Lane). model.stays_by l.kind f passed y) lane) there),
-    (λ there. filter_has (λ (z : Piece). model.stays_by z.lane.kind f passed z) passed.kept y there),
-  )
+    ordered_stay : (q : ℕ) → of_lane (ordered_lane q) left.kept ≡ of_lane (ordered_lane q) v.kept
+    ordered_stay q =
+        filter_turned (λ (y : Piece). same_lane y.lane (ordered_lane q)) stays v.kept
+        ∙ filter_none stays (of_lane (ordered_lane q) v.kept) (λ y has. ap (λ (l : Lane). model.stays_by l.kind f passed y) (of_says (ordered_lane q) v.kept y has).1)
 
-  due_there : (s : ℕ) → s < v.streams → IsDue f left s (v.next s) (messages s) (nexts s)
-  due_there s low =
-      let there : s < length k.streams = let n = h.keeps.streams in omega (arith, n, low) in
-      let due = (h.each s there).due passed (due_view s) in
-      subst (λ (n : ℕ). IsDue f left s n (messages s) (nexts s)) (sym (h.keeps.next s))
-      (due_same f s passed left refl (ordered_stays s) (stream_at k.streams s).next (messages s) (nexts s) due)
+    skip_now : (q : ℕ) (z : Inbound F) → slice_get streams q ≡ Some z → passed.skip (unordered_lane q) ≡ lowest_after f (unordered_lane q) z.skip x.skips
+    skip_now q z got = unordered_read f v q x.skips ∙ ap (λ (n : ℕ). lowest_after f (unordered_lane q) n x.skips) (h.skip q ∙ ap (λ (a : StreamKept). a.skip) (stream_is q z got))
 
-  pub gives : GivesAll f v.streams left handed
-  gives = gives_given messages nexts f left v.streams due_there
+    unordered_stay : (q : ℕ) (z : Inbound F) → slice_get streams q ≡ Some z → of_lane (unordered_lane q) left.kept ≡ stay f i (lowest_after f (unordered_lane q) z.skip x.skips) (of_lane (unordered_lane q) v.kept)
+    unordered_stay q z got =
+        filter_turned (λ (y : Piece). same_lane y.lane (unordered_lane q)) stays v.kept
+        ∙ filter_where stays (λ (y : Piece). not (lets_go f y.index y.number i (lowest_after f (unordered_lane q) z.skip x.skips))) (of_lane (unordered_lane q) v.kept)
+        (λ y has.
+        let lane = (of_says (unordered_lane q) v.kept y has).1 in
+        ap (λ (l : Lane). model.stays_by l.kind f passed y) lane
+        ∙ (λ j. not (lets_go f y.index y.number (jump_is j) ((ap passed.skip lane ∙ skip_now q z got) j))))
 
-  -- ---- what stays
-
-  none_below_zero : (o : Option ℕ) → not (is_number_below 0 o) ≡ true
-  none_below_zero None = refl
-  none_below_zero (Some n) = grind (arith, nat_tests)
-
-  and_true : (b : Bool) → (b && true) ≡ b
-  and_true true = refl
-  and_true false = refl
-
-  stays_alike : (y : Piece) (kind : Kind) → y.lane.kind ≡ kind →
-      (model.stays_by kind f passed y && stays_given messages nexts v.streams y) ≡ stays_by kind f i (forwarded_at all y.lane.stream) y
-  stays_alike y Ordered is = elim (cases_lt y.lane.stream v.streams) [
-    | inl there ↦ stays_below messages nexts y v.streams is there
-    | inr past ↦
-        let none = past_forwarded all y.lane.stream (let n = h.count in let m = h.keeps.streams in omega (arith, n, m, past)) in
-        stays_past messages nexts y v.streams past ∙ sym (ap (λ (b : StreamForwarded). not (is_number_below b.next y.number)) none ∙ none_below_zero y.number)
-  ]
-  stays_alike y Unordered is =
-      let lane : y.lane ≡ unordered_lane y.lane.stream = λ j. record { stream = y.lane.stream; kind = is j } in
-      let skip : passed.skip y.lane ≡ (forwarded_at all y.lane.stream).skip = ap passed.skip lane ∙ skip_is y.lane.stream in
-      ap (λ (b : Bool). not (lets_go f y.index y.number passed.jump (passed.skip y.lane)) && b) (stays_unordered messages nexts y v.streams is)
-      ∙ and_true (not (lets_go f y.index y.number passed.jump (passed.skip y.lane)))
-      ∙ (λ j. not (lets_go f y.index y.number (jump_is j) (skip j)))
-
-  pub kept_is : handed.kept ≡ filter (λ (y : Piece). stays_after f i all y) k.kept
-  kept_is =
-      filter_both (λ (y : Piece). model.stays_by y.lane.kind f passed y) (λ (y : Piece). stays_given messages nexts v.streams y) v.kept
-      ∙ filter_alike (λ (y : Piece). model.stays_by y.lane.kind f passed y && stays_given messages nexts v.streams y) (λ (y : Piece). stays_after f i all y) v.kept (λ y. stays_alike y y.lane.kind refl)
-      ∙ ap (λ (ps : List Piece). filter (λ (y : Piece). stays_after f i all y) ps) h.keeps.kept
-
-  kept_has : (y : Piece) → Has handed.kept y → Has v.kept y
-  kept_has y there = filter_has (λ (z : Piece). model.stays_by z.lane.kind f passed z) v.kept y (filter_has (λ (z : Piece). stays_given messages nexts v.streams z) left.kept y there)
-
-  -- ---- what it leaves
-
-  module _ (streams : List StreamKept) (seen : SeenKept) (held : ℕ) (after : AreAfter k.streams streams all) (jumps : Jumps k.seen seen i)
-      (counts : held ≡ k.held - freed (size_of_pieces k.kept) (size_of_pieces handed.kept) (size_of_forwarded all)) where
-    each_field : {A : Type 0} (field : StreamKept → A) (new : ℕ → A) → ((s : ℕ) → s < v.streams → new s ≡ field (after_forward (stream_at k.streams s) (forwarded_at all s))) →
-        ((s : ℕ) → v.streams ≤ s → new s ≡ field FRESH) → (s : ℕ) → new s ≡ field (stream_at streams s)
-    each_field field new there past s = elim (cases_lt s v.streams) [
-      | inl low ↦ there s low ∙ ap field (sym (after_is k.streams streams all after h.count s (let n = h.keeps.streams in omega (arith, n, low))))
-      | inr high ↦ past s high ∙ ap field (sym (past_streams streams s (let n = h.keeps.streams in let m = after.length in omega (arith, n, m, high))))
-    ]
-
-    fresh_past : {A : Type 0} (field : StreamKept → A) (s : ℕ) → v.streams ≤ s → field (stream_at k.streams s) ≡ field FRESH
-    fresh_past field s high = ap field (past_streams k.streams s (let n = h.keeps.streams in omega (arith, n, high)))
-
-    skipped_under : (s : ℕ) → handed.skip (ordered_lane s) ≤ handed.next s
-    skipped_under s = elim (cases_lt s v.streams) [
-      | inl low ↦ ((all_served f v.streams left handed gives).waits s low).passed
-      | inr high ↦
-          let skip = skip_other (ordered_lane s) high in
-          let next = next_past messages nexts v.next v.streams s high in
-          let was = h.keeps.skipped s in
-          omega (arith, skip, next, was)
-    ]
-
-    held_is : held ≡ size_of_pieces handed.kept + size_of_waiting handed.waiting v.streams
-    held_is =
-        let waits = waiting_size messages nexts v.waiting v.streams in
-        let given_is : size_given messages nexts v.streams ≡ size_of_forwarded all = ap (λ (n : ℕ). size_given messages nexts n) (h.keeps.streams ∙ sym h.count) ∙ given_forwarded all nexts in
-        let fewer = (all_holds f v.streams left handed gives).held in
-        let less = filter_size (λ (y : Piece). model.stays_by y.lane.kind f passed y) v.kept in
-        let was : k.held ≡ size_of_pieces k.kept + size_of_waiting v.waiting v.streams = h.keeps.held ∙ ap (λ (ps : List Piece). size_of_pieces ps + size_of_waiting v.waiting v.streams) h.keeps.kept in
-        let own : size_of_pieces v.kept ≡ size_of_pieces k.kept = ap size_of_pieces h.keeps.kept in
-        let room = h.keeps.room in
-        let small = h.keeps.small in
-        omega (arith, waits, given_is, fewer, less, was, own, room, small, counts)
-
-    pub keeps_forwarded : KeepsView f (record k { seen = seen; kept = handed.kept; streams = streams; held = held }) handed
-    keeps_forwarded = record {
-      seen = subst (λ (n : ℕ). SeenStands seen v.seen (max v.jump n)) (sym index_is) (jumps v.seen v.jump h.keeps.seen);
-      counts = h.keeps.counts;
-      kept = refl;
-      apart = filter_apart f (λ (z : Piece). stays_given messages nexts v.streams z) left.kept (filter_apart f (λ (z : Piece). model.stays_by z.lane.kind f passed z) v.kept h.keeps.apart);
-      recorded = λ y there. h.keeps.recorded y (kept_has y there);
-      numbers = λ y n there. h.keeps.numbers y n (kept_has y there);
-      next = each_field (λ (a : StreamKept). a.next) handed.next (λ s low. next_below messages nexts v.next v.streams s low)
-          (λ s high. next_past messages nexts v.next v.streams s high ∙ h.keeps.next s ∙ fresh_past (λ (a : StreamKept). a.next) s high);
-      skip = each_field (λ (a : StreamKept). a.skip) (λ (s : ℕ). handed.skip (unordered_lane s)) (λ s low. skip_is s)
-          (λ s high. skip_is s ∙ ap (λ (b : StreamForwarded). b.skip) (past_forwarded all s (let n = h.keeps.streams in let m = h.count in omega (arith, n, m, high))));
-      skipped = skipped_under;
-      waiting = each_field (λ (a : StreamKept). a.waiting) handed.waiting
-          (λ s low. waiting_below messages nexts v.waiting v.streams s low ∙ ap (λ (hs : List Handed). hs ++ messages s) (h.keeps.waiting s))
-          (λ s high. waiting_past messages nexts v.waiting v.streams s high ∙ h.keeps.waiting s ∙ fresh_past (λ (a : StreamKept). a.waiting) s high);
-      streams = h.keeps.streams ∙ sym after.length;
-      few_streams = let few = h.keeps.few_streams in let same = after.length in omega (arith, few, same);
-      duplicates = h.keeps.duplicates;
-      few = h.keeps.few;
-      held = held_is;
-      room = let room = h.keeps.room in omega (arith, counts, room);
-      small = h.keeps.small;
-      initial = h.keeps.initial;
-      buffer = h.keeps.buffer;
+    pub to_pass : AreFiled f v.kept streams → HaveRoom streams → AreToPass f i x.skips v left streams k.held
+    to_pass filed room = record {
+      filed = filed;
+      counted = h.numbers;
+      room = room;
+      stream = λ q z got. record { next = h.next q ∙ ap (λ (a : StreamKept). a.next) (stream_is q z got); waiting = h.waiting q ∙ ap (λ (a : StreamKept). a.waiting) (stream_is q z got) };
+      ordered = ordered_stay;
+      unordered = unordered_stay;
+      within = λ y has. filter_has stays v.kept y has;
+      skip = skip_now;
+      floor = λ q z got. subst (λ (n : ℕ). max n (passed.skip (ordered_lane q)) ≡ lowest_after f (ordered_lane q) n x.skips) (h.next q ∙ ap (λ (a : StreamKept). a.next) (stream_is q z got))
+          (ordered_read f v q x.skips (h.skipped q));
+      next = refl;
+      waiting = refl;
+      held = h.held ∙ ap (λ (n : ℕ). size_of_pieces v.kept + size_of_waiting v.waiting n) (h.streams ∙ count);
+      small = let room = h.room in let small = h.small in omega (arith, room, small);
     }
+
+    -- ---- what it leaves
+
+    module _ (t : ReceiverView) (gives : GivesAll f (length streams) left t) (news : List (Inbound F)) (size : length news ≡ length streams) (held : ℕ) (p : ArePassed f t news held) (seen : SeenKept)
+        (jumps : Jumps k.seen seen i) where
+      served : AreServed f (length streams) left t
+      served = all_served f (length streams) left t gives
+
+      fewer : (y : Piece) → Has t.kept y → Has v.kept y
+      fewer y has = filter_has stays v.kept y (served.giving.fewer y has)
+
+      each_field : {A : Type 0} (field : StreamKept → A) (new : ℕ → A) → ((q : ℕ) (z : Inbound F) → slice_get news q ≡ Some z → new q ≡ field (stream_of z)) →
+          ((q : ℕ) → length streams ≤ q → new q ≡ field FRESH) → (q : ℕ) → new q ≡ field (stream_at (map stream_of news) q)
+      each_field field new there past q = elim (cases_lt q (length streams)) [
+        | inl low ↦
+            let z = got_one news q (omega (arith, low, size)) in
+            there q z.0 z.1 ∙ ap field (sym (got_stream news q z.0 z.1))
+        | inr high ↦ past q high ∙ ap field (sym (past_streams (map stream_of news) q (let m = length-map news stream_of in omega (arith, high, m, size))))
+      ]
+        where
+          got_one : (zs : List (Inbound F)) (j : ℕ) → j < length zs → (z : Inbound F) × (slice_get zs j ≡ Some z)
+          got_one [] j low = absurd (omega (arith, low))
+          got_one (z ∷ zs) zero low = (z, refl)
+          got_one (z ∷ zs) (suc j) low = got_one zs j (omega (arith, low))
+
+      fresh_past : {A : Type 0} (field : StreamKept → A) (q : ℕ) → length streams ≤ q → field (stream_at k.streams q) ≡ field FRESH
+      fresh_past field q high = ap field (past_streams k.streams q (let n = count in omega (arith, n, high)))
+
+      skip_is : (l : Lane) → t.skip l ≡ passed.skip l
+      skip_is l = ap (λ (g : Lane → ℕ). g l) served.giving.skip
+
+      skipped_under : (q : ℕ) → t.skip (ordered_lane q) ≤ t.next q
+      skipped_under q = elim (cases_lt q (length streams)) [
+        | inl low ↦ (served.waits q low).passed
+        | inr high ↦
+            let skip = skip_is (ordered_lane q) ∙ skip_other (ordered_lane q) (let n = count in omega (arith, n, high)) in
+            let next = served.others q high in
+            let was = h.skipped q in
+            omega (arith, skip, next, was)
+      ]
+
+      streams_now : t.streams ≡ length news
+      streams_now = served.giving.streams ∙ h.streams ∙ count ∙ sym size
+
+      under : held ≤ k.buffer
+      under =
+          let less = (all_holds f (length streams) left t gives).held in
+          let fewer = filter_size stays v.kept in
+          let was = h.held in
+          let room = h.room in
+          let now : held ≡ held_bytes t = p.held ∙ ap (λ (n : ℕ). size_of_pieces t.kept + size_of_waiting t.waiting n) (sym streams_now) in
+          omega (arith, less, fewer, was, room, now)
+
+      pub keeps_forwarded : KeepsView f (record k { seen = seen; streams = map stream_of news; held = held }) t
+      keeps_forwarded = record {
+        seen = stands;
+        counts = λ j came. h.counts j (ap (λ (g : ℕ → Bool). g j) (sym served.giving.seen) ∙ came);
+        apart = fewer_apart f v.kept t.kept fewer h.apart;
+        recorded = λ y has. ap (λ (g : ℕ → Bool). g y.index) served.giving.seen ∙ h.recorded y (fewer y has);
+        numbers = λ y n has. h.numbers y n (fewer y has);
+        next = each_field (λ (a : StreamKept). a.next) t.next (λ q z got. (p.stream q z got).0.next)
+            (λ q high. served.others q high ∙ h.next q ∙ fresh_past (λ (a : StreamKept). a.next) q high);
+        skip = each_field (λ (a : StreamKept). a.skip) (λ (q : ℕ). t.skip (unordered_lane q)) (λ q z got. (p.stream q z got).1)
+            (λ q high. skip_is (unordered_lane q) ∙ skip_other (unordered_lane q) (let n = count in omega (arith, n, high)) ∙ h.skip q ∙ fresh_past (λ (a : StreamKept). a.skip) q high);
+        skipped = skipped_under;
+        waiting = each_field (λ (a : StreamKept). a.waiting) t.waiting (λ q z got. (p.stream q z got).0.waiting)
+            (λ q high. gives_past f (length streams) left t gives q high ∙ h.waiting q ∙ fresh_past (λ (a : StreamKept). a.waiting) q high);
+        streams = streams_now ∙ sym (length-map news stream_of);
+        few_streams = let few = h.few_streams in let n = count in let m = length-map news stream_of in omega (arith, few, n, m, size);
+        duplicates = (gives_rest f (length streams) left t gives).1 ∙ h.duplicates;
+        few = h.few;
+        held = p.held ∙ ap (λ (n : ℕ). size_of_pieces t.kept + size_of_waiting t.waiting n) (sym streams_now);
+        room = under;
+        small = h.small;
+        initial = served.giving.initial ∙ h.initial;
+        buffer = served.giving.buffer ∙ h.buffer;
+      }
+        where
+          stands : SeenStands seen t.seen t.jump
+          stands = subst (λ (g : ℕ → Bool). SeenStands seen g t.jump) (sym served.giving.seen)
+              (subst (λ (n : ℕ). SeenStands seen v.seen n) (sym ((gives_rest f (length streams) left t gives).0 ∙ ap (λ (n : ℕ). max v.jump n) index_is)) (jumps v.seen v.jump h.seen))

@@ -26,11 +26,10 @@ cumulative_is k v s = record {
 -- ---- a fresh receiver
 
 pub keeps_fresh : (f : Format) (seen : SeenKept) (ss : List StreamKept) (initial n buffer : ℕ) → SeenStands seen (λ i. false) 0 → ss ≡ replicate n FRESH → n < 2 ^ 16 → buffer < 2 ^ 32 →
-    KeepsView f (record { seen = seen; kept = []; streams = ss; duplicates = []; held = 0; initial = initial; buffer = buffer }) (fresh_receiver initial n buffer)
+    KeepsView f (record { seen = seen; streams = ss; duplicates = []; held = 0; initial = initial; buffer = buffer }) (fresh_receiver initial n buffer)
 keeps_fresh f seen ss initial n buffer s e few fits = record {
   seen = s;
   counts = λ i came. absurd (let never : false ≡ true = came in cc);
-  kept = refl;
   apart = λ x y h. absurd h;
   recorded = λ x h. absurd h;
   numbers = λ x m h is. absurd h;
@@ -58,7 +57,6 @@ pub keeps_taken : (f : Format) (k : ReceiverKept) (v : ReceiverView) (s held : �
 keeps_taken f k v s held h rest x w l at_s left less = record {
   seen = w.seen;
   counts = w.counts;
-  kept = w.kept;
   apart = w.apart;
   recorded = w.recorded;
   numbers = w.numbers;

@@ -37,7 +37,6 @@ pub keeps_recorded : (f : Format) (k : ReceiverKept) (v : ReceiverView) (x : Pie
 keeps_recorded f k v x seen w records new near small = record {
   seen = records new near v.seen v.jump w.seen;
   counts = λ j came. elim (at_cases v.seen x.index j came) [ inl same ↦ omega arith | inr old ↦ w.counts j old ];
-  kept = w.kept;
   apart = w.apart;
   recorded = λ y there. at_stays v.seen x.index y.index (w.recorded y there);
   numbers = w.numbers;
@@ -63,11 +62,9 @@ keeps_new f k v p i seen w n records =
     (subst (λ (j : ℕ). j ≤ k.seen.cumulative + WINDOW) n.index n.near) (subst (λ (j : ℕ). suc j < COUNTS) n.index n.count)
 
 -- nothing changed
-pub keeps_same : (f : Format) (k : ReceiverKept) (v : ReceiverView) (seen : SeenKept) (kept : List Piece) (ss : List StreamKept) → KeepsView f k v → seen ≡ k.seen → kept ≡ k.kept → ss ≡ k.streams →
-    KeepsView f (record k { seen = seen; kept = kept; streams = ss }) v
-keeps_same f k v seen kept ss w a b c =
-    subst (λ (n : SeenKept). KeepsView f (record k { seen = n; kept = kept; streams = ss }) v) (sym a)
-    (subst (λ (n : List Piece). KeepsView f (record k { kept = n; streams = ss }) v) (sym b) (subst (λ (n : List StreamKept). KeepsView f (record k { streams = n }) v) (sym c) w))
+pub keeps_same : (f : Format) (k : ReceiverKept) (v : ReceiverView) (seen : SeenKept) (ss : List StreamKept) → KeepsView f k v → seen ≡ k.seen → ss ≡ k.streams → KeepsView f (record k { seen = seen; streams = ss }) v
+keeps_same f k v seen ss w a c =
+    subst (λ (n : SeenKept). KeepsView f (record k { seen = n; streams = ss }) v) (sym a) (subst (λ (n : List StreamKept). KeepsView f (record k { streams = n }) v) (sym c) w)
 
 -- ---- a TSN noted
 
@@ -75,7 +72,6 @@ pub keeps_duplicates : (f : Format) (k : ReceiverKept) (v : ReceiverView) (ds es
 keeps_duplicates f k v ds es w same few = record {
   seen = w.seen;
   counts = w.counts;
-  kept = w.kept;
   apart = w.apart;
   recorded = w.recorded;
   numbers = w.numbers;

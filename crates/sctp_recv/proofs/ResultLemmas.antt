@@ -1,5 +1,5 @@
 -- Clauses on results.
-use Rattle.std.specs.Prelude.{OnOk, OnErr, Result, Ok, Err}
+use Rattle.std.specs.Prelude.{IsOk, OnOk, OnErr, Result, Ok, Err}
 
 -- what holds anyway holds where it is Ok
 pub if_ok : {T E P : Type 0} (r : Result T E) → P → OnOk r P
@@ -10,3 +10,8 @@ if_ok (Err e) p = tt
 pub if_err : {T E P : Type 0} (r : Result T E) → P → OnErr r P
 if_err (Ok x) p = tt
 if_err (Err e) p = p
+
+-- what holds where it is Ok, where it is
+pub ok_of : {T E P : Type 0} (r : Result T E) → IsOk r → OnOk r P → P
+ok_of (Ok x) is p = p
+ok_of (Err e) is p = absurd (cc)

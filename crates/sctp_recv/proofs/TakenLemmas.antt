@@ -1,240 +1,239 @@
 -- What a receiver keeps once a chunk was kept, and what was due with it handed over.
-use Rattle.std.proofs.Common.{◌≡◌, ℕ, suc, ◌+◌, ◌-◌, ◌<◌, ◌≤◌, Bool, true, false, ◌==◌, List, [], ◌∷◌, ◌++◌, length, set, filter, Some, inl, inr, refl, sym, ◌∙◌, ap, subst, arith}
-use Rattle.std.specs.Prelude.{not}
+use Rattle.std.proofs.Common.{◌≡◌, ℕ, ◌+◌, ◌-◌, ◌<◌, ◌≤◌, ◌⊎◌, Bool, true, false, ◌==◌, List, [], ◌∷◌, ◌++◌, length, set, map, Some, inl, inr, refl, sym, ◌∙◌, ap, subst, arith}
+use Rattle.std.specs.Prelude.{not, slice_get}
 use Rattle.std.proofs.lemmas.Bool.{cases_Bool}
 use Rattle.std.proofs.lemmas.Bool.Decides.{nat_tests}
-use Rattle.sctp_model.specs.Serial.{COUNTS}
+use Rattle.std.proofs.lemmas.List.{length-map}
 use Rattle.sctp_model.specs.Lists.{Has, at}
-use Rattle.sctp_model.specs.Format.{Format, Kind, Lane, ordered_lane, unordered_lane}
+use Rattle.sctp_model.specs.Format.{Format, Kind, Ordered, Unordered, Lane, ordered_lane, unordered_lane}
 use Rattle.sctp_model.specs.Pieces.{Piece}
-use Rattle.sctp_model.specs.Whole.{text_of}
 use Rattle.sctp_model.specs.ReceiverView.{Handed, ReceiverView, size_of_pieces, size_of_messages, size_of_waiting}
-use Rattle.sctp_model.specs.Receiving.{IsDue, is_below, without_below, handed_ordered, without_message, goes_with, handed_unordered, IsWholeWith, message_of, recorded, GivesOrdered, GivesUnordered, Gives, Takes}
+use Rattle.sctp_model.specs.Receiving.{IsDue, is_below, without_below, handed_ordered, without_message, goes_with, handed_unordered, IsWholeWith, message_of, GivesOrdered, GivesUnordered, Gives, Takes}
 use Rattle.sctp_model.specs.receiver.Reading.{lane_of}
-use Rattle.sctp_model.specs.receiver.Laws.{IsApart}
-use Rattle.sctp_model.proofs.receiver.OneStep.{filter_has, filter_apart, kept_apart}
+use Rattle.sctp_model.proofs.receiver.OfLane.{of_more, of_other, of_below, of_below_other, with_of, without_of, without_other}
+use Rattle.sctp_model.proofs.receiver.OneStep.{filter_has}
+use Rattle.sctp_model.proofs.receiver.RowFacts.{row_same}
 use Rattle.sctp_model.proofs.receiver.Sizes.{due_size, message_size}
-use Rattle.sctp_recv.specs.declared.fragment.Fragment.{Fragment}
-use Rattle.sctp_recv.specs.Kept.{piece_of, pieces_of}
+use Rattle.sctp_chains.specs.StandsFor as lane
+use Rattle.sctp_chains.specs.WholeOf.{from_number}
+use Rattle.sctp_recv.specs.declared.inbound.Inbound.{Inbound}
+use Rattle.sctp_recv.specs.Fields.{stream_of}
+use Rattle.sctp_model.specs.receiver.KeptOfLane.{of_lane}
+use Rattle.sctp_recv.specs.Filed.{IsFiledOn, AreFiled}
 use Rattle.sctp_recv.specs.SeenKept.{SeenKept}
 use Rattle.sctp_recv.specs.ReceiverKept.{StreamKept, ReceiverKept, stream_at}
 use Rattle.sctp_recv.specs.StandsFor.{KeepsView}
-use Rattle.sctp_recv.specs.inner.DueSearch.{IsDueView, IsExtent}
-use Rattle.sctp_recv.specs.inner.Giving.{freed, GivesDue, GivesWhole, GivesNone, GivesBy, TakesIn}
-use Rattle.sctp_recv.proofs.StreamLemmas.{one_stream, same_field, length_set, waiting_set, size_append}
-use Rattle.sctp_recv.proofs.NewestLemmas.{whole_says, left_without}
+use Rattle.sctp_recv.specs.inner.Giving.{sized, IsDueView, GivesDue, GivesWhole, GivesNone, GivesBy}
+use Rattle.sctp_recv.proofs.StreamLemmas.{one_stream, same_field, length_set, got_stream}
+use Rattle.sctp_recv.proofs.FiledLemmas.{SameOff, filed_set, sum_has, stream_size, all_sizes, size_changed}
 use Rattle.sctp_recv.proofs.DueLemmas.{due_above}
-use Rattle.sctp_recv.proofs.RecordedLemmas.{at_cases, at_stays, at_here, IsKeepable}
-
--- the view with the chunk kept, before anything is handed over
-abbrev pub with_chunk : ReceiverView → Piece → ReceiverView
-with_chunk v x = record (recorded v x) { kept = x ∷ v.kept }
+use Rattle.sctp_recv.proofs.KeptLemmas.{with_chunk, held_counted, all_apart, all_recorded, all_numbers, keeps_fewer}
+use Rattle.sctp_recv.proofs.RecordedLemmas.{at_cases, IsKeepable}
 
 module _ (f : Format) (k : ReceiverKept) (v : ReceiverView) (x : Piece) (seen : SeenKept) (h : IsKeepable f k v x seen) where
-  all_apart : IsApart f (x ∷ v.kept)
-  all_apart = kept_apart f v x (record { apart = h.keeps.apart; recorded = h.keeps.recorded }) h.unseen h.wanted
+  module _ {F : Type 0} (streams : List (Inbound F)) (s : ℕ) (old new : Inbound F) (streams_are : k.streams ≡ map stream_of streams) (filed : AreFiled f v.kept streams)
+      (got : slice_get streams s ≡ Some old) (low : s < length streams) (mine : x.lane.stream ≡ s) where
+    there_before : (y : Piece) → Has v.kept y → y.lane.stream < length streams
+    there_before = filed.there
 
-  all_recorded : (y : Piece) → Has (x ∷ v.kept) y → at v.seen x.index true y.index ≡ true
-  all_recorded y (inl e) = ap (λ (z : Piece). at v.seen x.index true z.index) (sym e) ∙ at_here v.seen x.index
-  all_recorded y (inr there) = at_stays v.seen x.index y.index (h.keeps.recorded y there)
+    there_now : (y : Piece) → Has (x ∷ v.kept) y → y.lane.stream < length streams
+    there_now y (inl is) = let same : x.lane.stream ≡ y.lane.stream = ap (λ (z : Piece). z.lane.stream) is in omega (arith, same, mine, low)
+    there_now y (inr has) = filed.there y has
 
-  all_numbers : (y : Piece) (n : ℕ) → Has (x ∷ v.kept) y → y.number ≡ Some n → suc n < COUNTS
-  all_numbers y n (inl e) number = h.number n (ap (λ (z : Piece). z.number) e ∙ number)
-  all_numbers y n (inr there) number = h.keeps.numbers y n there number
+    within : s < length k.streams
+    within = let m = ap (λ (ss : List StreamKept). length ss) streams_are ∙ length-map streams stream_of in omega (arith, m, low)
 
-  -- with some of the chunks gone, and one stream changed
-  pub keeps_fewer : (s : ℕ) (test : Piece → Bool) (b : StreamKept) (held : ℕ) (nexts : ℕ → ℕ) (ms : List Handed) → s < length k.streams →
-      ((q : ℕ) → nexts q ≡ (stream_at (set k.streams s b) q).next) → ((q : ℕ) → v.skip (ordered_lane q) ≤ nexts q) →
-      b.skip ≡ (stream_at k.streams s).skip → b.waiting ≡ (stream_at k.streams s).waiting ++ ms →
-      size_of_messages ms + size_of_pieces (filter test (x ∷ v.kept)) ≤ size_of_pieces (x ∷ v.kept) →
-      held ≡ k.held + length x.bytes - freed (size_of_pieces (x ∷ v.kept)) (size_of_pieces (filter test (x ∷ v.kept))) (size_of_messages ms) →
-      KeepsView f (record k { seen = seen; kept = filter test (x ∷ v.kept); streams = set k.streams s b; held = held })
-      (record (with_chunk v x) { next = nexts; waiting = at v.waiting s (v.waiting s ++ ms); kept = filter test (x ∷ v.kept) })
-  keeps_fewer s test b held nexts ms l each above skip waits size counts = record {
-    seen = h.records h.new h.near v.seen v.jump h.keeps.seen;
-    counts = λ j came. elim (at_cases v.seen x.index j came) [ inl same ↦ let c = h.small in omega arith | inr old ↦ h.keeps.counts j old ];
-    kept = refl;
-    apart = filter_apart f test (x ∷ v.kept) all_apart;
-    recorded = λ y there. all_recorded y (filter_has test (x ∷ v.kept) y there);
-    numbers = λ y n there. all_numbers y n (filter_has test (x ∷ v.kept) y there);
-    next = each;
-    skip = λ q. h.keeps.skip q ∙ sym (same_field (λ (a : StreamKept). a.skip) k.streams s b l skip q);
-    skipped = above;
-    waiting = one_stream v.waiting (λ (a : StreamKept). a.waiting) k.streams s b (v.waiting s ++ ms) l h.keeps.waiting
-        (ap (λ (hs : List Handed). hs ++ ms) (h.keeps.waiting s) ∙ sym waits);
-    streams = h.keeps.streams ∙ sym (length_set k.streams s b);
-    few_streams = let few = h.keeps.few_streams in let same = length_set k.streams s b in omega arith;
-    duplicates = h.keeps.duplicates;
-    few = h.keeps.few;
-    held = held_now;
-    room = let fits = h.fits in omega (arith, counts);
-    small = h.keeps.small;
-    initial = h.keeps.initial;
-    buffer = h.keeps.buffer;
-  }
-    where
-      held_now : held ≡ size_of_pieces (filter test (x ∷ v.kept)) + size_of_waiting (at v.waiting s (v.waiting s ++ ms)) v.streams
-      held_now =
-          let wait = waiting_set v.waiting s v.streams (v.waiting s ++ ms) (omega (arith, h.keeps.streams)) in
-          let both = size_append (v.waiting s) ms in
-          let old : k.held ≡ size_of_pieces v.kept + size_of_waiting v.waiting v.streams = h.keeps.held in
-          let fits = h.fits in
-          let top = h.keeps.small in
-          omega (arith, size, counts, wait, both, old, fits, top)
+    stream_is : stream_at k.streams s ≡ stream_of old
+    stream_is = ap (λ (ss : List StreamKept). stream_at ss s) streams_are ∙ got_stream streams s old got
 
-  -- an ordered chunk is kept, and what is then due handed over
-  pub keeps_due : (y : Fragment) (old new : List Fragment) (b : StreamKept) (less held : ℕ) → piece_of y ≡ x → x.lane ≡ ordered_lane y.stream → pieces_of old ≡ k.kept →
-      GivesDue f y.stream (y ∷ old) new (stream_at k.streams y.stream) b less → y.stream < length k.streams → held ≡ k.held + length x.bytes - less →
-      (t : ReceiverView) × GivesOrdered f y.stream (with_chunk v x) t × KeepsView f (record k { seen = seen; kept = pieces_of new; streams = set k.streams y.stream b; held = held }) t
-  keeps_due y old new b less held is lane same g l counts = (handed_ordered (with_chunk v x) y.stream g.messages g.next, (g.messages, g.next, due, refl), stands)
-    where
-      all : pieces_of (y ∷ old) ≡ x ∷ v.kept
-      all = ap (λ (z : Piece). z ∷ pieces_of old) is ∙ ap (λ (ps : List Piece). x ∷ ps) (same ∙ sym h.keeps.kept)
+    -- the bytes held, where these chunks are kept then
+    counts_kept : (now : List Piece) (ms : List Handed) (held after given : ℕ) → ((y : Piece) → Has now y → y.lane.stream < length streams) → SameOff s v.kept now →
+        size_of_messages ms + size_of_pieces now ≤ size_of_pieces (x ∷ v.kept) → after ≡ sized (stream_size now s) → given ≡ sized (size_of_messages ms) →
+        held ≡ sized (sized (k.held - sized (stream_size v.kept s) + after) + given) → held + (length x.bytes + size_of_pieces v.kept) ≡ k.held + length x.bytes + size_of_pieces now + size_of_messages ms
+    counts_kept now ms held after given there off size a g is =
+        let changed = size_changed (length streams) s v.kept now low there_before there off in
+        let sum = all_sizes (length streams) v.kept there_before in
+        let part = sum_has (stream_size v.kept) s (length streams) low in
+        let was : k.held ≡ size_of_pieces v.kept + size_of_waiting v.waiting v.streams = h.keeps.held in
+        held_counted k.held (stream_size v.kept s) (stream_size now s) (size_of_messages ms) (size_of_pieces v.kept) (size_of_pieces now) (length x.bytes) k.buffer
+        changed (omega (arith, sum, part)) (omega (arith, was)) size h.fits h.keeps.small held (is ∙ (λ j. sized (sized (k.held - sized (stream_size v.kept s) + a j) + g j)))
 
-      a : StreamKept
-      a = stream_at k.streams y.stream
+    -- an ordered chunk is kept, and what is then due handed over
+    pub keeps_due : (given held after : ℕ) → x.lane ≡ ordered_lane s → GivesDue f s old.next (x ∷ of_lane (ordered_lane s) v.kept) old new given →
+        ((kept : List Piece) → IsFiledOn f kept s new → after ≡ sized (stream_size kept s)) → held ≡ sized (sized (k.held - sized (stream_size v.kept s) + after) + given) →
+        (t : ReceiverView) × GivesOrdered f s (with_chunk v x) t × (KeepsView f (record k { seen = seen; streams = set k.streams s (stream_of new); held = held }) t × AreFiled f t.kept (set streams s new))
+    keeps_due given held after lane_is g afters counts = (handed_ordered (with_chunk v x) s g.messages g.next, (g.messages, g.next, due, refl), (stands, files))
+      where
+        view : IsDueView f (x ∷ of_lane (ordered_lane s) v.kept) s old.next old.next (with_chunk v x)
+        view = record {
+          same = of_more (ordered_lane s) x v.kept lane_is;
+          above = let under = h.keeps.skipped s in let next = h.keeps.next s in let own = ap (λ (a : StreamKept). a.next) stream_is in omega (arith, under, next, own);
+          skipped = λ n lo hi. absurd (omega (arith, lo, hi));
+        }
 
-      view : IsDueView f (y ∷ old) y.stream (stream_at k.streams y.stream).next (stream_at k.streams y.stream).next (with_chunk v x)
-      view = record {
-        same = sym all;
-        apart = subst (λ (ps : List Piece). IsApart f ps) (sym all) all_apart;
-        numbers = subst (λ (ps : List Piece). (z : Piece) (n : ℕ) → Has ps z → z.number ≡ Some n → suc n < COUNTS) (sym all) all_numbers;
-        above = let low = h.keeps.skipped y.stream in let next = h.keeps.next y.stream in omega arith;
-        skipped = λ n low high. absurd (omega arith);
-      }
+        next_is : v.next s ≡ old.next
+        next_is = h.keeps.next s ∙ ap (λ (a : StreamKept). a.next) stream_is
 
-      due_there : IsDue f (with_chunk v x) y.stream (stream_at k.streams y.stream).next g.messages g.next
-      due_there = g.due (with_chunk v x) view
+        due : IsDue f (with_chunk v x) s (v.next s) g.messages g.next
+        due = subst (λ (n : ℕ). IsDue f (with_chunk v x) s n g.messages g.next) (sym next_is) (g.due (with_chunk v x) view)
 
-      due : IsDue f (with_chunk v x) y.stream (v.next y.stream) g.messages g.next
-      due = subst (λ (n : ℕ). IsDue f (with_chunk v x) y.stream n g.messages g.next) (sym (h.keeps.next y.stream)) due_there
+        above : (q : ℕ) → v.skip (ordered_lane q) ≤ at v.next s g.next q
+        above q = elim (cases_Bool (q == s)) [
+          | inl e ↦
+              let here : s ≡ q = grind (arith, e, nat_tests) in
+              let ends = (due_above f (with_chunk v x) s (v.next s) g.messages g.next due).0 in
+              rw e (subst (λ (i : ℕ). v.skip (ordered_lane i) ≤ g.next) here ends)
+          | inr e ↦ rw e (h.keeps.skipped q)
+        ]
 
-      above : (q : ℕ) → v.skip (ordered_lane q) ≤ at v.next y.stream g.next q
-      above q = elim (cases_Bool (q == y.stream)) [
-        | inl e ↦
-            let here : y.stream ≡ q = grind (arith, nat_tests) in
-            let ends = (due_above f (with_chunk v x) y.stream (v.next y.stream) g.messages g.next due).0 in
-            rw e (subst (λ (i : ℕ). v.skip (ordered_lane i) ≤ g.next) here ends)
-        | inr e ↦ rw e (h.keeps.skipped q)
-      ]
+        off : SameOff s v.kept (without_below (x ∷ v.kept) s g.next)
+        off l other = of_below_other l s g.next (x ∷ v.kept) (λ e. other (ap (λ (m : Lane). m.stream) e)) ∙ of_other l x v.kept (λ e. other (ap (λ (m : Lane). m.stream) (sym e) ∙ mine))
 
-      left : pieces_of new ≡ without_below (x ∷ v.kept) y.stream g.next
-      left = g.kept ∙ ap (λ (ps : List Piece). without_below ps y.stream g.next) all
+        own : of_lane (ordered_lane s) (without_below (x ∷ v.kept) s g.next) ≡ from_number g.next (x ∷ of_lane (ordered_lane s) v.kept)
+        own = of_below s g.next (x ∷ v.kept) ∙ ap (from_number g.next) (of_more (ordered_lane s) x v.kept lane_is)
 
-      bytes : less ≡ freed (size_of_pieces (x ∷ v.kept)) (size_of_pieces (without_below (x ∷ v.kept) y.stream g.next)) (size_of_messages g.messages)
-      bytes = g.bytes ∙ ap (λ (ps : List Piece). freed (size_of_pieces ps) (size_of_pieces (pieces_of new)) (size_of_messages g.messages)) all
-          ∙ ap (λ (ps : List Piece). freed (size_of_pieces (x ∷ v.kept)) (size_of_pieces ps) (size_of_messages g.messages)) left
+        loose : of_lane (unordered_lane s) (without_below (x ∷ v.kept) s g.next) ≡ of_lane (unordered_lane s) v.kept
+        loose =
+            of_below_other (unordered_lane s) s g.next (x ∷ v.kept) (λ e. let no : Unordered ≡ Ordered = ap (λ (l : Lane). l.kind) e in cc)
+            ∙ of_other (unordered_lane s) x v.kept (λ e. let no : Ordered ≡ Unordered = ap (λ (l : Lane). l.kind) (sym lane_is ∙ e) in cc)
 
-      stands : KeepsView f (record k { seen = seen; kept = pieces_of new; streams = set k.streams y.stream b; held = held }) (handed_ordered (with_chunk v x) y.stream g.messages g.next)
-      stands = subst (λ (ps : List Piece). KeepsView f (record k { seen = seen; kept = ps; streams = set k.streams y.stream b; held = held }) (handed_ordered (with_chunk v x) y.stream g.messages g.next)) (sym left)
-          (keeps_fewer y.stream (λ (z : Piece). not (is_below y.stream g.next z)) b held (at v.next y.stream g.next) g.messages l
-          (one_stream v.next (λ (c : StreamKept). c.next) k.streams y.stream b g.next l h.keeps.next (sym (ap (λ (c : StreamKept). c.next) g.stream))) above
-          (ap (λ (c : StreamKept). c.skip) g.stream) (ap (λ (c : StreamKept). c.waiting) g.stream)
-          (due_size f (with_chunk v x) y.stream (v.next y.stream) g.messages g.next due) (counts ∙ ap (λ (n : ℕ). k.held + length x.bytes - n) bytes))
+        here : IsFiledOn f (without_below (x ∷ v.kept) s g.next) s new
+        here = record {
+          ordered = subst (λ (ps : List Piece). lane.StandsFor f new.ordered (ordered_lane s) ps) (sym own) g.left;
+          unordered = subst (λ (ps : List Piece). lane.StandsFor f new.unordered (unordered_lane s) ps) (sym loose) (g.others (unordered_lane s) (of_lane (unordered_lane s) v.kept) (filed.each s old got).unordered);
+        }
 
-  -- an unordered chunk is kept, and its message handed over where it is whole
-  pub keeps_whole : (y : Fragment) (old new : List Fragment) (b : StreamKept) (less held : ℕ) → piece_of y ≡ x → x.lane ≡ unordered_lane y.stream → pieces_of old ≡ k.kept →
-      GivesWhole f (y ∷ old) new (stream_at k.streams y.stream) b less → y.stream < length k.streams → held ≡ k.held + length x.bytes - less →
-      (t : ReceiverView) × GivesUnordered f x (with_chunk v x) t × KeepsView f (record k { seen = seen; kept = pieces_of new; streams = set k.streams y.stream b; held = held }) t
-  keeps_whole y old new b less held is lane same g l counts = (handed_unordered f (with_chunk v x) e.first e.others, inl (e.first, e.others, whole, refl), stands)
-    where
-      all : pieces_of (y ∷ old) ≡ x ∷ v.kept
-      all = ap (λ (z : Piece). z ∷ pieces_of old) is ∙ ap (λ (ps : List Piece). x ∷ ps) (same ∙ sym h.keeps.kept)
+        files : AreFiled f (without_below (x ∷ v.kept) s g.next) (set streams s new)
+        files = filed_set f v.kept (without_below (x ∷ v.kept) s g.next) streams s new filed low here off (λ y has. there_now y (filter_has (λ (z : Piece). not (is_below s g.next z)) (x ∷ v.kept) y has))
 
-      there : IsApart f (pieces_of (y ∷ old))
-      there = subst (λ (ps : List Piece). IsApart f ps) (sym all) all_apart
+        size : size_of_messages g.messages + size_of_pieces (without_below (x ∷ v.kept) s g.next) ≤ size_of_pieces (x ∷ v.kept)
+        size = due_size f (with_chunk v x) s (v.next s) g.messages g.next due
 
-      e : IsExtent f (y ∷ old) g.whole x
-      e = g.found.1 x there (ap (λ (z : Piece). Some z) is)
+        stands : KeepsView f (record k { seen = seen; streams = set k.streams s (stream_of new); held = held }) (handed_ordered (with_chunk v x) s g.messages g.next)
+        stands = keeps_fewer f k v x seen h s (λ (z : Piece). not (is_below s g.next z)) (stream_of new) held (at v.next s g.next) g.messages within
+            (one_stream v.next (λ (c : StreamKept). c.next) k.streams s (stream_of new) g.next within h.keeps.next (sym (ap (λ (c : StreamKept). c.next) g.stream))) above
+            (ap (λ (c : StreamKept). c.skip) g.stream ∙ sym (ap (λ (c : StreamKept). c.skip) stream_is))
+            (ap (λ (c : StreamKept). c.waiting) g.stream ∙ ap (λ (hs : List Handed). hs ++ g.messages) (sym (ap (λ (c : StreamKept). c.waiting) stream_is)))
+            size (counts_kept (without_below (x ∷ v.kept) s g.next) g.messages held after given (λ y has. there_now y (filter_has (λ (z : Piece). not (is_below s g.next z)) (x ∷ v.kept) y has)) off size (afters (without_below (x ∷ v.kept) s g.next) here) g.bytes counts)
 
-      whole : IsWholeWith f (x ∷ v.kept) x (e.first ∷ e.others)
-      whole = subst (λ (ps : List Piece). IsWholeWith f ps x (e.first ∷ e.others)) all e.whole
+    -- an unordered chunk is kept, and its message handed over where it is whole
+    module _ (given held after : ℕ) (lane_is : x.lane ≡ unordered_lane s) (afters : (kept : List Piece) → IsFiledOn f kept s new → after ≡ sized (stream_size kept s))
+        (counts : held ≡ sized (sized (k.held - sized (stream_size v.kept s) + after) + given)) (others : (l : Lane) (ks : List Piece) → lane.StandsFor f old.ordered l ks → lane.StandsFor f new.ordered l ks) where
+      ordered_here : lane.StandsFor f new.ordered (ordered_lane s) (of_lane (ordered_lane s) v.kept)
+      ordered_here = others (ordered_lane s) (of_lane (ordered_lane s) v.kept) (filed.each s old got).ordered
 
-      stream : e.first.lane.stream ≡ y.stream
-      stream = ap (λ (m : Lane). m.stream) (sym (whole_says f (x ∷ v.kept) e.first x e.others whole).1.0) ∙ ap (λ (m : Lane). m.stream) lane
+      not_ordered : x.lane ≡ ordered_lane s → ⊥
+      not_ordered e = let no : Unordered ≡ Ordered = ap (λ (l : Lane). l.kind) (sym lane_is ∙ e) in cc
 
-      made : g.message ≡ message_of f e.first e.others
-      made = g.made x there (ap (λ (z : Piece). Some z) is) e
+      more : of_lane (unordered_lane s) (x ∷ v.kept) ≡ x ∷ of_lane (unordered_lane s) v.kept
+      more = of_more (unordered_lane s) x v.kept lane_is
 
-      left : pieces_of new ≡ without_message f (x ∷ v.kept) (e.first ∷ e.others)
-      left = g.kept ∙ left_without f (y ∷ old) g.whole x e ∙ ap (λ (ps : List Piece). without_message f ps (e.first ∷ e.others)) all
+      off_chunk : SameOff s v.kept (x ∷ v.kept)
+      off_chunk l other = of_other l x v.kept (λ e. other (ap (λ (m : Lane). m.stream) (sym e) ∙ mine))
 
-      left_size : size_of_messages (g.message ∷ []) + size_of_pieces (without_message f (x ∷ v.kept) (e.first ∷ e.others)) ≤ size_of_pieces (x ∷ v.kept)
-      left_size =
-          let all_of_it = message_size f (x ∷ v.kept) x e.first e.others whole in
-          let text : length g.message.bytes ≡ length (text_of (e.first ∷ e.others)) = ap (λ (m : Handed). length m.bytes) made in
-          omega arith
+      keeps_whole : GivesWhole f s x (of_lane (unordered_lane s) v.kept) old new given →
+          (t : ReceiverView) × GivesUnordered f x (with_chunk v x) t × (KeepsView f (record k { seen = seen; streams = set k.streams s (stream_of new); held = held }) t × AreFiled f t.kept (set streams s new))
+      keeps_whole g = (handed_unordered f (with_chunk v x) g.head g.rest, inl (g.head, g.rest, whole, refl), (then_so, files))
+        where
+          whole : IsWholeWith f (x ∷ v.kept) x (g.head ∷ g.rest)
+          whole = (with_of f (x ∷ v.kept) (unordered_lane s) x (g.head ∷ g.rest) lane_is).1 (subst (λ (ps : List Piece). IsWholeWith f ps x (g.head ∷ g.rest)) (sym more) g.whole)
 
-      bytes : less ≡ freed (size_of_pieces (x ∷ v.kept)) (size_of_pieces (without_message f (x ∷ v.kept) (e.first ∷ e.others))) (size_of_messages (g.message ∷ []))
-      bytes = g.bytes ∙ ap (λ (ps : List Piece). freed (size_of_pieces ps) (size_of_pieces (pieces_of new)) (size_of_messages (g.message ∷ []))) all
-          ∙ ap (λ (ps : List Piece). freed (size_of_pieces (x ∷ v.kept)) (size_of_pieces ps) (size_of_messages (g.message ∷ []))) left
+          head_lane : g.head.lane ≡ unordered_lane s
+          head_lane = sym (row_same f g.head g.rest x whole.0.1 whole.2).0 ∙ lane_is
 
-      first_so : KeepsView f (record k { seen = seen; kept = without_message f (x ∷ v.kept) (e.first ∷ e.others); streams = set k.streams y.stream b; held = held }) (record (with_chunk v x) { waiting = at v.waiting y.stream (v.waiting y.stream ++ g.message ∷ []); kept = without_message f (x ∷ v.kept) (e.first ∷ e.others) })
-      first_so = keeps_fewer y.stream (λ (z : Piece). not (goes_with f (e.first ∷ e.others) z)) b held v.next (g.message ∷ []) l
-          (λ q. h.keeps.next q ∙ sym (same_field (λ (c : StreamKept). c.next) k.streams y.stream b l (ap (λ (c : StreamKept). c.next) g.stream) q)) h.keeps.skipped
-          (ap (λ (c : StreamKept). c.skip) g.stream) (ap (λ (c : StreamKept). c.waiting) g.stream) left_size (counts ∙ ap (λ (n : ℕ). k.held + length x.bytes - n) bytes)
+          off : SameOff s v.kept (without_message f (x ∷ v.kept) (g.head ∷ g.rest))
+          off l other = without_other f (x ∷ v.kept) l g.head g.rest x (all_apart f k v x seen h) whole (λ e. other (ap (λ (m : Lane). m.stream) (sym e ∙ head_lane))) ∙ off_chunk l other
 
-      then_so : KeepsView f (record k { seen = seen; kept = without_message f (x ∷ v.kept) (e.first ∷ e.others); streams = set k.streams y.stream b; held = held }) (handed_unordered f (with_chunk v x) e.first e.others)
-      then_so =
-          subst (λ (q : ℕ). KeepsView f (record k { seen = seen; kept = without_message f (x ∷ v.kept) (e.first ∷ e.others); streams = set k.streams y.stream b; held = held }) (record (with_chunk v x) { waiting = at v.waiting q (v.waiting q ++ message_of f e.first e.others ∷ []); kept = without_message f (x ∷ v.kept) (e.first ∷ e.others) })) (sym stream)
-          (subst (λ (m : Handed). KeepsView f (record k { seen = seen; kept = without_message f (x ∷ v.kept) (e.first ∷ e.others); streams = set k.streams y.stream b; held = held }) (record (with_chunk v x) { waiting = at v.waiting y.stream (v.waiting y.stream ++ m ∷ []); kept = without_message f (x ∷ v.kept) (e.first ∷ e.others) })) made first_so)
+          here : IsFiledOn f (without_message f (x ∷ v.kept) (g.head ∷ g.rest)) s new
+          here = record {
+            ordered = subst (λ (ps : List Piece). lane.StandsFor f new.ordered (ordered_lane s) ps)
+                (sym (without_other f (x ∷ v.kept) (ordered_lane s) g.head g.rest x (all_apart f k v x seen h) whole (λ e. let no : Unordered ≡ Ordered = ap (λ (l : Lane). l.kind) (sym head_lane ∙ e) in cc)
+                ∙ of_other (ordered_lane s) x v.kept not_ordered)) ordered_here;
+            unordered = subst (λ (ps : List Piece). lane.StandsFor f new.unordered (unordered_lane s) ps)
+                (sym (without_of f (x ∷ v.kept) (unordered_lane s) (g.head ∷ g.rest) ∙ ap (λ (ps : List Piece). without_message f ps (g.head ∷ g.rest)) more)) g.left;
+          }
 
-      stands : KeepsView f (record k { seen = seen; kept = pieces_of new; streams = set k.streams y.stream b; held = held }) (handed_unordered f (with_chunk v x) e.first e.others)
-      stands = subst (λ (ps : List Piece). KeepsView f (record k { seen = seen; kept = ps; streams = set k.streams y.stream b; held = held }) (handed_unordered f (with_chunk v x) e.first e.others)) (sym left) then_so
+          there : (y : Piece) → Has (without_message f (x ∷ v.kept) (g.head ∷ g.rest)) y → y.lane.stream < length streams
+          there y has = there_now y (filter_has (λ (z : Piece). not (goes_with f (g.head ∷ g.rest) z)) (x ∷ v.kept) y has)
 
-  -- or it stays with the others
-  pub keeps_part : (y : Fragment) (old new : List Fragment) (b : StreamKept) (less held : ℕ) → piece_of y ≡ x → pieces_of old ≡ k.kept →
-      GivesNone f (y ∷ old) new (stream_at k.streams y.stream) b less → y.stream < length k.streams → held ≡ k.held + length x.bytes - less →
-      (t : ReceiverView) × GivesUnordered f x (with_chunk v x) t × KeepsView f (record k { seen = seen; kept = pieces_of new; streams = set k.streams y.stream b; held = held }) t
-  keeps_part y old new b less held is same g l counts = (with_chunk v x, inr (none, refl), stands)
-    where
-      all : pieces_of (y ∷ old) ≡ x ∷ v.kept
-      all = ap (λ (z : Piece). z ∷ pieces_of old) is ∙ ap (λ (ps : List Piece). x ∷ ps) (same ∙ sym h.keeps.kept)
+          files : AreFiled f (without_message f (x ∷ v.kept) (g.head ∷ g.rest)) (set streams s new)
+          files = filed_set f v.kept (without_message f (x ∷ v.kept) (g.head ∷ g.rest)) streams s new filed low here off there
 
-      none : (xs : List Piece) → IsWholeWith f (x ∷ v.kept) x xs → ⊥
-      none xs whole = g.none x (subst (λ (ps : List Piece). IsApart f ps) (sym all) all_apart) (ap (λ (z : Piece). Some z) is) xs
-          (subst (λ (ps : List Piece). IsWholeWith f ps x xs) (sym all) whole)
+          size : size_of_messages (message_of f g.head g.rest ∷ []) + size_of_pieces (without_message f (x ∷ v.kept) (g.head ∷ g.rest)) ≤ size_of_pieces (x ∷ v.kept)
+          size = let less = message_size f (x ∷ v.kept) x g.head g.rest whole in omega (arith, less)
 
-      waits : (q : ℕ) → v.waiting q ≡ (stream_at (set k.streams y.stream b) q).waiting
-      waits q = h.keeps.waiting q ∙ sym (same_field (λ (c : StreamKept). c.waiting) k.streams y.stream b l (ap (λ (c : StreamKept). c.waiting) g.stream) q)
+          bytes : given ≡ sized (size_of_messages (message_of f g.head g.rest ∷ []))
+          bytes = let own = g.bytes in omega (arith, own)
 
-      stands : KeepsView f (record k { seen = seen; kept = pieces_of new; streams = set k.streams y.stream b; held = held }) (with_chunk v x)
-      stands = record {
-        seen = h.records h.new h.near v.seen v.jump h.keeps.seen;
-        counts = λ j came. elim (at_cases v.seen x.index j came) [ inl here ↦ let c = h.small in omega arith | inr there ↦ h.keeps.counts j there ];
-        kept = sym (g.kept ∙ all);
-        apart = all_apart;
-        recorded = all_recorded;
-        numbers = all_numbers;
-        next = λ q. h.keeps.next q ∙ sym (same_field (λ (c : StreamKept). c.next) k.streams y.stream b l (ap (λ (c : StreamKept). c.next) g.stream) q);
-        skip = λ q. h.keeps.skip q ∙ sym (same_field (λ (c : StreamKept). c.skip) k.streams y.stream b l (ap (λ (c : StreamKept). c.skip) g.stream) q);
-        skipped = h.keeps.skipped;
-        waiting = waits;
-        streams = h.keeps.streams ∙ sym (length_set k.streams y.stream b);
-        few_streams = let few = h.keeps.few_streams in let same = length_set k.streams y.stream b in omega arith;
-        duplicates = h.keeps.duplicates;
-        few = h.keeps.few;
-        held = let old_held : k.held ≡ size_of_pieces v.kept + size_of_waiting v.waiting v.streams = h.keeps.held in let less_is : less ≡ 0 = g.bytes in omega (arith, old_held, less_is, counts);
-        room = let fits = h.fits in omega (arith, counts);
-        small = h.keeps.small;
-        initial = h.keeps.initial;
-        buffer = h.keeps.buffer;
-      }
+          first_so : KeepsView f (record k { seen = seen; streams = set k.streams s (stream_of new); held = held })
+              (record (with_chunk v x) { waiting = at v.waiting s (v.waiting s ++ message_of f g.head g.rest ∷ []); kept = without_message f (x ∷ v.kept) (g.head ∷ g.rest) })
+          first_so = keeps_fewer f k v x seen h s (λ (z : Piece). not (goes_with f (g.head ∷ g.rest) z)) (stream_of new) held v.next (message_of f g.head g.rest ∷ []) within
+              (λ q. h.keeps.next q ∙ sym (same_field (λ (c : StreamKept). c.next) k.streams s (stream_of new) within (ap (λ (c : StreamKept). c.next) g.stream ∙ sym (ap (λ (c : StreamKept). c.next) stream_is)) q)) h.keeps.skipped
+              (ap (λ (c : StreamKept). c.skip) g.stream ∙ sym (ap (λ (c : StreamKept). c.skip) stream_is))
+              (ap (λ (c : StreamKept). c.waiting) g.stream ∙ ap (λ (hs : List Handed). hs ++ message_of f g.head g.rest ∷ []) (sym (ap (λ (c : StreamKept). c.waiting) stream_is)))
+              size (counts_kept (without_message f (x ∷ v.kept) (g.head ∷ g.rest)) (message_of f g.head g.rest ∷ []) held after given there off size (afters (without_message f (x ∷ v.kept) (g.head ∷ g.rest)) here) bytes counts)
 
-  -- by its kind
-  pub keeps_taken_in : (y : Fragment) (old new : List Fragment) (b : StreamKept) (less held : ℕ) → piece_of y ≡ x → pieces_of old ≡ k.kept → TakesIn f y old new (stream_at k.streams y.stream) b less →
-      y.stream < length k.streams → held ≡ k.held + length x.bytes - less →
-      (t : ReceiverView) × Takes f v x t × KeepsView f (record k { seen = seen; kept = pieces_of new; streams = set k.streams y.stream b; held = held }) t
-  keeps_taken_in y old new b less held is same takes l counts = go y.unordered (ap (λ (z : Piece). z.lane) (sym is)) takes
-    where
-      go : (u : Bool) → x.lane ≡ lane_of y.stream u → GivesBy u f y.stream (y ∷ old) new (stream_at k.streams y.stream) b less →
-          (t : ReceiverView) × Takes f v x t × KeepsView f (record k { seen = seen; kept = pieces_of new; streams = set k.streams y.stream b; held = held }) t
-      go true lane (inl g) =
-          let m = keeps_whole y old new b less held is lane same g l counts in
-          (m.0, subst (λ (c : Kind). Gives f c x (with_chunk v x) m.0) (ap (λ (n : Lane). n.kind) (sym lane)) m.1, m.2)
-      go true lane (inr g) =
-          let m = keeps_part y old new b less held is same g l counts in
-          (m.0, subst (λ (c : Kind). Gives f c x (with_chunk v x) m.0) (ap (λ (n : Lane). n.kind) (sym lane)) m.1, m.2)
-      go false lane g =
-          let m = keeps_due y old new b less held is lane same g l counts in
-          (m.0, subst (λ (n : Lane). Gives f n.kind x (with_chunk v x) m.0) (sym lane) (subst (λ (q : ℕ). GivesOrdered f q (with_chunk v x) m.0) (ap (λ (n : Lane). n.stream) (sym lane)) m.1), m.2)
+          then_so : KeepsView f (record k { seen = seen; streams = set k.streams s (stream_of new); held = held }) (handed_unordered f (with_chunk v x) g.head g.rest)
+          then_so = subst (λ (q : ℕ). KeepsView f (record k { seen = seen; streams = set k.streams s (stream_of new); held = held })
+              (record (with_chunk v x) { waiting = at v.waiting q (v.waiting q ++ message_of f g.head g.rest ∷ []); kept = without_message f (x ∷ v.kept) (g.head ∷ g.rest) }))
+              (sym (ap (λ (m : Lane). m.stream) head_lane)) first_so
+
+      -- or it stays with the others
+      keeps_part : GivesNone f s x (of_lane (unordered_lane s) v.kept) old new given →
+          (t : ReceiverView) × GivesUnordered f x (with_chunk v x) t × (KeepsView f (record k { seen = seen; streams = set k.streams s (stream_of new); held = held }) t × AreFiled f t.kept (set streams s new))
+      keeps_part g = (with_chunk v x, inr (none, refl), (stands, filed_set f v.kept (x ∷ v.kept) streams s new filed low here off_chunk there_now))
+        where
+          none : (xs : List Piece) → IsWholeWith f (x ∷ v.kept) x xs → ⊥
+          none xs whole = g.none xs (subst (λ (ps : List Piece). IsWholeWith f ps x xs) more ((with_of f (x ∷ v.kept) (unordered_lane s) x xs lane_is).0 whole))
+
+          here : IsFiledOn f (x ∷ v.kept) s new
+          here = record {
+            ordered = subst (λ (ps : List Piece). lane.StandsFor f new.ordered (ordered_lane s) ps) (sym (of_other (ordered_lane s) x v.kept not_ordered)) ordered_here;
+            unordered = subst (λ (ps : List Piece). lane.StandsFor f new.unordered (unordered_lane s) ps) (sym more) g.left;
+          }
+
+          same : {A : Type 0} (field : StreamKept → A) (q : ℕ) → field (stream_at (set k.streams s (stream_of new)) q) ≡ field (stream_at k.streams q)
+          same field q = same_field field k.streams s (stream_of new) within (ap field (g.stream ∙ sym stream_is)) q
+
+          total : held + (length x.bytes + size_of_pieces v.kept) ≡ k.held + length x.bytes + size_of_pieces (x ∷ v.kept) + 0
+          total = counts_kept (x ∷ v.kept) [] held after given there_now off_chunk (omega arith) (afters (x ∷ v.kept) here) (let none_given = g.bytes in omega (arith, none_given)) counts
+
+          stands : KeepsView f (record k { seen = seen; streams = set k.streams s (stream_of new); held = held }) (with_chunk v x)
+          stands = record {
+            seen = h.records h.new h.near v.seen v.jump h.keeps.seen;
+            counts = λ j came. elim (at_cases v.seen x.index j came) [ inl e ↦ let c = h.small in omega arith | inr there ↦ h.keeps.counts j there ];
+            apart = all_apart f k v x seen h;
+            recorded = all_recorded f k v x seen h;
+            numbers = all_numbers f k v x seen h;
+            next = λ q. h.keeps.next q ∙ sym (same (λ (c : StreamKept). c.next) q);
+            skip = λ q. h.keeps.skip q ∙ sym (same (λ (c : StreamKept). c.skip) q);
+            skipped = h.keeps.skipped;
+            waiting = λ q. h.keeps.waiting q ∙ sym (same (λ (c : StreamKept). c.waiting) q);
+            streams = h.keeps.streams ∙ sym (length_set k.streams s (stream_of new));
+            few_streams = let few = h.keeps.few_streams in let size = length_set k.streams s (stream_of new) in omega (arith, few, size);
+            duplicates = h.keeps.duplicates;
+            few = h.keeps.few;
+            held = let was : k.held ≡ size_of_pieces v.kept + size_of_waiting v.waiting v.streams = h.keeps.held in let all = total in omega (arith, was, all);
+            room = let fits = h.fits in let all = total in omega (arith, fits, all);
+            small = h.keeps.small;
+            initial = h.keeps.initial;
+            buffer = h.keeps.buffer;
+          }
+
+    -- by its kind
+    pub keeps_taken_in : (unordered : Bool) (given held after : ℕ) → x.lane ≡ lane_of s unordered → GivesBy unordered f s x (of_lane (lane_of s unordered) v.kept) old new given →
+        ((kept : List Piece) → IsFiledOn f kept s new → after ≡ sized (stream_size kept s)) → held ≡ sized (sized (k.held - sized (stream_size v.kept s) + after) + given) →
+        (t : ReceiverView) × Takes f v x t × (KeepsView f (record k { seen = seen; streams = set k.streams s (stream_of new); held = held }) t × AreFiled f t.kept (set streams s new))
+    keeps_taken_in true given held after is g afters counts = finish g.gives
+      where
+        finish : GivesWhole f s x (of_lane (unordered_lane s) v.kept) old new given ⊎ GivesNone f s x (of_lane (unordered_lane s) v.kept) old new given →
+            (t : ReceiverView) × Takes f v x t × (KeepsView f (record k { seen = seen; streams = set k.streams s (stream_of new); held = held }) t × AreFiled f t.kept (set streams s new))
+        finish (inl whole) =
+            let m = keeps_whole given held after is afters counts g.others whole in
+            (m.0, subst (λ (c : Kind). Gives f c x (with_chunk v x) m.0) (ap (λ (l : Lane). l.kind) (sym is)) m.1, m.2)
+        finish (inr none) =
+            let m = keeps_part given held after is afters counts g.others none in
+            (m.0, subst (λ (c : Kind). Gives f c x (with_chunk v x) m.0) (ap (λ (l : Lane). l.kind) (sym is)) m.1, m.2)
+    keeps_taken_in false given held after is g afters counts =
+        let m = keeps_due given held after is g afters counts in
+        (m.0, subst (λ (l : Lane). Gives f l.kind x (with_chunk v x) m.0) (sym is) (subst (λ (q : ℕ). GivesOrdered f q (with_chunk v x) m.0) (sym mine) m.1), m.2)

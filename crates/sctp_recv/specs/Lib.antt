@@ -7,7 +7,7 @@ pub mod HandedOf
 pub mod ReceiverKept
 pub mod Fields
 pub mod KeptOf
-pub mod Kept
+pub mod Filed
 pub mod StandsFor
 pub mod SackOf
 pub mod Laws

@@ -1,6 +1,5 @@
 -- What contracts see of a receiver: what it keeps, without where it lies in memory.
 use Rattle.std.specs.Prelude.{ℕ, Bool, true, false, nat_lt, Option, None, Some, List, [], slice_index_or}
-use Rattle.sctp_model.specs.Pieces.{Piece}
 use Rattle.sctp_model.specs.ReceiverView.{Handed}
 use Rattle.sctp_recv.specs.SeenKept.{SeenKept}
 
@@ -10,10 +9,9 @@ pub record StreamKept : Type 0 where
   pub skip : ℕ
   pub waiting : List Handed
 
--- The indexes seen, the chunks kept with the newest first, the streams, the TSNs that came again, the bytes held, and the constants.
+-- The indexes seen, the streams but for their chunks, the TSNs that came again, the bytes held, and the constants.
 pub record ReceiverKept : Type 0 where
   pub seen : SeenKept
-  pub kept : List Piece
   pub streams : List StreamKept
   pub duplicates : List ℕ
   pub held : ℕ

@@ -1,5 +1,5 @@
 -- The indexes that came, as they are kept.
-use Rattle.std.specs.Prelude.{◌≡◌, ℕ, ◌+◌, ◌≤◌, Bool, true, ◌||◌, nat_le, List}
+use Rattle.std.specs.Prelude.{◌≡◌, ℕ, ◌+◌, ◌≤◌, Bool, true, ◌||◌, nat_lt, nat_le, List}
 use Rattle.sctp_model.specs.Limits.{WINDOW}
 use Rattle.sctp_recv.specs.declared.runs.Run.{Run}
 use Rattle.sctp_recv.specs.Runs.{in_runs, AreRuns}
@@ -9,6 +9,11 @@ pub record SeenKept : Type 0 where
   pub cumulative : ℕ
   pub runs : List Run
 
+-- The same, and whether there is room for one run more.
+pub record SeenRoom : Type 0 where
+  pub kept : SeenKept
+  pub room : Bool
+
 -- the same by its two parts
 abbrev pub seen_of : (cumulative : ℕ) → List Run → SeenKept
 seen_of c rs = record { cumulative = c; runs = rs }
@@ -16,6 +21,10 @@ seen_of c rs = record { cumulative = c; runs = rs }
 -- nothing is missing up to the index, or a run has it
 abbrev pub is_reached : SeenKept → ℕ → Bool
 is_reached k i = nat_le i k.cumulative || in_runs k.runs i
+
+-- the same with its room: so many runs are there, and there is memory for so many
+abbrev pub with_room : SeenKept → (len capacity : ℕ) → SeenRoom
+with_room k len capacity = record { kept = k; room = nat_lt len capacity }
 
 -- no run has an index past the bound
 abbrev pub AreWithin : (bound : ℕ) → List Run → Type 0

@@ -10,6 +10,7 @@ use Rattle.sctp_model.specs.receiver.Laws.{IsApart}
 use Rattle.sctp_recv.specs.ReceiverKept.{ReceiverKept, stream_at}
 use Rattle.sctp_recv.specs.SeenStands.{SeenStands}
 use Rattle.sctp_recv.specs.KeptOf.{kept_of}
+use Rattle.sctp_recv.specs.Filed.{AreFiled}
 use Rattle.sctp_recv.specs.declared.receiver.Receiver.{Receiver}
 
 -- What is kept says the view, up to what the receiver has let go: the indexes at or below the cumulative one, the messages taken, and the
@@ -18,7 +19,6 @@ use Rattle.sctp_recv.specs.declared.receiver.Receiver.{Receiver}
 pub record KeepsView (f : Format) (k : ReceiverKept) (v : ReceiverView) : Type 0 where
   pub seen : SeenStands k.seen v.seen v.jump
   pub counts : (i : ℕ) → v.seen i ≡ true → suc i < COUNTS
-  pub kept : v.kept ≡ k.kept
   pub apart : IsApart f v.kept
   pub recorded : (x : Piece) → Has v.kept x → v.seen x.index ≡ true
   pub numbers : (x : Piece) (n : ℕ) → Has v.kept x → x.number ≡ Some n → suc n < COUNTS
@@ -38,4 +38,4 @@ pub record KeepsView (f : Format) (k : ReceiverKept) (v : ReceiverView) : Type 0
 
 -- the receiver stands for this view
 unfoldable pub StandsFor : {F : Type 0} → Format → Receiver F → ReceiverView → Type 0
-StandsFor f r v = KeepsView f (kept_of r) v
+StandsFor f r v = KeepsView f (kept_of r) v × AreFiled f v.kept r.streams.items

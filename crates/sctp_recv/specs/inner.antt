@@ -1,5 +1,3 @@
-pub mod Search
-pub mod DueSearch
 pub mod Giving
 pub mod Rows
 pub mod Forwarding

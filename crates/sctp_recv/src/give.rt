@@ -1,147 +1,158 @@
-//! Handing over: a chunk is recorded, and what is due with it goes to what waits for the user (RFC 9260, 6.6).
+//! Handing over: a chunk is kept, and what is due with it goes to what waits for the user (RFC 9260, 6.6; RFC 3758, 3.6).
 
-ghost use Rattle.std.specs.Prelude.{◌≡◌, ◌<◌, ◌++◌, filter, length, map, not, IfOk, OnErr, OnOk};
-ghost use Rattle.sctp_model.specs.Receiving.{without_below};
-ghost use Rattle.sctp_recv.specs.Kept.{pieces_of};
-ghost use Rattle.sctp_recv.specs.HandedOf.{handed_of};
+ghost use Rattle.std.specs.Prelude.{◌≡◌, ◌^◌, ◌<◌, ◌++◌, [], ◌∷◌, ◌≤◌, ℕ, suc, Some, map, length, OnOk, OnErr, IfOk};
+ghost use Rattle.std.specs.VecDeque.{deque_len, deque_capacity};
+ghost use Rattle.sctp_model.specs.Format.{ordered_lane, unordered_lane};
+ghost use Rattle.sctp_model.specs.receiver.Reading.{lane_of};
+ghost use Rattle.sctp_wire.specs.ChunkTree.{piece_meaning};
+ghost use Rattle.sctp_chains.specs.Cells.{Kept};
+ghost use Rattle.sctp_chains.specs.StandsFor as lane;
+ghost use Rattle.sctp_chains.specs.StandsFor.{IsNew};
+ghost use Rattle.sctp_chains.specs.Cells.{counted};
 ghost use Rattle.sctp_recv.specs.Fields.{stream_of};
-ghost use Rattle.sctp_recv.specs.inner.DueSearch.{takes};
-ghost use Rattle.sctp_recv.specs.inner.Giving.{GivesDue, GivesNewest, RecordsNew, TakesIn};
+ghost use Rattle.sctp_recv.specs.HandedOf.{handed_of, message_bytes};
+ghost use Rattle.sctp_recv.specs.inner.Giving.{sized, HasRoom, SameChunks, AreCounted, GivesDue, GivesNewest, GivesBy, lane_in};
 
-use crate::due::{Whole, due_from, push_message, whole_with_newest};
-use crate::fragment::Fragment;
 use crate::inbound::Inbound;
-use crate::message::Message;
-use crate::room::{bytes_kept, bytes_of_messages};
-use crate::seen::Seen;
-use crate::whole::message_from;
+use crate::message::{Message, message_of};
+use crate::room::small_len;
 use sctp_framing::Framing;
-use sctp_wire::NoMemory;
-use std::alloc::Global;
+use sctp_wire::{NoMemory, Piece};
 use std::collections::VecDeque;
 
-/// Records an index, and lets messages wait. Nothing is done by halves.
-///
-/// # Errors
-/// Memory ran out, and nothing changed.
-fn record_and_push(
-    seen: &mut Seen,
-    index: u32,
-    waiting: &mut VecDeque<Message>,
-    messages: &mut VecDeque<Message>,
-) -> Result<(), NoMemory>
-    ensures recorded { OnOk result (RecordsNew seen.old seen.new index) }
-    ensures pushed { OnOk result (map handed_of waiting.new.items ≡ map handed_of waiting.old.items ++ map handed_of messages.old.items) }
-    ensures refused { OnErr result ((seen.new ≡ seen.old) × (waiting.new.items ≡ waiting.old.items)) }
+/// Lets a message wait, where there is room. It answers its bytes, at most 2^32 - 1.
+fn wait(waiting: &mut VecDeque<Message>, message: Message) -> u32
+    ensures bytes { result ≡ sized (length (message_bytes message)) }
+    ensures waits { deque_len waiting.old < deque_capacity waiting.old → map handed_of waiting.new.items ≡ map handed_of waiting.old.items ++ handed_of message ∷ [] }
+    ensures len { deque_len waiting.new ≤ suc (deque_len waiting.old) }
+    ensures room { deque_capacity waiting.old ≤ deque_capacity waiting.new }
 {
-    waiting.reserve(messages.len()).map_err(|_| NoMemory)?;
-    seen.add(index)?;
-    waiting.append(messages).map_err(|_| NoMemory)
+    let bytes = small_len(message.len());
+    let _ = waiting.push_back(message);
+    bytes
 }
 
-/// Records the index of the newest chunk, an ordered one, and hands over what is then due on its stream. It answers how many
-/// bytes are held no longer.
-///
-/// # Errors
-/// Memory ran out, and nothing changed.
-pub(crate) fn give_ordered<F: Framing>(
-    alloc: Global,
-    kept: &mut Vec<Fragment>,
-    inbound: &mut Inbound,
-    seen: &mut Seen,
-    stream: u16,
-    index: u32,
-) -> Result<u32, NoMemory>
-    ensures recorded { OnOk result (RecordsNew seen.old seen.new index) }
-    ensures given { IfOk result (λ bytes. GivesDue F.format stream kept.old.items kept.new.items (stream_of inbound.old) (stream_of inbound.new) bytes) }
-    ensures refused { OnErr result ((seen.new ≡ seen.old) × (kept.new.items ≡ kept.old.items) × (stream_of inbound.new ≡ stream_of inbound.old)) }
+/// One past a number.
+fn number_after(number: Option<u32>) -> u32
+    ensures { (n : ℕ) → number ≡ Some n → suc n < 2 ^ 32 → result ≡ suc n }
 {
-    let mut due = due_from::<F>(alloc, kept, stream, inbound.next, inbound.next)?;
-    let given = bytes_of_messages(&due.messages);
-    record_and_push(seen, index, &mut inbound.waiting, &mut due.messages)?;
-    inbound.next = due.next;
-    let before = bytes_kept(kept);
-    drop_below(kept, stream, due.next);
-    Ok(
-        before
-            .saturating_sub(bytes_kept(kept))
-            .saturating_sub(given),
-    )
+    match number {
+        Some(number) => number.saturating_add(1),
+        None => 0,
+    }
 }
 
-/// Drops the ordered chunks of a stream below a number.
-pub(crate) fn drop_below(kept: &mut Vec<Fragment>, stream: u16, number: u32)
-    ensures { pieces_of kept.new.items ≡ without_below (pieces_of kept.old.items) stream number }
-{
-    kept.retain(|chunk| !chunk.is_below(stream, number));
-}
-
-/// Records the index of the newest chunk, an unordered one, and hands its message over, if it is whole. It answers how many
-/// bytes are held no longer.
+/// Makes room for all messages that can be taken out of the ordered chunks, and for so many more.
 ///
 /// # Errors
-/// Memory ran out, and nothing changed.
-pub(crate) fn give_unordered<F: Framing>(
-    alloc: Global,
-    kept: &mut Vec<Fragment>,
-    inbound: &mut Inbound,
-    seen: &mut Seen,
-    index: u32,
-) -> Result<u32, NoMemory>
-    requires { 0 < length kept.old.items }
-    ensures recorded { OnOk result (RecordsNew seen.old seen.new index) }
-    ensures given { IfOk result (λ bytes. GivesNewest F.format kept.old.items kept.new.items (stream_of inbound.old) (stream_of inbound.new) bytes) }
-    ensures refused { OnErr result ((seen.new ≡ seen.old) × (kept.new.items ≡ kept.old.items) × (stream_of inbound.new ≡ stream_of inbound.old)) }
+/// Memory ran out.
+pub(crate) fn make_room<F: Framing>(inbound: &mut Inbound<F>, more: usize) -> Result<(), NoMemory>
+    ensures same { stream_of inbound.new ≡ stream_of inbound.old }
+    ensures chunks { SameChunks F.format inbound.old inbound.new }
+    ensures room { OnOk result (HasRoom inbound.new more) }
 {
-    let Some(whole) = whole_with_newest::<F>(kept) else {
-        seen.add(index)?;
-        return Ok(0);
+    let Some(most) = inbound.ordered.count().checked_add(more) else {
+        return Err(NoMemory);
     };
-    let message = message_from::<F>(alloc, kept, whole.at)?;
-    let mut messages = VecDeque::new(alloc);
-    push_message(&mut messages, message)?;
-    let given = bytes_of_messages(&messages);
-    record_and_push(seen, index, &mut inbound.waiting, &mut messages)?;
-    let before = bytes_kept(kept);
-    drop_taken::<F>(kept, whole);
-    Ok(
-        before
-            .saturating_sub(bytes_kept(kept))
-            .saturating_sub(given),
-    )
+    inbound.waiting.reserve(most).map_err(|_| NoMemory)
 }
 
-/// Drops the chunks that go with a message.
-fn drop_taken<F: Framing>(kept: &mut Vec<Fragment>, whole: Whole)
-    ensures { pieces_of kept.new.items ≡ filter (λ x. not (takes F.format whole x)) (pieces_of kept.old.items) }
+/// Makes room for one message.
+///
+/// # Errors
+/// Memory ran out.
+fn make_one(waiting: &mut VecDeque<Message>) -> Result<(), NoMemory>
+    ensures same { map handed_of waiting.new.items ≡ map handed_of waiting.old.items }
+    ensures room { OnOk result (deque_len waiting.new < deque_capacity waiting.new) }
 {
-    kept.retain(|chunk| !whole.takes::<F>(chunk));
+    waiting.reserve(1).map_err(|_| NoMemory)
 }
 
-/// Keeps a chunk, records its index, and hands over what is due with it. It answers how many bytes are held no longer.
+/// Hands over the whole messages from the next number on, where all ordered numbers below `floor` are skipped; what lies below the
+/// next number then is kept no longer. It answers the bytes handed over.
+pub(crate) fn give_ordered<F: Framing>(inbound: &mut Inbound<F>, stream: u16, floor: u32) -> u32
+    ensures { (kept : Kept) → lane.StandsFor F.format inbound.old.ordered (ordered_lane stream) kept → AreCounted kept → HasRoom inbound.old 0
+        → GivesDue F.format stream floor kept inbound.old inbound.new result }
+{
+    let mut given: u32 = 0;
+    while let Some(whole) = inbound
+        .ordered
+        .take_lowest(inbound.next, inbound.next.max(floor))
+    {
+        inbound.next = number_after(whole.number);
+        let bytes = wait(&mut inbound.waiting, message_of(whole, stream, true));
+        given = given.saturating_add(bytes);
+    }
+    inbound.next = inbound.next.max(floor);
+    inbound.ordered.drop_below(inbound.next);
+    given
+}
+
+/// Keeps an ordered chunk, and hands over what is then due. It answers the bytes handed over.
+///
+/// # Errors
+/// Memory ran out, and nothing changed.
+fn take_ordered<F: Framing>(
+    inbound: &mut Inbound<F>,
+    piece: &Piece<'_>,
+    index: u32,
+    number: Option<u32>,
+) -> Result<u32, NoMemory>
+    ensures given { (kept : Kept) → lane.StandsFor F.format inbound.old.ordered (ordered_lane piece.now.stream) kept
+        → IsNew F.format (ordered_lane piece.now.stream) kept (counted index (piece_meaning piece.now) number)
+        → AreCounted (counted index (piece_meaning piece.now) number ∷ kept)
+        → IfOk result (λ bytes. GivesDue F.format piece.now.stream inbound.old.next (counted index (piece_meaning piece.now) number ∷ kept) inbound.old inbound.new bytes) }
+    ensures refused { OnErr result ((stream_of inbound.new ≡ stream_of inbound.old) × SameChunks F.format inbound.old inbound.new) }
+{
+    make_room(inbound, 1)?;
+    inbound.ordered.add(piece, index, number)?;
+    let next = inbound.next;
+    Ok(give_ordered(inbound, piece.stream, next))
+}
+
+/// Keeps an unordered chunk, and hands its message over, if it is whole. It answers the bytes handed over.
+///
+/// # Errors
+/// Memory ran out, and nothing changed.
+fn take_unordered<F: Framing>(
+    inbound: &mut Inbound<F>,
+    piece: &Piece<'_>,
+    index: u32,
+    number: Option<u32>,
+) -> Result<u32, NoMemory>
+    ensures given { (kept : Kept) → lane.StandsFor F.format inbound.old.unordered (unordered_lane piece.now.stream) kept
+        → IsNew F.format (unordered_lane piece.now.stream) kept (counted index (piece_meaning piece.now) number)
+        → lane_of piece.now.stream piece.now.unordered ≡ unordered_lane piece.now.stream
+        → IfOk result (λ bytes. GivesNewest F.format piece.now.stream (counted index (piece_meaning piece.now) number) kept inbound.old inbound.new bytes) }
+    ensures refused { OnErr result ((stream_of inbound.new ≡ stream_of inbound.old) × SameChunks F.format inbound.old inbound.new) }
+{
+    make_one(&mut inbound.waiting)?;
+    inbound.unordered.add(piece, index, number)?;
+    match inbound.unordered.take_with(piece, index, number) {
+        Some(whole) => Ok(wait(&mut inbound.waiting, message_of(whole, piece.stream, false))),
+        None => Ok(0),
+    }
+}
+
+/// Keeps a chunk, and hands over what is due with it. It answers the bytes handed over.
 ///
 /// # Errors
 /// Memory ran out, and nothing changed.
 pub(crate) fn take_in<F: Framing>(
-    alloc: Global,
-    kept: &mut Vec<Fragment>,
-    inbound: &mut Inbound,
-    seen: &mut Seen,
-    chunk: Fragment,
+    inbound: &mut Inbound<F>,
+    piece: &Piece<'_>,
+    index: u32,
+    number: Option<u32>,
 ) -> Result<u32, NoMemory>
-    ensures recorded { OnOk result (RecordsNew seen.old seen.new chunk.index) }
-    ensures given { IfOk result (λ bytes. TakesIn F.format chunk kept.old.items kept.new.items (stream_of inbound.old) (stream_of inbound.new) bytes) }
-    ensures refused { OnErr result ((seen.new ≡ seen.old) × (kept.new.items ≡ kept.old.items) × (stream_of inbound.new ≡ stream_of inbound.old)) }
+    ensures given { (kept : Kept) → lane.StandsFor F.format (lane_in inbound.old piece.now.unordered) (lane_of piece.now.stream piece.now.unordered) kept
+        → IsNew F.format (lane_of piece.now.stream piece.now.unordered) kept (counted index (piece_meaning piece.now) number)
+        → AreCounted (counted index (piece_meaning piece.now) number ∷ kept)
+        → IfOk result (λ bytes. GivesBy piece.now.unordered F.format piece.now.stream (counted index (piece_meaning piece.now) number) kept inbound.old inbound.new bytes) }
+    ensures refused { OnErr result ((stream_of inbound.new ≡ stream_of inbound.old) × SameChunks F.format inbound.old inbound.new) }
 {
-    let (index, stream, unordered) = (chunk.index, chunk.stream, chunk.unordered);
-    kept.insert(0, chunk).map_err(|_| NoMemory)?;
-    let given = if unordered {
-        give_unordered::<F>(alloc, kept, inbound, seen, index)
-    } else {
-        give_ordered::<F>(alloc, kept, inbound, seen, stream, index)
-    };
-    if given.is_err() {
-        let _ = kept.remove(0);
+    let unordered = piece.unordered;
+    if unordered {
+        return take_unordered(inbound, piece, index, number);
     }
-    given
+    take_ordered(inbound, piece, index, number)
 }

@@ -3,9 +3,7 @@
 #![tactic(auto)]
 
 mod answer;
-mod due;
 mod forward;
-mod fragment;
 mod give;
 mod inbound;
 mod laws;
@@ -17,7 +15,6 @@ mod runs;
 mod sack;
 mod seen;
 mod tsn;
-mod whole;
 
 pub use answer::Answer;
 pub use forward::ForwardAnswer;

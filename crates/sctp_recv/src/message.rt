@@ -1,10 +1,16 @@
 //! A message as its user takes it.
 
-ghost use Rattle.std.specs.Prelude.{◌≡◌, ◌-◌, ◌^◌, ◌++◌, min, length, map, OnOk, OnErr};
+ghost use Rattle.std.specs.Prelude.{◌≡◌, ◌-◌, ◌^◌, ◌++◌, min, not, List, length, map, OnOk, OnErr};
 ghost use Rattle.sctp_model.specs.Lists.{joined};
 ghost use Rattle.sctp_recv.specs.Parts.{text_of_parts, bytes_of};
-ghost use Rattle.sctp_recv.specs.HandedOf.{message_bytes};
+ghost use Rattle.sctp_recv.specs.HandedOf.{message_bytes, handed_of};
+ghost use Rattle.sctp_model.specs.Format.{Format};
+ghost use Rattle.sctp_model.specs.Pieces.{Piece};
+ghost use Rattle.sctp_model.specs.Receiving.{message_of};
+ghost use Rattle.sctp_model.specs.receiver.Reading.{lane_of};
+ghost use Rattle.sctp_chains.specs.WholeOf.{IsMadeOf};
 
+use sctp_chains::Whole;
 use sctp_wire::NoMemory;
 
 /// A message that was handed over, whole, with its fragments as they came.
@@ -59,5 +65,19 @@ impl Message {
             }
         }
         Ok(())
+    }
+}
+
+/// A whole message as its user takes it.
+pub(crate) fn message_of(whole: Whole, stream: u16, ordered: bool) -> Message
+    ensures { (f : Format) (x : Piece) (xs : List Piece) → IsMadeOf f whole x xs → x.lane ≡ lane_of stream (not ordered) → handed_of result ≡ message_of f x xs }
+{
+    Message {
+        first: whole.first,
+        stream,
+        ordered,
+        number: whole.number,
+        payload_id: whole.payload_id,
+        parts: whole.parts,
     }
 }

@@ -1,22 +1,19 @@
 //! A data chunk comes: the first row that fits it is its answer, and that is done (RFC 9260, 6.2 and 6.6; RFC 8260, 2.2).
 
-ghost use Rattle.std.specs.Prelude.{◌≡◌, ℕ, IfOk, OnOk, OnErr, Option};
+ghost use Rattle.std.specs.Prelude.{◌≡◌, ℕ, IfOk, OnOk, OnErr};
 ghost use Rattle.sctp_model.specs.ReceiverView.{ReceiverView, IsCumulative};
 ghost use Rattle.sctp_model.specs.Receiving.{Takes};
 ghost use Rattle.sctp_model.specs.receiver.Reading.{piece_at};
-ghost use Rattle.sctp_model.specs.receiver.PieceTaken.{PieceTaken, answer_to, is_repeated, noted};
+ghost use Rattle.sctp_model.specs.receiver.PieceTaken.{PieceTaken, answer_to, noted};
 ghost use Rattle.sctp_wire.specs.ChunkTree.{piece_meaning};
 ghost use Rattle.sctp_recv.specs.AnswerOf.{answer_of, NeedsMemory};
-ghost use Rattle.sctp_recv.specs.Kept.{pieces_of, counted};
 ghost use Rattle.sctp_recv.specs.KeptOf.{kept_of};
 ghost use Rattle.sctp_recv.specs.StandsFor.{StandsFor};
 ghost use Rattle.sctp_recv.specs.inner.Rows.{IsRowOf, IsWanted};
 
 use crate::answer::{Answer, DUPLICATE_LIMIT, Row, TsnPlace, place_of_tsn};
-use crate::fragment::{fragment_of, is_kept};
 use crate::give::take_in;
 use crate::receiver::Receiver;
-use crate::room::small_len;
 use sctp_framing::Framing;
 use sctp_wire::{NoMemory, Piece};
 
@@ -59,6 +56,7 @@ impl<F: Framing> Receiver<F> {
     fn row_of(&self, piece: &Piece<'_>) -> Row
         ensures { (v : ReceiverView) → StandsFor F.format self.now v → IsRowOf F.format (kept_of self.now) v (piece_meaning piece.now) result }
     {
+        let _word = piece.word;
         let index = match place_of_tsn(self.initial, self.seen.cumulative(), piece.tsn) {
             TsnPlace::Behind => return Row::Duplicate,
             TsnPlace::Ahead => return Row::Ahead,
@@ -72,21 +70,14 @@ impl<F: Framing> Receiver<F> {
             return Row::NoSuchStream { index };
         }
         let inbound = &self.streams[stream];
-        let number = inbound.number_near::<F>(piece.unordered, piece.number);
-        if inbound.is_late::<F>(piece.unordered, number) || self.has_fragment(piece, number) {
+        let number = inbound.number_near(piece.unordered, piece.number);
+        if inbound.is_late(piece.unordered, number) || inbound.is_held(piece, number) {
             return Row::Passed { index };
         }
         if piece.bytes.len() > self.buffer.saturating_sub(self.held) as usize {
             return Row::NoRoom;
         }
         Row::Taken { index, number }
-    }
-
-    /// Whether this fragment of this message is kept already, where that can be: under DATA a fragment is its TSN.
-    fn has_fragment(&self, piece: &Piece<'_>, number: Option<u32>) -> bool
-        ensures { (i : ℕ) → result ≡ is_repeated F.format (pieces_of self.now.kept.items) (counted i (piece_meaning piece.now) number) }
-    {
-        F::is_numbered(true) && is_kept(&self.kept, piece, number)
     }
 
     /// Notes a TSN that came again, if it is among the first of them.
@@ -109,23 +100,23 @@ impl<F: Framing> Receiver<F> {
     /// Memory ran out, and nothing changed.
     fn keep(&mut self, piece: &Piece<'_>, index: u32, number: Option<u32>) -> Result<(), NoMemory>
         ensures kept { (v : ReceiverView) → StandsFor F.format self.old v → IsWanted F.format (kept_of self.old) v (piece_meaning piece.now) index number
-            → OnOk result ((t : ReceiverView) × Takes F.format v (piece_at F.format v self.old.seen.cumulative (piece_meaning piece.now)) t × StandsFor F.format self.new t) }
+            → OnOk result ((t : ReceiverView) × Takes F.format v (piece_at F.format v self.old.seen.kept.cumulative (piece_meaning piece.now)) t × StandsFor F.format self.new t) }
         ensures refused { (v : ReceiverView) → StandsFor F.format self.old v → OnErr result (StandsFor F.format self.new v) }
     {
         let stream = usize::from(piece.stream);
         if stream >= self.streams.len() {
             return Ok(());
         }
-        let chunk = fragment_of(self.alloc, piece, index, number)?;
-        let bytes = small_len(piece.bytes.len());
-        let freed = take_in::<F>(
-            self.alloc,
-            &mut self.kept,
-            &mut self.streams[stream],
-            &mut self.seen,
-            chunk,
-        )?;
-        self.held = self.held.saturating_add(bytes).saturating_sub(freed);
+        self.seen.reserve()?;
+        let inbound = &mut self.streams[stream];
+        let before = inbound.kept_bytes();
+        let given = take_in(inbound, piece, index, number)?;
+        self.held = self
+            .held
+            .saturating_sub(before)
+            .saturating_add(inbound.kept_bytes())
+            .saturating_add(given);
+        let _ = self.seen.add(index);
         Ok(())
     }
 }

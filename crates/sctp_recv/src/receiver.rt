@@ -9,7 +9,6 @@ ghost use Rattle.sctp_recv.specs.HandedOf.{handed_of};
 ghost use Rattle.sctp_recv.specs.SackOf.{lists_meaning};
 ghost use Rattle.sctp_recv.specs.StandsFor.{StandsFor};
 
-use crate::fragment::Fragment;
 use crate::inbound::{Inbound, fresh_streams, take_first};
 use crate::message::Message;
 use crate::room::less;
@@ -19,20 +18,17 @@ use crate::tsn::tsn_of;
 use sctp_framing::Framing;
 use sctp_wire::NoMemory;
 use std::alloc::Global;
-use std::marker::PhantomData;
 
 /// The receiving end, in one format of user data.
 #[derive(Drop)]
 pub struct Receiver<F: Framing> {
-    pub(crate) alloc: Global,
+    alloc: Global,
     pub(crate) initial: u32,
     pub(crate) buffer: u32,
     pub(crate) held: u32,
     pub(crate) seen: Seen,
-    pub(crate) kept: Vec<Fragment>,
-    pub(crate) streams: Vec<Inbound>,
+    pub(crate) streams: Vec<Inbound<F>>,
     pub(crate) duplicates: Vec<u32>,
-    framing: PhantomData<F>,
 }
 
 #[tactic(auto, unfolding(crate::specs::StandsFor::StandsFor))]
@@ -56,10 +52,8 @@ impl<F: Framing> Receiver<F> {
             buffer,
             held: 0,
             seen: Seen::new(alloc),
-            kept: Vec::new(alloc),
             streams,
             duplicates: Vec::new(alloc),
-            framing: PhantomData,
         })
     }
 

@@ -1,6 +1,7 @@
 //! Runs of indexes in rising order, with an index missing between any two. Nothing here knows of a cumulative index.
 
 ghost use Rattle.std.specs.Prelude.{◌≡◌, ℕ, ◌<◌, ◌≤◌, ◌-◌, ◌&&◌, nat_lt, nat_le, length, OnOk, OnErr, IsOk};
+ghost use Rattle.std.specs.List.{insert};
 ghost use Rattle.std.specs.VecDeque.{deque_len, deque_capacity};
 ghost use Rattle.sctp_recv.specs.Runs.{AreSpaced, in_run, lies_below, begins_by, IsPlace, Gain};
 
@@ -48,6 +49,22 @@ pub(crate) fn upto(runs: &VecDeque<Run>, index: u32) -> usize
     )
 }
 
+/// Puts a run in at a place: at the end, no other moves.
+///
+/// # Errors
+/// Memory ran out, and nothing changed.
+fn put_at(runs: &mut VecDeque<Run>, at: usize, run: Run) -> Result<(), NoMemory>
+    requires { at ≤ deque_len runs.old }
+    ensures items { OnOk result (runs.new.items ≡ insert runs.old.items at run) }
+    ensures unchanged { OnErr result (runs.new.items ≡ runs.old.items) }
+    ensures memory { deque_len runs.old < deque_capacity runs.old → IsOk result }
+{
+    if at == runs.len() {
+        return runs.push_back(run).map_err(|_| NoMemory);
+    }
+    runs.insert(at, run).map_err(|_| NoMemory)
+}
+
 /// Puts a new index into the runs: one of its own, a run that grows by it, or two that become one.
 ///
 /// # Errors
@@ -64,7 +81,7 @@ pub(crate) fn insert(runs: &mut VecDeque<Run>, index: u32) -> Result<(), NoMemor
                 first: index,
                 last: index,
             };
-            return runs.insert(at, alone).map_err(|_| NoMemory);
+            return put_at(runs, at, alone);
         }
         1 => {
             let run = runs[at];

@@ -26,13 +26,14 @@ pub(crate) struct Seen {
 }
 
 impl Model for Seen {
-    ghost use Rattle.sctp_recv.specs.SeenKept.{SeenKept};
+    ghost use Rattle.std.specs.VecDeque.{deque_len, deque_capacity};
+    ghost use Rattle.sctp_recv.specs.SeenKept.{SeenRoom};
 
-    ghost Value = { SeenKept };
+    ghost Value = { SeenRoom };
 
-    ghost use Rattle.sctp_recv.specs.SeenKept.{IsKept, seen_of};
+    ghost use Rattle.sctp_recv.specs.SeenKept.{IsKept, seen_of, with_room};
 
-    ghost view = { λ s. seen_of s.cumulative s.runs.items };
+    ghost view = { λ s. with_room (seen_of s.cumulative s.runs.items) (deque_len s.runs) (deque_capacity s.runs) };
 
     ghost invariant = { λ s. IsKept s.cumulative s.runs.items };
 }
@@ -40,7 +41,7 @@ impl Model for Seen {
 impl Seen {
     /// No index came.
     pub(crate) fn new(alloc: Global) -> Seen
-        ensures { SeenStands result (λ _. false) 0 }
+        ensures { SeenStands result.kept (λ _. false) 0 }
     {
         Seen {
             cumulative: 0,
@@ -50,15 +51,15 @@ impl Seen {
 
     /// The index up to which all came.
     pub(crate) fn cumulative(&self) -> u32
-        ensures value { result ≡ self.now.cumulative }
-        ensures within { AreWithin (self.now.cumulative + WINDOW) self.now.runs }
+        ensures value { result ≡ self.now.kept.cumulative }
+        ensures within { AreWithin (self.now.kept.cumulative + WINDOW) self.now.kept.runs }
     {
         self.cumulative
     }
 
     /// How many runs there are above it.
     pub(crate) fn run_count(&self) -> u32
-        ensures count { result ≡ length self.now.runs }
+        ensures count { result ≡ length self.now.kept.runs }
         ensures bound { result ≤ 16383 }
     {
         self.runs.len() as u32
@@ -70,7 +71,7 @@ impl Seen {
     /// Memory ran out.
     pub(crate) fn put_blocks(&self, list: &mut Vec<u8>) -> Result<(), NoMemory>
         requires { list.old.items ≡ [] }
-        ensures blocks { OnOk result (blocks_in list.new.items ≡ map (block_of_run self.now.cumulative) (take 64 self.now.runs)) }
+        ensures blocks { OnOk result (blocks_in list.new.items ≡ map (block_of_run self.now.kept.cumulative) (take 64 self.now.kept.runs)) }
         ensures whole { length list.new.items % 4 ≡ 0 }
     {
         let told = self.runs.len().min(64);
@@ -82,10 +83,13 @@ impl Seen {
 
     /// Whether the index came, or lies at or below the cumulative one.
     pub(crate) fn is_reached(&self, index: u32) -> bool
-        ensures { result ≡ is_reached self.now index }
+        ensures { result ≡ is_reached self.now.kept index }
     {
         if index <= self.cumulative {
             return true;
+        }
+        if index - self.cumulative == 1 {
+            return false;
         }
         match upto(&self.runs, index) {
             0 => false,
@@ -93,20 +97,33 @@ impl Seen {
         }
     }
 
+    /// Makes room for one run more.
+    ///
+    /// # Errors
+    /// Memory ran out.
+    pub(crate) fn reserve(&mut self) -> Result<(), NoMemory>
+        ensures same { self.new.kept ≡ self.old.kept }
+        ensures room { OnOk result (self.new.room ≡ true) }
+    {
+        self.runs.reserve(1).map_err(|_| NoMemory)
+    }
+
     /// Records an index that was not reached, at most 32,767 above the cumulative one. Another changes nothing.
     ///
     /// # Errors
     /// Memory ran out, and nothing changed.
     pub(crate) fn add(&mut self, index: u32) -> Result<(), NoMemory>
-        ensures recorded { OnOk result (is_reached self.old index ≡ false → index ≤ self.old.cumulative + WINDOW
-            → Records self.old self.new index) }
-        ensures refused { OnErr result (self.new ≡ self.old) }
+        ensures recorded { OnOk result (is_reached self.old.kept index ≡ false → index ≤ self.old.kept.cumulative + WINDOW
+            → Records self.old.kept self.new.kept index) }
+        ensures refused { OnErr result (self.new.kept ≡ self.old.kept) }
+        ensures memory { self.old.room ≡ true → IsOk result }
     {
-        if self.is_reached(index) || index - self.cumulative > WINDOW {
+        let above = index.saturating_sub(self.cumulative);
+        if above == 1 {
+            advance(&mut self.cumulative, &mut self.runs, index);
             return Ok(());
         }
-        if index - self.cumulative == 1 {
-            advance(&mut self.cumulative, &mut self.runs, index);
+        if above > WINDOW || self.is_reached(index) {
             return Ok(());
         }
         insert(&mut self.runs, index)
@@ -114,7 +131,7 @@ impl Seen {
 
     /// All up to an index counts as reached from now on.
     pub(crate) fn jump(&mut self, index: u32)
-        ensures { self.old.cumulative ≤ index → Jumps self.old self.new index }
+        ensures { self.old.kept.cumulative ≤ index → Jumps self.old.kept self.new.kept index }
     {
         if self.cumulative <= index {
             advance(&mut self.cumulative, &mut self.runs, index);

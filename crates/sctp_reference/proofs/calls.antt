@@ -3,3 +3,4 @@ pub mod SackTold
 pub mod TurnCases
 pub mod WishTold
 pub mod CutTold
+pub mod RefusalTold

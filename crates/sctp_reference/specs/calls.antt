@@ -3,3 +3,4 @@ pub mod SackLaws
 pub mod Wishes
 pub mod WishLaws
 pub mod Cuts
+pub mod Refusals

@@ -25,7 +25,8 @@ pub use receiver_steps::{
     the_cumulative_index_is_computed, wholes_are_computed,
 };
 pub use sender_calls::{
-    messages_are_cut, next_wishes_are_computed, sacks_are_taken, shutdowns_are_taken,
+    messages_are_cut, next_wishes_are_computed, refusals_are_told, sacks_are_taken,
+    shutdowns_are_taken,
 };
 pub use sender_readers::{the_fill_is_computed, the_forward_is_computed, the_point_is_computed};
 pub use whole::{whole_number, whole_with};

@@ -1,8 +1,10 @@
-//! What a sender sends next, how it cuts a message, and what it makes of a SACK and of a SHUTDOWN is what the relations say, and nothing else.
+//! What a sender sends next, which messages it refuses, how it cuts one, and what it makes of a SACK and of a SHUTDOWN is what the relations say, and
+//! nothing else.
 //!
 //! No function here does anything: each carries laws as its contract.
 
 ghost use Rattle.sctp_reference.specs.calls.Cuts.{CutIsComputed};
+ghost use Rattle.sctp_reference.specs.calls.Refusals.{AcceptedHasNoReason, RefusalIsTold};
 ghost use Rattle.sctp_reference.specs.calls.SackLaws.{FaultyIsDropped, FaultyShutdownIsDropped, SackFaultIsTold, SackIsTaken, ShutdownFaultIsTold, ShutdownIsTaken, TakenHasNoFault};
 ghost use Rattle.sctp_reference.specs.calls.WishLaws.{NextIndexIsComputed, NextWishIsComputed, TurnIsComputed};
 
@@ -32,4 +34,11 @@ pub fn shutdowns_are_taken()
 /// A message is cut into fragments of the full size, but for the last one, in the one way that there is (RFC 9260, 6.9).
 pub fn messages_are_cut()
     ensures { CutIsComputed }
+{}
+
+/// A message is refused for the first of five reasons that holds, in the order in which `queue` looks at them, and else accepted: the TSNs that it
+/// would take are those of the fragments that it is cut into, and one for an end mark (RFC 9260, 6.9).
+pub fn refusals_are_told()
+    ensures told { RefusalIsTold }
+    ensures accepted { AcceptedHasNoReason }
 {}

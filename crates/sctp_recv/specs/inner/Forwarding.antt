@@ -1,19 +1,19 @@
 -- What a FORWARD does on each stream (RFC 3758, 3.6; RFC 8260, 2.3).
-use Rattle.std.specs.Prelude.{◌≡◌, ℕ, suc, ◌+◌, ◌≤◌, max, not, Bool, if◌then◌else◌, List, [], ◌∷◌, ◌++◌, map, length, slice_get, slice_index_or, Option, None, Some}
-use Rattle.std.specs.VecDeque.{deque_len, deque_capacity}
+use Rattle.std.specs.Prelude.{◌≡◌, ℕ, suc, ◌+◌, ◌-◌, ◌^◌, ◌<◌, max, not, if◌then◌else◌, List, [], ◌∷◌, ◌++◌, length, filter, slice_get, Option, None, Some}
+use Rattle.sctp_model.specs.Lists.{Has}
 use Rattle.sctp_model.specs.Chunk.{SkipMeaning}
-use Rattle.sctp_model.specs.Format.{Format, Kind, Ordered, Unordered, Lane, same_lane, ordered_lane, unordered_lane}
+use Rattle.sctp_model.specs.Format.{Format, Lane, same_lane, ordered_lane, unordered_lane}
 use Rattle.sctp_model.specs.Framing.{number_near, lets_go}
-use Rattle.sctp_model.specs.Pieces.{Piece, is_number_below}
-use Rattle.sctp_model.specs.ReceiverView.{Handed, size_of_messages}
+use Rattle.sctp_model.specs.Pieces.{Piece}
+use Rattle.sctp_model.specs.ReceiverView.{Handed, ReceiverView, size_of_pieces, size_of_messages, size_of_waiting}
 use Rattle.sctp_model.specs.receiver.Reading.{lane_of}
-use Rattle.sctp_recv.specs.declared.forward.Forwarded.{Forwarded}
-use Rattle.sctp_recv.specs.declared.fragment.Fragment.{Fragment}
+use Rattle.sctp_chains.specs.StandsFor as lane
+use Rattle.sctp_chains.specs.WholeOf.{from_number}
 use Rattle.sctp_recv.specs.declared.inbound.Inbound.{Inbound}
-use Rattle.sctp_recv.specs.HandedOf.{handed_of}
-use Rattle.sctp_recv.specs.ReceiverKept.{StreamKept}
 use Rattle.sctp_recv.specs.Fields.{stream_of}
-use Rattle.sctp_recv.specs.inner.DueSearch.{IsDueFrom}
+use Rattle.sctp_model.specs.receiver.KeptOfLane.{of_lane}
+use Rattle.sctp_recv.specs.Filed.{AreFiled}
+use Rattle.sctp_recv.specs.inner.Giving.{sized, HasRoom, AreCounted, IsDueFrom}
 
 -- ---- which numbers it skips
 
@@ -38,65 +38,51 @@ lowest_after f l reference xs = max reference (most_skipped f l reference xs)
 
 -- ---- what it does on a stream
 
--- The messages that are handed over, and next and lowest unordered number from then on.
-pub record StreamForwarded : Type 0 where
+-- the unordered chunks that it doesn't leave behind
+abbrev pub stay : Format → (jump skip : ℕ) → List Piece → List Piece
+stay f jump skip kept = filter (λ (x : Piece). not (lets_go f x.index x.number jump skip)) kept
+
+-- there is room on each stream for the messages that its ordered chunks may make
+abbrev pub HaveRoom : {F : Type 0} → List (Inbound F) → Type 0
+HaveRoom {F} streams = (s : ℕ) (x : Inbound F) → slice_get streams s ≡ Some x → HasRoom x 0
+
+-- What is due once its numbers are skipped waits for the user; what is left behind, or below the number that is waited for then, is gone.
+pub record PassesOn {F : Type 0} (f : Format) (s jump : ℕ) (xs : List SkipMeaning) (os us : List Piece) (old new : Inbound F) (held left : ℕ) : Type 0 where
   pub messages : List Handed
   pub next : ℕ
-  pub skip : ℕ
+  pub due : IsDueFrom f os s old.next (lowest_after f (ordered_lane s) old.next xs) messages next
+  pub ordered : lane.StandsFor f new.ordered (ordered_lane s) (from_number next os)
+  pub unordered : lane.StandsFor f new.unordered (unordered_lane s) (stay f jump (lowest_after f (unordered_lane s) old.skip xs) us)
+  pub stream : stream_of new ≡ record { next = next; skip = lowest_after f (unordered_lane s) old.skip xs; waiting = (stream_of old).waiting ++ messages }
+  pub bytes : left ≡ sized (sized (held - sized (size_of_pieces os + size_of_pieces us)
+      + sized (size_of_pieces (from_number next os) + size_of_pieces (stay f jump (lowest_after f (unordered_lane s) old.skip xs) us))) + sized (size_of_messages messages))
 
--- the same of what is found out for a stream
-abbrev pub forwarded_of : Forwarded → StreamForwarded
-forwarded_of b = record { messages = map handed_of b.messages.items; next = b.next; skip = b.skip }
+-- ---- what it does on all
 
--- of a stream that isn't there
-abbrev pub NOTHING_FORWARDED : StreamForwarded
-NOTHING_FORWARDED = record { messages = []; next = 0; skip = 0 }
+-- a stream's own numbers and messages are the view's
+pub record IsStreamOf {F : Type 0} (v : ReceiverView) (q : ℕ) (x : Inbound F) : Type 0 where
+  pub next : v.next q ≡ x.next
+  pub waiting : v.waiting q ≡ (stream_of x).waiting
 
--- of the stream with this number
-abbrev pub forwarded_at : List StreamForwarded → ℕ → StreamForwarded
-forwarded_at all s = slice_index_or all s NOTHING_FORWARDED
+-- Streams that keep v's chunks and messages, where r is v with index and numbers passed and without what is left behind.
+pub record AreToPass {F : Type 0} (f : Format) (jump : ℕ) (xs : List SkipMeaning) (v r : ReceiverView) (streams : List (Inbound F)) (bytes : ℕ) : Type 0 where
+  pub filed : AreFiled f v.kept streams
+  pub counted : AreCounted v.kept
+  pub room : HaveRoom streams
+  pub stream : (q : ℕ) (x : Inbound F) → slice_get streams q ≡ Some x → IsStreamOf v q x
+  pub ordered : (q : ℕ) → of_lane (ordered_lane q) r.kept ≡ of_lane (ordered_lane q) v.kept
+  pub unordered : (q : ℕ) (x : Inbound F) → slice_get streams q ≡ Some x →
+      of_lane (unordered_lane q) r.kept ≡ stay f jump (lowest_after f (unordered_lane q) x.skip xs) (of_lane (unordered_lane q) v.kept)
+  pub within : (y : Piece) → Has r.kept y → Has v.kept y
+  pub skip : (q : ℕ) (x : Inbound F) → slice_get streams q ≡ Some x → r.skip (unordered_lane q) ≡ lowest_after f (unordered_lane q) x.skip xs
+  pub floor : (q : ℕ) (x : Inbound F) → slice_get streams q ≡ Some x → max x.next (r.skip (ordered_lane q)) ≡ lowest_after f (ordered_lane q) x.next xs
+  pub next : r.next ≡ v.next
+  pub waiting : r.waiting ≡ v.waiting
+  pub held : bytes ≡ size_of_pieces v.kept + size_of_waiting v.waiting (length streams)
+  pub small : bytes < 2 ^ 32
 
--- What is due on the stream once its numbers are skipped, and the unordered number from then on.
-pub record IsForwardedOn (f : Format) (kept : List Fragment) (xs : List SkipMeaning) (s : ℕ) (a : StreamKept) (b : StreamForwarded) : Type 0 where
-  pub due : IsDueFrom f kept s a.next (lowest_after f (ordered_lane s) a.next xs) b.messages b.next
-  pub skip : b.skip ≡ lowest_after f (unordered_lane s) a.skip xs
-
--- there is room for the messages among those that wait
-abbrev pub HasRoom : Inbound → Forwarded → Type 0
-HasRoom x y = deque_len x.waiting + deque_len y.messages ≤ deque_capacity x.waiting
-
--- so there is on each stream
-abbrev pub HaveRoom : List Inbound → List Forwarded → Type 0
-HaveRoom streams all = (s : ℕ) (x : Inbound) (y : Forwarded) → slice_get streams s ≡ Some x → slice_get all s ≡ Some y → HasRoom x y
-
--- It was found out for each of the streams, and there is room.
-pub record AreForwarded (f : Format) (kept : List Fragment) (xs : List SkipMeaning) (streams : List Inbound) (all : List Forwarded) : Type 0 where
-  pub room : HaveRoom streams all
-  pub each : (s : ℕ) (x : Inbound) (y : Forwarded) → slice_get streams s ≡ Some x → slice_get all s ≡ Some y →
-      IsForwardedOn f kept xs s (stream_of x) (forwarded_of y)
-
--- ---- what it leaves
-
--- the stream with these messages behind those that wait, and these numbers
-abbrev pub after_forward : StreamKept → StreamForwarded → StreamKept
-after_forward a b = record { next = b.next; skip = b.skip; waiting = a.waiting ++ b.messages }
-
--- Each stream for which it was found out is so.
-pub record AreAfter (old new : List StreamKept) (all : List StreamForwarded) : Type 0 where
-  pub length : length new ≡ length old
-  pub each : (s : ℕ) (a b : StreamKept) → slice_get old s ≡ Some a → slice_get new s ≡ Some b →
-      (c : StreamForwarded) → slice_get all s ≡ Some c → b ≡ after_forward a c
-
--- A chunk stays: an ordered one that isn't below its stream's next number, an unordered one that isn't left behind.
-abbrev pub stays_by : Kind → Format → (jump : ℕ) → StreamForwarded → Piece → Bool
-stays_by Ordered f jump b x = not (is_number_below b.next x.number)
-stays_by Unordered f jump b x = not (lets_go f x.index x.number jump b.skip)
-
--- the same, by its stream
-abbrev pub stays_after : Format → (jump : ℕ) → List StreamForwarded → Piece → Bool
-stays_after f jump all x = stays_by x.lane.kind f jump (forwarded_at all x.lane.stream) x
-
--- the bytes of all messages that are handed over
-abbrev pub size_of_forwarded : List StreamForwarded → ℕ
-size_of_forwarded [] = 0
-size_of_forwarded (b ∷ all) = size_of_messages b.messages + size_of_forwarded all
+-- Streams that keep t's chunks, numbers and messages.
+pub record ArePassed {F : Type 0} (f : Format) (t : ReceiverView) (streams : List (Inbound F)) (bytes : ℕ) : Type 0 where
+  pub filed : AreFiled f t.kept streams
+  pub stream : (q : ℕ) (x : Inbound F) → slice_get streams q ≡ Some x → IsStreamOf t q x × (t.skip (unordered_lane q) ≡ x.skip)
+  pub held : bytes ≡ size_of_pieces t.kept + size_of_waiting t.waiting (length streams)

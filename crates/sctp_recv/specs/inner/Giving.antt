@@ -1,66 +1,92 @@
 -- What handing over leaves.
-use Rattle.std.specs.Prelude.{◌≡◌, ℕ, ◌+◌, ◌-◌, ◌^◌, ◌≤◌, ◌⊎◌, min, not, Bool, true, false, List, [], ◌∷◌, ◌++◌, filter, None, Some}
-use Rattle.sctp_model.specs.Format.{Format}
+use Rattle.std.specs.Prelude.{◌≡◌, ℕ, suc, ◌+◌, ◌-◌, ◌^◌, ◌<◌, ◌≤◌, ◌⊎◌, min, Bool, true, false, List, [], ◌∷◌, ◌++◌, length, Some}
+use Rattle.std.specs.VecDeque.{deque_len, deque_capacity}
+use Rattle.sctp_model.specs.Lists.{Has}
+use Rattle.sctp_model.specs.Serial.{COUNTS}
+use Rattle.sctp_model.specs.Format.{Format, Lane, ordered_lane, unordered_lane}
 use Rattle.sctp_model.specs.Pieces.{Piece}
-use Rattle.sctp_model.specs.ReceiverView.{Handed, size_of_pieces, size_of_messages}
-use Rattle.sctp_model.specs.Receiving.{without_below, message_of}
-use Rattle.sctp_recv.specs.declared.fragment.Fragment.{Fragment}
-use Rattle.sctp_recv.specs.declared.due.Whole.{Whole}
-use Rattle.sctp_recv.specs.Kept.{pieces_of}
 use Rattle.sctp_model.specs.Limits.{WINDOW}
-use Rattle.sctp_model.specs.receiver.Laws.{IsApart}
-use Rattle.sctp_recv.specs.ReceiverKept.{StreamKept}
+use Rattle.sctp_model.specs.ReceiverView.{Handed, ReceiverView, size_of_messages}
+use Rattle.sctp_model.specs.Whole.{text_of}
+use Rattle.sctp_model.specs.Receiving.{IsDue, IsWholeWith, HasNoWholeWith, message_of, without_message}
+use Rattle.sctp_chains.specs.StandsFor as lane
+use Rattle.sctp_chains.specs.declared.chains.Chains.{Chains}
+use Rattle.sctp_chains.specs.StandsFor.{chain_count}
+use Rattle.sctp_chains.specs.WholeOf.{from_number}
+use Rattle.sctp_recv.specs.declared.inbound.Inbound.{Inbound}
+use Rattle.sctp_recv.specs.Fields.{stream_of}
+use Rattle.sctp_model.specs.receiver.KeptOfLane.{of_lane}
 use Rattle.sctp_recv.specs.SeenKept.{SeenKept, is_reached}
 use Rattle.sctp_recv.specs.SeenStands.{Records}
-use Rattle.sctp_recv.specs.inner.Search.{StandsAt}
-use Rattle.sctp_recv.specs.inner.DueSearch.{IsDueFrom, takes, IsWithNewest, IsExtent}
 
 -- a size as the code counts it
-abbrev pub counted : ℕ → ℕ
-counted n = min n (2 ^ 32 - 1)
+abbrev pub sized : ℕ → ℕ
+sized n = min n (2 ^ 32 - 1)
 
--- how many bytes less are held when so many are kept no longer, and so many wait
-abbrev pub freed : (before after given : ℕ) → ℕ
-freed before after given = counted before - counted after - counted given
+-- there is room for all messages that the ordered chunks may make, and for so many more
+abbrev pub HasRoom : {F : Type 0} → Inbound F → ℕ → Type 0
+HasRoom x more = deque_len x.waiting + (chain_count x.ordered + more) ≤ deque_capacity x.waiting
 
--- What is due on a stream waits for the user, and its ordered chunks below the next number are gone.
-pub record GivesDue (f : Format) (s : ℕ) (old new : List Fragment) (a b : StreamKept) (less : ℕ) : Type 0 where
+-- the chunks of both kinds are those that they were
+abbrev pub SameChunks : {F : Type 0} → Format → (old new : Inbound F) → Type 0
+SameChunks f old new =
+    ((l : Lane) (kept : List Piece) → lane.StandsFor f old.ordered l kept → lane.StandsFor f new.ordered l kept)
+    × ((l : Lane) (kept : List Piece) → lane.StandsFor f old.unordered l kept → lane.StandsFor f new.unordered l kept)
+
+-- each number is below the largest count
+abbrev pub AreCounted : List Piece → Type 0
+AreCounted kept = (x : Piece) (n : ℕ) → Has kept x → x.number ≡ Some n → suc n < COUNTS
+
+-- a view that keeps these ordered chunks of a stream, and skips the numbers from one to another and none past it
+pub record IsDueView (f : Format) (kept : List Piece) (s from floor : ℕ) (r : ReceiverView) : Type 0 where
+  pub same : of_lane (ordered_lane s) r.kept ≡ kept
+  pub above : r.skip (ordered_lane s) ≤ floor
+  pub skipped : (n : ℕ) → from ≤ n → n < floor → n < r.skip (ordered_lane s)
+
+-- what is due on the stream, in each such view
+abbrev pub IsDueFrom : Format → List Piece → (s from floor : ℕ) → List Handed → ℕ → Type 0
+IsDueFrom f kept s from floor ms m = (r : ReceiverView) → IsDueView f kept s from floor r → IsDue f r s from ms m
+
+-- What is due from the next number on waits for the user; the ordered chunks below the number that is waited for then are gone.
+pub record GivesDue {F : Type 0} (f : Format) (s floor : ℕ) (kept : List Piece) (old new : Inbound F) (given : ℕ) : Type 0 where
   pub messages : List Handed
   pub next : ℕ
-  pub due : IsDueFrom f old s a.next a.next messages next
-  pub kept : pieces_of new ≡ without_below (pieces_of old) s next
-  pub stream : b ≡ record a { next = next; waiting = a.waiting ++ messages }
-  pub bytes : less ≡ freed (size_of_pieces (pieces_of old)) (size_of_pieces (pieces_of new)) (size_of_messages messages)
+  pub due : IsDueFrom f kept s old.next floor messages next
+  pub left : lane.StandsFor f new.ordered (ordered_lane s) (from_number next kept)
+  pub stream : stream_of new ≡ record (stream_of old) { next = next; waiting = (stream_of old).waiting ++ messages }
+  pub others : (l : Lane) (ks : List Piece) → lane.StandsFor f old.unordered l ks → lane.StandsFor f new.unordered l ks
+  pub bytes : given ≡ sized (size_of_messages messages)
 
 -- The newest chunk's message is whole: it waits for the user, and what goes with it is gone.
-pub record GivesWhole (f : Format) (old new : List Fragment) (a b : StreamKept) (less : ℕ) : Type 0 where
-  pub whole : Whole
-  pub found : IsWithNewest f old (Some whole)
-  pub message : Handed
-  pub made : (y : Piece) → IsApart f (pieces_of old) → StandsAt old 0 y → (e : IsExtent f old whole y) → message ≡ message_of f e.first e.others
-  pub kept : pieces_of new ≡ filter (λ (x : Piece). not (takes f whole x)) (pieces_of old)
-  pub stream : b ≡ record a { waiting = a.waiting ++ message ∷ [] }
-  pub bytes : less ≡ freed (size_of_pieces (pieces_of old)) (size_of_pieces (pieces_of new)) (size_of_messages (message ∷ []))
+pub record GivesWhole {F : Type 0} (f : Format) (s : ℕ) (x : Piece) (kept : List Piece) (old new : Inbound F) (given : ℕ) : Type 0 where
+  pub head : Piece
+  pub rest : List Piece
+  pub whole : IsWholeWith f (x ∷ kept) x (head ∷ rest)
+  pub left : lane.StandsFor f new.unordered (unordered_lane s) (without_message f (x ∷ kept) (head ∷ rest))
+  pub stream : stream_of new ≡ record (stream_of old) { waiting = (stream_of old).waiting ++ message_of f head rest ∷ [] }
+  pub bytes : given ≡ sized (length (text_of (head ∷ rest)))
 
 -- It isn't whole, and all stays.
-pub record GivesNone (f : Format) (old new : List Fragment) (a b : StreamKept) (less : ℕ) : Type 0 where
-  pub none : IsWithNewest f old None
-  pub kept : pieces_of new ≡ pieces_of old
-  pub stream : b ≡ a
-  pub bytes : less ≡ 0
+pub record GivesNone {F : Type 0} (f : Format) (s : ℕ) (x : Piece) (kept : List Piece) (old new : Inbound F) (given : ℕ) : Type 0 where
+  pub none : HasNoWholeWith f (x ∷ kept) x
+  pub left : lane.StandsFor f new.unordered (unordered_lane s) (x ∷ kept)
+  pub stream : stream_of new ≡ stream_of old
+  pub bytes : given ≡ 0
 
--- an unordered message is handed over, if it is whole
-abbrev pub GivesNewest : Format → (old new : List Fragment) → (a b : StreamKept) → (less : ℕ) → Type 0
-GivesNewest f old new a b less = GivesWhole f old new a b less ⊎ GivesNone f old new a b less
+-- an unordered message is handed over, if it is whole; the ordered chunks are those that they were
+pub record GivesNewest {F : Type 0} (f : Format) (s : ℕ) (x : Piece) (kept : List Piece) (old new : Inbound F) (given : ℕ) : Type 0 where
+  pub gives : GivesWhole f s x kept old new given ⊎ GivesNone f s x kept old new given
+  pub others : (l : Lane) (ks : List Piece) → lane.StandsFor f old.ordered l ks → lane.StandsFor f new.ordered l ks
 
--- by its kind
-abbrev pub GivesBy : (unordered : Bool) → Format → (stream : ℕ) → (old new : List Fragment) → (a b : StreamKept) → (less : ℕ) → Type 0
-GivesBy true f s old new a b less = GivesNewest f old new a b less
-GivesBy false f s old new a b less = GivesDue f s old new a b less
+-- what is due with the newest chunk is handed over, by its kind
+abbrev pub GivesBy : {F : Type 0} → (unordered : Bool) → Format → (s : ℕ) → (x : Piece) → (kept : List Piece) → (old new : Inbound F) → (given : ℕ) → Type 0
+GivesBy true f s x kept old new given = GivesNewest f s x kept old new given
+GivesBy false f s x kept old new given = GivesDue f s old.next (x ∷ kept) old new given
 
--- a chunk is kept, and what is due with it is handed over
-abbrev pub TakesIn : Format → Fragment → (old new : List Fragment) → (a b : StreamKept) → (less : ℕ) → Type 0
-TakesIn f x old new a b less = GivesBy x.unordered f x.stream (x ∷ old) new a b less
+-- the chunks of a kind
+abbrev pub lane_in : {F : Type 0} → Inbound F → (unordered : Bool) → Chains F
+lane_in x true = x.unordered
+lane_in x false = x.ordered
 
 -- the index is recorded, if it may be
 abbrev pub RecordsNew : SeenKept → SeenKept → ℕ → Type 0

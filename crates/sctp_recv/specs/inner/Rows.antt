@@ -5,7 +5,9 @@ use Rattle.sctp_model.specs.Serial.{COUNTS, tsn, ahead, before}
 use Rattle.sctp_model.specs.Format.{Format}
 use Rattle.sctp_model.specs.Chunk.{PieceMeaning}
 use Rattle.sctp_model.specs.ReceiverView.{ReceiverView}
-use Rattle.sctp_model.specs.receiver.Reading.{piece_at}
+use Rattle.sctp_model.specs.receiver.Reading.{lane_of, piece_at}
+use Rattle.sctp_chains.specs.Cells.{IsOf}
+use Rattle.sctp_chains.specs.Cells.{counted}
 use Rattle.sctp_model.specs.receiver.PieceTaken as model
 use Rattle.sctp_recv.specs.declared.answer.Row.{Row}
 use Rattle.sctp_recv.specs.declared.answer.Row.TheVariants.{Duplicate, Ahead, NoSuchStream, Passed, NoRoom, Taken}
@@ -53,6 +55,7 @@ pub record IsWanted (f : Format) (k : ReceiverKept) (v : ReceiverView) (p : Piec
   pub stream : p.stream < length k.streams
   pub wanted : model.is_passed f v (piece_at f v k.seen.cumulative p) ≡ false
   pub fits : k.held + length p.bytes ≤ k.buffer
+  pub of : IsOf f (lane_of p.stream p.unordered) (counted i p n)
 
 -- its answer by the table, read at the cumulative index that is kept
 abbrev pub answer_at : Format → ReceiverKept → ReceiverView → PieceMeaning → model.Answer

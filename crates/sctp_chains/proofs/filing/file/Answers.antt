@@ -1,6 +1,4 @@
-use Rattle.std.proofs.Common.{ap, ◌≡◌, ℕ, ◌<◌, List, Option, sym, subst, length, map, rules, arith}
-use Rattle.std.specs.Prelude.{OnOk}
-use Rattle.std.specs.List.{insert}
+use Rattle.std.proofs.Common.{ap, ℕ, ◌<◌, List, Option, sym, subst, length, map, arith}
 use Rattle.sctp_chains.specs.declared.chain.Chain.{Chain}
 use Rattle.sctp_chains.specs.Links.{chain_of, one_of}
 use Rattle.sctp_chains.specs.inner.Filing.{IsLinkBefore, IsLinkBehind, Gains}
@@ -44,10 +42,9 @@ returns-in-None-Some-clause-refused c =
 pub returns-in_ok-chain-in-None-None-clause-filed : goal.returns-in_ok-chain-in-None-None-clause-filed
 returns-in_ok-chain-in-None-None-clause-filed c =
     let cs = c.args.chains.now.items in
-    let items : OnOk c.map_err.result (c.insert.new.self.items ≡ insert cs c.place-at.result c.in_ok-chain-in-None-None.chain) = let done = c.insert.ensures.items in search rules in
-    on_ok c.map_err.result _ _ (λ is. subst (λ (xs : List Chain). Gains (one_of c.args.part) (map chain_of cs) (map chain_of xs)) (sym is)
+    on_ok c.put_at.result _ _ (λ is. subst (λ (xs : List Chain). Gains (one_of c.args.part) (map chain_of cs) (map chain_of xs)) (sym is)
     (filed_alone cs c.place-at.result c.args.part c.place-at.ensures.bound c.place-at.ensures.place c.in_ok-chain-in-None-None.chain c.in_ok-chain-in-None-None.ensures
-    (subst (λ (o : Option ℕ). IsLinkBefore (map chain_of cs) c.place-at.result (one_of c.args.part) o) c.in-None-None.is-0 (c.linked_before.ensures c.place-at.ensures.bound)) (subst (λ (o : Option ℕ). IsLinkBehind (map chain_of cs) c.place-at.result (one_of c.args.part) o) c.in-None-None.is-1 c.linked_behind.ensures))) items
+    (subst (λ (o : Option ℕ). IsLinkBefore (map chain_of cs) c.place-at.result (one_of c.args.part) o) c.in-None-None.is-0 (c.linked_before.ensures c.place-at.ensures.bound)) (subst (λ (o : Option ℕ). IsLinkBehind (map chain_of cs) c.place-at.result (one_of c.args.part) o) c.in-None-None.is-1 c.linked_behind.ensures))) c.put_at.ensures.items
 
 pub returns-in-Some-None-clause-few : goal.returns-in-Some-None-clause-few
 returns-in-Some-None-clause-few c =
@@ -62,6 +59,5 @@ returns-in-None-Some-clause-few c =
 pub returns-in_ok-chain-in-None-None-clause-few : goal.returns-in_ok-chain-in-None-None-clause-few
 returns-in_ok-chain-in-None-None-clause-few c =
     let cs = c.args.chains.now.items in
-    let items : OnOk c.map_err.result (c.insert.new.self.items ≡ insert cs c.place-at.result c.in_ok-chain-in-None-None.chain) = let done = c.insert.ensures.items in search rules in
     let longer = one_longer cs c.place-at.result c.in_ok-chain-in-None-None.chain c.place-at.ensures.bound in
-    on_ok c.map_err.result _ _ (λ is. let all = ap length is in omega (arith, longer, all)) items
+    on_ok c.put_at.result _ _ (λ is. let all = ap length is in omega (arith, longer, all)) c.put_at.ensures.items

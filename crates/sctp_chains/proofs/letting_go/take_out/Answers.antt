@@ -10,7 +10,7 @@ pub returns-clause-taken : goal.returns-clause-taken
 returns-clause-taken c =
     let cs = c.args.chains.now.items in
     let l : c.args.at < length cs = let some = c.in_ok-chain.ensures.variant.0 refl in omega (arith, some, c.args.chains.now.ok) in
-    out_of cs c.args.at c.in_ok-chain.chain l c.in_ok-chain.ensures.value c.remove.new.self.items c.args.held.now c.less.result c.in_ok-chain.ensures.items
+    out_of cs c.args.at c.in_ok-chain.chain l c.in_ok-chain.ensures.value c.take_at.new.chains.items c.args.held.now c.less.result c.in_ok-chain.ensures.items
     (c.less.ensures ∙ ap (λ ps. c.args.held.now - size_of_parts (map bytes_of ps)) c.deref.ensures.value)
 
 pub returns-clause-fewer : goal.returns-clause-fewer

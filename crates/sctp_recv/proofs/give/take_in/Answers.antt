@@ -1,8 +1,31 @@
+use Rattle.std.proofs.Common.{◌≡◌, Bool, true, false, sym, ap, subst}
+use Rattle.std.specs.Prelude.{IfOk}
+use Rattle.sctp_model.specs.receiver.Reading.{lane_of}
+use Rattle.sctp_wire.specs.ChunkTree.{piece_meaning}
+use Rattle.sctp_chains.specs.StandsFor as lane
+use Rattle.sctp_chains.specs.StandsFor.{IsNew}
+use Rattle.sctp_chains.specs.Cells.{counted}
+use Rattle.sctp_recv.specs.inner.Giving.{GivesBy, lane_in}
 use Rattle.sctp_recv.proofs.give.take_in.Goals as goal
-use Rattle.sctp_recv.proofs.give.take_in.Goals.{then-unordered, else-unordered}
 
-pub returns-else-is_err-clause-recorded : goal.returns-else-is_err-clause-recorded
-returns-else-is_err-clause-recorded g c = elim c.if-unordered.branch [
-  | then-unordered w ↦ rw (w.given-is, w.seen-is) w.give_unordered-given.ensures.recorded
-  | else-unordered w ↦ rw (w.given-is, w.seen-is) w.give_ordered-given.ensures.recorded
-]
+pub returns-then-unordered-clause-given : goal.returns-then-unordered-clause-given
+returns-then-unordered-clause-given g c = λ kept stands new numbers.
+    let f = g.F.Framing.format in
+    let s = c.args.piece.now.stream in
+    let x = counted c.args.index (piece_meaning c.args.piece.now) c.args.number in
+    let old = c.args.inbound.now in
+    let e : c.args.piece.now.unordered ≡ true = c.if-unordered.true in
+    let P = λ (u : Bool). lane.StandsFor f (lane_in old u) (lane_of s u) kept → IsNew f (lane_of s u) kept x →
+    IfOk c.take_unordered.result (λ bytes. GivesBy u f s x kept old c.take_unordered.new.inbound bytes) in
+    subst P (sym e) (λ st nw. c.take_unordered.ensures.given kept st nw (ap (lane_of s) e)) stands new
+
+pub returns-clause-given : goal.returns-clause-given
+returns-clause-given g c = λ kept stands new numbers.
+    let f = g.F.Framing.format in
+    let s = c.args.piece.now.stream in
+    let x = counted c.args.index (piece_meaning c.args.piece.now) c.args.number in
+    let old = c.args.inbound.now in
+    let e : c.args.piece.now.unordered ≡ false = c.if-unordered.false in
+    let P = λ (u : Bool). lane.StandsFor f (lane_in old u) (lane_of s u) kept → IsNew f (lane_of s u) kept x →
+    IfOk c.take_ordered.result (λ bytes. GivesBy u f s x kept old c.take_ordered.new.inbound bytes) in
+    subst P (sym e) (λ st nw. c.take_ordered.ensures.given kept st nw numbers) stands new

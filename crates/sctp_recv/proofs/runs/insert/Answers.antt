@@ -1,5 +1,4 @@
 use Rattle.std.proofs.Common.{◌≡◌, ℕ, suc, ◌+◌, ◌<◌, ◌++◌, ◌∷◌, length, get_or, set, take, drop, sym, ◌∙◌, subst, rules, arith}
-use Rattle.std.specs.Prelude.{OnOk}
 use Rattle.std.specs.List.{insert, remove}
 use Rattle.std.proofs.lemmas.List.{set_split}
 use Rattle.sctp_recv.specs.declared.runs.Run.{Run}
@@ -14,8 +13,7 @@ returns-in-0-clause-inserted c =
     let xs = c.args.runs.now.items in
     let gain : Gain c.args.index xs (insert xs c.below-at.result (record { first = c.args.index; last = c.args.index })) = λ d h high new.
     gains_alone xs c.below-at.result c.upto.result d c.args.index (omega (arith, c.in-0.is, c.saturating_sub.ensures)) (c.below-at.ensures.place h.spaced) (c.upto.ensures.place h.spaced) h high in
-    let items : OnOk c.map_err.result (c.insert.new.self.items ≡ insert xs c.below-at.result (record { first = c.args.index; last = c.args.index })) = let done = c.insert.ensures.items in search rules in
-    on_ok c.map_err.result _ _ (λ e. subst (Gain c.args.index xs) (sym e) gain) items
+    on_ok c.put_at.result _ _ (λ e. subst (Gain c.args.index xs) (sym e) gain) c.put_at.ensures.items
 
 pub returns-in-1-clause-inserted : goal.returns-in-1-clause-inserted
 returns-in-1-clause-inserted c = λ d h high new.

@@ -7,5 +7,5 @@ use Rattle.sctp_recv.proofs.receiver.Receiver.cumulative.Goals as goal
 pub returns : goal.returns
 unfolding StandsFor
 returns g c = λ v w.
-    let s = c.args.self.now.seen in
-    (s.cumulative, cumulative_is s v w.seen, c.tsn_of.ensures ∙ ap (λ (i : ℕ). tsn c.args.self.now.initial i) c.cumulative.ensures.value ∙ ap (λ (i : ℕ). tsn i s.cumulative) (sym w.initial))
+    let s = c.args.self.now.seen.kept in
+    (s.cumulative, cumulative_is s v w.0.seen, c.tsn_of.ensures ∙ ap (λ (i : ℕ). tsn c.args.self.now.initial i) c.cumulative.ensures.value ∙ ap (λ (i : ℕ). tsn i s.cumulative) (sym w.0.initial))

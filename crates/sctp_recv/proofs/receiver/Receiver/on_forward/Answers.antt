@@ -15,34 +15,34 @@ use Rattle.sctp_recv.proofs.receiver.Receiver.on_forward.Goals as goal
 pub returns-in-Behind-clause-step : goal.returns-in-Behind-clause-step
 unfolding StandsFor
 returns-in-Behind-clause-step g c = λ v w.
-    let s = c.args.self.now.seen in
+    let s = c.args.self.now.seen.kept in
     let x = forward_meaning c.args.forward.now in
     let place = subst (λ (n : ℕ). IsTsnPlace c.args.self.now.initial n x.cumulative Behind) c.cumulative.ensures.value c.in-Behind.ensures in
-    (v, record { c = s.cumulative; cumulative = cumulative_is s v w.seen; answer = sym (row_out_of_date g.F.Framing.format (kept_of c.args.self.now) v x w place); leaves = refl }, w)
+    (v, record { c = s.cumulative; cumulative = cumulative_is s v w.0.seen; answer = sym (row_out_of_date g.F.Framing.format (kept_of c.args.self.now) v x w.0 place); leaves = refl }, w)
 
 pub returns-in-Ahead-clause-step : goal.returns-in-Ahead-clause-step
 unfolding StandsFor
 returns-in-Ahead-clause-step g c = λ v w.
-    let s = c.args.self.now.seen in
+    let s = c.args.self.now.seen.kept in
     let x = forward_meaning c.args.forward.now in
     let place = subst (λ (n : ℕ). IsTsnPlace c.args.self.now.initial n x.cumulative Ahead) c.cumulative.ensures.value c.in-Ahead.ensures in
-    (v, record { c = s.cumulative; cumulative = cumulative_is s v w.seen; answer = sym (row_far g.F.Framing.format (kept_of c.args.self.now) v x w place.0 place.1); leaves = refl }, w)
+    (v, record { c = s.cumulative; cumulative = cumulative_is s v w.0.seen; answer = sym (row_far g.F.Framing.format (kept_of c.args.self.now) v x w.0 place.0 place.1); leaves = refl }, w)
 
 pub returns-then-names_other_stream-clause-step : goal.returns-then-names_other_stream-clause-step
 unfolding StandsFor
 returns-then-names_other_stream-clause-step g c = λ v w.
-    let s = c.args.self.now.seen in
+    let s = c.args.self.now.seen.kept in
     let x = forward_meaning c.args.forward.now in
     let items = c.args.self.now.streams.items in
     let place = subst (λ (n : ℕ). IsTsnPlace c.args.self.now.initial n x.cumulative (At c.in-At.index)) c.cumulative.ensures.value c.in-At.ensures in
     let count : length (kept_of c.args.self.now).streams ≡ c.len.result = let m = length-map items stream_of in omega (arith, m, c.len.ensures, c.args.self.now.streams.ok) in
     let named : names_other_stream (length (kept_of c.args.self.now).streams) x.skips ≡ true = ap (λ (n : ℕ). names_other_stream n x.skips) count ∙ sym c.names_other_stream.ensures ∙ c.if-names_other_stream.true in
-    (v, record { c = s.cumulative; cumulative = cumulative_is s v w.seen; answer = sym (row_other g.F.Framing.format (kept_of c.args.self.now) v x w c.in-At.index place named); leaves = refl }, w)
+    (v, record { c = s.cumulative; cumulative = cumulative_is s v w.0.seen; answer = sym (row_other g.F.Framing.format (kept_of c.args.self.now) v x w.0 c.in-At.index place named); leaves = refl }, w)
 
 pub returns-clause-step : goal.returns-clause-step
 unfolding StandsFor
 returns-clause-step g c = λ v w.
-    let s = c.args.self.now.seen in
+    let s = c.args.self.now.seen.kept in
     let x = forward_meaning c.args.forward.now in
     let items = c.args.self.now.streams.items in
     let place = subst (λ (n : ℕ). IsTsnPlace c.args.self.now.initial n x.cumulative (At c.in-At.index)) c.cumulative.ensures.value c.in-At.ensures in
@@ -51,15 +51,15 @@ returns-clause-step g c = λ v w.
     let named : names_other_stream (length items) x.skips ≡ false = ap (λ (n : ℕ). names_other_stream n x.skips) count ∙ sym c.names_other_stream.ensures ∙ c.if-names_other_stream.false in
     let kept_named : names_other_stream (length (kept_of c.args.self.now).streams) x.skips ≡ false = ap (λ (n : ℕ). names_other_stream n x.skips) m ∙ named in
     let t = c.in_ok-pass_to.ensures.passed v w x refl place named in
-    (t.0, record { c = s.cumulative; cumulative = cumulative_is s v w.seen; answer = sym (row_moved g.F.Framing.format (kept_of c.args.self.now) v x w c.in-At.index place kept_named); leaves = t.1 }, t.2)
+    (t.0, record { c = s.cumulative; cumulative = cumulative_is s v w.0.seen; answer = sym (row_moved g.F.Framing.format (kept_of c.args.self.now) v x w.0 c.in-At.index place kept_named); leaves = t.1 }, t.2)
 
 pub returns-in_err-pass_to-clause-memory : goal.returns-in_err-pass_to-clause-memory
 unfolding StandsFor
 returns-in_err-pass_to-clause-memory g c = λ v w.
-    let s = c.args.self.now.seen in
+    let s = c.args.self.now.seen.kept in
     let x = forward_meaning c.args.forward.now in
     let items = c.args.self.now.streams.items in
     let place = subst (λ (n : ℕ). IsTsnPlace c.args.self.now.initial n x.cumulative (At c.in-At.index)) c.cumulative.ensures.value c.in-At.ensures in
     let count : length (kept_of c.args.self.now).streams ≡ c.len.result = let m = length-map items stream_of in omega (arith, m, c.len.ensures, c.args.self.now.streams.ok) in
     let named : names_other_stream (length (kept_of c.args.self.now).streams) x.skips ≡ false = ap (λ (n : ℕ). names_other_stream n x.skips) count ∙ sym c.names_other_stream.ensures ∙ c.if-names_other_stream.false in
-    if_err c.from_residual.result (s.cumulative, cumulative_is s v w.seen, row_moved g.F.Framing.format (kept_of c.args.self.now) v x w c.in-At.index place named)
+    if_err c.from_residual.result (s.cumulative, cumulative_is s v w.0.seen, row_moved g.F.Framing.format (kept_of c.args.self.now) v x w.0 c.in-At.index place named)

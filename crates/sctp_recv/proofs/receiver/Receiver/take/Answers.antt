@@ -6,6 +6,8 @@ use Rattle.sctp_recv.specs.Parts.{text_of_parts}
 use Rattle.sctp_recv.specs.Fields.{stream_of}
 use Rattle.sctp_recv.specs.KeptOf.{kept_of}
 use Rattle.sctp_recv.specs.StandsFor.{StandsFor}
+use Rattle.std.proofs.lemmas.Option.{slice_get_read}
+use Rattle.sctp_recv.proofs.FiledLemmas.{filed_same}
 use Rattle.sctp_recv.proofs.StreamLemmas.{stream_mapped, set_mapped, set_unchanged}
 use Rattle.sctp_recv.proofs.ReceiverSteps.{keeps_taken}
 use Rattle.sctp_recv.proofs.receiver.Receiver.take.Goals as goal
@@ -17,8 +19,10 @@ returns-in-None g c = λ v w.
     let l : c.from-at.result < length items = omega (arith, c.args.self.now.streams.ok) in
     let here = stream_mapped items c.from-at.result c.index_mut.result.now l c.index_mut.ensures.value in
     let there : stream_at (map stream_of items) c.args.stream ≡ stream_of c.index_mut.result.now = ap (λ (i : ℕ). stream_at (map stream_of items) i) (sym c.from-at.ensures) ∙ here in
-    let same = set_unchanged items c.from-at.result c.take_first.new.inbound c.index_mut.result.now l c.index_mut.ensures.value c.in-None.ensures.1 in
-    (v, (w.waiting c.args.stream ∙ ap (λ (s : StreamKept). s.waiting) there ∙ c.in-None.ensures.0, refl), rw same w)
+    let same = set_unchanged items c.from-at.result c.take_first.new.inbound c.index_mut.result.now l c.index_mut.ensures.value c.in-None.ensures.first.1 in
+    let got = slice_get_read items (length items) c.from-at.result c.index_mut.result.now refl l c.index_mut.ensures.value in
+    let files = filed_same g.F.Framing.format v.kept items c.from-at.result c.index_mut.result.now c.take_first.new.inbound w.1 l got c.take_first.ensures.chunks.0 c.take_first.ensures.chunks.1 in
+    (v, (w.0.waiting c.args.stream ∙ ap (λ (s : StreamKept). s.waiting) there ∙ c.in-None.ensures.first.0, refl), (rw same w.0, files))
 
 pub returns-in-Some : goal.returns-in-Some
 unfolding StandsFor
@@ -29,8 +33,10 @@ returns-in-Some g c = λ v w.
     let l : c.from-at.result < length items = omega (arith, c.args.self.now.streams.ok) in
     let here = stream_mapped items c.from-at.result c.index_mut.result.now l c.index_mut.ensures.value in
     let there : stream_at (map stream_of items) s ≡ record x { waiting = handed_of c.in-Some.message ∷ x.waiting } =
-    ap (λ (i : ℕ). stream_at (map stream_of items) i) (sym c.from-at.ensures) ∙ here ∙ c.in-Some.ensures in
+    ap (λ (i : ℕ). stream_at (map stream_of items) i) (sym c.from-at.ensures) ∙ here ∙ c.in-Some.ensures.first in
     let less : c.less-self.result ≡ c.args.self.now.held - length (message_bytes c.in-Some.message) = c.less-self.ensures ∙ ap (λ (ps : List _). c.args.self.now.held - length (text_of_parts ps)) c.deref.ensures.value in
     let n = length-map items stream_of in
-    let done = keeps_taken g.F.Framing.format (kept_of c.args.self.now) v s c.less-self.result (handed_of c.in-Some.message) x.waiting x w (omega (arith, c.from-at.ensures)) there refl less in
-    (_, (x.waiting, w.waiting s ∙ ap (λ (y : StreamKept). y.waiting) there, refl), rw (set_mapped items c.from-at.result c.take_first.new.inbound, c.from-at.ensures) done)
+    let done = keeps_taken g.F.Framing.format (kept_of c.args.self.now) v s c.less-self.result (handed_of c.in-Some.message) x.waiting x w.0 (omega (arith, c.from-at.ensures)) there refl less in
+    let got = slice_get_read items (length items) c.from-at.result c.index_mut.result.now refl l c.index_mut.ensures.value in
+    let files = filed_same g.F.Framing.format v.kept items c.from-at.result c.index_mut.result.now c.take_first.new.inbound w.1 l got c.take_first.ensures.chunks.0 c.take_first.ensures.chunks.1 in
+    (_, (x.waiting, w.0.waiting s ∙ ap (λ (y : StreamKept). y.waiting) there, refl), (rw (set_mapped items c.from-at.result c.take_first.new.inbound, c.from-at.ensures) done, files))

@@ -1,8 +1,16 @@
-use Rattle.std.proofs.Common.{◌≡◌, suc, ◌-◌, ◌<◌, nat_le, false, length, refl, subst, arith}
+use Rattle.std.proofs.Common.{◌≡◌, suc, ◌-◌, ◌<◌, nat_le, false, length, refl, ap, ◌∙◌, subst, arith}
 use Rattle.std.proofs.lemmas.Bool.Decides.{nat_tests}
-use Rattle.sctp_recv.specs.Runs.{IsPlace, begins_by}
-use Rattle.sctp_recv.proofs.RunLemmas.{held_at, held_nowhere}
+use Rattle.sctp_recv.specs.Runs.{IsPlace, begins_by, in_runs}
+use Rattle.sctp_recv.proofs.RunLemmas.{held_at, held_nowhere, none_after}
 use Rattle.sctp_recv.proofs.seen.Seen.is_reached.Goals as goal
+
+pub returns-then-index-self-eq1 : goal.returns-then-index-self-eq1
+returns-then-index-self-eq1 c =
+    let cum = c.self.inside.cumulative in
+    let next : c.args.index ≡ suc cum = let high = c.if-index-self.false in omega (arith, high, c.if-index-self-eq1.true) in
+    let above : nat_le c.args.index cum ≡ false = let high = c.if-index-self.false in grind (arith, high, nat_tests) in
+    let none : in_runs c.self.inside.runs.items c.args.index ≡ false = ap (in_runs c.self.inside.runs.items) next ∙ none_after cum c.self.inside.runs.items c.self.invariant.runs in
+    rw (← c.self.view_is) (rw (above, none) refl)
 
 pub returns-in-0 : goal.returns-in-0
 returns-in-0 c =

@@ -1,0 +1,110 @@
+-- A chunk with a new index, on a stream that is there: what the stream says of it is what the view says.
+use Rattle.std.proofs.Common.{◌≡◌, ℕ, ◌+◌, ◌<◌, ◌≤◌, Bool, true, false, List, Option, length, get_or, refl, sym, ◌∙◌, ap, subst, arith}
+use Rattle.std.specs.Prelude.{◌||◌, ◌&&◌}
+use Rattle.std.proofs.lemmas.List.{length-map}
+use Rattle.std.proofs.lemmas.Option.{slice_get_read}
+use Rattle.sctp_model.specs.Limits.{WINDOW}
+use Rattle.sctp_model.specs.Serial.{COUNTS}
+use Rattle.sctp_model.specs.Chunk.{PieceMeaning}
+use Rattle.sctp_model.specs.Format.{Format, Lane, is_numbered}
+use Rattle.sctp_model.specs.Framing.{lane_kind, number_near}
+use Rattle.sctp_model.specs.Pieces.{Piece}
+use Rattle.sctp_model.specs.ReceiverView.{ReceiverView}
+use Rattle.sctp_model.specs.receiver.Reading.{lane_of, piece_at}
+use Rattle.sctp_model.specs.receiver.PieceTaken.{is_passed, is_repeated}
+use Rattle.sctp_chains.specs.Cells.{IsOf, counted}
+use Rattle.sctp_chains.specs.StandsFor as lane
+use Rattle.sctp_recv.specs.declared.answer.Row.TheVariants.{Passed, NoRoom, Taken}
+use Rattle.sctp_recv.specs.declared.inbound.Inbound.{Inbound}
+use Rattle.sctp_recv.specs.declared.receiver.Receiver.{Receiver}
+use Rattle.sctp_recv.specs.Fields.{stream_of}
+use Rattle.sctp_recv.specs.Filed.{IsFiledOn}
+use Rattle.sctp_recv.specs.KeptOf.{kept_of}
+use Rattle.sctp_recv.specs.ReceiverKept.{StreamKept, ReceiverKept, stream_at, reference_of, is_below_or_none}
+use Rattle.sctp_recv.specs.SeenKept.{is_reached, AreWithin}
+use Rattle.sctp_recv.specs.StandsFor.{KeepsView, StandsFor}
+use Rattle.sctp_recv.specs.inner.Giving.{lane_in}
+use Rattle.sctp_recv.specs.inner.Rows.{IsAbove, IsNewIndex, IsRowOf}
+use Rattle.sctp_recv.proofs.AnswerLemmas.{new_index, row_passed, row_room, row_taken, number_same, passed_late, passed_is, near_small}
+use Rattle.sctp_recv.proofs.ChunkLemmas.{chunk_of, held_in_view}
+use Rattle.sctp_recv.proofs.StreamLemmas.{stream_mapped}
+
+-- the number is below those that the stream waits for, or there is none where there should be one
+abbrev pub comes_late : Format → PieceMeaning → StreamKept → Option ℕ → Bool
+comes_late f p s n = is_numbered f (lane_kind p.unordered) && is_below_or_none (reference_of s p.unordered) n
+
+-- The chunk p has the new index i, and its stream x reads the number n for it; it says whether p comes too late.
+pub record IsRead {F : Type 0} (f : Format) (k : ReceiverKept) (v : ReceiverView) (p : PieceMeaning) (i : ℕ) (x : Inbound F) (n : Option ℕ) (late : Bool) : Type 0 where
+  pub keeps : KeepsView f k v
+  pub within : AreWithin (k.seen.cumulative + WINDOW) k.seen.runs
+  pub above : IsAbove k.initial k.seen.cumulative p.tsn i
+  pub new : is_reached k.seen i ≡ false
+  pub low : p.stream < length k.streams
+  pub stream : stream_of x ≡ stream_at k.streams p.stream
+  pub own : IsFiledOn f v.kept p.stream x
+  pub near : n ≡ number_near f (lane_kind p.unordered) p.number (reference_of (stream_of x) p.unordered)
+  pub is_late : late ≡ comes_late f p (stream_of x) n
+
+-- what the calls say that read it: the cumulative index c, the stream's place s, and whether the index was reached
+pub read_at : {F : Type 0} (f : Format) (r : Receiver F) (v : ReceiverView) (p : PieceMeaning) (c i s : ℕ) (x : Inbound F) (n : Option ℕ) (reached late : Bool) → StandsFor f r v → c ≡ r.seen.kept.cumulative →
+    AreWithin (r.seen.kept.cumulative + WINDOW) r.seen.kept.runs → IsAbove r.initial c p.tsn i → reached ≡ is_reached r.seen.kept i → reached ≡ false → s ≡ p.stream → s < length r.streams.items →
+    x ≡ get_or r.streams.items s x → n ≡ number_near f (lane_kind p.unordered) p.number (reference_of (stream_of x) p.unordered) → late ≡ comes_late f p (stream_of x) n → IsRead f (kept_of r) v p i x n late
+unfolding StandsFor
+read_at f r v p c i s x n reached late w c_is within at reached_is new s_is low got near late_is = record {
+  keeps = w.0;
+  within = within;
+  above = subst (λ (m : ℕ). IsAbove r.initial m p.tsn i) c_is at;
+  new = sym reached_is ∙ new;
+  low = let all = length-map r.streams.items stream_of in omega (arith, low, s_is, all);
+  stream = sym (stream_mapped r.streams.items s x low got) ∙ ap (λ (j : ℕ). stream_at (kept_of r).streams j) s_is;
+  own = subst (λ (q : ℕ). IsFiledOn f v.kept q x) s_is (w.1.each s x (slice_get_read r.streams.items (length r.streams.items) s x refl low got));
+  near = near;
+  is_late = late_is;
+}
+
+-- the stream's answer whether it keeps the fragment already
+abbrev pub SaysHeld : {F : Type 0} → Format → Inbound F → PieceMeaning → Option ℕ → Bool → Type 0
+SaysHeld f x p n held = (j : ℕ) (l : Lane) (ks : List Piece) → lane.StandsFor f (lane_in x p.unordered) l ks → IsOf f l (counted j p n) → held ≡ is_repeated f ks (counted j p n)
+
+module _ {F : Type 0} {f : Format} {k : ReceiverKept} {v : ReceiverView} {p : PieceMeaning} {i : ℕ} {x : Inbound F} {n : Option ℕ} {late : Bool} (h : IsRead f k v p i x n late) where
+  number : n ≡ (piece_at f v k.seen.cumulative p).number
+  number = h.near ∙ ap (λ (a : StreamKept). number_near f (lane_kind p.unordered) p.number (reference_of a p.unordered)) h.stream ∙ number_same f k v p h.keeps h.within
+
+  late_is : late ≡ comes_late f p (stream_at k.streams p.stream) n
+  late_is = h.is_late ∙ ap (λ (a : StreamKept). comes_late f p a n) h.stream
+
+  index : IsNewIndex f k v p i
+  index = new_index f k v p h.keeps h.within i h.above h.new
+
+  pub read_late : late ≡ true → IsRowOf f k v p (Passed i)
+  read_late is = (row_passed f k v p h.keeps h.within i h.above h.new h.low (passed_late f k v p h.keeps h.within n number (sym late_is ∙ is)), index)
+
+  module _ (word : p.word < COUNTS) (not_late : late ≡ false) (held : Bool) (says : SaysHeld f x p n held) where
+    of : IsOf f (lane_of p.stream p.unordered) (counted i p n)
+    of = chunk_of f p n i (reference_of (stream_of x) p.unordered) h.near (sym h.is_late ∙ not_late) index.count word
+
+    passed : is_passed f v (piece_at f v k.seen.cumulative p) ≡ held
+    passed =
+        passed_is f k v p h.keeps h.within n late held number late_is (held_in_view f v p n x i (piece_at f v k.seen.cumulative p).index held h.own says of index.index)
+        ∙ ap (λ (b : Bool). b || held) not_late
+
+    pub read_held : held ≡ true → IsRowOf f k v p (Passed i)
+    read_held is = (row_passed f k v p h.keeps h.within i h.above h.new h.low (passed ∙ is), index)
+
+    module _ (free : held ≡ false) where
+      pub read_room : k.buffer < k.held + length p.bytes → IsRowOf f k v p NoRoom
+      read_room large = row_room f k v p h.keeps h.within i h.above h.new h.low (passed ∙ free) large
+
+      pub read_taken : k.held + length p.bytes ≤ k.buffer → IsRowOf f k v p (Taken i n)
+      read_taken fits = (
+        row_taken f k v p h.keeps h.within i h.above h.new h.low (passed ∙ free) fits,
+        record {
+          new = index;
+          number = number;
+          small = λ m is. near_small f (lane_kind p.unordered) p.number (reference_of (stream_of x) p.unordered) m (sym h.near ∙ is);
+          stream = h.low;
+          wanted = passed ∙ free;
+          fits = fits;
+          of = of;
+        },
+      )
