@@ -15,14 +15,14 @@ undo-requires c = taken_fits c.args.draft.now c.loop.draft c.in-Some.change c.po
 pub loop-preserved : goal.loop-preserved
 loop-preserved c = elim c.match-pop.branch [
   | in-Some w ↦
-    let u = w.undo.ensures in
-    subst (λ (d : Draft). IsTakenBack c.args.draft.now d (c.loop.counter + 1)) (sym w.draft-is)
-    (taken_more c.args.draft.now c.loop.draft w.undo.new.draft w.in-Some.change c.pop.new.self.items c.loop.counter c.loop.invariant w.in-Some.ensures.items (ap (λ (l : _). l.items) u.log) u.parts (ap (λ (l : _). l.items) u.tickets)
-    (record { window = u.room.window; queue = u.room.queue; tracks = u.room.tracks; entries = u.room.entries; messages = u.room.messages }))
+      let u = w.undo.ensures in
+      subst (λ (d : Draft). IsTakenBack c.args.draft.now d (c.loop.counter + 1)) (sym w.draft-is)
+      (taken_more c.args.draft.now c.loop.draft w.undo.new.draft w.in-Some.change c.pop.new.self.items c.loop.counter c.loop.invariant w.in-Some.ensures.items (ap (λ (l : _). l.items) u.log) u.parts (ap (λ (l : _). l.items) u.tickets)
+      (record { window = u.room.window; queue = u.room.queue; tracks = u.room.tracks; entries = u.room.entries; messages = u.room.messages }))
   | in_default w ↦
-    let left = c.loop.invariant.left in
-    let none = w.in_default.ensures.cases in
-    absurd (omega (arith, none.0, left, c.loop.draft.log.ok.0, c.args.draft.now.log.ok.0, c.len-end.ensures))
+      let left = c.loop.invariant.left in
+      let none = w.in_default.ensures.cases in
+      absurd (omega (arith, none.0, left, c.loop.draft.log.ok.0, c.args.draft.now.log.ok.0, c.len-end.ensures))
 ]
 
 pub returns-clause-parts : goal.returns-clause-parts

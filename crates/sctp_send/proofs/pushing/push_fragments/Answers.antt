@@ -21,15 +21,15 @@ loop-fragment-preserved c =
     let long = was.long in
     record {
       items = λ size.
-      let l = lane_meaning c.args.message.now.value in
-      let m = message_meaning size c.args.message.now.value in
-      let old = map (item_meaning size) c.args.outstanding.now.items in
-      let k = c.loop-fragment.fragment in
-      let one : List Item = new_item (Part l c.args.number k) m ∷ [] in
-      c.in_ok-push_fragment-2.ensures.items size
-      ∙ ap (λ (xs : List Item). xs ++ one) (was.items size)
-      ∙ append_assoc old (begun_items l c.args.number m k) one
-      ∙ ap (λ (xs : List Item). old ++ xs) (sym (begun_push l c.args.number m k (omega arith)));
+          let l = lane_meaning c.args.message.now.value in
+          let m = message_meaning size c.args.message.now.value in
+          let old = map (item_meaning size) c.args.outstanding.now.items in
+          let k = c.loop-fragment.fragment in
+          let one : List Item = new_item (Part l c.args.number k) m ∷ [] in
+          c.in_ok-push_fragment-2.ensures.items size
+          ∙ ap (λ (xs : List Item). xs ++ one) (was.items size)
+          ∙ append_assoc old (begun_items l c.args.number m k) one
+          ∙ ap (λ (xs : List Item). old ++ xs) (sym (begun_push l c.args.number m k (omega arith)));
       before = before_more c.args.outstanding.now.items c.loop-fragment.outstanding.items c.push_fragment-in-loop-fragment.new.outstanding.items was.before (omega arith) c.in_ok-push_fragment-2.ensures.more c.in_ok-push_fragment-2.ensures.long;
       long = omega (arith, long, c.in_ok-push_fragment-2.ensures.long);
       room = record {

@@ -28,8 +28,8 @@ returns-clause-behind g c =
     let old = c.args.draft.now in
     record {
       origin = in_behind old c.take_out.new.log.items c.note.new.log.items c.push_begun.new.outstanding.items c.take_out.new.queue.items c.count_on-track.new.tracks.items c.args.next.count c.deref-2.result.now.stream c.args.next.turn c.count_on-track.result
-      (λ (p : Parts) is. c.take_out.ensures.back p is ∙ noted_before old c.reserve.new.self.items c.reserve.ensures.items (record p { queue = old.queue.items }) refl)
-      c.note.ensures.items c.in_ok-push_begun.ensures.before c.count_on-track.ensures.before;
+          (λ (p : Parts) is. c.take_out.ensures.back p is ∙ noted_before old c.reserve.new.self.items c.reserve.ensures.items (record p { queue = old.queue.items }) refl)
+          c.note.ensures.items c.in_ok-push_begun.ensures.before c.count_on-track.ensures.before;
       room = record {
         window = c.in_ok-push_begun.ensures.size;
         queue = c.take_out.ensures.size;

@@ -27,8 +27,8 @@ returns-clause-behind g c =
     let es = c.push_fragment.new.outstanding.items in
     record {
       origin = in_behind old c.reserve.new.self.items c.note.new.log.items es old.queue.items c.leave_on-track.new.tracks.items 1 c.args.stream c.stream_after-draft.result c.leave_on-track.result
-      (noted_before old c.reserve.new.self.items c.reserve.ensures.items) c.note.ensures.items
-      (sym c.reserve-2.ensures.items ∙ c.in_ok-push_fragment.ensures.more) c.leave_on-track.ensures.before;
+          (noted_before old c.reserve.new.self.items c.reserve.ensures.items) c.note.ensures.items
+          (sym c.reserve-2.ensures.items ∙ c.in_ok-push_fragment.ensures.more) c.leave_on-track.ensures.before;
       room = record {
         window = c.in_ok-push_fragment.ensures.size ∙ c.reserve-2.ensures.size;
         queue = refl;

@@ -20,9 +20,9 @@ loop-preserved g c =
       sized = sized_on s.fragment c.loop.draft c.put_next.new.draft c.loop.invariant.sized c.in_ok-put_next.ensures.behind.room;
       behind = behind_on c.args.draft.now c.loop.draft c.put_next.new.draft c.loop.invariant.behind c.in_ok-put_next.ensures.behind;
       so_far = λ v keeps.
-      let x = c.loop.invariant.so_far v keeps in
-      loop_more f s v c.args.packet.now c.loop.packet c.put_next.new.packet c.loop.draft c.put_next.new.draft c.loop.counter x
-      (subst (λ (b : Bool). PutAnswer f s x.view c.loop.packet c.put_next.new.packet c.loop.draft c.put_next.new.draft b) c.if-not-branch.false (c.in_ok-put_next.ensures.put x.view x.keeps));
+          let x = c.loop.invariant.so_far v keeps in
+          loop_more f s v c.args.packet.now c.loop.packet c.put_next.new.packet c.loop.draft c.put_next.new.draft c.loop.counter x
+          (subst (λ (b : Bool). PutAnswer f s x.view c.loop.packet c.put_next.new.packet c.loop.draft c.put_next.new.draft b) c.if-not-branch.false (c.in_ok-put_next.ensures.put x.view x.keeps));
     }
 
 pub returns-in_err-put_next-clause-behind : goal.returns-in_err-put_next-clause-behind

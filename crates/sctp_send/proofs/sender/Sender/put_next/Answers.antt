@@ -43,7 +43,7 @@ returns-in-Some-first_unsent-clause-put g c = λ v keeps.
     let next = (unsent_next f (drafted s d) v at no_item keeps nomark found).1 in
     let flying = flying_is f s v d c.first_marked.new.self c.flight-flying.result keeps first c.requires.window c.flight-flying.ensures.flight c.flight-flying.ensures.bound in
     let put = subst (λ (w : WindowKept). Keeps f (drafted s (record d { outstanding = w })) v → IsNextUnsent f v at → IsFlying s (record d { outstanding = w }) c.flight-flying.result
-        → IfOk c.put_unsent.result (λ put. PutAnswer f s v c.args.packet.now c.put_unsent.new.packet (record d { outstanding = w }) c.put_unsent.new.draft put))
+    → IfOk c.put_unsent.result (λ put. PutAnswer f s v c.args.packet.now c.put_unsent.new.packet (record d { outstanding = w }) c.put_unsent.new.draft put))
     (c.first_unsent.ensures.same ∙ first) (c.put_unsent.ensures.put v) in
     put keeps next flying
 
@@ -61,7 +61,7 @@ returns-clause-put g c = λ v keeps.
     let none = searched s d c.first_marked.new.self is_item_unsent None first c.requires.window c.in_default-first_unsent.ensures.first in
     let flying = flying_is f s v d c.first_marked.new.self c.flight-flying.result keeps first c.requires.window c.flight-flying.ensures.flight c.flight-flying.ensures.bound in
     let put = subst (λ (w : WindowKept). Keeps f (drafted s (record d { outstanding = w })) v → NothingStands f v → IsFlying s (record d { outstanding = w }) c.flight-flying.result
-        → IfOk c.put_new.result (λ put. PutAnswer f s v c.args.packet.now c.put_new.new.packet (record d { outstanding = w }) c.put_new.new.draft put))
+    → IfOk c.put_new.result (λ put. PutAnswer f s v c.args.packet.now c.put_new.new.packet (record d { outstanding = w }) c.put_new.new.draft put))
     (c.first_unsent.ensures.same ∙ first) (c.put_new.ensures.put v) in
     put keeps (nothing_stands f (drafted s d) v keeps nomark none) flying
 
