@@ -1,26 +1,11 @@
 //! A receiver's calls where they succeed, chunk by chunk: what it answers, hands over and tells in its SACK.
 
+use crate::receiving::whole;
 use sctp_first_recv::{Answer, Receiver, SackValues};
-use sctp_wire::Piece;
 use std::process::Abort;
 use std::test::Fail;
 
 const ROOM: u32 = 65_536;
-
-/// A DATA with B and E on stream 0.
-fn piece(tsn: u32, number: u32, bytes: &'static [u8]) -> Piece<'static> {
-    Piece {
-        immediate: false,
-        unordered: false,
-        begin: true,
-        end: true,
-        tsn,
-        stream: 0,
-        number,
-        word: 7,
-        bytes,
-    }
-}
 
 fn sack(cumulative: u32, rwnd: u32) -> SackValues {
     SackValues { cumulative, rwnd }
@@ -52,13 +37,13 @@ fn a_swapped_pair_is_handed_over_in_order(rt: HostRuntime) -> Result<(), Fail> {
     let mut receiver = Receiver::new(rt.alloc(), 1, ROOM)?;
     assert_eq!(rt; receiver.sack(), sack(0, ROOM));
 
-    assert_eq!(rt; receiver.on_data(&piece(2, 1, b"b"))?, Answer::Taken);
+    assert_eq!(rt; receiver.on_data(&whole(2, 1, b"b"))?, Answer::Taken);
     assert_eq!(rt; receiver.sack(), sack(0, ROOM - 1));
     assert!(rt; receiver.take(0).is_none());
 
-    assert_eq!(rt; receiver.on_data(&piece(1, 0, b"aa"))?, Answer::Taken);
+    assert_eq!(rt; receiver.on_data(&whole(1, 0, b"aa"))?, Answer::Taken);
     assert_eq!(rt; receiver.sack(), sack(2, ROOM - 3));
-    assert_eq!(rt; receiver.on_data(&piece(2, 1, b"b"))?, Answer::Duplicate);
+    assert_eq!(rt; receiver.on_data(&whole(2, 1, b"b"))?, Answer::Duplicate);
     assert_eq!(rt; receiver.sack(), sack(2, ROOM - 3));
 
     expect_message(&rt, &mut receiver, 0, 1, 0, b"aa");

@@ -38,6 +38,10 @@ mod receiver;
 #[cfg(test)]
 mod receiver_forwards;
 #[cfg(test)]
+mod receiver_rows;
+#[cfg(test)]
+mod receiving;
+#[cfg(test)]
 mod script_lines;
 #[cfg(test)]
 mod sender;
@@ -46,11 +50,17 @@ mod sender_filling;
 #[cfg(test)]
 mod sender_forwards;
 #[cfg(test)]
+mod sender_rows;
+#[cfg(test)]
+mod sending;
+#[cfg(test)]
 mod serial;
 #[cfg(test)]
 mod statuses;
 #[cfg(test)]
 mod streams;
+#[cfg(test)]
+mod two_ends;
 #[cfg(test)]
 mod words;
 #[cfg(test)]

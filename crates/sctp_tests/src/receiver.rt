@@ -1,10 +1,9 @@
 //! What chunks are answered and hand over, in both formats, and the worst that a peer can do to the runs.
 
+use crate::receiving::{expect, unordered, whole};
 use sctp_framing::{DataFraming, Framing, IDataFraming};
-use sctp_recv::{Answer, Message, Receiver};
-use sctp_wire::{GapBlock, Piece};
-use std::alloc::Global;
-use std::process::Abort;
+use sctp_recv::{Answer, Receiver};
+use sctp_wire::GapBlock;
 use std::test::Fail;
 
 /// What a SACK says: its cumulative TSN, its room, how many blocks and duplicates.
@@ -17,52 +16,6 @@ fn sack_of<F: Framing>(receiver: &Receiver<F>) -> Result<(u32, u32, usize, usize
         sack.blocks.len(),
         sack.duplicates.len(),
     ))
-}
-
-/// A whole ordered message on stream 0.
-pub(crate) fn whole(tsn: u32, number: u32, bytes: &[u8]) -> Piece<'_> {
-    Piece {
-        immediate: false,
-        unordered: false,
-        begin: true,
-        end: true,
-        tsn,
-        stream: 0,
-        number,
-        word: 7,
-        bytes,
-    }
-}
-
-/// A fragment of an unordered message on stream 1: its first where `word` is 0, its last where it is 2.
-pub(crate) fn unordered(tsn: u32, number: u32, word: u32, bytes: &[u8]) -> Piece<'_> {
-    Piece {
-        immediate: false,
-        unordered: true,
-        begin: word == 0,
-        end: word == 2,
-        tsn,
-        stream: 1,
-        number,
-        word,
-        bytes,
-    }
-}
-
-/// A message was taken, with these bytes.
-pub(crate) fn expect(
-    rt: &impl Abort,
-    alloc: Global,
-    taken: Option<Message>,
-    bytes: &[u8],
-) -> Result<(), Fail> {
-    let mut copy = Vec::new(alloc);
-    if let Some(message) = taken {
-        assert_eq!(rt; message.len(), bytes.len());
-        message.copy_to(&mut copy)?;
-    }
-    assert_eq!(rt; copy.as_slice(), bytes);
-    Ok(())
 }
 
 #[test]

@@ -2,10 +2,10 @@
 
 ghost use Rattle.std.specs.Prelude.{◌≡◌, ◌%◌, length};
 
-use crate::receiver::{expect, unordered, whole};
+use crate::receiving::{expect, first, unordered, whole};
 use sctp_framing::{DataFraming, Framing, IDataFraming};
 use sctp_recv::{Answer, ForwardAnswer, Receiver};
-use sctp_wire::{Forward, Piece, SkipForm, Skips};
+use sctp_wire::{Forward, SkipForm, Skips};
 use std::alloc::Global;
 use std::process::Abort;
 use std::test::Fail;
@@ -28,13 +28,6 @@ fn wide(cumulative: u32, entries: &[u8]) -> Forward<'_>
         cumulative,
         skips: Skips::new(SkipForm::Wide, entries),
     }
-}
-
-/// The first fragment of an ordered message on stream 0.
-fn first(tsn: u32, number: u32, bytes: &[u8]) -> Piece<'_> {
-    let mut piece = whole(tsn, number, bytes);
-    piece.end = false;
-    piece
 }
 
 /// Message 0 came in part, and message 1 whole: a FORWARD past message 0 drops the part, and hands message 1 over.

@@ -1,7 +1,8 @@
 //! What goes into packets, in order: over the wrap, fragments beside other streams, repeats before what is new.
 
+use crate::sending::{chunks_of, fill, queue, say};
 use sctp_framing::{DataFraming, Framing, IDataFraming};
-use sctp_packet::{PacketWriter, read_packet};
+use sctp_packet::read_packet;
 use sctp_send::{Sender, Ticket};
 use sctp_wire::Chunk;
 use std::alloc::Global;
@@ -17,9 +18,7 @@ fn filled<F: Framing>(
     sender: &mut Sender<F>,
     limit: u16,
 ) -> Result<(Vec<Said>, Vec<Ticket>), Fail> {
-    let mut packet = PacketWriter::new(alloc, limit, 1, 2, 3);
-    let filled = sender.fill(&mut packet)?;
-    let bytes = packet.finish().ok_or("no chunk")?;
+    let (bytes, tickets) = fill(alloc, sender, limit)?;
     let mut said = Vec::new(alloc);
     for chunk in read_packet(&bytes)?.chunks {
         match chunk {
@@ -34,20 +33,7 @@ fn filled<F: Framing>(
             _ => return Err(Fail::from("another chunk")),
         }
     }
-    Ok((said, filled.tickets))
-}
-
-/// Queues so many bytes on a stream, in order.
-fn queue<F: Framing>(
-    alloc: Global,
-    sender: &mut Sender<F>,
-    stream: u16,
-    count: usize,
-) -> Result<(), Fail> {
-    let mut bytes = Vec::new(alloc);
-    bytes.resize(count, 7u8)?;
-    sender.queue(stream, true, 0, bytes, None)?;
-    Ok(())
+    Ok((said, tickets))
 }
 
 #[test]
@@ -60,17 +46,13 @@ fn two_chunks_from_the_last_tsn(rt: HostRuntime) -> Result<(), Fail> {
         65_536,
         true,
     )?;
-    queue(rt.alloc(), &mut sender, 0, 1)?;
-    queue(rt.alloc(), &mut sender, 0, 4)?;
-    let (said, tickets) = filled(rt.alloc(), &mut sender, 1_500)?;
+    say(rt.alloc(), &mut sender, 0, b"a")?;
+    say(rt.alloc(), &mut sender, 0, b"b")?;
+    let (packet, tickets) = fill(rt.alloc(), &mut sender, 1_500)?;
     assert_eq!(rt; tickets.as_slice(), [Ticket(1), Ticket(2)].as_slice());
     assert_eq!(rt;
-        said.as_slice(),
-        [
-            Said(4_294_967_295, 0, 0, true, true, 1),
-            Said(0, 0, 1, true, true, 4),
-        ]
-        .as_slice()
+        chunks_of(rt.alloc(), &packet)?.as_str(),
+        "00030011ffffffff0000000000000000610000000003001100000000000000010000000062000000"
     );
     assert_eq!(rt; sender.outstanding(), 2);
     Ok(())
