@@ -1,10 +1,10 @@
 -- Each change that a fill notes leads back to the parts before it.
-use Rattle.std.proofs.Common.{◌≡◌, ℕ, ◌-◌, ◌≤◌, List, [], ◌∷◌, ◌++◌, length, take, get_or, set, remove, refl, sym, ap, ◌∙◌, subst, arith, ◌<◌}
+use Rattle.std.proofs.Common.{◌≡◌, ℕ, ◌-◌, List, [], ◌∷◌, ◌++◌, length, take, get_or, set, remove, refl, sym, ap, ◌∙◌, ◌<◌}
 use Rattle.std.specs.declared.rc.Rc.{Rc}
 use Rattle.std.specs.declared.alloc.Global.{Global}
-use Rattle.sctp_send.specs.WindowKept.{WindowKept, at_place, changed}
+use Rattle.sctp_send.specs.WindowKept.{at_place}
 use Rattle.sctp_send.specs.inner.Drafting.{went_out}
-use Rattle.sctp_send.specs.inner.Undoing.{Parts, parts_of, stands_so, undone, before_all, origin, waits_again, IsKeptRoom, IsBehind}
+use Rattle.sctp_send.specs.inner.Undoing.{Parts, parts_of, before_all, origin, waits_again, IsKeptRoom, IsBehind}
 use Rattle.sctp_send.specs.declared.draft.Change.{Change}
 use Rattle.sctp_send.specs.declared.draft.Change.TheVariants.{Out, Taken, In}
 use Rattle.sctp_send.specs.declared.draft.Draft.{Draft}

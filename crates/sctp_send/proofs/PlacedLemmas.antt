@@ -1,5 +1,5 @@
 -- A list in which the element at a place is changed: its length, what stands at a place, its parts, its image.
-use Rattle.std.proofs.Common.{◌≡◌, ℕ, zero, suc, ◌+◌, ◌-◌, ◌<◌, ◌≤◌, List, [], ◌∷◌, length, get_or, set, map, take, drop, refl, sym, ap, ◌∙◌, arith}
+use Rattle.std.proofs.Common.{◌≡◌, ℕ, zero, suc, ◌<◌, ◌≤◌, List, [], ◌∷◌, length, get_or, set, map, refl, ap, arith}
 use Rattle.sctp_send.specs.WindowKept.{at_place}
 
 -- ---- as one that is set

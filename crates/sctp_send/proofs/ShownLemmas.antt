@@ -8,7 +8,7 @@ use Rattle.sctp_model.specs.Format.{Format}
 use Rattle.sctp_model.specs.Plan.{Message, Entry}
 use Rattle.sctp_model.specs.SenderView.{SenderView}
 use Rattle.sctp_model.specs.sender.Entries.{entry_message, any_from, is_given_up, continued}
-use Rattle.sctp_model.specs.sender.Abandoning.{Name, name_at, name_of, has_ticket, is_abandoned, is_covered, given_up, give_up, without, abandon_after, is_past, is_due, expire_one}
+use Rattle.sctp_model.specs.sender.Abandoning.{Name, name_at, name_of, has_ticket, is_abandoned, is_covered, given_up, give_up, without, is_past, is_due, expire_one}
 use Rattle.sctp_model.specs.sender.Reached.{IsReached}
 use Rattle.sctp_model.proofs.sender.OwnLaws.{AllOwn}
 use Rattle.sctp_model.proofs.sender.TicketLaws.{is_ticketed}

@@ -1,5 +1,5 @@
 -- What a fill noted is taken back, the last change first: then the parts are as they were.
-use Rattle.std.proofs.Common.{◌≡◌, ℕ, zero, suc, ◌+◌, ◌-◌, ◌<◌, ◌≤◌, List, [], ◌∷◌, ◌++◌, length, take, drop, get_or, set, remove, insert, Bool, true, false, refl, sym, ap, ◌∙◌, subst, arith, length-append}
+use Rattle.std.proofs.Common.{◌≡◌, ℕ, zero, suc, ◌+◌, ◌<◌, ◌≤◌, List, [], ◌∷◌, ◌++◌, length, get_or, set, remove, insert, Bool, true, false, refl, sym, ap, ◌∙◌, subst, arith, length-append}
 use Rattle.std.specs.Prelude.{nat_le, if◌then◌else◌}
 use Rattle.std.proofs.lemmas.Bool.Decides.{nat_tests}
 use Rattle.std.proofs.lemmas.List.Edits.{length-insert, length-remove}
@@ -11,7 +11,7 @@ use Rattle.sctp_send.specs.SenderKept.{Kept}
 use Rattle.sctp_send.specs.SenderStands.{Keeps}
 use Rattle.sctp_send.specs.WindowKept.{WindowKept, at_place, changed}
 use Rattle.sctp_send.specs.inner.Changes.{stood}
-use Rattle.sctp_send.specs.inner.Drafting.{numbers_of, drafted, went_out}
+use Rattle.sctp_send.specs.inner.Drafting.{drafted, went_out}
 use Rattle.sctp_send.specs.inner.Undoing.{Parts, parts_of, stands_so, waits_again, undone, before_all, origin, IsSized, IsKeptRoom, IsBehind}
 use Rattle.sctp_send.specs.declared.draft.Change.{Change}
 use Rattle.sctp_send.specs.declared.draft.Change.TheVariants.{Out, Taken, In}

@@ -1,9 +1,8 @@
 -- Before a moment no message of a list is worthless: what keeps that as the list changes, and the moment with it.
-use Rattle.std.proofs.Common.{◌≡◌, ℕ, zero, suc, ◌+◌, ◌<◌, ◌≤◌, min, List, [], ◌∷◌, ◌++◌, length, map, take, drop, Option, refl, sym, ap, ◌∙◌, subst, arith, get_or}
+use Rattle.std.proofs.Common.{◌≡◌, ℕ, zero, suc, ◌+◌, ◌<◌, ◌≤◌, min, List, [], ◌∷◌, ◌++◌, length, map, take, drop, Option, sym, ap, ◌∙◌, arith, get_or}
 use Rattle.std.specs.Prelude.{set, insert, remove}
 use Rattle.std.proofs.lemmas.List.{take_more, take_all}
 use Rattle.sctp_model.specs.Plan.{Message}
-use Rattle.sctp_send.specs.WindowKept.{at_place}
 use Rattle.sctp_send.specs.inner.Counting.{moment_from, AreWorth}
 
 -- ---- messages

@@ -1,5 +1,5 @@
 -- What a draft of a sender keeps, and what each wish makes of it and of the packet.
-use Rattle.std.specs.Prelude.{◌≡◌, ℕ, suc, nat_lt, ◌-◌, ◌<◌, Bool, true, false, List, [], ◌∷◌, ◌++◌, ◌+◌, ◌&&◌, ◌^◌, ◌≤◌, min, map, length, slice_get, slice_set, Option, None, Some, option_map}
+use Rattle.std.specs.Prelude.{◌≡◌, ℕ, suc, nat_lt, ◌-◌, ◌<◌, Bool, true, false, List, [], ◌∷◌, ◌++◌, ◌+◌, ◌&&◌, map, length, slice_set, Option, None, Some, option_map}
 use Rattle.sctp_model.specs.Format.{Format, Kind}
 use Rattle.sctp_model.specs.Plan.{Part}
 use Rattle.sctp_model.specs.sender.Words.{when}
@@ -10,8 +10,8 @@ use Rattle.sctp_model.specs.Framing.{data_chunk}
 use Rattle.sctp_model.specs.SenderView.{SenderView}
 use Rattle.sctp_model.specs.sender.PieceSaid.{piece_said}
 use Rattle.sctp_model.specs.sender.Filling.{Wish, standing, newcomer, next_wish, is_let_flow, goes, gone, IsFill, newly_numbered}
-use Rattle.sctp_model.specs.sender.Entries.{bytes_in, is_unsent, passes_at, in_flight}
-use Rattle.sctp_send.specs.inner.Wishing.{item_bytes, item_flight, lets_flow}
+use Rattle.sctp_model.specs.sender.Entries.{bytes_in}
+use Rattle.sctp_send.specs.inner.Wishing.{item_flight, lets_flow}
 use Rattle.sctp_model.specs.sender.SentChunks.{chunk_of}
 use Rattle.sctp_packet.specs.Draft.{Draft as PacketDraft, room_in, with_chunks, has_room, after_try}
 use Rattle.sctp_send.specs.SenderKept.{Item, Rest, Track, Kept}

@@ -1,7 +1,5 @@
-use Rattle.std.proofs.Common.{refl, sym, ap, ◌+◌, arith, ◌∙◌, subst, List}
-use Rattle.sctp_send.specs.declared.draft.Change.{Change}
+use Rattle.std.proofs.Common.{refl, sym, ap, ◌+◌, arith, subst}
 use Rattle.sctp_send.specs.declared.draft.Draft.{Draft}
-use Rattle.sctp_send.specs.declared.message.Ticket.{Ticket}
 use Rattle.sctp_send.proofs.UndoLemmas.{IsTakenBack, taken_more, taken_fits, taken_all}
 use Rattle.sctp_send.proofs.draft.take_back.Goals as goal
 use Rattle.sctp_send.proofs.draft.take_back.Goals.{in-Some, in_default}

@@ -1,10 +1,10 @@
-use Rattle.std.proofs.Common.{◌≡◌, ◌∙◌, ◌^◌, ◌<◌, suc, map, refl, sym, ap, arith}
+use Rattle.std.proofs.Common.{◌≡◌, ◌∙◌, ◌^◌, ◌<◌, suc, map, refl, ap, arith}
 use Rattle.sctp_model.specs.Framing.{lane_kind}
 use Rattle.sctp_send.specs.SenderFields.{rests_meaning, track_meaning}
 use Rattle.sctp_send.specs.SenderKept.{Kept}
 use Rattle.sctp_send.specs.inner.Newcomers.{track_of, number_in}
 use Rattle.sctp_send.specs.inner.Drafting.{rest_from}
-use Rattle.sctp_send.specs.inner.Undoing.{Parts, before_all}
+use Rattle.sctp_send.specs.inner.Undoing.{Parts}
 use Rattle.sctp_send.specs.declared.draft.Draft.{Draft}
 use Rattle.sctp_send.proofs.EnterLemmas.{begun_is}
 use Rattle.sctp_send.proofs.BehindLemmas.{in_behind, noted_before}

@@ -1,4 +1,4 @@
-use Rattle.std.proofs.Common.{◌≡◌, ◌∙◌, map, refl, ap}
+use Rattle.std.proofs.Common.{◌∙◌, map, refl, ap}
 use Rattle.sctp_model.specs.sender.Words.{when}
 use Rattle.sctp_send.specs.OutstandingFields.{item_meaning}
 use Rattle.sctp_send.specs.SenderFields.{queued_by, track_meaning}

@@ -1,10 +1,8 @@
-use Rattle.std.proofs.Common.{◌≡◌, ◌∙◌, ◌+◌, ◌-◌, ◌^◌, ◌%◌, List, length, suc, map, take, refl, sym, ap, arith}
-use Rattle.sctp_send.specs.OutstandingFields.{item_meaning}
+use Rattle.std.proofs.Common.{◌≡◌, ◌∙◌, ◌+◌, ◌^◌, ◌%◌, suc, refl, sym, ap, arith}
 use Rattle.sctp_send.specs.SenderFields.{rests_meaning}
 use Rattle.sctp_send.specs.SenderKept.{Kept}
 use Rattle.sctp_send.specs.inner.Drafting.{rest_from}
 use Rattle.sctp_send.specs.declared.draft.Draft.{Draft}
-use Rattle.sctp_send.specs.declared.outstanding.Outstanding.{Outstanding}
 use Rattle.sctp_send.proofs.EnterLemmas.{gone_on_is}
 use Rattle.sctp_send.proofs.BehindLemmas.{in_behind, noted_before}
 use Rattle.sctp_send.proofs.sender.Sender.go_on.Goals as goal

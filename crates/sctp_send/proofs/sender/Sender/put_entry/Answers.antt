@@ -1,4 +1,4 @@
-use Rattle.std.proofs.Common.{◌≡◌, suc, ◌+◌, ◌∷◌, [], ◌++◌, List, refl, sym, ap, ◌∙◌, arith}
+use Rattle.std.proofs.Common.{suc, ◌+◌, ◌∷◌, [], ◌++◌, List, refl, ap, ◌∙◌, arith}
 use Rattle.sctp_send.specs.SenderKept.{Kept}
 use Rattle.sctp_send.specs.WindowKept.{WindowKept}
 use Rattle.sctp_send.specs.declared.draft.Change.{Change}

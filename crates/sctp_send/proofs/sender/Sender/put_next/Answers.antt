@@ -1,4 +1,4 @@
-use Rattle.std.proofs.Common.{◌≡◌, ◌∙◌, refl, subst, None, Some, false}
+use Rattle.std.proofs.Common.{◌∙◌, refl, subst, None, Some, false}
 use Rattle.std.specs.Prelude.{IfOk, OnErr}
 use Rattle.sctp_model.specs.Format.{ordered_lane}
 use Rattle.sctp_model.specs.Plan.{End}

@@ -1,4 +1,4 @@
-use Rattle.std.proofs.Common.{◌≡◌, ◌<◌, ◌≤◌, length, map, ap, sym, ◌∙◌, arith}
+use Rattle.std.proofs.Common.{◌<◌, ◌≤◌, length, map, ap, sym, ◌∙◌, arith}
 use Rattle.sctp_send.specs.OutstandingFields.{item_meaning}
 use Rattle.sctp_send.specs.WindowKept.{WindowKept}
 use Rattle.sctp_send.specs.inner.Wishing.{first_place, is_item_unsent}
@@ -46,8 +46,8 @@ returns-then-is_first_sending-clause-first c =
     let long = ap (λ (w : WindowKept). length w.items) (h.same ∙ sym c.self.view_is) in
     let lt : c.loop-at.at < length s.entries.items = omega (arith, long, c.loop-at-test.true, c.len-at-end.ensures, c.self.inside.entries.ok.0) in
     rw (← h.same)
-        (passed_place is_item_unsent s.size s.entries.items c.loop-at.at c.index.result.now (first_place is_item_unsent items) lt c.index.ensures (sym (c.is_first_sending.ensures s.size) ∙ c.if-is_first_sending.true)
-            (skipped_place is_item_unsent items c.loop-at.at h.none))
+    (passed_place is_item_unsent s.size s.entries.items c.loop-at.at c.index.result.now (first_place is_item_unsent items) lt c.index.ensures (sym (c.is_first_sending.ensures s.size) ∙ c.if-is_first_sending.true)
+    (skipped_place is_item_unsent items c.loop-at.at h.none))
 
 pub invariant_of-self-2 : goal.invariant_of-self-2
 invariant_of-self-2 c =
