@@ -1,5 +1,5 @@
 -- What is counted of the entries above CUM, as one comes, goes or changes.
-use Rattle.std.proofs.Common.{◌≡◌, ℕ, zero, suc, ◌+◌, ◌-◌, ◌%◌, ◌^◌, ◌<◌, ◌≤◌, min, List, [], ◌∷◌, ◌++◌, length, map, take, get_or, set, Bool, true, false, Option, None, refl, sym, ap, ◌∙◌, subst, arith, length-append}
+use Rattle.std.proofs.Common.{◌≡◌, ℕ, suc, ◌+◌, ◌-◌, ◌%◌, ◌^◌, ◌<◌, ◌≤◌, min, List, [], ◌∷◌, ◌++◌, length, map, take, get_or, set, Option, None, sym, ap, ◌∙◌, subst, arith, length-append}
 use Rattle.std.specs.List.{sum_by}
 use Rattle.std.proofs.lemmas.List.{length-map, length-set, map-append, map-set}
 use Rattle.std.proofs.lemmas.List.Sums.{sum_by-cons, sum_by_push, sum_by-set}
@@ -8,14 +8,13 @@ use Rattle.sctp_send.specs.SenderKept.{Item}
 use Rattle.sctp_send.specs.OutstandingFields.{item_meaning}
 use Rattle.sctp_send.specs.inner.Wishing.{first_place, is_item_marked, is_item_unsent, item_weight, item_flight}
 use Rattle.sctp_send.specs.inner.Walks.{is_item_unsettled}
-use Rattle.sctp_send.specs.inner.Newcomers.{one_if}
 use Rattle.sctp_send.specs.inner.Expiring.{item_message}
 use Rattle.sctp_send.specs.inner.Counting.{count_unsettled, entered, left, lowered, AreWorth, IsCounted}
 use Rattle.sctp_send.specs.declared.counts.Counts.{Counts}
 use Rattle.sctp_send.specs.declared.outstanding.Outstanding.{Outstanding}
 use Rattle.sctp_send.proofs.ItemLemmas.{item_read}
 use Rattle.sctp_send.proofs.WeightLemmas.{weight_small, one_small, flight_sum, unsettled_one, unsettled_sum}
-use Rattle.sctp_send.proofs.OffLemmas.{lower_within, none_pushed, none_behind_first, none_cut, none_set}
+use Rattle.sctp_send.proofs.CursorLemmas.{lower_within, none_pushed, none_behind_first, none_cut, none_set}
 use Rattle.sctp_send.proofs.WorthLemmas.{messages_by, worth_push, worth_set}
 
 -- ---- sums modulo 2^64

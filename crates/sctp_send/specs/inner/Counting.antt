@@ -1,16 +1,16 @@
 -- What is counted of entries, of messages that wait, and of streams.
-use Rattle.std.specs.Prelude.{◌≡◌, ℕ, ◌+◌, ◌-◌, ◌%◌, ◌^◌, ◌<◌, ◌≤◌, min, Bool, if◌then◌else◌, List, [], ◌∷◌, map, take, length, Option, None, Some, unwrap_or}
+use Rattle.std.specs.Prelude.{◌≡◌, ℕ, ◌+◌, ◌-◌, ◌%◌, ◌^◌, ◌<◌, ◌≤◌, min, if◌then◌else◌, List, [], ◌∷◌, map, take, length, Option, None, Some, unwrap_or}
 use Rattle.std.specs.declared.rc.Rc.{Rc}
 use Rattle.std.specs.declared.alloc.Global.{Global}
 use Rattle.sctp_model.specs.Plan.{Message}
 use Rattle.sctp_model.specs.sender.Queueing.{owed_by_queue}
-use Rattle.sctp_send.specs.SenderKept.{Item, Track}
+use Rattle.sctp_send.specs.SenderKept.{Item}
 use Rattle.sctp_send.specs.OutstandingFields.{item_meaning}
 use Rattle.sctp_send.specs.SenderFields.{queued_by, track_meaning}
 use Rattle.sctp_send.specs.inner.Wishing.{first_place, is_item_marked, is_item_unsent, item_weight, item_flight}
 use Rattle.sctp_send.specs.inner.Walks.{total, one_if_rest, rest_owes, is_item_unsettled}
 use Rattle.sctp_send.specs.inner.Newcomers.{one_if}
-use Rattle.sctp_send.specs.inner.Expiring.{item_message, rest_message, queue_messages, item_messages, rest_messages}
+use Rattle.sctp_send.specs.inner.Expiring.{item_message, queue_messages, item_messages, rest_messages}
 use Rattle.sctp_send.specs.declared.counts.Counts.{Counts}
 use Rattle.sctp_send.specs.declared.message.Message.{Message as MessageFields}
 use Rattle.sctp_send.specs.declared.outstanding.Outstanding.{Outstanding}

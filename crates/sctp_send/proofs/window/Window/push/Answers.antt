@@ -1,4 +1,4 @@
-use Rattle.std.proofs.Common.{◌≡◌, List, [], ◌∷◌, ◌++◌, length, true, is_ok, refl, ◌∙◌}
+use Rattle.std.proofs.Common.{◌≡◌, [], ◌∷◌, ◌++◌, length, true, is_ok, refl, ◌∙◌}
 use Rattle.sctp_send.proofs.CountLemmas.{counts_pushed}
 use Rattle.sctp_send.proofs.window.Window.push.Goals as goal
 

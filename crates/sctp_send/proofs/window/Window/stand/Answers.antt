@@ -10,7 +10,7 @@ invariant_of-self c =
     let s = c.self.inside in
     let lt = subst (λ (w : WindowKept). c.args.at < length w.items) (sym c.self.view_is) c.requires in
     rw (c.lower.ensures s.size, c.enter.ensures, c.leave.ensures)
-        (counts_set s.size s.entries.items c.args.at c.index_mut-entry.result.now (stood c.args.standing c.args.covered c.args.given_up c.index_mut-entry.result.now) s.counts lt c.index_mut-entry.ensures.value c.self.invariant)
+    (counts_set s.size s.entries.items c.args.at c.index_mut-entry.result.now (stood c.args.standing c.args.covered c.args.given_up c.index_mut-entry.result.now) s.counts lt c.index_mut-entry.ensures.value c.self.invariant)
 
 pub returns : goal.returns
 returns c =
