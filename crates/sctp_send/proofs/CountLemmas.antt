@@ -14,7 +14,7 @@ use Rattle.sctp_send.specs.declared.counts.Counts.{Counts}
 use Rattle.sctp_send.specs.declared.outstanding.Outstanding.{Outstanding}
 use Rattle.sctp_send.proofs.ItemLemmas.{item_read}
 use Rattle.sctp_send.proofs.WeightLemmas.{weight_small, one_small, flight_sum, unsettled_one, unsettled_sum}
-use Rattle.sctp_send.proofs.OffLemmas.{lower_within, none_pushed, none_behind_first, none_cut, none_set}
+use Rattle.sctp_send.proofs.CursorLemmas.{lower_within, none_pushed, none_behind_first, none_cut, none_set}
 use Rattle.sctp_send.proofs.WorthLemmas.{messages_by, worth_push, worth_set}
 
 -- ---- sums modulo 2^64

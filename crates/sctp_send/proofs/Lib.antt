@@ -29,8 +29,7 @@ pub mod OwedLemmas
 pub mod ShownLemmas
 pub mod ExpireKept
 pub mod GoingOnLemmas
-pub mod PlaceLemmas
-pub mod OffLemmas
+pub mod CursorLemmas
 pub mod WeightLemmas
 pub mod CountLemmas
 pub mod TurnLemmas

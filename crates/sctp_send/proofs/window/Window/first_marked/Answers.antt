@@ -1,29 +1,25 @@
-use Rattle.std.proofs.Common.{◌<◌, ◌≤◌, length, map, ap, sym, ◌∙◌, arith}
+use Rattle.std.proofs.Common.{◌≡◌, ◌<◌, ◌≤◌, length, map, sym, ◌∙◌, arith}
 use Rattle.sctp_send.specs.OutstandingFields.{item_meaning}
-use Rattle.sctp_send.specs.WindowKept.{WindowKept}
-use Rattle.sctp_send.specs.inner.Wishing.{first_place, is_item_marked}
-use Rattle.sctp_send.proofs.OffLemmas.{none_less, none_more}
+use Rattle.sctp_send.specs.inner.Wishing.{is_item_marked}
+use Rattle.sctp_send.proofs.CursorLemmas.{none_less, none_more, first_found, none_found}
 use Rattle.sctp_send.proofs.CountLemmas.{counts_marked}
-use Rattle.sctp_send.proofs.PlaceLemmas.{skipped_place, passed_place, ended_place}
 use Rattle.sctp_send.proofs.window.Window.first_marked.Goals as goal
 
 pub loop-at-init : goal.loop-at-init
-loop-at-init c = record { counted = c.self.invariant; same = c.self.view_is; none = c.self.invariant.marked }
+loop-at-init c = record { counted = c.self.invariant; same = c.self.view_is; end = c.len-at-end.ensures ∙ c.self.inside.entries.ok.0; none = c.self.invariant.marked }
 
 pub index-requires : goal.index-requires
-index-requires c =
-    let long = ap (λ (w : WindowKept). length w.items) (c.loop-at.invariant.same ∙ sym c.self.view_is) in
-    omega (arith, long, c.loop-at-test.true, c.len-at-end.ensures, c.loop-at.self-inside.entries.ok.0, c.self.inside.entries.ok.0)
+index-requires c = omega (arith, c.loop-at.invariant.end, c.loop-at-test.true, c.loop-at.self-inside.entries.ok.0)
 
 pub loop-at-preserved : goal.loop-at-preserved
 loop-at-preserved c =
     let h = c.loop-at.invariant in
     let s = c.loop-at.self-inside in
-    let long = ap (λ (w : WindowKept). length w.items) (h.same ∙ sym c.self.view_is) in
-    let lt : c.loop-at.at < length s.entries.items = omega (arith, long, c.loop-at-test.true, c.len-at-end.ensures, c.self.inside.entries.ok.0) in
+    let lt : c.loop-at.at < length s.entries.items = omega (arith, h.end, c.loop-at-test.true) in
     record {
       counted = h.counted;
       same = h.same;
+      end = h.end;
       none = none_more is_item_marked s.size s.entries.items c.loop-at.at c.index.result.now lt c.index.ensures (sym (c.is_repeat.ensures s.size) ∙ c.if-is_repeat.false) h.none;
     }
 
@@ -31,8 +27,7 @@ pub invariant_of-self : goal.invariant_of-self
 invariant_of-self c =
     let h = c.loop-at.invariant in
     let s = c.loop-at.self-inside in
-    let long = ap (λ (w : WindowKept). length w.items) (h.same ∙ sym c.self.view_is) in
-    let le : c.loop-at.at ≤ length s.entries.items = omega (arith, long, c.loop-at-test.true, c.len-at-end.ensures, c.self.inside.entries.ok.0) in
+    let le : c.loop-at.at ≤ length s.entries.items = omega (arith, h.end, c.loop-at-test.true) in
     counts_marked s.size s.entries.items s.counts c.loop-at.at le h.none h.counted
 
 pub returns-then-is_repeat-clause-same : goal.returns-then-is_repeat-clause-same
@@ -42,22 +37,16 @@ pub returns-then-is_repeat-clause-first : goal.returns-then-is_repeat-clause-fir
 returns-then-is_repeat-clause-first c =
     let h = c.loop-at.invariant in
     let s = c.loop-at.self-inside in
-    let items = map (item_meaning s.size) s.entries.items in
-    let long = ap (λ (w : WindowKept). length w.items) (h.same ∙ sym c.self.view_is) in
-    let lt : c.loop-at.at < length s.entries.items = omega (arith, long, c.loop-at-test.true, c.len-at-end.ensures, c.self.inside.entries.ok.0) in
-    rw (← h.same)
-    (passed_place is_item_marked s.size s.entries.items c.loop-at.at c.index.result.now (first_place is_item_marked items) lt c.index.ensures (sym (c.is_repeat.ensures s.size) ∙ c.if-is_repeat.true)
-    (skipped_place is_item_marked items c.loop-at.at h.none))
+    let lt : c.loop-at.at < length s.entries.items = omega (arith, h.end, c.loop-at-test.true) in
+    rw (← h.same) (first_found is_item_marked s.size s.entries.items c.loop-at.at c.index.result.now lt c.index.ensures (sym (c.is_repeat.ensures s.size) ∙ c.if-is_repeat.true) h.none)
 
 pub invariant_of-self-2 : goal.invariant_of-self-2
 invariant_of-self-2 c =
     let h = c.loop-at.invariant in
     let s = c.loop-at.self-inside in
-    let items = map (item_meaning s.size) s.entries.items in
-    let long = ap (λ (w : WindowKept). length w.items) (h.same ∙ sym c.self.view_is) in
-    let within : c.len-self-inside.result ≤ length s.entries.items = omega (arith, c.len-self-inside.ensures, s.entries.ok.0) in
-    let less : c.len-self-inside.result ≤ c.loop-at.at = omega (arith, long, c.len-self-inside.ensures, s.entries.ok.0, c.loop-at-test.false, c.len-at-end.ensures, c.self.inside.entries.ok.0) in
-    counts_marked s.size s.entries.items s.counts c.len-self-inside.result within (none_less is_item_marked items c.len-self-inside.result c.loop-at.at less h.none) h.counted
+    let long : c.len-self-inside.result ≡ length s.entries.items = c.len-self-inside.ensures ∙ s.entries.ok.0 in
+    let less : c.len-self-inside.result ≤ c.loop-at.at = omega (arith, long, h.end, c.loop-at-test.false) in
+    counts_marked s.size s.entries.items s.counts c.len-self-inside.result (omega (arith, long)) (none_less is_item_marked (map (item_meaning s.size) s.entries.items) c.len-self-inside.result c.loop-at.at less h.none) h.counted
 
 pub returns-clause-same : goal.returns-clause-same
 returns-clause-same c = c.loop-at.invariant.same
@@ -66,7 +55,5 @@ pub returns-clause-first : goal.returns-clause-first
 returns-clause-first c =
     let h = c.loop-at.invariant in
     let s = c.loop-at.self-inside in
-    let items = map (item_meaning s.size) s.entries.items in
-    let long = ap (λ (w : WindowKept). length w.items) (h.same ∙ sym c.self.view_is) in
-    let le : length s.entries.items ≤ c.loop-at.at = omega (arith, long, c.loop-at-test.false, c.len-at-end.ensures, c.self.inside.entries.ok.0) in
-    rw (← h.same) (ended_place is_item_marked s.size s.entries.items c.loop-at.at (first_place is_item_marked items) le (skipped_place is_item_marked items c.loop-at.at h.none))
+    let le : length s.entries.items ≤ c.loop-at.at = omega (arith, h.end, c.loop-at-test.false) in
+    rw (← h.same) (none_found is_item_marked s.size s.entries.items c.loop-at.at le h.none)

@@ -1,4 +1,4 @@
-use Rattle.std.proofs.Common.{◌≡◌, None, map, take}
+use Rattle.std.proofs.Common.{◌≡◌, None, length, map, take}
 use Rattle.std.specs.VecDeque.{deque_capacity}
 use Rattle.sctp_send.specs.OutstandingFields.{item_meaning}
 use Rattle.sctp_send.specs.WindowKept.{WindowKept}
@@ -12,5 +12,6 @@ invariant-loop-at l =
     record {
       counted : IsCounted s.size s.entries.items s.counts;
       same : ◌≡◌ {A = WindowKept} (record { size = s.size; items = s.entries.items; capacity = deque_capacity s.entries }) l.fn.self;
+      end : l.at-end ≡ length s.entries.items;
       none : first_place is_item_marked (take l.at (map (item_meaning s.size) s.entries.items)) ≡ None;
     }

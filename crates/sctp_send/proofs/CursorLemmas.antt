@@ -1,7 +1,7 @@
--- Items of which none passes a test: the first ones of a list, as it changes; and a search that finds none.
-use Rattle.std.proofs.Common.{◌≡◌, ℕ, zero, suc, ◌+◌, ◌-◌, ◌<◌, ◌≤◌, min, List, [], ◌∷◌, ◌++◌, length, map, take, get_or, set, Bool, true, false, Option, Some, None, refl, ap, ◌∙◌, subst, arith}
+-- Nothing before a cursor passes a test: as items come, go or change, and as a search goes on from there.
+use Rattle.std.proofs.Common.{◌≡◌, ℕ, zero, suc, ◌+◌, ◌-◌, ◌<◌, ◌≤◌, min, List, [], ◌∷◌, ◌++◌, length, map, take, get_or, set, Bool, true, false, Option, Some, None, refl, sym, ap, ◌∙◌, subst, arith}
 use Rattle.std.specs.Prelude.{option_map, if◌then◌else◌}
-use Rattle.std.proofs.lemmas.List.{length-map, take_more, take-set-le}
+use Rattle.std.proofs.lemmas.List.{length-map, take_all, take_more, take-set-le}
 use Rattle.sctp_send.specs.SenderKept.{Item}
 use Rattle.sctp_send.specs.OutstandingFields.{item_meaning}
 use Rattle.sctp_send.specs.inner.Wishing.{first_place}
@@ -101,6 +101,8 @@ none_set test xs n k x none = by_test (test x) refl
     by_test true on = ap (first_place test) (take-set-le (min k n) xs n x (omega arith)) ∙ none_less test xs (min k n) k (omega arith) none
     by_test false off = of_off test (take k (set xs n x)) (off_set test xs n k x off (off_of test (take k xs) none))
 
+-- ---- a search that begins at a cursor
+
 -- one entry more that doesn't pass
 pub none_more : (test : Item → Bool) (size : ℕ) (es : List Outstanding) (at : ℕ) (x : Outstanding) → at < length es → x ≡ get_or es at x → test (item_meaning size x) ≡ false
     → first_place test (take at (map (item_meaning size) es)) ≡ None → first_place test (take (at + 1) (map (item_meaning size) es)) ≡ None
@@ -110,3 +112,23 @@ none_more test size es at x lt read off none =
     let within : at < length items = omega (arith, length-map es (item_meaning size)) in
     let more : take (at + 1) items ≡ take at items ++ y ∷ [] = take_more items at y within ∙ ap (λ (z : Item). take at items ++ z ∷ []) (item_read size es at x read) in
     ap (first_place test) more ∙ of_off test (take at items ++ y ∷ []) (off_both test (take at items) (y ∷ []) (off_of test (take at items) none) (off, tt))
+
+found_at : (test : Item → Bool) (xs : List Item) (n : ℕ) (x : Item) → n < length xs → x ≡ get_or xs n x → test x ≡ true → AreOff test (take n xs) → Some n ≡ first_place test xs
+found_at test [] n x lt read on off = absurd (omega arith)
+found_at test (y ∷ xs) zero x lt read on off = let here : test y ≡ true = ap test (sym read) ∙ on in rw here refl
+found_at test (y ∷ xs) (suc n) x lt read on off = rw off.0 (ap (option_map suc) (found_at test xs n x (omega arith) read on off.1))
+
+-- an entry that passes is the first one
+pub first_found : (test : Item → Bool) (size : ℕ) (es : List Outstanding) (at : ℕ) (x : Outstanding) → at < length es → x ≡ get_or es at x → test (item_meaning size x) ≡ true
+    → first_place test (take at (map (item_meaning size) es)) ≡ None → Some at ≡ first_place test (map (item_meaning size) es)
+first_found test size es at x lt read on none =
+    let items = map (item_meaning size) es in
+    let within : at < length items = omega (arith, length-map es (item_meaning size)) in
+    found_at test items at (item_meaning size x) within (sym (item_read size es at x read)) on (off_of test (take at items) none)
+
+-- at the end there is none
+pub none_found : (test : Item → Bool) (size : ℕ) (es : List Outstanding) (at : ℕ) → length es ≤ at → first_place test (take at (map (item_meaning size) es)) ≡ None → None ≡ first_place test (map (item_meaning size) es)
+none_found test size es at le none =
+    let items = map (item_meaning size) es in
+    let all : take at items ≡ items = take_all at items (omega (arith, length-map es (item_meaning size))) in
+    sym none ∙ ap (first_place test) all
