@@ -1,86 +1,14 @@
--- Entries told between runs: from edge to edge.
-use Rattle.std.proofs.Common.{◌≡◌, ℕ, zero, suc, ◌+◌, ◌<◌, ◌≤◌, List, [], ◌∷◌, length, drop, get_or, min, Bool, true, false, refl, sym, ap, ◌∙◌, arith}
+-- Entries told between runs in order: run by run.
+use Rattle.std.proofs.Common.{◌≡◌, ℕ, zero, suc, ◌+◌, ◌<◌, ◌≤◌, List, [], ◌∷◌, length, drop, get_or, min, max, Bool, true, false, refl, sym, ap, ◌∙◌, arith}
 use Rattle.std.specs.Prelude.{nat_lt, nat_le, not, ◌&&◌, ◌||◌}
 use Rattle.std.proofs.lemmas.Bool.Decides.{nat_tests}
-use Rattle.sctp_send.specs.CoveredRuns.{in_run, in_runs}
+use Rattle.sctp_send.specs.CoveredRuns.{in_run, in_runs, AreInOrder, HasPassed}
 use Rattle.sctp_send.specs.inner.Changes.{told_where, is_between, in_gaps}
 use Rattle.sctp_send.specs.declared.outstanding.Run.{Run}
 use Rattle.sctp_send.specs.declared.outstanding.Outstanding.{Outstanding}
 use Rattle.sctp_send.proofs.TellLemmas.{where_same, where_none, where_joined, between_on, between_low, between_high}
 
--- ---- between runs
-
--- the end of a run was reached
-gap_skip : (rs : List Run) (from at end to i : ℕ) → at < end → ((j : ℕ) → at < j → j ≤ end → in_runs rs j ≡ true) → in_gaps rs from (min at to) i ≡ in_gaps rs from (min end to) i
-gap_skip rs from at end to i lt on = by_at (nat_le i at) refl
-  where
-    and_off : (b : Bool) → (b && not true) ≡ false
-    and_off true = refl
-    and_off false = refl
-
-    by_end : (b : Bool) → nat_le i end ≡ b → at < i → in_gaps rs from (min at to) i ≡ in_gaps rs from (min end to) i
-    by_end true le past =
-        let held = on i past (grind (arith, nat_tests)) in
-        ap (λ (b : Bool). is_between from (min at to) i && not b) held ∙ and_off (is_between from (min at to) i) ∙ sym (ap (λ (b : Bool). is_between from (min end to) i && not b) held ∙ and_off (is_between from (min end to) i))
-    by_end false gt past =
-        let high : end < i = grind (arith, nat_tests) in
-        ap (λ (b : Bool). b && not (in_runs rs i)) (between_high from (min at to) i (omega arith) ∙ sym (between_high from (min end to) i (omega arith)))
-
-    by_to : (c : Bool) → nat_le i to ≡ c → i ≤ at → nat_le i (min at to) ≡ nat_le i (min end to)
-    by_to true up low = let one : nat_le i (min at to) ≡ true = grind (arith, nat_tests) in let two : nat_le i (min end to) ≡ true = grind (arith, nat_tests) in one ∙ sym two
-    by_to false out low = let one : nat_le i (min at to) ≡ false = grind (arith, nat_tests) in let two : nat_le i (min end to) ≡ false = grind (arith, nat_tests) in one ∙ sym two
-
-    by_at : (b : Bool) → nat_le i at ≡ b → in_gaps rs from (min at to) i ≡ in_gaps rs from (min end to) i
-    by_at true le = ap (λ (b : Bool). (nat_lt from i && b) && not (in_runs rs i)) (by_to (nat_le i to) refl (grind (arith, nat_tests)))
-    by_at false gt = by_end (nat_le i end) refl (grind (arith, nat_tests))
-
--- a gap was told
-gap_told : (rs : List Run) (from at next to i : ℕ) → from ≤ at → at < next → next ≤ to → ((j : ℕ) → at < j → j ≤ next → in_runs rs j ≡ false) → (in_gaps rs from (min at to) i || is_between at next i) ≡ in_gaps rs from (min next to) i
-gap_told rs from at next to i le lt within none = by_at (nat_le i at) refl
-  where
-    or_false : (b : Bool) → (b || false) ≡ b
-    or_false true = refl
-    or_false false = refl
-
-    by_at : (b : Bool) → nat_le i at ≡ b → (in_gaps rs from (min at to) i || is_between at next i) ≡ in_gaps rs from (min next to) i
-    by_at true up =
-        let low : i ≤ at = grind (arith, nat_tests) in
-        let one : nat_le i (min at to) ≡ true = grind (arith, nat_tests) in
-        let two : nat_le i (min next to) ≡ true = grind (arith, nat_tests) in
-        ap (λ (b : Bool). in_gaps rs from (min at to) i || b) (between_low at next i low) ∙ or_false (in_gaps rs from (min at to) i) ∙ ap (λ (b : Bool). (nat_lt from i && b) && not (in_runs rs i)) (one ∙ sym two)
-    by_at false out = by_next (nat_le i next) refl (grind (arith, nat_tests))
-      where
-        by_next : (b : Bool) → nat_le i next ≡ b → at < i → (in_gaps rs from (min at to) i || is_between at next i) ≡ in_gaps rs from (min next to) i
-        by_next true up past =
-            let free = none i past (grind (arith, nat_tests)) in
-            let here = between_on at next i past (grind (arith, nat_tests)) in
-            let there = between_on from (min next to) i (omega arith) (grind (arith, nat_tests)) in
-            ap (λ (b : Bool). (b && not (in_runs rs i)) || is_between at next i) (between_high from (min at to) i (omega arith)) ∙ here ∙ sym (ap (λ (b : Bool). b && not (in_runs rs i)) there ∙ ap not free)
-        by_next false over past =
-            let high : next < i = grind (arith, nat_tests) in
-            ap (λ (b : Bool). (b && not (in_runs rs i)) || is_between at next i) (between_high from (min at to) i (omega arith)) ∙ between_high at next i high ∙ sym (ap (λ (b : Bool). b && not (in_runs rs i)) (between_high from (min next to) i (omega arith)))
-
-pub gaps_start : (b : Bool) (rs : List Run) (from to : ℕ) (es : List Outstanding) → es ≡ told_where b (in_gaps rs from (min from to)) 1 es
-gaps_start b rs from to es = sym (where_none b (in_gaps rs from (min from to)) 1 es (λ j lo. ap (λ (c : Bool). c && not (in_runs rs j)) (by_test j (nat_le j from) refl)))
-  where
-    by_test : (j : ℕ) (c : Bool) → nat_le j from ≡ c → is_between from (min from to) j ≡ false
-    by_test j true le = between_low from (min from to) j (grind (arith, nat_tests))
-    by_test j false gt = let past : from < j = grind (arith, nat_tests) in between_high from (min from to) j (omega arith)
-
-pub gaps_skip : (b : Bool) (rs : List Run) (from at end to : ℕ) (es now : List Outstanding) → at < end → ((j : ℕ) → at < j → j ≤ end → in_runs rs j ≡ true) → now ≡ told_where b (in_gaps rs from (min at to)) 1 es
-    → now ≡ told_where b (in_gaps rs from (min end to)) 1 es
-gaps_skip b rs from at end to es now lt on is = is ∙ where_same b (in_gaps rs from (min at to)) (in_gaps rs from (min end to)) 1 es (λ j lo hi. gap_skip rs from at end to j lt on)
-
-pub gaps_told : (b : Bool) (rs : List Run) (from at next to : ℕ) (es now later : List Outstanding) → from ≤ at → at < next → next ≤ to → ((j : ℕ) → at < j → j ≤ next → in_runs rs j ≡ false) → now ≡ told_where b (in_gaps rs from (min at to)) 1 es
-    → later ≡ told_where b (is_between at next) 1 now → later ≡ told_where b (in_gaps rs from (min next to)) 1 es
-gaps_told b rs from at next to es now later le lt within none is last_is =
-    last_is ∙ ap (told_where b (is_between at next) 1) is ∙ where_joined b (in_gaps rs from (min at to)) (is_between at next) 1 es
-    ∙ where_same b (λ j. in_gaps rs from (min at to) j || is_between at next j) (in_gaps rs from (min next to)) 1 es (λ j lo hi. gap_told rs from at next to j le lt within none)
-
-pub gaps_end : (b : Bool) (rs : List Run) (from at to : ℕ) (es now : List Outstanding) → to ≤ at → now ≡ told_where b (in_gaps rs from (min at to)) 1 es → now ≡ told_where b (in_gaps rs from to) 1 es
-gaps_end b rs from at to es now le is = let same : min at to ≡ to = omega arith in is ∙ ap (λ (n : ℕ). told_where b (in_gaps rs from n) 1 es) same
-
--- ---- the edges of runs
+-- ---- one run, and those behind it
 
 -- one that holds it is one of them
 pub run_holds : (rs : List Run) (k : ℕ) (r d : Run) (i : ℕ) → k < length rs → r ≡ get_or rs k d → in_run r i ≡ true → in_runs rs i ≡ true
@@ -107,42 +35,139 @@ none_left [] (suc k) i le = refl
 none_left (r ∷ rs) zero i le = absurd (omega arith)
 none_left (r ∷ rs) (suc k) i le = none_left rs k i (omega arith)
 
--- where no run holds the next entry, and none begins before an offset, none holds any up to it
-pub none_between : (rs : List Run) (at next : ℕ) → in_runs rs (suc at) ≡ false → ((j : ℕ) (d : Run) → j < length rs → at < (get_or rs j d).from → next ≤ (get_or rs j d).from) → (i : ℕ) → at < i → i ≤ next → in_runs rs i ≡ false
-none_between [] at next free later i lo hi = refl
-none_between (r ∷ rs) at next free later i lo hi =
-    let parts = off_parts (in_run r (suc at)) (in_runs rs (suc at)) free in
-    let rest = none_between rs at next parts.1 (λ j d lt. later (suc j) d (omega arith)) i lo hi in
-    ap (λ (b : Bool). b || in_runs rs i) (by_from (nat_le r.from at) refl parts.0 (later 0 r (omega arith))) ∙ rest
+-- ---- runs in order
+
+-- below where they may begin they hold nothing
+none_below : (n : ℕ) (rs : List Run) (i : ℕ) → AreInOrder n rs → i ≤ n → in_runs rs i ≡ false
+none_below n [] i order low = refl
+none_below n (r ∷ rs) i order low =
+    let off : in_run r i ≡ false = between_low r.from r.to i (omega (arith, order.0, low)) in
+    ap (λ (b : Bool). b || in_runs rs i) off ∙ none_below r.to rs i order.2 (omega (arith, order.0, order.1, low))
+
+-- one of them and those behind it hold nothing below where it begins
+none_before : (rs : List Run) (n k : ℕ) (r d : Run) (i : ℕ) → AreInOrder n rs → k < length rs → r ≡ get_or rs k d → i ≤ r.from → in_runs (drop k rs) i ≡ false
+none_before [] n k r d i order lt read low = absurd (omega arith)
+none_before (x ∷ rs) n zero r d i order lt read low =
+    let same : r.from ≡ x.from = ap (λ (y : Run). y.from) read in
+    let off : in_run x i ≡ false = between_low x.from x.to i (omega (arith, same, low)) in
+    ap (λ (b : Bool). b || in_runs rs i) off ∙ none_below x.to rs i order.2 (omega (arith, order.1, same, low))
+none_before (x ∷ rs) n (suc k) r d i order lt read low = none_before rs x.to k r d i order.2 (omega arith) read low
+
+-- none ends before it begins
+pub ends_behind : (rs : List Run) (n k : ℕ) (r d : Run) → AreInOrder n rs → k < length rs → r ≡ get_or rs k d → r.from ≤ r.to
+ends_behind [] n k r d order lt read = absurd (omega arith)
+ends_behind (x ∷ rs) n zero r d order lt read = rw read order.1
+ends_behind (x ∷ rs) n (suc k) r d order lt read = ends_behind rs x.to k r d order.2 (omega arith) read
+
+-- nor behind where the next one begins
+pub next_begins : (rs : List Run) (n k : ℕ) (r d e : Run) → AreInOrder n rs → k + 1 < length rs → r ≡ get_or rs k d → r.to ≤ (get_or rs (k + 1) e).from
+next_begins rs n k r d e order lt read = let one : k + 1 ≡ suc k = omega arith in rw one (step rs n k order (omega arith) read)
   where
-    off_parts : (x y : Bool) → (x || y) ≡ false → (x ≡ false) × (y ≡ false)
-    off_parts true y off = absurd (cc)
-    off_parts false y off = (refl, off)
+    step : (xs : List Run) (m j : ℕ) → AreInOrder m xs → suc j < length xs → r ≡ get_or xs j d → r.to ≤ (get_or xs (suc j) e).from
+    step [] m j sorted low is = absurd (omega arith)
+    step (x ∷ []) m j sorted low is = absurd (omega arith)
+    step (x ∷ y ∷ xs) m zero sorted low is = let same : r.to ≡ x.to = ap (λ (z : Run). z.to) is in omega (arith, same, sorted.2.0)
+    step (x ∷ y ∷ xs) m (suc j) sorted low is = step (y ∷ xs) x.to j sorted.2 (omega arith) is
 
-    by_to : (b : Bool) → nat_le (suc at) r.to ≡ b → r.from ≤ at → in_run r (suc at) ≡ false → in_run r i ≡ false
-    by_to true up low off = absurd (let on = between_on r.from r.to (suc at) (omega arith) (grind (arith, nat_tests)) in cc)
-    by_to false out low off = let short : r.to < suc at = grind (arith, nat_tests) in between_high r.from r.to i (omega arith)
+-- ---- runs that are passed
 
-    by_from : (b : Bool) → nat_le r.from at ≡ b → in_run r (suc at) ≡ false → (at < r.from → next ≤ r.from) → in_run r i ≡ false
-    by_from true up off begins = by_to (nat_le (suc at) r.to) refl (grind (arith, nat_tests)) off
-    by_from false out off begins = let past : at < r.from = grind (arith, nat_tests) in let far = begins past in between_low r.from r.to i (omega arith)
+pub passed_on : (rs : List Run) (k at later : ℕ) → at ≤ later → HasPassed rs k at → HasPassed rs k later
+passed_on rs k at later le before = λ i past. before i (omega (arith, past))
 
--- what is read doesn't depend on what would be read where nothing is
-pub any_default : (rs : List Run) (k : ℕ) (d x : Run) → k < length rs → get_or rs k d ≡ get_or rs k x
-any_default [] k d x low = absurd (omega arith)
-any_default (r ∷ rs) zero d x low = refl
-any_default (r ∷ rs) (suc k) d x low = any_default rs k d x (omega arith)
+-- one more
+pub passed_more : (rs : List Run) (k : ℕ) (r d : Run) (at later : ℕ) → k < length rs → r ≡ get_or rs k d → at ≤ later → r.to ≤ later → HasPassed rs k at → HasPassed rs (k + 1) later
+passed_more rs k r d at later lt read le ends before = λ i past. none_more rs k r d i lt read (between_high r.from r.to i (omega (arith, past))) (before i (omega (arith, past)))
 
--- of one run more it is known that it doesn't begin between
-pub none_begins : (rs : List Run) (k at next later : ℕ) (D : Run) → k < length rs → later ≤ next → (at < (get_or rs k D).from → later ≤ (get_or rs k D).from) → ((j : ℕ) (d : Run) → j < k → at < (get_or rs j d).from → next ≤ (get_or rs j d).from)
-    → (j : ℕ) (d : Run) → j < k + 1 → at < (get_or rs j d).from → later ≤ (get_or rs j d).from
-none_begins rs k at next later D low le here before j d lt past = by_last (nat_lt j k) refl
+-- all of them
+pub passed_all : (rs : List Run) (k at later : ℕ) → length rs ≤ k → at ≤ later → HasPassed rs k at → HasPassed rs (length rs) later
+passed_all rs k at later all le before = λ i past. before i (omega (arith, past)) ∙ none_left rs k i all ∙ sym (none_left rs (length rs) i (omega arith))
+
+-- ---- between runs
+
+-- Entries behind `at` were told up to x, where none is held, and those behind x are held up to `end`: so all is told as far as the end.
+gap_more : (rs : List Run) (from at x end to most later i : ℕ) → from ≤ at → x ≤ end → most ≡ min x to → later ≡ max at end → (at < i → i ≤ x → in_runs rs i ≡ false) → (x < i → i ≤ end → in_runs rs i ≡ true)
+    → (in_gaps rs from (min at to) i || is_between (min at most) most i) ≡ in_gaps rs from (min later to) i
+gap_more rs from at x end to most later i le ends most_is later_is free held = by_at (nat_le i at) refl
   where
-    by_last : (b : Bool) → nat_lt j k ≡ b → later ≤ (get_or rs j d).from
-    by_last true up = let old = before j d (grind (arith, nat_tests)) past in omega (arith, old, le)
-    by_last false out =
-        let same : j ≡ k = let ge : k ≤ j = grind (arith, nat_tests) in omega arith in
-        let read : get_or rs j d ≡ get_or rs k D = ap (λ (n : ℕ). get_or rs n d) same ∙ any_default rs k d D low in
-        let from = ap (λ (r : Run). r.from) read in
-        let far = here (omega (arith, past, from)) in
-        omega (arith, far, from)
+    or_false : (b : Bool) → (b || false) ≡ b
+    or_false true = refl
+    or_false false = refl
+
+    and_off : (b : Bool) → (b && not true) ≡ false
+    and_off true = refl
+    and_off false = refl
+
+    told_none : (b : Bool) → nat_le i most ≡ b → i ≤ at → is_between (min at most) most i ≡ false
+    told_none true up low = let inside : i ≤ most = grind (arith, nat_tests) in between_low (min at most) most i (omega arith)
+    told_none false out low = let past : most < i = grind (arith, nat_tests) in between_high (min at most) most i past
+
+    alike : (b : Bool) → nat_le i to ≡ b → i ≤ at → nat_le i (min at to) ≡ nat_le i (min later to)
+    alike true up low =
+        let inside : i ≤ to = grind (arith, nat_tests) in
+        let first : i ≤ min at to = omega arith in
+        let second : i ≤ min later to = omega arith in
+        let one : nat_le i (min at to) ≡ true = grind (arith, nat_tests) in
+        let two : nat_le i (min later to) ≡ true = grind (arith, nat_tests) in
+        one ∙ sym two
+    alike false out low =
+        let past : to < i = grind (arith, nat_tests) in
+        let first : min at to < i = omega arith in
+        let second : min later to < i = omega arith in
+        let one : nat_le i (min at to) ≡ false = grind (arith, nat_tests) in
+        let two : nat_le i (min later to) ≡ false = grind (arith, nat_tests) in
+        one ∙ sym two
+
+    by_to : (b : Bool) → nat_le i to ≡ b → at < i → i ≤ x → is_between (min at most) most i ≡ in_gaps rs from (min later to) i
+    by_to true up past near =
+        let inside : i ≤ to = grind (arith, nat_tests) in
+        between_on (min at most) most i (omega arith) (omega arith)
+        ∙ sym (ap (λ (b : Bool). b && not (in_runs rs i)) (between_on from (min later to) i (omega arith) (omega arith)) ∙ ap not (free past near))
+    by_to false out past near =
+        let beyond : to < i = grind (arith, nat_tests) in
+        between_high (min at most) most i (omega arith) ∙ sym (ap (λ (b : Bool). b && not (in_runs rs i)) (between_high from (min later to) i (omega arith)))
+
+    by_end : (b : Bool) → nat_le i end ≡ b → at < i → x < i → in_gaps rs from (min later to) i ≡ false
+    by_end true up past far = let inside : i ≤ end = grind (arith, nat_tests) in ap (λ (b : Bool). is_between from (min later to) i && not b) (held far inside) ∙ and_off (is_between from (min later to) i)
+    by_end false out past far = let beyond : end < i = grind (arith, nat_tests) in ap (λ (b : Bool). b && not (in_runs rs i)) (between_high from (min later to) i (omega arith))
+
+    by_gap : (b : Bool) → nat_le i x ≡ b → at < i → is_between (min at most) most i ≡ in_gaps rs from (min later to) i
+    by_gap true up past = by_to (nat_le i to) refl past (grind (arith, nat_tests))
+    by_gap false out past = let far : x < i = grind (arith, nat_tests) in between_high (min at most) most i (omega arith) ∙ sym (by_end (nat_le i end) refl past far)
+
+    by_at : (b : Bool) → nat_le i at ≡ b → (in_gaps rs from (min at to) i || is_between (min at most) most i) ≡ in_gaps rs from (min later to) i
+    by_at true up =
+        let low : i ≤ at = grind (arith, nat_tests) in
+        ap (λ (b : Bool). in_gaps rs from (min at to) i || b) (told_none (nat_le i most) refl low) ∙ or_false (in_gaps rs from (min at to) i) ∙ ap (λ (b : Bool). (nat_lt from i && b) && not (in_runs rs i)) (alike (nat_le i to) refl low)
+    by_at false out =
+        let past : at < i = grind (arith, nat_tests) in
+        ap (λ (b : Bool). (b && not (in_runs rs i)) || is_between (min at most) most i) (between_high from (min at to) i (omega arith)) ∙ by_gap (nat_le i x) refl past
+
+pub gaps_start : (b : Bool) (rs : List Run) (from to : ℕ) (es : List Outstanding) → es ≡ told_where b (in_gaps rs from (min from to)) 1 es
+gaps_start b rs from to es = sym (where_none b (in_gaps rs from (min from to)) 1 es (λ j lo. ap (λ (c : Bool). c && not (in_runs rs j)) (by_test j (nat_le j from) refl)))
+  where
+    by_test : (j : ℕ) (c : Bool) → nat_le j from ≡ c → is_between from (min from to) j ≡ false
+    by_test j true le = between_low from (min from to) j (grind (arith, nat_tests))
+    by_test j false gt = let past : from < j = grind (arith, nat_tests) in between_high from (min from to) j (omega arith)
+
+-- the gap before a run was told, and the run is passed
+pub gaps_more : (b : Bool) (rs : List Run) (k : ℕ) (r d : Run) (from at to most later : ℕ) (es now last : List Outstanding) → AreInOrder 0 rs → k < length rs → r ≡ get_or rs k d → from ≤ at → most ≡ min r.from to → later ≡ max at r.to → HasPassed rs k at
+    → now ≡ told_where b (in_gaps rs from (min at to)) 1 es → last ≡ told_where b (is_between (min at most) most) 1 now → last ≡ told_where b (in_gaps rs from (min later to)) 1 es
+gaps_more b rs k r d from at to most later es now last order lt read le most_is later_is passed is last_is =
+    last_is ∙ ap (told_where b (is_between (min at most) most) 1) is ∙ where_joined b (in_gaps rs from (min at to)) (is_between (min at most) most) 1 es
+    ∙ where_same b (λ j. in_gaps rs from (min at to) j || is_between (min at most) most j) (in_gaps rs from (min later to)) 1 es (λ j lo hi.
+    gap_more rs from at r.from r.to to most later j le (ends_behind rs 0 k r d order lt read) most_is later_is (λ past near. passed j past ∙ none_before rs 0 k r d j order lt read near)
+    (λ far near. run_holds rs k r d j lt read (between_on r.from r.to j far near)))
+
+-- behind all runs the rest was told
+pub gaps_rest : (b : Bool) (rs : List Run) (k from at to most : ℕ) (es now last : List Outstanding) → length rs ≤ k → from ≤ at → most ≡ min at to → HasPassed rs k at
+    → now ≡ told_where b (in_gaps rs from (min at to)) 1 es → last ≡ told_where b (is_between most to) 1 now → last ≡ told_where b (in_gaps rs from to) 1 es
+gaps_rest b rs k from at to most es now last all le most_is passed is last_is =
+    let end : min (max at to) to ≡ to = omega arith in
+    last_is ∙ ap (λ (n : ℕ). told_where b (is_between n to) 1 now) most_is ∙ ap (told_where b (is_between (min at to) to) 1) is ∙ where_joined b (in_gaps rs from (min at to)) (is_between (min at to) to) 1 es
+    ∙ where_same b (λ j. in_gaps rs from (min at to) j || is_between (min at to) to j) (in_gaps rs from (min (max at to) to)) 1 es (λ j lo hi.
+    gap_more rs from at to to to to (max at to) j le (omega arith) (omega arith) refl (λ past near. passed j past ∙ none_left rs k j all) (λ far near. absurd (omega (arith, far, near))))
+    ∙ ap (λ (n : ℕ). told_where b (in_gaps rs from n) 1 es) end
+
+-- so it was where a run reaches further
+pub gaps_end : (b : Bool) (rs : List Run) (from at to : ℕ) (es now : List Outstanding) → to ≤ at → now ≡ told_where b (in_gaps rs from (min at to)) 1 es → now ≡ told_where b (in_gaps rs from to) 1 es
+gaps_end b rs from at to es now le is = let same : min at to ≡ to = omega arith in is ∙ ap (λ (n : ℕ). told_where b (in_gaps rs from n) 1 es) same

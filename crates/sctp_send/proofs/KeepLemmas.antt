@@ -81,7 +81,7 @@ beyond_covers c i bs some = let past : nat_le (c + i) c ≡ false = grind (arith
 -- the runs of a SACK's blocks are what it covers above its index
 sacked_runs : (o : Option (List Run)) (c : ℕ) (bs : List BlockMeaning) → AreOfBlocks o bs → AreCovered o (sack_covers c bs) c
 sacked_runs None c bs h = tt
-sacked_runs (Some rs) c bs h = λ i some. sym (beyond_covers c i bs some) ∙ sym (h i some)
+sacked_runs (Some rs) c bs h = (h.order, λ i some. sym (beyond_covers c i bs some) ∙ sym (h.same i some))
 
 pub keeps_sacked : (f : Format) (s : Kept) (v : SenderView) (x : SackMeaning) (n : ℕ) (rs : Option (List Run)) → Keeps f s v → IsPassing v x.cumulative n → sack_fault v x ≡ None → AreOfBlocks rs x.blocks
     → Keeps f (record s { cum = (s.cum + n) % 2 ^ 32; rwnd = x.rwnd; items = items_told (in_blocks 0 x.blocks) 1 (drop n s.items); runs = rs }) (sack_after v x)
@@ -207,7 +207,7 @@ keeps_fresh f initial streams fragment rwnd capacity partial some large = record
     queue = refl;
     tracks = sym (table-replicate (record { ordered = 0; unordered = 0; rest = None }) 0 streams);
     fates = refl;
-    covered = λ i some. refl;
+    covered = (tt, λ i some. refl);
     room = let none = sum-zero (λ j. 0) streams (λ j. refl) in omega (arith, none);
   };
   reached = Begins initial streams fragment rwnd partial some large;

@@ -16,7 +16,7 @@ use Rattle.sctp_send.specs.declared.outstanding.Run.{Run}
 use Rattle.sctp_send.specs.declared.outstanding.Standing.{Standing}
 use Rattle.sctp_send.specs.declared.outstanding.Standing.TheVariants.{Unsent, Sent, Marked}
 use Rattle.sctp_send.specs.declared.outstanding.Outstanding.{Outstanding}
-use Rattle.sctp_send.proofs.RunLemmas.{runs_more, all_behind}
+use Rattle.sctp_send.proofs.RunLemmas.{runs_more, order_behind, all_behind}
 use Rattle.sctp_send.proofs.KeepLemmas.{left_items}
 use Rattle.sctp_send.proofs.TellLemmas.{where_same, where_none, where_joined}
 
@@ -132,5 +132,5 @@ exact_kept f s v size n outs es true rs xs k items runs left behind =
     let start : suc (c + 0) ≡ suc c = omega arith in
     let same : map (item_meaning size) (drop n outs) ≡ items_from v (suc c) (drop c v.plan.entries) = map_drop (item_meaning size) n outs ∙ ap (drop n) (sym items) ∙ left_items f s v n k in
     let exact = exact_told size v c (in_runs (runs_behind n rs)) 0 (drop n outs) (drop c v.plan.entries) (rw start same)
-    (λ i some. let place : c + i ≡ v.cum + (n + i) = omega arith in ap v.covered place ∙ known (n + i) (omega arith) ∙ all_behind n i rs some) (is_bounded f v k.reached).apart in
-    rw (left, behind) exact
+    (λ i some. let place : c + i ≡ v.cum + (n + i) = omega arith in ap v.covered place ∙ known.1 (n + i) (omega arith) ∙ all_behind n i rs some) (is_bounded f v k.reached).apart in
+    rw (left, behind) (order_behind n 0 0 rs (omega arith) known.0, exact)

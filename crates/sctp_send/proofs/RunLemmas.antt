@@ -4,8 +4,9 @@ use Rattle.std.specs.Prelude.{nat_lt, nat_le, ◌&&◌, ◌||◌, option_map}
 use Rattle.std.proofs.lemmas.Bool.Decides.{nat_tests}
 use Rattle.sctp_model.specs.Chunk.{BlockMeaning}
 use Rattle.sctp_model.specs.Acknowledgement.{in_blocks}
+use Rattle.sctp_model.specs.sender.SackTaken.{some_is_bad}
 use Rattle.sctp_model.specs.sender.Words.{when}
-use Rattle.sctp_send.specs.CoveredRuns.{in_run, in_runs, AreCovered, run_behind, runs_behind}
+use Rattle.sctp_send.specs.CoveredRuns.{in_run, in_runs, AreInOrder, AreCovered, HoldsBlocks, run_behind, runs_behind}
 use Rattle.sctp_send.specs.declared.outstanding.Run.{Run}
 
 -- ---- seen from further on
@@ -23,6 +24,10 @@ one_behind n i r some = both (nat_lt r.from (n + i)) (nat_le (n + i) r.to) (nat_
     both : (a b c d : Bool) → a ≡ c → b ≡ d → (a && b) ≡ (c && d)
     both a b c d x y = ap (λ (z : Bool). z && b) x ∙ ap (λ (z : Bool). c && z) y
 
+pub order_behind : (n low here : ℕ) (rs : List Run) → low ≤ here - n → AreInOrder here rs → AreInOrder low (runs_behind n rs)
+order_behind n low here [] le order = tt
+order_behind n low here (r ∷ rs) le order = (omega (arith, order.0, le), omega (arith, order.1), order_behind n (r.to - n) r.to rs (omega arith) order.2)
+
 pub all_behind : (n i : ℕ) (rs : List Run) → 0 < i → in_runs rs (n + i) ≡ in_runs (runs_behind n rs) i
 all_behind n i [] some = refl
 all_behind n i (r ∷ rs) some = rw (one_behind n i r some, all_behind n i rs some) refl
@@ -30,10 +35,13 @@ all_behind n i (r ∷ rs) some = rw (one_behind n i r some, all_behind n i rs so
 -- what a SHUTDOWN leaves covered
 pub covered_behind : (o : Option (List Run)) (covered : ℕ → Bool) (cum c n : ℕ) → c ≡ cum + n → AreCovered o covered cum → AreCovered (option_map (runs_behind n) o) (λ j. nat_le j c || covered j) c
 covered_behind None covered cum c n is h = tt
-covered_behind (Some rs) covered cum c n is h = λ i some.
-    let past : nat_le (c + i) c ≡ false = grind (arith, nat_tests) in
-    let place : c + i ≡ cum + (n + i) = omega arith in
-    ap (λ (b : Bool). b || covered (c + i)) past ∙ ap covered place ∙ h (n + i) (omega arith) ∙ all_behind n i rs some
+covered_behind (Some rs) covered cum c n is h = (
+  order_behind n 0 0 rs (omega arith) h.0,
+  λ i some.
+      let past : nat_le (c + i) c ≡ false = grind (arith, nat_tests) in
+      let place : c + i ≡ cum + (n + i) = omega arith in
+      ap (λ (b : Bool). b || covered (c + i)) past ∙ ap covered place ∙ h.1 (n + i) (omega arith) ∙ all_behind n i rs some,
+)
 
 -- the first so many of them are seen so
 abbrev pub first_behind : (passed at : ℕ) → List Run → List Run
@@ -75,9 +83,9 @@ when_behind false n rs xs is = refl
 -- the runs are what the blocks cover, where they are known
 abbrev pub AreOfBlocks : Option (List Run) → List BlockMeaning → Type 0
 AreOfBlocks None bs = Unit {0}
-AreOfBlocks (Some rs) bs = (i : ℕ) → 0 < i → in_runs rs i ≡ in_blocks 0 bs i
+AreOfBlocks (Some rs) bs = HoldsBlocks rs bs
 
-pub when_remembered : (b : Bool) (xs : List Run) (bs : List BlockMeaning) → (b ≡ true → (i : ℕ) → 0 < i → in_runs xs i ≡ in_blocks 0 bs i) → AreOfBlocks (when b xs) bs
+pub when_remembered : (b : Bool) (xs : List Run) (bs : List BlockMeaning) → (b ≡ true → HoldsBlocks xs bs) → AreOfBlocks (when b xs) bs
 when_remembered true xs bs h = h refl
 when_remembered false xs bs h = tt
 
@@ -92,6 +100,24 @@ runs_more (x ∷ rs) r i = ap (λ (b : Bool). in_run x i || b) (runs_more rs r i
     regroup : (a b c : Bool) → (a || (b || c)) ≡ ((a || b) || c)
     regroup true b c = refl
     regroup false b c = refl
+
+-- where the last of the runs ends
+abbrev pub end_of : (here : ℕ) → List Run → ℕ
+end_of n [] = n
+end_of n (r ∷ rs) = end_of r.to rs
+
+pub end_more : (n : ℕ) (rs : List Run) (r : Run) → end_of n (rs ++ r ∷ []) ≡ r.to
+end_more n [] r = refl
+end_more n (x ∷ rs) r = end_more x.to rs r
+
+-- one more begins there or behind
+pub order_more : (n : ℕ) (rs : List Run) (r : Run) → AreInOrder n rs → end_of n rs ≤ r.from → r.from ≤ r.to → AreInOrder n (rs ++ r ∷ [])
+order_more n [] r order begins ends = (begins, ends, tt)
+order_more n (x ∷ rs) r order begins ends = (order.0, order.1, order_more x.to rs r order.2 begins ends)
+
+-- a block that isn't bad begins behind the one before it
+pub good_block : (last : ℕ) (b : BlockMeaning) (bs : List BlockMeaning) → some_is_bad last (b ∷ bs) ≡ false → (last < b.start) × (b.start ≤ b.end) × (some_is_bad b.end bs ≡ false)
+good_block last b bs good = (grind (arith, nat_tests), grind (arith, nat_tests), grind (arith, nat_tests))
 
 -- one block more is kept
 pub remembered_more : (rs : List Run) (r : Run) (b : BlockMeaning) (bs : List BlockMeaning) (i : ℕ) → 0 < i → r.from ≡ b.start - 1 → r.to ≡ b.end → (in_runs (rs ++ r ∷ []) i || in_blocks 0 bs i) ≡ (in_runs rs i || in_blocks 0 (b ∷ bs) i)

@@ -4,7 +4,8 @@ ghost use Rattle.std.specs.Prelude.{◌≡◌, ℕ, Bool, true, false, ◌<◌, 
 ghost use Rattle.sctp_send.specs.WindowKept.{IsSameRoom, changed};
 ghost use Rattle.sctp_model.specs.Acknowledgement.{in_blocks};
 ghost use Rattle.sctp_send.specs.inner.Changes.{unmarked, told, all_told, or_run, timed, all_timed};
-ghost use Rattle.sctp_send.specs.CoveredRuns.{in_runs, run_behind, runs_behind};
+ghost use Rattle.sctp_model.specs.sender.SackTaken.{some_is_bad};
+ghost use Rattle.sctp_send.specs.CoveredRuns.{run_behind, runs_behind, HoldsBlocks};
 ghost use Rattle.sctp_send.specs.inner.Acknowledging.{block_fault};
 
 use crate::message::Message;
@@ -151,7 +152,8 @@ fn run_behind(run: Run, passed: usize) -> Run
 
 /// Keeps what blocks cover, in place of what was kept; false where they are too many.
 pub fn remember(runs: &mut Vec<Run>, blocks: &Blocks<'_>) -> bool
-    ensures { result ≡ true → (i : ℕ) → 0 < i → in_runs runs.new.items i ≡ in_blocks 0 blocks.now i }
+    requires { some_is_bad 0 blocks.now ≡ false }
+    ensures { result ≡ true → HoldsBlocks runs.new.items blocks.now }
 {
     runs.clear();
     for block in blocks.iter() {

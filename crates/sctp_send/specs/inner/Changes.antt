@@ -2,7 +2,7 @@
 use Rattle.std.specs.Prelude.{◌≡◌, ℕ, suc, nat_lt, nat_le, Bool, true, false, not, ◌&&◌, ◌||◌, ◌==◌, if◌then◌else◌, List, [], ◌∷◌, map}
 use Rattle.sctp_send.specs.declared.outstanding.Standing.{Standing}
 use Rattle.sctp_send.specs.declared.outstanding.Standing.TheVariants.{Unsent, Sent, Marked}
-use Rattle.sctp_send.specs.CoveredRuns.{in_runs}
+use Rattle.sctp_send.specs.CoveredRuns.{in_runs, AreInOrder}
 use Rattle.sctp_send.specs.declared.outstanding.Run.{Run}
 use Rattle.sctp_send.specs.declared.outstanding.Outstanding.{Outstanding}
 
@@ -40,10 +40,10 @@ abbrev pub told_where : Bool → (ℕ → Bool) → ℕ → List Outstanding →
 told_where b test i [] = []
 told_where b test i (e ∷ es) = (if test i then told b e else e) ∷ told_where b test (suc i) es
 
--- each entry is as its run says
+-- the runs are in order, and each entry is as they say
 abbrev pub IsExact : (known : Bool) → List Run → List Outstanding → Type 0
 IsExact false rs es = Unit {0}
-IsExact true rs es = all_told (in_runs rs) 1 es ≡ es
+IsExact true rs es = AreInOrder 0 rs × (all_told (in_runs rs) 1 es ≡ es)
 
 -- behind one offset, up to another
 abbrev pub is_between : ℕ → ℕ → ℕ → Bool

@@ -1,29 +1,64 @@
-use Rattle.std.proofs.Common.{refl, ◌∙◌, arith}
-use Rattle.sctp_send.proofs.GapLemmas.{gaps_start, gaps_end}
+use Rattle.std.proofs.Common.{◌≡◌, ◌≤◌, ◌<◌, ℕ, ap, length, get_or, refl, ◌∙◌, arith}
+use Rattle.sctp_send.specs.inner.Changes.{told_where, is_between}
+use Rattle.sctp_send.specs.declared.outstanding.Run.{Run}
+use Rattle.sctp_send.proofs.TellLemmas.{length-told_where}
+use Rattle.sctp_send.proofs.GapLemmas.{passed_on, passed_more, passed_all, gaps_start, gaps_more, gaps_rest, gaps_end}
 use Rattle.sctp_send.proofs.recover.tell_gaps.Goals as goal
 
-pub loop-init : goal.loop-init
-loop-init c = record {
+pub loop-next-init : goal.loop-next-init
+loop-next-init c = record {
   low = omega arith;
-  counted = omega arith;
-  items = gaps_start c.args.covered c.args.runs.now c.args.from c.args.to c.args.outstanding.now.items;
+  near = omega arith;
+  passed = λ passed. passed;
+  items = λ order passed. gaps_start c.args.covered c.args.runs.now c.args.from c.args.to c.args.outstanding.now.items;
   count = refl;
   room = record { size = refl; capacity = refl };
 }
 
-pub loop-preserved : goal.loop-preserved
-loop-preserved c =
-    let before = c.loop.invariant in
+pub loop-next-preserved : goal.loop-next-preserved
+loop-next-preserved c =
+    let before = c.loop-next.invariant in
+    let none : Run = record { from = 0; to = 0 } in
+    let run : Run = get_or c.args.runs.now c.loop-next.next none in
+    let ends : run.to ≤ c.args.to = c.if-to-run.false in
+    let now = c.loop-next.outstanding.items in
     record {
-      low = omega (arith, before.low, c.tell_edge-at.ensures.further);
-      counted = omega (arith, before.counted, c.tell_edge-at.ensures.further);
-      items = c.tell_edge-at.ensures.gaps c.args.from c.args.outstanding.now.items before.low before.items;
-      count = c.tell_edge-at.ensures.long ∙ before.count;
-      room = record { size = c.tell_edge-at.ensures.kept.size ∙ before.room.size; capacity = c.tell_edge-at.ensures.kept.capacity ∙ before.room.capacity };
+      low = omega (arith, before.low, c.max-at.ensures);
+      near = omega (arith, before.near, c.max-at.ensures, ends);
+      passed = λ passed. passed_more c.args.runs.now c.loop-next.next run none c.loop-next.at c.max-at.result (omega arith) refl (omega (arith, c.max-at.ensures)) (omega (arith, c.max-at.ensures)) (before.passed passed);
+      items = λ order passed.
+          gaps_more c.args.covered c.args.runs.now c.loop-next.next run none c.args.from c.loop-next.at c.args.to c.min-gap.result c.max-at.result c.args.outstanding.now.items now c.tell_run.new.outstanding.items order (omega arith) refl before.low
+          c.min-gap.ensures c.max-at.ensures (before.passed passed) (before.items order passed) (c.tell_run.ensures.items ∙ ap (λ (n : ℕ). told_where c.args.covered (is_between n c.min-gap.result) 1 now) c.min.ensures);
+      count = ap length c.tell_run.ensures.items ∙ length-told_where c.args.covered (is_between c.min.result c.min-gap.result) 1 now ∙ before.count;
+      room = record { size = c.tell_run.ensures.kept.size ∙ before.room.size; capacity = c.tell_run.ensures.kept.capacity ∙ before.room.capacity };
     }
 
-pub returns-then-at-to-clause-items : goal.returns-then-at-to-clause-items
-returns-then-at-to-clause-items c = gaps_end c.args.covered c.args.runs.now c.args.from c.loop.at c.args.to c.args.outstanding.now.items c.loop.outstanding.items (omega arith) c.loop.invariant.items
+pub returns-then-to-run-clause-items : goal.returns-then-to-run-clause-items
+returns-then-to-run-clause-items c = λ order passed.
+    let before = c.loop-next.invariant in
+    let none : Run = record { from = 0; to = 0 } in
+    let run : Run = get_or c.args.runs.now c.loop-next.next none in
+    let past : c.args.to < run.to = c.if-to-run.true in
+    let now = c.loop-next.outstanding.items in
+    let last = c.tell_run.new.outstanding.items in
+    gaps_end c.args.covered c.args.runs.now c.args.from c.max-at.result c.args.to c.args.outstanding.now.items last (omega (arith, past, c.max-at.ensures))
+    (gaps_more c.args.covered c.args.runs.now c.loop-next.next run none c.args.from c.loop-next.at c.args.to c.min-gap.result c.max-at.result c.args.outstanding.now.items now last order (omega arith) refl before.low
+    c.min-gap.ensures c.max-at.ensures (before.passed passed) (before.items order passed) (c.tell_run.ensures.items ∙ ap (λ (n : ℕ). told_where c.args.covered (is_between n c.min-gap.result) 1 now) c.min.ensures))
+
+pub returns-then-to-run-clause-passed : goal.returns-then-to-run-clause-passed
+returns-then-to-run-clause-passed c = λ passed. passed_on c.args.runs.now c.loop-next.next c.loop-next.at _ c.loop-next.invariant.near (c.loop-next.invariant.passed passed)
+
+pub returns-then-to-run-clause-long : goal.returns-then-to-run-clause-long
+returns-then-to-run-clause-long c = ap length c.tell_run.ensures.items ∙ length-told_where c.args.covered (is_between c.min.result c.min-gap.result) 1 c.loop-next.outstanding.items ∙ c.loop-next.invariant.count
 
 pub returns-clause-items : goal.returns-clause-items
-returns-clause-items c = gaps_end c.args.covered c.args.runs.now c.args.from c.loop.at c.args.to c.args.outstanding.now.items c.loop.outstanding.items (omega (arith, c.loop.invariant.counted)) c.loop.invariant.items
+returns-clause-items c = λ order passed.
+    let before = c.loop-next.invariant in
+    gaps_rest c.args.covered c.args.runs.now c.loop-next.next c.args.from c.loop-next.at c.args.to c.min-2.result c.args.outstanding.now.items c.loop-next.outstanding.items c.tell_run-2.new.outstanding.items (omega arith) before.low c.min-2.ensures
+    (before.passed passed) (before.items order passed) c.tell_run-2.ensures.items
+
+pub returns-clause-passed : goal.returns-clause-passed
+returns-clause-passed c = λ passed. passed_all c.args.runs.now c.loop-next.next c.loop-next.at _ (omega arith) c.loop-next.invariant.near (c.loop-next.invariant.passed passed)
+
+pub returns-clause-long : goal.returns-clause-long
+returns-clause-long c = ap length c.tell_run-2.ensures.items ∙ length-told_where c.args.covered (is_between c.min-2.result c.args.to) 1 c.loop-next.outstanding.items ∙ c.loop-next.invariant.count
