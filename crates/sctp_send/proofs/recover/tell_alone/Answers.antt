@@ -1,6 +1,5 @@
-use Rattle.std.proofs.Common.{◌≡◌, List, ap, arith, refl, ◌∙◌, ℕ, ◌+◌, ◌<◌, length, get_or, min}
+use Rattle.std.proofs.Common.{◌≡◌, ap, arith, refl, ◌∙◌, ℕ, ◌+◌, ◌<◌, length, get_or, min}
 use Rattle.sctp_send.specs.inner.Changes.{told_where, in_gaps}
-use Rattle.sctp_send.specs.declared.outstanding.Outstanding.{Outstanding}
 use Rattle.sctp_send.specs.declared.outstanding.Run.{Run}
 use Rattle.sctp_send.proofs.GapLemmas.{ends_behind, next_begins, passed_on}
 use Rattle.sctp_send.proofs.RecoverLemmas.{alone_start, alone_more, alone_all}

@@ -1,4 +1,4 @@
-use Rattle.std.proofs.Common.{◌≡◌, ◌≤◌, ◌<◌, ℕ, ap, length, get_or, refl, ◌∙◌, arith}
+use Rattle.std.proofs.Common.{◌≤◌, ◌<◌, ℕ, ap, length, get_or, refl, ◌∙◌, arith}
 use Rattle.sctp_send.specs.inner.Changes.{told_where, is_between}
 use Rattle.sctp_send.specs.declared.outstanding.Run.{Run}
 use Rattle.sctp_send.proofs.TellLemmas.{length-told_where}
