@@ -5,23 +5,20 @@ use sctp_framing::{DataFraming, IDataFraming};
 use sctp_send::{Abandoned, SackFault, Sender, Ticket};
 use std::test::Fail;
 
-/// So many chunks of one byte fit a packet of 1,500 bytes: 12 of the packet's header, and 20 each.
-const FIT: u32 = 74;
-
 #[test]
 fn so_many_indexes_are_outstanding_and_no_more(rt: HostRuntime) -> Result<(), Fail> {
     let mut sender: Sender<DataFraming> = Sender::new(rt.alloc(), 1, 1, 500, 65_536, true)?;
     for k in 1..32_769u32 {
         queue(rt.alloc(), &mut sender, 0, 1)?;
-        if k % FIT == 0 {
-            let (_packet, tickets) = fill(rt.alloc(), &mut sender, 1_500)?;
-            assert_eq!(rt; tickets.len(), 74, "at {k}");
+        // As many as may wait go into a large packet, but for the last one, which is held.
+        if k % 1_024 == 0 {
+            let wanted = if k < 32_768 { 1_024 } else { 1_023 };
+            let (packet, tickets) = fill(rt.alloc(), &mut sender, 60_000)?;
+            assert_eq!(rt; tickets.len(), wanted, "at {k}");
+            assert_eq!(rt; packet.len(), 12 + 20 * wanted, "at {k}");
         }
     }
-    // 32,708 went out; of the other 60 the last is held.
-    let (packet, tickets) = fill(rt.alloc(), &mut sender, 1_500)?;
-    assert_eq!(rt; (packet.len(), tickets.len()), (12 + 59 * 20, 59));
-    let (packet, tickets) = fill(rt.alloc(), &mut sender, 1_500)?;
+    let (packet, tickets) = fill(rt.alloc(), &mut sender, 60_000)?;
     assert_eq!(rt; (packet.len(), tickets.len()), (0, 0));
     assert_eq!(rt; sender.outstanding(), 32_767);
     assert_eq!(rt; sender.abandon(Ticket(32_768)), Abandoned::Withdrawn);
