@@ -62,6 +62,10 @@ sender() {
         # shellcheck disable=SC2086
         each "a message of 64 bytes queued, filled and acknowledged ($range)" $range 1 "$built" sent
     done
+    for range in '1800 3600' '18000 36000'; do
+        # shellcheck disable=SC2086
+        each "a message of 64 bytes queued, filled and acknowledged, 18 to a packet ($range)" $range 1 "$built" packed
+    done
     for range in '740 1480' '7400 14800'; do
         # shellcheck disable=SC2086
         each "a message of one byte filled, none acknowledged ($range)" $range 1 "$built" window
