@@ -48,6 +48,13 @@ abbrev pub TakesLowest : {F : Type 0} → Format → Lane → List Piece → (fr
 TakesLowest f l kept from last None new = ((n : ℕ) → from ≤ n → n ≤ last → HasNoWhole f kept l n) × StandsFor f new l kept
 TakesLowest f l kept from last (Some m) new = (n : ℕ) × TakesNumber f l kept from last m new n
 
+-- ---- what isn't whole
+
+-- no whole message has the number, and it isn't the newest chunk's
+pub record IsMissing (f : Format) (l : Lane) (kept : List Piece) (newest : Option ℕ) (n : ℕ) : Type 0 where
+  pub none : HasNoWhole f kept l n
+  pub other : newest ≡ Some n → ⊥
+
 -- ---- the whole message of one chunk
 
 -- It is whole with this chunk among its own, and what goes with it is gone.
