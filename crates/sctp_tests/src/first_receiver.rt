@@ -1,7 +1,7 @@
 //! A receiver's calls where they succeed, chunk by chunk: what it answers, hands over and tells in its SACK.
 
-use crate::receiving::whole;
 use sctp_first_recv::{Answer, Receiver, SackValues};
+use sctp_wire::Piece;
 use std::process::Abort;
 use std::test::Fail;
 
@@ -9,6 +9,21 @@ const ROOM: u32 = 65_536;
 
 fn sack(cumulative: u32, rwnd: u32) -> SackValues {
     SackValues { cumulative, rwnd }
+}
+
+/// A whole ordered message on stream 0.
+fn whole(tsn: u32, number: u32, bytes: &[u8]) -> Piece<'_> {
+    Piece {
+        immediate: false,
+        unordered: false,
+        begin: true,
+        end: true,
+        tsn,
+        stream: 0,
+        number,
+        word: 7,
+        bytes,
+    }
 }
 
 /// The next message of a stream is this one.

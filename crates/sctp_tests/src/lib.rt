@@ -34,33 +34,13 @@ mod pairs;
 #[cfg(test)]
 mod printed;
 #[cfg(test)]
-mod receiver;
-#[cfg(test)]
-mod receiver_forwards;
-#[cfg(test)]
-mod receiver_rows;
-#[cfg(test)]
-mod receiving;
-#[cfg(test)]
 mod script_lines;
-#[cfg(test)]
-mod sender;
-#[cfg(test)]
-mod sender_filling;
-#[cfg(test)]
-mod sender_forwards;
-#[cfg(test)]
-mod sender_rows;
-#[cfg(test)]
-mod sending;
 #[cfg(test)]
 mod serial;
 #[cfg(test)]
 mod statuses;
 #[cfg(test)]
 mod streams;
-#[cfg(test)]
-mod two_ends;
 #[cfg(test)]
 mod words;
 #[cfg(test)]

@@ -1,0 +1,168 @@
+//! What a case has, and where its calls go.
+
+use crate::call::Call;
+use crate::parts::{bytes_of, skips_of};
+use crate::receiving::{carry, data, receiving, rise, skip, taken};
+use crate::sending::{Packets, fill, forward, queue, sack, sack_answer, send};
+use crate::shown::sack_digits;
+use anyhow::Result;
+use sctp_framing::Framing;
+use sctp_recv::Receiver;
+use sctp_send::Sender;
+use std::alloc::Global;
+use std::fmt::Write;
+
+/// A sender and a receiver, once they were made, and the packets that the sender built.
+#[derive(Drop)]
+pub struct Ends<F: Framing> {
+    alloc: Global,
+    sender: Option<Sender<F>>,
+    receiver: Option<Receiver<F>>,
+    packets: Packets,
+}
+
+impl<F: Framing> Ends<F> {
+    /// A case at its beginning.
+    pub fn new(alloc: Global) -> Ends<F> {
+        Ends {
+            alloc,
+            sender: None,
+            receiver: None,
+            packets: Packets::new(alloc),
+        }
+    }
+
+    /// Makes a call, and appends what it answers.
+    ///
+    /// # Errors
+    /// Memory ran out.
+    pub fn make(&mut self, call: &Call<'_>, out: &mut String) -> Result<()> {
+        let before = out.len();
+        match call {
+            Call::Sender { .. } | Call::Receiver { .. } => self.begin(call, out)?,
+            Call::Acknowledge => self.acknowledge(out)?,
+            _ => {
+                if let Some(sender) = &mut self.sender {
+                    sending_call(self.alloc, sender, &mut self.packets, call, out)?;
+                }
+                if let Some(receiver) = &mut self.receiver {
+                    receiving_call(self.alloc, receiver, &self.packets, call, out)?;
+                }
+            }
+        }
+        if out.len() == before {
+            write!(out, "not a call")?;
+        }
+        Ok(())
+    }
+
+    /// A new sender, or a new receiver.
+    fn begin(&mut self, call: &Call<'_>, out: &mut String) -> Result<()> {
+        match *call {
+            Call::Sender {
+                tsn,
+                streams,
+                fragment,
+                rwnd,
+                partial,
+            } if streams > 0 && fragment > 0 && fragment <= 1_400 => {
+                let sender = Sender::new(self.alloc, tsn, streams, fragment, rwnd, partial)?;
+                self.sender = Some(sender);
+                self.packets = Packets::new(self.alloc);
+                write!(out, "ok")?;
+            }
+            Call::Receiver {
+                tsn,
+                streams,
+                buffer,
+            } => {
+                self.receiver = Some(Receiver::new(self.alloc, tsn, streams, buffer)?);
+                write!(out, "ok")?;
+            }
+            _ => {}
+        }
+        Ok(())
+    }
+
+    /// The SACK that goes out now comes to the sender.
+    fn acknowledge(&mut self, out: &mut String) -> Result<()> {
+        if let (Some(sender), Some(receiver)) = (&mut self.sender, &mut self.receiver) {
+            let lists = receiver.sack()?;
+            receiver.sack_sent();
+            let answer = sender.on_sack(&lists.view());
+            let digits = sack_digits(self.alloc, &lists)?;
+            write!(out, "{digits} {}", sack_answer(answer))?;
+        }
+        Ok(())
+    }
+}
+
+/// A call of a sender; nothing is appended for another.
+fn sending_call<F: Framing>(
+    alloc: Global,
+    sender: &mut Sender<F>,
+    packets: &mut Packets,
+    call: &Call<'_>,
+    out: &mut String,
+) -> Result<()> {
+    match *call {
+        Call::Queue {
+            stream,
+            ordered,
+            payload_id,
+            until,
+            bytes,
+        } => match bytes_of(alloc, bytes)? {
+            Some(bytes) => queue(sender, stream, ordered, payload_id, bytes, until, out),
+            None => Ok(()),
+        },
+        Call::Fill { limit } => fill(alloc, sender, packets, limit, out),
+        Call::Forward { limit } => forward(alloc, sender, packets, limit, out),
+        Call::Sack { tsn, rwnd, blocks } => sack(alloc, sender, tsn, rwnd, blocks, out),
+        _ => send(sender, call, out),
+    }
+}
+
+/// A call of a receiver; nothing is appended for another.
+fn receiving_call<F: Framing>(
+    alloc: Global,
+    receiver: &mut Receiver<F>,
+    packets: &Packets,
+    call: &Call<'_>,
+    out: &mut String,
+) -> Result<()> {
+    match *call {
+        Call::Data {
+            tsn,
+            stream,
+            flags,
+            number,
+            word,
+            bytes,
+        } => match bytes_of(alloc, bytes)? {
+            Some(bytes) => data(receiver, tsn, stream, flags, number, word, &bytes, out),
+            None => Ok(()),
+        },
+        Call::Rise {
+            count,
+            tsn,
+            stream,
+            number,
+            step,
+        } => rise(receiver, count, tsn, step, stream, number, out),
+        Call::Skip { tsn, skips } => match skips_of(alloc, F::skip_form(), skips)? {
+            Some(skips) => skip(receiver, tsn, &skips, out),
+            None => Ok(()),
+        },
+        Call::Carry { packet } => carry(receiver, packets.get(packet), out),
+        Call::Take { stream } => taken(alloc, receiver.take(stream), out),
+        Call::Tell => {
+            let lists = receiver.sack()?;
+            receiver.sack_sent();
+            let digits = sack_digits(alloc, &lists)?;
+            Ok(write!(out, "{digits}")?)
+        }
+        Call::Receiving => receiving(receiver, out),
+        _ => Ok(()),
+    }
+}

@@ -1,0 +1,69 @@
+//! Runs the cases of calls that stand on standard input, and prints a transcript: each line of a case as it stands there and, behind each
+//! call, a line with what it answered. A sender and a receiver are called here alone, or one beside the other, with the packets that go
+//! between them.
+//!
+//! A case begins with `= data NAME` or `= i-data NAME`, which says the format. Its calls, and what they answer, are told in `docs/CALLS.md`.
+//! Other lines are remarks.
+#![tactic(auto)]
+
+mod call;
+mod ends;
+mod parts;
+mod receiving;
+mod sending;
+mod shown;
+
+use crate::call::Call;
+use crate::ends::Ends;
+use anyhow::Result;
+use sctp_framing::{DataFraming, Framing, IDataFraming};
+use std::io::{Read, Write};
+
+fn main(rt: HostRuntime) -> Result<()> {
+    let mut text = String::new(rt.alloc());
+    rt.stdin().read_to_string(&mut text)?;
+    let lines = text.strip_suffix('\n').unwrap_or(&text);
+    let mut parts = lines.split("\n= ");
+    if let Some(remarks) = parts.next() {
+        writeln!(rt.stdout(), "{remarks}")?;
+    }
+    for case in parts {
+        let (name, lines) = case.split_once('\n').unwrap_or((case, ""));
+        writeln!(rt.stdout(), "= {name}")?;
+        if name.starts_with("i-data ") {
+            run_case::<IDataFraming>(&rt, lines)?;
+        } else {
+            run_case::<DataFraming>(&rt, lines)?;
+        }
+    }
+    Ok(())
+}
+
+/// Runs the calls of a case, under this format.
+fn run_case<F: Framing>(rt: &HostRuntime, lines: &str) -> Result<()> {
+    let mut ends: Ends<F> = Ends::new(rt.alloc());
+    for line in lines.split('\n') {
+        writeln!(rt.stdout(), "{line}")?;
+        let (times, text) = repeated(line);
+        if let Some(call) = Call::read(text) {
+            let mut answer = String::new(rt.alloc());
+            for _ in 0..times {
+                answer.clear();
+                ends.make(&call, &mut answer)?;
+            }
+            writeln!(rt.stdout(), "{answer}")?;
+        }
+    }
+    Ok(())
+}
+
+/// How often a line's call is made, and the call: `*N CALL`, or the call alone.
+fn repeated(line: &str) -> (u32, &str) {
+    let Some((sign, call)) = line.split_once(' ') else {
+        return (1, line);
+    };
+    match sign.strip_prefix('*') {
+        Some(count) => (count.parse().unwrap_or(1), call),
+        None => (1, line),
+    }
+}

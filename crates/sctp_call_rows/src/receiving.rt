@@ -1,0 +1,187 @@
+//! The calls of a receiver, and what they answer.
+
+use crate::shown::show_start;
+use anyhow::Result;
+use sctp_framing::Framing;
+use sctp_packet::{crc32c, read_packet};
+use sctp_recv::{Answer, ForwardAnswer, Message, Receiver};
+use sctp_wire::{Chunk, Forward, Piece, SkipForm, Skips};
+use std::alloc::Global;
+use std::fmt::Write;
+
+/// A chunk of user data comes.
+pub fn data<F: Framing>(
+    receiver: &mut Receiver<F>,
+    tsn: u32,
+    stream: u16,
+    flags: &str,
+    number: u32,
+    word: u32,
+    bytes: &[u8],
+    out: &mut String,
+) -> Result<()> {
+    let answer = receiver.on_data(&Piece {
+        immediate: flags.contains('I'),
+        unordered: flags.contains('U'),
+        begin: flags.contains('B'),
+        end: flags.contains('E'),
+        tsn,
+        stream,
+        number,
+        word,
+        bytes,
+    })?;
+    Ok(write!(out, "{}", data_answer(answer))?)
+}
+
+/// What a chunk of user data was answered.
+fn data_answer(answer: Answer) -> &'static str {
+    match answer {
+        Answer::Duplicate => "duplicate",
+        Answer::Ahead => "ahead",
+        Answer::NoSuchStream => "no such stream",
+        Answer::Passed => "passed",
+        Answer::NoRoom => "no room",
+        Answer::Taken => "taken",
+    }
+}
+
+/// So many whole ordered messages of a byte come, TSNs rising by a step and numbers by one; under DATA a number has 16 bits.
+pub fn rise<F: Framing>(
+    receiver: &mut Receiver<F>,
+    count: u32,
+    tsn: u32,
+    step: u32,
+    stream: u16,
+    number: u32,
+    out: &mut String,
+) -> Result<()> {
+    let mask = match F::skip_form() {
+        SkipForm::Narrow => 0xffff,
+        SkipForm::Wide => 0xffff_ffff,
+    };
+    let mut taken = 0u32;
+    for k in 0..count {
+        let answer = receiver.on_data(&Piece {
+            immediate: false,
+            unordered: false,
+            begin: true,
+            end: true,
+            tsn: tsn.wrapping_add(k.wrapping_mul(step)),
+            stream,
+            number: number.wrapping_add(k) & mask,
+            word: 0,
+            bytes: b"a",
+        })?;
+        if answer == Answer::Taken {
+            taken = taken.saturating_add(1);
+        }
+    }
+    Ok(write!(out, "taken {taken}")?)
+}
+
+/// A FORWARD comes, with these entries.
+pub fn skip<F: Framing>(
+    receiver: &mut Receiver<F>,
+    cumulative: u32,
+    skips: &[u8],
+    out: &mut String,
+) -> Result<()> {
+    let form = F::skip_form();
+    if skips.len() % form.size() == 0 {
+        let answer = receiver.on_forward(&Forward {
+            cumulative,
+            skips: Skips::new(form, skips),
+        })?;
+        write!(out, "{}", forward_answer(answer))?;
+    }
+    Ok(())
+}
+
+/// What a FORWARD was answered.
+fn forward_answer(answer: ForwardAnswer) -> &'static str {
+    match answer {
+        ForwardAnswer::OutOfDate => "out of date",
+        ForwardAnswer::Bad => "bad",
+        ForwardAnswer::Moved => "moved",
+    }
+}
+
+/// Answers of a packet's chunks, equal ones behind each other told once.
+#[derive(Drop)]
+struct Answers {
+    last: &'static str,
+    times: usize,
+}
+
+impl Answers {
+    /// The next answer: what came before it is told where it differs.
+    fn next(&mut self, answer: &'static str, out: &mut String) -> Result<()> {
+        if self.times > 0 && self.last != answer {
+            self.tell(out)?;
+            write!(out, ", ")?;
+            self.times = 0;
+        }
+        self.last = answer;
+        self.times = self.times.saturating_add(1);
+        Ok(())
+    }
+
+    /// Tells the last answer.
+    fn tell(&self, out: &mut String) -> Result<()> {
+        write!(out, "{}", self.last)?;
+        if self.times > 1 {
+            write!(out, " x{}", self.times)?;
+        }
+        Ok(())
+    }
+}
+
+/// A packet comes.
+pub fn carry<F: Framing>(
+    receiver: &mut Receiver<F>,
+    packet: Option<&[u8]>,
+    out: &mut String,
+) -> Result<()> {
+    let Some(packet) = packet else {
+        return Ok(write!(out, "nothing")?);
+    };
+    let mut answers = Answers { last: "", times: 0 };
+    for chunk in read_packet(packet)?.chunks {
+        let answer = match chunk {
+            Chunk::Data(piece) | Chunk::IData(piece) => data_answer(receiver.on_data(&piece)?),
+            Chunk::ForwardTsn(forward) | Chunk::IForwardTsn(forward) => {
+                forward_answer(receiver.on_forward(&forward)?)
+            }
+            _ => "another chunk",
+        };
+        answers.next(answer, out)?;
+    }
+    answers.tell(out)
+}
+
+/// A message that was taken, or none.
+pub fn taken(alloc: Global, message: Option<Message>, out: &mut String) -> Result<()> {
+    let Some(message) = message else {
+        return Ok(write!(out, "nothing")?);
+    };
+    let kind = if message.ordered { 'o' } else { 'u' };
+    write!(out, "stream {} {kind} number ", message.stream)?;
+    match message.number {
+        Some(number) => write!(out, "{number}")?,
+        None => write!(out, "-")?,
+    }
+    write!(out, " payload {}", message.payload_id)?;
+    write!(out, " parts {} size {}: ", message.parts().len(), message.len())?;
+    let mut bytes = Vec::new(alloc);
+    message.copy_to(&mut bytes)?;
+    show_start(alloc, &bytes, out)?;
+    Ok(write!(out, " {:08x}", crc32c(&bytes))?)
+}
+
+/// The readers of a receiver.
+pub fn receiving<F: Framing>(receiver: &Receiver<F>, out: &mut String) -> Result<()> {
+    write!(out, "cumulative {}", receiver.cumulative())?;
+    write!(out, " held {} runs {}", receiver.held_bytes(), receiver.run_count())?;
+    Ok(())
+}

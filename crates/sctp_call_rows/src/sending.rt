@@ -1,0 +1,196 @@
+//! The calls of a sender, and what they answer.
+
+use crate::call::Call;
+use crate::parts::blocks_of;
+use crate::shown::show_packet;
+use anyhow::Result;
+use sctp_framing::Framing;
+use sctp_packet::PacketWriter;
+use sctp_send::{Abandoned, SackFault, SendFault, Sender, Ticket};
+use sctp_wire::{Blocks, Sack, Tsns};
+use std::alloc::Global;
+use std::fmt::Write;
+
+/// How many tickets are shown of a packet.
+const SHOWN_TICKETS: usize = 8;
+
+/// The packets that a sender built, numbered from 1.
+#[derive(Drop)]
+pub struct Packets {
+    list: Vec<Vec<u8>>,
+}
+
+impl Packets {
+    /// No packet.
+    pub fn new(alloc: Global) -> Packets {
+        Packets {
+            list: Vec::new(alloc),
+        }
+    }
+
+    /// The packet with this number.
+    pub fn get(&self, number: usize) -> Option<&[u8]> {
+        let packet = self.list.get(number.checked_sub(1)?)?;
+        Some(packet.as_slice())
+    }
+
+    /// Shows a packet with the next number, and keeps it.
+    fn keep(&mut self, alloc: Global, packet: Vec<u8>, out: &mut String) -> Result<()> {
+        write!(out, "packet {} ", self.list.len().saturating_add(1))?;
+        show_packet(alloc, &packet, out)?;
+        self.list.push(packet)?;
+        Ok(())
+    }
+}
+
+/// Hands in a message.
+pub fn queue<F: Framing>(
+    sender: &mut Sender<F>,
+    stream: u16,
+    ordered: bool,
+    payload_id: u32,
+    bytes: Vec<u8>,
+    until: Option<u64>,
+    out: &mut String,
+) -> Result<()> {
+    match sender.queue(stream, ordered, payload_id, bytes, until) {
+        Ok(Ticket(ticket)) => write!(out, "ticket {ticket}")?,
+        Err(SendFault::NoSuchStream) => write!(out, "no such stream")?,
+        Err(SendFault::Empty) => write!(out, "empty")?,
+        Err(SendFault::TooLong) => write!(out, "too long")?,
+        Err(SendFault::QueueFull) => write!(out, "queue full")?,
+        Err(SendFault::Spent) => write!(out, "spent")?,
+        Err(fault) => return Err(fault.into()),
+    }
+    Ok(())
+}
+
+/// Fills a packet of so many bytes at most.
+pub fn fill<F: Framing>(
+    alloc: Global,
+    sender: &mut Sender<F>,
+    packets: &mut Packets,
+    limit: u16,
+    out: &mut String,
+) -> Result<()> {
+    let mut packet = PacketWriter::new(alloc, limit, 1, 2, 3);
+    let filled = sender.fill(&mut packet)?;
+    match packet.finish() {
+        Some(bytes) => packets.keep(alloc, bytes, out)?,
+        None => write!(out, "nothing")?,
+    }
+    if !filled.tickets.is_empty() {
+        write!(out, ", tickets")?;
+    }
+    for Ticket(ticket) in filled.tickets.iter().take(SHOWN_TICKETS) {
+        write!(out, " {ticket}")?;
+    }
+    if filled.tickets.len() > SHOWN_TICKETS {
+        write!(out, " ..{}", filled.tickets.len())?;
+    }
+    Ok(())
+}
+
+/// A packet of so many bytes at most with the FORWARD.
+pub fn forward<F: Framing>(
+    alloc: Global,
+    sender: &Sender<F>,
+    packets: &mut Packets,
+    limit: u16,
+    out: &mut String,
+) -> Result<()> {
+    let mut packet = PacketWriter::new(alloc, limit, 1, 2, 3);
+    let put = sender.put_forward(&mut packet)?;
+    match packet.finish() {
+        Some(bytes) if put => packets.keep(alloc, bytes, out),
+        _ => Ok(write!(out, "nothing")?),
+    }
+}
+
+/// A SACK comes.
+pub fn sack<F: Framing>(
+    alloc: Global,
+    sender: &mut Sender<F>,
+    cumulative: u32,
+    rwnd: u32,
+    blocks: &str,
+    out: &mut String,
+) -> Result<()> {
+    if let Some(list) = blocks_of(alloc, blocks)? {
+        // Each block has 4 bytes.
+        if list.len() % 4 == 0 {
+            let answer = sender.on_sack(&Sack {
+                cumulative,
+                rwnd,
+                blocks: Blocks::new(&list),
+                duplicates: Tsns::none(),
+            });
+            write!(out, "{}", sack_answer(answer))?;
+        }
+    }
+    Ok(())
+}
+
+/// What a SACK, or a SHUTDOWN, was answered.
+pub fn sack_answer(answer: Result<(), SackFault>) -> &'static str {
+    match answer {
+        Ok(()) => "ok",
+        Err(SackFault::Stale) => "stale",
+        Err(SackFault::Beyond) => "beyond",
+        Err(SackFault::BadBlock) => "bad block",
+    }
+}
+
+/// The other calls of a sender.
+pub fn send<F: Framing>(sender: &mut Sender<F>, call: &Call<'_>, out: &mut String) -> Result<()> {
+    match *call {
+        Call::Shutdown { tsn } => write!(out, "{}", sack_answer(sender.on_shutdown(tsn)))?,
+        Call::Abandon(ticket) => write!(out, "{}", abandon_answer(sender.abandon(ticket)))?,
+        Call::Expire { now } => {
+            sender.expire(now);
+            write!(out, "ok")?;
+        }
+        Call::Timeout => {
+            sender.on_timeout();
+            write!(out, "ok")?;
+        }
+        Call::Fate(ticket) => write!(out, "{}", fate(sender, ticket))?,
+        Call::Sending => show_sender(sender, out)?,
+        _ => {}
+    }
+    Ok(())
+}
+
+/// What abandoning a message was answered.
+fn abandon_answer(answer: Abandoned) -> &'static str {
+    match answer {
+        Abandoned::Withdrawn => "withdrawn",
+        Abandoned::Abandoned => "abandoned",
+        Abandoned::Acknowledged => "acknowledged",
+        Abandoned::Unknown => "unknown",
+        Abandoned::Reliable => "reliable",
+    }
+}
+
+/// What became of a message.
+fn fate<F: Framing>(sender: &Sender<F>, ticket: Ticket) -> &'static str {
+    match (sender.acknowledged(ticket), sender.abandoned(ticket)) {
+        (true, false) => "acknowledged",
+        (false, true) => "abandoned",
+        (false, false) => "neither",
+        (true, true) => "both",
+    }
+}
+
+/// The readers of a sender.
+fn show_sender<F: Framing>(sender: &Sender<F>, out: &mut String) -> Result<()> {
+    write!(out, "cum {} point {}", sender.cum(), sender.point())?;
+    write!(out, " outstanding {}", sender.outstanding())?;
+    if sender.drained() {
+        write!(out, " drained")?;
+    }
+    if sender.unsettled() {
+        write!(out, " unsettled")?;
+    }
+    Ok(())
+}

@@ -1,0 +1,78 @@
+//! Bytes, as the transcript shows them.
+
+use anyhow::Result;
+use sctp_packet::read_packet;
+use sctp_recv::SackLists;
+use sctp_wire::{Chunk, write_chunk};
+use std::alloc::Global;
+use std::fmt::Write;
+
+/// Where the header of a packet ends, and its chunks begin.
+const HEADER: usize = 12;
+
+/// How many chunks are shown of a packet.
+const SHOWN_CHUNKS: usize = 4;
+
+/// A chunk of so many bytes at most is shown whole.
+const WHOLE_CHUNK: usize = 32;
+
+/// So many bytes are shown of a longer one.
+const CHUNK_START: usize = 24;
+
+/// So many bytes are shown of a message.
+const MESSAGE_START: usize = 16;
+
+/// A packet's size, its checksum, and its first chunks.
+pub fn show_packet(alloc: Global, packet: &[u8], out: &mut String) -> Result<()> {
+    let sum = packet.get(8..HEADER).unwrap_or(&[]);
+    write!(out, "{} {}:", packet.len(), hex::encode(alloc, sum)?)?;
+    let mut count = 0usize;
+    for chunk in read_packet(packet)?.chunks {
+        if count < SHOWN_CHUNKS {
+            show_chunk(alloc, &chunk, out)?;
+        }
+        count = count.saturating_add(1);
+    }
+    if count > SHOWN_CHUNKS {
+        write!(out, " ..{count}")?;
+    }
+    Ok(())
+}
+
+/// A chunk, or its start and how many bytes it has.
+fn show_chunk(alloc: Global, chunk: &Chunk<'_>, out: &mut String) -> Result<()> {
+    let bytes = bytes_of(alloc, chunk)?;
+    if bytes.len() <= WHOLE_CHUNK {
+        write!(out, " {}", hex::encode(alloc, bytes.as_slice())?)?;
+    } else {
+        let start = bytes.get(..CHUNK_START).unwrap_or(&[]);
+        write!(out, " {}..{}", hex::encode(alloc, start)?, bytes.len())?;
+    }
+    Ok(())
+}
+
+/// A chunk's bytes.
+fn bytes_of(alloc: Global, chunk: &Chunk<'_>) -> Result<Vec<u8>> {
+    let mut bytes = Vec::new(alloc);
+    if chunk.fits() {
+        write_chunk(chunk, &mut bytes)?;
+    }
+    Ok(bytes)
+}
+
+/// The digits of a SACK.
+pub fn sack_digits(alloc: Global, lists: &SackLists) -> Result<String> {
+    let bytes = bytes_of(alloc, &Chunk::Sack(lists.view()))?;
+    Ok(hex::encode(alloc, bytes.as_slice())?)
+}
+
+/// The start of a message's bytes.
+pub fn show_start(alloc: Global, bytes: &[u8], out: &mut String) -> Result<()> {
+    match bytes.get(..MESSAGE_START) {
+        Some(start) if bytes.len() > MESSAGE_START => {
+            write!(out, "{}..", hex::encode(alloc, start)?)?;
+        }
+        _ => write!(out, "{}", hex::encode(alloc, bytes)?)?,
+    }
+    Ok(())
+}
