@@ -2,6 +2,7 @@
 use Rattle.std.proofs.Common.{◌≡◌, ℕ, zero, suc, ◌+◌, ◌-◌, ◌%◌, ◌^◌, ◌<◌, ◌≤◌, List, [], ◌∷◌, length, drop, Bool, true, false, Option, Some, None, refl, sym, ap, ◌∙◌, ◌⊎◌, inl, inr, arith, get_or}
 use Rattle.std.specs.Prelude.{nat_lt, not, ◌&&◌, ◌||◌, ◌==◌, if◌then◌else◌}
 use Rattle.std.proofs.lemmas.Bool.Decides.{nat_tests}
+use Rattle.sctp_model.specs.Limits.{WINDOW}
 use Rattle.sctp_model.specs.Format.{Format}
 use Rattle.sctp_model.specs.Plan.{Entry}
 use Rattle.sctp_model.specs.sender.Words.{some_passes}
@@ -55,13 +56,6 @@ point_is f s v k =
     let cum = k.holds.cum in
     omega (arith, run, within, long, most, cum)
 
-run_small : (f : Format) (s : Kept) (v : SenderView) → Keeps f s v → given_up_items s.items < 2 ^ 31
-run_small f s v k =
-    let within = run_within s.items in
-    let long = kept_length f s v k in
-    let most = is_promised f v k.reached in
-    omega (arith, within, long, most)
-
 any_items : (v : SenderView) (i : ℕ) (es : List Entry) → any_from (is_unsettled v) i es ≡ any_unsettled (items_from v i es)
 any_items v i [] = refl
 any_items v i (e ∷ es) = rw (any_items v (suc i) es) refl
@@ -78,16 +72,14 @@ any_above v i (suc n) (e ∷ es) on le =
     by_sent true = refl
     by_sent false = refl
 
-pub unsettled_is : (f : Format) (s : Kept) (v : SenderView) → Keeps f s v → (any_unsettled s.items || nat_lt 0 (given_up_items s.items % 2 ^ 32)) ≡ unsettled v
+pub unsettled_is : (f : Format) (s : Kept) (v : SenderView) → Keeps f s v → (any_unsettled s.items || nat_lt 0 (given_up_items s.items)) ≡ unsettled v
 unsettled_is f s v k =
     let b = is_bounded f v k.reached in
     let one : 1 + v.cum ≡ suc v.cum = omega arith in
     let above = any_above v 1 v.cum v.plan.entries (λ j lo hi. b.covered j (omega arith) (omega arith)) b.within in
     let any : any_unsettled s.items ≡ some_entry v (is_unsettled v) = ap any_unsettled k.holds.items ∙ sym (any_items v (suc v.cum) (drop v.cum v.plan.entries)) ∙ sym (rw one at above) in
     let run : given_up_items s.items ≡ given_up_run v (drop v.cum v.plan.entries) = ap given_up_items k.holds.items ∙ run_items v (suc v.cum) (drop v.cum v.plan.entries) in
-    let small = run_small f s v k in
-    let fits : given_up_items s.items % 2 ^ 32 ≡ given_up_run v (drop v.cum v.plan.entries) = omega arith in
-    rw (any, fits) (ap (λ (c : Bool). some_entry v (is_unsettled v) || c) (past v.cum (given_up_run v (drop v.cum v.plan.entries))))
+    rw (any, run) (ap (λ (c : Bool). some_entry v (is_unsettled v) || c) (past v.cum (given_up_run v (drop v.cum v.plan.entries))))
   where
     past : (c n : ℕ) → nat_lt 0 n ≡ not ((c + n) == c)
     past c n = by_test (nat_lt 0 n) refl
@@ -104,6 +96,13 @@ outstanding_is f s v k =
     let parts = kept_in_part f s v k in
     let window = is_windowed f v k.reached in
     omega (arith, long, parts, window)
+
+-- never more than the window holds
+pub outstanding_fits : (f : Format) (s : Kept) (v : SenderView) → Keeps f s v → outstanding v ≤ WINDOW
+outstanding_fits f s v k =
+    let within = (is_bounded f v k.reached).within in
+    let window = is_windowed f v k.reached in
+    omega (arith, within, window)
 
 pub drained_is : (f : Format) (s : Kept) (v : SenderView) → Keeps f s v → ((length s.queue == 0) && ((total (λ t. one_if_rest t.rest) s.tracks % 2 ^ 32 == 0) && (length s.items == 0))) ≡ drained v
 drained_is f s v k =
@@ -194,5 +193,5 @@ nothing_waits f s v k none parts =
 pub some_is_unsettled : (f : Format) (s : Kept) (v : SenderView) → Keeps f s v → any_unsettled s.items ≡ true → true ≡ unsettled v
 some_is_unsettled f s v k any = rw any at (unsettled_is f s v k)
 
-pub point_alone : (f : Format) (s : Kept) (v : SenderView) → Keeps f s v → any_unsettled s.items ≡ false → nat_lt 0 (given_up_items s.items % 2 ^ 32) ≡ unsettled v
+pub point_alone : (f : Format) (s : Kept) (v : SenderView) → Keeps f s v → any_unsettled s.items ≡ false → nat_lt 0 (given_up_items s.items) ≡ unsettled v
 point_alone f s v k any = rw any at (unsettled_is f s v k)

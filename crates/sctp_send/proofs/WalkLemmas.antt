@@ -1,6 +1,7 @@
 -- Walks over entries, streams and the queue: one step more, and the end.
 use Rattle.std.proofs.Common.{◌≡◌, ℕ, zero, suc, ◌+◌, ◌%◌, ◌^◌, ◌<◌, ◌≤◌, List, [], ◌∷◌, length, map, drop, Bool, true, false, refl, sym, ap, ◌∙◌, arith, get_or}
-use Rattle.std.specs.Prelude.{◌||◌}
+use Rattle.std.specs.Prelude.{◌||◌, nat_lt, if◌then◌else◌}
+use Rattle.std.proofs.lemmas.Bool.Decides.{nat_tests}
 use Rattle.sctp_send.specs.inner.Walks.{given_up_items, is_item_unsettled, any_unsettled}
 use Rattle.sctp_send.proofs.ItemLemmas.{item_read}
 use Rattle.std.proofs.lemmas.List.{length-map}
@@ -49,6 +50,19 @@ ended_run size es at run le small before =
     let long = length-map es (item_meaning size) in
     let none = ap given_up_items (none_behind at (map (item_meaning size) es) (omega arith)) in
     omega (arith, before, none)
+
+-- the first entry is given up exactly where some of the first are
+pub begun_run : (size : ℕ) (es : List Outstanding) (x : Outstanding) → 0 < length es → x ≡ get_or es 0 x → x.given_up ≡ nat_lt 0 (given_up_items (map (item_meaning size) es))
+begun_run size [] x lt read = absurd (omega arith)
+begun_run size (e ∷ es) x lt read = ap (λ (y : Outstanding). y.given_up) read ∙ by_test e.given_up
+  where
+    by_test : (b : Bool) → b ≡ nat_lt 0 (if b then suc (given_up_items (map (item_meaning size) es)) else 0)
+    by_test true = grind (arith, nat_tests)
+    by_test false = refl
+
+pub none_begun : (size : ℕ) (es : List Outstanding) → length es ≡ 0 → false ≡ nat_lt 0 (given_up_items (map (item_meaning size) es))
+none_begun size [] none = refl
+none_begun size (e ∷ es) none = absurd (omega arith)
 
 pub walked_any : (size : ℕ) (es : List Outstanding) (at : ℕ) (x : Outstanding) (b : Bool) → at < length es → x ≡ get_or es at x → b ≡ is_item_unsettled (item_meaning size x)
     → any_unsettled (map (item_meaning size) es) ≡ any_unsettled (drop at (map (item_meaning size) es)) → any_unsettled (map (item_meaning size) es) ≡ (b || any_unsettled (drop (at + 1) (map (item_meaning size) es)))

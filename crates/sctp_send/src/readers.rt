@@ -1,6 +1,7 @@
 //! What a sender tells of itself.
 
-ghost use Rattle.std.specs.Prelude.{◌≡◌, ℕ, Bool, ◌<◌, ◌^◌, ◌%◌, ◌&&◌, not, map, length};
+ghost use Rattle.std.specs.Prelude.{◌≡◌, ℕ, Bool, ◌<◌, ◌≤◌, ◌^◌, ◌%◌, ◌&&◌, not, map, length, nat_lt};
+ghost use Rattle.sctp_model.specs.Limits.{WINDOW};
 ghost use Rattle.sctp_model.specs.SenderView.{SenderView};
 ghost use Rattle.sctp_model.specs.sender.Readers.{point, unsettled, drained, outstanding, abandoned, acknowledged};
 ghost use Rattle.sctp_send.specs.OutstandingFields.{item_meaning};
@@ -37,12 +38,13 @@ impl<F: Framing> Sender<F> {
         if self.outstanding.is_unsettled() {
             return true;
         }
-        given_up_run(&self.outstanding) > 0
+        first_is_given_up(&self.outstanding)
     }
 
     /// The indexes above CUM, and the messages in part: at most 32,767.
     pub fn outstanding(&self) -> u32
-        ensures { (v : SenderView) → StandsFor F.format self.now v → result ≡ outstanding v }
+        ensures count { (v : SenderView) → StandsFor F.format self.now v → result ≡ outstanding v }
+        ensures bound { (v : SenderView) → StandsFor F.format self.now v → result ≤ WINDOW }
     {
         count_of(&self.outstanding).wrapping_add(self.tracks.in_part())
     }
@@ -170,6 +172,16 @@ fn count_of(outstanding: &Window) -> u32
     ensures { result ≡ length outstanding.now.items % 2 ^ 32 }
 {
     (outstanding.len() % 0x1_0000_0000) as u32
+}
+
+/// The first entry is of an abandoned message.
+fn first_is_given_up(outstanding: &Window) -> bool
+    ensures { (size : ℕ) → result ≡ nat_lt 0 (given_up_items (map (item_meaning size) outstanding.now.items)) }
+{
+    if outstanding.len() == 0 {
+        return false;
+    }
+    outstanding.get(0).given_up
 }
 
 /// How many of the first entries are of abandoned messages.
