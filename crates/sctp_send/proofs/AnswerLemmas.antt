@@ -15,9 +15,10 @@ use Rattle.sctp_send.specs.SenderStands.{fate_here, fate_named, Keeps}
 use Rattle.sctp_send.specs.inner.Walks.{is_numbered_fate, any_rest, any_uncovered}
 use Rattle.sctp_send.specs.declared.message.Fate.{Fate}
 use Rattle.sctp_send.specs.declared.message.Fate.TheVariants.{Waiting, Numbered, Withdrawn, GivenUp}
-use Rattle.sctp_send.proofs.ReaderLemmas.{fate_at, fates_given}
+use Rattle.sctp_send.proofs.ReaderLemmas.{fate_at}
 use Rattle.sctp_send.proofs.TicketLemmas.{kept_goes_on, kept_uncovered}
 use Rattle.sctp_send.proofs.GivenLemmas.{IsKept, kept_name, kept_answer, same_after, reliable_after}
+use Rattle.sctp_send.proofs.QueueLemmas.{fates_given}
 
 -- ---- the answers
 

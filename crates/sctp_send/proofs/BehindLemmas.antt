@@ -4,7 +4,7 @@ use Rattle.std.specs.declared.rc.Rc.{Rc}
 use Rattle.std.specs.declared.alloc.Global.{Global}
 use Rattle.sctp_send.specs.WindowKept.{at_place}
 use Rattle.sctp_send.specs.inner.Drafting.{went_out}
-use Rattle.sctp_send.specs.inner.Undoing.{Parts, parts_of, before_all, origin, waits_again, IsKeptRoom, IsBehind}
+use Rattle.sctp_send.specs.inner.Undoing.{Parts, parts_of, before_all, origin, waits_again}
 use Rattle.sctp_send.specs.declared.draft.Change.{Change}
 use Rattle.sctp_send.specs.declared.draft.Change.TheVariants.{Out, Taken, In}
 use Rattle.sctp_send.specs.declared.draft.Draft.{Draft}
@@ -12,10 +12,6 @@ use Rattle.sctp_send.specs.declared.message.Message.{Message}
 use Rattle.sctp_send.specs.declared.outstanding.Outstanding.{Outstanding}
 use Rattle.sctp_send.specs.declared.sender.Track.{Track}
 use Rattle.sctp_send.proofs.UndoLemmas.{out_undone, taken_undone, before_last}
-
--- nothing changed
-pub behind_parts : (old new : Draft) → new.log.items ≡ old.log.items → parts_of new ≡ parts_of old → IsKeptRoom old new → IsBehind old new
-behind_parts old new noted parts room = record { origin = ap (λ (cs : List Change). before_all cs (parts_of new)) noted ∙ ap (before_all old.log.items) parts; room = room }
 
 -- an entry went out
 pub out_behind : (old : Draft) (cs : List Change) (es : List Outstanding) (at : ℕ) (x : Outstanding) → x ≡ get_or old.outstanding.items at x → cs ≡ old.log.items ++ Out at x.standing ∷ [] → es ≡ at_place went_out at old.outstanding.items

@@ -9,12 +9,12 @@ use Rattle.sctp_send.specs.OutstandingFields.{item_meaning}
 use Rattle.sctp_send.specs.inner.Wishing.{first_place, is_item_marked, is_item_unsent, item_weight, item_flight}
 use Rattle.sctp_send.specs.inner.Walks.{is_item_unsettled}
 use Rattle.sctp_send.specs.inner.Expiring.{item_message}
-use Rattle.sctp_send.specs.inner.Counting.{count_unsettled, entered, left, lowered, AreWorth, IsCounted}
+use Rattle.sctp_send.specs.inner.Counting.{count_unsettled, entered, left, lowered, reached, AreWorth, IsCounted}
 use Rattle.sctp_send.specs.declared.counts.Counts.{Counts}
 use Rattle.sctp_send.specs.declared.outstanding.Outstanding.{Outstanding}
 use Rattle.sctp_send.proofs.ItemLemmas.{item_read}
 use Rattle.sctp_send.proofs.WeightLemmas.{weight_small, one_small, flight_sum, unsettled_one, unsettled_sum}
-use Rattle.sctp_send.proofs.CursorLemmas.{lower_within, none_pushed, none_behind_first, none_cut, none_set}
+use Rattle.sctp_send.proofs.CursorLemmas.{lower_within, reach_within, none_reached, none_behind_first, none_cut, none_set}
 use Rattle.sctp_send.proofs.WorthLemmas.{messages_by, worth_push, worth_set}
 
 -- ---- sums modulo 2^64
@@ -38,7 +38,7 @@ module _ (weight : Item → ℕ) (total : List Item → ℕ) (is : (xs : List It
 -- ---- an entry more
 
 pub counts_pushed : (size : ℕ) (es : List Outstanding) (e : Outstanding) (c : Counts) → IsCounted size es c
-    → IsCounted size (es ++ e ∷ []) (lowered (length es) (item_meaning size e) (entered (item_meaning size e) c))
+    → IsCounted size (es ++ e ∷ []) (reached (length es) (item_meaning size e) (entered (item_meaning size e) c))
 counts_pushed size es e c h =
     let x = item_meaning size e in
     let items = map (item_meaning size) es in
@@ -48,10 +48,10 @@ counts_pushed size es e c h =
     record {
       some = h.some;
       small = h.small;
-      marked = rw more (none_pushed is_item_marked items x c.marked (length es) long h.marked_within h.marked);
-      marked_within = lower_within (is_item_marked x) c.marked (length es) (length (es ++ e ∷ [])) (let le = h.marked_within in omega arith);
-      unsent = rw more (none_pushed is_item_unsent items x c.unsent (length es) long h.unsent_within h.unsent);
-      unsent_within = lower_within (is_item_unsent x) c.unsent (length es) (length (es ++ e ∷ [])) (let le = h.unsent_within in omega arith);
+      marked = rw more (none_reached is_item_marked items x c.marked (length es) long h.marked_within h.marked);
+      marked_within = reach_within (is_item_marked x) c.marked (length es) (length (es ++ e ∷ [])) (let le = h.marked_within in omega arith) (omega (arith, longer));
+      unsent = rw more (none_reached is_item_unsent items x c.unsent (length es) long h.unsent_within h.unsent);
+      unsent_within = reach_within (is_item_unsent x) c.unsent (length es) (length (es ++ e ∷ [])) (let le = h.unsent_within in omega arith) (omega (arith, longer));
       flight = rw more (sum_pushed item_weight item_flight flight_sum items x c.flight h.flight);
       unsettled = rw more (sum_pushed unsettled_one count_unsettled unsettled_sum items x c.unsettled h.unsettled);
       earliest = worth_push (item_meaning size) item_message c.earliest es e h.earliest;

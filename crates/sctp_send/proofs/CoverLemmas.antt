@@ -76,14 +76,6 @@ or_sure false = refl
 in_run : (from to i : ℕ) → from < i → i ≤ to → (nat_lt from i && nat_le i to) ≡ true
 in_run from to i lo hi = grind (arith, nat_tests)
 
-off_run : (from to i : ℕ) → (from < i → i ≤ to → ⊥) → (nat_lt from i && nat_le i to) ≡ false
-off_run from to i out = by_test (nat_lt from i) (nat_le i to) refl refl
-  where
-    by_test : (b c : Bool) → nat_lt from i ≡ b → nat_le i to ≡ c → (b && c) ≡ false
-    by_test false c lo hi = refl
-    by_test true false lo hi = refl
-    by_test true true lo hi = absurd (out (grind (arith, nat_tests)) (grind (arith, nat_tests)))
-
 pub run_grows : (test : ℕ → Bool) (from at : ℕ) (es now : List Outstanding) → from ≤ at → at < length now → now ≡ all_told (or_run test from at) 1 es → at_place as_covered at now ≡ all_told (or_run test from (at + 1)) 1 es
 run_grows test from at es now le lt is =
     let long : at < length es = rw (is, count_told (or_run test from at) es 1) at lt in

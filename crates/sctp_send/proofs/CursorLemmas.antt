@@ -1,10 +1,12 @@
 -- Nothing before a cursor passes a test: as items come, go or change, and as a search goes on from there.
-use Rattle.std.proofs.Common.{◌≡◌, ℕ, zero, suc, ◌+◌, ◌-◌, ◌<◌, ◌≤◌, min, List, [], ◌∷◌, ◌++◌, length, map, take, get_or, set, Bool, true, false, Option, Some, None, refl, sym, ap, ◌∙◌, subst, arith}
-use Rattle.std.specs.Prelude.{option_map, if◌then◌else◌}
+use Rattle.std.proofs.Common.{◌≡◌, ℕ, zero, suc, ◌+◌, ◌-◌, ◌<◌, ◌≤◌, min, List, [], ◌∷◌, ◌++◌, length, map, take, get_or, set, Bool, true, false, Option, Some, None, refl, sym, ap, ◌∙◌, subst, arith, length-append}
+use Rattle.std.specs.Prelude.{option_map, if◌then◌else◌, not, ◌&&◌, ◌==◌}
 use Rattle.std.proofs.lemmas.List.{length-map, take_all, take_more, take-set-le}
+use Rattle.std.proofs.lemmas.Bool.Decides.{nat_tests}
 use Rattle.sctp_send.specs.SenderKept.{Item}
 use Rattle.sctp_send.specs.OutstandingFields.{item_meaning}
 use Rattle.sctp_send.specs.inner.Wishing.{first_place}
+use Rattle.sctp_send.specs.inner.Counting.{furthest}
 use Rattle.sctp_send.specs.declared.outstanding.Outstanding.{Outstanding}
 use Rattle.sctp_send.proofs.ItemLemmas.{item_read}
 
@@ -72,17 +74,39 @@ pub lower_within : (b : Bool) (k n m : ℕ) → k ≤ m → (if b then min k n e
 lower_within true k n m le = omega arith
 lower_within false k n m le = le
 
--- one item more, behind the others
-pub none_pushed : (test : Item → Bool) (xs : List Item) (x : Item) (k n : ℕ) → n ≡ length xs → k ≤ n → first_place test (take k xs) ≡ None
-    → first_place test (take (if test x then min k n else k) (xs ++ x ∷ [])) ≡ None
-none_pushed test xs x k n long le none = by_test (test x)
+-- one item more, behind the others: a cursor there passes it, where it doesn't count
+pub none_reached : (test : Item → Bool) (xs : List Item) (x : Item) (k n : ℕ) → n ≡ length xs → k ≤ n → first_place test (take k xs) ≡ None
+    → first_place test (take (furthest n (test x) k) (xs ++ x ∷ [])) ≡ None
+none_reached test xs x k n long le none = by_cases (k == n) refl (test x) refl
   where
-    grown : (j : ℕ) → j ≤ k → j ≤ length xs → first_place test (take j (xs ++ x ∷ [])) ≡ None
-    grown j less within = of_off test (take j (xs ++ x ∷ [])) (off_joined test xs (x ∷ []) j within (off_less test xs j k less (off_of test (take k xs) none)))
+    off : AreOff test (take k xs)
+    off = off_of test (take k xs) none
 
-    by_test : (b : Bool) → first_place test (take (if b then min k n else k) (xs ++ x ∷ [])) ≡ None
-    by_test true = grown (min k n) (omega arith) (omega arith)
-    by_test false = grown k (omega arith) (omega arith)
+    stays : first_place test (take k (xs ++ x ∷ [])) ≡ None
+    stays = of_off test (take k (xs ++ x ∷ [])) (off_joined test xs (x ∷ []) k (omega (arith, le, long)) off)
+
+    whole : k ≡ length xs → take k xs ≡ xs
+    whole same = take_all k xs (omega (arith, same))
+
+    longer : k ≡ n → take (suc n) (xs ++ x ∷ []) ≡ xs ++ x ∷ []
+    longer same = take_all (suc n) (xs ++ x ∷ []) (omega (arith, long, length-append xs (x ∷ [])))
+
+    passes : k ≡ n → test x ≡ false → first_place test (take (suc n) (xs ++ x ∷ [])) ≡ None
+    passes same miss =
+        ap (first_place test) (longer same) ∙ of_off test (xs ++ x ∷ []) (off_both test xs (x ∷ []) (subst (AreOff test) (whole (same ∙ long)) off) (miss, tt))
+
+    by_cases : (b : Bool) → (k == n) ≡ b → (c : Bool) → test x ≡ c → first_place test (take (if b && not c then suc n else k) (xs ++ x ∷ [])) ≡ None
+    by_cases false far c is = stays
+    by_cases true near true is = stays
+    by_cases true near false is = passes (grind (arith, nat_tests)) is
+
+-- a cursor that passes an offset or stays
+pub reach_within : (b : Bool) (k n m : ℕ) → k ≤ m → suc n ≤ m → furthest n b k ≤ m
+reach_within b k n m le less = by_cases ((k == n) && not b)
+  where
+    by_cases : (c : Bool) → (if c then suc n else k) ≤ m
+    by_cases true = less
+    by_cases false = le
 
 -- the first item goes
 pub none_behind_first : (test : Item → Bool) (x : Item) (xs : List Item) (k : ℕ) → first_place test (take k (x ∷ xs)) ≡ None → first_place test (take (k - 1) xs) ≡ None

@@ -1,5 +1,5 @@
 -- Bounds on what counts: the messages of a lane, and the fragments of a message, are fewer than the TSNs promised.
-use Rattle.std.proofs.Common.{◌≡◌, ℕ, zero, suc, ◌+◌, ◌<◌, ◌≤◌, ◌^◌, List, [], ◌∷◌, ◌++◌, length, get_or, Bool, true, false, Some, ap, subst, arith, length-append}
+use Rattle.std.proofs.Common.{◌≡◌, ℕ, zero, suc, ◌+◌, ◌<◌, ◌≤◌, ◌^◌, List, [], ◌∷◌, ◌++◌, length, Bool, true, false, Some, ap, subst, arith, length-append}
 use Rattle.std.specs.Prelude.{slice_get, if◌then◌else◌}
 use Rattle.sctp_model.specs.Limits.{TSN_LIMIT}
 use Rattle.sctp_model.specs.Format.{Format, Lane, same_lane}
@@ -67,14 +67,6 @@ first_owed s q (x ∷ qs) is = by_test (is_on s x) is (λ there. first_owed s q 
     by_test : (b : Bool) → (if b then Some x else first_on s qs) ≡ Some q → (first_on s qs ≡ Some q → length q.message.fragments ≤ owed_by_queue qs) → length q.message.fragments ≤ owed_by_queue (x ∷ qs)
     by_test true here further = let same : x ≡ q = cc in subst (λ (y : Queued). length y.message.fragments ≤ owed_by_queue (x ∷ qs)) same (omega arith)
     by_test false here further = let rest = further here in omega arith
-
-placed_owed : (qs : List Queued) (at : ℕ) (d : Queued) → at < length qs → length (get_or qs at d).message.fragments ≤ owed_by_queue qs
-placed_owed [] at d low = absurd (omega arith)
-placed_owed (q ∷ qs) zero d low = omega arith
-placed_owed (q ∷ qs) (suc at) d low = let rest = placed_owed qs at d (omega arith) in omega arith
-
-pub few_queued : (f : Format) (v : SenderView) (at : ℕ) (d : Queued) → IsReached f v → at < length v.queue → suc (length (get_or v.queue at d).message.fragments) < 2 ^ 32
-few_queued f v at d h low = let owed = placed_owed v.queue at d low in let most = is_promised f v h in omega (arith, owed, most)
 
 -- ---- fragments of messages that have a number
 

@@ -129,10 +129,6 @@ loop_some f s v p now later d steps x some = record {
   chunks = chunks_more f p now later x.wishes some.wishes x.chunks some.chunks;
 }
 
--- nothing went
-pub none_put : (f : Format) (v : SenderView) (p r : PacketDraft) → r ≡ p → PutSomeOf f v p r
-none_put f v p r same = record { wishes = []; view = v; follows = refl; chunks = same ∙ sym (no_chunks p) }
-
 -- a draft of what a sender keeps
 pub moved_is : (s : Kept) (d : Draft) → map (item_meaning s.fragment) d.outstanding.items ≡ s.items → map (queued_by s.fragment) d.queue.items ≡ s.queue → map (track_meaning s.fragment) d.tracks.items ≡ s.tracks
     → d.turn ≡ s.turn → d.tickets.items ≡ [] → d.outstanding.capacity ≡ s.capacity → drafted s d ≡ s

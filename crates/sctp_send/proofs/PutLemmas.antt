@@ -3,7 +3,6 @@ use Rattle.std.proofs.Common.{◌≡◌, ℕ, zero, suc, ◌+◌, ◌<◌, List,
 use Rattle.std.specs.Prelude.{nat_le, not, ◌&&◌, ◌||◌, if◌then◌else◌, option_map}
 use Rattle.std.proofs.lemmas.Bool.{and_parts}
 use Rattle.std.proofs.lemmas.List.{length-map}
-use Rattle.std.proofs.lemmas.Option.{slice_get_read}
 use Rattle.sctp_model.specs.Format.{Format}
 use Rattle.sctp_model.specs.Chunk.{ChunkMeaning}
 use Rattle.sctp_model.specs.Plan.{Entry}
@@ -169,10 +168,6 @@ entry_put f s v before after old new at x size m put k premise low read sized mi
     by_put false is =
         entry_stops f s v before after old new at x k premise low read (ap (has_room before) (sym chunk) ∙ sym room ∙ is)
         (packet ∙ ap (after_try before (fragment_chunk f size s.initial (suc (s.cum + at)) m x.number x.place)) is) (stayed is).0 (stayed is).1
-
--- an entry that was read twice is one
-pub read_once : (xs : List Outstanding) (at : ℕ) (x y : Outstanding) → at < length xs → x ≡ get_or xs at x → y ≡ get_or xs at y → x ≡ y
-read_once xs at x y low one two = let here = slice_get_read xs (length xs) at x refl low one in let there = slice_get_read xs (length xs) at y refl low two in let same : Some x ≡ Some y = sym here ∙ there in cc
 
 -- the draft in which an entry went out
 pub sent_draft : (s : Kept) (old : Draft) (w : WindowKept) (at : ℕ) (x : Outstanding) → x ≡ get_or old.outstanding.items at x → w ≡ changed went_out at old.outstanding → drafted s (record old { outstanding = w }) ≡ with_gone s old at x

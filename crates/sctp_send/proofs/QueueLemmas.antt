@@ -9,6 +9,7 @@ use Rattle.sctp_model.specs.Plan.{Entry, Part, End}
 use Rattle.sctp_model.specs.SenderView.{Queued, SenderView}
 use Rattle.sctp_model.specs.sender.Entries.{continued, fragments_from, one_if_some, sum_below, in_part}
 use Rattle.sctp_model.specs.sender.Queueing.{cut, owed_for, owed_by_queue, owed_by_parts, promised, refusal, queued, Spent}
+use Rattle.sctp_model.specs.sender.Words.{when, first_there}
 use Rattle.sctp_model.specs.sender.Abandoning.{waits, name_of}
 use Rattle.sctp_model.specs.sender.Reached.{Queues}
 use Rattle.sctp_model.proofs.sender.PlanLaws.{continued_is}
@@ -139,11 +140,12 @@ pub record IsFit (s : Kept) (n : ℕ) (bytes : List ℕ) : Type 0 where
   pub short : length bytes ≤ 65536
   pub waits : length s.queue < 1024
 
-pub spent_ticket : (f : Format) (s : Kept) (v : SenderView) (stream : ℕ) (bytes : List ℕ) → Keeps f s v → IsFit s stream bytes → 2 ^ 32 - 1 ≤ length s.fates → refusal v stream bytes ≡ Some Spent
-spent_ticket f s v stream bytes k fit over =
+-- nothing but Spent can hold then
+only_spent : (f : Format) (s : Kept) (v : SenderView) (stream : ℕ) (bytes : List ℕ) → Keeps f s v → IsFit s stream bytes
+    → refusal v stream bytes ≡ (if nat_le TICKET_LIMIT v.tickets || nat_lt TSN_LIMIT (promised v + owed_for (length (cut v.fragment bytes))) then Some Spent else None)
+only_spent f s v stream bytes k fit =
     let streams = k.holds.streams in
     let queue = ap (λ (qs : List Queued). length qs) k.holds.queue in
-    let fates = ap (λ (xs : List Fate). length xs) k.holds.fates ∙ length-table (fate_here v) 1 v.tickets in
     let one = fit.stream in
     let two = fit.some in
     let three = fit.short in
@@ -152,8 +154,21 @@ spent_ticket f s v stream bytes k fit over =
     let b : (length bytes == 0) ≡ false = grind (arith, nat_tests) in
     let c : nat_lt LONGEST_MESSAGE (length bytes) ≡ false = grind (arith, nat_tests) in
     let d : nat_le QUEUE_LIMIT (length v.queue) ≡ false = grind (arith, nat_tests) in
+    rw (a, b, c, d) (by_test (nat_le TICKET_LIMIT v.tickets || nat_lt TSN_LIMIT (promised v + owed_for (length (cut v.fragment bytes)))))
+  where
+    by_test : (x : Bool) → first_there (when x Spent ∷ []) ≡ (if x then Some Spent else None)
+    by_test true = refl
+    by_test false = refl
+
+-- as many tickets are given as are kept fates
+pub fates_given : (f : Format) (s : Kept) (v : SenderView) → Keeps f s v → length s.fates ≡ v.tickets
+fates_given f s v k = ap (λ (xs : List Fate). length xs) k.holds.fates ∙ length-table (fate_here v) 1 v.tickets
+
+pub spent_ticket : (f : Format) (s : Kept) (v : SenderView) (stream : ℕ) (bytes : List ℕ) → Keeps f s v → IsFit s stream bytes → 2 ^ 32 - 1 ≤ length s.fates → refusal v stream bytes ≡ Some Spent
+spent_ticket f s v stream bytes k fit over =
+    let fates = fates_given f s v k in
     let e : nat_le TICKET_LIMIT v.tickets ≡ true = grind (arith, nat_tests) in
-    rw (a, b, c, d, e) refl
+    only_spent f s v stream bytes k fit ∙ rw e refl
 
 -- what the sum of what is promised and owed says
 sum_fits : (f : Format) (s : Kept) (v : SenderView) (bytes : List ℕ) (p o : ℕ) → Keeps f s v → length bytes ≤ 65536 → p ≡ promised v → o ≡ owed_for (length (cut s.fragment bytes)) % 2 ^ 64
@@ -167,40 +182,20 @@ sum_fits f s v bytes p o k short promise owed =
 pub spent_owed : (f : Format) (s : Kept) (v : SenderView) (stream : ℕ) (bytes : List ℕ) (p o : ℕ) → Keeps f s v → IsFit s stream bytes → length s.fates < 2 ^ 32 - 1 → p ≡ promised v → o ≡ owed_for (length (cut s.fragment bytes)) % 2 ^ 64
     → 2 ^ 31 - 1 < (p + o) % 2 ^ 64 → refusal v stream bytes ≡ Some Spent
 spent_owed f s v stream bytes p o k fit under promise owed over =
-    let streams = k.holds.streams in
-    let queue = ap (λ (qs : List Queued). length qs) k.holds.queue in
-    let fates = ap (λ (xs : List Fate). length xs) k.holds.fates ∙ length-table (fate_here v) 1 v.tickets in
-    let one = fit.stream in
-    let two = fit.some in
-    let three = fit.short in
-    let four = fit.waits in
+    let fates = fates_given f s v k in
     let sum = sum_fits f s v bytes p o k fit.short promise owed in
-    let a : nat_le v.streams stream ≡ false = grind (arith, nat_tests) in
-    let b : (length bytes == 0) ≡ false = grind (arith, nat_tests) in
-    let c : nat_lt LONGEST_MESSAGE (length bytes) ≡ false = grind (arith, nat_tests) in
-    let d : nat_le QUEUE_LIMIT (length v.queue) ≡ false = grind (arith, nat_tests) in
     let e : nat_le TICKET_LIMIT v.tickets ≡ false = grind (arith, nat_tests) in
     let g : nat_lt TSN_LIMIT (promised v + owed_for (length (cut v.fragment bytes))) ≡ true = grind (arith, nat_tests) in
-    rw (a, b, c, d, e, g) refl
+    only_spent f s v stream bytes k fit ∙ rw (e, g) refl
 
 pub none_refuses : (f : Format) (s : Kept) (v : SenderView) (stream : ℕ) (bytes : List ℕ) (p o : ℕ) → Keeps f s v → IsFit s stream bytes → length s.fates < 2 ^ 32 - 1 → p ≡ promised v → o ≡ owed_for (length (cut s.fragment bytes)) % 2 ^ 64
     → (p + o) % 2 ^ 64 ≤ 2 ^ 31 - 1 → refusal v stream bytes ≡ None
 none_refuses f s v stream bytes p o k fit under promise owed within =
-    let streams = k.holds.streams in
-    let queue = ap (λ (qs : List Queued). length qs) k.holds.queue in
-    let fates = ap (λ (xs : List Fate). length xs) k.holds.fates ∙ length-table (fate_here v) 1 v.tickets in
-    let one = fit.stream in
-    let two = fit.some in
-    let three = fit.short in
-    let four = fit.waits in
+    let fates = fates_given f s v k in
     let sum = sum_fits f s v bytes p o k fit.short promise owed in
-    let a : nat_le v.streams stream ≡ false = grind (arith, nat_tests) in
-    let b : (length bytes == 0) ≡ false = grind (arith, nat_tests) in
-    let c : nat_lt LONGEST_MESSAGE (length bytes) ≡ false = grind (arith, nat_tests) in
-    let d : nat_le QUEUE_LIMIT (length v.queue) ≡ false = grind (arith, nat_tests) in
     let e : nat_le TICKET_LIMIT v.tickets ≡ false = grind (arith, nat_tests) in
     let g : nat_lt TSN_LIMIT (promised v + owed_for (length (cut v.fragment bytes))) ≡ false = grind (arith, nat_tests) in
-    rw (a, b, c, d, e, g) refl
+    only_spent f s v stream bytes k fit ∙ rw (e, g) refl
 
 -- want of memory is told where nothing refuses
 pub memory_told : (v : SenderView) (stream : ℕ) (bytes : List ℕ) (r : Result Ticket SendFault) (P : SendFault → Type 0) → IsErrAnd r P → ((e : SendFault) → P e → e ≡ NoMemory) → refusal v stream bytes ≡ None → QueueAnswer v stream bytes r

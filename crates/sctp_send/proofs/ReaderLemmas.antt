@@ -15,11 +15,11 @@ use Rattle.sctp_model.proofs.sender.OwedLaws.{is_promised, is_windowed}
 use Rattle.sctp_model.proofs.sender.TicketLaws.{IsTicketed, is_ticketed, name_of_none, found_owns}
 use Rattle.sctp_send.specs.SenderKept.{Item, Kept}
 use Rattle.sctp_send.specs.SenderStands.{items_from, fate_here, fate_named, Keeps}
-use Rattle.sctp_send.specs.inner.Walks.{given_up_items, is_item_unsettled, any_unsettled, total, one_if_rest, is_given_up_fate}
+use Rattle.sctp_send.specs.inner.Walks.{given_up_items, any_unsettled, total, one_if_rest, is_given_up_fate}
 use Rattle.sctp_send.specs.declared.message.Fate.{Fate}
 use Rattle.sctp_send.specs.declared.message.Fate.TheVariants.{Waiting, Numbered, GivenUp}
 use Rattle.sctp_send.proofs.KeepLemmas.{kept_length}
-use Rattle.sctp_send.proofs.QueueLemmas.{kept_in_part}
+use Rattle.sctp_send.proofs.QueueLemmas.{kept_in_part, fates_given}
 use Rattle.sctp_send.proofs.TableLemmas.{get_or-table, length-table}
 
 -- ---- walks
@@ -28,11 +28,6 @@ pub run_step : (xs : List Item) (at : ℕ) (d : Item) → at < length xs → giv
 run_step [] at d lt = absurd (omega arith)
 run_step (x ∷ xs) zero d lt = refl
 run_step (x ∷ xs) (suc at) d lt = run_step xs at d (omega arith)
-
-pub any_step : (xs : List Item) (at : ℕ) (d : Item) → at < length xs → any_unsettled (drop at xs) ≡ (is_item_unsettled (get_or xs at d) || any_unsettled (drop (suc at) xs))
-any_step [] at d lt = absurd (omega arith)
-any_step (x ∷ xs) zero d lt = refl
-any_step (x ∷ xs) (suc at) d lt = any_step xs at d (omega arith)
 
 pub run_items : (v : SenderView) (i : ℕ) (es : List Entry) → given_up_items (items_from v i es) ≡ given_up_run v es
 run_items v i [] = refl
@@ -128,9 +123,6 @@ pub fate_at : (f : Format) (s : Kept) (v : SenderView) (t : ℕ) (d : Fate) → 
 fate_at f s v t d k lt =
     let long = ap (λ (xs : List Fate). length xs) k.holds.fates ∙ length-table (fate_here v) 1 v.tickets in
     ap (λ (xs : List Fate). get_or xs t d) k.holds.fates ∙ get_or-table (fate_here v) 1 v.tickets t d (omega arith) ∙ ap (fate_here v) (let e : 1 + t ≡ suc t = omega arith in e)
-
-pub fates_given : (f : Format) (s : Kept) (v : SenderView) → Keeps f s v → length s.fates ≡ v.tickets
-fates_given f s v k = ap (λ (xs : List Fate). length xs) k.holds.fates ∙ length-table (fate_here v) 1 v.tickets
 
 pub abandoned_fate : (f : Format) (v : SenderView) (t : ℕ) → IsTicketed v → abandoned v t ≡ is_given_up_fate (fate_here v t)
 abandoned_fate f v t h = by_wait (waits t v.queue) refl

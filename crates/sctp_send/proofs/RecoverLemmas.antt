@@ -64,12 +64,6 @@ alone_all b rs os k es now le is = is ∙ ap (λ (ys : List Run). told_where b (
     all (x ∷ xs) zero lt = absurd (omega arith)
     all (x ∷ xs) (suc n) lt = ap (λ (ys : List Run). x ∷ ys) (all xs n (omega arith))
 
--- less is known
-pub exact_less : (a b : Bool) (rs : List Run) (es : List Outstanding) → IsExact a rs es → IsExact (a && b) rs es
-exact_less true true rs es h = h
-exact_less true false rs es h = tt
-exact_less false b rs es h = tt
-
 -- ---- all of it
 
 -- what lay in the old runs is told covered where it lies in new ones alone, and then uncovered where it lay in old ones alone

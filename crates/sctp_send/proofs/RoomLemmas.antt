@@ -11,12 +11,11 @@ use Rattle.sctp_model.specs.SenderView.{SenderView}
 use Rattle.sctp_model.specs.sender.Entries.{sum_from, flight_of, in_flight, in_part}
 use Rattle.sctp_model.specs.sender.Assigning.{assigned}
 use Rattle.sctp_model.specs.sender.Readers.{outstanding}
-use Rattle.sctp_model.specs.sender.Filling.{Wish, standing, newcomer, bytes_of_wish, chunk_of, room_of, may_go, goes}
+use Rattle.sctp_model.specs.sender.Filling.{Wish, newcomer, bytes_of_wish, chunk_of, room_of, may_go, goes}
 use Rattle.sctp_model.specs.sender.Reached.{IsReached}
 use Rattle.sctp_model.proofs.sender.WishCases.{IsAssigned, Whole, Begun, Continued, assigned_cases}
 use Rattle.sctp_model.proofs.sender.FillLaws.{room_some, room_fits, goes_parts}
 use Rattle.sctp_model.proofs.sender.Bounds.{is_bounded}
-use Rattle.sctp_model.proofs.sender.MarkLaws.{is_marked_well}
 use Rattle.sctp_model.proofs.sender.FlightLaws.{flight_above, flight_assigned}
 use Rattle.sctp_model.proofs.sender.OwedLaws.{is_windowed}
 use Rattle.sctp_packet.specs.Draft.{Draft, room_in, has_room, with_chunks}
@@ -76,18 +75,6 @@ within_window f v h = let most = is_windowed f v h in let low = (is_bounded f v 
 and_true : (b : Bool) → (b && true) ≡ b
 and_true true = refl
 and_true false = refl
-
--- a repeat needs room alone
-pub go_marked : (f : Format) (s : Kept) (v : SenderView) (room i : ℕ) → Keeps f s v → v.marked i ≡ true → may_go f room (standing v i) ≡ nat_le (room_of f (standing v i)) room
-go_marked f s v room i k on = rw ((is_marked_well f v k.reached).sent i on, within_window f v k.reached) (and_true (nat_le (room_of f (standing v i)) room))
-
--- what has its index and never went out must be let flow, too
-pub go_unsent : (f : Format) (s : Kept) (v : SenderView) (room i : ℕ) → Keeps f s v → v.sent i ≡ false
-    → may_go f room (standing v i) ≡ (nat_le (room_of f (standing v i)) room && lets_flow (item_flight s.items) (length (bytes_of_wish (standing v i))) s.rwnd)
-go_unsent f s v room i k off =
-    let flight = flight_kept f s v k in
-    let rwnd = k.holds.rwnd in
-    rw (off, within_window f v k.reached, ← flight, rwnd) (ap (λ (b : Bool). nat_le (room_of f (standing v i)) room && b) (and_true (lets_flow (in_flight v) (length (bytes_of_wish (standing v i))) v.rwnd)))
 
 -- an assignment sends nothing, and says nothing of the peer
 record IsQuiet (v u : SenderView) : Type 0 where

@@ -67,12 +67,6 @@ behind_more n at rs now x low is read =
     let value : x ≡ get_or (first_behind n at rs) at x = read ∙ ap (λ (xs : List Run). get_or xs at x) is in
     ap (λ (xs : List Run). set xs at (run_behind n x)) is ∙ ap (λ (y : Run). set (first_behind n at rs) at (run_behind n y)) value ∙ behind_step n at rs x low ∙ rw one refl
 
-pub behind_all : (n at : ℕ) (rs : List Run) → length rs ≤ at → first_behind n at rs ≡ runs_behind n rs
-behind_all n zero [] le = refl
-behind_all n (suc at) [] le = refl
-behind_all n zero (r ∷ rs) le = absurd (omega arith)
-behind_all n (suc at) (r ∷ rs) le = ap (λ (xs : List Run). run_behind n r ∷ xs) (behind_all n at rs (omega arith))
-
 -- runs that are known or not
 pub when_behind : (b : Bool) (n : ℕ) (rs xs : List Run) → xs ≡ runs_behind n rs → when b xs ≡ option_map (runs_behind n) (when b rs)
 when_behind true n rs xs is = ap (λ (ys : List Run). Some ys) is

@@ -23,8 +23,9 @@ use Rattle.sctp_send.specs.declared.outstanding.Outstanding.{Outstanding}
 use Rattle.sctp_send.specs.declared.sender.Track.{Track as TrackFields}
 use Rattle.sctp_send.proofs.TableLemmas.{table-push}
 use Rattle.sctp_send.proofs.ItemLemmas.{item_read}
-use Rattle.sctp_send.proofs.ReaderLemmas.{fate_at, fates_given}
+use Rattle.sctp_send.proofs.ReaderLemmas.{fate_at}
 use Rattle.sctp_send.proofs.WalkLemmas.{none_behind, track_read}
+use Rattle.sctp_send.proofs.QueueLemmas.{fates_given}
 
 -- ---- what is kept, and the view
 

@@ -1,5 +1,5 @@
 -- What a fill noted is taken back, the last change first: then the parts are as they were.
-use Rattle.std.proofs.Common.{◌≡◌, ℕ, zero, suc, ◌+◌, ◌<◌, ◌≤◌, List, [], ◌∷◌, ◌++◌, length, get_or, set, remove, insert, Bool, true, false, refl, sym, ap, ◌∙◌, subst, arith, length-append}
+use Rattle.std.proofs.Common.{◌≡◌, ℕ, zero, suc, ◌+◌, ◌<◌, ◌≤◌, List, [], ◌∷◌, ◌++◌, length, get_or, remove, insert, Bool, true, false, refl, sym, ap, ◌∙◌, subst, arith, length-append}
 use Rattle.std.specs.Prelude.{nat_le, if◌then◌else◌}
 use Rattle.std.proofs.lemmas.Bool.Decides.{nat_tests}
 use Rattle.std.proofs.lemmas.List.Edits.{length-insert, length-remove}
@@ -34,11 +34,6 @@ pub at_place_past : {A : Type 0} (f : A → A) (n : ℕ) (xs : List A) → lengt
 at_place_past f n [] le = refl
 at_place_past f zero (y ∷ ys) le = absurd (omega arith)
 at_place_past f (suc n) (y ∷ ys) le = ap (λ zs. y ∷ zs) (at_place_past f n ys (omega arith))
-
-pub set_nowhere : {A : Type 0} (n : ℕ) (xs : List A) (x : A) → length xs ≤ n → xs ≡ set xs n x
-set_nowhere n [] x le = refl
-set_nowhere zero (y ∷ ys) x le = absurd (omega arith)
-set_nowhere (suc n) (y ∷ ys) x le = ap (λ zs. y ∷ zs) (set_nowhere n ys x (omega arith))
 
 -- ---- one change is taken back
 

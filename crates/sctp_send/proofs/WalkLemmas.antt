@@ -12,7 +12,7 @@ use Rattle.sctp_send.specs.SenderFields.{track_meaning, queued_by}
 use Rattle.sctp_send.specs.declared.message.Message.{Message as MessageFields}
 use Rattle.sctp_send.specs.declared.outstanding.Outstanding.{Outstanding}
 use Rattle.sctp_send.specs.declared.sender.Track.{Track as TrackFields}
-use Rattle.sctp_send.proofs.ReaderLemmas.{run_step, any_step}
+use Rattle.sctp_send.proofs.ReaderLemmas.{run_step}
 
 -- ---- walks, entry by entry
 
@@ -63,19 +63,6 @@ begun_run size (e ∷ es) x lt read = ap (λ (y : Outstanding). y.given_up) read
 pub none_begun : (size : ℕ) (es : List Outstanding) → length es ≡ 0 → false ≡ nat_lt 0 (given_up_items (map (item_meaning size) es))
 none_begun size [] none = refl
 none_begun size (e ∷ es) none = absurd (omega arith)
-
-pub walked_any : (size : ℕ) (es : List Outstanding) (at : ℕ) (x : Outstanding) (b : Bool) → at < length es → x ≡ get_or es at x → b ≡ is_item_unsettled (item_meaning size x)
-    → any_unsettled (map (item_meaning size) es) ≡ any_unsettled (drop at (map (item_meaning size) es)) → any_unsettled (map (item_meaning size) es) ≡ (b || any_unsettled (drop (at + 1) (map (item_meaning size) es)))
-walked_any size es at x b lt read is before =
-    let long = length-map es (item_meaning size) in
-    let step = any_step (map (item_meaning size) es) at (item_meaning size x) (omega arith) in
-    let one : at + 1 ≡ suc at = omega arith in
-    before ∙ step ∙ rw (item_read size es at x read, ← is, one) refl
-
-pub ended_any : (size : ℕ) (es : List Outstanding) (at : ℕ) → length es ≤ at → any_unsettled (map (item_meaning size) es) ≡ any_unsettled (drop at (map (item_meaning size) es)) → false ≡ any_unsettled (map (item_meaning size) es)
-ended_any size es at le before =
-    let long = length-map es (item_meaning size) in
-    sym (before ∙ ap any_unsettled (none_behind at (map (item_meaning size) es) (omega arith)))
 
 -- ---- what is read of streams and of the queue
 

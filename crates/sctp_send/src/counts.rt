@@ -2,7 +2,7 @@
 
 ghost use Rattle.std.specs.Prelude.{◌≡◌, ℕ, ◌<◌, min, if◌then◌else◌};
 ghost use Rattle.sctp_send.specs.OutstandingFields.{item_meaning};
-ghost use Rattle.sctp_send.specs.inner.Counting.{entered, left, lowered, moment};
+ghost use Rattle.sctp_send.specs.inner.Counting.{entered, left, lowered, furthest, reached, moment};
 ghost use Rattle.sctp_send.specs.inner.Newcomers.{one_if};
 
 use crate::message::moment_of;
@@ -57,12 +57,33 @@ impl Counts {
         self.unsettled = self.unsettled.wrapping_sub(one_if(is_unsettled(entry)));
     }
 
+    /// What comes at an offset, behind all others, may have to go out; where it hasn't, a cursor there passes it.
+    pub fn reach(&mut self, at: usize, entry: &Outstanding)
+        requires { at < 0xffff_ffff_ffff_ffff }
+        ensures { (size : ℕ) → self.new ≡ reached at (item_meaning size entry.now) self.old }
+    {
+        self.marked = furthest(self.marked, at, is_repeat(entry));
+        self.unsent = furthest(self.unsent, at, is_first_sending(entry));
+    }
+
     /// What stands at an offset may have to go out.
     pub fn lower(&mut self, at: usize, entry: &Outstanding)
         ensures { (size : ℕ) → self.new ≡ lowered at (item_meaning size entry.now) self.old }
     {
         self.marked = lowest(self.marked, at, is_repeat(entry));
         self.unsent = lowest(self.unsent, at, is_first_sending(entry));
+    }
+}
+
+/// A cursor; or one past an offset that it has reached, where that doesn't count.
+fn furthest(cursor: usize, at: usize, counts: bool) -> usize
+    requires { at < 0xffff_ffff_ffff_ffff }
+    ensures { result ≡ furthest at counts cursor }
+{
+    if cursor == at && !counts {
+        at + 1
+    } else {
+        cursor
     }
 }
 

@@ -56,7 +56,7 @@ pub fn note(log: &mut Vec<Change>, change: Change)
     ensures long { vec_len log.new ≡ vec_len log.old + 1 }
     ensures capacity { vec_capacity log.old ≤ vec_capacity log.new }
 {
-    let _noted = log.push(change);
+    log.push_reserved(change);
 }
 
 /// All changes are taken back, the last one first.

@@ -1,8 +1,12 @@
 //! A message as it was handed in, and the name that its user has for it.
 
-ghost use Rattle.std.specs.Prelude.{◌≡◌, ℕ, Some};
+ghost use Rattle.std.specs.Prelude.{◌≡◌, ℕ, Some, IfOk};
 ghost use Rattle.sctp_send.specs.OutstandingFields.{message_meaning};
 ghost use Rattle.sctp_send.specs.inner.Counting.{moment_from};
+
+use sctp_wire::NoMemory;
+use std::alloc::Global;
+use std::rc::Rc;
 
 /// The name of an accepted message: 1 for the first one, and so on.
 #[derive(Clone, Copy, Debug, PartialEq, Eq)]
@@ -28,6 +32,42 @@ pub fn moment_of(message: &Message) -> u64
         Some(until) => until,
         None => u64::MAX,
     }
+}
+
+/// The most places of messages that are kept for messages to come.
+pub const SPENT: usize = 64;
+
+/// Keeps the place of a message, without its bytes, where nothing else has it and there is room.
+pub fn lay_by(spent: &mut Vec<Rc<Message>>, alloc: Global, message: Rc<Message>) {
+    if spent.len() >= spent.capacity() {
+        return;
+    }
+    let mut place = message;
+    match Rc::get_mut(&mut place) {
+        Some(gone) => gone.bytes = Vec::new(alloc),
+        None => return,
+    }
+    spent.push_reserved(place);
+}
+
+/// A message takes a place that was laid by, or else one of its own.
+///
+/// # Errors
+/// `NoMemory`.
+pub fn placed(
+    spent: &mut Vec<Rc<Message>>,
+    alloc: Global,
+    message: Message,
+) -> Result<Rc<Message>, NoMemory>
+    ensures { IfOk result (λ placed. placed.value ≡ message) }
+{
+    if let Some(mut place) = spent.pop() {
+        if let Some(gone) = Rc::get_mut(&mut place) {
+            *gone = message;
+            return Ok(place);
+        }
+    }
+    Rc::new(alloc, message).map_err(|_| NoMemory)
 }
 
 /// What became of an accepted message.

@@ -8,9 +8,10 @@ ghost use Rattle.sctp_model.specs.sender.SackTaken.{some_is_bad};
 ghost use Rattle.sctp_send.specs.CoveredRuns.{run_behind, runs_behind, HoldsBlocks};
 ghost use Rattle.sctp_send.specs.inner.Acknowledging.{block_fault};
 
-use crate::message::Message;
+use crate::message::{Message, lay_by};
 use crate::window::Window;
 use sctp_wire::Blocks;
+use std::alloc::Global;
 use std::rc::Rc;
 
 /// Whether an entry went out, and whether it is to go out again.
@@ -120,14 +121,16 @@ pub fn cover(outstanding: &mut Window, blocks: &Blocks<'_>)
     }
 }
 
-/// The first entries go: so many are acknowledged cumulatively.
-pub fn forget(outstanding: &mut Window, passed: usize)
+/// The first entries go: so many are acknowledged cumulatively. What they leave is laid by for messages to come.
+pub fn forget(outstanding: &mut Window, spent: &mut Vec<Rc<Message>>, alloc: Global, passed: usize)
     requires { passed ≤ length outstanding.old.items }
     ensures items { outstanding.new.items ≡ drop passed outstanding.old.items }
     ensures kept { IsSameRoom outstanding.old outstanding.new }
 {
     for _ in 0..passed {
-        outstanding.pop_front();
+        if let Some(message) = outstanding.pop_front() {
+            lay_by(spent, alloc, message);
+        }
     }
 }
 

@@ -10,7 +10,7 @@ ghost use Rattle.sctp_send.specs.SenderStands.{StandsFor};
 ghost use Rattle.sctp_send.specs.inner.Walks.{rest_owes};
 ghost use Rattle.sctp_send.specs.SenderAnswers.{QueueAnswer, queue_after, lane_for};
 
-use crate::message::{Fate, Message, Ticket};
+use crate::message::{Fate, Message, Ticket, placed};
 use crate::sender::{Sender, Track};
 use crate::waiting::Waiting;
 use sctp_framing::Framing;
@@ -106,7 +106,7 @@ impl<F: Framing> Sender<F> {
             until,
             bytes,
         };
-        wait_behind(&mut self.queue, self.alloc, message)?;
+        wait_behind(&mut self.queue, &mut self.spent, self.alloc, message)?;
         // There is room for it.
         let _kept = self.fates.push(Fate::Waiting);
         Ok(Ticket(ticket))
@@ -124,13 +124,18 @@ impl<F: Framing> Sender<F> {
 }
 
 /// A message waits behind the others.
-fn wait_behind(queue: &mut Waiting, alloc: Global, message: Message) -> Result<(), SendFault>
+fn wait_behind(
+    queue: &mut Waiting,
+    spent: &mut Vec<Rc<Message>>,
+    alloc: Global,
+    message: Message,
+) -> Result<(), SendFault>
     ensures size { queue.new.size ≡ queue.old.size }
     ensures waits { (size : ℕ) → OnOk result (map (queued_by size) queue.new.items ≡ map (queued_by size) queue.old.items ++ queued_meaning size message ∷ []) }
     ensures unchanged { OnErr result (queue.new.items ≡ queue.old.items) }
     ensures memory { IfErr result (λ fault. fault ≡ NoMemory) }
 {
-    let message = match Rc::new(alloc, message) {
+    let message = match placed(spent, alloc, message) {
         Ok(message) => message,
         Err(_) => return Err(SendFault::NoMemory),
     };

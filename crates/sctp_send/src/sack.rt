@@ -50,7 +50,12 @@ impl<F: Framing> Sender<F> {
         if are_disordered(&sack.blocks) {
             return Err(SackFault::BadBlock);
         }
-        forget(&mut self.outstanding, passed as usize);
+        forget(
+            &mut self.outstanding,
+            &mut self.spent,
+            self.alloc,
+            passed as usize,
+        );
         move_on(&mut self.covered, passed as usize);
         self.is_known = take_blocks(
             &mut self.outstanding,
@@ -74,7 +79,12 @@ impl<F: Framing> Sender<F> {
         ensures step { (v : SenderView) → StandsFor F.format self.old v → StandsFor F.format self.new (shutdown_after v tsn) }
     {
         let passed = self.passed_by(tsn)?;
-        forget(&mut self.outstanding, passed as usize);
+        forget(
+            &mut self.outstanding,
+            &mut self.spent,
+            self.alloc,
+            passed as usize,
+        );
         let gone = passed as usize;
         move_on(&mut self.covered, gone);
         self.cum = self.cum.wrapping_add(passed);

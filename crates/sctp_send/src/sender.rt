@@ -6,7 +6,7 @@ ghost use Rattle.sctp_model.specs.SenderView.{SenderView, fresh_sender};
 ghost use Rattle.sctp_send.specs.SenderStands.{StandsFor};
 
 use crate::draft::Change;
-use crate::message::{Fate, Message};
+use crate::message::{Fate, Message, SPENT};
 use crate::outstanding::{RUNS, Run};
 use crate::streams::Streams;
 use crate::waiting::Waiting;
@@ -58,6 +58,8 @@ pub struct Sender<F: Framing> {
     pub(crate) is_known: bool,
     // the place of the next SACK's runs
     pub(crate) spare: Vec<Run>,
+    // the places of messages that are gone, for messages to come
+    pub(crate) spent: Vec<Rc<Message>>,
     // the place of the next fill's changes
     pub(crate) log: Vec<Change>,
     pub(crate) format: PhantomData<F>,
@@ -117,6 +119,8 @@ impl<F: Framing> Sender<F> {
         covered.reserve(RUNS).map_err(|_| NoMemory)?;
         let mut spare = Vec::new(alloc);
         spare.reserve(RUNS).map_err(|_| NoMemory)?;
+        let mut spent = Vec::new(alloc);
+        spent.reserve(SPENT).map_err(|_| NoMemory)?;
         Ok(Sender {
             alloc,
             initial: initial_tsn,
@@ -133,6 +137,7 @@ impl<F: Framing> Sender<F> {
             covered,
             is_known: true,
             spare,
+            spent,
             log: Vec::new(alloc),
             format: PhantomData,
         })

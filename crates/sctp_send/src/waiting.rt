@@ -1,6 +1,7 @@
 //! The messages that wait for their numbers, the first to come in front, and what is counted of them.
 
-ghost use Rattle.std.specs.Prelude.{◌≡◌, ℕ, ◌+◌, ◌<◌, ◌≤◌, ◌%◌, ◌^◌, ◌++◌, ◌∷◌, [], map, length, insert, remove, slice_index_or, OnOk, OnErr, IfSome, IfNone};
+ghost use Rattle.std.specs.Prelude.{◌≡◌, ℕ, ◌+◌, ◌<◌, ◌≤◌, ◌%◌, ◌^◌, ◌↔◌, ◌++◌, ◌∷◌, [], map, length, insert, remove, slice_index_or, OnOk, OnErr, OnSome, IsSome, IfSome, IfNone};
+ghost use Rattle.std.specs.VecDeque.{deque_len, deque_capacity};
 ghost use Rattle.sctp_model.specs.sender.Queueing.{owed_by_queue};
 ghost use Rattle.sctp_send.specs.SenderFields.{queued_by};
 ghost use Rattle.sctp_send.specs.inner.Expiring.{soonest, queue_messages};
@@ -103,7 +104,7 @@ impl Waiting {
         ensures message { IfSome result (λ message. (place < length self.old.items) × (message ≡ slice_index_or self.old.items place message)) }
         ensures none { IfNone result ((length self.old.items ≤ place) × (self.new ≡ self.old)) }
     {
-        let message = self.messages.remove(place)?;
+        let message = take_at(&mut self.messages, place)?;
         let owed = owed_by_message(&message, self.size);
         self.owed = self.owed.wrapping_sub(owed);
         Some(message)
@@ -156,4 +157,18 @@ impl Waiting {
         }
         self.earliest = earliest;
     }
+}
+
+/// The message at a place goes, where there is one. The first one moves no other.
+fn take_at(messages: &mut VecDeque<Rc<Message>>, place: usize) -> Option<Rc<Message>>
+    ensures value { IfSome result (λ message. message ≡ slice_index_or messages.old.items place message) }
+    ensures items { OnSome result (messages.new.items ≡ remove messages.old.items place) }
+    ensures variant { IsSome result ↔ (place < deque_len messages.old) }
+    ensures unchanged { IfNone result (messages.new ≡ messages.old) }
+    ensures capacity { deque_capacity messages.new ≡ deque_capacity messages.old }
+{
+    if place > 0 || messages.is_empty() {
+        return messages.remove(place);
+    }
+    messages.pop_front()
 }

@@ -10,12 +10,14 @@ ghost use Rattle.sctp_send.specs.inner.Expiring.{soonest, item_messages};
 
 use crate::counts::{Counts, moment};
 use crate::expire::sooner_entry;
+use crate::message::Message;
 use crate::outstanding::{Outstanding, Standing};
 use crate::wishes::{is_first_sending, is_repeat};
 use sctp_wire::NoMemory;
 use std::alloc::Global;
 use std::collections::VecDeque;
 use std::marker::Model;
+use std::rc::Rc;
 
 /// An entry for each index above CUM, that of CUM + 1 in front, with counts of them.
 #[derive(Debug, Drop)]
@@ -141,21 +143,24 @@ impl Window {
     {
         let mut counts = self.counts;
         counts.enter(&entry, self.size);
-        counts.lower(self.entries.len(), &entry);
+        counts.reach(self.entries.len(), &entry);
         self.entries.push_back(entry).map_err(|_| NoMemory)?;
         self.counts = counts;
         Ok(())
     }
 
-    /// The first entry goes, where there is one.
-    pub fn pop_front(&mut self)
+    /// The first entry goes, where there is one. It answers the message of that.
+    pub fn pop_front(&mut self) -> Option<Rc<Message>>
         ensures { self.new ≡ record self.old { items = drop 1 self.old.items } }
     {
         if let Some(entry) = self.entries.pop_front() {
             self.counts.leave(&entry, self.size);
             self.counts.marked = self.counts.marked.saturating_sub(1);
             self.counts.unsent = self.counts.unsent.saturating_sub(1);
+            let Outstanding { message, .. } = entry;
+            return Some(message);
         }
+        None
     }
 
     /// The last entry goes, where there is one.

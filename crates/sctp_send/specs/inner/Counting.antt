@@ -1,5 +1,5 @@
 -- What is counted of entries, of messages that wait, and of streams.
-use Rattle.std.specs.Prelude.{◌≡◌, ℕ, ◌+◌, ◌-◌, ◌%◌, ◌^◌, ◌<◌, ◌≤◌, min, if◌then◌else◌, List, [], ◌∷◌, map, take, length, Option, None, Some, unwrap_or}
+use Rattle.std.specs.Prelude.{◌≡◌, ℕ, suc, Bool, not, ◌==◌, ◌&&◌, ◌+◌, ◌-◌, ◌%◌, ◌^◌, ◌<◌, ◌≤◌, min, if◌then◌else◌, List, [], ◌∷◌, map, take, length, Option, None, Some, unwrap_or}
 use Rattle.std.specs.declared.rc.Rc.{Rc}
 use Rattle.std.specs.declared.alloc.Global.{Global}
 use Rattle.sctp_model.specs.Plan.{Message}
@@ -63,6 +63,17 @@ abbrev pub lowered : (at : ℕ) → Item → Counts → Counts
 lowered at x c = record c {
   marked = if is_item_marked x then min c.marked at else c.marked;
   unsent = if is_item_unsent x then min c.unsent at else c.unsent;
+}
+
+-- a cursor, or one past an offset that it has reached, where that doesn't count
+abbrev pub furthest : (at : ℕ) → Bool → (cursor : ℕ) → ℕ
+furthest at counts cursor = if (cursor == at) && not counts then suc at else cursor
+
+-- an item comes at an offset, behind all others
+abbrev pub reached : (at : ℕ) → Item → Counts → Counts
+reached at x c = record c {
+  marked = furthest at (is_item_marked x) c.marked;
+  unsent = furthest at (is_item_unsent x) c.unsent;
 }
 
 -- The counts are those of the entries: before two offsets nothing is to go out; the sums are modulo 2^64.

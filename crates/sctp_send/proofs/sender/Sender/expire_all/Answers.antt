@@ -3,10 +3,10 @@ use Rattle.sctp_model.proofs.sender.ExpiredLaws.{expired_to}
 use Rattle.sctp_send.specs.SenderKept.{Kept}
 use Rattle.sctp_send.specs.SenderStands.{StandsFor, Keeps}
 use Rattle.sctp_send.specs.inner.Expiring.{kept_messages}
-use Rattle.sctp_send.proofs.ReaderLemmas.{fates_given}
 use Rattle.sctp_send.proofs.ExpireLemmas.{soonest_late}
 use Rattle.sctp_send.proofs.ExpireKept.{late_next, late_none}
 use Rattle.sctp_send.proofs.sender.Sender.expire_all.Goals as goal
+use Rattle.sctp_send.proofs.QueueLemmas.{fates_given}
 
 pub returns-in-None : goal.returns-in-None
 unfolding StandsFor

@@ -7,8 +7,7 @@ use Rattle.std.proofs.Common.{◌%◌, ◌^◌, ◌+◌, ◌∷◌, ◌++◌, []
 use Rattle.sctp_model.specs.sender.Queueing.{cut, owed_for}
 use Rattle.sctp_send.specs.SenderAnswers.{lane_for}
 use Rattle.sctp_send.specs.declared.message.Fate.TheVariants.{Waiting}
-use Rattle.sctp_send.proofs.QueueLemmas.{memory_told, spent_ticket, spent_owed, none_refuses, keeps_queued}
-use Rattle.sctp_send.proofs.ReaderLemmas.{fates_given}
+use Rattle.sctp_send.proofs.QueueLemmas.{memory_told, spent_ticket, spent_owed, none_refuses, keeps_queued, fates_given}
 use Rattle.sctp_send.proofs.sender.Sender.queue.Goals as goal
 
 pub returns-then-given-ge-TICKET_LIMIT-clause-answer : goal.returns-then-given-ge-TICKET_LIMIT-clause-answer

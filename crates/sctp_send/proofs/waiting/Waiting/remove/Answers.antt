@@ -9,5 +9,5 @@ invariant_of-self-2 c =
     let w = c.self.inside in
     let there : c.args.place < deque_len w.messages = c.in_ok-message.ensures.variant.0 refl in
     let owed = c.owed_by_message-owed.ensures ∙ ap (λ (m : MessageFields). owed_for (length (cut w.size m.bytes.items)) % 2 ^ 64) c.deref.ensures in
-    owed_removed w.size w.owed w.earliest c.owed_by_message-owed.result c.args.place w.messages.items c.remove.new.self.items c.in_ok-message.message c.self.invariant (omega (arith, there)) c.in_ok-message.ensures.value
+    owed_removed w.size w.owed w.earliest c.owed_by_message-owed.result c.args.place w.messages.items c.take_at.new.messages.items c.in_ok-message.message c.self.invariant (omega (arith, there)) c.in_ok-message.ensures.value
     c.in_ok-message.ensures.items owed

@@ -8,4 +8,4 @@ invariant_of-self-2 c =
     let ok : true ≡ is_ok c.push_back.result = c.in_ok-map_err.ensures.variant in
     let items : c.push_back.new.self.items ≡ s.entries.items ++ c.args.entry ∷ [] = c.push_back.ensures.items ∙ rw (← ok) refl in
     let long : c.len.result ≡ length s.entries.items = c.len.ensures ∙ s.entries.ok.0 in
-    rw (items, c.lower.ensures s.size, long, c.enter.ensures) (counts_pushed s.size s.entries.items c.args.entry s.counts c.self.invariant)
+    rw (items, c.reach.ensures s.size, long, c.enter.ensures) (counts_pushed s.size s.entries.items c.args.entry s.counts c.self.invariant)
