@@ -22,6 +22,9 @@ use sctp_framing::Framing;
 use sctp_wire::NoMemory;
 use std::rc::Rc;
 
+/// Room for so many tickets is taken at once.
+const TICKETS: usize = 32;
+
 impl<F: Framing> Sender<F> {
     /// The message at a place of the queue takes its number, and so many of its fragments their indexes.
     ///
@@ -31,24 +34,26 @@ impl<F: Framing> Sender<F> {
         &self,
         draft: &mut Draft,
         next: Beginning,
-        message: &Rc<Message>,
+        message: Rc<Message>,
         number: u32,
     ) -> Result<(), NoMemory>
         requires some { 0 < next.count }
         requires few { next.count ≤ 32_768 }
         requires place { next.place < length draft.old.queue.items }
-        requires stream { message.now.value.stream < length draft.old.tracks.items }
+        requires stream { message.value.stream < length draft.old.tracks.items }
         requires sized { IsSized self.now.fragment draft.old }
-        ensures kept { suc number < 2 ^ 32 → number ≡ number_on (drafted self.now draft.old).tracks (lane_meaning message.now.value)
+        ensures kept { suc number < 2 ^ 32 → number ≡ number_on (drafted self.now draft.old).tracks (lane_meaning message.value)
             → OnOk result (drafted self.now draft.new
-            ≡ begun (drafted self.now draft.old) (queued_meaning self.now.fragment message.now.value) next.place next.count next.turn draft.new.outstanding.capacity) }
+            ≡ begun (drafted self.now draft.old) (queued_meaning self.now.fragment message.value) next.place next.count next.turn draft.new.outstanding.capacity) }
         ensures room { OnOk result (self.now.streams + length draft.new.outstanding.items ≤ draft.new.outstanding.capacity) }
-        ensures told { OnOk result (numbers_of draft.new.tickets.items ≡ numbers_of draft.old.tickets.items ++ message.now.value.ticket ∷ []) }
+        ensures told { OnOk result (numbers_of draft.new.tickets.items ≡ numbers_of draft.old.tickets.items ++ message.value.ticket ∷ []) }
         ensures behind { IsBehind draft.old draft.new }
     {
-        let rest = rest_from(message, number, next.count as u32, self.fragment)?;
+        let rest = rest_from(&message, number, next.count as u32, self.fragment)?;
         draft.log.reserve(2).map_err(|_| NoMemory)?;
         tell(&mut draft.tickets, message.ticket)?;
+        let stream = message.stream;
+        let unordered = message.unordered;
         push_begun(
             &mut draft.outstanding,
             message,
@@ -57,8 +62,7 @@ impl<F: Framing> Sender<F> {
             self.streams,
         )?;
         take_out(&mut draft.queue, &mut draft.log, next.place);
-        let stream = message.stream;
-        let track = count_on(&mut draft.tracks, stream, message.unordered, rest);
+        let track = count_on(&mut draft.tracks, stream, unordered, rest);
         let change = Change::In {
             count: next.count,
             stream,
@@ -215,5 +219,8 @@ fn take_out(queue: &mut Waiting, log: &mut Vec<Change>, place: usize)
 fn tell(tickets: &mut Vec<Ticket>, ticket: u32) -> Result<(), NoMemory>
     ensures { OnOk result (numbers_of tickets.new.items ≡ numbers_of tickets.old.items ++ ticket ∷ []) }
 {
+    if tickets.is_empty() {
+        tickets.reserve(TICKETS).map_err(|_| NoMemory)?;
+    }
     tickets.push(Ticket(ticket)).map_err(|_| NoMemory)
 }

@@ -30,8 +30,28 @@ pub fn push_fragment(
     ensures capacity { outstanding.old.capacity ≤ outstanding.new.capacity }
     ensures in_place { length outstanding.old.items < outstanding.old.capacity → outstanding.new.capacity ≡ outstanding.old.capacity }
 {
+    push_owned(outstanding, shared(message)?, number, fragment, standing)
+}
+
+/// A fragment takes the next index, with a message that nothing else is to have from here.
+fn push_owned(
+    outstanding: &mut Window,
+    message: Rc<Message>,
+    number: u32,
+    fragment: u32,
+    standing: Standing,
+) -> Result<(), NoMemory>
+    ensures items { (size : ℕ) → OnOk result (map (item_meaning size) outstanding.new.items
+        ≡ map (item_meaning size) outstanding.old.items ++ fragment_item size message.value number fragment standing ∷ []) }
+    ensures more { OnOk result (outstanding.old.items ≡ take (length outstanding.new.items - 1) outstanding.new.items) }
+    ensures long { OnOk result (length outstanding.new.items ≡ length outstanding.old.items + 1) }
+    ensures unchanged { OnErr result (outstanding.new.items ≡ outstanding.old.items) }
+    ensures size { outstanding.new.size ≡ outstanding.old.size }
+    ensures capacity { outstanding.old.capacity ≤ outstanding.new.capacity }
+    ensures in_place { length outstanding.old.items < outstanding.old.capacity → outstanding.new.capacity ≡ outstanding.old.capacity }
+{
     let entry = Outstanding {
-        message: shared(message)?,
+        message,
         number,
         place: Place::Fragment(fragment),
         standing,
@@ -44,7 +64,7 @@ pub fn push_fragment(
 /// The first fragments of a message take the next indexes, and there is room for so many entries more than them; or no entry came.
 pub fn push_begun(
     outstanding: &mut Window,
-    message: &Rc<Message>,
+    message: Rc<Message>,
     number: u32,
     count: usize,
     more: u16,
@@ -52,7 +72,7 @@ pub fn push_begun(
     requires some { 0 < count }
     requires few { count ≤ 32_768 }
     ensures items { (size : ℕ) → OnOk result (map (item_meaning size) outstanding.new.items
-        ≡ map (item_meaning size) outstanding.old.items ++ begun_items (lane_meaning message.now.value) number (message_meaning size message.now.value) count) }
+        ≡ map (item_meaning size) outstanding.old.items ++ begun_items (lane_meaning message.value) number (message_meaning size message.value) count) }
     ensures before { OnOk result (outstanding.old.items ≡ take (length outstanding.new.items - count) outstanding.new.items) }
     ensures room { OnOk result (more + length outstanding.new.items ≤ outstanding.new.capacity) }
     ensures unchanged { OnErr result (outstanding.new.items ≡ outstanding.old.items) }
@@ -61,7 +81,10 @@ pub fn push_begun(
 {
     let before = outstanding.len();
     outstanding.reserve(count + usize::from(more))?;
-    match push_fragments(outstanding, message, number, count) {
+    if count == 1 {
+        return push_owned(outstanding, message, number, 0, Standing::Sent);
+    }
+    match push_fragments(outstanding, &message, number, count) {
         Ok(()) => Ok(()),
         Err(failed) => {
             outstanding.truncate(before);

@@ -156,7 +156,7 @@ impl<F: Framing> Sender<F> {
         if !self.put_newcomer(draft, &message, number, 0, flying, packet)? {
             return Ok(false);
         }
-        self.begin(draft, next, &message, number)?;
+        self.begin(draft, next, message, number)?;
         Ok(true)
     }
 

@@ -108,7 +108,7 @@ impl<F: Framing> Sender<F> {
         };
         wait_behind(&mut self.queue, &mut self.spent, self.alloc, message)?;
         // There is room for it.
-        let _kept = self.fates.push(Fate::Waiting);
+        self.fates.push_reserved(Fate::Waiting);
         Ok(Ticket(ticket))
     }
 

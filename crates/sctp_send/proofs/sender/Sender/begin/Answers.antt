@@ -13,7 +13,7 @@ use Rattle.sctp_send.proofs.sender.Sender.begin.Goals as goal
 pub returns-clause-kept : goal.returns-clause-kept
 returns-clause-kept g c = λ small number.
     let s = c.args.self.now in
-    let m = c.args.message.now.value in
+    let m = c.args.message.value in
     let old = c.args.draft.now in
     let same : c.self.inside.fragment ≡ s.fragment = ap (λ (k : Kept). k.fragment) c.self.view_is in
     let few : suc (number_in (lane_kind m.unordered) (track_of (map (track_meaning s.fragment) old.tracks.items) m.stream)) < 2 ^ 32 = omega (arith, small, number) in

@@ -3,7 +3,7 @@ use Rattle.std.proofs.lemmas.List.{length-map}
 use Rattle.sctp_send.specs.SenderKept.{Kept}
 use Rattle.sctp_send.specs.SenderFields.{queued_by}
 use Rattle.sctp_send.specs.SenderStands.{StandsFor, Keeps}
-use Rattle.std.proofs.Common.{◌%◌, ◌^◌, ◌+◌, ◌∷◌, ◌++◌, [], List, true, is_ok}
+use Rattle.std.proofs.Common.{◌%◌, ◌^◌, ◌+◌, ◌∷◌, ◌++◌, [], List}
 use Rattle.sctp_model.specs.sender.Queueing.{cut, owed_for}
 use Rattle.sctp_send.specs.SenderAnswers.{lane_for}
 use Rattle.sctp_send.specs.declared.message.Fate.TheVariants.{Waiting}
@@ -71,7 +71,6 @@ returns-clause-step g c = λ v stands.
     let more = c.owed-more.ensures ∙ ap (λ (n : ℕ). owed_for n % 2 ^ 64) (c.fragments_of.ensures ∙ ap (λ (b : List ℕ). length (cut s.fragment b)) c.deref.ensures.value) in
     let none = (returns-clause-answer g c v stands).0 in
     let given = fates_given g.F.Framing.format _ v keeps in
-    let ok : is_ok c.push-kept.result ≡ true = c.push-kept.ensures.succeeds (omega (arith, c.in-Ok.ensures.ok)) in
-    let fates : c.push-kept.new.self.items ≡ s.fates.items ++ Waiting ∷ [] = rw (c.push-kept.ensures.items, ok, c.in-Ok.ensures.items) refl in
+    let fates : c.push_reserved.new.self.items ≡ s.fates.items ++ Waiting ∷ [] = rw (c.push_reserved.ensures.items, c.in-Ok.ensures.items) refl in
     let taken = keeps_queued g.F.Framing.format _ v (lane_for c.args.stream c.args.ordered) c.args.payload_id (c.len-given.result + 1) c.args.bytes.items c.args.until keeps none (omega (arith, given)) in
     rw (c.in_ok-wait_behind.ensures.waits s.fragment, fates) taken
