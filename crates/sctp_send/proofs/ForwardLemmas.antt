@@ -185,6 +185,9 @@ not_passed v run p none = let there = p.point in grind (arith, nat_tests)
 pub some_passed : (v : SenderView) (run : ℕ) → IsPassed v run → (run ≡ 0 → ⊥) → nat_lt v.cum (point v) ≡ true
 some_passed v run p some = let there = p.point in let lt : 0 < run = omega arith in grind (arith, nat_tests)
 
+pub is_past : (v : SenderView) (run : ℕ) → IsPassed v run → (run ≡ 0 → ⊥) → v.cum < point v
+is_past v run p some = let there = p.point in let lt : 0 < run = omega arith in omega (arith, there)
+
 -- the FORWARD is the one that the view says
 pub forward_is : (f : Format) (s : Kept) (v : SenderView) (size run cumulative : ℕ) (es : List Outstanding) (xs : List SkipMeaning) → Keeps f s v → s.items ≡ map (item_meaning size) es → IsPassed v run
     → xs ≡ map (skip_said f) (skips_below f (entries_of (map (item_meaning size) (take run es))) s.streams) → cumulative ≡ tsn v.initial (point v) → record { cumulative = cumulative; skips = xs } ≡ forward_said f v

@@ -28,13 +28,14 @@ impl<F: Framing> Sender<F> {
     /// exactly where the point is CUM, or the chunk doesn't fit. The sender stays as it is.
     ///
     /// # Errors
-    /// `NoMemory`; the packet is then as before.
+    /// `NoMemory`, only where the point is past CUM; the packet is then as before.
     pub fn put_forward(&self, packet: &mut PacketWriter) -> Result<bool, NoMemory>
         ensures answer { (v : SenderView) → StandsFor F.format self.now v
             → IfOk result (λ put. put ≡ (nat_lt v.cum (point v) && has_room packet.old (forward_chunk_of F.format v))) }
         ensures after { (v : SenderView) → StandsFor F.format self.now v
             → IfOk result (λ put. packet.new ≡ after_try packet.old (forward_chunk_of F.format v) put) }
         ensures unchanged { OnErr result (packet.new ≡ packet.old) }
+        ensures memory { (v : SenderView) → StandsFor F.format self.now v → OnErr result (v.cum < point v) }
     {
         let run = given_up_run(&self.outstanding);
         if run == 0 {

@@ -1,4 +1,4 @@
-use Rattle.std.proofs.Common.{◌≡◌, ◌∙◌, map, take, subst, sym, refl, ap, arith}
+use Rattle.std.proofs.Common.{◌≡◌, ◌∙◌, ◌<◌, map, take, subst, sym, refl, ap, arith}
 use Rattle.std.proofs.lemmas.List.{length-map}
 use Rattle.std.specs.List.{AllByRecursion}
 use Rattle.sctp_model.specs.Framing.{forward_chunk}
@@ -11,8 +11,9 @@ use Rattle.sctp_framing.specs.SkipForms.{skip_form}
 use Rattle.sctp_send.specs.OutstandingFields.{item_meaning, entries_of}
 use Rattle.sctp_send.specs.SenderKept.{Kept}
 use Rattle.sctp_send.specs.SenderStands.{StandsFor, Keeps}
+use Rattle.sctp_send.proofs.NewMayLemmas.{on_err}
 use Rattle.sctp_send.proofs.ReaderLemmas.{run_within}
-use Rattle.sctp_send.proofs.ForwardLemmas.{IsPassed, is_passed, not_passed, some_passed, forward_is, no_room, all_fit, forward_fits, with_false, passed_tsn, forward_chunk_is}
+use Rattle.sctp_send.proofs.ForwardLemmas.{IsPassed, is_passed, not_passed, some_passed, forward_is, no_room, all_fit, forward_fits, is_past, with_false, passed_tsn, forward_chunk_is}
 use Rattle.sctp_send.proofs.sender.Sender.put_forward.Goals as goal
 
 pub returns-then-run-eq0-clause-answer : goal.returns-then-run-eq0-clause-answer
@@ -74,3 +75,19 @@ returns-clause-after g c = λ v stands.
     let said = forward_is g.F.Framing.format _ v s.fragment run c.tsn_of.result s.outstanding.items _ keeps refl passed (c.in_ok-list.ensures.skips s.fragment) first in
     let chunk : chunk_meaning c.forward_chunk-chunk.result ≡ forward_chunk_of g.F.Framing.format v = is ∙ ap (forward_chunk g.F.Framing.format) said in
     rw chunk at c.try_chunk.ensures.after
+
+pub returns-in_err-list-clause-memory : goal.returns-in_err-list-clause-memory
+unfolding StandsFor
+returns-in_err-list-clause-memory g c = λ v stands.
+    let s = c.self.inside in
+    let keeps = subst (λ (k : Kept). Keeps g.F.Framing.format k v) (sym c.self.view_is) stands in
+    let passed : IsPassed v c.given_up_run-run.result = rw (c.given_up_run-run.ensures s.fragment) (is_passed g.F.Framing.format _ v keeps) in
+    on_err (v.cum < point v) c.from_residual.result (is_past v _ passed c.if-run-eq0.false)
+
+pub returns-clause-memory : goal.returns-clause-memory
+unfolding StandsFor
+returns-clause-memory g c = λ v stands.
+    let s = c.self.inside in
+    let keeps = subst (λ (k : Kept). Keeps g.F.Framing.format k v) (sym c.self.view_is) stands in
+    let passed : IsPassed v c.given_up_run-run.result = rw (c.given_up_run-run.ensures s.fragment) (is_passed g.F.Framing.format _ v keeps) in
+    on_err (v.cum < point v) c.try_chunk.result (is_past v _ passed c.if-run-eq0.false)
