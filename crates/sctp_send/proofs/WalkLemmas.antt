@@ -1,8 +1,8 @@
 -- Walks over entries, streams and the queue: one step more, and the end.
 use Rattle.std.proofs.Common.{◌≡◌, ℕ, zero, suc, ◌+◌, ◌%◌, ◌^◌, ◌<◌, ◌≤◌, List, [], ◌∷◌, length, map, drop, Bool, true, false, refl, sym, ap, ◌∙◌, arith, get_or}
-use Rattle.std.specs.Prelude.{◌||◌, nat_lt, if◌then◌else◌}
+use Rattle.std.specs.Prelude.{nat_lt, if◌then◌else◌}
 use Rattle.std.proofs.lemmas.Bool.Decides.{nat_tests}
-use Rattle.sctp_send.specs.inner.Walks.{given_up_items, is_item_unsettled, any_unsettled}
+use Rattle.sctp_send.specs.inner.Walks.{given_up_items}
 use Rattle.sctp_send.proofs.ItemLemmas.{item_read}
 use Rattle.std.proofs.lemmas.List.{length-map}
 use Rattle.std.specs.declared.rc.Rc.{Rc}
