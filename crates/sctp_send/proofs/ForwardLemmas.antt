@@ -1,6 +1,6 @@
 -- The FORWARD, from what a sender keeps: the largest numbers that were passed, as entries on the wire.
 use Rattle.std.proofs.Common.{◌≡◌, ℕ, zero, suc, ◌+◌, ◌-◌, ◌*◌, ◌%◌, ◌^◌, ◌<◌, ◌≤◌, List, [], ◌∷◌, ◌++◌, length, map, take, drop, Bool, true, false, Option, Some, None, refl, sym, ap, ◌∙◌, arith, get_or, append_assoc}
-use Rattle.std.specs.Prelude.{◌&&◌, nat_lt, if◌then◌else◌}
+use Rattle.std.specs.Prelude.{◌&&◌, nat_lt, nat_le, if◌then◌else◌}
 use Rattle.std.specs.List.{AllByRecursion}
 use Rattle.std.proofs.lemmas.List.{length-map, map-append, length-take-le}
 use Rattle.std.proofs.lemmas.Bool.Decides.{nat_tests}
@@ -8,12 +8,13 @@ use Rattle.sctp_model.specs.Format.{Format, Plain, Interleaved, Lane, is_numbere
 use Rattle.sctp_model.specs.Framing.{lane_kind, wire_number, forward_chunk}
 use Rattle.sctp_model.specs.Serial.{tsn}
 use Rattle.sctp_model.specs.Plan.{Entry}
-use Rattle.sctp_model.specs.Chunk.{SkipMeaning, ForwardMeaning, chunk_length}
+use Rattle.sctp_model.specs.Chunk.{ChunkMeaning, SkipMeaning, ForwardMeaning, chunk_length, padded, size_of_chunk}
+use Rattle.sctp_model.specs.Forward.{Skip}
 use Rattle.sctp_model.specs.Packet.{size_of_packet}
 use Rattle.sctp_model.specs.SenderView.{SenderView}
 use Rattle.sctp_model.specs.sender.Readers.{point}
 use Rattle.sctp_model.specs.sender.Forwarding.{largest_in, passed, skip_in, skip_of, skips_on, skips_below}
-use Rattle.sctp_model.specs.sender.SentChunks.{is_unordered, skip_said, forward_said}
+use Rattle.sctp_model.specs.sender.SentChunks.{is_unordered, skip_said, forward_said, forward_chunk_of}
 use Rattle.sctp_model.proofs.sender.OwedLaws.{is_promised}
 use Rattle.sctp_wire.specs.declared.chunk.Chunk.{Chunk}
 use Rattle.sctp_wire.specs.declared.skips.SkipForm.{SkipForm}
@@ -136,6 +137,37 @@ no_room f d x over =
     let past : d.limit < size_of_packet (d.chunks ++ forward_chunk f x ∷ []) = omega (arith, more, long, over) in
     grind (arith, nat_tests)
 
+-- a FORWARD is as long with its padding
+forward_size : (f : Format) (x : ForwardMeaning) → size_of_chunk (forward_chunk f x) ≡ 8 + skip_size (skip_form f) * length x.skips
+forward_size f x = ap padded (forward_length f x) ∙ whole f (length x.skips)
+  where
+    whole : (g : Format) (n : ℕ) → padded (8 + skip_size (skip_form g) * n) ≡ 8 + skip_size (skip_form g) * n
+    whole Plain n = omega arith
+    whole Interleaved n = omega arith
+
+-- it fits where its entries do
+pub room_counted : (f : Format) (d : Draft) (n cumulative : ℕ) (xs : List Skip) → n ≡ length xs
+    → nat_le (8 + skip_size (skip_form f) * n) (room_in d) ≡ has_room d (forward_chunk f (record { cumulative = cumulative; skips = map (skip_said f) xs }))
+room_counted f d n cumulative xs is = by_test (nat_le (8 + skip_size (skip_form f) * n) (room_in d)) refl
+  where
+    chunk : ChunkMeaning
+    chunk = forward_chunk f (record { cumulative = cumulative; skips = map (skip_said f) xs })
+
+    size : size_of_chunk chunk ≡ 8 + skip_size (skip_form f) * n
+    size =
+        let all : length (map (skip_said f) xs) ≡ n = length-map xs (skip_said f) ∙ sym is in
+        forward_size f (record { cumulative = cumulative; skips = map (skip_said f) xs }) ∙ rw all refl
+
+    by_test : (x : Bool) → nat_le (8 + skip_size (skip_form f) * n) (room_in d) ≡ x → x ≡ has_room d chunk
+    by_test true on =
+        let fits : 8 + skip_size (skip_form f) * n ≤ room_in d = grind (arith, nat_tests) in
+        let within : size_of_packet (d.chunks ++ chunk ∷ []) ≤ d.limit = omega (arith, fits, size, size_of_more d.chunks chunk) in
+        sym (grind (arith, nat_tests))
+    by_test false off =
+        let over : room_in d < 8 + skip_size (skip_form f) * n = grind (arith, nat_tests) in
+        let past : d.limit < size_of_packet (d.chunks ++ chunk ∷ []) = omega (arith, over, size, size_of_more d.chunks chunk) in
+        sym (grind (arith, nat_tests))
+
 -- ---- what is kept, and the view
 
 entries_back : (v : SenderView) (i : ℕ) (es : List Entry) → entries_of (items_from v i es) ≡ es
@@ -185,15 +217,17 @@ not_passed v run p none = let there = p.point in grind (arith, nat_tests)
 pub some_passed : (v : SenderView) (run : ℕ) → IsPassed v run → (run ≡ 0 → ⊥) → nat_lt v.cum (point v) ≡ true
 some_passed v run p some = let there = p.point in let lt : 0 < run = omega arith in grind (arith, nat_tests)
 
-pub is_past : (v : SenderView) (run : ℕ) → IsPassed v run → (run ≡ 0 → ⊥) → v.cum < point v
-is_past v run p some = let there = p.point in let lt : 0 < run = omega arith in omega (arith, there)
-
 -- the FORWARD is the one that the view says
 pub forward_is : (f : Format) (s : Kept) (v : SenderView) (size run cumulative : ℕ) (es : List Outstanding) (xs : List SkipMeaning) → Keeps f s v → s.items ≡ map (item_meaning size) es → IsPassed v run
     → xs ≡ map (skip_said f) (skips_below f (entries_of (map (item_meaning size) (take run es))) s.streams) → cumulative ≡ tsn v.initial (point v) → record { cumulative = cumulative; skips = xs } ≡ forward_said f v
 forward_is f s v size run cumulative es xs k items p is tsn_is =
     let streams = k.holds.streams in
     rw (tsn_is, is, entries_passed f s v size run es k items p, streams) refl
+
+-- so a packet has room for it where it has room for what was counted
+pub room_is : (f : Format) (s : Kept) (v : SenderView) (size run : ℕ) (es : List Outstanding) (d : Draft) (fits : Bool) → Keeps f s v → s.items ≡ map (item_meaning size) es → IsPassed v run
+    → fits ≡ has_room d (forward_chunk f (record { cumulative = tsn v.initial (point v); skips = map (skip_said f) (skips_below f (entries_of (map (item_meaning size) (take run es))) s.streams) })) → fits ≡ has_room d (forward_chunk_of f v)
+room_is f s v size run es d fits k items p is = is ∙ ap (λ (x : ForwardMeaning). has_room d (forward_chunk f x)) (forward_is f s v size run (tsn v.initial (point v)) es _ k items p refl refl)
 
 pub with_false : (b : Bool) → (b && false) ≡ false
 with_false true = refl

@@ -1,4 +1,4 @@
-//! What takes an index next, found among what waits and what is in part (RFC 9260, 6.9; RFC 8260, 2.2.1).
+//! What takes an index next, found among what waits and what is in part (RFC 9260, 6.9; RFC 8260, 2.2.2 and 3.2).
 
 ghost use Rattle.std.specs.Prelude.{◌≡◌, ℕ, suc, ◌+◌, ◌<◌, ◌≤◌, ◌%◌, ◌^◌, true, map, length, nat_le, IfOk, IfSome};
 ghost use Rattle.sctp_model.specs.Format.{Plain, Interleaved};

@@ -15,7 +15,8 @@ use sctp_framing::Framing;
 
 #[tactic(auto, unfolding(crate::specs::SenderStands::StandsFor))]
 impl<F: Framing> Sender<F> {
-    /// Abandons every message that is past its time, by rising ticket, as far as it may be abandoned. It takes no memory.
+    /// Abandons every message that is past its time, by rising ticket, as far as it may be abandoned. `now` is in milliseconds, as `until` is
+    /// in `queue`: a message whose `until` is at or before it is past its time. It takes no memory.
     pub fn expire(&mut self, now: u64)
         ensures { (v : SenderView) → StandsFor F.format self.old v → StandsFor F.format self.new (expired v now) }
     {

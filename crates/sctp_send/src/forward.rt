@@ -1,7 +1,8 @@
 //! How far the point went is told to the peer: FORWARD-TSN and I-FORWARD-TSN (RFC 3758, 3.5; RFC 8260, 2.3.1).
 
-ghost use Rattle.std.specs.Prelude.{◌≡◌, ℕ, ◌<◌, ◌≤◌, ◌*◌, [], ◌∷◌, ◌++◌, ◌&&◌, None, List, length, map, take, nat_lt, IfOk, OnErr, OnOk};
+ghost use Rattle.std.specs.Prelude.{◌≡◌, ℕ, ◌<◌, ◌≤◌, ◌*◌, [], ◌∷◌, ◌++◌, ◌&&◌, true, None, List, length, map, take, nat_lt, IfOk, OnErr, OnOk};
 ghost use Rattle.sctp_model.specs.Format.{Lane, is_numbered};
+ghost use Rattle.sctp_model.specs.Framing.{forward_chunk};
 ghost use Rattle.sctp_model.specs.SenderView.{SenderView};
 ghost use Rattle.sctp_model.specs.sender.Readers.{point};
 ghost use Rattle.sctp_model.specs.sender.Forwarding.{larger, largest_in, skip_of, skips_below};
@@ -11,6 +12,7 @@ ghost use Rattle.sctp_framing.specs.SkipForms.{skip_form};
 ghost use Rattle.sctp_packet.specs.Draft.{has_room, after_try};
 ghost use Rattle.sctp_send.specs.OutstandingFields.{item_meaning, lane_of, entries_of};
 ghost use Rattle.sctp_send.specs.SenderStands.{StandsFor};
+ghost use Rattle.sctp_send.specs.inner.Newcomers.{one_if};
 
 use crate::outstanding::Outstanding;
 use crate::readers::given_up_run;
@@ -28,20 +30,30 @@ impl<F: Framing> Sender<F> {
     /// exactly where the point is CUM, or the chunk doesn't fit. The sender stays as it is.
     ///
     /// # Errors
-    /// `NoMemory`, only where the point is past CUM; the packet is then as before.
+    /// `NoMemory` where the point is past CUM and the chunk fits; the packet is then as before.
     pub fn put_forward(&self, packet: &mut PacketWriter) -> Result<bool, NoMemory>
         ensures answer { (v : SenderView) → StandsFor F.format self.now v
             → IfOk result (λ put. put ≡ (nat_lt v.cum (point v) && has_room packet.old (forward_chunk_of F.format v))) }
         ensures after { (v : SenderView) → StandsFor F.format self.now v
             → IfOk result (λ put. packet.new ≡ after_try packet.old (forward_chunk_of F.format v) put) }
         ensures unchanged { OnErr result (packet.new ≡ packet.old) }
-        ensures memory { (v : SenderView) → StandsFor F.format self.now v → OnErr result (v.cum < point v) }
+        ensures memory { (v : SenderView) → StandsFor F.format self.now v
+            → OnErr result ((nat_lt v.cum (point v) && has_room packet.old (forward_chunk_of F.format v)) ≡ true) }
     {
         let run = given_up_run(&self.outstanding);
         if run == 0 {
             return Ok(false);
         }
-        let list = skips_below::<F>(self.alloc, &self.outstanding, run, self.streams)?;
+        let list = match skips_below::<F>(self.alloc, &self.outstanding, run, self.streams) {
+            Ok(list) => list,
+            Err(failed) => {
+                // Where the chunk doesn't fit, no memory is wanted.
+                if has_room_for::<F>(packet, &self.outstanding, run, self.streams) {
+                    return Err(failed);
+                }
+                return Ok(false);
+            }
+        };
         // Header and cumulative TSN take 8 bytes.
         if list.len() > packet.room().saturating_sub(8) {
             return Ok(false);
@@ -103,6 +115,45 @@ fn put_lane<F: Framing>(
             put_skip(F::skip_form(), skip, list)
         }
     }
+}
+
+/// Whether a FORWARD over the first `run` entries, of the streams below `streams`, fits a packet.
+fn has_room_for<F: Framing>(
+    packet: &PacketWriter,
+    outstanding: &Window,
+    run: u32,
+    streams: u16,
+) -> bool
+    requires { run ≤ length outstanding.now.items }
+    ensures { (size cumulative : ℕ) → result ≡ has_room packet.now (forward_chunk F.format (record {
+      cumulative = cumulative;
+      skips = map (skip_said F.format) (skips_below F.format (entries_of (map (item_meaning size) (take run outstanding.now.items))) streams);
+    })) }
+{
+    // Header and cumulative TSN take 8 bytes.
+    8 + F::skip_form().size() * count_below::<F>(outstanding, run, streams) <= packet.room()
+}
+
+/// How many entries a FORWARD over the first `run` entries has of the streams below `streams`.
+fn count_below<F: Framing>(outstanding: &Window, run: u32, streams: u16) -> usize
+    requires { run ≤ length outstanding.now.items }
+    ensures count { (size : ℕ) → result ≡ length (skips_below F.format (entries_of (map (item_meaning size) (take run outstanding.now.items))) streams) }
+    ensures few { result ≤ 2 * streams }
+{
+    let mut count = 0;
+    for stream in 0..streams {
+        count += usize::from(is_listed::<F>(outstanding, run, stream, false));
+        count += usize::from(is_listed::<F>(outstanding, run, stream, true));
+    }
+    count
+}
+
+/// Whether a lane is numbered and has a number among the first `run` entries.
+fn is_listed<F: Framing>(outstanding: &Window, run: u32, stream: u16, unordered: bool) -> bool
+    requires { run ≤ length outstanding.now.items }
+    ensures { (size : ℕ) → length (skip_of F.format (entries_of (map (item_meaning size) (take run outstanding.now.items))) (lane_of stream unordered)) ≡ one_if result }
+{
+    F::is_numbered(unordered) && largest_in(outstanding, run, stream, unordered).is_some()
 }
 
 /// The largest number of a lane among the first `run` entries.

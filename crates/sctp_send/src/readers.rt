@@ -31,7 +31,8 @@ impl<F: Framing> Sender<F> {
         self.cum.wrapping_add(given_up_run(&self.outstanding))
     }
 
-    /// Whether the data timer is wanted: something that went out is neither covered nor abandoned, or the point is past CUM.
+    /// Whether the data timer is wanted (RFC 9260, 6.3.2): something that went out is neither covered nor abandoned, or the point is past CUM,
+    /// so that a FORWARD is due (RFC 3758, 3.5).
     pub fn unsettled(&self) -> bool
         ensures { (v : SenderView) → StandsFor F.format self.now v → result ≡ unsettled v }
     {
@@ -63,7 +64,7 @@ impl<F: Framing> Sender<F> {
     }
 
     /// Whether the message with this ticket is acknowledged whole: its last fragment is assigned, all its indexes are covered, and it was
-    /// not abandoned.
+    /// not abandoned. False for a ticket that was never given.
     pub fn acknowledged(&self, ticket: Ticket) -> bool
         ensures { (v : SenderView) → StandsFor F.format self.now v → result ≡ acknowledged v ticket.0 }
     {
@@ -81,7 +82,7 @@ impl<F: Framing> Sender<F> {
         is_all_covered(self.tracks.tracks(), &self.outstanding, ticket.0)
     }
 
-    /// Whether the message with this ticket has a number and was abandoned.
+    /// Whether the message with this ticket has a number and was abandoned. False for a ticket that was never given.
     pub fn abandoned(&self, ticket: Ticket) -> bool
         ensures { (v : SenderView) → StandsFor F.format self.now v → result ≡ abandoned v ticket.0 }
     {

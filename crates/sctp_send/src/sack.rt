@@ -26,7 +26,7 @@ pub enum SackFault {
     /// Its cumulative TSN, or the end of a block, is past the last TSN assigned.
     #[error("it acknowledges what was not sent")]
     Beyond,
-    /// Its blocks aren't in order: one begins at 0, ends before it begins, or begins within the one before it.
+    /// Its blocks aren't in order: one begins at 0, ends before it begins, or begins at or before the end of the one before it.
     #[error("its blocks are out of order")]
     BadBlock,
 }

@@ -96,8 +96,9 @@ impl<F: Framing> Model for Sender<F> {
 
 #[tactic(auto, unfolding(crate::specs::SenderStands::StandsFor))]
 impl<F: Framing> Sender<F> {
-    /// A sender that was given nothing yet: its first TSN, its streams, the most bytes of a fragment, the window
-    /// that the peer advertised, and whether messages with a number may be abandoned.
+    /// A sender that was given nothing yet: its first TSN; how many streams it has, from 1 on; the most bytes of a fragment, 1 to 1,400 (RFC
+    /// 9260, 6.9); the window that the peer advertised, in bytes (RFC 9260, 3.3.2); and whether messages with a number may be abandoned,
+    /// which both ends must support (RFC 3758, 3.3).
     ///
     /// # Errors
     /// `NoMemory`.

@@ -1,4 +1,4 @@
--- What takes an index next, among what is kept, and what is kept then (RFC 9260, 6.9; RFC 8260, 2.2.1).
+-- What takes an index next, among what is kept, and what is kept then (RFC 9260, 6.9; RFC 8260, 2.2.2 and 3.2).
 use Rattle.std.specs.Prelude.{◌≡◌, ℕ, zero, suc, ◌-◌, ◌<◌, ◌⊎◌, nat_lt, Bool, true, false, List, [], ◌∷◌, ◌++◌, length, take, drop, slice_get, slice_set, Option, None, Some, option_and_then}
 use Rattle.std.specs.Prelude.{slice_index_or}
 use Rattle.sctp_model.specs.Format.{Format, Kind, Ordered, Unordered, Lane}

@@ -1,4 +1,4 @@
-use Rattle.std.proofs.Common.{◌≡◌, ◌∙◌, ◌<◌, map, take, subst, sym, refl, ap, arith}
+use Rattle.std.proofs.Common.{◌≡◌, ◌∙◌, map, take, subst, sym, refl, ap, arith}
 use Rattle.std.proofs.lemmas.List.{length-map}
 use Rattle.std.specs.List.{AllByRecursion}
 use Rattle.sctp_model.specs.Framing.{forward_chunk}
@@ -11,9 +11,8 @@ use Rattle.sctp_framing.specs.SkipForms.{skip_form}
 use Rattle.sctp_send.specs.OutstandingFields.{item_meaning, entries_of}
 use Rattle.sctp_send.specs.SenderKept.{Kept}
 use Rattle.sctp_send.specs.SenderStands.{StandsFor, Keeps}
-use Rattle.sctp_send.proofs.NewMayLemmas.{on_err}
 use Rattle.sctp_send.proofs.ReaderLemmas.{run_within}
-use Rattle.sctp_send.proofs.ForwardLemmas.{IsPassed, is_passed, not_passed, some_passed, forward_is, no_room, all_fit, forward_fits, is_past, with_false, passed_tsn, forward_chunk_is}
+use Rattle.sctp_send.proofs.ForwardLemmas.{IsPassed, is_passed, not_passed, some_passed, forward_is, no_room, all_fit, forward_fits, with_false, passed_tsn, forward_chunk_is, room_is}
 use Rattle.sctp_send.proofs.sender.Sender.put_forward.Goals as goal
 
 pub returns-then-run-eq0-clause-answer : goal.returns-then-run-eq0-clause-answer
@@ -31,24 +30,51 @@ skips_below-requires g c =
     let long = length-map s.outstanding.items (item_meaning 1) in
     omega (arith, within, long, c.given_up_run-run.ensures 1)
 
+pub has_room_for-requires : goal.has_room_for-requires
+has_room_for-requires g c =
+    let s = c.self.inside in
+    let within = run_within (map (item_meaning 1) s.outstanding.items) in
+    let long = length-map s.outstanding.items (item_meaning 1) in
+    omega (arith, within, long, c.given_up_run-run.ensures 1)
+
+pub returns-then-has_room_for-clause-memory : goal.returns-then-has_room_for-clause-memory
+unfolding StandsFor
+returns-then-has_room_for-clause-memory g c = λ v stands.
+    let s = c.self.inside in
+    let run = c.given_up_run-run.result in
+    let keeps = subst (λ (k : Kept). Keeps g.F.Framing.format k v) (sym c.self.view_is) stands in
+    let passed : IsPassed v run = rw (c.given_up_run-run.ensures s.fragment) (is_passed g.F.Framing.format _ v keeps) in
+    let room = sym (room_is g.F.Framing.format _ v s.fragment run s.outstanding.items c.args.packet.now _ keeps refl passed (c.has_room_for.ensures s.fragment (tsn v.initial (point v)))) ∙ c.if-has_room_for.true in
+    rw (some_passed v run passed c.if-run-eq0.false, room) refl
+
+pub returns-in-Err-clause-answer : goal.returns-in-Err-clause-answer
+unfolding StandsFor
+returns-in-Err-clause-answer g c = λ v stands.
+    let s = c.self.inside in
+    let run = c.given_up_run-run.result in
+    let keeps = subst (λ (k : Kept). Keeps g.F.Framing.format k v) (sym c.self.view_is) stands in
+    let passed : IsPassed v run = rw (c.given_up_run-run.ensures s.fragment) (is_passed g.F.Framing.format _ v keeps) in
+    let room = sym (room_is g.F.Framing.format _ v s.fragment run s.outstanding.items c.args.packet.now _ keeps refl passed (c.has_room_for.ensures s.fragment (tsn v.initial (point v)))) ∙ c.if-has_room_for.false in
+    rw room (sym (with_false _))
+
 pub returns-then-len-saturating_sub-clause-answer : goal.returns-then-len-saturating_sub-clause-answer
 unfolding StandsFor
 returns-then-len-saturating_sub-clause-answer g c = λ v stands.
     let s = c.self.inside in
     let keeps = subst (λ (k : Kept). Keeps g.F.Framing.format k v) (sym c.self.view_is) stands in
     let passed : IsPassed v c.given_up_run-run.result = rw (c.given_up_run-run.ensures s.fragment) (is_passed g.F.Framing.format _ v keeps) in
-    let is = forward_is g.F.Framing.format _ v s.fragment c.given_up_run-run.result (tsn v.initial (point v)) s.outstanding.items _ keeps refl passed (c.in_ok-list.ensures.skips s.fragment) refl in
-    let full = no_room g.F.Framing.format c.args.packet.now (record { cumulative = tsn v.initial (point v); skips = skips_in (skip_form g.F.Framing.format) c.in_ok-list.list.items }) (omega (arith, c.in_ok-list.ensures.count, c.saturating_sub.ensures, c.room.ensures.room)) in
+    let is = forward_is g.F.Framing.format _ v s.fragment c.given_up_run-run.result (tsn v.initial (point v)) s.outstanding.items _ keeps refl passed (c.in-Ok.ensures.skips s.fragment) refl in
+    let full = no_room g.F.Framing.format c.args.packet.now (record { cumulative = tsn v.initial (point v); skips = skips_in (skip_form g.F.Framing.format) c.in-Ok.list.items }) (omega (arith, c.in-Ok.ensures.count, c.saturating_sub.ensures, c.room.ensures.room)) in
     sym (rw (← is, full) (with_false _))
 
 pub try_chunk-requires : goal.try_chunk-requires
 try_chunk-requires g c =
     let s = c.self.inside in
-    let is = forward_chunk_is g.F.Framing.format c.forward_chunk-chunk.result c.tsn_of.result c.skip_form.result c.deref.result.now c.in_ok-list.list.items c.new.result c.forward_chunk-chunk.ensures c.new.ensures c.skip_form.ensures c.deref.ensures.value in
-    let fit : AllByRecursion (IsSkip (skip_form g.F.Framing.format)) (skips_in (skip_form g.F.Framing.format) c.in_ok-list.list.items) =
-    rw (c.in_ok-list.ensures.skips 1) (all_fit g.F.Framing.format (entries_of (map (item_meaning 1) (take c.given_up_run-run.result s.outstanding.items))) s.streams (omega arith)) in
-    rw is (forward_fits g.F.Framing.format (record { cumulative = c.tsn_of.result; skips = skips_in (skip_form g.F.Framing.format) c.in_ok-list.list.items }) (omega arith) fit
-    (omega (arith, c.in_ok-list.ensures.count, c.saturating_sub.ensures, c.room.ensures.small)))
+    let is = forward_chunk_is g.F.Framing.format c.forward_chunk-chunk.result c.tsn_of.result c.skip_form.result c.deref.result.now c.in-Ok.list.items c.new.result c.forward_chunk-chunk.ensures c.new.ensures c.skip_form.ensures c.deref.ensures.value in
+    let fit : AllByRecursion (IsSkip (skip_form g.F.Framing.format)) (skips_in (skip_form g.F.Framing.format) c.in-Ok.list.items) =
+    rw (c.in-Ok.ensures.skips 1) (all_fit g.F.Framing.format (entries_of (map (item_meaning 1) (take c.given_up_run-run.result s.outstanding.items))) s.streams (omega arith)) in
+    rw is (forward_fits g.F.Framing.format (record { cumulative = c.tsn_of.result; skips = skips_in (skip_form g.F.Framing.format) c.in-Ok.list.items }) (omega arith) fit
+    (omega (arith, c.in-Ok.ensures.count, c.saturating_sub.ensures, c.room.ensures.small)))
 
 pub returns-clause-answer : goal.returns-clause-answer
 unfolding StandsFor
@@ -57,9 +83,9 @@ returns-clause-answer g c = λ v stands.
     let run = c.given_up_run-run.result in
     let keeps = subst (λ (k : Kept). Keeps g.F.Framing.format k v) (sym c.self.view_is) stands in
     let passed : IsPassed v run = rw (c.given_up_run-run.ensures s.fragment) (is_passed g.F.Framing.format _ v keeps) in
-    let is = forward_chunk_is g.F.Framing.format c.forward_chunk-chunk.result c.tsn_of.result c.skip_form.result c.deref.result.now c.in_ok-list.list.items c.new.result c.forward_chunk-chunk.ensures c.new.ensures c.skip_form.ensures c.deref.ensures.value in
+    let is = forward_chunk_is g.F.Framing.format c.forward_chunk-chunk.result c.tsn_of.result c.skip_form.result c.deref.result.now c.in-Ok.list.items c.new.result c.forward_chunk-chunk.ensures c.new.ensures c.skip_form.ensures c.deref.ensures.value in
     let first : c.tsn_of.result ≡ tsn v.initial (point v) = c.tsn_of.ensures ∙ passed_tsn g.F.Framing.format _ v run keeps passed in
-    let said = forward_is g.F.Framing.format _ v s.fragment run c.tsn_of.result s.outstanding.items _ keeps refl passed (c.in_ok-list.ensures.skips s.fragment) first in
+    let said = forward_is g.F.Framing.format _ v s.fragment run c.tsn_of.result s.outstanding.items _ keeps refl passed (c.in-Ok.ensures.skips s.fragment) first in
     let chunk : chunk_meaning c.forward_chunk-chunk.result ≡ forward_chunk_of g.F.Framing.format v = is ∙ ap (forward_chunk g.F.Framing.format) said in
     rw (some_passed v run passed c.if-run-eq0.false) (rw chunk at c.try_chunk.ensures.answer)
 
@@ -70,24 +96,21 @@ returns-clause-after g c = λ v stands.
     let run = c.given_up_run-run.result in
     let keeps = subst (λ (k : Kept). Keeps g.F.Framing.format k v) (sym c.self.view_is) stands in
     let passed : IsPassed v run = rw (c.given_up_run-run.ensures s.fragment) (is_passed g.F.Framing.format _ v keeps) in
-    let is = forward_chunk_is g.F.Framing.format c.forward_chunk-chunk.result c.tsn_of.result c.skip_form.result c.deref.result.now c.in_ok-list.list.items c.new.result c.forward_chunk-chunk.ensures c.new.ensures c.skip_form.ensures c.deref.ensures.value in
+    let is = forward_chunk_is g.F.Framing.format c.forward_chunk-chunk.result c.tsn_of.result c.skip_form.result c.deref.result.now c.in-Ok.list.items c.new.result c.forward_chunk-chunk.ensures c.new.ensures c.skip_form.ensures c.deref.ensures.value in
     let first : c.tsn_of.result ≡ tsn v.initial (point v) = c.tsn_of.ensures ∙ passed_tsn g.F.Framing.format _ v run keeps passed in
-    let said = forward_is g.F.Framing.format _ v s.fragment run c.tsn_of.result s.outstanding.items _ keeps refl passed (c.in_ok-list.ensures.skips s.fragment) first in
+    let said = forward_is g.F.Framing.format _ v s.fragment run c.tsn_of.result s.outstanding.items _ keeps refl passed (c.in-Ok.ensures.skips s.fragment) first in
     let chunk : chunk_meaning c.forward_chunk-chunk.result ≡ forward_chunk_of g.F.Framing.format v = is ∙ ap (forward_chunk g.F.Framing.format) said in
     rw chunk at c.try_chunk.ensures.after
-
-pub returns-in_err-list-clause-memory : goal.returns-in_err-list-clause-memory
-unfolding StandsFor
-returns-in_err-list-clause-memory g c = λ v stands.
-    let s = c.self.inside in
-    let keeps = subst (λ (k : Kept). Keeps g.F.Framing.format k v) (sym c.self.view_is) stands in
-    let passed : IsPassed v c.given_up_run-run.result = rw (c.given_up_run-run.ensures s.fragment) (is_passed g.F.Framing.format _ v keeps) in
-    on_err (v.cum < point v) c.from_residual.result (is_past v _ passed c.if-run-eq0.false)
 
 pub returns-clause-memory : goal.returns-clause-memory
 unfolding StandsFor
 returns-clause-memory g c = λ v stands.
     let s = c.self.inside in
+    let run = c.given_up_run-run.result in
     let keeps = subst (λ (k : Kept). Keeps g.F.Framing.format k v) (sym c.self.view_is) stands in
-    let passed : IsPassed v c.given_up_run-run.result = rw (c.given_up_run-run.ensures s.fragment) (is_passed g.F.Framing.format _ v keeps) in
-    on_err (v.cum < point v) c.try_chunk.result (is_past v _ passed c.if-run-eq0.false)
+    let passed : IsPassed v run = rw (c.given_up_run-run.ensures s.fragment) (is_passed g.F.Framing.format _ v keeps) in
+    let is = forward_chunk_is g.F.Framing.format c.forward_chunk-chunk.result c.tsn_of.result c.skip_form.result c.deref.result.now c.in-Ok.list.items c.new.result c.forward_chunk-chunk.ensures c.new.ensures c.skip_form.ensures c.deref.ensures.value in
+    let first : c.tsn_of.result ≡ tsn v.initial (point v) = c.tsn_of.ensures ∙ passed_tsn g.F.Framing.format _ v run keeps passed in
+    let said = forward_is g.F.Framing.format _ v s.fragment run c.tsn_of.result s.outstanding.items _ keeps refl passed (c.in-Ok.ensures.skips s.fragment) first in
+    let chunk : chunk_meaning c.forward_chunk-chunk.result ≡ forward_chunk_of g.F.Framing.format v = is ∙ ap (forward_chunk g.F.Framing.format) said in
+    rw (some_passed v run passed c.if-run-eq0.false) (rw chunk at c.try_chunk.ensures.refused)
