@@ -18,7 +18,7 @@ pub record IsMessage (f : Format) (p : Plan) (l : Lane) (n : ℕ) (m : Message) 
       (i : ℕ) × (entry_at p i ≡ Some (Part l n k)) × (slice_get xs k ≡ Some (piece_of f i l n k m))
 
 -- Chunks of the plan are whole exactly where they are one message, and then they carry its bytes and its payload id
--- (RFC 9260, 6.9; RFC 8260, 2.2.2).
+-- (RFC 9260, 6.9; RFC 8260, 2.2.3).
 pub record IsWholeJust (f : Format) (p : Plan) : Type 0 where
   pub one : (xs : List Piece) → ((x : Piece) → Has xs x → IsFragment f p x) → IsWhole f xs →
       (l : Lane) × (n : ℕ) × (m : Message) × IsMessage f p l n m xs

@@ -28,7 +28,7 @@ wire_number Plain Ordered n = ssn n
 wire_number Plain Unordered n = 0
 wire_number Interleaved k n = mid n
 
--- Whether streams take turns, a fragment each (RFC 8260, 2.2.1); else all fragments of a message take their indexes at once (RFC 9260, 6.9).
+-- Whether streams take turns, a fragment each (RFC 8260, 2.2.2 and 3.2); else all fragments of a message take their indexes at once (RFC 9260, 6.9).
 abbrev pub takes_turns : Format → Bool
 takes_turns Plain = false
 takes_turns Interleaved = true

@@ -9,7 +9,7 @@ ghost use Rattle.sctp_reference.specs.calls.SackLaws.{FaultyIsDropped, FaultyShu
 ghost use Rattle.sctp_reference.specs.calls.WishLaws.{NextIndexIsComputed, NextWishIsComputed, TurnIsComputed};
 
 /// The next wish of every view: the lowest index to be repeated, else the lowest that is to go, else what takes the next index (RFC 9260, 6.1 and 6.3.3;
-/// RFC 8260, 2.2.1).
+/// RFC 8260, 2.2.2 and 3.2).
 pub fn next_wishes_are_computed()
     ensures turn { TurnIsComputed }
     ensures index { NextIndexIsComputed }

@@ -1,4 +1,4 @@
-//! Whole messages among kept chunks (RFC 9260, 6.9; RFC 8260, 2.2.2).
+//! Whole messages among kept chunks (RFC 9260, 6.9; RFC 8260, 2.2.3).
 
 ghost use Rattle.std.specs.Prelude.{IfOk};
 ghost use Rattle.sctp_reference.specs.Names.{format_of, lane_of};

@@ -1,4 +1,4 @@
--- What a sender assigns next: a number to a message, and indexes to its fragments (RFC 9260, 6.9; RFC 8260, 2.2.1).
+-- What a sender assigns next: a number to a message, and indexes to its fragments (RFC 9260, 6.9; RFC 8260, 2.2.2 and 3.2).
 use Rattle.std.specs.Prelude.{ℕ, suc, ◌+◌, ◌%◌, ◌==◌, if◌then◌else◌, Bool, List, [], ◌∷◌, ◌++◌, length, map, drop, slice_get, find, Option, option_map}
 use Rattle.sctp_model.specs.Format.{Format, Plain, Interleaved, at_lane}
 use Rattle.sctp_model.specs.Plan.{Entry, Plan, parts_from}

@@ -110,7 +110,7 @@ next_part p (Part l n k) = when (nat_lt (suc k) (length (fragments_in (message_a
 next_part p (End l n) = None
 
 -- The fragment that the message in part of a stream takes next, where it has such a message. It has one at most: a stream's messages go one after
--- the other (RFC 8260, 2.2.1).
+-- the other (RFC 8260, 2.2.2).
 abbrev pub continued : Plan → ℕ → Option Entry
 continued p s = option_and_then (next_part p) (latest s p.entries)
 

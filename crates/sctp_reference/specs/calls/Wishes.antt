@@ -1,4 +1,4 @@
--- Which fragment a sender sends next, as a relation (RFC 9260, 6.1, 6.3.3 and 6.9; RFC 8260, 2.2.1).
+-- Which fragment a sender sends next, as a relation (RFC 9260, 6.1, 6.3.3 and 6.9; RFC 8260, 2.2.2 and 3.2).
 use Rattle.std.specs.Prelude.{◌≡◌, ℕ, suc, ◌+◌, ◌%◌, ◌<◌, ◌≤◌, true, false, List, ◌∷◌, ◌++◌, length, Some}
 use Rattle.sctp_model.specs.Lists.{Has}
 use Rattle.sctp_model.specs.Format.{Format, Plain, Interleaved, Lane}
