@@ -20,61 +20,62 @@ pub trait Framing {
 
     // ---- what a sender writes
 
-    /// The chunk of a piece: a DATA or an I-DATA.
+    /// The chunk of a piece: a DATA or an I-DATA (RFC 9260, 3.3.1; RFC 8260, 2.1).
     fn data_chunk(piece: Piece<'_>) -> Chunk<'_>
         ensures { chunk_meaning result ≡ data_chunk format (piece_meaning piece.entry) };
 
-    /// The bytes of a chunk before its data.
+    /// The bytes of a chunk before its data, 16 or 20 (RFC 9260, 3.3.1; RFC 8260, 2.1).
     fn header() -> usize
         ensures { result ≡ header_of format };
 
-    /// What stands on the wire for a message's number: an SSN, 0 for an unordered DATA, or a MID.
+    /// What stands on the wire for a message's number: an SSN, 0 for an unordered DATA, or a MID (RFC 9260, 6.5; RFC 8260, 2.1).
     fn wire_number(unordered: bool, number: u32) -> u32
         ensures { result ≡ wire_number format (lane_kind unordered) number };
 
-    /// The word of a fragment: the payload id, or behind an I-DATA message's first fragment the fragment number.
+    /// The word of a fragment: the payload id, or behind an I-DATA message's first fragment the fragment number (RFC 9260, 3.3.1; RFC 8260, 2.1).
     fn wire_word(payload: u32, fragment: u32) -> u32
         ensures { result ≡ word_of format payload fragment };
 
-    /// Whether streams take turns, a fragment each. Else all fragments of a message take their indexes at once.
+    /// Whether streams take turns, a fragment each (RFC 8260, 2.2.2 and 3.2). Else all fragments of a message take their indexes at once (RFC 9260, 6.9).
     fn takes_turns() -> bool
         ensures { result ≡ takes_turns format };
 
     /// Whether messages of this kind are numbered: a FORWARD lists these, and a receiver files them by number.
-    /// Others, the unordered ones of DATA, are known by their indexes alone.
+    /// Others, the unordered ones of DATA, are known by their indexes alone (RFC 9260, 3.3.1; RFC 8260, 2.1).
     fn is_numbered(unordered: bool) -> bool
         ensures { result ≡ is_numbered format (lane_kind unordered) };
 
-    /// The chunk of a FORWARD: a FORWARD-TSN or an I-FORWARD-TSN.
+    /// The chunk of a FORWARD: a FORWARD-TSN or an I-FORWARD-TSN (RFC 3758, 3.2; RFC 8260, 2.3.1).
     fn forward_chunk(forward: Forward<'_>) -> Chunk<'_>
         ensures { chunk_meaning result ≡ forward_chunk format (forward_meaning forward.entry) };
 
-    /// How the entries of a FORWARD lie in bytes.
+    /// How the entries of a FORWARD lie in bytes, 4 or 8 each (RFC 3758, 3.2; RFC 8260, 2.3.1).
     fn skip_form() -> SkipForm
         ensures { result ≡ skip_form format };
 
     // ---- what a receiver reads
 
-    /// The number that a wire value stands for near a reference, of a chunk or of an entry of a FORWARD.
+    /// The number that a wire value stands for near a reference, of a chunk or of an entry of a FORWARD (RFC 9260, 2.6 and 6.5; RFC 8260, 2.1).
     ///
     /// None where the format has none, where no count is near, and for a count of 2^32 - 1.
     fn number_near(unordered: bool, wire: u32, reference: u32) -> Option<u32>
         ensures { result ≡ number_near format (lane_kind unordered) wire reference };
 
-    /// What rises by one from a fragment of a message to the next: the index, or the fragment number.
+    /// What rises by one from a fragment of a message to the next: the index, or the fragment number (RFC 9260, 6.9; RFC 8260, 2.1).
     fn place(index: u32, begin: bool, word: u32) -> u32
         ensures { result ≡ place_in format index begin word };
 
-    /// Whether a message begins with a chunk of this flag B and this word.
+    /// Whether a message begins with a chunk of this flag B and this word: with B or, under I-DATA, as fragment 0 (RFC 9260, 3.3.1; RFC 8260, 2.1).
     fn begins(begin: bool, word: u32) -> bool
         ensures { result ≡ begins_in format begin word };
 
-    /// The payload id that a message's first chunk says.
+    /// The payload id that a message's first chunk says, 0 of an I-DATA without B (RFC 9260, 3.3.1; RFC 8260, 2.1).
     fn payload(begin: bool, word: u32) -> u32
         ensures { result ≡ payload_in format begin word };
 
     /// Whether a kept unordered chunk is left behind by a FORWARD, and goes where its message isn't whole: by its index,
-    /// which is then at most the largest index of a FORWARD, or by its number, which is then below one past the largest number skipped.
+    /// which is then at most the largest index of a FORWARD, or by its number, which is then below one past the largest number skipped
+    /// (RFC 3758, 3.6; RFC 8260, 2.3.1).
     fn lets_go(index: u32, number: Option<u32>, jump: u32, skip: u32) -> bool
         ensures { result ≡ lets_go format index number jump skip };
 

@@ -13,7 +13,7 @@ pub trait Serial: Copy {
     // The value as a number.
     ghost wire: { Self → ℕ };
 
-    /// The wire value of a count.
+    /// The wire value of a count: the count modulo 2^16 or 2^32 (RFC 9260, 2.6).
     fn of_count(count: u32) -> Self
         ensures { wire result ≡ wire_value bits count };
 
