@@ -1,7 +1,7 @@
 //! A call, as a line of a case says it.
 
+use crate::words::Words;
 use sctp_send::Ticket;
-use std::str::FromStr;
 
 /// A call of a sender, of a receiver, or of both.
 #[derive(Clone, Copy, Debug)]
@@ -87,81 +87,19 @@ pub enum Call<'a> {
     Receiving,
 }
 
-/// The words of a line that were not read yet.
-#[derive(Drop)]
-struct Words<'a> {
-    rest: &'a str,
-}
-
-impl<'a> Words<'a> {
-    /// The next word.
-    fn next(&mut self) -> Option<&'a str> {
-        let (word, rest) = self.rest.split_once(' ').unwrap_or((self.rest, ""));
-        self.rest = rest;
-        if word.is_empty() { None } else { Some(word) }
-    }
-
-    /// The next word, a number.
-    fn number<T: FromStr>(&mut self) -> Option<T>
-    where
-        T::Err: Drop,
-    {
-        self.next()?.parse().ok()
-    }
-
-    /// The next word, one of two.
-    fn either(&mut self, yes: &str, no: &str) -> Option<bool> {
-        let word = self.next()?;
-        if word == yes {
-            Some(true)
-        } else if word == no {
-            Some(false)
-        } else {
-            None
-        }
-    }
-
-    /// All words that are left.
-    fn all(&mut self) -> &'a str {
-        let rest = self.rest;
-        self.rest = "";
-        rest
-    }
-
-    /// The next word: flags in the order I, U, B, E, or `-` for none.
-    fn flags(&mut self) -> Option<&'a str> {
-        let word = self.next()?;
-        let mut rest = word;
-        for flag in ['I', 'U', 'B', 'E'] {
-            rest = rest.strip_prefix(flag).unwrap_or(rest);
-        }
-        if rest.is_empty() || word == "-" { Some(word) } else { None }
-    }
-
-    /// The next word: a moment, or none.
-    fn until(&mut self) -> Option<Option<u64>> {
-        let word = self.next()?;
-        if word == "-" {
-            Some(None)
-        } else {
-            Some(Some(word.parse().ok()?))
-        }
-    }
-}
-
 impl<'a> Call<'a> {
     /// The call that a line says, if it says one, and nothing behind it.
     pub fn read(line: &'a str) -> Option<Call<'a>> {
         let (name, rest) = line.split_once(' ').unwrap_or((line, ""));
-        let mut words = Words { rest };
+        let mut words = Words::new(rest);
         let call = match read_sending(name, &mut words) {
             Some(call) => call,
             None => {
-                words = Words { rest };
+                words = Words::new(rest);
                 read_receiving(name, &mut words)?
             }
         };
-        if words.rest.is_empty() { Some(call) } else { None }
+        if words.are_read() { Some(call) } else { None }
     }
 }
 
@@ -228,7 +166,7 @@ fn read_receiving<'a>(name: &str, words: &mut Words<'a>) -> Option<Call<'a>> {
             tsn: words.number()?,
             stream: words.number()?,
             number: words.number()?,
-            step: if words.rest.is_empty() { 1 } else { words.number()? },
+            step: if words.are_read() { 1 } else { words.number()? },
         },
         "skip" => Call::Skip {
             tsn: words.number()?,

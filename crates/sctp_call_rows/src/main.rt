@@ -12,6 +12,7 @@ mod parts;
 mod receiving;
 mod sending;
 mod shown;
+mod words;
 
 use crate::call::Call;
 use crate::ends::Ends;

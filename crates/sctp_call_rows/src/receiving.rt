@@ -172,7 +172,12 @@ pub fn taken(alloc: Global, message: Option<Message>, out: &mut String) -> Resul
         None => write!(out, "-")?,
     }
     write!(out, " payload {}", message.payload_id)?;
-    write!(out, " parts {} size {}: ", message.parts().len(), message.len())?;
+    write!(
+        out,
+        " parts {} size {}: ",
+        message.parts().len(),
+        message.len()
+    )?;
     let mut bytes = Vec::new(alloc);
     message.copy_to(&mut bytes)?;
     show_start(alloc, &bytes, out)?;
@@ -182,6 +187,11 @@ pub fn taken(alloc: Global, message: Option<Message>, out: &mut String) -> Resul
 /// The readers of a receiver.
 pub fn receiving<F: Framing>(receiver: &Receiver<F>, out: &mut String) -> Result<()> {
     write!(out, "cumulative {}", receiver.cumulative())?;
-    write!(out, " held {} runs {}", receiver.held_bytes(), receiver.run_count())?;
+    write!(
+        out,
+        " held {} runs {}",
+        receiver.held_bytes(),
+        receiver.run_count()
+    )?;
     Ok(())
 }
