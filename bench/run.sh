@@ -58,13 +58,17 @@ receiver() {
 
 sender() {
     build sender sctp_model sctp_safety sctp_serial sctp_wire sctp_framing sctp_packet sctp_send
-    for range in '1000 2000' '10000 20000'; do
+    for range in '1000 2000' '10000 20000' '100000 200000'; do
         # shellcheck disable=SC2086
-        each "a message of 64 bytes queued, filled and acknowledged ($range)" $range 1 "$built" sent
+        each "a message of 64 bytes queued, sent and acknowledged ($range)" $range 1 "$built" sent
     done
-    for range in '1800 3600' '18000 36000'; do
+    for range in '1008 2016' '10008 20016' '100008 200016'; do
         # shellcheck disable=SC2086
-        each "a message of 64 bytes queued, filled and acknowledged, 18 to a packet ($range)" $range 1 "$built" packed
+        each "a message of 64 bytes queued, sent and acknowledged, 18 to a packet ($range)" $range 1 "$built" packed
+    done
+    for range in '1088 2176' '10064 20128' '100096 200192'; do
+        # shellcheck disable=SC2086
+        each "a message of 64 bytes as I-DATA over 32 streams, 17 to a packet ($range)" $range 1 "$built" streams
     done
     for range in '740 1480' '7400 14800'; do
         # shellcheck disable=SC2086
