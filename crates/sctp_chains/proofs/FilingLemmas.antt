@@ -6,16 +6,19 @@ use Rattle.sctp_model.specs.Lists.{Has}
 use Rattle.sctp_chains.specs.Same.{AreSame}
 use Rattle.sctp_chains.specs.Cells.{Cell}
 use Rattle.sctp_chains.specs.Links.{ChainKept, cells_in, is_linked, join, IsChain, IsBelow, AreChains}
-use Rattle.sctp_chains.specs.inner.Filing.{IsPlace, IsLinkBefore, IsLinkBehind, HaveMore, Gains}
+use Rattle.sctp_chains.specs.inner.Filing.{IsPlace, IsLinkBefore, IsLinkBehind, Avoids, HaveMore, Gains}
 use Rattle.sctp_chains.proofs.ListLemmas.{in_front, in_part, in_around, in_midst, around, here_first, take_one, set_removed, taken_has, dropped_has, order_across, order_back, halves}
 use Rattle.sctp_chains.proofs.SameLemmas.{same_as, same_midst}
 use Rattle.sctp_chains.proofs.ChainLemmas.{joined_chain, joined_cells}
 use Rattle.sctp_chains.proofs.SpotLemmas.{IsSpot, spot, none_before, none_behind, gains, not_back, append_nil}
 
 module _ (cs : List ChainKept) (k : ℕ) (a : ChainKept) (le : k ≤ length cs) (own : IsChain a) (one : a.first ≡ a.last) (place : AreChains cs → IsPlace a.first cs k) where
+  spot_here : AreChains cs → Avoids a.first cs → IsSpot a (take k cs) (drop k cs)
+  spot_here old new = spot cs k a old own one new (place old)
+
   pub files_alone : IsLinkBefore cs k a None → IsLinkBehind cs k a None → Gains a cs (take k cs ++ a ∷ drop k cs)
   files_alone before behind old new =
-      let s = spot cs k a old own one new (place old) in
+      let s = spot_here old new in
       subst (λ (ds : List ChainKept). HaveMore a ds (take k cs ++ a ∷ drop k cs)) (halves cs k)
       (gains (take k cs) [] (drop k cs) a a (subst AreChains (sym (halves cs k)) old) s (λ c there. elim (in_part (take k cs) (drop k cs) c there) [
         | inl front ↦ (none_before cs k a old le s before c front, not_back c a (old.each c (taken_has cs k c front)) own (s.before c front))
@@ -27,12 +30,12 @@ module _ (cs : List ChainKept) (k : ℕ) (a : ChainKept) (le : k ≤ length cs) 
       (gains front (c ∷ []) back (join c a) a parts (record {
         own = joined_chain c a good own linked;
         before = λ x there. order_across IsBelow front (c ∷ back) parts.rising x c there (inl refl);
-        behind = λ x there. s.behind x (in_drop x there);
+        behind = λ x there. (spot_here old new).behind x (in_drop x there);
       }) (λ x there. (
         old.parted x c (in_all x there) here,
         elim (in_part front back x there) [
-          | inl early ↦ not_back x a (old.each x (in_all x there)) own (s.before x (in_take x (in_front front (c ∷ []) x early)))
-          | inr late ↦ none_behind cs k a old s behind x (in_drop x late)
+          | inl early ↦ not_back x a (old.each x (in_all x there)) own ((spot_here old new).before x (in_take x (in_front front (c ∷ []) x early)))
+          | inr late ↦ none_behind cs k a old (spot_here old new) behind x (in_drop x late)
         ],
       )) same))
     where
@@ -41,9 +44,6 @@ module _ (cs : List ChainKept) (k : ℕ) (a : ChainKept) (le : k ≤ length cs) 
 
       back : List ChainKept
       back = drop (suc j) cs
-
-      s : IsSpot a (take k cs) (drop k cs)
-      s = spot cs k a old own one new (place old)
 
       linked : is_linked c a ≡ true
       linked = before.2 c at
@@ -77,12 +77,12 @@ module _ (cs : List ChainKept) (k : ℕ) (a : ChainKept) (le : k ≤ length cs) 
   files_front j d at before behind old new = subst (HaveMore a cs) (sym (set_split cs j (join a d) behind.1)) (subst (λ (ds : List ChainKept). HaveMore a ds (front ++ join a d ∷ back)) whole
       (gains front (d ∷ []) back (join a d) a parts (record {
         own = joined_chain a d own good linked;
-        before = λ x there. s.before x (in_take x there);
+        before = λ x there. (spot_here old new).before x (in_take x there);
         behind = λ x there. (order_back IsBelow front (d ∷ back) parts.rising).0 x there;
       }) (λ x there. (
         elim (in_part front back x there) [
-          | inl early ↦ none_before cs k a old le s before x (in_take x early)
-          | inr late ↦ not_back a x own (old.each x (in_all x there)) (s.behind x (in_drop x (inr late)))
+          | inl early ↦ none_before cs k a old le (spot_here old new) before x (in_take x early)
+          | inr late ↦ not_back a x own (old.each x (in_all x there)) ((spot_here old new).behind x (in_drop x (inr late)))
         ],
         old.parted d x here (in_all x there),
       )) same))
@@ -92,9 +92,6 @@ module _ (cs : List ChainKept) (k : ℕ) (a : ChainKept) (le : k ≤ length cs) 
 
       back : List ChainKept
       back = drop (suc j) cs
-
-      s : IsSpot a (take k cs) (drop k cs)
-      s = spot cs k a old own one new (place old)
 
       linked : is_linked a d ≡ true
       linked = behind.2 d at

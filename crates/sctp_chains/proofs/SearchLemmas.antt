@@ -6,7 +6,7 @@ use Rattle.sctp_model.specs.Lists.{Has, AreInOrder}
 use Rattle.sctp_chains.specs.Links.{ChainKept, is_whole, IsBelow, AreChains}
 use Rattle.sctp_chains.specs.declared.search.Found.{Found}
 use Rattle.sctp_chains.specs.inner.Filing.{IsPlace}
-use Rattle.sctp_chains.specs.inner.Finding.{IsStart, IsIn, IsWholeAt, IsWholeHere, IsWholeWithRank, IsFirstWhole}
+use Rattle.sctp_chains.specs.inner.Finding.{IsIn, IsWholeAt, IsWholeHere, IsWholeWithRank, IsFirstWhole}
 use Rattle.sctp_chains.proofs.ListLemmas.{in_part, halves, around, here_first, at_same, take_one, dropped_has, none_dropped, order_back}
 use Rattle.sctp_chains.proofs.ChainLemmas.{chain_order, one_chain}
 
@@ -62,9 +62,6 @@ module _ (cs : List ChainKept) (h : AreChains cs) where
   pub record IsPassed (from k : ℕ) : Type 0 where
     pub none : (c : ChainKept) → Has (take k cs) c → from ≤ c.first → is_whole c ≡ false
     pub back : (c : ChainKept) → Has (drop k cs) c → from ≤ c.first
-
-  pub passed_first : (from k : ℕ) → IsStart from cs k → IsPassed from k
-  passed_first from k start = record { none = λ c there low. let below = start.front c there in absurd (omega (arith, below, low)); back = start.back }
 
   passed_more : (from k : ℕ) → k < length cs → IsPassed from k → IsWholeHere cs k None → IsPassed from (suc k)
   passed_more from k less p none = record {

@@ -1,5 +1,5 @@
 -- From a place on, chains go up to a rank: one after another, and then the front of one.
-use Rattle.std.proofs.Common.{false, ◌≡◌, ℕ, suc, ◌-◌, ◌<◌, ◌≤◌, List, [], ◌∷◌, ◌++◌, length, get_or, set, take, drop, filter, inl, inr, refl, sym, ◌∙◌, ap, subst, arith}
+use Rattle.std.proofs.Common.{false, ◌≡◌, ℕ, suc, ◌-◌, ◌<◌, ◌≤◌, List, [], ◌∷◌, ◌++◌, length, get_or, set, take, drop, filter, inl, inr, sym, ◌∙◌, ap, subst, arith}
 use Rattle.std.specs.List.{remove}
 use Rattle.std.proofs.lemmas.List.{set_split, length-drop}
 use Rattle.sctp_model.specs.Lists.{Has}
@@ -21,9 +21,6 @@ pub record IsDropped (low high k : ℕ) (old new : List ChainKept) (held left : 
 
 abbrev pub Drops : (high k : ℕ) → (old new : List ChainKept) → (held left : ℕ) → Type 0
 Drops high k old new held left = AreChains old → (low : ℕ) → IsCut low old k → IsDropped low high k old new held left
-
-pub drops_none : (high k : ℕ) (cs : List ChainKept) (held : ℕ) → Drops high k cs cs held held
-drops_none high k cs held h low cut = record { chains = h; cut = cut; cells = refl; count = λ is. is }
 
 module _ (high k : ℕ) (old new : List ChainKept) (held left : ℕ) (d : Drops high k old new held left) where
   -- one chain more

@@ -1,16 +1,18 @@
 //! The kept chunks of one lane.
 
-ghost use Rattle.std.specs.Prelude.{◌≡◌, ◌≤◌, ◌-◌, ◌^◌, ℕ, suc, min, true, not, [], ◌∷◌, filter, IfOk, OnOk, OnErr, OnSome};
+ghost use Rattle.std.specs.Prelude.{◌≡◌, ◌≤◌, ◌-◌, ◌^◌, ◌<◌, ℕ, suc, min, true, not, [], ◌∷◌, filter, IfOk, OnOk, OnErr, OnSome};
 ghost use Rattle.sctp_model.specs.Format.{Lane, Unordered, is_numbered};
 ghost use Rattle.sctp_model.specs.Framing.{lets_go};
 ghost use Rattle.sctp_model.specs.Lists.{Has};
+ghost use Rattle.sctp_model.specs.Pieces.{is_number};
+ghost use Rattle.sctp_model.specs.Serial.{COUNTS};
 ghost use Rattle.sctp_model.specs.ReceiverView.{size_of_pieces};
 ghost use Rattle.sctp_model.specs.receiver.PieceTaken.{is_repeated};
 ghost use Rattle.sctp_wire.specs.ChunkTree.{piece_meaning};
 ghost use Rattle.sctp_chains.specs.Cells.{Kept, cell_of, counted, IsOf};
 ghost use Rattle.sctp_chains.specs.StandsFor.{StandsFor, IsNew, chain_count};
 ghost use Rattle.sctp_chains.specs.Links.{chain_of, one_of, cells_in};
-ghost use Rattle.sctp_chains.specs.WholeOf.{TakesLowest, TakesWith, from_number, IsWholeOf};
+ghost use Rattle.sctp_chains.specs.WholeOf.{TakesLowest, TakesWith, IsMissing, IsThere, AreThere, from_number, IsWholeOf};
 
 use crate::chain::{Chain, Head, Part};
 use crate::filing::{file, place};
@@ -132,6 +134,35 @@ impl<F: Framing> Chains<F> {
         Some(whole_of(chain, found.head, number))
     }
 
+    /// The first number from `next` on that no whole message has and that isn't the newest chunk's; 2^32 - 1 where there is none below it.
+    pub fn first_missing(&self, next: u32, newest: Option<u32>) -> u32
+        ensures from { next ≤ result }
+        ensures missing { (l : Lane) (kept : Kept) → StandsFor F.format self.now l kept → is_numbered F.format l.kind ≡ true → suc result < COUNTS
+            → IsMissing F.format l kept newest result }
+        ensures first { (l : Lane) (kept : Kept) → StandsFor F.format self.now l kept → is_numbered F.format l.kind ≡ true
+            → AreThere F.format l kept newest next result }
+    {
+        for wanted in next..u32::MAX {
+            if !self.is_there(newest, wanted) {
+                return wanted;
+            }
+        }
+        u32::MAX
+    }
+
+    /// Whether a number is the newest chunk's, or a whole message has it.
+    fn is_there(&self, newest: Option<u32>, number: u32) -> bool
+        ensures { (l : Lane) (kept : Kept) → StandsFor F.format self.now l kept → is_numbered F.format l.kind ≡ true
+            → IsThere F.format l kept newest number result }
+    {
+        if is_number(newest, number) {
+            return true;
+        }
+        let lower = rank_at(Some(number), 0);
+        let upper = rank_at(Some(number), u32::MAX);
+        first_whole(&self.chains, lower, upper).is_some()
+    }
+
     /// Lets go of the chunks below a number, in a lane that is numbered.
     pub fn drop_below(&mut self, number: u32)
         ensures { (l : Lane) (kept : Kept) → StandsFor F.format self.old l kept → is_numbered F.format l.kind ≡ true
@@ -184,6 +215,16 @@ fn part_of<F: Framing>(
         end: piece.end,
         data,
     })
+}
+
+/// Whether a number is this one.
+fn is_number(number: Option<u32>, wanted: u32) -> bool
+    ensures { result ≡ is_number wanted number }
+{
+    match number {
+        Some(number) => wanted == number,
+        None => false,
+    }
 }
 
 /// A number of bytes, at most 2^32 - 1.

@@ -90,7 +90,7 @@ fn make_rooms<F: Framing>(streams: &mut Vec<Inbound<F>>) -> Result<(), NoMemory>
     ensures room { OnOk result (HaveRoom streams.new.items) }
 {
     for at in 0..streams.len() {
-        make_room(&mut streams[at], 0)?;
+        make_room(&mut streams[at])?;
     }
     Ok(())
 }
