@@ -1,5 +1,5 @@
 -- The answer to a data chunk, row by row.
-use Rattle.std.proofs.Common.{◌≡◌, ℕ, suc, ◌+◌, ◌-◌, ◌<◌, ◌≤◌, ◌⊎◌, Bool, true, false, nat_lt, nat_le, [], ◌∷◌, length, Option, Some, None, inl, inr, refl, sym, ◌∙◌, ap, subst, arith}
+use Rattle.std.proofs.Common.{◌≡◌, ℕ, suc, ◌+◌, ◌-◌, ◌<◌, ◌≤◌, Bool, true, false, nat_lt, nat_le, [], ◌∷◌, length, Option, Some, None, inl, inr, refl, sym, ◌∙◌, ap, subst, arith}
 use Rattle.std.specs.Prelude.{◌&&◌, ◌||◌, not}
 use Rattle.std.proofs.lemmas.Bool.{cases_Bool}
 use Rattle.std.proofs.lemmas.Bool.Decides.{nat_tests}
@@ -24,22 +24,6 @@ use Rattle.sctp_recv.specs.inner.Rows.{offset_from, IsAbove, IsNewIndex, answer_
 
 table : (behind seen far other passed much : Bool) → Answer
 table a b d e g h = first_of ((a || b, Duplicate) ∷ (d, Ahead) ∷ (e, NoSuchStream) ∷ (g, Passed) ∷ (h, NoRoom) ∷ []) Taken
-
-table_behind : (a b d e g h : Bool) → a ≡ true → table a b d e g h ≡ Duplicate
-unfolding table
-table_behind a b d e g h is = rw is refl
-
-table_seen : (a b d e g h : Bool) → a ≡ false → b ≡ true → table a b d e g h ≡ Duplicate
-unfolding table
-table_seen a b d e g h is too = rw (is, too) refl
-
-table_ahead : (a b d e g h : Bool) → a ≡ false → b ≡ false → d ≡ true → table a b d e g h ≡ Ahead
-unfolding table
-table_ahead a b d e g h i j k = rw (i, j, k) refl
-
-table_stream : (a b d e g h : Bool) → a ≡ false → b ≡ false → d ≡ false → e ≡ true → table a b d e g h ≡ NoSuchStream
-unfolding table
-table_stream a b d e g h i j k l = rw (i, j, k, l) refl
 
 table_passed : (a b d e g h : Bool) → a ≡ false → b ≡ false → d ≡ false → e ≡ false → g ≡ true → table a b d e g h ≡ Passed
 unfolding table
@@ -67,34 +51,6 @@ module _ (f : Format) (k : ReceiverKept) (v : ReceiverView) (p : PieceMeaning) (
   offset_is : index_at v k.seen.cumulative p.tsn ≡ k.seen.cumulative + offset_from k.initial k.seen.cumulative p.tsn
   offset_is = ap (λ (i : ℕ). k.seen.cumulative + offset_from i k.seen.cumulative p.tsn) w.initial
 
-  pub row_behind : before 32 (tsn k.initial k.seen.cumulative) p.tsn ≡ false → answer_at f k v p ≡ Duplicate
-  row_behind e = reads ∙ table_behind _ _ _ _ _ _ (behind_is false e)
-
-  -- what lies above the window wasn't recorded, nor a count too large
-  unseen_far : (i : ℕ) → k.seen.cumulative < i → (k.seen.cumulative + WINDOW < i) ⊎ (COUNTS ≤ suc i) → v.seen i ≡ false
-  unseen_far i above (inl far) = elim (cases_Bool (v.seen i)) [
-    | inl came ↦ absurd (let low = within i (sym (w.seen.above i above) ∙ came) in omega arith)
-    | inr unseen ↦ unseen
-  ]
-  unseen_far i above (inr large) = elim (cases_Bool (v.seen i)) [
-    | inl came ↦ absurd (let low = w.counts i came in omega arith)
-    | inr unseen ↦ unseen
-  ]
-
-  far_is : (o : ℕ) → (nat_lt WINDOW o || nat_le (COUNTS - 1) (k.seen.cumulative + o)) ≡ true → (k.seen.cumulative + WINDOW < k.seen.cumulative + o) ⊎ (COUNTS ≤ suc (k.seen.cumulative + o))
-  far_is o e = elim (cases_Bool (nat_lt WINDOW o)) [
-    | inl far ↦ inl (grind (arith, nat_tests))
-    | inr near ↦ inr (let large : nat_le (COUNTS - 1) (k.seen.cumulative + o) ≡ true = rw near at e in grind (arith, nat_tests))
-  ]
-
-  pub row_ahead : before 32 (tsn k.initial k.seen.cumulative) p.tsn ≡ true → 0 < offset_from k.initial k.seen.cumulative p.tsn →
-      (nat_lt WINDOW (offset_from k.initial k.seen.cumulative p.tsn) || nat_le (COUNTS - 1) (k.seen.cumulative + offset_from k.initial k.seen.cumulative p.tsn)) ≡ true → answer_at f k v p ≡ Ahead
-  row_ahead e some far =
-      let o = offset_from k.initial k.seen.cumulative p.tsn in
-      let unseen : v.seen (index_at v k.seen.cumulative p.tsn) ≡ false = ap v.seen offset_is ∙ unseen_far (k.seen.cumulative + o) (omega arith) (far_is o far) in
-      let ahead_is : is_ahead v k.seen.cumulative p.tsn ≡ true = ap (λ (i : ℕ). nat_lt WINDOW (offset_from i k.seen.cumulative p.tsn) || nat_le (COUNTS - 1) (k.seen.cumulative + offset_from i k.seen.cumulative p.tsn)) w.initial ∙ far in
-      reads ∙ table_ahead _ _ _ _ _ _ (behind_is true e) unseen ahead_is
-
   module _ (i : ℕ) (a : IsAbove k.initial k.seen.cumulative p.tsn i) where
     same_index : i ≡ (piece_at f v k.seen.cumulative p).index
     same_index = a.index ∙ sym offset_is
@@ -116,9 +72,6 @@ module _ (f : Format) (k : ReceiverKept) (v : ReceiverView) (p : PieceMeaning) (
         let run : in_runs k.seen.runs i ≡ b = let r : is_reached k.seen i ≡ in_runs k.seen.runs i = rw out refl in sym r ∙ e in
         ap v.seen (sym same_index) ∙ w.seen.above i a.above ∙ run
 
-    pub row_seen : is_reached k.seen i ≡ true → answer_at f k v p ≡ Duplicate
-    row_seen e = reads ∙ table_seen _ _ _ _ _ _ behind_not (seen_is true e)
-
     module _ (new : is_reached k.seen i ≡ false) where
       pub new_index : IsNewIndex f k v p i
       new_index = record {
@@ -128,11 +81,6 @@ module _ (f : Format) (k : ReceiverKept) (v : ReceiverView) (p : PieceMeaning) (
         near = omega (arith, a.index, a.window);
         count = a.count;
       }
-
-      pub row_stream : length k.streams ≤ p.stream → answer_at f k v p ≡ NoSuchStream
-      row_stream high =
-          let no_stream : nat_le v.streams p.stream ≡ true = let n = w.streams in grind (arith, nat_tests) in
-          reads ∙ table_stream _ _ _ _ _ _ behind_not (seen_is false new) ahead_not no_stream
 
       module _ (low : p.stream < length k.streams) where
         there : nat_le v.streams p.stream ≡ false

@@ -1,5 +1,5 @@
 -- What a receiver keeps once an index was recorded, or a TSN noted; and what makes a chunk one that can be kept.
-use Rattle.std.proofs.Common.{◌≡◌, ℕ, zero, suc, ◌+◌, ◌<◌, ◌≤◌, ◌⊎◌, Bool, true, false, ◌==◌, take, List, [], ◌∷◌, ◌++◌, length, Some, inl, inr, refl, sym, ◌∙◌, ap, subst, length-append, arith}
+use Rattle.std.proofs.Common.{◌≡◌, ℕ, zero, suc, ◌+◌, ◌<◌, ◌≤◌, ◌⊎◌, Bool, true, false, ◌==◌, take, List, [], ◌∷◌, ◌++◌, length, Some, inl, inr, refl, sym, ◌∙◌, ap, subst, arith}
 use Rattle.std.proofs.lemmas.Bool.{cases_Bool}
 use Rattle.std.proofs.lemmas.Bool.Decides.{nat_tests}
 use Rattle.sctp_model.specs.Limits.{WINDOW, DUPLICATE_LIMIT}
@@ -101,13 +101,6 @@ take_front zero [] ys e = refl
 take_front zero (x ∷ xs) ys e = absurd (omega arith)
 take_front (suc n) [] ys e = absurd (omega arith)
 take_front (suc n) (x ∷ xs) ys e = ap (λ (zs : List ℕ). x ∷ zs) (take_front n xs ys (omega arith))
-
-pub keeps_noted : (f : Format) (k : ReceiverKept) (v : ReceiverView) (wire : ℕ) → KeepsView f k v → length k.duplicates < DUPLICATE_LIMIT →
-    KeepsView f (record k { duplicates = k.duplicates ++ wire ∷ [] }) (noted v wire)
-keeps_noted f k v wire w room =
-    let size = length-append k.duplicates (wire ∷ []) in
-    keeps_duplicates f k v (k.duplicates ++ wire ∷ []) (noted v wire).duplicates w
-    (ap (λ (ds : List ℕ). take DUPLICATE_LIMIT (ds ++ wire ∷ [])) w.duplicates ∙ take_all DUPLICATE_LIMIT (k.duplicates ++ wire ∷ []) (omega arith)) (omega arith)
 
 pub keeps_full : (f : Format) (k : ReceiverKept) (v : ReceiverView) (wire : ℕ) → KeepsView f k v → DUPLICATE_LIMIT ≤ length k.duplicates → KeepsView f k (noted v wire)
 keeps_full f k v wire w full =

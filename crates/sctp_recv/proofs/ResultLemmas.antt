@@ -1,11 +1,6 @@
 -- Clauses on results.
 use Rattle.std.specs.Prelude.{IsOk, OnOk, OnErr, Result, Ok, Err}
 
--- what holds anyway holds where it is Ok
-pub if_ok : {T E P : Type 0} (r : Result T E) → P → OnOk r P
-if_ok (Ok x) p = p
-if_ok (Err e) p = tt
-
 -- and where it is Err
 pub if_err : {T E P : Type 0} (r : Result T E) → P → OnErr r P
 if_err (Ok x) p = tt

@@ -1,4 +1,7 @@
 -- The answers as the model's.
+use Rattle.std.specs.Prelude.{ℕ, suc, ◌<◌, length}
+use Rattle.sctp_model.specs.Limits.{DUPLICATE_LIMIT}
+use Rattle.sctp_model.specs.ReceiverView.{ReceiverView}
 use Rattle.sctp_model.specs.receiver.PieceTaken as model
 use Rattle.sctp_model.specs.receiver.ForwardTaken as model_forward
 use Rattle.sctp_recv.specs.declared.answer.Answer.{Answer}
@@ -15,14 +18,15 @@ answer_of Passed = model.Passed
 answer_of NoRoom = model.NoRoom
 answer_of Taken = model.Taken
 
--- what is done with a chunk of this answer needs memory
-abbrev pub NeedsMemory : model.Answer → Type 0
-NeedsMemory model.Duplicate = Unit {0}
-NeedsMemory model.Ahead = ⊥
-NeedsMemory model.NoSuchStream = Unit {0}
-NeedsMemory model.Passed = Unit {0}
-NeedsMemory model.NoRoom = ⊥
-NeedsMemory model.Taken = Unit {0}
+-- What is done with a chunk of this index and answer needs memory: a TSN that came again is noted while there is room for it in a SACK, and
+-- an index is recorded by itself where a gap lies before it.
+abbrev pub NeedsMemory : ReceiverView → (c index : ℕ) → model.Answer → Type 0
+NeedsMemory v c i model.Duplicate = length v.duplicates < DUPLICATE_LIMIT
+NeedsMemory v c i model.Ahead = ⊥
+NeedsMemory v c i model.NoSuchStream = suc c < i
+NeedsMemory v c i model.Passed = suc c < i
+NeedsMemory v c i model.NoRoom = ⊥
+NeedsMemory v c i model.Taken = Unit {0}
 
 -- what a FORWARD is answered
 abbrev pub forward_answer_of : ForwardAnswer → model_forward.ForwardAnswer

@@ -1,9 +1,10 @@
 //! A data chunk comes: the first row that fits it is its answer, and that is done (RFC 9260, 6.2 and 6.6; RFC 8260, 2.2).
 
-ghost use Rattle.std.specs.Prelude.{◌≡◌, ℕ, IfOk, OnOk, OnErr};
+ghost use Rattle.std.specs.Prelude.{◌≡◌, ◌<◌, ℕ, length, IfOk, OnOk, OnErr};
+ghost use Rattle.sctp_model.specs.Limits.{DUPLICATE_LIMIT};
 ghost use Rattle.sctp_model.specs.ReceiverView.{ReceiverView, IsCumulative};
 ghost use Rattle.sctp_model.specs.Receiving.{Takes};
-ghost use Rattle.sctp_model.specs.receiver.Reading.{piece_at};
+ghost use Rattle.sctp_model.specs.receiver.Reading.{index_at, piece_at};
 ghost use Rattle.sctp_model.specs.receiver.PieceTaken.{PieceTaken, answer_to, noted};
 ghost use Rattle.sctp_wire.specs.ChunkTree.{piece_meaning};
 ghost use Rattle.sctp_recv.specs.AnswerOf.{answer_of, NeedsMemory};
@@ -28,7 +29,7 @@ impl<F: Framing> Receiver<F> {
             → IfOk result (λ a. (t : ReceiverView) × PieceTaken F.format v (piece_meaning piece.now) (answer_of a) t × StandsFor F.format self.new t) }
         ensures refused { (v : ReceiverView) → StandsFor F.format self.old v → OnErr result (StandsFor F.format self.new v) }
         ensures memory { (v : ReceiverView) → StandsFor F.format self.old v
-            → OnErr result ((c : ℕ) × IsCumulative v c × NeedsMemory (answer_to F.format v c (piece_meaning piece.now))) }
+            → OnErr result ((c : ℕ) × IsCumulative v c × NeedsMemory v c (index_at v c piece.now.tsn) (answer_to F.format v c (piece_meaning piece.now))) }
     {
         match self.row_of(piece) {
             Row::Duplicate => {
@@ -87,6 +88,7 @@ impl<F: Framing> Receiver<F> {
     fn note(&mut self, tsn: u32) -> Result<(), NoMemory>
         ensures noted { (v : ReceiverView) → StandsFor F.format self.old v → OnOk result (StandsFor F.format self.new (noted v tsn)) }
         ensures refused { (v : ReceiverView) → StandsFor F.format self.old v → OnErr result (StandsFor F.format self.new v) }
+        ensures memory { (v : ReceiverView) → StandsFor F.format self.old v → OnErr result (length v.duplicates < DUPLICATE_LIMIT) }
     {
         if self.duplicates.len() < DUPLICATE_LIMIT {
             self.duplicates.push(tsn).map_err(|_| NoMemory)?;

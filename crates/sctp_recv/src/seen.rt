@@ -1,6 +1,6 @@
 //! Which indexes came: none is missing up to the cumulative one, and above it there are runs. Nothing here knows of data.
 
-ghost use Rattle.std.specs.Prelude.{◌≡◌, ℕ, ◌+◌, ◌≤◌, ◌<◌, ◌%◌, [], true, false, OnOk, OnErr, IfOk, IsOk, take, map, length};
+ghost use Rattle.std.specs.Prelude.{◌≡◌, ℕ, suc, ◌+◌, ◌≤◌, ◌<◌, ◌%◌, [], true, false, OnOk, OnErr, IfOk, IsOk, take, map, length};
 ghost use Rattle.sctp_wire.specs.Items.{blocks_in};
 ghost use Rattle.sctp_wire.specs.ChunkTree.{block_meaning};
 ghost use Rattle.sctp_recv.specs.Blocks.{block_of_run};
@@ -117,6 +117,7 @@ impl Seen {
             → Records self.old.kept self.new.kept index) }
         ensures refused { OnErr result (self.new.kept ≡ self.old.kept) }
         ensures memory { self.old.room ≡ true → IsOk result }
+        ensures gap { OnErr result (suc self.old.kept.cumulative < index) }
     {
         let above = index.saturating_sub(self.cumulative);
         if above == 1 {

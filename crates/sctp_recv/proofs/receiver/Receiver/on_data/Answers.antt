@@ -1,5 +1,6 @@
-use Rattle.std.proofs.Common.{refl, sym, subst}
+use Rattle.std.proofs.Common.{ℕ, suc, ◌<◌, refl, sym, subst}
 use Rattle.sctp_recv.proofs.ResultLemmas.{if_err}
+use Rattle.sctp_model.specs.receiver.Reading.{index_at}
 use Rattle.sctp_wire.specs.ChunkTree.{piece_meaning}
 use Rattle.sctp_recv.specs.AnswerOf.{NeedsMemory}
 use Rattle.sctp_recv.specs.KeptOf.{kept_of}
@@ -58,25 +59,27 @@ pub returns-in_err-note-in-Duplicate-clause-memory : goal.returns-in_err-note-in
 unfolding StandsFor
 returns-in_err-note-in-Duplicate-clause-memory g c = λ v w.
     let s = c.args.self.now.seen.kept in
-    if_err c.from_residual.result (s.cumulative, cumulative_is s v w.0.seen, subst NeedsMemory (sym (c.in-Duplicate.ensures v w)) tt)
+    if_err c.from_residual.result (s.cumulative, cumulative_is s v w.0.seen, subst (NeedsMemory v s.cumulative (index_at v s.cumulative c.args.piece.now.tsn)) (sym (c.in-Duplicate.ensures v w)) (c.in_err-note-in-Duplicate.ensures.memory v w))
 
 pub returns-in_err-add-in-NoSuchStream-clause-memory : goal.returns-in_err-add-in-NoSuchStream-clause-memory
 unfolding StandsFor
 returns-in_err-add-in-NoSuchStream-clause-memory g c = λ v w.
     let s = c.args.self.now.seen.kept in
-    if_err c.from_residual-in_err-add-in-NoSuchStream.result (s.cumulative, cumulative_is s v w.0.seen, subst NeedsMemory (sym (c.in-NoSuchStream.ensures v w).0) tt)
+    let row = c.in-NoSuchStream.ensures v w in
+    if_err c.from_residual-in_err-add-in-NoSuchStream.result (s.cumulative, cumulative_is s v w.0.seen, subst (NeedsMemory v s.cumulative (index_at v s.cumulative c.args.piece.now.tsn)) (sym row.0) (subst (λ (i : ℕ). suc s.cumulative < i) row.1.index c.in_err-add-in-NoSuchStream.ensures.gap))
 
 pub returns-in_err-add-in-Passed-clause-memory : goal.returns-in_err-add-in-Passed-clause-memory
 unfolding StandsFor
 returns-in_err-add-in-Passed-clause-memory g c = λ v w.
     let s = c.args.self.now.seen.kept in
-    if_err c.from_residual-in_err-add-in-Passed.result (s.cumulative, cumulative_is s v w.0.seen, subst NeedsMemory (sym (c.in-Passed.ensures v w).0) tt)
+    let row = c.in-Passed.ensures v w in
+    if_err c.from_residual-in_err-add-in-Passed.result (s.cumulative, cumulative_is s v w.0.seen, subst (NeedsMemory v s.cumulative (index_at v s.cumulative c.args.piece.now.tsn)) (sym row.0) (subst (λ (i : ℕ). suc s.cumulative < i) row.1.index c.in_err-add-in-Passed.ensures.gap))
 
 pub returns-in_err-keep-in-Taken-clause-memory : goal.returns-in_err-keep-in-Taken-clause-memory
 unfolding StandsFor
 returns-in_err-keep-in-Taken-clause-memory g c = λ v w.
     let s = c.args.self.now.seen.kept in
-    if_err c.from_residual-in_err-keep-in-Taken.result (s.cumulative, cumulative_is s v w.0.seen, subst NeedsMemory (sym (c.in-Taken.ensures v w).0) tt)
+    if_err c.from_residual-in_err-keep-in-Taken.result (s.cumulative, cumulative_is s v w.0.seen, subst (NeedsMemory v s.cumulative (index_at v s.cumulative c.args.piece.now.tsn)) (sym (c.in-Taken.ensures v w).0) tt)
 
 pub returns-in_err-add-in-NoSuchStream-clause-refused : goal.returns-in_err-add-in-NoSuchStream-clause-refused
 unfolding StandsFor
