@@ -50,7 +50,8 @@ pub(crate) fn whole_with(chains: &VecDeque<Chain>, rank: u64) -> Option<Found>
     None
 }
 
-/// The first whole message that begins with one of these ranks.
+/// The first whole message that begins with one of these ranks. Its callers have it in line, since one of them runs for each message.
+#[inline(always)]
 pub(crate) fn first_whole(chains: &VecDeque<Chain>, from: u64, last: u64) -> Option<Found>
     ensures { AreChains (map chain_of chains.now.items) → IsFirstWhole (map chain_of chains.now.items) from last result }
 {
