@@ -30,7 +30,7 @@ impl<F: Framing> Sender<F> {
     /// exactly where the point is CUM, or the chunk doesn't fit. The sender stays as it is.
     ///
     /// # Errors
-    /// `NoMemory` where the point is past CUM and the chunk fits; the packet is then as before.
+    /// `NoMemory`, and only where the point is past CUM and the chunk fits; the packet is then as before.
     pub fn put_forward(&self, packet: &mut PacketWriter) -> Result<bool, NoMemory>
         ensures answer { (v : SenderView) → StandsFor F.format self.now v
             → IfOk result (λ put. put ≡ (nat_lt v.cum (point v) && has_room packet.old (forward_chunk_of F.format v))) }

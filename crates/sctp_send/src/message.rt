@@ -37,7 +37,8 @@ pub fn moment_of(message: &Message) -> u64
 /// The most places of messages that are kept for messages to come.
 pub const SPENT: usize = 64;
 
-/// Keeps the place of a message, without its bytes, where nothing else has it and there is room.
+/// Keeps the place of a message, without its bytes, where nothing else has it and there is room. What is kept shows in no answer, so that
+/// its contract says nothing.
 pub fn lay_by(spent: &mut Vec<Rc<Message>>, alloc: Global, message: Rc<Message>) {
     if spent.len() >= spent.capacity() {
         return;
