@@ -4,7 +4,7 @@ use Rattle.std.proofs.lemmas.Bool.Decides.{nat_tests}
 use Rattle.std.proofs.lemmas.List.{map-append, length-append}
 use Rattle.std.proofs.lemmas.Bool.{and_parts}
 use Rattle.std.specs.Prelude.{◌&&◌, not, is_some}
-use Rattle.sctp_model.specs.Lists.{Has, AreInOrder, joined}
+use Rattle.sctp_model.specs.numbers.Lists.{Has, AreInOrder, joined}
 use Rattle.sctp_chains.specs.Cells.{Cell}
 use Rattle.sctp_chains.specs.Links.{ChainKept, cells_from, cells_in, cells_of, is_linked, join, IsChain, IsBelow, AreChains}
 use Rattle.sctp_chains.specs.declared.chain.Head.{Head}

@@ -1,8 +1,8 @@
 -- A whole chain that was found and then taken out, as the message that it is.
 use Rattle.std.proofs.Common.{◌≡◌, ℕ, List, sym, ◌∙◌, subst}
-use Rattle.sctp_model.specs.Lists.{Has}
-use Rattle.sctp_model.specs.Format.{Format, Lane}
-use Rattle.sctp_model.specs.Pieces.{Piece}
+use Rattle.sctp_model.specs.numbers.Lists.{Has}
+use Rattle.sctp_model.specs.messages.Format.{Format, Lane}
+use Rattle.sctp_model.specs.messages.Pieces.{Piece}
 use Rattle.sctp_chains.specs.Links.{ChainKept}
 use Rattle.sctp_chains.specs.StandsFor.{KeepsLane}
 use Rattle.sctp_chains.specs.declared.search.Found.{Found}

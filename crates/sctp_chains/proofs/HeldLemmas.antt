@@ -3,10 +3,10 @@ use Rattle.std.proofs.Common.{get_or, length, ◌≡◌, ℕ, ◌<◌, ◌≤◌
 use Rattle.std.specs.Prelude.{◌&&◌}
 use Rattle.std.proofs.lemmas.Bool.{cases_Bool, eq-eqb, and_parts, or_right}
 use Rattle.std.proofs.lemmas.Bool.Decides.{nat_tests}
-use Rattle.sctp_model.specs.Lists.{Has}
-use Rattle.sctp_model.specs.Format.{Format, Plain, Interleaved, Lane, Unordered, is_numbered, same_lane}
-use Rattle.sctp_model.specs.Framing.{place_in}
-use Rattle.sctp_model.specs.Pieces.{Piece, same_number, fragment_of}
+use Rattle.sctp_model.specs.numbers.Lists.{Has}
+use Rattle.sctp_model.specs.messages.Format.{Format, Plain, Interleaved, Lane, Unordered, is_numbered, same_lane}
+use Rattle.sctp_model.specs.messages.Framing.{place_in}
+use Rattle.sctp_model.specs.messages.Pieces.{Piece, same_number, fragment_of}
 use Rattle.sctp_model.specs.receiver.PieceTaken.{are_one_fragment, is_held, is_repeated}
 use Rattle.sctp_model.proofs.receiver.RowFacts.{lane_same}
 use Rattle.sctp_chains.specs.Cells.{Cell, key_of, rank_at, rank_of, cell_of, IsOf}

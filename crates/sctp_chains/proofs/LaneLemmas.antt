@@ -3,12 +3,12 @@ use Rattle.std.proofs.Common.{◌≡◌, ℕ, suc, ◌+◌, ◌-◌, ◌*◌, �
 use Rattle.std.specs.Prelude.{not, is_some}
 use Rattle.std.proofs.lemmas.Bool.{cases_lt}
 use Rattle.std.proofs.lemmas.Bool.Decides.{nat_tests}
-use Rattle.sctp_model.specs.Lists.{Has}
-use Rattle.sctp_model.specs.Format.{Format, Plain, Interleaved, Lane, Unordered, is_numbered}
-use Rattle.sctp_model.specs.Framing.{place_in, lets_go, is_skipped}
-use Rattle.sctp_model.specs.Pieces.{Piece, is_number_below}
-use Rattle.sctp_model.specs.ReceiverView.{size_of_pieces}
-use Rattle.sctp_model.specs.receiver.Laws.{IsOnePlace, IsApart}
+use Rattle.sctp_model.specs.numbers.Lists.{Has}
+use Rattle.sctp_model.specs.messages.Format.{Format, Plain, Interleaved, Lane, Unordered, is_numbered}
+use Rattle.sctp_model.specs.messages.Framing.{place_in, lets_go, is_skipped}
+use Rattle.sctp_model.specs.messages.Pieces.{Piece, is_number_below}
+use Rattle.sctp_model.specs.receiver.ReceiverView.{size_of_pieces}
+use Rattle.sctp_model.specs.receiver.Laws.{IsOnePlace, IsFilledOnce}
 use Rattle.sctp_chains.specs.Same.{total, AreSame}
 use Rattle.sctp_chains.specs.Cells.{Cell, cell_of, rank_at, rank_of, IsOf}
 use Rattle.sctp_chains.specs.Links.{ChainKept, cells_in, cells_of}
@@ -40,7 +40,7 @@ module _ (f : Format) (l : Lane) (cs new : List ChainKept) (bytes more : ℕ) (k
       let same : rank_of f x ≡ rank_of f p.0 = sym first ∙ sym rank ∙ sym (ap (λ (c : Cell). c.rank) p.2) in
       n.free p.0 p.1 (rank_place f l x p.0 n.of (h.of p.0 p.1) same)
 
-  apart : IsApart f (x ∷ kept)
+  apart : IsFilledOnce f (x ∷ kept)
   apart y z (inl is) (inl also) same = sym is ∙ also
   apart y z (inl is) (inr there) same = absurd (n.free z there (subst (λ (w : Piece). IsOnePlace f w z) (sym is) same))
   apart y z (inr here) (inl also) same = absurd (n.free y here (turn f y x (subst (IsOnePlace f y) (sym also) same)))

@@ -3,7 +3,7 @@ use Rattle.std.proofs.Common.{append_assoc, ◌≡◌, ℕ, zero, suc, ◌<◌, 
 use Rattle.std.specs.List.{remove}
 use Rattle.std.specs.List.Sorted.{IsPartitionPoint, IsPartitionedBy}
 use Rattle.std.proofs.lemmas.Bool.{cases_Bool}
-use Rattle.sctp_model.specs.Lists.{Has, AreInOrder, joined}
+use Rattle.sctp_model.specs.numbers.Lists.{Has, AreInOrder, joined}
 
 module _ {A : Type 0} where
   -- ---- elements of a list in parts

@@ -2,10 +2,10 @@
 use Rattle.std.proofs.Common.{◌≡◌, ℕ, suc, ◌+◌, ◌*◌, ◌^◌, ◌<◌, Bool, true, false, cond, ◌==◌, Option, Some, None, refl, sym, ◌∙◌, ap, arith}
 use Rattle.std.specs.Prelude.{◌||◌, is_some}
 use Rattle.std.proofs.lemmas.Bool.Decides.{nat_tests}
-use Rattle.sctp_model.specs.Format.{Format, Plain, Interleaved, Lane}
-use Rattle.sctp_model.specs.Framing.{place_in, begins_in, payload_in}
-use Rattle.sctp_model.specs.Pieces.{Piece, payload_of}
-use Rattle.sctp_model.specs.Whole.{IsFirst, Follows}
+use Rattle.sctp_model.specs.messages.Format.{Format, Plain, Interleaved, Lane}
+use Rattle.sctp_model.specs.messages.Framing.{place_in, begins_in, payload_in}
+use Rattle.sctp_model.specs.messages.Pieces.{Piece, payload_of}
+use Rattle.sctp_model.specs.messages.Whole.{IsFirst, Follows}
 use Rattle.sctp_model.specs.receiver.Laws.{IsOnePlace}
 use Rattle.sctp_chains.specs.Cells.{key_of, rank_of, head_of, IsOf}
 use Rattle.sctp_chains.specs.declared.chain.Head.{Head}

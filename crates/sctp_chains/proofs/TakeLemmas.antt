@@ -4,12 +4,12 @@ use Rattle.std.specs.Prelude.{not, is_some}
 use Rattle.std.proofs.lemmas.Bool.{cases_lt}
 use Rattle.std.proofs.lemmas.Bool.Decides.{nat_tests}
 use Rattle.std.proofs.lemmas.Grind.{common_steps}
-use Rattle.sctp_model.specs.Lists.{Has}
-use Rattle.sctp_model.specs.Format.{Format, Plain, Interleaved, Lane, is_numbered}
-use Rattle.sctp_model.specs.Framing.{place_in}
-use Rattle.sctp_model.specs.Pieces.{Piece, is_number, is_number_below}
-use Rattle.sctp_model.specs.Whole.{IsFirst}
-use Rattle.sctp_model.specs.Receiving.{IsWholeNumber, HasNoWhole}
+use Rattle.sctp_model.specs.numbers.Lists.{Has}
+use Rattle.sctp_model.specs.messages.Format.{Format, Plain, Interleaved, Lane, is_numbered}
+use Rattle.sctp_model.specs.messages.Framing.{place_in}
+use Rattle.sctp_model.specs.messages.Pieces.{Piece, is_number, is_number_below}
+use Rattle.sctp_model.specs.messages.Whole.{IsFirst}
+use Rattle.sctp_model.specs.receiver.Receiving.{IsWholeNumber, HasNoWhole}
 use Rattle.sctp_model.proofs.receiver.RowFacts.{row_same}
 use Rattle.sctp_chains.specs.Cells.{Cell, cell_of, key_of, rank_at, rank_of, IsOf}
 use Rattle.sctp_chains.specs.Links.{ChainKept, chain_of, cells_from, is_whole}

@@ -2,7 +2,7 @@
 use Rattle.std.proofs.Common.{false, ◌≡◌, ℕ, suc, ◌-◌, ◌<◌, ◌≤◌, List, [], ◌∷◌, ◌++◌, length, get_or, set, take, drop, filter, inl, inr, sym, ◌∙◌, ap, subst, arith}
 use Rattle.std.specs.List.{remove}
 use Rattle.std.proofs.lemmas.List.{set_split, length-drop}
-use Rattle.sctp_model.specs.Lists.{Has}
+use Rattle.sctp_model.specs.numbers.Lists.{Has}
 use Rattle.sctp_chains.specs.Cells.{Cell}
 use Rattle.sctp_chains.specs.Links.{ChainKept, cells_in, cells_of, is_linked, IsChain, AreChains}
 use Rattle.sctp_chains.specs.inner.LettingGo.{size_of_cells, size_of_parts, is_outside, passing, Leaves, IsCut, LetsGo, trimmed}

@@ -1,10 +1,10 @@
 -- Whole messages among kept chunks are whole chains, and the other way.
 use Rattle.std.proofs.Common.{◌≡◌, ℕ, suc, ◌+◌, ◌-◌, ◌<◌, Bool, true, false, ◌==◌, List, [], ◌∷◌, map, length, Option, Some, None, inl, inr, refl, sym, ◌∙◌, ap, subst, arith}
 use Rattle.std.proofs.lemmas.Bool.Decides.{nat_tests}
-use Rattle.sctp_model.specs.Lists.{Has, IsWithin}
-use Rattle.sctp_model.specs.Format.{Format, Lane}
-use Rattle.sctp_model.specs.Pieces.{Piece}
-use Rattle.sctp_model.specs.Whole.{IsRow, IsWhole}
+use Rattle.sctp_model.specs.numbers.Lists.{Has, IsWithin}
+use Rattle.sctp_model.specs.messages.Format.{Format, Lane}
+use Rattle.sctp_model.specs.messages.Pieces.{Piece}
+use Rattle.sctp_model.specs.messages.Whole.{IsRow, IsWhole}
 use Rattle.sctp_chains.specs.Cells.{Cell, cell_of, rank_of, head_of}
 use Rattle.sctp_chains.specs.Links.{ChainKept, cells_from, cells_in, cells_of, is_linked, is_whole}
 use Rattle.sctp_chains.specs.StandsFor.{KeepsLane}

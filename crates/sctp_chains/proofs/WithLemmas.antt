@@ -4,11 +4,11 @@ use Rattle.std.specs.Prelude.{not, ◌&&◌}
 use Rattle.std.proofs.lemmas.Bool.{cases_Bool, eq-eqb, or_right}
 use Rattle.std.proofs.lemmas.Bool.Decides.{nat_tests}
 use Rattle.std.proofs.lemmas.Grind.{common_steps}
-use Rattle.sctp_model.specs.Lists.{Has}
-use Rattle.sctp_model.specs.Format.{Format, Plain, Interleaved, Lane, Unordered, is_numbered, same_lane}
-use Rattle.sctp_model.specs.Framing.{place_in}
-use Rattle.sctp_model.specs.Pieces.{Piece, same_number}
-use Rattle.sctp_model.specs.Receiving.{has_index, goes_with, HasNoWholeWith}
+use Rattle.sctp_model.specs.numbers.Lists.{Has}
+use Rattle.sctp_model.specs.messages.Format.{Format, Plain, Interleaved, Lane, Unordered, is_numbered, same_lane}
+use Rattle.sctp_model.specs.messages.Framing.{place_in}
+use Rattle.sctp_model.specs.messages.Pieces.{Piece, same_number}
+use Rattle.sctp_model.specs.receiver.Receiving.{has_index, goes_with, HasNoWholeWith}
 use Rattle.sctp_model.proofs.receiver.RowFacts.{row_same, lane_same}
 use Rattle.sctp_chains.specs.Cells.{Cell, cell_of, key_of, rank_at, rank_of, IsOf}
 use Rattle.sctp_chains.specs.Links.{ChainKept, chain_of}

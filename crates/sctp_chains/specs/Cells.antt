@@ -1,10 +1,10 @@
 -- What a lane keeps of each of its chunks (RFC 9260, 6.9; RFC 8260, 2.2.2).
 use Rattle.std.specs.Prelude.{◌≡◌, ℕ, suc, ◌+◌, ◌*◌, ◌^◌, ◌<◌, Bool, List, Option, Some, None, is_some, if◌then◌else◌}
-use Rattle.sctp_model.specs.Serial.{COUNTS}
-use Rattle.sctp_model.specs.Format.{Format, Lane, is_numbered}
-use Rattle.sctp_model.specs.Framing.{place_in, begins_in, payload_in}
-use Rattle.sctp_model.specs.Chunk.{PieceMeaning}
-use Rattle.sctp_model.specs.Pieces.{Piece}
+use Rattle.sctp_model.specs.numbers.Serial.{COUNTS}
+use Rattle.sctp_model.specs.messages.Format.{Format, Lane, is_numbered}
+use Rattle.sctp_model.specs.messages.Framing.{place_in, begins_in, payload_in}
+use Rattle.sctp_model.specs.wire.Chunk.{PieceMeaning}
+use Rattle.sctp_model.specs.messages.Pieces.{Piece}
 use Rattle.sctp_model.specs.receiver.Reading.{lane_of}
 use Rattle.sctp_chains.specs.declared.chain.Head.{Head}
 

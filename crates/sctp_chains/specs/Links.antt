@@ -2,7 +2,7 @@
 use Rattle.std.specs.Prelude.{◌≡◌, ℕ, suc, ◌+◌, ◌-◌, ◌<◌, not, ◌&&◌, ◌==◌, Bool, false, List, [], ◌∷◌, ◌++◌, map, length, Option, None, is_some}
 use Rattle.std.specs.declared.vec.Vec.{Vec}
 use Rattle.std.specs.declared.alloc.Global.{Global}
-use Rattle.sctp_model.specs.Lists.{Has, AreInOrder, joined}
+use Rattle.sctp_model.specs.numbers.Lists.{Has, AreInOrder, joined}
 use Rattle.sctp_chains.specs.Cells.{Cell}
 use Rattle.sctp_chains.specs.declared.chain.Head.{Head}
 use Rattle.sctp_chains.specs.declared.chain.Chain.{Chain}

@@ -1,6 +1,6 @@
 -- Lists that say the same but for their order.
 use Rattle.std.specs.Prelude.{◌≡◌, ℕ, ◌+◌, List, [], ◌∷◌}
-use Rattle.sctp_model.specs.Lists.{IsWithin}
+use Rattle.sctp_model.specs.numbers.Lists.{IsWithin}
 
 -- the weights of all elements, added
 abbrev pub total : {A : Type 0} → (A → ℕ) → List A → ℕ

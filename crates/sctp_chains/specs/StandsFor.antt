@@ -1,11 +1,11 @@
 -- Which chains stand for which kept chunks of one lane.
 use Rattle.std.specs.Prelude.{◌≡◌, ℕ, ◌+◌, ◌<◌, List, map, length}
-use Rattle.sctp_model.specs.Lists.{Has}
-use Rattle.sctp_model.specs.Serial.{COUNTS}
-use Rattle.sctp_model.specs.Format.{Format, Lane}
-use Rattle.sctp_model.specs.Pieces.{Piece}
-use Rattle.sctp_model.specs.ReceiverView.{size_of_pieces}
-use Rattle.sctp_model.specs.receiver.Laws.{IsOnePlace, IsApart}
+use Rattle.sctp_model.specs.numbers.Lists.{Has}
+use Rattle.sctp_model.specs.numbers.Serial.{COUNTS}
+use Rattle.sctp_model.specs.messages.Format.{Format, Lane}
+use Rattle.sctp_model.specs.messages.Pieces.{Piece}
+use Rattle.sctp_model.specs.receiver.ReceiverView.{size_of_pieces}
+use Rattle.sctp_model.specs.receiver.Laws.{IsOnePlace, IsFilledOnce}
 use Rattle.sctp_chains.specs.Same.{AreSame}
 use Rattle.sctp_chains.specs.Cells.{cell_of, IsOf}
 use Rattle.sctp_chains.specs.Links.{ChainKept, chain_of, cells_of, AreChains}
@@ -14,7 +14,7 @@ use Rattle.sctp_chains.specs.declared.chains.Chains.{Chains}
 -- The chains have just the chunks of the list, in whatever order, which are of the lane and fill no place twice; and their bytes are counted.
 pub record KeepsLane (f : Format) (l : Lane) (cs : List ChainKept) (bytes : ℕ) (kept : List Piece) : Type 0 where
   pub of : (x : Piece) → Has kept x → IsOf f l x
-  pub apart : IsApart f kept
+  pub apart : IsFilledOnce f kept
   pub chains : AreChains cs
   pub same : AreSame (map (cell_of f) kept) (cells_of cs)
   pub held : bytes ≡ size_of_pieces kept

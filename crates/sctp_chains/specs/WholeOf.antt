@@ -1,8 +1,8 @@
 -- What a message taken out says, and what it leaves.
 use Rattle.std.specs.Prelude.{◌≡◌, ℕ, suc, ◌<◌, ◌≤◌, ◌⊎◌, Bool, true, false, not, List, ◌∷◌, map, filter, Option, Some, None}
-use Rattle.sctp_model.specs.Format.{Format, Lane}
-use Rattle.sctp_model.specs.Pieces.{Piece, is_number_below, payload_of}
-use Rattle.sctp_model.specs.Receiving.{IsWholeNumber, IsLowest, HasNoWhole, IsWholeWith, HasNoWholeWith, without_message}
+use Rattle.sctp_model.specs.messages.Format.{Format, Lane}
+use Rattle.sctp_model.specs.messages.Pieces.{Piece, is_number_below, payload_of}
+use Rattle.sctp_model.specs.receiver.Receiving.{IsWholeNumber, IsLowest, HasNoWhole, IsWholeWith, HasNoWholeWith, without_message}
 use Rattle.sctp_chains.specs.Links.{ChainKept, bytes_of}
 use Rattle.sctp_chains.specs.StandsFor.{StandsFor}
 use Rattle.sctp_chains.specs.declared.chain.Head.{Head}

@@ -1,12 +1,12 @@
 //! The kept chunks of one lane.
 
 ghost use Rattle.std.specs.Prelude.{◌≡◌, ◌≤◌, ◌-◌, ◌^◌, ◌<◌, ℕ, suc, min, true, not, [], ◌∷◌, filter, IfOk, OnOk, OnErr, OnSome};
-ghost use Rattle.sctp_model.specs.Format.{Lane, Unordered, is_numbered};
-ghost use Rattle.sctp_model.specs.Framing.{lets_go};
-ghost use Rattle.sctp_model.specs.Lists.{Has};
-ghost use Rattle.sctp_model.specs.Pieces.{is_number};
-ghost use Rattle.sctp_model.specs.Serial.{COUNTS};
-ghost use Rattle.sctp_model.specs.ReceiverView.{size_of_pieces};
+ghost use Rattle.sctp_model.specs.messages.Format.{Lane, Unordered, is_numbered};
+ghost use Rattle.sctp_model.specs.messages.Framing.{lets_go};
+ghost use Rattle.sctp_model.specs.numbers.Lists.{Has};
+ghost use Rattle.sctp_model.specs.messages.Pieces.{is_number};
+ghost use Rattle.sctp_model.specs.numbers.Serial.{COUNTS};
+ghost use Rattle.sctp_model.specs.receiver.ReceiverView.{size_of_pieces};
 ghost use Rattle.sctp_model.specs.receiver.PieceTaken.{is_repeated};
 ghost use Rattle.sctp_wire.specs.ChunkTree.{piece_meaning};
 ghost use Rattle.sctp_chains.specs.Cells.{Kept, cell_of, counted, IsOf};

@@ -2,11 +2,11 @@
 use Rattle.std.proofs.Common.{Option, None, Some, ◌≡◌, ℕ, suc, ◌≤◌, Bool, true, false, not, ◌&&◌, List, [], ◌∷◌, inl, inr, refl, subst, arith}
 use Rattle.std.proofs.lemmas.Bool.{eq-eqb}
 use Rattle.std.proofs.lemmas.Grind.{common_steps}
-use Rattle.sctp_model.specs.Lists.{Has}
-use Rattle.sctp_model.specs.Format.{Plain, same_lane, ordered_lane}
-use Rattle.sctp_model.specs.Pieces.{is_number_below, Piece}
-use Rattle.sctp_model.specs.ReceiverView.{Handed, ReceiverView}
-use Rattle.sctp_model.specs.Receiving.{IsDue, Stop, Over, IsWholeNumber, IsLowest, HasNoWhole, message_of, is_below}
+use Rattle.sctp_model.specs.numbers.Lists.{Has}
+use Rattle.sctp_model.specs.messages.Format.{Plain, same_lane, ordered_lane}
+use Rattle.sctp_model.specs.messages.Pieces.{is_number_below, Piece}
+use Rattle.sctp_model.specs.receiver.ReceiverView.{Handed, ReceiverView}
+use Rattle.sctp_model.specs.receiver.Receiving.{IsDue, Stop, GivesWhole, IsWholeNumber, IsLowest, HasNoWhole, message_of, is_below}
 
 -- a chunk of this stream and number
 pub record IsNumbered (s n : ℕ) (x : Piece) : Type 0 where
@@ -22,7 +22,7 @@ pub record IsOne (x : Piece) : Type 0 where
 pub due-over : (r : ReceiverView) (s n m : ℕ) (x : Piece) (ms : List Handed) → Has r.kept x → IsOne x → IsNumbered s n x →
     ((y : Piece) → Has r.kept y → IsNumbered s n y → x.index ≤ y.index) → IsDue Plain r s (suc n) ms m →
     IsDue Plain r s n (message_of Plain x [] ∷ ms) m
-due-over r s n m x ms here one numbered least rest = Over n m x [] ms whole lowest rest
+due-over r s n m x ms here one numbered least rest = GivesWhole n m x [] ms whole lowest rest
   where
     within : (y : Piece) → Has (x ∷ []) y → Has r.kept y
     within y (inl e) = subst (λ (z : Piece). Has r.kept z) e here

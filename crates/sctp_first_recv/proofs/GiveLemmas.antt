@@ -2,11 +2,11 @@
 use Rattle.std.proofs.Common.{◌≡◌, ℕ, suc, true, false, ◌<◌, ◌≤◌, List, [], ◌∷◌, ◌++◌, length, get_or, refl, sym, ◌∙◌, ap, subst}
 use Rattle.std.specs.Prelude.{reverse, slice_set, not}
 use Rattle.std.proofs.lemmas.List.{append-nil, append_assoc}
-use Rattle.sctp_model.specs.Lists.{Has}
-use Rattle.sctp_model.specs.Format.{Plain, ordered_lane}
-use Rattle.sctp_model.specs.Pieces.{Piece}
-use Rattle.sctp_model.specs.ReceiverView.{Handed, ReceiverView}
-use Rattle.sctp_model.specs.Receiving.{IsDue, message_of, is_below, without_below}
+use Rattle.sctp_model.specs.numbers.Lists.{Has}
+use Rattle.sctp_model.specs.messages.Format.{Plain, ordered_lane}
+use Rattle.sctp_model.specs.messages.Pieces.{Piece}
+use Rattle.sctp_model.specs.receiver.ReceiverView.{Handed, ReceiverView}
+use Rattle.sctp_model.specs.receiver.Receiving.{IsDue, message_of, is_below, without_below}
 use Rattle.sctp_first_recv.specs.ReceiverKept.{StreamKept}
 use Rattle.sctp_first_recv.specs.inner.HandsOver.{HandsOver}
 use Rattle.sctp_first_recv.proofs.KeptLists.{Has-filtered, Has-filter, Has-reverse, Has-reversed, Has-get_or, filter-filter, filter-set, length-fewer}

@@ -3,11 +3,11 @@ use Rattle.std.proofs.Common.{◌≡◌, ℕ, suc, ◌+◌, ◌<◌, ◌≤◌, 
 use Rattle.std.specs.Prelude.{slice_set}
 use Rattle.std.proofs.lemmas.Bool.{cases_lt, ltb-false, ltb-true}
 use Rattle.std.proofs.lemmas.List.{get_or_default, length-map, get_or-map, map-set}
-use Rattle.sctp_model.specs.Lists.{Has}
-use Rattle.sctp_model.specs.Format.{Lane, Plain, ordered_lane}
-use Rattle.sctp_model.specs.Pieces.{Piece}
-use Rattle.sctp_model.specs.ReceiverView.{Handed}
-use Rattle.sctp_model.specs.Receiving.{message_of, without_below}
+use Rattle.sctp_model.specs.numbers.Lists.{Has}
+use Rattle.sctp_model.specs.messages.Format.{Lane, Plain, ordered_lane}
+use Rattle.sctp_model.specs.messages.Pieces.{Piece}
+use Rattle.sctp_model.specs.receiver.ReceiverView.{Handed}
+use Rattle.sctp_model.specs.receiver.Receiving.{message_of, without_below}
 use Rattle.sctp_first_recv.specs.ReceiverKept.{StreamKept}
 use Rattle.sctp_first_recv.specs.inner.HandsOver.{IsAt, IsLowestOf, is_lower_than}
 use Rattle.sctp_first_recv.specs.ReceiverFields.{piece_of_kept}

@@ -3,12 +3,12 @@ use Rattle.std.proofs.Common.{◌≡◌, ℕ, suc, ◌-◌, ◌<◌, ◌≤◌, 
 use Rattle.std.specs.Prelude.{reverse, slice_set}
 use Rattle.std.proofs.lemmas.Bool.{cases_eq, cases_lt, and_parts, lt-ltb, lt-leb}
 use Rattle.std.proofs.lemmas.List.{get_or-set_same, get_or-set_other, length-set}
-use Rattle.sctp_model.specs.Lists.{at}
-use Rattle.sctp_model.specs.Format.{Plain, ordered_lane}
-use Rattle.sctp_model.specs.Pieces.{Piece}
-use Rattle.sctp_model.specs.Chunk.{PieceMeaning}
-use Rattle.sctp_model.specs.ReceiverView.{Handed, ReceiverView, IsCumulative, size_of_pieces, size_of_waiting, room_left}
-use Rattle.sctp_model.specs.Receiving.{recorded, Takes, without_below, is_below}
+use Rattle.sctp_model.specs.numbers.Lists.{at}
+use Rattle.sctp_model.specs.messages.Format.{Plain, ordered_lane}
+use Rattle.sctp_model.specs.messages.Pieces.{Piece}
+use Rattle.sctp_model.specs.wire.Chunk.{PieceMeaning}
+use Rattle.sctp_model.specs.receiver.ReceiverView.{Handed, ReceiverView, IsCumulative, size_of_pieces, size_of_waiting, room_left}
+use Rattle.sctp_model.specs.receiver.Receiving.{recorded, TakesPiece, without_below, is_below}
 use Rattle.sctp_model.specs.first.Ends as ends
 use Rattle.sctp_model.specs.first.Ends.{is_taken, piece_said, IsDuplicate}
 use Rattle.sctp_first_recv.specs.ReceiverKept.{SeenKept, StreamKept, ReceiverKept, is_among}
@@ -119,7 +119,7 @@ view_taken v s x handed n = record v {
 pub stands-taken : (k : ReceiverKept) (v : ReceiverView) (seen : SeenKept) (p : PieceMeaning) (left : List Piece) (after : StreamKept) → KeepsView k v →
     p.stream < length k.streams → Records k.seen seen p.tsn →
     HandsOver p.stream (k.pieces ++ whole_piece p ∷ []) (stream_at k.streams p.stream) left after →
-    (t : ReceiverView) × Takes Plain v (whole_piece p) t
+    (t : ReceiverView) × TakesPiece Plain v (whole_piece p) t
     × KeepsView (record { seen = seen; pieces = left; streams = slice_set k.streams p.stream after; buffer = k.buffer }) t
 stands-taken k v seen p left after keeps there records over = (t, takes, stands)
   where
@@ -135,7 +135,7 @@ stands-taken k v seen p left after keeps there records over = (t, takes, stands)
     turned : x ∷ v.kept ≡ reverse (k.pieces ++ x ∷ [])
     turned = ap (λ (ys : List Piece). x ∷ ys) keeps.kept ∙ sym (reverse-push k.pieces x)
 
-    takes : Takes Plain v x t
+    takes : TakesPiece Plain v x t
     takes = (over.handed, after.next, rw (keeps.next s) (over.due (record (recorded v x) { kept = x ∷ v.kept }) turned (keeps.skip (ordered_lane s))), refl)
 
     stands : KeepsView (record { seen = seen; pieces = left; streams = slice_set k.streams s after; buffer = k.buffer }) t
@@ -185,5 +185,5 @@ answer-taken k v p seen left after streams e keeps one there reached ahead recor
     let new = duplicate-not k v p.tsn keeps reached in
     let least : v.next p.stream ≤ p.number = rw (keeps.next p.stream) ahead in
     let made = stands-taken k v seen p left after keeps there records over in
-    let takes : Takes Plain v (piece_said p) made.0 = subst (λ (x : Piece). Takes Plain v x made.0) (whole-is p one) made.1 in
+    let takes : TakesPiece Plain v (piece_said p) made.0 = subst (λ (x : Piece). TakesPiece Plain v x made.0) (whole-is p one) made.1 in
     (made.0, (taken-is v p one (rw keeps.streams there), (new, least), ends.Taken made.0 new least takes), subst (λ (ss : List StreamKept). KeepsView (record { seen = seen; pieces = left; streams = ss; buffer = k.buffer }) made.0) e made.2)

@@ -2,8 +2,8 @@
 use Rattle.std.proofs.Common.{◌≡◌, ℕ, zero, suc, ◌+◌, ◌<◌, List, [], ◌∷◌, ◌++◌, length, get_or, map, take, refl, sym, ◌∙◌, ap, arith}
 use Rattle.std.specs.Prelude.{reverse}
 use Rattle.std.proofs.lemmas.List.{map_more}
-use Rattle.sctp_model.specs.Pieces.{Piece}
-use Rattle.sctp_model.specs.ReceiverView.{Handed, size_of_pieces, size_of_messages, size_of_waiting}
+use Rattle.sctp_model.specs.messages.Pieces.{Piece}
+use Rattle.sctp_model.specs.receiver.ReceiverView.{Handed, size_of_pieces, size_of_messages, size_of_waiting}
 use Rattle.sctp_first_recv.proofs.KeptLists.{reverse-cons}
 
 pub size-pieces_push : (xs : List Piece) (x : Piece) → size_of_pieces (xs ++ x ∷ []) ≡ size_of_pieces xs + length x.bytes

@@ -4,7 +4,7 @@ use Rattle.std.proofs.lemmas.Bool.{cases_eq, eq-eqb, or_parts, leb-false}
 use Rattle.std.proofs.lemmas.Grind.{common_steps}
 use Rattle.std.specs.Ordering.{nat_cmp}
 use Rattle.std.specs.BTreeMap.{is_at}
-use Rattle.sctp_model.specs.Lists.{at}
+use Rattle.sctp_model.specs.numbers.Lists.{at}
 use Rattle.sctp_first_recv.specs.ReceiverKept.{SeenKept, is_among}
 use Rattle.sctp_first_recv.specs.SeenStands.{SeenSays, seen_of}
 use Rattle.sctp_first_recv.specs.inner.Recording.{is_reached}

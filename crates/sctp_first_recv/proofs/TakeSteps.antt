@@ -4,8 +4,8 @@ use Rattle.std.specs.Prelude.{slice_set, IsSome, ◌↔◌}
 use Rattle.std.specs.Option.{option_to_list}
 use Rattle.std.proofs.lemmas.Bool.{cases_eq, cases_lt}
 use Rattle.std.proofs.lemmas.List.{get_or-set_same, get_or-set_other, length-set, set-get_or, nil_from_length, get_or-map, map-set}
-use Rattle.sctp_model.specs.Lists.{at}
-use Rattle.sctp_model.specs.ReceiverView.{Handed, ReceiverView}
+use Rattle.sctp_model.specs.numbers.Lists.{at}
+use Rattle.sctp_model.specs.receiver.ReceiverView.{Handed, ReceiverView}
 use Rattle.sctp_first_recv.specs.ReceiverKept.{StreamKept, ReceiverKept}
 use Rattle.sctp_first_recv.specs.HandedOf.{handed_of}
 use Rattle.sctp_first_recv.specs.ReceiverStands.{stream_at, KeepsView}

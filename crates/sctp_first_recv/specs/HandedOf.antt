@@ -1,6 +1,6 @@
 -- What a message that was handed over says.
-use Rattle.sctp_model.specs.Format.{ordered_lane}
-use Rattle.sctp_model.specs.ReceiverView.{Handed}
+use Rattle.sctp_model.specs.messages.Format.{ordered_lane}
+use Rattle.sctp_model.specs.receiver.ReceiverView.{Handed}
 use Rattle.sctp_first_recv.specs.declared.message.Message.{Message}
 
 -- a message: as yet all are ordered

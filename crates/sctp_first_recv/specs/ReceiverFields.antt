@@ -1,7 +1,7 @@
 -- What a receiver's own types say.
 use Rattle.std.specs.Prelude.{true, map, Some}
-use Rattle.sctp_model.specs.Format.{ordered_lane}
-use Rattle.sctp_model.specs.Pieces.{Piece}
+use Rattle.sctp_model.specs.messages.Format.{ordered_lane}
+use Rattle.sctp_model.specs.messages.Pieces.{Piece}
 use Rattle.sctp_first_recv.specs.ReceiverKept.{StreamKept}
 use Rattle.sctp_first_recv.specs.HandedOf.{handed_of}
 use Rattle.sctp_first_recv.specs.declared.kept.KeptPiece.{KeptPiece}

@@ -1,7 +1,7 @@
 -- Which receiver stands for which view.
 use Rattle.std.specs.Prelude.{◌≡◌, ℕ, List, [], length, reverse, slice_index_or}
-use Rattle.sctp_model.specs.Format.{Lane}
-use Rattle.sctp_model.specs.ReceiverView.{ReceiverView}
+use Rattle.sctp_model.specs.messages.Format.{Lane}
+use Rattle.sctp_model.specs.receiver.ReceiverView.{ReceiverView}
 use Rattle.sctp_first_recv.specs.ReceiverKept.{StreamKept, ReceiverKept}
 use Rattle.sctp_first_recv.specs.SeenStands.{SeenStands}
 

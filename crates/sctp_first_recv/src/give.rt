@@ -2,7 +2,7 @@
 
 ghost use Rattle.std.specs.Prelude.{◌≡◌, ◌+◌, ◌≤◌, false, [], ◌∷◌, ◌++◌, map, replicate, vec_len, IfOk, OnOk, OnErr};
 ghost use Rattle.std.specs.VecDeque.{deque_len, deque_capacity};
-ghost use Rattle.sctp_model.specs.Receiving.{is_below, without_below};
+ghost use Rattle.sctp_model.specs.receiver.Receiving.{is_below, without_below};
 ghost use Rattle.sctp_wire.specs.ChunkTree.{piece_meaning};
 ghost use Rattle.sctp_first_recv.specs.inner.HandsOver.{HandsOver, whole_piece};
 ghost use Rattle.sctp_first_recv.specs.ReceiverFields.{piece_of_kept, stream_of};

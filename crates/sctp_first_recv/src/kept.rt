@@ -1,8 +1,8 @@
 //! The chunks that wait for their turn. Each is a whole message as yet.
 
 ghost use Rattle.std.specs.Prelude.{◌≡◌, [], length};
-ghost use Rattle.sctp_model.specs.Format.{Plain};
-ghost use Rattle.sctp_model.specs.Receiving.{message_of};
+ghost use Rattle.sctp_model.specs.messages.Format.{Plain};
+ghost use Rattle.sctp_model.specs.receiver.Receiving.{message_of};
 ghost use Rattle.sctp_first_recv.specs.HandedOf.{handed_of};
 ghost use Rattle.sctp_first_recv.specs.inner.HandsOver.{IsLowestOf, is_lower_than};
 ghost use Rattle.sctp_first_recv.specs.ReceiverFields.{piece_of_kept};

@@ -2,7 +2,7 @@
 
 ghost use Rattle.std.specs.Prelude.{◌≡◌, IfOk, MatchOption, map, []};
 ghost use Rattle.sctp_first_recv.specs.HandedOf.{handed_of};
-ghost use Rattle.sctp_model.specs.ReceiverView.{ReceiverView, IsCumulative, room_left};
+ghost use Rattle.sctp_model.specs.receiver.ReceiverView.{ReceiverView, IsCumulative, room_left};
 ghost use Rattle.sctp_wire.specs.ChunkTree.{piece_meaning};
 ghost use Rattle.sctp_first_recv.specs.ReceiverCalls.{receiver_of, DataLeaves, TakeLeaves};
 ghost use Rattle.sctp_first_recv.specs.inner.Recording.{is_one_message};

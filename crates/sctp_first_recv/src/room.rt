@@ -1,7 +1,7 @@
 //! The room in a receiver's buffer less what is held, in bytes: 0 where more is held.
 
 ghost use Rattle.std.specs.Prelude.{◌≡◌, ◌-◌, map, length};
-ghost use Rattle.sctp_model.specs.ReceiverView.{size_of_pieces, size_of_messages, size_of_waiting};
+ghost use Rattle.sctp_model.specs.receiver.ReceiverView.{size_of_pieces, size_of_messages, size_of_waiting};
 ghost use Rattle.sctp_first_recv.specs.HandedOf.{handed_of};
 ghost use Rattle.sctp_first_recv.specs.ReceiverFields.{piece_of_kept, stream_of};
 ghost use Rattle.sctp_first_recv.specs.ReceiverStands.{stream_at};

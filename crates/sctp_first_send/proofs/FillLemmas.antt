@@ -4,10 +4,10 @@ use Rattle.std.specs.Prelude.{true, false}
 use Rattle.std.specs.List.{AllByRecursion}
 use Rattle.std.proofs.lemmas.List.{append-nil, map-append, length-map, take-map, length-take-le}
 use Rattle.std.proofs.lemmas.Grind.{common_steps, take_at_read}
-use Rattle.sctp_model.specs.Chunk.{ChunkMeaning, PieceMeaning, Data, padded, size_of_chunk}
-use Rattle.sctp_model.specs.SenderView.{Queued, SenderView}
+use Rattle.sctp_model.specs.wire.Chunk.{ChunkMeaning, PieceMeaning, Data, padded, size_of_chunk}
+use Rattle.sctp_model.specs.sender.SenderView.{Queued, SenderView}
 use Rattle.sctp_model.specs.first.Sending.{room_of, room_of_all, IsFill, went_out}
-use Rattle.sctp_model.specs.Packet.{size_of_chunks}
+use Rattle.sctp_model.specs.wire.Packet.{size_of_chunks}
 use Rattle.sctp_wire.specs.Layouts.{Fits}
 use Rattle.sctp_wire.specs.chunks.Data.{IsDataPiece}
 use Rattle.sctp_first_send.specs.declared.sender.Filled.{Filled}

@@ -4,11 +4,11 @@ use Rattle.std.specs.List.{AllByRecursion}
 use Rattle.std.specs.Prelude.{nat_lt, ◌||◌, slice_index, if◌then◌else◌, ◌==◌, true, false, Bool}
 use Rattle.std.proofs.lemmas.List.{append-nil, map-append, length-map, drop-map, take-map, length-take-le}
 use Rattle.std.proofs.lemmas.Grind.{common_steps, elements}
-use Rattle.sctp_model.specs.Format.{ordered_lane, same_lane}
-use Rattle.sctp_model.specs.Plan.{Message, Plan}
-use Rattle.sctp_model.specs.SenderView.{Queued, SenderView, fresh_sender}
+use Rattle.sctp_model.specs.messages.Format.{ordered_lane, same_lane}
+use Rattle.sctp_model.specs.messages.Plan.{Message, Plan}
+use Rattle.sctp_model.specs.sender.SenderView.{Queued, SenderView, fresh_sender}
 use Rattle.sctp_model.specs.first.Sending.{MESSAGE_LIMIT, accepted, queued, room_of, numbered_one, numbered_all, went_out, acknowledged}
-use Rattle.sctp_model.specs.Chunk.{padded}
+use Rattle.sctp_model.specs.wire.Chunk.{padded}
 use Rattle.sctp_model.specs.first.Ends.{data_of, datas_of}
 use Rattle.sctp_first_send.specs.SenderFields.{IsSmall, AreFew}
 use Rattle.sctp_first_send.specs.SenderKept.{Waits, Kept}

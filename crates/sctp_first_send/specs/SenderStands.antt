@@ -1,7 +1,7 @@
 -- Which views a sender stands for, while a message is one fragment of an ordered stream.
 use Rattle.std.specs.Prelude.{◌≡◌, ℕ, List, [], ◌∷◌, length, map, slice_index}
-use Rattle.sctp_model.specs.Format.{ordered_lane}
-use Rattle.sctp_model.specs.SenderView.{Queued, SenderView}
+use Rattle.sctp_model.specs.messages.Format.{ordered_lane}
+use Rattle.sctp_model.specs.sender.SenderView.{Queued, SenderView}
 use Rattle.sctp_model.specs.first.Sending.{message_for, numbered_one, numbered_all}
 use Rattle.sctp_first_send.specs.SenderKept.{Waits, Kept}
 

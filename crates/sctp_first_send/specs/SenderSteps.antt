@@ -1,6 +1,6 @@
 -- What a sender answers, and what it stands for afterwards.
 use Rattle.std.specs.Prelude.{◌≡◌, ℕ, suc, ◌≤◌, List, map, take, Option, None, Some, Result, Ok, Err}
-use Rattle.sctp_model.specs.SenderView.{SenderView}
+use Rattle.sctp_model.specs.sender.SenderView.{SenderView}
 use Rattle.sctp_model.specs.first.Sending.{Refusal, accepted, refusal, queued, IsFill, went_out}
 use Rattle.sctp_model.specs.first.Sending as model
 use Rattle.sctp_model.specs.first.Ends.{datas_of}

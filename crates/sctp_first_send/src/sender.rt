@@ -4,9 +4,9 @@
 
 ghost use Rattle.std.specs.Prelude.{false, ◌≡◌, ℕ, List, suc, None, ◌+◌, ◌<◌, ◌≤◌, ◌^◌, if◌then◌else◌, is_ok, ◌∷◌, [], length, map, take, drop, slice_index, vec_len, MatchResult, OnOk};
 ghost use Rattle.std.specs.List.{AllByRecursion};
-ghost use Rattle.sctp_model.specs.SenderView.{SenderView, fresh_sender};
+ghost use Rattle.sctp_model.specs.sender.SenderView.{SenderView, fresh_sender};
 ghost use Rattle.sctp_model.specs.first.Sending.{acknowledged};
-ghost use Rattle.sctp_model.specs.Chunk.{padded};
+ghost use Rattle.sctp_model.specs.wire.Chunk.{padded};
 ghost use Rattle.sctp_packet.specs.Draft.{room_in, with_chunks};
 ghost use Rattle.sctp_first_send.specs.SenderFields.{waits_of, IsSmall, CanCount};
 ghost use Rattle.sctp_first_send.specs.SenderStands.{StandsFor};

@@ -3,7 +3,7 @@
 ghost use Rattle.std.specs.Prelude.{◌≡◌, suc, ◌+◌, ◌≤◌, ◌<◌, ℕ, ◌^◌, if◌then◌else◌, is_ok, ◌∷◌, [], length, map, take, drop, MatchResult};
 ghost use Rattle.std.specs.List.{AllByRecursion};
 ghost use Rattle.sctp_model.specs.first.Sending.{IsFill, room_of_all};
-ghost use Rattle.sctp_model.specs.Chunk.{padded};
+ghost use Rattle.sctp_model.specs.wire.Chunk.{padded};
 ghost use Rattle.sctp_packet.specs.Draft.{room_in, with_chunks};
 ghost use Rattle.sctp_first_send.specs.SenderFields.{waits_of, IsSmall};
 ghost use Rattle.sctp_first_send.specs.SenderStands.{queue_of};

@@ -1,2 +1,2 @@
-pub use Rattle.sctp_model.specs.Framing
+pub use Rattle.sctp_model.specs.messages.Framing
 pub mod SkipForms

@@ -13,7 +13,7 @@ const HEADER: usize = 16;
 pub struct DataFraming;
 
 impl Framing for DataFraming {
-    ghost use Rattle.sctp_model.specs.Format.{Plain};
+    ghost use Rattle.sctp_model.specs.messages.Format.{Plain};
     ghost use Rattle.sctp_safety.proofs.WholeLaw.{whole_law};
     ghost use Rattle.sctp_safety.proofs.SkipLaw.{skip_law};
 

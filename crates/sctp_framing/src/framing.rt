@@ -8,12 +8,12 @@ use sctp_wire::{Chunk, Forward, Piece, SkipForm};
 /// on the wire is of the chunk alone.
 pub trait Framing {
     ghost use Rattle.std.specs.Prelude.{◌≡◌};
-    ghost use Rattle.sctp_model.specs.Format.{Format, is_numbered};
-    ghost use Rattle.sctp_model.specs.Framing.{lane_kind, data_chunk, header_of, wire_number, takes_turns, number_near, place_in, begins_in, payload_in, forward_chunk, lets_go};
-    ghost use Rattle.sctp_model.specs.Pieces.{word_of};
+    ghost use Rattle.sctp_model.specs.messages.Format.{Format, is_numbered};
+    ghost use Rattle.sctp_model.specs.messages.Framing.{lane_kind, data_chunk, header_of, wire_number, takes_turns, number_near, place_in, begins_in, payload_in, forward_chunk, lets_go};
+    ghost use Rattle.sctp_model.specs.messages.Pieces.{word_of};
     ghost use Rattle.sctp_wire.specs.ChunkTree.{piece_meaning, forward_meaning, chunk_meaning};
     ghost use Rattle.sctp_framing.specs.SkipForms.{skip_form};
-    ghost use Rattle.sctp_model.specs.FormatLaws.{WholeLaw, SkipLaw};
+    ghost use Rattle.sctp_model.specs.messages.FormatLaws.{WholeLaw, SkipLaw};
 
     // Which format it is.
     ghost format: { Format };

@@ -13,7 +13,7 @@ const HEADER: usize = 20;
 pub struct IDataFraming;
 
 impl Framing for IDataFraming {
-    ghost use Rattle.sctp_model.specs.Format.{Interleaved};
+    ghost use Rattle.sctp_model.specs.messages.Format.{Interleaved};
     ghost use Rattle.sctp_safety.proofs.WholeLaw.{whole_law};
     ghost use Rattle.sctp_safety.proofs.SkipLaw.{skip_law};
 

@@ -2,7 +2,7 @@
 use Rattle.std.proofs.Common.{◌≡◌, ℕ, zero, suc, ◌+◌, ◌<◌, ◌≤◌, ◌^◌, List, [], ◌∷◌, ◌++◌, length, drop, refl, ap, get_or, arith}
 use Rattle.std.proofs.lemmas.Nat.{be_bytes_2}
 use Rattle.std.proofs.lemmas.List.{get_or-drop}
-use Rattle.sctp_model.specs.Numbers.{u16_bytes, u16_at, AreBytes}
+use Rattle.sctp_model.specs.numbers.Numbers.{u16_bytes, u16_at, AreBytes}
 
 pub u16_at-bytes : (n : ℕ) (rest : List ℕ) → n < 2 ^ 16 → u16_at (u16_bytes n ++ rest) ≡ n
 unfolding u16_bytes u16_at

@@ -5,9 +5,9 @@ use Rattle.std.proofs.lemmas.List.{drop-drop, drop_all, take-append-drop, take_a
 use Rattle.std.proofs.lemmas.Bool.{le-leb, eq-eqb}
 use Rattle.std.proofs.lemmas.Bool.Decides.{eqb_tells}
 use Rattle.std.proofs.lemmas.Grind.{common_steps}
-use Rattle.sctp_model.specs.Chunk.{padded, padding_after}
-use Rattle.sctp_model.specs.Numbers.{u16_bytes, u16_at, AreBytes}
-use Rattle.sctp_model.specs.Typed.{Typed, IsTyped, typed_length, typed_bytes, ReadsTyped, Empty, Ends, GoesOn, length_field, starts_typed, typed_at, items_after, typed_of, are_typed, typed_in}
+use Rattle.sctp_model.specs.wire.Chunk.{padded, padding_after}
+use Rattle.sctp_model.specs.numbers.Numbers.{u16_bytes, u16_at, AreBytes}
+use Rattle.sctp_model.specs.wire.Typed.{Typed, IsTyped, typed_length, typed_bytes, ReadsTyped, NoItem, LastItem, NextItem, length_field, starts_typed, typed_at, items_after, typed_of, are_typed, typed_in}
 use Rattle.sctp_model.proofs.NumberLemmas.{u16_at-bytes, u16_at-lt}
 
 -- ---- the walk
@@ -133,10 +133,10 @@ went_on item padding rest first filled_up =
     typed_of-first bytes (starts_padded item (padding ++ rest) bytes first (omega (arith, length-append padding rest))) ∙ rw (first.here, first.size, behind) refl
 
 pub typed_of-reads : (bytes : List ℕ) (items : List Typed) → ReadsTyped bytes items → typed_of bytes ≡ Some items
-typed_of-reads _ _ Empty = typed_of-nil
-typed_of-reads _ _ (Ends item fits) =
+typed_of-reads _ _ NoItem = typed_of-nil
+typed_of-reads _ _ (LastItem item fits) =
     let first = is_first item [] fits in ended item (typed_bytes item) (rw append-nil at first)
-typed_of-reads _ _ (GoesOn item padding rest others fits filled_up more) =
+typed_of-reads _ _ (NextItem item padding rest others fits filled_up more) =
     went_on item padding rest (is_first item (padding ++ rest) fits) filled_up ∙ ap (in_front item) (typed_of-reads rest others more)
 
 -- ---- what the walk gives is of the grammar
@@ -177,9 +177,9 @@ cut_off (a ∷ b ∷ c ∷ d ∷ tail) ranged f =
 
 -- nothing reads as no item
 reads_nothing : (bytes : List ℕ) (items : List Typed) → ReadsTyped bytes items → length bytes ≡ 0 → items ≡ []
-reads_nothing _ _ Empty e = refl
-reads_nothing _ _ (Ends item fits) e = absurd (omega (arith, length-item item))
-reads_nothing _ _ (GoesOn item padding rest others fits filled_up more) e = absurd (omega (arith, length-typed item (padding ++ rest)))
+reads_nothing _ _ NoItem e = refl
+reads_nothing _ _ (LastItem item fits) e = absurd (omega (arith, length-item item))
+reads_nothing _ _ (NextItem item padding rest others fits filled_up more) e = absurd (omega (arith, length-typed item (padding ++ rest)))
 
 reads_first : (bytes : List ℕ) (others : List Typed) → AreBytes bytes → HasFirst bytes → ReadsTyped (behind_first bytes) others → ReadsTyped bytes (typed_at bytes ∷ others)
 reads_first bytes others ranged f more =
@@ -192,7 +192,7 @@ reads_first bytes others ranged f more =
     let over : drop size bytes ≡ [] = drop_all size bytes (omega arith) in
     let alone : others ≡ [] = reads_nothing _ others more (omega (arith, length-drop (padded size) bytes)) in
     let whole : typed_bytes item ≡ bytes = sym (c.parts ∙ rw over (append-nil (typed_bytes item))) in
-    rw alone (subst (λ (xs : List ℕ). ReadsTyped xs (item ∷ [])) whole (Ends item c.fits)))
+    rw alone (subst (λ (xs : List ℕ). ReadsTyped xs (item ∷ [])) whole (LastItem item c.fits)))
     (λ (other : ((length bytes == size) ≡ false) × (length bytes ≢ size)).
     let room = f.room other.1 in
     let gap = padded size - size in
@@ -200,7 +200,7 @@ reads_first bytes others ranged f more =
     let rest : drop gap (drop size bytes) ≡ behind_first bytes = drop-drop gap size bytes ∙ ap (λ (n : ℕ). drop n bytes) (omega arith) in
     let joined : typed_bytes item ++ (padding ++ behind_first bytes) ≡ bytes = sym (c.parts ∙ ap (λ (xs : List ℕ). typed_bytes item ++ xs) (sym (rw (← rest) (take-append-drop gap (drop size bytes))))) in
     let filled_up : length padding ≡ padding_after (typed_length item) = rw c.size (length-take-le gap (drop size bytes) (omega (arith, length-drop size bytes))) in
-    subst (λ (xs : List ℕ). ReadsTyped xs (item ∷ others)) joined (GoesOn item padding (behind_first bytes) others c.fits filled_up more))
+    subst (λ (xs : List ℕ). ReadsTyped xs (item ∷ others)) joined (NextItem item padding (behind_first bytes) others c.fits filled_up more))
     (eqb_tells (length bytes) size)
 
 -- what an item before a walk's answer says of the answer
@@ -221,8 +221,8 @@ reads_by b bytes items true e ranged again h =
     subst (λ (xs : List Typed). ReadsTyped (b ∷ bytes) xs) (sym found.1.1) (reads_first (b ∷ bytes) found.0 ranged first behind)
 
 reads_after : (inside : ℕ) (bytes : List ℕ) (items : List Typed) → AreBytes bytes → items_after inside bytes ≡ Some items → ReadsTyped (drop inside bytes) items
-reads_after zero [] items ranged h = let none : [] ≡ items = cc in subst (λ (xs : List Typed). ReadsTyped [] xs) none Empty
-reads_after (suc inside) [] items ranged h = let none : [] ≡ items = cc in subst (λ (xs : List Typed). ReadsTyped [] xs) none Empty
+reads_after zero [] items ranged h = let none : [] ≡ items = cc in subst (λ (xs : List Typed). ReadsTyped [] xs) none NoItem
+reads_after (suc inside) [] items ranged h = let none : [] ≡ items = cc in subst (λ (xs : List Typed). ReadsTyped [] xs) none NoItem
 reads_after (suc inside) (b ∷ bytes) items ranged h = reads_after inside bytes items (λ i. ranged (suc i)) h
 reads_after zero (b ∷ bytes) items ranged h =
     reads_by b bytes items (starts_typed (b ∷ bytes)) refl ranged (λ others e. reads_after (padded (length_field (b ∷ bytes)) - 1) bytes others (λ i. ranged (suc i)) e) h

@@ -3,9 +3,9 @@ use Rattle.std.proofs.Common.{◌≡◌, ℕ, ◌%◌, true, List, [], ◌∷◌
 use Rattle.std.specs.Prelude.{Option, Some, None, is_some, unwrap_or}
 use Rattle.std.specs.List.{AllByRecursion}
 use Rattle.std.proofs.Math.ListN.{length-replicate}
-use Rattle.sctp_model.specs.Chunk.{padding_after}
-use Rattle.sctp_model.specs.Numbers.{AreBytes}
-use Rattle.sctp_model.specs.Typed.{Typed, IsTyped, typed_bytes, ReadsTyped, Empty, Ends, GoesOn, filled, written_typed, WritesTyped, typed_of, are_typed, typed_in, AreAsWritten}
+use Rattle.sctp_model.specs.wire.Chunk.{padding_after}
+use Rattle.sctp_model.specs.numbers.Numbers.{AreBytes}
+use Rattle.sctp_model.specs.wire.Typed.{Typed, IsTyped, typed_bytes, ReadsTyped, NoItem, LastItem, NextItem, filled, written_typed, WritesTyped, typed_of, are_typed, typed_in, AreAsWritten}
 use Rattle.sctp_model.proofs.TypedLemmas.{typed_of-nil, length-item, typed_of-reads, reads_typed_in}
 
 pub zeros_long : (n : ℕ) → length {A = ℕ} (replicate n 0) ≡ n
@@ -41,29 +41,29 @@ writes_more bytes items item fits w =
     record { bytes_are = rw w.bytes_are (sym (written_more items item)); fit = all_more items item w.fit fits }
 
 pub reads_more : (bytes : List ℕ) (items : List Typed) (item : Typed) → IsTyped item → ReadsTyped bytes items → ReadsTyped (filled bytes ++ typed_bytes item) (items ++ item ∷ [])
-reads_more _ _ item fits Empty = Ends item fits
-reads_more _ _ item fits (Ends x fit) =
+reads_more _ _ item fits NoItem = LastItem item fits
+reads_more _ _ item fits (LastItem x fit) =
     let n = padding_after (length (typed_bytes x)) in
     subst (λ (bytes : List ℕ). ReadsTyped bytes (x ∷ item ∷ [])) (sym (append_assoc (typed_bytes x) (replicate n 0) (typed_bytes item)))
-    (GoesOn x (replicate n 0) (typed_bytes item) (item ∷ []) fit (zeros_long n ∙ ap padding_after (length-item x)) (Ends item fits))
-reads_more _ _ item fits (GoesOn x padding rest others fit filled_up more) =
+    (NextItem x (replicate n 0) (typed_bytes item) (item ∷ []) fit (zeros_long n ∙ ap padding_after (length-item x)) (LastItem item fits))
+reads_more _ _ item fits (NextItem x padding rest others fit filled_up more) =
     let front = typed_bytes x ++ padding in
     let whole : length front % 4 ≡ 0 = omega (arith, length-append (typed_bytes x) padding, length-item x) in
     let joined : typed_bytes x ++ (padding ++ (filled rest ++ typed_bytes item)) ≡ filled (typed_bytes x ++ (padding ++ rest)) ++ typed_bytes item =
     sym (append_assoc (typed_bytes x) padding (filled rest ++ typed_bytes item)) ∙ sym (append_assoc front (filled rest) (typed_bytes item))
     ∙ ap (λ (bytes : List ℕ). bytes ++ typed_bytes item) (sym (filled_behind front rest whole) ∙ ap filled (append_assoc (typed_bytes x) padding rest)) in
     subst (λ (bytes : List ℕ). ReadsTyped bytes (x ∷ (others ++ item ∷ []))) joined
-    (GoesOn x padding (filled rest ++ typed_bytes item) (others ++ item ∷ []) fit filled_up (reads_more rest others item fits more))
+    (NextItem x padding (filled rest ++ typed_bytes item) (others ++ item ∷ []) fit filled_up (reads_more rest others item fits more))
 
 -- ---- what is written is read
 
 pub reads_written_typed : (items : List Typed) → AllByRecursion IsTyped items → ReadsTyped (written_typed items) items
-reads_written_typed [] all = Empty
-reads_written_typed (x ∷ []) (fits, none) = Ends x fits
+reads_written_typed [] all = NoItem
+reads_written_typed (x ∷ []) (fits, none) = LastItem x fits
 reads_written_typed (x ∷ y ∷ others) (fits, all) =
     let n = padding_after (length (typed_bytes x)) in
     subst (λ (bytes : List ℕ). ReadsTyped bytes (x ∷ y ∷ others)) (sym (append_assoc (typed_bytes x) (replicate n 0) (written_typed (y ∷ others))))
-    (GoesOn x (replicate n 0) (written_typed (y ∷ others)) (y ∷ others) fits (zeros_long n ∙ ap padding_after (length-item x)) (reads_written_typed (y ∷ others) all))
+    (NextItem x (replicate n 0) (written_typed (y ∷ others)) (y ∷ others) fits (zeros_long n ∙ ap padding_after (length-item x)) (reads_written_typed (y ∷ others) all))
 
 pub reads_writes_typed : (bytes : List ℕ) (items : List Typed) → WritesTyped bytes items → ReadsTyped bytes items
 reads_writes_typed bytes items w =
@@ -78,9 +78,9 @@ typed_in-written items all = typed_in-reads (written_typed items) items (reads_w
 -- ---- bytes as they are written
 
 reads_fit : (bytes : List ℕ) (items : List Typed) → ReadsTyped bytes items → AllByRecursion IsTyped items
-reads_fit _ _ Empty = tt
-reads_fit _ _ (Ends x fits) = (fits, tt)
-reads_fit _ _ (GoesOn x padding rest others fits filled_up more) = (fits, reads_fit rest others more)
+reads_fit _ _ NoItem = tt
+reads_fit _ _ (LastItem x fits) = (fits, tt)
+reads_fit _ _ (NextItem x padding rest others fits filled_up more) = (fits, reads_fit rest others more)
 
 -- only a list is as it is written
 listed_by : (bytes : List ℕ) (o : Option (List Typed)) → typed_of bytes ≡ o → bytes ≡ written_typed (unwrap_or o []) → is_some o ≡ true

@@ -1,3 +1,5 @@
+pub mod ReceiverView
+pub mod Receiving
 pub mod Rows
 pub mod Reading
 pub mod KeptOfLane

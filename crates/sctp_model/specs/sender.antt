@@ -1,3 +1,4 @@
+pub mod SenderView
 pub mod Words
 pub mod Entries
 pub mod Queueing

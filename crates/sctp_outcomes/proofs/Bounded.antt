@@ -1,14 +1,14 @@
 -- No receiver records without end: in every world there is an index above which it recorded nothing.
 use Rattle.std.proofs.Common.{◌≡◌, ℕ, zero, suc, ◌≤◌, max, true, Option, Some, None, inl, inr, refl, sym, subst, arith}
 use Rattle.std.proofs.lemmas.Bool.Decides.{nat_tests}
-use Rattle.sctp_model.specs.Format.{Format, Kind, Ordered, Unordered}
-use Rattle.sctp_model.specs.Pieces.{Piece}
-use Rattle.sctp_model.specs.Lists.{at}
-use Rattle.sctp_model.specs.Chunk.{ForwardMeaning}
-use Rattle.sctp_model.specs.ReceiverView.{Handed, ReceiverView}
-use Rattle.sctp_model.specs.Receiving.{Gives, GivesOrdered, GivesAll}
+use Rattle.sctp_model.specs.messages.Format.{Format, Kind, Ordered, Unordered}
+use Rattle.sctp_model.specs.messages.Pieces.{Piece}
+use Rattle.sctp_model.specs.numbers.Lists.{at}
+use Rattle.sctp_model.specs.wire.Chunk.{ForwardMeaning}
+use Rattle.sctp_model.specs.receiver.ReceiverView.{Handed, ReceiverView}
+use Rattle.sctp_model.specs.receiver.Receiving.{Gives, GivesOrdered, GivesAll}
 use Rattle.sctp_model.specs.receiver.Reading.{piece_at}
-use Rattle.sctp_model.specs.receiver.PieceTaken.{Answer, Duplicate, Ahead, NoSuchStream, Passed, NoRoom, Taken, Leaves}
+use Rattle.sctp_model.specs.receiver.PieceTaken.{PieceAnswer, Duplicate, Ahead, NoSuchStream, Passed, NoRoom, Kept, Leaves}
 use Rattle.sctp_model.specs.receiver.ForwardTaken.{ForwardAnswer, OutOfDate, Bad, Moved, ForwardLeaves}
 use Rattle.sctp_model.specs.receiver.SackMade.{sack_sent, TakeLeaves}
 use Rattle.sctp_reference.specs.receiver.Steps.{IsBound}
@@ -40,13 +40,13 @@ pub all_seen : (f : Format) (n : ℕ) (r t : ReceiverView) → GivesAll f n r t 
 all_seen f zero r t is = subst (λ (u : ReceiverView). u.seen ≡ r.seen) (sym is) refl
 all_seen f (suc n) r t (mid, before, g) = subst (λ (u : _). t.seen ≡ u) (all_seen f n r mid before) (given_seen f n mid t g)
 
-by_answer : (f : Format) (r : ReceiverView) (x : Piece) (wire : ℕ) (a : Answer) (t : ReceiverView) → IsBounded f r → Leaves f r x wire a t → IsBounded f t
+by_answer : (f : Format) (r : ReceiverView) (x : Piece) (wire : ℕ) (a : PieceAnswer) (t : ReceiverView) → IsBounded f r → Leaves f r x wire a t → IsBounded f t
 by_answer f r x wire Duplicate t b is = subst (IsBounded f) (sym is) (same_seen f f r _ refl b)
 by_answer f r x wire Ahead t b is = subst (IsBounded f) (sym is) b
 by_answer f r x wire NoSuchStream t b is = subst (IsBounded f) (sym is) (one_more f r _ x.index refl b)
 by_answer f r x wire Passed t b is = subst (IsBounded f) (sym is) (one_more f r _ x.index refl b)
 by_answer f r x wire NoRoom t b is = subst (IsBounded f) (sym is) b
-by_answer f r x wire Taken t b gives = one_more f r t x.index (gives_seen f x.lane.kind x _ t gives) b
+by_answer f r x wire Kept t b gives = one_more f r t x.index (gives_seen f x.lane.kind x _ t gives) b
 
 by_forward : (f : Format) (r : ReceiverView) (c : ℕ) (m : ForwardMeaning) (a : ForwardAnswer) (t : ReceiverView) → IsBounded f r → ForwardLeaves f r c m a t → IsBounded f t
 by_forward f r c m OutOfDate t b is = subst (IsBounded f) (sym is) b

@@ -1,14 +1,14 @@
 -- Both plans are orderly, both receivers at rest, and both senders as their calls leave them.
 use Rattle.std.proofs.Common.{◌≡◌, ℕ, ◌<◌, true, false, List, inl, inr, refl, sym, subst, ap, arith, ◌∙◌}
-use Rattle.sctp_model.specs.Format.{Format}
-use Rattle.sctp_model.specs.Orderly.{Orderly}
-use Rattle.sctp_model.specs.SenderView.{SenderView, fresh_sender}
+use Rattle.sctp_model.specs.messages.Format.{Format}
+use Rattle.sctp_model.specs.messages.Orderly.{Orderly}
+use Rattle.sctp_model.specs.sender.SenderView.{SenderView, fresh_sender}
 use Rattle.sctp_model.specs.sender.Reached.{IsReached, Begins}
 use Rattle.sctp_model.specs.receiver.Laws.{IsAtRest}
 use Rattle.sctp_model.proofs.receiver.AtRest.{fresh_at_rest, piece_at_rest, sent_at_rest, take_at_rest}
 use Rattle.sctp_model.proofs.receiver.ForwardAtRest.{forward_at_rest}
 use Rattle.sctp_model.specs.end.EndView.{Phase, Listening, EndView, format_of}
-use Rattle.sctp_model.specs.World.{Side, A, B, World, end_of}
+use Rattle.sctp_model.specs.world.World.{Side, A, B, World, end_of}
 use Rattle.sctp_safety.specs.Agreement.{was_open}
 use Rattle.sctp_safety.proofs.OrderlyCalls.{plan_stays_orderly}
 use Rattle.sctp_safety.proofs.runs.Unmet.{IsBlank}

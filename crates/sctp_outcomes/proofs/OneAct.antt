@@ -1,10 +1,10 @@
 -- What a chunk leaves is one: no two rows of the state table hold at once, and each leaves one end.
 use Rattle.std.proofs.Common.{◌≡◌, ℕ, Bool, true, false, List, Some, None, inl, inr, refl, sym, subst, ap, arith, ◌∙◌}
-use Rattle.sctp_model.specs.Typed.{Typed}
-use Rattle.sctp_model.specs.Format.{Format, Plain, Interleaved}
-use Rattle.sctp_model.specs.Chunk.{PieceMeaning, SackMeaning, ForwardMeaning, InitMeaning, ChunkMeaning, Data, IData, Init, InitAck, Sack, Heartbeat, HeartbeatAck, Abort, Shutdown, ShutdownAck, Error, CookieEcho, CookieAck, ShutdownComplete, ForwardTsn, IForwardTsn, Unknown}
-use Rattle.sctp_model.specs.ReceiverView.{ReceiverView}
-use Rattle.sctp_model.specs.receiver.PieceTaken.{Answer}
+use Rattle.sctp_model.specs.wire.Typed.{Typed}
+use Rattle.sctp_model.specs.messages.Format.{Format, Plain, Interleaved}
+use Rattle.sctp_model.specs.wire.Chunk.{PieceMeaning, SackMeaning, ForwardMeaning, InitMeaning, ChunkMeaning, Data, IData, Init, InitAck, Sack, Heartbeat, HeartbeatAck, Abort, Shutdown, ShutdownAck, Error, CookieEcho, CookieAck, ShutdownComplete, ForwardTsn, IForwardTsn, Unknown}
+use Rattle.sctp_model.specs.receiver.ReceiverView.{ReceiverView}
+use Rattle.sctp_model.specs.receiver.PieceTaken.{PieceAnswer}
 use Rattle.sctp_model.specs.receiver.Laws.{IsOrdinary}
 use Rattle.sctp_model.proofs.receiver.OneStep.{piece_only, forward_only}
 use Rattle.sctp_model.specs.end.Sealing.{Sealing}
@@ -14,7 +14,7 @@ use Rattle.sctp_model.specs.end.Closing.{answers_shutdown, hears, takes_data, ta
 use Rattle.sctp_model.specs.end.Reports.{with_causes}
 use Rattle.sctp_model.specs.end.PeerFaults.{After, GoesOn, Replies, packet_to, abort_for, at_fault, no_user_data, violation}
 use Rattle.sctp_model.specs.end.Opening.{ack_fault, is_calling, echoing, InitAckActs, NotCalling, NoTag, RefusedAck, AcceptedAck, seal_in, is_ours, cookie_read, EchoActs, NotHere, EchoedAgain, IsStrange, is_echoing, CookieAckActs, NotEchoing, CookieAcked}
-use Rattle.sctp_model.specs.end.Acting.{acknowledges, piece_causes, PieceActs, NotHeard, Empty, WrongFormat, Comes, ForwardActs, WrongKind, IsBad, IsOld, SackActs, IsStale, IsWrong, Counts, HeartbeatActs, ErrorActs, Closes, SaysNothing, shutdown_heard, ShutdownActs, NotOpen, Crosses, Again, ShutdownAckActs, NotAwaited, Completes, CompleteActs, Acts}
+use Rattle.sctp_model.specs.end.Acting.{acknowledges, piece_causes, PieceActs, ForwardNotHeard, HeartbeatNotHeard, PieceNotHeard, SackNotHeard, PieceEmpty, WrongFormat, ForwardComes, PieceComes, ForwardActs, WrongKind, IsBad, IsOld, SackActs, SackStale, ShutdownStale, SackWrong, ShutdownWrong, HeartbeatCounts, SackCounts, ShutdownCounts, HeartbeatActs, ErrorActs, Closes, SaysNothing, shutdown_heard, ShutdownActs, ShutdownNotOpen, Crosses, Again, ShutdownAckActs, AckNotAwaited, CompleteNotAwaited, AckCompletes, CompleteCompleted, CompleteActs, Acts}
 
 -- ---- what can't hold at once
 
@@ -34,77 +34,77 @@ same_open h t u g i a b = let q : Open t g ≡ Open u i = sym a ∙ b in (cc, cc
 
 module _ (e : EndView) (o : IsOrdinary (format_of e) e.receiver) where
   one_piece : (f : Format) (p : PieceMeaning) (x y : After) → PieceActs f e p x → PieceActs f e p y → x ≡ y
-  one_piece f p x y (NotHeard o1) (NotHeard o2) = refl
-  one_piece f p x y (NotHeard o1) (Empty t2 g2 i2 k2 z2) = absurd (deaf takes_data e.phase t2 g2 o1 i2 k2)
-  one_piece f p x y (NotHeard o1) (WrongFormat t2 g2 i2 k2 s2 m2) = absurd (deaf takes_data e.phase t2 g2 o1 i2 k2)
-  one_piece f p x y (NotHeard o1) (Comes t2 g2 a2 r2 i2 k2 s2 m2 c2) = absurd (deaf takes_data e.phase t2 g2 o1 i2 k2)
-  one_piece f p x y (Empty t1 g1 i1 k1 z1) (NotHeard o2) = absurd (deaf takes_data e.phase t1 g1 o2 i1 k1)
-  one_piece f p x y (Empty t1 g1 i1 k1 z1) (Empty t2 g2 i2 k2 z2) = let q = same_open e.phase t1 t2 g1 g2 i1 i2 in ap (λ (t : Tags). at_fault t (no_user_data p.tsn) e) q.0
-  one_piece f p x y (Empty t1 g1 i1 k1 z1) (WrongFormat t2 g2 i2 k2 s2 m2) = absurd (let z = z1 in let s = s2 in omega (arith, z, s))
-  one_piece f p x y (Empty t1 g1 i1 k1 z1) (Comes t2 g2 a2 r2 i2 k2 s2 m2 c2) = absurd (let z = z1 in let s = s2 in omega (arith, z, s))
-  one_piece f p x y (WrongFormat t1 g1 i1 k1 s1 m1) (NotHeard o2) = absurd (deaf takes_data e.phase t1 g1 o2 i1 k1)
-  one_piece f p x y (WrongFormat t1 g1 i1 k1 s1 m1) (Empty t2 g2 i2 k2 z2) = absurd (let z = z2 in let s = s1 in omega (arith, z, s))
+  one_piece f p x y (PieceNotHeard o1) (PieceNotHeard o2) = refl
+  one_piece f p x y (PieceNotHeard o1) (PieceEmpty t2 g2 i2 k2 z2) = absurd (deaf takes_data e.phase t2 g2 o1 i2 k2)
+  one_piece f p x y (PieceNotHeard o1) (WrongFormat t2 g2 i2 k2 s2 m2) = absurd (deaf takes_data e.phase t2 g2 o1 i2 k2)
+  one_piece f p x y (PieceNotHeard o1) (PieceComes t2 g2 a2 r2 i2 k2 s2 m2 c2) = absurd (deaf takes_data e.phase t2 g2 o1 i2 k2)
+  one_piece f p x y (PieceEmpty t1 g1 i1 k1 z1) (PieceNotHeard o2) = absurd (deaf takes_data e.phase t1 g1 o2 i1 k1)
+  one_piece f p x y (PieceEmpty t1 g1 i1 k1 z1) (PieceEmpty t2 g2 i2 k2 z2) = let q = same_open e.phase t1 t2 g1 g2 i1 i2 in ap (λ (t : Tags). at_fault t (no_user_data p.tsn) e) q.0
+  one_piece f p x y (PieceEmpty t1 g1 i1 k1 z1) (WrongFormat t2 g2 i2 k2 s2 m2) = absurd (let z = z1 in let s = s2 in omega (arith, z, s))
+  one_piece f p x y (PieceEmpty t1 g1 i1 k1 z1) (PieceComes t2 g2 a2 r2 i2 k2 s2 m2 c2) = absurd (let z = z1 in let s = s2 in omega (arith, z, s))
+  one_piece f p x y (WrongFormat t1 g1 i1 k1 s1 m1) (PieceNotHeard o2) = absurd (deaf takes_data e.phase t1 g1 o2 i1 k1)
+  one_piece f p x y (WrongFormat t1 g1 i1 k1 s1 m1) (PieceEmpty t2 g2 i2 k2 z2) = absurd (let z = z2 in let s = s1 in omega (arith, z, s))
   one_piece f p x y (WrongFormat t1 g1 i1 k1 s1 m1) (WrongFormat t2 g2 i2 k2 s2 m2) = let q = same_open e.phase t1 t2 g1 g2 i1 i2 in ap (λ (t : Tags). at_fault t violation e) q.0
-  one_piece f p x y (WrongFormat t1 g1 i1 k1 s1 m1) (Comes t2 g2 a2 r2 i2 k2 s2 m2 c2) = absurd (clash m2 m1)
-  one_piece f p x y (Comes t1 g1 a1 r1 i1 k1 s1 m1 c1) (NotHeard o2) = absurd (deaf takes_data e.phase t1 g1 o2 i1 k1)
-  one_piece f p x y (Comes t1 g1 a1 r1 i1 k1 s1 m1 c1) (Empty t2 g2 i2 k2 z2) = absurd (let z = z2 in let s = s1 in omega (arith, z, s))
-  one_piece f p x y (Comes t1 g1 a1 r1 i1 k1 s1 m1 c1) (WrongFormat t2 g2 i2 k2 s2 m2) = absurd (clash m1 m2)
-  one_piece f p x y (Comes t1 g1 a1 r1 i1 k1 s1 m1 c1) (Comes t2 g2 a2 r2 i2 k2 s2 m2 c2) = let q = same_open e.phase t1 t2 g1 g2 i1 i2 in let r = piece_only (format_of e) e.receiver p a1 a2 r1 r2 o c1 c2 in ap (λ (g : Stage). GoesOn (acknowledges g (with_causes (piece_causes e p a1) (record e { receiver = r1 })))) q.1 ∙ ap (λ (a : Answer). GoesOn (acknowledges g2 (with_causes (piece_causes e p a) (record e { receiver = r1 })))) r.0 ∙ ap (λ (v : ReceiverView). GoesOn (acknowledges g2 (with_causes (piece_causes e p a2) (record e { receiver = v })))) r.1
+  one_piece f p x y (WrongFormat t1 g1 i1 k1 s1 m1) (PieceComes t2 g2 a2 r2 i2 k2 s2 m2 c2) = absurd (clash m2 m1)
+  one_piece f p x y (PieceComes t1 g1 a1 r1 i1 k1 s1 m1 c1) (PieceNotHeard o2) = absurd (deaf takes_data e.phase t1 g1 o2 i1 k1)
+  one_piece f p x y (PieceComes t1 g1 a1 r1 i1 k1 s1 m1 c1) (PieceEmpty t2 g2 i2 k2 z2) = absurd (let z = z2 in let s = s1 in omega (arith, z, s))
+  one_piece f p x y (PieceComes t1 g1 a1 r1 i1 k1 s1 m1 c1) (WrongFormat t2 g2 i2 k2 s2 m2) = absurd (clash m1 m2)
+  one_piece f p x y (PieceComes t1 g1 a1 r1 i1 k1 s1 m1 c1) (PieceComes t2 g2 a2 r2 i2 k2 s2 m2 c2) = let q = same_open e.phase t1 t2 g1 g2 i1 i2 in let r = piece_only (format_of e) e.receiver p a1 a2 r1 r2 o c1 c2 in ap (λ (g : Stage). GoesOn (acknowledges g (with_causes (piece_causes e p a1) (record e { receiver = r1 })))) q.1 ∙ ap (λ (a : PieceAnswer). GoesOn (acknowledges g2 (with_causes (piece_causes e p a) (record e { receiver = r1 })))) r.0 ∙ ap (λ (v : ReceiverView). GoesOn (acknowledges g2 (with_causes (piece_causes e p a2) (record e { receiver = v })))) r.1
 
   one_forward : (f : Format) (m : ForwardMeaning) (x y : After) → ForwardActs f e m x → ForwardActs f e m y → x ≡ y
-  one_forward f m x y (NotHeard o1) (NotHeard o2) = refl
-  one_forward f m x y (NotHeard o1) (WrongKind t2 g2 i2 k2 y2) = absurd (deaf takes_data e.phase t2 g2 o1 i2 k2)
-  one_forward f m x y (NotHeard o1) (IsBad t2 g2 r2 i2 k2 y2 c2) = absurd (deaf takes_data e.phase t2 g2 o1 i2 k2)
-  one_forward f m x y (NotHeard o1) (IsOld t2 g2 r2 i2 k2 y2 c2) = absurd (deaf takes_data e.phase t2 g2 o1 i2 k2)
-  one_forward f m x y (NotHeard o1) (Comes t2 g2 r2 i2 k2 y2 c2) = absurd (deaf takes_data e.phase t2 g2 o1 i2 k2)
-  one_forward f m x y (WrongKind t1 g1 i1 k1 y1) (NotHeard o2) = absurd (deaf takes_data e.phase t1 g1 o2 i1 k1)
+  one_forward f m x y (ForwardNotHeard o1) (ForwardNotHeard o2) = refl
+  one_forward f m x y (ForwardNotHeard o1) (WrongKind t2 g2 i2 k2 y2) = absurd (deaf takes_data e.phase t2 g2 o1 i2 k2)
+  one_forward f m x y (ForwardNotHeard o1) (IsBad t2 g2 r2 i2 k2 y2 c2) = absurd (deaf takes_data e.phase t2 g2 o1 i2 k2)
+  one_forward f m x y (ForwardNotHeard o1) (IsOld t2 g2 r2 i2 k2 y2 c2) = absurd (deaf takes_data e.phase t2 g2 o1 i2 k2)
+  one_forward f m x y (ForwardNotHeard o1) (ForwardComes t2 g2 r2 i2 k2 y2 c2) = absurd (deaf takes_data e.phase t2 g2 o1 i2 k2)
+  one_forward f m x y (WrongKind t1 g1 i1 k1 y1) (ForwardNotHeard o2) = absurd (deaf takes_data e.phase t1 g1 o2 i1 k1)
   one_forward f m x y (WrongKind t1 g1 i1 k1 y1) (WrongKind t2 g2 i2 k2 y2) = let q = same_open e.phase t1 t2 g1 g2 i1 i2 in ap (λ (t : Tags). at_fault t violation e) q.0
   one_forward f m x y (WrongKind t1 g1 i1 k1 y1) (IsBad t2 g2 r2 i2 k2 y2 c2) = absurd (clash y2 y1)
   one_forward f m x y (WrongKind t1 g1 i1 k1 y1) (IsOld t2 g2 r2 i2 k2 y2 c2) = absurd (clash y2 y1)
-  one_forward f m x y (WrongKind t1 g1 i1 k1 y1) (Comes t2 g2 r2 i2 k2 y2 c2) = absurd (clash y2 y1)
-  one_forward f m x y (IsBad t1 g1 r1 i1 k1 y1 c1) (NotHeard o2) = absurd (deaf takes_data e.phase t1 g1 o2 i1 k1)
+  one_forward f m x y (WrongKind t1 g1 i1 k1 y1) (ForwardComes t2 g2 r2 i2 k2 y2 c2) = absurd (clash y2 y1)
+  one_forward f m x y (IsBad t1 g1 r1 i1 k1 y1 c1) (ForwardNotHeard o2) = absurd (deaf takes_data e.phase t1 g1 o2 i1 k1)
   one_forward f m x y (IsBad t1 g1 r1 i1 k1 y1 c1) (WrongKind t2 g2 i2 k2 y2) = absurd (clash y1 y2)
   one_forward f m x y (IsBad t1 g1 r1 i1 k1 y1 c1) (IsBad t2 g2 r2 i2 k2 y2 c2) = let q = same_open e.phase t1 t2 g1 g2 i1 i2 in ap (λ (t : Tags). at_fault t violation e) q.0
   one_forward f m x y (IsBad t1 g1 r1 i1 k1 y1 c1) (IsOld t2 g2 r2 i2 k2 y2 c2) = absurd (let q = (forward_only (format_of e) e.receiver m _ _ r1 r2 o.apart c1 c2).0 in cc)
-  one_forward f m x y (IsBad t1 g1 r1 i1 k1 y1 c1) (Comes t2 g2 r2 i2 k2 y2 c2) = absurd (let q = (forward_only (format_of e) e.receiver m _ _ r1 r2 o.apart c1 c2).0 in cc)
-  one_forward f m x y (IsOld t1 g1 r1 i1 k1 y1 c1) (NotHeard o2) = absurd (deaf takes_data e.phase t1 g1 o2 i1 k1)
+  one_forward f m x y (IsBad t1 g1 r1 i1 k1 y1 c1) (ForwardComes t2 g2 r2 i2 k2 y2 c2) = absurd (let q = (forward_only (format_of e) e.receiver m _ _ r1 r2 o.apart c1 c2).0 in cc)
+  one_forward f m x y (IsOld t1 g1 r1 i1 k1 y1 c1) (ForwardNotHeard o2) = absurd (deaf takes_data e.phase t1 g1 o2 i1 k1)
   one_forward f m x y (IsOld t1 g1 r1 i1 k1 y1 c1) (WrongKind t2 g2 i2 k2 y2) = absurd (clash y1 y2)
   one_forward f m x y (IsOld t1 g1 r1 i1 k1 y1 c1) (IsBad t2 g2 r2 i2 k2 y2 c2) = absurd (let q = (forward_only (format_of e) e.receiver m _ _ r2 r1 o.apart c2 c1).0 in cc)
   one_forward f m x y (IsOld t1 g1 r1 i1 k1 y1 c1) (IsOld t2 g2 r2 i2 k2 y2 c2) = let q = same_open e.phase t1 t2 g1 g2 i1 i2 in let r = forward_only (format_of e) e.receiver m _ _ r1 r2 o.apart c1 c2 in ap (λ (g : Stage). GoesOn (acknowledges g (record e { receiver = r1 }))) q.1 ∙ ap (λ (v : ReceiverView). GoesOn (acknowledges g2 (record e { receiver = v }))) r.1
-  one_forward f m x y (IsOld t1 g1 r1 i1 k1 y1 c1) (Comes t2 g2 r2 i2 k2 y2 c2) = absurd (let q = (forward_only (format_of e) e.receiver m _ _ r1 r2 o.apart c1 c2).0 in cc)
-  one_forward f m x y (Comes t1 g1 r1 i1 k1 y1 c1) (NotHeard o2) = absurd (deaf takes_data e.phase t1 g1 o2 i1 k1)
-  one_forward f m x y (Comes t1 g1 r1 i1 k1 y1 c1) (WrongKind t2 g2 i2 k2 y2) = absurd (clash y1 y2)
-  one_forward f m x y (Comes t1 g1 r1 i1 k1 y1 c1) (IsBad t2 g2 r2 i2 k2 y2 c2) = absurd (let q = (forward_only (format_of e) e.receiver m _ _ r2 r1 o.apart c2 c1).0 in cc)
-  one_forward f m x y (Comes t1 g1 r1 i1 k1 y1 c1) (IsOld t2 g2 r2 i2 k2 y2 c2) = absurd (let q = (forward_only (format_of e) e.receiver m _ _ r2 r1 o.apart c2 c1).0 in cc)
-  one_forward f m x y (Comes t1 g1 r1 i1 k1 y1 c1) (Comes t2 g2 r2 i2 k2 y2 c2) = let q = same_open e.phase t1 t2 g1 g2 i1 i2 in let r = forward_only (format_of e) e.receiver m _ _ r1 r2 o.apart c1 c2 in ap (λ (g : Stage). GoesOn (acknowledges g (record e { receiver = r1 }))) q.1 ∙ ap (λ (v : ReceiverView). GoesOn (acknowledges g2 (record e { receiver = v }))) r.1
+  one_forward f m x y (IsOld t1 g1 r1 i1 k1 y1 c1) (ForwardComes t2 g2 r2 i2 k2 y2 c2) = absurd (let q = (forward_only (format_of e) e.receiver m _ _ r1 r2 o.apart c1 c2).0 in cc)
+  one_forward f m x y (ForwardComes t1 g1 r1 i1 k1 y1 c1) (ForwardNotHeard o2) = absurd (deaf takes_data e.phase t1 g1 o2 i1 k1)
+  one_forward f m x y (ForwardComes t1 g1 r1 i1 k1 y1 c1) (WrongKind t2 g2 i2 k2 y2) = absurd (clash y1 y2)
+  one_forward f m x y (ForwardComes t1 g1 r1 i1 k1 y1 c1) (IsBad t2 g2 r2 i2 k2 y2 c2) = absurd (let q = (forward_only (format_of e) e.receiver m _ _ r2 r1 o.apart c2 c1).0 in cc)
+  one_forward f m x y (ForwardComes t1 g1 r1 i1 k1 y1 c1) (IsOld t2 g2 r2 i2 k2 y2 c2) = absurd (let q = (forward_only (format_of e) e.receiver m _ _ r2 r1 o.apart c2 c1).0 in cc)
+  one_forward f m x y (ForwardComes t1 g1 r1 i1 k1 y1 c1) (ForwardComes t2 g2 r2 i2 k2 y2 c2) = let q = same_open e.phase t1 t2 g1 g2 i1 i2 in let r = forward_only (format_of e) e.receiver m _ _ r1 r2 o.apart c1 c2 in ap (λ (g : Stage). GoesOn (acknowledges g (record e { receiver = r1 }))) q.1 ∙ ap (λ (v : ReceiverView). GoesOn (acknowledges g2 (record e { receiver = v }))) r.1
 
   one_sack : (s : SackMeaning) (x y : After) → SackActs e s x → SackActs e s y → x ≡ y
-  one_sack s x y (NotHeard _) (NotHeard _) = refl
-  one_sack s x y (NotHeard a) (IsStale h _) = absurd (clash h a)
-  one_sack s x y (NotHeard a) (IsWrong t g i k _) = absurd (deaf takes_acknowledgements e.phase t g a i k)
-  one_sack s x y (NotHeard a) (Counts h _) = absurd (clash h a)
-  one_sack s x y (IsStale h _) (NotHeard a) = absurd (clash h a)
-  one_sack s x y (IsStale _ _) (IsStale _ _) = refl
-  one_sack s x y (IsStale _ q) (IsWrong t g i k (inl w)) = absurd (cc)
-  one_sack s x y (IsStale _ q) (IsWrong t g i k (inr w)) = absurd (cc)
-  one_sack s x y (IsStale _ q) (Counts _ w) = absurd (cc)
-  one_sack s x y (IsWrong t g i k _) (NotHeard a) = absurd (deaf takes_acknowledgements e.phase t g a i k)
-  one_sack s x y (IsWrong t g i k (inl w)) (IsStale _ q) = absurd (cc)
-  one_sack s x y (IsWrong t g i k (inr w)) (IsStale _ q) = absurd (cc)
-  one_sack s x y (IsWrong t g i k w) (IsWrong u h j l z) = ap (λ (v : Tags). at_fault v violation e) (same_open e.phase t u g h i j).0
-  one_sack s x y (IsWrong t g i k (inl w)) (Counts _ q) = absurd (cc)
-  one_sack s x y (IsWrong t g i k (inr w)) (Counts _ q) = absurd (cc)
-  one_sack s x y (Counts h _) (NotHeard a) = absurd (clash h a)
-  one_sack s x y (Counts _ q) (IsStale _ w) = absurd (cc)
-  one_sack s x y (Counts _ q) (IsWrong t g i k (inl w)) = absurd (cc)
-  one_sack s x y (Counts _ q) (IsWrong t g i k (inr w)) = absurd (cc)
-  one_sack s x y (Counts _ _) (Counts _ _) = refl
+  one_sack s x y (SackNotHeard _) (SackNotHeard _) = refl
+  one_sack s x y (SackNotHeard a) (SackStale h _) = absurd (clash h a)
+  one_sack s x y (SackNotHeard a) (SackWrong t g i k _) = absurd (deaf takes_acknowledgements e.phase t g a i k)
+  one_sack s x y (SackNotHeard a) (SackCounts h _) = absurd (clash h a)
+  one_sack s x y (SackStale h _) (SackNotHeard a) = absurd (clash h a)
+  one_sack s x y (SackStale _ _) (SackStale _ _) = refl
+  one_sack s x y (SackStale _ q) (SackWrong t g i k (inl w)) = absurd (cc)
+  one_sack s x y (SackStale _ q) (SackWrong t g i k (inr w)) = absurd (cc)
+  one_sack s x y (SackStale _ q) (SackCounts _ w) = absurd (cc)
+  one_sack s x y (SackWrong t g i k _) (SackNotHeard a) = absurd (deaf takes_acknowledgements e.phase t g a i k)
+  one_sack s x y (SackWrong t g i k (inl w)) (SackStale _ q) = absurd (cc)
+  one_sack s x y (SackWrong t g i k (inr w)) (SackStale _ q) = absurd (cc)
+  one_sack s x y (SackWrong t g i k w) (SackWrong u h j l z) = ap (λ (v : Tags). at_fault v violation e) (same_open e.phase t u g h i j).0
+  one_sack s x y (SackWrong t g i k (inl w)) (SackCounts _ q) = absurd (cc)
+  one_sack s x y (SackWrong t g i k (inr w)) (SackCounts _ q) = absurd (cc)
+  one_sack s x y (SackCounts h _) (SackNotHeard a) = absurd (clash h a)
+  one_sack s x y (SackCounts _ q) (SackStale _ w) = absurd (cc)
+  one_sack s x y (SackCounts _ q) (SackWrong t g i k (inl w)) = absurd (cc)
+  one_sack s x y (SackCounts _ q) (SackWrong t g i k (inr w)) = absurd (cc)
+  one_sack s x y (SackCounts _ _) (SackCounts _ _) = refl
 
   one_heartbeat : (n : List ℕ) (x y : After) → HeartbeatActs e n x → HeartbeatActs e n y → x ≡ y
-  one_heartbeat n x y (NotHeard _) (NotHeard _) = refl
-  one_heartbeat n x y (NotHeard a) (Counts h) = absurd (clash h a)
-  one_heartbeat n x y (Counts h) (NotHeard a) = absurd (clash h a)
-  one_heartbeat n x y (Counts _) (Counts _) = refl
+  one_heartbeat n x y (HeartbeatNotHeard _) (HeartbeatNotHeard _) = refl
+  one_heartbeat n x y (HeartbeatNotHeard a) (HeartbeatCounts h) = absurd (clash h a)
+  one_heartbeat n x y (HeartbeatCounts h) (HeartbeatNotHeard a) = absurd (clash h a)
+  one_heartbeat n x y (HeartbeatCounts _) (HeartbeatCounts _) = refl
 
   one_error : (n : List ℕ) (x y : After) → ErrorActs e n x → ErrorActs e n y → x ≡ y
   one_error n x y (Closes _) (Closes _) = refl
@@ -113,55 +113,55 @@ module _ (e : EndView) (o : IsOrdinary (format_of e) e.receiver) where
   one_error n x y (SaysNothing _) (SaysNothing _) = refl
 
   one_shutdown : (n : ℕ) (x y : After) → ShutdownActs e n x → ShutdownActs e n y → x ≡ y
-  one_shutdown n x y (NotOpen o1) (NotOpen o2) = refl
-  one_shutdown n x y (NotOpen o1) (IsWrong t2 g2 i2 k2 q2) = absurd (deaf (λ g. true) e.phase t2 g2 o1 i2 refl)
-  one_shutdown n x y (NotOpen o1) (IsStale t2 g2 i2 k2 q2) = absurd (deaf (λ g. true) e.phase t2 g2 o1 i2 refl)
-  one_shutdown n x y (NotOpen o1) (Counts t2 g2 i2 k2 q2) = absurd (deaf (λ g. true) e.phase t2 g2 o1 i2 refl)
-  one_shutdown n x y (NotOpen o1) (Crosses t2 i2) = absurd (deaf (λ g. true) e.phase t2 _ o1 i2 refl)
-  one_shutdown n x y (NotOpen o1) (Again t2 i2) = absurd (deaf (λ g. true) e.phase t2 _ o1 i2 refl)
-  one_shutdown n x y (IsWrong t1 g1 i1 k1 q1) (NotOpen o2) = absurd (deaf (λ g. true) e.phase t1 g1 o2 i1 refl)
-  one_shutdown n x y (IsWrong t1 g1 i1 k1 q1) (IsWrong t2 g2 i2 k2 q2) = let q = same_open e.phase t1 t2 g1 g2 i1 i2 in ap (λ (t : Tags). at_fault t violation e) q.0
-  one_shutdown n x y (IsWrong t1 g1 i1 k1 q1) (IsStale t2 g2 i2 k2 q2) = absurd (cc (q1, q2))
-  one_shutdown n x y (IsWrong t1 g1 i1 k1 q1) (Counts t2 g2 i2 k2 q2) = absurd (cc (q1, q2))
-  one_shutdown n x y (IsWrong t1 g1 i1 k1 q1) (Crosses t2 i2) = absurd (not_there takes_acknowledgements g1 ShutdownSent k1 (same_open e.phase t1 t2 g1 ShutdownSent i1 i2).1 refl)
-  one_shutdown n x y (IsWrong t1 g1 i1 k1 q1) (Again t2 i2) = absurd (not_there takes_acknowledgements g1 ShutdownAckSent k1 (same_open e.phase t1 t2 g1 ShutdownAckSent i1 i2).1 refl)
-  one_shutdown n x y (IsStale t1 g1 i1 k1 q1) (NotOpen o2) = absurd (deaf (λ g. true) e.phase t1 g1 o2 i1 refl)
-  one_shutdown n x y (IsStale t1 g1 i1 k1 q1) (IsWrong t2 g2 i2 k2 q2) = absurd (cc (q2, q1))
-  one_shutdown n x y (IsStale t1 g1 i1 k1 q1) (IsStale t2 g2 i2 k2 q2) = let q = same_open e.phase t1 t2 g1 g2 i1 i2 in ap (λ (t : Tags). GoesOn (turned (Open t ShutdownReceived) e)) q.0
-  one_shutdown n x y (IsStale t1 g1 i1 k1 q1) (Counts t2 g2 i2 k2 q2) = absurd (cc (q1, q2))
-  one_shutdown n x y (IsStale t1 g1 i1 k1 q1) (Crosses t2 i2) = absurd (not_there takes_acknowledgements g1 ShutdownSent k1 (same_open e.phase t1 t2 g1 ShutdownSent i1 i2).1 refl)
-  one_shutdown n x y (IsStale t1 g1 i1 k1 q1) (Again t2 i2) = absurd (not_there takes_acknowledgements g1 ShutdownAckSent k1 (same_open e.phase t1 t2 g1 ShutdownAckSent i1 i2).1 refl)
-  one_shutdown n x y (Counts t1 g1 i1 k1 q1) (NotOpen o2) = absurd (deaf (λ g. true) e.phase t1 g1 o2 i1 refl)
-  one_shutdown n x y (Counts t1 g1 i1 k1 q1) (IsWrong t2 g2 i2 k2 q2) = absurd (cc (q2, q1))
-  one_shutdown n x y (Counts t1 g1 i1 k1 q1) (IsStale t2 g2 i2 k2 q2) = absurd (cc (q2, q1))
-  one_shutdown n x y (Counts t1 g1 i1 k1 q1) (Counts t2 g2 i2 k2 q2) = let q = same_open e.phase t1 t2 g1 g2 i1 i2 in ap (λ (t : Tags). GoesOn (shutdown_heard t e n)) q.0
-  one_shutdown n x y (Counts t1 g1 i1 k1 q1) (Crosses t2 i2) = absurd (not_there takes_acknowledgements g1 ShutdownSent k1 (same_open e.phase t1 t2 g1 ShutdownSent i1 i2).1 refl)
-  one_shutdown n x y (Counts t1 g1 i1 k1 q1) (Again t2 i2) = absurd (not_there takes_acknowledgements g1 ShutdownAckSent k1 (same_open e.phase t1 t2 g1 ShutdownAckSent i1 i2).1 refl)
-  one_shutdown n x y (Crosses t1 i1) (NotOpen o2) = absurd (deaf (λ g. true) e.phase t1 _ o2 i1 refl)
-  one_shutdown n x y (Crosses t1 i1) (IsWrong t2 g2 i2 k2 q2) = absurd (not_there takes_acknowledgements g2 ShutdownSent k2 (same_open e.phase t2 t1 g2 ShutdownSent i2 i1).1 refl)
-  one_shutdown n x y (Crosses t1 i1) (IsStale t2 g2 i2 k2 q2) = absurd (not_there takes_acknowledgements g2 ShutdownSent k2 (same_open e.phase t2 t1 g2 ShutdownSent i2 i1).1 refl)
-  one_shutdown n x y (Crosses t1 i1) (Counts t2 g2 i2 k2 q2) = absurd (not_there takes_acknowledgements g2 ShutdownSent k2 (same_open e.phase t2 t1 g2 ShutdownSent i2 i1).1 refl)
+  one_shutdown n x y (ShutdownNotOpen o1) (ShutdownNotOpen o2) = refl
+  one_shutdown n x y (ShutdownNotOpen o1) (ShutdownWrong t2 g2 i2 k2 q2) = absurd (deaf (λ g. true) e.phase t2 g2 o1 i2 refl)
+  one_shutdown n x y (ShutdownNotOpen o1) (ShutdownStale t2 g2 i2 k2 q2) = absurd (deaf (λ g. true) e.phase t2 g2 o1 i2 refl)
+  one_shutdown n x y (ShutdownNotOpen o1) (ShutdownCounts t2 g2 i2 k2 q2) = absurd (deaf (λ g. true) e.phase t2 g2 o1 i2 refl)
+  one_shutdown n x y (ShutdownNotOpen o1) (Crosses t2 i2) = absurd (deaf (λ g. true) e.phase t2 _ o1 i2 refl)
+  one_shutdown n x y (ShutdownNotOpen o1) (Again t2 i2) = absurd (deaf (λ g. true) e.phase t2 _ o1 i2 refl)
+  one_shutdown n x y (ShutdownWrong t1 g1 i1 k1 q1) (ShutdownNotOpen o2) = absurd (deaf (λ g. true) e.phase t1 g1 o2 i1 refl)
+  one_shutdown n x y (ShutdownWrong t1 g1 i1 k1 q1) (ShutdownWrong t2 g2 i2 k2 q2) = let q = same_open e.phase t1 t2 g1 g2 i1 i2 in ap (λ (t : Tags). at_fault t violation e) q.0
+  one_shutdown n x y (ShutdownWrong t1 g1 i1 k1 q1) (ShutdownStale t2 g2 i2 k2 q2) = absurd (cc (q1, q2))
+  one_shutdown n x y (ShutdownWrong t1 g1 i1 k1 q1) (ShutdownCounts t2 g2 i2 k2 q2) = absurd (cc (q1, q2))
+  one_shutdown n x y (ShutdownWrong t1 g1 i1 k1 q1) (Crosses t2 i2) = absurd (not_there takes_acknowledgements g1 ShutdownSent k1 (same_open e.phase t1 t2 g1 ShutdownSent i1 i2).1 refl)
+  one_shutdown n x y (ShutdownWrong t1 g1 i1 k1 q1) (Again t2 i2) = absurd (not_there takes_acknowledgements g1 ShutdownAckSent k1 (same_open e.phase t1 t2 g1 ShutdownAckSent i1 i2).1 refl)
+  one_shutdown n x y (ShutdownStale t1 g1 i1 k1 q1) (ShutdownNotOpen o2) = absurd (deaf (λ g. true) e.phase t1 g1 o2 i1 refl)
+  one_shutdown n x y (ShutdownStale t1 g1 i1 k1 q1) (ShutdownWrong t2 g2 i2 k2 q2) = absurd (cc (q2, q1))
+  one_shutdown n x y (ShutdownStale t1 g1 i1 k1 q1) (ShutdownStale t2 g2 i2 k2 q2) = let q = same_open e.phase t1 t2 g1 g2 i1 i2 in ap (λ (t : Tags). GoesOn (turned (Open t ShutdownReceived) e)) q.0
+  one_shutdown n x y (ShutdownStale t1 g1 i1 k1 q1) (ShutdownCounts t2 g2 i2 k2 q2) = absurd (cc (q1, q2))
+  one_shutdown n x y (ShutdownStale t1 g1 i1 k1 q1) (Crosses t2 i2) = absurd (not_there takes_acknowledgements g1 ShutdownSent k1 (same_open e.phase t1 t2 g1 ShutdownSent i1 i2).1 refl)
+  one_shutdown n x y (ShutdownStale t1 g1 i1 k1 q1) (Again t2 i2) = absurd (not_there takes_acknowledgements g1 ShutdownAckSent k1 (same_open e.phase t1 t2 g1 ShutdownAckSent i1 i2).1 refl)
+  one_shutdown n x y (ShutdownCounts t1 g1 i1 k1 q1) (ShutdownNotOpen o2) = absurd (deaf (λ g. true) e.phase t1 g1 o2 i1 refl)
+  one_shutdown n x y (ShutdownCounts t1 g1 i1 k1 q1) (ShutdownWrong t2 g2 i2 k2 q2) = absurd (cc (q2, q1))
+  one_shutdown n x y (ShutdownCounts t1 g1 i1 k1 q1) (ShutdownStale t2 g2 i2 k2 q2) = absurd (cc (q2, q1))
+  one_shutdown n x y (ShutdownCounts t1 g1 i1 k1 q1) (ShutdownCounts t2 g2 i2 k2 q2) = let q = same_open e.phase t1 t2 g1 g2 i1 i2 in ap (λ (t : Tags). GoesOn (shutdown_heard t e n)) q.0
+  one_shutdown n x y (ShutdownCounts t1 g1 i1 k1 q1) (Crosses t2 i2) = absurd (not_there takes_acknowledgements g1 ShutdownSent k1 (same_open e.phase t1 t2 g1 ShutdownSent i1 i2).1 refl)
+  one_shutdown n x y (ShutdownCounts t1 g1 i1 k1 q1) (Again t2 i2) = absurd (not_there takes_acknowledgements g1 ShutdownAckSent k1 (same_open e.phase t1 t2 g1 ShutdownAckSent i1 i2).1 refl)
+  one_shutdown n x y (Crosses t1 i1) (ShutdownNotOpen o2) = absurd (deaf (λ g. true) e.phase t1 _ o2 i1 refl)
+  one_shutdown n x y (Crosses t1 i1) (ShutdownWrong t2 g2 i2 k2 q2) = absurd (not_there takes_acknowledgements g2 ShutdownSent k2 (same_open e.phase t2 t1 g2 ShutdownSent i2 i1).1 refl)
+  one_shutdown n x y (Crosses t1 i1) (ShutdownStale t2 g2 i2 k2 q2) = absurd (not_there takes_acknowledgements g2 ShutdownSent k2 (same_open e.phase t2 t1 g2 ShutdownSent i2 i1).1 refl)
+  one_shutdown n x y (Crosses t1 i1) (ShutdownCounts t2 g2 i2 k2 q2) = absurd (not_there takes_acknowledgements g2 ShutdownSent k2 (same_open e.phase t2 t1 g2 ShutdownSent i2 i1).1 refl)
   one_shutdown n x y (Crosses t1 i1) (Crosses t2 i2) = let q = same_open e.phase t1 t2 ShutdownSent ShutdownSent i1 i2 in ap (λ (t : Tags). GoesOn (answers_shutdown t e)) q.0
   one_shutdown n x y (Crosses t1 i1) (Again t2 i2) = absurd (let q = (same_open e.phase t1 t2 ShutdownSent ShutdownAckSent i1 i2).1 in cc)
-  one_shutdown n x y (Again t1 i1) (NotOpen o2) = absurd (deaf (λ g. true) e.phase t1 _ o2 i1 refl)
-  one_shutdown n x y (Again t1 i1) (IsWrong t2 g2 i2 k2 q2) = absurd (not_there takes_acknowledgements g2 ShutdownAckSent k2 (same_open e.phase t2 t1 g2 ShutdownAckSent i2 i1).1 refl)
-  one_shutdown n x y (Again t1 i1) (IsStale t2 g2 i2 k2 q2) = absurd (not_there takes_acknowledgements g2 ShutdownAckSent k2 (same_open e.phase t2 t1 g2 ShutdownAckSent i2 i1).1 refl)
-  one_shutdown n x y (Again t1 i1) (Counts t2 g2 i2 k2 q2) = absurd (not_there takes_acknowledgements g2 ShutdownAckSent k2 (same_open e.phase t2 t1 g2 ShutdownAckSent i2 i1).1 refl)
+  one_shutdown n x y (Again t1 i1) (ShutdownNotOpen o2) = absurd (deaf (λ g. true) e.phase t1 _ o2 i1 refl)
+  one_shutdown n x y (Again t1 i1) (ShutdownWrong t2 g2 i2 k2 q2) = absurd (not_there takes_acknowledgements g2 ShutdownAckSent k2 (same_open e.phase t2 t1 g2 ShutdownAckSent i2 i1).1 refl)
+  one_shutdown n x y (Again t1 i1) (ShutdownStale t2 g2 i2 k2 q2) = absurd (not_there takes_acknowledgements g2 ShutdownAckSent k2 (same_open e.phase t2 t1 g2 ShutdownAckSent i2 i1).1 refl)
+  one_shutdown n x y (Again t1 i1) (ShutdownCounts t2 g2 i2 k2 q2) = absurd (not_there takes_acknowledgements g2 ShutdownAckSent k2 (same_open e.phase t2 t1 g2 ShutdownAckSent i2 i1).1 refl)
   one_shutdown n x y (Again t1 i1) (Crosses t2 i2) = absurd (let q = (same_open e.phase t2 t1 ShutdownSent ShutdownAckSent i2 i1).1 in cc)
   one_shutdown n x y (Again t1 i1) (Again t2 i2) = refl
 
   one_shutdown_ack : (x y : After) → ShutdownAckActs e x → ShutdownAckActs e y → x ≡ y
-  one_shutdown_ack x y (NotAwaited _) (NotAwaited _) = refl
-  one_shutdown_ack x y (NotAwaited a) (Completes t g i k) = absurd (deaf awaits_ack e.phase t g a i k)
-  one_shutdown_ack x y (Completes t g i k) (NotAwaited a) = absurd (deaf awaits_ack e.phase t g a i k)
-  one_shutdown_ack x y (Completes t g i k) (Completes u h j l) =
+  one_shutdown_ack x y (AckNotAwaited _) (AckNotAwaited _) = refl
+  one_shutdown_ack x y (AckNotAwaited a) (AckCompletes t g i k) = absurd (deaf awaits_ack e.phase t g a i k)
+  one_shutdown_ack x y (AckCompletes t g i k) (AckNotAwaited a) = absurd (deaf awaits_ack e.phase t g a i k)
+  one_shutdown_ack x y (AckCompletes t g i k) (AckCompletes u h j l) =
       ap (λ (v : Tags). Replies (closed Completed e) (packet_to e.configuration v.peer (ShutdownComplete false))) (same_open e.phase t u g h i j).0
 
   one_complete : (x y : After) → CompleteActs e x → CompleteActs e y → x ≡ y
-  one_complete x y (NotAwaited _) (NotAwaited _) = refl
-  one_complete x y (NotAwaited a) (Completes h) = absurd (clash h a)
-  one_complete x y (Completes h) (NotAwaited a) = absurd (clash h a)
-  one_complete x y (Completes _) (Completes _) = refl
+  one_complete x y (CompleteNotAwaited _) (CompleteNotAwaited _) = refl
+  one_complete x y (CompleteNotAwaited a) (CompleteCompleted h) = absurd (clash h a)
+  one_complete x y (CompleteCompleted h) (CompleteNotAwaited a) = absurd (clash h a)
+  one_complete x y (CompleteCompleted _) (CompleteCompleted _) = refl
 
   calls_not : (d : Draw) → e.phase ≡ Calling d → is_calling e.phase ≡ false → ⊥
   calls_not d i a = let q : true ≡ false = sym (ap is_calling i) ∙ a in absurd (cc)

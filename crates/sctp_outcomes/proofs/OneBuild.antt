@@ -1,13 +1,13 @@
 -- The next packet of an end is one, and so is what building it leaves.
 use Rattle.std.proofs.Common.{◌≡◌, ℕ, Bool, true, false, List, [], ◌∷◌, ◌++◌, Some, refl, sym, subst, ap, ◌∙◌}
-use Rattle.sctp_model.specs.Chunk.{SackMeaning, ChunkMeaning, Sack, HeartbeatAck, Shutdown, CookieEcho}
-use Rattle.sctp_model.specs.Serial.{tsn}
+use Rattle.sctp_model.specs.wire.Chunk.{SackMeaning, ChunkMeaning, Sack, HeartbeatAck, Shutdown, CookieEcho}
+use Rattle.sctp_model.specs.numbers.Serial.{tsn}
 use Rattle.sctp_model.proofs.receiver.OneStep.{cumulative_only}
 use Rattle.sctp_model.proofs.receiver.OneSack.{sack_only}
 use Rattle.sctp_model.specs.end.EndView.{Tags, Draw, Stage, Phase, Calling, Echoing, Open, EndView, has_association}
 use Rattle.sctp_model.specs.end.Opening.{own_init}
 use Rattle.sctp_model.specs.end.Building.{Slot, Wants, EchoCookie, AckCookie, AckHeartbeat, ReportCauses, Acknowledge, PassOn, SayShutdown, AnswerShutdown, has_room, Puts, NoMore, NotDue, Put, IsFull, echoing_slots, open_slots, Builds, Sleeps, Waits, Calls, Echoes, Fills, sent, fragments}
-use Rattle.sctp_model.specs.end.Building.{Ends as EndsFull}
+use Rattle.sctp_model.specs.end.Building.{EndsFull}
 use Rattle.sctp_outcomes.proofs.OneAct.{clash}
 
 -- the chunk of a place

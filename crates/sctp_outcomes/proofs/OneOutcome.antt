@@ -1,9 +1,9 @@
 -- In every world that can be reached an event has one outcome, and leaves one world.
 use Rattle.std.proofs.Common.{◌≡◌, ℕ, List, [], ◌∷◌, Option, Some, None, refl, sym, subst, ap, ◌∙◌}
-use Rattle.sctp_model.specs.Lists.{item_at}
-use Rattle.sctp_model.specs.Chunk.{ChunkMeaning}
-use Rattle.sctp_model.specs.Packet.{Packet, size_of_packet}
-use Rattle.sctp_model.specs.ReceiverView.{Handed, ReceiverView}
+use Rattle.sctp_model.specs.numbers.Lists.{item_at}
+use Rattle.sctp_model.specs.wire.Chunk.{ChunkMeaning}
+use Rattle.sctp_model.specs.wire.Packet.{Packet, size_of_packet}
+use Rattle.sctp_model.specs.receiver.ReceiverView.{Handed, ReceiverView}
 use Rattle.sctp_model.specs.receiver.SackMade.{TakeLeaves, first_taken}
 use Rattle.sctp_model.specs.receiver.Laws.{IsOrdinary}
 use Rattle.sctp_model.specs.end.EndView.{EndView}
@@ -11,9 +11,9 @@ use Rattle.sctp_model.specs.end.Strays.{Verdict}
 use Rattle.sctp_model.specs.end.Arriving.{Arrives}
 use Rattle.sctp_model.specs.end.Building.{packet_of}
 use Rattle.sctp_model.specs.end.UserCalls.{Called, NotIdle}
-use Rattle.sctp_model.specs.World.{Side, other, World, end_of, bag_of, with_end, with_packet, end_now, came}
-use Rattle.sctp_model.specs.Events.{Event, Deliver, Outcome, Sent, next_number, told, with_verdict, message_told}
-use Rattle.sctp_model.specs.Steps.{FromBag, FromStranger, Brings, Step, Opens, OpenRefused, TimePasses, Draws, Connects, ConnectRefused, BuildsOne, BuildsNone, Comes, IsAbsent, Unread, Sends, Abandons, TakesOne, ShutsDown, AbortsIt}
+use Rattle.sctp_model.specs.world.World.{Side, other, World, end_of, bag_of, with_end, with_packet, end_now, came}
+use Rattle.sctp_model.specs.world.Events.{Event, Deliver, Outcome, Sent, next_number, told, with_verdict, message_told}
+use Rattle.sctp_model.specs.world.Steps.{FromBag, FromStranger, Brings, Step, OpensBoth, OpenRefused, TimePasses, Draws, Connects, ConnectRefused, BuildsOne, BuildsNone, PacketComes, IsAbsent, Unread, Sends, AbandonsOne, TakesOne, ShutsDown, AbortsIt}
 use Rattle.sctp_outcomes.specs.Outcomes.{OutcomesAreOne}
 use Rattle.sctp_outcomes.proofs.Receivers.{HoldsIn, holds_always}
 use Rattle.sctp_outcomes.proofs.Ordinary.{ordinary_law}
@@ -47,28 +47,28 @@ one_taken r s (Some h) (Some k) t u (xs, a, b) (ys, c, d) =
 -- ---- every event
 
 one_step : (w : World) → HoldsIn IsOrdinary ordinary_law w → (e : Event) (o p : Outcome) (v u : World) → Step w e (Some o) v → Step w e (Some p) u → (o ≡ p) × (v ≡ u)
-one_step w ordinary e o p v u (Opens _ _ _ _ _) (Opens _ _ _ _ _) = (refl, refl)
-one_step w ordinary e o p v u (Opens _ _ may _ _) (OpenRefused _ _ off) = absurd (clash may off)
-one_step w ordinary e o p v u (Opens _ _ _ _ _) (Comes _ _ _ _ _ brings _) = elim brings [ ]
-one_step w ordinary e o p v u (Comes _ _ _ _ _ brings _) (Opens _ _ _ _ _) = elim brings [ ]
-one_step w ordinary e o p v u (OpenRefused _ _ off) (Opens _ _ may _ _) = absurd (clash may off)
+one_step w ordinary e o p v u (OpensBoth _ _ _ _ _) (OpensBoth _ _ _ _ _) = (refl, refl)
+one_step w ordinary e o p v u (OpensBoth _ _ may _ _) (OpenRefused _ _ off) = absurd (clash may off)
+one_step w ordinary e o p v u (OpensBoth _ _ _ _ _) (PacketComes _ _ _ _ _ brings _) = elim brings [ ]
+one_step w ordinary e o p v u (PacketComes _ _ _ _ _ brings _) (OpensBoth _ _ _ _ _) = elim brings [ ]
+one_step w ordinary e o p v u (OpenRefused _ _ off) (OpensBoth _ _ may _ _) = absurd (clash may off)
 one_step w ordinary e o p v u (OpenRefused _ _ _) (OpenRefused _ _ _) = (refl, refl)
-one_step w ordinary e o p v u (OpenRefused _ _ _) (Comes _ _ _ _ _ brings _) = elim brings [ ]
-one_step w ordinary e o p v u (Comes _ _ _ _ _ brings _) (OpenRefused _ _ _) = elim brings [ ]
+one_step w ordinary e o p v u (OpenRefused _ _ _) (PacketComes _ _ _ _ _ brings _) = elim brings [ ]
+one_step w ordinary e o p v u (PacketComes _ _ _ _ _ brings _) (OpenRefused _ _ _) = elim brings [ ]
 one_step w ordinary e o p v u (TimePasses _ _) (TimePasses _ _) = (refl, refl)
-one_step w ordinary e o p v u (TimePasses _ _) (Comes _ _ _ _ _ brings _) = elim brings [ ]
-one_step w ordinary e o p v u (Comes _ _ _ _ _ brings _) (TimePasses _ _) = elim brings [ ]
+one_step w ordinary e o p v u (TimePasses _ _) (PacketComes _ _ _ _ _ brings _) = elim brings [ ]
+one_step w ordinary e o p v u (PacketComes _ _ _ _ _ brings _) (TimePasses _ _) = elim brings [ ]
 one_step w ordinary e o p v u (Draws _ _) (Draws _ _) = (refl, refl)
-one_step w ordinary e o p v u (Draws _ _) (Comes _ _ _ _ _ brings _) = elim brings [ ]
-one_step w ordinary e o p v u (Comes _ _ _ _ _ brings _) (Draws _ _) = elim brings [ ]
+one_step w ordinary e o p v u (Draws _ _) (PacketComes _ _ _ _ _ brings _) = elim brings [ ]
+one_step w ordinary e o p v u (PacketComes _ _ _ _ _ brings _) (Draws _ _) = elim brings [ ]
 one_step w ordinary e o p v u (Connects _ _ _) (Connects _ _ _) = (refl, refl)
 one_step w ordinary e o p v u (Connects _ _ a) (ConnectRefused _ b) = let q : Called ≡ NotIdle = sym a ∙ b in absurd (cc)
-one_step w ordinary e o p v u (Connects _ _ _) (Comes _ _ _ _ _ brings _) = elim brings [ ]
-one_step w ordinary e o p v u (Comes _ _ _ _ _ brings _) (Connects _ _ _) = elim brings [ ]
+one_step w ordinary e o p v u (Connects _ _ _) (PacketComes _ _ _ _ _ brings _) = elim brings [ ]
+one_step w ordinary e o p v u (PacketComes _ _ _ _ _ brings _) (Connects _ _ _) = elim brings [ ]
 one_step w ordinary e o p v u (ConnectRefused _ b) (Connects _ _ a) = let q : Called ≡ NotIdle = sym a ∙ b in absurd (cc)
 one_step w ordinary e o p v u (ConnectRefused _ _) (ConnectRefused _ _) = (refl, refl)
-one_step w ordinary e o p v u (ConnectRefused _ _) (Comes _ _ _ _ _ brings _) = elim brings [ ]
-one_step w ordinary e o p v u (Comes _ _ _ _ _ brings _) (ConnectRefused _ _) = elim brings [ ]
+one_step w ordinary e o p v u (ConnectRefused _ _) (PacketComes _ _ _ _ _ brings _) = elim brings [ ]
+one_step w ordinary e o p v u (PacketComes _ _ _ _ _ brings _) (ConnectRefused _ _) = elim brings [ ]
 one_step w ordinary e o p v u (BuildsOne s x xs t a) (BuildsOne _ y ys r b) =
     let q = one_built (end_now w s) (x ∷ xs) (y ∷ ys) t r a b in (
       ap (λ (cs : List ChunkMeaning). Sent (next_number w s) (size_of_packet cs)) q.0,
@@ -76,37 +76,37 @@ one_step w ordinary e o p v u (BuildsOne s x xs t a) (BuildsOne _ y ys r b) =
           ∙ ap (λ (z : EndView). with_packet (with_end w s z) s (packet_of (end_of w s) (y ∷ ys))) q.1,
     )
 one_step w ordinary e o p v u (BuildsOne s x xs t a) (BuildsNone _ r b) = let q = (one_built (end_now w s) (x ∷ xs) [] t r a b).0 in absurd (cc)
-one_step w ordinary e o p v u (BuildsOne _ _ _ _ _) (Comes _ _ _ _ _ brings _) = elim brings [ ]
-one_step w ordinary e o p v u (Comes _ _ _ _ _ brings _) (BuildsOne _ _ _ _ _) = elim brings [ ]
+one_step w ordinary e o p v u (BuildsOne _ _ _ _ _) (PacketComes _ _ _ _ _ brings _) = elim brings [ ]
+one_step w ordinary e o p v u (PacketComes _ _ _ _ _ brings _) (BuildsOne _ _ _ _ _) = elim brings [ ]
 one_step w ordinary e o p v u (BuildsNone s r b) (BuildsOne _ x xs t a) = let q = (one_built (end_now w s) (x ∷ xs) [] t r a b).0 in absurd (cc)
 one_step w ordinary e o p v u (BuildsNone s t a) (BuildsNone _ r b) = (refl, ap (with_end w s) (one_built (end_now w s) [] [] t r a b).1)
-one_step w ordinary e o p v u (BuildsNone _ _ _) (Comes _ _ _ _ _ brings _) = elim brings [ ]
-one_step w ordinary e o p v u (Comes _ _ _ _ _ brings _) (BuildsNone _ _ _) = elim brings [ ]
+one_step w ordinary e o p v u (BuildsNone _ _ _) (PacketComes _ _ _ _ _ brings _) = elim brings [ ]
+one_step w ordinary e o p v u (PacketComes _ _ _ _ _ brings _) (BuildsNone _ _ _) = elim brings [ ]
 one_step w ordinary e o p v u (IsAbsent s n none) (IsAbsent _ _ _) = (refl, refl)
-one_step w ordinary e o p v u (IsAbsent s n none) (Comes _ x q t d brings a) = absurd (absent_not w s n x q none brings)
-one_step w ordinary e o p v u (Comes _ x q t d brings a) (IsAbsent s n none) = absurd (absent_not w s n x q none brings)
+one_step w ordinary e o p v u (IsAbsent s n none) (PacketComes _ x q t d brings a) = absurd (absent_not w s n x q none brings)
+one_step w ordinary e o p v u (PacketComes _ x q t d brings a) (IsAbsent s n none) = absurd (absent_not w s n x q none brings)
 one_step w ordinary e o p v u (Unread _) (Unread _) = (refl, refl)
-one_step w ordinary e o p v u (Unread _) (Comes _ _ _ _ _ brings _) = elim brings [ ]
-one_step w ordinary e o p v u (Comes _ _ _ _ _ brings _) (Unread _) = elim brings [ ]
+one_step w ordinary e o p v u (Unread _) (PacketComes _ _ _ _ _ brings _) = elim brings [ ]
+one_step w ordinary e o p v u (PacketComes _ _ _ _ _ brings _) (Unread _) = elim brings [ ]
 one_step w ordinary e o p v u (Sends _ _) (Sends _ _) = (refl, refl)
-one_step w ordinary e o p v u (Sends _ _) (Comes _ _ _ _ _ brings _) = elim brings [ ]
-one_step w ordinary e o p v u (Comes _ _ _ _ _ brings _) (Sends _ _) = elim brings [ ]
-one_step w ordinary e o p v u (Abandons _ _) (Abandons _ _) = (refl, refl)
-one_step w ordinary e o p v u (Abandons _ _) (Comes _ _ _ _ _ brings _) = elim brings [ ]
-one_step w ordinary e o p v u (Comes _ _ _ _ _ brings _) (Abandons _ _) = elim brings [ ]
+one_step w ordinary e o p v u (Sends _ _) (PacketComes _ _ _ _ _ brings _) = elim brings [ ]
+one_step w ordinary e o p v u (PacketComes _ _ _ _ _ brings _) (Sends _ _) = elim brings [ ]
+one_step w ordinary e o p v u (AbandonsOne _ _) (AbandonsOne _ _) = (refl, refl)
+one_step w ordinary e o p v u (AbandonsOne _ _) (PacketComes _ _ _ _ _ brings _) = elim brings [ ]
+one_step w ordinary e o p v u (PacketComes _ _ _ _ _ brings _) (AbandonsOne _ _) = elim brings [ ]
 one_step w ordinary e o p v u (TakesOne s n h t a) (TakesOne _ _ k r b) =
     let q = one_taken (end_of w s).receiver n h k a.receiver b.receiver a.takes b.takes in
     let same : t ≡ r = a.leaves ∙ ap (λ (z : ReceiverView). record (end_of w s) { receiver = z }) q.1 ∙ sym b.leaves in
     (ap message_told q.0, ap (with_end w s) same)
-one_step w ordinary e o p v u (TakesOne _ _ _ _ _) (Comes _ _ _ _ _ brings _) = elim brings [ ]
-one_step w ordinary e o p v u (Comes _ _ _ _ _ brings _) (TakesOne _ _ _ _ _) = elim brings [ ]
+one_step w ordinary e o p v u (TakesOne _ _ _ _ _) (PacketComes _ _ _ _ _ brings _) = elim brings [ ]
+one_step w ordinary e o p v u (PacketComes _ _ _ _ _ brings _) (TakesOne _ _ _ _ _) = elim brings [ ]
 one_step w ordinary e o p v u (ShutsDown _) (ShutsDown _) = (refl, refl)
-one_step w ordinary e o p v u (ShutsDown _) (Comes _ _ _ _ _ brings _) = elim brings [ ]
-one_step w ordinary e o p v u (Comes _ _ _ _ _ brings _) (ShutsDown _) = elim brings [ ]
+one_step w ordinary e o p v u (ShutsDown _) (PacketComes _ _ _ _ _ brings _) = elim brings [ ]
+one_step w ordinary e o p v u (PacketComes _ _ _ _ _ brings _) (ShutsDown _) = elim brings [ ]
 one_step w ordinary e o p v u (AbortsIt _ _) (AbortsIt _ _) = (refl, refl)
-one_step w ordinary e o p v u (AbortsIt _ _) (Comes _ _ _ _ _ brings _) = elim brings [ ]
-one_step w ordinary e o p v u (Comes _ _ _ _ _ brings _) (AbortsIt _ _) = elim brings [ ]
-one_step w ordinary e o p v u (Comes _ x q t d b a) (Comes _ y r z k c f) =
+one_step w ordinary e o p v u (AbortsIt _ _) (PacketComes _ _ _ _ _ brings _) = elim brings [ ]
+one_step w ordinary e o p v u (PacketComes _ _ _ _ _ brings _) (AbortsIt _ _) = elim brings [ ]
+one_step w ordinary e o p v u (PacketComes _ x q t d b a) (PacketComes _ y r z k c f) =
     let m = one_brought w e x y q r b c in
     let g : Arrives (end_now w x) w.draw q z k =
     subst (λ (s : Side). Arrives (end_now w s) w.draw q z k) (sym m.0) (subst (λ (s : Packet). Arrives (end_now w y) w.draw s z k) (sym m.1) f) in

@@ -1,7 +1,7 @@
 -- What a packet leaves is one end, and it has one verdict.
 use Rattle.std.proofs.Common.{◌≡◌, ℕ, Bool, true, false, List, [], ◌∷◌, drop, Some, None, refl, sym, subst, ◌∙◌}
-use Rattle.sctp_model.specs.Chunk.{ChunkMeaning}
-use Rattle.sctp_model.specs.Packet.{Packet}
+use Rattle.sctp_model.specs.wire.Chunk.{ChunkMeaning}
+use Rattle.sctp_model.specs.wire.Packet.{Packet}
 use Rattle.sctp_model.specs.receiver.Laws.{IsOrdinary}
 use Rattle.sctp_model.specs.end.Sealing.{Body}
 use Rattle.sctp_model.specs.end.EndView.{Draw, EndView, format_of}
@@ -10,8 +10,8 @@ use Rattle.sctp_model.specs.end.Opening.{begun}
 use Rattle.sctp_model.specs.end.PeerFaults.{After, GoesOn, Ends, PassedOver, Replies, Drops}
 use Rattle.sctp_model.specs.end.Acting.{Acts}
 use Rattle.sctp_model.specs.end.Strays.{Verdict, Taken, Dropped, Answer, opened_by}
-use Rattle.sctp_model.specs.end.Arriving.{AllAct, NoneLeft, Next, Last, Answered, Stopped, Arrives, Elsewhere, NotOurs, Stray, Begins, Heard, verdict_of}
-use Rattle.sctp_model.specs.end.Arriving.{Over as Passes}
+use Rattle.sctp_model.specs.end.Arriving.{AllAct, NoneLeft, Next, Last, EndsAnswered, Stopped, Arrives, Elsewhere, NotOurs, Stray, CookieBegins, Heard, verdict_of}
+use Rattle.sctp_model.specs.end.Arriving.{Passes}
 use Rattle.sctp_outcomes.proofs.Receivers.{holds_goes, holds_rested}
 use Rattle.sctp_outcomes.proofs.Ordinary.{ordinary_law}
 use Rattle.sctp_outcomes.proofs.OneAct.{clash, one_after}
@@ -35,7 +35,7 @@ first_of : (tag : ℕ) (e : EndView) (b : Bool) (x : ChunkMeaning) (xs : List Ch
 first_of tag e b x xs t v (Next _ mid _ _ _ _ _ act rest) = record { after = GoesOn mid; acts = act; more = rest }
 first_of tag e b x xs t v (Passes _ _ _ _ _ _ act rest) = record { after = PassedOver; acts = act; more = rest }
 first_of tag e b x xs t v (Last _ _ _ _ _ act) = record { after = Ends t; acts = act; more = (refl, refl) }
-first_of tag e b x xs t v (Answered _ _ _ _ _ p act) = record { after = Replies t p; acts = act; more = (refl, refl) }
+first_of tag e b x xs t v (EndsAnswered _ _ _ _ _ p act) = record { after = Replies t p; acts = act; more = (refl, refl) }
 first_of tag e b x xs t v (Stopped _ _ _ _ n act) = record { after = Drops n; acts = act; more = (refl, refl) }
 
 none_left : (tag : ℕ) (e : EndView) (b : Bool) (t : EndView) (v : Verdict) → AllAct tag e b [] t v → (t ≡ e) × (v ≡ verdict_of b)
@@ -70,28 +70,28 @@ pub one_arrives : (e : EndView) (d : Draw) (p : Packet) (t u : EndView) (v w : V
 one_arrives e d p t u v w o (Elsewhere _) (Elsewhere _) = (refl, refl)
 one_arrives e d p t u v w o (Elsewhere a) (NotOurs c _) = absurd (clash c a)
 one_arrives e d p t u v w o (Elsewhere a) (Stray c _ _ _) = absurd (clash c a)
-one_arrives e d p t u v w o (Elsewhere a) (Begins _ _ _ c _ _ _ _) = absurd (clash c a)
+one_arrives e d p t u v w o (Elsewhere a) (CookieBegins _ _ _ c _ _ _ _) = absurd (clash c a)
 one_arrives e d p t u v w o (Elsewhere a) (Heard _ _ c _ _ _) = absurd (clash c a)
 one_arrives e d p t u v w o (NotOurs c _) (Elsewhere a) = absurd (clash c a)
 one_arrives e d p t u v w o (NotOurs _ _) (NotOurs _ _) = (refl, refl)
 one_arrives e d p t u v w o (NotOurs _ a) (Stray _ c _ _) = absurd (clash c a)
-one_arrives e d p t u v w o (NotOurs _ a) (Begins _ _ _ _ c _ _ _) = absurd (clash c a)
+one_arrives e d p t u v w o (NotOurs _ a) (CookieBegins _ _ _ _ c _ _ _) = absurd (clash c a)
 one_arrives e d p t u v w o (NotOurs _ a) (Heard _ _ _ c _ _) = absurd (clash c a)
 one_arrives e d p t u v w o (Stray c _ _ _) (Elsewhere a) = absurd (clash c a)
 one_arrives e d p t u v w o (Stray _ c _ _) (NotOurs _ a) = absurd (clash c a)
 one_arrives e d p t u v w o (Stray _ _ _ _) (Stray _ _ _ _) = (refl, refl)
-one_arrives e d p t u v w o (Stray _ _ _ n) (Begins b _ _ _ _ _ s _) = absurd (none_some e p b n s)
+one_arrives e d p t u v w o (Stray _ _ _ n) (CookieBegins b _ _ _ _ _ s _) = absurd (none_some e p b n s)
 one_arrives e d p t u v w o (Stray _ _ a _) (Heard _ _ _ _ c _) = absurd (clash c a)
-one_arrives e d p t u v w o (Begins _ _ _ c _ _ _ _) (Elsewhere a) = absurd (clash c a)
-one_arrives e d p t u v w o (Begins _ _ _ _ c _ _ _) (NotOurs _ a) = absurd (clash c a)
-one_arrives e d p t u v w o (Begins b _ _ _ _ _ s _) (Stray _ _ _ n) = absurd (none_some e p b n s)
-one_arrives e d p t u v w o (Begins b _ _ _ _ _ s one) (Begins c _ _ _ _ _ z other) =
+one_arrives e d p t u v w o (CookieBegins _ _ _ c _ _ _ _) (Elsewhere a) = absurd (clash c a)
+one_arrives e d p t u v w o (CookieBegins _ _ _ _ c _ _ _) (NotOurs _ a) = absurd (clash c a)
+one_arrives e d p t u v w o (CookieBegins b _ _ _ _ _ s _) (Stray _ _ _ n) = absurd (none_some e p b n s)
+one_arrives e d p t u v w o (CookieBegins b _ _ _ _ _ s one) (CookieBegins c _ _ _ _ _ z other) =
     let both : Some b ≡ Some c = sym s ∙ z in
     let body : c ≡ b = cc in
     one_all p.tag (begun b e) true (drop 1 p.chunks) t u v w (ordinary_law.fresh _ _ _ _) one (subst (λ (y : Body). AllAct p.tag (begun y e) true (drop 1 p.chunks) u w) body other)
-one_arrives e d p t u v w o (Begins _ _ _ _ _ a _ _) (Heard _ _ _ _ c _) = absurd (clash c a)
+one_arrives e d p t u v w o (CookieBegins _ _ _ _ _ a _ _) (Heard _ _ _ _ c _) = absurd (clash c a)
 one_arrives e d p t u v w o (Heard _ _ c _ _ _) (Elsewhere a) = absurd (clash c a)
 one_arrives e d p t u v w o (Heard _ _ _ c _ _) (NotOurs _ a) = absurd (clash c a)
 one_arrives e d p t u v w o (Heard _ _ _ _ c _) (Stray _ _ a _) = absurd (clash c a)
-one_arrives e d p t u v w o (Heard _ _ _ _ c _) (Begins _ _ _ _ _ a _ _) = absurd (clash c a)
+one_arrives e d p t u v w o (Heard _ _ _ _ c _) (CookieBegins _ _ _ _ _ a _ _) = absurd (clash c a)
 one_arrives e d p t u v w o (Heard _ _ _ _ _ one) (Heard _ _ _ _ _ other) = one_all p.tag e false p.chunks t u v w o one other

@@ -1,7 +1,7 @@
 -- In every world both receivers keep each chunk in a place of its own: so each of their steps has one result.
 use Rattle.std.proofs.Common.{ℕ, Option, Some, None, sym, subst}
-use Rattle.sctp_model.specs.Format.{Format}
-use Rattle.sctp_model.specs.ReceiverView.{Handed, ReceiverView}
+use Rattle.sctp_model.specs.messages.Format.{Format}
+use Rattle.sctp_model.specs.receiver.ReceiverView.{Handed, ReceiverView}
 use Rattle.sctp_model.specs.receiver.SackMade.{TakeLeaves}
 use Rattle.sctp_model.specs.receiver.Laws.{IsOrdinary}
 use Rattle.sctp_model.proofs.receiver.AtRest.{piece_ordinary}

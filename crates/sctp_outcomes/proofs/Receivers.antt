@@ -1,10 +1,10 @@
 -- What each of a receiver's calls keeps holds of both receivers in every world of every run: nothing else in the world changes a receiver.
 use Rattle.std.proofs.Common.{◌≡◌, ℕ, max, Bool, true, false, List, [], ◌∷◌, ◌++◌, Option, None, sym, subst}
-use Rattle.sctp_model.specs.Packet.{Packet}
-use Rattle.sctp_model.specs.Chunk.{PieceMeaning, ForwardMeaning, ChunkMeaning, Data, IData, Init, InitAck, Sack, Heartbeat, HeartbeatAck, Abort, Shutdown, ShutdownAck, Error, CookieEcho, CookieAck, ShutdownComplete, ForwardTsn, IForwardTsn, Unknown}
-use Rattle.sctp_model.specs.Format.{Format}
-use Rattle.sctp_model.specs.ReceiverView.{Handed, ReceiverView, fresh_receiver}
-use Rattle.sctp_model.specs.receiver.PieceTaken.{Answer, PieceTaken}
+use Rattle.sctp_model.specs.wire.Packet.{Packet}
+use Rattle.sctp_model.specs.wire.Chunk.{PieceMeaning, ForwardMeaning, ChunkMeaning, Data, IData, Init, InitAck, Sack, Heartbeat, HeartbeatAck, Abort, Shutdown, ShutdownAck, Error, CookieEcho, CookieAck, ShutdownComplete, ForwardTsn, IForwardTsn, Unknown}
+use Rattle.sctp_model.specs.messages.Format.{Format}
+use Rattle.sctp_model.specs.receiver.ReceiverView.{Handed, ReceiverView, fresh_receiver}
+use Rattle.sctp_model.specs.receiver.PieceTaken.{PieceAnswer, PieceTaken}
 use Rattle.sctp_model.specs.receiver.ForwardTaken.{ForwardAnswer, ForwardTaken}
 use Rattle.sctp_model.specs.receiver.SackMade.{sack_sent, TakeLeaves}
 use Rattle.sctp_model.specs.end.EndView.{Terms, Draw, Aborted, EndView, format_of, format_for}
@@ -12,17 +12,17 @@ use Rattle.sctp_model.specs.end.Clock.{closed}
 use Rattle.sctp_model.specs.end.Closing.{rested}
 use Rattle.sctp_model.specs.end.PeerFaults.{GoesOn, Ends, Replies}
 use Rattle.sctp_model.specs.end.Opening.{AcceptedAck, RefusedAck, EchoedAgain, CookieAcked, begun}
-use Rattle.sctp_model.specs.end.Acting.{Acts, Comes, IsOld, IsStale, Counts, Closes, SaysNothing, Crosses, Again, Completes, Empty, WrongFormat, IsWrong, WrongKind, IsBad}
-use Rattle.sctp_model.specs.end.Arriving.{AllAct, NoneLeft, Next, Last, Answered, Stopped, Arrives, Elsewhere, NotOurs, Stray, Begins, Heard}
-use Rattle.sctp_model.specs.end.Arriving.{Over as Passes}
+use Rattle.sctp_model.specs.end.Acting.{Acts, ForwardComes, PieceComes, IsOld, SackStale, ShutdownStale, HeartbeatCounts, SackCounts, ShutdownCounts, Closes, SaysNothing, Crosses, Again, AckCompletes, CompleteCompleted, PieceEmpty, WrongFormat, SackWrong, ShutdownWrong, WrongKind, IsBad}
+use Rattle.sctp_model.specs.end.Arriving.{AllAct, NoneLeft, Next, Last, EndsAnswered, Stopped, Arrives, Elsewhere, NotOurs, Stray, CookieBegins, Heard}
+use Rattle.sctp_model.specs.end.Arriving.{Passes}
 use Rattle.sctp_model.specs.end.Strays.{Verdict}
 use Rattle.sctp_model.specs.end.Building.{Wants, EchoCookie, AckCookie, AckHeartbeat, ReportCauses, Acknowledge, PassOn, SayShutdown, AnswerShutdown, Slot, Puts, NoMore, NotDue, Put, IsFull, Builds, Sleeps, Waits, Calls, Echoes, Fills}
-use Rattle.sctp_model.specs.end.Building.{Ends as EndsFull}
+use Rattle.sctp_model.specs.end.Building.{EndsFull}
 use Rattle.sctp_model.specs.end.Moments.{ticked}
 use Rattle.sctp_model.specs.end.UserCalls.{send_answer, shut, abort_answer, abort_leaves}
-use Rattle.sctp_model.specs.World.{Side, A, B, World, end_of, end_now, start, Setup}
-use Rattle.sctp_model.specs.Events.{Event, Outcome}
-use Rattle.sctp_model.specs.Steps.{Step, Opens, OpenRefused, TimePasses, Draws, Connects, ConnectRefused, BuildsOne, BuildsNone, Comes as PacketComes, IsAbsent, Unread, Sends, Abandons, TakesOne, ShutsDown, AbortsIt, CutFirst, CutLater, NoMemory, Run, Rest, Then}
+use Rattle.sctp_model.specs.world.World.{Side, A, B, World, end_of, end_now, start, Setup}
+use Rattle.sctp_model.specs.world.Events.{Event, Outcome}
+use Rattle.sctp_model.specs.world.Steps.{Step, OpensBoth, OpenRefused, TimePasses, Draws, Connects, ConnectRefused, BuildsOne, BuildsNone, PacketComes, IsAbsent, Unread, Sends, AbandonsOne, TakesOne, ShutsDown, AbortsIt, CutFirst, CutLater, NoMemory, Run, Rest, Then}
 use Rattle.sctp_safety.proofs.machine.Sides.{unknown_goes, unknown_ends, unknown_never_replies}
 use Rattle.sctp_outcomes.proofs.Unheard.{IsUnheard, unheard_rested, unheard_ticked, unheard_sent, unheard_abandoned, unheard_shut, unheard_aborted}
 use Rattle.sctp_safety.proofs.machine.OneEnd.{IsAt, at_end, at_log, at_packet, at_came, answer_of, at_verdict, abort_of, at_abort, both_ends}
@@ -30,7 +30,7 @@ use Rattle.sctp_safety.proofs.machine.OneEnd.{IsAt, at_end, at_log, at_packet, a
 -- What holds of a new receiver, and is kept by each of its calls.
 pub record IsReceiverLaw (P : Format → ReceiverView → Type 0) : Type 0 where
   pub fresh : (f : Format) (i n b : ℕ) → P f (fresh_receiver i n b)
-  pub piece : (f : Format) (r : ReceiverView) (p : PieceMeaning) (a : Answer) (t : ReceiverView) → P f r → PieceTaken f r p a t → P f t
+  pub piece : (f : Format) (r : ReceiverView) (p : PieceMeaning) (a : PieceAnswer) (t : ReceiverView) → P f r → PieceTaken f r p a t → P f t
   pub forward : (f : Format) (r : ReceiverView) (m : ForwardMeaning) (a : ForwardAnswer) (t : ReceiverView) → P f r → ForwardTaken f r m a t → P f t
   pub sent : (f : Format) (r : ReceiverView) → P f r → P f (sack_sent r)
   pub taken : (f : Format) (r : ReceiverView) (s : ℕ) (h : Option Handed) (t : ReceiverView) → P f r → TakeLeaves r s h t → P f t
@@ -46,17 +46,17 @@ module _ (P : Format → ReceiverView → Type 0) (law : IsReceiverLaw P) where
 
   -- a chunk after which the packet goes on
   pub holds_goes : (e : EndView) (tag : ℕ) (x : ChunkMeaning) (t : EndView) → Holds e → Acts e tag x (GoesOn t) → Holds t
-  holds_goes e tag (Data p) t k (Comes u g a r _ _ _ _ came) = law.piece (format_of e) e.receiver p a r k came
-  holds_goes e tag (IData p) t k (Comes u g a r _ _ _ _ came) = law.piece (format_of e) e.receiver p a r k came
+  holds_goes e tag (Data p) t k (PieceComes u g a r _ _ _ _ came) = law.piece (format_of e) e.receiver p a r k came
+  holds_goes e tag (IData p) t k (PieceComes u g a r _ _ _ _ came) = law.piece (format_of e) e.receiver p a r k came
   holds_goes e tag (Init m) t k h = absurd (cc)
   holds_goes e tag (InitAck m) t k (AcceptedAck _ _ _ _ _ _) = law.fresh _ _ _ _
-  holds_goes e tag (Sack s) t k (IsStale _ _) = k
-  holds_goes e tag (Sack s) t k (Counts _ _) = k
-  holds_goes e tag (Heartbeat i) t k (Counts _) = k
+  holds_goes e tag (Sack s) t k (SackStale _ _) = k
+  holds_goes e tag (Sack s) t k (SackCounts _ _) = k
+  holds_goes e tag (Heartbeat i) t k (HeartbeatCounts _) = k
   holds_goes e tag (HeartbeatAck i) t k h = let q : t ≡ e = cc in subst Holds (sym q) k
   holds_goes e tag (Abort b xs) t k h = absurd (cc)
-  holds_goes e tag (Shutdown n) t k (IsStale _ _ _ _ _) = k
-  holds_goes e tag (Shutdown n) t k (Counts _ _ _ _ _) = k
+  holds_goes e tag (Shutdown n) t k (ShutdownStale _ _ _ _ _) = k
+  holds_goes e tag (Shutdown n) t k (ShutdownCounts _ _ _ _ _) = k
   holds_goes e tag (Shutdown n) t k (Crosses _ _) = k
   holds_goes e tag (Shutdown n) t k (Again _ _) = k
   holds_goes e tag ShutdownAck t k h = elim h [ ]
@@ -65,9 +65,9 @@ module _ (P : Format → ReceiverView → Type 0) (law : IsReceiverLaw P) where
   holds_goes e tag CookieAck t k (CookieAcked _ _ _) = k
   holds_goes e tag (ShutdownComplete b) t k h = elim h [ ]
   holds_goes e tag (ForwardTsn m) t k (IsOld _ _ r _ _ _ came) = law.forward (format_of e) e.receiver m _ r k came
-  holds_goes e tag (ForwardTsn m) t k (Comes _ _ r _ _ _ came) = law.forward (format_of e) e.receiver m _ r k came
+  holds_goes e tag (ForwardTsn m) t k (ForwardComes _ _ r _ _ _ came) = law.forward (format_of e) e.receiver m _ r k came
   holds_goes e tag (IForwardTsn m) t k (IsOld _ _ r _ _ _ came) = law.forward (format_of e) e.receiver m _ r k came
-  holds_goes e tag (IForwardTsn m) t k (Comes _ _ r _ _ _ came) = law.forward (format_of e) e.receiver m _ r k came
+  holds_goes e tag (IForwardTsn m) t k (ForwardComes _ _ r _ _ _ came) = law.forward (format_of e) e.receiver m _ r k came
   holds_goes e tag (Unknown n f v) t k h = let u = unknown_goes e t n f v h in subst Holds (sym u.same) k
 
   -- one that ends it
@@ -85,25 +85,25 @@ module _ (P : Format → ReceiverView → Type 0) (law : IsReceiverLaw P) where
   holds_ends e tag (Error xs) t k (Closes _) = k
   holds_ends e tag (CookieEcho xs) t k h = elim h [ ]
   holds_ends e tag CookieAck t k h = elim h [ ]
-  holds_ends e tag (ShutdownComplete b) t k (Completes _) = k
+  holds_ends e tag (ShutdownComplete b) t k (CompleteCompleted _) = k
   holds_ends e tag (ForwardTsn m) t k h = elim h [ ]
   holds_ends e tag (IForwardTsn m) t k h = elim h [ ]
   holds_ends e tag (Unknown n f v) t k h = let u = unknown_ends e t n f v h in subst Holds (sym u.same) k
 
   -- one that is answered
   holds_replies : (e : EndView) (tag : ℕ) (x : ChunkMeaning) (t : EndView) (p : Packet) → Holds e → Acts e tag x (Replies t p) → Holds t
-  holds_replies e tag (Data q) t p k (Empty _ _ _ _ _) = k
+  holds_replies e tag (Data q) t p k (PieceEmpty _ _ _ _ _) = k
   holds_replies e tag (Data q) t p k (WrongFormat _ _ _ _ _ _) = k
-  holds_replies e tag (IData q) t p k (Empty _ _ _ _ _) = k
+  holds_replies e tag (IData q) t p k (PieceEmpty _ _ _ _ _) = k
   holds_replies e tag (IData q) t p k (WrongFormat _ _ _ _ _ _) = k
   holds_replies e tag (Init m) t p k h = absurd (cc)
   holds_replies e tag (InitAck m) t p k (RefusedAck _ _ _ _ _) = k
-  holds_replies e tag (Sack s) t p k (IsWrong _ _ _ _ _) = k
+  holds_replies e tag (Sack s) t p k (SackWrong _ _ _ _ _) = k
   holds_replies e tag (Heartbeat i) t p k h = elim h [ ]
   holds_replies e tag (HeartbeatAck i) t p k h = absurd (cc)
   holds_replies e tag (Abort b xs) t p k h = absurd (cc)
-  holds_replies e tag (Shutdown n) t p k (IsWrong _ _ _ _ _) = k
-  holds_replies e tag ShutdownAck t p k (Completes _ _ _ _) = k
+  holds_replies e tag (Shutdown n) t p k (ShutdownWrong _ _ _ _ _) = k
+  holds_replies e tag ShutdownAck t p k (AckCompletes _ _ _ _) = k
   holds_replies e tag (Error xs) t p k h = elim h [ ]
   holds_replies e tag (CookieEcho xs) t p k h = elim h [ ]
   holds_replies e tag CookieAck t p k h = elim h [ ]
@@ -122,14 +122,14 @@ module _ (P : Format → ReceiverView → Type 0) (law : IsReceiverLaw P) where
   holds_acts tag e b xs t v k (Next _ mid _ _ x ys _ act rest) = holds_acts tag (rested mid) true ys t v (holds_rested mid (holds_goes e tag x mid k act)) rest
   holds_acts tag e b xs t v k (Passes _ _ _ x ys _ act rest) = holds_acts tag e b ys t v k rest
   holds_acts tag e b xs t v k (Last _ _ _ x ys act) = holds_ends e tag x t k act
-  holds_acts tag e b xs t v k (Answered _ _ _ x ys p act) = holds_replies e tag x t p k act
+  holds_acts tag e b xs t v k (EndsAnswered _ _ _ x ys p act) = holds_replies e tag x t p k act
   holds_acts tag e b xs t v k (Stopped _ _ x ys n act) = k
 
   pub holds_arrives : (e : EndView) (d : Draw) (p : Packet) (t : EndView) (v : Verdict) → Holds e → Arrives e d p t v → Holds t
   holds_arrives e d p t v k (Elsewhere _) = k
   holds_arrives e d p t v k (NotOurs _ _) = k
   holds_arrives e d p t v k (Stray _ _ _ _) = k
-  holds_arrives e d p t v k (Begins b _ _ _ _ _ _ acts) = holds_acts p.tag (begun b e) true _ t v (law.fresh _ _ _ _) acts
+  holds_arrives e d p t v k (CookieBegins b _ _ _ _ _ _ acts) = holds_acts p.tag (begun b e) true _ t v (law.fresh _ _ _ _) acts
   holds_arrives e d p t v k (Heard _ _ _ _ _ acts) = holds_acts p.tag e false p.chunks t v k acts
 
   -- ---- a packet that is built
@@ -167,7 +167,7 @@ module _ (P : Format → ReceiverView → Type 0) (law : IsReceiverLaw P) where
   holds_at w v x t given at all new = both_ends (λ (y : Side) (e : EndView). Holds e) w v x t given at all new
 
   pub holds_step : (w : World) (e : Event) (o : Option Outcome) (v : World) → HoldsIn w → Step w e o v → HoldsIn v
-  holds_step w e o v k (Opens x y may dx dy) = both
+  holds_step w e o v k (OpensBoth x y may dx dy) = both
     where
       both : HoldsIn v
       both A = law.fresh _ _ _ _
@@ -195,7 +195,7 @@ module _ (P : Format → ReceiverView → Type 0) (law : IsReceiverLaw P) where
   holds_step w e o v k (IsAbsent x n none) = k
   holds_step w e o v k (Unread x) = holds_at w v x (end_now w x) None (at_came w x (end_now w x)) k (k x)
   holds_step w e o v k (Sends x c) = holds_at w v x _ None (at_log w x _ _) k (holds_same (end_of w x) _ (unheard_sent (end_of w x) c (send_answer (end_of w x) c)) (k x))
-  holds_step w e o v k (Abandons x n) = holds_at w v x _ None (at_log w x _ _) k (holds_same (end_of w x) _ (unheard_abandoned (end_of w x) n) (k x))
+  holds_step w e o v k (AbandonsOne x n) = holds_at w v x _ None (at_log w x _ _) k (holds_same (end_of w x) _ (unheard_abandoned (end_of w x) n) (k x))
   holds_step w e o v k (TakesOne x n h t takes) =
       holds_at w v x t None (at_end w x t) k (subst Holds (sym takes.leaves) (law.taken (format_of (end_of w x)) (end_of w x).receiver n h takes.receiver (k x) takes.takes))
   holds_step w e o v k (ShutsDown x) = holds_at w v x (shut (end_of w x)) None (at_end w x _) k (holds_same (end_of w x) _ (unheard_shut (end_of w x)) (k x))

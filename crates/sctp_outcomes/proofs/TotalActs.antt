@@ -1,20 +1,20 @@
 -- Every chunk does something to an end whose receiver is bounded.
 use Rattle.std.proofs.Common.{◌≡◌, ℕ, zero, suc, ◌<◌, Bool, true, false, List, [], ◌∷◌, length, Option, Some, None, inl, inr, refl, sym, subst, ap, arith, ◌∙◌}
-use Rattle.sctp_model.specs.Chunk.{PieceMeaning, SackMeaning, ForwardMeaning, InitMeaning, ChunkMeaning, Data, IData, Init, InitAck, Sack, Heartbeat, HeartbeatAck, Abort, Shutdown, ShutdownAck, Error, CookieEcho, CookieAck, ShutdownComplete, ForwardTsn, IForwardTsn, Unknown}
-use Rattle.sctp_model.specs.Format.{Format, Plain, Interleaved}
-use Rattle.sctp_model.specs.SenderView.{SenderView}
-use Rattle.sctp_model.specs.ReceiverView.{IsCumulative}
+use Rattle.sctp_model.specs.wire.Chunk.{PieceMeaning, SackMeaning, ForwardMeaning, InitMeaning, ChunkMeaning, Data, IData, Init, InitAck, Sack, Heartbeat, HeartbeatAck, Abort, Shutdown, ShutdownAck, Error, CookieEcho, CookieAck, ShutdownComplete, ForwardTsn, IForwardTsn, Unknown}
+use Rattle.sctp_model.specs.messages.Format.{Format, Plain, Interleaved}
+use Rattle.sctp_model.specs.sender.SenderView.{SenderView}
+use Rattle.sctp_model.specs.receiver.ReceiverView.{IsCumulative}
 use Rattle.sctp_model.specs.receiver.ForwardTaken.{ForwardAnswer, OutOfDate, Bad, Moved, ForwardTaken, forward_answer}
 use Rattle.sctp_model.specs.sender.Words.{when, first_there}
 use Rattle.sctp_model.specs.sender.SackTaken.{SackFault, Stale, Beyond, BadBlock, is_stale, is_beyond, index_of, sack_fault, shutdown_fault}
-use Rattle.sctp_model.specs.Typed.{Typed}
+use Rattle.sctp_model.specs.wire.Typed.{Typed}
 use Rattle.sctp_model.specs.end.Sealing.{Sealing}
 use Rattle.sctp_model.specs.end.EndView.{Tags, Draw, Stage, Established, ShutdownPending, ShutdownSent, ShutdownReceived, ShutdownAckSent, Phase, Idle, Listening, Calling, Echoing, Open, Over, EndView, format_of}
 use Rattle.sctp_model.specs.end.Closing.{hears, takes_data, takes_acknowledgements, takes_cookies, awaits_ack, awaits_complete}
 use Rattle.sctp_model.specs.end.PeerFaults.{After, GoesOn, PassedOver}
 use Rattle.sctp_model.specs.end.Options.{STATE_COOKIE, value_of}
 use Rattle.sctp_model.specs.end.Opening.{ack_fault, InitAckActs, NotCalling, NoTag, RefusedAck, AcceptedAck, seal_in, is_ours, cookie_read, EchoActs, NotHere, EchoedAgain, IsStrange, CookieAckActs, NotEchoing, CookieAcked}
-use Rattle.sctp_model.specs.end.Acting.{same_format, PieceActs, NotHeard, Empty, WrongFormat, Comes, may_forward, ForwardActs, WrongKind, IsBad, IsOld, SackActs, IsStale, IsWrong, Counts, HeartbeatActs, is_stale_cookie, ErrorActs, Closes, SaysNothing, ShutdownActs, NotOpen, Crosses, Again, ShutdownAckActs, NotAwaited, Completes, CompleteActs, Acts}
+use Rattle.sctp_model.specs.end.Acting.{same_format, PieceActs, ForwardNotHeard, HeartbeatNotHeard, PieceNotHeard, SackNotHeard, PieceEmpty, WrongFormat, ForwardComes, PieceComes, may_forward, ForwardActs, WrongKind, IsBad, IsOld, SackActs, SackStale, ShutdownStale, SackWrong, ShutdownWrong, HeartbeatCounts, SackCounts, ShutdownCounts, HeartbeatActs, is_stale_cookie, ErrorActs, Closes, SaysNothing, ShutdownActs, ShutdownNotOpen, Crosses, Again, ShutdownAckActs, AckNotAwaited, CompleteNotAwaited, AckCompletes, CompleteCompleted, CompleteActs, Acts}
 use Rattle.sctp_reference.specs.receiver.Steps.{cumulative, forward_step}
 use Rattle.sctp_reference.proofs.receiver.StepsLemmas.{cumulative_is, piece_steps, forward_steps}
 use Rattle.sctp_outcomes.proofs.Bounded.{IsBounded}
@@ -69,15 +69,15 @@ module _ (e : EndView) (tag : ℕ) (b : IsBounded (format_of e) e.receiver) wher
   piece f p = by (is_heard takes_data e.phase)
     where
       filled : (t : Tags) (g : Stage) → e.phase ≡ Open t g → takes_data g ≡ true → 0 < length p.bytes → (r : Bool) → same_format f (format_of e) ≡ r → (a : After) × PieceActs f e p a
-      filled t g is takes some true same = (_, Comes t g _ _ is takes some same (piece_steps (format_of e) e.receiver c p is_c))
+      filled t g is takes some true same = (_, PieceComes t g _ _ is takes some same (piece_steps (format_of e) e.receiver c p is_c))
       filled t g is takes some false same = (_, WrongFormat t g is takes some same)
 
       sized : (t : Tags) (g : Stage) → e.phase ≡ Open t g → takes_data g ≡ true → (n : ℕ) → length p.bytes ≡ n → (a : After) × PieceActs f e p a
-      sized t g is takes zero q = (_, Empty t g is takes q)
+      sized t g is takes zero q = (_, PieceEmpty t g is takes q)
       sized t g is takes (suc n) q = filled t g is takes (omega (arith, q)) (same_format f (format_of e)) refl
 
       by : IsHeard takes_data e.phase → (a : After) × PieceActs f e p a
-      by (Off off) = (_, NotHeard off)
+      by (Off off) = (_, PieceNotHeard off)
       by (On t g is takes) = sized t g is takes (length p.bytes) refl
 
   forward : (f : Format) (m : ForwardMeaning) → (a : After) × ForwardActs f e m a
@@ -86,39 +86,39 @@ module _ (e : EndView) (tag : ℕ) (b : IsBounded (format_of e) e.receiver) wher
       answered : (t : Tags) (g : Stage) → e.phase ≡ Open t g → takes_data g ≡ true → may_forward f e ≡ true → (x : ForwardAnswer) → forward_answer e.receiver c m ≡ x → (a : After) × ForwardActs f e m a
       answered t g is takes may OutOfDate q = (_, IsOld t g _ is takes may (subst (λ (x : ForwardAnswer). ForwardTaken (format_of e) e.receiver m x (forward_step (format_of e) e.receiver c m)) q (forward_steps (format_of e) e.receiver c m is_c)))
       answered t g is takes may Bad q = (_, IsBad t g _ is takes may (subst (λ (x : ForwardAnswer). ForwardTaken (format_of e) e.receiver m x (forward_step (format_of e) e.receiver c m)) q (forward_steps (format_of e) e.receiver c m is_c)))
-      answered t g is takes may Moved q = (_, Comes t g _ is takes may (subst (λ (x : ForwardAnswer). ForwardTaken (format_of e) e.receiver m x (forward_step (format_of e) e.receiver c m)) q (forward_steps (format_of e) e.receiver c m is_c)))
+      answered t g is takes may Moved q = (_, ForwardComes t g _ is takes may (subst (λ (x : ForwardAnswer). ForwardTaken (format_of e) e.receiver m x (forward_step (format_of e) e.receiver c m)) q (forward_steps (format_of e) e.receiver c m is_c)))
 
       allowed : (t : Tags) (g : Stage) → e.phase ≡ Open t g → takes_data g ≡ true → (r : Bool) → may_forward f e ≡ r → (a : After) × ForwardActs f e m a
       allowed t g is takes true may = answered t g is takes may (forward_answer e.receiver c m) refl
       allowed t g is takes false may = (_, WrongKind t g is takes may)
 
       by : IsHeard takes_data e.phase → (a : After) × ForwardActs f e m a
-      by (Off off) = (_, NotHeard off)
+      by (Off off) = (_, ForwardNotHeard off)
       by (On t g is takes) = allowed t g is takes (may_forward f e) refl
 
   sack : (s : SackMeaning) → (a : After) × SackActs e s a
   sack s = by (is_heard takes_acknowledgements e.phase)
     where
       answered : (t : Tags) (g : Stage) → e.phase ≡ Open t g → takes_acknowledgements g ≡ true → (x : Option SackFault) → sack_fault e.sender s ≡ x → (a : After) × SackActs e s a
-      answered t g is takes None q = (_, Counts (on_heard takes_acknowledgements e.phase t g is takes) q)
-      answered t g is takes (Some Stale) q = (_, IsStale (on_heard takes_acknowledgements e.phase t g is takes) q)
-      answered t g is takes (Some Beyond) q = (_, IsWrong t g is takes (inl q))
-      answered t g is takes (Some BadBlock) q = (_, IsWrong t g is takes (inr q))
+      answered t g is takes None q = (_, SackCounts (on_heard takes_acknowledgements e.phase t g is takes) q)
+      answered t g is takes (Some Stale) q = (_, SackStale (on_heard takes_acknowledgements e.phase t g is takes) q)
+      answered t g is takes (Some Beyond) q = (_, SackWrong t g is takes (inl q))
+      answered t g is takes (Some BadBlock) q = (_, SackWrong t g is takes (inr q))
 
       by : IsHeard takes_acknowledgements e.phase → (a : After) × SackActs e s a
-      by (Off off) = (_, NotHeard off)
+      by (Off off) = (_, SackNotHeard off)
       by (On t g is takes) = answered t g is takes (sack_fault e.sender s) refl
 
   shutdown : (n : ℕ) → (a : After) × ShutdownActs e n a
   shutdown n = by e.phase refl
     where
       closed : (h : Phase) → e.phase ≡ h → hears (λ g. true) h ≡ false → (a : After) × ShutdownActs e n a
-      closed h is off = (_, NotOpen (subst (λ (k : Phase). hears (λ g. true) k ≡ false) (sym is) off))
+      closed h is off = (_, ShutdownNotOpen (subst (λ (k : Phase). hears (λ g. true) k ≡ false) (sym is) off))
 
       answered : (t : Tags) (g : Stage) → e.phase ≡ Open t g → takes_acknowledgements g ≡ true → (x : Option SackFault) → shutdown_fault e.sender n ≡ x → (a : After) × ShutdownActs e n a
-      answered t g is takes None q = (_, Counts t g is takes q)
-      answered t g is takes (Some Stale) q = (_, IsStale t g is takes q)
-      answered t g is takes (Some Beyond) q = (_, IsWrong t g is takes q)
+      answered t g is takes None q = (_, ShutdownCounts t g is takes q)
+      answered t g is takes (Some Stale) q = (_, ShutdownStale t g is takes q)
+      answered t g is takes (Some Beyond) q = (_, ShutdownWrong t g is takes q)
       answered t g is takes (Some BadBlock) q = absurd (no_bad_block e.sender n q)
 
       by : (h : Phase) → e.phase ≡ h → (a : After) × ShutdownActs e n a
@@ -186,8 +186,8 @@ module _ (e : EndView) (tag : ℕ) (b : IsBounded (format_of e) e.receiver) wher
   heartbeat info = by (hears (λ g. true) e.phase) refl
     where
       by : (r : Bool) → hears (λ g. true) e.phase ≡ r → (a : After) × HeartbeatActs e info a
-      by true q = (_, Counts q)
-      by false q = (_, NotHeard q)
+      by true q = (_, HeartbeatCounts q)
+      by false q = (_, HeartbeatNotHeard q)
 
   report : (causes : List ℕ) → (a : After) × ErrorActs e causes a
   report causes = by (is_stale_cookie e.phase causes) refl
@@ -200,15 +200,15 @@ module _ (e : EndView) (tag : ℕ) (b : IsBounded (format_of e) e.receiver) wher
   shutdown_ack = by (is_heard awaits_ack e.phase)
     where
       by : IsHeard awaits_ack e.phase → (a : After) × ShutdownAckActs e a
-      by (Off off) = (_, NotAwaited off)
-      by (On t g is awaits) = (_, Completes t g is awaits)
+      by (Off off) = (_, AckNotAwaited off)
+      by (On t g is awaits) = (_, AckCompletes t g is awaits)
 
   complete : (a : After) × CompleteActs e a
   complete = by (hears awaits_complete e.phase) refl
     where
       by : (r : Bool) → hears awaits_complete e.phase ≡ r → (a : After) × CompleteActs e a
-      by true q = (_, Completes q)
-      by false q = (_, NotAwaited q)
+      by true q = (_, CompleteCompleted q)
+      by false q = (_, CompleteNotAwaited q)
 
   pub acted : (x : ChunkMeaning) → Acted e tag x
   acted (Data p) = let a = piece Plain p in record { after = a.0; acts = a.1 }

@@ -1,7 +1,7 @@
 -- Every packet does something to an end whose receiver is bounded.
 use Rattle.std.proofs.Common.{◌≡◌, ℕ, Bool, true, false, List, [], ◌∷◌, drop, Option, Some, None, refl}
-use Rattle.sctp_model.specs.Chunk.{ChunkMeaning}
-use Rattle.sctp_model.specs.Packet.{Packet}
+use Rattle.sctp_model.specs.wire.Chunk.{ChunkMeaning}
+use Rattle.sctp_model.specs.wire.Packet.{Packet}
 use Rattle.sctp_model.specs.end.Sealing.{Body}
 use Rattle.sctp_model.specs.end.EndView.{Draw, EndView, has_association, format_of}
 use Rattle.sctp_model.specs.end.Closing.{rested}
@@ -10,8 +10,8 @@ use Rattle.sctp_model.specs.end.Opening.{begun}
 use Rattle.sctp_model.specs.end.Acting.{Acts}
 use Rattle.sctp_model.specs.end.Passing.{has_ports, passes}
 use Rattle.sctp_model.specs.end.Strays.{Verdict, Taken, opened_by, stray_verdict}
-use Rattle.sctp_model.specs.end.Arriving.{AllAct, NoneLeft, Next, Last, Answered, Stopped, Arrives, Elsewhere, NotOurs, Stray, Begins, Heard, verdict_of}
-use Rattle.sctp_model.specs.end.Arriving.{Over as Passes}
+use Rattle.sctp_model.specs.end.Arriving.{AllAct, NoneLeft, Next, Last, EndsAnswered, Stopped, Arrives, Elsewhere, NotOurs, Stray, CookieBegins, Heard, verdict_of}
+use Rattle.sctp_model.specs.end.Arriving.{Passes}
 use Rattle.sctp_outcomes.proofs.Receivers.{holds_goes, holds_rested}
 use Rattle.sctp_outcomes.proofs.Bounded.{IsBounded, bounded_law}
 use Rattle.sctp_outcomes.proofs.TotalActs.{acted}
@@ -32,7 +32,7 @@ all_acted tag e b (x ∷ xs) bound =
         record { last = r.last; verdict = r.verdict; acts = Next e mid r.last b x xs r.verdict act r.acts }
     by (Ends t) act same on = record { last = t; verdict = Taken; acts = Last e t b x xs act }
     by PassedOver act same on = record { last = same.last; verdict = same.verdict; acts = Passes e same.last b x xs same.verdict act same.acts }
-    by (Replies t p) act same on = record { last = t; verdict = _; acts = Answered e t b x xs p act }
+    by (Replies t p) act same on = record { last = t; verdict = _; acts = EndsAnswered e t b x xs p act }
     by (Drops n) act same on = record { last = e; verdict = _; acts = Stopped e b x xs n act }
 
 pub record Arrived (e : EndView) (d : Draw) (p : Packet) : Type 0 where
@@ -47,7 +47,7 @@ arrived e d p bound = ports (has_ports e.configuration p) refl
     opened a t none None q = record { last = e; verdict = stray_verdict e d p; arrives = Stray a t none q }
     opened a t none (Some y) q =
         let r = all_acted p.tag (begun y e) true (drop 1 p.chunks) (bounded_law.fresh _ _ _ _) in
-        record { last = r.last; verdict = r.verdict; arrives = Begins y r.last r.verdict a t none q r.acts }
+        record { last = r.last; verdict = r.verdict; arrives = CookieBegins y r.last r.verdict a t none q r.acts }
 
     joined : has_ports e.configuration p ≡ true → passes e.phase p ≡ true → (h : Bool) → has_association e.phase ≡ h → Arrived e d p
     joined a t true has =

@@ -1,15 +1,15 @@
 -- In every world that can be reached, each event has an outcome.
 use Rattle.std.proofs.Common.{◌≡◌, ℕ, Bool, true, false, List, [], ◌∷◌, Option, Some, None, refl}
-use Rattle.sctp_model.specs.Lists.{item_at}
-use Rattle.sctp_model.specs.Chunk.{ChunkMeaning}
-use Rattle.sctp_model.specs.Packet.{Packet}
-use Rattle.sctp_model.specs.ReceiverView.{Handed}
+use Rattle.sctp_model.specs.numbers.Lists.{item_at}
+use Rattle.sctp_model.specs.wire.Chunk.{ChunkMeaning}
+use Rattle.sctp_model.specs.wire.Packet.{Packet}
+use Rattle.sctp_model.specs.receiver.ReceiverView.{Handed}
 use Rattle.sctp_model.specs.end.EndView.{Draw, EndView}
 use Rattle.sctp_model.specs.end.Building.{Builds}
 use Rattle.sctp_model.specs.end.UserCalls.{ConnectAnswer, Called, NotIdle, connect_answer}
-use Rattle.sctp_model.specs.World.{Side, other, World, end_of, bag_of, end_now}
-use Rattle.sctp_model.specs.Events.{Event, OpenBoth, At, Drawing, Connect, Build, Deliver, Foreign, Send, Abandon, Take, Shutdown, Abort}
-use Rattle.sctp_model.specs.Steps.{IsDraw, FromBag, FromStranger, Brings, Opens, OpenRefused, TimePasses, Draws, Connects, ConnectRefused, BuildsOne, BuildsNone, Comes, IsAbsent, Unread, Sends, Abandons, TakesOne, ShutsDown, AbortsIt}
+use Rattle.sctp_model.specs.world.World.{Side, other, World, end_of, bag_of, end_now}
+use Rattle.sctp_model.specs.world.Events.{Event, OpenBoth, At, Drawing, Connect, Build, Deliver, Foreign, Send, Abandon, Take, Shutdown, Abort}
+use Rattle.sctp_model.specs.world.Steps.{IsDraw, FromBag, FromStranger, Brings, OpensBoth, OpenRefused, TimePasses, Draws, Connects, ConnectRefused, BuildsOne, BuildsNone, PacketComes, IsAbsent, Unread, Sends, AbandonsOne, TakesOne, ShutsDown, AbortsIt}
 use Rattle.sctp_outcomes.specs.Outcomes.{CanHappen, HasOutcome, EventsHaveOutcomes}
 use Rattle.sctp_outcomes.proofs.Receivers.{HoldsIn, holds_always}
 use Rattle.sctp_outcomes.proofs.Bounded.{IsBounded, bounded_law}
@@ -21,7 +21,7 @@ module _ (w : World) (bounded : HoldsIn IsBounded bounded_law w) where
   opening x y dx dy = go w.openable refl
     where
       go : (b : Bool) → w.openable ≡ b → HasOutcome w (OpenBoth x y)
-      go true may = (_, _, Opens x y may dx dy)
+      go true may = (_, _, OpensBoth x y may dx dy)
       go false may = (_, _, OpenRefused x y may)
 
   connecting : (d : Draw) → IsDraw d → HasOutcome w (Connect d)
@@ -39,7 +39,7 @@ module _ (w : World) (bounded : HoldsIn IsBounded bounded_law w) where
       go (y ∷ ys) t builds = (_, _, BuildsOne x y ys t builds)
 
   coming : (e : Event) (x : Side) (p : Packet) → Brings w e x p → HasOutcome w e
-  coming e x p brings = let a = arrived (end_now w x) w.draw p (bounded x) in (_, _, Comes e x p a.last a.verdict brings a.arrives)
+  coming e x p brings = let a = arrived (end_now w x) w.draw p (bounded x) in (_, _, PacketComes e x p a.last a.verdict brings a.arrives)
 
   delivering : (x : Side) (n : ℕ) → HasOutcome w (Deliver x n)
   delivering x n = go (item_at (bag_of w x) n) refl
@@ -65,7 +65,7 @@ module _ (w : World) (bounded : HoldsIn IsBounded bounded_law w) where
   has_outcome (Foreign x None) can = (_, _, Unread x)
   has_outcome (Foreign x (Some p)) placed = coming (Foreign x (Some p)) x p (FromStranger x p placed)
   has_outcome (Send x c) can = (_, _, Sends x c)
-  has_outcome (Abandon x k) can = (_, _, Abandons x k)
+  has_outcome (Abandon x k) can = (_, _, AbandonsOne x k)
   has_outcome (Take x n) can = taking x n
   has_outcome (Shutdown x) can = (_, _, ShutsDown x)
   has_outcome (Abort x r) can = (_, _, AbortsIt x r)

@@ -1,14 +1,14 @@
 -- Runs of two ends, from the start and by themselves alone, that show that the promises over every run aren't empty.
 use Rattle.std.specs.Prelude.{◌≡◌, true, List, [], ◌∷◌, Some}
-use Rattle.sctp_model.specs.Lists.{Has}
-use Rattle.sctp_model.specs.Format.{Plain, Interleaved, ordered_lane}
-use Rattle.sctp_model.specs.Plan.{End, entry_at}
-use Rattle.sctp_model.specs.Calls.{Call}
-use Rattle.sctp_model.specs.ReceiverView.{Handed, handed}
+use Rattle.sctp_model.specs.numbers.Lists.{Has}
+use Rattle.sctp_model.specs.messages.Format.{Plain, Interleaved, ordered_lane}
+use Rattle.sctp_model.specs.messages.Plan.{End, entry_at}
+use Rattle.sctp_model.specs.world.Calls.{Call}
+use Rattle.sctp_model.specs.receiver.ReceiverView.{Handed, handed}
 use Rattle.sctp_model.specs.end.EndView.{Draw, Completed, Over, format_of}
-use Rattle.sctp_model.specs.World.{A, World, Setup}
-use Rattle.sctp_model.specs.Events.{Event, OpenBoth, Deliver, Send, Abandon}
-use Rattle.sctp_model.specs.Premises.{IsReachable}
+use Rattle.sctp_model.specs.world.World.{A, World, Setup}
+use Rattle.sctp_model.specs.world.Events.{Event, OpenBoth, Deliver, Send, Abandon}
+use Rattle.sctp_model.specs.world.Premises.{IsReachable}
 
 -- the run that leads to a world
 pub record IsRunTo (events : List Event) (last : World) : Type 0 where

@@ -1,7 +1,7 @@
 -- The steps of an end alone, whatever it is and whoever its peer: each packet that comes and each packet that is built leaves one end and one answer.
 use Rattle.std.specs.Prelude.{◌≡◌, ℕ, ◌≤◌, true, List}
-use Rattle.sctp_model.specs.Chunk.{ChunkMeaning}
-use Rattle.sctp_model.specs.Packet.{Packet}
+use Rattle.sctp_model.specs.wire.Chunk.{ChunkMeaning}
+use Rattle.sctp_model.specs.wire.Packet.{Packet}
 use Rattle.sctp_model.specs.receiver.Laws.{IsOrdinary}
 use Rattle.sctp_model.specs.end.EndView.{Draw, EndView, format_of}
 use Rattle.sctp_model.specs.end.Strays.{Verdict}

@@ -1,10 +1,10 @@
 -- In every world that can be reached, each event has an outcome, and one only.
 use Rattle.std.specs.Prelude.{◌≡◌, ◌^◌, ◌<◌, List, Some}
-use Rattle.sctp_model.specs.Places.{ArePlaced}
-use Rattle.sctp_model.specs.World.{World, Setup}
-use Rattle.sctp_model.specs.Events.{Event, OpenBoth, At, Drawing, Connect, Foreign, Outcome}
-use Rattle.sctp_model.specs.Steps.{IsDraw, Step}
-use Rattle.sctp_model.specs.Premises.{IsReachable}
+use Rattle.sctp_model.specs.wire.Places.{ArePlaced}
+use Rattle.sctp_model.specs.world.World.{World, Setup}
+use Rattle.sctp_model.specs.world.Events.{Event, OpenBoth, At, Drawing, Connect, Foreign, Outcome}
+use Rattle.sctp_model.specs.world.Steps.{IsDraw, Step}
+use Rattle.sctp_model.specs.world.Premises.{IsReachable}
 
 -- What may happen: chance hands in draws, a moment has 64 bits, and in a foreign packet that reads each chunk stands where it may.
 abbrev pub CanHappen : Event → Type 0

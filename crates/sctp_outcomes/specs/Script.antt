@@ -1,15 +1,15 @@
 -- A script from first to last: two ends open by packets, a message goes over, and they close. Every packet that is delivered comes twice, as networks may do.
 use Rattle.std.specs.Prelude.{◌≡◌, false, List, [], ◌∷◌, Option, Some, None}
-use Rattle.sctp_model.specs.Format.{ordered_lane}
-use Rattle.sctp_model.specs.Calls.{Call}
-use Rattle.sctp_model.specs.ReceiverView.{Handed, handed}
+use Rattle.sctp_model.specs.messages.Format.{ordered_lane}
+use Rattle.sctp_model.specs.world.Calls.{Call}
+use Rattle.sctp_model.specs.receiver.ReceiverView.{Handed, handed}
 use Rattle.sctp_model.specs.end.Sealing.{Sealing}
 use Rattle.sctp_model.specs.end.EndView.{Completed, Over}
 use Rattle.sctp_model.specs.end.PeerFaults.{STATE}
 use Rattle.sctp_model.specs.end.UserCalls.{Ticket}
-use Rattle.sctp_model.specs.World.{A, B, World, Setup, start}
-use Rattle.sctp_model.specs.Events.{Event, Drawing, Connect, Build, Deliver, Send, Take, Shutdown, Outcome, Done, Sent, Acted, Answered, NotActed, Told, Message}
-use Rattle.sctp_model.specs.Steps.{Run}
+use Rattle.sctp_model.specs.world.World.{A, B, World, Setup, start}
+use Rattle.sctp_model.specs.world.Events.{Event, Drawing, Connect, Build, Deliver, Send, Take, Shutdown, Outcome, Done, Sent, Acted, Answered, NotActed, Told, Message}
+use Rattle.sctp_model.specs.world.Steps.{Run}
 
 -- packets of at most 1,500 bytes, fragments of 1,400, room for 65,536, one stream each way, DATA without partial reliability
 abbrev pub script_setup : Sealing → Setup

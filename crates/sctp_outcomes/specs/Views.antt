@@ -1,12 +1,12 @@
 -- What holds of the sender and the receiver of either end in every world that can be reached, whatever their peer is told.
 use Rattle.std.specs.Prelude.{◌≡◌, true, List}
-use Rattle.sctp_model.specs.Orderly.{Orderly}
+use Rattle.sctp_model.specs.messages.Orderly.{Orderly}
 use Rattle.sctp_model.specs.sender.Reached.{IsReached}
 use Rattle.sctp_model.specs.receiver.Laws.{IsAtRest}
 use Rattle.sctp_model.specs.end.EndView.{EndView, format_of}
-use Rattle.sctp_model.specs.World.{Side, World, end_of, Setup}
-use Rattle.sctp_model.specs.Events.{Event}
-use Rattle.sctp_model.specs.Premises.{IsReachable}
+use Rattle.sctp_model.specs.world.World.{Side, World, end_of, Setup}
+use Rattle.sctp_model.specs.world.Events.{Event}
+use Rattle.sctp_model.specs.world.Premises.{IsReachable}
 use Rattle.sctp_safety.specs.Agreement.{was_open}
 
 -- An end's plan is orderly (RFC 9260, 6.6 and 6.9; RFC 8260, 2.2), and its receiver at rest: all that is due was handed over, and no place is filled twice.

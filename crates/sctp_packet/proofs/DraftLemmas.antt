@@ -4,8 +4,8 @@ use Rattle.std.specs.Prelude.{max}
 use Rattle.std.specs.List.{flat_map, AllByRecursion}
 use Rattle.std.proofs.lemmas.List.{take_all, append-nil, length-take, take-append-drop, nil_from_length, take-append-le, drop-append-le}
 use Rattle.std.proofs.lemmas.Grind.{common_steps, flat_map-append}
-use Rattle.sctp_model.specs.Chunk.{ChunkMeaning, Data, Init, InitAck, Sack, IData, ForwardTsn, IForwardTsn, chunk_length, size_of_chunk}
-use Rattle.sctp_model.specs.Packet.{Packet, HEADER_ROOM, size_of_chunks, size_of_packet}
+use Rattle.sctp_model.specs.wire.Chunk.{ChunkMeaning, Data, Init, InitAck, Sack, IData, ForwardTsn, IForwardTsn, chunk_length, size_of_chunk}
+use Rattle.sctp_model.specs.wire.Packet.{Packet, HEADER_ROOM, size_of_chunks, size_of_packet}
 use Rattle.sctp_wire.specs.Layouts.{Fits}
 use Rattle.sctp_wire.specs.Reading.{chunks_of, each_of}
 use Rattle.sctp_wire.specs.Writes.{written, Writes}

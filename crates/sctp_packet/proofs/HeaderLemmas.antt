@@ -6,7 +6,7 @@ use Rattle.std.proofs.lemmas.List.{drop-drop, get_or-drop, length-map}
 use Rattle.std.proofs.Math.Nat.{pow-suc}
 use Rattle.byteorder.specs.Endian.{big_bytes, big_number, little_bytes, little_number}
 use Rattle.byteorder.specs.Numbers.{big_number-reads_back, little_number-reads_back}
-use Rattle.sctp_model.specs.Packet.{Packet, HEADER_ROOM}
+use Rattle.sctp_model.specs.wire.Packet.{Packet, HEADER_ROOM}
 use Rattle.sctp_packet.specs.Checksum.{number, divisor, crc32c}
 use Rattle.sctp_packet.specs.PacketBytes.{with_sum, packet_bytes, without_sum, IsHeader, IsChecked}
 use Rattle.sctp_packet.proofs.ChecksumLaws.{checksum_is, length_tail, divisor_is}

@@ -1,7 +1,7 @@
 -- A packet in the making.
 use Rattle.std.specs.Prelude.{◌≡◌, ℕ, ◌-◌, ◌<◌, ◌≤◌, Bool, nat_le, if◌then◌else◌, ◌==◌, List, ◌∷◌, [], ◌++◌, length, take, drop}
-use Rattle.sctp_model.specs.Chunk.{ChunkMeaning}
-use Rattle.sctp_model.specs.Packet.{Packet, HEADER_ROOM, size_of_packet}
+use Rattle.sctp_model.specs.wire.Chunk.{ChunkMeaning}
+use Rattle.sctp_model.specs.wire.Packet.{Packet, HEADER_ROOM, size_of_packet}
 use Rattle.sctp_wire.specs.Reading.{chunks_of}
 use Rattle.sctp_wire.specs.Writes.{Writes}
 use Rattle.sctp_packet.specs.PacketBytes.{header_bytes, IsHeader}

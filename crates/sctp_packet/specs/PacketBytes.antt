@@ -1,7 +1,7 @@
 -- The bytes of a packet: the common header and the chunks behind it; and why bytes are no packet (RFC 9260, 3 and 3.1).
 use Rattle.std.specs.Prelude.{◌≡◌, ℕ, ◌<◌, ◌≤◌, ◌^◌, List, [], ◌++◌, length, take, drop, replicate}
 use Rattle.byteorder.specs.Endian.{big_bytes, little_bytes, little_number}
-use Rattle.sctp_model.specs.Packet.{Packet, HEADER_ROOM}
+use Rattle.sctp_model.specs.wire.Packet.{Packet, HEADER_ROOM}
 use Rattle.sctp_wire.specs.declared.fault.WireFault.{WireFault}
 use Rattle.sctp_wire.specs.FaultTree.{moved}
 use Rattle.sctp_wire.specs.Reads.{Reads}

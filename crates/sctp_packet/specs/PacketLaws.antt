@@ -1,7 +1,7 @@
 -- What holds of the bytes of packets.
 use Rattle.std.specs.Prelude.{◌≡◌, ℕ, ◌⊎◌, List}
-use Rattle.sctp_model.specs.Packet.{Packet}
-use Rattle.sctp_model.specs.Numbers.{AreBytes}
+use Rattle.sctp_model.specs.wire.Packet.{Packet}
+use Rattle.sctp_model.specs.numbers.Numbers.{AreBytes}
 use Rattle.sctp_packet.specs.declared.fault.PacketFault.{PacketFault}
 use Rattle.sctp_packet.specs.PacketBytes.{ReadsPacket, FaultsPacket}
 

@@ -1,5 +1,5 @@
 -- What a packet that was read says.
-use Rattle.sctp_model.specs.Packet as meaning
+use Rattle.sctp_model.specs.wire.Packet as meaning
 use Rattle.sctp_packet.specs.declared.read.Packet.{Packet}
 
 -- its ports, its tag and its chunks

@@ -1,8 +1,8 @@
 //! Laws of the definitions, which hold of all bytes and packets.
 
 ghost use Rattle.std.specs.Prelude.{ℕ, List};
-ghost use Rattle.sctp_model.specs.Packet.{Packet};
-ghost use Rattle.sctp_model.specs.Places.{ArePlaced};
+ghost use Rattle.sctp_model.specs.wire.Packet.{Packet};
+ghost use Rattle.sctp_model.specs.wire.Places.{ArePlaced};
 ghost use Rattle.sctp_packet.specs.PacketBytes.{ReadsPacket, WritesPacket};
 ghost use Rattle.sctp_packet.specs.PacketLaws.{ReadInOneWay};
 

@@ -1,7 +1,7 @@
 //! A packet from bytes: length, checksum, then the chunks (RFC 9260, 3 and 6.8).
 
 ghost use Rattle.std.specs.Prelude.{◌≡◌, MatchResult};
-ghost use Rattle.sctp_model.specs.Packet as meaning;
+ghost use Rattle.sctp_model.specs.wire.Packet as meaning;
 ghost use Rattle.sctp_packet.specs.PacketBytes.{ReadsPacket, FaultsPacket};
 ghost use Rattle.sctp_packet.specs.PacketTree.{packet_meaning};
 

@@ -2,7 +2,7 @@
 
 ghost use Rattle.std.specs.Prelude.{◌≡◌, ◌<◌, ◌≤◌, ◌^◌, ◌⊎◌, ◌++◌, [], true, length, take, drop, IfOk, OnOk, OnErr, IfSome, MatchOption};
 ghost use Rattle.byteorder.specs.Endian.{little_bytes};
-ghost use Rattle.sctp_model.specs.Packet.{size_of_packet};
+ghost use Rattle.sctp_model.specs.wire.Packet.{size_of_packet};
 ghost use Rattle.sctp_wire.specs.ChunkTree.{chunk_meaning};
 ghost use Rattle.sctp_wire.specs.Layouts.{Fits};
 ghost use Rattle.sctp_wire.specs.Writes.{written};
@@ -30,7 +30,7 @@ pub struct PacketWriter {
 
 impl Model for PacketWriter {
     ghost use Rattle.std.specs.Prelude.{drop};
-    ghost use Rattle.sctp_model.specs.Packet.{HEADER_ROOM};
+    ghost use Rattle.sctp_model.specs.wire.Packet.{HEADER_ROOM};
     ghost use Rattle.sctp_wire.specs.Reading.{chunks_of};
     ghost use Rattle.sctp_packet.specs.Draft.{Draft, bare, IsKept};
 

@@ -1,8 +1,8 @@
 -- Lists as words: what is put behind commas, and what is joined by them.
 use Rattle.std.proofs.Common.{◌≡◌, ℕ, zero, suc, ◌-◌, ◌<◌, ◌≤◌, Bool, true, false, cond, List, [], ◌∷◌, ◌++◌, length, Option, Some, None, unwrap_or, option_map, refl, append_assoc, arith}
 use Rattle.std.specs.List.{flat_map}
-use Rattle.sctp_model.specs.Chunk.{padded}
-use Rattle.sctp_model.specs.Typed.{Typed, length_field, starts_typed, typed_at, items_after, typed_of, typed_in}
+use Rattle.sctp_model.specs.wire.Chunk.{padded}
+use Rattle.sctp_model.specs.wire.Typed.{Typed, length_field, starts_typed, typed_at, items_after, typed_of, typed_in}
 use Rattle.sctp_print.specs.ChunkLines.{or_dash, each_behind_comma, joined}
 use Rattle.sctp_print.specs.Commas.{behind_comma}
 use Rattle.sctp_print.specs.declared.words.TheConstants.{COMMA}

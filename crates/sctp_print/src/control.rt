@@ -1,7 +1,7 @@
 //! The lines of chunks that open and close an association, or report, and of unknown ones.
 
 ghost use Rattle.std.specs.Prelude.{◌≡◌, ◌∷◌, [], ◌++◌, codes, decimal, OnOk, OnErr};
-ghost use Rattle.sctp_model.specs.Typed.{typed_in};
+ghost use Rattle.sctp_model.specs.wire.Typed.{typed_in};
 ghost use Rattle.sctp_text.specs.Numerals.{hex_word};
 ghost use Rattle.sctp_text.specs.SpacedWords.{line_of};
 ghost use Rattle.sctp_wire.specs.ChunkTree.{init_meaning};

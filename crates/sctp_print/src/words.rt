@@ -2,7 +2,7 @@
 
 ghost use Rattle.std.specs.Prelude.{◌≡◌, ◌∷◌, ◌++◌, length, decimal, IfOk, OnOk};
 ghost use Rattle.sctp_text.specs.Numerals.{hex_word};
-ghost use Rattle.sctp_model.specs.Typed.{typed_in};
+ghost use Rattle.sctp_model.specs.wire.Typed.{typed_in};
 ghost use Rattle.sctp_wire.specs.ChunkTree.{block_meaning, piece_meaning, skip_meaning};
 ghost use Rattle.sctp_print.specs.ChunkLines.{letter, flags_word, each_behind_comma, block_word, skip_word, kind_skip_word, kind_word};
 ghost use Rattle.sctp_print.specs.Commas.{behind_comma};

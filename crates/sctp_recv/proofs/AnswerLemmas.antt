@@ -4,15 +4,15 @@ use Rattle.std.specs.Prelude.{◌&&◌, ◌||◌, not}
 use Rattle.std.proofs.lemmas.Bool.{cases_Bool}
 use Rattle.std.proofs.lemmas.Bool.Decides.{nat_tests}
 use Rattle.std.proofs.lemmas.Grind.{common_steps}
-use Rattle.sctp_model.specs.Limits.{WINDOW}
-use Rattle.sctp_model.specs.Serial.{COUNTS, tsn, before, near}
-use Rattle.sctp_model.specs.Chunk.{PieceMeaning}
-use Rattle.sctp_model.specs.Format.{Format, Plain, Interleaved, Kind, Ordered, Unordered, is_numbered}
-use Rattle.sctp_model.specs.Framing.{lane_kind, number_near, as_number}
-use Rattle.sctp_model.specs.ReceiverView.{ReceiverView, held_bytes}
+use Rattle.sctp_model.specs.numbers.Limits.{WINDOW}
+use Rattle.sctp_model.specs.numbers.Serial.{COUNTS, tsn, before, near}
+use Rattle.sctp_model.specs.wire.Chunk.{PieceMeaning}
+use Rattle.sctp_model.specs.messages.Format.{Format, Plain, Interleaved, Kind, Ordered, Unordered, is_numbered}
+use Rattle.sctp_model.specs.messages.Framing.{lane_kind, number_near, as_number}
+use Rattle.sctp_model.specs.receiver.ReceiverView.{ReceiverView, held_bytes}
 use Rattle.sctp_model.specs.receiver.Rows.{first_of}
 use Rattle.sctp_model.specs.receiver.Reading.{index_at, is_behind, is_ahead, lane_of, is_late, lowest_in, reference_in, piece_at}
-use Rattle.sctp_model.specs.receiver.PieceTaken.{Answer, Duplicate, Ahead, NoSuchStream, Passed, NoRoom, Taken, is_repeated, is_passed, is_too_much}
+use Rattle.sctp_model.specs.receiver.PieceTaken.{PieceAnswer, Duplicate, Ahead, NoSuchStream, Passed, NoRoom, Kept, is_repeated, is_passed, is_too_much}
 use Rattle.sctp_recv.specs.Runs.{in_runs}
 use Rattle.sctp_recv.specs.SeenKept.{is_reached, AreWithin}
 use Rattle.sctp_chains.specs.Cells.{counted}
@@ -22,8 +22,8 @@ use Rattle.sctp_recv.specs.inner.Rows.{offset_from, IsAbove, IsNewIndex, answer_
 
 -- ---- the table, its tests told
 
-table : (behind seen far other passed much : Bool) → Answer
-table a b d e g h = first_of ((a || b, Duplicate) ∷ (d, Ahead) ∷ (e, NoSuchStream) ∷ (g, Passed) ∷ (h, NoRoom) ∷ []) Taken
+table : (behind seen far other passed much : Bool) → PieceAnswer
+table a b d e g h = first_of ((a || b, Duplicate) ∷ (d, Ahead) ∷ (e, NoSuchStream) ∷ (g, Passed) ∷ (h, NoRoom) ∷ []) Kept
 
 table_passed : (a b d e g h : Bool) → a ≡ false → b ≡ false → d ≡ false → e ≡ false → g ≡ true → table a b d e g h ≡ Passed
 unfolding table
@@ -33,7 +33,7 @@ table_room : (a b d e g h : Bool) → a ≡ false → b ≡ false → d ≡ fals
 unfolding table
 table_room a b d e g h i j k l m n = rw (i, j, k, l, m, n) refl
 
-table_taken : (a b d e g h : Bool) → a ≡ false → b ≡ false → d ≡ false → e ≡ false → g ≡ false → h ≡ false → table a b d e g h ≡ Taken
+table_taken : (a b d e g h : Bool) → a ≡ false → b ≡ false → d ≡ false → e ≡ false → g ≡ false → h ≡ false → table a b d e g h ≡ Kept
 unfolding table
 table_taken a b d e g h i j k l m n = rw (i, j, k, l, m, n) refl
 
@@ -95,7 +95,7 @@ module _ (f : Format) (k : ReceiverKept) (v : ReceiverView) (p : PieceMeaning) (
         pub row_room : is_passed f v (piece_at f v k.seen.cumulative p) ≡ false → k.buffer < k.held + length p.bytes → answer_at f k v p ≡ NoRoom
         row_room e large = reads ∙ table_room _ _ _ _ _ _ behind_not (seen_is false new) ahead_not there e (much_is true (grind (arith, nat_tests)))
 
-        pub row_taken : is_passed f v (piece_at f v k.seen.cumulative p) ≡ false → k.held + length p.bytes ≤ k.buffer → answer_at f k v p ≡ Taken
+        pub row_taken : is_passed f v (piece_at f v k.seen.cumulative p) ≡ false → k.held + length p.bytes ≤ k.buffer → answer_at f k v p ≡ Kept
         row_taken e fits = reads ∙ table_taken _ _ _ _ _ _ behind_not (seen_is false new) ahead_not there e (much_is false (grind (arith, nat_tests)))
 
   -- ---- whether it is passed

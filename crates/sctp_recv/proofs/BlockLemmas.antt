@@ -3,10 +3,10 @@ use Rattle.std.proofs.Common.{◌≡◌, ℕ, suc, ◌+◌, ◌-◌, ◌<◌, �
 use Rattle.std.proofs.lemmas.Bool.{cases_Bool, cases_lt}
 use Rattle.std.proofs.lemmas.Bool.Decides.{nat_tests}
 use Rattle.std.proofs.lemmas.Grind.{common_steps}
-use Rattle.sctp_model.specs.Lists.{Has}
-use Rattle.sctp_model.specs.Chunk.{BlockMeaning}
-use Rattle.sctp_model.specs.ReceiverView.{ReceiverView}
-use Rattle.sctp_model.specs.Acknowledgement.{IsRun}
+use Rattle.sctp_model.specs.numbers.Lists.{Has}
+use Rattle.sctp_model.specs.wire.Chunk.{BlockMeaning}
+use Rattle.sctp_model.specs.receiver.ReceiverView.{ReceiverView}
+use Rattle.sctp_model.specs.messages.Acknowledgement.{IsRun}
 use Rattle.sctp_model.specs.receiver.SackMade.{AreBlocksRising, AreAllRuns}
 use Rattle.sctp_recv.specs.declared.runs.Run.{Run}
 use Rattle.sctp_recv.specs.Runs.{in_run, in_runs, IsApart, AreRuns}

@@ -3,10 +3,10 @@ use Rattle.std.proofs.Common.{◌≡◌, ◌↔◌, ℕ, zero, suc, ◌+◌, ◌
 use Rattle.std.specs.Prelude.{not, ◌&&◌}
 use Rattle.std.proofs.lemmas.Bool.Decides.{nat_tests}
 use Rattle.std.proofs.lemmas.Grind.{common_steps}
-use Rattle.sctp_model.specs.Format.{Format, Lane, ordered_lane}
-use Rattle.sctp_model.specs.Pieces.{Piece, is_number_below}
-use Rattle.sctp_model.specs.ReceiverView.{Handed, ReceiverView}
-use Rattle.sctp_model.specs.Receiving.{IsWholeNumber, IsLowest, HasNoWhole, message_of, IsDue, Stop, Over, Past}
+use Rattle.sctp_model.specs.messages.Format.{Format, Lane, ordered_lane}
+use Rattle.sctp_model.specs.messages.Pieces.{Piece, is_number_below}
+use Rattle.sctp_model.specs.receiver.ReceiverView.{Handed, ReceiverView}
+use Rattle.sctp_model.specs.receiver.Receiving.{IsWholeNumber, IsLowest, HasNoWhole, message_of, IsDue, Stop, GivesWhole, Past}
 use Rattle.sctp_model.proofs.receiver.Filters.{filter_both, filter_where, filter_passed}
 use Rattle.sctp_model.proofs.receiver.OneStep.{filter_has}
 use Rattle.sctp_model.proofs.receiver.OfLane.{whole_of}
@@ -93,7 +93,7 @@ due_more f kept rest s from floor next n ms x xs so rests low high none whole lo
     more : (os : List Handed) (o : ℕ) → IsDue f r s (suc n) os o → IsDue f r s from ((ms ++ message_of f x xs ∷ []) ++ os) o
     more os o due =
         let here : IsDue f r s n (message_of f x xs ∷ os) o =
-        Over n o x xs os (to_view f kept rest s from floor next rests r v n (x ∷ xs) low whole)
+        GivesWhole n o x xs os (to_view f kept rest s from floor next rests r v n (x ∷ xs) low whole)
         (λ y ys other. lowest y ys (from_view f kept rest s from floor next rests r v n (y ∷ ys) low other)) due in
         let past = past_all f r s (n - next) next n o (message_of f x xs ∷ os) (omega (arith, low))
         (λ k lo hi. (v.skipped k (omega (arith, (so r v).0, lo)) (omega (arith, high, hi, lo)), none_view f kept rest s from floor next rests r v k lo (none k lo hi))) here in
@@ -116,5 +116,5 @@ due_end f kept rest s from floor next ms so rests none r v =
 -- what is due ends above the skipped numbers
 pub due_above : (f : Format) (r : ReceiverView) (s n : ℕ) (ms : List Handed) (m : ℕ) → IsDue f r s n ms m → (r.skip (ordered_lane s) ≤ m) × (n ≤ m)
 due_above f r s _ _ _ (Stop n above none) = (above, omega arith)
-due_above f r s _ _ _ (Over n m x xs ms whole low rest) = let more = due_above f r s (suc n) ms m rest in (more.0, omega (arith, more.1))
+due_above f r s _ _ _ (GivesWhole n m x xs ms whole low rest) = let more = due_above f r s (suc n) ms m rest in (more.0, omega (arith, more.1))
 due_above f r s _ _ _ (Past n m ms below none rest) = let more = due_above f r s (suc n) ms m rest in (more.0, omega (arith, more.1))

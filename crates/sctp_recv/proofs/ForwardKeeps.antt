@@ -3,13 +3,13 @@ use Rattle.std.proofs.Common.{◌≡◌, ℕ, zero, suc, ◌+◌, ◌<◌, ◌�
 use Rattle.std.specs.Prelude.{not, slice_get}
 use Rattle.std.proofs.lemmas.Bool.{cases_lt}
 use Rattle.std.proofs.lemmas.List.{length-map}
-use Rattle.sctp_model.specs.Lists.{Has}
-use Rattle.sctp_model.specs.Chunk.{ForwardMeaning}
-use Rattle.sctp_model.specs.Format.{Format, Lane, same_lane, ordered_lane, unordered_lane}
-use Rattle.sctp_model.specs.Framing.{lets_go}
-use Rattle.sctp_model.specs.Pieces.{Piece}
-use Rattle.sctp_model.specs.ReceiverView.{ReceiverView, held_bytes, size_of_pieces, size_of_waiting}
-use Rattle.sctp_model.specs.Receiving.{GivesAll}
+use Rattle.sctp_model.specs.numbers.Lists.{Has}
+use Rattle.sctp_model.specs.wire.Chunk.{ForwardMeaning}
+use Rattle.sctp_model.specs.messages.Format.{Format, Lane, same_lane, ordered_lane, unordered_lane}
+use Rattle.sctp_model.specs.messages.Framing.{lets_go}
+use Rattle.sctp_model.specs.messages.Pieces.{Piece}
+use Rattle.sctp_model.specs.receiver.ReceiverView.{ReceiverView, held_bytes, size_of_pieces, size_of_waiting}
+use Rattle.sctp_model.specs.receiver.Receiving.{GivesAll}
 use Rattle.sctp_model.specs.receiver.Reading.{index_at}
 use Rattle.sctp_model.specs.receiver.ForwardTaken.{names_other_stream, skips_read, jumped, forwarded}
 use Rattle.sctp_model.specs.receiver.ForwardTaken as model

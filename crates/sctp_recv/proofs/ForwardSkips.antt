@@ -3,11 +3,11 @@ use Rattle.std.proofs.Common.{◌≡◌, ℕ, suc, ◌<◌, ◌≤◌, ◌⊎◌
 use Rattle.std.specs.Prelude.{if◌then◌else◌}
 use Rattle.std.proofs.lemmas.Bool.{cases_Bool}
 use Rattle.std.proofs.lemmas.Bool.Decides.{nat_tests}
-use Rattle.sctp_model.specs.Chunk.{SkipMeaning}
-use Rattle.sctp_model.specs.Format.{Format, Lane, same_lane, at_lane, ordered_lane, unordered_lane}
-use Rattle.sctp_model.specs.Framing.{number_near}
-use Rattle.sctp_model.specs.Forward.{Skip, skipped}
-use Rattle.sctp_model.specs.ReceiverView.{ReceiverView}
+use Rattle.sctp_model.specs.wire.Chunk.{SkipMeaning}
+use Rattle.sctp_model.specs.messages.Format.{Format, Lane, same_lane, at_lane, ordered_lane, unordered_lane}
+use Rattle.sctp_model.specs.messages.Framing.{number_near}
+use Rattle.sctp_model.specs.messages.Forward.{Skip, skipped}
+use Rattle.sctp_model.specs.receiver.ReceiverView.{ReceiverView}
 use Rattle.sctp_model.specs.receiver.Reading.{lane_of, reference_in, lowest_in, number_in, is_late}
 use Rattle.sctp_model.specs.receiver.ForwardTaken.{with_skip, skips_read}
 use Rattle.sctp_model.proofs.receiver.RowFacts.{lanes_same}

@@ -3,12 +3,12 @@ use Rattle.std.proofs.Common.{◌≡◌, ℕ, suc, ◌<◌, ◌≤◌, ◌⊎◌
 use Rattle.std.specs.Prelude.{not}
 use Rattle.std.specs.VecDeque.{deque_len, deque_capacity}
 use Rattle.std.proofs.lemmas.Bool.{cases_lt, cases_eq}
-use Rattle.sctp_model.specs.Lists.{Has}
-use Rattle.sctp_model.specs.Format.{Format, Plain, Interleaved, Ordered, Lane, is_numbered, ordered_lane}
-use Rattle.sctp_model.specs.Pieces.{Piece, is_number_below}
-use Rattle.sctp_model.specs.ReceiverView.{Handed, size_of_messages}
-use Rattle.sctp_model.specs.Receiving.{IsWholeNumber, HasNoWhole}
-use Rattle.sctp_model.specs.Serial.{COUNTS}
+use Rattle.sctp_model.specs.numbers.Lists.{Has}
+use Rattle.sctp_model.specs.messages.Format.{Format, Plain, Interleaved, Ordered, Lane, is_numbered, ordered_lane}
+use Rattle.sctp_model.specs.messages.Pieces.{Piece, is_number_below}
+use Rattle.sctp_model.specs.receiver.ReceiverView.{Handed, size_of_messages}
+use Rattle.sctp_model.specs.receiver.Receiving.{IsWholeNumber, HasNoWhole}
+use Rattle.sctp_model.specs.numbers.Serial.{COUNTS}
 use Rattle.sctp_model.proofs.receiver.Giving.{none_fewer}
 use Rattle.sctp_model.proofs.receiver.OneStep.{filter_has}
 use Rattle.sctp_model.proofs.receiver.RowFacts.{row_same}

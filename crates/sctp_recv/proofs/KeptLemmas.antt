@@ -1,12 +1,12 @@
 -- What a receiver keeps once a chunk was kept, with some of the chunks gone and one stream changed; and the bytes held.
 use Rattle.std.proofs.Common.{◌≡◌, ℕ, suc, ◌+◌, ◌-◌, ◌^◌, ◌<◌, ◌≤◌, Bool, true, List, ◌∷◌, ◌++◌, length, set, filter, Some, inl, inr, sym, ◌∙◌, ap, arith}
-use Rattle.sctp_model.specs.Serial.{COUNTS}
-use Rattle.sctp_model.specs.Lists.{Has, at}
-use Rattle.sctp_model.specs.Format.{Format, ordered_lane}
-use Rattle.sctp_model.specs.Pieces.{Piece}
-use Rattle.sctp_model.specs.ReceiverView.{Handed, ReceiverView, size_of_pieces, size_of_messages, size_of_waiting}
-use Rattle.sctp_model.specs.Receiving.{recorded}
-use Rattle.sctp_model.specs.receiver.Laws.{IsApart}
+use Rattle.sctp_model.specs.numbers.Serial.{COUNTS}
+use Rattle.sctp_model.specs.numbers.Lists.{Has, at}
+use Rattle.sctp_model.specs.messages.Format.{Format, ordered_lane}
+use Rattle.sctp_model.specs.messages.Pieces.{Piece}
+use Rattle.sctp_model.specs.receiver.ReceiverView.{Handed, ReceiverView, size_of_pieces, size_of_messages, size_of_waiting}
+use Rattle.sctp_model.specs.receiver.Receiving.{recorded}
+use Rattle.sctp_model.specs.receiver.Laws.{IsFilledOnce}
 use Rattle.sctp_model.proofs.receiver.OneStep.{filter_has, filter_apart, kept_apart}
 use Rattle.sctp_recv.specs.SeenKept.{SeenKept}
 use Rattle.sctp_recv.specs.ReceiverKept.{StreamKept, ReceiverKept, stream_at}
@@ -30,7 +30,7 @@ held_counted was before after given old new more all changed part within less fi
     omega (arith, is, first, g, changed, part, within, less, fits, small)
 
 module _ (f : Format) (k : ReceiverKept) (v : ReceiverView) (x : Piece) (seen : SeenKept) (h : IsKeepable f k v x seen) where
-  pub all_apart : IsApart f (x ∷ v.kept)
+  pub all_apart : IsFilledOnce f (x ∷ v.kept)
   all_apart = kept_apart f v x (record { apart = h.keeps.apart; recorded = h.keeps.recorded }) h.unseen h.wanted
 
   pub all_recorded : (y : Piece) → Has (x ∷ v.kept) y → at v.seen x.index true y.index ≡ true

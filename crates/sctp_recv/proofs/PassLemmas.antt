@@ -3,13 +3,13 @@ use Rattle.std.proofs.Common.{◌≡◌, ℕ, suc, ◌+◌, ◌-◌, ◌^◌, �
 use Rattle.std.specs.Prelude.{not, slice_get}
 use Rattle.std.proofs.lemmas.Bool.{cases_eq}
 use Rattle.std.proofs.lemmas.Option.{slice_get_within}
-use Rattle.sctp_model.specs.Lists.{Has, at}
-use Rattle.sctp_model.specs.Chunk.{SkipMeaning}
-use Rattle.sctp_model.specs.Format.{Format, Ordered, Unordered, Lane, ordered_lane, unordered_lane}
-use Rattle.sctp_model.specs.Framing.{lets_go}
-use Rattle.sctp_model.specs.Pieces.{Piece}
-use Rattle.sctp_model.specs.ReceiverView.{Handed, ReceiverView, size_of_pieces, size_of_messages, size_of_waiting}
-use Rattle.sctp_model.specs.Receiving.{IsDue, is_below, without_below, handed_ordered, GivesAll}
+use Rattle.sctp_model.specs.numbers.Lists.{Has, at}
+use Rattle.sctp_model.specs.wire.Chunk.{SkipMeaning}
+use Rattle.sctp_model.specs.messages.Format.{Format, Ordered, Unordered, Lane, ordered_lane, unordered_lane}
+use Rattle.sctp_model.specs.messages.Framing.{lets_go}
+use Rattle.sctp_model.specs.messages.Pieces.{Piece}
+use Rattle.sctp_model.specs.receiver.ReceiverView.{Handed, ReceiverView, size_of_pieces, size_of_messages, size_of_waiting}
+use Rattle.sctp_model.specs.receiver.Receiving.{IsDue, is_below, without_below, handed_ordered, GivesAll}
 use Rattle.sctp_model.proofs.receiver.Giving.{at_here, at_elsewhere}
 use Rattle.sctp_model.proofs.receiver.HeldBytes.{filter_size}
 use Rattle.sctp_model.proofs.receiver.OfLane.{of_below, of_below_other, off_below, size_of_lane}

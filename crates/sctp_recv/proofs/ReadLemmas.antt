@@ -3,13 +3,13 @@ use Rattle.std.proofs.Common.{◌≡◌, ℕ, ◌+◌, ◌<◌, ◌≤◌, Bool,
 use Rattle.std.specs.Prelude.{◌||◌, ◌&&◌}
 use Rattle.std.proofs.lemmas.List.{length-map}
 use Rattle.std.proofs.lemmas.Option.{slice_get_read}
-use Rattle.sctp_model.specs.Limits.{WINDOW}
-use Rattle.sctp_model.specs.Serial.{COUNTS}
-use Rattle.sctp_model.specs.Chunk.{PieceMeaning}
-use Rattle.sctp_model.specs.Format.{Format, Lane, is_numbered}
-use Rattle.sctp_model.specs.Framing.{lane_kind, number_near}
-use Rattle.sctp_model.specs.Pieces.{Piece}
-use Rattle.sctp_model.specs.ReceiverView.{ReceiverView}
+use Rattle.sctp_model.specs.numbers.Limits.{WINDOW}
+use Rattle.sctp_model.specs.numbers.Serial.{COUNTS}
+use Rattle.sctp_model.specs.wire.Chunk.{PieceMeaning}
+use Rattle.sctp_model.specs.messages.Format.{Format, Lane, is_numbered}
+use Rattle.sctp_model.specs.messages.Framing.{lane_kind, number_near}
+use Rattle.sctp_model.specs.messages.Pieces.{Piece}
+use Rattle.sctp_model.specs.receiver.ReceiverView.{ReceiverView}
 use Rattle.sctp_model.specs.receiver.Reading.{lane_of, piece_at}
 use Rattle.sctp_model.specs.receiver.PieceTaken.{is_passed, is_repeated}
 use Rattle.sctp_chains.specs.Cells.{IsOf, counted}

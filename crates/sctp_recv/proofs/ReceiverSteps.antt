@@ -2,9 +2,9 @@
 use Rattle.std.proofs.Common.{◌≡◌, ℕ, suc, ◌+◌, ◌-◌, ◌^◌, ◌<◌, true, false, ◌==◌, List, [], ◌∷◌, ◌++◌, length, set, replicate, inl, inr, refl, sym, ◌∙◌, ap, arith}
 use Rattle.std.proofs.lemmas.Bool.{cases_Bool}
 use Rattle.std.proofs.lemmas.Bool.Decides.{nat_tests}
-use Rattle.sctp_model.specs.Lists.{at}
-use Rattle.sctp_model.specs.Format.{Format}
-use Rattle.sctp_model.specs.ReceiverView.{Handed, ReceiverView, IsCumulative, fresh_receiver, size_of_messages}
+use Rattle.sctp_model.specs.numbers.Lists.{at}
+use Rattle.sctp_model.specs.messages.Format.{Format}
+use Rattle.sctp_model.specs.receiver.ReceiverView.{Handed, ReceiverView, IsCumulative, fresh_receiver, size_of_messages}
 use Rattle.sctp_recv.specs.SeenKept.{SeenKept}
 use Rattle.sctp_recv.specs.SeenStands.{SeenStands}
 use Rattle.sctp_recv.specs.ReceiverKept.{StreamKept, ReceiverKept, FRESH, stream_at}

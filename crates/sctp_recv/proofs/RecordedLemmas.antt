@@ -2,15 +2,15 @@
 use Rattle.std.proofs.Common.{◌≡◌, ℕ, zero, suc, ◌+◌, ◌<◌, ◌≤◌, ◌⊎◌, Bool, true, false, ◌==◌, take, List, [], ◌∷◌, ◌++◌, length, Some, inl, inr, refl, sym, ◌∙◌, ap, subst, arith}
 use Rattle.std.proofs.lemmas.Bool.{cases_Bool}
 use Rattle.std.proofs.lemmas.Bool.Decides.{nat_tests}
-use Rattle.sctp_model.specs.Limits.{WINDOW, DUPLICATE_LIMIT}
-use Rattle.sctp_model.specs.Serial.{COUNTS}
-use Rattle.sctp_model.specs.Lists.{at}
-use Rattle.sctp_model.specs.Format.{Format}
-use Rattle.sctp_model.specs.Pieces.{Piece}
-use Rattle.sctp_model.specs.ReceiverView.{ReceiverView}
-use Rattle.sctp_model.specs.Receiving.{recorded}
+use Rattle.sctp_model.specs.numbers.Limits.{WINDOW, DUPLICATE_LIMIT}
+use Rattle.sctp_model.specs.numbers.Serial.{COUNTS}
+use Rattle.sctp_model.specs.numbers.Lists.{at}
+use Rattle.sctp_model.specs.messages.Format.{Format}
+use Rattle.sctp_model.specs.messages.Pieces.{Piece}
+use Rattle.sctp_model.specs.receiver.ReceiverView.{ReceiverView}
+use Rattle.sctp_model.specs.receiver.Receiving.{recorded}
 use Rattle.sctp_model.specs.receiver.Reading.{piece_at}
-use Rattle.sctp_model.specs.Chunk.{PieceMeaning}
+use Rattle.sctp_model.specs.wire.Chunk.{PieceMeaning}
 use Rattle.sctp_model.specs.receiver.PieceTaken.{is_passed, noted}
 use Rattle.sctp_recv.specs.SeenKept.{SeenKept, is_reached}
 use Rattle.sctp_recv.specs.ReceiverKept.{StreamKept, ReceiverKept}

@@ -4,7 +4,7 @@ use Rattle.std.specs.Prelude.{◌&&◌, ◌||◌}
 use Rattle.std.proofs.lemmas.Bool.{cases_lt}
 use Rattle.std.proofs.lemmas.Bool.Decides.{nat_tests}
 use Rattle.std.proofs.lemmas.Grind.{common_steps}
-use Rattle.sctp_model.specs.Lists.{Has, AreInOrder}
+use Rattle.sctp_model.specs.numbers.Lists.{Has, AreInOrder}
 use Rattle.sctp_recv.specs.declared.runs.Run.{Run}
 use Rattle.sctp_recv.specs.Runs.{in_run, in_runs, IsApart, AreRuns, lies_below, begins_by, IsPlace, HaveMore}
 use Rattle.sctp_recv.proofs.ListOrder.{has_left, has_right, has_side, order_left, order_right, order_across, order_join}

@@ -4,7 +4,7 @@ use Rattle.std.specs.Prelude.{◌||◌, if◌then◌else◌, Result, Ok, Err, On
 use Rattle.std.proofs.lemmas.Bool.{cases_Bool, cases_lt, or_parts, leb-false}
 use Rattle.std.proofs.lemmas.Bool.Decides.{nat_tests}
 use Rattle.std.proofs.lemmas.Grind.{common_steps}
-use Rattle.sctp_model.specs.Limits.{WINDOW}
+use Rattle.sctp_model.specs.numbers.Limits.{WINDOW}
 use Rattle.sctp_recv.specs.declared.runs.Run.{Run}
 use Rattle.sctp_recv.specs.Runs.{in_runs, HaveMore, Gain}
 use Rattle.sctp_recv.specs.SeenKept.{seen_of, is_reached, IsKept}

@@ -3,8 +3,8 @@ use Rattle.std.proofs.Common.{◌≡◌, ℕ, zero, suc, ◌+◌, ◌<◌, ◌�
 use Rattle.std.specs.Prelude.{slice_get}
 use Rattle.std.proofs.lemmas.Bool.{cases_Bool}
 use Rattle.std.proofs.lemmas.Bool.Decides.{nat_tests}
-use Rattle.sctp_model.specs.Lists.{at}
-use Rattle.sctp_model.specs.ReceiverView.{Handed, size_of_messages, size_of_waiting}
+use Rattle.sctp_model.specs.numbers.Lists.{at}
+use Rattle.sctp_model.specs.receiver.ReceiverView.{Handed, size_of_messages, size_of_waiting}
 use Rattle.sctp_recv.specs.ReceiverKept.{StreamKept, FRESH, stream_at}
 use Rattle.sctp_recv.specs.Fields.{stream_of}
 use Rattle.sctp_recv.specs.declared.inbound.Inbound.{Inbound}

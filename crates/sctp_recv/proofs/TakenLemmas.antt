@@ -4,11 +4,11 @@ use Rattle.std.specs.Prelude.{not, slice_get}
 use Rattle.std.proofs.lemmas.Bool.{cases_Bool}
 use Rattle.std.proofs.lemmas.Bool.Decides.{nat_tests}
 use Rattle.std.proofs.lemmas.List.{length-map}
-use Rattle.sctp_model.specs.Lists.{Has, at}
-use Rattle.sctp_model.specs.Format.{Format, Kind, Ordered, Unordered, Lane, ordered_lane, unordered_lane}
-use Rattle.sctp_model.specs.Pieces.{Piece}
-use Rattle.sctp_model.specs.ReceiverView.{Handed, ReceiverView, size_of_pieces, size_of_messages, size_of_waiting}
-use Rattle.sctp_model.specs.Receiving.{IsDue, is_below, without_below, handed_ordered, without_message, goes_with, handed_unordered, IsWholeWith, message_of, GivesOrdered, GivesUnordered, Gives, Takes}
+use Rattle.sctp_model.specs.numbers.Lists.{Has, at}
+use Rattle.sctp_model.specs.messages.Format.{Format, Kind, Ordered, Unordered, Lane, ordered_lane, unordered_lane}
+use Rattle.sctp_model.specs.messages.Pieces.{Piece}
+use Rattle.sctp_model.specs.receiver.ReceiverView.{Handed, ReceiverView, size_of_pieces, size_of_messages, size_of_waiting}
+use Rattle.sctp_model.specs.receiver.Receiving.{IsDue, is_below, without_below, handed_ordered, without_message, goes_with, handed_unordered, IsWholeWith, message_of, GivesOrdered, GivesUnordered, Gives, TakesPiece}
 use Rattle.sctp_model.specs.receiver.Reading.{lane_of}
 use Rattle.sctp_model.proofs.receiver.OfLane.{of_more, of_other, of_below, of_below_other, with_of, without_of, without_other}
 use Rattle.sctp_model.proofs.receiver.OneStep.{filter_has}
@@ -223,11 +223,11 @@ module _ (f : Format) (k : ReceiverKept) (v : ReceiverView) (x : Piece) (seen : 
     -- by its kind
     pub keeps_taken_in : (unordered : Bool) (given held after : ℕ) → x.lane ≡ lane_of s unordered → GivesBy unordered f s x (of_lane (lane_of s unordered) v.kept) old new given →
         ((kept : List Piece) → IsFiledOn f kept s new → after ≡ sized (stream_size kept s)) → held ≡ sized (sized (k.held - sized (stream_size v.kept s) + after) + given) →
-        (t : ReceiverView) × Takes f v x t × (KeepsView f (record k { seen = seen; streams = set k.streams s (stream_of new); held = held }) t × AreFiled f t.kept (set streams s new))
+        (t : ReceiverView) × TakesPiece f v x t × (KeepsView f (record k { seen = seen; streams = set k.streams s (stream_of new); held = held }) t × AreFiled f t.kept (set streams s new))
     keeps_taken_in true given held after is g afters counts = finish g.gives
       where
         finish : GivesWhole f s x (of_lane (unordered_lane s) v.kept) old new given ⊎ GivesNone f s x (of_lane (unordered_lane s) v.kept) old new given →
-            (t : ReceiverView) × Takes f v x t × (KeepsView f (record k { seen = seen; streams = set k.streams s (stream_of new); held = held }) t × AreFiled f t.kept (set streams s new))
+            (t : ReceiverView) × TakesPiece f v x t × (KeepsView f (record k { seen = seen; streams = set k.streams s (stream_of new); held = held }) t × AreFiled f t.kept (set streams s new))
         finish (inl whole) =
             let m = keeps_whole given held after is afters counts g.others whole in
             (m.0, subst (λ (c : Kind). Gives f c x (with_chunk v x) m.0) (ap (λ (l : Lane). l.kind) (sym is)) m.1, m.2)

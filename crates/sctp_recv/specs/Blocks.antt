@@ -1,6 +1,6 @@
 -- The gap blocks of runs (RFC 9260, 3.3.4).
 use Rattle.std.specs.Prelude.{ℕ, ◌-◌}
-use Rattle.sctp_model.specs.Chunk.{BlockMeaning}
+use Rattle.sctp_model.specs.wire.Chunk.{BlockMeaning}
 use Rattle.sctp_recv.specs.declared.runs.Run.{Run}
 
 -- a run, as offsets from the cumulative index

@@ -1,8 +1,8 @@
 -- Where the chunks kept are: each in its stream and kind.
 use Rattle.std.specs.Prelude.{◌≡◌, ℕ, ◌<◌, List, length, slice_get, Some}
-use Rattle.sctp_model.specs.Lists.{Has}
-use Rattle.sctp_model.specs.Format.{Format, ordered_lane, unordered_lane}
-use Rattle.sctp_model.specs.Pieces.{Piece}
+use Rattle.sctp_model.specs.numbers.Lists.{Has}
+use Rattle.sctp_model.specs.messages.Format.{Format, ordered_lane, unordered_lane}
+use Rattle.sctp_model.specs.messages.Pieces.{Piece}
 use Rattle.sctp_model.specs.receiver.KeptOfLane.{of_lane}
 use Rattle.sctp_chains.specs.StandsFor as lane
 use Rattle.sctp_recv.specs.declared.inbound.Inbound.{Inbound}

@@ -1,6 +1,6 @@
 -- What a message that was handed over says.
 use Rattle.std.specs.Prelude.{ℕ, not, List}
-use Rattle.sctp_model.specs.ReceiverView.{Handed}
+use Rattle.sctp_model.specs.receiver.ReceiverView.{Handed}
 use Rattle.sctp_model.specs.receiver.Reading.{lane_of}
 use Rattle.sctp_recv.specs.Parts.{text_of_parts}
 use Rattle.sctp_recv.specs.declared.message.Message.{Message}

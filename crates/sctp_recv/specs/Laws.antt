@@ -1,13 +1,13 @@
 -- What the laws of the receiver's steps say.
 use Rattle.std.specs.Prelude.{◌≡◌, ℕ, List}
-use Rattle.sctp_model.specs.Format.{Format}
-use Rattle.sctp_model.specs.Chunk.{PieceMeaning, ForwardMeaning}
-use Rattle.sctp_model.specs.ReceiverView.{Handed, ReceiverView, IsCumulative}
-use Rattle.sctp_model.specs.Receiving.{IsDue, GivesAll}
+use Rattle.sctp_model.specs.messages.Format.{Format}
+use Rattle.sctp_model.specs.wire.Chunk.{PieceMeaning, ForwardMeaning}
+use Rattle.sctp_model.specs.receiver.ReceiverView.{Handed, ReceiverView, IsCumulative}
+use Rattle.sctp_model.specs.receiver.Receiving.{IsDue, GivesAll}
 use Rattle.sctp_model.specs.receiver.DueInWords.{IsDueInWords}
-use Rattle.sctp_model.specs.receiver.PieceTaken.{Answer, PieceTaken}
+use Rattle.sctp_model.specs.receiver.PieceTaken.{PieceAnswer, PieceTaken}
 use Rattle.sctp_model.specs.receiver.ForwardTaken.{ForwardAnswer, ForwardTaken}
-use Rattle.sctp_model.specs.receiver.Laws.{IsApart, IsOrdinary, IsIdle, IsSettled}
+use Rattle.sctp_model.specs.receiver.Laws.{IsFilledOnce, IsOrdinary, IsIdle, IsSettled}
 
 -- a view has one cumulative index
 abbrev pub CumulativeIsOne : Type 0
@@ -15,17 +15,17 @@ CumulativeIsOne = (r : ReceiverView) (c d : ℕ) → IsCumulative r c → IsCumu
 
 -- a chunk taken has one answer and leaves one view
 abbrev pub PieceIsOne : Type 0
-PieceIsOne = (f : Format) (r : ReceiverView) (p : PieceMeaning) (a b : Answer) (t u : ReceiverView) → IsOrdinary f r →
+PieceIsOne = (f : Format) (r : ReceiverView) (p : PieceMeaning) (a b : PieceAnswer) (t u : ReceiverView) → IsOrdinary f r →
     PieceTaken f r p a t → PieceTaken f r p b u → (a ≡ b) × (t ≡ u)
 
 -- a FORWARD taken has one answer and leaves one view
 abbrev pub ForwardIsOne : Type 0
-ForwardIsOne = (f : Format) (r : ReceiverView) (x : ForwardMeaning) (a b : ForwardAnswer) (t u : ReceiverView) → IsApart f r.kept →
+ForwardIsOne = (f : Format) (r : ReceiverView) (x : ForwardMeaning) (a b : ForwardAnswer) (t u : ReceiverView) → IsFilledOnce f r.kept →
     ForwardTaken f r x a t → ForwardTaken f r x b u → (a ≡ b) × (t ≡ u)
 
 -- what the walk hands over is what the words say
 abbrev pub DueIsInWords : Type 0
-DueIsInWords = (f : Format) (r : ReceiverView) (s n : ℕ) (ms : List Handed) (m : ℕ) → IsApart f r.kept → IsDue f r s n ms m → IsDueInWords f r s n ms m
+DueIsInWords = (f : Format) (r : ReceiverView) (s n : ℕ) (ms : List Handed) (m : ℕ) → IsFilledOnce f r.kept → IsDue f r s n ms m → IsDueInWords f r s n ms m
 
 -- the words say it of one list and one number, whatever is kept
 abbrev pub WordsAreOne : Type 0
@@ -33,4 +33,4 @@ WordsAreOne = (f : Format) (r : ReceiverView) (s n : ℕ) (ms os : List Handed) 
 
 -- where nothing is due, and no ordered chunk lies behind, giving changes nothing
 abbrev pub NothingIsGiven : Type 0
-NothingIsGiven = (f : Format) (n : ℕ) (r t : ReceiverView) → IsApart f r.kept → IsIdle f r → IsSettled r → GivesAll f n r t → t ≡ r
+NothingIsGiven = (f : Format) (n : ℕ) (r t : ReceiverView) → IsFilledOnce f r.kept → IsIdle f r → IsSettled r → GivesAll f n r t → t ≡ r

@@ -2,7 +2,7 @@
 use Rattle.std.specs.Prelude.{ℕ, List, map}
 use Rattle.std.specs.declared.vec.Vec.{Vec}
 use Rattle.std.specs.declared.alloc.Global.{Global}
-use Rattle.sctp_model.specs.Lists.{joined}
+use Rattle.sctp_model.specs.numbers.Lists.{joined}
 
 -- the data of one fragment
 abbrev pub bytes_of : Vec ℕ Global → List ℕ

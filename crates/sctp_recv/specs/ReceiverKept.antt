@@ -1,6 +1,6 @@
 -- What contracts see of a receiver: what it keeps, without where it lies in memory.
 use Rattle.std.specs.Prelude.{ℕ, Bool, true, false, nat_lt, Option, None, Some, List, [], slice_index_or}
-use Rattle.sctp_model.specs.ReceiverView.{Handed}
+use Rattle.sctp_model.specs.receiver.ReceiverView.{Handed}
 use Rattle.sctp_recv.specs.SeenKept.{SeenKept}
 
 -- Of one stream, the next ordered number, the lowest unordered one that isn't skipped, and the messages that wait.

@@ -1,7 +1,7 @@
 -- Runs of indexes, each told by its first and its last.
 use Rattle.std.specs.Prelude.{◌≡◌, ℕ, suc, ◌-◌, ◌<◌, ◌≤◌, Bool, true, false, ◌&&◌, ◌||◌, nat_lt, nat_le, ◌==◌, List, take, drop}
 use Rattle.std.specs.List.{list_any}
-use Rattle.sctp_model.specs.Lists.{Has, AreInOrder}
+use Rattle.sctp_model.specs.numbers.Lists.{Has, AreInOrder}
 use Rattle.sctp_recv.specs.declared.runs.Run.{Run}
 
 -- ---- what runs hold

@@ -1,5 +1,5 @@
 -- What a SACK's own lists say.
-use Rattle.sctp_model.specs.Chunk.{SackMeaning}
+use Rattle.sctp_model.specs.wire.Chunk.{SackMeaning}
 use Rattle.sctp_wire.specs.Items.{blocks_in, words_in}
 use Rattle.sctp_recv.specs.declared.sack.SackLists.{SackLists}
 

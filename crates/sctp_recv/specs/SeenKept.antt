@@ -1,6 +1,6 @@
 -- The indexes that came, as they are kept.
 use Rattle.std.specs.Prelude.{◌≡◌, ℕ, ◌+◌, ◌≤◌, Bool, true, ◌||◌, nat_lt, nat_le, List}
-use Rattle.sctp_model.specs.Limits.{WINDOW}
+use Rattle.sctp_model.specs.numbers.Limits.{WINDOW}
 use Rattle.sctp_recv.specs.declared.runs.Run.{Run}
 use Rattle.sctp_recv.specs.Runs.{in_runs, AreRuns}
 

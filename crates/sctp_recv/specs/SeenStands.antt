@@ -1,6 +1,6 @@
 -- What a view's recorded indexes, and its largest FORWARD index, have to do with what is kept of them (RFC 9260, 6.2; RFC 3758, 3.6).
 use Rattle.std.specs.Prelude.{◌≡◌, ℕ, ◌<◌, ◌≤◌, ◌⊎◌, max, Bool, true}
-use Rattle.sctp_model.specs.Lists.{at}
+use Rattle.sctp_model.specs.numbers.Lists.{at}
 use Rattle.sctp_recv.specs.Runs.{in_runs, AreRuns}
 use Rattle.sctp_recv.specs.SeenKept.{SeenKept}
 

@@ -1,12 +1,12 @@
 -- Which receiver stands for which view.
 use Rattle.std.specs.Prelude.{◌≡◌, ℕ, suc, ◌^◌, ◌<◌, ◌≤◌, true, Some, length}
-use Rattle.sctp_model.specs.Lists.{Has}
-use Rattle.sctp_model.specs.Serial.{COUNTS}
-use Rattle.sctp_model.specs.Limits.{DUPLICATE_LIMIT}
-use Rattle.sctp_model.specs.Format.{Format, ordered_lane, unordered_lane}
-use Rattle.sctp_model.specs.Pieces.{Piece}
-use Rattle.sctp_model.specs.ReceiverView.{ReceiverView, held_bytes}
-use Rattle.sctp_model.specs.receiver.Laws.{IsApart}
+use Rattle.sctp_model.specs.numbers.Lists.{Has}
+use Rattle.sctp_model.specs.numbers.Serial.{COUNTS}
+use Rattle.sctp_model.specs.numbers.Limits.{DUPLICATE_LIMIT}
+use Rattle.sctp_model.specs.messages.Format.{Format, ordered_lane, unordered_lane}
+use Rattle.sctp_model.specs.messages.Pieces.{Piece}
+use Rattle.sctp_model.specs.receiver.ReceiverView.{ReceiverView, held_bytes}
+use Rattle.sctp_model.specs.receiver.Laws.{IsFilledOnce}
 use Rattle.sctp_recv.specs.ReceiverKept.{ReceiverKept, stream_at}
 use Rattle.sctp_recv.specs.SeenStands.{SeenStands}
 use Rattle.sctp_recv.specs.KeptOf.{kept_of}
@@ -19,7 +19,7 @@ use Rattle.sctp_recv.specs.declared.receiver.Receiver.{Receiver}
 pub record KeepsView (f : Format) (k : ReceiverKept) (v : ReceiverView) : Type 0 where
   pub seen : SeenStands k.seen v.seen v.jump
   pub counts : (i : ℕ) → v.seen i ≡ true → suc i < COUNTS
-  pub apart : IsApart f v.kept
+  pub apart : IsFilledOnce f v.kept
   pub recorded : (x : Piece) → Has v.kept x → v.seen x.index ≡ true
   pub numbers : (x : Piece) (n : ℕ) → Has v.kept x → x.number ≡ Some n → suc n < COUNTS
   pub next : (s : ℕ) → v.next s ≡ (stream_at k.streams s).next

@@ -2,12 +2,12 @@
 //! (RFC 3758, 3.6; RFC 8260, 2.3).
 
 ghost use Rattle.std.specs.Prelude.{◌≡◌, ℕ, ◌<◌, ◌^◌, false, map, length, IfOk, OnOk, OnErr};
-ghost use Rattle.sctp_model.specs.ReceiverView.{ReceiverView, IsCumulative};
-ghost use Rattle.sctp_model.specs.Receiving.{GivesAll};
+ghost use Rattle.sctp_model.specs.receiver.ReceiverView.{ReceiverView, IsCumulative};
+ghost use Rattle.sctp_model.specs.receiver.Receiving.{GivesAll};
 ghost use Rattle.sctp_model.specs.receiver.Reading.{lane_of};
 ghost use Rattle.sctp_model.specs.receiver.ForwardTaken.{Moved, ForwardTaken, forward_answer, forwarded, names_other_stream};
-ghost use Rattle.sctp_model.specs.Chunk.{ForwardMeaning};
-ghost use Rattle.sctp_model.specs.Format.{same_lane, ordered_lane, unordered_lane};
+ghost use Rattle.sctp_model.specs.wire.Chunk.{ForwardMeaning};
+ghost use Rattle.sctp_model.specs.messages.Format.{same_lane, ordered_lane, unordered_lane};
 ghost use Rattle.sctp_wire.specs.ChunkTree.{skip_meaning, forward_meaning};
 ghost use Rattle.sctp_chains.specs.Cells.{Kept};
 ghost use Rattle.sctp_chains.specs.StandsFor as lane;

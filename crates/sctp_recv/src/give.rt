@@ -2,7 +2,7 @@
 
 ghost use Rattle.std.specs.Prelude.{◌≡◌, ◌⊎◌, ◌^◌, ◌<◌, true, ◌++◌, [], ◌∷◌, ◌≤◌, ℕ, suc, Some, map, length, OnOk, OnErr, IfOk};
 ghost use Rattle.std.specs.VecDeque.{deque_len, deque_capacity};
-ghost use Rattle.sctp_model.specs.Format.{Lane, is_numbered, ordered_lane, unordered_lane};
+ghost use Rattle.sctp_model.specs.messages.Format.{Lane, is_numbered, ordered_lane, unordered_lane};
 ghost use Rattle.sctp_model.specs.receiver.Reading.{lane_of};
 ghost use Rattle.sctp_wire.specs.ChunkTree.{piece_meaning};
 ghost use Rattle.sctp_chains.specs.Cells.{Kept};

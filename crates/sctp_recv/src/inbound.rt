@@ -1,9 +1,9 @@
 //! What a receiver knows of one stream.
 
 ghost use Rattle.std.specs.Prelude.{◌≡◌, ℕ, ◌+◌, [], ◌∷◌, ◌&&◌, map, replicate, IfOk, MatchOption};
-ghost use Rattle.sctp_model.specs.Format.{Lane, is_numbered};
-ghost use Rattle.sctp_model.specs.Framing.{lane_kind, number_near};
-ghost use Rattle.sctp_model.specs.ReceiverView.{size_of_pieces};
+ghost use Rattle.sctp_model.specs.messages.Format.{Lane, is_numbered};
+ghost use Rattle.sctp_model.specs.messages.Framing.{lane_kind, number_near};
+ghost use Rattle.sctp_model.specs.receiver.ReceiverView.{size_of_pieces};
 ghost use Rattle.sctp_model.specs.receiver.PieceTaken.{is_repeated};
 ghost use Rattle.sctp_wire.specs.ChunkTree.{piece_meaning};
 ghost use Rattle.sctp_chains.specs.Cells.{Kept, IsOf};

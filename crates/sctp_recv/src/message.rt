@@ -1,12 +1,12 @@
 //! A message as its user takes it.
 
 ghost use Rattle.std.specs.Prelude.{◌≡◌, ◌-◌, ◌^◌, ◌++◌, min, not, List, length, map, OnOk, OnErr};
-ghost use Rattle.sctp_model.specs.Lists.{joined};
+ghost use Rattle.sctp_model.specs.numbers.Lists.{joined};
 ghost use Rattle.sctp_recv.specs.Parts.{text_of_parts, bytes_of};
 ghost use Rattle.sctp_recv.specs.HandedOf.{message_bytes, handed_of};
-ghost use Rattle.sctp_model.specs.Format.{Format};
-ghost use Rattle.sctp_model.specs.Pieces.{Piece};
-ghost use Rattle.sctp_model.specs.Receiving.{message_of};
+ghost use Rattle.sctp_model.specs.messages.Format.{Format};
+ghost use Rattle.sctp_model.specs.messages.Pieces.{Piece};
+ghost use Rattle.sctp_model.specs.receiver.Receiving.{message_of};
 ghost use Rattle.sctp_model.specs.receiver.Reading.{lane_of};
 ghost use Rattle.sctp_chains.specs.WholeOf.{IsMadeOf};
 

@@ -1,9 +1,9 @@
 //! A data chunk comes: the first row that fits it is its answer, and that is done (RFC 9260, 6.2 and 6.6; RFC 8260, 2.2).
 
 ghost use Rattle.std.specs.Prelude.{◌≡◌, ◌<◌, ℕ, length, IfOk, OnOk, OnErr};
-ghost use Rattle.sctp_model.specs.Limits.{DUPLICATE_LIMIT};
-ghost use Rattle.sctp_model.specs.ReceiverView.{ReceiverView, IsCumulative};
-ghost use Rattle.sctp_model.specs.Receiving.{Takes};
+ghost use Rattle.sctp_model.specs.numbers.Limits.{DUPLICATE_LIMIT};
+ghost use Rattle.sctp_model.specs.receiver.ReceiverView.{ReceiverView, IsCumulative};
+ghost use Rattle.sctp_model.specs.receiver.Receiving.{TakesPiece};
 ghost use Rattle.sctp_model.specs.receiver.Reading.{index_at, piece_at};
 ghost use Rattle.sctp_model.specs.receiver.PieceTaken.{PieceTaken, answer_to, noted};
 ghost use Rattle.sctp_wire.specs.ChunkTree.{piece_meaning};
@@ -102,7 +102,7 @@ impl<F: Framing> Receiver<F> {
     /// Memory ran out, and nothing changed.
     fn keep(&mut self, piece: &Piece<'_>, index: u32, number: Option<u32>) -> Result<(), NoMemory>
         ensures kept { (v : ReceiverView) → StandsFor F.format self.old v → IsWanted F.format (kept_of self.old) v (piece_meaning piece.now) index number
-            → OnOk result ((t : ReceiverView) × Takes F.format v (piece_at F.format v self.old.seen.kept.cumulative (piece_meaning piece.now)) t × StandsFor F.format self.new t) }
+            → OnOk result ((t : ReceiverView) × TakesPiece F.format v (piece_at F.format v self.old.seen.kept.cumulative (piece_meaning piece.now)) t × StandsFor F.format self.new t) }
         ensures refused { (v : ReceiverView) → StandsFor F.format self.old v → OnErr result (StandsFor F.format self.new v) }
     {
         let stream = usize::from(piece.stream);

@@ -1,9 +1,9 @@
 //! The receiving end of an association (RFC 9260, 6.2 and 6.6; RFC 3758, 3.6; RFC 8260, 2.2 and 2.3).
 
 ghost use Rattle.std.specs.Prelude.{◌≡◌, ℕ, ◌≤◌, ◌-◌, IfOk, option_map, List, Option, length};
-ghost use Rattle.sctp_model.specs.Chunk.{BlockMeaning};
-ghost use Rattle.sctp_model.specs.Serial.{tsn};
-ghost use Rattle.sctp_model.specs.ReceiverView.{ReceiverView, IsCumulative, fresh_receiver, held_bytes, room_left};
+ghost use Rattle.sctp_model.specs.wire.Chunk.{BlockMeaning};
+ghost use Rattle.sctp_model.specs.numbers.Serial.{tsn};
+ghost use Rattle.sctp_model.specs.receiver.ReceiverView.{ReceiverView, IsCumulative, fresh_receiver, held_bytes, room_left};
 ghost use Rattle.sctp_model.specs.receiver.SackMade.{AreAllRuns, IsSack, sack_sent, TakeLeaves};
 ghost use Rattle.sctp_recv.specs.HandedOf.{handed_of};
 ghost use Rattle.sctp_recv.specs.SackOf.{lists_meaning};

@@ -7,7 +7,7 @@ ghost use Rattle.sctp_recv.specs.Blocks.{block_of_run};
 ghost use Rattle.sctp_recv.specs.Runs.{AreRuns, AreSpaced, in_runs};
 ghost use Rattle.sctp_recv.specs.SeenKept.{is_reached, seen_of, AreWithin, IsAdvanced};
 ghost use Rattle.sctp_recv.specs.SeenStands.{SeenStands, Records, Jumps};
-ghost use Rattle.sctp_model.specs.Limits.{WINDOW};
+ghost use Rattle.sctp_model.specs.numbers.Limits.{WINDOW};
 
 use crate::runs::{Run, insert, upto};
 use sctp_wire::{GapBlock, NoMemory, put_block};

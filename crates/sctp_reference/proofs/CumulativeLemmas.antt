@@ -3,7 +3,7 @@ use Rattle.std.proofs.Common.{add-one, ◌≡◌, ℕ, suc, ◌+◌, ◌<◌, �
 use Rattle.std.proofs.lemmas.Bool.{cases_lt, cases_order, eqb-true}
 use Rattle.std.proofs.lemmas.List.{get_or_read}
 use Rattle.std.proofs.lemmas.List.Folds.{Any-from_list_any}
-use Rattle.sctp_model.specs.ReceiverView.{ReceiverView, IsCumulative}
+use Rattle.sctp_model.specs.receiver.ReceiverView.{ReceiverView, IsCumulative}
 use Rattle.sctp_reference.specs.Lists.{lists}
 
 -- all up to `cum` are reached

@@ -3,11 +3,11 @@ use Rattle.std.proofs.Common.{◌≡◌, ℕ, zero, suc, ◌+◌, ◌<◌, ◌�
 use Rattle.std.specs.List.{slice_get}
 use Rattle.std.proofs.lemmas.Bool.{cases_lt}
 use Rattle.std.proofs.lemmas.Option.{slice_get_within}
-use Rattle.sctp_model.specs.Lists.{Has}
-use Rattle.sctp_model.specs.Format as model
-use Rattle.sctp_model.specs.Plan as plan
-use Rattle.sctp_model.specs.SenderView.{SenderView}
-use Rattle.sctp_model.specs.Forward.{Skip, StandsIn, IsLaneBefore, IsListed, IsForward}
+use Rattle.sctp_model.specs.numbers.Lists.{Has}
+use Rattle.sctp_model.specs.messages.Format as model
+use Rattle.sctp_model.specs.messages.Plan as plan
+use Rattle.sctp_model.specs.sender.SenderView.{SenderView}
+use Rattle.sctp_model.specs.messages.Forward.{Skip, StandsIn, IsLaneBefore, IsListed, IsForward}
 use Rattle.sctp_reference.specs.declared.words.Format.{Format}
 use Rattle.sctp_reference.specs.declared.words.Entry.{Entry}
 use Rattle.sctp_reference.specs.declared.words.MessageName.{MessageName}

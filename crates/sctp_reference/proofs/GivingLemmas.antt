@@ -1,11 +1,11 @@
 -- What is due so far, and one number more; the text of a message, and one chunk more.
 use Rattle.std.proofs.Common.{◌≡◌, ℕ, suc, ◌+◌, ◌<◌, ◌≤◌, List, [], ◌∷◌, ◌++◌, length, get_or, take, ap, sym, ◌∙◌, subst, add-one, append_assoc, append-nil, arith}
 use Rattle.std.proofs.lemmas.List.{take_more}
-use Rattle.sctp_model.specs.Format.{Format, ordered_lane}
-use Rattle.sctp_model.specs.Pieces as pieces
-use Rattle.sctp_model.specs.Whole.{text_of}
-use Rattle.sctp_model.specs.ReceiverView.{Handed, ReceiverView}
-use Rattle.sctp_model.specs.Receiving.{IsWholeNumber, IsLowest, HasNoWhole, IsDue, Stop, Over, Past}
+use Rattle.sctp_model.specs.messages.Format.{Format, ordered_lane}
+use Rattle.sctp_model.specs.messages.Pieces as pieces
+use Rattle.sctp_model.specs.messages.Whole.{text_of}
+use Rattle.sctp_model.specs.receiver.ReceiverView.{Handed, ReceiverView}
+use Rattle.sctp_model.specs.receiver.Receiving.{IsWholeNumber, IsLowest, HasNoWhole, IsDue, Stop, GivesWhole, Past}
 use Rattle.sctp_reference.specs.declared.pieces.Piece.{Piece}
 use Rattle.sctp_reference.specs.Kept.{pieces_of}
 use Rattle.sctp_reference.specs.inner.Turns.{IsHanded}
@@ -35,7 +35,7 @@ module _ (f : Format) (kept : List pieces.Piece) (s skip from next : ℕ) (done 
       over r same ms m rest =
           let number = subst (λ (k : List pieces.Piece). IsWholeNumber f k (ordered_lane s) next (handed.0 ∷ handed.1)) (sym same) handed.2 in
           let lowest = subst (λ (k : List pieces.Piece). IsLowest f k (ordered_lane s) next (handed.0 ∷ handed.1)) (sym same) handed.3 in
-          subst (λ (x : Handed). IsDue f r s next (x ∷ ms) m) (sym handed.4) (Over next m handed.0 handed.1 ms number lowest rest)
+          subst (λ (x : Handed). IsDue f r s next (x ∷ ms) m) (sym handed.4) (GivesWhole next m handed.0 handed.1 ms number lowest rest)
 
       on : (r : ReceiverView) → r.kept ≡ kept → r.skip (ordered_lane s) ≡ skip → (ms : List Handed) (m : ℕ) →
           IsDue f r s (next + 1) ms m → IsDue f r s from ((done ++ h ∷ []) ++ ms) m

@@ -1,9 +1,9 @@
 -- The rank of a lane is its place in the order of a FORWARD's lanes.
 use Rattle.std.proofs.Common.{◌≡◌, ℕ, ◌+◌, ◌*◌, ◌<◌, ◌≤◌, ◌⊎◌, List, [], ◌∷◌, ◌++◌, refl, ap, ◌∙◌, subst, inl, inr, arith}
 use Rattle.std.proofs.lemmas.Bool.{cases_lt}
-use Rattle.sctp_model.specs.Lists.{Has}
-use Rattle.sctp_model.specs.Format as model
-use Rattle.sctp_model.specs.Forward.{Skip, IsLaneBefore, IsListed}
+use Rattle.sctp_model.specs.numbers.Lists.{Has}
+use Rattle.sctp_model.specs.messages.Format as model
+use Rattle.sctp_model.specs.messages.Forward.{Skip, IsLaneBefore, IsListed}
 use Rattle.sctp_reference.specs.declared.words.Kind.{Kind}
 use Rattle.sctp_reference.specs.declared.words.Kind.TheVariants.{Ordered, Unordered}
 use Rattle.sctp_reference.specs.declared.words.Lane.{Lane}

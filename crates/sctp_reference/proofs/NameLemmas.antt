@@ -3,8 +3,8 @@ use Rattle.std.proofs.Common.{◌≡◌, ℕ, List, map, Option, Some, None, ref
 use Rattle.std.specs.Option.{option_map}
 use Rattle.std.specs.List.{slice_get}
 use Rattle.std.proofs.lemmas.Option.{slice_get-map}
-use Rattle.sctp_model.specs.Format as model
-use Rattle.sctp_model.specs.Plan as plan
+use Rattle.sctp_model.specs.messages.Format as model
+use Rattle.sctp_model.specs.messages.Plan as plan
 use Rattle.sctp_reference.specs.declared.words.Kind.{Kind}
 use Rattle.sctp_reference.specs.declared.words.Kind.TheVariants.{Ordered, Unordered}
 use Rattle.sctp_reference.specs.declared.words.Lane.{Lane}

@@ -1,9 +1,9 @@
 -- A plan has one FORWARD between two bounds.
 use Rattle.std.proofs.Common.{◌≡◌, ℕ, ◌<◌, ◌≤◌, List, [], ◌∷◌, refl, ap, sym, ◌∙◌, inl, inr, arith}
-use Rattle.sctp_model.specs.Lists.{Has}
-use Rattle.sctp_model.specs.Format.{Format, Lane}
-use Rattle.sctp_model.specs.Plan.{Plan}
-use Rattle.sctp_model.specs.Forward.{Skip, Forward, IsListed, IsForward}
+use Rattle.sctp_model.specs.numbers.Lists.{Has}
+use Rattle.sctp_model.specs.messages.Format.{Format, Lane}
+use Rattle.sctp_model.specs.messages.Plan.{Plan}
+use Rattle.sctp_model.specs.messages.Forward.{Skip, Forward, IsListed, IsForward}
 use Rattle.sctp_reference.proofs.LaneLemmas.{place_of, place_rises}
 
 -- each skip of the first list has one of its lane, and no smaller, in the second

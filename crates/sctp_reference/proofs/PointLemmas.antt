@@ -3,8 +3,8 @@ use Rattle.std.proofs.Common.{◌≡◌, ℕ, zero, suc, ◌+◌, ◌<◌, ◌�
 use Rattle.std.specs.List.{slice_get, Contains}
 use Rattle.std.proofs.lemmas.Bool.{cases_lt}
 use Rattle.std.proofs.lemmas.Option.{slice_get_within}
-use Rattle.sctp_model.specs.Plan as plan
-use Rattle.sctp_model.specs.SenderView.{SenderView, IsGivenUp, IsPoint}
+use Rattle.sctp_model.specs.messages.Plan as plan
+use Rattle.sctp_model.specs.sender.SenderView.{SenderView, IsGivenUp, IsPoint}
 use Rattle.sctp_reference.specs.declared.words.Sender.{Sender}
 use Rattle.sctp_reference.specs.declared.words.MessageName.{MessageName}
 use Rattle.sctp_reference.specs.Names.{lane_of, entry_of, message_of}

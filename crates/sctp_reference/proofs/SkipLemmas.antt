@@ -2,8 +2,8 @@
 use Rattle.std.proofs.Common.{◌≡◌, ℕ, suc, ◌+◌, ◌<◌, ◌&&◌, ◌==◌, Bool, true, false, List, [], ◌∷◌, ◌++◌, length, get_or, take, map, max, refl, ap, sym, ◌∙◌, inl, inr, add-one}
 use Rattle.std.proofs.lemmas.List.{take_more}
 use Rattle.std.proofs.lemmas.Bool.{eq-eqb, eqb-true, cases_Bool, false≢true}
-use Rattle.sctp_model.specs.Format as model
-use Rattle.sctp_model.specs.Forward.{Skip, skipped}
+use Rattle.sctp_model.specs.messages.Format as model
+use Rattle.sctp_model.specs.messages.Forward.{Skip, skipped}
 use Rattle.sctp_reference.specs.declared.words.Lane.{Lane}
 use Rattle.sctp_reference.specs.declared.words.MessageName.{MessageName}
 use Rattle.sctp_reference.specs.Names.{lane_of, skip_of}

@@ -3,11 +3,11 @@ use Rattle.std.proofs.Common.{◌≡◌, ℕ, ◌+◌, ◌<◌, ◌≤◌, List,
 use Rattle.std.specs.List.{slice_get}
 use Rattle.std.proofs.lemmas.Bool.{cases_lt}
 use Rattle.std.proofs.lemmas.Option.{slice_get_within}
-use Rattle.sctp_model.specs.Lists.{Has, IsWithin}
-use Rattle.sctp_model.specs.Format as model
-use Rattle.sctp_model.specs.Pieces as pieces
-use Rattle.sctp_model.specs.Whole.{IsWhole}
-use Rattle.sctp_model.specs.Receiving.{IsWholeNumber, IsLowest, IsWholeWith}
+use Rattle.sctp_model.specs.numbers.Lists.{Has, IsWithin}
+use Rattle.sctp_model.specs.messages.Format as model
+use Rattle.sctp_model.specs.messages.Pieces as pieces
+use Rattle.sctp_model.specs.messages.Whole.{IsWhole}
+use Rattle.sctp_model.specs.receiver.Receiving.{IsWholeNumber, IsLowest, IsWholeWith}
 use Rattle.sctp_reference.specs.declared.words.Format.{Format}
 use Rattle.sctp_reference.specs.declared.pieces.Piece.{Piece}
 use Rattle.sctp_reference.specs.declared.pieces.Whole.{Whole}
@@ -15,7 +15,7 @@ use Rattle.sctp_reference.specs.Names.{format_of}
 use Rattle.sctp_reference.specs.Kept.{piece_of, pieces_of}
 use Rattle.sctp_reference.specs.Search.{whole_of, IsWholeAnswer, IsOnlyNumber, IsWithAnswer, IsOnlyWith}
 use Rattle.sctp_reference.specs.inner.Rows.{Begins, BeginsNumber, IsWholeFrom, IsNumberFrom, IsLower}
-use Rattle.sctp_model.specs.receiver.Laws.{IsApart}
+use Rattle.sctp_model.specs.receiver.Laws.{IsFilledOnce}
 use Rattle.sctp_model.proofs.receiver.OneWhole.{number_only, with_only}
 use Rattle.sctp_reference.proofs.RowLemmas.{kept_has, kept_at}
 
@@ -148,11 +148,11 @@ module _ (f : Format) (kept : List Piece) where
             omega (arith, h.2 b.0 b.1 b.3 b.4 b.2 b.6, ap (λ (z : pieces.Piece). z.index) head)
 
 pub only_number : (f : Format) (kept : List Piece) (l : model.Lane) (n : ℕ) (best : Option Whole) → IsWholeAnswer f kept l n best →
-    IsApart (format_of f) (pieces_of kept) → IsOnlyNumber f kept l n best
+    IsFilledOnce (format_of f) (pieces_of kept) → IsOnlyNumber f kept l n best
 only_number f kept l n None h apart = tt
 only_number f kept l n (Some w) h apart = λ xs number low. number_only (format_of f) (pieces_of kept) l n apart xs (whole_of w) number low h.0 h.1
 
 pub only_with : (f : Format) (kept : List Piece) (y : Piece) (found : Option Whole) → IsWithAnswer f kept y found →
-    IsApart (format_of f) (pieces_of kept) → IsOnlyWith f kept y found
+    IsFilledOnce (format_of f) (pieces_of kept) → IsOnlyWith f kept y found
 only_with f kept y None h apart = tt
 only_with f kept y (Some w) h apart = λ xs whole. with_only (format_of f) (pieces_of kept) (piece_of y) apart xs (whole_of w) whole h

@@ -1,5 +1,5 @@
 -- What is to be done with one number of a stream.
-use Rattle.sctp_model.specs.ReceiverView as view
+use Rattle.sctp_model.specs.receiver.ReceiverView as view
 use Rattle.sctp_reference.specs.declared.giving.Handed.{Handed}
 use Rattle.sctp_reference.specs.Names.{lane_of}
 

@@ -1,6 +1,6 @@
 -- Kept chunks, and what a search for a whole message among them answers.
 use Rattle.std.specs.Prelude.{ℕ, List, map}
-use Rattle.sctp_model.specs.Pieces as model
+use Rattle.sctp_model.specs.messages.Pieces as model
 use Rattle.sctp_reference.specs.declared.words.Format.{Format}
 use Rattle.sctp_reference.specs.declared.words.Format.TheVariants.{Plain, Interleaved}
 use Rattle.sctp_reference.specs.declared.pieces.Piece.{Piece}

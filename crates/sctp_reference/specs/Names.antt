@@ -1,8 +1,8 @@
 -- What the program's lanes and entries are in the model.
 use Rattle.std.specs.Prelude.{ℕ, ◌+◌, ◌*◌}
-use Rattle.sctp_model.specs.Format as model
-use Rattle.sctp_model.specs.Plan as plan
-use Rattle.sctp_model.specs.Forward as forward
+use Rattle.sctp_model.specs.messages.Format as model
+use Rattle.sctp_model.specs.messages.Plan as plan
+use Rattle.sctp_model.specs.messages.Forward as forward
 use Rattle.sctp_reference.specs.declared.words.Format.{Format}
 use Rattle.sctp_reference.specs.declared.words.Format.TheVariants.{Plain, Interleaved}
 use Rattle.sctp_reference.specs.declared.words.Kind.{Kind}

@@ -1,8 +1,8 @@
 -- What a search for a whole message among kept chunks answers.
 use Rattle.std.specs.Prelude.{◌≡◌, ℕ, List, ◌∷◌, Option, Some, None}
-use Rattle.sctp_model.specs.Format as model
-use Rattle.sctp_model.specs.Pieces as pieces
-use Rattle.sctp_model.specs.Receiving.{IsWholeNumber, IsLowest, HasNoWhole, IsWholeWith}
+use Rattle.sctp_model.specs.messages.Format as model
+use Rattle.sctp_model.specs.messages.Pieces as pieces
+use Rattle.sctp_model.specs.receiver.Receiving.{IsWholeNumber, IsLowest, HasNoWhole, IsWholeWith}
 use Rattle.sctp_reference.specs.declared.words.Format.{Format}
 use Rattle.sctp_reference.specs.declared.pieces.Piece.{Piece}
 use Rattle.sctp_reference.specs.declared.pieces.Whole.{Whole}

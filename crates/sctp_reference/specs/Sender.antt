@@ -1,8 +1,8 @@
 -- Which views of a sender the program's sender stands for.
 use Rattle.std.specs.Prelude.{◌≡◌, ◌↔◌, ℕ, true, map}
 use Rattle.std.specs.List.{Contains}
-use Rattle.sctp_model.specs.Format.{Lane}
-use Rattle.sctp_model.specs.SenderView.{SenderView}
+use Rattle.sctp_model.specs.messages.Format.{Lane}
+use Rattle.sctp_model.specs.sender.SenderView.{SenderView}
 use Rattle.sctp_reference.specs.declared.words.Sender.{Sender}
 use Rattle.sctp_reference.specs.declared.words.MessageName.{MessageName}
 use Rattle.sctp_reference.specs.Lists.{lists}

@@ -1,6 +1,6 @@
 -- Numbered messages between two bounds of a plan, and the first of them in the order of a FORWARD.
 use Rattle.std.specs.Prelude.{◌≡◌, ℕ, ◌<◌, ◌≤◌, ◌⊎◌, true, List, slice_get, Option, Some, None}
-use Rattle.sctp_model.specs.Format.{is_numbered}
+use Rattle.sctp_model.specs.messages.Format.{is_numbered}
 use Rattle.sctp_reference.specs.declared.words.Format.{Format}
 use Rattle.sctp_reference.specs.declared.words.Entry.{Entry}
 use Rattle.sctp_reference.specs.declared.words.MessageName.{MessageName}

@@ -1,7 +1,7 @@
 //! The cumulative index of a receiver (RFC 9260, 6.2; RFC 3758, 3.6).
 
 ghost use Rattle.std.specs.Prelude.{◌≡◌, ℕ};
-ghost use Rattle.sctp_model.specs.ReceiverView.{ReceiverView, IsCumulative};
+ghost use Rattle.sctp_model.specs.receiver.ReceiverView.{ReceiverView, IsCumulative};
 ghost use Rattle.sctp_reference.specs.Lists.{lists};
 
 /// The cumulative index of a receiver that recorded these indexes, and took no FORWARD past `jump`.

@@ -1,8 +1,8 @@
 //! The FORWARD of a plan (RFC 3758, 3.2 and 3.5; RFC 8260, 2.3.1).
 
 ghost use Rattle.std.specs.Prelude.{◌≡◌, ℕ, ◌+◌, IfOk, map, max, length};
-ghost use Rattle.sctp_model.specs.SenderView.{SenderView};
-ghost use Rattle.sctp_model.specs.Forward.{Forward, IsForward, skipped};
+ghost use Rattle.sctp_model.specs.sender.SenderView.{SenderView};
+ghost use Rattle.sctp_model.specs.messages.Forward.{Forward, IsForward, skipped};
 ghost use Rattle.sctp_reference.specs.Names.{format_of, lane_of, skip_of};
 ghost use Rattle.sctp_reference.specs.Sender.{IsSenderOf};
 ghost use Rattle.sctp_reference.specs.Standing.{IsFirst};

@@ -1,15 +1,15 @@
 //! What is handed over on a stream (RFC 9260, 6.6; RFC 3758, 3.6; RFC 8260, 2.2).
 
 ghost use Rattle.std.specs.Prelude.{◌≡◌, ℕ, ◌<◌, ◌^◌, IfOk, map, List};
-ghost use Rattle.sctp_model.specs.Format.{ordered_lane};
-ghost use Rattle.sctp_model.specs.Whole.{text_of};
-ghost use Rattle.sctp_model.specs.ReceiverView.{ReceiverView, Handed as HandedView};
-ghost use Rattle.sctp_model.specs.Receiving.{message_of, IsDue};
-ghost use Rattle.sctp_model.specs.Pieces.{payload_of};
+ghost use Rattle.sctp_model.specs.messages.Format.{ordered_lane};
+ghost use Rattle.sctp_model.specs.messages.Whole.{text_of};
+ghost use Rattle.sctp_model.specs.receiver.ReceiverView.{ReceiverView, Handed as HandedView};
+ghost use Rattle.sctp_model.specs.receiver.Receiving.{message_of, IsDue};
+ghost use Rattle.sctp_model.specs.messages.Pieces.{payload_of};
 ghost use Rattle.sctp_reference.specs.Names.{format_of};
 ghost use Rattle.sctp_reference.specs.Kept.{piece_of, pieces_of};
 ghost use Rattle.sctp_reference.specs.Search.{whole_of};
-ghost use Rattle.sctp_model.specs.receiver.Laws.{IsApart};
+ghost use Rattle.sctp_model.specs.receiver.Laws.{IsFilledOnce};
 ghost use Rattle.sctp_reference.specs.Giving.{handed_of};
 ghost use Rattle.sctp_reference.specs.inner.Turns.{IsNarrow, IsTurn};
 
@@ -118,7 +118,7 @@ pub fn due_from(
     ensures is { IfOk result (λ due. (r : ReceiverView) → r.kept ≡ pieces_of kept.now → r.skip (ordered_lane stream) ≡ skip
         → IsDue (format_of format) r stream from (map handed_of due.messages.items) due.next) }
     ensures only { IfOk result (λ due. (r : ReceiverView) → r.kept ≡ pieces_of kept.now → r.skip (ordered_lane stream) ≡ skip
-        → IsApart (format_of format) (pieces_of kept.now) → (ms : List HandedView) (m : ℕ) → IsDue (format_of format) r stream from ms m
+        → IsFilledOnce (format_of format) (pieces_of kept.now) → (ms : List HandedView) (m : ℕ) → IsDue (format_of format) r stream from ms m
         → (ms ≡ map handed_of due.messages.items) × (m ≡ due.next)) }
 {
     let mut messages = Vec::new(alloc);

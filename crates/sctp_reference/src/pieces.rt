@@ -1,8 +1,8 @@
 //! Data chunks as a receiver keeps them (RFC 9260, 3.3.1; RFC 8260, 2.1).
 
 ghost use Rattle.std.specs.Prelude.{◌≡◌, ◌↔◌, ◌<◌, ◌^◌, true};
-ghost use Rattle.sctp_model.specs.Whole.{IsFirst, Follows};
-ghost use Rattle.sctp_model.specs.Pieces.{fragment_of};
+ghost use Rattle.sctp_model.specs.messages.Whole.{IsFirst, Follows};
+ghost use Rattle.sctp_model.specs.messages.Pieces.{fragment_of};
 ghost use Rattle.sctp_reference.specs.Names.{format_of};
 ghost use Rattle.sctp_reference.specs.Kept.{piece_of, place_of};
 

@@ -2,7 +2,7 @@
 
 ghost use Rattle.std.specs.Prelude.{◌≡◌, ℕ, ◌↔◌, true};
 ghost use Rattle.std.specs.List.{Contains};
-ghost use Rattle.sctp_model.specs.SenderView.{SenderView, IsPoint};
+ghost use Rattle.sctp_model.specs.sender.SenderView.{SenderView, IsPoint};
 ghost use Rattle.sctp_reference.specs.Sender.{IsSenderOf};
 ghost use Rattle.sctp_reference.specs.inner.Places.{IsAbandonedAt};
 

@@ -3,7 +3,7 @@
 ghost use Rattle.std.specs.Prelude.{IfOk};
 ghost use Rattle.sctp_reference.specs.Names.{format_of, lane_of};
 ghost use Rattle.sctp_reference.specs.Kept.{pieces_of};
-ghost use Rattle.sctp_model.specs.receiver.Laws.{IsApart};
+ghost use Rattle.sctp_model.specs.receiver.Laws.{IsFilledOnce};
 ghost use Rattle.sctp_reference.specs.Search.{IsWholeAnswer, IsOnlyNumber, IsWithAnswer, IsOnlyWith};
 ghost use Rattle.sctp_reference.specs.inner.Rows.{IsLeft, IsRowAnswer, IsWholeFrom, IsNumberFrom, IsLower};
 
@@ -117,7 +117,7 @@ pub fn whole_number<'a>(
     number: u64,
 ) -> Result<Option<Whole<'a>>, AllocError>
     ensures is { IfOk result (λ whole. IsWholeAnswer format kept.now (lane_of lane) number whole) }
-    ensures only { IfOk result (λ whole. IsApart (format_of format) (pieces_of kept.now)
+    ensures only { IfOk result (λ whole. IsFilledOnce (format_of format) (pieces_of kept.now)
         → IsOnlyNumber format kept.now (lane_of lane) number whole) }
 {
     let mut best = None;
@@ -138,7 +138,7 @@ pub fn whole_with<'a>(
     wanted: &Piece<'a>,
 ) -> Result<Option<Whole<'a>>, AllocError>
     ensures is { IfOk result (λ whole. IsWithAnswer format kept.now wanted.now whole) }
-    ensures only { IfOk result (λ whole. IsApart (format_of format) (pieces_of kept.now) → IsOnlyWith format kept.now wanted.now whole) }
+    ensures only { IfOk result (λ whole. IsFilledOnce (format_of format) (pieces_of kept.now) → IsOnlyWith format kept.now wanted.now whole) }
 {
     for chunk in kept {
         if let Some(whole) = whole_from(alloc, format, kept, chunk, Some(*wanted))? {

@@ -1,7 +1,7 @@
 //! The records and choices of the model, with numbers that fit a word.
 
 ghost use Rattle.std.specs.Prelude.{◌≡◌, ◌<◌, ◌^◌};
-ghost use Rattle.sctp_model.specs.Format.{is_numbered};
+ghost use Rattle.sctp_model.specs.messages.Format.{is_numbered};
 ghost use Rattle.sctp_reference.specs.Names.{format_of, kind_of, rank_of, message_of};
 
 /// The two formats of user data: the DATA chunk (RFC 9260, 3.3.1) and the I-DATA chunk (RFC 8260, 2.1).

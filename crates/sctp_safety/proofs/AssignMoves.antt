@@ -1,10 +1,10 @@
 -- What is assigned next is assigned by moves: a message takes its number and its first indexes, or goes on with its next one.
 use Rattle.std.proofs.Common.{◌≡◌, ℕ, zero, suc, ◌+◌, ◌<◌, ◌≤◌, ◌⊎◌, true, Bool, List, [], ◌∷◌, ◌++◌, length, slice_get, Some, None, inl, inr, refl, sym, subst, arith, ◌∙◌, eqb-true}
 use Rattle.std.proofs.lemmas.Bool.{eqb-false}
-use Rattle.sctp_model.specs.Lists.{Has, item_at}
-use Rattle.sctp_model.specs.Format.{Format, Plain, Interleaved, Lane}
-use Rattle.sctp_model.specs.Plan.{Message, Entry, Part, End, Plan, entry_at, message_at, HasEnd, parts_from}
-use Rattle.sctp_model.specs.SenderView.{Queued, SenderView}
+use Rattle.sctp_model.specs.numbers.Lists.{Has, item_at}
+use Rattle.sctp_model.specs.messages.Format.{Format, Plain, Interleaved, Lane}
+use Rattle.sctp_model.specs.messages.Plan.{Message, Entry, Part, End, Plan, entry_at, message_at, HasEnd, parts_from}
+use Rattle.sctp_model.specs.sender.SenderView.{Queued, SenderView}
 use Rattle.sctp_model.specs.sender.Entries.{continued}
 use Rattle.sctp_model.specs.sender.Assigning.{with_message, with_entry, is_on, first_on, without_first, stream_after}
 use Rattle.sctp_model.proofs.sender.WishCases.{IsAssigned, Whole, Begun, Continued}

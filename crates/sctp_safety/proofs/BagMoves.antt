@@ -1,11 +1,11 @@
 -- What the two ends put between them keeps every fact: chunks with data, FORWARDs, SACKs and SHUTDOWNs.
 use Rattle.std.proofs.Common.{◌≡◌, ℕ, ◌<◌, ◌≤◌, true, ◌∷◌, length, inl, inr, refl, sym, subst, ap, arith}
-use Rattle.sctp_model.specs.Lists.{Has}
-use Rattle.sctp_model.specs.Plan.{Message}
-use Rattle.sctp_model.specs.Pieces.{Piece, piece_of, IsFragment}
-use Rattle.sctp_model.specs.Forward.{Forward}
-use Rattle.sctp_model.specs.ReceiverView.{IsReached}
-use Rattle.sctp_model.specs.Acknowledgement.{Acknowledgement, covers}
+use Rattle.sctp_model.specs.numbers.Lists.{Has}
+use Rattle.sctp_model.specs.messages.Plan.{Message}
+use Rattle.sctp_model.specs.messages.Pieces.{Piece, piece_of, IsFragment}
+use Rattle.sctp_model.specs.messages.Forward.{Forward}
+use Rattle.sctp_model.specs.receiver.ReceiverView.{Reaches}
+use Rattle.sctp_model.specs.messages.Acknowledgement.{Acknowledgement, covers}
 use Rattle.sctp_safety.specs.Way.{Way, Put_piece, Put_forward, Put_sack, Put_shutdown, Step}
 use Rattle.sctp_safety.proofs.Facts.{IsSendersForward, Good}
 use Rattle.sctp_safety.proofs.MovesBySide.{by_bags}
@@ -31,7 +31,7 @@ pub kept_by-Put_sack : (w v : Way) (x : Acknowledgement) → Good w → Step w (
 kept_by-Put_sack w v x g (sound, e) =
     subst Good (sym e) (by_bags w w.pieces w.forwards (x ∷ w.sacks) w.shutdowns g g.between.pieces g.between.forwards sacks g.between.shutdowns)
   where
-    sacks : (y : Acknowledgement) (i : ℕ) → Has (x ∷ w.sacks) y → covers y i ≡ true → IsReached w.receiver i
+    sacks : (y : Acknowledgement) (i : ℕ) → Has (x ∷ w.sacks) y → covers y i ≡ true → Reaches w.receiver i
     sacks y i (inl h) c = sound i (subst (λ (z : Acknowledgement). covers z i ≡ true) (sym h) c)
     sacks y i (inr h) c = g.between.sacks y i h c
 
@@ -39,7 +39,7 @@ pub kept_by-Put_shutdown : (w v : Way) (c : ℕ) → Good w → Step w (Put_shut
 kept_by-Put_shutdown w v c g (sound, e) =
     subst Good (sym e) (by_bags w w.pieces w.forwards w.sacks (c ∷ w.shutdowns) g g.between.pieces g.between.forwards g.between.sacks shutdowns)
   where
-    shutdowns : (d i : ℕ) → Has (c ∷ w.shutdowns) d → i ≤ d → IsReached w.receiver i
+    shutdowns : (d i : ℕ) → Has (c ∷ w.shutdowns) d → i ≤ d → Reaches w.receiver i
     shutdowns d i (inl h) l = sound i (omega arith)
     shutdowns d i (inr h) l = g.between.shutdowns d i h l
 

@@ -1,8 +1,8 @@
 -- Plain facts on lists, on lanes, and on functions changed at one argument.
 use Rattle.std.proofs.Common.{◌≡◌, ℕ, zero, suc, ◌+◌, ◌<◌, ◌≤◌, ◌⊎◌, Bool, true, false, cond, ◌==◌, List, [], ◌∷◌, ◌++◌, length, slice_get, filter, Some, inl, inr, refl, sym, subst, ap, arith, eqb-true}
 use Rattle.std.proofs.lemmas.Bool.{eqb-false, cond_both, cases_eq, and_parts, cases_Bool, eq-eqb}
-use Rattle.sctp_model.specs.Lists.{Has, item_at, at}
-use Rattle.sctp_model.specs.Format.{Kind, Ordered, Unordered, Lane, same_kind, same_lane, at_lane}
+use Rattle.sctp_model.specs.numbers.Lists.{Has, item_at, at}
+use Rattle.sctp_model.specs.messages.Format.{Kind, Ordered, Unordered, Lane, same_kind, same_lane, at_lane}
 
 -- a fact of a function changed at one argument
 pub at_cases : {A : Type 0} (P : A → Type 0) (f : ℕ → A) (s : ℕ) (v : A) (t : ℕ) →

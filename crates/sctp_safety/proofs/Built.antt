@@ -1,11 +1,11 @@
 -- What the ends really build, the moves allow.
 use Rattle.std.proofs.Common.{◌≡◌, ℕ, zero, suc, ◌+◌, ◌≤◌, ◌⊎◌, ◌&&◌, true, nat_le, List, [], ◌∷◌, inl, inr, refl, sym, subst, arith, leb-true}
 use Rattle.std.proofs.lemmas.Bool.{or_cases, and_parts}
-use Rattle.sctp_model.specs.Lists.{Has}
-use Rattle.sctp_model.specs.Forward.{StandsIn}
-use Rattle.sctp_model.specs.ReceiverView.{ReceiverView, IsReached, IsCumulative}
-use Rattle.sctp_model.specs.Chunk.{BlockMeaning}
-use Rattle.sctp_model.specs.Acknowledgement.{in_blocks, covers}
+use Rattle.sctp_model.specs.numbers.Lists.{Has}
+use Rattle.sctp_model.specs.messages.Forward.{StandsIn}
+use Rattle.sctp_model.specs.receiver.ReceiverView.{ReceiverView, Reaches, IsCumulative}
+use Rattle.sctp_model.specs.wire.Chunk.{BlockMeaning}
+use Rattle.sctp_model.specs.messages.Acknowledgement.{in_blocks, covers}
 use Rattle.sctp_safety.specs.Way.{Drop_piece}
 use Rattle.sctp_safety.specs.Exact.{ForwardIsAllowed, SackIsAllowed, ShutdownIsAllowed, PassingIsMoves}
 
@@ -31,17 +31,17 @@ in_a_block c (b ∷ bs) i h = go (λ k. in_a_block c bs i k) (or_cases (nat_le (
         (b, inl refl, leb-true (c + b.start) i both.0, leb-true i (c + b.end) both.1)
     go more (inr k) = let (d, has, low, high) = more k in (d, inr has, low, high)
 
-reached_upto : (r : ReceiverView) (c : ℕ) → IsCumulative r c → (i : ℕ) → i ≤ c → IsReached r i
+reached_upto : (r : ReceiverView) (c : ℕ) → IsCumulative r c → (i : ℕ) → i ≤ c → Reaches r i
 reached_upto r c cumulative zero l = inr (omega arith)
 reached_upto r c cumulative (suc i) l = cumulative.reached (suc i) (omega arith) l
 
 pub sack_is_allowed : SackIsAllowed
 sack_is_allowed w x ack = (reached, refl)
   where
-    reached : (i : ℕ) → covers x i ≡ true → IsReached w.receiver i
+    reached : (i : ℕ) → covers x i ≡ true → Reaches w.receiver i
     reached i h = go (or_cases (nat_le i x.cum) (in_blocks x.cum x.blocks i) h)
       where
-        go : (nat_le i x.cum ≡ true) ⊎ (in_blocks x.cum x.blocks i ≡ true) → IsReached w.receiver i
+        go : (nat_le i x.cum ≡ true) ⊎ (in_blocks x.cum x.blocks i ≡ true) → Reaches w.receiver i
         go (inl k) = reached_upto w.receiver x.cum ack.cumulative i (leb-true i x.cum k)
         go (inr k) = let (b, has, low, high) = in_a_block x.cum x.blocks i k in inl ((ack.runs b has).seen i low high)
 

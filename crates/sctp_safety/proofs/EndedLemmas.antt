@@ -3,10 +3,10 @@ use Rattle.std.proofs.Common.{◌≡◌, ℕ, zero, suc, inl, inr, ◌⊎◌, Bo
 use Rattle.std.specs.Prelude.{◌==◌, slice_get, if◌then◌else◌}
 use Rattle.std.proofs.lemmas.Bool.{or_left, or_right}
 use Rattle.std.proofs.lemmas.Bool.Decides.{nat_tests}
-use Rattle.sctp_model.specs.Lists.{Has}
-use Rattle.sctp_model.specs.Format.{Lane}
-use Rattle.sctp_model.specs.Plan.{Message, Entry, Part, End, Plan, entry_at, message_at}
-use Rattle.sctp_model.specs.SenderView.{Queued, SenderView}
+use Rattle.sctp_model.specs.numbers.Lists.{Has}
+use Rattle.sctp_model.specs.messages.Format.{Lane}
+use Rattle.sctp_model.specs.messages.Plan.{Message, Entry, Part, End, Plan, entry_at, message_at}
+use Rattle.sctp_model.specs.sender.SenderView.{Queued, SenderView}
 use Rattle.sctp_model.specs.sender.Abandoning.{Name, waits, without, ended, is_past}
 use Rattle.sctp_model.proofs.sender.AbandonCases.{after_end}
 use Rattle.sctp_model.proofs.sender.ExpiredLaws.{late_waits}

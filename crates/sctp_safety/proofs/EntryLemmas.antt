@@ -1,9 +1,9 @@
 -- What stands at an index of the plan, and what is said of the message that it is of.
 use Rattle.std.proofs.Common.{◌≡◌, ℕ, zero, suc, ◌+◌, ◌-◌, ◌<◌, ◌≤◌, true, List, [], ◌∷◌, slice_get, Some, refl, sym, subst, arith}
-use Rattle.sctp_model.specs.Format.{Format, Plain, Lane}
-use Rattle.sctp_model.specs.Plan.{Entry, Part, End, Plan, entry_at, IsOf}
-use Rattle.sctp_model.specs.SenderView.{SenderView, IsGivenUp}
-use Rattle.sctp_model.specs.ReceiverView.{ReceiverView}
+use Rattle.sctp_model.specs.messages.Format.{Format, Plain, Lane}
+use Rattle.sctp_model.specs.messages.Plan.{Entry, Part, End, Plan, entry_at, IsOf}
+use Rattle.sctp_model.specs.sender.SenderView.{SenderView, IsGivenUp}
+use Rattle.sctp_model.specs.receiver.ReceiverView.{ReceiverView}
 use Rattle.sctp_safety.proofs.Facts.{IsLost, IsOrderedPlan}
 
 pub IsOf_same : (l k : Lane) (n m : ℕ) (e : Entry) → IsOf l n e → IsOf k m e → (l ≡ k) × (n ≡ m)

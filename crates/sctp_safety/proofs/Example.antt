@@ -1,11 +1,11 @@
 -- The worlds of the example, and why each step is one.
 use Rattle.std.proofs.Common.{Some, ◌≡◌, ◌≤◌, ◌⊎◌, true, false, [], ◌∷◌, inl, inr, refl, ap, arith, ◌∙◌, ℕ}
-use Rattle.sctp_model.specs.Lists.{Has, at}
-use Rattle.sctp_model.specs.Format.{Plain, ordered_lane}
-use Rattle.sctp_model.specs.Pieces.{Piece}
-use Rattle.sctp_model.specs.Chunk.{PieceMeaning, Data}
-use Rattle.sctp_model.specs.ReceiverView.{ReceiverView}
-use Rattle.sctp_model.specs.Receiving.{IsWholeNumber, IsLowest, HasNoWhole, IsDue, Stop, Over, Takes, recorded, without_below}
+use Rattle.sctp_model.specs.numbers.Lists.{Has, at}
+use Rattle.sctp_model.specs.messages.Format.{Plain, ordered_lane}
+use Rattle.sctp_model.specs.messages.Pieces.{Piece}
+use Rattle.sctp_model.specs.wire.Chunk.{PieceMeaning, Data}
+use Rattle.sctp_model.specs.receiver.ReceiverView.{ReceiverView}
+use Rattle.sctp_model.specs.receiver.Receiving.{IsWholeNumber, IsLowest, HasNoWhole, IsDue, Stop, GivesWhole, TakesPiece, recorded, without_below}
 use Rattle.sctp_model.specs.first.Sending.{went_out}
 use Rattle.sctp_model.specs.first.Ends.{first_receiver, Established, EndView, fresh_end, piece_said, IsDuplicate, Taken, Acts, Builds}
 use Rattle.sctp_model.specs.first.World.{Ticket, Done, Message, Sent, Acted, Take, Send, Build, Deliver, Open, Step, A, B, World, start, with_end, with_packet, sent_by_user, taken_by_user}
@@ -106,9 +106,9 @@ no_next (y ∷ ys) (row, within, (lane, number)) =
     let e : Some 0 ≡ y.number = ap (λ (x : Piece). x.number) (is_kept y (within y (inl refl))) in zero_one 0 1 refl refl (e ∙ number)
 
 due : IsDue Plain keeping 0 0 (arrived ∷ []) 1
-due = Over 0 1 (piece_said said) [] [] whole lowest (Stop 1 (omega arith) no_next)
+due = GivesWhole 0 1 (piece_said said) [] [] whole lowest (Stop 1 (omega arith) no_next)
 
-gives : Takes Plain (first_receiver small) (piece_said said) handing
+gives : TakesPiece Plain (first_receiver small) (piece_said said) handing
 gives = (arrived ∷ [], 1, due, refl)
 
 acts : Acts built_world.b (Data said ∷ []) taker

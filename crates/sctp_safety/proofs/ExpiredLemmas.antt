@@ -3,12 +3,12 @@ use Rattle.std.proofs.Common.{◌≡◌, ℕ, zero, suc, ◌<◌, ◌≤◌, inl
 use Rattle.std.specs.Prelude.{fold, if◌then◌else◌}
 use Rattle.std.specs.Option.{option_map_or}
 use Rattle.std.proofs.lemmas.Bool.{cases_eq}
-use Rattle.sctp_model.specs.Lists.{Has}
-use Rattle.sctp_model.specs.Format.{Format, Lane}
-use Rattle.sctp_model.specs.Plan.{Message, message_at}
-use Rattle.sctp_model.specs.SenderView.{Queued, SenderView}
+use Rattle.sctp_model.specs.numbers.Lists.{Has}
+use Rattle.sctp_model.specs.messages.Format.{Format, Lane}
+use Rattle.sctp_model.specs.messages.Plan.{Message, message_at}
+use Rattle.sctp_model.specs.sender.SenderView.{Queued, SenderView}
 use Rattle.sctp_model.specs.sender.Words.{count_up}
-use Rattle.sctp_model.specs.sender.Abandoning.{Name, name_of, waits, without, is_abandoned, is_covered, ended, given_up, give_up, abandon_after, is_past, is_due, expire_one, expired}
+use Rattle.sctp_model.specs.sender.Abandoning.{Name, name_of, waits, without, is_abandoned, is_covered, ended, given_up, give_up, abandon_after, is_past, is_overdue, expire_one, expired}
 use Rattle.sctp_model.specs.sender.Reached.{IsReached}
 use Rattle.sctp_model.proofs.sender.AbandonCases.{after_abandon, given_itself, given_other}
 use Rattle.sctp_model.proofs.sender.AbandonedLaws.{expires_each}
@@ -119,20 +119,20 @@ settled_now f now t u reached = by_name (name_of u t) refl
 
 -- its turn settles it: where it isn't due, it was settled
 turn_settles : (f : Format) (now t : ℕ) (u : SenderView) → IsReached f u → IsSettled now (expire_one now u t) t
-turn_settles f now t u reached = by_due (is_due u now t) refl
+turn_settles f now t u reached = by_due (is_overdue u now t) refl
   where
-    by_due : (b : Bool) → is_due u now t ≡ b → IsSettled now (if b then abandon_after u t else u) t
+    by_due : (b : Bool) → is_overdue u now t ≡ b → IsSettled now (if b then abandon_after u t else u) t
     by_due true due = settled_now f now t u reached
     by_due false off = record {
-      queue = λ q has ticket past. never_both (is_due u now t) (due_waits f u now t reached (late_has now t u.queue q has ticket past)) off;
+      queue = λ q has ticket past. never_both (is_overdue u now t) (due_waits f u now t reached (late_has now t u.queue q has ticket past)) off;
       plan = λ h past partial.
           let name = found f u reached t h in
-          absurd (never_both (is_due u now t) (due_named f u now t (record { lane = h.lane; number = h.number }) reached name (let named = h.named in rw named past)) off);
+          absurd (never_both (is_overdue u now t) (due_named f u now t (record { lane = h.lane; number = h.number }) reached name (let named = h.named in rw named past)) off);
     }
 
 -- and so it stays
 turn_leaves : (now t s : ℕ) (u : SenderView) → (s ≡ t → ⊥) → IsSettled now u t → IsSettled now (expire_one now u s) t
-turn_leaves now t s u apart h = by_due (is_due u now s)
+turn_leaves now t s u apart h = by_due (is_overdue u now s)
   where
     by_due : (b : Bool) → IsSettled now (if b then abandon_after u s else u) t
     by_due true = settled_stays now t s u apart h
@@ -155,7 +155,7 @@ all_settled f v now (suc k) t h low high =
 -- no ticket more is given
 tickets_kept : (now : ℕ) (ts : List ℕ) (u : SenderView) → (fold (expire_one now) u ts).tickets ≡ u.tickets
 tickets_kept now [] u = refl
-tickets_kept now (t ∷ ts) u = tickets_kept now ts (expire_one now u t) ∙ by_due (is_due u now t)
+tickets_kept now (t ∷ ts) u = tickets_kept now ts (expire_one now u t) ∙ by_due (is_overdue u now t)
   where
     by_due : (b : Bool) → (if b then abandon_after u t else u).tickets ≡ u.tickets
     by_due true = after_abandon (λ (x : SenderView). x.tickets ≡ u.tickets) u t refl (λ waiting. refl) (λ n is kept. refl)

@@ -1,15 +1,15 @@
 -- What every move keeps. Each fact is stated so that it only grows more true as plans, abandoned messages, indexes seen and numbers passed grow.
 use Rattle.std.proofs.Common.{◌≡◌, ℕ, suc, ◌-◌, ◌<◌, ◌≤◌, ◌⊎◌, true, false, List, length, Some, [], ◌∷◌}
-use Rattle.sctp_model.specs.Lists.{Has}
-use Rattle.sctp_model.specs.Format.{Format, Plain, Ordered, Unordered, Lane, is_numbered, ordered_lane}
-use Rattle.sctp_model.specs.Plan.{Message, bytes_of, Entry, Part, End, Plan, entry_at, message_at, IsOf, IsAssigned, IsComplete, IsClosed}
-use Rattle.sctp_model.specs.Pieces.{Piece, piece_of, IsFragment, IsNumberBelow}
-use Rattle.sctp_model.specs.SenderView.{Queued, SenderView}
-use Rattle.sctp_model.specs.Forward.{Skip, Forward}
-use Rattle.sctp_model.specs.ReceiverView.{Handed, ReceiverView, handed, IsReached}
-use Rattle.sctp_model.specs.Acknowledgement.{Acknowledgement, covers}
-use Rattle.sctp_model.specs.Calls.{Asked, call_at}
-use Rattle.sctp_model.specs.Safe.{IsRising, IsApart, IsSent, WasHanded}
+use Rattle.sctp_model.specs.numbers.Lists.{Has}
+use Rattle.sctp_model.specs.messages.Format.{Format, Plain, Ordered, Unordered, Lane, is_numbered, ordered_lane}
+use Rattle.sctp_model.specs.messages.Plan.{Message, bytes_of, Entry, Part, End, Plan, entry_at, message_at, IsOf, IsAssigned, IsComplete, IsClosed}
+use Rattle.sctp_model.specs.messages.Pieces.{Piece, piece_of, IsFragment, IsNumberBelow}
+use Rattle.sctp_model.specs.sender.SenderView.{Queued, SenderView}
+use Rattle.sctp_model.specs.messages.Forward.{Skip, Forward}
+use Rattle.sctp_model.specs.receiver.ReceiverView.{Handed, ReceiverView, handed, Reaches}
+use Rattle.sctp_model.specs.messages.Acknowledgement.{Acknowledgement, covers}
+use Rattle.sctp_model.specs.world.Calls.{Asked, call_at}
+use Rattle.sctp_model.specs.world.Safe.{IsRising, AreDifferent, IsSent, WasHanded}
 use Rattle.sctp_safety.specs.Way.{Way}
 
 -- the receiver is done with the number, where there is one
@@ -70,7 +70,7 @@ pub record IsRetired (a : SenderView) (r : ReceiverView) (i : ℕ) : Type 0 wher
 
 -- some index up to this one isn't reached
 abbrev pub IsAhead : ReceiverView → ℕ → Type 0
-IsAhead r p = (j : ℕ) × (j ≤ p) × (IsReached r j → ⊥)
+IsAhead r p = (j : ℕ) × (j ≤ p) × (Reaches r j → ⊥)
 
 -- a FORWARD is its sender's
 pub record IsSendersForward (f : Format) (a : SenderView) (r : ReceiverView) (x : Forward) : Type 0 where
@@ -138,10 +138,10 @@ pub record IsAskedPlan (streams : ℕ) (a : SenderView) (u : Asked) : Type 0 whe
 pub record Between (w : Way) : Type 0 where
   pub pieces : (x : Piece) → Has w.pieces x → IsFragment w.format w.sender.plan x
   pub forwards : (x : Forward) → Has w.forwards x → IsSendersForward w.format w.sender w.receiver x
-  pub sacks : (x : Acknowledgement) (i : ℕ) → Has w.sacks x → covers x i ≡ true → IsReached w.receiver i
-  pub shutdowns : (c i : ℕ) → Has w.shutdowns c → i ≤ c → IsReached w.receiver i
-  pub covered : (i : ℕ) → w.sender.covered i ≡ true → IsReached w.receiver i
-  pub cum : (i : ℕ) → i ≤ w.sender.cum → IsReached w.receiver i
+  pub sacks : (x : Acknowledgement) (i : ℕ) → Has w.sacks x → covers x i ≡ true → Reaches w.receiver i
+  pub shutdowns : (c i : ℕ) → Has w.shutdowns c → i ≤ c → Reaches w.receiver i
+  pub covered : (i : ℕ) → w.sender.covered i ≡ true → Reaches w.receiver i
+  pub cum : (i : ℕ) → i ≤ w.sender.cum → Reaches w.receiver i
 
 -- a message handed over is one of the plan, on this stream
 pub record IsHonest (f : Format) (p : Plan) (s : ℕ) (h : Handed) : Type 0 where
@@ -154,7 +154,7 @@ pub record IsHandedRightly (f : Format) (a : SenderView) (r : ReceiverView) : Ty
   pub all_seen : (l : Lane) (n : ℕ) → WasHanded a.plan r l n → IsAllSeen a.plan r l n
   pub below : (s : ℕ) (h : Handed) → Has (handed r s) h → h.lane.kind ≡ Ordered → IsNumberBelow (r.next s) h.number
   pub rising : (s : ℕ) → IsRising (handed r s)
-  pub apart : (s : ℕ) → IsApart (handed r s)
+  pub apart : (s : ℕ) → AreDifferent (handed r s)
   pub honest : (s : ℕ) (h : Handed) → Has (handed r s) h → IsHonest f a.plan s h
   pub passed : (s n : ℕ) → n < r.next s → WasHanded a.plan r (ordered_lane s) n ⊎ (a.abandoned (ordered_lane s) n ≡ true)
 

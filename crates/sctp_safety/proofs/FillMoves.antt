@@ -1,11 +1,11 @@
 -- What goes into a packet goes out by moves: a fragment takes its index where it has none yet, its chunk comes between the ends, and it counts as sent.
 use Rattle.std.proofs.Common.{◌≡◌, ℕ, ◌-◌, not, true, false, Bool, List, [], ◌∷◌, Some, inl, inr, refl, sym, subst, ◌∙◌}
 use Rattle.std.proofs.lemmas.Bool.{and_parts}
-use Rattle.sctp_model.specs.Lists.{Has}
-use Rattle.sctp_model.specs.Format.{Lane}
-use Rattle.sctp_model.specs.Plan.{Message, Entry, Part, End, entry_at, message_at}
-use Rattle.sctp_model.specs.Pieces.{Piece, piece_of}
-use Rattle.sctp_model.specs.SenderView.{SenderView}
+use Rattle.sctp_model.specs.numbers.Lists.{Has}
+use Rattle.sctp_model.specs.messages.Format.{Lane}
+use Rattle.sctp_model.specs.messages.Plan.{Message, Entry, Part, End, entry_at, message_at}
+use Rattle.sctp_model.specs.messages.Pieces.{Piece, piece_of}
+use Rattle.sctp_model.specs.sender.SenderView.{SenderView}
 use Rattle.sctp_model.specs.sender.Entries.{is_wanted, is_unsent}
 use Rattle.sctp_model.specs.sender.Filling.{Wish, standing, newcomer, Follows, gone, next_wish, room_of}
 use Rattle.sctp_model.proofs.sender.WordLaws.{some_is}

@@ -1,12 +1,12 @@
 -- What a FORWARD that may be built says.
 use Rattle.std.proofs.Common.{◌≡◌, ℕ, suc, ◌-◌, ◌<◌, ◌≤◌, ◌⊎◌, true, false, length, Some, inl, inr, refl, sym, subst, arith}
 use Rattle.std.proofs.lemmas.Bool.{cases_eq, cases_lt, cases_Bool}
-use Rattle.sctp_model.specs.Lists.{Has}
-use Rattle.sctp_model.specs.Format.{Format, Plain, Lane, is_numbered}
-use Rattle.sctp_model.specs.Plan.{Message, Entry, Part, End, Plan, entry_at, message_at, IsOf, IsAssigned, IsComplete, IsClosed}
-use Rattle.sctp_model.specs.SenderView.{IsGivenUp, IsAllGivenUp}
-use Rattle.sctp_model.specs.Forward.{Skip, Forward, StandsIn}
-use Rattle.sctp_model.specs.ReceiverView.{IsReached}
+use Rattle.sctp_model.specs.numbers.Lists.{Has}
+use Rattle.sctp_model.specs.messages.Format.{Format, Plain, Lane, is_numbered}
+use Rattle.sctp_model.specs.messages.Plan.{Message, Entry, Part, End, Plan, entry_at, message_at, IsOf, IsAssigned, IsComplete, IsClosed}
+use Rattle.sctp_model.specs.sender.SenderView.{IsGivenUp, IsAllGivenUp}
+use Rattle.sctp_model.specs.messages.Forward.{Skip, Forward, StandsIn}
+use Rattle.sctp_model.specs.receiver.ReceiverView.{Reaches}
 use Rattle.sctp_safety.specs.Way.{Way}
 use Rattle.sctp_safety.proofs.Basics.{each_or, item_at-above}
 use Rattle.sctp_safety.proofs.Facts.{IsDone, IsLost, IsLostBy, IsSettled, MayPass, IsRetired, IsAhead, IsSendersForward, IsOrderedPlan, Good}
@@ -21,7 +21,7 @@ module _ (w : Way) (x : Forward) (g : Good w) (gone : IsAllGivenUp w.sender w.se
   came : (i : ℕ) → 0 < i → i ≤ w.sender.cum → (w.receiver.seen i ≡ true) ⊎ IsLost w.format w.sender w.receiver i
   came i pos l = go (g.between.cum i l)
     where
-      go : IsReached w.receiver i → (w.receiver.seen i ≡ true) ⊎ IsLost w.format w.sender w.receiver i
+      go : Reaches w.receiver i → (w.receiver.seen i ≡ true) ⊎ IsLost w.format w.sender w.receiver i
       go (inl h) = inl h
       go (inr h) = g.held.jumped i pos h
 

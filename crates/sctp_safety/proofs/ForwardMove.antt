@@ -1,11 +1,11 @@
 -- What a FORWARD that counts does to the receiver.
 use Rattle.std.proofs.Common.{◌≡◌, ℕ, suc, ◌<◌, ◌≤◌, ◌⊎◌, max, true, false, List, [], ◌∷◌, inl, inr, refl, sym, subst, ap, arith, le_refl}
 use Rattle.std.proofs.lemmas.Bool.{cases_lt}
-use Rattle.sctp_model.specs.Lists.{Has}
-use Rattle.sctp_model.specs.Format.{Format, Plain, Ordered, Lane, is_numbered, at_lane}
-use Rattle.sctp_model.specs.SenderView.{SenderView}
-use Rattle.sctp_model.specs.Forward.{Skip, Forward, skipped}
-use Rattle.sctp_model.specs.ReceiverView.{ReceiverView}
+use Rattle.sctp_model.specs.numbers.Lists.{Has}
+use Rattle.sctp_model.specs.messages.Format.{Format, Plain, Ordered, Lane, is_numbered, at_lane}
+use Rattle.sctp_model.specs.sender.SenderView.{SenderView}
+use Rattle.sctp_model.specs.messages.Forward.{Skip, Forward, skipped}
+use Rattle.sctp_model.specs.receiver.ReceiverView.{ReceiverView}
 use Rattle.sctp_safety.specs.Way.{Way, IsSkippedBy, Forward_comes, Step}
 use Rattle.sctp_safety.proofs.Facts.{IsDone, IsLost, IsLostBy, IsRetired, IsSendersForward, MayPass, Held, Good}
 use Rattle.sctp_safety.proofs.Basics.{at_lane_cases}

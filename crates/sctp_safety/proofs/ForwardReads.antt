@@ -1,15 +1,15 @@
 -- A FORWARD of the bag is read as it was built, whatever is answered to it, and what its answer leaves is moves.
 use Rattle.std.proofs.Common.{◌≡◌, ℕ, zero, suc, ◌+◌, ◌-◌, ◌^◌, ◌<◌, ◌≤◌, ◌⊎◌, max, ◌||◌, nat_le, true, false, List, [], length, Some, inl, inr, refl, sym, subst, ap, arith, ◌∙◌, le_refl}
 use Rattle.std.proofs.lemmas.Bool.{cases_lt, or_parts}
-use Rattle.sctp_model.specs.Lists.{Has}
-use Rattle.sctp_model.specs.Serial.{COUNTS, tsn, ahead, half_space}
-use Rattle.sctp_model.specs.Chunk.{ForwardMeaning}
-use Rattle.sctp_model.specs.Format.{Format, Plain, Interleaved, Kind, Ordered, Unordered, Lane, is_numbered, ordered_lane, unordered_lane}
-use Rattle.sctp_model.specs.Framing.{wire_number, number_near}
-use Rattle.sctp_model.specs.Plan.{Message, Part, entry_at, message_at}
-use Rattle.sctp_model.specs.Forward.{Skip, Forward, skipped}
-use Rattle.sctp_model.specs.ReceiverView.{ReceiverView, IsCumulative}
-use Rattle.sctp_model.specs.Receiving.{GivesAll}
+use Rattle.sctp_model.specs.numbers.Lists.{Has}
+use Rattle.sctp_model.specs.numbers.Serial.{COUNTS, tsn, ahead, half_space}
+use Rattle.sctp_model.specs.wire.Chunk.{ForwardMeaning}
+use Rattle.sctp_model.specs.messages.Format.{Format, Plain, Interleaved, Kind, Ordered, Unordered, Lane, is_numbered, ordered_lane, unordered_lane}
+use Rattle.sctp_model.specs.messages.Framing.{wire_number, number_near}
+use Rattle.sctp_model.specs.messages.Plan.{Message, Part, entry_at, message_at}
+use Rattle.sctp_model.specs.messages.Forward.{Skip, Forward, skipped}
+use Rattle.sctp_model.specs.receiver.ReceiverView.{ReceiverView, IsCumulative}
+use Rattle.sctp_model.specs.receiver.Receiving.{GivesAll}
 use Rattle.sctp_model.specs.receiver.Reading.{offset, index_at, is_behind, is_ahead, reference_in}
 use Rattle.sctp_model.specs.receiver.ForwardTaken.{ForwardAnswer, OutOfDate, Bad, Moved, names_other_stream, skips_read, jumped, let_go, ForwardTaken}
 use Rattle.sctp_model.specs.receiver.Laws.{IsIdle}

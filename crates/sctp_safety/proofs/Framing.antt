@@ -3,11 +3,11 @@ use Rattle.std.proofs.Common.{if◌then◌else◌, ◌≡◌, ℕ, zero, suc, �
 use Rattle.std.proofs.lemmas.Bool.{cases_eq, eq-eqb, ne_eqb}
 use Rattle.std.proofs.lemmas.Bool.Decides.{nat_tests}
 use Rattle.std.proofs.lemmas.List.{drop_all}
-use Rattle.sctp_model.specs.Lists.{Has, IsWithin, joined}
-use Rattle.sctp_model.specs.Format.{Format, Plain, Interleaved, Kind, Ordered, Unordered, Lane, is_numbered}
-use Rattle.sctp_model.specs.Plan.{Message, Part, Plan, entry_at, message_at}
-use Rattle.sctp_model.specs.Pieces.{Piece, number_of, piece_of, fragment_of, IsFragment}
-use Rattle.sctp_model.specs.Whole.{IsFirst, Follows, IsRow, text_of}
+use Rattle.sctp_model.specs.numbers.Lists.{Has, IsWithin, joined}
+use Rattle.sctp_model.specs.messages.Format.{Format, Plain, Interleaved, Kind, Ordered, Unordered, Lane, is_numbered}
+use Rattle.sctp_model.specs.messages.Plan.{Message, Part, Plan, entry_at, message_at}
+use Rattle.sctp_model.specs.messages.Pieces.{Piece, number_of, piece_of, fragment_of, IsFragment}
+use Rattle.sctp_model.specs.messages.Whole.{IsFirst, Follows, IsRow, text_of}
 use Rattle.sctp_safety.proofs.Basics.{item_at-above}
 use Rattle.sctp_safety.proofs.Facts.{IsOrderedPlan}
 

@@ -1,9 +1,9 @@
 -- The two ways in which a plan gains entries: a run of fragments, and an end mark.
 use Rattle.std.proofs.Common.{◌≡◌, ℕ, zero, suc, ◌+◌, ◌-◌, ◌<◌, ◌≤◌, ◌⊎◌, List, [], ◌∷◌, ◌++◌, length, slice_get, Some, inl, inr, refl, sym, subst, ap, arith}
 use Rattle.std.proofs.lemmas.Bool.{cases_lt}
-use Rattle.sctp_model.specs.Lists.{Has}
-use Rattle.sctp_model.specs.Format.{Format, Plain, Lane, at_lane}
-use Rattle.sctp_model.specs.Plan.{Message, Entry, Part, End, Plan, entry_at, message_at, IsOf, IsAssigned, IsComplete, HasEnd, IsClosed, parts_from}
+use Rattle.sctp_model.specs.numbers.Lists.{Has}
+use Rattle.sctp_model.specs.messages.Format.{Format, Plain, Lane, at_lane}
+use Rattle.sctp_model.specs.messages.Plan.{Message, Entry, Part, End, Plan, entry_at, message_at, IsOf, IsAssigned, IsComplete, HasEnd, IsClosed, parts_from}
 use Rattle.sctp_safety.specs.Way.{IsAllClosed}
 use Rattle.sctp_safety.proofs.Basics.{at_lane_cases, at_lane_same, slice_get-left, slice_get-end, slice_get-push, slice_get-within, item_at-left, item_at-within, item_at-cases, item_at-right}
 use Rattle.sctp_safety.proofs.Facts.{IsOrderedPlan}

@@ -4,10 +4,10 @@ use Rattle.std.specs.Prelude.{◌==◌, find, if◌then◌else◌}
 use Rattle.std.specs.Option.{option_map_or}
 use Rattle.std.proofs.lemmas.Bool.{and_parts}
 use Rattle.std.proofs.lemmas.Bool.Decides.{nat_tests}
-use Rattle.sctp_model.specs.Lists.{Has}
-use Rattle.sctp_model.specs.Format.{Format, Lane, same_lane}
-use Rattle.sctp_model.specs.Plan.{Entry, Part, End, entry_at, message_at, IsOf, IsInPart}
-use Rattle.sctp_model.specs.SenderView.{Queued, SenderView}
+use Rattle.sctp_model.specs.numbers.Lists.{Has}
+use Rattle.sctp_model.specs.messages.Format.{Format, Lane, same_lane}
+use Rattle.sctp_model.specs.messages.Plan.{Entry, Part, End, entry_at, message_at, IsOf, IsInPart}
+use Rattle.sctp_model.specs.sender.SenderView.{Queued, SenderView}
 use Rattle.sctp_model.specs.sender.Words.{some_passes}
 use Rattle.sctp_model.specs.sender.Entries.{is_of, is_in_part, passes_at}
 use Rattle.sctp_model.specs.sender.Abandoning.{Name, name_of, without, is_abandoned, is_covered, given_up, give_up, abandon_after}

@@ -2,14 +2,14 @@
 use Rattle.std.proofs.Common.{◌≡◌, ℕ, suc, ◌+◌, ◌<◌, ◌≤◌, ◌⊎◌, ◌==◌, not, ◌&&◌, ◌||◌, true, false, Bool, List, [], ◌∷◌, ◌++◌, length, zero, slice_get, Option, Some, None, inl, inr, refl, sym, subst, arith, ◌∙◌, eqb-true, leb-true}
 use Rattle.std.specs.Prelude.{if◌then◌else◌, fold, find, option_map, option_and_then}
 use Rattle.std.proofs.lemmas.Bool.{and_parts}
-use Rattle.sctp_model.specs.Lists.{at}
-use Rattle.sctp_model.specs.Format.{Lane, at_lane}
-use Rattle.sctp_model.specs.Plan.{Message, Entry, Part, End, Plan, entry_at, message_at}
-use Rattle.sctp_model.specs.SenderView.{Queued, SenderView}
+use Rattle.sctp_model.specs.numbers.Lists.{at}
+use Rattle.sctp_model.specs.messages.Format.{Lane, at_lane}
+use Rattle.sctp_model.specs.messages.Plan.{Message, Entry, Part, End, Plan, entry_at, message_at}
+use Rattle.sctp_model.specs.sender.SenderView.{Queued, SenderView}
 use Rattle.sctp_model.specs.sender.Words.{first_there, some_passes, count_up}
 use Rattle.sctp_model.specs.sender.Entries.{entry_message, is_of, is_in_part, is_wanted, is_unsettled, passes_at}
 use Rattle.sctp_model.specs.sender.Assigning.{with_entry}
-use Rattle.sctp_model.specs.sender.Abandoning.{has_ticket, name_at, name_of, waits, without, given_up, abandon_after, is_past, is_due, expire_one, unsettled_at, timed_out}
+use Rattle.sctp_model.specs.sender.Abandoning.{has_ticket, name_at, name_of, waits, without, given_up, abandon_after, is_past, is_overdue, expire_one, unsettled_at, timed_out}
 use Rattle.sctp_model.specs.sender.Abandoning.{Name as Named}
 use Rattle.sctp_model.proofs.sender.WordLaws.{some_is, found_is}
 use Rattle.sctp_model.proofs.sender.AbandonCases.{after_abandon}
@@ -153,7 +153,7 @@ past_is : (now : ℕ) (m : Message) → is_past now m ≡ true → (u : ℕ) × 
 past_is now m past = let until = some_is _ m.until past in (until.0, until.1, leb-true until.0 now until.2)
 
 -- A message with a number whose ticket is due is past its time: no message that waits has its ticket, and no other one in the plan.
-due_may : (w : Way) (now t : ℕ) → Good w → now ≤ w.asked.clock → is_due w.sender now t ≡ true → MayGiveUp w t
+due_may : (w : Way) (now t : ℕ) → Good w → now ≤ w.asked.clock → is_overdue w.sender now t ≡ true → MayGiveUp w t
 due_may w now t g clock due l n m named ticket = by_wait (find (λ q. q.message.ticket == t) w.sender.queue) refl (name_of w.sender t) refl due
   where
     by_message : (k : Named) (o : Option Message) → message_at w.sender.plan k.lane k.number ≡ o → Bears w.sender.plan t k → some_passes (is_past now) (first_there (o ∷ [])) ≡ true → IsAskedFor w.asked m
@@ -184,11 +184,11 @@ due_may w now t g clock due l n m named ticket = by_wait (find (λ q. q.message.
 expire_moved : (w : Way) (now : ℕ) (ts : List ℕ) → Good w → IsInOrder w → now ≤ w.asked.clock → IsMoved w (with_sender w (fold (expire_one now) w.sender ts))
 expire_moved w now [] g order clock = nothing_moved w order
 expire_moved w now (t ∷ ts) g order clock =
-    let first = one (is_due w.sender now t) refl in
+    let first = one (is_overdue w.sender now t) refl in
     let next = with_sender w (expire_one now w.sender t) in
     moved_on w next (with_sender w (fold (expire_one now) w.sender (t ∷ ts))) first (expire_moved next now ts (leads_good w next g first.leads) first.order clock)
   where
-    one : (b : Bool) → is_due w.sender now t ≡ b → IsMoved w (with_sender w (if b then abandon_after w.sender t else w.sender))
+    one : (b : Bool) → is_overdue w.sender now t ≡ b → IsMoved w (with_sender w (if b then abandon_after w.sender t else w.sender))
     one false idle = nothing_moved w order
     one true due = abandon_moved w t g order (due_may w now t g clock due)
 

@@ -1,14 +1,14 @@
 -- The start is good.
 use Rattle.std.proofs.Common.{◌≡◌, ℕ, zero, suc, true, false, Bool, List, [], slice_get, Some, inr, refl, sym, subst, ap, arith}
-use Rattle.sctp_model.specs.Lists.{Has, item_at}
-use Rattle.sctp_model.specs.Format.{Lane}
-use Rattle.sctp_model.specs.Plan.{Message, Entry, Part, End, entry_at, message_at}
-use Rattle.sctp_model.specs.Pieces.{Piece}
-use Rattle.sctp_model.specs.SenderView.{Queued, SenderView, fresh_sender}
-use Rattle.sctp_model.specs.Forward.{Forward}
-use Rattle.sctp_model.specs.Acknowledgement.{Acknowledgement}
-use Rattle.sctp_model.specs.ReceiverView.{Handed, ReceiverView, fresh_receiver, handed}
-use Rattle.sctp_model.specs.Safe.{IsRising, IsApart}
+use Rattle.sctp_model.specs.numbers.Lists.{Has, item_at}
+use Rattle.sctp_model.specs.messages.Format.{Lane}
+use Rattle.sctp_model.specs.messages.Plan.{Message, Entry, Part, End, entry_at, message_at}
+use Rattle.sctp_model.specs.messages.Pieces.{Piece}
+use Rattle.sctp_model.specs.sender.SenderView.{Queued, SenderView, fresh_sender}
+use Rattle.sctp_model.specs.messages.Forward.{Forward}
+use Rattle.sctp_model.specs.messages.Acknowledgement.{Acknowledgement}
+use Rattle.sctp_model.specs.receiver.ReceiverView.{Handed, ReceiverView, fresh_receiver, handed}
+use Rattle.sctp_model.specs.world.Safe.{IsRising, AreDifferent}
 use Rattle.sctp_safety.specs.Way.{Way, IsStart}
 use Rattle.sctp_safety.proofs.Facts.{IsQueue, Good}
 
@@ -108,7 +108,7 @@ module _ (w : Way) (s : IsStart w) where
         all_seen = λ l n h. absurd (no_handed l.stream h.0 h.1);
         below = λ t h k. absurd (no_handed t h k);
         rising = λ t. subst IsRising (sym (none_handed t)) tt;
-        apart = λ t. subst IsApart (sym (none_handed t)) tt;
+        apart = λ t. subst AreDifferent (sym (none_handed t)) tt;
         honest = λ t h k. absurd (no_handed t h k);
         passed = λ t n l. absurd (let z = no_next t in omega arith);
       };

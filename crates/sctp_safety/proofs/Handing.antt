@@ -1,13 +1,13 @@
 -- Chunks go, and messages are handed over or passed over.
 use Rattle.std.proofs.Common.{◌≡◌, ℕ, ◌<◌, ◌≤◌, ◌⊎◌, true, List, [], ◌∷◌, ◌++◌, Some, inl, inr, refl, sym, subst, ap, le_refl, append_assoc}
-use Rattle.sctp_model.specs.Lists.{Has, IsWithin, at}
-use Rattle.sctp_model.specs.Format.{Format, Ordered, Lane, ordered_lane}
-use Rattle.sctp_model.specs.Plan.{Part, entry_at}
-use Rattle.sctp_model.specs.Pieces.{Piece, IsNumberBelow}
-use Rattle.sctp_model.specs.SenderView.{SenderView}
-use Rattle.sctp_model.specs.ReceiverView.{Handed, ReceiverView, handed}
-use Rattle.sctp_model.specs.Receiving.{message_of}
-use Rattle.sctp_model.specs.Safe.{IsRising, IsApart, WasHanded, IsNumberLess}
+use Rattle.sctp_model.specs.numbers.Lists.{Has, IsWithin, at}
+use Rattle.sctp_model.specs.messages.Format.{Format, Ordered, Lane, ordered_lane}
+use Rattle.sctp_model.specs.messages.Plan.{Part, entry_at}
+use Rattle.sctp_model.specs.messages.Pieces.{Piece, IsNumberBelow}
+use Rattle.sctp_model.specs.sender.SenderView.{SenderView}
+use Rattle.sctp_model.specs.receiver.ReceiverView.{Handed, ReceiverView, handed}
+use Rattle.sctp_model.specs.receiver.Receiving.{message_of}
+use Rattle.sctp_model.specs.world.Safe.{IsRising, AreDifferent, WasHanded, IsNumberLess}
 use Rattle.sctp_safety.proofs.Facts.{IsOver, IsAllSeen, IsOrderedPlan, IsHonest, Held, IsHandedRightly}
 use Rattle.sctp_safety.proofs.Basics.{at_cases, Has-left, Has-right, Has-push}
 use Rattle.sctp_safety.proofs.Later.{Learns, Grows-refl, Extends-refl, lost-later, IsRetired-later, MayPass-later, IsAllSeen-later}
@@ -24,7 +24,7 @@ rising_push (x ∷ xs) h r less = (λ y k. first y (Has-push xs h y k), rising_p
     first y (inl k) = r.0 y k
     first y (inr e) = subst (λ (z : Handed). x.lane.kind ≡ Ordered → z.lane.kind ≡ Ordered → IsNumberLess x.number z.number) e (less x (inl refl))
 
-apart_push : (xs : List Handed) (h : Handed) → IsApart xs → ((y : Handed) → Has xs y → y.first ≡ h.first → ⊥) → IsApart (xs ++ h ∷ [])
+apart_push : (xs : List Handed) (h : Handed) → AreDifferent xs → ((y : Handed) → Has xs y → y.first ≡ h.first → ⊥) → AreDifferent (xs ++ h ∷ [])
 apart_push [] h r other = (λ y a. absurd a, tt)
 apart_push (x ∷ xs) h r other = (λ y k. first y (Has-push xs h y k), apart_push xs h r.1 (λ y k. other y (inr k)))
   where
@@ -132,7 +132,7 @@ module _ (f : Format) (a : SenderView) (r : ReceiverView) (kept : List Piece) (n
     rising = on (λ (y : ℕ) (hs : List Handed). IsRising hs)
         (rising_push (handed r s) new (held.told.rising s) (λ y k o p. less_by (place p).0 y.number x.number (place p).1 (below_more (r.next s) (place p).0 y.number (place p).2 (held.told.below s y k o))))
         (λ y ne. held.told.rising y);
-    apart = on (λ (y : ℕ) (hs : List Handed). IsApart hs) (apart_push (handed r s) new (held.told.apart s) (λ y k e. other y k e)) (λ y ne. held.told.apart y);
+    apart = on (λ (y : ℕ) (hs : List Handed). AreDifferent hs) (apart_push (handed r s) new (held.told.apart s) (λ y k e. other y k e)) (λ y ne. held.told.apart y);
     honest = λ u h. on (λ (y : ℕ) (hs : List Handed). Has hs h → IsHonest f a.plan y h) (λ k. honest h (Has-push (handed r s) new h k))
         (λ y ne k. held.told.honest y h k) u;
     passed = passed;

@@ -3,9 +3,9 @@ use Rattle.std.proofs.Common.{◌≡◌, ℕ, suc, ◌+◌, ◌-◌, ◌<◌, �
 use Rattle.std.specs.Prelude.{option_and_then}
 use Rattle.std.proofs.lemmas.Bool.{and_parts, cases_Bool, cases_eq}
 use Rattle.std.proofs.lemmas.Bool.Decides.{nat_tests}
-use Rattle.sctp_model.specs.Format.{Format, Lane, same_lane}
-use Rattle.sctp_model.specs.Plan.{Message, Entry, Part, End, Plan, entry_at, message_at, IsAssigned, IsComplete, HasEnd, IsClosed}
-use Rattle.sctp_model.specs.SenderView.{SenderView}
+use Rattle.sctp_model.specs.messages.Format.{Format, Lane, same_lane}
+use Rattle.sctp_model.specs.messages.Plan.{Message, Entry, Part, End, Plan, entry_at, message_at, IsAssigned, IsComplete, HasEnd, IsClosed}
+use Rattle.sctp_model.specs.sender.SenderView.{SenderView}
 use Rattle.sctp_model.specs.sender.Words.{when}
 use Rattle.sctp_model.specs.sender.Entries.{entry_lane, entry_number, fragments_in, latest, next_part, continued, is_of, is_in_part}
 use Rattle.sctp_model.proofs.sender.WordLaws.{when_there, when_absent, some_is}

@@ -1,13 +1,13 @@
 -- Plan, messages, abandoned ones, indexes seen and numbers passed only grow, and most facts last while they do.
 use Rattle.std.proofs.Common.{Bool, ◌≡◌, ℕ, ◌≤◌, ◌⊎◌, true, List, Some, inl, inr, subst, arith, le_refl}
-use Rattle.sctp_model.specs.Lists.{Has}
-use Rattle.sctp_model.specs.Format.{Format, Lane}
-use Rattle.sctp_model.specs.Plan.{Message, Entry, Part, Plan, entry_at, message_at, IsAssigned, IsComplete, IsClosed}
-use Rattle.sctp_model.specs.Pieces.{Piece, IsFragment}
-use Rattle.sctp_model.specs.SenderView.{SenderView}
-use Rattle.sctp_model.specs.Forward.{Skip, Forward}
-use Rattle.sctp_model.specs.ReceiverView.{Handed, ReceiverView, handed, IsReached}
-use Rattle.sctp_model.specs.Safe.{IsSent, WasHanded}
+use Rattle.sctp_model.specs.numbers.Lists.{Has}
+use Rattle.sctp_model.specs.messages.Format.{Format, Lane}
+use Rattle.sctp_model.specs.messages.Plan.{Message, Entry, Part, Plan, entry_at, message_at, IsAssigned, IsComplete, IsClosed}
+use Rattle.sctp_model.specs.messages.Pieces.{Piece, IsFragment}
+use Rattle.sctp_model.specs.sender.SenderView.{SenderView}
+use Rattle.sctp_model.specs.messages.Forward.{Skip, Forward}
+use Rattle.sctp_model.specs.receiver.ReceiverView.{Handed, ReceiverView, handed, Reaches}
+use Rattle.sctp_model.specs.world.Safe.{IsSent, WasHanded}
 use Rattle.sctp_safety.proofs.Facts.{IsHandedRightly, IsDone, IsLost, IsLostBy, IsAllSeen, MayPass, IsRetired, IsAhead, IsSendersForward, IsHonest}
 
 -- the plan gained entries and messages, and lost none
@@ -90,7 +90,7 @@ module _ (p q : Plan) (more : Extends p q) where
     seen = λ k b. let x = h.seen k b in (x.0, more.entries _ _ x.1, learns.seen _ x.2);
   }
 
-pub IsReached-later : (r t : ReceiverView) → Learns r t → (i : ℕ) → IsReached r i → IsReached t i
+pub IsReached-later : (r t : ReceiverView) → Learns r t → (i : ℕ) → Reaches r i → Reaches t i
 IsReached-later r t learns i (inl h) = inl (learns.seen i h)
 IsReached-later r t learns i (inr h) = inr (let l : r.jump ≤ t.jump = learns.jump in omega arith)
 

@@ -1,15 +1,15 @@
 -- A move of the sender, of the receiver, or of the bags keeps every fact where it says why some hold of what is new.
 use Rattle.std.proofs.Common.{◌≡◌, ℕ, ◌≤◌, ◌⊎◌, true, List, Some, inl, inr, subst}
-use Rattle.sctp_model.specs.Lists.{Has}
-use Rattle.sctp_model.specs.Format.{Format, Lane, ordered_lane}
-use Rattle.sctp_model.specs.Plan.{Entry, Part, entry_at}
-use Rattle.sctp_model.specs.Pieces.{Piece, IsFragment}
-use Rattle.sctp_model.specs.SenderView.{SenderView}
-use Rattle.sctp_model.specs.Forward.{Forward}
-use Rattle.sctp_model.specs.ReceiverView.{ReceiverView, IsReached}
-use Rattle.sctp_model.specs.Acknowledgement.{Acknowledgement, covers}
-use Rattle.sctp_model.specs.Calls.{Asked}
-use Rattle.sctp_model.specs.Safe.{WasHanded}
+use Rattle.sctp_model.specs.numbers.Lists.{Has}
+use Rattle.sctp_model.specs.messages.Format.{Format, Lane, ordered_lane}
+use Rattle.sctp_model.specs.messages.Plan.{Entry, Part, entry_at}
+use Rattle.sctp_model.specs.messages.Pieces.{Piece, IsFragment}
+use Rattle.sctp_model.specs.sender.SenderView.{SenderView}
+use Rattle.sctp_model.specs.messages.Forward.{Forward}
+use Rattle.sctp_model.specs.receiver.ReceiverView.{ReceiverView, Reaches}
+use Rattle.sctp_model.specs.messages.Acknowledgement.{Acknowledgement, covers}
+use Rattle.sctp_model.specs.world.Calls.{Asked}
+use Rattle.sctp_model.specs.world.Safe.{WasHanded}
 use Rattle.sctp_safety.specs.Way.{Way, with_receiver}
 use Rattle.sctp_safety.proofs.Facts.{IsOver, IsSettled, IsSendersForward, IsOrderedPlan, Waits, IsAskedPlan, Held, Good}
 use Rattle.sctp_safety.proofs.Later.{Grows, Learns, Grows-refl, Learns-refl, IsFragment-later, IsHonest-later, WasHanded-later, WasHanded-earlier, IsAllSeen-later, IsReached-later, lost-later, MayPass-later, IsRetired-later, IsSendersForward-later}
@@ -17,7 +17,7 @@ use Rattle.sctp_safety.proofs.Later.{Grows, Learns, Grows-refl, Learns-refl, IsF
 -- A move of the sender or its user. It says why the plan is in order, and why what is covered was reached.
 pub by_sender : (w : Way) (b : SenderView) (u : Asked) → Good w → Grows w.sender b → IsOrderedPlan w.format b.plan →
     Waits w.streams b.plan u b.queue → IsAskedPlan w.streams b u →
-    ((i : ℕ) → b.covered i ≡ true → IsReached w.receiver i) → ((i : ℕ) → i ≤ b.cum → IsReached w.receiver i) →
+    ((i : ℕ) → b.covered i ≡ true → Reaches w.receiver i) → ((i : ℕ) → i ≤ b.cum → Reaches w.receiver i) →
     Good (record w { sender = b; asked = u })
 by_sender w b u g grows arranged waits sound covered cum = record {
   arranged = arranged;
@@ -118,8 +118,8 @@ by_receiver w t g learns held = record {
 pub by_bags : (w : Way) (pieces : List Piece) (forwards : List Forward) (sacks : List Acknowledgement) (shutdowns : List ℕ) → Good w →
     ((x : Piece) → Has pieces x → IsFragment w.format w.sender.plan x) →
     ((x : Forward) → Has forwards x → IsSendersForward w.format w.sender w.receiver x) →
-    ((x : Acknowledgement) (i : ℕ) → Has sacks x → covers x i ≡ true → IsReached w.receiver i) →
-    ((c i : ℕ) → Has shutdowns c → i ≤ c → IsReached w.receiver i) →
+    ((x : Acknowledgement) (i : ℕ) → Has sacks x → covers x i ≡ true → Reaches w.receiver i) →
+    ((c i : ℕ) → Has shutdowns c → i ≤ c → Reaches w.receiver i) →
     Good (record w { pieces = pieces; forwards = forwards; sacks = sacks; shutdowns = shutdowns })
 by_bags w pieces forwards sacks shutdowns g p f s d = record {
   arranged = g.arranged;

@@ -3,8 +3,8 @@ use Rattle.std.proofs.Common.{◌≡◌, ℕ, ◌+◌, ◌-◌, ◌^◌, ◌%◌
 use Rattle.std.specs.Prelude.{if◌then◌else◌}
 use Rattle.std.proofs.lemmas.Bool.{cases_lt, lt-ltb, le-leb}
 use Rattle.std.proofs.lemmas.Bool.Decides.{nat_tests}
-use Rattle.sctp_model.specs.Serial.{COUNTS, wire_value, tsn, ahead, half_space, as_count, near}
-use Rattle.sctp_model.specs.Framing.{as_number}
+use Rattle.sctp_model.specs.numbers.Serial.{COUNTS, wire_value, tsn, ahead, half_space, as_count, near}
+use Rattle.sctp_model.specs.messages.Framing.{as_number}
 
 -- ---- TSNs
 

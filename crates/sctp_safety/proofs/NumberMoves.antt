@@ -1,9 +1,9 @@
 -- What the plan gains keeps every fact: a message takes its number and first indexes, goes on with further ones, is ended.
 use Rattle.std.proofs.Common.{◌≡◌, ℕ, zero, suc, ◌+◌, ◌<◌, ◌⊎◌, true, List, [], ◌∷◌, ◌++◌, length, slice_get, Some, inl, inr, refl, sym, subst, ap, arith}
-use Rattle.sctp_model.specs.Lists.{Has}
-use Rattle.sctp_model.specs.Format.{Lane}
-use Rattle.sctp_model.specs.Plan.{Message, Entry, Part, End, Plan, entry_at, message_at, IsAssigned, HasEnd, IsClosed, parts_from}
-use Rattle.sctp_model.specs.SenderView.{Queued, SenderView}
+use Rattle.sctp_model.specs.numbers.Lists.{Has}
+use Rattle.sctp_model.specs.messages.Format.{Lane}
+use Rattle.sctp_model.specs.messages.Plan.{Message, Entry, Part, End, Plan, entry_at, message_at, IsAssigned, HasEnd, IsClosed, parts_from}
+use Rattle.sctp_model.specs.sender.SenderView.{Queued, SenderView}
 use Rattle.sctp_safety.specs.Way.{Way, Number, Continue, Mark, Step, numbered, with_sender}
 use Rattle.sctp_safety.proofs.Basics.{slice_get-within, Has-cases, Has-right, item_at-left, item_at-cases}
 use Rattle.sctp_safety.proofs.Facts.{IsOrderedPlan, IsCalled, Waits, Good}

@@ -2,8 +2,8 @@
 use Rattle.std.proofs.Common.{◌≡◌, ℕ, ◌<◌, ◌≤◌, ◌⊎◌, true, Option, None, Some, inl, inr, refl, arith}
 use Rattle.std.proofs.lemmas.Bool.{cases_lt}
 use Rattle.std.proofs.lemmas.Bool.Decides.{nat_tests}
-use Rattle.sctp_model.specs.Pieces.{is_number_below, IsNumberBelow, same_number}
-use Rattle.sctp_model.specs.Safe.{IsNumberLess}
+use Rattle.sctp_model.specs.messages.Pieces.{is_number_below, IsNumberBelow, same_number}
+use Rattle.sctp_model.specs.world.Safe.{IsNumberLess}
 
 pub below_more : (a b : ℕ) (o : Option ℕ) → a ≤ b → IsNumberBelow a o → IsNumberBelow b o
 below_more a b None le h = absurd h

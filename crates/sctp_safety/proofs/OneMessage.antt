@@ -1,10 +1,10 @@
 -- A whole row of a plan's chunks is one message, and the fragments of a message that are all kept are whole.
 use Rattle.std.proofs.Common.{◌≡◌, ℕ, ◌<◌, true, List, [], ◌∷◌, length, Some, inl, inr, refl, subst, ap, arith}
-use Rattle.sctp_model.specs.Lists.{Has, IsWithin}
-use Rattle.sctp_model.specs.Format.{Format, Plain, Interleaved, Lane, is_numbered}
-use Rattle.sctp_model.specs.Plan.{Message, bytes_of, Part, Plan, entry_at, message_at, IsComplete}
-use Rattle.sctp_model.specs.Pieces.{Piece, number_of, piece_of, payload_of, IsFragment}
-use Rattle.sctp_model.specs.Whole.{IsWhole, text_of}
+use Rattle.sctp_model.specs.numbers.Lists.{Has, IsWithin}
+use Rattle.sctp_model.specs.messages.Format.{Format, Plain, Interleaved, Lane, is_numbered}
+use Rattle.sctp_model.specs.messages.Plan.{Message, bytes_of, Part, Plan, entry_at, message_at, IsComplete}
+use Rattle.sctp_model.specs.messages.Pieces.{Piece, number_of, piece_of, payload_of, IsFragment}
+use Rattle.sctp_model.specs.messages.Whole.{IsWhole, text_of}
 use Rattle.sctp_safety.proofs.Facts.{IsOrderedPlan}
 use Rattle.sctp_safety.proofs.Framing.{IsFramed, framed_by_arranged, IsPart, AreFrom, part_by_fragment, part_here, part_number, part_lane, first_is, is_first, row_is, is_row, text_from, each_from, all_from, gather}
 

@@ -1,14 +1,14 @@
 -- The next ordered message of a stream is handed over, or its number is passed over.
 use Rattle.std.proofs.Common.{◌≡◌, ℕ, suc, ◌<◌, ◌≤◌, ◌⊎◌, not, true, false, Bool, List, ◌∷◌, Some, inl, inr, refl, sym, subst, ap, arith, le_refl}
 use Rattle.std.proofs.lemmas.Bool.{cases_eq, cases_Bool, and_parts}
-use Rattle.sctp_model.specs.Lists.{Has, at}
-use Rattle.sctp_model.specs.Format.{Format, Ordered, Lane, same_lane, ordered_lane}
-use Rattle.sctp_model.specs.Plan.{Part, entry_at}
-use Rattle.sctp_model.specs.Pieces.{Piece, is_number_below, IsNumberBelow}
-use Rattle.sctp_model.specs.SenderView.{SenderView}
-use Rattle.sctp_model.specs.ReceiverView.{Handed, ReceiverView}
-use Rattle.sctp_model.specs.Receiving.{is_below, without_below}
-use Rattle.sctp_model.specs.Safe.{WasHanded}
+use Rattle.sctp_model.specs.numbers.Lists.{Has, at}
+use Rattle.sctp_model.specs.messages.Format.{Format, Ordered, Lane, same_lane, ordered_lane}
+use Rattle.sctp_model.specs.messages.Plan.{Part, entry_at}
+use Rattle.sctp_model.specs.messages.Pieces.{Piece, is_number_below, IsNumberBelow}
+use Rattle.sctp_model.specs.sender.SenderView.{SenderView}
+use Rattle.sctp_model.specs.receiver.ReceiverView.{Handed, ReceiverView}
+use Rattle.sctp_model.specs.receiver.Receiving.{is_below, without_below}
+use Rattle.sctp_model.specs.world.Safe.{WasHanded}
 use Rattle.sctp_safety.specs.Way.{Way, Hand_over, Pass_over, Drop_below_next, Step}
 use Rattle.sctp_safety.proofs.Facts.{IsOver, IsAllSeen, MayPass, Held, Good}
 use Rattle.sctp_safety.proofs.Basics.{at_cases, at_same, Has-filter, Has-filtered, filter_is, same_lane-true, same_lane-refl}

@@ -2,13 +2,13 @@
 -- direction in which nothing was ever acknowledged.
 use Rattle.std.proofs.Common.{◌≡◌, ℕ, suc, ◌<◌, not, ◌&&◌, ◌||◌, true, false, Bool, List, [], ◌∷◌, ◌++◌, length, Option, Some, None, inl, refl, sym, subst, ◌∙◌, zero}
 use Rattle.std.proofs.lemmas.Bool.{and_parts}
-use Rattle.sctp_model.specs.Lists.{at}
-use Rattle.sctp_model.specs.Format.{Format, Lane}
-use Rattle.sctp_model.specs.Plan.{Entry, entry_at}
-use Rattle.sctp_model.specs.Orderly.{Orderly}
-use Rattle.sctp_model.specs.SenderView.{SenderView, fresh_sender}
-use Rattle.sctp_model.specs.ReceiverView.{fresh_receiver}
-use Rattle.sctp_model.specs.Calls.{Call}
+use Rattle.sctp_model.specs.numbers.Lists.{at}
+use Rattle.sctp_model.specs.messages.Format.{Format, Lane}
+use Rattle.sctp_model.specs.messages.Plan.{Entry, entry_at}
+use Rattle.sctp_model.specs.messages.Orderly.{Orderly}
+use Rattle.sctp_model.specs.sender.SenderView.{SenderView, fresh_sender}
+use Rattle.sctp_model.specs.receiver.ReceiverView.{fresh_receiver}
+use Rattle.sctp_model.specs.world.Calls.{Call}
 use Rattle.sctp_model.specs.sender.Entries.{is_given_up, is_wanted, is_unsettled}
 use Rattle.sctp_model.specs.sender.Queueing.{refusal, queued}
 use Rattle.sctp_model.specs.sender.Filling.{Wish, next_wish, with_sent, gone}

@@ -1,10 +1,10 @@
 -- A plan that is in order by tickets is orderly.
 use Rattle.std.proofs.Common.{◌≡◌, ℕ, zero, suc, ◌<◌, ◌≤◌, ◌⊎◌, List, [], ◌∷◌, length, slice_get, slice_index_or, Option, None, Some, inl, inr, refl, sym, ap, arith}
 use Rattle.std.proofs.lemmas.Bool.{cases_lt}
-use Rattle.sctp_model.specs.Lists.{Has}
-use Rattle.sctp_model.specs.Format.{Format, Lane}
-use Rattle.sctp_model.specs.Plan.{Message, Part, Plan, entry_at, message_at, IsClosed}
-use Rattle.sctp_model.specs.Orderly.{IsNumbered, IsBefore, IsCounted, Orderly}
+use Rattle.sctp_model.specs.numbers.Lists.{Has}
+use Rattle.sctp_model.specs.messages.Format.{Format, Lane}
+use Rattle.sctp_model.specs.messages.Plan.{Message, Part, Plan, entry_at, message_at, IsClosed}
+use Rattle.sctp_model.specs.messages.Orderly.{IsNumbered, IsBefore, IsCounted, Orderly}
 use Rattle.sctp_safety.proofs.Facts.{IsOrderedPlan}
 use Rattle.sctp_safety.proofs.PlanLemmas.{message_of}
 

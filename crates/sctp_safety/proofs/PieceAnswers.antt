@@ -2,15 +2,15 @@
 use Rattle.std.proofs.Common.{◌≡◌, ℕ, ◌<◌, ◌≤◌, ◌⊎◌, ◌==◌, ◌&&◌, not, nat_lt, nat_le, true, false, Bool, List, [], ◌∷◌, Option, Some, None, inl, inr, refl, sym, subst, ap, arith, eqb-true, leb-true}
 use Rattle.std.proofs.lemmas.Bool.{and_parts, or_parts, or_cases, cases_lt}
 use Rattle.std.proofs.lemmas.Bool.Decides.{nat_tests}
-use Rattle.sctp_model.specs.Lists.{Has}
-use Rattle.sctp_model.specs.Serial.{tsn, before, half_space}
-use Rattle.sctp_model.specs.Chunk.{PieceMeaning}
-use Rattle.sctp_model.specs.Format.{Format, Plain, Interleaved, Kind, Ordered, Unordered, is_numbered, same_lane}
-use Rattle.sctp_model.specs.Pieces.{Piece, same_number, fragment_of, IsNumberBelow}
-use Rattle.sctp_model.specs.ReceiverView.{ReceiverView}
-use Rattle.sctp_model.specs.Receiving.{IsBehind, IsPassed}
+use Rattle.sctp_model.specs.numbers.Lists.{Has}
+use Rattle.sctp_model.specs.numbers.Serial.{tsn, before, half_space}
+use Rattle.sctp_model.specs.wire.Chunk.{PieceMeaning}
+use Rattle.sctp_model.specs.messages.Format.{Format, Plain, Interleaved, Kind, Ordered, Unordered, is_numbered, same_lane}
+use Rattle.sctp_model.specs.messages.Pieces.{Piece, same_number, fragment_of, IsNumberBelow}
+use Rattle.sctp_model.specs.receiver.ReceiverView.{ReceiverView}
+use Rattle.sctp_model.specs.receiver.Receiving.{IsBehind, IsPassed}
 use Rattle.sctp_model.specs.receiver.Reading.{offset, is_behind, is_ahead, lowest_in, is_late, piece_at}
-use Rattle.sctp_model.specs.receiver.PieceTaken.{Answer, Duplicate, Ahead, NoSuchStream, Passed, NoRoom, Taken, are_one_fragment, is_held, is_repeated, is_passed, is_duplicate, is_too_much, answer_to}
+use Rattle.sctp_model.specs.receiver.PieceTaken.{PieceAnswer, Duplicate, Ahead, NoSuchStream, Passed, NoRoom, Kept, are_one_fragment, is_held, is_repeated, is_passed, is_duplicate, is_too_much, answer_to}
 use Rattle.sctp_model.proofs.receiver.RowLemmas.{row_fails, row_holds, row_lacks}
 use Rattle.sctp_safety.proofs.Basics.{same_lane-true}
 
@@ -36,7 +36,7 @@ pub record IsFresh (r : ReceiverView) (c i wire : ℕ) : Type 0 where
 -- ---- rows of the table
 
 module _ (f : Format) (r : ReceiverView) (c : ℕ) (p : PieceMeaning) where
-  pub fresh_is : (a : Answer) → a ≡ answer_to f r c p → (Duplicate ≡ a → ⊥) → IsFresh r c (piece_at f r c p).index p.tsn
+  pub fresh_is : (a : PieceAnswer) → a ≡ answer_to f r c p → (Duplicate ≡ a → ⊥) → IsFresh r c (piece_at f r c p).index p.tsn
   fresh_is a is other =
       let row = row_fails (is_duplicate f r c p) Duplicate _ a (sym is) other in
       let parts = or_parts (is_behind r c p.tsn) (r.seen (piece_at f r c p).index) row.0 in
@@ -47,14 +47,14 @@ module _ (f : Format) (r : ReceiverView) (c : ℕ) (p : PieceMeaning) where
       let first = row_fails (is_duplicate f r c p) Duplicate _ NoSuchStream (sym is) (λ e. cc) in
       let second = row_fails (is_ahead r c p.tsn) Ahead _ NoSuchStream first.1 (λ e. cc) in
       leb-true r.streams p.stream (row_holds (nat_le r.streams p.stream) NoSuchStream _ second.1
-      (row_lacks (is_passed f r (piece_at f r c p)) Passed _ NoSuchStream (λ e. cc) (row_lacks (is_too_much r p) NoRoom Taken NoSuchStream (λ e. cc) (λ e. cc))))
+      (row_lacks (is_passed f r (piece_at f r c p)) Passed _ NoSuchStream (λ e. cc) (row_lacks (is_too_much r p) NoRoom Kept NoSuchStream (λ e. cc) (λ e. cc))))
 
   pub passed_is : Passed ≡ answer_to f r c p → is_passed f r (piece_at f r c p) ≡ true
   passed_is is =
       let first = row_fails (is_duplicate f r c p) Duplicate _ Passed (sym is) (λ e. cc) in
       let second = row_fails (is_ahead r c p.tsn) Ahead _ Passed first.1 (λ e. cc) in
       let third = row_fails (nat_le r.streams p.stream) NoSuchStream _ Passed second.1 (λ e. cc) in
-      row_holds (is_passed f r (piece_at f r c p)) Passed _ third.1 (row_lacks (is_too_much r p) NoRoom Taken Passed (λ e. cc) (λ e. cc))
+      row_holds (is_passed f r (piece_at f r c p)) Passed _ third.1 (row_lacks (is_too_much r p) NoRoom Kept Passed (λ e. cc) (λ e. cc))
 
 -- ---- a chunk that isn't wanted
 

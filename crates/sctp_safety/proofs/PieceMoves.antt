@@ -1,14 +1,14 @@
 -- What the receiver does with a chunk that comes: it keeps the data, or drops it.
 use Rattle.std.proofs.Common.{◌≡◌, ℕ, ◌<◌, ◌≤◌, ◌⊎◌, Bool, true, false, List, ◌∷◌, Some, inl, inr, refl, sym, subst, ap, arith, le_refl}
 use Rattle.std.proofs.lemmas.Bool.{cases_eq, cases_Bool}
-use Rattle.sctp_model.specs.Lists.{Has, at}
-use Rattle.sctp_model.specs.Format.{Format, Plain, Interleaved, Kind, Ordered, Unordered, Lane, is_numbered, ordered_lane}
-use Rattle.sctp_model.specs.Plan.{Part, Plan, entry_at}
-use Rattle.sctp_model.specs.Pieces.{Piece, fragment_of, IsFragment, IsNumberBelow}
-use Rattle.sctp_model.specs.SenderView.{SenderView}
-use Rattle.sctp_model.specs.ReceiverView.{ReceiverView}
-use Rattle.sctp_model.specs.Receiving.{IsPassed, IsBehind}
-use Rattle.sctp_model.specs.Safe.{WasHanded}
+use Rattle.sctp_model.specs.numbers.Lists.{Has, at}
+use Rattle.sctp_model.specs.messages.Format.{Format, Plain, Interleaved, Kind, Ordered, Unordered, Lane, is_numbered, ordered_lane}
+use Rattle.sctp_model.specs.messages.Plan.{Part, Plan, entry_at}
+use Rattle.sctp_model.specs.messages.Pieces.{Piece, fragment_of, IsFragment, IsNumberBelow}
+use Rattle.sctp_model.specs.sender.SenderView.{SenderView}
+use Rattle.sctp_model.specs.receiver.ReceiverView.{ReceiverView}
+use Rattle.sctp_model.specs.receiver.Receiving.{IsPassed, IsBehind}
+use Rattle.sctp_model.specs.world.Safe.{WasHanded}
 use Rattle.sctp_safety.specs.Way.{Way, Keep_piece, Drop_piece, Step}
 use Rattle.sctp_safety.proofs.Facts.{IsDone, IsOver, IsSettled, MayPass, IsOrderedPlan, Held, Good}
 use Rattle.sctp_safety.proofs.Basics.{at_cases, at_same, at_other, lane_is}

@@ -2,17 +2,17 @@
 use Rattle.std.proofs.Common.{◌≡◌, ℕ, suc, ◌+◌, ◌-◌, ◌^◌, ◌<◌, ◌≤◌, ◌⊎◌, nat_le, true, false, [], length, Option, Some, None, inl, inr, refl, sym, subst, ap, arith, ◌∙◌}
 use Rattle.std.specs.Prelude.{if◌then◌else◌}
 use Rattle.std.proofs.lemmas.Bool.{cases_lt, cases_Bool}
-use Rattle.sctp_model.specs.Serial.{COUNTS, tsn, ahead, half_space}
-use Rattle.sctp_model.specs.Chunk.{PieceMeaning}
-use Rattle.sctp_model.specs.Format.{Format, Plain, Interleaved, Kind, Ordered, Unordered, Lane, is_numbered, ordered_lane, unordered_lane}
-use Rattle.sctp_model.specs.Framing.{lane_kind, wire_number, number_near}
-use Rattle.sctp_model.specs.Plan.{IsOf, Message, Entry, Part, entry_at, message_at}
-use Rattle.sctp_model.specs.Pieces.{Piece, piece_of, number_of, IsFragment}
-use Rattle.sctp_model.specs.ReceiverView.{ReceiverView, IsCumulative}
-use Rattle.sctp_model.specs.Receiving.{recorded, IsPassed, Takes}
+use Rattle.sctp_model.specs.numbers.Serial.{COUNTS, tsn, ahead, half_space}
+use Rattle.sctp_model.specs.wire.Chunk.{PieceMeaning}
+use Rattle.sctp_model.specs.messages.Format.{Format, Plain, Interleaved, Kind, Ordered, Unordered, Lane, is_numbered, ordered_lane, unordered_lane}
+use Rattle.sctp_model.specs.messages.Framing.{lane_kind, wire_number, number_near}
+use Rattle.sctp_model.specs.messages.Plan.{IsOf, Message, Entry, Part, entry_at, message_at}
+use Rattle.sctp_model.specs.messages.Pieces.{Piece, piece_of, number_of, IsFragment}
+use Rattle.sctp_model.specs.receiver.ReceiverView.{ReceiverView, IsCumulative}
+use Rattle.sctp_model.specs.receiver.Receiving.{recorded, IsPassed, TakesPiece}
 use Rattle.sctp_model.specs.sender.SentChunks.{is_unordered, piece_said}
 use Rattle.sctp_model.specs.receiver.Reading.{offset, index_at, is_behind, reference_in, number_in, lane_of, piece_at}
-use Rattle.sctp_model.specs.receiver.PieceTaken.{Answer, Duplicate, Ahead, NoSuchStream, Passed, NoRoom, Taken, is_passed, noted, PieceTaken}
+use Rattle.sctp_model.specs.receiver.PieceTaken.{PieceAnswer, Duplicate, Ahead, NoSuchStream, Passed, NoRoom, Kept, is_passed, noted, PieceTaken}
 use Rattle.sctp_model.specs.receiver.Laws.{IsIdle}
 use Rattle.sctp_model.proofs.receiver.Idle.{still_idle}
 use Rattle.sctp_model.proofs.receiver.AtRest.{takes_giving}
@@ -194,7 +194,7 @@ module _ (w : Way) (p : PieceMeaning) (usual : IsUsual w) (joined : IsJoined w) 
     buffer = refl;
   }
 
-  received : (a : Answer) (t : ReceiverView) → PieceTaken w.format w.receiver p a t → IsReceived w t
+  received : (a : PieceAnswer) (t : ReceiverView) → PieceTaken w.format w.receiver p a t → IsReceived w t
   received Duplicate t taken = subst (IsReceived w) (sym taken.leaves) (record {
     leads = leads_by w (with_receiver w (noted w.receiver p.tsn)) (Note_duplicates (noted w.receiver p.tsn)) (refl, refl);
     idle = still_idle w.format w.receiver (noted w.receiver p.tsn) refl refl refl idle;
@@ -226,10 +226,10 @@ module _ (w : Way) (p : PieceMeaning) (usual : IsUsual w) (joined : IsJoined w) 
       passed : (is_numbered w.format said.lane.kind ≡ true) ⊎ (is_numbered w.format said.lane.kind ≡ false) → is_passed w.format w.receiver x ≡ true → IsPassed w.format w.receiver x
       passed (inl e) h = passed_by w.format w.receiver x said.number (number_counts w.format said.lane said.number e) h
       passed (inr e) h = absurd (let n = unnumbered_kept w.format w.receiver x e in cc)
-  received Taken t taken =
-      let f = fresh_is w.format w.receiver taken.c p Taken taken.answer (λ e. cc) in
+  received Kept t taken =
+      let f = fresh_is w.format w.receiver taken.c p Kept taken.answer (λ e. cc) in
       let r = piece_read taken.c taken.cumulative f.ahead in
-      let k = subst (λ (y : Piece). Takes w.format w.receiver y t) r taken.leaves in
+      let k = subst (λ (y : Piece). TakesPiece w.format w.receiver y t) r taken.leaves in
       let u = subst (λ (y : Piece). w.receiver.seen y.index ≡ false) r f.unseen in
       let c = takes_giving w.format w.receiver t x k in
       record {

@@ -1,7 +1,7 @@
 -- What an ordered plan says of its entries: what stands in a run of fragments, of which message an entry is.
 use Rattle.std.proofs.Common.{◌≡◌, ℕ, zero, suc, ◌+◌, ◌<◌, slice_get, Some, subst, arith}
-use Rattle.sctp_model.specs.Format.{Format, Lane}
-use Rattle.sctp_model.specs.Plan.{Message, Entry, Part, End, Plan, entry_at, message_at, IsOf, IsAssigned, parts_from}
+use Rattle.sctp_model.specs.messages.Format.{Format, Lane}
+use Rattle.sctp_model.specs.messages.Plan.{Message, Entry, Part, End, Plan, entry_at, message_at, IsOf, IsAssigned, parts_from}
 use Rattle.sctp_safety.proofs.Facts.{IsOrderedPlan}
 
 -- what stands in a run of fragments

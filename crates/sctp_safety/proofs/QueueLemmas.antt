@@ -1,10 +1,10 @@
 -- What waits for a number, when a call comes, and when a message leaves.
 use Rattle.std.proofs.Common.{◌≡◌, ℕ, suc, ◌<◌, ◌≤◌, ◌⊎◌, List, [], ◌∷◌, ◌++◌, length, Some, inl, inr, refl, subst, arith}
-use Rattle.sctp_model.specs.Lists.{Has, item_at}
-use Rattle.sctp_model.specs.Format.{Lane}
-use Rattle.sctp_model.specs.Plan.{Message, bytes_of, Plan}
-use Rattle.sctp_model.specs.SenderView.{Queued}
-use Rattle.sctp_model.specs.Calls.{Call, Asked}
+use Rattle.sctp_model.specs.numbers.Lists.{Has, item_at}
+use Rattle.sctp_model.specs.messages.Format.{Lane}
+use Rattle.sctp_model.specs.messages.Plan.{Message, bytes_of, Plan}
+use Rattle.sctp_model.specs.sender.SenderView.{Queued}
+use Rattle.sctp_model.specs.world.Calls.{Call, Asked}
 use Rattle.sctp_safety.proofs.Basics.{Has-push, Has-around, Has-right, slice_get-end, item_at-left, item_at-within}
 use Rattle.sctp_safety.proofs.Facts.{IsQueue, IsCalled, Waits}
 

@@ -1,8 +1,8 @@
 -- A message that is accepted is the move of a call: its stream is there, and its fragments, none empty, are its bytes.
 use Rattle.std.proofs.Common.{◌≡◌, ℕ, suc, ◌<◌, List, [], ◌∷◌, ◌++◌, length, refl, sym, subst, ap, ◌∙◌}
-use Rattle.sctp_model.specs.Lists.{Has}
-use Rattle.sctp_model.specs.Calls.{Call}
-use Rattle.sctp_model.specs.SenderView.{SenderView}
+use Rattle.sctp_model.specs.numbers.Lists.{Has}
+use Rattle.sctp_model.specs.world.Calls.{Call}
+use Rattle.sctp_model.specs.sender.SenderView.{SenderView}
 use Rattle.sctp_model.specs.sender.Queueing.{cut, queued}
 use Rattle.sctp_model.proofs.sender.CutLaws.{cut_some, each_full, joined_cut}
 use Rattle.sctp_model.proofs.sender.SetLaws.{IsAccepted, accepted}

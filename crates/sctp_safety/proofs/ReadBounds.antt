@@ -1,10 +1,10 @@
 -- How far the counts of a direction reach: no further than its plan, which is shorter than half the space of TSNs.
 use Rattle.std.proofs.Common.{◌≡◌, ℕ, zero, suc, ◌<◌, ◌≤◌, ◌⊎◌, true, length, Some, inl, inr, refl, arith}
 use Rattle.std.proofs.lemmas.Bool.{cases_lt}
-use Rattle.sctp_model.specs.Format.{Lane, ordered_lane}
-use Rattle.sctp_model.specs.Plan.{Message, Part, entry_at, message_at}
-use Rattle.sctp_model.specs.ReceiverView.{IsReached, IsCumulative}
-use Rattle.sctp_model.specs.Safe.{WasHanded}
+use Rattle.sctp_model.specs.messages.Format.{Lane, ordered_lane}
+use Rattle.sctp_model.specs.messages.Plan.{Message, Part, entry_at, message_at}
+use Rattle.sctp_model.specs.receiver.ReceiverView.{Reaches, IsCumulative}
+use Rattle.sctp_model.specs.world.Safe.{WasHanded}
 use Rattle.sctp_safety.specs.Way.{Way}
 use Rattle.sctp_safety.proofs.Facts.{Good, MayPass, IsLost}
 use Rattle.sctp_safety.proofs.Basics.{item_at-above, item_at-within}
@@ -13,7 +13,7 @@ use Rattle.sctp_safety.proofs.Spread.{lower_to, spread}
 
 module _ (w : Way) (g : Good w) where
   -- each index that was reached has an entry
-  pub reached_within : (i : ℕ) → 0 < i → IsReached w.receiver i → i ≤ length w.sender.plan.entries
+  pub reached_within : (i : ℕ) → 0 < i → Reaches w.receiver i → i ≤ length w.sender.plan.entries
   reached_within i some h = go h
     where
       by_seen : w.receiver.seen i ≡ true → i ≤ length w.sender.plan.entries
@@ -23,7 +23,7 @@ module _ (w : Way) (g : Good w) where
       by_lost (inl s) = by_seen s
       by_lost (inr x) = item_at-within w.sender.plan.entries i _ x.here
 
-      go : IsReached w.receiver i → i ≤ length w.sender.plan.entries
+      go : Reaches w.receiver i → i ≤ length w.sender.plan.entries
       go (inl s) = by_seen s
       go (inr j) = by_lost (g.held.jumped i some j)
 

@@ -1,6 +1,6 @@
 -- The short forms of a receiver's definitions, at rest.
 use Rattle.std.proofs.Common.{sym, subst}
-use Rattle.sctp_model.specs.Receiving.{LetsGo}
+use Rattle.sctp_model.specs.receiver.Receiving.{LetsGo}
 use Rattle.sctp_model.specs.receiver.ForwardTaken.{jumped, forwarded}
 use Rattle.sctp_model.proofs.receiver.OneStep.{all_only}
 use Rattle.sctp_model.proofs.receiver.Idle.{nothing_given_anywhere}

@@ -1,9 +1,9 @@
 -- The SACK that a receiver makes may be put between the ends, and taking a message is a move.
 use Rattle.std.proofs.Common.{◌≡◌, ℕ, zero, suc, List, [], ◌∷◌, take, Some, None, inl, inr, refl, sym, subst, ap}
-use Rattle.sctp_model.specs.Limits.{BLOCK_LIMIT}
-use Rattle.sctp_model.specs.Lists.{Has}
-use Rattle.sctp_model.specs.Chunk.{BlockMeaning, SackMeaning}
-use Rattle.sctp_model.specs.Acknowledgement.{Acknowledgement, IsRun}
+use Rattle.sctp_model.specs.numbers.Limits.{BLOCK_LIMIT}
+use Rattle.sctp_model.specs.numbers.Lists.{Has}
+use Rattle.sctp_model.specs.wire.Chunk.{BlockMeaning, SackMeaning}
+use Rattle.sctp_model.specs.messages.Acknowledgement.{Acknowledgement, IsRun}
 use Rattle.sctp_model.specs.receiver.SackMade.{first_taken}
 use Rattle.sctp_model.proofs.receiver.Idle.{still_idle}
 use Rattle.sctp_safety.specs.Way.{Put_sack, Take, with_receiver}

@@ -2,10 +2,10 @@
 use Rattle.std.proofs.Common.{◌≡◌, ℕ, ◌+◌, ◌^◌, ◌<◌, not, ◌||◌, nat_le, false, Bool, List, [], ◌∷◌, Option, None, refl, sym, subst, arith}
 use Rattle.std.proofs.lemmas.Bool.{and_parts}
 use Rattle.std.proofs.lemmas.Bool.Decides.{nat_tests}
-use Rattle.sctp_model.specs.Serial.{tsn, ahead, before}
-use Rattle.sctp_model.specs.Chunk.{BlockMeaning}
-use Rattle.sctp_model.specs.SenderView.{SenderView}
-use Rattle.sctp_model.specs.Acknowledgement.{covers}
+use Rattle.sctp_model.specs.numbers.Serial.{tsn, ahead, before}
+use Rattle.sctp_model.specs.wire.Chunk.{BlockMeaning}
+use Rattle.sctp_model.specs.sender.SenderView.{SenderView}
+use Rattle.sctp_model.specs.messages.Acknowledgement.{covers}
 use Rattle.sctp_model.specs.sender.Words.{when, first_there}
 use Rattle.sctp_model.specs.sender.SackTaken.{SackFault, Stale, Beyond, BadBlock, is_stale, index_of, is_beyond, some_is_bad, sack_covers, covered_by}
 use Rattle.sctp_model.proofs.sender.WordLaws.{of_none, when_absent}

@@ -1,12 +1,12 @@
 -- What is good is safe.
 use Rattle.std.proofs.Common.{◌≡◌, ℕ, ◌<◌, ◌⊎◌, true, length, Some, inl, inr, refl, sym, subst, ap}
-use Rattle.sctp_model.specs.Lists.{Has}
-use Rattle.sctp_model.specs.Format.{Format, Plain, Interleaved, Kind, Ordered, Unordered, Lane, is_numbered, ordered_lane, unordered_lane}
-use Rattle.sctp_model.specs.Plan.{Message, Part, Plan, entry_at, message_at, IsAssigned, IsComplete}
-use Rattle.sctp_model.specs.Pieces.{piece_of}
-use Rattle.sctp_model.specs.SenderView.{SenderView}
-use Rattle.sctp_model.specs.ReceiverView.{Handed, ReceiverView, handed, IsReached}
-use Rattle.sctp_model.specs.Safe.{IsSent, WasHanded, IsHeldWhole, IsInOrder, IsPassedRightly, IsOnce, IsKept, Safe}
+use Rattle.sctp_model.specs.numbers.Lists.{Has}
+use Rattle.sctp_model.specs.messages.Format.{Format, Plain, Interleaved, Kind, Ordered, Unordered, Lane, is_numbered, ordered_lane, unordered_lane}
+use Rattle.sctp_model.specs.messages.Plan.{Message, Part, Plan, entry_at, message_at, IsAssigned, IsComplete}
+use Rattle.sctp_model.specs.messages.Pieces.{piece_of}
+use Rattle.sctp_model.specs.sender.SenderView.{SenderView}
+use Rattle.sctp_model.specs.receiver.ReceiverView.{Handed, ReceiverView, handed, Reaches}
+use Rattle.sctp_model.specs.world.Safe.{IsSent, WasHanded, IsHeldWhole, IsInOrder, IsPassedRightly, IsOnce, IsKept, Safe}
 use Rattle.sctp_safety.specs.Way.{Way}
 use Rattle.sctp_safety.proofs.Basics.{each_or, item_at-above, lane_is}
 use Rattle.sctp_safety.proofs.Facts.{IsLost, IsOver, IsSettled, Good}
@@ -108,7 +108,7 @@ module _ (w : Way) (g : Good w) where
           at' : IsAssigned w.sender.plan l n k → Kept k ⊎ Was
           at' (i, here) = gone (reached (g.between.covered i (covered i (Part l n k) here (refl, refl))))
             where
-              reached : IsReached w.receiver i → (w.receiver.seen i ≡ true) ⊎ IsLost w.format w.sender w.receiver i
+              reached : Reaches w.receiver i → (w.receiver.seen i ≡ true) ⊎ IsLost w.format w.sender w.receiver i
               reached (inl h) = inl h
               reached (inr h) = g.held.jumped i (item_at-above w.sender.plan.entries i (Part l n k) here) h
 

@@ -2,11 +2,11 @@
 use Rattle.std.proofs.Common.{◌≡◌, ℕ, zero, suc, ◌+◌, ◌<◌, ◌⊎◌, ◌==◌, ◌&&◌, true, false, Bool, List, [], ◌∷◌, length, Option, Some, None, inl, inr, refl, sym, subst, ap, arith, ◌∙◌}
 use Rattle.std.proofs.lemmas.Bool.{and_parts}
 use Rattle.std.proofs.lemmas.Bool.Decides.{nat_tests}
-use Rattle.sctp_model.specs.Lists.{Has}
-use Rattle.sctp_model.specs.Format.{Format, Lane, Ordered, Unordered}
-use Rattle.sctp_model.specs.Plan.{Entry, Part, IsAssigned, IsInPart}
-use Rattle.sctp_model.specs.Forward.{Skip, Forward, IsLaneBefore, IsListed, IsForward}
-use Rattle.sctp_model.specs.SenderView.{Queued, SenderView, IsDrained, IsPoint}
+use Rattle.sctp_model.specs.numbers.Lists.{Has}
+use Rattle.sctp_model.specs.messages.Format.{Format, Lane, Ordered, Unordered}
+use Rattle.sctp_model.specs.messages.Plan.{Entry, Part, IsAssigned, IsInPart}
+use Rattle.sctp_model.specs.messages.Forward.{Skip, Forward, IsLaneBefore, IsListed, IsForward}
+use Rattle.sctp_model.specs.sender.SenderView.{Queued, SenderView, IsDrained, IsPoint}
 use Rattle.sctp_model.specs.sender.Entries.{continued, one_if_some, sum_below, in_part}
 use Rattle.sctp_model.specs.sender.Filling.{Wish, gone, fill, Follows}
 use Rattle.sctp_model.specs.sender.Readers.{point, drained}

@@ -1,12 +1,12 @@
 -- What else the sender does keeps every fact: a message is withdrawn or abandoned, chunks go out, the peer acknowledges.
 use Rattle.std.proofs.Common.{◌≡◌, ℕ, ◌≤◌, ◌⊎◌, ◌||◌, Bool, true, List, ◌++◌, Some, nat_le, inl, inr, refl, sym, subst}
 use Rattle.std.proofs.lemmas.Bool.{or_left, or_cases, le-leb, leb-true}
-use Rattle.sctp_model.specs.Lists.{at}
-use Rattle.sctp_model.specs.Format.{Lane, at_lane}
-use Rattle.sctp_model.specs.Plan.{Message, End, Plan, entry_at, message_at}
-use Rattle.sctp_model.specs.SenderView.{Queued, SenderView}
-use Rattle.sctp_model.specs.Acknowledgement.{Acknowledgement, covers, in_blocks}
-use Rattle.sctp_model.specs.ReceiverView.{IsReached}
+use Rattle.sctp_model.specs.numbers.Lists.{at}
+use Rattle.sctp_model.specs.messages.Format.{Lane, at_lane}
+use Rattle.sctp_model.specs.messages.Plan.{Message, End, Plan, entry_at, message_at}
+use Rattle.sctp_model.specs.sender.SenderView.{Queued, SenderView}
+use Rattle.sctp_model.specs.messages.Acknowledgement.{Acknowledgement, covers, in_blocks}
+use Rattle.sctp_model.specs.receiver.ReceiverView.{Reaches}
 use Rattle.sctp_safety.specs.Way.{Way, Withdraw, Abandon, Change_sending, Sack_comes, Shutdown_comes, Step, with_sender}
 use Rattle.sctp_safety.proofs.Basics.{at_cases, at_lane_cases}
 use Rattle.sctp_safety.proofs.Facts.{IsOrderedPlan, Waits, IsAskedFor, Good}
@@ -91,8 +91,8 @@ kept_by-Change_sending w v b g (same, e) = subst Good (sym e)
     message l n m h = subst (λ (p : Plan). message_at p l n ≡ Some m) same.plan h
 
 -- the peer acknowledged
-acknowledges : (w : Way) (c : ℕ) (covered : ℕ → Bool) → Good w → ((i : ℕ) → covered i ≡ true → IsReached w.receiver i) →
-    ((i : ℕ) → i ≤ c → IsReached w.receiver i) → Good (with_sender w (record w.sender { cum = c; covered = covered }))
+acknowledges : (w : Way) (c : ℕ) (covered : ℕ → Bool) → Good w → ((i : ℕ) → covered i ≡ true → Reaches w.receiver i) →
+    ((i : ℕ) → i ≤ c → Reaches w.receiver i) → Good (with_sender w (record w.sender { cum = c; covered = covered }))
 acknowledges w c covered g reached upto = by_sender w (record w.sender { cum = c; covered = covered }) w.asked g
     (record { plan = record { entries = λ i x h. h; messages = λ l n m h. h }; abandoned = λ l n h. h })
     g.arranged g.waits
@@ -111,6 +111,6 @@ kept_by-Shutdown_comes w v cum g (here, le, e) = subst Good (sym e)
     (acknowledges w cum (λ i. nat_le i cum || w.sender.covered i) g (λ i h. reached i (or_cases (nat_le i cum) (w.sender.covered i) h))
     (λ i b. g.between.shutdowns cum i here b))
   where
-    reached : (i : ℕ) → (nat_le i cum ≡ true) ⊎ (w.sender.covered i ≡ true) → IsReached w.receiver i
+    reached : (i : ℕ) → (nat_le i cum ≡ true) ⊎ (w.sender.covered i ≡ true) → Reaches w.receiver i
     reached i (inl h) = g.between.shutdowns cum i here (leb-true i cum h)
     reached i (inr h) = g.between.covered i h

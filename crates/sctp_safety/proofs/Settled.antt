@@ -1,12 +1,12 @@
 -- What a chunk says of its message, and what became of an index that was seen.
 use Rattle.std.proofs.Common.{length, ◌≡◌, ℕ, ◌<◌, ◌⊎◌, true, false, Some, inl, inr, refl, sym, subst, ap}
-use Rattle.sctp_model.specs.Lists.{Has}
-use Rattle.sctp_model.specs.Format.{Format, Plain, Interleaved, Kind, Ordered, Unordered, Lane, is_numbered}
-use Rattle.sctp_model.specs.Plan.{Message, Entry, Part, Plan, entry_at, message_at, IsOf}
-use Rattle.sctp_model.specs.Pieces.{Piece, piece_of, number_of, IsFragment}
-use Rattle.sctp_model.specs.SenderView.{SenderView}
-use Rattle.sctp_model.specs.ReceiverView.{ReceiverView}
-use Rattle.sctp_model.specs.Safe.{WasHanded}
+use Rattle.sctp_model.specs.numbers.Lists.{Has}
+use Rattle.sctp_model.specs.messages.Format.{Format, Plain, Interleaved, Kind, Ordered, Unordered, Lane, is_numbered}
+use Rattle.sctp_model.specs.messages.Plan.{Message, Entry, Part, Plan, entry_at, message_at, IsOf}
+use Rattle.sctp_model.specs.messages.Pieces.{Piece, piece_of, number_of, IsFragment}
+use Rattle.sctp_model.specs.sender.SenderView.{SenderView}
+use Rattle.sctp_model.specs.receiver.ReceiverView.{ReceiverView}
+use Rattle.sctp_model.specs.world.Safe.{WasHanded}
 use Rattle.sctp_safety.proofs.Facts.{Held, IsOver, IsSettled, IsAllSeen, IsOrderedPlan}
 use Rattle.sctp_safety.proofs.Basics.{each_or}
 use Rattle.sctp_safety.proofs.OneMessage.{whole_when_kept, IsGathered, number_counts}

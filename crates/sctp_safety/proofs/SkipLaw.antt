@@ -1,15 +1,15 @@
 -- Under both formats, what a FORWARD makes go is of an abandoned message, or is among all chunks of a whole one.
 use Rattle.std.proofs.Common.{◌≡◌, ℕ, zero, suc, ◌-◌, ◌<◌, ◌≤◌, ◌⊎◌, true, false, List, ◌∷◌, length, Some, refl, inl, inr, sym, subst, arith}
 use Rattle.std.proofs.lemmas.Bool.{cases_eq, cases_lt}
-use Rattle.sctp_model.specs.Lists.{Has}
-use Rattle.sctp_model.specs.Format.{Format, Plain, Interleaved, Kind, Ordered, Unordered, Lane, is_numbered}
-use Rattle.sctp_model.specs.Plan.{Message, Entry, Part, End, entry_at, message_at, IsOf, IsAssigned, IsClosed}
-use Rattle.sctp_model.specs.Orderly.{Orderly, IsTogether}
-use Rattle.sctp_model.specs.Pieces.{Piece, IsFragment}
-use Rattle.sctp_model.specs.SenderView.{SenderView, IsGivenUp, IsAllGivenUp}
-use Rattle.sctp_model.specs.Forward.{StandsIn}
-use Rattle.sctp_model.specs.Receiving.{IsWholeWith}
-use Rattle.sctp_model.specs.FormatLaws.{IsTaken, IsUpTo, MakesGo, SkipLaw}
+use Rattle.sctp_model.specs.numbers.Lists.{Has}
+use Rattle.sctp_model.specs.messages.Format.{Format, Plain, Interleaved, Kind, Ordered, Unordered, Lane, is_numbered}
+use Rattle.sctp_model.specs.messages.Plan.{Message, Entry, Part, End, entry_at, message_at, IsOf, IsAssigned, IsClosed}
+use Rattle.sctp_model.specs.messages.Orderly.{Orderly, IsTogether}
+use Rattle.sctp_model.specs.messages.Pieces.{Piece, IsFragment}
+use Rattle.sctp_model.specs.sender.SenderView.{SenderView, IsGivenUp, IsAllGivenUp}
+use Rattle.sctp_model.specs.messages.Forward.{StandsIn}
+use Rattle.sctp_model.specs.receiver.Receiving.{IsWholeWith}
+use Rattle.sctp_model.specs.messages.FormatLaws.{IsTaken, IsUpTo, MakesGo, SkipLaw}
 use Rattle.sctp_safety.proofs.Basics.{each_or, item_at-above}
 use Rattle.sctp_safety.proofs.Framing.{part_by_fragment, part_number}
 use Rattle.sctp_safety.proofs.OneMessage.{number_counts, one_when_kept}

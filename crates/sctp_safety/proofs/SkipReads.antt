@@ -3,11 +3,11 @@ use Rattle.std.proofs.Common.{◌≡◌, ℕ, suc, ◌<◌, ◌≤◌, ◌⊎◌
 use Rattle.std.specs.Prelude.{if◌then◌else◌}
 use Rattle.std.proofs.lemmas.Bool.{cases_lt}
 use Rattle.std.proofs.lemmas.Bool.Decides.{nat_tests}
-use Rattle.sctp_model.specs.Lists.{Has}
-use Rattle.sctp_model.specs.Format.{Format, Kind, Ordered, Unordered, Lane}
-use Rattle.sctp_model.specs.Framing.{wire_number, number_near}
-use Rattle.sctp_model.specs.Forward.{Skip, skipped}
-use Rattle.sctp_model.specs.ReceiverView.{ReceiverView}
+use Rattle.sctp_model.specs.numbers.Lists.{Has}
+use Rattle.sctp_model.specs.messages.Format.{Format, Kind, Ordered, Unordered, Lane}
+use Rattle.sctp_model.specs.messages.Framing.{wire_number, number_near}
+use Rattle.sctp_model.specs.messages.Forward.{Skip, skipped}
+use Rattle.sctp_model.specs.receiver.ReceiverView.{ReceiverView}
 use Rattle.sctp_model.specs.sender.SentChunks.{skip_said}
 use Rattle.sctp_model.specs.receiver.Reading.{reference_in, number_in, lowest_in, is_late}
 use Rattle.sctp_model.specs.receiver.ForwardTaken.{with_skip, skips_read}

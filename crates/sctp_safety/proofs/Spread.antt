@@ -1,7 +1,7 @@
 -- Numbers of a lane are spread over the plan: two of them lie no further from each other than their indexes.
 use Rattle.std.proofs.Common.{◌≡◌, ℕ, zero, suc, ◌+◌, ◌-◌, ◌<◌, ◌≤◌, List, [], ◌∷◌, length, slice_get, Some, refl, subst, arith}
-use Rattle.sctp_model.specs.Format.{Format, Lane}
-use Rattle.sctp_model.specs.Plan.{Entry, Part, Plan, entry_at, IsOf}
+use Rattle.sctp_model.specs.messages.Format.{Format, Lane}
+use Rattle.sctp_model.specs.messages.Plan.{Entry, Part, Plan, entry_at, IsOf}
 use Rattle.sctp_safety.proofs.Facts.{IsOrderedPlan}
 use Rattle.sctp_safety.proofs.Basics.{slice_get-within}
 use Rattle.sctp_safety.proofs.PlanLemmas.{message_of}

@@ -1,11 +1,11 @@
 -- The receiver's user takes a message, and the receiver notes duplicates.
 use Rattle.std.proofs.Common.{◌≡◌, ℕ, ◌⊎◌, true, List, [], ◌∷◌, ◌++◌, inl, inr, refl, sym, subst, le_refl, append_assoc}
 use Rattle.std.proofs.lemmas.Bool.{cases_eq}
-use Rattle.sctp_model.specs.Lists.{Has, at}
-use Rattle.sctp_model.specs.Format.{Format, Lane, ordered_lane}
-use Rattle.sctp_model.specs.SenderView.{SenderView}
-use Rattle.sctp_model.specs.ReceiverView.{Handed, ReceiverView, handed}
-use Rattle.sctp_model.specs.Safe.{IsRising, IsApart, WasHanded}
+use Rattle.sctp_model.specs.numbers.Lists.{Has, at}
+use Rattle.sctp_model.specs.messages.Format.{Format, Lane, ordered_lane}
+use Rattle.sctp_model.specs.sender.SenderView.{SenderView}
+use Rattle.sctp_model.specs.receiver.ReceiverView.{Handed, ReceiverView, handed}
+use Rattle.sctp_model.specs.world.Safe.{IsRising, AreDifferent, WasHanded}
 use Rattle.sctp_safety.specs.Way.{Way, Take, Note_duplicates, Step, with_receiver}
 use Rattle.sctp_safety.proofs.Facts.{Held, Good}
 use Rattle.sctp_safety.proofs.Basics.{at_same, at_other}
@@ -32,7 +32,7 @@ module _ (w : Way) (taken waiting : ℕ → List Handed) (duplicates : List ℕ)
       all_seen = λ l n x. IsAllSeen-later a.plan a.plan (Grows-refl a).plan r t learns l n (held.told.all_seen l n (before l n x));
       below = λ u x k. held.told.below u x (subst (λ (xs : List Handed). Has xs x) (same u) k);
       rising = λ u. subst IsRising (sym (same u)) (held.told.rising u);
-      apart = λ u. subst IsApart (sym (same u)) (held.told.apart u);
+      apart = λ u. subst AreDifferent (sym (same u)) (held.told.apart u);
       honest = λ u x k. held.told.honest u x (subst (λ (xs : List Handed). Has xs x) (same u) k);
       passed = λ u n l. passed u n (held.told.passed u n l);
     };

@@ -2,13 +2,13 @@
 use Rattle.std.proofs.Common.{◌≡◌, ℕ, zero, suc, ◌<◌, ◌⊎◌, ◌++◌, ◌∷◌, not, true, false, Bool, max, List, [], cond, filter, inl, inr, refl, sym, subst, ap, arith, append-nil, append_assoc, Some}
 use Rattle.std.proofs.lemmas.Bool.{cases_Bool}
 use Rattle.std.proofs.lemmas.Bool.Decides.{nat_tests}
-use Rattle.sctp_model.specs.Lists.{Has, at}
-use Rattle.sctp_model.specs.Format.{Format, Plain, Interleaved, Kind, Ordered, Unordered, Lane, ordered_lane}
-use Rattle.sctp_model.specs.Pieces.{Piece, is_number_below}
-use Rattle.sctp_model.specs.Whole.{Follows, IsRow}
-use Rattle.sctp_model.specs.Forward.{skipped}
-use Rattle.sctp_model.specs.ReceiverView.{Handed, ReceiverView}
-use Rattle.sctp_model.specs.Receiving.{IsWholeNumber, HasNoWhole, message_of, IsDue, Stop, Over, Past, is_below, without_below, GivesOrdered, GivesAll, GivesUnordered, Gives, recorded}
+use Rattle.sctp_model.specs.numbers.Lists.{Has, at}
+use Rattle.sctp_model.specs.messages.Format.{Format, Plain, Interleaved, Kind, Ordered, Unordered, Lane, ordered_lane}
+use Rattle.sctp_model.specs.messages.Pieces.{Piece, is_number_below}
+use Rattle.sctp_model.specs.messages.Whole.{Follows, IsRow}
+use Rattle.sctp_model.specs.messages.Forward.{skipped}
+use Rattle.sctp_model.specs.receiver.ReceiverView.{Handed, ReceiverView}
+use Rattle.sctp_model.specs.receiver.Receiving.{IsWholeNumber, HasNoWhole, message_of, IsDue, Stop, GivesWhole, Past, is_below, without_below, GivesOrdered, GivesAll, GivesUnordered, Gives, recorded}
 use Rattle.sctp_safety.specs.Way.{Way, Move, Keep_piece, Hand_over, Hand_unordered, Pass_over, Drop_below_next, Forward_comes, Let_go, with_receiver, past, Step, Run}
 use Rattle.sctp_safety.specs.Exact.{Leads, TakingIsMoves, ForwardIsMoves}
 use Rattle.sctp_safety.proofs.ForwardMove.{all_skipped}
@@ -138,7 +138,7 @@ due_is_moves : (w : Way) (r : ReceiverView) (s n m : ℕ) (ms done : List Handed
     Leads (with_receiver w (given r s n done)) (with_receiver w (given r s m (done ++ ms)))
 due_is_moves w r s n m ms done (Stop k behind none) =
     ([], ap (λ (zs : List Handed). with_receiver w (given r s n zs)) (append-nil done))
-due_is_moves w r s n m ms done (Over k l x xs zs whole lowest more) =
+due_is_moves w r s n m ms done (GivesWhole k l x xs zs whole lowest more) =
     leads_on (with_receiver w (given r s n done)) (with_receiver w (given r s (suc n) (done ++ message_of w.format x xs ∷ []))) _
     (leads_same _ _ _ (leads_by _ _ (Hand_over s x xs) (here, refl)) (ap (with_receiver w) (handed_next w.format r s n done x xs)))
     (leads_same _ _ _ (due_is_moves w r s (suc n) m zs (done ++ message_of w.format x xs ∷ []) more)

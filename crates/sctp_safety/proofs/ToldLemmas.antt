@@ -3,9 +3,9 @@ use Rattle.std.proofs.Common.{◌≡◌, ℕ, inl, inr, Bool, true, false, not, 
 use Rattle.std.specs.Prelude.{nat_lt, nat_le, unwrap_or, option_map}
 use Rattle.std.proofs.lemmas.Bool.{and_parts, and_from}
 use Rattle.std.proofs.lemmas.Bool.Decides.{nat_tests}
-use Rattle.sctp_model.specs.Format.{Format}
-use Rattle.sctp_model.specs.Plan.{Message, IsComplete, IsClosed}
-use Rattle.sctp_model.specs.SenderView.{SenderView}
+use Rattle.sctp_model.specs.messages.Format.{Format}
+use Rattle.sctp_model.specs.messages.Plan.{Message, IsComplete, IsClosed}
+use Rattle.sctp_model.specs.sender.SenderView.{SenderView}
 use Rattle.sctp_model.specs.sender.Words.{when, first_there, some_passes}
 use Rattle.sctp_model.specs.sender.Entries.{is_in_part}
 use Rattle.sctp_model.specs.sender.Abandoning.{Name, name_of, has_uncovered, is_covered, is_abandoned, Withdrawn, Abandoned, Acknowledged, Unknown, Reliable, answer_for, abandon_answer}

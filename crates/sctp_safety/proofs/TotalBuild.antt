@@ -1,12 +1,12 @@
 -- Every end can build: its SACK where one is due, and as many messages as fit.
 use Rattle.std.proofs.Common.{◌≡◌, ℕ, suc, ◌-◌, ◌*◌, ◌<◌, ◌≤◌, ◌⊎◌, Bool, true, false, List, [], ◌∷◌, ◌++◌, length, take, inl, inr, refl, ap, arith}
 use Rattle.std.proofs.lemmas.Bool.{cases_lt}
-use Rattle.sctp_model.specs.Chunk.{SackMeaning, Sack}
-use Rattle.sctp_model.specs.SenderView.{Queued}
-use Rattle.sctp_model.specs.ReceiverView.{ReceiverView, room_left}
+use Rattle.sctp_model.specs.wire.Chunk.{SackMeaning, Sack}
+use Rattle.sctp_model.specs.sender.SenderView.{Queued}
+use Rattle.sctp_model.specs.receiver.ReceiverView.{ReceiverView, room_left}
 use Rattle.sctp_model.specs.first.Sending.{IsFill, room_of, room_of_all, went_out}
 use Rattle.sctp_model.specs.first.Ends.{Configuration, EndView, Packet, SackOf, datas_of, Builds, SACK_ROOM}
-use Rattle.sctp_model.specs.Packet.{HEADER_ROOM}
+use Rattle.sctp_model.specs.wire.Packet.{HEADER_ROOM}
 use Rattle.sctp_safety.proofs.TotalReceiver.{IsSimple}
 use Rattle.sctp_safety.proofs.TotalTaken.{HasCumulative, has_cumulative}
 

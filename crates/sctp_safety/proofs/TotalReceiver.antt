@@ -1,12 +1,12 @@
 -- What a receiver of the world knows at all times: its indexes have a bound, and each chunk that it keeps is a message by itself.
 use Rattle.std.proofs.Common.{◌≡◌, ℕ, ◌≤◌, ◌⊎◌, ◌&&◌, true, max, not, nat_lt, [], ◌∷◌, length, inl, inr, sym, subst, arith}
 use Rattle.std.proofs.lemmas.Bool.{and_parts, cases_eq}
-use Rattle.sctp_model.specs.Lists.{Has, at}
-use Rattle.sctp_model.specs.Pieces.{Piece}
-use Rattle.sctp_model.specs.Chunk.{PieceMeaning, ChunkMeaning, Data, Sack}
-use Rattle.sctp_model.specs.ReceiverView.{ReceiverView}
-use Rattle.sctp_model.specs.Receiving.{recorded, is_below, Takes}
-use Rattle.sctp_model.specs.Format.{Plain}
+use Rattle.sctp_model.specs.numbers.Lists.{Has, at}
+use Rattle.sctp_model.specs.messages.Pieces.{Piece}
+use Rattle.sctp_model.specs.wire.Chunk.{PieceMeaning, ChunkMeaning, Data, Sack}
+use Rattle.sctp_model.specs.receiver.ReceiverView.{ReceiverView}
+use Rattle.sctp_model.specs.receiver.Receiving.{recorded, is_below, TakesPiece}
+use Rattle.sctp_model.specs.messages.Format.{Plain}
 use Rattle.sctp_model.specs.first.Ends.{EndView, Packet, is_taken, piece_said, PieceTaken, Duplicate, Passed, Taken, Act, Acts}
 use Rattle.sctp_safety.proofs.Basics.{at_other, Has-filtered}
 
@@ -46,7 +46,7 @@ keeping_simple r x is s = let t = recorded_simple r x s in record {
     alone y (inl e) = subst IsAlone e is
     alone y (inr h) = s.alone y h
 
-takes_simple : (r : ReceiverView) (p : PieceMeaning) (t : ReceiverView) → IsAlone (piece_said p) → Takes Plain r (piece_said p) t → IsSimple r → IsSimple t
+takes_simple : (r : ReceiverView) (p : PieceMeaning) (t : ReceiverView) → IsAlone (piece_said p) → TakesPiece Plain r (piece_said p) t → IsSimple r → IsSimple t
 takes_simple r p t is (ms, n, due, same) s =
     let k = keeping_simple r (piece_said p) is s in
     subst IsSimple (sym same) (record {

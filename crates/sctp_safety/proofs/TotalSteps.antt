@@ -1,11 +1,11 @@
 -- Every event has an answer in every world that can be reached, and every list of events has answers from there.
 use Rattle.std.proofs.Common.{◌≡◌, ℕ, suc, Bool, true, false, List, [], ◌∷◌, length, Option, Some, None, refl, sym, subst, inl, inr}
-use Rattle.sctp_model.specs.Lists.{item_at}
-use Rattle.sctp_model.specs.ReceiverView.{Handed}
+use Rattle.sctp_model.specs.numbers.Lists.{item_at}
+use Rattle.sctp_model.specs.receiver.ReceiverView.{Handed}
 use Rattle.sctp_model.specs.first.Sending.{Refusal, AlreadyOpen, accepted}
 use Rattle.sctp_model.specs.first.Ends.{first_receiver, State, Closed, Listen, Established, Configuration, EndView, Packet, Acts}
 use Rattle.sctp_model.specs.first.World.{send_refusal, taken_by_user, sent_by_user, Side, A, B, World, start, Event, Open, Send, Build, Deliver, Take, Outcome, Done, Refused, Ticket, Sent, Quiet, Acted, Absent, Message, Nothing, end_of, other, bag_of, with_end, with_packet, Step, Run, last_of, IsReachable}
-use Rattle.sctp_model.specs.Packet.{size_of_packet}
+use Rattle.sctp_model.specs.wire.Packet.{size_of_packet}
 use Rattle.sctp_safety.specs.Answered.{HasAnswer, EventsAreAnswered, HaveAnswers, ListsAreAnswered}
 use Rattle.sctp_safety.proofs.TotalReceiver.{IsSimple, acts_simple}
 use Rattle.sctp_safety.proofs.TotalTaken.{can_act_all}

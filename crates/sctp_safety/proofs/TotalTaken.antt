@@ -1,12 +1,12 @@
 -- Every packet that comes can act: each DATA chunk is a duplicate, or behind, or it is taken, and then what is due is handed over.
 use Rattle.std.proofs.Common.{◌≡◌, ℕ, zero, suc, ◌+◌, ◌<◌, ◌≤◌, ◌⊎◌, Bool, true, false, max, List, [], ◌∷◌, inl, inr, refl, sym, subst, ap, arith, Some, None, Option, ◌∙◌}
 use Rattle.std.proofs.lemmas.Bool.{cases_Bool, cases_eq, cases_lt}
-use Rattle.sctp_model.specs.Lists.{Has}
-use Rattle.sctp_model.specs.Format.{Plain, Lane, ordered_lane}
-use Rattle.sctp_model.specs.Pieces.{Piece}
-use Rattle.sctp_model.specs.Chunk.{PieceMeaning, ChunkMeaning, Data, Sack}
-use Rattle.sctp_model.specs.ReceiverView.{Handed, ReceiverView, IsReached, IsCumulative}
-use Rattle.sctp_model.specs.Receiving.{IsWholeNumber, IsLowest, HasNoWhole, message_of, IsDue, Stop, Over, Past, recorded, Takes}
+use Rattle.sctp_model.specs.numbers.Lists.{Has}
+use Rattle.sctp_model.specs.messages.Format.{Plain, Lane, ordered_lane}
+use Rattle.sctp_model.specs.messages.Pieces.{Piece}
+use Rattle.sctp_model.specs.wire.Chunk.{PieceMeaning, ChunkMeaning, Data, Sack}
+use Rattle.sctp_model.specs.receiver.ReceiverView.{Handed, ReceiverView, Reaches, IsCumulative}
+use Rattle.sctp_model.specs.receiver.Receiving.{IsWholeNumber, IsLowest, HasNoWhole, message_of, IsDue, Stop, GivesWhole, Past, recorded, TakesPiece}
 use Rattle.sctp_model.specs.first.Ends.{EndView, Packet, is_taken, piece_said, IsDuplicate, PieceTaken, Duplicate, Passed, Taken, Act, Acts}
 use Rattle.sctp_safety.proofs.Basics.{lane_cases}
 use Rattle.sctp_safety.proofs.TotalReceiver.{IsAlone, IsSimple, keeping_simple, taken_alone, acts_simple}
@@ -17,24 +17,24 @@ abbrev pub HasCumulative : ReceiverView → Type 0
 HasCumulative r = (c : ℕ) × IsCumulative r c
 
 cumulative_from : (r : ReceiverView) (bound fuel c : ℕ) → ((i : ℕ) → r.seen i ≡ true → i ≤ bound) → r.jump ≤ c →
-    ((i : ℕ) → 0 < i → i ≤ c → IsReached r i) → bound ≤ c + fuel → HasCumulative r
+    ((i : ℕ) → 0 < i → i ≤ c → Reaches r i) → bound ≤ c + fuel → HasCumulative r
 cumulative_from r bound zero c within jumped reached enough = (c, record { reached = reached; open_end = open_end })
   where
-    open_end : IsReached r (suc c) → ⊥
+    open_end : Reaches r (suc c) → ⊥
     open_end (inl h) = let l = within (suc c) h in omega arith
     open_end (inr h) = omega arith
 cumulative_from r bound (suc fuel) c within jumped reached enough =
     go (cumulative_from r bound fuel (suc c) within (omega arith)) (cases_Bool (r.seen (suc c)))
   where
-    open_end : r.seen (suc c) ≡ false → IsReached r (suc c) → ⊥
+    open_end : r.seen (suc c) ≡ false → Reaches r (suc c) → ⊥
     open_end h (inl k) = cc (h, k)
     open_end h (inr k) = omega arith
 
-    more_reached : r.seen (suc c) ≡ true → (i : ℕ) → 0 < i → i ≤ suc c → (i ≡ suc c) ⊎ (i ≡ suc c → ⊥) → IsReached r i
-    more_reached h i above l (inl e) = subst (IsReached r) (sym e) (inl h)
+    more_reached : r.seen (suc c) ≡ true → (i : ℕ) → 0 < i → i ≤ suc c → (i ≡ suc c) ⊎ (i ≡ suc c → ⊥) → Reaches r i
+    more_reached h i above l (inl e) = subst (Reaches r) (sym e) (inl h)
     more_reached h i above l (inr ne) = reached i above (omega arith)
 
-    go : (((i : ℕ) → 0 < i → i ≤ suc c → IsReached r i) → bound ≤ suc c + fuel → HasCumulative r) →
+    go : (((i : ℕ) → 0 < i → i ≤ suc c → Reaches r i) → bound ≤ suc c + fuel → HasCumulative r) →
         (r.seen (suc c) ≡ true) ⊎ (r.seen (suc c) ≡ false) → HasCumulative r
     go more (inl h) = more (λ i above l. more_reached h i above l (cases_eq i (suc c))) (omega arith)
     go more (inr h) = (c, record { reached = reached; open_end = open_end h })
@@ -174,7 +174,7 @@ module _ (r : ReceiverView) (s bound : ℕ) (alone : (x : Piece) → Has r.kept 
   due_here n (ms, m, due) (inl (x, f)) b = (
     message_of Plain x [] ∷ ms,
     m,
-    Over n m x [] ms (alone_whole r.kept (ordered_lane s) n x (alone x f.has) f) (alone_lowest r.kept (ordered_lane s) n x f) due,
+    GivesWhole n m x [] ms (alone_whole r.kept (ordered_lane s) n x (alone x f.has) f) (alone_lowest r.kept (ordered_lane s) n x f) due,
   )
   due_here n (ms, m, due) (inr none) (inl l) = (ms, m, Past n m ms l (none_whole r.kept (ordered_lane s) n none) due)
   due_here n more (inr none) (inr l) = ([], n, Stop n l (none_whole r.kept (ordered_lane s) n none))
@@ -191,20 +191,20 @@ has_due r s n simple =
 
 -- ---- a DATA chunk that comes
 
-can_take : (r : ReceiverView) (p : PieceMeaning) → IsAlone (piece_said p) → IsSimple r → (t : ReceiverView) × Takes Plain r (piece_said p) t
+can_take : (r : ReceiverView) (p : PieceMeaning) → IsAlone (piece_said p) → IsSimple r → (t : ReceiverView) × TakesPiece Plain r (piece_said p) t
 can_take r p is s = go (has_due low p.stream (low.next p.stream) (keeping_simple r (piece_said p) is s))
   where
     low : ReceiverView
     low = record (recorded r (piece_said p)) { kept = piece_said p ∷ r.kept }
 
-    go : HasDue low p.stream (low.next p.stream) → (t : ReceiverView) × Takes Plain r (piece_said p) t
+    go : HasDue low p.stream (low.next p.stream) → (t : ReceiverView) × TakesPiece Plain r (piece_said p) t
     go (ms, n, due) = (_, (ms, n, due, refl))
 
 piece_comes : (r : ReceiverView) (p : PieceMeaning) → IsAlone (piece_said p) → IsSimple r → (t : ReceiverView) × PieceTaken r (piece_said p) t
 piece_comes r p is s = go (duplicate_or_new r p.tsn (has_cumulative r s)) (cases_lt p.number (r.next p.stream)) (can_take r p is s)
   where
     go : IsDuplicate r p.tsn ⊎ (IsDuplicate r p.tsn → ⊥) → (p.number < r.next p.stream) ⊎ (r.next p.stream ≤ p.number) →
-        (t : ReceiverView) × Takes Plain r (piece_said p) t → (t : ReceiverView) × PieceTaken r (piece_said p) t
+        (t : ReceiverView) × TakesPiece Plain r (piece_said p) t → (t : ReceiverView) × PieceTaken r (piece_said p) t
     go (inl d) l k = (r, Duplicate d)
     go (inr new) (inl l) k = (recorded r (piece_said p), Passed new l)
     go (inr new) (inr l) (t, takes) = (t, Taken t new l takes)

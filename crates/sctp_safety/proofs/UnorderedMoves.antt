@@ -1,14 +1,14 @@
 -- An unordered message is handed over, or a chunk that a FORWARD leaves behind goes.
 use Rattle.std.proofs.Common.{◌≡◌, ℕ, ◌<◌, ◌≤◌, ◌⊎◌, not, ◌==◌, Bool, true, false, List, [], ◌∷◌, length, Some, inl, inr, refl, sym, subst, ap, ◌∙◌, filter, arith, le_refl, eqb-true}
 use Rattle.std.proofs.lemmas.Bool.{cases_Bool, and_parts, or_cases, eq-eqb}
-use Rattle.sctp_model.specs.Lists.{Has}
-use Rattle.sctp_model.specs.Format.{Format, Plain, Interleaved, Kind, Unordered, Lane, is_numbered, same_lane, ordered_lane}
-use Rattle.sctp_model.specs.Plan.{Message, Part, Plan, entry_at}
-use Rattle.sctp_model.specs.Pieces.{Piece, IsFragment, same_number}
-use Rattle.sctp_model.specs.SenderView.{SenderView}
-use Rattle.sctp_model.specs.ReceiverView.{Handed, ReceiverView}
-use Rattle.sctp_model.specs.Receiving.{IsWholeWith, IsLeftBehind, has_index, goes_with, without_message}
-use Rattle.sctp_model.specs.Safe.{WasHanded}
+use Rattle.sctp_model.specs.numbers.Lists.{Has}
+use Rattle.sctp_model.specs.messages.Format.{Format, Plain, Interleaved, Kind, Unordered, Lane, is_numbered, same_lane, ordered_lane}
+use Rattle.sctp_model.specs.messages.Plan.{Message, Part, Plan, entry_at}
+use Rattle.sctp_model.specs.messages.Pieces.{Piece, IsFragment, same_number}
+use Rattle.sctp_model.specs.sender.SenderView.{SenderView}
+use Rattle.sctp_model.specs.receiver.ReceiverView.{Handed, ReceiverView}
+use Rattle.sctp_model.specs.receiver.Receiving.{IsWholeWith, IsLeftBehind, has_index, goes_with, without_message}
+use Rattle.sctp_model.specs.world.Safe.{WasHanded}
 use Rattle.sctp_safety.specs.Way.{Way, Hand_unordered, Let_go, with_receiver, Step}
 use Rattle.sctp_safety.proofs.Facts.{IsDone, IsOver, IsRetired, MayPass, IsOrderedPlan, Held, Good}
 use Rattle.sctp_safety.proofs.Basics.{Has-filter, Has-filtered, filter_is, item_at-above, same_lane-true, same_lane-refl}

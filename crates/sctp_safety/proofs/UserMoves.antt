@@ -1,10 +1,10 @@
 -- What the user does keeps every fact: a message more, a ticket named, time that passes.
 use Rattle.std.proofs.Common.{◌≡◌, ℕ, suc, ◌<◌, ◌≤◌, ◌⊎◌, max, Bool, true, List, [], ◌∷◌, ◌++◌, length, Some, inl, inr, refl, sym, subst, ap, arith, le_refl}
-use Rattle.sctp_model.specs.Lists.{Has, item_at, at}
-use Rattle.sctp_model.specs.Format.{Lane}
-use Rattle.sctp_model.specs.Plan.{Message, bytes_of, message_at}
-use Rattle.sctp_model.specs.SenderView.{Queued}
-use Rattle.sctp_model.specs.Calls.{Call, Asked}
+use Rattle.sctp_model.specs.numbers.Lists.{Has, item_at, at}
+use Rattle.sctp_model.specs.messages.Format.{Lane}
+use Rattle.sctp_model.specs.messages.Plan.{Message, bytes_of, message_at}
+use Rattle.sctp_model.specs.sender.SenderView.{Queued}
+use Rattle.sctp_model.specs.world.Calls.{Call, Asked}
 use Rattle.sctp_safety.specs.Way.{Way, Send, Name, Time_passes, Step}
 use Rattle.sctp_safety.proofs.Basics.{at_cases, Has-push}
 use Rattle.sctp_safety.proofs.Facts.{IsCalled, IsAskedFor, Good}

@@ -1,7 +1,7 @@
 -- Ways that moves lead to from a start, and what a call leaves: moves joined, and what a sender's view keeps beside the facts.
 use Rattle.std.proofs.Common.{◌≡◌, ℕ, [], length, true, refl, sym, subst, ap, ◌∙◌}
-use Rattle.sctp_model.specs.Plan.{Plan}
-use Rattle.sctp_model.specs.SenderView.{SenderView}
+use Rattle.sctp_model.specs.messages.Plan.{Plan}
+use Rattle.sctp_model.specs.sender.SenderView.{SenderView}
 use Rattle.sctp_safety.specs.Way.{Way, Change_sending, with_sender}
 use Rattle.sctp_safety.specs.Exact.{Leads}
 use Rattle.sctp_safety.specs.SenderLaws.{HasPart, IsInOrder, HasConstants, IsUsual, IsMoved}

@@ -2,13 +2,13 @@
 -- come lie near the next one: no further than indexes may lie past the cumulative one.
 use Rattle.std.proofs.Common.{◌≡◌, ℕ, suc, ◌+◌, ◌-◌, ◌<◌, ◌≤◌, true, ◌∷◌, length, Some, inl, inr, refl, subst, ap, arith, ◌∙◌}
 use Rattle.std.proofs.lemmas.Bool.{cases_lt}
-use Rattle.sctp_model.specs.Lists.{Has}
-use Rattle.sctp_model.specs.Format.{Format, Lane, Ordered, ordered_lane}
-use Rattle.sctp_model.specs.Plan.{Message, Entry, Part, End, entry_at, message_at, IsOf, IsClosed}
-use Rattle.sctp_model.specs.Pieces.{piece_of}
-use Rattle.sctp_model.specs.SenderView.{SenderView}
-use Rattle.sctp_model.specs.ReceiverView.{ReceiverView, IsReached}
-use Rattle.sctp_model.specs.Safe.{WasHanded}
+use Rattle.sctp_model.specs.numbers.Lists.{Has}
+use Rattle.sctp_model.specs.messages.Format.{Format, Lane, Ordered, ordered_lane}
+use Rattle.sctp_model.specs.messages.Plan.{Message, Entry, Part, End, entry_at, message_at, IsOf, IsClosed}
+use Rattle.sctp_model.specs.messages.Pieces.{piece_of}
+use Rattle.sctp_model.specs.sender.SenderView.{SenderView}
+use Rattle.sctp_model.specs.receiver.ReceiverView.{ReceiverView, Reaches}
+use Rattle.sctp_model.specs.world.Safe.{WasHanded}
 use Rattle.sctp_model.specs.receiver.Laws.{IsWaiting}
 use Rattle.sctp_safety.proofs.Facts.{IsOrderedPlan, Held, IsDone, IsLost}
 use Rattle.sctp_safety.proofs.Basics.{item_at-above, item_at-within}
@@ -41,7 +41,7 @@ module _ (f : Format) (a : SenderView) (r : ReceiverView) (s : ℕ) (held : Held
       omega (arith, number, below)
 
   -- an index of it that was reached was seen
-  reached_seen : (i : ℕ) (e : Entry) → entry_at a.plan i ≡ Some e → IsAwaited e → IsReached r i → r.seen i ≡ true
+  reached_seen : (i : ℕ) (e : Entry) → entry_at a.plan i ≡ Some e → IsAwaited e → Reaches r i → r.seen i ≡ true
   reached_seen i e here awaited (inl seen) = seen
   reached_seen i e here awaited (inr upto) = elim (held.jumped i (item_at-above a.plan.entries i e here) upto) [
     | inl seen ↦ seen
@@ -56,10 +56,10 @@ module _ (f : Format) (a : SenderView) (r : ReceiverView) (s : ℕ) (held : Held
           unfinished (renamed (IsDone f r) x.lane (ordered_lane s) x.number (r.next s) same.0 same.1 x.done)
 
   -- it has no end mark there, and its fragments there are kept
-  no_end : (i : ℕ) → entry_at a.plan i ≡ Some (End (ordered_lane s) (r.next s)) → IsReached r i → ⊥
+  no_end : (i : ℕ) → entry_at a.plan i ≡ Some (End (ordered_lane s) (r.next s)) → Reaches r i → ⊥
   no_end i here reached = let settled = held.seen i (reached_seen i _ here (refl, refl) reached) in let there = settled.here in absurd (cc)
 
-  kept_there : (i k : ℕ) (m : Message) → message_at a.plan (ordered_lane s) (r.next s) ≡ Some m → entry_at a.plan i ≡ Some (Part (ordered_lane s) (r.next s) k) → IsReached r i →
+  kept_there : (i k : ℕ) (m : Message) → message_at a.plan (ordered_lane s) (r.next s) ≡ Some m → entry_at a.plan i ≡ Some (Part (ordered_lane s) (r.next s) k) → Reaches r i →
       Has r.kept (piece_of f i (ordered_lane s) (r.next s) k m)
   kept_there i k m named here reached =
       elim (settled_at f a r i (ordered_lane s) (r.next s) k m here named (held.seen i (reached_seen i _ here (refl, refl) reached))) [
@@ -68,7 +68,7 @@ module _ (f : Format) (a : SenderView) (r : ReceiverView) (s : ℕ) (held : Held
       ]
 
   -- So not all of it was reached, once it takes no more indexes: it would be whole.
-  pub not_all_reached : IsOrderedPlan f a.plan → IsClosed a.plan (ordered_lane s) (r.next s) → ((i : ℕ) (e : Entry) → entry_at a.plan i ≡ Some e → IsAwaited e → IsReached r i) → ⊥
+  pub not_all_reached : IsOrderedPlan f a.plan → IsClosed a.plan (ordered_lane s) (r.next s) → ((i : ℕ) (e : Entry) → entry_at a.plan i ≡ Some e → IsAwaited e → Reaches r i) → ⊥
   not_all_reached arranged (inl (i, here)) all = no_end i here (all i _ here (refl, refl))
   not_all_reached arranged (inr (m, (named, each))) all =
       let whole = whole_when_kept f a.plan arranged (ordered_lane s) (r.next s) m named r.kept held.kept
@@ -79,7 +79,7 @@ module _ (f : Format) (a : SenderView) (r : ReceiverView) (s : ℕ) (held : Held
 -- ---- numbers above the next
 
 module _ (f : Format) (a : SenderView) (r : ReceiverView) (s c w : ℕ) (arranged : IsOrderedPlan f a.plan) (held : Held f a r)
-    (reached : (i : ℕ) → 0 < i → i ≤ c → IsReached r i) (waits : IsWaiting f r s) (window : length a.plan.entries ≤ c + w) where
+    (reached : (i : ℕ) → 0 < i → i ≤ c → Reaches r i) (waits : IsWaiting f r s) (window : length a.plan.entries ≤ c + w) where
   -- A number that lies too far above the next one would leave all of the awaited message up to c.
   pub not_far_above : (i n : ℕ) (e : Entry) → entry_at a.plan i ≡ Some e → IsOf (ordered_lane s) n e → r.next s < n → n < r.next s + w
   not_far_above i n e here own above = elim (cases_lt n (r.next s + w)) [

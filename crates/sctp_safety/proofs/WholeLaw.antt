@@ -1,12 +1,12 @@
 -- Under both formats chunks of an orderly plan are whole exactly where they are all fragments of one message.
 use Rattle.std.proofs.Common.{◌≡◌, ℕ, zero, suc, ◌+◌, ◌<◌, List, [], ◌∷◌, length, slice_get, Some, refl, ap, sym, subst, arith}
-use Rattle.sctp_model.specs.Lists.{Has}
-use Rattle.sctp_model.specs.Format.{Format, Lane}
-use Rattle.sctp_model.specs.Plan.{Message, Part, Plan, entry_at, message_at}
-use Rattle.sctp_model.specs.Orderly.{Orderly}
-use Rattle.sctp_model.specs.Pieces.{Piece, piece_of, IsFragment}
-use Rattle.sctp_model.specs.Whole.{IsWhole}
-use Rattle.sctp_model.specs.FormatLaws.{IsMessage, WholeLaw}
+use Rattle.sctp_model.specs.numbers.Lists.{Has}
+use Rattle.sctp_model.specs.messages.Format.{Format, Lane}
+use Rattle.sctp_model.specs.messages.Plan.{Message, Part, Plan, entry_at, message_at}
+use Rattle.sctp_model.specs.messages.Orderly.{Orderly}
+use Rattle.sctp_model.specs.messages.Pieces.{Piece, piece_of, IsFragment}
+use Rattle.sctp_model.specs.messages.Whole.{IsWhole}
+use Rattle.sctp_model.specs.messages.FormatLaws.{IsMessage, WholeLaw}
 use Rattle.sctp_safety.proofs.Framing.{IsFramed, IsPart, AreFrom, is_first, is_row, text_from}
 use Rattle.sctp_safety.proofs.OneMessage.{whole_is_one, first_payload}
 

@@ -1,11 +1,11 @@
 -- What an end builds, as moves: messages take their numbers, and a packet with their chunks, and a SACK, is put in the bags.
 use Rattle.std.proofs.Common.{◌≡◌, ℕ, ◌+◌, ◌⊎◌, true, false, List, [], ◌∷◌, ◌++◌, length, take, drop, inl, inr, refl, sym, subst, ap, arith, take-append-drop, length-append}
-use Rattle.sctp_model.specs.Lists.{Has}
-use Rattle.sctp_model.specs.Plan.{Part}
-use Rattle.sctp_model.specs.Chunk.{PieceMeaning, SackMeaning, Data, Sack}
-use Rattle.sctp_model.specs.SenderView.{Queued, SenderView}
-use Rattle.sctp_model.specs.ReceiverView.{ReceiverView}
-use Rattle.sctp_model.specs.Calls.{Asked}
+use Rattle.sctp_model.specs.numbers.Lists.{Has}
+use Rattle.sctp_model.specs.messages.Plan.{Part}
+use Rattle.sctp_model.specs.wire.Chunk.{PieceMeaning, SackMeaning, Data, Sack}
+use Rattle.sctp_model.specs.sender.SenderView.{Queued, SenderView}
+use Rattle.sctp_model.specs.receiver.ReceiverView.{ReceiverView}
+use Rattle.sctp_model.specs.world.Calls.{Asked}
 use Rattle.sctp_model.specs.first.Sending.{numbered_one, numbered_all, went_out}
 use Rattle.sctp_model.specs.first.Ends.{Configuration, EndView, Packet, piece_said, datas_of, SackOf, Builds}
 use Rattle.sctp_safety.specs.Way.{Put_sack, Change_sending}

@@ -1,14 +1,14 @@
 -- Messages take their numbers, one behind the other, and the chunk of each is put in the bag: moves.
 use Rattle.std.proofs.Common.{◌≡◌, ℕ, suc, true, false, List, [], ◌∷◌, ◌++◌, length, slice_get, Some, inl, inr, refl, sym, subst, ap, arith, append-nil}
-use Rattle.sctp_model.specs.Lists.{IsWithin, Has}
-use Rattle.sctp_model.specs.Format.{Plain, ordered_lane}
-use Rattle.sctp_model.specs.Plan.{bytes_of, Message, Part, message_at}
-use Rattle.sctp_model.specs.Pieces.{Piece, piece_of}
-use Rattle.sctp_model.specs.Chunk.{PieceMeaning, Data}
-use Rattle.sctp_model.specs.SenderView.{Queued, SenderView}
-use Rattle.sctp_model.specs.ReceiverView.{ReceiverView}
-use Rattle.sctp_model.specs.Acknowledgement.{Acknowledgement}
-use Rattle.sctp_model.specs.Calls.{Asked}
+use Rattle.sctp_model.specs.numbers.Lists.{IsWithin, Has}
+use Rattle.sctp_model.specs.messages.Format.{Plain, ordered_lane}
+use Rattle.sctp_model.specs.messages.Plan.{bytes_of, Message, Part, message_at}
+use Rattle.sctp_model.specs.messages.Pieces.{Piece, piece_of}
+use Rattle.sctp_model.specs.wire.Chunk.{PieceMeaning, Data}
+use Rattle.sctp_model.specs.sender.SenderView.{Queued, SenderView}
+use Rattle.sctp_model.specs.receiver.ReceiverView.{ReceiverView}
+use Rattle.sctp_model.specs.messages.Acknowledgement.{Acknowledgement}
+use Rattle.sctp_model.specs.world.Calls.{Asked}
 use Rattle.sctp_model.specs.first.Sending.{message_for, numbered_one, numbered_all}
 use Rattle.sctp_model.specs.first.Ends.{Configuration, piece_said, datas_of}
 use Rattle.sctp_safety.specs.Way.{Way, Number, Put_piece, IsAllClosed}

@@ -1,9 +1,9 @@
 -- Each step of the two ends is a list of moves in each direction, so every world that can be reached is safe.
 use Rattle.std.proofs.Common.{◌≡◌, ℕ, true, false, List, [], ◌∷◌, ◌++◌, Option, Some, None, inl, inr, refl, sym, subst, ap}
-use Rattle.sctp_model.specs.Lists.{Has, IsWithin, item_at}
-use Rattle.sctp_model.specs.SenderView.{SenderView}
+use Rattle.sctp_model.specs.numbers.Lists.{Has, IsWithin, item_at}
+use Rattle.sctp_model.specs.sender.SenderView.{SenderView}
 use Rattle.sctp_model.specs.first.Sending.{refusal}
-use Rattle.sctp_model.specs.Chunk.{ChunkMeaning, Data, Sack}
+use Rattle.sctp_model.specs.wire.Chunk.{ChunkMeaning, Data, Sack}
 use Rattle.sctp_model.specs.first.Ends.{first_receiver, first_sender, Closed, Listen, State, Configuration, Established, EndView, Packet, fresh_end, Act, Acts}
 use Rattle.sctp_model.specs.first.World.{refusal_in, taken_by_user, sent_by_user, Side, A, B, World, start, Event, Open, Send, Build, Deliver, Take, Outcome, Done, Refused, Ticket, Sent, Quiet, Acted, Absent, Message, Nothing, end_of, other, bag_of, with_end, with_packet, Step, Run, last_of, IsReachable}
 use Rattle.sctp_safety.specs.Worlds.{IsSafeWorld, SafeWorlds, AllSafe, SafeRuns}

@@ -1,11 +1,11 @@
 -- What the users of the two ends do, as moves: a message is sent, and one is taken.
 use Rattle.std.proofs.Common.{◌≡◌, ℕ, suc, ◌<◌, ◌⊎◌, ◌==◌, Bool, true, false, cond, nat_le, nat_lt, List, [], ◌∷◌, ◌++◌, length, Option, Some, None, inl, inr, refl, sym, subst, ap, arith, append-nil}
 use Rattle.std.proofs.lemmas.Bool.{eqb-false, leb-false}
-use Rattle.sctp_model.specs.Lists.{Has, at}
-use Rattle.sctp_model.specs.Format.{ordered_lane}
-use Rattle.sctp_model.specs.SenderView.{Queued, SenderView}
-use Rattle.sctp_model.specs.ReceiverView.{Handed, ReceiverView}
-use Rattle.sctp_model.specs.Calls.{Call, Asked}
+use Rattle.sctp_model.specs.numbers.Lists.{Has, at}
+use Rattle.sctp_model.specs.messages.Format.{ordered_lane}
+use Rattle.sctp_model.specs.sender.SenderView.{Queued, SenderView}
+use Rattle.sctp_model.specs.receiver.ReceiverView.{Handed, ReceiverView}
+use Rattle.sctp_model.specs.world.Calls.{Call, Asked}
 use Rattle.sctp_model.specs.first.Sending.{Refusal, NoSuchStream, Empty, TooLong, QueueFull, Spent, refusal, accepted, message_for, queued, QUEUE_LIMIT, MESSAGE_LIMIT}
 use Rattle.sctp_model.specs.first.Ends.{Configuration, Packet}
 use Rattle.sctp_safety.specs.Way.{Way, Send, Take}

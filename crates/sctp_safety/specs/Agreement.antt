@@ -1,15 +1,15 @@
 -- What the opening gives, whichever way two ends are opened: once both have an association they agree on everything that it stands on (RFC 9260, 5.1).
 use Rattle.std.specs.Prelude.{◌≡◌, ℕ, ◌<◌, ◌⊎◌, Bool, true, false, List, Some}
-use Rattle.sctp_model.specs.Lists.{Has}
-use Rattle.sctp_model.specs.Chunk.{CookieEcho}
-use Rattle.sctp_model.specs.Packet.{Packet}
+use Rattle.sctp_model.specs.numbers.Lists.{Has}
+use Rattle.sctp_model.specs.wire.Chunk.{CookieEcho}
+use Rattle.sctp_model.specs.wire.Packet.{Packet}
 use Rattle.sctp_model.specs.end.Sealing.{Body, Sealing}
 use Rattle.sctp_model.specs.end.EndView.{Terms, Phase, Listening, Echoing, Open, Over, Listener}
 use Rattle.sctp_model.specs.end.Opening.{terms_of_body}
 use Rattle.sctp_model.specs.end.UserCalls.{is_open}
-use Rattle.sctp_model.specs.World.{Side, World, end_of, Setup}
-use Rattle.sctp_model.specs.Events.{Event}
-use Rattle.sctp_model.specs.Premises.{drawn_in, IsReachable}
+use Rattle.sctp_model.specs.world.World.{Side, World, end_of, Setup}
+use Rattle.sctp_model.specs.world.Events.{Event}
+use Rattle.sctp_model.specs.world.Premises.{drawn_in, IsReachable}
 use Rattle.sctp_safety.specs.States.{has_agreed}
 use Rattle.sctp_safety.specs.Strangers.{IsDrawn}
 

@@ -1,7 +1,7 @@
 -- The theorem: whatever moves come, from a start, the direction is safe.
 use Rattle.std.specs.Prelude.{List}
-use Rattle.sctp_model.specs.Orderly.{Orderly}
-use Rattle.sctp_model.specs.Safe.{Safe}
+use Rattle.sctp_model.specs.messages.Orderly.{Orderly}
+use Rattle.sctp_model.specs.world.Safe.{Safe}
 use Rattle.sctp_safety.specs.Way.{Way, Move, IsStart, Run}
 
 -- Every world that a list of moves leads to from a start is safe.

@@ -1,12 +1,12 @@
 -- What the two ends really build and take are things that the moves allow.
 use Rattle.std.specs.Prelude.{◌≡◌, ℕ, ◌≤◌, ◌⊎◌, false, List, ◌∷◌}
-use Rattle.sctp_model.specs.Lists.{Has}
-use Rattle.sctp_model.specs.Pieces.{Piece}
-use Rattle.sctp_model.specs.SenderView.{IsPoint}
-use Rattle.sctp_model.specs.Forward.{Forward, IsForward}
-use Rattle.sctp_model.specs.ReceiverView.{ReceiverView, IsReached, IsCumulative}
-use Rattle.sctp_model.specs.Acknowledgement.{Acknowledgement, IsAcknowledgement}
-use Rattle.sctp_model.specs.Receiving.{recorded, Takes, IsPassed, ForwardTaken}
+use Rattle.sctp_model.specs.numbers.Lists.{Has}
+use Rattle.sctp_model.specs.messages.Pieces.{Piece}
+use Rattle.sctp_model.specs.sender.SenderView.{IsPoint}
+use Rattle.sctp_model.specs.messages.Forward.{Forward, IsForward}
+use Rattle.sctp_model.specs.receiver.ReceiverView.{ReceiverView, Reaches, IsCumulative}
+use Rattle.sctp_model.specs.messages.Acknowledgement.{Acknowledgement, IsAcknowledgement}
+use Rattle.sctp_model.specs.receiver.Receiving.{recorded, TakesPiece, IsPassed, TakesForward}
 use Rattle.sctp_safety.specs.Way.{Way, Move, Put_forward, Put_sack, Put_shutdown, with_receiver, Step, Run}
 
 -- some list of moves leads from the one to the other
@@ -34,9 +34,9 @@ PassingIsMoves = (w : Way) (x : Piece) → Has w.pieces x → w.receiver.seen x.
 -- A chunk that came for the first time may be taken, and what is due handed over.
 abbrev pub TakingIsMoves : Type 0
 TakingIsMoves = (w : Way) (x : Piece) (t : ReceiverView) → Has w.pieces x → w.receiver.seen x.index ≡ false →
-    Takes w.format w.receiver x t → Leads w (with_receiver w t)
+    TakesPiece w.format w.receiver x t → Leads w (with_receiver w t)
 
 -- A FORWARD that counts, which some index up to its point isn't reached for yet, may be taken, and what is due handed over.
 abbrev pub ForwardIsMoves : Type 0
-ForwardIsMoves = (w : Way) (x : Forward) (t : ReceiverView) → Has w.forwards x → (i : ℕ) → i ≤ x.point → (IsReached w.receiver i → ⊥) →
-    ForwardTaken w.format w.receiver x t → Leads w (with_receiver w t)
+ForwardIsMoves = (w : Way) (x : Forward) (t : ReceiverView) → Has w.forwards x → (i : ℕ) → i ≤ x.point → (Reaches w.receiver i → ⊥) →
+    TakesForward w.format w.receiver x t → Leads w (with_receiver w t)

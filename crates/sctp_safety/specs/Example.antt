@@ -1,7 +1,7 @@
 -- A run in which a message comes through: A sends two bytes, builds one packet, it comes to B, and B's user takes the message.
 use Rattle.std.specs.Prelude.{◌≡◌, ℕ, List, [], ◌∷◌, Option, Some}
-use Rattle.sctp_model.specs.Format.{ordered_lane}
-use Rattle.sctp_model.specs.ReceiverView.{Handed, handed}
+use Rattle.sctp_model.specs.messages.Format.{ordered_lane}
+use Rattle.sctp_model.specs.receiver.ReceiverView.{Handed, handed}
 use Rattle.sctp_model.specs.first.Ends.{Configuration}
 use Rattle.sctp_model.specs.first.World.{A, B, World, start, Event, Open, Send, Build, Deliver, Take, Outcome, Done, Ticket, Sent, Acted, Message, Run, last_of}
 

@@ -1,13 +1,13 @@
 -- The machine opens: a run by packets alone at whose end both ends are established, with each other's tags.
 use Rattle.std.specs.Prelude.{◌≡◌, ℕ, List, Option, Some}
-use Rattle.sctp_model.specs.Lists.{Has}
+use Rattle.sctp_model.specs.numbers.Lists.{Has}
 use Rattle.sctp_model.specs.end.EndView.{format_of, Draw, Tags, Established, Echoing, Open, Completed, Over}
-use Rattle.sctp_model.specs.Format.{Interleaved}
+use Rattle.sctp_model.specs.messages.Format.{Interleaved}
 use Rattle.sctp_model.specs.end.PeerFaults.{STATE}
-use Rattle.sctp_model.specs.World.{World, Setup}
-use Rattle.sctp_model.specs.Events.{Event, OpenBoth, Outcome, NotActed}
-use Rattle.sctp_model.specs.Steps.{Step, Run}
-use Rattle.sctp_model.specs.Premises.{IsReachable}
+use Rattle.sctp_model.specs.world.World.{World, Setup}
+use Rattle.sctp_model.specs.world.Events.{Event, OpenBoth, Outcome, NotActed}
+use Rattle.sctp_model.specs.world.Steps.{Step, Run}
+use Rattle.sctp_model.specs.world.Premises.{IsReachable}
 
 -- both are established, and agree on tags, first TSNs and the format
 pub record AreOpen (w : World) : Type 0 where

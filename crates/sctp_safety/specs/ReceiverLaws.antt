@@ -1,18 +1,18 @@
 -- Each call of a receiver is a list of moves of its direction: a data chunk by each answer, a FORWARD by each answer, the SACK, and taking a message.
 use Rattle.std.specs.Prelude.{◌≡◌, ℕ, ◌+◌, ◌^◌, ◌<◌, ◌≤◌, List, ◌∷◌, length, map, Option, Some}
-use Rattle.sctp_model.specs.Limits.{WINDOW}
-use Rattle.sctp_model.specs.Lists.{Has}
-use Rattle.sctp_model.specs.Serial.{tsn}
-use Rattle.sctp_model.specs.Chunk.{PieceMeaning, SackMeaning, ForwardMeaning}
-use Rattle.sctp_model.specs.Format.{Format, Lane}
-use Rattle.sctp_model.specs.Plan.{Message, Entry, Part, Plan, entry_at, IsOf}
-use Rattle.sctp_model.specs.Pieces.{Piece, piece_of}
-use Rattle.sctp_model.specs.Forward.{Skip, Forward}
-use Rattle.sctp_model.specs.SenderView.{SenderView}
-use Rattle.sctp_model.specs.ReceiverView.{Handed, ReceiverView}
-use Rattle.sctp_model.specs.Acknowledgement.{Acknowledgement}
+use Rattle.sctp_model.specs.numbers.Limits.{WINDOW}
+use Rattle.sctp_model.specs.numbers.Lists.{Has}
+use Rattle.sctp_model.specs.numbers.Serial.{tsn}
+use Rattle.sctp_model.specs.wire.Chunk.{PieceMeaning, SackMeaning, ForwardMeaning}
+use Rattle.sctp_model.specs.messages.Format.{Format, Lane}
+use Rattle.sctp_model.specs.messages.Plan.{Message, Entry, Part, Plan, entry_at, IsOf}
+use Rattle.sctp_model.specs.messages.Pieces.{Piece, piece_of}
+use Rattle.sctp_model.specs.messages.Forward.{Skip, Forward}
+use Rattle.sctp_model.specs.sender.SenderView.{SenderView}
+use Rattle.sctp_model.specs.receiver.ReceiverView.{Handed, ReceiverView}
+use Rattle.sctp_model.specs.messages.Acknowledgement.{Acknowledgement}
 use Rattle.sctp_model.specs.sender.SentChunks.{piece_said, skip_said}
-use Rattle.sctp_model.specs.receiver.PieceTaken.{Answer, PieceTaken}
+use Rattle.sctp_model.specs.receiver.PieceTaken.{PieceAnswer, PieceTaken}
 use Rattle.sctp_model.specs.receiver.ForwardTaken.{ForwardAnswer, ForwardTaken}
 use Rattle.sctp_model.specs.receiver.SackMade.{IsSack, TakeLeaves}
 use Rattle.sctp_model.specs.receiver.Laws.{IsIdle}
@@ -70,7 +70,7 @@ pub record IsForwardSaid (f : Format) (initial : ℕ) (p : Plan) (fs : List Forw
 
 -- A data chunk that comes, whatever is answered.
 abbrev pub PieceTakenIsMoves : Type 0
-PieceTakenIsMoves = (w : Way) (p : PieceMeaning) (a : Answer) (t : ReceiverView) → IsUsual w → IsJoined w → IsCounted w.sender → IsIdle w.format w.receiver →
+PieceTakenIsMoves = (w : Way) (p : PieceMeaning) (a : PieceAnswer) (t : ReceiverView) → IsUsual w → IsJoined w → IsCounted w.sender → IsIdle w.format w.receiver →
     IsPieceSaid w.format w.sender.initial w.pieces p → PieceTaken w.format w.receiver p a t → IsReceived w t
 
 -- A FORWARD that comes, whatever is answered.

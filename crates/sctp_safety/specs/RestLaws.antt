@@ -1,10 +1,10 @@
 -- A receiver's calls leave its view at rest; and from a view at rest the short forms of its definitions say what the full ones would.
 use Rattle.std.specs.Prelude.{◌≡◌, ◌↔◌, ℕ, Option}
-use Rattle.sctp_model.specs.Chunk.{PieceMeaning, ForwardMeaning}
-use Rattle.sctp_model.specs.Format.{Format}
-use Rattle.sctp_model.specs.ReceiverView.{Handed, ReceiverView, fresh_receiver}
-use Rattle.sctp_model.specs.Receiving.{LetsGo, GivesAll}
-use Rattle.sctp_model.specs.receiver.PieceTaken.{Answer, PieceTaken}
+use Rattle.sctp_model.specs.wire.Chunk.{PieceMeaning, ForwardMeaning}
+use Rattle.sctp_model.specs.messages.Format.{Format}
+use Rattle.sctp_model.specs.receiver.ReceiverView.{Handed, ReceiverView, fresh_receiver}
+use Rattle.sctp_model.specs.receiver.Receiving.{LetsGo, GivesAll}
+use Rattle.sctp_model.specs.receiver.PieceTaken.{PieceAnswer, PieceTaken}
 use Rattle.sctp_model.specs.receiver.ForwardTaken.{ForwardAnswer, jumped, forwarded, ForwardTaken}
 use Rattle.sctp_model.specs.receiver.SackMade.{sack_sent, TakeLeaves}
 use Rattle.sctp_model.specs.receiver.Laws.{IsAtRest, FitsBuffer}
@@ -17,7 +17,7 @@ NewIsAtRest = (f : Format) (initial streams buffer : ℕ) → IsAtRest f (fresh_
 
 -- a chunk leaves it, whatever it says and whatever is answered
 abbrev pub PieceLeavesRest : Type 0
-PieceLeavesRest = (f : Format) (r : ReceiverView) (p : PieceMeaning) (a : Answer) (t : ReceiverView) → IsAtRest f r → PieceTaken f r p a t → IsAtRest f t
+PieceLeavesRest = (f : Format) (r : ReceiverView) (p : PieceMeaning) (a : PieceAnswer) (t : ReceiverView) → IsAtRest f r → PieceTaken f r p a t → IsAtRest f t
 
 -- and so does a FORWARD
 abbrev pub ForwardLeavesRest : Type 0
@@ -39,7 +39,7 @@ NewFits = (initial streams buffer : ℕ) → FitsBuffer (fresh_receiver initial 
 
 -- a chunk is taken where it fits, and handing over needs no room
 abbrev pub PieceFits : Type 0
-PieceFits = (f : Format) (r : ReceiverView) (p : PieceMeaning) (a : Answer) (t : ReceiverView) → FitsBuffer r → PieceTaken f r p a t → FitsBuffer t
+PieceFits = (f : Format) (r : ReceiverView) (p : PieceMeaning) (a : PieceAnswer) (t : ReceiverView) → FitsBuffer r → PieceTaken f r p a t → FitsBuffer t
 
 -- nor does a FORWARD
 abbrev pub ForwardFits : Type 0
@@ -57,7 +57,7 @@ SentFits = (r : ReceiverView) → FitsBuffer r → FitsBuffer (sack_sent r)
 
 -- After a chunk nothing more is due on any number of streams: so giving after the row Taken alone is giving after every row (RFC 9260, 6.6).
 abbrev pub NothingMoreIsDue : Type 0
-NothingMoreIsDue = (f : Format) (r : ReceiverView) (p : PieceMeaning) (a : Answer) (t u : ReceiverView) (n : ℕ) → IsAtRest f r → PieceTaken f r p a t → GivesAll f n t u → u ≡ t
+NothingMoreIsDue = (f : Format) (r : ReceiverView) (p : PieceMeaning) (a : PieceAnswer) (t u : ReceiverView) (n : ℕ) → IsAtRest f r → PieceTaken f r p a t → GivesAll f n t u → u ≡ t
 
 -- What a FORWARD lets go by a plain test is, at rest, just what isn't whole of what it leaves behind (RFC 3758, 3.6; RFC 8260, 2.3.1).
 abbrev pub FilterIsWords : Type 0

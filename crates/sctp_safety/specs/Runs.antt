@@ -1,9 +1,9 @@
 -- THE HEADLINE, of two ends over every run: whatever is called, built, delivered, lost, repeated, reordered or sent by strangers, however the ends were opened,
 -- and in whichever format and with whichever options they agreed.
 use Rattle.std.specs.Prelude.{List}
-use Rattle.sctp_model.specs.World.{World, Setup}
-use Rattle.sctp_model.specs.Events.{Event}
-use Rattle.sctp_model.specs.Premises.{IsReachable, IsSafeWorld, IsClosedWorld}
+use Rattle.sctp_model.specs.world.World.{World, Setup}
+use Rattle.sctp_model.specs.world.Events.{Event}
+use Rattle.sctp_model.specs.world.Premises.{IsReachable, IsSafeWorld, IsClosedWorld}
 
 -- Both directions are safe in every world that a run reaches. The beginning of a run is a run, so this is each world of each run.
 abbrev pub TwoEndsAreSafe : Type 0

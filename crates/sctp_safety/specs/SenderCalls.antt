@@ -1,11 +1,11 @@
 -- Laws of a sender's calls, whatever its peer says: the plan stays orderly, nothing is abandoned unasked, and each call has one result.
 use Rattle.std.specs.Prelude.{◌≡◌, ℕ, ◌⊎◌, true, List, Some, Option}
-use Rattle.sctp_model.specs.Format.{Format, Lane}
-use Rattle.sctp_model.specs.Chunk.{SackMeaning}
-use Rattle.sctp_model.specs.Plan.{Message, message_at}
-use Rattle.sctp_model.specs.Orderly.{Orderly}
-use Rattle.sctp_model.specs.Forward.{Forward, IsForward}
-use Rattle.sctp_model.specs.SenderView.{SenderView, IsDrained, IsPoint}
+use Rattle.sctp_model.specs.messages.Format.{Format, Lane}
+use Rattle.sctp_model.specs.wire.Chunk.{SackMeaning}
+use Rattle.sctp_model.specs.messages.Plan.{Message, message_at}
+use Rattle.sctp_model.specs.messages.Orderly.{Orderly}
+use Rattle.sctp_model.specs.messages.Forward.{Forward, IsForward}
+use Rattle.sctp_model.specs.sender.SenderView.{SenderView, IsDrained, IsPoint}
 use Rattle.sctp_model.specs.sender.Queueing.{queued}
 use Rattle.sctp_model.specs.sender.Filling.{Wish, IsFill, fill}
 use Rattle.sctp_model.specs.sender.SackTaken.{sack_after, shutdown_after}

@@ -1,13 +1,13 @@
 -- What a stranger can do to an end: nothing (RFC 9260, 5.1.3, 8.4 and 8.5).
 use Rattle.std.specs.Prelude.{◌≡◌, ℕ, List, [], ◌∷◌}
-use Rattle.sctp_model.specs.Lists.{IsWithin}
-use Rattle.sctp_model.specs.Packet.{Packet}
-use Rattle.sctp_model.specs.Places.{ArePlaced}
+use Rattle.sctp_model.specs.numbers.Lists.{IsWithin}
+use Rattle.sctp_model.specs.wire.Packet.{Packet}
+use Rattle.sctp_model.specs.wire.Places.{ArePlaced}
 use Rattle.sctp_model.specs.end.Sealing.{Sealing}
 use Rattle.sctp_model.specs.end.EndView.{Draw, Phase, Calling, Echoing, Open, Listener, EndView}
 use Rattle.sctp_model.specs.end.Strays.{Verdict}
 use Rattle.sctp_model.specs.end.Arriving.{Arrives}
-use Rattle.sctp_model.specs.Premises.{IsStranger}
+use Rattle.sctp_model.specs.world.Premises.{IsStranger}
 
 -- the tags that an end goes by where it stands
 abbrev pub tags_of : Phase → List ℕ

@@ -1,9 +1,9 @@
 -- What a sender tells of a message by its ticket, as relations on its plan: that it was acknowledged or abandoned, and what `abandon` answers
 -- (RFC 9260, 6.2.1; RFC 3758, 3.5).
 use Rattle.std.specs.Prelude.{◌≡◌, ◌↔◌, ℕ, ◌<◌, ◌≤◌, true, false, Some}
-use Rattle.sctp_model.specs.Format.{Format, Lane}
-use Rattle.sctp_model.specs.Plan.{Message, Part, entry_at, message_at, IsComplete}
-use Rattle.sctp_model.specs.SenderView.{SenderView}
+use Rattle.sctp_model.specs.messages.Format.{Format, Lane}
+use Rattle.sctp_model.specs.messages.Plan.{Message, Part, entry_at, message_at, IsComplete}
+use Rattle.sctp_model.specs.sender.SenderView.{SenderView}
 use Rattle.sctp_model.specs.sender.Abandoning.{AbandonAnswer, Withdrawn, Abandoned, Acknowledged, Unknown, Reliable, abandon_answer}
 use Rattle.sctp_model.specs.sender.Readers.{acknowledged, abandoned}
 use Rattle.sctp_model.specs.sender.Reached.{IsReached}

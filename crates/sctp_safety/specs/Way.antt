@@ -1,17 +1,17 @@
 -- One direction of an association, and the moves that change it, each as loose as safety allows.
 -- Timers, windows, room, what is due, and the order of filling only choose among moves; they don't appear here.
 use Rattle.std.specs.Prelude.{◌≡◌, ℕ, suc, ◌+◌, ◌<◌, ◌≤◌, ◌⊎◌, max, ◌||◌, true, false, nat_le, List, [], ◌∷◌, ◌++◌, length, Some}
-use Rattle.sctp_model.specs.Lists.{Has, IsWithin, at}
-use Rattle.sctp_model.specs.Format.{Format, Plain, Ordered, Unordered, Lane, is_numbered, ordered_lane, at_lane}
-use Rattle.sctp_model.specs.Plan.{Message, bytes_of, Part, End, Plan, entry_at, message_at, IsAssigned, HasEnd, IsClosed, parts_from}
-use Rattle.sctp_model.specs.Pieces.{Piece, piece_of}
-use Rattle.sctp_model.specs.Whole.{IsWhole}
-use Rattle.sctp_model.specs.SenderView.{Queued, SenderView, IsAllGivenUp}
-use Rattle.sctp_model.specs.Forward.{Skip, Forward, StandsIn, skipped}
-use Rattle.sctp_model.specs.ReceiverView.{Handed, ReceiverView, IsReached}
-use Rattle.sctp_model.specs.Acknowledgement.{Acknowledgement, covers}
-use Rattle.sctp_model.specs.Receiving.{IsWholeNumber, HasNoWhole, without_below, handed_unordered, message_of, recorded, IsPassed, LetsGo}
-use Rattle.sctp_model.specs.Calls.{Call, Asked}
+use Rattle.sctp_model.specs.numbers.Lists.{Has, IsWithin, at}
+use Rattle.sctp_model.specs.messages.Format.{Format, Plain, Ordered, Unordered, Lane, is_numbered, ordered_lane, at_lane}
+use Rattle.sctp_model.specs.messages.Plan.{Message, bytes_of, Part, End, Plan, entry_at, message_at, IsAssigned, HasEnd, IsClosed, parts_from}
+use Rattle.sctp_model.specs.messages.Pieces.{Piece, piece_of}
+use Rattle.sctp_model.specs.messages.Whole.{IsWhole}
+use Rattle.sctp_model.specs.sender.SenderView.{Queued, SenderView, IsAllGivenUp}
+use Rattle.sctp_model.specs.messages.Forward.{Skip, Forward, StandsIn, skipped}
+use Rattle.sctp_model.specs.receiver.ReceiverView.{Handed, ReceiverView, Reaches}
+use Rattle.sctp_model.specs.messages.Acknowledgement.{Acknowledgement, covers}
+use Rattle.sctp_model.specs.receiver.Receiving.{IsWholeNumber, HasNoWhole, without_below, handed_unordered, message_of, recorded, IsPassed, LetsGo}
+use Rattle.sctp_model.specs.world.Calls.{Call, Asked}
 
 -- A sender, the receiver at its peer, what its user asked for, and every chunk that was ever built for it: chunks with data and FORWARDs
 -- one way, SACKs and the cumulative indexes of SHUTDOWNs the other. Nothing is ever taken out: a loss is a chunk that never comes.
@@ -159,8 +159,8 @@ Step w (Put_forward x) v =
     × ((l : Lane) (n : ℕ) → is_numbered w.format l.kind ≡ true → StandsIn w.sender.plan w.sender.cum x.point l n →
     (y : Skip) × Has x.skips y × (y.lane ≡ l) × (n ≤ y.number))
     × (v ≡ record w { forwards = x ∷ w.forwards })
-Step w (Put_sack x) v = ((i : ℕ) → covers x i ≡ true → IsReached w.receiver i) × (v ≡ record w { sacks = x ∷ w.sacks })
-Step w (Put_shutdown c) v = ((i : ℕ) → i ≤ c → IsReached w.receiver i) × (v ≡ record w { shutdowns = c ∷ w.shutdowns })
+Step w (Put_sack x) v = ((i : ℕ) → covers x i ≡ true → Reaches w.receiver i) × (v ≡ record w { sacks = x ∷ w.sacks })
+Step w (Put_shutdown c) v = ((i : ℕ) → i ≤ c → Reaches w.receiver i) × (v ≡ record w { shutdowns = c ∷ w.shutdowns })
 Step w (Keep_piece x) v =
     Has w.pieces x × (w.receiver.seen x.index ≡ false) × (v ≡ with_receiver w (record (recorded w.receiver x) { kept = x ∷ w.receiver.kept }))
 Step w (Drop_piece x) v =
@@ -168,7 +168,7 @@ Step w (Drop_piece x) v =
     × (v ≡ with_receiver w (recorded w.receiver x))
 -- A FORWARD counts where some index up to its point is not reached yet.
 Step w (Forward_comes x skip) v =
-    Has w.forwards x × ((i : ℕ) × (i ≤ x.point) × (IsReached w.receiver i → ⊥)) × IsSkippedBy w.receiver x.skips skip
+    Has w.forwards x × ((i : ℕ) × (i ≤ x.point) × (Reaches w.receiver i → ⊥)) × IsSkippedBy w.receiver x.skips skip
     × (v ≡ with_receiver w (record w.receiver { jump = max w.receiver.jump x.point; skip = skip }))
 Step w (Hand_over s x xs) v =
     IsWholeNumber w.format w.receiver.kept (ordered_lane s) (w.receiver.next s) (x ∷ xs)

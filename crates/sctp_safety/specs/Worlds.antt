@@ -1,7 +1,7 @@
 -- The theorem on the two ends: in every world that can be reached, both directions are safe.
 use Rattle.std.specs.Prelude.{List, [], ◌∷◌, Option}
-use Rattle.sctp_model.specs.Format.{Plain}
-use Rattle.sctp_model.specs.Safe.{Safe}
+use Rattle.sctp_model.specs.messages.Format.{Plain}
+use Rattle.sctp_model.specs.world.Safe.{Safe}
 use Rattle.sctp_model.specs.first.World.{Side, World, end_of, other, Event, Outcome, Run, IsReachable}
 
 -- each end's sending is safe, with its peer's receiver and with what its own user asked for

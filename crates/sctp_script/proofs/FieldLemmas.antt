@@ -1,7 +1,7 @@
 -- A word says one value of its field or none, and so do the words behind a command.
 use Rattle.std.proofs.Common.{◌≡◌, ℕ, suc, ◌^◌, ◌⊎◌, inl, inr, List, [], ◌∷◌, length, slice_index, None, codes, refl, sym, ap, ◌∙◌, subst, arith}
 use Rattle.std.proofs.lemmas.Bool.{cases_lt}
-use Rattle.sctp_model.specs.Format.{Ordered}
+use Rattle.sctp_model.specs.messages.Format.{Ordered}
 use Rattle.sctp_model.specs.first.World.{Side, A, B}
 use Rattle.sctp_script.specs.declared.config.Mode.{Mode}
 use Rattle.sctp_script.specs.declared.config.Mode.TheVariants.{Data}

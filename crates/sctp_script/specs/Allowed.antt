@@ -1,7 +1,7 @@
 -- Which sizes a pair may have. Sizes are in bytes.
 use Rattle.std.specs.Prelude.{◌≡◌, ℕ, ◌+◌, ◌≤◌}
-use Rattle.sctp_model.specs.Chunk.{padded}
-use Rattle.sctp_model.specs.Limits.{LEAST_PACKET, GREATEST_PACKET, LEAST_FRAGMENT, GREATEST_FRAGMENT, FRAGMENT_OVERHEAD, LEAST_BUFFER, GREATEST_BUFFER}
+use Rattle.sctp_model.specs.wire.Chunk.{padded}
+use Rattle.sctp_model.specs.numbers.Limits.{LEAST_PACKET, GREATEST_PACKET, LEAST_FRAGMENT, GREATEST_FRAGMENT, FRAGMENT_OVERHEAD, LEAST_BUFFER, GREATEST_BUFFER}
 
 -- each size within its limits, and a fragment, padded, in a packet of its own; as yet one stream
 pub record IsAllowed (limit fragment buffer streams : ℕ) : Type 0 where

@@ -1,13 +1,13 @@
 -- What is wrong with sizes that a pair may not have, and what a configuration and a draw hold.
 use Rattle.std.specs.Prelude.{◌≢◌, ℕ, ◌+◌, ◌<◌, ◌⊎◌}
-use Rattle.sctp_model.specs.Chunk.{padded}
+use Rattle.sctp_model.specs.wire.Chunk.{padded}
 use Rattle.sctp_model.specs.first.Ends.{Configuration}
 use Rattle.sctp_script.specs.declared.config.ConfigFault.{ConfigFault}
 use Rattle.sctp_script.specs.declared.config.ConfigFault.TheVariants.{Port, PacketLimit, Fragment, Buffer, Streams}
 use Rattle.sctp_script.specs.declared.config.Mode.{Mode}
 use Rattle.sctp_script.specs.declared.config.PairConfig.{PairConfig}
 use Rattle.sctp_script.specs.declared.config.Draw.{Draw}
-use Rattle.sctp_model.specs.Limits.{LEAST_PACKET, GREATEST_PACKET, LEAST_FRAGMENT, GREATEST_FRAGMENT, FRAGMENT_OVERHEAD, LEAST_BUFFER, GREATEST_BUFFER}
+use Rattle.sctp_model.specs.numbers.Limits.{LEAST_PACKET, GREATEST_PACKET, LEAST_FRAGMENT, GREATEST_FRAGMENT, FRAGMENT_OVERHEAD, LEAST_BUFFER, GREATEST_BUFFER}
 
 -- ---- faults
 

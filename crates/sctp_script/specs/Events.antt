@@ -1,7 +1,7 @@
 -- What the events and outcomes of a pair say, in the words of the world.
 use Rattle.std.specs.Prelude.{◌≡◌, ℕ, List, Option}
-use Rattle.sctp_model.specs.Format.{ordered_lane}
-use Rattle.sctp_model.specs.ReceiverView.{Handed}
+use Rattle.sctp_model.specs.messages.Format.{ordered_lane}
+use Rattle.sctp_model.specs.receiver.ReceiverView.{Handed}
 use Rattle.sctp_model.specs.first.Sending as refusal
 use Rattle.sctp_model.specs.first.Ends as ends
 use Rattle.sctp_model.specs.first.World as world

@@ -1,6 +1,6 @@
 -- The words behind a command: what a word may say, by its field.
 use Rattle.std.specs.Prelude.{◌≡◌, ℕ, ◌<◌, ◌^◌, List, [], ◌∷◌, Option, None, codes}
-use Rattle.sctp_model.specs.Format.{Kind, Ordered}
+use Rattle.sctp_model.specs.messages.Format.{Kind, Ordered}
 use Rattle.sctp_model.specs.first.World.{Side}
 use Rattle.sctp_script.specs.OutcomeText.{side_word, kind_word}
 use Rattle.sctp_script.specs.declared.config.Mode as mode

@@ -1,6 +1,6 @@
 -- The line of each outcome.
 use Rattle.std.specs.Prelude.{ℕ, List, [], ◌∷◌, Option, Some, None, codes, decimal}
-use Rattle.sctp_model.specs.Format.{Kind, Ordered, Unordered}
+use Rattle.sctp_model.specs.messages.Format.{Kind, Ordered, Unordered}
 use Rattle.sctp_model.specs.first.Sending.{Refusal, AlreadyOpen, NoSuchStream, Empty, TooLong, QueueFull, Spent, NotOpen}
 use Rattle.sctp_model.specs.first.World.{Side, A, B, Outcome, Done, Refused, Ticket, Sent, Quiet, Acted, Absent, Message, Nothing}
 use Rattle.sctp_text.specs.Numerals.{hex_word}

@@ -1,7 +1,7 @@
 -- The report of a world: of A, then of B, its state, the tickets of the messages that have an index, and what was handed over.
 use Rattle.std.specs.Prelude.{ℕ, zero, suc, List, [], ◌∷◌, ◌++◌, map, Option, Some, None, codes, decimal}
-use Rattle.sctp_model.specs.Plan.{Message, Entry, Part, End, Plan, message_at}
-use Rattle.sctp_model.specs.ReceiverView.{ReceiverView, handed}
+use Rattle.sctp_model.specs.messages.Plan.{Message, Entry, Part, End, Plan, message_at}
+use Rattle.sctp_model.specs.receiver.ReceiverView.{ReceiverView, handed}
 use Rattle.sctp_model.specs.first.Ends.{State, Closed, Listen, Established, EndView}
 use Rattle.sctp_model.specs.first.World.{Side, A, B, World}
 use Rattle.sctp_script.specs.OutcomeText.{side_word}

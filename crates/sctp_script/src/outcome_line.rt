@@ -1,7 +1,7 @@
 //! The line of each outcome.
 
 ghost use Rattle.std.specs.Prelude.{◌≡◌, ◌++◌, OnOk, OnErr};
-ghost use Rattle.sctp_model.specs.ReceiverView.{Handed};
+ghost use Rattle.sctp_model.specs.receiver.ReceiverView.{Handed};
 ghost use Rattle.sctp_model.specs.first.World as world;
 ghost use Rattle.sctp_script.specs.Events.{side_meaning, Answers, IsToldOf};
 ghost use Rattle.sctp_script.specs.OutcomeText.{side_word, number_word, outcome_line};

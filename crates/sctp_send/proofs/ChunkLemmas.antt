@@ -7,11 +7,11 @@ use Rattle.std.proofs.Math.ListN.{drop_of_length-le}
 use Rattle.std.proofs.lemmas.Grind.{div_ceil_times}
 use Rattle.std.proofs.lemmas.List.{length-take}
 use Rattle.std.proofs.lemmas.Bool.Decides.{nat_tests}
-use Rattle.sctp_model.specs.Format.{Format, Plain, Interleaved, Kind, Ordered, Unordered, ordered_lane}
-use Rattle.sctp_model.specs.Framing.{data_chunk, wire_number}
-use Rattle.sctp_model.specs.Pieces.{word_of}
-use Rattle.sctp_model.specs.Plan.{Message, Entry, Part, End, entry_at}
-use Rattle.sctp_model.specs.SenderView.{Queued, SenderView}
+use Rattle.sctp_model.specs.messages.Format.{Format, Plain, Interleaved, Kind, Ordered, Unordered, ordered_lane}
+use Rattle.sctp_model.specs.messages.Framing.{data_chunk, wire_number}
+use Rattle.sctp_model.specs.messages.Pieces.{word_of}
+use Rattle.sctp_model.specs.messages.Plan.{Message, Entry, Part, End, entry_at}
+use Rattle.sctp_model.specs.sender.SenderView.{Queued, SenderView}
 use Rattle.sctp_model.specs.sender.Words.{count_up}
 use Rattle.sctp_model.specs.sender.Entries.{entry_lane, entry_number, entry_fragment, entry_message, bytes_in}
 use Rattle.sctp_model.specs.sender.Queueing.{fragment_of, cut}

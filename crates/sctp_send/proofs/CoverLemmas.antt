@@ -2,8 +2,8 @@
 use Rattle.std.proofs.Common.{◌≡◌, ℕ, zero, suc, ◌+◌, ◌-◌, ◌<◌, ◌≤◌, List, [], ◌∷◌, length, map, Bool, true, false, None, refl, sym, ap, ◌∙◌, arith}
 use Rattle.std.specs.Prelude.{nat_lt, nat_le, not, ◌&&◌, ◌||◌}
 use Rattle.std.proofs.lemmas.Bool.Decides.{nat_tests}
-use Rattle.sctp_model.specs.Chunk.{BlockMeaning}
-use Rattle.sctp_model.specs.Acknowledgement.{in_blocks}
+use Rattle.sctp_model.specs.wire.Chunk.{BlockMeaning}
+use Rattle.sctp_model.specs.messages.Acknowledgement.{in_blocks}
 use Rattle.sctp_model.specs.sender.Words.{when, first_there}
 use Rattle.sctp_model.specs.sender.SackTaken as taken
 use Rattle.sctp_model.specs.sender.SackTaken.{some_is_bad, some_ends_past}

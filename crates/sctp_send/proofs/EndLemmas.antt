@@ -2,10 +2,10 @@
 use Rattle.std.proofs.Common.{◌≡◌, ℕ, zero, suc, ◌+◌, ◌-◌, ◌<◌, List, [], ◌∷◌, ◌++◌, length, map, drop, set, Bool, true, false, Option, Some, None, refl, sym, ap, ◌∙◌, arith, length-append, length-drop}
 use Rattle.std.specs.Prelude.{not, ◌&&◌, ◌||◌, if◌then◌else◌, slice_get}
 use Rattle.std.proofs.lemmas.List.{length-map, drop-append-le}
-use Rattle.sctp_model.specs.Format.{Format, Lane, ordered_lane, unordered_lane}
-use Rattle.sctp_model.specs.Plan.{Message, Entry, Part, End, Plan, message_at}
+use Rattle.sctp_model.specs.messages.Format.{Format, Lane, ordered_lane, unordered_lane}
+use Rattle.sctp_model.specs.messages.Plan.{Message, Entry, Part, End, Plan, message_at}
 use Rattle.sctp_model.specs.sender.Assigning.{with_entry}
-use Rattle.sctp_model.specs.SenderView.{SenderView}
+use Rattle.sctp_model.specs.sender.SenderView.{SenderView}
 use Rattle.sctp_model.specs.sender.Entries.{entry_message, is_of, is_in_part, passes_at, continued, one_if_some}
 use Rattle.sctp_model.specs.sender.Abandoning.{Name, is_covered, given_up, abandon_after}
 use Rattle.sctp_model.specs.sender.Reached.{IsReached, Abandons}

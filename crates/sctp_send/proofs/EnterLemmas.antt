@@ -3,11 +3,11 @@ use Rattle.std.proofs.Common.{◌≡◌, ℕ, zero, suc, ◌+◌, ◌-◌, ◌*�
 use Rattle.std.specs.Prelude.{◌==◌, nat_le}
 use Rattle.std.proofs.lemmas.Bool.Decides.{nat_tests}
 use Rattle.std.proofs.lemmas.List.{length-map, map-append, map-set, take-map, drop-map, take_all, take-take}
-use Rattle.sctp_model.specs.Format.{Format, Lane}
-use Rattle.sctp_model.specs.Framing.{lane_kind, data_chunk, wire_number}
-use Rattle.sctp_model.specs.Pieces.{word_of}
-use Rattle.sctp_model.specs.Serial as serial
-use Rattle.sctp_model.specs.Plan.{Message, Part}
+use Rattle.sctp_model.specs.messages.Format.{Format, Lane}
+use Rattle.sctp_model.specs.messages.Framing.{lane_kind, data_chunk, wire_number}
+use Rattle.sctp_model.specs.messages.Pieces.{word_of}
+use Rattle.sctp_model.specs.numbers.Serial as serial
+use Rattle.sctp_model.specs.messages.Plan.{Message, Part}
 use Rattle.sctp_model.specs.sender.Entries.{entry_fragment, bytes_in}
 use Rattle.sctp_model.specs.sender.Queueing.{cut}
 use Rattle.sctp_model.specs.sender.PieceSaid.{is_unordered}

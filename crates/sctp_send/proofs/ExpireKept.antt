@@ -3,12 +3,12 @@ use Rattle.std.proofs.Common.{◌≡◌, ℕ, zero, suc, ◌+◌, ◌-◌, ◌<�
 use Rattle.std.specs.Prelude.{◌==◌, ◌||◌, nat_lt, if◌then◌else◌, option_map, option_and_then, find}
 use Rattle.std.specs.List.{list_any}
 use Rattle.std.proofs.lemmas.Bool.Decides.{nat_tests}
-use Rattle.sctp_model.specs.Format.{Format}
-use Rattle.sctp_model.specs.Plan.{Message, Entry, Plan}
-use Rattle.sctp_model.specs.SenderView.{Queued, SenderView}
+use Rattle.sctp_model.specs.messages.Format.{Format}
+use Rattle.sctp_model.specs.messages.Plan.{Message, Entry, Plan}
+use Rattle.sctp_model.specs.sender.SenderView.{Queued, SenderView}
 use Rattle.sctp_model.specs.sender.Words.{first_there, some_passes}
 use Rattle.sctp_model.specs.sender.Entries.{any_from, continued, entry_message}
-use Rattle.sctp_model.specs.sender.Abandoning.{Name, is_past, is_due, name_of, waits, expire_one, expired, abandon_after}
+use Rattle.sctp_model.specs.sender.Abandoning.{Name, is_past, is_overdue, name_of, waits, expire_one, expired, abandon_after}
 use Rattle.sctp_model.specs.sender.Reached.{IsReached}
 use Rattle.sctp_model.proofs.sender.AbandonCases.{after_abandon}
 use Rattle.sctp_model.proofs.sender.OwnLaws.{found_owns}
@@ -101,16 +101,16 @@ in_queue f s v now t k reliable =
     alone true = refl
     alone false = refl
 
-pub kept_due : (f : Format) (s : Kept) (v : SenderView) (now t : ℕ) → Keeps f s v → any_late now t (kept_messages s) ≡ true → is_due v now t ≡ true
+pub kept_due : (f : Format) (s : Kept) (v : SenderView) (now t : ℕ) → Keeps f s v → any_late now t (kept_messages s) ≡ true → is_overdue v now t ≡ true
 kept_due f s v now t k on = by_partial s.partial refl
   where
     by_queue : (a b : Bool) → late_waits now t v.queue ≡ a → any_from (λ j e. is_late now t (shown_message v e)) (suc v.cum) (drop v.cum v.plan.entries) ≡ b
-        → (a || (b || any_late now t (rest_messages (table (track_here v) 0 v.streams)))) ≡ true → is_due v now t ≡ true
+        → (a || (b || any_late now t (rest_messages (table (track_here v) 0 v.streams)))) ≡ true → is_overdue v now t ≡ true
     by_queue true b queue items there = due_waits f v now t k.reached queue
     by_queue false true queue items there = due_shown f v now t k.reached items
     by_queue false false queue items there = let rest = late_rests v now t 0 v.streams there in due_rest f v now t rest.0 rest.1 k.reached rest.2 rest.3
 
-    by_partial : (b : Bool) → s.partial ≡ b → is_due v now t ≡ true
+    by_partial : (b : Bool) → s.partial ≡ b → is_overdue v now t ≡ true
     by_partial true is = by_queue (late_waits now t v.queue) (any_from (λ j e. is_late now t (shown_message v e)) (suc v.cum) (drop v.cum v.plan.entries)) refl refl (sym (in_view f s v now t k is) ∙ on)
     by_partial false is = due_waits f v now t k.reached (sym (in_queue f s v now t k is) ∙ on)
 
@@ -150,14 +150,14 @@ found_waits now t (q ∷ qs) is = by_test (q.message.ticket == t) is (λ there. 
     by_test true there further = refl
     by_test false there further = further there
 
-due_given : (f : Format) (v : SenderView) (now t : ℕ) → IsReached f v → is_due v now t ≡ true → t ≤ v.tickets
+due_given : (f : Format) (v : SenderView) (now t : ℕ) → IsReached f v → is_overdue v now t ≡ true → t ≤ v.tickets
 due_given f v now t h due = by_name (name_of v t) refl due
   where
     first_alone : (o : Option Message) → some_passes (is_past now) (first_there (o ∷ None ∷ [])) ≡ true → some_passes (is_past now) o ≡ true
     first_alone None is = is
     first_alone (Some m) is = is
 
-    by_name : (o : Option Name) → name_of v t ≡ o → is_due v now t ≡ true → t ≤ v.tickets
+    by_name : (o : Option Name) → name_of v t ≡ o → is_overdue v now t ≡ true → t ≤ v.tickets
     by_name (Some n) is there = let own = found_owns v.plan v.tickets t v.plan.entries v.plan.entries n (is_ticketed f v h).owned is in (own.0 t own.1).1
     by_name None is there = ((is_ticketed f v h).waiting t (found_waits now t v.queue (first_alone (option_map (λ q. q.message) (find (λ q. q.message.ticket == t) v.queue)) (rw is at there)))).1
 
@@ -167,7 +167,7 @@ same_tickets v t = after_abandon (λ u. u.tickets ≡ v.tickets) v t refl (λ on
 
 still_given : (now : ℕ) (v : SenderView) (t : ℕ) → (expired_to now v t).tickets ≡ v.tickets
 still_given now v zero = refl
-still_given now v (suc t) = ap (λ (u : SenderView). u.tickets) (expired_next now t v) ∙ by_due (is_due (expired_to now v t) now (suc t)) ∙ still_given now v t
+still_given now v (suc t) = ap (λ (u : SenderView). u.tickets) (expired_next now t v) ∙ by_due (is_overdue (expired_to now v t) now (suc t)) ∙ still_given now v t
   where
     by_due : (b : Bool) → (if b then abandon_after (expired_to now v t) (suc t) else expired_to now v t).tickets ≡ (expired_to now v t).tickets
     by_due true = same_tickets (expired_to now v t) (suc t)

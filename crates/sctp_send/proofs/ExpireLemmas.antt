@@ -4,7 +4,7 @@ use Rattle.std.specs.Prelude.{◌==◌, ◌&&◌, ◌||◌, nat_lt, nat_le, unwr
 use Rattle.std.specs.List.{list_any}
 use Rattle.std.proofs.lemmas.Bool.{and_parts}
 use Rattle.std.proofs.lemmas.Bool.Decides.{nat_tests}
-use Rattle.sctp_model.specs.Plan.{Message}
+use Rattle.sctp_model.specs.messages.Plan.{Message}
 use Rattle.sctp_model.specs.sender.Words.{when, some_passes}
 use Rattle.sctp_model.specs.sender.Abandoning.{is_past}
 use Rattle.sctp_model.proofs.sender.ExpiredLaws.{is_late}

@@ -1,10 +1,10 @@
 -- Bounds on what counts: the messages of a lane, and the fragments of a message, are fewer than the TSNs promised.
 use Rattle.std.proofs.Common.{◌≡◌, ℕ, zero, suc, ◌+◌, ◌<◌, ◌≤◌, ◌^◌, List, [], ◌∷◌, ◌++◌, length, Bool, true, false, Some, ap, subst, arith, length-append}
 use Rattle.std.specs.Prelude.{slice_get, if◌then◌else◌}
-use Rattle.sctp_model.specs.Limits.{TSN_LIMIT}
-use Rattle.sctp_model.specs.Format.{Format, Lane, same_lane}
-use Rattle.sctp_model.specs.Plan.{Message, Entry, End, Plan, parts_from}
-use Rattle.sctp_model.specs.SenderView.{Queued, SenderView}
+use Rattle.sctp_model.specs.numbers.Limits.{TSN_LIMIT}
+use Rattle.sctp_model.specs.messages.Format.{Format, Lane, same_lane}
+use Rattle.sctp_model.specs.messages.Plan.{Message, Entry, End, Plan, parts_from}
+use Rattle.sctp_model.specs.sender.SenderView.{Queued, SenderView}
 use Rattle.sctp_model.specs.sender.Entries.{entry_fragment, fragments_in, continued}
 use Rattle.sctp_model.specs.sender.Assigning.{with_message, with_entry, is_on, first_on}
 use Rattle.sctp_model.specs.sender.Queueing.{owed_by_queue, owed_by_parts}

@@ -4,16 +4,16 @@ use Rattle.std.specs.Prelude.{◌&&◌, nat_lt, nat_le, if◌then◌else◌}
 use Rattle.std.specs.List.{AllByRecursion}
 use Rattle.std.proofs.lemmas.List.{length-map, map-append, length-take-le}
 use Rattle.std.proofs.lemmas.Bool.Decides.{nat_tests}
-use Rattle.sctp_model.specs.Format.{Format, Plain, Interleaved, Lane, is_numbered}
-use Rattle.sctp_model.specs.Framing.{lane_kind, wire_number, forward_chunk}
-use Rattle.sctp_model.specs.Serial.{tsn}
-use Rattle.sctp_model.specs.Plan.{Entry}
-use Rattle.sctp_model.specs.Chunk.{ChunkMeaning, SkipMeaning, ForwardMeaning, chunk_length, padded, size_of_chunk}
-use Rattle.sctp_model.specs.Forward.{Skip}
-use Rattle.sctp_model.specs.Packet.{size_of_packet}
-use Rattle.sctp_model.specs.SenderView.{SenderView}
+use Rattle.sctp_model.specs.messages.Format.{Format, Plain, Interleaved, Lane, is_numbered}
+use Rattle.sctp_model.specs.messages.Framing.{lane_kind, wire_number, forward_chunk}
+use Rattle.sctp_model.specs.numbers.Serial.{tsn}
+use Rattle.sctp_model.specs.messages.Plan.{Entry}
+use Rattle.sctp_model.specs.wire.Chunk.{ChunkMeaning, SkipMeaning, ForwardMeaning, chunk_length, padded, size_of_chunk}
+use Rattle.sctp_model.specs.messages.Forward.{Skip}
+use Rattle.sctp_model.specs.wire.Packet.{size_of_packet}
+use Rattle.sctp_model.specs.sender.SenderView.{SenderView}
 use Rattle.sctp_model.specs.sender.Readers.{point}
-use Rattle.sctp_model.specs.sender.Forwarding.{largest_in, passed, skip_in, skip_of, skips_on, skips_below}
+use Rattle.sctp_model.specs.sender.Forwarding.{largest_in, passed_entries, skip_in, skip_of, skips_on, skips_below}
 use Rattle.sctp_model.specs.sender.SentChunks.{is_unordered, skip_said, forward_said, forward_chunk_of}
 use Rattle.sctp_model.proofs.sender.OwedLaws.{is_promised}
 use Rattle.sctp_wire.specs.declared.chunk.Chunk.{Chunk}
@@ -193,7 +193,7 @@ is_passed f s v k =
     record { point = omega (arith, run, within, long, most); within = omega (arith, run, within, long, most) }
 
 pub entries_passed : (f : Format) (s : Kept) (v : SenderView) (size run : ℕ) (es : List Outstanding) → Keeps f s v → s.items ≡ map (item_meaning size) es → IsPassed v run
-    → entries_of (map (item_meaning size) (take run es)) ≡ passed v
+    → entries_of (map (item_meaning size) (take run es)) ≡ passed_entries v
 entries_passed f s v size run es k is p =
     let count : point v - v.cum ≡ run = omega (arith, p.point) in
     first_entries size run es ∙ ap (λ (xs : List Item). take run (entries_of xs)) (sym is ∙ k.holds.items) ∙ ap (take run) (entries_back v (suc v.cum) (drop v.cum v.plan.entries))

@@ -4,11 +4,11 @@ use Rattle.std.specs.Prelude.{not, ◌&&◌, ◌==◌, if◌then◌else◌, slic
 use Rattle.std.specs.Option.{option_map_or}
 use Rattle.std.proofs.lemmas.Bool.{and_parts}
 use Rattle.std.proofs.lemmas.Bool.Decides.{nat_tests}
-use Rattle.sctp_model.specs.Format.{Format, Lane, same_lane}
-use Rattle.sctp_model.specs.Plan.{Message, Entry, End, Plan, entry_at}
+use Rattle.sctp_model.specs.messages.Format.{Format, Lane, same_lane}
+use Rattle.sctp_model.specs.messages.Plan.{Message, Entry, End, Plan, entry_at}
 use Rattle.sctp_model.specs.sender.Words.{when, first_there, some_passes}
 use Rattle.sctp_model.specs.sender.Assigning.{with_entry}
-use Rattle.sctp_model.specs.SenderView.{SenderView}
+use Rattle.sctp_model.specs.sender.SenderView.{SenderView}
 use Rattle.sctp_model.specs.sender.Entries.{entry_lane, entry_number, entry_message, is_of, is_in_part, is_given_up}
 use Rattle.sctp_model.specs.sender.Abandoning as gone
 use Rattle.sctp_model.specs.sender.Abandoning.{Name, waits, without, name_of, has_ticket, is_covered, is_abandoned, ended, given_up, give_up, abandon_answer, abandon_after}

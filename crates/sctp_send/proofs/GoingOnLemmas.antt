@@ -3,9 +3,9 @@ use Rattle.std.proofs.Common.{◌≡◌, ℕ, suc, ◌+◌, ◌<◌, ◌≤◌, 
 use Rattle.std.specs.Prelude.{◌==◌, nat_lt, if◌then◌else◌}
 use Rattle.std.proofs.lemmas.List.{drop-append-le}
 use Rattle.std.proofs.lemmas.Bool.Decides.{nat_tests}
-use Rattle.sctp_model.specs.Format.{Format}
-use Rattle.sctp_model.specs.Plan.{Entry, Part, End}
-use Rattle.sctp_model.specs.SenderView.{SenderView}
+use Rattle.sctp_model.specs.messages.Format.{Format}
+use Rattle.sctp_model.specs.messages.Plan.{Entry, Part, End}
+use Rattle.sctp_model.specs.sender.SenderView.{SenderView}
 use Rattle.sctp_model.specs.sender.Words.{when}
 use Rattle.sctp_model.specs.sender.Entries.{entry_lane, entry_message, fragments_in, next_part, continued, in_part}
 use Rattle.sctp_model.specs.sender.Assigning.{with_entry}

@@ -3,11 +3,11 @@ use Rattle.std.proofs.Common.{◌≡◌, ℕ, zero, suc, ◌+◌, ◌%◌, ◌^�
 use Rattle.std.specs.Prelude.{nat_le, slice_get, not, ◌&&◌, ◌||◌, replicate, Option, option_map}
 use Rattle.std.proofs.lemmas.List.{drop-drop, length-map}
 use Rattle.std.proofs.lemmas.Bool.Decides.{nat_tests}
-use Rattle.sctp_model.specs.Format.{Format}
-use Rattle.sctp_model.specs.Chunk.{BlockMeaning, SackMeaning}
-use Rattle.sctp_model.specs.Plan.{Entry, entry_at}
-use Rattle.sctp_model.specs.SenderView.{SenderView, fresh_sender}
-use Rattle.sctp_model.specs.Acknowledgement.{in_blocks}
+use Rattle.sctp_model.specs.messages.Format.{Format}
+use Rattle.sctp_model.specs.wire.Chunk.{BlockMeaning, SackMeaning}
+use Rattle.sctp_model.specs.messages.Plan.{Entry, entry_at}
+use Rattle.sctp_model.specs.sender.SenderView.{SenderView, fresh_sender}
+use Rattle.sctp_model.specs.messages.Acknowledgement.{in_blocks}
 use Rattle.sctp_model.specs.sender.SackTaken.{index_of, sack_fault, sack_covers, covered_by, sack_after, shutdown_fault, shutdown_after}
 use Rattle.sctp_model.specs.sender.Abandoning.{timed_out}
 use Rattle.sctp_model.specs.sender.Reached.{Begins, Covers, Closes, Repeats}

@@ -3,11 +3,11 @@ use Rattle.std.proofs.Common.{◌≡◌, ℕ, zero, suc, ◌+◌, ◌*◌, ◌%�
 use Rattle.std.specs.Prelude.{nat_le, ◌&&◌, option_map, Result, Ok, Err, IfOk, OnErr, nat_lt}
 use Rattle.std.proofs.lemmas.Bool.Decides.{nat_tests}
 use Rattle.std.proofs.lemmas.Option.{slice_get-get_or}
-use Rattle.sctp_model.specs.Limits.{WINDOW}
-use Rattle.sctp_model.specs.Format.{Format, Lane}
-use Rattle.sctp_model.specs.Chunk.{ChunkMeaning}
-use Rattle.sctp_model.specs.Plan.{Part}
-use Rattle.sctp_model.specs.SenderView.{SenderView}
+use Rattle.sctp_model.specs.numbers.Limits.{WINDOW}
+use Rattle.sctp_model.specs.messages.Format.{Format, Lane}
+use Rattle.sctp_model.specs.wire.Chunk.{ChunkMeaning}
+use Rattle.sctp_model.specs.messages.Plan.{Part}
+use Rattle.sctp_model.specs.sender.SenderView.{SenderView}
 use Rattle.sctp_model.specs.sender.Entries.{bytes_in}
 use Rattle.sctp_model.specs.sender.Words.{when}
 use Rattle.sctp_model.specs.sender.Queueing.{cut}

@@ -3,15 +3,15 @@ use Rattle.std.proofs.Common.{◌≡◌, ℕ, zero, suc, ◌+◌, ◌<◌, List,
 use Rattle.std.specs.Prelude.{nat_le, not, ◌&&◌, ◌||◌, if◌then◌else◌, option_map}
 use Rattle.std.proofs.lemmas.Bool.{and_parts}
 use Rattle.std.proofs.lemmas.List.{length-map}
-use Rattle.sctp_model.specs.Format.{Format}
-use Rattle.sctp_model.specs.Chunk.{ChunkMeaning}
-use Rattle.sctp_model.specs.Plan.{Entry}
-use Rattle.sctp_model.specs.SenderView.{SenderView}
+use Rattle.sctp_model.specs.messages.Format.{Format}
+use Rattle.sctp_model.specs.wire.Chunk.{ChunkMeaning}
+use Rattle.sctp_model.specs.messages.Plan.{Entry}
+use Rattle.sctp_model.specs.sender.SenderView.{SenderView}
 use Rattle.sctp_model.specs.sender.Entries.{bytes_in, in_flight}
 use Rattle.sctp_model.specs.sender.Filling.{standing, is_let_flow, may_go, bytes_of_wish, chunk_of, room_of, gone}
 use Rattle.sctp_model.proofs.sender.FillLaws.{goes_is, goes_not}
 use Rattle.sctp_model.proofs.sender.MarkLaws.{is_marked_well}
-use Rattle.sctp_model.specs.Framing.{data_chunk}
+use Rattle.sctp_model.specs.messages.Framing.{data_chunk}
 use Rattle.sctp_model.specs.sender.PieceSaid.{piece_said}
 use Rattle.sctp_packet.specs.Draft.{Draft as PacketDraft, room_in, has_room, with_chunks, after_try}
 use Rattle.sctp_send.specs.SenderKept.{Item, Kept}

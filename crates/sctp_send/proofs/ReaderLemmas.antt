@@ -2,11 +2,11 @@
 use Rattle.std.proofs.Common.{◌≡◌, ℕ, zero, suc, ◌+◌, ◌-◌, ◌%◌, ◌^◌, ◌<◌, ◌≤◌, List, [], ◌∷◌, length, drop, Bool, true, false, Option, Some, None, refl, sym, ap, ◌∙◌, ◌⊎◌, inl, inr, arith, get_or}
 use Rattle.std.specs.Prelude.{nat_lt, not, ◌&&◌, ◌||◌, ◌==◌, if◌then◌else◌}
 use Rattle.std.proofs.lemmas.Bool.Decides.{nat_tests}
-use Rattle.sctp_model.specs.Limits.{WINDOW}
-use Rattle.sctp_model.specs.Format.{Format}
-use Rattle.sctp_model.specs.Plan.{Entry}
+use Rattle.sctp_model.specs.numbers.Limits.{WINDOW}
+use Rattle.sctp_model.specs.messages.Format.{Format}
+use Rattle.sctp_model.specs.messages.Plan.{Entry}
 use Rattle.sctp_model.specs.sender.Words.{some_passes}
-use Rattle.sctp_model.specs.SenderView.{Queued, SenderView}
+use Rattle.sctp_model.specs.sender.SenderView.{Queued, SenderView}
 use Rattle.sctp_model.specs.sender.Entries.{any_from, some_entry, is_unsettled, in_part}
 use Rattle.sctp_model.specs.sender.Readers.{given_up_run, point, unsettled, drained, outstanding, abandoned}
 use Rattle.sctp_model.specs.sender.Abandoning.{Name, waits, name_of, is_abandoned}

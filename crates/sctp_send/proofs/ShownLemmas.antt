@@ -4,11 +4,11 @@ use Rattle.std.proofs.Common.{◌≡◌, ℕ, suc, ◌<◌, List, [], ◌∷◌,
 use Rattle.std.specs.Prelude.{◌==◌, not, ◌&&◌, ◌||◌, if◌then◌else◌}
 use Rattle.std.specs.Option.{option_map_or}
 use Rattle.std.proofs.lemmas.Bool.{and_parts}
-use Rattle.sctp_model.specs.Format.{Format}
-use Rattle.sctp_model.specs.Plan.{Message, Entry}
-use Rattle.sctp_model.specs.SenderView.{SenderView}
+use Rattle.sctp_model.specs.messages.Format.{Format}
+use Rattle.sctp_model.specs.messages.Plan.{Message, Entry}
+use Rattle.sctp_model.specs.sender.SenderView.{SenderView}
 use Rattle.sctp_model.specs.sender.Entries.{entry_message, any_from, is_given_up, continued}
-use Rattle.sctp_model.specs.sender.Abandoning.{Name, name_at, name_of, has_ticket, is_abandoned, is_covered, given_up, give_up, without, is_past, is_due, expire_one}
+use Rattle.sctp_model.specs.sender.Abandoning.{Name, name_at, name_of, has_ticket, is_abandoned, is_covered, given_up, give_up, without, is_past, is_overdue, expire_one}
 use Rattle.sctp_model.specs.sender.Reached.{IsReached}
 use Rattle.sctp_model.proofs.sender.OwnLaws.{AllOwn}
 use Rattle.sctp_model.proofs.sender.TicketLaws.{is_ticketed}
@@ -44,7 +44,7 @@ any_shown v now t i (e ∷ es) on = by_given (is_given_up v e) on (λ rest. any_
     by_given true here further = right (is_late now t (entry_message v.plan e)) (any_from (λ j d. is_late now t (entry_message v.plan d)) (suc i) es) (further here)
     by_given false here further = either (is_late now t (entry_message v.plan e)) (any_from (λ j d. is_late now t (shown_message v d)) (suc i) es) (any_from (λ j d. is_late now t (entry_message v.plan d)) (suc i) es) here further
 
-pub due_shown : (f : Format) (v : SenderView) (now t : ℕ) → IsReached f v → any_from (λ j e. is_late now t (shown_message v e)) (suc v.cum) (drop v.cum v.plan.entries) ≡ true → is_due v now t ≡ true
+pub due_shown : (f : Format) (v : SenderView) (now t : ℕ) → IsReached f v → any_from (λ j e. is_late now t (shown_message v e)) (suc v.cum) (drop v.cum v.plan.entries) ≡ true → is_overdue v now t ≡ true
 due_shown f v now t h late = due_above f v now t h (any_shown v now t (suc v.cum) (drop v.cum v.plan.entries) late)
 
 -- the message with the ticket, where it has a number, was not given up
@@ -105,14 +105,14 @@ passes_over f v now t h over = by_name (name_of v t) refl
         by_late false off = refl
 
     -- a message that isn't to be given up is let be
-    idle : (n : Name) → (v.partial && (not (is_abandoned v n) && not (is_covered v n))) ≡ false → (if is_due v now t then give_up v n else v) ≡ v
-    idle n off = ap (λ (b : Bool). if is_due v now t then (if b then given_up v n else v) else v) off ∙ either (is_due v now t)
+    idle : (n : Name) → (v.partial && (not (is_abandoned v n) && not (is_covered v n))) ≡ false → (if is_overdue v now t then give_up v n else v) ≡ v
+    idle n off = ap (λ (b : Bool). if is_overdue v now t then (if b then given_up v n else v) else v) off ∙ either (is_overdue v now t)
       where
         either : (c : Bool) → (if c then v else v) ≡ v
         either true = refl
         either false = refl
 
-    by_rule : (n : Name) (a b : Bool) → v.partial ≡ a → is_abandoned v n ≡ b → name_of v t ≡ Some n → (if is_due v now t then give_up v n else v) ≡ v
+    by_rule : (n : Name) (a b : Bool) → v.partial ≡ a → is_abandoned v n ≡ b → name_of v t ≡ Some n → (if is_overdue v now t then give_up v n else v) ≡ v
     by_rule n false b off given is = idle n (ap (λ (a : Bool). a && (not (is_abandoned v n) && not (is_covered v n))) off)
     by_rule n true true on given is = idle n (ap (λ (a : Bool). v.partial && (not a && not (is_covered v n))) given ∙ never v.partial)
       where
@@ -123,8 +123,8 @@ passes_over f v now t h over = by_name (name_of v t) refl
         let not_given : IsKept v t = λ m named. let same : n ≡ m = let both : Some n ≡ Some m = sym is ∙ named in cc in subst (λ (y : Name). is_abandoned v y ≡ false) same kept in
         let entries = same_shown v now t (suc v.cum) (drop v.cum v.plan.entries) own not_given ∙ over.entries on in
         let be = expires_idle f v now t h (record { queue = over.queue; entries = entries; rests = over.rests on }) in
-        subst (λ (o : Option Name). (if is_due v now t then option_map_or (give_up v) o (record v { queue = without t v.queue }) else v) ≡ v) is be
+        subst (λ (o : Option Name). (if is_overdue v now t then option_map_or (give_up v) o (record v { queue = without t v.queue }) else v) ≡ v) is be
 
     by_name : (o : Option Name) → name_of v t ≡ o → expire_one now v t ≡ v
-    by_name (Some n) is = ap (λ (o : Option Name). if is_due v now t then option_map_or (give_up v) o (record v { queue = without t v.queue }) else v) is ∙ by_rule n v.partial (is_abandoned v n) refl refl is
+    by_name (Some n) is = ap (λ (o : Option Name). if is_overdue v now t then option_map_or (give_up v) o (record v { queue = without t v.queue }) else v) is ∙ by_rule n v.partial (is_abandoned v n) refl refl is
     by_name None is = expires_idle f v now t h (record { queue = over.queue; entries = unnamed v now t (suc v.cum) (drop v.cum v.plan.entries) own is; rests = waiting is })

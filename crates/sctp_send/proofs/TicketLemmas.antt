@@ -2,10 +2,10 @@
 use Rattle.std.proofs.Common.{◌≡◌, ℕ, zero, suc, ◌+◌, ◌-◌, ◌<◌, ◌≤◌, List, [], ◌∷◌, ◌++◌, length, map, drop, Bool, true, false, Option, Some, None, refl, sym, ap, ◌∙◌, arith, get_or}
 use Rattle.std.specs.Prelude.{not, ◌&&◌, ◌||◌, if◌then◌else◌}
 use Rattle.std.proofs.lemmas.List.{length-map}
-use Rattle.sctp_model.specs.Format.{Format}
-use Rattle.sctp_model.specs.Plan.{Entry}
+use Rattle.sctp_model.specs.messages.Format.{Format}
+use Rattle.sctp_model.specs.messages.Plan.{Entry}
 use Rattle.sctp_model.specs.sender.Words.{some_passes}
-use Rattle.sctp_model.specs.SenderView.{SenderView}
+use Rattle.sctp_model.specs.sender.SenderView.{SenderView}
 use Rattle.sctp_model.specs.sender.Entries.{any_from, continued, entry_message, is_in_part}
 use Rattle.sctp_model.specs.sender.Abandoning.{Name, waits, name_of, is_abandoned, has_ticket, has_uncovered}
 use Rattle.sctp_model.specs.sender.Readers.{acknowledged, is_acknowledged}

@@ -5,11 +5,11 @@ use Rattle.std.specs.Option.{option_or}
 use Rattle.std.proofs.lemmas.Bool.Decides.{nat_tests}
 use Rattle.std.proofs.lemmas.List.{append_assoc, take_more}
 use Rattle.std.proofs.lemmas.Option.{slice_get-get_or}
-use Rattle.sctp_model.specs.Format.{Format, Plain, Interleaved}
-use Rattle.sctp_model.specs.Plan.{Entry}
+use Rattle.sctp_model.specs.messages.Format.{Format, Plain, Interleaved}
+use Rattle.sctp_model.specs.messages.Plan.{Entry}
 use Rattle.sctp_model.specs.sender.Entries.{continued}
 use Rattle.sctp_model.proofs.sender.OwedLaws.{first_stream}
-use Rattle.sctp_model.specs.SenderView.{Queued, SenderView}
+use Rattle.sctp_model.specs.sender.SenderView.{Queued, SenderView}
 use Rattle.sctp_model.specs.sender.Words.{first_there, count_up}
 use Rattle.sctp_model.specs.sender.Assigning.{with_message, is_on, first_on, without_first, whole_next, going_on, beginning, turn_of, assigned}
 use Rattle.sctp_model.specs.sender.Reached.{IsReached}

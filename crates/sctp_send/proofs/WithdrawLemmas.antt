@@ -5,8 +5,8 @@ use Rattle.std.proofs.lemmas.List.{length-map, map-append, take-map, drop-map}
 use Rattle.std.proofs.lemmas.Bool.Decides.{nat_tests}
 use Rattle.std.specs.declared.rc.Rc.{Rc}
 use Rattle.std.specs.declared.alloc.Global.{Global}
-use Rattle.sctp_model.specs.Format.{Format}
-use Rattle.sctp_model.specs.SenderView.{Queued, SenderView}
+use Rattle.sctp_model.specs.messages.Format.{Format}
+use Rattle.sctp_model.specs.sender.SenderView.{Queued, SenderView}
 use Rattle.std.specs.Option.{option_map_or}
 use Rattle.sctp_model.specs.sender.Abandoning.{Name, waits, without, name_of, give_up, abandon_after}
 use Rattle.sctp_model.specs.sender.Reached.{Abandons}

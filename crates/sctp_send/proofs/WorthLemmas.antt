@@ -2,7 +2,7 @@
 use Rattle.std.proofs.Common.{◌≡◌, ℕ, zero, suc, ◌+◌, ◌<◌, ◌≤◌, min, List, [], ◌∷◌, ◌++◌, length, map, take, drop, Option, sym, ap, ◌∙◌, arith, get_or}
 use Rattle.std.specs.Prelude.{set, insert, remove}
 use Rattle.std.proofs.lemmas.List.{take_more, take_all}
-use Rattle.sctp_model.specs.Plan.{Message}
+use Rattle.sctp_model.specs.messages.Plan.{Message}
 use Rattle.sctp_send.specs.inner.Counting.{moment_from, AreWorth}
 
 -- ---- messages

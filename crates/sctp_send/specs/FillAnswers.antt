@@ -1,7 +1,7 @@
 -- What `fill` answers, in terms of a view that the sender stands for.
 use Rattle.std.specs.Prelude.{◌≡◌, List, map}
-use Rattle.sctp_model.specs.Format.{Format}
-use Rattle.sctp_model.specs.SenderView.{SenderView}
+use Rattle.sctp_model.specs.messages.Format.{Format}
+use Rattle.sctp_model.specs.sender.SenderView.{SenderView}
 use Rattle.sctp_model.specs.sender.Filling.{Wish, IsFill, Follows, newly_numbered}
 use Rattle.sctp_model.specs.sender.SentChunks.{chunk_of}
 use Rattle.sctp_packet.specs.Draft.{Draft, room_in, with_chunks}

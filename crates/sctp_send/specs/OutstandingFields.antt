@@ -1,9 +1,9 @@
 -- What an entry above CUM says: its message, its place, how far it came.
 use Rattle.std.specs.Prelude.{ℕ, Bool, true, false, List, map, Some}
-use Rattle.sctp_model.specs.Format.{Lane}
-use Rattle.sctp_model.specs.Framing.{lane_kind}
-use Rattle.sctp_model.specs.Plan.{Message, Entry, Part, End}
-use Rattle.sctp_model.specs.SenderView.{Queued}
+use Rattle.sctp_model.specs.messages.Format.{Lane}
+use Rattle.sctp_model.specs.messages.Framing.{lane_kind}
+use Rattle.sctp_model.specs.messages.Plan.{Message, Entry, Part, End}
+use Rattle.sctp_model.specs.sender.SenderView.{Queued}
 use Rattle.sctp_model.specs.sender.Queueing.{cut}
 use Rattle.sctp_send.specs.SenderKept.{Item}
 use Rattle.sctp_send.specs.declared.message.Message.{Message as MessageFields}

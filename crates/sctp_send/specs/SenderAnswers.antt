@@ -1,8 +1,8 @@
 -- What the calls of a sender answer, in terms of a view that it stands for, and the view that they leave.
 use Rattle.std.specs.Prelude.{◌≡◌, ℕ, suc, Bool, not, List, Option, None, Some, Result, Ok, Err}
-use Rattle.sctp_model.specs.Format.{Lane}
-use Rattle.sctp_model.specs.Framing.{lane_kind}
-use Rattle.sctp_model.specs.SenderView.{SenderView}
+use Rattle.sctp_model.specs.messages.Format.{Lane}
+use Rattle.sctp_model.specs.messages.Framing.{lane_kind}
+use Rattle.sctp_model.specs.sender.SenderView.{SenderView}
 use Rattle.sctp_model.specs.sender.Queueing as model
 use Rattle.sctp_model.specs.sender.Queueing.{refusal, queued}
 use Rattle.sctp_model.specs.sender.SackTaken as taken

@@ -2,8 +2,8 @@
 use Rattle.std.specs.Prelude.{◌≡◌, ℕ, ◌<◌, ◌≤◌, Option, None, Some}
 use Rattle.std.specs.declared.rc.Rc.{Rc}
 use Rattle.std.specs.declared.alloc.Global.{Global}
-use Rattle.sctp_model.specs.Plan.{Part}
-use Rattle.sctp_model.specs.SenderView.{Queued}
+use Rattle.sctp_model.specs.messages.Plan.{Part}
+use Rattle.sctp_model.specs.sender.SenderView.{Queued}
 use Rattle.sctp_send.specs.SenderKept.{Rest, Track}
 use Rattle.sctp_send.specs.OutstandingFields.{lane_meaning, message_meaning, queued_meaning}
 use Rattle.sctp_send.specs.declared.message.Message.{Message as MessageFields}

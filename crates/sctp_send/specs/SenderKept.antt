@@ -1,7 +1,7 @@
 -- A sender's state as its clauses name it.
 use Rattle.std.specs.Prelude.{ℕ, Bool, List, Option}
-use Rattle.sctp_model.specs.Plan.{Message, Entry}
-use Rattle.sctp_model.specs.SenderView.{Queued}
+use Rattle.sctp_model.specs.messages.Plan.{Message, Entry}
+use Rattle.sctp_model.specs.sender.SenderView.{Queued}
 use Rattle.sctp_send.specs.declared.message.Fate.{Fate}
 use Rattle.sctp_send.specs.declared.outstanding.Run.{Run}
 

@@ -1,8 +1,8 @@
 -- When a sender stands for a view: what it keeps is what the view says, and the view is one that calls reach.
 use Rattle.std.specs.Prelude.{◌≡◌, ℕ, zero, suc, ◌+◌, ◌≤◌, if◌then◌else◌, List, [], ◌∷◌, length, drop, Option, None, Some}
-use Rattle.sctp_model.specs.Format.{Format, ordered_lane, unordered_lane}
-use Rattle.sctp_model.specs.Plan.{Entry, Plan}
-use Rattle.sctp_model.specs.SenderView.{SenderView}
+use Rattle.sctp_model.specs.messages.Format.{Format, ordered_lane, unordered_lane}
+use Rattle.sctp_model.specs.messages.Plan.{Entry, Plan}
+use Rattle.sctp_model.specs.sender.SenderView.{SenderView}
 use Rattle.sctp_model.specs.sender.Entries.{entry_message, is_given_up, continued, in_part}
 use Rattle.sctp_model.specs.sender.Abandoning.{Name, name_of, waits, is_abandoned}
 use Rattle.sctp_model.specs.sender.Reached.{IsReached}

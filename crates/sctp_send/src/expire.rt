@@ -1,7 +1,7 @@
 //! Messages that are past their time (RFC 3758, 3.5 and 4.1: timed reliability).
 
 ghost use Rattle.std.specs.Prelude.{◌≡◌, ℕ, Some, None, map};
-ghost use Rattle.sctp_model.specs.SenderView.{SenderView};
+ghost use Rattle.sctp_model.specs.sender.SenderView.{SenderView};
 ghost use Rattle.sctp_model.specs.sender.Abandoning.{expired};
 ghost use Rattle.sctp_send.specs.OutstandingFields.{message_meaning, item_meaning};
 ghost use Rattle.sctp_send.specs.SenderFields.{track_meaning};

@@ -1,7 +1,7 @@
 //! What goes into a packet (RFC 9260, 6.1 and 6.3.3; RFC 8260, 2.2).
 
 ghost use Rattle.std.specs.Prelude.{◌≡◌, ◌≤◌, [], length, IfOk, OnErr, OnOk};
-ghost use Rattle.sctp_model.specs.SenderView.{SenderView};
+ghost use Rattle.sctp_model.specs.sender.SenderView.{SenderView};
 ghost use Rattle.sctp_send.specs.SenderStands.{StandsFor, Keeps};
 ghost use Rattle.sctp_send.specs.FillAnswers.{FillAnswer, PutSomeOf};
 ghost use Rattle.sctp_send.specs.inner.Drafting.{numbers_of, all_numbered, drafted, AllPut};

@@ -1,9 +1,9 @@
 //! How far the point went is told to the peer: FORWARD-TSN and I-FORWARD-TSN (RFC 3758, 3.5; RFC 8260, 2.3.1).
 
 ghost use Rattle.std.specs.Prelude.{◌≡◌, ℕ, ◌<◌, ◌≤◌, ◌*◌, [], ◌∷◌, ◌++◌, ◌&&◌, true, None, List, length, map, take, nat_lt, IfOk, OnErr, OnOk};
-ghost use Rattle.sctp_model.specs.Format.{Lane, is_numbered};
-ghost use Rattle.sctp_model.specs.Framing.{forward_chunk};
-ghost use Rattle.sctp_model.specs.SenderView.{SenderView};
+ghost use Rattle.sctp_model.specs.messages.Format.{Lane, is_numbered};
+ghost use Rattle.sctp_model.specs.messages.Framing.{forward_chunk};
+ghost use Rattle.sctp_model.specs.sender.SenderView.{SenderView};
 ghost use Rattle.sctp_model.specs.sender.Readers.{point};
 ghost use Rattle.sctp_model.specs.sender.Forwarding.{larger, largest_in, skip_of, skips_below};
 ghost use Rattle.sctp_model.specs.sender.SentChunks.{skip_said, forward_chunk_of};

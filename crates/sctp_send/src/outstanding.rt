@@ -2,7 +2,7 @@
 
 ghost use Rattle.std.specs.Prelude.{◌≡◌, ℕ, Bool, true, false, ◌<◌, ◌≤◌, List, length, drop, None};
 ghost use Rattle.sctp_send.specs.WindowKept.{IsSameRoom, changed};
-ghost use Rattle.sctp_model.specs.Acknowledgement.{in_blocks};
+ghost use Rattle.sctp_model.specs.messages.Acknowledgement.{in_blocks};
 ghost use Rattle.sctp_send.specs.inner.Changes.{unmarked, told, all_told, or_run, timed, all_timed};
 ghost use Rattle.sctp_model.specs.sender.SackTaken.{some_is_bad};
 ghost use Rattle.sctp_send.specs.CoveredRuns.{run_behind, runs_behind, HoldsBlocks};

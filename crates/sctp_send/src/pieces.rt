@@ -1,8 +1,8 @@
 //! A fragment's bytes and its chunk (RFC 9260, 3.3.1 and 6.9; RFC 8260, 2.1).
 
 ghost use Rattle.std.specs.Prelude.{◌≡◌, ℕ, ◌<◌, ◌≤◌, IfOk, OnErr, Some};
-ghost use Rattle.sctp_model.specs.Format.{Lane};
-ghost use Rattle.sctp_model.specs.Serial as serial;
+ghost use Rattle.sctp_model.specs.messages.Format.{Lane};
+ghost use Rattle.sctp_model.specs.numbers.Serial as serial;
 ghost use Rattle.sctp_model.specs.sender.Entries.{entry_fragment, bytes_in};
 ghost use Rattle.sctp_packet.specs.Draft.{has_room, after_try};
 ghost use Rattle.sctp_send.specs.OutstandingFields.{message_meaning, entry_meaning};

@@ -1,8 +1,8 @@
 //! One wish after the other goes into a packet, and into a draft (RFC 9260, 6.1 and 6.3.3; RFC 8260, 2.2).
 
 ghost use Rattle.std.specs.Prelude.{◌≡◌, suc, ◌+◌, ◌<◌, true, false, length, IfOk, OnErr};
-ghost use Rattle.sctp_model.specs.SenderView.{SenderView};
-ghost use Rattle.sctp_model.specs.Serial.{tsn};
+ghost use Rattle.sctp_model.specs.sender.SenderView.{SenderView};
+ghost use Rattle.sctp_model.specs.numbers.Serial.{tsn};
 ghost use Rattle.sctp_send.specs.SenderStands.{Keeps};
 ghost use Rattle.sctp_send.specs.FillAnswers.{PutSomeOf};
 ghost use Rattle.sctp_send.specs.WindowKept.{changed};

@@ -1,7 +1,7 @@
 //! Messages handed in: refused for the first reason that holds, or queued (RFC 9260, 6.9).
 
 ghost use Rattle.std.specs.Prelude.{◌≡◌, ℕ, ◌<◌, ◌^◌, ◌%◌, ◌+◌, ◌++◌, ◌∷◌, [], map, length, OnOk, OnErr, IfErr};
-ghost use Rattle.sctp_model.specs.SenderView.{SenderView};
+ghost use Rattle.sctp_model.specs.sender.SenderView.{SenderView};
 ghost use Rattle.sctp_model.specs.sender.Queueing.{cut, owed_for, promised};
 ghost use Rattle.sctp_send.specs.OutstandingFields.{message_meaning, queued_meaning};
 ghost use Rattle.sctp_send.specs.SenderFields.{track_meaning, queued_by};

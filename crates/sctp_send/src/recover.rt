@@ -2,7 +2,7 @@
 
 ghost use Rattle.std.specs.Prelude.{◌≡◌, ℕ, ◌≤◌, true, max, length, None};
 ghost use Rattle.sctp_send.specs.WindowKept.{IsSameRoom};
-ghost use Rattle.sctp_model.specs.Acknowledgement.{in_blocks};
+ghost use Rattle.sctp_model.specs.messages.Acknowledgement.{in_blocks};
 ghost use Rattle.sctp_send.specs.CoveredRuns.{in_runs, AreInOrder, HasPassed, HoldsBlocks};
 ghost use Rattle.sctp_send.specs.inner.Acknowledging.{block_fault};
 ghost use Rattle.sctp_send.specs.inner.Changes.{told, all_told, told_where, is_between, in_gaps, in_alone, IsExact};

@@ -1,8 +1,8 @@
 //! SACKs and SHUTDOWNs that come (RFC 9260, 6.2.1 and 9.2).
 
 ghost use Rattle.std.specs.Prelude.{◌≡◌, ◌≤◌, length, IfOk};
-ghost use Rattle.sctp_model.specs.Serial.{tsn, ahead};
-ghost use Rattle.sctp_model.specs.SenderView.{SenderView};
+ghost use Rattle.sctp_model.specs.numbers.Serial.{tsn, ahead};
+ghost use Rattle.sctp_model.specs.sender.SenderView.{SenderView};
 ghost use Rattle.sctp_model.specs.sender.SackTaken.{some_is_bad, some_ends_past, sack_fault, sack_after, shutdown_fault, shutdown_after};
 ghost use Rattle.sctp_model.specs.sender.Abandoning.{timed_out};
 ghost use Rattle.sctp_wire.specs.ChunkTree.{sack_meaning};

@@ -2,7 +2,7 @@
 
 ghost use Rattle.std.specs.Prelude.{◌≡◌, ℕ, ◌<◌, ◌≤◌};
 ghost use Rattle.std.specs.Prelude.{IfOk};
-ghost use Rattle.sctp_model.specs.SenderView.{SenderView, fresh_sender};
+ghost use Rattle.sctp_model.specs.sender.SenderView.{SenderView, fresh_sender};
 ghost use Rattle.sctp_send.specs.SenderStands.{StandsFor};
 
 use crate::draft::Change;

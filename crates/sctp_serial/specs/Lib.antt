@@ -1,2 +1,2 @@
-pub use Rattle.sctp_model.specs.Serial
+pub use Rattle.sctp_model.specs.numbers.Serial
 pub mod NearLaws

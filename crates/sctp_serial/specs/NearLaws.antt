@@ -2,7 +2,7 @@
 -- undoes `wire_value` less than half the space away.
 use Rattle.std.proofs.Common.{◌≡◌, ℕ, ◌<◌, ◌^◌, Some, arith}
 use Rattle.std.proofs.lemmas.Bool.Decides.{nat_tests}
-use Rattle.sctp_model.specs.Serial.{COUNTS, wire_value, near, IsWithinHalf, IsNear, IsNearAnswer}
+use Rattle.sctp_model.specs.numbers.Serial.{COUNTS, wire_value, near, IsWithinHalf, IsNear, IsNearAnswer}
 
 -- ---- 16 bits
 

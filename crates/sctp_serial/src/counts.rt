@@ -5,7 +5,7 @@
 /// The contracts speak of `bits`, its width, and of `wire`, its value as a number.
 pub trait Serial: Copy {
     ghost use Rattle.std.specs.Prelude.{◌≡◌, ℕ, ◌<◌, ◌^◌, Option, Some};
-    ghost use Rattle.sctp_model.specs.Serial.{COUNTS, wire_value, before, near, IsWithinHalf, IsNear, IsNearAnswer};
+    ghost use Rattle.sctp_model.specs.numbers.Serial.{COUNTS, wire_value, before, near, IsWithinHalf, IsNear, IsNearAnswer};
 
     // The width in bits.
     ghost bits: { ℕ };

@@ -1,7 +1,7 @@
 //! Rows of the comparison and of the count near a reference, at both widths and at both ends of the counts.
 
 ghost use Rattle.std.specs.Prelude.{◌≡◌};
-ghost use Rattle.sctp_model.specs.Serial.{IsWithinHalf};
+ghost use Rattle.sctp_model.specs.numbers.Serial.{IsWithinHalf};
 
 use sctp_serial::{S16, S32, Serial};
 

@@ -3,7 +3,7 @@ use Rattle.std.proofs.Common.{◌≡◌, ◌⊎◌, inl, inr, ℕ, zero, suc, �
 use Rattle.std.specs.declared.vec.Vec.{Vec}
 use Rattle.std.specs.declared.alloc.Global.{Global}
 use Rattle.std.proofs.lemmas.Option.{slice_get_past}
-use Rattle.sctp_model.specs.Lists.{item_at}
+use Rattle.sctp_model.specs.numbers.Lists.{item_at}
 use Rattle.sctp_model.specs.first.Ends.{Packet, EndView}
 use Rattle.sctp_model.specs.first.World.{Side, A, B, World, end_of, bag_of, with_end, with_packet}
 use Rattle.sctp_trace.specs.PairStands.{IsPacketOf, ArePackets}

@@ -6,11 +6,11 @@ use Rattle.std.specs.Prelude.{◌-◌, nat_lt, nat_le, ◌||◌, ◌&&◌}
 use Rattle.std.proofs.Math.Path.{fun_ext}
 use Rattle.std.proofs.lemmas.List.{length-take}
 use Rattle.std.proofs.lemmas.Grind.{common_steps}
-use Rattle.sctp_model.specs.Chunk.{SackMeaning, ChunkMeaning}
-use Rattle.sctp_model.specs.SenderView.{Queued, SenderView}
+use Rattle.sctp_model.specs.wire.Chunk.{SackMeaning, ChunkMeaning}
+use Rattle.sctp_model.specs.sender.SenderView.{Queued, SenderView}
 use Rattle.sctp_model.specs.first.Sending.{IsFill, went_out}
 use Rattle.sctp_model.specs.first.Ends.{EndView, Packet, SACK_ROOM, datas_of, Configuration, Builds}
-use Rattle.sctp_model.specs.Packet.{HEADER_ROOM}
+use Rattle.sctp_model.specs.wire.Packet.{HEADER_ROOM}
 use Rattle.sctp_packet.specs.Draft.{Draft, room_in, with_chunks, empty_draft}
 use Rattle.sctp_trace.specs.EndStands.{KeepsEnd, tickets_noted}
 use Rattle.sctp_trace.specs.inner.EndSteps.{IsBeginning}

@@ -3,13 +3,13 @@ use Rattle.std.proofs.Common.{◌≡◌, ℕ, suc, ◌⊎◌, true, false, ◌==
 use Rattle.std.specs.Prelude.{nat_lt, ◌||◌}
 use Rattle.std.specs.List.{AllByRecursion}
 use Rattle.std.proofs.lemmas.Bool.{eq-eqb, eqb-false, eqb-true, cond_both, and_parts}
-use Rattle.sctp_model.specs.Lists.{at}
-use Rattle.sctp_model.specs.Format.{Plain, Kind, Ordered, Unordered, Lane, same_kind, same_lane, at_lane}
-use Rattle.sctp_model.specs.Chunk.{PieceMeaning, ChunkMeaning, Data}
-use Rattle.sctp_model.specs.Plan.{Plan}
-use Rattle.sctp_model.specs.SenderView.{SenderView}
-use Rattle.sctp_model.specs.ReceiverView.{Handed, ReceiverView}
-use Rattle.sctp_model.specs.Receiving.{IsDue, Stop, Over, Past}
+use Rattle.sctp_model.specs.numbers.Lists.{at}
+use Rattle.sctp_model.specs.messages.Format.{Plain, Kind, Ordered, Unordered, Lane, same_kind, same_lane, at_lane}
+use Rattle.sctp_model.specs.wire.Chunk.{PieceMeaning, ChunkMeaning, Data}
+use Rattle.sctp_model.specs.messages.Plan.{Plan}
+use Rattle.sctp_model.specs.sender.SenderView.{SenderView}
+use Rattle.sctp_model.specs.receiver.ReceiverView.{Handed, ReceiverView}
+use Rattle.sctp_model.specs.receiver.Receiving.{IsDue, Stop, GivesWhole, Past}
 use Rattle.sctp_model.specs.first.Sending.{acknowledged}
 use Rattle.sctp_model.specs.first.Ends.{EndView, Packet, Act, Acts, is_taken, piece_said, PieceTaken, Duplicate, Passed, Taken}
 use Rattle.sctp_trace.specs.EndStands.{HasMessage, IsOn, KeepsEnd}
@@ -71,7 +71,7 @@ at_lane_same f l v = at_lane_cases (λ x. x ≡ v) f l v l (λ e. refl) (λ ne. 
 
 due_on : (r : ReceiverView) (s n m : ℕ) (ms : List Handed) → IsDue Plain r s n ms m → AllByRecursion (IsOn s) ms
 due_on r s _ _ _ (Stop n skip none) = tt
-due_on r s _ _ _ (Over n m x xs ms whole lowest rest) = (whole.2.0, due_on r s (suc n) m ms rest)
+due_on r s _ _ _ (GivesWhole n m x xs ms whole lowest rest) = (whole.2.0, due_on r s (suc n) m ms rest)
 due_on r s _ _ _ (Past n m ms below none rest) = due_on r s (suc n) m ms rest
 
 -- what a chunk that comes leaves as it was

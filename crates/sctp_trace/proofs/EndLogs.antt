@@ -6,8 +6,8 @@ use Rattle.std.specs.List.{AllByRecursion}
 use Rattle.std.proofs.lemmas.List.{append-nil, map-append, take_more}
 use Rattle.std.proofs.lemmas.List.Elements.{filter-append}
 use Rattle.std.proofs.lemmas.Bool.{eq-eqb, eqb-true, cases_Bool}
-use Rattle.sctp_model.specs.Lists.{joined}
-use Rattle.sctp_model.specs.ReceiverView.{Handed}
+use Rattle.sctp_model.specs.numbers.Lists.{joined}
+use Rattle.sctp_model.specs.receiver.ReceiverView.{Handed}
 use Rattle.sctp_model.specs.first.Ends.{EndView}
 use Rattle.sctp_model.specs.first.World.{taken_by_user}
 use Rattle.sctp_trace.specs.EndStands.{IsOn, KeepsEnd, tickets_noted, numbers_taken}

@@ -1,7 +1,7 @@
 -- A message that is sent: refused or accepted.
 use Rattle.std.proofs.Common.{◌≡◌, ℕ, true, false, List, Some, None, Ok, Err, refl, ap, subst}
 use Rattle.std.specs.Prelude.{Result, MatchResult}
-use Rattle.sctp_model.specs.SenderView.{SenderView}
+use Rattle.sctp_model.specs.sender.SenderView.{SenderView}
 use Rattle.sctp_model.specs.first.World as world
 use Rattle.sctp_model.specs.first.Sending.{Refusal, NotOpen, refusal}
 use Rattle.sctp_model.specs.first.Ends.{State, Closed, Listen, Established}

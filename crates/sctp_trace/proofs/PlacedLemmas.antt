@@ -2,12 +2,12 @@
 use Rattle.std.proofs.lemmas.List.{take_all}
 use Rattle.std.proofs.Common.{◌≡◌, ℕ, ◌+◌, ◌-◌, arith, length-drop, take, List, [], ◌∷◌, ◌++◌, length, drop, None, refl, sym, ap, subst, inl, inr}
 use Rattle.std.specs.List.{AllByRecursion}
-use Rattle.sctp_model.specs.Chunk.{ChunkMeaning, Data, Sack, size_of_chunk}
-use Rattle.sctp_model.specs.Places.{misplaced_behind, ArePlaced}
-use Rattle.sctp_model.specs.SenderView.{SenderView, Queued}
+use Rattle.sctp_model.specs.wire.Chunk.{ChunkMeaning, Data, Sack, size_of_chunk}
+use Rattle.sctp_model.specs.wire.Places.{misplaced_behind, ArePlaced}
+use Rattle.sctp_model.specs.sender.SenderView.{SenderView, Queued}
 use Rattle.sctp_model.specs.first.Sending.{numbered_one}
 use Rattle.sctp_model.specs.first.Ends.{Configuration, EndView, Packet, datas_of, Builds}
-use Rattle.sctp_model.specs.Packet as whole
+use Rattle.sctp_model.specs.wire.Packet as whole
 use Rattle.sctp_wire.specs.Reads.{Reads}
 use Rattle.sctp_packet.specs.PacketBytes.{ReadsPacket}
 use Rattle.sctp_trace.specs.inner.EndSteps.{IsBeginning}

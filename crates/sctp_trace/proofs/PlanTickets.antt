@@ -2,9 +2,9 @@
 use Rattle.std.proofs.Common.{◌≡◌, ℕ, zero, suc, ◌<◌, List, [], ◌∷◌, ◌++◌, length, map, slice_get, Some, refl, sym, ap, ◌∙◌, subst, append_assoc, arith, length-append}
 use Rattle.std.specs.List.{AllByRecursion}
 use Rattle.std.proofs.lemmas.List.{append-nil}
-use Rattle.sctp_model.specs.Format.{Lane, at_lane}
-use Rattle.sctp_model.specs.Plan.{Message as Planned, Plan, Entry, Part, End as EndMark, message_at}
-use Rattle.sctp_model.specs.SenderView.{Queued, SenderView}
+use Rattle.sctp_model.specs.messages.Format.{Lane, at_lane}
+use Rattle.sctp_model.specs.messages.Plan.{Message as Planned, Plan, Entry, Part, End as EndMark, message_at}
+use Rattle.sctp_model.specs.sender.SenderView.{Queued, SenderView}
 use Rattle.sctp_model.specs.first.Sending.{numbered_one, numbered_all}
 use Rattle.sctp_trace.specs.EndStands.{HasMessage}
 use Rattle.sctp_script.specs.ReportText.{ticket_of, tickets_in, tickets_of}

@@ -1,10 +1,10 @@
 -- Which end stands for which view, and what its work on a packet leaves.
 use Rattle.std.specs.Prelude.{◌≡◌, ℕ, ◌<◌, Bool, true, false, ◌==◌, List, length, map, filter, Option}
 use Rattle.std.specs.List.{AllByRecursion}
-use Rattle.sctp_model.specs.Lists.{joined}
-use Rattle.sctp_model.specs.Format.{ordered_lane}
-use Rattle.sctp_model.specs.Plan.{Plan, Entry, Part, End as EndMark}
-use Rattle.sctp_model.specs.ReceiverView.{Handed}
+use Rattle.sctp_model.specs.numbers.Lists.{joined}
+use Rattle.sctp_model.specs.messages.Format.{ordered_lane}
+use Rattle.sctp_model.specs.messages.Plan.{Plan, Entry, Part, End as EndMark}
+use Rattle.sctp_model.specs.receiver.ReceiverView.{Handed}
 use Rattle.sctp_model.specs.first.Ends.{State, Closed, Listen, Established, EndView}
 use Rattle.sctp_script.specs.Events.{state_meaning}
 use Rattle.sctp_script.specs.ReportText.{tickets_of}

@@ -4,7 +4,7 @@ use Rattle.std.specs.declared.vec.Vec.{Vec}
 use Rattle.std.specs.declared.alloc.Global.{Global}
 use Rattle.sctp_model.specs.first.Ends.{Packet}
 use Rattle.sctp_model.specs.first.World.{World}
-use Rattle.sctp_model.specs.Packet.{HEADER_ROOM, size_of_packet}
+use Rattle.sctp_model.specs.wire.Packet.{HEADER_ROOM, size_of_packet}
 use Rattle.sctp_wire.specs.Reads.{Reads}
 use Rattle.sctp_script.specs.Configuration.{configuration_meaning}
 use Rattle.sctp_trace.specs.EndStands.{EndStands}

@@ -1,9 +1,9 @@
 //! The work of an end on packets: one is built, and one that came acts.
 
 ghost use Rattle.std.specs.Prelude.{◌≡◌, ◌≤◌, List, ◌∷◌, [], IfOk, OnOk, Option};
-ghost use Rattle.sctp_model.specs.Chunk.{SackMeaning};
-ghost use Rattle.sctp_model.specs.Chunk as meaning;
-ghost use Rattle.sctp_model.specs.ReceiverView.{ReceiverView};
+ghost use Rattle.sctp_model.specs.wire.Chunk.{SackMeaning};
+ghost use Rattle.sctp_model.specs.wire.Chunk as meaning;
+ghost use Rattle.sctp_model.specs.receiver.ReceiverView.{ReceiverView};
 ghost use Rattle.sctp_model.specs.first.Ends.{EndView, Packet, SackOf};
 ghost use Rattle.sctp_model.specs.first.World as world;
 ghost use Rattle.sctp_model.specs.first.World.{World, end_of, other, bag_of, with_end, BuildsAt, Delivers};

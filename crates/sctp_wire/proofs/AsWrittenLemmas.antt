@@ -5,9 +5,9 @@ use Rattle.std.proofs.lemmas.List.{drop-drop, drop_all, take-append-drop, take_a
 use Rattle.std.proofs.lemmas.Bool.{cases_lt}
 use Rattle.std.proofs.lemmas.Bool.Decides.{eqb_tells}
 use Rattle.std.proofs.lemmas.Grind.{common_steps}
-use Rattle.sctp_model.specs.Chunk.{padded}
-use Rattle.sctp_model.specs.Numbers.{AreBytes}
-use Rattle.sctp_model.specs.Typed.{Typed, typed_bytes, typed_length, filled, written_typed, length_field, starts_typed, typed_at, typed_of, are_typed, typed_in, AreAsWritten}
+use Rattle.sctp_model.specs.wire.Chunk.{padded}
+use Rattle.sctp_model.specs.numbers.Numbers.{AreBytes}
+use Rattle.sctp_model.specs.wire.Typed.{Typed, typed_bytes, typed_length, filled, written_typed, length_field, starts_typed, typed_at, typed_of, are_typed, typed_in, AreAsWritten}
 use Rattle.sctp_model.proofs.TypedLemmas.{typed_of-nil, typed_of-first, typed_of-none, in_front, behind_first, HasFirst, has_first, IsCutOff, cut_off, length-item}
 use Rattle.sctp_model.proofs.TypedWriting.{zeros_long}
 use Rattle.sctp_wire.specs.inner.FirstAsWritten.{IsFirstAsWritten}

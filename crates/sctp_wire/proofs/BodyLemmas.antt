@@ -4,8 +4,8 @@ use Rattle.std.specs.Prelude.{◌==◌}
 use Rattle.std.proofs.lemmas.List.{append-nil, drop_all}
 use Rattle.std.proofs.lemmas.Bool.{leb-true, le-leb}
 use Rattle.std.proofs.lemmas.Grind.{common_steps}
-use Rattle.sctp_model.specs.Chunk.{ChunkMeaning, Data, Init, InitAck, Sack, Heartbeat, HeartbeatAck, Abort, Shutdown, ShutdownAck, Error, CookieEcho, CookieAck, ShutdownComplete, IData, ForwardTsn, IForwardTsn, Unknown, kind_of, chunk_length}
-use Rattle.sctp_model.specs.Numbers.{u32_bytes, u32_at, AreBytes}
+use Rattle.sctp_model.specs.wire.Chunk.{ChunkMeaning, Data, Init, InitAck, Sack, Heartbeat, HeartbeatAck, Abort, Shutdown, ShutdownAck, Error, CookieEcho, CookieAck, ShutdownComplete, IData, ForwardTsn, IForwardTsn, Unknown, kind_of, chunk_length}
+use Rattle.sctp_model.specs.numbers.Numbers.{u32_bytes, u32_at, AreBytes}
 use Rattle.sctp_wire.specs.declared.skips.SkipForm.TheVariants.{Narrow, Wide}
 use Rattle.sctp_wire.specs.chunks.Data.{data_value}
 use Rattle.sctp_wire.specs.chunks.IData.{i_data_laid}

@@ -2,8 +2,8 @@
 use Rattle.std.proofs.Common.{◌≡◌, ℕ, ◌+◌, ◌-◌, ◌*◌, ◌%◌, ◌≤◌, true, List, length, drop, refl, sym, ap, ◌∙◌, arith, length-append, length-drop}
 use Rattle.std.specs.List.{flat_map}
 use Rattle.std.proofs.lemmas.Grind.{common_steps}
-use Rattle.sctp_model.specs.Chunk.{ForwardMeaning}
-use Rattle.sctp_model.specs.Numbers.{u32_bytes, AreBytes}
+use Rattle.sctp_model.specs.wire.Chunk.{ForwardMeaning}
+use Rattle.sctp_model.specs.numbers.Numbers.{u32_bytes, AreBytes}
 use Rattle.sctp_wire.specs.declared.skips.SkipForm.{SkipForm}
 use Rattle.sctp_wire.specs.declared.skips.SkipForm.TheVariants.{Narrow, Wide}
 use Rattle.sctp_wire.specs.Skips.{skip_size, skip_bytes}

@@ -4,8 +4,8 @@ use Rattle.std.proofs.Common.{◌≡◌, ℕ, suc, ◌+◌, ◌-◌, ◌<◌, �
 use Rattle.std.specs.Prelude.{slice_index}
 use Rattle.std.proofs.lemmas.List.{drop-drop, take-append-drop, take_at, drop_at, length-take-le}
 use Rattle.std.proofs.lemmas.Bool.{cases_lt, lt-ltb, le-ltb}
-use Rattle.sctp_model.specs.Chunk.{ChunkMeaning, kind_of, chunk_length, padded, padding_after}
-use Rattle.sctp_model.specs.Numbers.{u16_bytes, AreBytes}
+use Rattle.sctp_model.specs.wire.Chunk.{ChunkMeaning, kind_of, chunk_length, padded, padding_after}
+use Rattle.sctp_model.specs.numbers.Numbers.{u16_bytes, AreBytes}
 use Rattle.sctp_wire.specs.declared.fault.Reason.{Reason}
 use Rattle.sctp_wire.specs.declared.fault.Reason.TheVariants as reason
 use Rattle.sctp_wire.specs.Layouts.{ReadsFlags, ReadsValue, has_layout, has_list, IsReadable}

@@ -1,7 +1,7 @@
 -- What INIT and INIT ACK offer is read in one way from their value.
 use Rattle.std.proofs.Common.{◌≡◌, ℕ, ◌+◌, ◌≤◌, true, List, ◌++◌, length, drop, refl, ◌∙◌, arith}
-use Rattle.sctp_model.specs.Chunk.{InitMeaning}
-use Rattle.sctp_model.specs.Numbers.{u16_bytes, u32_bytes, u16_at, u32_at, AreBytes}
+use Rattle.sctp_model.specs.wire.Chunk.{InitMeaning}
+use Rattle.sctp_model.specs.numbers.Numbers.{u16_bytes, u32_bytes, u16_at, u32_at, AreBytes}
 use Rattle.sctp_wire.specs.chunks.Init.{init_numbers, init_value, has_init_list, IsInit, init_at}
 use Rattle.sctp_wire.proofs.NumberLemmas.{u16_at-bytes, u32_at-bytes, next_u16, next_u32, u16_at-lt, u32_at-lt, AreBytes-drop}
 

@@ -2,9 +2,9 @@
 use Rattle.std.proofs.Common.{◌≡◌, ℕ, zero, suc, ◌+◌, ◌-◌, ◌*◌, ◌<◌, ◌≤◌, List, [], ◌∷◌, ◌++◌, length, refl, sym, ap, ◌∙◌, subst, append_assoc, arith, length-append, ◌⊎◌, inl, inr, Bool, true, false, Ok, Err}
 use Rattle.std.specs.Prelude.{Option, Some, None, Result, IsOk, if◌then◌else◌}
 use Rattle.std.proofs.lemmas.List.{append-nil, drop_at}
-use Rattle.sctp_model.specs.Chunk.{ChunkMeaning, size_of_chunk}
-use Rattle.sctp_model.specs.Numbers.{AreBytes}
-use Rattle.sctp_model.specs.Places.{stands_alone, never_follows, misplaced_behind, first_misplaced}
+use Rattle.sctp_model.specs.wire.Chunk.{ChunkMeaning, size_of_chunk}
+use Rattle.sctp_model.specs.numbers.Numbers.{AreBytes}
+use Rattle.sctp_model.specs.wire.Places.{stands_alone, never_follows, misplaced_behind, first_misplaced}
 use Rattle.sctp_wire.specs.declared.fault.Reason.{Reason}
 use Rattle.sctp_wire.specs.declared.fault.Reason.TheVariants as reason
 use Rattle.sctp_wire.specs.declared.fault.WireFault.{WireFault}

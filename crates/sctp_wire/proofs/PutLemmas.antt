@@ -1,8 +1,8 @@
 -- What stands behind a list where its padding and an item were appended.
 use Rattle.std.proofs.Common.{◌≡◌, ℕ, List, ◌++◌, length, replicate, refl, append_assoc}
-use Rattle.sctp_model.specs.Chunk.{padding_after}
-use Rattle.sctp_model.specs.Numbers.{u16_bytes}
-use Rattle.sctp_model.specs.Typed.{Typed, typed_length, typed_bytes, filled}
+use Rattle.sctp_model.specs.wire.Chunk.{padding_after}
+use Rattle.sctp_model.specs.numbers.Numbers.{u16_bytes}
+use Rattle.sctp_model.specs.wire.Typed.{Typed, typed_length, typed_bytes, filled}
 
 -- the padding, the type, the length and the value, one after another
 pub filled_then : (list : List ℕ) (item : Typed) (gap : ℕ) → gap ≡ padding_after (length list)

@@ -4,8 +4,8 @@ use Rattle.std.specs.Prelude.{◌&&◌}
 use Rattle.std.specs.List.{flat_map}
 use Rattle.std.proofs.lemmas.List.{drop-drop, take-append-drop, take_at, drop_at, length-take-le}
 use Rattle.std.proofs.lemmas.Grind.{common_steps}
-use Rattle.sctp_model.specs.Chunk.{SackMeaning}
-use Rattle.sctp_model.specs.Numbers.{u16_bytes, u32_bytes, u16_at, AreBytes}
+use Rattle.sctp_model.specs.wire.Chunk.{SackMeaning}
+use Rattle.sctp_model.specs.numbers.Numbers.{u16_bytes, u32_bytes, u16_at, AreBytes}
 use Rattle.sctp_wire.specs.Items.{block_bytes, blocks_in, words_in}
 use Rattle.sctp_wire.specs.chunks.Sack.{sack_value, IsSack, is_sack_value, sack_at}
 use Rattle.sctp_wire.proofs.NumberLemmas.{u16_at-bytes, u32_at-bytes, length-u16, length-u32, bytes-u16_at, bytes-u32_at, u32_at-lt, AreBytes-drop, AreBytes-take}

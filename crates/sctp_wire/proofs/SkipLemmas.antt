@@ -4,8 +4,8 @@ use Rattle.std.specs.Prelude.{if◌then◌else◌, ◌==◌, ◌&&◌, nat_lt}
 use Rattle.std.specs.List.{flat_map, AllByRecursion}
 use Rattle.std.proofs.lemmas.List.{append-nil, drop-drop}
 use Rattle.std.proofs.lemmas.Grind.{common_steps}
-use Rattle.sctp_model.specs.Chunk.{SkipMeaning}
-use Rattle.sctp_model.specs.Numbers.{u16_bytes, u32_bytes, u16_at, u32_at, AreBytes}
+use Rattle.sctp_model.specs.wire.Chunk.{SkipMeaning}
+use Rattle.sctp_model.specs.numbers.Numbers.{u16_bytes, u32_bytes, u16_at, u32_at, AreBytes}
 use Rattle.sctp_wire.specs.declared.skips.SkipForm.{SkipForm}
 use Rattle.sctp_wire.specs.declared.skips.SkipForm.TheVariants.{Narrow, Wide}
 use Rattle.sctp_wire.specs.Skips.{skip_size, skip_laid, skip_bytes, skip_at, IsSkip, ReadsSkips, skips_in, are_reserved_zero}

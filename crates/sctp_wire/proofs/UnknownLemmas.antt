@@ -3,9 +3,9 @@ use Rattle.std.proofs.Common.{◌≡◌, ℕ, ◌/◌, ◌%◌, ◌<◌, ◌≤�
 use Rattle.std.specs.Prelude.{not, if◌then◌else◌, ◌==◌, ◌&&◌, ◌||◌, nat_lt}
 use Rattle.std.specs.List.{filter}
 use Rattle.std.proofs.lemmas.Bool.{lt-ltb, le-ltb}
-use Rattle.sctp_model.specs.Chunk.{ChunkMeaning, Data, IData, Init, InitAck, Sack, Heartbeat, HeartbeatAck, Abort, Shutdown, ShutdownAck, Error, CookieEcho, CookieAck, ShutdownComplete, ForwardTsn, IForwardTsn, Unknown}
-use Rattle.sctp_model.specs.Typed.{Typed}
-use Rattle.sctp_model.specs.Unknown.{chunk_rule, parameter_rule, chunks_acted_on, chunks_reported, reported_before, is_known_parameter, is_passed_over, acted_from, reported_from, parameters_acted_on, parameters_reported}
+use Rattle.sctp_model.specs.wire.Chunk.{ChunkMeaning, Data, IData, Init, InitAck, Sack, Heartbeat, HeartbeatAck, Abort, Shutdown, ShutdownAck, Error, CookieEcho, CookieAck, ShutdownComplete, ForwardTsn, IForwardTsn, Unknown}
+use Rattle.sctp_model.specs.wire.Typed.{Typed}
+use Rattle.sctp_model.specs.wire.Unknown.{chunk_rule, parameter_rule, chunks_acted_on, chunks_reported, reported_before, is_known_parameter, is_passed_over, acted_from, reported_from, parameters_acted_on, parameters_reported}
 use Rattle.sctp_wire.specs.UnknownLaws.{up_to, IsByTwoBits, is_known_chunk, stops_packet, is_told, AreByChunkRule, stops_list, is_told_parameter, is_acted_on, AreByParameterRule}
 
 -- ---- bits

@@ -6,9 +6,9 @@ use Rattle.std.proofs.Math.ListN.{length-replicate}
 use Rattle.std.proofs.lemmas.List.{append-nil}
 use Rattle.std.proofs.lemmas.List.Concat.{flat_map-append}
 use Rattle.std.proofs.lemmas.Grind.{common_steps}
-use Rattle.sctp_model.specs.Chunk.{ChunkMeaning, kind_of, chunk_length, padding_after, size_of_chunk}
-use Rattle.sctp_model.specs.Numbers.{u16_bytes}
-use Rattle.sctp_model.specs.Places.{ArePlaced}
+use Rattle.sctp_model.specs.wire.Chunk.{ChunkMeaning, kind_of, chunk_length, padding_after, size_of_chunk}
+use Rattle.sctp_model.specs.numbers.Numbers.{u16_bytes}
+use Rattle.sctp_model.specs.wire.Places.{ArePlaced}
 use Rattle.sctp_wire.specs.Layouts.{flags_of, value_of, Fits}
 use Rattle.sctp_wire.specs.Reads.{ReadsChunk, ReadsEach, Reads}
 use Rattle.sctp_wire.specs.Writes.{written, Writes}

@@ -1,6 +1,6 @@
 -- What the types of this crate say: a chunk without where it lies in memory.
 use Rattle.std.specs.Prelude.{◌≡◌, true}
-use Rattle.sctp_model.specs.Chunk.{PieceMeaning, BlockMeaning, SackMeaning, InitMeaning, SkipMeaning, ForwardMeaning, ChunkMeaning, Data, IData, Init, InitAck, Sack, Heartbeat, HeartbeatAck, Abort, Shutdown, ShutdownAck, Error, CookieEcho, CookieAck, ShutdownComplete, ForwardTsn, IForwardTsn, Unknown}
+use Rattle.sctp_model.specs.wire.Chunk.{PieceMeaning, BlockMeaning, SackMeaning, InitMeaning, SkipMeaning, ForwardMeaning, ChunkMeaning, Data, IData, Init, InitAck, Sack, Heartbeat, HeartbeatAck, Abort, Shutdown, ShutdownAck, Error, CookieEcho, CookieAck, ShutdownComplete, ForwardTsn, IForwardTsn, Unknown}
 use Rattle.sctp_wire.specs.declared.lists.GapBlock.{GapBlock}
 use Rattle.sctp_wire.specs.declared.skips.Skip.{Skip}
 use Rattle.sctp_wire.specs.declared.chunks.piece.Piece.{Piece}

@@ -1,9 +1,9 @@
 -- Why bytes are no list of chunks: whole chunks, and at the next one the first check that fails; or all are whole, and one is misplaced;
 -- with the offset of that chunk's first byte (RFC 9260, 3.2).
 use Rattle.std.specs.Prelude.{◌≡◌, ℕ, ◌<◌, ◌≤◌, ◌⊎◌, true, false, List, ◌++◌, length, drop, slice_index, slice_range, Some}
-use Rattle.sctp_model.specs.Chunk.{ChunkMeaning, padded}
-use Rattle.sctp_model.specs.Numbers.{u16_at}
-use Rattle.sctp_model.specs.Places.{first_misplaced}
+use Rattle.sctp_model.specs.wire.Chunk.{ChunkMeaning, padded}
+use Rattle.sctp_model.specs.numbers.Numbers.{u16_at}
+use Rattle.sctp_model.specs.wire.Places.{first_misplaced}
 use Rattle.sctp_wire.specs.declared.fault.Reason.{Reason}
 use Rattle.sctp_wire.specs.declared.fault.Reason.TheVariants as reason
 use Rattle.sctp_wire.specs.declared.fault.WireFault.{WireFault}

@@ -1,9 +1,9 @@
 -- Which bytes read as which chunks (RFC 9260, 3.2): each chunk's layout in turn, with any value in unused flags, reserved bits and
 -- padding, and each chunk where it may stand.
 use Rattle.std.specs.Prelude.{◌≡◌, ℕ, List, [], ◌∷◌, ◌++◌, length}
-use Rattle.sctp_model.specs.Chunk.{ChunkMeaning, kind_of, chunk_length, padding_after}
-use Rattle.sctp_model.specs.Numbers.{u16_bytes}
-use Rattle.sctp_model.specs.Places.{ArePlaced}
+use Rattle.sctp_model.specs.wire.Chunk.{ChunkMeaning, kind_of, chunk_length, padding_after}
+use Rattle.sctp_model.specs.numbers.Numbers.{u16_bytes}
+use Rattle.sctp_model.specs.wire.Places.{ArePlaced}
 use Rattle.sctp_wire.specs.Layouts.{ReadsFlags, ReadsValue, IsReadable}
 
 -- a chunk's header: type, flags, length (RFC 9260, 3.2)

@@ -1,5 +1,5 @@
 -- What a rule for an unknown type says.
-use Rattle.sctp_model.specs.Unknown.{RuleMeaning}
+use Rattle.sctp_model.specs.wire.Unknown.{RuleMeaning}
 use Rattle.sctp_wire.specs.declared.unknown.Rule.{Rule}
 
 -- a rule as it is answered

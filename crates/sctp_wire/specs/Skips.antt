@@ -1,7 +1,7 @@
 -- The entries of a FORWARD-TSN and of an I-FORWARD-TSN as bytes (RFC 3758, 3.2; RFC 8260, 2.3.1).
 use Rattle.std.specs.Prelude.{◌≡◌, ℕ, zero, suc, ◌+◌, ◌*◌, ◌/◌, ◌%◌, ◌<◌, ◌^◌, Bool, true, false, if◌then◌else◌, ◌==◌, ◌&&◌, nat_lt, List, [], ◌∷◌, ◌++◌, length, drop}
-use Rattle.sctp_model.specs.Chunk.{SkipMeaning}
-use Rattle.sctp_model.specs.Numbers.{u16_bytes, u32_bytes, u16_at, u32_at}
+use Rattle.sctp_model.specs.wire.Chunk.{SkipMeaning}
+use Rattle.sctp_model.specs.numbers.Numbers.{u16_bytes, u32_bytes, u16_at, u32_at}
 use Rattle.sctp_wire.specs.declared.skips.SkipForm.{SkipForm}
 use Rattle.sctp_wire.specs.declared.skips.SkipForm.TheVariants.{Narrow, Wide}
 use Rattle.sctp_wire.specs.Items.{items_in}

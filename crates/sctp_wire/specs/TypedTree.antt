@@ -1,6 +1,6 @@
 -- What a parameter or a cause says.
 use Rattle.std.specs.Prelude.{ℕ, List}
-use Rattle.sctp_model.specs.Typed.{Typed}
+use Rattle.sctp_model.specs.wire.Typed.{Typed}
 use Rattle.sctp_wire.specs.declared.typed.TypedItem.{TypedItem}
 
 -- A parameter or a cause, without where it lies.

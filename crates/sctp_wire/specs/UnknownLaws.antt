@@ -2,9 +2,9 @@
 -- ones are acted on, and those are reported whose rule says so (RFC 9260, 3.2 and 3.2.1).
 use Rattle.std.specs.Prelude.{◌≡◌, ℕ, ◌/◌, Bool, true, false, not, if◌then◌else◌, ◌&&◌, ◌||◌, List, [], ◌∷◌}
 use Rattle.std.specs.List.{filter}
-use Rattle.sctp_model.specs.Chunk.{ChunkMeaning, Unknown}
-use Rattle.sctp_model.specs.Typed.{Typed}
-use Rattle.sctp_model.specs.Unknown.{RuleMeaning, chunk_rule, parameter_rule, chunks_acted_on, chunks_reported, is_known_parameter, is_passed_over, parameters_acted_on, parameters_reported}
+use Rattle.sctp_model.specs.wire.Chunk.{ChunkMeaning, Unknown}
+use Rattle.sctp_model.specs.wire.Typed.{Typed}
+use Rattle.sctp_model.specs.wire.Unknown.{RuleMeaning, chunk_rule, parameter_rule, chunks_acted_on, chunks_reported, is_known_parameter, is_passed_over, parameters_acted_on, parameters_reported}
 
 -- the items up to the first one that stops, and that one
 abbrev pub up_to : {X : Type 0} → (X → Bool) → List X → List X

@@ -1,8 +1,8 @@
 //! Whether parameters or causes stand as they are written (RFC 9260, 3.2.1).
 
 ghost use Rattle.std.specs.Prelude.{◌≡◌, ◌↔◌, true, IsTrue, EachIndex, slice_index};
-ghost use Rattle.sctp_model.specs.Numbers.{AreBytes};
-ghost use Rattle.sctp_model.specs.Typed.{starts_typed, are_typed, AreAsWritten};
+ghost use Rattle.sctp_model.specs.numbers.Numbers.{AreBytes};
+ghost use Rattle.sctp_model.specs.wire.Typed.{starts_typed, are_typed, AreAsWritten};
 ghost use Rattle.sctp_wire.specs.inner.FirstAsWritten.{IsFirstAsWritten};
 
 use crate::numbers::padded;

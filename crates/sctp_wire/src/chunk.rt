@@ -1,7 +1,7 @@
 //! Chunks, with their data and lists where they lie in the bytes that were read; what each takes, and how it is written.
 
 ghost use Rattle.std.specs.Prelude.{◌≡◌, ◌+◌, ◌≤◌, ◌<◌, ◌^◌, ◌↔◌, ◌++◌, IsTrue, true, length, vec_len, vec_capacity};
-ghost use Rattle.sctp_model.specs.Chunk.{kind_of, chunk_length, size_of_chunk};
+ghost use Rattle.sctp_model.specs.wire.Chunk.{kind_of, chunk_length, size_of_chunk};
 ghost use Rattle.sctp_wire.specs.ChunkTree.{chunk_meaning, HasZeroReserved};
 ghost use Rattle.sctp_wire.specs.Layouts.{flags_of, value_of, Fits};
 ghost use Rattle.sctp_wire.specs.Writes.{written};

@@ -1,13 +1,13 @@
 //! Numbers as bytes, the most significant byte first (RFC 9260, 3), and the length with its padding.
 
 ghost use Rattle.std.specs.Prelude.{◌≡◌, ◌+◌, ◌<◌, ◌≤◌, ◌^◌, ◌++◌, length, replicate, vec_len, vec_capacity};
-ghost use Rattle.sctp_model.specs.Chunk.{padded};
-ghost use Rattle.sctp_model.specs.Numbers.{u16_bytes, u32_bytes, u16_at, u32_at};
+ghost use Rattle.sctp_model.specs.wire.Chunk.{padded};
+ghost use Rattle.sctp_model.specs.numbers.Numbers.{u16_bytes, u32_bytes, u16_at, u32_at};
 
 use byteorder::{BigEndian, ByteOrder};
 
 /// The number in the first two bytes.
-#[tactic(auto, unfolding(sctp_model::specs::Numbers::u16_at))]
+#[tactic(auto, unfolding(sctp_model::specs::numbers::Numbers::u16_at))]
 pub fn read_u16(bytes: &[u8]) -> u16
     requires { 2 ≤ length bytes.now }
     ensures { result ≡ u16_at bytes.now }
@@ -16,7 +16,7 @@ pub fn read_u16(bytes: &[u8]) -> u16
 }
 
 /// The number in the first four bytes.
-#[tactic(auto, unfolding(sctp_model::specs::Numbers::u32_at))]
+#[tactic(auto, unfolding(sctp_model::specs::numbers::Numbers::u32_at))]
 pub fn read_u32(bytes: &[u8]) -> u32
     requires { 4 ≤ length bytes.now }
     ensures { result ≡ u32_at bytes.now }
@@ -45,7 +45,7 @@ pub fn append(out: &mut Vec<u8>, bytes: &[u8])
 }
 
 /// Appends a number of 16 bits, for which there is room.
-#[tactic(auto, unfolding(sctp_model::specs::Numbers::u16_bytes))]
+#[tactic(auto, unfolding(sctp_model::specs::numbers::Numbers::u16_bytes))]
 pub fn append_u16(out: &mut Vec<u8>, number: u16)
     requires { vec_len out.old + 2 ≤ vec_capacity out.old }
     ensures items { out.new.items ≡ out.old.items ++ u16_bytes number }
@@ -58,7 +58,7 @@ pub fn append_u16(out: &mut Vec<u8>, number: u16)
 }
 
 /// Appends a number of 32 bits, for which there is room.
-#[tactic(auto, unfolding(sctp_model::specs::Numbers::u32_bytes))]
+#[tactic(auto, unfolding(sctp_model::specs::numbers::Numbers::u32_bytes))]
 pub fn append_u32(out: &mut Vec<u8>, number: u32)
     requires { vec_len out.old + 4 ≤ vec_capacity out.old }
     ensures items { out.new.items ≡ out.old.items ++ u32_bytes number }

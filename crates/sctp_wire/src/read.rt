@@ -3,8 +3,8 @@
 
 ghost use Rattle.std.specs.Prelude.{◌≡◌, ◌-◌, ◌*◌, ◌==◌, ◌||◌, not, ◌≤◌, length, true, ◌<◌, ◌^◌, MatchResult, IfOk, IfErr, List, Ok, Err};
 ghost use Rattle.std.specs.Iterator.{YieldsFirstBy, item_count};
-ghost use Rattle.sctp_model.specs.Chunk.{ChunkMeaning};
-ghost use Rattle.sctp_model.specs.Places.{first_misplaced, misplaced_behind};
+ghost use Rattle.sctp_model.specs.wire.Chunk.{ChunkMeaning};
+ghost use Rattle.sctp_model.specs.wire.Places.{first_misplaced, misplaced_behind};
 ghost use Rattle.sctp_wire.specs.ChunkTree.{chunk_meaning};
 ghost use Rattle.sctp_wire.specs.FaultTree.{offset_of};
 ghost use Rattle.sctp_wire.specs.FirstFault.{stated_length, Faults};
@@ -28,7 +28,7 @@ pub struct Chunks<'a> {
 
 impl<'a> Model for Chunks<'a> {
     ghost use Rattle.std.specs.Prelude.{List};
-    ghost use Rattle.sctp_model.specs.Chunk.{ChunkMeaning};
+    ghost use Rattle.sctp_model.specs.wire.Chunk.{ChunkMeaning};
 
     ghost Value = { List ChunkMeaning };
 

@@ -50,7 +50,7 @@ pub struct Skips<'a> {
 
 impl<'a> Model for Skips<'a> {
     ghost use Rattle.std.specs.Prelude.{◌≡◌, ◌%◌, length};
-    ghost use Rattle.sctp_model.specs.Numbers.{AreBytes};
+    ghost use Rattle.sctp_model.specs.numbers.Numbers.{AreBytes};
     ghost use Rattle.sctp_wire.specs.Skips.{SkipList, skip_list, skip_size};
 
     ghost Value = { SkipList };
@@ -129,7 +129,7 @@ pub struct SkipIter<'a> {
 
 impl<'a> Model for SkipIter<'a> {
     ghost use Rattle.std.specs.Prelude.{List};
-    ghost use Rattle.sctp_model.specs.Chunk.{SkipMeaning};
+    ghost use Rattle.sctp_model.specs.wire.Chunk.{SkipMeaning};
     ghost use Rattle.sctp_wire.specs.Skips.{skips_in};
 
     ghost Value = { List SkipMeaning };

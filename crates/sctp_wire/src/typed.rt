@@ -2,9 +2,9 @@
 
 ghost use Rattle.std.specs.Prelude.{◌≡◌, ◌↔◌, ◌<◌, ◌≤◌, ◌^◌, [], true, IsTrue, length, drop};
 ghost use Rattle.std.specs.Iterator.{YieldsFirstBy, item_count};
-ghost use Rattle.sctp_model.specs.Chunk.{padded};
-ghost use Rattle.sctp_model.specs.Numbers.{AreBytes};
-ghost use Rattle.sctp_model.specs.Typed.{length_field, starts_typed, typed_at, are_typed, typed_in, AreAsWritten};
+ghost use Rattle.sctp_model.specs.wire.Chunk.{padded};
+ghost use Rattle.sctp_model.specs.numbers.Numbers.{AreBytes};
+ghost use Rattle.sctp_model.specs.wire.Typed.{length_field, starts_typed, typed_at, are_typed, typed_in, AreAsWritten};
 ghost use Rattle.sctp_wire.specs.TypedTree.{typed_meaning};
 
 use crate::as_written::are_as_written;
@@ -37,8 +37,8 @@ pub type Cause<'a> = TypedItem<'a>;
 
 impl<'a> Model for TypedItems<'a> {
     ghost use Rattle.std.specs.Prelude.{◌≡◌, ℕ, List, true};
-    ghost use Rattle.sctp_model.specs.Numbers.{AreBytes};
-    ghost use Rattle.sctp_model.specs.Typed.{are_typed};
+    ghost use Rattle.sctp_model.specs.numbers.Numbers.{AreBytes};
+    ghost use Rattle.sctp_model.specs.wire.Typed.{are_typed};
 
     ghost Value = { List ℕ };
 
@@ -103,7 +103,7 @@ pub struct TypedIter<'a> {
 
 impl<'a> Model for TypedIter<'a> {
     ghost use Rattle.std.specs.Prelude.{◌≡◌, List, true};
-    ghost use Rattle.sctp_model.specs.Typed.{Typed, are_typed, typed_in};
+    ghost use Rattle.sctp_model.specs.wire.Typed.{Typed, are_typed, typed_in};
 
     ghost Value = { List Typed };
 
@@ -142,7 +142,7 @@ pub fn is_typed_list(bytes: &[u8]) -> bool
 }
 
 /// Whether an item begins bytes, behind which nothing stands, or its padding at least.
-#[tactic(auto, unfolding(sctp_model::specs::Typed::starts_typed))]
+#[tactic(auto, unfolding(sctp_model::specs::wire::Typed::starts_typed))]
 pub fn starts_typed(bytes: &[u8]) -> bool
     ensures { result ≡ starts_typed bytes.now }
 {

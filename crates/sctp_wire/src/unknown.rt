@@ -1,7 +1,7 @@
 //! What is done about a chunk or a parameter of an unknown type (RFC 9260, 3.2 and 3.2.1).
 
 ghost use Rattle.std.specs.Prelude.{◌≡◌};
-ghost use Rattle.sctp_model.specs.Unknown.{chunk_rule, parameter_rule};
+ghost use Rattle.sctp_model.specs.wire.Unknown.{chunk_rule, parameter_rule};
 ghost use Rattle.sctp_wire.specs.RuleTree.{rule_meaning};
 
 /// What is done about an unknown type.

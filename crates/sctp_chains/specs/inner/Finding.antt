@@ -1,6 +1,6 @@
 -- What searches among chains find.
 use Rattle.std.specs.Prelude.{◌≡◌, ℕ, ◌<◌, ◌≤◌, true, false, List, length, get_or, take, drop, Option, Some, None}
-use Rattle.sctp_model.specs.Lists.{Has}
+use Rattle.sctp_model.specs.numbers.Lists.{Has}
 use Rattle.sctp_chains.specs.Links.{ChainKept, is_whole}
 use Rattle.sctp_chains.specs.declared.search.Found.{Found}
 

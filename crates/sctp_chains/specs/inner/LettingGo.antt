@@ -1,6 +1,6 @@
 -- What chains leave when fragments go.
 use Rattle.std.specs.Prelude.{◌≡◌, ℕ, suc, ◌-◌, ◌<◌, ◌≤◌, not, ◌&&◌, nat_le, Bool, List, length, get_or, take, drop, filter, None}
-use Rattle.sctp_model.specs.Lists.{Has}
+use Rattle.sctp_model.specs.numbers.Lists.{Has}
 use Rattle.sctp_chains.specs.Same.{total}
 use Rattle.sctp_chains.specs.Cells.{Cell}
 use Rattle.sctp_chains.specs.Links.{ChainKept, cells_of, IsChain, AreChains}

@@ -1,10 +1,10 @@
 -- What is handed over on a stream while each message is one chunk (RFC 9260, 6.6).
 use Rattle.std.specs.Prelude.{◌≡◌, ℕ, Bool, true, nat_lt, ◌<◌, ◌≤◌, ◌^◌, List, ◌++◌, reverse, slice_index_or, Option, None, Some}
-use Rattle.sctp_model.specs.Format.{Plain, ordered_lane}
-use Rattle.sctp_model.specs.Chunk.{PieceMeaning}
-use Rattle.sctp_model.specs.Pieces.{Piece}
-use Rattle.sctp_model.specs.ReceiverView.{Handed, ReceiverView}
-use Rattle.sctp_model.specs.Receiving.{IsDue, without_below}
+use Rattle.sctp_model.specs.messages.Format.{Plain, ordered_lane}
+use Rattle.sctp_model.specs.wire.Chunk.{PieceMeaning}
+use Rattle.sctp_model.specs.messages.Pieces.{Piece}
+use Rattle.sctp_model.specs.receiver.ReceiverView.{Handed, ReceiverView}
+use Rattle.sctp_model.specs.receiver.Receiving.{IsDue, without_below}
 use Rattle.sctp_first_recv.specs.ReceiverKept.{StreamKept}
 use Rattle.sctp_first_recv.specs.declared.kept.KeptPiece.{KeptPiece}
 

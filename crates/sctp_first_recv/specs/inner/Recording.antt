@@ -1,9 +1,9 @@
 -- What recording an index does, whichever indexes were recorded before.
 use Rattle.std.specs.Prelude.{ℕ, Bool, true, ◌||◌, nat_le, nat_lt, length, not, ◌&&◌}
-use Rattle.sctp_model.specs.Lists.{at}
+use Rattle.sctp_model.specs.numbers.Lists.{at}
 use Rattle.sctp_first_recv.specs.ReceiverKept.{SeenKept, is_among}
 use Rattle.sctp_first_recv.specs.SeenStands.{SeenStands}
-use Rattle.sctp_model.specs.Chunk.{PieceMeaning}
+use Rattle.sctp_model.specs.wire.Chunk.{PieceMeaning}
 
 -- the index was recorded, or lies at or below the cumulative one
 abbrev pub is_reached : SeenKept → ℕ → Bool

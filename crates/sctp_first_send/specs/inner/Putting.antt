@@ -1,6 +1,6 @@
 -- The DATA chunks that messages that wait become in a packet.
 use Rattle.std.specs.Prelude.{◌≡◌, ℕ, suc, true, false, List, [], ◌∷◌, take}
-use Rattle.sctp_model.specs.Chunk.{ChunkMeaning, Data}
+use Rattle.sctp_model.specs.wire.Chunk.{ChunkMeaning, Data}
 use Rattle.sctp_packet.specs.Draft.{Draft, with_chunks}
 use Rattle.sctp_first_send.specs.SenderKept.{Waits}
 

@@ -4,16 +4,16 @@ use Rattle.std.specs.Prelude.{◌&&◌}
 use Rattle.std.proofs.lemmas.Bool.{cases_Bool, cases_eq, or_parts}
 use Rattle.std.proofs.lemmas.Bool.Decides.{nat_tests}
 use Rattle.std.proofs.lemmas.Grind.{common_steps}
-use Rattle.sctp_model.specs.Lists.{IsWithin, at}
-use Rattle.sctp_model.specs.Format.{Format, Plain, Interleaved, Kind, Ordered, Unordered, Lane, is_numbered, same_lane, ordered_lane}
-use Rattle.sctp_model.specs.Chunk.{PieceMeaning}
-use Rattle.sctp_model.specs.Pieces.{Piece, is_number_below}
-use Rattle.sctp_model.specs.ReceiverView.{Handed, ReceiverView, fresh_receiver}
-use Rattle.sctp_model.specs.Receiving.{IsWholeNumber, is_below, Gives, Takes}
+use Rattle.sctp_model.specs.numbers.Lists.{IsWithin, at}
+use Rattle.sctp_model.specs.messages.Format.{Format, Plain, Interleaved, Kind, Ordered, Unordered, Lane, is_numbered, same_lane, ordered_lane}
+use Rattle.sctp_model.specs.wire.Chunk.{PieceMeaning}
+use Rattle.sctp_model.specs.messages.Pieces.{Piece, is_number_below}
+use Rattle.sctp_model.specs.receiver.ReceiverView.{Handed, ReceiverView, fresh_receiver}
+use Rattle.sctp_model.specs.receiver.Receiving.{IsWholeNumber, is_below, Gives, TakesPiece}
 use Rattle.sctp_model.specs.receiver.Reading.{lowest_in, is_late, piece_at}
-use Rattle.sctp_model.specs.receiver.PieceTaken.{Answer, Duplicate, Ahead, NoSuchStream, Passed, NoRoom, Taken, answer_to, is_passed, is_repeated, Leaves, PieceTaken}
+use Rattle.sctp_model.specs.receiver.PieceTaken.{PieceAnswer, Duplicate, Ahead, NoSuchStream, Passed, NoRoom, Kept, answer_to, is_passed, is_repeated, Leaves, PieceTaken}
 use Rattle.sctp_model.specs.receiver.SackMade.{sack_sent, first_taken, TakeLeaves}
-use Rattle.sctp_model.specs.receiver.Laws.{IsApart, IsOrdinary, IsIdle, IsSettled, IsAtRest}
+use Rattle.sctp_model.specs.receiver.Laws.{IsFilledOnce, IsOrdinary, IsIdle, IsSettled, IsAtRest}
 use Rattle.sctp_model.proofs.receiver.OneStep.{fewer_apart, kept_apart, taken_is_new}
 use Rattle.sctp_model.proofs.receiver.Idle.{still_idle}
 use Rattle.sctp_model.proofs.receiver.Giving.{at_here, at_elsewhere, IsGiving, giving, giving_ordered, giving_unordered, IsClear, served, still_clear}
@@ -68,11 +68,11 @@ wanted_clear f r x wanted s = go x.lane.kind refl
 
 -- ---- a chunk taken
 
-pub takes_giving : (f : Format) (r t : ReceiverView) (x : Piece) → Takes f r x t → IsGiving (with_chunk r x) t
+pub takes_giving : (f : Format) (r t : ReceiverView) (x : Piece) → TakesPiece f r x t → IsGiving (with_chunk r x) t
 takes_giving f r t x takes = giving f x.lane.kind x (with_chunk r x) t takes
 
 -- what is kept then lies at or past the next numbers
-takes_settled : (f : Format) (r t : ReceiverView) (x : Piece) → IsSettled r → is_passed f r x ≡ false → Takes f r x t → IsSettled t
+takes_settled : (f : Format) (r t : ReceiverView) (x : Piece) → IsSettled r → is_passed f r x ≡ false → TakesPiece f r x t → IsSettled t
 takes_settled f r t x settled wanted takes s = go x.lane.kind takes
   where
     before : IsClear (with_chunk r x) s
@@ -96,7 +96,7 @@ recorded_more r x i seen = elim (cases_eq i x.index) [
   | inr other ↦ at_elsewhere r.seen x.index true i other ∙ seen
 ]
 
-takes_ordinary : (f : Format) (r t : ReceiverView) (x : Piece) → IsApart f (x ∷ r.kept) → IsOrdinary f r → Takes f r x t → IsOrdinary f t
+takes_ordinary : (f : Format) (r t : ReceiverView) (x : Piece) → IsFilledOnce f (x ∷ r.kept) → IsOrdinary f r → TakesPiece f r x t → IsOrdinary f t
 takes_ordinary f r t x apart o takes = record {
   apart = fewer_apart f (x ∷ r.kept) t.kept g.fewer apart;
   recorded = λ y there. subst (λ (k : ℕ → Bool). k y.index ≡ true) (sym g.seen) (elim (g.fewer y there) [
@@ -110,39 +110,39 @@ takes_ordinary f r t x apart o takes = record {
 
 -- each answer leaves the view at rest
 module _ (f : Format) (r t : ReceiverView) (c : ℕ) (p : PieceMeaning) where
-  leaves_idle : (a : Answer) → IsIdle f r → Leaves f r (piece_at f r c p) p.tsn a t → IsIdle f t
+  leaves_idle : (a : PieceAnswer) → IsIdle f r → Leaves f r (piece_at f r c p) p.tsn a t → IsIdle f t
   leaves_idle Duplicate idle is = still_idle f r t (sym (ap (λ (v : ReceiverView). v.kept) is)) (sym (ap (λ (v : ReceiverView). v.next) is)) (sym (ap (λ (v : ReceiverView). v.skip) is)) idle
   leaves_idle Ahead idle is = subst (IsIdle f) (sym is) idle
   leaves_idle NoSuchStream idle is = still_idle f r t (sym (ap (λ (v : ReceiverView). v.kept) is)) (sym (ap (λ (v : ReceiverView). v.next) is)) (sym (ap (λ (v : ReceiverView). v.skip) is)) idle
   leaves_idle Passed idle is = still_idle f r t (sym (ap (λ (v : ReceiverView). v.kept) is)) (sym (ap (λ (v : ReceiverView). v.next) is)) (sym (ap (λ (v : ReceiverView). v.skip) is)) idle
   leaves_idle NoRoom idle is = subst (IsIdle f) (sym is) idle
-  leaves_idle Taken idle takes = takes_idle f r t (piece_at f r c p) idle takes
+  leaves_idle Kept idle takes = takes_idle f r t (piece_at f r c p) idle takes
 
-  leaves_settled : (a : Answer) → answer_to f r c p ≡ a → IsSettled r → Leaves f r (piece_at f r c p) p.tsn a t → IsSettled t
+  leaves_settled : (a : PieceAnswer) → answer_to f r c p ≡ a → IsSettled r → Leaves f r (piece_at f r c p) p.tsn a t → IsSettled t
   leaves_settled Duplicate answer settled is = subst IsSettled (sym is) settled
   leaves_settled Ahead answer settled is = subst IsSettled (sym is) settled
   leaves_settled NoSuchStream answer settled is = subst IsSettled (sym is) settled
   leaves_settled Passed answer settled is = subst IsSettled (sym is) settled
   leaves_settled NoRoom answer settled is = subst IsSettled (sym is) settled
-  leaves_settled Taken answer settled takes = takes_settled f r t (piece_at f r c p) settled (taken_is_new f r c p answer).1 takes
+  leaves_settled Kept answer settled takes = takes_settled f r t (piece_at f r c p) settled (taken_is_new f r c p answer).1 takes
 
-  leaves_ordinary : (a : Answer) → answer_to f r c p ≡ a → IsOrdinary f r → Leaves f r (piece_at f r c p) p.tsn a t → IsOrdinary f t
+  leaves_ordinary : (a : PieceAnswer) → answer_to f r c p ≡ a → IsOrdinary f r → Leaves f r (piece_at f r c p) p.tsn a t → IsOrdinary f t
   leaves_ordinary Duplicate answer o is = subst (IsOrdinary f) (sym is) (record { apart = o.apart; recorded = o.recorded })
   leaves_ordinary Ahead answer o is = subst (IsOrdinary f) (sym is) o
   leaves_ordinary NoSuchStream answer o is = subst (IsOrdinary f) (sym is) (record { apart = o.apart; recorded = λ y there. recorded_more r (piece_at f r c p) y.index (o.recorded y there) })
   leaves_ordinary Passed answer o is = subst (IsOrdinary f) (sym is) (record { apart = o.apart; recorded = λ y there. recorded_more r (piece_at f r c p) y.index (o.recorded y there) })
   leaves_ordinary NoRoom answer o is = subst (IsOrdinary f) (sym is) o
-  leaves_ordinary Taken answer o takes =
+  leaves_ordinary Kept answer o takes =
       let new = taken_is_new f r c p answer in
       takes_ordinary f r t (piece_at f r c p) (kept_apart f r (piece_at f r c p) o new.0 new.1) o takes
 
-pub piece_idle : (f : Format) (r : ReceiverView) (p : PieceMeaning) (a : Answer) (t : ReceiverView) → IsIdle f r → PieceTaken f r p a t → IsIdle f t
+pub piece_idle : (f : Format) (r : ReceiverView) (p : PieceMeaning) (a : PieceAnswer) (t : ReceiverView) → IsIdle f r → PieceTaken f r p a t → IsIdle f t
 piece_idle f r p a t idle taken = leaves_idle f r t taken.c p a idle taken.leaves
 
-pub piece_ordinary : (f : Format) (r : ReceiverView) (p : PieceMeaning) (a : Answer) (t : ReceiverView) → IsOrdinary f r → PieceTaken f r p a t → IsOrdinary f t
+pub piece_ordinary : (f : Format) (r : ReceiverView) (p : PieceMeaning) (a : PieceAnswer) (t : ReceiverView) → IsOrdinary f r → PieceTaken f r p a t → IsOrdinary f t
 piece_ordinary f r p a t o taken = leaves_ordinary f r t taken.c p a (sym taken.answer) o taken.leaves
 
-pub piece_at_rest : (f : Format) (r : ReceiverView) (p : PieceMeaning) (a : Answer) (t : ReceiverView) → IsAtRest f r → PieceTaken f r p a t → IsAtRest f t
+pub piece_at_rest : (f : Format) (r : ReceiverView) (p : PieceMeaning) (a : PieceAnswer) (t : ReceiverView) → IsAtRest f r → PieceTaken f r p a t → IsAtRest f t
 piece_at_rest f r p a t rest taken = record {
   ordinary = piece_ordinary f r p a t rest.ordinary taken;
   idle = piece_idle f r p a t rest.idle taken;

@@ -1,14 +1,14 @@
 -- The walk over a stream's numbers ends where the words say, and hands over what they say; and they say it of one list alone.
 use Rattle.std.proofs.Common.{◌≡◌, ℕ, suc, ◌<◌, ◌≤◌, List, ◌∷◌, Option, Some, ap, sym, ◌∙◌, subst, inl, inr, arith}
 use Rattle.std.proofs.lemmas.Bool.{cases_lt}
-use Rattle.sctp_model.specs.Lists.{Has}
-use Rattle.sctp_model.specs.Format.{Format, Ordered, ordered_lane}
-use Rattle.sctp_model.specs.Pieces.{Piece}
-use Rattle.sctp_model.specs.ReceiverView.{Handed, ReceiverView}
-use Rattle.sctp_model.specs.Receiving.{IsWholeNumber, HasNoWhole, message_of, IsDue, Stop, Over, Past}
-use Rattle.sctp_model.specs.Safe.{IsNumberLess, IsRising}
+use Rattle.sctp_model.specs.numbers.Lists.{Has}
+use Rattle.sctp_model.specs.messages.Format.{Format, Ordered, ordered_lane}
+use Rattle.sctp_model.specs.messages.Pieces.{Piece}
+use Rattle.sctp_model.specs.receiver.ReceiverView.{Handed, ReceiverView}
+use Rattle.sctp_model.specs.receiver.Receiving.{IsWholeNumber, HasNoWhole, message_of, IsDue, Stop, GivesWhole, Past}
+use Rattle.sctp_model.specs.world.Safe.{IsNumberLess, IsRising}
 use Rattle.sctp_model.specs.receiver.DueInWords.{IsToCome, AreMessage, IsPassedWhole, IsDueInWords}
-use Rattle.sctp_model.specs.receiver.Laws.{IsApart}
+use Rattle.sctp_model.specs.receiver.Laws.{IsFilledOnce}
 use Rattle.sctp_model.proofs.receiver.Orders.{one_order}
 use Rattle.sctp_model.proofs.receiver.OneWhole.{number_only, same_message}
 
@@ -40,17 +40,17 @@ module _ (f : Format) (r : ReceiverView) (s : ℕ) where
 
   ends_past : (n : ℕ) (ms : List Handed) (m : ℕ) → IsDue f r s n ms m → n ≤ m
   ends_past _ _ _ (Stop n high none) = omega arith
-  ends_past _ _ _ (Over n m x xs ms whole low more) = omega (arith, ends_past (suc n) ms m more)
+  ends_past _ _ _ (GivesWhole n m x xs ms whole low more) = omega (arith, ends_past (suc n) ms m more)
   ends_past _ _ _ (Past n m ms below none more) = omega (arith, ends_past (suc n) ms m more)
 
   pub ends_at : (n : ℕ) (ms : List Handed) (m : ℕ) → IsDue f r s n ms m → (r.skip (ordered_lane s) ≤ m) × HasNoWhole f r.kept (ordered_lane s) m
   ends_at _ _ _ (Stop n high none) = (high, none)
-  ends_at _ _ _ (Over n m x xs ms whole low more) = ends_at (suc n) ms m more
+  ends_at _ _ _ (GivesWhole n m x xs ms whole low more) = ends_at (suc n) ms m more
   ends_at _ _ _ (Past n m ms below none more) = ends_at (suc n) ms m more
 
   ends_by : (n : ℕ) (ms : List Handed) (m : ℕ) → IsDue f r s n ms m → (k : ℕ) → IsToCome f r s n k → m ≤ k
   ends_by _ _ _ (Stop n high none) k (from, above, unmade) = from
-  ends_by _ _ _ (Over n m x xs ms whole low more) k (from, above, unmade) = elim (cases_lt n k) [
+  ends_by _ _ _ (GivesWhole n m x xs ms whole low more) k (from, above, unmade) = elim (cases_lt n k) [
     | inl past ↦ ends_by (suc n) ms m more k (omega (arith, past), above, unmade)
     | inr upto ↦ absurd (unmade (x ∷ xs) (let same : n ≡ k = omega (arith, upto, from) in subst (λ (j : ℕ). IsWholeNumber f r.kept (ordered_lane s) j (x ∷ xs)) same whole))
   ]
@@ -60,14 +60,14 @@ module _ (f : Format) (r : ReceiverView) (s : ℕ) where
 
   passed_each : (n : ℕ) (ms : List Handed) (m : ℕ) → IsDue f r s n ms m → (h : Handed) → Has ms h → IsPassedWhole f r s n m h
   passed_each _ _ _ (Stop n high none) h there = absurd there
-  passed_each _ _ _ (Over n m x xs ms whole low more) h (inl made) =
+  passed_each _ _ _ (GivesWhole n m x xs ms whole low more) h (inl made) =
       record { number = n; begun = omega arith; ended = omega (arith, ends_past (suc n) ms m more); head = x; rest = xs; chunks = (whole, low); made = made }
-  passed_each _ _ _ (Over n m x xs ms whole low more) h (inr later) = from_lower n m h (passed_each (suc n) ms m more h later)
+  passed_each _ _ _ (GivesWhole n m x xs ms whole low more) h (inr later) = from_lower n m h (passed_each (suc n) ms m more h later)
   passed_each _ _ _ (Past n m ms below none more) h there = from_lower n m h (passed_each (suc n) ms m more h there)
 
   rises : (n : ℕ) (ms : List Handed) (m : ℕ) → IsDue f r s n ms m → IsRising ms
   rises _ _ _ (Stop n high none) = tt
-  rises _ _ _ (Over n m x xs ms whole low more) = (
+  rises _ _ _ (GivesWhole n m x xs ms whole low more) = (
     λ k later one two.
         let p = passed_each (suc n) ms m more k later in
         less_by n p.number x.number k.number whole.2.1 (its_number (suc n) m k p) (omega (arith, p.begun)),
@@ -75,14 +75,14 @@ module _ (f : Format) (r : ReceiverView) (s : ℕ) where
   )
   rises _ _ _ (Past n m ms below none more) = rises (suc n) ms m more
 
-  module _ (apart : IsApart f r.kept) where
+  module _ (apart : IsFilledOnce f r.kept) where
     -- a number has one message
     one_message : (n : ℕ) (x z : Piece) (xs zs : List Piece) → AreMessage f r s n (x ∷ xs) → AreMessage f r s n (z ∷ zs) → message_of f x xs ≡ message_of f z zs
     one_message n x z xs zs (whole, low) (other, least) = same_message f x xs z zs (number_only f r.kept (ordered_lane s) n apart (x ∷ xs) (z ∷ zs) whole low other least)
 
     every_passed : (n : ℕ) (ms : List Handed) (m : ℕ) → IsDue f r s n ms m → (h : Handed) → IsPassedWhole f r s n m h → Has ms h
     every_passed _ _ _ (Stop n high none) h p = absurd (omega (arith, p.begun, p.ended))
-    every_passed _ _ _ (Over n m x xs ms whole low more) h p = elim (cases_lt n p.number) [
+    every_passed _ _ _ (GivesWhole n m x xs ms whole low more) h p = elim (cases_lt n p.number) [
       | inl past ↦ inr (every_passed (suc n) ms m more h (from_higher n m h p past))
       | inr upto ↦
           let same : p.number ≡ n = omega (arith, upto, p.begun) in

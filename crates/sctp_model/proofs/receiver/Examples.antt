@@ -1,13 +1,13 @@
 -- Examples, computed: a chunk's answer and index, a number near a count, a FORWARD's answer.
 use Rattle.std.proofs.Common.{◌≡◌, ℕ, false, true, List, [], ◌∷◌, Some, None, refl}
-use Rattle.sctp_model.specs.Format.{Plain, Interleaved, ordered_lane, unordered_lane}
-use Rattle.sctp_model.specs.Lists.{at}
-use Rattle.sctp_model.specs.Chunk.{PieceMeaning, SkipMeaning}
-use Rattle.sctp_model.specs.Pieces.{Piece}
-use Rattle.sctp_model.specs.Forward.{skipped}
-use Rattle.sctp_model.specs.ReceiverView.{ReceiverView, fresh_receiver}
+use Rattle.sctp_model.specs.messages.Format.{Plain, Interleaved, ordered_lane, unordered_lane}
+use Rattle.sctp_model.specs.numbers.Lists.{at}
+use Rattle.sctp_model.specs.wire.Chunk.{PieceMeaning, SkipMeaning}
+use Rattle.sctp_model.specs.messages.Pieces.{Piece}
+use Rattle.sctp_model.specs.messages.Forward.{skipped}
+use Rattle.sctp_model.specs.receiver.ReceiverView.{ReceiverView, fresh_receiver}
 use Rattle.sctp_model.specs.receiver.Reading.{number_in, piece_at}
-use Rattle.sctp_model.specs.receiver.PieceTaken.{Duplicate, Ahead, NoSuchStream, Passed, NoRoom, Taken, answer_to, noted}
+use Rattle.sctp_model.specs.receiver.PieceTaken.{Duplicate, Ahead, NoSuchStream, Passed, NoRoom, Kept, answer_to, noted}
 use Rattle.sctp_model.specs.receiver.ForwardTaken.{forward_answer, skips_read, OutOfDate, Bad}
 
 -- the first TSN is 4,294,967,295, there are two streams and three bytes of room, and each stream waits for number 65,534
@@ -28,7 +28,7 @@ chunk tsn stream number bytes = record {
 }
 
 -- the second chunk comes first, over the wrap of the TSN and of the SSN
-second_is_taken : answer_to Plain view 0 (chunk 0 0 65535 (1 ∷ [])) ≡ Taken
+second_is_taken : answer_to Plain view 0 (chunk 0 0 65535 (1 ∷ [])) ≡ Kept
 second_is_taken = refl
 
 second_index : (piece_at Plain view 0 (chunk 0 0 65535 (1 ∷ []))).index ≡ 2
@@ -55,7 +55,7 @@ no_such_stream : answer_to Plain view 0 (chunk 0 2 65533 (1 ∷ [])) ≡ NoSuchS
 no_such_stream = refl
 
 -- room for exactly three bytes
-three_fit : answer_to Plain view 0 (chunk 0 0 65535 (1 ∷ 2 ∷ 3 ∷ [])) ≡ Taken
+three_fit : answer_to Plain view 0 (chunk 0 0 65535 (1 ∷ 2 ∷ 3 ∷ [])) ≡ Kept
 three_fit = refl
 
 four_dont : answer_to Plain view 0 (chunk 0 0 65535 (1 ∷ 2 ∷ 3 ∷ 4 ∷ [])) ≡ NoRoom
@@ -69,7 +69,7 @@ half_way_is_none : number_in Interleaved (record view { next = λ s. 0 }) (order
 half_way_is_none = refl
 
 -- an unordered DATA has no number and is taken all the same
-unordered_data : answer_to Plain view 0 (record (chunk 0 0 9 (1 ∷ [])) { unordered = true }) ≡ Taken
+unordered_data : answer_to Plain view 0 (record (chunk 0 0 9 (1 ∷ [])) { unordered = true }) ≡ Kept
 unordered_data = refl
 
 -- under I-DATA a fragment that is held is passed, by its fragment number: 0 without B is as 0 with B

@@ -2,8 +2,8 @@
 use Rattle.std.proofs.Common.{◌≡◌, ◌⊎◌, Bool, true, false, List, [], ◌∷◌, filter, refl, ap, sym, ◌∙◌, inl, inr}
 use Rattle.std.specs.Prelude.{◌&&◌}
 use Rattle.std.proofs.lemmas.Bool.{cases_Bool}
-use Rattle.sctp_model.specs.Lists.{Has}
-use Rattle.sctp_model.specs.Pieces.{Piece}
+use Rattle.sctp_model.specs.numbers.Lists.{Has}
+use Rattle.sctp_model.specs.messages.Pieces.{Piece}
 
 -- one filter behind another
 pub filter_both : (one other : Piece → Bool) (kept : List Piece) → filter other (filter one kept) ≡ filter (λ (x : Piece). one x && other x) kept

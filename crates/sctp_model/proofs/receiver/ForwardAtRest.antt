@@ -3,14 +3,14 @@ use Rattle.std.proofs.Common.{◌≡◌, ℕ, suc, ◌<◌, ◌≤◌, ◌⊎◌
 use Rattle.std.specs.Prelude.{◌||◌, not, if◌then◌else◌}
 use Rattle.std.proofs.lemmas.Bool.{cases_Bool, cases_lt, or_parts}
 use Rattle.std.proofs.lemmas.Bool.Decides.{nat_tests}
-use Rattle.sctp_model.specs.Lists.{Has, IsWithin}
-use Rattle.sctp_model.specs.Chunk.{SkipMeaning, ForwardMeaning}
-use Rattle.sctp_model.specs.Format.{Format, Plain, Interleaved, Kind, Ordered, Unordered, Lane, same_lane, ordered_lane, at_lane}
-use Rattle.sctp_model.specs.Framing.{is_skipped}
-use Rattle.sctp_model.specs.Pieces.{Piece, IsNumberBelow}
-use Rattle.sctp_model.specs.Forward.{Skip, skipped}
-use Rattle.sctp_model.specs.ReceiverView.{ReceiverView}
-use Rattle.sctp_model.specs.Receiving.{HasNoWholeWith, IsLeftBehind, LetsGo, GivesAll}
+use Rattle.sctp_model.specs.numbers.Lists.{Has, IsWithin}
+use Rattle.sctp_model.specs.wire.Chunk.{SkipMeaning, ForwardMeaning}
+use Rattle.sctp_model.specs.messages.Format.{Format, Plain, Interleaved, Kind, Ordered, Unordered, Lane, same_lane, ordered_lane, at_lane}
+use Rattle.sctp_model.specs.messages.Framing.{is_skipped}
+use Rattle.sctp_model.specs.messages.Pieces.{Piece, IsNumberBelow}
+use Rattle.sctp_model.specs.messages.Forward.{Skip, skipped}
+use Rattle.sctp_model.specs.receiver.ReceiverView.{ReceiverView}
+use Rattle.sctp_model.specs.receiver.Receiving.{HasNoWholeWith, IsLeftBehind, LetsGo, GivesAll}
 use Rattle.sctp_model.specs.receiver.Reading.{is_behind, is_ahead, is_late, lane_of, number_in}
 use Rattle.sctp_model.specs.receiver.ForwardTaken.{ForwardAnswer, OutOfDate, Bad, Moved, forward_answer, names_other_stream, with_skip, skips_read, stays_by, jumped, let_go, forwarded, ForwardLeaves, ForwardTaken}
 use Rattle.sctp_model.specs.receiver.Laws.{IsOrdinary, IsIdle, IsSettled, IsAtRest}

@@ -2,11 +2,11 @@
 use Rattle.std.proofs.Common.{◌≡◌, ℕ, zero, suc, ◌<◌, ◌≤◌, ◌⊎◌, ◌==◌, Bool, true, false, List, [], ◌∷◌, filter, refl, ap, sym, ◌∙◌, subst, inl, inr, arith, eqb-true}
 use Rattle.std.specs.Prelude.{not}
 use Rattle.std.proofs.lemmas.Bool.{cases_Bool, cases_eq, eq-eqb}
-use Rattle.sctp_model.specs.Lists.{Has, IsWithin, at}
-use Rattle.sctp_model.specs.Format.{Format, Kind, Ordered, Unordered, Lane, ordered_lane}
-use Rattle.sctp_model.specs.Pieces.{Piece}
-use Rattle.sctp_model.specs.ReceiverView.{ReceiverView}
-use Rattle.sctp_model.specs.Receiving.{HasNoWhole, HasNoWholeWith, is_below, without_below, GivesOrdered, GivesUnordered, Gives, GivesAll}
+use Rattle.sctp_model.specs.numbers.Lists.{Has, IsWithin, at}
+use Rattle.sctp_model.specs.messages.Format.{Format, Kind, Ordered, Unordered, Lane, ordered_lane}
+use Rattle.sctp_model.specs.messages.Pieces.{Piece}
+use Rattle.sctp_model.specs.receiver.ReceiverView.{ReceiverView}
+use Rattle.sctp_model.specs.receiver.Receiving.{HasNoWhole, HasNoWholeWith, is_below, without_below, GivesOrdered, GivesUnordered, Gives, GivesAll}
 use Rattle.sctp_model.specs.receiver.Laws.{IsWaiting}
 use Rattle.sctp_model.proofs.receiver.OneStep.{filter_has}
 use Rattle.sctp_model.proofs.receiver.DueWords.{ends_at}

@@ -2,13 +2,13 @@
 use Rattle.std.proofs.Common.{◌≡◌, ℕ, zero, suc, ◌+◌, ◌<◌, ◌≤◌, ◌⊎◌, nat_le, Bool, true, false, List, [], ◌∷◌, ◌++◌, length, filter, Option, Some, None, refl, ap, sym, ◌∙◌, subst, inl, inr, arith}
 use Rattle.std.proofs.lemmas.Bool.{cases_eq, cases_lt}
 use Rattle.std.proofs.lemmas.Bool.Decides.{nat_tests}
-use Rattle.sctp_model.specs.Lists.{at}
-use Rattle.sctp_model.specs.Format.{Format, Kind, Ordered, Unordered}
-use Rattle.sctp_model.specs.Chunk.{PieceMeaning, ForwardMeaning}
-use Rattle.sctp_model.specs.Pieces.{Piece}
-use Rattle.sctp_model.specs.ReceiverView.{Handed, ReceiverView, fresh_receiver, size_of_pieces, size_of_messages, size_of_waiting, held_bytes}
-use Rattle.sctp_model.specs.Receiving.{message_of, recorded, GivesOrdered, GivesUnordered, Gives, GivesAll}
-use Rattle.sctp_model.specs.receiver.PieceTaken.{Answer, Duplicate, Ahead, NoSuchStream, Passed, NoRoom, Taken, answer_to, is_duplicate, is_passed, is_too_much, Leaves, PieceTaken}
+use Rattle.sctp_model.specs.numbers.Lists.{at}
+use Rattle.sctp_model.specs.messages.Format.{Format, Kind, Ordered, Unordered}
+use Rattle.sctp_model.specs.wire.Chunk.{PieceMeaning, ForwardMeaning}
+use Rattle.sctp_model.specs.messages.Pieces.{Piece}
+use Rattle.sctp_model.specs.receiver.ReceiverView.{Handed, ReceiverView, fresh_receiver, size_of_pieces, size_of_messages, size_of_waiting, held_bytes}
+use Rattle.sctp_model.specs.receiver.Receiving.{message_of, recorded, GivesOrdered, GivesUnordered, Gives, GivesAll}
+use Rattle.sctp_model.specs.receiver.PieceTaken.{PieceAnswer, Duplicate, Ahead, NoSuchStream, Passed, NoRoom, Kept, answer_to, is_duplicate, is_passed, is_too_much, Leaves, PieceTaken}
 use Rattle.sctp_model.specs.receiver.Reading.{is_ahead, piece_at}
 use Rattle.sctp_model.specs.receiver.ForwardTaken.{ForwardAnswer, OutOfDate, Bad, Moved, jumped, forwarded, stays_by, ForwardLeaves, ForwardTaken}
 use Rattle.sctp_model.specs.receiver.SackMade.{sack_sent, TakeLeaves}
@@ -114,29 +114,29 @@ forward_fits f r x a t fits taken = go a taken.leaves
         (let less = filter_size (λ (y : Piece). stays_by y.lane.kind f (jumped f r taken.c x) y) r.kept in omega (arith, less, fits))
 
 -- a chunk that is taken fits
-taken_fits : (f : Format) (r : ReceiverView) (c : ℕ) (p : PieceMeaning) → answer_to f r c p ≡ Taken → held_bytes r + length p.bytes ≤ r.buffer
+taken_fits : (f : Format) (r : ReceiverView) (c : ℕ) (p : PieceMeaning) → answer_to f r c p ≡ Kept → held_bytes r + length p.bytes ≤ r.buffer
 taken_fits f r c p is =
-    let first = row_fails (is_duplicate f r c p) Duplicate _ Taken is (λ e. cc) in
-    let second = row_fails (is_ahead r c p.tsn) Ahead _ Taken first.1 (λ e. cc) in
-    let third = row_fails (nat_le r.streams p.stream) NoSuchStream _ Taken second.1 (λ e. cc) in
-    let fourth = row_fails (is_passed f r (piece_at f r c p)) Passed _ Taken third.1 (λ e. cc) in
-    let fifth = row_fails (is_too_much r p) NoRoom Taken Taken fourth.1 (λ e. cc) in
+    let first = row_fails (is_duplicate f r c p) Duplicate _ Kept is (λ e. cc) in
+    let second = row_fails (is_ahead r c p.tsn) Ahead _ Kept first.1 (λ e. cc) in
+    let third = row_fails (nat_le r.streams p.stream) NoSuchStream _ Kept second.1 (λ e. cc) in
+    let fourth = row_fails (is_passed f r (piece_at f r c p)) Passed _ Kept third.1 (λ e. cc) in
+    let fifth = row_fails (is_too_much r p) NoRoom Kept Kept fourth.1 (λ e. cc) in
     let room = fifth.0 in
     grind (arith, room, nat_tests)
 
-pub piece_fits : (f : Format) (r : ReceiverView) (p : PieceMeaning) (a : Answer) (t : ReceiverView) → FitsBuffer r → PieceTaken f r p a t → FitsBuffer t
+pub piece_fits : (f : Format) (r : ReceiverView) (p : PieceMeaning) (a : PieceAnswer) (t : ReceiverView) → FitsBuffer r → PieceTaken f r p a t → FitsBuffer t
 piece_fits f r p a t fits taken = go a (sym taken.answer) taken.leaves
   where
     x : Piece
     x = piece_at f r taken.c p
 
-    go : (b : Answer) → answer_to f r taken.c p ≡ b → Leaves f r (piece_at f r taken.c p) p.tsn b t → FitsBuffer t
+    go : (b : PieceAnswer) → answer_to f r taken.c p ≡ b → Leaves f r (piece_at f r taken.c p) p.tsn b t → FitsBuffer t
     go Duplicate answer is = subst FitsBuffer (sym is) fits
     go Ahead answer is = subst FitsBuffer (sym is) fits
     go NoSuchStream answer is = subst FitsBuffer (sym is) fits
     go Passed answer is = subst FitsBuffer (sym is) fits
     go NoRoom answer is = subst FitsBuffer (sym is) fits
-    go Taken answer takes =
+    go Kept answer takes =
         let room = taken_fits f r taken.c p answer in
         fits_after (record (recorded r (piece_at f r taken.c p)) { kept = piece_at f r taken.c p ∷ r.kept }) t
         (gives_holds f (piece_at f r taken.c p).lane.kind (piece_at f r taken.c p) (record (recorded r (piece_at f r taken.c p)) { kept = piece_at f r taken.c p ∷ r.kept }) t takes)

@@ -4,11 +4,11 @@ use Rattle.std.specs.Prelude.{not}
 use Rattle.std.proofs.Math.Path.{fun_ext}
 use Rattle.std.proofs.lemmas.Bool.{cases_Bool}
 use Rattle.std.proofs.lemmas.Bool.Decides.{nat_tests}
-use Rattle.sctp_model.specs.Lists.{Has, at}
-use Rattle.sctp_model.specs.Format.{Format, Lane, ordered_lane}
-use Rattle.sctp_model.specs.Pieces.{Piece}
-use Rattle.sctp_model.specs.ReceiverView.{ReceiverView}
-use Rattle.sctp_model.specs.Receiving.{HasNoWhole, HasNoWholeWith, Stop, is_below, without_below, GivesOrdered, GivesAll}
+use Rattle.sctp_model.specs.numbers.Lists.{Has, at}
+use Rattle.sctp_model.specs.messages.Format.{Format, Lane, ordered_lane}
+use Rattle.sctp_model.specs.messages.Pieces.{Piece}
+use Rattle.sctp_model.specs.receiver.ReceiverView.{ReceiverView}
+use Rattle.sctp_model.specs.receiver.Receiving.{HasNoWhole, HasNoWholeWith, Stop, is_below, without_below, GivesOrdered, GivesAll}
 use Rattle.sctp_model.specs.receiver.Laws.{IsIdle, IsSettled}
 
 -- ---- giving where nothing is due

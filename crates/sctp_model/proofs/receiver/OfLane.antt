@@ -2,13 +2,13 @@
 use Rattle.std.proofs.Common.{◌≡◌, ◌↔◌, ℕ, ◌+◌, ◌⊎◌, ◌==◌, Bool, true, false, List, [], ◌∷◌, filter, refl, ap, sym, ◌∙◌, inl, inr, arith, eqb-true}
 use Rattle.std.specs.Prelude.{not, ◌||◌}
 use Rattle.std.proofs.lemmas.Bool.{cases_Bool}
-use Rattle.sctp_model.specs.Lists.{Has}
-use Rattle.sctp_model.specs.Format.{Format, Plain, Interleaved, Lane, same_lane, ordered_lane}
-use Rattle.sctp_model.specs.Pieces.{Piece, is_number_below}
-use Rattle.sctp_model.specs.ReceiverView.{size_of_pieces}
-use Rattle.sctp_model.specs.Receiving.{IsWholeNumber, IsLowest, HasNoWhole, IsWholeWith, is_below, without_below, has_index, goes_with, without_message}
+use Rattle.sctp_model.specs.numbers.Lists.{Has}
+use Rattle.sctp_model.specs.messages.Format.{Format, Plain, Interleaved, Lane, same_lane, ordered_lane}
+use Rattle.sctp_model.specs.messages.Pieces.{Piece, is_number_below}
+use Rattle.sctp_model.specs.receiver.ReceiverView.{size_of_pieces}
+use Rattle.sctp_model.specs.receiver.Receiving.{IsWholeNumber, IsLowest, HasNoWhole, IsWholeWith, is_below, without_below, has_index, goes_with, without_message}
 use Rattle.sctp_model.specs.receiver.KeptOfLane.{of_lane}
-use Rattle.sctp_model.specs.receiver.Laws.{IsApart}
+use Rattle.sctp_model.specs.receiver.Laws.{IsFilledOnce}
 use Rattle.sctp_model.specs.receiver.PieceTaken.{are_one_fragment, is_held, is_repeated}
 use Rattle.sctp_model.proofs.receiver.Filters.{filter_passed, filter_where, filter_none, filter_turned}
 use Rattle.sctp_model.proofs.receiver.Giving.{filter_passes}
@@ -109,7 +109,7 @@ has_one (x ∷ xs) i e = elim (cases_Bool (x.index == i)) [
   | inr other ↦ let more = has_one xs i (rw other at e) in (more.0, inr more.1, more.2)
 ]
 
-goes_not : (f : Format) (kept : List Piece) (x : Piece) (xs : List Piece) (w y : Piece) → IsApart f kept → IsWholeWith f kept w (x ∷ xs) → Has kept y →
+goes_not : (f : Format) (kept : List Piece) (x : Piece) (xs : List Piece) (w y : Piece) → IsFilledOnce f kept → IsWholeWith f kept w (x ∷ xs) → Has kept y →
     same_lane y.lane x.lane ≡ false → goes_with f (x ∷ xs) y ≡ false
 goes_not Interleaved kept x xs w y apart whole there other = rw other refl
 goes_not Plain kept x xs w y apart whole there other = elim (cases_Bool (has_index (x ∷ xs) y.index)) [
@@ -124,14 +124,14 @@ goes_not Plain kept x xs w y apart whole there other = elim (cases_Bool (has_ind
 pub without_of : (f : Format) (kept : List Piece) (l : Lane) (xs : List Piece) → of_lane l (without_message f kept xs) ≡ without_message f (of_lane l kept) xs
 without_of f kept l xs = filter_turned (λ (y : Piece). same_lane y.lane l) (λ (y : Piece). not (goes_with f xs y)) kept
 
-pub without_other : (f : Format) (kept : List Piece) (l : Lane) (x : Piece) (xs : List Piece) (w : Piece) → IsApart f kept → IsWholeWith f kept w (x ∷ xs) → (x.lane ≡ l → ⊥) →
+pub without_other : (f : Format) (kept : List Piece) (l : Lane) (x : Piece) (xs : List Piece) (w : Piece) → IsFilledOnce f kept → IsWholeWith f kept w (x ∷ xs) → (x.lane ≡ l → ⊥) →
     of_lane l (without_message f kept (x ∷ xs)) ≡ of_lane l kept
 without_other f kept l x xs w apart whole other =
     without_of f kept l (x ∷ xs)
     ∙ filter_none (λ (y : Piece). not (goes_with f (x ∷ xs) y)) (of_lane l kept)
     (λ y there. ap not (goes_not f kept x xs w y apart whole (of_says l kept y there).0 (differs y.lane x.lane (λ e. other (sym e ∙ (of_says l kept y there).1)))))
 
-pub off_without : (f : Format) (kept : List Piece) (x : Piece) (xs : List Piece) (w : Piece) → IsApart f kept → IsWholeWith f kept w (x ∷ xs) →
+pub off_without : (f : Format) (kept : List Piece) (x : Piece) (xs : List Piece) (w : Piece) → IsFilledOnce f kept → IsWholeWith f kept w (x ∷ xs) →
     off_lane x.lane (without_message f kept (x ∷ xs)) ≡ off_lane x.lane kept
 off_without f kept x xs w apart whole =
     filter_turned (λ (y : Piece). not (same_lane y.lane x.lane)) (λ (y : Piece). not (goes_with f (x ∷ xs) y)) kept

@@ -2,12 +2,12 @@
 use Rattle.std.proofs.Common.{◌≡◌, ℕ, ◌⊎◌, List, [], ◌∷◌, refl, ap, sym, ◌∙◌, subst, inl, inr}
 use Rattle.std.specs.Prelude.{not}
 use Rattle.std.proofs.lemmas.Bool.{cases_eq}
-use Rattle.sctp_model.specs.Lists.{Has, IsWithin}
-use Rattle.sctp_model.specs.Format.{Format, Kind, Ordered, Unordered, Lane, ordered_lane}
-use Rattle.sctp_model.specs.Pieces.{Piece}
-use Rattle.sctp_model.specs.Whole.{IsWhole}
-use Rattle.sctp_model.specs.ReceiverView.{ReceiverView}
-use Rattle.sctp_model.specs.Receiving.{HasNoWhole, goes_with, recorded, GivesOrdered, GivesUnordered, Gives, Takes}
+use Rattle.sctp_model.specs.numbers.Lists.{Has, IsWithin}
+use Rattle.sctp_model.specs.messages.Format.{Format, Kind, Ordered, Unordered, Lane, ordered_lane}
+use Rattle.sctp_model.specs.messages.Pieces.{Piece}
+use Rattle.sctp_model.specs.messages.Whole.{IsWhole}
+use Rattle.sctp_model.specs.receiver.ReceiverView.{ReceiverView}
+use Rattle.sctp_model.specs.receiver.Receiving.{HasNoWhole, goes_with, recorded, GivesOrdered, GivesUnordered, Gives, TakesPiece}
 use Rattle.sctp_model.specs.receiver.Laws.{IsWaiting, IsIdle}
 use Rattle.sctp_model.proofs.receiver.RowFacts.{row_same, goes_own}
 use Rattle.sctp_model.proofs.receiver.Sizes.{pick, between}
@@ -97,5 +97,5 @@ module _ (f : Format) (r t : ReceiverView) (x : Piece) where
   gives_idle Ordered kind idle gives = ordered_idle (ap (λ (k : Kind). record { stream = x.lane.stream; kind = k }) kind) idle gives
   gives_idle Unordered kind idle gives = unordered_idle kind idle gives
 
-  pub takes_idle : IsIdle f r → Takes f r x t → IsIdle f t
+  pub takes_idle : IsIdle f r → TakesPiece f r x t → IsIdle f t
   takes_idle idle takes = gives_idle x.lane.kind refl idle takes

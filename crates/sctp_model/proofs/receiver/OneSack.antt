@@ -1,8 +1,8 @@
 -- A view has one SACK: one cumulative index, and one list of the runs above it.
 use Rattle.std.proofs.Common.{◌≡◌, ℕ, ◌<◌, List, sym, subst, ◌∙◌, arith}
-use Rattle.sctp_model.specs.Lists.{Has}
-use Rattle.sctp_model.specs.Chunk.{BlockMeaning, SackMeaning}
-use Rattle.sctp_model.specs.ReceiverView.{ReceiverView}
+use Rattle.sctp_model.specs.numbers.Lists.{Has}
+use Rattle.sctp_model.specs.wire.Chunk.{BlockMeaning, SackMeaning}
+use Rattle.sctp_model.specs.receiver.ReceiverView.{ReceiverView}
 use Rattle.sctp_model.specs.receiver.SackMade.{AreAllRuns, sack_of, IsSack}
 use Rattle.sctp_model.proofs.receiver.Orders.{one_order}
 use Rattle.sctp_model.proofs.receiver.OneStep.{cumulative_only}

@@ -2,16 +2,16 @@
 use Rattle.std.proofs.Common.{◌≡◌, ℕ, zero, suc, ◌⊎◌, Bool, true, false, ◌==◌, nat_le, List, [], ◌∷◌, filter, Option, Some, None, refl, ap, sym, ◌∙◌, subst, inl, inr, arith}
 use Rattle.std.specs.Prelude.{◌&&◌}
 use Rattle.std.proofs.lemmas.Bool.{cases_Bool, cases_order, or_parts, eq-eqb}
-use Rattle.sctp_model.specs.Lists.{Has, IsWithin}
-use Rattle.sctp_model.specs.Format.{Format, Plain, Interleaved, Kind, Ordered, Unordered, Lane, same_kind, same_lane}
-use Rattle.sctp_model.specs.Chunk.{PieceMeaning, ForwardMeaning}
-use Rattle.sctp_model.specs.Pieces.{Piece, same_number, fragment_of}
-use Rattle.sctp_model.specs.ReceiverView.{ReceiverView, IsCumulative}
+use Rattle.sctp_model.specs.numbers.Lists.{Has, IsWithin}
+use Rattle.sctp_model.specs.messages.Format.{Format, Plain, Interleaved, Kind, Ordered, Unordered, Lane, same_kind, same_lane}
+use Rattle.sctp_model.specs.wire.Chunk.{PieceMeaning, ForwardMeaning}
+use Rattle.sctp_model.specs.messages.Pieces.{Piece, same_number, fragment_of}
+use Rattle.sctp_model.specs.receiver.ReceiverView.{ReceiverView, IsCumulative}
 use Rattle.sctp_model.specs.receiver.Reading.{is_behind, is_ahead, piece_at}
-use Rattle.sctp_model.specs.Receiving.{recorded, handed_ordered, handed_unordered, GivesOrdered, GivesUnordered, Gives, GivesAll}
-use Rattle.sctp_model.specs.receiver.PieceTaken.{Answer, Duplicate, Ahead, NoSuchStream, Passed, NoRoom, Taken, answer_to, is_duplicate, is_held, is_passed, Leaves, PieceTaken}
+use Rattle.sctp_model.specs.receiver.Receiving.{recorded, handed_ordered, handed_unordered, GivesOrdered, GivesUnordered, Gives, GivesAll}
+use Rattle.sctp_model.specs.receiver.PieceTaken.{PieceAnswer, Duplicate, Ahead, NoSuchStream, Passed, NoRoom, Kept, answer_to, is_duplicate, is_held, is_passed, Leaves, PieceTaken}
 use Rattle.sctp_model.specs.receiver.ForwardTaken.{ForwardAnswer, OutOfDate, Bad, Moved, forward_answer, jumped, let_go, ForwardLeaves, ForwardTaken}
-use Rattle.sctp_model.specs.receiver.Laws.{IsOnePlace, IsApart, IsOrdinary}
+use Rattle.sctp_model.specs.receiver.Laws.{IsOnePlace, IsFilledOnce, IsOrdinary}
 use Rattle.sctp_model.proofs.receiver.OneWhole.{due_only, with_only}
 use Rattle.sctp_model.proofs.receiver.RowLemmas.{row_fails}
 
@@ -30,7 +30,7 @@ HasOne step = (t u : ReceiverView) → step t → step u → t ≡ u
 
 -- ---- what is due is handed over
 
-module _ (f : Format) (r : ReceiverView) (apart : IsApart f r.kept) where
+module _ (f : Format) (r : ReceiverView) (apart : IsFilledOnce f r.kept) where
   pub ordered_only : (s : ℕ) → HasOne (GivesOrdered f s r)
   ordered_only s t u (ms, n, due, at_t) (os, o, other, at_u) =
       let one = due_only f r s apart (r.next s) ms n os o due other in
@@ -65,10 +65,10 @@ filter_has test (y ∷ xs) x there = go (cases_Bool (test y)) (filter_has test x
     go (inl p) more = elim (rw p at there) [ inl e ↦ inl e | inr later ↦ inr (more later) ]
     go (inr p) more = inr (more (rw p at there))
 
-pub fewer_apart : (f : Format) (kept fewer : List Piece) → IsWithin fewer kept → IsApart f kept → IsApart f fewer
+pub fewer_apart : (f : Format) (kept fewer : List Piece) → IsWithin fewer kept → IsFilledOnce f kept → IsFilledOnce f fewer
 fewer_apart f kept fewer within apart x y here there = apart x y (within x here) (within y there)
 
-pub filter_apart : (f : Format) (test : Piece → Bool) (kept : List Piece) → IsApart f kept → IsApart f (filter test kept)
+pub filter_apart : (f : Format) (test : Piece → Bool) (kept : List Piece) → IsFilledOnce f kept → IsFilledOnce f (filter test kept)
 filter_apart f test kept apart = fewer_apart f kept (filter test kept) (filter_has test kept) apart
 
 pub given_within : (f : Format) (s : ℕ) (r t : ReceiverView) → GivesOrdered f s r t → IsWithin t.kept r.kept
@@ -78,7 +78,7 @@ pub all_within : (f : Format) (n : ℕ) (r t : ReceiverView) → GivesAll f n r 
 all_within f zero r t is x there = subst (λ (v : ReceiverView). Has v.kept x) is there
 all_within f (suc n) r t (between, before, now) x there = all_within f n r between before x (given_within f n between t now x there)
 
-pub all_only : (f : Format) (n : ℕ) (r t u : ReceiverView) → IsApart f r.kept → GivesAll f n r t → GivesAll f n r u → t ≡ u
+pub all_only : (f : Format) (n : ℕ) (r t u : ReceiverView) → IsFilledOnce f r.kept → GivesAll f n r t → GivesAll f n r u → t ≡ u
 all_only f zero r t u apart at_t at_u = at_t ∙ sym at_u
 all_only f (suc n) r t u apart (one, before, now) (other, earlier, later) =
     let same = all_only f n r one other apart before earlier in
@@ -87,7 +87,7 @@ all_only f (suc n) r t u apart (one, before, now) (other, earlier, later) =
 
 -- ---- one chunk more
 
-pub one_more_apart : (f : Format) (kept : List Piece) (x : Piece) → IsApart f kept → ((y : Piece) → Has kept y → IsOnePlace f x y → ⊥) → IsApart f (x ∷ kept)
+pub one_more_apart : (f : Format) (kept : List Piece) (x : Piece) → IsFilledOnce f kept → ((y : Piece) → Has kept y → IsOnePlace f x y → ⊥) → IsFilledOnce f (x ∷ kept)
 one_more_apart f kept x apart alone y z (inr here) (inr there) place = apart y z here there place
 one_more_apart f kept x apart alone y z (inl is) (inl also) place = sym is ∙ also
 one_more_apart f kept x apart alone y z (inl is) (inr there) place = absurd (alone z there (subst (λ (w : Piece). IsOnePlace f w z) (sym is) place))
@@ -128,40 +128,40 @@ new_place Plain r x o new wanted y there place =
     absurd (cc)
 new_place Interleaved r x o new wanted y there (lane, number, fragment) = not_held r.kept x y (or_parts _ _ wanted).1 there (sym lane, sym number, sym fragment)
 
-pub kept_apart : (f : Format) (r : ReceiverView) (x : Piece) → IsOrdinary f r → r.seen x.index ≡ false → is_passed f r x ≡ false → IsApart f (x ∷ r.kept)
+pub kept_apart : (f : Format) (r : ReceiverView) (x : Piece) → IsOrdinary f r → r.seen x.index ≡ false → is_passed f r x ≡ false → IsFilledOnce f (x ∷ r.kept)
 kept_apart f r x o new wanted = one_more_apart f r.kept x o.apart (new_place f r x o new wanted)
 
 -- ---- a chunk taken
 
 -- one that is taken wasn't recorded, and isn't passed
-pub taken_is_new : (f : Format) (r : ReceiverView) (c : ℕ) (p : PieceMeaning) → answer_to f r c p ≡ Taken → (r.seen (piece_at f r c p).index ≡ false) × (is_passed f r (piece_at f r c p) ≡ false)
+pub taken_is_new : (f : Format) (r : ReceiverView) (c : ℕ) (p : PieceMeaning) → answer_to f r c p ≡ Kept → (r.seen (piece_at f r c p).index ≡ false) × (is_passed f r (piece_at f r c p) ≡ false)
 taken_is_new f r c p is =
-    let first = row_fails (is_duplicate f r c p) Duplicate _ Taken is (λ e. cc) in
-    let second = row_fails (is_ahead r c p.tsn) Ahead _ Taken first.1 (λ e. cc) in
-    let third = row_fails (nat_le r.streams p.stream) NoSuchStream _ Taken second.1 (λ e. cc) in
-    let fourth = row_fails (is_passed f r (piece_at f r c p)) Passed _ Taken third.1 (λ e. cc) in
+    let first = row_fails (is_duplicate f r c p) Duplicate _ Kept is (λ e. cc) in
+    let second = row_fails (is_ahead r c p.tsn) Ahead _ Kept first.1 (λ e. cc) in
+    let third = row_fails (nat_le r.streams p.stream) NoSuchStream _ Kept second.1 (λ e. cc) in
+    let fourth = row_fails (is_passed f r (piece_at f r c p)) Passed _ Kept third.1 (λ e. cc) in
     ((or_parts (is_behind r c p.tsn) (r.seen (piece_at f r c p).index) first.0).1, fourth.0)
 
-taken_apart : (f : Format) (r : ReceiverView) (c : ℕ) (p : PieceMeaning) → IsOrdinary f r → answer_to f r c p ≡ Taken → IsApart f (piece_at f r c p ∷ r.kept)
+taken_apart : (f : Format) (r : ReceiverView) (c : ℕ) (p : PieceMeaning) → IsOrdinary f r → answer_to f r c p ≡ Kept → IsFilledOnce f (piece_at f r c p ∷ r.kept)
 taken_apart f r c p o is = let new = taken_is_new f r c p is in kept_apart f r (piece_at f r c p) o new.0 new.1
 
-leaves_only : (f : Format) (r : ReceiverView) (c : ℕ) (p : PieceMeaning) → IsOrdinary f r → (a : Answer) → answer_to f r c p ≡ a → HasOne (Leaves f r (piece_at f r c p) p.tsn a)
+leaves_only : (f : Format) (r : ReceiverView) (c : ℕ) (p : PieceMeaning) → IsOrdinary f r → (a : PieceAnswer) → answer_to f r c p ≡ a → HasOne (Leaves f r (piece_at f r c p) p.tsn a)
 leaves_only f r c p o Duplicate is t u at_t at_u = at_t ∙ sym at_u
 leaves_only f r c p o Ahead is t u at_t at_u = at_t ∙ sym at_u
 leaves_only f r c p o NoSuchStream is t u at_t at_u = at_t ∙ sym at_u
 leaves_only f r c p o Passed is t u at_t at_u = at_t ∙ sym at_u
 leaves_only f r c p o NoRoom is t u at_t at_u = at_t ∙ sym at_u
-leaves_only f r c p o Taken is t u at_t at_u =
+leaves_only f r c p o Kept is t u at_t at_u =
     gives_only f (record (recorded r (piece_at f r c p)) { kept = piece_at f r c p ∷ r.kept }) (taken_apart f r c p o is) (piece_at f r c p).lane.kind (piece_at f r c p) t u at_t at_u
 
 -- at the one cumulative index: the answer is the table's, and the view is as it leaves it
-pub piece_read : (f : Format) (r : ReceiverView) (c : ℕ) (p : PieceMeaning) (a : Answer) (t : ReceiverView) → IsCumulative r c → PieceTaken f r p a t →
+pub piece_read : (f : Format) (r : ReceiverView) (c : ℕ) (p : PieceMeaning) (a : PieceAnswer) (t : ReceiverView) → IsCumulative r c → PieceTaken f r p a t →
     (a ≡ answer_to f r c p) × Leaves f r (piece_at f r c p) p.tsn (answer_to f r c p) t
 piece_read f r c p a t is taken =
     subst (λ (d : ℕ). (a ≡ answer_to f r d p) × Leaves f r (piece_at f r d p) p.tsn (answer_to f r d p) t) (cumulative_only r taken.c c taken.cumulative is)
-    (taken.answer, subst (λ (b : Answer). Leaves f r (piece_at f r taken.c p) p.tsn b t) taken.answer taken.leaves)
+    (taken.answer, subst (λ (b : PieceAnswer). Leaves f r (piece_at f r taken.c p) p.tsn b t) taken.answer taken.leaves)
 
-pub piece_only : (f : Format) (r : ReceiverView) (p : PieceMeaning) (a b : Answer) (t u : ReceiverView) → IsOrdinary f r → PieceTaken f r p a t → PieceTaken f r p b u →
+pub piece_only : (f : Format) (r : ReceiverView) (p : PieceMeaning) (a b : PieceAnswer) (t u : ReceiverView) → IsOrdinary f r → PieceTaken f r p a t → PieceTaken f r p b u →
     (a ≡ b) × (t ≡ u)
 piece_only f r p a b t u o one other =
     let mine = piece_read f r one.c p a t one.cumulative one in
@@ -170,7 +170,7 @@ piece_only f r p a b t u o one other =
 
 -- ---- a FORWARD taken
 
-moves_only : (f : Format) (r : ReceiverView) (c : ℕ) (x : ForwardMeaning) → IsApart f r.kept → (a : ForwardAnswer) → HasOne (ForwardLeaves f r c x a)
+moves_only : (f : Format) (r : ReceiverView) (c : ℕ) (x : ForwardMeaning) → IsFilledOnce f r.kept → (a : ForwardAnswer) → HasOne (ForwardLeaves f r c x a)
 moves_only f r c x apart OutOfDate t u at_t at_u = at_t ∙ sym at_u
 moves_only f r c x apart Bad t u at_t at_u = at_t ∙ sym at_u
 moves_only f r c x apart Moved t u at_t at_u =
@@ -182,7 +182,7 @@ forward_read f r c x a t is taken =
     subst (λ (d : ℕ). (a ≡ forward_answer r d x) × ForwardLeaves f r d x (forward_answer r d x) t) (cumulative_only r taken.c c taken.cumulative is)
     (taken.answer, subst (λ (b : ForwardAnswer). ForwardLeaves f r taken.c x b t) taken.answer taken.leaves)
 
-pub forward_only : (f : Format) (r : ReceiverView) (x : ForwardMeaning) (a b : ForwardAnswer) (t u : ReceiverView) → IsApart f r.kept → ForwardTaken f r x a t → ForwardTaken f r x b u →
+pub forward_only : (f : Format) (r : ReceiverView) (x : ForwardMeaning) (a b : ForwardAnswer) (t u : ReceiverView) → IsFilledOnce f r.kept → ForwardTaken f r x a t → ForwardTaken f r x b u →
     (a ≡ b) × (t ≡ u)
 forward_only f r x a b t u apart one other =
     let mine = forward_read f r one.c x a t one.cumulative one in

@@ -2,13 +2,13 @@
 -- and one thing is due.
 use Rattle.std.proofs.Common.{◌≡◌, ℕ, suc, ◌<◌, ◌≤◌, true, false, List, [], ◌∷◌, refl, ap, sym, ◌∙◌, subst, inl, inr, arith}
 use Rattle.std.proofs.lemmas.Bool.{cases_lt, cases_order}
-use Rattle.sctp_model.specs.Lists.{Has, IsWithin}
-use Rattle.sctp_model.specs.Format.{Format, Plain, Interleaved, Lane, ordered_lane}
-use Rattle.sctp_model.specs.Pieces.{Piece}
-use Rattle.sctp_model.specs.Whole.{IsFirst, Follows, IsRow, IsWhole}
-use Rattle.sctp_model.specs.ReceiverView.{Handed, ReceiverView}
-use Rattle.sctp_model.specs.Receiving.{IsWholeNumber, IsLowest, IsWholeWith, message_of, IsDue, Stop, Over, Past}
-use Rattle.sctp_model.specs.receiver.Laws.{IsOnePlace, IsApart}
+use Rattle.sctp_model.specs.numbers.Lists.{Has, IsWithin}
+use Rattle.sctp_model.specs.messages.Format.{Format, Plain, Interleaved, Lane, ordered_lane}
+use Rattle.sctp_model.specs.messages.Pieces.{Piece}
+use Rattle.sctp_model.specs.messages.Whole.{IsFirst, Follows, IsRow, IsWhole}
+use Rattle.sctp_model.specs.receiver.ReceiverView.{Handed, ReceiverView}
+use Rattle.sctp_model.specs.receiver.Receiving.{IsWholeNumber, IsLowest, IsWholeWith, message_of, IsDue, Stop, GivesWhole, Past}
+use Rattle.sctp_model.specs.receiver.Laws.{IsOnePlace, IsFilledOnce}
 
 same_place : (f : Format) (x y z : Piece) → Follows f x y → Follows f x z → IsOnePlace f y z
 same_place Plain x y z h k = h.2 ∙ sym k.2
@@ -17,7 +17,7 @@ same_place Interleaved x y z h k = (h.0 ∙ sym k.0, h.1 ∙ sym k.1, h.2 ∙ sy
 tail_within : (kept : List Piece) (x : Piece) (xs : List Piece) → IsWithin (x ∷ xs) kept → IsWithin xs kept
 tail_within kept x xs h z there = h z (inr there)
 
-module _ (f : Format) (kept : List Piece) (apart : IsApart f kept) where
+module _ (f : Format) (kept : List Piece) (apart : IsFilledOnce f kept) where
   pub row_only : (x : Piece) (xs ys : List Piece) → IsRow f x xs → IsRow f x ys → IsWithin xs kept → IsWithin ys kept → xs ≡ ys
   row_only x [] [] h k within there = refl
   row_only x [] (y ∷ ys) h k within there = let on : x.end ≡ false = k.0 in cc
@@ -38,7 +38,7 @@ firsts_meet : (f : Format) (x y : Piece) → IsFirst f x → IsFirst f y → (x.
 firsts_meet Plain x y one other same here = here
 firsts_meet Interleaved x y one other (lane, number) here = (lane, number, one ∙ sym other)
 
-pub number_only : (f : Format) (kept : List Piece) (l : Lane) (n : ℕ) → IsApart f kept → (xs ys : List Piece) →
+pub number_only : (f : Format) (kept : List Piece) (l : Lane) (n : ℕ) → IsFilledOnce f kept → (xs ys : List Piece) →
     IsWholeNumber f kept l n xs → IsLowest f kept l n xs → IsWholeNumber f kept l n ys → IsLowest f kept l n ys → xs ≡ ys
 number_only f kept l n apart [] ys h low k least = elim h.0 [ ]
 number_only f kept l n apart (x ∷ xs) [] h low k least = elim k.0 [ ]
@@ -62,7 +62,7 @@ row_between x (w ∷ ws) y i h (inr there) above below = elim (cases_lt w.index 
 ]
 
 -- no message begins within another
-begins_once : (kept : List Piece) (x z y : Piece) (xs : List Piece) → IsApart Plain kept → IsWhole Plain (x ∷ xs) → IsWithin (x ∷ xs) kept → Has kept z → IsFirst Plain z →
+begins_once : (kept : List Piece) (x z y : Piece) (xs : List Piece) → IsFilledOnce Plain kept → IsWhole Plain (x ∷ xs) → IsWithin (x ∷ xs) kept → Has kept z → IsFirst Plain z →
     Has (x ∷ xs) y → z.index ≤ y.index → x.index < z.index → ⊥
 begins_once kept x z y xs apart h within here first (inl e) below above = let same : x.index ≡ y.index = ap (λ (v : Piece). v.index) e in omega arith
 begins_once kept x z y xs apart h within here first (inr there) below above =
@@ -87,7 +87,7 @@ row_number x xs y h (inl e) = (ap (λ (v : Piece). v.lane) (sym e), ap (λ (v : 
 row_number x [] y h (inr there) = elim there [ ]
 row_number x (w ∷ ws) y h (inr there) = let rest = row_number w ws y h.2 there in (rest.0 ∙ h.1.0, rest.1 ∙ h.1.1)
 
-one_first : (f : Format) (kept : List Piece) (y : Piece) → IsApart f kept → (x z : Piece) (xs zs : List Piece) →
+one_first : (f : Format) (kept : List Piece) (y : Piece) → IsFilledOnce f kept → (x z : Piece) (xs zs : List Piece) →
     IsWholeWith f kept y (x ∷ xs) → IsWholeWith f kept y (z ∷ zs) → IsOnePlace f x z
 one_first Plain kept y apart x z xs zs h k = elim (cases_order x.index z.index) [
   | inl same ↦ same
@@ -101,7 +101,7 @@ one_first Interleaved kept y apart x z xs zs h k =
     let its = row_number z zs y k.0.1 k.2 in
     (sym mine.0 ∙ its.0, sym mine.1 ∙ its.1, h.0.0 ∙ sym k.0.0)
 
-pub with_only : (f : Format) (kept : List Piece) (y : Piece) → IsApart f kept → (xs ys : List Piece) → IsWholeWith f kept y xs → IsWholeWith f kept y ys → xs ≡ ys
+pub with_only : (f : Format) (kept : List Piece) (y : Piece) → IsFilledOnce f kept → (xs ys : List Piece) → IsWholeWith f kept y xs → IsWholeWith f kept y ys → xs ≡ ys
 with_only f kept y apart [] ys h k = elim h.0 [ ]
 with_only f kept y apart (x ∷ xs) [] h k = elim k.0 [ ]
 with_only f kept y apart (x ∷ xs) (z ∷ zs) h k =
@@ -121,17 +121,17 @@ same_message f x xs y ys e = λ i. message_of f (first i) (others i)
     others : xs ≡ ys
     others = let both = e in cc
 
-pub due_only : (f : Format) (r : ReceiverView) (s : ℕ) → IsApart f r.kept → (n : ℕ) (ms : List Handed) (m : ℕ) (os : List Handed) (o : ℕ) →
+pub due_only : (f : Format) (r : ReceiverView) (s : ℕ) → IsFilledOnce f r.kept → (n : ℕ) (ms : List Handed) (m : ℕ) (os : List Handed) (o : ℕ) →
     IsDue f r s n ms m → IsDue f r s n os o → IsSameDue ms m os o
 due_only f r s apart _ _ _ _ _ (Stop n above none) (Stop _ high empty) = (refl, refl)
-due_only f r s apart _ _ _ _ _ (Stop n above none) (Over _ o x xs os whole low rest) = absurd (none (x ∷ xs) whole)
+due_only f r s apart _ _ _ _ _ (Stop n above none) (GivesWhole _ o x xs os whole low rest) = absurd (none (x ∷ xs) whole)
 due_only f r s apart _ _ _ _ _ (Stop n above none) (Past _ o os below empty rest) = absurd (omega arith)
-due_only f r s apart _ _ _ _ _ (Over n m x xs ms whole low rest) (Stop _ high empty) = absurd (empty (x ∷ xs) whole)
-due_only f r s apart _ _ _ _ _ (Over n m x xs ms whole low rest) (Over _ o y ys os its least others) =
+due_only f r s apart _ _ _ _ _ (GivesWhole n m x xs ms whole low rest) (Stop _ high empty) = absurd (empty (x ∷ xs) whole)
+due_only f r s apart _ _ _ _ _ (GivesWhole n m x xs ms whole low rest) (GivesWhole _ o y ys os its least others) =
     let same = number_only f r.kept (ordered_lane s) n apart (x ∷ xs) (y ∷ ys) whole low its least in
     let tail = due_only f r s apart (suc n) ms m os o rest others in
     (ap (λ (h : Handed). h ∷ ms) (same_message f x xs y ys same) ∙ ap (λ (hs : List Handed). message_of f y ys ∷ hs) tail.0, tail.1)
-due_only f r s apart _ _ _ _ _ (Over n m x xs ms whole low rest) (Past _ o os below empty others) = absurd (empty (x ∷ xs) whole)
+due_only f r s apart _ _ _ _ _ (GivesWhole n m x xs ms whole low rest) (Past _ o os below empty others) = absurd (empty (x ∷ xs) whole)
 due_only f r s apart _ _ _ _ _ (Past n m ms below none rest) (Stop _ high empty) = absurd (omega arith)
-due_only f r s apart _ _ _ _ _ (Past n m ms below none rest) (Over _ o y ys os its least others) = absurd (none (y ∷ ys) its)
+due_only f r s apart _ _ _ _ _ (Past n m ms below none rest) (GivesWhole _ o y ys os its least others) = absurd (none (y ∷ ys) its)
 due_only f r s apart _ _ _ _ _ (Past n m ms below none rest) (Past _ o os low empty others) = due_only f r s apart (suc n) ms m os o rest others

@@ -1,6 +1,6 @@
 -- A set has one list in a given order.
 use Rattle.std.proofs.Common.{◌≡◌, ◌⊎◌, List, [], ◌∷◌, refl, sym, subst, inl, inr}
-use Rattle.sctp_model.specs.Lists.{Has, IsWithin, AreInOrder}
+use Rattle.sctp_model.specs.numbers.Lists.{Has, IsWithin, AreInOrder}
 
 module _ {A : Type 0} (R : A → A → Type 0) where
   -- no two elements of the list lie before each other, nor one before itself

@@ -2,12 +2,12 @@
 use Rattle.std.proofs.Common.{◌≡◌, ℕ, suc, ◌<◌, ◌==◌, true, List, [], ◌∷◌, length, Option, Some, None, refl, ap, sym, ◌∙◌, subst, inl, inr, arith, eqb-true}
 use Rattle.std.proofs.lemmas.Bool.{eq-eqb, or_right, and_parts}
 use Rattle.std.proofs.lemmas.List.{length-append}
-use Rattle.sctp_model.specs.Lists.{Has, AreInOrder}
-use Rattle.sctp_model.specs.Format.{Format, Plain, Interleaved, Kind, Ordered, Unordered, Lane, same_kind, same_lane}
-use Rattle.sctp_model.specs.Pieces.{Piece, same_number, fragment_of}
-use Rattle.sctp_model.specs.Whole.{Follows, IsRow, IsWhole, text_of}
-use Rattle.sctp_model.specs.ReceiverView.{size_of_pieces}
-use Rattle.sctp_model.specs.Receiving.{has_index, goes_with}
+use Rattle.sctp_model.specs.numbers.Lists.{Has, AreInOrder}
+use Rattle.sctp_model.specs.messages.Format.{Format, Plain, Interleaved, Kind, Ordered, Unordered, Lane, same_kind, same_lane}
+use Rattle.sctp_model.specs.messages.Pieces.{Piece, same_number, fragment_of}
+use Rattle.sctp_model.specs.messages.Whole.{Follows, IsRow, IsWhole, text_of}
+use Rattle.sctp_model.specs.receiver.ReceiverView.{size_of_pieces}
+use Rattle.sctp_model.specs.receiver.Receiving.{has_index, goes_with}
 
 -- ---- of one lane and number
 

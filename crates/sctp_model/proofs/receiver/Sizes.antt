@@ -3,12 +3,12 @@ use Rattle.std.proofs.Common.{◌≡◌, ℕ, suc, ◌+◌, ◌≤◌, ◌⊎◌
 use Rattle.std.specs.Prelude.{not, ◌&&◌}
 use Rattle.std.proofs.lemmas.Bool.{cases_Bool}
 use Rattle.std.proofs.lemmas.Bool.Decides.{nat_tests}
-use Rattle.sctp_model.specs.Lists.{Has, IsWithin}
-use Rattle.sctp_model.specs.Format.{Format, same_lane, ordered_lane}
-use Rattle.sctp_model.specs.Pieces.{Piece, is_number_below}
-use Rattle.sctp_model.specs.Whole.{text_of}
-use Rattle.sctp_model.specs.ReceiverView.{Handed, ReceiverView, size_of_pieces, size_of_messages}
-use Rattle.sctp_model.specs.Receiving.{IsWholeNumber, IsWholeWith, IsDue, Stop, Over, Past, is_below, without_below, goes_with, without_message}
+use Rattle.sctp_model.specs.numbers.Lists.{Has, IsWithin}
+use Rattle.sctp_model.specs.messages.Format.{Format, same_lane, ordered_lane}
+use Rattle.sctp_model.specs.messages.Pieces.{Piece, is_number_below}
+use Rattle.sctp_model.specs.messages.Whole.{text_of}
+use Rattle.sctp_model.specs.receiver.ReceiverView.{Handed, ReceiverView, size_of_pieces, size_of_messages}
+use Rattle.sctp_model.specs.receiver.Receiving.{IsWholeNumber, IsWholeWith, IsDue, Stop, GivesWhole, Past, is_below, without_below, goes_with, without_message}
 use Rattle.sctp_model.proofs.receiver.RowFacts.{AreDistinct, row_same, row_distinct, goes_own, lane_same, text_size}
 
 -- ---- one element of a list
@@ -154,7 +154,7 @@ module _ (f : Format) (r : ReceiverView) (s : ℕ) where
 
   due_above : (n : ℕ) (ms : List Handed) (m : ℕ) → IsDue f r s n ms m → size_of_messages ms + Standing m ≤ Standing n
   due_above _ _ _ (Stop n high none) = omega arith
-  due_above _ _ _ (Over n m x xs ms whole low more) = let later = due_above (suc n) ms m more in let here = one_message n x xs whole in omega (arith, later, here)
+  due_above _ _ _ (GivesWhole n m x xs ms whole low more) = let later = due_above (suc n) ms m more in let here = one_message n x xs whole in omega (arith, later, here)
   due_above _ _ _ (Past n m ms below none more) = let later = due_above (suc n) ms m more in let here = none_gone n in omega (arith, later, here)
 
   -- What is due on a stream, and what is kept then, is no more than what was kept.

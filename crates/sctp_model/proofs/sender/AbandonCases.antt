@@ -4,9 +4,9 @@ use Rattle.std.specs.Prelude.{◌==◌, not, ◌&&◌, ◌||◌, if◌then◌els
 use Rattle.std.specs.Option.{option_map_or}
 use Rattle.std.proofs.lemmas.Bool.{and_parts}
 use Rattle.std.proofs.lemmas.Bool.Decides.{nat_tests}
-use Rattle.sctp_model.specs.Format.{Kind, Ordered, Unordered, Lane, same_kind, same_lane}
-use Rattle.sctp_model.specs.Plan.{End, Plan}
-use Rattle.sctp_model.specs.SenderView.{Queued, SenderView}
+use Rattle.sctp_model.specs.messages.Format.{Kind, Ordered, Unordered, Lane, same_kind, same_lane}
+use Rattle.sctp_model.specs.messages.Plan.{End, Plan}
+use Rattle.sctp_model.specs.sender.SenderView.{Queued, SenderView}
 use Rattle.sctp_model.specs.sender.Entries.{is_in_part}
 use Rattle.sctp_model.specs.sender.Assigning.{with_entry}
 use Rattle.sctp_model.specs.sender.Abandoning.{Name, name_of, waits, without, is_abandoned, is_covered, ended, given_up, give_up, abandon_after}

@@ -1,14 +1,14 @@
 -- A message is abandoned only by a call that names its ticket, or where its time is past: no SACK, no timer, no packet filled abandons one.
 use Rattle.std.proofs.Common.{◌≡◌, ℕ, ◌⊎◌, inl, inr, List, [], ◌∷◌, Bool, true, false, Option, Some, None, refl, sym, ap, ◌∙◌, subst}
 use Rattle.std.specs.Prelude.{◌==◌, ◌||◌, if◌then◌else◌, slice_get, fold, find, is_some, option_map, option_and_then}
-use Rattle.sctp_model.specs.Format.{Format, Lane}
-use Rattle.sctp_model.specs.Chunk.{SackMeaning}
-use Rattle.sctp_model.specs.Plan.{Message, Plan, message_at}
-use Rattle.sctp_model.specs.SenderView.{Queued, SenderView}
+use Rattle.sctp_model.specs.messages.Format.{Format, Lane}
+use Rattle.sctp_model.specs.wire.Chunk.{SackMeaning}
+use Rattle.sctp_model.specs.messages.Plan.{Message, Plan, message_at}
+use Rattle.sctp_model.specs.sender.SenderView.{Queued, SenderView}
 use Rattle.sctp_model.specs.sender.Words.{first_there, some_passes, count_up}
 use Rattle.sctp_model.specs.sender.Filling.{Wish, next_wish, gone}
 use Rattle.sctp_model.specs.sender.SackTaken.{sack_after, sack_fault, sack_taken, shutdown_after, shutdown_fault, shutdown_taken}
-use Rattle.sctp_model.specs.sender.Abandoning.{Name, waits, name_of, has_ticket, given_up, abandon_after, is_past, is_due, expire_one, expired, timed_out}
+use Rattle.sctp_model.specs.sender.Abandoning.{Name, waits, name_of, has_ticket, given_up, abandon_after, is_past, is_overdue, expire_one, expired, timed_out}
 use Rattle.sctp_model.specs.sender.Reached.{IsReached, Abandons}
 use Rattle.sctp_model.proofs.sender.WishCases.{IsAssigned, Whole, Begun, Continued, after_wish}
 use Rattle.sctp_model.proofs.sender.AbandonCases.{after_abandon, after_end, given_or_before}
@@ -90,7 +90,7 @@ found_waits t q (x ∷ qs) is = by_test (x.message.ticket == t) is (λ there. fo
     by_test false here further = further here
 
 -- a message with a number that is due is past its time
-pub due_is_past : (f : Format) (v : SenderView) (now t : ℕ) (n : Name) → IsReached f v → is_due v now t ≡ true → name_of v t ≡ Some n → IsPast v now n.lane n.number
+pub due_is_past : (f : Format) (v : SenderView) (now t : ℕ) (n : Name) → IsReached f v → is_overdue v now t ≡ true → name_of v t ≡ Some n → IsPast v now n.lane n.number
 due_is_past f v now t n h due is = by_wait (find (λ q. q.message.ticket == t) v.queue) refl (name_of v t) is due
   where
     by_message : (m : Option Message) → message_at v.plan n.lane n.number ≡ m → some_passes (is_past now) m ≡ true → IsPast v now n.lane n.number
@@ -113,7 +113,7 @@ due_is_past f v now t n h due is = by_wait (find (λ q. q.message.ticket == t) v
 abbrev pub OnlyPast : SenderView → ℕ → SenderView → Type 0
 OnlyPast v now u = (l : Lane) (n : ℕ) → u.abandoned l n ≡ true → (v.abandoned l n ≡ true) ⊎ IsPast v now l n
 
-past_given : (f : Format) (v : SenderView) (now t : ℕ) (n : Name) → IsReached f v → is_due v now t ≡ true → name_of v t ≡ Some n → OnlyPast v now (given_up v n)
+past_given : (f : Format) (v : SenderView) (now t : ℕ) (n : Name) → IsReached f v → is_overdue v now t ≡ true → name_of v t ≡ Some n → OnlyPast v now (given_up v n)
 past_given f v now t n h due is l k on =
     elim (given_or_before v n l k on) [
       | inl this ↦ inr (subst (λ (y : ℕ). IsPast v now l y) (sym this.1) (subst (λ (y : Lane). IsPast v now y n.number) (sym this.0) (due_is_past f v now t n h due is)))
@@ -128,7 +128,7 @@ pub record IsExpiredPart (f : Format) (v : SenderView) (now : ℕ) (u : SenderVi
 
 -- one ticket more
 expires_one : (f : Format) (v u : SenderView) (now t : ℕ) → IsExpiredPart f v now u → IsExpiredPart f v now (expire_one now u t)
-expires_one f v u now t k = by_due (is_due u now t) refl
+expires_one f v u now t k = by_due (is_overdue u now t) refl
   where
     of_first : (x : SenderView) → OnlyPast u now x → OnlyPast v now x
     of_first x next l n on =
@@ -137,7 +137,7 @@ expires_one f v u now t k = by_due (is_due u now t) refl
           | inr past ↦ inr (record { message = past.message; named = ap (λ (ms : Lane → List Message). slice_get (ms l) n) (sym k.messages) ∙ past.named; past = past.past })
         ]
 
-    by_due : (b : Bool) → is_due u now t ≡ b → IsExpiredPart f v now (if b then abandon_after u t else u)
+    by_due : (b : Bool) → is_overdue u now t ≡ b → IsExpiredPart f v now (if b then abandon_after u t else u)
     by_due false off = k
     by_due true due = record {
       only = of_first (abandon_after u t) (after_abandon (OnlyPast u now) u t (λ l n on. inl on) (λ waiting l n on. inl on) (λ n is kept. past_given f u now t n k.reached due is));

@@ -2,14 +2,14 @@
 use Rattle.std.proofs.Common.{◌≡◌, ℕ, zero, suc, ◌+◌, ◌<◌, ◌≤◌, inl, inr, List, [], ◌∷◌, length, Bool, true, false, Option, Some, None, refl, sym, ap, ◌∙◌, subst, arith, length-append}
 use Rattle.std.specs.Prelude.{◌==◌, nat_le, nat_lt, not, ◌&&◌, ◌||◌, if◌then◌else◌, slice_get}
 use Rattle.std.proofs.lemmas.Bool.Decides.{nat_tests}
-use Rattle.sctp_model.specs.Lists.{at}
-use Rattle.sctp_model.specs.Format.{Format, Lane}
-use Rattle.sctp_model.specs.Chunk.{BlockMeaning, SackMeaning}
-use Rattle.sctp_model.specs.Plan.{Entry, End, Plan, entry_at, parts_from}
-use Rattle.sctp_model.specs.SenderView.{Queued, SenderView}
+use Rattle.sctp_model.specs.numbers.Lists.{at}
+use Rattle.sctp_model.specs.messages.Format.{Format, Lane}
+use Rattle.sctp_model.specs.wire.Chunk.{BlockMeaning, SackMeaning}
+use Rattle.sctp_model.specs.messages.Plan.{Entry, End, Plan, entry_at, parts_from}
+use Rattle.sctp_model.specs.sender.SenderView.{Queued, SenderView}
 use Rattle.sctp_model.specs.sender.Assigning.{is_on, without_first, stream_after}
 use Rattle.sctp_model.specs.sender.Filling.{Wish, next_wish, gone, with_sent}
-use Rattle.sctp_model.specs.Acknowledgement.{in_blocks}
+use Rattle.sctp_model.specs.messages.Acknowledgement.{in_blocks}
 use Rattle.sctp_model.specs.sender.SackTaken.{is_stale, is_beyond, index_of, some_ends_past, sack_covers, covered_by, sack_fault, sack_taken, shutdown_fault, shutdown_taken, Stale, Beyond}
 use Rattle.sctp_model.specs.sender.Abandoning.{Name, without, ended, given_up, timed_out, unsettled_at}
 use Rattle.sctp_model.specs.sender.Reached.{IsReached, Begins, Queues, Goes, Covers, Closes, Abandons, Repeats}

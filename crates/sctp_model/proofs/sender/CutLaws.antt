@@ -6,7 +6,7 @@ use Rattle.std.proofs.Math.Nat.{mul-le-mul_right}
 use Rattle.std.proofs.Math.ListN.{drop_of_length-le}
 use Rattle.std.proofs.lemmas.Grind.{div_ceil_times}
 use Rattle.std.proofs.lemmas.List.{length-map, length-take, take-append-drop, drop-drop}
-use Rattle.sctp_model.specs.Lists.{Has, joined}
+use Rattle.sctp_model.specs.numbers.Lists.{Has, joined}
 use Rattle.sctp_model.specs.sender.Words.{count_up}
 use Rattle.sctp_model.specs.sender.Queueing.{fragment_of, cut}
 use Rattle.sctp_model.proofs.sender.WordLaws.{length-count_up}

@@ -1,10 +1,10 @@
 -- Small senders, computed: numbers over the wrap, turns, marks, covers and uncovers, end marks, refusals.
 use Rattle.std.proofs.Common.{◌≡◌, ℕ, true, false, List, [], ◌∷◌, Some, None, map, refl}
-use Rattle.sctp_model.specs.Format.{Plain, Interleaved, ordered_lane}
-use Rattle.sctp_model.specs.Chunk.{BlockMeaning, SackMeaning}
-use Rattle.sctp_model.specs.Serial.{tsn}
-use Rattle.sctp_model.specs.Plan.{Part, End}
-use Rattle.sctp_model.specs.SenderView.{SenderView, fresh_sender}
+use Rattle.sctp_model.specs.messages.Format.{Plain, Interleaved, ordered_lane}
+use Rattle.sctp_model.specs.wire.Chunk.{BlockMeaning, SackMeaning}
+use Rattle.sctp_model.specs.numbers.Serial.{tsn}
+use Rattle.sctp_model.specs.messages.Plan.{Part, End}
+use Rattle.sctp_model.specs.sender.SenderView.{SenderView, fresh_sender}
 use Rattle.sctp_model.specs.sender.Entries.{in_flight, in_part}
 use Rattle.sctp_model.specs.sender.Queueing.{refusal, queued, promised, NoSuchStream, Empty}
 use Rattle.sctp_model.specs.sender.Filling.{Wish, fill, begun_tickets}

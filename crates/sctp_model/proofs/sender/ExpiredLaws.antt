@@ -6,12 +6,12 @@ use Rattle.std.specs.Option.{option_map_or}
 use Rattle.std.specs.List.{list_any}
 use Rattle.std.proofs.lemmas.Bool.{and_parts}
 use Rattle.std.proofs.lemmas.Bool.Decides.{nat_tests}
-use Rattle.sctp_model.specs.Format.{Format}
-use Rattle.sctp_model.specs.Plan.{Message, Entry, Part, Plan, message_at}
-use Rattle.sctp_model.specs.SenderView.{Queued, SenderView}
+use Rattle.sctp_model.specs.messages.Format.{Format}
+use Rattle.sctp_model.specs.messages.Plan.{Message, Entry, Part, Plan, message_at}
+use Rattle.sctp_model.specs.sender.SenderView.{Queued, SenderView}
 use Rattle.sctp_model.specs.sender.Words.{first_there, some_passes, count_up}
 use Rattle.sctp_model.specs.sender.Entries.{entry_message, any_from, is_in_part, continued}
-use Rattle.sctp_model.specs.sender.Abandoning.{Name, name_at, name_of, waits, has_ticket, is_abandoned, has_uncovered, is_covered, given_up, give_up, without, abandon_after, is_past, is_due, expire_one}
+use Rattle.sctp_model.specs.sender.Abandoning.{Name, name_at, name_of, waits, has_ticket, is_abandoned, has_uncovered, is_covered, given_up, give_up, without, abandon_after, is_past, is_overdue, expire_one}
 use Rattle.sctp_model.specs.sender.Reached.{IsReached}
 use Rattle.sctp_model.proofs.sender.WordLaws.{count_push, fold-append}
 use Rattle.sctp_model.proofs.sender.Bounds.{is_bounded}
@@ -78,7 +78,7 @@ late_found now t (q ∷ qs) apart late = by_ticket (q.message.ticket == t) refl 
         by_past true is = refl
         by_past false is = absurd (let also = late_one qs is in let none : waits t qs ≡ false = subst (λ (x : ℕ). waits x qs ≡ false) same apart.0 in cc)
 
-pub due_waits : (f : Format) (v : SenderView) (now t : ℕ) → IsReached f v → late_waits now t v.queue ≡ true → is_due v now t ≡ true
+pub due_waits : (f : Format) (v : SenderView) (now t : ℕ) → IsReached f v → late_waits now t v.queue ≡ true → is_overdue v now t ≡ true
 due_waits f v now t h late = first_passes (is_past now) (option_map (λ q. q.message) (find (λ q. q.message.ticket == t) v.queue)) (option_and_then (λ n. message_at v.plan n.lane n.number) (name_of v t) ∷ []) (late_found now t v.queue (is_ticketed f v h).apart late)
 
 found_waits : (t : ℕ) (q : Queued) (qs : List Queued) → find (λ x. x.message.ticket == t) qs ≡ Some q → waits t qs ≡ true
@@ -90,7 +90,7 @@ found_waits t q (x ∷ qs) is = by_test (x.message.ticket == t) is (λ there. fo
     by_test false here further = further here
 
 -- a message with a number that is past its time: none that waits has its ticket
-pub due_named : (f : Format) (v : SenderView) (now t : ℕ) (n : Name) → IsReached f v → name_of v t ≡ Some n → some_passes (is_past now) (message_at v.plan n.lane n.number) ≡ true → is_due v now t ≡ true
+pub due_named : (f : Format) (v : SenderView) (now t : ℕ) (n : Name) → IsReached f v → name_of v t ≡ Some n → some_passes (is_past now) (message_at v.plan n.lane n.number) ≡ true → is_overdue v now t ≡ true
 due_named f v now t n h is past = by_wait (find (λ q. q.message.ticket == t) v.queue) refl
   where
     by_wait : (o : Option Queued) → find (λ q. q.message.ticket == t) v.queue ≡ o
@@ -99,12 +99,12 @@ due_named f v now t n h is past = by_wait (find (λ q. q.message.ticket == t) v.
     by_wait None found = rw is (first_passes (is_past now) (message_at v.plan n.lane n.number) [] past)
 
 -- an entry shows it
-pub due_entry : (f : Format) (v : SenderView) (now t i : ℕ) (es : List Entry) → IsReached f v → AllOwn v.plan v.tickets v.plan.entries es → any_from (λ j e. is_late now t (entry_message v.plan e)) i es ≡ true → is_due v now t ≡ true
+pub due_entry : (f : Format) (v : SenderView) (now t i : ℕ) (es : List Entry) → IsReached f v → AllOwn v.plan v.tickets v.plan.entries es → any_from (λ j e. is_late now t (entry_message v.plan e)) i es ≡ true → is_overdue v now t ≡ true
 due_entry f v now t i [] h own late = absurd (cc)
 due_entry f v now t i (e ∷ es) h own late = by_test (is_late now t (entry_message v.plan e)) refl late (λ rest. due_entry f v now t (suc i) es h own.1 rest)
   where
     by_test : (b : Bool) → is_late now t (entry_message v.plan e) ≡ b → (b || any_from (λ j d. is_late now t (entry_message v.plan d)) (suc i) es) ≡ true
-        → (any_from (λ j d. is_late now t (entry_message v.plan d)) (suc i) es ≡ true → is_due v now t ≡ true) → is_due v now t ≡ true
+        → (any_from (λ j d. is_late now t (entry_message v.plan d)) (suc i) es ≡ true → is_overdue v now t ≡ true) → is_overdue v now t ≡ true
     by_test true is here further = due_named f v now t (name_at e) h (own.0 t (late_has now t (entry_message v.plan e) is)).2 (late_past now t (entry_message v.plan e) is)
     by_test false is here further = further here
 
@@ -114,12 +114,12 @@ all_own_drop p k (suc n) all [] own = own
 all_own_drop p k (suc n) all (e ∷ es) own = all_own_drop p k n all es own.1
 
 -- one above CUM
-pub due_above : (f : Format) (v : SenderView) (now t : ℕ) → IsReached f v → any_from (λ j e. is_late now t (entry_message v.plan e)) (suc v.cum) (drop v.cum v.plan.entries) ≡ true → is_due v now t ≡ true
+pub due_above : (f : Format) (v : SenderView) (now t : ℕ) → IsReached f v → any_from (λ j e. is_late now t (entry_message v.plan e)) (suc v.cum) (drop v.cum v.plan.entries) ≡ true → is_overdue v now t ≡ true
 due_above f v now t h late =
     due_entry f v now t (suc v.cum) (drop v.cum v.plan.entries) h (all_own_drop v.plan v.tickets v.cum v.plan.entries v.plan.entries (is_ticketed f v h).owned) late
 
 -- what a stream goes on with
-pub due_rest : (f : Format) (v : SenderView) (now t s : ℕ) (e : Entry) → IsReached f v → continued v.plan s ≡ Some e → is_late now t (entry_message v.plan e) ≡ true → is_due v now t ≡ true
+pub due_rest : (f : Format) (v : SenderView) (now t s : ℕ) (e : Entry) → IsReached f v → continued v.plan s ≡ Some e → is_late now t (entry_message v.plan e) ≡ true → is_overdue v now t ≡ true
 due_rest f v now t s e h on late = due_named f v now t (name_at e) h (continued_owns f v s e h on t (late_has now t (entry_message v.plan e) late)).2 (late_past now t (entry_message v.plan e) late)
 
 -- ---- what isn't shown is let be
@@ -206,7 +206,7 @@ acknowledged_late f v now t n h quiet is past = rw (whole (is_in_part v n.lane n
         never false = refl
 
 pub expires_idle : (f : Format) (v : SenderView) (now t : ℕ) → IsReached f v → IsLetBe v now t → expire_one now v t ≡ v
-expires_idle f v now t h quiet = by_due (is_due v now t) refl
+expires_idle f v now t h quiet = by_due (is_overdue v now t) refl
   where
     by_rule : (n : Name) → is_covered v n ≡ true → give_up v n ≡ v
     by_rule n on = rw on (no_rule v.partial (is_abandoned v n))
@@ -216,7 +216,7 @@ expires_idle f v now t h quiet = by_due (is_due v now t) refl
         no_rule true false = refl
         no_rule false b = refl
 
-    by_name : (o : Option Name) → name_of v t ≡ o → is_due v now t ≡ true → option_map_or (give_up v) o (record v { queue = without t v.queue }) ≡ v
+    by_name : (o : Option Name) → name_of v t ≡ o → is_overdue v now t ≡ true → option_map_or (give_up v) o (record v { queue = without t v.queue }) ≡ v
     by_name (Some n) is due =
         let p = due_is_past f v now t n h due is in
         by_rule n (acknowledged_late f v now t n h quiet is (subst (λ (o : Option Message). some_passes (is_past now) o ≡ true) (sym p.named) p.past))
@@ -226,7 +226,7 @@ expires_idle f v now t h quiet = by_due (is_due v now t) refl
         let off = quiet.queue in
         cc)
 
-    by_due : (b : Bool) → is_due v now t ≡ b → (if b then abandon_after v t else v) ≡ v
+    by_due : (b : Bool) → is_overdue v now t ≡ b → (if b then abandon_after v t else v) ≡ v
     by_due true due = by_name (name_of v t) refl due
     by_due false off = refl
 

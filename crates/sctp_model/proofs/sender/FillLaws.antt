@@ -4,9 +4,9 @@ use Rattle.std.specs.Prelude.{nat_le, fold, ◌&&◌, option_and_then}
 use Rattle.std.specs.Option.{option_map_or}
 use Rattle.std.proofs.lemmas.Bool.{and_parts}
 use Rattle.std.proofs.lemmas.Bool.Decides.{nat_tests}
-use Rattle.sctp_model.specs.Limits.{WINDOW}
-use Rattle.sctp_model.specs.Format.{Format, Plain, Interleaved}
-use Rattle.sctp_model.specs.SenderView.{SenderView}
+use Rattle.sctp_model.specs.numbers.Limits.{WINDOW}
+use Rattle.sctp_model.specs.messages.Format.{Format, Plain, Interleaved}
+use Rattle.sctp_model.specs.sender.SenderView.{SenderView}
 use Rattle.sctp_model.specs.sender.Words.{when}
 use Rattle.sctp_model.specs.sender.Readers.{outstanding}
 use Rattle.sctp_model.specs.sender.Filling.{Wish, next_wish, is_let_flow, may_go, room_of, bytes_of_wish, goes, gone, Follows, IsFill, no_more, before_these, fill_at_most, fill}

@@ -1,9 +1,9 @@
 -- Bytes in flight of a view that calls reach: entries up to CUM have none, and what is assigned has none before it goes out.
 use Rattle.std.proofs.Common.{◌≡◌, ℕ, zero, suc, ◌+◌, ◌<◌, ◌≤◌, List, [], ◌∷◌, ◌++◌, length, drop, Bool, true, false, Option, Some, refl, ap, ◌∙◌, arith}
 use Rattle.std.specs.Prelude.{not, ◌&&◌, if◌then◌else◌}
-use Rattle.sctp_model.specs.Format.{Format}
-use Rattle.sctp_model.specs.Plan.{Message, Entry, Plan, parts_from}
-use Rattle.sctp_model.specs.SenderView.{Queued, SenderView}
+use Rattle.sctp_model.specs.messages.Format.{Format}
+use Rattle.sctp_model.specs.messages.Plan.{Message, Entry, Plan, parts_from}
+use Rattle.sctp_model.specs.sender.SenderView.{Queued, SenderView}
 use Rattle.sctp_model.specs.sender.Entries.{entry_message, bytes_in, entry_bytes, sum_from, is_in_flight, flight_of, in_flight}
 use Rattle.sctp_model.specs.sender.Assigning.{with_message, with_entry, assigned}
 use Rattle.sctp_model.specs.sender.Reached.{IsReached}

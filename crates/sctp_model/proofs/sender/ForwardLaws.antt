@@ -2,14 +2,14 @@
 use Rattle.std.proofs.Common.{◌≡◌, ℕ, zero, suc, ◌+◌, ◌-◌, ◌<◌, ◌≤◌, ◌⊎◌, inl, inr, List, [], ◌∷◌, ◌++◌, take, drop, Bool, true, false, Option, Some, None, refl, sym, ap, ◌∙◌, subst, arith}
 use Rattle.std.specs.Prelude.{◌==◌, if◌then◌else◌, slice_get, max, nat_le}
 use Rattle.std.proofs.lemmas.Bool.Decides.{nat_tests}
-use Rattle.sctp_model.specs.Lists.{Has}
-use Rattle.sctp_model.specs.Format.{Format, Kind, Ordered, Unordered, Lane, is_numbered, same_lane}
-use Rattle.sctp_model.specs.Plan.{Entry, Plan, entry_at, IsOf}
-use Rattle.sctp_model.specs.SenderView.{SenderView}
-use Rattle.sctp_model.specs.Forward.{Skip, StandsIn, IsLaneBefore, IsListed, IsForward}
+use Rattle.sctp_model.specs.numbers.Lists.{Has}
+use Rattle.sctp_model.specs.messages.Format.{Format, Kind, Ordered, Unordered, Lane, is_numbered, same_lane}
+use Rattle.sctp_model.specs.messages.Plan.{Entry, Plan, entry_at, IsOf}
+use Rattle.sctp_model.specs.sender.SenderView.{SenderView}
+use Rattle.sctp_model.specs.messages.Forward.{Skip, StandsIn, IsLaneBefore, IsListed, IsForward}
 use Rattle.sctp_model.specs.sender.Entries.{entry_lane, entry_number}
 use Rattle.sctp_model.specs.sender.Readers.{point}
-use Rattle.sctp_model.specs.sender.Forwarding.{larger, largest_in, passed, skip_in, skip_of, skips_on, skips_below, forward_of}
+use Rattle.sctp_model.specs.sender.Forwarding.{larger, largest_in, passed_entries, skip_in, skip_of, skips_on, skips_below, forward_of}
 use Rattle.sctp_model.specs.sender.Reached.{IsReached}
 use Rattle.sctp_model.proofs.sender.WordLaws.{has_left, has_right, has_either}
 use Rattle.sctp_model.proofs.sender.AbandonCases.{lanes_same, same_lane-self}
@@ -197,12 +197,12 @@ of_lane : (l : Lane) (n : ℕ) (e : Entry) → entry_lane e ≡ l → entry_numb
 of_lane l n e lane number = subst (λ (m : ℕ). IsOf l m e) number (subst (λ (k : Lane). IsOf k (entry_number e) e) lane (of_itself e))
 
 -- an entry listed stands after CUM, up to the point
-standing : (f : Format) (v : SenderView) (y : Skip) → Has (skips_below f (passed v) v.streams) y → StandsIn v.plan v.cum (point v) y.lane y.number
+standing : (f : Format) (v : SenderView) (y : Skip) → Has (skips_below f (passed_entries v) v.streams) y → StandsIn v.plan v.cum (point v) y.lane y.number
 standing f v y has =
-    let found = below_has f (passed v) v.streams y has in
-    by_found (largest_found found.0 None (passed v) y.number found.1.number) found.1.lane
+    let found = below_has f (passed_entries v) v.streams y has in
+    by_found (largest_found found.0 None (passed_entries v) y.number found.1.number) found.1.lane
   where
-    by_found : {l : Lane} → (None ≡ Some y.number) ⊎ ((e : Entry) × Has (passed v) e × (entry_lane e ≡ l) × (entry_number e ≡ y.number)) → y.lane ≡ l → StandsIn v.plan v.cum (point v) y.lane y.number
+    by_found : {l : Lane} → (None ≡ Some y.number) ⊎ ((e : Entry) × Has (passed_entries v) e × (entry_lane e ≡ l) × (entry_number e ≡ y.number)) → y.lane ≡ l → StandsIn v.plan v.cum (point v) y.lane y.number
     by_found (inl none) lane = absurd (cc)
     by_found (inr e) lane =
         let place = passed_stands (drop v.cum v.plan.entries) (point v - v.cum) e.0 e.1 in
@@ -212,7 +212,7 @@ standing f v y has =
 
 -- of each numbered lane the largest number is listed
 highest : (f : Format) (v : SenderView) (l : Lane) (n : ℕ) → IsReached f v → is_numbered f l.kind ≡ true → StandsIn v.plan v.cum (point v) l n
-    → (y : Skip) × Has (skips_below f (passed v) v.streams) y × (y.lane ≡ l) × (n ≤ y.number)
+    → (y : Skip) × Has (skips_below f (passed_entries v) v.streams) y × (y.lane ≡ l) × (n ≤ y.number)
 highest f v l n h numbered at =
     let i = at.0 in
     let e = at.1 in
@@ -225,18 +225,18 @@ highest f v l n h numbered at =
     let inside = stands_passed (drop v.cum v.plan.entries) (point v - v.cum) (at.0 - suc v.cum) at.1 (omega arith) there in
     let named = named_at v.streams v.plan v.plan.entries (v.cum + (at.0 - suc v.cum)) at.1 (is_named f v h) here in
     let low : l.stream < v.streams = subst (λ (k : Lane). k.stream < v.streams) same.0 named.stream in
-    let most = largest_all l None (passed v) at.1 inside same.0 in
+    let most = largest_all l None (passed_entries v) at.1 inside same.0 in
     let y : Skip = record { lane = l; number = most.0 } in
-    let listed : Has (skip_of f (passed v) l) (record { lane = l; number = most.0 }) = rw (numbered, most.1) (inl refl) in
+    let listed : Has (skip_of f (passed_entries v) l) (record { lane = l; number = most.0 }) = rw (numbered, most.1) (inl refl) in
     let over = most.2 in
     let number = same.1 in
-    (record { lane = l; number = most.0 }, has_below f (passed v) v.streams l (record { lane = l; number = most.0 }) low listed, refl, omega arith)
+    (record { lane = l; number = most.0 }, has_below f (passed_entries v) v.streams l (record { lane = l; number = most.0 }) low listed, refl, omega arith)
 
 pub forward_is_forward : (f : Format) (v : SenderView) → IsReached f v → IsForward f v.plan v.cum (point v) (forward_of f v)
 forward_is_forward f v h = record {
   point = refl;
-  order = below_listed f (passed v) v.streams;
-  numbered = λ y has. let found = below_has f (passed v) v.streams y has in ap (λ (l : Lane). is_numbered f l.kind) found.1.lane ∙ found.1.numbered;
+  order = below_listed f (passed_entries v) v.streams;
+  numbered = λ y has. let found = below_has f (passed_entries v) v.streams y has in ap (λ (l : Lane). is_numbered f l.kind) found.1.lane ∙ found.1.numbered;
   stands = λ y has. standing f v y has;
   largest = λ l n numbered at. highest f v l n h numbered at;
 }

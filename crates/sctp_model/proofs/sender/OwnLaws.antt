@@ -3,9 +3,9 @@ use Rattle.std.proofs.Common.{◌≡◌, ℕ, zero, suc, ◌<◌, ◌≤◌, inl
 use Rattle.std.specs.Prelude.{◌==◌, if◌then◌else◌, find, option_map}
 use Rattle.std.specs.Option.{option_or}
 use Rattle.std.proofs.lemmas.List.Folds.{find-append}
-use Rattle.sctp_model.specs.Format.{Lane}
-use Rattle.sctp_model.specs.Plan.{Entry, Part, Plan, message_at, parts_from}
-use Rattle.sctp_model.specs.SenderView.{Queued}
+use Rattle.sctp_model.specs.messages.Format.{Lane}
+use Rattle.sctp_model.specs.messages.Plan.{Entry, Part, Plan, message_at, parts_from}
+use Rattle.sctp_model.specs.sender.SenderView.{Queued}
 use Rattle.sctp_model.specs.sender.Words.{when}
 use Rattle.sctp_model.specs.sender.Entries.{entry_lane, entry_number, entry_message, latest}
 use Rattle.sctp_model.specs.sender.Assigning.{with_message}

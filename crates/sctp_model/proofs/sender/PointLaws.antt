@@ -2,9 +2,9 @@
 use Rattle.std.proofs.Common.{◌≡◌, ℕ, zero, suc, ◌+◌, ◌-◌, ◌<◌, ◌≤◌, List, [], ◌∷◌, drop, Bool, true, false, Some, refl, sym, ap, ◌∙◌, subst, arith}
 use Rattle.std.specs.Prelude.{if◌then◌else◌, slice_get, nat_le}
 use Rattle.std.proofs.lemmas.Bool.Decides.{nat_tests}
-use Rattle.sctp_model.specs.Format.{Lane}
-use Rattle.sctp_model.specs.Plan.{Entry, Part, End, entry_at, IsOf}
-use Rattle.sctp_model.specs.SenderView.{SenderView, IsAllGivenUp, IsPoint}
+use Rattle.sctp_model.specs.messages.Format.{Lane}
+use Rattle.sctp_model.specs.messages.Plan.{Entry, Part, End, entry_at, IsOf}
+use Rattle.sctp_model.specs.sender.SenderView.{SenderView, IsAllGivenUp, IsPoint}
 use Rattle.sctp_model.specs.sender.Entries.{entry_lane, entry_number, is_given_up}
 use Rattle.sctp_model.specs.sender.Readers.{given_up_run, point}
 

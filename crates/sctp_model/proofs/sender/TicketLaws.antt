@@ -3,9 +3,9 @@ use Rattle.std.proofs.Common.{◌≡◌, ℕ, zero, suc, ◌<◌, ◌≤◌, Lis
 use Rattle.std.specs.Prelude.{◌==◌, ◌||◌}
 use Rattle.std.specs.Option.{option_or}
 use Rattle.std.proofs.lemmas.Bool.Decides.{nat_tests}
-use Rattle.sctp_model.specs.Format.{Format, Lane}
-use Rattle.sctp_model.specs.Plan.{Entry, Part, End, Plan, parts_from}
-use Rattle.sctp_model.specs.SenderView.{Queued, SenderView}
+use Rattle.sctp_model.specs.messages.Format.{Format, Lane}
+use Rattle.sctp_model.specs.messages.Plan.{Entry, Part, End, Plan, parts_from}
+use Rattle.sctp_model.specs.sender.SenderView.{Queued, SenderView}
 use Rattle.sctp_model.specs.sender.Entries.{entry_lane, entry_number, entry_message}
 use Rattle.sctp_model.specs.sender.Assigning.{with_message, with_entry, is_on, without_first}
 use Rattle.sctp_model.specs.sender.Abandoning.{Name, waits, without, name_of, name_among, has_ticket, given_up}

@@ -1,9 +1,9 @@
 -- What the next wish is: the lowest index to be repeated, or the lowest that never went out, or what is assigned next; and what may be assigned.
 use Rattle.std.proofs.Common.{◌≡◌, ℕ, suc, ◌<◌, ◌≤◌, ◌⊎◌, inl, inr, List, [], ◌∷◌, length, drop, Option, Some, None, refl, subst}
 use Rattle.std.specs.Prelude.{slice_get, option_map}
-use Rattle.sctp_model.specs.Format.{Format, Plain, Interleaved}
-use Rattle.sctp_model.specs.Plan.{Entry}
-use Rattle.sctp_model.specs.SenderView.{Queued, SenderView}
+use Rattle.sctp_model.specs.messages.Format.{Format, Plain, Interleaved}
+use Rattle.sctp_model.specs.messages.Plan.{Entry}
+use Rattle.sctp_model.specs.sender.SenderView.{Queued, SenderView}
 use Rattle.sctp_model.specs.sender.Words.{first_there, lowest}
 use Rattle.sctp_model.specs.sender.Entries.{is_unsent, passes_at, continued}
 use Rattle.sctp_model.specs.sender.Assigning.{with_message, first_on, going_on, beginning, turn_of, turns, assigned}

@@ -1,13 +1,13 @@
 -- What one chunk does to an end that has begun: a data type for each kind of chunk, and a row for each state that takes it (RFC 9260, 4, 6 and 9).
 use Rattle.std.specs.Prelude.{◌≡◌, ℕ, ◌+◌, ◌<◌, ◌⊎◌, nat_lt, Bool, true, false, ◌&&◌, ◌||◌, ◌==◌, if◌then◌else◌, List, [], ◌∷◌, ◌++◌, length, Some, None}
-use Rattle.sctp_model.specs.Numbers.{u16_bytes}
-use Rattle.sctp_model.specs.Typed.{Typed, typed_in}
-use Rattle.sctp_model.specs.Unknown.{chunk_rule}
-use Rattle.sctp_model.specs.Chunk.{PieceMeaning, SackMeaning, ForwardMeaning, ChunkMeaning, Data, IData, Init, InitAck, Sack, Heartbeat, HeartbeatAck, Abort, Shutdown, ShutdownAck, Error, CookieEcho, CookieAck, ShutdownComplete, ForwardTsn, IForwardTsn, Unknown}
-use Rattle.sctp_model.specs.Format.{Format, Plain, Interleaved}
-use Rattle.sctp_model.specs.ReceiverView.{ReceiverView}
+use Rattle.sctp_model.specs.numbers.Numbers.{u16_bytes}
+use Rattle.sctp_model.specs.wire.Typed.{Typed, typed_in}
+use Rattle.sctp_model.specs.wire.Unknown.{chunk_rule}
+use Rattle.sctp_model.specs.wire.Chunk.{PieceMeaning, SackMeaning, ForwardMeaning, ChunkMeaning, Data, IData, Init, InitAck, Sack, Heartbeat, HeartbeatAck, Abort, Shutdown, ShutdownAck, Error, CookieEcho, CookieAck, ShutdownComplete, ForwardTsn, IForwardTsn, Unknown}
+use Rattle.sctp_model.specs.messages.Format.{Format, Plain, Interleaved}
+use Rattle.sctp_model.specs.receiver.ReceiverView.{ReceiverView}
 use Rattle.sctp_model.specs.sender.SackTaken.{Stale, Beyond, BadBlock, sack_fault, sack_taken, shutdown_fault, shutdown_taken}
-use Rattle.sctp_model.specs.receiver.PieceTaken.{Answer, Duplicate, Ahead, NoSuchStream, Passed, NoRoom, Taken, PieceTaken}
+use Rattle.sctp_model.specs.receiver.PieceTaken.{PieceAnswer, Duplicate, Ahead, NoSuchStream, Passed, NoRoom, Kept, PieceTaken}
 use Rattle.sctp_model.specs.receiver.ForwardTaken.{OutOfDate, Bad, Moved, ForwardTaken}
 use Rattle.sctp_model.specs.end.EndView.{format_of, Tags, Completed, Aborted, StaleCookie, Stage, ShutdownSent, ShutdownReceived, ShutdownAckSent, Phase, Calling, Echoing, Open, DataAlarm, EndView}
 use Rattle.sctp_model.specs.end.Clock.{turned, closed, with_timer, settled, renewed}
@@ -30,22 +30,22 @@ abbrev pub acknowledges : Stage → EndView → EndView
 acknowledges g e = with_due (record e.due { sack = true; shutdown = e.due.shutdown || is_shutdown_sent g }) e
 
 -- a stream that isn't there is reported (6.5)
-abbrev pub piece_causes : EndView → PieceMeaning → Answer → List Typed
+abbrev pub piece_causes : EndView → PieceMeaning → PieceAnswer → List Typed
 piece_causes e p NoSuchStream = causes_with e (item INVALID_STREAM (u16_bytes p.stream ++ 0 ∷ 0 ∷ []))
 piece_causes e p Duplicate = e.due.causes
 piece_causes e p Ahead = e.due.causes
 piece_causes e p Passed = e.due.causes
 piece_causes e p NoRoom = e.due.causes
-piece_causes e p Taken = e.due.causes
+piece_causes e p Kept = e.due.causes
 
 -- What a DATA or an I-DATA does (6.2; RFC 8260, 2.1).
 pub data PieceActs (f : Format) (e : EndView) (p : PieceMeaning) : After → Type 0 where
-  NotHeard : hears takes_data e.phase ≡ false → PieceActs f e p PassedOver
-  Empty : (t : Tags) (g : Stage) → e.phase ≡ Open t g → takes_data g ≡ true → length p.bytes ≡ 0 →
+  PieceNotHeard : hears takes_data e.phase ≡ false → PieceActs f e p PassedOver
+  PieceEmpty : (t : Tags) (g : Stage) → e.phase ≡ Open t g → takes_data g ≡ true → length p.bytes ≡ 0 →
       PieceActs f e p (at_fault t (no_user_data p.tsn) e)
   WrongFormat : (t : Tags) (g : Stage) → e.phase ≡ Open t g → takes_data g ≡ true → 0 < length p.bytes → same_format f (format_of e) ≡ false →
       PieceActs f e p (at_fault t violation e)
-  Comes : (t : Tags) (g : Stage) (a : Answer) (r : ReceiverView) → e.phase ≡ Open t g → takes_data g ≡ true → 0 < length p.bytes →
+  PieceComes : (t : Tags) (g : Stage) (a : PieceAnswer) (r : ReceiverView) → e.phase ≡ Open t g → takes_data g ≡ true → 0 < length p.bytes →
       same_format f (format_of e) ≡ true → PieceTaken (format_of e) e.receiver p a r →
       PieceActs f e p (GoesOn (acknowledges g (with_causes (piece_causes e p a) (record e { receiver = r }))))
 
@@ -57,14 +57,14 @@ may_forward f e = same_format f (format_of e) && e.sender.partial
 
 -- What a FORWARD-TSN or an I-FORWARD-TSN does (RFC 3758, 3.6).
 pub data ForwardActs (f : Format) (e : EndView) (m : ForwardMeaning) : After → Type 0 where
-  NotHeard : hears takes_data e.phase ≡ false → ForwardActs f e m PassedOver
+  ForwardNotHeard : hears takes_data e.phase ≡ false → ForwardActs f e m PassedOver
   WrongKind : (t : Tags) (g : Stage) → e.phase ≡ Open t g → takes_data g ≡ true → may_forward f e ≡ false →
       ForwardActs f e m (at_fault t violation e)
   IsBad : (t : Tags) (g : Stage) (r : ReceiverView) → e.phase ≡ Open t g → takes_data g ≡ true → may_forward f e ≡ true →
       ForwardTaken (format_of e) e.receiver m Bad r → ForwardActs f e m (at_fault t violation e)
   IsOld : (t : Tags) (g : Stage) (r : ReceiverView) → e.phase ≡ Open t g → takes_data g ≡ true → may_forward f e ≡ true →
       ForwardTaken (format_of e) e.receiver m OutOfDate r → ForwardActs f e m (GoesOn (acknowledges g (record e { receiver = r })))
-  Comes : (t : Tags) (g : Stage) (r : ReceiverView) → e.phase ≡ Open t g → takes_data g ≡ true → may_forward f e ≡ true →
+  ForwardComes : (t : Tags) (g : Stage) (r : ReceiverView) → e.phase ≡ Open t g → takes_data g ≡ true → may_forward f e ≡ true →
       ForwardTaken (format_of e) e.receiver m Moved r → ForwardActs f e m (GoesOn (acknowledges g (record e { receiver = r })))
 
 -- ---- SACK (6.2.1 and 6.3.2)
@@ -77,11 +77,11 @@ sack_heard e s =
 
 -- What a SACK does (6.2.1).
 pub data SackActs (e : EndView) (s : SackMeaning) : After → Type 0 where
-  NotHeard : hears takes_acknowledgements e.phase ≡ false → SackActs e s PassedOver
-  IsStale : hears takes_acknowledgements e.phase ≡ true → sack_fault e.sender s ≡ Some Stale → SackActs e s (GoesOn e)
-  IsWrong : (t : Tags) (g : Stage) → e.phase ≡ Open t g → takes_acknowledgements g ≡ true →
+  SackNotHeard : hears takes_acknowledgements e.phase ≡ false → SackActs e s PassedOver
+  SackStale : hears takes_acknowledgements e.phase ≡ true → sack_fault e.sender s ≡ Some Stale → SackActs e s (GoesOn e)
+  SackWrong : (t : Tags) (g : Stage) → e.phase ≡ Open t g → takes_acknowledgements g ≡ true →
       (sack_fault e.sender s ≡ Some Beyond) ⊎ (sack_fault e.sender s ≡ Some BadBlock) → SackActs e s (at_fault t violation e)
-  Counts : hears takes_acknowledgements e.phase ≡ true → sack_fault e.sender s ≡ None → SackActs e s (GoesOn (sack_heard e s))
+  SackCounts : hears takes_acknowledgements e.phase ≡ true → sack_fault e.sender s ≡ None → SackActs e s (GoesOn (sack_heard e s))
 
 -- ---- HEARTBEAT, HEARTBEAT ACK (8.3), ERROR (3.3.10), ABORT (9.1)
 
@@ -91,8 +91,8 @@ heartbeat_heard e info = with_due (record e.due { heartbeat = if fits_alone e (H
 
 -- What a HEARTBEAT does (8.3).
 pub data HeartbeatActs (e : EndView) (info : List ℕ) : After → Type 0 where
-  NotHeard : hears (λ g. true) e.phase ≡ false → HeartbeatActs e info PassedOver
-  Counts : hears (λ g. true) e.phase ≡ true → HeartbeatActs e info (GoesOn (heartbeat_heard e info))
+  HeartbeatNotHeard : hears (λ g. true) e.phase ≡ false → HeartbeatActs e info PassedOver
+  HeartbeatCounts : hears (λ g. true) e.phase ≡ true → HeartbeatActs e info (GoesOn (heartbeat_heard e info))
 
 -- a cause of this type is among these
 abbrev pub has_cause : ℕ → List Typed → Bool
@@ -117,26 +117,26 @@ shutdown_heard t e tsn = turned (Open t ShutdownReceived) (settled (record e { s
 
 -- What a SHUTDOWN does (3.3.8 and 9.2).
 pub data ShutdownActs (e : EndView) (tsn : ℕ) : After → Type 0 where
-  NotOpen : hears (λ g. true) e.phase ≡ false → ShutdownActs e tsn PassedOver
-  IsWrong : (t : Tags) (g : Stage) → e.phase ≡ Open t g → takes_acknowledgements g ≡ true → shutdown_fault e.sender tsn ≡ Some Beyond →
+  ShutdownNotOpen : hears (λ g. true) e.phase ≡ false → ShutdownActs e tsn PassedOver
+  ShutdownWrong : (t : Tags) (g : Stage) → e.phase ≡ Open t g → takes_acknowledgements g ≡ true → shutdown_fault e.sender tsn ≡ Some Beyond →
       ShutdownActs e tsn (at_fault t violation e)
-  IsStale : (t : Tags) (g : Stage) → e.phase ≡ Open t g → takes_acknowledgements g ≡ true → shutdown_fault e.sender tsn ≡ Some Stale →
+  ShutdownStale : (t : Tags) (g : Stage) → e.phase ≡ Open t g → takes_acknowledgements g ≡ true → shutdown_fault e.sender tsn ≡ Some Stale →
       ShutdownActs e tsn (GoesOn (turned (Open t ShutdownReceived) e))
-  Counts : (t : Tags) (g : Stage) → e.phase ≡ Open t g → takes_acknowledgements g ≡ true → shutdown_fault e.sender tsn ≡ None →
+  ShutdownCounts : (t : Tags) (g : Stage) → e.phase ≡ Open t g → takes_acknowledgements g ≡ true → shutdown_fault e.sender tsn ≡ None →
       ShutdownActs e tsn (GoesOn (shutdown_heard t e tsn))
   Crosses : (t : Tags) → e.phase ≡ Open t ShutdownSent → ShutdownActs e tsn (GoesOn (answers_shutdown t e))
   Again : (t : Tags) → e.phase ≡ Open t ShutdownAckSent → ShutdownActs e tsn (GoesOn (with_due (record e.due { shutdown_ack = true }) e))
 
 -- What a SHUTDOWN ACK does (3.3.9 and 9.2).
 pub data ShutdownAckActs (e : EndView) : After → Type 0 where
-  NotAwaited : hears awaits_ack e.phase ≡ false → ShutdownAckActs e PassedOver
-  Completes : (t : Tags) (g : Stage) → e.phase ≡ Open t g → awaits_ack g ≡ true →
+  AckNotAwaited : hears awaits_ack e.phase ≡ false → ShutdownAckActs e PassedOver
+  AckCompletes : (t : Tags) (g : Stage) → e.phase ≡ Open t g → awaits_ack g ≡ true →
       ShutdownAckActs e (Replies (closed Completed e) (packet_to e.configuration t.peer (ShutdownComplete false)))
 
 -- What a SHUTDOWN COMPLETE does (3.3.13 and 9.2).
 pub data CompleteActs (e : EndView) : After → Type 0 where
-  NotAwaited : hears awaits_complete e.phase ≡ false → CompleteActs e PassedOver
-  Completes : hears awaits_complete e.phase ≡ true → CompleteActs e (Ends (closed Completed e))
+  CompleteNotAwaited : hears awaits_complete e.phase ≡ false → CompleteActs e PassedOver
+  CompleteCompleted : hears awaits_complete e.phase ≡ true → CompleteActs e (Ends (closed Completed e))
 
 -- ---- chunks of an unknown type (3.2)
 

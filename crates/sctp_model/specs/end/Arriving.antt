@@ -1,7 +1,7 @@
 -- A packet that comes, whole: whether it passes, what its chunks do one after the other, and what is told of it (RFC 9260, 4, 5.1, 8.4 and 8.5).
 use Rattle.std.specs.Prelude.{◌≡◌, ℕ, Bool, true, false, List, [], ◌∷◌, drop, Some, None}
-use Rattle.sctp_model.specs.Chunk.{ChunkMeaning}
-use Rattle.sctp_model.specs.Packet.{Packet}
+use Rattle.sctp_model.specs.wire.Chunk.{ChunkMeaning}
+use Rattle.sctp_model.specs.wire.Packet.{Packet}
 use Rattle.sctp_model.specs.end.Sealing.{Body}
 use Rattle.sctp_model.specs.end.EndView.{Draw, EndView, has_association}
 use Rattle.sctp_model.specs.end.Closing.{rested}
@@ -22,10 +22,10 @@ pub data AllAct (tag : ℕ) : EndView → Bool → List ChunkMeaning → EndView
   NoneLeft : (e : EndView) (b : Bool) → AllAct tag e b [] e (verdict_of b)
   Next : (e mid t : EndView) (b : Bool) (x : ChunkMeaning) (xs : List ChunkMeaning) (v : Verdict) →
       Acts e tag x (GoesOn mid) → AllAct tag (rested mid) true xs t v → AllAct tag e b (x ∷ xs) t v
-  Over : (e t : EndView) (b : Bool) (x : ChunkMeaning) (xs : List ChunkMeaning) (v : Verdict) →
+  Passes : (e t : EndView) (b : Bool) (x : ChunkMeaning) (xs : List ChunkMeaning) (v : Verdict) →
       Acts e tag x PassedOver → AllAct tag e b xs t v → AllAct tag e b (x ∷ xs) t v
   Last : (e t : EndView) (b : Bool) (x : ChunkMeaning) (xs : List ChunkMeaning) → Acts e tag x (Ends t) → AllAct tag e b (x ∷ xs) t Taken
-  Answered : (e t : EndView) (b : Bool) (x : ChunkMeaning) (xs : List ChunkMeaning) (p : Packet) →
+  EndsAnswered : (e t : EndView) (b : Bool) (x : ChunkMeaning) (xs : List ChunkMeaning) (p : Packet) →
       Acts e tag x (Replies t p) → AllAct tag e b (x ∷ xs) t (Answer p)
   Stopped : (e : EndView) (b : Bool) (x : ChunkMeaning) (xs : List ChunkMeaning) (n : ℕ) → Acts e tag x (Drops n) → AllAct tag e b (x ∷ xs) e (Dropped n)
 
@@ -35,7 +35,7 @@ pub data Arrives (e : EndView) (d : Draw) (p : Packet) : EndView → Verdict →
   NotOurs : has_ports e.configuration p ≡ true → passes e.phase p ≡ false → Arrives e d p e (Dropped TAG)
   Stray : has_ports e.configuration p ≡ true → passes e.phase p ≡ true → has_association e.phase ≡ false → opened_by e p ≡ None →
       Arrives e d p e (stray_verdict e d p)
-  Begins : (b : Body) (t : EndView) (v : Verdict) → has_ports e.configuration p ≡ true → passes e.phase p ≡ true → has_association e.phase ≡ false →
+  CookieBegins : (b : Body) (t : EndView) (v : Verdict) → has_ports e.configuration p ≡ true → passes e.phase p ≡ true → has_association e.phase ≡ false →
       opened_by e p ≡ Some b → AllAct p.tag (begun b e) true (drop 1 p.chunks) t v → Arrives e d p t v
   Heard : (t : EndView) (v : Verdict) → has_ports e.configuration p ≡ true → passes e.phase p ≡ true → has_association e.phase ≡ true →
       AllAct p.tag e false p.chunks t v → Arrives e d p t v

@@ -1,10 +1,10 @@
 -- A packet that is built: what is due, in its order, and then fragments (RFC 9260, 5.1, 6.1, 6.10 and 9.2; RFC 3758, 3.5; RFC 8260, 2.2 and 2.3.1).
 use Rattle.std.specs.Prelude.{◌≡◌, ℕ, ◌-◌, nat_le, Bool, true, false, ◌&&◌, List, [], ◌∷◌, ◌++◌, map, Option, Some, None}
-use Rattle.sctp_model.specs.Serial.{tsn}
-use Rattle.sctp_model.specs.Typed.{Typed}
-use Rattle.sctp_model.specs.Chunk.{SackMeaning, ChunkMeaning, Sack, HeartbeatAck, Shutdown, ShutdownAck, Error, CookieEcho, CookieAck}
-use Rattle.sctp_model.specs.Packet.{Packet, size_of_packet}
-use Rattle.sctp_model.specs.ReceiverView.{IsCumulative}
+use Rattle.sctp_model.specs.numbers.Serial.{tsn}
+use Rattle.sctp_model.specs.wire.Typed.{Typed}
+use Rattle.sctp_model.specs.wire.Chunk.{SackMeaning, ChunkMeaning, Sack, HeartbeatAck, Shutdown, ShutdownAck, Error, CookieEcho, CookieAck}
+use Rattle.sctp_model.specs.wire.Packet.{Packet, size_of_packet}
+use Rattle.sctp_model.specs.receiver.ReceiverView.{IsCumulative}
 use Rattle.sctp_model.specs.sender.Filling.{Wish, Fill, fill}
 use Rattle.sctp_model.specs.sender.SentChunks.{chunk_of, forward_chunk_of}
 use Rattle.sctp_model.specs.receiver.SackMade.{IsSack, sack_sent}
@@ -107,7 +107,7 @@ pub data Builds (e : EndView) : List ChunkMeaning → EndView → Type 0 where
       Builds e (own_init e.configuration d ∷ []) (started InitAlarm (with_due (record e.due { init = false }) e))
   Echoes : (t : Tags) (cookie : List ℕ) (zs : List ChunkMeaning) (full : Bool) (x : EndView) → e.phase ≡ Echoing t cookie →
       Puts echoing_slots e [] zs full x → Builds e zs x
-  Ends : (t : Tags) (g : Stage) (zs : List ChunkMeaning) (x : EndView) → e.phase ≡ Open t g → Puts open_slots e [] zs true x → Builds e zs x
+  EndsFull : (t : Tags) (g : Stage) (zs : List ChunkMeaning) (x : EndView) → e.phase ≡ Open t g → Puts open_slots e [] zs true x → Builds e zs x
   Fills : (t : Tags) (g : Stage) (zs : List ChunkMeaning) (x : EndView) → e.phase ≡ Open t g → Puts open_slots e [] zs false x →
       Builds e (zs ++ fragments x zs) (sent x zs)
 

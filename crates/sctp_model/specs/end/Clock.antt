@@ -1,6 +1,6 @@
 -- The timers of an end: when they start, stop and expire (RFC 9260, 6.3, 5.1 and 9.2; RFC 3758, 3.5).
 use Rattle.std.specs.Prelude.{ℕ, suc, ◌+◌, ◌-◌, ◌*◌, ◌^◌, min, max, ◌==◌, nat_lt, nat_le, Bool, true, false, ◌&&◌, if◌then◌else◌, Option, None, Some}
-use Rattle.sctp_model.specs.SenderView.{SenderView}
+use Rattle.sctp_model.specs.sender.SenderView.{SenderView}
 use Rattle.sctp_model.specs.sender.Readers.{point, unsettled}
 use Rattle.sctp_model.specs.end.EndView.{ShutdownSent, ShutdownAckSent, Phase, Calling, Echoing, Open, Over, Ended, Due, nothing_due, Alarm, InitAlarm, CookieAlarm, DataAlarm, ShutdownAlarm, AckAlarm, Timer, FIRST_WAIT, EndView}
 
@@ -28,8 +28,8 @@ abbrev pub stopped : Timer → Timer
 stopped t = record t { expiry = None }
 
 -- the timer once it has expired: it counts one more, rests, and will wait twice as long, up to the longest wait (RFC 9260, 6.3.3)
-abbrev pub expired : Timer → Timer
-expired t = record { wait = min (2 * t.wait) LONGEST_WAIT; repeats = suc t.repeats; expiry = None }
+abbrev pub expired_timer : Timer → Timer
+expired_timer t = record { wait = min (2 * t.wait) LONGEST_WAIT; repeats = suc t.repeats; expiry = None }
 
 -- an expiry that is set has come by now
 abbrev pub is_over_at : ℕ → Option ℕ → Bool

@@ -1,7 +1,7 @@
 -- What an end may be set up with: the limits of a configuration.
 use Rattle.std.specs.Prelude.{◌+◌, ◌^◌, ◌<◌, ◌≤◌}
-use Rattle.sctp_model.specs.Chunk.{padded}
-use Rattle.sctp_model.specs.Limits.{STREAM_LIMIT, LEAST_PACKET, GREATEST_PACKET, LEAST_FRAGMENT, GREATEST_FRAGMENT, FRAGMENT_OVERHEAD, LEAST_BUFFER, GREATEST_BUFFER}
+use Rattle.sctp_model.specs.wire.Chunk.{padded}
+use Rattle.sctp_model.specs.numbers.Limits.{STREAM_LIMIT, LEAST_PACKET, GREATEST_PACKET, LEAST_FRAGMENT, GREATEST_FRAGMENT, FRAGMENT_OVERHEAD, LEAST_BUFFER, GREATEST_BUFFER}
 use Rattle.sctp_model.specs.end.EndView.{Configuration}
 
 -- Ports that aren't 0, and sizes and streams within their limits; a full fragment fits a packet of its own.

@@ -1,9 +1,9 @@
 -- An end of an association: where it stands in its life, what it is to send, its timers, its sender and its receiver (RFC 9260, 4).
 use Rattle.std.specs.Prelude.{ℕ, Bool, true, false, List, [], Option, None}
-use Rattle.sctp_model.specs.Typed.{Typed}
-use Rattle.sctp_model.specs.Format.{Format, Plain, Interleaved}
-use Rattle.sctp_model.specs.SenderView.{SenderView, fresh_sender}
-use Rattle.sctp_model.specs.ReceiverView.{ReceiverView, fresh_receiver}
+use Rattle.sctp_model.specs.wire.Typed.{Typed}
+use Rattle.sctp_model.specs.messages.Format.{Format, Plain, Interleaved}
+use Rattle.sctp_model.specs.sender.SenderView.{SenderView, fresh_sender}
+use Rattle.sctp_model.specs.receiver.ReceiverView.{ReceiverView, fresh_receiver}
 use Rattle.sctp_model.specs.end.Sealing.{Sealing}
 
 -- What an end is set up with. Sizes are in bytes, `outbound` and `inbound` count streams.

@@ -1,11 +1,11 @@
 -- How an association begins: INIT, INIT ACK, COOKIE ECHO, COOKIE ACK (RFC 9260, 5.1).
 use Rattle.std.specs.Prelude.{◌≡◌, ℕ, ◌-◌, ◌*◌, ◌^◌, ◌<◌, ◌⊎◌, min, nat_le, Bool, true, false, ◌&&◌, ◌||◌, ◌==◌, if◌then◌else◌, List, [], ◌∷◌, ◌++◌, Option, Some, None}
-use Rattle.sctp_model.specs.Numbers.{u16_bytes, u32_bytes}
-use Rattle.sctp_model.specs.Typed.{Typed, typed_in}
-use Rattle.sctp_model.specs.Unknown.{parameters_reported}
-use Rattle.sctp_model.specs.Chunk.{InitMeaning, ChunkMeaning, Init, InitAck, CookieEcho, Error}
-use Rattle.sctp_model.specs.SenderView.{fresh_sender}
-use Rattle.sctp_model.specs.ReceiverView.{fresh_receiver}
+use Rattle.sctp_model.specs.numbers.Numbers.{u16_bytes, u32_bytes}
+use Rattle.sctp_model.specs.wire.Typed.{Typed, typed_in}
+use Rattle.sctp_model.specs.wire.Unknown.{parameters_reported}
+use Rattle.sctp_model.specs.wire.Chunk.{InitMeaning, ChunkMeaning, Init, InitAck, CookieEcho, Error}
+use Rattle.sctp_model.specs.sender.SenderView.{fresh_sender}
+use Rattle.sctp_model.specs.receiver.ReceiverView.{fresh_receiver}
 use Rattle.sctp_model.specs.end.Sealing.{Body, Sealing}
 use Rattle.sctp_model.specs.end.EndView.{Terms, Configuration, Draw, Tags, AbortedHere, Stage, Established, Phase, Calling, Echoing, Open, Role, Caller, Paired, Listener, EndView}
 use Rattle.sctp_model.specs.end.Clock.{turned, closed}
@@ -158,13 +158,13 @@ is_addressed e tag b =
 
 -- What a listener makes of a cookie (5.1.5): it opens, it would if it weren't too old, or it is nobody's.
 pub data CookieRead : Type 0 where
-  Opens Stale : Body → CookieRead
+  CookieOpens CookieLate : Body → CookieRead
   Strange : CookieRead
 
 -- what a listener reads in a body, or in none
 abbrev pub body_read : EndView → ℕ → Option Body → CookieRead
 body_read e tag None = Strange
-body_read e tag (Some b) = if is_addressed e tag b then (if nat_le (age e b) COOKIE_LIFE then Opens b else Stale b) else Strange
+body_read e tag (Some b) = if is_addressed e tag b then (if nat_le (age e b) COOKIE_LIFE then CookieOpens b else CookieLate b) else Strange
 
 -- what a listener reads in the bytes of a cookie
 abbrev pub cookie_read : Sealing → EndView → ℕ → List ℕ → CookieRead
@@ -186,8 +186,8 @@ has_tags t b = (b.listener.tag == t.own) && (b.caller.tag == t.peer)
 
 -- the cookie is the association's own, however old
 abbrev pub is_ours : Tags → CookieRead → Bool
-is_ours t (Opens b) = has_tags t b
-is_ours t (Stale b) = has_tags t b
+is_ours t (CookieOpens b) = has_tags t b
+is_ours t (CookieLate b) = has_tags t b
 is_ours t Strange = false
 
 -- the seal of a listener

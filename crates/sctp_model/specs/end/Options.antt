@@ -1,7 +1,7 @@
 -- What the parameters of INIT and INIT ACK say, and what both ends want (RFC 9260, 3.2.1, 3.3.2 and 3.3.3; RFC 3758, 3.1; RFC 8260, 2.2.1).
 use Rattle.std.specs.Prelude.{ℕ, Bool, true, false, not, ◌&&◌, ◌||◌, ◌==◌, if◌then◌else◌, List, [], ◌∷◌, ◌++◌, map, Option, Some, None}
-use Rattle.sctp_model.specs.Typed.{Typed, typed_in, typed_bytes}
-use Rattle.sctp_model.specs.Unknown.{parameters_acted_on, first_of}
+use Rattle.sctp_model.specs.wire.Typed.{Typed, typed_in, typed_bytes}
+use Rattle.sctp_model.specs.wire.Unknown.{parameters_acted_on, first_of}
 use Rattle.sctp_model.specs.end.EndView.{Configuration}
 use Rattle.sctp_model.specs.end.Reports.{item}
 

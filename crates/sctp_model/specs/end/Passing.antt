@@ -1,7 +1,7 @@
 -- Which packets an end looks into: ports and verification tags (RFC 9260, 8.5 and 8.5.1).
 use Rattle.std.specs.Prelude.{ℕ, Bool, true, false, not, ◌&&◌, ◌==◌, if◌then◌else◌, List, [], ◌∷◌}
-use Rattle.sctp_model.specs.Chunk.{ChunkMeaning, Init, Abort, ShutdownComplete}
-use Rattle.sctp_model.specs.Packet.{Packet}
+use Rattle.sctp_model.specs.wire.Chunk.{ChunkMeaning, Init, Abort, ShutdownComplete}
+use Rattle.sctp_model.specs.wire.Packet.{Packet}
 use Rattle.sctp_model.specs.end.EndView.{Configuration, Phase, Calling, Echoing, Open}
 
 -- It comes from the port that this end's peer has, and goes to this end's own.

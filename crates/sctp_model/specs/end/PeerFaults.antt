@@ -1,9 +1,9 @@
 -- What a chunk leaves, and what the peer may not do: such a fault closes the association with an ABORT (RFC 9260, 3.3.7, 3.3.10 and 6.2; RFC 8260, 2.2.1).
 use Rattle.std.specs.Prelude.{ℕ, false, [], ◌∷◌}
-use Rattle.sctp_model.specs.Numbers.{u32_bytes}
-use Rattle.sctp_model.specs.Typed.{Typed}
-use Rattle.sctp_model.specs.Chunk.{ChunkMeaning, Abort}
-use Rattle.sctp_model.specs.Packet.{Packet}
+use Rattle.sctp_model.specs.numbers.Numbers.{u32_bytes}
+use Rattle.sctp_model.specs.wire.Typed.{Typed}
+use Rattle.sctp_model.specs.wire.Chunk.{ChunkMeaning, Abort}
+use Rattle.sctp_model.specs.wire.Packet.{Packet}
 use Rattle.sctp_model.specs.end.EndView.{Configuration, Tags, AbortedHere, EndView}
 use Rattle.sctp_model.specs.end.Clock.{closed}
 use Rattle.sctp_model.specs.end.Reports.{written, item, NO_USER_DATA, PROTOCOL_VIOLATION}

@@ -1,8 +1,8 @@
 -- What an end tells its peer of what it couldn't use: causes and parameters as bytes, and which still fit a packet (RFC 9260, 3.2, 3.2.2 and 3.3.10).
 use Rattle.std.specs.Prelude.{ℕ, nat_le, Bool, if◌then◌else◌, List, [], ◌∷◌, ◌++◌}
-use Rattle.sctp_model.specs.Chunk.{ChunkMeaning, Error}
-use Rattle.sctp_model.specs.Packet.{size_of_packet}
-use Rattle.sctp_model.specs.Typed.{Typed, written_typed}
+use Rattle.sctp_model.specs.wire.Chunk.{ChunkMeaning, Error}
+use Rattle.sctp_model.specs.wire.Packet.{size_of_packet}
+use Rattle.sctp_model.specs.wire.Typed.{Typed, written_typed}
 use Rattle.sctp_model.specs.end.EndView.{EndView}
 
 -- ---- bytes

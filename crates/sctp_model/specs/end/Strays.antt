@@ -1,13 +1,13 @@
 -- A packet at an end without an association: its first chunk decides, and the end stays as it is (RFC 9260, 5.1 and 8.4).
 use Rattle.std.specs.Prelude.{ℕ, Bool, true, false, ◌||◌, ◌==◌, if◌then◌else◌, List, [], ◌∷◌, Option, Some, None}
-use Rattle.sctp_model.specs.Numbers.{u32_bytes}
-use Rattle.sctp_model.specs.Chunk.{InitMeaning, ChunkMeaning, Data, IData, Init, InitAck, Sack, Heartbeat, HeartbeatAck, Abort, Shutdown, ShutdownAck, Error, CookieEcho, CookieAck, ShutdownComplete, ForwardTsn, IForwardTsn, Unknown}
-use Rattle.sctp_model.specs.Packet.{Packet}
+use Rattle.sctp_model.specs.numbers.Numbers.{u32_bytes}
+use Rattle.sctp_model.specs.wire.Chunk.{InitMeaning, ChunkMeaning, Data, IData, Init, InitAck, Sack, Heartbeat, HeartbeatAck, Abort, Shutdown, ShutdownAck, Error, CookieEcho, CookieAck, ShutdownComplete, ForwardTsn, IForwardTsn, Unknown}
+use Rattle.sctp_model.specs.wire.Packet.{Packet}
 use Rattle.sctp_model.specs.end.Sealing.{Body, Sealing}
 use Rattle.sctp_model.specs.end.EndView.{Draw, Phase, Listening, Role, EndView}
 use Rattle.sctp_model.specs.end.Reports.{written, item, STALE_COOKIE, INVALID_PARAMETER}
 use Rattle.sctp_model.specs.end.PeerFaults.{TAG, STATE, COOKIE, packet_to, abort_for}
-use Rattle.sctp_model.specs.end.Opening.{CookieRead, Opens, Stale, Strange, cookie_read, staleness, seal_in, has_no_stream, init_ack}
+use Rattle.sctp_model.specs.end.Opening.{CookieRead, CookieOpens, CookieLate, Strange, cookie_read, staleness, seal_in, has_no_stream, init_ack}
 
 -- What is told of a packet that came: it acted, it was dropped for a reason, or this packet is to be sent at once (RFC 9260, 8.4).
 pub data Verdict : Type 0 where
@@ -43,8 +43,8 @@ init_verdict (Some s) e d m =
 
 -- a cookie that doesn't open: one that is too old alone is told by how much (5.1.5, item 3)
 abbrev pub cookie_verdict : EndView → CookieRead → Verdict
-cookie_verdict e (Stale b) = Answer (packet_to e.configuration b.caller.tag (Error (written (item STALE_COOKIE (u32_bytes (staleness e b)) ∷ []))))
-cookie_verdict e (Opens b) = Dropped COOKIE
+cookie_verdict e (CookieLate b) = Answer (packet_to e.configuration b.caller.tag (Error (written (item STALE_COOKIE (u32_bytes (staleness e b)) ∷ []))))
+cookie_verdict e (CookieOpens b) = Dropped COOKIE
 cookie_verdict e Strange = Dropped COOKIE
 
 -- a COOKIE ECHO that begins nothing
@@ -89,8 +89,8 @@ stray_verdict e d p = chunks_verdict e d p.tag p.chunks
 
 -- the body of a cookie that opens (5.1.5)
 abbrev pub body_of : CookieRead → Option Body
-body_of (Opens b) = Some b
-body_of (Stale b) = None
+body_of (CookieOpens b) = Some b
+body_of (CookieLate b) = None
 body_of Strange = None
 
 -- the body that a listener finds in a chunk

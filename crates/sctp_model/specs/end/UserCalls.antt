@@ -1,8 +1,8 @@
 -- What the user of an end calls, and what each call answers (RFC 9260, 11.1).
 use Rattle.std.specs.Prelude.{◌≡◌, ℕ, suc, nat_le, Bool, true, false, if◌then◌else◌, List, Option, Some, None}
-use Rattle.sctp_model.specs.Packet.{Packet, size_of_packet}
-use Rattle.sctp_model.specs.Calls.{Call}
-use Rattle.sctp_model.specs.ReceiverView.{Handed, ReceiverView}
+use Rattle.sctp_model.specs.wire.Packet.{Packet, size_of_packet}
+use Rattle.sctp_model.specs.world.Calls.{Call}
+use Rattle.sctp_model.specs.receiver.ReceiverView.{Handed, ReceiverView}
 use Rattle.sctp_model.specs.sender.Queueing.{Refusal, refusal, queued}
 use Rattle.sctp_model.specs.sender.Abandoning.{AbandonAnswer, abandon_answer, abandon_after}
 use Rattle.sctp_model.specs.receiver.SackMade.{TakeLeaves}
@@ -82,7 +82,7 @@ abandoned_at e ticket =
 -- ---- take (11.1.6)
 
 -- What taking a message leaves (11.1.6).
-pub record Takes (e : EndView) (stream : ℕ) (answer : Option Handed) (t : EndView) : Type 0 where
+pub record UserTakes (e : EndView) (stream : ℕ) (answer : Option Handed) (t : EndView) : Type 0 where
   pub receiver : ReceiverView
   pub takes : TakeLeaves e.receiver stream answer receiver
   pub leaves : t ≡ record e { receiver = receiver }

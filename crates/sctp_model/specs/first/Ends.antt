@@ -1,14 +1,14 @@
 -- One end, while one ordered stream carries messages of one fragment each: fresh, at work on a packet that comes, and building one.
 use Rattle.std.specs.Prelude.{◌≡◌, ℕ, suc, ◌-◌, ◌*◌, ◌≤◌, ◌⊎◌, Bool, true, false, not, ◌&&◌, nat_lt, List, [], ◌∷◌, ◌++◌, length, take, Option, None, Some}
-use Rattle.sctp_model.specs.Format.{Plain, ordered_lane}
-use Rattle.sctp_model.specs.Plan.{bytes_of}
-use Rattle.sctp_model.specs.Pieces.{Piece, IsNumberBelow}
-use Rattle.sctp_model.specs.Chunk.{PieceMeaning, SackMeaning, ChunkMeaning, Data, Sack}
-use Rattle.sctp_model.specs.Packet.{HEADER_ROOM}
-use Rattle.sctp_model.specs.SenderView.{Queued, SenderView, fresh_sender}
-use Rattle.sctp_model.specs.ReceiverView.{ReceiverView, IsCumulative, fresh_receiver, room_left}
-use Rattle.sctp_model.specs.Receiving.{recorded, Takes}
-use Rattle.sctp_model.specs.Calls.{Asked}
+use Rattle.sctp_model.specs.messages.Format.{Plain, ordered_lane}
+use Rattle.sctp_model.specs.messages.Plan.{bytes_of}
+use Rattle.sctp_model.specs.messages.Pieces.{Piece, IsNumberBelow}
+use Rattle.sctp_model.specs.wire.Chunk.{PieceMeaning, SackMeaning, ChunkMeaning, Data, Sack}
+use Rattle.sctp_model.specs.wire.Packet.{HEADER_ROOM}
+use Rattle.sctp_model.specs.sender.SenderView.{Queued, SenderView, fresh_sender}
+use Rattle.sctp_model.specs.receiver.ReceiverView.{ReceiverView, IsCumulative, fresh_receiver, room_left}
+use Rattle.sctp_model.specs.receiver.Receiving.{recorded, TakesPiece}
+use Rattle.sctp_model.specs.world.Calls.{Asked}
 use Rattle.sctp_model.specs.first.Sending.{IsFill, numbered_one, went_out, acknowledged}
 
 -- the two ends' configuration, the same for both; sizes in bytes
@@ -85,7 +85,7 @@ IsNumberFrom n (Some m) = n ≤ m
 pub data PieceTaken (r : ReceiverView) (x : Piece) : ReceiverView → Type 0 where
   Duplicate : IsDuplicate r x.index → PieceTaken r x r
   Passed : (IsDuplicate r x.index → ⊥) → IsNumberBelow (r.next x.lane.stream) x.number → PieceTaken r x (recorded r x)
-  Taken : (t : ReceiverView) → (IsDuplicate r x.index → ⊥) → IsNumberFrom (r.next x.lane.stream) x.number → Takes Plain r x t → PieceTaken r x t
+  Taken : (t : ReceiverView) → (IsDuplicate r x.index → ⊥) → IsNumberFrom (r.next x.lane.stream) x.number → TakesPiece Plain r x t → PieceTaken r x t
 
 -- one chunk acts on an end that is open
 abbrev pub Act : EndView → ChunkMeaning → EndView → Type 0

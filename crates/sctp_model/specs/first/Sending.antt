@@ -1,10 +1,10 @@
 -- What a sender does, while a message is one fragment of one ordered stream (RFC 9260, 6.1 and 6.2.1).
 use Rattle.std.specs.Prelude.{◌≡◌, ℕ, suc, ◌+◌, ◌<◌, ◌≤◌, ◌⊎◌, ◌||◌, ◌&&◌, ◌==◌, nat_lt, nat_le, if◌then◌else◌, List, [], ◌∷◌, ◌++◌, length, take, drop, Option, None, Some}
-use Rattle.sctp_model.specs.Chunk.{padded}
-use Rattle.sctp_model.specs.Format.{ordered_lane, at_lane}
-use Rattle.sctp_model.specs.Plan.{Message, bytes_of, Part}
-use Rattle.sctp_model.specs.SenderView.{Queued, SenderView}
-use Rattle.sctp_model.specs.Acknowledgement.{covers}
+use Rattle.sctp_model.specs.wire.Chunk.{padded}
+use Rattle.sctp_model.specs.messages.Format.{ordered_lane, at_lane}
+use Rattle.sctp_model.specs.messages.Plan.{Message, bytes_of, Part}
+use Rattle.sctp_model.specs.sender.SenderView.{Queued, SenderView}
+use Rattle.sctp_model.specs.messages.Acknowledgement.{covers}
 
 -- ---- accepting a message
 

@@ -1,11 +1,11 @@
 -- Two ends, what lies between them, and what may happen, while one ordered stream carries messages of one fragment each.
 use Rattle.std.specs.Prelude.{◌≡◌, ℕ, suc, ◌⊎◌, Bool, true, false, List, [], ◌∷◌, ◌++◌, length, Option, None, Some}
-use Rattle.sctp_model.specs.Lists.{item_at, at}
-use Rattle.sctp_model.specs.Format.{ordered_lane}
-use Rattle.sctp_model.specs.Chunk.{ChunkMeaning}
-use Rattle.sctp_model.specs.Packet.{size_of_packet}
-use Rattle.sctp_model.specs.SenderView.{SenderView}
-use Rattle.sctp_model.specs.ReceiverView.{Handed}
+use Rattle.sctp_model.specs.numbers.Lists.{item_at, at}
+use Rattle.sctp_model.specs.messages.Format.{ordered_lane}
+use Rattle.sctp_model.specs.wire.Chunk.{ChunkMeaning}
+use Rattle.sctp_model.specs.wire.Packet.{size_of_packet}
+use Rattle.sctp_model.specs.sender.SenderView.{SenderView}
+use Rattle.sctp_model.specs.receiver.ReceiverView.{Handed}
 use Rattle.sctp_model.specs.first.Sending.{Refusal, AlreadyOpen, NotOpen, refusal, accepted, queued}
 use Rattle.sctp_model.specs.first.Ends.{Configuration, State, Closed, Listen, Established, EndView, Packet, fresh_end, Acts, Builds}
 

@@ -1,11 +1,11 @@
 -- What is due on a stream, said without a walk over its numbers (RFC 9260, 6.6; RFC 3758, 3.6).
 use Rattle.std.specs.Prelude.{◌≡◌, ℕ, ◌<◌, ◌≤◌, List, ◌∷◌}
-use Rattle.sctp_model.specs.Lists.{Has}
-use Rattle.sctp_model.specs.Format.{Format, ordered_lane}
-use Rattle.sctp_model.specs.Pieces.{Piece}
-use Rattle.sctp_model.specs.ReceiverView.{Handed, ReceiverView}
-use Rattle.sctp_model.specs.Receiving.{IsWholeNumber, IsLowest, HasNoWhole, message_of}
-use Rattle.sctp_model.specs.Safe.{IsRising}
+use Rattle.sctp_model.specs.numbers.Lists.{Has}
+use Rattle.sctp_model.specs.messages.Format.{Format, ordered_lane}
+use Rattle.sctp_model.specs.messages.Pieces.{Piece}
+use Rattle.sctp_model.specs.receiver.ReceiverView.{Handed, ReceiverView}
+use Rattle.sctp_model.specs.receiver.Receiving.{IsWholeNumber, IsLowest, HasNoWhole, message_of}
+use Rattle.sctp_model.specs.world.Safe.{IsRising}
 
 -- the smallest number with a property
 pub record IsSmallest (P : ℕ → Type 0) (m : ℕ) : Type 0 where

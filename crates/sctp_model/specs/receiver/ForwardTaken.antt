@@ -1,15 +1,15 @@
 -- A FORWARD comes to a receiver: its sender gave up all that is missing up to an index, and names the messages that are waited for in vain
 -- (RFC 3758, 3.6; RFC 8260, 2.3).
 use Rattle.std.specs.Prelude.{◌≡◌, ℕ, Bool, true, false, not, ◌||◌, nat_le, max, List, [], ◌∷◌, filter, Option, Some, None, if◌then◌else◌}
-use Rattle.sctp_model.specs.Chunk.{SkipMeaning, ForwardMeaning}
-use Rattle.sctp_model.specs.Format.{Format, Kind, Ordered, Unordered, Lane}
-use Rattle.sctp_model.specs.Framing.{lets_go}
-use Rattle.sctp_model.specs.Pieces.{Piece}
-use Rattle.sctp_model.specs.Forward.{Skip, skipped}
-use Rattle.sctp_model.specs.ReceiverView.{ReceiverView, IsCumulative}
+use Rattle.sctp_model.specs.wire.Chunk.{SkipMeaning, ForwardMeaning}
+use Rattle.sctp_model.specs.messages.Format.{Format, Kind, Ordered, Unordered, Lane}
+use Rattle.sctp_model.specs.messages.Framing.{lets_go}
+use Rattle.sctp_model.specs.messages.Pieces.{Piece}
+use Rattle.sctp_model.specs.messages.Forward.{Skip, skipped}
+use Rattle.sctp_model.specs.receiver.ReceiverView.{ReceiverView, IsCumulative}
 use Rattle.sctp_model.specs.receiver.Rows.{first_of}
 use Rattle.sctp_model.specs.receiver.Reading.{index_at, is_behind, is_ahead, is_late, lane_of, number_in}
-use Rattle.sctp_model.specs.Receiving.{GivesAll}
+use Rattle.sctp_model.specs.receiver.Receiving.{GivesAll}
 
 -- What it answers to a FORWARD (RFC 3758, 3.6).
 pub data ForwardAnswer : Type 0 where

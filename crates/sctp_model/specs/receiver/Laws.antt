@@ -1,10 +1,10 @@
 -- Views as calls leave them. Every call of a receiver keeps these, and from such a view each step has one result.
 use Rattle.std.specs.Prelude.{◌≡◌, ℕ, ◌≤◌, true, false, List}
-use Rattle.sctp_model.specs.Lists.{Has}
-use Rattle.sctp_model.specs.Format.{Format, Plain, Interleaved, Unordered, ordered_lane}
-use Rattle.sctp_model.specs.Pieces.{Piece, fragment_of}
-use Rattle.sctp_model.specs.ReceiverView.{ReceiverView, held_bytes}
-use Rattle.sctp_model.specs.Receiving.{is_below, HasNoWhole, HasNoWholeWith}
+use Rattle.sctp_model.specs.numbers.Lists.{Has}
+use Rattle.sctp_model.specs.messages.Format.{Format, Plain, Interleaved, Unordered, ordered_lane}
+use Rattle.sctp_model.specs.messages.Pieces.{Piece, fragment_of}
+use Rattle.sctp_model.specs.receiver.ReceiverView.{ReceiverView, held_bytes}
+use Rattle.sctp_model.specs.receiver.Receiving.{is_below, HasNoWhole, HasNoWholeWith}
 
 -- ---- what is kept
 
@@ -14,12 +14,12 @@ IsOnePlace Plain x y = x.index ≡ y.index
 IsOnePlace Interleaved x y = (x.lane ≡ y.lane) × (x.number ≡ y.number) × (fragment_of x ≡ fragment_of y)
 
 -- no place is filled twice
-abbrev pub IsApart : Format → List Piece → Type 0
-IsApart f kept = (x y : Piece) → Has kept x → Has kept y → IsOnePlace f x y → x ≡ y
+abbrev pub IsFilledOnce : Format → List Piece → Type 0
+IsFilledOnce f kept = (x y : Piece) → Has kept x → Has kept y → IsOnePlace f x y → x ≡ y
 
 -- Each place is filled once, and by a chunk whose index was recorded.
 pub record IsOrdinary (f : Format) (r : ReceiverView) : Type 0 where
-  pub apart : IsApart f r.kept
+  pub apart : IsFilledOnce f r.kept
   pub recorded : (y : Piece) → Has r.kept y → r.seen y.index ≡ true
 
 -- ---- what is due

@@ -1,28 +1,28 @@
 -- A data chunk comes to a receiver: which answer it gets, and what that leaves (RFC 9260, 6.2 and 6.6; RFC 3758, 3.6; RFC 8260, 2.2).
 use Rattle.std.specs.Prelude.{◌≡◌, ℕ, ◌+◌, Bool, false, ◌||◌, ◌&&◌, nat_lt, nat_le, ◌==◌, List, [], ◌∷◌, ◌++◌, length, take}
-use Rattle.sctp_model.specs.Limits.{DUPLICATE_LIMIT}
-use Rattle.sctp_model.specs.Chunk.{PieceMeaning}
-use Rattle.sctp_model.specs.Format.{Format, Plain, Interleaved, is_numbered, same_lane}
-use Rattle.sctp_model.specs.Pieces.{Piece, same_number, fragment_of}
-use Rattle.sctp_model.specs.ReceiverView.{ReceiverView, IsCumulative, held_bytes}
+use Rattle.sctp_model.specs.numbers.Limits.{DUPLICATE_LIMIT}
+use Rattle.sctp_model.specs.wire.Chunk.{PieceMeaning}
+use Rattle.sctp_model.specs.messages.Format.{Format, Plain, Interleaved, is_numbered, same_lane}
+use Rattle.sctp_model.specs.messages.Pieces.{Piece, same_number, fragment_of}
+use Rattle.sctp_model.specs.receiver.ReceiverView.{ReceiverView, IsCumulative, held_bytes}
 use Rattle.sctp_model.specs.receiver.Rows.{first_of}
 use Rattle.sctp_model.specs.receiver.Reading.{is_behind, is_ahead, is_late, piece_at}
-use Rattle.sctp_model.specs.Receiving.{recorded, Takes}
+use Rattle.sctp_model.specs.receiver.Receiving.{recorded, TakesPiece}
 
 -- What a receiver answers to a data chunk, in the order of the rows below (RFC 9260, 6.2).
-pub data Answer : Type 0 where
+pub data PieceAnswer : Type 0 where
   -- its TSN came before, or lies behind
-  Duplicate : Answer
+  Duplicate : PieceAnswer
   -- its TSN is too far ahead to be recorded
-  Ahead : Answer
+  Ahead : PieceAnswer
   -- there is no such stream
-  NoSuchStream : Answer
+  NoSuchStream : PieceAnswer
   -- its message isn't waited for any longer, or has this fragment
-  Passed : Answer
+  Passed : PieceAnswer
   -- its data doesn't fit the buffer
-  NoRoom : Answer
+  NoRoom : PieceAnswer
   -- it is recorded and kept
-  Taken : Answer
+  Kept : PieceAnswer
 
 -- ---- a chunk that isn't wanted
 
@@ -55,7 +55,7 @@ abbrev pub is_too_much : ReceiverView → PieceMeaning → Bool
 is_too_much r p = nat_lt r.buffer (held_bytes r + length p.bytes)
 
 -- The rows in their order; below them all it is taken.
-abbrev pub answer_to : Format → ReceiverView → (c : ℕ) → PieceMeaning → Answer
+abbrev pub answer_to : Format → ReceiverView → (c : ℕ) → PieceMeaning → PieceAnswer
 answer_to f r c p = first_of
     ((is_duplicate f r c p, Duplicate)
     ∷ (is_ahead r c p.tsn, Ahead)
@@ -63,7 +63,7 @@ answer_to f r c p = first_of
     ∷ (is_passed f r (piece_at f r c p), Passed)
     ∷ (is_too_much r p, NoRoom)
     ∷ [])
-    Taken
+    Kept
 
 -- ---- WHAT EACH ANSWER LEAVES
 
@@ -72,16 +72,16 @@ abbrev pub noted : ReceiverView → (wire : ℕ) → ReceiverView
 noted r wire = record r { duplicates = take DUPLICATE_LIMIT (r.duplicates ++ wire ∷ []) }
 
 -- Of a chunk that isn't wanted the index alone is recorded; one that is taken is kept, and what is due then is handed over.
-abbrev pub Leaves : Format → ReceiverView → Piece → (wire : ℕ) → Answer → ReceiverView → Type 0
+abbrev pub Leaves : Format → ReceiverView → Piece → (wire : ℕ) → PieceAnswer → ReceiverView → Type 0
 Leaves f r x wire Duplicate t = t ≡ noted r wire
 Leaves f r x wire Ahead t = t ≡ r
 Leaves f r x wire NoSuchStream t = t ≡ recorded r x
 Leaves f r x wire Passed t = t ≡ recorded r x
 Leaves f r x wire NoRoom t = t ≡ r
-Leaves f r x wire Taken t = Takes f r x t
+Leaves f r x wire Kept t = TakesPiece f r x t
 
 -- A PIECE TAKEN: read at the cumulative index c, it is answered by the table, and the answer leaves t.
-pub record PieceTaken (f : Format) (r : ReceiverView) (p : PieceMeaning) (a : Answer) (t : ReceiverView) : Type 0 where
+pub record PieceTaken (f : Format) (r : ReceiverView) (p : PieceMeaning) (a : PieceAnswer) (t : ReceiverView) : Type 0 where
   pub c : ℕ
   pub cumulative : IsCumulative r c
   pub answer : a ≡ answer_to f r c p

@@ -1,13 +1,13 @@
 -- From wire values to counts. A receiver reads a TSN forward from that of its cumulative index, an SSN or MID near a count of its own
 -- (RFC 9260, 2.6 and 6.2; RFC 8260, 2.1).
 use Rattle.std.specs.Prelude.{ℕ, ◌+◌, ◌-◌, max, not, nat_lt, nat_le, Bool, true, ◌||◌, Option, Some, None}
-use Rattle.sctp_model.specs.Limits.{WINDOW}
-use Rattle.sctp_model.specs.Serial.{COUNTS, tsn, ahead, before}
-use Rattle.sctp_model.specs.Chunk.{PieceMeaning}
-use Rattle.sctp_model.specs.Format.{Format, Kind, Ordered, Unordered, Lane, unordered_lane}
-use Rattle.sctp_model.specs.Framing.{lane_kind, number_near}
-use Rattle.sctp_model.specs.Pieces.{Piece}
-use Rattle.sctp_model.specs.ReceiverView.{ReceiverView}
+use Rattle.sctp_model.specs.numbers.Limits.{WINDOW}
+use Rattle.sctp_model.specs.numbers.Serial.{COUNTS, tsn, ahead, before}
+use Rattle.sctp_model.specs.wire.Chunk.{PieceMeaning}
+use Rattle.sctp_model.specs.messages.Format.{Format, Kind, Ordered, Unordered, Lane, unordered_lane}
+use Rattle.sctp_model.specs.messages.Framing.{lane_kind, number_near}
+use Rattle.sctp_model.specs.messages.Pieces.{Piece}
+use Rattle.sctp_model.specs.receiver.ReceiverView.{ReceiverView}
 
 -- ---- TSNs, where c is the cumulative index
 

@@ -1,11 +1,11 @@
 -- What a receiver tells in a SACK (RFC 9260, 3.3.4 and 6.2.1), and what is left when it was sent, and when the user takes a message.
 use Rattle.std.specs.Prelude.{◌≡◌, ℕ, ◌<◌, List, [], ◌∷◌, ◌++◌, take, Option, Some, None}
-use Rattle.sctp_model.specs.Limits.{BLOCK_LIMIT}
-use Rattle.sctp_model.specs.Lists.{Has, AreInOrder, at}
-use Rattle.sctp_model.specs.Serial.{tsn}
-use Rattle.sctp_model.specs.Chunk.{BlockMeaning, SackMeaning}
-use Rattle.sctp_model.specs.ReceiverView.{Handed, ReceiverView, IsCumulative, room_left}
-use Rattle.sctp_model.specs.Acknowledgement.{IsRun}
+use Rattle.sctp_model.specs.numbers.Limits.{BLOCK_LIMIT}
+use Rattle.sctp_model.specs.numbers.Lists.{Has, AreInOrder, at}
+use Rattle.sctp_model.specs.numbers.Serial.{tsn}
+use Rattle.sctp_model.specs.wire.Chunk.{BlockMeaning, SackMeaning}
+use Rattle.sctp_model.specs.receiver.ReceiverView.{Handed, ReceiverView, IsCumulative, room_left}
+use Rattle.sctp_model.specs.messages.Acknowledgement.{IsRun}
 
 -- ---- gap blocks
 

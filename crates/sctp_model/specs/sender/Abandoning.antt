@@ -2,10 +2,10 @@
 use Rattle.std.specs.Prelude.{ℕ, ◌==◌, nat_lt, nat_le, if◌then◌else◌, Bool, true, not, ◌&&◌, ◌||◌, List, [], ◌∷◌, Option, fold, find, unwrap_or, option_map, option_and_then}
 use Rattle.std.specs.Option.{option_map_or}
 use Rattle.std.specs.List.{list_any}
-use Rattle.sctp_model.specs.Lists.{at}
-use Rattle.sctp_model.specs.Format.{Lane, at_lane}
-use Rattle.sctp_model.specs.Plan.{Message, Entry, End, Plan, entry_at, message_at}
-use Rattle.sctp_model.specs.SenderView.{Queued, SenderView}
+use Rattle.sctp_model.specs.numbers.Lists.{at}
+use Rattle.sctp_model.specs.messages.Format.{Lane, at_lane}
+use Rattle.sctp_model.specs.messages.Plan.{Message, Entry, End, Plan, entry_at, message_at}
+use Rattle.sctp_model.specs.sender.SenderView.{Queued, SenderView}
 use Rattle.sctp_model.specs.sender.Words.{when, first_there, some_passes, count_up}
 use Rattle.sctp_model.specs.sender.Entries.{entry_lane, entry_number, entry_message, is_of, is_in_part, is_unsettled, some_entry, passes_at}
 use Rattle.sctp_model.specs.sender.Assigning.{with_entry, without_first}
@@ -106,12 +106,12 @@ message_with v t = first_there (
     ∷ [])
 
 -- that message is past its time
-abbrev pub is_due : SenderView → (now ticket : ℕ) → Bool
-is_due v now t = some_passes (is_past now) (message_with v t)
+abbrev pub is_overdue : SenderView → (now ticket : ℕ) → Bool
+is_overdue v now t = some_passes (is_past now) (message_with v t)
 
 -- then it is abandoned
 abbrev pub expire_one : (now : ℕ) → SenderView → (ticket : ℕ) → SenderView
-expire_one now v t = if is_due v now t then abandon_after v t else v
+expire_one now v t = if is_overdue v now t then abandon_after v t else v
 
 -- EXPIRE: so it goes with each ticket given, by rising number.
 abbrev pub expired : SenderView → (now : ℕ) → SenderView

@@ -1,8 +1,8 @@
 -- What a sender assigns next: a number to a message, and indexes to its fragments (RFC 9260, 6.9; RFC 8260, 2.2.2 and 3.2).
 use Rattle.std.specs.Prelude.{ℕ, suc, ◌+◌, ◌%◌, ◌==◌, if◌then◌else◌, Bool, List, [], ◌∷◌, ◌++◌, length, map, drop, slice_get, find, Option, option_map}
-use Rattle.sctp_model.specs.Format.{Format, Plain, Interleaved, at_lane}
-use Rattle.sctp_model.specs.Plan.{Entry, Plan, parts_from}
-use Rattle.sctp_model.specs.SenderView.{Queued, SenderView}
+use Rattle.sctp_model.specs.messages.Format.{Format, Plain, Interleaved, at_lane}
+use Rattle.sctp_model.specs.messages.Plan.{Entry, Plan, parts_from}
+use Rattle.sctp_model.specs.sender.SenderView.{Queued, SenderView}
 use Rattle.sctp_model.specs.sender.Words.{first_there, count_up}
 use Rattle.sctp_model.specs.sender.Entries.{continued}
 

@@ -1,9 +1,9 @@
 -- What a sender's view says of each entry of its plan: whose it is, what it carries, how far it came; and which messages are in part.
 use Rattle.std.specs.Prelude.{ℕ, suc, ◌+◌, ◌-◌, ◌==◌, nat_lt, if◌then◌else◌, Bool, false, not, ◌&&◌, ◌||◌, List, [], ◌∷◌, length, slice_index_or, Option, None, Some, option_and_then}
 use Rattle.std.specs.Option.{option_or, option_map_or}
-use Rattle.sctp_model.specs.Format.{Lane, same_lane}
-use Rattle.sctp_model.specs.Plan.{Message, Entry, Part, End, Plan, entry_at, message_at}
-use Rattle.sctp_model.specs.SenderView.{SenderView}
+use Rattle.sctp_model.specs.messages.Format.{Lane, same_lane}
+use Rattle.sctp_model.specs.messages.Plan.{Message, Entry, Part, End, Plan, entry_at, message_at}
+use Rattle.sctp_model.specs.sender.SenderView.{SenderView}
 use Rattle.sctp_model.specs.sender.Words.{when, some_passes}
 pub use Rattle.sctp_model.specs.sender.Words.{sum_below}
 

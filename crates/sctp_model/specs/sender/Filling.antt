@@ -1,13 +1,13 @@
 -- What goes into a packet: one wish after the other, as long as room, flow and window allow (RFC 9260, 6.1 and 6.3.3).
 use Rattle.std.specs.Prelude.{◌≡◌, ℕ, zero, suc, ◌+◌, ◌-◌, ◌==◌, ◌≤◌, nat_le, Bool, true, false, ◌&&◌, ◌||◌, List, [], ◌∷◌, length, drop, filter_map, Option, Some, unwrap_or, option_map, option_and_then}
 use Rattle.std.specs.Option.{option_map_or}
-use Rattle.sctp_model.specs.Limits.{WINDOW}
-use Rattle.sctp_model.specs.Lists.{at}
-use Rattle.sctp_model.specs.Format.{Format, ordered_lane}
-use Rattle.sctp_model.specs.Chunk.{ChunkMeaning, size_of_chunk}
-use Rattle.sctp_model.specs.Plan.{Entry, Part, End, Plan, entry_at}
-use Rattle.sctp_model.specs.SenderView.{SenderView}
-use Rattle.sctp_model.specs.Framing.{data_chunk}
+use Rattle.sctp_model.specs.numbers.Limits.{WINDOW}
+use Rattle.sctp_model.specs.numbers.Lists.{at}
+use Rattle.sctp_model.specs.messages.Format.{Format, ordered_lane}
+use Rattle.sctp_model.specs.wire.Chunk.{ChunkMeaning, size_of_chunk}
+use Rattle.sctp_model.specs.messages.Plan.{Entry, Part, End, Plan, entry_at}
+use Rattle.sctp_model.specs.sender.SenderView.{SenderView}
+use Rattle.sctp_model.specs.messages.Framing.{data_chunk}
 use Rattle.sctp_model.specs.sender.Words.{when, first_there, lowest}
 use Rattle.sctp_model.specs.sender.Entries.{entry_message, entry_bytes, is_unsent, passes_at, in_flight}
 use Rattle.sctp_model.specs.sender.Assigning.{assigned}

@@ -1,11 +1,11 @@
 -- What the chunk of a fragment says (RFC 9260, 3.3.1; RFC 8260, 2.1).
 use Rattle.std.specs.Prelude.{ℕ, suc, ◌==◌, Bool, true, false, length, Option, None, Some}
-use Rattle.sctp_model.specs.Format.{Format, Kind, Ordered, Unordered}
-use Rattle.sctp_model.specs.Serial.{tsn}
-use Rattle.sctp_model.specs.Chunk.{PieceMeaning}
-use Rattle.sctp_model.specs.Plan.{Message, Entry}
-use Rattle.sctp_model.specs.Pieces.{word_of}
-use Rattle.sctp_model.specs.Framing.{wire_number}
+use Rattle.sctp_model.specs.messages.Format.{Format, Kind, Ordered, Unordered}
+use Rattle.sctp_model.specs.numbers.Serial.{tsn}
+use Rattle.sctp_model.specs.wire.Chunk.{PieceMeaning}
+use Rattle.sctp_model.specs.messages.Plan.{Message, Entry}
+use Rattle.sctp_model.specs.messages.Pieces.{word_of}
+use Rattle.sctp_model.specs.messages.Framing.{wire_number}
 use Rattle.sctp_model.specs.sender.Entries.{entry_lane, entry_number, entry_fragment, fragments_in, bytes_in}
 
 -- the flag U of a kind

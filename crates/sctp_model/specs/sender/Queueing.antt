@@ -1,10 +1,10 @@
 -- A message that the user hands in: cut into fragments (RFC 9260, 6.9) and queued, or refused for the first reason that there is.
 use Rattle.std.specs.Prelude.{ℕ, suc, ◌+◌, ◌*◌, ◌==◌, min, nat_lt, nat_le, ◌||◌, List, [], ◌∷◌, ◌++◌, length, map, take, drop, Option}
 use Rattle.std.specs.Int.{div_ceil}
-use Rattle.sctp_model.specs.Limits.{LONGEST_MESSAGE, QUEUE_LIMIT, TICKET_LIMIT, TSN_LIMIT}
-use Rattle.sctp_model.specs.Format.{Lane}
-use Rattle.sctp_model.specs.Plan.{Message}
-use Rattle.sctp_model.specs.SenderView.{Queued, SenderView}
+use Rattle.sctp_model.specs.numbers.Limits.{LONGEST_MESSAGE, QUEUE_LIMIT, TICKET_LIMIT, TSN_LIMIT}
+use Rattle.sctp_model.specs.messages.Format.{Lane}
+use Rattle.sctp_model.specs.messages.Plan.{Message}
+use Rattle.sctp_model.specs.sender.SenderView.{Queued, SenderView}
 use Rattle.sctp_model.specs.sender.Words.{when, first_there, count_up}
 use Rattle.sctp_model.specs.sender.Entries.{sum_below, continued, fragments_from}
 

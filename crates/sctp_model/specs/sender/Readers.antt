@@ -1,7 +1,7 @@
 -- What a sender tells of itself, and of a message by its ticket.
 use Rattle.std.specs.Prelude.{ℕ, suc, ◌+◌, ◌-◌, ◌==◌, if◌then◌else◌, Bool, not, ◌&&◌, ◌||◌, List, [], ◌∷◌, length, drop}
-use Rattle.sctp_model.specs.Plan.{Entry}
-use Rattle.sctp_model.specs.SenderView.{SenderView}
+use Rattle.sctp_model.specs.messages.Plan.{Entry}
+use Rattle.sctp_model.specs.sender.SenderView.{SenderView}
 use Rattle.sctp_model.specs.sender.Words.{some_passes}
 use Rattle.sctp_model.specs.sender.Entries.{is_given_up, is_unsettled, some_entry, in_part}
 use Rattle.sctp_model.specs.sender.Abandoning.{Name, name_of, is_covered, is_abandoned}

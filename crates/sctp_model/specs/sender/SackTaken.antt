@@ -1,10 +1,10 @@
 -- What a SACK's acknowledgement, and that of a SHUTDOWN, do to a sender (RFC 9260, 6.2.1 and 9.2).
 use Rattle.std.specs.Prelude.{ℕ, ◌+◌, nat_lt, nat_le, if◌then◌else◌, Bool, false, not, ◌&&◌, ◌||◌, List, [], ◌∷◌, length, Option, is_some}
 use Rattle.std.specs.List.{list_any}
-use Rattle.sctp_model.specs.Chunk.{BlockMeaning, SackMeaning}
-use Rattle.sctp_model.specs.Serial.{tsn, ahead, before}
-use Rattle.sctp_model.specs.SenderView.{SenderView}
-use Rattle.sctp_model.specs.Acknowledgement.{covers}
+use Rattle.sctp_model.specs.wire.Chunk.{BlockMeaning, SackMeaning}
+use Rattle.sctp_model.specs.numbers.Serial.{tsn, ahead, before}
+use Rattle.sctp_model.specs.sender.SenderView.{SenderView}
+use Rattle.sctp_model.specs.messages.Acknowledgement.{covers}
 use Rattle.sctp_model.specs.sender.Words.{when, first_there}
 
 -- why it isn't taken: it is older than what was acknowledged; it acknowledges what has no TSN yet; its blocks aren't in order

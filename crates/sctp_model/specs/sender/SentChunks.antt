@@ -1,11 +1,11 @@
 -- The chunks that a sender writes, on plain numbers: a fragment's, and a FORWARD's (RFC 9260, 3.3.1; RFC 3758, 3.2; RFC 8260, 2.1 and 2.3.1).
 use Rattle.std.specs.Prelude.{map}
-use Rattle.sctp_model.specs.Format.{Format}
-use Rattle.sctp_model.specs.Serial.{tsn}
-use Rattle.sctp_model.specs.Chunk.{SkipMeaning, ForwardMeaning, ChunkMeaning}
-use Rattle.sctp_model.specs.Forward.{Skip}
-use Rattle.sctp_model.specs.SenderView.{SenderView}
-use Rattle.sctp_model.specs.Framing.{wire_number, forward_chunk}
+use Rattle.sctp_model.specs.messages.Format.{Format}
+use Rattle.sctp_model.specs.numbers.Serial.{tsn}
+use Rattle.sctp_model.specs.wire.Chunk.{SkipMeaning, ForwardMeaning, ChunkMeaning}
+use Rattle.sctp_model.specs.messages.Forward.{Skip}
+use Rattle.sctp_model.specs.sender.SenderView.{SenderView}
+use Rattle.sctp_model.specs.messages.Framing.{wire_number, forward_chunk}
 use Rattle.sctp_model.specs.sender.Forwarding.{forward_of}
 pub use Rattle.sctp_model.specs.sender.PieceSaid.{is_unordered, payload_said, piece_said}
 pub use Rattle.sctp_model.specs.sender.Filling.{chunk_of}

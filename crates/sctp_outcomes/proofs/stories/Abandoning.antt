@@ -1,20 +1,20 @@
 -- Under DATA a packet is lost, and its message abandoned: the FORWARD-TSN passes it over, and the next message is handed over.
 use Rattle.std.proofs.Common.{true, false, List, [], ◌∷◌, Option, Some, None, inl, inr, refl, arith}
-use Rattle.sctp_model.specs.Lists.{Has}
-use Rattle.sctp_model.specs.Format.{Plain, ordered_lane}
-use Rattle.sctp_model.specs.Chunk.{PieceMeaning, ForwardMeaning, Data, ForwardTsn}
-use Rattle.sctp_model.specs.Packet.{Packet, size_of_packet}
-use Rattle.sctp_model.specs.Calls.{Call}
-use Rattle.sctp_model.specs.ReceiverView.{Handed}
+use Rattle.sctp_model.specs.numbers.Lists.{Has}
+use Rattle.sctp_model.specs.messages.Format.{Plain, ordered_lane}
+use Rattle.sctp_model.specs.wire.Chunk.{PieceMeaning, ForwardMeaning, Data, ForwardTsn}
+use Rattle.sctp_model.specs.wire.Packet.{Packet, size_of_packet}
+use Rattle.sctp_model.specs.world.Calls.{Call}
+use Rattle.sctp_model.specs.receiver.ReceiverView.{Handed}
 use Rattle.sctp_model.specs.end.EndView.{Established, EndView}
 use Rattle.sctp_model.specs.end.Closing.{rested}
 use Rattle.sctp_model.specs.end.Strays.{Taken}
 use Rattle.sctp_model.specs.end.Arriving.{Heard, NoneLeft, Next}
 use Rattle.sctp_model.specs.end.Building.{packet_of}
 use Rattle.sctp_model.specs.end.UserCalls.{send_answer, abandons}
-use Rattle.sctp_model.specs.World.{A, B, World, with_end, with_packet, end_now, came, start}
-use Rattle.sctp_model.specs.Events.{Event, OpenBoth, Send, Abandon, Build, Deliver, Outcome, Done, Told, Fate, Sent, Acted}
-use Rattle.sctp_model.specs.Steps.{Step, BuildsOne, FromBag, Comes, Sends, Abandons, Run, Rest, Then}
+use Rattle.sctp_model.specs.world.World.{A, B, World, with_end, with_packet, end_now, came, start}
+use Rattle.sctp_model.specs.world.Events.{Event, OpenBoth, Send, Abandon, Build, Deliver, Outcome, Done, Told, Fate, Sent, Acted}
+use Rattle.sctp_model.specs.world.Steps.{Step, BuildsOne, FromBag, PacketComes, Sends, AbandonsOne, Run, Rest, Then}
 use Rattle.sctp_outcomes.specs.Examples.{AMessageIsPassedOver}
 use Rattle.sctp_outcomes.proofs.stories.Small.{small, small_configured, of_a, of_b, tags_a, tags_b, open_world, opens, after_send, after_abandon}
 use Rattle.sctp_outcomes.proofs.stories.Packets.{packet_built, builds_are}
@@ -75,7 +75,7 @@ abbrev p6 : World
 p6 = came p5 B (rested handed_on)
 
 comes_6 : Step p5 (Deliver A 2) (Some Acted) p6
-comes_6 = Comes (Deliver A 2) B packet_2 (rested handed_on) Taken (FromBag A 2 packet_2 refl) (Heard (rested handed_on) Taken refl refl refl
+comes_6 = PacketComes (Deliver A 2) B packet_2 (rested handed_on) Taken (FromBag A 2 packet_2 refl) (Heard (rested handed_on) Taken refl refl refl
     (Next (end_now p5 B) skipped (rested handed_on) false (ForwardTsn passes) (Data second_piece ∷ []) Taken
     (forward_acts Plain (end_now p5 B) tags_b Established 0 passes (bound_none p5.b.receiver refl) refl refl refl refl)
     (Next (rested skipped) handed_on (rested handed_on) true (Data second_piece) [] Taken
@@ -95,7 +95,7 @@ told_passing =
 
 passing_run : Run (start (small false)) passing told_passing p6
 passing_run =
-    Then (start (small false)) p0 p6 _ _ _ _ (opens false) (Then p0 p1 p6 _ _ _ _ (Sends A lost) (Then p1 p2 p6 _ _ _ _ built_2 (Then p2 p3 p6 _ _ _ _ (Abandons A 1)
+    Then (start (small false)) p0 p6 _ _ _ _ (opens false) (Then p0 p1 p6 _ _ _ _ (Sends A lost) (Then p1 p2 p6 _ _ _ _ built_2 (Then p2 p3 p6 _ _ _ _ (AbandonsOne A 1)
     (Then p3 p4 p6 _ _ _ _ (Sends A later) (Then p4 p5 p6 _ _ _ _ built_5 (Then p5 p6 p6 _ _ _ _ comes_6 (Rest p6)))))))
 
 never_comes : Has passing (Deliver A 1) → ⊥

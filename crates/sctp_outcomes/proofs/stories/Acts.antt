@@ -1,10 +1,10 @@
 -- What data, a FORWARD, a SACK and the chunks of closing do to an open end, computed.
 use Rattle.std.proofs.Common.{◌≡◌, ℕ, ◌<◌, ◌≤◌, ◌==◌, Bool, true, false, length, arith, subst}
 use Rattle.std.proofs.lemmas.Bool.{cond_both, eqb-true}
-use Rattle.sctp_model.specs.Lists.{at}
-use Rattle.sctp_model.specs.Chunk.{PieceMeaning, ForwardMeaning}
-use Rattle.sctp_model.specs.Format.{Format}
-use Rattle.sctp_model.specs.ReceiverView.{ReceiverView}
+use Rattle.sctp_model.specs.numbers.Lists.{at}
+use Rattle.sctp_model.specs.wire.Chunk.{PieceMeaning, ForwardMeaning}
+use Rattle.sctp_model.specs.messages.Format.{Format}
+use Rattle.sctp_model.specs.receiver.ReceiverView.{ReceiverView}
 use Rattle.sctp_model.specs.receiver.PieceTaken.{answer_to}
 use Rattle.sctp_model.specs.receiver.ForwardTaken.{ForwardAnswer, Moved, ForwardTaken, forward_answer}
 use Rattle.sctp_model.specs.end.EndView.{Tags, Stage, Open, EndView, format_of}
@@ -12,8 +12,8 @@ use Rattle.sctp_model.specs.end.Closing.{takes_data}
 use Rattle.sctp_model.specs.end.Reports.{with_causes}
 use Rattle.sctp_model.specs.end.PeerFaults.{GoesOn}
 use Rattle.sctp_model.specs.end.Acting.{same_format, acknowledges, piece_causes, may_forward, PieceActs, ForwardActs}
-use Rattle.sctp_model.specs.end.Acting.{Comes as Piece_comes}
-use Rattle.sctp_model.specs.end.Acting.{Comes as Forward_comes}
+use Rattle.sctp_model.specs.end.Acting.{PieceComes}
+use Rattle.sctp_model.specs.end.Acting.{ForwardComes}
 use Rattle.sctp_reference.specs.receiver.Steps.{IsBound, cumulative, piece_step, forward_step}
 use Rattle.sctp_reference.proofs.receiver.StepsLemmas.{cumulative_is, piece_steps, forward_steps}
 
@@ -39,7 +39,7 @@ pub data_acts : (f : Format) (e : EndView) (t : Tags) (g : Stage) (bound : ℕ) 
     0 < length p.bytes → same_format f (format_of e) ≡ true → PieceActs f e p (GoesOn (after_data g e bound p))
 data_acts f e t g bound p within is hears some same =
     let c = cumulative e.receiver bound in
-    Piece_comes t g (answer_to (format_of e) e.receiver c p) (piece_step (format_of e) e.receiver c p) is hears some same
+    PieceComes t g (answer_to (format_of e) e.receiver c p) (piece_step (format_of e) e.receiver c p) is hears some same
     (piece_steps (format_of e) e.receiver c p (cumulative_is e.receiver bound within))
 
 -- the end after a FORWARD that moves it
@@ -55,4 +55,4 @@ moves e bound m within is =
 pub forward_acts : (f : Format) (e : EndView) (t : Tags) (g : Stage) (bound : ℕ) (m : ForwardMeaning) → IsBound e.receiver bound → e.phase ≡ Open t g → takes_data g ≡ true →
     may_forward f e ≡ true → forward_answer e.receiver (cumulative e.receiver bound) m ≡ Moved → ForwardActs f e m (GoesOn (after_skip g e bound m))
 forward_acts f e t g bound m within is hears may moved =
-    Forward_comes t g (forward_step (format_of e) e.receiver (cumulative e.receiver bound) m) is hears may (moves e bound m within moved)
+    ForwardComes t g (forward_step (format_of e) e.receiver (cumulative e.receiver bound) m) is hears may (moves e bound m within moved)

@@ -1,27 +1,27 @@
 -- A message on its way: two ends open by packets, one sends, the message arrives, is taken and acknowledged, and both ends close, each completed.
 use Rattle.std.proofs.Common.{◌≡◌, ℕ, ◌≤◌, true, false, List, [], ◌∷◌, ◌++◌, Option, Some, None, inl, inr, refl, arith}
-use Rattle.sctp_model.specs.Numbers.{u16_bytes, u32_bytes, u16_at, u32_at}
-use Rattle.sctp_model.specs.Typed.{starts_typed, typed_of}
-use Rattle.sctp_model.specs.Serial.{tsn}
-use Rattle.sctp_model.specs.Format.{Interleaved, ordered_lane}
-use Rattle.sctp_model.specs.Chunk.{PieceMeaning, SackMeaning, IData, Sack, ShutdownAck, ShutdownComplete}
-use Rattle.sctp_model.specs.Chunk.{Shutdown as Says}
-use Rattle.sctp_model.specs.Packet.{Packet, size_of_packet}
-use Rattle.sctp_model.specs.Calls.{Call}
-use Rattle.sctp_model.specs.ReceiverView.{Handed}
+use Rattle.sctp_model.specs.numbers.Numbers.{u16_bytes, u32_bytes, u16_at, u32_at}
+use Rattle.sctp_model.specs.wire.Typed.{starts_typed, typed_of}
+use Rattle.sctp_model.specs.numbers.Serial.{tsn}
+use Rattle.sctp_model.specs.messages.Format.{Interleaved, ordered_lane}
+use Rattle.sctp_model.specs.wire.Chunk.{PieceMeaning, SackMeaning, IData, Sack, ShutdownAck, ShutdownComplete}
+use Rattle.sctp_model.specs.wire.Chunk.{Shutdown as Says}
+use Rattle.sctp_model.specs.wire.Packet.{Packet, size_of_packet}
+use Rattle.sctp_model.specs.world.Calls.{Call}
+use Rattle.sctp_model.specs.receiver.ReceiverView.{Handed}
 use Rattle.sctp_model.specs.receiver.SackMade.{first_taken}
 use Rattle.sctp_model.specs.end.EndView.{Tags, Established, ShutdownSent, ShutdownAckSent, Completed, EndView}
 use Rattle.sctp_model.specs.end.Clock.{closed}
 use Rattle.sctp_model.specs.end.Closing.{rested}
 use Rattle.sctp_model.specs.end.PeerFaults.{packet_to}
-use Rattle.sctp_model.specs.end.Acting.{Counts, Completes, sack_heard, shutdown_heard}
+use Rattle.sctp_model.specs.end.Acting.{SackCounts, ShutdownCounts, AckCompletes, CompleteCompleted, sack_heard, shutdown_heard}
 use Rattle.sctp_model.specs.end.Strays.{Taken, Answer}
-use Rattle.sctp_model.specs.end.Arriving.{Heard, NoneLeft, Next, Last, Answered}
+use Rattle.sctp_model.specs.end.Arriving.{Heard, NoneLeft, Next, Last, EndsAnswered}
 use Rattle.sctp_model.specs.end.Building.{packet_of}
 use Rattle.sctp_model.specs.end.UserCalls.{send_answer, send_leaves, shut}
-use Rattle.sctp_model.specs.World.{A, B, World, with_end, with_packet, with_log, end_now, came}
-use Rattle.sctp_model.specs.Events.{told, Event, Send, Take, Build, Deliver, Shutdown, Outcome, Done, Told, Message, Sent, Acted}
-use Rattle.sctp_model.specs.Steps.{accepted, Step, BuildsOne, FromBag, Comes, Sends, TakesOne, ShutsDown, Run, Rest, Then}
+use Rattle.sctp_model.specs.world.World.{A, B, World, with_end, with_packet, with_log, end_now, came}
+use Rattle.sctp_model.specs.world.Events.{told, Event, Send, Take, Build, Deliver, Shutdown, Outcome, Done, Told, Message, Sent, Acted}
+use Rattle.sctp_model.specs.world.Steps.{accepted, Step, BuildsOne, FromBag, PacketComes, Sends, TakesOne, ShutsDown, Run, Rest, Then}
 use Rattle.sctp_safety.proofs.machine.OpeningWorlds.{two, tags_a, opening, answers, w0, w9}
 use Rattle.sctp_safety.proofs.machine.Handshake.{run, configured}
 use Rattle.sctp_outcomes.specs.Examples.{AMessageArrives}
@@ -63,7 +63,7 @@ w12 = came w11 B (rested e12)
 
 step_12 : Step w11 (Deliver A 3) (Some Acted) w12
 unfolding u16_bytes u32_bytes u16_at u32_at starts_typed typed_of
-step_12 = Comes (Deliver A 3) B packet_3 (rested e12) Taken (FromBag A 3 packet_3 refl) (Heard (rested e12) Taken refl refl refl
+step_12 = PacketComes (Deliver A 3) B packet_3 (rested e12) Taken (FromBag A 3 packet_3 refl) (Heard (rested e12) Taken refl refl refl
     (Next (end_now w11 B) e12 (rested e12) false (IData piece) [] Taken
     (data_acts Interleaved (end_now w11 B) tags_b Established 0 piece (bound_none w11.b.receiver refl) refl refl (omega arith) refl) (NoneLeft (rested e12) true)))
 
@@ -108,8 +108,8 @@ w15 = came w14 A (rested e15)
 
 step_15 : Step w14 (Deliver B 3) (Some Acted) w15
 unfolding u16_bytes u32_bytes u16_at u32_at starts_typed typed_of
-step_15 = Comes (Deliver B 3) A packet_4 (rested e15) Taken (FromBag B 3 packet_4 refl) (Heard (rested e15) Taken refl refl refl
-    (Next (end_now w14 A) e15 (rested e15) false (Sack sack) [] Taken (Counts refl refl) (NoneLeft (rested e15) true)))
+step_15 = PacketComes (Deliver B 3) A packet_4 (rested e15) Taken (FromBag B 3 packet_4 refl) (Heard (rested e15) Taken refl refl refl
+    (Next (end_now w14 A) e15 (rested e15) false (Sack sack) [] Taken (SackCounts refl refl) (NoneLeft (rested e15) true)))
 
 -- ---- closing
 
@@ -140,8 +140,8 @@ w18 = came w17 B (rested e18)
 
 step_18 : Step w17 (Deliver A 4) (Some Acted) w18
 unfolding u16_bytes u32_bytes u16_at u32_at starts_typed typed_of
-step_18 = Comes (Deliver A 4) B packet_5 (rested e18) Taken (FromBag A 4 packet_5 refl) (Heard (rested e18) Taken refl refl refl
-    (Next (end_now w17 B) e18 (rested e18) false (Says (tsn 200 0)) [] Taken (Counts tags_b Established refl refl refl) (NoneLeft (rested e18) true)))
+step_18 = PacketComes (Deliver A 4) B packet_5 (rested e18) Taken (FromBag A 4 packet_5 refl) (Heard (rested e18) Taken refl refl refl
+    (Next (end_now w17 B) e18 (rested e18) false (Says (tsn 200 0)) [] Taken (ShutdownCounts tags_b Established refl refl refl) (NoneLeft (rested e18) true)))
 
 abbrev packet_6 : Packet
 packet_6 = packet_of w18.b (ShutdownAck ∷ [])
@@ -162,16 +162,16 @@ w20 = with_packet (came w19 A (closed Completed (end_now w19 A))) A packet_7
 
 step_20 : Step w19 (Deliver B 4) (Some (told w19 A (Answer packet_7))) w20
 unfolding u16_bytes u32_bytes u16_at u32_at starts_typed typed_of
-step_20 = Comes (Deliver B 4) A packet_6 (closed Completed (end_now w19 A)) (Answer packet_7) (FromBag B 4 packet_6 refl) (Heard (closed Completed (end_now w19 A)) (Answer packet_7) refl refl refl
-    (Answered (end_now w19 A) (closed Completed (end_now w19 A)) false ShutdownAck [] packet_7 (Completes tags_a ShutdownSent refl refl)))
+step_20 = PacketComes (Deliver B 4) A packet_6 (closed Completed (end_now w19 A)) (Answer packet_7) (FromBag B 4 packet_6 refl) (Heard (closed Completed (end_now w19 A)) (Answer packet_7) refl refl refl
+    (EndsAnswered (end_now w19 A) (closed Completed (end_now w19 A)) false ShutdownAck [] packet_7 (AckCompletes tags_a ShutdownSent refl refl)))
 
 abbrev w21 : World
 w21 = came w20 B (closed Completed (end_now w20 B))
 
 step_21 : Step w20 (Deliver A 5) (Some Acted) w21
 unfolding u16_bytes u32_bytes u16_at u32_at starts_typed typed_of
-step_21 = Comes (Deliver A 5) B packet_7 (closed Completed (end_now w20 B)) Taken (FromBag A 5 packet_7 refl) (Heard (closed Completed (end_now w20 B)) Taken refl refl refl
-    (Last (end_now w20 B) (closed Completed (end_now w20 B)) false (ShutdownComplete false) [] (Completes refl)))
+step_21 = PacketComes (Deliver A 5) B packet_7 (closed Completed (end_now w20 B)) Taken (FromBag A 5 packet_7 refl) (Heard (closed Completed (end_now w20 B)) Taken refl refl refl
+    (Last (end_now w20 B) (closed Completed (end_now w20 B)) false (ShutdownComplete false) [] (CompleteCompleted refl)))
 
 -- ---- the run
 

@@ -1,18 +1,18 @@
 -- Under I-DATA a message in part is abandoned: it takes an end mark, and the receiver lets its fragment go.
 use Rattle.std.proofs.Common.{◌≡◌, ℕ, ◌≤◌, true, false, List, [], ◌∷◌, replicate, Option, Some, None, inl, inr, refl, arith}
-use Rattle.sctp_model.specs.Format.{Interleaved, ordered_lane}
-use Rattle.sctp_model.specs.Chunk.{PieceMeaning, ForwardMeaning, IData, IForwardTsn}
-use Rattle.sctp_model.specs.Packet.{Packet, size_of_packet}
-use Rattle.sctp_model.specs.Calls.{Call}
+use Rattle.sctp_model.specs.messages.Format.{Interleaved, ordered_lane}
+use Rattle.sctp_model.specs.wire.Chunk.{PieceMeaning, ForwardMeaning, IData, IForwardTsn}
+use Rattle.sctp_model.specs.wire.Packet.{Packet, size_of_packet}
+use Rattle.sctp_model.specs.world.Calls.{Call}
 use Rattle.sctp_model.specs.end.EndView.{Established, EndView}
 use Rattle.sctp_model.specs.end.Closing.{rested}
 use Rattle.sctp_model.specs.end.Strays.{Taken}
 use Rattle.sctp_model.specs.end.Arriving.{Heard, NoneLeft, Next}
 use Rattle.sctp_model.specs.end.Building.{packet_of}
 use Rattle.sctp_model.specs.end.UserCalls.{send_answer, abandons}
-use Rattle.sctp_model.specs.World.{A, B, World, with_end, with_packet, end_now, came, start}
-use Rattle.sctp_model.specs.Events.{Event, OpenBoth, Send, Abandon, Build, Deliver, Outcome, Done, Told, Fate, Sent, Acted}
-use Rattle.sctp_model.specs.Steps.{Step, BuildsOne, FromBag, Comes, Sends, Abandons, Run, Rest, Then}
+use Rattle.sctp_model.specs.world.World.{A, B, World, with_end, with_packet, end_now, came, start}
+use Rattle.sctp_model.specs.world.Events.{Event, OpenBoth, Send, Abandon, Build, Deliver, Outcome, Done, Told, Fate, Sent, Acted}
+use Rattle.sctp_model.specs.world.Steps.{Step, BuildsOne, FromBag, PacketComes, Sends, AbandonsOne, Run, Rest, Then}
 use Rattle.sctp_outcomes.specs.Examples.{AMessageIsEnded}
 use Rattle.sctp_outcomes.proofs.stories.Small.{small, small_configured, of_a, of_b, tags_a, tags_b, open_world, opens, after_send, after_abandon}
 use Rattle.sctp_outcomes.proofs.stories.Packets.{packet_built, builds_are}
@@ -49,7 +49,7 @@ abbrev q3 : World
 q3 = came q2 B (rested kept)
 
 comes_3 : Step q2 (Deliver A 1) (Some Acted) q3
-comes_3 = Comes (Deliver A 1) B packet_1 (rested kept) Taken (FromBag A 1 packet_1 refl) (Heard (rested kept) Taken refl refl refl
+comes_3 = PacketComes (Deliver A 1) B packet_1 (rested kept) Taken (FromBag A 1 packet_1 refl) (Heard (rested kept) Taken refl refl refl
     (Next (end_now q2 B) kept (rested kept) false (IData first_piece) [] Taken
     (data_acts Interleaved (end_now q2 B) tags_b Established 0 first_piece (bound_none q2.b.receiver refl) refl refl (omega arith) refl) (NoneLeft (rested kept) true)))
 
@@ -80,7 +80,7 @@ one_recorded : (i : ℕ) → q5.b.receiver.seen i ≡ true → i ≤ 1
 one_recorded = bound_more (λ i. false) 1 1 (omega arith) (λ i on. absurd (cc))
 
 comes_6 : Step q5 (Deliver A 2) (Some Acted) q6
-comes_6 = Comes (Deliver A 2) B packet_2 (rested skipped) Taken (FromBag A 2 packet_2 refl) (Heard (rested skipped) Taken refl refl refl
+comes_6 = PacketComes (Deliver A 2) B packet_2 (rested skipped) Taken (FromBag A 2 packet_2 refl) (Heard (rested skipped) Taken refl refl refl
     (Next (end_now q5 B) skipped (rested skipped) false (IForwardTsn passes) [] Taken
     (forward_acts Interleaved (end_now q5 B) tags_b Established 1 passes one_recorded refl refl refl refl) (NoneLeft (rested skipped) true)))
 
@@ -95,7 +95,7 @@ told_ending =
 ending_run : Run (start (small true)) ending told_ending q6
 ending_run =
     Then (start (small true)) q0 q6 _ _ _ _ (opens true) (Then q0 q1 q6 _ _ _ _ (Sends A long) (Then q1 q2 q6 _ _ _ _ built_2 (Then q2 q3 q6 _ _ _ _ comes_3
-    (Then q3 q4 q6 _ _ _ _ (Abandons A 1) (Then q4 q5 q6 _ _ _ _ built_5 (Then q5 q6 q6 _ _ _ _ comes_6 (Rest q6)))))))
+    (Then q3 q4 q6 _ _ _ _ (AbandonsOne A 1) (Then q4 q5 q6 _ _ _ _ built_5 (Then q5 q6 q6 _ _ _ _ comes_6 (Rest q6)))))))
 
 pub a_message_is_ended : AMessageIsEnded
 a_message_is_ended = record {

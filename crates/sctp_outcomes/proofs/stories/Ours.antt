@@ -1,13 +1,13 @@
 -- A run of events of the two ends alone meets the premises.
 use Rattle.std.proofs.Common.{◌≡◌, ◌&&◌, Bool, true, false, List, [], ◌∷◌, ◌++◌, Option, Some, inl, inr, subst}
 use Rattle.std.proofs.lemmas.Bool.{and_parts}
-use Rattle.sctp_model.specs.Lists.{Has}
+use Rattle.sctp_model.specs.numbers.Lists.{Has}
 use Rattle.sctp_model.specs.end.Sealing.{Sealing}
 use Rattle.sctp_model.specs.end.EndView.{Draw}
-use Rattle.sctp_model.specs.World.{World}
-use Rattle.sctp_model.specs.Events.{Event, OpenBoth, Foreign, Outcome}
-use Rattle.sctp_model.specs.Steps.{Run, Rest, Then}
-use Rattle.sctp_model.specs.Premises.{Premises}
+use Rattle.sctp_model.specs.world.World.{World}
+use Rattle.sctp_model.specs.world.Events.{Event, OpenBoth, Foreign, Outcome}
+use Rattle.sctp_model.specs.world.Steps.{Run, Rest, Then}
+use Rattle.sctp_model.specs.world.Premises.{Premises}
 
 -- not a stranger's packet, and not `open`
 abbrev pub is_ours : Event → Bool

@@ -1,14 +1,14 @@
 -- The packet that an open end builds, computed: what is due at each place, in their order, and then fragments.
 use Rattle.std.proofs.Common.{◌≡◌, ℕ, Bool, true, false, List, [], ◌∷◌, ◌++◌, Option, Some, None, refl, if◌then◌else◌}
-use Rattle.sctp_model.specs.Serial.{tsn}
-use Rattle.sctp_model.specs.Chunk.{ChunkMeaning, Sack, HeartbeatAck, Shutdown, ShutdownAck, Error, CookieEcho, CookieAck}
+use Rattle.sctp_model.specs.numbers.Serial.{tsn}
+use Rattle.sctp_model.specs.wire.Chunk.{ChunkMeaning, Sack, HeartbeatAck, Shutdown, ShutdownAck, Error, CookieEcho, CookieAck}
 use Rattle.sctp_model.specs.sender.SentChunks.{forward_chunk_of}
 use Rattle.sctp_model.specs.receiver.SackMade.{sack_of, sack_sent}
 use Rattle.sctp_model.specs.end.EndView.{Tags, Stage, Open, DataAlarm, ShutdownAlarm, AckAlarm, EndView, format_of}
 use Rattle.sctp_model.specs.end.Clock.{started}
 use Rattle.sctp_model.specs.end.Closing.{with_due}
 use Rattle.sctp_model.specs.end.Reports.{written}
-use Rattle.sctp_model.specs.end.Building.{Slot, EchoSlot, CookieAckSlot, HeartbeatSlot, ErrorSlot, SackSlot, ForwardSlot, ShutdownSlot, ShutdownAckSlot, open_slots, has_some, is_due, Wants, AckCookie, AckHeartbeat, ReportCauses, Acknowledge, PassOn, SayShutdown, AnswerShutdown, has_room, Puts, NoMore, NotDue, Put, IsFull, fragments, sent, Builds, Ends, Fills}
+use Rattle.sctp_model.specs.end.Building.{Slot, EchoSlot, CookieAckSlot, HeartbeatSlot, ErrorSlot, SackSlot, ForwardSlot, ShutdownSlot, ShutdownAckSlot, open_slots, has_some, is_due, Wants, AckCookie, AckHeartbeat, ReportCauses, Acknowledge, PassOn, SayShutdown, AnswerShutdown, has_room, Puts, NoMore, NotDue, Put, IsFull, fragments, sent, Builds, EndsFull, Fills}
 use Rattle.sctp_reference.specs.receiver.Runs.{all_runs}
 use Rattle.sctp_reference.specs.receiver.Steps.{IsBound, cumulative}
 use Rattle.sctp_reference.proofs.receiver.RunsLemmas.{runs_are}
@@ -139,7 +139,7 @@ builds_are t g e bound is within = go (built_over open_slots bound e []) (puts_a
   where
     by : (zs : List ChunkMeaning) (full : Bool) (x : EndView) → Puts open_slots e [] zs full x →
         Builds e (with_fragments (record { chunks = zs; full = full; after = x })).chunks (with_fragments (record { chunks = zs; full = full; after = x })).after
-    by zs true x puts = Ends t g zs x is puts
+    by zs true x puts = EndsFull t g zs x is puts
     by zs false x puts = Fills t g zs x is puts
 
     go : (b : Built) → Puts open_slots e [] b.chunks b.full b.after → Builds e (with_fragments b).chunks (with_fragments b).after

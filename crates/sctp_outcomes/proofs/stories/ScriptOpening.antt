@@ -1,9 +1,9 @@
 -- The script's opening, event by event.
 use Rattle.std.proofs.Common.{ℕ, ◌<◌, ◌^◌, true, false, List, [], ◌∷◌, Some, refl, arith}
-use Rattle.sctp_model.specs.Numbers.{u16_bytes, u32_bytes, u16_at, u32_at}
-use Rattle.sctp_model.specs.Typed.{starts_typed, typed_of}
-use Rattle.sctp_model.specs.Chunk.{InitMeaning, ChunkMeaning, InitAck, CookieEcho, CookieAck}
-use Rattle.sctp_model.specs.Packet.{Packet}
+use Rattle.sctp_model.specs.numbers.Numbers.{u16_bytes, u32_bytes, u16_at, u32_at}
+use Rattle.sctp_model.specs.wire.Typed.{starts_typed, typed_of}
+use Rattle.sctp_model.specs.wire.Chunk.{InitMeaning, ChunkMeaning, InitAck, CookieEcho, CookieAck}
+use Rattle.sctp_model.specs.wire.Packet.{Packet}
 use Rattle.sctp_model.specs.end.Sealing.{Body}
 use Rattle.sctp_model.specs.end.EndView.{Draw, Tags, Established, Open, EndView, InitAlarm, CookieAlarm}
 use Rattle.sctp_model.specs.end.Clock.{started, turned}
@@ -13,13 +13,13 @@ use Rattle.sctp_model.specs.end.Options.{STATE_COOKIE}
 use Rattle.sctp_model.specs.end.PeerFaults.{STATE, packet_to}
 use Rattle.sctp_model.specs.end.Opening.{own_init, body_for, echoing, begun, NotCalling, AcceptedAck, EchoedAgain, NotEchoing, CookieAcked}
 use Rattle.sctp_model.specs.end.Strays.{Taken, Dropped, stray_verdict}
-use Rattle.sctp_model.specs.end.Arriving.{Stray, Begins, Heard, NoneLeft, Next}
-use Rattle.sctp_model.specs.end.Arriving.{Over as Passes}
+use Rattle.sctp_model.specs.end.Arriving.{Stray, CookieBegins, Heard, NoneLeft, Next}
+use Rattle.sctp_model.specs.end.Arriving.{Passes}
 use Rattle.sctp_model.specs.end.Building.{EchoSlot, ErrorSlot, EchoCookie, NoMore, NotDue, Put, Calls, Echoes, packet_of}
 use Rattle.sctp_model.specs.end.UserCalls.{called}
-use Rattle.sctp_model.specs.World.{A, B, World, Setup, configuration_of, with_end, with_packet, end_now, came, start}
-use Rattle.sctp_model.specs.Events.{Drawing, Connect, Build, Deliver, Done, Sent, Acted, Answered, NotActed, with_verdict}
-use Rattle.sctp_model.specs.Steps.{IsDraw, Step, Draws, Connects, BuildsOne, FromBag, Comes, Run, Rest, Then}
+use Rattle.sctp_model.specs.world.World.{A, B, World, Setup, configuration_of, with_end, with_packet, end_now, came, start}
+use Rattle.sctp_model.specs.world.Events.{Drawing, Connect, Build, Deliver, Done, Sent, Acted, Answered, NotActed, with_verdict}
+use Rattle.sctp_model.specs.world.Steps.{IsDraw, Step, Draws, Connects, BuildsOne, FromBag, PacketComes, Run, Rest, Then}
 use Rattle.sctp_safety.proofs.machine.OpeningWorlds.{open_seal, numbers}
 use Rattle.sctp_outcomes.specs.Script.{script_setup, opening_events, opening_told}
 use Rattle.sctp_outcomes.proofs.stories.Packets.{packet_built, builds_are}
@@ -68,11 +68,11 @@ s5 = with_verdict (came s4 B (end_now s4 B)) B (stray_verdict (end_now s4 B) of_
 
 step_4 : Step s3 (Deliver A 1) (Some (Answered 1 108)) s4
 unfolding u16_bytes u32_bytes u16_at u32_at starts_typed typed_of
-step_4 = Comes (Deliver A 1) B packet_1 (end_now s3 B) (stray_verdict (end_now s3 B) of_b packet_1) (FromBag A 1 packet_1 refl) (Stray refl refl refl refl)
+step_4 = PacketComes (Deliver A 1) B packet_1 (end_now s3 B) (stray_verdict (end_now s3 B) of_b packet_1) (FromBag A 1 packet_1 refl) (Stray refl refl refl refl)
 
 step_5 : Step s4 (Deliver A 1) (Some (Answered 2 108)) s5
 unfolding u16_bytes u32_bytes u16_at u32_at starts_typed typed_of
-step_5 = Comes (Deliver A 1) B packet_1 (end_now s4 B) (stray_verdict (end_now s4 B) of_b packet_1) (FromBag A 1 packet_1 refl) (Stray refl refl refl refl)
+step_5 = PacketComes (Deliver A 1) B packet_1 (end_now s4 B) (stray_verdict (end_now s4 B) of_b packet_1) (FromBag A 1 packet_1 refl) (Stray refl refl refl refl)
 
 -- the first INIT ACK counts
 abbrev init_meaning : InitMeaning
@@ -98,7 +98,7 @@ s6 = came s5 A echoes
 
 step_6 : Step s5 (Deliver B 1) (Some Acted) s6
 unfolding u16_bytes u32_bytes u16_at u32_at starts_typed typed_of
-step_6 = Comes (Deliver B 1) A ack_packet echoes Taken (FromBag B 1 ack_packet refl) (Heard echoes Taken refl refl refl
+step_6 = PacketComes (Deliver B 1) A ack_packet echoes Taken (FromBag B 1 ack_packet refl) (Heard echoes Taken refl refl refl
     (Next (end_now s5 A) echoes echoes false (InitAck ack_meaning) [] Taken (AcceptedAck of_a cookie refl some refl refl) (NoneLeft echoes true)))
   where
     some : 0 < 9
@@ -109,7 +109,7 @@ s7 = came s6 A (end_now s6 A)
 
 step_7 : Step s6 (Deliver B 1) (Some (NotActed STATE)) s7
 unfolding u16_bytes u32_bytes u16_at u32_at starts_typed typed_of
-step_7 = Comes (Deliver B 1) A ack_packet (end_now s6 A) (Dropped STATE) (FromBag B 1 ack_packet refl) (Heard (end_now s6 A) (Dropped STATE) refl refl refl
+step_7 = PacketComes (Deliver B 1) A ack_packet (end_now s6 A) (Dropped STATE) (FromBag B 1 ack_packet refl) (Heard (end_now s6 A) (Dropped STATE) refl refl refl
     (Passes (end_now s6 A) (end_now s6 A) false (InitAck ack_meaning) [] (Dropped STATE) (NotCalling refl) (NoneLeft (end_now s6 A) false)))
 
 -- the cookie goes back
@@ -137,7 +137,7 @@ s9 = came s8 B begins
 
 step_9 : Step s8 (Deliver A 2) (Some Acted) s9
 unfolding u16_bytes u32_bytes u16_at u32_at starts_typed typed_of
-step_9 = Comes (Deliver A 2) B packet_2 begins Taken (FromBag A 2 packet_2 refl) (Begins body begins Taken refl refl refl refl (NoneLeft begins true))
+step_9 = PacketComes (Deliver A 2) B packet_2 begins Taken (FromBag A 2 packet_2 refl) (CookieBegins body begins Taken refl refl refl refl (NoneLeft begins true))
 
 abbrev again : EndView
 again = with_due (record (end_now s9 B).due { cookie_ack = true }) (end_now s9 B)
@@ -147,7 +147,7 @@ s10 = came s9 B again
 
 step_10 : Step s9 (Deliver A 2) (Some Acted) s10
 unfolding u16_bytes u32_bytes u16_at u32_at starts_typed typed_of
-step_10 = Comes (Deliver A 2) B packet_2 again Taken (FromBag A 2 packet_2 refl) (Heard again Taken refl refl refl
+step_10 = PacketComes (Deliver A 2) B packet_2 again Taken (FromBag A 2 packet_2 refl) (Heard again Taken refl refl refl
     (Next (end_now s9 B) again again false (CookieEcho cookie) [] Taken (EchoedAgain open_seal tags_b Established refl refl refl refl) (NoneLeft again true)))
 
 -- and says so
@@ -169,7 +169,7 @@ s12 = came s11 A open_end
 
 step_12 : Step s11 (Deliver B 3) (Some Acted) s12
 unfolding u16_bytes u32_bytes u16_at u32_at starts_typed typed_of
-step_12 = Comes (Deliver B 3) A packet_3 open_end Taken (FromBag B 3 packet_3 refl) (Heard open_end Taken refl refl refl
+step_12 = PacketComes (Deliver B 3) A packet_3 open_end Taken (FromBag B 3 packet_3 refl) (Heard open_end Taken refl refl refl
     (Next (end_now s11 A) open_end open_end false CookieAck [] Taken (CookieAcked tags_a cookie refl) (NoneLeft open_end true)))
 
 abbrev pub s13 : World
@@ -177,7 +177,7 @@ s13 = came s12 A (end_now s12 A)
 
 step_13 : Step s12 (Deliver B 3) (Some (NotActed STATE)) s13
 unfolding u16_bytes u32_bytes u16_at u32_at starts_typed typed_of
-step_13 = Comes (Deliver B 3) A packet_3 (end_now s12 A) (Dropped STATE) (FromBag B 3 packet_3 refl) (Heard (end_now s12 A) (Dropped STATE) refl refl refl
+step_13 = PacketComes (Deliver B 3) A packet_3 (end_now s12 A) (Dropped STATE) (FromBag B 3 packet_3 refl) (Heard (end_now s12 A) (Dropped STATE) refl refl refl
     (Passes (end_now s12 A) (end_now s12 A) false CookieAck [] (Dropped STATE) (NotEchoing refl) (NoneLeft (end_now s12 A) false)))
 
 step_1 : Step (start pair) (Connect of_a) (Some Done) s1

@@ -1,12 +1,12 @@
 -- Two ends that are opened without packets, set up for small packets: one full fragment in each.
 use Rattle.std.proofs.Common.{ℕ, ◌<◌, ◌^◌, Bool, true, false, Some, refl, arith}
-use Rattle.sctp_model.specs.Calls.{Call}
+use Rattle.sctp_model.specs.world.Calls.{Call}
 use Rattle.sctp_model.specs.end.EndView.{Draw, Tags}
 use Rattle.sctp_model.specs.end.Configured.{IsConfiguration}
 use Rattle.sctp_model.specs.end.UserCalls.{send_answer, send_leaves, abandoned_at}
-use Rattle.sctp_model.specs.World.{Side, A, B, World, with_end, with_log, logged, Setup, configuration_of, start}
-use Rattle.sctp_model.specs.Events.{OpenBoth, Done}
-use Rattle.sctp_model.specs.Steps.{opened, accepted, named_at, IsDraw, Step, Opens}
+use Rattle.sctp_model.specs.world.World.{Side, A, B, World, with_end, with_log, logged, Setup, configuration_of, start}
+use Rattle.sctp_model.specs.world.Events.{OpenBoth, Done}
+use Rattle.sctp_model.specs.world.Steps.{opened, accepted, named_at, IsDraw, Step, OpensBoth}
 use Rattle.sctp_safety.proofs.machine.OpeningWorlds.{open_seal}
 
 -- ---- two ends without packets
@@ -74,7 +74,7 @@ open_world i = record (start (small i)) {
 }
 
 pub opens : (i : Bool) → Step (start (small i)) (OpenBoth of_a of_b) (Some Done) (open_world i)
-opens i = Opens of_a of_b refl (drawn 7 100 (omega arith) (omega arith) (omega arith)) (drawn 9 200 (omega arith) (omega arith) (omega arith))
+opens i = OpensBoth of_a of_b refl (drawn 7 100 (omega arith) (omega arith) (omega arith)) (drawn 9 200 (omega arith) (omega arith) (omega arith))
 
 -- the world in which A's user has sent a message, or abandoned one
 abbrev pub after_send : World → Call → World

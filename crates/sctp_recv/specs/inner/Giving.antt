@@ -1,14 +1,14 @@
 -- What handing over leaves.
 use Rattle.std.specs.Prelude.{◌≡◌, ℕ, suc, ◌+◌, ◌-◌, ◌^◌, ◌<◌, ◌≤◌, ◌⊎◌, min, Bool, true, false, List, [], ◌∷◌, ◌++◌, length, Option, Some}
 use Rattle.std.specs.VecDeque.{deque_len, deque_capacity}
-use Rattle.sctp_model.specs.Lists.{Has}
-use Rattle.sctp_model.specs.Serial.{COUNTS}
-use Rattle.sctp_model.specs.Format.{Format, Lane, ordered_lane, unordered_lane}
-use Rattle.sctp_model.specs.Pieces.{Piece}
-use Rattle.sctp_model.specs.Limits.{WINDOW}
-use Rattle.sctp_model.specs.ReceiverView.{Handed, ReceiverView, size_of_messages}
-use Rattle.sctp_model.specs.Whole.{text_of}
-use Rattle.sctp_model.specs.Receiving.{HasNoWhole, IsDue, IsWholeWith, HasNoWholeWith, message_of, without_message}
+use Rattle.sctp_model.specs.numbers.Lists.{Has}
+use Rattle.sctp_model.specs.numbers.Serial.{COUNTS}
+use Rattle.sctp_model.specs.messages.Format.{Format, Lane, ordered_lane, unordered_lane}
+use Rattle.sctp_model.specs.messages.Pieces.{Piece}
+use Rattle.sctp_model.specs.numbers.Limits.{WINDOW}
+use Rattle.sctp_model.specs.receiver.ReceiverView.{Handed, ReceiverView, size_of_messages}
+use Rattle.sctp_model.specs.messages.Whole.{text_of}
+use Rattle.sctp_model.specs.receiver.Receiving.{HasNoWhole, IsDue, IsWholeWith, HasNoWholeWith, message_of, without_message}
 use Rattle.sctp_chains.specs.StandsFor as lane
 use Rattle.sctp_chains.specs.declared.chains.Chains.{Chains}
 use Rattle.sctp_chains.specs.StandsFor.{chain_count}

@@ -1,10 +1,10 @@
 -- What a chunk or a FORWARD is read as, before anything is done with it.
 use Rattle.std.specs.Prelude.{◌≡◌, ℕ, suc, ◌+◌, ◌-◌, ◌<◌, ◌≤◌, true, false, ◌||◌, nat_lt, nat_le, Option, Some, length}
-use Rattle.sctp_model.specs.Limits.{WINDOW}
-use Rattle.sctp_model.specs.Serial.{COUNTS, tsn, ahead, before}
-use Rattle.sctp_model.specs.Format.{Format}
-use Rattle.sctp_model.specs.Chunk.{PieceMeaning}
-use Rattle.sctp_model.specs.ReceiverView.{ReceiverView}
+use Rattle.sctp_model.specs.numbers.Limits.{WINDOW}
+use Rattle.sctp_model.specs.numbers.Serial.{COUNTS, tsn, ahead, before}
+use Rattle.sctp_model.specs.messages.Format.{Format}
+use Rattle.sctp_model.specs.wire.Chunk.{PieceMeaning}
+use Rattle.sctp_model.specs.receiver.ReceiverView.{ReceiverView}
 use Rattle.sctp_model.specs.receiver.Reading.{lane_of, piece_at}
 use Rattle.sctp_chains.specs.Cells.{IsOf}
 use Rattle.sctp_chains.specs.Cells.{counted}
@@ -58,7 +58,7 @@ pub record IsWanted (f : Format) (k : ReceiverKept) (v : ReceiverView) (p : Piec
   pub of : IsOf f (lane_of p.stream p.unordered) (counted i p n)
 
 -- its answer by the table, read at the cumulative index that is kept
-abbrev pub answer_at : Format → ReceiverKept → ReceiverView → PieceMeaning → model.Answer
+abbrev pub answer_at : Format → ReceiverKept → ReceiverView → PieceMeaning → model.PieceAnswer
 answer_at f k v p = model.answer_to f v k.seen.cumulative p
 
 -- what is to be done with a chunk
@@ -68,4 +68,4 @@ IsRowOf f k v p Ahead = answer_at f k v p ≡ model.Ahead
 IsRowOf f k v p (NoSuchStream i) = (answer_at f k v p ≡ model.NoSuchStream) × IsNewIndex f k v p i
 IsRowOf f k v p (Passed i) = (answer_at f k v p ≡ model.Passed) × IsNewIndex f k v p i
 IsRowOf f k v p NoRoom = answer_at f k v p ≡ model.NoRoom
-IsRowOf f k v p (Taken i n) = (answer_at f k v p ≡ model.Taken) × IsWanted f k v p i n
+IsRowOf f k v p (Taken i n) = (answer_at f k v p ≡ model.Kept) × IsWanted f k v p i n

@@ -4,7 +4,7 @@ use Rattle.std.specs.Prelude.{min}
 use Rattle.std.specs.Int.{div_ceil}
 use Rattle.std.proofs.lemmas.Grind.{div_ceil_times}
 use Rattle.std.proofs.lemmas.List.{length-take}
-use Rattle.sctp_model.specs.Lists.{joined}
+use Rattle.sctp_model.specs.numbers.Lists.{joined}
 use Rattle.sctp_model.specs.sender.Words.{count_up}
 use Rattle.sctp_model.specs.sender.Queueing.{fragment_of, cut}
 use Rattle.sctp_model.proofs.sender.CutLaws.{joined_cut}

@@ -3,11 +3,11 @@ use Rattle.std.proofs.Common.{◌≡◌, ℕ, ◌+◌, ◌^◌, ◌<◌, ◌≤�
 use Rattle.std.specs.Prelude.{nat_lt, nat_le}
 use Rattle.std.proofs.lemmas.Bool.{and_parts, and_from, or_parts, or_from, or_left, or_right}
 use Rattle.std.proofs.lemmas.Bool.Decides.{nat_tests}
-use Rattle.sctp_model.specs.Lists.{Has}
-use Rattle.sctp_model.specs.Chunk.{BlockMeaning}
-use Rattle.sctp_model.specs.Serial.{tsn, ahead, before}
-use Rattle.sctp_model.specs.Acknowledgement.{in_blocks}
-use Rattle.sctp_model.specs.SenderView.{SenderView}
+use Rattle.sctp_model.specs.numbers.Lists.{Has}
+use Rattle.sctp_model.specs.wire.Chunk.{BlockMeaning}
+use Rattle.sctp_model.specs.numbers.Serial.{tsn, ahead, before}
+use Rattle.sctp_model.specs.messages.Acknowledgement.{in_blocks}
+use Rattle.sctp_model.specs.sender.SenderView.{SenderView}
 use Rattle.sctp_model.specs.sender.SackTaken.{is_stale, index_of, some_ends_past, is_beyond, some_is_bad, sack_covers}
 use Rattle.sctp_reference.specs.calls.Sacks.{IsReadAs, IsPast, AreBlocks, IsAcknowledged}
 

@@ -3,9 +3,9 @@ use Rattle.std.proofs.Common.{◌≡◌, ℕ, zero, suc, ◌+◌, ◌%◌, ◌<�
 use Rattle.std.specs.Prelude.{slice_get, option_map}
 use Rattle.std.specs.Option.{option_or}
 use Rattle.std.proofs.lemmas.Bool.{and_parts}
-use Rattle.sctp_model.specs.Format.{Plain, Interleaved}
-use Rattle.sctp_model.specs.Plan.{Entry, entry_at}
-use Rattle.sctp_model.specs.SenderView.{Queued, SenderView}
+use Rattle.sctp_model.specs.messages.Format.{Plain, Interleaved}
+use Rattle.sctp_model.specs.messages.Plan.{Entry, entry_at}
+use Rattle.sctp_model.specs.sender.SenderView.{Queued, SenderView}
 use Rattle.sctp_model.specs.sender.Words.{first_there, count_up, lowest, some_passes}
 use Rattle.sctp_model.specs.sender.Entries.{is_unsent, is_given_up, passes_at}
 use Rattle.sctp_model.specs.sender.Assigning.{with_message, turn_of, whole_next, assigned}

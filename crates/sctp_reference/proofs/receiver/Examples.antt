@@ -1,11 +1,11 @@
 -- Small receivers, computed: chunks over the wraps, fragments of two messages, a dishonest pair, room to the last byte, FORWARDs over what is not
 -- whole, blocks.
 use Rattle.std.proofs.Common.{◌≡◌, ℕ, Bool, true, false, ◌||◌, ◌==◌, List, [], ◌∷◌, map, Option, Some, None, refl}
-use Rattle.sctp_model.specs.Chunk.{PieceMeaning, SkipMeaning, ForwardMeaning}
-use Rattle.sctp_model.specs.Format.{Format, Plain, Interleaved}
-use Rattle.sctp_model.specs.Pieces.{Piece}
-use Rattle.sctp_model.specs.ReceiverView.{Handed, ReceiverView, fresh_receiver, held_bytes, room_left}
-use Rattle.sctp_model.specs.receiver.PieceTaken.{Duplicate, Passed, NoRoom, Taken, answer_to}
+use Rattle.sctp_model.specs.wire.Chunk.{PieceMeaning, SkipMeaning, ForwardMeaning}
+use Rattle.sctp_model.specs.messages.Format.{Format, Plain, Interleaved}
+use Rattle.sctp_model.specs.messages.Pieces.{Piece}
+use Rattle.sctp_model.specs.receiver.ReceiverView.{Handed, ReceiverView, fresh_receiver, held_bytes, room_left}
+use Rattle.sctp_model.specs.receiver.PieceTaken.{Duplicate, Passed, NoRoom, Kept, answer_to}
 use Rattle.sctp_model.specs.receiver.ForwardTaken.{OutOfDate, forward_answer}
 use Rattle.sctp_reference.specs.receiver.Steps.{cumulative, piece_step, forward_step}
 use Rattle.sctp_reference.specs.receiver.Runs.{all_runs}
@@ -108,7 +108,7 @@ three_held = takes Plain (takes Plain (fresh_receiver 1 1 4) (record (chunk fals
 abbrev two_more : PieceMeaning
 two_more = record (chunk false true true 4 3 7 4) { bytes = 4 ∷ 5 ∷ [] }
 
-one_fits : (held_bytes three_held ≡ 3) × (answer_to Plain three_held 1 (chunk false true true 4 3 7 4) ≡ Taken) × (answer_to Plain three_held 1 two_more ≡ NoRoom) × (takes Plain three_held two_more ≡ three_held)
+one_fits : (held_bytes three_held ≡ 3) × (answer_to Plain three_held 1 (chunk false true true 4 3 7 4) ≡ Kept) × (answer_to Plain three_held 1 two_more ≡ NoRoom) × (takes Plain three_held two_more ≡ three_held)
 one_fits = (refl, refl, refl, refl)
 
 -- then not a byte more fits, also of the message that is due; what came again, or is waited for no longer, is told before

@@ -1,7 +1,7 @@
 -- The laws of what is computed, from the lemmas on each part and the laws that each step has one result.
 use Rattle.std.proofs.Common.{◌≡◌, sym, subst}
-use Rattle.sctp_model.specs.ReceiverView.{ReceiverView}
-use Rattle.sctp_model.specs.receiver.PieceTaken.{Answer, PieceTaken, answer_to}
+use Rattle.sctp_model.specs.receiver.ReceiverView.{ReceiverView}
+use Rattle.sctp_model.specs.receiver.PieceTaken.{PieceAnswer, PieceTaken, answer_to}
 use Rattle.sctp_model.specs.receiver.ForwardTaken.{ForwardAnswer, ForwardTaken, forward_answer}
 use Rattle.sctp_model.proofs.receiver.OneStep.{piece_only, forward_only}
 use Rattle.sctp_reference.specs.receiver.Steps.{piece_step, forward_step}
@@ -17,7 +17,7 @@ pieces_so f r t c p a o h = (λ g. piece_only f r p a (answer_to f r c p) t (pie
   where
     back : (a ≡ answer_to f r c p) × (t ≡ piece_step f r c p) → PieceTaken f r p a t
     back (e, d) =
-        subst (λ (b : Answer). PieceTaken f r p b t) (sym e)
+        subst (λ (b : PieceAnswer). PieceTaken f r p b t) (sym e)
         (subst (λ (u : ReceiverView). PieceTaken f r p (answer_to f r c p) u) (sym d) (piece_steps f r c p h))
 
 pub forwards_so : ForwardsAreTakenSo

@@ -1,7 +1,7 @@
 -- What stands in a list that was joined, filtered or made from another.
 use Rattle.std.proofs.Common.{◌≡◌, ◌⊎◌, Bool, true, false, cond, List, [], ◌∷◌, ◌++◌, map, filter, inl, inr, refl, sym, subst, ap}
 use Rattle.std.specs.List.{flat_map}
-use Rattle.sctp_model.specs.Lists.{Has}
+use Rattle.sctp_model.specs.numbers.Lists.{Has}
 
 has_front : {A : Type 0} (xs ys : List A) (w : A) → Has xs w → Has (xs ++ ys) w
 has_front [] ys w h = absurd h

@@ -2,10 +2,10 @@
 use Rattle.std.proofs.Common.{◌≡◌, ℕ, ◌<◌, ◌≤◌, ◌||◌, nat_lt, ◌⊎◌, cond, Bool, true, false, List, [], ◌∷◌, filter, Option, None, Some, inl, inr, refl, ap, subst, arith}
 use Rattle.std.proofs.lemmas.Bool.{and_parts, cond_both}
 use Rattle.std.proofs.lemmas.Bool.Decides.{nat_tests}
-use Rattle.sctp_model.specs.Lists.{Has}
-use Rattle.sctp_model.specs.Format.{Format, Lane, same_lane}
-use Rattle.sctp_model.specs.Pieces.{Piece, same_number}
-use Rattle.sctp_model.specs.Receiving.{IsNumberOf, IsWholeNumber, IsLowest, HasNoWhole, IsWholeWith}
+use Rattle.sctp_model.specs.numbers.Lists.{Has}
+use Rattle.sctp_model.specs.messages.Format.{Format, Lane, same_lane}
+use Rattle.sctp_model.specs.messages.Pieces.{Piece, same_number}
+use Rattle.sctp_model.specs.receiver.Receiving.{IsNumberOf, IsWholeNumber, IsLowest, HasNoWhole, IsWholeWith}
 use Rattle.sctp_reference.specs.receiver.Wholes.{wholes, is_number_of, first_index, lower, lowest, whole_number, same_piece, has_piece, first_with, whole_with}
 use Rattle.sctp_reference.proofs.receiver.MemberLemmas.{filtered_has, has_filtered}
 use Rattle.sctp_reference.proofs.receiver.SameLemmas.{both, lane_is, lane_same, number_is, number_same, piece_is, piece_same}

@@ -1,10 +1,10 @@
 -- The blocks computed are all maximal runs above the cumulative index.
 use Rattle.std.proofs.Common.{◌≡◌, ℕ, zero, suc, ◌+◌, ◌-◌, ◌<◌, ◌≤◌, ◌⊎◌, Bool, true, false, List, [], ◌∷◌, Option, None, Some, inl, inr, refl, ap, sym, subst, arith}
 use Rattle.std.proofs.lemmas.Bool.{cases_eq, cases_lt}
-use Rattle.sctp_model.specs.Lists.{Has}
-use Rattle.sctp_model.specs.Chunk.{BlockMeaning}
-use Rattle.sctp_model.specs.ReceiverView.{ReceiverView, IsCumulative}
-use Rattle.sctp_model.specs.Acknowledgement.{IsRun}
+use Rattle.sctp_model.specs.numbers.Lists.{Has}
+use Rattle.sctp_model.specs.wire.Chunk.{BlockMeaning}
+use Rattle.sctp_model.specs.receiver.ReceiverView.{ReceiverView, IsCumulative}
+use Rattle.sctp_model.specs.messages.Acknowledgement.{IsRun}
 use Rattle.sctp_model.specs.receiver.SackMade.{AreBlocksRising, AreAllRuns}
 use Rattle.sctp_reference.specs.receiver.Runs.{block, walked, runs_from, all_runs}
 use Rattle.sctp_reference.specs.receiver.Steps.{IsBound}

@@ -1,8 +1,8 @@
 -- The tests of sameness tell what is the same.
 use Rattle.std.proofs.Common.{◌≡◌, ℕ, ◌==◌, ◌&&◌, Bool, true, false, List, [], ◌∷◌, Option, None, Some, refl, ap, sym, subst, ◌∙◌, eqb-true}
 use Rattle.std.proofs.lemmas.Bool.{and_parts, eq-eqb}
-use Rattle.sctp_model.specs.Format.{Kind, Ordered, Unordered, Lane, same_kind, same_lane}
-use Rattle.sctp_model.specs.Pieces.{Piece, same_number}
+use Rattle.sctp_model.specs.messages.Format.{Kind, Ordered, Unordered, Lane, same_kind, same_lane}
+use Rattle.sctp_model.specs.messages.Pieces.{Piece, same_number}
 use Rattle.sctp_reference.specs.receiver.Wholes.{same_bytes, same_flag, same_piece}
 
 pub both : (a b : Bool) → a ≡ true → b ≡ true → (a && b) ≡ true

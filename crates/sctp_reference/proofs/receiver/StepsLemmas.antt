@@ -1,14 +1,14 @@
 -- What is computed is the step: from every view, for every chunk and every FORWARD.
 use Rattle.std.proofs.Common.{◌≡◌, ℕ, zero, suc, ◌+◌, ◌<◌, ◌≤◌, ◌⊎◌, nat_lt, max, Bool, true, false, List, [], ◌∷◌, Option, None, Some, inl, inr, refl, ap, sym, subst, arith}
 use Rattle.std.proofs.lemmas.Bool.{cases_eq}
-use Rattle.sctp_model.specs.Lists.{Has}
-use Rattle.sctp_model.specs.Chunk.{PieceMeaning, ForwardMeaning}
-use Rattle.sctp_model.specs.Format.{Format, Kind, Ordered, Unordered, Lane, ordered_lane}
-use Rattle.sctp_model.specs.Pieces.{Piece}
-use Rattle.sctp_model.specs.ReceiverView.{ReceiverView, IsReached, IsCumulative}
-use Rattle.sctp_model.specs.Receiving.{HasNoWhole, IsDue, Stop, Over, Past, GivesOrdered, GivesAll, GivesUnordered, Gives, recorded}
+use Rattle.sctp_model.specs.numbers.Lists.{Has}
+use Rattle.sctp_model.specs.wire.Chunk.{PieceMeaning, ForwardMeaning}
+use Rattle.sctp_model.specs.messages.Format.{Format, Kind, Ordered, Unordered, Lane, ordered_lane}
+use Rattle.sctp_model.specs.messages.Pieces.{Piece}
+use Rattle.sctp_model.specs.receiver.ReceiverView.{ReceiverView, Reaches, IsCumulative}
+use Rattle.sctp_model.specs.receiver.Receiving.{HasNoWhole, IsDue, Stop, GivesWhole, Past, GivesOrdered, GivesAll, GivesUnordered, Gives, recorded}
 use Rattle.sctp_model.specs.receiver.Reading.{piece_at}
-use Rattle.sctp_model.specs.receiver.PieceTaken.{Answer, Duplicate, Ahead, NoSuchStream, Passed, NoRoom, Taken, PieceTaken, Leaves, answer_to}
+use Rattle.sctp_model.specs.receiver.PieceTaken.{PieceAnswer, Duplicate, Ahead, NoSuchStream, Passed, NoRoom, Kept, PieceTaken, Leaves, answer_to}
 use Rattle.sctp_model.specs.receiver.ForwardTaken.{ForwardAnswer, OutOfDate, Bad, Moved, ForwardTaken, ForwardLeaves, forward_answer, jumped, let_go}
 use Rattle.sctp_reference.specs.receiver.Wholes.{whole_number, whole_with}
 use Rattle.sctp_reference.specs.receiver.Steps.{next_if, cumulative_from, IsBound, cumulative, Due, due_at, due_from, past, numbers, due, gives_ordered, gives_all, handed_if, gives_unordered, gives, after_piece, piece_step, after_forward, forward_step}
@@ -17,23 +17,23 @@ use Rattle.sctp_reference.proofs.receiver.NumberLemmas.{below_true, below_false,
 -- ---- the cumulative index
 
 module _ (r : ReceiverView) (bound : ℕ) (within : IsBound r bound) where
-  walks : (depth c : ℕ) → r.jump ≤ c → ((i : ℕ) → 0 < i → i ≤ c → IsReached r i) → bound ≤ c + depth → IsCumulative r (cumulative_from r.seen depth c)
+  walks : (depth c : ℕ) → r.jump ≤ c → ((i : ℕ) → 0 < i → i ≤ c → Reaches r i) → bound ≤ c + depth → IsCumulative r (cumulative_from r.seen depth c)
   walks zero c jumped reached enough = record { reached = reached; open_end = open_end }
     where
-      open_end : IsReached r (suc c) → ⊥
+      open_end : Reaches r (suc c) → ⊥
       open_end (inl h) = let l = within (suc c) h in omega arith
       open_end (inr h) = omega arith
   walks (suc depth) c jumped reached enough = go (r.seen (suc c)) refl (walks depth (suc c) (omega arith))
     where
-      more_reached : r.seen (suc c) ≡ true → (i : ℕ) → 0 < i → i ≤ suc c → (i ≡ suc c) ⊎ (i ≡ suc c → ⊥) → IsReached r i
-      more_reached h i above l (inl e) = subst (IsReached r) (sym e) (inl h)
+      more_reached : r.seen (suc c) ≡ true → (i : ℕ) → 0 < i → i ≤ suc c → (i ≡ suc c) ⊎ (i ≡ suc c → ⊥) → Reaches r i
+      more_reached h i above l (inl e) = subst (Reaches r) (sym e) (inl h)
       more_reached h i above l (inr ne) = reached i above (omega arith)
 
-      open_end : r.seen (suc c) ≡ false → IsReached r (suc c) → ⊥
+      open_end : r.seen (suc c) ≡ false → Reaches r (suc c) → ⊥
       open_end h (inl k) = cc (h, k)
       open_end h (inr k) = omega arith
 
-      go : (b : Bool) → r.seen (suc c) ≡ b → (((i : ℕ) → 0 < i → i ≤ suc c → IsReached r i) → bound ≤ suc c + depth → IsCumulative r (cumulative_from r.seen depth (suc c))) →
+      go : (b : Bool) → r.seen (suc c) ≡ b → (((i : ℕ) → 0 < i → i ≤ suc c → Reaches r i) → bound ≤ suc c + depth → IsCumulative r (cumulative_from r.seen depth (suc c))) →
           IsCumulative r (next_if b c (cumulative_from r.seen depth))
       go true h more = more (λ i above l. more_reached h i above l (cases_eq i (suc c))) (omega arith)
       go false h more = record { reached = reached; open_end = open_end h }
@@ -60,7 +60,7 @@ module _ (f : Format) (r : ReceiverView) (s : ℕ) where
       IsDue f r s (suc n) (more (suc n)).messages (more (suc n)).next → IsDue f r s n (due_at f o b n more).messages (due_at f o b n more).next
   one_number n (Some (x ∷ xs)) b more e skipped rest =
       let w = whole_is f r.kept (ordered_lane s) n (x ∷ xs) e in
-      Over n (more (suc n)).next x xs (more (suc n)).messages w.0 w.1 rest
+      GivesWhole n (more (suc n)).next x xs (more (suc n)).messages w.0 w.1 rest
   one_number n (Some []) b more e skipped rest = let w = whole_is f r.kept (ordered_lane s) n [] e in absurd w.1
   one_number n None true more e skipped rest =
       Past n (more (suc n)).next (more (suc n)).messages (below_true n (r.skip (ordered_lane s)) skipped) (none_whole f r.kept (ordered_lane s) n e) rest
@@ -97,13 +97,13 @@ gives_is f Unordered y r = unordered_is f y r
 
 -- ---- steps
 
-leaves_are : (f : Format) (r : ReceiverView) (x : Piece) (wire : ℕ) (a : Answer) → Leaves f r x wire a (after_piece f r x wire a)
+leaves_are : (f : Format) (r : ReceiverView) (x : Piece) (wire : ℕ) (a : PieceAnswer) → Leaves f r x wire a (after_piece f r x wire a)
 leaves_are f r x wire Duplicate = refl
 leaves_are f r x wire Ahead = refl
 leaves_are f r x wire NoSuchStream = refl
 leaves_are f r x wire Passed = refl
 leaves_are f r x wire NoRoom = refl
-leaves_are f r x wire Taken = gives_is f x.lane.kind x (record (recorded r x) { kept = x ∷ r.kept })
+leaves_are f r x wire Kept = gives_is f x.lane.kind x (record (recorded r x) { kept = x ∷ r.kept })
 
 pub piece_steps : (f : Format) (r : ReceiverView) (c : ℕ) (p : PieceMeaning) → IsCumulative r c → PieceTaken f r p (answer_to f r c p) (piece_step f r c p)
 piece_steps f r c p h = record { c = c; cumulative = h; answer = refl; leaves = leaves_are f r (piece_at f r c p) p.tsn (answer_to f r c p) }

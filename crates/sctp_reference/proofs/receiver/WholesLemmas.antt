@@ -1,10 +1,10 @@
 -- The lists computed are the whole messages among kept chunks: these, and no others.
 use Rattle.std.proofs.Common.{◌≡◌, ℕ, zero, suc, ◌+◌, ◌==◌, ◌<◌, ◌≤◌, not, Bool, true, false, List, [], ◌∷◌, inl, inr, refl, ap, subst, arith, eqb-true}
 use Rattle.std.proofs.lemmas.Bool.{and_parts, eq-eqb}
-use Rattle.sctp_model.specs.Lists.{Has, IsWithin}
-use Rattle.sctp_model.specs.Format.{Format, Plain, Interleaved, same_lane}
-use Rattle.sctp_model.specs.Pieces.{Piece, fragment_of, same_number}
-use Rattle.sctp_model.specs.Whole.{IsFirst, Follows, IsRow, IsWhole}
+use Rattle.sctp_model.specs.numbers.Lists.{Has, IsWithin}
+use Rattle.sctp_model.specs.messages.Format.{Format, Plain, Interleaved, same_lane}
+use Rattle.sctp_model.specs.messages.Pieces.{Piece, fragment_of, same_number}
+use Rattle.sctp_model.specs.messages.Whole.{IsFirst, Follows, IsRow, IsWhole}
 use Rattle.sctp_reference.specs.receiver.Wholes.{is_first, place_of, follows, places, beginning, rows, wholes}
 use Rattle.sctp_reference.proofs.receiver.MemberLemmas.{has_source, has_image, has_longer, has_shorter}
 use Rattle.sctp_reference.proofs.receiver.SameLemmas.{both, lane_is, lane_same, number_is, number_same}

@@ -1,10 +1,10 @@
 -- Abandoning, computed: end marks, answers, what expires, and what FORWARDs name and do at the peer.
 use Rattle.std.proofs.Common.{◌≡◌, ℕ, true, false, List, [], ◌∷◌, map, Some, refl}
-use Rattle.sctp_model.specs.Format.{Format, Plain, Interleaved, ordered_lane}
-use Rattle.sctp_model.specs.Chunk.{PieceMeaning, ForwardMeaning, IData, ForwardTsn, IForwardTsn}
-use Rattle.sctp_model.specs.Plan.{Part, End}
-use Rattle.sctp_model.specs.SenderView.{SenderView, fresh_sender}
-use Rattle.sctp_model.specs.ReceiverView.{Handed, ReceiverView, fresh_receiver}
+use Rattle.sctp_model.specs.messages.Format.{Format, Plain, Interleaved, ordered_lane}
+use Rattle.sctp_model.specs.wire.Chunk.{PieceMeaning, ForwardMeaning, IData, ForwardTsn, IForwardTsn}
+use Rattle.sctp_model.specs.messages.Plan.{Part, End}
+use Rattle.sctp_model.specs.sender.SenderView.{SenderView, fresh_sender}
+use Rattle.sctp_model.specs.receiver.ReceiverView.{Handed, ReceiverView, fresh_receiver}
 use Rattle.sctp_model.specs.receiver.ForwardTaken.{OutOfDate, forward_answer}
 use Rattle.sctp_model.specs.sender.Queueing.{queued}
 use Rattle.sctp_model.specs.sender.Filling.{fill}

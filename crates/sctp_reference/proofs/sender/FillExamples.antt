@@ -1,9 +1,9 @@
 -- FILL, computed: what each chunk says under both formats, whose turn it is, and what room and window hold back.
 use Rattle.std.proofs.Common.{◌≡◌, ℕ, true, false, [], ◌∷◌, length, map, refl}
-use Rattle.sctp_model.specs.Format.{Format, Plain, Interleaved, ordered_lane, unordered_lane}
-use Rattle.sctp_model.specs.Chunk.{Data, IData}
-use Rattle.sctp_model.specs.Plan.{Part}
-use Rattle.sctp_model.specs.SenderView.{SenderView, fresh_sender}
+use Rattle.sctp_model.specs.messages.Format.{Format, Plain, Interleaved, ordered_lane, unordered_lane}
+use Rattle.sctp_model.specs.wire.Chunk.{Data, IData}
+use Rattle.sctp_model.specs.messages.Plan.{Part}
+use Rattle.sctp_model.specs.sender.SenderView.{SenderView, fresh_sender}
 use Rattle.sctp_model.specs.sender.Entries.{in_flight}
 use Rattle.sctp_model.specs.sender.Filling.{fill}
 use Rattle.sctp_model.specs.sender.SackTaken.{sack_after}

@@ -1,8 +1,8 @@
 -- How the examples write a sender's calls and what it says.
 use Rattle.std.proofs.Common.{ℕ, Bool, false, List, [], ◌∷◌, map, None}
-use Rattle.sctp_model.specs.Format.{Format, ordered_lane, unordered_lane}
-use Rattle.sctp_model.specs.Chunk.{PieceMeaning, BlockMeaning, SackMeaning, ForwardMeaning, ChunkMeaning}
-use Rattle.sctp_model.specs.SenderView.{SenderView}
+use Rattle.sctp_model.specs.messages.Format.{Format, ordered_lane, unordered_lane}
+use Rattle.sctp_model.specs.wire.Chunk.{PieceMeaning, BlockMeaning, SackMeaning, ForwardMeaning, ChunkMeaning}
+use Rattle.sctp_model.specs.sender.SenderView.{SenderView}
 use Rattle.sctp_model.specs.sender.Queueing.{queued}
 use Rattle.sctp_model.specs.sender.Filling.{Wish, chunk_of}
 

@@ -2,9 +2,9 @@
 use Rattle.std.proofs.Common.{◌≡◌, ℕ, suc, true, List, [], ◌∷◌, ◌++◌, length, Some, None, refl, ap, arith, length-append}
 use Rattle.std.specs.Prelude.{◌+◌, ◌==◌, replicate}
 use Rattle.std.specs.Option.{option_or}
-use Rattle.sctp_model.specs.Format.{ordered_lane}
-use Rattle.sctp_model.specs.Plan.{Message, Entry, Part}
-use Rattle.sctp_model.specs.SenderView.{Queued, SenderView, fresh_sender}
+use Rattle.sctp_model.specs.messages.Format.{ordered_lane}
+use Rattle.sctp_model.specs.messages.Plan.{Message, Entry, Part}
+use Rattle.sctp_model.specs.sender.SenderView.{Queued, SenderView, fresh_sender}
 use Rattle.sctp_model.specs.sender.Words.{when}
 use Rattle.sctp_model.specs.sender.Entries.{latest, entry_lane}
 use Rattle.sctp_model.specs.sender.Queueing.{refusal, cut, promised, NoSuchStream, Empty, TooLong, QueueFull, Spent}

@@ -3,8 +3,8 @@
 use Rattle.std.proofs.Common.{◌≡◌, ℕ, ◌*◌, ◌-◌, true, List, [], ◌∷◌, length, map, take, None, refl, ap, ◌∙◌}
 use Rattle.std.specs.Prelude.{replicate}
 use Rattle.std.proofs.lemmas.List.{drop-replicate, length-replicate}
-use Rattle.sctp_model.specs.Format.{Plain, ordered_lane}
-use Rattle.sctp_model.specs.SenderView.{SenderView, fresh_sender}
+use Rattle.sctp_model.specs.messages.Format.{Plain, ordered_lane}
+use Rattle.sctp_model.specs.sender.SenderView.{SenderView, fresh_sender}
 use Rattle.sctp_model.specs.sender.Words.{count_up}
 use Rattle.sctp_model.specs.sender.Queueing.{fragment_of, cut}
 use Rattle.sctp_model.specs.sender.Filling.{fill}

@@ -1,6 +1,6 @@
 -- A message cut into fragments, as a relation (RFC 9260, 6.9).
 use Rattle.std.specs.Prelude.{◌≡◌, ◌↔◌, ℕ, ◌<◌, ◌≤◌, List, [], ◌∷◌, length}
-use Rattle.sctp_model.specs.Lists.{joined}
+use Rattle.sctp_model.specs.numbers.Lists.{joined}
 use Rattle.sctp_model.specs.sender.Queueing.{cut}
 
 -- a fragment with others behind it has the full size; the last one has a byte at least, and no more than the full size

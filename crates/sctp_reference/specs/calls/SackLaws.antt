@@ -1,7 +1,7 @@
 -- What the sender's functions compute of a SACK and of a SHUTDOWN is what the relations say, and nothing else.
 use Rattle.std.specs.Prelude.{◌≡◌, ◌↔◌, ◌^◌, ◌<◌, ℕ, Some, None}
-use Rattle.sctp_model.specs.Chunk.{SackMeaning}
-use Rattle.sctp_model.specs.SenderView.{SenderView}
+use Rattle.sctp_model.specs.wire.Chunk.{SackMeaning}
+use Rattle.sctp_model.specs.sender.SenderView.{SenderView}
 use Rattle.sctp_model.specs.sender.SackTaken.{SackFault, sack_fault, sack_after, shutdown_fault, shutdown_after}
 use Rattle.sctp_reference.specs.calls.Sacks.{IsFaulty, IsShutdownFaulty, IsTaken, IsShutdownTaken}
 

@@ -1,10 +1,10 @@
 -- A SACK or a SHUTDOWN that comes to a sender, as a relation: the index that its TSN says, what is wrong with it, and what it covers
 -- (RFC 9260, 3.3.4, 6.2.1 and 9.2).
 use Rattle.std.specs.Prelude.{◌≡◌, ◌↔◌, ◌⊎◌, ℕ, ◌+◌, ◌^◌, ◌<◌, ◌≤◌, true, List, [], ◌∷◌, length}
-use Rattle.sctp_model.specs.Lists.{Has}
-use Rattle.sctp_model.specs.Chunk.{BlockMeaning, SackMeaning}
-use Rattle.sctp_model.specs.Serial.{tsn, before}
-use Rattle.sctp_model.specs.SenderView.{SenderView}
+use Rattle.sctp_model.specs.numbers.Lists.{Has}
+use Rattle.sctp_model.specs.wire.Chunk.{BlockMeaning, SackMeaning}
+use Rattle.sctp_model.specs.numbers.Serial.{tsn, before}
+use Rattle.sctp_model.specs.sender.SenderView.{SenderView}
 use Rattle.sctp_model.specs.sender.SackTaken.{SackFault, Stale, Beyond, BadBlock}
 
 -- ---- its numbers

@@ -1,7 +1,7 @@
 -- What the sender's functions compute of the next wish is what the relations say, and nothing else.
 use Rattle.std.specs.Prelude.{◌≡◌, ◌↔◌, ℕ, Some}
-use Rattle.sctp_model.specs.Format.{Format}
-use Rattle.sctp_model.specs.SenderView.{SenderView}
+use Rattle.sctp_model.specs.messages.Format.{Format}
+use Rattle.sctp_model.specs.sender.SenderView.{SenderView}
 use Rattle.sctp_model.specs.sender.Assigning.{turn_of, assigned}
 use Rattle.sctp_model.specs.sender.Filling.{Wish, next_wish}
 use Rattle.sctp_reference.specs.calls.Wishes.{SendsInTurn, TakesIndex, IsNextWish}

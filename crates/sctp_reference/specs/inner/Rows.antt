@@ -2,10 +2,10 @@
 use Rattle.std.specs.Prelude.{◌≡◌, ℕ, ◌⊎◌, ◌≤◌, List, ◌∷◌, Option, Some, None}
 use Rattle.std.specs.declared.vec.Vec.{Vec}
 use Rattle.std.specs.declared.alloc.Global.{Global}
-use Rattle.sctp_model.specs.Lists.{Has, IsWithin}
-use Rattle.sctp_model.specs.Format as model
-use Rattle.sctp_model.specs.Pieces as pieces
-use Rattle.sctp_model.specs.Whole.{IsRow, IsWhole}
+use Rattle.sctp_model.specs.numbers.Lists.{Has, IsWithin}
+use Rattle.sctp_model.specs.messages.Format as model
+use Rattle.sctp_model.specs.messages.Pieces as pieces
+use Rattle.sctp_model.specs.messages.Whole.{IsRow, IsWhole}
 use Rattle.sctp_reference.specs.declared.words.Format.{Format}
 use Rattle.sctp_reference.specs.declared.pieces.Piece.{Piece}
 use Rattle.sctp_reference.specs.declared.pieces.Whole.{Whole}

@@ -1,9 +1,9 @@
 -- What is done with one number of a stream.
 use Rattle.std.specs.Prelude.{◌≡◌, ℕ, ◌<◌, ◌≤◌, ◌^◌, List, ◌∷◌, Option, None, Some}
-use Rattle.sctp_model.specs.Format as model
-use Rattle.sctp_model.specs.Pieces.{Piece}
-use Rattle.sctp_model.specs.ReceiverView as view
-use Rattle.sctp_model.specs.Receiving.{IsWholeNumber, IsLowest, HasNoWhole, message_of}
+use Rattle.sctp_model.specs.messages.Format as model
+use Rattle.sctp_model.specs.messages.Pieces.{Piece}
+use Rattle.sctp_model.specs.receiver.ReceiverView as view
+use Rattle.sctp_model.specs.receiver.Receiving.{IsWholeNumber, IsLowest, HasNoWhole, message_of}
 use Rattle.sctp_reference.specs.declared.giving.Turn.{Turn}
 use Rattle.sctp_reference.specs.declared.giving.Turn.TheVariants.{HandOver, PassOver, Stop}
 use Rattle.sctp_reference.specs.Giving.{handed_of}

@@ -1,8 +1,8 @@
 -- What a sender's functions compute is what the relations say: FILL, the point, and the FORWARD up to it.
 use Rattle.std.specs.Prelude.{◌≡◌, ℕ, List}
-use Rattle.sctp_model.specs.Format.{Format}
-use Rattle.sctp_model.specs.SenderView.{SenderView, IsPoint}
-use Rattle.sctp_model.specs.Forward.{IsForward}
+use Rattle.sctp_model.specs.messages.Format.{Format}
+use Rattle.sctp_model.specs.sender.SenderView.{SenderView, IsPoint}
+use Rattle.sctp_model.specs.messages.Forward.{IsForward}
 use Rattle.sctp_model.specs.sender.Filling.{Wish, IsFill, fill}
 use Rattle.sctp_model.specs.sender.Readers.{point}
 use Rattle.sctp_model.specs.sender.Forwarding.{forward_of}

@@ -1,7 +1,7 @@
 -- The maximal runs of recorded indexes above the cumulative one, computed by a walk over the indexes.
 use Rattle.std.specs.Prelude.{ℕ, zero, suc, ◌+◌, ◌-◌, Bool, true, false, List, [], ◌∷◌, Option, Some, None}
-use Rattle.sctp_model.specs.Chunk.{BlockMeaning}
-use Rattle.sctp_model.specs.ReceiverView.{ReceiverView}
+use Rattle.sctp_model.specs.wire.Chunk.{BlockMeaning}
+use Rattle.sctp_model.specs.receiver.ReceiverView.{ReceiverView}
 
 -- a run from one offset on, up to the one before another
 abbrev pub block : ℕ → ℕ → BlockMeaning

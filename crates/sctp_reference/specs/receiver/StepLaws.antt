@@ -1,13 +1,13 @@
 -- What is computed is what the definitions say: exactly the whole messages, and the one step of each chunk and FORWARD.
 use Rattle.std.specs.Prelude.{◌≡◌, ◌↔◌, ℕ, List}
-use Rattle.sctp_model.specs.Lists.{Has, IsWithin}
-use Rattle.sctp_model.specs.Chunk.{PieceMeaning, SackMeaning, ForwardMeaning}
-use Rattle.sctp_model.specs.Format.{Format}
-use Rattle.sctp_model.specs.Pieces.{Piece}
-use Rattle.sctp_model.specs.Whole.{IsWhole}
-use Rattle.sctp_model.specs.ReceiverView.{ReceiverView, IsCumulative}
-use Rattle.sctp_model.specs.receiver.Laws.{IsApart, IsOrdinary}
-use Rattle.sctp_model.specs.receiver.PieceTaken.{Answer, PieceTaken, answer_to}
+use Rattle.sctp_model.specs.numbers.Lists.{Has, IsWithin}
+use Rattle.sctp_model.specs.wire.Chunk.{PieceMeaning, SackMeaning, ForwardMeaning}
+use Rattle.sctp_model.specs.messages.Format.{Format}
+use Rattle.sctp_model.specs.messages.Pieces.{Piece}
+use Rattle.sctp_model.specs.messages.Whole.{IsWhole}
+use Rattle.sctp_model.specs.receiver.ReceiverView.{ReceiverView, IsCumulative}
+use Rattle.sctp_model.specs.receiver.Laws.{IsFilledOnce, IsOrdinary}
+use Rattle.sctp_model.specs.receiver.PieceTaken.{PieceAnswer, PieceTaken, answer_to}
 use Rattle.sctp_model.specs.receiver.ForwardTaken.{ForwardAnswer, ForwardTaken, forward_answer}
 use Rattle.sctp_model.specs.receiver.SackMade.{AreAllRuns, IsSack}
 use Rattle.sctp_reference.specs.receiver.Wholes.{wholes}
@@ -29,7 +29,7 @@ PiecesAreTaken = (f : Format) (r : ReceiverView) (c : ℕ) (p : PieceMeaning) �
 
 -- and in no other, where kept chunks are apart and were recorded
 abbrev pub PiecesAreTakenSo : Type 0
-PiecesAreTakenSo = (f : Format) (r t : ReceiverView) (c : ℕ) (p : PieceMeaning) (a : Answer) → IsOrdinary f r → IsCumulative r c →
+PiecesAreTakenSo = (f : Format) (r t : ReceiverView) (c : ℕ) (p : PieceMeaning) (a : PieceAnswer) → IsOrdinary f r → IsCumulative r c →
     PieceTaken f r p a t ↔ ((a ≡ answer_to f r c p) × (t ≡ piece_step f r c p))
 
 -- each FORWARD can be taken, in the way that is computed
@@ -39,7 +39,7 @@ ForwardsAreTaken = (f : Format) (r : ReceiverView) (c : ℕ) (x : ForwardMeaning
 
 -- and in no other, where kept chunks are apart
 abbrev pub ForwardsAreTakenSo : Type 0
-ForwardsAreTakenSo = (f : Format) (r t : ReceiverView) (c : ℕ) (x : ForwardMeaning) (a : ForwardAnswer) → IsApart f r.kept → IsCumulative r c →
+ForwardsAreTakenSo = (f : Format) (r t : ReceiverView) (c : ℕ) (x : ForwardMeaning) (a : ForwardAnswer) → IsFilledOnce f r.kept → IsCumulative r c →
     ForwardTaken f r x a t ↔ ((a ≡ forward_answer r c x) × (t ≡ forward_step f r c x))
 
 -- the runs above the cumulative index, of a receiver that recorded no index above a bound

@@ -1,13 +1,13 @@
 -- A receiver's steps, computed from the whole messages among its kept chunks.
 use Rattle.std.specs.Prelude.{◌≡◌, ℕ, zero, suc, ◌≤◌, nat_lt, max, Bool, true, false, List, [], ◌∷◌, ◌++◌, Option, Some, None}
-use Rattle.sctp_model.specs.Lists.{at}
-use Rattle.sctp_model.specs.Chunk.{PieceMeaning, ForwardMeaning}
-use Rattle.sctp_model.specs.Format.{Format, Kind, Ordered, Unordered, ordered_lane}
-use Rattle.sctp_model.specs.Pieces.{Piece}
-use Rattle.sctp_model.specs.ReceiverView.{Handed, ReceiverView}
+use Rattle.sctp_model.specs.numbers.Lists.{at}
+use Rattle.sctp_model.specs.wire.Chunk.{PieceMeaning, ForwardMeaning}
+use Rattle.sctp_model.specs.messages.Format.{Format, Kind, Ordered, Unordered, ordered_lane}
+use Rattle.sctp_model.specs.messages.Pieces.{Piece}
+use Rattle.sctp_model.specs.receiver.ReceiverView.{Handed, ReceiverView}
 use Rattle.sctp_model.specs.receiver.Reading.{piece_at}
-use Rattle.sctp_model.specs.Receiving.{message_of, without_below, handed_unordered, recorded}
-use Rattle.sctp_model.specs.receiver.PieceTaken.{Answer, Duplicate, Ahead, NoSuchStream, Passed, NoRoom, Taken, answer_to, noted}
+use Rattle.sctp_model.specs.receiver.Receiving.{message_of, without_below, handed_unordered, recorded}
+use Rattle.sctp_model.specs.receiver.PieceTaken.{PieceAnswer, Duplicate, Ahead, NoSuchStream, Passed, NoRoom, Kept, answer_to, noted}
 use Rattle.sctp_model.specs.receiver.ForwardTaken.{ForwardAnswer, OutOfDate, Bad, Moved, forward_answer, jumped, let_go}
 use Rattle.sctp_reference.specs.receiver.Wholes.{whole_number, whole_with}
 
@@ -101,13 +101,13 @@ gives f Unordered y r = gives_unordered f y r
 -- ---- a piece and a FORWARD
 
 -- the view after a chunk with this answer: what was recorded and kept, and what was handed over
-abbrev pub after_piece : Format → ReceiverView → Piece → ℕ → Answer → ReceiverView
+abbrev pub after_piece : Format → ReceiverView → Piece → ℕ → PieceAnswer → ReceiverView
 after_piece f r x wire Duplicate = noted r wire
 after_piece f r x wire Ahead = r
 after_piece f r x wire NoSuchStream = recorded r x
 after_piece f r x wire Passed = recorded r x
 after_piece f r x wire NoRoom = r
-after_piece f r x wire Taken = gives f x.lane.kind x (record (recorded r x) { kept = x ∷ r.kept })
+after_piece f r x wire Kept = gives f x.lane.kind x (record (recorded r x) { kept = x ∷ r.kept })
 
 -- the view after a piece, at this cumulative index
 abbrev pub piece_step : Format → ReceiverView → ℕ → PieceMeaning → ReceiverView

@@ -1,17 +1,17 @@
 -- What a listener answers to the caller's INIT, and that the caller reads in it the terms which the cookie names.
 use Rattle.std.proofs.Common.{◌≡◌, ℕ, ◌^◌, ◌<◌, ◌≤◌, min, List, [], ◌∷◌, ◌++◌, length, Some, refl, sym, subst, ap, arith, ◌∙◌}
 use Rattle.std.proofs.Math.Nat.{min-le_left, le-min}
-use Rattle.sctp_model.specs.Lists.{Has}
-use Rattle.sctp_model.specs.Typed.{Typed}
-use Rattle.sctp_model.specs.Chunk.{InitMeaning, InitAck}
+use Rattle.sctp_model.specs.numbers.Lists.{Has}
+use Rattle.sctp_model.specs.wire.Typed.{Typed}
+use Rattle.sctp_model.specs.wire.Chunk.{InitMeaning, InitAck}
 use Rattle.sctp_model.specs.end.Sealing.{Body}
 use Rattle.sctp_model.specs.end.EndView.{Configuration, Draw, EndView}
 use Rattle.sctp_model.specs.end.Configured.{IsConfiguration}
 use Rattle.sctp_model.specs.end.Reports.{written, item, fits_alone, as_fit}
 use Rattle.sctp_model.specs.end.Options.{STATE_COOKIE, value_of, own_options, reports_of}
 use Rattle.sctp_model.specs.end.Opening.{introduction, body_for, init_ack_with, init_ack, terms_of_ack, terms_of_body}
-use Rattle.sctp_model.specs.World.{Side, A, B, Setup, configuration_of}
-use Rattle.sctp_model.specs.Steps.{IsDraw}
+use Rattle.sctp_model.specs.world.World.{Side, A, B, Setup, configuration_of}
+use Rattle.sctp_model.specs.world.Steps.{IsDraw}
 use Rattle.sctp_safety.specs.Agreement.{AreAgreed}
 use Rattle.sctp_safety.proofs.machine.OwnOptions.{nothing_to_report, interleave_read, partial_read, cookie_read_back, interleave_behind, partial_behind}
 

@@ -1,18 +1,18 @@
 -- What an end's answers hold: a listener's INIT ACK apart, never a chunk of the opening.
 use Rattle.std.proofs.Common.{◌≡◌, ℕ, ◌==◌, ◌⊎◌, Bool, true, false, List, [], ◌∷◌, Option, Some, None, inl, inr, refl, sym, subst}
 use Rattle.std.specs.Prelude.{if◌then◌else◌}
-use Rattle.sctp_model.specs.Lists.{Has}
-use Rattle.sctp_model.specs.Chunk.{InitMeaning, ChunkMeaning, Data, IData, Init, InitAck, Sack, Heartbeat, HeartbeatAck, Abort, Shutdown, ShutdownAck, Error, CookieEcho, CookieAck, ShutdownComplete, ForwardTsn, IForwardTsn, Unknown}
-use Rattle.sctp_model.specs.Packet.{Packet}
+use Rattle.sctp_model.specs.numbers.Lists.{Has}
+use Rattle.sctp_model.specs.wire.Chunk.{InitMeaning, ChunkMeaning, Data, IData, Init, InitAck, Sack, Heartbeat, HeartbeatAck, Abort, Shutdown, ShutdownAck, Error, CookieEcho, CookieAck, ShutdownComplete, ForwardTsn, IForwardTsn, Unknown}
+use Rattle.sctp_model.specs.wire.Packet.{Packet}
 use Rattle.sctp_model.specs.end.Sealing.{Sealing}
 use Rattle.sctp_model.specs.end.EndView.{Draw, Configuration, EndView}
 use Rattle.sctp_model.specs.end.Reports.{item, INVALID_PARAMETER}
 use Rattle.sctp_model.specs.end.PeerFaults.{Replies, packet_to, abort_for}
-use Rattle.sctp_model.specs.end.Opening.{RefusedAck, CookieRead, Opens, Stale, Strange, cookie_read, has_no_stream, init_ack}
-use Rattle.sctp_model.specs.end.Acting.{Acts, Empty, WrongFormat, IsWrong, Completes, WrongKind, IsBad}
+use Rattle.sctp_model.specs.end.Opening.{RefusedAck, CookieRead, CookieOpens, CookieLate, Strange, cookie_read, has_no_stream, init_ack}
+use Rattle.sctp_model.specs.end.Acting.{Acts, PieceEmpty, WrongFormat, SackWrong, ShutdownWrong, AckCompletes, WrongKind, IsBad}
 use Rattle.sctp_model.specs.end.Strays.{Verdict, Dropped, Answer, holds_abort, listens, init_verdict, cookie_verdict, echo_verdict, first_verdict, chunks_verdict, stray_verdict}
-use Rattle.sctp_model.specs.end.Arriving.{AllAct, NoneLeft, Next, Last, Answered, Stopped}
-use Rattle.sctp_model.specs.end.Arriving.{Over as Passes}
+use Rattle.sctp_model.specs.end.Arriving.{AllAct, NoneLeft, Next, Last, EndsAnswered, Stopped}
+use Rattle.sctp_model.specs.end.Arriving.{Passes}
 use Rattle.sctp_safety.proofs.machine.Sides.{unknown_never_replies}
 
 -- INIT, INIT ACK, COOKIE ECHO and COOKIE ACK open an association
@@ -35,18 +35,18 @@ one_chunk c tag y off x (inr none) = elim none [ ]
 -- ---- an answer of an end with an association
 
 pub replies_nothing : (e : EndView) (tag : ℕ) (x : ChunkMeaning) (t : EndView) (p : Packet) → Acts e tag x (Replies t p) → OpensNothing p
-replies_nothing e tag (Data q) t p (Empty u _ _ _ _) = one_chunk e.configuration u.peer _ refl
+replies_nothing e tag (Data q) t p (PieceEmpty u _ _ _ _) = one_chunk e.configuration u.peer _ refl
 replies_nothing e tag (Data q) t p (WrongFormat u _ _ _ _ _) = one_chunk e.configuration u.peer _ refl
-replies_nothing e tag (IData q) t p (Empty u _ _ _ _) = one_chunk e.configuration u.peer _ refl
+replies_nothing e tag (IData q) t p (PieceEmpty u _ _ _ _) = one_chunk e.configuration u.peer _ refl
 replies_nothing e tag (IData q) t p (WrongFormat u _ _ _ _ _) = one_chunk e.configuration u.peer _ refl
 replies_nothing e tag (Init m) t p h = absurd (cc)
 replies_nothing e tag (InitAck m) t p (RefusedAck _ _ _ _ _) = one_chunk e.configuration m.tag _ refl
-replies_nothing e tag (Sack s) t p (IsWrong u _ _ _ _) = one_chunk e.configuration u.peer _ refl
+replies_nothing e tag (Sack s) t p (SackWrong u _ _ _ _) = one_chunk e.configuration u.peer _ refl
 replies_nothing e tag (Heartbeat i) t p h = elim h [ ]
 replies_nothing e tag (HeartbeatAck i) t p h = absurd (cc)
 replies_nothing e tag (Abort b xs) t p h = absurd (cc)
-replies_nothing e tag (Shutdown n) t p (IsWrong u _ _ _ _) = one_chunk e.configuration u.peer _ refl
-replies_nothing e tag ShutdownAck t p (Completes u _ _ _) = one_chunk e.configuration u.peer _ refl
+replies_nothing e tag (Shutdown n) t p (ShutdownWrong u _ _ _ _) = one_chunk e.configuration u.peer _ refl
+replies_nothing e tag ShutdownAck t p (AckCompletes u _ _ _) = one_chunk e.configuration u.peer _ refl
 replies_nothing e tag (Error xs) t p h = elim h [ ]
 replies_nothing e tag (CookieEcho xs) t p h = elim h [ ]
 replies_nothing e tag CookieAck t p h = elim h [ ]
@@ -65,7 +65,7 @@ acts_answer tag e b xs t v (NoneLeft _ false) p q = absurd (cc)
 acts_answer tag e b xs t v (Next _ mid _ _ x ys _ act rest) p q = acts_answer tag _ true ys t v rest p q
 acts_answer tag e b xs t v (Passes _ _ _ x ys _ act rest) p q = acts_answer tag e b ys t v rest p q
 acts_answer tag e b xs t v (Last _ _ _ x ys act) p q = absurd (cc)
-acts_answer tag e b xs t v (Answered _ _ _ x ys r act) p q = let s : r ≡ p = cc in subst OpensNothing s (replies_nothing e tag x t r act)
+acts_answer tag e b xs t v (EndsAnswered _ _ _ x ys r act) p q = let s : r ≡ p = cc in subst OpensNothing s (replies_nothing e tag x t r act)
 acts_answer tag e b xs t v (Stopped _ _ x ys n act) p q = absurd (cc)
 
 -- ---- an answer of an end without one
@@ -93,8 +93,8 @@ stray_answer e d p r is = by_chunks p.chunks refl is
         go false h = inr (record { seal = z; init = m; listening = l; held = here; answer = sym cc })
 
     by_cookie : (c : CookieRead) → cookie_verdict e c ≡ Answer r → OpensNothing r ⊎ AnswersInit e d p r
-    by_cookie (Stale b) q = plain b.caller.tag _ refl q
-    by_cookie (Opens b) q = absurd (cc)
+    by_cookie (CookieLate b) q = plain b.caller.tag _ refl q
+    by_cookie (CookieOpens b) q = absurd (cc)
     by_cookie Strange q = absurd (cc)
 
     by_echo : (o : Option Sealing) (cookie : List ℕ) → echo_verdict o e p.tag cookie ≡ Answer r → OpensNothing r ⊎ AnswersInit e d p r

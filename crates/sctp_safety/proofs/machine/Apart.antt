@@ -1,16 +1,16 @@
 -- Two ends that have not met: what a packet does at each of them, and what each says.
 use Rattle.std.proofs.Common.{◌≡◌, ℕ, ◌⊎◌, true, false, List, [], ◌∷◌, drop, Option, Some, None, inl, inr, refl, sym, subst, ap, ◌∙◌}
-use Rattle.sctp_model.specs.Lists.{Has}
-use Rattle.sctp_model.specs.Chunk.{InitMeaning, ChunkMeaning, Init, InitAck, CookieEcho, CookieAck}
-use Rattle.sctp_model.specs.Packet.{Packet}
+use Rattle.sctp_model.specs.numbers.Lists.{Has}
+use Rattle.sctp_model.specs.wire.Chunk.{InitMeaning, ChunkMeaning, Init, InitAck, CookieEcho, CookieAck}
+use Rattle.sctp_model.specs.wire.Packet.{Packet}
 use Rattle.sctp_model.specs.end.Sealing.{Body, Sealing}
 use Rattle.sctp_model.specs.end.EndView.{Phase, Idle, Listening, Calling, Echoing, Open, Over, EndView, has_association}
 use Rattle.sctp_model.specs.end.Configured.{IsConfiguration}
 use Rattle.sctp_model.specs.end.Opening.{init_ack, begun}
 use Rattle.sctp_model.specs.end.Strays.{Verdict, Taken, Dropped, Answer, stray_verdict}
-use Rattle.sctp_model.specs.end.Arriving.{AllAct, Arrives, Elsewhere, NotOurs, Stray, Begins, Heard}
+use Rattle.sctp_model.specs.end.Arriving.{AllAct, Arrives, Elsewhere, NotOurs, Stray, CookieBegins, Heard}
 use Rattle.sctp_model.specs.end.Passing.{passes_chunks}
-use Rattle.sctp_model.specs.World.{Side, A, B, World, end_now, Setup, configuration_of}
+use Rattle.sctp_model.specs.world.World.{Side, A, B, World, end_now, Setup, configuration_of}
 use Rattle.sctp_safety.specs.States.{IsLaterEnd, has_agreed}
 use Rattle.sctp_safety.specs.Strangers.{IsDrawn}
 use Rattle.sctp_safety.specs.Agreement.{AreAgreed, AreEachOthers, was_open}
@@ -83,7 +83,7 @@ module _ (s : Setup) (drawn : List ℕ) (w : World) (ground : IsGrounded s drawn
   caller_comes q t v (FromPeer p here f) (Elsewhere ports) = caller_now
   caller_comes q t v (FromPeer p here f) (NotOurs ports may) = caller_now
   caller_comes q t v (FromPeer p here f) (Stray ports may none closed) = caller_now
-  caller_comes q t v (FromPeer p here f) (Begins b _ _ ports may none opens acts) = absurd (caller_now.calls (found_is (end_now w A) q.tag q.chunks b opens).phase)
+  caller_comes q t v (FromPeer p here f) (CookieBegins b _ _ ports may none opens acts) = absurd (caller_now.calls (found_is (end_now w A) q.tag q.chunks b opens).phase)
   caller_comes q t v (FromPeer p here f) (Heard _ _ ports may has acts) = caller_hears q t v p here f has q.chunks refl may acts
 
   -- what it answers opens nothing
@@ -95,7 +95,7 @@ module _ (s : Setup) (drawn : List ℕ) (w : World) (ground : IsGrounded s drawn
       by : (r : Packet) → OpensNothing r ⊎ AnswersInit (end_now w A) w.draw q r → OpensNothing r
       by r (inl off) = off
       by r (inr a) = absurd (caller_now.calls ((listener_is (end_now w A).phase (end_now w A).role a.seal a.listening).0))
-  caller_quiet q t v (Begins b _ _ ports may none opens acts) = absurd (caller_now.calls (found_is (end_now w A) q.tag q.chunks b opens).phase)
+  caller_quiet q t v (CookieBegins b _ _ ports may none opens acts) = absurd (caller_now.calls (found_is (end_now w A) q.tag q.chunks b opens).phase)
   caller_quiet q t v (Heard _ _ ports may has acts) = quiet_by v (λ r is. acts_answer q.tag (end_now w A) false q.chunks t v acts r is)
 
   -- ---- the listener
@@ -193,7 +193,7 @@ module _ (s : Setup) (drawn : List ℕ) (w : World) (ground : IsGrounded s drawn
 
         by : (r : Packet) → stray_verdict (end_now w B) w.draw q ≡ Answer r → IsGiven r
         by r is = split r (stray_answer (end_now w B) w.draw q r is)
-    listener_comes q t v from (Begins b _ _ ports may none opens acts) = by from
+    listener_comes q t v from (CookieBegins b _ _ ports may none opens acts) = by from
       where
         found : IsFound (end_now w B) q.tag q.chunks b
         found = found_is (end_now w B) q.tag q.chunks b opens

@@ -1,15 +1,15 @@
 -- What a caller builds before it is open: its INIT, its COOKIE ECHO, and an ERROR beside that.
 use Rattle.std.proofs.Common.{◌≡◌, ℕ, Bool, true, false, List, [], ◌∷◌, ◌++◌, Some, inl, inr, refl, sym, subst, ap, ◌∙◌}
-use Rattle.sctp_model.specs.Lists.{Has}
-use Rattle.sctp_model.specs.Chunk.{InitMeaning, ChunkMeaning, Init, CookieEcho}
-use Rattle.sctp_model.specs.Packet.{Packet}
+use Rattle.sctp_model.specs.numbers.Lists.{Has}
+use Rattle.sctp_model.specs.wire.Chunk.{InitMeaning, ChunkMeaning, Init, CookieEcho}
+use Rattle.sctp_model.specs.wire.Packet.{Packet}
 use Rattle.sctp_model.specs.end.Sealing.{Body}
 use Rattle.sctp_model.specs.end.EndView.{Configuration, Tags, Draw, Phase, Calling, Echoing, EndView}
 use Rattle.sctp_model.specs.end.Opening.{own_init}
 use Rattle.sctp_model.specs.end.Building.{Slot, EchoSlot, ErrorSlot, echoing_slots, Wants, EchoCookie, AckCookie, AckHeartbeat, ReportCauses, Acknowledge, PassOn, SayShutdown, AnswerShutdown, Puts, NoMore, NotDue, Put, IsFull, Builds, Sleeps, Waits, Calls, Echoes, Fills}
-use Rattle.sctp_model.specs.end.Building.{Ends as EndsFull}
+use Rattle.sctp_model.specs.end.Building.{EndsFull}
 use Rattle.sctp_model.specs.end.UserCalls.{is_open}
-use Rattle.sctp_model.specs.World.{Setup}
+use Rattle.sctp_model.specs.world.World.{Setup}
 use Rattle.sctp_safety.proofs.machine.Turns.{builds_plain}
 use Rattle.sctp_safety.proofs.machine.AnswerToInit.{init_of}
 use Rattle.sctp_safety.proofs.machine.Answering.{opens_association}

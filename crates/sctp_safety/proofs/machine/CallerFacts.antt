@@ -1,19 +1,19 @@
 -- The caller before its association has both ends: what its bag and the listener's say to it, wherever it stands.
 use Rattle.std.proofs.Common.{◌≡◌, ℕ, Bool, true, false, List, [], ◌∷◌, ◌++◌, Some, inl, inr, refl, sym, subst, ap, ◌∙◌}
-use Rattle.sctp_model.specs.Lists.{Has}
-use Rattle.sctp_model.specs.Chunk.{InitMeaning, ChunkMeaning, Init, InitAck, CookieEcho, CookieAck}
-use Rattle.sctp_model.specs.Packet.{Packet}
+use Rattle.sctp_model.specs.numbers.Lists.{Has}
+use Rattle.sctp_model.specs.wire.Chunk.{InitMeaning, ChunkMeaning, Init, InitAck, CookieEcho, CookieAck}
+use Rattle.sctp_model.specs.wire.Packet.{Packet}
 use Rattle.sctp_model.specs.end.Sealing.{Body}
 use Rattle.sctp_model.specs.end.EndView.{Configuration, Terms, Tags, Established, Draw, Ended, Phase, Idle, Listening, Calling, Echoing, Open, Over, EndView, has_association}
 use Rattle.sctp_model.specs.end.Options.{STATE_COOKIE, value_of}
 use Rattle.sctp_model.specs.end.Opening.{echoing, terms_of_ack, terms_of_body, tags_of_body}
 use Rattle.sctp_model.specs.end.Strays.{Verdict}
-use Rattle.sctp_model.specs.end.Arriving.{AllAct, NoneLeft, Next, Last, Answered, Stopped}
-use Rattle.sctp_model.specs.end.Arriving.{Over as Passes}
+use Rattle.sctp_model.specs.end.Arriving.{AllAct, NoneLeft, Next, Last, EndsAnswered, Stopped}
+use Rattle.sctp_model.specs.end.Arriving.{Passes}
 use Rattle.sctp_model.specs.end.Closing.{rested}
 use Rattle.sctp_model.specs.end.UserCalls.{is_open}
-use Rattle.sctp_model.specs.World.{A, Setup, configuration_of}
-use Rattle.sctp_model.specs.Steps.{IsDraw}
+use Rattle.sctp_model.specs.world.World.{A, Setup, configuration_of}
+use Rattle.sctp_model.specs.world.Steps.{IsDraw}
 use Rattle.sctp_safety.specs.States.{has_agreed}
 use Rattle.sctp_safety.specs.Strangers.{IsDrawn}
 use Rattle.sctp_safety.specs.Agreement.{AreAgreed, AreEachOthers}
@@ -216,5 +216,5 @@ module _ (s : Setup) (drawn : List ℕ) (out back : List Packet) where
         caller_acts tag (rested mid) true ys t v (λ y h. held y (inr h)) (rested_has mid m.1) (caller_plain mid (rested mid) (plain_rested mid) m.0) rest
     caller_acts tag e acted xs t v held has c (Passes _ _ _ x ys _ act rest) = caller_acts tag e acted ys t v (λ y h. held y (inr h)) has c rest
     caller_acts tag e acted xs t v held has c (Last _ _ _ x ys act) = caller_plain e t (ends_plain e tag x t has act) c
-    caller_acts tag e acted xs t v held has c (Answered _ _ _ x ys r act) = caller_plain e t (replies_plain e tag x t r has act) c
+    caller_acts tag e acted xs t v held has c (EndsAnswered _ _ _ x ys r act) = caller_plain e t (replies_plain e tag x t r has act) c
     caller_acts tag e acted xs t v held has c (Stopped _ _ x ys n act) = c

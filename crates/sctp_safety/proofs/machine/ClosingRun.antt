@@ -1,25 +1,25 @@
 -- The closing, step by step: SHUTDOWN, SHUTDOWN ACK, SHUTDOWN COMPLETE, computed from the definitions.
 use Rattle.std.proofs.Common.{ℕ, ◌⊎◌, true, false, List, [], ◌∷◌, ◌++◌, Option, Some, inl, inr, refl, arith}
-use Rattle.sctp_model.specs.Lists.{Has}
-use Rattle.sctp_model.specs.Numbers.{u16_bytes, u32_bytes, u16_at, u32_at}
-use Rattle.sctp_model.specs.Typed.{starts_typed, typed_of}
-use Rattle.sctp_model.specs.Serial.{tsn}
-use Rattle.sctp_model.specs.Chunk.{ShutdownAck, ShutdownComplete}
-use Rattle.sctp_model.specs.Chunk.{Shutdown as Says}
-use Rattle.sctp_model.specs.Packet.{Packet, size_of_packet}
-use Rattle.sctp_model.specs.ReceiverView.{IsReached, IsCumulative, fresh_receiver}
+use Rattle.sctp_model.specs.numbers.Lists.{Has}
+use Rattle.sctp_model.specs.numbers.Numbers.{u16_bytes, u32_bytes, u16_at, u32_at}
+use Rattle.sctp_model.specs.wire.Typed.{starts_typed, typed_of}
+use Rattle.sctp_model.specs.numbers.Serial.{tsn}
+use Rattle.sctp_model.specs.wire.Chunk.{ShutdownAck, ShutdownComplete}
+use Rattle.sctp_model.specs.wire.Chunk.{Shutdown as Says}
+use Rattle.sctp_model.specs.wire.Packet.{Packet, size_of_packet}
+use Rattle.sctp_model.specs.receiver.ReceiverView.{Reaches, IsCumulative, fresh_receiver}
 use Rattle.sctp_model.specs.end.EndView.{Draw, Tags, Established, ShutdownSent, ShutdownAckSent, Completed, EndView, ShutdownAlarm, AckAlarm}
 use Rattle.sctp_model.specs.end.Clock.{started, closed}
 use Rattle.sctp_model.specs.end.Closing.{with_due, rested}
 use Rattle.sctp_model.specs.end.PeerFaults.{packet_to}
-use Rattle.sctp_model.specs.end.Acting.{Counts, Completes, shutdown_heard}
+use Rattle.sctp_model.specs.end.Acting.{ShutdownCounts, AckCompletes, CompleteCompleted, shutdown_heard}
 use Rattle.sctp_model.specs.end.Strays.{Taken, Answer}
-use Rattle.sctp_model.specs.end.Arriving.{Heard, NoneLeft, Next, Last, Answered}
+use Rattle.sctp_model.specs.end.Arriving.{Heard, NoneLeft, Next, Last, EndsAnswered}
 use Rattle.sctp_model.specs.end.Building.{CookieAckSlot, HeartbeatSlot, ErrorSlot, SackSlot, ForwardSlot, ShutdownSlot, ShutdownAckSlot, SayShutdown, AnswerShutdown, NoMore, NotDue, Put, Fills, sent, packet_of}
 use Rattle.sctp_model.specs.end.UserCalls.{shut}
-use Rattle.sctp_model.specs.World.{Side, A, B, World, with_end, with_packet, end_now, came}
-use Rattle.sctp_model.specs.Events.{told, Event, OpenBoth, Foreign, Build, Deliver, Shutdown, Outcome, Done, Sent, Acted}
-use Rattle.sctp_model.specs.Steps.{Step, BuildsOne, FromBag, Comes, ShutsDown, Run, Rest, Then}
+use Rattle.sctp_model.specs.world.World.{Side, A, B, World, with_end, with_packet, end_now, came}
+use Rattle.sctp_model.specs.world.Events.{told, Event, OpenBoth, Foreign, Build, Deliver, Shutdown, Outcome, Done, Sent, Acted}
+use Rattle.sctp_model.specs.world.Steps.{Step, BuildsOne, FromBag, PacketComes, ShutsDown, Run, Rest, Then}
 use Rattle.sctp_safety.specs.Handshake.{AnAssociationCloses}
 use Rattle.sctp_safety.proofs.machine.OpeningWorlds.{two, tags_a, opening, answers, w0, w9}
 use Rattle.sctp_safety.proofs.machine.Handshake.{run, configured, no_stranger, no_pair}
@@ -34,7 +34,7 @@ closing = Shutdown A ∷ Build A ∷ Deliver A 3 ∷ Build B ∷ Deliver B 3 ∷
 fresh_cumulative : (i s b : ℕ) → IsCumulative (fresh_receiver i s b) 0
 fresh_cumulative i s b = record { reached = λ j low high. absurd (omega (arith, low, high)); open_end = λ h. go h }
   where
-    go : IsReached (fresh_receiver i s b) 1 → ⊥
+    go : Reaches (fresh_receiver i s b) 1 → ⊥
     go (inl e) = absurd (cc)
     go (inr h) = absurd (omega (arith, h))
 
@@ -93,8 +93,8 @@ step_11 = BuildsOne A (Says (tsn 200 0)) [] (sent said (Says (tsn 200 0) ∷ [])
 
 step_12 : Step w11 (Deliver A 3) (Some Acted) w12
 unfolding u16_bytes u32_bytes u16_at u32_at starts_typed typed_of
-step_12 = Comes (Deliver A 3) B packet_5 (rested heard) Taken (FromBag A 3 packet_5 refl) (Heard (rested heard) Taken refl refl refl
-    (Next (end_now w11 B) heard (rested heard) false (Says (tsn 200 0)) [] Taken (Counts tags_b Established refl refl refl) (NoneLeft (rested heard) true)))
+step_12 = PacketComes (Deliver A 3) B packet_5 (rested heard) Taken (FromBag A 3 packet_5 refl) (Heard (rested heard) Taken refl refl refl
+    (Next (end_now w11 B) heard (rested heard) false (Says (tsn 200 0)) [] Taken (ShutdownCounts tags_b Established refl refl refl) (NoneLeft (rested heard) true)))
 
 step_13 : Step w12 (Build B) (Some (Sent 3 (size_of_packet (ShutdownAck ∷ [])))) w13
 unfolding u16_bytes u32_bytes u16_at u32_at starts_typed typed_of
@@ -110,13 +110,13 @@ step_13 = BuildsOne B ShutdownAck [] (sent answered (ShutdownAck ∷ [])) (Fills
 
 step_14 : Step w13 (Deliver B 3) (Some (told w13 A (Answer packet_7))) w14
 unfolding u16_bytes u32_bytes u16_at u32_at starts_typed typed_of
-step_14 = Comes (Deliver B 3) A packet_6 (closed Completed (end_now w13 A)) (Answer packet_7) (FromBag B 3 packet_6 refl) (Heard (closed Completed (end_now w13 A)) (Answer packet_7) refl refl refl
-    (Answered (end_now w13 A) (closed Completed (end_now w13 A)) false ShutdownAck [] packet_7 (Completes tags_a ShutdownSent refl refl)))
+step_14 = PacketComes (Deliver B 3) A packet_6 (closed Completed (end_now w13 A)) (Answer packet_7) (FromBag B 3 packet_6 refl) (Heard (closed Completed (end_now w13 A)) (Answer packet_7) refl refl refl
+    (EndsAnswered (end_now w13 A) (closed Completed (end_now w13 A)) false ShutdownAck [] packet_7 (AckCompletes tags_a ShutdownSent refl refl)))
 
 step_15 : Step w14 (Deliver A 4) (Some Acted) w15
 unfolding u16_bytes u32_bytes u16_at u32_at starts_typed typed_of
-step_15 = Comes (Deliver A 4) B packet_7 (closed Completed (end_now w14 B)) Taken (FromBag A 4 packet_7 refl) (Heard (closed Completed (end_now w14 B)) Taken refl refl refl
-    (Last (end_now w14 B) (closed Completed (end_now w14 B)) false (ShutdownComplete false) [] (Completes refl)))
+step_15 = PacketComes (Deliver A 4) B packet_7 (closed Completed (end_now w14 B)) Taken (FromBag A 4 packet_7 refl) (Heard (closed Completed (end_now w14 B)) Taken refl refl refl
+    (Last (end_now w14 B) (closed Completed (end_now w14 B)) false (ShutdownComplete false) [] (CompleteCompleted refl)))
 
 abbrev told_closing : List (Option Outcome)
 told_closing =

@@ -1,7 +1,7 @@
 -- Over every run each end goes along the diagram of states, and keeps what it has agreed on.
 use Rattle.std.proofs.Common.{◌≡◌, ℕ, ◌⊎◌, Bool, true, false, List, drop, inl, inr, refl, sym, subst, ◌∙◌}
-use Rattle.sctp_model.specs.Chunk.{ChunkMeaning}
-use Rattle.sctp_model.specs.Packet.{Packet}
+use Rattle.sctp_model.specs.wire.Chunk.{ChunkMeaning}
+use Rattle.sctp_model.specs.wire.Packet.{Packet}
 use Rattle.sctp_model.specs.end.Sealing.{Body}
 use Rattle.sctp_model.specs.end.EndView.{Draw, Established, Phase, Idle, Listening, Calling, Echoing, Open, EndView, has_association}
 use Rattle.sctp_model.specs.end.EndView.{Over as IsOver}
@@ -9,11 +9,11 @@ use Rattle.sctp_model.specs.end.Closing.{rested}
 use Rattle.sctp_model.specs.end.Clock.{at_moment}
 use Rattle.sctp_model.specs.end.Opening.{begun}
 use Rattle.sctp_model.specs.end.Strays.{Verdict}
-use Rattle.sctp_model.specs.end.Arriving.{AllAct, NoneLeft, Next, Last, Answered, Stopped, Arrives, Elsewhere, NotOurs, Stray, Begins, Heard}
-use Rattle.sctp_model.specs.end.Arriving.{Over as Passes}
+use Rattle.sctp_model.specs.end.Arriving.{AllAct, NoneLeft, Next, Last, EndsAnswered, Stopped, Arrives, Elsewhere, NotOurs, Stray, CookieBegins, Heard}
+use Rattle.sctp_model.specs.end.Arriving.{Passes}
 use Rattle.sctp_model.specs.end.Moments.{ticked}
 use Rattle.sctp_model.specs.end.UserCalls.{called}
-use Rattle.sctp_model.specs.Steps.{opened}
+use Rattle.sctp_model.specs.world.Steps.{opened}
 use Rattle.sctp_safety.specs.States.{IsTurn, ByCall, ByInitAck, ByCookieAck, ByCookie, ByPair, ByStage, ByEnd, IsPath, Here, On, has_begun, has_agreed, IsLaterEnd}
 use Rattle.sctp_safety.proofs.machine.Strangers.{found_is}
 use Rattle.sctp_safety.proofs.machine.Turns.{IsPlainTurn, Stays, Leaves, Goes, IsPlain, path_on, one_turn, begun_by_association, plain_rested, rested_has, IsLeft, Plainly, Accepts, Acked, goes_left, ends_plain, replies_plain}
@@ -144,7 +144,7 @@ acts_later tag e b xs t v has (Next _ mid _ _ x ys _ act rest) =
     (acts_later tag (rested mid) true ys t v (rested_has mid (left_has e x mid l has)) rest)
 acts_later tag e b xs t v has (Passes _ _ _ x ys _ act rest) = acts_later tag e b ys t v has rest
 acts_later tag e b xs t v has (Last _ _ _ x ys act) = plain_later e t (ends_plain e tag x t has act)
-acts_later tag e b xs t v has (Answered _ _ _ x ys p act) = plain_later e t (replies_plain e tag x t p has act)
+acts_later tag e b xs t v has (EndsAnswered _ _ _ x ys p act) = plain_later e t (replies_plain e tag x t p has act)
 acts_later tag e b xs t v has (Stopped _ _ x ys n act) = later_same e
 
 begun_later : (b : Body) (e : EndView) → e.phase ≡ Listening → IsLaterEnd e (begun b e)
@@ -160,7 +160,7 @@ pub arrives_later : (e : EndView) (d : Draw) (p : Packet) (t : EndView) (v : Ver
 arrives_later e d p t v (Elsewhere ports) = later_same e
 arrives_later e d p t v (NotOurs ports passes) = later_same e
 arrives_later e d p t v (Stray ports passes none closed) = later_same e
-arrives_later e d p t v (Begins b _ _ ports passes none opens acts) =
+arrives_later e d p t v (CookieBegins b _ _ ports passes none opens acts) =
     let f = found_is e p.tag p.chunks b opens in
     later_on e (begun b e) t (begun_later b e f.phase) (acts_later p.tag (begun b e) true (drop 1 p.chunks) t v refl acts)
 arrives_later e d p t v (Heard _ _ ports passes has acts) = acts_later p.tag e false p.chunks t v has acts

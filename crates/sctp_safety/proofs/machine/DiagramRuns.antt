@@ -1,13 +1,13 @@
 -- Each step of the world takes each end along the diagram, so each run does.
 use Rattle.std.proofs.Common.{◌≡◌, max, true, false, List, [], ◌∷◌, Option, inl, inr, refl, sym, subst, ◌∙◌}
-use Rattle.sctp_model.specs.Packet.{Packet}
+use Rattle.sctp_model.specs.wire.Packet.{Packet}
 use Rattle.sctp_model.specs.end.EndView.{Ended, has_association, Phase, Idle, Listening, Calling, Echoing, Open, Over, EndView}
 use Rattle.sctp_model.specs.end.Strays.{Verdict, Taken, Dropped, Answer}
 use Rattle.sctp_model.specs.end.Moments.{ticked}
 use Rattle.sctp_model.specs.end.UserCalls.{Called, connect_answer, called, send_answer, send_leaves, abandoned_at, shut, AbortAnswer, Aborts, NoPeer, TooLong, abort_answer, abort_leaves}
-use Rattle.sctp_model.specs.World.{Side, A, B, other, Log, World, end_of, with_end, with_packet, with_log, end_now, came, start}
-use Rattle.sctp_model.specs.Events.{with_verdict, with_abort, Event, Outcome}
-use Rattle.sctp_model.specs.Steps.{Step, Opens, OpenRefused, TimePasses, Draws, Connects, ConnectRefused, BuildsOne, BuildsNone, Comes, IsAbsent, Unread, Sends, Abandons, TakesOne, ShutsDown, AbortsIt, CutFirst, CutLater, NoMemory, Run, Rest, Then}
+use Rattle.sctp_model.specs.world.World.{Side, A, B, other, Log, World, end_of, with_end, with_packet, with_log, end_now, came, start}
+use Rattle.sctp_model.specs.world.Events.{with_verdict, with_abort, Event, Outcome}
+use Rattle.sctp_model.specs.world.Steps.{Step, OpensBoth, OpenRefused, TimePasses, Draws, Connects, ConnectRefused, BuildsOne, BuildsNone, PacketComes, IsAbsent, Unread, Sends, AbandonsOne, TakesOne, ShutsDown, AbortsIt, CutFirst, CutLater, NoMemory, Run, Rest, Then}
 use Rattle.sctp_safety.specs.States.{ClosedForGood, IsTurn, ByCall, ByInitAck, ByCookieAck, ByCookie, ByPair, ByStage, ByEnd, IsPath, Here, On, has_begun, IsLaterEnd, EndsFollowTheDiagram}
 use Rattle.sctp_safety.proofs.machine.Turns.{IsPlain, builds_plain}
 use Rattle.sctp_safety.proofs.machine.TurnsOfTime.{plain_ticked, plain_sent, plain_abandoned, plain_taken, plain_shut, plain_aborted}
@@ -116,7 +116,7 @@ connect_idle (Open t g) e = absurd (cc)
 connect_idle (Over why) e = absurd (cc)
 
 pub step_onward : (w : World) (e : Event) (o : Option Outcome) (v : World) → IsFresh w → Step w e o v → IsOnward w v
-step_onward w e o v f (Opens x y may dx dy) = record { later = later; fresh = λ q. absurd (cc) }
+step_onward w e o v f (OpensBoth x y may dx dy) = record { later = later; fresh = λ q. absurd (cc) }
   where
     later : (z : Side) → IsLaterEnd (end_of w z) (end_of v z)
     later A = later_opened w.a x y w.a.phase refl (inl ((f may).0))
@@ -145,7 +145,7 @@ step_onward w e o v f (ConnectRefused d answer) = onward_same w f
 step_onward w e o v f (BuildsOne s x xs t b) =
     onward_kept w (with_end w s t) v (onward_now w s t f (builds_plain (end_now w s) (x ∷ xs) t b)) (kept_packet (with_end w s t) s _)
 step_onward w e o v f (BuildsNone s t b) = onward_now w s t f (builds_plain (end_now w s) [] t b)
-step_onward w e o v f (Comes _ s p t d brings arrives) =
+step_onward w e o v f (PacketComes _ s p t d brings arrives) =
     onward_kept w (came w s t) v (onward_arrives w s t (arrives_later (end_now w s) w.draw p t d arrives)) (kept_verdict (came w s t) s d)
 step_onward w e o v f (IsAbsent s n none) = onward_same w f
 step_onward w e o v f (Unread s) = onward_came w s (end_now w s) (later_now (end_of w s) w.clock)
@@ -153,7 +153,7 @@ step_onward w e o v f (Sends s c) =
     onward_kept w (with_end w s (send_leaves (send_answer (end_of w s) c) (end_of w s) c)) v
     (onward_plain w s (send_leaves (send_answer (end_of w s) c) (end_of w s) c) f (plain_sent (end_of w s) c (send_answer (end_of w s) c)))
     (kept_log (with_end w s (send_leaves (send_answer (end_of w s) c) (end_of w s) c)) s _)
-step_onward w e o v f (Abandons s k) =
+step_onward w e o v f (AbandonsOne s k) =
     onward_kept w (with_end w s (abandoned_at (end_of w s) k)) v
     (onward_plain w s (abandoned_at (end_of w s) k) f (plain_abandoned (end_of w s) k)) (kept_log (with_end w s (abandoned_at (end_of w s) k)) s _)
 step_onward w e o v f (TakesOne s n h t takes) = onward_plain w s t f (plain_taken (end_of w s) n h t takes)

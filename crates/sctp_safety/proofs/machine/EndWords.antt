@@ -1,15 +1,15 @@
 -- What a step does to an end, in words that facts are proved over: the turn of the phase, and what every chunk leaves as it was.
 use Rattle.std.proofs.Common.{◌≡◌, ℕ, Bool, true, false, List, inl, inr, refl}
-use Rattle.sctp_model.specs.Lists.{Has}
-use Rattle.sctp_model.specs.Chunk.{ChunkMeaning}
-use Rattle.sctp_model.specs.Packet.{Packet}
+use Rattle.sctp_model.specs.numbers.Lists.{Has}
+use Rattle.sctp_model.specs.wire.Chunk.{ChunkMeaning}
+use Rattle.sctp_model.specs.wire.Packet.{Packet}
 use Rattle.sctp_model.specs.sender.Readers.{drained}
 use Rattle.sctp_model.specs.end.EndView.{Tags, Established, ShutdownPending, ShutdownSent, ShutdownReceived, ShutdownAckSent, Phase, Idle, Listening, Calling, Echoing, Open, Over, EndView}
 use Rattle.sctp_model.specs.end.Closing.{says_shutdown, answers_shutdown, rested_in, rested}
 use Rattle.sctp_model.specs.end.PeerFaults.{GoesOn, Ends, Replies}
 use Rattle.sctp_model.specs.end.Acting.{Acts}
 use Rattle.sctp_model.specs.end.Strays.{Verdict, Taken, Dropped, Answer}
-use Rattle.sctp_model.specs.end.Arriving.{AllAct, NoneLeft, Next, Over as Passes, Last, Answered, Stopped}
+use Rattle.sctp_model.specs.end.Arriving.{AllAct, NoneLeft, Next, Passes, Last, EndsAnswered, Stopped}
 
 -- ---- an end at rest
 
@@ -55,5 +55,5 @@ all_act_keeps tag P Q R k e b xs t v q p (Next _ mid _ _ x ys _ act rest) =
 all_act_keeps tag P Q R k e b xs t v q p (Passes _ _ _ x ys _ act rest) =
     all_act_keeps tag P Q R k e b ys t v (λ y h. q y (inr h)) p rest
 all_act_keeps tag P Q R k e b xs t v q p (Last _ _ _ x ys act) = (k.ends e x t (q x (inl refl)) p act, tt)
-all_act_keeps tag P Q R k e b xs t v q p (Answered _ _ _ x ys r act) = k.replies e x t r (q x (inl refl)) p act
+all_act_keeps tag P Q R k e b xs t v q p (EndsAnswered _ _ _ x ys r act) = k.replies e x t r (q x (inl refl)) p act
 all_act_keeps tag P Q R k e b xs t v q p (Stopped _ _ x ys n act) = (p, tt)

@@ -1,13 +1,13 @@
 -- Over every run from START that meets the premises, two ends are apart or agree.
 use Rattle.std.proofs.Common.{◌≡◌, ℕ, true, false, List, [], ◌∷◌, ◌++◌, map, Option, inl, inr, refl, sym, subst, ap, arith}
-use Rattle.sctp_model.specs.Lists.{Has, joined}
+use Rattle.sctp_model.specs.numbers.Lists.{Has, joined}
 use Rattle.sctp_model.specs.end.Sealing.{Sealing}
 use Rattle.sctp_model.specs.end.EndView.{Draw, Phase, Listener}
 use Rattle.sctp_model.specs.end.Configured.{IsConfiguration}
-use Rattle.sctp_model.specs.World.{Side, A, B, World, end_of, Setup, configuration_of, start}
-use Rattle.sctp_model.specs.Events.{Event, Outcome}
-use Rattle.sctp_model.specs.Steps.{Step, Run, Rest, Then}
-use Rattle.sctp_model.specs.Premises.{draws_of, drawn_in, Premises}
+use Rattle.sctp_model.specs.world.World.{Side, A, B, World, end_of, Setup, configuration_of, start}
+use Rattle.sctp_model.specs.world.Events.{Event, Outcome}
+use Rattle.sctp_model.specs.world.Steps.{Step, Run, Rest, Then}
+use Rattle.sctp_model.specs.world.Premises.{draws_of, drawn_in, Premises}
 use Rattle.sctp_safety.specs.Strangers.{IsDrawn}
 use Rattle.sctp_safety.specs.Agreement.{was_open, IsOpening, EndsAgree}
 use Rattle.sctp_safety.proofs.machine.DiagramRuns.{IsFresh, step_onward}

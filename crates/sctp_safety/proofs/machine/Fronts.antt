@@ -1,13 +1,13 @@
 -- What comes to an end in a step, whole or cut: a packet of the bag across, or a stranger's.
 use Rattle.std.proofs.Common.{◌≡◌, ℕ, zero, suc, List, [], ◌∷◌, ◌++◌, Some, inl, inr, refl, sym, subst, ap, ◌∙◌}
 use Rattle.std.specs.Prelude.{slice_get}
-use Rattle.sctp_model.specs.Lists.{Has, item_at}
-use Rattle.sctp_model.specs.Chunk.{ChunkMeaning, Init}
-use Rattle.sctp_model.specs.Packet.{Packet}
-use Rattle.sctp_model.specs.World.{Side, A, B, other, World, bag_of, Setup}
-use Rattle.sctp_model.specs.Events.{Event}
-use Rattle.sctp_model.specs.Steps.{Brings, FromBag, FromStranger, cut}
-use Rattle.sctp_model.specs.Premises.{IsStranger}
+use Rattle.sctp_model.specs.numbers.Lists.{Has, item_at}
+use Rattle.sctp_model.specs.wire.Chunk.{ChunkMeaning, Init}
+use Rattle.sctp_model.specs.wire.Packet.{Packet}
+use Rattle.sctp_model.specs.world.World.{Side, A, B, other, World, bag_of, Setup}
+use Rattle.sctp_model.specs.world.Events.{Event}
+use Rattle.sctp_model.specs.world.Steps.{Brings, FromBag, FromStranger, cut_to}
+use Rattle.sctp_model.specs.world.Premises.{IsStranger}
 use Rattle.sctp_safety.proofs.machine.Strangers.{IsInitAlone, placed_alone}
 use Rattle.sctp_safety.proofs.machine.Ground.{IsFine}
 
@@ -72,8 +72,8 @@ cut_alone y front back z ys part alone m xs is =
     absurd (never_empty front z back none)
 
 pub from_cut : (s : Setup) (drawn : List ℕ) (w : World) (e : Event) (x : Side) (p : Packet) (y : ChunkMeaning) (front back : List ChunkMeaning) (z : ChunkMeaning) →
-    IsFine s drawn e → Brings w e x p → p.chunks ≡ (y ∷ front) ++ z ∷ back → From s drawn w x (cut p (y ∷ front))
+    IsFine s drawn e → Brings w e x p → p.chunks ≡ (y ∷ front) ++ z ∷ back → From s drawn w x (cut_to p (y ∷ front))
 from_cut s drawn w e x p y front back z fine brings part =
-    from_any s drawn w e x p (cut p (y ∷ front)) fine brings
+    from_any s drawn w e x p (cut_to p (y ∷ front)) fine brings
     (record { tag = refl; chunks = λ c h. subst (λ (ys : List ChunkMeaning). Has ys c) (sym part) (has_front (y ∷ front) (z ∷ back) c h) })
     (cut_alone y front back z p.chunks part)

@@ -5,7 +5,7 @@ use Rattle.sctp_model.specs.end.Clock.{started}
 use Rattle.sctp_model.specs.end.Closing.{with_due}
 use Rattle.sctp_model.specs.end.Moments.{ticked}
 use Rattle.sctp_model.specs.end.UserCalls.{called}
-use Rattle.sctp_model.specs.World.{A, configuration_of}
+use Rattle.sctp_model.specs.world.World.{A, configuration_of}
 use Rattle.sctp_safety.proofs.machine.OpeningWorlds.{two, of_a}
 
 -- the INIT goes out, and the end is told the moment at which its timer expires

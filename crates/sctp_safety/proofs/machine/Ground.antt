@@ -1,22 +1,22 @@
 -- What holds in every world of a run, before anything is said of the opening: how the ends are set up, their seal, their moments, the draw.
 use Rattle.std.proofs.Common.{◌≡◌, ℕ, ◌^◌, ◌<◌, max, Bool, true, false, List, [], ◌∷◌, map, Option, Some, None, inl, refl, sym, subst, arith, ◌∙◌}
-use Rattle.sctp_model.specs.Lists.{Has}
-use Rattle.sctp_model.specs.Chunk.{ChunkMeaning}
-use Rattle.sctp_model.specs.Packet.{Packet}
+use Rattle.sctp_model.specs.numbers.Lists.{Has}
+use Rattle.sctp_model.specs.wire.Chunk.{ChunkMeaning}
+use Rattle.sctp_model.specs.wire.Packet.{Packet}
 use Rattle.sctp_model.specs.end.Sealing.{Sealing}
 use Rattle.sctp_model.specs.end.EndView.{Draw, Listener, EndView, has_association}
 use Rattle.sctp_model.specs.end.Clock.{at_moment}
 use Rattle.sctp_model.specs.end.Closing.{rested}
 use Rattle.sctp_model.specs.end.Strays.{Verdict}
-use Rattle.sctp_model.specs.end.Arriving.{AllAct, NoneLeft, Next, Last, Answered, Stopped, Arrives, Elsewhere, NotOurs, Stray, Begins, Heard}
-use Rattle.sctp_model.specs.end.Arriving.{Over as Passes}
+use Rattle.sctp_model.specs.end.Arriving.{AllAct, NoneLeft, Next, Last, EndsAnswered, Stopped, Arrives, Elsewhere, NotOurs, Stray, CookieBegins, Heard}
+use Rattle.sctp_model.specs.end.Arriving.{Passes}
 use Rattle.sctp_model.specs.end.Moments.{ticked}
 use Rattle.sctp_model.specs.end.Opening.{begun}
 use Rattle.sctp_model.specs.end.UserCalls.{called, send_answer, shut, abort_answer, abort_leaves}
-use Rattle.sctp_model.specs.World.{Side, A, B, World, end_of, end_now, Setup, configuration_of}
-use Rattle.sctp_model.specs.Events.{Event, Foreign, Outcome}
-use Rattle.sctp_model.specs.Steps.{opened, IsDraw, Step, Opens, OpenRefused, TimePasses, Draws, Connects, ConnectRefused, BuildsOne, BuildsNone, Comes, IsAbsent, Unread, Sends, Abandons, TakesOne, ShutsDown, AbortsIt, CutFirst, CutLater, NoMemory}
-use Rattle.sctp_model.specs.Premises.{draws_of, IsStranger}
+use Rattle.sctp_model.specs.world.World.{Side, A, B, World, end_of, end_now, Setup, configuration_of}
+use Rattle.sctp_model.specs.world.Events.{Event, Foreign, Outcome}
+use Rattle.sctp_model.specs.world.Steps.{opened, IsDraw, Step, OpensBoth, OpenRefused, TimePasses, Draws, Connects, ConnectRefused, BuildsOne, BuildsNone, PacketComes, IsAbsent, Unread, Sends, AbandonsOne, TakesOne, ShutsDown, AbortsIt, CutFirst, CutLater, NoMemory}
+use Rattle.sctp_model.specs.world.Premises.{draws_of, IsStranger}
 use Rattle.sctp_safety.proofs.machine.Sides.{IsSameEnd, same_end, same_on, same_rested, goes_same, ends_same}
 use Rattle.sctp_safety.proofs.machine.Turns.{IsPlain, rested_has, builds_plain, replies_plain, goes_left}
 use Rattle.sctp_safety.proofs.machine.TurnsOfTime.{plain_ticked, plain_sent, plain_abandoned, plain_taken, plain_shut, plain_aborted}
@@ -42,14 +42,14 @@ acts_same tag e b xs t v has (Next _ mid _ _ x ys _ act rest) =
     (acts_same tag (rested mid) true ys t v (rested_has mid (left_has e x mid (goes_left e tag x mid act) has)) rest)
 acts_same tag e b xs t v has (Passes _ _ _ x ys _ act rest) = acts_same tag e b ys t v has rest
 acts_same tag e b xs t v has (Last _ _ _ x ys act) = ends_same e tag x t act
-acts_same tag e b xs t v has (Answered _ _ _ x ys p act) = plain_is_same e t (replies_plain e tag x t p has act)
+acts_same tag e b xs t v has (EndsAnswered _ _ _ x ys p act) = plain_is_same e t (replies_plain e tag x t p has act)
 acts_same tag e b xs t v has (Stopped _ _ x ys n act) = same_end e
 
 pub arrives_same : (e : EndView) (d : Draw) (p : Packet) (t : EndView) (v : Verdict) → Arrives e d p t v → IsSameEnd e t
 arrives_same e d p t v (Elsewhere ports) = same_end e
 arrives_same e d p t v (NotOurs ports tag) = same_end e
 arrives_same e d p t v (Stray ports tag none closed) = same_end e
-arrives_same e d p t v (Begins b _ _ ports tag none opens acts) =
+arrives_same e d p t v (CookieBegins b _ _ ports tag none opens acts) =
     same_on e (begun b e) t (record { configuration = refl; role = refl; moment = refl }) (acts_same p.tag (begun b e) true _ t v refl acts)
 arrives_same e d p t v (Heard _ _ ports tag has acts) = acts_same p.tag e false p.chunks t v has acts
 
@@ -103,7 +103,7 @@ module _ (s : Setup) (drawn : List ℕ) where
       well_same s x (at_moment (end_of w x) n) (ticked (end_of w x) n) (plain_is_same _ _ (plain_ticked (end_of w x) n)) (well_now s x (end_of w x) n b (g.ends x))
 
   pub ground_step : (w : World) (e : Event) (o : Option Outcome) (v : World) → IsFine s drawn e → IsGrounded s drawn w → Step w e o v → IsGrounded s drawn v
-  ground_step w e o v fine g (Opens x y may dx dy) = record { ends = ends; clock = g.clock; draw = g.draw; draw_tag = g.draw_tag }
+  ground_step w e o v fine g (OpensBoth x y may dx dy) = record { ends = ends; clock = g.clock; draw = g.draw; draw_tag = g.draw_tag }
     where
       ends : (z : Side) → IsWell s z (end_of v z)
       ends A = well_opened s A w.a x y (g.ends A)
@@ -130,11 +130,11 @@ module _ (s : Setup) (drawn : List ℕ) where
   ground_step w e o v fine g (ConnectRefused d answer) = g
   ground_step w e o v fine g (BuildsOne x y ys t b) = ground_now w v x t _ g (at_packet w x t _) (plain_is_same _ t (builds_plain (end_now w x) (y ∷ ys) t b))
   ground_step w e o v fine g (BuildsNone x t b) = ground_now w v x t None g (at_end w x t) (plain_is_same _ t (builds_plain (end_now w x) [] t b))
-  ground_step w e o v fine g (Comes _ x p t d brings arrives) = ground_now w v x t (answer_of d) g (at_verdict w x t d) (arrives_same (end_now w x) w.draw p t d arrives)
+  ground_step w e o v fine g (PacketComes _ x p t d brings arrives) = ground_now w v x t (answer_of d) g (at_verdict w x t d) (arrives_same (end_now w x) w.draw p t d arrives)
   ground_step w e o v fine g (IsAbsent x n none) = g
   ground_step w e o v fine g (Unread x) = ground_now w v x (end_now w x) None g (at_came w x (end_now w x)) (same_end (end_now w x))
   ground_step w e o v fine g (Sends x c) = ground_same w v x _ None g (at_log w x _ _) (plain_is_same _ _ (plain_sent (end_of w x) c (send_answer (end_of w x) c)))
-  ground_step w e o v fine g (Abandons x k) = ground_same w v x _ None g (at_log w x _ _) (plain_is_same _ _ (plain_abandoned (end_of w x) k))
+  ground_step w e o v fine g (AbandonsOne x k) = ground_same w v x _ None g (at_log w x _ _) (plain_is_same _ _ (plain_abandoned (end_of w x) k))
   ground_step w e o v fine g (TakesOne x n h t takes) = ground_same w v x t None g (at_end w x t) (plain_is_same _ t (plain_taken (end_of w x) n h t takes))
   ground_step w e o v fine g (ShutsDown x) = ground_same w v x (shut (end_of w x)) None g (at_end w x _) (plain_is_same _ _ (plain_shut (end_of w x)))
   ground_step w e o v fine g (AbortsIt x r) =

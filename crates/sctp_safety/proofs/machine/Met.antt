@@ -1,10 +1,10 @@
 -- Once two ends have met, no step parts them: an end goes along the diagram, and keeps its tags and its terms.
 use Rattle.std.proofs.Common.{◌≡◌, ℕ, Bool, true, false, List, Option, refl, sym, subst}
-use Rattle.sctp_model.specs.Lists.{IsWithin}
+use Rattle.sctp_model.specs.numbers.Lists.{IsWithin}
 use Rattle.sctp_model.specs.end.EndView.{Terms, Phase, Idle, Listening, Calling, Echoing, Open, Over}
-use Rattle.sctp_model.specs.World.{Side, A, B, World, end_of}
-use Rattle.sctp_model.specs.Events.{Event, Outcome}
-use Rattle.sctp_model.specs.Steps.{Step}
+use Rattle.sctp_model.specs.world.World.{Side, A, B, World, end_of}
+use Rattle.sctp_model.specs.world.Events.{Event, Outcome}
+use Rattle.sctp_model.specs.world.Steps.{Step}
 use Rattle.sctp_safety.specs.States.{IsTurn, ByCall, ByInitAck, ByCookieAck, ByCookie, ByPair, ByStage, ByEnd, IsPath, Here, On, has_agreed}
 use Rattle.sctp_safety.specs.Strangers.{tags_of, IsDrawn}
 use Rattle.sctp_safety.specs.Agreement.{AreAgreed, AreEachOthers, was_open, HaveMet}

@@ -1,11 +1,11 @@
 -- A step at one end: what it leaves there, what it puts into that end's bag, and that nothing changes across.
 use Rattle.std.proofs.Common.{◌≡◌, List, [], ◌∷◌, ◌++◌, Option, Some, None, refl, sym, subst}
-use Rattle.sctp_model.specs.Packet.{Packet}
+use Rattle.sctp_model.specs.wire.Packet.{Packet}
 use Rattle.sctp_model.specs.end.EndView.{EndView}
 use Rattle.sctp_model.specs.end.Strays.{Verdict, Taken, Dropped, Answer}
 use Rattle.sctp_model.specs.end.UserCalls.{AbortAnswer, Aborts, NoPeer, TooLong}
-use Rattle.sctp_model.specs.World.{Side, A, B, other, Log, World, end_of, bag_of, with_end, with_packet, with_log, came}
-use Rattle.sctp_model.specs.Events.{with_verdict, with_abort}
+use Rattle.sctp_model.specs.world.World.{Side, A, B, other, Log, World, end_of, bag_of, with_end, with_packet, with_log, came}
+use Rattle.sctp_model.specs.world.Events.{with_verdict, with_abort}
 
 -- a bag with a packet more, if there is one
 abbrev pub bag_with : List Packet → Option Packet → List Packet

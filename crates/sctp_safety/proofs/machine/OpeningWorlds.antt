@@ -1,7 +1,7 @@
 -- The opening's worlds, one after the other, and what each event is answered.
 use Rattle.std.proofs.Common.{◌≡◌, ℕ, Bool, true, false, List, [], ◌∷◌, ◌++◌, replicate, Option, Some, None, refl, ap, ◌==◌, ◌∙◌}
-use Rattle.sctp_model.specs.Chunk.{InitMeaning, ChunkMeaning, InitAck, CookieEcho, CookieAck}
-use Rattle.sctp_model.specs.Packet.{Packet, size_of_packet}
+use Rattle.sctp_model.specs.wire.Chunk.{InitMeaning, ChunkMeaning, InitAck, CookieEcho, CookieAck}
+use Rattle.sctp_model.specs.wire.Packet.{Packet, size_of_packet}
 use Rattle.sctp_model.specs.end.Sealing.{Body, Sealing}
 use Rattle.sctp_model.specs.end.EndView.{Draw, Tags, Established, Open, EndView, InitAlarm, CookieAlarm}
 use Rattle.sctp_model.specs.end.Clock.{started, turned}
@@ -13,8 +13,8 @@ use Rattle.sctp_model.specs.end.Opening.{own_init, body_for, echoing, begun}
 use Rattle.sctp_model.specs.end.Strays.{stray_verdict}
 use Rattle.sctp_model.specs.end.Building.{sent, packet_of}
 use Rattle.sctp_model.specs.end.UserCalls.{called}
-use Rattle.sctp_model.specs.World.{A, B, World, with_end, with_packet, end_now, came, Setup, configuration_of, start}
-use Rattle.sctp_model.specs.Events.{with_verdict, told, Event, Drawing, Connect, Build, Deliver, Outcome, Done, Sent, Acted}
+use Rattle.sctp_model.specs.world.World.{A, B, World, with_end, with_packet, end_now, came, Setup, configuration_of, start}
+use Rattle.sctp_model.specs.world.Events.{with_verdict, told, Event, Drawing, Connect, Build, Deliver, Outcome, Done, Sent, Acted}
 
 -- ---- a seal that hides nothing: the numbers of the body one after the other
 

@@ -1,7 +1,7 @@
 -- What an end writes of its options, its peer reads again: a listener's INIT ACK says the cookie, and what both ends are set up for.
 use Rattle.std.proofs.Common.{◌≡◌, ℕ, ◌^◌, ◌<◌, not, ◌&&◌, ◌||◌, Bool, true, false, List, [], ◌∷◌, ◌++◌, length, Some, refl, ap, arith, ◌∙◌, append-nil}
-use Rattle.sctp_model.specs.Typed.{Typed, IsTyped, typed_in}
-use Rattle.sctp_model.specs.Unknown.{parameters_acted_on, parameters_reported, first_of}
+use Rattle.sctp_model.specs.wire.Typed.{Typed, IsTyped, typed_in}
+use Rattle.sctp_model.specs.wire.Unknown.{parameters_acted_on, parameters_reported, first_of}
 use Rattle.sctp_model.specs.end.EndView.{Configuration}
 use Rattle.sctp_model.specs.end.Reports.{written, item}
 use Rattle.sctp_model.specs.end.Options.{STATE_COOKIE, SUPPORTED_EXTENSIONS, FORWARD_TSN_SUPPORTED, value_of, agreed_interleave, agreed_partial, own_options, lists_type, is_carried}

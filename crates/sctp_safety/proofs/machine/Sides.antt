@@ -1,15 +1,15 @@
 -- What no chunk, moment or call changes of an end: how it was set up, and its role.
 use Rattle.std.proofs.Common.{◌≡◌, ℕ, Bool, true, false, List, refl, sym, subst, ◌∙◌}
-use Rattle.sctp_model.specs.Chunk.{ChunkMeaning, Data, IData, Init, InitAck, Sack, Heartbeat, HeartbeatAck, Abort, Shutdown, ShutdownAck, Error, CookieEcho, CookieAck, ShutdownComplete, ForwardTsn, IForwardTsn, Unknown}
-use Rattle.sctp_model.specs.Unknown.{chunk_rule}
-use Rattle.sctp_model.specs.Packet.{Packet}
+use Rattle.sctp_model.specs.wire.Chunk.{ChunkMeaning, Data, IData, Init, InitAck, Sack, Heartbeat, HeartbeatAck, Abort, Shutdown, ShutdownAck, Error, CookieEcho, CookieAck, ShutdownComplete, ForwardTsn, IForwardTsn, Unknown}
+use Rattle.sctp_model.specs.wire.Unknown.{chunk_rule}
+use Rattle.sctp_model.specs.wire.Packet.{Packet}
 use Rattle.sctp_model.specs.end.EndView.{Aborted, EndView}
 use Rattle.sctp_model.specs.end.Clock.{closed}
 use Rattle.sctp_model.specs.end.Reports.{with_causes}
 use Rattle.sctp_model.specs.end.Closing.{rested}
 use Rattle.sctp_model.specs.end.PeerFaults.{GoesOn, Ends, Replies}
 use Rattle.sctp_model.specs.end.Opening.{AcceptedAck, EchoedAgain, CookieAcked}
-use Rattle.sctp_model.specs.end.Acting.{Acts, Comes, IsOld, IsStale, Counts, Closes, SaysNothing, Crosses, Again, Completes, unknown_causes, unknown_leaves}
+use Rattle.sctp_model.specs.end.Acting.{Acts, ForwardComes, PieceComes, IsOld, SackStale, ShutdownStale, HeartbeatCounts, SackCounts, ShutdownCounts, Closes, SaysNothing, Crosses, Again, CompleteCompleted, unknown_causes, unknown_leaves}
 use Rattle.sctp_safety.proofs.machine.EndWords.{rested_cases}
 
 -- the same end, as far as it was set up
@@ -57,17 +57,17 @@ unknown_never_replies e t p k f v h = go (chunk_rule k).stop h
 -- ---- every chunk
 
 pub goes_same : (e : EndView) (tag : ℕ) (x : ChunkMeaning) (t : EndView) → Acts e tag x (GoesOn t) → IsSameEnd e t
-goes_same e tag (Data p) t (Comes _ _ _ _ _ _ _ _ _) = record { configuration = refl; role = refl; moment = refl }
-goes_same e tag (IData p) t (Comes _ _ _ _ _ _ _ _ _) = record { configuration = refl; role = refl; moment = refl }
+goes_same e tag (Data p) t (PieceComes _ _ _ _ _ _ _ _ _) = record { configuration = refl; role = refl; moment = refl }
+goes_same e tag (IData p) t (PieceComes _ _ _ _ _ _ _ _ _) = record { configuration = refl; role = refl; moment = refl }
 goes_same e tag (Init m) t h = absurd (cc)
 goes_same e tag (InitAck m) t (AcceptedAck _ _ _ _ _ _) = record { configuration = refl; role = refl; moment = refl }
-goes_same e tag (Sack s) t (IsStale _ _) = same_end e
-goes_same e tag (Sack s) t (Counts _ _) = record { configuration = refl; role = refl; moment = refl }
-goes_same e tag (Heartbeat i) t (Counts _) = record { configuration = refl; role = refl; moment = refl }
+goes_same e tag (Sack s) t (SackStale _ _) = same_end e
+goes_same e tag (Sack s) t (SackCounts _ _) = record { configuration = refl; role = refl; moment = refl }
+goes_same e tag (Heartbeat i) t (HeartbeatCounts _) = record { configuration = refl; role = refl; moment = refl }
 goes_same e tag (HeartbeatAck i) t h = let q : t ≡ e = cc in subst (IsSameEnd e) (sym q) (same_end e)
 goes_same e tag (Abort b xs) t h = absurd (cc)
-goes_same e tag (Shutdown n) t (IsStale _ _ _ _ _) = record { configuration = refl; role = refl; moment = refl }
-goes_same e tag (Shutdown n) t (Counts _ _ _ _ _) = record { configuration = refl; role = refl; moment = refl }
+goes_same e tag (Shutdown n) t (ShutdownStale _ _ _ _ _) = record { configuration = refl; role = refl; moment = refl }
+goes_same e tag (Shutdown n) t (ShutdownCounts _ _ _ _ _) = record { configuration = refl; role = refl; moment = refl }
 goes_same e tag (Shutdown n) t (Crosses _ _) = record { configuration = refl; role = refl; moment = refl }
 goes_same e tag (Shutdown n) t (Again _ _) = record { configuration = refl; role = refl; moment = refl }
 goes_same e tag ShutdownAck t h = elim h [ ]
@@ -76,9 +76,9 @@ goes_same e tag (CookieEcho xs) t (EchoedAgain _ _ _ _ _ _ _) = record { configu
 goes_same e tag CookieAck t (CookieAcked _ _ _) = record { configuration = refl; role = refl; moment = refl }
 goes_same e tag (ShutdownComplete b) t h = elim h [ ]
 goes_same e tag (ForwardTsn m) t (IsOld _ _ _ _ _ _ _) = record { configuration = refl; role = refl; moment = refl }
-goes_same e tag (ForwardTsn m) t (Comes _ _ _ _ _ _ _) = record { configuration = refl; role = refl; moment = refl }
+goes_same e tag (ForwardTsn m) t (ForwardComes _ _ _ _ _ _ _) = record { configuration = refl; role = refl; moment = refl }
 goes_same e tag (IForwardTsn m) t (IsOld _ _ _ _ _ _ _) = record { configuration = refl; role = refl; moment = refl }
-goes_same e tag (IForwardTsn m) t (Comes _ _ _ _ _ _ _) = record { configuration = refl; role = refl; moment = refl }
+goes_same e tag (IForwardTsn m) t (ForwardComes _ _ _ _ _ _ _) = record { configuration = refl; role = refl; moment = refl }
 goes_same e tag (Unknown k f v) t h = let u = unknown_goes e t k f v h in subst (IsSameEnd e) (sym u.same) (record { configuration = refl; role = refl; moment = refl })
 
 pub ends_same : (e : EndView) (tag : ℕ) (x : ChunkMeaning) (t : EndView) → Acts e tag x (Ends t) → IsSameEnd e t
@@ -95,7 +95,7 @@ ends_same e tag ShutdownAck t h = elim h [ ]
 ends_same e tag (Error xs) t (Closes _) = record { configuration = refl; role = refl; moment = refl }
 ends_same e tag (CookieEcho xs) t h = elim h [ ]
 ends_same e tag CookieAck t h = elim h [ ]
-ends_same e tag (ShutdownComplete b) t (Completes _) = record { configuration = refl; role = refl; moment = refl }
+ends_same e tag (ShutdownComplete b) t (CompleteCompleted _) = record { configuration = refl; role = refl; moment = refl }
 ends_same e tag (ForwardTsn m) t h = elim h [ ]
 ends_same e tag (IForwardTsn m) t h = elim h [ ]
 ends_same e tag (Unknown k f v) t h = let u = unknown_ends e t k f v h in subst (IsSameEnd e) (sym u.same) (record { configuration = refl; role = refl; moment = refl })

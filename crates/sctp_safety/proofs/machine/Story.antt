@@ -1,20 +1,20 @@
 -- The story of two ends: they are apart until they have met, step by step.
 use Rattle.std.proofs.Common.{◌≡◌, ℕ, ◌⊎◌, max, Bool, true, false, List, [], ◌∷◌, Option, Some, None, inl, inr, refl, sym, subst, ◌∙◌}
 use Rattle.std.specs.Prelude.{if◌then◌else◌}
-use Rattle.sctp_model.specs.Lists.{Has}
-use Rattle.sctp_model.specs.Chunk.{ChunkMeaning, Init, CookieEcho}
-use Rattle.sctp_model.specs.Packet.{Packet}
+use Rattle.sctp_model.specs.numbers.Lists.{Has}
+use Rattle.sctp_model.specs.wire.Chunk.{ChunkMeaning, Init, CookieEcho}
+use Rattle.sctp_model.specs.wire.Packet.{Packet}
 use Rattle.sctp_model.specs.end.EndView.{Phase, Listening, Calling, Echoing, Open, EndView}
 use Rattle.sctp_model.specs.end.Configured.{IsConfiguration}
 use Rattle.sctp_model.specs.end.Strays.{Verdict, Taken, Dropped, Answer}
 use Rattle.sctp_model.specs.end.Arriving.{Arrives}
 use Rattle.sctp_model.specs.end.Building.{Builds, Sleeps, Waits, Calls, Echoes, Fills, packet_of}
-use Rattle.sctp_model.specs.end.Building.{Ends as EndsFull}
+use Rattle.sctp_model.specs.end.Building.{EndsFull}
 use Rattle.sctp_model.specs.end.Moments.{ticked}
 use Rattle.sctp_model.specs.end.UserCalls.{send_answer, shut, Aborts, TooLong, abort_answer, abort_answer_to, abort_leaves, abort_packet, peer_tag}
-use Rattle.sctp_model.specs.World.{Side, A, B, World, end_of, end_now, came, Setup, configuration_of}
-use Rattle.sctp_model.specs.Events.{Event, Outcome, with_verdict}
-use Rattle.sctp_model.specs.Steps.{opened, is_answer, cut, Step, Opens, OpenRefused, TimePasses, Draws, Connects, ConnectRefused, BuildsOne, BuildsNone, Comes, IsAbsent, Unread, Sends, Abandons, TakesOne, ShutsDown, AbortsIt, CutFirst, CutLater, NoMemory}
+use Rattle.sctp_model.specs.world.World.{Side, A, B, World, end_of, end_now, came, Setup, configuration_of}
+use Rattle.sctp_model.specs.world.Events.{Event, Outcome, with_verdict}
+use Rattle.sctp_model.specs.world.Steps.{opened, is_answer, cut_to, Step, OpensBoth, OpenRefused, TimePasses, Draws, Connects, ConnectRefused, BuildsOne, BuildsNone, PacketComes, IsAbsent, Unread, Sends, AbandonsOne, TakesOne, ShutsDown, AbortsIt, CutFirst, CutLater, NoMemory}
 use Rattle.sctp_safety.specs.States.{has_begun, has_agreed}
 use Rattle.sctp_safety.specs.Strangers.{IsDrawn}
 use Rattle.sctp_safety.specs.Agreement.{AreAgreed, AreEachOthers, was_open}
@@ -167,7 +167,7 @@ module _ (s : Setup) (drawn : List ℕ) (w : World) (ground : IsGrounded s drawn
     closed_came B t = refl
 
     apart_step : (e : Event) (o : Option Outcome) (v : World) → IsFine s drawn e → Step w e o v → IsStory s drawn v
-    apart_step e o v fine (Opens x y may dx dy) = HaveMet (opens s drawn w ground configured x y (fine.draws x.tag (inl refl)) (fine.draws y.tag (inr (inl refl))))
+    apart_step e o v fine (OpensBoth x y may dx dy) = HaveMet (opens s drawn w ground configured x y (fine.draws x.tag (inl refl)) (fine.draws y.tag (inr (inl refl))))
     apart_step e o v fine (OpenRefused x y closed) = AreApart apart
     apart_step e o v fine (TimePasses m small) = AreApart (record {
       listens = plain_unbegun w.b.phase _ (plain_ticked w.b (max w.clock m)).turn (subst (λ (h : Phase). has_begun h ≡ false) (sym apart.listens) refl) ∙ apart.listens;
@@ -185,18 +185,18 @@ module _ (s : Setup) (drawn : List ℕ) (w : World) (ground : IsGrounded s drawn
     apart_step e o v fine (ConnectRefused d answer) = AreApart apart
     apart_step e o v fine (BuildsOne x y ys t b) = builds_one v x y ys t (at_packet w x t _) b
     apart_step e o v fine (BuildsNone x t b) = now_plain v x t None (at_end w x t) (builds_plain (end_now w x) [] t b) tt
-    apart_step e o v fine (Comes _ x p t d brings arrives) = comes v x p t d (at_verdict w x t d) (closed_verdict x t d) (from_whole s drawn w e x p fine brings) arrives
+    apart_step e o v fine (PacketComes _ x p t d brings arrives) = comes v x p t d (at_verdict w x t d) (closed_verdict x t d) (from_whole s drawn w e x p fine brings) arrives
     apart_step e o v fine (IsAbsent x n none) = AreApart apart
     apart_step e o v fine (Unread x) = now_plain v x (end_now w x) None (at_came w x (end_now w x)) (plain_same (end_now w x)) tt
     apart_step e o v fine (Sends x c) = by_plain v x _ None (at_log w x _ _) (plain_sent (end_of w x) c (send_answer (end_of w x) c)) tt
-    apart_step e o v fine (Abandons x k) = by_plain v x _ None (at_log w x _ _) (plain_abandoned (end_of w x) k) tt
+    apart_step e o v fine (AbandonsOne x k) = by_plain v x _ None (at_log w x _ _) (plain_abandoned (end_of w x) k) tt
     apart_step e o v fine (TakesOne x n h t takes) = by_plain v x t None (at_end w x t) (plain_taken (end_of w x) n h t takes) tt
     apart_step e o v fine (ShutsDown x) = by_plain v x (shut (end_of w x)) None (at_end w x _) (plain_shut (end_of w x)) tt
     apart_step e o v fine (AbortsIt x r) =
         by_plain v x (abort_leaves (abort_answer (end_of w x) r) (end_of w x)) (abort_of (abort_answer (end_of w x) r)) (at_abort w x _ _) (plain_aborted (end_of w x) r) (abort_quiet (end_of w x) r)
     apart_step e o v fine (CutFirst _ x p brings) = now_plain v x (end_now w x) None (at_came w x (end_now w x)) (plain_same (end_now w x)) tt
     apart_step e o v fine (CutLater _ x p y front back c t d brings part arrives untold) =
-        comes_cut v x (cut p (y ∷ front)) t d (at_came w x t) (closed_came x t) untold (from_cut s drawn w e x p y front back c fine brings part) arrives
+        comes_cut v x (cut_to p (y ∷ front)) t d (at_came w x t) (closed_came x t) untold (from_cut s drawn w e x p y front back c fine brings part) arrives
     apart_step e o v fine (NoMemory _ other_event) = AreApart apart
 
 -- Whichever step comes, the story goes on.

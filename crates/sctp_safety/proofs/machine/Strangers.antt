@@ -1,18 +1,18 @@
 -- A stranger's packet changes nothing at an end: under no tag of its own does it pass, an INIT is passed over, and no cookie of its making opens.
 use Rattle.std.proofs.Common.{◌≡◌, ℕ, nat_le, Bool, true, false, List, [], ◌∷◌, Option, Some, None, inl, inr, refl, sym, subst, ap, eqb-true}
 use Rattle.std.specs.Prelude.{if◌then◌else◌}
-use Rattle.sctp_model.specs.Lists.{Has}
-use Rattle.sctp_model.specs.Chunk.{InitMeaning, ChunkMeaning, Data, IData, Init, InitAck, Sack, Heartbeat, HeartbeatAck, Abort, Shutdown, ShutdownAck, Error, CookieEcho, CookieAck, ShutdownComplete, ForwardTsn, IForwardTsn, Unknown}
-use Rattle.sctp_model.specs.Packet.{Packet}
-use Rattle.sctp_model.specs.Places.{ArePlaced}
+use Rattle.sctp_model.specs.numbers.Lists.{Has}
+use Rattle.sctp_model.specs.wire.Chunk.{InitMeaning, ChunkMeaning, Data, IData, Init, InitAck, Sack, Heartbeat, HeartbeatAck, Abort, Shutdown, ShutdownAck, Error, CookieEcho, CookieAck, ShutdownComplete, ForwardTsn, IForwardTsn, Unknown}
+use Rattle.sctp_model.specs.wire.Packet.{Packet}
+use Rattle.sctp_model.specs.wire.Places.{ArePlaced}
 use Rattle.sctp_model.specs.end.Sealing.{Body, Sealing}
 use Rattle.sctp_model.specs.end.EndView.{Tags, Draw, Phase, Idle, Listening, Calling, Echoing, Open, Over, Role, Caller, Paired, Listener, EndView, has_association}
-use Rattle.sctp_model.specs.end.Opening.{Opens, Stale, Strange, is_addressed, body_read, age, COOKIE_LIFE}
+use Rattle.sctp_model.specs.end.Opening.{CookieOpens, CookieLate, Strange, is_addressed, body_read, age, COOKIE_LIFE}
 use Rattle.sctp_model.specs.end.Passing.{passes_tag, passes_first, passes_chunks}
 use Rattle.sctp_model.specs.end.Strays.{Verdict, holds_abort, seal_at, listens, body_of, body_in, body_among}
-use Rattle.sctp_model.specs.end.Arriving.{AllAct, NoneLeft, Next, Last, Answered, Stopped, Arrives, Elsewhere, NotOurs, Stray, Begins, Heard}
-use Rattle.sctp_model.specs.end.Arriving.{Over as Passes}
-use Rattle.sctp_model.specs.Premises.{IsBody, IsStranger}
+use Rattle.sctp_model.specs.end.Arriving.{AllAct, NoneLeft, Next, Last, EndsAnswered, Stopped, Arrives, Elsewhere, NotOurs, Stray, CookieBegins, Heard}
+use Rattle.sctp_model.specs.end.Arriving.{Passes}
+use Rattle.sctp_model.specs.world.Premises.{IsBody, IsStranger}
 use Rattle.sctp_safety.specs.Strangers.{tags_of, IsDrawn, StrangersChangeNothing}
 
 -- ---- tags
@@ -68,7 +68,7 @@ init_passed : (e t : EndView) (tag : ℕ) (m : InitMeaning) (v : Verdict) → Al
 init_passed e t tag m v (Next _ _ _ _ _ _ _ act more) = absurd (cc)
 init_passed e t tag m v (Passes _ _ _ _ _ _ act (NoneLeft _ _)) = refl
 init_passed e t tag m v (Last _ _ _ _ _ act) = absurd (cc)
-init_passed e t tag m v (Answered _ _ _ _ _ _ act) = absurd (cc)
+init_passed e t tag m v (EndsAnswered _ _ _ _ _ _ act) = absurd (cc)
 init_passed e t tag m v (Stopped _ _ _ _ _ act) = refl
 
 -- ---- a cookie
@@ -98,11 +98,11 @@ opens_is : (e : EndView) (tag : ℕ) (o : Option Body) (b : Body) → body_of (b
 opens_is e tag None b h = absurd (cc)
 opens_is e tag (Some x) b h = go (is_addressed e tag x) refl h
   where
-    inner : (c : Bool) → body_of (if c then Opens x else Stale x) ≡ Some b → x ≡ b
+    inner : (c : Bool) → body_of (if c then CookieOpens x else CookieLate x) ≡ Some b → x ≡ b
     inner true q = cc
     inner false q = absurd (cc)
 
-    go : (a : Bool) → is_addressed e tag x ≡ a → body_of (if a then (if nat_le (age e x) COOKIE_LIFE then Opens x else Stale x) else Strange) ≡ Some b →
+    go : (a : Bool) → is_addressed e tag x ≡ a → body_of (if a then (if nat_le (age e x) COOKIE_LIFE then CookieOpens x else CookieLate x) else Strange) ≡ Some b →
         (Some x ≡ Some b) × (is_addressed e tag b ≡ true)
     go true a q = let s = inner (nat_le (age e x) COOKIE_LIFE) q in (ap (λ (y : Body). Some y) s, subst (λ (y : Body). is_addressed e tag y ≡ true) s a)
     go false a q = absurd (cc)
@@ -164,7 +164,7 @@ pub stranger_stays : (s : Sealing) (drawn : List ℕ) (e : EndView) (d : Draw) (
 stranger_stays s drawn e d p t v strange alone own one (Elsewhere ports) = refl
 stranger_stays s drawn e d p t v strange alone own one (NotOurs ports may) = refl
 stranger_stays s drawn e d p t v strange alone own one (Stray ports may none closed) = refl
-stranger_stays s drawn e d p t v strange alone own one (Begins b _ _ ports may none opens acts) =
+stranger_stays s drawn e d p t v strange alone own one (CookieBegins b _ _ ports may none opens acts) =
     absurd (nothing_found s drawn e t p v strange own one b (found_is e p.tag p.chunks b opens))
 stranger_stays s drawn e d p t v strange alone own one (Heard _ _ ports may has acts) = heard_stays s drawn e t p v strange own has p.chunks alone may acts
 

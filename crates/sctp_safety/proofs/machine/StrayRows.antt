@@ -1,13 +1,13 @@
 -- What is answered outside of an association, row by row, with the bytes written by hand (RFC 9260, 5.1, 5.2.6, 8.4 and 8.5.1).
 use Rattle.std.proofs.Common.{◌≡◌, ℕ, true, false, List, [], ◌∷◌, Some, None, refl}
-use Rattle.sctp_model.specs.Numbers.{u16_bytes, u32_bytes}
-use Rattle.sctp_model.specs.Chunk.{ChunkMeaning, Init, Heartbeat, Abort, ShutdownAck, ShutdownComplete, CookieEcho, CookieAck, Error}
-use Rattle.sctp_model.specs.Packet.{Packet}
+use Rattle.sctp_model.specs.numbers.Numbers.{u16_bytes, u32_bytes}
+use Rattle.sctp_model.specs.wire.Chunk.{ChunkMeaning, Init, Heartbeat, Abort, ShutdownAck, ShutdownComplete, CookieEcho, CookieAck, Error}
+use Rattle.sctp_model.specs.wire.Packet.{Packet}
 use Rattle.sctp_model.specs.end.Sealing.{Body}
 use Rattle.sctp_model.specs.end.EndView.{Idle, Listening, Caller, Listener, EndView, fresh_end}
 use Rattle.sctp_model.specs.end.Clock.{at_moment}
 use Rattle.sctp_model.specs.end.Strays.{Dropped, Answer, stray_verdict, opened_by}
-use Rattle.sctp_model.specs.World.{B, configuration_of}
+use Rattle.sctp_model.specs.world.World.{B, configuration_of}
 use Rattle.sctp_safety.proofs.machine.OpeningWorlds.{two, of_b, open_seal, numbers}
 
 abbrev listener : ℕ → EndView

@@ -1,17 +1,17 @@
 -- How an end turns: nearly everything leaves its terms, and its state but for closing; only an INIT ACK and a COOKIE ACK do more.
 use Rattle.std.proofs.Common.{◌≡◌, ℕ, Bool, true, false, List, [], ◌∷◌, ◌++◌, Some, refl, sym, subst, ◌∙◌}
-use Rattle.sctp_model.specs.Chunk.{InitMeaning, ChunkMeaning, Data, IData, Init, InitAck, Sack, Heartbeat, HeartbeatAck, Abort, Shutdown, ShutdownAck, Error, CookieEcho, CookieAck, ShutdownComplete, ForwardTsn, IForwardTsn, Unknown}
+use Rattle.sctp_model.specs.wire.Chunk.{InitMeaning, ChunkMeaning, Data, IData, Init, InitAck, Sack, Heartbeat, HeartbeatAck, Abort, Shutdown, ShutdownAck, Error, CookieEcho, CookieAck, ShutdownComplete, ForwardTsn, IForwardTsn, Unknown}
 use Rattle.sctp_model.specs.end.EndView.{AbortedHere, Draw, Tags, Stage, Established, ShutdownPending, ShutdownSent, ShutdownReceived, ShutdownAckSent, Ended, Aborted, Completed, StaleCookie, Phase, Idle, Listening, Calling, Echoing, Open, Over, EndView, has_association}
 use Rattle.sctp_model.specs.end.Clock.{closed}
 use Rattle.sctp_model.specs.end.Closing.{rested}
 use Rattle.sctp_model.specs.end.PeerFaults.{GoesOn, Ends}
 use Rattle.sctp_model.specs.end.Options.{STATE_COOKIE, value_of}
 use Rattle.sctp_model.specs.end.Opening.{AcceptedAck, EchoedAgain, CookieAcked, echoing}
-use Rattle.sctp_model.specs.end.Acting.{IsBad, WrongKind, IsWrong, WrongFormat, Empty, Acts, Comes, IsOld, IsStale, Counts, Closes, SaysNothing, Crosses, Again, Completes}
+use Rattle.sctp_model.specs.end.Acting.{IsBad, WrongKind, SackWrong, ShutdownWrong, WrongFormat, PieceEmpty, Acts, ForwardComes, PieceComes, IsOld, SackStale, ShutdownStale, HeartbeatCounts, SackCounts, ShutdownCounts, Closes, SaysNothing, Crosses, Again, AckCompletes, CompleteCompleted}
 use Rattle.sctp_model.specs.end.Building.{Wants, EchoCookie, AckCookie, AckHeartbeat, ReportCauses, Acknowledge, PassOn, SayShutdown, AnswerShutdown, Slot, Puts, NoMore, NotDue, Put, IsFull, Builds, Sleeps, Waits, Calls, Echoes, Fills}
-use Rattle.sctp_model.specs.end.Building.{Ends as EndsFull}
+use Rattle.sctp_model.specs.end.Building.{EndsFull}
 use Rattle.sctp_model.specs.end.Closing.{takes_acknowledgements}
-use Rattle.sctp_model.specs.Packet.{Packet}
+use Rattle.sctp_model.specs.wire.Packet.{Packet}
 use Rattle.sctp_model.specs.end.PeerFaults.{Replies}
 use Rattle.sctp_model.specs.end.Opening.{RefusedAck}
 use Rattle.sctp_safety.specs.States.{IsStageTurn, Says, PeerShuts, BothShut, Cross, Answers, IsTurn, ByStage, IsPath, Here, On, has_begun}
@@ -107,17 +107,17 @@ still : (e : EndView) (x : ChunkMeaning) (t : EndView) → t.configuration ≡ e
 still e x t a b n c p = Plainly t (record { configuration = a; role = b; moment = n; terms = c; turn = subst (IsPlainTurn e.phase) p (Stays e.phase) }) (λ h. subst (λ (k : Phase). has_association k ≡ true) p h)
 
 pub goes_left : (e : EndView) (tag : ℕ) (x : ChunkMeaning) (t : EndView) → Acts e tag x (GoesOn t) → IsLeft e x t
-goes_left e tag (Data p) t (Comes _ _ _ _ _ _ _ _ _) = still e _ t refl refl refl refl refl
-goes_left e tag (IData p) t (Comes _ _ _ _ _ _ _ _ _) = still e _ t refl refl refl refl refl
+goes_left e tag (Data p) t (PieceComes _ _ _ _ _ _ _ _ _) = still e _ t refl refl refl refl refl
+goes_left e tag (IData p) t (PieceComes _ _ _ _ _ _ _ _ _) = still e _ t refl refl refl refl refl
 goes_left e tag (Init m) t h = absurd (cc)
 goes_left e tag (InitAck m) t (AcceptedAck d cookie is tagged value fault) = Accepts m d cookie refl is value
-goes_left e tag (Sack s) t (IsStale _ _) = still e _ t refl refl refl refl refl
-goes_left e tag (Sack s) t (Counts _ _) = still e _ t refl refl refl refl refl
-goes_left e tag (Heartbeat i) t (Counts _) = still e _ t refl refl refl refl refl
+goes_left e tag (Sack s) t (SackStale _ _) = still e _ t refl refl refl refl refl
+goes_left e tag (Sack s) t (SackCounts _ _) = still e _ t refl refl refl refl refl
+goes_left e tag (Heartbeat i) t (HeartbeatCounts _) = still e _ t refl refl refl refl refl
 goes_left e tag (HeartbeatAck i) t h = let q : t ≡ e = cc in Plainly t (subst (IsPlain e) (sym q) (plain_same e)) (λ has. subst (λ (y : EndView). has_association y.phase ≡ true) (sym q) has)
 goes_left e tag (Abort b xs) t h = absurd (cc)
-goes_left e tag (Shutdown n) t (IsStale u g is takes _) = Plainly t (record { configuration = refl; role = refl; moment = refl; terms = refl; turn = goes_from e u g ShutdownReceived is (hears_shutdown u g takes) }) (λ has. refl)
-goes_left e tag (Shutdown n) t (Counts u g is takes _) = Plainly t (record { configuration = refl; role = refl; moment = refl; terms = refl; turn = goes_from e u g ShutdownReceived is (hears_shutdown u g takes) }) (λ has. refl)
+goes_left e tag (Shutdown n) t (ShutdownStale u g is takes _) = Plainly t (record { configuration = refl; role = refl; moment = refl; terms = refl; turn = goes_from e u g ShutdownReceived is (hears_shutdown u g takes) }) (λ has. refl)
+goes_left e tag (Shutdown n) t (ShutdownCounts u g is takes _) = Plainly t (record { configuration = refl; role = refl; moment = refl; terms = refl; turn = goes_from e u g ShutdownReceived is (hears_shutdown u g takes) }) (λ has. refl)
 goes_left e tag (Shutdown n) t (Crosses u is) = Plainly t (record { configuration = refl; role = refl; moment = refl; terms = refl; turn = goes_from e u ShutdownSent ShutdownAckSent is (by_stage u ShutdownSent ShutdownAckSent Cross) }) (λ has. refl)
 goes_left e tag (Shutdown n) t (Again u is) = still e _ t refl refl refl refl refl
 goes_left e tag ShutdownAck t h = elim h [ ]
@@ -126,9 +126,9 @@ goes_left e tag (CookieEcho xs) t (EchoedAgain _ _ _ _ _ _ _) = still e _ t refl
 goes_left e tag CookieAck t (CookieAcked u xs is) = Acked u xs t refl is refl refl refl refl refl
 goes_left e tag (ShutdownComplete b) t h = elim h [ ]
 goes_left e tag (ForwardTsn m) t (IsOld _ _ _ _ _ _ _) = still e _ t refl refl refl refl refl
-goes_left e tag (ForwardTsn m) t (Comes _ _ _ _ _ _ _) = still e _ t refl refl refl refl refl
+goes_left e tag (ForwardTsn m) t (ForwardComes _ _ _ _ _ _ _) = still e _ t refl refl refl refl refl
 goes_left e tag (IForwardTsn m) t (IsOld _ _ _ _ _ _ _) = still e _ t refl refl refl refl refl
-goes_left e tag (IForwardTsn m) t (Comes _ _ _ _ _ _ _) = still e _ t refl refl refl refl refl
+goes_left e tag (IForwardTsn m) t (ForwardComes _ _ _ _ _ _ _) = still e _ t refl refl refl refl refl
 goes_left e tag (Unknown k f v) t h = let u = unknown_goes e t k f v h in
     Plainly t (subst (IsPlain e) (sym u.same) (record { configuration = refl; role = refl; moment = refl; terms = refl; turn = Stays e.phase }))
     (λ has. subst (λ (y : EndView). has_association y.phase ≡ true) (sym u.same) has)
@@ -151,24 +151,24 @@ ends_plain e tag ShutdownAck t has h = elim h [ ]
 ends_plain e tag (Error xs) t has (Closes _) = left_closed e StaleCookie has
 ends_plain e tag (CookieEcho xs) t has h = elim h [ ]
 ends_plain e tag CookieAck t has h = elim h [ ]
-ends_plain e tag (ShutdownComplete b) t has (Completes _) = left_closed e Completed has
+ends_plain e tag (ShutdownComplete b) t has (CompleteCompleted _) = left_closed e Completed has
 ends_plain e tag (ForwardTsn m) t has h = elim h [ ]
 ends_plain e tag (IForwardTsn m) t has h = elim h [ ]
 ends_plain e tag (Unknown k f v) t has h = let u = unknown_ends e t k f v h in subst (IsPlain e) (sym u.same) (record { configuration = refl; role = refl; moment = refl; terms = refl; turn = Stays e.phase })
 
 pub replies_plain : (e : EndView) (tag : ℕ) (x : ChunkMeaning) (t : EndView) (p : Packet) → has_association e.phase ≡ true → Acts e tag x (Replies t p) → IsPlain e t
-replies_plain e tag (Data q) t p has (Empty _ _ _ _ _) = left_closed e AbortedHere has
+replies_plain e tag (Data q) t p has (PieceEmpty _ _ _ _ _) = left_closed e AbortedHere has
 replies_plain e tag (Data q) t p has (WrongFormat _ _ _ _ _ _) = left_closed e AbortedHere has
-replies_plain e tag (IData q) t p has (Empty _ _ _ _ _) = left_closed e AbortedHere has
+replies_plain e tag (IData q) t p has (PieceEmpty _ _ _ _ _) = left_closed e AbortedHere has
 replies_plain e tag (IData q) t p has (WrongFormat _ _ _ _ _ _) = left_closed e AbortedHere has
 replies_plain e tag (Init m) t p has h = absurd (cc)
 replies_plain e tag (InitAck m) t p has (RefusedAck _ _ _ _ _) = left_closed e AbortedHere has
-replies_plain e tag (Sack s) t p has (IsWrong _ _ _ _ _) = left_closed e AbortedHere has
+replies_plain e tag (Sack s) t p has (SackWrong _ _ _ _ _) = left_closed e AbortedHere has
 replies_plain e tag (Heartbeat i) t p has h = elim h [ ]
 replies_plain e tag (HeartbeatAck i) t p has h = absurd (cc)
 replies_plain e tag (Abort b xs) t p has h = absurd (cc)
-replies_plain e tag (Shutdown n) t p has (IsWrong _ _ _ _ _) = left_closed e AbortedHere has
-replies_plain e tag ShutdownAck t p has (Completes _ _ _ _) = left_closed e Completed has
+replies_plain e tag (Shutdown n) t p has (ShutdownWrong _ _ _ _ _) = left_closed e AbortedHere has
+replies_plain e tag ShutdownAck t p has (AckCompletes _ _ _ _) = left_closed e Completed has
 replies_plain e tag (Error xs) t p has h = elim h [ ]
 replies_plain e tag (CookieEcho xs) t p has h = elim h [ ]
 replies_plain e tag CookieAck t p has h = elim h [ ]

@@ -1,19 +1,19 @@
 -- Time and the user turn an end plainly too.
 use Rattle.std.proofs.Common.{◌≡◌, ℕ, ◌⊎◌, inl, inr, not, ◌||◌, ◌==◌, Bool, true, false, List, [], ◌∷◌, Option, Some, None, refl, sym, subst}
-use Rattle.sctp_model.specs.Calls.{Call}
-use Rattle.sctp_model.specs.ReceiverView.{Handed}
-use Rattle.sctp_model.specs.SenderView.{SenderView}
+use Rattle.sctp_model.specs.world.Calls.{Call}
+use Rattle.sctp_model.specs.receiver.ReceiverView.{Handed}
+use Rattle.sctp_model.specs.sender.SenderView.{SenderView}
 use Rattle.sctp_model.specs.end.EndView.{Established, ShutdownPending, ShutdownSent, ShutdownReceived, ShutdownAckSent, AbortedHere, TimedOut, Phase, Idle, Listening, Calling, Echoing, Open, Over, Alarm, InitAlarm, CookieAlarm, DataAlarm, ShutdownAlarm, AckAlarm, EndView, has_association}
 use Rattle.sctp_model.specs.end.Clock.{settled, turned, is_over_at, repeats_of, closed, at_moment, with_timer}
-use Rattle.sctp_model.specs.end.Clock.{expired as expired_timer}
-use Rattle.sctp_model.specs.Packet.{size_of_packet}
+use Rattle.sctp_model.specs.end.Clock.{expired_timer}
+use Rattle.sctp_model.specs.wire.Packet.{size_of_packet}
 use Rattle.sctp_model.specs.sender.Abandoning.{abandon_after}
 use Rattle.sctp_model.specs.sender.Readers.{point}
 use Rattle.sctp_model.specs.sender.Abandoning.{expired as expired_messages}
 use Rattle.std.specs.Prelude.{if◌then◌else◌, nat_lt, nat_le}
 use Rattle.sctp_model.specs.end.Closing.{rested}
 use Rattle.sctp_model.specs.end.Moments.{after_giving_up, due_again, rung, ring, rung_all, all_alarms, passed, ticked}
-use Rattle.sctp_model.specs.end.UserCalls.{SendAnswer, Ticket, Refused, NotOpen, send_leaves, is_open, abandoned_at, Takes, shut_in, shut, Aborts, TooLong, abort_answer, abort_answer_to, abort_leaves, abort_packet, peer_tag}
+use Rattle.sctp_model.specs.end.UserCalls.{SendAnswer, Ticket, Refused, NotOpen, send_leaves, is_open, abandoned_at, UserTakes, shut_in, shut, Aborts, TooLong, abort_answer, abort_answer_to, abort_leaves, abort_packet, peer_tag}
 use Rattle.sctp_safety.specs.States.{UserShuts}
 use Rattle.sctp_safety.proofs.machine.Turns.{rested_has, by_stage, IsPlainTurn, IsPlain, Stays, plain_same, plain_on, plain_rested, goes_from, left_closed}
 
@@ -99,7 +99,7 @@ plain_abandoned e k = go (is_open e.phase)
     go true = plain_given_up e (abandon_after e.sender k)
     go false = record { configuration = refl; role = refl; moment = refl; terms = refl; turn = Stays e.phase }
 
-pub plain_taken : (e : EndView) (n : ℕ) (h : Option Handed) (t : EndView) → Takes e n h t → IsPlain e t
+pub plain_taken : (e : EndView) (n : ℕ) (h : Option Handed) (t : EndView) → UserTakes e n h t → IsPlain e t
 plain_taken e n h t k = subst (IsPlain e) (sym k.leaves) (record { configuration = refl; role = refl; moment = refl; terms = refl; turn = Stays e.phase })
 
 pub plain_shut : (e : EndView) → IsPlain e (shut e)

@@ -1,7 +1,7 @@
 -- A list of parameters or causes that is written is read again as it was.
 use Rattle.std.proofs.Common.{◌≡◌, List}
 use Rattle.std.specs.List.{AllByRecursion}
-use Rattle.sctp_model.specs.Typed.{Typed, IsTyped, typed_in}
+use Rattle.sctp_model.specs.wire.Typed.{Typed, IsTyped, typed_in}
 use Rattle.sctp_model.specs.end.Reports.{written}
 use Rattle.sctp_model.proofs.TypedWriting.{typed_in-written}
 

@@ -1,19 +1,19 @@
 -- What a chunk of the peer does to an end that has met it.
 use Rattle.std.proofs.Common.{◌≡◌, ℕ, true, false, List, refl, sym, subst}
-use Rattle.sctp_model.specs.Lists.{Has}
-use Rattle.sctp_model.specs.Chunk.{PieceMeaning, ForwardMeaning, ChunkMeaning, Data, IData, Init, InitAck, Sack, Heartbeat, HeartbeatAck, Abort, Shutdown, ShutdownAck, Error, CookieEcho, CookieAck, ShutdownComplete, ForwardTsn, IForwardTsn, Unknown}
-use Rattle.sctp_model.specs.Format.{Format}
-use Rattle.sctp_model.specs.SenderView.{SenderView}
-use Rattle.sctp_model.specs.ReceiverView.{ReceiverView}
-use Rattle.sctp_model.specs.Packet.{Packet}
-use Rattle.sctp_model.specs.Calls.{Asked}
-use Rattle.sctp_model.specs.receiver.PieceTaken.{Answer, PieceTaken}
+use Rattle.sctp_model.specs.numbers.Lists.{Has}
+use Rattle.sctp_model.specs.wire.Chunk.{PieceMeaning, ForwardMeaning, ChunkMeaning, Data, IData, Init, InitAck, Sack, Heartbeat, HeartbeatAck, Abort, Shutdown, ShutdownAck, Error, CookieEcho, CookieAck, ShutdownComplete, ForwardTsn, IForwardTsn, Unknown}
+use Rattle.sctp_model.specs.messages.Format.{Format}
+use Rattle.sctp_model.specs.sender.SenderView.{SenderView}
+use Rattle.sctp_model.specs.receiver.ReceiverView.{ReceiverView}
+use Rattle.sctp_model.specs.wire.Packet.{Packet}
+use Rattle.sctp_model.specs.world.Calls.{Asked}
+use Rattle.sctp_model.specs.receiver.PieceTaken.{PieceAnswer, PieceTaken}
 use Rattle.sctp_model.specs.receiver.ForwardTaken.{ForwardAnswer, ForwardTaken}
 use Rattle.sctp_model.specs.end.EndView.{Draw, Ended, Aborted, AbortedHere, Completed, StaleCookie, Phase, Calling, EndView, format_of}
 use Rattle.sctp_model.specs.end.Clock.{closed}
 use Rattle.sctp_model.specs.end.PeerFaults.{GoesOn, Ends, Replies}
 use Rattle.sctp_model.specs.end.Opening.{AcceptedAck, RefusedAck, EchoedAgain, CookieAcked}
-use Rattle.sctp_model.specs.end.Acting.{Acts, Empty, WrongFormat, Comes, WrongKind, IsBad, IsOld, IsStale, IsWrong, Counts, Closes, SaysNothing, Crosses, Again, Completes}
+use Rattle.sctp_model.specs.end.Acting.{Acts, PieceEmpty, WrongFormat, ForwardComes, PieceComes, WrongKind, IsBad, IsOld, SackStale, ShutdownStale, SackWrong, ShutdownWrong, HeartbeatCounts, SackCounts, ShutdownCounts, Closes, SaysNothing, Crosses, Again, AckCompletes, CompleteCompleted}
 use Rattle.sctp_safety.specs.States.{has_agreed}
 use Rattle.sctp_safety.proofs.machine.Sides.{unknown_goes, unknown_ends, unknown_never_replies}
 use Rattle.sctp_safety.proofs.runs.Direction.{Direction}
@@ -37,12 +37,12 @@ module _ (p : EndView) (u v : Asked) (out back : List ChunkMeaning) where
   with_sender : (e : EndView) (a : SenderView) → Met e → Direction (format_of e) e.terms.outbound a u p.receiver out back → Met (record e { sender = a })
   with_sender e a m d = met_views e p u v out back out m a e.receiver d m.coming
 
-  by_data : (e : EndView) (x : PieceMeaning) (o : Answer) (r : ReceiverView) → Met e → Has back (Data x) → PieceTaken (format_of e) e.receiver x o r → Met (record e { receiver = r })
+  by_data : (e : EndView) (x : PieceMeaning) (o : PieceAnswer) (r : ReceiverView) → Met e → Has back (Data x) → PieceTaken (format_of e) e.receiver x o r → Met (record e { receiver = r })
   by_data e x o r m has taken =
       with_receiver e r m (after_piece (format_of p) p.terms.outbound p.sender v e.receiver back out m.coming (Data x) x o r has (λ h. h)
       (subst (λ (f : Format). PieceTaken f e.receiver x o r) m.format taken))
 
-  by_i_data : (e : EndView) (x : PieceMeaning) (o : Answer) (r : ReceiverView) → Met e → Has back (IData x) → PieceTaken (format_of e) e.receiver x o r → Met (record e { receiver = r })
+  by_i_data : (e : EndView) (x : PieceMeaning) (o : PieceAnswer) (r : ReceiverView) → Met e → Has back (IData x) → PieceTaken (format_of e) e.receiver x o r → Met (record e { receiver = r })
   by_i_data e x o r m has taken =
       with_receiver e r m (after_piece (format_of p) p.terms.outbound p.sender v e.receiver back out m.coming (IData x) x o r has (λ h. h)
       (subst (λ (f : Format). PieceTaken f e.receiver x o r) m.format taken))
@@ -69,21 +69,21 @@ module _ (p : EndView) (u v : Asked) (out back : List ChunkMeaning) where
   -- ---- a chunk after which the packet goes on
 
   pub goes : (e : EndView) (tag : ℕ) (x : ChunkMeaning) (t : EndView) → Has back x → Met e → Acts e tag x (GoesOn t) → Met t
-  goes e tag (Data d) t has m (Comes k g o r is hears some same taken) =
+  goes e tag (Data d) t has m (PieceComes k g o r is hears some same taken) =
       still (record e { receiver = r }) t (by_data e d o r m has taken) (record { terms = refl; sender = refl; receiver = refl; moment = refl }) m.phase
-  goes e tag (IData d) t has m (Comes k g o r is hears some same taken) =
+  goes e tag (IData d) t has m (PieceComes k g o r is hears some same taken) =
       still (record e { receiver = r }) t (by_i_data e d o r m has taken) (record { terms = refl; sender = refl; receiver = refl; moment = refl }) m.phase
   goes e tag (Init i) t has m h = absurd (cc)
   goes e tag (InitAck i) t has m (AcceptedAck d cookie is tagged value fault) = absurd (not_calling e.phase d is m.phase)
-  goes e tag (Sack s) t has m (IsStale hears fault) = m
-  goes e tag (Sack s) t has m (Counts hears none) =
+  goes e tag (Sack s) t has m (SackStale hears fault) = m
+  goes e tag (Sack s) t has m (SackCounts hears none) =
       still (record e { sender = _ }) t (with_sender e _ m (after_sack (format_of e) e.terms.outbound e.sender u p.receiver out back m.going s has none))
       (record { terms = refl; sender = refl; receiver = refl; moment = refl }) m.phase
-  goes e tag (Heartbeat i) t has m (Counts hears) = still e t m (record { terms = refl; sender = refl; receiver = refl; moment = refl }) m.phase
+  goes e tag (Heartbeat i) t has m (HeartbeatCounts hears) = still e t m (record { terms = refl; sender = refl; receiver = refl; moment = refl }) m.phase
   goes e tag (HeartbeatAck i) t has m h = let q : t ≡ e = cc in subst Met (sym q) m
   goes e tag (Abort b xs) t has m h = absurd (cc)
-  goes e tag (Shutdown n) t has m (IsStale k g is hears fault) = still e t m (record { terms = refl; sender = refl; receiver = refl; moment = refl }) refl
-  goes e tag (Shutdown n) t has m (Counts k g is hears none) =
+  goes e tag (Shutdown n) t has m (ShutdownStale k g is hears fault) = still e t m (record { terms = refl; sender = refl; receiver = refl; moment = refl }) refl
+  goes e tag (Shutdown n) t has m (ShutdownCounts k g is hears none) =
       still (record e { sender = _ }) t (with_sender e _ m (after_shutdown (format_of e) e.terms.outbound e.sender u p.receiver out back m.going n has none))
       (record { terms = refl; sender = refl; receiver = refl; moment = refl }) refl
   goes e tag (Shutdown n) t has m (Crosses k is) = still e t m (record { terms = refl; sender = refl; receiver = refl; moment = refl }) refl
@@ -95,11 +95,11 @@ module _ (p : EndView) (u v : Asked) (out back : List ChunkMeaning) where
   goes e tag (ShutdownComplete b) t has m h = elim h [ ]
   goes e tag (ForwardTsn d) t has m (IsOld k g r is hears may taken) =
       still (record e { receiver = r }) t (by_forward e d _ r m has taken) (record { terms = refl; sender = refl; receiver = refl; moment = refl }) m.phase
-  goes e tag (ForwardTsn d) t has m (Comes k g r is hears may taken) =
+  goes e tag (ForwardTsn d) t has m (ForwardComes k g r is hears may taken) =
       still (record e { receiver = r }) t (by_forward e d _ r m has taken) (record { terms = refl; sender = refl; receiver = refl; moment = refl }) m.phase
   goes e tag (IForwardTsn d) t has m (IsOld k g r is hears may taken) =
       still (record e { receiver = r }) t (by_i_forward e d _ r m has taken) (record { terms = refl; sender = refl; receiver = refl; moment = refl }) m.phase
-  goes e tag (IForwardTsn d) t has m (Comes k g r is hears may taken) =
+  goes e tag (IForwardTsn d) t has m (ForwardComes k g r is hears may taken) =
       still (record e { receiver = r }) t (by_i_forward e d _ r m has taken) (record { terms = refl; sender = refl; receiver = refl; moment = refl }) m.phase
   goes e tag (Unknown k f w) t has m h =
       subst Met (sym (unknown_goes e t k f w h).same) (still e _ m (record { terms = refl; sender = refl; receiver = refl; moment = refl }) m.phase)
@@ -120,25 +120,25 @@ module _ (p : EndView) (u v : Asked) (out back : List ChunkMeaning) where
   ends e tag (Error xs) t m (Closes on) = over e StaleCookie m
   ends e tag (CookieEcho xs) t m h = elim h [ ]
   ends e tag CookieAck t m h = elim h [ ]
-  ends e tag (ShutdownComplete b) t m (Completes on) = over e Completed m
+  ends e tag (ShutdownComplete b) t m (CompleteCompleted on) = over e Completed m
   ends e tag (ForwardTsn d) t m h = elim h [ ]
   ends e tag (IForwardTsn d) t m h = elim h [ ]
   ends e tag (Unknown k f w) t m h =
       subst Met (sym (unknown_ends e t k f w h).same) (still e _ m (record { terms = refl; sender = refl; receiver = refl; moment = refl }) m.phase)
 
   pub replies : (e : EndView) (tag : ℕ) (x : ChunkMeaning) (t : EndView) (r : Packet) → Met e → Acts e tag x (Replies t r) → Met t
-  replies e tag (Data d) t r m (Empty _ _ _ _ _) = over e AbortedHere m
+  replies e tag (Data d) t r m (PieceEmpty _ _ _ _ _) = over e AbortedHere m
   replies e tag (Data d) t r m (WrongFormat _ _ _ _ _ _) = over e AbortedHere m
-  replies e tag (IData d) t r m (Empty _ _ _ _ _) = over e AbortedHere m
+  replies e tag (IData d) t r m (PieceEmpty _ _ _ _ _) = over e AbortedHere m
   replies e tag (IData d) t r m (WrongFormat _ _ _ _ _ _) = over e AbortedHere m
   replies e tag (Init i) t r m h = absurd (cc)
   replies e tag (InitAck i) t r m (RefusedAck _ _ _ _ _) = over e AbortedHere m
-  replies e tag (Sack s) t r m (IsWrong _ _ _ _ _) = over e AbortedHere m
+  replies e tag (Sack s) t r m (SackWrong _ _ _ _ _) = over e AbortedHere m
   replies e tag (Heartbeat i) t r m h = elim h [ ]
   replies e tag (HeartbeatAck i) t r m h = absurd (cc)
   replies e tag (Abort b xs) t r m h = absurd (cc)
-  replies e tag (Shutdown n) t r m (IsWrong _ _ _ _ _) = over e AbortedHere m
-  replies e tag ShutdownAck t r m (Completes _ _ _ _) = over e Completed m
+  replies e tag (Shutdown n) t r m (ShutdownWrong _ _ _ _ _) = over e AbortedHere m
+  replies e tag ShutdownAck t r m (AckCompletes _ _ _ _) = over e Completed m
   replies e tag (Error xs) t r m h = elim h [ ]
   replies e tag (CookieEcho xs) t r m h = elim h [ ]
   replies e tag CookieAck t r m h = elim h [ ]

@@ -1,15 +1,15 @@
 -- What an end answers to a packet, whoever sent it, opens an association or ends one: it says nothing of a direction.
 use Rattle.std.proofs.Common.{◌≡◌, ℕ, ◌==◌, Bool, true, false, List, [], ◌∷◌, Option, Some, None, inl, inr, refl, subst, if◌then◌else◌}
-use Rattle.sctp_model.specs.Chunk.{InitMeaning, ChunkMeaning, Data, IData, Init, InitAck, Sack, Heartbeat, HeartbeatAck, Abort, Shutdown, ShutdownAck, Error, CookieEcho, CookieAck, ShutdownComplete, ForwardTsn, IForwardTsn, Unknown}
-use Rattle.sctp_model.specs.Packet.{Packet}
+use Rattle.sctp_model.specs.wire.Chunk.{InitMeaning, ChunkMeaning, Data, IData, Init, InitAck, Sack, Heartbeat, HeartbeatAck, Abort, Shutdown, ShutdownAck, Error, CookieEcho, CookieAck, ShutdownComplete, ForwardTsn, IForwardTsn, Unknown}
+use Rattle.sctp_model.specs.wire.Packet.{Packet}
 use Rattle.sctp_model.specs.end.Sealing.{Sealing}
 use Rattle.sctp_model.specs.end.EndView.{Draw, EndView}
 use Rattle.sctp_model.specs.end.PeerFaults.{TAG, STATE, Replies, packet_to, abort_for}
 use Rattle.sctp_model.specs.end.Reports.{item, INVALID_PARAMETER}
-use Rattle.sctp_model.specs.end.Opening.{RefusedAck, CookieRead, Opens, Stale, Strange, cookie_read, has_no_stream, init_ack}
-use Rattle.sctp_model.specs.end.Acting.{Acts, Empty, WrongFormat, WrongKind, IsBad, IsWrong, Completes}
+use Rattle.sctp_model.specs.end.Opening.{RefusedAck, CookieRead, CookieOpens, CookieLate, Strange, cookie_read, has_no_stream, init_ack}
+use Rattle.sctp_model.specs.end.Acting.{Acts, PieceEmpty, WrongFormat, WrongKind, IsBad, SackWrong, ShutdownWrong, AckCompletes}
 use Rattle.sctp_model.specs.end.Strays.{Verdict, Dropped, Answer, holds_abort, listens, init_verdict, cookie_verdict, echo_verdict, first_verdict, chunks_verdict}
-use Rattle.sctp_model.specs.end.Arriving.{Arrives, Elsewhere, NotOurs, Stray, Begins, Heard}
+use Rattle.sctp_model.specs.end.Arriving.{Arrives, Elsewhere, NotOurs, Stray, CookieBegins, Heard}
 use Rattle.sctp_safety.proofs.machine.Sides.{unknown_never_replies}
 use Rattle.sctp_safety.proofs.machine.EndWords.{OfAnswer, Keeps, all_act_keeps}
 use Rattle.sctp_safety.proofs.runs.Pair.{opens_or_ends, AreOpening}
@@ -25,18 +25,18 @@ OpensOrEnds v = OfAnswer (λ r. AreOpening r.chunks) v
 -- ---- an end that has an association
 
 pub reply_opens : (e : EndView) (tag : ℕ) (x : ChunkMeaning) (t : EndView) (r : Packet) → Acts e tag x (Replies t r) → AreOpening r.chunks
-reply_opens e tag (Data d) t r (Empty _ _ _ _ _) = one_opening _ refl
+reply_opens e tag (Data d) t r (PieceEmpty _ _ _ _ _) = one_opening _ refl
 reply_opens e tag (Data d) t r (WrongFormat _ _ _ _ _ _) = one_opening _ refl
-reply_opens e tag (IData d) t r (Empty _ _ _ _ _) = one_opening _ refl
+reply_opens e tag (IData d) t r (PieceEmpty _ _ _ _ _) = one_opening _ refl
 reply_opens e tag (IData d) t r (WrongFormat _ _ _ _ _ _) = one_opening _ refl
 reply_opens e tag (Init i) t r h = absurd (cc)
 reply_opens e tag (InitAck i) t r (RefusedAck _ _ _ _ _) = one_opening _ refl
-reply_opens e tag (Sack s) t r (IsWrong _ _ _ _ _) = one_opening _ refl
+reply_opens e tag (Sack s) t r (SackWrong _ _ _ _ _) = one_opening _ refl
 reply_opens e tag (Heartbeat i) t r h = elim h [ ]
 reply_opens e tag (HeartbeatAck i) t r h = absurd (cc)
 reply_opens e tag (Abort b xs) t r h = absurd (cc)
-reply_opens e tag (Shutdown n) t r (IsWrong _ _ _ _ _) = one_opening _ refl
-reply_opens e tag ShutdownAck t r (Completes _ _ _ _) = one_opening _ refl
+reply_opens e tag (Shutdown n) t r (ShutdownWrong _ _ _ _ _) = one_opening _ refl
+reply_opens e tag ShutdownAck t r (AckCompletes _ _ _ _) = one_opening _ refl
 reply_opens e tag (Error xs) t r h = elim h [ ]
 reply_opens e tag (CookieEcho xs) t r h = elim h [ ]
 reply_opens e tag CookieAck t r h = elim h [ ]
@@ -65,8 +65,8 @@ of_init (Some s) e d m = go (has_no_stream m)
     go false = one_opening _ refl
 
 of_cookie : (e : EndView) (c : CookieRead) → OpensOrEnds (cookie_verdict e c)
-of_cookie e (Stale b) = one_opening _ refl
-of_cookie e (Opens b) = tt
+of_cookie e (CookieLate b) = one_opening _ refl
+of_cookie e (CookieOpens b) = tt
 of_cookie e Strange = tt
 
 of_echo : (o : Option Sealing) (e : EndView) (tag : ℕ) (cookie : List ℕ) → OpensOrEnds (echo_verdict o e tag cookie)
@@ -109,5 +109,5 @@ pub answer_opens : (e : EndView) (d : Draw) (p : Packet) (t : EndView) (v : Verd
 answer_opens e d p t v (Elsewhere ports) = tt
 answer_opens e d p t v (NotOurs ports passes) = tt
 answer_opens e d p t v (Stray ports passes none closed) = of_chunks e d p.tag p.chunks
-answer_opens e d p t v (Begins b _ _ ports passes none opens acts) = (all_act_keeps p.tag _ _ _ (any_chunk p.tag) _ true _ t v (λ x has. tt) tt acts).1
+answer_opens e d p t v (CookieBegins b _ _ ports passes none opens acts) = (all_act_keeps p.tag _ _ _ (any_chunk p.tag) _ true _ t v (λ x has. tt) tt acts).1
 answer_opens e d p t v (Heard _ _ ports passes has acts) = (all_act_keeps p.tag _ _ _ (any_chunk p.tag) e false p.chunks t v (λ x has. tt) tt acts).1

@@ -1,21 +1,21 @@
 -- Two ends that are apart stay apart, or meet: by `open`, or when the listener opens the cookie of what the caller has joined on.
 use Rattle.std.proofs.Common.{◌≡◌, ℕ, max, true, false, List, [], ◌∷◌, drop, Option, Some, inl, inr, refl, sym, subst, arith, ◌⊎◌}
-use Rattle.sctp_model.specs.Lists.{Has, IsWithin}
-use Rattle.sctp_model.specs.Chunk.{ChunkMeaning, CookieEcho}
-use Rattle.sctp_model.specs.Packet.{Packet}
+use Rattle.sctp_model.specs.numbers.Lists.{Has, IsWithin}
+use Rattle.sctp_model.specs.wire.Chunk.{ChunkMeaning, CookieEcho}
+use Rattle.sctp_model.specs.wire.Packet.{Packet}
 use Rattle.sctp_model.specs.end.Sealing.{Body, Sealing}
 use Rattle.sctp_model.specs.end.EndView.{Established, Open, Phase, Listening, EndView, has_association}
 use Rattle.sctp_model.specs.end.Opening.{begun, joined, terms_of_body, tags_of_body}
 use Rattle.sctp_model.specs.end.Clock.{turned}
 use Rattle.sctp_model.specs.end.Strays.{Verdict}
-use Rattle.sctp_model.specs.end.Arriving.{AllAct, Arrives, Elsewhere, NotOurs, Stray, Begins, Heard}
+use Rattle.sctp_model.specs.end.Arriving.{AllAct, Arrives, Elsewhere, NotOurs, Stray, CookieBegins, Heard}
 use Rattle.sctp_model.specs.end.Building.{Builds, packet_of}
 use Rattle.sctp_model.specs.end.Moments.{ticked}
 use Rattle.sctp_model.specs.end.UserCalls.{called, abandoned_at, shut, abort_answer, abort_leaves}
-use Rattle.sctp_model.specs.World.{Side, A, B, World, end_of, bag_of, log_of, with_end, end_now, came, logged, Setup}
-use Rattle.sctp_model.specs.Events.{Event, with_verdict, Outcome}
-use Rattle.sctp_model.specs.Steps.{named_at, cut, Step, Opens, OpenRefused, TimePasses, Draws, Connects, ConnectRefused, BuildsOne, BuildsNone, Comes, IsAbsent, Unread, Sends, Abandons, TakesOne, ShutsDown, AbortsIt, CutFirst, CutLater, NoMemory}
-use Rattle.sctp_model.specs.Premises.{asked_at}
+use Rattle.sctp_model.specs.world.World.{Side, A, B, World, end_of, bag_of, log_of, with_end, end_now, came, logged, Setup}
+use Rattle.sctp_model.specs.world.Events.{Event, with_verdict, Outcome}
+use Rattle.sctp_model.specs.world.Steps.{named_at, cut_to, Step, OpensBoth, OpenRefused, TimePasses, Draws, Connects, ConnectRefused, BuildsOne, BuildsNone, PacketComes, IsAbsent, Unread, Sends, AbandonsOne, TakesOne, ShutsDown, AbortsIt, CutFirst, CutLater, NoMemory}
+use Rattle.sctp_model.specs.world.Premises.{asked_at}
 use Rattle.sctp_safety.specs.Agreement.{IsOpening}
 use Rattle.sctp_safety.proofs.machine.EndWords.{all_act_keeps}
 use Rattle.sctp_safety.proofs.machine.Strangers.{IsFound, found_is, stranger_stays}
@@ -82,7 +82,7 @@ module _ (s : Setup) (drawn : List ℕ) (w : World) (opening : IsOpening s drawn
   listener_hears p q t v has within (Elsewhere ports) = inl refl
   listener_hears p q t v has within (NotOurs ports passes) = inl refl
   listener_hears p q t v has within (Stray ports passes none closed) = inl refl
-  listener_hears p q t v has within (Begins b _ _ ports passes none opens acts) = inr (meets p q b t v has within (found_is (end_now w B) p.tag p.chunks b opens) acts)
+  listener_hears p q t v has within (CookieBegins b _ _ ports passes none opens acts) = inr (meets p q b t v has within (found_is (end_now w B) p.tag p.chunks b opens) acts)
   listener_hears p q t v has within (Heard _ _ ports passes there acts) = absurd (listener_has_none w.b.phase k.listens there)
 
   -- ---- either end
@@ -148,7 +148,7 @@ module _ (s : Setup) (drawn : List ℕ) (w : World) (opening : IsOpening s drawn
       (m.0, m.1, stands_on w x t.phase k (builds_plain (end_now w x) zs t b).turn)
 
   pub apart_step : (caller : w.a.phase ≡ Listening → ⊥) (e : Event) (o : Option Outcome) (v : World) → IsFine s drawn e → Step w e o v → IsApartWorld v ⊎ IsMetWorld v
-  apart_step caller e o v fine (Opens x y may dx dy) = inr (opened_meet s w x y set k)
+  apart_step caller e o v fine (OpensBoth x y may dx dy) = inr (opened_meet s w x y set k)
   apart_step caller e o v fine (OpenRefused x y off) = inl k
   apart_step caller e o v fine (TimePasses n small) = inl (passes n)
   apart_step caller e o v fine (Draws d dd) = inl (apart_same w v refl refl refl refl refl refl refl k)
@@ -160,12 +160,12 @@ module _ (s : Setup) (drawn : List ℕ) (w : World) (opening : IsOpening s drawn
       let m = builds x (y ∷ ys) t b in
       inl (apart_packet (with_end w x t) x (packet_of (end_of w x) (y ∷ ys)) m.1 (apart_end w x t k m.0 m.2))
   apart_step caller e o v fine (BuildsNone x t b) = let m = builds x [] t b in inl (apart_end w x t k m.0 m.2)
-  apart_step caller e o v fine (Comes _ x p t d brings arrives) =
+  apart_step caller e o v fine (PacketComes _ x p t d brings arrives) =
       told x t d (answer_opens (end_now w x) w.draw p t d arrives) (hears caller x p t d (from_whole s drawn w e x p fine brings) arrives)
   apart_step caller e o v fine (IsAbsent x n none) = inl k
   apart_step caller e o v fine (Unread x) = inl (apart_came w x (end_now w x) k (now_unmet w x k) (stands_now w x k))
   apart_step caller e o v fine (Sends x c) = inl (apart_sent w x c k)
-  apart_step caller e o v fine (Abandons x n) =
+  apart_step caller e o v fine (AbandonsOne x n) =
       inl (apart_log (with_end w x (abandoned_at (end_of w x) n)) x (named_at (logged w x (abandoned_at (end_of w x) n)) n) (k.calls x)
       (apart_end w x (abandoned_at (end_of w x) n) k (waits_abandoned w.clock (end_of w x) n (k.ends x)) (stands_on w x _ k (plain_abandoned (end_of w x) n).turn)))
   apart_step caller e o v fine (TakesOne x n h t takes) =
@@ -177,5 +177,5 @@ module _ (s : Setup) (drawn : List ℕ) (w : World) (opening : IsOpening s drawn
       (apart_end w x _ k (waits_aborted w.clock (end_of w x) (abort_answer (end_of w x) r) (k.ends x)) (stands_on w x _ k (plain_aborted (end_of w x) r).turn)))
   apart_step caller e o v fine (CutFirst _ x p brings) = inl (apart_came w x (end_now w x) k (now_unmet w x k) (stands_now w x k))
   apart_step caller e o v fine (CutLater _ x p y front back z t d brings parts arrives silent) =
-      untold x t (hears caller x (cut p (y ∷ front)) t d (from_cut s drawn w e x p y front back z fine brings parts) arrives)
+      untold x t (hears caller x (cut_to p (y ∷ front)) t d (from_cut s drawn w e x p y front back z fine brings parts) arrives)
   apart_step caller e o v fine (NoMemory _ other_event) = inl k

@@ -1,17 +1,17 @@
 -- A world in which the two ends are apart: the listener listens, the caller isn't open, nothing was said of a direction.
 use Rattle.std.proofs.Common.{◌≡◌, ℕ, ◌<◌, min, nat_le, Bool, true, false, List, [], ◌∷◌, ◌++◌, Option, Some, None, inl, inr, refl, sym, subst, ap, arith, ◌⊎◌, ◌∙◌, if◌then◌else◌}
-use Rattle.sctp_model.specs.Lists.{Has}
-use Rattle.sctp_model.specs.Chunk.{ChunkMeaning}
-use Rattle.sctp_model.specs.Packet.{Packet, size_of_packet}
-use Rattle.sctp_model.specs.Calls.{Call}
+use Rattle.sctp_model.specs.numbers.Lists.{Has}
+use Rattle.sctp_model.specs.wire.Chunk.{ChunkMeaning}
+use Rattle.sctp_model.specs.wire.Packet.{Packet, size_of_packet}
+use Rattle.sctp_model.specs.world.Calls.{Call}
 use Rattle.sctp_model.specs.end.EndView.{Draw, Configuration, Phase, Listening, EndView}
 use Rattle.sctp_model.specs.end.Configured.{IsConfiguration}
 use Rattle.sctp_model.specs.end.Strays.{Verdict, Taken, Dropped, Answer}
 use Rattle.sctp_model.specs.end.UserCalls.{Aborts, TooLong, peer_tag, abort_packet, abort_answer_to, abort_answer, SendAnswer, send_answer, send_leaves}
-use Rattle.sctp_model.specs.World.{Side, A, B, Log, World, end_of, bag_of, log_of, with_end, with_packet, with_log, end_now, came, Setup, configuration_of}
-use Rattle.sctp_model.specs.Events.{with_verdict, with_abort}
-use Rattle.sctp_model.specs.Steps.{opened, accepted}
-use Rattle.sctp_model.specs.Premises.{asked_at}
+use Rattle.sctp_model.specs.world.World.{Side, A, B, Log, World, end_of, bag_of, log_of, with_end, with_packet, with_log, end_now, came, Setup, configuration_of}
+use Rattle.sctp_model.specs.world.Events.{with_verdict, with_abort}
+use Rattle.sctp_model.specs.world.Steps.{opened, accepted}
+use Rattle.sctp_model.specs.world.Premises.{asked_at}
 use Rattle.sctp_safety.specs.States.{has_begun}
 use Rattle.sctp_safety.specs.Agreement.{AreAgreed}
 use Rattle.sctp_safety.proofs.Basics.{Has-cases}

@@ -1,19 +1,19 @@
 -- Where a sender is drained and the receiver at its peer is at rest, no message is missing: each was handed over, or abandoned.
 use Rattle.std.proofs.Common.{◌≡◌, ℕ, zero, suc, ◌<◌, ◌≤◌, ◌⊎◌, ◌==◌, ◌&&◌, true, List, [], ◌∷◌, length, Option, Some, None, inl, inr, refl, sym, subst, ap, arith, eqb-true, ◌∙◌}
 use Rattle.std.proofs.lemmas.Bool.{cases_lt, and_parts}
-use Rattle.sctp_model.specs.Lists.{Has}
-use Rattle.sctp_model.specs.Chunk.{ChunkMeaning}
-use Rattle.sctp_model.specs.Format.{Format, Kind, Ordered, Unordered, Lane, ordered_lane}
-use Rattle.sctp_model.specs.Plan.{Message, Entry, Part, entry_at, message_at, IsClosed}
-use Rattle.sctp_model.specs.Pieces.{piece_of}
-use Rattle.sctp_model.specs.SenderView.{SenderView}
-use Rattle.sctp_model.specs.ReceiverView.{ReceiverView, IsReached}
-use Rattle.sctp_model.specs.Safe.{WasHanded}
-use Rattle.sctp_model.specs.Calls.{Asked}
+use Rattle.sctp_model.specs.numbers.Lists.{Has}
+use Rattle.sctp_model.specs.wire.Chunk.{ChunkMeaning}
+use Rattle.sctp_model.specs.messages.Format.{Format, Kind, Ordered, Unordered, Lane, ordered_lane}
+use Rattle.sctp_model.specs.messages.Plan.{Message, Entry, Part, entry_at, message_at, IsClosed}
+use Rattle.sctp_model.specs.messages.Pieces.{piece_of}
+use Rattle.sctp_model.specs.sender.SenderView.{SenderView}
+use Rattle.sctp_model.specs.receiver.ReceiverView.{ReceiverView, Reaches}
+use Rattle.sctp_model.specs.world.Safe.{WasHanded}
+use Rattle.sctp_model.specs.world.Calls.{Asked}
 use Rattle.sctp_model.specs.sender.Entries.{continued, one_if_some, in_part, sum_below}
 use Rattle.sctp_model.specs.sender.Readers.{drained}
 use Rattle.sctp_model.specs.receiver.Laws.{IsIdle}
-use Rattle.sctp_model.specs.Premises.{IsAllArrived}
+use Rattle.sctp_model.specs.world.Premises.{IsAllArrived}
 use Rattle.sctp_safety.specs.Way.{Way}
 use Rattle.sctp_safety.proofs.Basics.{lane_is, each_or, item_at-within, item_at-above}
 use Rattle.sctp_safety.proofs.Facts.{Good, IsLost, IsOver}
@@ -71,7 +71,7 @@ module _ (w : Way) (g : Good w) (idle : IsIdle w.format w.receiver) (all : w.sen
   IsArrived l n = (w.sender.abandoned l n ≡ true) ⊎ WasHanded w.sender.plan w.receiver l n
 
   -- all that has an index was acknowledged, so reached
-  all_reached : (i : ℕ) → 0 < i → i ≤ length w.sender.plan.entries → IsReached w.receiver i
+  all_reached : (i : ℕ) → 0 < i → i ≤ length w.sender.plan.entries → Reaches w.receiver i
   all_reached i some le = g.between.cum i (omega (arith, all, le))
 
   -- a message that is waited for next isn't all reached, once it is closed
@@ -111,7 +111,7 @@ module _ (w : Way) (g : Good w) (idle : IsIdle w.format w.receiver) (all : w.sen
       jumped (inl h) = seen h
       jumped (inr x) = inr (inl (lost_at w.format w.sender w.receiver i l n (Part l n k) here (refl, refl) x))
 
-      go : IsReached w.receiver i → Has w.receiver.kept (piece_of w.format i l n k m) ⊎ IsArrived l n
+      go : Reaches w.receiver i → Has w.receiver.kept (piece_of w.format i l n k m) ⊎ IsArrived l n
       go (inl h) = seen h
       go (inr h) = jumped (g.held.jumped i some h)
 

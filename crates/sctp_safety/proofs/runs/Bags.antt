@@ -1,8 +1,8 @@
 -- The chunks of the packets of a bag.
 use Rattle.std.proofs.Common.{◌≡◌, ℕ, zero, suc, List, [], ◌∷◌, ◌++◌, slice_get, Some, append-nil, inl, inr, refl, ap, ◌∙◌}
-use Rattle.sctp_model.specs.Lists.{Has, item_at}
-use Rattle.sctp_model.specs.Chunk.{ChunkMeaning}
-use Rattle.sctp_model.specs.Packet.{Packet}
+use Rattle.sctp_model.specs.numbers.Lists.{Has, item_at}
+use Rattle.sctp_model.specs.wire.Chunk.{ChunkMeaning}
+use Rattle.sctp_model.specs.wire.Packet.{Packet}
 use Rattle.sctp_safety.proofs.Basics.{Has-left, Has-right}
 
 -- every chunk that an end ever built

@@ -1,14 +1,14 @@
 -- A drained sender stays drained: it takes no index, and nothing of it is left to be given up. Only `send` could undo that.
 use Rattle.std.proofs.Common.{◌≡◌, ℕ, ◌<◌, ◌⊎◌, Bool, true, false, List, [], ◌∷◌, Some, inl, inr, sym, subst, ap, if◌then◌else◌}
 use Rattle.std.specs.Prelude.{fold}
-use Rattle.sctp_model.specs.Format.{Format}
-use Rattle.sctp_model.specs.Plan.{Plan}
-use Rattle.sctp_model.specs.SenderView.{Queued, SenderView}
+use Rattle.sctp_model.specs.messages.Format.{Format}
+use Rattle.sctp_model.specs.messages.Plan.{Plan}
+use Rattle.sctp_model.specs.sender.SenderView.{Queued, SenderView}
 use Rattle.sctp_model.specs.sender.Words.{some_passes, count_up}
 use Rattle.sctp_model.specs.sender.Entries.{is_of, is_in_part}
 use Rattle.sctp_model.specs.sender.Assigning.{first_on}
 use Rattle.sctp_model.specs.sender.Filling.{Wish, next_wish, gone, Follows, fill}
-use Rattle.sctp_model.specs.sender.Abandoning.{Name, waits, given_up, abandon_after, is_due, expire_one, expired, timed_out}
+use Rattle.sctp_model.specs.sender.Abandoning.{Name, waits, given_up, abandon_after, is_overdue, expire_one, expired, timed_out}
 use Rattle.sctp_model.specs.sender.Readers.{drained}
 use Rattle.sctp_model.specs.sender.Reached.{IsReached, Goes, Abandons}
 use Rattle.sctp_model.proofs.sender.AbandonCases.{after_abandon, after_end}
@@ -61,7 +61,7 @@ IsDry f v = IsReached f v × (drained v ≡ true)
 
 expires_dry : (f : Format) (v : SenderView) (now : ℕ) (ts : List ℕ) → IsDry f v → IsDry f (fold (expire_one now) v ts)
 expires_dry f v now [] dry = dry
-expires_dry f v now (t ∷ ts) (reached, empty) = expires_dry f (expire_one now v t) now ts (one (is_due v now t))
+expires_dry f v now (t ∷ ts) (reached, empty) = expires_dry f (expire_one now v t) now ts (one (is_overdue v now t))
   where
     one : (b : Bool) → IsDry f (if b then abandon_after v t else v)
     one true = (Abandons v t reached, drained_abandoned f v t reached empty)

@@ -1,7 +1,7 @@
 -- What holds between two ends while their association is closed (RFC 9260, 9.2): who is done is drained for good, who said so is done, and who was told so was told by the peer.
 use Rattle.std.proofs.Common.{◌≡◌, ℕ, ◌⊎◌, Bool, true, false, List, ◌++◌, inl, inr, refl, sym, subst, ◌∙◌}
-use Rattle.sctp_model.specs.Lists.{Has}
-use Rattle.sctp_model.specs.Chunk.{ChunkMeaning, Shutdown, ShutdownAck}
+use Rattle.sctp_model.specs.numbers.Lists.{Has}
+use Rattle.sctp_model.specs.wire.Chunk.{ChunkMeaning, Shutdown, ShutdownAck}
 use Rattle.sctp_model.specs.sender.Readers.{drained}
 use Rattle.sctp_model.specs.end.EndView.{Tags, Stage, ShutdownPending, ShutdownSent, ShutdownReceived, ShutdownAckSent, Ended, Completed, Phase, Idle, Listening, Calling, Echoing, Open, Over, EndView}
 use Rattle.sctp_model.specs.end.Clock.{closed}

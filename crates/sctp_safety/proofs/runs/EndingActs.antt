@@ -1,9 +1,9 @@
 -- What a chunk of the peer does to the closing of an association.
 use Rattle.std.proofs.Common.{◌≡◌, ℕ, true, false, List, refl, sym, subst, ◌∙◌}
-use Rattle.sctp_model.specs.Lists.{Has}
-use Rattle.sctp_model.specs.Chunk.{ChunkMeaning, Data, IData, Init, InitAck, Sack, Heartbeat, HeartbeatAck, Abort, Shutdown, ShutdownAck, Error, CookieEcho, CookieAck, ShutdownComplete, ForwardTsn, IForwardTsn, Unknown}
-use Rattle.sctp_model.specs.Packet.{Packet}
-use Rattle.sctp_model.specs.SenderView.{SenderView}
+use Rattle.sctp_model.specs.numbers.Lists.{Has}
+use Rattle.sctp_model.specs.wire.Chunk.{ChunkMeaning, Data, IData, Init, InitAck, Sack, Heartbeat, HeartbeatAck, Abort, Shutdown, ShutdownAck, Error, CookieEcho, CookieAck, ShutdownComplete, ForwardTsn, IForwardTsn, Unknown}
+use Rattle.sctp_model.specs.wire.Packet.{Packet}
+use Rattle.sctp_model.specs.sender.SenderView.{SenderView}
 use Rattle.sctp_model.specs.sender.SackTaken.{shutdown_taken}
 use Rattle.sctp_model.specs.sender.Readers.{drained}
 use Rattle.sctp_model.specs.end.EndView.{Tags, Stage, Established, ShutdownPending, ShutdownSent, ShutdownReceived, ShutdownAckSent, Ended, Completed, Aborted, AbortedHere, StaleCookie, Phase, Idle, Listening, Calling, Echoing, Open, Over, AckAlarm, EndView}
@@ -11,7 +11,7 @@ use Rattle.sctp_model.specs.end.Clock.{is_home, closed, settled}
 use Rattle.sctp_model.specs.end.Closing.{hears, takes_acknowledgements, awaits_ack, awaits_complete, answers_shutdown}
 use Rattle.sctp_model.specs.end.PeerFaults.{GoesOn, Ends, Replies}
 use Rattle.sctp_model.specs.end.Opening.{AcceptedAck, RefusedAck, EchoedAgain, CookieAcked}
-use Rattle.sctp_model.specs.end.Acting.{Acts, Empty, WrongFormat, Comes, WrongKind, IsBad, IsOld, IsStale, IsWrong, Counts, Closes, SaysNothing, Crosses, Again, Completes}
+use Rattle.sctp_model.specs.end.Acting.{Acts, PieceEmpty, WrongFormat, ForwardComes, PieceComes, WrongKind, IsBad, IsOld, SackStale, ShutdownStale, SackWrong, ShutdownWrong, HeartbeatCounts, SackCounts, ShutdownCounts, Closes, SaysNothing, Crosses, Again, AckCompletes, CompleteCompleted}
 use Rattle.sctp_safety.specs.States.{has_agreed}
 use Rattle.sctp_safety.proofs.machine.Sides.{unknown_goes, unknown_ends, unknown_never_replies}
 use Rattle.sctp_safety.proofs.runs.Acted.{not_calling}
@@ -97,17 +97,17 @@ module _ (p : EndView) (out back : List ChunkMeaning) where
       awaits = subst (λ (h : Phase). hears awaits_ack h ≡ true) (sym is) refl
 
   pub goes : (e : EndView) (tag : ℕ) (x : ChunkMeaning) (t : EndView) → Has back x → has_agreed e.phase ≡ true → Ending e → Acts e tag x (GoesOn t) → Ending t
-  goes e tag (Data d) t has m c (Comes k g o r is hears some same taken) = still e t c (let y = home_acknowledges k g e is c.this.home in record { shutdown = y.shutdown; ack = y.ack; shutdown_runs = y.shutdown_runs; ack_runs = y.ack_runs }) refl refl
-  goes e tag (IData d) t has m c (Comes k g o r is hears some same taken) = still e t c (let y = home_acknowledges k g e is c.this.home in record { shutdown = y.shutdown; ack = y.ack; shutdown_runs = y.shutdown_runs; ack_runs = y.ack_runs }) refl refl
+  goes e tag (Data d) t has m c (PieceComes k g o r is hears some same taken) = still e t c (let y = home_acknowledges k g e is c.this.home in record { shutdown = y.shutdown; ack = y.ack; shutdown_runs = y.shutdown_runs; ack_runs = y.ack_runs }) refl refl
+  goes e tag (IData d) t has m c (PieceComes k g o r is hears some same taken) = still e t c (let y = home_acknowledges k g e is c.this.home in record { shutdown = y.shutdown; ack = y.ack; shutdown_runs = y.shutdown_runs; ack_runs = y.ack_runs }) refl refl
   goes e tag (Init i) t has m c h = absurd (cc)
   goes e tag (InitAck i) t has m c (AcceptedAck d cookie is tagged value fault) = absurd (not_calling e.phase d is m)
-  goes e tag (Sack s) t has m c (IsStale hears fault) = c
-  goes e tag (Sack s) t has m c (Counts on none) = acknowledged e t c (home_like e _ c.this.home refl refl refl refl refl) refl on
-  goes e tag (Heartbeat i) t has m c (Counts on) = still e t c (home_like e _ c.this.home refl refl refl refl refl) refl refl
+  goes e tag (Sack s) t has m c (SackStale hears fault) = c
+  goes e tag (Sack s) t has m c (SackCounts on none) = acknowledged e t c (home_like e _ c.this.home refl refl refl refl refl) refl on
+  goes e tag (Heartbeat i) t has m c (HeartbeatCounts on) = still e t c (home_like e _ c.this.home refl refl refl refl refl) refl refl
   goes e tag (HeartbeatAck i) t has m c h = let q : t ≡ e = cc in subst Ending (sym q) c
   goes e tag (Abort b xs) t has m c h = absurd (cc)
-  goes e tag (Shutdown n) t has m c (IsStale k g is on fault) = hears_shutdown e t k g n c has is on (home_turned (Open k ShutdownReceived) e) refl
-  goes e tag (Shutdown n) t has m c (Counts k g is on none) =
+  goes e tag (Shutdown n) t has m c (ShutdownStale k g is on fault) = hears_shutdown e t k g n c has is on (home_turned (Open k ShutdownReceived) e) refl
+  goes e tag (Shutdown n) t has m c (ShutdownCounts k g is on none) =
       hears_shutdown e t k g n c has is on (home_turned (Open k ShutdownReceived) (settled (record e { sender = shutdown_taken e.sender n }))) refl
   goes e tag (Shutdown n) t has m c (Crosses k is) = crosses e k n c has is
   goes e tag (Shutdown n) t has m c (Again k is) = still e t c (record {
@@ -123,9 +123,9 @@ module _ (p : EndView) (out back : List ChunkMeaning) where
       (λ last. let q : false ≡ true = subst (λ (h : Phase). is_last h ≡ true) is last in absurd (cc)) (home_turned (Open k Established) e) refl (λ off. absurd (cc)) (λ off. absurd (cc)))
   goes e tag (ShutdownComplete b) t has m c h = elim h [ ]
   goes e tag (ForwardTsn d) t has m c (IsOld k g r is hears may taken) = still e t c (let y = home_acknowledges k g e is c.this.home in record { shutdown = y.shutdown; ack = y.ack; shutdown_runs = y.shutdown_runs; ack_runs = y.ack_runs }) refl refl
-  goes e tag (ForwardTsn d) t has m c (Comes k g r is hears may taken) = still e t c (let y = home_acknowledges k g e is c.this.home in record { shutdown = y.shutdown; ack = y.ack; shutdown_runs = y.shutdown_runs; ack_runs = y.ack_runs }) refl refl
+  goes e tag (ForwardTsn d) t has m c (ForwardComes k g r is hears may taken) = still e t c (let y = home_acknowledges k g e is c.this.home in record { shutdown = y.shutdown; ack = y.ack; shutdown_runs = y.shutdown_runs; ack_runs = y.ack_runs }) refl refl
   goes e tag (IForwardTsn d) t has m c (IsOld k g r is hears may taken) = still e t c (let y = home_acknowledges k g e is c.this.home in record { shutdown = y.shutdown; ack = y.ack; shutdown_runs = y.shutdown_runs; ack_runs = y.ack_runs }) refl refl
-  goes e tag (IForwardTsn d) t has m c (Comes k g r is hears may taken) = still e t c (let y = home_acknowledges k g e is c.this.home in record { shutdown = y.shutdown; ack = y.ack; shutdown_runs = y.shutdown_runs; ack_runs = y.ack_runs }) refl refl
+  goes e tag (IForwardTsn d) t has m c (ForwardComes k g r is hears may taken) = still e t c (let y = home_acknowledges k g e is c.this.home in record { shutdown = y.shutdown; ack = y.ack; shutdown_runs = y.shutdown_runs; ack_runs = y.ack_runs }) refl refl
   goes e tag (Unknown k f w) t has m c h = subst Ending (sym (unknown_goes e t k f w h).same) (still e _ c (home_like e _ c.this.home refl refl refl refl refl) refl refl)
 
   pub ends : (e : EndView) (tag : ℕ) (x : ChunkMeaning) (t : EndView) → Ending e → Acts e tag x (Ends t) → Ending t
@@ -142,7 +142,7 @@ module _ (p : EndView) (out back : List ChunkMeaning) where
   ends e tag (Error xs) t c (Closes late) = over e StaleCookie (λ z. absurd (cc)) c
   ends e tag (CookieEcho xs) t c h = elim h [ ]
   ends e tag CookieAck t c h = elim h [ ]
-  ends e tag (ShutdownComplete b) t c (Completes on) =
+  ends e tag (ShutdownComplete b) t c (CompleteCompleted on) =
       let last = completes_last e.phase on in
       let told = c.this.told last.1 in
       complete e c (done_by_ack e c last.0) (c.there.said (Shutdown told.0) told.1 refl)
@@ -154,18 +154,18 @@ module _ (p : EndView) (out back : List ChunkMeaning) where
   fault e c = over e AbortedHere (λ z. absurd (cc)) c
 
   pub replies : (e : EndView) (tag : ℕ) (x : ChunkMeaning) (t : EndView) (r : Packet) → Has back x → Ending e → Acts e tag x (Replies t r) → Ending t
-  replies e tag (Data d) t r has c (Empty _ _ _ _ _) = fault e c
+  replies e tag (Data d) t r has c (PieceEmpty _ _ _ _ _) = fault e c
   replies e tag (Data d) t r has c (WrongFormat _ _ _ _ _ _) = fault e c
-  replies e tag (IData d) t r has c (Empty _ _ _ _ _) = fault e c
+  replies e tag (IData d) t r has c (PieceEmpty _ _ _ _ _) = fault e c
   replies e tag (IData d) t r has c (WrongFormat _ _ _ _ _ _) = fault e c
   replies e tag (Init i) t r has c h = absurd (cc)
   replies e tag (InitAck i) t r has c (RefusedAck _ _ _ _ _) = fault e c
-  replies e tag (Sack s) t r has c (IsWrong _ _ _ _ _) = fault e c
+  replies e tag (Sack s) t r has c (SackWrong _ _ _ _ _) = fault e c
   replies e tag (Heartbeat i) t r has c h = elim h [ ]
   replies e tag (HeartbeatAck i) t r has c h = absurd (cc)
   replies e tag (Abort b xs) t r has c h = absurd (cc)
-  replies e tag (Shutdown n) t r has c (IsWrong _ _ _ _ _) = fault e c
-  replies e tag ShutdownAck t r has c (Completes k g is on) =
+  replies e tag (Shutdown n) t r has c (ShutdownWrong _ _ _ _ _) = fault e c
+  replies e tag ShutdownAck t r has c (AckCompletes k g is on) =
       complete e c (done_by_ack e c (subst (λ (h : Phase). hears awaits_ack h ≡ true) (sym is) on)) (c.there.said ShutdownAck has refl)
   replies e tag (Error xs) t r has c h = elim h [ ]
   replies e tag (CookieEcho xs) t r has c h = elim h [ ]

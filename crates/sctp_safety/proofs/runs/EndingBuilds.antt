@@ -1,10 +1,10 @@
 -- A packet that is built says that its end is done only where it is.
 use Rattle.std.proofs.Common.{◌≡◌, ◌-◌, Bool, true, false, List, [], ◌∷◌, ◌++◌, append_assoc, append-nil, inl, inr, refl, sym, subst}
-use Rattle.sctp_model.specs.Lists.{Has}
-use Rattle.sctp_model.specs.Chunk.{ChunkMeaning}
-use Rattle.sctp_model.specs.Packet.{size_of_packet}
-use Rattle.sctp_model.specs.Format.{Format, Plain, Interleaved}
-use Rattle.sctp_model.specs.SenderView.{SenderView}
+use Rattle.sctp_model.specs.numbers.Lists.{Has}
+use Rattle.sctp_model.specs.wire.Chunk.{ChunkMeaning}
+use Rattle.sctp_model.specs.wire.Packet.{size_of_packet}
+use Rattle.sctp_model.specs.messages.Format.{Format, Plain, Interleaved}
+use Rattle.sctp_model.specs.sender.SenderView.{SenderView}
 use Rattle.sctp_model.specs.sender.Filling.{Wish}
 use Rattle.sctp_model.specs.sender.SentChunks.{chunk_of, forward_chunk_of}
 use Rattle.sctp_model.specs.sender.Readers.{drained}
@@ -12,7 +12,7 @@ use Rattle.sctp_model.specs.sender.Reached.{IsReached}
 use Rattle.sctp_model.specs.end.EndView.{Terms, Established, ShutdownPending, ShutdownReceived, ShutdownSent, ShutdownAckSent, Phase, Idle, Listening, Calling, Echoing, Open, Over, ShutdownAlarm, AckAlarm, EndView, format_for, format_of}
 use Rattle.sctp_model.specs.end.Clock.{is_home}
 use Rattle.sctp_model.specs.end.Closing.{hears, awaits_ack}
-use Rattle.sctp_model.specs.end.Building.{Slot, is_due, Wants, EchoCookie, AckCookie, AckHeartbeat, ReportCauses, Acknowledge, PassOn, SayShutdown, AnswerShutdown, Puts, NoMore, NotDue, Put, IsFull, echoing_slots, open_slots, filled_behind, sent, fragments, Builds, Sleeps, Waits, Calls, Echoes, Ends, Fills}
+use Rattle.sctp_model.specs.end.Building.{Slot, is_due, Wants, EchoCookie, AckCookie, AckHeartbeat, ReportCauses, Acknowledge, PassOn, SayShutdown, AnswerShutdown, Puts, NoMore, NotDue, Put, IsFull, echoing_slots, open_slots, filled_behind, sent, fragments, Builds, Sleeps, Waits, Calls, Echoes, EndsFull, Fills}
 use Rattle.sctp_safety.specs.States.{has_agreed}
 use Rattle.sctp_safety.proofs.runs.Sending.{Has-map}
 use Rattle.sctp_safety.proofs.runs.Acted.{not_calling}
@@ -137,7 +137,7 @@ module _ (p : EndView) (back : List ChunkMeaning) where
   ending_built out e zs t agreed h c (Calls d is on) = absurd (not_calling e.phase d is agreed)
   ending_built out e zs t agreed h c (Echoes k cookie _ full _ is puts) =
       puts_keep out echoing_slots e [] zs full t (subst (λ (ys : List ChunkMeaning). Ending ys e) (sym (append-nil out)) c) puts
-  ending_built out e zs t agreed h c (Ends k g _ _ is puts) =
+  ending_built out e zs t agreed h c (EndsFull k g _ _ is puts) =
       puts_keep out open_slots e [] zs true t (subst (λ (ys : List ChunkMeaning). Ending ys e) (sym (append-nil out)) c) puts
   ending_built out e zs t agreed h c (Fills k g xs x is puts) =
       fill_keeps out x xs (puts_reached open_slots e [] xs false x h puts)

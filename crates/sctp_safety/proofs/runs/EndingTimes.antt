@@ -1,19 +1,19 @@
 -- What a moment and the calls of a user do to the closing of an association.
 use Rattle.std.proofs.Common.{◌≡◌, ℕ, ◌||◌, nat_lt, Bool, true, false, not, ◌==◌, List, [], ◌∷◌, Option, Some, None, refl, sym, subst, if◌then◌else◌}
-use Rattle.sctp_model.specs.Chunk.{ChunkMeaning}
-use Rattle.sctp_model.specs.SenderView.{SenderView}
-use Rattle.sctp_model.specs.ReceiverView.{Handed}
-use Rattle.sctp_model.specs.Calls.{Call}
+use Rattle.sctp_model.specs.wire.Chunk.{ChunkMeaning}
+use Rattle.sctp_model.specs.sender.SenderView.{SenderView}
+use Rattle.sctp_model.specs.receiver.ReceiverView.{Handed}
+use Rattle.sctp_model.specs.world.Calls.{Call}
 use Rattle.sctp_model.specs.sender.Queueing.{Refusal, refusal, queued}
 use Rattle.sctp_model.specs.sender.Abandoning.{abandon_after, expired}
 use Rattle.sctp_model.specs.sender.Readers.{point, drained}
 use Rattle.sctp_model.specs.sender.Reached.{IsReached}
 use Rattle.sctp_model.specs.end.EndView.{TimedOut, Established, ShutdownPending, ShutdownSent, ShutdownReceived, ShutdownAckSent, AbortedHere, Phase, Idle, Listening, Calling, Echoing, Open, Over, Alarm, InitAlarm, CookieAlarm, DataAlarm, ShutdownAlarm, AckAlarm, EndView, format_of, has_association}
 use Rattle.sctp_model.specs.end.Clock.{repeats_of, is_over_at, with_timer, turned, closed, at_moment, settled}
-use Rattle.sctp_model.specs.end.Clock.{expired as expired_timer}
+use Rattle.sctp_model.specs.end.Clock.{expired_timer}
 use Rattle.sctp_model.specs.end.Closing.{hears}
 use Rattle.sctp_model.specs.end.Moments.{after_giving_up, due_again, rung, ring, rung_all, all_alarms, passed, ticked}
-use Rattle.sctp_model.specs.end.UserCalls.{NotOpen, is_established, answer_for, send_answer, send_leaves, is_open, abandoned_at, Takes, shut_in, shut, AbortAnswer, Aborts, NoPeer, TooLong, abort_leaves}
+use Rattle.sctp_model.specs.end.UserCalls.{NotOpen, is_established, answer_for, send_answer, send_leaves, is_open, abandoned_at, UserTakes, shut_in, shut, AbortAnswer, Aborts, NoPeer, TooLong, abort_leaves}
 use Rattle.sctp_safety.proofs.runs.Drained.{drained_abandoned, drained_expired, drained_timed_out}
 use Rattle.sctp_safety.proofs.runs.Homes.{home_like, IsHome, home_turned}
 use Rattle.sctp_safety.proofs.runs.Ending.{is_last, last_by_ack, AreEnding, ending_still, onward_same, onward_over, onward_open, ending_rested}
@@ -124,7 +124,7 @@ module _ (p : EndView) (out back : List ChunkMeaning) where
       go true = gives_up e (abandon_after e.sender k) c (drained_abandoned (format_of e) e.sender k h)
       go false = still e (record e { sender = abandon_after e.sender k }) c (home_like e _ c.this.home refl refl refl refl refl) refl (drained_abandoned (format_of e) e.sender k h)
 
-  pub ending_taken : (e : EndView) (s : ℕ) (h : Option Handed) (t : EndView) → Ending e → Takes e s h t → Ending t
+  pub ending_taken : (e : EndView) (s : ℕ) (h : Option Handed) (t : EndView) → Ending e → UserTakes e s h t → Ending t
   ending_taken e s h t c k = subst Ending (sym k.leaves) (still e (record e { receiver = k.receiver }) c (home_like e _ c.this.home refl refl refl refl refl) refl (λ on. on))
 
   pub ending_shut : (e : EndView) → Ending e → Ending (shut e)

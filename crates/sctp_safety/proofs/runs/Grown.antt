@@ -1,6 +1,6 @@
 -- Moves take nothing out of a plan: what stands at an index stands there in every later world.
 use Rattle.std.proofs.Common.{◌≡◌, ℕ, List, [], ◌∷◌, Some, sym, subst}
-use Rattle.sctp_model.specs.Plan.{Entry, End, Plan, entry_at, parts_from}
+use Rattle.sctp_model.specs.messages.Plan.{Entry, End, Plan, entry_at, parts_from}
 use Rattle.sctp_safety.specs.Way.{Way, Move, Send, Name, Time_passes, Number, Continue, Withdraw, Abandon, Mark, Change_sending, Sack_comes, Shutdown_comes, Put_piece, Put_forward, Put_sack, Put_shutdown, Keep_piece, Drop_piece, Forward_comes, Hand_over, Hand_unordered, Pass_over, Drop_below_next, Let_go, Take, Note_duplicates, Step, Run}
 use Rattle.sctp_safety.specs.Exact.{Leads}
 use Rattle.sctp_safety.proofs.Basics.{item_at-left}

@@ -1,13 +1,13 @@
 -- What a receiver's calls do to its direction: what comes, what its user takes, and what it says back.
 use Rattle.std.proofs.Common.{ℕ, ◌⊎◌, List, [], ◌∷◌, ◌++◌, Option, inl, inr, refl, sym, subst, ◌∙◌}
-use Rattle.sctp_model.specs.Lists.{Has}
-use Rattle.sctp_model.specs.Serial.{tsn}
-use Rattle.sctp_model.specs.Chunk.{PieceMeaning, SackMeaning, ForwardMeaning, ChunkMeaning, Sack, Shutdown}
-use Rattle.sctp_model.specs.Format.{Format}
-use Rattle.sctp_model.specs.SenderView.{SenderView}
-use Rattle.sctp_model.specs.ReceiverView.{Handed, ReceiverView, IsCumulative}
-use Rattle.sctp_model.specs.Calls.{Asked}
-use Rattle.sctp_model.specs.receiver.PieceTaken.{Answer, PieceTaken}
+use Rattle.sctp_model.specs.numbers.Lists.{Has}
+use Rattle.sctp_model.specs.numbers.Serial.{tsn}
+use Rattle.sctp_model.specs.wire.Chunk.{PieceMeaning, SackMeaning, ForwardMeaning, ChunkMeaning, Sack, Shutdown}
+use Rattle.sctp_model.specs.messages.Format.{Format}
+use Rattle.sctp_model.specs.sender.SenderView.{SenderView}
+use Rattle.sctp_model.specs.receiver.ReceiverView.{Handed, ReceiverView, IsCumulative}
+use Rattle.sctp_model.specs.world.Calls.{Asked}
+use Rattle.sctp_model.specs.receiver.PieceTaken.{PieceAnswer, PieceTaken}
 use Rattle.sctp_model.specs.receiver.ForwardTaken.{ForwardAnswer, ForwardTaken}
 use Rattle.sctp_model.specs.receiver.SackMade.{IsSack, TakeLeaves}
 use Rattle.sctp_safety.specs.Way.{Way, Put_shutdown, Note_duplicates, with_receiver}
@@ -42,7 +42,7 @@ module _ (f : Format) (n : ℕ) (a : SenderView) (u : Asked) (r : ReceiverView) 
   }
 
   -- a chunk with data that lies between the ends
-  pub after_piece : (x : ChunkMeaning) (p : PieceMeaning) (o : Answer) (t : ReceiverView) → Has out x → (IsSaid f a.initial a.plan d.bags x → IsPieceSaid f a.initial d.bags.pieces p) →
+  pub after_piece : (x : ChunkMeaning) (p : PieceMeaning) (o : PieceAnswer) (t : ReceiverView) → Has out x → (IsSaid f a.initial a.plan d.bags x → IsPieceSaid f a.initial d.bags.pieces p) →
       PieceTaken f r p o t → Direction f n a u t out back
   after_piece x p o t has says taken =
       received t (piece_taken_is_moves here p o t d.usual (joined_in f n a u r out back d) (counted_in f a d.reached) d.idle (says (d.said x has)) taken)

@@ -1,12 +1,12 @@
 -- Two ends meet: both are new and agree, so both directions start.
 use Rattle.std.proofs.Common.{false, ◌≡◌, ℕ, zero, suc, ◌≤◌, ◌<◌, Bool, true, List, [], length, Some, refl, sym, subst, ap}
-use Rattle.sctp_model.specs.Lists.{item_at}
-use Rattle.sctp_model.specs.Chunk.{ChunkMeaning}
-use Rattle.sctp_model.specs.Format.{Format}
-use Rattle.sctp_model.specs.SenderView.{SenderView, fresh_sender}
-use Rattle.sctp_model.specs.ReceiverView.{ReceiverView, fresh_receiver}
-use Rattle.sctp_model.specs.Calls.{Asked}
-use Rattle.sctp_model.specs.Safe.{Safe}
+use Rattle.sctp_model.specs.numbers.Lists.{item_at}
+use Rattle.sctp_model.specs.wire.Chunk.{ChunkMeaning}
+use Rattle.sctp_model.specs.messages.Format.{Format}
+use Rattle.sctp_model.specs.sender.SenderView.{SenderView, fresh_sender}
+use Rattle.sctp_model.specs.receiver.ReceiverView.{ReceiverView, fresh_receiver}
+use Rattle.sctp_model.specs.world.Calls.{Asked}
+use Rattle.sctp_model.specs.world.Safe.{Safe}
 use Rattle.sctp_model.specs.sender.Reached.{Begins}
 use Rattle.sctp_model.specs.end.EndView.{Completed, Phase, Idle, Listening, Calling, Echoing, Open, Over, EndView, format_for, format_of}
 use Rattle.sctp_model.specs.end.Closing.{hears, awaits_ack}

@@ -1,16 +1,16 @@
 -- Two ends that have met stay so: every step keeps both directions.
 use Rattle.std.proofs.Common.{◌≡◌, ℕ, true, List, [], ◌∷◌, Option, append-nil, sym, subst, ◌∙◌}
-use Rattle.sctp_model.specs.Chunk.{ChunkMeaning}
-use Rattle.sctp_model.specs.Packet.{Packet}
+use Rattle.sctp_model.specs.wire.Chunk.{ChunkMeaning}
+use Rattle.sctp_model.specs.wire.Packet.{Packet}
 use Rattle.sctp_model.specs.end.EndView.{Phase, Idle, Listening, Calling, Echoing, Open, Over, EndView}
 use Rattle.sctp_model.specs.end.Strays.{Verdict}
 use Rattle.sctp_model.specs.end.Arriving.{Arrives}
 use Rattle.sctp_model.specs.end.Building.{Builds, packet_of}
 use Rattle.sctp_model.specs.end.UserCalls.{connect_answer, Called, abort_answer, abort_leaves, shut}
-use Rattle.sctp_model.specs.World.{Side, other, World, end_of, bag_of, with_end, end_now, Setup}
-use Rattle.sctp_model.specs.Events.{Event, Outcome}
-use Rattle.sctp_model.specs.Steps.{cut, Step, Opens, OpenRefused, TimePasses, Draws, Connects, ConnectRefused, BuildsOne, BuildsNone, Comes, IsAbsent, Unread, Sends, Abandons, TakesOne, ShutsDown, AbortsIt, CutFirst, CutLater, NoMemory}
-use Rattle.sctp_model.specs.Premises.{asked_at}
+use Rattle.sctp_model.specs.world.World.{Side, other, World, end_of, bag_of, with_end, end_now, Setup}
+use Rattle.sctp_model.specs.world.Events.{Event, Outcome}
+use Rattle.sctp_model.specs.world.Steps.{cut_to, Step, OpensBoth, OpenRefused, TimePasses, Draws, Connects, ConnectRefused, BuildsOne, BuildsNone, PacketComes, IsAbsent, Unread, Sends, AbandonsOne, TakesOne, ShutsDown, AbortsIt, CutFirst, CutLater, NoMemory}
+use Rattle.sctp_model.specs.world.Premises.{asked_at}
 use Rattle.sctp_safety.specs.States.{has_agreed}
 use Rattle.sctp_safety.specs.Agreement.{IsOpening}
 use Rattle.sctp_safety.proofs.machine.Strangers.{stranger_stays}
@@ -56,7 +56,7 @@ module _ (s : Setup) (drawn : List ℕ) (w : World) (opening : IsOpening s drawn
   with_other x t k = record { closed = closed_end w x t ∙ m.closed; met = from_side (with_end w x t) x (put_end w x t k) }
 
   pub met_step : (e : Event) (o : Option Outcome) (v : World) → IsFine s drawn e → Step w e o v → IsMetWorld v
-  met_step e o v fine (Opens x y may dx dy) = absurd (let q = m.closed in cc)
+  met_step e o v fine (OpensBoth x y may dx dy) = absurd (let q = m.closed in cc)
   met_step e o v fine (OpenRefused x y off) = m
   met_step e o v fine (TimePasses n small) = record { closed = m.closed; met = passes_at w n m.met }
   met_step e o v fine (Draws d dd) = record { closed = m.closed; met = m.met }
@@ -67,13 +67,13 @@ module _ (s : Setup) (drawn : List ℕ) (w : World) (opening : IsOpening s drawn
     met = from_side v x (put_both w x t (packet_of (end_of w x) (y ∷ ys)) (built_one w x (y ∷ ys) t (at x) b));
   }
   met_step e o v fine (BuildsNone x t b) = with_other x t (built_none w x t (built_one w x [] t (at x) b))
-  met_step e o v fine (Comes _ x p t d brings arrives) =
+  met_step e o v fine (PacketComes _ x p t d brings arrives) =
       told_of w x t d (arrived s drawn w x p t d opening (at x) (from_whole s drawn w e x p fine brings) arrives)
       (answer_opens (end_now w x) w.draw p t d arrives)
   met_step e o v fine (IsAbsent x n none) = m
   met_step e o v fine (Unread x) = only_came w x (end_now w x) (now_at w x (at x))
   met_step e o v fine (Sends x c) = record { closed = closed_log w x _ _ ∙ m.closed; met = from_side v x (sent_at w x c (at x)) }
-  met_step e o v fine (Abandons x k) = record { closed = closed_log w x _ _ ∙ m.closed; met = from_side v x (abandoned_there w x k (at x)) }
+  met_step e o v fine (AbandonsOne x k) = record { closed = closed_log w x _ _ ∙ m.closed; met = from_side v x (abandoned_there w x k (at x)) }
   met_step e o v fine (TakesOne x n h t takes) =
       with_other x t (pair_taken (end_of w (other x)) (asked_at w x) (asked_at w (other x)) (chunks_in (bag_of w x)) (chunks_in (bag_of w (other x))) (end_of w x) n h t (at x) takes)
   met_step e o v fine (ShutsDown x) =
@@ -88,6 +88,6 @@ module _ (s : Setup) (drawn : List ℕ) (w : World) (opening : IsOpening s drawn
   }
   met_step e o v fine (CutFirst _ x p brings) = only_came w x (end_now w x) (now_at w x (at x))
   met_step e o v fine (CutLater _ x p y front back z t d brings parts arrives untold) =
-      only_came w x t (arrived s drawn w x (cut p (y ∷ front)) t d opening (at x)
+      only_came w x t (arrived s drawn w x (cut_to p (y ∷ front)) t d opening (at x)
       (from_cut s drawn w e x p y front back z fine brings parts) arrives)
   met_step e o v fine (NoMemory _ other_event) = m

@@ -1,16 +1,16 @@
 -- A world whose two ends have met stays one, whatever step comes.
 use Rattle.std.proofs.Common.{◌≡◌, ℕ, max, nat_le, if◌then◌else◌, Bool, true, false, List, ◌++◌, Option, Some, None, refl, sym, subst, arith, ◌∙◌}
-use Rattle.sctp_model.specs.Chunk.{ChunkMeaning}
-use Rattle.sctp_model.specs.Packet.{Packet, size_of_packet}
-use Rattle.sctp_model.specs.Calls.{Call, Asked}
+use Rattle.sctp_model.specs.wire.Chunk.{ChunkMeaning}
+use Rattle.sctp_model.specs.wire.Packet.{Packet, size_of_packet}
+use Rattle.sctp_model.specs.world.Calls.{Call, Asked}
 use Rattle.sctp_model.specs.end.EndView.{EndView}
 use Rattle.sctp_model.specs.end.Strays.{Verdict, Taken, Dropped, Answer}
 use Rattle.sctp_model.specs.end.Moments.{ticked}
 use Rattle.sctp_model.specs.end.UserCalls.{SendAnswer, Ticket, Refused, NotOpen, send_answer, send_leaves, abandoned_at, AbortAnswer, Aborts, NoPeer, TooLong, peer_tag, abort_packet, abort_answer_to, abort_answer}
-use Rattle.sctp_model.specs.World.{Side, A, B, other, Log, World, end_of, bag_of, with_end, with_packet, with_log, end_now, came, logged}
-use Rattle.sctp_model.specs.Events.{with_verdict, with_abort}
-use Rattle.sctp_model.specs.Steps.{accepted, named_at}
-use Rattle.sctp_model.specs.Premises.{asked_at}
+use Rattle.sctp_model.specs.world.World.{Side, A, B, other, Log, World, end_of, bag_of, with_end, with_packet, with_log, end_now, came, logged}
+use Rattle.sctp_model.specs.world.Events.{with_verdict, with_abort}
+use Rattle.sctp_model.specs.world.Steps.{accepted, named_at}
+use Rattle.sctp_model.specs.world.Premises.{asked_at}
 use Rattle.sctp_safety.proofs.runs.Bags.{chunks_in, chunks_push}
 use Rattle.sctp_safety.proofs.runs.Pair.{AreOpening}
 use Rattle.sctp_safety.proofs.runs.Timed.{asked_more}

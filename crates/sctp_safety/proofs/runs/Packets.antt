@@ -1,19 +1,19 @@
 -- A packet that an end builds keeps both directions: what stands in it is said.
 use Rattle.std.proofs.Common.{◌≡◌, ◌-◌, Bool, true, false, List, [], ◌∷◌, ◌++◌, append_assoc, append-nil, inl, inr, refl, sym, subst}
-use Rattle.sctp_model.specs.Lists.{Has}
-use Rattle.sctp_model.specs.Chunk.{ChunkMeaning, Sack}
-use Rattle.sctp_model.specs.Packet.{size_of_packet}
-use Rattle.sctp_model.specs.Format.{Format, Plain, Interleaved}
-use Rattle.sctp_model.specs.SenderView.{SenderView}
-use Rattle.sctp_model.specs.ReceiverView.{ReceiverView}
+use Rattle.sctp_model.specs.numbers.Lists.{Has}
+use Rattle.sctp_model.specs.wire.Chunk.{ChunkMeaning, Sack}
+use Rattle.sctp_model.specs.wire.Packet.{size_of_packet}
+use Rattle.sctp_model.specs.messages.Format.{Format, Plain, Interleaved}
+use Rattle.sctp_model.specs.sender.SenderView.{SenderView}
+use Rattle.sctp_model.specs.receiver.ReceiverView.{ReceiverView}
 use Rattle.sctp_model.specs.receiver.SackMade.{sack_sent}
 use Rattle.sctp_safety.proofs.runs.Direction.{Direction}
-use Rattle.sctp_model.specs.Calls.{Asked}
+use Rattle.sctp_model.specs.world.Calls.{Asked}
 use Rattle.sctp_model.specs.sender.Filling.{Wish}
 use Rattle.sctp_model.specs.sender.SentChunks.{chunk_of, forward_chunk_of}
 use Rattle.sctp_model.proofs.sender.FillLaws.{fill_is_fill}
 use Rattle.sctp_model.specs.end.EndView.{Phase, EndView, format_of}
-use Rattle.sctp_model.specs.end.Building.{Slot, Wants, EchoCookie, AckCookie, AckHeartbeat, ReportCauses, Acknowledge, PassOn, SayShutdown, AnswerShutdown, Puts, NoMore, NotDue, Put, IsFull, echoing_slots, open_slots, filled_behind, sent, fragments, Builds, Sleeps, Waits, Calls, Echoes, Ends, Fills}
+use Rattle.sctp_model.specs.end.Building.{Slot, Wants, EchoCookie, AckCookie, AckHeartbeat, ReportCauses, Acknowledge, PassOn, SayShutdown, AnswerShutdown, Puts, NoMore, NotDue, Put, IsFull, echoing_slots, open_slots, filled_behind, sent, fragments, Builds, Sleeps, Waits, Calls, Echoes, EndsFull, Fills}
 use Rattle.sctp_safety.specs.States.{has_agreed}
 use Rattle.sctp_safety.proofs.runs.Sending.{after_fill, Has-map}
 use Rattle.sctp_safety.proofs.runs.Passing.{after_forward}
@@ -102,7 +102,7 @@ module _ (p : EndView) (u v : Asked) (back : List ChunkMeaning) where
   builds_keep out e zs t m (Calls d is on) = absurd (not_calling e.phase d is m.phase)
   builds_keep out e zs t m (Echoes k cookie _ full _ is puts) =
       puts_keep out echoing_slots e [] zs full t (subst (λ (ys : List ChunkMeaning). Met ys e) (sym (append-nil out)) m) puts
-  builds_keep out e zs t m (Ends k g _ _ is puts) =
+  builds_keep out e zs t m (EndsFull k g _ _ is puts) =
       puts_keep out open_slots e [] zs true t (subst (λ (ys : List ChunkMeaning). Met ys e) (sym (append-nil out)) m) puts
   builds_keep out e zs t m (Fills k g xs x is puts) =
       fill_keeps out x xs (puts_keep out open_slots e [] xs false x (subst (λ (ys : List ChunkMeaning). Met ys e) (sym (append-nil out)) m) puts)

@@ -1,12 +1,12 @@
 -- Two ends that have met: both directions between them, and what each end's chunks say of both.
 use Rattle.std.proofs.Common.{◌≡◌, ℕ, ◌≤◌, ◌⊎◌, Bool, true, false, List, ◌++◌, inl, inr, refl, sym, subst}
-use Rattle.sctp_model.specs.Lists.{Has}
-use Rattle.sctp_model.specs.Chunk.{ChunkMeaning, Data, IData, Init, InitAck, Sack, Abort, Shutdown, Error, CookieEcho, ShutdownComplete, ForwardTsn, IForwardTsn}
-use Rattle.sctp_model.specs.Format.{Format}
-use Rattle.sctp_model.specs.Plan.{Plan}
-use Rattle.sctp_model.specs.SenderView.{SenderView}
-use Rattle.sctp_model.specs.ReceiverView.{ReceiverView}
-use Rattle.sctp_model.specs.Calls.{Asked}
+use Rattle.sctp_model.specs.numbers.Lists.{Has}
+use Rattle.sctp_model.specs.wire.Chunk.{ChunkMeaning, Data, IData, Init, InitAck, Sack, Abort, Shutdown, Error, CookieEcho, ShutdownComplete, ForwardTsn, IForwardTsn}
+use Rattle.sctp_model.specs.messages.Format.{Format}
+use Rattle.sctp_model.specs.messages.Plan.{Plan}
+use Rattle.sctp_model.specs.sender.SenderView.{SenderView}
+use Rattle.sctp_model.specs.receiver.ReceiverView.{ReceiverView}
+use Rattle.sctp_model.specs.world.Calls.{Asked}
 use Rattle.sctp_model.specs.end.EndView.{Terms, EndView, format_of}
 use Rattle.sctp_model.specs.end.Closing.{rested}
 use Rattle.sctp_safety.specs.States.{has_agreed}

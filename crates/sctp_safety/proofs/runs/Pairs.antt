@@ -1,18 +1,18 @@
 -- All that is kept of two ends that have met: both directions between them, and how far their association is closed.
 use Rattle.std.proofs.Common.{◌≡◌, ℕ, ◌≤◌, max, true, false, List, ◌++◌, Option, refl}
-use Rattle.sctp_model.specs.Lists.{Has, IsWithin, at}
-use Rattle.sctp_model.specs.Chunk.{ChunkMeaning, Data, IData, Init, InitAck, Sack, Heartbeat, HeartbeatAck, Abort, Shutdown, ShutdownAck, Error, CookieEcho, CookieAck, ShutdownComplete, ForwardTsn, IForwardTsn, Unknown}
-use Rattle.sctp_model.specs.Packet.{Packet}
-use Rattle.sctp_model.specs.ReceiverView.{Handed}
-use Rattle.sctp_model.specs.Calls.{Call, Asked}
+use Rattle.sctp_model.specs.numbers.Lists.{Has, IsWithin, at}
+use Rattle.sctp_model.specs.wire.Chunk.{ChunkMeaning, Data, IData, Init, InitAck, Sack, Heartbeat, HeartbeatAck, Abort, Shutdown, ShutdownAck, Error, CookieEcho, CookieAck, ShutdownComplete, ForwardTsn, IForwardTsn, Unknown}
+use Rattle.sctp_model.specs.wire.Packet.{Packet}
+use Rattle.sctp_model.specs.receiver.ReceiverView.{Handed}
+use Rattle.sctp_model.specs.world.Calls.{Call, Asked}
 use Rattle.sctp_model.specs.sender.Reached.{IsReached}
 use Rattle.sctp_model.specs.end.EndView.{Draw, EndView, format_of}
 use Rattle.sctp_model.specs.end.Clock.{at_moment}
 use Rattle.sctp_model.specs.end.Building.{Builds}
 use Rattle.sctp_model.specs.end.Moments.{ticked}
-use Rattle.sctp_model.specs.end.UserCalls.{send_answer, send_leaves, abandoned_at, Takes, shut, AbortAnswer, abort_leaves}
+use Rattle.sctp_model.specs.end.UserCalls.{send_answer, send_leaves, abandoned_at, UserTakes, shut, AbortAnswer, abort_leaves}
 use Rattle.sctp_model.specs.end.Strays.{Verdict}
-use Rattle.sctp_model.specs.end.Arriving.{Arrives, Elsewhere, NotOurs, Stray, Begins, Heard}
+use Rattle.sctp_model.specs.end.Arriving.{Arrives, Elsewhere, NotOurs, Stray, CookieBegins, Heard}
 use Rattle.sctp_safety.proofs.machine.EndWords.{Keeps, all_act_keeps}
 use Rattle.sctp_safety.proofs.machine.Strangers.{found_is}
 use Rattle.sctp_safety.proofs.runs.Pair.{opens_or_ends, AreOpening, IsMet, turned_round, met_rested, met_quiet}
@@ -85,7 +85,7 @@ pub pair_arrives : (e p : EndView) (u v : Asked) (out back : List ChunkMeaning) 
 pair_arrives e p u v out back d k t o m within (Elsewhere ports) = m
 pair_arrives e p u v out back d k t o m within (NotOurs ports passes) = m
 pair_arrives e p u v out back d k t o m within (Stray ports passes none closed) = m
-pair_arrives e p u v out back d k t o m within (Begins b _ _ ports passes none opens acts) = absurd (listens_not e.phase (found_is e k.tag k.chunks b opens).phase m.met.phase)
+pair_arrives e p u v out back d k t o m within (CookieBegins b _ _ ports passes none opens acts) = absurd (listens_not e.phase (found_is e k.tag k.chunks b opens).phase m.met.phase)
 pair_arrives e p u v out back d k t o m within (Heard _ _ ports passes has acts) =
     (all_act_keeps k.tag _ _ _ (pair_acts p u v out back k.tag) e false k.chunks t o within m acts).0
 
@@ -105,7 +105,7 @@ module _ (p : EndView) (u v : Asked) (out back : List ChunkMeaning) where
   pub pair_ticked : (e : EndView) (now : ℕ) → IsPair e p u v out back → now ≤ u.clock → IsPair (ticked e now) p u v out back
   pair_ticked e now k le = record { met = met_ticked p u v out back e now k.met le; ending = ending_ticked p out back e now (reached_by e p u v out back k) k.ending }
 
-  pub pair_taken : (e : EndView) (s : ℕ) (h : Option Handed) (t : EndView) → IsPair e p u v out back → Takes e s h t → IsPair t p u v out back
+  pub pair_taken : (e : EndView) (s : ℕ) (h : Option Handed) (t : EndView) → IsPair e p u v out back → UserTakes e s h t → IsPair t p u v out back
   pair_taken e s h t k takes = record { met = met_taken p u v out back e s h t k.met takes; ending = ending_taken p out back e s h t k.ending takes }
 
   pub pair_shut : (e : EndView) → IsPair e p u v out back → IsPair (shut e) p u v out back

@@ -1,14 +1,14 @@
 -- The FORWARD that a sender builds says one of its direction, and each number that it lists is the largest of its lane up to the point.
 use Rattle.std.proofs.Common.{◌≡◌, ℕ, ◌<◌, ◌≤◌, ◌⊎◌, List, [], ◌∷◌, ◌++◌, length, Some, inl, inr, refl, subst, ap, arith}
 use Rattle.std.proofs.lemmas.Bool.{cases_lt}
-use Rattle.sctp_model.specs.Lists.{Has}
-use Rattle.sctp_model.specs.Chunk.{ChunkMeaning}
-use Rattle.sctp_model.specs.Format.{Format, Plain, Interleaved, Lane}
-use Rattle.sctp_model.specs.Plan.{Entry, Plan, entry_at, IsOf}
-use Rattle.sctp_model.specs.Forward.{Skip, Forward, StandsIn, IsLaneBefore, IsListed, IsForward}
-use Rattle.sctp_model.specs.SenderView.{SenderView}
-use Rattle.sctp_model.specs.ReceiverView.{ReceiverView}
-use Rattle.sctp_model.specs.Calls.{Asked}
+use Rattle.sctp_model.specs.numbers.Lists.{Has}
+use Rattle.sctp_model.specs.wire.Chunk.{ChunkMeaning}
+use Rattle.sctp_model.specs.messages.Format.{Format, Plain, Interleaved, Lane}
+use Rattle.sctp_model.specs.messages.Plan.{Entry, Plan, entry_at, IsOf}
+use Rattle.sctp_model.specs.messages.Forward.{Skip, Forward, StandsIn, IsLaneBefore, IsListed, IsForward}
+use Rattle.sctp_model.specs.sender.SenderView.{SenderView}
+use Rattle.sctp_model.specs.receiver.ReceiverView.{ReceiverView}
+use Rattle.sctp_model.specs.world.Calls.{Asked}
 use Rattle.sctp_model.specs.sender.Readers.{point}
 use Rattle.sctp_model.specs.sender.Forwarding.{forward_of}
 use Rattle.sctp_model.specs.sender.SentChunks.{forward_said, forward_chunk_of}

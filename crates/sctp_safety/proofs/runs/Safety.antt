@@ -1,17 +1,17 @@
 -- SAFE and CLOSING in every world of every run: each step keeps the ends apart, or lets them meet, or keeps what they have since they met.
 use Rattle.std.proofs.Common.{arith, ◌≡◌, ℕ, List, [], Option, Some, inl, inr, refl, subst, ◌⊎◌}
-use Rattle.sctp_model.specs.Lists.{Has}
-use Rattle.sctp_model.specs.Chunk.{ChunkMeaning}
-use Rattle.sctp_model.specs.Plan.{entry_at}
-use Rattle.sctp_model.specs.SenderView.{SenderView}
-use Rattle.sctp_model.specs.Calls.{Asked}
-use Rattle.sctp_model.specs.Safe.{Safe}
+use Rattle.sctp_model.specs.numbers.Lists.{Has}
+use Rattle.sctp_model.specs.wire.Chunk.{ChunkMeaning}
+use Rattle.sctp_model.specs.messages.Plan.{entry_at}
+use Rattle.sctp_model.specs.sender.SenderView.{SenderView}
+use Rattle.sctp_model.specs.world.Calls.{Asked}
+use Rattle.sctp_model.specs.world.Safe.{Safe}
 use Rattle.sctp_model.specs.end.EndView.{Over, Completed, Phase, Listening, EndView, format_of}
 use Rattle.sctp_model.specs.end.Configured.{IsConfiguration}
-use Rattle.sctp_model.specs.World.{Side, A, B, World, end_of, bag_of, log_of, Setup, configuration_of, start}
-use Rattle.sctp_model.specs.Events.{Event, Outcome}
-use Rattle.sctp_model.specs.Steps.{Step, Run, Rest, Then}
-use Rattle.sctp_model.specs.Premises.{drawn_in, asked_at, IsSafeWorld, IsAllArrived, IsClosedWorld, IsReachable}
+use Rattle.sctp_model.specs.world.World.{Side, A, B, World, end_of, bag_of, log_of, Setup, configuration_of, start}
+use Rattle.sctp_model.specs.world.Events.{Event, Outcome}
+use Rattle.sctp_model.specs.world.Steps.{Step, Run, Rest, Then}
+use Rattle.sctp_model.specs.world.Premises.{drawn_in, asked_at, IsSafeWorld, IsAllArrived, IsClosedWorld, IsReachable}
 use Rattle.sctp_safety.specs.States.{IsTurn, ByCall, ByInitAck, ByCookieAck, ByCookie, ByPair, ByStage, ByEnd, IsPath, Here, On}
 use Rattle.sctp_safety.specs.Agreement.{IsOpening}
 use Rattle.sctp_safety.specs.Runs.{TwoEndsAreSafe, NothingIsMissing}

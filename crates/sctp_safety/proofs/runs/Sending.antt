@@ -2,17 +2,17 @@
 use Rattle.std.proofs.Common.{◌≡◌, ℕ, zero, suc, ◌^◌, ◌<◌, ◌≤◌, ◌⊎◌, true, nat_le, max, List, [], ◌∷◌, ◌++◌, length, map, Option, Some, None, inl, inr, refl, sym, subst, ap, arith, ◌∙◌}
 use Rattle.std.specs.Prelude.{unwrap_or}
 use Rattle.std.proofs.lemmas.Bool.Decides.{nat_tests}
-use Rattle.sctp_model.specs.Lists.{Has, at}
-use Rattle.sctp_model.specs.Serial.{tsn}
-use Rattle.sctp_model.specs.Chunk.{SackMeaning, ChunkMeaning, Sack, Shutdown}
-use Rattle.sctp_model.specs.Format.{Format, Plain, Interleaved, ordered_lane}
-use Rattle.sctp_model.specs.Plan.{Entry, Part, End}
-use Rattle.sctp_model.specs.Pieces.{Piece}
-use Rattle.sctp_model.specs.SenderView.{SenderView}
-use Rattle.sctp_model.specs.ReceiverView.{ReceiverView}
-use Rattle.sctp_model.specs.ReceiverView.{IsReached as IsCovered}
-use Rattle.sctp_model.specs.Acknowledgement.{Acknowledgement, covers}
-use Rattle.sctp_model.specs.Calls.{Call, Asked}
+use Rattle.sctp_model.specs.numbers.Lists.{Has, at}
+use Rattle.sctp_model.specs.numbers.Serial.{tsn}
+use Rattle.sctp_model.specs.wire.Chunk.{SackMeaning, ChunkMeaning, Sack, Shutdown}
+use Rattle.sctp_model.specs.messages.Format.{Format, Plain, Interleaved, ordered_lane}
+use Rattle.sctp_model.specs.messages.Plan.{Entry, Part, End}
+use Rattle.sctp_model.specs.messages.Pieces.{Piece}
+use Rattle.sctp_model.specs.sender.SenderView.{SenderView}
+use Rattle.sctp_model.specs.receiver.ReceiverView.{ReceiverView}
+use Rattle.sctp_model.specs.receiver.ReceiverView.{Reaches}
+use Rattle.sctp_model.specs.messages.Acknowledgement.{Acknowledgement, covers}
+use Rattle.sctp_model.specs.world.Calls.{Call, Asked}
 use Rattle.sctp_model.specs.sender.Queueing.{refusal, queued}
 use Rattle.sctp_model.specs.sender.Entries.{entry_message}
 use Rattle.sctp_model.specs.sender.Filling.{Wish, wished, gone, Follows, IsFill}
@@ -95,7 +95,7 @@ module _ (f : Format) (n : ℕ) (a : SenderView) (u : Asked) (r : ReceiverView) 
   -- ---- what acknowledges
 
   -- an index whose predecessors were all reached is the plan's, or 0
-  acknowledged_within : (c : ℕ) → IsCovered r c → c ≤ length a.plan.entries
+  acknowledged_within : (c : ℕ) → Reaches r c → c ≤ length a.plan.entries
   acknowledged_within zero h = omega arith
   acknowledged_within (suc c) h = reached_within here good_here (suc c) (omega arith) h
 

@@ -1,16 +1,16 @@
 -- An end that isn't open: its sender and its receiver are new, and only its opening's chunks go out.
 use Rattle.std.proofs.Common.{◌≡◌, ℕ, zero, suc, ◌≤◌, Bool, true, false, refl, sym, subst, ap, ◌∙◌}
-use Rattle.sctp_model.specs.Chunk.{ChunkMeaning, Data, IData, Init, InitAck, Sack, Heartbeat, HeartbeatAck, Abort, Shutdown, ShutdownAck, Error, CookieEcho, CookieAck, ShutdownComplete, ForwardTsn, IForwardTsn, Unknown}
-use Rattle.sctp_model.specs.SenderView.{fresh_sender}
-use Rattle.sctp_model.specs.ReceiverView.{fresh_receiver}
-use Rattle.sctp_model.specs.Packet.{Packet}
+use Rattle.sctp_model.specs.wire.Chunk.{ChunkMeaning, Data, IData, Init, InitAck, Sack, Heartbeat, HeartbeatAck, Abort, Shutdown, ShutdownAck, Error, CookieEcho, CookieAck, ShutdownComplete, ForwardTsn, IForwardTsn, Unknown}
+use Rattle.sctp_model.specs.sender.SenderView.{fresh_sender}
+use Rattle.sctp_model.specs.receiver.ReceiverView.{fresh_receiver}
+use Rattle.sctp_model.specs.wire.Packet.{Packet}
 use Rattle.sctp_model.specs.sender.Abandoning.{timed_out}
 use Rattle.sctp_model.specs.end.EndView.{Idle, Listening, Echoing, Calling, Over, Terms, Configuration, Tags, Stage, Ended, Aborted, AbortedHere, Completed, StaleCookie, Phase, Open, EndView}
 use Rattle.sctp_model.specs.end.Clock.{turned, closed}
 use Rattle.sctp_model.specs.end.Closing.{awaits_complete, hears, rested}
 use Rattle.sctp_model.specs.end.PeerFaults.{GoesOn, Ends, Replies}
 use Rattle.sctp_model.specs.end.Opening.{echoing, terms_of_ack, joined, AcceptedAck, RefusedAck, EchoedAgain}
-use Rattle.sctp_model.specs.end.Acting.{Acts, Closes, SaysNothing, Completes}
+use Rattle.sctp_model.specs.end.Acting.{Acts, Closes, SaysNothing, CompleteCompleted}
 use Rattle.sctp_safety.proofs.machine.EndWords.{rested_cases, Keeps}
 use Rattle.sctp_safety.proofs.runs.Homes.{IsHome, home_turned, home_closed}
 use Rattle.sctp_safety.proofs.runs.Pair.{opens_or_ends, AreOpening, AreViews}
@@ -140,7 +140,7 @@ module _ (clock : ℕ) where
   ends e tag (Error xs) t on m (Closes late) = over e StaleCookie refl m
   ends e tag (CookieEcho xs) t on m h = elim h [ ]
   ends e tag CookieAck t on m h = absurd (cc)
-  ends e tag (ShutdownComplete b) t on m (Completes awaited) = absurd (no_completion e.phase awaited m.unopened)
+  ends e tag (ShutdownComplete b) t on m (CompleteCompleted awaited) = absurd (no_completion e.phase awaited m.unopened)
   ends e tag (ForwardTsn d) t on m h = absurd (cc)
   ends e tag (IForwardTsn d) t on m h = absurd (cc)
   ends e tag (Unknown k f w) t on m h = absurd (cc)

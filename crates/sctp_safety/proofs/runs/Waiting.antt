@@ -1,21 +1,21 @@
 -- What a moment, a packet to be built and the calls of its user do to an end that isn't open: its views stay new.
 use Rattle.std.proofs.Common.{◌≡◌, ℕ, ◌≤◌, ◌||◌, nat_lt, Bool, true, false, not, ◌==◌, List, [], ◌∷◌, ◌++◌, Option, Some, None, inl, inr, refl, sym, subst, ap, arith, ◌∙◌, ◌⊎◌, if◌then◌else◌}
-use Rattle.sctp_model.specs.Lists.{Has}
-use Rattle.sctp_model.specs.Chunk.{ChunkMeaning}
-use Rattle.sctp_model.specs.SenderView.{SenderView}
-use Rattle.sctp_model.specs.ReceiverView.{Handed, ReceiverView}
-use Rattle.sctp_model.specs.Calls.{Call}
+use Rattle.sctp_model.specs.numbers.Lists.{Has}
+use Rattle.sctp_model.specs.wire.Chunk.{ChunkMeaning}
+use Rattle.sctp_model.specs.sender.SenderView.{SenderView}
+use Rattle.sctp_model.specs.receiver.ReceiverView.{Handed, ReceiverView}
+use Rattle.sctp_model.specs.world.Calls.{Call}
 use Rattle.sctp_model.specs.sender.Abandoning.{abandon_after, expired, timed_out}
 use Rattle.sctp_model.specs.sender.Readers.{point}
 use Rattle.sctp_model.specs.receiver.SackMade.{TakeLeaves}
 use Rattle.sctp_model.specs.end.EndView.{Draw, AbortedHere, TimedOut, Phase, Idle, Listening, Calling, Echoing, Open, Over, Alarm, InitAlarm, CookieAlarm, DataAlarm, ShutdownAlarm, AckAlarm, EndView, has_association}
 use Rattle.sctp_model.specs.end.Clock.{is_home, repeats_of, is_over_at, with_timer, closed, at_moment, settled}
-use Rattle.sctp_model.specs.end.Clock.{expired as expired_timer}
+use Rattle.sctp_model.specs.end.Clock.{expired_timer}
 use Rattle.sctp_model.specs.end.Building.{Slot, EchoSlot, CookieAckSlot, HeartbeatSlot, ErrorSlot, SackSlot, ForwardSlot, ShutdownSlot, ShutdownAckSlot, Wants, EchoCookie, AckCookie, AckHeartbeat, ReportCauses, Acknowledge, PassOn, SayShutdown, AnswerShutdown, Puts, NoMore, NotDue, Put, IsFull, echoing_slots, Builds, Sleeps, Waits, Calls, Echoes, Fills}
-use Rattle.sctp_model.specs.end.Building.{Ends as EndsFull}
+use Rattle.sctp_model.specs.end.Building.{EndsFull}
 use Rattle.sctp_model.specs.end.Closing.{hears}
 use Rattle.sctp_model.specs.end.Moments.{after_giving_up, due_again, rung, ring, rung_all, all_alarms, passed, ticked}
-use Rattle.sctp_model.specs.end.UserCalls.{NotOpen, is_established, send_answer, is_open, abandoned_at, Takes, shut_in, shut, AbortAnswer, Aborts, NoPeer, TooLong, abort_leaves, called}
+use Rattle.sctp_model.specs.end.UserCalls.{NotOpen, is_established, send_answer, is_open, abandoned_at, UserTakes, shut_in, shut, AbortAnswer, Aborts, NoPeer, TooLong, abort_leaves, called}
 use Rattle.sctp_safety.proofs.Basics.{Has-cases}
 use Rattle.sctp_safety.proofs.runs.Homes.{home_like, home_turned}
 use Rattle.sctp_safety.proofs.runs.EndingTimes.{was_running}
@@ -174,7 +174,7 @@ module _ (clock : ℕ) where
       go true = gives_up e (abandon_after e.sender k) m (none_is_abandoned e m.blank k)
       go false = still clock e (record e { sender = abandon_after e.sender k }) m (alike e _ refl refl (none_is_abandoned e m.blank k) refl refl) m.unopened (home_like e _ m.home refl refl refl refl refl)
 
-  pub waits_taken : (e : EndView) (s : ℕ) (h : Option Handed) (t : EndView) → Unmet e → Takes e s h t → Unmet t
+  pub waits_taken : (e : EndView) (s : ℕ) (h : Option Handed) (t : EndView) → Unmet e → UserTakes e s h t → Unmet t
   waits_taken e s h t m k = go h k.takes
     where
       go : (o : Option Handed) → TakeLeaves e.receiver s o k.receiver → Unmet t

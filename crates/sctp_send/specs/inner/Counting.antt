@@ -2,7 +2,7 @@
 use Rattle.std.specs.Prelude.{◌≡◌, ℕ, suc, Bool, not, ◌==◌, ◌&&◌, ◌+◌, ◌-◌, ◌%◌, ◌^◌, ◌<◌, ◌≤◌, min, if◌then◌else◌, List, [], ◌∷◌, map, take, length, Option, None, Some, unwrap_or}
 use Rattle.std.specs.declared.rc.Rc.{Rc}
 use Rattle.std.specs.declared.alloc.Global.{Global}
-use Rattle.sctp_model.specs.Plan.{Message}
+use Rattle.sctp_model.specs.messages.Plan.{Message}
 use Rattle.sctp_model.specs.sender.Queueing.{owed_by_queue}
 use Rattle.sctp_send.specs.SenderKept.{Item}
 use Rattle.sctp_send.specs.OutstandingFields.{item_meaning}

@@ -1,13 +1,13 @@
 -- What a draft of a sender keeps, and what each wish makes of it and of the packet.
 use Rattle.std.specs.Prelude.{◌≡◌, ℕ, suc, nat_lt, ◌-◌, ◌<◌, Bool, true, false, List, [], ◌∷◌, ◌++◌, ◌+◌, ◌&&◌, map, length, slice_set, Option, None, Some, option_map}
-use Rattle.sctp_model.specs.Format.{Format, Kind}
-use Rattle.sctp_model.specs.Plan.{Part}
+use Rattle.sctp_model.specs.messages.Format.{Format, Kind}
+use Rattle.sctp_model.specs.messages.Plan.{Part}
 use Rattle.sctp_model.specs.sender.Words.{when}
 use Rattle.sctp_model.specs.sender.Queueing.{cut}
 use Rattle.sctp_model.specs.sender.Assigning.{turn_of, assigned}
-use Rattle.sctp_model.specs.Chunk.{ChunkMeaning}
-use Rattle.sctp_model.specs.Framing.{data_chunk}
-use Rattle.sctp_model.specs.SenderView.{SenderView}
+use Rattle.sctp_model.specs.wire.Chunk.{ChunkMeaning}
+use Rattle.sctp_model.specs.messages.Framing.{data_chunk}
+use Rattle.sctp_model.specs.sender.SenderView.{SenderView}
 use Rattle.sctp_model.specs.sender.PieceSaid.{piece_said}
 use Rattle.sctp_model.specs.sender.Filling.{Wish, standing, newcomer, next_wish, is_let_flow, goes, gone, IsFill, newly_numbered}
 use Rattle.sctp_model.specs.sender.Entries.{bytes_in}

@@ -1,7 +1,7 @@
 -- Messages past their time, among those that a sender keeps.
 use Rattle.std.specs.Prelude.{ℕ, nat_lt, ◌&&◌, min, if◌then◌else◌, List, [], ◌∷◌, ◌++◌, map, Option, None, Some, option_and_then}
-use Rattle.sctp_model.specs.Plan.{Message}
-use Rattle.sctp_model.specs.SenderView.{Queued}
+use Rattle.sctp_model.specs.messages.Plan.{Message}
+use Rattle.sctp_model.specs.sender.SenderView.{Queued}
 use Rattle.sctp_model.specs.sender.Words.{when}
 use Rattle.sctp_model.specs.sender.Abandoning.{is_past}
 use Rattle.sctp_send.specs.SenderKept.{Item, Track, Kept}

@@ -1,9 +1,9 @@
 -- What takes an index next, among what is kept, and what is kept then (RFC 9260, 6.9; RFC 8260, 2.2.2 and 3.2).
 use Rattle.std.specs.Prelude.{◌≡◌, ℕ, zero, suc, ◌-◌, ◌<◌, ◌⊎◌, nat_lt, Bool, true, false, List, [], ◌∷◌, ◌++◌, length, take, drop, slice_get, slice_set, Option, None, Some, option_and_then}
 use Rattle.std.specs.Prelude.{slice_index_or}
-use Rattle.sctp_model.specs.Format.{Format, Kind, Ordered, Unordered, Lane}
-use Rattle.sctp_model.specs.Plan.{Message, Entry, Part, End}
-use Rattle.sctp_model.specs.SenderView.{Queued, SenderView}
+use Rattle.sctp_model.specs.messages.Format.{Format, Kind, Ordered, Unordered, Lane}
+use Rattle.sctp_model.specs.messages.Plan.{Message, Entry, Part, End}
+use Rattle.sctp_model.specs.sender.SenderView.{Queued, SenderView}
 use Rattle.sctp_model.specs.sender.Words.{when}
 use Rattle.sctp_model.specs.sender.Entries.{fragments_in, continued}
 use Rattle.sctp_model.specs.sender.Assigning.{with_message, is_on, first_on, without_first, stream_after, going_on, beginning, turn_of, assigned}

@@ -1,6 +1,6 @@
 -- What the private functions find out of what is kept, stream by stream and item by item.
 use Rattle.std.specs.Prelude.{◌≡◌, ℕ, suc, ◌+◌, ◌-◌, Bool, true, false, not, ◌&&◌, ◌||◌, if◌then◌else◌, List, [], ◌∷◌, length, slice_get, slice_set, Option, None, Some}
-use Rattle.sctp_model.specs.Plan.{End}
+use Rattle.sctp_model.specs.messages.Plan.{End}
 use Rattle.sctp_model.specs.sender.Entries.{entry_lane, entry_number, entry_fragment, fragments_in}
 use Rattle.sctp_model.specs.sender.Queueing.{owed_for}
 use Rattle.sctp_model.specs.sender.Abandoning.{has_ticket}

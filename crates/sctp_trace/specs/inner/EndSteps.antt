@@ -1,6 +1,6 @@
 -- What an end's work on one packet leaves: chunks that act, and the front of a packet that is built.
 use Rattle.std.specs.Prelude.{◌≡◌, ◌⊎◌, true, false, List, [], ◌∷◌, ◌++◌, Result, Ok, Err}
-use Rattle.sctp_model.specs.Chunk.{SackMeaning, ChunkMeaning, Sack}
+use Rattle.sctp_model.specs.wire.Chunk.{SackMeaning, ChunkMeaning, Sack}
 use Rattle.sctp_model.specs.first.Ends.{EndView, Packet, Act, Acts, SackOf}
 use Rattle.sctp_model.specs.first.World.{Side, A, B, World}
 use Rattle.sctp_wire.specs.declared.fault.NoMemory.{NoMemory}

@@ -1,6 +1,6 @@
 -- ABORT: causes, and the flag T (RFC 9260, 3.3.7).
 use Rattle.std.specs.Prelude.{◌≡◌, ℕ, ◌+◌, ◌*◌, Bool, List}
-use Rattle.sctp_model.specs.Typed.{are_typed}
+use Rattle.sctp_model.specs.wire.Typed.{are_typed}
 use Rattle.sctp_wire.specs.declared.codes.TheConstants.{REFLECTED}
 use Rattle.sctp_wire.specs.chunks.Flags.{flag}
 

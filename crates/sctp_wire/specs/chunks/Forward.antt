@@ -1,8 +1,8 @@
 -- FORWARD-TSN and I-FORWARD-TSN: the new cumulative TSN, and the entries (RFC 3758, 3.2; RFC 8260, 2.3.1).
 use Rattle.std.specs.Prelude.{◌≡◌, ℕ, ◌+◌, ◌*◌, ◌-◌, ◌%◌, ◌<◌, ◌^◌, Bool, ◌==◌, ◌&&◌, nat_le, List, ◌++◌, length, drop}
 use Rattle.std.specs.List.{flat_map, AllByRecursion}
-use Rattle.sctp_model.specs.Chunk.{ForwardMeaning}
-use Rattle.sctp_model.specs.Numbers.{u32_bytes, u32_at}
+use Rattle.sctp_model.specs.wire.Chunk.{ForwardMeaning}
+use Rattle.sctp_model.specs.numbers.Numbers.{u32_bytes, u32_at}
 use Rattle.sctp_wire.specs.declared.skips.SkipForm.{SkipForm}
 use Rattle.sctp_wire.specs.Skips.{skip_size, skip_bytes, IsSkip, ReadsSkips, skips_in}
 

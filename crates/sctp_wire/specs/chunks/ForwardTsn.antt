@@ -1,6 +1,6 @@
 -- FORWARD-TSN: entries of stream and SSN (RFC 3758, 3.2).
 use Rattle.std.specs.Prelude.{ℕ, Bool, List}
-use Rattle.sctp_model.specs.Chunk.{ForwardMeaning}
+use Rattle.sctp_model.specs.wire.Chunk.{ForwardMeaning}
 use Rattle.sctp_wire.specs.declared.skips.SkipForm.TheVariants.{Narrow}
 use Rattle.sctp_wire.specs.chunks.Forward.{forward_value, ReadsForward, is_forward_value, IsForward, forward_at}
 

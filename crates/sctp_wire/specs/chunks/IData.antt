@@ -1,7 +1,7 @@
 -- I-DATA: TSN, stream, 16 reserved bits, MID, payload protocol identifier where B is set, else FSN, data (RFC 8260, 2.1).
 use Rattle.std.specs.Prelude.{◌≡◌, ℕ, ◌<◌, ◌^◌, Bool, nat_le, List, ◌++◌, length, drop}
-use Rattle.sctp_model.specs.Chunk.{PieceMeaning}
-use Rattle.sctp_model.specs.Numbers.{u16_bytes, u32_bytes, u16_at, u32_at}
+use Rattle.sctp_model.specs.wire.Chunk.{PieceMeaning}
+use Rattle.sctp_model.specs.numbers.Numbers.{u16_bytes, u32_bytes, u16_at, u32_at}
 use Rattle.sctp_wire.specs.declared.codes.TheConstants.{IMMEDIATE, UNORDERED, BEGIN, END}
 use Rattle.sctp_wire.specs.chunks.Flags.{has_flag}
 

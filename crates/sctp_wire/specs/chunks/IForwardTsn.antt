@@ -1,6 +1,6 @@
 -- I-FORWARD-TSN: entries of stream, kind and MID (RFC 8260, 2.3.1).
 use Rattle.std.specs.Prelude.{ℕ, Bool, List}
-use Rattle.sctp_model.specs.Chunk.{ForwardMeaning}
+use Rattle.sctp_model.specs.wire.Chunk.{ForwardMeaning}
 use Rattle.sctp_wire.specs.declared.skips.SkipForm.TheVariants.{Wide}
 use Rattle.sctp_wire.specs.chunks.Forward.{forward_value, ReadsForward, is_forward_value, IsForward, forward_at}
 

@@ -1,8 +1,8 @@
 -- INIT and INIT ACK (RFC 9260, 3.3.2 and 3.3.3): 16 bytes of numbers, and a list of parameters.
 use Rattle.std.specs.Prelude.{◌≡◌, ℕ, ◌<◌, ◌^◌, Bool, true, nat_le, List, ◌++◌, length, drop}
-use Rattle.sctp_model.specs.Chunk.{InitMeaning}
-use Rattle.sctp_model.specs.Numbers.{u16_bytes, u32_bytes, u16_at, u32_at}
-use Rattle.sctp_model.specs.Typed.{are_typed}
+use Rattle.sctp_model.specs.wire.Chunk.{InitMeaning}
+use Rattle.sctp_model.specs.numbers.Numbers.{u16_bytes, u32_bytes, u16_at, u32_at}
+use Rattle.sctp_model.specs.wire.Typed.{are_typed}
 
 -- the numbers, in the order in which they stand: initiate tag, a_rwnd, outbound and inbound streams, initial TSN
 abbrev pub init_numbers : InitMeaning → List ℕ

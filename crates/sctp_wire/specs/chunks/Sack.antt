@@ -1,8 +1,8 @@
 -- SACK: cumulative TSN, a_rwnd, how many blocks and duplicates, these blocks and duplicates (RFC 9260, 3.3.4).
 use Rattle.std.specs.Prelude.{ℕ, ◌+◌, ◌*◌, ◌<◌, ◌^◌, Bool, ◌==◌, ◌&&◌, nat_le, List, ◌++◌, length, take, drop}
 use Rattle.std.specs.List.{flat_map, AllByRecursion}
-use Rattle.sctp_model.specs.Chunk.{SackMeaning}
-use Rattle.sctp_model.specs.Numbers.{u16_bytes, u32_bytes, u16_at, u32_at}
+use Rattle.sctp_model.specs.wire.Chunk.{SackMeaning}
+use Rattle.sctp_model.specs.numbers.Numbers.{u16_bytes, u32_bytes, u16_at, u32_at}
 use Rattle.sctp_wire.specs.Items.{block_bytes, IsBlock, IsWord, blocks_in, words_in}
 
 -- the value: the numbers, then the lists

@@ -1,6 +1,6 @@
 -- SHUTDOWN: the cumulative TSN (RFC 9260, 3.3.8).
 use Rattle.std.specs.Prelude.{ℕ, ◌<◌, ◌^◌, Bool, ◌==◌, List, length}
-use Rattle.sctp_model.specs.Numbers.{u32_bytes}
+use Rattle.sctp_model.specs.numbers.Numbers.{u32_bytes}
 
 -- the value
 abbrev pub shutdown_value : (cumulative : ℕ) → List ℕ

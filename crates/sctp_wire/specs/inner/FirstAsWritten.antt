@@ -1,7 +1,7 @@
 -- What is looked at, item by item, where a list is compared with what is written.
 use Rattle.std.specs.Prelude.{◌≡◌, ◌<◌, ◌⊎◌, ℕ, List, EachIndex, length, slice_index, slice_range}
-use Rattle.sctp_model.specs.Chunk.{padded}
-use Rattle.sctp_model.specs.Typed.{length_field}
+use Rattle.sctp_model.specs.wire.Chunk.{padded}
+use Rattle.sctp_model.specs.wire.Typed.{length_field}
 
 -- The first item ends the bytes, or its padding is zero and another item follows.
 abbrev pub IsFirstAsWritten : List ℕ → Type 0

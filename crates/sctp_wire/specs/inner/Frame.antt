@@ -1,6 +1,6 @@
 -- What the first bytes of a chunk promise of it.
 use Rattle.std.specs.Prelude.{ℕ, ◌≤◌, List, length}
-use Rattle.sctp_model.specs.Chunk.{padded}
+use Rattle.sctp_model.specs.wire.Chunk.{padded}
 use Rattle.sctp_wire.specs.FirstFault.{stated_length}
 
 -- all of the first chunk is there, with its padding

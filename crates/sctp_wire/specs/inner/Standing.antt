@@ -1,7 +1,7 @@
 -- How bytes tell where their chunks may stand.
 use Rattle.std.specs.Prelude.{◌≡◌, ℕ, ◌+◌, ◌<◌, Bool, ◌==◌, ◌||◌, List, [], ◌∷◌, length, slice_index}
-use Rattle.sctp_model.specs.Chunk.{ChunkMeaning, size_of_chunk}
-use Rattle.sctp_model.specs.Places.{stands_alone, never_follows}
+use Rattle.sctp_model.specs.wire.Chunk.{ChunkMeaning, size_of_chunk}
+use Rattle.sctp_model.specs.wire.Places.{stands_alone, never_follows}
 use Rattle.sctp_wire.specs.declared.codes.TheConstants.{INIT, INIT_ACK, COOKIE_ECHO, SHUTDOWN_COMPLETE}
 use Rattle.sctp_wire.specs.Layouts.{is_among}
 use Rattle.sctp_wire.specs.Reading.{AreChunks, chunks_of}

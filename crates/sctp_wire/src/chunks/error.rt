@@ -5,7 +5,7 @@
 //! | 0 | any | causes |
 
 ghost use Rattle.std.specs.Prelude.{◌≡◌, ◌↔◌, IsTrue};
-ghost use Rattle.sctp_model.specs.Chunk as meaning;
+ghost use Rattle.sctp_model.specs.wire.Chunk as meaning;
 ghost use Rattle.sctp_wire.specs.Layouts.{Fits};
 ghost use Rattle.sctp_wire.specs.chunks.Error.{has_error_list};
 

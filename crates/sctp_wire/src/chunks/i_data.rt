@@ -1,7 +1,7 @@
 //! I-DATA: a piece of user data by message identifier (RFC 8260, 2.1).
 
 ghost use Rattle.std.specs.Prelude.{◌≡◌, ◌↔◌, ◌+◌, ◌≤◌, ◌++◌, IsTrue, length, vec_len, vec_capacity};
-ghost use Rattle.sctp_model.specs.Chunk as meaning;
+ghost use Rattle.sctp_model.specs.wire.Chunk as meaning;
 ghost use Rattle.sctp_wire.specs.ChunkTree.{piece_meaning};
 ghost use Rattle.sctp_wire.specs.Layouts.{Fits};
 ghost use Rattle.sctp_wire.specs.chunks.IData.{i_data_laid, is_i_data_value, i_data_at};

@@ -10,7 +10,7 @@
 //! | 16 | any | parameters |
 
 ghost use Rattle.std.specs.Prelude.{◌≡◌, ◌↔◌, ◌+◌, ◌≤◌, true, ◌++◌, IsTrue, length, vec_len, vec_capacity};
-ghost use Rattle.sctp_model.specs.Chunk as meaning;
+ghost use Rattle.sctp_model.specs.wire.Chunk as meaning;
 ghost use Rattle.sctp_wire.specs.ChunkTree.{init_meaning};
 ghost use Rattle.sctp_wire.specs.Layouts.{Fits};
 ghost use Rattle.sctp_wire.specs.chunks.Init.{init_value, has_init_numbers, has_init_list, init_at};

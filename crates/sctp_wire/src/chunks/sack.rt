@@ -1,7 +1,7 @@
 //! SACK: what a receiver has seen (RFC 9260, 3.3.4).
 
 ghost use Rattle.std.specs.Prelude.{◌≡◌, ◌↔◌, ◌+◌, ◌*◌, ◌≤◌, ◌<◌, ◌^◌, true, ◌++◌, IsTrue, length, vec_len, vec_capacity};
-ghost use Rattle.sctp_model.specs.Chunk as meaning;
+ghost use Rattle.sctp_model.specs.wire.Chunk as meaning;
 ghost use Rattle.sctp_wire.specs.ChunkTree.{sack_meaning};
 ghost use Rattle.sctp_wire.specs.Layouts.{Fits};
 ghost use Rattle.sctp_wire.specs.chunks.Sack.{sack_value, is_sack_value, sack_at};

@@ -1,7 +1,7 @@
 //! DATA: a piece of user data by stream sequence number (RFC 9260, 3.3.1).
 
 ghost use Rattle.std.specs.Prelude.{◌≡◌, ◌↔◌, ◌+◌, ◌≤◌, ◌<◌, ◌^◌, ◌++◌, IsTrue, length, vec_len, vec_capacity};
-ghost use Rattle.sctp_model.specs.Chunk as meaning;
+ghost use Rattle.sctp_model.specs.wire.Chunk as meaning;
 ghost use Rattle.sctp_wire.specs.ChunkTree.{piece_meaning};
 ghost use Rattle.sctp_wire.specs.Layouts.{Fits};
 ghost use Rattle.sctp_wire.specs.chunks.Data.{data_value, is_data_value, data_at};

@@ -1,6 +1,6 @@
 use Rattle.std.proofs.Common.{sym, ◌∙◌, ap, not, map, rules}
 use Rattle.std.proofs.lemmas.Fn.{filter_same}
-use Rattle.sctp_model.specs.Receiving.{is_below}
+use Rattle.sctp_model.specs.receiver.Receiving.{is_below}
 use Rattle.sctp_first_recv.specs.declared.kept.KeptPiece.{KeptPiece}
 use Rattle.sctp_first_recv.specs.ReceiverFields.{piece_of_kept}
 use Rattle.sctp_first_recv.proofs.KeptLists.{filter-map}

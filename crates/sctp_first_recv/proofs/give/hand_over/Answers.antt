@@ -1,7 +1,7 @@
 use Rattle.std.proofs.Common.{ℕ, arith, add-one, map, not}
 use Rattle.std.proofs.lemmas.List.{length-map, map-append}
-use Rattle.sctp_model.specs.Pieces.{Piece}
-use Rattle.sctp_model.specs.Receiving.{is_below}
+use Rattle.sctp_model.specs.messages.Pieces.{Piece}
+use Rattle.sctp_model.specs.receiver.Receiving.{is_below}
 use Rattle.sctp_first_recv.specs.HandedOf.{handed_of}
 use Rattle.sctp_first_recv.specs.ReceiverFields.{piece_of_kept, stream_of}
 use Rattle.sctp_first_recv.proofs.KeptLists.{length-filter_le}

@@ -1,6 +1,6 @@
 use Rattle.std.proofs.Common.{◌+◌, ◌≤◌, length, map}
 use Rattle.std.specs.VecDeque.{deque_len, deque_capacity}
-use Rattle.sctp_model.specs.Receiving.{without_below}
+use Rattle.sctp_model.specs.receiver.Receiving.{without_below}
 use Rattle.sctp_first_recv.specs.ReceiverFields.{piece_of_kept, stream_of}
 use Rattle.sctp_first_recv.proofs.GiveLemmas.{GivesSoFar}
 use Rattle.sctp_first_recv.proofs.give.hand_over.Given as goal

@@ -1,5 +1,5 @@
 use Rattle.std.proofs.Common.{◌≡◌, ◌-◌, map, take}
-use Rattle.sctp_model.specs.ReceiverView.{size_of_messages}
+use Rattle.sctp_model.specs.receiver.ReceiverView.{size_of_messages}
 use Rattle.sctp_first_recv.specs.HandedOf.{handed_of}
 use Rattle.sctp_first_recv.proofs.room.less_messages.Given as goal
 

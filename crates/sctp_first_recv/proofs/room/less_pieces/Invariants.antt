@@ -1,5 +1,5 @@
 use Rattle.std.proofs.Common.{◌≡◌, ◌-◌, map, take}
-use Rattle.sctp_model.specs.ReceiverView.{size_of_pieces}
+use Rattle.sctp_model.specs.receiver.ReceiverView.{size_of_pieces}
 use Rattle.sctp_first_recv.specs.ReceiverFields.{piece_of_kept}
 use Rattle.sctp_first_recv.proofs.room.less_pieces.Given as goal
 

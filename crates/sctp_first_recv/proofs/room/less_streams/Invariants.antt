@@ -1,5 +1,5 @@
 use Rattle.std.proofs.Common.{◌≡◌, ◌-◌, map}
-use Rattle.sctp_model.specs.ReceiverView.{size_of_waiting}
+use Rattle.sctp_model.specs.receiver.ReceiverView.{size_of_waiting}
 use Rattle.sctp_first_recv.specs.ReceiverFields.{stream_of}
 use Rattle.sctp_first_recv.specs.ReceiverStands.{stream_at}
 use Rattle.sctp_first_recv.proofs.room.less_streams.Given as goal

@@ -1,5 +1,5 @@
 use Rattle.std.proofs.Common.{◌+◌, ◌<◌, length, arith}
-use Rattle.sctp_model.specs.Chunk.{padded}
+use Rattle.sctp_model.specs.wire.Chunk.{padded}
 use Rattle.sctp_first_send.proofs.FillLemmas.{room_more, fill_stops}
 use Rattle.sctp_first_send.proofs.waiting.how_many_fit.Goals as goal
 

@@ -2,7 +2,7 @@ use Rattle.std.proofs.Common.{◌≡◌, ◌+◌, ◌≤◌, suc, [], ◌∷◌,
 use Rattle.std.proofs.lemmas.Grind.{common_steps}
 use Rattle.std.proofs.lemmas.List.{map-append}
 use Rattle.std.proofs.lemmas.Result.{err_from_is_err_and}
-use Rattle.sctp_model.specs.Chunk.{padded}
+use Rattle.sctp_model.specs.wire.Chunk.{padded}
 use Rattle.sctp_packet.specs.Draft.{room_in}
 use Rattle.sctp_first_send.specs.SenderFields.{waits_of}
 use Rattle.sctp_first_send.specs.SenderStands.{queue_of}

@@ -1,5 +1,5 @@
 use Rattle.std.proofs.Common.{◌≡◌, ◌∙◌, ap}
-use Rattle.sctp_model.specs.Typed.{typed_in}
+use Rattle.sctp_model.specs.wire.Typed.{typed_in}
 use Rattle.sctp_print.specs.ChunkLines.{joined, kind_word}
 use Rattle.sctp_print.specs.Commas.{behind_comma}
 use Rattle.sctp_print.proofs.CommaLemmas.{joined_is}

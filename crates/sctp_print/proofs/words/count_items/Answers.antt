@@ -1,6 +1,6 @@
 use Rattle.std.proofs.Common.{◌≤◌, length, ap, arith}
 use Rattle.std.proofs.lemmas.Grind.{common_steps}
-use Rattle.sctp_model.specs.Typed.{typed_in}
+use Rattle.sctp_model.specs.wire.Typed.{typed_in}
 use Rattle.sctp_print.proofs.CommaLemmas.{few_items}
 use Rattle.sctp_print.proofs.words.count_items.Goals as goal
 

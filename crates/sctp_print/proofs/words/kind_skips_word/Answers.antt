@@ -1,5 +1,5 @@
 use Rattle.std.proofs.Common.{◌≡◌, ◌∷◌, ◌++◌, List, sym, ap, ◌∙◌}
-use Rattle.sctp_model.specs.Chunk.{SkipMeaning}
+use Rattle.sctp_model.specs.wire.Chunk.{SkipMeaning}
 use Rattle.sctp_wire.specs.ChunkTree.{skip_meaning}
 use Rattle.sctp_print.specs.ChunkLines.{each_behind_comma, kind_skip_word}
 use Rattle.sctp_print.specs.declared.words.TheConstants.{COMMA}

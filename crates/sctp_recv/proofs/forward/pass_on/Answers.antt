@@ -1,6 +1,6 @@
 use Rattle.std.proofs.Common.{◌≡◌, ℕ, ◌+◌, ◌-◌, ◌++◌, inl, refl, ◌∙◌, subst}
-use Rattle.sctp_model.specs.Format.{ordered_lane, unordered_lane}
-use Rattle.sctp_model.specs.ReceiverView.{size_of_pieces, size_of_messages}
+use Rattle.sctp_model.specs.messages.Format.{ordered_lane, unordered_lane}
+use Rattle.sctp_model.specs.receiver.ReceiverView.{size_of_pieces, size_of_messages}
 use Rattle.sctp_chains.specs.StandsFor as lane
 use Rattle.sctp_chains.specs.WholeOf.{from_number}
 use Rattle.sctp_recv.specs.Fields.{stream_of}

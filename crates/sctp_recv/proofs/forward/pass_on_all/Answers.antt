@@ -3,8 +3,8 @@ use Rattle.std.specs.Prelude.{slice_get}
 use Rattle.std.proofs.lemmas.Grind.{common_steps}
 use Rattle.std.proofs.lemmas.List.{length-set}
 use Rattle.std.proofs.lemmas.Option.{slice_get_read}
-use Rattle.sctp_model.specs.Format.{ordered_lane, unordered_lane}
-use Rattle.sctp_model.specs.Receiving.{handed_ordered}
+use Rattle.sctp_model.specs.messages.Format.{ordered_lane, unordered_lane}
+use Rattle.sctp_model.specs.receiver.Receiving.{handed_ordered}
 use Rattle.sctp_model.proofs.receiver.OfLane.{of_says}
 use Rattle.sctp_chains.specs.StandsFor as lane
 use Rattle.sctp_model.specs.receiver.KeptOfLane.{of_lane}

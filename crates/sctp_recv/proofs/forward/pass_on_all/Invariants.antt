@@ -1,5 +1,5 @@
 use Rattle.std.proofs.Common.{◌≡◌, length}
-use Rattle.sctp_model.specs.ReceiverView.{ReceiverView}
+use Rattle.sctp_model.specs.receiver.ReceiverView.{ReceiverView}
 use Rattle.sctp_recv.specs.inner.Forwarding.{AreToPass}
 use Rattle.sctp_recv.proofs.PassLemmas.{IsUpTo}
 use Rattle.sctp_recv.proofs.forward.pass_on_all.Given as goal

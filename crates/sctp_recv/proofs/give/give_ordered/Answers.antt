@@ -2,11 +2,11 @@ use Rattle.std.proofs.Common.{◌≡◌, ℕ, suc, ◌<◌, ◌≤◌, max, List
 use Rattle.std.specs.Prelude.{not}
 use Rattle.std.specs.VecDeque.{deque_len, deque_capacity}
 use Rattle.std.proofs.lemmas.List.{append-nil}
-use Rattle.sctp_model.specs.Serial.{COUNTS}
-use Rattle.sctp_model.specs.Format.{ordered_lane}
-use Rattle.sctp_model.specs.Pieces.{Piece, is_number_below}
-use Rattle.sctp_model.specs.ReceiverView.{Handed}
-use Rattle.sctp_model.specs.Receiving.{message_of, IsDue}
+use Rattle.sctp_model.specs.numbers.Serial.{COUNTS}
+use Rattle.sctp_model.specs.messages.Format.{ordered_lane}
+use Rattle.sctp_model.specs.messages.Pieces.{Piece, is_number_below}
+use Rattle.sctp_model.specs.receiver.ReceiverView.{Handed}
+use Rattle.sctp_model.specs.receiver.Receiving.{message_of, IsDue}
 use Rattle.sctp_model.proofs.receiver.OneStep.{filter_has}
 use Rattle.sctp_chains.specs.StandsFor as lane
 use Rattle.sctp_chains.specs.WholeOf.{from_number}

@@ -1,4 +1,4 @@
-use Rattle.sctp_model.specs.Format.{ordered_lane}
+use Rattle.sctp_model.specs.messages.Format.{ordered_lane}
 use Rattle.sctp_chains.specs.Cells.{Kept}
 use Rattle.sctp_chains.specs.StandsFor as lane
 use Rattle.sctp_chains.specs.StandsFor.{chain_count}

@@ -1,5 +1,5 @@
 use Rattle.std.proofs.Common.{◌∷◌}
-use Rattle.sctp_model.specs.Format.{ordered_lane}
+use Rattle.sctp_model.specs.messages.Format.{ordered_lane}
 use Rattle.sctp_wire.specs.ChunkTree.{piece_meaning}
 use Rattle.sctp_chains.specs.Cells.{counted}
 use Rattle.sctp_recv.proofs.ResultLemmas.{if_err}

@@ -1,8 +1,8 @@
 use Rattle.std.proofs.Common.{◌≡◌, ◌∷◌, [], ◌++◌, List, length, map, inl, inr, refl, sym, ◌∙◌, ap}
-use Rattle.sctp_model.specs.Format.{unordered_lane}
-use Rattle.sctp_model.specs.ReceiverView.{Handed}
-use Rattle.sctp_model.specs.Receiving.{message_of}
-use Rattle.sctp_model.specs.Whole.{text_of}
+use Rattle.sctp_model.specs.messages.Format.{unordered_lane}
+use Rattle.sctp_model.specs.receiver.ReceiverView.{Handed}
+use Rattle.sctp_model.specs.receiver.Receiving.{message_of}
+use Rattle.sctp_model.specs.messages.Whole.{text_of}
 use Rattle.sctp_model.proofs.receiver.RowFacts.{row_same}
 use Rattle.sctp_wire.specs.ChunkTree.{piece_meaning}
 use Rattle.sctp_chains.specs.Cells.{counted}

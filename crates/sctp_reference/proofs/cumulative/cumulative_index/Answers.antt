@@ -1,5 +1,5 @@
 use Rattle.std.proofs.Common.{◌≡◌, ◌+◌, arith}
-use Rattle.sctp_model.specs.ReceiverView.{ReceiverView, IsCumulative}
+use Rattle.sctp_model.specs.receiver.ReceiverView.{ReceiverView, IsCumulative}
 use Rattle.sctp_reference.specs.Lists.{lists}
 use Rattle.sctp_reference.proofs.CumulativeLemmas.{cumulative_is, cumulative_only, none_past}
 use Rattle.sctp_reference.proofs.cumulative.cumulative_index.Goals as goal

@@ -1,5 +1,5 @@
 use Rattle.std.proofs.Common.{◌≡◌, map, take}
-use Rattle.sctp_model.specs.Forward.{skipped}
+use Rattle.sctp_model.specs.messages.Forward.{skipped}
 use Rattle.sctp_reference.specs.Names.{lane_of, skip_of}
 use Rattle.sctp_reference.proofs.forwards.skip_after.Given as goal
 

@@ -4,8 +4,8 @@ use Rattle.sctp_reference.specs.Kept.{pieces_of}
 use Rattle.sctp_reference.specs.Giving.{handed_of}
 use Rattle.sctp_reference.proofs.ListLemmas.{map-push}
 use Rattle.sctp_reference.proofs.GivingLemmas.{due_handed, due_passed, due_stopped}
-use Rattle.sctp_model.specs.Pieces.{Piece}
-use Rattle.sctp_model.specs.receiver.Laws.{IsApart}
+use Rattle.sctp_model.specs.messages.Pieces.{Piece}
+use Rattle.sctp_model.specs.receiver.Laws.{IsFilledOnce}
 use Rattle.sctp_model.proofs.receiver.OneWhole.{due_only}
 use Rattle.sctp_reference.proofs.giving.due_from.Goals as goal
 use Rattle.sctp_reference.proofs.giving.due_from.Goals.{in-HandOver+in_ok-push-in-HandOver, in-PassOver}
@@ -19,7 +19,7 @@ returns-in-Stop-clause-is c =
 pub returns-in-Stop-clause-only : goal.returns-in-Stop-clause-only
 returns-in-Stop-clause-only c = λ r same skipped apart ms m h.
     let f = format_of c.args.format in
-    let all = subst (λ (k : List Piece). IsApart f k) (sym same) apart in
+    let all = subst (λ (k : List Piece). IsFilledOnce f k) (sym same) apart in
     let mine = returns-in-Stop-clause-is c r same skipped in
     due_only f r c.args.stream all c.args.from ms m (map handed_of c.loop-messages.messages.items) c.loop-messages.next h mine
 

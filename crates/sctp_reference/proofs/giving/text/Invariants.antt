@@ -1,5 +1,5 @@
 use Rattle.std.proofs.Common.{◌≡◌, ◌∷◌, take}
-use Rattle.sctp_model.specs.Whole.{text_of}
+use Rattle.sctp_model.specs.messages.Whole.{text_of}
 use Rattle.sctp_reference.specs.Kept.{pieces_of}
 use Rattle.sctp_reference.proofs.giving.text.Given as goal
 

@@ -1,6 +1,6 @@
 use Rattle.std.proofs.Common.{◌≡◌, [], None, codes, length, refl, ap, arith, rules}
 use Rattle.std.proofs.lemmas.Grind.{common_steps}
-use Rattle.sctp_model.specs.Format.{Ordered}
+use Rattle.sctp_model.specs.messages.Format.{Ordered}
 use Rattle.sctp_script.specs.Events.{side_meaning}
 use Rattle.sctp_script.specs.Fields.{IsNumber}
 use Rattle.sctp_script.specs.OutcomeText.{side_word}

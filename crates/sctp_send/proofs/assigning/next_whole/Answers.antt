@@ -1,7 +1,7 @@
 use Rattle.std.proofs.Common.{◌≡◌, ◌∙◌, ℕ, List, length, get_or, sym, ap, arith}
 use Rattle.std.proofs.lemmas.List.{length-map}
-use Rattle.sctp_model.specs.Format.{Plain}
-use Rattle.sctp_model.specs.SenderView.{Queued}
+use Rattle.sctp_model.specs.messages.Format.{Plain}
+use Rattle.sctp_model.specs.sender.SenderView.{Queued}
 use Rattle.sctp_model.specs.sender.Queueing.{cut}
 use Rattle.sctp_send.specs.SenderFields.{queued_by}
 use Rattle.sctp_send.specs.declared.message.Message.{Message as MessageFields}

@@ -1,5 +1,5 @@
 use Rattle.std.proofs.Common.{◌≡◌, ◌∙◌, ◌%◌, suc, refl, sym, ap, arith}
-use Rattle.sctp_model.specs.Format.{Interleaved}
+use Rattle.sctp_model.specs.messages.Format.{Interleaved}
 use Rattle.sctp_send.proofs.TurnLemmas.{turn_goes_on, turn_begins, turn_idle}
 use Rattle.sctp_send.proofs.assigning.turn_of.Goals as goal
 

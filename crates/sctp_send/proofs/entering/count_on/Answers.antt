@@ -1,5 +1,5 @@
 use Rattle.std.proofs.Common.{◌∙◌, List, map, get_or, ◌^◌, ◌<◌, suc, ap, sym}
-use Rattle.sctp_model.specs.Framing.{lane_kind}
+use Rattle.sctp_model.specs.messages.Framing.{lane_kind}
 use Rattle.sctp_send.specs.SenderFields.{track_meaning, rests_meaning}
 use Rattle.sctp_send.specs.WindowKept.{StreamsKept}
 use Rattle.sctp_send.specs.inner.Newcomers.{number_in}

@@ -1,6 +1,6 @@
 use Rattle.std.proofs.Common.{◌≡◌, ℕ, ◌-◌, ◌<◌, [], ◌∷◌, List, length, false, refl, ap, arith, ◌∙◌, sym}
 use Rattle.std.specs.Prelude.{◌||◌}
-use Rattle.sctp_model.specs.Acknowledgement.{in_blocks}
+use Rattle.sctp_model.specs.messages.Acknowledgement.{in_blocks}
 use Rattle.sctp_wire.specs.ChunkTree.{block_meaning}
 use Rattle.sctp_model.specs.sender.SackTaken.{some_is_bad, some_ends_past}
 use Rattle.sctp_send.specs.declared.outstanding.Outstanding.{Outstanding}

@@ -1,7 +1,7 @@
 use Rattle.std.proofs.Common.{◌≡◌, ℕ, ◌-◌, List, ◌∷◌, [], ◌++◌, true, false, refl, sym, ap, ◌∙◌, is_ok, subst, arith}
 use Rattle.std.specs.Prelude.{◌||◌, Result, Ok, Err, is_err}
-use Rattle.sctp_model.specs.Chunk.{BlockMeaning}
-use Rattle.sctp_model.specs.Acknowledgement.{in_blocks}
+use Rattle.sctp_model.specs.wire.Chunk.{BlockMeaning}
+use Rattle.sctp_model.specs.messages.Acknowledgement.{in_blocks}
 use Rattle.sctp_model.specs.sender.SackTaken.{some_is_bad}
 use Rattle.sctp_wire.specs.ChunkTree.{block_meaning}
 use Rattle.sctp_send.specs.CoveredRuns.{in_runs, AreInOrder}

@@ -1,6 +1,6 @@
 use Rattle.std.proofs.Common.{◌≡◌, ℕ, ◌<◌, false}
 use Rattle.std.specs.Prelude.{◌||◌}
-use Rattle.sctp_model.specs.Acknowledgement.{in_blocks}
+use Rattle.sctp_model.specs.messages.Acknowledgement.{in_blocks}
 use Rattle.sctp_model.specs.sender.SackTaken.{some_is_bad}
 use Rattle.sctp_send.specs.CoveredRuns.{in_runs, AreInOrder}
 use Rattle.sctp_send.proofs.RunLemmas.{end_of}

@@ -1,6 +1,6 @@
 use Rattle.std.proofs.Common.{◌≡◌, ◌∙◌, ℕ, List, ◌++◌, ◌∷◌, [], map, take, length, ap, sym, subst, arith}
 use Rattle.std.proofs.lemmas.List.{append_assoc}
-use Rattle.sctp_model.specs.Plan.{Part}
+use Rattle.sctp_model.specs.messages.Plan.{Part}
 use Rattle.sctp_send.specs.SenderKept.{Item}
 use Rattle.sctp_send.specs.OutstandingFields.{item_meaning, lane_meaning, message_meaning}
 use Rattle.sctp_send.specs.inner.Newcomers.{new_item, begun_items}

@@ -1,5 +1,5 @@
 use Rattle.std.proofs.Common.{◌∙◌, subst, Bool}
-use Rattle.sctp_model.specs.Acknowledgement.{in_blocks}
+use Rattle.sctp_model.specs.messages.Acknowledgement.{in_blocks}
 use Rattle.sctp_send.specs.CoveredRuns.{in_runs, HoldsBlocks}
 use Rattle.sctp_send.specs.inner.Changes.{IsExact}
 use Rattle.sctp_send.proofs.CoverLemmas.{told_same}

@@ -1,6 +1,6 @@
 use Rattle.std.proofs.Common.{◌≡◌, ℕ, suc, Some, true, false, ◌∷◌, ◌++◌, [], length, refl, sym, subst, ap, ◌∙◌, inl, inr, arith}
 use Rattle.std.proofs.lemmas.Grind.{common_steps}
-use Rattle.sctp_model.specs.SenderView.{SenderView}
+use Rattle.sctp_model.specs.sender.SenderView.{SenderView}
 use Rattle.sctp_model.specs.first.Sending.{went_out}
 use Rattle.sctp_model.specs.first.World as world
 use Rattle.sctp_model.specs.first.Ends.{EndView, Packet, Builds}

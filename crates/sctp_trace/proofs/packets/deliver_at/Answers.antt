@@ -1,6 +1,6 @@
 use Rattle.std.proofs.Common.{◌≡◌, ◌-◌, None, Some, refl, sym, ap, ◌∙◌, inl, inr, arith}
 use Rattle.std.proofs.lemmas.Result.{err_from_is_err_and}
-use Rattle.sctp_model.specs.Lists.{item_at}
+use Rattle.sctp_model.specs.numbers.Lists.{item_at}
 use Rattle.sctp_model.specs.first.World as world
 use Rattle.sctp_model.specs.first.Ends.{Packet}
 use Rattle.sctp_model.specs.first.World.{end_of, other, bag_of}

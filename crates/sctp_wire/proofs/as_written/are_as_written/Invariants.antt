@@ -1,6 +1,6 @@
 use Rattle.std.specs.Prelude.{◌≡◌, ◌↔◌, true, length}
-use Rattle.sctp_model.specs.Numbers.{AreBytes}
-use Rattle.sctp_model.specs.Typed.{are_typed, AreAsWritten}
+use Rattle.sctp_model.specs.numbers.Numbers.{AreBytes}
+use Rattle.sctp_model.specs.wire.Typed.{are_typed, AreAsWritten}
 use Rattle.sctp_wire.proofs.as_written.are_as_written.Given as goal
 
 -- what is left is a list, which is as it is written where the whole list is

@@ -1,6 +1,6 @@
 use Rattle.std.proofs.Common.{◌≡◌, ◌++◌, arith}
 use Rattle.std.proofs.lemmas.Grind.{common_steps}
-use Rattle.sctp_model.specs.Typed.{Typed, filled, typed_bytes}
+use Rattle.sctp_model.specs.wire.Typed.{Typed, filled, typed_bytes}
 use Rattle.sctp_model.proofs.TypedWriting.{reads_more, writes_more}
 use Rattle.sctp_wire.proofs.PutLemmas.{filled_then}
 use Rattle.sctp_wire.proofs.items.put_parameter.Goals as goal

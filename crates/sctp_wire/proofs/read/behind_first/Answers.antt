@@ -1,7 +1,7 @@
 use Rattle.std.proofs.Common.{◌≡◌, arith}
 use Rattle.std.proofs.lemmas.Grind.{common_steps}
 use Rattle.std.proofs.lemmas.List.{take_rest}
-use Rattle.sctp_model.specs.Chunk.{padded}
+use Rattle.sctp_model.specs.wire.Chunk.{padded}
 use Rattle.sctp_wire.specs.FirstFault.{stated_length}
 use Rattle.sctp_wire.proofs.StandingLemmas.{whole_first, behind_is}
 use Rattle.sctp_wire.proofs.read.behind_first.Goals as goal

@@ -1,5 +1,5 @@
 use Rattle.std.specs.Prelude.{◌≡◌, ◌-◌, ◌≤◌, length}
-use Rattle.sctp_model.specs.Places.{misplaced_behind}
+use Rattle.sctp_model.specs.wire.Places.{misplaced_behind}
 use Rattle.sctp_wire.specs.Reading.{AreChunks, chunks_of}
 use Rattle.sctp_wire.proofs.read.misplaced_behind.Given as goal
 

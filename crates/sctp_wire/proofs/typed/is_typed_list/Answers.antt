@@ -1,6 +1,6 @@
 use Rattle.std.proofs.Common.{◌≡◌, true, false, ◌∙◌, sym, arith}
 use Rattle.std.proofs.lemmas.Grind.{common_steps}
-use Rattle.sctp_model.specs.Typed.{starts_typed}
+use Rattle.sctp_model.specs.wire.Typed.{starts_typed}
 use Rattle.sctp_wire.proofs.AsWrittenLemmas.{listed_same, listed_at_end, behind_shorter}
 use Rattle.sctp_wire.proofs.typed.is_typed_list.Goals as goal
 

@@ -1,5 +1,5 @@
 use Rattle.std.specs.Prelude.{◌≡◌, length}
-use Rattle.sctp_model.specs.Typed.{are_typed}
+use Rattle.sctp_model.specs.wire.Typed.{are_typed}
 use Rattle.sctp_wire.proofs.typed.is_typed_list.Given as goal
 
 -- what is left is a list where the bytes are

@@ -1,5 +1,5 @@
 use Rattle.std.proofs.Common.{◌≡◌, true}
-use Rattle.sctp_model.specs.Format.{Lane, is_numbered}
+use Rattle.sctp_model.specs.messages.Format.{Lane, is_numbered}
 use Rattle.sctp_chains.specs.Cells.{Kept}
 use Rattle.sctp_chains.specs.StandsFor.{StandsFor}
 use Rattle.sctp_chains.specs.WholeOf.{AreThere}

@@ -1,5 +1,5 @@
 use Rattle.std.proofs.Common.{map, sym, ap, ◌∙◌, subst}
-use Rattle.sctp_model.specs.Format.{is_numbered}
+use Rattle.sctp_model.specs.messages.Format.{is_numbered}
 use Rattle.sctp_chains.specs.Links.{chain_of}
 use Rattle.sctp_chains.specs.StandsFor.{StandsFor}
 use Rattle.sctp_chains.proofs.LaneLemmas.{left_behind, by_number}

@@ -1,5 +1,5 @@
 use Rattle.std.proofs.Common.{◌≡◌, ◌++◌, ◌∙◌, ap, length, take, drop, refl, arith}
-use Rattle.sctp_model.specs.Packet.{Packet, HEADER_ROOM}
+use Rattle.sctp_model.specs.wire.Packet.{Packet, HEADER_ROOM}
 use Rattle.sctp_wire.specs.Reading.{chunks_of}
 use Rattle.sctp_packet.specs.Checksum.{crc32c}
 use Rattle.sctp_packet.specs.PacketBytes.{header_bytes}

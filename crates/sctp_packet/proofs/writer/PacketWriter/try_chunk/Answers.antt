@@ -1,7 +1,7 @@
 use Rattle.std.proofs.Common.{◌≡◌, ◌++◌, drop, refl, arith}
 use Rattle.std.proofs.lemmas.Grind.{common_steps}
 use Rattle.std.proofs.lemmas.Result.{err_from_is_err_and}
-use Rattle.sctp_model.specs.Packet.{HEADER_ROOM}
+use Rattle.sctp_model.specs.wire.Packet.{HEADER_ROOM}
 use Rattle.sctp_wire.specs.ChunkTree.{chunk_meaning}
 use Rattle.sctp_wire.specs.Reading.{chunks_of}
 use Rattle.sctp_packet.specs.PacketBytes.{header_bytes}

@@ -1,5 +1,5 @@
 use Rattle.std.proofs.Common.{ℕ, sym, ◌∙◌, ap}
-use Rattle.sctp_model.specs.Serial.{tsn}
+use Rattle.sctp_model.specs.numbers.Serial.{tsn}
 use Rattle.sctp_recv.specs.StandsFor.{StandsFor}
 use Rattle.sctp_recv.proofs.ReceiverSteps.{cumulative_is}
 use Rattle.sctp_recv.proofs.receiver.Receiver.cumulative.Goals as goal

@@ -1,8 +1,8 @@
 use Rattle.std.proofs.Common.{◌≡◌, ◌-◌, ℕ, map, sym, ◌∙◌, ap, arith}
 use Rattle.std.proofs.lemmas.List.{take-map}
-use Rattle.sctp_model.specs.Limits.{BLOCK_LIMIT}
-use Rattle.sctp_model.specs.Serial.{tsn}
-use Rattle.sctp_model.specs.ReceiverView.{held_bytes}
+use Rattle.sctp_model.specs.numbers.Limits.{BLOCK_LIMIT}
+use Rattle.sctp_model.specs.numbers.Serial.{tsn}
+use Rattle.sctp_model.specs.receiver.ReceiverView.{held_bytes}
 use Rattle.sctp_recv.specs.Blocks.{block_of_run}
 use Rattle.sctp_recv.specs.StandsFor.{StandsFor}
 use Rattle.sctp_recv.proofs.BlockLemmas.{all_runs}

@@ -1,5 +1,5 @@
 use Rattle.std.proofs.Common.{◌≡◌, ◌∙◌, ◌^◌, ◌<◌, suc, map, refl, ap, arith}
-use Rattle.sctp_model.specs.Framing.{lane_kind}
+use Rattle.sctp_model.specs.messages.Framing.{lane_kind}
 use Rattle.sctp_send.specs.SenderFields.{rests_meaning, track_meaning}
 use Rattle.sctp_send.specs.SenderKept.{Kept}
 use Rattle.sctp_send.specs.inner.Newcomers.{track_of, number_in}

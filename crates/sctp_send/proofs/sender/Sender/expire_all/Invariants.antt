@@ -1,5 +1,5 @@
 use Rattle.std.proofs.Common.{◌≤◌}
-use Rattle.sctp_model.specs.SenderView.{SenderView}
+use Rattle.sctp_model.specs.sender.SenderView.{SenderView}
 use Rattle.sctp_model.proofs.sender.ExpiredLaws.{expired_to}
 use Rattle.sctp_send.specs.SenderStands.{StandsFor}
 use Rattle.sctp_send.proofs.sender.Sender.expire_all.Given as goal

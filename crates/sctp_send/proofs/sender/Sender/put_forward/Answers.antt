@@ -1,8 +1,8 @@
 use Rattle.std.proofs.Common.{◌≡◌, ◌∙◌, map, take, subst, sym, refl, ap, arith}
 use Rattle.std.proofs.lemmas.List.{length-map}
 use Rattle.std.specs.List.{AllByRecursion}
-use Rattle.sctp_model.specs.Framing.{forward_chunk}
-use Rattle.sctp_model.specs.Serial.{tsn}
+use Rattle.sctp_model.specs.messages.Framing.{forward_chunk}
+use Rattle.sctp_model.specs.numbers.Serial.{tsn}
 use Rattle.sctp_model.specs.sender.Readers.{point}
 use Rattle.sctp_model.specs.sender.SentChunks.{forward_chunk_of}
 use Rattle.sctp_wire.specs.ChunkTree.{chunk_meaning}

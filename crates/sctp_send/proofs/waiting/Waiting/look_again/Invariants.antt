@@ -1,5 +1,5 @@
 use Rattle.std.proofs.Common.{take}
-use Rattle.sctp_model.specs.SenderView.{Queued}
+use Rattle.sctp_model.specs.sender.SenderView.{Queued}
 use Rattle.std.proofs.Common.{Some}
 use Rattle.sctp_send.specs.SenderFields.{queued_by}
 use Rattle.sctp_send.specs.inner.Counting.{AreWorth}

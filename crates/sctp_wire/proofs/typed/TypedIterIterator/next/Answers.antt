@@ -1,6 +1,6 @@
 use Rattle.std.proofs.Common.{◌≡◌, ◌<◌, ◌∷◌, ◌∙◌, length, sym, arith}
 use Rattle.std.proofs.lemmas.Grind.{common_steps}
-use Rattle.sctp_model.specs.Typed.{typed_in}
+use Rattle.sctp_model.specs.wire.Typed.{typed_in}
 use Rattle.sctp_wire.specs.TypedTree.{typed_meaning}
 use Rattle.sctp_wire.proofs.AsWrittenLemmas.{a_list, list_starts, items_of-nil}
 use Rattle.sctp_wire.proofs.typed.TypedIterIterator.next.Goals as goal

@@ -1,6 +1,6 @@
 -- Sizes of packets, in bytes (RFC 9260, 3).
 use Rattle.std.specs.Prelude.{ℕ, ◌+◌, List, [], ◌∷◌}
-use Rattle.sctp_model.specs.Chunk.{ChunkMeaning, size_of_chunk}
+use Rattle.sctp_model.specs.wire.Chunk.{ChunkMeaning, size_of_chunk}
 
 -- the common header: ports, verification tag, checksum (RFC 9260, 3.1)
 abbrev pub HEADER_ROOM : ℕ

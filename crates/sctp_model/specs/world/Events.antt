@@ -1,13 +1,13 @@
 -- What may happen in the world, and what is told of it.
 use Rattle.std.specs.Prelude.{ℕ, suc, Bool, true, false, List, length, Option, None, Some}
-use Rattle.sctp_model.specs.Packet.{Packet, size_of_packet}
-use Rattle.sctp_model.specs.Calls.{Call}
-use Rattle.sctp_model.specs.ReceiverView.{Handed}
+use Rattle.sctp_model.specs.wire.Packet.{Packet, size_of_packet}
+use Rattle.sctp_model.specs.world.Calls.{Call}
+use Rattle.sctp_model.specs.receiver.ReceiverView.{Handed}
 use Rattle.sctp_model.specs.sender.Abandoning.{AbandonAnswer}
 use Rattle.sctp_model.specs.end.EndView.{Draw}
 use Rattle.sctp_model.specs.end.Strays.{Verdict, Taken, Dropped, Answer}
 use Rattle.sctp_model.specs.end.UserCalls.{ConnectAnswer, Called, NotIdle, SendAnswer, ShutdownAnswer, Shut, NotShut, AbortAnswer, Aborts, NoPeer, TooLong}
-use Rattle.sctp_model.specs.World.{Side, World, bag_of, with_packet}
+use Rattle.sctp_model.specs.world.World.{Side, World, bag_of, with_packet}
 
 -- ---- events
 

@@ -1,8 +1,8 @@
 -- Parameters and causes: lists of items that say their type and their length (RFC 9260, 3.2.1 and 3.3.10).
 use Rattle.std.specs.Prelude.{◌≡◌, ℕ, zero, suc, ◌+◌, ◌-◌, ◌<◌, ◌^◌, Bool, if◌then◌else◌, ◌==◌, ◌&&◌, ◌||◌, nat_le, List, [], ◌∷◌, ◌++◌, length, drop, replicate, slice_range, Option, Some, None, is_some, unwrap_or, option_map}
 use Rattle.std.specs.List.{AllByRecursion}
-use Rattle.sctp_model.specs.Chunk.{padded, padding_after}
-use Rattle.sctp_model.specs.Numbers.{u16_bytes, u16_at}
+use Rattle.sctp_model.specs.wire.Chunk.{padded, padding_after}
+use Rattle.sctp_model.specs.numbers.Numbers.{u16_bytes, u16_at}
 
 -- ---- one item
 
@@ -29,9 +29,9 @@ typed_bytes item = u16_bytes item.kind ++ (u16_bytes (typed_length item) ++ item
 -- The bytes are this list: nothing; an item that ends them; or an item, its padding with any value, and a list. So the last item may
 -- have its padding, and need not.
 pub data ReadsTyped : List ℕ → List Typed → Type 0 where
-  Empty : ReadsTyped [] []
-  Ends : (item : Typed) → IsTyped item → ReadsTyped (typed_bytes item) (item ∷ [])
-  GoesOn : (item : Typed) (padding rest : List ℕ) (others : List Typed) → IsTyped item
+  NoItem : ReadsTyped [] []
+  LastItem : (item : Typed) → IsTyped item → ReadsTyped (typed_bytes item) (item ∷ [])
+  NextItem : (item : Typed) (padding rest : List ℕ) (others : List Typed) → IsTyped item
       → length padding ≡ padding_after (typed_length item) → ReadsTyped rest others
       → ReadsTyped (typed_bytes item ++ (padding ++ rest)) (item ∷ others)
 

@@ -1,11 +1,11 @@
 -- STEP and RUN: every event with every way that it can go.
 use Rattle.std.specs.Prelude.{◌≡◌, ℕ, ◌^◌, ◌<◌, max, min, Bool, true, false, List, [], ◌∷◌, ◌++◌, Option, None, Some}
-use Rattle.sctp_model.specs.Lists.{at, item_at}
-use Rattle.sctp_model.specs.Chunk.{ChunkMeaning}
-use Rattle.sctp_model.specs.Packet.{Packet, size_of_packet}
-use Rattle.sctp_model.specs.Places.{ArePlaced}
-use Rattle.sctp_model.specs.ReceiverView.{Handed}
-use Rattle.sctp_model.specs.Calls.{Call}
+use Rattle.sctp_model.specs.numbers.Lists.{at, item_at}
+use Rattle.sctp_model.specs.wire.Chunk.{ChunkMeaning}
+use Rattle.sctp_model.specs.wire.Packet.{Packet, size_of_packet}
+use Rattle.sctp_model.specs.wire.Places.{ArePlaced}
+use Rattle.sctp_model.specs.receiver.ReceiverView.{Handed}
+use Rattle.sctp_model.specs.world.Calls.{Call}
 use Rattle.sctp_model.specs.end.EndView.{Terms, Configuration, Draw, Established, Idle, Open, Paired, EndView, fresh_end}
 use Rattle.sctp_model.specs.end.Opening.{tags_between, joined}
 use Rattle.sctp_model.specs.end.PeerFaults.{FAULT}
@@ -13,9 +13,9 @@ use Rattle.sctp_model.specs.end.Strays.{Verdict, Taken, Dropped, Answer}
 use Rattle.sctp_model.specs.end.Arriving.{Arrives}
 use Rattle.sctp_model.specs.end.Building.{Builds, packet_of}
 use Rattle.sctp_model.specs.end.Moments.{ticked}
-use Rattle.sctp_model.specs.end.UserCalls.{Called, NotIdle, connect_answer, called, SendAnswer, Ticket, Refused, NotOpen, send_answer, send_leaves, abandons, abandoned_at, Takes, shutdown_answer, shut, abort_answer, abort_leaves}
-use Rattle.sctp_model.specs.World.{Side, A, B, other, Log, World, end_of, bag_of, log_of, with_end, with_packet, with_log, end_now, came, logged}
-use Rattle.sctp_model.specs.Events.{Event, OpenBoth, At, Drawing, Connect, Build, Deliver, Foreign, Send, Abandon, Take, Shutdown, Abort, brings_packet, Outcome, Done, RefusedState, Sent, Quiet, Absent, NotActed, Told, Fate, next_number, told, with_verdict, abort_told, with_abort, shutdown_told, message_told}
+use Rattle.sctp_model.specs.end.UserCalls.{Called, NotIdle, connect_answer, called, SendAnswer, Ticket, Refused, NotOpen, send_answer, send_leaves, abandons, abandoned_at, UserTakes, shutdown_answer, shut, abort_answer, abort_leaves}
+use Rattle.sctp_model.specs.world.World.{Side, A, B, other, Log, World, end_of, bag_of, log_of, with_end, with_packet, with_log, end_now, came, logged}
+use Rattle.sctp_model.specs.world.Events.{Event, OpenBoth, At, Drawing, Connect, Build, Deliver, Foreign, Send, Abandon, Take, Shutdown, Abort, brings_packet, Outcome, Done, RefusedState, Sent, Quiet, Absent, NotActed, Told, Fate, next_number, told, with_verdict, abort_told, with_abort, shutdown_told, message_told}
 
 -- ---- `open`
 
@@ -62,8 +62,8 @@ pub data Brings (w : World) : Event → Side → Packet → Type 0 where
   FromStranger : (s : Side) (p : Packet) → ArePlaced p.chunks → Brings w (Foreign s (Some p)) s p
 
 -- the beginning of a packet, up to the chunk that wanted memory
-abbrev pub cut : Packet → List ChunkMeaning → Packet
-cut p front = record p { chunks = front }
+abbrev pub cut_to : Packet → List ChunkMeaning → Packet
+cut_to p front = record p { chunks = front }
 
 -- A packet that is answered ends with its answer, so no chunk behind it can want memory.
 abbrev pub is_answer : Verdict → Bool
@@ -76,7 +76,7 @@ is_answer Taken = false
 -- In the world `w` the event is answered so, and leaves the last world. None for an answer: memory was wanted. Of a packet then all before
 -- some chunk has acted, and before its first chunk the moment alone; any other event has changed nothing.
 pub data Step (w : World) : Event → Option Outcome → World → Type 0 where
-  Opens : (x y : Draw) → w.openable ≡ true → IsDraw x → IsDraw y →
+  OpensBoth : (x y : Draw) → w.openable ≡ true → IsDraw x → IsDraw y →
       Step w (OpenBoth x y) (Some Done) (record w { a = opened w.a.configuration x y; b = opened w.b.configuration y x; openable = false })
   OpenRefused : (x y : Draw) → w.openable ≡ false → Step w (OpenBoth x y) (Some RefusedState) w
   TimePasses : (m : ℕ) → m < 2 ^ 64 → Step w (At m) (Some Done) (record w {
@@ -93,22 +93,22 @@ pub data Step (w : World) : Event → Option Outcome → World → Type 0 where
   BuildsOne : (s : Side) (x : ChunkMeaning) (xs : List ChunkMeaning) (t : EndView) → Builds (end_now w s) (x ∷ xs) t →
       Step w (Build s) (Some (Sent (next_number w s) (size_of_packet (x ∷ xs)))) (with_packet (with_end w s t) s (packet_of (end_of w s) (x ∷ xs)))
   BuildsNone : (s : Side) (t : EndView) → Builds (end_now w s) [] t → Step w (Build s) (Some Quiet) (with_end w s t)
-  Comes : (e : Event) (s : Side) (p : Packet) (t : EndView) (v : Verdict) → Brings w e s p → Arrives (end_now w s) w.draw p t v →
+  PacketComes : (e : Event) (s : Side) (p : Packet) (t : EndView) (v : Verdict) → Brings w e s p → Arrives (end_now w s) w.draw p t v →
       Step w e (Some (told w s v)) (with_verdict (came w s t) s v)
   IsAbsent : (s : Side) (n : ℕ) → item_at (bag_of w s) n ≡ None → Step w (Deliver s n) (Some Absent) w
   Unread : (s : Side) → Step w (Foreign s None) (Some (NotActed FAULT)) (came w s (end_now w s))
   Sends : (s : Side) (c : Call) → Step w (Send s c) (Some (Told (send_answer (end_of w s) c)))
       (with_log (with_end w s (send_leaves (send_answer (end_of w s) c) (end_of w s) c)) s (accepted w s (send_answer (end_of w s) c) c))
-  Abandons : (s : Side) (k : ℕ) → Step w (Abandon s k) (Some (Fate (abandons (end_of w s) k)))
+  AbandonsOne : (s : Side) (k : ℕ) → Step w (Abandon s k) (Some (Fate (abandons (end_of w s) k)))
       (with_log (with_end w s (abandoned_at (end_of w s) k)) s (named_at (logged w s (abandoned_at (end_of w s) k)) k))
-  TakesOne : (s : Side) (n : ℕ) (h : Option Handed) (t : EndView) → Takes (end_of w s) n h t →
+  TakesOne : (s : Side) (n : ℕ) (h : Option Handed) (t : EndView) → UserTakes (end_of w s) n h t →
       Step w (Take s n) (Some (message_told h)) (with_end w s t)
   ShutsDown : (s : Side) → Step w (Shutdown s) (Some (shutdown_told (shutdown_answer (end_of w s).phase))) (with_end w s (shut (end_of w s)))
   AbortsIt : (s : Side) (r : List ℕ) → Step w (Abort s r) (Some (abort_told w s (abort_answer (end_of w s) r)))
       (with_abort (with_end w s (abort_leaves (abort_answer (end_of w s) r) (end_of w s))) s (abort_answer (end_of w s) r))
   CutFirst : (e : Event) (s : Side) (p : Packet) → Brings w e s p → Step w e None (came w s (end_now w s))
   CutLater : (e : Event) (s : Side) (p : Packet) (y : ChunkMeaning) (front back : List ChunkMeaning) (x : ChunkMeaning) (t : EndView) (v : Verdict) →
-      Brings w e s p → p.chunks ≡ (y ∷ front) ++ x ∷ back → Arrives (end_now w s) w.draw (cut p (y ∷ front)) t v → is_answer v ≡ false →
+      Brings w e s p → p.chunks ≡ (y ∷ front) ++ x ∷ back → Arrives (end_now w s) w.draw (cut_to p (y ∷ front)) t v → is_answer v ≡ false →
       Step w e None (came w s t)
   NoMemory : (e : Event) → brings_packet e ≡ false → Step w e None w
 

@@ -1,6 +1,6 @@
 -- Where in a packet chunks may stand (RFC 9260, 5.1 and 6.10).
 use Rattle.std.specs.Prelude.{◌≡◌, ℕ, ◌+◌, Bool, true, false, if◌then◌else◌, List, [], ◌∷◌, Option, Some, None}
-use Rattle.sctp_model.specs.Chunk.{ChunkMeaning, Init, InitAck, CookieEcho, ShutdownComplete, size_of_chunk}
+use Rattle.sctp_model.specs.wire.Chunk.{ChunkMeaning, Init, InitAck, CookieEcho, ShutdownComplete, size_of_chunk}
 
 -- INIT, INIT ACK and SHUTDOWN COMPLETE have a packet of their own (6.10).
 abbrev pub stands_alone : ChunkMeaning → Bool

@@ -1,14 +1,14 @@
 -- The two laws of a format on which safety stands: which chunks are a whole message, and what a FORWARD may make go.
 use Rattle.std.specs.Prelude.{◌≡◌, ℕ, suc, ◌<◌, ◌≤◌, ◌⊎◌, false, List, ◌∷◌, length, slice_get, Some}
-use Rattle.sctp_model.specs.Lists.{Has}
-use Rattle.sctp_model.specs.Format.{Format, Lane, is_numbered}
-use Rattle.sctp_model.specs.Plan.{Message, bytes_of, Part, Plan, entry_at, message_at}
-use Rattle.sctp_model.specs.Orderly.{Orderly}
-use Rattle.sctp_model.specs.Pieces.{Piece, piece_of, payload_of, IsNumberBelow, IsFragment}
-use Rattle.sctp_model.specs.Whole.{IsWhole, text_of}
-use Rattle.sctp_model.specs.SenderView.{SenderView, IsGivenUp, IsAllGivenUp}
-use Rattle.sctp_model.specs.Forward.{Skip, Forward, IsForward}
-use Rattle.sctp_model.specs.Receiving.{IsWholeWith}
+use Rattle.sctp_model.specs.numbers.Lists.{Has}
+use Rattle.sctp_model.specs.messages.Format.{Format, Lane, is_numbered}
+use Rattle.sctp_model.specs.messages.Plan.{Message, bytes_of, Part, Plan, entry_at, message_at}
+use Rattle.sctp_model.specs.messages.Orderly.{Orderly}
+use Rattle.sctp_model.specs.messages.Pieces.{Piece, piece_of, payload_of, IsNumberBelow, IsFragment}
+use Rattle.sctp_model.specs.messages.Whole.{IsWhole, text_of}
+use Rattle.sctp_model.specs.sender.SenderView.{SenderView, IsGivenUp, IsAllGivenUp}
+use Rattle.sctp_model.specs.messages.Forward.{Skip, Forward, IsForward}
+use Rattle.sctp_model.specs.receiver.Receiving.{IsWholeWith}
 
 -- The chunks are, in order, all fragments of this message, each at an index of its own (RFC 9260, 6.9).
 pub record IsMessage (f : Format) (p : Plan) (l : Lane) (n : ℕ) (m : Message) (xs : List Piece) : Type 0 where

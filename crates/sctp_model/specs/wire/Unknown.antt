@@ -1,9 +1,9 @@
 -- Types that an end doesn't know: what is still acted on and what is reported, by the two highest bits of the type (RFC 9260, 3.2
 -- and 3.2.1).
 use Rattle.std.specs.Prelude.{ℕ, ◌+◌, ◌-◌, ◌/◌, ◌%◌, ◌^◌, Bool, true, false, if◌then◌else◌, ◌==◌, ◌||◌, nat_lt, List, [], ◌∷◌, ◌++◌, length, Option, Some, None}
-use Rattle.sctp_model.specs.Chunk.{ChunkMeaning, Unknown}
-use Rattle.sctp_model.specs.Numbers.{u16_bytes}
-use Rattle.sctp_model.specs.Typed.{Typed, typed_bytes}
+use Rattle.sctp_model.specs.wire.Chunk.{ChunkMeaning, Unknown}
+use Rattle.sctp_model.specs.numbers.Numbers.{u16_bytes}
+use Rattle.sctp_model.specs.wire.Typed.{Typed, typed_bytes}
 
 -- What is done about an unknown type: nothing behind it is looked at any more, and it is reported.
 pub record RuleMeaning : Type 0 where

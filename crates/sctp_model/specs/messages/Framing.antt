@@ -1,9 +1,9 @@
 -- What differs between the two formats, on plain numbers: what a fragment's chunk says, how it is read again, and what a FORWARD names and
 -- lets go (RFC 9260, 3.3.1 and 6.9; RFC 3758, 3.2 and 3.6; RFC 8260, 2.1, 2.2 and 2.3).
 use Rattle.std.specs.Prelude.{ℕ, ◌-◌, Bool, true, false, ◌||◌, ◌==◌, nat_lt, nat_le, Option, Some, None, if◌then◌else◌}
-use Rattle.sctp_model.specs.Format.{Format, Plain, Interleaved, Kind, Ordered, Unordered}
-use Rattle.sctp_model.specs.Chunk.{PieceMeaning, ForwardMeaning, ChunkMeaning, Data, IData, ForwardTsn, IForwardTsn}
-use Rattle.sctp_model.specs.Serial.{COUNTS, ssn, mid, near}
+use Rattle.sctp_model.specs.messages.Format.{Format, Plain, Interleaved, Kind, Ordered, Unordered}
+use Rattle.sctp_model.specs.wire.Chunk.{PieceMeaning, ForwardMeaning, ChunkMeaning, Data, IData, ForwardTsn, IForwardTsn}
+use Rattle.sctp_model.specs.numbers.Serial.{COUNTS, ssn, mid, near}
 
 -- the kind that the flag U says (RFC 9260, 3.3.1)
 abbrev pub lane_kind : (unordered : Bool) → Kind

@@ -1,20 +1,20 @@
 -- What is asked of chance and of strangers, and what is promised of every world.
 use Rattle.std.specs.Prelude.{◌≡◌, ℕ, ◌⊎◌, true, List, [], ◌∷◌, map, Option, None, Some}
-use Rattle.sctp_model.specs.Lists.{Has, joined}
-use Rattle.sctp_model.specs.Chunk.{ChunkMeaning, Init, CookieEcho}
-use Rattle.sctp_model.specs.Packet.{Packet}
-use Rattle.sctp_model.specs.Plan.{Entry, Plan, entry_at, IsOf}
-use Rattle.sctp_model.specs.Format.{Lane}
-use Rattle.sctp_model.specs.Calls.{Asked}
-use Rattle.sctp_model.specs.SenderView.{SenderView}
-use Rattle.sctp_model.specs.ReceiverView.{ReceiverView}
-use Rattle.sctp_model.specs.Safe.{Safe, WasHanded}
+use Rattle.sctp_model.specs.numbers.Lists.{Has, joined}
+use Rattle.sctp_model.specs.wire.Chunk.{ChunkMeaning, Init, CookieEcho}
+use Rattle.sctp_model.specs.wire.Packet.{Packet}
+use Rattle.sctp_model.specs.messages.Plan.{Entry, Plan, entry_at, IsOf}
+use Rattle.sctp_model.specs.messages.Format.{Lane}
+use Rattle.sctp_model.specs.world.Calls.{Asked}
+use Rattle.sctp_model.specs.sender.SenderView.{SenderView}
+use Rattle.sctp_model.specs.receiver.ReceiverView.{ReceiverView}
+use Rattle.sctp_model.specs.world.Safe.{Safe, WasHanded}
 use Rattle.sctp_model.specs.end.Sealing.{Body, Sealing}
 use Rattle.sctp_model.specs.end.EndView.{Draw, format_of, Completed, Over}
 use Rattle.sctp_model.specs.end.Configured.{IsConfiguration}
-use Rattle.sctp_model.specs.World.{Side, other, World, end_of, log_of, Setup, configuration_of, FIRST_DRAW, start}
-use Rattle.sctp_model.specs.Events.{Event, OpenBoth, Drawing, Connect, Foreign, Outcome}
-use Rattle.sctp_model.specs.Steps.{Run}
+use Rattle.sctp_model.specs.world.World.{Side, other, World, end_of, log_of, Setup, configuration_of, FIRST_DRAW, start}
+use Rattle.sctp_model.specs.world.Events.{Event, OpenBoth, Drawing, Connect, Foreign, Outcome}
+use Rattle.sctp_model.specs.world.Steps.{Run}
 
 -- ---- chance: which tags are drawn (RFC 9260, 5.3.1)
 

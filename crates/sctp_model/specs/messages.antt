@@ -1,0 +1,9 @@
+pub mod Format
+pub mod Plan
+pub mod Orderly
+pub mod Pieces
+pub mod Whole
+pub mod Framing
+pub mod Forward
+pub mod Acknowledgement
+pub mod FormatLaws

@@ -1,0 +1,5 @@
+pub mod Chunk
+pub mod Typed
+pub mod Places
+pub mod Unknown
+pub mod Packet

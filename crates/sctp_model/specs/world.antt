@@ -1,0 +1,6 @@
+pub mod Calls
+pub mod Safe
+pub mod World
+pub mod Events
+pub mod Steps
+pub mod Premises
