@@ -1,0 +1,8 @@
+//! The limits and the definitions say the same.
+
+ghost use Rattle.sctp_values.specs.SameLimits.{AreTheLimits};
+
+/// Each constant of this crate is the limit of that name in the definitions.
+pub fn limits_are_the_definitions()
+    ensures { AreTheLimits }
+{}

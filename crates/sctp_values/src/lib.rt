@@ -1,0 +1,18 @@
+//! What every crate shares and no crate owns: the limits as numbers of Rust, the name of a message, its kind, and want of memory.
+#![tactic(auto)]
+
+mod kind;
+mod laws;
+mod limits;
+mod no_memory;
+mod ticket;
+
+pub use kind::Kind;
+pub use laws::limits_are_the_definitions;
+pub use limits::{
+    BLOCK_LIMIT, DUPLICATE_LIMIT, FRAGMENT_OVERHEAD, GREATEST_BUFFER, GREATEST_FRAGMENT,
+    GREATEST_PACKET, LEAST_BUFFER, LEAST_FRAGMENT, LEAST_PACKET, LONGEST_MESSAGE, QUEUE_LIMIT,
+    RUN_LIMIT, STREAM_LIMIT, TICKET_LIMIT, TSN_LIMIT, WINDOW,
+};
+pub use no_memory::NoMemory;
+pub use ticket::Ticket;
