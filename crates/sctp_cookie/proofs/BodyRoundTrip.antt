@@ -5,11 +5,12 @@ use Rattle.std.proofs.lemmas.Bool.{and_parts, eqb-true, leb-true}
 use Rattle.std.proofs.lemmas.List.{length-drop, drop_more}
 use Rattle.std.proofs.Math.Seq.{take-add}
 use Rattle.byteorder.specs.Numbers.{big_from-lt, big_number-reads_back}
-use Rattle.sctp_cookie.specs.CookieBody.{IsInRange, body_bytes, body_of, has_form, options_byte}
-use Rattle.sctp_cookie.specs.declared.body.CookieBody.{CookieBody}
-use Rattle.sctp_cookie.proofs.Numbers.{AreBytes, AreBytes-drop, big_bytes-number_2, big_bytes-number_4, big_bytes-number_8}
+use Rattle.sctp_model.specs.numbers.Numbers.{AreBytes}
+use Rattle.sctp_model.specs.end.Sealing.{Body, IsInRange, IsPartyInRange}
+use Rattle.sctp_cookie.specs.CookieBody.{body_bytes, body_of, has_form, options_byte}
+use Rattle.sctp_cookie.proofs.Numbers.{AreBytes-drop, big_bytes-number_2, big_bytes-number_4, big_bytes-number_8}
 
-pub length-body_bytes : (body : CookieBody) → length (body_bytes body) ≡ 40
+pub length-body_bytes : (body : Body) → length (body_bytes body) ≡ 40
 unfolding body_bytes
 length-body_bytes body = refl
 
@@ -35,39 +36,35 @@ at_most_3 true true = refl
 
 -- ---- what was written is read
 
-pub body_of-body_bytes : (body : CookieBody) (mac : List ℕ) → IsInRange body → body_of (body_bytes body ++ mac) ≡ body
+pub body_of-body_bytes : (body : Body) (mac : List ℕ) → IsInRange body → body_of (body_bytes body ++ mac) ≡ body
 unfolding body_bytes body_of
 body_of-body_bytes body mac fits =
-    let made = big_number-reads_back 8 body.made [] fits.made in
-    let listener_port = big_number-reads_back 2 body.listener_port [] fits.listener_port in
-    let caller_port = big_number-reads_back 2 body.caller_port [] fits.caller_port in
-    let listener_tag = big_number-reads_back 4 body.listener_tag [] fits.listener_tag in
-    let caller_tag = big_number-reads_back 4 body.caller_tag [] fits.caller_tag in
-    let listener_tsn = big_number-reads_back 4 body.listener_tsn [] fits.listener_tsn in
-    let caller_tsn = big_number-reads_back 4 body.caller_tsn [] fits.caller_tsn in
-    let caller_rwnd = big_number-reads_back 4 body.caller_rwnd [] fits.caller_rwnd in
-    let streams_to_caller = big_number-reads_back 2 body.streams_to_caller [] fits.streams_to_caller in
-    let streams_from_caller = big_number-reads_back 2 body.streams_from_caller [] fits.streams_from_caller in
-    let partial_reliability = first_bit body.partial_reliability body.interleaving in
-    let interleaving = second_bit body.partial_reliability body.interleaving in
+    let made = big_number-reads_back 8 body.made [] fits.moment in
+    let listener_port = big_number-reads_back 2 body.listener.port [] fits.parties.0.port in
+    let caller_port = big_number-reads_back 2 body.caller.port [] fits.parties.1.port in
+    let listener_tag = big_number-reads_back 4 body.listener.tag [] fits.parties.0.tag in
+    let caller_tag = big_number-reads_back 4 body.caller.tag [] fits.parties.1.tag in
+    let listener_tsn = big_number-reads_back 4 body.listener.tsn [] fits.parties.0.tsn in
+    let caller_tsn = big_number-reads_back 4 body.caller.tsn [] fits.parties.1.tsn in
+    let rwnd = big_number-reads_back 4 body.rwnd [] fits.window in
+    let to_caller = big_number-reads_back 2 body.to_caller [] fits.counts.0 in
+    let from_caller = big_number-reads_back 2 body.from_caller [] fits.counts.1 in
+    let partial = first_bit body.partial body.interleave in
+    let interleave = second_bit body.partial body.interleave in
     λ i. record {
       made = made i;
-      listener_port = listener_port i;
-      caller_port = caller_port i;
-      listener_tag = listener_tag i;
-      caller_tag = caller_tag i;
-      listener_tsn = listener_tsn i;
-      caller_tsn = caller_tsn i;
-      caller_rwnd = caller_rwnd i;
-      streams_to_caller = streams_to_caller i;
-      streams_from_caller = streams_from_caller i;
-      partial_reliability = partial_reliability i;
-      interleaving = interleaving i;
+      listener = record { port = listener_port i; tag = listener_tag i; tsn = listener_tsn i };
+      caller = record { port = caller_port i; tag = caller_tag i; tsn = caller_tsn i };
+      rwnd = rwnd i;
+      to_caller = to_caller i;
+      from_caller = from_caller i;
+      partial = partial i;
+      interleave = interleave i;
     }
 
-pub has_form-body_bytes : (body : CookieBody) (mac : List ℕ) → length mac ≡ 32 → has_form (body_bytes body ++ mac) ≡ true
+pub has_form-body_bytes : (body : Body) (mac : List ℕ) → length mac ≡ 32 → has_form (body_bytes body ++ mac) ≡ true
 unfolding body_bytes has_form
-has_form-body_bytes body mac size = rw (size, at_most_3 body.partial_reliability body.interleaving) refl
+has_form-body_bytes body mac size = rw (size, at_most_3 body.partial body.interleave) refl
 
 -- ---- what is read was written
 
@@ -96,18 +93,23 @@ form_facts bytes form =
 
 pub body_of-IsInRange : (bytes : List ℕ) → AreBytes bytes → IsInRange (body_of bytes)
 unfolding body_of
-body_of-IsInRange bytes are = record {
-  made = big_from-lt 0 8 bytes are;
-  listener_port = big_from-lt 0 2 (drop 8 bytes) (AreBytes-drop 8 bytes are);
-  caller_port = big_from-lt 0 2 (drop 10 bytes) (AreBytes-drop 10 bytes are);
-  listener_tag = big_from-lt 0 4 (drop 12 bytes) (AreBytes-drop 12 bytes are);
-  caller_tag = big_from-lt 0 4 (drop 16 bytes) (AreBytes-drop 16 bytes are);
-  listener_tsn = big_from-lt 0 4 (drop 20 bytes) (AreBytes-drop 20 bytes are);
-  caller_tsn = big_from-lt 0 4 (drop 24 bytes) (AreBytes-drop 24 bytes are);
-  caller_rwnd = big_from-lt 0 4 (drop 28 bytes) (AreBytes-drop 28 bytes are);
-  streams_to_caller = big_from-lt 0 2 (drop 32 bytes) (AreBytes-drop 32 bytes are);
-  streams_from_caller = big_from-lt 0 2 (drop 34 bytes) (AreBytes-drop 34 bytes are);
-}
+body_of-IsInRange bytes are =
+    let listener : IsPartyInRange (body_of bytes).listener = record {
+      port = big_from-lt 0 2 (drop 8 bytes) (AreBytes-drop 8 bytes are);
+      tag = big_from-lt 0 4 (drop 12 bytes) (AreBytes-drop 12 bytes are);
+      tsn = big_from-lt 0 4 (drop 20 bytes) (AreBytes-drop 20 bytes are);
+    } in
+    let caller : IsPartyInRange (body_of bytes).caller = record {
+      port = big_from-lt 0 2 (drop 10 bytes) (AreBytes-drop 10 bytes are);
+      tag = big_from-lt 0 4 (drop 16 bytes) (AreBytes-drop 16 bytes are);
+      tsn = big_from-lt 0 4 (drop 24 bytes) (AreBytes-drop 24 bytes are);
+    } in
+    record {
+      moment = big_from-lt 0 8 bytes are;
+      parties = (listener, caller);
+      window = big_from-lt 0 4 (drop 28 bytes) (AreBytes-drop 28 bytes are);
+      counts = (big_from-lt 0 2 (drop 32 bytes) (AreBytes-drop 32 bytes are), big_from-lt 0 2 (drop 34 bytes) (AreBytes-drop 34 bytes are));
+    }
 
 -- a number up to 3 from its two bits
 byte_again : (n : ℕ) → n ≤ 3 → cond (not (nat_eq (bit_and n 1) 0)) 1 0 + cond (not (nat_eq (bit_and n 2) 0)) 2 0 ≡ n
@@ -150,13 +152,13 @@ body_bytes-body_of bytes are form =
     let caller_tag = big_bytes-number_4 (drop 16 bytes) (AreBytes-drop 16 bytes are) (omega (arith, length-drop 16 bytes)) in
     let listener_tsn = big_bytes-number_4 (drop 20 bytes) (AreBytes-drop 20 bytes are) (omega (arith, length-drop 20 bytes)) in
     let caller_tsn = big_bytes-number_4 (drop 24 bytes) (AreBytes-drop 24 bytes are) (omega (arith, length-drop 24 bytes)) in
-    let caller_rwnd = big_bytes-number_4 (drop 28 bytes) (AreBytes-drop 28 bytes are) (omega (arith, length-drop 28 bytes)) in
-    let streams_to_caller = big_bytes-number_2 (drop 32 bytes) (AreBytes-drop 32 bytes are) (omega (arith, length-drop 32 bytes)) in
-    let streams_from_caller = big_bytes-number_2 (drop 34 bytes) (AreBytes-drop 34 bytes are) (omega (arith, length-drop 34 bytes)) in
+    let rwnd = big_bytes-number_4 (drop 28 bytes) (AreBytes-drop 28 bytes are) (omega (arith, length-drop 28 bytes)) in
+    let to_caller = big_bytes-number_2 (drop 32 bytes) (AreBytes-drop 32 bytes are) (omega (arith, length-drop 32 bytes)) in
+    let from_caller = big_bytes-number_2 (drop 34 bytes) (AreBytes-drop 34 bytes are) (omega (arith, length-drop 34 bytes)) in
     let options = last_four bytes facts in
     let joined : body_bytes (body_of bytes) ≡ take 8 bytes ++ take 2 (drop 8 bytes) ++ take 2 (drop 10 bytes) ++ take 4 (drop 12 bytes) ++ take 4 (drop 16 bytes)
     ++ take 4 (drop 20 bytes) ++ take 4 (drop 24 bytes) ++ take 4 (drop 28 bytes) ++ take 2 (drop 32 bytes) ++ take 2 (drop 34 bytes)
     ++ take 4 (drop 36 bytes)
-    = λ i. made i ++ listener_port i ++ caller_port i ++ listener_tag i ++ caller_tag i ++ listener_tsn i ++ caller_tsn i ++ caller_rwnd i
-    ++ streams_to_caller i ++ streams_from_caller i ++ options i in
+    = λ i. made i ++ listener_port i ++ caller_port i ++ listener_tag i ++ caller_tag i ++ listener_tsn i ++ caller_tsn i ++ rwnd i
+    ++ to_caller i ++ from_caller i ++ options i in
     joined ∙ parts_of bytes

@@ -4,3 +4,4 @@ pub mod Numbers
 pub mod BodyRoundTrip
 pub mod Comparing
 pub mod Opening
+pub mod SealLemmas

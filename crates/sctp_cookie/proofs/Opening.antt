@@ -6,28 +6,30 @@ use Rattle.std.proofs.lemmas.List.{length-drop, take_at, drop_at, take-append-dr
 use Rattle.std.proofs.lemmas.Slice.Eq.{bytes_eq-Decides}
 use Rattle.sha2.proofs.Facts256.{length-sha256}
 use Rattle.sctp_cookie.specs.Hmac.{hmac}
-use Rattle.sctp_cookie.specs.CookieBody.{IsInRange, body_bytes, body_of, has_form}
-use Rattle.sctp_cookie.specs.Opens.{Belongs, IsCookie, IsLaidOut, Opened, age, has_mac, has_ports, life, open_answer, ports_of, sealed, staleness}
-use Rattle.sctp_cookie.specs.declared.body.CookieBody.{CookieBody}
+use Rattle.sctp_model.specs.numbers.Limits.{COOKIE_LIFE}
+use Rattle.sctp_model.specs.numbers.Numbers.{AreBytes}
+use Rattle.sctp_model.specs.end.Sealing.{Body, IsInRange}
+use Rattle.sctp_model.specs.end.Opening.{age, staleness}
+use Rattle.sctp_cookie.specs.CookieBody.{body_bytes, body_of, has_form}
+use Rattle.sctp_cookie.specs.Opens.{Belongs, IsCookie, IsLaidOut, Opened, has_mac, has_ports, open_answer, ports_of, sealed}
 use Rattle.sctp_cookie.specs.declared.body.Ports.{Ports}
 use Rattle.sctp_cookie.specs.declared.sealing.CookieFault.{CookieFault}
 use Rattle.sctp_cookie.specs.declared.sealing.CookieFault.TheVariants as fault
-use Rattle.sctp_cookie.proofs.Numbers.{AreBytes}
 use Rattle.sctp_cookie.proofs.BodyRoundTrip.{body_bytes-body_of, body_of-IsInRange, body_of-body_bytes, form_facts, has_form-body_bytes, length-body_bytes}
 
-length-hmac : (key text : List ℕ) → length (hmac key text) ≡ 32
+pub length-hmac : (key text : List ℕ) → length (hmac key text) ≡ 32
 unfolding hmac
 length-hmac key text = length-sha256 _
 
 -- ---- a cookie that is laid out is read as its body
 
-laid_out-form : (bytes : List ℕ) (body : CookieBody) → IsLaidOut bytes body → has_form bytes ≡ true
+pub laid_out-form : (bytes : List ℕ) (body : Body) → IsLaidOut bytes body → has_form bytes ≡ true
 laid_out-form bytes body laid = rw laid.layout (has_form-body_bytes body laid.mac laid.mac_length)
 
-laid_out-body : (bytes : List ℕ) (body : CookieBody) → IsLaidOut bytes body → body_of bytes ≡ body
+laid_out-body : (bytes : List ℕ) (body : Body) → IsLaidOut bytes body → body_of bytes ≡ body
 laid_out-body bytes body laid = rw laid.layout (body_of-body_bytes body laid.mac laid.in_range)
 
-laid_out-front : (bytes : List ℕ) (body : CookieBody) → IsLaidOut bytes body → take 40 bytes ≡ body_bytes body
+laid_out-front : (bytes : List ℕ) (body : Body) → IsLaidOut bytes body → take 40 bytes ≡ body_bytes body
 laid_out-front bytes body laid = rw laid.layout (take_at (body_bytes body) laid.mac 40 (length-body_bytes body))
 
 -- what reads as a body is laid out as it
@@ -41,7 +43,7 @@ form-laid_out bytes are form = record {
 
 -- ---- the MAC
 
-cookie-laid_out : (key bytes : List ℕ) (body : CookieBody) → IsCookie key bytes body → IsLaidOut bytes body
+pub cookie-laid_out : (key bytes : List ℕ) (body : Body) → IsCookie key bytes body → IsLaidOut bytes body
 unfolding sealed
 cookie-laid_out key bytes body cookie = record {
   in_range = cookie.in_range;
@@ -50,14 +52,14 @@ cookie-laid_out key bytes body cookie = record {
   layout = cookie.is_sealed;
 }
 
-cookie-mac : (key bytes : List ℕ) (body : CookieBody) → IsCookie key bytes body → has_mac key bytes ≡ true
+pub cookie-mac : (key bytes : List ℕ) (body : Body) → IsCookie key bytes body → has_mac key bytes ≡ true
 unfolding sealed has_mac
 cookie-mac key bytes body cookie =
     let front = laid_out-front bytes body (cookie-laid_out key bytes body cookie) in
     let back : drop 40 bytes ≡ hmac key (body_bytes body) = rw cookie.is_sealed (drop_at (body_bytes body) (hmac key (body_bytes body)) 40 (length-body_bytes body)) in
     rw (front, back) ((bytes_eq-Decides (hmac key (body_bytes body)) (hmac key (body_bytes body))).1 refl)
 
-mac-cookie : (key bytes : List ℕ) (body : CookieBody) → IsLaidOut bytes body → has_mac key bytes ≡ true → bytes ≡ sealed key body
+mac-cookie : (key bytes : List ℕ) (body : Body) → IsLaidOut bytes body → has_mac key bytes ≡ true → bytes ≡ sealed key body
 unfolding sealed has_mac
 mac-cookie key bytes body laid right =
     let front = laid_out-front bytes body laid in
@@ -66,28 +68,28 @@ mac-cookie key bytes body laid right =
 
 -- ---- the ports
 
-ports-same : (ports : Ports) (body : CookieBody) → has_ports ports body ≡ true → ports_of body ≡ ports
+ports-same : (ports : Ports) (body : Body) → has_ports ports body ≡ true → ports_of body ≡ ports
 unfolding has_ports
 ports-same ports body right =
     let parts = and_parts _ _ right in
-    let listener = eqb-true body.listener_port ports.listener parts.0 in
-    let caller = eqb-true body.caller_port ports.caller parts.1 in
+    let listener = eqb-true body.listener.port ports.listener parts.0 in
+    let caller = eqb-true body.caller.port ports.caller parts.1 in
     λ i. record { listener = listener i; caller = caller i }
 
-same-ports : (ports : Ports) (body : CookieBody) → ports_of body ≡ ports → has_ports ports body ≡ true
+same-ports : (ports : Ports) (body : Body) → ports_of body ≡ ports → has_ports ports body ≡ true
 unfolding has_ports
 same-ports ports body same =
     and_from _ _ (eq-eqb _ _ (ap (λ (p : Ports). p.listener) same)) (eq-eqb _ _ (ap (λ (p : Ports). p.caller) same))
 
 -- ---- the answer that is computed is an answer
 
-cookie_read : (key bytes : List ℕ) → AreBytes bytes → has_form bytes ≡ true → has_mac key bytes ≡ true → IsCookie key bytes (body_of bytes)
+pub cookie_read : (key bytes : List ℕ) → AreBytes bytes → has_form bytes ≡ true → has_mac key bytes ≡ true → IsCookie key bytes (body_of bytes)
 cookie_read key bytes are form mac =
     let laid = form-laid_out bytes are form in
     record { in_range = laid.in_range; is_sealed = mac-cookie key bytes (body_of bytes) laid mac }
 
 belongs_read : (key bytes : List ℕ) (ports : Ports) (tag : ℕ) → AreBytes bytes → has_form bytes ≡ true → has_mac key bytes ≡ true
-    → has_ports ports (body_of bytes) ≡ true → nat_eq (body_of bytes).listener_tag tag ≡ true → Belongs key bytes ports tag (body_of bytes)
+    → has_ports ports (body_of bytes) ≡ true → nat_eq (body_of bytes).listener.tag tag ≡ true → Belongs key bytes ports tag (body_of bytes)
 belongs_read key bytes ports tag are form mac same_ports same_tag = record {
   cookie = cookie_read key bytes are form mac;
   same_ports = ports-same ports (body_of bytes) same_ports;
@@ -96,7 +98,7 @@ belongs_read key bytes ports tag are form mac same_ports same_tag = record {
 
 opened_by : (key bytes : List ℕ) (now : ℕ) (ports : Ports) (tag : ℕ) → AreBytes bytes → (form mac same_ports same_tag late : Bool)
     → has_form bytes ≡ form → has_mac key bytes ≡ mac → has_ports ports (body_of bytes) ≡ same_ports
-    → nat_eq (body_of bytes).listener_tag tag ≡ same_tag → nat_lt life (age now (body_of bytes)) ≡ late
+    → nat_eq (body_of bytes).listener.tag tag ≡ same_tag → nat_lt COOKIE_LIFE (age now (body_of bytes)) ≡ late
     → Opened key bytes now ports tag
     (cond (not form) (Err fault.Form) (cond (not mac) (Err fault.Mac) (cond (not same_ports) (Err fault.Ports)
     (cond (not same_tag) (Err fault.Tag) (cond late (Err (fault.Stale (staleness now (body_of bytes)))) (Ok (body_of bytes)))))))
@@ -121,26 +123,26 @@ open_answer-Opened key bytes now ports tag are = opened_by key bytes now ports t
 -- ---- and it is the only one
 
 -- what opening computes of a cookie
-cookie_answer : (key bytes : List ℕ) (now : ℕ) (ports : Ports) (tag : ℕ) (body : CookieBody) → IsCookie key bytes body
+cookie_answer : (key bytes : List ℕ) (now : ℕ) (ports : Ports) (tag : ℕ) (body : Body) → IsCookie key bytes body
     → open_answer key bytes now ports tag ≡ cond (not (has_ports ports body)) (Err fault.Ports)
-    (cond (not (nat_eq body.listener_tag tag)) (Err fault.Tag) (cond (nat_lt life (age now body)) (Err (fault.Stale (staleness now body))) (Ok body)))
+    (cond (not (nat_eq body.listener.tag tag)) (Err fault.Tag) (cond (nat_lt COOKIE_LIFE (age now body)) (Err (fault.Stale (staleness now body))) (Ok body)))
 unfolding open_answer
 cookie_answer key bytes now ports tag body cookie =
     let laid = cookie-laid_out key bytes body cookie in
     rw (laid_out-form bytes body laid, cookie-mac key bytes body cookie, laid_out-body bytes body laid) refl
 
 -- .. where it is for these ports and this tag
-belongs_answer : (key bytes : List ℕ) (now : ℕ) (ports : Ports) (tag : ℕ) (body : CookieBody) → Belongs key bytes ports tag body
-    → open_answer key bytes now ports tag ≡ cond (nat_lt life (age now body)) (Err (fault.Stale (staleness now body))) (Ok body)
+belongs_answer : (key bytes : List ℕ) (now : ℕ) (ports : Ports) (tag : ℕ) (body : Body) → Belongs key bytes ports tag body
+    → open_answer key bytes now ports tag ≡ cond (nat_lt COOKIE_LIFE (age now body)) (Err (fault.Stale (staleness now body))) (Ok body)
 belongs_answer key bytes now ports tag body belongs =
-    let tag_right : nat_eq body.listener_tag tag ≡ true = eq-eqb _ _ belongs.same_tag in
+    let tag_right : nat_eq body.listener.tag tag ≡ true = eq-eqb _ _ belongs.same_tag in
     cookie_answer key bytes now ports tag body belongs.cookie ∙ rw (same-ports ports body belongs.same_ports, tag_right) refl
 
-pub Opened-open_answer : (key bytes : List ℕ) (now : ℕ) (ports : Ports) (tag : ℕ) → AreBytes bytes → (outcome : Result CookieBody CookieFault)
+pub Opened-open_answer : (key bytes : List ℕ) (now : ℕ) (ports : Ports) (tag : ℕ) → AreBytes bytes → (outcome : Result Body CookieFault)
     → Opened key bytes now ports tag outcome → open_answer key bytes now ports tag ≡ outcome
 unfolding open_answer
 Opened-open_answer key bytes now ports tag are (Ok body) (belongs, fresh) =
-    let young : nat_lt life (age now body) ≡ false = false_from_ne_true _ (λ late. let past = ltb-true _ _ late in absurd (omega arith)) in
+    let young : nat_lt COOKIE_LIFE (age now body) ≡ false = false_from_ne_true _ (λ late. let past = ltb-true _ _ late in absurd (omega arith)) in
     belongs_answer key bytes now ports tag body belongs ∙ rw young refl
 Opened-open_answer key bytes now ports tag are (Err fault.Form) none =
     let wrong : has_form bytes ≡ false = false_from_ne_true _ (λ form. none (body_of bytes) (form-laid_out bytes are form)) in
@@ -152,34 +154,34 @@ Opened-open_answer key bytes now ports tag are (Err fault.Ports) (body, cookie, 
     let wrong : has_ports ports body ≡ false = false_from_ne_true _ (λ right. other (ports-same ports body right)) in
     cookie_answer key bytes now ports tag body cookie ∙ rw wrong refl
 Opened-open_answer key bytes now ports tag are (Err fault.Tag) (body, cookie, same, other) =
-    let wrong : nat_eq body.listener_tag tag ≡ false = false_from_ne_true _ (λ right. other (eqb-true _ _ right)) in
+    let wrong : nat_eq body.listener.tag tag ≡ false = false_from_ne_true _ (λ right. other (eqb-true _ _ right)) in
     cookie_answer key bytes now ports tag body cookie ∙ rw (same-ports ports body same, wrong) refl
 Opened-open_answer key bytes now ports tag are (Err (fault.Stale microseconds)) (body, belongs, past, counted) =
-    let late : nat_lt life (age now body) ≡ true = lt-ltb _ _ past in
+    let late : nat_lt COOKIE_LIFE (age now body) ≡ true = lt-ltb _ _ past in
     belongs_answer key bytes now ports tag body belongs ∙ rw (late, counted) refl
 
 -- a stale cookie opens at the moment 0
 pub stale-opens : (key bytes : List ℕ) (now : ℕ) (ports : Ports) (tag : ℕ) → AreBytes bytes → (microseconds : ℕ)
     → open_answer key bytes now ports tag ≡ Err (fault.Stale microseconds) → open_answer key bytes 0 ports tag ≡ Ok (body_of bytes)
 stale-opens key bytes now ports tag are microseconds stale =
-    let opened = subst (λ (r : Result CookieBody CookieFault). Opened key bytes now ports tag r) stale (open_answer-Opened key bytes now ports tag are) in
-    let body : CookieBody = opened.0 in
+    let opened = subst (λ (r : Result Body CookieFault). Opened key bytes now ports tag r) stale (open_answer-Opened key bytes now ports tag are) in
+    let body : Body = opened.0 in
     let belongs : Belongs key bytes ports tag body = opened.1 in
-    let fresh : nat_lt life (age 0 body) ≡ false = le-ltb _ _ (omega arith) in
+    let fresh : nat_lt COOKIE_LIFE (age 0 body) ≡ false = le-ltb _ _ (omega arith) in
     let read : body_of bytes ≡ body = laid_out-body bytes body (cookie-laid_out key bytes body belongs.cookie) in
     belongs_answer key bytes 0 ports tag body belongs ∙ rw (fresh, read) refl
 
 -- ---- what was sealed
 
-pub sealed-opens : (key : List ℕ) (now : ℕ) (body : CookieBody) → IsInRange body → now ≤ body.made + life
-    → open_answer key (sealed key body) now (ports_of body) body.listener_tag ≡ Ok body
+pub sealed-opens : (key : List ℕ) (now : ℕ) (body : Body) → IsInRange body → now ≤ body.made + COOKIE_LIFE
+    → open_answer key (sealed key body) now (ports_of body) body.listener.tag ≡ Ok body
 sealed-opens key now body in_range young =
-    let belongs : Belongs key (sealed key body) (ports_of body) body.listener_tag body =
+    let belongs : Belongs key (sealed key body) (ports_of body) body.listener.tag body =
     record { cookie = record { in_range = in_range; is_sealed = refl }; same_ports = refl; same_tag = refl } in
-    let fresh : nat_lt life (age now body) ≡ false = le-ltb _ _ (omega arith) in
-    belongs_answer key (sealed key body) now (ports_of body) body.listener_tag body belongs ∙ rw fresh refl
+    let fresh : nat_lt COOKIE_LIFE (age now body) ≡ false = le-ltb _ _ (omega arith) in
+    belongs_answer key (sealed key body) now (ports_of body) body.listener.tag body belongs ∙ rw fresh refl
 
-pub sealed-one : (key : List ℕ) (body other : CookieBody) → IsInRange body → IsInRange other → sealed key body ≡ sealed key other
+pub sealed-one : (key : List ℕ) (body other : Body) → IsInRange body → IsInRange other → sealed key body ≡ sealed key other
     → other ≡ body
 unfolding sealed
 sealed-one key body other in_range other_in_range same =

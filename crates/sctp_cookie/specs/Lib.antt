@@ -1,5 +1,9 @@
 pub mod Hmac
+pub mod CookieTree
 pub mod CookieBody
 pub mod Opens
+pub mod Seals
 pub use Rattle.sha2.specs.Sha256
 pub use Rattle.byteorder.specs.Endian
+pub use Rattle.sctp_model.specs.end.Sealing
+pub use Rattle.sctp_model.specs.end.Opening

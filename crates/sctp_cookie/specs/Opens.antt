@@ -1,32 +1,22 @@
 -- A state cookie: a body and the MAC of it (RFC 9260, 5.1.3), and when a listener takes it back (5.1.5).
-use Rattle.std.specs.Prelude.{◌≡◌, ◌≢◌, ℕ, ◌-◌, ◌*◌, ◌^◌, ◌<◌, ◌≤◌, List, ◌++◌, length, take, drop, min, Bool, not, ◌&&◌, ◌==◌, nat_lt, if◌then◌else◌, Result, Ok, Err}
+use Rattle.std.specs.Prelude.{◌≡◌, ◌≢◌, ℕ, ◌<◌, ◌≤◌, List, ◌++◌, length, take, drop, Bool, not, ◌&&◌, ◌==◌, nat_lt, if◌then◌else◌, Result, Ok, Err}
 use Rattle.std.specs.Str.{bytes_eq}
+use Rattle.sctp_model.specs.numbers.Limits.{COOKIE_LIFE}
+use Rattle.sctp_model.specs.end.Sealing.{Body, IsInRange}
+use Rattle.sctp_model.specs.end.Opening.{age, staleness}
 use Rattle.sctp_cookie.specs.Hmac.{hmac}
-use Rattle.sctp_cookie.specs.CookieBody.{body_bytes, body_of, has_form, IsInRange}
-use Rattle.sctp_cookie.specs.declared.body.CookieBody.{CookieBody}
+use Rattle.sctp_cookie.specs.CookieBody.{body_bytes, body_of, has_form}
 use Rattle.sctp_cookie.specs.declared.body.Ports.{Ports}
 use Rattle.sctp_cookie.specs.declared.sealing.CookieFault.{CookieFault}
 use Rattle.sctp_cookie.specs.declared.sealing.CookieFault.TheVariants as fault
 
 -- the cookie of a body under a key: the body's bytes, then their MAC
-unfoldable pub sealed : List ℕ → CookieBody → List ℕ
+unfoldable pub sealed : List ℕ → Body → List ℕ
 sealed key body = body_bytes body ++ hmac key (body_bytes body)
 
 -- the ports that a body names
-abbrev pub ports_of : CookieBody → Ports
-ports_of body = record { listener = body.listener_port; caller = body.caller_port }
-
--- the milliseconds since a body was made, 0 where that moment is still to come
-abbrev pub age : ℕ → CookieBody → ℕ
-age now body = now - body.made
-
--- how many milliseconds a cookie lives
-abbrev pub life : ℕ
-life = 60000
-
--- the microseconds past its life, at most the largest number of 32 bits (3.3.10.3)
-abbrev pub staleness : ℕ → CookieBody → ℕ
-staleness now body = min ((age now body - life) * 1000) (2 ^ 32 - 1)
+abbrev pub ports_of : Body → Ports
+ports_of body = record { listener = body.listener.port; caller = body.caller.port }
 
 -- ---- the answer, computed
 
@@ -35,46 +25,46 @@ unfoldable pub has_mac : List ℕ → List ℕ → Bool
 has_mac key bytes = bytes_eq (hmac key (take 40 bytes)) (drop 40 bytes)
 
 -- a body names these ports
-unfoldable pub has_ports : Ports → CookieBody → Bool
-has_ports ports body = body.listener_port == ports.listener && body.caller_port == ports.caller
+unfoldable pub has_ports : Ports → Body → Bool
+has_ports ports body = body.listener.port == ports.listener && body.caller.port == ports.caller
 
 -- the first check that fails, or the body
-unfoldable pub open_answer : List ℕ → List ℕ → ℕ → Ports → ℕ → Result CookieBody CookieFault
+unfoldable pub open_answer : List ℕ → List ℕ → ℕ → Ports → ℕ → Result Body CookieFault
 open_answer key bytes now ports tag =
     if not (has_form bytes) then Err fault.Form
     else if not (has_mac key bytes) then Err fault.Mac
     else if not (has_ports ports (body_of bytes)) then Err fault.Ports
-    else if not ((body_of bytes).listener_tag == tag) then Err fault.Tag
-    else if nat_lt life (age now (body_of bytes)) then Err (fault.Stale (staleness now (body_of bytes)))
+    else if not ((body_of bytes).listener.tag == tag) then Err fault.Tag
+    else if nat_lt COOKIE_LIFE (age now (body_of bytes)) then Err (fault.Stale (staleness now (body_of bytes)))
     else Ok (body_of bytes)
 
 -- ---- the answer, in the words of the layout
 
 -- these bytes are a body of the layout and 32 bytes more
-pub record IsLaidOut (bytes : List ℕ) (body : CookieBody) : Type 0 where
+pub record IsLaidOut (bytes : List ℕ) (body : Body) : Type 0 where
   pub in_range : IsInRange body
   pub mac : List ℕ
   pub mac_length : length mac ≡ 32
   pub layout : bytes ≡ body_bytes body ++ mac
 
 -- these bytes are the cookie of a body under this key
-pub record IsCookie (key bytes : List ℕ) (body : CookieBody) : Type 0 where
+pub record IsCookie (key bytes : List ℕ) (body : Body) : Type 0 where
   pub in_range : IsInRange body
   pub is_sealed : bytes ≡ sealed key body
 
 -- .. and the body is of these ports and this tag
-pub record Belongs (key bytes : List ℕ) (ports : Ports) (tag : ℕ) (body : CookieBody) : Type 0 where
+pub record Belongs (key bytes : List ℕ) (ports : Ports) (tag : ℕ) (body : Body) : Type 0 where
   pub cookie : IsCookie key bytes body
   pub same_ports : ports_of body ≡ ports
-  pub same_tag : body.listener_tag ≡ tag
+  pub same_tag : body.listener.tag ≡ tag
 
 -- what opening answers, each fault where the checks before it hold
-abbrev pub Opened : List ℕ → List ℕ → ℕ → Ports → ℕ → Result CookieBody CookieFault → Type 0
-Opened key bytes now ports tag (Ok body) = Belongs key bytes ports tag body × (age now body ≤ life)
-Opened key bytes now ports tag (Err fault.Form) = (body : CookieBody) → ¬ IsLaidOut bytes body
-Opened key bytes now ports tag (Err fault.Mac) = (body : CookieBody) × IsLaidOut bytes body × (bytes ≢ sealed key body)
-Opened key bytes now ports tag (Err fault.Ports) = (body : CookieBody) × IsCookie key bytes body × (ports_of body ≢ ports)
+abbrev pub Opened : List ℕ → List ℕ → ℕ → Ports → ℕ → Result Body CookieFault → Type 0
+Opened key bytes now ports tag (Ok body) = Belongs key bytes ports tag body × (age now body ≤ COOKIE_LIFE)
+Opened key bytes now ports tag (Err fault.Form) = (body : Body) → ¬ IsLaidOut bytes body
+Opened key bytes now ports tag (Err fault.Mac) = (body : Body) × IsLaidOut bytes body × (bytes ≢ sealed key body)
+Opened key bytes now ports tag (Err fault.Ports) = (body : Body) × IsCookie key bytes body × (ports_of body ≢ ports)
 Opened key bytes now ports tag (Err fault.Tag) =
-    (body : CookieBody) × IsCookie key bytes body × (ports_of body ≡ ports) × (body.listener_tag ≢ tag)
+    (body : Body) × IsCookie key bytes body × (ports_of body ≡ ports) × (body.listener.tag ≢ tag)
 Opened key bytes now ports tag (Err (fault.Stale microseconds)) =
-    (body : CookieBody) × Belongs key bytes ports tag body × (life < age now body) × (microseconds ≡ staleness now body)
+    (body : Body) × Belongs key bytes ports tag body × (COOKIE_LIFE < age now body) × (microseconds ≡ staleness now body)

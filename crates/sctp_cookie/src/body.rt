@@ -17,8 +17,10 @@
 //!
 //! Numbers stand high byte first.
 
-ghost use Rattle.std.specs.Prelude.{◌≡◌, length, if◌then◌else◌};
-ghost use Rattle.sctp_cookie.specs.CookieBody.{IsInRange, body_bytes, body_of, has_form, options_byte};
+ghost use Rattle.std.specs.Prelude.{◌≡◌, true, false, length, MatchOption};
+ghost use Rattle.sctp_model.specs.end.Sealing.{IsInRange};
+ghost use Rattle.sctp_cookie.specs.CookieBody.{body_bytes, body_of, has_form, options_byte};
+ghost use Rattle.sctp_cookie.specs.CookieTree.{body_meaning};
 
 use byteorder::{BigEndian, ByteOrder};
 
@@ -77,8 +79,8 @@ pub struct CookieBody {
 
 /// The 40 bytes of a body.
 pub(crate) fn body_bytes(body: CookieBody) -> [u8; BODY_LENGTH]
-    ensures layout { result ≡ body_bytes body }
-    ensures in_range { IsInRange body }
+    ensures layout { result ≡ body_bytes (body_meaning body) }
+    ensures in_range { IsInRange (body_meaning body) }
 {
     let mut bytes = [0; BODY_LENGTH];
     BigEndian::write_u64(&mut bytes, body.made);
@@ -97,7 +99,7 @@ pub(crate) fn body_bytes(body: CookieBody) -> [u8; BODY_LENGTH]
 
 // The options of a body in one byte.
 fn options_byte(body: &CookieBody) -> u8
-    ensures { result ≡ options_byte body.now }
+    ensures { result ≡ options_byte (body_meaning body.now) }
 {
     let partial_reliability = if body.partial_reliability {
         PARTIAL_RELIABILITY
@@ -112,7 +114,7 @@ fn options_byte(body: &CookieBody) -> u8
 /// options are above 3, or what must be zero isn't.
 #[tactic(auto, unfolding(crate::specs::CookieBody::has_form))]
 pub(crate) fn read_body(bytes: &[u8]) -> Option<CookieBody>
-    ensures { result ≡ (if has_form bytes.now then Some (body_of bytes.now) else None) }
+    ensures { MatchOption result (has_form bytes.now ≡ false) (λ body. (has_form bytes.now ≡ true) × (body_meaning body ≡ body_of bytes.now)) }
 {
     if has_form(bytes) {
         Some(body_of(bytes))
@@ -137,7 +139,7 @@ fn has_form(bytes: &[u8]) -> bool
 #[tactic(auto, unfolding(crate::specs::CookieBody::body_of))]
 fn body_of(bytes: &[u8]) -> CookieBody
     requires { length bytes.now ≡ 72 }
-    ensures { result ≡ body_of bytes.now }
+    ensures { body_meaning result ≡ body_of bytes.now }
 {
     let options = bytes[OPTIONS_AT];
     CookieBody {

@@ -33,6 +33,10 @@ impl Model for Key {
 
 /// Shows no byte of the key.
 impl fmt::Debug for Key {
+    ghost use Rattle.std.specs.Prelude.{Some, codes};
+
+    ghost debug_output = { λ _. Some (codes "Key(..)") };
+
     fn fmt<W: fmt::Write>(&self, f: &mut fmt::Formatter<W>) -> fmt::Result {
         write!(f, "Key(..)")
     }

@@ -2,10 +2,13 @@
 
 ghost use Rattle.std.specs.Prelude.{◌≡◌, ◌+◌, ◌≤◌, ℕ, Result, Some, None, Ok, length, nat_lt, if◌then◌else◌};
 ghost use Rattle.std.specs.Str.{bytes_eq};
-ghost use Rattle.sctp_cookie.specs.declared.body.CookieBody.{CookieBody};
+ghost use Rattle.sctp_model.specs.numbers.Limits.{COOKIE_LIFE};
+ghost use Rattle.sctp_model.specs.end.Sealing.{Body, IsInRange};
+ghost use Rattle.sctp_model.specs.end.Opening.{age, staleness};
 ghost use Rattle.sctp_cookie.specs.declared.sealing.CookieFault.{CookieFault};
-ghost use Rattle.sctp_cookie.specs.CookieBody.{IsInRange, body_of};
-ghost use Rattle.sctp_cookie.specs.Opens.{Opened, age, has_mac, life, open_answer, ports_of, sealed, staleness};
+ghost use Rattle.sctp_cookie.specs.CookieBody.{body_of};
+ghost use Rattle.sctp_cookie.specs.CookieTree.{body_meaning, opened_meaning};
+ghost use Rattle.sctp_cookie.specs.Opens.{Opened, has_mac, open_answer, ports_of, sealed};
 
 use crate::body::{BODY_LENGTH, COOKIE_LENGTH, CookieBody, Ports, body_bytes, read_body};
 use crate::hmac::{Key, hmac_sha256};
@@ -39,14 +42,14 @@ pub enum CookieFault {
 
 /// The cookie of `body` under `key`: the body's 40 bytes and their MAC (RFC 9260, 5.1.3).
 pub fn seal(key: &Key, body: &CookieBody) -> [u8; COOKIE_LENGTH]
-    ensures sealed { result ≡ sealed key.now body.now }
+    ensures sealed { result ≡ sealed key.now (body_meaning body.now) }
 
     // It opens until its life ends, to the same body.
-    ensures opens { (now : ℕ) → now ≤ body.now.made + life
-        → open_answer key.now result now (ports_of body.now) body.now.listener_tag ≡ Ok body.now }
+    ensures opens { (now : ℕ) → now ≤ body.now.made + COOKIE_LIFE
+        → open_answer key.now result now (ports_of (body_meaning body.now)) body.now.listener_tag ≡ Ok (body_meaning body.now) }
 
     // No other body has this sealing.
-    ensures one { (other : CookieBody) → IsInRange other → result ≡ sealed key.now other → other ≡ body.now }
+    ensures one { (other : Body) → IsInRange other → result ≡ sealed key.now other → other ≡ body_meaning body.now }
 {
     let body = body_bytes(*body);
     let mut cookie = [0; COOKIE_LENGTH];
@@ -71,15 +74,15 @@ pub fn open(
     tag: u32,
 ) -> Result<CookieBody, CookieFault>
     // The first check that fails, or the body.
-    ensures answer { result ≡ open_answer key.now bytes.now now ports tag }
+    ensures answer { opened_meaning result ≡ open_answer key.now bytes.now now ports tag }
 
     // It opens where the bytes are a body of the layout and its MAC, and the packet and the moment
     // are right; each fault is so where the checks before it hold.
-    ensures meaning { Opened key.now bytes.now now ports tag result }
+    ensures meaning { Opened key.now bytes.now now ports tag (opened_meaning result) }
 
     // There is no other answer with that meaning.
-    ensures only { (outcome : Result CookieBody CookieFault) → Opened key.now bytes.now now ports tag outcome
-        → result ≡ outcome }
+    ensures only { (outcome : Result Body CookieFault) → Opened key.now bytes.now now ports tag outcome
+        → opened_meaning result ≡ outcome }
 
     // A stale cookie's body is what opens at the moment 0.
     ensures stale { (microseconds : ℕ) → result ≡ Err (CookieFault.Stale microseconds)
@@ -97,7 +100,7 @@ fn checked_body(
     ports: Ports,
     tag: u32,
 ) -> Result<CookieBody, CookieFault>
-    ensures { result ≡ open_answer key.now bytes.now now ports tag }
+    ensures { opened_meaning result ≡ open_answer key.now bytes.now now ports tag }
 {
     let Some(body) = read_body(bytes) else {
         return Err(CookieFault::Form);
@@ -142,7 +145,7 @@ fn same_bytes(left: &[u8], right: &[u8]) -> bool
 
 // The ports that a body names.
 fn ports_of(body: &CookieBody) -> Ports
-    ensures { result ≡ ports_of body.now }
+    ensures { result ≡ ports_of (body_meaning body.now) }
 {
     Ports {
         listener: body.listener_port,
@@ -152,7 +155,7 @@ fn ports_of(body: &CookieBody) -> Ports
 
 // By how many microseconds a body is past its life, if it is.
 fn staleness(now: u64, body: &CookieBody) -> Option<u32>
-    ensures { result ≡ (if nat_lt life (age now body.now) then Some (staleness now body.now) else None) }
+    ensures { result ≡ (if nat_lt COOKIE_LIFE (age now (body_meaning body.now)) then Some (staleness now (body_meaning body.now)) else None) }
 {
     let age = now.saturating_sub(body.made);
     if age <= LIFE_MS {

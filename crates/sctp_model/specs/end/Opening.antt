@@ -1,5 +1,6 @@
 -- How an association begins: INIT, INIT ACK, COOKIE ECHO, COOKIE ACK (RFC 9260, 5.1).
 use Rattle.std.specs.Prelude.{◌≡◌, ℕ, ◌-◌, ◌*◌, ◌^◌, ◌<◌, ◌⊎◌, min, nat_le, Bool, true, false, ◌&&◌, ◌||◌, ◌==◌, if◌then◌else◌, List, [], ◌∷◌, ◌++◌, Option, Some, None}
+use Rattle.sctp_model.specs.numbers.Limits.{COOKIE_LIFE}
 use Rattle.sctp_model.specs.numbers.Numbers.{u16_bytes, u32_bytes}
 use Rattle.sctp_model.specs.wire.Typed.{Typed, typed_in}
 use Rattle.sctp_model.specs.wire.Unknown.{parameters_reported}
@@ -139,17 +140,13 @@ pub data InitAckActs (e : EndView) (m : InitMeaning) : After → Type 0 where
 
 -- ---- COOKIE ECHO (5.1.5 and 5.2.4)
 
--- how long a cookie lives, in milliseconds (Valid.Cookie.Life of RFC 9260, 16)
-abbrev pub COOKIE_LIFE : ℕ
-COOKIE_LIFE = 60000
-
--- the milliseconds since a cookie was made; none where that was later
-abbrev pub age : EndView → Body → ℕ
-age e b = e.moment - b.made
+-- the milliseconds from when a cookie was made to this moment; none where that was later
+abbrev pub age : (moment : ℕ) → Body → ℕ
+age moment b = moment - b.made
 
 -- by how many microseconds it outlived its life, as far as the field of 32 bits can tell (3.3.10.3)
-abbrev pub staleness : EndView → Body → ℕ
-staleness e b = min ((age e b - COOKIE_LIFE) * 1000) (2 ^ 32 - 1)
+abbrev pub staleness : (moment : ℕ) → Body → ℕ
+staleness moment b = min ((age moment b - COOKIE_LIFE) * 1000) (2 ^ 32 - 1)
 
 -- The cookie was made for this pair of ports, and for the tag under which it came back (5.1.5, item 2).
 abbrev pub is_addressed : EndView → ℕ → Body → Bool
@@ -164,7 +161,7 @@ pub data CookieRead : Type 0 where
 -- what a listener reads in a body, or in none
 abbrev pub body_read : EndView → ℕ → Option Body → CookieRead
 body_read e tag None = Strange
-body_read e tag (Some b) = if is_addressed e tag b then (if nat_le (age e b) COOKIE_LIFE then CookieOpens b else CookieLate b) else Strange
+body_read e tag (Some b) = if is_addressed e tag b then (if nat_le (age e.moment b) COOKIE_LIFE then CookieOpens b else CookieLate b) else Strange
 
 -- what a listener reads in the bytes of a cookie
 abbrev pub cookie_read : Sealing → EndView → ℕ → List ℕ → CookieRead

@@ -43,7 +43,7 @@ init_verdict (Some s) e d m =
 
 -- a cookie that doesn't open: one that is too old alone is told by how much (5.1.5, item 3)
 abbrev pub cookie_verdict : EndView → CookieRead → Verdict
-cookie_verdict e (CookieLate b) = Answer (packet_to e.configuration b.caller.tag (Error (written (item STALE_COOKIE (u32_bytes (staleness e b)) ∷ []))))
+cookie_verdict e (CookieLate b) = Answer (packet_to e.configuration b.caller.tag (Error (written (item STALE_COOKIE (u32_bytes (staleness e.moment b)) ∷ []))))
 cookie_verdict e (CookieOpens b) = Dropped COOKIE
 cookie_verdict e Strange = Dropped COOKIE
 

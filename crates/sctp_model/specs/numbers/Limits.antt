@@ -70,3 +70,9 @@ DUPLICATE_LIMIT = 16
 -- maximal runs above the cumulative index: an index may lie at most WINDOW above it
 abbrev pub RUN_LIMIT : ℕ
 RUN_LIMIT = 16_383
+
+-- ---- time, in milliseconds
+
+-- how long a cookie lives (Valid.Cookie.Life of RFC 9260, 16)
+abbrev pub COOKIE_LIFE : ℕ
+COOKIE_LIFE = 60_000

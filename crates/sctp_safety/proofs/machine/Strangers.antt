@@ -2,12 +2,13 @@
 use Rattle.std.proofs.Common.{◌≡◌, ℕ, nat_le, Bool, true, false, List, [], ◌∷◌, Option, Some, None, inl, inr, refl, sym, subst, ap, eqb-true}
 use Rattle.std.specs.Prelude.{if◌then◌else◌}
 use Rattle.sctp_model.specs.numbers.Lists.{Has}
+use Rattle.sctp_model.specs.numbers.Limits.{COOKIE_LIFE}
 use Rattle.sctp_model.specs.wire.Chunk.{InitMeaning, ChunkMeaning, Data, IData, Init, InitAck, Sack, Heartbeat, HeartbeatAck, Abort, Shutdown, ShutdownAck, Error, CookieEcho, CookieAck, ShutdownComplete, ForwardTsn, IForwardTsn, Unknown}
 use Rattle.sctp_model.specs.wire.Packet.{Packet}
 use Rattle.sctp_model.specs.wire.Places.{ArePlaced}
 use Rattle.sctp_model.specs.end.Sealing.{Body, Sealing}
 use Rattle.sctp_model.specs.end.EndView.{Tags, Draw, Phase, Idle, Listening, Calling, Echoing, Open, Over, Role, Caller, Paired, Listener, EndView, has_association}
-use Rattle.sctp_model.specs.end.Opening.{CookieOpens, CookieLate, Strange, is_addressed, body_read, age, COOKIE_LIFE}
+use Rattle.sctp_model.specs.end.Opening.{CookieOpens, CookieLate, Strange, is_addressed, body_read, age}
 use Rattle.sctp_model.specs.end.Passing.{passes_tag, passes_first, passes_chunks}
 use Rattle.sctp_model.specs.end.Strays.{Verdict, holds_abort, seal_at, listens, body_of, body_in, body_among}
 use Rattle.sctp_model.specs.end.Arriving.{AllAct, NoneLeft, Next, Last, EndsAnswered, Stopped, Arrives, Elsewhere, NotOurs, Stray, CookieBegins, Heard}
@@ -102,9 +103,9 @@ opens_is e tag (Some x) b h = go (is_addressed e tag x) refl h
     inner true q = cc
     inner false q = absurd (cc)
 
-    go : (a : Bool) → is_addressed e tag x ≡ a → body_of (if a then (if nat_le (age e x) COOKIE_LIFE then CookieOpens x else CookieLate x) else Strange) ≡ Some b →
+    go : (a : Bool) → is_addressed e tag x ≡ a → body_of (if a then (if nat_le (age e.moment x) COOKIE_LIFE then CookieOpens x else CookieLate x) else Strange) ≡ Some b →
         (Some x ≡ Some b) × (is_addressed e tag b ≡ true)
-    go true a q = let s = inner (nat_le (age e x) COOKIE_LIFE) q in (ap (λ (y : Body). Some y) s, subst (λ (y : Body). is_addressed e tag y ≡ true) s a)
+    go true a q = let s = inner (nat_le (age e.moment x) COOKIE_LIFE) q in (ap (λ (y : Body). Some y) s, subst (λ (y : Body). is_addressed e tag y ≡ true) s a)
     go false a q = absurd (cc)
 
 pub found_is : (e : EndView) (tag : ℕ) (xs : List ChunkMeaning) (b : Body) → body_among e tag xs ≡ Some b → IsFound e tag xs b

@@ -1,6 +1,7 @@
-use Rattle.std.proofs.Common.{arith, sym, ◌∙◌, subst, Result}
+use Rattle.std.proofs.Common.{arith, ap, sym, ◌∙◌, subst, Result}
+use Rattle.sctp_model.specs.end.Sealing.{Body}
 use Rattle.sctp_cookie.specs.Opens.{Opened}
-use Rattle.sctp_cookie.specs.declared.body.CookieBody.{CookieBody}
+use Rattle.sctp_cookie.specs.CookieTree.{opened_meaning}
 use Rattle.sctp_cookie.specs.declared.sealing.CookieFault.{CookieFault}
 use Rattle.sctp_cookie.proofs.Opening.{Opened-open_answer, open_answer-Opened, stale-opens}
 use Rattle.sctp_cookie.proofs.sealing.open.Goals as goal
@@ -8,7 +9,7 @@ use Rattle.sctp_cookie.proofs.sealing.open.Goals as goal
 pub returns-clause-meaning : goal.returns-clause-meaning
 returns-clause-meaning c =
     let a = c.args in
-    subst (λ (r : Result CookieBody CookieFault). Opened a.key.now a.bytes.now a.now a.ports a.tag r) (sym c.checked_body.ensures)
+    subst (λ (r : Result Body CookieFault). Opened a.key.now a.bytes.now a.now a.ports a.tag r) (sym c.checked_body.ensures)
     (open_answer-Opened a.key.now a.bytes.now a.now a.ports a.tag (λ i. omega (arith, c.type_inv.bytes i)))
 
 pub returns-clause-only : goal.returns-clause-only
@@ -19,4 +20,4 @@ returns-clause-only c = λ outcome opened.
 pub returns-clause-stale : goal.returns-clause-stale
 returns-clause-stale c = λ microseconds stale.
     let a = c.args in
-    stale-opens a.key.now a.bytes.now a.now a.ports a.tag (λ i. omega (arith, c.type_inv.bytes i)) microseconds (sym c.checked_body.ensures ∙ stale)
+    stale-opens a.key.now a.bytes.now a.now a.ports a.tag (λ i. omega (arith, c.type_inv.bytes i)) microseconds (sym c.checked_body.ensures ∙ ap opened_meaning stale)

@@ -1,0 +1,23 @@
+-- What the types of this crate say.
+use Rattle.std.specs.Prelude.{Result, Ok, Err}
+use Rattle.sctp_model.specs.end.Sealing.{Body}
+use Rattle.sctp_cookie.specs.declared.body.CookieBody.{CookieBody}
+use Rattle.sctp_cookie.specs.declared.sealing.CookieFault.{CookieFault}
+
+-- a cookie's body
+abbrev pub body_meaning : CookieBody → Body
+body_meaning b = record {
+  made = b.made;
+  listener = record { port = b.listener_port; tag = b.listener_tag; tsn = b.listener_tsn };
+  caller = record { port = b.caller_port; tag = b.caller_tag; tsn = b.caller_tsn };
+  rwnd = b.caller_rwnd;
+  to_caller = b.streams_to_caller;
+  from_caller = b.streams_from_caller;
+  partial = b.partial_reliability;
+  interleave = b.interleaving;
+}
+
+-- what opening a cookie answers
+abbrev pub opened_meaning : Result CookieBody CookieFault → Result Body CookieFault
+opened_meaning (Ok body) = Ok (body_meaning body)
+opened_meaning (Err fault) = Err fault
