@@ -1,0 +1,133 @@
+#!/bin/sh
+# Tries the wrong bodies that stand beside the gate, crates/NAME/wrong-bodies/*.edit: the prover must refuse each. They have the form of
+# crates/NAME/must-fail/*.edit, which the gate tries. To be run by hand, before a crate's contracts change and at the end of a stage:
+#   tests/wrong-bodies.sh                      all of them (some two hours of processor time)
+#   tests/wrong-bodies.sh sctp_send ..         those of these crates
+#   tests/wrong-bodies.sh sctp_send/NAME ..    this one alone (of must-fail too), NAME without its ending
+#   tests/wrong-bodies.sh --look [CRATE ..]    tries none, and says which of all edits, of must-fail too, don't fit: an edit fits where its
+#                                              file is there, and each of its old texts stands in it once
+# It works on a copy of what the crates stand on, with the libraries that earlier checks left in out/ (`rt all check` makes those that are
+# missing or old in the checkout; here they would be made again). It ends with 0 where each was refused, or fits.
+
+root=$(CDPATH='' cd -- "$(dirname -- "$0")/.." && pwd -P) || exit 3
+cd -- "$root" || exit 3
+
+# The crates that these stand on, and these.
+closure() {
+    awk -v wanted="$*" '
+        /^[a-z]/ { name = $1; sub(":", "", name); $1 = ""; stands[name] = $0 }
+        function add(name,   parts, count, at) {
+            if (!(name in stands) || name in added) return
+            added[name] = 1
+            count = split(stands[name], parts, " ")
+            for (at = 1; at <= count; at++) add(parts[at])
+            print name
+        }
+        END { count = split(wanted, names, " "); for (at = 1; at <= count; at++) add(names[at]) }
+    ' crates.txt
+}
+
+# Whether the edit of this file fits the crate in this folder; else it says why not.
+fits() {
+    awk -v folder="$1" -v edit="$2" '
+        function refuse(why) { printf "%s: %s\n", edit, why; refused = 1; exit 1 }
+        function text_of(path,   line, text, got) {
+            while ((got = (getline line < path)) > 0) text = text line "\n"
+            if (got < 0) refuse("there is no file " path)
+            close(path)
+            return text
+        }
+        function count_of(text, part,   at, found) {
+            while ((at = index(text, part)) > 0) { found++; text = substr(text, at + length(part)) }
+            return found + 0
+        }
+        /^file: / { path = folder "/" substr($0, 7) }
+        /^old: / { old = substr($0, 6) }
+        /^new:/ {
+            new = substr($0, 5); sub(/^ /, "", new)
+            if (path == "" || old == "") refuse("a new text stands before a file or an old text")
+            if (!(path in texts)) texts[path] = text_of(path)
+            found = count_of(texts[path], old)
+            if (found != 1) refuse("an old text stands in " path " " found " times: " old)
+            at = index(texts[path], old)
+            texts[path] = substr(texts[path], 1, at - 1) new substr(texts[path], at + length(old))
+            pairs++; old = ""
+        }
+        END { if (!refused && !pairs) refuse("it has no old and new text") }
+    ' "$2"
+}
+
+# Each edit of each crate: whether it fits, and stands in one folder alone.
+look() {
+    count=0 failed=0
+    for crate in $*; do
+        for edit in crates/"$crate"/must-fail/*.edit crates/"$crate"/wrong-bodies/*.edit; do
+            [ -e "$edit" ] || continue
+            count=$((count + 1))
+            fits "crates/$crate" "$edit" || failed=$((failed + 1))
+            other=crates/$crate/wrong-bodies/${edit##*/}
+            if [ "$edit" != "$other" ] && [ -e "$other" ]; then
+                echo "$edit: another of this name stands in wrong-bodies"
+                failed=$((failed + 1))
+            fi
+        done
+    done
+    echo "$((count - failed)) of $count edits fit"
+    [ $failed = 0 ]
+}
+
+# Lays what crates stand on into the copy.
+lay() {
+    mkdir -p "$room/crates" || exit 3
+    closure "$@" >"$room/names"
+    grep -E "^($(paste -s -d '|' "$room/names")):" crates.txt >"$room/crates.txt"
+    cp -- HANDLES "$room/" || exit 3
+    while read -r crate; do
+        mkdir -p "$room/crates/$crate/out" || exit 3
+        for part in src specs proofs out/rlib; do
+            if [ -e "crates/$crate/$part" ]; then
+                cp -a -- "crates/$crate/$part" "$room/crates/$crate/$part" || exit 3
+            fi
+        done
+    done <"$room/names"
+}
+
+# Tries these edits of a crate.
+try() {
+    crate=$1
+    shift
+    mkdir -p "$room/crates/$crate/must-fail" && cp -- "$@" "$room/crates/$crate/must-fail/" || exit 3
+    (cd -- "$room" && rt must-fail "$crate")
+    ended=$?
+    rm -r -- "$room/crates/$crate/must-fail"
+    if [ $ended = 0 ]; then echo "$crate: $# refused"; else echo "$crate: not each of $# refused"; fi
+    return $ended
+}
+
+all=$(for folder in crates/*/wrong-bodies; do [ -d "$folder" ] && basename "$(dirname "$folder")"; done)
+if [ "${1:-}" = --look ]; then
+    shift
+    [ $# -gt 0 ] || set -- $(cd crates && ls)
+    look "$@"
+    exit
+fi
+[ $# -gt 0 ] || set -- $all
+room=$(mktemp -d) || exit 3
+trap 'rm -rf -- "$room"' EXIT
+trap 'exit 130' HUP INT TERM
+lay $(printf '%s\n' "$@" | sed 's,/.*,,')
+status=0
+for word in "$@"; do
+    crate=${word%%/*}
+    case $word in
+        */*) set -- crates/"$crate"/[mw]*/"${word#*/}".edit ;;
+        *) set -- crates/"$crate"/wrong-bodies/*.edit ;;
+    esac
+    if [ -e "$1" ]; then
+        try "$crate" "$@" || status=1
+    else
+        echo "$word: there is no such edit"
+        status=1
+    fi
+done
+exit $status
