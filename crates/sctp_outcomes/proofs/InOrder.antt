@@ -1,20 +1,24 @@
--- Both plans are orderly, both receivers at rest, and both senders as their calls leave them.
-use Rattle.std.proofs.Common.{◌≡◌, ℕ, ◌<◌, true, false, List, inl, inr, refl, sym, subst, ap, arith, ◌∙◌}
+-- Both receivers are at rest and within their buffers, both plans orderly, and both senders as their calls leave them.
+use Rattle.std.proofs.Common.{◌≡◌, ℕ, true, false, inl, inr, sym, subst, arith}
 use Rattle.sctp_model.specs.messages.Format.{Format}
 use Rattle.sctp_model.specs.messages.Orderly.{Orderly}
 use Rattle.sctp_model.specs.sender.SenderView.{SenderView, fresh_sender}
 use Rattle.sctp_model.specs.sender.Reached.{IsReached, Begins}
-use Rattle.sctp_model.specs.receiver.Laws.{IsAtRest}
+use Rattle.sctp_model.specs.receiver.Laws.{IsAtRest, FitsBuffer}
+use Rattle.sctp_model.specs.receiver.ReceiverView.{ReceiverView}
+use Rattle.sctp_model.proofs.receiver.HeldBytes.{fresh_fits, piece_fits, forward_fits, sent_fits, take_fits}
 use Rattle.sctp_model.proofs.receiver.AtRest.{fresh_at_rest, piece_at_rest, sent_at_rest, take_at_rest}
 use Rattle.sctp_model.proofs.receiver.ForwardAtRest.{forward_at_rest}
-use Rattle.sctp_model.specs.end.EndView.{Phase, Listening, EndView, format_of}
+use Rattle.sctp_model.specs.end.EndView.{Phase, EndView, format_of}
 use Rattle.sctp_model.specs.world.World.{Side, A, B, World, end_of}
 use Rattle.sctp_safety.specs.Agreement.{was_open}
 use Rattle.sctp_safety.proofs.OrderlyCalls.{plan_stays_orderly}
 use Rattle.sctp_safety.proofs.runs.Unmet.{IsBlank}
 use Rattle.sctp_safety.proofs.runs.Safety.{IsKept, kept_always}
-use Rattle.sctp_outcomes.specs.Views.{IsInOrder, AreViewsInOrder, ViewsAreInOrder}
+use Rattle.sctp_outcomes.specs.Views.{SendersAreInOrder, ReceiversAreAtRest, BuffersHold}
 use Rattle.sctp_outcomes.proofs.Receivers.{IsReceiverLaw, holds_always}
+
+-- ---- receivers
 
 rest_law : IsReceiverLaw IsAtRest
 rest_law = record {
@@ -24,6 +28,27 @@ rest_law = record {
   sent = λ f r o. sent_at_rest f r o;
   taken = λ f r s h t o takes. take_at_rest f r s h t o takes;
 }
+
+pub receivers_are_at_rest : ReceiversAreAtRest
+receivers_are_at_rest s events answers w run x = holds_always IsAtRest rest_law s events answers w run x
+
+-- what is held fits, in either format
+abbrev Fits : Format → ReceiverView → Type 0
+Fits f r = FitsBuffer r
+
+fits_law : IsReceiverLaw Fits
+fits_law = record {
+  fresh = λ f i n b. fresh_fits i n b;
+  piece = λ f r p a t o came. piece_fits f r p a t o came;
+  forward = λ f r m a t o came. forward_fits f r m a t o came;
+  sent = λ f r o. sent_fits r o;
+  taken = λ f r s h t o takes. take_fits r s h t o takes;
+}
+
+pub buffers_hold : BuffersHold
+buffers_hold s events answers w run x = holds_always Fits fits_law s events answers w run x
+
+-- ---- senders
 
 -- a plan with nothing in it
 nothing_planned : (f : Format) (i n k r : ℕ) (p : _) → Orderly f (fresh_sender i n k r p).plan
@@ -43,10 +68,5 @@ plans_orderly w (inl k) x = blank_orderly (end_of w x) (k.ends x).blank
 plans_orderly w (inr m) A = plan_stays_orderly (format_of w.a) w.a.sender m.met.met.going.reached
 plans_orderly w (inr m) B = plan_stays_orderly (format_of w.b) w.b.sender m.met.met.coming.reached
 
-pub views_are_in_order : ViewsAreInOrder
-views_are_in_order s events w r =
-    let k = kept_always s events w r in
-    record {
-      ends = λ x. record { plan = plans_orderly w k x; receiver = holds_always IsAtRest rest_law s events r.answers w r.run x };
-      senders = senders_reached w k;
-    }
+pub senders_are_in_order : SendersAreInOrder
+senders_are_in_order s events w r = let k = kept_always s events w r in record { plans = plans_orderly w k; reached = senders_reached w k }

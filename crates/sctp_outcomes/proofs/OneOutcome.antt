@@ -1,4 +1,4 @@
--- In every world that can be reached an event has one outcome, and leaves one world.
+-- In every world of every run an event has one outcome, and leaves one world.
 use Rattle.std.proofs.Common.{◌≡◌, ℕ, List, [], ◌∷◌, Option, Some, None, refl, sym, subst, ap, ◌∙◌}
 use Rattle.sctp_model.specs.numbers.Lists.{item_at}
 use Rattle.sctp_model.specs.wire.Chunk.{ChunkMeaning}
@@ -116,4 +116,4 @@ one_step w ordinary e o p v u (PacketComes _ x q t d b a) (PacketComes _ y r z k
     )
 
 pub outcomes_are_one : OutcomesAreOne
-outcomes_are_one s events w r e o p v u one other = one_step w (holds_always IsOrdinary ordinary_law s events r.answers w r.run) e o p v u one other
+outcomes_are_one s events answers w run e o p v u one other = one_step w (holds_always IsOrdinary ordinary_law s events answers w run) e o p v u one other

@@ -22,7 +22,7 @@ use Rattle.sctp_model.specs.end.Moments.{ticked}
 use Rattle.sctp_model.specs.end.UserCalls.{send_answer, shut, abort_answer, abort_leaves}
 use Rattle.sctp_model.specs.world.World.{Side, A, B, World, end_of, end_now, start, Setup}
 use Rattle.sctp_model.specs.world.Events.{Event, Outcome}
-use Rattle.sctp_model.specs.world.Steps.{Step, OpensBoth, OpenRefused, TimePasses, Draws, Connects, ConnectRefused, BuildsOne, BuildsNone, PacketComes, IsAbsent, Unread, Sends, AbandonsOne, TakesOne, ShutsDown, AbortsIt, CutFirst, CutLater, NoMemory, Run, Rest, Then}
+use Rattle.sctp_model.specs.world.Steps.{Step, OpensBoth, OpenRefused, TimePasses, Draws, Connects, ConnectRefused, BuildsOne, BuildsNone, PacketComes, IsAbsent, Unread, Sends, AbandonsOne, TakesOne, ShutsDown, AbortsIt, CutFirst, CutLater, UnreadCut, NoMemory, Run, Rest, Then}
 use Rattle.sctp_safety.proofs.machine.Sides.{unknown_goes, unknown_ends, unknown_never_replies}
 use Rattle.sctp_outcomes.proofs.Unheard.{IsUnheard, unheard_rested, unheard_ticked, unheard_sent, unheard_abandoned, unheard_shut, unheard_aborted}
 use Rattle.sctp_safety.proofs.machine.OneEnd.{IsAt, at_end, at_log, at_packet, at_came, answer_of, at_verdict, abort_of, at_abort, both_ends}
@@ -204,6 +204,7 @@ module _ (P : Format → ReceiverView → Type 0) (law : IsReceiverLaw P) where
       (holds_same (end_of w x) _ (unheard_aborted (end_of w x) (abort_answer (end_of w x) r)) (k x))
   holds_step w e o v k (CutFirst _ x p brings) = holds_at w v x (end_now w x) None (at_came w x (end_now w x)) k (k x)
   holds_step w e o v k (CutLater _ x p y front back c t d brings part arrives untold) = holds_at w v x t None (at_came w x t) k (holds_arrives (end_now w x) w.draw _ t d (k x) arrives)
+  holds_step w e o v k (UnreadCut x) = holds_at w v x (end_now w x) None (at_came w x (end_now w x)) k (k x)
   holds_step w e o v k (NoMemory _ other_event) = k
 
   holds_run : (w : World) (es : List Event) (os : List (Option Outcome)) (v : World) → HoldsIn w → Run w es os v → HoldsIn v

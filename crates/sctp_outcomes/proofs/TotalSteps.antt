@@ -1,4 +1,4 @@
--- In every world that can be reached, each event has an outcome.
+-- In every world of every run each event has an outcome.
 use Rattle.std.proofs.Common.{◌≡◌, ℕ, Bool, true, false, List, [], ◌∷◌, Option, Some, None, refl}
 use Rattle.sctp_model.specs.numbers.Lists.{item_at}
 use Rattle.sctp_model.specs.wire.Chunk.{ChunkMeaning}
@@ -71,4 +71,4 @@ module _ (w : World) (bounded : HoldsIn IsBounded bounded_law w) where
   has_outcome (Abort x r) can = (_, _, AbortsIt x r)
 
 pub events_have_outcomes : EventsHaveOutcomes
-events_have_outcomes s events w r e can = has_outcome w (holds_always IsBounded bounded_law s events r.answers w r.run) e can
+events_have_outcomes s events answers w run e can = has_outcome w (holds_always IsBounded bounded_law s events answers w run) e can

@@ -1,10 +1,9 @@
--- In every world that can be reached, each event has an outcome, and one only.
-use Rattle.std.specs.Prelude.{◌≡◌, ◌^◌, ◌<◌, List, Some}
+-- In every world of every run, whatever strangers know, each event has an outcome, and one only.
+use Rattle.std.specs.Prelude.{◌≡◌, ◌^◌, ◌<◌, List, Option, Some}
 use Rattle.sctp_model.specs.wire.Places.{ArePlaced}
-use Rattle.sctp_model.specs.world.World.{World, Setup}
+use Rattle.sctp_model.specs.world.World.{World, Setup, start}
 use Rattle.sctp_model.specs.world.Events.{Event, OpenBoth, At, Drawing, Connect, Foreign, Outcome}
-use Rattle.sctp_model.specs.world.Steps.{IsDraw, Step}
-use Rattle.sctp_model.specs.world.Premises.{IsReachable}
+use Rattle.sctp_model.specs.world.Steps.{IsDraw, Step, Run}
 
 -- What may happen: chance hands in draws, a moment has 64 bits, and in a foreign packet that reads each chunk stands where it may.
 abbrev pub CanHappen : Event → Type 0
@@ -19,11 +18,12 @@ CanHappen e = Unit {0}
 abbrev pub HasOutcome : World → Event → Type 0
 HasOutcome w e = (o : Outcome) × (v : World) × Step w e (Some o) v
 
--- Every event that may happen has one.
+-- Every event that may happen has one, in every world that events lead to from the start.
 abbrev pub EventsHaveOutcomes : Type 0
-EventsHaveOutcomes = (s : Setup) (events : List Event) (w : World) → IsReachable s events w → (e : Event) → CanHappen e → HasOutcome w e
+EventsHaveOutcomes = (s : Setup) (events : List Event) (answers : List (Option Outcome)) (w : World) → Run (start s) events answers w →
+    (e : Event) → CanHappen e → HasOutcome w e
 
 -- And no event has two: what is answered, unless memory is wanted, and the world that is left are one.
 abbrev pub OutcomesAreOne : Type 0
-OutcomesAreOne = (s : Setup) (events : List Event) (w : World) → IsReachable s events w → (e : Event) (o p : Outcome) (v u : World) →
-    Step w e (Some o) v → Step w e (Some p) u → (o ≡ p) × (v ≡ u)
+OutcomesAreOne = (s : Setup) (events : List Event) (answers : List (Option Outcome)) (w : World) → Run (start s) events answers w →
+    (e : Event) (o p : Outcome) (v u : World) → Step w e (Some o) v → Step w e (Some p) u → (o ≡ p) × (v ≡ u)

@@ -13,4 +13,6 @@ pub use examples::{
 };
 pub use outcomes::{every_event_has_an_outcome, every_event_has_one_outcome};
 pub use steps::{each_end_has_one_next_packet, each_packet_has_one_verdict};
-pub use views::both_views_are_in_order;
+pub use views::{
+    both_receivers_are_at_rest, both_senders_are_in_order, no_receiver_passes_its_buffer,
+};

@@ -1,9 +1,20 @@
 //! What both ends' senders and receivers are, in every world.
 
-ghost use Rattle.sctp_outcomes.specs.Views.{ViewsAreInOrder};
+ghost use Rattle.sctp_outcomes.specs.Views.{BuffersHold, ReceiversAreAtRest, SendersAreInOrder};
 
-/// In every world that can be reached both plans are orderly and both receivers at rest: all that is due was handed over, and nothing is kept twice. Once the ends have
-/// met, each sender is one that its calls reach (RFC 9260, 6.6 and 6.9; RFC 8260, 2.2).
-pub fn both_views_are_in_order()
-    ensures { ViewsAreInOrder }
+/// In every world that can be reached both plans are orderly; and once the ends have met, each sender is one that its calls reach (RFC 9260, 6.6 and 6.9;
+/// RFC 8260, 2.2).
+pub fn both_senders_are_in_order()
+    ensures { SendersAreInOrder }
+{}
+
+/// In every world of every run, also of one that meets no premise, both receivers are at rest: all that is due was handed over, and nothing is kept twice
+/// (RFC 9260, 6.6 and 6.9).
+pub fn both_receivers_are_at_rest()
+    ensures { ReceiversAreAtRest }
+{}
+
+/// And there what a receiver holds, kept chunks and messages that wait, is never more than its buffer (RFC 9260, 6.2).
+pub fn no_receiver_passes_its_buffer()
+    ensures { BuffersHold }
 {}

@@ -18,6 +18,7 @@ mod MetSteps
 pub mod ApartWorld
 mod ApartSteps
 pub mod Safety
+pub mod Courses
 mod Arrived
 mod Drained
 mod Homes

@@ -34,7 +34,10 @@ pub use sender::{
 pub use told::{
     a_message_is_given_up_by_its_ticket, a_message_is_told_by_its_ticket, nothing_is_left_to_expire,
 };
-pub use two_ends::{nothing_is_missing_once_completed, two_ends_are_safe};
+pub use two_ends::{
+    a_beginning_meets_the_premises, a_run_passes_its_worlds, each_world_on_the_way_is_safe,
+    nothing_is_missing_once_completed, two_ends_are_safe,
+};
 pub use worlds::{
     a_message_arrives, every_event_is_answered, safe_in_every_run, safe_in_every_world,
 };

@@ -1,6 +1,6 @@
 //! What holds of two ends in every world of every run.
 
-ghost use Rattle.sctp_safety.specs.Runs.{NothingIsMissing, TwoEndsAreSafe};
+ghost use Rattle.sctp_safety.specs.Runs.{BeginningsAreRuns, BeginningsMeetThePremises, EachWorldIsSafe, NothingIsMissing, PassingIsARun, RunsGoOn, RunsHaveWorlds, TwoEndsAreSafe};
 
 /// The headline. Whatever two users call, whatever packets are lost, repeated, reordered, cut for want of memory or sent by strangers that carry
 /// neither a drawn tag nor a cookie of the listener's: in both directions each stream hands over messages that the peer sent on it, whole, each at most
@@ -10,8 +10,26 @@ pub fn two_ends_are_safe()
     ensures { TwoEndsAreSafe }
 {}
 
-/// Closing. Whatever happens, an end that completes its association by SHUTDOWN, SHUTDOWN ACK and SHUTDOWN COMPLETE knows that nothing is missing: every
-/// message that took an index at either end, without order too, was handed over at the other, or abandoned by its sender (RFC 9260, 9.2).
+/// Closing. In every run of which the same is asked, an end that completes its association by SHUTDOWN, SHUTDOWN ACK and SHUTDOWN COMPLETE knows that nothing
+/// is missing: every message that took an index at either end, without order too, was handed over at the other, or abandoned by its sender (RFC 9260, 9.2).
 pub fn nothing_is_missing_once_completed()
     ensures { NothingIsMissing }
+{}
+
+/// Where a run goes on from a world that a run led to, and the premises hold of the events of both, both promises hold in each world on the way.
+pub fn each_world_on_the_way_is_safe()
+    ensures { EachWorldIsSafe }
+{}
+
+/// A run that is told with its worlds is a run to the last of them, and each run can be told so; a run that goes on is a run, and so is its beginning.
+pub fn a_run_passes_its_worlds()
+    ensures run { PassingIsARun }
+    ensures worlds { RunsHaveWorlds }
+    ensures goes_on { RunsGoOn }
+    ensures begins { BeginningsAreRuns }
+{}
+
+/// The beginning of a run that meets the premises meets them.
+pub fn a_beginning_meets_the_premises()
+    ensures { BeginningsMeetThePremises }
 {}

@@ -110,12 +110,13 @@ settled e = record (with_timer DataAlarm (if unsettled e.sender then e.timers Da
   due = record e.due { forward = e.due.forward && is_point_past e.sender };
 }
 
--- A SACK that was taken sets the count of repeats to 0; where it moved CUM, the wait begins anew, and so does a timer that still runs (RFC 9260, 6.3.2).
+-- a timer that runs expires a first wait after this moment; one that doesn't still rests
 abbrev pub renewed_expiry : ℕ → Option ℕ → Option ℕ
 renewed_expiry now None = None
 renewed_expiry now (Some m) = Some (after_wait now FIRST_WAIT)
 
--- the data timer after a SACK that was taken, which moved CUM or did not
+-- The data timer after a SACK that was taken: its count of repeats is 0; where the SACK moved CUM, its wait is the first one again, and it begins anew where it
+-- still runs (RFC 9260, 6.3.2).
 abbrev pub renewed : ℕ → Bool → Timer → Timer
 renewed now false t = record t { repeats = 0 }
 renewed now true t = record { wait = FIRST_WAIT; repeats = 0; expiry = renewed_expiry now t.expiry }

@@ -1,9 +1,8 @@
 -- Types that an end doesn't know: what is still acted on and what is reported, by the two highest bits of the type (RFC 9260, 3.2
 -- and 3.2.1).
-use Rattle.std.specs.Prelude.{ℕ, ◌+◌, ◌-◌, ◌/◌, ◌%◌, ◌^◌, Bool, true, false, if◌then◌else◌, ◌==◌, ◌||◌, nat_lt, List, [], ◌∷◌, ◌++◌, length, Option, Some, None}
+use Rattle.std.specs.Prelude.{ℕ, ◌-◌, ◌/◌, ◌%◌, ◌^◌, Bool, true, false, if◌then◌else◌, ◌==◌, ◌||◌, nat_lt, List, [], ◌∷◌, Option, Some, None}
 use Rattle.sctp_model.specs.wire.Chunk.{ChunkMeaning, Unknown}
-use Rattle.sctp_model.specs.numbers.Numbers.{u16_bytes}
-use Rattle.sctp_model.specs.wire.Typed.{Typed, typed_bytes}
+use Rattle.sctp_model.specs.wire.Typed.{Typed}
 
 -- What is done about an unknown type: nothing behind it is looked at any more, and it is reported.
 pub record RuleMeaning : Type 0 where
@@ -41,11 +40,6 @@ chunks_reported [] = []
 chunks_reported (Unknown kind flags value ∷ ms) =
     reported_before (chunk_rule kind).report (Unknown kind flags value) (if (chunk_rule kind).stop then [] else chunks_reported ms)
 chunks_reported (m ∷ ms) = chunks_reported ms
-
--- The cause of type 6 that reports a chunk: its header and value, without padding (RFC 9260, 3.3.10.6).
-abbrev pub chunk_report : (kind flags : ℕ) → (value : List ℕ) → List ℕ
-chunk_report kind flags value =
-    typed_bytes (record { kind = 6; value = kind ∷ flags ∷ (u16_bytes (4 + length value) ++ value) })
 
 -- ---- parameters
 

@@ -6,7 +6,7 @@ use Rattle.sctp_model.specs.receiver.ReceiverView.{Handed}
 use Rattle.sctp_model.specs.sender.Abandoning.{AbandonAnswer}
 use Rattle.sctp_model.specs.end.EndView.{Draw}
 use Rattle.sctp_model.specs.end.Strays.{Verdict, Taken, Dropped, Answer}
-use Rattle.sctp_model.specs.end.UserCalls.{ConnectAnswer, Called, NotIdle, SendAnswer, ShutdownAnswer, Shut, NotShut, AbortAnswer, Aborts, NoPeer, TooLong}
+use Rattle.sctp_model.specs.end.UserCalls.{SendAnswer, ShutdownAnswer, Shut, NotShut, AbortAnswer, Aborts, NoPeer, TooLong}
 use Rattle.sctp_model.specs.world.World.{Side, World, bag_of, with_packet}
 
 -- ---- events
@@ -88,11 +88,6 @@ abbrev pub with_abort : World → Side → AbortAnswer → World
 with_abort w s (Aborts p) = with_packet w s p
 with_abort w s NoPeer = w
 with_abort w s TooLong = w
-
--- what is told of the user's connect
-abbrev pub connect_told : ConnectAnswer → Outcome
-connect_told Called = Done
-connect_told NotIdle = RefusedState
 
 -- what is told of the user's shutdown
 abbrev pub shutdown_told : ShutdownAnswer → Outcome

@@ -74,7 +74,7 @@ is_answer Taken = false
 -- ---- STEP
 
 -- In the world `w` the event is answered so, and leaves the last world. None for an answer: memory was wanted. Of a packet then all before
--- some chunk has acted, and before its first chunk the moment alone; any other event has changed nothing.
+-- some chunk has acted, and before its first chunk, or of bytes that don't read, the moment alone; any other event has changed nothing.
 pub data Step (w : World) : Event → Option Outcome → World → Type 0 where
   OpensBoth : (x y : Draw) → w.openable ≡ true → IsDraw x → IsDraw y →
       Step w (OpenBoth x y) (Some Done) (record w { a = opened w.a.configuration x y; b = opened w.b.configuration y x; openable = false })
@@ -110,13 +110,27 @@ pub data Step (w : World) : Event → Option Outcome → World → Type 0 where
   CutLater : (e : Event) (s : Side) (p : Packet) (y : ChunkMeaning) (front back : List ChunkMeaning) (x : ChunkMeaning) (t : EndView) (v : Verdict) →
       Brings w e s p → p.chunks ≡ (y ∷ front) ++ x ∷ back → Arrives (end_now w s) w.draw (cut_to p (y ∷ front)) t v → is_answer v ≡ false →
       Step w e None (came w s t)
+  UnreadCut : (s : Side) → Step w (Foreign s None) None (came w s (end_now w s))
   NoMemory : (e : Event) → brings_packet e ≡ false → Step w e None w
 
 -- ---- RUN
 
--- A run: one step after another, with the answer to each event. What holds at the end of every run holds in every world of a run, for the
--- beginning of a run is a run too.
+-- A run: one step after another, with the answer to each event.
 pub data Run : World → List Event → List (Option Outcome) → World → Type 0 where
   Rest : (last : World) → Run last [] [] last
   Then : (w next last : World) (e : Event) (es : List Event) (o : Option Outcome) (os : List (Option Outcome)) →
       Step w e o next → Run next es os last → Run w (e ∷ es) (o ∷ os) last
+
+-- The same with its worlds: a run on from this world, and the world after each event.
+abbrev pub PassesThrough : World → List Event → List (Option Outcome) → List World → Type 0
+PassesThrough w [] [] [] = Unit {0}
+PassesThrough w (e ∷ es) (o ∷ os) (v ∷ vs) = Step w e o v × PassesThrough v es os vs
+PassesThrough w [] (o ∷ os) vs = ⊥
+PassesThrough w [] [] (v ∷ vs) = ⊥
+PassesThrough w (e ∷ es) [] vs = ⊥
+PassesThrough w (e ∷ es) (o ∷ os) [] = ⊥
+
+-- where it ends: in the last of these worlds, or where it began
+abbrev pub last_of : World → List World → World
+last_of w [] = w
+last_of w (v ∷ vs) = last_of v vs

@@ -7,7 +7,7 @@ use Rattle.sctp_model.specs.end.Moments.{ticked}
 use Rattle.sctp_model.specs.end.UserCalls.{Called, connect_answer, called, send_answer, send_leaves, abandoned_at, shut, AbortAnswer, Aborts, NoPeer, TooLong, abort_answer, abort_leaves}
 use Rattle.sctp_model.specs.world.World.{Side, A, B, other, Log, World, end_of, with_end, with_packet, with_log, end_now, came, start}
 use Rattle.sctp_model.specs.world.Events.{with_verdict, with_abort, Event, Outcome}
-use Rattle.sctp_model.specs.world.Steps.{Step, OpensBoth, OpenRefused, TimePasses, Draws, Connects, ConnectRefused, BuildsOne, BuildsNone, PacketComes, IsAbsent, Unread, Sends, AbandonsOne, TakesOne, ShutsDown, AbortsIt, CutFirst, CutLater, NoMemory, Run, Rest, Then}
+use Rattle.sctp_model.specs.world.Steps.{Step, OpensBoth, OpenRefused, TimePasses, Draws, Connects, ConnectRefused, BuildsOne, BuildsNone, PacketComes, IsAbsent, Unread, Sends, AbandonsOne, TakesOne, ShutsDown, AbortsIt, CutFirst, CutLater, UnreadCut, NoMemory, Run, Rest, Then}
 use Rattle.sctp_safety.specs.States.{ClosedForGood, IsTurn, ByCall, ByInitAck, ByCookieAck, ByCookie, ByPair, ByStage, ByEnd, IsPath, Here, On, has_begun, IsLaterEnd, EndsFollowTheDiagram}
 use Rattle.sctp_safety.proofs.machine.Turns.{IsPlain, builds_plain}
 use Rattle.sctp_safety.proofs.machine.TurnsOfTime.{plain_ticked, plain_sent, plain_abandoned, plain_taken, plain_shut, plain_aborted}
@@ -164,6 +164,7 @@ step_onward w e o v f (AbortsIt s r) =
     (kept_abort (with_end w s (abort_leaves (abort_answer (end_of w s) r) (end_of w s))) s (abort_answer (end_of w s) r))
 step_onward w e o v f (CutFirst _ s p brings) = onward_came w s (end_now w s) (later_now (end_of w s) w.clock)
 step_onward w e o v f (CutLater _ s p y front back x t d brings part arrives untold) = onward_arrives w s t (arrives_later (end_now w s) w.draw _ t d arrives)
+step_onward w e o v f (UnreadCut s) = onward_came w s (end_now w s) (later_now (end_of w s) w.clock)
 step_onward w e o v f (NoMemory _ other_event) = onward_same w f
 
 -- ---- runs

@@ -15,7 +15,7 @@ use Rattle.sctp_model.specs.end.Opening.{begun}
 use Rattle.sctp_model.specs.end.UserCalls.{called, send_answer, shut, abort_answer, abort_leaves}
 use Rattle.sctp_model.specs.world.World.{Side, A, B, World, end_of, end_now, Setup, configuration_of}
 use Rattle.sctp_model.specs.world.Events.{Event, Foreign, Outcome}
-use Rattle.sctp_model.specs.world.Steps.{opened, IsDraw, Step, OpensBoth, OpenRefused, TimePasses, Draws, Connects, ConnectRefused, BuildsOne, BuildsNone, PacketComes, IsAbsent, Unread, Sends, AbandonsOne, TakesOne, ShutsDown, AbortsIt, CutFirst, CutLater, NoMemory}
+use Rattle.sctp_model.specs.world.Steps.{opened, IsDraw, Step, OpensBoth, OpenRefused, TimePasses, Draws, Connects, ConnectRefused, BuildsOne, BuildsNone, PacketComes, IsAbsent, Unread, Sends, AbandonsOne, TakesOne, ShutsDown, AbortsIt, CutFirst, CutLater, UnreadCut, NoMemory}
 use Rattle.sctp_model.specs.world.Premises.{draws_of, IsStranger}
 use Rattle.sctp_safety.proofs.machine.Sides.{IsSameEnd, same_end, same_on, same_rested, goes_same, ends_same}
 use Rattle.sctp_safety.proofs.machine.Turns.{IsPlain, rested_has, builds_plain, replies_plain, goes_left}
@@ -142,4 +142,5 @@ module _ (s : Setup) (drawn : List ℕ) where
   ground_step w e o v fine g (CutFirst _ x p brings) = ground_now w v x (end_now w x) None g (at_came w x (end_now w x)) (same_end (end_now w x))
   ground_step w e o v fine g (CutLater _ x p y front back c t d brings part arrives untold) =
       ground_now w v x t None g (at_came w x t) (arrives_same (end_now w x) w.draw _ t d arrives)
+  ground_step w e o v fine g (UnreadCut x) = ground_now w v x (end_now w x) None g (at_came w x (end_now w x)) (same_end (end_now w x))
   ground_step w e o v fine g (NoMemory _ other_event) = g

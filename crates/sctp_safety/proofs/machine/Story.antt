@@ -14,7 +14,7 @@ use Rattle.sctp_model.specs.end.Moments.{ticked}
 use Rattle.sctp_model.specs.end.UserCalls.{send_answer, shut, Aborts, TooLong, abort_answer, abort_answer_to, abort_leaves, abort_packet, peer_tag}
 use Rattle.sctp_model.specs.world.World.{Side, A, B, World, end_of, end_now, came, Setup, configuration_of}
 use Rattle.sctp_model.specs.world.Events.{Event, Outcome, with_verdict}
-use Rattle.sctp_model.specs.world.Steps.{opened, is_answer, cut_to, Step, OpensBoth, OpenRefused, TimePasses, Draws, Connects, ConnectRefused, BuildsOne, BuildsNone, PacketComes, IsAbsent, Unread, Sends, AbandonsOne, TakesOne, ShutsDown, AbortsIt, CutFirst, CutLater, NoMemory}
+use Rattle.sctp_model.specs.world.Steps.{opened, is_answer, cut_to, Step, OpensBoth, OpenRefused, TimePasses, Draws, Connects, ConnectRefused, BuildsOne, BuildsNone, PacketComes, IsAbsent, Unread, Sends, AbandonsOne, TakesOne, ShutsDown, AbortsIt, CutFirst, CutLater, UnreadCut, NoMemory}
 use Rattle.sctp_safety.specs.States.{has_begun, has_agreed}
 use Rattle.sctp_safety.specs.Strangers.{IsDrawn}
 use Rattle.sctp_safety.specs.Agreement.{AreAgreed, AreEachOthers, was_open}
@@ -197,6 +197,7 @@ module _ (s : Setup) (drawn : List ℕ) (w : World) (ground : IsGrounded s drawn
     apart_step e o v fine (CutFirst _ x p brings) = now_plain v x (end_now w x) None (at_came w x (end_now w x)) (plain_same (end_now w x)) tt
     apart_step e o v fine (CutLater _ x p y front back c t d brings part arrives untold) =
         comes_cut v x (cut_to p (y ∷ front)) t d (at_came w x t) (closed_came x t) untold (from_cut s drawn w e x p y front back c fine brings part) arrives
+    apart_step e o v fine (UnreadCut x) = now_plain v x (end_now w x) None (at_came w x (end_now w x)) (plain_same (end_now w x)) tt
     apart_step e o v fine (NoMemory _ other_event) = AreApart apart
 
 -- Whichever step comes, the story goes on.

@@ -14,7 +14,7 @@ use Rattle.sctp_model.specs.end.Moments.{ticked}
 use Rattle.sctp_model.specs.end.UserCalls.{called, abandoned_at, shut, abort_answer, abort_leaves}
 use Rattle.sctp_model.specs.world.World.{Side, A, B, World, end_of, bag_of, log_of, with_end, end_now, came, logged, Setup}
 use Rattle.sctp_model.specs.world.Events.{Event, with_verdict, Outcome}
-use Rattle.sctp_model.specs.world.Steps.{named_at, cut_to, Step, OpensBoth, OpenRefused, TimePasses, Draws, Connects, ConnectRefused, BuildsOne, BuildsNone, PacketComes, IsAbsent, Unread, Sends, AbandonsOne, TakesOne, ShutsDown, AbortsIt, CutFirst, CutLater, NoMemory}
+use Rattle.sctp_model.specs.world.Steps.{named_at, cut_to, Step, OpensBoth, OpenRefused, TimePasses, Draws, Connects, ConnectRefused, BuildsOne, BuildsNone, PacketComes, IsAbsent, Unread, Sends, AbandonsOne, TakesOne, ShutsDown, AbortsIt, CutFirst, CutLater, UnreadCut, NoMemory}
 use Rattle.sctp_model.specs.world.Premises.{asked_at}
 use Rattle.sctp_safety.specs.Agreement.{IsOpening}
 use Rattle.sctp_safety.proofs.machine.EndWords.{all_act_keeps}
@@ -178,4 +178,5 @@ module _ (s : Setup) (drawn : List ℕ) (w : World) (opening : IsOpening s drawn
   apart_step caller e o v fine (CutFirst _ x p brings) = inl (apart_came w x (end_now w x) k (now_unmet w x k) (stands_now w x k))
   apart_step caller e o v fine (CutLater _ x p y front back z t d brings parts arrives silent) =
       untold x t (hears caller x (cut_to p (y ∷ front)) t d (from_cut s drawn w e x p y front back z fine brings parts) arrives)
+  apart_step caller e o v fine (UnreadCut x) = inl (apart_came w x (end_now w x) k (now_unmet w x k) (stands_now w x k))
   apart_step caller e o v fine (NoMemory _ other_event) = inl k

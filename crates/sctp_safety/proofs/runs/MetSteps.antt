@@ -9,7 +9,7 @@ use Rattle.sctp_model.specs.end.Building.{Builds, packet_of}
 use Rattle.sctp_model.specs.end.UserCalls.{connect_answer, Called, abort_answer, abort_leaves, shut}
 use Rattle.sctp_model.specs.world.World.{Side, other, World, end_of, bag_of, with_end, end_now, Setup}
 use Rattle.sctp_model.specs.world.Events.{Event, Outcome}
-use Rattle.sctp_model.specs.world.Steps.{cut_to, Step, OpensBoth, OpenRefused, TimePasses, Draws, Connects, ConnectRefused, BuildsOne, BuildsNone, PacketComes, IsAbsent, Unread, Sends, AbandonsOne, TakesOne, ShutsDown, AbortsIt, CutFirst, CutLater, NoMemory}
+use Rattle.sctp_model.specs.world.Steps.{cut_to, Step, OpensBoth, OpenRefused, TimePasses, Draws, Connects, ConnectRefused, BuildsOne, BuildsNone, PacketComes, IsAbsent, Unread, Sends, AbandonsOne, TakesOne, ShutsDown, AbortsIt, CutFirst, CutLater, UnreadCut, NoMemory}
 use Rattle.sctp_model.specs.world.Premises.{asked_at}
 use Rattle.sctp_safety.specs.States.{has_agreed}
 use Rattle.sctp_safety.specs.Agreement.{IsOpening}
@@ -90,4 +90,5 @@ module _ (s : Setup) (drawn : List ℕ) (w : World) (opening : IsOpening s drawn
   met_step e o v fine (CutLater _ x p y front back z t d brings parts arrives untold) =
       only_came w x t (arrived s drawn w x (cut_to p (y ∷ front)) t d opening (at x)
       (from_cut s drawn w e x p y front back z fine brings parts) arrives)
+  met_step e o v fine (UnreadCut x) = only_came w x (end_now w x) (now_at w x (at x))
   met_step e o v fine (NoMemory _ other_event) = m

@@ -1,5 +1,0 @@
-use Rattle.sctp_outcomes.proofs.InOrder.{views_are_in_order as it}
-use Rattle.sctp_outcomes.proofs.views.both_views_are_in_order.Goals as goal
-
-pub returns : goal.returns
-returns c = it
