@@ -5,7 +5,7 @@
 /// The contracts speak of `bits`, its width, and of `wire`, its value as a number.
 pub trait Serial: Copy {
     ghost use Rattle.std.specs.Prelude.{◌≡◌, ℕ, ◌<◌, ◌^◌, Option, Some};
-    ghost use Rattle.sctp_model.specs.numbers.Serial.{COUNTS, wire_value, before, near, IsWithinHalf, IsNear, IsNearAnswer};
+    ghost use Rattle.sctp_model.specs.numbers.Serial.{COUNTS, wire_value, ahead, before, near, IsWithinHalf, IsNear, IsNearAnswer};
 
     // The width in bits.
     ghost bits: { ℕ };
@@ -16,6 +16,10 @@ pub trait Serial: Copy {
     /// The wire value of a count: the count modulo 2^16 or 2^32 (RFC 9260, 2.6).
     fn of_count(count: u32) -> Self
         ensures { wire result ≡ wire_value bits count };
+
+    /// How far the other value lies ahead of this one: so many steps forward on the circle lead to it (RFC 1982, 3.2).
+    fn ahead(self, other: Self) -> u32
+        ensures { result ≡ ahead bits (wire self) (wire other) };
 
     /// Whether this value comes before the other on the circle, by less than half the space (RFC 1982, 3.2).
     ///

@@ -1,5 +1,8 @@
 //! The two widths: SSNs have 16 bits (RFC 9260, 3.3.1), TSNs and MIDs 32 (RFC 9260, 3.3.1; RFC 8260, 2.1).
 
+ghost use Rattle.std.specs.Prelude.{◌≡◌, ◌+◌, ◌-◌, nat_lt, nat_le, ◌&&◌, if◌then◌else◌, Some, None};
+ghost use Rattle.sctp_model.specs.numbers.Serial.{as_count};
+
 use crate::counts::Serial;
 
 /// A wire value of 16 bits, as an SSN.
@@ -12,7 +15,7 @@ pub struct S32(pub u32);
 
 impl S16 {
     /// Half the number of wire values.
-    const HALF: u16 = 32_768;
+    const HALF: u32 = 32_768;
 }
 
 impl S32 {
@@ -37,22 +40,18 @@ impl Serial for S16 {
         S16((count % 65_536) as u16)
     }
 
+    fn ahead(self, other: Self) -> u32 {
+        u32::from(other.0.wrapping_sub(self.0))
+    }
+
     fn before(self, other: Self) -> bool {
-        let ahead = other.0.wrapping_sub(self.0);
+        let ahead = self.ahead(other);
         ahead != 0 && ahead < S16::HALF
     }
 
     fn near(self, reference: u32) -> Option<u32> {
         let known = S16::of_count(reference);
-        let ahead = self.0.wrapping_sub(known.0);
-        let behind = known.0.wrapping_sub(self.0);
-        if ahead < S16::HALF {
-            reference.checked_add(u32::from(ahead))
-        } else if behind < S16::HALF {
-            reference.checked_sub(u32::from(behind))
-        } else {
-            None
-        }
+        count_near(reference, known.ahead(self), self.ahead(known), S16::HALF)
     }
 }
 
@@ -73,21 +72,31 @@ impl Serial for S32 {
         S32(count)
     }
 
+    fn ahead(self, other: Self) -> u32 {
+        other.0.wrapping_sub(self.0)
+    }
+
     fn before(self, other: Self) -> bool {
-        let ahead = other.0.wrapping_sub(self.0);
+        let ahead = self.ahead(other);
         ahead != 0 && ahead < S32::HALF
     }
 
     fn near(self, reference: u32) -> Option<u32> {
         let known = S32::of_count(reference);
-        let ahead = self.0.wrapping_sub(known.0);
-        let behind = known.0.wrapping_sub(self.0);
-        if ahead < S32::HALF {
-            reference.checked_add(ahead)
-        } else if behind < S32::HALF {
-            reference.checked_sub(behind)
-        } else {
-            None
-        }
+        count_near(reference, known.ahead(self), self.ahead(known), S32::HALF)
+    }
+}
+
+/// The count so far ahead of a reference, or else so far behind it, by less than `half`.
+fn count_near(reference: u32, ahead: u32, behind: u32, half: u32) -> Option<u32>
+    ensures { result ≡ (if nat_lt ahead half then as_count (reference + ahead)
+        else if nat_lt behind half && nat_le behind reference then Some (reference - behind) else None) }
+{
+    if ahead < half {
+        reference.checked_add(ahead)
+    } else if behind < half {
+        reference.checked_sub(behind)
+    } else {
+        None
     }
 }

@@ -1,0 +1,24 @@
+//! TSNs and the indexes that they stand for: the first TSN of an association has index 1 (RFC 9260, 2.6 and 3.3.2).
+
+ghost use Rattle.std.specs.Prelude.{◌≡◌, ◌+◌};
+ghost use Rattle.sctp_model.specs.numbers.Serial.{tsn, ahead, as_count};
+
+use crate::counts::Serial;
+use crate::widths::S32;
+
+/// The TSN of an index, where `initial` is the TSN of index 1. Index 0 stands for the TSN before that one.
+pub fn tsn_of(initial: u32, index: u32) -> u32
+    ensures { result ≡ tsn initial index }
+{
+    initial.wrapping_add(index).wrapping_sub(1)
+}
+
+/// The index as far ahead of a known one as a TSN lies ahead of that one's.
+///
+/// None where no count is so large. A TSN that comes before that of the known index lies more than half the space ahead of it:
+/// ask `before` first.
+pub fn index_ahead(initial: u32, known: u32, wire: u32) -> Option<u32>
+    ensures { result ≡ as_count (known + ahead 32 (tsn initial known) wire) }
+{
+    known.checked_add(S32(tsn_of(initial, known)).ahead(S32(wire)))
+}
