@@ -6,46 +6,43 @@ use Rattle.sctp_model.proofs.receiver.OneStep.{cumulative_only}
 use Rattle.sctp_model.proofs.receiver.OneSack.{sack_only}
 use Rattle.sctp_model.specs.end.EndView.{Tags, Draw, Stage, Phase, Calling, Echoing, Open, EndView, has_association}
 use Rattle.sctp_model.specs.end.Opening.{own_init}
-use Rattle.sctp_model.specs.end.Building.{Slot, Wants, EchoCookie, AckCookie, AckHeartbeat, ReportCauses, Acknowledge, PassOn, SayShutdown, AnswerShutdown, has_room, Puts, NoMore, NotDue, Put, IsFull, echoing_slots, open_slots, Builds, Sleeps, Waits, Calls, Echoes, Fills, sent, fragments}
+use Rattle.sctp_model.specs.end.Building.{Slot, Wants, EchoCookie, AckCookie, AckHeartbeat, ReportCauses, Acknowledge, PassOn, SayShutdown, AnswerShutdown, has_room, Puts, NoMore, NotDue, Put, IsFull, echoing_slots, open_slots, Builds, Sleeps, Waits, Calls, Echoes, Fills, sent, fragments, once_built}
 use Rattle.sctp_model.specs.end.Building.{EndsFull}
 use Rattle.sctp_outcomes.proofs.OneAct.{clash}
 
 -- the chunk of a place
-one_wanted : (e : EndView) (s : Slot) (x y : ChunkMeaning) (t u : EndView) → Wants e s x t → Wants e s y u → (x ≡ y) × (t ≡ u)
-one_wanted e s x y t u (EchoCookie a xs i) (EchoCookie b ys j) =
+one_wanted : (e : EndView) (s : Slot) (x y : ChunkMeaning) → Wants e s x → Wants e s y → x ≡ y
+one_wanted e s x y (EchoCookie a xs i) (EchoCookie b ys j) =
     let both : Echoing a xs ≡ Echoing b ys = sym i ∙ j in
     let cookie : xs ≡ ys = cc in
-    (ap (λ (z : List ℕ). CookieEcho z) cookie, refl)
-one_wanted e s x y t u AckCookie AckCookie = (refl, refl)
-one_wanted e s x y t u (AckHeartbeat i p) (AckHeartbeat j q) =
+    ap (λ (z : List ℕ). CookieEcho z) cookie
+one_wanted e s x y AckCookie AckCookie = refl
+one_wanted e s x y (AckHeartbeat i p) (AckHeartbeat j q) =
     let both : Some i ≡ Some j = sym p ∙ q in
     let info : i ≡ j = cc in
-    (ap (λ (z : List ℕ). HeartbeatAck z) info, refl)
-one_wanted e s x y t u ReportCauses ReportCauses = (refl, refl)
-one_wanted e s x y t u (Acknowledge a p) (Acknowledge b q) = (ap (λ (z : SackMeaning). Sack z) (sack_only e.receiver a b p q), refl)
-one_wanted e s x y t u PassOn PassOn = (refl, refl)
-one_wanted e s x y t u (SayShutdown c p) (SayShutdown d q) = (ap (λ (z : ℕ). Shutdown (tsn e.receiver.initial z)) (cumulative_only e.receiver c d p q), refl)
-one_wanted e s x y t u AnswerShutdown AnswerShutdown = (refl, refl)
+    ap (λ (z : List ℕ). HeartbeatAck z) info
+one_wanted e s x y ReportCauses ReportCauses = refl
+one_wanted e s x y (Acknowledge a p) (Acknowledge b q) = ap (λ (z : SackMeaning). Sack z) (sack_only e.receiver a b p q)
+one_wanted e s x y PassOn PassOn = refl
+one_wanted e s x y (SayShutdown c p) (SayShutdown d q) = ap (λ (z : ℕ). Shutdown (tsn e.receiver.initial z)) (cumulative_only e.receiver c d p q)
+one_wanted e s x y AnswerShutdown AnswerShutdown = refl
 
 -- the places of a packet
 one_put : (ss : List Slot) (e : EndView) (xs zs ys : List ChunkMeaning) (f g : Bool) (t u : EndView) → Puts ss e xs zs f t → Puts ss e xs ys g u → (zs ≡ ys) × (f ≡ g) × (t ≡ u)
 one_put ss e xs zs ys f g t u (NoMore _ _) (NoMore _ _) = (refl, refl, refl)
 one_put ss e xs zs ys f g t u (NotDue _ more _ _ _ _ _ off one) (NotDue _ _ _ _ _ _ _ _ other) = one_put more e xs zs ys f g t u one other
-one_put ss e xs zs ys f g t u (NotDue _ _ _ _ _ _ _ off _) (Put _ _ _ _ _ _ _ _ _ due _ _ _) = absurd (clash due off)
-one_put ss e xs zs ys f g t u (NotDue _ _ _ _ _ _ _ off _) (IsFull _ _ _ _ _ _ due _ _) = absurd (clash due off)
-one_put ss e xs zs ys f g t u (Put _ _ _ _ _ _ _ _ _ due _ _ _) (NotDue _ _ _ _ _ _ _ off _) = absurd (clash due off)
-one_put ss e xs zs ys f g t u (Put s more _ m x _ _ _ _ _ a _ one) (Put _ _ _ n y _ _ _ _ _ b _ other) =
-    let w = one_wanted e s y x n m b a in
-    one_put more m (xs ++ x ∷ []) zs ys f g t u one
-    (subst (λ (c : ChunkMeaning). Puts more m (xs ++ c ∷ []) ys g u) w.0 (subst (λ (v : EndView). Puts more v (xs ++ y ∷ []) ys g u) w.1 other))
-one_put ss e xs zs ys f g t u (Put s _ _ m x _ _ _ _ _ a room _) (IsFull _ _ _ n y _ _ b full) =
-    let w = one_wanted e s y x n m b a in
-    absurd (clash room (subst (λ (c : ChunkMeaning). has_room e xs c ≡ false) w.0 full))
-one_put ss e xs zs ys f g t u (IsFull _ _ _ _ _ _ due _ _) (NotDue _ _ _ _ _ _ _ off _) = absurd (clash due off)
-one_put ss e xs zs ys f g t u (IsFull s _ _ n y _ _ b full) (Put _ _ _ m x _ _ _ _ _ a room _) =
-    let w = one_wanted e s y x n m b a in
-    absurd (clash room (subst (λ (c : ChunkMeaning). has_room e xs c ≡ false) w.0 full))
-one_put ss e xs zs ys f g t u (IsFull _ _ _ _ _ _ _ _ _) (IsFull _ _ _ _ _ _ _ _ _) = (refl, refl, refl)
+one_put ss e xs zs ys f g t u (NotDue _ _ _ _ _ _ _ off _) (Put _ _ _ _ _ _ _ _ due _ _ _) = absurd (clash due off)
+one_put ss e xs zs ys f g t u (NotDue _ _ _ _ _ _ _ off _) (IsFull _ _ _ _ _ due _ _) = absurd (clash due off)
+one_put ss e xs zs ys f g t u (Put _ _ _ _ _ _ _ _ due _ _ _) (NotDue _ _ _ _ _ _ _ off _) = absurd (clash due off)
+one_put ss e xs zs ys f g t u (Put s more _ x _ _ _ _ _ a _ one) (Put _ _ _ y _ _ _ _ _ b _ other) =
+    one_put more (once_built s e) (xs ++ x ∷ []) zs ys f g t u one
+    (subst (λ (c : ChunkMeaning). Puts more (once_built s e) (xs ++ c ∷ []) ys g u) (one_wanted e s y x b a) other)
+one_put ss e xs zs ys f g t u (Put s _ _ x _ _ _ _ _ a room _) (IsFull _ _ _ y _ _ b full) =
+    absurd (clash room (subst (λ (c : ChunkMeaning). has_room e xs c ≡ false) (one_wanted e s y x b a) full))
+one_put ss e xs zs ys f g t u (IsFull _ _ _ _ _ due _ _) (NotDue _ _ _ _ _ _ _ off _) = absurd (clash due off)
+one_put ss e xs zs ys f g t u (IsFull s _ _ y _ _ b full) (Put _ _ _ x _ _ _ _ _ a room _) =
+    absurd (clash room (subst (λ (c : ChunkMeaning). has_room e xs c ≡ false) (one_wanted e s y x b a) full))
+one_put ss e xs zs ys f g t u (IsFull _ _ _ _ _ _ _ _) (IsFull _ _ _ _ _ _ _ _) = (refl, refl, refl)
 
 -- ---- the next packet
 

@@ -16,7 +16,7 @@ use Rattle.sctp_model.specs.end.Acting.{Acts, ForwardComes, PieceComes, IsOld, S
 use Rattle.sctp_model.specs.end.Arriving.{AllAct, NoneLeft, Next, Last, EndsAnswered, Stopped, Arrives, Elsewhere, NotOurs, Stray, CookieBegins, Heard}
 use Rattle.sctp_model.specs.end.Arriving.{Passes}
 use Rattle.sctp_model.specs.end.Strays.{Verdict}
-use Rattle.sctp_model.specs.end.Building.{Wants, EchoCookie, AckCookie, AckHeartbeat, ReportCauses, Acknowledge, PassOn, SayShutdown, AnswerShutdown, Slot, Puts, NoMore, NotDue, Put, IsFull, Builds, Sleeps, Waits, Calls, Echoes, Fills}
+use Rattle.sctp_model.specs.end.Building.{Slot, Puts, NoMore, NotDue, Put, IsFull, Builds, Sleeps, Waits, Calls, Echoes, Fills, EchoSlot, CookieAckSlot, HeartbeatSlot, ErrorSlot, SackSlot, ForwardSlot, ShutdownSlot, ShutdownAckSlot, once_built}
 use Rattle.sctp_model.specs.end.Building.{EndsFull}
 use Rattle.sctp_model.specs.end.Moments.{ticked}
 use Rattle.sctp_model.specs.end.UserCalls.{send_answer, shut, abort_answer, abort_leaves}
@@ -134,21 +134,21 @@ module _ (P : Format → ReceiverView → Type 0) (law : IsReceiverLaw P) where
 
   -- ---- a packet that is built
 
-  pub holds_wants : (s : Slot) (e : EndView) (x : ChunkMeaning) (t : EndView) → Holds e → Wants e s x t → Holds t
-  holds_wants s e x t k (EchoCookie _ _ _) = k
-  holds_wants s e x t k AckCookie = k
-  holds_wants s e x t k (AckHeartbeat _ _) = k
-  holds_wants s e x t k ReportCauses = k
-  holds_wants s e x t k (Acknowledge _ _) = law.sent (format_of e) e.receiver k
-  holds_wants s e x t k PassOn = k
-  holds_wants s e x t k (SayShutdown _ _) = k
-  holds_wants s e x t k AnswerShutdown = k
+  pub holds_built : (s : Slot) (e : EndView) → Holds e → Holds (once_built s e)
+  holds_built EchoSlot e k = k
+  holds_built CookieAckSlot e k = k
+  holds_built HeartbeatSlot e k = k
+  holds_built ErrorSlot e k = k
+  holds_built SackSlot e k = law.sent (format_of e) e.receiver k
+  holds_built ForwardSlot e k = k
+  holds_built ShutdownSlot e k = k
+  holds_built ShutdownAckSlot e k = k
 
   pub holds_puts : (ss : List Slot) (e : EndView) (xs zs : List ChunkMeaning) (full : Bool) (t : EndView) → Holds e → Puts ss e xs zs full t → Holds t
   holds_puts ss e xs zs full t k (NoMore _ _) = k
   holds_puts ss e xs zs full t k (NotDue _ more _ _ _ _ _ off rest) = holds_puts more e xs zs full t k rest
-  holds_puts ss e xs zs full t k (Put s more _ mid x _ _ _ _ due wants room rest) = holds_puts more mid (xs ++ x ∷ []) zs full t (holds_wants s e x mid k wants) rest
-  holds_puts ss e xs zs full t k (IsFull _ _ _ _ _ _ due wants room) = k
+  holds_puts ss e xs zs full t k (Put s more _ x _ _ _ _ due wants room rest) = holds_puts more (once_built s e) (xs ++ x ∷ []) zs full t (holds_built s e k) rest
+  holds_puts ss e xs zs full t k (IsFull _ _ _ _ _ due wants room) = k
 
   pub holds_builds : (e : EndView) (zs : List ChunkMeaning) (t : EndView) → Holds e → Builds e zs t → Holds t
   holds_builds e zs t k (Sleeps _) = k

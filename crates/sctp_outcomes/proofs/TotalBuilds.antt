@@ -5,13 +5,13 @@ use Rattle.sctp_model.specs.wire.Chunk.{SackMeaning, ChunkMeaning}
 use Rattle.sctp_model.specs.receiver.ReceiverView.{ReceiverView}
 use Rattle.sctp_model.specs.receiver.SackMade.{IsSack, sack_of}
 use Rattle.sctp_model.specs.end.EndView.{Tags, Draw, Stage, Phase, Idle, Listening, Calling, Echoing, Open, Over, EndView, format_of}
-use Rattle.sctp_model.specs.end.Building.{Slot, EchoSlot, CookieAckSlot, HeartbeatSlot, ErrorSlot, SackSlot, ForwardSlot, ShutdownSlot, ShutdownAckSlot, echoing_slots, open_slots, has_some, is_due, Wants, EchoCookie, AckCookie, AckHeartbeat, ReportCauses, Acknowledge, PassOn, SayShutdown, AnswerShutdown, has_room, Puts, NoMore, NotDue, Put, IsFull, Builds, Sleeps, Waits, Calls, Echoes, Fills, sent, fragments}
+use Rattle.sctp_model.specs.end.Building.{Slot, EchoSlot, CookieAckSlot, HeartbeatSlot, ErrorSlot, SackSlot, ForwardSlot, ShutdownSlot, ShutdownAckSlot, echoing_slots, open_slots, has_some, is_due, Wants, EchoCookie, AckCookie, AckHeartbeat, ReportCauses, Acknowledge, PassOn, SayShutdown, AnswerShutdown, has_room, Puts, NoMore, NotDue, Put, IsFull, Builds, Sleeps, Waits, Calls, Echoes, Fills, sent, fragments, once_built}
 use Rattle.sctp_model.specs.end.Building.{EndsFull}
 use Rattle.sctp_reference.specs.receiver.Steps.{cumulative}
 use Rattle.sctp_reference.specs.receiver.Runs.{all_runs}
 use Rattle.sctp_reference.proofs.receiver.StepsLemmas.{cumulative_is}
 use Rattle.sctp_reference.proofs.receiver.RunsLemmas.{runs_are}
-use Rattle.sctp_outcomes.proofs.Receivers.{holds_wants}
+use Rattle.sctp_outcomes.proofs.Receivers.{holds_built}
 use Rattle.sctp_outcomes.proofs.Bounded.{IsBounded, bounded_law}
 
 -- a view has a SACK
@@ -25,8 +25,7 @@ sack_there f r b =
 -- the chunk of a place that is due
 record Wanted (e : EndView) (s : Slot) : Type 0 where
   chunk : ChunkMeaning
-  left : EndView
-  wants : Wants e s chunk left
+  wants : Wants e s chunk
 
 abbrev is_echo : Slot → Bool
 is_echo EchoSlot = true
@@ -34,17 +33,17 @@ is_echo s = false
 
 wanted : (e : EndView) (s : Slot) → IsBounded (format_of e) e.receiver → is_echo s ≡ false → is_due s e ≡ true → Wanted e s
 wanted e EchoSlot b quiet due = absurd (cc)
-wanted e CookieAckSlot b quiet due = record { chunk = _; left = _; wants = AckCookie }
+wanted e CookieAckSlot b quiet due = record { chunk = _; wants = AckCookie }
 wanted e HeartbeatSlot b quiet due = by e.due.heartbeat refl due
   where
     by : (o : Option (List ℕ)) → e.due.heartbeat ≡ o → has_some o ≡ true → Wanted e HeartbeatSlot
     by None q h = absurd (cc)
-    by (Some info) q h = record { chunk = _; left = _; wants = AckHeartbeat info q }
-wanted e ErrorSlot b quiet due = record { chunk = _; left = _; wants = ReportCauses }
-wanted e SackSlot b quiet due = let s = sack_there (format_of e) e.receiver b in record { chunk = _; left = _; wants = Acknowledge s.0 s.1 }
-wanted e ForwardSlot b quiet due = record { chunk = _; left = _; wants = PassOn }
-wanted e ShutdownSlot b quiet due = record { chunk = _; left = _; wants = SayShutdown (cumulative e.receiver b.bound) (cumulative_is e.receiver b.bound b.within) }
-wanted e ShutdownAckSlot b quiet due = record { chunk = _; left = _; wants = AnswerShutdown }
+    by (Some info) q h = record { chunk = _; wants = AckHeartbeat info q }
+wanted e ErrorSlot b quiet due = record { chunk = _; wants = ReportCauses }
+wanted e SackSlot b quiet due = let s = sack_there (format_of e) e.receiver b in record { chunk = _; wants = Acknowledge s.0 s.1 }
+wanted e ForwardSlot b quiet due = record { chunk = _; wants = PassOn }
+wanted e ShutdownSlot b quiet due = record { chunk = _; wants = SayShutdown (cumulative e.receiver b.bound) (cumulative_is e.receiver b.bound b.within) }
+wanted e ShutdownAckSlot b quiet due = record { chunk = _; wants = AnswerShutdown }
 
 -- ---- places
 
@@ -54,19 +53,19 @@ record HasPut (ss : List Slot) (e : EndView) (xs : List ChunkMeaning) : Type 0 w
   left : EndView
   puts : Puts ss e xs chunks full left
 
-put_one : (s : Slot) (ss : List Slot) (e : EndView) (xs : List ChunkMeaning) → is_due s e ≡ true → (w : Wanted e s) → HasPut ss w.left (xs ++ w.chunk ∷ []) → HasPut (s ∷ ss) e xs
+put_one : (s : Slot) (ss : List Slot) (e : EndView) (xs : List ChunkMeaning) → is_due s e ≡ true → (w : Wanted e s) → HasPut ss (once_built s e) (xs ++ w.chunk ∷ []) → HasPut (s ∷ ss) e xs
 put_one s ss e xs due w more = go (has_room e xs w.chunk) refl
   where
     go : (r : Bool) → has_room e xs w.chunk ≡ r → HasPut (s ∷ ss) e xs
-    go true room = record { chunks = more.chunks; full = more.full; left = more.left; puts = Put s ss e w.left w.chunk xs more.chunks more.full more.left due w.wants room more.puts }
-    go false room = record { chunks = xs; full = true; left = e; puts = IsFull s ss e w.left w.chunk xs due w.wants room }
+    go true room = record { chunks = more.chunks; full = more.full; left = more.left; puts = Put s ss e w.chunk xs more.chunks more.full more.left due w.wants room more.puts }
+    go false room = record { chunks = xs; full = true; left = e; puts = IsFull s ss e w.chunk xs due w.wants room }
 
 has_put : (ss : List Slot) (e : EndView) (xs : List ChunkMeaning) → ((s : Slot) → Has ss s → is_echo s ≡ false) → IsBounded (format_of e) e.receiver → HasPut ss e xs
 has_put [] e xs quiet b = record { chunks = xs; full = false; left = e; puts = NoMore e xs }
 has_put (s ∷ ss) e xs quiet b =
-    by (is_due s e) refl (has_put ss e xs (λ r h. quiet r (inr h)) b) (λ w. has_put ss w.left (xs ++ w.chunk ∷ []) (λ r h. quiet r (inr h)) (holds_wants IsBounded bounded_law s e w.chunk w.left b w.wants))
+    by (is_due s e) refl (has_put ss e xs (λ r h. quiet r (inr h)) b) (λ w. has_put ss (once_built s e) (xs ++ w.chunk ∷ []) (λ r h. quiet r (inr h)) (holds_built IsBounded bounded_law s e b))
   where
-    by : (d : Bool) → is_due s e ≡ d → HasPut ss e xs → ((w : Wanted e s) → HasPut ss w.left (xs ++ w.chunk ∷ [])) → HasPut (s ∷ ss) e xs
+    by : (d : Bool) → is_due s e ≡ d → HasPut ss e xs → ((w : Wanted e s) → HasPut ss (once_built s e) (xs ++ w.chunk ∷ [])) → HasPut (s ∷ ss) e xs
     by false off more on = record { chunks = more.chunks; full = more.full; left = more.left; puts = NotDue s ss e xs more.chunks more.full more.left off more.puts }
     by true due more on = let w = wanted e s b (quiet s (inl refl)) due in put_one s ss e xs due w (on w)
 
@@ -102,8 +101,8 @@ built e b = by e.phase refl
     echoing t xs is false off = let m = has_put (ErrorSlot ∷ []) e [] no_echo_error b in
         record { chunks = m.chunks; full = m.full; left = m.left; puts = NotDue EchoSlot (ErrorSlot ∷ []) e [] m.chunks m.full m.left off m.puts }
     echoing t xs is true due =
-        let w : Wanted e EchoSlot = record { chunk = _; left = _; wants = EchoCookie t xs is } in
-        put_one EchoSlot (ErrorSlot ∷ []) e [] due w (has_put (ErrorSlot ∷ []) w.left ([] ++ w.chunk ∷ []) no_echo_error b)
+        let w : Wanted e EchoSlot = record { chunk = _; wants = EchoCookie t xs is } in
+        put_one EchoSlot (ErrorSlot ∷ []) e [] due w (has_put (ErrorSlot ∷ []) (once_built EchoSlot e) ([] ++ w.chunk ∷ []) no_echo_error b)
 
     open_end : (t : Tags) (g : Stage) → e.phase ≡ Open t g → (zs : List ChunkMeaning) (full : Bool) (x : EndView) → Puts open_slots e [] zs full x → Built e
     open_end t g is zs true x puts = record { chunks = zs; left = x; builds = EndsFull t g zs x is puts }

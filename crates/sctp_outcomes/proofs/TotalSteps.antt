@@ -4,12 +4,12 @@ use Rattle.sctp_model.specs.numbers.Lists.{item_at}
 use Rattle.sctp_model.specs.wire.Chunk.{ChunkMeaning}
 use Rattle.sctp_model.specs.wire.Packet.{Packet}
 use Rattle.sctp_model.specs.receiver.ReceiverView.{Handed}
-use Rattle.sctp_model.specs.end.EndView.{Draw, EndView}
+use Rattle.sctp_model.specs.end.EndView.{Draw, EndView, IsDraw}
 use Rattle.sctp_model.specs.end.Building.{Builds}
 use Rattle.sctp_model.specs.end.UserCalls.{ConnectAnswer, Called, NotIdle, connect_answer}
 use Rattle.sctp_model.specs.world.World.{Side, other, World, end_of, bag_of, end_now}
 use Rattle.sctp_model.specs.world.Events.{Event, OpenBoth, At, Drawing, Connect, Build, Deliver, Foreign, Send, Abandon, Take, Shutdown, Abort}
-use Rattle.sctp_model.specs.world.Steps.{IsDraw, FromBag, FromStranger, Brings, OpensBoth, OpenRefused, TimePasses, Draws, Connects, ConnectRefused, BuildsOne, BuildsNone, PacketComes, IsAbsent, Unread, Sends, AbandonsOne, TakesOne, ShutsDown, AbortsIt}
+use Rattle.sctp_model.specs.world.Steps.{FromBag, FromStranger, Brings, OpensBoth, OpenRefused, TimePasses, Draws, Connects, ConnectRefused, BuildsOne, BuildsNone, PacketComes, IsAbsent, Unread, Sends, AbandonsOne, TakesOne, ShutsDown, AbortsIt}
 use Rattle.sctp_outcomes.specs.Outcomes.{CanHappen, HasOutcome, EventsHaveOutcomes}
 use Rattle.sctp_outcomes.proofs.Receivers.{HoldsIn, holds_always}
 use Rattle.sctp_outcomes.proofs.Bounded.{IsBounded, bounded_law}

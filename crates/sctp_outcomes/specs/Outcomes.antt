@@ -3,7 +3,8 @@ use Rattle.std.specs.Prelude.{◌≡◌, ◌^◌, ◌<◌, List, Option, Some}
 use Rattle.sctp_model.specs.wire.Places.{ArePlaced}
 use Rattle.sctp_model.specs.world.World.{World, Setup, start}
 use Rattle.sctp_model.specs.world.Events.{Event, OpenBoth, At, Drawing, Connect, Foreign, Outcome}
-use Rattle.sctp_model.specs.world.Steps.{IsDraw, Step, Run}
+use Rattle.sctp_model.specs.end.EndView.{IsDraw}
+use Rattle.sctp_model.specs.world.Steps.{Step, Run}
 
 -- What may happen: chance hands in draws, a moment has 64 bits, and in a foreign packet that reads each chunk stands where it may.
 abbrev pub CanHappen : Event → Type 0

@@ -51,9 +51,9 @@ pub data PieceActs (f : Format) (e : EndView) (p : PieceMeaning) : After → Typ
 
 -- ---- FORWARD-TSN and I-FORWARD-TSN (RFC 3758, 3.6; RFC 8260, 2.3.1)
 
--- it is of the association's format, and may be sent at all
+-- it is of the association's format, and partial reliability is on
 abbrev pub may_forward : Format → EndView → Bool
-may_forward f e = same_format f (format_of e) && e.sender.partial
+may_forward f e = same_format f (format_of e) && e.terms.partial
 
 -- What a FORWARD-TSN or an I-FORWARD-TSN does (RFC 3758, 3.6).
 pub data ForwardActs (f : Format) (e : EndView) (m : ForwardMeaning) : After → Type 0 where

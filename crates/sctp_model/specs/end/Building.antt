@@ -49,19 +49,27 @@ is_due ForwardSlot e = e.due.forward && is_point_past e.sender
 is_due ShutdownSlot e = e.due.shutdown
 is_due ShutdownAckSlot e = e.due.shutdown_ack
 
--- The chunk that is due at a place, and the end once it is built; a chunk that is repeated starts its timer (RFC 9260, 6.3.2).
-pub data Wants (e : EndView) : Slot → ChunkMeaning → EndView → Type 0 where
-  EchoCookie : (t : Tags) (xs : List ℕ) → e.phase ≡ Echoing t xs →
-      Wants e EchoSlot (CookieEcho xs) (started CookieAlarm (with_due (record e.due { cookie_echo = false }) e))
-  AckCookie : Wants e CookieAckSlot CookieAck (with_due (record e.due { cookie_ack = false }) e)
-  AckHeartbeat : (info : List ℕ) → e.due.heartbeat ≡ Some info → Wants e HeartbeatSlot (HeartbeatAck info) (with_due (record e.due { heartbeat = None }) e)
-  ReportCauses : Wants e ErrorSlot (Error (written e.due.causes)) (with_due (record e.due { causes = [] }) e)
-  Acknowledge : (s : SackMeaning) → IsSack e.receiver s →
-      Wants e SackSlot (Sack s) (record e { due = record e.due { sack = false }; receiver = sack_sent e.receiver })
-  PassOn : Wants e ForwardSlot (forward_chunk_of (format_of e) e.sender) (started DataAlarm (with_due (record e.due { forward = false }) e))
-  SayShutdown : (c : ℕ) → IsCumulative e.receiver c →
-      Wants e ShutdownSlot (Shutdown (tsn e.receiver.initial c)) (started ShutdownAlarm (with_due (record e.due { shutdown = false }) e))
-  AnswerShutdown : Wants e ShutdownAckSlot ShutdownAck (started AckAlarm (with_due (record e.due { shutdown_ack = false }) e))
+-- The chunk that is due at a place.
+pub data Wants (e : EndView) : Slot → ChunkMeaning → Type 0 where
+  EchoCookie : (t : Tags) (xs : List ℕ) → e.phase ≡ Echoing t xs → Wants e EchoSlot (CookieEcho xs)
+  AckCookie : Wants e CookieAckSlot CookieAck
+  AckHeartbeat : (info : List ℕ) → e.due.heartbeat ≡ Some info → Wants e HeartbeatSlot (HeartbeatAck info)
+  ReportCauses : Wants e ErrorSlot (Error (written e.due.causes))
+  Acknowledge : (s : SackMeaning) → IsSack e.receiver s → Wants e SackSlot (Sack s)
+  PassOn : Wants e ForwardSlot (forward_chunk_of (format_of e) e.sender)
+  SayShutdown : (c : ℕ) → IsCumulative e.receiver c → Wants e ShutdownSlot (Shutdown (tsn e.receiver.initial c))
+  AnswerShutdown : Wants e ShutdownAckSlot ShutdownAck
+
+-- The end once that chunk is built, whatever it says: at this place nothing is due any more; what is repeated starts its timer (RFC 9260, 6.3.2).
+abbrev pub once_built : Slot → EndView → EndView
+once_built EchoSlot e = started CookieAlarm (with_due (record e.due { cookie_echo = false }) e)
+once_built CookieAckSlot e = with_due (record e.due { cookie_ack = false }) e
+once_built HeartbeatSlot e = with_due (record e.due { heartbeat = None }) e
+once_built ErrorSlot e = with_due (record e.due { causes = [] }) e
+once_built SackSlot e = record e { due = record e.due { sack = false }; receiver = sack_sent e.receiver }
+once_built ForwardSlot e = started DataAlarm (with_due (record e.due { forward = false }) e)
+once_built ShutdownSlot e = started ShutdownAlarm (with_due (record e.due { shutdown = false }) e)
+once_built ShutdownAckSlot e = started AckAlarm (with_due (record e.due { shutdown_ack = false }) e)
 
 -- ---- filling
 
@@ -74,10 +82,10 @@ pub data Puts : List Slot → EndView → List ChunkMeaning → List ChunkMeanin
   NoMore : (e : EndView) (xs : List ChunkMeaning) → Puts [] e xs xs false e
   NotDue : (s : Slot) (ss : List Slot) (e : EndView) (xs zs : List ChunkMeaning) (full : Bool) (t : EndView) → is_due s e ≡ false →
       Puts ss e xs zs full t → Puts (s ∷ ss) e xs zs full t
-  Put : (s : Slot) (ss : List Slot) (e mid : EndView) (x : ChunkMeaning) (xs zs : List ChunkMeaning) (full : Bool) (t : EndView) → is_due s e ≡ true →
-      Wants e s x mid → has_room e xs x ≡ true → Puts ss mid (xs ++ x ∷ []) zs full t → Puts (s ∷ ss) e xs zs full t
-  IsFull : (s : Slot) (ss : List Slot) (e mid : EndView) (x : ChunkMeaning) (xs : List ChunkMeaning) → is_due s e ≡ true →
-      Wants e s x mid → has_room e xs x ≡ false → Puts (s ∷ ss) e xs xs true e
+  Put : (s : Slot) (ss : List Slot) (e : EndView) (x : ChunkMeaning) (xs zs : List ChunkMeaning) (full : Bool) (t : EndView) → is_due s e ≡ true →
+      Wants e s x → has_room e xs x ≡ true → Puts ss (once_built s e) (xs ++ x ∷ []) zs full t → Puts (s ∷ ss) e xs zs full t
+  IsFull : (s : Slot) (ss : List Slot) (e : EndView) (x : ChunkMeaning) (xs : List ChunkMeaning) → is_due s e ≡ true →
+      Wants e s x → has_room e xs x ≡ false → Puts (s ∷ ss) e xs xs true e
 
 -- fragments that go out start the data timer (RFC 9260, 6.3.2)
 abbrev pub timer_after : EndView → List Wish → Timer

@@ -1,18 +1,11 @@
 -- The timers of an end: when they start, stop and expire (RFC 9260, 6.3, 5.1 and 9.2; RFC 3758, 3.5).
-use Rattle.std.specs.Prelude.{ℕ, suc, ◌+◌, ◌-◌, ◌*◌, ◌^◌, min, max, ◌==◌, nat_lt, nat_le, Bool, true, false, ◌&&◌, if◌then◌else◌, Option, None, Some}
+use Rattle.std.specs.Prelude.{ℕ, suc, ◌+◌, ◌*◌, min, max, ◌==◌, nat_lt, nat_le, Bool, true, false, ◌&&◌, if◌then◌else◌, Option, None, Some}
+use Rattle.sctp_model.specs.numbers.Limits.{LAST_MOMENT, FIRST_WAIT, LONGEST_WAIT, OPENING_REPEATS, REPEATS}
 use Rattle.sctp_model.specs.sender.SenderView.{SenderView}
 use Rattle.sctp_model.specs.sender.Readers.{point, unsettled}
-use Rattle.sctp_model.specs.end.EndView.{ShutdownSent, ShutdownAckSent, Phase, Calling, Echoing, Open, Over, Ended, Due, nothing_due, Alarm, InitAlarm, CookieAlarm, DataAlarm, ShutdownAlarm, AckAlarm, Timer, FIRST_WAIT, EndView}
+use Rattle.sctp_model.specs.end.EndView.{ShutdownSent, ShutdownAckSent, Phase, Calling, Echoing, Open, Over, Ended, Due, nothing_due, Alarm, InitAlarm, CookieAlarm, DataAlarm, ShutdownAlarm, AckAlarm, Timer, EndView}
 
 -- ---- one timer
-
--- the longest wait, and the last moment that there is (RTO.Max of RFC 9260, 16)
-abbrev pub LONGEST_WAIT : ℕ
-LONGEST_WAIT = 60000
-
--- the last moment that there is
-abbrev pub LAST_MOMENT : ℕ
-LAST_MOMENT = 2 ^ 64 - 1
 
 -- the moment so long after now, or the last one
 abbrev pub after_wait : ℕ → ℕ → ℕ
@@ -36,13 +29,13 @@ abbrev pub is_over_at : ℕ → Option ℕ → Bool
 is_over_at now (Some m) = nat_le m now
 is_over_at now None = false
 
--- how often its packet is repeated before the end gives up (Max.Init.Retransmits and Association.Max.Retrans of RFC 9260, 16)
+-- how often its packet is repeated before the end gives up (RFC 9260, 6.3.3, 5.1 and 9.2)
 abbrev pub repeats_of : Alarm → ℕ
-repeats_of InitAlarm = 8
-repeats_of CookieAlarm = 8
-repeats_of DataAlarm = 10
-repeats_of ShutdownAlarm = 10
-repeats_of AckAlarm = 10
+repeats_of InitAlarm = OPENING_REPEATS
+repeats_of CookieAlarm = OPENING_REPEATS
+repeats_of DataAlarm = REPEATS
+repeats_of ShutdownAlarm = REPEATS
+repeats_of AckAlarm = REPEATS
 
 -- ---- the timers of an end
 
@@ -54,9 +47,13 @@ alarm_number DataAlarm = 2
 alarm_number ShutdownAlarm = 3
 alarm_number AckAlarm = 4
 
+-- another timer in this one's place
+abbrev pub replaced : Alarm → Timer → (Alarm → Timer) → Alarm → Timer
+replaced a t f = λ b. if alarm_number b == alarm_number a then t else f b
+
 -- the end, with another timer in this one's place
 abbrev pub with_timer : Alarm → Timer → EndView → EndView
-with_timer a t e = record e { timers = λ b. if alarm_number b == alarm_number a then t else e.timers b }
+with_timer a t e = record e { timers = replaced a t e.timers }
 
 -- the end, with this timer running from its moment on
 abbrev pub started : Alarm → EndView → EndView
@@ -86,13 +83,13 @@ due_in h d = record d {
   shutdown_ack = d.shutdown_ack && is_home AckAlarm h;
 }
 
--- The end goes to this state (RFC 9260, 4), and each timer that isn't at home there rests.
+-- The timers once the end has gone to this state: each that isn't at home there rests.
+abbrev pub timers_in : Phase → (Alarm → Timer) → Alarm → Timer
+timers_in h f = λ a. if is_home a h then f a else stopped (f a)
+
+-- The end goes to this state (RFC 9260, 4).
 abbrev pub turned : Phase → EndView → EndView
-turned h e = record e {
-  phase = h;
-  due = due_in h e.due;
-  timers = λ a. if is_home a h then e.timers a else stopped (e.timers a);
-}
+turned h e = record e { phase = h; due = due_in h e.due; timers = timers_in h e.timers }
 
 -- The end is closed for good, for this reason (RFC 9260, 9). It sends nothing and waits for nothing; what its user may still take or ask about stays.
 abbrev pub closed : Ended → EndView → EndView

@@ -1,5 +1,6 @@
 -- An end of an association: where it stands in its life, what it is to send, its timers, its sender and its receiver (RFC 9260, 4).
-use Rattle.std.specs.Prelude.{ℕ, Bool, true, false, List, [], Option, None}
+use Rattle.std.specs.Prelude.{ℕ, ◌^◌, ◌<◌, Bool, true, false, List, [], Option, Some, None}
+use Rattle.sctp_model.specs.numbers.Limits.{FIRST_WAIT}
 use Rattle.sctp_model.specs.wire.Typed.{Typed}
 use Rattle.sctp_model.specs.messages.Format.{Format, Plain, Interleaved}
 use Rattle.sctp_model.specs.sender.SenderView.{SenderView, fresh_sender}
@@ -22,6 +23,12 @@ pub record Configuration : Type 0 where
 pub record Draw : Type 0 where
   pub tag : ℕ
   pub tsn : ℕ
+
+-- What may be drawn: a tag that isn't 0, and a first TSN, both of 32 bits (RFC 9260, 5.3.1 and 3.3.2).
+pub record IsDraw (d : Draw) : Type 0 where
+  pub some : 0 < d.tag
+  pub tag : d.tag < 2 ^ 32
+  pub tsn : d.tsn < 2 ^ 32
 
 -- The verification tags of an association, as one end sees them: packets to it carry the first, packets from it the second (RFC 9260, 8.5).
 pub record Tags : Type 0 where
@@ -68,6 +75,26 @@ pub data Phase : Type 0 where
   Open : (tags : Tags) (stage : Stage) → Phase
   -- CLOSED, and over for good
   Over : Ended → Phase
+
+-- The states by their names, as the user of an end is told them (RFC 9260, 4 and 11.1).
+pub data State : Type 0 where
+  Closed Listen CookieWait CookieEchoed : State
+  -- one of the five with both ends
+  InStage : Stage → State
+
+-- the state of an end
+abbrev pub state_of : Phase → State
+state_of Idle = Closed
+state_of Listening = Listen
+state_of (Calling d) = CookieWait
+state_of (Echoing t xs) = CookieEchoed
+state_of (Open t g) = InStage g
+state_of (Over why) = Closed
+
+-- how its association ended, once it has
+abbrev pub ended_of : Phase → Option Ended
+ended_of (Over why) = Some why
+ended_of h = None
 
 -- How an end came to be: it calls, it listens and has a seal for its cookies, or it was opened together with its peer, without packets.
 pub data Role : Type 0 where
@@ -131,10 +158,6 @@ pub record Timer : Type 0 where
   pub wait : ℕ
   pub repeats : ℕ
   pub expiry : Option ℕ
-
--- the first wait (RTO.Initial of RFC 9260, 16)
-abbrev pub FIRST_WAIT : ℕ
-FIRST_WAIT = 1000
 
 -- a timer that never ran
 abbrev pub unused_timer : Timer

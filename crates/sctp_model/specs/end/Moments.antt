@@ -3,7 +3,7 @@ use Rattle.std.specs.Prelude.{ℕ, nat_lt, min, Bool, true, false, not, ◌||◌
 use Rattle.sctp_model.specs.sender.SenderView.{SenderView}
 use Rattle.sctp_model.specs.sender.Readers.{point}
 use Rattle.sctp_model.specs.sender.Abandoning.{expired, timed_out}
-use Rattle.sctp_model.specs.end.EndView.{TimedOut, Alarm, InitAlarm, CookieAlarm, DataAlarm, ShutdownAlarm, AckAlarm, EndView, has_association}
+use Rattle.sctp_model.specs.end.EndView.{TimedOut, Alarm, InitAlarm, CookieAlarm, DataAlarm, ShutdownAlarm, AckAlarm, Timer, EndView, has_association}
 use Rattle.sctp_model.specs.end.Clock.{repeats_of, is_over_at, with_timer, at_moment, closed, is_point_past, settled}
 use Rattle.sctp_model.specs.end.Clock.{expired_timer}
 use Rattle.sctp_model.specs.end.Closing.{with_due, rested}
@@ -65,10 +65,10 @@ earlier (Some m) None = Some m
 earlier (Some m) (Some n) = Some (min m n)
 
 -- the earliest expiry among these timers
-abbrev pub earliest : EndView → List Alarm → Option ℕ
-earliest e [] = None
-earliest e (a ∷ more) = earlier (e.timers a).expiry (earliest e more)
+abbrev pub earliest : (Alarm → Timer) → List Alarm → Option ℕ
+earliest f [] = None
+earliest f (a ∷ more) = earlier (f a).expiry (earliest f more)
 
 -- the earliest expiry of a timer that runs
 abbrev pub next_moment : EndView → Option ℕ
-next_moment e = earliest e all_alarms
+next_moment e = earliest e.timers all_alarms

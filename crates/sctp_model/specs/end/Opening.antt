@@ -8,7 +8,7 @@ use Rattle.sctp_model.specs.wire.Chunk.{InitMeaning, ChunkMeaning, Init, InitAck
 use Rattle.sctp_model.specs.sender.SenderView.{fresh_sender}
 use Rattle.sctp_model.specs.receiver.ReceiverView.{fresh_receiver}
 use Rattle.sctp_model.specs.end.Sealing.{Body, Sealing}
-use Rattle.sctp_model.specs.end.EndView.{Terms, Configuration, Draw, Tags, AbortedHere, Stage, Established, Phase, Calling, Echoing, Open, Role, Caller, Paired, Listener, EndView}
+use Rattle.sctp_model.specs.end.EndView.{Terms, Configuration, Draw, Tags, AbortedHere, Stage, Established, Phase, Idle, Calling, Echoing, Open, Role, Caller, Paired, Listener, EndView, fresh_end}
 use Rattle.sctp_model.specs.end.Clock.{turned, closed}
 use Rattle.sctp_model.specs.end.Closing.{with_due, takes_cookies, hears}
 use Rattle.sctp_model.specs.end.Reports.{written, item, fits_alone, causes_with, as_fit, MISSING_PARAMETER, OUT_OF_RESOURCE, INVALID_PARAMETER, UNRECOGNIZED_PARAMETERS}
@@ -51,6 +51,21 @@ terms_of_body b = record {
   interleave = b.interleave;
   partial = b.partial;
 }
+
+-- What an end takes to be agreed on with a peer that is set up like itself, and drew this.
+abbrev pub terms_alike : Configuration → Draw → Draw → Terms
+terms_alike c own peer = record {
+  own_tsn = own.tsn;
+  peer_tsn = peer.tsn;
+  outbound = min c.outbound c.inbound;
+  inbound = min c.outbound c.inbound;
+  interleave = c.interleave;
+  partial = c.partial;
+}
+
+-- an end that is opened without packets: established at once, its peer's window the buffer of its own
+abbrev pub opened : Configuration → Draw → Draw → EndView
+opened c own peer = record (joined (terms_alike c own peer) c.buffer (fresh_end c Paired Idle)) { phase = Open (tags_between own peer) Established }
 
 -- ---- INIT (5.1.1)
 

@@ -73,6 +73,26 @@ RUN_LIMIT = 16_383
 
 -- ---- time, in milliseconds
 
+-- the last moment that there is
+abbrev pub LAST_MOMENT : ℕ
+LAST_MOMENT = 2 ^ 64 - 1
+
+-- a timer's first wait (RTO.Initial of RFC 9260, 16)
+abbrev pub FIRST_WAIT : ℕ
+FIRST_WAIT = 1_000
+
+-- and its longest (RTO.Max of RFC 9260, 16)
+abbrev pub LONGEST_WAIT : ℕ
+LONGEST_WAIT = 60_000
+
+-- how often an INIT or a COOKIE ECHO is repeated (Max.Init.Retransmits of RFC 9260, 16)
+abbrev pub OPENING_REPEATS : ℕ
+OPENING_REPEATS = 8
+
+-- and everything else (Association.Max.Retrans of RFC 9260, 16)
+abbrev pub REPEATS : ℕ
+REPEATS = 10
+
 -- how long a cookie lives (Valid.Cookie.Life of RFC 9260, 16)
 abbrev pub COOKIE_LIFE : ℕ
 COOKIE_LIFE = 60_000

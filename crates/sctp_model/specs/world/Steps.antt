@@ -1,13 +1,13 @@
 -- STEP and RUN: every event with every way that it can go.
-use Rattle.std.specs.Prelude.{◌≡◌, ℕ, ◌^◌, ◌<◌, max, min, Bool, true, false, List, [], ◌∷◌, ◌++◌, Option, None, Some}
+use Rattle.std.specs.Prelude.{◌≡◌, ℕ, ◌^◌, ◌<◌, max, Bool, true, false, List, [], ◌∷◌, ◌++◌, Option, None, Some}
 use Rattle.sctp_model.specs.numbers.Lists.{at, item_at}
 use Rattle.sctp_model.specs.wire.Chunk.{ChunkMeaning}
 use Rattle.sctp_model.specs.wire.Packet.{Packet, size_of_packet}
 use Rattle.sctp_model.specs.wire.Places.{ArePlaced}
 use Rattle.sctp_model.specs.receiver.ReceiverView.{Handed}
 use Rattle.sctp_model.specs.world.Calls.{Call}
-use Rattle.sctp_model.specs.end.EndView.{Terms, Configuration, Draw, Established, Idle, Open, Paired, EndView, fresh_end}
-use Rattle.sctp_model.specs.end.Opening.{tags_between, joined}
+use Rattle.sctp_model.specs.end.EndView.{Draw, IsDraw, EndView}
+use Rattle.sctp_model.specs.end.Opening.{opened}
 use Rattle.sctp_model.specs.end.PeerFaults.{FAULT}
 use Rattle.sctp_model.specs.end.Strays.{Verdict, Taken, Dropped, Answer}
 use Rattle.sctp_model.specs.end.Arriving.{Arrives}
@@ -16,31 +16,6 @@ use Rattle.sctp_model.specs.end.Moments.{ticked}
 use Rattle.sctp_model.specs.end.UserCalls.{Called, NotIdle, connect_answer, called, SendAnswer, Ticket, Refused, NotOpen, send_answer, send_leaves, abandons, abandoned_at, UserTakes, shutdown_answer, shut, abort_answer, abort_leaves}
 use Rattle.sctp_model.specs.world.World.{Side, A, B, other, Log, World, end_of, bag_of, log_of, with_end, with_packet, with_log, end_now, came, logged}
 use Rattle.sctp_model.specs.world.Events.{Event, OpenBoth, At, Drawing, Connect, Build, Deliver, Foreign, Send, Abandon, Take, Shutdown, Abort, brings_packet, Outcome, Done, RefusedState, Sent, Quiet, Absent, NotActed, Told, Fate, next_number, told, with_verdict, abort_told, with_abort, shutdown_told, message_told}
-
--- ---- `open`
-
--- What an end takes to be agreed on with a peer that is set up like itself, and drew this.
-abbrev pub terms_alike : Configuration → Draw → Draw → Terms
-terms_alike c own peer = record {
-  own_tsn = own.tsn;
-  peer_tsn = peer.tsn;
-  outbound = min c.outbound c.inbound;
-  inbound = min c.outbound c.inbound;
-  interleave = c.interleave;
-  partial = c.partial;
-}
-
--- an end that is opened without packets: established at once, its peer's window the buffer of its own
-abbrev pub opened : Configuration → Draw → Draw → EndView
-opened c own peer = record (joined (terms_alike c own peer) c.buffer (fresh_end c Paired Idle)) { phase = Open (tags_between own peer) Established }
-
--- ---- chance
-
--- What may be drawn: a tag that isn't 0, and a first TSN, both of 32 bits (RFC 9260, 5.3.1 and 3.3.2).
-pub record IsDraw (d : Draw) : Type 0 where
-  pub some : 0 < d.tag
-  pub tag : d.tag < 2 ^ 32
-  pub tsn : d.tsn < 2 ^ 32
 
 -- ---- logs
 

@@ -3,12 +3,10 @@ use Rattle.std.proofs.Common.{◌≡◌, ℕ, Bool, true, false, List, [], ◌�
 use Rattle.sctp_model.specs.numbers.Serial.{tsn}
 use Rattle.sctp_model.specs.wire.Chunk.{ChunkMeaning, Sack, HeartbeatAck, Shutdown, ShutdownAck, Error, CookieEcho, CookieAck}
 use Rattle.sctp_model.specs.sender.SentChunks.{forward_chunk_of}
-use Rattle.sctp_model.specs.receiver.SackMade.{sack_of, sack_sent}
-use Rattle.sctp_model.specs.end.EndView.{Tags, Stage, Open, DataAlarm, ShutdownAlarm, AckAlarm, EndView, format_of}
-use Rattle.sctp_model.specs.end.Clock.{started}
-use Rattle.sctp_model.specs.end.Closing.{with_due}
+use Rattle.sctp_model.specs.receiver.SackMade.{sack_of}
+use Rattle.sctp_model.specs.end.EndView.{Tags, Stage, Open, EndView, format_of}
 use Rattle.sctp_model.specs.end.Reports.{written}
-use Rattle.sctp_model.specs.end.Building.{Slot, EchoSlot, CookieAckSlot, HeartbeatSlot, ErrorSlot, SackSlot, ForwardSlot, ShutdownSlot, ShutdownAckSlot, open_slots, has_some, is_due, Wants, AckCookie, AckHeartbeat, ReportCauses, Acknowledge, PassOn, SayShutdown, AnswerShutdown, has_room, Puts, NoMore, NotDue, Put, IsFull, fragments, sent, Builds, EndsFull, Fills}
+use Rattle.sctp_model.specs.end.Building.{Slot, EchoSlot, CookieAckSlot, HeartbeatSlot, ErrorSlot, SackSlot, ForwardSlot, ShutdownSlot, ShutdownAckSlot, open_slots, has_some, is_due, Wants, AckCookie, AckHeartbeat, ReportCauses, Acknowledge, PassOn, SayShutdown, AnswerShutdown, has_room, Puts, NoMore, NotDue, Put, IsFull, fragments, sent, Builds, EndsFull, Fills, once_built}
 use Rattle.sctp_reference.specs.receiver.Runs.{all_runs}
 use Rattle.sctp_reference.specs.receiver.Steps.{IsBound, cumulative}
 use Rattle.sctp_reference.proofs.receiver.RunsLemmas.{runs_are}
@@ -32,17 +30,6 @@ chunk_at ForwardSlot e bound = forward_chunk_of (format_of e) e.sender
 chunk_at ShutdownSlot e bound = Shutdown (tsn e.receiver.initial (cumulative e.receiver bound))
 chunk_at ShutdownAckSlot e bound = ShutdownAck
 
--- and the end that has built it
-abbrev after_slot : Slot → EndView → EndView
-after_slot EchoSlot e = e
-after_slot CookieAckSlot e = with_due (record e.due { cookie_ack = false }) e
-after_slot HeartbeatSlot e = with_due (record e.due { heartbeat = None }) e
-after_slot ErrorSlot e = with_due (record e.due { causes = [] }) e
-after_slot SackSlot e = record e { due = record e.due { sack = false }; receiver = sack_sent e.receiver }
-after_slot ForwardSlot e = started DataAlarm (with_due (record e.due { forward = false }) e)
-after_slot ShutdownSlot e = started ShutdownAlarm (with_due (record e.due { shutdown = false }) e)
-after_slot ShutdownAckSlot e = started AckAlarm (with_due (record e.due { shutdown_ack = false }) e)
-
 -- a place of an open end's packet
 abbrev is_open_slot : Slot → Bool
 is_open_slot EchoSlot = false
@@ -52,7 +39,7 @@ waits_with : (o : Option (List ℕ)) → has_some o ≡ true → o ≡ Some (inf
 waits_with None on = absurd (cc)
 waits_with (Some info) on = refl
 
-wanted : (s : Slot) (e : EndView) (bound : ℕ) → IsBound e.receiver bound → is_open_slot s ≡ true → is_due s e ≡ true → Wants e s (chunk_at s e bound) (after_slot s e)
+wanted : (s : Slot) (e : EndView) (bound : ℕ) → IsBound e.receiver bound → is_open_slot s ≡ true → is_due s e ≡ true → Wants e s (chunk_at s e bound)
 wanted EchoSlot e bound within on due = absurd (cc)
 wanted CookieAckSlot e bound within on due = AckCookie
 wanted HeartbeatSlot e bound within on due = AckHeartbeat (info_of e.due.heartbeat) (waits_with e.due.heartbeat due)
@@ -71,7 +58,7 @@ wanted ShutdownSlot e bound within on due = SayShutdown (cumulative e.receiver b
 wanted ShutdownAckSlot e bound within on due = AnswerShutdown
 
 -- what is built changes nothing of what was recorded
-bound_after : (s : Slot) (e : EndView) (bound : ℕ) → IsBound e.receiver bound → IsBound (after_slot s e).receiver bound
+bound_after : (s : Slot) (e : EndView) (bound : ℕ) → IsBound e.receiver bound → IsBound (once_built s e).receiver bound
 bound_after EchoSlot e bound within = within
 bound_after CookieAckSlot e bound within = within
 bound_after HeartbeatSlot e bound within = within
@@ -93,7 +80,7 @@ pub record Built : Type 0 where
 abbrev built_at : (due room : Bool) → Slot → EndView → ℕ → List ChunkMeaning → (EndView → List ChunkMeaning → Built) → Built
 built_at false room s e bound xs more = more e xs
 built_at true false s e bound xs more = record { chunks = xs; full = true; after = e }
-built_at true true s e bound xs more = more (after_slot s e) (xs ++ chunk_at s e bound ∷ [])
+built_at true true s e bound xs more = more (once_built s e) (xs ++ chunk_at s e bound ∷ [])
 
 abbrev built_over : List Slot → (bound : ℕ) → EndView → List ChunkMeaning → Built
 built_over [] bound e xs = record { chunks = xs; full = false; after = e }
@@ -108,7 +95,7 @@ puts_are : (ss : List Slot) (bound : ℕ) (e : EndView) (xs : List ChunkMeaning)
 puts_are [] bound e xs places within = NoMore e xs
 puts_are (s ∷ ss) bound e xs places within =
     go (is_due s e) refl (has_room e xs (chunk_at s e bound)) refl (puts_are ss bound e xs places.1 within)
-    (puts_are ss bound (after_slot s e) (xs ++ chunk_at s e bound ∷ []) places.1 (bound_after s e bound within))
+    (puts_are ss bound (once_built s e) (xs ++ chunk_at s e bound ∷ []) places.1 (bound_after s e bound within))
   where
     It : Built → Type 0
     It b = Puts (s ∷ ss) e xs b.chunks b.full b.after
@@ -116,11 +103,11 @@ puts_are (s ∷ ss) bound e xs places within =
     Rest : EndView → List ChunkMeaning → Type 0
     Rest t ys = Puts ss t ys (built_over ss bound t ys).chunks (built_over ss bound t ys).full (built_over ss bound t ys).after
 
-    go : (due : Bool) → is_due s e ≡ due → (room : Bool) → has_room e xs (chunk_at s e bound) ≡ room → Rest e xs → Rest (after_slot s e) (xs ++ chunk_at s e bound ∷ []) →
+    go : (due : Bool) → is_due s e ≡ due → (room : Bool) → has_room e xs (chunk_at s e bound) ≡ room → Rest e xs → Rest (once_built s e) (xs ++ chunk_at s e bound ∷ []) →
         It (built_at due room s e bound xs (built_over ss bound))
     go false off room is same more = NotDue s ss e xs _ _ _ off same
-    go true on false is same more = IsFull s ss e (after_slot s e) (chunk_at s e bound) xs on (wanted s e bound within places.0 on) is
-    go true on true is same more = Put s ss e (after_slot s e) (chunk_at s e bound) xs _ _ _ on (wanted s e bound within places.0 on) is more
+    go true on false is same more = IsFull s ss e (chunk_at s e bound) xs on (wanted s e bound within places.0 on) is
+    go true on true is same more = Put s ss e (chunk_at s e bound) xs _ _ _ on (wanted s e bound within places.0 on) is more
 
 -- ---- the packet
 

@@ -5,7 +5,7 @@ use Rattle.sctp_model.specs.wire.Typed.{starts_typed, typed_of}
 use Rattle.sctp_model.specs.wire.Chunk.{InitMeaning, ChunkMeaning, InitAck, CookieEcho, CookieAck}
 use Rattle.sctp_model.specs.wire.Packet.{Packet}
 use Rattle.sctp_model.specs.end.Sealing.{Body}
-use Rattle.sctp_model.specs.end.EndView.{Draw, Tags, Established, Open, EndView, InitAlarm, CookieAlarm}
+use Rattle.sctp_model.specs.end.EndView.{Draw, Tags, Established, Open, EndView, InitAlarm, CookieAlarm, IsDraw}
 use Rattle.sctp_model.specs.end.Clock.{started, turned}
 use Rattle.sctp_model.specs.end.Closing.{with_due}
 use Rattle.sctp_model.specs.end.Reports.{written, item}
@@ -19,7 +19,7 @@ use Rattle.sctp_model.specs.end.Building.{EchoSlot, ErrorSlot, EchoCookie, NoMor
 use Rattle.sctp_model.specs.end.UserCalls.{called}
 use Rattle.sctp_model.specs.world.World.{A, B, World, Setup, configuration_of, with_end, with_packet, end_now, came, start}
 use Rattle.sctp_model.specs.world.Events.{Drawing, Connect, Build, Deliver, Done, Sent, Acted, Answered, NotActed, with_verdict}
-use Rattle.sctp_model.specs.world.Steps.{IsDraw, Step, Draws, Connects, BuildsOne, FromBag, PacketComes, Run, Rest, Then}
+use Rattle.sctp_model.specs.world.Steps.{Step, Draws, Connects, BuildsOne, FromBag, PacketComes, Run, Rest, Then}
 use Rattle.sctp_safety.proofs.machine.OpeningWorlds.{open_seal, numbers}
 use Rattle.sctp_outcomes.specs.Script.{script_setup, opening_events, opening_told}
 use Rattle.sctp_outcomes.proofs.stories.Packets.{packet_built, builds_are}
@@ -125,7 +125,7 @@ s8 = with_packet (with_end s7 A echoed) A packet_2
 step_8 : Step s7 (Build A) (Some (Sent 2 88)) s8
 unfolding u16_bytes u32_bytes u16_at u32_at starts_typed typed_of
 step_8 = BuildsOne A (CookieEcho cookie) [] echoed (Echoes tags_a cookie (CookieEcho cookie ∷ []) false echoed refl
-    (Put EchoSlot (ErrorSlot ∷ []) (end_now s7 A) echoed (CookieEcho cookie) [] (CookieEcho cookie ∷ []) false echoed refl (EchoCookie tags_a cookie refl) refl
+    (Put EchoSlot (ErrorSlot ∷ []) (end_now s7 A) (CookieEcho cookie) [] (CookieEcho cookie ∷ []) false echoed refl (EchoCookie tags_a cookie refl) refl
     (NotDue ErrorSlot [] echoed (CookieEcho cookie ∷ []) (CookieEcho cookie ∷ []) false echoed refl (NoMore echoed (CookieEcho cookie ∷ [])))))
 
 -- the listener begins, and hears it again

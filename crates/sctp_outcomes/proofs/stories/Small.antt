@@ -1,12 +1,13 @@
 -- Two ends that are opened without packets, set up for small packets: one full fragment in each.
 use Rattle.std.proofs.Common.{ℕ, ◌<◌, ◌^◌, Bool, true, false, Some, refl, arith}
 use Rattle.sctp_model.specs.world.Calls.{Call}
-use Rattle.sctp_model.specs.end.EndView.{Draw, Tags}
+use Rattle.sctp_model.specs.end.EndView.{Draw, Tags, IsDraw}
 use Rattle.sctp_model.specs.end.Configured.{IsConfiguration}
+use Rattle.sctp_model.specs.end.Opening.{opened}
 use Rattle.sctp_model.specs.end.UserCalls.{send_answer, send_leaves, abandoned_at}
 use Rattle.sctp_model.specs.world.World.{Side, A, B, World, with_end, with_log, logged, Setup, configuration_of, start}
 use Rattle.sctp_model.specs.world.Events.{OpenBoth, Done}
-use Rattle.sctp_model.specs.world.Steps.{opened, accepted, named_at, IsDraw, Step, OpensBoth}
+use Rattle.sctp_model.specs.world.Steps.{accepted, named_at, Step, OpensBoth}
 use Rattle.sctp_safety.proofs.machine.OpeningWorlds.{open_seal}
 
 -- ---- two ends without packets

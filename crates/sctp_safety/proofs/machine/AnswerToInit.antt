@@ -5,13 +5,12 @@ use Rattle.sctp_model.specs.numbers.Lists.{Has}
 use Rattle.sctp_model.specs.wire.Typed.{Typed}
 use Rattle.sctp_model.specs.wire.Chunk.{InitMeaning, InitAck}
 use Rattle.sctp_model.specs.end.Sealing.{Body}
-use Rattle.sctp_model.specs.end.EndView.{Configuration, Draw, EndView}
+use Rattle.sctp_model.specs.end.EndView.{Configuration, Draw, EndView, IsDraw}
 use Rattle.sctp_model.specs.end.Configured.{IsConfiguration}
 use Rattle.sctp_model.specs.end.Reports.{written, item, fits_alone, as_fit}
 use Rattle.sctp_model.specs.end.Options.{STATE_COOKIE, value_of, own_options, reports_of}
 use Rattle.sctp_model.specs.end.Opening.{introduction, body_for, init_ack_with, init_ack, terms_of_ack, terms_of_body}
 use Rattle.sctp_model.specs.world.World.{Side, A, B, Setup, configuration_of}
-use Rattle.sctp_model.specs.world.Steps.{IsDraw}
 use Rattle.sctp_safety.specs.Agreement.{AreAgreed}
 use Rattle.sctp_safety.proofs.machine.OwnOptions.{nothing_to_report, interleave_read, partial_read, cookie_read_back, interleave_behind, partial_behind}
 

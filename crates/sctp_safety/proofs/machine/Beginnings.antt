@@ -3,11 +3,11 @@ use Rattle.std.proofs.Common.{◌≡◌, ℕ, true, false, List, [], ◌∷◌, 
 use Rattle.std.specs.Prelude.{◌<◌, min}
 use Rattle.sctp_model.specs.numbers.Lists.{Has}
 use Rattle.sctp_model.specs.end.Sealing.{Body}
-use Rattle.sctp_model.specs.end.EndView.{Configuration, Draw, Phase, Idle}
+use Rattle.sctp_model.specs.end.EndView.{Configuration, Draw, Phase, Idle, IsDraw}
 use Rattle.sctp_model.specs.end.Configured.{IsConfiguration}
+use Rattle.sctp_model.specs.end.Opening.{opened, terms_alike}
 use Rattle.sctp_model.specs.end.UserCalls.{called}
 use Rattle.sctp_model.specs.world.World.{Side, A, B, World, end_of, end_now, Setup, configuration_of}
-use Rattle.sctp_model.specs.world.Steps.{opened, terms_alike, IsDraw}
 use Rattle.sctp_safety.specs.States.{has_agreed}
 use Rattle.sctp_safety.specs.Strangers.{IsDrawn}
 use Rattle.sctp_safety.specs.Agreement.{AreAgreed}

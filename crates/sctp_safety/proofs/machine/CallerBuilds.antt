@@ -6,7 +6,7 @@ use Rattle.sctp_model.specs.wire.Packet.{Packet}
 use Rattle.sctp_model.specs.end.Sealing.{Body}
 use Rattle.sctp_model.specs.end.EndView.{Configuration, Tags, Draw, Phase, Calling, Echoing, EndView}
 use Rattle.sctp_model.specs.end.Opening.{own_init}
-use Rattle.sctp_model.specs.end.Building.{Slot, EchoSlot, ErrorSlot, echoing_slots, Wants, EchoCookie, AckCookie, AckHeartbeat, ReportCauses, Acknowledge, PassOn, SayShutdown, AnswerShutdown, Puts, NoMore, NotDue, Put, IsFull, Builds, Sleeps, Waits, Calls, Echoes, Fills}
+use Rattle.sctp_model.specs.end.Building.{Slot, EchoSlot, ErrorSlot, echoing_slots, Wants, EchoCookie, AckCookie, AckHeartbeat, ReportCauses, Acknowledge, PassOn, SayShutdown, AnswerShutdown, Puts, NoMore, NotDue, Put, IsFull, Builds, Sleeps, Waits, Calls, Echoes, Fills, once_built}
 use Rattle.sctp_model.specs.end.Building.{EndsFull}
 use Rattle.sctp_model.specs.end.UserCalls.{is_open}
 use Rattle.sctp_model.specs.world.World.{Setup}
@@ -32,28 +32,29 @@ record IsWanted (e : EndView) (x : ChunkMeaning) (t : EndView) : Type 0 where
   configuration : t.configuration ≡ e.configuration
   said : IsSaid e.configuration e.phase x
 
-wants_said : (s : Slot) (e : EndView) (x : ChunkMeaning) (t : EndView) → beside_cookie s ≡ true → Wants e s x t → IsWanted e x t
-wants_said s e x t may (EchoCookie u xs is) = record { phase = refl; configuration = refl; said = Returns u xs is refl }
-wants_said s e x t may ReportCauses = record { phase = refl; configuration = refl; said = Says refl }
-wants_said s e x t may AckCookie = absurd (cc)
-wants_said s e x t may (AckHeartbeat _ _) = absurd (cc)
-wants_said s e x t may (Acknowledge _ _) = absurd (cc)
-wants_said s e x t may PassOn = absurd (cc)
-wants_said s e x t may (SayShutdown _ _) = absurd (cc)
-wants_said s e x t may AnswerShutdown = absurd (cc)
+wants_said : (s : Slot) (e : EndView) (x : ChunkMeaning) → beside_cookie s ≡ true → Wants e s x → IsWanted e x (once_built s e)
+wants_said s e x may (EchoCookie u xs is) = record { phase = refl; configuration = refl; said = Returns u xs is refl }
+wants_said s e x may ReportCauses = record { phase = refl; configuration = refl; said = Says refl }
+wants_said s e x may AckCookie = absurd (cc)
+wants_said s e x may (AckHeartbeat _ _) = absurd (cc)
+wants_said s e x may (Acknowledge _ _) = absurd (cc)
+wants_said s e x may PassOn = absurd (cc)
+wants_said s e x may (SayShutdown _ _) = absurd (cc)
+wants_said s e x may AnswerShutdown = absurd (cc)
 
 puts_said : (ss : List Slot) (e : EndView) (xs zs : List ChunkMeaning) (full : Bool) (t : EndView) → ((s : Slot) → Has ss s → beside_cookie s ≡ true) → Puts ss e xs zs full t →
     ((y : ChunkMeaning) → Has xs y → IsSaid e.configuration e.phase y) → (y : ChunkMeaning) → Has zs y → IsSaid e.configuration e.phase y
 puts_said ss e xs zs full t may (NoMore _ _) all y h = all y h
 puts_said ss e xs zs full t may (NotDue _ more _ _ _ _ _ off rest) all y h = puts_said more e xs zs full t (λ s k. may s (inr k)) rest all y h
-puts_said ss e xs zs full t may (Put s more _ mid x _ _ _ _ due wants room rest) all y h =
-    let w = wants_said s e x mid (may s (inl refl)) wants in
+puts_said ss e xs zs full t may (Put s more _ x _ _ _ _ due wants room rest) all y h =
+    let mid = once_built s e in
+    let w = wants_said s e x (may s (inl refl)) wants in
     let there : IsSaid mid.configuration mid.phase y =
     puts_said more mid (xs ++ x ∷ []) zs full t (λ r k. may r (inr k)) rest
     (λ z k. subst (λ (c : Configuration). IsSaid c mid.phase z) (sym w.configuration)
     (subst (λ (i : Phase). IsSaid e.configuration i z) (sym w.phase) (in_more x xs z (IsSaid e.configuration e.phase) all w.said k))) y h in
     subst (λ (c : Configuration). IsSaid c e.phase y) w.configuration (subst (λ (i : Phase). IsSaid mid.configuration i y) w.phase there)
-puts_said ss e xs zs full t may (IsFull _ _ _ _ _ _ due wants room) all y h = all y h
+puts_said ss e xs zs full t may (IsFull _ _ _ _ _ due wants room) all y h = all y h
 
 beside : (s : Slot) → Has echoing_slots s → beside_cookie s ≡ true
 beside s (inl e) = subst (λ (r : Slot). beside_cookie r ≡ true) e refl

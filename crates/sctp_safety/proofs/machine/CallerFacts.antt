@@ -4,7 +4,7 @@ use Rattle.sctp_model.specs.numbers.Lists.{Has}
 use Rattle.sctp_model.specs.wire.Chunk.{InitMeaning, ChunkMeaning, Init, InitAck, CookieEcho, CookieAck}
 use Rattle.sctp_model.specs.wire.Packet.{Packet}
 use Rattle.sctp_model.specs.end.Sealing.{Body}
-use Rattle.sctp_model.specs.end.EndView.{Configuration, Terms, Tags, Established, Draw, Ended, Phase, Idle, Listening, Calling, Echoing, Open, Over, EndView, has_association}
+use Rattle.sctp_model.specs.end.EndView.{Configuration, Terms, Tags, Established, Draw, Ended, Phase, Idle, Listening, Calling, Echoing, Open, Over, EndView, has_association, IsDraw}
 use Rattle.sctp_model.specs.end.Options.{STATE_COOKIE, value_of}
 use Rattle.sctp_model.specs.end.Opening.{echoing, terms_of_ack, terms_of_body, tags_of_body}
 use Rattle.sctp_model.specs.end.Strays.{Verdict}
@@ -13,7 +13,6 @@ use Rattle.sctp_model.specs.end.Arriving.{Passes}
 use Rattle.sctp_model.specs.end.Closing.{rested}
 use Rattle.sctp_model.specs.end.UserCalls.{is_open}
 use Rattle.sctp_model.specs.world.World.{A, Setup, configuration_of}
-use Rattle.sctp_model.specs.world.Steps.{IsDraw}
 use Rattle.sctp_safety.specs.States.{has_agreed}
 use Rattle.sctp_safety.specs.Strangers.{IsDrawn}
 use Rattle.sctp_safety.specs.Agreement.{AreAgreed, AreEachOthers}

@@ -87,7 +87,7 @@ step_11 = BuildsOne A (Says (tsn 200 0)) [] (sent said (Says (tsn 200 0) ∷ [])
     (NotDue ErrorSlot (SackSlot ∷ ForwardSlot ∷ ShutdownSlot ∷ ShutdownAckSlot ∷ []) (end_now w10 A) [] (Says (tsn 200 0) ∷ []) false said refl
     (NotDue SackSlot (ForwardSlot ∷ ShutdownSlot ∷ ShutdownAckSlot ∷ []) (end_now w10 A) [] (Says (tsn 200 0) ∷ []) false said refl
     (NotDue ForwardSlot (ShutdownSlot ∷ ShutdownAckSlot ∷ []) (end_now w10 A) [] (Says (tsn 200 0) ∷ []) false said refl
-    (Put ShutdownSlot (ShutdownAckSlot ∷ []) (end_now w10 A) said (Says (tsn 200 0)) [] (Says (tsn 200 0) ∷ []) false said refl (SayShutdown 0 (fresh_cumulative 200 2 65536)) refl
+    (Put ShutdownSlot (ShutdownAckSlot ∷ []) (end_now w10 A) (Says (tsn 200 0)) [] (Says (tsn 200 0) ∷ []) false said refl (SayShutdown 0 (fresh_cumulative 200 2 65536)) refl
     (NotDue ShutdownAckSlot [] said (Says (tsn 200 0) ∷ []) (Says (tsn 200 0) ∷ []) false said refl
     (NoMore said (Says (tsn 200 0) ∷ []))))))))))
 
@@ -105,7 +105,7 @@ step_13 = BuildsOne B ShutdownAck [] (sent answered (ShutdownAck ∷ [])) (Fills
     (NotDue SackSlot (ForwardSlot ∷ ShutdownSlot ∷ ShutdownAckSlot ∷ []) (end_now w12 B) [] (ShutdownAck ∷ []) false answered refl
     (NotDue ForwardSlot (ShutdownSlot ∷ ShutdownAckSlot ∷ []) (end_now w12 B) [] (ShutdownAck ∷ []) false answered refl
     (NotDue ShutdownSlot (ShutdownAckSlot ∷ []) (end_now w12 B) [] (ShutdownAck ∷ []) false answered refl
-    (Put ShutdownAckSlot [] (end_now w12 B) answered ShutdownAck [] (ShutdownAck ∷ []) false answered refl AnswerShutdown refl
+    (Put ShutdownAckSlot [] (end_now w12 B) ShutdownAck [] (ShutdownAck ∷ []) false answered refl AnswerShutdown refl
     (NoMore answered (ShutdownAck ∷ []))))))))))
 
 step_14 : Step w13 (Deliver B 3) (Some (told w13 A (Answer packet_7))) w14

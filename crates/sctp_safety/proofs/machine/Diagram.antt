@@ -7,13 +7,12 @@ use Rattle.sctp_model.specs.end.EndView.{Draw, Established, Phase, Idle, Listeni
 use Rattle.sctp_model.specs.end.EndView.{Over as IsOver}
 use Rattle.sctp_model.specs.end.Closing.{rested}
 use Rattle.sctp_model.specs.end.Clock.{at_moment}
-use Rattle.sctp_model.specs.end.Opening.{begun}
+use Rattle.sctp_model.specs.end.Opening.{begun, opened}
 use Rattle.sctp_model.specs.end.Strays.{Verdict}
 use Rattle.sctp_model.specs.end.Arriving.{AllAct, NoneLeft, Next, Last, EndsAnswered, Stopped, Arrives, Elsewhere, NotOurs, Stray, CookieBegins, Heard}
 use Rattle.sctp_model.specs.end.Arriving.{Passes}
 use Rattle.sctp_model.specs.end.Moments.{ticked}
 use Rattle.sctp_model.specs.end.UserCalls.{called}
-use Rattle.sctp_model.specs.world.Steps.{opened}
 use Rattle.sctp_safety.specs.States.{IsTurn, ByCall, ByInitAck, ByCookieAck, ByCookie, ByPair, ByStage, ByEnd, IsPath, Here, On, has_begun, has_agreed, IsLaterEnd}
 use Rattle.sctp_safety.proofs.machine.Strangers.{found_is}
 use Rattle.sctp_safety.proofs.machine.Turns.{IsPlainTurn, Stays, Leaves, Goes, IsPlain, path_on, one_turn, begun_by_association, plain_rested, rested_has, IsLeft, Plainly, Accepts, Acked, goes_left, ends_plain, replies_plain}

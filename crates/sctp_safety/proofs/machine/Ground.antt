@@ -4,18 +4,18 @@ use Rattle.sctp_model.specs.numbers.Lists.{Has}
 use Rattle.sctp_model.specs.wire.Chunk.{ChunkMeaning}
 use Rattle.sctp_model.specs.wire.Packet.{Packet}
 use Rattle.sctp_model.specs.end.Sealing.{Sealing}
-use Rattle.sctp_model.specs.end.EndView.{Draw, Listener, EndView, has_association}
+use Rattle.sctp_model.specs.end.EndView.{Draw, Listener, EndView, has_association, IsDraw}
 use Rattle.sctp_model.specs.end.Clock.{at_moment}
 use Rattle.sctp_model.specs.end.Closing.{rested}
 use Rattle.sctp_model.specs.end.Strays.{Verdict}
 use Rattle.sctp_model.specs.end.Arriving.{AllAct, NoneLeft, Next, Last, EndsAnswered, Stopped, Arrives, Elsewhere, NotOurs, Stray, CookieBegins, Heard}
 use Rattle.sctp_model.specs.end.Arriving.{Passes}
 use Rattle.sctp_model.specs.end.Moments.{ticked}
-use Rattle.sctp_model.specs.end.Opening.{begun}
+use Rattle.sctp_model.specs.end.Opening.{begun, opened}
 use Rattle.sctp_model.specs.end.UserCalls.{called, send_answer, shut, abort_answer, abort_leaves}
 use Rattle.sctp_model.specs.world.World.{Side, A, B, World, end_of, end_now, Setup, configuration_of}
 use Rattle.sctp_model.specs.world.Events.{Event, Foreign, Outcome}
-use Rattle.sctp_model.specs.world.Steps.{opened, IsDraw, Step, OpensBoth, OpenRefused, TimePasses, Draws, Connects, ConnectRefused, BuildsOne, BuildsNone, PacketComes, IsAbsent, Unread, Sends, AbandonsOne, TakesOne, ShutsDown, AbortsIt, CutFirst, CutLater, UnreadCut, NoMemory}
+use Rattle.sctp_model.specs.world.Steps.{Step, OpensBoth, OpenRefused, TimePasses, Draws, Connects, ConnectRefused, BuildsOne, BuildsNone, PacketComes, IsAbsent, Unread, Sends, AbandonsOne, TakesOne, ShutsDown, AbortsIt, CutFirst, CutLater, UnreadCut, NoMemory}
 use Rattle.sctp_model.specs.world.Premises.{draws_of, IsStranger}
 use Rattle.sctp_safety.proofs.machine.Sides.{IsSameEnd, same_end, same_on, same_rested, goes_same, ends_same}
 use Rattle.sctp_safety.proofs.machine.Turns.{IsPlain, rested_has, builds_plain, replies_plain, goes_left}

@@ -5,7 +5,7 @@ use Rattle.sctp_model.specs.numbers.Numbers.{u16_bytes, u32_bytes, u16_at, u32_a
 use Rattle.sctp_model.specs.wire.Typed.{starts_typed, typed_of}
 use Rattle.sctp_model.specs.wire.Chunk.{InitAck, CookieEcho, CookieAck}
 use Rattle.sctp_model.specs.wire.Packet.{Packet, size_of_packet}
-use Rattle.sctp_model.specs.end.EndView.{Draw, Established, Open, InitAlarm}
+use Rattle.sctp_model.specs.end.EndView.{Draw, Established, Open, InitAlarm, IsDraw}
 use Rattle.sctp_model.specs.end.Clock.{started, turned}
 use Rattle.sctp_model.specs.end.Closing.{with_due}
 use Rattle.sctp_model.specs.end.Configured.{IsConfiguration}
@@ -15,7 +15,7 @@ use Rattle.sctp_model.specs.end.Arriving.{Stray, CookieBegins, Heard, NoneLeft, 
 use Rattle.sctp_model.specs.end.Building.{EchoSlot, CookieAckSlot, HeartbeatSlot, ErrorSlot, SackSlot, ForwardSlot, ShutdownSlot, ShutdownAckSlot, EchoCookie, AckCookie, NoMore, NotDue, Put, Calls, Echoes, Fills, sent}
 use Rattle.sctp_model.specs.world.World.{Side, A, B, end_now, configuration_of}
 use Rattle.sctp_model.specs.world.Events.{told, OpenBoth, Drawing, Connect, Build, Deliver, Foreign, Done, Sent, Acted}
-use Rattle.sctp_model.specs.world.Steps.{IsDraw, Step, Draws, Connects, BuildsOne, FromBag, PacketComes, Run, Rest, Then}
+use Rattle.sctp_model.specs.world.Steps.{Step, Draws, Connects, BuildsOne, FromBag, PacketComes, Run, Rest, Then}
 use Rattle.sctp_safety.specs.Handshake.{AnAssociationOpens}
 use Rattle.sctp_safety.proofs.machine.OpeningWorlds.{two, of_a, of_b, tags_a, opening, w0, w1, init, w2, w3, init_meaning, packet_1, w4, cookie, ack_meaning, packet_2, echoes, w5, echoed, packet_3, w6, begins, w7, acked, packet_4, w8, w9, answers}
 
@@ -49,7 +49,7 @@ step_5 = PacketComes (Deliver B 1) A packet_2 echoes Taken (FromBag B 1 packet_2
 step_6 : Step w5 (Build A) (Some (Sent 2 (size_of_packet (CookieEcho cookie ∷ [])))) w6
 unfolding u16_bytes u32_bytes u16_at u32_at starts_typed typed_of
 step_6 = BuildsOne A (CookieEcho cookie) [] echoed (Echoes tags_a cookie (CookieEcho cookie ∷ []) false echoed refl
-    (Put EchoSlot (ErrorSlot ∷ []) (end_now w5 A) echoed (CookieEcho cookie) [] (CookieEcho cookie ∷ []) false echoed refl (EchoCookie tags_a cookie refl) refl
+    (Put EchoSlot (ErrorSlot ∷ []) (end_now w5 A) (CookieEcho cookie) [] (CookieEcho cookie ∷ []) false echoed refl (EchoCookie tags_a cookie refl) refl
     (NotDue ErrorSlot [] echoed (CookieEcho cookie ∷ []) (CookieEcho cookie ∷ []) false echoed refl (NoMore echoed (CookieEcho cookie ∷ [])))))
 
 step_7 : Step w6 (Deliver A 2) (Some Acted) w7
@@ -59,7 +59,7 @@ step_7 = PacketComes (Deliver A 2) B packet_3 begins Taken (FromBag A 2 packet_3
 step_8 : Step w7 (Build B) (Some (Sent 2 (size_of_packet (CookieAck ∷ [])))) w8
 unfolding u16_bytes u32_bytes u16_at u32_at starts_typed typed_of
 step_8 = BuildsOne B CookieAck [] (sent acked (CookieAck ∷ [])) (Fills (record { own = 9; peer = 7 }) Established (CookieAck ∷ []) acked refl
-    (Put CookieAckSlot (HeartbeatSlot ∷ ErrorSlot ∷ SackSlot ∷ ForwardSlot ∷ ShutdownSlot ∷ ShutdownAckSlot ∷ []) (end_now w7 B) acked CookieAck [] (CookieAck ∷ []) false acked refl AckCookie refl
+    (Put CookieAckSlot (HeartbeatSlot ∷ ErrorSlot ∷ SackSlot ∷ ForwardSlot ∷ ShutdownSlot ∷ ShutdownAckSlot ∷ []) (end_now w7 B) CookieAck [] (CookieAck ∷ []) false acked refl AckCookie refl
     (NotDue HeartbeatSlot (ErrorSlot ∷ SackSlot ∷ ForwardSlot ∷ ShutdownSlot ∷ ShutdownAckSlot ∷ []) acked (CookieAck ∷ []) (CookieAck ∷ []) false acked refl
     (NotDue ErrorSlot (SackSlot ∷ ForwardSlot ∷ ShutdownSlot ∷ ShutdownAckSlot ∷ []) acked (CookieAck ∷ []) (CookieAck ∷ []) false acked refl
     (NotDue SackSlot (ForwardSlot ∷ ShutdownSlot ∷ ShutdownAckSlot ∷ []) acked (CookieAck ∷ []) (CookieAck ∷ []) false acked refl

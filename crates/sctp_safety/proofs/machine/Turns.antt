@@ -8,7 +8,7 @@ use Rattle.sctp_model.specs.end.PeerFaults.{GoesOn, Ends}
 use Rattle.sctp_model.specs.end.Options.{STATE_COOKIE, value_of}
 use Rattle.sctp_model.specs.end.Opening.{AcceptedAck, EchoedAgain, CookieAcked, echoing}
 use Rattle.sctp_model.specs.end.Acting.{IsBad, WrongKind, SackWrong, ShutdownWrong, WrongFormat, PieceEmpty, Acts, ForwardComes, PieceComes, IsOld, SackStale, ShutdownStale, HeartbeatCounts, SackCounts, ShutdownCounts, Closes, SaysNothing, Crosses, Again, AckCompletes, CompleteCompleted}
-use Rattle.sctp_model.specs.end.Building.{Wants, EchoCookie, AckCookie, AckHeartbeat, ReportCauses, Acknowledge, PassOn, SayShutdown, AnswerShutdown, Slot, Puts, NoMore, NotDue, Put, IsFull, Builds, Sleeps, Waits, Calls, Echoes, Fills}
+use Rattle.sctp_model.specs.end.Building.{once_built, Slot, Puts, NoMore, NotDue, Put, IsFull, Builds, Sleeps, Waits, Calls, Echoes, Fills, EchoSlot, CookieAckSlot, HeartbeatSlot, ErrorSlot, SackSlot, ForwardSlot, ShutdownSlot, ShutdownAckSlot}
 use Rattle.sctp_model.specs.end.Building.{EndsFull}
 use Rattle.sctp_model.specs.end.Closing.{takes_acknowledgements}
 use Rattle.sctp_model.specs.wire.Packet.{Packet}
@@ -181,22 +181,22 @@ replies_plain e tag (Unknown k f v) t p has h = absurd (unknown_never_replies e 
 
 -- ---- a packet that is built
 
-wants_plain : (s : Slot) (e : EndView) (x : ChunkMeaning) (t : EndView) → Wants e s x t → IsPlain e t
-wants_plain s e x t (EchoCookie _ _ _) = record { configuration = refl; role = refl; moment = refl; terms = refl; turn = Stays e.phase }
-wants_plain s e x t AckCookie = record { configuration = refl; role = refl; moment = refl; terms = refl; turn = Stays e.phase }
-wants_plain s e x t (AckHeartbeat _ _) = record { configuration = refl; role = refl; moment = refl; terms = refl; turn = Stays e.phase }
-wants_plain s e x t ReportCauses = record { configuration = refl; role = refl; moment = refl; terms = refl; turn = Stays e.phase }
-wants_plain s e x t (Acknowledge _ _) = record { configuration = refl; role = refl; moment = refl; terms = refl; turn = Stays e.phase }
-wants_plain s e x t PassOn = record { configuration = refl; role = refl; moment = refl; terms = refl; turn = Stays e.phase }
-wants_plain s e x t (SayShutdown _ _) = record { configuration = refl; role = refl; moment = refl; terms = refl; turn = Stays e.phase }
-wants_plain s e x t AnswerShutdown = record { configuration = refl; role = refl; moment = refl; terms = refl; turn = Stays e.phase }
+built_plain : (s : Slot) (e : EndView) → IsPlain e (once_built s e)
+built_plain EchoSlot e = record { configuration = refl; role = refl; moment = refl; terms = refl; turn = Stays e.phase }
+built_plain CookieAckSlot e = record { configuration = refl; role = refl; moment = refl; terms = refl; turn = Stays e.phase }
+built_plain HeartbeatSlot e = record { configuration = refl; role = refl; moment = refl; terms = refl; turn = Stays e.phase }
+built_plain ErrorSlot e = record { configuration = refl; role = refl; moment = refl; terms = refl; turn = Stays e.phase }
+built_plain SackSlot e = record { configuration = refl; role = refl; moment = refl; terms = refl; turn = Stays e.phase }
+built_plain ForwardSlot e = record { configuration = refl; role = refl; moment = refl; terms = refl; turn = Stays e.phase }
+built_plain ShutdownSlot e = record { configuration = refl; role = refl; moment = refl; terms = refl; turn = Stays e.phase }
+built_plain ShutdownAckSlot e = record { configuration = refl; role = refl; moment = refl; terms = refl; turn = Stays e.phase }
 
 pub puts_plain : (ss : List Slot) (e : EndView) (xs zs : List ChunkMeaning) (full : Bool) (t : EndView) → Puts ss e xs zs full t → IsPlain e t
 puts_plain ss e xs zs full t (NoMore _ _) = plain_same e
 puts_plain ss e xs zs full t (NotDue _ more _ _ _ _ _ off rest) = puts_plain more e xs zs full t rest
-puts_plain ss e xs zs full t (Put s more _ mid x _ _ _ _ due wants room rest) =
-    plain_on e mid t (wants_plain s e x mid wants) (puts_plain more mid (xs ++ x ∷ []) zs full t rest)
-puts_plain ss e xs zs full t (IsFull _ _ _ _ _ _ due wants room) = plain_same e
+puts_plain ss e xs zs full t (Put s more _ x _ _ _ _ due wants room rest) =
+    plain_on e (once_built s e) t (built_plain s e) (puts_plain more (once_built s e) (xs ++ x ∷ []) zs full t rest)
+puts_plain ss e xs zs full t (IsFull _ _ _ _ _ due wants room) = plain_same e
 
 pub builds_plain : (e : EndView) (xs : List ChunkMeaning) (t : EndView) → Builds e xs t → IsPlain e t
 builds_plain e xs t (Sleeps _) = plain_same e

@@ -5,7 +5,7 @@ use Rattle.sctp_model.specs.numbers.Numbers.{u16_bytes, u32_bytes, u16_at, u32_a
 use Rattle.sctp_model.specs.wire.Typed.{starts_typed, typed_of}
 use Rattle.sctp_model.specs.wire.Chunk.{InitMeaning, InitAck, CookieEcho}
 use Rattle.sctp_model.specs.wire.Packet.{Packet, size_of_packet}
-use Rattle.sctp_model.specs.end.EndView.{Draw, EndView, CookieAlarm}
+use Rattle.sctp_model.specs.end.EndView.{Draw, EndView, CookieAlarm, IsDraw}
 use Rattle.sctp_model.specs.end.Clock.{started}
 use Rattle.sctp_model.specs.end.Closing.{with_due}
 use Rattle.sctp_model.specs.end.Reports.{written, item}
@@ -18,7 +18,7 @@ use Rattle.sctp_model.specs.end.Arriving.{Passes}
 use Rattle.sctp_model.specs.end.Building.{EchoSlot, ErrorSlot, EchoCookie, NoMore, NotDue, Put, Echoes, packet_of}
 use Rattle.sctp_model.specs.world.World.{Side, A, B, World, with_end, with_packet, end_now, came, configuration_of}
 use Rattle.sctp_model.specs.world.Events.{Event, Drawing, Connect, Build, Deliver, Foreign, Done, Sent, Acted, NotActed, told, with_verdict}
-use Rattle.sctp_model.specs.world.Steps.{IsDraw, Step, Draws, BuildsOne, FromBag, PacketComes, Rest, Then}
+use Rattle.sctp_model.specs.world.Steps.{Step, Draws, BuildsOne, FromBag, PacketComes, Rest, Then}
 use Rattle.sctp_safety.specs.Handshake.{TheFirstAnswerCounts}
 use Rattle.sctp_safety.proofs.machine.OpeningWorlds.{two, of_a, of_b, numbers, w0, w1, w2, w3, init_meaning, packet_1, w4, packet_2, ack_meaning}
 use Rattle.sctp_safety.proofs.machine.Handshake.{step_1, step_2, step_3, step_4, configured}
@@ -102,7 +102,7 @@ step_8 = PacketComes (Deliver B 1) A packet_2 (end_now v7 A) (Dropped STATE) (Fr
 step_9 : Step v8 (Build A) (Some (Sent 2 (size_of_packet (CookieEcho cookie ∷ [])))) v9
 unfolding u16_bytes u32_bytes u16_at u32_at starts_typed typed_of
 step_9 = BuildsOne A (CookieEcho cookie) [] echoed (Echoes (record { own = 7; peer = 11 }) cookie (CookieEcho cookie ∷ []) false echoed refl
-    (Put EchoSlot (ErrorSlot ∷ []) (end_now v8 A) echoed (CookieEcho cookie) [] (CookieEcho cookie ∷ []) false echoed refl (EchoCookie (record { own = 7; peer = 11 }) cookie refl) refl
+    (Put EchoSlot (ErrorSlot ∷ []) (end_now v8 A) (CookieEcho cookie) [] (CookieEcho cookie ∷ []) false echoed refl (EchoCookie (record { own = 7; peer = 11 }) cookie refl) refl
     (NotDue ErrorSlot [] echoed (CookieEcho cookie ∷ []) (CookieEcho cookie ∷ []) false echoed refl (NoMore echoed (CookieEcho cookie ∷ [])))))
 
 step_10 : Step v9 (Deliver A 2) (Some Acted) v10

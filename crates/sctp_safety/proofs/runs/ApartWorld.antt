@@ -10,7 +10,8 @@ use Rattle.sctp_model.specs.end.Strays.{Verdict, Taken, Dropped, Answer}
 use Rattle.sctp_model.specs.end.UserCalls.{Aborts, TooLong, peer_tag, abort_packet, abort_answer_to, abort_answer, SendAnswer, send_answer, send_leaves}
 use Rattle.sctp_model.specs.world.World.{Side, A, B, Log, World, end_of, bag_of, log_of, with_end, with_packet, with_log, end_now, came, Setup, configuration_of}
 use Rattle.sctp_model.specs.world.Events.{with_verdict, with_abort}
-use Rattle.sctp_model.specs.world.Steps.{opened, accepted}
+use Rattle.sctp_model.specs.end.Opening.{opened}
+use Rattle.sctp_model.specs.world.Steps.{accepted}
 use Rattle.sctp_model.specs.world.Premises.{asked_at}
 use Rattle.sctp_safety.specs.States.{has_begun}
 use Rattle.sctp_safety.specs.Agreement.{AreAgreed}

@@ -12,7 +12,7 @@ use Rattle.sctp_model.specs.sender.Reached.{IsReached}
 use Rattle.sctp_model.specs.end.EndView.{Terms, Established, ShutdownPending, ShutdownReceived, ShutdownSent, ShutdownAckSent, Phase, Idle, Listening, Calling, Echoing, Open, Over, ShutdownAlarm, AckAlarm, EndView, format_for, format_of}
 use Rattle.sctp_model.specs.end.Clock.{is_home}
 use Rattle.sctp_model.specs.end.Closing.{hears, awaits_ack}
-use Rattle.sctp_model.specs.end.Building.{Slot, is_due, Wants, EchoCookie, AckCookie, AckHeartbeat, ReportCauses, Acknowledge, PassOn, SayShutdown, AnswerShutdown, Puts, NoMore, NotDue, Put, IsFull, echoing_slots, open_slots, filled_behind, sent, fragments, Builds, Sleeps, Waits, Calls, Echoes, EndsFull, Fills}
+use Rattle.sctp_model.specs.end.Building.{Slot, is_due, Wants, EchoCookie, AckCookie, AckHeartbeat, ReportCauses, Acknowledge, PassOn, SayShutdown, AnswerShutdown, Puts, NoMore, NotDue, Put, IsFull, echoing_slots, open_slots, filled_behind, sent, fragments, Builds, Sleeps, Waits, Calls, Echoes, EndsFull, Fills, EchoSlot, CookieAckSlot, HeartbeatSlot, ErrorSlot, SackSlot, ForwardSlot, ShutdownSlot, ShutdownAckSlot, once_built}
 use Rattle.sctp_safety.specs.States.{has_agreed}
 use Rattle.sctp_safety.proofs.runs.Sending.{Has-map}
 use Rattle.sctp_safety.proofs.runs.Acted.{not_calling}
@@ -67,20 +67,20 @@ module _ (p : EndView) (back : List ChunkMeaning) where
       one y (inl q) on = says (subst (λ (z : ChunkMeaning). is_shutting z ≡ true) (sym q) on)
       one y (inr h) on = absurd h
 
-  put_one : (s : Slot) (out : List ChunkMeaning) (e t : EndView) (x : ChunkMeaning) → Ending out e → is_due s e ≡ true → Wants e s x t → Ending (out ++ x ∷ []) t
-  put_one s out e t x c due (EchoCookie _ _ _) = put out e t x c (home_like e _ c.this.home refl refl refl refl refl) refl refl (λ on. absurd (cc))
-  put_one s out e t x c due AckCookie = put out e t x c (home_like e _ c.this.home refl refl refl refl refl) refl refl (λ on. absurd (cc))
-  put_one s out e t x c due (AckHeartbeat _ _) = put out e t x c (home_like e _ c.this.home refl refl refl refl refl) refl refl (λ on. absurd (cc))
-  put_one s out e t x c due ReportCauses = put out e t x c (home_like e _ c.this.home refl refl refl refl refl) refl refl (λ on. absurd (cc))
-  put_one s out e t x c due (Acknowledge made is) = put out e t x c (home_like e _ c.this.home refl refl refl refl refl) refl refl (λ on. absurd (cc))
-  put_one s out e t x c due PassOn = put out e t x c (home_like e _ c.this.home refl refl refl refl refl) refl refl (λ on. absurd (let off = forward_is_other (format_of e) e.sender in cc))
-  put_one s out e t x c due (SayShutdown k is) = put out e t x c (record {
+  put_one : (s : Slot) (out : List ChunkMeaning) (e : EndView) (x : ChunkMeaning) → Ending out e → is_due s e ≡ true → Wants e s x → Ending (out ++ x ∷ []) (once_built s e)
+  put_one s out e x c due (EchoCookie _ _ _) = put out e (once_built EchoSlot e) x c (home_like e _ c.this.home refl refl refl refl refl) refl refl (λ on. absurd (cc))
+  put_one s out e x c due AckCookie = put out e (once_built CookieAckSlot e) x c (home_like e _ c.this.home refl refl refl refl refl) refl refl (λ on. absurd (cc))
+  put_one s out e x c due (AckHeartbeat _ _) = put out e (once_built HeartbeatSlot e) x c (home_like e _ c.this.home refl refl refl refl refl) refl refl (λ on. absurd (cc))
+  put_one s out e x c due ReportCauses = put out e (once_built ErrorSlot e) x c (home_like e _ c.this.home refl refl refl refl refl) refl refl (λ on. absurd (cc))
+  put_one s out e x c due (Acknowledge made is) = put out e (once_built SackSlot e) x c (home_like e _ c.this.home refl refl refl refl refl) refl refl (λ on. absurd (cc))
+  put_one s out e x c due PassOn = put out e (once_built ForwardSlot e) x c (home_like e _ c.this.home refl refl refl refl refl) refl refl (λ on. absurd (let off = forward_is_other (format_of e) e.sender in cc))
+  put_one s out e x c due (SayShutdown k is) = put out e (once_built ShutdownSlot e) x c (record {
     shutdown = λ on. absurd (cc);
     ack = c.this.home.ack;
     shutdown_runs = λ n on. c.this.home.shutdown due;
     ack_runs = c.this.home.ack_runs;
   }) refl refl (λ on. let now = home_awaits e.phase (c.this.home.shutdown due) in record { empty = c.this.empty now; last = last_by_ack e.phase now })
-  put_one s out e t x c due AnswerShutdown = put out e t x c (record {
+  put_one s out e x c due AnswerShutdown = put out e (once_built ShutdownAckSlot e) x c (record {
     shutdown = c.this.home.shutdown;
     ack = λ on. absurd (cc);
     shutdown_runs = c.this.home.shutdown_runs;
@@ -90,10 +90,10 @@ module _ (p : EndView) (back : List ChunkMeaning) where
   puts_keep : (out : List ChunkMeaning) (ss : List Slot) (e : EndView) (xs zs : List ChunkMeaning) (full : Bool) (t : EndView) → Ending (out ++ xs) e → Puts ss e xs zs full t → Ending (out ++ zs) t
   puts_keep out ss e xs zs full t c (NoMore _ _) = c
   puts_keep out ss e xs zs full t c (NotDue _ more _ _ _ _ _ off rest) = puts_keep out more e xs zs full t c rest
-  puts_keep out ss e xs zs full t c (Put s more _ mid x _ _ _ _ due wants room rest) =
-      puts_keep out more mid (xs ++ x ∷ []) zs full t
-      (subst (λ (ys : List ChunkMeaning). Ending ys mid) (append_assoc out xs (x ∷ [])) (put_one s (out ++ xs) e mid x c due wants)) rest
-  puts_keep out ss e xs zs full t c (IsFull _ _ _ _ _ _ due wants room) = c
+  puts_keep out ss e xs zs full t c (Put s more _ x _ _ _ _ due wants room rest) =
+      puts_keep out more (once_built s e) (xs ++ x ∷ []) zs full t
+      (subst (λ (ys : List ChunkMeaning). Ending ys (once_built s e)) (append_assoc out xs (x ∷ [])) (put_one s (out ++ xs) e x c due wants)) rest
+  puts_keep out ss e xs zs full t c (IsFull _ _ _ _ _ due wants room) = c
 
   fill_keeps : (out : List ChunkMeaning) (e : EndView) (zs : List ChunkMeaning) → IsReached (format_of e) e.sender → Ending (out ++ zs) e → Ending (out ++ (zs ++ fragments e zs)) (sent e zs)
   fill_keeps out e zs reached c = subst (λ (ys : List ChunkMeaning). Ending ys (sent e zs)) (append_assoc out zs (fragments e zs))
@@ -107,29 +107,29 @@ module _ (p : EndView) (back : List ChunkMeaning) where
           absurd (cc)
 
   -- What is due goes in without a change of the sender, so a view that calls reach stays one.
-  wants_sender : (s : Slot) (e : EndView) (x : ChunkMeaning) (t : EndView) → Wants e s x t → (t.sender ≡ e.sender) × (t.terms ≡ e.terms)
-  wants_sender s e x t (EchoCookie _ _ _) = (refl, refl)
-  wants_sender s e x t AckCookie = (refl, refl)
-  wants_sender s e x t (AckHeartbeat _ _) = (refl, refl)
-  wants_sender s e x t ReportCauses = (refl, refl)
-  wants_sender s e x t (Acknowledge _ _) = (refl, refl)
-  wants_sender s e x t PassOn = (refl, refl)
-  wants_sender s e x t (SayShutdown _ _) = (refl, refl)
-  wants_sender s e x t AnswerShutdown = (refl, refl)
+  built_sender : (s : Slot) (e : EndView) → ((once_built s e).sender ≡ e.sender) × ((once_built s e).terms ≡ e.terms)
+  built_sender EchoSlot e = (refl, refl)
+  built_sender CookieAckSlot e = (refl, refl)
+  built_sender HeartbeatSlot e = (refl, refl)
+  built_sender ErrorSlot e = (refl, refl)
+  built_sender SackSlot e = (refl, refl)
+  built_sender ForwardSlot e = (refl, refl)
+  built_sender ShutdownSlot e = (refl, refl)
+  built_sender ShutdownAckSlot e = (refl, refl)
 
   abbrev Reached : EndView → Type 0
   Reached e = IsReached (format_of e) e.sender
 
-  wants_reached : (e t : EndView) → (t.sender ≡ e.sender) × (t.terms ≡ e.terms) → Reached e → Reached t
-  wants_reached e t (sender, terms) h =
+  built_reached : (e t : EndView) → (t.sender ≡ e.sender) × (t.terms ≡ e.terms) → Reached e → Reached t
+  built_reached e t (sender, terms) h =
       subst (λ (x : Terms). IsReached (format_for x.interleave) t.sender) (sym terms) (subst (λ (a : SenderView). IsReached (format_of e) a) (sym sender) h)
 
   puts_reached : (ss : List Slot) (e : EndView) (xs zs : List ChunkMeaning) (full : Bool) (t : EndView) → Reached e → Puts ss e xs zs full t → Reached t
   puts_reached ss e xs zs full t h (NoMore _ _) = h
   puts_reached ss e xs zs full t h (NotDue _ more _ _ _ _ _ off rest) = puts_reached more e xs zs full t h rest
-  puts_reached ss e xs zs full t h (Put s more _ mid x _ _ _ _ due wants room rest) =
-      puts_reached more mid (xs ++ x ∷ []) zs full t (wants_reached e mid (wants_sender s e x mid wants) h) rest
-  puts_reached ss e xs zs full t h (IsFull _ _ _ _ _ _ due wants room) = h
+  puts_reached ss e xs zs full t h (Put s more _ x _ _ _ _ due wants room rest) =
+      puts_reached more (once_built s e) (xs ++ x ∷ []) zs full t (built_reached e (once_built s e) (built_sender s e) h) rest
+  puts_reached ss e xs zs full t h (IsFull _ _ _ _ _ due wants room) = h
 
   pub ending_built : (out : List ChunkMeaning) (e : EndView) (zs : List ChunkMeaning) (t : EndView) → has_agreed e.phase ≡ true → Reached e → Ending out e → Builds e zs t → Ending (out ++ zs) t
   ending_built out e zs t agreed h c (Sleeps none) = subst (λ (ys : List ChunkMeaning). Ending ys e) (sym (append-nil out)) c

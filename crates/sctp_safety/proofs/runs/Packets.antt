@@ -13,7 +13,7 @@ use Rattle.sctp_model.specs.sender.Filling.{Wish}
 use Rattle.sctp_model.specs.sender.SentChunks.{chunk_of, forward_chunk_of}
 use Rattle.sctp_model.proofs.sender.FillLaws.{fill_is_fill}
 use Rattle.sctp_model.specs.end.EndView.{Phase, EndView, format_of}
-use Rattle.sctp_model.specs.end.Building.{Slot, Wants, EchoCookie, AckCookie, AckHeartbeat, ReportCauses, Acknowledge, PassOn, SayShutdown, AnswerShutdown, Puts, NoMore, NotDue, Put, IsFull, echoing_slots, open_slots, filled_behind, sent, fragments, Builds, Sleeps, Waits, Calls, Echoes, EndsFull, Fills}
+use Rattle.sctp_model.specs.end.Building.{Slot, Wants, EchoCookie, AckCookie, AckHeartbeat, ReportCauses, Acknowledge, PassOn, SayShutdown, AnswerShutdown, Puts, NoMore, NotDue, Put, IsFull, echoing_slots, open_slots, filled_behind, sent, fragments, Builds, Sleeps, Waits, Calls, Echoes, EndsFull, Fills, EchoSlot, CookieAckSlot, HeartbeatSlot, ErrorSlot, SackSlot, ForwardSlot, ShutdownSlot, ShutdownAckSlot, once_built}
 use Rattle.sctp_safety.specs.States.{has_agreed}
 use Rattle.sctp_safety.proofs.runs.Sending.{after_fill, Has-map}
 use Rattle.sctp_safety.proofs.runs.Passing.{after_forward}
@@ -52,29 +52,29 @@ module _ (p : EndView) (u v : Asked) (back : List ChunkMeaning) where
   forward_is_quiet_back Plain a = refl
   forward_is_quiet_back Interleaved a = refl
 
-  put_one : (s : Slot) (out : List ChunkMeaning) (e t : EndView) (x : ChunkMeaning) → Met out e → Wants e s x t → Met (out ++ x ∷ []) t
-  put_one s out e t x m (EchoCookie _ _ _) = put out e t x m e.receiver (going_quiet out e x m refl) (coming_quiet out e x m refl) (record { terms = refl; sender = refl; receiver = refl; moment = refl }) refl
-  put_one s out e t x m AckCookie = put out e t x m e.receiver (going_quiet out e x m refl) (coming_quiet out e x m refl) (record { terms = refl; sender = refl; receiver = refl; moment = refl }) refl
-  put_one s out e t x m (AckHeartbeat _ _) = put out e t x m e.receiver (going_quiet out e x m refl) (coming_quiet out e x m refl) (record { terms = refl; sender = refl; receiver = refl; moment = refl }) refl
-  put_one s out e t x m ReportCauses = put out e t x m e.receiver (going_quiet out e x m refl) (coming_quiet out e x m refl) (record { terms = refl; sender = refl; receiver = refl; moment = refl }) refl
-  put_one s out e t x m (Acknowledge made is) = put out e t x m (sack_sent e.receiver) (going_quiet out e x m refl)
+  put_one : (s : Slot) (out : List ChunkMeaning) (e : EndView) (x : ChunkMeaning) → Met out e → Wants e s x → Met (out ++ x ∷ []) (once_built s e)
+  put_one s out e x m (EchoCookie _ _ _) = put out e (once_built EchoSlot e) x m e.receiver (going_quiet out e x m refl) (coming_quiet out e x m refl) (record { terms = refl; sender = refl; receiver = refl; moment = refl }) refl
+  put_one s out e x m AckCookie = put out e (once_built CookieAckSlot e) x m e.receiver (going_quiet out e x m refl) (coming_quiet out e x m refl) (record { terms = refl; sender = refl; receiver = refl; moment = refl }) refl
+  put_one s out e x m (AckHeartbeat _ _) = put out e (once_built HeartbeatSlot e) x m e.receiver (going_quiet out e x m refl) (coming_quiet out e x m refl) (record { terms = refl; sender = refl; receiver = refl; moment = refl }) refl
+  put_one s out e x m ReportCauses = put out e (once_built ErrorSlot e) x m e.receiver (going_quiet out e x m refl) (coming_quiet out e x m refl) (record { terms = refl; sender = refl; receiver = refl; moment = refl }) refl
+  put_one s out e x m (Acknowledge made is) = put out e (once_built SackSlot e) x m (sack_sent e.receiver) (going_quiet out e x m refl)
       (after_note (format_of p) p.terms.outbound p.sender v e.receiver back (out ++ Sack made ∷ [])
       (after_sack_made (format_of p) p.terms.outbound p.sender v e.receiver back out m.coming made is) []) (record { terms = refl; sender = refl; receiver = refl; moment = refl }) refl
-  put_one s out e t x m PassOn = put out e t x m e.receiver (after_forward (format_of e) e.terms.outbound e.sender u p.receiver out back m.going)
+  put_one s out e x m PassOn = put out e (once_built ForwardSlot e) x m e.receiver (after_forward (format_of e) e.terms.outbound e.sender u p.receiver out back m.going)
       (coming_quiet out e x m (forward_is_quiet_back (format_of e) e.sender)) (record { terms = refl; sender = refl; receiver = refl; moment = refl }) refl
-  put_one s out e t x m (SayShutdown c is) = put out e t x m e.receiver (going_quiet out e x m refl)
+  put_one s out e x m (SayShutdown c is) = put out e (once_built ShutdownSlot e) x m e.receiver (going_quiet out e x m refl)
       (after_shutdown_made (format_of p) p.terms.outbound p.sender v e.receiver back out m.coming c is) (record { terms = refl; sender = refl; receiver = refl; moment = refl }) refl
-  put_one s out e t x m AnswerShutdown = put out e t x m e.receiver (going_quiet out e x m refl) (coming_quiet out e x m refl) (record { terms = refl; sender = refl; receiver = refl; moment = refl }) refl
+  put_one s out e x m AnswerShutdown = put out e (once_built ShutdownAckSlot e) x m e.receiver (going_quiet out e x m refl) (coming_quiet out e x m refl) (record { terms = refl; sender = refl; receiver = refl; moment = refl }) refl
 
   -- ---- one after the other
 
   puts_keep : (out : List ChunkMeaning) (ss : List Slot) (e : EndView) (xs zs : List ChunkMeaning) (full : Bool) (t : EndView) → Met (out ++ xs) e → Puts ss e xs zs full t → Met (out ++ zs) t
   puts_keep out ss e xs zs full t m (NoMore _ _) = m
   puts_keep out ss e xs zs full t m (NotDue _ more _ _ _ _ _ off rest) = puts_keep out more e xs zs full t m rest
-  puts_keep out ss e xs zs full t m (Put s more _ mid x _ _ _ _ due wants room rest) =
-      puts_keep out more mid (xs ++ x ∷ []) zs full t
-      (subst (λ (ys : List ChunkMeaning). Met ys mid) (append_assoc out xs (x ∷ [])) (put_one s (out ++ xs) e mid x m wants)) rest
-  puts_keep out ss e xs zs full t m (IsFull _ _ _ _ _ _ due wants room) = m
+  puts_keep out ss e xs zs full t m (Put s more _ x _ _ _ _ due wants room rest) =
+      puts_keep out more (once_built s e) (xs ++ x ∷ []) zs full t
+      (subst (λ (ys : List ChunkMeaning). Met ys (once_built s e)) (append_assoc out xs (x ∷ [])) (put_one s (out ++ xs) e x m wants)) rest
+  puts_keep out ss e xs zs full t m (IsFull _ _ _ _ _ due wants room) = m
 
   -- fragments behind what is due
   fill_keeps : (out : List ChunkMeaning) (e : EndView) (zs : List ChunkMeaning) → Met (out ++ zs) e → Met (out ++ (zs ++ fragments e zs)) (sent e zs)

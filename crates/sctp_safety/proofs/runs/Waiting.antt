@@ -11,7 +11,7 @@ use Rattle.sctp_model.specs.receiver.SackMade.{TakeLeaves}
 use Rattle.sctp_model.specs.end.EndView.{Draw, AbortedHere, TimedOut, Phase, Idle, Listening, Calling, Echoing, Open, Over, Alarm, InitAlarm, CookieAlarm, DataAlarm, ShutdownAlarm, AckAlarm, EndView, has_association}
 use Rattle.sctp_model.specs.end.Clock.{is_home, repeats_of, is_over_at, with_timer, closed, at_moment, settled}
 use Rattle.sctp_model.specs.end.Clock.{expired_timer}
-use Rattle.sctp_model.specs.end.Building.{Slot, EchoSlot, CookieAckSlot, HeartbeatSlot, ErrorSlot, SackSlot, ForwardSlot, ShutdownSlot, ShutdownAckSlot, Wants, EchoCookie, AckCookie, AckHeartbeat, ReportCauses, Acknowledge, PassOn, SayShutdown, AnswerShutdown, Puts, NoMore, NotDue, Put, IsFull, echoing_slots, Builds, Sleeps, Waits, Calls, Echoes, Fills}
+use Rattle.sctp_model.specs.end.Building.{Slot, EchoSlot, CookieAckSlot, HeartbeatSlot, ErrorSlot, SackSlot, ForwardSlot, ShutdownSlot, ShutdownAckSlot, Wants, EchoCookie, AckCookie, AckHeartbeat, ReportCauses, Acknowledge, PassOn, SayShutdown, AnswerShutdown, Puts, NoMore, NotDue, Put, IsFull, echoing_slots, Builds, Sleeps, Waits, Calls, Echoes, Fills, once_built}
 use Rattle.sctp_model.specs.end.Building.{EndsFull}
 use Rattle.sctp_model.specs.end.Closing.{hears}
 use Rattle.sctp_model.specs.end.Moments.{after_giving_up, due_again, rung, ring, rung_all, all_alarms, passed, ticked}
@@ -112,16 +112,16 @@ module _ (clock : ℕ) where
   is_echo_slot ShutdownSlot = false
   is_echo_slot ShutdownAckSlot = false
 
-  one_put : (s : Slot) (e : EndView) (x : ChunkMeaning) (t : EndView) → is_echo_slot s ≡ true → Unmet e → Wants e s x t → Unmet t × (opens_or_ends x ≡ true)
+  one_put : (s : Slot) (e : EndView) (x : ChunkMeaning) → is_echo_slot s ≡ true → Unmet e → Wants e s x → Unmet (once_built s e) × (opens_or_ends x ≡ true)
   unfolding is_echo_slot
-  one_put s e x t on m (EchoCookie _ _ _) = (still clock e t m (alike e t refl refl refl refl refl) m.unopened (home_like e _ m.home refl refl refl refl refl), refl)
-  one_put s e x t on m AckCookie = absurd (cc)
-  one_put s e x t on m (AckHeartbeat _ _) = absurd (cc)
-  one_put s e x t on m ReportCauses = (still clock e t m (alike e t refl refl refl refl refl) m.unopened (home_like e _ m.home refl refl refl refl refl), refl)
-  one_put s e x t on m (Acknowledge _ _) = absurd (cc)
-  one_put s e x t on m PassOn = absurd (cc)
-  one_put s e x t on m (SayShutdown _ _) = absurd (cc)
-  one_put s e x t on m AnswerShutdown = absurd (cc)
+  one_put s e x on m (EchoCookie _ _ _) = (still clock e (once_built EchoSlot e) m (alike e (once_built EchoSlot e) refl refl refl refl refl) m.unopened (home_like e _ m.home refl refl refl refl refl), refl)
+  one_put s e x on m AckCookie = absurd (cc)
+  one_put s e x on m (AckHeartbeat _ _) = absurd (cc)
+  one_put s e x on m ReportCauses = (still clock e (once_built ErrorSlot e) m (alike e (once_built ErrorSlot e) refl refl refl refl refl) m.unopened (home_like e _ m.home refl refl refl refl refl), refl)
+  one_put s e x on m (Acknowledge _ _) = absurd (cc)
+  one_put s e x on m PassOn = absurd (cc)
+  one_put s e x on m (SayShutdown _ _) = absurd (cc)
+  one_put s e x on m AnswerShutdown = absurd (cc)
 
   -- all opening, and one more
   opening_push : (xs : List ChunkMeaning) (x : ChunkMeaning) → AreOpening xs → opens_or_ends x ≡ true → AreOpening (xs ++ x ∷ [])
@@ -135,10 +135,10 @@ module _ (clock : ℕ) where
       Puts ss e xs zs full t → Unmet t × AreOpening zs
   puts ss e xs zs full t echo m all (NoMore _ _) = (m, all)
   puts ss e xs zs full t echo m all (NotDue _ more _ _ _ _ _ off rest) = puts more e xs zs full t (λ s h. echo s (inr h)) m all rest
-  puts ss e xs zs full t echo m all (Put s more _ mid x _ _ _ _ due wants room rest) =
-      let one = one_put s e x mid (echo s (inl refl)) m wants in
-      puts more mid (xs ++ x ∷ []) zs full t (λ s h. echo s (inr h)) one.0 (opening_push xs x all one.1) rest
-  puts ss e xs zs full t echo m all (IsFull _ _ _ _ _ _ due wants room) = (m, all)
+  puts ss e xs zs full t echo m all (Put s more _ x _ _ _ _ due wants room rest) =
+      let one = one_put s e x (echo s (inl refl)) m wants in
+      puts more (once_built s e) (xs ++ x ∷ []) zs full t (λ s h. echo s (inr h)) one.0 (opening_push xs x all one.1) rest
+  puts ss e xs zs full t echo m all (IsFull _ _ _ _ _ due wants room) = (m, all)
 
   both_echo : (s : Slot) → Has echoing_slots s → is_echo_slot s ≡ true
   unfolding is_echo_slot
