@@ -1,0 +1,43 @@
+-- What the shared terms say, in the words of the definitions.
+use Rattle.std.specs.Prelude.{ℕ}
+use Rattle.sctp_model.specs.end.Configured as configured
+use Rattle.sctp_model.specs.end.EndView as view
+use Rattle.sctp_model.specs.end.PeerFaults as reasons
+use Rattle.sctp_terms.specs.declared.config_fault.ConfigFault.{ConfigFault}
+use Rattle.sctp_terms.specs.declared.config_fault.ConfigFault.TheVariants as fault
+use Rattle.sctp_terms.specs.declared.life.End.{End}
+use Rattle.sctp_terms.specs.declared.life.End.TheVariants as end
+use Rattle.sctp_terms.specs.declared.reason.Reason.{Reason}
+use Rattle.sctp_terms.specs.declared.reason.Reason.TheVariants as reason
+
+-- what is wrong with a configuration
+abbrev pub config_fault_meaning : ConfigFault → configured.ConfigurationFault
+config_fault_meaning fault.Port = configured.WrongPort
+config_fault_meaning fault.PacketLimit = configured.WrongLimit
+config_fault_meaning fault.Fragment = configured.WrongFragment
+config_fault_meaning fault.Buffer = configured.WrongBuffer
+config_fault_meaning fault.Streams = configured.WrongStreams
+
+-- its code: faults are tested in the order of their codes
+abbrev pub config_code : configured.ConfigurationFault → ℕ
+config_code configured.WrongPort = 1
+config_code configured.WrongLimit = 2
+config_code configured.WrongFragment = 3
+config_code configured.WrongBuffer = 4
+config_code configured.WrongStreams = 5
+
+-- how an association ended (RFC 9260, 5.2.6, 8.1 and 9)
+abbrev pub end_meaning : End → view.Ended
+end_meaning end.Completed = view.Completed
+end_meaning end.Aborted = view.Aborted
+end_meaning end.AbortedHere = view.AbortedHere
+end_meaning end.TimedOut = view.TimedOut
+end_meaning end.StaleCookie = view.StaleCookie
+
+-- the code of a reason for which a packet is dropped
+abbrev pub reason_code : Reason → ℕ
+reason_code reason.Fault = reasons.FAULT
+reason_code reason.Ports = reasons.PORTS
+reason_code reason.Tag = reasons.TAG
+reason_code reason.State = reasons.STATE
+reason_code reason.Cookie = reasons.COOKIE
