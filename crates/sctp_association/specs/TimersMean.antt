@@ -1,0 +1,44 @@
+-- What the timers of an end mean (RFC 9260, 6.3).
+use Rattle.std.specs.Prelude.{Bool, if◌then◌else◌}
+use Rattle.sctp_model.specs.end.EndView as model
+use Rattle.sctp_model.specs.end.Clock.{stopped}
+use Rattle.sctp_association.specs.declared.timers.Alarm.{Alarm}
+use Rattle.sctp_association.specs.declared.timers.Alarm.TheVariants.{Init, Cookie, Fragments, Shutdown, ShutdownAck}
+use Rattle.sctp_association.specs.declared.timers.Timer.{Timer}
+use Rattle.sctp_association.specs.declared.timers.Timers.{Timers}
+
+-- which timer
+abbrev pub alarm_meaning : Alarm → model.Alarm
+alarm_meaning Init = model.InitAlarm
+alarm_meaning Cookie = model.CookieAlarm
+alarm_meaning Fragments = model.DataAlarm
+alarm_meaning Shutdown = model.ShutdownAlarm
+alarm_meaning ShutdownAck = model.AckAlarm
+
+-- one timer
+abbrev pub timer_meaning : Timer → model.Timer
+timer_meaning t = record { wait = t.wait; repeats = t.repeats; expiry = t.expiry }
+
+-- all five, as a function of which
+abbrev pub timers_meaning : Timers → model.Alarm → model.Timer
+timers_meaning t model.InitAlarm = timer_meaning t.init
+timers_meaning t model.CookieAlarm = timer_meaning t.cookie
+timers_meaning t model.DataAlarm = timer_meaning t.fragments
+timers_meaning t model.ShutdownAlarm = timer_meaning t.shutdown
+timers_meaning t model.AckAlarm = timer_meaning t.shutdown_ack
+
+-- a timer that is wanted goes on, another rests (6.3.2)
+abbrev pub kept_if : Bool → model.Timer → model.Timer
+kept_if wanted t = if wanted then t else stopped t
+
+-- the timers of an open association, by whether SHUTDOWN and SHUTDOWN ACK may be repeated in its state (9.2)
+abbrev pub open_timers : (shutdown ack : Bool) → (model.Alarm → model.Timer) → model.Alarm → model.Timer
+open_timers shutdown ack f model.InitAlarm = stopped (f model.InitAlarm)
+open_timers shutdown ack f model.CookieAlarm = stopped (f model.CookieAlarm)
+open_timers shutdown ack f model.DataAlarm = f model.DataAlarm
+open_timers shutdown ack f model.ShutdownAlarm = kept_if shutdown (f model.ShutdownAlarm)
+open_timers shutdown ack f model.AckAlarm = kept_if ack (f model.AckAlarm)
+
+-- all at rest
+abbrev pub resting : (model.Alarm → model.Timer) → model.Alarm → model.Timer
+resting f a = stopped (f a)
