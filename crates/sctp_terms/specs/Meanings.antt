@@ -7,6 +7,8 @@ use Rattle.sctp_terms.specs.declared.config_fault.ConfigFault.{ConfigFault}
 use Rattle.sctp_terms.specs.declared.config_fault.ConfigFault.TheVariants as fault
 use Rattle.sctp_terms.specs.declared.life.End.{End}
 use Rattle.sctp_terms.specs.declared.life.End.TheVariants as end
+use Rattle.sctp_terms.specs.declared.life.State.{State}
+use Rattle.sctp_terms.specs.declared.life.State.TheVariants as state
 use Rattle.sctp_terms.specs.declared.reason.Reason.{Reason}
 use Rattle.sctp_terms.specs.declared.reason.Reason.TheVariants as reason
 
@@ -25,6 +27,18 @@ config_code configured.WrongLimit = 2
 config_code configured.WrongFragment = 3
 config_code configured.WrongBuffer = 4
 config_code configured.WrongStreams = 5
+
+-- where an end stands (RFC 9260, 4)
+abbrev pub state_meaning : State → view.State
+state_meaning state.Closed = view.Closed
+state_meaning state.Listen = view.Listen
+state_meaning state.CookieWait = view.CookieWait
+state_meaning state.CookieEchoed = view.CookieEchoed
+state_meaning state.Established = view.InStage view.Established
+state_meaning state.ShutdownPending = view.InStage view.ShutdownPending
+state_meaning state.ShutdownSent = view.InStage view.ShutdownSent
+state_meaning state.ShutdownReceived = view.InStage view.ShutdownReceived
+state_meaning state.ShutdownAckSent = view.InStage view.ShutdownAckSent
 
 -- how an association ended (RFC 9260, 5.2.6, 8.1 and 9)
 abbrev pub end_meaning : End → view.Ended

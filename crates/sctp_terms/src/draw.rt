@@ -1,7 +1,7 @@
 //! What chance gives to an end that begins.
 
 ghost use Rattle.std.specs.Prelude.{◌≡◌, ◌<◌, MatchOption};
-ghost use Rattle.sctp_model.specs.world.Steps.{IsDraw};
+ghost use Rattle.sctp_model.specs.end.EndView.{IsDraw};
 
 use std::marker::Model;
 
@@ -14,7 +14,7 @@ pub struct Draw {
 
 impl Model for Draw {
     ghost use Rattle.sctp_model.specs.end.EndView as meaning;
-    ghost use Rattle.sctp_model.specs.world.Steps.{IsDraw};
+    ghost use Rattle.sctp_model.specs.end.EndView.{IsDraw};
 
     ghost Value = { meaning.Draw };
 

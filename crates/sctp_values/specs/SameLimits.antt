@@ -1,9 +1,9 @@
 -- The limits as Rust has them are those of the definitions.
 use Rattle.std.specs.Prelude.{◌≡◌}
 use Rattle.sctp_model.specs.numbers.Limits as limits
-use Rattle.sctp_values.specs.declared.limits.TheConstants.{STREAM_LIMIT, LEAST_PACKET, GREATEST_PACKET, LEAST_FRAGMENT, GREATEST_FRAGMENT, FRAGMENT_OVERHEAD, LEAST_BUFFER, GREATEST_BUFFER, LONGEST_MESSAGE, QUEUE_LIMIT, WINDOW, TSN_LIMIT, TICKET_LIMIT, BLOCK_LIMIT, DUPLICATE_LIMIT, RUN_LIMIT}
+use Rattle.sctp_values.specs.declared.limits.TheConstants.{STREAM_LIMIT, LEAST_PACKET, GREATEST_PACKET, LEAST_FRAGMENT, GREATEST_FRAGMENT, FRAGMENT_OVERHEAD, LEAST_BUFFER, GREATEST_BUFFER, LONGEST_MESSAGE, QUEUE_LIMIT, WINDOW, TSN_LIMIT, TICKET_LIMIT, BLOCK_LIMIT, DUPLICATE_LIMIT, RUN_LIMIT, LAST_MOMENT, FIRST_WAIT, LONGEST_WAIT, OPENING_REPEATS, REPEATS, COOKIE_LIFE}
 
--- Name by name: of a configuration, of sending, of receiving.
+-- Name by name: of a configuration, of sending, of receiving, of time.
 pub record AreTheLimits : Type 0 where
   pub streams : STREAM_LIMIT ≡ limits.STREAM_LIMIT
   pub least_packet : LEAST_PACKET ≡ limits.LEAST_PACKET
@@ -21,3 +21,9 @@ pub record AreTheLimits : Type 0 where
   pub blocks : BLOCK_LIMIT ≡ limits.BLOCK_LIMIT
   pub duplicates : DUPLICATE_LIMIT ≡ limits.DUPLICATE_LIMIT
   pub runs : RUN_LIMIT ≡ limits.RUN_LIMIT
+  pub last_moment : LAST_MOMENT ≡ limits.LAST_MOMENT
+  pub first_wait : FIRST_WAIT ≡ limits.FIRST_WAIT
+  pub longest_wait : LONGEST_WAIT ≡ limits.LONGEST_WAIT
+  pub opening_repeats : OPENING_REPEATS ≡ limits.OPENING_REPEATS
+  pub repeats : REPEATS ≡ limits.REPEATS
+  pub cookie_life : COOKIE_LIFE ≡ limits.COOKIE_LIFE

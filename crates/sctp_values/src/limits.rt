@@ -35,3 +35,16 @@ pub const BLOCK_LIMIT: usize = 64;
 pub const DUPLICATE_LIMIT: usize = 16;
 /// Runs of consecutive TSNs seen above the cumulative one, at most: each takes one of `WINDOW` and one between it and the next.
 pub const RUN_LIMIT: usize = 16_383;
+
+/// The last moment that there is, in milliseconds: 2^64 - 1.
+pub const LAST_MOMENT: u64 = u64::MAX;
+/// A timer's first wait in milliseconds (RTO.Initial of RFC 9260, 16).
+pub const FIRST_WAIT: u64 = 1_000;
+/// A timer's longest wait in milliseconds (RTO.Max of RFC 9260, 16).
+pub const LONGEST_WAIT: u64 = 60_000;
+/// How often an INIT or a COOKIE ECHO is repeated (Max.Init.Retransmits of RFC 9260, 16).
+pub const OPENING_REPEATS: u32 = 8;
+/// How often everything else is repeated (Association.Max.Retrans of RFC 9260, 16).
+pub const REPEATS: u32 = 10;
+/// How long a cookie lives, in milliseconds (Valid.Cookie.Life of RFC 9260, 16).
+pub const COOKIE_LIFE: u64 = 60_000;
