@@ -8,29 +8,28 @@ use Rattle.sctp_model.specs.receiver.SackMade.{TakeLeaves, first_taken}
 use Rattle.sctp_model.specs.receiver.Laws.{IsOrdinary}
 use Rattle.sctp_model.specs.end.EndView.{EndView}
 use Rattle.sctp_model.specs.end.Strays.{Verdict}
-use Rattle.sctp_model.specs.end.Arriving.{Arrives}
+use Rattle.sctp_model.specs.end.Arriving.{Receives}
 use Rattle.sctp_model.specs.end.Building.{packet_of}
 use Rattle.sctp_model.specs.end.UserCalls.{Called, NotIdle}
 use Rattle.sctp_model.specs.world.World.{Side, other, World, end_of, bag_of, with_end, with_packet, end_now, came}
 use Rattle.sctp_model.specs.world.Events.{Event, Deliver, Outcome, Sent, next_number, told, with_verdict, message_told}
-use Rattle.sctp_model.specs.world.Steps.{FromBag, FromStranger, Brings, Step, OpensBoth, OpenRefused, TimePasses, Draws, Connects, ConnectRefused, BuildsOne, BuildsNone, PacketComes, IsAbsent, Unread, Sends, AbandonsOne, TakesOne, ShutsDown, AbortsIt}
+use Rattle.sctp_model.specs.world.Steps.{FromBag, FromStranger, Brings, Step, OpensBoth, OpenRefused, TimePasses, Draws, Connects, ConnectRefused, BuildsOne, BuildsNone, PacketComes, IsAbsent, Sends, AbandonsOne, TakesOne, ShutsDown, AbortsIt, NoPacket}
 use Rattle.sctp_outcomes.specs.Outcomes.{OutcomesAreOne}
 use Rattle.sctp_outcomes.proofs.Receivers.{HoldsIn, holds_always}
 use Rattle.sctp_outcomes.proofs.Ordinary.{ordinary_law}
 use Rattle.sctp_outcomes.proofs.OneAct.{clash}
-use Rattle.sctp_outcomes.proofs.OnePacket.{one_arrives}
+use Rattle.sctp_outcomes.proofs.OnePacket.{one_received}
 use Rattle.sctp_outcomes.proofs.OneBuild.{one_built}
 
 -- ---- what an event brings
 
-one_brought : (w : World) (e : Event) (x y : Side) (p q : Packet) → Brings w e x p → Brings w e y q → (x ≡ y) × (p ≡ q)
-one_brought w e x y p q (FromBag s n _ a) (FromBag _ _ _ b) =
-    let both : Some p ≡ Some q = sym a ∙ b in
-    (refl, cc)
+one_brought : (w : World) (e : Event) (x y : Side) (p q : Option Packet) → Brings w e x p → Brings w e y q → (x ≡ y) × (p ≡ q)
+one_brought w e x y p q (FromBag s n _ a) (FromBag _ _ _ b) = (refl, sym a ∙ b)
 one_brought w e x y p q (FromStranger _ _ _) (FromStranger _ _ _) = (refl, refl)
+one_brought w e x y p q (NoPacket _) (NoPacket _) = (refl, refl)
 
-absent_not : (w : World) (s : Side) (n : ℕ) (x : Side) (p : Packet) → item_at (bag_of w s) n ≡ None → Brings w (Deliver s n) x p → ⊥
-absent_not w s n x p none (FromBag _ _ _ found) = let q : None ≡ Some p = sym none ∙ found in absurd (cc)
+absent_not : (w : World) (s : Side) (n : ℕ) (x : Side) (p : Option Packet) → item_at (bag_of w s) n ≡ None → Brings w (Deliver s n) x p → ⊥
+absent_not w s n x p none (FromBag _ _ r found) = let q : None ≡ Some r = sym none ∙ found in absurd (cc)
 
 -- ---- what waits for the user
 
@@ -85,9 +84,6 @@ one_step w ordinary e o p v u (PacketComes _ _ _ _ _ brings _) (BuildsNone _ _ _
 one_step w ordinary e o p v u (IsAbsent s n none) (IsAbsent _ _ _) = (refl, refl)
 one_step w ordinary e o p v u (IsAbsent s n none) (PacketComes _ x q t d brings a) = absurd (absent_not w s n x q none brings)
 one_step w ordinary e o p v u (PacketComes _ x q t d brings a) (IsAbsent s n none) = absurd (absent_not w s n x q none brings)
-one_step w ordinary e o p v u (Unread _) (Unread _) = (refl, refl)
-one_step w ordinary e o p v u (Unread _) (PacketComes _ _ _ _ _ brings _) = elim brings [ ]
-one_step w ordinary e o p v u (PacketComes _ _ _ _ _ brings _) (Unread _) = elim brings [ ]
 one_step w ordinary e o p v u (Sends _ _) (Sends _ _) = (refl, refl)
 one_step w ordinary e o p v u (Sends _ _) (PacketComes _ _ _ _ _ brings _) = elim brings [ ]
 one_step w ordinary e o p v u (PacketComes _ _ _ _ _ brings _) (Sends _ _) = elim brings [ ]
@@ -108,9 +104,9 @@ one_step w ordinary e o p v u (AbortsIt _ _) (PacketComes _ _ _ _ _ brings _) = 
 one_step w ordinary e o p v u (PacketComes _ _ _ _ _ brings _) (AbortsIt _ _) = elim brings [ ]
 one_step w ordinary e o p v u (PacketComes _ x q t d b a) (PacketComes _ y r z k c f) =
     let m = one_brought w e x y q r b c in
-    let g : Arrives (end_now w x) w.draw q z k =
-    subst (λ (s : Side). Arrives (end_now w s) w.draw q z k) (sym m.0) (subst (λ (s : Packet). Arrives (end_now w y) w.draw s z k) (sym m.1) f) in
-    let n = one_arrives (end_now w x) w.draw q t z d k (ordinary x) a g in (
+    let g : Receives (end_of w x) w.clock w.draw q z k =
+    subst (λ (s : Side). Receives (end_of w s) w.clock w.draw q z k) (sym m.0) (subst (λ (s : Option Packet). Receives (end_of w y) w.clock w.draw s z k) (sym m.1) f) in
+    let n = one_received (end_of w x) w.clock w.draw q t z d k (ordinary x) a g in (
       ap (λ (j : Verdict). told w x j) n.1 ∙ ap (λ (s : Side). told w s k) m.0,
       ap (λ (i : EndView). with_verdict (came w x i) x d) n.0 ∙ ap (λ (j : Verdict). with_verdict (came w x z) x j) n.1 ∙ ap (λ (s : Side). with_verdict (came w s z) s k) m.0,
     )

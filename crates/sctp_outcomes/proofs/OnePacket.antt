@@ -1,16 +1,17 @@
 -- What a packet leaves is one end, and it has one verdict.
-use Rattle.std.proofs.Common.{◌≡◌, ℕ, Bool, true, false, List, [], ◌∷◌, drop, Some, None, refl, sym, subst, ◌∙◌}
+use Rattle.std.proofs.Common.{◌≡◌, ℕ, Bool, true, false, List, [], ◌∷◌, drop, Option, Some, None, refl, sym, subst, ◌∙◌}
 use Rattle.sctp_model.specs.wire.Chunk.{ChunkMeaning}
 use Rattle.sctp_model.specs.wire.Packet.{Packet}
 use Rattle.sctp_model.specs.receiver.Laws.{IsOrdinary}
 use Rattle.sctp_model.specs.end.Sealing.{Body}
 use Rattle.sctp_model.specs.end.EndView.{Draw, EndView, format_of}
+use Rattle.sctp_model.specs.end.Clock.{at_moment}
 use Rattle.sctp_model.specs.end.Closing.{rested}
 use Rattle.sctp_model.specs.end.Opening.{begun}
 use Rattle.sctp_model.specs.end.PeerFaults.{After, GoesOn, Ends, PassedOver, Replies, Drops}
 use Rattle.sctp_model.specs.end.Acting.{Acts}
 use Rattle.sctp_model.specs.end.Strays.{Verdict, Taken, Dropped, Answer, opened_by}
-use Rattle.sctp_model.specs.end.Arriving.{AllAct, NoneLeft, Next, Last, EndsAnswered, Stopped, Arrives, Elsewhere, NotOurs, Stray, CookieBegins, Heard, verdict_of}
+use Rattle.sctp_model.specs.end.Arriving.{AllAct, NoneLeft, Next, Last, EndsAnswered, Stopped, Arrives, Elsewhere, NotOurs, Stray, CookieBegins, Heard, verdict_of, Receives, DroppedUnread, ReadAs}
 use Rattle.sctp_model.specs.end.Arriving.{Passes}
 use Rattle.sctp_outcomes.proofs.Receivers.{holds_goes, holds_rested}
 use Rattle.sctp_outcomes.proofs.Ordinary.{ordinary_law}
@@ -95,3 +96,8 @@ one_arrives e d p t u v w o (Heard _ _ _ c _ _) (NotOurs _ a) = absurd (clash c 
 one_arrives e d p t u v w o (Heard _ _ _ _ c _) (Stray _ _ a _) = absurd (clash c a)
 one_arrives e d p t u v w o (Heard _ _ _ _ c _) (CookieBegins _ _ _ _ _ a _ _) = absurd (clash c a)
 one_arrives e d p t u v w o (Heard _ _ _ _ _ one) (Heard _ _ _ _ _ other) = one_all p.tag e false p.chunks t u v w o one other
+
+pub one_received : (e : EndView) (now : ℕ) (d : Draw) (p : Option Packet) (t u : EndView) (v w : Verdict) → IsOrdinary (format_of e) e.receiver →
+    Receives e now d p t v → Receives e now d p u w → (t ≡ u) × (v ≡ w)
+one_received e now d p t u v w o DroppedUnread DroppedUnread = (refl, refl)
+one_received e now d p t u v w o (ReadAs q _ _ one) (ReadAs _ _ _ other) = one_arrives (at_moment e now) d q t u v w o one other

@@ -13,7 +13,7 @@ use Rattle.sctp_model.specs.end.Closing.{rested}
 use Rattle.sctp_model.specs.end.PeerFaults.{GoesOn, Ends, Replies}
 use Rattle.sctp_model.specs.end.Opening.{AcceptedAck, RefusedAck, EchoedAgain, CookieAcked, begun}
 use Rattle.sctp_model.specs.end.Acting.{Acts, ForwardComes, PieceComes, IsOld, SackStale, ShutdownStale, HeartbeatCounts, SackCounts, ShutdownCounts, Closes, SaysNothing, Crosses, Again, AckCompletes, CompleteCompleted, PieceEmpty, WrongFormat, SackWrong, ShutdownWrong, WrongKind, IsBad}
-use Rattle.sctp_model.specs.end.Arriving.{AllAct, NoneLeft, Next, Last, EndsAnswered, Stopped, Arrives, Elsewhere, NotOurs, Stray, CookieBegins, Heard}
+use Rattle.sctp_model.specs.end.Arriving.{AllAct, NoneLeft, Next, Last, EndsAnswered, Stopped, Arrives, Elsewhere, NotOurs, Stray, CookieBegins, Heard, DroppedUnread, ReadAs, CutFirst, CutLater}
 use Rattle.sctp_model.specs.end.Arriving.{Passes}
 use Rattle.sctp_model.specs.end.Strays.{Verdict}
 use Rattle.sctp_model.specs.end.Building.{Slot, Puts, NoMore, NotDue, Put, IsFull, Builds, Sleeps, Waits, Calls, Echoes, Fills, EchoSlot, CookieAckSlot, HeartbeatSlot, ErrorSlot, SackSlot, ForwardSlot, ShutdownSlot, ShutdownAckSlot, once_built}
@@ -22,7 +22,7 @@ use Rattle.sctp_model.specs.end.Moments.{ticked}
 use Rattle.sctp_model.specs.end.UserCalls.{send_answer, shut, abort_answer, abort_leaves}
 use Rattle.sctp_model.specs.world.World.{Side, A, B, World, end_of, end_now, start, Setup}
 use Rattle.sctp_model.specs.world.Events.{Event, Outcome}
-use Rattle.sctp_model.specs.world.Steps.{Step, OpensBoth, OpenRefused, TimePasses, Draws, Connects, ConnectRefused, BuildsOne, BuildsNone, PacketComes, IsAbsent, Unread, Sends, AbandonsOne, TakesOne, ShutsDown, AbortsIt, CutFirst, CutLater, UnreadCut, NoMemory, Run, Rest, Then}
+use Rattle.sctp_model.specs.world.Steps.{Step, OpensBoth, OpenRefused, TimePasses, Draws, Connects, ConnectRefused, BuildsOne, BuildsNone, PacketComes, IsAbsent, Sends, AbandonsOne, TakesOne, ShutsDown, AbortsIt, NoMemory, Run, Rest, Then, PacketCut}
 use Rattle.sctp_safety.proofs.machine.Sides.{unknown_goes, unknown_ends, unknown_never_replies}
 use Rattle.sctp_outcomes.proofs.Unheard.{IsUnheard, unheard_rested, unheard_ticked, unheard_sent, unheard_abandoned, unheard_shut, unheard_aborted}
 use Rattle.sctp_safety.proofs.machine.OneEnd.{IsAt, at_end, at_log, at_packet, at_came, answer_of, at_verdict, abort_of, at_abort, both_ends}
@@ -191,9 +191,9 @@ module _ (P : Format → ReceiverView → Type 0) (law : IsReceiverLaw P) where
   holds_step w e o v k (ConnectRefused d answer) = k
   holds_step w e o v k (BuildsOne x y ys t b) = holds_at w v x t _ (at_packet w x t _) k (holds_builds (end_now w x) (y ∷ ys) t (k x) b)
   holds_step w e o v k (BuildsNone x t b) = holds_at w v x t None (at_end w x t) k (holds_builds (end_now w x) [] t (k x) b)
-  holds_step w e o v k (PacketComes _ x p t d brings arrives) = holds_at w v x t (answer_of d) (at_verdict w x t d) k (holds_arrives (end_now w x) w.draw p t d (k x) arrives)
+  holds_step w e o v k (PacketComes _ x _ t d brings (ReadAs p _ _ arrives)) = holds_at w v x t (answer_of d) (at_verdict w x t d) k (holds_arrives (end_now w x) w.draw p t d (k x) arrives)
   holds_step w e o v k (IsAbsent x n none) = k
-  holds_step w e o v k (Unread x) = holds_at w v x (end_now w x) None (at_came w x (end_now w x)) k (k x)
+  holds_step w e o v k (PacketComes _ x _ _ _ brings DroppedUnread) = holds_at w v x (end_now w x) None (at_came w x (end_now w x)) k (k x)
   holds_step w e o v k (Sends x c) = holds_at w v x _ None (at_log w x _ _) k (holds_same (end_of w x) _ (unheard_sent (end_of w x) c (send_answer (end_of w x) c)) (k x))
   holds_step w e o v k (AbandonsOne x n) = holds_at w v x _ None (at_log w x _ _) k (holds_same (end_of w x) _ (unheard_abandoned (end_of w x) n) (k x))
   holds_step w e o v k (TakesOne x n h t takes) =
@@ -202,9 +202,8 @@ module _ (P : Format → ReceiverView → Type 0) (law : IsReceiverLaw P) where
   holds_step w e o v k (AbortsIt x r) =
       holds_at w v x (abort_leaves (abort_answer (end_of w x) r) (end_of w x)) (abort_of (abort_answer (end_of w x) r)) (at_abort w x _ _) k
       (holds_same (end_of w x) _ (unheard_aborted (end_of w x) (abort_answer (end_of w x) r)) (k x))
-  holds_step w e o v k (CutFirst _ x p brings) = holds_at w v x (end_now w x) None (at_came w x (end_now w x)) k (k x)
-  holds_step w e o v k (CutLater _ x p y front back c t d brings part arrives untold) = holds_at w v x t None (at_came w x t) k (holds_arrives (end_now w x) w.draw _ t d (k x) arrives)
-  holds_step w e o v k (UnreadCut x) = holds_at w v x (end_now w x) None (at_came w x (end_now w x)) k (k x)
+  holds_step w e o v k (PacketCut _ x _ _ brings (CutFirst _)) = holds_at w v x (end_now w x) None (at_came w x (end_now w x)) k (k x)
+  holds_step w e o v k (PacketCut _ x _ t brings (CutLater p y front back c _ d part arrives untold)) = holds_at w v x t None (at_came w x t) k (holds_arrives (end_now w x) w.draw _ t d (k x) arrives)
   holds_step w e o v k (NoMemory _ other_event) = k
 
   holds_run : (w : World) (es : List Event) (os : List (Option Outcome)) (v : World) → HoldsIn w → Run w es os v → HoldsIn v

@@ -7,9 +7,10 @@ use Rattle.sctp_model.specs.receiver.ReceiverView.{Handed}
 use Rattle.sctp_model.specs.end.EndView.{Draw, EndView, IsDraw}
 use Rattle.sctp_model.specs.end.Building.{Builds}
 use Rattle.sctp_model.specs.end.UserCalls.{ConnectAnswer, Called, NotIdle, connect_answer}
+use Rattle.sctp_model.specs.end.Arriving.{ReadAs, DroppedUnread}
 use Rattle.sctp_model.specs.world.World.{Side, other, World, end_of, bag_of, end_now}
 use Rattle.sctp_model.specs.world.Events.{Event, OpenBoth, At, Drawing, Connect, Build, Deliver, Foreign, Send, Abandon, Take, Shutdown, Abort}
-use Rattle.sctp_model.specs.world.Steps.{FromBag, FromStranger, Brings, OpensBoth, OpenRefused, TimePasses, Draws, Connects, ConnectRefused, BuildsOne, BuildsNone, PacketComes, IsAbsent, Unread, Sends, AbandonsOne, TakesOne, ShutsDown, AbortsIt}
+use Rattle.sctp_model.specs.world.Steps.{FromBag, FromStranger, Brings, OpensBoth, OpenRefused, TimePasses, Draws, Connects, ConnectRefused, BuildsOne, BuildsNone, PacketComes, IsAbsent, Sends, AbandonsOne, TakesOne, ShutsDown, AbortsIt, NoPacket}
 use Rattle.sctp_outcomes.specs.Outcomes.{CanHappen, HasOutcome, EventsHaveOutcomes}
 use Rattle.sctp_outcomes.proofs.Receivers.{HoldsIn, holds_always}
 use Rattle.sctp_outcomes.proofs.Bounded.{IsBounded, bounded_law}
@@ -38,8 +39,8 @@ module _ (w : World) (bounded : HoldsIn IsBounded bounded_law w) where
       go [] t builds = (_, _, BuildsNone x t builds)
       go (y ∷ ys) t builds = (_, _, BuildsOne x y ys t builds)
 
-  coming : (e : Event) (x : Side) (p : Packet) → Brings w e x p → HasOutcome w e
-  coming e x p brings = let a = arrived (end_now w x) w.draw p (bounded x) in (_, _, PacketComes e x p a.last a.verdict brings a.arrives)
+  coming : (e : Event) (x : Side) (p : Packet) → Brings w e x (Some p) → HasOutcome w e
+  coming e x p brings = let a = arrived (end_now w x) w.draw p (bounded x) in (_, _, PacketComes e x (Some p) a.last a.verdict brings (ReadAs p a.last a.verdict a.arrives))
 
   delivering : (x : Side) (n : ℕ) → HasOutcome w (Deliver x n)
   delivering x n = go (item_at (bag_of w x) n) refl
@@ -62,7 +63,7 @@ module _ (w : World) (bounded : HoldsIn IsBounded bounded_law w) where
   has_outcome (Connect d) dd = connecting d dd
   has_outcome (Build x) can = building x
   has_outcome (Deliver x n) can = delivering x n
-  has_outcome (Foreign x None) can = (_, _, Unread x)
+  has_outcome (Foreign x None) can = (_, _, PacketComes (Foreign x None) x None _ _ (NoPacket x) DroppedUnread)
   has_outcome (Foreign x (Some p)) placed = coming (Foreign x (Some p)) x p (FromStranger x p placed)
   has_outcome (Send x c) can = (_, _, Sends x c)
   has_outcome (Abandon x k) can = (_, _, AbandonsOne x k)

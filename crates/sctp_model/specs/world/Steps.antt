@@ -1,5 +1,5 @@
 -- STEP and RUN: every event with every way that it can go.
-use Rattle.std.specs.Prelude.{◌≡◌, ℕ, ◌^◌, ◌<◌, max, Bool, true, false, List, [], ◌∷◌, ◌++◌, Option, None, Some}
+use Rattle.std.specs.Prelude.{◌≡◌, ℕ, ◌^◌, ◌<◌, max, true, false, List, [], ◌∷◌, ◌++◌, Option, None, Some}
 use Rattle.sctp_model.specs.numbers.Lists.{at, item_at}
 use Rattle.sctp_model.specs.wire.Chunk.{ChunkMeaning}
 use Rattle.sctp_model.specs.wire.Packet.{Packet, size_of_packet}
@@ -8,14 +8,13 @@ use Rattle.sctp_model.specs.receiver.ReceiverView.{Handed}
 use Rattle.sctp_model.specs.world.Calls.{Call}
 use Rattle.sctp_model.specs.end.EndView.{Draw, IsDraw, EndView}
 use Rattle.sctp_model.specs.end.Opening.{opened}
-use Rattle.sctp_model.specs.end.PeerFaults.{FAULT}
-use Rattle.sctp_model.specs.end.Strays.{Verdict, Taken, Dropped, Answer}
-use Rattle.sctp_model.specs.end.Arriving.{Arrives}
+use Rattle.sctp_model.specs.end.Strays.{Verdict}
+use Rattle.sctp_model.specs.end.Arriving.{Receives, IsCutShort}
 use Rattle.sctp_model.specs.end.Building.{Builds, packet_of}
 use Rattle.sctp_model.specs.end.Moments.{ticked}
 use Rattle.sctp_model.specs.end.UserCalls.{Called, NotIdle, connect_answer, called, SendAnswer, Ticket, Refused, NotOpen, send_answer, send_leaves, abandons, abandoned_at, UserTakes, shutdown_answer, shut, abort_answer, abort_leaves}
 use Rattle.sctp_model.specs.world.World.{Side, A, B, other, Log, World, end_of, bag_of, log_of, with_end, with_packet, with_log, end_now, came, logged}
-use Rattle.sctp_model.specs.world.Events.{Event, OpenBoth, At, Drawing, Connect, Build, Deliver, Foreign, Send, Abandon, Take, Shutdown, Abort, brings_packet, Outcome, Done, RefusedState, Sent, Quiet, Absent, NotActed, Told, Fate, next_number, told, with_verdict, abort_told, with_abort, shutdown_told, message_told}
+use Rattle.sctp_model.specs.world.Events.{Event, OpenBoth, At, Drawing, Connect, Build, Deliver, Foreign, Send, Abandon, Take, Shutdown, Abort, brings_packet, Outcome, Done, RefusedState, Sent, Quiet, Absent, Told, Fate, next_number, told, with_verdict, abort_told, with_abort, shutdown_told, message_told}
 
 -- ---- logs
 
@@ -31,25 +30,17 @@ named_at l ticket = record l { named = at l.named ticket true }
 
 -- ---- packets that come
 
--- The event brings this packet to the end of this side: one of the bag across, or a stranger's, in which each chunk stands where it may.
-pub data Brings (w : World) : Event → Side → Packet → Type 0 where
-  FromBag : (s : Side) (n : ℕ) (p : Packet) → item_at (bag_of w s) n ≡ Some p → Brings w (Deliver s n) (other s) p
-  FromStranger : (s : Side) (p : Packet) → ArePlaced p.chunks → Brings w (Foreign s (Some p)) s p
-
--- the beginning of a packet, up to the chunk that wanted memory
-abbrev pub cut_to : Packet → List ChunkMeaning → Packet
-cut_to p front = record p { chunks = front }
-
--- A packet that is answered ends with its answer, so no chunk behind it can want memory.
-abbrev pub is_answer : Verdict → Bool
-is_answer (Answer p) = true
-is_answer (Dropped reason) = false
-is_answer Taken = false
+-- The event brings this to the end of this side: a packet of the bag across; a stranger's, in which each chunk stands where it may; or a stranger's
+-- bytes that don't read.
+pub data Brings (w : World) : Event → Side → Option Packet → Type 0 where
+  FromBag : (s : Side) (n : ℕ) (p : Packet) → item_at (bag_of w s) n ≡ Some p → Brings w (Deliver s n) (other s) (Some p)
+  FromStranger : (s : Side) (p : Packet) → ArePlaced p.chunks → Brings w (Foreign s (Some p)) s (Some p)
+  NoPacket : (s : Side) → Brings w (Foreign s None) s None
 
 -- ---- STEP
 
--- In the world `w` the event is answered so, and leaves the last world. None for an answer: memory was wanted. Of a packet then all before
--- some chunk has acted, and before its first chunk, or of bytes that don't read, the moment alone; any other event has changed nothing.
+-- In the world `w` the event is answered so, and leaves the last world. None for an answer: memory was wanted. A packet is then cut short; any
+-- other event has changed nothing.
 pub data Step (w : World) : Event → Option Outcome → World → Type 0 where
   OpensBoth : (x y : Draw) → w.openable ≡ true → IsDraw x → IsDraw y →
       Step w (OpenBoth x y) (Some Done) (record w { a = opened w.a.configuration x y; b = opened w.b.configuration y x; openable = false })
@@ -68,10 +59,9 @@ pub data Step (w : World) : Event → Option Outcome → World → Type 0 where
   BuildsOne : (s : Side) (x : ChunkMeaning) (xs : List ChunkMeaning) (t : EndView) → Builds (end_now w s) (x ∷ xs) t →
       Step w (Build s) (Some (Sent (next_number w s) (size_of_packet (x ∷ xs)))) (with_packet (with_end w s t) s (packet_of (end_of w s) (x ∷ xs)))
   BuildsNone : (s : Side) (t : EndView) → Builds (end_now w s) [] t → Step w (Build s) (Some Quiet) (with_end w s t)
-  PacketComes : (e : Event) (s : Side) (p : Packet) (t : EndView) (v : Verdict) → Brings w e s p → Arrives (end_now w s) w.draw p t v →
+  PacketComes : (e : Event) (s : Side) (p : Option Packet) (t : EndView) (v : Verdict) → Brings w e s p → Receives (end_of w s) w.clock w.draw p t v →
       Step w e (Some (told w s v)) (with_verdict (came w s t) s v)
   IsAbsent : (s : Side) (n : ℕ) → item_at (bag_of w s) n ≡ None → Step w (Deliver s n) (Some Absent) w
-  Unread : (s : Side) → Step w (Foreign s None) (Some (NotActed FAULT)) (came w s (end_now w s))
   Sends : (s : Side) (c : Call) → Step w (Send s c) (Some (Told (send_answer (end_of w s) c)))
       (with_log (with_end w s (send_leaves (send_answer (end_of w s) c) (end_of w s) c)) s (accepted w s (send_answer (end_of w s) c) c))
   AbandonsOne : (s : Side) (k : ℕ) → Step w (Abandon s k) (Some (Fate (abandons (end_of w s) k)))
@@ -81,11 +71,8 @@ pub data Step (w : World) : Event → Option Outcome → World → Type 0 where
   ShutsDown : (s : Side) → Step w (Shutdown s) (Some (shutdown_told (shutdown_answer (end_of w s).phase))) (with_end w s (shut (end_of w s)))
   AbortsIt : (s : Side) (r : List ℕ) → Step w (Abort s r) (Some (abort_told w s (abort_answer (end_of w s) r)))
       (with_abort (with_end w s (abort_leaves (abort_answer (end_of w s) r) (end_of w s))) s (abort_answer (end_of w s) r))
-  CutFirst : (e : Event) (s : Side) (p : Packet) → Brings w e s p → Step w e None (came w s (end_now w s))
-  CutLater : (e : Event) (s : Side) (p : Packet) (y : ChunkMeaning) (front back : List ChunkMeaning) (x : ChunkMeaning) (t : EndView) (v : Verdict) →
-      Brings w e s p → p.chunks ≡ (y ∷ front) ++ x ∷ back → Arrives (end_now w s) w.draw (cut_to p (y ∷ front)) t v → is_answer v ≡ false →
+  PacketCut : (e : Event) (s : Side) (p : Option Packet) (t : EndView) → Brings w e s p → IsCutShort (end_of w s) w.clock w.draw p t →
       Step w e None (came w s t)
-  UnreadCut : (s : Side) → Step w (Foreign s None) None (came w s (end_now w s))
   NoMemory : (e : Event) → brings_packet e ≡ false → Step w e None w
 
 -- ---- RUN

@@ -9,7 +9,7 @@ use Rattle.sctp_model.specs.receiver.ReceiverView.{Handed}
 use Rattle.sctp_model.specs.end.EndView.{Established, EndView}
 use Rattle.sctp_model.specs.end.Closing.{rested}
 use Rattle.sctp_model.specs.end.Strays.{Taken}
-use Rattle.sctp_model.specs.end.Arriving.{Heard, NoneLeft, Next}
+use Rattle.sctp_model.specs.end.Arriving.{Heard, NoneLeft, Next, ReadAs}
 use Rattle.sctp_model.specs.end.Building.{packet_of}
 use Rattle.sctp_model.specs.end.UserCalls.{send_answer, abandons}
 use Rattle.sctp_model.specs.world.World.{A, B, World, with_end, with_packet, end_now, came, start}
@@ -75,12 +75,12 @@ abbrev p6 : World
 p6 = came p5 B (rested handed_on)
 
 comes_6 : Step p5 (Deliver A 2) (Some Acted) p6
-comes_6 = PacketComes (Deliver A 2) B packet_2 (rested handed_on) Taken (FromBag A 2 packet_2 refl) (Heard (rested handed_on) Taken refl refl refl
+comes_6 = PacketComes (Deliver A 2) B (Some packet_2) (rested handed_on) Taken (FromBag A 2 packet_2 refl) (ReadAs packet_2 (rested handed_on) Taken (Heard (rested handed_on) Taken refl refl refl
     (Next (end_now p5 B) skipped (rested handed_on) false (ForwardTsn passes) (Data second_piece ∷ []) Taken
     (forward_acts Plain (end_now p5 B) tags_b Established 0 passes (bound_none p5.b.receiver refl) refl refl refl refl)
     (Next (rested skipped) handed_on (rested handed_on) true (Data second_piece) [] Taken
     (data_acts Plain (rested skipped) tags_b Established 0 second_piece (bound_none (rested skipped).receiver refl) refl refl (omega arith) refl)
-    (NoneLeft (rested handed_on) true))))
+    (NoneLeft (rested handed_on) true)))))
 
 abbrev message : Handed
 message = record { first = 2; lane = ordered_lane 0; number = Some 1; payload = 0; bytes = 2 ∷ [] }

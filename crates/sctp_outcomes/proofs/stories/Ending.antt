@@ -7,7 +7,7 @@ use Rattle.sctp_model.specs.world.Calls.{Call}
 use Rattle.sctp_model.specs.end.EndView.{Established, EndView}
 use Rattle.sctp_model.specs.end.Closing.{rested}
 use Rattle.sctp_model.specs.end.Strays.{Taken}
-use Rattle.sctp_model.specs.end.Arriving.{Heard, NoneLeft, Next}
+use Rattle.sctp_model.specs.end.Arriving.{Heard, NoneLeft, Next, ReadAs}
 use Rattle.sctp_model.specs.end.Building.{packet_of}
 use Rattle.sctp_model.specs.end.UserCalls.{send_answer, abandons}
 use Rattle.sctp_model.specs.world.World.{A, B, World, with_end, with_packet, end_now, came, start}
@@ -49,9 +49,9 @@ abbrev q3 : World
 q3 = came q2 B (rested kept)
 
 comes_3 : Step q2 (Deliver A 1) (Some Acted) q3
-comes_3 = PacketComes (Deliver A 1) B packet_1 (rested kept) Taken (FromBag A 1 packet_1 refl) (Heard (rested kept) Taken refl refl refl
+comes_3 = PacketComes (Deliver A 1) B (Some packet_1) (rested kept) Taken (FromBag A 1 packet_1 refl) (ReadAs packet_1 (rested kept) Taken (Heard (rested kept) Taken refl refl refl
     (Next (end_now q2 B) kept (rested kept) false (IData first_piece) [] Taken
-    (data_acts Interleaved (end_now q2 B) tags_b Established 0 first_piece (bound_none q2.b.receiver refl) refl refl (omega arith) refl) (NoneLeft (rested kept) true)))
+    (data_acts Interleaved (end_now q2 B) tags_b Established 0 first_piece (bound_none q2.b.receiver refl) refl refl (omega arith) refl) (NoneLeft (rested kept) true))))
 
 -- A's user abandons the message, which takes index 2 for its end mark
 abbrev q4 : World
@@ -80,9 +80,9 @@ one_recorded : (i : ℕ) → q5.b.receiver.seen i ≡ true → i ≤ 1
 one_recorded = bound_more (λ i. false) 1 1 (omega arith) (λ i on. absurd (cc))
 
 comes_6 : Step q5 (Deliver A 2) (Some Acted) q6
-comes_6 = PacketComes (Deliver A 2) B packet_2 (rested skipped) Taken (FromBag A 2 packet_2 refl) (Heard (rested skipped) Taken refl refl refl
+comes_6 = PacketComes (Deliver A 2) B (Some packet_2) (rested skipped) Taken (FromBag A 2 packet_2 refl) (ReadAs packet_2 (rested skipped) Taken (Heard (rested skipped) Taken refl refl refl
     (Next (end_now q5 B) skipped (rested skipped) false (IForwardTsn passes) [] Taken
-    (forward_acts Interleaved (end_now q5 B) tags_b Established 1 passes one_recorded refl refl refl refl) (NoneLeft (rested skipped) true)))
+    (forward_acts Interleaved (end_now q5 B) tags_b Established 1 passes one_recorded refl refl refl refl) (NoneLeft (rested skipped) true))))
 
 abbrev ending : List Event
 ending = OpenBoth of_a of_b ∷ Send A long ∷ Build A ∷ Deliver A 1 ∷ Abandon A 1 ∷ Build A ∷ Deliver A 2 ∷ []

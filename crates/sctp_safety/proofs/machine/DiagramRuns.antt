@@ -5,9 +5,10 @@ use Rattle.sctp_model.specs.end.EndView.{Ended, has_association, Phase, Idle, Li
 use Rattle.sctp_model.specs.end.Strays.{Verdict, Taken, Dropped, Answer}
 use Rattle.sctp_model.specs.end.Moments.{ticked}
 use Rattle.sctp_model.specs.end.UserCalls.{Called, connect_answer, called, send_answer, send_leaves, abandoned_at, shut, AbortAnswer, Aborts, NoPeer, TooLong, abort_answer, abort_leaves}
+use Rattle.sctp_model.specs.end.Arriving.{DroppedUnread, ReadAs, CutFirst, CutLater}
 use Rattle.sctp_model.specs.world.World.{Side, A, B, other, Log, World, end_of, with_end, with_packet, with_log, end_now, came, start}
 use Rattle.sctp_model.specs.world.Events.{with_verdict, with_abort, Event, Outcome}
-use Rattle.sctp_model.specs.world.Steps.{Step, OpensBoth, OpenRefused, TimePasses, Draws, Connects, ConnectRefused, BuildsOne, BuildsNone, PacketComes, IsAbsent, Unread, Sends, AbandonsOne, TakesOne, ShutsDown, AbortsIt, CutFirst, CutLater, UnreadCut, NoMemory, Run, Rest, Then}
+use Rattle.sctp_model.specs.world.Steps.{Step, OpensBoth, OpenRefused, TimePasses, Draws, Connects, ConnectRefused, BuildsOne, BuildsNone, PacketComes, IsAbsent, Sends, AbandonsOne, TakesOne, ShutsDown, AbortsIt, NoMemory, Run, Rest, Then, PacketCut}
 use Rattle.sctp_safety.specs.States.{ClosedForGood, IsTurn, ByCall, ByInitAck, ByCookieAck, ByCookie, ByPair, ByStage, ByEnd, IsPath, Here, On, has_begun, IsLaterEnd, EndsFollowTheDiagram}
 use Rattle.sctp_safety.proofs.machine.Turns.{IsPlain, builds_plain}
 use Rattle.sctp_safety.proofs.machine.TurnsOfTime.{plain_ticked, plain_sent, plain_abandoned, plain_taken, plain_shut, plain_aborted}
@@ -145,10 +146,10 @@ step_onward w e o v f (ConnectRefused d answer) = onward_same w f
 step_onward w e o v f (BuildsOne s x xs t b) =
     onward_kept w (with_end w s t) v (onward_now w s t f (builds_plain (end_now w s) (x ∷ xs) t b)) (kept_packet (with_end w s t) s _)
 step_onward w e o v f (BuildsNone s t b) = onward_now w s t f (builds_plain (end_now w s) [] t b)
-step_onward w e o v f (PacketComes _ s p t d brings arrives) =
+step_onward w e o v f (PacketComes _ s _ t d brings (ReadAs p _ _ arrives)) =
     onward_kept w (came w s t) v (onward_arrives w s t (arrives_later (end_now w s) w.draw p t d arrives)) (kept_verdict (came w s t) s d)
 step_onward w e o v f (IsAbsent s n none) = onward_same w f
-step_onward w e o v f (Unread s) = onward_came w s (end_now w s) (later_now (end_of w s) w.clock)
+step_onward w e o v f (PacketComes _ s _ _ _ brings DroppedUnread) = onward_came w s (end_now w s) (later_now (end_of w s) w.clock)
 step_onward w e o v f (Sends s c) =
     onward_kept w (with_end w s (send_leaves (send_answer (end_of w s) c) (end_of w s) c)) v
     (onward_plain w s (send_leaves (send_answer (end_of w s) c) (end_of w s) c) f (plain_sent (end_of w s) c (send_answer (end_of w s) c)))
@@ -162,9 +163,8 @@ step_onward w e o v f (AbortsIt s r) =
     onward_kept w (with_end w s (abort_leaves (abort_answer (end_of w s) r) (end_of w s))) v
     (onward_plain w s (abort_leaves (abort_answer (end_of w s) r) (end_of w s)) f (plain_aborted (end_of w s) r))
     (kept_abort (with_end w s (abort_leaves (abort_answer (end_of w s) r) (end_of w s))) s (abort_answer (end_of w s) r))
-step_onward w e o v f (CutFirst _ s p brings) = onward_came w s (end_now w s) (later_now (end_of w s) w.clock)
-step_onward w e o v f (CutLater _ s p y front back x t d brings part arrives untold) = onward_arrives w s t (arrives_later (end_now w s) w.draw _ t d arrives)
-step_onward w e o v f (UnreadCut s) = onward_came w s (end_now w s) (later_now (end_of w s) w.clock)
+step_onward w e o v f (PacketCut _ s _ _ brings (CutFirst _)) = onward_came w s (end_now w s) (later_now (end_of w s) w.clock)
+step_onward w e o v f (PacketCut _ s _ t brings (CutLater p y front back x _ d part arrives untold)) = onward_arrives w s t (arrives_later (end_now w s) w.draw _ t d arrives)
 step_onward w e o v f (NoMemory _ other_event) = onward_same w f
 
 -- ---- runs

@@ -4,9 +4,10 @@ use Rattle.std.specs.Prelude.{slice_get}
 use Rattle.sctp_model.specs.numbers.Lists.{Has, item_at}
 use Rattle.sctp_model.specs.wire.Chunk.{ChunkMeaning, Init}
 use Rattle.sctp_model.specs.wire.Packet.{Packet}
+use Rattle.sctp_model.specs.end.Arriving.{cut_to}
 use Rattle.sctp_model.specs.world.World.{Side, A, B, other, World, bag_of, Setup}
 use Rattle.sctp_model.specs.world.Events.{Event}
-use Rattle.sctp_model.specs.world.Steps.{Brings, FromBag, FromStranger, cut_to}
+use Rattle.sctp_model.specs.world.Steps.{Brings, FromBag, FromStranger}
 use Rattle.sctp_model.specs.world.Premises.{IsStranger}
 use Rattle.sctp_safety.proofs.machine.Strangers.{IsInitAlone, placed_alone}
 use Rattle.sctp_safety.proofs.machine.Ground.{IsFine}
@@ -54,14 +55,14 @@ front_stranger s drawn p q f strange = record {
 }
 
 -- of whichever event
-from_any : (s : Setup) (drawn : List ℕ) (w : World) (e : Event) (x : Side) (p q : Packet) → IsFine s drawn e → Brings w e x p → IsFront p q →
+from_any : (s : Setup) (drawn : List ℕ) (w : World) (e : Event) (x : Side) (p q : Packet) → IsFine s drawn e → Brings w e x (Some p) → IsFront p q →
     (IsInitAlone p.chunks → IsInitAlone q.chunks) → From s drawn w x q
 from_any s drawn w e x p q fine (FromBag y n _ found) f alone =
     FromPeer p (subst (λ (z : Side). Has (bag_of w z) p) (sym (back_again y)) (item_has (bag_of w y) n p found)) f
 from_any s drawn w e x p q fine (FromStranger _ _ placed) f alone =
     FromOutside (front_stranger s drawn p q f (fine.strangers x p refl)) (alone (placed_alone p.chunks placed))
 
-pub from_whole : (s : Setup) (drawn : List ℕ) (w : World) (e : Event) (x : Side) (p : Packet) → IsFine s drawn e → Brings w e x p → From s drawn w x p
+pub from_whole : (s : Setup) (drawn : List ℕ) (w : World) (e : Event) (x : Side) (p : Packet) → IsFine s drawn e → Brings w e x (Some p) → From s drawn w x p
 from_whole s drawn w e x p fine brings = from_any s drawn w e x p p fine brings (record { tag = refl; chunks = λ c h. h }) (λ a. a)
 
 -- a packet that was cut holds more than an INIT
@@ -72,7 +73,7 @@ cut_alone y front back z ys part alone m xs is =
     absurd (never_empty front z back none)
 
 pub from_cut : (s : Setup) (drawn : List ℕ) (w : World) (e : Event) (x : Side) (p : Packet) (y : ChunkMeaning) (front back : List ChunkMeaning) (z : ChunkMeaning) →
-    IsFine s drawn e → Brings w e x p → p.chunks ≡ (y ∷ front) ++ z ∷ back → From s drawn w x (cut_to p (y ∷ front))
+    IsFine s drawn e → Brings w e x (Some p) → p.chunks ≡ (y ∷ front) ++ z ∷ back → From s drawn w x (cut_to p (y ∷ front))
 from_cut s drawn w e x p y front back z fine brings part =
     from_any s drawn w e x p (cut_to p (y ∷ front)) fine brings
     (record { tag = refl; chunks = λ c h. subst (λ (ys : List ChunkMeaning). Has ys c) (sym part) (has_front (y ∷ front) (z ∷ back) c h) })

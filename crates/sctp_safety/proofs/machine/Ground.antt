@@ -8,14 +8,14 @@ use Rattle.sctp_model.specs.end.EndView.{Draw, Listener, EndView, has_associatio
 use Rattle.sctp_model.specs.end.Clock.{at_moment}
 use Rattle.sctp_model.specs.end.Closing.{rested}
 use Rattle.sctp_model.specs.end.Strays.{Verdict}
-use Rattle.sctp_model.specs.end.Arriving.{AllAct, NoneLeft, Next, Last, EndsAnswered, Stopped, Arrives, Elsewhere, NotOurs, Stray, CookieBegins, Heard}
+use Rattle.sctp_model.specs.end.Arriving.{AllAct, NoneLeft, Next, Last, EndsAnswered, Stopped, Arrives, Elsewhere, NotOurs, Stray, CookieBegins, Heard, DroppedUnread, ReadAs, CutFirst, CutLater}
 use Rattle.sctp_model.specs.end.Arriving.{Passes}
 use Rattle.sctp_model.specs.end.Moments.{ticked}
 use Rattle.sctp_model.specs.end.Opening.{begun, opened}
 use Rattle.sctp_model.specs.end.UserCalls.{called, send_answer, shut, abort_answer, abort_leaves}
 use Rattle.sctp_model.specs.world.World.{Side, A, B, World, end_of, end_now, Setup, configuration_of}
 use Rattle.sctp_model.specs.world.Events.{Event, Foreign, Outcome}
-use Rattle.sctp_model.specs.world.Steps.{Step, OpensBoth, OpenRefused, TimePasses, Draws, Connects, ConnectRefused, BuildsOne, BuildsNone, PacketComes, IsAbsent, Unread, Sends, AbandonsOne, TakesOne, ShutsDown, AbortsIt, CutFirst, CutLater, UnreadCut, NoMemory}
+use Rattle.sctp_model.specs.world.Steps.{Step, OpensBoth, OpenRefused, TimePasses, Draws, Connects, ConnectRefused, BuildsOne, BuildsNone, PacketComes, IsAbsent, Sends, AbandonsOne, TakesOne, ShutsDown, AbortsIt, NoMemory, PacketCut}
 use Rattle.sctp_model.specs.world.Premises.{draws_of, IsStranger}
 use Rattle.sctp_safety.proofs.machine.Sides.{IsSameEnd, same_end, same_on, same_rested, goes_same, ends_same}
 use Rattle.sctp_safety.proofs.machine.Turns.{IsPlain, rested_has, builds_plain, replies_plain, goes_left}
@@ -130,17 +130,16 @@ module _ (s : Setup) (drawn : List ℕ) where
   ground_step w e o v fine g (ConnectRefused d answer) = g
   ground_step w e o v fine g (BuildsOne x y ys t b) = ground_now w v x t _ g (at_packet w x t _) (plain_is_same _ t (builds_plain (end_now w x) (y ∷ ys) t b))
   ground_step w e o v fine g (BuildsNone x t b) = ground_now w v x t None g (at_end w x t) (plain_is_same _ t (builds_plain (end_now w x) [] t b))
-  ground_step w e o v fine g (PacketComes _ x p t d brings arrives) = ground_now w v x t (answer_of d) g (at_verdict w x t d) (arrives_same (end_now w x) w.draw p t d arrives)
+  ground_step w e o v fine g (PacketComes _ x _ t d brings (ReadAs p _ _ arrives)) = ground_now w v x t (answer_of d) g (at_verdict w x t d) (arrives_same (end_now w x) w.draw p t d arrives)
   ground_step w e o v fine g (IsAbsent x n none) = g
-  ground_step w e o v fine g (Unread x) = ground_now w v x (end_now w x) None g (at_came w x (end_now w x)) (same_end (end_now w x))
+  ground_step w e o v fine g (PacketComes _ x _ _ _ brings DroppedUnread) = ground_now w v x (end_now w x) None g (at_came w x (end_now w x)) (same_end (end_now w x))
   ground_step w e o v fine g (Sends x c) = ground_same w v x _ None g (at_log w x _ _) (plain_is_same _ _ (plain_sent (end_of w x) c (send_answer (end_of w x) c)))
   ground_step w e o v fine g (AbandonsOne x k) = ground_same w v x _ None g (at_log w x _ _) (plain_is_same _ _ (plain_abandoned (end_of w x) k))
   ground_step w e o v fine g (TakesOne x n h t takes) = ground_same w v x t None g (at_end w x t) (plain_is_same _ t (plain_taken (end_of w x) n h t takes))
   ground_step w e o v fine g (ShutsDown x) = ground_same w v x (shut (end_of w x)) None g (at_end w x _) (plain_is_same _ _ (plain_shut (end_of w x)))
   ground_step w e o v fine g (AbortsIt x r) =
       ground_same w v x (abort_leaves (abort_answer (end_of w x) r) (end_of w x)) (abort_of (abort_answer (end_of w x) r)) g (at_abort w x _ _) (plain_is_same _ _ (plain_aborted (end_of w x) r))
-  ground_step w e o v fine g (CutFirst _ x p brings) = ground_now w v x (end_now w x) None g (at_came w x (end_now w x)) (same_end (end_now w x))
-  ground_step w e o v fine g (CutLater _ x p y front back c t d brings part arrives untold) =
+  ground_step w e o v fine g (PacketCut _ x _ _ brings (CutFirst _)) = ground_now w v x (end_now w x) None g (at_came w x (end_now w x)) (same_end (end_now w x))
+  ground_step w e o v fine g (PacketCut _ x _ t brings (CutLater p y front back c _ d part arrives untold)) =
       ground_now w v x t None g (at_came w x t) (arrives_same (end_now w x) w.draw _ t d arrives)
-  ground_step w e o v fine g (UnreadCut x) = ground_now w v x (end_now w x) None g (at_came w x (end_now w x)) (same_end (end_now w x))
   ground_step w e o v fine g (NoMemory _ other_event) = g

@@ -7,7 +7,7 @@ use Rattle.sctp_model.specs.wire.Packet.{Packet}
 use Rattle.sctp_model.specs.end.EndView.{Phase, Listening, Calling, Echoing, Open, EndView}
 use Rattle.sctp_model.specs.end.Configured.{IsConfiguration}
 use Rattle.sctp_model.specs.end.Strays.{Verdict, Taken, Dropped, Answer}
-use Rattle.sctp_model.specs.end.Arriving.{Arrives}
+use Rattle.sctp_model.specs.end.Arriving.{Arrives, DroppedUnread, ReadAs, CutFirst, CutLater, is_answer, cut_to}
 use Rattle.sctp_model.specs.end.Building.{Builds, Sleeps, Waits, Calls, Echoes, Fills, packet_of}
 use Rattle.sctp_model.specs.end.Building.{EndsFull}
 use Rattle.sctp_model.specs.end.Moments.{ticked}
@@ -15,7 +15,7 @@ use Rattle.sctp_model.specs.end.UserCalls.{send_answer, shut, Aborts, TooLong, a
 use Rattle.sctp_model.specs.world.World.{Side, A, B, World, end_of, end_now, came, Setup, configuration_of}
 use Rattle.sctp_model.specs.world.Events.{Event, Outcome, with_verdict}
 use Rattle.sctp_model.specs.end.Opening.{opened}
-use Rattle.sctp_model.specs.world.Steps.{is_answer, cut_to, Step, OpensBoth, OpenRefused, TimePasses, Draws, Connects, ConnectRefused, BuildsOne, BuildsNone, PacketComes, IsAbsent, Unread, Sends, AbandonsOne, TakesOne, ShutsDown, AbortsIt, CutFirst, CutLater, UnreadCut, NoMemory}
+use Rattle.sctp_model.specs.world.Steps.{Step, OpensBoth, OpenRefused, TimePasses, Draws, Connects, ConnectRefused, BuildsOne, BuildsNone, PacketComes, IsAbsent, Sends, AbandonsOne, TakesOne, ShutsDown, AbortsIt, NoMemory, PacketCut}
 use Rattle.sctp_safety.specs.States.{has_begun, has_agreed}
 use Rattle.sctp_safety.specs.Strangers.{IsDrawn}
 use Rattle.sctp_safety.specs.Agreement.{AreAgreed, AreEachOthers, was_open}
@@ -186,19 +186,18 @@ module _ (s : Setup) (drawn : List ℕ) (w : World) (ground : IsGrounded s drawn
     apart_step e o v fine (ConnectRefused d answer) = AreApart apart
     apart_step e o v fine (BuildsOne x y ys t b) = builds_one v x y ys t (at_packet w x t _) b
     apart_step e o v fine (BuildsNone x t b) = now_plain v x t None (at_end w x t) (builds_plain (end_now w x) [] t b) tt
-    apart_step e o v fine (PacketComes _ x p t d brings arrives) = comes v x p t d (at_verdict w x t d) (closed_verdict x t d) (from_whole s drawn w e x p fine brings) arrives
+    apart_step e o v fine (PacketComes _ x _ t d brings (ReadAs p _ _ arrives)) = comes v x p t d (at_verdict w x t d) (closed_verdict x t d) (from_whole s drawn w e x p fine brings) arrives
     apart_step e o v fine (IsAbsent x n none) = AreApart apart
-    apart_step e o v fine (Unread x) = now_plain v x (end_now w x) None (at_came w x (end_now w x)) (plain_same (end_now w x)) tt
+    apart_step e o v fine (PacketComes _ x _ _ _ brings DroppedUnread) = now_plain v x (end_now w x) None (at_came w x (end_now w x)) (plain_same (end_now w x)) tt
     apart_step e o v fine (Sends x c) = by_plain v x _ None (at_log w x _ _) (plain_sent (end_of w x) c (send_answer (end_of w x) c)) tt
     apart_step e o v fine (AbandonsOne x k) = by_plain v x _ None (at_log w x _ _) (plain_abandoned (end_of w x) k) tt
     apart_step e o v fine (TakesOne x n h t takes) = by_plain v x t None (at_end w x t) (plain_taken (end_of w x) n h t takes) tt
     apart_step e o v fine (ShutsDown x) = by_plain v x (shut (end_of w x)) None (at_end w x _) (plain_shut (end_of w x)) tt
     apart_step e o v fine (AbortsIt x r) =
         by_plain v x (abort_leaves (abort_answer (end_of w x) r) (end_of w x)) (abort_of (abort_answer (end_of w x) r)) (at_abort w x _ _) (plain_aborted (end_of w x) r) (abort_quiet (end_of w x) r)
-    apart_step e o v fine (CutFirst _ x p brings) = now_plain v x (end_now w x) None (at_came w x (end_now w x)) (plain_same (end_now w x)) tt
-    apart_step e o v fine (CutLater _ x p y front back c t d brings part arrives untold) =
+    apart_step e o v fine (PacketCut _ x _ _ brings (CutFirst _)) = now_plain v x (end_now w x) None (at_came w x (end_now w x)) (plain_same (end_now w x)) tt
+    apart_step e o v fine (PacketCut _ x _ t brings (CutLater p y front back c _ d part arrives untold)) =
         comes_cut v x (cut_to p (y ∷ front)) t d (at_came w x t) (closed_came x t) untold (from_cut s drawn w e x p y front back c fine brings part) arrives
-    apart_step e o v fine (UnreadCut x) = now_plain v x (end_now w x) None (at_came w x (end_now w x)) (plain_same (end_now w x)) tt
     apart_step e o v fine (NoMemory _ other_event) = AreApart apart
 
 -- Whichever step comes, the story goes on.

@@ -8,13 +8,13 @@ use Rattle.sctp_model.specs.end.EndView.{Established, Open, Phase, Listening, En
 use Rattle.sctp_model.specs.end.Opening.{begun, joined, terms_of_body, tags_of_body}
 use Rattle.sctp_model.specs.end.Clock.{turned}
 use Rattle.sctp_model.specs.end.Strays.{Verdict}
-use Rattle.sctp_model.specs.end.Arriving.{AllAct, Arrives, Elsewhere, NotOurs, Stray, CookieBegins, Heard}
+use Rattle.sctp_model.specs.end.Arriving.{AllAct, Arrives, Elsewhere, NotOurs, Stray, CookieBegins, Heard, DroppedUnread, ReadAs, CutFirst, CutLater, cut_to}
 use Rattle.sctp_model.specs.end.Building.{Builds, packet_of}
 use Rattle.sctp_model.specs.end.Moments.{ticked}
 use Rattle.sctp_model.specs.end.UserCalls.{called, abandoned_at, shut, abort_answer, abort_leaves}
 use Rattle.sctp_model.specs.world.World.{Side, A, B, World, end_of, bag_of, log_of, with_end, end_now, came, logged, Setup}
 use Rattle.sctp_model.specs.world.Events.{Event, with_verdict, Outcome}
-use Rattle.sctp_model.specs.world.Steps.{named_at, cut_to, Step, OpensBoth, OpenRefused, TimePasses, Draws, Connects, ConnectRefused, BuildsOne, BuildsNone, PacketComes, IsAbsent, Unread, Sends, AbandonsOne, TakesOne, ShutsDown, AbortsIt, CutFirst, CutLater, UnreadCut, NoMemory}
+use Rattle.sctp_model.specs.world.Steps.{named_at, Step, OpensBoth, OpenRefused, TimePasses, Draws, Connects, ConnectRefused, BuildsOne, BuildsNone, PacketComes, IsAbsent, Sends, AbandonsOne, TakesOne, ShutsDown, AbortsIt, NoMemory, PacketCut}
 use Rattle.sctp_model.specs.world.Premises.{asked_at}
 use Rattle.sctp_safety.specs.Agreement.{IsOpening}
 use Rattle.sctp_safety.proofs.machine.EndWords.{all_act_keeps}
@@ -160,10 +160,10 @@ module _ (s : Setup) (drawn : List ℕ) (w : World) (opening : IsOpening s drawn
       let m = builds x (y ∷ ys) t b in
       inl (apart_packet (with_end w x t) x (packet_of (end_of w x) (y ∷ ys)) m.1 (apart_end w x t k m.0 m.2))
   apart_step caller e o v fine (BuildsNone x t b) = let m = builds x [] t b in inl (apart_end w x t k m.0 m.2)
-  apart_step caller e o v fine (PacketComes _ x p t d brings arrives) =
+  apart_step caller e o v fine (PacketComes _ x _ t d brings (ReadAs p _ _ arrives)) =
       told x t d (answer_opens (end_now w x) w.draw p t d arrives) (hears caller x p t d (from_whole s drawn w e x p fine brings) arrives)
   apart_step caller e o v fine (IsAbsent x n none) = inl k
-  apart_step caller e o v fine (Unread x) = inl (apart_came w x (end_now w x) k (now_unmet w x k) (stands_now w x k))
+  apart_step caller e o v fine (PacketComes _ x _ _ _ brings DroppedUnread) = inl (apart_came w x (end_now w x) k (now_unmet w x k) (stands_now w x k))
   apart_step caller e o v fine (Sends x c) = inl (apart_sent w x c k)
   apart_step caller e o v fine (AbandonsOne x n) =
       inl (apart_log (with_end w x (abandoned_at (end_of w x) n)) x (named_at (logged w x (abandoned_at (end_of w x) n)) n) (k.calls x)
@@ -175,8 +175,7 @@ module _ (s : Setup) (drawn : List ℕ) (w : World) (opening : IsOpening s drawn
   apart_step caller e o v fine (AbortsIt x r) =
       inl (apart_abort (with_end w x (abort_leaves (abort_answer (end_of w x) r) (end_of w x))) x (end_of w x) r
       (apart_end w x _ k (waits_aborted w.clock (end_of w x) (abort_answer (end_of w x) r) (k.ends x)) (stands_on w x _ k (plain_aborted (end_of w x) r).turn)))
-  apart_step caller e o v fine (CutFirst _ x p brings) = inl (apart_came w x (end_now w x) k (now_unmet w x k) (stands_now w x k))
-  apart_step caller e o v fine (CutLater _ x p y front back z t d brings parts arrives silent) =
+  apart_step caller e o v fine (PacketCut _ x _ _ brings (CutFirst _)) = inl (apart_came w x (end_now w x) k (now_unmet w x k) (stands_now w x k))
+  apart_step caller e o v fine (PacketCut _ x _ t brings (CutLater p y front back z _ d parts arrives silent)) =
       untold x t (hears caller x (cut_to p (y ∷ front)) t d (from_cut s drawn w e x p y front back z fine brings parts) arrives)
-  apart_step caller e o v fine (UnreadCut x) = inl (apart_came w x (end_now w x) k (now_unmet w x k) (stands_now w x k))
   apart_step caller e o v fine (NoMemory _ other_event) = inl k

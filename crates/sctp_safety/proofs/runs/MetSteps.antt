@@ -4,12 +4,12 @@ use Rattle.sctp_model.specs.wire.Chunk.{ChunkMeaning}
 use Rattle.sctp_model.specs.wire.Packet.{Packet}
 use Rattle.sctp_model.specs.end.EndView.{Phase, Idle, Listening, Calling, Echoing, Open, Over, EndView}
 use Rattle.sctp_model.specs.end.Strays.{Verdict}
-use Rattle.sctp_model.specs.end.Arriving.{Arrives}
+use Rattle.sctp_model.specs.end.Arriving.{Arrives, DroppedUnread, ReadAs, CutFirst, CutLater, cut_to}
 use Rattle.sctp_model.specs.end.Building.{Builds, packet_of}
 use Rattle.sctp_model.specs.end.UserCalls.{connect_answer, Called, abort_answer, abort_leaves, shut}
 use Rattle.sctp_model.specs.world.World.{Side, other, World, end_of, bag_of, with_end, end_now, Setup}
 use Rattle.sctp_model.specs.world.Events.{Event, Outcome}
-use Rattle.sctp_model.specs.world.Steps.{cut_to, Step, OpensBoth, OpenRefused, TimePasses, Draws, Connects, ConnectRefused, BuildsOne, BuildsNone, PacketComes, IsAbsent, Unread, Sends, AbandonsOne, TakesOne, ShutsDown, AbortsIt, CutFirst, CutLater, UnreadCut, NoMemory}
+use Rattle.sctp_model.specs.world.Steps.{Step, OpensBoth, OpenRefused, TimePasses, Draws, Connects, ConnectRefused, BuildsOne, BuildsNone, PacketComes, IsAbsent, Sends, AbandonsOne, TakesOne, ShutsDown, AbortsIt, NoMemory, PacketCut}
 use Rattle.sctp_model.specs.world.Premises.{asked_at}
 use Rattle.sctp_safety.specs.States.{has_agreed}
 use Rattle.sctp_safety.specs.Agreement.{IsOpening}
@@ -67,11 +67,11 @@ module _ (s : Setup) (drawn : List ℕ) (w : World) (opening : IsOpening s drawn
     met = from_side v x (put_both w x t (packet_of (end_of w x) (y ∷ ys)) (built_one w x (y ∷ ys) t (at x) b));
   }
   met_step e o v fine (BuildsNone x t b) = with_other x t (built_none w x t (built_one w x [] t (at x) b))
-  met_step e o v fine (PacketComes _ x p t d brings arrives) =
+  met_step e o v fine (PacketComes _ x _ t d brings (ReadAs p _ _ arrives)) =
       told_of w x t d (arrived s drawn w x p t d opening (at x) (from_whole s drawn w e x p fine brings) arrives)
       (answer_opens (end_now w x) w.draw p t d arrives)
   met_step e o v fine (IsAbsent x n none) = m
-  met_step e o v fine (Unread x) = only_came w x (end_now w x) (now_at w x (at x))
+  met_step e o v fine (PacketComes _ x _ _ _ brings DroppedUnread) = only_came w x (end_now w x) (now_at w x (at x))
   met_step e o v fine (Sends x c) = record { closed = closed_log w x _ _ ∙ m.closed; met = from_side v x (sent_at w x c (at x)) }
   met_step e o v fine (AbandonsOne x k) = record { closed = closed_log w x _ _ ∙ m.closed; met = from_side v x (abandoned_there w x k (at x)) }
   met_step e o v fine (TakesOne x n h t takes) =
@@ -86,9 +86,8 @@ module _ (s : Setup) (drawn : List ℕ) (w : World) (opening : IsOpening s drawn
         (pair_aborted (end_of w (other x)) (asked_at w x) (asked_at w (other x)) (chunks_in (bag_of w x)) (chunks_in (bag_of w (other x))) (end_of w x)
         (abort_answer (end_of w x) r) (at x))));
   }
-  met_step e o v fine (CutFirst _ x p brings) = only_came w x (end_now w x) (now_at w x (at x))
-  met_step e o v fine (CutLater _ x p y front back z t d brings parts arrives untold) =
+  met_step e o v fine (PacketCut _ x _ _ brings (CutFirst _)) = only_came w x (end_now w x) (now_at w x (at x))
+  met_step e o v fine (PacketCut _ x _ t brings (CutLater p y front back z _ d parts arrives untold)) =
       only_came w x t (arrived s drawn w x (cut_to p (y ∷ front)) t d opening (at x)
       (from_cut s drawn w e x p y front back z fine brings parts) arrives)
-  met_step e o v fine (UnreadCut x) = only_came w x (end_now w x) (now_at w x (at x))
   met_step e o v fine (NoMemory _ other_event) = m
