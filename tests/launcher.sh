@@ -2,7 +2,7 @@
 # Shows what the launcher ./sctp-trace does in each order of commands: before a build, after one, and after sources have changed.
 # To be run by hand: tests/launcher.sh. It works on a copy of the repository, proves and builds the program there (with what `out/`
 # keeps a minute or two, else a quarter of an hour), prints a line for each order, and ends with 0 where all are as they should be.
-# Before a build each order takes up to half a minute: in all seven minutes with what `out/` keeps, on four processors beside other work.
+# Before a build each order that runs the sources takes a minute: in all a quarter of an hour with what `out/` keeps, beside other work.
 
 root=$(CDPATH='' cd -- "$(dirname -- "$0")/.." && pwd -P) || exit 3
 room=$(mktemp -d) || exit 3
@@ -67,6 +67,47 @@ by_sources() {
     if grep -q '^+ rt try' "$room/traced"; then report yes '  by the sources'; else report no '  not by the sources'; fi
 }
 
+# whether the contents of the sources were read
+by_contents() {
+    if grep -q '^+ is_same' "$room/traced"; then report yes '  by the contents'; else report no '  not by the contents'; fi
+}
+
+by_times() {
+    if grep -q '^+ is_same' "$room/traced"; then report no '  not by times and sizes alone'; else report yes '  by times and sizes alone'; fi
+}
+
+# wrong ROW WORDS..: runs the launcher with words that are wrong, and compares what it says with the row of this name.
+wrong() {
+    row=$1
+    shift
+    sed -n "/^= $row\$/,/^status 1\$/{s/^! \{0,1\}//p;}" crates/sctp_rows/stdout >"$room/row"
+    ./sctp-trace "$@" </dev/null >"$room/output" 2>"$room/faults"
+    ended=$?
+    if [ $ended = 1 ] && [ -s "$room/row" ] && cmp -s "$room/row" "$room/faults" && [ ! -s "$room/output" ]; then
+        report yes "  $row: status 1, and just that row's text"
+    else
+        report no "  $row: status $ended, and not just that row's text"
+    fi
+}
+
+all_wrong() {
+    report yes "wrong words, $1"
+    wrong "the program's name alone"
+    wrong 'an empty word' ''
+    wrong 'a command with a capital' Run
+    wrong 'a part of a command' ru
+    wrong 'no command' walk
+    wrong 'a word behind run' run more
+    wrong 'run twice' run run
+    wrong 'help counts as a wrong word' --help
+    wrong 'the command help' help
+    wrong 'help on run' run -h
+    wrong 'packet without its bytes' packet
+    wrong 'chunks without their bytes' chunks
+    wrong 'a word behind the bytes of a packet' packet 00 00
+    wrong 'help on chunks' chunks --help
+}
+
 all_orders() {
     order "one message over, $1" 0 $one_message run
     writes $wanted
@@ -84,11 +125,9 @@ all_orders() {
     writes "$room/body"
     order "no hexadecimal digits, $1" 2 /dev/null packet Hi
     writes "$room/hexadecimal"
-    order "a packet without its word, $1" 1 /dev/null packet
-    says 'HEX'
-    order "a word too many, $1" 1 /dev/null chunks 00 00
-    order "no words, $1" 1 /dev/null
-    says 'a subcommand is required'
+    order "a flag that isn't there, $1" 1 /dev/null run --quick
+    says 'unexpected argument'
+    all_wrong "$1"
     order "a word that isn't UTF-8, $1" 1 /dev/null "$bytes"
     says "a word isn't UTF-8"
     ln -sf "$room/copy/sctp-trace" "$room/linked"
@@ -101,9 +140,10 @@ all_orders() {
 }
 
 all_orders 'nothing built'
-by_sources_of=$one_message
-order 'nothing built: the sources are run' 0 $by_sources_of run
+order 'nothing built: the sources are run' 0 $one_message run
 by_sources
+order 'nothing built, wrong words: nothing is run' 1 /dev/null packet
+if grep -q '^+ rt try' "$room/traced"; then report no '  but the sources are'; fi
 order 'much output, nothing built' 3 "$room/many" run
 says 'the limit on each'
 says 'rt run'
@@ -118,6 +158,16 @@ report "$([ $? = 0 ] && echo yes)" 'rt run proves and builds the program'
 all_orders 'built'
 order 'built: the program is run' 0 $one_message run
 by_program
+sleep 3
+order 'built a while ago: the contents are read once more' 0 $one_message run
+by_program
+order 'and then no more' 0 $one_message run
+by_program
+by_times
+printf '%s\n%s' 13881389000000078bb4efbb$hi 138813890000000700000000$hi >"$room/packets"
+while read -r packet || [ -n "$packet" ]; do ./sctp-trace packet "$packet"; done <"$room/packets" >"$room/output"
+cat "$room/packet" "$room/checksum" >"$room/wanted"
+writes "$room/wanted"
 order 'much output, built' 0 "$room/many" run
 ./sctp-trace run <$one_message >/dev/full 2>/dev/null
 report "$([ $? = 3 ] && echo yes)" 'a full disk, built'
@@ -125,6 +175,12 @@ report "$([ $? = 3 ] && echo yes)" 'a full disk, built'
 touch $source
 order 'a source touched' 0 $one_message run
 by_program
+by_contents
+sed 's/Pair/Pear/' "$room/source" >$source
+touch -r "$room/source" $source
+order 'a source changed, with its size and its time' 0 $one_message run
+by_sources
+cp -p "$room/source" $source
 printf '// A remark.\n' >>$source
 order 'a source changed' 0 $one_message run
 by_sources
@@ -137,6 +193,12 @@ by_sources
 mv "$room/definition" $definition
 order 'and put back' 0 $one_message run
 by_program
+sleep 3
+order 'and once more, later' 0 $one_message run
+by_program
+order 'and then the contents are read no more' 0 $one_message run
+by_program
+by_times
 
 if [ $failed = 0 ]; then echo 'all as it should be'; else echo 'some are not as they should be'; fi
 exit $failed
