@@ -1,14 +1,11 @@
 //! Bytes, as the transcript shows them.
 
 use anyhow::Result;
-use sctp_packet::read_packet;
+use sctp_packet::{HEADER, read_packet};
 use sctp_recv::SackLists;
 use sctp_wire::{Chunk, write_chunk};
 use std::alloc::Global;
 use std::fmt::Write;
-
-/// Where the header of a packet ends, and its chunks begin.
-const HEADER: usize = 12;
 
 /// How many chunks are shown of a packet.
 const SHOWN_CHUNKS: usize = 4;

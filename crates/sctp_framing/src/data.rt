@@ -3,10 +3,8 @@
 use crate::framing::Framing;
 use crate::numbers::as_number;
 use sctp_serial::{S16, Serial};
+use sctp_wire::codes::DATA_HEADER;
 use sctp_wire::{Chunk, Forward, Piece, SkipForm};
-
-/// The bytes of a DATA chunk before its data.
-const HEADER: usize = 16;
 
 /// User data in DATA chunks.
 #[derive(Clone, Copy, Debug)]
@@ -28,11 +26,12 @@ impl Framing for DataFraming {
     }
 
     fn header() -> usize {
-        HEADER
+        DATA_HEADER
     }
 
     fn wire_number(unordered: bool, number: u32) -> u32 {
-        if unordered { 0 } else { number % 65_536 }
+        let ssn = u32::from(S16::of_count(number).0);
+        if unordered { 0 } else { ssn }
     }
 
     fn wire_word(payload: u32, _fragment: u32) -> u32 {

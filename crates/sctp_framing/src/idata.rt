@@ -3,10 +3,8 @@
 use crate::framing::Framing;
 use crate::numbers::as_number;
 use sctp_serial::{S32, Serial};
+use sctp_wire::codes::I_DATA_HEADER;
 use sctp_wire::{Chunk, Forward, Piece, SkipForm};
-
-/// The bytes of an I-DATA chunk before its data.
-const HEADER: usize = 20;
 
 /// User data in I-DATA chunks.
 #[derive(Clone, Copy, Debug)]
@@ -28,7 +26,7 @@ impl Framing for IDataFraming {
     }
 
     fn header() -> usize {
-        HEADER
+        I_DATA_HEADER
     }
 
     fn wire_number(_unordered: bool, number: u32) -> u32 {

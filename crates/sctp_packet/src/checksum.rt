@@ -10,7 +10,7 @@ use crate::tables::TABLES;
 use byteorder::{ByteOrder, LittleEndian};
 
 /// The bytes of a packet's common header (RFC 9260, 3.1).
-pub(crate) const HEADER: usize = 12;
+pub const HEADER: usize = 12;
 /// Where the checksum stands in it, 4 bytes.
 pub(crate) const SUM_AT: usize = 8;
 /// The bytes that are taken at once, a table for each.

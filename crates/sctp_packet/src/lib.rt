@@ -8,7 +8,7 @@ mod read;
 mod tables;
 mod writer;
 
-pub use checksum::crc32c;
+pub use checksum::{HEADER, crc32c};
 pub use fault::PacketFault;
 pub use laws::{one_packet, written_packet_reads};
 pub use read::{Packet, read_packet};

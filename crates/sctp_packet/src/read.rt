@@ -11,7 +11,7 @@ use byteorder::{BigEndian, ByteOrder};
 use sctp_wire::{Chunks, one_reading, read_chunks};
 
 /// A packet that was read, its chunks where they lie in the bytes.
-#[derive(Debug, Drop)]
+#[derive(Drop)]
 pub struct Packet<'a> {
     /// The port that it comes from.
     pub source: u16,

@@ -18,7 +18,7 @@ use std::marker::Model;
 /// A packet in the making: the most bytes that it may have, its ports and tag, and the chunks put in so far.
 ///
 /// It takes no memory before its first chunk.
-#[derive(Debug, Drop)]
+#[derive(Drop)]
 pub struct PacketWriter {
     limit: u16,
     source: u16,

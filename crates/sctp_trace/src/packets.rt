@@ -18,13 +18,10 @@ ghost use Rattle.sctp_trace.specs.inner.EndSteps.{ActLeaves, ActsLeave, IsBeginn
 
 use crate::end::{End, is_open};
 use sctp_first_recv::{Answer, Receiver};
-use sctp_packet::{PacketWriter, written_packet_reads};
+use sctp_packet::{HEADER, PacketWriter, written_packet_reads};
 use sctp_script::{Outcome, Side};
 use sctp_wire::{Blocks, Chunk, Chunks, NoMemory, Sack, Tsns, read_chunks};
 use std::alloc::Global;
-
-/// The bytes of a packet's header (RFC 9260, 3.1).
-const HEADER: usize = 12;
 
 /// An end builds a packet, of the SACK where one is due and of as many messages as fit, and puts it into its bag.
 /// The room for all of it is made first.

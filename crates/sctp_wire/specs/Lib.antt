@@ -13,3 +13,4 @@ pub mod Reading
 pub mod inner
 pub mod UnknownLaws
 pub mod Laws
+pub mod SameCodes

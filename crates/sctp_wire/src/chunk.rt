@@ -21,15 +21,16 @@ use crate::chunks::sack::{Sack, append_sack, sack_fits};
 use crate::chunks::shutdown::shutdown_fits;
 use crate::chunks::user_data::{append_data, data_fits};
 use crate::codes::{
-    ABORT, COOKIE_ACK, COOKIE_ECHO, DATA, ERROR, FORWARD_TSN, HEARTBEAT, HEARTBEAT_ACK, I_DATA,
-    I_FORWARD_TSN, INIT, INIT_ACK, SACK, SHUTDOWN, SHUTDOWN_ACK, SHUTDOWN_COMPLETE,
+    ABORT, COOKIE_ACK, COOKIE_ECHO, DATA, DATA_HEADER, ERROR, FORWARD_TSN, HEARTBEAT,
+    HEARTBEAT_ACK, I_DATA, I_DATA_HEADER, I_FORWARD_TSN, INIT, INIT_ACK, SACK, SHUTDOWN,
+    SHUTDOWN_ACK, SHUTDOWN_COMPLETE,
 };
 use crate::numbers::{append, append_u32, padded};
 use crate::skips::SkipForm;
 use crate::typed::Causes;
 
 /// A chunk (RFC 9260, 3.2).
-#[derive(Debug, Drop)]
+#[derive(Drop)]
 pub enum Chunk<'a> {
     /// User data (RFC 9260, 3.3.1).
     Data(Piece<'a>),
@@ -128,8 +129,8 @@ pub fn length_of(chunk: &Chunk<'_>) -> usize
     ensures small { result < 2 ^ 16 }
 {
     match chunk {
-        Chunk::Data(piece) => 16 + piece.bytes.len(),
-        Chunk::IData(piece) => 20 + piece.bytes.len(),
+        Chunk::Data(piece) => DATA_HEADER + piece.bytes.len(),
+        Chunk::IData(piece) => I_DATA_HEADER + piece.bytes.len(),
         Chunk::Init(offer) | Chunk::InitAck(offer) => 20 + offer.parameters.size(),
         Chunk::Sack(sack) => 16 + 4 * (sack.blocks.len() + sack.duplicates.len()),
         Chunk::Heartbeat { info } | Chunk::HeartbeatAck { info } => 4 + info.len(),

@@ -44,5 +44,51 @@ pub const END: u8 = 1;
 /// The flag T of ABORT and SHUTDOWN COMPLETE: the packet's tag is the one that came, not the peer's.
 pub const REFLECTED: u8 = 1;
 
+/// The cause of a chunk on a stream that there isn't (RFC 9260, 3.3.10.1).
+pub const INVALID_STREAM: u16 = 1;
+/// The cause of a mandatory parameter that is missing (RFC 9260, 3.3.10.2).
+pub const MISSING_PARAMETER: u16 = 2;
+/// The cause of a cookie that came too late (RFC 9260, 3.3.10.3).
+pub const STALE_COOKIE: u16 = 3;
+/// The cause of want of room or memory (RFC 9260, 3.3.10.4).
+pub const OUT_OF_RESOURCE: u16 = 4;
+/// The cause of a chunk of an unknown type (RFC 9260, 3.3.10.6).
+pub const UNRECOGNIZED_CHUNK: u16 = 6;
+/// The cause of a mandatory parameter with a wrong value (RFC 9260, 3.3.10.7).
+pub const INVALID_PARAMETER: u16 = 7;
+/// The cause of parameters of unknown types, in an INIT ACK (RFC 9260, 3.3.10.8).
+pub const UNRECOGNIZED_PARAMETERS: u16 = 8;
+/// The cause of DATA or I-DATA without data (RFC 9260, 3.3.10.9).
+pub const NO_USER_DATA: u16 = 9;
+/// The cause of a user who aborts (RFC 9260, 3.3.10.12).
+pub const USER_ABORT: u16 = 12;
+/// The cause of a peer that broke a rule (RFC 9260, 3.3.10.13).
+pub const PROTOCOL_VIOLATION: u16 = 13;
+
+/// The parameter IPv4 Address, which is passed over (RFC 9260, 3.3.2.1).
+pub const IPV4_ADDRESS: u16 = 5;
+/// The parameter IPv6 Address, which is passed over (RFC 9260, 3.3.2.1).
+pub const IPV6_ADDRESS: u16 = 6;
+/// The parameter State Cookie (RFC 9260, 3.3.3.1).
+pub const STATE_COOKIE: u16 = 7;
+/// The parameter that reports another one of an unknown type (RFC 9260, 3.3.3.1).
+pub const UNRECOGNIZED_PARAMETER: u16 = 8;
+/// The parameter Cookie Preservative, which is passed over (RFC 9260, 3.3.2.1).
+pub const COOKIE_PRESERVATIVE: u16 = 9;
+/// The parameter Host Name Address, which is passed over (RFC 9260, 3.3.2.1).
+pub const HOST_NAME: u16 = 11;
+/// The parameter Supported Address Types, which is passed over (RFC 9260, 3.3.2.1).
+pub const ADDRESS_TYPES: u16 = 12;
+/// The parameter Supported Extensions: a byte for each chunk type (RFC 5061, 4.2.7).
+pub const SUPPORTED_EXTENSIONS: u16 = 0x8008;
+/// The parameter Forward-TSN-Supported (RFC 3758, 3.1).
+pub const FORWARD_TSN_SUPPORTED: u16 = 0xc000;
+
 /// The longest chunk, without its padding: the length field has 16 bits (RFC 9260, 3.2).
 pub const LONGEST: usize = 65_535;
+/// The longest value of a chunk, a parameter or a cause: what `LONGEST` leaves behind type and length.
+pub const LONGEST_VALUE: usize = 65_531;
+/// The bytes of a DATA before its data (RFC 9260, 3.3.1).
+pub const DATA_HEADER: usize = 16;
+/// The bytes of an I-DATA before its data (RFC 8260, 2.1).
+pub const I_DATA_HEADER: usize = 20;

@@ -31,7 +31,7 @@ pub enum WireFault {
 }
 
 /// What is wrong with one chunk, by itself.
-#[derive(Clone, Copy, Debug, PartialEq, Eq)]
+#[derive(Clone, Copy)]
 pub(crate) enum Reason {
     IsCut,
     HasShortLength,

@@ -28,8 +28,8 @@ pub use chunks::sack::Sack;
 pub use fault::{NoMemory, WireFault};
 pub use items::{put_block, put_cause, put_parameter, put_word};
 pub use laws::{
-    chunks_are_read, chunks_join, one_reading, typed_one_reading, unknown_types,
-    written_each_reads, written_reads,
+    chunks_are_read, chunks_join, codes_are_the_definitions, one_reading, typed_one_reading,
+    unknown_types, written_each_reads, written_reads,
 };
 pub use lists::{BlockIter, Blocks, GapBlock, TsnIter, Tsns};
 pub use numbers::padded;

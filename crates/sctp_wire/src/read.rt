@@ -21,7 +21,7 @@ use crate::numbers::{padded, read_u16};
 use std::marker::Model;
 
 /// The chunks that are still to come.
-#[derive(Debug, Drop)]
+#[derive(Drop)]
 pub struct Chunks<'a> {
     rest: &'a [u8],
 }
@@ -37,6 +37,15 @@ impl<'a> Model for Chunks<'a> {
     ghost view = { λ s. chunks_of s.rest.now };
 
     ghost invariant = { λ s. AreChunks s.rest.now };
+}
+
+impl<'a> Chunks<'a> {
+    /// The same chunks once more: whoever looks for one of them first can still go over all.
+    pub fn again(&self) -> Chunks<'a>
+        ensures { result ≡ self.now }
+    {
+        Chunks { rest: self.rest }
+    }
 }
 
 impl<'a> Iterator for Chunks<'a> {

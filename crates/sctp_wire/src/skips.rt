@@ -42,7 +42,7 @@ pub struct Skip {
 }
 
 /// The entries of a FORWARD.
-#[derive(Debug, Drop)]
+#[derive(Drop)]
 pub struct Skips<'a> {
     form: SkipForm,
     bytes: &'a [u8],
@@ -121,7 +121,7 @@ fn are_reserved_zero(bytes: &[u8]) -> bool
 }
 
 /// The entries that are still to come.
-#[derive(Debug, Drop)]
+#[derive(Drop)]
 pub struct SkipIter<'a> {
     form: SkipForm,
     rest: &'a [u8],

@@ -12,7 +12,7 @@ use crate::numbers::{padded, read_u16};
 use std::marker::Model;
 
 /// A parameter or a cause, without its padding.
-#[derive(Clone, Copy, Debug)]
+#[derive(Clone, Copy)]
 pub struct TypedItem<'a> {
     /// Its type.
     pub kind: u16,
@@ -21,7 +21,7 @@ pub struct TypedItem<'a> {
 }
 
 /// Parameters or causes, one behind another: bytes that were checked once to be such a list.
-#[derive(Debug, Drop)]
+#[derive(Drop)]
 pub struct TypedItems<'a> {
     bytes: &'a [u8],
 }
@@ -96,7 +96,7 @@ impl<'a> TypedItems<'a> {
 }
 
 /// The items that are still to come.
-#[derive(Debug, Drop)]
+#[derive(Drop)]
 pub struct TypedIter<'a> {
     rest: &'a [u8],
 }

@@ -11,14 +11,14 @@ ghost use Rattle.sctp_wire.specs.chunks.Abort.{has_abort_list};
 ghost use Rattle.sctp_wire.specs.chunks.Flags.{flag};
 
 use crate::chunks::flags::flag;
-use crate::codes::{LONGEST, REFLECTED};
+use crate::codes::{LONGEST_VALUE, REFLECTED};
 use crate::typed::{Causes, is_typed_list};
 
 /// Whether the length has 16 bits, and the causes are as they are written.
 pub fn abort_fits(reflected: bool, causes: &Causes<'_>) -> bool
     ensures { IsTrue result ↔ Fits (meaning.Abort reflected causes.now) }
 {
-    causes.size() <= LONGEST - 4 && causes.is_plain()
+    causes.size() <= LONGEST_VALUE && causes.is_plain()
 }
 
 /// The flags: T, and the unused ones zero.

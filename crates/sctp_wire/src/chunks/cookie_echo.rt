@@ -8,11 +8,11 @@ ghost use Rattle.std.specs.Prelude.{◌↔◌, IsTrue};
 ghost use Rattle.sctp_model.specs.wire.Chunk as meaning;
 ghost use Rattle.sctp_wire.specs.Layouts.{Fits};
 
-use crate::codes::LONGEST;
+use crate::codes::LONGEST_VALUE;
 
 /// Whether the length has 16 bits.
 pub fn cookie_echo_fits(cookie: &[u8]) -> bool
     ensures { IsTrue result ↔ Fits (meaning.CookieEcho cookie.now) }
 {
-    cookie.len() <= LONGEST - 4
+    cookie.len() <= LONGEST_VALUE
 }

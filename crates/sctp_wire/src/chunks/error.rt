@@ -9,14 +9,14 @@ ghost use Rattle.sctp_model.specs.wire.Chunk as meaning;
 ghost use Rattle.sctp_wire.specs.Layouts.{Fits};
 ghost use Rattle.sctp_wire.specs.chunks.Error.{has_error_list};
 
-use crate::codes::LONGEST;
+use crate::codes::LONGEST_VALUE;
 use crate::typed::{Causes, is_typed_list};
 
 /// Whether the length has 16 bits, and the causes are as they are written.
 pub fn error_fits(causes: &Causes<'_>) -> bool
     ensures { IsTrue result ↔ Fits (meaning.Error causes.now) }
 {
-    causes.size() <= LONGEST - 4 && causes.is_plain()
+    causes.size() <= LONGEST_VALUE && causes.is_plain()
 }
 
 /// Whether a value is a list of causes.

@@ -11,7 +11,7 @@ use crate::numbers::{append_u32, read_u32};
 use crate::skips::{SkipForm, Skips, append_skips, are_in_range};
 
 /// What a sender has given up.
-#[derive(Debug, Drop)]
+#[derive(Drop)]
 pub struct Forward<'a> {
     /// The new cumulative TSN: all up to it count as seen.
     pub cumulative: u32,

@@ -8,12 +8,12 @@ ghost use Rattle.std.specs.Prelude.{◌↔◌, IsTrue};
 ghost use Rattle.sctp_model.specs.wire.Chunk as meaning;
 ghost use Rattle.sctp_wire.specs.Layouts.{Fits};
 
-use crate::codes::LONGEST;
+use crate::codes::LONGEST_VALUE;
 
 /// Whether the length has 16 bits.
 pub fn heartbeat_fits(info: &[u8]) -> bool
     ensures heartbeat { IsTrue result ↔ Fits (meaning.Heartbeat info.now) }
     ensures heartbeat_ack { IsTrue result ↔ Fits (meaning.HeartbeatAck info.now) }
 {
-    info.len() <= LONGEST - 4
+    info.len() <= LONGEST_VALUE
 }

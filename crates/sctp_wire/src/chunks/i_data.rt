@@ -8,7 +8,7 @@ ghost use Rattle.sctp_wire.specs.chunks.IData.{i_data_laid, is_i_data_value, i_d
 
 use crate::chunks::flags::is_set;
 use crate::chunks::piece::Piece;
-use crate::codes::{BEGIN, END, IMMEDIATE, LONGEST, UNORDERED};
+use crate::codes::{BEGIN, END, I_DATA_HEADER, IMMEDIATE, LONGEST, UNORDERED};
 use crate::numbers::{append, append_u16, append_u32, read_u16, read_u32};
 
 /// Whether an I-DATA's length has 16 bits.
@@ -17,7 +17,7 @@ pub fn i_data_fits(piece: &Piece<'_>) -> bool
 {
     let (_tsn, _stream) = (piece.tsn, piece.stream);
     let (_number, _word) = (piece.number, piece.word);
-    piece.bytes.len() <= LONGEST - 20
+    piece.bytes.len() <= LONGEST - I_DATA_HEADER
 }
 
 /// Whether a value has the layout.

@@ -15,7 +15,7 @@ ghost use Rattle.sctp_wire.specs.ChunkTree.{init_meaning};
 ghost use Rattle.sctp_wire.specs.Layouts.{Fits};
 ghost use Rattle.sctp_wire.specs.chunks.Init.{init_value, has_init_numbers, has_init_list, init_at};
 
-use crate::codes::LONGEST;
+use crate::codes::LONGEST_VALUE;
 use crate::numbers::{append, append_u16, append_u32, read_u16, read_u32};
 use crate::typed::{Parameters, is_typed_list};
 
@@ -23,7 +23,7 @@ use crate::typed::{Parameters, is_typed_list};
 const NUMBERS: usize = 16;
 
 /// What an end offers.
-#[derive(Debug, Drop)]
+#[derive(Drop)]
 pub struct Init<'a> {
     /// The verification tag of packets to this end (initiate tag).
     pub tag: u32,
@@ -46,7 +46,7 @@ pub fn init_fits(offer: &Init<'_>) -> bool
 {
     let (_tag, _rwnd, _first) = (offer.tag, offer.rwnd, offer.tsn);
     let (_sends, _takes) = (offer.outbound, offer.inbound);
-    offer.parameters.size() <= LONGEST - 4 - NUMBERS && offer.parameters.is_plain()
+    offer.parameters.size() <= LONGEST_VALUE - NUMBERS && offer.parameters.is_plain()
 }
 
 /// Whether a value has room for the numbers.

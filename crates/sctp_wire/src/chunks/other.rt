@@ -9,13 +9,15 @@ ghost use Rattle.sctp_model.specs.wire.Chunk as meaning;
 ghost use Rattle.sctp_wire.specs.Layouts.{Fits};
 ghost use Rattle.sctp_wire.specs.chunks.Other.{is_known};
 
-use crate::codes::{COOKIE_ACK, FORWARD_TSN, I_DATA, I_FORWARD_TSN, LONGEST, SHUTDOWN_COMPLETE};
+use crate::codes::{
+    COOKIE_ACK, FORWARD_TSN, I_DATA, I_FORWARD_TSN, LONGEST_VALUE, SHUTDOWN_COMPLETE,
+};
 
 /// Whether a type has no case of its own, and the length has 16 bits.
 pub fn other_fits(kind: u8, flags: u8, value: &[u8]) -> bool
     ensures { IsTrue result ↔ Fits (meaning.Unknown kind flags value.now) }
 {
-    !is_known(kind) && value.len() <= LONGEST - 4
+    !is_known(kind) && value.len() <= LONGEST_VALUE
 }
 
 /// Whether a type has a case of its own.

@@ -8,7 +8,7 @@ use crate::chunks::flags::flag;
 use crate::codes::{BEGIN, END, IMMEDIATE, UNORDERED};
 
 /// A piece of user data, as a DATA or an I-DATA chunk has it.
-#[derive(Clone, Copy, Debug)]
+#[derive(Clone, Copy)]
 pub struct Piece<'a> {
     /// I: the peer should acknowledge at once.
     pub immediate: bool,

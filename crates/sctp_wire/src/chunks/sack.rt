@@ -11,7 +11,7 @@ use crate::lists::{Blocks, Tsns};
 use crate::numbers::{append, append_u16, append_u32, read_u16, read_u32};
 
 /// What a receiver has seen.
-#[derive(Debug, Drop)]
+#[derive(Drop)]
 pub struct Sack<'a> {
     /// All TSNs up to this one came.
     pub cumulative: u32,

@@ -8,7 +8,7 @@ ghost use Rattle.sctp_wire.specs.chunks.Data.{data_value, is_data_value, data_at
 
 use crate::chunks::flags::is_set;
 use crate::chunks::piece::Piece;
-use crate::codes::{BEGIN, END, IMMEDIATE, LONGEST, UNORDERED};
+use crate::codes::{BEGIN, DATA_HEADER, END, IMMEDIATE, LONGEST, UNORDERED};
 use crate::numbers::{append, append_u16, append_u32, read_u16, read_u32};
 
 /// Whether a DATA's number has 16 bits, and its length too.
@@ -16,7 +16,7 @@ pub fn data_fits(piece: &Piece<'_>) -> bool
     ensures { IsTrue result ↔ Fits (meaning.Data (piece_meaning piece.now)) }
 {
     let (_tsn, _stream, _word) = (piece.tsn, piece.stream, piece.word);
-    piece.number <= u32::from(u16::MAX) && piece.bytes.len() <= LONGEST - 16
+    piece.number <= u32::from(u16::MAX) && piece.bytes.len() <= LONGEST - DATA_HEADER
 }
 
 /// Whether a value has the layout.
