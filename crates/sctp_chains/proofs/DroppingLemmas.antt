@@ -6,7 +6,7 @@ use Rattle.std.proofs.lemmas.Grind.{common_steps}
 use Rattle.sctp_model.specs.numbers.Lists.{Has}
 use Rattle.sctp_chains.specs.Cells.{Cell}
 use Rattle.sctp_chains.specs.Links.{ChainKept, cells_in, cells_of, IsChain, IsBelow, AreChains}
-use Rattle.sctp_chains.specs.inner.LettingGo.{size_of_cells, size_of_parts, is_outside, passing, Leaves, TakesOut}
+use Rattle.sctp_chains.specs.inner.LettingGo.{size_of_cells, size_of_parts, is_outside, passing, Leaves, Removes}
 use Rattle.sctp_chains.proofs.ListLemmas.{in_part, in_midst, around, take_removed, drop_removed, at_same, filter_parts, filter_all, filter_none, order_back, order_across}
 use Rattle.sctp_chains.proofs.SameLemmas.{total_parts}
 use Rattle.sctp_chains.proofs.CellLemmas.{cells_size}
@@ -90,7 +90,7 @@ module _ (cs : List ChainKept) (k : ℕ) (x : ChainKept) (less : k < length cs) 
   pub split_chains : AreChains cs → AreChains (take k cs ++ x ∷ drop (suc k) cs)
   split_chains h = subst AreChains (sym split) h
 
-  pub takes_out : (held : ℕ) → TakesOut k cs (remove cs k) held (held - size_of_parts x.parts) x
+  pub takes_out : (held : ℕ) → Removes k cs (remove cs k) held (held - size_of_parts x.parts) x
   takes_out held = record {
     here = λ d l. at_same cs k d x less ∙ sym at;
     leaves = λ h l. subst (λ (xs : List ChainKept). Leaves (is_outside x.first x.last) xs (remove cs k) held (held - size_of_parts x.parts)) split

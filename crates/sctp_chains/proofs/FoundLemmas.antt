@@ -7,7 +7,7 @@ use Rattle.sctp_chains.specs.Links.{ChainKept}
 use Rattle.sctp_chains.specs.StandsFor.{KeepsLane}
 use Rattle.sctp_chains.specs.declared.search.Found.{Found}
 use Rattle.sctp_chains.specs.inner.Finding.{IsWholeAt}
-use Rattle.sctp_chains.specs.inner.LettingGo.{Leaves, is_outside, TakesOut}
+use Rattle.sctp_chains.specs.inner.LettingGo.{Leaves, is_outside, Removes}
 use Rattle.sctp_chains.proofs.ListLemmas.{has_at}
 use Rattle.sctp_chains.proofs.WholeLemmas.{AreOf, whole_chain}
 
@@ -21,7 +21,7 @@ pub record IsFoundOut (f : Format) (kept : List Piece) (cs mid : List ChainKept)
   pub out : Leaves (is_outside c.first c.last) cs mid bytes left
 
 pub found_out : (f : Format) (l : Lane) (cs mid : List ChainKept) (bytes left : ℕ) (kept : List Piece) (w : Found) (c d : ChainKept) → KeepsLane f l cs bytes kept → IsWholeAt cs w c →
-    TakesOut w.at cs mid bytes left d → IsFoundOut f kept cs mid bytes left c d
+    Removes w.at cs mid bytes left d → IsFoundOut f kept cs mid bytes left c d
 found_out f l cs mid bytes left kept w c d h at taken = record {
   same = same;
   here = here;

@@ -3,7 +3,7 @@ use Rattle.std.proofs.Common.{◌≡◌, ℕ, suc, ◌-◌, ◌<◌, ◌≤◌, 
 use Rattle.std.specs.List.{remove}
 use Rattle.sctp_chains.specs.Links.{ChainKept, chain_of}
 use Rattle.sctp_chains.specs.declared.chain.Chain.{Chain}
-use Rattle.sctp_chains.specs.inner.LettingGo.{size_of_parts, LetsGo, TakesOut, Trims}
+use Rattle.sctp_chains.specs.inner.LettingGo.{size_of_parts, LetsGo, Removes, Trims}
 use Rattle.sctp_chains.proofs.ListLemmas.{none_dropped, dropped_has}
 use Rattle.sctp_chains.proofs.MemoryLemmas.{at_kept, length_kept, set_kept, remove_kept}
 use Rattle.sctp_chains.proofs.DroppingLemmas.{takes_out}
@@ -18,10 +18,10 @@ module _ (cs : List Chain) (k : ℕ) (x : Chain) (l : k < length cs) (at : x ≡
   here = sym (at_kept cs k x l at (chain_of x))
 
   pub out_of : (new : List Chain) (held left : ℕ) → new ≡ remove cs k → left ≡ held - size_of_parts (chain_of x).parts →
-      TakesOut k (map chain_of cs) (map chain_of new) held left (chain_of x)
+      Removes k (map chain_of cs) (map chain_of new) held left (chain_of x)
   out_of new held left is less =
-      subst (λ (n : ℕ). TakesOut k (map chain_of cs) (map chain_of new) held n (chain_of x)) (sym less)
-      (subst (λ (ks : List ChainKept). TakesOut k (map chain_of cs) ks held (held - size_of_parts (chain_of x).parts) (chain_of x)) (sym (ap (map chain_of) is ∙ remove_kept cs k))
+      subst (λ (n : ℕ). Removes k (map chain_of cs) (map chain_of new) held n (chain_of x)) (sym less)
+      (subst (λ (ks : List ChainKept). Removes k (map chain_of cs) ks held (held - size_of_parts (chain_of x).parts) (chain_of x)) (sym (ap (map chain_of) is ∙ remove_kept cs k))
       (takes_out (map chain_of cs) k (chain_of x) within here held))
 
   pub one_more : (high : ℕ) (old : List ChainKept) (new : List Chain) (held left after : ℕ) → Drops high k old (map chain_of cs) held left → x.last ≤ high → new ≡ remove cs k →

@@ -20,7 +20,7 @@ use Rattle.sctp_chains.specs.declared.search.Found.{Found}
 use Rattle.sctp_chains.specs.declared.whole.Whole.{Whole}
 use Rattle.sctp_chains.specs.declared.chains.Chains.{Chains}
 use Rattle.sctp_chains.specs.inner.Finding.{IsIn, IsFirstWhole}
-use Rattle.sctp_chains.specs.inner.LettingGo.{Leaves, is_outside, LetsGo, TakesOut}
+use Rattle.sctp_chains.specs.inner.LettingGo.{Leaves, is_outside, LetsGo, Removes}
 use Rattle.sctp_chains.proofs.ListLemmas.{map_has, has_at}
 use Rattle.sctp_chains.proofs.CellLemmas.{cell_there}
 use Rattle.sctp_chains.proofs.ChainLemmas.{chain_order}
@@ -142,7 +142,7 @@ module _ (f : Format) (l : Lane) (cs : List ChainKept) (bytes : ℕ) (kept : Lis
 
   -- the lowest whole message is the one found, and what stays are the chunks above its number
   took_lowest : {F : Type 0} (from last : ℕ) (w : Found) (mid : List ChainKept) (b : ℕ) (d : ChainKept) (num high : ℕ) (m : Whole) (new : Chains F) → is_numbered f l.kind ≡ true →
-      IsFirstWhole cs (rank_at (Some from) 0) (rank_at (Some last) (2 ^ 32 - 1)) (Some w) → TakesOut w.at cs mid bytes b d → num ≡ d.first / 2 ^ 32 → high ≡ rank_at (Some num) (2 ^ 32 - 1) →
+      IsFirstWhole cs (rank_at (Some from) 0) (rank_at (Some last) (2 ^ 32 - 1)) (Some w) → Removes w.at cs mid bytes b d → num ≡ d.first / 2 ^ 32 → high ≡ rank_at (Some num) (2 ^ 32 - 1) →
       LetsGo high 0 mid (map chain_of new.chains.items) b new.held → IsWholeOf d w.head (Some num) m → TakesLowest f l kept from last (Some m) new
   unfolding StandsFor
   took_lowest from last w mid b d num high m new numbered (c, at, low, up, before) taken num_is high_is lets says = (
@@ -219,7 +219,7 @@ module _ (f : Format) (l : Lane) (cs : List ChainKept) (bytes : ℕ) (kept : Lis
           ]
 
   pub took_lowest_by : {F : Type 0} (from last lower upper : ℕ) → lower ≡ rank_at (Some from) 0 → upper ≡ rank_at (Some last) (2 ^ 32 - 1) → (w : Found) (mid : List ChainKept) (b : ℕ) (d : ChainKept)
-      (num high : ℕ) (m : Whole) (new : Chains F) → is_numbered f l.kind ≡ true → IsFirstWhole cs lower upper (Some w) → TakesOut w.at cs mid bytes b d → num ≡ d.first / 2 ^ 32 →
+      (num high : ℕ) (m : Whole) (new : Chains F) → is_numbered f l.kind ≡ true → IsFirstWhole cs lower upper (Some w) → Removes w.at cs mid bytes b d → num ≡ d.first / 2 ^ 32 →
       high ≡ rank_at (Some num) (2 ^ 32 - 1) → LetsGo high 0 mid (map chain_of new.chains.items) b new.held → IsWholeOf d w.head (Some num) m → TakesLowest f l kept from last (Some m) new
   took_lowest_by from last lower upper e g w mid b d num high m new numbered found taken num_is high_is lets says =
       took_lowest from last w mid b d num high m new numbered

@@ -18,7 +18,7 @@ use Rattle.sctp_chains.specs.declared.search.Found.{Found}
 use Rattle.sctp_chains.specs.declared.whole.Whole.{Whole}
 use Rattle.sctp_chains.specs.declared.chains.Chains.{Chains}
 use Rattle.sctp_chains.specs.inner.Finding.{IsIn, IsWholeWithRank}
-use Rattle.sctp_chains.specs.inner.LettingGo.{is_outside, Leaves, IsCut, LetsGo, TakesOut}
+use Rattle.sctp_chains.specs.inner.LettingGo.{is_outside, Leaves, IsCut, LetsGo, Removes}
 use Rattle.sctp_chains.proofs.ListLemmas.{has_map}
 use Rattle.sctp_chains.proofs.ChainLemmas.{chain_ranks}
 use Rattle.sctp_chains.proofs.DroppingLemmas.{inside}
@@ -138,7 +138,7 @@ top_high Interleaved c n le = le
 -- the chunk's message is the one found, and what goes with it is gone
 module _ {F : Type 0} (f : Format) (l : Lane) (cs : List ChainKept) (bytes : ℕ) (kept : List Piece) (h : KeepsLane f l cs bytes kept) (y : Piece) (there : Has kept y) where
   pub took_with : (r : ℕ) (w : Found) (mid : List ChainKept) (b : ℕ) (d : ChainKept) (high : ℕ) (m : Whole) (new : Chains F) → r ≡ rank_of f y → IsWholeWithRank cs r (Some w) →
-      TakesOut w.at cs mid bytes b d → high ≡ top_of f d y.number → LetsGo high w.at mid (map chain_of new.chains.items) b new.held → IsWholeOf d w.head y.number m → TakesMessage f l kept y m new
+      Removes w.at cs mid bytes b d → high ≡ top_of f d y.number → LetsGo high w.at mid (map chain_of new.chains.items) b new.held → IsWholeOf d w.head y.number m → TakesMessage f l kept y m new
   unfolding StandsFor
   took_with r w mid b d high m new r_is (c, at, in_it) taken high_is lets says = record {
     head = x;

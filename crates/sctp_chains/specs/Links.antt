@@ -47,7 +47,7 @@ cells_of cs = joined (map cells_in cs)
 
 -- ---- how chains lie
 
--- the second goes on where the first stops
+-- the second continues the first
 abbrev pub is_linked : ChainKept → ChainKept → Bool
 is_linked c d = (d.first - c.last == 1) && (not c.ends && not (is_some d.head))
 
@@ -68,7 +68,7 @@ pub record IsChain (c : ChainKept) : Type 0 where
 abbrev pub IsBelow : ChainKept → ChainKept → Type 0
 IsBelow low high = low.last < high.first
 
--- They lie in rising order, and none goes on where another stops.
+-- They lie in rising order, and none continues another.
 pub record AreChains (cs : List ChainKept) : Type 0 where
   pub each : (c : ChainKept) → Has cs c → IsChain c
   pub rising : AreInOrder IsBelow cs

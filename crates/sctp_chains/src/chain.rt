@@ -33,11 +33,11 @@ pub(crate) struct Part {
 }
 
 impl Chain {
-    /// Whether a fragment goes on where it stops.
-    pub(crate) fn goes_on(&self, part: &Part) -> bool
-        ensures { result ≡ is_linked (chain_of self.now) (one_of part.now) }
+    /// Whether it continues a fragment: begins right behind it, in the same message.
+    pub(crate) fn continues(&self, part: &Part) -> bool
+        ensures { result ≡ is_linked (one_of part.now) (chain_of self.now) }
     {
-        part.rank.saturating_sub(self.last) == 1 && (!self.ends && part.head.is_none())
+        self.first.saturating_sub(part.rank) == 1 && (!part.end && self.head.is_none())
     }
 
     /// Puts a fragment behind it.
@@ -92,11 +92,11 @@ impl Chain {
 }
 
 impl Part {
-    /// Whether a chain goes on where it stops.
-    pub(crate) fn leads_to(&self, chain: &Chain) -> bool
-        ensures { result ≡ is_linked (one_of self.now) (chain_of chain.now) }
+    /// Whether it continues a chain: stands right behind its last fragment, in the same message.
+    pub(crate) fn continues(&self, chain: &Chain) -> bool
+        ensures { result ≡ is_linked (chain_of chain.now) (one_of self.now) }
     {
-        chain.first.saturating_sub(self.rank) == 1 && (!self.end && chain.head.is_none())
+        self.rank.saturating_sub(chain.last) == 1 && (!chain.ends && self.head.is_none())
     }
 }
 

@@ -16,7 +16,7 @@ ghost use Rattle.sctp_chains.specs.WholeOf.{TakesLowest, TakesWith, IsMissing, I
 
 use crate::chain::{Chain, Head, Part};
 use crate::filing::{file, place};
-use crate::letting_go::{drop_upto, take_out};
+use crate::letting_go::{drop_upto, remove};
 use crate::rank::rank_at;
 use crate::search::{Found, first_whole, whole_with};
 use crate::whole::Whole;
@@ -109,7 +109,7 @@ impl<F: Framing> Chains<F> {
             rank_at(Some(from), 0),
             rank_at(Some(last), u32::MAX),
         )?;
-        let chain = take_out(&mut self.chains, &mut self.held, found.at)?;
+        let chain = remove(&mut self.chains, &mut self.held, found.at)?;
         let number = (chain.first / 4_294_967_296) as u32;
         let upto = rank_at(Some(number), u32::MAX);
         self.held = drop_upto(&mut self.chains, self.held, 0, upto);
@@ -124,7 +124,7 @@ impl<F: Framing> Chains<F> {
     {
         let place = F::place(index, piece.begin, piece.word);
         let found = whole_with(&self.chains, rank_at(number, place))?;
-        let chain = take_out(&mut self.chains, &mut self.held, found.at)?;
+        let chain = remove(&mut self.chains, &mut self.held, found.at)?;
         let upto = if F::is_numbered(true) {
             rank_at(number, u32::MAX)
         } else {

@@ -24,7 +24,7 @@ pub(crate) fn put_at(chains: &mut VecDeque<Chain>, at: usize, chain: Chain) -> R
 }
 
 /// Takes out the chain at a place.
-pub(crate) fn take_at(chains: &mut VecDeque<Chain>, at: usize) -> Option<Chain>
+pub(crate) fn remove_at(chains: &mut VecDeque<Chain>, at: usize) -> Option<Chain>
     ensures value { IfSome result (λ c. c ≡ slice_index_or chains.old.items at c) }
     ensures items { OnSome result (chains.new.items ≡ remove chains.old.items at) }
     ensures variant { IsSome result ↔ (at < deque_len chains.old) }

@@ -22,22 +22,22 @@ pub(crate) fn place(chains: &VecDeque<Chain>, rank: u64) -> usize
     )
 }
 
-/// The chain before a place that a fragment goes on after.
+/// The chain before a place that a fragment continues.
 fn linked_before(chains: &VecDeque<Chain>, at: usize, part: &Part) -> Option<usize>
     ensures { at ≤ length chains.now.items → IsLinkBefore (map chain_of chains.now.items) at (one_of part.now) result }
 {
     let before = at.checked_sub(1)?;
-    if before < chains.len() && chains[before].goes_on(part) {
+    if before < chains.len() && part.continues(&chains[before]) {
         return Some(before);
     }
     None
 }
 
-/// The chain at a place, if it goes on after a fragment.
+/// The chain at a place, if it continues a fragment.
 fn linked_behind(chains: &VecDeque<Chain>, at: usize, part: &Part) -> Option<usize>
     ensures { IsLinkBehind (map chain_of chains.now.items) at (one_of part.now) result }
 {
-    if at < chains.len() && part.leads_to(&chains[at]) {
+    if at < chains.len() && chains[at].continues(part) {
         return Some(at);
     }
     None

@@ -2,10 +2,10 @@
 
 ghost use Rattle.std.specs.Prelude.{◌≡◌, ◌≤◌, ◌-◌, suc, length, map, MatchOption, OnSome};
 ghost use Rattle.sctp_chains.specs.Links.{chain_of, bytes_of};
-ghost use Rattle.sctp_chains.specs.inner.LettingGo.{size_of_parts, LetsGo, TakesOut, Trims};
+ghost use Rattle.sctp_chains.specs.inner.LettingGo.{size_of_parts, LetsGo, Removes, Trims};
 
 use crate::chain::Chain;
-use crate::ends::take_at;
+use crate::ends::remove_at;
 use std::collections::VecDeque;
 
 /// A number less the bytes of these parts, 0 where there are more.
@@ -24,11 +24,11 @@ fn less(held: u32, parts: &[Vec<u8>]) -> u32
 }
 
 /// Takes out the chain at a place.
-pub(crate) fn take_out(chains: &mut VecDeque<Chain>, held: &mut u32, at: usize) -> Option<Chain>
+pub(crate) fn remove(chains: &mut VecDeque<Chain>, held: &mut u32, at: usize) -> Option<Chain>
     ensures fewer { OnSome result (suc (length chains.new.items) ≡ length chains.old.items) }
-    ensures taken { MatchOption result (length chains.old.items ≤ at) (λ c. TakesOut at (map chain_of chains.old.items) (map chain_of chains.new.items) held.old held.new (chain_of c)) }
+    ensures taken { MatchOption result (length chains.old.items ≤ at) (λ c. Removes at (map chain_of chains.old.items) (map chain_of chains.new.items) held.old held.new (chain_of c)) }
 {
-    let chain = take_at(chains, at)?;
+    let chain = remove_at(chains, at)?;
     *held = less(*held, &chain.parts);
     Some(chain)
 }
@@ -40,7 +40,7 @@ pub(crate) fn drop_upto(chains: &mut VecDeque<Chain>, held: u32, at: usize, upto
 {
     let mut left = held;
     while at < chains.len() && chains[at].last <= upto {
-        if let Some(chain) = take_at(chains, at) {
+        if let Some(chain) = remove_at(chains, at) {
             left = less(left, &chain.parts);
         }
     }

@@ -179,7 +179,6 @@ module _ (f : Format) (k : ReceiverKept) (v : ReceiverView) (x : ForwardMeaning)
         streams = streams_now ∙ sym (length-map news stream_of);
         few_streams = let few = h.few_streams in let n = count in let m = length-map news stream_of in omega (arith, few, n, m, size);
         duplicates = (gives_rest f (length streams) left t gives).1 ∙ h.duplicates;
-        few = h.few;
         held = p.held ∙ ap (λ (n : ℕ). size_of_pieces t.kept + size_of_waiting t.waiting n) (sym streams_now);
         room = under;
         small = h.small;

@@ -63,7 +63,6 @@ module _ (f : Format) (k : ReceiverKept) (v : ReceiverView) (x : Piece) (seen : 
     streams = h.keeps.streams ∙ sym (length_set k.streams s b);
     few_streams = let few = h.keeps.few_streams in let same = length_set k.streams s b in omega arith;
     duplicates = h.keeps.duplicates;
-    few = h.keeps.few;
     held = held_now;
     room = let fits = h.fits in omega (arith, counts, size, fits);
     small = h.keeps.small;

@@ -1,5 +1,5 @@
 -- The data of fragments, with one fragment more.
-use Rattle.std.proofs.Common.{◌≡◌, ℕ, zero, suc, ◌+◌, ◌<◌, List, [], ◌∷◌, ◌++◌, length, get_or, take, refl, sym, ◌∙◌, ap, append_assoc, add-one, length-append, arith}
+use Rattle.std.proofs.Common.{◌≡◌, ℕ, zero, suc, ◌+◌, ◌<◌, ◌≤◌, List, [], ◌∷◌, ◌++◌, length, get_or, take, refl, sym, ◌∙◌, ap, append_assoc, add-one, length-append, arith}
 use Rattle.std.specs.declared.vec.Vec.{Vec}
 use Rattle.std.specs.declared.alloc.Global.{Global}
 use Rattle.sctp_recv.specs.Parts.{text_of_parts}
@@ -18,5 +18,11 @@ text_more ps i p l e = rw add-one (text_suc ps i p l e)
 
 pub length_more : (ps : List (Vec ℕ Global)) (i : ℕ) (p : Vec ℕ Global) → i < length ps → p ≡ get_or ps i p → length (text_of_parts (take (i + 1) ps)) ≡ length (text_of_parts (take i ps)) + length p.items
 length_more ps i p l e = ap length (text_more ps i p l e) ∙ length-append (text_of_parts (take i ps)) p.items
+
+pub text_within : (ps : List (Vec ℕ Global)) (i : ℕ) → length (text_of_parts (take i ps)) ≤ length (text_of_parts ps)
+text_within [] zero = omega arith
+text_within [] (suc i) = omega arith
+text_within (p ∷ ps) zero = omega arith
+text_within (p ∷ ps) (suc i) = omega (arith, text_within ps i, length-append p.items (text_of_parts (take i ps)), length-append p.items (text_of_parts ps))
 
 pub ruleset texts = (text_more, length_more)

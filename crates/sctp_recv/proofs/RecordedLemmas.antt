@@ -47,7 +47,6 @@ keeps_recorded f k v x seen w records new near small = record {
   streams = w.streams;
   few_streams = w.few_streams;
   duplicates = w.duplicates;
-  few = w.few;
   held = w.held;
   room = w.room;
   small = w.small;
@@ -68,8 +67,8 @@ keeps_same f k v seen ss w a c =
 
 -- ---- a TSN noted
 
-pub keeps_duplicates : (f : Format) (k : ReceiverKept) (v : ReceiverView) (ds es : List ℕ) → KeepsView f k v → es ≡ ds → length ds ≤ DUPLICATE_LIMIT → KeepsView f (record k { duplicates = ds }) (record v { duplicates = es })
-keeps_duplicates f k v ds es w same few = record {
+pub keeps_duplicates : (f : Format) (k : ReceiverKept) (v : ReceiverView) (ds es : List ℕ) → KeepsView f k v → es ≡ ds → KeepsView f (record k { duplicates = ds }) (record v { duplicates = es })
+keeps_duplicates f k v ds es w same = record {
   seen = w.seen;
   counts = w.counts;
   apart = w.apart;
@@ -82,7 +81,6 @@ keeps_duplicates f k v ds es w same few = record {
   streams = w.streams;
   few_streams = w.few_streams;
   duplicates = same;
-  few = few;
   held = w.held;
   room = w.room;
   small = w.small;
@@ -90,22 +88,8 @@ keeps_duplicates f k v ds es w same few = record {
   buffer = w.buffer;
 }
 
-take_all : (n : ℕ) (xs : List ℕ) → length xs ≤ n → take n xs ≡ xs
-take_all zero [] l = refl
-take_all (suc n) [] l = refl
-take_all zero (x ∷ xs) l = absurd (omega arith)
-take_all (suc n) (x ∷ xs) l = ap (λ (ys : List ℕ). x ∷ ys) (take_all n xs (omega arith))
-
-take_front : (n : ℕ) (xs ys : List ℕ) → n ≡ length xs → take n (xs ++ ys) ≡ xs
-take_front zero [] ys e = refl
-take_front zero (x ∷ xs) ys e = absurd (omega arith)
-take_front (suc n) [] ys e = absurd (omega arith)
-take_front (suc n) (x ∷ xs) ys e = ap (λ (zs : List ℕ). x ∷ zs) (take_front n xs ys (omega arith))
-
-pub keeps_full : (f : Format) (k : ReceiverKept) (v : ReceiverView) (wire : ℕ) → KeepsView f k v → DUPLICATE_LIMIT ≤ length k.duplicates → KeepsView f k (noted v wire)
-keeps_full f k v wire w full =
-    keeps_duplicates f k v k.duplicates (noted v wire).duplicates w
-    (ap (λ (ds : List ℕ). take DUPLICATE_LIMIT (ds ++ wire ∷ [])) w.duplicates ∙ take_front DUPLICATE_LIMIT k.duplicates (wire ∷ []) (let few = w.few in omega arith)) w.few
+pub keeps_noted : (f : Format) (k : ReceiverKept) (v : ReceiverView) (wire : ℕ) (ds : List ℕ) → KeepsView f k v → ds ≡ take DUPLICATE_LIMIT (k.duplicates ++ wire ∷ []) → KeepsView f (record k { duplicates = ds }) (noted v wire)
+keeps_noted f k v wire ds w is = keeps_duplicates f k v ds (noted v wire).duplicates w (ap (λ (es : List ℕ). take DUPLICATE_LIMIT (es ++ wire ∷ [])) w.duplicates ∙ sym is)
 
 -- what a chunk must be to be kept
 pub record IsKeepable (f : Format) (k : ReceiverKept) (v : ReceiverView) (x : Piece) (seen : SeenKept) : Type 0 where

@@ -5,7 +5,7 @@ use Rattle.std.proofs.lemmas.Bool.{cases_Bool, cases_lt, or_parts, leb-false}
 use Rattle.std.proofs.lemmas.Bool.Decides.{nat_tests}
 use Rattle.std.proofs.lemmas.Grind.{common_steps}
 use Rattle.sctp_model.specs.numbers.Limits.{WINDOW}
-use Rattle.sctp_recv.specs.declared.runs.Run.{Run}
+use Rattle.sctp_recv.specs.declared.runs.SeenRun.{SeenRun}
 use Rattle.sctp_recv.specs.Runs.{in_runs, HaveMore, Gain}
 use Rattle.sctp_recv.specs.SeenKept.{seen_of, is_reached, IsKept}
 use Rattle.sctp_recv.specs.SeenStands.{Records}
@@ -13,13 +13,13 @@ use Rattle.sctp_recv.specs.SeenStands.{Records}
 -- ---- one index more in the runs
 
 -- a new index that isn't right above the cumulative one lies apart from it, in no run
-pub new_apart : (c i : ℕ) (rs : List Run) → is_reached (seen_of c rs) i ≡ false → (i - c ≡ 1 → ⊥) → (suc c < i) × (in_runs rs i ≡ false)
+pub new_apart : (c i : ℕ) (rs : List SeenRun) → is_reached (seen_of c rs) i ≡ false → (i - c ≡ 1 → ⊥) → (suc c < i) × (in_runs rs i ≡ false)
 new_apart c i rs new far =
     let parts = or_parts (nat_le i c) (in_runs rs i) new in
     let above = leb-false i c parts.0 in
     (elim (cases_lt (suc c) i) [ inl past ↦ past | inr upto ↦ absurd (far (omega (arith, above, upto))) ], parts.1)
 
-pub kept_gained : (c i : ℕ) (old new : List Run) → IsKept c old → is_reached (seen_of c old) i ≡ false → (i - c ≡ 1 → ⊥) → i ≤ c + WINDOW → Gain i old new → IsKept c new
+pub kept_gained : (c i : ℕ) (old new : List SeenRun) → IsKept c old → is_reached (seen_of c old) i ≡ false → (i - c ≡ 1 → ⊥) → i ≤ c + WINDOW → Gain i old new → IsKept c new
 kept_gained c i old new k fresh far near gain = record { runs = more.runs; within = within }
   where
     apart : (suc c < i) × (in_runs old i ≡ false)
@@ -34,7 +34,7 @@ kept_gained c i old new k fresh far near gain = record { runs = more.runs; withi
       | inr other ↦ let both = more.holds j in let same : j ≡ i = grind (arith, both, there, other, nat_tests, common_steps) in omega (arith, same, near)
     ]
 
-pub records_gained : (c i : ℕ) (old new : List Run) → is_reached (seen_of c old) i ≡ false → (i - c ≡ 1 → ⊥) → Gain i old new → Records (seen_of c old) (seen_of c new) i
+pub records_gained : (c i : ℕ) (old new : List SeenRun) → is_reached (seen_of c old) i ≡ false → (i - c ≡ 1 → ⊥) → Gain i old new → Records (seen_of c old) (seen_of c new) i
 records_gained c i old new fresh far gain seen jump s = record {
   runs = more.runs;
   below = λ j some low. elim (s.below j some low) [

@@ -9,7 +9,7 @@ abbrev pub kept_of : {F : Type 0} → Receiver F → ReceiverKept
 kept_of r = record {
   seen = r.seen.kept;
   streams = map stream_of r.streams.items;
-  duplicates = r.duplicates.items;
+  duplicates = r.duplicates.tsns.items;
   held = r.held;
   initial = r.initial;
   buffer = r.buffer;

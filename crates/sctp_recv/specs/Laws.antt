@@ -1,5 +1,6 @@
--- What the laws of the receiver's steps say.
-use Rattle.std.specs.Prelude.{◌≡◌, ℕ, List}
+-- What the laws of the receiver's steps say, and those of the views that receivers stand for.
+use Rattle.std.specs.Prelude.{◌≡◌, ℕ, suc, ◌<◌, true, List}
+use Rattle.sctp_model.specs.numbers.Serial.{COUNTS}
 use Rattle.sctp_model.specs.messages.Format.{Format}
 use Rattle.sctp_model.specs.wire.Chunk.{PieceMeaning, ForwardMeaning}
 use Rattle.sctp_model.specs.receiver.ReceiverView.{Handed, ReceiverView, IsCumulative}
@@ -8,6 +9,8 @@ use Rattle.sctp_model.specs.receiver.DueInWords.{IsDueInWords}
 use Rattle.sctp_model.specs.receiver.PieceTaken.{PieceAnswer, PieceTaken}
 use Rattle.sctp_model.specs.receiver.ForwardTaken.{ForwardAnswer, ForwardTaken}
 use Rattle.sctp_model.specs.receiver.Laws.{IsFilledOnce, IsOrdinary, IsIdle, IsSettled}
+use Rattle.sctp_recv.specs.declared.receiver.Receiver.{Receiver}
+use Rattle.sctp_recv.specs.StandsFor.{StandsFor}
 
 -- a view has one cumulative index
 abbrev pub CumulativeIsOne : Type 0
@@ -34,3 +37,11 @@ WordsAreOne = (f : Format) (r : ReceiverView) (s n : ℕ) (ms os : List Handed) 
 -- where nothing is due, and no ordered chunk lies behind, giving changes nothing
 abbrev pub NothingIsGiven : Type 0
 NothingIsGiven = (f : Format) (n : ℕ) (r t : ReceiverView) → IsFilledOnce f r.kept → IsIdle f r → IsSettled r → GivesAll f n r t → t ≡ r
+
+-- receivers of a format stand for ordinary views alone: each place is filled once, and by a chunk whose index was recorded
+abbrev pub StandForOrdinary : (F : Type 0) → Format → Type 0
+StandForOrdinary F f = (r : Receiver F) (v : ReceiverView) → StandsFor f r v → IsOrdinary f v
+
+-- and for views alone whose recorded indexes are counts below the largest
+abbrev pub StandForBounded : (F : Type 0) → Format → Type 0
+StandForBounded F f = (r : Receiver F) (v : ReceiverView) → StandsFor f r v → (i : ℕ) → v.seen i ≡ true → suc i < COUNTS

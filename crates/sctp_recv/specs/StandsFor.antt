@@ -2,7 +2,6 @@
 use Rattle.std.specs.Prelude.{◌≡◌, ℕ, suc, ◌^◌, ◌<◌, ◌≤◌, true, Some, length}
 use Rattle.sctp_model.specs.numbers.Lists.{Has}
 use Rattle.sctp_model.specs.numbers.Serial.{COUNTS}
-use Rattle.sctp_model.specs.numbers.Limits.{DUPLICATE_LIMIT}
 use Rattle.sctp_model.specs.messages.Format.{Format, ordered_lane, unordered_lane}
 use Rattle.sctp_model.specs.messages.Pieces.{Piece}
 use Rattle.sctp_model.specs.receiver.ReceiverView.{ReceiverView, held_bytes}
@@ -29,7 +28,6 @@ pub record KeepsView (f : Format) (k : ReceiverKept) (v : ReceiverView) : Type 0
   pub streams : v.streams ≡ length k.streams
   pub few_streams : length k.streams < 2 ^ 16
   pub duplicates : v.duplicates ≡ k.duplicates
-  pub few : length k.duplicates ≤ DUPLICATE_LIMIT
   pub held : k.held ≡ held_bytes v
   pub room : k.held ≤ k.buffer
   pub small : k.buffer < 2 ^ 32

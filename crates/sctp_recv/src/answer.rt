@@ -6,9 +6,6 @@ ghost use Rattle.sctp_recv.specs.inner.Rows.{IsTsnPlace};
 use crate::seen::WINDOW;
 use crate::tsn::tsn_of;
 
-/// How many TSNs that came again are told in a SACK.
-pub(crate) const DUPLICATE_LIMIT: usize = 16;
-
 /// What was done with a chunk.
 #[derive(Clone, Copy, Debug, PartialEq, Eq)]
 pub enum Answer {

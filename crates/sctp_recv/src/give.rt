@@ -113,7 +113,7 @@ pub(crate) fn give_ordered<F: Framing>(inbound: &mut Inbound<F>, stream: u16, fl
 ///
 /// # Errors
 /// Memory ran out, and nothing changed.
-fn take_ordered<F: Framing>(
+fn keep_ordered<F: Framing>(
     inbound: &mut Inbound<F>,
     piece: &Piece<'_>,
     index: u32,
@@ -135,7 +135,7 @@ fn take_ordered<F: Framing>(
 ///
 /// # Errors
 /// Memory ran out, and nothing changed.
-fn take_unordered<F: Framing>(
+fn keep_unordered<F: Framing>(
     inbound: &mut Inbound<F>,
     piece: &Piece<'_>,
     index: u32,
@@ -159,7 +159,7 @@ fn take_unordered<F: Framing>(
 ///
 /// # Errors
 /// Memory ran out, and nothing changed.
-pub(crate) fn take_in<F: Framing>(
+pub(crate) fn keep_in<F: Framing>(
     inbound: &mut Inbound<F>,
     piece: &Piece<'_>,
     index: u32,
@@ -173,7 +173,7 @@ pub(crate) fn take_in<F: Framing>(
 {
     let unordered = piece.unordered;
     if unordered {
-        return take_unordered(inbound, piece, index, number);
+        return keep_unordered(inbound, piece, index, number);
     }
-    take_ordered(inbound, piece, index, number)
+    keep_ordered(inbound, piece, index, number)
 }

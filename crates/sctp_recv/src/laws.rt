@@ -1,6 +1,8 @@
-//! Laws of the receiver's steps: each has one result, and what is due is what the words say.
+//! Laws of the receiver's steps: each has one result, and what is due is what the words say; and of the views that receivers stand for.
 
-ghost use Rattle.sctp_recv.specs.Laws.{CumulativeIsOne, PieceIsOne, ForwardIsOne, DueIsInWords, WordsAreOne, NothingIsGiven};
+ghost use Rattle.sctp_recv.specs.Laws.{CumulativeIsOne, PieceIsOne, ForwardIsOne, DueIsInWords, WordsAreOne, NothingIsGiven, StandForOrdinary, StandForBounded};
+
+use sctp_framing::Framing;
 
 /// A view has one cumulative index.
 pub fn cumulative_is_one()
@@ -32,4 +34,14 @@ pub fn words_are_one()
 /// nothing.
 pub fn nothing_is_given()
     ensures { NothingIsGiven }
+{}
+
+/// A receiver stands for a view only where each place is filled once, by a chunk whose index was recorded.
+pub fn stands_for_ordinary<F: Framing>()
+    ensures { StandForOrdinary F F.format }
+{}
+
+/// A receiver stands for a view only where each recorded index is a count below the largest.
+pub fn stands_for_bounded<F: Framing>()
+    ensures { StandForBounded F F.format }
 {}

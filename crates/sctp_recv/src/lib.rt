@@ -3,6 +3,7 @@
 #![tactic(auto)]
 
 mod answer;
+mod duplicates;
 mod forward;
 mod give;
 mod inbound;
@@ -20,7 +21,7 @@ pub use answer::Answer;
 pub use forward::ForwardAnswer;
 pub use laws::{
     cumulative_is_one, due_is_in_words, forward_is_one, nothing_is_given, piece_is_one,
-    words_are_one,
+    stands_for_bounded, stands_for_ordinary, words_are_one,
 };
 pub use message::Message;
 pub use receiver::Receiver;

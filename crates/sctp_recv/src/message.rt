@@ -1,6 +1,6 @@
 //! A message as its user takes it.
 
-ghost use Rattle.std.specs.Prelude.{◌≡◌, ◌-◌, ◌^◌, ◌++◌, min, not, List, length, map, OnOk, OnErr};
+ghost use Rattle.std.specs.Prelude.{◌≡◌, ◌-◌, ◌^◌, ◌++◌, ◌+◌, ◌≤◌, min, not, List, length, map, vec_len, vec_capacity, IsOk, OnOk, OnErr};
 ghost use Rattle.sctp_model.specs.numbers.Lists.{joined};
 ghost use Rattle.sctp_recv.specs.Parts.{text_of_parts, bytes_of};
 ghost use Rattle.sctp_recv.specs.HandedOf.{message_bytes, handed_of};
@@ -14,7 +14,7 @@ use sctp_chains::Whole;
 use sctp_wire::NoMemory;
 
 /// A message that was handed over, whole, with its fragments as they came.
-#[derive(Debug, Drop)]
+#[derive(Debug, PartialEq, Drop)]
 pub struct Message {
     pub(crate) first: u32,
     /// The stream that it came on, from 0.
@@ -56,6 +56,7 @@ impl Message {
     pub fn copy_to(&self, out: &mut Vec<u8>) -> Result<(), NoMemory>
         ensures copied { OnOk result (out.new.items ≡ out.old.items ++ message_bytes self.now) }
         ensures refused { OnErr result (out.new.items ≡ out.old.items) }
+        ensures memory { vec_len out.old + length (message_bytes self.now) ≤ vec_capacity out.old → IsOk result }
     {
         let before = out.len();
         for part in &self.parts {

@@ -1,19 +1,18 @@
 //! A data chunk comes: the first row that fits it is its answer, and that is done (RFC 9260, 6.2 and 6.6; RFC 8260, 2.2).
 
-ghost use Rattle.std.specs.Prelude.{◌≡◌, ◌<◌, ℕ, length, IfOk, OnOk, OnErr};
-ghost use Rattle.sctp_model.specs.numbers.Limits.{DUPLICATE_LIMIT};
+ghost use Rattle.std.specs.Prelude.{◌≡◌, ℕ, IfOk, OnOk, OnErr};
 ghost use Rattle.sctp_model.specs.receiver.ReceiverView.{ReceiverView, IsCumulative};
 ghost use Rattle.sctp_model.specs.receiver.Receiving.{TakesPiece};
 ghost use Rattle.sctp_model.specs.receiver.Reading.{index_at, piece_at};
-ghost use Rattle.sctp_model.specs.receiver.PieceTaken.{PieceTaken, answer_to, noted};
+ghost use Rattle.sctp_model.specs.receiver.PieceTaken.{PieceTaken, answer_to};
 ghost use Rattle.sctp_wire.specs.ChunkTree.{piece_meaning};
 ghost use Rattle.sctp_recv.specs.AnswerOf.{answer_of, NeedsMemory};
 ghost use Rattle.sctp_recv.specs.KeptOf.{kept_of};
 ghost use Rattle.sctp_recv.specs.StandsFor.{StandsFor};
 ghost use Rattle.sctp_recv.specs.inner.Rows.{IsRowOf, IsWanted};
 
-use crate::answer::{Answer, DUPLICATE_LIMIT, Row, TsnPlace, place_of_tsn};
-use crate::give::take_in;
+use crate::answer::{Answer, Row, TsnPlace, place_of_tsn};
+use crate::give::keep_in;
 use crate::receiver::Receiver;
 use sctp_framing::Framing;
 use sctp_wire::{NoMemory, Piece};
@@ -33,7 +32,7 @@ impl<F: Framing> Receiver<F> {
     {
         match self.row_of(piece) {
             Row::Duplicate => {
-                self.note(piece.tsn)?;
+                self.duplicates.note(piece.tsn)?;
                 Ok(Answer::Duplicate)
             }
             Row::Ahead => Ok(Answer::Ahead),
@@ -81,21 +80,6 @@ impl<F: Framing> Receiver<F> {
         Row::Taken { index, number }
     }
 
-    /// Notes a TSN that came again, if it is among the first of them.
-    ///
-    /// # Errors
-    /// Memory ran out, and nothing changed.
-    fn note(&mut self, tsn: u32) -> Result<(), NoMemory>
-        ensures noted { (v : ReceiverView) → StandsFor F.format self.old v → OnOk result (StandsFor F.format self.new (noted v tsn)) }
-        ensures refused { (v : ReceiverView) → StandsFor F.format self.old v → OnErr result (StandsFor F.format self.new v) }
-        ensures memory { (v : ReceiverView) → StandsFor F.format self.old v → OnErr result (length v.duplicates < DUPLICATE_LIMIT) }
-    {
-        if self.duplicates.len() < DUPLICATE_LIMIT {
-            self.duplicates.push(tsn).map_err(|_| NoMemory)?;
-        }
-        Ok(())
-    }
-
     /// Keeps a chunk that is wanted, and hands over what is due with it.
     ///
     /// # Errors
@@ -112,7 +96,7 @@ impl<F: Framing> Receiver<F> {
         self.seen.reserve()?;
         let inbound = &mut self.streams[stream];
         let before = inbound.kept_bytes();
-        let given = take_in(inbound, piece, index, number)?;
+        let given = keep_in(inbound, piece, index, number)?;
         self.held = self
             .held
             .saturating_sub(before)

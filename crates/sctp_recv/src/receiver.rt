@@ -1,18 +1,20 @@
 //! The receiving end of an association (RFC 9260, 6.2 and 6.6; RFC 3758, 3.6; RFC 8260, 2.2 and 2.3).
 
-ghost use Rattle.std.specs.Prelude.{◌≡◌, ℕ, ◌≤◌, ◌-◌, IfOk, option_map, List, Option, length};
-ghost use Rattle.sctp_model.specs.wire.Chunk.{BlockMeaning};
+ghost use Rattle.std.specs.Prelude.{◌≡◌, ℕ, ◌≤◌, ◌-◌, IfOk, MatchOption, option_map, slice_get, List, Option, None, Some, length};
+ghost use Rattle.sctp_model.specs.wire.Chunk.{BlockMeaning, Sack};
 ghost use Rattle.sctp_model.specs.numbers.Serial.{tsn};
 ghost use Rattle.sctp_model.specs.receiver.ReceiverView.{ReceiverView, IsCumulative, fresh_receiver, held_bytes, room_left};
 ghost use Rattle.sctp_model.specs.receiver.SackMade.{AreAllRuns, IsSack, sack_sent, TakeLeaves};
+ghost use Rattle.sctp_wire.specs.Layouts.{Fits};
 ghost use Rattle.sctp_recv.specs.HandedOf.{handed_of};
 ghost use Rattle.sctp_recv.specs.SackOf.{lists_meaning};
 ghost use Rattle.sctp_recv.specs.StandsFor.{StandsFor};
 
+use crate::duplicates::Duplicates;
 use crate::inbound::{Inbound, fresh_streams, take_first};
 use crate::message::Message;
 use crate::room::less;
-use crate::sack::{SackLists, put_words};
+use crate::sack::SackLists;
 use crate::seen::Seen;
 use crate::tsn::tsn_of;
 use sctp_framing::Framing;
@@ -28,7 +30,7 @@ pub struct Receiver<F: Framing> {
     pub(crate) held: u32,
     pub(crate) seen: Seen,
     pub(crate) streams: Vec<Inbound<F>>,
-    pub(crate) duplicates: Vec<u32>,
+    pub(crate) duplicates: Duplicates,
 }
 
 #[tactic(auto, unfolding(crate::specs::StandsFor::StandsFor))]
@@ -53,7 +55,7 @@ impl<F: Framing> Receiver<F> {
             held: 0,
             seen: Seen::new(alloc),
             streams,
-            duplicates: Vec::new(alloc),
+            duplicates: Duplicates::new(alloc),
         })
     }
 
@@ -82,17 +84,34 @@ impl<F: Framing> Receiver<F> {
         self.seen.run_count()
     }
 
+    /// How many streams there are.
+    pub fn stream_count(&self) -> u16
+        ensures { (v : ReceiverView) → StandsFor F.format self.now v → result ≡ v.streams }
+    {
+        u16::try_from(self.streams.len()).unwrap_or(u16::MAX)
+    }
+
+    /// The message that waits on a stream at a place, from 0, and isn't taken: None exactly past the last, as on a stream that isn't there.
+    pub fn waiting(&self, stream: u16, place: usize) -> Option<&Message>
+        ensures { (v : ReceiverView) → StandsFor F.format self.now v → MatchOption result (slice_get (v.waiting stream) place ≡ None)
+            (λ m. slice_get (v.waiting stream) place ≡ Some (handed_of m.now)) }
+    {
+        let inbound = self.streams.get(usize::from(stream))?;
+        inbound.waiting.get(place)
+    }
+
     /// What a SACK says now. Nothing changes.
     ///
     /// # Errors
     /// Memory ran out.
     pub fn sack(&self) -> Result<SackLists, NoMemory>
-        ensures { (v : ReceiverView) → StandsFor F.format self.now v → IfOk result (λ s. IsSack v (lists_meaning s)) }
+        ensures sack { (v : ReceiverView) → StandsFor F.format self.now v → IfOk result (λ s. IsSack v (lists_meaning s)) }
+        ensures fits { IfOk result (λ s. Fits (Sack (lists_meaning s))) }
     {
         let mut blocks = Vec::new(self.alloc);
         self.seen.put_blocks(&mut blocks)?;
         let mut duplicates = Vec::new(self.alloc);
-        put_words(&self.duplicates, &mut duplicates)?;
+        self.duplicates.put(&mut duplicates)?;
         Ok(SackLists {
             cumulative: tsn_of(self.initial, self.seen.cumulative()),
             rwnd: self.buffer.saturating_sub(self.held),
@@ -105,7 +124,7 @@ impl<F: Framing> Receiver<F> {
     pub fn sack_sent(&mut self)
         ensures { (v : ReceiverView) → StandsFor F.format self.old v → StandsFor F.format self.new (sack_sent v) }
     {
-        self.duplicates.clear();
+        self.duplicates.forget();
     }
 
     /// Takes the first message that waits on a stream: None exactly where none waits, as on a stream that isn't there.

@@ -10,12 +10,12 @@ use std::collections::VecDeque;
 
 /// Indexes that came, from the first to the last.
 #[derive(Clone, Copy, Debug, PartialEq, Eq)]
-pub(crate) struct Run {
+pub(crate) struct SeenRun {
     pub(crate) first: u32,
     pub(crate) last: u32,
 }
 
-impl Run {
+impl SeenRun {
     /// Whether the index is one of these.
     pub(crate) fn has(self, index: u32) -> bool
         ensures { result ≡ in_run self index }
@@ -25,25 +25,25 @@ impl Run {
 }
 
 /// How many runs lie below an index and don't touch it.
-fn below(runs: &VecDeque<Run>, index: u32) -> usize
+fn below(runs: &VecDeque<SeenRun>, index: u32) -> usize
     ensures bound { result ≤ length runs.now.items }
     ensures place { AreSpaced runs.now.items → IsPlace (lies_below index) runs.now.items result }
 {
     let before = index.saturating_sub(1);
     runs.partition_point(
-        |run: &Run| -> bool
+        |run: &SeenRun| -> bool
             ensures { result ≡ nat_lt run.now.last before }
         { run.last < before },
     )
 }
 
 /// How many runs lie below an index, have it, or touch it.
-pub(crate) fn upto(runs: &VecDeque<Run>, index: u32) -> usize
+pub(crate) fn upto(runs: &VecDeque<SeenRun>, index: u32) -> usize
     ensures bound { result ≤ length runs.now.items }
     ensures place { AreSpaced runs.now.items → IsPlace (begins_by index) runs.now.items result }
 {
     runs.partition_point(
-        |run: &Run| -> bool
+        |run: &SeenRun| -> bool
             ensures { result ≡ nat_le (run.now.first - 1) index }
         { run.first.saturating_sub(1) <= index },
     )
@@ -53,7 +53,7 @@ pub(crate) fn upto(runs: &VecDeque<Run>, index: u32) -> usize
 ///
 /// # Errors
 /// Memory ran out, and nothing changed.
-fn put_at(runs: &mut VecDeque<Run>, at: usize, run: Run) -> Result<(), NoMemory>
+fn put_at(runs: &mut VecDeque<SeenRun>, at: usize, run: SeenRun) -> Result<(), NoMemory>
     requires { at ≤ deque_len runs.old }
     ensures items { OnOk result (runs.new.items ≡ insert runs.old.items at run) }
     ensures unchanged { OnErr result (runs.new.items ≡ runs.old.items) }
@@ -69,7 +69,7 @@ fn put_at(runs: &mut VecDeque<Run>, at: usize, run: Run) -> Result<(), NoMemory>
 ///
 /// # Errors
 /// Memory ran out, and nothing changed.
-pub(crate) fn insert(runs: &mut VecDeque<Run>, index: u32) -> Result<(), NoMemory>
+pub(crate) fn insert(runs: &mut VecDeque<SeenRun>, index: u32) -> Result<(), NoMemory>
     ensures inserted { OnOk result (Gain index runs.old.items runs.new.items) }
     ensures refused { OnErr result (runs.new.items ≡ runs.old.items) }
     ensures memory { deque_len runs.old < deque_capacity runs.old → IsOk result }
@@ -77,7 +77,7 @@ pub(crate) fn insert(runs: &mut VecDeque<Run>, index: u32) -> Result<(), NoMemor
     let at = below(runs, index);
     match upto(runs, index).saturating_sub(at) {
         0 => {
-            let alone = Run {
+            let alone = SeenRun {
                 first: index,
                 last: index,
             };
@@ -85,7 +85,7 @@ pub(crate) fn insert(runs: &mut VecDeque<Run>, index: u32) -> Result<(), NoMemor
         }
         1 => {
             let run = runs[at];
-            runs[at] = Run {
+            runs[at] = SeenRun {
                 first: run.first.min(index),
                 last: run.last.max(index),
             };

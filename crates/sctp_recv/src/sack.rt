@@ -1,9 +1,8 @@
 //! A SACK's lists, owned.
 
-ghost use Rattle.std.specs.Prelude.{◌≡◌, ◌%◌, [], length, OnOk};
-ghost use Rattle.sctp_wire.specs.Items.{words_in};
+ghost use Rattle.std.specs.Prelude.{◌≡◌, ◌%◌, length};
 
-use sctp_wire::{Blocks, NoMemory, Sack, Tsns, put_word};
+use sctp_wire::{Blocks, Sack, Tsns};
 
 /// What a SACK says, with lists of its own (RFC 9260, 3.3.4).
 #[derive(Drop)]
@@ -32,19 +31,4 @@ impl SackLists {
             duplicates: Tsns::new(&self.duplicates),
         }
     }
-}
-
-/// Appends numbers of 32 bits.
-///
-/// # Errors
-/// Memory ran out.
-pub(crate) fn put_words(numbers: &[u32], list: &mut Vec<u8>) -> Result<(), NoMemory>
-    requires { list.old.items ≡ [] }
-    ensures words { OnOk result (words_in list.new.items ≡ numbers.now) }
-    ensures whole { length list.new.items % 4 ≡ 0 }
-{
-    for number in numbers {
-        put_word(*number, list)?;
-    }
-    Ok(())
 }

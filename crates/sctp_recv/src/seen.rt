@@ -1,15 +1,16 @@
 //! Which indexes came: none is missing up to the cumulative one, and above it there are runs. Nothing here knows of data.
 
 ghost use Rattle.std.specs.Prelude.{◌≡◌, ℕ, suc, ◌+◌, ◌≤◌, ◌<◌, ◌%◌, [], true, false, OnOk, OnErr, IfOk, IsOk, take, map, length};
-ghost use Rattle.sctp_wire.specs.Items.{blocks_in};
+ghost use Rattle.std.specs.List.{AllByRecursion};
+ghost use Rattle.sctp_wire.specs.Items.{blocks_in, IsBlock};
 ghost use Rattle.sctp_wire.specs.ChunkTree.{block_meaning};
 ghost use Rattle.sctp_recv.specs.Blocks.{block_of_run};
 ghost use Rattle.sctp_recv.specs.Runs.{AreRuns, AreSpaced, in_runs};
 ghost use Rattle.sctp_recv.specs.SeenKept.{is_reached, seen_of, AreWithin, IsAdvanced};
 ghost use Rattle.sctp_recv.specs.SeenStands.{SeenStands, Records, Jumps};
-ghost use Rattle.sctp_model.specs.numbers.Limits.{WINDOW};
+ghost use Rattle.sctp_model.specs.numbers.Limits.{WINDOW, BLOCK_LIMIT};
 
-use crate::runs::{Run, insert, upto};
+use crate::runs::{SeenRun, insert, upto};
 use sctp_wire::{GapBlock, NoMemory, put_block};
 use std::alloc::Global;
 use std::collections::VecDeque;
@@ -22,7 +23,7 @@ pub(crate) const WINDOW: u32 = 32_767;
 #[derive(Drop)]
 pub(crate) struct Seen {
     cumulative: u32,
-    runs: VecDeque<Run>,
+    runs: VecDeque<SeenRun>,
 }
 
 impl Model for Seen {
@@ -72,6 +73,8 @@ impl Seen {
     pub(crate) fn put_blocks(&self, list: &mut Vec<u8>) -> Result<(), NoMemory>
         requires { list.old.items ≡ [] }
         ensures blocks { OnOk result (blocks_in list.new.items ≡ map (block_of_run self.now.kept.cumulative) (take 64 self.now.kept.runs)) }
+        ensures in_range { OnOk result (AllByRecursion IsBlock (blocks_in list.new.items)) }
+        ensures few { OnOk result (length (blocks_in list.new.items) ≤ BLOCK_LIMIT) }
         ensures whole { length list.new.items % 4 ≡ 0 }
     {
         let told = self.runs.len().min(64);
@@ -141,7 +144,7 @@ impl Seen {
 }
 
 /// A run as the offsets of its ends above an index.
-fn block_above(index: u32, run: Run) -> GapBlock
+fn block_above(index: u32, run: SeenRun) -> GapBlock
     requires below { index ≤ run.first }
     requires order { run.first ≤ run.last }
     requires near { run.last ≤ index + WINDOW }
@@ -154,7 +157,7 @@ fn block_above(index: u32, run: Run) -> GapBlock
 }
 
 /// Moves the cumulative index up to an index, and on to the end of the run that it then touches or lies in. What it passes is dropped.
-fn advance(cumulative: &mut u32, runs: &mut VecDeque<Run>, index: u32)
+fn advance(cumulative: &mut u32, runs: &mut VecDeque<SeenRun>, index: u32)
     requires { AreSpaced runs.old.items }
     ensures { IsAdvanced index runs.old.items (seen_of cumulative.new runs.new.items) }
 {

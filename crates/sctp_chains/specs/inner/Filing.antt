@@ -15,12 +15,12 @@ pub record IsPlace (rank : ℕ) (cs : List ChainKept) (k : ℕ) : Type 0 where
 abbrev pub Avoids : (rank : ℕ) → List ChainKept → Type 0
 Avoids r cs = (x : Cell) → Has (cells_of cs) x → x.rank ≡ r → ⊥
 
--- the chain before place k that the fragment goes on after, or that there is none
+-- the chain before place k that the fragment continues, or that there is none
 abbrev pub IsLinkBefore : List ChainKept → (k : ℕ) → ChainKept → Option ℕ → Type 0
 IsLinkBefore cs k a None = (j : ℕ) → suc j ≡ k → (c : ChainKept) → j < length cs → c ≡ get_or cs j c → is_linked c a ≡ false
 IsLinkBefore cs k a (Some j) = (suc j ≡ k) × (j < length cs) × ((c : ChainKept) → c ≡ get_or cs j c → is_linked c a ≡ true)
 
--- the chain at place k that goes on after the fragment, or that there is none
+-- the chain at place k that continues the fragment, or that there is none
 abbrev pub IsLinkBehind : List ChainKept → (k : ℕ) → ChainKept → Option ℕ → Type 0
 IsLinkBehind cs k a None = (c : ChainKept) → k < length cs → c ≡ get_or cs k c → is_linked a c ≡ false
 IsLinkBehind cs k a (Some j) = (j ≡ k) × (j < length cs) × ((c : ChainKept) → c ≡ get_or cs j c → is_linked a c ≡ true)

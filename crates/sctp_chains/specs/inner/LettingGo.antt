@@ -37,7 +37,7 @@ abbrev pub LetsGo : (high k : ℕ) → (old new : List ChainKept) → (held left
 LetsGo high k old new held left = AreChains old → (low : ℕ) → IsCut low old k → Leaves (is_outside low high) old new held left
 
 -- the chain at place k is taken out
-pub record TakesOut (k : ℕ) (old new : List ChainKept) (held left : ℕ) (c : ChainKept) : Type 0 where
+pub record Removes (k : ℕ) (old new : List ChainKept) (held left : ℕ) (c : ChainKept) : Type 0 where
   pub here : (d : ChainKept) → k < length old → get_or old k d ≡ c
   pub leaves : AreChains old → k < length old → Leaves (is_outside c.first c.last) old new held left
   pub rest : AreChains old → k < length old → IsCut c.first new k

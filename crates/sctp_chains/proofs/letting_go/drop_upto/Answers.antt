@@ -17,7 +17,7 @@ loop-chains-preserved-in-Some c =
     let same : x ≡ c.index.result.now = c.in-Some.ensures.value ∙ at_same cs k x c.index.result.now l ∙ sym c.index.ensures in
     let low : x.last ≤ c.args.upto = let e = ap (λ (z : Chain). z.last) same in let h = c.if-index-upto.true in omega (arith, e, h) in
     record {
-      drops = one_more cs k x l c.in-Some.ensures.value c.args.upto (map chain_of c.args.chains.now.items) c.take_at.new.chains.items c.args.held c.loop-chains.left c.less-left.result
+      drops = one_more cs k x l c.in-Some.ensures.value c.args.upto (map chain_of c.args.chains.now.items) c.remove_at.new.chains.items c.args.held c.loop-chains.left c.less-left.result
           c.loop-chains.invariant.drops low c.in-Some.ensures.items (c.less-left.ensures ∙ ap (λ ps. c.loop-chains.left - size_of_parts (map bytes_of ps)) c.deref.ensures.value);
       fewer =
           let one = one_shorter cs k l in let all = ap length c.in-Some.ensures.items in let before = c.loop-chains.invariant.fewer in omega (arith, one, all, before);

@@ -1,7 +1,7 @@
 use Rattle.std.proofs.Common.{◌≡◌, ℕ, suc, ◌+◌, ◌<◌, ◌++◌, ◌∷◌, length, get_or, set, take, drop, sym, ◌∙◌, subst, rules, arith}
 use Rattle.std.specs.List.{insert, remove}
 use Rattle.std.proofs.lemmas.List.{set_split}
-use Rattle.sctp_recv.specs.declared.runs.Run.{Run}
+use Rattle.sctp_recv.specs.declared.runs.SeenRun.{SeenRun}
 use Rattle.sctp_recv.specs.Runs.{Gain, HaveMore, IsPlace, begins_by}
 use Rattle.sctp_recv.proofs.RunGains.{gains_alone, gains_one, gains_two}
 use Rattle.sctp_recv.proofs.RunLemmas.{removed_next}
@@ -31,7 +31,7 @@ returns-in_default-clause-inserted c = λ d h high new.
     let xs = c.args.runs.now.items in
     let far : suc c.below-at.result < c.upto.result = omega (arith, c.in_default, c.saturating_sub.ensures) in
     let less : suc c.below-at.result < length xs = omega (arith, far, c.upto.ensures.bound) in
-    let wide : Run = record { first = c.index_mut-in_default.result.now.first; last = c.index.result.now.last } in
+    let wide : SeenRun = record { first = c.index_mut-in_default.result.now.first; last = c.index.result.now.last } in
     let removed : c.remove.new.self.items ≡ remove (set xs c.below-at.result wide) (c.below-at.result + 1) = let done = c.remove.ensures.items in search rules in
     let one : c.below-at.result + 1 ≡ suc c.below-at.result = omega arith in
     let other = subst (λ (n : ℕ). c.index.result.now ≡ get_or xs n c.index.result.now) one c.index.ensures in

@@ -22,6 +22,6 @@ returns-clause-taken g c = λ l kept stands numbered.
     let f = g.F.Framing.format in
     let d = chain_of c.in_ok-chain.chain in
     took_lowest_by f l (map chain_of c.args.self.now.chains.items) c.args.self.now.held kept stands c.args.from c.args.last c.rank_at.result c.rank_at-2.result c.rank_at.ensures c.rank_at-2.ensures
-    c.in_ok-found.found (map chain_of c.take_out.new.chains.items) c.take_out.new.held d (d.first / 2 ^ 32) c.rank_at-upto.result c.whole_of.result
+    c.in_ok-found.found (map chain_of c.remove.new.chains.items) c.remove.new.held d (d.first / 2 ^ 32) c.rank_at-upto.result c.whole_of.result
     (record { alloc = c.args.self.now.alloc; chains = c.drop_upto-self.new.chains; held = c.drop_upto-self.result; framing = c.args.self.now.framing })
     numbered (c.in_ok-found.ensures stands.chains) c.in_ok-chain.ensures.taken refl c.rank_at-upto.ensures c.drop_upto-self.ensures.left c.whole_of.ensures

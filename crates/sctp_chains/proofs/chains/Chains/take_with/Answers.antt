@@ -29,7 +29,7 @@ returns-clause-taken g c = λ l kept stands there.
       | then-is_numbered w ↦ w.upto-is ∙ w.rank_at-upto.ensures ∙ top_numbered f (sym c.is_numbered.ensures ∙ w.if-is_numbered.true) d c.args.number
       | else-is_numbered w ↦ w.upto-is ∙ top_plain f (sym c.is_numbered.ensures ∙ w.if-is_numbered.false) d c.args.number
     ] in
-    took_with f l (map chain_of c.args.self.now.chains.items) c.args.self.now.held kept stands y there c.rank_at.result c.in_ok-found.found (map chain_of c.take_out.new.chains.items)
-    c.take_out.new.held d c.if-is_numbered.upto c.whole_of.result
+    took_with f l (map chain_of c.args.self.now.chains.items) c.args.self.now.held kept stands y there c.rank_at.result c.in_ok-found.found (map chain_of c.remove.new.chains.items)
+    c.remove.new.held d c.if-is_numbered.upto c.whole_of.result
     (record { alloc = c.args.self.now.alloc; chains = c.drop_upto-self.new.chains; held = c.drop_upto-self.result; framing = c.args.self.now.framing })
     rank (c.in_ok-found.ensures stands.chains) c.in_ok-chain.ensures.taken top c.drop_upto-self.ensures.left c.whole_of.ensures

@@ -38,11 +38,11 @@ returns-in_err-given-clause-refused g c = λ v w.
     let items = c.args.self.now.streams.items in
     let l : c.from-stream.result < length items = omega (arith, c.len.ensures, c.if-stream-len.false, c.args.self.now.streams.ok) in
     let got = slice_get_read items (length items) c.from-stream.result c.index_mut-inbound.result.now refl l c.index_mut-inbound.ensures.value in
-    let same = set_unchanged items c.from-stream.result c.take_in.new.inbound c.index_mut-inbound.result.now l c.index_mut-inbound.ensures.value c.in_err-given.ensures.refused.0 in
+    let same = set_unchanged items c.from-stream.result c.keep_in.new.inbound c.index_mut-inbound.result.now l c.index_mut-inbound.ensures.value c.in_err-given.ensures.refused.0 in
     let chunks = c.in_err-given.ensures.refused.1 in
     if_err c.from_residual-in_err-given.result (
       keeps_same g.F.Framing.format (kept_of c.args.self.now) v c.reserve.new.self.kept _ w.0 c.reserve.ensures.same same,
-      filed_same g.F.Framing.format v.kept items c.from-stream.result c.index_mut-inbound.result.now c.take_in.new.inbound w.1 l got chunks.0 chunks.1,
+      filed_same g.F.Framing.format v.kept items c.from-stream.result c.index_mut-inbound.result.now c.keep_in.new.inbound w.1 l got chunks.0 chunks.1,
     )
 
 pub returns-clause-kept : goal.returns-clause-kept
@@ -57,7 +57,7 @@ returns-clause-kept g c = λ v w want.
     let seen = c.add.new.self.kept in
     let items = c.args.self.now.streams.items in
     let old = c.index_mut-inbound.result.now in
-    let new = c.take_in.new.inbound in
+    let new = c.keep_in.new.inbound in
     let is : y ≡ x = ap (λ (i : ℕ). counted i p c.args.number) want.new.index ∙ ap (λ (n : Option ℕ). counted x.index p n) want.number in
     let index : c.args.index ≡ x.index = want.new.index in
     let l : c.from-stream.result < length items = omega (arith, c.len.ensures, c.if-stream-len.false, c.args.self.now.streams.ok) in

@@ -5,6 +5,6 @@ use Rattle.sctp_recv.proofs.receiver.Receiver.new.Goals as goal
 pub returns : goal.returns
 unfolding StandsFor
 returns g c = (
-  rw c.new-2.ensures.items (keeps_fresh g.F.Framing.format c.new.result.kept _ c.args.initial_tsn c.args.streams c.args.buffer c.new.ensures c.in_ok-streams.ensures.streams c.ranges.streams.fits c.ranges.buffer.fits),
+  rw c.new-2.ensures (keeps_fresh g.F.Framing.format c.new.result.kept _ c.args.initial_tsn c.args.streams c.args.buffer c.new.ensures c.in_ok-streams.ensures.streams c.ranges.streams.fits c.ranges.buffer.fits),
   c.in_ok-streams.ensures.filed,
 )

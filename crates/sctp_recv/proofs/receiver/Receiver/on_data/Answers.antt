@@ -1,4 +1,5 @@
-use Rattle.std.proofs.Common.{ℕ, suc, ◌<◌, refl, sym, subst}
+use Rattle.std.proofs.Common.{ℕ, suc, ◌<◌, List, length, refl, sym, subst, ◌∙◌}
+use Rattle.sctp_model.specs.numbers.Limits.{DUPLICATE_LIMIT}
 use Rattle.sctp_recv.proofs.ResultLemmas.{if_err}
 use Rattle.sctp_model.specs.receiver.Reading.{index_at}
 use Rattle.sctp_wire.specs.ChunkTree.{piece_meaning}
@@ -6,14 +7,14 @@ use Rattle.sctp_recv.specs.AnswerOf.{NeedsMemory}
 use Rattle.sctp_recv.specs.KeptOf.{kept_of}
 use Rattle.sctp_recv.specs.StandsFor.{StandsFor}
 use Rattle.sctp_recv.proofs.ReceiverSteps.{cumulative_is}
-use Rattle.sctp_recv.proofs.RecordedLemmas.{keeps_new, keeps_same}
+use Rattle.sctp_recv.proofs.RecordedLemmas.{keeps_new, keeps_same, keeps_duplicates, keeps_noted}
 use Rattle.sctp_recv.proofs.receiver.Receiver.on_data.Goals as goal
 
 pub returns-in_ok-note-in-Duplicate-clause-step : goal.returns-in_ok-note-in-Duplicate-clause-step
 unfolding StandsFor
 returns-in_ok-note-in-Duplicate-clause-step g c = λ v w.
     let s = c.args.self.now.seen.kept in
-    (_, record { c = s.cumulative; cumulative = cumulative_is s v w.0.seen; answer = sym (c.in-Duplicate.ensures v w); leaves = refl }, c.in_ok-note-in-Duplicate.ensures.noted v w)
+    (_, record { c = s.cumulative; cumulative = cumulative_is s v w.0.seen; answer = sym (c.in-Duplicate.ensures v w); leaves = refl }, (keeps_noted g.F.Framing.format (kept_of c.args.self.now) v c.args.piece.now.tsn _ w.0 c.in_ok-note-in-Duplicate.ensures.noted, w.1))
 
 pub returns-in-Ahead-clause-step : goal.returns-in-Ahead-clause-step
 unfolding StandsFor
@@ -59,7 +60,7 @@ pub returns-in_err-note-in-Duplicate-clause-memory : goal.returns-in_err-note-in
 unfolding StandsFor
 returns-in_err-note-in-Duplicate-clause-memory g c = λ v w.
     let s = c.args.self.now.seen.kept in
-    if_err c.from_residual.result (s.cumulative, cumulative_is s v w.0.seen, subst (NeedsMemory v s.cumulative (index_at v s.cumulative c.args.piece.now.tsn)) (sym (c.in-Duplicate.ensures v w)) (c.in_err-note-in-Duplicate.ensures.memory v w))
+    if_err c.from_residual.result (s.cumulative, cumulative_is s v w.0.seen, subst (NeedsMemory v s.cumulative (index_at v s.cumulative c.args.piece.now.tsn)) (sym (c.in-Duplicate.ensures v w)) (subst (λ (ds : List ℕ). length ds < DUPLICATE_LIMIT) (sym w.0.duplicates) c.in_err-note-in-Duplicate.ensures.memory))
 
 pub returns-in_err-add-in-NoSuchStream-clause-memory : goal.returns-in_err-add-in-NoSuchStream-clause-memory
 unfolding StandsFor
@@ -80,6 +81,12 @@ unfolding StandsFor
 returns-in_err-keep-in-Taken-clause-memory g c = λ v w.
     let s = c.args.self.now.seen.kept in
     if_err c.from_residual-in_err-keep-in-Taken.result (s.cumulative, cumulative_is s v w.0.seen, subst (NeedsMemory v s.cumulative (index_at v s.cumulative c.args.piece.now.tsn)) (sym (c.in-Taken.ensures v w).0) tt)
+
+pub returns-in_err-note-in-Duplicate-clause-refused : goal.returns-in_err-note-in-Duplicate-clause-refused
+unfolding StandsFor
+returns-in_err-note-in-Duplicate-clause-refused g c = λ v w.
+    if_err c.from_residual.result
+    (keeps_duplicates g.F.Framing.format (kept_of c.args.self.now) v _ v.duplicates w.0 (w.0.duplicates ∙ sym c.in_err-note-in-Duplicate.ensures.refused), w.1)
 
 pub returns-in_err-add-in-NoSuchStream-clause-refused : goal.returns-in_err-add-in-NoSuchStream-clause-refused
 unfolding StandsFor

@@ -9,14 +9,14 @@ use Rattle.sctp_recv.proofs.BlockLemmas.{all_runs}
 use Rattle.sctp_recv.proofs.ReceiverSteps.{cumulative_is}
 use Rattle.sctp_recv.proofs.receiver.Receiver.sack.Goals as goal
 
-pub returns : goal.returns
+pub returns-clause-sack : goal.returns-clause-sack
 unfolding StandsFor
-returns g c = λ v w.
+returns-clause-sack g c = λ v w.
     let s = c.args.self.now.seen.kept in
     let first = c.tsn_of.ensures ∙ ap (λ (i : ℕ). tsn c.args.self.now.initial i) c.cumulative.ensures.value ∙ ap (λ (i : ℕ). tsn i s.cumulative) (sym w.0.initial) in
     let room : c.saturating_sub.result ≡ v.buffer - held_bytes v = let held = w.0.held in let all = w.0.buffer in let left = c.saturating_sub.ensures in omega arith in
     let lowest = c.in_ok-put_blocks.ensures.blocks ∙ sym (take-map (block_of_run s.cumulative) BLOCK_LIMIT s.runs) in
-    let again = c.in_ok-put_words.ensures.words ∙ c.deref.ensures.value ∙ sym w.0.duplicates in
+    let again = c.in_ok-put.ensures.words ∙ sym w.0.duplicates in
     record {
       c = s.cumulative;
       runs = map (block_of_run s.cumulative) s.runs;
@@ -24,3 +24,10 @@ returns g c = λ v w.
       all = all_runs v s.cumulative s.runs w.0.seen.runs w.0.seen.above;
       is = λ i. record { cumulative = first i; rwnd = room i; blocks = lowest i; duplicates = again i };
     }
+
+pub returns-clause-fits : goal.returns-clause-fits
+returns-clause-fits g c = record {
+  fields = record { cumulative = omega (arith, c.tsn_of.ensures); rwnd = omega (arith, c.saturating_sub.ensures); blocks = c.in_ok-put_blocks.ensures.in_range; duplicates = c.in_ok-put.ensures.in_range };
+  length = omega (arith, c.in_ok-put_blocks.ensures.few, c.in_ok-put.ensures.few);
+  plain = tt;
+}

@@ -4,7 +4,7 @@ use Rattle.sctp_wire.specs.ChunkTree.{piece_meaning}
 use Rattle.sctp_chains.specs.Cells.{counted}
 use Rattle.sctp_recv.proofs.ResultLemmas.{if_err}
 use Rattle.sctp_recv.proofs.GiveLemmas.{gives_from, ordered_numbered, room_with}
-use Rattle.sctp_recv.proofs.give.take_ordered.Goals as goal
+use Rattle.sctp_recv.proofs.give.keep_ordered.Goals as goal
 
 pub returns-clause-given : goal.returns-clause-given
 returns-clause-given g c = λ kept stands new numbers.

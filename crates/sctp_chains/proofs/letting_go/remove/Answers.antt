@@ -4,13 +4,13 @@ use Rattle.sctp_chains.specs.inner.LettingGo.{size_of_parts}
 use Rattle.sctp_chains.specs.declared.chain.Chain.{Chain}
 use Rattle.sctp_chains.proofs.MemoryLemmas.{one_shorter}
 use Rattle.sctp_chains.proofs.GoingLemmas.{out_of}
-use Rattle.sctp_chains.proofs.letting_go.take_out.Goals as goal
+use Rattle.sctp_chains.proofs.letting_go.remove.Goals as goal
 
 pub returns-clause-taken : goal.returns-clause-taken
 returns-clause-taken c =
     let cs = c.args.chains.now.items in
     let l : c.args.at < length cs = let some = c.in_ok-chain.ensures.variant.0 refl in omega (arith, some, c.args.chains.now.ok) in
-    out_of cs c.args.at c.in_ok-chain.chain l c.in_ok-chain.ensures.value c.take_at.new.chains.items c.args.held.now c.less.result c.in_ok-chain.ensures.items
+    out_of cs c.args.at c.in_ok-chain.chain l c.in_ok-chain.ensures.value c.remove_at.new.chains.items c.args.held.now c.less.result c.in_ok-chain.ensures.items
     (c.less.ensures ∙ ap (λ ps. c.args.held.now - size_of_parts (map bytes_of ps)) c.deref.ensures.value)
 
 pub returns-clause-fewer : goal.returns-clause-fewer

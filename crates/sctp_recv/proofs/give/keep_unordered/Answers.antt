@@ -10,7 +10,7 @@ use Rattle.sctp_recv.specs.Fields.{stream_of}
 use Rattle.sctp_recv.specs.HandedOf.{handed_of}
 use Rattle.sctp_recv.specs.inner.Giving.{sized}
 use Rattle.sctp_recv.proofs.ResultLemmas.{if_err}
-use Rattle.sctp_recv.proofs.give.take_unordered.Goals as goal
+use Rattle.sctp_recv.proofs.give.keep_unordered.Goals as goal
 
 pub returns-in-Some-clause-given : goal.returns-in-Some-clause-given
 returns-in-Some-clause-given g c = λ kept stands new kind.

@@ -6,7 +6,7 @@ use Rattle.sctp_chains.specs.StandsFor as lane
 use Rattle.sctp_chains.specs.StandsFor.{IsNew}
 use Rattle.sctp_chains.specs.Cells.{counted}
 use Rattle.sctp_recv.specs.inner.Giving.{GivesBy, lane_in}
-use Rattle.sctp_recv.proofs.give.take_in.Goals as goal
+use Rattle.sctp_recv.proofs.give.keep_in.Goals as goal
 
 pub returns-then-unordered-clause-given : goal.returns-then-unordered-clause-given
 returns-then-unordered-clause-given g c = λ kept stands new numbers.
@@ -16,8 +16,8 @@ returns-then-unordered-clause-given g c = λ kept stands new numbers.
     let old = c.args.inbound.now in
     let e : c.args.piece.now.unordered ≡ true = c.if-unordered.true in
     let P = λ (u : Bool). lane.StandsFor f (lane_in old u) (lane_of s u) kept → IsNew f (lane_of s u) kept x →
-    IfOk c.take_unordered.result (λ bytes. GivesBy u f s x kept old c.take_unordered.new.inbound bytes) in
-    subst P (sym e) (λ st nw. c.take_unordered.ensures.given kept st nw (ap (lane_of s) e)) stands new
+    IfOk c.keep_unordered.result (λ bytes. GivesBy u f s x kept old c.keep_unordered.new.inbound bytes) in
+    subst P (sym e) (λ st nw. c.keep_unordered.ensures.given kept st nw (ap (lane_of s) e)) stands new
 
 pub returns-clause-given : goal.returns-clause-given
 returns-clause-given g c = λ kept stands new numbers.
@@ -27,5 +27,5 @@ returns-clause-given g c = λ kept stands new numbers.
     let old = c.args.inbound.now in
     let e : c.args.piece.now.unordered ≡ false = c.if-unordered.false in
     let P = λ (u : Bool). lane.StandsFor f (lane_in old u) (lane_of s u) kept → IsNew f (lane_of s u) kept x →
-    IfOk c.take_ordered.result (λ bytes. GivesBy u f s x kept old c.take_ordered.new.inbound bytes) in
-    subst P (sym e) (λ st nw. c.take_ordered.ensures.given kept st nw numbers) stands new
+    IfOk c.keep_ordered.result (λ bytes. GivesBy u f s x kept old c.keep_ordered.new.inbound bytes) in
+    subst P (sym e) (λ st nw. c.keep_ordered.ensures.given kept st nw numbers) stands new

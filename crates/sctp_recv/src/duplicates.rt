@@ -1,0 +1,69 @@
+//! The TSNs that came again, until a SACK tells them (RFC 9260, 3.3.4 and 6.2).
+
+ghost use Rattle.std.specs.Prelude.{◌≡◌, ◌≤◌, ◌<◌, ◌%◌, [], ◌∷◌, ◌++◌, length, take, OnOk, OnErr};
+ghost use Rattle.std.specs.List.{AllByRecursion};
+ghost use Rattle.sctp_model.specs.numbers.Limits.{DUPLICATE_LIMIT};
+ghost use Rattle.sctp_wire.specs.Items.{words_in, IsWord};
+
+use sctp_wire::{NoMemory, put_word};
+use std::alloc::Global;
+
+/// How many TSNs that came again are told in a SACK.
+const DUPLICATE_LIMIT: usize = 16;
+
+/// The first TSNs that came again since a SACK was sent, as many as a SACK tells.
+#[derive(Drop)]
+pub(crate) struct Duplicates {
+    pub(crate) tsns: Vec<u32>,
+    ghost few: { length tsns.items ≤ DUPLICATE_LIMIT },
+}
+
+impl Duplicates {
+    /// No TSN came again.
+    pub(crate) fn new(alloc: Global) -> Duplicates
+        ensures { result.tsns.items ≡ [] }
+    {
+        Duplicates {
+            tsns: Vec::new(alloc),
+        }
+    }
+
+    /// Notes a TSN that came again, if it is among the first of them.
+    ///
+    /// # Errors
+    /// Memory ran out, and nothing changed.
+    pub(crate) fn note(&mut self, tsn: u32) -> Result<(), NoMemory>
+        ensures noted { OnOk result (self.new.tsns.items ≡ take DUPLICATE_LIMIT (self.old.tsns.items ++ tsn ∷ [])) }
+        ensures refused { OnErr result (self.new.tsns.items ≡ self.old.tsns.items) }
+        ensures memory { OnErr result (length self.old.tsns.items < DUPLICATE_LIMIT) }
+    {
+        if self.tsns.len() < DUPLICATE_LIMIT {
+            self.tsns.push(tsn).map_err(|_| NoMemory)?;
+        }
+        Ok(())
+    }
+
+    /// A SACK told them: all are forgotten.
+    pub(crate) fn forget(&mut self)
+        ensures { self.new.tsns.items ≡ [] }
+    {
+        self.tsns.clear();
+    }
+
+    /// Puts them into an empty list of a SACK.
+    ///
+    /// # Errors
+    /// Memory ran out.
+    pub(crate) fn put(&self, list: &mut Vec<u8>) -> Result<(), NoMemory>
+        requires { list.old.items ≡ [] }
+        ensures words { OnOk result (words_in list.new.items ≡ self.now.tsns.items) }
+        ensures in_range { OnOk result (AllByRecursion IsWord (words_in list.new.items)) }
+        ensures few { OnOk result (length (words_in list.new.items) ≤ DUPLICATE_LIMIT) }
+        ensures whole { length list.new.items % 4 ≡ 0 }
+    {
+        for tsn in &self.tsns {
+            put_word(*tsn, list)?;
+        }
+        Ok(())
+    }
+}
