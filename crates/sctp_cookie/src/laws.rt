@@ -1,10 +1,8 @@
 //! Laws of the definitions, which hold of all keys, bodies and bytes.
 
 ghost use Rattle.std.specs.Prelude.{◌≡◌, ℕ, List};
-ghost use Rattle.sctp_model.specs.numbers.Limits.{COOKIE_LIFE};
 ghost use Rattle.sctp_model.specs.end.Sealing.{Body, Sealing, COOKIE_SIZE};
 ghost use Rattle.sctp_cookie.specs.declared.body.TheConstants.{COOKIE_LENGTH};
-ghost use Rattle.sctp_cookie.specs.declared.sealing.TheConstants.{LIFE_MS};
 ghost use Rattle.sctp_cookie.specs.Seals.{IsSealedWell, IsUnder, OpensTheSealed};
 
 /// What a key seals has the size and the form of a cookie, the right MAC, and the body, whatever the key and the body.
@@ -19,8 +17,7 @@ pub fn keys_have_seals()
     ensures exact { (key : List ℕ) (s : Sealing) → IsUnder key s → OpensTheSealed key s }
 {}
 
-/// A cookie's size and its life are those of the profile.
-pub fn cookie_limits()
-    ensures size { COOKIE_LENGTH ≡ COOKIE_SIZE }
-    ensures life { LIFE_MS ≡ COOKIE_LIFE }
+/// A cookie has as many bytes as the definitions say.
+pub fn cookie_has_its_size()
+    ensures { COOKIE_LENGTH ≡ COOKIE_SIZE }
 {}

@@ -12,10 +12,8 @@ ghost use Rattle.sctp_cookie.specs.Opens.{Opened, has_mac, open_answer, ports_of
 
 use crate::body::{BODY_LENGTH, COOKIE_LENGTH, CookieBody, Ports, body_bytes, read_body};
 use crate::hmac::{Key, hmac_sha256};
+use sctp_values::COOKIE_LIFE;
 use thiserror::Error;
-
-/// The milliseconds for which a cookie opens after it was made.
-pub const LIFE_MS: u64 = 60_000;
 
 /// Why a cookie isn't opened: the first check that fails, in this order.
 #[derive(Clone, Copy, Debug, PartialEq, Eq, Error)]
@@ -158,9 +156,9 @@ fn staleness(now: u64, body: &CookieBody) -> Option<u32>
     ensures { result ≡ (if nat_lt COOKIE_LIFE (age now (body_meaning body.now)) then Some (staleness now (body_meaning body.now)) else None) }
 {
     let age = now.saturating_sub(body.made);
-    if age <= LIFE_MS {
+    if age <= COOKIE_LIFE {
         return None;
     }
-    let microseconds = (age - LIFE_MS).saturating_mul(1_000);
+    let microseconds = (age - COOKIE_LIFE).saturating_mul(1_000);
     Some(u32::try_from(microseconds).unwrap_or(u32::MAX))
 }
