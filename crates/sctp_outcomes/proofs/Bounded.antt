@@ -11,7 +11,7 @@ use Rattle.sctp_model.specs.receiver.Reading.{piece_at}
 use Rattle.sctp_model.specs.receiver.PieceTaken.{PieceAnswer, Duplicate, Ahead, NoSuchStream, Passed, NoRoom, Kept, Leaves}
 use Rattle.sctp_model.specs.receiver.ForwardTaken.{ForwardAnswer, OutOfDate, Bad, Moved, ForwardLeaves}
 use Rattle.sctp_model.specs.receiver.SackMade.{sack_sent, TakeLeaves}
-use Rattle.sctp_reference.specs.receiver.Steps.{IsBound}
+use Rattle.sctp_outcomes.specs.receiver.Steps.{IsBound}
 use Rattle.sctp_outcomes.proofs.Receivers.{IsReceiverLaw}
 
 -- there is such an index

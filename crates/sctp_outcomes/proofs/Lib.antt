@@ -1,3 +1,5 @@
+pub mod receiver
+pub mod sender
 pub mod Unheard
 pub mod Receivers
 pub mod Bounded

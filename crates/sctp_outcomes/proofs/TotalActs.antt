@@ -15,8 +15,8 @@ use Rattle.sctp_model.specs.end.PeerFaults.{After, GoesOn, PassedOver}
 use Rattle.sctp_model.specs.end.Options.{STATE_COOKIE, value_of}
 use Rattle.sctp_model.specs.end.Opening.{ack_fault, InitAckActs, NotCalling, NoTag, RefusedAck, AcceptedAck, seal_in, is_ours, cookie_read, EchoActs, NotHere, EchoedAgain, IsStrange, CookieAckActs, NotEchoing, CookieAcked}
 use Rattle.sctp_model.specs.end.Acting.{same_format, PieceActs, ForwardNotHeard, HeartbeatNotHeard, PieceNotHeard, SackNotHeard, PieceEmpty, WrongFormat, ForwardComes, PieceComes, may_forward, ForwardActs, WrongKind, IsBad, IsOld, SackActs, SackStale, ShutdownStale, SackWrong, ShutdownWrong, HeartbeatCounts, SackCounts, ShutdownCounts, HeartbeatActs, is_stale_cookie, ErrorActs, Closes, SaysNothing, ShutdownActs, ShutdownNotOpen, Crosses, Again, ShutdownAckActs, AckNotAwaited, CompleteNotAwaited, AckCompletes, CompleteCompleted, CompleteActs, Acts}
-use Rattle.sctp_reference.specs.receiver.Steps.{cumulative, forward_step}
-use Rattle.sctp_reference.proofs.receiver.StepsLemmas.{cumulative_is, piece_steps, forward_steps}
+use Rattle.sctp_outcomes.specs.receiver.Steps.{cumulative, forward_step}
+use Rattle.sctp_outcomes.proofs.receiver.StepsLemmas.{cumulative_is, piece_steps, forward_steps}
 use Rattle.sctp_outcomes.proofs.Bounded.{IsBounded}
 
 -- ---- where a chunk is heard

@@ -7,10 +7,10 @@ use Rattle.sctp_model.specs.receiver.SackMade.{IsSack, sack_of}
 use Rattle.sctp_model.specs.end.EndView.{Tags, Draw, Stage, Phase, Idle, Listening, Calling, Echoing, Open, Over, EndView, format_of}
 use Rattle.sctp_model.specs.end.Building.{Slot, EchoSlot, CookieAckSlot, HeartbeatSlot, ErrorSlot, SackSlot, ForwardSlot, ShutdownSlot, ShutdownAckSlot, echoing_slots, open_slots, has_some, is_due, Wants, EchoCookie, AckCookie, AckHeartbeat, ReportCauses, Acknowledge, PassOn, SayShutdown, AnswerShutdown, has_room, Puts, NoMore, NotDue, Put, IsFull, Builds, Sleeps, Waits, Calls, Echoes, Fills, sent, fragments, once_built}
 use Rattle.sctp_model.specs.end.Building.{EndsFull}
-use Rattle.sctp_reference.specs.receiver.Steps.{cumulative}
-use Rattle.sctp_reference.specs.receiver.Runs.{all_runs}
-use Rattle.sctp_reference.proofs.receiver.StepsLemmas.{cumulative_is}
-use Rattle.sctp_reference.proofs.receiver.RunsLemmas.{runs_are}
+use Rattle.sctp_outcomes.specs.receiver.Steps.{cumulative}
+use Rattle.sctp_outcomes.specs.receiver.Runs.{all_runs}
+use Rattle.sctp_outcomes.proofs.receiver.StepsLemmas.{cumulative_is}
+use Rattle.sctp_outcomes.proofs.receiver.RunsLemmas.{runs_are}
 use Rattle.sctp_outcomes.proofs.Receivers.{holds_built}
 use Rattle.sctp_outcomes.proofs.Bounded.{IsBounded, bounded_law}
 

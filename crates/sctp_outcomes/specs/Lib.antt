@@ -1,3 +1,5 @@
+pub mod receiver
+pub mod sender
 pub mod Outcomes
 pub mod OneEnd
 pub mod Examples

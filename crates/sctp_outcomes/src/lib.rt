@@ -1,10 +1,14 @@
-//! The machine of an end and the world of two ends are functions: whatever may happen has an outcome, and one only.
+//! The machine of an end and the world of two ends are functions: whatever may happen has an outcome, and one only. What a receiver and a sender do by relations
+//! is computed, and said in the words of its subject.
 //!
 //! No function here does anything: each carries a theorem as its contract.
 #![tactic(auto)]
 
 mod examples;
 mod outcomes;
+mod receiver_steps;
+mod sender_calls;
+mod sender_readers;
 mod steps;
 mod views;
 
@@ -12,6 +16,15 @@ pub use examples::{
     a_message_arrives, a_message_in_part_is_ended, a_message_is_passed_over, the_script_runs,
 };
 pub use outcomes::{every_event_has_an_outcome, every_event_has_one_outcome};
+pub use receiver_steps::{
+    forwards_are_computed, pieces_are_computed, runs_are_computed,
+    the_cumulative_index_is_computed, what_is_due_is_computed, wholes_are_computed,
+};
+pub use sender_calls::{
+    messages_are_cut, next_wishes_are_computed, refusals_are_told, sacks_are_taken,
+    shutdowns_are_taken,
+};
+pub use sender_readers::{the_fill_is_computed, the_forward_is_computed, the_point_is_computed};
 pub use steps::{each_end_has_one_next_packet, each_packet_has_one_verdict};
 pub use views::{
     both_receivers_are_at_rest, both_senders_are_in_order, no_receiver_passes_its_buffer,

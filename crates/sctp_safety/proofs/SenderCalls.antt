@@ -103,14 +103,14 @@ has_other f v p x y hx hy a has =
     let same : b.0 ≡ a = ap (λ (l : Lane). record { lane = l; number = b.0.number }) b.2 ∙ ap (λ (n : ℕ). record { lane = a.lane; number = n }) number in
     subst (Has y.skips) same b.1
 
-one_forward : (f : Format) (v : SenderView) (p : ℕ) (x y : Forward) → IsForward f v.plan v.cum p x → IsForward f v.plan v.cum p y → x ≡ y
+pub one_forward : (f : Format) (v : SenderView) (p : ℕ) (x y : Forward) → IsForward f v.plan v.cum p x → IsForward f v.plan v.cum p y → x ≡ y
 one_forward f v p x y hx hy =
     let skips = listed_alike x.skips y.skips hx.order hy.order (has_other f v p x y hx hy) (has_other f v p y x hy hx) in
     ap (λ (i : ℕ). record { point = i; skips = x.skips }) (hx.point ∙ sym hy.point) ∙ ap (λ (zs : List Skip). record { point = y.point; skips = zs }) skips
 
 -- ---- one result
 
-one_point : (v : SenderView) (p q : ℕ) → IsPoint v p → IsPoint v q → p ≡ q
+pub one_point : (v : SenderView) (p q : ℕ) → IsPoint v p → IsPoint v q → p ≡ q
 one_point v p q a b = let low = b.largest p a.from a.abandoned in let high = a.largest q b.from b.abandoned in omega (arith, low, high)
 
 pub each_call_has_one_result : EachCallHasOneResult

@@ -4,8 +4,6 @@
 #![tactic(auto)]
 
 #[cfg(test)]
-mod abandoning;
-#[cfg(test)]
 mod chains;
 #[cfg(test)]
 mod checksums;
@@ -23,8 +21,6 @@ mod first_receiver;
 mod first_sender;
 #[cfg(test)]
 mod framing;
-#[cfg(test)]
-mod handing_over;
 #[cfg(test)]
 mod lines;
 #[cfg(test)]

@@ -9,7 +9,7 @@ use Rattle.sctp_model.specs.sender.SenderView.{SenderView}
 use Rattle.sctp_model.specs.messages.Forward.{Skip, StandsIn, IsLaneBefore, IsListed, IsForward}
 use Rattle.sctp_model.specs.sender.Entries.{entry_lane, entry_number}
 use Rattle.sctp_model.specs.sender.Readers.{point}
-use Rattle.sctp_model.specs.sender.Forwarding.{larger, largest_in, passed_entries, skip_in, skip_of, skips_on, skips_below, forward_of}
+use Rattle.sctp_model.specs.sender.Forwarding.{larger, largest_in, skip_in, skip_of, skips_on, skips_below, forward_of}
 use Rattle.sctp_model.specs.sender.Reached.{IsReached}
 use Rattle.sctp_model.proofs.sender.WordLaws.{has_left, has_right, has_either}
 use Rattle.sctp_model.proofs.sender.AbandonCases.{lanes_same, same_lane-self}
@@ -196,47 +196,54 @@ named_at n p (d ∷ es) (suc j) e h is = named_at n p es j e h.1 is
 of_lane : (l : Lane) (n : ℕ) (e : Entry) → entry_lane e ≡ l → entry_number e ≡ n → IsOf l n e
 of_lane l n e lane number = subst (λ (m : ℕ). IsOf l m e) number (subst (λ (k : Lane). IsOf k (entry_number e) e) lane (of_itself e))
 
--- an entry listed stands after CUM, up to the point
-standing : (f : Format) (v : SenderView) (y : Skip) → Has (skips_below f (passed_entries v) v.streams) y → StandsIn v.plan v.cum (point v) y.lane y.number
-standing f v y has =
-    let found = below_has f (passed_entries v) v.streams y has in
-    by_found (largest_found found.0 None (passed_entries v) y.number found.1.number) found.1.lane
+-- an entry listed stands after c, up to p
+standing : (f : Format) (plan : Plan) (c p s : ℕ) (y : Skip) → Has (skips_below f (take (p - c) (drop c plan.entries)) s) y → StandsIn plan c p y.lane y.number
+standing f plan c p s y has =
+    let found = below_has f (take (p - c) (drop c plan.entries)) s y has in
+    by_found (largest_found found.0 None (take (p - c) (drop c plan.entries)) y.number found.1.number) found.1.lane
   where
-    by_found : {l : Lane} → (None ≡ Some y.number) ⊎ ((e : Entry) × Has (passed_entries v) e × (entry_lane e ≡ l) × (entry_number e ≡ y.number)) → y.lane ≡ l → StandsIn v.plan v.cum (point v) y.lane y.number
+    by_found : {l : Lane} → (None ≡ Some y.number) ⊎ ((e : Entry) × Has (take (p - c) (drop c plan.entries)) e × (entry_lane e ≡ l) × (entry_number e ≡ y.number)) → y.lane ≡ l →
+        StandsIn plan c p y.lane y.number
     by_found (inl none) lane = absurd (cc)
     by_found (inr e) lane =
-        let place = passed_stands (drop v.cum v.plan.entries) (point v - v.cum) e.0 e.1 in
+        let place = passed_stands (drop c plan.entries) (p - c) e.0 e.1 in
         let low = place.1 in
-        let here : entry_at v.plan (suc (v.cum + place.0)) ≡ Some e.0 = get-drop v.cum v.plan.entries place.0 ∙ place.2 in
-        (suc (v.cum + place.0), e.0, omega arith, omega arith, here, of_lane y.lane y.number e.0 (e.2 ∙ sym lane) e.3)
+        let here : entry_at plan (suc (c + place.0)) ≡ Some e.0 = get-drop c plan.entries place.0 ∙ place.2 in
+        (suc (c + place.0), e.0, omega arith, omega arith, here, of_lane y.lane y.number e.0 (e.2 ∙ sym lane) e.3)
 
--- of each numbered lane the largest number is listed
-highest : (f : Format) (v : SenderView) (l : Lane) (n : ℕ) → IsReached f v → is_numbered f l.kind ≡ true → StandsIn v.plan v.cum (point v) l n
-    → (y : Skip) × Has (skips_below f (passed_entries v) v.streams) y × (y.lane ≡ l) × (n ≤ y.number)
-highest f v l n h numbered at =
-    let i = at.0 in
-    let e = at.1 in
+-- of each numbered lane the largest number is listed, where all streams lie below s
+highest : (f : Format) (plan : Plan) (c p s : ℕ) (l : Lane) (n : ℕ) → ((i : ℕ) (e : Entry) → entry_at plan i ≡ Some e → (entry_lane e).stream < s) → is_numbered f l.kind ≡ true →
+    StandsIn plan c p l n → (y : Skip) × Has (skips_below f (take (p - c) (drop c plan.entries)) s) y × (y.lane ≡ l) × (n ≤ y.number)
+highest f plan c p s l n within numbered at =
     let lo = at.2 in
     let hi = at.3 in
-    let same = is_itself l n e at.5 in
-    let back : at.0 ≡ suc (v.cum + (at.0 - suc v.cum)) = omega arith in
-    let here : slice_get v.plan.entries (v.cum + (at.0 - suc v.cum)) ≡ Some at.1 = subst (λ (x : ℕ). entry_at v.plan x ≡ Some at.1) back at.4 in
-    let there : slice_get (drop v.cum v.plan.entries) (at.0 - suc v.cum) ≡ Some at.1 = sym (get-drop v.cum v.plan.entries (at.0 - suc v.cum)) ∙ here in
-    let inside = stands_passed (drop v.cum v.plan.entries) (point v - v.cum) (at.0 - suc v.cum) at.1 (omega arith) there in
-    let named = named_at v.streams v.plan v.plan.entries (v.cum + (at.0 - suc v.cum)) at.1 (is_named f v h) here in
-    let low : l.stream < v.streams = subst (λ (k : Lane). k.stream < v.streams) same.0 named.stream in
-    let most = largest_all l None (passed_entries v) at.1 inside same.0 in
-    let y : Skip = record { lane = l; number = most.0 } in
-    let listed : Has (skip_of f (passed_entries v) l) (record { lane = l; number = most.0 }) = rw (numbered, most.1) (inl refl) in
+    let same = is_itself l n at.1 at.5 in
+    let back : at.0 ≡ suc (c + (at.0 - suc c)) = omega arith in
+    let here : slice_get plan.entries (c + (at.0 - suc c)) ≡ Some at.1 = subst (λ (x : ℕ). entry_at plan x ≡ Some at.1) back at.4 in
+    let there : slice_get (drop c plan.entries) (at.0 - suc c) ≡ Some at.1 = sym (get-drop c plan.entries (at.0 - suc c)) ∙ here in
+    let inside = stands_passed (drop c plan.entries) (p - c) (at.0 - suc c) at.1 (omega arith) there in
+    let low : l.stream < s = subst (λ (k : Lane). k.stream < s) same.0 (within at.0 at.1 at.4) in
+    let most = largest_all l None (take (p - c) (drop c plan.entries)) at.1 inside same.0 in
+    let listed : Has (skip_of f (take (p - c) (drop c plan.entries)) l) (record { lane = l; number = most.0 }) = rw (numbered, most.1) (inl refl) in
     let over = most.2 in
     let number = same.1 in
-    (record { lane = l; number = most.0 }, has_below f (passed_entries v) v.streams l (record { lane = l; number = most.0 }) low listed, refl, omega arith)
+    (record { lane = l; number = most.0 }, has_below f (take (p - c) (drop c plan.entries)) s l (record { lane = l; number = most.0 }) low listed, refl, omega arith)
+
+-- of every plan whose streams lie below s, between any two indexes
+pub forward_between : (f : Format) (plan : Plan) (c p s : ℕ) → ((i : ℕ) (e : Entry) → entry_at plan i ≡ Some e → (entry_lane e).stream < s) →
+    IsForward f plan c p (record { point = p; skips = skips_below f (take (p - c) (drop c plan.entries)) s })
+forward_between f plan c p s within = record {
+  point = refl;
+  order = below_listed f (take (p - c) (drop c plan.entries)) s;
+  numbered = λ y has. let found = below_has f (take (p - c) (drop c plan.entries)) s y has in ap (λ (l : Lane). is_numbered f l.kind) found.1.lane ∙ found.1.numbered;
+  stands = λ y has. standing f plan c p s y has;
+  largest = λ l n numbered at. highest f plan c p s l n within numbered at;
+}
+
+-- each entry of a view that calls reach is on a stream that is there
+on_streams : (f : Format) (v : SenderView) → IsReached f v → (i : ℕ) (e : Entry) → entry_at v.plan i ≡ Some e → (entry_lane e).stream < v.streams
+on_streams f v h zero e here = absurd (cc)
+on_streams f v h (suc i) e here = (named_at v.streams v.plan v.plan.entries i e (is_named f v h) here).stream
 
 pub forward_is_forward : (f : Format) (v : SenderView) → IsReached f v → IsForward f v.plan v.cum (point v) (forward_of f v)
-forward_is_forward f v h = record {
-  point = refl;
-  order = below_listed f (passed_entries v) v.streams;
-  numbered = λ y has. let found = below_has f (passed_entries v) v.streams y has in ap (λ (l : Lane). is_numbered f l.kind) found.1.lane ∙ found.1.numbered;
-  stands = λ y has. standing f v y has;
-  largest = λ l n numbered at. highest f v l n h numbered at;
-}
+forward_is_forward f v h = forward_between f v.plan v.cum (point v) v.streams (on_streams f v h)

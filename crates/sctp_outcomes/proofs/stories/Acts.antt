@@ -14,8 +14,8 @@ use Rattle.sctp_model.specs.end.PeerFaults.{GoesOn}
 use Rattle.sctp_model.specs.end.Acting.{same_format, acknowledges, piece_causes, may_forward, PieceActs, ForwardActs}
 use Rattle.sctp_model.specs.end.Acting.{PieceComes}
 use Rattle.sctp_model.specs.end.Acting.{ForwardComes}
-use Rattle.sctp_reference.specs.receiver.Steps.{IsBound, cumulative, piece_step, forward_step}
-use Rattle.sctp_reference.proofs.receiver.StepsLemmas.{cumulative_is, piece_steps, forward_steps}
+use Rattle.sctp_outcomes.specs.receiver.Steps.{IsBound, cumulative, piece_step, forward_step}
+use Rattle.sctp_outcomes.proofs.receiver.StepsLemmas.{cumulative_is, piece_steps, forward_steps}
 
 -- ---- bounds of what was recorded
 

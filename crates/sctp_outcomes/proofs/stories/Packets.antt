@@ -7,10 +7,10 @@ use Rattle.sctp_model.specs.receiver.SackMade.{sack_of}
 use Rattle.sctp_model.specs.end.EndView.{Tags, Stage, Open, EndView, format_of}
 use Rattle.sctp_model.specs.end.Reports.{written}
 use Rattle.sctp_model.specs.end.Building.{Slot, EchoSlot, CookieAckSlot, HeartbeatSlot, ErrorSlot, SackSlot, ForwardSlot, ShutdownSlot, ShutdownAckSlot, open_slots, has_some, is_due, Wants, AckCookie, AckHeartbeat, ReportCauses, Acknowledge, PassOn, SayShutdown, AnswerShutdown, has_room, Puts, NoMore, NotDue, Put, IsFull, fragments, sent, Builds, EndsFull, Fills, once_built}
-use Rattle.sctp_reference.specs.receiver.Runs.{all_runs}
-use Rattle.sctp_reference.specs.receiver.Steps.{IsBound, cumulative}
-use Rattle.sctp_reference.proofs.receiver.RunsLemmas.{runs_are}
-use Rattle.sctp_reference.proofs.receiver.StepsLemmas.{cumulative_is}
+use Rattle.sctp_outcomes.specs.receiver.Runs.{all_runs}
+use Rattle.sctp_outcomes.specs.receiver.Steps.{IsBound, cumulative}
+use Rattle.sctp_outcomes.proofs.receiver.RunsLemmas.{runs_are}
+use Rattle.sctp_outcomes.proofs.receiver.StepsLemmas.{cumulative_is}
 
 -- ---- one place
 

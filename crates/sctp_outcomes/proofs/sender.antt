@@ -1,0 +1,13 @@
+pub mod Makers
+pub mod FillExamples
+pub mod SackExamples
+pub mod AbandonExamples
+pub mod QueueExamples
+pub mod WindowExamples
+pub mod SackCases
+pub mod SackTold
+pub mod TurnCases
+pub mod WishTold
+pub mod CutTold
+pub mod RefusalTold
+pub mod ReaderLemmas

@@ -1,0 +1,7 @@
+pub mod Sacks
+pub mod SackLaws
+pub mod Wishes
+pub mod WishLaws
+pub mod Cuts
+pub mod Refusals
+pub mod ReaderLaws

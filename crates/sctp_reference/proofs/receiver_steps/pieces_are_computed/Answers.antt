@@ -1,9 +1,0 @@
-use Rattle.sctp_reference.proofs.receiver.LawLemmas.{pieces_so}
-use Rattle.sctp_reference.proofs.receiver.StepsLemmas.{piece_steps}
-use Rattle.sctp_reference.proofs.receiver_steps.pieces_are_computed.Goals as goal
-
-pub returns-clause-taken : goal.returns-clause-taken
-returns-clause-taken c = piece_steps
-
-pub returns-clause-only : goal.returns-clause-only
-returns-clause-only c = pieces_so

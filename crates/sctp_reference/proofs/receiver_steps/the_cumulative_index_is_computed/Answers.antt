@@ -1,5 +1,0 @@
-use Rattle.sctp_reference.proofs.receiver.StepsLemmas.{cumulative_is}
-use Rattle.sctp_reference.proofs.receiver_steps.the_cumulative_index_is_computed.Goals as goal
-
-pub returns : goal.returns
-returns c = cumulative_is

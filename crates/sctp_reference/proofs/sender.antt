@@ -1,6 +1,0 @@
-pub mod Makers
-pub mod FillExamples
-pub mod SackExamples
-pub mod AbandonExamples
-pub mod QueueExamples
-pub mod WindowExamples

@@ -1,5 +1,0 @@
-use Rattle.sctp_reference.proofs.calls.CutTold.{cut_is_computed}
-use Rattle.sctp_reference.proofs.sender_calls.messages_are_cut.Goals as goal
-
-pub returns : goal.returns
-returns c = cut_is_computed
