@@ -2,6 +2,12 @@
 //! what time does to it, and what its user asks of it (RFC 9260, 4).
 #![tactic(auto)]
 
+mod carried;
+mod due;
+mod stage;
 mod timers;
 
+pub use carried::{EchoedCookie, HeartbeatInfo, WaitingCauses};
+pub use due::Due;
+pub use stage::{Stage, Tags};
 pub use timers::{Alarm, Timer, Timers};

@@ -1,0 +1,87 @@
+//! Bytes that an end keeps until they go out in a chunk. Each type knows what lets it go there, so that a chunk is built without asking again.
+
+ghost use Rattle.std.specs.Prelude.{◌≡◌, ◌<◌, ◌+◌, ◌^◌, true, length, IfOk};
+ghost use Rattle.sctp_model.specs.wire.Typed.{are_typed, AreAsWritten};
+
+use sctp_wire::NoMemory;
+use std::alloc::Global;
+
+/// The value of a HEARTBEAT, which its answer brings back (RFC 9260, 8.3).
+#[derive(Drop)]
+pub struct HeartbeatInfo {
+    pub(crate) bytes: Vec<u8>,
+    ghost small: { 4 + length bytes.items < 2 ^ 16 },
+}
+
+/// The cookie that a caller sends back (RFC 9260, 5.1, C).
+#[derive(Drop)]
+pub struct EchoedCookie {
+    pub(crate) bytes: Vec<u8>,
+    ghost small: { 4 + length bytes.items < 2 ^ 16 },
+}
+
+/// What the peer is to be told in one ERROR: its causes, as they are written there (RFC 9260, 3.3.10).
+#[derive(Drop)]
+pub struct WaitingCauses {
+    pub(crate) bytes: Vec<u8>,
+    ghost typed: { are_typed bytes.items ≡ true },
+    ghost written: { AreAsWritten bytes.items },
+    ghost small: { 4 + length bytes.items < 2 ^ 16 },
+}
+
+impl HeartbeatInfo {
+    ghost use Rattle.std.specs.Prelude.{◌≡◌, ◌<◌, ◌+◌, ◌^◌, length, IfOk};
+
+    /// A copy of the value.
+    ///
+    /// # Errors
+    /// Memory ran out.
+    pub fn copied(alloc: Global, info: &[u8]) -> Result<HeartbeatInfo, NoMemory>
+        requires { 4 + length info.now < 2 ^ 16 }
+        ensures { IfOk result (λ h. h.bytes.items ≡ info.now) }
+    {
+        Ok(HeartbeatInfo {
+            bytes: copy_of(alloc, info)?,
+        })
+    }
+}
+
+impl EchoedCookie {
+    ghost use Rattle.std.specs.Prelude.{◌≡◌, ◌<◌, ◌+◌, ◌^◌, length, IfOk};
+
+    /// A copy of the cookie.
+    ///
+    /// # Errors
+    /// Memory ran out.
+    pub fn copied(alloc: Global, cookie: &[u8]) -> Result<EchoedCookie, NoMemory>
+        requires { 4 + length cookie.now < 2 ^ 16 }
+        ensures { IfOk result (λ c. c.bytes.items ≡ cookie.now) }
+    {
+        Ok(EchoedCookie {
+            bytes: copy_of(alloc, cookie)?,
+        })
+    }
+}
+
+impl WaitingCauses {
+    ghost use Rattle.std.specs.Prelude.{◌≡◌, []};
+
+    /// No causes.
+    #[tactic(auto, unfolding(sctp_model::specs::wire::Typed::typed_of))]
+    pub fn none(alloc: Global) -> WaitingCauses
+        ensures { result.bytes.items ≡ [] }
+    {
+        WaitingCauses {
+            bytes: Vec::new(alloc),
+        }
+    }
+}
+
+/// The same bytes once more.
+fn copy_of(alloc: Global, bytes: &[u8]) -> Result<Vec<u8>, NoMemory>
+    ensures { IfOk result (λ copy. copy.items ≡ bytes.now) }
+{
+    let mut copy = Vec::new(alloc);
+    copy.extend_from_slice(bytes).map_err(|_| NoMemory)?;
+    Ok(copy)
+}

@@ -1,0 +1,90 @@
+//! What goes into an end's next packets (RFC 9260, 6.10): the one place that says "later". It knows nothing of states and timers.
+
+ghost use Rattle.std.specs.Prelude.{◌≡◌, ◌||◌, ◌&&◌, ◌+◌, ◌≤◌, ◌∷◌, [], nat_le, true, false, if◌then◌else◌, length, option_map, Some, None, vec_len, vec_capacity, IsOk, OnOk, OnErr};
+ghost use Rattle.sctp_model.specs.wire.Typed.{Typed, IsTyped};
+ghost use Rattle.sctp_model.specs.end.EndView as model;
+ghost use Rattle.sctp_model.specs.end.EndView.{EndView, nothing_due};
+ghost use Rattle.sctp_model.specs.end.Clock.{due_in};
+ghost use Rattle.sctp_model.specs.end.Reports.{item, causes_with};
+ghost use Rattle.sctp_association.specs.StageMeans.{stage_meaning};
+ghost use Rattle.sctp_association.specs.DueStands.{DueStands};
+
+use crate::carried::{HeartbeatInfo, WaitingCauses};
+use crate::stage::Stage;
+use std::alloc::Global;
+
+/// What is due, in the order in which a packet is filled.
+#[derive(Drop)]
+pub struct Due {
+    pub(crate) init: bool,
+    pub(crate) cookie_echo: bool,
+    pub(crate) cookie_ack: bool,
+    /// The value that the last HEARTBEAT asks back.
+    pub(crate) heartbeat: Option<HeartbeatInfo>,
+    /// What the peer is to be told in one ERROR.
+    pub(crate) causes: WaitingCauses,
+    pub(crate) sack: bool,
+    pub(crate) forward: bool,
+    pub(crate) shutdown: bool,
+    pub(crate) shutdown_ack: bool,
+}
+
+impl Due {
+    /// Nothing at all.
+    pub fn nothing(alloc: Global) -> Due
+        ensures { DueStands result nothing_due }
+    {
+        Due {
+            init: false,
+            cookie_echo: false,
+            cookie_ack: false,
+            heartbeat: None,
+            causes: WaitingCauses::none(alloc),
+            sack: false,
+            forward: false,
+            shutdown: false,
+            shutdown_ack: false,
+        }
+    }
+
+    /// Nothing is due any more.
+    pub fn clear(&mut self, alloc: Global)
+        ensures { DueStands self.new nothing_due }
+    {
+        *self = Due::nothing(alloc);
+    }
+
+    /// The association goes to this stage: what only another state sends is forgotten (RFC 9260, 4).
+    pub fn turn(&mut self, stage: Stage)
+        ensures { (d : model.Due) (t : model.Tags) → DueStands self.old d → DueStands self.new (due_in (model.Open t (stage_meaning stage)) d) }
+    {
+        self.init = false;
+        self.cookie_echo = false;
+        self.shutdown = self.shutdown && stage.is_shutdown_sent();
+        self.shutdown_ack = self.shutdown_ack && stage.is_shutdown_ack_sent();
+    }
+
+    /// The end calls: INIT is due, and nothing that only another state sends (RFC 9260, 5.1, A).
+    pub fn call(&mut self)
+        ensures { (d : model.Due) (x : model.Draw) → DueStands self.old d → DueStands self.new (record (due_in (model.Calling x) d) { init = true }) }
+    {
+        self.init = true;
+        self.cookie_echo = false;
+        self.shutdown = false;
+        self.shutdown_ack = false;
+    }
+
+    /// A FORWARD is due where the point moved (RFC 3758, 3.5).
+    pub fn skip(&mut self, moved: bool)
+        ensures { (d : model.Due) → DueStands self.old d → DueStands self.new (record d { forward = d.forward || moved }) }
+    {
+        self.forward = self.forward || moved;
+    }
+
+    /// A FORWARD is due no more where the point isn't past the cumulative index (RFC 3758, 3.5).
+    pub fn settle(&mut self, past: bool)
+        ensures { (d : model.Due) → DueStands self.old d → DueStands self.new (record d { forward = d.forward && past }) }
+    {
+        self.forward = self.forward && past;
+    }
+}
