@@ -63,17 +63,19 @@ kind_word x = decimal x.kind
 abbrev pub word_name : Bool → List ℕ
 word_name begin = if begin then codes "id" else codes "fsn"
 
--- DATA (RFC 9260, 3.3.1): its flags, and its fields behind their names
-abbrev pub data_words : PieceMeaning → List (List ℕ)
-data_words p =
-    codes "DATA" ∷ flags_word p ∷ codes "tsn" ∷ decimal p.tsn ∷ codes "stream" ∷ decimal p.stream ∷ codes "ssn" ∷ decimal p.number
-    ∷ codes "id" ∷ decimal p.word ∷ codes "data" ∷ hex_word p.bytes ∷ []
+-- a piece of user data: its chunk's name, its flags, and its fields behind their names, two of which are given
+abbrev pub piece_words : (name number word : List ℕ) → PieceMeaning → List (List ℕ)
+piece_words name number word p =
+    name ∷ flags_word p ∷ codes "tsn" ∷ decimal p.tsn ∷ codes "stream" ∷ decimal p.stream ∷ number ∷ decimal p.number
+    ∷ word ∷ decimal p.word ∷ codes "data" ∷ hex_word p.bytes ∷ []
 
--- I-DATA (RFC 8260, 2.1) alike
+-- DATA (RFC 9260, 3.3.1)
+abbrev pub data_words : PieceMeaning → List (List ℕ)
+data_words p = piece_words (codes "DATA") (codes "ssn") (codes "id") p
+
+-- I-DATA (RFC 8260, 2.1)
 abbrev pub i_data_words : PieceMeaning → List (List ℕ)
-i_data_words p =
-    codes "I-DATA" ∷ flags_word p ∷ codes "tsn" ∷ decimal p.tsn ∷ codes "stream" ∷ decimal p.stream ∷ codes "mid" ∷ decimal p.number
-    ∷ word_name p.begin ∷ decimal p.word ∷ codes "data" ∷ hex_word p.bytes ∷ []
+i_data_words p = piece_words (codes "I-DATA") (codes "mid") (word_name p.begin) p
 
 -- INIT and INIT ACK (RFC 9260, 3.3.2 and 3.3.3): of the parameters the number
 abbrev pub init_words : List ℕ → InitMeaning → List (List ℕ)

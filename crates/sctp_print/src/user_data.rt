@@ -3,12 +3,20 @@
 ghost use Rattle.std.specs.Prelude.{◌≡◌, ◌++◌, OnOk, OnErr};
 ghost use Rattle.sctp_text.specs.SpacedWords.{line_of};
 ghost use Rattle.sctp_wire.specs.ChunkTree.{piece_meaning};
-ghost use Rattle.sctp_print.specs.ChunkLines.{data_words, i_data_words, word_name};
+ghost use Rattle.sctp_print.specs.ChunkLines.{data_words, i_data_words, piece_words, word_name};
 
 use crate::words::{flags_word, hex_text};
 use sctp_text::{Word, put_line};
 use sctp_wire::Piece;
 use std::alloc::{AllocError, Global};
+
+/// What the line of a piece calls its chunk, its number and its word.
+#[derive(Clone, Copy)]
+struct Names {
+    chunk: &'static [u8],
+    number: &'static [u8],
+    word: &'static [u8],
+}
 
 /// Appends the line of a DATA.
 pub(crate) fn put_data(
@@ -19,22 +27,12 @@ pub(crate) fn put_data(
     ensures put { OnOk result (out.new.items ≡ out.old.items ++ line_of (data_words (piece_meaning piece.now))) }
     ensures refused { OnErr result (out.new.items ≡ out.old.items) }
 {
-    let flags = flags_word(alloc, piece)?;
-    let data = hex_text(alloc, piece.bytes)?;
-    let words = [
-        Word::Text(&flags),
-        Word::Text(b"tsn"),
-        Word::Number(u64::from(piece.tsn)),
-        Word::Text(b"stream"),
-        Word::Number(u64::from(piece.stream)),
-        Word::Text(b"ssn"),
-        Word::Number(u64::from(piece.number)),
-        Word::Text(b"id"),
-        Word::Number(u64::from(piece.word)),
-        Word::Text(b"data"),
-        Word::Text(&data),
-    ];
-    put_line(b"DATA", &words, &[], out)
+    let names = Names {
+        chunk: b"DATA",
+        number: b"ssn",
+        word: b"id",
+    };
+    put_piece(alloc, &names, piece, out)
 }
 
 /// Appends the line of an I-DATA.
@@ -46,6 +44,25 @@ pub(crate) fn put_i_data(
     ensures put { OnOk result (out.new.items ≡ out.old.items ++ line_of (i_data_words (piece_meaning piece.now))) }
     ensures refused { OnErr result (out.new.items ≡ out.old.items) }
 {
+    let names = Names {
+        chunk: b"I-DATA",
+        number: b"mid",
+        word: word_name(piece.begin),
+    };
+    put_piece(alloc, &names, piece, out)
+}
+
+/// Appends the line of a piece.
+fn put_piece(
+    alloc: Global,
+    names: &Names,
+    piece: &Piece<'_>,
+    out: &mut Vec<u8>,
+) -> Result<(), AllocError>
+    ensures put { OnOk result (out.new.items ≡ out.old.items
+        ++ line_of (piece_words names.now.chunk.now names.now.number.now names.now.word.now (piece_meaning piece.now))) }
+    ensures refused { OnErr result (out.new.items ≡ out.old.items) }
+{
     let flags = flags_word(alloc, piece)?;
     let data = hex_text(alloc, piece.bytes)?;
     let words = [
@@ -54,14 +71,14 @@ pub(crate) fn put_i_data(
         Word::Number(u64::from(piece.tsn)),
         Word::Text(b"stream"),
         Word::Number(u64::from(piece.stream)),
-        Word::Text(b"mid"),
+        Word::Text(names.number),
         Word::Number(u64::from(piece.number)),
-        Word::Text(word_name(piece.begin)),
+        Word::Text(names.word),
         Word::Number(u64::from(piece.word)),
         Word::Text(b"data"),
         Word::Text(&data),
     ];
-    put_line(b"I-DATA", &words, &[], out)
+    put_line(names.chunk, &words, &[], out)
 }
 
 /// What the word of an I-DATA is: the payload protocol identifier of a first fragment, else its FSN (RFC 8260, 2.1).
