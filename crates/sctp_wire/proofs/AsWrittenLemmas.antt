@@ -1,14 +1,14 @@
 -- A list is as it is written where each item but the last is filled with zeros and nothing stands behind the last.
-use Rattle.std.proofs.Common.{◌≡◌, ℕ, ◌-◌, ◌<◌, ◌≤◌, inl, inr, Bool, true, false, List, [], ◌∷◌, ◌++◌, length, take, drop, replicate, get_or, refl, sym, ap, subst, ◌∙◌, append_assoc, append-nil, arith, length-append, length-drop, ⊎_elim, ◌≢◌}
-use Rattle.std.specs.Prelude.{Option, Some, None, ◌==◌, ◌⊎◌, ◌↔◌, is_some, unwrap_or, EachIndex, slice_index}
+use Rattle.std.proofs.Common.{◌≡◌, ℕ, ◌-◌, ◌<◌, ◌≤◌, inl, inr, Bool, true, false, List, [], ◌∷◌, ◌++◌, length, take, drop, replicate, refl, sym, ap, ◌∙◌, append_assoc, append-nil, arith, length-drop, ⊎_elim, ◌≢◌}
+use Rattle.std.specs.Prelude.{Option, Some, None, ◌==◌, ◌↔◌, is_some, unwrap_or, EachIndex, slice_index}
 use Rattle.std.proofs.lemmas.List.{drop-drop, drop_all, take-append-drop, take_at, drop_at, length-take-le, nil_from_length, ext_get_or, get_or-replicate, append_cancel_left}
 use Rattle.std.proofs.lemmas.Bool.{cases_lt}
 use Rattle.std.proofs.lemmas.Bool.Decides.{eqb_tells}
 use Rattle.std.proofs.lemmas.Grind.{common_steps}
 use Rattle.sctp_model.specs.wire.Chunk.{padded}
 use Rattle.sctp_model.specs.numbers.Numbers.{AreBytes}
-use Rattle.sctp_model.specs.wire.Typed.{Typed, typed_bytes, typed_length, filled, written_typed, length_field, starts_typed, typed_at, typed_of, are_typed, typed_in, AreAsWritten}
-use Rattle.sctp_model.proofs.TypedLemmas.{typed_of-nil, typed_of-first, typed_of-none, in_front, behind_first, HasFirst, has_first, IsCutOff, cut_off, length-item}
+use Rattle.sctp_model.specs.wire.Typed.{Typed, typed_bytes, filled, written_typed, length_field, starts_typed, typed_at, typed_of, are_typed, typed_in, AreAsWritten}
+use Rattle.sctp_model.proofs.TypedLemmas.{typed_of-nil, typed_of-first, typed_of-none, in_front, behind_first, HasFirst, has_first, cut_off, length-item}
 use Rattle.sctp_model.proofs.TypedWriting.{zeros_long}
 use Rattle.sctp_wire.specs.inner.FirstAsWritten.{IsFirstAsWritten}
 

@@ -1,6 +1,6 @@
 -- The first byte of a chunk tells where it may stand, and the walk from chunk to chunk finds the first misplaced one.
-use Rattle.std.proofs.Common.{◌≡◌, ℕ, ◌+◌, ◌-◌, ◌<◌, ◌≤◌, Bool, true, false, List, [], ◌∷◌, length, drop, refl, sym, ap, subst, ◌∙◌, arith, length-append, Ok, Err}
-use Rattle.std.specs.Prelude.{◌==◌, ◌||◌, Result, Option, Some, None, slice_index, if◌then◌else◌, ◌≢◌, not}
+use Rattle.std.proofs.Common.{◌≡◌, ℕ, ◌-◌, ◌<◌, ◌≤◌, Bool, true, false, List, [], ◌∷◌, length, drop, refl, sym, ap, ◌∙◌, arith, length-append, Ok}
+use Rattle.std.specs.Prelude.{◌==◌, ◌||◌, Some, None, slice_index, if◌then◌else◌, ◌≢◌, not}
 use Rattle.sctp_model.specs.wire.Chunk.{ChunkMeaning, Data, IData, Init, InitAck, Sack, Heartbeat, HeartbeatAck, Abort, Shutdown, ShutdownAck, Error, CookieEcho, CookieAck, ShutdownComplete, ForwardTsn, IForwardTsn, Unknown, kind_of, padded, size_of_chunk}
 use Rattle.sctp_model.specs.numbers.Numbers.{AreBytes}
 use Rattle.sctp_model.specs.wire.Places.{stands_alone, never_follows, misplaced_behind, first_misplaced}

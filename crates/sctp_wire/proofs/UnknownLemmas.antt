@@ -1,12 +1,18 @@
--- What is acted on and reported of a list is what the rule picks from its items up to the first one that stops.
-use Rattle.std.proofs.Common.{◌≡◌, ℕ, ◌/◌, ◌%◌, ◌<◌, ◌≤◌, Bool, true, false, List, [], ◌∷◌, refl, ap, arith}
-use Rattle.std.specs.Prelude.{not, if◌then◌else◌, ◌==◌, ◌&&◌, ◌||◌, nat_lt}
+-- A chunk of an unknown type by the rule; and of parameters what is acted on and reported is what the rule picks from those up to the first one that stops.
+use Rattle.std.proofs.Common.{◌≡◌, ℕ, ◌/◌, ◌%◌, ◌<◌, Bool, true, false, List, [], ◌∷◌, ◌++◌, refl, ◌∙◌, ap, arith}
+use Rattle.std.specs.Prelude.{not, if◌then◌else◌, ◌&&◌, ◌||◌}
 use Rattle.std.specs.List.{filter}
 use Rattle.std.proofs.lemmas.Bool.{lt-ltb, le-ltb}
-use Rattle.sctp_model.specs.wire.Chunk.{ChunkMeaning, Data, IData, Init, InitAck, Sack, Heartbeat, HeartbeatAck, Abort, Shutdown, ShutdownAck, Error, CookieEcho, CookieAck, ShutdownComplete, ForwardTsn, IForwardTsn, Unknown}
+use Rattle.sctp_model.specs.wire.Chunk.{Unknown}
 use Rattle.sctp_model.specs.wire.Typed.{Typed}
-use Rattle.sctp_model.specs.wire.Unknown.{chunk_rule, parameter_rule, chunks_acted_on, chunks_reported, reported_before, is_known_parameter, is_passed_over, acted_from, reported_from, parameters_acted_on, parameters_reported}
-use Rattle.sctp_wire.specs.UnknownLaws.{up_to, IsByTwoBits, is_known_chunk, stops_packet, is_told, AreByChunkRule, stops_list, is_told_parameter, is_acted_on, AreByParameterRule}
+use Rattle.sctp_model.specs.wire.Unknown.{RuleMeaning, chunk_rule, parameter_rule, reported_before, is_known_parameter, is_passed_over}
+use Rattle.sctp_model.specs.end.EndView.{EndView}
+use Rattle.sctp_model.specs.end.Reports.{causes_with, with_causes}
+use Rattle.sctp_model.specs.end.PeerFaults.{After, GoesOn, Ends, PassedOver, Replies, Drops}
+use Rattle.sctp_model.specs.end.Closing.{rested}
+use Rattle.sctp_model.specs.end.Acting.{unknown_item, may_report, unknown_causes, unknown_leaves, unknown_acts}
+use Rattle.sctp_model.specs.end.Arriving.{Next, Passes, Last, EndsAnswered, Stopped}
+use Rattle.sctp_wire.specs.UnknownLaws.{IsByTwoBits, ActsByTwoBits, LooksNoFurther, is_told_parameter, is_acted_on, AreByParameterRule}
 
 -- ---- bits
 
@@ -28,6 +34,39 @@ parameter_bits kind = record {
 
 -- ---- chunks
 
+-- the machine's telling, with the rule apart
+abbrev by_rule : EndView → ℕ → ℕ → List ℕ → RuleMeaning → After
+by_rule e kind flags value r = unknown_leaves r.stop (with_causes (if r.report && may_report e.phase then causes_with e (unknown_item kind flags value) else e.due.causes) e)
+
+pub acts_by_bits : (e : EndView) (kind flags : ℕ) (value : List ℕ) → ActsByTwoBits (kind / 64) e kind flags value
+acts_by_bits e kind flags value = record {
+  stops = λ is. ap (by_rule e kind flags value) ((chunk_bits kind).stops is);
+  stops_reported = λ is. ap (by_rule e kind flags value) ((chunk_bits kind).stops_reported is);
+  skipped = λ is. ap (by_rule e kind flags value) ((chunk_bits kind).skipped is);
+  skipped_reported = λ is. ap (by_rule e kind flags value) ((chunk_bits kind).skipped_reported is);
+}
+
+-- such a chunk ends its packet
+ends_packet : (e : EndView) (kind flags : ℕ) (value : List ℕ) → kind / 64 < 2 → (t : EndView) × (unknown_acts e kind flags value ≡ Ends t)
+ends_packet e kind flags value low =
+    (with_causes (unknown_causes e kind flags value) e, ap (λ (b : Bool). unknown_leaves b (with_causes (unknown_causes e kind flags value) e)) (lt-ltb kind 128 (omega arith)))
+
+pub looks_no_further : (kind flags : ℕ) (value : List ℕ) → LooksNoFurther kind flags value
+looks_no_further kind flags value tag e b [] back other t v low (Next _ mid _ _ _ _ _ act rest) = let u = ends_packet e kind flags value low in let q : GoesOn mid ≡ Ends u.0 = act ∙ u.1 in absurd (cc)
+looks_no_further kind flags value tag e b [] back other t v low (Passes _ _ _ _ _ _ act rest) = let u = ends_packet e kind flags value low in let q : PassedOver ≡ Ends u.0 = act ∙ u.1 in absurd (cc)
+looks_no_further kind flags value tag e b [] back other t v low (Last _ _ _ _ _ act) = Last e t b (Unknown kind flags value) other act
+looks_no_further kind flags value tag e b [] back other t v low (EndsAnswered _ _ _ _ _ p act) = let u = ends_packet e kind flags value low in let q : Replies t p ≡ Ends u.0 = act ∙ u.1 in absurd (cc)
+looks_no_further kind flags value tag e b [] back other t v low (Stopped _ _ _ _ n act) = let u = ends_packet e kind flags value low in let q : Drops n ≡ Ends u.0 = act ∙ u.1 in absurd (cc)
+looks_no_further kind flags value tag e b (x ∷ front) back other t v low (Next _ mid _ _ _ _ _ act rest) =
+    Next e mid t b x (front ++ Unknown kind flags value ∷ other) v act (looks_no_further kind flags value tag (rested mid) true front back other t v low rest)
+looks_no_further kind flags value tag e b (x ∷ front) back other t v low (Passes _ _ _ _ _ _ act rest) =
+    Passes e t b x (front ++ Unknown kind flags value ∷ other) v act (looks_no_further kind flags value tag e b front back other t v low rest)
+looks_no_further kind flags value tag e b (x ∷ front) back other t v low (Last _ _ _ _ _ act) = Last e t b x (front ++ Unknown kind flags value ∷ other) act
+looks_no_further kind flags value tag e b (x ∷ front) back other t v low (EndsAnswered _ _ _ _ _ p act) = EndsAnswered e t b x (front ++ Unknown kind flags value ∷ other) p act
+looks_no_further kind flags value tag e b (x ∷ front) back other t v low (Stopped _ _ _ _ n act) = Stopped e b x (front ++ Unknown kind flags value ∷ other) n act
+
+-- ---- parameters
+
 -- one that is told, or not, before what is told of the others
 told_before : {X : Type 0} (told : X → Bool) (stops t : Bool) (x : X) (later : List X) (rest : List X) → told x ≡ t → later ≡ filter told rest
     → reported_before t x (if stops then [] else later) ≡ filter told (x ∷ (if stops then [] else rest))
@@ -35,22 +74,6 @@ told_before told true true x later rest e same = rw e refl
 told_before told true false x later rest e same = rw e refl
 told_before told false true x later rest e same = rw e (ap (λ xs. x ∷ xs) same)
 told_before told false false x later rest e same = rw e same
-
-passed_before : (stops : Bool) (later rest : List ChunkMeaning) → later ≡ filter is_known_chunk rest → (if stops then [] else later) ≡ filter is_known_chunk (if stops then [] else rest)
-passed_before true later rest same = refl
-passed_before false later rest same = same
-
-pub chunks_by_rule : (ms : List ChunkMeaning) → AreByChunkRule ms
-chunks_by_rule [] = record { acted_on = refl; reported = refl }
-chunks_by_rule (Unknown kind flags value ∷ ms) =
-    let later = chunks_by_rule ms in
-    let rule = chunk_rule kind in
-    record { acted_on = passed_before rule.stop _ _ later.acted_on; reported = told_before is_told rule.stop rule.report (Unknown kind flags value) _ _ refl later.reported }
-chunks_by_rule (m ∷ ms) =
-    let later = chunks_by_rule ms in
-    record { acted_on = ap (λ (xs : List ChunkMeaning). m ∷ xs) later.acted_on; reported = later.reported }
-
--- ---- parameters
 
 acted_by : (known passed stop report : Bool) (x : Typed) (later rest : List Typed) → is_acted_on x ≡ known → later ≡ filter is_acted_on rest
     → (if known then x ∷ later else if passed then later else if stop then [] else later) ≡ filter is_acted_on (x ∷ (if not (known || passed) && stop then [] else rest))

@@ -1,12 +1,10 @@
 -- What is written is read again.
-use Rattle.std.proofs.Common.{◌≡◌, ℕ, true, List, [], ◌∷◌, ◌++◌, length, replicate, refl, sym, ap, ◌∙◌, subst, append_assoc, arith, length-append}
-use Rattle.std.specs.Prelude.{false}
+use Rattle.std.proofs.Common.{◌≡◌, ℕ, List, [], ◌∷◌, ◌++◌, length, replicate, refl, sym, ap, ◌∙◌, subst, append_assoc, arith, length-append}
 use Rattle.std.specs.List.{flat_map, AllByRecursion}
 use Rattle.std.proofs.Math.ListN.{length-replicate}
 use Rattle.std.proofs.lemmas.List.{append-nil}
 use Rattle.std.proofs.lemmas.List.Concat.{flat_map-append}
-use Rattle.std.proofs.lemmas.Grind.{common_steps}
-use Rattle.sctp_model.specs.wire.Chunk.{ChunkMeaning, kind_of, chunk_length, padding_after, size_of_chunk}
+use Rattle.sctp_model.specs.wire.Chunk.{ChunkMeaning, chunk_length, padding_after, size_of_chunk}
 use Rattle.sctp_model.specs.numbers.Numbers.{u16_bytes}
 use Rattle.sctp_model.specs.wire.Places.{ArePlaced}
 use Rattle.sctp_wire.specs.Layouts.{flags_of, value_of, Fits}

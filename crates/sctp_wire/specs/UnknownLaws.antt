@@ -1,10 +1,17 @@
--- What is done about unknown types, told of whole lists: what stands up to the first item that stops is looked at; of that the known
--- ones are acted on, and those are reported whose rule says so (RFC 9260, 3.2 and 3.2.1).
-use Rattle.std.specs.Prelude.{◌≡◌, ℕ, ◌/◌, Bool, true, false, not, if◌then◌else◌, ◌&&◌, ◌||◌, List, [], ◌∷◌}
+-- What is done about unknown types (RFC 9260, 3.2 and 3.2.1). Of chunks: what one does at an end, and that behind one that stops nothing is
+-- looked at. Of parameters, told of whole lists: what stands up to the first one that stops is looked at; of that the known ones are acted on,
+-- and those are reported whose rule says so.
+use Rattle.std.specs.Prelude.{◌≡◌, ℕ, ◌/◌, ◌<◌, Bool, true, false, not, if◌then◌else◌, ◌&&◌, ◌||◌, List, [], ◌∷◌, ◌++◌}
 use Rattle.std.specs.List.{filter}
 use Rattle.sctp_model.specs.wire.Chunk.{ChunkMeaning, Unknown}
 use Rattle.sctp_model.specs.wire.Typed.{Typed}
-use Rattle.sctp_model.specs.wire.Unknown.{RuleMeaning, chunk_rule, parameter_rule, chunks_acted_on, chunks_reported, is_known_parameter, is_passed_over, parameters_acted_on, parameters_reported}
+use Rattle.sctp_model.specs.wire.Unknown.{RuleMeaning, parameter_rule, is_known_parameter, is_passed_over, parameters_acted_on, parameters_reported}
+use Rattle.sctp_model.specs.end.EndView.{EndView}
+use Rattle.sctp_model.specs.end.Reports.{causes_with, with_causes}
+use Rattle.sctp_model.specs.end.PeerFaults.{GoesOn, Ends}
+use Rattle.sctp_model.specs.end.Acting.{unknown_item, may_report, unknown_acts}
+use Rattle.sctp_model.specs.end.Strays.{Verdict}
+use Rattle.sctp_model.specs.end.Arriving.{AllAct}
 
 -- the items up to the first one that stops, and that one
 abbrev pub up_to : {X : Type 0} → (X → Bool) → List X → List X
@@ -20,27 +27,24 @@ pub record IsByTwoBits (highest : ℕ) (rule : RuleMeaning) : Type 0 where
   pub skipped : highest ≡ 2 → rule ≡ record { stop = false; report = false }
   pub skipped_reported : highest ≡ 3 → rule ≡ record { stop = false; report = true }
 
--- ---- chunks
+-- ---- chunks, at an end that may have a peer
 
--- a type that has a case of its own
-abbrev pub is_known_chunk : ChunkMeaning → Bool
-is_known_chunk (Unknown kind flags value) = false
-is_known_chunk m = true
+-- the end, which tells its peer of the chunk, where it has one and the report still fits
+abbrev pub reporting : EndView → (kind flags : ℕ) → List ℕ → EndView
+reporting e kind flags value = with_causes (if may_report e.phase then causes_with e (unknown_item kind flags value) else e.due.causes) e
 
--- an unknown one behind which nothing is looked at
-abbrev pub stops_packet : ChunkMeaning → Bool
-stops_packet (Unknown kind flags value) = (chunk_rule kind).stop
-stops_packet m = false
+-- what the chunk does
+pub record ActsByTwoBits (highest : ℕ) (e : EndView) (kind flags : ℕ) (value : List ℕ) : Type 0 where
+  pub stops : highest ≡ 0 → unknown_acts e kind flags value ≡ Ends e
+  pub stops_reported : highest ≡ 1 → unknown_acts e kind flags value ≡ Ends (reporting e kind flags value)
+  pub skipped : highest ≡ 2 → unknown_acts e kind flags value ≡ GoesOn e
+  pub skipped_reported : highest ≡ 3 → unknown_acts e kind flags value ≡ GoesOn (reporting e kind flags value)
 
--- an unknown one that is reported where it is looked at
-abbrev pub is_told : ChunkMeaning → Bool
-is_told (Unknown kind flags value) = (chunk_rule kind).report
-is_told m = false
-
--- The chunks of a packet, by the rule.
-pub record AreByChunkRule (ms : List ChunkMeaning) : Type 0 where
-  pub acted_on : chunks_acted_on ms ≡ filter is_known_chunk (up_to stops_packet ms)
-  pub reported : chunks_reported ms ≡ filter is_told (up_to stops_packet ms)
+-- Behind one that stops nothing is looked at: whatever else stood there, the packet would leave the same and be told the same.
+abbrev pub LooksNoFurther : (kind flags : ℕ) → List ℕ → Type 0
+LooksNoFurther kind flags value =
+    (tag : ℕ) (e : EndView) (listed : Bool) (front back other : List ChunkMeaning) (t : EndView) (v : Verdict) → kind / 64 < 2 →
+    AllAct tag e listed (front ++ Unknown kind flags value ∷ back) t v → AllAct tag e listed (front ++ Unknown kind flags value ∷ other) t v
 
 -- ---- parameters
 

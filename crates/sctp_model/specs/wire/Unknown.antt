@@ -1,7 +1,6 @@
--- Types that an end doesn't know: what is still acted on and what is reported, by the two highest bits of the type (RFC 9260, 3.2
--- and 3.2.1).
+-- Types that an end doesn't know: what is still looked at and what is reported, by the two highest bits of the type (RFC 9260, 3.2 and 3.2.1).
+-- What an end does about such a chunk is told with its other chunks; of parameters it is told here.
 use Rattle.std.specs.Prelude.{ℕ, ◌-◌, ◌/◌, ◌%◌, ◌^◌, Bool, true, false, if◌then◌else◌, ◌==◌, ◌||◌, nat_lt, List, [], ◌∷◌, Option, Some, None}
-use Rattle.sctp_model.specs.wire.Chunk.{ChunkMeaning, Unknown}
 use Rattle.sctp_model.specs.wire.Typed.{Typed}
 
 -- What is done about an unknown type: nothing behind it is looked at any more, and it is reported.
@@ -20,26 +19,6 @@ chunk_rule kind = rule_of 8 kind
 -- the rule of a parameter's type, which has 16 bits
 abbrev pub parameter_rule : ℕ → RuleMeaning
 parameter_rule kind = rule_of 16 kind
-
--- ---- chunks
-
--- The chunks of a packet that are acted on: all of a known type before an unknown one that stops.
-abbrev pub chunks_acted_on : List ChunkMeaning → List ChunkMeaning
-chunks_acted_on [] = []
-chunks_acted_on (Unknown kind flags value ∷ ms) = if (chunk_rule kind).stop then [] else chunks_acted_on ms
-chunks_acted_on (m ∷ ms) = m ∷ chunks_acted_on ms
-
--- this one, where its rule says so, before others
-abbrev pub reported_before : {X : Type 0} → Bool → X → List X → List X
-reported_before true x xs = x ∷ xs
-reported_before false x xs = xs
-
--- The chunks of a packet that are reported, none behind one that stops.
-abbrev pub chunks_reported : List ChunkMeaning → List ChunkMeaning
-chunks_reported [] = []
-chunks_reported (Unknown kind flags value ∷ ms) =
-    reported_before (chunk_rule kind).report (Unknown kind flags value) (if (chunk_rule kind).stop then [] else chunks_reported ms)
-chunks_reported (m ∷ ms) = chunks_reported ms
 
 -- ---- parameters
 
@@ -63,6 +42,11 @@ acted_from x later =
 abbrev pub parameters_acted_on : List Typed → List Typed
 parameters_acted_on [] = []
 parameters_acted_on (x ∷ xs) = acted_from x (parameters_acted_on xs)
+
+-- this one, where its rule says so, before others
+abbrev pub reported_before : {X : Type 0} → Bool → X → List X → List X
+reported_before true x xs = x ∷ xs
+reported_before false x xs = xs
 
 -- what is reported from a parameter on, where so much is reported behind it
 abbrev pub reported_from : Typed → List Typed → List Typed

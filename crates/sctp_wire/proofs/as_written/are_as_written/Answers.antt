@@ -1,7 +1,7 @@
-use Rattle.std.proofs.Common.{◌≡◌, ◌==◌, true, false, ◌∙◌, sym, refl, length, arith, IsTrue}
+use Rattle.std.proofs.Common.{◌≡◌, ◌==◌, true, false, ◌∙◌, sym, refl, length, arith}
 use Rattle.std.proofs.lemmas.Grind.{common_steps}
 use Rattle.sctp_model.specs.wire.Chunk.{padded}
-use Rattle.sctp_model.specs.wire.Typed.{starts_typed, length_field, AreAsWritten}
+use Rattle.sctp_model.specs.wire.Typed.{starts_typed, length_field}
 use Rattle.sctp_model.proofs.NumberLemmas.{AreBytes-drop}
 use Rattle.sctp_wire.specs.inner.FirstAsWritten.{IsFirstAsWritten}
 use Rattle.sctp_wire.proofs.AsWrittenLemmas.{a_list, listed_at_end, behind_shorter, as_written_step, nothing_as_written}

@@ -1,4 +1,4 @@
-use Rattle.std.proofs.Common.{sym, ◌∙◌, ap, arith}
+use Rattle.std.proofs.Common.{sym, ◌∙◌, arith}
 use Rattle.std.proofs.lemmas.Grind.{common_steps}
 use Rattle.sctp_wire.proofs.StandingLemmas.{first_nothing, first_only, first_hit, first_passed}
 use Rattle.sctp_wire.proofs.read.misplaced.Goals as goal

@@ -1,5 +1,4 @@
 use Rattle.std.proofs.Common.{arith}
-use Rattle.std.proofs.lemmas.Grind.{common_steps}
 use Rattle.sctp_model.proofs.TypedLemmas.{has_first}
 use Rattle.sctp_wire.proofs.typed.split_first.Goals as goal
 
