@@ -52,7 +52,7 @@ buffers_hold s events answers w run x = holds_always Fits fits_law s events answ
 
 -- a plan with nothing in it
 nothing_planned : (f : Format) (i n k r : ℕ) (p : _) → Orderly f (fresh_sender i n k r p).plan
-nothing_planned f i n k r p = plan_stays_orderly f (fresh_sender i 1 1 r p) (Begins i 1 1 r p (omega arith) (omega arith))
+nothing_planned f i n k r p = plan_stays_orderly f (fresh_sender i 1 1 r p) (Begins i 1 1 r p (omega arith))
 
 blank_orderly : (e : EndView) → IsBlank e → Orderly (format_of e) e.sender.plan
 blank_orderly e b =

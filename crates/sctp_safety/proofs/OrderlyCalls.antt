@@ -181,7 +181,7 @@ covers : (f : Format) (v : SenderView) (c r : ℕ) (covered : ℕ → Bool) → 
 covers f v c r covered h = shadow_tuned f v v.sent (λ i. v.marked i && not (covered i)) c r covered h (λ i on. h.usual.order.marked i (and_parts (v.marked i) (not (covered i)) on).0)
 
 pub is_shadowed : (f : Format) (v : SenderView) → IsReached f v → IsShadowed f v
-is_shadowed f _ (Begins i s b r p some large) = begins f i s b r p
+is_shadowed f _ (Begins i s b r p large) = begins f i s b r p
 is_shadowed f _ (Queues v l p b u h free) = queues f v l p b u (is_set f v h).fragment (is_shadowed f v h) free
 is_shadowed f _ (Goes v room w h next may) = goes_on f v w (is_shadowed f v h) next
 is_shadowed f _ (Covers v x h none) = covers f v _ _ _ (is_shadowed f v h)

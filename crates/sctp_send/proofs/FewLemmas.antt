@@ -43,7 +43,7 @@ indexes_assigned _ v _ full h (Begun s q lt idle first) = indexes_new v q 1 h (o
 indexes_assigned _ v _ full h (Continued s e lt on) = indexes_more v e h
 
 has_indexes : (f : Format) (v : SenderView) → IsReached f v → HasIndexes v
-has_indexes f _ (Begins i s b r p some large) = λ l. omega arith
+has_indexes f _ (Begins i s b r p large) = λ l. omega arith
 has_indexes f _ (Queues v l p b u h free) = has_indexes f v h
 has_indexes f _ (Goes v room w h next may) = after_wish HasIndexes f v w (has_indexes f v h) (λ u a. indexes_assigned f v u (is_filled f v h) (has_indexes f v h) a) (λ u i k. k) next
 has_indexes f _ (Covers v x h none) = has_indexes f v h
@@ -108,7 +108,7 @@ few_assigned f v u reached h a = by_case f u a (is_promised f v reached)
     by_case _ _ (Continued s e lt on) most = h
 
 is_few : (f : Format) (v : SenderView) → IsReached f v → IsFew v
-is_few f _ (Begins i s b r p some large) = λ l. tt
+is_few f _ (Begins i s b r p large) = λ l. tt
 is_few f _ (Queues v l p b u h free) = is_few f v h
 is_few f _ (Goes v room w h next may) = after_wish IsFew f v w (is_few f v h) (λ u a. few_assigned f v u h (is_few f v h) a) (λ u i k. k) next
 is_few f _ (Covers v x h none) = is_few f v h

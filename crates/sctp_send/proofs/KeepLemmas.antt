@@ -191,10 +191,10 @@ keeps_timed f s v k =
     }
 
 -- a sender that was given nothing
-pub keeps_fresh : (f : Format) (initial streams fragment rwnd capacity : ℕ) (partial : Bool) → 0 < streams → 0 < fragment
+pub keeps_fresh : (f : Format) (initial streams fragment rwnd capacity : ℕ) (partial : Bool) → 0 < fragment
     → Keeps f (record { initial = initial; streams = streams; fragment = fragment; partial = partial; cum = 0; rwnd = rwnd; turn = 0; items = []; queue = []; tracks = replicate streams (record { ordered = 0; unordered = 0; rest = None }); fates = []; runs = Some []; capacity = capacity })
     (fresh_sender initial streams fragment rwnd partial)
-keeps_fresh f initial streams fragment rwnd capacity partial some large = record {
+keeps_fresh f initial streams fragment rwnd capacity partial large = record {
   holds = record {
     initial = refl;
     streams = refl;
@@ -210,5 +210,5 @@ keeps_fresh f initial streams fragment rwnd capacity partial some large = record
     covered = (tt, λ i some. refl);
     room = let none = sum-zero (λ j. 0) streams (λ j. refl) in omega (arith, none);
   };
-  reached = Begins initial streams fragment rwnd partial some large;
+  reached = Begins initial streams fragment rwnd partial large;
 }

@@ -28,8 +28,7 @@ abbrev pub track_meaning : ℕ → TrackFields → Track
 track_meaning size t = record { ordered = t.ordered; unordered = t.unordered; rest = rests_meaning size t.rest }
 
 -- the constants are within their limits, and all parts have fragments of the same size
-pub record IsConfigured (n size w q t : ℕ) : Type 0 where
-  pub streams : 0 < n
+pub record IsConfigured (size w q t : ℕ) : Type 0 where
   pub some : 0 < size
   pub short : size ≤ 1400
   pub window : w ≡ size

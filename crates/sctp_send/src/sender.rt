@@ -91,12 +91,12 @@ impl<F: Framing> Model for Sender<F> {
       capacity = s.outstanding.capacity;
     } };
 
-    ghost invariant = { λ s. IsConfigured s.streams s.fragment s.outstanding.size s.queue.size s.tracks.size };
+    ghost invariant = { λ s. IsConfigured s.fragment s.outstanding.size s.queue.size s.tracks.size };
 }
 
 #[tactic(auto, unfolding(crate::specs::SenderStands::StandsFor))]
 impl<F: Framing> Sender<F> {
-    /// A sender that was given nothing yet: its first TSN; how many streams it has, from 1 on; the most bytes of a fragment, 1 to 1,400 (RFC
+    /// A sender that was given nothing yet: its first TSN; how many streams it has; the most bytes of a fragment, 1 to 1,400 (RFC
     /// 9260, 6.9); the window that the peer advertised, in bytes (RFC 9260, 3.3.2); and whether messages with a number may be abandoned,
     /// which both ends must support (RFC 3758, 3.3).
     ///
@@ -110,7 +110,6 @@ impl<F: Framing> Sender<F> {
         peer_rwnd: u32,
         partial: bool,
     ) -> Result<Sender<F>, NoMemory>
-        requires streams { 0 < streams }
         requires some { 0 < fragment }
         requires short { fragment ≤ 1400 }
         ensures { IfOk result (λ sender. StandsFor F.format sender (fresh_sender initial_tsn streams fragment peer_rwnd partial)) }

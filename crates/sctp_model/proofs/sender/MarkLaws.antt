@@ -135,7 +135,7 @@ marked_timed v h = record { sent = λ i on. (by_mark i (v.marked i) refl on).0; 
         (parts.0, λ e here. let same : there.0 ≡ e = cc in subst (λ (x : Entry). is_given_up v x ≡ false) same (lost (is_given_up v there.0) wanted.1))
 
 pub is_marked_well : (f : Format) (v : SenderView) → IsReached f v → IsMarkedWell v
-is_marked_well f _ (Begins i s b r p some large) = record { sent = λ j on. absurd (cc); kept = λ j e on here. absurd (cc) }
+is_marked_well f _ (Begins i s b r p large) = record { sent = λ j on. absurd (cc); kept = λ j e on here. absurd (cc) }
 is_marked_well f _ (Queues v l p b u h free) = let k = is_marked_well f v h in record { sent = k.sent; kept = k.kept }
 is_marked_well f _ (Goes v room w h next may) =
     let k = is_marked_well f v h in

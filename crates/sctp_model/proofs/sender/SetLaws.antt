@@ -15,27 +15,26 @@ use Rattle.sctp_model.proofs.sender.AbandonCases.{after_abandon}
 -- ---- constants
 
 pub record IsSet (v : SenderView) : Type 0 where
-  pub streams : 0 < v.streams
   pub fragment : 0 < v.fragment
-  pub turn : v.turn < v.streams
+  pub turn : 0 < v.streams → v.turn < v.streams
 
 set_assigned : (f : Format) (v u : SenderView) → IsSet v → IsAssigned v f u → IsSet u
-set_assigned _ v _ h (Whole q rest is) = record { streams = h.streams; fragment = h.fragment; turn = h.turn }
-set_assigned _ v _ h (Begun s q lt on first) = let p = h.streams in record { streams = h.streams; fragment = h.fragment; turn = omega arith }
-set_assigned _ v _ h (Continued s e lt on) = let p = h.streams in record { streams = h.streams; fragment = h.fragment; turn = omega arith }
+set_assigned _ v _ h (Whole q rest is) = record { fragment = h.fragment; turn = h.turn }
+set_assigned _ v _ h (Begun s q lt on first) = record { fragment = h.fragment; turn = λ some. omega arith }
+set_assigned _ v _ h (Continued s e lt on) = record { fragment = h.fragment; turn = λ some. omega arith }
 
 pub is_set : (f : Format) (v : SenderView) → IsReached f v → IsSet v
-is_set f _ (Begins i s b r p some large) = record { streams = some; fragment = large; turn = some }
-is_set f _ (Queues v l p b u h free) = let k = is_set f v h in record { streams = k.streams; fragment = k.fragment; turn = k.turn }
+is_set f _ (Begins i s b r p large) = record { fragment = large; turn = λ some. some }
+is_set f _ (Queues v l p b u h free) = let k = is_set f v h in record { fragment = k.fragment; turn = k.turn }
 is_set f _ (Goes v room w h next may) =
     let k = is_set f v h in
-    after_wish IsSet f v w k (λ u a. set_assigned f v u k a) (λ u i x. record { streams = x.streams; fragment = x.fragment; turn = x.turn }) next
-is_set f _ (Covers v x h none) = let k = is_set f v h in record { streams = k.streams; fragment = k.fragment; turn = k.turn }
-is_set f _ (Closes v x h none) = let k = is_set f v h in record { streams = k.streams; fragment = k.fragment; turn = k.turn }
+    after_wish IsSet f v w k (λ u a. set_assigned f v u k a) (λ u i x. record { fragment = x.fragment; turn = x.turn }) next
+is_set f _ (Covers v x h none) = let k = is_set f v h in record { fragment = k.fragment; turn = k.turn }
+is_set f _ (Closes v x h none) = let k = is_set f v h in record { fragment = k.fragment; turn = k.turn }
 is_set f _ (Abandons v t h) =
     let k = is_set f v h in
-    after_abandon IsSet v t k (λ on. record { streams = k.streams; fragment = k.fragment; turn = k.turn }) (λ n is kept. record { streams = k.streams; fragment = k.fragment; turn = k.turn })
-is_set f _ (Repeats v h) = let k = is_set f v h in record { streams = k.streams; fragment = k.fragment; turn = k.turn }
+    after_abandon IsSet v t k (λ on. record { fragment = k.fragment; turn = k.turn }) (λ n is kept. record { fragment = k.fragment; turn = k.turn })
+is_set f _ (Repeats v h) = let k = is_set f v h in record { fragment = k.fragment; turn = k.turn }
 
 -- ---- what an accepted message is
 
@@ -115,7 +114,7 @@ abbrev pub IsQueueFilled : SenderView → Type 0
 IsQueueFilled v = AllFilled v.streams v.queue
 
 pub is_filled : (f : Format) (v : SenderView) → IsReached f v → AllFilled v.streams v.queue
-is_filled f _ (Begins i s b r p some large) = tt
+is_filled f _ (Begins i s b r p large) = tt
 is_filled f _ (Queues v l p b u h free) =
     let a = accepted v l.stream b free in
     filled_push v.streams v.queue _ (is_filled f v h) (cut_some v.fragment b (is_set f v h).fragment a.some) a.there

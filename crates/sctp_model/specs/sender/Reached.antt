@@ -10,7 +10,7 @@ use Rattle.sctp_model.specs.sender.Abandoning.{abandon_after, timed_out}
 
 -- One step each: a message is queued, a wish goes into a packet, a SACK or a SHUTDOWN is taken, a ticket is abandoned, the data timer expires.
 pub data IsReached (f : Format) : SenderView → Type 0 where
-  Begins : (initial streams fragment rwnd : ℕ) (partial : Bool) → 0 < streams → 0 < fragment → IsReached f (fresh_sender initial streams fragment rwnd partial)
+  Begins : (initial streams fragment rwnd : ℕ) (partial : Bool) → 0 < fragment → IsReached f (fresh_sender initial streams fragment rwnd partial)
   Queues : (v : SenderView) (lane : Lane) (payload : ℕ) (bytes : List ℕ) (until : Option ℕ) → IsReached f v → refusal v lane.stream bytes ≡ None
       → IsReached f (queued v lane payload bytes until)
   Goes : (v : SenderView) (room : ℕ) (w : Wish) → IsReached f v → next_wish f v ≡ Some w → may_go f room w ≡ true → IsReached f (gone w)

@@ -57,12 +57,12 @@ module _ (f : Format) (tsn peer_tsn outbound inbound fragment rwnd buffer : ℕ)
   pub new_is_safe : Safe f a r u
   new_is_safe = safe_always way way [] begins refl
 
-  pub new_direction : (out back : List ChunkMeaning) → peer_tsn ≡ tsn → inbound ≡ outbound → 0 < outbound → 0 < fragment → AreOpening out → AreOpening back →
+  pub new_direction : (out back : List ChunkMeaning) → peer_tsn ≡ tsn → inbound ≡ outbound → 0 < fragment → AreOpening out → AreOpening back →
       Direction f outbound a u r out back
-  new_direction out back same streams some large opening opening_back = record {
+  new_direction out back same streams large opening opening_back = record {
     bags = no_bags;
     usual = record { origin = way; started = begins; led = ([], refl); order = ordered };
-    reached = Begins tsn outbound fragment rwnd partial some large;
+    reached = Begins tsn outbound fragment rwnd partial large;
     idle = (fresh_at_rest f peer_tsn inbound buffer).idle;
     initial = same;
     outbound = refl;
@@ -81,22 +81,21 @@ blank_is_safe e p u none be bp =
     (new_is_safe (format_of e) e.terms.own_tsn p.terms.peer_tsn e.terms.outbound p.terms.inbound e.configuration.fragment be.rwnd p.configuration.buffer e.terms.partial u none))
 
 one_way : (e p : EndView) (u : Asked) (out back : List ChunkMeaning) → u.calls ≡ [] → IsBlank e → IsBlank p →
-    p.terms.peer_tsn ≡ e.terms.own_tsn → p.terms.inbound ≡ e.terms.outbound → 0 < e.terms.outbound → 0 < e.configuration.fragment → AreOpening out → AreOpening back →
+    p.terms.peer_tsn ≡ e.terms.own_tsn → p.terms.inbound ≡ e.terms.outbound → 0 < e.configuration.fragment → AreOpening out → AreOpening back →
     Direction (format_of e) e.terms.outbound e.sender u p.receiver out back
-one_way e p u out back none be bp same streams some large opening opening_back =
+one_way e p u out back none be bp same streams large opening opening_back =
     subst (λ (x : SenderView). Direction (format_of e) e.terms.outbound x u p.receiver out back) (sym be.sender)
     (subst (λ (y : ReceiverView). Direction (format_of e) e.terms.outbound (fresh_sender e.terms.own_tsn e.terms.outbound e.configuration.fragment be.rwnd e.terms.partial) u y out back) (sym bp.receiver)
     (new_direction (format_of e) e.terms.own_tsn p.terms.peer_tsn e.terms.outbound p.terms.inbound e.configuration.fragment be.rwnd p.configuration.buffer e.terms.partial u none
-    out back same streams some large opening opening_back))
+    out back same streams large opening opening_back))
 
 -- Two new ends that agree have met.
 directions_meet : (e p : EndView) (u v : Asked) (out back : List ChunkMeaning) → u.calls ≡ [] → v.calls ≡ [] → IsBlank e → IsBlank p → AreAgreed e.terms p.terms →
     has_agreed e.phase ≡ true → has_agreed p.phase ≡ true → e.moment ≤ u.clock → p.moment ≤ v.clock →
     0 < e.configuration.fragment → 0 < p.configuration.fragment → AreOpening out → AreOpening back → IsMet e p u v out back
 directions_meet e p u v out back none none_there be bp agreed phase phase_there moment moment_there large large_there opening opening_back = record {
-  going = one_way e p u out back none be bp agreed.first_tsn agreed.streams agreed.some_streams.0 large opening opening_back;
-  coming = one_way p e v back out none_there bp be (sym agreed.first_tsn_back) (sym agreed.streams_back)
-      (subst (λ (n : ℕ). 0 < n) (sym agreed.streams_back) agreed.some_streams.1) large_there opening_back opening;
+  going = one_way e p u out back none be bp agreed.first_tsn agreed.streams large opening opening_back;
+  coming = one_way p e v back out none_there bp be (sym agreed.first_tsn_back) (sym agreed.streams_back) large_there opening_back opening;
   format = ap format_for (sym agreed.interleave);
   phase = phase;
   phase_there = phase_there;
