@@ -13,7 +13,7 @@ use Rattle.sctp_model.specs.end.Arriving.{Receives, IsCutShort}
 use Rattle.sctp_model.specs.end.Building.{Builds, packet_of}
 use Rattle.sctp_model.specs.end.Moments.{ticked}
 use Rattle.sctp_model.specs.end.UserCalls.{Called, NotIdle, connect_answer, called, SendAnswer, Ticket, Refused, NotOpen, send_answer, send_leaves, abandons, abandoned_at, UserTakes, shutdown_answer, shut, abort_answer, abort_leaves}
-use Rattle.sctp_model.specs.world.World.{Side, A, B, other, Log, World, end_of, bag_of, log_of, with_end, with_packet, with_log, end_now, came, logged}
+use Rattle.sctp_model.specs.world.World.{Side, A, B, other, Log, World, end_of, bag_of, log_of, with_end, with_packet, with_log, end_now, came, logged, logged_one}
 use Rattle.sctp_model.specs.world.Events.{Event, OpenBoth, At, Drawing, Connect, Build, Deliver, Foreign, Send, Abandon, Take, Shutdown, Abort, brings_packet, Outcome, Done, RefusedState, Sent, Quiet, Absent, Told, Fate, next_number, told, with_verdict, abort_told, with_abort, shutdown_told, message_told}
 
 -- ---- logs
@@ -65,7 +65,7 @@ pub data Step (w : World) : Event → Option Outcome → World → Type 0 where
   Sends : (s : Side) (c : Call) → Step w (Send s c) (Some (Told (send_answer (end_of w s) c)))
       (with_log (with_end w s (send_leaves (send_answer (end_of w s) c) (end_of w s) c)) s (accepted w s (send_answer (end_of w s) c) c))
   AbandonsOne : (s : Side) (k : ℕ) → Step w (Abandon s k) (Some (Fate (abandons (end_of w s) k)))
-      (with_log (with_end w s (abandoned_at (end_of w s) k)) s (named_at (logged w s (abandoned_at (end_of w s) k)) k))
+      (with_log (with_end w s (abandoned_at (end_of w s) k)) s (named_at (logged_one w s k (abandoned_at (end_of w s) k)) k))
   TakesOne : (s : Side) (n : ℕ) (h : Option Handed) (t : EndView) → UserTakes (end_of w s) n h t →
       Step w (Take s n) (Some (message_told h)) (with_end w s t)
   ShutsDown : (s : Side) → Step w (Shutdown s) (Some (shutdown_told (shutdown_answer (end_of w s).phase))) (with_end w s (shut (end_of w s)))

@@ -80,19 +80,26 @@ came w B e = record w { b = e; openable = false }
 
 -- ---- the order of abandoning
 
--- the tickets from 1 to n of messages that were abandoned between two views of their sender, rising
-abbrev pub newly_abandoned : SenderView → SenderView → ℕ → List ℕ
+-- the ticket, where its message was abandoned between two views of its sender
+abbrev pub if_newly_abandoned : SenderView → SenderView → (ticket : ℕ) → List ℕ
+if_newly_abandoned v u t = if abandoned u t && not (abandoned v t) then t ∷ [] else []
+
+-- those from 1 to n, rising
+abbrev pub newly_abandoned : SenderView → SenderView → (n : ℕ) → List ℕ
 newly_abandoned v u zero = []
-newly_abandoned v u (suc n) =
-    newly_abandoned v u n ++ (if abandoned u (suc n) && not (abandoned v (suc n)) then suc n ∷ [] else [])
+newly_abandoned v u (suc n) = newly_abandoned v u n ++ if_newly_abandoned v u (suc n)
 
--- a log that goes on with them
-abbrev pub with_order : Log → SenderView → SenderView → Log
-with_order l v u = record l { order = l.order ++ newly_abandoned v u u.tickets }
+-- a log that goes on with these tickets
+abbrev pub with_order : Log → List ℕ → Log
+with_order l tickets = record l { order = l.order ++ tickets }
 
--- the log of an end that a moment or a call of `abandon` left so
+-- the log of an end that a moment left so, which may be too late for any of its messages
 abbrev pub logged : World → Side → EndView → Log
-logged w s t = with_order (log_of w s) (end_of w s).sender t.sender
+logged w s t = with_order (log_of w s) (newly_abandoned (end_of w s).sender t.sender t.sender.tickets)
+
+-- the log of an end that a call of `abandon` left so, which abandons the message of its ticket alone
+abbrev pub logged_one : World → Side → (ticket : ℕ) → EndView → Log
+logged_one w s k t = with_order (log_of w s) (if_newly_abandoned (end_of w s).sender t.sender k)
 
 -- ---- START
 

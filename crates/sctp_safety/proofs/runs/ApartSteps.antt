@@ -12,7 +12,7 @@ use Rattle.sctp_model.specs.end.Arriving.{AllAct, Arrives, Elsewhere, NotOurs, S
 use Rattle.sctp_model.specs.end.Building.{Builds, packet_of}
 use Rattle.sctp_model.specs.end.Moments.{ticked}
 use Rattle.sctp_model.specs.end.UserCalls.{called, abandoned_at, shut, abort_answer, abort_leaves}
-use Rattle.sctp_model.specs.world.World.{Side, A, B, World, end_of, bag_of, log_of, with_end, end_now, came, logged, Setup}
+use Rattle.sctp_model.specs.world.World.{Side, A, B, World, end_of, bag_of, log_of, with_end, end_now, came, logged, logged_one, Setup}
 use Rattle.sctp_model.specs.world.Events.{Event, with_verdict, Outcome}
 use Rattle.sctp_model.specs.world.Steps.{named_at, Step, OpensBoth, OpenRefused, TimePasses, Draws, Connects, ConnectRefused, BuildsOne, BuildsNone, PacketComes, IsAbsent, Sends, AbandonsOne, TakesOne, ShutsDown, AbortsIt, NoMemory, PacketCut}
 use Rattle.sctp_model.specs.world.Premises.{asked_at}
@@ -166,7 +166,7 @@ module _ (s : Setup) (drawn : List ℕ) (w : World) (opening : IsOpening s drawn
   apart_step caller e o v fine (PacketComes _ x _ _ _ brings DroppedUnread) = inl (apart_came w x (end_now w x) k (now_unmet w x k) (stands_now w x k))
   apart_step caller e o v fine (Sends x c) = inl (apart_sent w x c k)
   apart_step caller e o v fine (AbandonsOne x n) =
-      inl (apart_log (with_end w x (abandoned_at (end_of w x) n)) x (named_at (logged w x (abandoned_at (end_of w x) n)) n) (k.calls x)
+      inl (apart_log (with_end w x (abandoned_at (end_of w x) n)) x (named_at (logged_one w x n (abandoned_at (end_of w x) n)) n) (k.calls x)
       (apart_end w x (abandoned_at (end_of w x) n) k (waits_abandoned w.clock (end_of w x) n (k.ends x)) (stands_on w x _ k (plain_abandoned (end_of w x) n).turn)))
   apart_step caller e o v fine (TakesOne x n h t takes) =
       inl (apart_end w x t k (waits_taken w.clock (end_of w x) n h t (k.ends x) takes) (stands_on w x t.phase k (plain_taken (end_of w x) n h t takes).turn))

@@ -7,7 +7,7 @@ use Rattle.sctp_model.specs.end.EndView.{EndView}
 use Rattle.sctp_model.specs.end.Strays.{Verdict, Taken, Dropped, Answer}
 use Rattle.sctp_model.specs.end.Moments.{ticked}
 use Rattle.sctp_model.specs.end.UserCalls.{SendAnswer, Ticket, Refused, NotOpen, send_answer, send_leaves, abandoned_at, AbortAnswer, Aborts, NoPeer, TooLong, peer_tag, abort_packet, abort_answer_to, abort_answer}
-use Rattle.sctp_model.specs.world.World.{Side, A, B, other, Log, World, end_of, bag_of, with_end, with_packet, with_log, end_now, came, logged}
+use Rattle.sctp_model.specs.world.World.{Side, A, B, other, Log, World, end_of, bag_of, with_end, with_packet, with_log, end_now, came, logged, logged_one}
 use Rattle.sctp_model.specs.world.Events.{with_verdict, with_abort}
 use Rattle.sctp_model.specs.world.Steps.{accepted, named_at}
 use Rattle.sctp_model.specs.world.Premises.{asked_at}
@@ -139,7 +139,7 @@ sent_at w B c m = go (send_answer w.b c) (pair_sent w.b w.a (asked_at w B) (aske
     go NotOpen k = k
 
 pub abandoned_there : (w : World) (x : Side) (k : ℕ) → MetAt w x →
-    MetAt (with_log (with_end w x (abandoned_at (end_of w x) k)) x (named_at (logged w x (abandoned_at (end_of w x) k)) k)) x
+    MetAt (with_log (with_end w x (abandoned_at (end_of w x) k)) x (named_at (logged_one w x k (abandoned_at (end_of w x) k)) k)) x
 abandoned_there w A k m = pair_abandoned w.a w.b (asked_at w A) (asked_at w B) (chunks_in w.from_a) (chunks_in w.from_b) k m
 abandoned_there w B k m = pair_abandoned w.b w.a (asked_at w B) (asked_at w A) (chunks_in w.from_b) (chunks_in w.from_a) k m
 
