@@ -2,7 +2,7 @@
 use Rattle.std.proofs.Common.{◌≡◌, ℕ, zero, suc, ◌+◌, ◌-◌, ◌^◌, ◌<◌, ◌≤◌, ◌⊎◌, max, ◌||◌, nat_le, true, false, List, [], length, Some, inl, inr, refl, sym, subst, ap, arith, ◌∙◌, le_refl}
 use Rattle.std.proofs.lemmas.Bool.{cases_lt, or_parts}
 use Rattle.sctp_model.specs.numbers.Lists.{Has}
-use Rattle.sctp_model.specs.numbers.Serial.{COUNTS, tsn, ahead, half_space}
+use Rattle.sctp_model.specs.numbers.Serial.{COUNTS, IsWithinHalf, tsn, ahead, half_space}
 use Rattle.sctp_model.specs.wire.Chunk.{ForwardMeaning}
 use Rattle.sctp_model.specs.messages.Format.{Format, Plain, Interleaved, Kind, Ordered, Unordered, Lane, is_numbered, ordered_lane, unordered_lane}
 use Rattle.sctp_model.specs.messages.Framing.{wire_number, number_near}
@@ -18,21 +18,21 @@ use Rattle.sctp_model.proofs.receiver.Giving.{IsGiving, all_served}
 use Rattle.sctp_model.proofs.receiver.ForwardAtRest.{moved_idle, let_go_is}
 use Rattle.sctp_safety.specs.Way.{Way, IsSkippedBy, Forward_comes, Let_go, with_receiver}
 use Rattle.sctp_safety.specs.SenderLaws.{IsUsual}
-use Rattle.sctp_safety.specs.ReceiverLaws.{IsJoined, IsCounted, IsReceived, IsForwardSaid, ForwardTakenIsMoves}
-use Rattle.sctp_safety.proofs.Facts.{Good, IsSendersForward, IsLostBy, MayPass}
-use Rattle.sctp_safety.proofs.Basics.{item_at-within}
+use Rattle.sctp_safety.specs.ReceiverLaws.{IsJoined, IsCounted, IsIndexNear, IsNumberNear, IsReceived, IsForwardSaid, ForwardTakenIsMoves}
+use Rattle.sctp_safety.proofs.Facts.{Good, IsSendersForward, MayPass}
 use Rattle.sctp_safety.proofs.Taken.{leads_on, leads_by, giving_all_is_moves}
 use Rattle.sctp_safety.proofs.UsualLemmas.{good_usual}
 use Rattle.sctp_safety.proofs.NearReads.{ahead_is, near_16, near_32}
 use Rattle.sctp_safety.proofs.WaitedFor.{not_far_above, begun_below, not_far_below}
-use Rattle.sctp_safety.proofs.ReadBounds.{cumulative_within, cum_within, passed_within, skip_within, next_within}
+use Rattle.sctp_safety.proofs.ReadBounds.{cum_within, passed_within}
 use Rattle.sctp_safety.proofs.PieceAnswers.{ahead_of}
 use Rattle.sctp_safety.proofs.SkipReads.{ReadsSkip, counting, read_again, counting_skips}
 
 -- ---- the answer
 
 module _ (w : Way) (m : ForwardMeaning) (usual : IsUsual w) (joined : IsJoined w) (counted : IsCounted w.sender) (idle : IsIdle w.format w.receiver)
-    (said : IsForwardSaid w.format w.sender.initial w.sender.plan w.forwards m) where
+    (said : IsForwardSaid w.format w.sender.initial w.sender.plan w.forwards m) (near : IsIndexNear w.receiver said.forward.point)
+    (numbers_near : w.format ≡ Interleaved → (y : Skip) → Has said.forward.skips y → IsNumberNear w.receiver y.lane y.number) where
   g : Good w
   g = good_usual w usual
 
@@ -41,17 +41,6 @@ module _ (w : Way) (m : ForwardMeaning) (usual : IsUsual w) (joined : IsJoined w
 
   fair : IsSendersForward w.format w.sender w.receiver x
   fair = g.between.forwards x said.put
-
-  point_within : x.point ≤ length w.sender.plan.entries
-  point_within = go x.point refl
-    where
-      by : (i : ℕ) → (w.receiver.seen i ≡ true) ⊎ IsLostBy w.format w.sender w.receiver x.skips i → i ≤ length w.sender.plan.entries
-      by i (inl s) = let y = g.held.seen i s in item_at-within w.sender.plan.entries i _ y.here
-      by i (inr y) = item_at-within w.sender.plan.entries i _ y.here
-
-      go : (i : ℕ) → x.point ≡ i → i ≤ length w.sender.plan.entries
-      go zero e = omega arith
-      go (suc i) e = by (suc i) (fair.upto (suc i) (omega arith) (omega (arith, e)))
 
   index_read : (c : ℕ) → IsCumulative w.receiver c → is_behind w.receiver c m.cumulative ≡ false → (index_at w.receiver c m.cumulative ≡ x.point) × (c < x.point)
   index_read c cumulative new = (index, past)
@@ -64,11 +53,8 @@ module _ (w : Way) (m : ForwardMeaning) (usual : IsUsual w) (joined : IsJoined w
 
       index : index_at w.receiver c m.cumulative ≡ x.point
       index =
-          let t = counted.total in
-          let a = cumulative_within w g c cumulative in
-          let b = point_within in
           subst (λ (y : ℕ). c + ahead 32 (tsn w.receiver.initial c) y ≡ x.point) (sym wire)
-          (ahead_is w.receiver.initial c x.point (omega (arith, a, t)) (omega (arith, b, t))
+          (ahead_is w.receiver.initial c x.point (near c cumulative)
           (subst (λ (y : ℕ). nat_le (half_space 32) (ahead 32 (tsn w.receiver.initial c) y) ≡ false) wire new_tsn.1))
 
       past : c < x.point
@@ -127,22 +113,26 @@ module _ (w : Way) (m : ForwardMeaning) (usual : IsUsual w) (joined : IsJoined w
 
   -- each number listed is read again
   skip_reads : (c : ℕ) → IsCumulative w.receiver c → c < x.point → (y : Skip) → Has x.skips y → ReadsSkip w.format w.receiver y
-  skip_reads c cumulative past y has = go w.format y.lane.kind refl (fair.numbered y has)
+  skip_reads c cumulative past y has = go w.format refl y.lane.kind refl (fair.numbered y has)
     where
       low : y.number < length w.sender.plan.entries
       low = passed_within w g y.lane y.number (fair.listed y has y.number (le_refl y.number))
 
       small : y.number < COUNTS - 1
-      small = let t = counted.total in let l = low in omega (arith, l, t)
+      small = let t = counted.counts in let l = low in omega (arith, l, t)
 
-      far : (r : ℕ) → r ≤ length w.sender.plan.entries → number_near Interleaved Ordered (wire_number Interleaved Ordered y.number) r ≡ Some y.number
-      far r b = let t = counted.total in let l = low in near_32 y.number r (omega (arith, l, t)) (omega (arith, b, t)) small
+      far : (r : ℕ) → IsWithinHalf 32 y.number r → number_near Interleaved Ordered (wire_number Interleaved Ordered y.number) r ≡ Some y.number
+      far r half = near_32 y.number r half.not_above half.not_below small
 
-      go : (f : Format) (k : Kind) → y.lane.kind ≡ k → is_numbered f k ≡ true → number_near f k (wire_number f k y.number) (reference_in w.receiver y.lane.stream k) ≡ Some y.number
-      go Plain Ordered e num = ordered_reads c cumulative past y has (ap (λ (k : Kind). record { stream = y.lane.stream; kind = k }) e) small
-      go Plain Unordered e num = absurd (cc)
-      go Interleaved Ordered e num = far (w.receiver.next y.lane.stream) (next_within w g y.lane.stream)
-      go Interleaved Unordered e num = far (w.receiver.skip (unordered_lane y.lane.stream)) (skip_within w g (unordered_lane y.lane.stream))
+      -- the count that a number of this kind is read near
+      close : (k : Kind) → y.lane.kind ≡ k → w.format ≡ Interleaved → IsWithinHalf 32 y.number (reference_in w.receiver y.lane.stream k)
+      close k e f = subst (λ (q : Kind). IsWithinHalf 32 y.number (reference_in w.receiver y.lane.stream q)) e (numbers_near f y has)
+
+      go : (f : Format) → w.format ≡ f → (k : Kind) → y.lane.kind ≡ k → is_numbered f k ≡ true → number_near f k (wire_number f k y.number) (reference_in w.receiver y.lane.stream k) ≡ Some y.number
+      go Plain ef Ordered e num = ordered_reads c cumulative past y has (ap (λ (k : Kind). record { stream = y.lane.stream; kind = k }) e) small
+      go Plain ef Unordered e num = absurd (cc)
+      go Interleaved ef Ordered e num = far (w.receiver.next y.lane.stream) (close Ordered e ef)
+      go Interleaved ef Unordered e num = far (w.receiver.skip (unordered_lane y.lane.stream)) (close Unordered e ef)
 
   same : IsReceived w w.receiver
   same = record { leads = ([], refl); idle = idle; initial = refl; streams = refl; buffer = refl }
@@ -200,4 +190,4 @@ module _ (w : Way) (m : ForwardMeaning) (usual : IsUsual w) (joined : IsJoined w
       moved taken.c t taken.cumulative (index_read taken.c taken.cumulative new.0) parts.1 taken.leaves
 
 pub forward_taken_is_moves : ForwardTakenIsMoves
-forward_taken_is_moves w m a t usual joined counted idle said taken = received w m usual joined counted idle said a t taken
+forward_taken_is_moves w m a t usual joined counted idle said near numbers taken = received w m usual joined counted idle said near numbers a t taken

@@ -3,15 +3,15 @@ use Rattle.std.proofs.Common.{◌≡◌, ℕ, ◌+◌, ◌-◌, ◌^◌, ◌%◌
 use Rattle.std.specs.Prelude.{if◌then◌else◌}
 use Rattle.std.proofs.lemmas.Bool.{cases_lt, lt-ltb, le-leb}
 use Rattle.std.proofs.lemmas.Bool.Decides.{nat_tests}
-use Rattle.sctp_model.specs.numbers.Serial.{COUNTS, wire_value, tsn, ahead, half_space, as_count, near}
+use Rattle.sctp_model.specs.numbers.Serial.{COUNTS, IsWithinHalf, wire_value, tsn, ahead, half_space, as_count, near}
 use Rattle.sctp_model.specs.messages.Framing.{as_number}
 
 -- ---- TSNs
 
--- A TSN that lies ahead of that of c by less than half the space is read as its index.
-pub ahead_is : (initial c i : ℕ) → c < 2 ^ 31 → i < 2 ^ 31 → nat_le (half_space 32) (ahead 32 (tsn initial c) (tsn initial i)) ≡ false →
+-- A TSN that lies ahead of that of c by less than half the space is read as its index, where the index itself lies no further away.
+pub ahead_is : (initial c i : ℕ) → IsWithinHalf 32 i c → nat_le (half_space 32) (ahead 32 (tsn initial c) (tsn initial i)) ≡ false →
     c + ahead 32 (tsn initial c) (tsn initial i) ≡ i
-ahead_is initial c i low high fresh = grind (arith, nat_tests, low, high, fresh)
+ahead_is initial c i near fresh = let above = near.not_above in let below = near.not_below in grind (arith, nat_tests, above, below, fresh)
 
 -- ---- SSNs and MIDs
 

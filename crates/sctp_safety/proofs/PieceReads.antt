@@ -2,7 +2,7 @@
 use Rattle.std.proofs.Common.{◌≡◌, ℕ, suc, ◌+◌, ◌-◌, ◌^◌, ◌<◌, ◌≤◌, ◌⊎◌, nat_le, true, false, [], length, Option, Some, None, inl, inr, refl, sym, subst, ap, arith, ◌∙◌}
 use Rattle.std.specs.Prelude.{if◌then◌else◌}
 use Rattle.std.proofs.lemmas.Bool.{cases_lt, cases_Bool}
-use Rattle.sctp_model.specs.numbers.Serial.{COUNTS, tsn, ahead, half_space}
+use Rattle.sctp_model.specs.numbers.Serial.{COUNTS, IsWithinHalf, tsn, ahead, half_space}
 use Rattle.sctp_model.specs.wire.Chunk.{PieceMeaning}
 use Rattle.sctp_model.specs.messages.Format.{Format, Plain, Interleaved, Kind, Ordered, Unordered, Lane, is_numbered, ordered_lane, unordered_lane}
 use Rattle.sctp_model.specs.messages.Framing.{lane_kind, wire_number, number_near}
@@ -19,9 +19,8 @@ use Rattle.sctp_model.proofs.receiver.AtRest.{takes_giving}
 use Rattle.sctp_model.proofs.receiver.OneKept.{takes_idle}
 use Rattle.sctp_safety.specs.Way.{Way, Note_duplicates, with_receiver}
 use Rattle.sctp_safety.specs.SenderLaws.{IsUsual}
-use Rattle.sctp_safety.specs.ReceiverLaws.{IsJoined, IsCounted, IsReceived, IsPieceSaid, PieceTakenIsMoves}
+use Rattle.sctp_safety.specs.ReceiverLaws.{IsJoined, IsCounted, IsIndexNear, IsNumberNear, IsReceived, IsPieceSaid, PieceTakenIsMoves}
 use Rattle.sctp_safety.proofs.Facts.{Good}
-use Rattle.sctp_safety.proofs.Basics.{item_at-within}
 use Rattle.sctp_safety.proofs.OneMessage.{number_counts}
 use Rattle.sctp_safety.proofs.Settled.{all_numbered}
 use Rattle.sctp_safety.proofs.Taken.{leads_by, taking_is_moves}
@@ -29,7 +28,7 @@ use Rattle.sctp_safety.proofs.Built.{passing_is_moves}
 use Rattle.sctp_safety.proofs.UsualLemmas.{good_usual}
 use Rattle.sctp_safety.proofs.NearReads.{ahead_is, near_16, near_32}
 use Rattle.sctp_safety.proofs.WaitedFor.{not_far_above, not_far_below}
-use Rattle.sctp_safety.proofs.ReadBounds.{cumulative_within, cum_within, number_within, skip_within, next_within}
+use Rattle.sctp_safety.proofs.ReadBounds.{cum_within, number_within}
 use Rattle.sctp_safety.proofs.PieceAnswers.{ahead_of, fresh_is, no_stream_is, passed_is, passed_by}
 
 -- ---- the number
@@ -65,18 +64,22 @@ ordered_reads w c i n s e g idle counted cumulative past here of small = near_16
 
 -- The number of an entry past the cumulative index is read again, where the format has one.
 pub number_reads : (w : Way) (c i : ℕ) (l : Lane) (n k : ℕ) (m : Message) → Good w → IsIdle w.format w.receiver → IsCounted w.sender → IsCumulative w.receiver c → c < i →
-    entry_at w.sender.plan i ≡ Some (Part l n k) → message_at w.sender.plan l n ≡ Some m →
+    entry_at w.sender.plan i ≡ Some (Part l n k) → message_at w.sender.plan l n ≡ Some m → (w.format ≡ Interleaved → IsNumberNear w.receiver l n) →
     number_near w.format l.kind (wire_number w.format l.kind n) (reference_in w.receiver l.stream l.kind) ≡ number_of w.format l n
-number_reads w c i l n k m g idle counted cumulative past here named = go w.format refl l.kind refl
+number_reads w c i l n k m g idle counted cumulative past here named near = go w.format refl l.kind refl
   where
     low : n < length w.sender.plan.entries
     low = number_within w g l n m named
 
     small : n < COUNTS - 1
-    small = let t = counted.total in omega (arith, low, t)
+    small = let t = counted.counts in omega (arith, low, t)
 
-    far : (r : ℕ) → r ≤ length w.sender.plan.entries → number_near Interleaved Ordered (wire_number Interleaved Ordered n) r ≡ Some n
-    far r b = let t = counted.total in near_32 n r (omega (arith, low, t)) (omega (arith, b, t)) small
+    far : (r : ℕ) → IsWithinHalf 32 n r → number_near Interleaved Ordered (wire_number Interleaved Ordered n) r ≡ Some n
+    far r half = near_32 n r half.not_above half.not_below small
+
+    -- the count that a number of this kind is read near
+    close : (q : Kind) → l.kind ≡ q → w.format ≡ Interleaved → IsWithinHalf 32 n (reference_in w.receiver l.stream q)
+    close q e f = subst (λ (y : Kind). IsWithinHalf 32 n (reference_in w.receiver l.stream y)) e (near f)
 
     lane : (q : Kind) → l.kind ≡ q → l ≡ record { stream = l.stream; kind = q }
     lane q e = ap (λ (y : Kind). record { stream = l.stream; kind = y }) e
@@ -85,8 +88,8 @@ number_reads w c i l n k m g idle counted cumulative past here named = go w.form
         number_near f q (wire_number f q n) (reference_in w.receiver l.stream q) ≡ (if is_numbered f q then Some n else None)
     go Plain ef Ordered eq = ordered_reads w c i n l.stream (Part l n k) g idle counted cumulative past here (lane Ordered eq, refl) small
     go Plain ef Unordered eq = refl
-    go Interleaved ef Ordered eq = far (w.receiver.next l.stream) (next_within w g l.stream)
-    go Interleaved ef Unordered eq = far (w.receiver.skip (unordered_lane l.stream)) (skip_within w g (unordered_lane l.stream))
+    go Interleaved ef Ordered eq = far (w.receiver.next l.stream) (close Ordered eq ef)
+    go Interleaved ef Unordered eq = far (w.receiver.skip (unordered_lane l.stream)) (close Unordered eq ef)
 
 -- ---- the chunk
 
@@ -117,7 +120,7 @@ unnumbered_kept Plain r x e = rw e refl
 unnumbered_kept Interleaved r x e = absurd (let h = all_numbered x.lane.kind in cc)
 
 module _ (w : Way) (p : PieceMeaning) (usual : IsUsual w) (joined : IsJoined w) (counted : IsCounted w.sender) (idle : IsIdle w.format w.receiver)
-    (said : IsPieceSaid w.format w.sender.initial w.pieces p) where
+    (said : IsPieceSaid w.format w.sender.initial w.pieces p) (near : IsIndexNear w.receiver said.index) (number_near_by : w.format ≡ Interleaved → IsNumberNear w.receiver said.lane said.number) where
   g : Good w
   g = good_usual w usual
 
@@ -135,9 +138,6 @@ module _ (w : Way) (p : PieceMeaning) (usual : IsUsual w) (joined : IsJoined w) 
       let b = number_counts w.format said.lane fragment.number e in
       cc
 
-  index_within : said.index ≤ length w.sender.plan.entries
-  index_within = item_at-within w.sender.plan.entries said.index _ fragment.here
-
   wire : p.tsn ≡ tsn w.receiver.initial said.index
   wire = ap (λ (y : PieceMeaning). y.tsn) said.same ∙ ap (λ (i : ℕ). tsn i said.index) (sym joined.initial)
 
@@ -150,11 +150,8 @@ module _ (w : Way) (p : PieceMeaning) (usual : IsUsual w) (joined : IsJoined w) 
 
       index : index_at w.receiver c p.tsn ≡ said.index
       index =
-          let t = counted.total in
-          let a = cumulative_within w g c cumulative in
-          let b = index_within in
           subst (λ (y : ℕ). c + ahead 32 (tsn w.receiver.initial c) y ≡ said.index) (sym wire)
-          (ahead_is w.receiver.initial c said.index (omega (arith, a, t)) (omega (arith, b, t))
+          (ahead_is w.receiver.initial c said.index (near c cumulative)
           (subst (λ (y : ℕ). nat_le (half_space 32) (ahead 32 (tsn w.receiver.initial c) y) ≡ false) wire new_tsn.1))
 
       past : c < said.index
@@ -172,7 +169,8 @@ module _ (w : Way) (p : PieceMeaning) (usual : IsUsual w) (joined : IsJoined w) 
 
       number : (is_numbered w.format said.lane.kind ≡ true) ⊎ (is_numbered w.format said.lane.kind ≡ false) → Reads said.number
       number (inl e) = subst Reads (same_number_said e)
-          (number_reads w c said.index said.lane fragment.number fragment.fragment fragment.message g idle counted cumulative (index_read c cumulative new).1 fragment.here fragment.named)
+          (number_reads w c said.index said.lane fragment.number fragment.fragment fragment.message g idle counted cumulative (index_read c cumulative new).1 fragment.here fragment.named
+          (λ f. subst (λ (n : ℕ). IsWithinHalf 32 n (reference_in w.receiver said.lane.stream said.lane.kind)) (sym (same_number_said e)) (number_near_by f)))
       number (inr e) = none w.format said.lane.kind e
         where
           none : (f : Format) (k : Kind) → is_numbered f k ≡ false →
@@ -241,4 +239,4 @@ module _ (w : Way) (p : PieceMeaning) (usual : IsUsual w) (joined : IsJoined w) 
       }
 
 pub piece_taken_is_moves : PieceTakenIsMoves
-piece_taken_is_moves w p a t usual joined counted idle said taken = received w p usual joined counted idle said a t taken
+piece_taken_is_moves w p a t usual joined counted idle said near number taken = received w p usual joined counted idle said near number a t taken

@@ -2,7 +2,7 @@
 use Rattle.std.proofs.Common.{◌≡◌, ℕ, ◌+◌, ◌^◌, ◌<◌, not, ◌||◌, nat_le, false, Bool, List, [], ◌∷◌, Option, None, refl, sym, subst, arith}
 use Rattle.std.proofs.lemmas.Bool.{and_parts}
 use Rattle.std.proofs.lemmas.Bool.Decides.{nat_tests}
-use Rattle.sctp_model.specs.numbers.Serial.{tsn, ahead, before}
+use Rattle.sctp_model.specs.numbers.Serial.{IsWithinHalf, tsn, ahead, before}
 use Rattle.sctp_model.specs.wire.Chunk.{BlockMeaning}
 use Rattle.sctp_model.specs.sender.SenderView.{SenderView}
 use Rattle.sctp_model.specs.messages.Acknowledgement.{covers}
@@ -18,16 +18,16 @@ use Rattle.sctp_safety.proofs.UsualLemmas.{retuned, order_fewer}
 -- ---- the index that a TSN is read as
 
 -- A TSN that isn't behind that of CUM is read as its index.
-pub index_read : (initial c i : ℕ) → c < 2 ^ 31 → i < 2 ^ 31 → before 32 (tsn initial i) (tsn initial c) ≡ false → c + ahead 32 (tsn initial c) (tsn initial i) ≡ i
-index_read initial c i low high fresh = grind (arith, nat_tests, low, high, fresh)
+pub index_read : (initial c i : ℕ) → IsWithinHalf 32 i c → before 32 (tsn initial i) (tsn initial c) ≡ false → c + ahead 32 (tsn initial c) (tsn initial i) ≡ i
+index_read initial c i near fresh = let above = near.not_above in let below = near.not_below in grind (arith, nat_tests, above, below, fresh)
 
 -- what has no fault isn't stale
 is_fresh : (v : SenderView) (wire : ℕ) (others : List (Option SackFault)) → first_there (when (is_stale v wire) Stale ∷ others) ≡ None → is_stale v wire ≡ false
 is_fresh v wire others none = when_absent (is_stale v wire) Stale (of_none (when (is_stale v wire) Stale) (first_there others) none).0
 
-read_as : (v : SenderView) (i wire : ℕ) → wire ≡ tsn v.initial i → v.cum < 2 ^ 31 → i < 2 ^ 31 → is_stale v wire ≡ false → index_of v wire ≡ i
-read_as v i wire is low high fresh =
-    subst (λ (t : ℕ). index_of v t ≡ i) (sym is) (index_read v.initial v.cum i low high (subst (λ (t : ℕ). is_stale v t ≡ false) is fresh))
+read_as : (v : SenderView) (i wire : ℕ) → wire ≡ tsn v.initial i → IsWithinHalf 32 i v.cum → is_stale v wire ≡ false → index_of v wire ≡ i
+read_as v i wire is near fresh =
+    subst (λ (t : ℕ). index_of v t ≡ i) (sym is) (index_read v.initial v.cum i near (subst (λ (t : ℕ). is_stale v t ≡ false) is fresh))
 
 -- ---- the moves
 
@@ -47,17 +47,17 @@ acknowledged w cum covered rwnd usual led = record {
     after = with_sender w (record (covered_by w.sender cum covered) { rwnd = rwnd })
 
 pub sack_is_moves : SackIsMoves
-sack_is_moves w a s usual has of low high none =
+sack_is_moves w a s usual has of near none =
     subst (λ (i : ℕ). IsMoved w (with_sender w (record (covered_by w.sender i (sack_covers i s.blocks)) { rwnd = s.rwnd }))) (sym read)
     (subst (λ (bs : List BlockMeaning). IsMoved w (with_sender w (record (covered_by w.sender a.cum (sack_covers a.cum bs)) { rwnd = s.rwnd }))) (sym of.blocks)
     (acknowledged w a.cum (covers a) s.rwnd usual (leads_by w _ (Sack_comes a) (has, omega (arith, read), refl))))
   where
     read : index_of w.sender s.cumulative ≡ a.cum
-    read = read_as w.sender a.cum s.cumulative of.cumulative low high
+    read = read_as w.sender a.cum s.cumulative of.cumulative near
         (is_fresh w.sender s.cumulative (when (is_beyond w.sender (index_of w.sender s.cumulative) s.blocks) Beyond ∷ when (some_is_bad 0 s.blocks) BadBlock ∷ []) none)
 
 pub shutdown_is_moves : ShutdownIsMoves
-shutdown_is_moves w c usual has low high none =
+shutdown_is_moves w c usual has near none =
     subst (λ (i : ℕ). IsMoved w (with_sender w (covered_by w.sender i (λ j. nat_le j i || w.sender.covered j)))) (sym read)
     (acknowledged w c (λ j. nat_le j c || w.sender.covered j) w.sender.rwnd usual (leads_by w _ (Shutdown_comes c) (has, omega (arith, read), refl)))
   where
@@ -65,4 +65,4 @@ shutdown_is_moves w c usual has low high none =
     wire = tsn w.sender.initial c
 
     read : index_of w.sender wire ≡ c
-    read = read_as w.sender c wire refl low high (is_fresh w.sender wire (when (is_beyond w.sender (index_of w.sender wire) []) Beyond ∷ []) none)
+    read = read_as w.sender c wire refl near (is_fresh w.sender wire (when (is_beyond w.sender (index_of w.sender wire) []) Beyond ∷ []) none)

@@ -19,7 +19,7 @@ use Rattle.sctp_model.proofs.sender.ForwardLaws.{forward_is_forward, named_at}
 use Rattle.sctp_model.proofs.sender.CountLaws.{is_named}
 use Rattle.sctp_model.proofs.sender.AbandonedLaws.{filling_abandons_none, sack_abandons_none, shutdown_abandons_none, abandons_by_ticket, expires_past_alone}
 use Rattle.sctp_safety.specs.Way.{with_sender}
-use Rattle.sctp_safety.specs.SenderCalls.{SameAbandoned, AbandonedOnlyAsked, EachCallHasOneResult, DrainedIsTold}
+use Rattle.sctp_safety.specs.SenderCalls.{SameAbandoned, AbandonedOnlyAsked, EachViewHasOneFill, EachCallHasOneResult, DrainedIsTold}
 use Rattle.sctp_safety.proofs.Facts.{Good}
 use Rattle.sctp_safety.proofs.PlanLemmas.{assigned_below}
 use Rattle.sctp_safety.proofs.InPart.{idle_closed, goes_on_with, not_closed}
@@ -113,10 +113,14 @@ one_forward f v p x y hx hy =
 pub one_point : (v : SenderView) (p q : ℕ) → IsPoint v p → IsPoint v q → p ≡ q
 one_point v p q a b = let low = b.largest p a.from a.abandoned in let high = a.largest q b.from b.abandoned in omega (arith, low, high)
 
-pub each_call_has_one_result : EachCallHasOneResult
-each_call_has_one_result f v h = record {
+pub each_view_has_one_fill : EachViewHasOneFill
+each_view_has_one_fill f v = record {
   fill_is = λ room. fill_is_fill f room v;
   fill_one = λ room ws u is. one_fill f v u (fill f room v).view room ws (fill f room v).wishes is (fill_is_fill f room v);
+}
+
+pub each_call_has_one_result : EachCallHasOneResult
+each_call_has_one_result f v h = record {
   point_is = point_is_point v;
   point_one = λ p is. one_point v p (point v) is (point_is_point v);
   forward_is = forward_is_forward f v h;

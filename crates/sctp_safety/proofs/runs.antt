@@ -2,6 +2,7 @@ mod Grown
 pub mod Direction
 mod Sending
 mod Passing
+mod Nearness
 mod Hearing
 pub mod Pair
 mod Acted

@@ -1,17 +1,18 @@
 -- Each call of a receiver is a list of moves of its direction: a data chunk by each answer, a FORWARD by each answer, the SACK, and taking a message.
-use Rattle.std.specs.Prelude.{◌≡◌, ℕ, ◌+◌, ◌^◌, ◌<◌, ◌≤◌, List, ◌∷◌, length, map, Option, Some}
+use Rattle.std.specs.Prelude.{◌≡◌, ℕ, ◌+◌, ◌<◌, ◌≤◌, List, ◌∷◌, length, map, Option, Some}
 use Rattle.sctp_model.specs.numbers.Limits.{WINDOW}
 use Rattle.sctp_model.specs.numbers.Lists.{Has}
-use Rattle.sctp_model.specs.numbers.Serial.{tsn}
+use Rattle.sctp_model.specs.numbers.Serial.{COUNTS, IsWithinHalf, tsn}
 use Rattle.sctp_model.specs.wire.Chunk.{PieceMeaning, SackMeaning, ForwardMeaning}
-use Rattle.sctp_model.specs.messages.Format.{Format, Lane}
+use Rattle.sctp_model.specs.messages.Format.{Format, Interleaved, Lane}
 use Rattle.sctp_model.specs.messages.Plan.{Message, Entry, Part, Plan, entry_at, IsOf}
 use Rattle.sctp_model.specs.messages.Pieces.{Piece, piece_of}
 use Rattle.sctp_model.specs.messages.Forward.{Skip, Forward}
 use Rattle.sctp_model.specs.sender.SenderView.{SenderView}
-use Rattle.sctp_model.specs.receiver.ReceiverView.{Handed, ReceiverView}
+use Rattle.sctp_model.specs.receiver.ReceiverView.{Handed, ReceiverView, IsCumulative}
 use Rattle.sctp_model.specs.messages.Acknowledgement.{Acknowledgement}
 use Rattle.sctp_model.specs.sender.SentChunks.{piece_said, skip_said}
+use Rattle.sctp_model.specs.receiver.Reading.{reference_in}
 use Rattle.sctp_model.specs.receiver.PieceTaken.{PieceAnswer, PieceTaken}
 use Rattle.sctp_model.specs.receiver.ForwardTaken.{ForwardAnswer, ForwardTaken}
 use Rattle.sctp_model.specs.receiver.SackMade.{IsSack, TakeLeaves}
@@ -27,10 +28,19 @@ pub record IsJoined (w : Way) : Type 0 where
   pub initial : w.receiver.initial ≡ w.sender.initial
   pub streams : w.receiver.streams ≡ w.streams
 
--- The window of indexes past CUM, and less than half the space of TSNs in all: what the refusals of a sender give.
+-- The window of indexes past CUM, and no index that isn't a count: what the refusals of a sender give.
 pub record IsCounted (v : SenderView) : Type 0 where
   pub window : length v.plan.entries ≤ v.cum + WINDOW
-  pub total : length v.plan.entries < 2 ^ 31
+  pub counts : length v.plan.entries < COUNTS
+
+-- An index lies less than half the space of TSNs from the cumulative one.
+abbrev pub IsIndexNear : ReceiverView → (index : ℕ) → Type 0
+IsIndexNear r i = (c : ℕ) → IsCumulative r c → IsWithinHalf 32 i c
+
+-- A number of a lane lies less than half the space of MIDs from the one that is waited for (RFC 8260, 2.1). That of an SSN need not be asked:
+-- the window keeps it near.
+abbrev pub IsNumberNear : ReceiverView → Lane → (number : ℕ) → Type 0
+IsNumberNear r l n = IsWithinHalf 32 n (reference_in r l.stream l.kind)
 
 -- ---- what a call leaves: moves lead there, nothing is due, and the constants are as they were
 
@@ -68,15 +78,17 @@ pub record IsForwardSaid (f : Format) (initial : ℕ) (p : Plan) (fs : List Forw
 
 -- ---- the laws
 
--- A data chunk that comes, whatever is answered.
+-- A data chunk that comes while its index, and its MID if it has one, are near, whatever is answered.
 abbrev pub PieceTakenIsMoves : Type 0
 PieceTakenIsMoves = (w : Way) (p : PieceMeaning) (a : PieceAnswer) (t : ReceiverView) → IsUsual w → IsJoined w → IsCounted w.sender → IsIdle w.format w.receiver →
-    IsPieceSaid w.format w.sender.initial w.pieces p → PieceTaken w.format w.receiver p a t → IsReceived w t
+    (said : IsPieceSaid w.format w.sender.initial w.pieces p) → IsIndexNear w.receiver said.index →
+    (w.format ≡ Interleaved → IsNumberNear w.receiver said.lane said.number) → PieceTaken w.format w.receiver p a t → IsReceived w t
 
--- A FORWARD that comes, whatever is answered.
+-- A FORWARD that comes while its point, and its MIDs if it has some, are near, whatever is answered.
 abbrev pub ForwardTakenIsMoves : Type 0
 ForwardTakenIsMoves = (w : Way) (m : ForwardMeaning) (a : ForwardAnswer) (t : ReceiverView) → IsUsual w → IsJoined w → IsCounted w.sender → IsIdle w.format w.receiver →
-    IsForwardSaid w.format w.sender.initial w.sender.plan w.forwards m → ForwardTaken w.format w.receiver m a t → IsReceived w t
+    (said : IsForwardSaid w.format w.sender.initial w.sender.plan w.forwards m) → IsIndexNear w.receiver said.forward.point →
+    (w.format ≡ Interleaved → (y : Skip) → Has said.forward.skips y → IsNumberNear w.receiver y.lane y.number) → ForwardTaken w.format w.receiver m a t → IsReceived w t
 
 -- The SACK of a receiver says one that may be put between the ends.
 pub record IsSackPut (w : Way) (s : SackMeaning) : Type 0 where

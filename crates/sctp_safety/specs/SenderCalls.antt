@@ -51,10 +51,17 @@ AbandonedOnlyAsked = (f : Format) (v : SenderView) → IsReached f v → Abandon
 
 -- ---- one result
 
--- What is determined by its property: there is one FILL, one point and one FORWARD, and the functions give them. All other calls are functions as they stand.
-pub record HasOneResult (f : Format) (v : SenderView) : Type 0 where
+-- What is determined by its property: there is one FILL, and the function gives it.
+pub record HasOneFill (f : Format) (v : SenderView) : Type 0 where
   pub fill_is : (room : ℕ) → IsFill f v room (fill f room v).wishes (fill f room v).view
   pub fill_one : (room : ℕ) (ws : List Wish) (u : SenderView) → IsFill f v room ws u → (ws ≡ (fill f room v).wishes) × (u ≡ (fill f room v).view)
+
+-- So it is of every view, whether calls reach it or not.
+abbrev pub EachViewHasOneFill : Type 0
+EachViewHasOneFill = (f : Format) (v : SenderView) → HasOneFill f v
+
+-- There are one point and one FORWARD, and the functions give them. All other calls are functions as they stand.
+pub record HasOneResult (f : Format) (v : SenderView) : Type 0 where
   pub point_is : IsPoint v (point v)
   pub point_one : (p : ℕ) → IsPoint v p → p ≡ point v
   pub forward_is : IsForward f v.plan v.cum (point v) (forward_of f v)

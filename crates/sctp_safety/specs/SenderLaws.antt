@@ -1,7 +1,7 @@
 -- Each call of a sender is a list of moves of its direction: what a packet is filled with, abandoning, time, the data timer, a SACK, a SHUTDOWN.
-use Rattle.std.specs.Prelude.{◌≡◌, ℕ, ◌^◌, ◌<◌, ◌≤◌, true, List, [], ◌∷◌, ◌++◌, length, None, Some}
+use Rattle.std.specs.Prelude.{◌≡◌, ℕ, ◌<◌, ◌≤◌, true, List, [], ◌∷◌, ◌++◌, length, None, Some}
 use Rattle.sctp_model.specs.numbers.Lists.{Has, at}
-use Rattle.sctp_model.specs.numbers.Serial.{tsn}
+use Rattle.sctp_model.specs.numbers.Serial.{IsWithinHalf, tsn}
 use Rattle.sctp_model.specs.wire.Chunk.{SackMeaning}
 use Rattle.sctp_model.specs.messages.Format.{Format, Lane}
 use Rattle.sctp_model.specs.messages.Plan.{Message, Part, End, Plan, entry_at, message_at}
@@ -99,12 +99,12 @@ pub record IsSackOf (initial : ℕ) (a : Acknowledgement) (s : SackMeaning) : Ty
   pub cumulative : s.cumulative ≡ tsn initial a.cum
   pub blocks : s.blocks ≡ a.blocks
 
--- A SACK of the bag that is taken is moves, as long as counts lie less than half the space apart.
+-- A SACK of the bag that is taken is moves, as long as its cumulative index lies less than half the space of TSNs from CUM.
 abbrev pub SackIsMoves : Type 0
 SackIsMoves = (w : Way) (a : Acknowledgement) (s : SackMeaning) → IsUsual w → Has w.sacks a → IsSackOf w.sender.initial a s →
-    w.sender.cum < 2 ^ 31 → a.cum < 2 ^ 31 → sack_fault w.sender s ≡ None → IsMoved w (with_sender w (sack_taken w.sender s))
+    IsWithinHalf 32 a.cum w.sender.cum → sack_fault w.sender s ≡ None → IsMoved w (with_sender w (sack_taken w.sender s))
 
 -- and so is the cumulative TSN of a SHUTDOWN
 abbrev pub ShutdownIsMoves : Type 0
-ShutdownIsMoves = (w : Way) (c : ℕ) → IsUsual w → Has w.shutdowns c → w.sender.cum < 2 ^ 31 → c < 2 ^ 31 →
+ShutdownIsMoves = (w : Way) (c : ℕ) → IsUsual w → Has w.shutdowns c → IsWithinHalf 32 c w.sender.cum →
     shutdown_fault w.sender (tsn w.sender.initial c) ≡ None → IsMoved w (with_sender w (shutdown_taken w.sender (tsn w.sender.initial c)))

@@ -1,7 +1,7 @@
 -- One direction between two ends of the machine: moves led there from a start, and every chunk that was built says something of it.
 use Rattle.std.proofs.Common.{◌≡◌, ℕ, zero, suc, ◌<◌, ◌≤◌, List, [], ◌∷◌, length, slice_get, Some, refl, sym, arith, ◌∙◌}
 use Rattle.sctp_model.specs.numbers.Lists.{Has, IsWithin}
-use Rattle.sctp_model.specs.numbers.Serial.{tsn}
+use Rattle.sctp_model.specs.numbers.Serial.{tsn, half_space}
 use Rattle.sctp_model.specs.wire.Chunk.{PieceMeaning, ForwardMeaning, ChunkMeaning, Data, IData, Sack, Shutdown, ForwardTsn, IForwardTsn}
 use Rattle.sctp_model.specs.messages.Format.{Format}
 use Rattle.sctp_model.specs.messages.Plan.{Entry, Plan, entry_at}
@@ -95,11 +95,15 @@ pub joined_in : (f : Format) (n : ℕ) (a : SenderView) (u : Asked) (r : Receive
     IsJoined (way_of f n a u r d.bags)
 joined_in f n a u r out back d = record { initial = d.initial; streams = d.inbound }
 
+-- fewer than half the space of TSNs are assigned in all: more are refused as Spent
+pub assigned_below_half : (f : Format) (a : SenderView) → IsReached f a → length a.plan.entries < half_space 32
+assigned_below_half f a h = let p = is_promised f a h in omega (arith, p)
+
 pub counted_in : (f : Format) (a : SenderView) → IsReached f a → IsCounted a
 counted_in f a h =
     let w = is_windowed f a h in
     let p = is_promised f a h in
-    record { window = omega (arith, w); total = omega (arith, p) }
+    record { window = omega (arith, w); counts = omega (arith, p) }
 
 -- ---- what stays true while bags and plans grow
 

@@ -1,7 +1,7 @@
 -- What a receiver's calls do to its direction: what comes, what its user takes, and what it says back.
-use Rattle.std.proofs.Common.{ℕ, ◌⊎◌, List, [], ◌∷◌, ◌++◌, Option, inl, inr, refl, sym, subst, ◌∙◌}
+use Rattle.std.proofs.Common.{ℕ, ◌<◌, ◌⊎◌, List, [], ◌∷◌, ◌++◌, length, Option, inl, inr, refl, sym, subst, ◌∙◌}
 use Rattle.sctp_model.specs.numbers.Lists.{Has}
-use Rattle.sctp_model.specs.numbers.Serial.{tsn}
+use Rattle.sctp_model.specs.numbers.Serial.{tsn, half_space}
 use Rattle.sctp_model.specs.wire.Chunk.{PieceMeaning, SackMeaning, ForwardMeaning, ChunkMeaning, Sack, Shutdown}
 use Rattle.sctp_model.specs.messages.Format.{Format}
 use Rattle.sctp_model.specs.sender.SenderView.{SenderView}
@@ -16,15 +16,23 @@ use Rattle.sctp_safety.specs.ReceiverLaws.{IsReceived, IsPieceSaid, IsSackPut}
 use Rattle.sctp_safety.proofs.Basics.{Has-cases}
 use Rattle.sctp_safety.proofs.Built.{shutdown_is_allowed}
 use Rattle.sctp_safety.proofs.Taken.{leads_by}
-use Rattle.sctp_safety.proofs.UsualLemmas.{usual_on}
+use Rattle.sctp_safety.proofs.UsualLemmas.{good_usual, usual_on}
+use Rattle.sctp_safety.proofs.Facts.{Good}
 use Rattle.sctp_safety.proofs.PieceReads.{piece_taken_is_moves}
 use Rattle.sctp_safety.proofs.ForwardReads.{forward_taken_is_moves}
 use Rattle.sctp_safety.proofs.SackMade.{sack_made_is_moves, take_is_moves}
-use Rattle.sctp_safety.proofs.runs.Direction.{Bags, way_of, IsForwardIn, IsSaid, IsSaidBack, Direction, joined_in, counted_in, IsMore, said_later, said_back_later}
+use Rattle.sctp_safety.proofs.runs.Nearness.{piece_index_near, piece_number_near, point_near, skips_near}
+use Rattle.sctp_safety.proofs.runs.Direction.{Bags, way_of, IsForwardIn, IsSaid, IsSaidBack, Direction, joined_in, assigned_below_half, counted_in, IsMore, said_later, said_back_later}
 
 module _ (f : Format) (n : ℕ) (a : SenderView) (u : Asked) (r : ReceiverView) (out back : List ChunkMeaning) (d : Direction f n a u r out back) where
   abbrev here : Way
   here = way_of f n a u r d.bags
+
+  good_here : Good here
+  good_here = good_usual here d.usual
+
+  below_half : length a.plan.entries < half_space 32
+  below_half = assigned_below_half f a d.reached
 
   -- The receiver moved.
   received : (t : ReceiverView) → IsReceived here t → Direction f n a u t out back
@@ -45,13 +53,17 @@ module _ (f : Format) (n : ℕ) (a : SenderView) (u : Asked) (r : ReceiverView) 
   pub after_piece : (x : ChunkMeaning) (p : PieceMeaning) (o : PieceAnswer) (t : ReceiverView) → Has out x → (IsSaid f a.initial a.plan d.bags x → IsPieceSaid f a.initial d.bags.pieces p) →
       PieceTaken f r p o t → Direction f n a u t out back
   after_piece x p o t has says taken =
-      received t (piece_taken_is_moves here p o t d.usual (joined_in f n a u r out back d) (counted_in f a d.reached) d.idle (says (d.said x has)) taken)
+      let said = says (d.said x has) in
+      received t (piece_taken_is_moves here p o t d.usual (joined_in f n a u r out back d) (counted_in f a d.reached) d.idle said
+      (piece_index_near here good_here below_half p said) (piece_number_near here good_here below_half p said) taken)
 
   -- a FORWARD that lies between the ends
   pub after_skip : (x : ChunkMeaning) (m : ForwardMeaning) (o : ForwardAnswer) (t : ReceiverView) → Has out x →
       (IsSaid f a.initial a.plan d.bags x → IsForwardIn f a.initial a.plan d.bags.forwards m) → ForwardTaken f r m o t → Direction f n a u t out back
   after_skip x m o t has says taken =
-      received t (forward_taken_is_moves here m o t d.usual (joined_in f n a u r out back d) (counted_in f a d.reached) d.idle (says (d.said x has)).said taken)
+      let said = (says (d.said x has)).said in
+      received t (forward_taken_is_moves here m o t d.usual (joined_in f n a u r out back d) (counted_in f a d.reached) d.idle said
+      (point_near here good_here below_half m said) (λ interleaved. skips_near here good_here below_half m said) taken)
 
   pub after_take : (s : ℕ) (h : Option Handed) (t : ReceiverView) → TakeLeaves r s h t → Direction f n a u t out back
   after_take s h t takes = received t (take_is_moves here s h t d.idle takes)

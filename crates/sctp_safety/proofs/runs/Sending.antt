@@ -3,7 +3,7 @@ use Rattle.std.proofs.Common.{◌≡◌, ℕ, zero, suc, ◌^◌, ◌<◌, ◌�
 use Rattle.std.specs.Prelude.{unwrap_or}
 use Rattle.std.proofs.lemmas.Bool.Decides.{nat_tests}
 use Rattle.sctp_model.specs.numbers.Lists.{Has, at}
-use Rattle.sctp_model.specs.numbers.Serial.{tsn}
+use Rattle.sctp_model.specs.numbers.Serial.{IsWithinHalf, tsn}
 use Rattle.sctp_model.specs.wire.Chunk.{SackMeaning, ChunkMeaning, Sack, Shutdown}
 use Rattle.sctp_model.specs.messages.Format.{Format, Plain, Interleaved, ordered_lane}
 use Rattle.sctp_model.specs.messages.Plan.{Entry, Part, End}
@@ -37,7 +37,7 @@ use Rattle.sctp_safety.proofs.QueueMoves.{queue_is_moves}
 use Rattle.sctp_safety.proofs.GivingMoves.{abandon_is_moves, expire_is_moves, timeout_is_moves}
 use Rattle.sctp_safety.proofs.SackMoves.{sack_is_moves, shutdown_is_moves}
 use Rattle.sctp_safety.proofs.runs.Grown.{plan_lasts}
-use Rattle.sctp_safety.proofs.runs.Direction.{with_chunks, Bags, way_of, IsSaid, Direction, counted_in, IsMore, more_same, said_later, said_back_later}
+use Rattle.sctp_safety.proofs.runs.Direction.{with_chunks, Bags, way_of, IsSaid, Direction, assigned_below_half, IsMore, more_same, said_later, said_back_later}
 
 -- ---- in general
 
@@ -99,11 +99,12 @@ module _ (f : Format) (n : ℕ) (a : SenderView) (u : Asked) (r : ReceiverView) 
   acknowledged_within zero h = omega arith
   acknowledged_within (suc c) h = reached_within here good_here (suc c) (omega arith) h
 
-  below_half : (c : ℕ) → c ≤ length a.plan.entries → c < 2 ^ 31
-  below_half c le = let t = (counted_in f a d.reached).total in omega (arith, le, t)
-
-  cum_below : a.cum < 2 ^ 31
-  cum_below = below_half a.cum (is_bounded f a d.reached).within
+  -- and it lies less than half the space from CUM, since no more TSNs are assigned in all
+  near_cum : (c : ℕ) → c ≤ length a.plan.entries → IsWithinHalf 32 c a.cum
+  near_cum c le =
+      let total = assigned_below_half f a d.reached in
+      let low = (is_bounded f a d.reached).within in
+      record { not_above = omega (arith, le, total); not_below = omega (arith, low, total) }
 
   pub after_sack : (s : SackMeaning) → Has back (Sack s) → sack_fault a s ≡ None → Direction f n (sack_taken a s) u r out back
   after_sack s has none = go (d.said_back (Sack s) has)
@@ -114,8 +115,8 @@ module _ (f : Format) (n : ℕ) (a : SenderView) (u : Asked) (r : ReceiverView) 
       go : (x : Acknowledgement) × Has d.bags.sacks x × IsSackOf r.initial x s → Direction f n (sack_taken a s) u r out back
       go (x, put, of) =
           sender_moved f n a u r out back d _ _ d.bags (more_same d.bags) (Covers a s d.reached none)
-          (sack_is_moves here x s d.usual put (subst (λ (i : ℕ). IsSackOf i x s) d.initial of) cum_below
-          (below_half x.cum (acknowledged_within x.cum (good_here.between.sacks x x.cum put (itself x)))) none)
+          (sack_is_moves here x s d.usual put (subst (λ (i : ℕ). IsSackOf i x s) d.initial of)
+          (near_cum x.cum (acknowledged_within x.cum (good_here.between.sacks x x.cum put (itself x)))) none)
 
   pub after_shutdown : (wire : ℕ) → Has back (Shutdown wire) → shutdown_fault a wire ≡ None → Direction f n (shutdown_taken a wire) u r out back
   after_shutdown wire has none = go (d.said_back (Shutdown wire) has)
@@ -125,7 +126,7 @@ module _ (f : Format) (n : ℕ) (a : SenderView) (u : Asked) (r : ReceiverView) 
           let same : wire ≡ tsn a.initial c = is ∙ ap (λ (i : ℕ). tsn i c) d.initial in
           sender_moved f n a u r out back d _ _ d.bags (more_same d.bags) (Closes a wire d.reached none)
           (subst (λ (t : ℕ). IsMoved here (way_of f n (shutdown_taken a t) u r d.bags)) (sym same)
-          (shutdown_is_moves here c d.usual put cum_below (below_half c (acknowledged_within c (good_here.between.shutdowns c c put (omega arith))))
+          (shutdown_is_moves here c d.usual put (near_cum c (acknowledged_within c (good_here.between.shutdowns c c put (omega arith))))
           (subst (λ (t : ℕ). shutdown_fault a t ≡ None) same none)))
 
 -- ---- what is put into a packet
