@@ -59,7 +59,7 @@ pub fn timeout_is_moves()
     ensures { TimeoutIsMoves }
 {}
 
-/// A SACK that lies between the ends, and is taken, is moves, as long as counts lie less than half the space apart (RFC 9260, 6.2.1).
+/// A SACK that lies between the ends, and is taken, is moves, as long as its index lies less than half the space from CUM (RFC 9260, 6.2.1).
 pub fn sack_is_moves()
     ensures { SackIsMoves }
 {}
@@ -70,7 +70,8 @@ pub fn shutdown_is_moves()
 {}
 
 /// A data chunk that lies between the ends is taken by moves, whatever is answered to it, and nothing is due afterwards: its TSN and its SSN or MID
-/// are read as they were written, as long as counts lie within the window and TSNs within half their space (RFC 9260, 6.2 and 6.6; RFC 8260, 2.2).
+/// are read as they were written, as long as the indexes past CUM lie within the window, and this one and its MID within half their space of
+/// what the receiver waits for (RFC 9260, 6.2 and 6.6; RFC 8260, 2.2).
 pub fn piece_taken_is_moves()
     ensures { PieceTakenIsMoves }
 {}

@@ -2,22 +2,23 @@
 use Rattle.std.proofs.Common.{◌≡◌, ℕ, zero, suc, ◌+◌, ◌-◌, ◌<◌, ◌≤◌, List, [], ◌∷◌, ◌++◌, drop, Bool, true, false, Option, Some, None, refl, sym, ap, ◌∙◌, arith}
 use Rattle.std.specs.Prelude.{◌==◌, ◌||◌, nat_lt, if◌then◌else◌, option_map, option_and_then, find}
 use Rattle.std.specs.List.{list_any}
+use Rattle.std.proofs.lemmas.Bool.{and_parts, or_left, or_right}
 use Rattle.std.proofs.lemmas.Bool.Decides.{nat_tests}
 use Rattle.sctp_model.specs.messages.Format.{Format}
 use Rattle.sctp_model.specs.messages.Plan.{Message, Entry, Plan}
 use Rattle.sctp_model.specs.sender.SenderView.{Queued, SenderView}
-use Rattle.sctp_model.specs.sender.Words.{first_there, some_passes}
+use Rattle.sctp_model.specs.sender.Words.{first_there, some_passes, count_up}
 use Rattle.sctp_model.specs.sender.Entries.{any_from, continued, entry_message}
-use Rattle.sctp_model.specs.sender.Abandoning.{Name, is_past, is_overdue, name_of, waits, expire_one, expired, abandon_after}
+use Rattle.sctp_model.specs.sender.Abandoning.{Name, is_past, is_overdue, name_of, waits, expire_one, expired, abandon_after, may_abandon, is_to_expire, has_late}
 use Rattle.sctp_model.specs.sender.Reached.{IsReached}
 use Rattle.sctp_model.proofs.sender.AbandonCases.{after_abandon}
 use Rattle.sctp_model.proofs.sender.OwnLaws.{found_owns}
 use Rattle.sctp_model.proofs.sender.TicketLaws.{is_ticketed}
-use Rattle.sctp_model.proofs.sender.ExpiredLaws.{is_late, late_waits, due_waits, due_rest, expired_to, expired_next}
+use Rattle.sctp_model.proofs.sender.ExpiredLaws.{is_late, late_waits, expired_to, expired_next}
+use Rattle.sctp_model.proofs.sender.LateLaws.{shown_message, shown_from, late_waiting, late_shown, late_rest, never_late, expires_none}
 use Rattle.sctp_send.specs.SenderKept.{Item, Rest, Track, Kept}
 use Rattle.sctp_send.specs.SenderStands.{items_from, table, rest_here, track_here, Keeps}
 use Rattle.sctp_send.specs.inner.Expiring.{queue_messages, item_messages, rest_message, rest_messages, kept_messages, soonest}
-use Rattle.sctp_send.proofs.ShownLemmas.{shown_message, due_shown, passes_over}
 use Rattle.sctp_send.proofs.ExpireLemmas.{any_late, soonest_joined, soonest_none, soonest_some, soonest_late}
 
 any_joined : {A : Type 0} (test : A → Bool) (xs ys : List A) → list_any test (xs ++ ys) ≡ (list_any test xs || list_any test ys)
@@ -32,9 +33,9 @@ late_queue : (now t : ℕ) (qs : List Queued) → any_late now t (queue_messages
 late_queue now t [] = refl
 late_queue now t (q ∷ qs) = ap (λ (b : Bool). is_late now t (Some q.message) || b) (late_queue now t qs)
 
-late_items : (v : SenderView) (now t : ℕ) (es : List Entry) (i : ℕ) → any_late now t (item_messages (items_from v i es)) ≡ any_from (λ j e. is_late now t (shown_message v e)) i es
+late_items : (v : SenderView) (now t : ℕ) (es : List Entry) (i : ℕ) → any_late now t (item_messages (items_from v i es)) ≡ shown_from v now t i es
 late_items v now t [] i = refl
-late_items v now t (e ∷ es) i = ap (λ (b : Bool). is_late now t (shown_message v e) || b) (late_items v now t es (suc i))
+late_items v now t (e ∷ es) i = ap (λ (b : Bool). is_late now t (shown_message v i e) || b) (late_items v now t es (suc i))
 
 -- what a stream goes on with
 rest_of : (p : Plan) (o : Option Entry) → option_and_then (λ (r : Rest). r.message) (rest_here p o) ≡ option_and_then (λ e. entry_message p e) o
@@ -87,7 +88,7 @@ kept_where now t s b is =
 
 -- the same, of the view
 in_view : (f : Format) (s : Kept) (v : SenderView) (now t : ℕ) → Keeps f s v → s.partial ≡ true → any_late now t (kept_messages s)
-    ≡ (late_waits now t v.queue || (any_from (λ j e. is_late now t (shown_message v e)) (suc v.cum) (drop v.cum v.plan.entries) || any_late now t (rest_messages (table (track_here v) 0 v.streams))))
+    ≡ (late_waits now t v.queue || (shown_from v now t (suc v.cum) (drop v.cum v.plan.entries) || any_late now t (rest_messages (table (track_here v) 0 v.streams))))
 in_view f s v now t k partial =
     kept_where now t s true partial
     ∙ ap (λ (b : Bool). any_late now t (queue_messages s.queue) || b) (any_joined (λ m. is_late now t m) (item_messages s.items) (rest_messages s.tracks))
@@ -101,34 +102,35 @@ in_queue f s v now t k reliable =
     alone true = refl
     alone false = refl
 
-pub kept_due : (f : Format) (s : Kept) (v : SenderView) (now t : ℕ) → Keeps f s v → any_late now t (kept_messages s) ≡ true → is_overdue v now t ≡ true
-kept_due f s v now t k on = by_partial s.partial refl
+-- what is kept shows just which tickets are to expire
+pub kept_late : (f : Format) (s : Kept) (v : SenderView) (now t : ℕ) → Keeps f s v → any_late now t (kept_messages s) ≡ true → is_to_expire v now t ≡ true
+kept_late f s v now t k on = by_partial s.partial refl
   where
-    by_queue : (a b : Bool) → late_waits now t v.queue ≡ a → any_from (λ j e. is_late now t (shown_message v e)) (suc v.cum) (drop v.cum v.plan.entries) ≡ b
-        → (a || (b || any_late now t (rest_messages (table (track_here v) 0 v.streams)))) ≡ true → is_overdue v now t ≡ true
-    by_queue true b queue items there = due_waits f v now t k.reached queue
-    by_queue false true queue items there = due_shown f v now t k.reached items
-    by_queue false false queue items there = let rest = late_rests v now t 0 v.streams there in due_rest f v now t rest.0 rest.1 k.reached rest.2 rest.3
+    by_queue : (a b : Bool) → v.partial ≡ true → late_waits now t v.queue ≡ a → shown_from v now t (suc v.cum) (drop v.cum v.plan.entries) ≡ b
+        → (a || (b || any_late now t (rest_messages (table (track_here v) 0 v.streams)))) ≡ true → is_to_expire v now t ≡ true
+    by_queue true b partial queue items there = late_waiting f v now t k.reached queue
+    by_queue false true partial queue items there = late_shown f v now t k.reached partial items
+    by_queue false false partial queue items there = let rest = late_rests v now t 0 v.streams there in late_rest f v now t rest.0 rest.1 k.reached partial rest.2 rest.3
 
-    by_partial : (b : Bool) → s.partial ≡ b → is_overdue v now t ≡ true
-    by_partial true is = by_queue (late_waits now t v.queue) (any_from (λ j e. is_late now t (shown_message v e)) (suc v.cum) (drop v.cum v.plan.entries)) refl refl (sym (in_view f s v now t k is) ∙ on)
-    by_partial false is = due_waits f v now t k.reached (sym (in_queue f s v now t k is) ∙ on)
+    by_partial : (b : Bool) → s.partial ≡ b → is_to_expire v now t ≡ true
+    by_partial true is = by_queue (late_waits now t v.queue) (shown_from v now t (suc v.cum) (drop v.cum v.plan.entries)) (sym k.holds.partial ∙ is) refl refl (sym (in_view f s v now t k is) ∙ on)
+    by_partial false is = late_waiting f v now t k.reached (sym (in_queue f s v now t k is) ∙ on)
 
-pub kept_idle : (f : Format) (s : Kept) (v : SenderView) (now t : ℕ) → Keeps f s v → any_late now t (kept_messages s) ≡ false → expire_one now v t ≡ v
+pub kept_idle : (f : Format) (s : Kept) (v : SenderView) (now t : ℕ) → Keeps f s v → any_late now t (kept_messages s) ≡ false → is_to_expire v now t ≡ false
 kept_idle f s v now t k off = by_partial s.partial refl
   where
-    by_parts : (a b : Bool) → late_waits now t v.queue ≡ a → any_from (λ j e. is_late now t (shown_message v e)) (suc v.cum) (drop v.cum v.plan.entries) ≡ b
-        → (a || (b || any_late now t (rest_messages (table (track_here v) 0 v.streams)))) ≡ false → expire_one now v t ≡ v
+    by_parts : (a b : Bool) → late_waits now t v.queue ≡ a → shown_from v now t (suc v.cum) (drop v.cum v.plan.entries) ≡ b
+        → (a || (b || any_late now t (rest_messages (table (track_here v) 0 v.streams)))) ≡ false → is_to_expire v now t ≡ false
     by_parts true b queue items there = absurd (cc)
     by_parts false true queue items there = absurd (cc)
     by_parts false false queue items there =
-        passes_over f v now t k.reached (record { queue = queue; entries = λ on. items; rests = λ on s e lt is. quiet_rests v now t 0 v.streams there s e (omega arith) (omega arith) is })
+        never_late f v now t k.reached (record { queue = queue; entries = λ on. items; rests = λ on s e lt is. quiet_rests v now t 0 v.streams there s e (omega arith) (omega arith) is })
 
-    by_partial : (b : Bool) → s.partial ≡ b → expire_one now v t ≡ v
-    by_partial true is = by_parts (late_waits now t v.queue) (any_from (λ j e. is_late now t (shown_message v e)) (suc v.cum) (drop v.cum v.plan.entries)) refl refl (sym (in_view f s v now t k is) ∙ off)
+    by_partial : (b : Bool) → s.partial ≡ b → is_to_expire v now t ≡ false
+    by_partial true is = by_parts (late_waits now t v.queue) (shown_from v now t (suc v.cum) (drop v.cum v.plan.entries)) refl refl (sym (in_view f s v now t k is) ∙ off)
     by_partial false is =
         let reliable : v.partial ≡ false = sym k.holds.partial ∙ is in
-        passes_over f v now t k.reached (record { queue = sym (in_queue f s v now t k is) ∙ off; entries = λ on. absurd (cc); rests = λ on s e lt next. absurd (cc) })
+        never_late f v now t k.reached (record { queue = sym (in_queue f s v now t k is) ∙ off; entries = λ on. absurd (cc); rests = λ on s e lt next. absurd (cc) })
 
 -- ---- one ticket after the other
 
@@ -183,9 +185,9 @@ late_next f s v u now last t k is found =
     let next = soonest_some now last None (kept_messages s) t found in
     let late = soonest_late now last (kept_messages s) t found in
     let above = late.0 in
-    let due = kept_due f s u now t k late.1 in
+    let due = (and_parts (is_overdue u now t) (may_abandon u t) (kept_late f s u now t k late.1)).0 in
     let gap : last + (t - last - 1) ≡ t - 1 = omega (arith, above) in
-    let before : expired_to now v (t - 1) ≡ u = ap (expired_to now v) (sym gap) ∙ idle_to v u now last (t - last - 1) is (λ x lo hi. kept_idle f s u now x k (next.quiet x lo (omega (arith, hi, above)))) in
+    let before : expired_to now v (t - 1) ≡ u = ap (expired_to now v) (sym gap) ∙ idle_to v u now last (t - last - 1) is (λ x lo hi. expires_none u now x (kept_idle f s u now x k (next.quiet x lo (omega (arith, hi, above))))) in
     let here : suc (t - 1) ≡ t = omega (arith, above) in
     let same : u.tickets ≡ v.tickets = sym (ap (λ (y : SenderView). y.tickets) is) ∙ still_given now v last in
     let given = due_given f u now t k.reached due in
@@ -199,7 +201,7 @@ pub late_none : (f : Format) (s : Kept) (v u : SenderView) (now last : ℕ) → 
 late_none f s v u now last k is le none =
     let quiet = (soonest_none now last None (kept_messages s) none).1 in
     let all : last + (v.tickets - last) ≡ v.tickets = omega arith in
-    ap (expired_to now v) (sym all) ∙ idle_to v u now last (v.tickets - last) is (λ x lo hi. kept_idle f s u now x k (quiet x lo))
+    ap (expired_to now v) (sym all) ∙ idle_to v u now last (v.tickets - last) is (λ x lo hi. expires_none u now x (kept_idle f s u now x k (quiet x lo)))
 
 -- what is found in the queue alone, where messages with a number don't count
 pub queue_soonest : (now last : ℕ) (partial : Bool) (qs : List Queued) (xs : List Item) (ts : List Track) (a : Option ℕ) → partial ≡ false → a ≡ soonest now last None (queue_messages qs)
@@ -213,3 +215,30 @@ pub kept_soonest : (now last : ℕ) (partial : Bool) (qs : List Queued) (xs : Li
 kept_soonest now last partial qs xs ts a b c on one two three =
     rw on (three ∙ ap (λ (o : Option ℕ). soonest now last o (rest_messages ts)) (two ∙ ap (λ (o : Option ℕ). soonest now last o (item_messages xs)) one)
     ∙ sym (soonest_joined now last None (queue_messages qs) (item_messages xs ++ rest_messages ts) ∙ soonest_joined now last (soonest now last None (queue_messages qs)) (item_messages xs) (rest_messages ts)))
+
+-- ---- whether any is late
+
+-- all tickets that were given are looked at
+none_up : (test : ℕ → Bool) (i n : ℕ) → ((t : ℕ) → i ≤ t → test t ≡ false) → list_any test (count_up i n) ≡ false
+none_up test i zero off = refl
+none_up test i (suc n) off = rw (off i (omega arith)) (none_up test (suc i) n (λ t le. off t (omega arith)))
+
+some_up : (test : ℕ → Bool) (i n t : ℕ) → i ≤ t → t < i + n → test t ≡ true → list_any test (count_up i n) ≡ true
+some_up test i zero t lo hi on = absurd (omega arith)
+some_up test i (suc n) t lo hi on = by_here (i == t) refl (λ above. some_up test (suc i) n t above (omega arith) on)
+  where
+    by_here : (b : Bool) → (i == t) ≡ b → (suc i ≤ t → list_any test (count_up (suc i) n) ≡ true) → (test i || list_any test (count_up (suc i) n)) ≡ true
+    by_here true same further = let here : i ≡ t = grind (arith, nat_tests) in or_left (test i) (list_any test (count_up (suc i) n)) (ap test here ∙ on)
+    by_here false other further = or_right (test i) (list_any test (count_up (suc i) n)) (further (grind (arith, nat_tests)))
+
+pub none_kept : (f : Format) (s : Kept) (v : SenderView) (now : ℕ) → Keeps f s v → soonest now 0 None (kept_messages s) ≡ None → has_late v now ≡ false
+none_kept f s v now k none =
+    let quiet = (soonest_none now 0 None (kept_messages s) none).1 in
+    none_up (is_to_expire v now) 1 v.tickets (λ t le. kept_idle f s v now t k (quiet t (omega arith)))
+
+pub some_kept : (f : Format) (s : Kept) (v : SenderView) (now t : ℕ) → Keeps f s v → soonest now 0 None (kept_messages s) ≡ Some t → has_late v now ≡ true
+some_kept f s v now t k found =
+    let late = soonest_late now 0 (kept_messages s) t found in
+    let here = kept_late f s v now t k late.1 in
+    let given = due_given f v now t k.reached (and_parts (is_overdue v now t) (may_abandon v t) here).0 in
+    some_up (is_to_expire v now) 1 v.tickets t (omega (arith, late.0)) (omega (arith, given)) here

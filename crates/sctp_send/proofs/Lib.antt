@@ -26,7 +26,6 @@ pub mod AssignLemmas
 pub mod ExpireLemmas
 pub mod WorthLemmas
 pub mod OwedLemmas
-pub mod ShownLemmas
 pub mod ExpireKept
 pub mod GoingOnLemmas
 pub mod CursorLemmas

@@ -7,7 +7,7 @@ ghost use Rattle.sctp_send.specs.inner.Newcomers.{one_if};
 
 use crate::message::moment_of;
 use crate::outstanding::Outstanding;
-use crate::wishes::{is_first_sending, is_repeat, is_unsettled, weight};
+use crate::wishes::{is_done, is_first_sending, is_repeat, is_unsettled, weight};
 
 /// Counts of entries, by their offsets above CUM. Sums are modulo 2^64.
 #[derive(Clone, Copy, Debug)]
@@ -20,7 +20,7 @@ pub struct Counts {
     pub flight: u64,
     /// How many entries went out, and are neither covered nor given up.
     pub unsettled: u64,
-    /// Before this moment no message is past its time, of entries that are not given up.
+    /// Before this moment no message is past its time, of entries that are neither covered nor given up.
     pub earliest: u64,
 }
 
@@ -101,11 +101,11 @@ fn one_if(counts: bool) -> u64
     if counts { 1 } else { 0 }
 }
 
-/// The moment from which the message of an entry is worthless, if it has one and the entry is not given up; else the last moment.
+/// The moment from which the message of an entry is worthless, if it has one and the entry is neither covered nor given up; else the last moment.
 pub fn moment(entry: &Outstanding) -> u64
     ensures { (size : ℕ) → result ≡ moment (item_meaning size entry.now) }
 {
-    if entry.given_up {
+    if is_done(entry) {
         u64::MAX
     } else {
         moment_of(&entry.message)

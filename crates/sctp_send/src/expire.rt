@@ -1,8 +1,8 @@
 //! Messages that are past their time (RFC 3758, 3.5 and 4.1: timed reliability).
 
-ghost use Rattle.std.specs.Prelude.{◌≡◌, ℕ, Some, None, map};
+ghost use Rattle.std.specs.Prelude.{◌≡◌, ℕ, false, Some, None, map};
 ghost use Rattle.sctp_model.specs.sender.SenderView.{SenderView};
-ghost use Rattle.sctp_model.specs.sender.Abandoning.{expired};
+ghost use Rattle.sctp_model.specs.sender.Abandoning.{has_late, expired};
 ghost use Rattle.sctp_send.specs.OutstandingFields.{message_meaning, item_meaning};
 ghost use Rattle.sctp_send.specs.SenderFields.{track_meaning};
 ghost use Rattle.sctp_send.specs.SenderStands.{StandsFor};
@@ -11,6 +11,7 @@ ghost use Rattle.sctp_send.specs.inner.Expiring.{sooner, late_after, soonest, it
 use crate::message::{Message, Ticket};
 use crate::outstanding::Outstanding;
 use crate::sender::{Sender, Track};
+use crate::wishes::is_done;
 use sctp_framing::Framing;
 
 #[tactic(auto, unfolding(crate::specs::SenderStands::StandsFor))]
@@ -45,6 +46,18 @@ impl<F: Framing> Sender<F> {
         }
     }
 
+    /// Whether some message that may be abandoned is past its time: where none is, `expire` changes nothing at that moment, which is in
+    /// milliseconds.
+    pub fn has_late(&self, now: u64) -> bool
+        ensures exact { (v : SenderView) → StandsFor F.format self.now v → result ≡ has_late v now }
+        ensures idle { (v : SenderView) → StandsFor F.format self.now v → result ≡ false → expired v now ≡ v }
+    {
+        match self.next_late(0, now) {
+            Some(_) => true,
+            None => false,
+        }
+    }
+
     /// The lowest ticket above this one of a message that is past its time and may be abandoned.
     fn next_late(&self, last: u32, now: u64) -> Option<u32>
         ensures { result ≡ soonest now last None (kept_messages self.now) }
@@ -75,11 +88,11 @@ pub fn sooner(found: Option<u32>, message: &Message, last: u32, now: u64) -> Opt
     }
 }
 
-/// The same of the message of an entry that is not given up.
+/// The same of the message of an entry that is neither covered nor given up.
 pub fn sooner_entry(found: Option<u32>, entry: &Outstanding, last: u32, now: u64) -> Option<u32>
     ensures { (size : ℕ) → result ≡ sooner found (late_after now last (item_message (item_meaning size entry.now))) }
 {
-    if entry.given_up {
+    if is_done(entry) {
         return found;
     }
     sooner(found, &entry.message, last, now)

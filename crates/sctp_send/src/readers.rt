@@ -63,6 +63,13 @@ impl<F: Framing> Sender<F> {
         self.outstanding.len() == 0
     }
 
+    /// How many tickets were given: the calls of `queue` that were accepted. They are 1 to this number.
+    pub fn tickets(&self) -> u32
+        ensures { (v : SenderView) → StandsFor F.format self.now v → result ≡ v.tickets }
+    {
+        (self.fates.len() % 0x1_0000_0000) as u32
+    }
+
     /// Whether the message with this ticket is acknowledged whole: its last fragment is assigned, all its indexes are covered, and it was
     /// not abandoned. False for a ticket that was never given.
     pub fn acknowledged(&self, ticket: Ticket) -> bool

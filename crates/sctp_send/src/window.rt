@@ -197,7 +197,8 @@ impl Window {
         self.counts.lower(at, entry);
     }
 
-    /// The lowest ticket above the last one of messages that are past their time, of entries that are not given up; or one found before.
+    /// The lowest ticket above the last one of messages that are past their time, of entries that are neither covered nor given up; or one
+    /// found before.
     pub fn late(&self, last: u32, now: u64, found: Option<u32>) -> Option<u32>
         ensures { result ≡ soonest now last found (item_messages (map (item_meaning self.now.size) self.now.items)) }
     {

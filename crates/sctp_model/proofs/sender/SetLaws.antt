@@ -85,6 +85,23 @@ accepted v stream bytes none = by_stream (nat_le v.streams stream) refl
     by_stream true out = let some : Some NoSuchStream ≡ None = rw out at none in absurd (cc)
     by_stream false out = by_empty (length bytes == 0) out refl
 
+-- ---- tickets
+
+tickets_assigned : (f : Format) (v u : SenderView) → IsAssigned v f u → v.tickets ≤ TICKET_LIMIT → u.tickets ≤ TICKET_LIMIT
+tickets_assigned _ v _ (Whole q rest is) h = h
+tickets_assigned _ v _ (Begun s q lt on first) h = h
+tickets_assigned _ v _ (Continued s e lt on) h = h
+
+-- no more are given than there are: that is refused as Spent
+pub few_tickets : (f : Format) (v : SenderView) → IsReached f v → v.tickets ≤ TICKET_LIMIT
+few_tickets f _ (Begins i s b r p large) = omega arith
+few_tickets f _ (Queues v l p b u h free) = let a = accepted v l.stream b free in omega (arith, a.ticket)
+few_tickets f _ (Goes v room w h next may) = after_wish (λ u. u.tickets ≤ TICKET_LIMIT) f v w (few_tickets f v h) (λ u a. tickets_assigned f v u a (few_tickets f v h)) (λ u i x. x) next
+few_tickets f _ (Covers v x h none) = few_tickets f v h
+few_tickets f _ (Closes v x h none) = few_tickets f v h
+few_tickets f _ (Abandons v t h) = after_abandon (λ u. u.tickets ≤ TICKET_LIMIT) v t (few_tickets f v h) (λ on. few_tickets f v h) (λ n is kept. few_tickets f v h)
+few_tickets f _ (Repeats v h) = few_tickets f v h
+
 -- ---- messages that wait have a fragment, and are of a stream that is there
 
 abbrev pub AllFilled : ℕ → List Queued → Type 0

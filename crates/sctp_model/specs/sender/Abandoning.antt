@@ -84,13 +84,21 @@ given_up v n = record v {
   marked = λ i. v.marked i && not (passes_at v.plan (λ j e. is_of n.lane n.number e) i);
 }
 
--- a message with a number is abandoned where that is allowed, and it neither was before nor is acknowledged
+-- a message with a number may be abandoned where that is allowed, and it neither was before nor is acknowledged
+abbrev pub may_give_up : SenderView → Name → Bool
+may_give_up v n = v.partial && (not (is_abandoned v n) && not (is_covered v n))
+
+-- it is abandoned where it may be
 abbrev pub give_up : SenderView → Name → SenderView
-give_up v n = if v.partial && (not (is_abandoned v n) && not (is_covered v n)) then given_up v n else v
+give_up v n = if may_give_up v n then given_up v n else v
 
 -- The view after `abandon`: a message without a number leaves the queue.
 abbrev pub abandon_after : SenderView → (ticket : ℕ) → SenderView
 abandon_after v t = option_map_or (give_up v) (name_of v t) (record v { queue = without t v.queue })
+
+-- the message with this ticket may be abandoned: it waits for its number, or it has one
+abbrev pub may_abandon : SenderView → (ticket : ℕ) → Bool
+may_abandon v t = option_map_or (may_give_up v) (name_of v t) (waits t v.queue)
 
 -- ---- what is past its time
 
@@ -112,6 +120,14 @@ is_overdue v now t = some_passes (is_past now) (message_with v t)
 -- then it is abandoned
 abbrev pub expire_one : (now : ℕ) → SenderView → (ticket : ℕ) → SenderView
 expire_one now v t = if is_overdue v now t then abandon_after v t else v
+
+-- it is past its time, and may be abandoned
+abbrev pub is_to_expire : SenderView → (now ticket : ℕ) → Bool
+is_to_expire v now t = is_overdue v now t && may_abandon v t
+
+-- some message is: then EXPIRE has something to do
+abbrev pub has_late : SenderView → (now : ℕ) → Bool
+has_late v now = list_any (is_to_expire v now) (count_up 1 v.tickets)
 
 -- EXPIRE: so it goes with each ticket given, by rising number.
 abbrev pub expired : SenderView → (now : ℕ) → SenderView

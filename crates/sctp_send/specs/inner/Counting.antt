@@ -27,7 +27,7 @@ abbrev pub moment_from : Option Message → ℕ
 moment_from None = LAST_MOMENT
 moment_from (Some m) = unwrap_or m.until LAST_MOMENT
 
--- that of an entry's message, unless it was given up
+-- that of an entry's message, unless the entry is covered or given up
 abbrev pub moment : Item → ℕ
 moment x = moment_from (item_message x)
 

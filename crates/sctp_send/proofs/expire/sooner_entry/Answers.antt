@@ -8,4 +8,4 @@ use Rattle.sctp_send.proofs.expire.sooner_entry.Goals as goal
 pub returns : goal.returns
 returns c = λ size.
     c.sooner.ensures size ∙ ap (λ (m : MessageFields). sooner c.args.found (late_after c.args.now c.args.last (Some (message_meaning size m)))) c.deref.ensures
-    ∙ ap (λ (b : Bool). sooner c.args.found (late_after c.args.now c.args.last (if b then None else Some (message_meaning size c.args.entry.now.message.value)))) (sym c.if-entry.false)
+    ∙ ap (λ (b : Bool). sooner c.args.found (late_after c.args.now c.args.last (if b then None else Some (message_meaning size c.args.entry.now.message.value)))) (sym (sym c.is_done.ensures ∙ c.if-is_done.false))
