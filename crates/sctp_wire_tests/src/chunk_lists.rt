@@ -1,9 +1,8 @@
-//! Lists of chunks put together, what does not fit, and the faults of bytes that are no chunks. Bytes are spaced by field.
+//! Lists of chunks put together, and what does not fit. Bytes are spaced by field.
 
 use sctp_wire::{
     Blocks, Causes, Chunk, Forward, GapBlock, Init, Parameters, Piece, Sack, Skip, SkipForm, Skips,
-    Tsns, WireFault, is_typed_list, put_block, put_cause, put_parameter, put_skip, put_word,
-    read_chunks,
+    Tsns, is_typed_list, put_block, put_cause, put_parameter, put_skip, put_word,
 };
 use std::test::Fail;
 
@@ -34,72 +33,6 @@ fn lists_are_put_together(rt: HostRuntime) -> Result<(), Fail> {
     let mut causes = Vec::new(rt.alloc());
     put_cause(9, &[0, 0, 0, 0x64], &mut causes)?;
     assert_eq!(rt; causes.as_slice(), [0, 9, 0, 8, 0, 0, 0, 0x64].as_slice());
-    Ok(())
-}
-
-// Bytes, and their fault.
-const FAULTS: [(&[u8], WireFault); 12] = [
-    (&[0x06, 0, 0, 3], WireFault::LengthTooSmall { offset: 0 }),
-    (&[0x06, 0, 0, 5], WireFault::Cut { offset: 0 }),
-    (
-        &[
-            0x0b, 0, 0, 4, 0x00, 0x03, 0x00, 0x11, 0, 0, 0, 1, 0, 0, 0, 0, 0, 0, 0, 0, 0x48,
-        ],
-        WireFault::PaddingMissing { offset: 4 },
-    ),
-    (&[0x0b, 0, 0, 4, 1], WireFault::Cut { offset: 4 }),
-    // DATA without its last field, a SACK that counts a block more than it has
-    (
-        &[0x00, 3, 0, 12, 0, 0, 0, 1, 0, 0, 0, 0],
-        WireFault::ChunkBody { offset: 0 },
-    ),
-    (
-        &[0x03, 0, 0, 16, 0, 0, 0, 10, 0, 1, 0, 0, 0, 1, 0, 0],
-        WireFault::ChunkBody { offset: 0 },
-    ),
-    // an I-FORWARD-TSN with half an entry, a COOKIE ACK with a value
-    (
-        &[0xc2, 0, 0, 12, 0, 0, 0, 7, 0, 3, 0, 1],
-        WireFault::ChunkBody { offset: 0 },
-    ),
-    (
-        &[0x0b, 0, 0, 8, 0, 0, 0, 0],
-        WireFault::ChunkBody { offset: 0 },
-    ),
-    // causes that are no list
-    (
-        &[0x09, 0, 0, 8, 0, 3, 0, 8],
-        WireFault::ParameterLength { offset: 0 },
-    ),
-    (
-        &[0x09, 0, 0, 8, 0, 3, 0, 3],
-        WireFault::ParameterLength { offset: 0 },
-    ),
-    // a SHUTDOWN COMPLETE and a COOKIE ECHO behind a COOKIE ACK
-    (
-        &[0x0b, 0, 0, 4, 0x0e, 0, 0, 4],
-        WireFault::NotAlone { offset: 4 },
-    ),
-    (
-        &[0x0b, 0, 0, 4, 0x0a, 0, 0, 4],
-        WireFault::NotAlone { offset: 4 },
-    ),
-];
-
-#[test]
-fn the_first_check_that_fails_is_the_fault(rt: HostRuntime) -> Result<(), Fail> {
-    for (bytes, fault) in FAULTS {
-        assert_eq!(rt; read_chunks(bytes).err(), Some(fault));
-    }
-    assert!(rt; read_chunks(&[])?.next().is_none());
-    // COOKIE ECHO first; nonzero padding; a counted final padding of a cause
-    assert!(rt; read_chunks(&[0x0a, 0, 0, 4, 0x0b, 0, 0, 4]).is_ok());
-    assert!(rt; read_chunks(&[0x0a, 0, 0, 5, 1, 7, 7, 7]).is_ok());
-    assert!(rt; read_chunks(&[0x09, 0, 0, 12, 0, 1, 0, 5, 1, 9, 9, 9]).is_ok());
-    assert_eq!(rt;
-        WireFault::NotAlone { offset: 4 }.moved_by(12),
-        WireFault::NotAlone { offset: 16 }
-    );
     Ok(())
 }
 
