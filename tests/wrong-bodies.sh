@@ -104,6 +104,21 @@ try() {
     return $ended
 }
 
+# The edits of a crate that are meant by these words, each a crate or one of its edits.
+edits_of() {
+    crate=$1
+    shift
+    for word in "$@"; do
+        case $word in
+            "$crate") set -- crates/"$crate"/wrong-bodies/*.edit ;;
+            "$crate"/*) set -- crates/"$crate"/[mw]*/"${word#*/}".edit ;;
+            *) continue ;;
+        esac
+        [ -e "$1" ] || { echo "$word: there is no such edit" >&2; return 1; }
+        printf '%s\n' "$@"
+    done
+}
+
 all=$(for folder in crates/*/wrong-bodies; do [ -d "$folder" ] && basename "$(dirname "$folder")"; done)
 if [ "${1:-}" = --look ]; then
     shift
@@ -117,17 +132,8 @@ trap 'rm -rf -- "$room"' EXIT
 trap 'exit 130' HUP INT TERM
 lay $(printf '%s\n' "$@" | sed 's,/.*,,')
 status=0
-for word in "$@"; do
-    crate=${word%%/*}
-    case $word in
-        */*) set -- crates/"$crate"/[mw]*/"${word#*/}".edit ;;
-        *) set -- crates/"$crate"/wrong-bodies/*.edit ;;
-    esac
-    if [ -e "$1" ]; then
-        try "$crate" "$@" || status=1
-    else
-        echo "$word: there is no such edit"
-        status=1
-    fi
+for crate in $(printf '%s\n' "$@" | sed 's,/.*,,' | sort -u); do
+    edits=$(edits_of "$crate" "$@") || exit 2
+    try "$crate" $edits || status=1
 done
 exit $status
