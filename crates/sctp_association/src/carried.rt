@@ -3,7 +3,7 @@
 ghost use Rattle.std.specs.Prelude.{◌≡◌, ◌<◌, ◌+◌, ◌^◌, true, length, IfOk};
 ghost use Rattle.sctp_model.specs.wire.Typed.{are_typed, AreAsWritten};
 
-use sctp_wire::NoMemory;
+use sctp_values::NoMemory;
 use std::alloc::Global;
 
 /// The value of a HEARTBEAT, which its answer brings back (RFC 9260, 8.3).

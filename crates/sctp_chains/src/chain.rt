@@ -3,7 +3,7 @@
 ghost use Rattle.std.specs.Prelude.{◌≡◌, ◌≤◌, ◌+◌, ◌<◌, vec_len, vec_capacity, OnOk, OnErr, IfOk};
 ghost use Rattle.sctp_chains.specs.Links.{chain_of, one_of, is_linked, is_whole, join};
 
-use sctp_wire::NoMemory;
+use sctp_values::NoMemory;
 use std::alloc::Global;
 
 /// What the chunk that begins a message says of it: its own index, and the payload protocol identifier.

@@ -5,7 +5,7 @@ ghost use Rattle.std.specs.List.{insert, remove};
 ghost use Rattle.std.specs.VecDeque.{deque_len};
 
 use crate::chain::Chain;
-use sctp_wire::NoMemory;
+use sctp_values::NoMemory;
 use std::collections::VecDeque;
 
 /// Puts a chain in at a place.

@@ -6,7 +6,7 @@ ghost use Rattle.sctp_chains.specs.inner.Filing.{IsPlace, IsLinkBefore, IsLinkBe
 
 use crate::chain::{Chain, Part, alone};
 use crate::ends::put_at;
-use sctp_wire::NoMemory;
+use sctp_values::NoMemory;
 use std::alloc::Global;
 use std::collections::VecDeque;
 

@@ -4,7 +4,7 @@ use Rattle.sctp_model.specs.numbers.Lists.{at}
 use Rattle.sctp_model.specs.wire.Chunk.{PieceMeaning}
 use Rattle.sctp_model.specs.receiver.ReceiverView.{Handed, ReceiverView, fresh_receiver}
 use Rattle.sctp_model.specs.first.Ends.{is_taken, piece_said, IsDuplicate, PieceTaken}
-use Rattle.sctp_wire.specs.declared.fault.NoMemory.{NoMemory}
+use Rattle.sctp_values.specs.declared.no_memory.NoMemory.{NoMemory}
 use Rattle.sctp_first_recv.specs.declared.message.Message.{Message}
 use Rattle.sctp_first_recv.specs.declared.receiver.Answer.{Answer}
 use Rattle.sctp_first_recv.specs.declared.receiver.Answer.TheVariants.{PassedOver, Duplicate, Passed, Taken}

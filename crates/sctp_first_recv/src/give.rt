@@ -11,7 +11,8 @@ ghost use Rattle.sctp_first_recv.specs.inner.Recording.{is_reached, Records};
 use crate::kept::{KeptPiece, lowest};
 use crate::message::Message;
 use crate::seen::Seen;
-use sctp_wire::{NoMemory, Piece};
+use sctp_values::NoMemory;
+use sctp_wire::Piece;
 use std::alloc::Global;
 use std::collections::VecDeque;
 

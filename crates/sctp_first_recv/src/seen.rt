@@ -5,7 +5,7 @@ ghost use Rattle.sctp_first_recv.specs.ReceiverKept.{is_among};
 ghost use Rattle.sctp_first_recv.specs.SeenStands.{SeenSays, SeenStands, IsAbove, seen_of};
 ghost use Rattle.sctp_first_recv.specs.inner.Recording.{is_reached, Records};
 
-use sctp_wire::NoMemory;
+use sctp_values::NoMemory;
 use std::alloc::Global;
 use std::collections::BTreeSet;
 use std::marker::Model;

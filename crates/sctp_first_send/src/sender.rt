@@ -14,7 +14,8 @@ ghost use Rattle.sctp_first_send.specs.SenderSteps.{RefusalAnswer, QueueAnswer, 
 
 use crate::waiting::{Waiting, forget, how_many_fit, put_first};
 use sctp_packet::PacketWriter;
-use sctp_wire::{NoMemory, Sack};
+use sctp_values::NoMemory;
+use sctp_wire::Sack;
 use std::alloc::Global;
 use std::collections::VecDeque;
 use std::marker::Model;

@@ -12,7 +12,8 @@ ghost use Rattle.sctp_first_send.specs.SenderSteps.{numbers_of};
 
 use crate::sender::{MESSAGE_LIMIT, Ticket};
 use sctp_packet::PacketWriter;
-use sctp_wire::{Chunk, NoMemory, Piece, padded};
+use sctp_values::NoMemory;
+use sctp_wire::{Chunk, Piece, padded};
 use std::alloc::Global;
 use std::collections::VecDeque;
 

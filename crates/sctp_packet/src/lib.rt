@@ -12,4 +12,5 @@ pub use checksum::{HEADER, crc32c};
 pub use fault::PacketFault;
 pub use laws::{one_packet, written_packet_reads};
 pub use read::{Packet, read_packet};
+pub use sctp_values::NoMemory;
 pub use writer::PacketWriter;

@@ -11,7 +11,8 @@ ghost use Rattle.sctp_packet.specs.Draft.{with_header, packet_of, empty_draft, r
 
 use crate::checksum::{HEADER, SUM_AT, crc32c};
 use byteorder::{ByteOrder, LittleEndian};
-use sctp_wire::{Chunk, NoMemory, chunks_are_read, write_chunk, written_each_reads};
+use sctp_values::NoMemory;
+use sctp_wire::{Chunk, chunks_are_read, write_chunk, written_each_reads};
 use std::alloc::Global;
 use std::marker::Model;
 

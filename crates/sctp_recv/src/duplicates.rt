@@ -5,7 +5,8 @@ ghost use Rattle.std.specs.List.{AllByRecursion};
 ghost use Rattle.sctp_model.specs.numbers.Limits.{DUPLICATE_LIMIT};
 ghost use Rattle.sctp_wire.specs.Items.{words_in, IsWord};
 
-use sctp_wire::{NoMemory, put_word};
+use sctp_values::NoMemory;
+use sctp_wire::put_word;
 use std::alloc::Global;
 
 /// How many TSNs that came again are told in a SACK.

@@ -24,7 +24,8 @@ use crate::give::{give_ordered, make_room};
 use crate::inbound::Inbound;
 use crate::receiver::Receiver;
 use sctp_framing::Framing;
-use sctp_wire::{Forward, NoMemory, Skip, Skips};
+use sctp_values::NoMemory;
+use sctp_wire::{Forward, Skip, Skips};
 
 /// What was done with a FORWARD.
 #[derive(Clone, Copy, Debug, PartialEq, Eq)]

@@ -17,7 +17,8 @@ use crate::inbound::Inbound;
 use crate::message::{Message, message_of};
 use crate::room::small_len;
 use sctp_framing::Framing;
-use sctp_wire::{NoMemory, Piece};
+use sctp_values::NoMemory;
+use sctp_wire::Piece;
 use std::collections::VecDeque;
 
 /// Lets a message wait, where there is room. It answers its bytes, at most 2^32 - 1.

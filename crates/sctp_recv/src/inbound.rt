@@ -18,7 +18,8 @@ ghost use Rattle.sctp_recv.specs.inner.Giving.{sized, SameChunks, lane_in};
 use crate::message::Message;
 use sctp_chains::Chains;
 use sctp_framing::Framing;
-use sctp_wire::{NoMemory, Piece};
+use sctp_values::NoMemory;
+use sctp_wire::Piece;
 use std::alloc::Global;
 use std::collections::VecDeque;
 

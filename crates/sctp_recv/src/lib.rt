@@ -26,3 +26,4 @@ pub use laws::{
 pub use message::Message;
 pub use receiver::Receiver;
 pub use sack::SackLists;
+pub use sctp_values::NoMemory;

@@ -11,7 +11,7 @@ ghost use Rattle.sctp_model.specs.receiver.Reading.{lane_of};
 ghost use Rattle.sctp_chains.specs.WholeOf.{IsMadeOf};
 
 use sctp_chains::Whole;
-use sctp_wire::NoMemory;
+use sctp_values::NoMemory;
 
 /// A message that was handed over, whole, with its fragments as they came.
 #[derive(Debug, PartialEq, Drop)]

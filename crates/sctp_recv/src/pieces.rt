@@ -15,7 +15,8 @@ use crate::answer::{Answer, Row, TsnPlace, place_of_tsn};
 use crate::give::keep_in;
 use crate::receiver::Receiver;
 use sctp_framing::Framing;
-use sctp_wire::{NoMemory, Piece};
+use sctp_values::NoMemory;
+use sctp_wire::Piece;
 
 #[tactic(auto, unfolding(crate::specs::StandsFor::StandsFor))]
 impl<F: Framing> Receiver<F> {

@@ -18,7 +18,7 @@ use crate::sack::SackLists;
 use crate::seen::Seen;
 use crate::tsn::tsn_of;
 use sctp_framing::Framing;
-use sctp_wire::NoMemory;
+use sctp_values::NoMemory;
 use std::alloc::Global;
 
 /// The receiving end, in one format of user data.

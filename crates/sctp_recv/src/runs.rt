@@ -5,7 +5,7 @@ ghost use Rattle.std.specs.List.{insert};
 ghost use Rattle.std.specs.VecDeque.{deque_len, deque_capacity};
 ghost use Rattle.sctp_recv.specs.Runs.{AreSpaced, in_run, lies_below, begins_by, IsPlace, Gain};
 
-use sctp_wire::NoMemory;
+use sctp_values::NoMemory;
 use std::collections::VecDeque;
 
 /// Indexes that came, from the first to the last.

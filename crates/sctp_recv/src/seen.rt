@@ -11,7 +11,8 @@ ghost use Rattle.sctp_recv.specs.SeenStands.{SeenStands, Records, Jumps};
 ghost use Rattle.sctp_model.specs.numbers.Limits.{WINDOW, BLOCK_LIMIT};
 
 use crate::runs::{SeenRun, insert, upto};
-use sctp_wire::{GapBlock, NoMemory, put_block};
+use sctp_values::NoMemory;
+use sctp_wire::{GapBlock, put_block};
 use std::alloc::Global;
 use std::collections::VecDeque;
 use std::marker::Model;

@@ -10,7 +10,7 @@ ghost use Rattle.sctp_text.specs.Numerals.{IsHex};
 use crate::config::Mode;
 use crate::event::Side;
 use sctp_text::{Bytes, read_decimal, read_hex};
-use sctp_wire::NoMemory;
+use sctp_values::NoMemory;
 use std::alloc::Global;
 
 /// The end that a word names.

@@ -11,7 +11,7 @@ use crate::command::Command;
 use crate::config::{Draw, PairConfig};
 use crate::event::Event;
 use sctp_text::{LONGEST_LINE, Words};
-use sctp_wire::NoMemory;
+use sctp_values::NoMemory;
 use std::alloc::Global;
 use thiserror::Error;
 

@@ -5,7 +5,7 @@ ghost use Rattle.sctp_text.specs.SpacedWords.{line_of};
 ghost use Rattle.sctp_text.specs.WrittenWords.{text_of};
 
 use sctp_text::Word;
-use sctp_wire::NoMemory;
+use sctp_values::NoMemory;
 
 /// Appends a line: its first word, further words, and then numbers.
 ///

@@ -10,7 +10,7 @@ ghost use Rattle.sctp_text.specs.WrittenWords.{text_of};
 use crate::event::{Outcome, Side};
 use crate::line_out::put_line;
 use sctp_text::{Bytes, Word};
-use sctp_wire::NoMemory;
+use sctp_values::NoMemory;
 
 /// Appends the line of an outcome, with its line feed.
 ///

@@ -9,7 +9,7 @@ use crate::event::{Side, State};
 use crate::line_out::put_line;
 use crate::outcome_line::side_word;
 use sctp_text::Word;
-use sctp_wire::NoMemory;
+use sctp_values::NoMemory;
 
 /// Appends `end X STATE -`: an end's state, and that it hasn't ended.
 ///

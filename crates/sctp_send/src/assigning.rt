@@ -16,7 +16,7 @@ use crate::queue::fragments_of;
 use crate::sender::{Rest, Track};
 use crate::waiting::Waiting;
 use sctp_framing::Framing;
-use sctp_wire::NoMemory;
+use sctp_values::NoMemory;
 
 /// The most indexes above CUM and messages in part.
 const WINDOW: usize = 32_767;

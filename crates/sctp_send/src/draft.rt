@@ -12,7 +12,7 @@ use crate::sender::{Rest, Track};
 use crate::streams::Streams;
 use crate::waiting::Waiting;
 use crate::window::Window;
-use sctp_wire::NoMemory;
+use sctp_values::NoMemory;
 use std::rc::Rc;
 
 /// What filling changes: entries, the queue, streams and the turn as in a sender; the messages that took their numbers, in order; and what was

@@ -19,7 +19,7 @@ use crate::sender::{Rest, Sender, Track};
 use crate::streams::Streams;
 use crate::waiting::Waiting;
 use sctp_framing::Framing;
-use sctp_wire::NoMemory;
+use sctp_values::NoMemory;
 use std::rc::Rc;
 
 /// Room for so many tickets is taken at once.

@@ -15,7 +15,7 @@ use crate::waiting::Waiting;
 use crate::window::Window;
 use sctp_framing::Framing;
 use sctp_packet::PacketWriter;
-use sctp_wire::NoMemory;
+use sctp_values::NoMemory;
 use std::mem;
 
 /// The tickets of messages that took their numbers, by their first TSN.

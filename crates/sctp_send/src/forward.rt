@@ -21,7 +21,8 @@ use crate::sender::Sender;
 use crate::window::Window;
 use sctp_framing::Framing;
 use sctp_packet::PacketWriter;
-use sctp_wire::{Forward, NoMemory, Skip, Skips, put_skip};
+use sctp_values::NoMemory;
+use sctp_wire::{Forward, Skip, Skips, put_skip};
 use std::alloc::Global;
 
 #[tactic(auto, unfolding(crate::specs::SenderStands::StandsFor))]

@@ -30,4 +30,5 @@ pub use fill::Filled;
 pub use message::Ticket;
 pub use queue::SendFault;
 pub use sack::SackFault;
+pub use sctp_values::NoMemory;
 pub use sender::Sender;

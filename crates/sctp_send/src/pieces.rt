@@ -13,7 +13,8 @@ use crate::outstanding::Place;
 use crate::queue::fragments_of;
 use sctp_framing::Framing;
 use sctp_packet::PacketWriter;
-use sctp_wire::{NoMemory, Piece};
+use sctp_values::NoMemory;
+use sctp_wire::Piece;
 
 /// The bytes of a fragment: a range of its message's. An end mark has none.
 pub fn bytes_of(message: &Message, place: Place, size: u16) -> &[u8]

@@ -10,7 +10,7 @@ use crate::draft::shared;
 use crate::message::Message;
 use crate::outstanding::{Outstanding, Place, Standing};
 use crate::window::Window;
-use sctp_wire::NoMemory;
+use sctp_values::NoMemory;
 use std::rc::Rc;
 
 /// A fragment takes the next index.

@@ -23,7 +23,7 @@ use crate::window::Window;
 use crate::wishes::may_flow;
 use sctp_framing::Framing;
 use sctp_packet::PacketWriter;
-use sctp_wire::NoMemory;
+use sctp_values::NoMemory;
 use std::rc::Rc;
 
 impl<F: Framing> Sender<F> {

@@ -12,7 +12,7 @@ use crate::streams::Streams;
 use crate::waiting::Waiting;
 use crate::window::Window;
 use sctp_framing::Framing;
-use sctp_wire::NoMemory;
+use sctp_values::NoMemory;
 use std::alloc::Global;
 use std::marker::{Model, PhantomData};
 use std::rc::Rc;

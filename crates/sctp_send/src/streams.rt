@@ -10,7 +10,7 @@ use crate::expire::sooner_rest;
 use crate::message::moment_of;
 use crate::queue::owed_by_track;
 use crate::sender::Track;
-use sctp_wire::NoMemory;
+use sctp_values::NoMemory;
 use std::alloc::Global;
 use std::marker::Model;
 use std::mem;

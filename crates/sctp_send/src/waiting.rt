@@ -9,7 +9,7 @@ ghost use Rattle.sctp_send.specs.inner.Expiring.{soonest, queue_messages};
 use crate::expire::sooner;
 use crate::message::{Message, moment_of};
 use crate::queue::owed_by_message;
-use sctp_wire::NoMemory;
+use sctp_values::NoMemory;
 use std::alloc::Global;
 use std::collections::VecDeque;
 use std::marker::Model;

@@ -13,7 +13,7 @@ use crate::expire::sooner_entry;
 use crate::message::Message;
 use crate::outstanding::{Outstanding, Standing};
 use crate::wishes::{is_first_sending, is_repeat};
-use sctp_wire::NoMemory;
+use sctp_values::NoMemory;
 use std::alloc::Global;
 use std::collections::VecDeque;
 use std::marker::Model;

@@ -6,7 +6,7 @@ use Rattle.sctp_model.specs.first.World as world
 use Rattle.sctp_model.specs.first.Sending.{Refusal, NotOpen, refusal}
 use Rattle.sctp_model.specs.first.Ends.{State, Closed, Listen, Established}
 use Rattle.sctp_model.specs.first.World.{refusal_in, taken_by_user}
-use Rattle.sctp_wire.specs.declared.fault.NoMemory.{NoMemory}
+use Rattle.sctp_values.specs.declared.no_memory.NoMemory.{NoMemory}
 use Rattle.sctp_script.specs.Events.{Answers}
 use Rattle.sctp_trace.specs.PairRuns.{StepAnswer}
 use Rattle.sctp_script.specs.declared.event.Outcome.{Outcome}

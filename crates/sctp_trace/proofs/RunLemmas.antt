@@ -4,7 +4,7 @@ use Rattle.std.proofs.lemmas.List.{take_more, map-append}
 use Rattle.sctp_model.specs.first.World as world
 use Rattle.sctp_model.specs.first.World.{World, start, Step, Run, last_of, IsReachable}
 use Rattle.sctp_safety.specs.Worlds.{SafeRuns}
-use Rattle.sctp_wire.specs.declared.fault.NoMemory.{NoMemory}
+use Rattle.sctp_values.specs.declared.no_memory.NoMemory.{NoMemory}
 use Rattle.sctp_script.specs.Events.{event_meaning}
 use Rattle.sctp_trace.specs.PairRuns.{StepAnswer, StepAnswers, IsCutShort, Course, one_event, RunsFrom, Promised}
 use Rattle.sctp_script.specs.declared.event.Event.{Event}

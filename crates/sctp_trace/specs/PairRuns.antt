@@ -5,7 +5,7 @@ use Rattle.std.specs.declared.alloc.Global.{Global}
 use Rattle.sctp_model.specs.first.World as world
 use Rattle.sctp_model.specs.first.World.{World, start, Step, Run, IsReachable}
 use Rattle.sctp_safety.specs.Worlds.{AllSafe}
-use Rattle.sctp_wire.specs.declared.fault.NoMemory.{NoMemory}
+use Rattle.sctp_values.specs.declared.no_memory.NoMemory.{NoMemory}
 use Rattle.sctp_script.specs.Events.{event_meaning, Answers}
 use Rattle.sctp_script.specs.declared.event.Event.{Event}
 use Rattle.sctp_script.specs.declared.event.Outcome.{Outcome}

@@ -14,7 +14,7 @@ ghost use Rattle.sctp_script.specs.Configuration.{configuration_meaning};
 use sctp_first_recv::Receiver;
 use sctp_first_send::{Filled, SendFault, Sender};
 use sctp_script::{Bytes, Outcome, PairConfig, Refusal, Side, State};
-use sctp_wire::NoMemory;
+use sctp_values::NoMemory;
 use std::alloc::Global;
 
 /// A message that the user took: its stream, and its number there, if it has one.

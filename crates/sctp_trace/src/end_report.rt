@@ -11,7 +11,7 @@ use crate::end::{End, TakenMessage};
 use sctp_first_recv::Message;
 use sctp_first_send::{Filled, Ticket};
 use sctp_script::{Side, put_end, put_handed, put_numbered};
-use sctp_wire::NoMemory;
+use sctp_values::NoMemory;
 use std::alloc::Global;
 use std::collections::VecDeque;
 

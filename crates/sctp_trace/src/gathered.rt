@@ -13,7 +13,7 @@ use crate::pair::Pair;
 use crate::script::ScriptFault;
 use sctp_script::{LineFault, Outcome, put_outcome};
 use sctp_text::{Failed, LineReader, Sink, write_all};
-use sctp_wire::NoMemory;
+use sctp_values::NoMemory;
 
 /// With so many bytes gathered they are written, also where the next line needn't be waited for.
 const ENOUGH: usize = 4_096;

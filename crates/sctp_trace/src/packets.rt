@@ -20,7 +20,8 @@ use crate::end::{End, is_open};
 use sctp_first_recv::{Answer, Receiver};
 use sctp_packet::{HEADER, PacketWriter, written_packet_reads};
 use sctp_script::{Outcome, Side};
-use sctp_wire::{Blocks, Chunk, Chunks, NoMemory, Sack, Tsns, read_chunks};
+use sctp_values::NoMemory;
+use sctp_wire::{Blocks, Chunk, Chunks, Sack, Tsns, read_chunks};
 use std::alloc::Global;
 
 /// An end builds a packet, of the SACK where one is due and of as many messages as fit, and puts it into its bag.

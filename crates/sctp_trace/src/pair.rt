@@ -14,7 +14,7 @@ use crate::end_report::put_report;
 use crate::packets::{build_at, deliver_at};
 use sctp_safety::safe_in_every_run;
 use sctp_script::{Event, Outcome, PairConfig, Refusal, Side, State};
-use sctp_wire::NoMemory;
+use sctp_values::NoMemory;
 use std::alloc::Global;
 
 /// Two ends with one configuration, the packets that either ever built, and whether they were opened.

@@ -19,7 +19,7 @@ use sctp_script::{
 use sctp_text::{
     Failed, LineReader, NextLine, ReadFault, Sink, Source, line_after_line, write_all,
 };
-use sctp_wire::NoMemory;
+use sctp_values::NoMemory;
 use std::alloc::Global;
 use thiserror::Error;
 

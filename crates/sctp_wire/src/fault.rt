@@ -83,8 +83,3 @@ impl WireFault {
         }
     }
 }
-
-/// Memory ran out: a growth was refused.
-#[derive(Clone, Copy, Debug, PartialEq, Eq, Error)]
-#[error("out of memory")]
-pub struct NoMemory;

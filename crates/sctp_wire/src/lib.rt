@@ -25,7 +25,7 @@ pub use chunks::forward::Forward;
 pub use chunks::init::Init;
 pub use chunks::piece::Piece;
 pub use chunks::sack::Sack;
-pub use fault::{NoMemory, WireFault};
+pub use fault::WireFault;
 pub use items::{put_block, put_cause, put_parameter, put_word};
 pub use laws::{
     chunks_are_read, chunks_join, codes_are_the_definitions, one_reading, typed_one_reading,
@@ -34,6 +34,7 @@ pub use laws::{
 pub use lists::{BlockIter, Blocks, GapBlock, TsnIter, Tsns};
 pub use numbers::padded;
 pub use read::{Chunks, read_chunks};
+pub use sctp_values::NoMemory;
 pub use skips::{Skip, SkipForm, SkipIter, Skips, put_skip};
 pub use typed::{
     Cause, Causes, Parameter, Parameters, TypedItem, TypedItems, TypedIter, is_typed_list,

@@ -6,8 +6,8 @@ ghost use Rattle.std.specs.Iterator.{YieldsFirstBy, item_count};
 ghost use Rattle.sctp_wire.specs.ChunkTree.{skip_meaning};
 ghost use Rattle.sctp_wire.specs.Skips.{skip_size, skip_bytes, skip_at, IsSkip, skips_in, are_reserved_zero, skip_list};
 
-use crate::fault::NoMemory;
 use crate::numbers::{append_u16, append_u32, read_u16, read_u32};
+use sctp_values::NoMemory;
 use std::marker::Model;
 
 /// How an entry lies in bytes.

@@ -7,8 +7,8 @@ ghost use Rattle.sctp_wire.specs.Reads.{header, Reads};
 ghost use Rattle.sctp_wire.specs.Writes.{written, Writes};
 
 use crate::chunk::{Chunk, append_value, flags_of, kind_of, length_of};
-use crate::fault::NoMemory;
 use crate::numbers::{append, append_u16, append_zeros, padded};
+use sctp_values::NoMemory;
 
 /// Appends the bytes of a chunk that fits, with its padding: unused flags, reserved bits and padding are zero.
 ///

@@ -3,7 +3,7 @@ use Rattle.std.specs.Prelude.{◌≡◌, ◌⊎◌, true, false, List, [], ◌�
 use Rattle.sctp_model.specs.wire.Chunk.{SackMeaning, ChunkMeaning, Sack}
 use Rattle.sctp_model.specs.first.Ends.{EndView, Packet, Act, Acts, SackOf}
 use Rattle.sctp_model.specs.first.World.{Side, A, B, World}
-use Rattle.sctp_wire.specs.declared.fault.NoMemory.{NoMemory}
+use Rattle.sctp_values.specs.declared.no_memory.NoMemory.{NoMemory}
 
 -- what a chunk leaves; nothing changes where memory is wanting
 abbrev pub ActLeaves : EndView → ChunkMeaning → Result (Unit {0}) NoMemory → EndView → Type 0
