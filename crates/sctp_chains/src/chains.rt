@@ -21,7 +21,7 @@ use crate::rank::rank_at;
 use crate::search::{Found, first_whole, whole_with};
 use crate::whole::Whole;
 use sctp_framing::Framing;
-use sctp_values::NoMemory;
+use sctp_values::{Kind, NoMemory};
 use sctp_wire::Piece;
 use std::alloc::Global;
 use std::collections::VecDeque;
@@ -69,7 +69,7 @@ impl<F: Framing> Chains<F> {
         ensures { (i : ℕ) (l : Lane) (kept : Kept) → StandsFor F.format self.now l kept → IsOf F.format l (counted i (piece_meaning piece.now) number)
             → result ≡ is_repeated F.format kept (counted i (piece_meaning piece.now) number) }
     {
-        if !F::is_numbered(true) {
+        if !F::is_numbered(Kind::Unordered) {
             return false;
         }
         let rank = rank_at(number, F::place(0, piece.begin, piece.word));
@@ -126,7 +126,7 @@ impl<F: Framing> Chains<F> {
         let place = F::place(index, piece.begin, piece.word);
         let found = whole_with(&self.chains, rank_at(number, place))?;
         let chain = remove(&mut self.chains, &mut self.held, found.at)?;
-        let upto = if F::is_numbered(true) {
+        let upto = if F::is_numbered(Kind::Unordered) {
             rank_at(number, u32::MAX)
         } else {
             chain.last
@@ -181,7 +181,7 @@ impl<F: Framing> Chains<F> {
         ensures { (l : Lane) (kept : Kept) → StandsFor F.format self.old l kept → l.kind ≡ Unordered
             → StandsFor F.format self.new l (filter (λ x. not (lets_go F.format x.index x.number jump skip)) kept) }
     {
-        if F::is_numbered(true) {
+        if F::is_numbered(Kind::Unordered) {
             self.drop_below(skip);
         } else {
             self.held = drop_upto(&mut self.chains, self.held, 0, rank_at(None, jump));

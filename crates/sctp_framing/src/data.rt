@@ -3,6 +3,7 @@
 use crate::framing::Framing;
 use crate::numbers::as_number;
 use sctp_serial::{S16, Serial};
+use sctp_values::Kind;
 use sctp_wire::codes::DATA_HEADER;
 use sctp_wire::{Chunk, Forward, Piece, SkipForm};
 
@@ -29,9 +30,12 @@ impl Framing for DataFraming {
         DATA_HEADER
     }
 
-    fn wire_number(unordered: bool, number: u32) -> u32 {
+    fn wire_number(kind: Kind, number: u32) -> u32 {
         let ssn = u32::from(S16::of_count(number).0);
-        if unordered { 0 } else { ssn }
+        match kind {
+            Kind::Ordered => ssn,
+            Kind::Unordered => 0,
+        }
     }
 
     fn wire_word(payload: u32, _fragment: u32) -> u32 {
@@ -42,8 +46,8 @@ impl Framing for DataFraming {
         false
     }
 
-    fn is_numbered(unordered: bool) -> bool {
-        !unordered
+    fn is_numbered(kind: Kind) -> bool {
+        matches!(kind, Kind::Ordered)
     }
 
     fn forward_chunk(forward: Forward<'_>) -> Chunk<'_> {
@@ -54,11 +58,11 @@ impl Framing for DataFraming {
         SkipForm::Narrow
     }
 
-    fn number_near(unordered: bool, wire: u32, reference: u32) -> Option<u32> {
-        if unordered {
-            return None;
+    fn number_near(kind: Kind, wire: u32, reference: u32) -> Option<u32> {
+        match kind {
+            Kind::Ordered => as_number(S16::of_count(wire).near(reference)),
+            Kind::Unordered => None,
         }
-        as_number(S16::of_count(wire).near(reference))
     }
 
     fn place(index: u32, _begin: bool, _word: u32) -> u32 {

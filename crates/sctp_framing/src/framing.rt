@@ -1,5 +1,6 @@
 //! The trait of a format, with its laws.
 
+use sctp_values::Kind;
 use sctp_wire::{Chunk, Forward, Piece, SkipForm};
 
 /// A format of user data: DATA or I-DATA.
@@ -9,8 +10,9 @@ use sctp_wire::{Chunk, Forward, Piece, SkipForm};
 pub trait Framing {
     ghost use Rattle.std.specs.Prelude.{◌≡◌};
     ghost use Rattle.sctp_model.specs.messages.Format.{Format, is_numbered};
-    ghost use Rattle.sctp_model.specs.messages.Framing.{lane_kind, data_chunk, header_of, wire_number, takes_turns, number_near, place_in, begins_in, payload_in, forward_chunk, lets_go};
+    ghost use Rattle.sctp_model.specs.messages.Framing.{data_chunk, header_of, wire_number, takes_turns, number_near, place_in, begins_in, payload_in, forward_chunk, lets_go};
     ghost use Rattle.sctp_model.specs.messages.Pieces.{word_of};
+    ghost use Rattle.sctp_values.specs.Meanings.{kind_meaning};
     ghost use Rattle.sctp_wire.specs.ChunkTree.{piece_meaning, forward_meaning, chunk_meaning};
     ghost use Rattle.sctp_framing.specs.SkipForms.{skip_form};
     ghost use Rattle.sctp_model.specs.messages.FormatLaws.{WholeLaw, SkipLaw};
@@ -29,8 +31,8 @@ pub trait Framing {
         ensures { result ≡ header_of format };
 
     /// What stands on the wire for a message's number: an SSN, 0 for an unordered DATA, or a MID (RFC 9260, 6.5; RFC 8260, 2.1).
-    fn wire_number(unordered: bool, number: u32) -> u32
-        ensures { result ≡ wire_number format (lane_kind unordered) number };
+    fn wire_number(kind: Kind, number: u32) -> u32
+        ensures { result ≡ wire_number format (kind_meaning kind) number };
 
     /// The word of a fragment: the payload id, or behind an I-DATA message's first fragment the fragment number (RFC 9260, 3.3.1; RFC 8260, 2.1).
     fn wire_word(payload: u32, fragment: u32) -> u32
@@ -42,8 +44,8 @@ pub trait Framing {
 
     /// Whether messages of this kind are numbered: a FORWARD lists these, and a receiver files them by number.
     /// Others, the unordered ones of DATA, are known by their indexes alone (RFC 9260, 3.3.1; RFC 8260, 2.1).
-    fn is_numbered(unordered: bool) -> bool
-        ensures { result ≡ is_numbered format (lane_kind unordered) };
+    fn is_numbered(kind: Kind) -> bool
+        ensures { result ≡ is_numbered format (kind_meaning kind) };
 
     /// The chunk of a FORWARD: a FORWARD-TSN or an I-FORWARD-TSN (RFC 3758, 3.2; RFC 8260, 2.3.1).
     fn forward_chunk(forward: Forward<'_>) -> Chunk<'_>
@@ -58,8 +60,8 @@ pub trait Framing {
     /// The number that a wire value stands for near a reference, of a chunk or of an entry of a FORWARD (RFC 9260, 2.6 and 6.5; RFC 8260, 2.1).
     ///
     /// None where the format has none, where no count is near, and for a count of 2^32 - 1.
-    fn number_near(unordered: bool, wire: u32, reference: u32) -> Option<u32>
-        ensures { result ≡ number_near format (lane_kind unordered) wire reference };
+    fn number_near(kind: Kind, wire: u32, reference: u32) -> Option<u32>
+        ensures { result ≡ number_near format (kind_meaning kind) wire reference };
 
     /// What rises by one from a fragment of a message to the next: the index, or the fragment number (RFC 9260, 6.9; RFC 8260, 2.1).
     fn place(index: u32, begin: bool, word: u32) -> u32

@@ -3,6 +3,7 @@
 use crate::framing::Framing;
 use crate::numbers::as_number;
 use sctp_serial::{S32, Serial};
+use sctp_values::Kind;
 use sctp_wire::codes::I_DATA_HEADER;
 use sctp_wire::{Chunk, Forward, Piece, SkipForm};
 
@@ -29,7 +30,7 @@ impl Framing for IDataFraming {
         I_DATA_HEADER
     }
 
-    fn wire_number(_unordered: bool, number: u32) -> u32 {
+    fn wire_number(_kind: Kind, number: u32) -> u32 {
         number
     }
 
@@ -41,7 +42,7 @@ impl Framing for IDataFraming {
         true
     }
 
-    fn is_numbered(_unordered: bool) -> bool {
+    fn is_numbered(_kind: Kind) -> bool {
         true
     }
 
@@ -53,7 +54,7 @@ impl Framing for IDataFraming {
         SkipForm::Wide
     }
 
-    fn number_near(_unordered: bool, wire: u32, reference: u32) -> Option<u32> {
+    fn number_near(_kind: Kind, wire: u32, reference: u32) -> Option<u32> {
         as_number(S32(wire).near(reference))
     }
 

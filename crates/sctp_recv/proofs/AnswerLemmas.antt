@@ -100,30 +100,30 @@ module _ (f : Format) (k : ReceiverKept) (v : ReceiverView) (p : PieceMeaning) (
 
   -- ---- whether it is passed
 
-  reference_same : (u : Bool) → reference_in v p.stream (lane_kind u) ≡ reference_of (stream_at k.streams p.stream) u
+  reference_same : (u : Bool) → reference_in v p.stream (lane_kind u) ≡ reference_of (stream_at k.streams p.stream) (lane_kind u)
   reference_same true = w.skip p.stream
   reference_same false = w.next p.stream
 
-  lowest_same : (u : Bool) → lowest_in v (lane_of p.stream u) (lane_kind u) ≡ reference_of (stream_at k.streams p.stream) u
+  lowest_same : (u : Bool) → lowest_in v (lane_of p.stream u) (lane_kind u) ≡ reference_of (stream_at k.streams p.stream) (lane_kind u)
   lowest_same true = w.skip p.stream
   lowest_same false = let low = w.skipped p.stream in let next = w.next p.stream in omega arith
 
-  late_same : (n : Option ℕ) (u : Bool) → is_late v (lane_of p.stream u) n ≡ is_below_or_none (reference_of (stream_at k.streams p.stream) u) n
+  late_same : (n : Option ℕ) (u : Bool) → is_late v (lane_of p.stream u) n ≡ is_below_or_none (reference_of (stream_at k.streams p.stream) (lane_kind u)) n
   late_same None u = refl
   late_same (Some n) u = ap (λ (m : ℕ). nat_lt n m) (lowest_same u)
 
-  pub number_same : number_near f (lane_kind p.unordered) p.number (reference_of (stream_at k.streams p.stream) p.unordered) ≡ (piece_at f v k.seen.cumulative p).number
+  pub number_same : number_near f (lane_kind p.unordered) p.number (reference_of (stream_at k.streams p.stream) (lane_kind p.unordered)) ≡ (piece_at f v k.seen.cumulative p).number
   number_same = ap (λ (m : ℕ). number_near f (lane_kind p.unordered) p.number m) (sym (reference_same p.unordered))
 
   pub passed_late : (n : Option ℕ) → n ≡ (piece_at f v k.seen.cumulative p).number →
-      (is_numbered f (lane_kind p.unordered) && is_below_or_none (reference_of (stream_at k.streams p.stream) p.unordered) n) ≡ true → is_passed f v (piece_at f v k.seen.cumulative p) ≡ true
+      (is_numbered f (lane_kind p.unordered) && is_below_or_none (reference_of (stream_at k.streams p.stream) (lane_kind p.unordered)) n) ≡ true → is_passed f v (piece_at f v k.seen.cumulative p) ≡ true
   passed_late n number late =
       let one : (is_numbered f (lane_kind p.unordered) && is_late v (lane_of p.stream p.unordered) n) ≡ true = ap (λ (t : Bool). is_numbered f (lane_kind p.unordered) && t) (late_same n p.unordered) ∙ late in
       subst (λ (m : Option ℕ). ((is_numbered f (lane_kind p.unordered) && is_late v (lane_of p.stream p.unordered) m) || is_repeated f v.kept (counted (piece_at f v k.seen.cumulative p).index p m)) ≡ true) number
       (ap (λ (t : Bool). t || is_repeated f v.kept (counted (piece_at f v k.seen.cumulative p).index p n)) one)
 
   pub passed_is : (n : Option ℕ) (a b : Bool) → n ≡ (piece_at f v k.seen.cumulative p).number →
-      a ≡ (is_numbered f (lane_kind p.unordered) && is_below_or_none (reference_of (stream_at k.streams p.stream) p.unordered) n) →
+      a ≡ (is_numbered f (lane_kind p.unordered) && is_below_or_none (reference_of (stream_at k.streams p.stream) (lane_kind p.unordered)) n) →
       b ≡ is_repeated f v.kept (counted (piece_at f v k.seen.cumulative p).index p n) → is_passed f v (piece_at f v k.seen.cumulative p) ≡ (a || b)
   passed_is n a b number late held =
       let one : (is_numbered f (lane_kind p.unordered) && is_late v (lane_of p.stream p.unordered) n) ≡ a = ap (λ (t : Bool). is_numbered f (lane_kind p.unordered) && t) (late_same n p.unordered) ∙ sym late in

@@ -1,5 +1,6 @@
 -- What contracts see of a receiver: what it keeps, without where it lies in memory.
 use Rattle.std.specs.Prelude.{ℕ, Bool, true, false, nat_lt, Option, None, Some, List, [], slice_index_or}
+use Rattle.sctp_model.specs.messages.Format.{Kind, Ordered, Unordered}
 use Rattle.sctp_model.specs.receiver.ReceiverView.{Handed}
 use Rattle.sctp_recv.specs.SeenKept.{SeenKept}
 
@@ -27,9 +28,9 @@ abbrev pub stream_at : List StreamKept → ℕ → StreamKept
 stream_at streams s = slice_index_or streams s FRESH
 
 -- the count near which numbers of one kind are read, and the lowest that still counts
-abbrev pub reference_of : StreamKept → (unordered : Bool) → ℕ
-reference_of a true = a.skip
-reference_of a false = a.next
+abbrev pub reference_of : StreamKept → Kind → ℕ
+reference_of a Ordered = a.next
+reference_of a Unordered = a.skip
 
 -- there is no number, or it is below n
 abbrev pub is_below_or_none : ℕ → Option ℕ → Bool

@@ -3,8 +3,8 @@
 ghost use Rattle.std.specs.Prelude.{◌≡◌};
 ghost use Rattle.sctp_recv.specs.inner.Rows.{IsTsnPlace};
 
-use crate::seen::WINDOW;
-use crate::tsn::tsn_of;
+use sctp_serial::{S32, Serial, index_ahead, tsn_of};
+use sctp_values::WINDOW;
 
 /// What was done with a chunk.
 #[derive(Clone, Copy, Debug, PartialEq, Eq)]
@@ -49,15 +49,13 @@ pub(crate) enum TsnPlace {
 pub(crate) fn place_of_tsn(initial: u32, cumulative: u32, tsn: u32) -> TsnPlace
     ensures { IsTsnPlace initial cumulative tsn result }
 {
-    let offset = tsn.wrapping_sub(tsn_of(initial, cumulative));
-    if offset == 0 || offset >= 2_147_483_648 {
+    if !S32(tsn_of(initial, cumulative)).before(S32(tsn)) {
         return TsnPlace::Behind;
     }
-    if offset > WINDOW {
-        return TsnPlace::Ahead;
-    }
-    match cumulative.checked_add(offset) {
-        Some(index) if index < u32::MAX => TsnPlace::At(index),
+    match index_ahead(initial, cumulative, tsn) {
+        Some(index) if index < u32::MAX && index.saturating_sub(cumulative) <= WINDOW => {
+            TsnPlace::At(index)
+        }
         _ => TsnPlace::Ahead,
     }
 }

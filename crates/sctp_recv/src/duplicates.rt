@@ -5,12 +5,9 @@ ghost use Rattle.std.specs.List.{AllByRecursion};
 ghost use Rattle.sctp_model.specs.numbers.Limits.{DUPLICATE_LIMIT};
 ghost use Rattle.sctp_wire.specs.Items.{words_in, IsWord};
 
-use sctp_values::NoMemory;
+use sctp_values::{DUPLICATE_LIMIT, NoMemory};
 use sctp_wire::put_word;
 use std::alloc::Global;
-
-/// How many TSNs that came again are told in a SACK.
-const DUPLICATE_LIMIT: usize = 16;
 
 /// The first TSNs that came again since a SACK was sent, as many as a SACK tells.
 #[derive(Drop)]

@@ -12,7 +12,7 @@ ghost use Rattle.sctp_wire.specs.ChunkTree.{skip_meaning, forward_meaning};
 ghost use Rattle.sctp_chains.specs.Cells.{Kept};
 ghost use Rattle.sctp_chains.specs.StandsFor as lane;
 ghost use Rattle.sctp_recv.specs.AnswerOf.{forward_answer_of};
-ghost use Rattle.sctp_recv.specs.Fields.{stream_of};
+ghost use Rattle.sctp_recv.specs.Fields.{stream_of, lane_at};
 ghost use Rattle.sctp_recv.specs.Filed.{AreFiled};
 ghost use Rattle.sctp_recv.specs.StandsFor.{StandsFor};
 ghost use Rattle.sctp_recv.specs.inner.Forwarding.{skipped_by, lowest_after, HaveRoom, PassesOn, AreToPass, ArePassed};
@@ -24,7 +24,7 @@ use crate::give::{give_ordered, make_room};
 use crate::inbound::Inbound;
 use crate::receiver::Receiver;
 use sctp_framing::Framing;
-use sctp_values::NoMemory;
+use sctp_values::{Kind, NoMemory};
 use sctp_wire::{Forward, Skip, Skips};
 
 /// What was done with a FORWARD.
@@ -51,32 +51,32 @@ fn names_other_stream(streams: usize, skips: &Skips<'_>) -> bool
 }
 
 /// Whether an entry is for this stream and kind.
-fn is_for(skip: Skip, stream: u16, unordered: bool) -> bool
-    ensures { result ≡ same_lane (lane_of stream unordered) (lane_of skip.stream skip.unordered) }
+fn is_for(skip: Skip, stream: u16, kind: Kind) -> bool
+    ensures { result ≡ same_lane (lane_at stream kind) (lane_of skip.stream skip.unordered) }
 {
-    stream == skip.stream && unordered == skip.unordered
+    stream == skip.stream && kind.flag() == skip.unordered
 }
 
 /// One past the number that an entry skips of this stream and kind, or 0 where it skips none there.
-fn skipped_by<F: Framing>(skip: Skip, stream: u16, unordered: bool, reference: u32) -> u32
-    ensures { result ≡ skipped_by F.format (lane_of stream unordered) reference (skip_meaning skip) }
+fn skipped_by<F: Framing>(skip: Skip, stream: u16, kind: Kind, reference: u32) -> u32
+    ensures { result ≡ skipped_by F.format (lane_at stream kind) reference (skip_meaning skip) }
 {
-    if !is_for(skip, stream, unordered) {
+    if !is_for(skip, stream, kind) {
         return 0;
     }
-    match F::number_near(unordered, skip.number, reference) {
+    match F::number_near(kind, skip.number, reference) {
         Some(number) => number + 1,
         None => 0,
     }
 }
 
 /// The lowest number of this stream and kind that still counts, of which `reference` was the lowest before.
-fn lowest_after<F: Framing>(skips: &Skips<'_>, stream: u16, unordered: bool, reference: u32) -> u32
-    ensures { result ≡ lowest_after F.format (lane_of stream unordered) reference skips.now.skips }
+fn lowest_after<F: Framing>(skips: &Skips<'_>, stream: u16, kind: Kind, reference: u32) -> u32
+    ensures { result ≡ lowest_after F.format (lane_at stream kind) reference skips.now.skips }
 {
     let mut lowest = reference;
     for skip in skips.iter() {
-        lowest = lowest.max(skipped_by::<F>(skip, stream, unordered, reference));
+        lowest = lowest.max(skipped_by::<F>(skip, stream, kind, reference));
     }
     lowest
 }
@@ -108,8 +108,8 @@ fn pass_on<F: Framing>(
     ensures { (os us : Kept) → lane.StandsFor F.format inbound.old.ordered (ordered_lane stream) os → lane.StandsFor F.format inbound.old.unordered (unordered_lane stream) us
         → AreCounted os → HasRoom inbound.old 0 → PassesOn F.format stream jump skips.now.skips os us inbound.old inbound.new held result }
 {
-    let floor = lowest_after::<F>(skips, stream, false, inbound.next);
-    inbound.skip = lowest_after::<F>(skips, stream, true, inbound.skip);
+    let floor = lowest_after::<F>(skips, stream, Kind::Ordered, inbound.next);
+    inbound.skip = lowest_after::<F>(skips, stream, Kind::Unordered, inbound.skip);
     let before = inbound.kept_bytes();
     inbound.unordered.let_go(jump, inbound.skip);
     let given = give_ordered(inbound, stream, floor);

@@ -17,7 +17,7 @@ use crate::inbound::Inbound;
 use crate::message::{Message, message_of};
 use crate::room::small_len;
 use sctp_framing::Framing;
-use sctp_values::NoMemory;
+use sctp_values::{Kind, NoMemory};
 use sctp_wire::Piece;
 use std::collections::VecDeque;
 
@@ -102,7 +102,10 @@ pub(crate) fn give_ordered<F: Framing>(inbound: &mut Inbound<F>, stream: u16, fl
         .take_lowest(inbound.next, inbound.next.max(floor))
     {
         inbound.next = number_after(whole.number);
-        let bytes = wait(&mut inbound.waiting, message_of(whole, stream, true));
+        let bytes = wait(
+            &mut inbound.waiting,
+            message_of(whole, stream, Kind::Ordered),
+        );
         given = given.saturating_add(bytes);
     }
     inbound.next = inbound.next.max(floor);
@@ -151,7 +154,10 @@ fn keep_unordered<F: Framing>(
     make_one(&mut inbound.waiting)?;
     inbound.unordered.add(piece, index, number)?;
     match inbound.unordered.take_with(piece, index, number) {
-        Some(whole) => Ok(wait(&mut inbound.waiting, message_of(whole, piece.stream, false))),
+        Some(whole) => Ok(wait(
+            &mut inbound.waiting,
+            message_of(whole, piece.stream, Kind::Unordered),
+        )),
         None => Ok(0),
     }
 }

@@ -2,9 +2,10 @@
 
 ghost use Rattle.std.specs.Prelude.{◌≡◌, ℕ, ◌+◌, [], ◌∷◌, ◌&&◌, map, replicate, IfOk, MatchOption};
 ghost use Rattle.sctp_model.specs.messages.Format.{Lane, is_numbered};
-ghost use Rattle.sctp_model.specs.messages.Framing.{lane_kind, number_near};
+ghost use Rattle.sctp_model.specs.messages.Framing.{number_near};
 ghost use Rattle.sctp_model.specs.receiver.ReceiverView.{size_of_pieces};
 ghost use Rattle.sctp_model.specs.receiver.PieceTaken.{is_repeated};
+ghost use Rattle.sctp_values.specs.Meanings.{kind_meaning};
 ghost use Rattle.sctp_wire.specs.ChunkTree.{piece_meaning};
 ghost use Rattle.sctp_chains.specs.Cells.{Kept, IsOf};
 ghost use Rattle.sctp_chains.specs.StandsFor as lane;
@@ -18,7 +19,7 @@ ghost use Rattle.sctp_recv.specs.inner.Giving.{sized, SameChunks, lane_in};
 use crate::message::Message;
 use sctp_chains::Chains;
 use sctp_framing::Framing;
-use sctp_values::NoMemory;
+use sctp_values::{Kind, NoMemory};
 use sctp_wire::Piece;
 use std::alloc::Global;
 use std::collections::VecDeque;
@@ -40,26 +41,29 @@ pub(crate) struct Inbound<F: Framing> {
 
 impl<F: Framing> Inbound<F> {
     /// The count near which a number is read, and below which it comes too late.
-    fn reference(&self, unordered: bool) -> u32
-        ensures { result ≡ reference_of (stream_of self.now) unordered }
+    fn reference(&self, kind: Kind) -> u32
+        ensures { result ≡ reference_of (stream_of self.now) (kind_meaning kind) }
     {
-        if unordered { self.skip } else { self.next }
+        match kind {
+            Kind::Ordered => self.next,
+            Kind::Unordered => self.skip,
+        }
     }
 
     /// The number that a wire value stands for.
-    pub(crate) fn number_near(&self, unordered: bool, wire: u32) -> Option<u32>
-        ensures { result ≡ number_near F.format (lane_kind unordered) wire (reference_of (stream_of self.now) unordered) }
+    pub(crate) fn number_near(&self, kind: Kind, wire: u32) -> Option<u32>
+        ensures { result ≡ number_near F.format (kind_meaning kind) wire (reference_of (stream_of self.now) (kind_meaning kind)) }
     {
-        F::number_near(unordered, wire, self.reference(unordered))
+        F::number_near(kind, wire, self.reference(kind))
     }
 
     /// Whether a chunk comes too late: its number is below those that count, or there is none where there should be one.
-    pub(crate) fn is_late(&self, unordered: bool, number: Option<u32>) -> bool
-        ensures { result ≡ (is_numbered F.format (lane_kind unordered) && is_below_or_none (reference_of (stream_of self.now) unordered) number) }
+    pub(crate) fn is_late(&self, kind: Kind, number: Option<u32>) -> bool
+        ensures { result ≡ (is_numbered F.format (kind_meaning kind) && is_below_or_none (reference_of (stream_of self.now) (kind_meaning kind)) number) }
     {
-        F::is_numbered(unordered)
+        F::is_numbered(kind)
             && match number {
-                Some(number) => number < self.reference(unordered),
+                Some(number) => number < self.reference(kind),
                 None => true,
             }
     }

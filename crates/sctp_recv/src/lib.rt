@@ -15,7 +15,6 @@ mod room;
 mod runs;
 mod sack;
 mod seen;
-mod tsn;
 
 pub use answer::Answer;
 pub use forward::ForwardAnswer;

@@ -1,17 +1,17 @@
 //! A message as its user takes it.
 
-ghost use Rattle.std.specs.Prelude.{◌≡◌, ◌-◌, ◌^◌, ◌++◌, ◌+◌, ◌≤◌, min, not, List, length, map, vec_len, vec_capacity, IsOk, OnOk, OnErr};
+ghost use Rattle.std.specs.Prelude.{◌≡◌, ◌-◌, ◌^◌, ◌++◌, ◌+◌, ◌≤◌, min, List, length, map, vec_len, vec_capacity, IsOk, OnOk, OnErr};
 ghost use Rattle.sctp_model.specs.numbers.Lists.{joined};
 ghost use Rattle.sctp_recv.specs.Parts.{text_of_parts, bytes_of};
 ghost use Rattle.sctp_recv.specs.HandedOf.{message_bytes, handed_of};
 ghost use Rattle.sctp_model.specs.messages.Format.{Format};
 ghost use Rattle.sctp_model.specs.messages.Pieces.{Piece};
 ghost use Rattle.sctp_model.specs.receiver.Receiving.{message_of};
-ghost use Rattle.sctp_model.specs.receiver.Reading.{lane_of};
+ghost use Rattle.sctp_recv.specs.Fields.{lane_at};
 ghost use Rattle.sctp_chains.specs.WholeOf.{IsMadeOf};
 
 use sctp_chains::Whole;
-use sctp_values::NoMemory;
+use sctp_values::{Kind, NoMemory};
 
 /// A message that was handed over, whole, with its fragments as they came.
 #[derive(Debug, PartialEq, Drop)]
@@ -70,13 +70,13 @@ impl Message {
 }
 
 /// A whole message as its user takes it.
-pub(crate) fn message_of(whole: Whole, stream: u16, ordered: bool) -> Message
-    ensures { (f : Format) (x : Piece) (xs : List Piece) → IsMadeOf f whole x xs → x.lane ≡ lane_of stream (not ordered) → handed_of result ≡ message_of f x xs }
+pub(crate) fn message_of(whole: Whole, stream: u16, kind: Kind) -> Message
+    ensures { (f : Format) (x : Piece) (xs : List Piece) → IsMadeOf f whole x xs → x.lane ≡ lane_at stream kind → handed_of result ≡ message_of f x xs }
 {
     Message {
         first: whole.first,
         stream,
-        ordered,
+        ordered: matches!(kind, Kind::Ordered),
         number: whole.number,
         payload_id: whole.payload_id,
         parts: whole.parts,

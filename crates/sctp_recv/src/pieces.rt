@@ -15,7 +15,7 @@ use crate::answer::{Answer, Row, TsnPlace, place_of_tsn};
 use crate::give::keep_in;
 use crate::receiver::Receiver;
 use sctp_framing::Framing;
-use sctp_values::NoMemory;
+use sctp_values::{Kind, NoMemory};
 use sctp_wire::Piece;
 
 #[tactic(auto, unfolding(crate::specs::StandsFor::StandsFor))]
@@ -71,8 +71,9 @@ impl<F: Framing> Receiver<F> {
             return Row::NoSuchStream { index };
         }
         let inbound = &self.streams[stream];
-        let number = inbound.number_near(piece.unordered, piece.number);
-        if inbound.is_late(piece.unordered, number) || inbound.is_held(piece, number) {
+        let kind = Kind::of_flag(piece.unordered);
+        let number = inbound.number_near(kind, piece.number);
+        if inbound.is_late(kind, number) || inbound.is_held(piece, number) {
             return Row::Passed { index };
         }
         if piece.bytes.len() > self.buffer.saturating_sub(self.held) as usize {

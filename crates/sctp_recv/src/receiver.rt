@@ -2,6 +2,7 @@
 
 ghost use Rattle.std.specs.Prelude.{◌≡◌, ℕ, ◌≤◌, ◌-◌, IfOk, MatchOption, option_map, slice_get, List, Option, None, Some, length};
 ghost use Rattle.sctp_model.specs.wire.Chunk.{BlockMeaning, Sack};
+ghost use Rattle.sctp_model.specs.numbers.Limits.{RUN_LIMIT};
 ghost use Rattle.sctp_model.specs.numbers.Serial.{tsn};
 ghost use Rattle.sctp_model.specs.receiver.ReceiverView.{ReceiverView, IsCumulative, fresh_receiver, held_bytes, room_left};
 ghost use Rattle.sctp_model.specs.receiver.SackMade.{AreAllRuns, IsSack, sack_sent, TakeLeaves};
@@ -16,8 +17,8 @@ use crate::message::Message;
 use crate::room::less;
 use crate::sack::SackLists;
 use crate::seen::Seen;
-use crate::tsn::tsn_of;
 use sctp_framing::Framing;
+use sctp_serial::tsn_of;
 use sctp_values::NoMemory;
 use std::alloc::Global;
 
@@ -79,7 +80,7 @@ impl<F: Framing> Receiver<F> {
     pub fn run_count(&self) -> u32
         ensures runs { (v : ReceiverView) → StandsFor F.format self.now v
             → (c : ℕ) × (bs : List BlockMeaning) × IsCumulative v c × AreAllRuns v c bs × (result ≡ length bs) }
-        ensures bound { result ≤ 16383 }
+        ensures bound { result ≤ RUN_LIMIT }
     {
         self.seen.run_count()
     }

@@ -8,17 +8,14 @@ ghost use Rattle.sctp_recv.specs.Blocks.{block_of_run};
 ghost use Rattle.sctp_recv.specs.Runs.{AreRuns, AreSpaced, in_runs};
 ghost use Rattle.sctp_recv.specs.SeenKept.{is_reached, seen_of, AreWithin, IsAdvanced};
 ghost use Rattle.sctp_recv.specs.SeenStands.{SeenStands, Records, Jumps};
-ghost use Rattle.sctp_model.specs.numbers.Limits.{WINDOW, BLOCK_LIMIT};
+ghost use Rattle.sctp_model.specs.numbers.Limits.{WINDOW, BLOCK_LIMIT, RUN_LIMIT};
 
 use crate::runs::{SeenRun, insert, upto};
-use sctp_values::NoMemory;
+use sctp_values::{BLOCK_LIMIT, NoMemory, WINDOW};
 use sctp_wire::{GapBlock, put_block};
 use std::alloc::Global;
 use std::collections::VecDeque;
 use std::marker::Model;
-
-/// How far above the cumulative index an index is recorded.
-pub(crate) const WINDOW: u32 = 32_767;
 
 /// The indexes recorded.
 #[derive(Drop)]
@@ -62,7 +59,7 @@ impl Seen {
     /// How many runs there are above it.
     pub(crate) fn run_count(&self) -> u32
         ensures count { result ≡ length self.now.kept.runs }
-        ensures bound { result ≤ 16383 }
+        ensures bound { result ≤ RUN_LIMIT }
     {
         self.runs.len() as u32
     }
@@ -73,12 +70,12 @@ impl Seen {
     /// Memory ran out.
     pub(crate) fn put_blocks(&self, list: &mut Vec<u8>) -> Result<(), NoMemory>
         requires { list.old.items ≡ [] }
-        ensures blocks { OnOk result (blocks_in list.new.items ≡ map (block_of_run self.now.kept.cumulative) (take 64 self.now.kept.runs)) }
+        ensures blocks { OnOk result (blocks_in list.new.items ≡ map (block_of_run self.now.kept.cumulative) (take BLOCK_LIMIT self.now.kept.runs)) }
         ensures in_range { OnOk result (AllByRecursion IsBlock (blocks_in list.new.items)) }
         ensures few { OnOk result (length (blocks_in list.new.items) ≤ BLOCK_LIMIT) }
         ensures whole { length list.new.items % 4 ≡ 0 }
     {
-        let told = self.runs.len().min(64);
+        let told = self.runs.len().min(BLOCK_LIMIT);
         for i in 0..told {
             put_block(block_above(self.cumulative, self.runs[i]), list)?;
         }

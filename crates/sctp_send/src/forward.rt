@@ -21,7 +21,7 @@ use crate::sender::Sender;
 use crate::window::Window;
 use sctp_framing::Framing;
 use sctp_packet::PacketWriter;
-use sctp_values::NoMemory;
+use sctp_values::{Kind, NoMemory};
 use sctp_wire::{Forward, Skip, Skips, put_skip};
 use std::alloc::Global;
 
@@ -102,7 +102,8 @@ fn put_lane<F: Framing>(
         ≡ skips_in (skip_form F.format) list.old.items
         ++ map (skip_said F.format) (skip_of F.format (entries_of (map (item_meaning size) (take run outstanding.now.items))) (lane_of stream unordered))) }
 {
-    if !F::is_numbered(unordered) {
+    let kind = Kind::of_flag(unordered);
+    if !F::is_numbered(kind) {
         return Ok(());
     }
     match largest_in(outstanding, run, stream, unordered) {
@@ -111,7 +112,7 @@ fn put_lane<F: Framing>(
             let skip = Skip {
                 stream,
                 unordered,
-                number: F::wire_number(unordered, number),
+                number: F::wire_number(kind, number),
             };
             put_skip(F::skip_form(), skip, list)
         }
@@ -154,7 +155,8 @@ fn is_listed<F: Framing>(outstanding: &Window, run: u32, stream: u16, unordered:
     requires { run ≤ length outstanding.now.items }
     ensures { (size : ℕ) → length (skip_of F.format (entries_of (map (item_meaning size) (take run outstanding.now.items))) (lane_of stream unordered)) ≡ one_if result }
 {
-    F::is_numbered(unordered) && largest_in(outstanding, run, stream, unordered).is_some()
+    F::is_numbered(Kind::of_flag(unordered))
+        && largest_in(outstanding, run, stream, unordered).is_some()
 }
 
 /// The largest number of a lane among the first `run` entries.

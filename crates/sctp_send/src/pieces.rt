@@ -13,7 +13,7 @@ use crate::outstanding::Place;
 use crate::queue::fragments_of;
 use sctp_framing::Framing;
 use sctp_packet::PacketWriter;
-use sctp_values::NoMemory;
+use sctp_values::{Kind, NoMemory};
 use sctp_wire::Piece;
 
 /// The bytes of a fragment: a range of its message's. An end mark has none.
@@ -84,7 +84,7 @@ pub fn put_fragment<F: Framing>(
         end: fragment as usize + 1 == fragments_of(size, &message.bytes),
         tsn,
         stream,
-        number: F::wire_number(message.unordered, number),
+        number: F::wire_number(Kind::of_flag(message.unordered), number),
         word: F::wire_word(payload_id, fragment),
         bytes: bytes_of(message, place, size),
     };

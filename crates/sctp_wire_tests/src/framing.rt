@@ -1,14 +1,15 @@
 //! Each method of the formats once, at both of them, called through the trait.
 
 use sctp_framing::{DataFraming, Framing, IDataFraming};
+use sctp_values::Kind;
 use sctp_wire::{Chunk, Forward, Piece, SkipForm, Skips};
 
 /// What a sender writes for an ordered and for an unordered fragment, through the trait alone.
 fn written<F: Framing>(number: u32, fragment: u32) -> (usize, u32, u32, u32) {
     (
         F::header(),
-        F::wire_number(false, number),
-        F::wire_number(true, number),
+        F::wire_number(Kind::Ordered, number),
+        F::wire_number(Kind::Unordered, number),
         F::wire_word(51, fragment),
     )
 }
@@ -25,16 +26,22 @@ fn a_fragment_says_its_number_and_its_word(rt: HostRuntime) {
 
 #[test]
 fn a_wire_value_is_read_near_a_reference(rt: HostRuntime) {
-    assert_eq!(rt; DataFraming::number_near(false, 3, 65_530), Some(65_539));
-    assert_eq!(rt; DataFraming::number_near(false, 0, 32_768), None);
-    assert_eq!(rt; DataFraming::number_near(true, 3, 0), None);
     assert_eq!(rt;
-        IDataFraming::number_near(true, 2_147_483_647, 0),
+        DataFraming::number_near(Kind::Ordered, 3, 65_530),
+        Some(65_539)
+    );
+    assert_eq!(rt; DataFraming::number_near(Kind::Ordered, 0, 32_768), None);
+    assert_eq!(rt; DataFraming::number_near(Kind::Unordered, 3, 0), None);
+    assert_eq!(rt;
+        IDataFraming::number_near(Kind::Unordered, 2_147_483_647, 0),
         Some(2_147_483_647)
     );
-    assert_eq!(rt; IDataFraming::number_near(false, 2_147_483_648, 0), None);
     assert_eq!(rt;
-        IDataFraming::number_near(false, 4_294_967_295, 4_294_967_290),
+        IDataFraming::number_near(Kind::Ordered, 2_147_483_648, 0),
+        None
+    );
+    assert_eq!(rt;
+        IDataFraming::number_near(Kind::Ordered, 4_294_967_295, 4_294_967_290),
         None
     );
 }
@@ -53,9 +60,9 @@ fn a_fragment_is_known_by_its_index_or_its_number(rt: HostRuntime) {
 
 #[test]
 fn a_format_numbers_its_messages_and_takes_its_turns(rt: HostRuntime) {
-    assert!(rt; DataFraming::is_numbered(false));
-    assert!(rt; !DataFraming::is_numbered(true));
-    assert!(rt; IDataFraming::is_numbered(true));
+    assert!(rt; DataFraming::is_numbered(Kind::Ordered));
+    assert!(rt; !DataFraming::is_numbered(Kind::Unordered));
+    assert!(rt; IDataFraming::is_numbered(Kind::Unordered));
     assert!(rt; !DataFraming::takes_turns());
     assert!(rt; IDataFraming::takes_turns());
 }
