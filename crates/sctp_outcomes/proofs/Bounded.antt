@@ -12,7 +12,7 @@ use Rattle.sctp_model.specs.receiver.PieceTaken.{PieceAnswer, Duplicate, Ahead, 
 use Rattle.sctp_model.specs.receiver.ForwardTaken.{ForwardAnswer, OutOfDate, Bad, Moved, ForwardLeaves}
 use Rattle.sctp_model.specs.receiver.SackMade.{sack_sent, TakeLeaves}
 use Rattle.sctp_outcomes.specs.receiver.Steps.{IsBound}
-use Rattle.sctp_outcomes.proofs.Receivers.{IsReceiverLaw}
+use Rattle.sctp_outcomes.proofs.Receivers.{IsReceiverLaw, Whatever}
 
 -- there is such an index
 pub record IsBounded (f : Format) (r : ReceiverView) : Type 0 where
@@ -53,13 +53,13 @@ by_forward f r c m OutOfDate t b is = subst (IsBounded f) (sym is) b
 by_forward f r c m Bad t b is = subst (IsBounded f) (sym is) b
 by_forward f r c m Moved t b gives = same_seen f f r t (all_seen f r.streams _ t gives) b
 
-pub bounded_law : IsReceiverLaw IsBounded
+pub bounded_law : IsReceiverLaw (Whatever IsBounded)
 bounded_law = record {
   fresh = λ f i n b. record { bound = 0; within = λ j h. absurd (cc) };
-  piece = λ f r p a t b came. by_answer f r (piece_at f r came.c p) p.tsn a t b came.leaves;
-  forward = λ f r m a t b came. by_forward f r came.c m a t b came.leaves;
-  sent = λ f r b. same_seen f f r (sack_sent r) refl b;
-  taken = λ f r s h t b takes. by_taken f r s h t b takes;
+  piece = λ f n r p a t b came. by_answer f r (piece_at f r came.c p) p.tsn a t b came.leaves;
+  forward = λ f n r m a t b came. by_forward f r came.c m a t b came.leaves;
+  sent = λ f n r b. same_seen f f r (sack_sent r) refl b;
+  taken = λ f n r s h t b takes. by_taken f r s h t b takes;
 }
   where
     by_taken : (f : Format) (r : ReceiverView) (s : ℕ) (h : Option Handed) (t : ReceiverView) → IsBounded f r → TakeLeaves r s h t → IsBounded f t

@@ -4,9 +4,7 @@ use Rattle.sctp_model.specs.messages.Format.{Format}
 use Rattle.sctp_model.specs.messages.Orderly.{Orderly}
 use Rattle.sctp_model.specs.sender.SenderView.{SenderView, fresh_sender}
 use Rattle.sctp_model.specs.sender.Reached.{IsReached, Begins}
-use Rattle.sctp_model.specs.receiver.Laws.{IsAtRest, FitsBuffer}
-use Rattle.sctp_model.specs.receiver.ReceiverView.{ReceiverView}
-use Rattle.sctp_model.proofs.receiver.HeldBytes.{fresh_fits, piece_fits, forward_fits, sent_fits, take_fits}
+use Rattle.sctp_model.specs.receiver.Laws.{IsAtRest}
 use Rattle.sctp_model.proofs.receiver.AtRest.{fresh_at_rest, piece_at_rest, sent_at_rest, take_at_rest}
 use Rattle.sctp_model.proofs.receiver.ForwardAtRest.{forward_at_rest}
 use Rattle.sctp_model.specs.end.EndView.{Phase, EndView, format_of}
@@ -16,37 +14,27 @@ use Rattle.sctp_safety.proofs.OrderlyCalls.{plan_stays_orderly}
 use Rattle.sctp_safety.proofs.runs.Unmet.{IsBlank}
 use Rattle.sctp_safety.proofs.runs.Safety.{IsKept, kept_always}
 use Rattle.sctp_outcomes.specs.Views.{SendersAreInOrder, ReceiversAreAtRest, BuffersHold}
-use Rattle.sctp_outcomes.proofs.Receivers.{IsReceiverLaw, holds_always}
+use Rattle.sctp_outcomes.proofs.Receivers.{IsReceiverLaw, Whatever, holds_always}
+use Rattle.sctp_outcomes.proofs.Buffers.{IsOfBuffer, buffer_law}
 
 -- ---- receivers
 
-rest_law : IsReceiverLaw IsAtRest
+rest_law : IsReceiverLaw (Whatever IsAtRest)
 rest_law = record {
   fresh = λ f i n b. fresh_at_rest f i n b;
-  piece = λ f r p a t o came. piece_at_rest f r p a t o came;
-  forward = λ f r m a t o came. forward_at_rest f r m a t o came;
-  sent = λ f r o. sent_at_rest f r o;
-  taken = λ f r s h t o takes. take_at_rest f r s h t o takes;
+  piece = λ f b r p a t o came. piece_at_rest f r p a t o came;
+  forward = λ f b r m a t o came. forward_at_rest f r m a t o came;
+  sent = λ f b r o. sent_at_rest f r o;
+  taken = λ f b r s h t o takes. take_at_rest f r s h t o takes;
 }
 
 pub receivers_are_at_rest : ReceiversAreAtRest
-receivers_are_at_rest s events answers w run x = holds_always IsAtRest rest_law s events answers w run x
-
--- what is held fits, in either format
-abbrev Fits : Format → ReceiverView → Type 0
-Fits f r = FitsBuffer r
-
-fits_law : IsReceiverLaw Fits
-fits_law = record {
-  fresh = λ f i n b. fresh_fits i n b;
-  piece = λ f r p a t o came. piece_fits f r p a t o came;
-  forward = λ f r m a t o came. forward_fits f r m a t o came;
-  sent = λ f r o. sent_fits r o;
-  taken = λ f r s h t o takes. take_fits r s h t o takes;
-}
+receivers_are_at_rest s events answers w run x = holds_always (Whatever IsAtRest) rest_law s events answers w run x
 
 pub buffers_hold : BuffersHold
-buffers_hold s events answers w run x = holds_always Fits fits_law s events answers w run x
+buffers_hold s events answers w run x =
+    let held = holds_always IsOfBuffer buffer_law s events answers w run x in
+    record { same = held.same; fits = held.fits }
 
 -- ---- senders
 

@@ -3,6 +3,7 @@ pub mod sender
 pub mod Unheard
 pub mod Receivers
 pub mod Bounded
+pub mod Buffers
 pub mod Ordinary
 pub mod OneAct
 pub mod OnePacket

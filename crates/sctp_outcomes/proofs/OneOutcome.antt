@@ -15,7 +15,7 @@ use Rattle.sctp_model.specs.world.World.{Side, other, World, end_of, bag_of, wit
 use Rattle.sctp_model.specs.world.Events.{Event, Deliver, Outcome, Sent, next_number, told, with_verdict, message_told}
 use Rattle.sctp_model.specs.world.Steps.{FromBag, FromStranger, Brings, Step, OpensBoth, OpenRefused, TimePasses, Draws, Connects, ConnectRefused, BuildsOne, BuildsNone, PacketComes, IsAbsent, Sends, AbandonsOne, TakesOne, ShutsDown, AbortsIt, NoPacket}
 use Rattle.sctp_outcomes.specs.Outcomes.{OutcomesAreOne}
-use Rattle.sctp_outcomes.proofs.Receivers.{HoldsIn, holds_always}
+use Rattle.sctp_outcomes.proofs.Receivers.{Whatever, HoldsIn, holds_always}
 use Rattle.sctp_outcomes.proofs.Ordinary.{ordinary_law}
 use Rattle.sctp_outcomes.proofs.OneAct.{clash}
 use Rattle.sctp_outcomes.proofs.OnePacket.{one_received}
@@ -45,7 +45,7 @@ one_taken r s (Some h) (Some k) t u (xs, a, b) (ys, c, d) =
 
 -- ---- every event
 
-one_step : (w : World) → HoldsIn IsOrdinary ordinary_law w → (e : Event) (o p : Outcome) (v u : World) → Step w e (Some o) v → Step w e (Some p) u → (o ≡ p) × (v ≡ u)
+one_step : (w : World) → HoldsIn (Whatever IsOrdinary) ordinary_law w → (e : Event) (o p : Outcome) (v u : World) → Step w e (Some o) v → Step w e (Some p) u → (o ≡ p) × (v ≡ u)
 one_step w ordinary e o p v u (OpensBoth _ _ _ _ _) (OpensBoth _ _ _ _ _) = (refl, refl)
 one_step w ordinary e o p v u (OpensBoth _ _ may _ _) (OpenRefused _ _ off) = absurd (clash may off)
 one_step w ordinary e o p v u (OpensBoth _ _ _ _ _) (PacketComes _ _ _ _ _ brings _) = elim brings [ ]
@@ -112,4 +112,4 @@ one_step w ordinary e o p v u (PacketComes _ x q t d b a) (PacketComes _ y r z k
     )
 
 pub outcomes_are_one : OutcomesAreOne
-outcomes_are_one s events answers w run e o p v u one other = one_step w (holds_always IsOrdinary ordinary_law s events answers w run) e o p v u one other
+outcomes_are_one s events answers w run e o p v u one other = one_step w (holds_always (Whatever IsOrdinary) ordinary_law s events answers w run) e o p v u one other

@@ -13,7 +13,7 @@ use Rattle.sctp_model.specs.end.Acting.{Acts}
 use Rattle.sctp_model.specs.end.Strays.{Verdict, Taken, Dropped, Answer, opened_by}
 use Rattle.sctp_model.specs.end.Arriving.{AllAct, NoneLeft, Next, Last, EndsAnswered, Stopped, Arrives, Elsewhere, NotOurs, Stray, CookieBegins, Heard, verdict_of, Receives, DroppedUnread, ReadAs}
 use Rattle.sctp_model.specs.end.Arriving.{Passes}
-use Rattle.sctp_outcomes.proofs.Receivers.{holds_goes, holds_rested}
+use Rattle.sctp_outcomes.proofs.Receivers.{Whatever, holds_goes, holds_rested}
 use Rattle.sctp_outcomes.proofs.Ordinary.{ordinary_law}
 use Rattle.sctp_outcomes.proofs.OneAct.{clash, one_after}
 
@@ -56,7 +56,7 @@ one_all tag e b (x ∷ xs) t u v w o one other =
     by f g same on = go f.after f.acts f.more (subst (GoesOnSo tag e b xs u w) (one_after e o tag x g.after f.after g.acts f.acts) g.more)
       where
         go : (a : After) → Acts e tag x a → GoesOnSo tag e b xs t v a → GoesOnSo tag e b xs u w a → (t ≡ u) × (v ≡ w)
-        go (GoesOn mid) act m n = on (rested mid) (holds_rested IsOrdinary ordinary_law mid (holds_goes IsOrdinary ordinary_law e tag x mid o act)) m n
+        go (GoesOn mid) act m n = on (rested mid) (holds_rested (Whatever IsOrdinary) ordinary_law mid (holds_goes (Whatever IsOrdinary) ordinary_law e tag x mid o act)) m n
         go PassedOver act m n = same m n
         go (Ends z) act m n = (m.0 ∙ sym n.0, m.1 ∙ sym n.1)
         go (Replies z p) act m n = (m.0 ∙ sym n.0, m.1 ∙ sym n.1)

@@ -7,7 +7,7 @@ use Rattle.sctp_model.specs.receiver.ReceiverView.{Handed, ReceiverView, fresh_r
 use Rattle.sctp_model.specs.receiver.PieceTaken.{PieceAnswer, PieceTaken}
 use Rattle.sctp_model.specs.receiver.ForwardTaken.{ForwardAnswer, ForwardTaken}
 use Rattle.sctp_model.specs.receiver.SackMade.{sack_sent, TakeLeaves}
-use Rattle.sctp_model.specs.end.EndView.{Terms, Draw, Aborted, EndView, format_of, format_for}
+use Rattle.sctp_model.specs.end.EndView.{Terms, Configuration, Draw, Aborted, EndView, format_of, format_for}
 use Rattle.sctp_model.specs.end.Clock.{closed}
 use Rattle.sctp_model.specs.end.Closing.{rested}
 use Rattle.sctp_model.specs.end.PeerFaults.{GoesOn, Ends, Replies}
@@ -27,27 +27,34 @@ use Rattle.sctp_safety.proofs.machine.Sides.{unknown_goes, unknown_ends, unknown
 use Rattle.sctp_outcomes.proofs.Unheard.{IsUnheard, unheard_rested, unheard_ticked, unheard_sent, unheard_abandoned, unheard_shut, unheard_aborted}
 use Rattle.sctp_safety.proofs.machine.OneEnd.{IsAt, at_end, at_log, at_packet, at_came, answer_of, at_verdict, abort_of, at_abort, both_ends}
 
--- What holds of a new receiver, and is kept by each of its calls.
-pub record IsReceiverLaw (P : Format → ReceiverView → Type 0) : Type 0 where
-  pub fresh : (f : Format) (i n b : ℕ) → P f (fresh_receiver i n b)
-  pub piece : (f : Format) (r : ReceiverView) (p : PieceMeaning) (a : PieceAnswer) (t : ReceiverView) → P f r → PieceTaken f r p a t → P f t
-  pub forward : (f : Format) (r : ReceiverView) (m : ForwardMeaning) (a : ForwardAnswer) (t : ReceiverView) → P f r → ForwardTaken f r m a t → P f t
-  pub sent : (f : Format) (r : ReceiverView) → P f r → P f (sack_sent r)
-  pub taken : (f : Format) (r : ReceiverView) (s : ℕ) (h : Option Handed) (t : ReceiverView) → P f r → TakeLeaves r s h t → P f t
+-- What holds of a new receiver with so large a buffer, and is kept by each of its calls.
+pub record IsReceiverLaw (P : Format → (buffer : ℕ) → ReceiverView → Type 0) : Type 0 where
+  pub fresh : (f : Format) (i n b : ℕ) → P f b (fresh_receiver i n b)
+  pub piece : (f : Format) (b : ℕ) (r : ReceiverView) (p : PieceMeaning) (a : PieceAnswer) (t : ReceiverView) → P f b r → PieceTaken f r p a t → P f b t
+  pub forward : (f : Format) (b : ℕ) (r : ReceiverView) (m : ForwardMeaning) (a : ForwardAnswer) (t : ReceiverView) → P f b r → ForwardTaken f r m a t → P f b t
+  pub sent : (f : Format) (b : ℕ) (r : ReceiverView) → P f b r → P f b (sack_sent r)
+  pub taken : (f : Format) (b : ℕ) (r : ReceiverView) (s : ℕ) (h : Option Handed) (t : ReceiverView) → P f b r → TakeLeaves r s h t → P f b t
+
+-- it holds whatever the buffer
+abbrev pub Whatever : (Format → ReceiverView → Type 0) → Format → (buffer : ℕ) → ReceiverView → Type 0
+Whatever P f b r = P f r
 
 -- ---- an end
 
-module _ (P : Format → ReceiverView → Type 0) (law : IsReceiverLaw P) where
+module _ (P : Format → ℕ → ReceiverView → Type 0) (law : IsReceiverLaw P) where
   abbrev pub Holds : EndView → Type 0
-  Holds e = P (format_of e) e.receiver
+  Holds e = P (format_of e) e.configuration.buffer e.receiver
 
   holds_same : (e t : EndView) → IsUnheard e t → Holds e → Holds t
-  holds_same e t u h = subst (λ (x : Terms). P (format_for x.interleave) t.receiver) (sym u.terms) (subst (λ (r : ReceiverView). P (format_of e) r) (sym u.receiver) h)
+  holds_same e t u h =
+      subst (λ (x : Terms). P (format_for x.interleave) t.configuration.buffer t.receiver) (sym u.terms)
+      (subst (λ (c : Configuration). P (format_of e) c.buffer t.receiver) (sym u.configuration)
+      (subst (λ (r : ReceiverView). P (format_of e) e.configuration.buffer r) (sym u.receiver) h))
 
   -- a chunk after which the packet goes on
   pub holds_goes : (e : EndView) (tag : ℕ) (x : ChunkMeaning) (t : EndView) → Holds e → Acts e tag x (GoesOn t) → Holds t
-  holds_goes e tag (Data p) t k (PieceComes u g a r _ _ _ _ came) = law.piece (format_of e) e.receiver p a r k came
-  holds_goes e tag (IData p) t k (PieceComes u g a r _ _ _ _ came) = law.piece (format_of e) e.receiver p a r k came
+  holds_goes e tag (Data p) t k (PieceComes u g a r _ _ _ _ came) = law.piece (format_of e) e.configuration.buffer e.receiver p a r k came
+  holds_goes e tag (IData p) t k (PieceComes u g a r _ _ _ _ came) = law.piece (format_of e) e.configuration.buffer e.receiver p a r k came
   holds_goes e tag (Init m) t k h = absurd (cc)
   holds_goes e tag (InitAck m) t k (AcceptedAck _ _ _ _ _ _) = law.fresh _ _ _ _
   holds_goes e tag (Sack s) t k (SackStale _ _) = k
@@ -64,10 +71,10 @@ module _ (P : Format → ReceiverView → Type 0) (law : IsReceiverLaw P) where
   holds_goes e tag (CookieEcho xs) t k (EchoedAgain _ _ _ _ _ _ _) = k
   holds_goes e tag CookieAck t k (CookieAcked _ _ _) = k
   holds_goes e tag (ShutdownComplete b) t k h = elim h [ ]
-  holds_goes e tag (ForwardTsn m) t k (IsOld _ _ r _ _ _ came) = law.forward (format_of e) e.receiver m _ r k came
-  holds_goes e tag (ForwardTsn m) t k (ForwardComes _ _ r _ _ _ came) = law.forward (format_of e) e.receiver m _ r k came
-  holds_goes e tag (IForwardTsn m) t k (IsOld _ _ r _ _ _ came) = law.forward (format_of e) e.receiver m _ r k came
-  holds_goes e tag (IForwardTsn m) t k (ForwardComes _ _ r _ _ _ came) = law.forward (format_of e) e.receiver m _ r k came
+  holds_goes e tag (ForwardTsn m) t k (IsOld _ _ r _ _ _ came) = law.forward (format_of e) e.configuration.buffer e.receiver m _ r k came
+  holds_goes e tag (ForwardTsn m) t k (ForwardComes _ _ r _ _ _ came) = law.forward (format_of e) e.configuration.buffer e.receiver m _ r k came
+  holds_goes e tag (IForwardTsn m) t k (IsOld _ _ r _ _ _ came) = law.forward (format_of e) e.configuration.buffer e.receiver m _ r k came
+  holds_goes e tag (IForwardTsn m) t k (ForwardComes _ _ r _ _ _ came) = law.forward (format_of e) e.configuration.buffer e.receiver m _ r k came
   holds_goes e tag (Unknown n f v) t k h = let u = unknown_goes e t n f v h in subst Holds (sym u.same) k
 
   -- one that ends it
@@ -139,7 +146,7 @@ module _ (P : Format → ReceiverView → Type 0) (law : IsReceiverLaw P) where
   holds_built CookieAckSlot e k = k
   holds_built HeartbeatSlot e k = k
   holds_built ErrorSlot e k = k
-  holds_built SackSlot e k = law.sent (format_of e) e.receiver k
+  holds_built SackSlot e k = law.sent (format_of e) e.configuration.buffer e.receiver k
   holds_built ForwardSlot e k = k
   holds_built ShutdownSlot e k = k
   holds_built ShutdownAckSlot e k = k
@@ -197,7 +204,7 @@ module _ (P : Format → ReceiverView → Type 0) (law : IsReceiverLaw P) where
   holds_step w e o v k (Sends x c) = holds_at w v x _ None (at_log w x _ _) k (holds_same (end_of w x) _ (unheard_sent (end_of w x) c (send_answer (end_of w x) c)) (k x))
   holds_step w e o v k (AbandonsOne x n) = holds_at w v x _ None (at_log w x _ _) k (holds_same (end_of w x) _ (unheard_abandoned (end_of w x) n) (k x))
   holds_step w e o v k (TakesOne x n h t takes) =
-      holds_at w v x t None (at_end w x t) k (subst Holds (sym takes.leaves) (law.taken (format_of (end_of w x)) (end_of w x).receiver n h takes.receiver (k x) takes.takes))
+      holds_at w v x t None (at_end w x t) k (subst Holds (sym takes.leaves) (law.taken (format_of (end_of w x)) (end_of w x).configuration.buffer (end_of w x).receiver n h takes.receiver (k x) takes.takes))
   holds_step w e o v k (ShutsDown x) = holds_at w v x (shut (end_of w x)) None (at_end w x _) k (holds_same (end_of w x) _ (unheard_shut (end_of w x)) (k x))
   holds_step w e o v k (AbortsIt x r) =
       holds_at w v x (abort_leaves (abort_answer (end_of w x) r) (end_of w x)) (abort_of (abort_answer (end_of w x) r)) (at_abort w x _ _) k

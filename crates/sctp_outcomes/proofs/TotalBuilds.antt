@@ -11,7 +11,7 @@ use Rattle.sctp_outcomes.specs.receiver.Steps.{cumulative}
 use Rattle.sctp_outcomes.specs.receiver.Runs.{all_runs}
 use Rattle.sctp_outcomes.proofs.receiver.StepsLemmas.{cumulative_is}
 use Rattle.sctp_outcomes.proofs.receiver.RunsLemmas.{runs_are}
-use Rattle.sctp_outcomes.proofs.Receivers.{holds_built}
+use Rattle.sctp_outcomes.proofs.Receivers.{Whatever, holds_built}
 use Rattle.sctp_outcomes.proofs.Bounded.{IsBounded, bounded_law}
 
 -- a view has a SACK
@@ -63,7 +63,7 @@ put_one s ss e xs due w more = go (has_room e xs w.chunk) refl
 has_put : (ss : List Slot) (e : EndView) (xs : List ChunkMeaning) → ((s : Slot) → Has ss s → is_echo s ≡ false) → IsBounded (format_of e) e.receiver → HasPut ss e xs
 has_put [] e xs quiet b = record { chunks = xs; full = false; left = e; puts = NoMore e xs }
 has_put (s ∷ ss) e xs quiet b =
-    by (is_due s e) refl (has_put ss e xs (λ r h. quiet r (inr h)) b) (λ w. has_put ss (once_built s e) (xs ++ w.chunk ∷ []) (λ r h. quiet r (inr h)) (holds_built IsBounded bounded_law s e b))
+    by (is_due s e) refl (has_put ss e xs (λ r h. quiet r (inr h)) b) (λ w. has_put ss (once_built s e) (xs ++ w.chunk ∷ []) (λ r h. quiet r (inr h)) (holds_built (Whatever IsBounded) bounded_law s e b))
   where
     by : (d : Bool) → is_due s e ≡ d → HasPut ss e xs → ((w : Wanted e s) → HasPut ss (once_built s e) (xs ++ w.chunk ∷ [])) → HasPut (s ∷ ss) e xs
     by false off more on = record { chunks = more.chunks; full = more.full; left = more.left; puts = NotDue s ss e xs more.chunks more.full more.left off more.puts }

@@ -12,7 +12,7 @@ use Rattle.sctp_model.specs.end.Passing.{has_ports, passes}
 use Rattle.sctp_model.specs.end.Strays.{Verdict, Taken, opened_by, stray_verdict}
 use Rattle.sctp_model.specs.end.Arriving.{AllAct, NoneLeft, Next, Last, EndsAnswered, Stopped, Arrives, Elsewhere, NotOurs, Stray, CookieBegins, Heard, verdict_of}
 use Rattle.sctp_model.specs.end.Arriving.{Passes}
-use Rattle.sctp_outcomes.proofs.Receivers.{holds_goes, holds_rested}
+use Rattle.sctp_outcomes.proofs.Receivers.{Whatever, holds_goes, holds_rested}
 use Rattle.sctp_outcomes.proofs.Bounded.{IsBounded, bounded_law}
 use Rattle.sctp_outcomes.proofs.TotalActs.{acted}
 
@@ -28,7 +28,7 @@ all_acted tag e b (x ∷ xs) bound =
   where
     by : (a : After) → Acts e tag x a → AllActed tag e b xs → ((mid : EndView) → IsBounded (format_of mid) mid.receiver → AllActed tag mid true xs) → AllActed tag e b (x ∷ xs)
     by (GoesOn mid) act same on =
-        let r = on (rested mid) (holds_rested IsBounded bounded_law mid (holds_goes IsBounded bounded_law e tag x mid bound act)) in
+        let r = on (rested mid) (holds_rested (Whatever IsBounded) bounded_law mid (holds_goes (Whatever IsBounded) bounded_law e tag x mid bound act)) in
         record { last = r.last; verdict = r.verdict; acts = Next e mid r.last b x xs r.verdict act r.acts }
     by (Ends t) act same on = record { last = t; verdict = Taken; acts = Last e t b x xs act }
     by PassedOver act same on = record { last = same.last; verdict = same.verdict; acts = Passes e same.last b x xs same.verdict act same.acts }

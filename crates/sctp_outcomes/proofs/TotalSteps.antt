@@ -12,12 +12,12 @@ use Rattle.sctp_model.specs.world.World.{Side, other, World, end_of, bag_of, end
 use Rattle.sctp_model.specs.world.Events.{Event, OpenBoth, At, Drawing, Connect, Build, Deliver, Foreign, Send, Abandon, Take, Shutdown, Abort}
 use Rattle.sctp_model.specs.world.Steps.{FromBag, FromStranger, Brings, OpensBoth, OpenRefused, TimePasses, Draws, Connects, ConnectRefused, BuildsOne, BuildsNone, PacketComes, IsAbsent, Sends, AbandonsOne, TakesOne, ShutsDown, AbortsIt, NoPacket}
 use Rattle.sctp_outcomes.specs.Outcomes.{CanHappen, HasOutcome, EventsHaveOutcomes}
-use Rattle.sctp_outcomes.proofs.Receivers.{HoldsIn, holds_always}
+use Rattle.sctp_outcomes.proofs.Receivers.{Whatever, HoldsIn, holds_always}
 use Rattle.sctp_outcomes.proofs.Bounded.{IsBounded, bounded_law}
 use Rattle.sctp_outcomes.proofs.TotalPackets.{arrived}
 use Rattle.sctp_outcomes.proofs.TotalBuilds.{built}
 
-module _ (w : World) (bounded : HoldsIn IsBounded bounded_law w) where
+module _ (w : World) (bounded : HoldsIn (Whatever IsBounded) bounded_law w) where
   opening : (x y : Draw) → IsDraw x → IsDraw y → HasOutcome w (OpenBoth x y)
   opening x y dx dy = go w.openable refl
     where
@@ -72,4 +72,4 @@ module _ (w : World) (bounded : HoldsIn IsBounded bounded_law w) where
   has_outcome (Abort x r) can = (_, _, AbortsIt x r)
 
 pub events_have_outcomes : EventsHaveOutcomes
-events_have_outcomes s events answers w run e can = has_outcome w (holds_always IsBounded bounded_law s events answers w run) e can
+events_have_outcomes s events answers w run e can = has_outcome w (holds_always (Whatever IsBounded) bounded_law s events answers w run) e can

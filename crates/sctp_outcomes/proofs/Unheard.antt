@@ -1,4 +1,4 @@
--- Time and the calls of a user that take no message leave an end its receiver and its terms.
+-- Time and the calls of a user that take no message leave an end its receiver, its terms and its configuration.
 use Rattle.std.proofs.Common.{◌≡◌, ℕ, not, ◌||◌, ◌==◌, Bool, true, false, List, [], ◌∷◌, refl, ◌∙◌}
 use Rattle.std.specs.Prelude.{if◌then◌else◌, nat_lt}
 use Rattle.sctp_model.specs.world.Calls.{Call}
@@ -14,33 +14,34 @@ use Rattle.sctp_model.specs.end.Moments.{after_giving_up, due_again, rung, ring,
 use Rattle.sctp_model.specs.end.UserCalls.{SendAnswer, Ticket, Refused, NotOpen, send_leaves, is_open, abandoned_at, shut_in, shut, AbortAnswer, Aborts, NoPeer, TooLong, abort_leaves}
 use Rattle.sctp_safety.proofs.machine.EndWords.{rested_cases}
 
--- an end whose receiver and terms are another's
+-- an end whose receiver, terms and configuration are another's
 pub record IsUnheard (e t : EndView) : Type 0 where
   pub receiver : t.receiver ≡ e.receiver
   pub terms : t.terms ≡ e.terms
+  pub configuration : t.configuration ≡ e.configuration
 
 pub unheard : (e : EndView) → IsUnheard e e
-unheard e = record { receiver = refl; terms = refl }
+unheard e = record { receiver = refl; terms = refl; configuration = refl }
 
 pub unheard_on : (e t u : EndView) → IsUnheard e t → IsUnheard t u → IsUnheard e u
-unheard_on e t u a b = record { receiver = b.receiver ∙ a.receiver; terms = b.terms ∙ a.terms }
+unheard_on e t u a b = record { receiver = b.receiver ∙ a.receiver; terms = b.terms ∙ a.terms; configuration = b.configuration ∙ a.configuration }
 
 pub unheard_rested : (e : EndView) → IsUnheard e (rested e)
-unheard_rested e = rested_cases (IsUnheard e) e (unheard e) (λ t is d. record { receiver = refl; terms = refl }) (λ t is d. record { receiver = refl; terms = refl })
+unheard_rested e = rested_cases (IsUnheard e) e (unheard e) (λ t is d. record { receiver = refl; terms = refl; configuration = refl }) (λ t is d. record { receiver = refl; terms = refl; configuration = refl })
 
 -- ---- time
 
 pub unheard_given_up : (e : EndView) (v : SenderView) → IsUnheard e (after_giving_up e v)
 unheard_given_up e v =
     let mid = settled (record e { sender = v; due = record e.due { forward = e.due.forward || not (point v == point e.sender) } }) in
-    unheard_on e mid (after_giving_up e v) (record { receiver = refl; terms = refl }) (unheard_rested mid)
+    unheard_on e mid (after_giving_up e v) (record { receiver = refl; terms = refl; configuration = refl }) (unheard_rested mid)
 
 pub unheard_again : (a : Alarm) (e : EndView) → IsUnheard e (due_again a e)
-unheard_again InitAlarm e = record { receiver = refl; terms = refl }
-unheard_again CookieAlarm e = record { receiver = refl; terms = refl }
-unheard_again DataAlarm e = record { receiver = refl; terms = refl }
-unheard_again ShutdownAlarm e = record { receiver = refl; terms = refl }
-unheard_again AckAlarm e = record { receiver = refl; terms = refl }
+unheard_again InitAlarm e = record { receiver = refl; terms = refl; configuration = refl }
+unheard_again CookieAlarm e = record { receiver = refl; terms = refl; configuration = refl }
+unheard_again DataAlarm e = record { receiver = refl; terms = refl; configuration = refl }
+unheard_again ShutdownAlarm e = record { receiver = refl; terms = refl; configuration = refl }
+unheard_again AckAlarm e = record { receiver = refl; terms = refl; configuration = refl }
 
 pub unheard_rung : (b : Bool) (a : Alarm) (e : EndView) → IsUnheard e (rung b a e)
 unheard_rung false a e = unheard e
@@ -49,8 +50,8 @@ unheard_rung true a e = go (nat_lt (e.timers a).repeats (repeats_of a))
     go : (c : Bool) → IsUnheard e (if c then due_again a (with_timer a (expired_timer (e.timers a)) e) else closed TimedOut e)
     go true =
         unheard_on e (with_timer a (expired_timer (e.timers a)) e) (due_again a (with_timer a (expired_timer (e.timers a)) e))
-        (record { receiver = refl; terms = refl }) (unheard_again a (with_timer a (expired_timer (e.timers a)) e))
-    go false = record { receiver = refl; terms = refl }
+        (record { receiver = refl; terms = refl; configuration = refl }) (unheard_again a (with_timer a (expired_timer (e.timers a)) e))
+    go false = record { receiver = refl; terms = refl; configuration = refl }
 
 pub unheard_all : (alarms : List Alarm) (e : EndView) → IsUnheard e (rung_all alarms e)
 unheard_all [] e = unheard e
@@ -60,16 +61,16 @@ pub unheard_ticked : (e : EndView) (now : ℕ) → IsUnheard e (ticked e now)
 unheard_ticked e now = go (has_association e.phase)
   where
     go : (b : Bool) → IsUnheard e (if b then passed (at_moment e now) else at_moment e now)
-    go false = record { receiver = refl; terms = refl }
+    go false = record { receiver = refl; terms = refl; configuration = refl }
     go true =
         let m = at_moment e now in
         let u = after_giving_up m (expired_messages m.sender m.moment) in
-        unheard_on e u (rung_all all_alarms u) (unheard_on e m u (record { receiver = refl; terms = refl }) (unheard_given_up m (expired_messages m.sender m.moment))) (unheard_all all_alarms u)
+        unheard_on e u (rung_all all_alarms u) (unheard_on e m u (record { receiver = refl; terms = refl; configuration = refl }) (unheard_given_up m (expired_messages m.sender m.moment))) (unheard_all all_alarms u)
 
 -- ---- the user
 
 pub unheard_sent : (e : EndView) (c : Call) (a : SendAnswer) → IsUnheard e (send_leaves a e c)
-unheard_sent e c (Ticket t) = record { receiver = refl; terms = refl }
+unheard_sent e c (Ticket t) = record { receiver = refl; terms = refl; configuration = refl }
 unheard_sent e c (Refused r) = unheard e
 unheard_sent e c NotOpen = unheard e
 
@@ -78,13 +79,13 @@ unheard_abandoned e k = go (is_open e.phase)
   where
     go : (b : Bool) → IsUnheard e (if b then after_giving_up e (abandon_after e.sender k) else record e { sender = abandon_after e.sender k })
     go true = unheard_given_up e (abandon_after e.sender k)
-    go false = record { receiver = refl; terms = refl }
+    go false = record { receiver = refl; terms = refl; configuration = refl }
 
 pub unheard_shut : (e : EndView) → IsUnheard e (shut e)
 unheard_shut e = go e.phase
   where
     go : (h : Phase) → IsUnheard e (shut_in h e)
-    go (Open t Established) = unheard_on e (turned (Open t ShutdownPending) e) (rested (turned (Open t ShutdownPending) e)) (record { receiver = refl; terms = refl }) (unheard_rested (turned (Open t ShutdownPending) e))
+    go (Open t Established) = unheard_on e (turned (Open t ShutdownPending) e) (rested (turned (Open t ShutdownPending) e)) (record { receiver = refl; terms = refl; configuration = refl }) (unheard_rested (turned (Open t ShutdownPending) e))
     go (Open t ShutdownPending) = unheard e
     go (Open t ShutdownSent) = unheard e
     go (Open t ShutdownReceived) = unheard e
@@ -96,6 +97,6 @@ unheard_shut e = go e.phase
     go (Over why) = unheard e
 
 pub unheard_aborted : (e : EndView) (a : AbortAnswer) → IsUnheard e (abort_leaves a e)
-unheard_aborted e (Aborts p) = record { receiver = refl; terms = refl }
+unheard_aborted e (Aborts p) = record { receiver = refl; terms = refl; configuration = refl }
 unheard_aborted e NoPeer = unheard e
 unheard_aborted e TooLong = unheard e

@@ -3,6 +3,7 @@ use Rattle.std.specs.Prelude.{◌≡◌, ℕ, ◌≤◌, true, List}
 use Rattle.sctp_model.specs.wire.Chunk.{ChunkMeaning}
 use Rattle.sctp_model.specs.wire.Packet.{Packet}
 use Rattle.sctp_model.specs.receiver.Laws.{IsOrdinary}
+use Rattle.sctp_outcomes.specs.receiver.Steps.{IsBound}
 use Rattle.sctp_model.specs.end.EndView.{Draw, EndView, format_of}
 use Rattle.sctp_model.specs.end.Strays.{Verdict}
 use Rattle.sctp_model.specs.end.Arriving.{Arrives}
@@ -12,7 +13,7 @@ use Rattle.sctp_model.specs.end.Building.{Builds}
 pub record IsReal (e : EndView) : Type 0 where
   pub ordinary : IsOrdinary (format_of e) e.receiver
   pub bound : ℕ
-  pub within : (i : ℕ) → e.receiver.seen i ≡ true → i ≤ bound
+  pub within : IsBound e.receiver bound
 
 -- a packet that comes leaves an end, and is answered, so
 abbrev pub HasVerdict : EndView → Draw → Packet → Type 0

@@ -3,7 +3,7 @@ use Rattle.std.specs.Prelude.{◌≡◌, true, List, Option}
 use Rattle.sctp_model.specs.messages.Orderly.{Orderly}
 use Rattle.sctp_model.specs.sender.Reached.{IsReached}
 use Rattle.sctp_model.specs.receiver.Laws.{IsAtRest, FitsBuffer}
-use Rattle.sctp_model.specs.end.EndView.{format_of}
+use Rattle.sctp_model.specs.end.EndView.{EndView, format_of}
 use Rattle.sctp_model.specs.world.World.{Side, World, end_of, Setup, start}
 use Rattle.sctp_model.specs.world.Events.{Event, Outcome}
 use Rattle.sctp_model.specs.world.Steps.{Run}
@@ -29,7 +29,12 @@ abbrev pub ReceiversAreAtRest : Type 0
 ReceiversAreAtRest = (s : Setup) (events : List Event) (answers : List (Option Outcome)) (w : World) → Run (start s) events answers w →
     (x : Side) → IsAtRest (format_of (end_of w x)) (end_of w x).receiver
 
--- And what either holds fits its buffer (RFC 9260, 6.2).
+-- A receiver has the buffer that its end is set up with, and holds no more: neither chunks kept nor messages that wait (RFC 9260, 6.2).
+pub record IsWithinBuffer (e : EndView) : Type 0 where
+  pub same : e.receiver.buffer ≡ e.configuration.buffer
+  pub fits : FitsBuffer e.receiver
+
+-- So does either.
 abbrev pub BuffersHold : Type 0
 BuffersHold = (s : Setup) (events : List Event) (answers : List (Option Outcome)) (w : World) → Run (start s) events answers w →
-    (x : Side) → FitsBuffer (end_of w x).receiver
+    (x : Side) → IsWithinBuffer (end_of w x)

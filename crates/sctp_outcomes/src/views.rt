@@ -14,7 +14,7 @@ pub fn both_receivers_are_at_rest()
     ensures { ReceiversAreAtRest }
 {}
 
-/// And there what a receiver holds, kept chunks and messages that wait, is never more than its buffer (RFC 9260, 6.2).
+/// And there what a receiver holds, kept chunks and messages that wait, is never more than the buffer that its end is set up with (RFC 9260, 6.2).
 pub fn no_receiver_passes_its_buffer()
     ensures { BuffersHold }
 {}
