@@ -10,4 +10,3 @@ pub mod TurnCases
 pub mod WishTold
 pub mod CutTold
 pub mod RefusalTold
-pub mod ReaderLemmas

@@ -1,5 +1,5 @@
 -- The steps of an end alone, whatever it is and whoever its peer: each packet that comes and each packet that is built leaves one end and one answer.
-use Rattle.std.specs.Prelude.{◌≡◌, ℕ, ◌≤◌, true, List}
+use Rattle.std.specs.Prelude.{◌≡◌, ℕ, List}
 use Rattle.sctp_model.specs.wire.Chunk.{ChunkMeaning}
 use Rattle.sctp_model.specs.wire.Packet.{Packet}
 use Rattle.sctp_model.specs.receiver.Laws.{IsOrdinary}

@@ -4,4 +4,3 @@ pub mod Wishes
 pub mod WishLaws
 pub mod Cuts
 pub mod Refusals
-pub mod ReaderLaws

@@ -8,7 +8,6 @@ mod examples;
 mod outcomes;
 mod receiver_steps;
 mod sender_calls;
-mod sender_readers;
 mod steps;
 mod views;
 
@@ -24,7 +23,6 @@ pub use sender_calls::{
     messages_are_cut, next_wishes_are_computed, refusals_are_told, sacks_are_taken,
     shutdowns_are_taken,
 };
-pub use sender_readers::{the_fill_is_computed, the_forward_is_computed, the_point_is_computed};
 pub use steps::{each_end_has_one_next_packet, each_packet_has_one_verdict};
 pub use views::{
     both_receivers_are_at_rest, both_senders_are_in_order, no_receiver_passes_its_buffer,

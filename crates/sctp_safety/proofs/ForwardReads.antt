@@ -1,5 +1,5 @@
 -- A FORWARD of the bag is read as it was built, whatever is answered to it, and what its answer leaves is moves.
-use Rattle.std.proofs.Common.{◌≡◌, ℕ, zero, suc, ◌+◌, ◌-◌, ◌^◌, ◌<◌, ◌≤◌, ◌⊎◌, max, ◌||◌, nat_le, true, false, List, [], length, Some, inl, inr, refl, sym, subst, ap, arith, ◌∙◌, le_refl}
+use Rattle.std.proofs.Common.{◌≡◌, ℕ, suc, ◌+◌, ◌-◌, ◌^◌, ◌<◌, ◌≤◌, ◌⊎◌, max, ◌||◌, nat_le, true, false, List, [], length, Some, inl, inr, refl, sym, subst, ap, arith, ◌∙◌, le_refl}
 use Rattle.std.proofs.lemmas.Bool.{cases_lt, or_parts}
 use Rattle.sctp_model.specs.numbers.Lists.{Has}
 use Rattle.sctp_model.specs.numbers.Serial.{COUNTS, IsWithinHalf, tsn, ahead, half_space}

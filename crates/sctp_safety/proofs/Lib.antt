@@ -39,7 +39,7 @@ mod GivingMoves
 mod SackMoves
 mod QueueMoves
 pub mod OrderlyCalls
-pub mod SenderCalls
+mod SenderCalls
 mod NameFacts
 mod ToldLemmas
 mod GivenUpLemmas

@@ -1,5 +1,5 @@
 -- A SACK that is taken is a move, and so is the cumulative TSN of a SHUTDOWN, as long as counts lie less than half the space apart.
-use Rattle.std.proofs.Common.{◌≡◌, ℕ, ◌+◌, ◌^◌, ◌<◌, not, ◌||◌, nat_le, false, Bool, List, [], ◌∷◌, Option, None, refl, sym, subst, arith}
+use Rattle.std.proofs.Common.{◌≡◌, ℕ, ◌+◌, not, ◌||◌, nat_le, false, Bool, List, [], ◌∷◌, Option, None, refl, sym, subst, arith}
 use Rattle.std.proofs.lemmas.Bool.{and_parts}
 use Rattle.std.proofs.lemmas.Bool.Decides.{nat_tests}
 use Rattle.sctp_model.specs.numbers.Serial.{IsWithinHalf, tsn, ahead, before}

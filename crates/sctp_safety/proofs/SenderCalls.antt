@@ -1,25 +1,26 @@
 -- Laws of a sender's calls: what they abandon, that each has one result, and when the sender is drained.
-use Rattle.std.proofs.Common.{◌≡◌, ℕ, zero, suc, ◌+◌, ◌<◌, ◌⊎◌, ◌==◌, ◌&&◌, true, false, Bool, List, [], ◌∷◌, length, Option, Some, None, inl, inr, refl, sym, subst, ap, arith, ◌∙◌}
+use Rattle.std.proofs.Common.{◌≡◌, ℕ, zero, suc, max, take, drop, ◌+◌, ◌-◌, ◌<◌, ◌⊎◌, ◌==◌, ◌&&◌, true, false, Bool, List, [], ◌∷◌, length, Option, Some, None, inl, inr, refl, sym, subst, ap, arith, ◌∙◌}
+use Rattle.std.specs.Prelude.{slice_get}
 use Rattle.std.proofs.lemmas.Bool.{and_parts}
 use Rattle.std.proofs.lemmas.Bool.Decides.{nat_tests}
 use Rattle.sctp_model.specs.numbers.Lists.{Has}
 use Rattle.sctp_model.specs.messages.Format.{Format, Lane, Ordered, Unordered}
-use Rattle.sctp_model.specs.messages.Plan.{Entry, Part, IsAssigned, IsInPart}
+use Rattle.sctp_model.specs.messages.Plan.{Entry, Part, Plan, entry_at, IsAssigned, IsInPart}
 use Rattle.sctp_model.specs.messages.Forward.{Skip, Forward, IsLaneBefore, IsListed, IsForward}
 use Rattle.sctp_model.specs.sender.SenderView.{Queued, SenderView, IsDrained, IsPoint}
-use Rattle.sctp_model.specs.sender.Entries.{continued, one_if_some, sum_below, in_part}
+use Rattle.sctp_model.specs.sender.Entries.{entry_lane, continued, one_if_some, sum_below, in_part}
 use Rattle.sctp_model.specs.sender.Filling.{Wish, gone, fill, Follows}
 use Rattle.sctp_model.specs.sender.Readers.{point, drained}
-use Rattle.sctp_model.specs.sender.Forwarding.{forward_of}
+use Rattle.sctp_model.specs.sender.Forwarding.{skips_below}
 use Rattle.sctp_model.specs.sender.Reached.{IsReached, Goes}
 use Rattle.sctp_model.proofs.sender.WordLaws.{sum-zero}
 use Rattle.sctp_model.proofs.sender.FillLaws.{goes_parts, one_fill, fill_is_fill}
 use Rattle.sctp_model.proofs.sender.PointLaws.{point_is_point}
-use Rattle.sctp_model.proofs.sender.ForwardLaws.{forward_is_forward, named_at}
+use Rattle.sctp_model.proofs.sender.ForwardLaws.{forward_between, forward_is_forward, named_at}
 use Rattle.sctp_model.proofs.sender.CountLaws.{is_named}
 use Rattle.sctp_model.proofs.sender.AbandonedLaws.{filling_abandons_none, sack_abandons_none, shutdown_abandons_none, abandons_by_ticket, expires_past_alone}
 use Rattle.sctp_safety.specs.Way.{with_sender}
-use Rattle.sctp_safety.specs.SenderCalls.{SameAbandoned, AbandonedOnlyAsked, EachViewHasOneFill, EachCallHasOneResult, DrainedIsTold}
+use Rattle.sctp_safety.specs.SenderCalls.{SameAbandoned, AbandonedOnlyAsked, EachViewHasOneFill, EachViewHasOnePoint, EachPlanHasOneForward, ForwardIsGiven, DrainedIsTold}
 use Rattle.sctp_safety.proofs.Facts.{Good}
 use Rattle.sctp_safety.proofs.PlanLemmas.{assigned_below}
 use Rattle.sctp_safety.proofs.InPart.{idle_closed, goes_on_with, not_closed}
@@ -91,8 +92,8 @@ listed_alike (x ∷ xs) (y ∷ ys) a b to from =
     right z same has (inl this) = absurd (not_before_itself z.lane (subst (λ (u : Skip). IsLaneBefore u.lane z.lane) (sym same ∙ this) (b.0 z has)))
 
 -- an entry of the one FORWARD is one of the other: each says the largest number of its lane
-has_other : (f : Format) (v : SenderView) (p : ℕ) (x y : Forward) → IsForward f v.plan v.cum p x → IsForward f v.plan v.cum p y → (a : Skip) → Has x.skips a → Has y.skips a
-has_other f v p x y hx hy a has =
+has_other : (f : Format) (plan : Plan) (c p : ℕ) (x y : Forward) → IsForward f plan c p x → IsForward f plan c p y → (a : Skip) → Has x.skips a → Has y.skips a
+has_other f plan c p x y hx hy a has =
     let b = hy.largest a.lane a.number (hx.numbered a has) (hx.stands a has) in
     let c = hx.largest b.0.lane b.0.number (hy.numbered b.0 b.1) (hy.stands b.0 b.1) in
     let mine : c.0 ≡ a = one_of_lane x.skips c.0 a hx.order c.1 has (c.2 ∙ b.2) in
@@ -103,14 +104,14 @@ has_other f v p x y hx hy a has =
     let same : b.0 ≡ a = ap (λ (l : Lane). record { lane = l; number = b.0.number }) b.2 ∙ ap (λ (n : ℕ). record { lane = a.lane; number = n }) number in
     subst (Has y.skips) same b.1
 
-pub one_forward : (f : Format) (v : SenderView) (p : ℕ) (x y : Forward) → IsForward f v.plan v.cum p x → IsForward f v.plan v.cum p y → x ≡ y
-one_forward f v p x y hx hy =
-    let skips = listed_alike x.skips y.skips hx.order hy.order (has_other f v p x y hx hy) (has_other f v p y x hy hx) in
+one_forward : (f : Format) (plan : Plan) (c p : ℕ) (x y : Forward) → IsForward f plan c p x → IsForward f plan c p y → x ≡ y
+one_forward f plan c p x y hx hy =
+    let skips = listed_alike x.skips y.skips hx.order hy.order (has_other f plan c p x y hx hy) (has_other f plan c p y x hy hx) in
     ap (λ (i : ℕ). record { point = i; skips = x.skips }) (hx.point ∙ sym hy.point) ∙ ap (λ (zs : List Skip). record { point = y.point; skips = zs }) skips
 
 -- ---- one result
 
-pub one_point : (v : SenderView) (p q : ℕ) → IsPoint v p → IsPoint v q → p ≡ q
+one_point : (v : SenderView) (p q : ℕ) → IsPoint v p → IsPoint v q → p ≡ q
 one_point v p q a b = let low = b.largest p a.from a.abandoned in let high = a.largest q b.from b.abandoned in omega (arith, low, high)
 
 pub each_view_has_one_fill : EachViewHasOneFill
@@ -119,13 +120,33 @@ each_view_has_one_fill f v = record {
   fill_one = λ room ws u is. one_fill f v u (fill f room v).view room ws (fill f room v).wishes is (fill_is_fill f room v);
 }
 
-pub each_call_has_one_result : EachCallHasOneResult
-each_call_has_one_result f v h = record {
-  point_is = point_is_point v;
-  point_one = λ p is. one_point v p (point v) is (point_is_point v);
-  forward_is = forward_is_forward f v h;
-  forward_one = λ x is. one_forward f v (point v) x (forward_of f v) is (forward_is_forward f v h);
-}
+pub each_view_has_one_point : EachViewHasOnePoint
+each_view_has_one_point v = record { point_is = point_is_point v; point_one = λ p is. one_point v p (point v) is (point_is_point v) }
+
+-- a number above every stream of these entries
+abbrev streams_of : List Entry → ℕ
+streams_of [] = 0
+streams_of (e ∷ es) = max (suc (entry_lane e).stream) (streams_of es)
+
+below_streams : (es : List Entry) (j : ℕ) (e : Entry) → slice_get es j ≡ Some e → (entry_lane e).stream < streams_of es
+below_streams [] j e here = absurd (cc)
+below_streams (d ∷ es) zero e here =
+    let same : d ≡ e = (let q : Some d ≡ Some e = here in cc) in
+    subst (λ (x : Entry). (entry_lane x).stream < streams_of (d ∷ es)) same (omega arith)
+below_streams (d ∷ es) (suc j) e here = let low = below_streams es j e here in omega (arith, low)
+
+on_streams : (plan : Plan) (i : ℕ) (e : Entry) → entry_at plan i ≡ Some e → (entry_lane e).stream < streams_of plan.entries
+on_streams plan zero e here = absurd (cc)
+on_streams plan (suc i) e here = below_streams plan.entries i e here
+
+pub each_plan_has_one_forward : EachPlanHasOneForward
+each_plan_has_one_forward f plan c p =
+    let x : Forward = record { point = p; skips = skips_below f (take (p - c) (drop c plan.entries)) (streams_of plan.entries) } in
+    let is = forward_between f plan c p (streams_of plan.entries) (on_streams plan) in
+    record { forward = x; forward_is = is; forward_one = λ y other. one_forward f plan c p y x other is }
+
+pub forward_is_given : ForwardIsGiven
+forward_is_given f v h = forward_is_forward f v h
 
 -- ---- drained
 

@@ -2,7 +2,7 @@
 use Rattle.std.specs.Prelude.{◌≡◌, ℕ, ◌⊎◌, true, List, Some, Option}
 use Rattle.sctp_model.specs.messages.Format.{Format, Lane}
 use Rattle.sctp_model.specs.wire.Chunk.{SackMeaning}
-use Rattle.sctp_model.specs.messages.Plan.{Message, message_at}
+use Rattle.sctp_model.specs.messages.Plan.{Message, Plan, message_at}
 use Rattle.sctp_model.specs.messages.Orderly.{Orderly}
 use Rattle.sctp_model.specs.messages.Forward.{Forward, IsForward}
 use Rattle.sctp_model.specs.sender.SenderView.{SenderView, IsDrained, IsPoint}
@@ -60,16 +60,29 @@ pub record HasOneFill (f : Format) (v : SenderView) : Type 0 where
 abbrev pub EachViewHasOneFill : Type 0
 EachViewHasOneFill = (f : Format) (v : SenderView) → HasOneFill f v
 
--- There are one point and one FORWARD, and the functions give them. All other calls are functions as they stand.
-pub record HasOneResult (f : Format) (v : SenderView) : Type 0 where
+-- There is one point, and the function gives it.
+pub record HasOnePoint (v : SenderView) : Type 0 where
   pub point_is : IsPoint v (point v)
   pub point_one : (p : ℕ) → IsPoint v p → p ≡ point v
-  pub forward_is : IsForward f v.plan v.cum (point v) (forward_of f v)
-  pub forward_one : (x : Forward) → IsForward f v.plan v.cum (point v) x → x ≡ forward_of f v
 
--- So it is of every view that calls reach.
-abbrev pub EachCallHasOneResult : Type 0
-EachCallHasOneResult = (f : Format) (v : SenderView) → IsReached f v → HasOneResult f v
+-- So it is of every view.
+abbrev pub EachViewHasOnePoint : Type 0
+EachViewHasOnePoint = (v : SenderView) → HasOnePoint v
+
+-- There is one FORWARD of a plan between two indexes.
+pub record HasOneForward (f : Format) (plan : Plan) (c p : ℕ) : Type 0 where
+  pub forward : Forward
+  pub forward_is : IsForward f plan c p forward
+  pub forward_one : (x : Forward) → IsForward f plan c p x → x ≡ forward
+
+-- So it is of every plan, and any two indexes.
+abbrev pub EachPlanHasOneForward : Type 0
+EachPlanHasOneForward = (f : Format) (plan : Plan) (c p : ℕ) → HasOneForward f plan c p
+
+-- Of a view that calls reach the function gives the one from CUM to the point: of each numbered lane with an entry there the largest number, each lane once
+-- and in order. All other calls are functions as they stand.
+abbrev pub ForwardIsGiven : Type 0
+ForwardIsGiven = (f : Format) (v : SenderView) → IsReached f v → IsForward f v.plan v.cum (point v) (forward_of f v)
 
 -- ---- drained
 

@@ -1,6 +1,6 @@
 -- Where fewer than half the space of TSNs are assigned in all, whatever lies between the ends is near: its index to the cumulative one, its number to
 -- the one that is waited for.
-use Rattle.std.proofs.Common.{◌≡◌, ℕ, zero, suc, ◌<◌, ◌≤◌, ◌⊎◌, true, length, Some, inl, inr, refl, sym, subst, ap, arith, le_refl}
+use Rattle.std.proofs.Common.{◌≡◌, ℕ, zero, suc, ◌<◌, ◌≤◌, ◌⊎◌, true, length, inl, inr, refl, sym, subst, ap, arith, le_refl}
 use Rattle.sctp_model.specs.numbers.Lists.{Has}
 use Rattle.sctp_model.specs.numbers.Serial.{IsWithinHalf, half_space}
 use Rattle.sctp_model.specs.wire.Chunk.{PieceMeaning, ForwardMeaning}
