@@ -30,7 +30,7 @@ use Rattle.sctp_send.specs.FillAnswers.{PutSomeOf}
 use Rattle.sctp_send.specs.inner.Walks.{total, one_if_rest}
 use Rattle.sctp_send.specs.inner.Newcomers.{begun_items, number_in, begun_track, rest_at, has_rest, one_if, without_place, fresh_track, number_on, begun, IsBegun}
 use Rattle.sctp_send.specs.inner.Drafting.{numbers_of, drafted, fragment_chunk, IsPut, IsStopped, IsOffered, NothingStands}
-use Rattle.sctp_model.specs.messages.Framing.{lane_kind}
+use Rattle.sctp_values.specs.Meanings.{kind_meaning}
 use Rattle.std.proofs.lemmas.Option.{slice_get-get_or}
 use Rattle.sctp_send.specs.declared.sender.Track.{Track as TrackFields}
 use Rattle.sctp_send.proofs.WalkLemmas.{track_read}
@@ -97,15 +97,15 @@ begun_there f s v old m place count turn k b mine =
 
 -- its number, as it was read
 pub number_read : (n i number : ℕ) (xs ts : List TrackFields) (x : TrackFields) (m y : MessageFields) → xs ≡ ts → i ≡ m.stream → y ≡ m → i < length ts → x ≡ get_or xs i x
-    → number ≡ number_in (lane_kind y.unordered) (track_meaning n x) → number ≡ number_on (map (track_meaning n) ts) (lane_meaning m)
+    → number ≡ number_in (kind_meaning y.kind) (track_meaning n x) → number ≡ number_on (map (track_meaning n) ts) (lane_meaning m)
 number_read n i number xs ts x m y all stream same low read is =
     let long = length-map ts (track_meaning n) in
     let here = track_read n ts i x (read ∙ ap (λ (zs : List TrackFields). get_or zs i x) all) in
     let one = slice_get-get_or (map (track_meaning n) ts) i (track_meaning n x) (omega (arith, long, low)) in
     let two = slice_get-get_or (map (track_meaning n) ts) i fresh_track (omega (arith, long, low)) in
     let other : get_or (map (track_meaning n) ts) i (track_meaning n x) ≡ get_or (map (track_meaning n) ts) i fresh_track = let both = sym one ∙ two in cc in
-    is ∙ ap (λ (z : MessageFields). number_in (lane_kind z.unordered) (track_meaning n x)) same ∙ ap (number_in (lane_kind m.unordered)) (sym here ∙ other)
-    ∙ ap (λ (j : ℕ). number_in (lane_kind m.unordered) (get_or (map (track_meaning n) ts) j fresh_track)) stream
+    is ∙ ap (λ (z : MessageFields). number_in (kind_meaning z.kind) (track_meaning n x)) same ∙ ap (number_in (kind_meaning m.kind)) (sym here ∙ other)
+    ∙ ap (λ (j : ℕ). number_in (kind_meaning m.kind) (get_or (map (track_meaning n) ts) j fresh_track)) stream
 
 -- the test of the window, as it was read
 pub window_read : (x : ℕ) (ts : List Track) (m y : MessageFields) (r b : Bool) → y ≡ m → r ≡ nat_le x (WINDOW + one_if (has_rest (rest_at ts y.stream))) → r ≡ b → nat_le x (WINDOW + one_if (has_rest (rest_at ts m.stream))) ≡ b

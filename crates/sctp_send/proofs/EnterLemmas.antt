@@ -3,8 +3,9 @@ use Rattle.std.proofs.Common.{◌≡◌, ℕ, zero, suc, ◌+◌, ◌-◌, ◌*�
 use Rattle.std.specs.Prelude.{◌==◌, nat_le}
 use Rattle.std.proofs.lemmas.Bool.Decides.{nat_tests}
 use Rattle.std.proofs.lemmas.List.{length-map, map-append, map-set, take-map, drop-map, take_all, take-take}
-use Rattle.sctp_model.specs.messages.Format.{Format, Lane}
+use Rattle.sctp_model.specs.messages.Format.{Format, Lane, Kind}
 use Rattle.sctp_model.specs.messages.Framing.{lane_kind, data_chunk, wire_number}
+use Rattle.sctp_values.specs.Meanings.{kind_meaning}
 use Rattle.sctp_model.specs.messages.Pieces.{word_of}
 use Rattle.sctp_model.specs.numbers.Serial as serial
 use Rattle.sctp_model.specs.messages.Plan.{Message, Part}
@@ -29,7 +30,7 @@ use Rattle.sctp_send.specs.declared.message.Fate.TheVariants.{Numbered}
 use Rattle.sctp_send.specs.declared.message.Message.{Message as MessageFields}
 use Rattle.sctp_send.specs.declared.outstanding.Place.{Place}
 use Rattle.sctp_send.specs.declared.outstanding.Place.TheVariants.{Fragment, EndMark}
-use Rattle.sctp_send.specs.declared.message.Ticket.{Ticket}
+use Rattle.sctp_values.specs.declared.ticket.Ticket.{Ticket}
 use Rattle.sctp_send.proofs.WalkLemmas.{none_behind}
 use Rattle.sctp_send.proofs.ChunkLemmas.{fragment_is}
 
@@ -97,22 +98,23 @@ range_is size k bytes from to some is end = cut_short size (k * size) from to by
 
 -- ---- the chunk of a fragment
 
-said_unordered : (b : Bool) → b ≡ is_unordered (lane_kind b)
-said_unordered true = refl
-said_unordered false = refl
+-- the flag U that says a kind
+said_unordered : (b : Bool) (k : Kind) → lane_kind b ≡ k → b ≡ is_unordered k
+said_unordered true k is = ap is_unordered is
+said_unordered false k is = ap is_unordered is
 
 -- the chunk of the piece that the code makes says what is to be said
-pub same_chunk : (f : Format) (size initial i n tsn fragment count number word stream payload : ℕ) (m : MessageFields) (p : Place) (bytes : List ℕ) → tsn ≡ serial.tsn initial i
-    → ((l : Lane) (k : ℕ) → fragment ≡ entry_fragment (entry_meaning l k p)) → count ≡ length (cut size m.bytes.items) → number ≡ wire_number f (lane_kind m.unordered) n → word ≡ word_of f payload fragment
-    → stream ≡ m.stream → payload ≡ m.payload_id → ((l : Lane) (k : ℕ) → bytes ≡ bytes_in (entry_meaning l k p) (Some (message_meaning size m)))
-    → data_chunk f (record { immediate = false; unordered = m.unordered; begin = fragment == 0; end = (fragment + 1) == count; tsn = tsn; stream = stream; number = number; word = word; bytes = bytes })
+pub same_chunk : (f : Format) (size initial i n tsn fragment count number word stream payload : ℕ) (unordered : Bool) (m : MessageFields) (p : Place) (bytes : List ℕ) → tsn ≡ serial.tsn initial i
+    → ((l : Lane) (k : ℕ) → fragment ≡ entry_fragment (entry_meaning l k p)) → count ≡ length (cut size m.bytes.items) → number ≡ wire_number f (kind_meaning m.kind) n → word ≡ word_of f payload fragment
+    → stream ≡ m.stream → payload ≡ m.payload_id → lane_kind unordered ≡ kind_meaning m.kind → ((l : Lane) (k : ℕ) → bytes ≡ bytes_in (entry_meaning l k p) (Some (message_meaning size m)))
+    → data_chunk f (record { immediate = false; unordered = unordered; begin = fragment == 0; end = (fragment + 1) == count; tsn = tsn; stream = stream; number = number; word = word; bytes = bytes })
     ≡ fragment_chunk f size initial i m n p
-same_chunk f size initial i n tsn fragment count number word stream payload m (Fragment k) bytes at is many wire said on named range =
+same_chunk f size initial i n tsn fragment count number word stream payload unordered m (Fragment k) bytes at is many wire said on named flag range =
     let one : fragment + 1 ≡ suc k = omega (arith, is (lane_meaning m) n) in
-    rw (one, many, wire, said, range (lane_meaning m) n, at, on, named, is (lane_meaning m) n, ← said_unordered m.unordered) refl
-same_chunk f size initial i n tsn fragment count number word stream payload m EndMark bytes at is many wire said on named range =
+    rw (one, many, wire, said, range (lane_meaning m) n, at, on, named, is (lane_meaning m) n, said_unordered unordered (kind_meaning m.kind) flag) refl
+same_chunk f size initial i n tsn fragment count number word stream payload unordered m EndMark bytes at is many wire said on named flag range =
     let one : fragment + 1 ≡ 1 = omega (arith, is (lane_meaning m) n) in
-    rw (one, many, wire, said, range (lane_meaning m) n, at, on, named, is (lane_meaning m) n, ← said_unordered m.unordered) refl
+    rw (one, many, wire, said, range (lane_meaning m) n, at, on, named, is (lane_meaning m) n, said_unordered unordered (kind_meaning m.kind) flag) refl
 
 -- ---- tickets
 
@@ -165,7 +167,7 @@ read_at f xs i x d low read = of_map xs i low ∙ ap f (sym read)
 pub begun_is : (s : Kept) (old new : Draft) (m : MessageFields) (place count number turn : ℕ) (left : Option Rest)
     → map (item_meaning s.fragment) new.outstanding.items ≡ map (item_meaning s.fragment) old.outstanding.items ++ begun_items (lane_meaning m) number (message_meaning s.fragment m) count
     → map (queued_by s.fragment) new.queue.items ≡ without_place place (map (queued_by s.fragment) old.queue.items)
-    → map (track_meaning s.fragment) new.tracks.items ≡ set (map (track_meaning s.fragment) old.tracks.items) m.stream (counted_track (lane_kind m.unordered) left (track_of (map (track_meaning s.fragment) old.tracks.items) m.stream))
+    → map (track_meaning s.fragment) new.tracks.items ≡ set (map (track_meaning s.fragment) old.tracks.items) m.stream (counted_track (kind_meaning m.kind) left (track_of (map (track_meaning s.fragment) old.tracks.items) m.stream))
     → left ≡ rest_from s.fragment m number count → numbers_of new.tickets.items ≡ numbers_of old.tickets.items ++ m.ticket ∷ [] → new.turn ≡ turn
     → number ≡ number_on (map (track_meaning s.fragment) old.tracks.items) (lane_meaning m)
     → drafted s new ≡ begun (drafted s old) (queued_meaning s.fragment m) place count turn (new.outstanding.capacity)

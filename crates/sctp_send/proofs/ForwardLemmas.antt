@@ -6,6 +6,9 @@ use Rattle.std.proofs.lemmas.List.{length-map, map-append, length-take-le}
 use Rattle.std.proofs.lemmas.Bool.Decides.{nat_tests}
 use Rattle.sctp_model.specs.messages.Format.{Format, Plain, Interleaved, Lane, is_numbered}
 use Rattle.sctp_model.specs.messages.Framing.{lane_kind, wire_number, forward_chunk}
+use Rattle.sctp_values.specs.Meanings.{kind_meaning}
+use Rattle.sctp_values.specs.declared.kind.Kind.{Kind}
+use Rattle.sctp_values.specs.declared.kind.Kind.TheVariants.{Ordered, Unordered}
 use Rattle.sctp_model.specs.numbers.Serial.{tsn}
 use Rattle.sctp_model.specs.messages.Plan.{Entry}
 use Rattle.sctp_model.specs.wire.Chunk.{ChunkMeaning, SkipMeaning, ForwardMeaning, chunk_length, padded, size_of_chunk}
@@ -54,35 +57,37 @@ first_read size run at es x lt read = of_map run es at x lt ∙ ap (λ (y : Outs
     of_map (suc n) (y ∷ ds) zero d less = refl
     of_map (suc n) (y ∷ ds) (suc j) d less = of_map n ds j d (omega arith)
 
-pub walked_largest : (size stream run at : ℕ) (unordered : Bool) (found next : Option ℕ) (es : List Outstanding) (x : Outstanding) → run ≤ length es → at < run → x ≡ get_or es at x
-    → next ≡ largest_in (lane_of stream unordered) found ((item_meaning size x).entry ∷ [])
-    → largest_in (lane_of stream unordered) None (entries_of (map (item_meaning size) (take run es))) ≡ largest_in (lane_of stream unordered) found (drop at (entries_of (map (item_meaning size) (take run es))))
-    → largest_in (lane_of stream unordered) None (entries_of (map (item_meaning size) (take run es))) ≡ largest_in (lane_of stream unordered) next (drop (at + 1) (entries_of (map (item_meaning size) (take run es))))
-walked_largest size stream run at unordered found next es x le lt read is before =
+pub walked_largest : (size stream run at : ℕ) (kind : Kind) (found next : Option ℕ) (es : List Outstanding) (x : Outstanding) → run ≤ length es → at < run → x ≡ get_or es at x
+    → next ≡ largest_in (lane_of stream kind) found ((item_meaning size x).entry ∷ [])
+    → largest_in (lane_of stream kind) None (entries_of (map (item_meaning size) (take run es))) ≡ largest_in (lane_of stream kind) found (drop at (entries_of (map (item_meaning size) (take run es))))
+    → largest_in (lane_of stream kind) None (entries_of (map (item_meaning size) (take run es))) ≡ largest_in (lane_of stream kind) next (drop (at + 1) (entries_of (map (item_meaning size) (take run es))))
+walked_largest size stream run at kind found next es x le lt read is before =
     let one : at + 1 ≡ suc at = omega arith in
     let long = first_length size run es le in
-    before ∙ entries_step (lane_of stream unordered) found (entries_of (map (item_meaning size) (take run es))) at (item_meaning size x).entry (omega arith)
+    before ∙ entries_step (lane_of stream kind) found (entries_of (map (item_meaning size) (take run es))) at (item_meaning size x).entry (omega arith)
     ∙ rw (first_read size run at es x lt read, ← is, one) refl
 
 -- ---- an entry on the wire
 
-kind_said : (unordered : Bool) → is_unordered (lane_kind unordered) ≡ unordered
-kind_said true = refl
-kind_said false = refl
+-- the flag U that says a kind
+kind_said : (kind : Kind) → lane_kind (is_unordered (kind_meaning kind)) ≡ kind_meaning kind
+kind_said Ordered = refl
+kind_said Unordered = refl
 
-pub skip_fits : (f : Format) (stream n : ℕ) (unordered : Bool) → stream < 2 ^ 16 → is_numbered f (lane_kind unordered) ≡ true
-    → IsSkip (skip_form f) (record { stream = stream; unordered = unordered; number = wire_number f (lane_kind unordered) n })
-skip_fits Plain stream n true small on = absurd (cc)
-skip_fits Plain stream n false small on = (small, omega arith, refl)
-skip_fits Interleaved stream n unordered small on = (small, omega arith)
+pub skip_fits : (f : Format) (stream n : ℕ) (unordered : Bool) (kind : Kind) → stream < 2 ^ 16 → is_numbered f (kind_meaning kind) ≡ true → lane_kind unordered ≡ kind_meaning kind
+    → IsSkip (skip_form f) (record { stream = stream; unordered = unordered; number = wire_number f (kind_meaning kind) n })
+skip_fits Plain stream n unordered Unordered small on flag = absurd (cc)
+skip_fits Plain stream n true Ordered small on flag = absurd (cc)
+skip_fits Plain stream n false Ordered small on flag = (small, omega arith, refl)
+skip_fits Interleaved stream n unordered kind small on flag = (small, omega arith)
 
 -- one stream more
-pub lanes_more : (f : Format) (es : List Entry) (s : ℕ) (before half after : List SkipMeaning) → half ≡ before ++ map (skip_said f) (skip_of f es (lane_of s false)) → after ≡ half ++ map (skip_said f) (skip_of f es (lane_of s true))
+pub lanes_more : (f : Format) (es : List Entry) (s : ℕ) (before half after : List SkipMeaning) → half ≡ before ++ map (skip_said f) (skip_of f es (lane_of s Ordered)) → after ≡ half ++ map (skip_said f) (skip_of f es (lane_of s Unordered))
     → before ≡ map (skip_said f) (skips_below f es s) → after ≡ map (skip_said f) (skips_below f es (s + 1))
 lanes_more f es s before half after ordered unordered is =
     let one : s + 1 ≡ suc s = omega arith in
-    unordered ∙ rw (ordered, is, one, map-append (skip_said f) (skips_below f es s) (skips_on f es s), map-append (skip_said f) (skip_of f es (lane_of s false)) (skip_of f es (lane_of s true)))
-    (append_assoc (map (skip_said f) (skips_below f es s)) (map (skip_said f) (skip_of f es (lane_of s false))) (map (skip_said f) (skip_of f es (lane_of s true))))
+    unordered ∙ rw (ordered, is, one, map-append (skip_said f) (skips_below f es s) (skips_on f es s), map-append (skip_said f) (skip_of f es (lane_of s Ordered)) (skip_of f es (lane_of s Unordered)))
+    (append_assoc (map (skip_said f) (skips_below f es s)) (map (skip_said f) (skip_of f es (lane_of s Ordered))) (map (skip_said f) (skip_of f es (lane_of s Unordered))))
 
 pub none_in : (f : Format) → skips_in (skip_form f) [] ≡ []
 unfolding skips_in
@@ -106,24 +111,24 @@ all_joined : {A : Type 0} (P : A → Type 0) (xs ys : List A) → AllByRecursion
 all_joined P [] ys h k = k
 all_joined P (x ∷ xs) ys h k = (h.0, all_joined P xs ys h.1 k)
 
-lane_fits : (f : Format) (es : List Entry) (stream : ℕ) (unordered : Bool) → stream < 2 ^ 16 → AllByRecursion (IsSkip (skip_form f)) (map (skip_said f) (skip_of f es (lane_of stream unordered)))
-lane_fits f es stream unordered small = by_kind (is_numbered f (lane_kind unordered)) refl
+lane_fits : (f : Format) (es : List Entry) (stream : ℕ) (kind : Kind) → stream < 2 ^ 16 → AllByRecursion (IsSkip (skip_form f)) (map (skip_said f) (skip_of f es (lane_of stream kind)))
+lane_fits f es stream kind small = by_kind (is_numbered f (kind_meaning kind)) refl
   where
-    by_largest : is_numbered f (lane_kind unordered) ≡ true → (o : Option ℕ) → AllByRecursion (IsSkip (skip_form f)) (map (skip_said f) (skip_in (lane_of stream unordered) o))
+    by_largest : is_numbered f (kind_meaning kind) ≡ true → (o : Option ℕ) → AllByRecursion (IsSkip (skip_form f)) (map (skip_said f) (skip_in (lane_of stream kind) o))
     by_largest on None = tt
-    by_largest on (Some n) = rw (kind_said unordered) (skip_fits f stream n unordered small on, tt)
+    by_largest on (Some n) = (skip_fits f stream n (is_unordered (kind_meaning kind)) kind small on (kind_said kind), tt)
 
-    by_kind : (b : Bool) → is_numbered f (lane_kind unordered) ≡ b → AllByRecursion (IsSkip (skip_form f)) (map (skip_said f) (if b then skip_in (lane_of stream unordered) (largest_in (lane_of stream unordered) None es) else []))
+    by_kind : (b : Bool) → is_numbered f (kind_meaning kind) ≡ b → AllByRecursion (IsSkip (skip_form f)) (map (skip_said f) (if b then skip_in (lane_of stream kind) (largest_in (lane_of stream kind) None es) else []))
     by_kind false off = tt
-    by_kind true on = by_largest on (largest_in (lane_of stream unordered) None es)
+    by_kind true on = by_largest on (largest_in (lane_of stream kind) None es)
 
 -- the entries of a FORWARD are within their bits
 pub all_fit : (f : Format) (es : List Entry) (streams : ℕ) → streams ≤ 2 ^ 16 → AllByRecursion (IsSkip (skip_form f)) (map (skip_said f) (skips_below f es streams))
 all_fit f es zero le = tt
 all_fit f es (suc s) le =
-    rw (map-append (skip_said f) (skips_below f es s) (skips_on f es s), map-append (skip_said f) (skip_of f es (lane_of s false)) (skip_of f es (lane_of s true)))
-    (all_joined (IsSkip (skip_form f)) (map (skip_said f) (skips_below f es s)) (map (skip_said f) (skip_of f es (lane_of s false)) ++ map (skip_said f) (skip_of f es (lane_of s true))) (all_fit f es s (omega arith))
-    (all_joined (IsSkip (skip_form f)) (map (skip_said f) (skip_of f es (lane_of s false))) (map (skip_said f) (skip_of f es (lane_of s true))) (lane_fits f es s false (omega arith)) (lane_fits f es s true (omega arith))))
+    rw (map-append (skip_said f) (skips_below f es s) (skips_on f es s), map-append (skip_said f) (skip_of f es (lane_of s Ordered)) (skip_of f es (lane_of s Unordered)))
+    (all_joined (IsSkip (skip_form f)) (map (skip_said f) (skips_below f es s)) (map (skip_said f) (skip_of f es (lane_of s Ordered)) ++ map (skip_said f) (skip_of f es (lane_of s Unordered))) (all_fit f es s (omega arith))
+    (all_joined (IsSkip (skip_form f)) (map (skip_said f) (skip_of f es (lane_of s Ordered))) (map (skip_said f) (skip_of f es (lane_of s Unordered))) (lane_fits f es s Ordered (omega arith)) (lane_fits f es s Unordered (omega arith))))
 
 pub forward_fits : (f : Format) (x : ForwardMeaning) → x.cumulative < 2 ^ 32 → AllByRecursion (IsSkip (skip_form f)) x.skips → skip_size (skip_form f) * length x.skips < 65528 → Fits (forward_chunk f x)
 forward_fits Plain x small skips few = record { fields = record { cumulative = small; skips = skips }; length = omega (arith, few); plain = tt }

@@ -20,7 +20,7 @@ use Rattle.sctp_model.proofs.sender.SetLaws.{is_set}
 use Rattle.sctp_model.proofs.sender.OwedLaws.{is_promised}
 use Rattle.sctp_model.proofs.sender.TicketLaws.{waits_push}
 use Rattle.sctp_send.specs.SenderAnswers.{refused_with, QueueAnswer}
-use Rattle.sctp_send.specs.declared.message.Ticket.{Ticket}
+use Rattle.sctp_values.specs.declared.ticket.Ticket.{Ticket}
 use Rattle.sctp_send.specs.declared.queue.SendFault.{SendFault}
 use Rattle.sctp_send.specs.declared.queue.SendFault.TheVariants.{NoMemory}
 use Rattle.sctp_send.specs.SenderKept.{Track, Kept}

@@ -16,57 +16,23 @@ use Rattle.sctp_send.proofs.KeepLemmas.{kept_length}
 
 -- ---- a cumulative TSN
 
--- the two ways around the circle
-around : (x n : ℕ) → x + n ≡ 2 ^ 32 → n < 2 ^ 32 → (nat_lt 0 x && nat_lt x (2 ^ 31)) ≡ nat_lt (2 ^ 31) n
-around x n sum small = by_test (nat_lt (2 ^ 31) n) refl
-  where
-    by_test : (c : Bool) → nat_lt (2 ^ 31) n ≡ c → (nat_lt 0 x && nat_lt x (2 ^ 31)) ≡ c
-    by_test true far =
-        let over : 2 ^ 31 < n = grind (arith, nat_tests) in
-        let some : 0 < x = omega (arith, sum, small) in
-        let short : x < 2 ^ 31 = omega (arith, sum, over) in
-        grind (arith, nat_tests)
-    by_test false close =
-        let near : n ≤ 2 ^ 31 = grind (arith, nat_tests) in
-        let long : nat_lt x (2 ^ 31) ≡ false = let le : 2 ^ 31 ≤ x = omega (arith, sum, near) in grind (arith, nat_tests) in
-        rw long (off (nat_lt 0 x))
-      where
-        off : (b : Bool) → (b && false) ≡ false
-        off true = refl
-        off false = refl
-
--- a TSN lies before another exactly where it is more than half the space ahead of it
-behind_is_far : (a b : ℕ) → before 32 a b ≡ nat_lt (2 ^ 31) (ahead 32 b a)
-behind_is_far a b = by_way (round a b)
-  where
-    round : (x y : ℕ) → ((ahead 32 x y ≡ 0) × (ahead 32 y x ≡ 0)) ⊎ (ahead 32 x y + ahead 32 y x ≡ 2 ^ 32)
-    round x y = by_zero (nat_lt 0 (ahead 32 x y)) refl
-      where
-        by_zero : (c : Bool) → nat_lt 0 (ahead 32 x y) ≡ c → ((ahead 32 x y ≡ 0) × (ahead 32 y x ≡ 0)) ⊎ (ahead 32 x y + ahead 32 y x ≡ 2 ^ 32)
-        by_zero true some = let lt : 0 < ahead 32 x y = grind (arith, nat_tests) in inr (omega (arith, lt))
-        by_zero false none = let is : ahead 32 x y ≡ 0 = grind (arith, nat_tests) in inl (is, omega (arith, is))
-
-    by_way : ((ahead 32 a b ≡ 0) × (ahead 32 b a ≡ 0)) ⊎ (ahead 32 a b + ahead 32 b a ≡ 2 ^ 32) → before 32 a b ≡ nat_lt (2 ^ 31) (ahead 32 b a)
-    by_way (inl none) = rw (none.0, none.1) refl
-    by_way (inr sum) = around (ahead 32 a b) (ahead 32 b a) sum (omega arith)
-
--- what stands where it does on the circle
-stale_here : (f : Format) (s : Kept) (v : SenderView) (wire n : ℕ) → Keeps f s v → n ≡ ahead 32 (tsn s.initial s.cum) wire → is_stale v wire ≡ nat_lt (2 ^ 31) n
-stale_here f s v wire n k is = behind_is_far wire (tsn v.initial v.cum) ∙ rw (is, k.holds.initial, k.holds.cum) refl
+-- it lies before that of CUM
+pub stale_is : (f : Format) (s : Kept) (v : SenderView) (wire known : ℕ) → Keeps f s v → known ≡ tsn s.initial s.cum → is_stale v wire ≡ before 32 wire known
+stale_is f s v wire known k is = rw (is, k.holds.initial, k.holds.cum) refl
 
 index_here : (f : Format) (s : Kept) (v : SenderView) (wire n : ℕ) → Keeps f s v → n ≡ ahead 32 (tsn s.initial s.cum) wire → index_of v wire ≡ v.cum + n
 index_here f s v wire n k is = rw (is, k.holds.initial, k.holds.cum) refl
 
-pub refused_beyond : (f : Format) (s : Kept) (v : SenderView) (wire n : ℕ) → Keeps f s v → n ≡ ahead 32 (tsn s.initial s.cum) wire → n ≤ 2 ^ 31 → length s.items < n → Refuses v wire Beyond
-refused_beyond f s v wire n k is near past =
+pub refused_beyond : (f : Format) (s : Kept) (v : SenderView) (wire n : ℕ) → Keeps f s v → n ≡ ahead 32 (tsn s.initial s.cum) wire → is_stale v wire ≡ false → length s.items < n → Refuses v wire Beyond
+refused_beyond f s v wire n k is fresh past =
     let long = kept_length f s v k in
     let over : length v.plan.entries < v.cum + n = omega (arith, long, past) in
-    (stale_here f s v wire n k is ∙ grind (arith, nat_tests), rw (index_here f s v wire n k is) (grind (arith, nat_tests)))
+    (fresh, rw (index_here f s v wire n k is) (grind (arith, nat_tests)))
 
-pub passing : (f : Format) (s : Kept) (v : SenderView) (wire n : ℕ) → Keeps f s v → n ≡ ahead 32 (tsn s.initial s.cum) wire → n ≤ 2 ^ 31 → n ≤ length s.items → IsPassing v wire n
-passing f s v wire n k is near le =
+pub passing : (f : Format) (s : Kept) (v : SenderView) (wire n : ℕ) → Keeps f s v → n ≡ ahead 32 (tsn s.initial s.cum) wire → is_stale v wire ≡ false → n ≤ length s.items → IsPassing v wire n
+passing f s v wire n k is fresh le =
     let long = kept_length f s v k in
-    record { fresh = stale_here f s v wire n k is ∙ grind (arith, nat_tests); index = index_here f s v wire n k is; within = omega (arith, long, le) }
+    record { fresh = fresh; index = index_here f s v wire n k is; within = omega (arith, long, le) }
 
 -- ---- the answers
 

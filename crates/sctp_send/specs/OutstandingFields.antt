@@ -1,10 +1,11 @@
 -- What an entry above CUM says: its message, its place, how far it came.
 use Rattle.std.specs.Prelude.{ℕ, Bool, true, false, List, map, Some}
 use Rattle.sctp_model.specs.messages.Format.{Lane}
-use Rattle.sctp_model.specs.messages.Framing.{lane_kind}
 use Rattle.sctp_model.specs.messages.Plan.{Message, Entry, Part, End}
 use Rattle.sctp_model.specs.sender.SenderView.{Queued}
 use Rattle.sctp_model.specs.sender.Queueing.{cut}
+use Rattle.sctp_values.specs.Meanings.{kind_meaning}
+use Rattle.sctp_values.specs.declared.kind.Kind.{Kind}
 use Rattle.sctp_send.specs.SenderKept.{Item}
 use Rattle.sctp_send.specs.declared.message.Message.{Message as MessageFields}
 use Rattle.sctp_send.specs.declared.outstanding.Standing.{Standing}
@@ -27,7 +28,7 @@ is_marked Marked = true
 
 -- the lane in which a message was handed in
 abbrev pub lane_meaning : MessageFields → Lane
-lane_meaning m = record { stream = m.stream; kind = lane_kind m.unordered }
+lane_meaning m = record { stream = m.stream; kind = kind_meaning m.kind }
 
 -- the message that was handed in, cut into fragments (RFC 9260, 6.9)
 abbrev pub message_meaning : ℕ → MessageFields → Message
@@ -53,9 +54,9 @@ item_meaning size e = record {
   given_up = e.given_up;
 }
 
--- the lane of a stream, ordered or not
-abbrev pub lane_of : ℕ → Bool → Lane
-lane_of stream unordered = record { stream = stream; kind = lane_kind unordered }
+-- the lane of a stream and a kind
+abbrev pub lane_of : ℕ → Kind → Lane
+lane_of stream kind = record { stream = stream; kind = kind_meaning kind }
 
 -- what stands at the indexes of items
 abbrev pub entries_of : List Item → List Entry

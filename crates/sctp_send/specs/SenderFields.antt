@@ -2,6 +2,7 @@
 use Rattle.std.specs.Prelude.{◌≡◌, ℕ, ◌<◌, ◌≤◌, Option, None, Some}
 use Rattle.std.specs.declared.rc.Rc.{Rc}
 use Rattle.std.specs.declared.alloc.Global.{Global}
+use Rattle.sctp_model.specs.numbers.Limits.{GREATEST_FRAGMENT}
 use Rattle.sctp_model.specs.messages.Plan.{Part}
 use Rattle.sctp_model.specs.sender.SenderView.{Queued}
 use Rattle.sctp_send.specs.SenderKept.{Rest, Track}
@@ -30,7 +31,7 @@ track_meaning size t = record { ordered = t.ordered; unordered = t.unordered; re
 -- the constants are within their limits, and all parts have fragments of the same size
 pub record IsConfigured (size w q t : ℕ) : Type 0 where
   pub some : 0 < size
-  pub short : size ≤ 1400
+  pub short : size ≤ GREATEST_FRAGMENT
   pub window : w ≡ size
   pub queue : q ≡ size
   pub tracks : t ≡ size

@@ -11,7 +11,7 @@ ghost use Rattle.sctp_send.specs.SenderStands.{StandsFor, fate_here};
 ghost use Rattle.sctp_send.specs.inner.Walks.{is_numbered_fate, any_rest, end_item, GoesOnAt, EndsAt};
 ghost use Rattle.sctp_send.specs.SenderAnswers.{answer_meaning};
 
-use crate::message::{Fate, Ticket};
+use crate::message::Fate;
 use crate::outstanding::{Outstanding, Place, Standing, unmarked};
 use crate::readers::{goes_on, is_all_covered};
 use crate::sender::{Rest, Sender, Track};
@@ -19,6 +19,7 @@ use crate::streams::Streams;
 use crate::waiting::Waiting;
 use crate::window::Window;
 use sctp_framing::Framing;
+use sctp_values::Ticket;
 
 /// What abandoning a ticket's message is answered.
 #[derive(Clone, Copy, Debug, PartialEq, Eq)]

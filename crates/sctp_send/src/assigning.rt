@@ -16,10 +16,7 @@ use crate::queue::fragments_of;
 use crate::sender::{Rest, Track};
 use crate::waiting::Waiting;
 use sctp_framing::Framing;
-use sctp_values::NoMemory;
-
-/// The most indexes above CUM and messages in part.
-const WINDOW: usize = 32_767;
+use sctp_values::{NoMemory, WINDOW};
 
 /// A message that takes its number: it stands at this place of the queue, so many of its fragments take their indexes, and this stream's turn
 /// is next then.
@@ -150,13 +147,14 @@ pub fn has_window(draft: &Draft, stream: u16, count: usize, more: bool) -> bool
     requires { 0 < count }
     ensures fits { (size : ℕ) → size ≡ draft.now.tracks.size → result ≡ nat_le (length draft.now.outstanding.items + count + (total (λ t. one_if_rest t.rest) (map (track_meaning size) draft.now.tracks.items) % 2 ^ 32 + one_if more))
         (WINDOW + one_if (has_rest (rest_at (map (track_meaning size) draft.now.tracks.items) stream))) }
-    ensures few { result ≡ true → count ≤ 32_768 }
+    ensures few { result ≡ true → count ≤ WINDOW + 1 }
 {
+    let window = WINDOW as usize;
     let outstanding = draft.outstanding.len();
-    if outstanding > WINDOW || count > WINDOW + 1 {
+    if outstanding > window || count > window + 1 {
         return false;
     }
     let parts = draft.tracks.in_part() as usize + usize::from(more);
     let had = usize::from(goes_on_at(draft.tracks.tracks(), stream));
-    outstanding + count + parts <= WINDOW + had
+    outstanding + count + parts <= window + had
 }

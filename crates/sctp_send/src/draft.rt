@@ -6,13 +6,13 @@ ghost use Rattle.sctp_send.specs.SenderFields.{rests_meaning};
 ghost use Rattle.sctp_send.specs.WindowKept.{changed};
 ghost use Rattle.sctp_send.specs.inner.Undoing.{parts_of, undone, origin, stands_so, waits_again, IsKeptRoom};
 
-use crate::message::{Message, Ticket};
+use crate::message::Message;
 use crate::outstanding::Standing;
 use crate::sender::{Rest, Track};
 use crate::streams::Streams;
 use crate::waiting::Waiting;
 use crate::window::Window;
-use sctp_values::NoMemory;
+use sctp_values::{NoMemory, Ticket};
 use std::rc::Rc;
 
 /// What filling changes: entries, the queue, streams and the turn as in a sender; the messages that took their numbers, in order; and what was

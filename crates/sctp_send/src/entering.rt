@@ -2,7 +2,8 @@
 
 ghost use Rattle.std.specs.Prelude.{◌≡◌, ℕ, suc, ◌+◌, ◌<◌, ◌≤◌, ◌%◌, ◌^◌, ◌∷◌, [], ◌++◌, ◌-◌, map, take, set, length, slice_set, IfOk, OnOk, OnErr};
 ghost use Rattle.std.specs.Vec.{vec_len, vec_capacity};
-ghost use Rattle.sctp_model.specs.messages.Framing.{lane_kind};
+ghost use Rattle.sctp_model.specs.numbers.Limits.{WINDOW};
+ghost use Rattle.sctp_values.specs.Meanings.{kind_meaning};
 ghost use Rattle.sctp_send.specs.OutstandingFields.{item_meaning, lane_meaning, message_meaning, queued_meaning};
 ghost use Rattle.sctp_send.specs.SenderFields.{queued_by, track_meaning, rest_meaning, rests_meaning};
 ghost use Rattle.sctp_send.specs.inner.Newcomers.{number_in, number_on, begun_items, track_of, without_place, begun, gone_on};
@@ -11,7 +12,7 @@ ghost use Rattle.sctp_send.specs.inner.Undoing.{Parts, before_all, IsSized, IsBe
 
 use crate::assigning::{Beginning, stream_after};
 use crate::draft::{Change, Draft, note, shared};
-use crate::message::{Message, Ticket};
+use crate::message::Message;
 use crate::outstanding::Standing;
 use crate::pushing::{push_begun, push_fragment};
 use crate::queue::fragments_of;
@@ -19,7 +20,7 @@ use crate::sender::{Rest, Sender, Track};
 use crate::streams::Streams;
 use crate::waiting::Waiting;
 use sctp_framing::Framing;
-use sctp_values::NoMemory;
+use sctp_values::{Kind, NoMemory, Ticket};
 use std::rc::Rc;
 
 /// Room for so many tickets is taken at once.
@@ -38,7 +39,7 @@ impl<F: Framing> Sender<F> {
         number: u32,
     ) -> Result<(), NoMemory>
         requires some { 0 < next.count }
-        requires few { next.count ≤ 32_768 }
+        requires few { next.count ≤ WINDOW + 1 }
         requires place { next.place < length draft.old.queue.items }
         requires stream { message.value.stream < length draft.old.tracks.items }
         requires sized { IsSized self.now.fragment draft.old }
@@ -53,7 +54,7 @@ impl<F: Framing> Sender<F> {
         draft.log.reserve(2).map_err(|_| NoMemory)?;
         tell(&mut draft.tickets, message.ticket)?;
         let stream = message.stream;
-        let unordered = message.unordered;
+        let kind = message.kind;
         push_begun(
             &mut draft.outstanding,
             message,
@@ -62,7 +63,7 @@ impl<F: Framing> Sender<F> {
             self.streams,
         )?;
         take_out(&mut draft.queue, &mut draft.log, next.place);
-        let track = count_on(&mut draft.tracks, stream, unordered, rest);
+        let track = count_on(&mut draft.tracks, stream, kind, rest);
         let change = Change::In {
             count: next.count,
             stream,
@@ -140,44 +141,42 @@ fn rest_from(
 }
 
 /// The number that the next message of this kind takes on a stream.
-pub fn number_next(track: &Track, unordered: bool) -> u32
-    ensures { (size : ℕ) → result ≡ number_in (lane_kind unordered) (track_meaning size track.now) }
+pub fn number_next(track: &Track, kind: Kind) -> u32
+    ensures { (size : ℕ) → result ≡ number_in (kind_meaning kind) (track_meaning size track.now) }
 {
-    if unordered {
-        track.unordered
-    } else {
-        track.ordered
+    match kind {
+        Kind::Ordered => track.ordered,
+        Kind::Unordered => track.unordered,
     }
 }
 
 /// A stream on which a message of this kind took its number, and so much of it is left.
-fn counted(track: &Track, unordered: bool, rest: Option<Rest>) -> Track
-    ensures { (size : ℕ) → suc (number_in (lane_kind unordered) (track_meaning size track.now)) < 2 ^ 32
-        → track_meaning size result ≡ counted_track (lane_kind unordered) (rests_meaning size rest) (track_meaning size track.now) }
+fn counted(track: &Track, kind: Kind, rest: Option<Rest>) -> Track
+    ensures { (size : ℕ) → suc (number_in (kind_meaning kind) (track_meaning size track.now)) < 2 ^ 32
+        → track_meaning size result ≡ counted_track (kind_meaning kind) (rests_meaning size rest) (track_meaning size track.now) }
 {
-    let (ordered, more) = if unordered {
-        (track.ordered, track.unordered.wrapping_add(1))
-    } else {
-        (track.ordered.wrapping_add(1), track.unordered)
+    let (ordered, unordered) = match kind {
+        Kind::Ordered => (track.ordered.wrapping_add(1), track.unordered),
+        Kind::Unordered => (track.ordered, track.unordered.wrapping_add(1)),
     };
     Track {
         ordered,
-        unordered: more,
+        unordered,
         rest,
     }
 }
 
 /// A message took its number on a stream, and so much of it is left. It answers how the stream was.
-fn count_on(tracks: &mut Streams, stream: u16, unordered: bool, rest: Option<Rest>) -> Track
+fn count_on(tracks: &mut Streams, stream: u16, kind: Kind, rest: Option<Rest>) -> Track
     requires { stream < length tracks.old.items }
     ensures size { tracks.new.size ≡ tracks.old.size }
-    ensures items { (size : ℕ) → suc (number_in (lane_kind unordered) (track_of (map (track_meaning size) tracks.old.items) stream)) < 2 ^ 32
+    ensures items { (size : ℕ) → suc (number_in (kind_meaning kind) (track_of (map (track_meaning size) tracks.old.items) stream)) < 2 ^ 32
         → map (track_meaning size) tracks.new.items
-        ≡ slice_set (map (track_meaning size) tracks.old.items) stream (counted_track (lane_kind unordered) (rests_meaning size rest) (track_of (map (track_meaning size) tracks.old.items) stream)) }
+        ≡ slice_set (map (track_meaning size) tracks.old.items) stream (counted_track (kind_meaning kind) (rests_meaning size rest) (track_of (map (track_meaning size) tracks.old.items) stream)) }
     ensures before { set tracks.new.items stream result ≡ tracks.old.items }
 {
     let at = usize::from(stream);
-    let next = counted(&tracks.tracks()[at], unordered, rest);
+    let next = counted(&tracks.tracks()[at], kind, rest);
     tracks.replace(at, next)
 }
 

@@ -8,11 +8,12 @@ ghost use Rattle.sctp_send.specs.SenderFields.{track_meaning};
 ghost use Rattle.sctp_send.specs.SenderStands.{StandsFor};
 ghost use Rattle.sctp_send.specs.inner.Expiring.{sooner, late_after, soonest, item_message, rest_message, kept_messages};
 
-use crate::message::{Message, Ticket};
+use crate::message::Message;
 use crate::outstanding::Outstanding;
 use crate::sender::{Sender, Track};
 use crate::wishes::is_done;
 use sctp_framing::Framing;
+use sctp_values::Ticket;
 
 #[tactic(auto, unfolding(crate::specs::SenderStands::StandsFor))]
 impl<F: Framing> Sender<F> {

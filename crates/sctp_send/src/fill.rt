@@ -8,14 +8,14 @@ ghost use Rattle.sctp_send.specs.inner.Drafting.{numbers_of, all_numbered, draft
 ghost use Rattle.sctp_send.specs.inner.Undoing.{IsSized, IsBehind};
 
 use crate::draft::{Draft, take_back};
-use crate::message::{Fate, Ticket};
+use crate::message::Fate;
 use crate::sender::Sender;
 use crate::streams::Streams;
 use crate::waiting::Waiting;
 use crate::window::Window;
 use sctp_framing::Framing;
 use sctp_packet::PacketWriter;
-use sctp_values::NoMemory;
+use sctp_values::{NoMemory, Ticket};
 use std::mem;
 
 /// The tickets of messages that took their numbers, by their first TSN.

@@ -16,11 +16,11 @@ ghost use Rattle.sctp_send.specs.inner.Newcomers.{one_if};
 
 use crate::outstanding::Outstanding;
 use crate::readers::given_up_run;
-use crate::sack::tsn_of;
 use crate::sender::Sender;
 use crate::window::Window;
 use sctp_framing::Framing;
 use sctp_packet::PacketWriter;
+use sctp_serial::tsn_of;
 use sctp_values::{Kind, NoMemory};
 use sctp_wire::{Forward, Skip, Skips, put_skip};
 use std::alloc::Global;
@@ -81,8 +81,8 @@ fn skips_below<F: Framing>(
 {
     let mut list = Vec::new(alloc);
     for stream in 0..streams {
-        put_lane::<F>(outstanding, run, stream, false, &mut list)?;
-        put_lane::<F>(outstanding, run, stream, true, &mut list)?;
+        put_lane::<F>(outstanding, run, stream, Kind::Ordered, &mut list)?;
+        put_lane::<F>(outstanding, run, stream, Kind::Unordered, &mut list)?;
     }
     Ok(list)
 }
@@ -92,7 +92,7 @@ fn put_lane<F: Framing>(
     outstanding: &Window,
     run: u32,
     stream: u16,
-    unordered: bool,
+    kind: Kind,
     list: &mut Vec<u8>,
 ) -> Result<(), NoMemory>
     requires run { run ≤ length outstanding.now.items }
@@ -100,18 +100,17 @@ fn put_lane<F: Framing>(
     ensures count { OnOk result (length list.new.items ≡ skip_size (skip_form F.format) * length (skips_in (skip_form F.format) list.new.items)) }
     ensures skips { (size : ℕ) → OnOk result (skips_in (skip_form F.format) list.new.items
         ≡ skips_in (skip_form F.format) list.old.items
-        ++ map (skip_said F.format) (skip_of F.format (entries_of (map (item_meaning size) (take run outstanding.now.items))) (lane_of stream unordered))) }
+        ++ map (skip_said F.format) (skip_of F.format (entries_of (map (item_meaning size) (take run outstanding.now.items))) (lane_of stream kind))) }
 {
-    let kind = Kind::of_flag(unordered);
     if !F::is_numbered(kind) {
         return Ok(());
     }
-    match largest_in(outstanding, run, stream, unordered) {
+    match largest_in(outstanding, run, stream, kind) {
         None => Ok(()),
         Some(number) => {
             let skip = Skip {
                 stream,
-                unordered,
+                unordered: kind.flag(),
                 number: F::wire_number(kind, number),
             };
             put_skip(F::skip_form(), skip, list)
@@ -144,39 +143,38 @@ fn count_below<F: Framing>(outstanding: &Window, run: u32, streams: u16) -> usiz
 {
     let mut count = 0;
     for stream in 0..streams {
-        count += usize::from(is_listed::<F>(outstanding, run, stream, false));
-        count += usize::from(is_listed::<F>(outstanding, run, stream, true));
+        count += usize::from(is_listed::<F>(outstanding, run, stream, Kind::Ordered));
+        count += usize::from(is_listed::<F>(outstanding, run, stream, Kind::Unordered));
     }
     count
 }
 
 /// Whether a lane is numbered and has a number among the first `run` entries.
-fn is_listed<F: Framing>(outstanding: &Window, run: u32, stream: u16, unordered: bool) -> bool
+fn is_listed<F: Framing>(outstanding: &Window, run: u32, stream: u16, kind: Kind) -> bool
     requires { run ≤ length outstanding.now.items }
-    ensures { (size : ℕ) → length (skip_of F.format (entries_of (map (item_meaning size) (take run outstanding.now.items))) (lane_of stream unordered)) ≡ one_if result }
+    ensures { (size : ℕ) → length (skip_of F.format (entries_of (map (item_meaning size) (take run outstanding.now.items))) (lane_of stream kind)) ≡ one_if result }
 {
-    F::is_numbered(Kind::of_flag(unordered))
-        && largest_in(outstanding, run, stream, unordered).is_some()
+    F::is_numbered(kind) && largest_in(outstanding, run, stream, kind).is_some()
 }
 
 /// The largest number of a lane among the first `run` entries.
-fn largest_in(outstanding: &Window, run: u32, stream: u16, unordered: bool) -> Option<u32>
+fn largest_in(outstanding: &Window, run: u32, stream: u16, kind: Kind) -> Option<u32>
     requires { run ≤ length outstanding.now.items }
     ensures { (size : ℕ) → result
-        ≡ largest_in (lane_of stream unordered) None (entries_of (map (item_meaning size) (take run outstanding.now.items))) }
+        ≡ largest_in (lane_of stream kind) None (entries_of (map (item_meaning size) (take run outstanding.now.items))) }
 {
     let mut found = None;
     for at in 0..run {
-        found = larger_with(found, outstanding.get(at as usize), stream, unordered);
+        found = larger_with(found, outstanding.get(at as usize), stream, kind);
     }
     found
 }
 
 /// The larger of a number, if there is one, and that of an entry, if it is of the lane.
-fn larger_with(found: Option<u32>, entry: &Outstanding, stream: u16, unordered: bool) -> Option<u32>
-    ensures { (size : ℕ) → result ≡ largest_in (lane_of stream unordered) found ((item_meaning size entry.now).entry ∷ []) }
+fn larger_with(found: Option<u32>, entry: &Outstanding, stream: u16, kind: Kind) -> Option<u32>
+    ensures { (size : ℕ) → result ≡ largest_in (lane_of stream kind) found ((item_meaning size entry.now).entry ∷ []) }
 {
-    if entry.message.stream != stream || entry.message.unordered != unordered {
+    if entry.message.stream != stream || entry.message.kind != kind {
         return found;
     }
     match found {

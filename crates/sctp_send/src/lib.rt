@@ -27,8 +27,7 @@ mod wishes;
 
 pub use abandon::Abandoned;
 pub use fill::Filled;
-pub use message::Ticket;
 pub use queue::SendFault;
 pub use sack::SackFault;
-pub use sctp_values::NoMemory;
+pub use sctp_values::{NoMemory, Ticket};
 pub use sender::Sender;

@@ -1,23 +1,19 @@
-//! A message as it was handed in, and the name that its user has for it.
+//! A message as it was handed in, and what became of it.
 
 ghost use Rattle.std.specs.Prelude.{◌≡◌, ℕ, Some, IfOk};
 ghost use Rattle.sctp_send.specs.OutstandingFields.{message_meaning};
 ghost use Rattle.sctp_send.specs.inner.Counting.{moment_from};
 
-use sctp_values::NoMemory;
+use sctp_values::{Kind, NoMemory};
 use std::alloc::Global;
 use std::rc::Rc;
-
-/// The name of an accepted message: 1 for the first one, and so on.
-#[derive(Clone, Copy, Debug, PartialEq, Eq)]
-pub struct Ticket(pub u32);
 
 /// What `queue` was given for a message. Its bytes are kept once: fragments are ranges of them.
 #[derive(Debug, Drop)]
 pub struct Message {
     pub ticket: u32,
     pub stream: u16,
-    pub unordered: bool,
+    pub kind: Kind,
     pub payload_id: u32,
     /// The moment from which it is worthless, in milliseconds.
     pub until: Option<u64>,

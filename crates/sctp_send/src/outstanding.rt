@@ -10,6 +10,7 @@ ghost use Rattle.sctp_send.specs.inner.Acknowledging.{block_fault};
 
 use crate::message::{Message, lay_by};
 use crate::window::Window;
+use sctp_values::BLOCK_LIMIT;
 use sctp_wire::Blocks;
 use std::alloc::Global;
 use std::rc::Rc;
@@ -52,9 +53,6 @@ pub struct Run {
     pub from: usize,
     pub to: usize,
 }
-
-/// The most runs that are kept: as many as a SACK of ours has blocks.
-pub const RUNS: usize = 64;
 
 /// The same standing without its mark.
 pub fn unmarked(standing: Standing) -> Standing
@@ -164,7 +162,7 @@ pub fn remember(runs: &mut Vec<Run>, blocks: &Blocks<'_>) -> bool
             from: usize::from(block.start).saturating_sub(1),
             to: usize::from(block.end),
         };
-        if runs.len() >= RUNS || runs.push(run).is_err() {
+        if runs.len() >= BLOCK_LIMIT || runs.push(run).is_err() {
             return false;
         }
     }

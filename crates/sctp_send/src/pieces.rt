@@ -2,6 +2,7 @@
 
 ghost use Rattle.std.specs.Prelude.{◌≡◌, ℕ, ◌<◌, ◌≤◌, IfOk, OnErr, Some};
 ghost use Rattle.sctp_model.specs.messages.Format.{Lane};
+ghost use Rattle.sctp_model.specs.numbers.Limits.{GREATEST_FRAGMENT};
 ghost use Rattle.sctp_model.specs.numbers.Serial as serial;
 ghost use Rattle.sctp_model.specs.sender.Entries.{entry_fragment, bytes_in};
 ghost use Rattle.sctp_packet.specs.Draft.{has_room, after_try};
@@ -13,7 +14,7 @@ use crate::outstanding::Place;
 use crate::queue::fragments_of;
 use sctp_framing::Framing;
 use sctp_packet::PacketWriter;
-use sctp_values::{Kind, NoMemory};
+use sctp_values::NoMemory;
 use sctp_wire::Piece;
 
 /// The bytes of a fragment: a range of its message's. An end mark has none.
@@ -69,7 +70,7 @@ pub fn put_fragment<F: Framing>(
     packet: &mut PacketWriter,
 ) -> Result<bool, NoMemory>
     requires some { 0 < size }
-    requires short { size ≤ 1400 }
+    requires short { size ≤ GREATEST_FRAGMENT }
     ensures answer { (initial i : ℕ) → tsn ≡ serial.tsn initial i → IfOk result (λ put. put ≡ has_room packet.old (fragment_chunk F.format size initial i message.now number place)) }
     ensures after { (initial i : ℕ) → tsn ≡ serial.tsn initial i → IfOk result (λ put. packet.new ≡ after_try packet.old (fragment_chunk F.format size initial i message.now number place) put) }
     ensures unchanged { OnErr result (packet.new ≡ packet.old) }
@@ -77,14 +78,15 @@ pub fn put_fragment<F: Framing>(
     let fragment = fragment_of(place);
     let stream = stream_of(message);
     let payload_id = payload_of(message);
+    let kind = message.kind;
     let piece = Piece {
         immediate: false,
-        unordered: message.unordered,
+        unordered: kind.flag(),
         begin: fragment == 0,
         end: fragment as usize + 1 == fragments_of(size, &message.bytes),
         tsn,
         stream,
-        number: F::wire_number(Kind::of_flag(message.unordered), number),
+        number: F::wire_number(kind, number),
         word: F::wire_word(payload_id, fragment),
         bytes: bytes_of(message, place, size),
     };

@@ -5,6 +5,7 @@ ghost use Rattle.sctp_send.specs.OutstandingFields.{item_meaning, lane_meaning, 
 ghost use Rattle.sctp_send.specs.WindowKept.{IsSameRoom};
 ghost use Rattle.sctp_send.specs.inner.Newcomers.{begun_items};
 ghost use Rattle.sctp_send.specs.inner.Drafting.{fragment_item};
+ghost use Rattle.sctp_model.specs.numbers.Limits.{WINDOW};
 
 use crate::draft::shared;
 use crate::message::Message;
@@ -70,7 +71,7 @@ pub fn push_begun(
     more: u16,
 ) -> Result<(), NoMemory>
     requires some { 0 < count }
-    requires few { count ≤ 32_768 }
+    requires few { count ≤ WINDOW + 1 }
     ensures items { (size : ℕ) → OnOk result (map (item_meaning size) outstanding.new.items
         ≡ map (item_meaning size) outstanding.old.items ++ begun_items (lane_meaning message.value) number (message_meaning size message.value) count) }
     ensures before { OnOk result (outstanding.old.items ≡ take (length outstanding.new.items - count) outstanding.new.items) }

@@ -17,12 +17,12 @@ use crate::message::Message;
 use crate::outstanding::{Place, Standing};
 use crate::pieces::{bytes_of, put_fragment};
 use crate::queue::fragments_of;
-use crate::sack::tsn_of;
 use crate::sender::Sender;
 use crate::window::Window;
 use crate::wishes::may_flow;
 use sctp_framing::Framing;
 use sctp_packet::PacketWriter;
+use sctp_serial::tsn_of;
 use sctp_values::NoMemory;
 use std::rc::Rc;
 
@@ -148,7 +148,7 @@ impl<F: Framing> Sender<F> {
         let Some(track) = draft.tracks.tracks().get(usize::from(message.stream)) else {
             return Ok(false);
         };
-        let number = number_next(track, message.unordered);
+        let number = number_next(track, message.kind);
         let more = next.count < fragments_of(self.fragment, &message.bytes);
         if !has_window(draft, message.stream, next.count, more) {
             return Ok(false);

@@ -10,25 +10,14 @@ ghost use Rattle.sctp_send.specs.SenderStands.{StandsFor};
 ghost use Rattle.sctp_send.specs.inner.Walks.{rest_owes};
 ghost use Rattle.sctp_send.specs.SenderAnswers.{QueueAnswer, queue_after, lane_for};
 
-use crate::message::{Fate, Message, Ticket, placed};
+use crate::message::{Fate, Message, placed};
 use crate::sender::{Sender, Track};
 use crate::waiting::Waiting;
 use sctp_framing::Framing;
+use sctp_values::{Kind, LONGEST_MESSAGE, QUEUE_LIMIT, TICKET_LIMIT, TSN_LIMIT, Ticket};
 use std::alloc::Global;
 use std::rc::Rc;
 use thiserror::Error;
-
-/// The most bytes of a message.
-const LONGEST_MESSAGE: usize = 65_536;
-
-/// The most messages that wait for a number at once.
-const QUEUE_LIMIT: usize = 1_024;
-
-/// The most tickets that are given.
-const TICKET_LIMIT: usize = 0xffff_ffff;
-
-/// The most TSNs that are assigned and owed.
-const TSN_LIMIT: u64 = 0x7fff_ffff;
 
 /// Why a message is not accepted: the first reason that holds, in this order.
 #[derive(Clone, Copy, Debug, PartialEq, Eq, Error)]
@@ -87,10 +76,10 @@ impl<F: Framing> Sender<F> {
         let promised = self.promised();
         let more = owed(fragments_of(self.fragment, &bytes));
         let given = self.fates.len();
-        if given >= TICKET_LIMIT {
+        if given >= TICKET_LIMIT as usize {
             return Err(SendFault::Spent);
         }
-        if promised.wrapping_add(more) > TSN_LIMIT {
+        if promised.wrapping_add(more) > u64::from(TSN_LIMIT) {
             return Err(SendFault::Spent);
         }
         match self.fates.reserve(1) {
@@ -101,7 +90,7 @@ impl<F: Framing> Sender<F> {
         let message = Message {
             ticket,
             stream,
-            unordered: !ordered,
+            kind: Kind::of_flag(!ordered),
             payload_id,
             until,
             bytes,

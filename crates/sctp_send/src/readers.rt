@@ -9,11 +9,12 @@ ghost use Rattle.sctp_send.specs.SenderFields.{track_meaning};
 ghost use Rattle.sctp_send.specs.SenderStands.{StandsFor};
 ghost use Rattle.sctp_send.specs.inner.Walks.{total, one_if_rest, given_up_items, any_unsettled, is_item_unsettled, is_given_up_fate, is_numbered_fate, any_uncovered, is_item_uncovered, any_rest, rest_has};
 
-use crate::message::{Fate, Ticket};
+use crate::message::Fate;
 use crate::outstanding::Outstanding;
 use crate::sender::{Sender, Track};
 use crate::window::Window;
 use sctp_framing::Framing;
+use sctp_values::Ticket;
 
 #[tactic(auto, unfolding(crate::specs::SenderStands::StandsFor))]
 impl<F: Framing> Sender<F> {

@@ -1,7 +1,6 @@
 //! SACKs and SHUTDOWNs that come (RFC 9260, 6.2.1 and 9.2).
 
 ghost use Rattle.std.specs.Prelude.{◌≡◌, ◌≤◌, length, IfOk};
-ghost use Rattle.sctp_model.specs.numbers.Serial.{tsn, ahead};
 ghost use Rattle.sctp_model.specs.sender.SenderView.{SenderView};
 ghost use Rattle.sctp_model.specs.sender.SackTaken.{some_is_bad, some_ends_past, sack_fault, sack_after, shutdown_fault, shutdown_after};
 ghost use Rattle.sctp_model.specs.sender.Abandoning.{timed_out};
@@ -14,6 +13,7 @@ use crate::outstanding::{forget, mark_unsettled, move_on};
 use crate::recover::take_blocks;
 use crate::sender::Sender;
 use sctp_framing::Framing;
+use sctp_serial::{S32, Serial, tsn_of};
 use sctp_wire::{Blocks, Sack};
 use thiserror::Error;
 
@@ -99,34 +99,22 @@ impl<F: Framing> Sender<F> {
         mark_unsettled(&mut self.outstanding);
     }
 
-    /// How many entries a cumulative TSN passes. More than half the space ahead, it lies before that of CUM.
+    /// How many entries a cumulative TSN passes.
     fn passed_by(&self, wire: u32) -> Result<u32, SackFault>
         ensures answer { (v : SenderView) → StandsFor F.format self.now v → PassingAnswer v wire result }
         ensures within { IfOk result (λ passed. passed ≤ length self.now.items) }
     {
-        let passed = ahead_of(tsn_of(self.initial, self.cum), wire);
-        if passed > 0x8000_0000 {
+        let known = S32(tsn_of(self.initial, self.cum));
+        let told = S32(wire);
+        if told.before(known) {
             return Err(SackFault::Stale);
         }
+        let passed = known.ahead(told);
         if passed as usize > self.outstanding.len() {
             return Err(SackFault::Beyond);
         }
         Ok(passed)
     }
-}
-
-/// The TSN of an index (RFC 9260, 3.3.2: the first one is the initial TSN).
-pub fn tsn_of(initial: u32, index: u32) -> u32
-    ensures { result ≡ tsn initial index }
-{
-    initial.wrapping_add(index).wrapping_sub(1)
-}
-
-/// How far a TSN lies ahead of another on their circle.
-fn ahead_of(from: u32, to: u32) -> u32
-    ensures { result ≡ ahead 32 from to }
-{
-    to.wrapping_sub(from)
 }
 
 /// Some block ends past the last of so many entries.

@@ -2,17 +2,18 @@
 
 ghost use Rattle.std.specs.Prelude.{◌≡◌, ℕ, ◌<◌, ◌≤◌};
 ghost use Rattle.std.specs.Prelude.{IfOk};
+ghost use Rattle.sctp_model.specs.numbers.Limits.{GREATEST_FRAGMENT};
 ghost use Rattle.sctp_model.specs.sender.SenderView.{SenderView, fresh_sender};
 ghost use Rattle.sctp_send.specs.SenderStands.{StandsFor};
 
 use crate::draft::Change;
 use crate::message::{Fate, Message, SPENT};
-use crate::outstanding::{RUNS, Run};
+use crate::outstanding::Run;
 use crate::streams::Streams;
 use crate::waiting::Waiting;
 use crate::window::Window;
 use sctp_framing::Framing;
-use sctp_values::NoMemory;
+use sctp_values::{BLOCK_LIMIT, NoMemory};
 use std::alloc::Global;
 use std::marker::{Model, PhantomData};
 use std::rc::Rc;
@@ -111,14 +112,14 @@ impl<F: Framing> Sender<F> {
         partial: bool,
     ) -> Result<Sender<F>, NoMemory>
         requires some { 0 < fragment }
-        requires short { fragment ≤ 1400 }
+        requires short { fragment ≤ GREATEST_FRAGMENT }
         ensures { IfOk result (λ sender. StandsFor F.format sender (fresh_sender initial_tsn streams fragment peer_rwnd partial)) }
     {
         let tracks = Streams::new(alloc, streams, fragment)?;
         let mut covered = Vec::new(alloc);
-        covered.reserve(RUNS).map_err(|_| NoMemory)?;
+        covered.reserve(BLOCK_LIMIT).map_err(|_| NoMemory)?;
         let mut spare = Vec::new(alloc);
-        spare.reserve(RUNS).map_err(|_| NoMemory)?;
+        spare.reserve(BLOCK_LIMIT).map_err(|_| NoMemory)?;
         let mut spent = Vec::new(alloc);
         spent.reserve(SPENT).map_err(|_| NoMemory)?;
         Ok(Sender {

@@ -24,7 +24,7 @@ use Rattle.sctp_send.specs.declared.assigning.Next.TheVariants.{Begins, Continue
 use Rattle.sctp_send.specs.declared.draft.Draft.{Draft}
 use Rattle.sctp_send.specs.declared.message.Fate.{Fate}
 use Rattle.sctp_send.specs.declared.message.Fate.TheVariants.{Numbered}
-use Rattle.sctp_send.specs.declared.message.Ticket.{Ticket}
+use Rattle.sctp_values.specs.declared.ticket.Ticket.{Ticket}
 use Rattle.sctp_send.specs.declared.message.Message.{Message as MessageFields}
 use Rattle.sctp_send.specs.declared.outstanding.Place.{Place}
 use Rattle.sctp_send.specs.declared.outstanding.Place.TheVariants.{Fragment}

@@ -1,5 +1,5 @@
 use Rattle.std.proofs.Common.{◌∙◌, List, map, get_or, ◌^◌, ◌<◌, suc, ap, sym}
-use Rattle.sctp_model.specs.messages.Framing.{lane_kind}
+use Rattle.sctp_values.specs.Meanings.{kind_meaning}
 use Rattle.sctp_send.specs.SenderFields.{track_meaning, rests_meaning}
 use Rattle.sctp_send.specs.WindowKept.{StreamsKept}
 use Rattle.sctp_send.specs.inner.Newcomers.{number_in}
@@ -10,7 +10,7 @@ use Rattle.sctp_send.proofs.entering.count_on.Goals as goal
 
 pub returns-clause-items : goal.returns-clause-items
 returns-clause-items c = λ size small.
-    let k = lane_kind c.args.unordered in
+    let k = kind_meaning c.args.kind in
     let left = rests_meaning size c.args.rest in
     let x = c.index-tracks-at.result in
     let ts = c.args.tracks.now.items in

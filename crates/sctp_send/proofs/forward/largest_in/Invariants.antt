@@ -4,5 +4,5 @@ use Rattle.sctp_send.specs.OutstandingFields.{item_meaning, lane_of, entries_of}
 use Rattle.sctp_send.proofs.forward.largest_in.Given as goal
 
 abbrev pub invariant-loop-at : goal.invariant-loop-at
-invariant-loop-at l = (size : ℕ) → largest_in (lane_of l.stream l.unordered) None (entries_of (map (item_meaning size) (take l.run l.outstanding.items)))
-    ≡ largest_in (lane_of l.stream l.unordered) l.found (drop l.at (entries_of (map (item_meaning size) (take l.run l.outstanding.items))))
+invariant-loop-at l = (size : ℕ) → largest_in (lane_of l.stream l.kind) None (entries_of (map (item_meaning size) (take l.run l.outstanding.items)))
+    ≡ largest_in (lane_of l.stream l.kind) l.found (drop l.at (entries_of (map (item_meaning size) (take l.run l.outstanding.items))))

@@ -1,7 +1,5 @@
 use Rattle.std.proofs.Common.{◌≡◌, ◌∙◌, ◌<◌, ◌^◌, length, ap, arith}
 use Rattle.sctp_model.specs.numbers.Serial.{tsn}
-use Rattle.sctp_model.specs.messages.Format.{Kind}
-use Rattle.sctp_model.specs.messages.Framing.{wire_number}
 use Rattle.sctp_model.specs.sender.Queueing.{cut}
 use Rattle.sctp_wire.specs.ChunkTree.{chunk_meaning}
 use Rattle.sctp_send.specs.OutstandingFields.{lane_meaning}
@@ -17,8 +15,8 @@ try_chunk-requires g c =
     let own : c.args.tsn ≡ tsn c.args.tsn 1 = omega arith in
     let count = c.fragments_of.ensures ∙ ap (λ b. length (cut c.args.size b)) c.deref.ensures.value in
     let is : chunk_meaning c.data_chunk.result ≡ fragment_chunk f c.args.size c.args.tsn 1 m c.args.number c.args.place =
-    c.data_chunk.ensures ∙ same_chunk f c.args.size c.args.tsn 1 c.args.number c.args.tsn c.fragment_of-fragment.result c.fragments_of.result c.wire_number.result c.wire_word.result c.stream_of-stream.result c.payload_of-payload_id.result m c.args.place c.bytes_of.result.now
-    own c.fragment_of-fragment.ensures count (c.wire_number.ensures ∙ ap (λ (k : Kind). wire_number f k c.args.number) c.of_flag.ensures) c.wire_word.ensures c.stream_of-stream.ensures c.payload_of-payload_id.ensures c.bytes_of.ensures in
+    c.data_chunk.ensures ∙ same_chunk f c.args.size c.args.tsn 1 c.args.number c.args.tsn c.fragment_of-fragment.result c.fragments_of.result c.wire_number.result c.wire_word.result c.stream_of-stream.result c.payload_of-payload_id.result c.flag.result m c.args.place c.bytes_of.result.now
+    own c.fragment_of-fragment.ensures count c.wire_number.ensures c.wire_word.ensures c.stream_of-stream.ensures c.payload_of-payload_id.ensures c.flag.ensures c.bytes_of.ensures in
     let few = c.fragment_of-fragment.ensures (lane_meaning m) c.args.number in
     let stream : m.stream < 2 ^ 16 = omega (arith, c.stream_of-stream.ensures, c.stream_of-stream.type_inv) in
     let payload : m.payload_id < 2 ^ 32 = omega (arith, c.payload_of-payload_id.ensures, c.payload_of-payload_id.type_inv) in
@@ -30,8 +28,8 @@ returns-clause-answer g c = λ initial i first.
     let m = c.args.message.now in
     let count = c.fragments_of.ensures ∙ ap (λ b. length (cut c.args.size b)) c.deref.ensures.value in
     let is : chunk_meaning c.data_chunk.result ≡ fragment_chunk f c.args.size initial i m c.args.number c.args.place =
-    c.data_chunk.ensures ∙ same_chunk f c.args.size initial i c.args.number c.args.tsn c.fragment_of-fragment.result c.fragments_of.result c.wire_number.result c.wire_word.result c.stream_of-stream.result c.payload_of-payload_id.result m c.args.place c.bytes_of.result.now
-    first c.fragment_of-fragment.ensures count (c.wire_number.ensures ∙ ap (λ (k : Kind). wire_number f k c.args.number) c.of_flag.ensures) c.wire_word.ensures c.stream_of-stream.ensures c.payload_of-payload_id.ensures c.bytes_of.ensures in
+    c.data_chunk.ensures ∙ same_chunk f c.args.size initial i c.args.number c.args.tsn c.fragment_of-fragment.result c.fragments_of.result c.wire_number.result c.wire_word.result c.stream_of-stream.result c.payload_of-payload_id.result c.flag.result m c.args.place c.bytes_of.result.now
+    first c.fragment_of-fragment.ensures count c.wire_number.ensures c.wire_word.ensures c.stream_of-stream.ensures c.payload_of-payload_id.ensures c.flag.ensures c.bytes_of.ensures in
     rw is at c.try_chunk.ensures.answer
 
 pub returns-clause-after : goal.returns-clause-after
@@ -40,6 +38,6 @@ returns-clause-after g c = λ initial i first.
     let m = c.args.message.now in
     let count = c.fragments_of.ensures ∙ ap (λ b. length (cut c.args.size b)) c.deref.ensures.value in
     let is : chunk_meaning c.data_chunk.result ≡ fragment_chunk f c.args.size initial i m c.args.number c.args.place =
-    c.data_chunk.ensures ∙ same_chunk f c.args.size initial i c.args.number c.args.tsn c.fragment_of-fragment.result c.fragments_of.result c.wire_number.result c.wire_word.result c.stream_of-stream.result c.payload_of-payload_id.result m c.args.place c.bytes_of.result.now
-    first c.fragment_of-fragment.ensures count (c.wire_number.ensures ∙ ap (λ (k : Kind). wire_number f k c.args.number) c.of_flag.ensures) c.wire_word.ensures c.stream_of-stream.ensures c.payload_of-payload_id.ensures c.bytes_of.ensures in
+    c.data_chunk.ensures ∙ same_chunk f c.args.size initial i c.args.number c.args.tsn c.fragment_of-fragment.result c.fragments_of.result c.wire_number.result c.wire_word.result c.stream_of-stream.result c.payload_of-payload_id.result c.flag.result m c.args.place c.bytes_of.result.now
+    first c.fragment_of-fragment.ensures count c.wire_number.ensures c.wire_word.ensures c.stream_of-stream.ensures c.payload_of-payload_id.ensures c.flag.ensures c.bytes_of.ensures in
     rw is at c.try_chunk.ensures.after

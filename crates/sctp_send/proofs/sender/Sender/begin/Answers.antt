@@ -1,5 +1,5 @@
 use Rattle.std.proofs.Common.{◌≡◌, ◌∙◌, ◌^◌, ◌<◌, suc, map, refl, ap, arith}
-use Rattle.sctp_model.specs.messages.Framing.{lane_kind}
+use Rattle.sctp_values.specs.Meanings.{kind_meaning}
 use Rattle.sctp_send.specs.SenderFields.{rests_meaning, track_meaning}
 use Rattle.sctp_send.specs.SenderKept.{Kept}
 use Rattle.sctp_send.specs.inner.Newcomers.{track_of, number_in}
@@ -16,7 +16,7 @@ returns-clause-kept g c = λ small number.
     let m = c.args.message.value in
     let old = c.args.draft.now in
     let same : c.self.inside.fragment ≡ s.fragment = ap (λ (k : Kept). k.fragment) c.self.view_is in
-    let few : suc (number_in (lane_kind m.unordered) (track_of (map (track_meaning s.fragment) old.tracks.items) m.stream)) < 2 ^ 32 = omega (arith, small, number) in
+    let few : suc (number_in (kind_meaning m.kind) (track_of (map (track_meaning s.fragment) old.tracks.items) m.stream)) < 2 ^ 32 = omega (arith, small, number) in
     let counted = rw (c.deref-2.ensures, c.deref-3.ensures) at (c.count_on-track.ensures.items s.fragment) in
     let rest : rests_meaning s.fragment c.in_ok-rest.rest ≡ rest_from s.fragment m c.args.number c.args.next.count = rw same at c.in_ok-rest.ensures in
     let told = rw c.deref.ensures at c.in_ok-tell.ensures in

@@ -10,18 +10,18 @@ use Rattle.sctp_send.specs.declared.message.Fate.TheVariants.{Waiting}
 use Rattle.sctp_send.proofs.QueueLemmas.{memory_told, spent_ticket, spent_owed, none_refuses, keeps_queued, fates_given}
 use Rattle.sctp_send.proofs.sender.Sender.queue.Goals as goal
 
-pub returns-then-given-ge-TICKET_LIMIT-clause-answer : goal.returns-then-given-ge-TICKET_LIMIT-clause-answer
+pub returns-then-given-clause-answer : goal.returns-then-given-clause-answer
 unfolding StandsFor
-returns-then-given-ge-TICKET_LIMIT-clause-answer g c = λ v stands.
+returns-then-given-clause-answer g c = λ v stands.
     let s = c.self.inside in
     let keeps = subst (λ (k : Kept). Keeps g.F.Framing.format k v) (sym c.self.view_is) stands in
     let long = length-map s.queue.items (queued_by s.fragment) in
     let count : length c.args.bytes.items ≡ vec_len c.args.bytes = ap (λ (b : List ℕ). length b) (sym c.deref.ensures.value) ∙ c.deref.ensures.len in
     spent_ticket g.F.Framing.format _ v c.args.stream c.args.bytes.items keeps (record { stream = omega arith; some = omega arith; short = omega arith; waits = omega arith }) (omega arith)
 
-pub returns-then-promised-more-gt-TSN_LIMIT-clause-answer : goal.returns-then-promised-more-gt-TSN_LIMIT-clause-answer
+pub returns-then-promised-more-clause-answer : goal.returns-then-promised-more-clause-answer
 unfolding StandsFor
-returns-then-promised-more-gt-TSN_LIMIT-clause-answer g c = λ v stands.
+returns-then-promised-more-clause-answer g c = λ v stands.
     let s = c.self.inside in
     let keeps = subst (λ (k : Kept). Keeps g.F.Framing.format k v) (sym c.self.view_is) stands in
     let long = length-map s.queue.items (queued_by s.fragment) in
@@ -73,4 +73,4 @@ returns-clause-step g c = λ v stands.
     let given = fates_given g.F.Framing.format _ v keeps in
     let fates : c.push_reserved.new.self.items ≡ s.fates.items ++ Waiting ∷ [] = rw (c.push_reserved.ensures.items, c.in-Ok.ensures.items) refl in
     let taken = keeps_queued g.F.Framing.format _ v (lane_for c.args.stream c.args.ordered) c.args.payload_id (c.len-given.result + 1) c.args.bytes.items c.args.until keeps none (omega (arith, given)) in
-    rw (c.in_ok-wait_behind.ensures.waits s.fragment, fates) taken
+    rw (c.in_ok-wait_behind.ensures.waits s.fragment, fates, c.of_flag.ensures) taken
