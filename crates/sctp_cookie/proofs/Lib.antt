@@ -5,3 +5,4 @@ pub mod BodyRoundTrip
 pub mod Comparing
 pub mod Opening
 pub mod SealLemmas
+pub mod ReadLemmas

@@ -1,9 +1,10 @@
 //! Laws of the definitions, which hold of all keys, bodies and bytes.
 
 ghost use Rattle.std.specs.Prelude.{◌≡◌, ℕ, List};
+ghost use Rattle.sctp_model.specs.end.EndView.{EndView};
 ghost use Rattle.sctp_model.specs.end.Sealing.{Body, Sealing, COOKIE_SIZE};
 ghost use Rattle.sctp_cookie.specs.declared.body.TheConstants.{COOKIE_LENGTH};
-ghost use Rattle.sctp_cookie.specs.Seals.{IsSealedWell, IsUnder, OpensTheSealed};
+ghost use Rattle.sctp_cookie.specs.Seals.{IsReadAsOpened, IsSealedWell, IsUnder, OpensTheSealed};
 
 /// What a key seals has the size and the form of a cookie, the right MAC, and the body, whatever the key and the body.
 pub fn cookies_are_sealed()
@@ -15,6 +16,12 @@ pub fn cookies_are_sealed()
 pub fn keys_have_seals()
     ensures some { (key : List ℕ) → (s : Sealing) × IsUnder key s }
     ensures exact { (key : List ℕ) (s : Sealing) → IsUnder key s → OpensTheSealed key s }
+{}
+
+/// A listener reads in a cookie what opening it under its key is answered, at its moment, between its ports and under the packet's tag
+/// (RFC 9260, 5.1.5).
+pub fn cookies_are_read()
+    ensures { (key bytes : List ℕ) (tag : ℕ) (s : Sealing) (e : EndView) → IsUnder key s → IsReadAsOpened key bytes tag s e }
 {}
 
 /// A cookie has as many bytes as the definitions say.

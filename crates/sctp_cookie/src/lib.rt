@@ -23,5 +23,5 @@ mod sealing;
 
 pub use body::{COOKIE_LENGTH, CookieBody, Ports};
 pub use hmac::{Key, hmac_sha256};
-pub use laws::{cookie_has_its_size, cookies_are_sealed, keys_have_seals};
+pub use laws::{cookie_has_its_size, cookies_are_read, cookies_are_sealed, keys_have_seals};
 pub use sealing::{CookieFault, open, seal};

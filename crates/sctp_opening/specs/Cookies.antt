@@ -1,0 +1,36 @@
+-- What a listener reads in a cookie.
+use Rattle.std.specs.Prelude.{◌≡◌, ℕ}
+use Rattle.sctp_model.specs.end.Sealing.{Body}
+use Rattle.sctp_model.specs.end.EndView.{Configuration, EndView}
+use Rattle.sctp_model.specs.end.Opening.{CookieRead, CookieOpens, CookieLate, Strange, staleness}
+use Rattle.sctp_cookie.specs.CookieTree.{body_meaning}
+use Rattle.sctp_cookie.specs.declared.body.Ports.{Ports}
+use Rattle.sctp_opening.specs.declared.cookies.CookieReading.{CookieReading}
+use Rattle.sctp_opening.specs.declared.cookies.CookieReading.TheVariants as reading
+
+-- The end is set up so, and this is the latest moment that it was told.
+pub record IsAt (c : Configuration) (moment : ℕ) (e : EndView) : Type 0 where
+  pub configured : e.configuration ≡ c
+  pub now : e.moment ≡ moment
+
+-- the ports of packets to an end that listens
+abbrev pub ports_in : Configuration → Ports
+ports_in c = record { listener = c.own_port; caller = c.peer_port }
+
+-- what was read
+abbrev pub reading_meaning : CookieReading → CookieRead
+reading_meaning (reading.Opens body) = CookieOpens (body_meaning body)
+reading_meaning (reading.Late body microseconds) = CookieLate (body_meaning body)
+reading_meaning reading.Strange = Strange
+
+-- Of a cookie past its life the measure of staleness at this moment is told (RFC 9260, 3.3.10.3).
+abbrev pub TellsStaleness : (moment : ℕ) → CookieReading → Type 0
+TellsStaleness moment (reading.Late body microseconds) = microseconds ≡ staleness moment (body_meaning body)
+TellsStaleness moment (reading.Opens body) = Unit {0}
+TellsStaleness moment reading.Strange = Unit {0}
+
+-- It is past its life by so much, and holds this body.
+abbrev pub IsLate : Body → (microseconds : ℕ) → CookieReading → Type 0
+IsLate held microseconds (reading.Late body told) = (body_meaning body ≡ held) × (told ≡ microseconds)
+IsLate held microseconds (reading.Opens body) = ⊥
+IsLate held microseconds reading.Strange = ⊥

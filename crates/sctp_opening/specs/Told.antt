@@ -1,0 +1,21 @@
+-- What becomes of a packet at an end without an association (RFC 9260, 5.1 and 8.4).
+use Rattle.std.specs.Prelude.{◌≡◌, ℕ, List, Option, Some, None}
+use Rattle.sctp_model.specs.end.Sealing.{Body}
+use Rattle.sctp_model.specs.end.Strays.{Verdict, Taken, Dropped, Answer}
+use Rattle.sctp_packet.specs.PacketBytes.{WritesPacket}
+use Rattle.sctp_cookie.specs.CookieTree.{body_meaning}
+use Rattle.sctp_terms.specs.Meanings.{reason_code}
+use Rattle.sctp_opening.specs.declared.outside.Stray.{Stray}
+use Rattle.sctp_opening.specs.declared.outside.Stray.TheVariants as stray
+
+-- The verdict is an answer, and these are the bytes of its packet.
+abbrev pub IsAnswer : List ℕ → Verdict → Type 0
+IsAnswer bytes (Answer p) = WritesPacket bytes p
+IsAnswer bytes (Dropped reason) = ⊥
+IsAnswer bytes Taken = ⊥
+
+-- What is told of a packet that holds this cookie, or of one that holds none and has this verdict.
+abbrev pub IsTold : Stray → Option Body → Verdict → Type 0
+IsTold (stray.Begins body) opened v = opened ≡ Some (body_meaning body)
+IsTold (stray.Dropped reason) opened v = (opened ≡ None) × (v ≡ Dropped (reason_code reason))
+IsTold (stray.Answered packet) opened v = (opened ≡ None) × IsAnswer packet.items v

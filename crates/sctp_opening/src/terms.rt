@@ -1,0 +1,75 @@
+//! What both ends of an association agreed on.
+
+ghost use Rattle.std.specs.Prelude.{◌≡◌};
+ghost use Rattle.sctp_model.specs.end.Opening.{terms_of_ack, terms_of_body, terms_alike};
+ghost use Rattle.sctp_wire.specs.ChunkTree.{init_meaning};
+ghost use Rattle.sctp_cookie.specs.CookieTree.{body_meaning};
+ghost use Rattle.sctp_opening.specs.Terms.{terms_meaning};
+
+use crate::options::{agreed_interleave, agreed_partial};
+use sctp_cookie::CookieBody;
+use sctp_terms::{Config, Draw};
+use sctp_wire::Init;
+
+/// The first TSNs, the streams of each way, and what is turned on (RFC 9260, 5.1.1; RFC 8260, 2.2.1; RFC 3758, 3.1).
+#[derive(Clone, Copy, Debug, PartialEq, Eq)]
+pub struct Terms {
+    /// The TSN of this end's index 1.
+    pub own_tsn: u32,
+    /// The TSN of its peer's.
+    pub peer_tsn: u32,
+    /// The streams that this end sends on: any number of 16 bits, where a cookie says so.
+    pub outbound: u16,
+    /// The streams that it takes messages on.
+    pub inbound: u16,
+    /// User data goes in I-DATA (RFC 8260).
+    pub interleave: bool,
+    /// Messages may be abandoned (RFC 3758).
+    pub partial: bool,
+}
+
+impl Terms {
+    /// The terms of a caller with this draw that this INIT ACK answers: each way has the lesser of the streams that its sender asks for
+    /// and of those that its receiver takes (RFC 9260, 5.1.1).
+    pub fn of_init_ack(config: &Config, draw: Draw, offer: &Init<'_>) -> Terms
+        ensures { terms_meaning result ≡ terms_of_ack config.now draw (init_meaning offer.now) }
+    {
+        Terms {
+            own_tsn: draw.tsn(),
+            peer_tsn: offer.tsn,
+            outbound: config.outbound().min(offer.inbound),
+            inbound: offer.outbound.min(config.inbound()),
+            interleave: agreed_interleave(config, &offer.parameters),
+            partial: agreed_partial(config, &offer.parameters),
+        }
+    }
+
+    /// The terms of a listener, by what its cookie says: any numbers, also no stream (RFC 9260, 5.1.3).
+    pub fn of_cookie(body: &CookieBody) -> Terms
+        ensures { terms_meaning result ≡ terms_of_body (body_meaning body.now) }
+    {
+        Terms {
+            own_tsn: body.listener_tsn,
+            peer_tsn: body.caller_tsn,
+            outbound: body.streams_to_caller,
+            inbound: body.streams_from_caller,
+            interleave: body.interleaving,
+            partial: body.partial_reliability,
+        }
+    }
+
+    /// The terms of an end with the draw `own` that is opened without packets, where its peer is set up alike and has the draw `peer`.
+    pub fn alike(config: &Config, own: Draw, peer: Draw) -> Terms
+        ensures { terms_meaning result ≡ terms_alike config.now own peer }
+    {
+        let streams = config.outbound().min(config.inbound());
+        Terms {
+            own_tsn: own.tsn(),
+            peer_tsn: peer.tsn(),
+            outbound: streams,
+            inbound: streams,
+            interleave: config.interleave(),
+            partial: config.partial(),
+        }
+    }
+}
