@@ -40,6 +40,7 @@ mod SackMoves
 mod QueueMoves
 pub mod OrderlyCalls
 mod SenderCalls
+mod NewlyAbandoned
 mod NameFacts
 mod ToldLemmas
 mod GivenUpLemmas

@@ -13,6 +13,7 @@ use Rattle.sctp_model.specs.sender.Abandoning.{has_ticket, abandon_after, is_pas
 use Rattle.sctp_model.specs.sender.Readers.{point, drained}
 use Rattle.sctp_model.specs.sender.Forwarding.{forward_of}
 use Rattle.sctp_model.specs.sender.Reached.{IsReached}
+use Rattle.sctp_model.specs.world.World.{if_newly_abandoned, newly_abandoned}
 
 -- ---- the plan
 
@@ -48,6 +49,11 @@ pub record AbandonsAlone (f : Format) (v : SenderView) : Type 0 where
 -- So it is of every view that calls reach (RFC 3758, 3.5).
 abbrev pub AbandonedOnlyAsked : Type 0
 AbandonedOnlyAsked = (f : Format) (v : SenderView) → IsReached f v → AbandonsAlone f v
+
+-- Of all tickets given, one that is abandoned by a call is newly abandoned at most: that of the call (so a log that notes it alone leaves none out).
+abbrev pub AbandonsItsOwnAlone : Type 0
+AbandonsItsOwnAlone = (f : Format) (v : SenderView) (t : ℕ) → IsReached f v →
+    newly_abandoned v (abandon_after v t) (abandon_after v t).tickets ≡ if_newly_abandoned v (abandon_after v t) t
 
 -- ---- one result
 

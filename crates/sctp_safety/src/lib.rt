@@ -29,7 +29,8 @@ pub use rest::{
 };
 pub use safety::{orderly_over_every_run, safe_over_every_run};
 pub use sender::{
-    abandoned_only_asked, drained_is_told, each_call_has_one_result, plan_stays_orderly,
+    abandoned_only_asked, abandons_its_own_alone, drained_is_told, each_call_has_one_result,
+    plan_stays_orderly,
 };
 pub use told::{
     a_message_is_given_up_by_its_ticket, a_message_is_told_by_its_ticket, nothing_is_left_to_expire,

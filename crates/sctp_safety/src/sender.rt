@@ -1,6 +1,6 @@
 //! What a sender's calls keep, whatever its peer says.
 
-ghost use Rattle.sctp_safety.specs.SenderCalls.{AbandonedOnlyAsked, DrainedIsTold, EachPlanHasOneForward, EachViewHasOneFill, EachViewHasOnePoint, ForwardIsGiven, PlanStaysOrderly};
+ghost use Rattle.sctp_safety.specs.SenderCalls.{AbandonedOnlyAsked, AbandonsItsOwnAlone, DrainedIsTold, EachPlanHasOneForward, EachViewHasOneFill, EachViewHasOnePoint, ForwardIsGiven, PlanStaysOrderly};
 
 /// The plan of every view that calls reach is orderly, under both formats, whatever SACKs came (RFC 9260, 6.6 and 6.9; RFC 8260, 2.2).
 pub fn plan_stays_orderly()
@@ -10,6 +10,11 @@ pub fn plan_stays_orderly()
 /// A message is abandoned by a call that names its ticket, or where its time is past, and by nothing else (RFC 3758, 3.5).
 pub fn abandoned_only_asked()
     ensures { AbandonedOnlyAsked }
+{}
+
+/// A call that abandons abandons the message of its ticket alone, so that of all tickets that one at most is newly abandoned (RFC 3758, 3.5).
+pub fn abandons_its_own_alone()
+    ensures { AbandonsItsOwnAlone }
 {}
 
 /// What is determined by its property is one: what goes into a packet, the point, and the FORWARD; and the functions give it.

@@ -1,26 +1,20 @@
 -- Messages past their time: those that wait, those of entries, and those that streams go on with; and one ticket after the other.
-use Rattle.std.proofs.Common.{◌≡◌, ℕ, zero, suc, ◌+◌, ◌<◌, ◌≤◌, List, [], ◌∷◌, length, drop, Bool, true, false, Option, Some, None, refl, sym, ap, ◌∙◌, subst, arith}
-use Rattle.std.specs.Prelude.{◌==◌, not, ◌&&◌, ◌||◌, if◌then◌else◌, fold, find, option_map, option_and_then}
-use Rattle.std.specs.Option.{option_map_or}
+use Rattle.std.proofs.Common.{◌≡◌, ℕ, zero, suc, ◌+◌, ◌<◌, ◌≤◌, List, [], ◌∷◌, length, drop, Bool, true, false, Option, Some, None, refl, ap, ◌∙◌, subst, arith}
+use Rattle.std.specs.Prelude.{◌==◌, ◌&&◌, ◌||◌, if◌then◌else◌, fold, find, option_map, option_and_then}
 use Rattle.std.specs.List.{list_any}
 use Rattle.std.proofs.lemmas.Bool.{and_parts}
 use Rattle.std.proofs.lemmas.Bool.Decides.{nat_tests}
 use Rattle.sctp_model.specs.messages.Format.{Format}
-use Rattle.sctp_model.specs.messages.Plan.{Message, Entry, Part, Plan, message_at}
+use Rattle.sctp_model.specs.messages.Plan.{Message, Entry, Plan, message_at}
 use Rattle.sctp_model.specs.sender.SenderView.{Queued, SenderView}
 use Rattle.sctp_model.specs.sender.Words.{first_there, some_passes, count_up}
-use Rattle.sctp_model.specs.sender.Entries.{entry_message, any_from, is_in_part, continued}
-use Rattle.sctp_model.specs.sender.Abandoning.{Name, name_at, name_of, waits, has_ticket, is_abandoned, has_uncovered, is_covered, given_up, give_up, without, abandon_after, is_past, is_overdue, expire_one}
+use Rattle.sctp_model.specs.sender.Entries.{any_from}
+use Rattle.sctp_model.specs.sender.Abandoning.{Name, name_of, waits, has_ticket, is_past, is_overdue, expire_one}
 use Rattle.sctp_model.specs.sender.Reached.{IsReached}
 use Rattle.sctp_model.proofs.sender.WordLaws.{count_push, fold-append}
-use Rattle.sctp_model.proofs.sender.Bounds.{is_bounded}
-use Rattle.sctp_model.proofs.sender.CountLaws.{is_named, name_found}
-use Rattle.sctp_model.proofs.sender.PartLaws.{in_part_is}
-use Rattle.sctp_model.proofs.sender.OwnLaws.{AllOwn, found_owns}
+use Rattle.sctp_model.proofs.sender.OwnLaws.{AllOwn}
 use Rattle.sctp_model.proofs.sender.QueueLaws.{AreApart}
 use Rattle.sctp_model.proofs.sender.TicketLaws.{is_ticketed}
-use Rattle.sctp_model.proofs.sender.NameLaws.{uncovered_by_ticket, continued_owns}
-use Rattle.sctp_model.proofs.sender.AbandonedLaws.{due_is_past}
 
 -- ---- a message that is late
 
@@ -102,10 +96,6 @@ pub all_own_drop : (p : Plan) (k n : ℕ) (all es : List Entry) → AllOwn p k a
 all_own_drop p k zero all es own = own
 all_own_drop p k (suc n) all [] own = own
 all_own_drop p k (suc n) all (e ∷ es) own = all_own_drop p k n all es own.1
-
--- what a stream goes on with
-pub due_rest : (f : Format) (v : SenderView) (now t s : ℕ) (e : Entry) → IsReached f v → continued v.plan s ≡ Some e → is_late now t (entry_message v.plan e) ≡ true → is_overdue v now t ≡ true
-due_rest f v now t s e h on late = due_named f v now t (name_at e) h (continued_owns f v s e h on t (late_has now t (entry_message v.plan e) late)).2 (late_past now t (entry_message v.plan e) late)
 
 -- ---- what isn't shown
 
