@@ -12,9 +12,9 @@ use Rattle.sctp_model.specs.end.EndView.{Tags, Draw, Stage, Established, Shutdow
 use Rattle.sctp_model.specs.end.Clock.{turned, closed}
 use Rattle.sctp_model.specs.end.Closing.{answers_shutdown, hears, takes_data, takes_acknowledgements, takes_cookies, awaits_ack}
 use Rattle.sctp_model.specs.end.Reports.{with_causes}
-use Rattle.sctp_model.specs.end.PeerFaults.{After, GoesOn, Replies, packet_to, abort_for, at_fault, no_user_data, violation}
+use Rattle.sctp_model.specs.end.PeerFaults.{Unnoted, ToAcknowledge, After, GoesOn, Replies, packet_to, abort_for, at_fault, no_user_data, violation}
 use Rattle.sctp_model.specs.end.Opening.{ack_fault, is_calling, echoing, InitAckActs, NotCalling, NoTag, RefusedAck, AcceptedAck, seal_in, is_ours, cookie_read, EchoActs, NotHere, EchoedAgain, IsStrange, is_echoing, CookieAckActs, NotEchoing, CookieAcked}
-use Rattle.sctp_model.specs.end.Acting.{acknowledges, piece_causes, PieceActs, ForwardNotHeard, HeartbeatNotHeard, PieceNotHeard, SackNotHeard, PieceEmpty, WrongFormat, ForwardComes, PieceComes, ForwardActs, WrongKind, IsBad, IsOld, SackActs, SackStale, ShutdownStale, SackWrong, ShutdownWrong, HeartbeatCounts, SackCounts, ShutdownCounts, HeartbeatActs, ErrorActs, Closes, SaysNothing, shutdown_heard, ShutdownActs, ShutdownNotOpen, Crosses, Again, ShutdownAckActs, AckNotAwaited, CompleteNotAwaited, AckCompletes, CompleteCompleted, CompleteActs, Acts}
+use Rattle.sctp_model.specs.end.Acting.{asks_at_once, piece_causes, PieceActs, ForwardNotHeard, HeartbeatNotHeard, PieceNotHeard, SackNotHeard, PieceEmpty, WrongFormat, ForwardComes, PieceComes, ForwardActs, WrongKind, IsBad, IsOld, SackActs, SackStale, ShutdownStale, SackWrong, ShutdownWrong, HeartbeatCounts, SackCounts, ShutdownCounts, HeartbeatActs, ErrorActs, Closes, SaysNothing, shutdown_heard, ShutdownActs, ShutdownNotOpen, Crosses, Again, ShutdownAckActs, AckNotAwaited, CompleteNotAwaited, AckCompletes, CompleteCompleted, CompleteActs, Acts}
 
 -- ---- what can't hold at once
 
@@ -49,7 +49,7 @@ module _ (e : EndView) (o : IsOrdinary (format_of e) e.receiver) where
   one_piece f p x y (PieceComes t1 g1 a1 r1 i1 k1 s1 m1 c1) (PieceNotHeard o2) = absurd (deaf takes_data e.phase t1 g1 o2 i1 k1)
   one_piece f p x y (PieceComes t1 g1 a1 r1 i1 k1 s1 m1 c1) (PieceEmpty t2 g2 i2 k2 z2) = absurd (let z = z2 in let s = s1 in omega (arith, z, s))
   one_piece f p x y (PieceComes t1 g1 a1 r1 i1 k1 s1 m1 c1) (WrongFormat t2 g2 i2 k2 s2 m2) = absurd (clash m1 m2)
-  one_piece f p x y (PieceComes t1 g1 a1 r1 i1 k1 s1 m1 c1) (PieceComes t2 g2 a2 r2 i2 k2 s2 m2 c2) = let q = same_open e.phase t1 t2 g1 g2 i1 i2 in let r = piece_only (format_of e) e.receiver p a1 a2 r1 r2 o c1 c2 in ap (λ (g : Stage). GoesOn (acknowledges g (with_causes (piece_causes e p a1) (record e { receiver = r1 })))) q.1 ∙ ap (λ (a : PieceAnswer). GoesOn (acknowledges g2 (with_causes (piece_causes e p a) (record e { receiver = r1 })))) r.0 ∙ ap (λ (v : ReceiverView). GoesOn (acknowledges g2 (with_causes (piece_causes e p a2) (record e { receiver = v })))) r.1
+  one_piece f p x y (PieceComes t1 g1 a1 r1 i1 k1 s1 m1 c1) (PieceComes t2 g2 a2 r2 i2 k2 s2 m2 c2) = let r = piece_only (format_of e) e.receiver p a1 a2 r1 r2 o c1 c2 in ap (λ (a : PieceAnswer). GoesOn (ToAcknowledge (asks_at_once p a)) (with_causes (piece_causes e p a) (record e { receiver = r1 }))) r.0 ∙ ap (λ (v : ReceiverView). GoesOn (ToAcknowledge (asks_at_once p a2)) (with_causes (piece_causes e p a2) (record e { receiver = v }))) r.1
 
   one_forward : (f : Format) (m : ForwardMeaning) (x y : After) → ForwardActs f e m x → ForwardActs f e m y → x ≡ y
   one_forward f m x y (ForwardNotHeard o1) (ForwardNotHeard o2) = refl
@@ -70,13 +70,13 @@ module _ (e : EndView) (o : IsOrdinary (format_of e) e.receiver) where
   one_forward f m x y (IsOld t1 g1 r1 i1 k1 y1 c1) (ForwardNotHeard o2) = absurd (deaf takes_data e.phase t1 g1 o2 i1 k1)
   one_forward f m x y (IsOld t1 g1 r1 i1 k1 y1 c1) (WrongKind t2 g2 i2 k2 y2) = absurd (clash y1 y2)
   one_forward f m x y (IsOld t1 g1 r1 i1 k1 y1 c1) (IsBad t2 g2 r2 i2 k2 y2 c2) = absurd (let q = (forward_only (format_of e) e.receiver m _ _ r2 r1 o.apart c2 c1).0 in cc)
-  one_forward f m x y (IsOld t1 g1 r1 i1 k1 y1 c1) (IsOld t2 g2 r2 i2 k2 y2 c2) = let q = same_open e.phase t1 t2 g1 g2 i1 i2 in let r = forward_only (format_of e) e.receiver m _ _ r1 r2 o.apart c1 c2 in ap (λ (g : Stage). GoesOn (acknowledges g (record e { receiver = r1 }))) q.1 ∙ ap (λ (v : ReceiverView). GoesOn (acknowledges g2 (record e { receiver = v }))) r.1
+  one_forward f m x y (IsOld t1 g1 r1 i1 k1 y1 c1) (IsOld t2 g2 r2 i2 k2 y2 c2) = let r = forward_only (format_of e) e.receiver m _ _ r1 r2 o.apart c1 c2 in ap (λ (v : ReceiverView). GoesOn (ToAcknowledge true) (record e { receiver = v })) r.1
   one_forward f m x y (IsOld t1 g1 r1 i1 k1 y1 c1) (ForwardComes t2 g2 r2 i2 k2 y2 c2) = absurd (let q = (forward_only (format_of e) e.receiver m _ _ r1 r2 o.apart c1 c2).0 in cc)
   one_forward f m x y (ForwardComes t1 g1 r1 i1 k1 y1 c1) (ForwardNotHeard o2) = absurd (deaf takes_data e.phase t1 g1 o2 i1 k1)
   one_forward f m x y (ForwardComes t1 g1 r1 i1 k1 y1 c1) (WrongKind t2 g2 i2 k2 y2) = absurd (clash y1 y2)
   one_forward f m x y (ForwardComes t1 g1 r1 i1 k1 y1 c1) (IsBad t2 g2 r2 i2 k2 y2 c2) = absurd (let q = (forward_only (format_of e) e.receiver m _ _ r2 r1 o.apart c2 c1).0 in cc)
   one_forward f m x y (ForwardComes t1 g1 r1 i1 k1 y1 c1) (IsOld t2 g2 r2 i2 k2 y2 c2) = absurd (let q = (forward_only (format_of e) e.receiver m _ _ r2 r1 o.apart c2 c1).0 in cc)
-  one_forward f m x y (ForwardComes t1 g1 r1 i1 k1 y1 c1) (ForwardComes t2 g2 r2 i2 k2 y2 c2) = let q = same_open e.phase t1 t2 g1 g2 i1 i2 in let r = forward_only (format_of e) e.receiver m _ _ r1 r2 o.apart c1 c2 in ap (λ (g : Stage). GoesOn (acknowledges g (record e { receiver = r1 }))) q.1 ∙ ap (λ (v : ReceiverView). GoesOn (acknowledges g2 (record e { receiver = v }))) r.1
+  one_forward f m x y (ForwardComes t1 g1 r1 i1 k1 y1 c1) (ForwardComes t2 g2 r2 i2 k2 y2 c2) = let r = forward_only (format_of e) e.receiver m _ _ r1 r2 o.apart c1 c2 in ap (λ (v : ReceiverView). GoesOn (ToAcknowledge true) (record e { receiver = v })) r.1
 
   one_sack : (s : SackMeaning) (x y : After) → SackActs e s x → SackActs e s y → x ≡ y
   one_sack s x y (SackNotHeard _) (SackNotHeard _) = refl
@@ -127,21 +127,21 @@ module _ (e : EndView) (o : IsOrdinary (format_of e) e.receiver) where
   one_shutdown n x y (ShutdownWrong t1 g1 i1 k1 q1) (Again t2 i2) = absurd (not_there takes_acknowledgements g1 ShutdownAckSent k1 (same_open e.phase t1 t2 g1 ShutdownAckSent i1 i2).1 refl)
   one_shutdown n x y (ShutdownStale t1 g1 i1 k1 q1) (ShutdownNotOpen o2) = absurd (deaf (λ g. true) e.phase t1 g1 o2 i1 refl)
   one_shutdown n x y (ShutdownStale t1 g1 i1 k1 q1) (ShutdownWrong t2 g2 i2 k2 q2) = absurd (cc (q2, q1))
-  one_shutdown n x y (ShutdownStale t1 g1 i1 k1 q1) (ShutdownStale t2 g2 i2 k2 q2) = let q = same_open e.phase t1 t2 g1 g2 i1 i2 in ap (λ (t : Tags). GoesOn (turned (Open t ShutdownReceived) e)) q.0
+  one_shutdown n x y (ShutdownStale t1 g1 i1 k1 q1) (ShutdownStale t2 g2 i2 k2 q2) = let q = same_open e.phase t1 t2 g1 g2 i1 i2 in ap (λ (t : Tags). GoesOn Unnoted (turned (Open t ShutdownReceived) e)) q.0
   one_shutdown n x y (ShutdownStale t1 g1 i1 k1 q1) (ShutdownCounts t2 g2 i2 k2 q2) = absurd (cc (q1, q2))
   one_shutdown n x y (ShutdownStale t1 g1 i1 k1 q1) (Crosses t2 i2) = absurd (not_there takes_acknowledgements g1 ShutdownSent k1 (same_open e.phase t1 t2 g1 ShutdownSent i1 i2).1 refl)
   one_shutdown n x y (ShutdownStale t1 g1 i1 k1 q1) (Again t2 i2) = absurd (not_there takes_acknowledgements g1 ShutdownAckSent k1 (same_open e.phase t1 t2 g1 ShutdownAckSent i1 i2).1 refl)
   one_shutdown n x y (ShutdownCounts t1 g1 i1 k1 q1) (ShutdownNotOpen o2) = absurd (deaf (λ g. true) e.phase t1 g1 o2 i1 refl)
   one_shutdown n x y (ShutdownCounts t1 g1 i1 k1 q1) (ShutdownWrong t2 g2 i2 k2 q2) = absurd (cc (q2, q1))
   one_shutdown n x y (ShutdownCounts t1 g1 i1 k1 q1) (ShutdownStale t2 g2 i2 k2 q2) = absurd (cc (q2, q1))
-  one_shutdown n x y (ShutdownCounts t1 g1 i1 k1 q1) (ShutdownCounts t2 g2 i2 k2 q2) = let q = same_open e.phase t1 t2 g1 g2 i1 i2 in ap (λ (t : Tags). GoesOn (shutdown_heard t e n)) q.0
+  one_shutdown n x y (ShutdownCounts t1 g1 i1 k1 q1) (ShutdownCounts t2 g2 i2 k2 q2) = let q = same_open e.phase t1 t2 g1 g2 i1 i2 in ap (λ (t : Tags). GoesOn Unnoted (shutdown_heard t e n)) q.0
   one_shutdown n x y (ShutdownCounts t1 g1 i1 k1 q1) (Crosses t2 i2) = absurd (not_there takes_acknowledgements g1 ShutdownSent k1 (same_open e.phase t1 t2 g1 ShutdownSent i1 i2).1 refl)
   one_shutdown n x y (ShutdownCounts t1 g1 i1 k1 q1) (Again t2 i2) = absurd (not_there takes_acknowledgements g1 ShutdownAckSent k1 (same_open e.phase t1 t2 g1 ShutdownAckSent i1 i2).1 refl)
   one_shutdown n x y (Crosses t1 i1) (ShutdownNotOpen o2) = absurd (deaf (λ g. true) e.phase t1 _ o2 i1 refl)
   one_shutdown n x y (Crosses t1 i1) (ShutdownWrong t2 g2 i2 k2 q2) = absurd (not_there takes_acknowledgements g2 ShutdownSent k2 (same_open e.phase t2 t1 g2 ShutdownSent i2 i1).1 refl)
   one_shutdown n x y (Crosses t1 i1) (ShutdownStale t2 g2 i2 k2 q2) = absurd (not_there takes_acknowledgements g2 ShutdownSent k2 (same_open e.phase t2 t1 g2 ShutdownSent i2 i1).1 refl)
   one_shutdown n x y (Crosses t1 i1) (ShutdownCounts t2 g2 i2 k2 q2) = absurd (not_there takes_acknowledgements g2 ShutdownSent k2 (same_open e.phase t2 t1 g2 ShutdownSent i2 i1).1 refl)
-  one_shutdown n x y (Crosses t1 i1) (Crosses t2 i2) = let q = same_open e.phase t1 t2 ShutdownSent ShutdownSent i1 i2 in ap (λ (t : Tags). GoesOn (answers_shutdown t e)) q.0
+  one_shutdown n x y (Crosses t1 i1) (Crosses t2 i2) = let q = same_open e.phase t1 t2 ShutdownSent ShutdownSent i1 i2 in ap (λ (t : Tags). GoesOn Unnoted (answers_shutdown t e)) q.0
   one_shutdown n x y (Crosses t1 i1) (Again t2 i2) = absurd (let q = (same_open e.phase t1 t2 ShutdownSent ShutdownAckSent i1 i2).1 in cc)
   one_shutdown n x y (Again t1 i1) (ShutdownNotOpen o2) = absurd (deaf (λ g. true) e.phase t1 _ o2 i1 refl)
   one_shutdown n x y (Again t1 i1) (ShutdownWrong t2 g2 i2 k2 q2) = absurd (not_there takes_acknowledgements g2 ShutdownAckSent k2 (same_open e.phase t2 t1 g2 ShutdownAckSent i2 i1).1 refl)
@@ -190,7 +190,7 @@ module _ (e : EndView) (o : IsOrdinary (format_of e) e.receiver) where
       let draw : d ≡ c = cc in
       let both : Some xs ≡ Some ys = sym v ∙ w in
       let cookie : xs ≡ ys = cc in
-      ap (λ (z : Draw). GoesOn (echoing e z m xs)) draw ∙ ap (λ (z : List ℕ). GoesOn (echoing e c m z)) cookie
+      ap (λ (z : Draw). GoesOn Unnoted (echoing e z m xs)) draw ∙ ap (λ (z : List ℕ). GoesOn Unnoted (echoing e c m z)) cookie
 
   ours_or_not : (tag : ℕ) (xs : List ℕ) (s z : Sealing) (t u : Tags) (g h : Stage) → seal_in e.role ≡ Some s → seal_in e.role ≡ Some z → e.phase ≡ Open t g → e.phase ≡ Open u h →
       is_ours t (cookie_read s e tag xs) ≡ true → is_ours u (cookie_read z e tag xs) ≡ false → ⊥
@@ -224,7 +224,7 @@ module _ (e : EndView) (o : IsOrdinary (format_of e) e.receiver) where
   one_cookie_ack x y (CookieAcked t xs i) (CookieAcked u ys j) =
       let both : Echoing t xs ≡ Echoing u ys = sym i ∙ j in
       let tags : t ≡ u = cc in
-      ap (λ (v : Tags). GoesOn (turned (Open v Established) e)) tags
+      ap (λ (v : Tags). GoesOn Unnoted (turned (Open v Established) e)) tags
 
   pub one_after : (tag : ℕ) (c : ChunkMeaning) (x y : After) → Acts e tag c x → Acts e tag c y → x ≡ y
   one_after tag (Data p) x y a b = one_piece Plain p x y a b

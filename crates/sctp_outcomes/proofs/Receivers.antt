@@ -10,10 +10,10 @@ use Rattle.sctp_model.specs.receiver.SackMade.{sack_sent, TakeLeaves}
 use Rattle.sctp_model.specs.end.EndView.{Terms, Configuration, Draw, Aborted, EndView, format_of, format_for}
 use Rattle.sctp_model.specs.end.Clock.{closed}
 use Rattle.sctp_model.specs.end.Closing.{rested}
-use Rattle.sctp_model.specs.end.PeerFaults.{GoesOn, Ends, Replies}
+use Rattle.sctp_model.specs.end.PeerFaults.{GoesOn, Ends, Replies, Note, Unnoted}
 use Rattle.sctp_model.specs.end.Opening.{AcceptedAck, RefusedAck, EchoedAgain, CookieAcked, begun}
 use Rattle.sctp_model.specs.end.Acting.{Acts, ForwardComes, PieceComes, IsOld, SackStale, ShutdownStale, HeartbeatCounts, SackCounts, ShutdownCounts, Closes, SaysNothing, Crosses, Again, AckCompletes, CompleteCompleted, PieceEmpty, WrongFormat, SackWrong, ShutdownWrong, WrongKind, IsBad}
-use Rattle.sctp_model.specs.end.Arriving.{AllAct, NoneLeft, Next, Last, EndsAnswered, Stopped, Arrives, Elsewhere, NotOurs, Stray, CookieBegins, Heard, DroppedUnread, ReadAs, CutFirst, CutLater}
+use Rattle.sctp_model.specs.end.Arriving.{AllAct, NoneLeft, Next, Last, EndsAnswered, Stopped, Arrives, Elsewhere, NotOurs, Stray, CookieBegins, Heard, DroppedUnread, ReadAs, CutFirst, CutLater, Notes, no_notes, noted, packet_ended}
 use Rattle.sctp_model.specs.end.Arriving.{Passes}
 use Rattle.sctp_model.specs.end.Strays.{Verdict}
 use Rattle.sctp_model.specs.end.Building.{Slot, Puts, NoMore, NotDue, Put, IsFull, Builds, Sleeps, Waits, Calls, Echoes, Fills, EchoSlot, CookieAckSlot, HeartbeatSlot, ErrorSlot, SackSlot, ForwardSlot, ShutdownSlot, ShutdownAckSlot, once_built}
@@ -23,6 +23,7 @@ use Rattle.sctp_model.specs.end.UserCalls.{send_answer, shut, abort_answer, abor
 use Rattle.sctp_model.specs.world.World.{Side, A, B, World, end_of, end_now, start, Setup}
 use Rattle.sctp_model.specs.world.Events.{Event, Outcome}
 use Rattle.sctp_model.specs.world.Steps.{Step, OpensBoth, OpenRefused, TimePasses, Draws, Connects, ConnectRefused, BuildsOne, BuildsNone, PacketComes, IsAbsent, Sends, AbandonsOne, TakesOne, ShutsDown, AbortsIt, NoMemory, Run, Rest, Then, PacketCut}
+use Rattle.sctp_safety.proofs.machine.EndWords.{ended_cases}
 use Rattle.sctp_safety.proofs.machine.Sides.{unknown_goes, unknown_ends, unknown_never_replies}
 use Rattle.sctp_outcomes.proofs.Unheard.{IsUnheard, unheard_rested, unheard_ticked, unheard_sent, unheard_abandoned, unheard_shut, unheard_aborted}
 use Rattle.sctp_safety.proofs.machine.OneEnd.{IsAt, at_end, at_log, at_packet, at_came, answer_of, at_verdict, abort_of, at_abort, both_ends}
@@ -52,30 +53,30 @@ module _ (P : Format → ℕ → ReceiverView → Type 0) (law : IsReceiverLaw P
       (subst (λ (r : ReceiverView). P (format_of e) e.configuration.buffer r) (sym u.receiver) h))
 
   -- a chunk after which the packet goes on
-  pub holds_goes : (e : EndView) (tag : ℕ) (x : ChunkMeaning) (t : EndView) → Holds e → Acts e tag x (GoesOn t) → Holds t
-  holds_goes e tag (Data p) t k (PieceComes u g a r _ _ _ _ came) = law.piece (format_of e) e.configuration.buffer e.receiver p a r k came
-  holds_goes e tag (IData p) t k (PieceComes u g a r _ _ _ _ came) = law.piece (format_of e) e.configuration.buffer e.receiver p a r k came
-  holds_goes e tag (Init m) t k h = absurd (cc)
-  holds_goes e tag (InitAck m) t k (AcceptedAck _ _ _ _ _ _) = law.fresh _ _ _ _
-  holds_goes e tag (Sack s) t k (SackStale _ _) = k
-  holds_goes e tag (Sack s) t k (SackCounts _ _) = k
-  holds_goes e tag (Heartbeat i) t k (HeartbeatCounts _) = k
-  holds_goes e tag (HeartbeatAck i) t k h = let q : t ≡ e = cc in subst Holds (sym q) k
-  holds_goes e tag (Abort b xs) t k h = absurd (cc)
-  holds_goes e tag (Shutdown n) t k (ShutdownStale _ _ _ _ _) = k
-  holds_goes e tag (Shutdown n) t k (ShutdownCounts _ _ _ _ _) = k
-  holds_goes e tag (Shutdown n) t k (Crosses _ _) = k
-  holds_goes e tag (Shutdown n) t k (Again _ _) = k
-  holds_goes e tag ShutdownAck t k h = elim h [ ]
-  holds_goes e tag (Error xs) t k (SaysNothing _) = k
-  holds_goes e tag (CookieEcho xs) t k (EchoedAgain _ _ _ _ _ _ _) = k
-  holds_goes e tag CookieAck t k (CookieAcked _ _ _) = k
-  holds_goes e tag (ShutdownComplete b) t k h = elim h [ ]
-  holds_goes e tag (ForwardTsn m) t k (IsOld _ _ r _ _ _ came) = law.forward (format_of e) e.configuration.buffer e.receiver m _ r k came
-  holds_goes e tag (ForwardTsn m) t k (ForwardComes _ _ r _ _ _ came) = law.forward (format_of e) e.configuration.buffer e.receiver m _ r k came
-  holds_goes e tag (IForwardTsn m) t k (IsOld _ _ r _ _ _ came) = law.forward (format_of e) e.configuration.buffer e.receiver m _ r k came
-  holds_goes e tag (IForwardTsn m) t k (ForwardComes _ _ r _ _ _ came) = law.forward (format_of e) e.configuration.buffer e.receiver m _ r k came
-  holds_goes e tag (Unknown n f v) t k h = let u = unknown_goes e t n f v h in subst Holds (sym u.same) k
+  pub holds_goes : (e : EndView) (tag : ℕ) (x : ChunkMeaning) (y : Note) (t : EndView) → Holds e → Acts e tag x (GoesOn y t) → Holds t
+  holds_goes e tag (Data p) y t k (PieceComes u g a r _ _ _ _ came) = law.piece (format_of e) e.configuration.buffer e.receiver p a r k came
+  holds_goes e tag (IData p) y t k (PieceComes u g a r _ _ _ _ came) = law.piece (format_of e) e.configuration.buffer e.receiver p a r k came
+  holds_goes e tag (Init m) y t k h = absurd (cc)
+  holds_goes e tag (InitAck m) y t k (AcceptedAck _ _ _ _ _ _) = law.fresh _ _ _ _
+  holds_goes e tag (Sack s) y t k (SackStale _ _) = k
+  holds_goes e tag (Sack s) y t k (SackCounts _ _) = k
+  holds_goes e tag (Heartbeat i) y t k (HeartbeatCounts _) = k
+  holds_goes e tag (HeartbeatAck i) y t k h = let q : t ≡ e = cc in subst Holds (sym q) k
+  holds_goes e tag (Abort b xs) y t k h = absurd (cc)
+  holds_goes e tag (Shutdown n) y t k (ShutdownStale _ _ _ _ _) = k
+  holds_goes e tag (Shutdown n) y t k (ShutdownCounts _ _ _ _ _) = k
+  holds_goes e tag (Shutdown n) y t k (Crosses _ _) = k
+  holds_goes e tag (Shutdown n) y t k (Again _ _) = k
+  holds_goes e tag ShutdownAck y t k h = elim h [ ]
+  holds_goes e tag (Error xs) y t k (SaysNothing _) = k
+  holds_goes e tag (CookieEcho xs) y t k (EchoedAgain _ _ _ _ _ _ _) = k
+  holds_goes e tag CookieAck y t k (CookieAcked _ _ _) = k
+  holds_goes e tag (ShutdownComplete b) y t k h = elim h [ ]
+  holds_goes e tag (ForwardTsn m) y t k (IsOld _ _ r _ _ _ came) = law.forward (format_of e) e.configuration.buffer e.receiver m _ r k came
+  holds_goes e tag (ForwardTsn m) y t k (ForwardComes _ _ r _ _ _ came) = law.forward (format_of e) e.configuration.buffer e.receiver m _ r k came
+  holds_goes e tag (IForwardTsn m) y t k (IsOld _ _ r _ _ _ came) = law.forward (format_of e) e.configuration.buffer e.receiver m _ r k came
+  holds_goes e tag (IForwardTsn m) y t k (ForwardComes _ _ r _ _ _ came) = law.forward (format_of e) e.configuration.buffer e.receiver m _ r k came
+  holds_goes e tag (Unknown n f v) y t k h = let u = unknown_goes e y t n f v h in subst Holds (sym u.same) k
 
   -- one that ends it
   holds_ends : (e : EndView) (tag : ℕ) (x : ChunkMeaning) (t : EndView) → Holds e → Acts e tag x (Ends t) → Holds t
@@ -124,20 +125,23 @@ module _ (P : Format → ℕ → ReceiverView → Type 0) (law : IsReceiverLaw P
   pub holds_rested : (e : EndView) → Holds e → Holds (rested e)
   holds_rested e k = holds_same e (rested e) (unheard_rested e) k
 
-  pub holds_acts : (tag : ℕ) (e : EndView) (b : Bool) (xs : List ChunkMeaning) (t : EndView) (v : Verdict) → Holds e → AllAct tag e b xs t v → Holds t
-  holds_acts tag e b xs t v k (NoneLeft _ _) = k
-  holds_acts tag e b xs t v k (Next _ mid _ _ x ys _ act rest) = holds_acts tag (rested mid) true ys t v (holds_rested mid (holds_goes e tag x mid k act)) rest
-  holds_acts tag e b xs t v k (Passes _ _ _ x ys _ act rest) = holds_acts tag e b ys t v k rest
-  holds_acts tag e b xs t v k (Last _ _ _ x ys act) = holds_ends e tag x t k act
-  holds_acts tag e b xs t v k (EndsAnswered _ _ _ x ys p act) = holds_replies e tag x t p k act
-  holds_acts tag e b xs t v k (Stopped _ _ x ys n act) = k
+  pub holds_acts : (tag : ℕ) (e : EndView) (b : Notes) (xs : List ChunkMeaning) (t : EndView) (m : Notes) (v : Verdict) → Holds e → AllAct tag e b xs t m v → Holds t
+  holds_acts tag e b xs t m v k (NoneLeft _ _) = k
+  holds_acts tag e b xs t m v k (Next _ mid _ y _ _ x ys _ act rest) = holds_acts tag (rested mid) (noted y b) ys t m v (holds_rested mid (holds_goes e tag x y mid k act)) rest
+  holds_acts tag e b xs t m v k (Passes _ _ _ _ x ys _ act rest) = holds_acts tag e b ys t m v k rest
+  holds_acts tag e b xs t m v k (Last _ _ _ x ys act) = holds_ends e tag x t k act
+  holds_acts tag e b xs t m v k (EndsAnswered _ _ _ x ys p act) = holds_replies e tag x t p k act
+  holds_acts tag e b xs t m v k (Stopped _ _ x ys n act) = k
+
+  holds_ended : (n : Notes) (e : EndView) → Holds e → Holds (packet_ended n e)
+  holds_ended n e k = ended_cases Holds n e k (λ t g is. k)
 
   pub holds_arrives : (e : EndView) (d : Draw) (p : Packet) (t : EndView) (v : Verdict) → Holds e → Arrives e d p t v → Holds t
   holds_arrives e d p t v k (Elsewhere _) = k
   holds_arrives e d p t v k (NotOurs _ _) = k
   holds_arrives e d p t v k (Stray _ _ _ _) = k
-  holds_arrives e d p t v k (CookieBegins b _ _ _ _ _ _ acts) = holds_acts p.tag (begun b e) true _ t v (law.fresh _ _ _ _) acts
-  holds_arrives e d p t v k (Heard _ _ _ _ _ acts) = holds_acts p.tag e false p.chunks t v k acts
+  holds_arrives e d p t v k (CookieBegins b u n _ _ _ _ _ acts) = holds_ended n u (holds_acts p.tag (begun b e) (noted Unnoted no_notes) _ u n v (law.fresh _ _ _ _) acts)
+  holds_arrives e d p t v k (Heard u n _ _ _ _ acts) = holds_ended n u (holds_acts p.tag e no_notes p.chunks u n v k acts)
 
   -- ---- a packet that is built
 

@@ -11,7 +11,7 @@ use Rattle.sctp_model.specs.wire.Typed.{Typed}
 use Rattle.sctp_model.specs.end.Sealing.{Sealing}
 use Rattle.sctp_model.specs.end.EndView.{Tags, Draw, Stage, Established, ShutdownPending, ShutdownSent, ShutdownReceived, ShutdownAckSent, Phase, Idle, Listening, Calling, Echoing, Open, Over, EndView, format_of}
 use Rattle.sctp_model.specs.end.Closing.{hears, takes_data, takes_acknowledgements, takes_cookies, awaits_ack, awaits_complete}
-use Rattle.sctp_model.specs.end.PeerFaults.{After, GoesOn, PassedOver}
+use Rattle.sctp_model.specs.end.PeerFaults.{After, GoesOn, PassedOver, Unnoted}
 use Rattle.sctp_model.specs.end.Options.{STATE_COOKIE, value_of}
 use Rattle.sctp_model.specs.end.Opening.{ack_fault, InitAckActs, NotCalling, NoTag, RefusedAck, AcceptedAck, seal_in, is_ours, cookie_read, EchoActs, NotHere, EchoedAgain, IsStrange, CookieAckActs, NotEchoing, CookieAcked}
 use Rattle.sctp_model.specs.end.Acting.{same_format, PieceActs, ForwardNotHeard, HeartbeatNotHeard, PieceNotHeard, SackNotHeard, PieceEmpty, WrongFormat, ForwardComes, PieceComes, may_forward, ForwardActs, WrongKind, IsBad, IsOld, SackActs, SackStale, ShutdownStale, SackWrong, ShutdownWrong, HeartbeatCounts, SackCounts, ShutdownCounts, HeartbeatActs, is_stale_cookie, ErrorActs, Closes, SaysNothing, ShutdownActs, ShutdownNotOpen, Crosses, Again, ShutdownAckActs, AckNotAwaited, CompleteNotAwaited, AckCompletes, CompleteCompleted, CompleteActs, Acts}
@@ -217,7 +217,7 @@ module _ (e : EndView) (tag : ℕ) (b : IsBounded (format_of e) e.receiver) wher
   acted (InitAck m) = let a = init_ack m in record { after = a.0; acts = a.1 }
   acted (Sack s) = let a = sack s in record { after = a.0; acts = a.1 }
   acted (Heartbeat info) = let a = heartbeat info in record { after = a.0; acts = a.1 }
-  acted (HeartbeatAck info) = record { after = GoesOn e; acts = refl }
+  acted (HeartbeatAck info) = record { after = GoesOn Unnoted e; acts = refl }
   acted (Abort shown causes) = record { after = _; acts = refl }
   acted (Shutdown n) = let a = shutdown n in record { after = a.0; acts = a.1 }
   acted ShutdownAck = let a = shutdown_ack in record { after = a.0; acts = a.1 }

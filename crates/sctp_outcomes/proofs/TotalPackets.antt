@@ -5,35 +5,36 @@ use Rattle.sctp_model.specs.wire.Packet.{Packet}
 use Rattle.sctp_model.specs.end.Sealing.{Body}
 use Rattle.sctp_model.specs.end.EndView.{Draw, EndView, has_association, format_of}
 use Rattle.sctp_model.specs.end.Closing.{rested}
-use Rattle.sctp_model.specs.end.PeerFaults.{After, GoesOn, Ends, PassedOver, Replies, Drops}
+use Rattle.sctp_model.specs.end.PeerFaults.{After, GoesOn, Ends, PassedOver, Replies, Drops, Note, Unnoted}
 use Rattle.sctp_model.specs.end.Opening.{begun}
 use Rattle.sctp_model.specs.end.Acting.{Acts}
 use Rattle.sctp_model.specs.end.Passing.{has_ports, passes}
 use Rattle.sctp_model.specs.end.Strays.{Verdict, Taken, opened_by, stray_verdict}
-use Rattle.sctp_model.specs.end.Arriving.{AllAct, NoneLeft, Next, Last, EndsAnswered, Stopped, Arrives, Elsewhere, NotOurs, Stray, CookieBegins, Heard, verdict_of}
+use Rattle.sctp_model.specs.end.Arriving.{AllAct, NoneLeft, Next, Last, EndsAnswered, Stopped, Arrives, Elsewhere, NotOurs, Stray, CookieBegins, Heard, verdict_of, Notes, no_notes, noted, packet_ended}
 use Rattle.sctp_model.specs.end.Arriving.{Passes}
 use Rattle.sctp_outcomes.proofs.Receivers.{Whatever, holds_goes, holds_rested}
 use Rattle.sctp_outcomes.proofs.Bounded.{IsBounded, bounded_law}
 use Rattle.sctp_outcomes.proofs.TotalActs.{acted}
 
-pub record AllActed (tag : ℕ) (e : EndView) (b : Bool) (xs : List ChunkMeaning) : Type 0 where
+pub record AllActed (tag : ℕ) (e : EndView) (b : Notes) (xs : List ChunkMeaning) : Type 0 where
   pub last : EndView
+  pub notes : Notes
   pub verdict : Verdict
-  pub acts : AllAct tag e b xs last verdict
+  pub acts : AllAct tag e b xs last notes verdict
 
-pub all_acted : (tag : ℕ) (e : EndView) (b : Bool) (xs : List ChunkMeaning) → IsBounded (format_of e) e.receiver → AllActed tag e b xs
-all_acted tag e b [] bound = record { last = e; verdict = verdict_of b; acts = NoneLeft e b }
+pub all_acted : (tag : ℕ) (e : EndView) (b : Notes) (xs : List ChunkMeaning) → IsBounded (format_of e) e.receiver → AllActed tag e b xs
+all_acted tag e b [] bound = record { last = e; notes = b; verdict = verdict_of b.listed; acts = NoneLeft e b }
 all_acted tag e b (x ∷ xs) bound =
-    by (acted e tag bound x).after (acted e tag bound x).acts (all_acted tag e b xs bound) (λ mid k. all_acted tag mid true xs k)
+    by (acted e tag bound x).after (acted e tag bound x).acts (all_acted tag e b xs bound) (λ mid y k. all_acted tag mid (noted y b) xs k)
   where
-    by : (a : After) → Acts e tag x a → AllActed tag e b xs → ((mid : EndView) → IsBounded (format_of mid) mid.receiver → AllActed tag mid true xs) → AllActed tag e b (x ∷ xs)
-    by (GoesOn mid) act same on =
-        let r = on (rested mid) (holds_rested (Whatever IsBounded) bounded_law mid (holds_goes (Whatever IsBounded) bounded_law e tag x mid bound act)) in
-        record { last = r.last; verdict = r.verdict; acts = Next e mid r.last b x xs r.verdict act r.acts }
-    by (Ends t) act same on = record { last = t; verdict = Taken; acts = Last e t b x xs act }
-    by PassedOver act same on = record { last = same.last; verdict = same.verdict; acts = Passes e same.last b x xs same.verdict act same.acts }
-    by (Replies t p) act same on = record { last = t; verdict = _; acts = EndsAnswered e t b x xs p act }
-    by (Drops n) act same on = record { last = e; verdict = _; acts = Stopped e b x xs n act }
+    by : (a : After) → Acts e tag x a → AllActed tag e b xs → ((mid : EndView) (y : Note) → IsBounded (format_of mid) mid.receiver → AllActed tag mid (noted y b) xs) → AllActed tag e b (x ∷ xs)
+    by (GoesOn y mid) act same on =
+        let r = on (rested mid) y (holds_rested (Whatever IsBounded) bounded_law mid (holds_goes (Whatever IsBounded) bounded_law e tag x y mid bound act)) in
+        record { last = r.last; notes = r.notes; verdict = r.verdict; acts = Next e mid r.last y b r.notes x xs r.verdict act r.acts }
+    by (Ends t) act same on = record { last = t; notes = b; verdict = Taken; acts = Last e t b x xs act }
+    by PassedOver act same on = record { last = same.last; notes = same.notes; verdict = same.verdict; acts = Passes e same.last b same.notes x xs same.verdict act same.acts }
+    by (Replies t p) act same on = record { last = t; notes = b; verdict = _; acts = EndsAnswered e t b x xs p act }
+    by (Drops n) act same on = record { last = e; notes = b; verdict = _; acts = Stopped e b x xs n act }
 
 pub record Arrived (e : EndView) (d : Draw) (p : Packet) : Type 0 where
   pub last : EndView
@@ -46,13 +47,13 @@ arrived e d p bound = ports (has_ports e.configuration p) refl
     opened : has_ports e.configuration p ≡ true → passes e.phase p ≡ true → has_association e.phase ≡ false → (o : Option Body) → opened_by e p ≡ o → Arrived e d p
     opened a t none None q = record { last = e; verdict = stray_verdict e d p; arrives = Stray a t none q }
     opened a t none (Some y) q =
-        let r = all_acted p.tag (begun y e) true (drop 1 p.chunks) (bounded_law.fresh _ _ _ _) in
-        record { last = r.last; verdict = r.verdict; arrives = CookieBegins y r.last r.verdict a t none q r.acts }
+        let r = all_acted p.tag (begun y e) (noted Unnoted no_notes) (drop 1 p.chunks) (bounded_law.fresh _ _ _ _) in
+        record { last = packet_ended r.notes r.last; verdict = r.verdict; arrives = CookieBegins y r.last r.notes r.verdict a t none q r.acts }
 
     joined : has_ports e.configuration p ≡ true → passes e.phase p ≡ true → (h : Bool) → has_association e.phase ≡ h → Arrived e d p
     joined a t true has =
-        let r = all_acted p.tag e false p.chunks bound in
-        record { last = r.last; verdict = r.verdict; arrives = Heard r.last r.verdict a t has r.acts }
+        let r = all_acted p.tag e no_notes p.chunks bound in
+        record { last = packet_ended r.notes r.last; verdict = r.verdict; arrives = Heard r.last r.notes r.verdict a t has r.acts }
     joined a t false none = opened a t none (opened_by e p) refl
 
     tagged : has_ports e.configuration p ≡ true → (r : Bool) → passes e.phase p ≡ r → Arrived e d p

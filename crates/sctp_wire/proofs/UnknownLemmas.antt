@@ -11,7 +11,7 @@ use Rattle.sctp_model.specs.end.Reports.{causes_with, with_causes}
 use Rattle.sctp_model.specs.end.PeerFaults.{After, GoesOn, Ends, PassedOver, Replies, Drops}
 use Rattle.sctp_model.specs.end.Closing.{rested}
 use Rattle.sctp_model.specs.end.Acting.{unknown_item, may_report, unknown_causes, unknown_leaves, unknown_acts}
-use Rattle.sctp_model.specs.end.Arriving.{Next, Passes, Last, EndsAnswered, Stopped}
+use Rattle.sctp_model.specs.end.Arriving.{Next, Passes, Last, EndsAnswered, Stopped, noted}
 use Rattle.sctp_wire.specs.UnknownLaws.{IsByTwoBits, ActsByTwoBits, LooksNoFurther, is_told_parameter, is_acted_on, AreByParameterRule}
 
 -- ---- bits
@@ -52,18 +52,18 @@ ends_packet e kind flags value low =
     (with_causes (unknown_causes e kind flags value) e, ap (λ (b : Bool). unknown_leaves b (with_causes (unknown_causes e kind flags value) e)) (lt-ltb kind 128 (omega arith)))
 
 pub looks_no_further : (kind flags : ℕ) (value : List ℕ) → LooksNoFurther kind flags value
-looks_no_further kind flags value tag e b [] back other t v low (Next _ mid _ _ _ _ _ act rest) = let u = ends_packet e kind flags value low in let q : GoesOn mid ≡ Ends u.0 = act ∙ u.1 in absurd (cc)
-looks_no_further kind flags value tag e b [] back other t v low (Passes _ _ _ _ _ _ act rest) = let u = ends_packet e kind flags value low in let q : PassedOver ≡ Ends u.0 = act ∙ u.1 in absurd (cc)
-looks_no_further kind flags value tag e b [] back other t v low (Last _ _ _ _ _ act) = Last e t b (Unknown kind flags value) other act
-looks_no_further kind flags value tag e b [] back other t v low (EndsAnswered _ _ _ _ _ p act) = let u = ends_packet e kind flags value low in let q : Replies t p ≡ Ends u.0 = act ∙ u.1 in absurd (cc)
-looks_no_further kind flags value tag e b [] back other t v low (Stopped _ _ _ _ n act) = let u = ends_packet e kind flags value low in let q : Drops n ≡ Ends u.0 = act ∙ u.1 in absurd (cc)
-looks_no_further kind flags value tag e b (x ∷ front) back other t v low (Next _ mid _ _ _ _ _ act rest) =
-    Next e mid t b x (front ++ Unknown kind flags value ∷ other) v act (looks_no_further kind flags value tag (rested mid) true front back other t v low rest)
-looks_no_further kind flags value tag e b (x ∷ front) back other t v low (Passes _ _ _ _ _ _ act rest) =
-    Passes e t b x (front ++ Unknown kind flags value ∷ other) v act (looks_no_further kind flags value tag e b front back other t v low rest)
-looks_no_further kind flags value tag e b (x ∷ front) back other t v low (Last _ _ _ _ _ act) = Last e t b x (front ++ Unknown kind flags value ∷ other) act
-looks_no_further kind flags value tag e b (x ∷ front) back other t v low (EndsAnswered _ _ _ _ _ p act) = EndsAnswered e t b x (front ++ Unknown kind flags value ∷ other) p act
-looks_no_further kind flags value tag e b (x ∷ front) back other t v low (Stopped _ _ _ _ n act) = Stopped e b x (front ++ Unknown kind flags value ∷ other) n act
+looks_no_further kind flags value tag e n [] back other t m v low (Next _ mid _ k _ _ _ _ _ act rest) = let u = ends_packet e kind flags value low in let q : GoesOn k mid ≡ Ends u.0 = act ∙ u.1 in absurd (cc)
+looks_no_further kind flags value tag e n [] back other t m v low (Passes _ _ _ _ _ _ _ act rest) = let u = ends_packet e kind flags value low in let q : PassedOver ≡ Ends u.0 = act ∙ u.1 in absurd (cc)
+looks_no_further kind flags value tag e n [] back other t m v low (Last _ _ _ _ _ act) = Last e t n (Unknown kind flags value) other act
+looks_no_further kind flags value tag e n [] back other t m v low (EndsAnswered _ _ _ _ _ p act) = let u = ends_packet e kind flags value low in let q : Replies t p ≡ Ends u.0 = act ∙ u.1 in absurd (cc)
+looks_no_further kind flags value tag e n [] back other t m v low (Stopped _ _ _ _ r act) = let u = ends_packet e kind flags value low in let q : Drops r ≡ Ends u.0 = act ∙ u.1 in absurd (cc)
+looks_no_further kind flags value tag e n (x ∷ front) back other t m v low (Next _ mid _ k _ _ _ _ _ act rest) =
+    Next e mid t k n m x (front ++ Unknown kind flags value ∷ other) v act (looks_no_further kind flags value tag (rested mid) (noted k n) front back other t m v low rest)
+looks_no_further kind flags value tag e n (x ∷ front) back other t m v low (Passes _ _ _ _ _ _ _ act rest) =
+    Passes e t n m x (front ++ Unknown kind flags value ∷ other) v act (looks_no_further kind flags value tag e n front back other t m v low rest)
+looks_no_further kind flags value tag e n (x ∷ front) back other t m v low (Last _ _ _ _ _ act) = Last e t n x (front ++ Unknown kind flags value ∷ other) act
+looks_no_further kind flags value tag e n (x ∷ front) back other t m v low (EndsAnswered _ _ _ _ _ p act) = EndsAnswered e t n x (front ++ Unknown kind flags value ∷ other) p act
+looks_no_further kind flags value tag e n (x ∷ front) back other t m v low (Stopped _ _ _ _ r act) = Stopped e n x (front ++ Unknown kind flags value ∷ other) r act
 
 -- ---- parameters
 

@@ -8,10 +8,10 @@ use Rattle.sctp_model.specs.wire.Typed.{Typed}
 use Rattle.sctp_model.specs.wire.Unknown.{RuleMeaning, parameter_rule, is_known_parameter, is_passed_over, parameters_acted_on, parameters_reported}
 use Rattle.sctp_model.specs.end.EndView.{EndView}
 use Rattle.sctp_model.specs.end.Reports.{causes_with, with_causes}
-use Rattle.sctp_model.specs.end.PeerFaults.{GoesOn, Ends}
+use Rattle.sctp_model.specs.end.PeerFaults.{GoesOn, Ends, Unnoted}
 use Rattle.sctp_model.specs.end.Acting.{unknown_item, may_report, unknown_acts}
 use Rattle.sctp_model.specs.end.Strays.{Verdict}
-use Rattle.sctp_model.specs.end.Arriving.{AllAct}
+use Rattle.sctp_model.specs.end.Arriving.{AllAct, Notes}
 
 -- the items up to the first one that stops, and that one
 abbrev pub up_to : {X : Type 0} → (X → Bool) → List X → List X
@@ -37,14 +37,14 @@ reporting e kind flags value = with_causes (if may_report e.phase then causes_wi
 pub record ActsByTwoBits (highest : ℕ) (e : EndView) (kind flags : ℕ) (value : List ℕ) : Type 0 where
   pub stops : highest ≡ 0 → unknown_acts e kind flags value ≡ Ends e
   pub stops_reported : highest ≡ 1 → unknown_acts e kind flags value ≡ Ends (reporting e kind flags value)
-  pub skipped : highest ≡ 2 → unknown_acts e kind flags value ≡ GoesOn e
-  pub skipped_reported : highest ≡ 3 → unknown_acts e kind flags value ≡ GoesOn (reporting e kind flags value)
+  pub skipped : highest ≡ 2 → unknown_acts e kind flags value ≡ GoesOn Unnoted e
+  pub skipped_reported : highest ≡ 3 → unknown_acts e kind flags value ≡ GoesOn Unnoted (reporting e kind flags value)
 
 -- Behind one that stops nothing is looked at: whatever else stood there, the packet would leave the same and be told the same.
 abbrev pub LooksNoFurther : (kind flags : ℕ) → List ℕ → Type 0
 LooksNoFurther kind flags value =
-    (tag : ℕ) (e : EndView) (listed : Bool) (front back other : List ChunkMeaning) (t : EndView) (v : Verdict) → kind / 64 < 2 →
-    AllAct tag e listed (front ++ Unknown kind flags value ∷ back) t v → AllAct tag e listed (front ++ Unknown kind flags value ∷ other) t v
+    (tag : ℕ) (e : EndView) (n : Notes) (front back other : List ChunkMeaning) (t : EndView) (m : Notes) (v : Verdict) → kind / 64 < 2 →
+    AllAct tag e n (front ++ Unknown kind flags value ∷ back) t m v → AllAct tag e n (front ++ Unknown kind flags value ∷ other) t m v
 
 -- ---- parameters
 

@@ -11,9 +11,9 @@ use Rattle.sctp_model.specs.receiver.PieceTaken.{PieceAnswer, Duplicate, Ahead, 
 use Rattle.sctp_model.specs.receiver.ForwardTaken.{OutOfDate, Bad, Moved, ForwardTaken}
 use Rattle.sctp_model.specs.end.EndView.{format_of, Tags, Completed, Aborted, StaleCookie, Stage, ShutdownSent, ShutdownReceived, ShutdownAckSent, Phase, Calling, Echoing, Open, DataAlarm, EndView}
 use Rattle.sctp_model.specs.end.Clock.{turned, closed, with_timer, settled, renewed}
-use Rattle.sctp_model.specs.end.Closing.{with_due, answers_shutdown, takes_data, takes_acknowledgements, awaits_ack, awaits_complete, is_shutdown_sent, hears}
+use Rattle.sctp_model.specs.end.Closing.{with_due, answers_shutdown, takes_data, takes_acknowledgements, awaits_ack, awaits_complete, hears}
 use Rattle.sctp_model.specs.end.Reports.{item, causes_with, with_causes, fits_alone, INVALID_STREAM, STALE_COOKIE, UNRECOGNIZED_CHUNK}
-use Rattle.sctp_model.specs.end.PeerFaults.{After, GoesOn, Ends, PassedOver, Replies, packet_to, at_fault, no_user_data, violation}
+use Rattle.sctp_model.specs.end.PeerFaults.{Unnoted, ToAcknowledge, After, GoesOn, Ends, PassedOver, Replies, packet_to, at_fault, no_user_data, violation}
 use Rattle.sctp_model.specs.end.Opening.{InitAckActs, EchoActs, CookieAckActs}
 
 -- ---- chunks with data (6.2 and 6.5; RFC 8260, 2.1 and 2.2)
@@ -25,9 +25,10 @@ same_format Plain Interleaved = false
 same_format Interleaved Plain = false
 same_format Interleaved Interleaved = true
 
--- Data or a FORWARD was acted on: a SACK is due, and in SHUTDOWN SENT the SHUTDOWN again (9.2).
-abbrev pub acknowledges : Stage → EndView → EndView
-acknowledges g e = with_due (record e.due { sack = true; shutdown = e.due.shutdown || is_shutdown_sent g }) e
+-- a piece that wasn't kept, or says so itself, is to be acknowledged at once (6.2)
+abbrev pub asks_at_once : PieceMeaning → PieceAnswer → Bool
+asks_at_once p Kept = p.immediate
+asks_at_once p a = true
 
 -- a stream that isn't there is reported (6.5)
 abbrev pub piece_causes : EndView → PieceMeaning → PieceAnswer → List Typed
@@ -47,7 +48,7 @@ pub data PieceActs (f : Format) (e : EndView) (p : PieceMeaning) : After → Typ
       PieceActs f e p (at_fault t violation e)
   PieceComes : (t : Tags) (g : Stage) (a : PieceAnswer) (r : ReceiverView) → e.phase ≡ Open t g → takes_data g ≡ true → 0 < length p.bytes →
       same_format f (format_of e) ≡ true → PieceTaken (format_of e) e.receiver p a r →
-      PieceActs f e p (GoesOn (acknowledges g (with_causes (piece_causes e p a) (record e { receiver = r }))))
+      PieceActs f e p (GoesOn (ToAcknowledge (asks_at_once p a)) (with_causes (piece_causes e p a) (record e { receiver = r })))
 
 -- ---- FORWARD-TSN and I-FORWARD-TSN (RFC 3758, 3.6; RFC 8260, 2.3.1)
 
@@ -63,9 +64,9 @@ pub data ForwardActs (f : Format) (e : EndView) (m : ForwardMeaning) : After →
   IsBad : (t : Tags) (g : Stage) (r : ReceiverView) → e.phase ≡ Open t g → takes_data g ≡ true → may_forward f e ≡ true →
       ForwardTaken (format_of e) e.receiver m Bad r → ForwardActs f e m (at_fault t violation e)
   IsOld : (t : Tags) (g : Stage) (r : ReceiverView) → e.phase ≡ Open t g → takes_data g ≡ true → may_forward f e ≡ true →
-      ForwardTaken (format_of e) e.receiver m OutOfDate r → ForwardActs f e m (GoesOn (acknowledges g (record e { receiver = r })))
+      ForwardTaken (format_of e) e.receiver m OutOfDate r → ForwardActs f e m (GoesOn (ToAcknowledge true) (record e { receiver = r }))
   ForwardComes : (t : Tags) (g : Stage) (r : ReceiverView) → e.phase ≡ Open t g → takes_data g ≡ true → may_forward f e ≡ true →
-      ForwardTaken (format_of e) e.receiver m Moved r → ForwardActs f e m (GoesOn (acknowledges g (record e { receiver = r })))
+      ForwardTaken (format_of e) e.receiver m Moved r → ForwardActs f e m (GoesOn (ToAcknowledge true) (record e { receiver = r }))
 
 -- ---- SACK (6.2.1 and 6.3.2)
 
@@ -78,10 +79,10 @@ sack_heard e s =
 -- What a SACK does (6.2.1).
 pub data SackActs (e : EndView) (s : SackMeaning) : After → Type 0 where
   SackNotHeard : hears takes_acknowledgements e.phase ≡ false → SackActs e s PassedOver
-  SackStale : hears takes_acknowledgements e.phase ≡ true → sack_fault e.sender s ≡ Some Stale → SackActs e s (GoesOn e)
+  SackStale : hears takes_acknowledgements e.phase ≡ true → sack_fault e.sender s ≡ Some Stale → SackActs e s (GoesOn Unnoted e)
   SackWrong : (t : Tags) (g : Stage) → e.phase ≡ Open t g → takes_acknowledgements g ≡ true →
       (sack_fault e.sender s ≡ Some Beyond) ⊎ (sack_fault e.sender s ≡ Some BadBlock) → SackActs e s (at_fault t violation e)
-  SackCounts : hears takes_acknowledgements e.phase ≡ true → sack_fault e.sender s ≡ None → SackActs e s (GoesOn (sack_heard e s))
+  SackCounts : hears takes_acknowledgements e.phase ≡ true → sack_fault e.sender s ≡ None → SackActs e s (GoesOn Unnoted (sack_heard e s))
 
 -- ---- HEARTBEAT, HEARTBEAT ACK (8.3), ERROR (3.3.10), ABORT (9.1)
 
@@ -92,7 +93,7 @@ heartbeat_heard e info = with_due (record e.due { heartbeat = if fits_alone e (H
 -- What a HEARTBEAT does (8.3).
 pub data HeartbeatActs (e : EndView) (info : List ℕ) : After → Type 0 where
   HeartbeatNotHeard : hears (λ g. true) e.phase ≡ false → HeartbeatActs e info PassedOver
-  HeartbeatCounts : hears (λ g. true) e.phase ≡ true → HeartbeatActs e info (GoesOn (heartbeat_heard e info))
+  HeartbeatCounts : hears (λ g. true) e.phase ≡ true → HeartbeatActs e info (GoesOn Unnoted (heartbeat_heard e info))
 
 -- a cause of this type is among these
 abbrev pub has_cause : ℕ → List Typed → Bool
@@ -107,7 +108,7 @@ is_stale_cookie h causes = false
 -- What an ERROR does (3.3.10): a cookie that is too old ends the caller (5.2.6).
 pub data ErrorActs (e : EndView) (causes : List ℕ) : After → Type 0 where
   Closes : is_stale_cookie e.phase causes ≡ true → ErrorActs e causes (Ends (closed StaleCookie e))
-  SaysNothing : is_stale_cookie e.phase causes ≡ false → ErrorActs e causes (GoesOn e)
+  SaysNothing : is_stale_cookie e.phase causes ≡ false → ErrorActs e causes (GoesOn Unnoted e)
 
 -- ---- the three chunks that close an association (9.2)
 
@@ -121,11 +122,11 @@ pub data ShutdownActs (e : EndView) (tsn : ℕ) : After → Type 0 where
   ShutdownWrong : (t : Tags) (g : Stage) → e.phase ≡ Open t g → takes_acknowledgements g ≡ true → shutdown_fault e.sender tsn ≡ Some Beyond →
       ShutdownActs e tsn (at_fault t violation e)
   ShutdownStale : (t : Tags) (g : Stage) → e.phase ≡ Open t g → takes_acknowledgements g ≡ true → shutdown_fault e.sender tsn ≡ Some Stale →
-      ShutdownActs e tsn (GoesOn (turned (Open t ShutdownReceived) e))
+      ShutdownActs e tsn (GoesOn Unnoted (turned (Open t ShutdownReceived) e))
   ShutdownCounts : (t : Tags) (g : Stage) → e.phase ≡ Open t g → takes_acknowledgements g ≡ true → shutdown_fault e.sender tsn ≡ None →
-      ShutdownActs e tsn (GoesOn (shutdown_heard t e tsn))
-  Crosses : (t : Tags) → e.phase ≡ Open t ShutdownSent → ShutdownActs e tsn (GoesOn (answers_shutdown t e))
-  Again : (t : Tags) → e.phase ≡ Open t ShutdownAckSent → ShutdownActs e tsn (GoesOn (with_due (record e.due { shutdown_ack = true }) e))
+      ShutdownActs e tsn (GoesOn Unnoted (shutdown_heard t e tsn))
+  Crosses : (t : Tags) → e.phase ≡ Open t ShutdownSent → ShutdownActs e tsn (GoesOn Unnoted (answers_shutdown t e))
+  Again : (t : Tags) → e.phase ≡ Open t ShutdownAckSent → ShutdownActs e tsn (GoesOn Unnoted (with_due (record e.due { shutdown_ack = true }) e))
 
 -- What a SHUTDOWN ACK does (3.3.9 and 9.2).
 pub data ShutdownAckActs (e : EndView) : After → Type 0 where
@@ -157,7 +158,7 @@ unknown_causes e kind flags value =
 -- what stands behind it is left, or goes on
 abbrev pub unknown_leaves : Bool → EndView → After
 unknown_leaves true e = Ends e
-unknown_leaves false e = GoesOn e
+unknown_leaves false e = GoesOn Unnoted e
 
 -- What a chunk of an unknown type does, by the two highest bits of its type (3.2).
 abbrev pub unknown_acts : EndView → ℕ → ℕ → List ℕ → After
@@ -174,7 +175,7 @@ Acts e tag (Init m) a = a ≡ PassedOver
 Acts e tag (InitAck m) a = InitAckActs e m a
 Acts e tag (Sack s) a = SackActs e s a
 Acts e tag (Heartbeat info) a = HeartbeatActs e info a
-Acts e tag (HeartbeatAck info) a = a ≡ GoesOn e
+Acts e tag (HeartbeatAck info) a = a ≡ GoesOn Unnoted e
 Acts e tag (Abort t causes) a = a ≡ Ends (closed Aborted e)
 Acts e tag (Shutdown tsn) a = ShutdownActs e tsn a
 Acts e tag ShutdownAck a = ShutdownAckActs e a

@@ -1,34 +1,72 @@
 -- A packet that comes, whole or cut short: whether it passes, what its chunks do one after the other, and what is told of it (RFC 9260, 4, 5.1, 8.4 and 8.5).
-use Rattle.std.specs.Prelude.{◌≡◌, ℕ, ◌⊎◌, Bool, true, false, List, [], ◌∷◌, ◌++◌, drop, Option, Some, None}
+use Rattle.std.specs.Prelude.{◌≡◌, ℕ, ◌⊎◌, Bool, true, false, ◌||◌, List, [], ◌∷◌, ◌++◌, drop, Option, Some, None}
 use Rattle.sctp_model.specs.wire.Chunk.{ChunkMeaning}
 use Rattle.sctp_model.specs.wire.Packet.{Packet}
 use Rattle.sctp_model.specs.end.Sealing.{Body}
-use Rattle.sctp_model.specs.end.EndView.{Draw, EndView, has_association}
+use Rattle.sctp_model.specs.end.EndView.{Draw, Stage, Phase, Open, EndView, has_association}
 use Rattle.sctp_model.specs.end.Clock.{at_moment}
-use Rattle.sctp_model.specs.end.Closing.{rested}
-use Rattle.sctp_model.specs.end.PeerFaults.{FAULT, PORTS, TAG, STATE, GoesOn, Ends, PassedOver, Replies, Drops}
+use Rattle.sctp_model.specs.end.Closing.{with_due, is_shutdown_sent, rested}
+use Rattle.sctp_model.specs.end.PeerFaults.{FAULT, PORTS, TAG, STATE, Note, Unnoted, ToAcknowledge, GoesOn, Ends, PassedOver, Replies, Drops}
 use Rattle.sctp_model.specs.end.Opening.{begun}
 use Rattle.sctp_model.specs.end.Acting.{Acts}
 use Rattle.sctp_model.specs.end.Passing.{has_ports, passes}
 use Rattle.sctp_model.specs.end.Strays.{Verdict, Taken, Dropped, Answer, stray_verdict, opened_by}
+
+-- ---- what is noted of a packet
+
+-- Notes of the chunks so far: one was listed for the state that it found; one is to be acknowledged; that at once.
+pub record Notes : Type 0 where
+  pub listed : Bool
+  pub acknowledges : Bool
+  pub at_once : Bool
+
+-- before the first chunk
+abbrev pub no_notes : Notes
+no_notes = record { listed = false; acknowledges = false; at_once = false }
+
+-- with the note of one chunk more
+abbrev pub noted : Note → Notes → Notes
+noted Unnoted n = record n { listed = true }
+noted (ToAcknowledge at_once) n = record { listed = true; acknowledges = true; at_once = n.at_once || at_once }
 
 -- taken where some chunk was listed, else dropped for the state (RFC 9260, 4)
 abbrev pub verdict_of : Bool → Verdict
 verdict_of true = Taken
 verdict_of false = Dropped STATE
 
+-- ---- its chunks
+
 -- Chunks act in their order, each on what the one before left (RFC 9260, 6.10); a drained end goes on with closing before the next one acts (9.2).
--- The truth value says whether some chunk so far was listed.
-pub data AllAct (tag : ℕ) : EndView → Bool → List ChunkMeaning → EndView → Verdict → Type 0 where
-  NoneLeft : (e : EndView) (b : Bool) → AllAct tag e b [] e (verdict_of b)
-  Next : (e mid t : EndView) (b : Bool) (x : ChunkMeaning) (xs : List ChunkMeaning) (v : Verdict) →
-      Acts e tag x (GoesOn mid) → AllAct tag (rested mid) true xs t v → AllAct tag e b (x ∷ xs) t v
-  Passes : (e t : EndView) (b : Bool) (x : ChunkMeaning) (xs : List ChunkMeaning) (v : Verdict) →
-      Acts e tag x PassedOver → AllAct tag e b xs t v → AllAct tag e b (x ∷ xs) t v
-  Last : (e t : EndView) (b : Bool) (x : ChunkMeaning) (xs : List ChunkMeaning) → Acts e tag x (Ends t) → AllAct tag e b (x ∷ xs) t Taken
-  EndsAnswered : (e t : EndView) (b : Bool) (x : ChunkMeaning) (xs : List ChunkMeaning) (p : Packet) →
-      Acts e tag x (Replies t p) → AllAct tag e b (x ∷ xs) t (Answer p)
-  Stopped : (e : EndView) (b : Bool) (x : ChunkMeaning) (xs : List ChunkMeaning) (n : ℕ) → Acts e tag x (Drops n) → AllAct tag e b (x ∷ xs) e (Dropped n)
+-- They begin with some notes, and end with those of all that acted.
+pub data AllAct (tag : ℕ) : EndView → Notes → List ChunkMeaning → EndView → Notes → Verdict → Type 0 where
+  NoneLeft : (e : EndView) (n : Notes) → AllAct tag e n [] e n (verdict_of n.listed)
+  Next : (e mid t : EndView) (k : Note) (n m : Notes) (x : ChunkMeaning) (xs : List ChunkMeaning) (v : Verdict) →
+      Acts e tag x (GoesOn k mid) → AllAct tag (rested mid) (noted k n) xs t m v → AllAct tag e n (x ∷ xs) t m v
+  Passes : (e t : EndView) (n m : Notes) (x : ChunkMeaning) (xs : List ChunkMeaning) (v : Verdict) →
+      Acts e tag x PassedOver → AllAct tag e n xs t m v → AllAct tag e n (x ∷ xs) t m v
+  Last : (e t : EndView) (n : Notes) (x : ChunkMeaning) (xs : List ChunkMeaning) → Acts e tag x (Ends t) → AllAct tag e n (x ∷ xs) t n Taken
+  EndsAnswered : (e t : EndView) (n : Notes) (x : ChunkMeaning) (xs : List ChunkMeaning) (p : Packet) →
+      Acts e tag x (Replies t p) → AllAct tag e n (x ∷ xs) t n (Answer p)
+  Stopped : (e : EndView) (n : Notes) (x : ChunkMeaning) (xs : List ChunkMeaning) (reason : ℕ) →
+      Acts e tag x (Drops reason) → AllAct tag e n (x ∷ xs) e n (Dropped reason)
+
+-- ---- its end
+
+-- a SACK is due, and in SHUTDOWN SENT the SHUTDOWN again (6.2 and 9.2)
+abbrev pub acknowledges : Stage → EndView → EndView
+acknowledges g e = with_due (record e.due { sack = true; shutdown = e.due.shutdown || is_shutdown_sent g }) e
+
+-- where something is to be acknowledged, and the association isn't over by now
+abbrev pub acknowledges_in : Bool → Phase → EndView → EndView
+acknowledges_in false h e = e
+acknowledges_in true (Open t g) e = acknowledges g e
+acknowledges_in true h e = e
+
+-- The end of a packet, whatever ended it, or where it was cut: what is due after all its chunks (6.2).
+abbrev pub packet_ended : Notes → EndView → EndView
+packet_ended n e = acknowledges_in n.acknowledges e.phase e
+
+-- ---- a packet
 
 -- ACT: a packet that reads, at the end's moment, with this draw: the end after it, and what is told (8.4 and 8.5).
 pub data Arrives (e : EndView) (d : Draw) (p : Packet) : EndView → Verdict → Type 0 where
@@ -36,10 +74,11 @@ pub data Arrives (e : EndView) (d : Draw) (p : Packet) : EndView → Verdict →
   NotOurs : has_ports e.configuration p ≡ true → passes e.phase p ≡ false → Arrives e d p e (Dropped TAG)
   Stray : has_ports e.configuration p ≡ true → passes e.phase p ≡ true → has_association e.phase ≡ false → opened_by e p ≡ None →
       Arrives e d p e (stray_verdict e d p)
-  CookieBegins : (b : Body) (t : EndView) (v : Verdict) → has_ports e.configuration p ≡ true → passes e.phase p ≡ true → has_association e.phase ≡ false →
-      opened_by e p ≡ Some b → AllAct p.tag (begun b e) true (drop 1 p.chunks) t v → Arrives e d p t v
-  Heard : (t : EndView) (v : Verdict) → has_ports e.configuration p ≡ true → passes e.phase p ≡ true → has_association e.phase ≡ true →
-      AllAct p.tag e false p.chunks t v → Arrives e d p t v
+  CookieBegins : (b : Body) (t : EndView) (n : Notes) (v : Verdict) → has_ports e.configuration p ≡ true → passes e.phase p ≡ true →
+      has_association e.phase ≡ false → opened_by e p ≡ Some b → AllAct p.tag (begun b e) (noted Unnoted no_notes) (drop 1 p.chunks) t n v →
+      Arrives e d p (packet_ended n t) v
+  Heard : (t : EndView) (n : Notes) (v : Verdict) → has_ports e.configuration p ≡ true → passes e.phase p ≡ true → has_association e.phase ≡ true →
+      AllAct p.tag e no_notes p.chunks t n v → Arrives e d p (packet_ended n t) v
 
 -- ---- what comes to an end at a moment, as it reads: None where the bytes don't
 

@@ -13,7 +13,7 @@ use Rattle.sctp_model.specs.end.Clock.{turned, closed}
 use Rattle.sctp_model.specs.end.Closing.{with_due, takes_cookies, hears}
 use Rattle.sctp_model.specs.end.Reports.{written, item, fits_alone, causes_with, as_fit, MISSING_PARAMETER, OUT_OF_RESOURCE, INVALID_PARAMETER, UNRECOGNIZED_PARAMETERS}
 use Rattle.sctp_model.specs.end.Options.{STATE_COOKIE, value_of, agreed_interleave, agreed_partial, own_options, reports_of}
-use Rattle.sctp_model.specs.end.PeerFaults.{TAG, COOKIE, After, GoesOn, PassedOver, Replies, Drops, packet_to, abort_for}
+use Rattle.sctp_model.specs.end.PeerFaults.{TAG, COOKIE, Unnoted, After, GoesOn, PassedOver, Replies, Drops, packet_to, abort_for}
 
 -- ---- an association that begins
 
@@ -151,7 +151,7 @@ pub data InitAckActs (e : EndView) (m : InitMeaning) : After → Type 0 where
   RefusedAck : (d : Draw) (x : Typed) → e.phase ≡ Calling d → 0 < m.tag → ack_fault e m (value_of STATE_COOKIE m.parameters) ≡ Some x →
       InitAckActs e m (Replies (closed AbortedHere e) (packet_to e.configuration m.tag (abort_for x)))
   AcceptedAck : (d : Draw) (xs : List ℕ) → e.phase ≡ Calling d → 0 < m.tag → value_of STATE_COOKIE m.parameters ≡ Some xs →
-      ack_fault e m (Some xs) ≡ None → InitAckActs e m (GoesOn (echoing e d m xs))
+      ack_fault e m (Some xs) ≡ None → InitAckActs e m (GoesOn Unnoted (echoing e d m xs))
 
 -- ---- COOKIE ECHO (5.1.5 and 5.2.4)
 
@@ -212,7 +212,7 @@ seal_in Paired = None
 pub data EchoActs (e : EndView) (tag : ℕ) (xs : List ℕ) : After → Type 0 where
   NotHere : (seal_in e.role ≡ None) ⊎ (hears takes_cookies e.phase ≡ false) → EchoActs e tag xs PassedOver
   EchoedAgain : (s : Sealing) (t : Tags) (g : Stage) → seal_in e.role ≡ Some s → e.phase ≡ Open t g → takes_cookies g ≡ true →
-      is_ours t (cookie_read s e tag xs) ≡ true → EchoActs e tag xs (GoesOn (with_due (record e.due { cookie_ack = true }) e))
+      is_ours t (cookie_read s e tag xs) ≡ true → EchoActs e tag xs (GoesOn Unnoted (with_due (record e.due { cookie_ack = true }) e))
   IsStrange : (s : Sealing) (t : Tags) (g : Stage) → seal_in e.role ≡ Some s → e.phase ≡ Open t g → takes_cookies g ≡ true →
       is_ours t (cookie_read s e tag xs) ≡ false → EchoActs e tag xs (Drops COOKIE)
 
@@ -226,4 +226,4 @@ is_echoing h = false
 -- What a COOKIE ACK does (5.1, E).
 pub data CookieAckActs (e : EndView) : After → Type 0 where
   NotEchoing : is_echoing e.phase ≡ false → CookieAckActs e PassedOver
-  CookieAcked : (t : Tags) (xs : List ℕ) → e.phase ≡ Echoing t xs → CookieAckActs e (GoesOn (turned (Open t Established) e))
+  CookieAcked : (t : Tags) (xs : List ℕ) → e.phase ≡ Echoing t xs → CookieAckActs e (GoesOn Unnoted (turned (Open t Established) e))

@@ -1,5 +1,5 @@
 -- What a chunk leaves, and what the peer may not do: such a fault closes the association with an ABORT (RFC 9260, 3.3.7, 3.3.10 and 6.2; RFC 8260, 2.2.1).
-use Rattle.std.specs.Prelude.{ℕ, false, [], ◌∷◌}
+use Rattle.std.specs.Prelude.{ℕ, Bool, false, [], ◌∷◌}
 use Rattle.sctp_model.specs.numbers.Numbers.{u32_bytes}
 use Rattle.sctp_model.specs.wire.Typed.{Typed}
 use Rattle.sctp_model.specs.wire.Chunk.{ChunkMeaning, Abort}
@@ -28,9 +28,17 @@ STATE = 4
 abbrev pub COOKIE : ℕ
 COOKIE = 5
 
--- What a chunk leaves: the packet goes on, or ends with it; it isn't listed in this state; the packet is answered, and ends; or it drops the packet.
+-- What is noted of a chunk for the end of its packet (6.2): nothing, or that it is to be acknowledged; at once, where that may not wait for another
+-- packet, which matters only to an end that delays its SACKs.
+pub data Note : Type 0 where
+  Unnoted : Note
+  ToAcknowledge : (at_once : Bool) → Note
+
+-- What a chunk leaves: the packet goes on, with a note, or ends with it; it isn't listed in this state; the packet is answered, and ends; or it drops
+-- the packet.
 pub data After : Type 0 where
-  GoesOn Ends : EndView → After
+  GoesOn : Note → EndView → After
+  Ends : EndView → After
   PassedOver : After
   Replies : EndView → Packet → After
   Drops : (reason : ℕ) → After

@@ -9,7 +9,8 @@ use Rattle.sctp_model.specs.receiver.ReceiverView.{Handed}
 use Rattle.sctp_model.specs.end.EndView.{Established, EndView}
 use Rattle.sctp_model.specs.end.Closing.{rested}
 use Rattle.sctp_model.specs.end.Strays.{Taken}
-use Rattle.sctp_model.specs.end.Arriving.{Heard, NoneLeft, Next, ReadAs}
+use Rattle.sctp_model.specs.end.PeerFaults.{ToAcknowledge}
+use Rattle.sctp_model.specs.end.Arriving.{Heard, NoneLeft, Next, ReadAs, no_notes, noted, acknowledges}
 use Rattle.sctp_model.specs.end.Building.{packet_of}
 use Rattle.sctp_model.specs.end.UserCalls.{send_answer, abandons}
 use Rattle.sctp_model.specs.world.World.{A, B, World, with_end, with_packet, end_now, came, start}
@@ -18,7 +19,7 @@ use Rattle.sctp_model.specs.world.Steps.{Step, BuildsOne, FromBag, PacketComes, 
 use Rattle.sctp_outcomes.specs.Examples.{AMessageIsPassedOver}
 use Rattle.sctp_outcomes.proofs.stories.Small.{small, small_configured, of_a, of_b, tags_a, tags_b, open_world, opens, after_send, after_abandon}
 use Rattle.sctp_outcomes.proofs.stories.Packets.{packet_built, builds_are}
-use Rattle.sctp_outcomes.proofs.stories.Acts.{bound_none, after_data, data_acts, after_skip, forward_acts}
+use Rattle.sctp_outcomes.proofs.stories.Acts.{bound_none, after_data, data_acts, after_skip, forward_acts, data_note}
 use Rattle.sctp_outcomes.proofs.stories.Ours.{premises_of_ours}
 
 abbrev lost : Call
@@ -66,21 +67,21 @@ built_5 : Step p4 (Build A) (Some (Sent 2 (size_of_packet (ForwardTsn passes ∷
 built_5 = BuildsOne A (ForwardTsn passes) (Data second_piece ∷ []) (packet_built (end_now p4 A) 0).after (builds_are tags_a Established (end_now p4 A) 0 refl (bound_none p4.a.receiver refl))
 
 abbrev skipped : EndView
-skipped = after_skip Established (end_now p5 B) 0 passes
+skipped = after_skip (end_now p5 B) 0 passes
 
 abbrev handed_on : EndView
-handed_on = after_data Established (rested skipped) 0 second_piece
+handed_on = after_data (rested skipped) 0 second_piece
 
 abbrev p6 : World
-p6 = came p5 B (rested handed_on)
+p6 = came p5 B (acknowledges Established (rested handed_on))
 
 comes_6 : Step p5 (Deliver A 2) (Some Acted) p6
-comes_6 = PacketComes (Deliver A 2) B (Some packet_2) (rested handed_on) Taken (FromBag A 2 packet_2 refl) (ReadAs packet_2 (rested handed_on) Taken (Heard (rested handed_on) Taken refl refl refl
-    (Next (end_now p5 B) skipped (rested handed_on) false (ForwardTsn passes) (Data second_piece ∷ []) Taken
+comes_6 = PacketComes (Deliver A 2) B (Some packet_2) (acknowledges Established (rested handed_on)) Taken (FromBag A 2 packet_2 refl) (ReadAs packet_2 (acknowledges Established (rested handed_on)) Taken (Heard (rested handed_on) (noted (data_note (rested skipped) 0 second_piece) (noted (ToAcknowledge true) no_notes)) Taken refl refl refl
+    (Next (end_now p5 B) skipped (rested handed_on) (ToAcknowledge true) no_notes (noted (data_note (rested skipped) 0 second_piece) (noted (ToAcknowledge true) no_notes)) (ForwardTsn passes) (Data second_piece ∷ []) Taken
     (forward_acts Plain (end_now p5 B) tags_b Established 0 passes (bound_none p5.b.receiver refl) refl refl refl refl)
-    (Next (rested skipped) handed_on (rested handed_on) true (Data second_piece) [] Taken
+    (Next (rested skipped) handed_on (rested handed_on) (data_note (rested skipped) 0 second_piece) (noted (ToAcknowledge true) no_notes) (noted (data_note (rested skipped) 0 second_piece) (noted (ToAcknowledge true) no_notes)) (Data second_piece) [] Taken
     (data_acts Plain (rested skipped) tags_b Established 0 second_piece (bound_none (rested skipped).receiver refl) refl refl (omega arith) refl)
-    (NoneLeft (rested handed_on) true)))))
+    (NoneLeft (rested handed_on) (noted (data_note (rested skipped) 0 second_piece) (noted (ToAcknowledge true) no_notes)))))))
 
 abbrev message : Handed
 message = record { first = 2; lane = ordered_lane 0; number = Some 1; payload = 0; bytes = 2 ∷ [] }

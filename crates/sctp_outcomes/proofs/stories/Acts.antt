@@ -10,8 +10,8 @@ use Rattle.sctp_model.specs.receiver.ForwardTaken.{ForwardAnswer, Moved, Forward
 use Rattle.sctp_model.specs.end.EndView.{Tags, Stage, Open, EndView, format_of}
 use Rattle.sctp_model.specs.end.Closing.{takes_data}
 use Rattle.sctp_model.specs.end.Reports.{with_causes}
-use Rattle.sctp_model.specs.end.PeerFaults.{GoesOn}
-use Rattle.sctp_model.specs.end.Acting.{same_format, acknowledges, piece_causes, may_forward, PieceActs, ForwardActs}
+use Rattle.sctp_model.specs.end.PeerFaults.{GoesOn, Note, ToAcknowledge}
+use Rattle.sctp_model.specs.end.Acting.{same_format, asks_at_once, piece_causes, may_forward, PieceActs, ForwardActs}
 use Rattle.sctp_model.specs.end.Acting.{PieceComes}
 use Rattle.sctp_model.specs.end.Acting.{ForwardComes}
 use Rattle.sctp_outcomes.specs.receiver.Steps.{IsBound, cumulative, piece_step, forward_step}
@@ -29,22 +29,25 @@ bound_more seen n bound le within i = cond_both (i == n) true (seen i) (λ (b : 
 
 -- ---- chunks
 
--- the end after a data chunk
-abbrev pub after_data : Stage → EndView → (bound : ℕ) → PieceMeaning → EndView
-after_data g e bound p =
+-- the end after a data chunk, and what is noted of that
+abbrev pub after_data : EndView → (bound : ℕ) → PieceMeaning → EndView
+after_data e bound p =
     let c = cumulative e.receiver bound in
-    acknowledges g (with_causes (piece_causes e p (answer_to (format_of e) e.receiver c p)) (record e { receiver = piece_step (format_of e) e.receiver c p }))
+    with_causes (piece_causes e p (answer_to (format_of e) e.receiver c p)) (record e { receiver = piece_step (format_of e) e.receiver c p })
+
+abbrev pub data_note : EndView → (bound : ℕ) → PieceMeaning → Note
+data_note e bound p = ToAcknowledge (asks_at_once p (answer_to (format_of e) e.receiver (cumulative e.receiver bound) p))
 
 pub data_acts : (f : Format) (e : EndView) (t : Tags) (g : Stage) (bound : ℕ) (p : PieceMeaning) → IsBound e.receiver bound → e.phase ≡ Open t g → takes_data g ≡ true →
-    0 < length p.bytes → same_format f (format_of e) ≡ true → PieceActs f e p (GoesOn (after_data g e bound p))
+    0 < length p.bytes → same_format f (format_of e) ≡ true → PieceActs f e p (GoesOn (data_note e bound p) (after_data e bound p))
 data_acts f e t g bound p within is hears some same =
     let c = cumulative e.receiver bound in
     PieceComes t g (answer_to (format_of e) e.receiver c p) (piece_step (format_of e) e.receiver c p) is hears some same
     (piece_steps (format_of e) e.receiver c p (cumulative_is e.receiver bound within))
 
 -- the end after a FORWARD that moves it
-abbrev pub after_skip : Stage → EndView → (bound : ℕ) → ForwardMeaning → EndView
-after_skip g e bound m = acknowledges g (record e { receiver = forward_step (format_of e) e.receiver (cumulative e.receiver bound) m })
+abbrev pub after_skip : EndView → (bound : ℕ) → ForwardMeaning → EndView
+after_skip e bound m = record e { receiver = forward_step (format_of e) e.receiver (cumulative e.receiver bound) m }
 
 moves : (e : EndView) (bound : ℕ) (m : ForwardMeaning) → IsBound e.receiver bound → forward_answer e.receiver (cumulative e.receiver bound) m ≡ Moved →
     ForwardTaken (format_of e) e.receiver m Moved (forward_step (format_of e) e.receiver (cumulative e.receiver bound) m)
@@ -53,6 +56,6 @@ moves e bound m within is =
     (forward_steps (format_of e) e.receiver (cumulative e.receiver bound) m (cumulative_is e.receiver bound within))
 
 pub forward_acts : (f : Format) (e : EndView) (t : Tags) (g : Stage) (bound : ℕ) (m : ForwardMeaning) → IsBound e.receiver bound → e.phase ≡ Open t g → takes_data g ≡ true →
-    may_forward f e ≡ true → forward_answer e.receiver (cumulative e.receiver bound) m ≡ Moved → ForwardActs f e m (GoesOn (after_skip g e bound m))
+    may_forward f e ≡ true → forward_answer e.receiver (cumulative e.receiver bound) m ≡ Moved → ForwardActs f e m (GoesOn (ToAcknowledge true) (after_skip e bound m))
 forward_acts f e t g bound m within is hears may moved =
     ForwardComes t g (forward_step (format_of e) e.receiver (cumulative e.receiver bound) m) is hears may (moves e bound m within moved)

@@ -7,7 +7,8 @@ use Rattle.sctp_model.specs.world.Calls.{Call}
 use Rattle.sctp_model.specs.end.EndView.{Established, EndView}
 use Rattle.sctp_model.specs.end.Closing.{rested}
 use Rattle.sctp_model.specs.end.Strays.{Taken}
-use Rattle.sctp_model.specs.end.Arriving.{Heard, NoneLeft, Next, ReadAs}
+use Rattle.sctp_model.specs.end.PeerFaults.{ToAcknowledge}
+use Rattle.sctp_model.specs.end.Arriving.{Heard, NoneLeft, Next, ReadAs, no_notes, noted, acknowledges}
 use Rattle.sctp_model.specs.end.Building.{packet_of}
 use Rattle.sctp_model.specs.end.UserCalls.{send_answer, abandons}
 use Rattle.sctp_model.specs.world.World.{A, B, World, with_end, with_packet, end_now, came, start}
@@ -16,7 +17,7 @@ use Rattle.sctp_model.specs.world.Steps.{Step, BuildsOne, FromBag, PacketComes, 
 use Rattle.sctp_outcomes.specs.Examples.{AMessageIsEnded}
 use Rattle.sctp_outcomes.proofs.stories.Small.{small, small_configured, of_a, of_b, tags_a, tags_b, open_world, opens, after_send, after_abandon}
 use Rattle.sctp_outcomes.proofs.stories.Packets.{packet_built, builds_are}
-use Rattle.sctp_outcomes.proofs.stories.Acts.{bound_none, bound_more, after_data, data_acts, after_skip, forward_acts}
+use Rattle.sctp_outcomes.proofs.stories.Acts.{bound_none, bound_more, after_data, data_acts, after_skip, forward_acts, data_note}
 use Rattle.sctp_outcomes.proofs.stories.Ours.{premises_of_ours}
 
 -- one byte more than a fragment holds
@@ -43,15 +44,16 @@ built_2 = BuildsOne A (IData first_piece) [] (packet_built (end_now q1 A) 0).aft
 
 -- B keeps the fragment
 abbrev kept : EndView
-kept = after_data Established (end_now q2 B) 0 first_piece
+kept = after_data (end_now q2 B) 0 first_piece
 
 abbrev q3 : World
-q3 = came q2 B (rested kept)
+q3 = came q2 B (acknowledges Established (rested kept))
 
 comes_3 : Step q2 (Deliver A 1) (Some Acted) q3
-comes_3 = PacketComes (Deliver A 1) B (Some packet_1) (rested kept) Taken (FromBag A 1 packet_1 refl) (ReadAs packet_1 (rested kept) Taken (Heard (rested kept) Taken refl refl refl
-    (Next (end_now q2 B) kept (rested kept) false (IData first_piece) [] Taken
-    (data_acts Interleaved (end_now q2 B) tags_b Established 0 first_piece (bound_none q2.b.receiver refl) refl refl (omega arith) refl) (NoneLeft (rested kept) true))))
+comes_3 = PacketComes (Deliver A 1) B (Some packet_1) (acknowledges Established (rested kept)) Taken (FromBag A 1 packet_1 refl) (ReadAs packet_1 (acknowledges Established (rested kept)) Taken (Heard (rested kept) (noted (data_note (end_now q2 B) 0 first_piece) no_notes) Taken refl refl refl
+    (Next (end_now q2 B) kept (rested kept) (data_note (end_now q2 B) 0 first_piece) no_notes (noted (data_note (end_now q2 B) 0 first_piece) no_notes) (IData first_piece) [] Taken
+    (data_acts Interleaved (end_now q2 B) tags_b Established 0 first_piece (bound_none q2.b.receiver refl) refl refl (omega arith) refl)
+    (NoneLeft (rested kept) (noted (data_note (end_now q2 B) 0 first_piece) no_notes)))))
 
 -- A's user abandons the message, which takes index 2 for its end mark
 abbrev q4 : World
@@ -71,18 +73,19 @@ built_5 = BuildsOne A (IForwardTsn passes) [] (packet_built (end_now q4 A) 0).af
 
 -- B lets the fragment go
 abbrev skipped : EndView
-skipped = after_skip Established (end_now q5 B) 1 passes
+skipped = after_skip (end_now q5 B) 1 passes
 
 abbrev q6 : World
-q6 = came q5 B (rested skipped)
+q6 = came q5 B (acknowledges Established (rested skipped))
 
 one_recorded : (i : ℕ) → q5.b.receiver.seen i ≡ true → i ≤ 1
 one_recorded = bound_more (λ i. false) 1 1 (omega arith) (λ i on. absurd (cc))
 
 comes_6 : Step q5 (Deliver A 2) (Some Acted) q6
-comes_6 = PacketComes (Deliver A 2) B (Some packet_2) (rested skipped) Taken (FromBag A 2 packet_2 refl) (ReadAs packet_2 (rested skipped) Taken (Heard (rested skipped) Taken refl refl refl
-    (Next (end_now q5 B) skipped (rested skipped) false (IForwardTsn passes) [] Taken
-    (forward_acts Interleaved (end_now q5 B) tags_b Established 1 passes one_recorded refl refl refl refl) (NoneLeft (rested skipped) true))))
+comes_6 = PacketComes (Deliver A 2) B (Some packet_2) (acknowledges Established (rested skipped)) Taken (FromBag A 2 packet_2 refl) (ReadAs packet_2 (acknowledges Established (rested skipped)) Taken (Heard (rested skipped) (noted (ToAcknowledge true) no_notes) Taken refl refl refl
+    (Next (end_now q5 B) skipped (rested skipped) (ToAcknowledge true) no_notes (noted (ToAcknowledge true) no_notes) (IForwardTsn passes) [] Taken
+    (forward_acts Interleaved (end_now q5 B) tags_b Established 1 passes one_recorded refl refl refl refl)
+    (NoneLeft (rested skipped) (noted (ToAcknowledge true) no_notes)))))
 
 abbrev ending : List Event
 ending = OpenBoth of_a of_b ∷ Send A long ∷ Build A ∷ Deliver A 1 ∷ Abandon A 1 ∷ Build A ∷ Deliver A 2 ∷ []

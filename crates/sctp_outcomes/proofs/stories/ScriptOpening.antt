@@ -10,10 +10,10 @@ use Rattle.sctp_model.specs.end.Clock.{started, turned}
 use Rattle.sctp_model.specs.end.Closing.{with_due}
 use Rattle.sctp_model.specs.end.Reports.{written, item}
 use Rattle.sctp_model.specs.end.Options.{STATE_COOKIE}
-use Rattle.sctp_model.specs.end.PeerFaults.{STATE, packet_to}
+use Rattle.sctp_model.specs.end.PeerFaults.{STATE, packet_to, Unnoted}
 use Rattle.sctp_model.specs.end.Opening.{own_init, body_for, echoing, begun, NotCalling, AcceptedAck, EchoedAgain, NotEchoing, CookieAcked}
 use Rattle.sctp_model.specs.end.Strays.{Taken, Dropped, stray_verdict}
-use Rattle.sctp_model.specs.end.Arriving.{Stray, CookieBegins, Heard, NoneLeft, Next, ReadAs}
+use Rattle.sctp_model.specs.end.Arriving.{Stray, CookieBegins, Heard, NoneLeft, Next, ReadAs, no_notes, noted}
 use Rattle.sctp_model.specs.end.Arriving.{Passes}
 use Rattle.sctp_model.specs.end.Building.{EchoSlot, ErrorSlot, EchoCookie, NoMore, NotDue, Put, Calls, Echoes, packet_of}
 use Rattle.sctp_model.specs.end.UserCalls.{called}
@@ -98,8 +98,10 @@ s6 = came s5 A echoes
 
 step_6 : Step s5 (Deliver B 1) (Some Acted) s6
 unfolding u16_bytes u32_bytes u16_at u32_at starts_typed typed_of
-step_6 = PacketComes (Deliver B 1) A (Some ack_packet) echoes Taken (FromBag B 1 ack_packet refl) (ReadAs ack_packet echoes Taken (Heard echoes Taken refl refl refl
-    (Next (end_now s5 A) echoes echoes false (InitAck ack_meaning) [] Taken (AcceptedAck of_a cookie refl some refl refl) (NoneLeft echoes true))))
+step_6 = PacketComes (Deliver B 1) A (Some ack_packet) echoes Taken (FromBag B 1 ack_packet refl) (ReadAs ack_packet echoes Taken (Heard echoes (noted Unnoted no_notes) Taken refl refl refl
+    (Next (end_now s5 A) echoes echoes Unnoted no_notes (noted Unnoted no_notes) (InitAck ack_meaning) [] Taken
+    (AcceptedAck of_a cookie refl some refl refl)
+    (NoneLeft echoes (noted Unnoted no_notes)))))
   where
     some : 0 < 9
     some = omega arith
@@ -109,8 +111,8 @@ s7 = came s6 A (end_now s6 A)
 
 step_7 : Step s6 (Deliver B 1) (Some (NotActed STATE)) s7
 unfolding u16_bytes u32_bytes u16_at u32_at starts_typed typed_of
-step_7 = PacketComes (Deliver B 1) A (Some ack_packet) (end_now s6 A) (Dropped STATE) (FromBag B 1 ack_packet refl) (ReadAs ack_packet (end_now s6 A) (Dropped STATE) (Heard (end_now s6 A) (Dropped STATE) refl refl refl
-    (Passes (end_now s6 A) (end_now s6 A) false (InitAck ack_meaning) [] (Dropped STATE) (NotCalling refl) (NoneLeft (end_now s6 A) false))))
+step_7 = PacketComes (Deliver B 1) A (Some ack_packet) (end_now s6 A) (Dropped STATE) (FromBag B 1 ack_packet refl) (ReadAs ack_packet (end_now s6 A) (Dropped STATE) (Heard (end_now s6 A) no_notes (Dropped STATE) refl refl refl
+    (Passes (end_now s6 A) (end_now s6 A) no_notes no_notes (InitAck ack_meaning) [] (Dropped STATE) (NotCalling refl) (NoneLeft (end_now s6 A) no_notes))))
 
 -- the cookie goes back
 abbrev echoed : EndView
@@ -137,7 +139,7 @@ s9 = came s8 B begins
 
 step_9 : Step s8 (Deliver A 2) (Some Acted) s9
 unfolding u16_bytes u32_bytes u16_at u32_at starts_typed typed_of
-step_9 = PacketComes (Deliver A 2) B (Some packet_2) begins Taken (FromBag A 2 packet_2 refl) (ReadAs packet_2 begins Taken (CookieBegins body begins Taken refl refl refl refl (NoneLeft begins true)))
+step_9 = PacketComes (Deliver A 2) B (Some packet_2) begins Taken (FromBag A 2 packet_2 refl) (ReadAs packet_2 begins Taken (CookieBegins body begins (noted Unnoted no_notes) Taken refl refl refl refl (NoneLeft begins (noted Unnoted no_notes))))
 
 abbrev again : EndView
 again = with_due (record (end_now s9 B).due { cookie_ack = true }) (end_now s9 B)
@@ -147,8 +149,10 @@ s10 = came s9 B again
 
 step_10 : Step s9 (Deliver A 2) (Some Acted) s10
 unfolding u16_bytes u32_bytes u16_at u32_at starts_typed typed_of
-step_10 = PacketComes (Deliver A 2) B (Some packet_2) again Taken (FromBag A 2 packet_2 refl) (ReadAs packet_2 again Taken (Heard again Taken refl refl refl
-    (Next (end_now s9 B) again again false (CookieEcho cookie) [] Taken (EchoedAgain open_seal tags_b Established refl refl refl refl) (NoneLeft again true))))
+step_10 = PacketComes (Deliver A 2) B (Some packet_2) again Taken (FromBag A 2 packet_2 refl) (ReadAs packet_2 again Taken (Heard again (noted Unnoted no_notes) Taken refl refl refl
+    (Next (end_now s9 B) again again Unnoted no_notes (noted Unnoted no_notes) (CookieEcho cookie) [] Taken
+    (EchoedAgain open_seal tags_b Established refl refl refl refl)
+    (NoneLeft again (noted Unnoted no_notes)))))
 
 -- and says so
 abbrev packet_3 : Packet
@@ -169,16 +173,18 @@ s12 = came s11 A open_end
 
 step_12 : Step s11 (Deliver B 3) (Some Acted) s12
 unfolding u16_bytes u32_bytes u16_at u32_at starts_typed typed_of
-step_12 = PacketComes (Deliver B 3) A (Some packet_3) open_end Taken (FromBag B 3 packet_3 refl) (ReadAs packet_3 open_end Taken (Heard open_end Taken refl refl refl
-    (Next (end_now s11 A) open_end open_end false CookieAck [] Taken (CookieAcked tags_a cookie refl) (NoneLeft open_end true))))
+step_12 = PacketComes (Deliver B 3) A (Some packet_3) open_end Taken (FromBag B 3 packet_3 refl) (ReadAs packet_3 open_end Taken (Heard open_end (noted Unnoted no_notes) Taken refl refl refl
+    (Next (end_now s11 A) open_end open_end Unnoted no_notes (noted Unnoted no_notes) CookieAck [] Taken
+    (CookieAcked tags_a cookie refl)
+    (NoneLeft open_end (noted Unnoted no_notes)))))
 
 abbrev pub s13 : World
 s13 = came s12 A (end_now s12 A)
 
 step_13 : Step s12 (Deliver B 3) (Some (NotActed STATE)) s13
 unfolding u16_bytes u32_bytes u16_at u32_at starts_typed typed_of
-step_13 = PacketComes (Deliver B 3) A (Some packet_3) (end_now s12 A) (Dropped STATE) (FromBag B 3 packet_3 refl) (ReadAs packet_3 (end_now s12 A) (Dropped STATE) (Heard (end_now s12 A) (Dropped STATE) refl refl refl
-    (Passes (end_now s12 A) (end_now s12 A) false CookieAck [] (Dropped STATE) (NotEchoing refl) (NoneLeft (end_now s12 A) false))))
+step_13 = PacketComes (Deliver B 3) A (Some packet_3) (end_now s12 A) (Dropped STATE) (FromBag B 3 packet_3 refl) (ReadAs packet_3 (end_now s12 A) (Dropped STATE) (Heard (end_now s12 A) no_notes (Dropped STATE) refl refl refl
+    (Passes (end_now s12 A) (end_now s12 A) no_notes no_notes CookieAck [] (Dropped STATE) (NotEchoing refl) (NoneLeft (end_now s12 A) no_notes))))
 
 step_1 : Step (start pair) (Connect of_a) (Some Done) s1
 step_1 = Connects of_a (drawn 7 100 (omega arith) (omega arith) (omega arith)) refl

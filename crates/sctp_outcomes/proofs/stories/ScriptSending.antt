@@ -10,7 +10,8 @@ use Rattle.sctp_model.specs.end.EndView.{Established, EndView}
 use Rattle.sctp_model.specs.end.Closing.{rested}
 use Rattle.sctp_model.specs.end.Acting.{SackCounts, sack_heard}
 use Rattle.sctp_model.specs.end.Strays.{Taken}
-use Rattle.sctp_model.specs.end.Arriving.{Heard, NoneLeft, Next, ReadAs}
+use Rattle.sctp_model.specs.end.PeerFaults.{Unnoted}
+use Rattle.sctp_model.specs.end.Arriving.{Heard, NoneLeft, Next, ReadAs, no_notes, noted, acknowledges}
 use Rattle.sctp_model.specs.end.Building.{packet_of}
 use Rattle.sctp_model.specs.end.UserCalls.{Ticket, send_answer, send_leaves}
 use Rattle.sctp_model.specs.world.World.{A, B, World, with_end, with_packet, with_log, end_now, came}
@@ -18,7 +19,7 @@ use Rattle.sctp_model.specs.world.Events.{Send, Build, Deliver, Take, Sent, Acte
 use Rattle.sctp_model.specs.world.Steps.{accepted, Step, BuildsOne, FromBag, PacketComes, Sends, TakesOne, Run, Rest, Then}
 use Rattle.sctp_outcomes.specs.Script.{greeting, arrived, sending_events, sending_told}
 use Rattle.sctp_outcomes.proofs.stories.Packets.{packet_built, builds_are}
-use Rattle.sctp_outcomes.proofs.stories.Acts.{bound_none, bound_more, after_data, data_acts}
+use Rattle.sctp_outcomes.proofs.stories.Acts.{bound_none, bound_more, after_data, data_acts, data_note}
 use Rattle.sctp_outcomes.proofs.stories.ScriptOpening.{tags_a, tags_b, s13}
 
 abbrev s14 : World
@@ -44,32 +45,34 @@ step_15 = BuildsOne A (Data piece) [] (packet_built (end_now s14 A) 0).after (bu
 
 -- it is taken, and then noted as a duplicate
 abbrev e16 : EndView
-e16 = after_data Established (end_now s15 B) 0 piece
+e16 = after_data (end_now s15 B) 0 piece
 
 abbrev s16 : World
-s16 = came s15 B (rested e16)
+s16 = came s15 B (acknowledges Established (rested e16))
 
 step_16 : Step s15 (Deliver A 3) (Some Acted) s16
 unfolding u16_bytes u32_bytes u16_at u32_at starts_typed typed_of
-step_16 = PacketComes (Deliver A 3) B (Some packet_3) (rested e16) Taken (FromBag A 3 packet_3 refl) (ReadAs packet_3 (rested e16) Taken (Heard (rested e16) Taken refl refl refl
-    (Next (end_now s15 B) e16 (rested e16) false (Data piece) [] Taken
-    (data_acts Plain (end_now s15 B) tags_b Established 0 piece (bound_none s15.b.receiver refl) refl refl (omega arith) refl) (NoneLeft (rested e16) true))))
+step_16 = PacketComes (Deliver A 3) B (Some packet_3) (acknowledges Established (rested e16)) Taken (FromBag A 3 packet_3 refl) (ReadAs packet_3 (acknowledges Established (rested e16)) Taken (Heard (rested e16) (noted (data_note (end_now s15 B) 0 piece) no_notes) Taken refl refl refl
+    (Next (end_now s15 B) e16 (rested e16) (data_note (end_now s15 B) 0 piece) no_notes (noted (data_note (end_now s15 B) 0 piece) no_notes) (Data piece) [] Taken
+    (data_acts Plain (end_now s15 B) tags_b Established 0 piece (bound_none s15.b.receiver refl) refl refl (omega arith) refl)
+    (NoneLeft (rested e16) (noted (data_note (end_now s15 B) 0 piece) no_notes)))))
 
 one_recorded : (i : ℕ) → s16.b.receiver.seen i ≡ true → i ≤ 1
 unfolding u16_bytes u32_bytes u16_at u32_at starts_typed typed_of
 one_recorded = bound_more (λ i. false) 1 1 (omega arith) (λ i on. absurd (cc))
 
 abbrev e17 : EndView
-e17 = after_data Established (end_now s16 B) 1 piece
+e17 = after_data (end_now s16 B) 1 piece
 
 abbrev s17 : World
-s17 = came s16 B (rested e17)
+s17 = came s16 B (acknowledges Established (rested e17))
 
 step_17 : Step s16 (Deliver A 3) (Some Acted) s17
 unfolding u16_bytes u32_bytes u16_at u32_at starts_typed typed_of
-step_17 = PacketComes (Deliver A 3) B (Some packet_3) (rested e17) Taken (FromBag A 3 packet_3 refl) (ReadAs packet_3 (rested e17) Taken (Heard (rested e17) Taken refl refl refl
-    (Next (end_now s16 B) e17 (rested e17) false (Data piece) [] Taken
-    (data_acts Plain (end_now s16 B) tags_b Established 1 piece one_recorded refl refl (omega arith) refl) (NoneLeft (rested e17) true))))
+step_17 = PacketComes (Deliver A 3) B (Some packet_3) (acknowledges Established (rested e17)) Taken (FromBag A 3 packet_3 refl) (ReadAs packet_3 (acknowledges Established (rested e17)) Taken (Heard (rested e17) (noted (data_note (end_now s16 B) 1 piece) no_notes) Taken refl refl refl
+    (Next (end_now s16 B) e17 (rested e17) (data_note (end_now s16 B) 1 piece) no_notes (noted (data_note (end_now s16 B) 1 piece) no_notes) (Data piece) [] Taken
+    (data_acts Plain (end_now s16 B) tags_b Established 1 piece one_recorded refl refl (omega arith) refl)
+    (NoneLeft (rested e17) (noted (data_note (end_now s16 B) 1 piece) no_notes)))))
 
 -- the SACK names the duplicate; the two bytes wait, and count against the room
 abbrev sack : SackMeaning
@@ -98,8 +101,10 @@ s19 = came s18 A (rested e19)
 
 step_19 : Step s18 (Deliver B 4) (Some Acted) s19
 unfolding u16_bytes u32_bytes u16_at u32_at starts_typed typed_of
-step_19 = PacketComes (Deliver B 4) A (Some packet_4) (rested e19) Taken (FromBag B 4 packet_4 refl) (ReadAs packet_4 (rested e19) Taken (Heard (rested e19) Taken refl refl refl
-    (Next (end_now s18 A) e19 (rested e19) false (Sack sack) [] Taken (SackCounts refl refl) (NoneLeft (rested e19) true))))
+step_19 = PacketComes (Deliver B 4) A (Some packet_4) (rested e19) Taken (FromBag B 4 packet_4 refl) (ReadAs packet_4 (rested e19) Taken (Heard (rested e19) (noted Unnoted no_notes) Taken refl refl refl
+    (Next (end_now s18 A) e19 (rested e19) Unnoted no_notes (noted Unnoted no_notes) (Sack sack) [] Taken
+    (SackCounts refl refl)
+    (NoneLeft (rested e19) (noted Unnoted no_notes)))))
 
 abbrev e20 : EndView
 e20 = sack_heard (end_now s19 A) sack
@@ -109,8 +114,10 @@ s20 = came s19 A (rested e20)
 
 step_20 : Step s19 (Deliver B 4) (Some Acted) s20
 unfolding u16_bytes u32_bytes u16_at u32_at starts_typed typed_of
-step_20 = PacketComes (Deliver B 4) A (Some packet_4) (rested e20) Taken (FromBag B 4 packet_4 refl) (ReadAs packet_4 (rested e20) Taken (Heard (rested e20) Taken refl refl refl
-    (Next (end_now s19 A) e20 (rested e20) false (Sack sack) [] Taken (SackCounts refl refl) (NoneLeft (rested e20) true))))
+step_20 = PacketComes (Deliver B 4) A (Some packet_4) (rested e20) Taken (FromBag B 4 packet_4 refl) (ReadAs packet_4 (rested e20) Taken (Heard (rested e20) (noted Unnoted no_notes) Taken refl refl refl
+    (Next (end_now s19 A) e20 (rested e20) Unnoted no_notes (noted Unnoted no_notes) (Sack sack) [] Taken
+    (SackCounts refl refl)
+    (NoneLeft (rested e20) (noted Unnoted no_notes)))))
 
 -- B's user takes the message
 abbrev e21 : EndView

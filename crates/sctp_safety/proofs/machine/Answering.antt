@@ -11,7 +11,7 @@ use Rattle.sctp_model.specs.end.PeerFaults.{Replies, packet_to, abort_for}
 use Rattle.sctp_model.specs.end.Opening.{RefusedAck, CookieRead, CookieOpens, CookieLate, Strange, cookie_read, has_no_stream, init_ack}
 use Rattle.sctp_model.specs.end.Acting.{Acts, PieceEmpty, WrongFormat, SackWrong, ShutdownWrong, AckCompletes, WrongKind, IsBad}
 use Rattle.sctp_model.specs.end.Strays.{Verdict, Dropped, Answer, holds_abort, listens, init_verdict, cookie_verdict, echo_verdict, first_verdict, chunks_verdict, stray_verdict}
-use Rattle.sctp_model.specs.end.Arriving.{AllAct, NoneLeft, Next, Last, EndsAnswered, Stopped}
+use Rattle.sctp_model.specs.end.Arriving.{AllAct, NoneLeft, Next, Last, EndsAnswered, Stopped, Notes, noted, verdict_of}
 use Rattle.sctp_model.specs.end.Arriving.{Passes}
 use Rattle.sctp_safety.proofs.machine.Sides.{unknown_never_replies}
 
@@ -57,16 +57,19 @@ replies_nothing e tag (IForwardTsn m) t p (WrongKind u _ _ _ _) = one_chunk e.co
 replies_nothing e tag (IForwardTsn m) t p (IsBad u _ _ _ _ _ _) = one_chunk e.configuration u.peer _ refl
 replies_nothing e tag (Unknown k f v) t p h = absurd (unknown_never_replies e t p k f v h)
 
+no_answer : (b : Bool) (p : Packet) → verdict_of b ≡ Answer p → ⊥
+no_answer true p q = absurd (cc)
+no_answer false p q = absurd (cc)
+
 -- what is told of the chunks of a packet, if it is an answer
-pub acts_answer : (tag : ℕ) (e : EndView) (b : Bool) (xs : List ChunkMeaning) (t : EndView) (v : Verdict) → AllAct tag e b xs t v →
+pub acts_answer : (tag : ℕ) (e : EndView) (b : Notes) (xs : List ChunkMeaning) (t : EndView) (m : Notes) (v : Verdict) → AllAct tag e b xs t m v →
     (p : Packet) → v ≡ Answer p → OpensNothing p
-acts_answer tag e b xs t v (NoneLeft _ true) p q = absurd (cc)
-acts_answer tag e b xs t v (NoneLeft _ false) p q = absurd (cc)
-acts_answer tag e b xs t v (Next _ mid _ _ x ys _ act rest) p q = acts_answer tag _ true ys t v rest p q
-acts_answer tag e b xs t v (Passes _ _ _ x ys _ act rest) p q = acts_answer tag e b ys t v rest p q
-acts_answer tag e b xs t v (Last _ _ _ x ys act) p q = absurd (cc)
-acts_answer tag e b xs t v (EndsAnswered _ _ _ x ys r act) p q = let s : r ≡ p = cc in subst OpensNothing s (replies_nothing e tag x t r act)
-acts_answer tag e b xs t v (Stopped _ _ x ys n act) p q = absurd (cc)
+acts_answer tag e b xs t m v (NoneLeft _ _) p q = absurd (no_answer b.listed p q)
+acts_answer tag e b xs t m v (Next _ mid _ y _ _ x ys _ act rest) p q = acts_answer tag _ (noted y b) ys t m v rest p q
+acts_answer tag e b xs t m v (Passes _ _ _ _ x ys _ act rest) p q = acts_answer tag e b ys t m v rest p q
+acts_answer tag e b xs t m v (Last _ _ _ x ys act) p q = absurd (cc)
+acts_answer tag e b xs t m v (EndsAnswered _ _ _ x ys r act) p q = let s : r ≡ p = cc in subst OpensNothing s (replies_nothing e tag x t r act)
+acts_answer tag e b xs t m v (Stopped _ _ x ys n act) p q = absurd (cc)
 
 -- ---- an answer of an end without one
 

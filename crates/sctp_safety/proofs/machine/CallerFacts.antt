@@ -1,5 +1,5 @@
 -- The caller before its association has both ends: what its bag and the listener's say to it, wherever it stands.
-use Rattle.std.proofs.Common.{◌≡◌, ℕ, Bool, true, false, List, [], ◌∷◌, ◌++◌, Some, inl, inr, refl, sym, subst, ap, ◌∙◌}
+use Rattle.std.proofs.Common.{◌≡◌, ℕ, true, false, List, [], ◌∷◌, ◌++◌, Some, inl, inr, refl, sym, subst, ap, ◌∙◌}
 use Rattle.sctp_model.specs.numbers.Lists.{Has}
 use Rattle.sctp_model.specs.wire.Chunk.{InitMeaning, ChunkMeaning, Init, InitAck, CookieEcho, CookieAck}
 use Rattle.sctp_model.specs.wire.Packet.{Packet}
@@ -8,7 +8,7 @@ use Rattle.sctp_model.specs.end.EndView.{Configuration, Terms, Tags, Established
 use Rattle.sctp_model.specs.end.Options.{STATE_COOKIE, value_of}
 use Rattle.sctp_model.specs.end.Opening.{echoing, terms_of_ack, terms_of_body, tags_of_body}
 use Rattle.sctp_model.specs.end.Strays.{Verdict}
-use Rattle.sctp_model.specs.end.Arriving.{AllAct, NoneLeft, Next, Last, EndsAnswered, Stopped}
+use Rattle.sctp_model.specs.end.Arriving.{AllAct, NoneLeft, Next, Last, EndsAnswered, Stopped, Notes, noted}
 use Rattle.sctp_model.specs.end.Arriving.{Passes}
 use Rattle.sctp_model.specs.end.Closing.{rested}
 use Rattle.sctp_model.specs.end.UserCalls.{is_open}
@@ -207,13 +207,13 @@ module _ (s : Setup) (drawn : List ℕ) (out back : List Packet) where
         (caller_accepts e ack d cookie is value a c, refl)
     caller_goes e x m held has c (Acked u cookie _ q is _ _ _ _ _) = absurd (early (subst (Has p.chunks) q held))
 
-    pub caller_acts : (tag : ℕ) (e : EndView) (acted : Bool) (xs : List ChunkMeaning) (t : EndView) (v : Verdict) → ((x : ChunkMeaning) → Has xs x → Has p.chunks x) →
-        has_association e.phase ≡ true → IsCaller s drawn out back e → AllAct tag e acted xs t v → IsCaller s drawn out back t
-    caller_acts tag e acted xs t v held has c (NoneLeft _ _) = c
-    caller_acts tag e acted xs t v held has c (Next _ mid _ _ x ys _ act rest) =
-        let m = caller_goes e x mid (held x (inl refl)) has c (goes_left e tag x mid act) in
-        caller_acts tag (rested mid) true ys t v (λ y h. held y (inr h)) (rested_has mid m.1) (caller_plain mid (rested mid) (plain_rested mid) m.0) rest
-    caller_acts tag e acted xs t v held has c (Passes _ _ _ x ys _ act rest) = caller_acts tag e acted ys t v (λ y h. held y (inr h)) has c rest
-    caller_acts tag e acted xs t v held has c (Last _ _ _ x ys act) = caller_plain e t (ends_plain e tag x t has act) c
-    caller_acts tag e acted xs t v held has c (EndsAnswered _ _ _ x ys r act) = caller_plain e t (replies_plain e tag x t r has act) c
-    caller_acts tag e acted xs t v held has c (Stopped _ _ x ys n act) = c
+    pub caller_acts : (tag : ℕ) (e : EndView) (b : Notes) (xs : List ChunkMeaning) (t : EndView) (m : Notes) (v : Verdict) → ((x : ChunkMeaning) → Has xs x → Has p.chunks x) →
+        has_association e.phase ≡ true → IsCaller s drawn out back e → AllAct tag e b xs t m v → IsCaller s drawn out back t
+    caller_acts tag e b xs t m v held has c (NoneLeft _ _) = c
+    caller_acts tag e b xs t m v held has c (Next _ mid _ y _ _ x ys _ act rest) =
+        let g = caller_goes e x mid (held x (inl refl)) has c (goes_left e tag x y mid act) in
+        caller_acts tag (rested mid) (noted y b) ys t m v (λ z h. held z (inr h)) (rested_has mid g.1) (caller_plain mid (rested mid) (plain_rested mid) g.0) rest
+    caller_acts tag e b xs t m v held has c (Passes _ _ _ _ x ys _ act rest) = caller_acts tag e b ys t m v (λ y h. held y (inr h)) has c rest
+    caller_acts tag e b xs t m v held has c (Last _ _ _ x ys act) = caller_plain e t (ends_plain e tag x t has act) c
+    caller_acts tag e b xs t m v held has c (EndsAnswered _ _ _ x ys r act) = caller_plain e t (replies_plain e tag x t r has act) c
+    caller_acts tag e b xs t m v held has c (Stopped _ _ x ys n act) = c

@@ -1,5 +1,5 @@
 -- The closing, step by step: SHUTDOWN, SHUTDOWN ACK, SHUTDOWN COMPLETE, computed from the definitions.
-use Rattle.std.proofs.Common.{ℕ, ◌⊎◌, true, false, List, [], ◌∷◌, ◌++◌, Option, Some, inl, inr, refl, arith}
+use Rattle.std.proofs.Common.{ℕ, ◌⊎◌, false, List, [], ◌∷◌, ◌++◌, Option, Some, inl, inr, refl, arith}
 use Rattle.sctp_model.specs.numbers.Lists.{Has}
 use Rattle.sctp_model.specs.numbers.Numbers.{u16_bytes, u32_bytes, u16_at, u32_at}
 use Rattle.sctp_model.specs.wire.Typed.{starts_typed, typed_of}
@@ -11,10 +11,10 @@ use Rattle.sctp_model.specs.receiver.ReceiverView.{Reaches, IsCumulative, fresh_
 use Rattle.sctp_model.specs.end.EndView.{Draw, Tags, Established, ShutdownSent, ShutdownAckSent, Completed, EndView, ShutdownAlarm, AckAlarm}
 use Rattle.sctp_model.specs.end.Clock.{started, closed}
 use Rattle.sctp_model.specs.end.Closing.{with_due, rested}
-use Rattle.sctp_model.specs.end.PeerFaults.{packet_to}
+use Rattle.sctp_model.specs.end.PeerFaults.{packet_to, Unnoted}
 use Rattle.sctp_model.specs.end.Acting.{ShutdownCounts, AckCompletes, CompleteCompleted, shutdown_heard}
 use Rattle.sctp_model.specs.end.Strays.{Taken, Answer}
-use Rattle.sctp_model.specs.end.Arriving.{Heard, NoneLeft, Next, Last, EndsAnswered, ReadAs}
+use Rattle.sctp_model.specs.end.Arriving.{Heard, NoneLeft, Next, Last, EndsAnswered, ReadAs, no_notes, noted}
 use Rattle.sctp_model.specs.end.Building.{CookieAckSlot, HeartbeatSlot, ErrorSlot, SackSlot, ForwardSlot, ShutdownSlot, ShutdownAckSlot, SayShutdown, AnswerShutdown, NoMore, NotDue, Put, Fills, sent, packet_of}
 use Rattle.sctp_model.specs.end.UserCalls.{shut}
 use Rattle.sctp_model.specs.world.World.{Side, A, B, World, with_end, with_packet, end_now, came}
@@ -93,8 +93,10 @@ step_11 = BuildsOne A (Says (tsn 200 0)) [] (sent said (Says (tsn 200 0) ∷ [])
 
 step_12 : Step w11 (Deliver A 3) (Some Acted) w12
 unfolding u16_bytes u32_bytes u16_at u32_at starts_typed typed_of
-step_12 = PacketComes (Deliver A 3) B (Some packet_5) (rested heard) Taken (FromBag A 3 packet_5 refl) (ReadAs packet_5 (rested heard) Taken (Heard (rested heard) Taken refl refl refl
-    (Next (end_now w11 B) heard (rested heard) false (Says (tsn 200 0)) [] Taken (ShutdownCounts tags_b Established refl refl refl) (NoneLeft (rested heard) true))))
+step_12 = PacketComes (Deliver A 3) B (Some packet_5) (rested heard) Taken (FromBag A 3 packet_5 refl) (ReadAs packet_5 (rested heard) Taken (Heard (rested heard) (noted Unnoted no_notes) Taken refl refl refl
+    (Next (end_now w11 B) heard (rested heard) Unnoted no_notes (noted Unnoted no_notes) (Says (tsn 200 0)) [] Taken
+    (ShutdownCounts tags_b Established refl refl refl)
+    (NoneLeft (rested heard) (noted Unnoted no_notes)))))
 
 step_13 : Step w12 (Build B) (Some (Sent 3 (size_of_packet (ShutdownAck ∷ [])))) w13
 unfolding u16_bytes u32_bytes u16_at u32_at starts_typed typed_of
@@ -110,13 +112,13 @@ step_13 = BuildsOne B ShutdownAck [] (sent answered (ShutdownAck ∷ [])) (Fills
 
 step_14 : Step w13 (Deliver B 3) (Some (told w13 A (Answer packet_7))) w14
 unfolding u16_bytes u32_bytes u16_at u32_at starts_typed typed_of
-step_14 = PacketComes (Deliver B 3) A (Some packet_6) (closed Completed (end_now w13 A)) (Answer packet_7) (FromBag B 3 packet_6 refl) (ReadAs packet_6 (closed Completed (end_now w13 A)) (Answer packet_7) (Heard (closed Completed (end_now w13 A)) (Answer packet_7) refl refl refl
-    (EndsAnswered (end_now w13 A) (closed Completed (end_now w13 A)) false ShutdownAck [] packet_7 (AckCompletes tags_a ShutdownSent refl refl))))
+step_14 = PacketComes (Deliver B 3) A (Some packet_6) (closed Completed (end_now w13 A)) (Answer packet_7) (FromBag B 3 packet_6 refl) (ReadAs packet_6 (closed Completed (end_now w13 A)) (Answer packet_7) (Heard (closed Completed (end_now w13 A)) no_notes (Answer packet_7) refl refl refl
+    (EndsAnswered (end_now w13 A) (closed Completed (end_now w13 A)) no_notes ShutdownAck [] packet_7 (AckCompletes tags_a ShutdownSent refl refl))))
 
 step_15 : Step w14 (Deliver A 4) (Some Acted) w15
 unfolding u16_bytes u32_bytes u16_at u32_at starts_typed typed_of
-step_15 = PacketComes (Deliver A 4) B (Some packet_7) (closed Completed (end_now w14 B)) Taken (FromBag A 4 packet_7 refl) (ReadAs packet_7 (closed Completed (end_now w14 B)) Taken (Heard (closed Completed (end_now w14 B)) Taken refl refl refl
-    (Last (end_now w14 B) (closed Completed (end_now w14 B)) false (ShutdownComplete false) [] (CompleteCompleted refl))))
+step_15 = PacketComes (Deliver A 4) B (Some packet_7) (closed Completed (end_now w14 B)) Taken (FromBag A 4 packet_7 refl) (ReadAs packet_7 (closed Completed (end_now w14 B)) Taken (Heard (closed Completed (end_now w14 B)) no_notes Taken refl refl refl
+    (Last (end_now w14 B) (closed Completed (end_now w14 B)) no_notes (ShutdownComplete false) [] (CompleteCompleted refl))))
 
 abbrev told_closing : List (Option Outcome)
 told_closing =

@@ -1,5 +1,5 @@
 -- Over every run each end goes along the diagram of states, and keeps what it has agreed on.
-use Rattle.std.proofs.Common.{◌≡◌, ℕ, ◌⊎◌, Bool, true, false, List, drop, inl, inr, refl, sym, subst, ◌∙◌}
+use Rattle.std.proofs.Common.{◌≡◌, ℕ, ◌⊎◌, true, false, List, drop, inl, inr, refl, sym, subst, ◌∙◌}
 use Rattle.sctp_model.specs.wire.Chunk.{ChunkMeaning}
 use Rattle.sctp_model.specs.wire.Packet.{Packet}
 use Rattle.sctp_model.specs.end.Sealing.{Body}
@@ -9,13 +9,14 @@ use Rattle.sctp_model.specs.end.Closing.{rested}
 use Rattle.sctp_model.specs.end.Clock.{at_moment}
 use Rattle.sctp_model.specs.end.Opening.{begun, opened}
 use Rattle.sctp_model.specs.end.Strays.{Verdict}
-use Rattle.sctp_model.specs.end.Arriving.{AllAct, NoneLeft, Next, Last, EndsAnswered, Stopped, Arrives, Elsewhere, NotOurs, Stray, CookieBegins, Heard}
+use Rattle.sctp_model.specs.end.Arriving.{AllAct, NoneLeft, Next, Last, EndsAnswered, Stopped, Arrives, Elsewhere, NotOurs, Stray, CookieBegins, Heard, Notes, no_notes, noted, packet_ended}
 use Rattle.sctp_model.specs.end.Arriving.{Passes}
 use Rattle.sctp_model.specs.end.Moments.{ticked}
 use Rattle.sctp_model.specs.end.UserCalls.{called}
+use Rattle.sctp_model.specs.end.PeerFaults.{Unnoted}
 use Rattle.sctp_safety.specs.States.{IsTurn, ByCall, ByInitAck, ByCookieAck, ByCookie, ByPair, ByStage, ByEnd, IsPath, Here, On, has_begun, has_agreed, IsLaterEnd}
 use Rattle.sctp_safety.proofs.machine.Strangers.{found_is}
-use Rattle.sctp_safety.proofs.machine.Turns.{IsPlainTurn, Stays, Leaves, Goes, IsPlain, path_on, one_turn, begun_by_association, plain_rested, rested_has, IsLeft, Plainly, Accepts, Acked, goes_left, ends_plain, replies_plain}
+use Rattle.sctp_safety.proofs.machine.Turns.{IsPlainTurn, Stays, Leaves, Goes, IsPlain, path_on, one_turn, begun_by_association, plain_rested, rested_has, IsLeft, Plainly, Accepts, Acked, goes_left, ends_plain, replies_plain, plain_ended}
 use Rattle.sctp_safety.proofs.machine.TurnsOfTime.{plain_ticked}
 
 -- ---- later, and later again
@@ -135,16 +136,19 @@ left_has e x t (Plainly _ p keeps) has = keeps has
 left_has e x t (Accepts m d cookie q is value) has = refl
 left_has e x t (Acked u cookie _ q is configuration role moment terms phase) has = subst (λ (k : Phase). has_association k ≡ true) (sym phase) refl
 
-pub acts_later : (tag : ℕ) (e : EndView) (b : Bool) (xs : List ChunkMeaning) (t : EndView) (v : Verdict) → has_association e.phase ≡ true → AllAct tag e b xs t v → IsLaterEnd e t
-acts_later tag e b xs t v has (NoneLeft _ _) = later_same e
-acts_later tag e b xs t v has (Next _ mid _ _ x ys _ act rest) =
-    let l = goes_left e tag x mid act in
+pub acts_later : (tag : ℕ) (e : EndView) (b : Notes) (xs : List ChunkMeaning) (t : EndView) (m : Notes) (v : Verdict) → has_association e.phase ≡ true → AllAct tag e b xs t m v → IsLaterEnd e t
+acts_later tag e b xs t m v has (NoneLeft _ _) = later_same e
+acts_later tag e b xs t m v has (Next _ mid _ y _ _ x ys _ act rest) =
+    let l = goes_left e tag x y mid act in
     later_on e (rested mid) t (later_on e mid (rested mid) (left_later e x mid l) (plain_later mid (rested mid) (plain_rested mid)))
-    (acts_later tag (rested mid) true ys t v (rested_has mid (left_has e x mid l has)) rest)
-acts_later tag e b xs t v has (Passes _ _ _ x ys _ act rest) = acts_later tag e b ys t v has rest
-acts_later tag e b xs t v has (Last _ _ _ x ys act) = plain_later e t (ends_plain e tag x t has act)
-acts_later tag e b xs t v has (EndsAnswered _ _ _ x ys p act) = plain_later e t (replies_plain e tag x t p has act)
-acts_later tag e b xs t v has (Stopped _ _ x ys n act) = later_same e
+    (acts_later tag (rested mid) (noted y b) ys t m v (rested_has mid (left_has e x mid l has)) rest)
+acts_later tag e b xs t m v has (Passes _ _ _ _ x ys _ act rest) = acts_later tag e b ys t m v has rest
+acts_later tag e b xs t m v has (Last _ _ _ x ys act) = plain_later e t (ends_plain e tag x t has act)
+acts_later tag e b xs t m v has (EndsAnswered _ _ _ x ys p act) = plain_later e t (replies_plain e tag x t p has act)
+acts_later tag e b xs t m v has (Stopped _ _ x ys n act) = later_same e
+
+pub later_ended : (e t : EndView) (n : Notes) → IsLaterEnd e t → IsLaterEnd e (packet_ended n t)
+later_ended e t n l = later_on e t (packet_ended n t) l (plain_later t (packet_ended n t) (plain_ended n t))
 
 begun_later : (b : Body) (e : EndView) → e.phase ≡ Listening → IsLaterEnd e (begun b e)
 begun_later b e is = record {
@@ -159,7 +163,7 @@ pub arrives_later : (e : EndView) (d : Draw) (p : Packet) (t : EndView) (v : Ver
 arrives_later e d p t v (Elsewhere ports) = later_same e
 arrives_later e d p t v (NotOurs ports passes) = later_same e
 arrives_later e d p t v (Stray ports passes none closed) = later_same e
-arrives_later e d p t v (CookieBegins b _ _ ports passes none opens acts) =
+arrives_later e d p t v (CookieBegins b u n _ ports passes none opens acts) =
     let f = found_is e p.tag p.chunks b opens in
-    later_on e (begun b e) t (begun_later b e f.phase) (acts_later p.tag (begun b e) true (drop 1 p.chunks) t v refl acts)
-arrives_later e d p t v (Heard _ _ ports passes has acts) = acts_later p.tag e false p.chunks t v has acts
+    later_ended e u n (later_on e (begun b e) u (begun_later b e f.phase) (acts_later p.tag (begun b e) (noted Unnoted no_notes) (drop 1 p.chunks) u n v refl acts))
+arrives_later e d p t v (Heard u n _ ports passes has acts) = later_ended e u n (acts_later p.tag e no_notes p.chunks u n v has acts)

@@ -4,12 +4,12 @@ use Rattle.sctp_model.specs.numbers.Lists.{Has}
 use Rattle.sctp_model.specs.wire.Chunk.{ChunkMeaning}
 use Rattle.sctp_model.specs.wire.Packet.{Packet}
 use Rattle.sctp_model.specs.sender.Readers.{drained}
-use Rattle.sctp_model.specs.end.EndView.{Tags, Established, ShutdownPending, ShutdownSent, ShutdownReceived, ShutdownAckSent, Phase, Idle, Listening, Calling, Echoing, Open, Over, EndView}
+use Rattle.sctp_model.specs.end.EndView.{Tags, Established, ShutdownPending, ShutdownSent, ShutdownReceived, ShutdownAckSent, Phase, Idle, Listening, Calling, Echoing, Open, Over, EndView, Stage}
 use Rattle.sctp_model.specs.end.Closing.{says_shutdown, answers_shutdown, rested_in, rested}
-use Rattle.sctp_model.specs.end.PeerFaults.{GoesOn, Ends, Replies}
+use Rattle.sctp_model.specs.end.PeerFaults.{GoesOn, Ends, Replies, Note}
 use Rattle.sctp_model.specs.end.Acting.{Acts}
 use Rattle.sctp_model.specs.end.Strays.{Verdict, Taken, Dropped, Answer}
-use Rattle.sctp_model.specs.end.Arriving.{AllAct, NoneLeft, Next, Passes, Last, EndsAnswered, Stopped}
+use Rattle.sctp_model.specs.end.Arriving.{AllAct, NoneLeft, Next, Passes, Last, EndsAnswered, Stopped, verdict_of, Notes, noted, acknowledges, acknowledges_in, packet_ended}
 
 -- ---- an end at rest
 
@@ -40,20 +40,38 @@ OfAnswer R Taken = Unit {0}
 OfAnswer R (Dropped n) = Unit {0}
 OfAnswer R (Answer p) = R p
 
+-- a packet whose chunks all acted isn't answered
+by_listed : (R : Packet → Type 0) (b : Bool) → OfAnswer R (verdict_of b)
+by_listed R true = tt
+by_listed R false = tt
+
 -- What each chunk of these keeps of an end: where the packet goes on, ends, or is answered.
 pub record Keeps (tag : ℕ) (P : EndView → Type 0) (Q : ChunkMeaning → Type 0) (R : Packet → Type 0) : Type 0 where
-  pub goes : (e : EndView) (x : ChunkMeaning) (t : EndView) → Q x → P e → Acts e tag x (GoesOn t) → P (rested t)
+  pub goes : (e : EndView) (x : ChunkMeaning) (y : Note) (t : EndView) → Q x → P e → Acts e tag x (GoesOn y t) → P (rested t)
   pub ends : (e : EndView) (x : ChunkMeaning) (t : EndView) → Q x → P e → Acts e tag x (Ends t) → P t
   pub replies : (e : EndView) (x : ChunkMeaning) (t : EndView) (p : Packet) → Q x → P e → Acts e tag x (Replies t p) → P t × R p
 
 pub all_act_keeps : (tag : ℕ) (P : EndView → Type 0) (Q : ChunkMeaning → Type 0) (R : Packet → Type 0) → Keeps tag P Q R →
-    (e : EndView) (b : Bool) (xs : List ChunkMeaning) (t : EndView) (v : Verdict) → ((x : ChunkMeaning) → Has xs x → Q x) → P e → AllAct tag e b xs t v → P t × OfAnswer R v
-all_act_keeps tag P Q R k e b xs t v q p (NoneLeft _ true) = (p, tt)
-all_act_keeps tag P Q R k e b xs t v q p (NoneLeft _ false) = (p, tt)
-all_act_keeps tag P Q R k e b xs t v q p (Next _ mid _ _ x ys _ act rest) =
-    all_act_keeps tag P Q R k (rested mid) true ys t v (λ y h. q y (inr h)) (k.goes e x mid (q x (inl refl)) p act) rest
-all_act_keeps tag P Q R k e b xs t v q p (Passes _ _ _ x ys _ act rest) =
-    all_act_keeps tag P Q R k e b ys t v (λ y h. q y (inr h)) p rest
-all_act_keeps tag P Q R k e b xs t v q p (Last _ _ _ x ys act) = (k.ends e x t (q x (inl refl)) p act, tt)
-all_act_keeps tag P Q R k e b xs t v q p (EndsAnswered _ _ _ x ys r act) = k.replies e x t r (q x (inl refl)) p act
-all_act_keeps tag P Q R k e b xs t v q p (Stopped _ _ x ys n act) = (p, tt)
+    (e : EndView) (b : Notes) (xs : List ChunkMeaning) (t : EndView) (m : Notes) (v : Verdict) → ((x : ChunkMeaning) → Has xs x → Q x) → P e → AllAct tag e b xs t m v → P t × OfAnswer R v
+all_act_keeps tag P Q R k e b xs t m v q p (NoneLeft _ _) = (p, by_listed R b.listed)
+all_act_keeps tag P Q R k e b xs t m v q p (Next _ mid _ y _ _ x ys _ act rest) =
+    all_act_keeps tag P Q R k (rested mid) (noted y b) ys t m v (λ z h. q z (inr h)) (k.goes e x y mid (q x (inl refl)) p act) rest
+all_act_keeps tag P Q R k e b xs t m v q p (Passes _ _ _ _ x ys _ act rest) =
+    all_act_keeps tag P Q R k e b ys t m v (λ z h. q z (inr h)) p rest
+all_act_keeps tag P Q R k e b xs t m v q p (Last _ _ _ x ys act) = (k.ends e x t (q x (inl refl)) p act, tt)
+all_act_keeps tag P Q R k e b xs t m v q p (EndsAnswered _ _ _ x ys r act) = k.replies e x t r (q x (inl refl)) p act
+all_act_keeps tag P Q R k e b xs t m v q p (Stopped _ _ x ys n act) = (p, tt)
+
+-- ---- the end of a packet
+
+pub ended_cases : (P : EndView → Type 0) (n : Notes) (e : EndView) → P e → ((t : Tags) (g : Stage) → e.phase ≡ Open t g → P (acknowledges g e)) → P (packet_ended n e)
+ended_cases P n e same open_end = go n.acknowledges e.phase refl
+  where
+    go : (b : Bool) (h : Phase) → e.phase ≡ h → P (acknowledges_in b h e)
+    go false h is = same
+    go true Idle is = same
+    go true Listening is = same
+    go true (Calling d) is = same
+    go true (Echoing t xs) is = same
+    go true (Open t g) is = open_end t g is
+    go true (Over why) is = same

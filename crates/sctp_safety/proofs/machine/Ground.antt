@@ -1,5 +1,5 @@
 -- What holds in every world of a run, before anything is said of the opening: how the ends are set up, their seal, their moments, the draw.
-use Rattle.std.proofs.Common.{◌≡◌, ℕ, ◌^◌, ◌<◌, max, Bool, true, false, List, [], ◌∷◌, map, Option, Some, None, inl, refl, sym, subst, arith, ◌∙◌}
+use Rattle.std.proofs.Common.{◌≡◌, ℕ, ◌^◌, ◌<◌, max, true, List, [], ◌∷◌, map, Option, Some, None, inl, refl, sym, subst, arith, ◌∙◌}
 use Rattle.sctp_model.specs.numbers.Lists.{Has}
 use Rattle.sctp_model.specs.wire.Chunk.{ChunkMeaning}
 use Rattle.sctp_model.specs.wire.Packet.{Packet}
@@ -8,17 +8,18 @@ use Rattle.sctp_model.specs.end.EndView.{Draw, Listener, EndView, has_associatio
 use Rattle.sctp_model.specs.end.Clock.{at_moment}
 use Rattle.sctp_model.specs.end.Closing.{rested}
 use Rattle.sctp_model.specs.end.Strays.{Verdict}
-use Rattle.sctp_model.specs.end.Arriving.{AllAct, NoneLeft, Next, Last, EndsAnswered, Stopped, Arrives, Elsewhere, NotOurs, Stray, CookieBegins, Heard, DroppedUnread, ReadAs, CutFirst, CutLater}
+use Rattle.sctp_model.specs.end.Arriving.{AllAct, NoneLeft, Next, Last, EndsAnswered, Stopped, Arrives, Elsewhere, NotOurs, Stray, CookieBegins, Heard, DroppedUnread, ReadAs, CutFirst, CutLater, Notes, no_notes, noted, packet_ended}
 use Rattle.sctp_model.specs.end.Arriving.{Passes}
 use Rattle.sctp_model.specs.end.Moments.{ticked}
 use Rattle.sctp_model.specs.end.Opening.{begun, opened}
 use Rattle.sctp_model.specs.end.UserCalls.{called, send_answer, shut, abort_answer, abort_leaves}
+use Rattle.sctp_model.specs.end.PeerFaults.{Unnoted}
 use Rattle.sctp_model.specs.world.World.{Side, A, B, World, end_of, end_now, Setup, configuration_of}
 use Rattle.sctp_model.specs.world.Events.{Event, Foreign, Outcome}
 use Rattle.sctp_model.specs.world.Steps.{Step, OpensBoth, OpenRefused, TimePasses, Draws, Connects, ConnectRefused, BuildsOne, BuildsNone, PacketComes, IsAbsent, Sends, AbandonsOne, TakesOne, ShutsDown, AbortsIt, NoMemory, PacketCut}
 use Rattle.sctp_model.specs.world.Premises.{draws_of, IsStranger}
 use Rattle.sctp_safety.proofs.machine.Sides.{IsSameEnd, same_end, same_on, same_rested, goes_same, ends_same}
-use Rattle.sctp_safety.proofs.machine.Turns.{IsPlain, rested_has, builds_plain, replies_plain, goes_left}
+use Rattle.sctp_safety.proofs.machine.Turns.{IsPlain, rested_has, builds_plain, replies_plain, goes_left, plain_ended}
 use Rattle.sctp_safety.proofs.machine.TurnsOfTime.{plain_ticked, plain_sent, plain_abandoned, plain_taken, plain_shut, plain_aborted}
 use Rattle.sctp_safety.proofs.machine.Diagram.{left_has}
 use Rattle.sctp_safety.proofs.machine.OneEnd.{IsAt, at_end, at_log, at_packet, at_came, at_verdict, at_abort, answer_of, abort_of, both_ends}
@@ -35,23 +36,26 @@ pub record IsFine (s : Setup) (drawn : List ℕ) (e : Event) : Type 0 where
 plain_is_same : (e t : EndView) → IsPlain e t → IsSameEnd e t
 plain_is_same e t p = record { configuration = p.configuration; role = p.role; moment = p.moment }
 
-acts_same : (tag : ℕ) (e : EndView) (b : Bool) (xs : List ChunkMeaning) (t : EndView) (v : Verdict) → has_association e.phase ≡ true → AllAct tag e b xs t v → IsSameEnd e t
-acts_same tag e b xs t v has (NoneLeft _ _) = same_end e
-acts_same tag e b xs t v has (Next _ mid _ _ x ys _ act rest) =
-    same_on e (rested mid) t (same_on e mid (rested mid) (goes_same e tag x mid act) (same_rested mid))
-    (acts_same tag (rested mid) true ys t v (rested_has mid (left_has e x mid (goes_left e tag x mid act) has)) rest)
-acts_same tag e b xs t v has (Passes _ _ _ x ys _ act rest) = acts_same tag e b ys t v has rest
-acts_same tag e b xs t v has (Last _ _ _ x ys act) = ends_same e tag x t act
-acts_same tag e b xs t v has (EndsAnswered _ _ _ x ys p act) = plain_is_same e t (replies_plain e tag x t p has act)
-acts_same tag e b xs t v has (Stopped _ _ x ys n act) = same_end e
+acts_same : (tag : ℕ) (e : EndView) (b : Notes) (xs : List ChunkMeaning) (t : EndView) (m : Notes) (v : Verdict) → has_association e.phase ≡ true → AllAct tag e b xs t m v → IsSameEnd e t
+acts_same tag e b xs t m v has (NoneLeft _ _) = same_end e
+acts_same tag e b xs t m v has (Next _ mid _ y _ _ x ys _ act rest) =
+    same_on e (rested mid) t (same_on e mid (rested mid) (goes_same e tag x y mid act) (same_rested mid))
+    (acts_same tag (rested mid) (noted y b) ys t m v (rested_has mid (left_has e x mid (goes_left e tag x y mid act) has)) rest)
+acts_same tag e b xs t m v has (Passes _ _ _ _ x ys _ act rest) = acts_same tag e b ys t m v has rest
+acts_same tag e b xs t m v has (Last _ _ _ x ys act) = ends_same e tag x t act
+acts_same tag e b xs t m v has (EndsAnswered _ _ _ x ys p act) = plain_is_same e t (replies_plain e tag x t p has act)
+acts_same tag e b xs t m v has (Stopped _ _ x ys n act) = same_end e
+
+same_ended : (e t : EndView) (n : Notes) → IsSameEnd e t → IsSameEnd e (packet_ended n t)
+same_ended e t n k = same_on e t (packet_ended n t) k (plain_is_same t (packet_ended n t) (plain_ended n t))
 
 pub arrives_same : (e : EndView) (d : Draw) (p : Packet) (t : EndView) (v : Verdict) → Arrives e d p t v → IsSameEnd e t
 arrives_same e d p t v (Elsewhere ports) = same_end e
 arrives_same e d p t v (NotOurs ports tag) = same_end e
 arrives_same e d p t v (Stray ports tag none closed) = same_end e
-arrives_same e d p t v (CookieBegins b _ _ ports tag none opens acts) =
-    same_on e (begun b e) t (record { configuration = refl; role = refl; moment = refl }) (acts_same p.tag (begun b e) true _ t v refl acts)
-arrives_same e d p t v (Heard _ _ ports tag has acts) = acts_same p.tag e false p.chunks t v has acts
+arrives_same e d p t v (CookieBegins b u n _ ports tag none opens acts) =
+    same_ended e u n (same_on e (begun b e) u (record { configuration = refl; role = refl; moment = refl }) (acts_same p.tag (begun b e) (noted Unnoted no_notes) _ u n v refl acts))
+arrives_same e d p t v (Heard u n _ ports tag has acts) = same_ended e u n (acts_same p.tag e no_notes p.chunks u n v has acts)
 
 -- ---- an end
 

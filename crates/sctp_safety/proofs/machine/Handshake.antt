@@ -1,5 +1,5 @@
 -- The opening, step by step: INIT, INIT ACK, COOKIE ECHO, COOKIE ACK, computed from the definitions.
-use Rattle.std.proofs.Common.{◌<◌, true, false, [], ◌∷◌, Some, inl, inr, refl, arith}
+use Rattle.std.proofs.Common.{◌<◌, false, [], ◌∷◌, Some, inl, inr, refl, arith}
 use Rattle.sctp_model.specs.numbers.Lists.{Has}
 use Rattle.sctp_model.specs.numbers.Numbers.{u16_bytes, u32_bytes, u16_at, u32_at}
 use Rattle.sctp_model.specs.wire.Typed.{starts_typed, typed_of}
@@ -11,7 +11,8 @@ use Rattle.sctp_model.specs.end.Closing.{with_due}
 use Rattle.sctp_model.specs.end.Configured.{IsConfiguration}
 use Rattle.sctp_model.specs.end.Opening.{body_for, AcceptedAck, CookieAcked}
 use Rattle.sctp_model.specs.end.Strays.{Taken, stray_verdict}
-use Rattle.sctp_model.specs.end.Arriving.{Stray, CookieBegins, Heard, NoneLeft, Next, ReadAs}
+use Rattle.sctp_model.specs.end.PeerFaults.{Unnoted}
+use Rattle.sctp_model.specs.end.Arriving.{Stray, CookieBegins, Heard, NoneLeft, Next, ReadAs, no_notes, noted}
 use Rattle.sctp_model.specs.end.Building.{EchoSlot, CookieAckSlot, HeartbeatSlot, ErrorSlot, SackSlot, ForwardSlot, ShutdownSlot, ShutdownAckSlot, EchoCookie, AckCookie, NoMore, NotDue, Put, Calls, Echoes, Fills, sent}
 use Rattle.sctp_model.specs.world.World.{Side, A, B, end_now, configuration_of}
 use Rattle.sctp_model.specs.world.Events.{told, OpenBoth, Drawing, Connect, Build, Deliver, Foreign, Done, Sent, Acted}
@@ -40,8 +41,10 @@ step_4 = PacketComes (Deliver A 1) B (Some packet_1) (end_now w3 B) (stray_verdi
 
 step_5 : Step w4 (Deliver B 1) (Some Acted) w5
 unfolding u16_bytes u32_bytes u16_at u32_at starts_typed typed_of
-step_5 = PacketComes (Deliver B 1) A (Some packet_2) echoes Taken (FromBag B 1 packet_2 refl) (ReadAs packet_2 echoes Taken (Heard echoes Taken refl refl refl
-    (Next (end_now w4 A) echoes echoes false (InitAck ack_meaning) [] Taken (AcceptedAck of_a cookie refl some refl refl) (NoneLeft echoes true))))
+step_5 = PacketComes (Deliver B 1) A (Some packet_2) echoes Taken (FromBag B 1 packet_2 refl) (ReadAs packet_2 echoes Taken (Heard echoes (noted Unnoted no_notes) Taken refl refl refl
+    (Next (end_now w4 A) echoes echoes Unnoted no_notes (noted Unnoted no_notes) (InitAck ack_meaning) [] Taken
+    (AcceptedAck of_a cookie refl some refl refl)
+    (NoneLeft echoes (noted Unnoted no_notes)))))
   where
     some : 0 < 9
     some = omega arith
@@ -54,7 +57,7 @@ step_6 = BuildsOne A (CookieEcho cookie) [] echoed (Echoes tags_a cookie (Cookie
 
 step_7 : Step w6 (Deliver A 2) (Some Acted) w7
 unfolding u16_bytes u32_bytes u16_at u32_at starts_typed typed_of
-step_7 = PacketComes (Deliver A 2) B (Some packet_3) begins Taken (FromBag A 2 packet_3 refl) (ReadAs packet_3 begins Taken (CookieBegins (body_for (end_now w3 B) of_b init_meaning) begins Taken refl refl refl refl (NoneLeft begins true)))
+step_7 = PacketComes (Deliver A 2) B (Some packet_3) begins Taken (FromBag A 2 packet_3 refl) (ReadAs packet_3 begins Taken (CookieBegins (body_for (end_now w3 B) of_b init_meaning) begins (noted Unnoted no_notes) Taken refl refl refl refl (NoneLeft begins (noted Unnoted no_notes))))
 
 step_8 : Step w7 (Build B) (Some (Sent 2 (size_of_packet (CookieAck ∷ [])))) w8
 unfolding u16_bytes u32_bytes u16_at u32_at starts_typed typed_of
@@ -71,8 +74,10 @@ step_9 : Step w8 (Deliver B 2) (Some Acted) w9
 unfolding u16_bytes u32_bytes u16_at u32_at starts_typed typed_of
 step_9 =
     let t = turned (Open tags_a Established) (end_now w8 A) in
-    PacketComes (Deliver B 2) A (Some packet_4) t Taken (FromBag B 2 packet_4 refl) (ReadAs packet_4 t Taken (Heard t Taken refl refl refl
-    (Next (end_now w8 A) t t false CookieAck [] Taken (CookieAcked tags_a cookie refl) (NoneLeft t true))))
+    PacketComes (Deliver B 2) A (Some packet_4) t Taken (FromBag B 2 packet_4 refl) (ReadAs packet_4 t Taken (Heard t (noted Unnoted no_notes) Taken refl refl refl
+    (Next (end_now w8 A) t t Unnoted no_notes (noted Unnoted no_notes) CookieAck [] Taken
+    (CookieAcked tags_a cookie refl)
+    (NoneLeft t (noted Unnoted no_notes)))))
 
 pub run : Run w0 opening answers w9
 run =

@@ -7,7 +7,7 @@ use Rattle.sctp_model.specs.end.EndView.{Aborted, EndView}
 use Rattle.sctp_model.specs.end.Clock.{closed}
 use Rattle.sctp_model.specs.end.Reports.{with_causes}
 use Rattle.sctp_model.specs.end.Closing.{rested}
-use Rattle.sctp_model.specs.end.PeerFaults.{GoesOn, Ends, Replies}
+use Rattle.sctp_model.specs.end.PeerFaults.{GoesOn, Ends, Replies, Note}
 use Rattle.sctp_model.specs.end.Opening.{AcceptedAck, EchoedAgain, CookieAcked}
 use Rattle.sctp_model.specs.end.Acting.{Acts, ForwardComes, PieceComes, IsOld, SackStale, ShutdownStale, HeartbeatCounts, SackCounts, ShutdownCounts, Closes, SaysNothing, Crosses, Again, CompleteCompleted, unknown_causes, unknown_leaves}
 use Rattle.sctp_safety.proofs.machine.EndWords.{rested_cases}
@@ -33,10 +33,10 @@ same_rested e = rested_cases (IsSameEnd e) e (same_end e)
 pub record IsUnknownLeft (e : EndView) (k f : ℕ) (v : List ℕ) (t : EndView) : Type 0 where
   pub same : t ≡ with_causes (unknown_causes e k f v) e
 
-pub unknown_goes : (e t : EndView) (k f : ℕ) (v : List ℕ) → GoesOn t ≡ unknown_leaves (chunk_rule k).stop (with_causes (unknown_causes e k f v) e) → IsUnknownLeft e k f v t
-unknown_goes e t k f v h = go (chunk_rule k).stop h
+pub unknown_goes : (e : EndView) (y : Note) (t : EndView) (k f : ℕ) (v : List ℕ) → GoesOn y t ≡ unknown_leaves (chunk_rule k).stop (with_causes (unknown_causes e k f v) e) → IsUnknownLeft e k f v t
+unknown_goes e y t k f v h = go (chunk_rule k).stop h
   where
-    go : (b : Bool) → GoesOn t ≡ unknown_leaves b (with_causes (unknown_causes e k f v) e) → IsUnknownLeft e k f v t
+    go : (b : Bool) → GoesOn y t ≡ unknown_leaves b (with_causes (unknown_causes e k f v) e) → IsUnknownLeft e k f v t
     go true q = absurd (cc)
     go false q = record { same = cc }
 
@@ -56,30 +56,30 @@ unknown_never_replies e t p k f v h = go (chunk_rule k).stop h
 
 -- ---- every chunk
 
-pub goes_same : (e : EndView) (tag : ℕ) (x : ChunkMeaning) (t : EndView) → Acts e tag x (GoesOn t) → IsSameEnd e t
-goes_same e tag (Data p) t (PieceComes _ _ _ _ _ _ _ _ _) = record { configuration = refl; role = refl; moment = refl }
-goes_same e tag (IData p) t (PieceComes _ _ _ _ _ _ _ _ _) = record { configuration = refl; role = refl; moment = refl }
-goes_same e tag (Init m) t h = absurd (cc)
-goes_same e tag (InitAck m) t (AcceptedAck _ _ _ _ _ _) = record { configuration = refl; role = refl; moment = refl }
-goes_same e tag (Sack s) t (SackStale _ _) = same_end e
-goes_same e tag (Sack s) t (SackCounts _ _) = record { configuration = refl; role = refl; moment = refl }
-goes_same e tag (Heartbeat i) t (HeartbeatCounts _) = record { configuration = refl; role = refl; moment = refl }
-goes_same e tag (HeartbeatAck i) t h = let q : t ≡ e = cc in subst (IsSameEnd e) (sym q) (same_end e)
-goes_same e tag (Abort b xs) t h = absurd (cc)
-goes_same e tag (Shutdown n) t (ShutdownStale _ _ _ _ _) = record { configuration = refl; role = refl; moment = refl }
-goes_same e tag (Shutdown n) t (ShutdownCounts _ _ _ _ _) = record { configuration = refl; role = refl; moment = refl }
-goes_same e tag (Shutdown n) t (Crosses _ _) = record { configuration = refl; role = refl; moment = refl }
-goes_same e tag (Shutdown n) t (Again _ _) = record { configuration = refl; role = refl; moment = refl }
-goes_same e tag ShutdownAck t h = elim h [ ]
-goes_same e tag (Error xs) t (SaysNothing _) = same_end e
-goes_same e tag (CookieEcho xs) t (EchoedAgain _ _ _ _ _ _ _) = record { configuration = refl; role = refl; moment = refl }
-goes_same e tag CookieAck t (CookieAcked _ _ _) = record { configuration = refl; role = refl; moment = refl }
-goes_same e tag (ShutdownComplete b) t h = elim h [ ]
-goes_same e tag (ForwardTsn m) t (IsOld _ _ _ _ _ _ _) = record { configuration = refl; role = refl; moment = refl }
-goes_same e tag (ForwardTsn m) t (ForwardComes _ _ _ _ _ _ _) = record { configuration = refl; role = refl; moment = refl }
-goes_same e tag (IForwardTsn m) t (IsOld _ _ _ _ _ _ _) = record { configuration = refl; role = refl; moment = refl }
-goes_same e tag (IForwardTsn m) t (ForwardComes _ _ _ _ _ _ _) = record { configuration = refl; role = refl; moment = refl }
-goes_same e tag (Unknown k f v) t h = let u = unknown_goes e t k f v h in subst (IsSameEnd e) (sym u.same) (record { configuration = refl; role = refl; moment = refl })
+pub goes_same : (e : EndView) (tag : ℕ) (x : ChunkMeaning) (y : Note) (t : EndView) → Acts e tag x (GoesOn y t) → IsSameEnd e t
+goes_same e tag (Data p) y t (PieceComes _ _ _ _ _ _ _ _ _) = record { configuration = refl; role = refl; moment = refl }
+goes_same e tag (IData p) y t (PieceComes _ _ _ _ _ _ _ _ _) = record { configuration = refl; role = refl; moment = refl }
+goes_same e tag (Init m) y t h = absurd (cc)
+goes_same e tag (InitAck m) y t (AcceptedAck _ _ _ _ _ _) = record { configuration = refl; role = refl; moment = refl }
+goes_same e tag (Sack s) y t (SackStale _ _) = same_end e
+goes_same e tag (Sack s) y t (SackCounts _ _) = record { configuration = refl; role = refl; moment = refl }
+goes_same e tag (Heartbeat i) y t (HeartbeatCounts _) = record { configuration = refl; role = refl; moment = refl }
+goes_same e tag (HeartbeatAck i) y t h = let q : t ≡ e = cc in subst (IsSameEnd e) (sym q) (same_end e)
+goes_same e tag (Abort b xs) y t h = absurd (cc)
+goes_same e tag (Shutdown n) y t (ShutdownStale _ _ _ _ _) = record { configuration = refl; role = refl; moment = refl }
+goes_same e tag (Shutdown n) y t (ShutdownCounts _ _ _ _ _) = record { configuration = refl; role = refl; moment = refl }
+goes_same e tag (Shutdown n) y t (Crosses _ _) = record { configuration = refl; role = refl; moment = refl }
+goes_same e tag (Shutdown n) y t (Again _ _) = record { configuration = refl; role = refl; moment = refl }
+goes_same e tag ShutdownAck y t h = elim h [ ]
+goes_same e tag (Error xs) y t (SaysNothing _) = same_end e
+goes_same e tag (CookieEcho xs) y t (EchoedAgain _ _ _ _ _ _ _) = record { configuration = refl; role = refl; moment = refl }
+goes_same e tag CookieAck y t (CookieAcked _ _ _) = record { configuration = refl; role = refl; moment = refl }
+goes_same e tag (ShutdownComplete b) y t h = elim h [ ]
+goes_same e tag (ForwardTsn m) y t (IsOld _ _ _ _ _ _ _) = record { configuration = refl; role = refl; moment = refl }
+goes_same e tag (ForwardTsn m) y t (ForwardComes _ _ _ _ _ _ _) = record { configuration = refl; role = refl; moment = refl }
+goes_same e tag (IForwardTsn m) y t (IsOld _ _ _ _ _ _ _) = record { configuration = refl; role = refl; moment = refl }
+goes_same e tag (IForwardTsn m) y t (ForwardComes _ _ _ _ _ _ _) = record { configuration = refl; role = refl; moment = refl }
+goes_same e tag (Unknown k f v) y t h = let u = unknown_goes e y t k f v h in subst (IsSameEnd e) (sym u.same) (record { configuration = refl; role = refl; moment = refl })
 
 pub ends_same : (e : EndView) (tag : ℕ) (x : ChunkMeaning) (t : EndView) → Acts e tag x (Ends t) → IsSameEnd e t
 ends_same e tag (Data p) t h = elim h [ ]

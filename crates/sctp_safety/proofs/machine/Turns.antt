@@ -4,7 +4,7 @@ use Rattle.sctp_model.specs.wire.Chunk.{InitMeaning, ChunkMeaning, Data, IData, 
 use Rattle.sctp_model.specs.end.EndView.{AbortedHere, Draw, Tags, Stage, Established, ShutdownPending, ShutdownSent, ShutdownReceived, ShutdownAckSent, Ended, Aborted, Completed, StaleCookie, Phase, Idle, Listening, Calling, Echoing, Open, Over, EndView, has_association}
 use Rattle.sctp_model.specs.end.Clock.{closed}
 use Rattle.sctp_model.specs.end.Closing.{rested}
-use Rattle.sctp_model.specs.end.PeerFaults.{GoesOn, Ends}
+use Rattle.sctp_model.specs.end.PeerFaults.{GoesOn, Ends, Note}
 use Rattle.sctp_model.specs.end.Options.{STATE_COOKIE, value_of}
 use Rattle.sctp_model.specs.end.Opening.{AcceptedAck, EchoedAgain, CookieAcked, echoing}
 use Rattle.sctp_model.specs.end.Acting.{IsBad, WrongKind, SackWrong, ShutdownWrong, WrongFormat, PieceEmpty, Acts, ForwardComes, PieceComes, IsOld, SackStale, ShutdownStale, HeartbeatCounts, SackCounts, ShutdownCounts, Closes, SaysNothing, Crosses, Again, AckCompletes, CompleteCompleted}
@@ -14,8 +14,9 @@ use Rattle.sctp_model.specs.end.Closing.{takes_acknowledgements}
 use Rattle.sctp_model.specs.wire.Packet.{Packet}
 use Rattle.sctp_model.specs.end.PeerFaults.{Replies}
 use Rattle.sctp_model.specs.end.Opening.{RefusedAck}
+use Rattle.sctp_model.specs.end.Arriving.{Notes, packet_ended}
 use Rattle.sctp_safety.specs.States.{IsStageTurn, Says, PeerShuts, BothShut, Cross, Answers, IsTurn, ByStage, IsPath, Here, On, has_begun}
-use Rattle.sctp_safety.proofs.machine.EndWords.{rested_cases}
+use Rattle.sctp_safety.proofs.machine.EndWords.{rested_cases, ended_cases}
 use Rattle.sctp_safety.proofs.machine.Sides.{unknown_never_replies, unknown_goes, unknown_ends}
 
 -- ---- plain turns
@@ -106,30 +107,30 @@ pub data IsLeft (e : EndView) (x : ChunkMeaning) : EndView → Type 0 where
 still : (e : EndView) (x : ChunkMeaning) (t : EndView) → t.configuration ≡ e.configuration → t.role ≡ e.role → t.moment ≡ e.moment → t.terms ≡ e.terms → e.phase ≡ t.phase → IsLeft e x t
 still e x t a b n c p = Plainly t (record { configuration = a; role = b; moment = n; terms = c; turn = subst (IsPlainTurn e.phase) p (Stays e.phase) }) (λ h. subst (λ (k : Phase). has_association k ≡ true) p h)
 
-pub goes_left : (e : EndView) (tag : ℕ) (x : ChunkMeaning) (t : EndView) → Acts e tag x (GoesOn t) → IsLeft e x t
-goes_left e tag (Data p) t (PieceComes _ _ _ _ _ _ _ _ _) = still e _ t refl refl refl refl refl
-goes_left e tag (IData p) t (PieceComes _ _ _ _ _ _ _ _ _) = still e _ t refl refl refl refl refl
-goes_left e tag (Init m) t h = absurd (cc)
-goes_left e tag (InitAck m) t (AcceptedAck d cookie is tagged value fault) = Accepts m d cookie refl is value
-goes_left e tag (Sack s) t (SackStale _ _) = still e _ t refl refl refl refl refl
-goes_left e tag (Sack s) t (SackCounts _ _) = still e _ t refl refl refl refl refl
-goes_left e tag (Heartbeat i) t (HeartbeatCounts _) = still e _ t refl refl refl refl refl
-goes_left e tag (HeartbeatAck i) t h = let q : t ≡ e = cc in Plainly t (subst (IsPlain e) (sym q) (plain_same e)) (λ has. subst (λ (y : EndView). has_association y.phase ≡ true) (sym q) has)
-goes_left e tag (Abort b xs) t h = absurd (cc)
-goes_left e tag (Shutdown n) t (ShutdownStale u g is takes _) = Plainly t (record { configuration = refl; role = refl; moment = refl; terms = refl; turn = goes_from e u g ShutdownReceived is (hears_shutdown u g takes) }) (λ has. refl)
-goes_left e tag (Shutdown n) t (ShutdownCounts u g is takes _) = Plainly t (record { configuration = refl; role = refl; moment = refl; terms = refl; turn = goes_from e u g ShutdownReceived is (hears_shutdown u g takes) }) (λ has. refl)
-goes_left e tag (Shutdown n) t (Crosses u is) = Plainly t (record { configuration = refl; role = refl; moment = refl; terms = refl; turn = goes_from e u ShutdownSent ShutdownAckSent is (by_stage u ShutdownSent ShutdownAckSent Cross) }) (λ has. refl)
-goes_left e tag (Shutdown n) t (Again u is) = still e _ t refl refl refl refl refl
-goes_left e tag ShutdownAck t h = elim h [ ]
-goes_left e tag (Error xs) t (SaysNothing _) = still e _ t refl refl refl refl refl
-goes_left e tag (CookieEcho xs) t (EchoedAgain _ _ _ _ _ _ _) = still e _ t refl refl refl refl refl
-goes_left e tag CookieAck t (CookieAcked u xs is) = Acked u xs t refl is refl refl refl refl refl
-goes_left e tag (ShutdownComplete b) t h = elim h [ ]
-goes_left e tag (ForwardTsn m) t (IsOld _ _ _ _ _ _ _) = still e _ t refl refl refl refl refl
-goes_left e tag (ForwardTsn m) t (ForwardComes _ _ _ _ _ _ _) = still e _ t refl refl refl refl refl
-goes_left e tag (IForwardTsn m) t (IsOld _ _ _ _ _ _ _) = still e _ t refl refl refl refl refl
-goes_left e tag (IForwardTsn m) t (ForwardComes _ _ _ _ _ _ _) = still e _ t refl refl refl refl refl
-goes_left e tag (Unknown k f v) t h = let u = unknown_goes e t k f v h in
+pub goes_left : (e : EndView) (tag : ℕ) (x : ChunkMeaning) (y : Note) (t : EndView) → Acts e tag x (GoesOn y t) → IsLeft e x t
+goes_left e tag (Data p) y t (PieceComes _ _ _ _ _ _ _ _ _) = still e _ t refl refl refl refl refl
+goes_left e tag (IData p) y t (PieceComes _ _ _ _ _ _ _ _ _) = still e _ t refl refl refl refl refl
+goes_left e tag (Init m) y t h = absurd (cc)
+goes_left e tag (InitAck m) y t (AcceptedAck d cookie is tagged value fault) = Accepts m d cookie refl is value
+goes_left e tag (Sack s) y t (SackStale _ _) = still e _ t refl refl refl refl refl
+goes_left e tag (Sack s) y t (SackCounts _ _) = still e _ t refl refl refl refl refl
+goes_left e tag (Heartbeat i) y t (HeartbeatCounts _) = still e _ t refl refl refl refl refl
+goes_left e tag (HeartbeatAck i) y t h = let q : t ≡ e = cc in Plainly t (subst (IsPlain e) (sym q) (plain_same e)) (λ has. subst (λ (y : EndView). has_association y.phase ≡ true) (sym q) has)
+goes_left e tag (Abort b xs) y t h = absurd (cc)
+goes_left e tag (Shutdown n) y t (ShutdownStale u g is takes _) = Plainly t (record { configuration = refl; role = refl; moment = refl; terms = refl; turn = goes_from e u g ShutdownReceived is (hears_shutdown u g takes) }) (λ has. refl)
+goes_left e tag (Shutdown n) y t (ShutdownCounts u g is takes _) = Plainly t (record { configuration = refl; role = refl; moment = refl; terms = refl; turn = goes_from e u g ShutdownReceived is (hears_shutdown u g takes) }) (λ has. refl)
+goes_left e tag (Shutdown n) y t (Crosses u is) = Plainly t (record { configuration = refl; role = refl; moment = refl; terms = refl; turn = goes_from e u ShutdownSent ShutdownAckSent is (by_stage u ShutdownSent ShutdownAckSent Cross) }) (λ has. refl)
+goes_left e tag (Shutdown n) y t (Again u is) = still e _ t refl refl refl refl refl
+goes_left e tag ShutdownAck y t h = elim h [ ]
+goes_left e tag (Error xs) y t (SaysNothing _) = still e _ t refl refl refl refl refl
+goes_left e tag (CookieEcho xs) y t (EchoedAgain _ _ _ _ _ _ _) = still e _ t refl refl refl refl refl
+goes_left e tag CookieAck y t (CookieAcked u xs is) = Acked u xs t refl is refl refl refl refl refl
+goes_left e tag (ShutdownComplete b) y t h = elim h [ ]
+goes_left e tag (ForwardTsn m) y t (IsOld _ _ _ _ _ _ _) = still e _ t refl refl refl refl refl
+goes_left e tag (ForwardTsn m) y t (ForwardComes _ _ _ _ _ _ _) = still e _ t refl refl refl refl refl
+goes_left e tag (IForwardTsn m) y t (IsOld _ _ _ _ _ _ _) = still e _ t refl refl refl refl refl
+goes_left e tag (IForwardTsn m) y t (ForwardComes _ _ _ _ _ _ _) = still e _ t refl refl refl refl refl
+goes_left e tag (Unknown k f v) y t h = let u = unknown_goes e y t k f v h in
     Plainly t (subst (IsPlain e) (sym u.same) (record { configuration = refl; role = refl; moment = refl; terms = refl; turn = Stays e.phase }))
     (λ has. subst (λ (y : EndView). has_association y.phase ≡ true) (sym u.same) has)
 
@@ -178,6 +179,9 @@ replies_plain e tag (ForwardTsn m) t p has (IsBad _ _ _ _ _ _ _) = left_closed e
 replies_plain e tag (IForwardTsn m) t p has (WrongKind _ _ _ _ _) = left_closed e AbortedHere has
 replies_plain e tag (IForwardTsn m) t p has (IsBad _ _ _ _ _ _ _) = left_closed e AbortedHere has
 replies_plain e tag (Unknown k f v) t p has h = absurd (unknown_never_replies e t p k f v h)
+
+pub plain_ended : (n : Notes) (e : EndView) → IsPlain e (packet_ended n e)
+plain_ended n e = ended_cases (IsPlain e) n e (plain_same e) (λ t g is. record { configuration = refl; role = refl; moment = refl; terms = refl; turn = Stays e.phase })
 
 -- ---- a packet that is built
 

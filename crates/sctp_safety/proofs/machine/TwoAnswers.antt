@@ -1,5 +1,5 @@
 -- An INIT that comes twice, and is answered twice: step by step, computed from the definitions (RFC 9260, 5.2.3).
-use Rattle.std.proofs.Common.{ℕ, ◌<◌, true, false, List, [], ◌∷◌, ◌++◌, Some, inl, inr, refl, arith}
+use Rattle.std.proofs.Common.{ℕ, ◌<◌, false, List, [], ◌∷◌, ◌++◌, Some, inl, inr, refl, arith}
 use Rattle.sctp_model.specs.numbers.Lists.{Has}
 use Rattle.sctp_model.specs.numbers.Numbers.{u16_bytes, u32_bytes, u16_at, u32_at}
 use Rattle.sctp_model.specs.wire.Typed.{starts_typed, typed_of}
@@ -10,10 +10,10 @@ use Rattle.sctp_model.specs.end.Clock.{started}
 use Rattle.sctp_model.specs.end.Closing.{with_due}
 use Rattle.sctp_model.specs.end.Reports.{written, item}
 use Rattle.sctp_model.specs.end.Options.{STATE_COOKIE, own_options}
-use Rattle.sctp_model.specs.end.PeerFaults.{STATE, packet_to}
+use Rattle.sctp_model.specs.end.PeerFaults.{STATE, packet_to, Unnoted}
 use Rattle.sctp_model.specs.end.Opening.{body_for, echoing, begun, NotCalling, AcceptedAck}
 use Rattle.sctp_model.specs.end.Strays.{Taken, Dropped, stray_verdict}
-use Rattle.sctp_model.specs.end.Arriving.{Stray, CookieBegins, Heard, NoneLeft, Next, ReadAs}
+use Rattle.sctp_model.specs.end.Arriving.{Stray, CookieBegins, Heard, NoneLeft, Next, ReadAs, no_notes, noted}
 use Rattle.sctp_model.specs.end.Arriving.{Passes}
 use Rattle.sctp_model.specs.end.Building.{EchoSlot, ErrorSlot, EchoCookie, NoMore, NotDue, Put, Echoes, packet_of}
 use Rattle.sctp_model.specs.world.World.{Side, A, B, World, with_end, with_packet, end_now, came, configuration_of}
@@ -88,16 +88,18 @@ step_6 = PacketComes (Deliver A 1) B (Some packet_1) (end_now v5 B) (stray_verdi
 
 step_7 : Step v6 (Deliver B 2) (Some Acted) v7
 unfolding u16_bytes u32_bytes u16_at u32_at starts_typed typed_of
-step_7 = PacketComes (Deliver B 2) A (Some second) echoes Taken (FromBag B 2 second refl) (ReadAs second echoes Taken (Heard echoes Taken refl refl refl
-    (Next (end_now v6 A) echoes echoes false (InitAck ack) [] Taken (AcceptedAck of_a cookie refl some refl refl) (NoneLeft echoes true))))
+step_7 = PacketComes (Deliver B 2) A (Some second) echoes Taken (FromBag B 2 second refl) (ReadAs second echoes Taken (Heard echoes (noted Unnoted no_notes) Taken refl refl refl
+    (Next (end_now v6 A) echoes echoes Unnoted no_notes (noted Unnoted no_notes) (InitAck ack) [] Taken
+    (AcceptedAck of_a cookie refl some refl refl)
+    (NoneLeft echoes (noted Unnoted no_notes)))))
   where
     some : 0 < 11
     some = omega arith
 
 step_8 : Step v7 (Deliver B 1) (Some (NotActed STATE)) v8
 unfolding u16_bytes u32_bytes u16_at u32_at starts_typed typed_of
-step_8 = PacketComes (Deliver B 1) A (Some packet_2) (end_now v7 A) (Dropped STATE) (FromBag B 1 packet_2 refl) (ReadAs packet_2 (end_now v7 A) (Dropped STATE) (Heard (end_now v7 A) (Dropped STATE) refl refl refl
-    (Passes (end_now v7 A) (end_now v7 A) false (InitAck ack_meaning) [] (Dropped STATE) (NotCalling refl) (NoneLeft (end_now v7 A) false))))
+step_8 = PacketComes (Deliver B 1) A (Some packet_2) (end_now v7 A) (Dropped STATE) (FromBag B 1 packet_2 refl) (ReadAs packet_2 (end_now v7 A) (Dropped STATE) (Heard (end_now v7 A) no_notes (Dropped STATE) refl refl refl
+    (Passes (end_now v7 A) (end_now v7 A) no_notes no_notes (InitAck ack_meaning) [] (Dropped STATE) (NotCalling refl) (NoneLeft (end_now v7 A) no_notes))))
 
 step_9 : Step v8 (Build A) (Some (Sent 2 (size_of_packet (CookieEcho cookie ∷ [])))) v9
 unfolding u16_bytes u32_bytes u16_at u32_at starts_typed typed_of
@@ -107,7 +109,7 @@ step_9 = BuildsOne A (CookieEcho cookie) [] echoed (Echoes (record { own = 7; pe
 
 step_10 : Step v9 (Deliver A 2) (Some Acted) v10
 unfolding u16_bytes u32_bytes u16_at u32_at starts_typed typed_of
-step_10 = PacketComes (Deliver A 2) B (Some third) begins Taken (FromBag A 2 third refl) (ReadAs third begins Taken (CookieBegins (body_for (end_now v5 B) of_c init_meaning) begins Taken refl refl refl refl (NoneLeft begins true)))
+step_10 = PacketComes (Deliver A 2) B (Some third) begins Taken (FromBag A 2 third refl) (ReadAs third begins Taken (CookieBegins (body_for (end_now v5 B) of_c init_meaning) begins (noted Unnoted no_notes) Taken refl refl refl refl (NoneLeft begins (noted Unnoted no_notes))))
 
 abbrev asked : List Event
 asked = Connect of_a ∷ Build A ∷ Drawing of_b ∷ Deliver A 1 ∷ Drawing of_c ∷ Deliver A 1 ∷ Deliver B 2 ∷ []

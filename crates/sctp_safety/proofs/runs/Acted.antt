@@ -11,10 +11,12 @@ use Rattle.sctp_model.specs.receiver.PieceTaken.{PieceAnswer, PieceTaken}
 use Rattle.sctp_model.specs.receiver.ForwardTaken.{ForwardAnswer, ForwardTaken}
 use Rattle.sctp_model.specs.end.EndView.{Draw, Ended, Aborted, AbortedHere, Completed, StaleCookie, Phase, Calling, EndView, format_of}
 use Rattle.sctp_model.specs.end.Clock.{closed}
-use Rattle.sctp_model.specs.end.PeerFaults.{GoesOn, Ends, Replies}
+use Rattle.sctp_model.specs.end.PeerFaults.{GoesOn, Ends, Replies, Note}
 use Rattle.sctp_model.specs.end.Opening.{AcceptedAck, RefusedAck, EchoedAgain, CookieAcked}
 use Rattle.sctp_model.specs.end.Acting.{Acts, PieceEmpty, WrongFormat, ForwardComes, PieceComes, WrongKind, IsBad, IsOld, SackStale, ShutdownStale, SackWrong, ShutdownWrong, HeartbeatCounts, SackCounts, ShutdownCounts, Closes, SaysNothing, Crosses, Again, AckCompletes, CompleteCompleted}
+use Rattle.sctp_model.specs.end.Arriving.{Notes, acknowledges, packet_ended}
 use Rattle.sctp_safety.specs.States.{has_agreed}
+use Rattle.sctp_safety.proofs.machine.EndWords.{ended_cases}
 use Rattle.sctp_safety.proofs.machine.Sides.{unknown_goes, unknown_ends, unknown_never_replies}
 use Rattle.sctp_safety.proofs.runs.Direction.{Direction}
 use Rattle.sctp_safety.proofs.runs.Sending.{after_sack, after_shutdown}
@@ -68,41 +70,41 @@ module _ (p : EndView) (u v : Asked) (out back : List ChunkMeaning) where
 
   -- ---- a chunk after which the packet goes on
 
-  pub goes : (e : EndView) (tag : ℕ) (x : ChunkMeaning) (t : EndView) → Has back x → Met e → Acts e tag x (GoesOn t) → Met t
-  goes e tag (Data d) t has m (PieceComes k g o r is hears some same taken) =
+  pub goes : (e : EndView) (tag : ℕ) (x : ChunkMeaning) (y : Note) (t : EndView) → Has back x → Met e → Acts e tag x (GoesOn y t) → Met t
+  goes e tag (Data d) y t has m (PieceComes k g o r is hears some same taken) =
       still (record e { receiver = r }) t (by_data e d o r m has taken) (record { terms = refl; sender = refl; receiver = refl; moment = refl }) m.phase
-  goes e tag (IData d) t has m (PieceComes k g o r is hears some same taken) =
+  goes e tag (IData d) y t has m (PieceComes k g o r is hears some same taken) =
       still (record e { receiver = r }) t (by_i_data e d o r m has taken) (record { terms = refl; sender = refl; receiver = refl; moment = refl }) m.phase
-  goes e tag (Init i) t has m h = absurd (cc)
-  goes e tag (InitAck i) t has m (AcceptedAck d cookie is tagged value fault) = absurd (not_calling e.phase d is m.phase)
-  goes e tag (Sack s) t has m (SackStale hears fault) = m
-  goes e tag (Sack s) t has m (SackCounts hears none) =
+  goes e tag (Init i) y t has m h = absurd (cc)
+  goes e tag (InitAck i) y t has m (AcceptedAck d cookie is tagged value fault) = absurd (not_calling e.phase d is m.phase)
+  goes e tag (Sack s) y t has m (SackStale hears fault) = m
+  goes e tag (Sack s) y t has m (SackCounts hears none) =
       still (record e { sender = _ }) t (with_sender e _ m (after_sack (format_of e) e.terms.outbound e.sender u p.receiver out back m.going s has none))
       (record { terms = refl; sender = refl; receiver = refl; moment = refl }) m.phase
-  goes e tag (Heartbeat i) t has m (HeartbeatCounts hears) = still e t m (record { terms = refl; sender = refl; receiver = refl; moment = refl }) m.phase
-  goes e tag (HeartbeatAck i) t has m h = let q : t ≡ e = cc in subst Met (sym q) m
-  goes e tag (Abort b xs) t has m h = absurd (cc)
-  goes e tag (Shutdown n) t has m (ShutdownStale k g is hears fault) = still e t m (record { terms = refl; sender = refl; receiver = refl; moment = refl }) refl
-  goes e tag (Shutdown n) t has m (ShutdownCounts k g is hears none) =
+  goes e tag (Heartbeat i) y t has m (HeartbeatCounts hears) = still e t m (record { terms = refl; sender = refl; receiver = refl; moment = refl }) m.phase
+  goes e tag (HeartbeatAck i) y t has m h = let q : t ≡ e = cc in subst Met (sym q) m
+  goes e tag (Abort b xs) y t has m h = absurd (cc)
+  goes e tag (Shutdown n) y t has m (ShutdownStale k g is hears fault) = still e t m (record { terms = refl; sender = refl; receiver = refl; moment = refl }) refl
+  goes e tag (Shutdown n) y t has m (ShutdownCounts k g is hears none) =
       still (record e { sender = _ }) t (with_sender e _ m (after_shutdown (format_of e) e.terms.outbound e.sender u p.receiver out back m.going n has none))
       (record { terms = refl; sender = refl; receiver = refl; moment = refl }) refl
-  goes e tag (Shutdown n) t has m (Crosses k is) = still e t m (record { terms = refl; sender = refl; receiver = refl; moment = refl }) refl
-  goes e tag (Shutdown n) t has m (Again k is) = still e t m (record { terms = refl; sender = refl; receiver = refl; moment = refl }) m.phase
-  goes e tag ShutdownAck t has m h = elim h [ ]
-  goes e tag (Error xs) t has m (SaysNothing off) = m
-  goes e tag (CookieEcho xs) t has m (EchoedAgain _ _ _ _ _ _ _) = still e t m (record { terms = refl; sender = refl; receiver = refl; moment = refl }) m.phase
-  goes e tag CookieAck t has m (CookieAcked k xs is) = still e t m (record { terms = refl; sender = refl; receiver = refl; moment = refl }) refl
-  goes e tag (ShutdownComplete b) t has m h = elim h [ ]
-  goes e tag (ForwardTsn d) t has m (IsOld k g r is hears may taken) =
+  goes e tag (Shutdown n) y t has m (Crosses k is) = still e t m (record { terms = refl; sender = refl; receiver = refl; moment = refl }) refl
+  goes e tag (Shutdown n) y t has m (Again k is) = still e t m (record { terms = refl; sender = refl; receiver = refl; moment = refl }) m.phase
+  goes e tag ShutdownAck y t has m h = elim h [ ]
+  goes e tag (Error xs) y t has m (SaysNothing off) = m
+  goes e tag (CookieEcho xs) y t has m (EchoedAgain _ _ _ _ _ _ _) = still e t m (record { terms = refl; sender = refl; receiver = refl; moment = refl }) m.phase
+  goes e tag CookieAck y t has m (CookieAcked k xs is) = still e t m (record { terms = refl; sender = refl; receiver = refl; moment = refl }) refl
+  goes e tag (ShutdownComplete b) y t has m h = elim h [ ]
+  goes e tag (ForwardTsn d) y t has m (IsOld k g r is hears may taken) =
       still (record e { receiver = r }) t (by_forward e d _ r m has taken) (record { terms = refl; sender = refl; receiver = refl; moment = refl }) m.phase
-  goes e tag (ForwardTsn d) t has m (ForwardComes k g r is hears may taken) =
+  goes e tag (ForwardTsn d) y t has m (ForwardComes k g r is hears may taken) =
       still (record e { receiver = r }) t (by_forward e d _ r m has taken) (record { terms = refl; sender = refl; receiver = refl; moment = refl }) m.phase
-  goes e tag (IForwardTsn d) t has m (IsOld k g r is hears may taken) =
+  goes e tag (IForwardTsn d) y t has m (IsOld k g r is hears may taken) =
       still (record e { receiver = r }) t (by_i_forward e d _ r m has taken) (record { terms = refl; sender = refl; receiver = refl; moment = refl }) m.phase
-  goes e tag (IForwardTsn d) t has m (ForwardComes k g r is hears may taken) =
+  goes e tag (IForwardTsn d) y t has m (ForwardComes k g r is hears may taken) =
       still (record e { receiver = r }) t (by_i_forward e d _ r m has taken) (record { terms = refl; sender = refl; receiver = refl; moment = refl }) m.phase
-  goes e tag (Unknown k f w) t has m h =
-      subst Met (sym (unknown_goes e t k f w h).same) (still e _ m (record { terms = refl; sender = refl; receiver = refl; moment = refl }) m.phase)
+  goes e tag (Unknown k f w) y t has m h =
+      subst Met (sym (unknown_goes e y t k f w h).same) (still e _ m (record { terms = refl; sender = refl; receiver = refl; moment = refl }) m.phase)
 
   -- ---- a chunk that ends its packet, and one that is answered
 
@@ -148,3 +150,8 @@ module _ (p : EndView) (u v : Asked) (out back : List ChunkMeaning) where
   replies e tag (IForwardTsn d) t r m (WrongKind _ _ _ _ _) = over e AbortedHere m
   replies e tag (IForwardTsn d) t r m (IsBad _ _ _ _ _ _ _) = over e AbortedHere m
   replies e tag (Unknown k f w) t r m h = absurd (unknown_never_replies e t r k f w h)
+
+  -- ---- the end of a packet
+
+  pub met_ended : (n : Notes) (e : EndView) → Met e → Met (packet_ended n e)
+  met_ended n e m = ended_cases Met n e m (λ k g is. still e (acknowledges g e) m (record { terms = refl; sender = refl; receiver = refl; moment = refl }) m.phase)

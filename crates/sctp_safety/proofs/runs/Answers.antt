@@ -4,12 +4,12 @@ use Rattle.sctp_model.specs.wire.Chunk.{InitMeaning, ChunkMeaning, Data, IData, 
 use Rattle.sctp_model.specs.wire.Packet.{Packet}
 use Rattle.sctp_model.specs.end.Sealing.{Sealing}
 use Rattle.sctp_model.specs.end.EndView.{Draw, EndView}
-use Rattle.sctp_model.specs.end.PeerFaults.{TAG, STATE, Replies, packet_to, abort_for}
+use Rattle.sctp_model.specs.end.PeerFaults.{TAG, STATE, Replies, packet_to, abort_for, Unnoted}
 use Rattle.sctp_model.specs.end.Reports.{item, INVALID_PARAMETER}
 use Rattle.sctp_model.specs.end.Opening.{RefusedAck, CookieRead, CookieOpens, CookieLate, Strange, cookie_read, has_no_stream, init_ack}
 use Rattle.sctp_model.specs.end.Acting.{Acts, PieceEmpty, WrongFormat, WrongKind, IsBad, SackWrong, ShutdownWrong, AckCompletes}
 use Rattle.sctp_model.specs.end.Strays.{Verdict, Dropped, Answer, holds_abort, listens, init_verdict, cookie_verdict, echo_verdict, first_verdict, chunks_verdict}
-use Rattle.sctp_model.specs.end.Arriving.{Arrives, Elsewhere, NotOurs, Stray, CookieBegins, Heard}
+use Rattle.sctp_model.specs.end.Arriving.{Arrives, Elsewhere, NotOurs, Stray, CookieBegins, Heard, noted, no_notes}
 use Rattle.sctp_safety.proofs.machine.Sides.{unknown_never_replies}
 use Rattle.sctp_safety.proofs.machine.EndWords.{OfAnswer, Keeps, all_act_keeps}
 use Rattle.sctp_safety.proofs.runs.Pair.{opens_or_ends, AreOpening}
@@ -49,7 +49,7 @@ reply_opens e tag (Unknown k f w) t r h = absurd (unknown_never_replies e t r k 
 
 any_chunk : (tag : ℕ) → Keeps tag (λ (e : EndView). Unit {0}) (λ (x : ChunkMeaning). Unit {0}) (λ (r : Packet). AreOpening r.chunks)
 any_chunk tag = record {
-  goes = λ e x t q m act. tt;
+  goes = λ e x y t q m act. tt;
   ends = λ e x t q m act. tt;
   replies = λ e x t r q m act. (tt, reply_opens e tag x t r act);
 }
@@ -109,5 +109,5 @@ pub answer_opens : (e : EndView) (d : Draw) (p : Packet) (t : EndView) (v : Verd
 answer_opens e d p t v (Elsewhere ports) = tt
 answer_opens e d p t v (NotOurs ports passes) = tt
 answer_opens e d p t v (Stray ports passes none closed) = of_chunks e d p.tag p.chunks
-answer_opens e d p t v (CookieBegins b _ _ ports passes none opens acts) = (all_act_keeps p.tag _ _ _ (any_chunk p.tag) _ true _ t v (λ x has. tt) tt acts).1
-answer_opens e d p t v (Heard _ _ ports passes has acts) = (all_act_keeps p.tag _ _ _ (any_chunk p.tag) e false p.chunks t v (λ x has. tt) tt acts).1
+answer_opens e d p t v (CookieBegins b u n _ ports passes none opens acts) = (all_act_keeps p.tag _ _ _ (any_chunk p.tag) _ (noted Unnoted no_notes) _ u n v (λ x has. tt) tt acts).1
+answer_opens e d p t v (Heard u n _ ports passes has acts) = (all_act_keeps p.tag _ _ _ (any_chunk p.tag) e no_notes p.chunks u n v (λ x has. tt) tt acts).1

@@ -8,10 +8,11 @@ use Rattle.sctp_model.specs.end.EndView.{Established, Open, Phase, Listening, En
 use Rattle.sctp_model.specs.end.Opening.{begun, joined, terms_of_body, tags_of_body}
 use Rattle.sctp_model.specs.end.Clock.{turned}
 use Rattle.sctp_model.specs.end.Strays.{Verdict}
-use Rattle.sctp_model.specs.end.Arriving.{AllAct, Arrives, Elsewhere, NotOurs, Stray, CookieBegins, Heard, DroppedUnread, ReadAs, CutFirst, CutLater, cut_to}
+use Rattle.sctp_model.specs.end.Arriving.{AllAct, Arrives, Elsewhere, NotOurs, Stray, CookieBegins, Heard, DroppedUnread, ReadAs, CutFirst, CutLater, cut_to, Notes, no_notes, noted, packet_ended}
 use Rattle.sctp_model.specs.end.Building.{Builds, packet_of}
 use Rattle.sctp_model.specs.end.Moments.{ticked}
 use Rattle.sctp_model.specs.end.UserCalls.{called, abandoned_at, shut, abort_answer, abort_leaves}
+use Rattle.sctp_model.specs.end.PeerFaults.{Unnoted}
 use Rattle.sctp_model.specs.world.World.{Side, A, B, World, end_of, bag_of, log_of, with_end, end_now, came, logged, logged_one, Setup}
 use Rattle.sctp_model.specs.world.Events.{Event, with_verdict, Outcome}
 use Rattle.sctp_model.specs.world.Steps.{named_at, Step, OpensBoth, OpenRefused, TimePasses, Draws, Connects, ConnectRefused, BuildsOne, BuildsNone, PacketComes, IsAbsent, Sends, AbandonsOne, TakesOne, ShutsDown, AbortsIt, NoMemory, PacketCut}
@@ -26,7 +27,7 @@ use Rattle.sctp_safety.proofs.machine.TurnsOfTime.{plain_ticked, plain_abandoned
 use Rattle.sctp_safety.proofs.runs.Bags.{chunks_in, chunk_of_bag}
 use Rattle.sctp_safety.proofs.runs.Pair.{AreOpening}
 use Rattle.sctp_safety.proofs.runs.Homes.{IsHome, home_turned}
-use Rattle.sctp_safety.proofs.runs.Pairs.{IsPair, pair_round, pair_acts}
+use Rattle.sctp_safety.proofs.runs.Pairs.{IsPair, pair_round, pair_acts, pair_ended}
 use Rattle.sctp_safety.proofs.runs.Answers.{OpensOrEnds, answer_opens}
 use Rattle.sctp_safety.proofs.runs.Brought.{unmet_arrives}
 use Rattle.sctp_safety.proofs.runs.Unmet.{IsUnmet}
@@ -46,10 +47,10 @@ has-drop (x ∷ xs) y h = inr h
 
 module _ (s : Setup) (drawn : List ℕ) (w : World) (opening : IsOpening s drawn w) (set : AreSetUp s w) (k : IsApartWorld w) where
   -- The listener opens a cookie of the caller's: the two have met, and what stands behind the cookie acts.
-  meets : (p q : Packet) (b : Body) (t : EndView) (v : Verdict) → Has w.from_a q → IsWithin p.chunks q.chunks → IsFound (end_now w B) p.tag p.chunks b →
-      AllAct p.tag (begun b (end_now w B)) true (drop 1 p.chunks) t v → Before w B t
-  meets p q b t v has within found acts =
-      (all_act_keeps p.tag _ _ _ (pair_acts w.a (asked_at w B) (asked_at w A) (chunks_in w.from_b) (chunks_in w.from_a) p.tag) (begun b (end_now w B)) true (drop 1 p.chunks) t v
+  meets : (p q : Packet) (b : Body) (t : EndView) (n : Notes) (v : Verdict) → Has w.from_a q → IsWithin p.chunks q.chunks → IsFound (end_now w B) p.tag p.chunks b →
+      AllAct p.tag (begun b (end_now w B)) (noted Unnoted no_notes) (drop 1 p.chunks) t n v → Before w B (packet_ended n t)
+  meets p q b t n v has within found acts =
+      pair_ended w.a (asked_at w B) (asked_at w A) (chunks_in w.from_b) (chunks_in w.from_a) n t (all_act_keeps p.tag _ _ _ (pair_acts w.a (asked_at w B) (asked_at w A) (chunks_in w.from_b) (chunks_in w.from_a) p.tag) (begun b (end_now w B)) (noted Unnoted no_notes) (drop 1 p.chunks) t n v
       (λ y h. chunk_of_bag w.from_a q y has (within y (has-drop p.chunks y h))) start acts).0
     where
       echo : Has q.chunks (CookieEcho found.cookie)
@@ -82,8 +83,8 @@ module _ (s : Setup) (drawn : List ℕ) (w : World) (opening : IsOpening s drawn
   listener_hears p q t v has within (Elsewhere ports) = inl refl
   listener_hears p q t v has within (NotOurs ports passes) = inl refl
   listener_hears p q t v has within (Stray ports passes none closed) = inl refl
-  listener_hears p q t v has within (CookieBegins b _ _ ports passes none opens acts) = inr (meets p q b t v has within (found_is (end_now w B) p.tag p.chunks b opens) acts)
-  listener_hears p q t v has within (Heard _ _ ports passes there acts) = absurd (listener_has_none w.b.phase k.listens there)
+  listener_hears p q t v has within (CookieBegins b u n _ ports passes none opens acts) = inr (meets p q b u n v has within (found_is (end_now w B) p.tag p.chunks b opens) acts)
+  listener_hears p q t v has within (Heard _ _ _ ports passes there acts) = absurd (listener_has_none w.b.phase k.listens there)
 
   -- ---- either end
 

@@ -9,10 +9,12 @@ use Rattle.sctp_model.specs.sender.Readers.{drained}
 use Rattle.sctp_model.specs.end.EndView.{Tags, Stage, Established, ShutdownPending, ShutdownSent, ShutdownReceived, ShutdownAckSent, Ended, Completed, Aborted, AbortedHere, StaleCookie, Phase, Idle, Listening, Calling, Echoing, Open, Over, AckAlarm, EndView}
 use Rattle.sctp_model.specs.end.Clock.{is_home, closed, settled}
 use Rattle.sctp_model.specs.end.Closing.{hears, takes_acknowledgements, awaits_ack, awaits_complete, answers_shutdown}
-use Rattle.sctp_model.specs.end.PeerFaults.{GoesOn, Ends, Replies}
+use Rattle.sctp_model.specs.end.PeerFaults.{GoesOn, Ends, Replies, Note}
 use Rattle.sctp_model.specs.end.Opening.{AcceptedAck, RefusedAck, EchoedAgain, CookieAcked}
 use Rattle.sctp_model.specs.end.Acting.{Acts, PieceEmpty, WrongFormat, ForwardComes, PieceComes, WrongKind, IsBad, IsOld, SackStale, ShutdownStale, SackWrong, ShutdownWrong, HeartbeatCounts, SackCounts, ShutdownCounts, Closes, SaysNothing, Crosses, Again, AckCompletes, CompleteCompleted}
+use Rattle.sctp_model.specs.end.Arriving.{Notes, acknowledges, packet_ended}
 use Rattle.sctp_safety.specs.States.{has_agreed}
+use Rattle.sctp_safety.proofs.machine.EndWords.{ended_cases}
 use Rattle.sctp_safety.proofs.machine.Sides.{unknown_goes, unknown_ends, unknown_never_replies}
 use Rattle.sctp_safety.proofs.runs.Acted.{not_calling}
 use Rattle.sctp_safety.proofs.runs.Homes.{home_like, IsHome, home_turned, home_answers, home_acknowledges}
@@ -96,37 +98,37 @@ module _ (p : EndView) (out back : List ChunkMeaning) where
       awaits : hears awaits_ack e.phase ≡ true
       awaits = subst (λ (h : Phase). hears awaits_ack h ≡ true) (sym is) refl
 
-  pub goes : (e : EndView) (tag : ℕ) (x : ChunkMeaning) (t : EndView) → Has back x → has_agreed e.phase ≡ true → Ending e → Acts e tag x (GoesOn t) → Ending t
-  goes e tag (Data d) t has m c (PieceComes k g o r is hears some same taken) = still e t c (let y = home_acknowledges k g e is c.this.home in record { shutdown = y.shutdown; ack = y.ack; shutdown_runs = y.shutdown_runs; ack_runs = y.ack_runs }) refl refl
-  goes e tag (IData d) t has m c (PieceComes k g o r is hears some same taken) = still e t c (let y = home_acknowledges k g e is c.this.home in record { shutdown = y.shutdown; ack = y.ack; shutdown_runs = y.shutdown_runs; ack_runs = y.ack_runs }) refl refl
-  goes e tag (Init i) t has m c h = absurd (cc)
-  goes e tag (InitAck i) t has m c (AcceptedAck d cookie is tagged value fault) = absurd (not_calling e.phase d is m)
-  goes e tag (Sack s) t has m c (SackStale hears fault) = c
-  goes e tag (Sack s) t has m c (SackCounts on none) = acknowledged e t c (home_like e _ c.this.home refl refl refl refl refl) refl on
-  goes e tag (Heartbeat i) t has m c (HeartbeatCounts on) = still e t c (home_like e _ c.this.home refl refl refl refl refl) refl refl
-  goes e tag (HeartbeatAck i) t has m c h = let q : t ≡ e = cc in subst Ending (sym q) c
-  goes e tag (Abort b xs) t has m c h = absurd (cc)
-  goes e tag (Shutdown n) t has m c (ShutdownStale k g is on fault) = hears_shutdown e t k g n c has is on (home_turned (Open k ShutdownReceived) e) refl
-  goes e tag (Shutdown n) t has m c (ShutdownCounts k g is on none) =
+  pub goes : (e : EndView) (tag : ℕ) (x : ChunkMeaning) (y : Note) (t : EndView) → Has back x → has_agreed e.phase ≡ true → Ending e → Acts e tag x (GoesOn y t) → Ending t
+  goes e tag (Data d) y t has m c (PieceComes k g o r is hears some same taken) = still e t c (home_like e _ c.this.home refl refl refl refl refl) refl refl
+  goes e tag (IData d) y t has m c (PieceComes k g o r is hears some same taken) = still e t c (home_like e _ c.this.home refl refl refl refl refl) refl refl
+  goes e tag (Init i) y t has m c h = absurd (cc)
+  goes e tag (InitAck i) y t has m c (AcceptedAck d cookie is tagged value fault) = absurd (not_calling e.phase d is m)
+  goes e tag (Sack s) y t has m c (SackStale hears fault) = c
+  goes e tag (Sack s) y t has m c (SackCounts on none) = acknowledged e t c (home_like e _ c.this.home refl refl refl refl refl) refl on
+  goes e tag (Heartbeat i) y t has m c (HeartbeatCounts on) = still e t c (home_like e _ c.this.home refl refl refl refl refl) refl refl
+  goes e tag (HeartbeatAck i) y t has m c h = let q : t ≡ e = cc in subst Ending (sym q) c
+  goes e tag (Abort b xs) y t has m c h = absurd (cc)
+  goes e tag (Shutdown n) y t has m c (ShutdownStale k g is on fault) = hears_shutdown e t k g n c has is on (home_turned (Open k ShutdownReceived) e) refl
+  goes e tag (Shutdown n) y t has m c (ShutdownCounts k g is on none) =
       hears_shutdown e t k g n c has is on (home_turned (Open k ShutdownReceived) (settled (record e { sender = shutdown_taken e.sender n }))) refl
-  goes e tag (Shutdown n) t has m c (Crosses k is) = crosses e k n c has is
-  goes e tag (Shutdown n) t has m c (Again k is) = still e t c (record {
+  goes e tag (Shutdown n) y t has m c (Crosses k is) = crosses e k n c has is
+  goes e tag (Shutdown n) y t has m c (Again k is) = still e t c (record {
     shutdown = c.this.home.shutdown;
     ack = λ on. subst (λ (h : Phase). is_home AckAlarm h ≡ true) (sym is) refl;
     shutdown_runs = c.this.home.shutdown_runs;
     ack_runs = c.this.home.ack_runs;
   }) refl refl
-  goes e tag ShutdownAck t has m c h = elim h [ ]
-  goes e tag (Error xs) t has m c (SaysNothing off) = c
-  goes e tag (CookieEcho xs) t has m c (EchoedAgain _ _ _ _ _ _ _) = still e t c (home_like e _ c.this.home refl refl refl refl refl) refl refl
-  goes e tag CookieAck t has m c (CookieAcked k xs is) = ending_still e p t out back c (onward_open p out back e t k Established
+  goes e tag ShutdownAck y t has m c h = elim h [ ]
+  goes e tag (Error xs) y t has m c (SaysNothing off) = c
+  goes e tag (CookieEcho xs) y t has m c (EchoedAgain _ _ _ _ _ _ _) = still e t c (home_like e _ c.this.home refl refl refl refl refl) refl refl
+  goes e tag CookieAck y t has m c (CookieAcked k xs is) = ending_still e p t out back c (onward_open p out back e t k Established
       (λ last. let q : false ≡ true = subst (λ (h : Phase). is_last h ≡ true) is last in absurd (cc)) (home_turned (Open k Established) e) refl (λ off. absurd (cc)) (λ off. absurd (cc)))
-  goes e tag (ShutdownComplete b) t has m c h = elim h [ ]
-  goes e tag (ForwardTsn d) t has m c (IsOld k g r is hears may taken) = still e t c (let y = home_acknowledges k g e is c.this.home in record { shutdown = y.shutdown; ack = y.ack; shutdown_runs = y.shutdown_runs; ack_runs = y.ack_runs }) refl refl
-  goes e tag (ForwardTsn d) t has m c (ForwardComes k g r is hears may taken) = still e t c (let y = home_acknowledges k g e is c.this.home in record { shutdown = y.shutdown; ack = y.ack; shutdown_runs = y.shutdown_runs; ack_runs = y.ack_runs }) refl refl
-  goes e tag (IForwardTsn d) t has m c (IsOld k g r is hears may taken) = still e t c (let y = home_acknowledges k g e is c.this.home in record { shutdown = y.shutdown; ack = y.ack; shutdown_runs = y.shutdown_runs; ack_runs = y.ack_runs }) refl refl
-  goes e tag (IForwardTsn d) t has m c (ForwardComes k g r is hears may taken) = still e t c (let y = home_acknowledges k g e is c.this.home in record { shutdown = y.shutdown; ack = y.ack; shutdown_runs = y.shutdown_runs; ack_runs = y.ack_runs }) refl refl
-  goes e tag (Unknown k f w) t has m c h = subst Ending (sym (unknown_goes e t k f w h).same) (still e _ c (home_like e _ c.this.home refl refl refl refl refl) refl refl)
+  goes e tag (ShutdownComplete b) y t has m c h = elim h [ ]
+  goes e tag (ForwardTsn d) y t has m c (IsOld k g r is hears may taken) = still e t c (home_like e _ c.this.home refl refl refl refl refl) refl refl
+  goes e tag (ForwardTsn d) y t has m c (ForwardComes k g r is hears may taken) = still e t c (home_like e _ c.this.home refl refl refl refl refl) refl refl
+  goes e tag (IForwardTsn d) y t has m c (IsOld k g r is hears may taken) = still e t c (home_like e _ c.this.home refl refl refl refl refl) refl refl
+  goes e tag (IForwardTsn d) y t has m c (ForwardComes k g r is hears may taken) = still e t c (home_like e _ c.this.home refl refl refl refl refl) refl refl
+  goes e tag (Unknown k f w) y t has m c h = subst Ending (sym (unknown_goes e y t k f w h).same) (still e _ c (home_like e _ c.this.home refl refl refl refl refl) refl refl)
 
   pub ends : (e : EndView) (tag : ℕ) (x : ChunkMeaning) (t : EndView) → Ending e → Acts e tag x (Ends t) → Ending t
   ends e tag (Data d) t c h = elim h [ ]
@@ -176,3 +178,8 @@ module _ (p : EndView) (out back : List ChunkMeaning) where
   replies e tag (IForwardTsn d) t r has c (WrongKind _ _ _ _ _) = fault e c
   replies e tag (IForwardTsn d) t r has c (IsBad _ _ _ _ _ _ _) = fault e c
   replies e tag (Unknown k f w) t r has c h = absurd (unknown_never_replies e t r k f w h)
+
+  -- ---- the end of a packet
+
+  pub ending_ended : (n : Notes) (e : EndView) → Ending e → Ending (packet_ended n e)
+  ending_ended n e c = ended_cases Ending n e c (λ k g is. still e (acknowledges g e) c (home_acknowledges k g e is c.this.home) refl refl)

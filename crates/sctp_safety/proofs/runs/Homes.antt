@@ -4,7 +4,7 @@ use Rattle.std.proofs.lemmas.Bool.{and_parts, or_cases}
 use Rattle.sctp_model.specs.end.EndView.{Tags, Stage, Established, ShutdownPending, ShutdownSent, ShutdownReceived, ShutdownAckSent, Ended, Phase, Open, ShutdownAlarm, AckAlarm, Timer, EndView}
 use Rattle.sctp_model.specs.end.Clock.{is_home, stopped, turned, closed}
 use Rattle.sctp_model.specs.end.Closing.{says_shutdown, answers_shutdown, is_shutdown_sent}
-use Rattle.sctp_model.specs.end.Acting.{acknowledges}
+use Rattle.sctp_model.specs.end.Arriving.{acknowledges}
 
 pub record IsHome (e : EndView) : Type 0 where
   pub shutdown : e.due.shutdown ≡ true → is_home ShutdownAlarm e.phase ≡ true

@@ -1,5 +1,5 @@
 -- All that is kept of two ends that have met: both directions between them, and how far their association is closed.
-use Rattle.std.proofs.Common.{◌≡◌, ℕ, ◌≤◌, max, true, false, List, ◌++◌, Option, refl}
+use Rattle.std.proofs.Common.{◌≡◌, ℕ, ◌≤◌, max, true, List, ◌++◌, Option, refl}
 use Rattle.sctp_model.specs.numbers.Lists.{Has, IsWithin, at}
 use Rattle.sctp_model.specs.wire.Chunk.{ChunkMeaning, Data, IData, Init, InitAck, Sack, Heartbeat, HeartbeatAck, Abort, Shutdown, ShutdownAck, Error, CookieEcho, CookieAck, ShutdownComplete, ForwardTsn, IForwardTsn, Unknown}
 use Rattle.sctp_model.specs.wire.Packet.{Packet}
@@ -12,17 +12,17 @@ use Rattle.sctp_model.specs.end.Building.{Builds}
 use Rattle.sctp_model.specs.end.Moments.{ticked}
 use Rattle.sctp_model.specs.end.UserCalls.{send_answer, send_leaves, abandoned_at, UserTakes, shut, AbortAnswer, abort_leaves}
 use Rattle.sctp_model.specs.end.Strays.{Verdict}
-use Rattle.sctp_model.specs.end.Arriving.{Arrives, Elsewhere, NotOurs, Stray, CookieBegins, Heard}
+use Rattle.sctp_model.specs.end.Arriving.{Arrives, Elsewhere, NotOurs, Stray, CookieBegins, Heard, Notes, no_notes, packet_ended}
 use Rattle.sctp_safety.proofs.machine.EndWords.{Keeps, all_act_keeps}
 use Rattle.sctp_safety.proofs.machine.Strangers.{found_is}
 use Rattle.sctp_safety.proofs.runs.Pair.{opens_or_ends, AreOpening, IsMet, turned_round, met_rested, met_quiet}
-use Rattle.sctp_safety.proofs.runs.Acted.{goes as met_goes, ends as met_ends, replies as met_replies}
+use Rattle.sctp_safety.proofs.runs.Acted.{goes as met_goes, ends as met_ends, replies as met_replies, met_ended}
 use Rattle.sctp_safety.proofs.runs.Answers.{reply_opens}
 use Rattle.sctp_safety.proofs.runs.Packets.{builds_keep}
 use Rattle.sctp_safety.proofs.runs.Timed.{met_now, met_ticked, met_taken, met_shut, met_aborted, met_sent, met_abandoned, met_clock, asked_more}
 use Rattle.sctp_safety.proofs.runs.Brought.{listens_not}
 use Rattle.sctp_safety.proofs.runs.Ending.{is_shutting, AreEnding, ending_round, ending_on, onward_same, ending_rested}
-use Rattle.sctp_safety.proofs.runs.EndingActs.{goes, ends, replies}
+use Rattle.sctp_safety.proofs.runs.EndingActs.{goes, ends, replies, ending_ended}
 use Rattle.sctp_safety.proofs.runs.EndingBuilds.{ending_built}
 use Rattle.sctp_safety.proofs.runs.EndingTimes.{ending_now, ending_ticked, ending_sent, ending_abandoned, ending_taken, ending_shut, ending_aborted}
 
@@ -69,9 +69,9 @@ pair_quiet e p u v out back k xs opening = record {
 pub pair_acts : (p : EndView) (u v : Asked) (out back : List ChunkMeaning) (tag : ℕ) →
     Keeps tag (λ e. IsPair e p u v out back) (λ x. Has back x) (λ r. AreOpening r.chunks)
 pair_acts p u v out back tag = record {
-  goes = λ e x t has k act. record {
-    met = met_rested t p u v out back (met_goes p u v out back e tag x t has k.met act);
-    ending = ending_rested p out back t (goes p out back e tag x t has k.met.phase k.ending act);
+  goes = λ e x y t has k act. record {
+    met = met_rested t p u v out back (met_goes p u v out back e tag x y t has k.met act);
+    ending = ending_rested p out back t (goes p out back e tag x y t has k.met.phase k.ending act);
   };
   ends = λ e x t has k act. record { met = met_ends p u v out back e tag x t k.met act; ending = ends p out back e tag x t k.ending act };
   replies = λ e x t r has k act. (
@@ -80,14 +80,17 @@ pair_acts p u v out back tag = record {
   );
 }
 
+pub pair_ended : (p : EndView) (u v : Asked) (out back : List ChunkMeaning) (n : Notes) (e : EndView) → IsPair e p u v out back → IsPair (packet_ended n e) p u v out back
+pair_ended p u v out back n e k = record { met = met_ended p u v out back n e k.met; ending = ending_ended p out back n e k.ending }
+
 pub pair_arrives : (e p : EndView) (u v : Asked) (out back : List ChunkMeaning) (d : Draw) (k : Packet) (t : EndView) (o : Verdict) → IsPair e p u v out back →
     IsWithin k.chunks back → Arrives e d k t o → IsPair t p u v out back
 pair_arrives e p u v out back d k t o m within (Elsewhere ports) = m
 pair_arrives e p u v out back d k t o m within (NotOurs ports passes) = m
 pair_arrives e p u v out back d k t o m within (Stray ports passes none closed) = m
-pair_arrives e p u v out back d k t o m within (CookieBegins b _ _ ports passes none opens acts) = absurd (listens_not e.phase (found_is e k.tag k.chunks b opens).phase m.met.phase)
-pair_arrives e p u v out back d k t o m within (Heard _ _ ports passes has acts) =
-    (all_act_keeps k.tag _ _ _ (pair_acts p u v out back k.tag) e false k.chunks t o within m acts).0
+pair_arrives e p u v out back d k t o m within (CookieBegins b _ _ _ ports passes none opens acts) = absurd (listens_not e.phase (found_is e k.tag k.chunks b opens).phase m.met.phase)
+pair_arrives e p u v out back d k t o m within (Heard w n _ ports passes has acts) =
+    pair_ended p u v out back n w (all_act_keeps k.tag _ _ _ (pair_acts p u v out back k.tag) e no_notes k.chunks w n o within m acts).0
 
 -- ---- what is built, called, and passes
 

@@ -8,10 +8,11 @@ use Rattle.sctp_model.specs.sender.Abandoning.{timed_out}
 use Rattle.sctp_model.specs.end.EndView.{Idle, Listening, Echoing, Calling, Over, Terms, Configuration, Tags, Stage, Ended, Aborted, AbortedHere, Completed, StaleCookie, Phase, Open, EndView}
 use Rattle.sctp_model.specs.end.Clock.{turned, closed}
 use Rattle.sctp_model.specs.end.Closing.{awaits_complete, hears, rested}
-use Rattle.sctp_model.specs.end.PeerFaults.{GoesOn, Ends, Replies}
+use Rattle.sctp_model.specs.end.PeerFaults.{GoesOn, Ends, Replies, Note}
 use Rattle.sctp_model.specs.end.Opening.{echoing, terms_of_ack, joined, AcceptedAck, RefusedAck, EchoedAgain}
 use Rattle.sctp_model.specs.end.Acting.{Acts, Closes, SaysNothing, CompleteCompleted}
-use Rattle.sctp_safety.proofs.machine.EndWords.{rested_cases, Keeps}
+use Rattle.sctp_model.specs.end.Arriving.{Notes, packet_ended}
+use Rattle.sctp_safety.proofs.machine.EndWords.{rested_cases, Keeps, ended_cases}
 use Rattle.sctp_safety.proofs.runs.Homes.{IsHome, home_turned, home_closed}
 use Rattle.sctp_safety.proofs.runs.Pair.{opens_or_ends, AreOpening, AreViews}
 use Rattle.sctp_safety.proofs.runs.Answers.{reply_opens}
@@ -101,30 +102,30 @@ module _ (clock : ℕ) where
 
   -- ---- chunks of an opening
 
-  goes : (e : EndView) (tag : ℕ) (x : ChunkMeaning) (t : EndView) → opens_or_ends x ≡ true → Unmet e → Acts e tag x (GoesOn t) → Unmet t
-  goes e tag (Data d) t on m h = absurd (cc)
-  goes e tag (IData d) t on m h = absurd (cc)
-  goes e tag (Init i) t on m h = absurd (cc)
-  goes e tag (InitAck i) t on m (AcceptedAck d cookie is tagged value fault) = record { blank = record { rwnd = i.rwnd; sender = refl; receiver = refl }; unopened = refl; home = home_echoing; moment = m.moment }
+  goes : (e : EndView) (tag : ℕ) (x : ChunkMeaning) (y : Note) (t : EndView) → opens_or_ends x ≡ true → Unmet e → Acts e tag x (GoesOn y t) → Unmet t
+  goes e tag (Data d) y t on m h = absurd (cc)
+  goes e tag (IData d) y t on m h = absurd (cc)
+  goes e tag (Init i) y t on m h = absurd (cc)
+  goes e tag (InitAck i) y t on m (AcceptedAck d cookie is tagged value fault) = record { blank = record { rwnd = i.rwnd; sender = refl; receiver = refl }; unopened = refl; home = home_echoing; moment = m.moment }
     where
       h : IsHome (turned (Echoing (record { own = d.tag; peer = i.tag }) cookie) (joined (terms_of_ack e.configuration d i) i.rwnd e))
       h = home_turned (Echoing (record { own = d.tag; peer = i.tag }) cookie) (joined (terms_of_ack e.configuration d i) i.rwnd e)
 
       home_echoing : IsHome (echoing e d i cookie)
       home_echoing = record { shutdown = h.shutdown; ack = h.ack; shutdown_runs = h.shutdown_runs; ack_runs = h.ack_runs }
-  goes e tag (Sack s) t on m h = absurd (cc)
-  goes e tag (Heartbeat i) t on m h = absurd (cc)
-  goes e tag (HeartbeatAck i) t on m h = absurd (cc)
-  goes e tag (Abort b xs) t on m h = absurd (cc)
-  goes e tag (Shutdown n) t on m h = absurd (cc)
-  goes e tag ShutdownAck t on m h = absurd (cc)
-  goes e tag (Error xs) t on m (SaysNothing off) = m
-  goes e tag (CookieEcho xs) t on m (EchoedAgain _ k g _ is _ _) = absurd (open_now e.phase k g is m.unopened)
-  goes e tag CookieAck t on m h = absurd (cc)
-  goes e tag (ShutdownComplete b) t on m h = elim h [ ]
-  goes e tag (ForwardTsn d) t on m h = absurd (cc)
-  goes e tag (IForwardTsn d) t on m h = absurd (cc)
-  goes e tag (Unknown k f w) t on m h = absurd (cc)
+  goes e tag (Sack s) y t on m h = absurd (cc)
+  goes e tag (Heartbeat i) y t on m h = absurd (cc)
+  goes e tag (HeartbeatAck i) y t on m h = absurd (cc)
+  goes e tag (Abort b xs) y t on m h = absurd (cc)
+  goes e tag (Shutdown n) y t on m h = absurd (cc)
+  goes e tag ShutdownAck y t on m h = absurd (cc)
+  goes e tag (Error xs) y t on m (SaysNothing off) = m
+  goes e tag (CookieEcho xs) y t on m (EchoedAgain _ k g _ is _ _) = absurd (open_now e.phase k g is m.unopened)
+  goes e tag CookieAck y t on m h = absurd (cc)
+  goes e tag (ShutdownComplete b) y t on m h = elim h [ ]
+  goes e tag (ForwardTsn d) y t on m h = absurd (cc)
+  goes e tag (IForwardTsn d) y t on m h = absurd (cc)
+  goes e tag (Unknown k f w) y t on m h = absurd (cc)
 
   ends : (e : EndView) (tag : ℕ) (x : ChunkMeaning) (t : EndView) → opens_or_ends x ≡ true → Unmet e → Acts e tag x (Ends t) → Unmet t
   ends e tag (Data d) t on m h = absurd (cc)
@@ -166,7 +167,10 @@ module _ (clock : ℕ) where
 
   pub openings_keep : (tag : ℕ) → Keeps tag Unmet (λ x. opens_or_ends x ≡ true) (λ r. AreOpening r.chunks)
   openings_keep tag = record {
-    goes = λ e x t on m act. rests t (goes e tag x t on m act);
+    goes = λ e x y t on m act. rests t (goes e tag x y t on m act);
     ends = λ e x t on m act. ends e tag x t on m act;
     replies = λ e x t r on m act. (replies e tag x t r on m act, reply_opens e tag x t r act);
   }
+
+  pub unmet_ended : (n : Notes) (e : EndView) → Unmet e → Unmet (packet_ended n e)
+  unmet_ended n e m = ended_cases Unmet n e m (λ t g is. absurd (open_now e.phase t g is m.unopened))
