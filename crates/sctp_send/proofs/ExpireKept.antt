@@ -8,7 +8,7 @@ use Rattle.sctp_model.specs.messages.Format.{Format}
 use Rattle.sctp_model.specs.messages.Plan.{Message, Entry, Plan}
 use Rattle.sctp_model.specs.sender.SenderView.{Queued, SenderView}
 use Rattle.sctp_model.specs.sender.Words.{first_there, some_passes, count_up}
-use Rattle.sctp_model.specs.sender.Entries.{any_from, continued, entry_message}
+use Rattle.sctp_model.specs.sender.Entries.{continued, entry_message}
 use Rattle.sctp_model.specs.sender.Abandoning.{Name, is_past, is_overdue, name_of, waits, expire_one, expired, abandon_after, may_abandon, is_to_expire, has_late}
 use Rattle.sctp_model.specs.sender.Reached.{IsReached}
 use Rattle.sctp_model.proofs.sender.AbandonCases.{after_abandon}

@@ -1,13 +1,13 @@
 -- Why a SACK or a SHUTDOWN is refused, from what a sender keeps.
-use Rattle.std.proofs.Common.{◌≡◌, ℕ, ◌+◌, ◌^◌, ◌<◌, ◌≤◌, ◌⊎◌, inl, inr, List, [], ◌∷◌, length, Bool, true, false, Option, Some, None, refl, sym, ap, ◌∙◌, arith}
-use Rattle.std.specs.Prelude.{nat_lt, ◌&&◌, if◌then◌else◌, is_some}
+use Rattle.std.proofs.Common.{◌≡◌, ℕ, ◌+◌, ◌<◌, ◌≤◌, List, [], ◌∷◌, length, true, false, Option, Some, None, refl, sym, ap, arith}
+use Rattle.std.specs.Prelude.{nat_lt, if◌then◌else◌, is_some}
 use Rattle.std.proofs.lemmas.Bool.Decides.{nat_tests}
 use Rattle.sctp_model.specs.messages.Format.{Format}
 use Rattle.sctp_model.specs.wire.Chunk.{BlockMeaning, SackMeaning}
 use Rattle.sctp_model.specs.numbers.Serial.{tsn, ahead, before}
 use Rattle.sctp_model.specs.sender.SenderView.{SenderView}
 use Rattle.sctp_model.specs.sender.SackTaken as taken
-use Rattle.sctp_model.specs.sender.SackTaken.{is_stale, index_of, some_ends_past, some_is_bad, sack_fault, sack_taken, sack_after, shutdown_fault, shutdown_taken, shutdown_after}
+use Rattle.sctp_model.specs.sender.SackTaken.{is_stale, index_of, some_ends_past, some_is_bad, sack_fault, sack_taken, sack_after, shutdown_fault}
 use Rattle.sctp_send.specs.SenderKept.{Kept}
 use Rattle.sctp_send.specs.SenderStands.{Keeps}
 use Rattle.sctp_send.specs.inner.Acknowledging.{IsPassing, Refuses, block_fault}
