@@ -1,18 +1,13 @@
 -- Each line says something: its first fault, or what its words say.
-use Rattle.std.proofs.Common.{◌≡◌, ℕ, ◌+◌, ◌<◌, ◌≤◌, Bool, true, false, ◌⊎◌, inl, inr, List, [], ◌∷◌, length, refl, sym, ap, ◌∙◌, subst, arith}
+use Rattle.std.proofs.Common.{◌≡◌, ℕ, ◌<◌, ◌≤◌, Bool, true, false, ◌⊎◌, inl, inr, List, [], ◌∷◌, length, Option, None, Some, refl, sym, ap, ◌∙◌, subst, arith}
 use Rattle.std.proofs.lemmas.Bool.{cases_eq, cases_lt}
-use Rattle.sctp_model.specs.wire.Chunk.{padded}
-use Rattle.sctp_model.specs.first.Ends.{Configuration}
 use Rattle.sctp_script.specs.declared.command.Command.{Command}
 use Rattle.sctp_script.specs.declared.command.Command.TheVariants as command
-use Rattle.sctp_script.specs.declared.config.ConfigFault.{ConfigFault}
-use Rattle.sctp_script.specs.declared.config.ConfigFault.TheVariants.{Port, PacketLimit, Fragment, Buffer, Streams}
-use Rattle.sctp_model.specs.numbers.Limits.{LEAST_PACKET, GREATEST_PACKET, LEAST_FRAGMENT, GREATEST_FRAGMENT, FRAGMENT_OVERHEAD, LEAST_BUFFER, GREATEST_BUFFER}
 use Rattle.sctp_script.specs.declared.line.TheConstants.{COMMENT}
 use Rattle.sctp_script.specs.declared.line.LineFault.{LineFault}
 use Rattle.sctp_script.specs.declared.line.LineFault.TheVariants.{TooLong, UnknownCommand, WordCount, BadValue, PairOrder}
 use Rattle.sctp_script.specs.Commands.{fields_of, arguments_of, is_pair}
-use Rattle.sctp_script.specs.Configuration.{IsWrong, IsFaultless, sizes}
+use Rattle.sctp_script.specs.Configuration.{pair_fault, sizes}
 use Rattle.sctp_script.specs.Fields.{Values}
 use Rattle.sctp_script.specs.Grammar.{LineMeaning, Silent, Pairs, Acts, Fault, IsSilent, AreGood, Spells, IsLineOf, Means, HasFault, HasNoFault, Says, SaysOneThing, meaning_of, kind_of}
 use Rattle.sctp_script.proofs.CommandLemmas.{command_or_none}
@@ -24,61 +19,14 @@ use Rattle.sctp_text.specs.declared.limits.TheConstants.{LONGEST_LINE}
 
 -- ---- whether sizes are a configuration is decided
 
-wrong_or_not : (c : Configuration) (f : ConfigFault) → IsWrong c f ⊎ (IsWrong c f → ⊥)
-wrong_or_not c Port = inr (λ h. h)
-wrong_or_not c PacketLimit =
-    elim (cases_lt c.limit LEAST_PACKET) [
-      | inl low ↦ inl (inl low)
-      | inr high ↦ elim (cases_lt GREATEST_PACKET c.limit) [
-        | inl above ↦ inl (inr above)
-        | inr within ↦ inr (λ h. elim h [ inl x ↦ omega (arith, high, x) | inr y ↦ omega (arith, within, y) ])
-      ]
-    ]
-wrong_or_not c Fragment =
-    elim (cases_lt c.fragment LEAST_FRAGMENT) [
-      | inl low ↦ inl (inl low)
-      | inr high ↦ elim (cases_lt GREATEST_FRAGMENT c.fragment) [
-        | inl above ↦ inl (inr (inl above))
-        | inr within ↦ elim (cases_lt c.limit (FRAGMENT_OVERHEAD + padded c.fragment)) [
-          | inl past ↦ inl (inr (inr past))
-          | inr fits ↦ inr (λ h. elim h [ inl x ↦ omega (arith, high, x) | inr y ↦ elim y [ inl u ↦ omega (arith, within, u) | inr v ↦ omega (arith, fits, v) ] ])
-        ]
-      ]
-    ]
-wrong_or_not c Buffer =
-    elim (cases_lt c.buffer LEAST_BUFFER) [
-      | inl low ↦ inl (inl low)
-      | inr high ↦ elim (cases_lt GREATEST_BUFFER c.buffer) [
-        | inl above ↦ inl (inr above)
-        | inr within ↦ inr (λ h. elim h [ inl x ↦ omega (arith, high, x) | inr y ↦ omega (arith, within, y) ])
-      ]
-    ]
-wrong_or_not c Streams = elim (cases_eq c.streams 1) [ inl one ↦ inr (λ h. h one) | inr other ↦ inl other ]
-
-all_right : (c : Configuration) → (IsWrong c PacketLimit → ⊥) → (IsWrong c Fragment → ⊥) → (IsWrong c Buffer → ⊥) → (IsWrong c Streams → ⊥) → IsFaultless c
-all_right c a b d e Port h = h
-all_right c a b d e PacketLimit h = a h
-all_right c a b d e Fragment h = b h
-all_right c a b d e Buffer h = d h
-all_right c a b d e Streams h = e h
-
-faultless_or_not : (c : Configuration) → IsFaultless c ⊎ (IsFaultless c → ⊥)
-faultless_or_not c =
-    elim (wrong_or_not c PacketLimit) [
-      | inl w ↦ inr (λ h. h PacketLimit w)
-      | inr a ↦ elim (wrong_or_not c Fragment) [
-        | inl w ↦ inr (λ h. h Fragment w)
-        | inr b ↦ elim (wrong_or_not c Buffer) [
-          | inl w ↦ inr (λ h. h Buffer w)
-          | inr d ↦ elim (wrong_or_not c Streams) [ inl w ↦ inr (λ h. h Streams w) | inr e ↦ inl (all_right c a b d e) ]
-        ]
-      ]
-    ]
+none_or_not : {A : Type 0} (o : Option A) → (o ≡ None) ⊎ (o ≡ None → ⊥)
+none_or_not None = inl refl
+none_or_not (Some x) = inr (λ h. cc (h))
 
 -- ---- what a command with its words says is decided
 
 good_or_not : (c : Command) (vs : Values (fields_of c)) → AreGood c vs ⊎ (AreGood c vs → ⊥)
-good_or_not command.Pair (limit, (fragment, (buffer, (streams, (mode, rest))))) = faultless_or_not (sizes limit fragment buffer streams)
+good_or_not command.Pair (limit, (fragment, (buffer, (streams, (mode, rest))))) = none_or_not (pair_fault (sizes limit fragment buffer streams))
 good_or_not _ vs = inl tt
 
 decided : (c : Command) (args : List (List ℕ)) → ((m : LineMeaning) × Spells c args m) ⊎ ((m : LineMeaning) → Spells c args m → ⊥)

@@ -1,15 +1,16 @@
 -- A line is of one command, and has no fault or a first one.
-use Rattle.std.proofs.Common.{◌≡◌, ℕ, ◌<◌, ◌≤◌, Bool, List, [], ◌∷◌, length, sym, ap, ◌∙◌, subst, arith}
+use Rattle.std.proofs.Common.{◌≡◌, ℕ, ◌<◌, ◌≤◌, Bool, List, [], ◌∷◌, length, None, Some, sym, ap, ◌∙◌, subst, arith}
 use Rattle.sctp_script.specs.declared.command.Command.{Command}
 use Rattle.sctp_script.specs.declared.command.Command.TheVariants as command
-use Rattle.sctp_script.specs.declared.config.ConfigFault.{ConfigFault}
+use Rattle.sctp_terms.specs.declared.config_fault.ConfigFault.{ConfigFault}
+use Rattle.sctp_terms.specs.Meanings.{config_fault_meaning}
 use Rattle.sctp_script.specs.declared.config.Mode.{Mode}
 use Rattle.sctp_script.specs.declared.line.LineFault.{LineFault}
 use Rattle.sctp_script.specs.declared.line.LineFault.TheVariants.{TooLong, UnknownCommand, WordCount, BadValue, PairOrder}
 use Rattle.sctp_script.specs.declared.line.Acting.{Acting}
 use Rattle.sctp_script.specs.declared.line.Acting.TheVariants as acting
 use Rattle.sctp_script.specs.Commands.{fields_of, arguments_of, is_pair}
-use Rattle.sctp_script.specs.Configuration.{IsFirstFault, sizes}
+use Rattle.sctp_script.specs.Configuration.{pair_fault, sizes}
 use Rattle.sctp_script.specs.Fields.{AMode, Values, AreValues, IsNumber, IsValue}
 use Rattle.sctp_script.specs.Grammar.{LineMeaning, AreGood, Spells, IsLineOf, HasFault, IsFirstFaultOf, HasNoFault, Says, kind_of}
 use Rattle.sctp_script.specs.ReadLineAnswer.{acting_meaning}
@@ -89,9 +90,10 @@ pair_words args a b c d rest t u v w x limit fragment buffer streams mode five f
 
 -- sizes with a fault say no configuration
 pub says_nothing : (args : List (List ℕ)) (l f b s : ℕ) (mode : Mode) (fault : ConfigFault)
-    → AreValues (fields_of command.Pair) args (l, (f, (b, (s, (mode, tt))))) → IsFirstFault (sizes l f b s) fault
+    → AreValues (fields_of command.Pair) args (l, (f, (b, (s, (mode, tt))))) → pair_fault (sizes l f b s) ≡ Some (config_fault_meaning fault)
     → (m : LineMeaning) → Spells command.Pair args m → ⊥
 says_nothing args l f b s mode fault are wrong m spells =
     let vs : Values (fields_of command.Pair) = (l, (f, (b, (s, (mode, tt))))) in
     let same = one_values (fields_of command.Pair) args spells.0 vs spells.1 are in
-    (subst (λ (us : Values (fields_of command.Pair)). AreGood command.Pair us) same spells.2) fault wrong.0
+    let good : pair_fault (sizes l f b s) ≡ None = subst (λ (us : Values (fields_of command.Pair)). AreGood command.Pair us) same spells.2 in
+    absurd (cc (good, wrong))

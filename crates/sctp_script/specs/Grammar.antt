@@ -1,5 +1,5 @@
 -- The script's grammar: what a line says. A line is bytes without the line feed.
-use Rattle.std.specs.Prelude.{◌≡◌, ◌≢◌, ℕ, ◌<◌, Bool, List, [], ◌∷◌, length}
+use Rattle.std.specs.Prelude.{◌≡◌, ◌≢◌, ℕ, ◌<◌, Bool, List, [], ◌∷◌, length, None}
 use Rattle.sctp_model.specs.first.Ends.{Configuration}
 use Rattle.sctp_model.specs.first.World.{Event, Open, Send, Build, Deliver, Take}
 use Rattle.sctp_script.specs.declared.command.Command.{Command}
@@ -8,7 +8,7 @@ use Rattle.sctp_script.specs.declared.line.TheConstants.{COMMENT}
 use Rattle.sctp_script.specs.declared.line.LineFault.{LineFault}
 use Rattle.sctp_script.specs.declared.line.LineFault.TheVariants.{TooLong, UnknownCommand, WordCount, BadValue, PairOrder}
 use Rattle.sctp_script.specs.Commands.{name_of, fields_of, arguments_of, is_pair}
-use Rattle.sctp_script.specs.Configuration.{IsFaultless, sizes}
+use Rattle.sctp_script.specs.Configuration.{pair_fault, sizes}
 use Rattle.sctp_script.specs.Fields.{Values, AreValues}
 use Rattle.sctp_text.specs.declared.limits.TheConstants.{LONGEST_LINE}
 use Rattle.sctp_text.specs.SpacedWords.{words_of}
@@ -33,7 +33,7 @@ meaning_of command.Take (x, (stream, rest)) = Acts (Take x stream)
 
 -- the values say something together: those of `pair` are a configuration without a fault
 abbrev pub AreGood : (c : Command) → Values (fields_of c) → Type 0
-AreGood command.Pair (limit, (fragment, (buffer, (streams, (mode, rest))))) = IsFaultless (sizes limit fragment buffer streams)
+AreGood command.Pair (limit, (fragment, (buffer, (streams, (mode, rest))))) = pair_fault (sizes limit fragment buffer streams) ≡ None
 AreGood _ vs = Unit {0}
 
 -- What a command says with these words behind it.

@@ -1,4 +1,3 @@
-pub mod Allowed
 pub mod Configuration
 pub mod Events
 pub mod OutcomeText

@@ -1,6 +1,5 @@
 -- What is answered to a line, in the words of the grammar.
 use Rattle.std.specs.Prelude.{◌≡◌, ℕ, Bool, List, length, Option, Some, None}
-use Rattle.sctp_script.specs.declared.config.Draw.{Draw}
 use Rattle.sctp_script.specs.declared.event.Event.{Event}
 use Rattle.sctp_script.specs.declared.event.Event.TheVariants.{Open}
 use Rattle.sctp_script.specs.declared.line.Acting.{Acting}
@@ -11,15 +10,11 @@ use Rattle.sctp_script.specs.Events.{event_meaning}
 use Rattle.sctp_script.specs.declared.command.Command.TheVariants as command
 use Rattle.sctp_script.specs.Commands.{arguments_of}
 use Rattle.sctp_script.specs.Grammar.{LineMeaning, Silent, Pairs, Acts, Fault, Says, IsLineOf}
-use Rattle.sctp_script.specs.Configuration.{configuration_meaning, tag_of, tsn_of}
-
--- a draw of this tag and first TSN
-abbrev pub IsDraw : Draw → ℕ → ℕ → Type 0
-IsDraw d tag tsn = (tag_of d ≡ tag) × (tsn_of d ≡ tsn)
+use Rattle.sctp_script.specs.Configuration.{configuration_meaning}
 
 -- `open` draws tag 1 for A and tag 2 for B, and TSN 1 for both
 abbrev pub HasDraws : Event → Type 0
-HasDraws (Open a b) = IsDraw a 1 1 × IsDraw b 2 1
+HasDraws (Open a b) = (a ≡ record { tag = 1; tsn = 1 }) × (b ≡ record { tag = 2; tsn = 1 })
 HasDraws _ = Unit {0}
 
 -- what a line that acts says

@@ -1,6 +1,6 @@
 //! What may happen to a pair, and what it answers: one case for each acting line of a script, and one for each outcome line.
 
-use crate::config::Draw;
+use sctp_terms::Draw;
 use sctp_text::Bytes;
 
 /// The end A, which calls, or B, which listens.

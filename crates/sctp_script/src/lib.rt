@@ -6,16 +6,16 @@ mod command;
 mod config;
 mod event;
 mod laws;
-mod limits;
 mod line;
 mod line_out;
 mod outcome_line;
 mod report;
 
-pub use config::{ConfigFault, Draw, Mode, PairConfig};
+pub use config::{Mode, PairConfig};
 pub use event::{Event, Outcome, Refusal, Side, State};
 pub use laws::{events_follow_the_pair, one_meaning};
 pub use line::{Acting, LineError, LineFault, read_line};
 pub use outcome_line::put_outcome;
 pub use report::{put_end, put_handed, put_numbered};
+pub use sctp_terms::{ConfigFault, Draw};
 pub use sctp_text::Bytes;

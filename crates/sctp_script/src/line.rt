@@ -8,8 +8,9 @@ ghost use Rattle.sctp_script.specs.ReadLineAnswer.{Finds, Refuses, HasDrawsIn, a
 
 use crate::arguments::{read_bytes, read_mode, read_side, read_u16, read_u32};
 use crate::command::Command;
-use crate::config::{Draw, PairConfig};
+use crate::config::PairConfig;
 use crate::event::Event;
+use sctp_terms::Draw;
 use sctp_text::{LONGEST_LINE, Words};
 use sctp_values::NoMemory;
 use std::alloc::Global;
