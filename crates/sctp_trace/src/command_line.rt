@@ -1,15 +1,13 @@
-//! The command line of the program: what its words ask for, and the exit status.
+//! The command line of the program: what its words ask for is done, and the exit status answered.
 
 ghost use Rattle.std.specs.Prelude.{◌≡◌, ◌≢◌, ℕ, ◌⊎◌, ◌+◌, ◌-◌, ◌^◌, ◌<◌, ◌≤◌, List, [], map, string_bytes, IfOk};
-ghost use Rattle.clap.specs.Words.{FailsBy, HasMatchesOf, fault_of};
 ghost use Rattle.sctp_print.specs.PrintedText.{IsPacketTextOf, IsChunksTextOf};
 ghost use Rattle.sctp_trace.specs.ExitStatus.{Begins, Runs, Acts, Prints, status_of, words_text, Says, Ends};
-ghost use Rattle.sctp_trace.specs.Forms.{commands, form_of};
 ghost use Rattle.sctp_trace.specs.inner.Asked.{form_meaning};
 
+use crate::form::{Form, form_of};
 use crate::script::{ScriptFault, run_script};
 use clap::error::ErrorKind;
-use clap::{Arg, ArgMatches, Command, Error};
 use sctp_print::{print_chunks, print_packet};
 use sctp_text::{Sink, Source, write_all};
 use std::alloc::{AllocError, Global};
@@ -61,49 +59,6 @@ pub fn run_words<R: Source, W: Sink, F: Sink>(
         Ok(form) => act(alloc, form, input, output, faults),
         Err(error) => refuse(alloc, error.kind(), faults),
     }
-}
-
-/// What words ask for: to run a script, or to print what text says in hexadecimal.
-#[derive(Clone, Copy)]
-enum Form<'a> {
-    Run,
-    Packet(&'a str),
-    Chunks(&'a str),
-}
-
-/// The form of the words: the subcommand, and the value of HEX.
-fn form_of(alloc: Global, words: &[String]) -> Result<Form<'_>, Error>
-    ensures fails { FailsBy (fault_of commands (map string_bytes words.now)) result }
-    ensures form { IfOk result (λ form. form_meaning form ≡ form_of (map string_bytes words.now)) }
-{
-    let matches = match parse(alloc, words) {
-        Ok(matches) => matches,
-        Err(error) => return Err(error),
-    };
-    if let Some(packet) = matches.subcommand_matches("packet") {
-        return Ok(Form::Packet(packet.get_str("HEX").unwrap_or("")));
-    }
-    if let Some(chunks) = matches.subcommand_matches("chunks") {
-        return Ok(Form::Chunks(chunks.get_str("HEX").unwrap_or("")));
-    }
-    Ok(Form::Run)
-}
-
-/// Parses the words: a subcommand, `run`, `packet` or `chunks`, the last two with HEX.
-fn parse(alloc: Global, words: &[String]) -> Result<ArgMatches<'_>, Error>
-    ensures fails { FailsBy (fault_of commands (map string_bytes words.now)) result }
-    ensures matches { IfOk result (HasMatchesOf commands (map string_bytes words.now)) }
-{
-    let run = Command::new(alloc, "run");
-    let packet_hex = Arg::new(alloc, "HEX").required(true);
-    let packet = Command::new(alloc, "packet").arg(packet_hex)?;
-    let chunks_hex = Arg::new(alloc, "HEX").required(true);
-    let chunks = Command::new(alloc, "chunks").arg(chunks_hex)?;
-    let bare = Command::new(alloc, "sctp-trace").subcommand_required(true);
-    let running = bare.subcommand(run)?;
-    let printing = running.subcommand(packet)?;
-    let program = printing.subcommand(chunks)?;
-    program.try_get_matches_from(words)
 }
 
 /// Does what a form asks.

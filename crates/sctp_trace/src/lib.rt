@@ -4,6 +4,7 @@
 mod command_line;
 mod end;
 mod end_report;
+mod form;
 mod gathered;
 mod packets;
 mod pair;

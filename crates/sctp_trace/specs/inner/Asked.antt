@@ -1,7 +1,7 @@
 -- The form that the program's own value for it means.
 use Rattle.sctp_trace.specs.Forms as forms
-use Rattle.sctp_trace.specs.declared.command_line.Form.{Form}
-use Rattle.sctp_trace.specs.declared.command_line.Form.TheVariants.{Run, Packet, Chunks}
+use Rattle.sctp_trace.specs.declared.form.Form.{Form}
+use Rattle.sctp_trace.specs.declared.form.Form.TheVariants.{Run, Packet, Chunks}
 
 -- what is asked for, without where its word lies
 abbrev pub form_meaning : Form → forms.Form

@@ -3,7 +3,7 @@ use Rattle.clap.specs.Matches.{found_of}
 use Rattle.clap.specs.Walk.{rows_of}
 use Rattle.sctp_trace.specs.Forms.{Packet, Chunks, asked_by}
 use Rattle.sctp_trace.proofs.FormLemmas.{commands_are_simple, met, word_of, text_or}
-use Rattle.sctp_trace.proofs.command_line.form_of.Goals as goal
+use Rattle.sctp_trace.proofs.form.form_of.Goals as goal
 
 -- the subcommand that was met has this name and these rows, and its word is the value of HEX
 pub returns-in-Some-clause-form : goal.returns-in-Some-clause-form

@@ -1,0 +1,68 @@
+//! What the program's words ask for, as clap reads them.
+
+ghost use Rattle.std.specs.Prelude.{◌≡◌, false, map, string_bytes, IfOk};
+ghost use Rattle.clap.specs.Words.{FailsBy, HasMatchesOf, app_of, fault_of, fields_of};
+ghost use Rattle.sctp_trace.specs.Forms.{commands, form_of, with_hex};
+ghost use Rattle.sctp_trace.specs.inner.Asked.{form_meaning};
+
+use clap::{Arg, ArgMatches, Command, Error};
+use std::alloc::{AllocError, Global};
+
+/// What words ask for: to run a script, or to print what text says in hexadecimal.
+#[derive(Clone, Copy)]
+pub(crate) enum Form<'a> {
+    Run,
+    Packet(&'a str),
+    Chunks(&'a str),
+}
+
+/// The form of the words: the subcommand, and the value of HEX.
+pub(crate) fn form_of(alloc: Global, words: &[String]) -> Result<Form<'_>, Error>
+    ensures fails { FailsBy (fault_of commands (map string_bytes words.now)) result }
+    ensures form { IfOk result (λ form. form_meaning form ≡ form_of (map string_bytes words.now)) }
+{
+    let matches = match parse(alloc, words) {
+        Ok(matches) => matches,
+        Err(error) => return Err(error),
+    };
+    if let Some(packet) = matches.subcommand_matches("packet") {
+        return Ok(Form::Packet(packet.get_str("HEX").unwrap_or("")));
+    }
+    if let Some(chunks) = matches.subcommand_matches("chunks") {
+        return Ok(Form::Chunks(chunks.get_str("HEX").unwrap_or("")));
+    }
+    Ok(Form::Run)
+}
+
+/// Parses the words.
+fn parse(alloc: Global, words: &[String]) -> Result<ArgMatches<'_>, Error>
+    ensures fails { FailsBy (fault_of commands (map string_bytes words.now)) result }
+    ensures matches { IfOk result (HasMatchesOf commands (map string_bytes words.now)) }
+{
+    let program = program(alloc)?;
+    program.try_get_matches_from(words)
+}
+
+/// The program: a subcommand is required, `run`, `packet` or `chunks`, the last two with HEX.
+fn program<'a>(alloc: Global) -> Result<Command<'a>, AllocError>
+    ensures { IfOk result (λ program. app_of program ≡ commands) }
+{
+    let run = Command::new(alloc, "run");
+    let packet = with_hex(alloc, "packet")?;
+    let chunks = with_hex(alloc, "chunks")?;
+    let bare = Command::new(alloc, "sctp-trace").subcommand_required(true);
+    let running = bare.subcommand(run)?;
+    let printing = running.subcommand(packet)?;
+    let program = printing.subcommand(chunks)?;
+    Ok(program)
+}
+
+/// A subcommand of this name, with HEX.
+fn with_hex<'a>(alloc: Global, name: &'a str) -> Result<Command<'a>, AllocError>
+    ensures shape { IfOk result (λ command. (app_of command).top ≡ with_hex name.now) }
+    ensures local { IfOk result (λ command. (fields_of command).has_globals ≡ false) }
+{
+    let hex = Arg::new(alloc, "HEX").required(true);
+    let command = Command::new(alloc, name).arg(hex)?;
+    Ok(command)
+}
