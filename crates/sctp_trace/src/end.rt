@@ -18,7 +18,7 @@ use sctp_values::NoMemory;
 use std::alloc::Global;
 
 /// A message that the user took: its stream, and its number there, if it has one.
-#[derive(Clone, Copy, Debug)]
+#[derive(Clone, Copy)]
 pub(crate) struct TakenMessage {
     pub(crate) stream: u16,
     pub(crate) number: Option<u32>,
