@@ -54,8 +54,8 @@ abbrev pub kind_skip_word : SkipMeaning → List ℕ
 kind_skip_word s = decimal s.stream ++ (COLON ∷ ((if s.unordered then codes "u" else codes "o") ++ (COLON ∷ decimal s.number)))
 
 -- the type of a parameter or a cause
-abbrev pub kind_word : Typed → List ℕ
-kind_word x = decimal x.kind
+abbrev pub type_word : Typed → List ℕ
+type_word x = decimal x.kind
 
 -- ---- lines
 
@@ -107,10 +107,10 @@ chunk_words (InitAck i) = init_words (codes "INIT-ACK") i
 chunk_words (Sack s) = sack_words s
 chunk_words (Heartbeat info) = codes "HEARTBEAT" ∷ codes "info" ∷ hex_word info ∷ []
 chunk_words (HeartbeatAck info) = codes "HEARTBEAT-ACK" ∷ codes "info" ∷ hex_word info ∷ []
-chunk_words (Abort reflected causes) = codes "ABORT" ∷ codes "t" ∷ flag_word reflected ∷ codes "causes" ∷ joined kind_word (typed_in causes) ∷ []
+chunk_words (Abort reflected causes) = codes "ABORT" ∷ codes "t" ∷ flag_word reflected ∷ codes "causes" ∷ joined type_word (typed_in causes) ∷ []
 chunk_words (Shutdown cumulative) = codes "SHUTDOWN" ∷ codes "cum" ∷ decimal cumulative ∷ []
 chunk_words ShutdownAck = codes "SHUTDOWN-ACK" ∷ []
-chunk_words (Error causes) = codes "ERROR" ∷ codes "causes" ∷ joined kind_word (typed_in causes) ∷ []
+chunk_words (Error causes) = codes "ERROR" ∷ codes "causes" ∷ joined type_word (typed_in causes) ∷ []
 chunk_words (CookieEcho cookie) = codes "COOKIE-ECHO" ∷ codes "cookie" ∷ hex_word cookie ∷ []
 chunk_words CookieAck = codes "COOKIE-ACK" ∷ []
 chunk_words (ShutdownComplete reflected) = codes "SHUTDOWN-COMPLETE" ∷ codes "t" ∷ flag_word reflected ∷ []

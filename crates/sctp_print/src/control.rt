@@ -5,7 +5,7 @@ ghost use Rattle.sctp_model.specs.wire.Typed.{typed_in};
 ghost use Rattle.sctp_text.specs.Numerals.{hex_word};
 ghost use Rattle.sctp_text.specs.SpacedWords.{line_of};
 ghost use Rattle.sctp_wire.specs.ChunkTree.{init_meaning};
-ghost use Rattle.sctp_print.specs.ChunkLines.{flag_word, init_words, unknown_words, joined, kind_word};
+ghost use Rattle.sctp_print.specs.ChunkLines.{flag_word, init_words, unknown_words, joined, type_word};
 
 use crate::words::{behind_comma, count_items, hex_text, kinds_word};
 use sctp_text::{Word, put_line};
@@ -68,7 +68,7 @@ pub(crate) fn put_abort(
     out: &mut Vec<u8>,
 ) -> Result<(), AllocError>
     ensures put { OnOk result (out.new.items ≡ out.old.items
-        ++ line_of (codes "ABORT" ∷ codes "t" ∷ flag_word reflected ∷ codes "causes" ∷ joined kind_word (typed_in causes.now) ∷ [])) }
+        ++ line_of (codes "ABORT" ∷ codes "t" ∷ flag_word reflected ∷ codes "causes" ∷ joined type_word (typed_in causes.now) ∷ [])) }
     ensures refused { OnErr result (out.new.items ≡ out.old.items) }
 {
     let kinds = kinds_word(alloc, causes)?;
@@ -88,7 +88,7 @@ pub(crate) fn put_error(
     out: &mut Vec<u8>,
 ) -> Result<(), AllocError>
     ensures put { OnOk result (out.new.items ≡ out.old.items
-        ++ line_of (codes "ERROR" ∷ codes "causes" ∷ joined kind_word (typed_in causes.now) ∷ [])) }
+        ++ line_of (codes "ERROR" ∷ codes "causes" ∷ joined type_word (typed_in causes.now) ∷ [])) }
     ensures refused { OnErr result (out.new.items ≡ out.old.items) }
 {
     let kinds = kinds_word(alloc, causes)?;

@@ -4,7 +4,7 @@ ghost use Rattle.std.specs.Prelude.{◌≡◌, ◌∷◌, ◌++◌, length, deci
 ghost use Rattle.sctp_text.specs.Numerals.{hex_word};
 ghost use Rattle.sctp_model.specs.wire.Typed.{typed_in};
 ghost use Rattle.sctp_wire.specs.ChunkTree.{block_meaning, piece_meaning, skip_meaning};
-ghost use Rattle.sctp_print.specs.ChunkLines.{letter, flags_word, each_behind_comma, block_word, skip_word, kind_skip_word, kind_word};
+ghost use Rattle.sctp_print.specs.ChunkLines.{letter, flags_word, each_behind_comma, block_word, skip_word, kind_skip_word, type_word};
 ghost use Rattle.sctp_print.specs.Commas.{behind_comma};
 
 use sctp_text::{put_decimal, put_hex};
@@ -97,7 +97,7 @@ fn put_kind_skip(skip: &Skip, word: &mut Vec<u8>) -> Result<(), AllocError>
 
 /// The types of causes, each behind a comma.
 pub(crate) fn kinds_word(alloc: Global, causes: &Causes<'_>) -> Result<Vec<u8>, AllocError>
-    ensures { IfOk result (λ word. word.items ≡ each_behind_comma kind_word (typed_in causes.now)) }
+    ensures { IfOk result (λ word. word.items ≡ each_behind_comma type_word (typed_in causes.now)) }
 {
     let mut word = Vec::new(alloc);
     for cause in causes.iter() {
