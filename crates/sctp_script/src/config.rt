@@ -22,7 +22,7 @@ pub struct PairConfig {
 }
 
 impl PairConfig {
-    ghost use Rattle.std.specs.Prelude.{◌≡◌, Some, None, MatchResult};
+    ghost use Rattle.std.specs.Prelude.{◌≡◌, ◌≤◌, Some, None, MatchResult};
     ghost use Rattle.sctp_terms.specs.Meanings.{config_fault_meaning};
     ghost use Rattle.sctp_script.specs.Configuration.{pair_fault, configuration_meaning, mode_of, sizes};
 
@@ -51,9 +51,11 @@ impl PairConfig {
         Ok(PairConfig { a, mode })
     }
 
-    /// The longest packet that is sent.
+    /// The bytes of the longest packet that is sent, 576 to 1,500.
     pub fn limit(&self) -> u16
-        ensures { result ≡ (configuration_meaning self.now).limit }
+        ensures exact { result ≡ (configuration_meaning self.now).limit }
+        ensures least { 576 ≤ result }
+        ensures greatest { result ≤ 1500 }
     {
         self.a.limit()
     }

@@ -1,7 +1,7 @@
 //! What the program's words ask for, as clap reads them.
 
-ghost use Rattle.std.specs.Prelude.{◌≡◌, false, map, string_bytes, IfOk};
-ghost use Rattle.clap.specs.Words.{FailsBy, HasMatchesOf, app_of, fault_of, fields_of};
+ghost use Rattle.std.specs.Prelude.{◌≡◌, map, string_bytes, IfOk};
+ghost use Rattle.clap.specs.Words.{FailsBy, HasMatchesOf, app_of, fault_of};
 ghost use Rattle.sctp_trace.specs.Forms.{commands, form_of, with_hex};
 ghost use Rattle.sctp_trace.specs.inner.Asked.{form_meaning};
 
@@ -59,8 +59,7 @@ fn program<'a>(alloc: Global) -> Result<Command<'a>, AllocError>
 
 /// A subcommand of this name, with HEX.
 fn with_hex<'a>(alloc: Global, name: &'a str) -> Result<Command<'a>, AllocError>
-    ensures shape { IfOk result (λ command. (app_of command).top ≡ with_hex name.now) }
-    ensures local { IfOk result (λ command. (fields_of command).has_globals ≡ false) }
+    ensures { IfOk result (λ command. (app_of command).top ≡ with_hex name.now) }
 {
     let hex = Arg::new(alloc, "HEX").required(true);
     let command = Command::new(alloc, name).arg(hex)?;
