@@ -1,6 +1,7 @@
 #!/bin/sh
 # Counts instructions by callgrind, of programs that `rt run` proves and builds: what a byte of crc32c takes (beside the same loop in C at -O2), and what a
-# receiver and a sender take for a message. `./run.sh` runs all, `./run.sh crc32c`, `./run.sh receiver` and `./run.sh sender` one of them. Needs rt, valgrind and cc.
+# receiver and a sender take for a message; and what calls of a receiver take that keeps much. `./run.sh` runs all, `./run.sh crc32c`, `./run.sh receiver`,
+# `./run.sh sender` and `./run.sh growth` one of them. Needs rt, valgrind and cc.
 set -e
 here=$(cd "$(dirname "$0")" && pwd)
 work=$(mktemp -d)
@@ -38,14 +39,14 @@ each() {
 }
 
 crc32c() {
-    build crc32c sctp_model sctp_wire sctp_packet
+    build crc32c sctp_model sctp_values sctp_wire sctp_packet
     cc -O2 -o "$work/c" "$here/crc32c.c"
     each 'a byte of crc32c' 1000 3000 1472 "$built"
     each 'a byte of crc32c in C' 1000 3000 1472 "$work/c"
 }
 
 receiver() {
-    build receiver sctp_model sctp_safety sctp_serial sctp_wire sctp_framing sctp_chains sctp_recv
+    build receiver sctp_model sctp_values sctp_safety sctp_serial sctp_wire sctp_framing sctp_chains sctp_recv
     for range in '1000 2000' '10000 20000' '100000 200000'; do
         # shellcheck disable=SC2086
         each "a message of 64 bytes in order ($range)" $range 1 "$built" order
@@ -57,7 +58,7 @@ receiver() {
 }
 
 sender() {
-    build sender sctp_model sctp_safety sctp_serial sctp_wire sctp_framing sctp_packet sctp_send
+    build sender sctp_model sctp_values sctp_safety sctp_serial sctp_wire sctp_framing sctp_packet sctp_send
     for range in '1000 2000' '10000 20000' '100000 200000'; do
         # shellcheck disable=SC2086
         each "a message of 64 bytes queued, sent and acknowledged ($range)" $range 1 "$built" sent
@@ -79,7 +80,29 @@ sender() {
     "$built" window 32768
 }
 
+# what one of so many calls takes at a size, twice and four times that: NAME SIZE CALLS PROGRAM WORD ..; a call that costs its own work alone takes as much
+# at each of them
+grows() {
+    name=$1 size=$2 calls=$3
+    shift 3
+    for times in 1 2 4; do
+        none=$(count "$@" $((size * times)) 0)
+        some=$(count "$@" $((size * times)) "$calls")
+        echo "$none $some" | awk -v name="$name" -v size=$((size * times)) -v calls="$calls" '{ printf "%s, at %d: %.0f instructions\n", name, size, ($2 - $1) / calls }'
+    done
+}
+
+growth() {
+    build receiver_growth sctp_model sctp_values sctp_safety sctp_serial sctp_wire sctp_framing sctp_chains sctp_recv
+    for format in data i-data; do
+        grows "$format: a fragment between two of so many chains of its message" 2000 100 "$built" "$format" fragments
+        grows "$format: a fragment before so many of its message" 2000 100 "$built" "$format" backwards
+        grows "$format: a gap closed amid so many runs" 2000 100 "$built" "$format" gaps
+        grows "$format: a FORWARD at so many streams" 500 20 "$built" "$format" forwards
+    done
+}
+
 case ${1:-all} in
-    all) crc32c; receiver; sender ;;
+    all) crc32c; receiver; sender; growth ;;
     *) "$1" ;;
 esac

@@ -6,6 +6,7 @@ mod ChainLemmas
 mod SpotLemmas
 mod FilingLemmas
 mod JoiningLemmas
+mod WholeCounts
 mod FindingLemmas
 mod SearchLemmas
 mod SizeLemmas

@@ -143,7 +143,7 @@ module _ (f : Format) (l : Lane) (cs : List ChainKept) (bytes : ℕ) (kept : Lis
   -- the lowest whole message is the one found, and what stays are the chunks above its number
   took_lowest : {F : Type 0} (from last : ℕ) (w : Found) (mid : List ChainKept) (b : ℕ) (d : ChainKept) (num high : ℕ) (m : Whole) (new : Chains F) → is_numbered f l.kind ≡ true →
       IsFirstWhole cs (rank_at (Some from) 0) (rank_at (Some last) (2 ^ 32 - 1)) (Some w) → Removes w.at cs mid bytes b d → num ≡ d.first / 2 ^ 32 → high ≡ rank_at (Some num) (2 ^ 32 - 1) →
-      LetsGo high 0 mid (map chain_of new.chains.items) b new.held → IsWholeOf d w.head (Some num) m → TakesLowest f l kept from last (Some m) new
+      LetsGo high 0 mid (map chain_of new.filed.chains.items) b new.held → IsWholeOf d w.head (Some num) m → TakesLowest f l kept from last (Some m) new
   unfolding StandsFor
   took_lowest from last w mid b d num high m new numbered (c, at, low, up, before) taken num_is high_is lets says = (
     n,
@@ -157,7 +157,7 @@ module _ (f : Format) (l : Lane) (cs : List ChainKept) (bytes : ℕ) (kept : Lis
       whole = (q.of.whole, q.of.within, (of.lane, number));
       lowest = λ y ys w. lowest y ys w;
       made = made f kept d x q.rest w.head (Some num) m (subst (λ (e : ChainKept). AreOf f kept e x q.rest) (sym q.same) q.of) (ap (λ (e : ChainKept). e.head) q.same ∙ at.head) says (ap (λ (i : ℕ). Some i) same_num ∙ sym number);
-      left = stays f l cs (map chain_of new.chains.items) bytes new.held kept h (is_outside 0 top) (λ (z : Piece). not (is_number_below (suc n) z.number)) leaves (λ z there. below_agrees f l z n (h.of z there) numbered);
+      left = stays f l cs (map chain_of new.filed.chains.items) bytes new.held kept h (is_outside 0 top) (λ (z : Piece). not (is_number_below (suc n) z.number)) leaves (λ z there. below_agrees f l z n (h.of z there) numbered);
     },
   )
     where
@@ -195,9 +195,9 @@ module _ (f : Format) (l : Lane) (cs : List ChainKept) (bytes : ℕ) (kept : Lis
       inside_top : c.last ≤ top
       inside_top = subst (λ (i : Option ℕ). c.last ≤ rank_at i (2 ^ 32 - 1)) number (chain_end c x q.rest q.here q.of)
 
-      leaves : Leaves (is_outside 0 top) cs (map chain_of new.chains.items) bytes new.held
-      leaves = leaves_both (is_outside c.first c.last) (is_outside 0 top) cs mid (map chain_of new.chains.items) bytes b new.held q.out
-          (subst (λ (u : ℕ). LetsGo u 0 mid (map chain_of new.chains.items) b new.held) high_top lets q.out.chains 0 (cut_low mid)) (λ r e. out_of_both 0 c.first c.last top r (omega arith) inside_top e)
+      leaves : Leaves (is_outside 0 top) cs (map chain_of new.filed.chains.items) bytes new.held
+      leaves = leaves_both (is_outside c.first c.last) (is_outside 0 top) cs mid (map chain_of new.filed.chains.items) bytes b new.held q.out
+          (subst (λ (u : ℕ). LetsGo u 0 mid (map chain_of new.filed.chains.items) b new.held) high_top lets q.out.chains 0 (cut_low mid)) (λ r e. out_of_both 0 c.first c.last top r (omega arith) inside_top e)
 
       lowest : (y : Piece) (ys : List Piece) → IsWholeNumber f kept l n (y ∷ ys) → x.index ≤ y.index
       lowest y ys whole =
@@ -220,7 +220,7 @@ module _ (f : Format) (l : Lane) (cs : List ChainKept) (bytes : ℕ) (kept : Lis
 
   pub took_lowest_by : {F : Type 0} (from last lower upper : ℕ) → lower ≡ rank_at (Some from) 0 → upper ≡ rank_at (Some last) (2 ^ 32 - 1) → (w : Found) (mid : List ChainKept) (b : ℕ) (d : ChainKept)
       (num high : ℕ) (m : Whole) (new : Chains F) → is_numbered f l.kind ≡ true → IsFirstWhole cs lower upper (Some w) → Removes w.at cs mid bytes b d → num ≡ d.first / 2 ^ 32 →
-      high ≡ rank_at (Some num) (2 ^ 32 - 1) → LetsGo high 0 mid (map chain_of new.chains.items) b new.held → IsWholeOf d w.head (Some num) m → TakesLowest f l kept from last (Some m) new
+      high ≡ rank_at (Some num) (2 ^ 32 - 1) → LetsGo high 0 mid (map chain_of new.filed.chains.items) b new.held → IsWholeOf d w.head (Some num) m → TakesLowest f l kept from last (Some m) new
   took_lowest_by from last lower upper e g w mid b d num high m new numbered found taken num_is high_is lets says =
       took_lowest from last w mid b d num high m new numbered
       (subst (λ (u : ℕ). IsFirstWhole cs u (rank_at (Some last) (2 ^ 32 - 1)) (Some w)) e (subst (λ (v : ℕ). IsFirstWhole cs lower v (Some w)) g found)) taken num_is high_is lets says

@@ -138,14 +138,14 @@ top_high Interleaved c n le = le
 -- the chunk's message is the one found, and what goes with it is gone
 module _ {F : Type 0} (f : Format) (l : Lane) (cs : List ChainKept) (bytes : ℕ) (kept : List Piece) (h : KeepsLane f l cs bytes kept) (y : Piece) (there : Has kept y) where
   pub took_with : (r : ℕ) (w : Found) (mid : List ChainKept) (b : ℕ) (d : ChainKept) (high : ℕ) (m : Whole) (new : Chains F) → r ≡ rank_of f y → IsWholeWithRank cs r (Some w) →
-      Removes w.at cs mid bytes b d → high ≡ top_of f d y.number → LetsGo high w.at mid (map chain_of new.chains.items) b new.held → IsWholeOf d w.head y.number m → TakesMessage f l kept y m new
+      Removes w.at cs mid bytes b d → high ≡ top_of f d y.number → LetsGo high w.at mid (map chain_of new.filed.chains.items) b new.held → IsWholeOf d w.head y.number m → TakesMessage f l kept y m new
   unfolding StandsFor
   took_with r w mid b d high m new r_is (c, at, in_it) taken high_is lets says = record {
     head = x;
     rest = q.rest;
     whole = (q.of.whole, q.of.within, has);
     made = made f kept d x q.rest w.head y.number m (subst (λ (e : ChainKept). AreOf f kept e x q.rest) (sym q.same) q.of) (ap (λ (e : ChainKept). e.head) q.same ∙ at.head) says number;
-    left = stays f l cs (map chain_of new.chains.items) bytes new.held kept h (is_outside c.first top) (λ (z : Piece). not (goes_with f (x ∷ q.rest) z)) leaves (λ z z_kept. goes_agrees f l cs bytes kept h c x q.rest q.here q.of z z_kept);
+    left = stays f l cs (map chain_of new.filed.chains.items) bytes new.held kept h (is_outside c.first top) (λ (z : Piece). not (goes_with f (x ∷ q.rest) z)) leaves (λ z z_kept. goes_agrees f l cs bytes kept h c x q.rest q.here q.of z z_kept);
   }
     where
       q : IsFoundOut f kept cs mid bytes b c d
@@ -166,10 +166,10 @@ module _ {F : Type 0} (f : Format) (l : Lane) (cs : List ChainKept) (bytes : ℕ
       high_top : high ≡ top
       high_top = high_is ∙ (λ i. top_of f (q.same i) (number i))
 
-      rest : Leaves (is_outside c.first top) mid (map chain_of new.chains.items) b new.held
-      rest = subst (λ (u : ℕ). Leaves (is_outside c.first u) mid (map chain_of new.chains.items) b new.held) high_top
+      rest : Leaves (is_outside c.first top) mid (map chain_of new.filed.chains.items) b new.held
+      rest = subst (λ (u : ℕ). Leaves (is_outside c.first u) mid (map chain_of new.filed.chains.items) b new.held) high_top
           (lets q.out.chains c.first (subst (λ (e : ChainKept). IsCut e.first mid w.at) q.same (taken.rest h.chains at.within)))
 
-      leaves : Leaves (is_outside c.first top) cs (map chain_of new.chains.items) bytes new.held
-      leaves = leaves_both (is_outside c.first c.last) (is_outside c.first top) cs mid (map chain_of new.chains.items) bytes b new.held q.out rest
+      leaves : Leaves (is_outside c.first top) cs (map chain_of new.filed.chains.items) bytes new.held
+      leaves = leaves_both (is_outside c.first c.last) (is_outside c.first top) cs mid (map chain_of new.filed.chains.items) bytes b new.held q.out rest
           (λ i e. out_of_both c.first c.first c.last top i (omega arith) (top_high f c x.number (chain_end f l cs bytes kept h c x q.rest q.here q.of)) e)

@@ -1,8 +1,9 @@
 -- Chains of fragments that follow one another: a chain is a whole message exactly where it begins and ends one.
-use Rattle.std.specs.Prelude.{◌≡◌, ℕ, suc, ◌+◌, ◌-◌, ◌<◌, not, ◌&&◌, ◌==◌, Bool, false, List, [], ◌∷◌, ◌++◌, map, length, Option, None, is_some}
+use Rattle.std.specs.Prelude.{◌≡◌, ℕ, suc, ◌+◌, ◌-◌, ◌<◌, not, ◌&&◌, ◌==◌, Bool, false, if◌then◌else◌, List, [], ◌∷◌, ◌++◌, map, length, Option, None, is_some}
 use Rattle.std.specs.declared.vec.Vec.{Vec}
 use Rattle.std.specs.declared.alloc.Global.{Global}
 use Rattle.sctp_model.specs.numbers.Lists.{Has, AreInOrder, joined}
+use Rattle.sctp_chains.specs.Same.{total}
 use Rattle.sctp_chains.specs.Cells.{Cell}
 use Rattle.sctp_chains.specs.declared.chain.Head.{Head}
 use Rattle.sctp_chains.specs.declared.chain.Chain.{Chain}
@@ -58,6 +59,14 @@ join c d = record { first = c.first; last = d.last; head = c.head; ends = d.ends
 -- a message begins and ends with the chain
 abbrev pub is_whole : ChainKept → Bool
 is_whole c = c.ends && is_some c.head
+
+-- 1 for a chain that is a whole message
+abbrev pub one_if_whole : ChainKept → ℕ
+one_if_whole c = if is_whole c then 1 else 0
+
+-- how many chains are whole messages
+abbrev pub whole_in : List ChainKept → ℕ
+whole_in cs = total one_if_whole cs
 
 -- It has a fragment, and one for each rank.
 pub record IsChain (c : ChainKept) : Type 0 where

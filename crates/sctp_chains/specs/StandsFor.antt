@@ -21,11 +21,11 @@ pub record KeepsLane (f : Format) (l : Lane) (cs : List ChainKept) (bytes : ℕ)
 
 -- they stand for these chunks of the lane
 unfoldable pub StandsFor : {F : Type 0} → Format → Chains F → Lane → List Piece → Type 0
-StandsFor f r l kept = KeepsLane f l (map chain_of r.chains.items) r.held kept
+StandsFor f r l kept = KeepsLane f l (map chain_of r.filed.chains.items) r.held kept
 
 -- how many chains there are
 unfoldable pub chain_count : {F : Type 0} → Chains F → ℕ
-chain_count r = length r.chains.items
+chain_count r = length r.filed.chains.items
 
 -- A chunk of the lane for a place that none fills, and all bytes can be counted.
 pub record IsNew (f : Format) (l : Lane) (kept : List Piece) (x : Piece) : Type 0 where

@@ -1,7 +1,7 @@
 //! Fragments that follow one another. Nothing here knows of numbers or formats.
 
-ghost use Rattle.std.specs.Prelude.{◌≡◌, ◌≤◌, ◌+◌, ◌<◌, vec_len, vec_capacity, OnOk, OnErr, IfOk};
-ghost use Rattle.sctp_chains.specs.Links.{chain_of, one_of, is_linked, is_whole, join};
+ghost use Rattle.std.specs.Prelude.{◌≡◌, ◌≤◌, ◌+◌, ◌<◌, ◌&&◌, if◌then◌else◌, vec_len, vec_capacity, OnOk, OnErr, IfOk};
+ghost use Rattle.sctp_chains.specs.Links.{chain_of, one_of, is_linked, one_if_whole, join};
 
 use sctp_values::NoMemory;
 use std::alloc::Global;
@@ -38,6 +38,13 @@ impl Chain {
         ensures { result ≡ is_linked (one_of part.now) (chain_of self.now) }
     {
         self.first.saturating_sub(part.rank) == 1 && (!part.end && self.head.is_none())
+    }
+
+    /// 1 where it is a whole message, else 0.
+    pub(crate) fn whole(&self) -> usize
+        ensures { result ≡ one_if_whole (chain_of self.now) }
+    {
+        one_if(self.ends, self.head.is_some())
     }
 
     /// Puts a fragment behind it.
@@ -98,6 +105,13 @@ impl Part {
     {
         self.rank.saturating_sub(chain.last) == 1 && (!chain.ends && self.head.is_none())
     }
+}
+
+/// 1 where a chain that ends a message, or doesn't, begins one as well, else 0.
+pub(crate) fn one_if(ends: bool, begins: bool) -> usize
+    ensures { result ≡ (if (ends && begins) then 1 else 0) }
+{
+    if ends && begins { 1 } else { 0 }
 }
 
 /// A chain of one fragment.

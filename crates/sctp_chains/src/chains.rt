@@ -1,6 +1,6 @@
 //! The kept chunks of one lane.
 
-ghost use Rattle.std.specs.Prelude.{◌≡◌, ◌≤◌, ◌-◌, ◌^◌, ◌<◌, ℕ, suc, min, true, not, [], ◌∷◌, filter, IfOk, OnOk, OnErr, OnSome};
+ghost use Rattle.std.specs.Prelude.{◌≡◌, ◌≤◌, ◌-◌, ◌^◌, ◌<◌, ℕ, suc, min, true, not, [], ◌∷◌, filter, map, IfOk, OnOk, OnErr, OnSome};
 ghost use Rattle.sctp_model.specs.messages.Format.{Lane, Unordered, is_numbered};
 ghost use Rattle.sctp_model.specs.messages.Framing.{lets_go};
 ghost use Rattle.sctp_model.specs.numbers.Lists.{Has};
@@ -11,27 +11,27 @@ ghost use Rattle.sctp_model.specs.receiver.PieceTaken.{is_repeated};
 ghost use Rattle.sctp_wire.specs.ChunkTree.{piece_meaning};
 ghost use Rattle.sctp_chains.specs.Cells.{Kept, cell_of, counted, IsOf};
 ghost use Rattle.sctp_chains.specs.StandsFor.{StandsFor, IsNew, chain_count};
-ghost use Rattle.sctp_chains.specs.Links.{chain_of, one_of, cells_in};
-ghost use Rattle.sctp_chains.specs.WholeOf.{TakesLowest, TakesWith, IsMissing, IsThere, AreThere, from_number, IsWholeOf};
+ghost use Rattle.sctp_chains.specs.WholeOf.{TakesLowest, TakesWith, IsMissing, IsThere, AreThere, from_number};
+ghost use Rattle.sctp_chains.specs.Links.{chain_of, one_of, cells_in, AreChains};
+ghost use Rattle.sctp_chains.specs.inner.Finding.{IsFirstWhole};
 
-use crate::chain::{Chain, Head, Part};
-use crate::filing::{file, place};
-use crate::letting_go::{drop_upto, remove};
+use crate::chain::{Head, Part};
+use crate::filed::Filed;
+use crate::filing::place;
 use crate::rank::rank_at;
 use crate::search::{Found, first_whole, whole_with};
-use crate::whole::Whole;
+use crate::whole::{Whole, whole_of};
 use sctp_framing::Framing;
 use sctp_values::{Kind, NoMemory};
 use sctp_wire::Piece;
 use std::alloc::Global;
-use std::collections::VecDeque;
 use std::marker::PhantomData;
 
 /// The kept chunks of one lane, in one format of user data.
 #[derive(Drop)]
 pub struct Chains<F: Framing> {
     alloc: Global,
-    chains: VecDeque<Chain>,
+    filed: Filed,
     held: u32,
     framing: PhantomData<F>,
 }
@@ -44,7 +44,7 @@ impl<F: Framing> Chains<F> {
     {
         Chains {
             alloc,
-            chains: VecDeque::new(alloc),
+            filed: Filed::new(alloc),
             held: 0,
             framing: PhantomData,
         }
@@ -61,7 +61,7 @@ impl<F: Framing> Chains<F> {
     pub fn count(&self) -> usize
         ensures { result ≡ chain_count self.now }
     {
-        self.chains.len()
+        self.filed.chains.len()
     }
 
     /// Whether this fragment of this message is kept already, where that can be: under DATA a fragment is its TSN.
@@ -73,8 +73,8 @@ impl<F: Framing> Chains<F> {
             return false;
         }
         let rank = rank_at(number, F::place(0, piece.begin, piece.word));
-        let at = place(&self.chains, rank);
-        at < self.chains.len() && self.chains[at].first <= rank
+        let at = place(&self.filed.chains, rank);
+        at < self.filed.chains.len() && self.filed.chains[at].first <= rank
     }
 
     /// Keeps a chunk, with this index and number in place of its wire values. Its data is copied.
@@ -93,7 +93,7 @@ impl<F: Framing> Chains<F> {
         ensures count { OnOk result (chain_count self.new ≤ suc (chain_count self.old)) }
     {
         let part = part_of::<F>(self.alloc, piece, index, number)?;
-        file(self.alloc, &mut self.chains, part)?;
+        self.filed.file(self.alloc, part)?;
         self.held = self.held.saturating_add(small_len(piece.bytes.len()));
         Ok(())
     }
@@ -105,15 +105,11 @@ impl<F: Framing> Chains<F> {
             → TakesLowest F.format l kept from last result self.new }
         ensures count { OnSome result (suc (chain_count self.new) ≤ chain_count self.old) }
     {
-        let found = first_whole(
-            &self.chains,
-            rank_at(Some(from), 0),
-            rank_at(Some(last), u32::MAX),
-        )?;
-        let chain = remove(&mut self.chains, &mut self.held, found.at)?;
+        let found = self.find_whole(rank_at(Some(from), 0), rank_at(Some(last), u32::MAX))?;
+        let chain = self.filed.remove(&mut self.held, found.at)?;
         let number = (chain.first / 4_294_967_296) as u32;
         let upto = rank_at(Some(number), u32::MAX);
-        self.held = drop_upto(&mut self.chains, self.held, 0, upto);
+        self.held = self.filed.drop_upto(self.held, 0, upto);
         Some(whole_of(chain, found.head, Some(number)))
     }
 
@@ -124,14 +120,14 @@ impl<F: Framing> Chains<F> {
         ensures count { OnSome result (suc (chain_count self.new) ≤ chain_count self.old) }
     {
         let place = F::place(index, piece.begin, piece.word);
-        let found = whole_with(&self.chains, rank_at(number, place))?;
-        let chain = remove(&mut self.chains, &mut self.held, found.at)?;
+        let found = whole_with(&self.filed.chains, rank_at(number, place))?;
+        let chain = self.filed.remove(&mut self.held, found.at)?;
         let upto = if F::is_numbered(Kind::Unordered) {
             rank_at(number, u32::MAX)
         } else {
             chain.last
         };
-        self.held = drop_upto(&mut self.chains, self.held, found.at, upto);
+        self.held = self.filed.drop_upto(self.held, found.at, upto);
         Some(whole_of(chain, found.head, number))
     }
 
@@ -161,7 +157,18 @@ impl<F: Framing> Chains<F> {
         }
         let lower = rank_at(Some(number), 0);
         let upper = rank_at(Some(number), u32::MAX);
-        first_whole(&self.chains, lower, upper).is_some()
+        self.find_whole(lower, upper).is_some()
+    }
+
+    /// The first whole message that begins with one of these ranks. Where no chain is whole it looks at none.
+    #[inline(always)]
+    fn find_whole(&self, from: u64, last: u64) -> Option<Found>
+        ensures { AreChains (map chain_of self.now.filed.chains.items) → IsFirstWhole (map chain_of self.now.filed.chains.items) from last result }
+    {
+        if self.filed.whole == 0 {
+            return None;
+        }
+        first_whole(&self.filed.chains, from, last)
     }
 
     /// Lets go of the chunks below a number, in a lane that is numbered.
@@ -171,7 +178,7 @@ impl<F: Framing> Chains<F> {
     {
         if let Some(last) = number.checked_sub(1) {
             let upto = rank_at(Some(last), u32::MAX);
-            self.held = drop_upto(&mut self.chains, self.held, 0, upto);
+            self.held = self.filed.drop_upto(self.held, 0, upto);
         }
     }
 
@@ -184,7 +191,7 @@ impl<F: Framing> Chains<F> {
         if F::is_numbered(Kind::Unordered) {
             self.drop_below(skip);
         } else {
-            self.held = drop_upto(&mut self.chains, self.held, 0, rank_at(None, jump));
+            self.held = self.filed.drop_upto(self.held, 0, rank_at(None, jump));
         }
     }
 }
@@ -233,16 +240,4 @@ fn small_len(bytes: usize) -> u32
     ensures { result ≡ min bytes (2 ^ 32 - 1) }
 {
     u32::try_from(bytes).unwrap_or(u32::MAX)
-}
-
-/// A chain as the whole message that it is.
-fn whole_of(chain: Chain, head: Head, number: Option<u32>) -> Whole
-    ensures { IsWholeOf (chain_of chain) head number result }
-{
-    Whole {
-        first: head.index,
-        number,
-        payload_id: head.payload_id,
-        parts: chain.parts,
-    }
 }

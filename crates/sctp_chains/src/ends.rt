@@ -1,6 +1,6 @@
 //! A chain put into a queue or taken out: at an end, no other moves. Nothing here knows what a chain is.
 
-ghost use Rattle.std.specs.Prelude.{◌≡◌, ◌≤◌, ◌<◌, ◌↔◌, slice_index_or, IfSome, IsSome, OnSome, OnOk, OnErr};
+ghost use Rattle.std.specs.Prelude.{◌≡◌, ◌≤◌, ◌<◌, ◌↔◌, slice_index_or, IfNone, IfSome, IsSome, OnSome, OnOk, OnErr};
 ghost use Rattle.std.specs.List.{insert, remove};
 ghost use Rattle.std.specs.VecDeque.{deque_len};
 
@@ -27,6 +27,7 @@ pub(crate) fn put_at(chains: &mut VecDeque<Chain>, at: usize, chain: Chain) -> R
 pub(crate) fn remove_at(chains: &mut VecDeque<Chain>, at: usize) -> Option<Chain>
     ensures value { IfSome result (λ c. c ≡ slice_index_or chains.old.items at c) }
     ensures items { OnSome result (chains.new.items ≡ remove chains.old.items at) }
+    ensures unchanged { IfNone result (chains.new.items ≡ chains.old.items) }
     ensures variant { IsSome result ↔ (at < deque_len chains.old) }
 {
     if at == 0 {

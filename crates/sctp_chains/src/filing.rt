@@ -1,10 +1,10 @@
 //! A fragment is filed: it lengthens a chain, closes the gap between two, or is a chain of its own.
 
-ghost use Rattle.std.specs.Prelude.{◌≡◌, ◌≤◌, ◌<◌, suc, nat_lt, length, map, OnOk, OnErr};
-ghost use Rattle.sctp_chains.specs.Links.{chain_of, one_of, AreChains};
+ghost use Rattle.std.specs.Prelude.{◌≡◌, ◌≤◌, ◌<◌, ◌+◌, suc, nat_lt, length, map, OnOk, OnErr, IfOk};
+ghost use Rattle.sctp_chains.specs.Links.{chain_of, one_of, whole_in, AreChains};
 ghost use Rattle.sctp_chains.specs.inner.Filing.{IsPlace, IsLinkBefore, IsLinkBehind, IsJoined, Gains};
 
-use crate::chain::{Chain, Part, alone};
+use crate::chain::{Chain, Part, alone, one_if};
 use crate::ends::put_at;
 use sctp_values::NoMemory;
 use std::alloc::Global;
@@ -43,13 +43,18 @@ fn linked_behind(chains: &VecDeque<Chain>, at: usize, part: &Part) -> Option<usi
     None
 }
 
-/// Files a fragment.
+/// Files a fragment. It answers 1 where its chain is a whole message then, else 0.
 ///
 /// # Errors
 /// Memory ran out, and nothing changed.
-pub(crate) fn file(alloc: Global, chains: &mut VecDeque<Chain>, part: Part) -> Result<(), NoMemory>
+pub(crate) fn file(
+    alloc: Global,
+    chains: &mut VecDeque<Chain>,
+    part: Part,
+) -> Result<usize, NoMemory>
     ensures few { OnOk result (length chains.new.items ≤ suc (length chains.old.items)) }
     ensures filed { OnOk result (Gains (one_of part) (map chain_of chains.old.items) (map chain_of chains.new.items)) }
+    ensures whole { IfOk result (λ n. whole_in (map chain_of chains.new.items) ≤ whole_in (map chain_of chains.old.items) + n) }
     ensures refused { OnErr result (map chain_of chains.new.items ≡ map chain_of chains.old.items) }
 {
     let at = place(chains, part.rank);
@@ -57,12 +62,28 @@ pub(crate) fn file(alloc: Global, chains: &mut VecDeque<Chain>, part: Part) -> R
         linked_before(chains, at, &part),
         linked_behind(chains, at, &part),
     ) {
-        (Some(left), Some(right)) => join_all(chains, left, part, right),
-        (Some(left), None) => chains[left].push_back(part),
-        (None, Some(right)) => chains[right].push_front(part),
+        (Some(left), Some(right)) => {
+            let ends = chains[right].ends;
+            let begins = chains[left].head.is_some();
+            let whole = one_if(ends, begins);
+            join_all(chains, left, part, right)?;
+            Ok(whole)
+        }
+        (Some(left), None) => {
+            let chain = &mut chains[left];
+            chain.push_back(part)?;
+            Ok(chain.whole())
+        }
+        (None, Some(right)) => {
+            let chain = &mut chains[right];
+            chain.push_front(part)?;
+            Ok(chain.whole())
+        }
         (None, None) => {
             let chain = alone(alloc, part)?;
-            put_at(chains, at, chain)
+            let whole = chain.whole();
+            put_at(chains, at, chain)?;
+            Ok(whole)
         }
     }
 }

@@ -1,7 +1,7 @@
 //! Fragments go: a message that is taken, or what a rank leaves behind. The bytes held are counted.
 
-ghost use Rattle.std.specs.Prelude.{◌≡◌, ◌≤◌, ◌-◌, suc, length, map, MatchOption, OnSome};
-ghost use Rattle.sctp_chains.specs.Links.{chain_of, bytes_of};
+ghost use Rattle.std.specs.Prelude.{◌≡◌, ◌≤◌, ◌+◌, ◌-◌, suc, length, map, MatchOption, IfNone, IfSome, OnSome};
+ghost use Rattle.sctp_chains.specs.Links.{chain_of, bytes_of, one_if_whole, whole_in};
 ghost use Rattle.sctp_chains.specs.inner.LettingGo.{size_of_parts, LetsGo, Removes, Trims};
 
 use crate::chain::Chain;
@@ -26,6 +26,8 @@ fn less(held: u32, parts: &[Vec<u8>]) -> u32
 /// Takes out the chain at a place.
 pub(crate) fn remove(chains: &mut VecDeque<Chain>, held: &mut u32, at: usize) -> Option<Chain>
     ensures fewer { OnSome result (suc (length chains.new.items) ≡ length chains.old.items) }
+    ensures unchanged { IfNone result (map chain_of chains.new.items ≡ map chain_of chains.old.items) }
+    ensures whole { IfSome result (λ c. whole_in (map chain_of chains.new.items) + one_if_whole (chain_of c) ≡ whole_in (map chain_of chains.old.items)) }
     ensures taken { MatchOption result (length chains.old.items ≤ at) (λ c. Removes at (map chain_of chains.old.items) (map chain_of chains.new.items) held.old held.new (chain_of c)) }
 {
     let chain = remove_at(chains, at)?;
@@ -36,6 +38,7 @@ pub(crate) fn remove(chains: &mut VecDeque<Chain>, held: &mut u32, at: usize) ->
 /// From a place on, lets go of all fragments of ranks up to this one.
 pub(crate) fn drop_upto(chains: &mut VecDeque<Chain>, held: u32, at: usize, upto: u64) -> u32
     ensures fewer { length chains.new.items ≤ length chains.old.items }
+    ensures whole { whole_in (map chain_of chains.new.items) ≤ whole_in (map chain_of chains.old.items) }
     ensures left { LetsGo upto at (map chain_of chains.old.items) (map chain_of chains.new.items) held result }
 {
     let mut left = held;
@@ -52,7 +55,8 @@ pub(crate) fn drop_upto(chains: &mut VecDeque<Chain>, held: u32, at: usize, upto
 
 /// Lets go of a chain's fragments of ranks up to this one, and keeps those behind.
 fn trim(chain: &mut Chain, held: u32, upto: u64) -> u32
-    ensures { Trims upto (chain_of chain.old) (chain_of chain.new) held result }
+    ensures trimmed { Trims upto (chain_of chain.old) (chain_of chain.new) held result }
+    ensures whole { one_if_whole (chain_of chain.new) ≤ one_if_whole (chain_of chain.old) }
 {
     let last = chain.last;
     if last <= upto {

@@ -18,6 +18,7 @@
 mod chain;
 mod chains;
 mod ends;
+mod filed;
 mod filing;
 mod letting_go;
 mod rank;

@@ -1,5 +1,10 @@
 //! A message that became whole.
 
+ghost use Rattle.sctp_chains.specs.Links.{chain_of};
+ghost use Rattle.sctp_chains.specs.WholeOf.{IsWholeOf};
+
+use crate::chain::{Chain, Head};
+
 /// A message taken out, its fragments as they were recorded.
 #[derive(Debug, Drop)]
 pub struct Whole {
@@ -11,4 +16,16 @@ pub struct Whole {
     pub payload_id: u32,
     /// The data of its fragments, first to last.
     pub parts: Vec<Vec<u8>>,
+}
+
+/// A chain as the whole message that it is.
+pub(crate) fn whole_of(chain: Chain, head: Head, number: Option<u32>) -> Whole
+    ensures { IsWholeOf (chain_of chain) head number result }
+{
+    Whole {
+        first: head.index,
+        number,
+        payload_id: head.payload_id,
+        parts: chain.parts,
+    }
 }

@@ -1,63 +1,81 @@
-use Rattle.std.proofs.Common.{ap, ℕ, ◌<◌, List, Option, sym, subst, length, map, arith}
+use Rattle.std.proofs.Common.{ℕ, ◌<◌, Bool, List, Option, sym, ap, ◌∙◌, subst, length, map, arith}
+use Rattle.std.specs.Prelude.{◌&&◌, if◌then◌else◌}
 use Rattle.sctp_chains.specs.declared.chain.Chain.{Chain}
 use Rattle.sctp_chains.specs.Links.{chain_of, one_of}
 use Rattle.sctp_chains.specs.inner.Filing.{IsLinkBefore, IsLinkBehind, Gains}
-use Rattle.sctp_chains.proofs.MemoryLemmas.{on_ok, any_ok, on_err, set_same, length_kept, as_long, one_longer}
+use Rattle.sctp_chains.proofs.MemoryLemmas.{any_err, set_same, length_kept}
 use Rattle.sctp_chains.proofs.JoiningLemmas.{filed_back, filed_front, filed_alone, filed_both}
+use Rattle.sctp_chains.proofs.WholeCounts.{counted_back, counted_front, counted_alone, counted_both}
 use Rattle.sctp_chains.proofs.filing.file.Goals as goal
 
-pub returns-in-Some-Some-clause-filed : goal.returns-in-Some-Some-clause-filed
-returns-in-Some-Some-clause-filed c =
-    on_ok c.join_all.result _ _ (filed_both c.args.chains.now.items c.place-at.result c.args.part c.place-at.ensures.bound c.place-at.ensures.place c.in-Some-Some.left c.in-Some-Some.right
-    c.join_all.new.chains.items (c.in-Some-Some.ensures c.place-at.ensures.bound) c.in-Some-Some.ensures') c.join_all.ensures.joined
+pub returns-in_ok-join_all-in-Some-Some-clause-filed : goal.returns-in_ok-join_all-in-Some-Some-clause-filed
+returns-in_ok-join_all-in-Some-Some-clause-filed c =
+    filed_both c.args.chains.now.items c.place-at.result c.args.part c.place-at.ensures.bound c.place-at.ensures.place c.in-Some-Some.left c.in-Some-Some.right
+    c.join_all.new.chains.items (c.in-Some-Some.ensures c.place-at.ensures.bound) c.in-Some-Some.ensures' c.in_ok-join_all-in-Some-Some.ensures.joined
 
-pub returns-in-Some-None-clause-filed : goal.returns-in-Some-None-clause-filed
-returns-in-Some-None-clause-filed c =
+pub returns-in_ok-join_all-in-Some-Some-clause-whole : goal.returns-in_ok-join_all-in-Some-Some-clause-whole
+returns-in_ok-join_all-in-Some-Some-clause-whole c =
+    let cs = c.args.chains.now.items in
+    let before = c.in-Some-Some.ensures c.place-at.ensures.bound in
+    let behind = c.in-Some-Some.ensures' in
+    let n = length_kept cs in
+    let low : c.in-Some-Some.left < length cs = let l = before.1 in omega (arith, l, n) in
+    let high : c.in-Some-Some.right < length cs = let l = behind.1 in omega (arith, l, n) in
+    counted_both cs c.join_all.new.chains.items c.in-Some-Some.left c.in-Some-Some.right c.args.part c.index-in-Some-Some.result.now c.index.result.now c.one_if-whole.result low high
+    c.index-in-Some-Some.ensures c.index.ensures before.2 c.in_ok-join_all-in-Some-Some.ensures.joined
+    (c.one_if-whole.ensures ∙ ap (λ (b : Bool). if (c.index.result.now.ends && b) then 1 else 0) c.is_some-begins.ensures)
+
+pub returns-in_ok-push_back-in-Some-None-clause-filed : goal.returns-in_ok-push_back-in-Some-None-clause-filed
+returns-in_ok-push_back-in-Some-None-clause-filed c =
     let cs = c.args.chains.now.items in
     let before = c.in-Some-None.ensures c.place-at.ensures.bound in
     let less : c.in-Some-None.left < length cs = let l = before.1 in let n = length_kept cs in omega (arith, l, n) in
-    on_ok c.push_back.result _ _ (λ is. filed_back cs c.place-at.result c.args.part c.place-at.ensures.bound c.place-at.ensures.place c.in-Some-None.left c.index_mut.result.now
-    c.push_back.new.self less c.index_mut.ensures.value is before c.in-Some-None.ensures') c.push_back.ensures.joined
+    filed_back cs c.place-at.result c.args.part c.place-at.ensures.bound c.place-at.ensures.place c.in-Some-None.left c.index_mut-chain.result.now
+    c.push_back.new.self less c.index_mut-chain.ensures.value c.in_ok-push_back-in-Some-None.ensures.joined before c.in-Some-None.ensures'
 
-pub returns-in-Some-None-clause-refused : goal.returns-in-Some-None-clause-refused
-returns-in-Some-None-clause-refused c =
+pub returns-in_ok-push_back-in-Some-None-clause-whole : goal.returns-in_ok-push_back-in-Some-None-clause-whole
+returns-in_ok-push_back-in-Some-None-clause-whole c =
+    let cs = c.args.chains.now.items in
+    let before = c.in-Some-None.ensures c.place-at.ensures.bound in
+    let less : c.in-Some-None.left < length cs = let l = before.1 in let n = length_kept cs in omega (arith, l, n) in
+    counted_back cs c.args.part c.index_mut-chain.result.now c.push_back.new.self c.whole.result c.in-Some-None.left less c.index_mut-chain.ensures.value c.whole.ensures
+    before.2
+
+pub returns-in_err-push_back-in-Some-None-clause-refused : goal.returns-in_err-push_back-in-Some-None-clause-refused
+returns-in_err-push_back-in-Some-None-clause-refused c =
     let cs = c.args.chains.now.items in
     let less : c.in-Some-None.left < length cs = let l = (c.in-Some-None.ensures c.place-at.ensures.bound).1 in let n = length_kept cs in omega (arith, l, n) in
-    on_err c.push_back.result _ _ (λ same. set_same cs c.in-Some-None.left c.index_mut.result.now c.push_back.new.self less c.index_mut.ensures.value same) c.push_back.ensures.refused
+    any_err c.from_residual-in_err-push_back-in-Some-None.result _ (set_same cs c.in-Some-None.left c.index_mut-chain.result.now c.push_back.new.self less c.index_mut-chain.ensures.value c.in_err-push_back-in-Some-None.ensures.refused)
 
-pub returns-in-None-Some-clause-filed : goal.returns-in-None-Some-clause-filed
-returns-in-None-Some-clause-filed c =
+pub returns-in_ok-push_front-in-None-Some-clause-filed : goal.returns-in_ok-push_front-in-None-Some-clause-filed
+returns-in_ok-push_front-in-None-Some-clause-filed c =
     let cs = c.args.chains.now.items in
     let behind = c.in-None-Some.ensures in
     let less : c.in-None-Some.right < length cs = let l = behind.1 in let n = length_kept cs in omega (arith, l, n) in
-    on_ok c.push_front.result _ _ (λ is. filed_front cs c.place-at.result c.args.part c.place-at.ensures.bound c.place-at.ensures.place c.in-None-Some.right c.index_mut-in-None-Some.result.now
-    c.push_front.new.self less c.index_mut-in-None-Some.ensures.value is (subst (λ (o : Option ℕ). IsLinkBefore (map chain_of cs) c.place-at.result (one_of c.args.part) o) c.in-None-Some.is-0 (c.linked_before.ensures c.place-at.ensures.bound)) behind) c.push_front.ensures.joined
+    filed_front cs c.place-at.result c.args.part c.place-at.ensures.bound c.place-at.ensures.place c.in-None-Some.right c.index_mut-chain-in-None-Some.result.now
+    c.push_front.new.self less c.index_mut-chain-in-None-Some.ensures.value c.in_ok-push_front-in-None-Some.ensures.joined (subst (λ (o : Option ℕ). IsLinkBefore (map chain_of cs) c.place-at.result (one_of c.args.part) o) c.in-None-Some.is-0 (c.linked_before.ensures c.place-at.ensures.bound)) behind
 
-pub returns-in-None-Some-clause-refused : goal.returns-in-None-Some-clause-refused
-returns-in-None-Some-clause-refused c =
+pub returns-in_ok-push_front-in-None-Some-clause-whole : goal.returns-in_ok-push_front-in-None-Some-clause-whole
+returns-in_ok-push_front-in-None-Some-clause-whole c =
+    let cs = c.args.chains.now.items in
+    let behind = c.in-None-Some.ensures in
+    let less : c.in-None-Some.right < length cs = let l = behind.1 in let n = length_kept cs in omega (arith, l, n) in
+    counted_front cs c.args.part c.index_mut-chain-in-None-Some.result.now c.push_front.new.self c.whole-in-None-Some.result c.in-None-Some.right less c.index_mut-chain-in-None-Some.ensures.value c.whole-in-None-Some.ensures
+    behind.2
+
+pub returns-in_err-push_front-in-None-Some-clause-refused : goal.returns-in_err-push_front-in-None-Some-clause-refused
+returns-in_err-push_front-in-None-Some-clause-refused c =
     let cs = c.args.chains.now.items in
     let less : c.in-None-Some.right < length cs = let l = c.in-None-Some.ensures.1 in let n = length_kept cs in omega (arith, l, n) in
-    on_err c.push_front.result _ _ (λ same. set_same cs c.in-None-Some.right c.index_mut-in-None-Some.result.now c.push_front.new.self less c.index_mut-in-None-Some.ensures.value same) c.push_front.ensures.refused
+    any_err c.from_residual-in_err-push_front-in-None-Some.result _ (set_same cs c.in-None-Some.right c.index_mut-chain-in-None-Some.result.now c.push_front.new.self less c.index_mut-chain-in-None-Some.ensures.value c.in_err-push_front-in-None-Some.ensures.refused)
 
-pub returns-in_ok-chain-in-None-None-clause-filed : goal.returns-in_ok-chain-in-None-None-clause-filed
-returns-in_ok-chain-in-None-None-clause-filed c =
+pub returns-in_ok-put_at-in-None-None-clause-filed : goal.returns-in_ok-put_at-in-None-None-clause-filed
+returns-in_ok-put_at-in-None-None-clause-filed c =
     let cs = c.args.chains.now.items in
-    on_ok c.put_at.result _ _ (λ is. subst (λ (xs : List Chain). Gains (one_of c.args.part) (map chain_of cs) (map chain_of xs)) (sym is)
+    subst (λ (xs : List Chain). Gains (one_of c.args.part) (map chain_of cs) (map chain_of xs)) (sym c.in_ok-put_at-in-None-None.ensures.items)
     (filed_alone cs c.place-at.result c.args.part c.place-at.ensures.bound c.place-at.ensures.place c.in_ok-chain-in-None-None.chain c.in_ok-chain-in-None-None.ensures
-    (subst (λ (o : Option ℕ). IsLinkBefore (map chain_of cs) c.place-at.result (one_of c.args.part) o) c.in-None-None.is-0 (c.linked_before.ensures c.place-at.ensures.bound)) (subst (λ (o : Option ℕ). IsLinkBehind (map chain_of cs) c.place-at.result (one_of c.args.part) o) c.in-None-None.is-1 c.linked_behind.ensures))) c.put_at.ensures.items
+    (subst (λ (o : Option ℕ). IsLinkBefore (map chain_of cs) c.place-at.result (one_of c.args.part) o) c.in-None-None.is-0 (c.linked_before.ensures c.place-at.ensures.bound)) (subst (λ (o : Option ℕ). IsLinkBehind (map chain_of cs) c.place-at.result (one_of c.args.part) o) c.in-None-None.is-1 c.linked_behind.ensures))
 
-pub returns-in-Some-None-clause-few : goal.returns-in-Some-None-clause-few
-returns-in-Some-None-clause-few c =
-    let few = as_long c.args.chains.now.items c.in-Some-None.left c.push_back.new.self in
-    any_ok c.push_back.result _ (omega (arith, few))
-
-pub returns-in-None-Some-clause-few : goal.returns-in-None-Some-clause-few
-returns-in-None-Some-clause-few c =
-    let few = as_long c.args.chains.now.items c.in-None-Some.right c.push_front.new.self in
-    any_ok c.push_front.result _ (omega (arith, few))
-
-pub returns-in_ok-chain-in-None-None-clause-few : goal.returns-in_ok-chain-in-None-None-clause-few
-returns-in_ok-chain-in-None-None-clause-few c =
-    let cs = c.args.chains.now.items in
-    let longer = one_longer cs c.place-at.result c.in_ok-chain-in-None-None.chain c.place-at.ensures.bound in
-    on_ok c.put_at.result _ _ (λ is. let all = ap length is in omega (arith, longer, all)) c.put_at.ensures.items
+pub returns-in_ok-put_at-in-None-None-clause-whole : goal.returns-in_ok-put_at-in-None-None-clause-whole
+returns-in_ok-put_at-in-None-None-clause-whole c =
+    counted_alone c.args.chains.now.items c.put_at.new.chains.items c.place-at.result c.in_ok-chain-in-None-None.chain c.whole-whole.result c.in_ok-put_at-in-None-None.ensures.items c.whole-whole.ensures

@@ -1,10 +1,11 @@
-use Rattle.std.proofs.Common.{◌≡◌, ◌-◌, ◌<◌, ◌≤◌, length, map, ap, sym, ◌∙◌, arith}
+use Rattle.std.proofs.Common.{◌≡◌, ◌-◌, ◌<◌, ◌≤◌, List, length, map, ap, sym, ◌∙◌, arith}
 use Rattle.sctp_chains.specs.declared.chain.Chain.{Chain}
-use Rattle.sctp_chains.specs.Links.{chain_of, bytes_of}
+use Rattle.sctp_chains.specs.Links.{chain_of, bytes_of, whole_in}
 use Rattle.sctp_chains.specs.inner.LettingGo.{size_of_parts}
 use Rattle.sctp_chains.proofs.ListLemmas.{at_same}
 use Rattle.sctp_chains.proofs.MemoryLemmas.{as_long, one_shorter}
 use Rattle.sctp_chains.proofs.GoingLemmas.{one_more, front_more, none_more, none_left}
+use Rattle.sctp_chains.proofs.WholeCounts.{whole_set, whole_remove}
 use Rattle.sctp_chains.proofs.letting_go.drop_upto.Goals as goal
 use Rattle.sctp_chains.proofs.letting_go.drop_upto.Goals.{then-loop-chains-test+else-index-upto, else-loop-chains-test, else-at-len-via-then-at-len+else-index-upto-2, else-at-len-via-else-at-len}
 
@@ -19,6 +20,8 @@ loop-chains-preserved-in-Some c =
     record {
       drops = one_more cs k x l c.in-Some.ensures.value c.args.upto (map chain_of c.args.chains.now.items) c.remove_at.new.chains.items c.args.held c.loop-chains.left c.less-left.result
           c.loop-chains.invariant.drops low c.in-Some.ensures.items (c.less-left.ensures ∙ ap (λ ps. c.loop-chains.left - size_of_parts (map bytes_of ps)) c.deref.ensures.value);
+      whole =
+          let step = whole_remove cs k x l c.in-Some.ensures.value in let is = ap (λ (xs : List Chain). whole_in (map chain_of xs)) c.in-Some.ensures.items in let before = c.loop-chains.invariant.whole in omega (arith, step, is, before);
       fewer =
           let one = one_shorter cs k l in let all = ap length c.in-Some.ensures.items in let before = c.loop-chains.invariant.fewer in omega (arith, one, all, before);
     }
@@ -37,7 +40,7 @@ returns-then-index-upto-2-clause-left c =
       | else-loop-chains-test w ↦ absurd (let h = w.loop-chains-test.false in omega (arith, h, l, c.len.ensures))
     ] in
     front_more cs k x l c.index_mut.ensures.value c.args.upto (map chain_of c.args.chains.now.items) c.trim-left.new.chain c.args.held c.loop-chains.left c.trim-left.result
-    c.loop-chains.invariant.drops low high c.trim-left.ensures
+    c.loop-chains.invariant.drops low high c.trim-left.ensures.trimmed
 
 pub returns-else-at-len-clause-left : goal.returns-else-at-len-clause-left
 returns-else-at-len-clause-left c =
@@ -55,3 +58,15 @@ returns-else-at-len-clause-left c =
 pub returns-then-index-upto-2-clause-fewer : goal.returns-then-index-upto-2-clause-fewer
 returns-then-index-upto-2-clause-fewer c =
     let all = as_long c.loop-chains.chains.items c.args.at c.trim-left.new.chain in let before = c.loop-chains.invariant.fewer in omega (arith, all, before)
+
+pub returns-then-index-upto-2-clause-whole : goal.returns-then-index-upto-2-clause-whole
+returns-then-index-upto-2-clause-whole c =
+    let cs = c.loop-chains.chains.items in
+    let l : c.args.at < length cs = omega (arith, c.if-at-len.true, c.len-2.ensures) in
+    let step = whole_set cs c.args.at c.index_mut.result.now c.trim-left.new.chain l c.index_mut.ensures.value in
+    let less = c.trim-left.ensures.whole in
+    let before = c.loop-chains.invariant.whole in
+    omega (arith, step, less, before)
+
+pub returns-else-at-len-clause-whole : goal.returns-else-at-len-clause-whole
+returns-else-at-len-clause-whole c = c.loop-chains.invariant.whole

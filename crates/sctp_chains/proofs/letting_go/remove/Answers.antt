@@ -1,9 +1,10 @@
-use Rattle.std.proofs.Common.{List, suc, ◌-◌, ◌<◌, length, map, refl, ap, ◌∙◌, arith}
-use Rattle.sctp_chains.specs.Links.{bytes_of}
+use Rattle.std.proofs.Common.{List, suc, ◌+◌, ◌-◌, ◌<◌, length, map, refl, ap, ◌∙◌, arith}
+use Rattle.sctp_chains.specs.Links.{bytes_of, chain_of, one_if_whole, whole_in}
 use Rattle.sctp_chains.specs.inner.LettingGo.{size_of_parts}
 use Rattle.sctp_chains.specs.declared.chain.Chain.{Chain}
 use Rattle.sctp_chains.proofs.MemoryLemmas.{one_shorter}
 use Rattle.sctp_chains.proofs.GoingLemmas.{out_of}
+use Rattle.sctp_chains.proofs.WholeCounts.{whole_remove}
 use Rattle.sctp_chains.proofs.letting_go.remove.Goals as goal
 
 pub returns-clause-taken : goal.returns-clause-taken
@@ -18,3 +19,9 @@ returns-clause-fewer c =
     let cs = c.args.chains.now.items in
     let l : c.args.at < length cs = let some = c.in_ok-chain.ensures.variant.0 refl in omega (arith, some, c.args.chains.now.ok) in
     ap (λ (xs : List Chain). suc (length xs)) c.in_ok-chain.ensures.items ∙ one_shorter cs c.args.at l
+
+pub returns-clause-whole : goal.returns-clause-whole
+returns-clause-whole c =
+    let cs = c.args.chains.now.items in
+    let l : c.args.at < length cs = let some = c.in_ok-chain.ensures.variant.0 refl in omega (arith, some, c.args.chains.now.ok) in
+    ap (λ (xs : List Chain). whole_in (map chain_of xs) + one_if_whole (chain_of c.in_ok-chain.chain)) c.in_ok-chain.ensures.items ∙ whole_remove cs c.args.at c.in_ok-chain.chain l c.in_ok-chain.ensures.value

@@ -4,8 +4,8 @@ use Rattle.sctp_chains.specs.inner.LettingGo.{size_of_parts}
 use Rattle.sctp_chains.proofs.SizeLemmas.{kept_behind, kept_front}
 use Rattle.sctp_chains.proofs.letting_go.trim.Goals as goal
 
-pub returns : goal.returns
-returns c = λ good low high.
+pub returns-clause-trimmed : goal.returns-clause-trimmed
+returns-clause-trimmed c = λ good low high.
     let ps = c.args.chain.now.parts.items in
     let gone : c.saturating_add-gone.result ≡ suc (c.args.upto - c.args.chain.now.first) = omega (arith, c.saturating_sub-passed.ensures, c.saturating_add-gone.ensures, c.if-gone-len.false, c.len.type_inv, low) in
     let next : c.saturating_add-chain.result ≡ suc c.args.upto = omega (arith, high, c.saturating_add-chain.ensures) in

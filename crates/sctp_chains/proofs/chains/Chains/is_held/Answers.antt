@@ -13,12 +13,12 @@ use Rattle.sctp_chains.proofs.chains.Chains.is_held.Goals as goal
 pub returns-then-at-len : goal.returns-then-at-len
 unfolding StandsFor
 returns-then-at-len g c = λ i l kept stands of.
-    let ms = c.args.self.now.chains.items in
+    let ms = c.args.self.now.filed.chains.items in
     let cs = map chain_of ms in
     let k = c.place-at.result in
     let r = c.rank_at-rank.result in
     let x = c.index.result.now in
-    let n : k < length ms = omega (arith, c.if-at-len.true, c.len.ensures, c.args.self.now.chains.ok) in
+    let n : k < length ms = omega (arith, c.if-at-len.true, c.len.ensures, c.args.self.now.filed.chains.ok) in
     let less : k < length cs = let all = length_kept ms in omega (arith, n, all) in
     let at = sym (at_kept ms k x n c.index.ensures (chain_of x)) in
     let place = c.place-at.ensures.place stands.chains in
@@ -31,11 +31,11 @@ returns-then-at-len g c = λ i l kept stands of.
 pub returns-else-at-len : goal.returns-else-at-len
 unfolding StandsFor
 returns-else-at-len g c = λ i l kept stands of.
-    let ms = c.args.self.now.chains.items in
+    let ms = c.args.self.now.filed.chains.items in
     let cs = map chain_of ms in
     let k = c.place-at.result in
     let r = c.rank_at-rank.result in
-    let past : length cs ≤ k = let all = length_kept ms in omega (arith, c.if-at-len.false, c.len.ensures, c.args.self.now.chains.ok, all) in
+    let past : length cs ≤ k = let all = length_kept ms in omega (arith, c.if-at-len.false, c.len.ensures, c.args.self.now.filed.chains.ok, all) in
     held_agrees g.F.Framing.format l cs c.args.self.now.held kept stands (sym c.is_numbered.ensures ∙ c.if-not-is_numbered.false) (counted i (piece_meaning c.args.piece.now) c.args.number) of r
     (c.rank_at-rank.ensures ∙ ap (rank_at c.args.number) c.place.ensures) (nat_lt k c.len.result)
     (λ e. absurd (let low : k < c.len.result = grind (arith, e, nat_tests) in omega (arith, low, c.if-at-len.false)))

@@ -14,5 +14,5 @@ returns-then-is_numbered g c = λ l kept stands kind.
 pub returns-else-is_numbered : goal.returns-else-is_numbered
 unfolding StandsFor
 returns-else-is_numbered g c = λ l kept stands kind.
-    left_behind g.F.Framing.format l (map chain_of c.args.self.now.chains.items) (map chain_of c.drop_upto-self.new.chains.items) c.args.self.now.held c.drop_upto-self.result kept stands
+    left_behind g.F.Framing.format l (map chain_of c.args.self.now.filed.chains.items) (map chain_of c.drop_upto-self.new.self.chains.items) c.args.self.now.held c.drop_upto-self.result kept stands
     (sym c.is_numbered.ensures ∙ c.if-is_numbered.false) kind c.args.jump c.args.skip c.rank_at.result c.rank_at.ensures c.drop_upto-self.ensures.left

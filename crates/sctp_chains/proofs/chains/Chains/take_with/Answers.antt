@@ -16,7 +16,7 @@ returns-in_err-found-clause-taken g c = λ l kept stands there.
     let y = counted c.args.index (piece_meaning c.args.piece.now) c.args.number in
     let rank : c.rank_at.result ≡ rank_of f y = c.rank_at.ensures ∙ ap (rank_at c.args.number) c.place-place.ensures in
     subst (λ (o : Option Whole). TakesWith f l kept y o c.args.self.now) (sym c.from_residual.ensures)
-    (none_with f l (map chain_of c.args.self.now.chains.items) c.args.self.now.held kept stands c.rank_at.result y (c.in_err-found.ensures stands.chains) rank, stands)
+    (none_with f l (map chain_of c.args.self.now.filed.chains.items) c.args.self.now.held kept stands c.rank_at.result y (c.in_err-found.ensures stands.chains) rank, stands)
 
 pub returns-clause-taken : goal.returns-clause-taken
 unfolding StandsFor
@@ -29,7 +29,7 @@ returns-clause-taken g c = λ l kept stands there.
       | then-is_numbered w ↦ w.upto-is ∙ w.rank_at-upto.ensures ∙ top_numbered f (sym c.is_numbered.ensures ∙ w.if-is_numbered.true) d c.args.number
       | else-is_numbered w ↦ w.upto-is ∙ top_plain f (sym c.is_numbered.ensures ∙ w.if-is_numbered.false) d c.args.number
     ] in
-    took_with f l (map chain_of c.args.self.now.chains.items) c.args.self.now.held kept stands y there c.rank_at.result c.in_ok-found.found (map chain_of c.remove.new.chains.items)
+    took_with f l (map chain_of c.args.self.now.filed.chains.items) c.args.self.now.held kept stands y there c.rank_at.result c.in_ok-found.found (map chain_of c.remove.new.self.chains.items)
     c.remove.new.held d c.if-is_numbered.upto c.whole_of.result
-    (record { alloc = c.args.self.now.alloc; chains = c.drop_upto-self.new.chains; held = c.drop_upto-self.result; framing = c.args.self.now.framing })
+    _
     rank (c.in_ok-found.ensures stands.chains) c.in_ok-chain.ensures.taken top c.drop_upto-self.ensures.left c.whole_of.ensures
