@@ -1,0 +1,4 @@
+pub mod MachineLemmas
+pub mod RestLemmas
+pub mod MomentLemmas
+pub mod CallLemmas

@@ -2,12 +2,25 @@
 //! what time does to it, and what its user asks of it (RFC 9260, 4).
 #![tactic(auto)]
 
+mod calls;
 mod carried;
+mod closing;
 mod due;
+mod life;
+mod machine;
+mod moments;
+mod parts;
+mod receiving;
+mod sending;
 mod stage;
 mod timers;
+mod traffic;
 
+pub use calls::Refused;
 pub use carried::{EchoedCookie, HeartbeatInfo, WaitingCauses};
 pub use due::Due;
+pub use life::{Association, Life, Opened, Progress, Role, Unjoined};
+pub use machine::Machine;
 pub use stage::{Stage, Tags};
 pub use timers::{Alarm, Timer, Timers};
+pub use traffic::{Directions, Sizes, Terms, Traffic};

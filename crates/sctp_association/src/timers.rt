@@ -8,11 +8,7 @@ ghost use Rattle.sctp_model.specs.end.Clock.{running, stopped, expired_timer, is
 ghost use Rattle.sctp_model.specs.end.Moments.{earlier, earliest, all_alarms};
 ghost use Rattle.sctp_association.specs.TimersMean.{alarm_meaning, timer_meaning, timers_meaning, kept_if, open_timers, resting};
 
-/// How long a timer waits at first, in milliseconds (RTO.Initial of RFC 9260, 16).
-const FIRST_WAIT: u32 = 1_000;
-
-/// The longest wait of a timer, in milliseconds (RTO.Max of RFC 9260, 16).
-const LONGEST_WAIT: u32 = 60_000;
+use sctp_values::{FIRST_WAIT, LONGEST_WAIT, OPENING_REPEATS, REPEATS};
 
 /// Which timer of an end.
 #[derive(Clone, Copy)]
@@ -33,7 +29,7 @@ pub enum Alarm {
 /// while it runs.
 #[derive(Clone, Copy)]
 pub struct Timer {
-    wait: u32,
+    wait: u64,
     repeats: u32,
     expiry: Option<u64>,
 }
@@ -57,7 +53,7 @@ impl Timer {
         match self.expiry {
             Some(_) => self,
             None => Timer {
-                expiry: Some(now.saturating_add(u64::from(self.wait))),
+                expiry: Some(now.saturating_add(self.wait)),
                 ..self
             },
         }
@@ -133,7 +129,7 @@ fn expiry_after(now: u64, expiry: Option<u64>) -> Option<u64>
     ensures { result ≡ renewed_expiry now expiry }
 {
     match expiry {
-        Some(_) => Some(now.saturating_add(u64::from(FIRST_WAIT))),
+        Some(_) => Some(now.saturating_add(FIRST_WAIT)),
         None => None,
     }
 }
@@ -144,8 +140,8 @@ fn repeats_of(alarm: Alarm) -> u32
     ensures few { result ≤ 10 }
 {
     match alarm {
-        Alarm::Init | Alarm::Cookie => 8,
-        Alarm::Fragments | Alarm::Shutdown | Alarm::ShutdownAck => 10,
+        Alarm::Init | Alarm::Cookie => OPENING_REPEATS,
+        Alarm::Fragments | Alarm::Shutdown | Alarm::ShutdownAck => REPEATS,
     }
 }
 

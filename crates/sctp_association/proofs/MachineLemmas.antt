@@ -1,0 +1,178 @@
+-- An end that stands for a view, with a part of both changed.
+use Rattle.std.proofs.Common.{◌≡◌, ◌∙◌, ℕ, Bool, true, false, refl, sym, ap, subst}
+use Rattle.std.specs.Prelude.{max, zero, suc}
+use Rattle.sctp_model.specs.sender.SenderView.{SenderView, fresh_sender}
+use Rattle.sctp_model.specs.receiver.ReceiverView.{ReceiverView}
+use Rattle.sctp_model.specs.sender.Abandoning.{expired, timed_out}
+use Rattle.sctp_model.specs.end.EndView.{EndView, Alarm, format_for, nothing_due}
+use Rattle.sctp_model.specs.end.EndView as model
+use Rattle.sctp_model.specs.end.Clock.{at_moment, is_home, timers_in, turned, closed}
+use Rattle.sctp_terms.specs.Meanings.{end_meaning}
+use Rattle.sctp_terms.specs.declared.life.End.{End}
+use Rattle.sctp_association.specs.TimersMean.{timers_meaning, resting, open_timers}
+use Rattle.sctp_association.specs.StageMeans.{tags_meaning, stage_meaning}
+use Rattle.sctp_association.specs.PhaseMeans.{phase_in, phase_of}
+use Rattle.sctp_association.specs.DueStands.{DueStands}
+use Rattle.sctp_association.specs.TrafficStands.{TrafficStands}
+use Rattle.sctp_association.specs.MachineStands.{IsUnjoined, IsJoined, LifeStands, KeepsMachine}
+use Rattle.sctp_association.specs.declared.stage.Tags.{Tags}
+use Rattle.sctp_association.specs.declared.stage.Stage.{Stage}
+use Rattle.sctp_association.specs.declared.life.Unjoined.{Unjoined}
+use Rattle.sctp_association.specs.declared.life.Unjoined.TheVariants.{Failed}
+use Rattle.sctp_association.specs.declared.life.Progress.{Progress}
+use Rattle.sctp_association.specs.declared.life.Progress.TheVariants.{Echoing, Open, Over}
+use Rattle.sctp_association.specs.declared.life.Association.{Association}
+use Rattle.sctp_association.specs.declared.life.Life.TheVariants as life
+use Rattle.sctp_association.specs.declared.traffic.Traffic.{Traffic}
+use Rattle.sctp_association.specs.declared.timers.Timers.{Timers}
+use Rattle.sctp_association.specs.declared.due.Due.{Due}
+use Rattle.sctp_association.specs.declared.machine.Machine.{Machine}
+
+-- the view is another, which is equal
+pub at_view : (m : Machine) (v w : EndView) → v ≡ w → KeepsMachine m w → KeepsMachine m v
+at_view m v w same keeps = subst (λ x. KeepsMachine m x) (sym same) keeps
+
+-- ---- the clock, what is due, the timers
+
+pub with_clock : (m : Machine) (v : EndView) (n now : ℕ) → KeepsMachine m v → n ≡ max m.moment now → KeepsMachine (record m { moment = n }) (at_moment v now)
+with_clock m v n now k is = record { configuration = k.configuration; role = k.role; clock = is ∙ ap (λ (x : ℕ). max x now) k.clock; due = k.due; timers = k.timers; phase = k.phase; life = k.life }
+
+pub with_due : (m : Machine) (v : EndView) (d : Due) (x : model.Due) → KeepsMachine m v → DueStands d x → KeepsMachine (record m { due = d }) (record v { due = x })
+with_due m v d x k due = record { configuration = k.configuration; role = k.role; clock = k.clock; due = due; timers = k.timers; phase = k.phase; life = k.life }
+
+pub with_timers : (m : Machine) (v : EndView) (s : Timers) (f : Alarm → model.Timer) → KeepsMachine m v → timers_meaning s ≡ f → KeepsMachine (record m { timers = s }) (record v { timers = f })
+with_timers m v s f k timers = record { configuration = k.configuration; role = k.role; clock = k.clock; due = k.due; timers = timers; phase = k.phase; life = k.life }
+
+pub with_both : (m : Machine) (v : EndView) (d : Due) (x : model.Due) (s : Timers) (f : Alarm → model.Timer) → KeepsMachine m v → DueStands d x → timers_meaning s ≡ f
+    → KeepsMachine (record m { due = d; timers = s }) (record v { due = x; timers = f })
+with_both m v d x s f k due timers = record { configuration = k.configuration; role = k.role; clock = k.clock; due = due; timers = timers; phase = k.phase; life = k.life }
+
+-- ---- one thing that is due
+
+pub due_init : (d : Due) (m : model.Due) → DueStands d m → DueStands (record d { init = true }) (record m { init = true })
+due_init d m s = record { init = refl; cookie_echo = s.cookie_echo; cookie_ack = s.cookie_ack; heartbeat = s.heartbeat; causes = s.causes; sack = s.sack; forward = s.forward; shutdown = s.shutdown; shutdown_ack = s.shutdown_ack }
+
+pub due_echo : (d : Due) (m : model.Due) → DueStands d m → DueStands (record d { cookie_echo = true }) (record m { cookie_echo = true })
+due_echo d m s = record { init = s.init; cookie_echo = refl; cookie_ack = s.cookie_ack; heartbeat = s.heartbeat; causes = s.causes; sack = s.sack; forward = s.forward; shutdown = s.shutdown; shutdown_ack = s.shutdown_ack }
+
+pub due_forward : (d : Due) (m : model.Due) (b c : Bool) → DueStands d m → b ≡ c → DueStands (record d { forward = b }) (record m { forward = c })
+due_forward d m b c s is = record { init = s.init; cookie_echo = s.cookie_echo; cookie_ack = s.cookie_ack; heartbeat = s.heartbeat; causes = s.causes; sack = s.sack; forward = is; shutdown = s.shutdown; shutdown_ack = s.shutdown_ack }
+
+pub due_shutdown : (d : Due) (m : model.Due) → DueStands d m → DueStands (record d { shutdown = true }) (record m { shutdown = true })
+due_shutdown d m s = record { init = s.init; cookie_echo = s.cookie_echo; cookie_ack = s.cookie_ack; heartbeat = s.heartbeat; causes = s.causes; sack = s.sack; forward = s.forward; shutdown = refl; shutdown_ack = s.shutdown_ack }
+
+pub due_shutdown_ack : (d : Due) (m : model.Due) → DueStands d m → DueStands (record d { shutdown_ack = true }) (record m { shutdown_ack = true })
+due_shutdown_ack d m s = record { init = s.init; cookie_echo = s.cookie_echo; cookie_ack = s.cookie_ack; heartbeat = s.heartbeat; causes = s.causes; sack = s.sack; forward = s.forward; shutdown = s.shutdown; shutdown_ack = refl }
+
+-- ---- terms, sender and receiver
+
+-- those of an association
+pub joined : (m : Machine) (a : Association) (v : EndView) → m.life ≡ life.Joined a → KeepsMachine m v → IsJoined a v.terms v.sender v.receiver
+joined m a v is k = subst (λ h. LifeStands h v.configuration v.terms v.sender v.receiver) is k.life
+
+-- before one
+pub unjoined : (m : Machine) (x : Unjoined) (v : EndView) → m.life ≡ life.Unjoined x → KeepsMachine m v → IsUnjoined v.configuration v.terms v.sender v.receiver
+unjoined m x v is k = subst (λ h. LifeStands h v.configuration v.terms v.sender v.receiver) is k.life
+
+pub phase_joined : (m : Machine) (a : Association) (v : EndView) → m.life ≡ life.Joined a → KeepsMachine m v → phase_in a.tags a.progress ≡ v.phase
+phase_joined m a v is k = subst (λ h. phase_of h ≡ v.phase) is k.phase
+
+pub with_traffic : (m : Machine) (a : Association) (s : Traffic) (v : EndView) (x : SenderView) (y : ReceiverView) → m.life ≡ life.Joined a → KeepsMachine m v
+    → TrafficStands s (format_for v.terms.interleave) x y → KeepsMachine (record m { life = life.Joined (record a { traffic = s }) }) (record v { sender = x; receiver = y })
+with_traffic m a s v x y is k stands = record {
+  configuration = k.configuration;
+  role = k.role;
+  clock = k.clock;
+  due = k.due;
+  timers = k.timers;
+  phase = phase_joined m a v is k;
+  life = record { terms = (joined m a v is k).terms; traffic = stands };
+}
+
+pub with_expired : (m : Machine) (a : Association) (s : Traffic) (v : EndView) (now : ℕ) → m.life ≡ life.Joined a → KeepsMachine m v → now ≡ v.moment
+    → TrafficStands s (format_for v.terms.interleave) (expired v.sender now) v.receiver
+    → KeepsMachine (record m { life = life.Joined (record a { traffic = s }) }) (record v { sender = expired v.sender v.moment })
+with_expired m a s v now is k clock stands =
+    with_traffic m a s v (expired v.sender v.moment) v.receiver is k (subst (λ (n : ℕ). TrafficStands s (format_for v.terms.interleave) (expired v.sender n) v.receiver) clock stands)
+
+-- a sender that was never used stays so
+pub expired_fresh : (s : SenderView) (f now : ℕ) → s ≡ fresh_sender 0 0 f 0 false → expired s now ≡ s
+expired_fresh s f now is = ap (λ (x : SenderView). expired x now) is ∙ sym is
+
+none_marked : (f i : ℕ) → (timed_out (fresh_sender 0 0 f 0 false)).marked i ≡ false
+none_marked f zero = refl
+none_marked f (suc i) = refl
+
+pub timed_out_fresh : (s : SenderView) (f : ℕ) → s ≡ fresh_sender 0 0 f 0 false → timed_out s ≡ s
+timed_out_fresh s f is = ap (λ (x : SenderView). timed_out x) is ∙ ap (λ (m : ℕ → Bool). record (fresh_sender 0 0 f 0 false) { marked = m }) (λ j i. none_marked f i j) ∙ sym is
+
+-- ---- the phase
+
+open_tags : (tags : Tags) (p : Progress) (t : model.Tags) (g : model.Stage) → phase_in tags p ≡ model.Open t g → tags_meaning tags ≡ t
+open_tags tags (Echoing xs) t g e = cc
+open_tags tags (Open h) t g e = cc
+open_tags tags (Over why) t g e = cc
+
+pub turned_open : (m : Machine) (a : Association) (v : EndView) (t : model.Tags) (g : model.Stage) (stage : Stage) (d : Due) (s : Timers) → m.life ≡ life.Joined a
+    → KeepsMachine m v → v.phase ≡ model.Open t g → DueStands d (turned (model.Open t (stage_meaning stage)) v).due
+    → timers_meaning s ≡ timers_in (model.Open t (stage_meaning stage)) (timers_meaning m.timers)
+    → KeepsMachine (record m { due = d; timers = s; life = life.Joined (record a { progress = Open stage }) }) (turned (model.Open t (stage_meaning stage)) v)
+turned_open m a v t g stage d s is k phase due timers =
+    let same = open_tags a.tags a.progress t g (phase_joined m a v is k ∙ phase) in record {
+      configuration = k.configuration;
+      role = k.role;
+      clock = k.clock;
+      due = due;
+      timers = timers ∙ ap (timers_in (model.Open t (stage_meaning stage))) k.timers;
+      phase = ap (λ (x : model.Tags). model.Open x (stage_meaning stage)) same;
+      life = record { terms = (joined m a v is k).terms; traffic = (joined m a v is k).traffic };
+    }
+
+-- no timer is at home where all is over
+rests_at : (why : model.Ended) (f : Alarm → model.Timer) (a : Alarm) → resting f a ≡ timers_in (model.Over why) f a
+rests_at why f model.InitAlarm = refl
+rests_at why f model.CookieAlarm = refl
+rests_at why f model.DataAlarm = refl
+rests_at why f model.ShutdownAlarm = refl
+rests_at why f model.AckAlarm = refl
+
+all_rest : (why : model.Ended) (f : Alarm → model.Timer) → resting f ≡ timers_in (model.Over why) f
+all_rest why f = λ i a. rests_at why f a i
+
+open_at : (t : model.Tags) (g : model.Stage) (f : Alarm → model.Timer) (a : Alarm)
+    → open_timers (is_home model.ShutdownAlarm (model.Open t g)) (is_home model.AckAlarm (model.Open t g)) f a ≡ timers_in (model.Open t g) f a
+open_at t g f model.InitAlarm = refl
+open_at t g f model.CookieAlarm = refl
+open_at t g f model.DataAlarm = refl
+open_at t g f model.ShutdownAlarm = refl
+open_at t g f model.AckAlarm = refl
+
+pub open_in : (t : model.Tags) (g : model.Stage) (n f : Alarm → model.Timer) (b c : Bool) → n ≡ open_timers b c f → b ≡ is_home model.ShutdownAlarm (model.Open t g)
+    → c ≡ is_home model.AckAlarm (model.Open t g) → n ≡ timers_in (model.Open t g) f
+open_in t g n f b c is sent acked =
+    is ∙ ap (λ (x : Bool). open_timers x c f) sent ∙ ap (λ (x : Bool). open_timers (is_home model.ShutdownAlarm (model.Open t g)) x f) acked ∙ (λ i a. open_at t g f a i)
+
+pub closed_joined : (m : Machine) (a : Association) (v : EndView) (why : End) (d : Due) (s : Timers) → m.life ≡ life.Joined a → KeepsMachine m v → DueStands d nothing_due
+    → timers_meaning s ≡ resting (timers_meaning m.timers)
+    → KeepsMachine (record m { due = d; timers = s; life = life.Joined (record a { progress = Over why }) }) (closed (end_meaning why) v)
+closed_joined m a v why d s is k due timers = record {
+  configuration = k.configuration;
+  role = k.role;
+  clock = k.clock;
+  due = due;
+  timers = timers ∙ ap resting k.timers ∙ all_rest (end_meaning why) v.timers;
+  phase = refl;
+  life = record { terms = (joined m a v is k).terms; traffic = (joined m a v is k).traffic };
+}
+
+pub closed_unjoined : (m : Machine) (x : Unjoined) (v : EndView) (why : End) (d : Due) (s : Timers) → m.life ≡ life.Unjoined x → KeepsMachine m v → DueStands d nothing_due
+    → timers_meaning s ≡ resting (timers_meaning m.timers) → KeepsMachine (record m { due = d; timers = s; life = life.Unjoined (Failed why) }) (closed (end_meaning why) v)
+closed_unjoined m x v why d s is k due timers = record {
+  configuration = k.configuration;
+  role = k.role;
+  clock = k.clock;
+  due = due;
+  timers = timers ∙ ap resting k.timers ∙ all_rest (end_meaning why) v.timers;
+  phase = refl;
+  life = unjoined m x v is k;
+}

@@ -1,0 +1,54 @@
+-- Which end stands for which view of an end (RFC 9260, 4).
+use Rattle.std.specs.Prelude.{◌≡◌, false}
+use Rattle.sctp_model.specs.sender.SenderView.{SenderView, fresh_sender}
+use Rattle.sctp_model.specs.receiver.ReceiverView.{ReceiverView, fresh_receiver}
+use Rattle.sctp_model.specs.end.Sealing.{Sealing}
+use Rattle.sctp_model.specs.end.EndView.{EndView, Configuration, Terms, no_terms, format_for}
+use Rattle.sctp_model.specs.end.EndView as model
+use Rattle.sctp_cookie.specs.Seals.{IsUnder}
+use Rattle.sctp_association.specs.TimersMean.{timers_meaning}
+use Rattle.sctp_association.specs.PhaseMeans.{terms_meaning, phase_of}
+use Rattle.sctp_association.specs.DueStands.{DueStands}
+use Rattle.sctp_association.specs.TrafficStands.{TrafficStands}
+use Rattle.sctp_association.specs.declared.life.Role.{Role}
+use Rattle.sctp_association.specs.declared.life.Role.TheVariants.{Caller, Listener, Paired}
+use Rattle.sctp_association.specs.declared.life.Life.{Life}
+use Rattle.sctp_association.specs.declared.life.Life.TheVariants.{Unjoined, Joined}
+use Rattle.sctp_association.specs.declared.life.Association.{Association}
+use Rattle.sctp_association.specs.declared.machine.Machine.{Machine}
+
+-- how it came to be; a listener's seal is its key's (5.1.3)
+abbrev pub RoleStands : Role → model.Role → Type 0
+RoleStands Caller r = r ≡ model.Caller
+RoleStands (Listener key) r = (s : Sealing) × (r ≡ model.Listener s) × IsUnder key s
+RoleStands Paired r = r ≡ model.Paired
+
+-- before an association nothing stands in terms, sender and receiver
+pub record IsUnjoined (c : Configuration) (t : Terms) (s : SenderView) (r : ReceiverView) : Type 0 where
+  pub terms : t ≡ no_terms
+  pub sender : s ≡ fresh_sender 0 0 c.fragment 0 false
+  pub receiver : r ≡ fresh_receiver 0 0 c.buffer
+
+-- an association has its terms, and its traffic goes on in the format agreed on
+pub record IsJoined (a : Association) (t : Terms) (s : SenderView) (r : ReceiverView) : Type 0 where
+  pub terms : terms_meaning a.terms ≡ t
+  pub traffic : TrafficStands a.traffic (format_for t.interleave) s r
+
+-- What stands for terms, sender and receiver: a relation of these parts, so that a change of the others leaves it as it is.
+abbrev pub LifeStands : Life → Configuration → Terms → SenderView → ReceiverView → Type 0
+LifeStands (Unjoined x) c t s r = IsUnjoined c t s r
+LifeStands (Joined a) c t s r = IsJoined a t s r
+
+-- each part stands for its part
+pub record KeepsMachine (m : Machine) (v : EndView) : Type 0 where
+  pub configuration : m.config ≡ v.configuration
+  pub role : RoleStands m.role v.role
+  pub clock : m.moment ≡ v.moment
+  pub due : DueStands m.due v.due
+  pub timers : timers_meaning m.timers ≡ v.timers
+  pub phase : phase_of m.life ≡ v.phase
+  pub life : LifeStands m.life v.configuration v.terms v.sender v.receiver
+
+-- Stands for: hidden from the crates above, which know it by the clauses alone.
+unfoldable pub MachineStands : Machine → EndView → Type 0
+MachineStands m v = KeepsMachine m v

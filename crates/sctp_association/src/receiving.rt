@@ -1,0 +1,127 @@
+//! What an association's traffic does as a receiver, in either format (RFC 9260, 6.2; RFC 3758, 3.6; RFC 8260, 2.2.3).
+
+ghost use Rattle.std.specs.Prelude.{◌≡◌, ℕ, ◌≤◌, Some, None, option_map, slice_get, IfOk, OnErr, MatchOption};
+ghost use Rattle.sctp_model.specs.numbers.Serial.{tsn};
+ghost use Rattle.sctp_model.specs.wire.Chunk.{Sack};
+ghost use Rattle.sctp_model.specs.messages.Format.{Format};
+ghost use Rattle.sctp_model.specs.sender.SenderView.{SenderView};
+ghost use Rattle.sctp_model.specs.receiver.ReceiverView.{ReceiverView, IsCumulative, held_bytes};
+ghost use Rattle.sctp_model.specs.receiver.PieceTaken.{PieceTaken};
+ghost use Rattle.sctp_model.specs.receiver.ForwardTaken.{ForwardTaken};
+ghost use Rattle.sctp_model.specs.receiver.SackMade.{IsSack, sack_sent, TakeLeaves};
+ghost use Rattle.sctp_wire.specs.ChunkTree.{piece_meaning, forward_meaning};
+ghost use Rattle.sctp_wire.specs.Layouts.{Fits};
+ghost use Rattle.sctp_recv.specs.AnswerOf.{answer_of, forward_answer_of};
+ghost use Rattle.sctp_recv.specs.SackOf.{lists_meaning};
+ghost use Rattle.sctp_recv.specs.HandedOf.{handed_of};
+ghost use Rattle.sctp_association.specs.TrafficStands.{TrafficStands};
+
+use crate::traffic::Traffic;
+use sctp_recv::{Answer, ForwardAnswer, Message, SackLists};
+use sctp_values::NoMemory;
+use sctp_wire::{Forward, Piece};
+
+impl Traffic {
+    /// A chunk with data comes (RFC 9260, 6.2; RFC 8260, 2.2.3).
+    ///
+    /// # Errors
+    /// Memory ran out, and nothing changed.
+    pub fn on_data(&mut self, piece: &Piece<'_>) -> Result<Answer, NoMemory>
+        ensures step { (f : Format) (s : SenderView) (r : ReceiverView) → TrafficStands self.old f s r → IfOk result (λ a. (t : ReceiverView) × PieceTaken f r (piece_meaning piece.now) (answer_of a) t × TrafficStands self.new f s t) }
+        ensures refused { (f : Format) (s : SenderView) (r : ReceiverView) → TrafficStands self.old f s r → OnErr result (TrafficStands self.new f s r) }
+    {
+        match self {
+            Traffic::Plain(directions) => directions.receiver.on_data(piece),
+            Traffic::Interleaved(directions) => directions.receiver.on_data(piece),
+        }
+    }
+
+    /// A FORWARD-TSN or an I-FORWARD-TSN comes (RFC 3758, 3.6; RFC 8260, 2.3.1).
+    ///
+    /// # Errors
+    /// Memory ran out, and nothing changed.
+    pub fn on_forward(&mut self, forward: &Forward<'_>) -> Result<ForwardAnswer, NoMemory>
+        ensures step { (f : Format) (s : SenderView) (r : ReceiverView) → TrafficStands self.old f s r → IfOk result (λ a. (t : ReceiverView) × ForwardTaken f r (forward_meaning forward.now) (forward_answer_of a) t × TrafficStands self.new f s t) }
+        ensures refused { (f : Format) (s : SenderView) (r : ReceiverView) → TrafficStands self.old f s r → OnErr result (TrafficStands self.new f s r) }
+    {
+        match self {
+            Traffic::Plain(directions) => directions.receiver.on_forward(forward),
+            Traffic::Interleaved(directions) => directions.receiver.on_forward(forward),
+        }
+    }
+
+    /// What a SACK says now (RFC 9260, 3.3.4). Nothing changes.
+    ///
+    /// # Errors
+    /// Memory ran out.
+    pub fn sack(&self) -> Result<SackLists, NoMemory>
+        ensures sack { (f : Format) (s : SenderView) (r : ReceiverView) → TrafficStands self.now f s r → IfOk result (λ l. IsSack r (lists_meaning l)) }
+        ensures fits { IfOk result (λ l. Fits (Sack (lists_meaning l))) }
+    {
+        match self {
+            Traffic::Plain(directions) => directions.receiver.sack(),
+            Traffic::Interleaved(directions) => directions.receiver.sack(),
+        }
+    }
+
+    /// A SACK was sent: the duplicates that it told are forgotten.
+    pub fn sack_sent(&mut self)
+        ensures { (f : Format) (s : SenderView) (r : ReceiverView) → TrafficStands self.old f s r → TrafficStands self.new f s (sack_sent r) }
+    {
+        match self {
+            Traffic::Plain(directions) => directions.receiver.sack_sent(),
+            Traffic::Interleaved(directions) => directions.receiver.sack_sent(),
+        }
+    }
+
+    /// The TSN up to which all came or was passed (RFC 9260, 6.2).
+    pub fn cumulative(&self) -> u32
+        ensures { (f : Format) (s : SenderView) (r : ReceiverView) → TrafficStands self.now f s r → (c : ℕ) × IsCumulative r c × (result ≡ tsn r.initial c) }
+    {
+        match self {
+            Traffic::Plain(directions) => directions.receiver.cumulative(),
+            Traffic::Interleaved(directions) => directions.receiver.cumulative(),
+        }
+    }
+
+    /// The bytes of all data that was recorded and not taken yet.
+    pub fn held_bytes(&self) -> u32
+        ensures held { (f : Format) (s : SenderView) (r : ReceiverView) → TrafficStands self.now f s r → result ≡ held_bytes r }
+        ensures bound { (f : Format) (s : SenderView) (r : ReceiverView) → TrafficStands self.now f s r → result ≤ r.buffer }
+    {
+        match self {
+            Traffic::Plain(directions) => directions.receiver.held_bytes(),
+            Traffic::Interleaved(directions) => directions.receiver.held_bytes(),
+        }
+    }
+
+    /// How many streams come into this end.
+    pub fn inbound(&self) -> u16
+        ensures { (f : Format) (s : SenderView) (r : ReceiverView) → TrafficStands self.now f s r → result ≡ r.streams }
+    {
+        match self {
+            Traffic::Plain(directions) => directions.receiver.stream_count(),
+            Traffic::Interleaved(directions) => directions.receiver.stream_count(),
+        }
+    }
+
+    /// The message that waits on a stream at a place, from 0, and isn't taken.
+    pub fn waiting(&self, stream: u16, place: usize) -> Option<&Message>
+        ensures { (f : Format) (s : SenderView) (r : ReceiverView) → TrafficStands self.now f s r → MatchOption result (slice_get (r.waiting stream) place ≡ None) (λ m. slice_get (r.waiting stream) place ≡ Some (handed_of m.now)) }
+    {
+        match self {
+            Traffic::Plain(directions) => directions.receiver.waiting(stream, place),
+            Traffic::Interleaved(directions) => directions.receiver.waiting(stream, place),
+        }
+    }
+
+    /// Takes the first message that waits on a stream (RFC 9260, 11.1.6).
+    pub fn take(&mut self, stream: u16) -> Option<Message>
+        ensures { (f : Format) (s : SenderView) (r : ReceiverView) → TrafficStands self.old f s r → (t : ReceiverView) × TakeLeaves r stream (option_map handed_of result) t × TrafficStands self.new f s t }
+    {
+        match self {
+            Traffic::Plain(directions) => directions.receiver.take(stream),
+            Traffic::Interleaved(directions) => directions.receiver.take(stream),
+        }
+    }
+}

@@ -1,0 +1,193 @@
+//! What an association's traffic does as a sender, in either format (RFC 9260, 6; RFC 3758, 3.5; RFC 8260, 2.2).
+
+ghost use Rattle.std.specs.Prelude.{◌≡◌, ◌<◌, nat_lt, false};
+ghost use Rattle.sctp_model.specs.messages.Format.{Format};
+ghost use Rattle.sctp_model.specs.sender.SenderView.{SenderView};
+ghost use Rattle.sctp_model.specs.receiver.ReceiverView.{ReceiverView};
+ghost use Rattle.sctp_model.specs.sender.Readers.{drained, unsettled, point, acknowledged, abandoned};
+ghost use Rattle.sctp_model.specs.sender.SackTaken.{sack_fault, sack_after, shutdown_fault, shutdown_after};
+ghost use Rattle.sctp_model.specs.sender.Abandoning.{has_late, expired, timed_out, abandon_answer, abandon_after};
+ghost use Rattle.sctp_model.specs.end.Clock.{is_point_past};
+ghost use Rattle.sctp_wire.specs.ChunkTree.{sack_meaning};
+ghost use Rattle.sctp_send.specs.SenderAnswers.{reason_meaning, answer_meaning, QueueAnswer, queue_after, lane_for};
+ghost use Rattle.sctp_association.specs.TrafficStands.{TrafficStands};
+
+use crate::traffic::Traffic;
+use sctp_send::{Abandoned, SackFault, SendFault};
+use sctp_values::Ticket;
+use sctp_wire::Sack;
+
+impl Traffic {
+    /// The index up to which all is acknowledged.
+    pub fn cum(&self) -> u32
+        ensures { (f : Format) (s : SenderView) (r : ReceiverView) → TrafficStands self.now f s r → result ≡ s.cum }
+    {
+        match self {
+            Traffic::Plain(directions) => directions.sender.cum(),
+            Traffic::Interleaved(directions) => directions.sender.cum(),
+        }
+    }
+
+    /// The index up to which all is acknowledged or abandoned: the Advanced Peer Ack Point (RFC 3758, 3.5).
+    pub fn point(&self) -> u32
+        ensures { (f : Format) (s : SenderView) (r : ReceiverView) → TrafficStands self.now f s r → result ≡ point s }
+    {
+        match self {
+            Traffic::Plain(directions) => directions.sender.point(),
+            Traffic::Interleaved(directions) => directions.sender.point(),
+        }
+    }
+
+    /// The point is past the acknowledged index: there is something to skip (RFC 3758, 3.5).
+    pub fn is_point_past(&self) -> bool
+        ensures { (f : Format) (s : SenderView) (r : ReceiverView) → TrafficStands self.now f s r → result ≡ is_point_past s }
+    {
+        self.cum() < self.point()
+    }
+
+    /// The timer of fragments is wanted: something that went out is neither acknowledged nor abandoned, or there is something to skip
+    /// (RFC 9260, 6.3.2).
+    pub fn unsettled(&self) -> bool
+        ensures { (f : Format) (s : SenderView) (r : ReceiverView) → TrafficStands self.now f s r → result ≡ unsettled s }
+    {
+        match self {
+            Traffic::Plain(directions) => directions.sender.unsettled(),
+            Traffic::Interleaved(directions) => directions.sender.unsettled(),
+        }
+    }
+
+    /// Nothing waits to go out, and all is acknowledged (RFC 9260, 9.2).
+    pub fn drained(&self) -> bool
+        ensures { (f : Format) (s : SenderView) (r : ReceiverView) → TrafficStands self.now f s r → result ≡ drained s }
+    {
+        match self {
+            Traffic::Plain(directions) => directions.sender.drained(),
+            Traffic::Interleaved(directions) => directions.sender.drained(),
+        }
+    }
+
+    /// How many tickets were given.
+    pub fn tickets(&self) -> u32
+        ensures { (f : Format) (s : SenderView) (r : ReceiverView) → TrafficStands self.now f s r → result ≡ s.tickets }
+    {
+        match self {
+            Traffic::Plain(directions) => directions.sender.tickets(),
+            Traffic::Interleaved(directions) => directions.sender.tickets(),
+        }
+    }
+
+    /// Some message is past its time at this moment: where none is, `expire` changes nothing.
+    pub fn has_late(&self, now: u64) -> bool
+        ensures exact { (f : Format) (s : SenderView) (r : ReceiverView) → TrafficStands self.now f s r → result ≡ has_late s now }
+        ensures idle { (f : Format) (s : SenderView) (r : ReceiverView) → TrafficStands self.now f s r → result ≡ false → expired s now ≡ s }
+    {
+        match self {
+            Traffic::Plain(directions) => directions.sender.has_late(now),
+            Traffic::Interleaved(directions) => directions.sender.has_late(now),
+        }
+    }
+
+    /// The message with this ticket was acknowledged whole.
+    pub fn acknowledged(&self, ticket: Ticket) -> bool
+        ensures { (f : Format) (s : SenderView) (r : ReceiverView) → TrafficStands self.now f s r → result ≡ acknowledged s ticket.0 }
+    {
+        match self {
+            Traffic::Plain(directions) => directions.sender.acknowledged(ticket),
+            Traffic::Interleaved(directions) => directions.sender.acknowledged(ticket),
+        }
+    }
+
+    /// The message with this ticket has a number, and was abandoned.
+    pub fn abandoned(&self, ticket: Ticket) -> bool
+        ensures { (f : Format) (s : SenderView) (r : ReceiverView) → TrafficStands self.now f s r → result ≡ abandoned s ticket.0 }
+    {
+        match self {
+            Traffic::Plain(directions) => directions.sender.abandoned(ticket),
+            Traffic::Interleaved(directions) => directions.sender.abandoned(ticket),
+        }
+    }
+
+    /// A SACK comes (RFC 9260, 6.2.1).
+    ///
+    /// # Errors
+    /// The fault that it has; nothing changed.
+    pub fn on_sack(&mut self, sack: &Sack<'_>) -> Result<(), SackFault>
+        ensures answer { (f : Format) (s : SenderView) (r : ReceiverView) → TrafficStands self.old f s r → reason_meaning result ≡ sack_fault s (sack_meaning sack.now) }
+        ensures step { (f : Format) (s : SenderView) (r : ReceiverView) → TrafficStands self.old f s r → TrafficStands self.new f (sack_after s (sack_meaning sack.now)) r }
+    {
+        match self {
+            Traffic::Plain(directions) => directions.sender.on_sack(sack),
+            Traffic::Interleaved(directions) => directions.sender.on_sack(sack),
+        }
+    }
+
+    /// The cumulative TSN of a SHUTDOWN comes (RFC 9260, 9.2).
+    ///
+    /// # Errors
+    /// The fault that it has; nothing changed.
+    pub fn on_shutdown(&mut self, tsn: u32) -> Result<(), SackFault>
+        ensures answer { (f : Format) (s : SenderView) (r : ReceiverView) → TrafficStands self.old f s r → reason_meaning result ≡ shutdown_fault s tsn }
+        ensures step { (f : Format) (s : SenderView) (r : ReceiverView) → TrafficStands self.old f s r → TrafficStands self.new f (shutdown_after s tsn) r }
+    {
+        match self {
+            Traffic::Plain(directions) => directions.sender.on_shutdown(tsn),
+            Traffic::Interleaved(directions) => directions.sender.on_shutdown(tsn),
+        }
+    }
+
+    /// The timer of fragments expired: what is wanted still is marked for repeating (RFC 9260, 6.3.3).
+    pub fn on_timeout(&mut self)
+        ensures { (f : Format) (s : SenderView) (r : ReceiverView) → TrafficStands self.old f s r → TrafficStands self.new f (timed_out s) r }
+    {
+        match self {
+            Traffic::Plain(directions) => directions.sender.on_timeout(),
+            Traffic::Interleaved(directions) => directions.sender.on_timeout(),
+        }
+    }
+
+    /// What is past its time at this moment is abandoned (RFC 3758, 3.5).
+    pub fn expire(&mut self, now: u64)
+        ensures { (f : Format) (s : SenderView) (r : ReceiverView) → TrafficStands self.old f s r → TrafficStands self.new f (expired s now) r }
+    {
+        match self {
+            Traffic::Plain(directions) => directions.sender.expire(now),
+            Traffic::Interleaved(directions) => directions.sender.expire(now),
+        }
+    }
+
+    /// Abandons the message with this ticket (RFC 3758, 3.5).
+    pub fn abandon(&mut self, ticket: Ticket) -> Abandoned
+        ensures answer { (f : Format) (s : SenderView) (r : ReceiverView) → TrafficStands self.old f s r → answer_meaning result ≡ abandon_answer s ticket.0 }
+        ensures step { (f : Format) (s : SenderView) (r : ReceiverView) → TrafficStands self.old f s r → TrafficStands self.new f (abandon_after s ticket.0) r }
+    {
+        match self {
+            Traffic::Plain(directions) => directions.sender.abandon(ticket),
+            Traffic::Interleaved(directions) => directions.sender.abandon(ticket),
+        }
+    }
+
+    /// A message is handed in (RFC 9260, 11.1.5).
+    ///
+    /// # Errors
+    /// Why it is refused; nothing changed.
+    pub fn queue(
+        &mut self,
+        stream: u16,
+        ordered: bool,
+        payload_id: u32,
+        bytes: Vec<u8>,
+        until: Option<u64>,
+    ) -> Result<Ticket, SendFault>
+        ensures answer { (f : Format) (s : SenderView) (r : ReceiverView) → TrafficStands self.old f s r → QueueAnswer s stream bytes.items result }
+        ensures step { (f : Format) (s : SenderView) (r : ReceiverView) → TrafficStands self.old f s r → TrafficStands self.new f (queue_after s (lane_for stream ordered) payload_id bytes.items until result) r }
+    {
+        match self {
+            Traffic::Plain(directions) => directions
+                .sender
+                .queue(stream, ordered, payload_id, bytes, until),
+            Traffic::Interleaved(directions) => directions
+                .sender
+                .queue(stream, ordered, payload_id, bytes, until),
+        }
+    }
+}

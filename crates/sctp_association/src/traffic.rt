@@ -1,0 +1,104 @@
+//! The traffic of an association: its sender and its receiver, in the format that both ends agreed on. Above it nobody names a format.
+
+ghost use Rattle.std.specs.Prelude.{◌≡◌, ◌<◌, ◌≤◌, true, false, Some, None, IfOk, MatchOption, slice_get};
+ghost use Rattle.sctp_model.specs.messages.Format.{Format};
+ghost use Rattle.sctp_model.specs.sender.SenderView.{SenderView, fresh_sender};
+ghost use Rattle.sctp_model.specs.receiver.ReceiverView.{ReceiverView, fresh_receiver};
+ghost use Rattle.sctp_model.specs.end.EndView.{format_for};
+ghost use Rattle.sctp_association.specs.TrafficStands.{DirectionsStand, TrafficStands};
+
+use sctp_framing::{DataFraming, Framing, IDataFraming};
+use sctp_recv::Receiver;
+use sctp_send::Sender;
+use sctp_values::NoMemory;
+use std::alloc::Global;
+
+/// Sender and receiver, in one format.
+#[derive(Drop)]
+pub struct Directions<F: Framing> {
+    pub(crate) sender: Sender<F>,
+    pub(crate) receiver: Receiver<F>,
+}
+
+/// Sender and receiver, in the format that both ends agreed on: DATA, or I-DATA (RFC 8260, 2.2.1).
+#[derive(Drop)]
+pub enum Traffic {
+    Plain(Directions<DataFraming>),
+    Interleaved(Directions<IDataFraming>),
+}
+
+/// What both ends agreed on: their first TSNs, the streams out of and into this end, and what is turned on (RFC 9260, 5.1.1; RFC 8260,
+/// 2.2.1; RFC 3758, 3.1).
+#[derive(Clone, Copy)]
+pub struct Terms {
+    pub own_tsn: u32,
+    pub peer_tsn: u32,
+    pub outbound: u16,
+    pub inbound: u16,
+    pub interleave: bool,
+    pub partial: bool,
+}
+
+/// What an end has of its own: the bytes of a fragment, the bytes of its receive buffer.
+#[derive(Clone, Copy)]
+pub struct Sizes {
+    pub fragment: u16,
+    pub buffer: u32,
+}
+
+impl Traffic {
+    /// Traffic that begins on these terms: nothing was sent and nothing came. `peer_rwnd` is the window that the peer advertised, in bytes.
+    ///
+    /// # Errors
+    /// Memory ran out.
+    pub fn begun(
+        alloc: Global,
+        terms: Terms,
+        sizes: Sizes,
+        peer_rwnd: u32,
+    ) -> Result<Traffic, NoMemory>
+        requires some { 0 < sizes.fragment }
+        requires short { sizes.fragment ≤ 1400 }
+        ensures { IfOk result (λ t. TrafficStands t (format_for terms.interleave) (fresh_sender terms.own_tsn terms.outbound sizes.fragment peer_rwnd terms.partial)
+            (fresh_receiver terms.peer_tsn terms.inbound sizes.buffer)) }
+    {
+        if terms.interleave {
+            return Ok(Traffic::Interleaved(begun_in(alloc, terms, sizes, peer_rwnd)?));
+        }
+        Ok(Traffic::Plain(begun_in(alloc, terms, sizes, peer_rwnd)?))
+    }
+
+    /// I-DATA is in force (RFC 8260, 2.2.1).
+    pub fn is_interleaved(&self) -> bool
+        ensures { (f : Format) (s : SenderView) (r : ReceiverView) → TrafficStands self.now f s r → f ≡ format_for result }
+    {
+        matches!(self, Traffic::Interleaved(_))
+    }
+}
+
+/// Both directions, in one format.
+///
+/// # Errors
+/// Memory ran out.
+fn begun_in<F: Framing>(
+    alloc: Global,
+    terms: Terms,
+    sizes: Sizes,
+    peer_rwnd: u32,
+) -> Result<Directions<F>, NoMemory>
+    requires some { 0 < sizes.fragment }
+    requires short { sizes.fragment ≤ 1400 }
+    ensures { IfOk result (λ d. DirectionsStand F.format d (fresh_sender terms.own_tsn terms.outbound sizes.fragment peer_rwnd terms.partial)
+        (fresh_receiver terms.peer_tsn terms.inbound sizes.buffer)) }
+{
+    let sender = Sender::new(
+        alloc,
+        terms.own_tsn,
+        terms.outbound,
+        sizes.fragment,
+        peer_rwnd,
+        terms.partial,
+    )?;
+    let receiver = Receiver::new(alloc, terms.peer_tsn, terms.inbound, sizes.buffer)?;
+    Ok(Directions { sender, receiver })
+}
