@@ -105,16 +105,24 @@ impl LineReader {
             Some(Stop::LineFeed) => {
                 self.block.skip(1);
                 self.given += self.line.len() as u64 + 1;
-                Ok(NextLine::Ended(mem::replace(&mut self.line, Vec::new(self.alloc))))
+                Ok(NextLine::Ended(emptied(&mut self.line, self.alloc)))
             }
             Some(Stop::TooLong) => Ok(NextLine::TooLong),
             None if self.line.is_empty() => Ok(NextLine::End),
             None => {
                 self.given += self.line.len() as u64;
-                Ok(NextLine::Last(mem::replace(&mut self.line, Vec::new(self.alloc))))
+                Ok(NextLine::Last(emptied(&mut self.line, self.alloc)))
             }
         }
     }
+}
+
+/// The bytes of a line, which is empty then.
+fn emptied(line: &mut Vec<u8>, alloc: Global) -> Vec<u8>
+    ensures given { result.items ≡ line.old.items }
+    ensures empty { line.new.items ≡ [] }
+{
+    mem::replace(line, Vec::new(alloc))
 }
 
 /// Whether behind so many bytes a line may begin with these two parts, with the first of which it may.

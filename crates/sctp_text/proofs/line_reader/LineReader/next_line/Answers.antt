@@ -8,6 +8,6 @@ returns-in-Some-LineFeed-clause-bytes g c =
     let b = c.complete.ensures.bytes in
     let held = ap (λ (now : Reading). now.held) c.self.view_is in
     let given = ap (λ (now : Reading). now.given) c.self.view_is in
-    let whole : c.args.self.now.held ++ b.0 ≡ ended c.replace.result.items ++ (c.replace.new.dest.items ++ c.skip.new.self) =
+    let whole : c.args.self.now.held ++ b.0 ≡ ended c.emptied.result.items ++ (c.emptied.new.line.items ++ c.skip.new.self) =
     grind (arith, common_steps, b.3, held) in
     (b.0, b.1, rw (← held, ← given) b.2, whole)
