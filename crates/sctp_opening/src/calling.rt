@@ -1,8 +1,9 @@
 //! A caller reads an INIT ACK: its cookie, or why it is refused, and what its peer is told (RFC 9260, 5.1.2 and 3.3.3).
 
-ghost use Rattle.std.specs.Prelude.{◌≡◌, ◌≤◌, length, Some, None, MatchResult, IfOk, OnOk, OnErr};
+ghost use Rattle.std.specs.Prelude.{◌≡◌, ◌<◌, ◌+◌, ◌^◌, true, length, Some, None, MatchResult, IfOk, OnOk, OnErr};
 ghost use Rattle.sctp_model.specs.wire.Chunk.{InitMeaning};
-ghost use Rattle.sctp_model.specs.wire.Typed.{WritesTyped};
+ghost use Rattle.sctp_model.specs.numbers.Numbers.{AreBytes};
+ghost use Rattle.sctp_model.specs.wire.Typed.{AreAsWritten, WritesTyped, are_typed};
 ghost use Rattle.sctp_model.specs.end.EndView.{EndView};
 ghost use Rattle.sctp_model.specs.end.Options.{value_of};
 ghost use Rattle.sctp_model.specs.end.Opening.{ack_fault, ack_causes};
@@ -89,11 +90,16 @@ pub fn put_ack_report(
     parameters: &Parameters<'_>,
     causes: &mut Vec<u8>,
 ) -> Result<(), NoMemory>
-    requires { length causes.old.items ≤ 1500 }
+    requires { length causes.old.items < 2 ^ 16 }
     ensures step { (e : EndView) (m : InitMeaning) → e.configuration ≡ config.now → m.parameters ≡ parameters.now
         → WritesTyped causes.old.items e.due.causes → OnOk result (WritesTyped causes.new.items (ack_causes e m)) }
+    // Causes that are a list, as it is written, and short enough for a chunk stay so.
+    ensures listed { AreAsWritten causes.old.items → OnOk result (are_typed causes.new.items ≡ true) }
+    ensures plain { AreAsWritten causes.old.items → OnOk result (AreAsWritten causes.new.items) }
+    ensures short { 4 + length causes.old.items < 2 ^ 16 → OnOk result (4 + length causes.new.items < 2 ^ 16) }
     ensures refused { OnErr result (causes.new.items ≡ causes.old.items) }
 {
+    are_bytes(causes);
     let used = padded(causes.len()) + 4;
     let room = room_behind(config, 4);
     if used > room {
@@ -104,5 +110,13 @@ pub fn put_ack_report(
     if list.is_empty() {
         return Ok(());
     }
-    put_cause(UNRECOGNIZED_PARAMETERS, &list, causes)
+    put_cause(UNRECOGNIZED_PARAMETERS, &list, causes)?;
+    Ok(())
+}
+
+/// Each byte of a slice is one.
+fn are_bytes(bytes: &[u8])
+    ensures { AreBytes bytes.now }
+{
+    let _ = bytes;
 }
