@@ -36,7 +36,8 @@ pub enum Call<'a> {
     Sack {
         tsn: u32,
         rwnd: u32,
-        blocks: &'a str,
+        /// Words, if there are any.
+        blocks: Option<&'a str>,
     },
     Shutdown {
         tsn: u32,
@@ -70,7 +71,8 @@ pub enum Call<'a> {
     /// A FORWARD comes.
     Skip {
         tsn: u32,
-        skips: &'a str,
+        /// Words, if there are any.
+        skips: Option<&'a str>,
     },
     /// A packet that the sender built comes to the receiver.
     Carry {
@@ -90,7 +92,10 @@ pub enum Call<'a> {
 impl<'a> Call<'a> {
     /// The call that a line says, if it says one, and nothing behind it.
     pub fn read(line: &'a str) -> Option<Call<'a>> {
-        let (name, rest) = line.split_once(' ').unwrap_or((line, ""));
+        let (name, rest) = match line.split_once(' ') {
+            Some((name, rest)) => (name, Some(rest)),
+            None => (line, None),
+        };
         let mut words = Words::new(rest);
         let call = match read_sending(name, &mut words) {
             Some(call) => call,

@@ -9,6 +9,7 @@ use anyhow::Result;
 use sctp_framing::Framing;
 use sctp_recv::Receiver;
 use sctp_send::Sender;
+use sctp_values::GREATEST_FRAGMENT;
 use std::alloc::Global;
 use std::fmt::Write;
 
@@ -65,7 +66,7 @@ impl<F: Framing> Ends<F> {
                 fragment,
                 rwnd,
                 partial,
-            } if streams > 0 && fragment > 0 && fragment <= 1_400 => {
+            } if streams > 0 && fragment > 0 && fragment <= GREATEST_FRAGMENT => {
                 let sender = Sender::new(self.alloc, tsn, streams, fragment, rwnd, partial)?;
                 self.sender = Some(sender);
                 self.packets = Packets::new(self.alloc);

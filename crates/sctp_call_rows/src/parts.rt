@@ -29,13 +29,13 @@ fn counting(alloc: Global, count: usize) -> Result<Vec<u8>> {
     Ok(bytes)
 }
 
-/// The bytes of gap blocks `START-END START-END ..`.
-pub fn blocks_of(alloc: Global, words: &str) -> Result<Option<Vec<u8>>> {
+/// The bytes of gap blocks `START-END START-END ..`, none where there are no words.
+pub fn blocks_of(alloc: Global, words: Option<&str>) -> Result<Option<Vec<u8>>> {
     let mut list = Vec::new(alloc);
+    let Some(words) = words else {
+        return Ok(Some(list));
+    };
     for word in words.split(' ') {
-        if word.is_empty() {
-            continue;
-        }
         match block_of(word) {
             Some(block) => put_block(block, &mut list)?,
             None => return Ok(None),
@@ -53,13 +53,13 @@ fn block_of(word: &str) -> Option<GapBlock> {
     })
 }
 
-/// The bytes of entries `STREAM-NUMBER` or `STREAM-NUMBER-u` ..
-pub fn skips_of(alloc: Global, form: SkipForm, words: &str) -> Result<Option<Vec<u8>>> {
+/// The bytes of entries `STREAM-NUMBER` or `STREAM-NUMBER-u` .., none where there are no words.
+pub fn skips_of(alloc: Global, form: SkipForm, words: Option<&str>) -> Result<Option<Vec<u8>>> {
     let mut list = Vec::new(alloc);
+    let Some(words) = words else {
+        return Ok(Some(list));
+    };
     for word in words.split(' ') {
-        if word.is_empty() {
-            continue;
-        }
         let put = match form {
             SkipForm::Wide => put_wide(word, &mut list)?,
             SkipForm::Narrow => put_narrow(word, &mut list)?,

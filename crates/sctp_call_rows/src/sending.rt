@@ -113,7 +113,7 @@ pub fn sack<F: Framing>(
     sender: &mut Sender<F>,
     cumulative: u32,
     rwnd: u32,
-    blocks: &str,
+    blocks: Option<&str>,
     out: &mut String,
 ) -> Result<()> {
     if let Some(list) = blocks_of(alloc, blocks)? {

@@ -2,26 +2,30 @@
 
 use std::str::FromStr;
 
-/// The words of a line that were not read yet.
+/// The words of a line that were not read yet, none behind the last one.
 #[derive(Drop)]
 pub struct Words<'a> {
-    rest: &'a str,
+    rest: Option<&'a str>,
 }
 
 impl<'a> Words<'a> {
-    /// All words of this text, one space between them.
-    pub fn new(text: &'a str) -> Words<'a> {
+    /// All words of this text, one space between them; none where there is no text.
+    pub fn new(text: Option<&'a str>) -> Words<'a> {
         Words { rest: text }
     }
 
     /// Whether each word was read.
     pub fn are_read(&self) -> bool {
-        self.rest.is_empty()
+        self.rest.is_none()
     }
 
     /// The next word.
     pub fn next(&mut self) -> Option<&'a str> {
-        let (word, rest) = self.rest.split_once(' ').unwrap_or((self.rest, ""));
+        let text = self.rest?;
+        let (word, rest) = match text.split_once(' ') {
+            Some((word, rest)) => (word, Some(rest)),
+            None => (text, None),
+        };
         self.rest = rest;
         if word.is_empty() { None } else { Some(word) }
     }
@@ -47,10 +51,8 @@ impl<'a> Words<'a> {
     }
 
     /// All words that are left.
-    pub fn all(&mut self) -> &'a str {
-        let rest = self.rest;
-        self.rest = "";
-        rest
+    pub fn all(&mut self) -> Option<&'a str> {
+        self.rest.take()
     }
 
     /// The next word: flags in the order I, U, B, E, or `-` for none.

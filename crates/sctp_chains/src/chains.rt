@@ -1,6 +1,6 @@
 //! The kept chunks of one lane.
 
-ghost use Rattle.std.specs.Prelude.{◌≡◌, ◌≤◌, ◌-◌, ◌^◌, ◌<◌, ℕ, suc, min, true, not, [], ◌∷◌, filter, map, IfOk, OnOk, OnErr, OnSome};
+ghost use Rattle.std.specs.Prelude.{◌≡◌, ◌≤◌, ◌-◌, ◌^◌, ◌<◌, ℕ, suc, true, not, [], ◌∷◌, filter, map, IfOk, OnOk, OnErr, OnSome};
 ghost use Rattle.sctp_model.specs.messages.Format.{Lane, Unordered, is_numbered};
 ghost use Rattle.sctp_model.specs.messages.Framing.{lets_go};
 ghost use Rattle.sctp_model.specs.numbers.Lists.{Has};
@@ -22,7 +22,7 @@ use crate::rank::rank_at;
 use crate::search::{Found, first_whole, whole_with};
 use crate::whole::{Whole, whole_of};
 use sctp_framing::Framing;
-use sctp_values::{Kind, NoMemory};
+use sctp_values::{Kind, NoMemory, small_len};
 use sctp_wire::Piece;
 use std::alloc::Global;
 use std::marker::PhantomData;
@@ -233,11 +233,4 @@ fn is_number(number: Option<u32>, wanted: u32) -> bool
         Some(number) => wanted == number,
         None => false,
     }
-}
-
-/// A number of bytes, at most 2^32 - 1.
-fn small_len(bytes: usize) -> u32
-    ensures { result ≡ min bytes (2 ^ 32 - 1) }
-{
-    u32::try_from(bytes).unwrap_or(u32::MAX)
 }

@@ -5,8 +5,7 @@ ghost use Rattle.sctp_chains.specs.Links.{chain_of, one_of, whole_in, AreChains}
 ghost use Rattle.sctp_chains.specs.inner.Filing.{IsPlace, IsLinkBefore, IsLinkBehind, IsJoined, Gains};
 
 use crate::chain::{Chain, Part, alone, one_if};
-use crate::ends::put_at;
-use sctp_values::NoMemory;
+use sctp_values::{NoMemory, put_at};
 use std::alloc::Global;
 use std::collections::VecDeque;
 

@@ -40,7 +40,7 @@ const PARTIAL_RELIABILITY: u8 = 1;
 const INTERLEAVING: u8 = 2;
 
 /// The two ports of an association.
-#[derive(Clone, Copy, Debug, PartialEq, Eq)]
+#[derive(Clone, Copy, PartialEq, Eq)]
 pub struct Ports {
     /// The port of the end that was called.
     pub listener: u16,

@@ -1,6 +1,6 @@
 //! Handing over: a chunk is kept, and what is due with it goes to what waits for the user (RFC 9260, 6.6; RFC 3758, 3.6).
 
-ghost use Rattle.std.specs.Prelude.{◌≡◌, ◌⊎◌, ◌^◌, ◌<◌, true, ◌++◌, [], ◌∷◌, ◌≤◌, ℕ, suc, Some, map, length, OnOk, OnErr, IfOk};
+ghost use Rattle.std.specs.Prelude.{◌≡◌, ◌-◌, ◌⊎◌, ◌^◌, ◌<◌, true, ◌++◌, [], ◌∷◌, ◌≤◌, ℕ, suc, Some, map, length, OnOk, OnErr, IfOk};
 ghost use Rattle.std.specs.VecDeque.{deque_len, deque_capacity};
 ghost use Rattle.sctp_model.specs.messages.Format.{Lane, is_numbered, ordered_lane, unordered_lane};
 ghost use Rattle.sctp_model.specs.receiver.Reading.{lane_of};
@@ -15,9 +15,8 @@ ghost use Rattle.sctp_recv.specs.inner.Giving.{sized, HasRoom, HasRoomFor, HasRo
 
 use crate::inbound::Inbound;
 use crate::message::{Message, message_of};
-use crate::room::small_len;
 use sctp_framing::Framing;
-use sctp_values::{Kind, NoMemory};
+use sctp_values::{Kind, NoMemory, small_len};
 use sctp_wire::Piece;
 use std::collections::VecDeque;
 
@@ -31,6 +30,13 @@ fn wait(waiting: &mut VecDeque<Message>, message: Message) -> u32
     let bytes = small_len(message.len());
     let _ = waiting.push_back(message);
     bytes
+}
+
+/// A number of bytes held, less those of a message that goes: 0 where it has more.
+pub(crate) fn less(held: u32, message: &Message) -> u32
+    ensures { result ≡ held - length (message_bytes message.now) }
+{
+    held.saturating_sub(small_len(message.len()))
 }
 
 /// One past a number.

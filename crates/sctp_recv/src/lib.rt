@@ -11,7 +11,6 @@ mod laws;
 mod message;
 mod pieces;
 mod receiver;
-mod room;
 mod runs;
 mod sack;
 mod seen;

@@ -12,9 +12,9 @@ ghost use Rattle.sctp_recv.specs.SackOf.{lists_meaning};
 ghost use Rattle.sctp_recv.specs.StandsFor.{StandsFor};
 
 use crate::duplicates::Duplicates;
+use crate::give::less;
 use crate::inbound::{Inbound, fresh_streams, take_first};
 use crate::message::Message;
-use crate::room::less;
 use crate::sack::SackLists;
 use crate::seen::Seen;
 use sctp_framing::Framing;
@@ -139,7 +139,7 @@ impl<F: Framing> Receiver<F> {
         }
         match take_first(&mut self.streams[at]) {
             Some(message) => {
-                self.held = less(self.held, &message.parts);
+                self.held = less(self.held, &message);
                 Some(message)
             }
             None => None,

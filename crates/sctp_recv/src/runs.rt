@@ -5,7 +5,7 @@ ghost use Rattle.std.specs.List.{insert};
 ghost use Rattle.std.specs.VecDeque.{deque_len, deque_capacity};
 ghost use Rattle.sctp_recv.specs.Runs.{AreSpaced, in_run, lies_below, begins_by, IsPlace, Gain};
 
-use sctp_values::NoMemory;
+use sctp_values::{NoMemory, put_at};
 use std::collections::VecDeque;
 
 /// Indexes that came, from the first to the last.
@@ -47,22 +47,6 @@ pub(crate) fn upto(runs: &VecDeque<SeenRun>, index: u32) -> usize
             ensures { result ≡ nat_le (run.now.first - 1) index }
         { run.first.saturating_sub(1) <= index },
     )
-}
-
-/// Puts a run in at a place: at the end, no other moves.
-///
-/// # Errors
-/// Memory ran out, and nothing changed.
-fn put_at(runs: &mut VecDeque<SeenRun>, at: usize, run: SeenRun) -> Result<(), NoMemory>
-    requires { at ≤ deque_len runs.old }
-    ensures items { OnOk result (runs.new.items ≡ insert runs.old.items at run) }
-    ensures unchanged { OnErr result (runs.new.items ≡ runs.old.items) }
-    ensures memory { deque_len runs.old < deque_capacity runs.old → IsOk result }
-{
-    if at == runs.len() {
-        return runs.push_back(run).map_err(|_| NoMemory);
-    }
-    runs.insert(at, run).map_err(|_| NoMemory)
 }
 
 /// Puts a new index into the runs: one of its own, a run that grows by it, or two that become one.

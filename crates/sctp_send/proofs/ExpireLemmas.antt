@@ -4,12 +4,13 @@ use Rattle.std.specs.Prelude.{◌==◌, ◌&&◌, ◌||◌, nat_lt, nat_le, unwr
 use Rattle.std.specs.List.{list_any}
 use Rattle.std.proofs.lemmas.Bool.{and_parts}
 use Rattle.std.proofs.lemmas.Bool.Decides.{nat_tests}
+use Rattle.sctp_model.specs.numbers.Limits.{LAST_MOMENT}
 use Rattle.sctp_model.specs.messages.Plan.{Message}
 use Rattle.sctp_model.specs.sender.Words.{when, some_passes}
 use Rattle.sctp_model.specs.sender.Abandoning.{is_past}
 use Rattle.sctp_model.proofs.sender.ExpiredLaws.{is_late}
 use Rattle.sctp_send.specs.inner.Expiring.{late_after, sooner, soonest}
-use Rattle.sctp_send.specs.inner.Counting.{LAST_MOMENT, moment_from, AreWorth}
+use Rattle.sctp_send.specs.inner.Counting.{moment_from, AreWorth}
 
 -- a message with this ticket is past its time
 abbrev pub any_late : ℕ → ℕ → List (Option Message) → Bool

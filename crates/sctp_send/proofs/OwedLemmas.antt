@@ -3,6 +3,7 @@ use Rattle.std.proofs.Common.{◌≡◌, ℕ, zero, suc, ◌+◌, ◌-◌, ◌%�
 use Rattle.std.specs.Prelude.{set, insert, remove, replicate}
 use Rattle.std.specs.declared.rc.Rc.{Rc}
 use Rattle.std.specs.declared.alloc.Global.{Global}
+use Rattle.sctp_model.specs.numbers.Limits.{LAST_MOMENT}
 use Rattle.sctp_model.specs.sender.SenderView.{Queued}
 use Rattle.sctp_model.specs.sender.Queueing.{cut, owed_for, owed_by_queue}
 use Rattle.sctp_send.specs.SenderKept.{Track, Rest}
@@ -10,7 +11,7 @@ use Rattle.sctp_send.specs.OutstandingFields.{message_meaning}
 use Rattle.sctp_send.specs.SenderFields.{queued_by, track_meaning}
 use Rattle.sctp_send.specs.inner.Walks.{total, one_if_rest, rest_owes}
 use Rattle.sctp_send.specs.inner.Expiring.{rest_message, rest_messages}
-use Rattle.sctp_send.specs.inner.Counting.{LAST_MOMENT, moment_from, AreWorth, IsOwedOf, IsCountedOf}
+use Rattle.sctp_send.specs.inner.Counting.{moment_from, AreWorth, IsOwedOf, IsCountedOf}
 use Rattle.sctp_send.specs.declared.message.Message.{Message as MessageFields}
 use Rattle.sctp_send.specs.declared.sender.Track.{Track as TrackFields}
 use Rattle.sctp_send.proofs.WorthLemmas.{worth_push, worth_insert, worth_remove, worth_set}

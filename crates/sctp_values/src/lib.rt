@@ -1,14 +1,18 @@
-//! What every crate shares and no crate owns: the limits as numbers of Rust, the name of a message, its kind, and want of memory.
+//! What every crate shares and no crate owns: the limits as numbers of Rust, the name of a message, its kind, want of memory, and two small
+//! calls on lengths and queues.
 #![tactic(auto)]
 
 mod kind;
 mod laws;
+mod lengths;
 mod limits;
 mod no_memory;
+mod queues;
 mod ticket;
 
 pub use kind::Kind;
 pub use laws::limits_are_the_definitions;
+pub use lengths::small_len;
 pub use limits::{
     BLOCK_LIMIT, COOKIE_LIFE, DUPLICATE_LIMIT, FIRST_WAIT, FRAGMENT_OVERHEAD, GREATEST_BUFFER,
     GREATEST_FRAGMENT, GREATEST_PACKET, LAST_MOMENT, LEAST_BUFFER, LEAST_FRAGMENT, LEAST_PACKET,
@@ -16,4 +20,5 @@ pub use limits::{
     TICKET_LIMIT, TSN_LIMIT, WINDOW,
 };
 pub use no_memory::NoMemory;
+pub use queues::put_at;
 pub use ticket::Ticket;

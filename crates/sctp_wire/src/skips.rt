@@ -11,7 +11,7 @@ use sctp_values::NoMemory;
 use std::marker::Model;
 
 /// How an entry lies in bytes.
-#[derive(Clone, Copy, Debug, PartialEq, Eq)]
+#[derive(Clone, Copy)]
 pub enum SkipForm {
     /// FORWARD-TSN's: stream 16 bits, stream sequence number 16 (RFC 3758, 3.2).
     Narrow,

@@ -78,4 +78,4 @@ returns-in_ok-put_at-in-None-None-clause-filed c =
 
 pub returns-in_ok-put_at-in-None-None-clause-whole : goal.returns-in_ok-put_at-in-None-None-clause-whole
 returns-in_ok-put_at-in-None-None-clause-whole c =
-    counted_alone c.args.chains.now.items c.put_at.new.chains.items c.place-at.result c.in_ok-chain-in-None-None.chain c.whole-whole.result c.in_ok-put_at-in-None-None.ensures.items c.whole-whole.ensures
+    counted_alone c.args.chains.now.items c.put_at.new.queue.items c.place-at.result c.in_ok-chain-in-None-None.chain c.whole-whole.result c.in_ok-put_at-in-None-None.ensures.items c.whole-whole.ensures

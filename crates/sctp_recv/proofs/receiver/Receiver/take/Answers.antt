@@ -2,7 +2,6 @@ use Rattle.std.proofs.Common.{◌≡◌, ℕ, ◌<◌, ◌-◌, List, ◌∷◌,
 use Rattle.std.proofs.lemmas.List.{length-map}
 use Rattle.sctp_recv.specs.HandedOf.{handed_of, message_bytes}
 use Rattle.sctp_recv.specs.ReceiverKept.{StreamKept, stream_at}
-use Rattle.sctp_recv.specs.Parts.{text_of_parts}
 use Rattle.sctp_recv.specs.Fields.{stream_of}
 use Rattle.sctp_recv.specs.KeptOf.{kept_of}
 use Rattle.sctp_recv.specs.StandsFor.{StandsFor}
@@ -34,7 +33,7 @@ returns-in-Some g c = λ v w.
     let here = stream_mapped items c.from-at.result c.index_mut.result.now l c.index_mut.ensures.value in
     let there : stream_at (map stream_of items) s ≡ record x { waiting = handed_of c.in-Some.message ∷ x.waiting } =
     ap (λ (i : ℕ). stream_at (map stream_of items) i) (sym c.from-at.ensures) ∙ here ∙ c.in-Some.ensures.first in
-    let less : c.less-self.result ≡ c.args.self.now.held - length (message_bytes c.in-Some.message) = c.less-self.ensures ∙ ap (λ (ps : List _). c.args.self.now.held - length (text_of_parts ps)) c.deref.ensures.value in
+    let less : c.less-self.result ≡ c.args.self.now.held - length (message_bytes c.in-Some.message) = c.less-self.ensures in
     let n = length-map items stream_of in
     let done = keeps_taken g.F.Framing.format (kept_of c.args.self.now) v s c.less-self.result (handed_of c.in-Some.message) x.waiting x w.0 (omega (arith, c.from-at.ensures)) there refl less in
     let got = slice_get_read items (length items) c.from-at.result c.index_mut.result.now refl l c.index_mut.ensures.value in
