@@ -2,3 +2,12 @@ pub mod MachineLemmas
 pub mod RestLemmas
 pub mod MomentLemmas
 pub mod CallLemmas
+pub mod HearingLemmas
+pub mod ReportLemmas
+pub mod JoinLemmas
+pub mod OpeningLemmas
+pub mod FillLemmas
+pub mod RoomLemmas
+pub mod PutLemmas
+pub mod BuildLemmas
+pub mod AbortLemmas

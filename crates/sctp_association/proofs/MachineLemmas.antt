@@ -11,7 +11,7 @@ use Rattle.sctp_terms.specs.Meanings.{end_meaning}
 use Rattle.sctp_terms.specs.declared.life.End.{End}
 use Rattle.sctp_association.specs.TimersMean.{timers_meaning, resting, open_timers}
 use Rattle.sctp_association.specs.StageMeans.{tags_meaning, stage_meaning}
-use Rattle.sctp_association.specs.PhaseMeans.{phase_in, phase_of}
+use Rattle.sctp_association.specs.PhaseMeans.{phase_in, phase_of, phase_unjoined}
 use Rattle.sctp_association.specs.DueStands.{DueStands}
 use Rattle.sctp_association.specs.TrafficStands.{TrafficStands}
 use Rattle.sctp_association.specs.MachineStands.{IsUnjoined, IsJoined, LifeStands, KeepsMachine}
@@ -73,6 +73,9 @@ joined m a v is k = subst (λ h. LifeStands h v.configuration v.terms v.sender v
 -- before one
 pub unjoined : (m : Machine) (x : Unjoined) (v : EndView) → m.life ≡ life.Unjoined x → KeepsMachine m v → IsUnjoined v.configuration v.terms v.sender v.receiver
 unjoined m x v is k = subst (λ h. LifeStands h v.configuration v.terms v.sender v.receiver) is k.life
+
+pub phase_unjoined_at : (m : Machine) (x : Unjoined) (v : EndView) → m.life ≡ life.Unjoined x → KeepsMachine m v → phase_unjoined x ≡ v.phase
+phase_unjoined_at m x v is k = subst (λ h. phase_of h ≡ v.phase) is k.phase
 
 pub phase_joined : (m : Machine) (a : Association) (v : EndView) → m.life ≡ life.Joined a → KeepsMachine m v → phase_in a.tags a.progress ≡ v.phase
 phase_joined m a v is k = subst (λ h. phase_of h ≡ v.phase) is k.phase

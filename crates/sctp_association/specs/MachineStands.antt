@@ -7,7 +7,8 @@ use Rattle.sctp_model.specs.end.EndView.{EndView, Configuration, Terms, no_terms
 use Rattle.sctp_model.specs.end.EndView as model
 use Rattle.sctp_cookie.specs.Seals.{IsUnder}
 use Rattle.sctp_association.specs.TimersMean.{timers_meaning}
-use Rattle.sctp_association.specs.PhaseMeans.{terms_meaning, phase_of}
+use Rattle.sctp_opening.specs.Terms.{terms_meaning}
+use Rattle.sctp_association.specs.PhaseMeans.{phase_of}
 use Rattle.sctp_association.specs.DueStands.{DueStands}
 use Rattle.sctp_association.specs.TrafficStands.{TrafficStands}
 use Rattle.sctp_association.specs.declared.life.Role.{Role}

@@ -4,24 +4,12 @@ use Rattle.sctp_model.specs.end.EndView as model
 use Rattle.sctp_terms.specs.Meanings.{end_meaning}
 use Rattle.sctp_association.specs.StageMeans.{tags_meaning, stage_meaning}
 use Rattle.sctp_association.specs.declared.stage.Tags.{Tags}
-use Rattle.sctp_association.specs.declared.traffic.Terms.{Terms}
 use Rattle.sctp_association.specs.declared.life.Progress.{Progress}
 use Rattle.sctp_association.specs.declared.life.Progress.TheVariants.{Echoing, Open, Over}
 use Rattle.sctp_association.specs.declared.life.Unjoined.{Unjoined}
 use Rattle.sctp_association.specs.declared.life.Unjoined.TheVariants.{Idle, Listening, Calling, Failed}
 use Rattle.sctp_association.specs.declared.life.Life.{Life}
 use Rattle.sctp_association.specs.declared.life.Life.TheVariants as life
-
--- what both ends agreed on
-abbrev pub terms_meaning : Terms → model.Terms
-terms_meaning t = record {
-  own_tsn = t.own_tsn;
-  peer_tsn = t.peer_tsn;
-  outbound = t.outbound;
-  inbound = t.inbound;
-  interleave = t.interleave;
-  partial = t.partial;
-}
 
 -- the phase of an association with these tags
 abbrev pub phase_in : Tags → Progress → model.Phase
@@ -48,3 +36,8 @@ is_idle (life.Unjoined Listening) = false
 is_idle (life.Unjoined (Calling d)) = false
 is_idle (life.Unjoined (Failed why)) = false
 is_idle (life.Joined a) = false
+
+-- the listener, while there was no association
+abbrev pub is_listening : model.Phase → Bool
+is_listening model.Listening = true
+is_listening h = false

@@ -18,13 +18,16 @@ use crate::timers::{Alarm, Timers};
 use sctp_send::{Abandoned, SendFault};
 use sctp_terms::{ConnectFault, Draw, ShutdownFault};
 use sctp_values::Ticket;
+use thiserror::Error;
 
 /// Why a message isn't accepted.
-#[derive(Clone, Copy, Debug, PartialEq, Eq)]
+#[derive(Clone, Copy, Debug, PartialEq, Eq, Error)]
 pub enum Refused {
     /// The association isn't established.
+    #[error("the association isn't established")]
     NotOpen,
     /// The sender refuses it, for the first reason that holds.
+    #[error(transparent)]
     Fault(SendFault),
 }
 

@@ -3,7 +3,10 @@
 ghost use Rattle.std.specs.Prelude.{◌≡◌, ◌<◌, ◌+◌, ◌^◌, true, length, IfOk};
 ghost use Rattle.sctp_model.specs.wire.Typed.{are_typed, AreAsWritten};
 
+use sctp_opening::put_ack_report;
+use sctp_terms::Config;
 use sctp_values::NoMemory;
+use sctp_wire::Parameters;
 use std::alloc::Global;
 
 /// The value of a HEARTBEAT, which its answer brings back (RFC 9260, 8.3).
@@ -64,7 +67,11 @@ impl EchoedCookie {
 }
 
 impl WaitingCauses {
-    ghost use Rattle.std.specs.Prelude.{◌≡◌, []};
+    ghost use Rattle.std.specs.Prelude.{◌≡◌, [], IfOk};
+    ghost use Rattle.sctp_model.specs.wire.Chunk.{InitMeaning};
+    ghost use Rattle.sctp_model.specs.wire.Typed.{WritesTyped};
+    ghost use Rattle.sctp_model.specs.end.EndView.{EndView};
+    ghost use Rattle.sctp_model.specs.end.Opening.{ack_causes};
 
     /// No causes.
     #[tactic(auto, unfolding(sctp_model::specs::wire::Typed::typed_of))]
@@ -74,6 +81,25 @@ impl WaitingCauses {
         WaitingCauses {
             bytes: Vec::new(alloc),
         }
+    }
+
+    /// These causes, and behind them one that reports the unknown parameters of an INIT ACK, as far as the ERROR with it fits a packet
+    /// (RFC 9260, 3.3.10.8).
+    ///
+    /// # Errors
+    /// Memory ran out.
+    pub fn with_ack_report(
+        &self,
+        alloc: Global,
+        config: &Config,
+        parameters: &Parameters<'_>,
+    ) -> Result<WaitingCauses, NoMemory>
+        ensures { (e : EndView) (m : InitMeaning) → e.configuration ≡ config.now → m.parameters ≡ parameters.now
+            → WritesTyped self.now.bytes.items e.due.causes → IfOk result (λ w. WritesTyped w.bytes.items (ack_causes e m)) }
+    {
+        let mut bytes = copy_of(alloc, &self.bytes)?;
+        put_ack_report(alloc, config, parameters, &mut bytes)?;
+        Ok(WaitingCauses { bytes })
     }
 }
 

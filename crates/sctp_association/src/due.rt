@@ -1,10 +1,11 @@
 //! What goes into an end's next packets (RFC 9260, 6.10): the one place that says "later". It knows nothing of states and timers.
 
-ghost use Rattle.std.specs.Prelude.{◌≡◌, ◌||◌, ◌&&◌, ◌+◌, ◌≤◌, ◌∷◌, [], nat_le, true, false, if◌then◌else◌, length, option_map, Some, None, vec_len, vec_capacity, IsOk, OnOk, OnErr};
-ghost use Rattle.sctp_model.specs.wire.Typed.{Typed, IsTyped};
+ghost use Rattle.std.specs.Prelude.{ℕ, List, ◌≡◌, ◌||◌, ◌&&◌, ◌+◌, ◌≤◌, ◌∷◌, [], nat_le, true, false, if◌then◌else◌, length, option_map, Some, None, vec_len, vec_capacity, IsOk, OnOk, OnErr};
+ghost use Rattle.sctp_model.specs.wire.Typed.{Typed, WritesTyped};
 ghost use Rattle.sctp_model.specs.end.EndView as model;
 ghost use Rattle.sctp_model.specs.end.EndView.{EndView, nothing_due};
 ghost use Rattle.sctp_model.specs.end.Clock.{due_in};
+ghost use Rattle.sctp_model.specs.end.Closing.{is_shutdown_sent};
 ghost use Rattle.sctp_model.specs.end.Reports.{item, causes_with};
 ghost use Rattle.sctp_association.specs.StageMeans.{stage_meaning};
 ghost use Rattle.sctp_association.specs.DueStands.{DueStands};
@@ -64,6 +65,26 @@ impl Due {
         self.shutdown_ack = self.shutdown_ack && stage.is_shutdown_ack_sent();
     }
 
+    /// The association begins at a listener: the caller is to be told by a COOKIE ACK (RFC 9260, 5.1, D).
+    pub fn begin(&mut self)
+        ensures { (d : model.Due) (t : model.Tags) → DueStands self.old d → DueStands self.new (record (due_in (model.Open t model.Established) d) { cookie_ack = true }) }
+    {
+        self.turn(Stage::Established);
+        self.cookie_ack = true;
+    }
+
+    /// The association begins at the caller: its cookie is to go back, with these causes behind it (RFC 9260, 5.1, C).
+    pub fn echo(&mut self, causes: WaitingCauses)
+        ensures { (d : model.Due) (t : model.Tags) (xs : List ℕ) (ys : List Typed) → DueStands self.old d → WritesTyped causes.bytes.items ys
+            → DueStands self.new (record (due_in (model.Echoing t xs) d) { cookie_echo = true; causes = ys }) }
+    {
+        self.init = false;
+        self.cookie_echo = true;
+        self.causes = causes;
+        self.shutdown = false;
+        self.shutdown_ack = false;
+    }
+
     /// The end calls: INIT is due, and nothing that only another state sends (RFC 9260, 5.1, A).
     pub fn call(&mut self)
         ensures { (d : model.Due) (x : model.Draw) → DueStands self.old d → DueStands self.new (record (due_in (model.Calling x) d) { init = true }) }
@@ -86,5 +107,13 @@ impl Due {
         ensures { (d : model.Due) → DueStands self.old d → DueStands self.new (record d { forward = d.forward && past }) }
     {
         self.forward = self.forward && past;
+    }
+
+    /// Something is to be acknowledged in this stage: a SACK is due, and in SHUTDOWN SENT the SHUTDOWN again (RFC 9260, 6.2 and 9.2).
+    pub fn acknowledge(&mut self, stage: Stage)
+        ensures { (d : model.Due) → DueStands self.old d → DueStands self.new (record d { sack = true; shutdown = d.shutdown || is_shutdown_sent (stage_meaning stage) }) }
+    {
+        self.sack = true;
+        self.shutdown = self.shutdown || stage.is_shutdown_sent();
     }
 }

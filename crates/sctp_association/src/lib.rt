@@ -2,20 +2,34 @@
 //! what time does to it, and what its user asks of it (RFC 9260, 4).
 #![tactic(auto)]
 
+mod abort;
+mod answering;
+mod building;
 mod calls;
 mod carried;
 mod closing;
 mod due;
+mod filling;
+mod hearing;
+mod joining;
 mod life;
 mod machine;
 mod moments;
+mod opening;
+mod packing;
 mod parts;
+mod passing;
+mod putting;
+mod readers;
 mod receiving;
+mod replying;
+mod reporting;
 mod sending;
 mod stage;
 mod timers;
 mod traffic;
 
+pub use building::Built;
 pub use calls::Refused;
 pub use carried::{EchoedCookie, HeartbeatInfo, WaitingCauses};
 pub use due::Due;
@@ -23,4 +37,4 @@ pub use life::{Association, Life, Opened, Progress, Role, Unjoined};
 pub use machine::Machine;
 pub use stage::{Stage, Tags};
 pub use timers::{Alarm, Timer, Timers};
-pub use traffic::{Directions, Sizes, Terms, Traffic};
+pub use traffic::{Directions, Sizes, Traffic};

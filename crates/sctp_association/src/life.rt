@@ -5,14 +5,16 @@ ghost use Rattle.std.specs.Prelude.{◌≡◌, Bool, false, MatchOption};
 ghost use Rattle.sctp_model.specs.end.EndView as model;
 ghost use Rattle.sctp_model.specs.end.EndView.{has_association, ended_of};
 ghost use Rattle.sctp_model.specs.end.Closing.{hears};
+ghost use Rattle.sctp_model.specs.end.Opening.{is_calling};
 ghost use Rattle.sctp_model.specs.end.UserCalls.{peer_tag};
 ghost use Rattle.sctp_association.specs.StageMeans.{stage_meaning, tags_meaning};
-ghost use Rattle.sctp_association.specs.PhaseMeans.{phase_in};
+ghost use Rattle.sctp_association.specs.PhaseMeans.{phase_in, phase_unjoined};
 
 use crate::carried::EchoedCookie;
 use crate::stage::{Stage, Tags};
-use crate::traffic::{Terms, Traffic};
+use crate::traffic::Traffic;
 use sctp_cookie::Key;
+use sctp_opening::Terms;
 use sctp_terms::{Draw, End};
 
 /// How an end came to be.
@@ -73,6 +75,20 @@ pub enum Progress {
 pub struct Opened {
     pub tags: Tags,
     pub stage: Stage,
+}
+
+impl Unjoined {
+    /// What a caller drew that waits for an INIT ACK.
+    pub(crate) fn calling(&self) -> Option<Draw>
+        ensures { MatchOption result (is_calling (phase_unjoined self.now) ≡ false) (λ d. phase_unjoined self.now ≡ model.Calling d) }
+    {
+        match self {
+            Unjoined::Idle => None,
+            Unjoined::Listening => None,
+            Unjoined::Calling(draw) => Some(*draw),
+            Unjoined::Failed(_) => None,
+        }
+    }
 }
 
 impl Association {

@@ -8,6 +8,7 @@ ghost use Rattle.sctp_model.specs.end.EndView.{format_for};
 ghost use Rattle.sctp_association.specs.TrafficStands.{DirectionsStand, TrafficStands};
 
 use sctp_framing::{DataFraming, Framing, IDataFraming};
+use sctp_opening::Terms;
 use sctp_recv::Receiver;
 use sctp_send::Sender;
 use sctp_values::NoMemory;
@@ -25,18 +26,6 @@ pub struct Directions<F: Framing> {
 pub enum Traffic {
     Plain(Directions<DataFraming>),
     Interleaved(Directions<IDataFraming>),
-}
-
-/// What both ends agreed on: their first TSNs, the streams out of and into this end, and what is turned on (RFC 9260, 5.1.1; RFC 8260,
-/// 2.2.1; RFC 3758, 3.1).
-#[derive(Clone, Copy)]
-pub struct Terms {
-    pub own_tsn: u32,
-    pub peer_tsn: u32,
-    pub outbound: u16,
-    pub inbound: u16,
-    pub interleave: bool,
-    pub partial: bool,
 }
 
 /// What an end has of its own: the bytes of a fragment, the bytes of its receive buffer.

@@ -1,0 +1,244 @@
+-- A packet from its beginning to its end.
+use Rattle.std.proofs.Common.{◌≡◌, ◌∙◌, ℕ, nat_le, ◌≤◌, Bool, true, false, not, List, [], ◌∷◌, ◌++◌, map, Option, Some, None, Result, Ok, Err, IfOk, OnErr, IfSome, MatchOption, length, refl, ap, sym, subst, arith}
+use Rattle.std.specs.Prelude.{unwrap_or}
+use Rattle.std.proofs.Math.Seq.{drop-length}
+use Rattle.std.proofs.lemmas.Bool.Decides.{nat_tests}
+use Rattle.std.specs.declared.vec.Vec.{Vec}
+use Rattle.std.specs.declared.alloc.Global.{Global}
+use Rattle.sctp_model.specs.numbers.Numbers.{u16_bytes}
+use Rattle.sctp_model.specs.wire.Chunk.{ChunkMeaning}
+use Rattle.sctp_model.specs.wire.Packet.{size_of_packet}
+use Rattle.sctp_model.specs.sender.SenderView.{SenderView}
+use Rattle.sctp_model.specs.sender.Filling.{newly_numbered, begun_tickets}
+use Rattle.sctp_model.specs.receiver.ReceiverView.{ReceiverView, fresh_receiver}
+use Rattle.sctp_model.specs.receiver.SackMade.{sack_sent}
+use Rattle.sctp_model.specs.end.EndView as model
+use Rattle.sctp_model.specs.end.EndView.{EndView, Configuration, Draw, Alarm, InitAlarm, Timer, has_association, format_of, format_for}
+use Rattle.sctp_model.specs.end.Clock.{running, replaced, started}
+use Rattle.sctp_model.specs.end.Closing.{with_due}
+use Rattle.sctp_model.specs.end.Opening.{own_init}
+use Rattle.sctp_model.specs.end.UserCalls.{peer_tag}
+use Rattle.sctp_model.specs.end.Building.{Slot, Puts, open_slots, echoing_slots, Builds, Sleeps, Waits, Calls, Echoes, EndsFull, Fills, filled_behind, fragments, sent, tag_to}
+use Rattle.sctp_model.specs.end.Building.{packet_of as end_packet}
+use Rattle.sctp_packet.specs.Draft.{Draft, packet_of, after_try, has_room, with_chunks}
+use Rattle.sctp_packet.specs.PacketBytes.{WritesPacket}
+use Rattle.sctp_values.specs.declared.ticket.Ticket.{Ticket}
+use Rattle.sctp_association.specs.TimersMean.{timers_meaning}
+use Rattle.sctp_association.specs.PhaseMeans.{phase_unjoined, phase_of}
+use Rattle.sctp_association.specs.TrafficStands.{TrafficStands}
+use Rattle.sctp_association.specs.MachineStands.{KeepsMachine, MachineStands}
+use Rattle.sctp_association.specs.Drafted.{receiver_left, due_left, drafted, IsOf, IsEmpty, PutsAt, IsPacked}
+use Rattle.sctp_association.specs.FillsBehind.{FillsBehind}
+use Rattle.sctp_association.specs.BuildAnswers.{BuildAnswer}
+use Rattle.sctp_association.specs.declared.life.Unjoined.{Unjoined}
+use Rattle.sctp_association.specs.declared.life.Association.{Association}
+use Rattle.sctp_association.specs.declared.life.Life.{Life}
+use Rattle.sctp_association.specs.declared.life.Life.TheVariants as life
+use Rattle.sctp_association.specs.declared.timers.Timers.{Timers}
+use Rattle.sctp_association.specs.declared.traffic.Traffic.{Traffic}
+use Rattle.sctp_association.specs.declared.packing.Marks.{Marks}
+use Rattle.sctp_association.specs.declared.packing.Packing.{Packing}
+use Rattle.sctp_association.specs.declared.building.Built.{Built}
+use Rattle.sctp_association.specs.declared.machine.Machine.{Machine}
+use Rattle.sctp_association.proofs.MachineLemmas.{with_traffic}
+use Rattle.sctp_association.proofs.PutLemmas.{started_left}
+
+-- ---- nothing went out yet
+
+pub due_same : (m : Marks) (d : model.Due) → m.init ≡ d.init → m.cookie_echo ≡ d.cookie_echo → m.cookie_ack ≡ d.cookie_ack → m.heartbeat ≡ true → m.causes ≡ true → m.sack ≡ d.sack
+    → m.forward ≡ d.forward → m.shutdown ≡ d.shutdown → m.shutdown_ack ≡ d.shutdown_ack → due_left m d ≡ d
+due_same m d init echo ack heartbeat causes sack forward shutdown shutdown_ack = rw (init, echo, ack, heartbeat, causes, sack, forward, shutdown, shutdown_ack) refl
+
+receiver_same : (b : Bool) (r : ReceiverView) → receiver_left b b r ≡ r
+receiver_same true r = refl
+receiver_same false r = refl
+
+pub drafted_same : (m : Marks) (e : EndView) → due_left m e.due ≡ e.due → m.sack ≡ e.due.sack → timers_meaning m.timers ≡ e.timers → drafted m e ≡ e
+drafted_same m e due sack timers =
+    let r : receiver_left e.due.sack m.sack e.receiver ≡ e.receiver = ap (λ (b : Bool). receiver_left e.due.sack b e.receiver) sack ∙ receiver_same e.due.sack e.receiver in
+    ap (λ (d : model.Due). record e { due = d; timers = timers_meaning m.timers; receiver = receiver_left e.due.sack m.sack e.receiver }) due
+    ∙ (ap (λ (f : Alarm → Timer). record e { timers = f; receiver = receiver_left e.due.sack m.sack e.receiver }) timers
+    ∙ ap (λ (x : ReceiverView). record e { receiver = x }) r)
+
+-- the tag of its packets is that of the peer, where one is known
+pub tag_by : (h : model.Phase) → unwrap_or (peer_tag h) 0 ≡ tag_to h
+tag_by model.Idle = refl
+tag_by model.Listening = refl
+tag_by (model.Calling d) = refl
+tag_by (model.Echoing t xs) = refl
+tag_by (model.Open t g) = refl
+tag_by (model.Over why) = refl
+
+-- ---- tickets
+
+nothing_numbered : (v : SenderView) → newly_numbered v v ≡ []
+nothing_numbered v = ap (begun_tickets v.plan) (drop-length v.plan.entries)
+
+pub none_numbered : (tickets : Vec Ticket Global) (v : SenderView) → tickets.items ≡ [] → map (λ t. t.0) tickets.items ≡ newly_numbered v v
+none_numbered tickets v none = ap (λ (ts : List Ticket). map (λ t. t.0) ts) none ∙ sym (nothing_numbered v)
+
+-- ---- nothing is sent
+
+pub quiet_packet : (e : EndView) (p : Packing) (tickets : Vec Ticket Global) → Builds e [] e → IsEmpty e p → tickets.items ≡ [] → IsPacked e e.sender p tickets
+quiet_packet e p tickets builds empty none = record {
+  builds = subst (λ (zs : List ChunkMeaning). Builds e zs (drafted p.marks e)) (sym empty.chunks) (subst (λ (y : EndView). Builds e [] y) (sym empty.same) builds);
+  packet = empty.packet;
+  tickets_are = none_numbered tickets e.sender none;
+}
+
+pub sleeps : (e : EndView) (h : model.Phase) (p : Packing) (tickets : Vec Ticket Global) → e.phase ≡ h → has_association h ≡ false → IsEmpty e p → tickets.items ≡ [] → IsPacked e e.sender p tickets
+sleeps e h p tickets phase over empty none = quiet_packet e p tickets (Sleeps (ap has_association phase ∙ over)) empty none
+
+pub waits : (e : EndView) (d : Draw) (p : Packing) (tickets : Vec Ticket Global) → e.phase ≡ model.Calling d → p.marks.init ≡ false → IsEmpty e p → tickets.items ≡ [] → IsPacked e e.sender p tickets
+waits e d p tickets phase marked empty none = quiet_packet e p tickets (Waits d phase (sym (ap (λ (x : EndView). x.due.init) empty.same) ∙ marked)) empty none
+
+-- ---- INIT
+
+small : (n l : ℕ) → n ≤ 576 → 576 ≤ l → nat_le n l ≡ true
+small n l few some = grind (arith, nat_tests)
+
+init_small_at : (c : Configuration) (d : Draw) (partial interleave : Bool) → c.partial ≡ partial → c.interleave ≡ interleave → size_of_packet (own_init c d ∷ []) ≤ 576
+unfolding u16_bytes
+init_small_at c d true true partial interleave = rw (partial, interleave) (omega arith)
+init_small_at c d true false partial interleave = rw (partial, interleave) (omega arith)
+init_small_at c d false true partial interleave = rw (partial, interleave) (omega arith)
+init_small_at c d false false partial interleave = rw (partial, interleave) (omega arith)
+
+-- the INIT of a configuration has room in an empty packet
+pub init_fits : (c : Configuration) (d : Draw) (w : Draft) → w.chunks ≡ [] → w.limit ≡ c.limit → 576 ≤ c.limit → has_room w (own_init c d) ≡ true
+init_fits c d w none limit some =
+    ap (λ (xs : List ChunkMeaning). nat_le (size_of_packet (xs ++ own_init c d ∷ [])) w.limit) none
+    ∙ ap (λ (l : ℕ). nat_le (size_of_packet (own_init c d ∷ [])) l) limit
+    ∙ small (size_of_packet (own_init c d ∷ [])) c.limit (init_small_at c d c.partial c.interleave refl refl) some
+
+pub calls_packet : (e : EndView) (c : Configuration) (d : Draw) (old : Packing) (new : Draft) (t : Timers) (put : Bool) (moment : ℕ) (tickets : Vec Ticket Global) → e.configuration ≡ c
+    → e.phase ≡ model.Calling d → moment ≡ e.moment → IsEmpty e old → old.marks.init ≡ true → put ≡ true → new ≡ after_try old.writer (own_init c d) put
+    → timers_meaning t ≡ replaced InitAlarm (running moment (timers_meaning old.marks.timers InitAlarm) (timers_meaning old.marks.timers InitAlarm).expiry) (timers_meaning old.marks.timers)
+    → tickets.items ≡ [] → IsPacked e e.sender (record { writer = new; marks = record old.marks { init = false; timers = t } }) tickets
+calls_packet e c d old new t put moment tickets configured phase clock empty due is after starts none =
+    let m = old.marks in
+    let n : Marks = record m { init = false; timers = t } in
+    let there : new ≡ with_chunks old.writer (own_init c d ∷ []) = after ∙ ap (after_try old.writer (own_init c d)) is in
+    let calls : e.due.init ≡ true = sym (ap (λ (x : EndView). x.due.init) empty.same) ∙ due in
+    let chunks : own_init e.configuration d ∷ [] ≡ old.writer.chunks ++ own_init c d ∷ [] =
+    ap (λ (k : Configuration). own_init k d ∷ []) configured ∙ sym (ap (λ (xs : List ChunkMeaning). xs ++ own_init c d ∷ []) empty.chunks) in
+    let leaves : started InitAlarm (with_due (record e.due { init = false }) e) ≡ drafted n e =
+    sym (ap (λ (x : EndView). started InitAlarm (with_due (record x.due { init = false }) x)) empty.same) ∙ started_left InitAlarm (record m { init = false }) e moment t clock starts in
+    let one : IsPacked e e.sender (record { writer = with_chunks old.writer (own_init c d ∷ []); marks = n }) tickets = record {
+      builds = subst (λ (zs : List ChunkMeaning). Builds e zs (drafted n e)) chunks (subst (λ (y : EndView). Builds e (own_init e.configuration d ∷ []) y) leaves (Calls d phase calls));
+      packet = record { limit = empty.packet.limit; source = empty.packet.source; destination = empty.packet.destination; tag = empty.packet.tag; sack = empty.packet.sack };
+      tickets_are = none_numbered tickets e.sender none;
+    } in
+    subst (λ (w : Draft). IsPacked e e.sender (record { writer = w; marks = n }) tickets) (sym there) one
+
+-- ---- control chunks, and fragments
+
+-- what went into an empty packet
+from_empty : (e : EndView) (old : Packing) (zs : List ChunkMeaning) (full : Bool) (x : EndView) (ss : List Slot) → IsEmpty e old → Puts ss (drafted old.marks e) old.writer.chunks zs full x → Puts ss e [] zs full x
+from_empty e old zs full x ss empty puts =
+    subst (λ (y : EndView). Puts ss y [] zs full x) empty.same (subst (λ (xs : List ChunkMeaning). Puts ss (drafted old.marks e) xs zs full x) empty.chunks puts)
+
+pub echoes_packet : (e : EndView) (t : model.Tags) (cookie : List ℕ) (old new : Packing) (room : Bool) (tickets : Vec Ticket Global) → e.phase ≡ model.Echoing t cookie → IsEmpty e old
+    → PutsAt echoing_slots e old new room → tickets.items ≡ [] → IsPacked e e.sender new tickets
+echoes_packet e t cookie old new room tickets phase empty puts none = record {
+  builds = Echoes t cookie new.writer.chunks (not room) (drafted new.marks e) phase (from_empty e old new.writer.chunks (not room) (drafted new.marks e) echoing_slots empty puts.puts);
+  packet = puts.packet;
+  tickets_are = none_numbered tickets e.sender none;
+}
+
+pub full_packet : (e : EndView) (t : model.Tags) (g : model.Stage) (old new : Packing) (room : Bool) (tickets : Vec Ticket Global) → e.phase ≡ model.Open t g → IsEmpty e old
+    → room ≡ false → PutsAt open_slots e old new room → tickets.items ≡ [] → IsPacked e e.sender new tickets
+full_packet e t g old new room tickets phase empty is puts none =
+    let full = subst (PutsAt open_slots e old new) is puts in record {
+      builds = EndsFull t g new.writer.chunks (drafted new.marks e) phase (from_empty e old new.writer.chunks true (drafted new.marks e) open_slots empty full.puts);
+      packet = full.packet;
+      tickets_are = none_numbered tickets e.sender none;
+    }
+
+filled_packet : (e : EndView) (t : model.Tags) (g : model.Stage) (old mid new : Packing) (traffic : Traffic) (tickets : Vec Ticket Global) → e.phase ≡ model.Open t g → IsEmpty e old
+    → PutsAt open_slots e old mid true → FillsBehind e mid new traffic tickets → IsPacked e (filled_behind (drafted mid.marks e) mid.writer.chunks).view new tickets
+filled_packet e t g old mid new traffic tickets phase empty puts fills =
+    let x = drafted mid.marks e in
+    let zs = mid.writer.chunks in
+    let v = (filled_behind x zs).view in
+    let built = Fills t g zs x phase (from_empty e old zs false x open_slots empty puts.puts) in
+    let leaves : sent x zs ≡ record (drafted new.marks e) { sender = v } =
+    sym (ap (λ (m : Marks). record (drafted m e) { sender = v }) fills.marks ∙ ap (λ (f : Alarm → Timer). record x { sender = v; timers = f }) fills.timers) in
+    record {
+      builds = subst (λ (cs : List ChunkMeaning). Builds e cs (record (drafted new.marks e) { sender = v })) (sym fills.chunks) (subst (λ (y : EndView). Builds e (zs ++ fragments x zs) y) leaves built);
+      packet = fills.packet;
+      tickets_are = fills.tickets_are;
+    }
+
+pub fills_packet : {E : Type 0} (r : Result (Vec Ticket Global) E) (e : EndView) (t : model.Tags) (g : model.Stage) (old mid new : Packing) (room : Bool) (traffic : Traffic)
+    → e.phase ≡ model.Open t g → IsEmpty e old → room ≡ true → PutsAt open_slots e old mid room → IfOk r (λ tickets. FillsBehind e mid new traffic tickets)
+    → IfOk r (λ tickets. (s : SenderView) × IsPacked e s new tickets × TrafficStands traffic (format_of e) s e.receiver)
+fills_packet (Ok tickets) e t g old mid new room traffic phase empty is puts fills =
+    (_, filled_packet e t g old mid new traffic tickets phase empty (subst (PutsAt open_slots e old mid) is puts) fills, fills.traffic_stands)
+fills_packet (Err failed) e t g old mid new room traffic phase empty is puts fills = fills
+
+-- ---- the answer
+
+-- the header is that of the end's packet
+packet_same : (e : EndView) (p : Packing) → IsOf e p → packet_of p.writer ≡ end_packet e p.writer.chunks
+packet_same e p ours = rw (ours.source, ours.destination, ours.tag) refl
+
+pub answered : (e : EndView) (s : SenderView) (r : Option Built) (m : Machine) (p : Packing) (tickets : Vec Ticket Global) → IsPacked e s p tickets
+    → MatchOption r (p.writer.chunks ≡ []) (λ b. WritesPacket b.packet.items (packet_of p.writer)) → IfSome r (λ b. length b.packet.items ≡ size_of_packet p.writer.chunks)
+    → IfSome r (λ b. b.tickets ≡ tickets) → MachineStands m (record (drafted p.marks e) { sender = s }) → BuildAnswer e r m
+answered e s None m p tickets packed none size same stands =
+    let x : EndView = record (drafted p.marks e) { sender = s } in (x, subst (λ (zs : List ChunkMeaning). Builds e zs x) none packed.builds, stands)
+answered e s (Some b) m p tickets packed writes size same stands = record {
+  chunks = p.writer.chunks;
+  after = record (drafted p.marks e) { sender = s };
+  builds = packed.builds;
+  some = writes.some;
+  packet = subst (WritesPacket b.packet.items) (packet_same e p packed.packet) writes;
+  size = size;
+  tickets = ap (λ (ts : Vec Ticket Global). map (λ t. t.0) ts.items) same ∙ packed.tickets_are;
+  stands = stands;
+}
+
+-- ---- what stands for the end meanwhile
+
+pub with_moment : (m : Machine) (v : EndView) (n : ℕ) → KeepsMachine m v → KeepsMachine (record m { moment = n }) (record v { moment = n })
+with_moment m v n k = record { configuration = k.configuration; role = k.role; clock = refl; due = k.due; timers = k.timers; phase = k.phase; life = k.life }
+
+-- a receiver that nothing came to has no duplicates to tell
+pub told_fresh : (r : ReceiverView) (b : ℕ) → r ≡ fresh_receiver 0 0 b → sack_sent r ≡ r
+told_fresh r b is = ap sack_sent is ∙ sym is
+
+pub phase_at : (m : Machine) (x : Unjoined) (v : EndView) → m.life ≡ life.Unjoined x → KeepsMachine m v → v.phase ≡ phase_unjoined x
+phase_at m x v is k = sym k.phase ∙ ap phase_of is
+
+pub stays_unjoined : (m : Machine) (x : Unjoined) (v : EndView) → m.life ≡ life.Unjoined x → KeepsMachine m v → KeepsMachine (record m { life = life.Unjoined x }) v
+stays_unjoined m x v is k = subst (λ (h : Life). KeepsMachine (record m { life = h }) v) is k
+
+-- where a call may run out of memory: the end as it was
+pub with_end : {E : Type 0} (r : Result (Vec Ticket Global) E) (e v : EndView) (p : Packing) (m : Machine) → IfOk r (λ tickets. IsPacked e e.sender p tickets)
+    → KeepsMachine m (record v { sender = e.sender }) → IfOk r (λ tickets. (s : SenderView) × IsPacked e s p tickets × KeepsMachine m (record v { sender = s }))
+with_end (Ok tickets) e v p m packed stands = (e.sender, packed, stands)
+with_end (Err failed) e v p m packed stands = packed
+
+-- the traffic as it was
+pub with_traffic_kept : {E : Type 0} (r : Result (Vec Ticket Global) E) (e : EndView) (p : Packing) (traffic : Traffic) → IfOk r (λ tickets. IsPacked e e.sender p tickets)
+    → TrafficStands traffic (format_of e) e.sender e.receiver → IfOk r (λ tickets. (s : SenderView) × IsPacked e s p tickets × TrafficStands traffic (format_of e) s e.receiver)
+with_traffic_kept (Ok tickets) e p traffic packed stands = (e.sender, packed, stands)
+with_traffic_kept (Err failed) e p traffic packed stands = packed
+
+-- the end with its sender gone on
+on_traffic : (m : Machine) (a b : Association) (v : EndView) (x : SenderView) → m.life ≡ life.Joined a → KeepsMachine m v → b ≡ record a { traffic = b.traffic }
+    → TrafficStands b.traffic (format_for v.terms.interleave) x v.receiver → KeepsMachine (record m { life = life.Joined b }) (record v { sender = x })
+on_traffic m a b v x is k kept stands =
+    subst (λ (h : Association). KeepsMachine (record m { life = life.Joined h }) (record v { sender = x })) (sym kept) (with_traffic m a b.traffic v x v.receiver is k stands)
+
+pub with_sender : {E : Type 0} (r : Result (Vec Ticket Global) E) (e v : EndView) (p : Packing) (m : Machine) (a b : Association) → m.life ≡ life.Joined a → KeepsMachine m v
+    → b ≡ record a { traffic = b.traffic } → IfOk r (λ tickets. (x : SenderView) × IsPacked e x p tickets × TrafficStands b.traffic (format_for v.terms.interleave) x v.receiver)
+    → IfOk r (λ tickets. (x : SenderView) × IsPacked e x p tickets × KeepsMachine (record m { life = life.Joined b }) (record v { sender = x }))
+with_sender (Ok tickets) e v p m a b is k kept packed = (packed.0, packed.1, on_traffic m a b v packed.0 is k kept packed.2)
+with_sender (Err failed) e v p m a b is k kept packed = packed
+
+pub still_stands : {A E : Type 0} (r : Result A E) (v : EndView) (m : Machine) (a b : Association) → m.life ≡ life.Joined a → KeepsMachine m v → b ≡ record a { traffic = b.traffic }
+    → OnErr r (TrafficStands b.traffic (format_for v.terms.interleave) v.sender v.receiver) → OnErr r (KeepsMachine (record m { life = life.Joined b }) v)
+still_stands (Ok x) v m a b is k kept stands = tt
+still_stands (Err failed) v m a b is k kept stands = on_traffic m a b v v.sender is k kept stands

@@ -1,0 +1,128 @@
+-- What comes from the peer, at an association that is open: what its traffic takes, and what is left of the end.
+use Rattle.std.proofs.Common.{◌≡◌, ◌∙◌, ℕ, nat_le, nat_lt, Bool, true, false, List, length, refl, sym, ap, subst}
+use Rattle.std.proofs.lemmas.Bool.{false≢true}
+use Rattle.std.specs.Prelude.{Option, Some, None, is_some, if◌then◌else◌, Result, Ok, Err, IfOk, OnErr}
+use Rattle.sctp_model.specs.wire.Chunk.{PieceMeaning, ForwardMeaning, SackMeaning}
+use Rattle.sctp_model.specs.receiver.ReceiverView.{ReceiverView}
+use Rattle.sctp_model.specs.receiver.PieceTaken as taken
+use Rattle.sctp_model.specs.receiver.PieceTaken.{PieceTaken}
+use Rattle.sctp_model.specs.receiver.ForwardTaken.{ForwardTaken}
+use Rattle.sctp_model.specs.sender.SenderView.{SenderView}
+use Rattle.sctp_model.specs.sender.SackTaken.{SackFault, sack_fault, sack_taken, sack_after, shutdown_fault, shutdown_taken, shutdown_after}
+use Rattle.sctp_model.specs.end.EndView.{EndView, Alarm, DataAlarm, Timer, format_of}
+use Rattle.sctp_model.specs.end.EndView as model
+use Rattle.sctp_model.specs.end.Clock.{replaced, renewed}
+use Rattle.sctp_model.specs.end.Closing.{hears, with_due}
+use Rattle.sctp_model.specs.end.Arriving.{acknowledges_in}
+use Rattle.sctp_model.specs.end.Reports.{with_causes}
+use Rattle.sctp_model.specs.end.Acting.{piece_causes, heartbeat_heard}
+use Rattle.sctp_values.specs.declared.no_memory.NoMemory.{NoMemory}
+use Rattle.sctp_recv.specs.AnswerOf.{answer_of, forward_answer_of}
+use Rattle.sctp_recv.specs.declared.answer.Answer.{Answer}
+use Rattle.sctp_recv.specs.declared.answer.Answer.TheVariants as answer
+use Rattle.sctp_recv.specs.declared.forward.ForwardAnswer.{ForwardAnswer}
+use Rattle.sctp_association.specs.PhaseMeans.{phase_unjoined, phase_of}
+use Rattle.sctp_association.specs.DueStands.{DueStands}
+use Rattle.sctp_association.specs.TrafficStands.{TrafficStands}
+use Rattle.sctp_association.specs.MachineStands.{KeepsMachine}
+use Rattle.sctp_association.specs.declared.carried.HeartbeatInfo.{HeartbeatInfo}
+use Rattle.sctp_association.specs.declared.due.Due.{Due}
+use Rattle.sctp_association.specs.declared.life.Unjoined.{Unjoined}
+use Rattle.sctp_association.specs.declared.life.Unjoined.TheVariants.{Idle, Listening, Calling, Failed}
+use Rattle.sctp_association.specs.declared.life.Association.{Association}
+use Rattle.sctp_association.specs.declared.life.Life.TheVariants as life
+use Rattle.sctp_association.specs.declared.traffic.Traffic.{Traffic}
+use Rattle.sctp_association.specs.declared.machine.Machine.{Machine}
+use Rattle.sctp_association.proofs.MachineLemmas.{with_traffic}
+use Rattle.sctp_association.proofs.ReportLemmas.{HasRoom}
+
+-- ---- an end that never had an association isn't open
+
+not_open : (x : Unjoined) (t : model.Tags) (g : model.Stage) → phase_unjoined x ≡ model.Open t g → ⊥
+not_open Idle t g e = cc
+not_open Listening t g e = cc
+not_open (Calling d) t g e = cc
+not_open (Failed why) t g e = cc
+
+pub never_open : (m : Machine) (x : Unjoined) (v : EndView) (t : model.Tags) (g : model.Stage) → m.life ≡ life.Unjoined x → KeepsMachine m v → v.phase ≡ model.Open t g → ⊥
+never_open m x v t g is k phase = not_open x t g (subst (λ h. phase_of h ≡ v.phase) is k.phase ∙ phase)
+
+-- ---- the receiver
+
+pub piece_taken : (m : Machine) (a : Association) (s : Traffic) (v : EndView) (p : PieceMeaning) (r : Result Answer NoMemory) → m.life ≡ life.Joined a → KeepsMachine m v
+    → IfOk r (λ b. (t : ReceiverView) × PieceTaken (format_of v) v.receiver p (answer_of b) t × TrafficStands s (format_of v) v.sender t)
+    → IfOk r (λ b. (t : ReceiverView) × PieceTaken (format_of v) v.receiver p (answer_of b) t
+    × KeepsMachine (record m { life = life.Joined (record a { traffic = s }) }) (record v { receiver = t }))
+piece_taken m a s v p (Ok b) is k (t, took, stands) = (t, took, with_traffic m a s v v.sender t is k stands)
+piece_taken m a s v p (Err why) is k took = tt
+
+pub forward_taken : (m : Machine) (a : Association) (s : Traffic) (v : EndView) (p : ForwardMeaning) (r : Result ForwardAnswer NoMemory) → m.life ≡ life.Joined a → KeepsMachine m v
+    → IfOk r (λ b. (t : ReceiverView) × ForwardTaken (format_of v) v.receiver p (forward_answer_of b) t × TrafficStands s (format_of v) v.sender t)
+    → IfOk r (λ b. (t : ReceiverView) × ForwardTaken (format_of v) v.receiver p (forward_answer_of b) t
+    × KeepsMachine (record m { life = life.Joined (record a { traffic = s }) }) (record v { receiver = t }))
+forward_taken m a s v p (Ok b) is k (t, took, stands) = (t, took, with_traffic m a s v v.sender t is k stands)
+forward_taken m a s v p (Err why) is k took = tt
+
+pub untaken : {A : Type 0} (m : Machine) (a : Association) (s : Traffic) (v : EndView) (r : Result A NoMemory) → m.life ≡ life.Joined a → KeepsMachine m v
+    → OnErr r (TrafficStands s (format_of v) v.sender v.receiver) → OnErr r (KeepsMachine (record m { life = life.Joined (record a { traffic = s }) }) v)
+untaken m a s v (Ok b) is k stands = tt
+untaken m a s v (Err why) is k stands = with_traffic m a s v v.sender v.receiver is k stands
+
+-- the causes that wait are those from before the chunk came
+pub causes_came : (v : EndView) (r : ReceiverView) (p : PieceMeaning) (a : taken.PieceAnswer) → piece_causes (record v { receiver = r }) p a ≡ piece_causes v p a
+causes_came v r p taken.Duplicate = refl
+causes_came v r p taken.Ahead = refl
+causes_came v r p taken.NoSuchStream = refl
+causes_came v r p taken.Passed = refl
+causes_came v r p taken.NoRoom = refl
+causes_came v r p taken.Kept = refl
+
+-- every other answer reports nothing
+pub reports_none : (v : EndView) (p : PieceMeaning) (a : Answer) → (a ≡ answer.NoSuchStream → ⊥) → with_causes (piece_causes v p (answer_of a)) v ≡ v
+reports_none v p answer.Duplicate other = refl
+reports_none v p answer.Ahead other = refl
+reports_none v p answer.NoSuchStream other = absurd (other refl)
+reports_none v p answer.Passed other = refl
+reports_none v p answer.NoRoom other = refl
+reports_none v p answer.Taken other = refl
+
+-- ---- the sender
+
+pub sack_counts : (v : EndView) (x : SackMeaning) → None ≡ sack_fault v.sender x → record v { sender = sack_taken v.sender x } ≡ record v { sender = sack_after v.sender x }
+sack_counts v x none = ap (λ (o : Option SackFault). record v { sender = if is_some o then v.sender else sack_taken v.sender x }) none
+
+pub sack_left : (v : EndView) (x : SackMeaning) (f : SackFault) → Some f ≡ sack_fault v.sender x → v ≡ record v { sender = sack_after v.sender x }
+sack_left v x f some = ap (λ (o : Option SackFault). record v { sender = if is_some o then v.sender else sack_taken v.sender x }) some
+
+pub shutdown_counts : (v : EndView) (tsn : ℕ) → None ≡ shutdown_fault v.sender tsn → record v { sender = shutdown_taken v.sender tsn } ≡ record v { sender = shutdown_after v.sender tsn }
+shutdown_counts v tsn none = ap (λ (o : Option SackFault). record v { sender = if is_some o then v.sender else shutdown_taken v.sender tsn }) none
+
+pub shutdown_left : (v : EndView) (tsn : ℕ) (f : SackFault) → Some f ≡ shutdown_fault v.sender tsn → v ≡ record v { sender = shutdown_after v.sender tsn }
+shutdown_left v tsn f some = ap (λ (o : Option SackFault). record v { sender = if is_some o then v.sender else shutdown_taken v.sender tsn }) some
+
+-- CUM moved, by what was read before and after
+pub moved_as : (v : EndView) (x : SenderView) (m n : ℕ) → m ≡ v.sender.cum → n ≡ x.cum → nat_lt m n ≡ nat_lt v.sender.cum x.cum
+moved_as v x m n before after = ap (λ (k : ℕ). nat_lt k n) before ∙ ap (λ (k : ℕ). nat_lt v.sender.cum k) after
+
+pub renewed_in : (n f g : Alarm → Timer) (t x : Timer) (m k : ℕ) (b : Bool) → n ≡ replaced DataAlarm t f → t ≡ renewed m b x → x ≡ f DataAlarm → f ≡ g → m ≡ k
+    → n ≡ replaced DataAlarm (renewed k b (g DataAlarm)) g
+renewed_in n f g t x m k b is made at same clock =
+    is ∙ ap (λ (z : Timer). replaced DataAlarm z f) (made ∙ ap (λ (z : Timer). renewed m b z) at ∙ ap (λ (j : ℕ). renewed j b (f DataAlarm)) clock)
+    ∙ ap (λ (h : Alarm → Timer). replaced DataAlarm (renewed k b (h DataAlarm)) h) same
+
+-- ---- what is answered
+
+pub due_heartbeat : (d : Due) (m : model.Due) (h : HeartbeatInfo) (xs : List ℕ) → DueStands d m → h.bytes.items ≡ xs → DueStands (record d { heartbeat = Some h }) (record m { heartbeat = Some xs })
+due_heartbeat d m h xs s is = record { init = s.init; cookie_echo = s.cookie_echo; cookie_ack = s.cookie_ack; heartbeat = ap (λ (ys : List ℕ). Some ys) is; causes = s.causes; sack = s.sack; forward = s.forward; shutdown = s.shutdown; shutdown_ack = s.shutdown_ack }
+
+pub acknowledges_none : (h : model.Phase) (v : EndView) → hears (λ g. true) h ≡ false → acknowledges_in true h v ≡ v
+acknowledges_none model.Idle v shut = refl
+acknowledges_none model.Listening v shut = refl
+acknowledges_none (model.Calling d) v shut = refl
+acknowledges_none (model.Echoing t xs) v shut = refl
+acknowledges_none (model.Open t g) v shut = absurd (false≢true (sym shut))
+acknowledges_none (model.Over why) v shut = refl
+
+pub heartbeat_by : (v : EndView) (info : List ℕ) (room : ℕ) (b : Bool) → HasRoom v.configuration room → nat_le (length info) room ≡ b
+    → heartbeat_heard v info ≡ with_due (record v.due { heartbeat = if b then Some info else v.due.heartbeat }) v
+heartbeat_by v info room b limit is = ap (λ (c : Bool). with_due (record v.due { heartbeat = if c then Some info else v.due.heartbeat }) v) (limit (length info) ∙ is)

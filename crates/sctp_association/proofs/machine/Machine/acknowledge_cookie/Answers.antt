@@ -1,0 +1,8 @@
+use Rattle.sctp_association.specs.MachineStands.{MachineStands}
+use Rattle.sctp_association.proofs.MachineLemmas.{with_due}
+use Rattle.sctp_association.proofs.OpeningLemmas.{due_cookie_ack}
+use Rattle.sctp_association.proofs.machine.Machine.acknowledge_cookie.Goals as goal
+
+pub returns : goal.returns
+unfolding MachineStands
+returns c = λ v stands. with_due _ v _ _ stands (due_cookie_ack _ _ stands.due)

@@ -1,0 +1,19 @@
+use Rattle.std.proofs.Common.{◌≡◌, true, subst}
+use Rattle.std.specs.Prelude.{IfOk, OnErr}
+use Rattle.sctp_model.specs.end.EndView as model
+use Rattle.sctp_model.specs.end.Arriving.{is_answer}
+use Rattle.sctp_model.specs.end.Strays.{body_among, chunks_verdict}
+use Rattle.sctp_opening.specs.Told.{IsTold}
+use Rattle.sctp_association.proofs.machine.Machine.hear_outside.Goals as goal
+
+pub returns-clause-answer : goal.returns-clause-answer
+returns-clause-answer c = λ v stands.
+    let a = c.args in
+    subst (λ (d : model.Draw). IfOk c.hear.result (λ told. IsTold told (body_among v a.tag a.chunks.now) (chunks_verdict v d a.tag a.chunks.now))) c.outside.ensures.drawn
+    (c.hear.ensures.answer v (c.outside.ensures.answers v stands))
+
+pub returns-clause-memory : goal.returns-clause-memory
+returns-clause-memory c = λ v stands.
+    let a = c.args in
+    subst (λ (d : model.Draw). OnErr c.hear.result (is_answer (chunks_verdict v d a.tag a.chunks.now) ≡ true)) c.outside.ensures.drawn
+    (c.hear.ensures.memory v (c.outside.ensures.answers v stands))

@@ -1,0 +1,23 @@
+use Rattle.std.proofs.Common.{◌∙◌, ℕ, ap, sym}
+use Rattle.std.specs.Prelude.{Option, unwrap_or}
+use Rattle.sctp_model.specs.end.EndView.{Configuration, EndView}
+use Rattle.sctp_packet.specs.Draft.{Draft}
+use Rattle.sctp_association.specs.MachineStands.{MachineStands}
+use Rattle.sctp_association.proofs.BuildLemmas.{tag_by}
+use Rattle.sctp_association.proofs.machine.Machine.packing.Goals as goal
+
+pub returns : goal.returns
+unfolding MachineStands
+returns c = λ v moment stands.
+    let d = c.new.ensures in
+    record {
+      packet = record {
+        limit = ap (λ (w : Draft). w.limit) d ∙ (c.limit.ensures.exact ∙ ap (λ (k : Configuration). k.limit) stands.configuration);
+        source = ap (λ (w : Draft). w.source) d ∙ (c.own_port.ensures.exact ∙ ap (λ (k : Configuration). k.own_port) stands.configuration);
+        destination = ap (λ (w : Draft). w.destination) d ∙ (c.peer_port.ensures.exact ∙ ap (λ (k : Configuration). k.peer_port) stands.configuration);
+        tag = ap (λ (w : Draft). w.tag) d ∙ (c.unwrap_or-tag.ensures ∙ (ap (λ (o : Option ℕ). unwrap_or o 0) (c.peer_tag.ensures v stands) ∙ tag_by v.phase));
+        sack = λ still. sym stands.due.sack ∙ (sym c.of.ensures.sack ∙ still);
+      };
+      chunks = ap (λ (w : Draft). w.chunks) d;
+      same = ap (λ (x : EndView). record x { moment = moment }) (c.of.ensures.same v stands.due stands.timers);
+    }

@@ -1,0 +1,27 @@
+use Rattle.std.proofs.Common.{refl, subst}
+use Rattle.sctp_model.specs.sender.SenderView.{fresh_sender}
+use Rattle.sctp_model.specs.receiver.ReceiverView.{fresh_receiver}
+use Rattle.sctp_model.specs.end.EndView.{format_for}
+use Rattle.sctp_model.specs.end.EndView as model
+use Rattle.sctp_association.specs.TrafficStands.{TrafficStands}
+use Rattle.sctp_association.specs.MachineStands.{MachineStands}
+use Rattle.sctp_association.proofs.machine.Machine.paired.Goals as goal
+
+pub returns : goal.returns
+unfolding MachineStands
+returns c =
+    let config = c.args.config in
+    let begins = rw c.buffer.ensures.exact at c.in_ok-traffic.ensures in
+    record {
+      configuration = refl;
+      role = refl;
+      clock = refl;
+      due = c.nothing.ensures;
+      timers = c.unused.ensures;
+      phase = rw (c.tag.ensures.exact, c.tag-2.ensures.exact) refl;
+      life = record {
+        terms = c.alike-terms.ensures;
+        traffic = subst (λ (x : model.Terms). TrafficStands c.in_ok-traffic.traffic (format_for x.interleave)
+            (fresh_sender x.own_tsn x.outbound config.fragment config.buffer x.partial) (fresh_receiver x.peer_tsn x.inbound config.buffer)) c.alike-terms.ensures begins;
+      };
+    }

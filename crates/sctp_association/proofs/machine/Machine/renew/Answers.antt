@@ -1,0 +1,11 @@
+use Rattle.sctp_association.specs.TimersMean.{timer_meaning}
+use Rattle.sctp_association.specs.MachineStands.{MachineStands}
+use Rattle.sctp_association.proofs.MachineLemmas.{with_timers}
+use Rattle.sctp_association.proofs.HearingLemmas.{renewed_in}
+use Rattle.sctp_association.proofs.machine.Machine.renew.Goals as goal
+
+pub returns : goal.returns
+unfolding MachineStands
+returns c = λ v stands.
+    with_timers _ v _ _ stands
+    (renewed_in _ _ _ (timer_meaning c.renewed.result) (timer_meaning c.get-timer.result) _ _ c.args.moved c.put.ensures c.renewed.ensures c.get-timer.ensures stands.timers stands.clock)

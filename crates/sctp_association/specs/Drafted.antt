@@ -1,0 +1,95 @@
+-- A packet in the making: which chunks went in, and what that leaves at its end (RFC 9260, 6.10).
+use Rattle.std.specs.Prelude.{◌≡◌, ℕ, Bool, true, false, not, List, [], map, Option, None}
+use Rattle.std.specs.declared.vec.Vec.{Vec}
+use Rattle.std.specs.declared.alloc.Global.{Global}
+use Rattle.sctp_model.specs.wire.Typed.{Typed}
+use Rattle.sctp_model.specs.sender.SenderView.{SenderView}
+use Rattle.sctp_model.specs.sender.Filling.{newly_numbered}
+use Rattle.sctp_model.specs.receiver.ReceiverView.{ReceiverView}
+use Rattle.sctp_model.specs.receiver.SackMade.{sack_sent}
+use Rattle.sctp_model.specs.end.EndView.{EndView, format_of}
+use Rattle.sctp_model.specs.end.EndView as model
+use Rattle.sctp_model.specs.end.Building.{Slot, Puts, Builds, tag_to}
+use Rattle.sctp_values.specs.declared.ticket.Ticket.{Ticket}
+use Rattle.sctp_association.specs.TimersMean.{timers_meaning}
+use Rattle.sctp_association.specs.DueStands.{DueStands}
+use Rattle.sctp_association.specs.TrafficStands.{TrafficStands}
+use Rattle.sctp_association.specs.declared.due.Due.{Due}
+use Rattle.sctp_association.specs.declared.traffic.Traffic.{Traffic}
+use Rattle.sctp_association.specs.declared.packing.Marks.{Marks}
+use Rattle.sctp_association.specs.declared.packing.Packing.{Packing}
+
+-- ---- what a packet leaves
+
+-- the value of a HEARTBEAT, unless it went out
+abbrev pub value_left : Bool → Option (List ℕ) → Option (List ℕ)
+value_left true x = x
+value_left false x = None
+
+-- causes, unless they went out
+abbrev pub causes_left : Bool → List Typed → List Typed
+causes_left true xs = xs
+causes_left false xs = []
+
+-- the receiver: once a SACK that was due went out, it has told its duplicates
+abbrev pub receiver_left : (was_due is_due : Bool) → ReceiverView → ReceiverView
+receiver_left true false r = sack_sent r
+receiver_left true true r = r
+receiver_left false is_due r = r
+
+-- what is still due
+abbrev pub due_left : Marks → model.Due → model.Due
+due_left m d = record d {
+  init = m.init;
+  cookie_echo = m.cookie_echo;
+  cookie_ack = m.cookie_ack;
+  heartbeat = value_left m.heartbeat d.heartbeat;
+  causes = causes_left m.causes d.causes;
+  sack = m.sack;
+  forward = m.forward;
+  shutdown = m.shutdown;
+  shutdown_ack = m.shutdown_ack;
+}
+
+-- the end, once what isn't marked any more went out
+abbrev pub drafted : Marks → EndView → EndView
+drafted m e = record e {
+  due = due_left m e.due;
+  timers = timers_meaning m.timers;
+  receiver = receiver_left e.due.sack m.sack e.receiver;
+}
+
+-- ---- the packet
+
+-- The packet is this end's, by its limit and its header, and only a SACK that was due is marked.
+pub record IsOf (e : EndView) (p : Packing) : Type 0 where
+  pub limit : p.writer.limit ≡ e.configuration.limit
+  pub source : p.writer.source ≡ e.configuration.own_port
+  pub destination : p.writer.destination ≡ e.configuration.peer_port
+  pub tag : p.writer.tag ≡ tag_to e.phase
+  pub sack : p.marks.sack ≡ true → e.due.sack ≡ true
+
+-- Nothing went in yet.
+pub record IsEmpty (e : EndView) (p : Packing) : Type 0 where
+  pub packet : IsOf e p
+  pub chunks : p.writer.chunks ≡ []
+  pub same : drafted p.marks e ≡ e
+
+-- What was due at these places went in, as far as there was room.
+pub record PutsAt (ss : List Slot) (e : EndView) (old new : Packing) (room : Bool) : Type 0 where
+  pub puts : Puts ss (drafted old.marks e) old.writer.chunks new.writer.chunks (not room) (drafted new.marks e)
+  pub packet : IsOf e new
+
+-- The packet is whole: it holds what the end's next packet does, which leaves this sender; the tickets are those newly numbered.
+pub record IsPacked (e : EndView) (s : SenderView) (p : Packing) (tickets : Vec Ticket Global) : Type 0 where
+  pub builds : Builds e p.writer.chunks (record (drafted p.marks e) { sender = s })
+  pub packet : IsOf e p
+  pub tickets_are : map (λ t. t.0) tickets.items ≡ newly_numbered e.sender s
+
+-- ---- where the chunks come from
+
+-- All that a packet is made of while the association is open stands for its part of the end.
+pub record IsPartOf (traffic : Traffic) (due : Due) (moment : ℕ) (e : EndView) : Type 0 where
+  pub clock : moment ≡ e.moment
+  pub due_stands : DueStands due e.due
+  pub traffic_stands : TrafficStands traffic (format_of e) e.sender e.receiver
