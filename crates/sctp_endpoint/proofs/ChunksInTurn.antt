@@ -1,0 +1,50 @@
+-- Chunks that act one after the other: what acted so far, and what is still to come.
+use Rattle.std.proofs.Common.{◌≡◌, ℕ, Bool, List, [], ◌∷◌, ◌++◌, refl, sym, subst, append_assoc}
+use Rattle.std.proofs.lemmas.List.{append-nil}
+use Rattle.sctp_model.specs.wire.Chunk.{ChunkMeaning}
+use Rattle.sctp_model.specs.end.EndView.{EndView}
+use Rattle.sctp_model.specs.end.Closing.{rested}
+use Rattle.sctp_model.specs.end.PeerFaults.{Note, GoesOn, PassedOver}
+use Rattle.sctp_model.specs.end.Acting.{Acts}
+use Rattle.sctp_model.specs.end.Strays.{Verdict}
+use Rattle.sctp_model.specs.end.Arriving.{AllAct, NoneLeft, Next, Passes, Notes, noted, verdict_of}
+use Rattle.sctp_endpoint.specs.inner.Acted.{notes_meaning, GoesOnBehind, EndsWith}
+use Rattle.sctp_endpoint.specs.declared.after.Notes as declared
+
+-- What these chunks left: whatever acts from there on, acts behind them.
+abbrev pub ActsBehind : ℕ → EndView → Notes → List ChunkMeaning → EndView → Notes → Type 0
+ActsBehind tag v k done t l =
+    (rest : List ChunkMeaning) (u : EndView) (n : Notes) (x : Verdict) → AllAct tag t l rest u n x → AllAct tag v k (done ++ rest) u n x
+
+pub behind_more : (tag : ℕ) (v t w : EndView) (k l n : Notes) (done : List ChunkMeaning) (m : ChunkMeaning)
+    → ActsBehind tag v k done t l → GoesOnBehind tag t l m w n → ActsBehind tag v k (done ++ m ∷ []) w n
+behind_more tag v t w k l n done m before more =
+    λ rest u i y all. rw (append_assoc done (m ∷ []) rest) (before (m ∷ rest) u i y (more rest u i y all))
+
+-- where a chunk goes on, and where it is passed over
+pub goes_on : (tag : ℕ) (t w : EndView) (k : Notes) (note : Note) (m : ChunkMeaning)
+    → Acts t tag m (GoesOn note w) → GoesOnBehind tag t k m (rested w) (noted note k)
+goes_on tag t w k note m acts = λ rest u n y all. Next t w u note k n m rest y acts all
+
+pub passes_over : (tag : ℕ) (t : EndView) (k : Notes) (m : ChunkMeaning) → Acts t tag m PassedOver → GoesOnBehind tag t k m t k
+passes_over tag t k m acts = λ rest u n y all. Passes t u k n m rest y acts all
+
+-- those that acted, alone
+pub behind_none : (tag : ℕ) (v t : EndView) (k l : Notes) (done : List ChunkMeaning) → ActsBehind tag v k done t l
+    → AllAct tag v k done t l (verdict_of l.listed)
+behind_none tag v t k l done before =
+    subst (λ (ms : List ChunkMeaning). AllAct tag v k ms t l (verdict_of l.listed)) (append-nil done) (before [] t l (verdict_of l.listed) (NoneLeft t l))
+
+-- those that acted, where none is left
+pub behind_all : (tag : ℕ) (v t : EndView) (k l : Notes) (b : Bool) (ms done rest : List ChunkMeaning) → l.listed ≡ b → ms ≡ done ++ rest → rest ≡ []
+    → ActsBehind tag v k done t l → AllAct tag v k ms t l (verdict_of b)
+behind_all tag v t k l b ms done rest listed split none before =
+    subst (λ (c : Bool). AllAct tag v k ms t l (verdict_of c)) listed
+    (rw split (before rest t l (verdict_of l.listed) (subst (λ (xs : List ChunkMeaning). AllAct tag t l xs t l (verdict_of l.listed)) (sym none) (NoneLeft t l))))
+
+-- those that acted, and one that ended the packet
+pub behind_end : (tag : ℕ) (v t u : EndView) (k : Notes) (n l : declared.Notes) (b : Bool) (ms done rest : List ChunkMeaning) (m : ChunkMeaning) (x : Verdict)
+    → l ≡ n → ms ≡ done ++ m ∷ rest → ActsBehind tag v k done t (notes_meaning n b) → EndsWith tag t (notes_meaning n b) m u x
+    → AllAct tag v k ms u (notes_meaning l b) x
+behind_end tag v t u k n l b ms done rest m x same split before ends =
+    subst (λ (i : declared.Notes). AllAct tag v k ms u (notes_meaning i b) x) (sym same) (rw split (before (m ∷ rest) u (notes_meaning n b) x (ends rest)))

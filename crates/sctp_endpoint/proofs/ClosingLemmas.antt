@@ -1,0 +1,15 @@
+-- Which ERROR closes an end: only a caller's whose cookie is on its way.
+use Rattle.std.proofs.Common.{◌≡◌, ℕ, Bool, true, false, List, refl}
+use Rattle.sctp_model.specs.wire.Typed.{typed_in}
+use Rattle.sctp_model.specs.end.EndView.{Phase, Idle, Listening, Calling, Echoing, Open, Over}
+use Rattle.sctp_model.specs.end.Reports.{STALE_COOKIE}
+use Rattle.sctp_model.specs.end.Opening.{is_echoing}
+use Rattle.sctp_model.specs.end.Acting.{has_cause, is_stale_cookie}
+
+pub never_stale : (h : Phase) (causes : List ℕ) → is_echoing h ≡ false → is_stale_cookie h causes ≡ false
+never_stale (Echoing t xs) causes off = absurd (cc)
+never_stale h causes off = refl
+
+pub stale_by_cause : (h : Phase) (causes : List ℕ) → is_echoing h ≡ true → is_stale_cookie h causes ≡ has_cause STALE_COOKIE (typed_in causes)
+stale_by_cause (Echoing t xs) causes on = refl
+stale_by_cause h causes on = absurd (cc)

@@ -1,0 +1,14 @@
+use Rattle.std.proofs.Common.{◌≡◌, Bool, List, ◌++◌}
+use Rattle.sctp_model.specs.wire.Chunk.{ChunkMeaning}
+use Rattle.sctp_model.specs.end.EndView.{EndView}
+use Rattle.sctp_association.specs.MachineStands.{MachineStands}
+use Rattle.sctp_endpoint.specs.inner.Acted.{notes_meaning}
+use Rattle.sctp_endpoint.proofs.ChunksInTurn.{ActsBehind}
+use Rattle.sctp_endpoint.proofs.acting.act_all.Given as goal
+
+-- whatever acts from here on, acts behind what was done
+abbrev pub invariant-loop-chunk : goal.invariant-loop-chunk
+invariant-loop-chunk l =
+    (v : EndView) (b : Bool) → MachineStands l.fn.machine v
+    → (done : List ChunkMeaning) × (t : EndView) × (c : Bool) × (l.fn.chunks ≡ done ++ l.chunk-iterator) × MachineStands l.machine t
+    × ActsBehind l.tag v (notes_meaning l.fn.notes b) done t (notes_meaning l.notes c)

@@ -1,0 +1,32 @@
+use Rattle.std.proofs.Common.{◌≡◌, true, false, refl, sym, ◌∙◌}
+use Rattle.sctp_model.specs.end.Clock.{at_moment}
+use Rattle.sctp_model.specs.end.PeerFaults.{PORTS, TAG}
+use Rattle.sctp_model.specs.end.Strays as model
+use Rattle.sctp_model.specs.end.Arriving.{Elsewhere, NotOurs, ReadAs}
+use Rattle.sctp_endpoint.proofs.ArrivingLemmas.{arrived_heard}
+use Rattle.sctp_endpoint.proofs.arriving.arrive.Goals as goal
+
+pub returns-then-not-has_ports : goal.returns-then-not-has_ports
+returns-then-not-has_ports c = λ e now stands.
+    (at_moment e now, model.Dropped PORTS, ReadAs _ _ _ (Elsewhere (sym (c.has_ports.ensures _ stands) ∙ c.if-not-has_ports.true)), refl, stands)
+
+pub returns-then-not-passes : goal.returns-then-not-passes
+returns-then-not-passes c = λ e now stands. (
+  at_moment e now,
+  model.Dropped TAG,
+  ReadAs _ _ _ (NotOurs (sym (c.has_ports.ensures _ stands) ∙ c.if-not-has_ports.false) (sym (rw c.again.ensures at c.passes.ensures _ stands) ∙ c.if-not-passes.true)),
+  refl,
+  stands,
+)
+
+pub returns-then-has_association : goal.returns-then-has_association
+returns-then-has_association c = λ e now stands.
+    arrived_heard e now _ _
+    (record { ports = sym (c.has_ports.ensures _ stands) ∙ c.if-not-has_ports.false; tag = sym (rw c.again.ensures at c.passes.ensures _ stands) ∙ c.if-not-passes.false })
+    (sym (c.has_association.ensures _ stands) ∙ c.if-has_association.true) _ _ _ c.none.ensures (c.hear.ensures _ false stands)
+
+pub returns : goal.returns
+returns c = λ e now stands.
+    c.arrive_outside.ensures e now stands
+    (record { ports = sym (c.has_ports.ensures _ stands) ∙ c.if-not-has_ports.false; tag = sym (rw c.again.ensures at c.passes.ensures _ stands) ∙ c.if-not-passes.false })
+    (sym (c.has_association.ensures _ stands) ∙ c.if-has_association.false)

@@ -1,0 +1,14 @@
+use Rattle.std.proofs.Common.{◌∙◌, sym}
+use Rattle.sctp_model.specs.end.EndView.{Open, Established}
+use Rattle.sctp_model.specs.end.Clock.{turned}
+use Rattle.sctp_model.specs.end.Opening.{NotEchoing, CookieAcked}
+use Rattle.sctp_endpoint.proofs.OpeningLemmas.{echoing_there}
+use Rattle.sctp_endpoint.proofs.opening.on_cookie_ack.Goals as goal
+
+pub returns-then-not-is_echoing : goal.returns-then-not-is_echoing
+returns-then-not-is_echoing c = λ v stands. (NotEchoing (sym (c.is_echoing.ensures v stands) ∙ c.if-not-is_echoing.true), stands)
+
+pub returns : goal.returns
+returns c = λ v stands.
+    let at = echoing_there v.phase (sym (c.is_echoing.ensures v stands) ∙ c.if-not-is_echoing.false) in
+    (turned (Open at.0 Established) v, CookieAcked at.0 at.1 at.2, c.establish.ensures v at.0 at.1 stands at.2)

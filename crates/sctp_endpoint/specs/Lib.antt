@@ -1,0 +1,6 @@
+pub mod EndpointStands
+pub mod Handled
+pub mod Left
+pub mod Straying
+pub mod Transmitted
+pub mod inner

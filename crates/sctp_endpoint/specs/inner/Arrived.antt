@@ -1,0 +1,35 @@
+-- What a packet that reads leaves, at a machine that was told its moment (RFC 9260, 5.1 and 8.4).
+use Rattle.std.specs.Prelude.{◌≡◌, ℕ, true, List, ◌∷◌, ◌++◌, Some, Result, Ok, Err}
+use Rattle.sctp_model.specs.wire.Chunk.{ChunkMeaning}
+use Rattle.sctp_model.specs.wire.Packet.{Packet}
+use Rattle.sctp_model.specs.wire.Places.{ArePlaced}
+use Rattle.sctp_model.specs.end.EndView.{Draw, EndView}
+use Rattle.sctp_model.specs.end.Passing.{has_ports, passes}
+use Rattle.sctp_model.specs.end.Strays as model
+use Rattle.sctp_model.specs.end.Arriving.{Notes, AllAct, verdict_of, packet_ended, Receives, IsCutShort, WantsNoMemory}
+use Rattle.sctp_values.specs.declared.no_memory.NoMemory.{NoMemory}
+use Rattle.sctp_association.specs.MachineStands.{MachineStands}
+use Rattle.sctp_association.specs.declared.machine.Machine.{Machine}
+use Rattle.sctp_endpoint.specs.Handled.{VerdictStands}
+use Rattle.sctp_endpoint.specs.inner.Acted.{HasTag}
+use Rattle.sctp_endpoint.specs.declared.after.Verdict.{Verdict}
+
+-- the packet has the ports of this end, and a tag that it looks for (8.5)
+pub record IsFor (v : EndView) (p : Packet) : Type 0 where
+  pub ports : has_ports v.configuration p ≡ true
+  pub tag : passes v.phase p ≡ true
+
+-- Chunks acted, all or those before the one that wanted memory, and the packet ended behind them.
+abbrev pub HearsAll : ℕ → EndView → Notes → List ChunkMeaning → Result Verdict NoMemory → Machine → Type 0
+HearsAll tag v k ms (Ok told) e =
+    (t : EndView) × (n : Notes) × (x : model.Verdict) × AllAct tag v k ms t n x × VerdictStands told x × MachineStands e (packet_ended n t)
+HearsAll tag v k ms (Err why) e =
+    (front back : List ChunkMeaning) × (m : ChunkMeaning) × (t : EndView) × (n : Notes) × (ms ≡ front ++ m ∷ back) × HasTag m
+    × AllAct tag v k front t n (verdict_of n.listed) × MachineStands e (packet_ended n t)
+
+-- The packet was received, or cut short where it wanted memory; that is nothing that is dropped for its ports or its tag, where each of its chunks
+-- stands where it may.
+abbrev pub Arrived : EndView → (now : ℕ) → Draw → Packet → Result Verdict NoMemory → Machine → Type 0
+Arrived v now d p (Ok told) e = (t : EndView) × (x : model.Verdict) × Receives v now d (Some p) t x × VerdictStands told x × MachineStands e t
+Arrived v now d p (Err why) e =
+    (t : EndView) × IsCutShort v now d (Some p) t × MachineStands e t × (ArePlaced p.chunks → WantsNoMemory v now d (Some p) → ⊥)

@@ -1,0 +1,107 @@
+//! What a chunk does, by its type, and chunks one after the other (RFC 9260, 3.2 and 6.10).
+
+ghost use Rattle.std.specs.Prelude.{◌≡◌, Bool, IfOk, OnErr};
+ghost use Rattle.sctp_model.specs.end.EndView.{EndView};
+ghost use Rattle.sctp_model.specs.end.Acting.{Acts};
+ghost use Rattle.sctp_wire.specs.ChunkTree.{chunk_meaning};
+ghost use Rattle.sctp_association.specs.MachineStands.{MachineStands};
+ghost use Rattle.sctp_endpoint.specs.Left.{Left};
+ghost use Rattle.sctp_endpoint.specs.inner.Acted.{HasTag, ActsOne, ActsAll};
+
+use crate::after::{After, Notes, Verdict};
+use crate::closing::{on_abort, on_complete, on_error, on_shutdown_ack};
+use crate::forwards::on_forward;
+use crate::opening::{on_cookie_ack, on_cookie_echo, on_init_ack};
+use crate::pieces::on_piece;
+use crate::sacks::on_sack;
+use crate::shutdowns::on_shutdown;
+use crate::small::{on_heartbeat, on_unknown};
+use sctp_association::Machine;
+use sctp_terms::Reason;
+use sctp_values::NoMemory;
+use sctp_wire::{Chunk, Chunks};
+
+/// What one chunk does, by its type; the tag is that of its packet.
+///
+/// # Errors
+/// Memory ran out, and nothing changed.
+fn act(machine: &mut Machine, tag: u32, chunk: &Chunk<'_>) -> Result<After, NoMemory>
+    ensures step { (v : EndView) → MachineStands machine.old v → IfOk result (λ a. Left a v (Acts v tag (chunk_meaning chunk.now)) machine.new) }
+    ensures refused { (v : EndView) → MachineStands machine.old v → OnErr result (MachineStands machine.new v) }
+    ensures tagged { OnErr result (HasTag (chunk_meaning chunk.now)) }
+{
+    match chunk {
+        Chunk::Data(piece) => on_piece(machine, false, piece),
+        Chunk::IData(piece) => on_piece(machine, true, piece),
+        Chunk::Init(_) => Ok(After::PassedOver),
+        Chunk::InitAck(ack) => on_init_ack(machine, ack),
+        Chunk::Sack(sack) => on_sack(machine, sack),
+        Chunk::Heartbeat { info } => on_heartbeat(machine, info),
+        Chunk::HeartbeatAck { .. } => Ok(After::GoesOn),
+        Chunk::Abort { .. } => Ok(on_abort(machine)),
+        Chunk::Shutdown { cumulative } => on_shutdown(machine, *cumulative),
+        Chunk::ShutdownAck => on_shutdown_ack(machine),
+        Chunk::Error { causes } => Ok(on_error(machine, causes)),
+        Chunk::CookieEcho { cookie } => Ok(on_cookie_echo(machine, tag, cookie)),
+        Chunk::CookieAck => Ok(on_cookie_ack(machine)),
+        Chunk::ShutdownComplete { .. } => Ok(on_complete(machine)),
+        Chunk::ForwardTsn(forward) => on_forward(machine, false, forward),
+        Chunk::IForwardTsn(forward) => on_forward(machine, true, forward),
+        Chunk::Unknown { kind, flags, value } => on_unknown(machine, *kind, *flags, value),
+    }
+}
+
+/// One chunk acts, and an end that is drained goes on with closing at once. None where the packet goes on behind it.
+///
+/// # Errors
+/// Memory ran out, and nothing changed.
+fn go_on(
+    machine: &mut Machine,
+    tag: u32,
+    notes: &mut Notes,
+    chunk: &Chunk<'_>,
+) -> Result<Option<Verdict>, NoMemory>
+    ensures { (v : EndView) (b : Bool) → MachineStands machine.old v → ActsOne tag v notes.old b (chunk_meaning chunk.now) result machine.new notes.new }
+{
+    match act(machine, tag, chunk)? {
+        After::GoesOn => {
+            machine.rest();
+            notes.listed = true;
+            Ok(None)
+        }
+        After::Acknowledges => {
+            machine.rest();
+            notes.listed = true;
+            notes.acknowledges = true;
+            Ok(None)
+        }
+        After::PassedOver => Ok(None),
+        After::Ends => Ok(Some(Verdict::Taken)),
+        After::Replies(packet) => Ok(Some(Verdict::Answer(packet))),
+        After::Drops(reason) => Ok(Some(Verdict::Dropped(reason))),
+    }
+}
+
+/// Chunks act in their order, each on what the one before left, and are noted.
+///
+/// # Errors
+/// Memory ran out: those before the chunk that wanted it have acted.
+pub(crate) fn act_all(
+    machine: &mut Machine,
+    tag: u32,
+    notes: &mut Notes,
+    chunks: Chunks<'_>,
+) -> Result<Verdict, NoMemory>
+    ensures { (v : EndView) (b : Bool) → MachineStands machine.old v → ActsAll tag v notes.old b chunks.entry result machine.new notes.new }
+{
+    for chunk in chunks {
+        if let Some(verdict) = go_on(machine, tag, notes, &chunk)? {
+            return Ok(verdict);
+        }
+    }
+    if notes.listed {
+        Ok(Verdict::Taken)
+    } else {
+        Ok(Verdict::Dropped(Reason::State))
+    }
+}

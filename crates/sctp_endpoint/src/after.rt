@@ -1,0 +1,76 @@
+//! What a chunk leaves, what is noted of it for the end of its packet, and what is told of a packet.
+
+ghost use Rattle.std.specs.Prelude.{◌≡◌, false};
+ghost use Rattle.sctp_model.specs.end.Arriving.{no_notes, noted};
+ghost use Rattle.sctp_model.specs.end.PeerFaults.{Unnoted};
+ghost use Rattle.sctp_endpoint.specs.inner.Acted.{notes_meaning};
+
+use sctp_terms::Reason;
+
+/// What a chunk leaves.
+#[derive(Drop)]
+pub(crate) enum After {
+    /// The packet goes on behind it.
+    GoesOn,
+    /// The packet goes on behind it, and at its end a SACK is due (RFC 9260, 6.2).
+    Acknowledges,
+    /// The packet ends with it.
+    Ends,
+    /// It isn't listed in this state.
+    PassedOver,
+    /// The packet ends with it, and is answered by this one.
+    Replies(Vec<u8>),
+    /// It drops the packet.
+    Drops(Reason),
+}
+
+/// What is noted of the chunks of a packet that have acted.
+#[derive(Clone, Copy)]
+pub(crate) struct Notes {
+    /// One of them was listed for the state that it found.
+    pub(crate) listed: bool,
+    /// One of them is to be acknowledged (RFC 9260, 6.2).
+    pub(crate) acknowledges: bool,
+}
+
+impl Notes {
+    /// Before the first chunk.
+    pub(crate) fn none() -> Notes
+        ensures { notes_meaning result false ≡ no_notes }
+    {
+        Notes {
+            listed: false,
+            acknowledges: false,
+        }
+    }
+
+    /// Behind a cookie that began an association.
+    pub(crate) fn of_cookie() -> Notes
+        ensures { notes_meaning result false ≡ noted Unnoted no_notes }
+    {
+        Notes {
+            listed: true,
+            acknowledges: false,
+        }
+    }
+}
+
+/// What becomes of a packet at an end without an association.
+#[derive(Drop)]
+pub(crate) enum Strayed {
+    /// Its first chunk began an association; the others act there.
+    Begun,
+    /// It did nothing, and this is told of it.
+    Told(Verdict),
+}
+
+/// What is told of a packet that came.
+#[derive(Debug, PartialEq, Eq, Drop)]
+pub enum Verdict {
+    /// It acted.
+    Taken,
+    /// It was dropped.
+    Dropped(Reason),
+    /// It is answered: these bytes are a packet, which is to be sent at once.
+    Answer(Vec<u8>),
+}

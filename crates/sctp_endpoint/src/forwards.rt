@@ -1,0 +1,53 @@
+//! What a FORWARD-TSN or an I-FORWARD-TSN does to an end (RFC 3758, 3.6; RFC 8260, 2.3.1).
+
+ghost use Rattle.std.specs.Prelude.{◌≡◌, IfOk, OnErr};
+ghost use Rattle.sctp_model.specs.end.EndView.{EndView, format_for};
+ghost use Rattle.sctp_model.specs.end.Acting.{ForwardActs, may_forward};
+ghost use Rattle.sctp_wire.specs.ChunkTree.{forward_meaning};
+ghost use Rattle.sctp_association.specs.MachineStands.{MachineStands};
+ghost use Rattle.sctp_endpoint.specs.Left.{Left};
+
+use crate::after::After;
+use sctp_association::Machine;
+use sctp_recv::ForwardAnswer;
+use sctp_values::NoMemory;
+use sctp_wire::Forward;
+use sctp_wire::codes::PROTOCOL_VIOLATION;
+
+/// A FORWARD-TSN comes, or an I-FORWARD-TSN. One that may not be sent, or is bad, closes the association.
+///
+/// # Errors
+/// `NoMemory` where a growth was refused; nothing changed then.
+pub(crate) fn on_forward(
+    machine: &mut Machine,
+    interleaved: bool,
+    forward: &Forward<'_>,
+) -> Result<After, NoMemory>
+    ensures step { (v : EndView) → MachineStands machine.old v → IfOk result (λ a. Left a v (ForwardActs (format_for interleaved) v (forward_meaning forward.now)) machine.new) }
+    ensures refused { (v : EndView) → MachineStands machine.old v → OnErr result (MachineStands machine.new v) }
+{
+    let Some(opened) = machine.opened() else {
+        return Ok(After::PassedOver);
+    };
+    if !opened.stage.takes_data() {
+        return Ok(After::PassedOver);
+    }
+    let peer = opened.tags.peer;
+    if !may_forward(machine, interleaved) {
+        return Ok(After::Replies(machine.abort_with(peer, PROTOCOL_VIOLATION, &[])?));
+    }
+    match machine.hear_forward(forward)? {
+        ForwardAnswer::Bad => {
+            Ok(After::Replies(machine.abort_with(peer, PROTOCOL_VIOLATION, &[])?))
+        }
+        ForwardAnswer::OutOfDate => Ok(After::Acknowledges),
+        ForwardAnswer::Moved => Ok(After::Acknowledges),
+    }
+}
+
+/// A FORWARD of this format may be sent: the association has this format, and partial reliability is on.
+fn may_forward(machine: &Machine, interleaved: bool) -> bool
+    ensures { (v : EndView) → MachineStands machine.now v → result ≡ may_forward (format_for interleaved) v }
+{
+    machine.is_interleaved() == interleaved && machine.is_partial()
+}

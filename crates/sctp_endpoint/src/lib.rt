@@ -1,0 +1,31 @@
+//! One end of an association: the packets that come, the packets that go out, time, and what its user asks (RFC 9260, 4 and 11.1).
+#![tactic(auto)]
+
+mod acting;
+mod after;
+mod arriving;
+mod calls;
+mod closing;
+mod endpoint;
+mod forwards;
+mod opening;
+mod passing;
+mod pieces;
+mod readers;
+mod sacks;
+mod shutdowns;
+mod small;
+mod strays;
+mod transmit;
+
+pub use after::Verdict;
+pub use endpoint::Endpoint;
+pub use sctp_association::Refused;
+pub use sctp_cookie::Key;
+pub use sctp_recv::Message;
+pub use sctp_send::{Abandoned, SendFault};
+pub use sctp_terms::{
+    AbortFault, Config, ConfigFault, ConnectFault, Draw, End, Reason, ShutdownFault, State,
+};
+pub use sctp_values::{Kind, NoMemory, Ticket};
+pub use transmit::Sent;

@@ -1,0 +1,58 @@
+//! What a DATA or an I-DATA does to an end (RFC 9260, 6.2; RFC 8260, 2.1).
+
+ghost use Rattle.std.specs.Prelude.{◌≡◌, IfOk, OnErr};
+ghost use Rattle.sctp_model.specs.numbers.Numbers.{u32_bytes};
+ghost use Rattle.sctp_model.specs.end.EndView.{EndView, format_for};
+ghost use Rattle.sctp_model.specs.end.Acting.{PieceActs};
+ghost use Rattle.sctp_wire.specs.ChunkTree.{piece_meaning};
+ghost use Rattle.sctp_association.specs.MachineStands.{MachineStands};
+ghost use Rattle.sctp_endpoint.specs.Left.{Left};
+
+use crate::after::After;
+use sctp_association::Machine;
+use sctp_values::NoMemory;
+use sctp_wire::Piece;
+use sctp_wire::codes::{NO_USER_DATA, PROTOCOL_VIOLATION};
+
+/// A DATA comes, or an I-DATA. One without data, or of the other format, closes the association.
+///
+/// # Errors
+/// `NoMemory` where a growth was refused; nothing changed then.
+pub(crate) fn on_piece(
+    machine: &mut Machine,
+    interleaved: bool,
+    piece: &Piece<'_>,
+) -> Result<After, NoMemory>
+    ensures step { (v : EndView) → MachineStands machine.old v → IfOk result (λ a. Left a v (PieceActs (format_for interleaved) v (piece_meaning piece.now)) machine.new) }
+    ensures refused { (v : EndView) → MachineStands machine.old v → OnErr result (MachineStands machine.new v) }
+{
+    let Some(opened) = machine.opened() else {
+        return Ok(After::PassedOver);
+    };
+    if !opened.stage.takes_data() {
+        return Ok(After::PassedOver);
+    }
+    let peer = opened.tags.peer;
+    if piece.bytes.is_empty() {
+        let tsn = tsn_value(piece.tsn);
+        return Ok(After::Replies(machine.abort_with(peer, NO_USER_DATA, &tsn)?));
+    }
+    if machine.is_interleaved() != interleaved {
+        return Ok(After::Replies(machine.abort_with(peer, PROTOCOL_VIOLATION, &[])?));
+    }
+    machine.hear_piece(piece)?;
+    Ok(After::Acknowledges)
+}
+
+/// The value of the cause for a chunk without data: its TSN (RFC 9260, 3.3.10.9).
+#[tactic(auto, unfolding(sctp_model::specs::numbers::Numbers::u32_bytes))]
+fn tsn_value(tsn: u32) -> [u8; 4]
+    ensures { result ≡ u32_bytes tsn }
+{
+    [
+        (tsn / 16_777_216 % 256) as u8,
+        (tsn / 65_536 % 256) as u8,
+        (tsn / 256 % 256) as u8,
+        (tsn % 256) as u8,
+    ]
+}

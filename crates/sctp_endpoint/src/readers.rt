@@ -1,0 +1,119 @@
+//! What an end tells of itself. None of these calls changes anything or takes memory.
+
+ghost use Rattle.std.specs.Prelude.{◌≡◌, Some, None, MatchOption, option_map, slice_get};
+ghost use Rattle.sctp_model.specs.sender.Readers.{acknowledged, abandoned};
+ghost use Rattle.sctp_model.specs.sender.Abandoning.{has_late};
+ghost use Rattle.sctp_model.specs.receiver.ReceiverView.{held_bytes};
+ghost use Rattle.sctp_model.specs.end.EndView.{EndView, state_of, ended_of};
+ghost use Rattle.sctp_model.specs.end.Moments.{next_moment};
+ghost use Rattle.sctp_terms.specs.Meanings.{end_meaning, state_meaning};
+ghost use Rattle.sctp_recv.specs.HandedOf.{handed_of};
+ghost use Rattle.sctp_endpoint.specs.EndpointStands.{EndpointStands};
+
+use crate::endpoint::Endpoint;
+use sctp_recv::Message;
+use sctp_terms::{Config, End, State};
+use sctp_values::Ticket;
+
+#[tactic(auto, unfolding(crate::specs::EndpointStands::EndpointStands))]
+impl Endpoint {
+    /// The state that it is in (RFC 9260, 4): `Closed` before `connect`, and again once the association is over.
+    pub fn state(&self) -> State
+        ensures { (v : EndView) → EndpointStands self.now v → state_meaning result ≡ state_of v.phase }
+    {
+        self.machine.state()
+    }
+
+    /// How the association ended, once it is over: then the end stays closed for good.
+    pub fn ended(&self) -> Option<End>
+        ensures { (v : EndView) → EndpointStands self.now v → option_map end_meaning result ≡ ended_of v.phase }
+    {
+        self.machine.ended()
+    }
+
+    /// When to call `on_moment` next, in milliseconds: the earliest expiry of a timer that runs. The moments after which messages are
+    /// worthless aren't among them.
+    pub fn next_moment(&self) -> Option<u64>
+        ensures { (v : EndView) → EndpointStands self.now v → result ≡ next_moment v }
+    {
+        self.machine.next_moment()
+    }
+
+    /// The peer has acknowledged the whole message with this ticket, and it wasn't abandoned.
+    pub fn acknowledged(&self, ticket: Ticket) -> bool
+        ensures { (v : EndView) → EndpointStands self.now v → result ≡ acknowledged v.sender ticket.0 }
+    {
+        self.machine.acknowledged(ticket)
+    }
+
+    /// The message with this ticket has gone out, in part at least, and was abandoned (RFC 3758, 3.5).
+    pub fn abandoned(&self, ticket: Ticket) -> bool
+        ensures { (v : EndView) → EndpointStands self.now v → result ≡ abandoned v.sender ticket.0 }
+    {
+        self.machine.abandoned(ticket)
+    }
+
+    /// The bytes of user data that came and weren't taken: they fill the receive buffer.
+    pub fn held_bytes(&self) -> u32
+        ensures { (v : EndView) → EndpointStands self.now v → result ≡ held_bytes v.receiver }
+    {
+        self.machine.held_bytes()
+    }
+
+    /// What it was set up with.
+    pub fn config(&self) -> &Config
+        ensures { (v : EndView) → EndpointStands self.now v → result.now ≡ v.configuration }
+    {
+        self.machine.config()
+    }
+
+    /// How many tickets `send` gave: they are 1, 2, 3 and so on.
+    pub fn tickets(&self) -> u32
+        ensures { (v : EndView) → EndpointStands self.now v → result ≡ v.sender.tickets }
+    {
+        self.machine.tickets()
+    }
+
+    /// Of the messages that wait for `take` on a stream, the one at this place, from 0.
+    pub fn waiting(&self, stream: u16, place: usize) -> Option<&Message>
+        ensures { (v : EndView) → EndpointStands self.now v → MatchOption result (slice_get (v.receiver.waiting stream) place ≡ None)
+            (λ m. slice_get (v.receiver.waiting stream) place ≡ Some (handed_of m.now)) }
+    {
+        self.machine.waiting(stream, place)
+    }
+
+    /// How many streams the peer may send on: 0 before an association (RFC 9260, 5.1.1).
+    pub fn inbound(&self) -> u16
+        ensures { (v : EndView) → EndpointStands self.now v → result ≡ v.receiver.streams }
+    {
+        self.machine.inbound()
+    }
+
+    /// How many streams `send` may use: 0 before an association (RFC 9260, 5.1.1).
+    pub fn outbound(&self) -> u16
+        ensures { (v : EndView) → EndpointStands self.now v → result ≡ v.terms.outbound }
+    {
+        self.machine.outbound()
+    }
+
+    /// User data goes as I-DATA, as both ends agreed (RFC 8260, 2.2.1).
+    pub fn is_interleaved(&self) -> bool
+        ensures { (v : EndView) → EndpointStands self.now v → result ≡ v.terms.interleave }
+    {
+        self.machine.is_interleaved()
+    }
+
+    /// Messages that have gone out may be abandoned, as both ends agreed (RFC 3758, 3.3).
+    pub fn is_partial(&self) -> bool
+        ensures { (v : EndView) → EndpointStands self.now v → result ≡ v.terms.partial }
+    {
+        self.machine.is_partial()
+    }
+
+    /// At this moment, in milliseconds, a message is past its time: `on_moment` would abandon it (RFC 3758, 3.5).
+    pub fn has_late(&self, now: u64) -> bool
+        ensures { (v : EndView) → EndpointStands self.now v → result ≡ has_late v.sender now }
+    {
+        self.machine.has_late(now)
+    }
+}

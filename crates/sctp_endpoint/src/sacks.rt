@@ -1,0 +1,43 @@
+//! What a SACK does to an end (RFC 9260, 6.2.1).
+
+ghost use Rattle.std.specs.Prelude.{◌≡◌, IfOk, OnErr};
+ghost use Rattle.sctp_model.specs.end.EndView.{EndView};
+ghost use Rattle.sctp_model.specs.end.Acting.{SackActs};
+ghost use Rattle.sctp_wire.specs.ChunkTree.{sack_meaning};
+ghost use Rattle.sctp_association.specs.MachineStands.{MachineStands};
+ghost use Rattle.sctp_endpoint.specs.Left.{Left};
+
+use crate::after::After;
+use sctp_association::Machine;
+use sctp_send::SackFault;
+use sctp_values::NoMemory;
+use sctp_wire::Sack;
+use sctp_wire::codes::PROTOCOL_VIOLATION;
+
+/// A SACK comes. One that is older than another does nothing; one that acknowledges what was not sent, or has bad blocks, closes the
+/// association.
+///
+/// # Errors
+/// `NoMemory` where a growth was refused; nothing changed then.
+pub(crate) fn on_sack(machine: &mut Machine, sack: &Sack<'_>) -> Result<After, NoMemory>
+    ensures step { (v : EndView) → MachineStands machine.old v → IfOk result (λ a. Left a v (SackActs v (sack_meaning sack.now)) machine.new) }
+    ensures refused { (v : EndView) → MachineStands machine.old v → OnErr result (MachineStands machine.new v) }
+{
+    let Some(opened) = machine.opened() else {
+        return Ok(After::PassedOver);
+    };
+    if !opened.stage.takes_acknowledgements() {
+        return Ok(After::PassedOver);
+    }
+    let peer = opened.tags.peer;
+    match machine.hear_sack(sack) {
+        Ok(()) => Ok(After::GoesOn),
+        Err(SackFault::Stale) => Ok(After::GoesOn),
+        Err(SackFault::Beyond) => {
+            Ok(After::Replies(machine.abort_with(peer, PROTOCOL_VIOLATION, &[])?))
+        }
+        Err(SackFault::BadBlock) => {
+            Ok(After::Replies(machine.abort_with(peer, PROTOCOL_VIOLATION, &[])?))
+        }
+    }
+}

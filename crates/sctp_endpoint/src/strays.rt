@@ -1,0 +1,37 @@
+//! A packet at an end without an association: the cookie that begins one, and everything else, of which nothing is kept (RFC 9260, 5.1 and 8.4).
+
+ghost use Rattle.std.specs.Prelude.{IfOk, OnErr};
+ghost use Rattle.sctp_model.specs.end.EndView.{EndView};
+ghost use Rattle.sctp_association.specs.MachineStands.{MachineStands};
+ghost use Rattle.sctp_endpoint.specs.Straying.{StrayLeft, StrayWants};
+
+use crate::after::{Strayed, Verdict};
+use sctp_association::Machine;
+use sctp_opening::Stray;
+use sctp_terms::Draw;
+use sctp_values::NoMemory;
+use sctp_wire::Chunks;
+
+/// What becomes of a packet of these chunks, under this verification tag, at an end without an association. An INIT is answered with this draw.
+///
+/// # Errors
+/// `NoMemory` where a growth was refused; nothing changed then. Only an answer takes memory, and an association that begins.
+pub(crate) fn on_stray(
+    machine: &mut Machine,
+    draw: Draw,
+    tag: u32,
+    chunks: &Chunks<'_>,
+) -> Result<Strayed, NoMemory>
+    ensures step { (v : EndView) → MachineStands machine.old v → IfOk result (λ s. StrayLeft s v draw tag chunks.now machine.new) }
+    ensures refused { (v : EndView) → MachineStands machine.old v → OnErr result (MachineStands machine.new v) }
+    ensures memory { (v : EndView) → MachineStands machine.old v → OnErr result (StrayWants v draw tag chunks.now) }
+{
+    match machine.hear_outside(draw, tag, chunks)? {
+        Stray::Begins(body) => {
+            machine.begin(&body)?;
+            Ok(Strayed::Begun)
+        }
+        Stray::Dropped(reason) => Ok(Strayed::Told(Verdict::Dropped(reason))),
+        Stray::Answered(packet) => Ok(Strayed::Told(Verdict::Answer(packet))),
+    }
+}
