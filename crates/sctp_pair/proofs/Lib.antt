@@ -1,0 +1,9 @@
+pub mod BagLemmas
+pub mod AnswerLemmas
+pub mod BuiltLemmas
+pub mod StepLemmas
+pub mod SendLemmas
+pub mod TimeLemmas
+pub mod ReadLemmas
+pub mod RunLemmas
+pub mod PromiseLemmas

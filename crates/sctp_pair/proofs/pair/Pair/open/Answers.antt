@@ -1,0 +1,48 @@
+use Rattle.std.proofs.Common.{◌≡◌, true, false, refl, subst, ◌∙◌, arith}
+use Rattle.std.proofs.lemmas.Grind.{common_steps}
+use Rattle.std.proofs.lemmas.Result.{err_from_is_err_and}
+use Rattle.sctp_model.specs.end.EndView.{Configuration}
+use Rattle.sctp_model.specs.end.Opening.{opened}
+use Rattle.sctp_model.specs.world.Events as meaning
+use Rattle.sctp_model.specs.world.Steps as steps
+use Rattle.sctp_endpoint.specs.EndpointStands.{EndpointStands}
+use Rattle.sctp_pair.specs.Sides.{SideStands}
+use Rattle.sctp_pair.specs.PairStands.{PairStands}
+use Rattle.sctp_pair.proofs.pair.Pair.open.Goals as goal
+
+pub returns-then-not-self : goal.returns-then-not-self
+unfolding PairStands
+returns-then-not-self c = λ w stands.
+    let off : c.args.self.now.openable ≡ false = grind (arith, common_steps) in
+    (w, rw c.refused.ensures (steps.OpenRefused c.args.a c.args.b (stands.openable ∙ off)), stands)
+
+pub returns-in_err-at_a : goal.returns-in_err-at_a
+unfolding PairStands
+returns-in_err-at_a c = λ w stands.
+    let p = err_from_is_err_and c.from_residual.result c.from_residual.ensures.1 in
+    (w, rw p.1 (steps.NoMemory (meaning.OpenBoth c.args.a c.args.b) refl), stands)
+
+pub returns-in_err-at_b : goal.returns-in_err-at_b
+unfolding PairStands
+returns-in_err-at_b c = λ w stands.
+    let p = err_from_is_err_and c.from_residual-in_err-at_b.result c.from_residual-in_err-at_b.ensures.1 in
+    (w, rw p.1 (steps.NoMemory (meaning.OpenBoth c.args.a c.args.b) refl), stands)
+
+pub returns : goal.returns
+unfolding PairStands SideStands
+returns c = λ w stands.
+    let x = c.args.a in
+    let y = c.args.b in
+    let on : c.args.self.now.openable ≡ true = grind (arith, common_steps) in
+    let a = subst (λ (k : Configuration). EndpointStands c.in_ok-at_a.at_a (opened k x y)) (c.config.ensures w.a stands.a.end) c.in_ok-at_a.ensures in
+    let b = subst (λ (k : Configuration). EndpointStands c.in_ok-at_b.at_b (opened k y x)) (c.config-2.ensures w.b stands.b.end) c.in_ok-at_b.ensures in (
+      record w { a = opened w.a.configuration x y; b = opened w.b.configuration y x; openable = false },
+      steps.OpensBoth x y (stands.openable ∙ on) c.tag.ensures.drawn c.tag-2.ensures.drawn,
+      record {
+        a = record { end = a; bag = stands.a.bag };
+        b = record { end = b; bag = stands.b.bag };
+        clock = stands.clock;
+        draw = stands.draw;
+        openable = refl;
+      },
+    )

@@ -1,0 +1,70 @@
+-- What a pair answers to events, and what is promised of the worlds that they lead through.
+use Rattle.std.specs.Prelude.{◌≡◌, ◌⊎◌, List, [], ◌∷◌, ◌++◌, map, Option, Some, None, Result, Ok, Err}
+use Rattle.std.specs.declared.vec.Vec.{Vec}
+use Rattle.std.specs.declared.alloc.Global.{Global}
+use Rattle.sctp_model.specs.end.Configured.{IsConfiguration}
+use Rattle.sctp_model.specs.world.World as world
+use Rattle.sctp_model.specs.world.World.{World, Setup, configuration_of, start}
+use Rattle.sctp_model.specs.world.Events as meaning
+use Rattle.sctp_model.specs.world.Steps.{Run, PassesThrough, last_of}
+use Rattle.sctp_model.specs.world.Premises.{Premises}
+use Rattle.sctp_safety.specs.Runs.{AreAllSafe}
+use Rattle.sctp_values.specs.declared.no_memory.NoMemory.{NoMemory}
+use Rattle.sctp_pair.specs.Happens.{Means, outcome_meaning}
+use Rattle.sctp_pair.specs.declared.event.Event.{Event}
+use Rattle.sctp_pair.specs.declared.outcome.Outcome.{Outcome}
+
+-- ---- several events
+
+-- What comes to pass from a world on: events, the answer to each, and the worlds that they lead through, that world not counted.
+pub record Course : Type 0 where
+  pub events : List meaning.Event
+  pub answers : List (Option meaning.Outcome)
+  pub worlds : List World
+
+-- the course of one event
+abbrev pub one_event : meaning.Event → Option meaning.Outcome → World → Course
+one_event e o x = record { events = e ∷ []; answers = o ∷ []; worlds = x ∷ [] }
+
+-- the course leads on from this world, step by step
+abbrev pub LeadsOn : World → Course → Type 0
+LeadsOn w c = PassesThrough w c.events c.answers c.worlds
+
+-- events mean these, each its own
+abbrev pub AllMean : List Event → List meaning.Event → Type 0
+AllMean [] [] = Unit {0}
+AllMean (event ∷ events) (e ∷ es) = Means event e × AllMean events es
+AllMean [] (e ∷ es) = ⊥
+AllMean (event ∷ events) [] = ⊥
+
+-- what outcomes answer
+abbrev pub answers_of : List Outcome → List (Option meaning.Outcome)
+answers_of outcomes = map (λ o. Some (outcome_meaning o)) outcomes
+
+-- Memory was wanting before the first event, or in the last one, and in none before.
+abbrev pub IsCut : List (Option meaning.Outcome) → Type 0
+IsCut answers = (answers ≡ []) ⊎ ((outcomes : List Outcome) × (answers ≡ answers_of outcomes ++ None ∷ []))
+
+-- a run over all events with these outcomes, or one over the events so far
+abbrev pub RunLeaves : World → List Event → Result (Vec Outcome Global) NoMemory → Course → Type 0
+RunLeaves w events (Ok outcomes) c = (c.answers ≡ answers_of outcomes.items) × AllMean events c.events × LeadsOn w c
+RunLeaves w events (Err _) c =
+    (done rest : List Event) × (events ≡ done ++ rest) × AllMean done c.events × IsCut c.answers × LeadsOn w c
+
+-- ---- what is promised
+
+-- a run from the start, of ends that are set up within the limits, led to this world
+pub record IsRunTo (s : Setup) (events : List meaning.Event) (w : World) : Type 0 where
+  pub configured : (x : world.Side) → IsConfiguration (configuration_of s x)
+  pub answers : List (Option meaning.Outcome)
+  pub run : Run (start s) events answers w
+
+-- What holds of a course that goes on from a world: both are one run; and where FRESH and UNFORGED hold of all its events, both directions are safe
+-- in each of its worlds, and once an end has completed nothing is missing there.
+pub record Promises (s : Setup) (before : List meaning.Event) (w : World) (c : Course) : Type 0 where
+  pub whole : IsRunTo s (before ++ c.events) (last_of w c.worlds)
+  pub safe : Premises s.sealing (before ++ c.events) → AreAllSafe (w ∷ c.worlds)
+
+-- the promise, whatever run led to the world
+abbrev pub Promised : World → Course → Type 0
+Promised w c = (s : Setup) (before : List meaning.Event) → IsRunTo s before w → Promises s before w c

@@ -1,0 +1,17 @@
+-- Which pair stands for which world.
+use Rattle.std.specs.Prelude.{◌≡◌}
+use Rattle.sctp_model.specs.world.World.{A, B, World}
+use Rattle.sctp_pair.specs.Sides.{side_of, SideStands}
+use Rattle.sctp_pair.specs.declared.pair.Pair.{Pair}
+
+-- Each part of a pair stands for its part of the world.
+pub record KeepsPair (p : Pair) (w : World) : Type 0 where
+  pub a : SideStands p.a (side_of w A)
+  pub b : SideStands p.b (side_of w B)
+  pub clock : w.clock ≡ p.clock
+  pub draw : w.draw ≡ p.draw
+  pub openable : w.openable ≡ p.openable
+
+-- the pair stands for this world
+unfoldable pub PairStands : Pair → World → Type 0
+PairStands p w = KeepsPair p w

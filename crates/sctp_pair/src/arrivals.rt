@@ -1,0 +1,75 @@
+//! What comes to an end: a packet of the bag across, or a stranger's bytes.
+
+ghost use Rattle.std.specs.Prelude.{◌≡◌, List, Option, None, MatchOption};
+ghost use Rattle.sctp_model.specs.numbers.Lists.{item_at};
+ghost use Rattle.sctp_model.specs.wire.Packet.{Packet};
+ghost use Rattle.sctp_model.specs.end.EndView.{EndView};
+ghost use Rattle.sctp_model.specs.end.Clock.{at_moment};
+ghost use Rattle.sctp_model.specs.world.World as world;
+ghost use Rattle.sctp_model.specs.world.World.{World};
+ghost use Rattle.sctp_model.specs.world.Events as meaning;
+ghost use Rattle.sctp_model.specs.world.Steps.{Step, Brings};
+ghost use Rattle.sctp_endpoint.specs.EndpointStands.{EndpointStands};
+ghost use Rattle.sctp_endpoint.specs.Handled.{IsRead};
+ghost use Rattle.sctp_pair.specs.Happens.{answer_of};
+ghost use Rattle.sctp_pair.specs.Sides.{SideView, side_of, left, SideStands, ArePackets, IsItem};
+
+use crate::one_side::OneSide;
+use crate::outcome::Outcome;
+use sctp_endpoint::{Endpoint, Verdict};
+use sctp_packet::written_packet_reads;
+use sctp_terms::Draw;
+use sctp_values::NoMemory;
+
+/// The packet with this number in a bag, counted from 1.
+pub(crate) fn packet_at(bag: &[Vec<u8>], number: u32) -> Option<&[u8]>
+    ensures { (ps : List Packet) → ArePackets bag.now ps → MatchOption result (item_at ps number ≡ None) (λ bytes. IsItem ps number bytes.now) }
+{
+    let index = number as usize;
+    if index == 0 || index > bag.len() {
+        return None;
+    }
+    Some(bag[index - 1].as_slice())
+}
+
+/// Something comes to the end; its answer goes into the bag. The room for that is made first.
+///
+/// # Errors
+/// Memory ran out: the packet is cut before some chunk.
+#[tactic(auto, unfolding(crate::specs::Sides::SideStands))]
+pub(crate) fn arrive(
+    side: &mut OneSide,
+    clock: u64,
+    draw: Draw,
+    bytes: &[u8],
+) -> Result<Outcome, NoMemory>
+    ensures { (w : World) (s : world.Side) (e : meaning.Event) (p : Option Packet) → SideStands side.old (side_of w s) → Brings w e s p → IsRead bytes.now p
+        → w.clock ≡ clock → w.draw ≡ draw
+        → (h : SideView) × Step w e (answer_of result) (left w s h) × SideStands side.new h }
+{
+    // It does nothing: its contract is the law by which what was written reads.
+    written_packet_reads();
+    if side.bag.reserve(1).is_err() {
+        tell(&mut side.end, clock, draw);
+        return Err(NoMemory);
+    }
+    match side.end.handle_packet(clock, bytes, draw)? {
+        Verdict::Taken => Ok(Outcome::Taken),
+        Verdict::Dropped(reason) => Ok(Outcome::Dropped { reason }),
+        Verdict::Answer(packet) => {
+            let length = packet.len();
+            side.bag.push_reserved(packet);
+            Ok(Outcome::Answer {
+                number: side.bag.len(),
+                length,
+            })
+        }
+    }
+}
+
+/// Tells an end the moment, and nothing else: by bytes that are no packet, which takes no memory.
+fn tell(end: &mut Endpoint, clock: u64, draw: Draw)
+    ensures { (v : EndView) → EndpointStands end.old v → EndpointStands end.new (at_moment v clock) }
+{
+    let _dropped = end.handle_packet(clock, &[], draw);
+}

@@ -1,0 +1,79 @@
+//! What a pair is made with: the sizes that both ends share, and the extensions that both ask for.
+
+ghost use Rattle.std.specs.Prelude.{◌≡◌, Some, None, MatchResult};
+ghost use Rattle.sctp_model.specs.end.EndView.{Configuration};
+ghost use Rattle.sctp_model.specs.end.Configured.{configuration_fault, plain_configuration};
+ghost use Rattle.sctp_terms.specs.Meanings.{config_fault_meaning};
+ghost use Rattle.sctp_pair.specs.Modes.{asked, turned_round};
+
+use sctp_terms::{Config, ConfigFault};
+
+/// The port of A, which calls.
+const A_PORT: u16 = 5_000;
+/// The port of B, which listens.
+const B_PORT: u16 = 5_001;
+
+/// The format of user data, and whether messages may be given up.
+#[derive(Clone, Copy, Debug, PartialEq, Eq)]
+pub enum Mode {
+    /// DATA chunks, nothing is given up (RFC 9260, 3.3.1).
+    Data,
+    /// DATA chunks, and partial reliability (RFC 3758).
+    PartialData,
+    /// I-DATA chunks, nothing is given up (RFC 8260, 2.1).
+    IData,
+    /// I-DATA chunks, and partial reliability (RFC 8260, 2.3).
+    PartialIData,
+}
+
+/// The configuration of both ends of a pair, alike but for the ports, each of which is the other's peer's.
+#[derive(Clone, Copy, Debug, PartialEq, Eq)]
+pub struct PairConfig {
+    pub(crate) a: Config,
+    pub(crate) b: Config,
+    ghost across: { b ≡ turned_round a },
+}
+
+impl PairConfig {
+    ghost use Rattle.std.specs.Prelude.{◌≡◌, Some, None, MatchResult};
+    ghost use Rattle.sctp_model.specs.end.Configured.{configuration_fault, plain_configuration};
+    ghost use Rattle.sctp_terms.specs.Meanings.{config_fault_meaning};
+    ghost use Rattle.sctp_pair.specs.Modes.{asked, turned_round};
+
+    /// The configuration with packets of at most `limit` bytes, messages cut at `fragment` bytes, a receive buffer of `buffer` bytes, and
+    /// `streams` streams each way; both ends ask for what the mode says. A is at port 5,000 and B at 5,001.
+    ///
+    /// # Errors
+    /// The fault with the smallest code. The ports are fixed, so it isn't `Port`.
+    pub fn new(
+        limit: u16,
+        fragment: u16,
+        buffer: u32,
+        streams: u16,
+        mode: Mode,
+    ) -> Result<PairConfig, ConfigFault>
+        ensures { let c : Configuration = plain_configuration 5000 5001 limit fragment buffer streams streams in
+            MatchResult result
+            (λ config. (config.a ≡ asked mode c) × (configuration_fault c ≡ None))
+            (λ fault. configuration_fault c ≡ Some (config_fault_meaning fault)) }
+    {
+        let a = Config::new(A_PORT, B_PORT, limit, fragment, buffer, streams, streams)?;
+        let b = Config::new(B_PORT, A_PORT, limit, fragment, buffer, streams, streams)?;
+        Ok(PairConfig {
+            a: asking(mode, a),
+            b: asking(mode, b),
+        })
+    }
+}
+
+/// The configuration that also asks for what the mode says.
+fn asking(mode: Mode, config: Config) -> Config
+    ensures { result ≡ asked mode config }
+{
+    match mode {
+        Mode::Data => config,
+        Mode::PartialData => config.with_partial(),
+        Mode::IData => config.with_interleave(),
+        Mode::PartialIData => config.with_interleave().with_partial(),
+    }
+}

@@ -1,0 +1,228 @@
+//! Each thing that may happen to a pair.
+
+ghost use Rattle.std.specs.Prelude.{Option, Some};
+ghost use Rattle.sctp_model.specs.wire.Packet.{Packet};
+ghost use Rattle.sctp_model.specs.world.World.{World};
+ghost use Rattle.sctp_model.specs.world.Events as meaning;
+ghost use Rattle.sctp_model.specs.world.Steps.{Step};
+ghost use Rattle.sctp_send.specs.SenderAnswers.{lane_for};
+ghost use Rattle.sctp_association.specs.CallAnswers.{call_of};
+ghost use Rattle.sctp_endpoint.specs.Handled.{IsRead};
+ghost use Rattle.sctp_pair.specs.Happens.{side_meaning, outcome_meaning, answer_of};
+ghost use Rattle.sctp_pair.specs.PairStands.{PairStands};
+
+use crate::arrivals::{arrive, packet_at};
+use crate::event::Side;
+use crate::one_side::{abort_at, build_at, give_up, refused, send_at, shut_down, take_at};
+use crate::outcome::{Outcome, Refusal};
+use crate::pair::Pair;
+use sctp_endpoint::Endpoint;
+use sctp_packet::read_packet;
+use sctp_terms::Draw;
+use sctp_values::{NoMemory, Ticket};
+
+#[tactic(auto, unfolding(crate::specs::PairStands::PairStands))]
+impl Pair {
+    /// Both ends are opened without a packet, unless one has called or something came to one. Both are made before either is put in.
+    ///
+    /// # Errors
+    /// Memory ran out, and nothing changed.
+    pub(crate) fn open(&mut self, a: Draw, b: Draw) -> Result<Outcome, NoMemory>
+        ensures { (w : World) → PairStands self.old w
+            → (x : World) × Step w (meaning.OpenBoth a b) (answer_of result) x × PairStands self.new x }
+    {
+        if !self.openable {
+            return refused(Refusal::State);
+        }
+        let _tags = (a.tag(), b.tag());
+        let at_a = Endpoint::opened(self.alloc, *self.a.end.config(), a, b)?;
+        let at_b = Endpoint::opened(self.alloc, *self.b.end.config(), b, a)?;
+        self.a.end = at_a;
+        self.b.end = at_b;
+        self.openable = false;
+        Ok(Outcome::Done)
+    }
+
+    /// The clock goes on, and both ends are told the moment. A moment before the latest counts as that one.
+    pub(crate) fn pass_time(&mut self, moment: u64) -> Outcome
+        ensures { (w : World) → PairStands self.old w
+            → (x : World) × Step w (meaning.At moment) (Some (outcome_meaning result)) x × PairStands self.new x }
+    {
+        self.clock = self.clock.max(moment);
+        self.a.end.on_moment(self.clock);
+        self.b.end.on_moment(self.clock);
+        Outcome::Done
+    }
+
+    /// What an end draws from now on.
+    pub(crate) fn set_draw(&mut self, draw: Draw) -> Outcome
+        ensures { (w : World) → PairStands self.old w
+            → (x : World) × Step w (meaning.Drawing draw) (Some (outcome_meaning result)) x × PairStands self.new x }
+    {
+        let _tag = draw.tag();
+        self.draw = draw;
+        Outcome::Done
+    }
+
+    /// A calls.
+    pub(crate) fn connect(&mut self, draw: Draw) -> Outcome
+        ensures { (w : World) → PairStands self.old w
+            → (x : World) × Step w (meaning.Connect draw) (Some (outcome_meaning result)) x × PairStands self.new x }
+    {
+        let _tag = draw.tag();
+        match self.a.end.connect(self.clock, draw) {
+            Ok(()) => {
+                self.openable = false;
+                Outcome::Done
+            }
+            Err(_) => Outcome::Refused {
+                refusal: Refusal::State,
+            },
+        }
+    }
+
+    /// An end is asked for its next packet.
+    ///
+    /// # Errors
+    /// Memory ran out, and nothing changed.
+    pub(crate) fn build(&mut self, side: Side) -> Result<Outcome, NoMemory>
+        ensures { (w : World) → PairStands self.old w
+            → (x : World) × Step w (meaning.Build (side_meaning side)) (answer_of result) x × PairStands self.new x }
+    {
+        match side {
+            Side::A => build_at(&mut self.a, self.clock),
+            Side::B => build_at(&mut self.b, self.clock),
+        }
+    }
+
+    /// A packet of an end's bag comes to the other end.
+    ///
+    /// # Errors
+    /// Memory ran out: the packet is cut before some chunk.
+    pub(crate) fn deliver(&mut self, side: Side, number: u32) -> Result<Outcome, NoMemory>
+        ensures { (w : World) → PairStands self.old w
+            → (x : World) × Step w (meaning.Deliver (side_meaning side) number) (answer_of result) x × PairStands self.new x }
+    {
+        match side {
+            Side::A => {
+                let Some(packet) = packet_at(&self.a.bag, number) else {
+                    return Ok(Outcome::Absent);
+                };
+                self.openable = false;
+                arrive(&mut self.b, self.clock, self.draw, packet)
+            }
+            Side::B => {
+                let Some(packet) = packet_at(&self.b.bag, number) else {
+                    return Ok(Outcome::Absent);
+                };
+                self.openable = false;
+                arrive(&mut self.a, self.clock, self.draw, packet)
+            }
+        }
+    }
+
+    /// A stranger's bytes come to an end.
+    ///
+    /// # Errors
+    /// Memory ran out: the packet is cut before some chunk.
+    pub(crate) fn foreign(&mut self, side: Side, bytes: &[u8]) -> Result<Outcome, NoMemory>
+        ensures { (w : World) → PairStands self.old w
+            → (p : Option Packet) × (x : World) × IsRead bytes.now p
+            × Step w (meaning.Foreign (side_meaning side) p) (answer_of result) x × PairStands self.new x }
+    {
+        // It changes nothing: its contract says that the bytes read as a packet or have a fault.
+        let _read = read_packet(bytes);
+        self.openable = false;
+        match side {
+            Side::A => arrive(&mut self.a, self.clock, self.draw, bytes),
+            Side::B => arrive(&mut self.b, self.clock, self.draw, bytes),
+        }
+    }
+
+    /// An end's user hands in a message.
+    ///
+    /// # Errors
+    /// Memory ran out, and nothing changed.
+    pub(crate) fn send(
+        &mut self,
+        side: Side,
+        stream: u16,
+        ordered: bool,
+        payload_id: u32,
+        bytes: &[u8],
+        until: Option<u64>,
+    ) -> Result<Outcome, NoMemory>
+        ensures { (w : World) → PairStands self.old w
+            → (x : World) × Step w (meaning.Send (side_meaning side) (call_of (lane_for stream ordered) payload_id bytes.now until)) (answer_of result) x
+            × PairStands self.new x }
+    {
+        let alloc = self.alloc;
+        match side {
+            Side::A => send_at(
+                alloc,
+                &mut self.a,
+                stream,
+                ordered,
+                payload_id,
+                bytes,
+                until,
+            ),
+            Side::B => send_at(
+                alloc,
+                &mut self.b,
+                stream,
+                ordered,
+                payload_id,
+                bytes,
+                until,
+            ),
+        }
+    }
+
+    /// An end's user gives up a message.
+    pub(crate) fn abandon(&mut self, side: Side, ticket: Ticket) -> Outcome
+        ensures { (w : World) → PairStands self.old w
+            → (x : World) × Step w (meaning.Abandon (side_meaning side) ticket.0) (Some (outcome_meaning result)) x × PairStands self.new x }
+    {
+        match side {
+            Side::A => give_up(&mut self.a, ticket),
+            Side::B => give_up(&mut self.b, ticket),
+        }
+    }
+
+    /// An end's user takes the next message of a stream.
+    pub(crate) fn take(&mut self, side: Side, stream: u16) -> Outcome
+        ensures { (w : World) → PairStands self.old w
+            → (x : World) × Step w (meaning.Take (side_meaning side) stream) (Some (outcome_meaning result)) x × PairStands self.new x }
+    {
+        match side {
+            Side::A => take_at(&mut self.a, stream),
+            Side::B => take_at(&mut self.b, stream),
+        }
+    }
+
+    /// An end's user has no more to send.
+    pub(crate) fn shutdown(&mut self, side: Side) -> Outcome
+        ensures { (w : World) → PairStands self.old w
+            → (x : World) × Step w (meaning.Shutdown (side_meaning side)) (Some (outcome_meaning result)) x × PairStands self.new x }
+    {
+        match side {
+            Side::A => shut_down(&mut self.a),
+            Side::B => shut_down(&mut self.b),
+        }
+    }
+
+    /// An end's user ends the association at once.
+    ///
+    /// # Errors
+    /// Memory ran out, and nothing changed.
+    pub(crate) fn abort(&mut self, side: Side, reason: &[u8]) -> Result<Outcome, NoMemory>
+        ensures { (w : World) → PairStands self.old w
+            → (x : World) × Step w (meaning.Abort (side_meaning side) reason.now) (answer_of result) x × PairStands self.new x }
+    {
+        match side {
+            Side::A => abort_at(&mut self.a, reason),
+            Side::B => abort_at(&mut self.b, reason),
+        }
+    }
+}

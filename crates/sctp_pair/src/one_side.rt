@@ -1,0 +1,153 @@
+//! One side of a pair: its end and its bag, and what becomes of an event at it.
+
+ghost use Rattle.std.specs.Prelude.{◌≡◌, Some, Option};
+ghost use Rattle.sctp_model.specs.world.World as world;
+ghost use Rattle.sctp_model.specs.world.World.{World};
+ghost use Rattle.sctp_model.specs.world.Events as meaning;
+ghost use Rattle.sctp_model.specs.world.Steps.{Step};
+ghost use Rattle.sctp_send.specs.SenderAnswers.{lane_for};
+ghost use Rattle.sctp_association.specs.CallAnswers.{call_of};
+ghost use Rattle.sctp_pair.specs.Happens.{refusal_meaning, outcome_meaning, answer_of};
+ghost use Rattle.sctp_pair.specs.Sides.{SideView, side_of, with_side, SideStands};
+
+use crate::outcome::{Outcome, Refusal};
+use sctp_endpoint::{Endpoint, Refused};
+use sctp_packet::written_packet_reads;
+use sctp_send::SendFault;
+use sctp_terms::AbortFault;
+use sctp_values::{NoMemory, Ticket};
+use std::alloc::Global;
+
+/// One side.
+#[derive(Drop)]
+pub(crate) struct OneSide {
+    pub(crate) end: Endpoint,
+    /// Every packet that the end gave to the network, oldest first.
+    pub(crate) bag: Vec<Vec<u8>>,
+}
+
+/// The end is asked for its next packet, which goes into its bag. The room for it is made first.
+///
+/// # Errors
+/// Memory ran out, and nothing changed.
+#[tactic(auto, unfolding(crate::specs::Sides::SideStands))]
+pub(crate) fn build_at(side: &mut OneSide, clock: u64) -> Result<Outcome, NoMemory>
+    ensures { (w : World) (s : world.Side) → SideStands side.old (side_of w s) → w.clock ≡ clock
+        → (h : SideView) × Step w (meaning.Build s) (answer_of result) (with_side w s h) × SideStands side.new h }
+{
+    // It does nothing: its contract is the law by which what was written reads.
+    written_packet_reads();
+    side.bag.reserve(1).map_err(|_| NoMemory)?;
+    match side.end.poll_transmit(clock)? {
+        None => Ok(Outcome::Quiet),
+        Some(sent) => {
+            let length = sent.packet.len();
+            side.bag.push_reserved(sent.packet);
+            Ok(Outcome::Sent {
+                number: side.bag.len(),
+                length,
+            })
+        }
+    }
+}
+
+/// The end's user hands in a message; the end gets a copy of its bytes.
+///
+/// # Errors
+/// Memory ran out, and nothing changed.
+#[tactic(auto, unfolding(crate::specs::Sides::SideStands))]
+pub(crate) fn send_at(
+    alloc: Global,
+    side: &mut OneSide,
+    stream: u16,
+    ordered: bool,
+    payload_id: u32,
+    bytes: &[u8],
+    until: Option<u64>,
+) -> Result<Outcome, NoMemory>
+    ensures { (w : World) (s : world.Side) → SideStands side.old (side_of w s)
+        → (h : SideView) × Step w (meaning.Send s (call_of (lane_for stream ordered) payload_id bytes.now until)) (answer_of result) (with_side w s h) × SideStands side.new h }
+{
+    let copy = Vec::from_slice(alloc, bytes).map_err(|_| NoMemory)?;
+    match side.end.send(stream, ordered, payload_id, copy, until) {
+        Ok(ticket) => Ok(Outcome::Ticket { ticket }),
+        Err(Refused::NotOpen) => refused(Refusal::NotOpen),
+        Err(Refused::Fault(SendFault::NoSuchStream)) => refused(Refusal::NoSuchStream),
+        Err(Refused::Fault(SendFault::Empty)) => refused(Refusal::Empty),
+        Err(Refused::Fault(SendFault::TooLong)) => refused(Refusal::TooLong),
+        Err(Refused::Fault(SendFault::QueueFull)) => refused(Refusal::QueueFull),
+        Err(Refused::Fault(SendFault::Spent)) => refused(Refusal::Spent),
+        Err(Refused::Fault(SendFault::NoMemory)) => Err(NoMemory),
+    }
+}
+
+/// What is answered to a call that is refused.
+pub(crate) fn refused(refusal: Refusal) -> Result<Outcome, NoMemory>
+    ensures { answer_of result ≡ Some (refusal_meaning refusal) }
+{
+    Ok(Outcome::Refused { refusal })
+}
+
+/// The end's user gives up a message.
+#[tactic(auto, unfolding(crate::specs::Sides::SideStands))]
+pub(crate) fn give_up(side: &mut OneSide, ticket: Ticket) -> Outcome
+    ensures { (w : World) (s : world.Side) → SideStands side.old (side_of w s)
+        → (h : SideView) × Step w (meaning.Abandon s ticket.0) (Some (outcome_meaning result)) (with_side w s h) × SideStands side.new h }
+{
+    Outcome::Fate {
+        fate: side.end.abandon(ticket),
+    }
+}
+
+/// The end's user takes the next message of a stream.
+#[tactic(auto, unfolding(crate::specs::Sides::SideStands))]
+pub(crate) fn take_at(side: &mut OneSide, stream: u16) -> Outcome
+    ensures { (w : World) (s : world.Side) → SideStands side.old (side_of w s)
+        → (h : SideView) × Step w (meaning.Take s stream) (Some (outcome_meaning result)) (with_side w s h) × SideStands side.new h }
+{
+    match side.end.take(stream) {
+        None => Outcome::Empty,
+        Some(message) => Outcome::Message { message },
+    }
+}
+
+/// The end's user has no more to send.
+#[tactic(auto, unfolding(crate::specs::Sides::SideStands))]
+pub(crate) fn shut_down(side: &mut OneSide) -> Outcome
+    ensures { (w : World) (s : world.Side) → SideStands side.old (side_of w s)
+        → (h : SideView) × Step w (meaning.Shutdown s) (Some (outcome_meaning result)) (with_side w s h) × SideStands side.new h }
+{
+    match side.end.shutdown() {
+        Ok(()) => Outcome::Done,
+        Err(_) => Outcome::Refused {
+            refusal: Refusal::State,
+        },
+    }
+}
+
+/// The end's user ends the association at once; its ABORT goes into the bag. The room for that is made first.
+///
+/// # Errors
+/// Memory ran out, and nothing changed.
+#[tactic(auto, unfolding(crate::specs::Sides::SideStands))]
+pub(crate) fn abort_at(side: &mut OneSide, reason: &[u8]) -> Result<Outcome, NoMemory>
+    ensures { (w : World) (s : world.Side) → SideStands side.old (side_of w s)
+        → (h : SideView) × Step w (meaning.Abort s reason.now) (answer_of result) (with_side w s h) × SideStands side.new h }
+{
+    // It does nothing: its contract is the law by which what was written reads.
+    written_packet_reads();
+    side.bag.reserve(1).map_err(|_| NoMemory)?;
+    match side.end.abort(reason) {
+        Ok(packet) => {
+            let length = packet.len();
+            side.bag.push_reserved(packet);
+            Ok(Outcome::Answer {
+                number: side.bag.len(),
+                length,
+            })
+        }
+        Err(AbortFault::State) => refused(Refusal::State),
+        Err(AbortFault::TooLong) => refused(Refusal::ReasonTooLong),
+        Err(AbortFault::NoMemory) => Err(NoMemory),
+    }
+}
