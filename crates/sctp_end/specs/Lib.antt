@@ -1,0 +1,9 @@
+pub mod Fields
+pub mod Commands
+pub mod Grammar
+pub mod ReplyText
+pub mod Performing
+pub mod SessionStands
+pub mod Runs
+pub mod SetUpWords
+pub mod inner

@@ -1,0 +1,134 @@
+-- What an end answers to a call, and what the call leaves: over the definitions of an end.
+use Rattle.std.specs.Prelude.{◌≡◌, ℕ, max, Bool, true, false, List, [], ◌∷◌, Option, Some, None, option_map}
+use Rattle.sctp_model.specs.wire.Chunk.{ChunkMeaning}
+use Rattle.sctp_model.specs.wire.Packet.{Packet}
+use Rattle.sctp_model.specs.world.Calls.{Call as Message}
+use Rattle.sctp_model.specs.receiver.ReceiverView.{Handed, held_bytes}
+use Rattle.sctp_model.specs.sender.Queueing as queueing
+use Rattle.sctp_model.specs.sender.Readers.{acknowledged, abandoned}
+use Rattle.sctp_model.specs.end.EndView.{Draw, EndView, state_of, ended_of}
+use Rattle.sctp_model.specs.end.Clock.{at_moment}
+use Rattle.sctp_model.specs.end.Strays as strays
+use Rattle.sctp_model.specs.end.Arriving.{Receives, IsCutShort, WantsNoMemory}
+use Rattle.sctp_model.specs.end.Building.{Builds, packet_of}
+use Rattle.sctp_model.specs.end.Moments.{ticked, next_moment}
+use Rattle.sctp_model.specs.end.UserCalls as model
+use Rattle.sctp_model.specs.end.UserCalls.{connect_answer, called, send_answer, send_leaves, abandons, abandoned_at, UserTakes, shutdown_answer, shut, abort_answer, abort_leaves}
+use Rattle.sctp_values.specs.declared.kind.Kind.{Kind}
+use Rattle.sctp_values.specs.Meanings.{kind_meaning}
+use Rattle.sctp_terms.specs.declared.life.End.{End}
+use Rattle.sctp_terms.specs.declared.life.State.{State}
+use Rattle.sctp_terms.specs.declared.reason.Reason.{Reason}
+use Rattle.sctp_terms.specs.Meanings.{end_meaning, state_meaning, reason_code}
+use Rattle.sctp_packet.specs.PacketBytes.{WritesPacket}
+use Rattle.sctp_send.specs.declared.abandon.Abandoned.{Abandoned as Fates}
+use Rattle.sctp_send.specs.SenderAnswers.{answer_meaning}
+use Rattle.sctp_endpoint.specs.Handled.{IsRead}
+use Rattle.sctp_end.specs.declared.call.Call.{Call}
+use Rattle.sctp_end.specs.declared.call.Call.TheVariants as call
+use Rattle.sctp_end.specs.declared.reply.Refusal.TheVariants.{NotIdle, NoSuchStream, Empty, TooLong, QueueFull, Spent, NotEstablished, NotOpen, NoPeer, ReasonTooLong}
+use Rattle.sctp_end.specs.declared.reply.Reply.{Reply}
+use Rattle.sctp_end.specs.declared.reply.Reply.TheVariants as reply
+
+-- What stands between two lines: the end, the draw for the packets that come, and the moment, in milliseconds.
+pub record Standing : Type 0 where
+  pub view : EndView
+  pub draw : Draw
+  pub now : ℕ
+
+-- what each list of bytes reads as: its packet, or none where it has a fault
+abbrev pub IsReader : (List ℕ → Option Packet) → Type 0
+IsReader read = (bytes : List ℕ) → IsRead bytes (read bytes)
+
+-- ---- what is told
+
+-- of connect
+abbrev pub connect_reply : model.ConnectAnswer → Reply
+connect_reply model.Called = reply.Done
+connect_reply model.NotIdle = reply.Refused NotIdle
+
+-- and the end that it leaves
+abbrev pub connect_leaves : model.ConnectAnswer → Standing → Draw → EndView
+connect_leaves model.Called s d = called (at_moment s.view s.now) d
+connect_leaves model.NotIdle s d = s.view
+
+-- of a packet that came
+abbrev pub TellsPacket : strays.Verdict → Reply → Type 0
+TellsPacket strays.Taken r = r ≡ reply.Taken
+TellsPacket (strays.Dropped n) r = (reason : Reason) × (n ≡ reason_code reason) × (r ≡ reply.Dropped reason)
+TellsPacket (strays.Answer p) r = (bytes : List ℕ) × WritesPacket bytes p × (r ≡ reply.Answer bytes)
+
+-- of a message that is sent
+abbrev pub send_reply : model.SendAnswer → Reply
+send_reply (model.Ticket k) = reply.Ticket k
+send_reply (model.Refused queueing.NoSuchStream) = reply.Refused NoSuchStream
+send_reply (model.Refused queueing.Empty) = reply.Refused Empty
+send_reply (model.Refused queueing.TooLong) = reply.Refused TooLong
+send_reply (model.Refused queueing.QueueFull) = reply.Refused QueueFull
+send_reply (model.Refused queueing.Spent) = reply.Refused Spent
+send_reply model.NotOpen = reply.Refused NotEstablished
+
+-- a message as the definitions have it
+abbrev pub message_of : (stream : ℕ) → Kind → (payload : ℕ) → (until : Option ℕ) → List ℕ → Message
+message_of stream kind payload until bytes =
+    record { lane = record { stream = stream; kind = kind_meaning kind }; payload = payload; bytes = bytes; until = until }
+
+-- of a message that the user takes
+abbrev pub TellsMessage : (stream : ℕ) → Handed → Reply → Type 0
+TellsMessage stream h r = (kind : Kind) × (kind_meaning kind ≡ h.lane.kind) × (r ≡ reply.Message stream kind h.number h.payload h.bytes)
+
+-- of shutdown
+abbrev pub shutdown_reply : model.ShutdownAnswer → Reply
+shutdown_reply model.Shut = reply.Done
+shutdown_reply model.NotShut = reply.Refused NotOpen
+
+-- of abort
+abbrev pub TellsAbort : model.AbortAnswer → Reply → Type 0
+TellsAbort (model.Aborts p) r = (bytes : List ℕ) × WritesPacket bytes p × (r ≡ reply.Answer bytes)
+TellsAbort model.NoPeer r = r ≡ reply.Refused NoPeer
+TellsAbort model.TooLong r = r ≡ reply.Refused ReasonTooLong
+
+-- the calls that may want memory and then change nothing; of a packet a beginning may have acted
+abbrev pub may_want : Call → Bool
+may_want call.Build = true
+may_want (call.Send stream kind payload until bytes) = true
+may_want (call.Take stream) = true
+may_want (call.Abort reason) = true
+may_want _ = false
+
+-- ---- calls
+
+-- A call is answered so, and leaves this; `read` says what packets read as.
+pub data Performs (read : List ℕ → Option Packet) (s : Standing) : Call → Reply → Standing → Type 0 where
+  Connects : (d : Draw) (a : model.ConnectAnswer) → connect_answer s.view.phase ≡ a →
+      Performs read s (call.Connect d) (connect_reply a) (record s { view = connect_leaves a s d })
+  Draws : (d : Draw) → Performs read s (call.NewDraw d) reply.Done (record s { draw = d })
+  TimePasses : (m now : ℕ) → now ≡ max s.now m →
+      Performs read s (call.At m) reply.Done (record s { view = ticked s.view now; now = now })
+  PacketComes : (bytes : List ℕ) (t : EndView) (x : strays.Verdict) (r : Reply) → Receives s.view s.now s.draw (read bytes) t x → TellsPacket x r →
+      Performs read s (call.Packet bytes) r (record s { view = t })
+  PacketCut : (bytes : List ℕ) (t : EndView) → IsCutShort s.view s.now s.draw (read bytes) t → (WantsNoMemory s.view s.now s.draw (read bytes) → ⊥) →
+      Performs read s (call.Packet bytes) reply.NoMemory (record s { view = t })
+  BuildsOne : (bytes : List ℕ) (x : ChunkMeaning) (xs : List ChunkMeaning) (t : EndView) → Builds (at_moment s.view s.now) (x ∷ xs) t →
+      WritesPacket bytes (packet_of (at_moment s.view s.now) (x ∷ xs)) → Performs read s call.Build (reply.Sent bytes) (record s { view = t })
+  BuildsNone : (t : EndView) → Builds (at_moment s.view s.now) [] t → Performs read s call.Build reply.Quiet (record s { view = t })
+  Sends : (stream : ℕ) (kind : Kind) (payload : ℕ) (until : Option ℕ) (bytes : List ℕ) (a : model.SendAnswer) →
+      send_answer s.view (message_of stream kind payload until bytes) ≡ a →
+      Performs read s (call.Send stream kind payload until bytes) (send_reply a)
+      (record s { view = send_leaves a s.view (message_of stream kind payload until bytes) })
+  Abandons : (k : ℕ) (fate : Fates) → answer_meaning fate ≡ abandons s.view k →
+      Performs read s (call.Abandon k) (reply.Fate fate) (record s { view = abandoned_at s.view k })
+  TellsAcknowledged : (k : ℕ) (b : Bool) → b ≡ acknowledged s.view.sender k → Performs read s (call.Acknowledged k) (reply.Holds b) s
+  TellsAbandoned : (k : ℕ) (b : Bool) → b ≡ abandoned s.view.sender k → Performs read s (call.Abandoned k) (reply.Holds b) s
+  TakesOne : (stream : ℕ) (h : Handed) (r : Reply) (t : EndView) → UserTakes s.view stream (Some h) t → TellsMessage stream h r →
+      Performs read s (call.Take stream) r (record s { view = t })
+  TakesNone : (stream : ℕ) (t : EndView) → UserTakes s.view stream None t → Performs read s (call.Take stream) (reply.Empty stream) (record s { view = t })
+  ShutsDown : (a : model.ShutdownAnswer) → shutdown_answer s.view.phase ≡ a →
+      Performs read s call.Shutdown (shutdown_reply a) (record s { view = shut s.view })
+  AbortsIt : (reason : List ℕ) (a : model.AbortAnswer) (r : Reply) → abort_answer s.view reason ≡ a → TellsAbort a r →
+      Performs read s (call.Abort reason) r (record s { view = abort_leaves a s.view })
+  TellsNext : (m : Option ℕ) → m ≡ next_moment s.view → Performs read s call.Next (reply.Next m) s
+  TellsState : (x : State) (y : Option End) → state_meaning x ≡ state_of s.view.phase → option_map end_meaning y ≡ ended_of s.view.phase →
+      Performs read s call.State (reply.Stands x y) s
+  TellsHeld : (n : ℕ) → n ≡ held_bytes s.view.receiver → Performs read s call.Held (reply.Held n) s
+  WantsMemory : (c : Call) → may_want c ≡ true → Performs read s c reply.NoMemory s

@@ -1,0 +1,166 @@
+//! The words behind each command that has some: what they ask for together.
+
+ghost use Rattle.std.specs.Prelude.{◌≡◌, length, IfOk, MatchOption};
+ghost use Rattle.sctp_end.specs.Commands.{arguments_of, draw_fields};
+ghost use Rattle.sctp_end.specs.Fields.{Values, AreValues};
+ghost use Rattle.sctp_end.specs.Grammar.{Spells};
+
+use crate::call::Call;
+use crate::command::Command;
+use crate::fields::{read_bytes, read_kind, read_u16, read_u32, read_u64, read_until};
+use sctp_terms::Draw;
+use sctp_text::Words;
+use sctp_values::NoMemory;
+use std::alloc::Global;
+
+/// `TAG TSN`
+fn read_draw(mut words: Words<'_>) -> Option<Draw>
+    requires { length words ≡ 2 }
+    ensures { MatchOption result
+        ((vs : Values draw_fields) → AreValues draw_fields words.entry vs → ⊥)
+        (λ d. AreValues draw_fields words.entry (d.tag, (d.tsn, tt))) }
+{
+    let tag = read_u32(words.next_word())?;
+    let tsn = read_u32(words.next_word())?;
+    Draw::new(tag, tsn)
+}
+
+/// `connect TAG TSN`
+pub(crate) fn read_connect(words: Words<'_>) -> Option<Call>
+    requires { length words ≡ arguments_of Command.Connect }
+    ensures { MatchOption result
+        ((call : Call) → Spells Command.Connect words.entry call → ⊥)
+        (λ call. Spells Command.Connect words.entry call) }
+{
+    let draw = read_draw(words)?;
+    Some(Call::Connect(draw))
+}
+
+/// `draw TAG TSN`
+pub(crate) fn read_new_draw(words: Words<'_>) -> Option<Call>
+    requires { length words ≡ arguments_of Command.Draw }
+    ensures { MatchOption result
+        ((call : Call) → Spells Command.Draw words.entry call → ⊥)
+        (λ call. Spells Command.Draw words.entry call) }
+{
+    let draw = read_draw(words)?;
+    Some(Call::NewDraw(draw))
+}
+
+/// `at T`
+pub(crate) fn read_at(mut words: Words<'_>) -> Option<Call>
+    requires { length words ≡ arguments_of Command.At }
+    ensures { MatchOption result
+        ((call : Call) → Spells Command.At words.entry call → ⊥)
+        (λ call. Spells Command.At words.entry call) }
+{
+    let moment = read_u64(words.next_word())?;
+    Some(Call::At(moment))
+}
+
+/// `packet HEX`
+///
+/// # Errors
+/// `NoMemory` where there was no room for the bytes.
+pub(crate) fn read_packet(alloc: Global, mut words: Words<'_>) -> Result<Option<Call>, NoMemory>
+    requires { length words ≡ arguments_of Command.Packet }
+    ensures { IfOk result (λ found. MatchOption found
+        ((call : Call) → Spells Command.Packet words.entry call → ⊥)
+        (λ call. Spells Command.Packet words.entry call)) }
+{
+    match read_bytes(alloc, words.next_word())? {
+        Some(bytes) => Ok(Some(Call::Packet(bytes))),
+        None => Ok(None),
+    }
+}
+
+/// `send STREAM KIND ID UNTIL HEX`
+///
+/// # Errors
+/// `NoMemory` where there was no room for the bytes.
+pub(crate) fn read_send(alloc: Global, mut words: Words<'_>) -> Result<Option<Call>, NoMemory>
+    requires { length words ≡ arguments_of Command.Send }
+    ensures { IfOk result (λ found. MatchOption found
+        ((call : Call) → Spells Command.Send words.entry call → ⊥)
+        (λ call. Spells Command.Send words.entry call)) }
+{
+    let stream = read_u16(words.next_word());
+    let kind = read_kind(words.next_word());
+    let payload_id = read_u32(words.next_word());
+    let until = read_until(words.next_word());
+    let (Some(stream), Some(kind), Some(payload_id), Some(until)) = (
+        stream, kind, payload_id, until,
+    ) else {
+        return Ok(None);
+    };
+    match read_bytes(alloc, words.next_word())? {
+        Some(bytes) => Ok(Some(Call::Send {
+            stream,
+            kind,
+            payload_id,
+            until,
+            bytes,
+        })),
+        None => Ok(None),
+    }
+}
+
+/// `abandon K`
+pub(crate) fn read_abandon(mut words: Words<'_>) -> Option<Call>
+    requires { length words ≡ arguments_of Command.Abandon }
+    ensures { MatchOption result
+        ((call : Call) → Spells Command.Abandon words.entry call → ⊥)
+        (λ call. Spells Command.Abandon words.entry call) }
+{
+    let ticket = read_u32(words.next_word())?;
+    Some(Call::Abandon { ticket })
+}
+
+/// `acknowledged K`
+pub(crate) fn read_acknowledged(mut words: Words<'_>) -> Option<Call>
+    requires { length words ≡ arguments_of Command.Acknowledged }
+    ensures { MatchOption result
+        ((call : Call) → Spells Command.Acknowledged words.entry call → ⊥)
+        (λ call. Spells Command.Acknowledged words.entry call) }
+{
+    let ticket = read_u32(words.next_word())?;
+    Some(Call::Acknowledged { ticket })
+}
+
+/// `abandoned K`
+pub(crate) fn read_abandoned(mut words: Words<'_>) -> Option<Call>
+    requires { length words ≡ arguments_of Command.Abandoned }
+    ensures { MatchOption result
+        ((call : Call) → Spells Command.Abandoned words.entry call → ⊥)
+        (λ call. Spells Command.Abandoned words.entry call) }
+{
+    let ticket = read_u32(words.next_word())?;
+    Some(Call::Abandoned { ticket })
+}
+
+/// `take STREAM`
+pub(crate) fn read_take(mut words: Words<'_>) -> Option<Call>
+    requires { length words ≡ arguments_of Command.Take }
+    ensures { MatchOption result
+        ((call : Call) → Spells Command.Take words.entry call → ⊥)
+        (λ call. Spells Command.Take words.entry call) }
+{
+    let stream = read_u16(words.next_word())?;
+    Some(Call::Take { stream })
+}
+
+/// `abort HEX`
+///
+/// # Errors
+/// `NoMemory` where there was no room for the bytes.
+pub(crate) fn read_abort(alloc: Global, mut words: Words<'_>) -> Result<Option<Call>, NoMemory>
+    requires { length words ≡ arguments_of Command.Abort }
+    ensures { IfOk result (λ found. MatchOption found
+        ((call : Call) → Spells Command.Abort words.entry call → ⊥)
+        (λ call. Spells Command.Abort words.entry call)) }
+{
+    match read_bytes(alloc, words.next_word())? {
+        Some(bytes) => Ok(Some(Call::Abort(bytes))),
+        None => Ok(None),
+    }
+}

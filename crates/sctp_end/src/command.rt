@@ -1,0 +1,69 @@
+//! The commands: the first word of a line.
+
+ghost use Rattle.std.specs.Prelude.{◌≡◌, MatchOption};
+ghost use Rattle.sctp_end.specs.Commands.{name_of, arguments_of};
+
+/// A command.
+#[derive(Clone, Copy)]
+pub enum Command {
+    Connect,
+    Draw,
+    At,
+    Packet,
+    Build,
+    Send,
+    Abandon,
+    Acknowledged,
+    Abandoned,
+    Take,
+    Shutdown,
+    Abort,
+    Next,
+    State,
+    Held,
+}
+
+impl Command {
+    /// The command of this name.
+    pub fn named(word: &[u8]) -> Option<Command>
+        ensures { MatchOption result ((c : Command) → word.now ≡ name_of c → ⊥) (λ c. word.now ≡ name_of c) }
+    {
+        match word {
+            b"connect" => Some(Command::Connect),
+            b"draw" => Some(Command::Draw),
+            b"at" => Some(Command::At),
+            b"packet" => Some(Command::Packet),
+            b"build" => Some(Command::Build),
+            b"send" => Some(Command::Send),
+            b"abandon" => Some(Command::Abandon),
+            b"acknowledged" => Some(Command::Acknowledged),
+            b"abandoned" => Some(Command::Abandoned),
+            b"take" => Some(Command::Take),
+            b"shutdown" => Some(Command::Shutdown),
+            b"abort" => Some(Command::Abort),
+            b"next" => Some(Command::Next),
+            b"state" => Some(Command::State),
+            b"held" => Some(Command::Held),
+            _ => None,
+        }
+    }
+
+    /// How many words stand behind it.
+    pub fn arguments(self) -> usize
+        ensures { result ≡ arguments_of self }
+    {
+        match self {
+            Command::Send => 5,
+            Command::Connect | Command::Draw => 2,
+            Command::At
+            | Command::Packet
+            | Command::Abandon
+            | Command::Acknowledged
+            | Command::Abandoned
+            | Command::Take
+            | Command::Abort => 1,
+            Command::Build | Command::Shutdown | Command::Next | Command::State | Command::Held =>
+                0,
+        }
+    }
+}

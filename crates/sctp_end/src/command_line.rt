@@ -1,0 +1,97 @@
+//! The command line of the program: an end as its words set it up answers the lines of its input.
+
+ghost use Rattle.std.specs.Prelude.{◌≡◌, ℕ, ◌+◌, ◌-◌, ◌^◌, ◌<◌, ◌≤◌, List, []};
+
+use crate::run::{RunFault, run_lines};
+use crate::session::Session;
+use crate::set_up::end_of;
+use sctp_endpoint::{Draw, Endpoint};
+use sctp_text::{Sink, Source, write_all};
+use std::alloc::Global;
+
+/// The forms, as they are said where words are none of them.
+pub const USAGE: &str = "usage:
+  sctp-end caller LIMIT FRAGMENT BUFFER STREAMS MODE PORT PEER        an end that calls; lines on standard input, answers on standard output
+  sctp-end listener LIMIT FRAGMENT BUFFER STREAMS MODE PORT PEER KEY  an end that listens
+";
+/// The exit status where the input was answered to its end.
+pub const DONE: u8 = 0;
+/// The exit status of words that are no form of the program's.
+pub const WRONG_WORDS: u8 = 1;
+/// The exit status behind a line that is too long.
+pub const REFUSED: u8 = 2;
+/// The exit status where reading, writing or memory failed.
+pub const FAILED: u8 = 3;
+
+/// Sets an end up as the words say, of which the first is the program's own name, answers the lines of the input, and gives the exit status:
+/// - 0 where the input was answered to its end,
+/// - 1 where the words are no form: the forms are written to `faults`,
+/// - 2 where a line is too long: it is answered, and what stands behind it isn't read,
+/// - 3 where reading, writing (to `faults` too) or memory failed.
+pub fn run_words<R: Source, W: Sink, F: Sink>(
+    alloc: Global,
+    words: &[String],
+    input: &mut R,
+    output: &mut W,
+    faults: &mut F,
+) -> u8
+    requires reads { R.failures input.old < 2 ^ 64 - 1 }
+    requires writes { W.failures output.old < 2 ^ 64 - 1 }
+    requires tells { F.failures faults.old < 2 ^ 64 - 1 }
+    ensures bytes { (read written said : List ℕ) × R.Reads input.old read input.new × W.Writes output.old written output.new
+        × F.Writes faults.old said faults.new }
+    // Wrong words are told, and nothing is read or answered.
+    ensures wrong { result ≡ WRONG_WORDS → (input.new ≡ input.old) × (output.new ≡ output.old) × F.Writes faults.old USAGE.now faults.new }
+    // No call fails but the last one, and then the status says so.
+    ensures well { result < FAILED → (R.failures input.new ≡ R.failures input.old) × (W.failures output.new ≡ W.failures output.old)
+        × (F.failures faults.new ≡ F.failures faults.old) }
+    ensures once { R.failures input.new + W.failures output.new + F.failures faults.new
+        ≤ R.failures input.old + W.failures output.old + F.failures faults.old + 1 }
+{
+    match end_of(alloc, words) {
+        Ok(Some(endpoint)) => run(alloc, endpoint, input, output),
+        Ok(None) => refuse(faults),
+        Err(_) => FAILED,
+    }
+}
+
+/// Answers the lines of the input.
+fn run<R: Source, W: Sink>(alloc: Global, endpoint: Endpoint, input: &mut R, output: &mut W) -> u8
+    requires reads { R.failures input.old < 2 ^ 64 - 1 }
+    requires writes { W.failures output.old < 2 ^ 64 - 1 }
+    ensures bytes { (read written : List ℕ) × R.Reads input.old read input.new × W.Writes output.old written output.new }
+    ensures right { result ≡ WRONG_WORDS → ⊥ }
+    ensures well { result < FAILED → (R.failures input.new ≡ R.failures input.old) × (W.failures output.new ≡ W.failures output.old) }
+    ensures once { R.failures input.new + W.failures output.new ≤ R.failures input.old + W.failures output.old + 1 }
+{
+    let Some(draw) = Draw::new(1, 1) else {
+        return FAILED;
+    };
+    let mut session = Session {
+        alloc,
+        endpoint,
+        draw,
+        moment: 0,
+    };
+    match run_lines(&mut session, input, output) {
+        Ok(()) => DONE,
+        Err(RunFault::TooLong) => REFUSED,
+        Err(RunFault::Read) => FAILED,
+        Err(RunFault::Write) => FAILED,
+        Err(RunFault::NoMemory) => FAILED,
+    }
+}
+
+/// Says the forms.
+fn refuse<F: Sink>(faults: &mut F) -> u8
+    requires { F.failures faults.old < 2 ^ 64 - 1 }
+    ensures bytes { (said : List ℕ) × F.Writes faults.old said faults.new }
+    ensures told { result ≡ WRONG_WORDS → F.Writes faults.old USAGE.now faults.new }
+    ensures well { result < FAILED → F.failures faults.new ≡ F.failures faults.old }
+    ensures once { F.failures faults.new ≤ F.failures faults.old + 1 }
+{
+    match write_all(faults, USAGE.as_bytes()) {
+        Ok(()) => WRONG_WORDS,
+        Err(_) => FAILED,
+    }
+}

@@ -1,0 +1,23 @@
+//! One end of an association, line by line: its user's calls and the packets that come are lines of a text, and each is answered by a line.
+#![tactic(auto)]
+
+mod call;
+mod call_words;
+mod command;
+mod command_line;
+mod fields;
+mod line;
+mod mode;
+mod replies;
+mod reply;
+mod reply_line;
+mod run;
+mod session;
+mod set_up;
+
+pub use call::Call;
+pub use command_line::{DONE, FAILED, REFUSED, USAGE, WRONG_WORDS, run_words};
+pub use line::{LineError, LineFault, read_line};
+pub use reply::{Refusal, Reply};
+pub use reply_line::put_reply;
+pub use sctp_text::{FromRead, ToWrite};

@@ -1,0 +1,123 @@
+//! A line, read: what it asks for, or the smallest kind of its faults.
+
+ghost use Rattle.std.specs.Prelude.{◌≡◌, length, ◌↔◌, IsTrue, IfOk, MatchOption, MatchResult};
+ghost use Rattle.sctp_end.specs.Commands.{arguments_of};
+ghost use Rattle.sctp_end.specs.Grammar.{Spells, IsSilent, kind_of, Finds, Refuses};
+
+use crate::call::Call;
+use crate::call_words::{
+    read_abandon, read_abandoned, read_abort, read_acknowledged, read_at, read_connect,
+    read_new_draw, read_packet, read_send, read_take,
+};
+use crate::command::Command;
+use sctp_text::{LONGEST_LINE, Words};
+use sctp_values::NoMemory;
+use std::alloc::Global;
+use thiserror::Error;
+
+/// What a line begins with that does nothing, `#`.
+const COMMENT: u8 = 35;
+
+/// What is wrong with a line; of several faults the one with the smallest kind is answered.
+#[derive(Clone, Copy, Debug, PartialEq, Eq, Error)]
+pub enum LineFault {
+    /// 1: the line is longer than 140,000 bytes; a comment too may be.
+    #[error("too long")]
+    TooLong,
+    /// 2: the first word is no command.
+    #[error("unknown command")]
+    UnknownCommand,
+    /// 3: the command has another number of words.
+    #[error("wrong number of words")]
+    WordCount,
+    /// 4: a word says no value of its field.
+    #[error("bad value")]
+    BadValue,
+}
+
+impl LineFault {
+    /// The kind, 1 to 4.
+    pub fn kind(self) -> u8
+        ensures { result ≡ kind_of self }
+    {
+        match self {
+            LineFault::TooLong => 1,
+            LineFault::UnknownCommand => 2,
+            LineFault::WordCount => 3,
+            LineFault::BadValue => 4,
+        }
+    }
+}
+
+/// Why a line asks for nothing.
+#[derive(Clone, Copy, Debug, PartialEq, Eq, Error)]
+pub enum LineError {
+    /// The line has this fault.
+    #[error("{0}")]
+    Fault(LineFault),
+    /// Memory ran out for the bytes of a word.
+    #[error("out of memory")]
+    NoMemory,
+}
+
+/// Reads a line, without its line feed. One that is empty or begins with `#` gives None.
+///
+/// # Errors
+/// The fault of the line with the smallest kind, or `NoMemory` where there was no room for the bytes of a word.
+pub fn read_line(alloc: Global, line: &[u8]) -> Result<Option<Call>, LineError>
+    ensures { MatchResult result (λ found. Finds line.now found) (λ error. Refuses line.now error) }
+{
+    if line.len() > LONGEST_LINE {
+        return Err(LineError::Fault(LineFault::TooLong));
+    }
+    if is_silent(line) {
+        return Ok(None);
+    }
+    let mut words = Words::of(line);
+    let Some(command) = Command::named(words.next_word()) else {
+        return Err(LineError::Fault(LineFault::UnknownCommand));
+    };
+    if words.count() != command.arguments() {
+        return Err(LineError::Fault(LineFault::WordCount));
+    }
+    match read_call(alloc, command, words) {
+        Ok(Some(call)) => Ok(Some(call)),
+        Ok(None) => Err(LineError::Fault(LineFault::BadValue)),
+        Err(NoMemory) => Err(LineError::NoMemory),
+    }
+}
+
+/// The line is empty or a comment.
+fn is_silent(line: &[u8]) -> bool
+    ensures { IsTrue result ↔ IsSilent line.now }
+{
+    match line.first() {
+        Some(first) => *first == COMMENT,
+        None => true,
+    }
+}
+
+/// What a command asks for with these words behind it, None where it asks for nothing.
+fn read_call(alloc: Global, command: Command, words: Words<'_>) -> Result<Option<Call>, NoMemory>
+    requires { length words ≡ arguments_of command }
+    ensures { IfOk result (λ found. MatchOption found
+        ((call : Call) → Spells command words.entry call → ⊥) (λ call. Spells command words.entry call)) }
+{
+    match command {
+        Command::Connect => Ok(read_connect(words)),
+        Command::Draw => Ok(read_new_draw(words)),
+        Command::At => Ok(read_at(words)),
+        Command::Packet => read_packet(alloc, words),
+        Command::Build => Ok(Some(Call::Build)),
+        Command::Send => read_send(alloc, words),
+        Command::Abandon => Ok(read_abandon(words)),
+        Command::Acknowledged => Ok(read_acknowledged(words)),
+        Command::Abandoned => Ok(read_abandoned(words)),
+        Command::Take => Ok(read_take(words)),
+        Command::Shutdown => Ok(Some(Call::Shutdown)),
+        Command::Abort => read_abort(alloc, words),
+        Command::Next => Ok(Some(Call::Next)),
+        Command::State => Ok(Some(Call::State)),
+        Command::Held => Ok(Some(Call::Held)),
+    }
+}
