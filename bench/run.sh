@@ -1,7 +1,7 @@
 #!/bin/sh
 # Counts instructions by callgrind, of programs that `rt run` proves and builds: what a byte of crc32c takes (beside the same loop in C at -O2), and what a
-# receiver and a sender take for a message; and what calls of a receiver take that keeps much. `./run.sh` runs all, `./run.sh crc32c`, `./run.sh receiver`,
-# `./run.sh sender` and `./run.sh growth` one of them. Needs rt, valgrind and cc.
+# receiver and a sender take for a message; what an endpoint adds to that; and what calls of a receiver take that keeps much. `./run.sh` runs all,
+# `./run.sh crc32c`, `./run.sh receiver`, `./run.sh sender`, `./run.sh endpoint` and `./run.sh growth` one of them. Needs rt, valgrind and cc.
 set -e
 here=$(cd "$(dirname "$0")" && pwd)
 work=$(mktemp -d)
@@ -20,7 +20,7 @@ build() {
     echo "$program: $*" >> "$work/crates.txt"
     cp "$here/$program.rattle" "$work/crates/$program/src/main.rt"
     cp "$here/../HANDLES" "$work/HANDLES"
-    (cd "$work/crates/$program" && rt run -- none 1 > "$work/log" 2>&1) || { cat "$work/log" >&2; exit 1; }
+    (cd "$work/crates/$program" && rt run -- none 1 1 > "$work/log" 2>&1) || { cat "$work/log" >&2; exit 1; }
     built=$work/crates/$program/out/$program
 }
 
@@ -80,6 +80,15 @@ sender() {
     "$built" window 32768
 }
 
+# what an endpoint adds to a message: the same packets over two endpoints, and over a sender and a receiver side by side
+endpoint() {
+    build endpoint sctp_model sctp_values sctp_terms sctp_safety sctp_serial sctp_wire sctp_cookie sctp_framing sctp_packet sctp_opening sctp_chains sctp_recv sctp_send sctp_association sctp_endpoint
+    for over in halves ends; do
+        each "$over: a message of 64 bytes, 9.5 to a packet" 100 300 19 "$built" "$over" 19
+        each "$over: a message of 64 bytes, one to a packet" 1000 3000 1 "$built" "$over" 1
+    done
+}
+
 # what one of so many calls takes at a size, twice and four times that: NAME SIZE CALLS PROGRAM WORD ..; a call that costs its own work alone takes as much
 # at each of them
 grows() {
@@ -103,6 +112,6 @@ growth() {
 }
 
 case ${1:-all} in
-    all) crc32c; receiver; sender; growth ;;
+    all) crc32c; receiver; sender; endpoint; growth ;;
     *) "$1" ;;
 esac

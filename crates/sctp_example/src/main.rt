@@ -1,11 +1,14 @@
-//! The libraries as a caller sees them: chunks read and written again, two ends of an association, a cookie sealed and opened.
+//! The libraries as a caller sees them: two ends that talk, chunks read and written again, a pair under a script's events, a cookie sealed and opened.
 #![tactic(auto)]
+
+mod talk;
 
 use anyhow::Result;
 use sctp_cookie::{CookieBody, Key, Ports, open, seal};
 use sctp_trace::{Event, Mode, Pair, PairConfig, Side};
 use sctp_wire::{read_chunks, write_chunk};
 use std::alloc::Global;
+use talk::talk;
 
 /// A DATA chunk with TSN 1, the message `Hi` on stream 0, and its padding.
 const HI: [u8; 20] = [
@@ -13,6 +16,7 @@ const HI: [u8; 20] = [
 ];
 
 fn main(rt: HostRuntime) -> Result<()> {
+    println!(rt; "{}", talk(rt.alloc())?.as_str())?;
     let copy = copied(rt.alloc(), &HI)?;
     println!(rt;
         "read and written again: {}",

@@ -1,0 +1,75 @@
+//! Two ends of an association as their users drive them: packets in, moments, packets out, and what they hand to each other meanwhile.
+
+use anyhow::{Result, anyhow};
+use sctp_endpoint::{Config, Draw, Endpoint, Key, Message, Verdict};
+use std::alloc::Global;
+
+/// How often a packet goes over and its answer back before `exchange` gives up.
+const ROUNDS: u32 = 100;
+
+/// A caller opens an association with a listener, sends `Hi` on stream 0, and shuts it: the bytes that the listener's user took, and how it
+/// ended for both.
+pub fn talk(alloc: Global) -> Result<String> {
+    let mut caller = Endpoint::caller(alloc, config(5_000, 5_001)?);
+    let mut listener = Endpoint::listener(alloc, config(5_001, 5_000)?, Key::new([7; 32]));
+    // Tags and TSNs come from a source of chance; these stand for it.
+    caller.connect(0, draw(7, 100)?)?;
+    exchange(&mut caller, &mut listener, 0)?;
+    let hi = Vec::from_slice(alloc, b"Hi")?;
+    caller.send(0, true, 0, hi, None)?;
+    exchange(&mut caller, &mut listener, 10)?;
+    let bytes = taken(alloc, listener.take(0))?;
+    caller.shutdown()?;
+    exchange(&mut caller, &mut listener, 20)?;
+    Ok(
+        format!(in alloc; "{:?} was taken; {:?}, {:?}", bytes.as_slice(), caller.ended(), listener.ended())?,
+    )
+}
+
+/// How an end is set up: its port and its peer's, packets of 1,500 bytes, fragments of 1,400, a buffer of 64 KiB, a stream each way.
+fn config(own_port: u16, peer_port: u16) -> Result<Config> {
+    Ok(Config::new(own_port, peer_port, 1_500, 1_400, 65_536, 1, 1)?)
+}
+
+/// A tag that isn't 0, and a first TSN.
+fn draw(tag: u32, tsn: u32) -> Result<Draw> {
+    Draw::new(tag, tsn).ok_or_else(|| anyhow!("the tag 0 is no tag"))
+}
+
+/// What goes on at one moment, in milliseconds: packets go over the wire until neither end has one to send. Between two such moments a user
+/// sleeps until a packet comes, or until the earlier of the two `next_moment`s, and tells `on_moment`.
+fn exchange(caller: &mut Endpoint, listener: &mut Endpoint, now: u64) -> Result<()> {
+    caller.on_moment(now);
+    listener.on_moment(now);
+    for _ in 0..ROUNDS {
+        let went = carry(caller, listener, now)?;
+        let came = carry(listener, caller, now)?;
+        if !went && !came {
+            break;
+        }
+    }
+    Ok(())
+}
+
+/// The next packet of `from` goes to `to`, and its answer back, if it has one. False where there was no packet.
+fn carry(from: &mut Endpoint, to: &mut Endpoint, now: u64) -> Result<bool> {
+    let Some(sent) = from.poll_transmit(now)? else {
+        return Ok(false);
+    };
+    match to.handle_packet(now, &sent.packet, draw(9, 500)?)? {
+        Verdict::Answer(reply) => {
+            from.handle_packet(now, &reply, draw(11, 700)?)?;
+        }
+        Verdict::Taken | Verdict::Dropped(_) => {}
+    }
+    Ok(true)
+}
+
+/// The bytes of a message, if there is one.
+fn taken(alloc: Global, message: Option<Message>) -> Result<Vec<u8>> {
+    let mut bytes = Vec::new(alloc);
+    if let Some(message) = message {
+        message.copy_to(&mut bytes)?;
+    }
+    Ok(bytes)
+}
