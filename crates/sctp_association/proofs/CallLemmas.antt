@@ -14,7 +14,7 @@ use Rattle.sctp_model.specs.end.EndView as model
 use Rattle.sctp_model.specs.end.EndView.{EndView, Alarm, Timer}
 use Rattle.sctp_model.specs.end.Clock.{turned, stopped, replaced, timers_in}
 use Rattle.sctp_model.specs.end.Closing.{hears, rested}
-use Rattle.sctp_model.specs.end.Moments.{after_giving_up}
+use Rattle.sctp_model.specs.end.Moments.{after_abandoning}
 use Rattle.sctp_model.specs.end.UserCalls.{is_established, is_open, ConnectAnswer, Called, NotIdle, connect_answer, called, Ticket, NotOpen, send_answer, answer_for, UserTakes, shutdown_answer, NotShut, shut_in, shut, abandoned_at}
 use Rattle.sctp_association.specs.TimersMean.{timers_meaning}
 use Rattle.sctp_association.specs.PhaseMeans.{phase_of, phase_in, is_idle}
@@ -47,8 +47,8 @@ pub unknown_fresh : (s : SenderView) (f t : ℕ) → s ≡ fresh_sender 0 0 f 0 
 unknown_fresh s f t is = sym (ap (λ (x : SenderView). abandon_answer x t) is ∙ abandon_none t f)
 
 pub abandoned_by : (v : EndView) (t : ℕ) (b : Bool) → is_open v.phase ≡ b
-    → abandoned_at v t ≡ (if b then after_giving_up v (abandon_after v.sender t) else record v { sender = abandon_after v.sender t })
-abandoned_by v t b is = ap (λ (x : Bool). if x then after_giving_up v (abandon_after v.sender t) else record v { sender = abandon_after v.sender t }) is
+    → abandoned_at v t ≡ (if b then after_abandoning v (abandon_after v.sender t) else record v { sender = abandon_after v.sender t })
+abandoned_by v t b is = ap (λ (x : Bool). if x then after_abandoning v (abandon_after v.sender t) else record v { sender = abandon_after v.sender t }) is
 
 -- ---- shutdown
 

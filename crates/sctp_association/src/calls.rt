@@ -95,11 +95,11 @@ impl Machine {
         ensures step { (v : EndView) → MachineStands self.old v → MachineStands self.new (abandoned_at v ticket.0) }
     {
         let before = self.point();
-        let answer = self.give_up(ticket);
+        let answer = self.abandon_one(ticket);
         if !self.is_open() {
             return answer;
         }
-        self.gave_up(before);
+        self.when_abandoned(before);
         answer
     }
 

@@ -7,7 +7,7 @@ ghost use Rattle.sctp_model.specs.sender.Readers.{point};
 ghost use Rattle.sctp_model.specs.sender.Abandoning.{timed_out};
 ghost use Rattle.sctp_model.specs.end.EndView.{EndView};
 ghost use Rattle.sctp_model.specs.end.Clock.{at_moment, settled, is_point_past};
-ghost use Rattle.sctp_model.specs.end.Moments.{after_giving_up, due_again, ring, passed, ticked, next_moment};
+ghost use Rattle.sctp_model.specs.end.Moments.{after_abandoning, due_again, ring, passed, ticked, next_moment};
 ghost use Rattle.sctp_association.specs.TimersMean.{alarm_meaning};
 ghost use Rattle.sctp_association.specs.MachineStands.{MachineStands};
 
@@ -41,7 +41,7 @@ impl Machine {
     {
         let before = self.point();
         self.expire();
-        self.gave_up(before);
+        self.when_abandoned(before);
         self.ring(Alarm::Init);
         self.ring(Alarm::Cookie);
         self.ring(Alarm::Fragments);
@@ -50,8 +50,8 @@ impl Machine {
     }
 
     /// Messages were abandoned, where the point was at this index before: a FORWARD is due where it moved (RFC 3758, 3.5).
-    pub(crate) fn gave_up(&mut self, before: u32)
-        ensures { (v : EndView) (s : SenderView) → MachineStands self.old (record v { sender = s }) → before ≡ point v.sender → MachineStands self.new (after_giving_up v s) }
+    pub(crate) fn when_abandoned(&mut self, before: u32)
+        ensures { (v : EndView) (s : SenderView) → MachineStands self.old (record v { sender = s }) → before ≡ point v.sender → MachineStands self.new (after_abandoning v s) }
     {
         let moved = self.point() != before;
         self.due.skip(moved);

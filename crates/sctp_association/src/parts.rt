@@ -132,7 +132,7 @@ impl Machine {
     }
 
     /// The sender abandons the message with this ticket (RFC 3758, 3.5).
-    pub(crate) fn give_up(&mut self, ticket: Ticket) -> Abandoned
+    pub(crate) fn abandon_one(&mut self, ticket: Ticket) -> Abandoned
         ensures answer { (v : EndView) → MachineStands self.old v → answer_meaning result ≡ abandon_answer v.sender ticket.0 }
         ensures step { (v : EndView) → MachineStands self.old v → MachineStands self.new (record v { sender = abandon_after v.sender ticket.0 }) }
     {

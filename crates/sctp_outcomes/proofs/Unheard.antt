@@ -10,7 +10,7 @@ use Rattle.sctp_model.specs.end.EndView.{TimedOut, Phase, Idle, Listening, Calli
 use Rattle.sctp_model.specs.end.Clock.{at_moment, closed, settled, turned, with_timer, is_over_at, repeats_of}
 use Rattle.sctp_model.specs.end.Clock.{expired_timer}
 use Rattle.sctp_model.specs.end.Closing.{rested}
-use Rattle.sctp_model.specs.end.Moments.{after_giving_up, due_again, rung, ring, rung_all, all_alarms, passed, ticked}
+use Rattle.sctp_model.specs.end.Moments.{after_abandoning, due_again, rung, ring, rung_all, all_alarms, passed, ticked}
 use Rattle.sctp_model.specs.end.UserCalls.{SendAnswer, Ticket, Refused, NotOpen, send_leaves, is_open, abandoned_at, shut_in, shut, AbortAnswer, Aborts, NoPeer, TooLong, abort_leaves}
 use Rattle.sctp_safety.proofs.machine.EndWords.{rested_cases}
 
@@ -31,10 +31,10 @@ unheard_rested e = rested_cases (IsUnheard e) e (unheard e) (λ t is d. record {
 
 -- ---- time
 
-pub unheard_given_up : (e : EndView) (v : SenderView) → IsUnheard e (after_giving_up e v)
-unheard_given_up e v =
+pub unheard_abandoned : (e : EndView) (v : SenderView) → IsUnheard e (after_abandoning e v)
+unheard_abandoned e v =
     let mid = settled (record e { sender = v; due = record e.due { forward = e.due.forward || not (point v == point e.sender) } }) in
-    unheard_on e mid (after_giving_up e v) (record { receiver = refl; terms = refl; configuration = refl }) (unheard_rested mid)
+    unheard_on e mid (after_abandoning e v) (record { receiver = refl; terms = refl; configuration = refl }) (unheard_rested mid)
 
 pub unheard_again : (a : Alarm) (e : EndView) → IsUnheard e (due_again a e)
 unheard_again InitAlarm e = record { receiver = refl; terms = refl; configuration = refl }
@@ -64,8 +64,8 @@ unheard_ticked e now = go (has_association e.phase)
     go false = record { receiver = refl; terms = refl; configuration = refl }
     go true =
         let m = at_moment e now in
-        let u = after_giving_up m (expired_messages m.sender m.moment) in
-        unheard_on e u (rung_all all_alarms u) (unheard_on e m u (record { receiver = refl; terms = refl; configuration = refl }) (unheard_given_up m (expired_messages m.sender m.moment))) (unheard_all all_alarms u)
+        let u = after_abandoning m (expired_messages m.sender m.moment) in
+        unheard_on e u (rung_all all_alarms u) (unheard_on e m u (record { receiver = refl; terms = refl; configuration = refl }) (unheard_abandoned m (expired_messages m.sender m.moment))) (unheard_all all_alarms u)
 
 -- ---- the user
 
@@ -77,8 +77,8 @@ unheard_sent e c NotOpen = unheard e
 pub unheard_abandoned : (e : EndView) (k : ℕ) → IsUnheard e (abandoned_at e k)
 unheard_abandoned e k = go (is_open e.phase)
   where
-    go : (b : Bool) → IsUnheard e (if b then after_giving_up e (abandon_after e.sender k) else record e { sender = abandon_after e.sender k })
-    go true = unheard_given_up e (abandon_after e.sender k)
+    go : (b : Bool) → IsUnheard e (if b then after_abandoning e (abandon_after e.sender k) else record e { sender = abandon_after e.sender k })
+    go true = unheard_abandoned e (abandon_after e.sender k)
     go false = record { receiver = refl; terms = refl; configuration = refl }
 
 pub unheard_shut : (e : EndView) → IsUnheard e (shut e)

@@ -125,9 +125,9 @@ sends w s c a is =
 abbrev pub log_after : World → Side → ℕ → Log
 log_after w s k = named_at (logged_one w s k (abandoned_at (end_of w s) k)) k
 
-pub gives_up : (w : World) (s : Side) (k : ℕ) →
+pub abandons_at : (w : World) (s : Side) (k : ℕ) →
     Step w (Abandon s k) (Some (Fate (abandons (end_of w s) k))) (with_side w s (side (abandoned_at (end_of w s) k) (bag_of w s) (log_after w s k)))
-gives_up w s k =
+abandons_at w s k =
     subst (λ (x : World). Step w (Abandon s k) (Some (Fate (abandons (end_of w s) k))) x) (log_here w s (abandoned_at (end_of w s) k) (log_after w s k)) (steps.AbandonsOne s k)
 
 pub takes : (w : World) (s : Side) (n : ℕ) (h : Option Handed) (t : EndView) → UserTakes (end_of w s) n h t →

@@ -13,7 +13,7 @@ ghost use Rattle.sctp_pair.specs.PairStands.{PairStands};
 
 use crate::arrivals::{arrive, packet_at};
 use crate::event::Side;
-use crate::one_side::{abort_at, build_at, give_up, refused, send_at, shut_down, take_at};
+use crate::one_side::{abort_at, build_at, abandon_at, refused, send_at, shut_down, take_at};
 use crate::outcome::{Outcome, Refusal};
 use crate::pair::Pair;
 use sctp_endpoint::Endpoint;
@@ -185,8 +185,8 @@ impl Pair {
             → (x : World) × Step w (meaning.Abandon (side_meaning side) ticket.0) (Some (outcome_meaning result)) x × PairStands self.new x }
     {
         match side {
-            Side::A => give_up(&mut self.a, ticket),
-            Side::B => give_up(&mut self.b, ticket),
+            Side::A => abandon_at(&mut self.a, ticket),
+            Side::B => abandon_at(&mut self.b, ticket),
         }
     }
 

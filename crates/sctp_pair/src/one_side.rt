@@ -90,7 +90,7 @@ pub(crate) fn refused(refusal: Refusal) -> Result<Outcome, NoMemory>
 
 /// The end's user gives up a message.
 #[tactic(auto, unfolding(crate::specs::Sides::SideStands))]
-pub(crate) fn give_up(side: &mut OneSide, ticket: Ticket) -> Outcome
+pub(crate) fn abandon_at(side: &mut OneSide, ticket: Ticket) -> Outcome
     ensures { (w : World) (s : world.Side) → SideStands side.old (side_of w s)
         → (h : SideView) × Step w (meaning.Abandon s ticket.0) (Some (outcome_meaning result)) (with_side w s h) × SideStands side.new h }
 {

@@ -2,7 +2,7 @@
 use Rattle.std.proofs.Common.{◌≡◌, ℕ, zero, suc, ◌+◌, ◌-◌, ◌<◌, ◌≤◌, true, List, [], ◌∷◌, slice_get, Some, refl, sym, subst, arith}
 use Rattle.sctp_model.specs.messages.Format.{Format, Plain, Lane}
 use Rattle.sctp_model.specs.messages.Plan.{Entry, Part, End, Plan, entry_at, IsOf}
-use Rattle.sctp_model.specs.sender.SenderView.{SenderView, IsGivenUp}
+use Rattle.sctp_model.specs.sender.SenderView.{SenderView, IsOfAbandoned}
 use Rattle.sctp_model.specs.receiver.ReceiverView.{ReceiverView}
 use Rattle.sctp_safety.proofs.Facts.{IsLost, IsOrderedPlan}
 
@@ -20,7 +20,7 @@ same_gone a l k n m (el, en) gone =
     subst (λ (u : Lane). a.abandoned u n ≡ true) (sym el) (subst (λ (u : ℕ). a.abandoned k u ≡ true) (sym en) gone)
 
 -- the message of an index that is given up was abandoned
-pub given_up_at : (a : SenderView) (i : ℕ) (l : Lane) (n : ℕ) (e : Entry) → entry_at a.plan i ≡ Some e → IsOf l n e → IsGivenUp a i → a.abandoned l n ≡ true
+pub given_up_at : (a : SenderView) (i : ℕ) (l : Lane) (n : ℕ) (e : Entry) → entry_at a.plan i ≡ Some e → IsOf l n e → IsOfAbandoned a i → a.abandoned l n ≡ true
 given_up_at a i l n e here of (k, m, d, at', of', gone) = same_gone a l k n m (one_entry a.plan i l k n m e d here of at' of') gone
 
 pub lost_at : (f : Format) (a : SenderView) (r : ReceiverView) (i : ℕ) (l : Lane) (n : ℕ) (e : Entry) → entry_at a.plan i ≡ Some e → IsOf l n e → IsLost f a r i → a.abandoned l n ≡ true

@@ -8,7 +8,7 @@ use Rattle.sctp_model.specs.messages.Format.{Format, Lane}
 use Rattle.sctp_model.specs.messages.Plan.{Message, message_at}
 use Rattle.sctp_model.specs.sender.SenderView.{Queued, SenderView}
 use Rattle.sctp_model.specs.sender.Words.{count_up}
-use Rattle.sctp_model.specs.sender.Abandoning.{Name, name_of, waits, without, is_abandoned, is_covered, ended, given_up, give_up, abandon_after, is_past, is_overdue, expire_one, expired}
+use Rattle.sctp_model.specs.sender.Abandoning.{Name, name_of, waits, without, is_abandoned, is_covered, ended, with_abandoned, abandon_named, abandon_after, is_past, is_overdue, expire_one, expired}
 use Rattle.sctp_model.specs.sender.Reached.{IsReached}
 use Rattle.sctp_model.proofs.sender.AbandonCases.{after_abandon, given_itself, given_other}
 use Rattle.sctp_model.proofs.sender.AbandonedLaws.{expires_each}
@@ -17,7 +17,7 @@ use Rattle.sctp_model.proofs.sender.ExpiredLaws.{due_waits, due_named, expired_t
 use Rattle.sctp_model.proofs.sender.QueueLaws.{without_self}
 use Rattle.sctp_model.proofs.sender.TicketLaws.{is_ticketed, found_owns}
 use Rattle.sctp_safety.specs.Told.{HasNumber, WasAbandoned, WasAcknowledged}
-use Rattle.sctp_safety.specs.GivenUp.{NoneIsLeftToExpire}
+use Rattle.sctp_safety.specs.Abandoned.{NoneIsLeftToExpire}
 use Rattle.sctp_safety.proofs.Later.{IsComplete-later}
 use Rattle.sctp_safety.proofs.NameFacts.{never_both, has_number}
 use Rattle.sctp_safety.proofs.ToldLemmas.{found, number_of, none_has, acknowledged_name}
@@ -31,11 +31,11 @@ record IsSettled (now : ℕ) (u : SenderView) (t : ℕ) : Type 0 where
   plan : (h : HasNumber u t) → is_past now h.message ≡ true → u.partial ≡ true → WasAbandoned u t ⊎ WasAcknowledged u t
 
 -- a message of the plan given up is one of the plan
-abbrev number_before : (v : SenderView) (n : Name) (t : ℕ) → HasNumber (given_up v n) t → HasNumber v t
+abbrev number_before : (v : SenderView) (n : Name) (t : ℕ) → HasNumber (with_abandoned v n) t → HasNumber v t
 number_before v n t h = record { lane = h.lane; number = h.number; message = h.message; named = sym (same_named v n h.lane h.number) ∙ h.named; ticket = h.ticket }
 
 -- another message is acknowledged as it was
-acknowledged_stays : (v : SenderView) (n : Name) (s t : ℕ) → name_of v s ≡ Some n → (s ≡ t → ⊥) → WasAcknowledged v t → WasAcknowledged (given_up v n) t
+acknowledged_stays : (v : SenderView) (n : Name) (s t : ℕ) → name_of v s ≡ Some n → (s ≡ t → ⊥) → WasAcknowledged v t → WasAcknowledged (with_abandoned v n) t
 acknowledged_stays v n s t is apart w = record {
   has = record { lane = w.has.lane; number = w.has.number; message = w.has.message; named = same_named v n w.has.lane w.has.number ∙ w.has.named; ticket = w.has.ticket };
   kept = given_other v n w.has.lane w.has.number other ∙ w.kept;
@@ -71,7 +71,7 @@ settled_stays now t s u apart h = after_abandon (λ (x : SenderView). IsSettled 
           ];
     }
 
-    given : (n : Name) → name_of u s ≡ Some n → IsSettled now (given_up u n) t
+    given : (n : Name) → name_of u s ≡ Some n → IsSettled now (with_abandoned u n) t
     given n is = record {
       queue = h.queue;
       plan = λ g past partial.
@@ -96,21 +96,21 @@ settled_now f now t u reached = by_name (name_of u t) refl
     none_with n is = off_of (waits t u.queue) (λ on. let none = ((is_ticketed f u reached).waiting t on).2 in absurd (cc))
 
     -- the message given up is the one with the ticket
-    given : (n : Name) → name_of u t ≡ Some n → (g : HasNumber (given_up u n) t) → WasAbandoned (given_up u n) t
+    given : (n : Name) → name_of u t ≡ Some n → (g : HasNumber (with_abandoned u n) t) → WasAbandoned (with_abandoned u n) t
     given n is g =
         let mine = found f u reached t (number_before u n t g) in
         let same : n ≡ record { lane = g.lane; number = g.number } = cc in
-        record { has = g; given = subst (λ (x : Name). (given_up u n).abandoned x.lane x.number ≡ true) same (given_itself u n) }
+        record { has = g; given = subst (λ (x : Name). (with_abandoned u n).abandoned x.lane x.number ≡ true) same (given_itself u n) }
 
     by_tests : (n : Name) → name_of u t ≡ Some n → (p : Bool) → u.partial ≡ p → (a : Bool) → is_abandoned u n ≡ a → (c : Bool) → is_covered u n ≡ c
-        → IsSettled now (if p && (not a && not c) then given_up u n else u) t
+        → IsSettled now (if p && (not a && not c) then with_abandoned u n else u) t
     by_tests n is false off a on c cover = record { queue = none_waits now t u.queue (none_with n is); plan = λ g past partial. absurd (never_both u.partial partial off) }
     by_tests n is true allowed true on c cover = record { queue = none_waits now t u.queue (none_with n is); plan = λ g past partial. inl (record { has = number_of f u reached t n is; given = on }) }
     by_tests n is true allowed false kept true cover =
         record { queue = none_waits now t u.queue (none_with n is); plan = λ g past partial. inr (acknowledged_name f u reached t n is cover kept) }
     by_tests n is true allowed false kept false cover = record { queue = none_waits now t u.queue (none_with n is); plan = λ g past partial. inl (given n is g) }
 
-    by_name : (o : Option Name) → name_of u t ≡ o → IsSettled now (option_map_or (give_up u) o (record u { queue = without t u.queue })) t
+    by_name : (o : Option Name) → name_of u t ≡ o → IsSettled now (option_map_or (abandon_named u) o (record u { queue = without t u.queue })) t
     by_name None none = record {
       queue = none_waits now t (without t u.queue) (without_self t u.queue (is_ticketed f u reached).apart);
       plan = λ g past partial. absurd (none_has f u reached t none (record { lane = g.lane; number = g.number; message = g.message; named = g.named; ticket = g.ticket }));

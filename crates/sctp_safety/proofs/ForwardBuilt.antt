@@ -4,7 +4,7 @@ use Rattle.std.proofs.lemmas.Bool.{cases_eq, cases_lt, cases_Bool}
 use Rattle.sctp_model.specs.numbers.Lists.{Has}
 use Rattle.sctp_model.specs.messages.Format.{Format, Plain, Lane, is_numbered}
 use Rattle.sctp_model.specs.messages.Plan.{Message, Entry, Part, End, Plan, entry_at, message_at, IsOf, IsAssigned, IsComplete, IsClosed}
-use Rattle.sctp_model.specs.sender.SenderView.{IsGivenUp, IsAllGivenUp}
+use Rattle.sctp_model.specs.sender.SenderView.{IsOfAbandoned, IsAllAbandoned}
 use Rattle.sctp_model.specs.messages.Forward.{Skip, Forward, StandsIn}
 use Rattle.sctp_model.specs.receiver.ReceiverView.{Reaches}
 use Rattle.sctp_safety.specs.Way.{Way}
@@ -13,7 +13,7 @@ use Rattle.sctp_safety.proofs.Facts.{IsDone, IsLost, IsLostBy, IsSettled, MayPas
 use Rattle.sctp_safety.proofs.EntryLemmas.{one_entry, same_gone, given_up_at, slice_get-below, between_fragments}
 
 -- What a FORWARD that may be built says.
-module _ (w : Way) (x : Forward) (g : Good w) (gone : IsAllGivenUp w.sender w.sender.cum x.point)
+module _ (w : Way) (x : Forward) (g : Good w) (gone : IsAllAbandoned w.sender w.sender.cum x.point)
     (listed : (y : Skip) → Has x.skips y → (is_numbered w.format y.lane.kind ≡ true) × StandsIn w.sender.plan w.sender.cum x.point y.lane y.number)
     (each : (l : Lane) (n : ℕ) → is_numbered w.format l.kind ≡ true → StandsIn w.sender.plan w.sender.cum x.point l n →
     (y : Skip) × Has x.skips y × (y.lane ≡ l) × (n ≤ y.number)) where
@@ -36,7 +36,7 @@ module _ (w : Way) (x : Forward) (g : Good w) (gone : IsAllGivenUp w.sender w.se
       old (inl h) = inl h
       old (inr h) = inr (record { lane = h.lane; number = h.number; entry = h.entry; here = h.here; of = h.of; gone = h.gone; done = inl h.done })
 
-      new : w.sender.cum < i → IsGivenUp w.sender i → Claim
+      new : w.sender.cum < i → IsOfAbandoned w.sender i → Claim
       new above (k, n, e, here, of, dead) = inr (record {
         lane = k;
         number = n;
@@ -133,7 +133,7 @@ module _ (w : Way) (x : Forward) (g : Good w) (gone : IsAllGivenUp w.sender w.se
           pick (inl h) = h
           pick (inr h) = absurd (not_yet (g.between.cum j (omega arith)))
 
-      of_gone : IsGivenUp w.sender i → IsRetired w.sender w.receiver i
+      of_gone : IsOfAbandoned w.sender i → IsRetired w.sender w.receiver i
       of_gone (k, n, e, here, of, dead) = record { lane = k; number = n; entry = e; here = here; of = of; may = λ u. inl dead }
 
       of_lost : IsLost w.format w.sender w.receiver i → IsRetired w.sender w.receiver i

@@ -9,7 +9,7 @@ use Rattle.sctp_model.specs.sender.SenderView.{Queued, SenderView}
 use Rattle.sctp_model.specs.sender.Words.{first_there, some_passes, count_up}
 use Rattle.sctp_model.specs.sender.Entries.{entry_message, is_of, is_in_part, is_wanted, is_unsettled, passes_at}
 use Rattle.sctp_model.specs.sender.Assigning.{with_entry}
-use Rattle.sctp_model.specs.sender.Abandoning.{has_ticket, name_at, name_of, waits, without, given_up, abandon_after, is_past, is_overdue, expire_one, unsettled_at, timed_out}
+use Rattle.sctp_model.specs.sender.Abandoning.{has_ticket, name_at, name_of, waits, without, with_abandoned, abandon_after, is_past, is_overdue, expire_one, unsettled_at, timed_out}
 use Rattle.sctp_model.specs.sender.Abandoning.{Name as Named}
 use Rattle.sctp_model.proofs.sender.WordLaws.{some_is, found_is}
 use Rattle.sctp_model.proofs.sender.AbandonCases.{after_abandon}
@@ -51,7 +51,7 @@ part_still : (p : Plan) (l : Lane) (n i : ℕ) → HasPart p i → HasPart (with
 part_still p l n i (b, o, c, here) = (b, o, c, item_at-left p.entries (End l n ∷ []) i (Part b o c) here)
 
 -- A message that the user may give up: abandoned; its marks end; and its end mark takes an index where it is in part.
-pub given_up_moved : (w : Way) (n : Named) (m : Message) → Good w → IsInOrder w → message_at w.sender.plan n.lane n.number ≡ Some m → IsAskedFor w.asked m → IsMoved w (with_sender w (given_up w.sender n))
+pub given_up_moved : (w : Way) (n : Named) (m : Message) → Good w → IsInOrder w → message_at w.sender.plan n.lane n.number ≡ Some m → IsAskedFor w.asked m → IsMoved w (with_sender w (with_abandoned w.sender n))
 given_up_moved w n m g order named asked = by_part (is_in_part w.sender n.lane n.number) refl
   where
     lost : Lane → ℕ → Bool
@@ -122,10 +122,10 @@ name_bears v t n is = by_found (find (λ e. has_ticket t (entry_message v.plan e
         subst (Bears v.plan t) same (record { message = has.0; named = has.1; ticket = eqb-true has.0.ticket t has.2 })
 
 -- the user may give up whatever message has this ticket
-abbrev MayGiveUp : Way → ℕ → Type 0
-MayGiveUp w t = (l : Lane) (n : ℕ) (m : Message) → message_at w.sender.plan l n ≡ Some m → m.ticket ≡ t → IsAskedFor w.asked m
+abbrev MayAbandon : Way → ℕ → Type 0
+MayAbandon w t = (l : Lane) (n : ℕ) (m : Message) → message_at w.sender.plan l n ≡ Some m → m.ticket ≡ t → IsAskedFor w.asked m
 
-abandon_moved : (w : Way) (t : ℕ) → Good w → IsInOrder w → MayGiveUp w t → IsMoved w (with_sender w (abandon_after w.sender t))
+abandon_moved : (w : Way) (t : ℕ) → Good w → IsInOrder w → MayAbandon w t → IsMoved w (with_sender w (abandon_after w.sender t))
 abandon_moved w t g order may = after_abandon (λ (v : SenderView). IsMoved w (with_sender w v)) w.sender t (nothing_moved w order) (λ waiting. withdrawn_moved w t order waiting)
     (λ n is kept. let b = name_bears w.sender t n is in given_up_moved w n b.message g order b.named (may n.lane n.number b.message b.named b.ticket))
 
@@ -143,7 +143,7 @@ abandon_is_moves w t usual =
       constants = constants_same w.sender;
     }
 
-    may : MayGiveUp asked t
+    may : MayAbandon asked t
     may l n m named ticket = inl (subst (λ (k : ℕ). at w.asked.named t true k ≡ true) (sym ticket) (at_same w.asked.named t true))
 
 -- ---- what is past its time
@@ -153,7 +153,7 @@ past_is : (now : ℕ) (m : Message) → is_past now m ≡ true → (u : ℕ) × 
 past_is now m past = let until = some_is _ m.until past in (until.0, until.1, leb-true until.0 now until.2)
 
 -- A message with a number whose ticket is due is past its time: no message that waits has its ticket, and no other one in the plan.
-due_may : (w : Way) (now t : ℕ) → Good w → now ≤ w.asked.clock → is_overdue w.sender now t ≡ true → MayGiveUp w t
+due_may : (w : Way) (now t : ℕ) → Good w → now ≤ w.asked.clock → is_overdue w.sender now t ≡ true → MayAbandon w t
 due_may w now t g clock due l n m named ticket = by_wait (find (λ q. q.message.ticket == t) w.sender.queue) refl (name_of w.sender t) refl due
   where
     by_message : (k : Named) (o : Option Message) → message_at w.sender.plan k.lane k.number ≡ o → Bears w.sender.plan t k → some_passes (is_past now) (first_there (o ∷ [])) ≡ true → IsAskedFor w.asked m

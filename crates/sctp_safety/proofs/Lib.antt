@@ -43,7 +43,7 @@ mod SenderCalls
 mod NewlyAbandoned
 mod NameFacts
 mod ToldLemmas
-mod GivenUpLemmas
+mod AbandonedLemmas
 mod EndedLemmas
 mod ExpiredLemmas
 mod WorldWay

@@ -5,7 +5,7 @@ use Rattle.std.proofs.lemmas.Bool.{cases_lt, cases_eq}
 use Rattle.sctp_model.specs.messages.Format.{Format}
 use Rattle.sctp_model.specs.sender.SenderView.{SenderView}
 use Rattle.sctp_model.specs.sender.Words.{some_passes}
-use Rattle.sctp_model.specs.sender.Abandoning.{Name, name_of, is_abandoned, given_up, abandon_after}
+use Rattle.sctp_model.specs.sender.Abandoning.{Name, name_of, is_abandoned, with_abandoned, abandon_after}
 use Rattle.sctp_model.specs.sender.Readers.{abandoned}
 use Rattle.sctp_model.specs.sender.Reached.{IsReached}
 use Rattle.sctp_model.specs.world.World.{if_newly_abandoned, newly_abandoned}
@@ -29,10 +29,10 @@ stays v u x same = ap (λ (b : Bool). if b && not (abandoned v x) then x ∷ [] 
 other_stays : (f : Format) (v : SenderView) (t x : ℕ) → IsReached f v → (t ≡ x → ⊥) → abandoned (abandon_after v t) x ≡ abandoned v x
 other_stays f v t x h ne = after_abandon (λ (u : SenderView). abandoned u x ≡ abandoned v x) v t refl (λ on. refl) (λ n is kept. given n is)
   where
-    given : (n : Name) → name_of v t ≡ Some n → abandoned (given_up v n) x ≡ abandoned v x
-    given n is = ap (some_passes (is_abandoned (given_up v n))) (names_given f v t n h is x) ∙ by_name (name_of v x) refl
+    given : (n : Name) → name_of v t ≡ Some n → abandoned (with_abandoned v n) x ≡ abandoned v x
+    given n is = ap (some_passes (is_abandoned (with_abandoned v n))) (names_given f v t n h is x) ∙ by_name (name_of v x) refl
       where
-        by_name : (o : Option Name) → name_of v x ≡ o → some_passes (is_abandoned (given_up v n)) o ≡ some_passes (is_abandoned v) o
+        by_name : (o : Option Name) → name_of v x ≡ o → some_passes (is_abandoned (with_abandoned v n)) o ≡ some_passes (is_abandoned v) o
         by_name None also = refl
         by_name (Some m) also = others_given f v t x n m h is also ne
 

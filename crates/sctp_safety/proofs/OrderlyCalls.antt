@@ -9,11 +9,11 @@ use Rattle.sctp_model.specs.messages.Orderly.{Orderly}
 use Rattle.sctp_model.specs.sender.SenderView.{SenderView, fresh_sender}
 use Rattle.sctp_model.specs.receiver.ReceiverView.{fresh_receiver}
 use Rattle.sctp_model.specs.world.Calls.{Call}
-use Rattle.sctp_model.specs.sender.Entries.{is_given_up, is_wanted, is_unsettled}
+use Rattle.sctp_model.specs.sender.Entries.{is_of_abandoned, is_wanted, is_unsettled}
 use Rattle.sctp_model.specs.sender.Queueing.{refusal, queued}
 use Rattle.sctp_model.specs.sender.Filling.{Wish, next_wish, with_sent, gone}
 use Rattle.sctp_model.specs.sender.SackTaken.{covered_by}
-use Rattle.sctp_model.specs.sender.Abandoning.{name_of, waits, without, given_up, timed_out, unsettled_at}
+use Rattle.sctp_model.specs.sender.Abandoning.{name_of, waits, without, with_abandoned, timed_out, unsettled_at}
 use Rattle.sctp_model.specs.sender.Abandoning.{Name as Named}
 use Rattle.sctp_model.specs.sender.Reached.{IsReached, Begins, Queues, Goes, Covers, Closes, Abandons, Repeats}
 use Rattle.sctp_model.proofs.sender.WordLaws.{some_is}
@@ -121,8 +121,8 @@ goes_on f v w h next = by_way w (wished_ways f v w next)
 
 -- ---- abandoning
 
-gives_up : (f : Format) (v : SenderView) (t : ℕ) (n : Named) → (h : IsShadowed f v) → name_of v t ≡ Some n → IsShadowed f (given_up v n)
-gives_up f v t n h is = record { base = asked; usual = usual_moved way (with_sender asked (shadow (given_up v n))) named led; format = h.format; streams = h.streams }
+becomes_abandoned : (f : Format) (v : SenderView) (t : ℕ) (n : Named) → (h : IsShadowed f v) → name_of v t ≡ Some n → IsShadowed f (with_abandoned v n)
+becomes_abandoned f v t n h is = record { base = asked; usual = usual_moved way (with_sender asked (shadow (with_abandoned v n))) named led; format = h.format; streams = h.streams }
   where
     before : Way
     before = with_sender h.base (shadow v)
@@ -143,7 +143,7 @@ gives_up f v t n h is = record { base = asked; usual = usual_moved way (with_sen
     b : Bears v.plan t n
     b = name_bears (shadow v) t n is
 
-    led : IsMoved way (with_sender way (given_up (shadow v) n))
+    led : IsMoved way (with_sender way (with_abandoned (shadow v) n))
     led = given_up_moved way n b.message (good_usual way named) named.order b.named (inl (subst (λ (k : ℕ). at h.base.asked.named t true k ≡ true) (sym b.ticket) (at_same h.base.asked.named t true)))
 
 withdraws : (f : Format) (v : SenderView) (t : ℕ) → (h : IsShadowed f v) → waits t v.queue ≡ true → IsShadowed f (record v { queue = without t v.queue })
@@ -174,7 +174,7 @@ times f v h = shadow_tuned f v v.sent (timed_out v).marked v.cum v.rwnd v.covere
     by_mark i false before on =
         let there = some_is (is_unsettled v i) (entry_at v.plan i) on in
         let wanted = (and_parts (v.sent i) (is_wanted v i there.0) there.2).1 in
-        let kept = (and_parts (not (v.covered i)) (not (is_given_up v there.0)) wanted).1 in
+        let kept = (and_parts (not (v.covered i)) (not (is_of_abandoned v there.0)) wanted).1 in
         wanted_part (with_sender h.base (shadow v)) (good_usual (with_sender h.base (shadow v)) h.usual) i there.0 there.1 kept
 
 covers : (f : Format) (v : SenderView) (c r : ℕ) (covered : ℕ → Bool) → IsShadowed f v → IsShadowed f (record (covered_by v c covered) { rwnd = r })
@@ -186,7 +186,7 @@ is_shadowed f _ (Queues v l p b u h free) = queues f v l p b u (is_set f v h).fr
 is_shadowed f _ (Goes v room w h next may) = goes_on f v w (is_shadowed f v h) next
 is_shadowed f _ (Covers v x h none) = covers f v _ _ _ (is_shadowed f v h)
 is_shadowed f _ (Closes v x h none) = covers f v _ v.rwnd _ (is_shadowed f v h)
-is_shadowed f _ (Abandons v t h) = let k = is_shadowed f v h in after_abandon (IsShadowed f) v t k (λ on. withdraws f v t k on) (λ n is kept. gives_up f v t n k is)
+is_shadowed f _ (Abandons v t h) = let k = is_shadowed f v h in after_abandon (IsShadowed f) v t k (λ on. withdraws f v t k on) (λ n is kept. becomes_abandoned f v t n k is)
 is_shadowed f _ (Repeats v h) = times f v (is_shadowed f v h)
 
 pub plan_stays_orderly : PlanStaysOrderly

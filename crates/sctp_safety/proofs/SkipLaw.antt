@@ -6,7 +6,7 @@ use Rattle.sctp_model.specs.messages.Format.{Format, Plain, Interleaved, Kind, O
 use Rattle.sctp_model.specs.messages.Plan.{Message, Entry, Part, End, entry_at, message_at, IsOf, IsAssigned, IsClosed}
 use Rattle.sctp_model.specs.messages.Orderly.{Orderly, IsTogether}
 use Rattle.sctp_model.specs.messages.Pieces.{Piece, IsFragment}
-use Rattle.sctp_model.specs.sender.SenderView.{SenderView, IsGivenUp, IsAllGivenUp}
+use Rattle.sctp_model.specs.sender.SenderView.{SenderView, IsOfAbandoned, IsAllAbandoned}
 use Rattle.sctp_model.specs.messages.Forward.{StandsIn}
 use Rattle.sctp_model.specs.receiver.Receiving.{IsWholeWith}
 use Rattle.sctp_model.specs.messages.FormatLaws.{IsTaken, IsUpTo, MakesGo, SkipLaw}
@@ -27,10 +27,10 @@ unnumbered_plain Interleaved Ordered e = absurd (cc)
 unnumbered_plain Interleaved Unordered e = absurd (cc)
 
 -- One message of a plan, with the hypotheses of the law.
-module _ (f : Format) (v : SenderView) (o : Orderly f v.plan) (c p : ℕ) (more : c < p) (gone : IsAllGivenUp v c p) (kept : List Piece)
+module _ (f : Format) (v : SenderView) (o : Orderly f v.plan) (c p : ℕ) (more : c < p) (gone : IsAllAbandoned v c p) (kept : List Piece)
     (upto : IsUpTo f v kept c) (l : Lane) (n : ℕ) (m : Message) (named : message_at v.plan l n ≡ Some m) where
   -- an index that belongs to an abandoned message, and to this one
-  this_gone : (i : ℕ) (e : Entry) → entry_at v.plan i ≡ Some e → IsOf l n e → IsGivenUp v i → v.abandoned l n ≡ true
+  this_gone : (i : ℕ) (e : Entry) → entry_at v.plan i ≡ Some e → IsOf l n e → IsOfAbandoned v i → v.abandoned l n ≡ true
   this_gone i e here of (k, q, d, there, is, dead) =
       let x : d ≡ e = cc in
       let s = of_one k l q n d is (subst (IsOf l n) (sym x) of) in
@@ -47,7 +47,7 @@ module _ (f : Format) (v : SenderView) (o : Orderly f v.plan) (c p : ℕ) (more 
       (i k : ℕ) → i ≤ p → entry_at v.plan i ≡ Some (Part l n k) → IsHere k ⊎ (v.abandoned l n ≡ true)
   up_to_point x q has mine i k le here = split (cases_lt c i)
     where
-      old : IsTaken f v.plan kept i ⊎ IsGivenUp v i → IsHere k ⊎ (v.abandoned l n ≡ true)
+      old : IsTaken f v.plan kept i ⊎ IsOfAbandoned v i → IsHere k ⊎ (v.abandoned l n ≡ true)
       old (inr h) = inr (this_gone i (Part l n k) here (refl, refl) h)
       old (inl h) = state h.state
         where
@@ -104,7 +104,7 @@ module _ (f : Format) (v : SenderView) (o : Orderly f v.plan) (c p : ℕ) (more 
           low : j < i
           low = before j (End l n) there (refl, refl)
 
-          old : IsTaken f v.plan kept j ⊎ IsGivenUp v j → v.abandoned l n ≡ true
+          old : IsTaken f v.plan kept j ⊎ IsOfAbandoned v j → v.abandoned l n ≡ true
           old (inr h) = this_gone j (End l n) there (refl, refl) h
           old (inl h) =
               let a = h.fragment.here in
@@ -165,11 +165,11 @@ module _ (f : Format) (v : SenderView) (o : Orderly f v.plan) (c p : ℕ) (more 
 
   -- where every fragment is kept, the kept chunk is among all chunks of its whole message
   whole_or_gone : (x : Piece) (q : ℕ) → Has kept x → entry_at v.plan x.index ≡ Some (Part l n q) → IsAllHere →
-      ((xs : List Piece) × IsWholeWith f kept x xs) ⊎ IsGivenUp v x.index
+      ((xs : List Piece) × IsWholeWith f kept x xs) ⊎ IsOfAbandoned v x.index
   whole_or_gone x q has mine all = go (each_or (length m.fragments) all)
     where
       go : ((k : ℕ) → k < length m.fragments → IsHere k) ⊎ (v.abandoned l n ≡ true) →
-          ((xs : List Piece) × IsWholeWith f kept x xs) ⊎ IsGivenUp v x.index
+          ((xs : List Piece) × IsWholeWith f kept x xs) ⊎ IsOfAbandoned v x.index
       go (inl each) =
           let g = one_when_kept f v.plan (framed_by_orderly f v.plan o) l n m named (some_fragment f v.plan o l n m named) kept upto.chunks each in
           inl (g.head ∷ g.rest, (g.whole, g.within, g.all x q has mine))
@@ -185,7 +185,7 @@ skip_law f v c p x kept o more gone forward upto y has goes = go goes
     l = y.lane
 
     Claim : Type 0
-    Claim = ((xs : List Piece) × IsWholeWith f kept y xs) ⊎ IsGivenUp v y.index
+    Claim = ((xs : List Piece) × IsWholeWith f kept y xs) ⊎ IsOfAbandoned v y.index
 
     done : IsAllHere f v o c p more gone kept upto l h.number h.message h.named → Claim
     done = whole_or_gone f v o c p more gone kept upto l h.number h.message h.named y h.fragment has h.here

@@ -23,5 +23,5 @@ pub mod OpeningWorlds
 pub mod Handshake
 pub mod TwoAnswers
 pub mod ClosingRun
-pub mod GivesUp
+pub mod TimesOut
 pub mod StrayRows

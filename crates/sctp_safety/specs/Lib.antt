@@ -7,7 +7,7 @@ pub mod Answered
 pub mod SenderLaws
 pub mod SenderCalls
 pub mod Told
-pub mod GivenUp
+pub mod Abandoned
 pub mod ReceiverLaws
 pub mod RestLaws
 pub mod Strangers

@@ -6,7 +6,7 @@ use Rattle.sctp_model.specs.messages.Format.{Format, Plain, Ordered, Unordered, 
 use Rattle.sctp_model.specs.messages.Plan.{Message, bytes_of, Part, End, Plan, entry_at, message_at, IsAssigned, HasEnd, IsClosed, parts_from}
 use Rattle.sctp_model.specs.messages.Pieces.{Piece, piece_of}
 use Rattle.sctp_model.specs.messages.Whole.{IsWhole}
-use Rattle.sctp_model.specs.sender.SenderView.{Queued, SenderView, IsAllGivenUp}
+use Rattle.sctp_model.specs.sender.SenderView.{Queued, SenderView, IsAllAbandoned}
 use Rattle.sctp_model.specs.messages.Forward.{Skip, Forward, StandsIn, skipped}
 use Rattle.sctp_model.specs.receiver.ReceiverView.{Handed, ReceiverView, Reaches}
 use Rattle.sctp_model.specs.messages.Acknowledgement.{Acknowledgement, covers}
@@ -154,7 +154,7 @@ Step w (Put_piece i) v =
     × (v ≡ record w { pieces = piece_of w.format i l n k m ∷ w.pieces })
 -- A FORWARD passes abandoned messages alone, and lists of each numbered lane some number at or past all that it passes there.
 Step w (Put_forward x) v =
-    IsAllGivenUp w.sender w.sender.cum x.point
+    IsAllAbandoned w.sender w.sender.cum x.point
     × ((y : Skip) → Has x.skips y → (is_numbered w.format y.lane.kind ≡ true) × StandsIn w.sender.plan w.sender.cum x.point y.lane y.number)
     × ((l : Lane) (n : ℕ) → is_numbered w.format l.kind ≡ true → StandsIn w.sender.plan w.sender.cum x.point l n →
     (y : Skip) × Has x.skips y × (y.lane ≡ l) × (n ≤ y.number))

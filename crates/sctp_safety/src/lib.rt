@@ -33,7 +33,7 @@ pub use sender::{
     plan_stays_orderly,
 };
 pub use told::{
-    a_message_is_given_up_by_its_ticket, a_message_is_told_by_its_ticket, nothing_is_left_to_expire,
+    a_message_is_abandoned_by_its_ticket, a_message_is_told_by_its_ticket, nothing_is_left_to_expire,
 };
 pub use two_ends::{
     a_beginning_meets_the_premises, a_run_passes_its_worlds, each_world_on_the_way_is_safe,

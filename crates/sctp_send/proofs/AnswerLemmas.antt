@@ -71,7 +71,7 @@ fate_read f s v t x y k some le read is =
 -- what has no number, and doesn't wait, stays as it is
 nothing_done : (v : SenderView) (t : ℕ) → waits t v.queue ≡ false → name_of v t ≡ None → abandon_after v t ≡ v
 nothing_done v t off is =
-    ap (λ (o : Option Name). option_map_or (gone.give_up v) o (record v { queue = gone.without t v.queue })) is ∙ ap (λ (qs : List Queued). record v { queue = qs }) (without_none t v.queue off)
+    ap (λ (o : Option Name). option_map_or (gone.abandon_named v) o (record v { queue = gone.without t v.queue })) is ∙ ap (λ (qs : List Queued). record v { queue = qs }) (without_none t v.queue off)
 
 with_false : (b : Bool) → (b && false) ≡ false
 with_false true = refl
@@ -123,7 +123,7 @@ answered_by f s v t k low high = by_wait (waits t v.queue) refl
     by_kept n off is false kept = tt
     by_kept n off is true on = record {
       answer = rw (is, on) refl;
-      after = ap (λ (o : Option Name). option_map_or (gone.give_up v) o (record v { queue = gone.without t v.queue })) is ∙ ap (λ (b : Bool). if b then gone.given_up v n else v) (ap (λ (b : Bool). v.partial && (not b && not (is_covered v n))) on ∙ with_false v.partial);
+      after = ap (λ (o : Option Name). option_map_or (gone.abandon_named v) o (record v { queue = gone.without t v.queue })) is ∙ ap (λ (b : Bool). if b then gone.with_abandoned v n else v) (ap (λ (b : Bool). v.partial && (not b && not (is_covered v n))) on ∙ with_false v.partial);
     }
 
     by_name : waits t v.queue ≡ false → (o : Option Name) → name_of v t ≡ o → AnsweredBy v t (fate_named v o)

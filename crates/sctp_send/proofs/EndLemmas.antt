@@ -7,7 +7,7 @@ use Rattle.sctp_model.specs.messages.Plan.{Message, Entry, Part, End, Plan, mess
 use Rattle.sctp_model.specs.sender.Assigning.{with_entry}
 use Rattle.sctp_model.specs.sender.SenderView.{SenderView}
 use Rattle.sctp_model.specs.sender.Entries.{entry_message, is_of, is_in_part, passes_at, continued, one_if_some}
-use Rattle.sctp_model.specs.sender.Abandoning.{Name, is_covered, given_up, abandon_after}
+use Rattle.sctp_model.specs.sender.Abandoning.{Name, is_covered, with_abandoned, abandon_after}
 use Rattle.sctp_model.specs.sender.Reached.{IsReached, Abandons}
 use Rattle.sctp_model.proofs.sender.Bounds.{is_bounded}
 use Rattle.sctp_model.proofs.sender.CountLaws.{is_named}
@@ -31,7 +31,7 @@ items_joined : (v : SenderView) (i : ℕ) (es ds : List Entry) → items_from v 
 items_joined v i [] ds = let same : i + 0 ≡ i = omega arith in rw same refl
 items_joined v i (e ∷ es) ds = let same : suc i + length es ≡ i + suc (length es) = omega arith in rw (← same) (ap (λ (xs : List Item). item_here v i e ∷ xs) (items_joined v (suc i) es ds))
 
-given_items : (f : Format) (s : Kept) (v : SenderView) (t : ℕ) (n : Name) → Keeps f s v → IsKept v t n → map (given_item t) s.items ≡ items_from (given_up v n) (suc v.cum) (drop v.cum v.plan.entries)
+given_items : (f : Format) (s : Kept) (v : SenderView) (t : ℕ) (n : Name) → Keeps f s v → IsKept v t n → map (given_item t) s.items ≡ items_from (with_abandoned v n) (suc v.cum) (drop v.cum v.plan.entries)
 given_items f s v t n k m =
     let own = all_own_drop v.plan v.tickets v.cum v.plan.entries v.plan.entries (is_ticketed f v k.reached).owned in
     ap (map (given_item t)) k.holds.items
@@ -40,7 +40,7 @@ given_items f s v t n k m =
 -- ---- given up: what streams go on with
 
 -- the plan names the same messages
-rest_same : (v : SenderView) (n : Name) (o : Option Entry) → rest_here (given_up v n).plan o ≡ rest_here v.plan o
+rest_same : (v : SenderView) (n : Name) (o : Option Entry) → rest_here (with_abandoned v n).plan o ≡ rest_here v.plan o
 rest_same v n None = refl
 rest_same v n (Some e) = ap (λ (m : Option Message). Some (record { entry = e; message = m })) (same_entry_message v n e)
 
@@ -48,15 +48,15 @@ rest_same v n (Some e) = ap (λ (m : Option Message). Some (record { entry = e; 
 abbrev track_with : SenderView → ℕ → (Lane → List Message) → Option Rest → Track
 track_with v j ms r = record { ordered = length (ms (ordered_lane j)); unordered = length (ms (unordered_lane j)); rest = r }
 
-tracked : (v : SenderView) (n : Name) (j : ℕ) (o : Option Entry) → continued (given_up v n).plan j ≡ o → track_here (given_up v n) j ≡ track_with v j v.plan.messages (rest_here v.plan o)
+tracked : (v : SenderView) (n : Name) (j : ℕ) (o : Option Entry) → continued (with_abandoned v n).plan j ≡ o → track_here (with_abandoned v n) j ≡ track_with v j v.plan.messages (rest_here v.plan o)
 tracked v n j o is =
-    ap (λ (ms : Lane → List Message). track_with v j ms (rest_here (given_up v n).plan (continued (given_up v n).plan j))) (same_messages v n)
-    ∙ ap (track_with v j v.plan.messages) (ap (rest_here (given_up v n).plan) is ∙ rest_same v n o)
+    ap (λ (ms : Lane → List Message). track_with v j ms (rest_here (with_abandoned v n).plan (continued (with_abandoned v n).plan j))) (same_messages v n)
+    ∙ ap (track_with v j v.plan.messages) (ap (rest_here (with_abandoned v n).plan) is ∙ rest_same v n o)
 
-track_same : (v : SenderView) (n : Name) (j : ℕ) → continued (given_up v n).plan j ≡ continued v.plan j → track_here (given_up v n) j ≡ track_here v j
+track_same : (v : SenderView) (n : Name) (j : ℕ) → continued (with_abandoned v n).plan j ≡ continued v.plan j → track_here (with_abandoned v n) j ≡ track_here v j
 track_same v n j same = tracked v n j (continued v.plan j) same
 
-closed_track : (v : SenderView) (n : Name) (j : ℕ) (x : Track) → x ≡ track_here v j → continued (given_up v n).plan j ≡ None → track_here (given_up v n) j ≡ record x { rest = None }
+closed_track : (v : SenderView) (n : Name) (j : ℕ) (x : Track) → x ≡ track_here v j → continued (with_abandoned v n).plan j ≡ None → track_here (with_abandoned v n) j ≡ record x { rest = None }
 closed_track v n j x is none = tracked v n j None none ∙ ap (λ (y : Track). record y { rest = None }) (sym is)
 
 some_same : {A : Type 0} {x y : A} → Some x ≡ Some y → x ≡ y
@@ -84,7 +84,7 @@ any_there t (y ∷ xs) (suc at) x is on = rw (any_there t xs at x is on) (or_tru
 pub keeps_given : (f : Format) (s : Kept) (v : SenderView) (t : ℕ) (n : Name) → Keeps f s v → IsKept v t n → is_covered v n ≡ false → v.partial ≡ true → any_rest t s.tracks ≡ false
     → Keeps f (record s { items = map (given_item t) s.items; fates = set s.fates (t - 1) GivenUp }) (abandon_after v t)
 keeps_given f s v t n k m off partial none =
-    let u = given_up v n in
+    let u = with_abandoned v n in
     let part : is_in_part v n.lane n.number ≡ false = sym (kept_goes_on f s v t n k m.named) ∙ none in
     let plan : u.plan ≡ v.plan = ap (λ (b : Bool). if b then with_entry v.plan (End n.lane n.number) else v.plan) part in
     let entries : u.plan.entries ≡ v.plan.entries = ap (λ (p : Plan). p.entries) plan in
@@ -114,7 +114,7 @@ keeps_given f s v t n k m off partial none =
     })
 
 -- its end mark
-end_here : (f : Format) (v : SenderView) (t : ℕ) (n : Name) (i : ℕ) → IsReached f v → length v.plan.entries < i → item_here (given_up v n) i (End n.lane n.number)
+end_here : (f : Format) (v : SenderView) (t : ℕ) (n : Name) (i : ℕ) → IsReached f v → length v.plan.entries < i → item_here (with_abandoned v n) i (End n.lane n.number)
     ≡ record { entry = End n.lane n.number; message = message_at v.plan n.lane n.number; sent = false; marked = false; covered = false; given_up = true }
 end_here f v t n i h past =
     let b = is_bounded f v h in
@@ -131,7 +131,7 @@ end_here f v t n i h past =
 pub keeps_ended : (f : Format) (s : Kept) (v : SenderView) (t : ℕ) (n : Name) (r : Rest) (tracks : List Track) → Keeps f s v → IsKept v t n → is_covered v n ≡ false → v.partial ≡ true → EndsAt t r s.tracks tracks
     → (length s.items < s.capacity) × Keeps f (record s { items = map (given_item t) s.items ++ end_item r ∷ []; fates = set s.fates (t - 1) GivenUp; tracks = tracks }) (abandon_after v t)
 keeps_ended f s v t n r tracks k m off partial ends =
-    let u = given_up v n in
+    let u = with_abandoned v n in
     let read : slice_get (table (track_here v) 0 v.streams) ends.at ≡ Some ends.track = rw k.holds.tracks at ends.there in
     let place = get-table (track_here v) 0 v.streams ends.at ends.track read in
     let track : ends.track ≡ track_here v ends.at = let same : 0 + ends.at ≡ ends.at = omega arith in place.1 ∙ ap (track_here v) same in

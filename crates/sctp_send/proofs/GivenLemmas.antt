@@ -9,9 +9,9 @@ use Rattle.sctp_model.specs.messages.Plan.{Message, Entry, End, Plan, entry_at}
 use Rattle.sctp_model.specs.sender.Words.{when, first_there, some_passes}
 use Rattle.sctp_model.specs.sender.Assigning.{with_entry}
 use Rattle.sctp_model.specs.sender.SenderView.{SenderView}
-use Rattle.sctp_model.specs.sender.Entries.{entry_lane, entry_number, entry_message, is_of, is_in_part, is_given_up}
+use Rattle.sctp_model.specs.sender.Entries.{entry_lane, entry_number, entry_message, is_of, is_in_part, is_of_abandoned}
 use Rattle.sctp_model.specs.sender.Abandoning as gone
-use Rattle.sctp_model.specs.sender.Abandoning.{Name, waits, without, name_of, has_ticket, is_covered, is_abandoned, ended, given_up, give_up, abandon_answer, abandon_after}
+use Rattle.sctp_model.specs.sender.Abandoning.{Name, waits, without, name_of, has_ticket, is_covered, is_abandoned, ended, with_abandoned, abandon_named, abandon_answer, abandon_after}
 use Rattle.sctp_model.specs.sender.Reached.{IsReached}
 use Rattle.sctp_model.proofs.sender.OwnLaws.{Owns, AllOwn, found_owns}
 use Rattle.sctp_model.proofs.sender.TicketLaws.{is_ticketed}
@@ -49,12 +49,12 @@ same_messages v n = by_part (is_in_part v n.lane n.number)
     by_part true = refl
     by_part false = refl
 
-pub same_entry_message : (v : SenderView) (n : Name) (e : Entry) → entry_message (given_up v n).plan e ≡ entry_message v.plan e
+pub same_entry_message : (v : SenderView) (n : Name) (e : Entry) → entry_message (with_abandoned v n).plan e ≡ entry_message v.plan e
 same_entry_message v n e = ap (λ (ms : Lane → List Message). slice_get (ms (entry_lane e)) (entry_number e)) (same_messages v n)
 
 -- one entry, by whether it is of the message
 given_one : (f : Format) (v : SenderView) (t : ℕ) (n : Name) (i : ℕ) (e : Entry) → name_of v t ≡ Some n → AllOwn v.plan v.tickets v.plan.entries v.plan.entries
-    → Owns v.plan v.tickets v.plan.entries (entry_lane e) (entry_number e) → entry_at v.plan i ≡ Some e → given_item t (item_here v i e) ≡ item_here (given_up v n) i e
+    → Owns v.plan v.tickets v.plan.entries (entry_lane e) (entry_number e) → entry_at v.plan i ≡ Some e → given_item t (item_here v i e) ≡ item_here (with_abandoned v n) i e
 given_one f v t n i e is all own here = by_name (is_of n.lane n.number e) refl
   where
     has : has_ticket t (entry_message v.plan e) ≡ is_of n.lane n.number e
@@ -66,7 +66,7 @@ given_one f v t n i e is all own here = by_name (is_of n.lane n.number e) refl
     alike : (m k : Option Message) (a b c d : Bool) → m ≡ k → a ≡ b → c ≡ d → item m a c ≡ item k b d
     alike m k a b c d x y z = ap (λ (h : Option Message). item h a c) x ∙ ap (λ (h : Bool). item k h c) y ∙ ap (item k b) z
 
-    mark : (b : Bool) → is_of n.lane n.number e ≡ b → (given_up v n).marked i ≡ (v.marked i && not b)
+    mark : (b : Bool) → is_of n.lane n.number e ≡ b → (with_abandoned v n).marked i ≡ (v.marked i && not b)
     mark b name = ap (λ (o : Option Entry). v.marked i && not (some_passes (λ d. is_of n.lane n.number d) o)) here ∙ ap (λ (x : Bool). v.marked i && not x) name
 
     and_true : (b : Bool) → (b && true) ≡ b
@@ -77,17 +77,17 @@ given_one f v t n i e is all own here = by_name (is_of n.lane n.number e) refl
     and_false true = refl
     and_false false = refl
 
-    by_name : (b : Bool) → is_of n.lane n.number e ≡ b → given_item t (item_here v i e) ≡ item_here (given_up v n) i e
+    by_name : (b : Bool) → is_of n.lane n.number e ≡ b → given_item t (item_here v i e) ≡ item_here (with_abandoned v n) i e
     by_name true name =
         let tests = and_parts (same_lane n.lane (entry_lane e)) (n.number == entry_number e) name in
         let lane = lanes_same n.lane (entry_lane e) tests.0 in
         let number : n.number ≡ entry_number e = let on = tests.1 in grind (arith, nat_tests) in
-        let is_given : is_given_up (given_up v n) e ≡ true = ap (λ (l : Lane). (given_up v n).abandoned l (entry_number e)) (sym lane) ∙ ap ((given_up v n).abandoned n.lane) (sym number) ∙ given_itself v n in
+        let is_given : is_of_abandoned (with_abandoned v n) e ≡ true = ap (λ (l : Lane). (with_abandoned v n).abandoned l (entry_number e)) (sym lane) ∙ ap ((with_abandoned v n).abandoned n.lane) (sym number) ∙ given_itself v n in
         ap (λ (b : Bool). if b then item (entry_message v.plan e) false true else item_here v i e) (has ∙ name)
         ∙ alike _ _ _ _ _ _ (sym (same_entry_message v n e)) (sym (mark true name ∙ and_false (v.marked i))) (sym is_given)
     by_name false name =
         let apart : (entry_lane e ≡ n.lane) × (entry_number e ≡ n.number) → ⊥ = λ same. clash same.0 same.1 name in
-        let is_given : is_given_up (given_up v n) e ≡ is_given_up v e = given_other v n (entry_lane e) (entry_number e) apart in
+        let is_given : is_of_abandoned (with_abandoned v n) e ≡ is_of_abandoned v e = given_other v n (entry_lane e) (entry_number e) apart in
         ap (λ (b : Bool). if b then item (entry_message v.plan e) false true else item_here v i e) (has ∙ name)
         ∙ alike _ _ _ _ _ _ (sym (same_entry_message v n e)) (sym (mark false name ∙ and_true (v.marked i))) (sym is_given)
       where
@@ -98,13 +98,13 @@ given_one f v t n i e is all own here = by_name (is_of n.lane n.number e) refl
             cc
 
 pub given-items_from : (f : Format) (v : SenderView) (t : ℕ) (n : Name) (i : ℕ) (es : List Entry) → IsReached f v → name_of v t ≡ Some n → AllOwn v.plan v.tickets v.plan.entries es
-    → ((j : ℕ) → j < length es → entry_at v.plan (i + j) ≡ slice_get es j) → map (given_item t) (items_from v i es) ≡ items_from (given_up v n) i es
+    → ((j : ℕ) → j < length es → entry_at v.plan (i + j) ≡ slice_get es j) → map (given_item t) (items_from v i es) ≡ items_from (with_abandoned v n) i es
 given-items_from f v t n i [] h is own there = refl
 given-items_from f v t n i (e ∷ es) h is own there =
     let zeroed : i + 0 ≡ i = omega arith in
     let here : entry_at v.plan i ≡ Some e = rw zeroed at (there 0 (omega arith)) in
     let rest = given-items_from f v t n (suc i) es h is own.1 (λ j lt. let next : suc i + j ≡ i + suc j = omega arith in rw next (there (suc j) (omega arith))) in
-    ap (λ (x : Item). x ∷ map (given_item t) (items_from v (suc i) es)) (given_one f v t n i e is (is_ticketed f v h).owned own.0 here) ∙ ap (λ (xs : List Item). item_here (given_up v n) i e ∷ xs) rest
+    ap (λ (x : Item). x ∷ map (given_item t) (items_from v (suc i) es)) (given_one f v t n i e is (is_ticketed f v h).owned own.0 here) ∙ ap (λ (xs : List Item). item_here (with_abandoned v n) i e ∷ xs) rest
 
 -- a message with a number waits no more
 not_waiting : (f : Format) (v : SenderView) (t : ℕ) (n : Name) → IsReached f v → name_of v t ≡ Some n → waits t v.queue ≡ false
@@ -115,24 +115,24 @@ not_waiting f v t n h is = by_test (waits t v.queue) refl
     by_test true on = let none = ((is_ticketed f v h).waiting t on).2 in absurd (cc)
 
 -- its fate, and that of the others
-given_fate : (f : Format) (v : SenderView) (t : ℕ) (n : Name) → IsReached f v → name_of v t ≡ Some n → fate_here (given_up v n) t ≡ GivenUp
+given_fate : (f : Format) (v : SenderView) (t : ℕ) (n : Name) → IsReached f v → name_of v t ≡ Some n → fate_here (with_abandoned v n) t ≡ GivenUp
 given_fate f v t n h is =
-    ap (λ (b : Bool). if b then Waiting else fate_named (given_up v n) (name_of (given_up v n) t)) (not_waiting f v t n h is)
-    ∙ ap (fate_named (given_up v n)) (names_given f v t n h is t ∙ is) ∙ ap (λ (b : Bool). if b then GivenUp else Numbered) (given_itself v n)
+    ap (λ (b : Bool). if b then Waiting else fate_named (with_abandoned v n) (name_of (with_abandoned v n) t)) (not_waiting f v t n h is)
+    ∙ ap (fate_named (with_abandoned v n)) (names_given f v t n h is t ∙ is) ∙ ap (λ (b : Bool). if b then GivenUp else Numbered) (given_itself v n)
 
-other_fate : (f : Format) (v : SenderView) (t x : ℕ) (n : Name) → IsReached f v → name_of v t ≡ Some n → (t ≡ x → ⊥) → fate_here (given_up v n) x ≡ fate_here v x
-other_fate f v t x n h is ne = ap (λ (o : Fate). if waits x v.queue then Waiting else o) (ap (fate_named (given_up v n)) (names_given f v t n h is x) ∙ by_name (name_of v x) refl)
+other_fate : (f : Format) (v : SenderView) (t x : ℕ) (n : Name) → IsReached f v → name_of v t ≡ Some n → (t ≡ x → ⊥) → fate_here (with_abandoned v n) x ≡ fate_here v x
+other_fate f v t x n h is ne = ap (λ (o : Fate). if waits x v.queue then Waiting else o) (ap (fate_named (with_abandoned v n)) (names_given f v t n h is x) ∙ by_name (name_of v x) refl)
   where
-    by_name : (o : Option Name) → name_of v x ≡ o → fate_named (given_up v n) o ≡ fate_named v o
+    by_name : (o : Option Name) → name_of v x ≡ o → fate_named (with_abandoned v n) o ≡ fate_named v o
     by_name None also = refl
     by_name (Some m) also = ap (λ (b : Bool). if b then GivenUp else Numbered) (others_given f v t x n m h is also ne)
 
-pub given_fates : (f : Format) (s : Kept) (v : SenderView) (t : ℕ) (n : Name) → Keeps f s v → name_of v t ≡ Some n → 0 < t → t ≤ v.tickets → set s.fates (t - 1) GivenUp ≡ table (fate_here (given_up v n)) 1 v.tickets
+pub given_fates : (f : Format) (s : Kept) (v : SenderView) (t : ℕ) (n : Name) → Keeps f s v → name_of v t ≡ Some n → 0 < t → t ≤ v.tickets → set s.fates (t - 1) GivenUp ≡ table (fate_here (with_abandoned v n)) 1 v.tickets
 given_fates f s v t n k is low high =
     let back : 1 + (t - 1) ≡ t = omega arith in
-    let self : fate_here (given_up v n) (1 + (t - 1)) ≡ GivenUp = rw back (given_fate f v t n k.reached is) in
-    let others : (j : ℕ) → 1 ≤ j → j < 1 + v.tickets → (j ≡ 1 + (t - 1) → ⊥) → fate_here (given_up v n) j ≡ fate_here v j = λ j lo hi ne. other_fate f v t j n k.reached is (λ e. ne (omega arith)) in
-    rw (k.holds.fates, table-set (fate_here v) (fate_here (given_up v n)) 1 v.tickets (t - 1) (omega arith) others, self) refl
+    let self : fate_here (with_abandoned v n) (1 + (t - 1)) ≡ GivenUp = rw back (given_fate f v t n k.reached is) in
+    let others : (j : ℕ) → 1 ≤ j → j < 1 + v.tickets → (j ≡ 1 + (t - 1) → ⊥) → fate_here (with_abandoned v n) j ≡ fate_here v j = λ j lo hi ne. other_fate f v t j n k.reached is (λ e. ne (omega arith)) in
+    rw (k.holds.fates, table-set (fate_here v) (fate_here (with_abandoned v n)) 1 v.tickets (t - 1) (omega arith) others, self) refl
 
 -- ---- entries, as clauses see them
 
@@ -194,9 +194,9 @@ pub kept_answer : (v : SenderView) (t : ℕ) (n : Name) → IsKept v t n
     → abandon_answer v t ≡ unwrap_or (first_there (when (is_covered v n) gone.Acknowledged ∷ when (not v.partial) gone.Reliable ∷ [])) gone.Abandoned
 kept_answer v t n k = rw (k.named, k.kept) refl
 
-kept_after : (v : SenderView) (t : ℕ) (n : Name) (b : Bool) → IsKept v t n → (v.partial && (not (is_abandoned v n) && not (is_covered v n))) ≡ b → abandon_after v t ≡ (if b then given_up v n else v)
+kept_after : (v : SenderView) (t : ℕ) (n : Name) (b : Bool) → IsKept v t n → (v.partial && (not (is_abandoned v n) && not (is_covered v n))) ≡ b → abandon_after v t ≡ (if b then with_abandoned v n else v)
 kept_after v t n b k is =
-    ap (λ (o : Option Name). option_map_or (give_up v) o (record v { queue = without t v.queue })) k.named ∙ ap (λ (c : Bool). if c then given_up v n else v) is
+    ap (λ (o : Option Name). option_map_or (abandon_named v) o (record v { queue = without t v.queue })) k.named ∙ ap (λ (c : Bool). if c then with_abandoned v n else v) is
 
 pub same_after : (v : SenderView) (t : ℕ) (n : Name) → IsKept v t n → is_covered v n ≡ true → abandon_after v t ≡ v
 same_after v t n k on = kept_after v t n false k (rw (k.kept, on) (by_partial v.partial))
@@ -208,5 +208,5 @@ same_after v t n k on = kept_after v t n false k (rw (k.kept, on) (by_partial v.
 pub reliable_after : (v : SenderView) (t : ℕ) (n : Name) → IsKept v t n → v.partial ≡ false → abandon_after v t ≡ v
 reliable_after v t n k fixed = kept_after v t n false k (rw fixed refl)
 
-pub given_after : (v : SenderView) (t : ℕ) (n : Name) → IsKept v t n → is_covered v n ≡ false → v.partial ≡ true → abandon_after v t ≡ given_up v n
+pub given_after : (v : SenderView) (t : ℕ) (n : Name) → IsKept v t n → is_covered v n ≡ false → v.partial ≡ true → abandon_after v t ≡ with_abandoned v n
 given_after v t n k off partial = kept_after v t n true k (rw (partial, k.kept, off) refl)

@@ -8,7 +8,7 @@ use Rattle.std.specs.declared.alloc.Global.{Global}
 use Rattle.sctp_model.specs.messages.Format.{Format}
 use Rattle.sctp_model.specs.sender.SenderView.{Queued, SenderView}
 use Rattle.std.specs.Option.{option_map_or}
-use Rattle.sctp_model.specs.sender.Abandoning.{Name, waits, without, name_of, give_up, abandon_after}
+use Rattle.sctp_model.specs.sender.Abandoning.{Name, waits, without, name_of, abandon_named, abandon_after}
 use Rattle.sctp_model.specs.sender.Reached.{Abandons}
 use Rattle.sctp_model.proofs.sender.TicketLaws.{is_ticketed}
 use Rattle.sctp_model.proofs.sender.QueueLaws.{without_other, without_self}
@@ -104,7 +104,7 @@ keeps_withdrawn f s v t k on =
     ap (λ (b : Bool). if b then Waiting else fate_named v (name_of v j)) (without_other t j v.queue (λ e. ne (omega arith))) in
     let fates : set s.fates (t - 1) Withdrawn ≡ table (fate_here u) 1 v.tickets = rw (k.holds.fates, table-set (fate_here v) (fate_here u) 1 v.tickets (t - 1) (omega arith) others, self) refl in
     let reached = Abandons v t k.reached in
-    let after : abandon_after v t ≡ u = ap (λ (o : Option Name). option_map_or (give_up v) o u) w.2 in
+    let after : abandon_after v t ≡ u = ap (λ (o : Option Name). option_map_or (abandon_named v) o u) w.2 in
     rw after (record {
       holds = record {
         initial = k.holds.initial;

@@ -3,7 +3,7 @@ use Rattle.std.specs.Prelude.{◌≡◌, ℕ, zero, suc, ◌+◌, ◌≤◌, if�
 use Rattle.sctp_model.specs.messages.Format.{Format, ordered_lane, unordered_lane}
 use Rattle.sctp_model.specs.messages.Plan.{Entry, Plan}
 use Rattle.sctp_model.specs.sender.SenderView.{SenderView}
-use Rattle.sctp_model.specs.sender.Entries.{entry_message, is_given_up, continued, in_part}
+use Rattle.sctp_model.specs.sender.Entries.{entry_message, is_of_abandoned, continued, in_part}
 use Rattle.sctp_model.specs.sender.Abandoning.{Name, name_of, waits, is_abandoned}
 use Rattle.sctp_model.specs.sender.Reached.{IsReached}
 use Rattle.sctp_send.specs.SenderKept.{Item, Rest, Track, Kept}
@@ -18,7 +18,7 @@ table f i (suc n) = f i ∷ table f (suc i) n
 
 -- what the view says of an entry at an index
 abbrev pub item_here : SenderView → ℕ → Entry → Item
-item_here v i e = record { entry = e; message = entry_message v.plan e; sent = v.sent i; marked = v.marked i; covered = v.covered i; given_up = is_given_up v e }
+item_here v i e = record { entry = e; message = entry_message v.plan e; sent = v.sent i; marked = v.marked i; covered = v.covered i; given_up = is_of_abandoned v e }
 
 -- the same of entries one behind the other, the first of them at this index
 abbrev pub items_from : SenderView → ℕ → List Entry → List Item

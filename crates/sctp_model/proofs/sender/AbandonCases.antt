@@ -9,7 +9,7 @@ use Rattle.sctp_model.specs.messages.Plan.{End, Plan}
 use Rattle.sctp_model.specs.sender.SenderView.{Queued, SenderView}
 use Rattle.sctp_model.specs.sender.Entries.{is_in_part}
 use Rattle.sctp_model.specs.sender.Assigning.{with_entry}
-use Rattle.sctp_model.specs.sender.Abandoning.{Name, name_of, waits, without, is_abandoned, is_covered, ended, given_up, give_up, abandon_after}
+use Rattle.sctp_model.specs.sender.Abandoning.{Name, name_of, waits, without, is_abandoned, is_covered, ended, with_abandoned, abandon_named, abandon_after}
 
 -- ---- lanes
 
@@ -60,10 +60,10 @@ may_be_given v n is =
 
 -- What is so of a view is so after a ticket is abandoned, where it is so after a withdrawal and after a message with a number is given up.
 pub after_abandon : (P : SenderView → Type 0) (v : SenderView) (t : ℕ) → P v → (waits t v.queue ≡ true → P (record v { queue = without t v.queue }))
-    → ((n : Name) → name_of v t ≡ Some n → is_abandoned v n ≡ false → P (given_up v n)) → P (abandon_after v t)
+    → ((n : Name) → name_of v t ≡ Some n → is_abandoned v n ≡ false → P (with_abandoned v n)) → P (abandon_after v t)
 after_abandon P v t same withdrawn given = by_name (name_of v t) refl
   where
-    by_rule : (n : Name) (b : Bool) → name_of v t ≡ Some n → (v.partial && (not (is_abandoned v n) && not (is_covered v n))) ≡ b → P (if b then given_up v n else v)
+    by_rule : (n : Name) (b : Bool) → name_of v t ≡ Some n → (v.partial && (not (is_abandoned v n) && not (is_covered v n))) ≡ b → P (if b then with_abandoned v n else v)
     by_rule n true is may = given n is (may_be_given v n may).1
     by_rule n false is may = same
 
@@ -71,7 +71,7 @@ after_abandon P v t same withdrawn given = by_name (name_of v t) refl
     by_wait true on = withdrawn on
     by_wait false off = subst (λ (qs : List Queued). P (record v { queue = qs })) (sym (without_none t v.queue off)) same
 
-    by_name : (o : Option Name) → name_of v t ≡ o → P (option_map_or (give_up v) o (record v { queue = without t v.queue }))
+    by_name : (o : Option Name) → name_of v t ≡ o → P (option_map_or (abandon_named v) o (record v { queue = without t v.queue }))
     by_name None is = by_wait (waits t v.queue) refl
     by_name (Some n) is = by_rule n (v.partial && (not (is_abandoned v n) && not (is_covered v n))) is refl
 
@@ -89,7 +89,7 @@ after_end P v n same more = by_part (is_in_part v n.lane n.number) refl
 -- ---- what is abandoned then
 
 -- it is the message given up, or was abandoned before
-pub given_or_before : (v : SenderView) (n : Name) (l : Lane) (k : ℕ) → (given_up v n).abandoned l k ≡ true → ((l ≡ n.lane) × (k ≡ n.number)) ⊎ (v.abandoned l k ≡ true)
+pub given_or_before : (v : SenderView) (n : Name) (l : Lane) (k : ℕ) → (with_abandoned v n).abandoned l k ≡ true → ((l ≡ n.lane) × (k ≡ n.number)) ⊎ (v.abandoned l k ≡ true)
 given_or_before v n l k on = by_lane (same_lane l n.lane) refl on
   where
     by_number : (b : Bool) → (k == n.number) ≡ b → l ≡ n.lane → (if b then true else v.abandoned n.lane k) ≡ true → ((l ≡ n.lane) × (k ≡ n.number)) ⊎ (v.abandoned l k ≡ true)
@@ -101,7 +101,7 @@ given_or_before v n l k on = by_lane (same_lane l n.lane) refl on
     by_lane false other here = inr here
 
 -- another message is abandoned where it was
-pub given_other : (v : SenderView) (n : Name) (l : Lane) (k : ℕ) → ((l ≡ n.lane) × (k ≡ n.number) → ⊥) → (given_up v n).abandoned l k ≡ v.abandoned l k
+pub given_other : (v : SenderView) (n : Name) (l : Lane) (k : ℕ) → ((l ≡ n.lane) × (k ≡ n.number) → ⊥) → (with_abandoned v n).abandoned l k ≡ v.abandoned l k
 given_other v n l k ne = by_lane (same_lane l n.lane) refl
   where
     by_number : (b : Bool) → (k == n.number) ≡ b → l ≡ n.lane → (if b then true else v.abandoned n.lane k) ≡ v.abandoned l k
@@ -113,7 +113,7 @@ given_other v n l k ne = by_lane (same_lane l n.lane) refl
     by_lane false other = refl
 
 -- the message itself is abandoned
-pub given_itself : (v : SenderView) (n : Name) → is_abandoned (given_up v n) n ≡ true
+pub given_itself : (v : SenderView) (n : Name) → is_abandoned (with_abandoned v n) n ≡ true
 given_itself v n =
     let number : (n.number == n.number) ≡ true = grind (arith, nat_tests) in
     rw (same_lane-self n.lane) (rw number refl)

@@ -8,7 +8,7 @@ use Rattle.sctp_model.specs.sender.SenderView.{Queued, SenderView}
 use Rattle.sctp_model.specs.sender.Words.{first_there, some_passes, count_up}
 use Rattle.sctp_model.specs.sender.Filling.{Wish, next_wish, gone}
 use Rattle.sctp_model.specs.sender.SackTaken.{sack_after, sack_fault, sack_taken, shutdown_after, shutdown_fault, shutdown_taken}
-use Rattle.sctp_model.specs.sender.Abandoning.{Name, waits, name_of, has_ticket, given_up, abandon_after, is_past, is_overdue, expire_one, expired, timed_out}
+use Rattle.sctp_model.specs.sender.Abandoning.{Name, waits, name_of, has_ticket, with_abandoned, abandon_after, is_past, is_overdue, expire_one, expired, timed_out}
 use Rattle.sctp_model.specs.sender.Reached.{IsReached, Abandons}
 use Rattle.sctp_model.proofs.sender.WishCases.{IsAssigned, Whole, Begun, Continued, after_wish}
 use Rattle.sctp_model.proofs.sender.AbandonCases.{after_abandon, after_end, given_or_before}
@@ -52,7 +52,7 @@ timer_abandons_none v = refl
 abbrev pub OnlyOf : SenderView → ℕ → SenderView → Type 0
 OnlyOf v t u = (l : Lane) (n : ℕ) → u.abandoned l n ≡ true → (v.abandoned l n ≡ true) ⊎ (has_ticket t (message_at v.plan l n) ≡ true)
 
-only_given : (f : Format) (v : SenderView) (t : ℕ) (n : Name) → IsReached f v → name_of v t ≡ Some n → OnlyOf v t (given_up v n)
+only_given : (f : Format) (v : SenderView) (t : ℕ) (n : Name) → IsReached f v → name_of v t ≡ Some n → OnlyOf v t (with_abandoned v n)
 only_given f v t n h is l k on =
     elim (given_or_before v n l k on) [
       | inl this ↦
@@ -113,7 +113,7 @@ due_is_past f v now t n h due is = by_wait (find (λ q. q.message.ticket == t) v
 abbrev pub OnlyPast : SenderView → ℕ → SenderView → Type 0
 OnlyPast v now u = (l : Lane) (n : ℕ) → u.abandoned l n ≡ true → (v.abandoned l n ≡ true) ⊎ IsPast v now l n
 
-past_given : (f : Format) (v : SenderView) (now t : ℕ) (n : Name) → IsReached f v → is_overdue v now t ≡ true → name_of v t ≡ Some n → OnlyPast v now (given_up v n)
+past_given : (f : Format) (v : SenderView) (now t : ℕ) (n : Name) → IsReached f v → is_overdue v now t ≡ true → name_of v t ≡ Some n → OnlyPast v now (with_abandoned v n)
 past_given f v now t n h due is l k on =
     elim (given_or_before v n l k on) [
       | inl this ↦ inr (subst (λ (y : ℕ). IsPast v now l y) (sym this.1) (subst (λ (y : Lane). IsPast v now y n.number) (sym this.0) (due_is_past f v now t n h due is)))

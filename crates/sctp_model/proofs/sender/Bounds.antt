@@ -11,7 +11,7 @@ use Rattle.sctp_model.specs.sender.Assigning.{is_on, without_first, stream_after
 use Rattle.sctp_model.specs.sender.Filling.{Wish, next_wish, gone, with_sent}
 use Rattle.sctp_model.specs.messages.Acknowledgement.{in_blocks}
 use Rattle.sctp_model.specs.sender.SackTaken.{is_stale, is_beyond, index_of, some_ends_past, sack_covers, covered_by, sack_fault, sack_taken, shutdown_fault, shutdown_taken, Stale, Beyond}
-use Rattle.sctp_model.specs.sender.Abandoning.{Name, without, ended, given_up, timed_out, unsettled_at}
+use Rattle.sctp_model.specs.sender.Abandoning.{Name, without, ended, with_abandoned, timed_out, unsettled_at}
 use Rattle.sctp_model.specs.sender.Reached.{IsReached, Begins, Queues, Goes, Covers, Closes, Abandons, Repeats}
 use Rattle.sctp_model.proofs.sender.WishCases.{IsAssigned, Whole, Begun, Continued, assigned_cases, wish_cases}
 use Rattle.sctp_model.proofs.sender.AbandonCases.{after_abandon, after_end}
@@ -212,7 +212,7 @@ bounded_shut v wire h inside =
 
 -- ---- a message is given up
 
-bounded_given : (v : SenderView) (n : Name) → IsBounded v → IsBounded (given_up v n)
+bounded_given : (v : SenderView) (n : Name) → IsBounded v → IsBounded (with_abandoned v n)
 bounded_given v n h =
     let long : length v.plan.entries ≤ length (ended v n).entries = after_end (λ (p : Plan). length v.plan.entries ≤ length p.entries) v n (λ off. omega arith) (λ on. omega (arith, length-append v.plan.entries (End n.lane n.number ∷ []))) in
     record {

@@ -6,7 +6,7 @@ use Rattle.sctp_model.specs.messages.Plan.{Message, Entry, End, Plan, parts_from
 use Rattle.sctp_model.specs.sender.SenderView.{Queued, SenderView}
 use Rattle.sctp_model.specs.sender.Entries.{entry_message}
 use Rattle.sctp_model.specs.sender.Assigning.{with_message, with_entry, first_on}
-use Rattle.sctp_model.specs.sender.Abandoning.{Name, name_at, name_among, has_ticket, ended, given_up}
+use Rattle.sctp_model.specs.sender.Abandoning.{Name, name_at, name_among, has_ticket, ended, with_abandoned}
 use Rattle.sctp_model.specs.sender.Reached.{IsReached, Begins, Queues, Goes, Covers, Closes, Abandons, Repeats}
 use Rattle.sctp_model.proofs.sender.WishCases.{IsAssigned, Whole, Begun, Continued, after_wish}
 use Rattle.sctp_model.proofs.sender.AbandonCases.{same_lane-self, lanes_same, after_abandon, after_end, given_or_before}
@@ -95,7 +95,7 @@ knows_assigned _ v _ h (Whole q rest is) = knows_new v q (length q.message.fragm
 knows_assigned _ v _ h (Begun s q lt on first) = knows_new v q 1 h
 knows_assigned _ v _ h (Continued s e lt on) = h
 
-knows_given : (v : SenderView) (n : Name) → KnowsAbandoned v → n.number < length (v.plan.messages n.lane) → KnowsAbandoned (given_up v n)
+knows_given : (v : SenderView) (n : Name) → KnowsAbandoned v → n.number < length (v.plan.messages n.lane) → KnowsAbandoned (with_abandoned v n)
 knows_given v n h low l k on =
     let same : (ended v n).messages ≡ v.plan.messages = after_end (λ (p : Plan). p.messages ≡ v.plan.messages) v n (λ off. refl) (λ end. refl) in
     subst (λ (ms : Lane → List Message). k < length (ms l)) (sym same)

@@ -5,7 +5,7 @@ use Rattle.sctp_model.specs.numbers.Lists.{Has}
 use Rattle.sctp_model.specs.messages.Format.{Format, Lane, same_lane}
 use Rattle.sctp_model.specs.messages.Plan.{Entry, End, Plan, entry_at}
 use Rattle.sctp_model.specs.sender.SenderView.{SenderView}
-use Rattle.sctp_model.specs.sender.Abandoning.{Name, given_up}
+use Rattle.sctp_model.specs.sender.Abandoning.{Name, with_abandoned}
 use Rattle.sctp_model.specs.sender.Reached.{IsReached, Begins, Queues, Goes, Covers, Closes, Abandons, Repeats}
 use Rattle.sctp_model.proofs.sender.WishCases.{IsAssigned, Whole, Begun, Continued, after_wish}
 use Rattle.sctp_model.proofs.sender.AbandonCases.{lanes_same, after_abandon, after_end, given_itself}
@@ -18,7 +18,7 @@ abbrev pub AreEndsGiven : SenderView → Type 0
 AreEndsGiven v = (l : Lane) (n : ℕ) → Has v.plan.entries (End l n) → v.abandoned l n ≡ true
 
 -- what was abandoned stays so
-pub given_stays : (v : SenderView) (n : Name) (l : Lane) (k : ℕ) → v.abandoned l k ≡ true → (given_up v n).abandoned l k ≡ true
+pub given_stays : (v : SenderView) (n : Name) (l : Lane) (k : ℕ) → v.abandoned l k ≡ true → (with_abandoned v n).abandoned l k ≡ true
 given_stays v n l k on = by_lane (same_lane l n.lane) refl
   where
     by_number : (b : Bool) → l ≡ n.lane → (if b then true else v.abandoned n.lane k) ≡ true
@@ -44,17 +44,17 @@ ends_assigned f v u named h a = by_case f u a (put_behind f v u named a)
     by_case _ _ (Begun s q lt on first) p = old _ p
     by_case _ _ (Continued s e lt on) p = old _ p
 
-ends_given : (v : SenderView) (n : Name) → AreEndsGiven v → AreEndsGiven (given_up v n)
-ends_given v n h l k = after_end (λ (p : Plan). Has p.entries (End l k) → (given_up v n).abandoned l k ≡ true) v n (λ off has. given_stays v n l k (h l k has)) (λ on has. more has)
+ends_given : (v : SenderView) (n : Name) → AreEndsGiven v → AreEndsGiven (with_abandoned v n)
+ends_given v n h l k = after_end (λ (p : Plan). Has p.entries (End l k) → (with_abandoned v n).abandoned l k ≡ true) v n (λ off has. given_stays v n l k (h l k has)) (λ on has. more has)
   where
-    its_own : Has (End n.lane n.number ∷ []) (End l k) → (given_up v n).abandoned l k ≡ true
+    its_own : Has (End n.lane n.number ∷ []) (End l k) → (with_abandoned v n).abandoned l k ≡ true
     its_own (inl same) =
         let lane : n.lane ≡ l = cc in
         let number : n.number ≡ k = cc in
-        subst (λ (j : ℕ). (given_up v n).abandoned l j ≡ true) number (subst (λ (b : Lane). (given_up v n).abandoned b n.number ≡ true) lane (given_itself v n))
+        subst (λ (j : ℕ). (with_abandoned v n).abandoned l j ≡ true) number (subst (λ (b : Lane). (with_abandoned v n).abandoned b n.number ≡ true) lane (given_itself v n))
     its_own (inr never) = absurd never
 
-    more : Has (v.plan.entries ++ End n.lane n.number ∷ []) (End l k) → (given_up v n).abandoned l k ≡ true
+    more : Has (v.plan.entries ++ End n.lane n.number ∷ []) (End l k) → (with_abandoned v n).abandoned l k ≡ true
     more has =
         elim (has_either v.plan.entries (End n.lane n.number ∷ []) (End l k) has) [
           | inl before ↦ given_stays v n l k (h l k before)

@@ -7,7 +7,7 @@ use Rattle.sctp_model.specs.messages.Format.{Format, Lane}
 use Rattle.sctp_model.specs.messages.Plan.{Message, End, Plan, message_at}
 use Rattle.sctp_model.specs.sender.SenderView.{SenderView}
 use Rattle.sctp_model.specs.sender.Assigning.{with_entry}
-use Rattle.sctp_model.specs.sender.Abandoning.{Name, name_at, name_of, name_among, has_ticket, given_up, is_abandoned}
+use Rattle.sctp_model.specs.sender.Abandoning.{Name, name_at, name_of, name_among, has_ticket, with_abandoned, is_abandoned}
 use Rattle.sctp_model.specs.sender.Reached.{IsReached}
 use Rattle.sctp_model.proofs.sender.AbandonCases.{after_end, given_other}
 use Rattle.sctp_model.proofs.sender.OwnLaws.{name_among-append, name_among-same, found_owns}
@@ -20,7 +20,7 @@ or_none None = refl
 or_none (Some m) = refl
 
 -- tickets name what they named
-pub names_given : (f : Format) (v : SenderView) (t : ℕ) (n : Name) → IsReached f v → name_of v t ≡ Some n → (x : ℕ) → name_of (given_up v n) x ≡ name_of v x
+pub names_given : (f : Format) (v : SenderView) (t : ℕ) (n : Name) → IsReached f v → name_of v t ≡ Some n → (x : ℕ) → name_of (with_abandoned v n) x ≡ name_of v x
 names_given f v t n h is x =
     after_end (λ (p : Plan). name_among p x p.entries ≡ name_of v x) v n (λ off. refl)
     (λ on. name_among-same v.plan p2 x (v.plan.entries ++ End n.lane n.number ∷ []) (λ e. refl) ∙ name_among-append v.plan x v.plan.entries (End n.lane n.number ∷ [])
@@ -42,7 +42,7 @@ one_ticket None t x on also = absurd (cc)
 one_ticket (Some m) t x on also = let one : m.ticket ≡ t = grind (arith, nat_tests) in let two : m.ticket ≡ x = grind (arith, nat_tests) in sym one ∙ two
 
 -- other tickets' messages are abandoned where they were
-pub others_given : (f : Format) (v : SenderView) (t x : ℕ) (n m : Name) → IsReached f v → name_of v t ≡ Some n → name_of v x ≡ Some m → (t ≡ x → ⊥) → is_abandoned (given_up v n) m ≡ is_abandoned v m
+pub others_given : (f : Format) (v : SenderView) (t x : ℕ) (n m : Name) → IsReached f v → name_of v t ≡ Some n → name_of v x ≡ Some m → (t ≡ x → ⊥) → is_abandoned (with_abandoned v n) m ≡ is_abandoned v m
 others_given f v t x n m h is also ne = given_other v n m.lane m.number apart
   where
     apart : (m.lane ≡ n.lane) × (m.number ≡ n.number) → ⊥

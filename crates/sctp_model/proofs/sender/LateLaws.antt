@@ -10,8 +10,8 @@ use Rattle.sctp_model.specs.messages.Format.{Format}
 use Rattle.sctp_model.specs.messages.Plan.{Message, Entry, Part, message_at}
 use Rattle.sctp_model.specs.sender.SenderView.{Queued, SenderView}
 use Rattle.sctp_model.specs.sender.Words.{some_passes, count_up}
-use Rattle.sctp_model.specs.sender.Entries.{entry_lane, entry_number, entry_message, is_of, any_from, is_given_up, is_in_part, continued}
-use Rattle.sctp_model.specs.sender.Abandoning.{Name, name_at, name_of, waits, without, has_ticket, is_abandoned, has_uncovered, is_covered, given_up, may_give_up, give_up, abandon_after, may_abandon, is_past, is_overdue, expire_one, is_to_expire, has_late, expired}
+use Rattle.sctp_model.specs.sender.Entries.{entry_lane, entry_number, entry_message, is_of, any_from, is_of_abandoned, is_in_part, continued}
+use Rattle.sctp_model.specs.sender.Abandoning.{Name, name_at, name_of, waits, without, has_ticket, is_abandoned, has_uncovered, is_covered, with_abandoned, may_abandon_named, abandon_named, abandon_after, may_abandon, is_past, is_overdue, expire_one, is_to_expire, has_late, expired}
 use Rattle.sctp_model.specs.sender.Reached.{IsReached}
 use Rattle.sctp_model.proofs.sender.AbandonCases.{same_lane-self, without_none}
 use Rattle.sctp_model.proofs.sender.AbandonedLaws.{due_is_past}
@@ -31,9 +31,9 @@ use Rattle.sctp_model.proofs.sender.TicketLaws.{is_ticketed}
 pub expires_none : (v : SenderView) (now t : ℕ) → is_to_expire v now t ≡ false → expire_one now v t ≡ v
 expires_none v now t off = by_due (is_overdue v now t) off
   where
-    by_name : (o : Option Name) → option_map_or (may_give_up v) o (waits t v.queue) ≡ false → option_map_or (give_up v) o (record v { queue = without t v.queue }) ≡ v
+    by_name : (o : Option Name) → option_map_or (may_abandon_named v) o (waits t v.queue) ≡ false → option_map_or (abandon_named v) o (record v { queue = without t v.queue }) ≡ v
     by_name None none = ap (λ (qs : List Queued). record v { queue = qs }) (without_none t v.queue none)
-    by_name (Some n) none = ap (λ (b : Bool). if b then given_up v n else v) none
+    by_name (Some n) none = ap (λ (b : Bool). if b then with_abandoned v n else v) none
 
     by_due : (b : Bool) → (b && may_abandon v t) ≡ false → (if b then abandon_after v t else v) ≡ v
     by_due true none = by_name (name_of v t) none
@@ -53,7 +53,7 @@ nothing_expires v now off = none_expires v now (count_up 1 v.tickets) off
 
 -- the message of an entry, unless the entry is covered or given up
 abbrev pub shown_message : SenderView → (index : ℕ) → Entry → Option Message
-shown_message v i e = if v.covered i || is_given_up v e then None else entry_message v.plan e
+shown_message v i e = if v.covered i || is_of_abandoned v e then None else entry_message v.plan e
 
 -- an entry of the ticket's message isn't covered
 abbrev pub uncovered_from : SenderView → (ticket : ℕ) → ℕ → List Entry → Bool
@@ -79,14 +79,14 @@ pub late_waiting : (f : Format) (v : SenderView) (now t : ℕ) → IsReached f v
 late_waiting f v now t h late =
     let here = waits_late now t v.queue late in
     let unnamed = ((is_ticketed f v h).waiting t here).2 in
-    and_from (is_overdue v now t) (may_abandon v t) (due_waits f v now t h late) (ap (λ (o : Option Name). option_map_or (may_give_up v) o (waits t v.queue)) unnamed ∙ here)
+    and_from (is_overdue v now t) (may_abandon v t) (due_waits f v now t h late) (ap (λ (o : Option Name). option_map_or (may_abandon_named v) o (waits t v.queue)) unnamed ∙ here)
 
 -- where it has a number
 late_named : (f : Format) (v : SenderView) (now t : ℕ) (n : Name) → IsReached f v → v.partial ≡ true → name_of v t ≡ Some n → some_passes (is_past now) (message_at v.plan n.lane n.number) ≡ true
     → is_abandoned v n ≡ false → is_covered v n ≡ false → is_to_expire v now t ≡ true
 late_named f v now t n h partial is past kept missing =
     and_from (is_overdue v now t) (may_abandon v t) (due_named f v now t n h is past)
-    (ap (λ (o : Option Name). option_map_or (may_give_up v) o (waits t v.queue)) is ∙ all_three v.partial (is_abandoned v n) (is_covered v n) partial kept missing)
+    (ap (λ (o : Option Name). option_map_or (may_abandon_named v) o (waits t v.queue)) is ∙ all_three v.partial (is_abandoned v n) (is_covered v n) partial kept missing)
   where
     all_three : (a b c : Bool) → a ≡ true → b ≡ false → c ≡ false → (a && (not b && not c)) ≡ true
     all_three a b c x y z = rw (x, y, z) refl
@@ -101,12 +101,12 @@ record IsShown (v : SenderView) (now t i : ℕ) (es : List Entry) : Type 0 where
 
 shown_is : (v : SenderView) (now t i : ℕ) (es : List Entry) → AllOwn v.plan v.tickets v.plan.entries es → shown_from v now t i es ≡ true → IsShown v now t i es
 shown_is v now t i [] own on = absurd (cc)
-shown_is v now t i (e ∷ es) own on = by_covered (v.covered i) (is_given_up v e) refl refl on (λ there. later (shown_is v now t (suc i) es own.1 there))
+shown_is v now t i (e ∷ es) own on = by_covered (v.covered i) (is_of_abandoned v e) refl refl on (λ there. later (shown_is v now t (suc i) es own.1 there))
   where
     later : IsShown v now t (suc i) es → IsShown v now t i (e ∷ es)
     later x = record { name = x.name; named = x.named; past = x.past; kept = x.kept; uncovered = or_right (has_ticket t (entry_message v.plan e) && not (v.covered i)) (uncovered_from v t (suc i) es) x.uncovered }
 
-    here : v.covered i ≡ false → is_given_up v e ≡ false → is_late now t (entry_message v.plan e) ≡ true → IsShown v now t i (e ∷ es)
+    here : v.covered i ≡ false → is_of_abandoned v e ≡ false → is_late now t (entry_message v.plan e) ≡ true → IsShown v now t i (e ∷ es)
     here uncovered kept late =
         let has = late_has now t (entry_message v.plan e) late in
         let bare : not (v.covered i) ≡ true = rw uncovered refl in
@@ -118,12 +118,12 @@ shown_is v now t i (e ∷ es) own on = by_covered (v.covered i) (is_given_up v e
           uncovered = or_left (has_ticket t (entry_message v.plan e) && not (v.covered i)) (uncovered_from v t (suc i) es) (and_from (has_ticket t (entry_message v.plan e)) (not (v.covered i)) has bare);
         }
 
-    by_late : (b : Bool) → is_late now t (entry_message v.plan e) ≡ b → v.covered i ≡ false → is_given_up v e ≡ false → (b || shown_from v now t (suc i) es) ≡ true
+    by_late : (b : Bool) → is_late now t (entry_message v.plan e) ≡ b → v.covered i ≡ false → is_of_abandoned v e ≡ false → (b || shown_from v now t (suc i) es) ≡ true
         → (shown_from v now t (suc i) es ≡ true → IsShown v now t i (e ∷ es)) → IsShown v now t i (e ∷ es)
     by_late true late uncovered kept there further = here uncovered kept late
     by_late false late uncovered kept there further = further there
 
-    by_covered : (c g : Bool) → v.covered i ≡ c → is_given_up v e ≡ g → (is_late now t (if c || g then None else entry_message v.plan e) || shown_from v now t (suc i) es) ≡ true
+    by_covered : (c g : Bool) → v.covered i ≡ c → is_of_abandoned v e ≡ g → (is_late now t (if c || g then None else entry_message v.plan e) || shown_from v now t (suc i) es) ≡ true
         → (shown_from v now t (suc i) es ≡ true → IsShown v now t i (e ∷ es)) → IsShown v now t i (e ∷ es)
     by_covered true g covered given there further = further there
     by_covered false true covered given there further = further there
@@ -170,20 +170,20 @@ none_uncovered v now t i n [] own is past kept off = refl
 none_uncovered v now t i n (e ∷ es) own is past kept off =
     by_ticket (has_ticket t (entry_message v.plan e)) refl (v.covered i) off (λ rest. none_uncovered v now t (suc i) n es own.1 is past kept rest)
   where
-    shown : has_ticket t (entry_message v.plan e) ≡ true → is_late now t (if is_given_up v e then None else entry_message v.plan e) ≡ true
+    shown : has_ticket t (entry_message v.plan e) ≡ true → is_late now t (if is_of_abandoned v e then None else entry_message v.plan e) ≡ true
     shown has =
         let mine = (own.0 t has).2 in
         let same : n ≡ name_at e = let both : Some n ≡ Some (name_at e) = sym is ∙ mine in cc in
-        let given : is_given_up v e ≡ false = subst (λ (y : Name). is_abandoned v y ≡ false) same kept in
+        let given : is_of_abandoned v e ≡ false = subst (λ (y : Name). is_abandoned v y ≡ false) same kept in
         let over = subst (λ (y : Name). some_passes (is_past now) (message_at v.plan y.lane y.number) ≡ true) same past in
         ap (λ (b : Bool). is_late now t (if b then None else entry_message v.plan e)) given ∙ late_is now t (entry_message v.plan e) has over
 
-    by_ticket : (b : Bool) → has_ticket t (entry_message v.plan e) ≡ b → (c : Bool) → (is_late now t (if c || is_given_up v e then None else entry_message v.plan e) || shown_from v now t (suc i) es) ≡ false
+    by_ticket : (b : Bool) → has_ticket t (entry_message v.plan e) ≡ b → (c : Bool) → (is_late now t (if c || is_of_abandoned v e then None else entry_message v.plan e) || shown_from v now t (suc i) es) ≡ false
         → (shown_from v now t (suc i) es ≡ false → uncovered_from v t (suc i) es ≡ false) → ((b && not c) || uncovered_from v t (suc i) es) ≡ false
-    by_ticket false has c here further = further (or_parts (is_late now t (if c || is_given_up v e then None else entry_message v.plan e)) (shown_from v now t (suc i) es) here).1
+    by_ticket false has c here further = further (or_parts (is_late now t (if c || is_of_abandoned v e then None else entry_message v.plan e)) (shown_from v now t (suc i) es) here).1
     by_ticket true has true here further = further here
     by_ticket true has false here further =
-        let off = (or_parts (is_late now t (if is_given_up v e then None else entry_message v.plan e)) (shown_from v now t (suc i) es) here).0 in
+        let off = (or_parts (is_late now t (if is_of_abandoned v e then None else entry_message v.plan e)) (shown_from v now t (suc i) es) here).0 in
         let on = shown has in
         absurd (cc)
 
@@ -212,7 +212,7 @@ acknowledged_late f v now t n h quiet partial is past kept = rw (whole (is_in_pa
 pub never_late : (f : Format) (v : SenderView) (now t : ℕ) → IsReached f v → IsPassedOver v now t → is_to_expire v now t ≡ false
 never_late f v now t h over = by_due (is_overdue v now t) refl
   where
-    by_rule : (n : Name) (a b : Bool) → v.partial ≡ a → is_abandoned v n ≡ b → name_of v t ≡ Some n → is_overdue v now t ≡ true → may_give_up v n ≡ false
+    by_rule : (n : Name) (a b : Bool) → v.partial ≡ a → is_abandoned v n ≡ b → name_of v t ≡ Some n → is_overdue v now t ≡ true → may_abandon_named v n ≡ false
     by_rule n false b off given is due = ap (λ (a : Bool). a && (not (is_abandoned v n) && not (is_covered v n))) off
     by_rule n true true on given is due = ap (λ (b : Bool). v.partial && (not b && not (is_covered v n))) given ∙ and_right v.partial false refl
     by_rule n true false on kept is due =
@@ -222,7 +222,7 @@ never_late f v now t h over = by_due (is_overdue v now t) refl
         ap (λ (c : Bool). v.partial && (not (is_abandoned v n) && not c)) whole
         ∙ and_right v.partial (not (is_abandoned v n) && false) (and_right (not (is_abandoned v n)) false refl)
 
-    by_name : (o : Option Name) → name_of v t ≡ o → is_overdue v now t ≡ true → option_map_or (may_give_up v) o (waits t v.queue) ≡ false
+    by_name : (o : Option Name) → name_of v t ≡ o → is_overdue v now t ≡ true → option_map_or (may_abandon_named v) o (waits t v.queue) ≡ false
     by_name (Some n) is due = by_rule n v.partial (is_abandoned v n) refl refl is due
     by_name None is due = absurd (
         let found : some_passes (is_past now) (option_map (λ q. q.message) (find (λ q. q.message.ticket == t) v.queue)) ≡ true = first_alone now (option_map (λ q. q.message) (find (λ q. q.message.ticket == t) v.queue)) (rw is at due) in

@@ -8,10 +8,10 @@ use Rattle.sctp_model.specs.messages.Format.{Format, Lane}
 use Rattle.sctp_model.specs.messages.Plan.{Entry, End, Plan, entry_at, parts_from}
 use Rattle.sctp_model.specs.sender.SenderView.{SenderView}
 use Rattle.sctp_model.specs.sender.Words.{some_passes}
-use Rattle.sctp_model.specs.sender.Entries.{entry_lane, entry_number, is_of, is_given_up, is_wanted, is_unsettled, passes_at}
+use Rattle.sctp_model.specs.sender.Entries.{entry_lane, entry_number, is_of, is_of_abandoned, is_wanted, is_unsettled, passes_at}
 use Rattle.sctp_model.specs.sender.Filling.{with_sent}
 use Rattle.sctp_model.specs.sender.SackTaken.{covered_by}
-use Rattle.sctp_model.specs.sender.Abandoning.{Name, ended, given_up, timed_out, unsettled_at}
+use Rattle.sctp_model.specs.sender.Abandoning.{Name, ended, with_abandoned, timed_out, unsettled_at}
 use Rattle.sctp_model.specs.sender.Reached.{IsReached, Begins, Queues, Goes, Covers, Closes, Abandons, Repeats}
 use Rattle.sctp_model.proofs.sender.WordLaws.{some_is}
 use Rattle.sctp_model.proofs.sender.WishCases.{IsAssigned, Whole, Begun, Continued, after_wish}
@@ -57,7 +57,7 @@ put_behind _ v _ h (Continued s e lt on) = record { more = e ∷ []; entries = r
 
 pub record IsMarkedWell (v : SenderView) : Type 0 where
   pub sent : (i : ℕ) → v.marked i ≡ true → v.sent i ≡ true
-  pub kept : (i : ℕ) (e : Entry) → v.marked i ≡ true → entry_at v.plan i ≡ Some e → is_given_up v e ≡ false
+  pub kept : (i : ℕ) (e : Entry) → v.marked i ≡ true → entry_at v.plan i ≡ Some e → is_of_abandoned v e ≡ false
 
 -- what is marked has an index of the plan
 marked_within : (v : SenderView) (i : ℕ) → IsBounded v → v.marked i ≡ true → i ≤ length v.plan.entries
@@ -96,7 +96,7 @@ marked_covered v c r covered h = record {
   kept = λ i e on here. h.kept i e (and_parts (v.marked i) (not (covered i)) on).0 here;
 }
 
-marked_given : (v : SenderView) (n : Name) → IsBounded v → IsMarkedWell v → IsMarkedWell (given_up v n)
+marked_given : (v : SenderView) (n : Name) → IsBounded v → IsMarkedWell v → IsMarkedWell (with_abandoned v n)
 marked_given v n b h = record { sent = λ i on. h.sent i (still i on).0; kept = λ i e on here. kept i e (still i on) here }
   where
     mine : ℕ → Entry → Bool
@@ -112,7 +112,7 @@ marked_given v n b h = record { sent = λ i on. h.sent i (still i on).0; kept = 
     its_own : (e : Entry) → (entry_lane e ≡ n.lane) × (entry_number e ≡ n.number) → is_of n.lane n.number e ≡ true
     its_own e (lane, number) = let self : (n.number == n.number) ≡ true = grind (arith, nat_tests) in rw (lane, number, same_lane-self n.lane, self) refl
 
-    kept : (i : ℕ) (e : Entry) → (v.marked i ≡ true) × (not (passes_at v.plan mine i) ≡ true) → entry_at (ended v n) i ≡ Some e → is_given_up (given_up v n) e ≡ false
+    kept : (i : ℕ) (e : Entry) → (v.marked i ≡ true) × (not (passes_at v.plan mine i) ≡ true) → entry_at (ended v n) i ≡ Some e → is_of_abandoned (with_abandoned v n) e ≡ false
     kept i e (on, other) here =
         let there = before i e (marked_within v i b on) here in
         let off : not (is_of n.lane n.number e) ≡ true = subst (λ (o : Option Entry). not (some_passes (mine i) o) ≡ true) there other in
@@ -125,14 +125,14 @@ marked_timed v h = record { sent = λ i on. (by_mark i (v.marked i) refl on).0; 
     lost true is = absurd (cc)
     lost false is = refl
 
-    by_mark : (i : ℕ) (b : Bool) → v.marked i ≡ b → (b || unsettled_at v i (entry_at v.plan i)) ≡ true → (v.sent i ≡ true) × ((e : Entry) → entry_at v.plan i ≡ Some e → is_given_up v e ≡ false)
+    by_mark : (i : ℕ) (b : Bool) → v.marked i ≡ b → (b || unsettled_at v i (entry_at v.plan i)) ≡ true → (v.sent i ≡ true) × ((e : Entry) → entry_at v.plan i ≡ Some e → is_of_abandoned v e ≡ false)
     by_mark i true marked on = (h.sent i marked, λ e here. h.kept i e marked here)
     by_mark i false marked on =
         let there = some_is (is_unsettled v i) (entry_at v.plan i) on in
         let parts = and_parts (v.sent i) (is_wanted v i there.0) there.2 in
-        let wanted = and_parts (not (v.covered i)) (not (is_given_up v there.0)) parts.1 in
+        let wanted = and_parts (not (v.covered i)) (not (is_of_abandoned v there.0)) parts.1 in
         let found = there.1 in
-        (parts.0, λ e here. let same : there.0 ≡ e = cc in subst (λ (x : Entry). is_given_up v x ≡ false) same (lost (is_given_up v there.0) wanted.1))
+        (parts.0, λ e here. let same : there.0 ≡ e = cc in subst (λ (x : Entry). is_of_abandoned v x ≡ false) same (lost (is_of_abandoned v there.0) wanted.1))
 
 pub is_marked_well : (f : Format) (v : SenderView) → IsReached f v → IsMarkedWell v
 is_marked_well f _ (Begins i s b r p large) = record { sent = λ j on. absurd (cc); kept = λ j e on here. absurd (cc) }

@@ -11,7 +11,7 @@ use Rattle.sctp_model.specs.sender.Words.{when}
 use Rattle.sctp_model.specs.sender.Entries.{entry_lane, entry_fragment, fragments_in, is_in_part, next_part, continued, fragments_from, sum_below}
 use Rattle.sctp_model.specs.sender.Queueing.{owed_for, owed_by_queue, owed_by_parts, promised, cut}
 use Rattle.sctp_model.specs.sender.Assigning.{with_message, with_entry, is_on, first_on, without_first}
-use Rattle.sctp_model.specs.sender.Abandoning.{Name, given_up}
+use Rattle.sctp_model.specs.sender.Abandoning.{Name, with_abandoned}
 use Rattle.sctp_model.specs.sender.Reached.{IsReached, Begins, Queues, Goes, Covers, Closes, Abandons, Repeats}
 use Rattle.sctp_model.proofs.sender.WordLaws.{sum-changed, found_is}
 pub use Rattle.sctp_model.proofs.sender.WordLaws.{sum-zero}
@@ -128,7 +128,7 @@ counted d entries more waiting left parts now some a b c = omega arith
 abbrev HasPromised : SenderView → Plan → Type 0
 HasPromised v p = length p.entries + (owed_by_queue v.queue + sum_below (λ s. owed_at p s) v.streams) ≤ TSN_LIMIT
 
-promised_given : (v : SenderView) (n : Name) → HasMessages v → n.lane.stream < v.streams → IsPromised v → IsPromised (given_up v n)
+promised_given : (v : SenderView) (n : Name) → HasMessages v → n.lane.stream < v.streams → IsPromised v → IsPromised (with_abandoned v n)
 promised_given v n h lt k =
     after_end (HasPromised v) v n (λ off. k) (λ on. let less = fewer_owed v n h lt on in omega (arith, length-append v.plan.entries (End n.lane n.number ∷ []), less, k))
 

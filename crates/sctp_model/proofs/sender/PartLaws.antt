@@ -11,7 +11,7 @@ use Rattle.sctp_model.specs.sender.Entries.{fragments_in, is_of, is_in_part, con
 use Rattle.sctp_model.specs.sender.Assigning.{with_entry}
 use Rattle.sctp_model.specs.sender.Readers.{outstanding}
 use Rattle.sctp_model.specs.sender.Filling.{Wish, may_go, is_let_flow, room_of}
-use Rattle.sctp_model.specs.sender.Abandoning.{Name, given_up}
+use Rattle.sctp_model.specs.sender.Abandoning.{Name, with_abandoned}
 use Rattle.sctp_model.specs.sender.Reached.{IsReached, Begins, Queues, Goes, Covers, Closes, Abandons, Repeats}
 use Rattle.sctp_model.proofs.sender.WordLaws.{some_is, sum-zero, sum-changed}
 use Rattle.sctp_model.proofs.sender.AbandonCases.{lanes_same, after_abandon, after_end}
@@ -75,7 +75,7 @@ IsWindowed v = length v.plan.entries + in_part v ≤ WINDOW + v.cum
 abbrev HasWindow : SenderView → Plan → Type 0
 HasWindow v p = length p.entries + sum_below (λ s. one_if_some (continued p s)) v.streams ≤ WINDOW + v.cum
 
-windowed_given : (v : SenderView) (n : Name) → HasMessages v → n.lane.stream < v.streams → IsWindowed v → IsWindowed (given_up v n)
+windowed_given : (v : SenderView) (n : Name) → HasMessages v → n.lane.stream < v.streams → IsWindowed v → IsWindowed (with_abandoned v n)
 windowed_given v n h lt k =
     after_end (HasWindow v) v n (λ off. k) (λ on. let less = fewer_in_part v n h lt on in omega (arith, length-append v.plan.entries (End n.lane n.number ∷ []), less, k))
 

@@ -4,8 +4,8 @@ use Rattle.std.specs.Prelude.{if◌then◌else◌, slice_get, nat_le}
 use Rattle.std.proofs.lemmas.Bool.Decides.{nat_tests}
 use Rattle.sctp_model.specs.messages.Format.{Lane}
 use Rattle.sctp_model.specs.messages.Plan.{Entry, Part, End, entry_at, IsOf}
-use Rattle.sctp_model.specs.sender.SenderView.{SenderView, IsAllGivenUp, IsPoint}
-use Rattle.sctp_model.specs.sender.Entries.{entry_lane, entry_number, is_given_up}
+use Rattle.sctp_model.specs.sender.SenderView.{SenderView, IsAllAbandoned, IsPoint}
+use Rattle.sctp_model.specs.sender.Entries.{entry_lane, entry_number, is_of_abandoned}
 use Rattle.sctp_model.specs.sender.Readers.{given_up_run, point}
 
 -- ---- entries by their index
@@ -25,27 +25,27 @@ get-drop (suc c) (e ∷ es) j = let same : suc c + j ≡ suc (c + j) = omega ari
 
 -- ---- the run of abandoned entries
 
-run_within : (v : SenderView) (es : List Entry) (j : ℕ) → j < given_up_run v es → (e : Entry) × (slice_get es j ≡ Some e) × (is_given_up v e ≡ true)
+run_within : (v : SenderView) (es : List Entry) (j : ℕ) → j < given_up_run v es → (e : Entry) × (slice_get es j ≡ Some e) × (is_of_abandoned v e ≡ true)
 run_within v [] j lt = absurd (omega arith)
-run_within v (e ∷ es) j lt = by_test (is_given_up v e) refl lt (λ i low. run_within v es i low)
+run_within v (e ∷ es) j lt = by_test (is_of_abandoned v e) refl lt (λ i low. run_within v es i low)
   where
-    by_place : (k : ℕ) → is_given_up v e ≡ true → k < suc (given_up_run v es) → ((i : ℕ) → i < given_up_run v es → (d : Entry) × (slice_get es i ≡ Some d) × (is_given_up v d ≡ true))
-        → (d : Entry) × (slice_get (e ∷ es) k ≡ Some d) × (is_given_up v d ≡ true)
+    by_place : (k : ℕ) → is_of_abandoned v e ≡ true → k < suc (given_up_run v es) → ((i : ℕ) → i < given_up_run v es → (d : Entry) × (slice_get es i ≡ Some d) × (is_of_abandoned v d ≡ true))
+        → (d : Entry) × (slice_get (e ∷ es) k ≡ Some d) × (is_of_abandoned v d ≡ true)
     by_place zero on less further = (e, refl, on)
     by_place (suc k) on less further = further k (omega arith)
 
-    by_test : (b : Bool) → is_given_up v e ≡ b → j < (if b then suc (given_up_run v es) else 0) → ((i : ℕ) → i < given_up_run v es → (d : Entry) × (slice_get es i ≡ Some d) × (is_given_up v d ≡ true))
-        → (d : Entry) × (slice_get (e ∷ es) j ≡ Some d) × (is_given_up v d ≡ true)
+    by_test : (b : Bool) → is_of_abandoned v e ≡ b → j < (if b then suc (given_up_run v es) else 0) → ((i : ℕ) → i < given_up_run v es → (d : Entry) × (slice_get es i ≡ Some d) × (is_of_abandoned v d ≡ true))
+        → (d : Entry) × (slice_get (e ∷ es) j ≡ Some d) × (is_of_abandoned v d ≡ true)
     by_test false off less further = absurd (omega arith)
     by_test true on less further = by_place j on less further
 
-run_ends : (v : SenderView) (es : List Entry) (e : Entry) → slice_get es (given_up_run v es) ≡ Some e → is_given_up v e ≡ false
+run_ends : (v : SenderView) (es : List Entry) (e : Entry) → slice_get es (given_up_run v es) ≡ Some e → is_of_abandoned v e ≡ false
 run_ends v [] e is = absurd (cc)
-run_ends v (d ∷ es) e is = by_test (is_given_up v d) refl is (λ there. run_ends v es e there)
+run_ends v (d ∷ es) e is = by_test (is_of_abandoned v d) refl is (λ there. run_ends v es e there)
   where
-    by_test : (b : Bool) → is_given_up v d ≡ b → slice_get (d ∷ es) (if b then suc (given_up_run v es) else 0) ≡ Some e → (slice_get es (given_up_run v es) ≡ Some e → is_given_up v e ≡ false) → is_given_up v e ≡ false
+    by_test : (b : Bool) → is_of_abandoned v d ≡ b → slice_get (d ∷ es) (if b then suc (given_up_run v es) else 0) ≡ Some e → (slice_get es (given_up_run v es) ≡ Some e → is_of_abandoned v e ≡ false) → is_of_abandoned v e ≡ false
     by_test true on there further = further there
-    by_test false off there further = let same : d ≡ e = cc in subst (λ (x : Entry). is_given_up v x ≡ false) same off
+    by_test false off there further = let same : d ≡ e = cc in subst (λ (x : Entry). is_of_abandoned v x ≡ false) same off
 
 -- an index after CUM, as an offset from it
 at_offset : (v : SenderView) (j : ℕ) → entry_at v.plan (suc (v.cum + j)) ≡ slice_get (drop v.cum v.plan.entries) j
@@ -68,10 +68,10 @@ point_is_point v = record {
         let there : slice_get (drop v.cum v.plan.entries) (given_up_run v (drop v.cum v.plan.entries)) ≡ Some e = sym (at_offset v (given_up_run v (drop v.cum v.plan.entries))) ∙ here in
         let off = run_ends v (drop v.cum v.plan.entries) e there in
         let same = is_itself l n e of in
-        let also : is_given_up v e ≡ true = ap (λ (k : Lane). v.abandoned k (entry_number e)) same.0 ∙ ap (v.abandoned l) same.1 ∙ on in
+        let also : is_of_abandoned v e ≡ true = ap (λ (k : Lane). v.abandoned k (entry_number e)) same.0 ∙ ap (v.abandoned l) same.1 ∙ on in
         cc
 
-    by_order : (q : ℕ) → v.cum ≤ q → IsAllGivenUp v v.cum q → q ≤ point v
+    by_order : (q : ℕ) → v.cum ≤ q → IsAllAbandoned v v.cum q → q ≤ point v
     by_order q lo all = by_case (nat_le q (point v)) refl
       where
         by_case : (b : Bool) → nat_le q (point v) ≡ b → q ≤ point v

@@ -8,7 +8,7 @@ use Rattle.sctp_model.specs.messages.Plan.{Entry, Part, End, Plan, parts_from}
 use Rattle.sctp_model.specs.sender.SenderView.{Queued, SenderView}
 use Rattle.sctp_model.specs.sender.Entries.{entry_lane, entry_number, entry_message}
 use Rattle.sctp_model.specs.sender.Assigning.{with_message, with_entry, is_on, without_first}
-use Rattle.sctp_model.specs.sender.Abandoning.{Name, waits, without, name_of, name_among, has_ticket, given_up}
+use Rattle.sctp_model.specs.sender.Abandoning.{Name, waits, without, name_of, name_among, has_ticket, with_abandoned}
 use Rattle.sctp_model.specs.sender.Reached.{IsReached, Begins, Queues, Goes, Covers, Closes, Abandons, Repeats}
 use Rattle.sctp_model.proofs.sender.WishCases.{IsAssigned, Whole, Begun, Continued, after_wish}
 use Rattle.sctp_model.proofs.sender.AbandonCases.{after_abandon, after_end}
@@ -98,9 +98,9 @@ ticketed_assigned _ v _ full named h (Continued s e lt on) =
     let before = latest_owns v.plan v.tickets v.plan.entries s v.plan.entries (Part next.lane next.number next.fragment) h.owned next.before in
     ticketed_more v e v.abandoned v.marked _ named h (subst (λ (x : Entry). Owns v.plan v.tickets v.plan.entries (entry_lane x) (entry_number x)) (sym next.is) before)
 
-ticketed_given : (v : SenderView) (n : Name) → HasMessages v → IsTicketed v → Owns v.plan v.tickets v.plan.entries n.lane n.number → IsTicketed (given_up v n)
+ticketed_given : (v : SenderView) (n : Name) → HasMessages v → IsTicketed v → Owns v.plan v.tickets v.plan.entries n.lane n.number → IsTicketed (with_abandoned v n)
 ticketed_given v n named h own =
-    let u = given_up v n in
+    let u = with_abandoned v n in
     after_end (λ (p : Plan). IsTicketed (record u { plan = p })) v n (λ off. record { waiting = h.waiting; apart = h.apart; owned = h.owned })
     (λ on. ticketed_more v (End n.lane n.number) u.abandoned u.marked v.turn named h own)
 

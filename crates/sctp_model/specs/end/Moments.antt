@@ -11,8 +11,8 @@ use Rattle.sctp_model.specs.end.Closing.{with_due, rested}
 -- ---- giving up
 
 -- What giving up messages leaves: a FORWARD is due where the point moved, and the end is at rest again (RFC 3758, 3.5).
-abbrev pub after_giving_up : EndView → SenderView → EndView
-after_giving_up e v =
+abbrev pub after_abandoning : EndView → SenderView → EndView
+after_abandoning e v =
     rested (settled (record e { sender = v; due = record e.due { forward = e.due.forward || not (point v == point e.sender) } }))
 
 -- ---- timers
@@ -50,7 +50,7 @@ all_alarms = InitAlarm ∷ CookieAlarm ∷ DataAlarm ∷ ShutdownAlarm ∷ AckAl
 
 -- what a moment leaves at an end with an association
 abbrev pub passed : EndView → EndView
-passed e = rung_all all_alarms (after_giving_up e (expired e.sender e.moment))
+passed e = rung_all all_alarms (after_abandoning e (expired e.sender e.moment))
 
 -- An end without an association takes the moment, and nothing else.
 abbrev pub ticked : EndView → ℕ → EndView

@@ -11,7 +11,7 @@ use Rattle.sctp_model.specs.end.Clock.{turned, closed}
 use Rattle.sctp_model.specs.end.Closing.{with_due, rested, hears}
 use Rattle.sctp_model.specs.end.Reports.{item, USER_ABORT}
 use Rattle.sctp_model.specs.end.PeerFaults.{packet_to, abort_for}
-use Rattle.sctp_model.specs.end.Moments.{after_giving_up}
+use Rattle.sctp_model.specs.end.Moments.{after_abandoning}
 
 -- ---- connect: once, by a caller that hasn't called yet (11.1.2)
 
@@ -77,7 +77,7 @@ abandons e ticket = abandon_answer e.sender ticket
 -- a closed end sends nothing more, so nothing is due there
 abbrev pub abandoned_at : EndView → ℕ → EndView
 abandoned_at e ticket =
-    if is_open e.phase then after_giving_up e (abandon_after e.sender ticket) else record e { sender = abandon_after e.sender ticket }
+    if is_open e.phase then after_abandoning e (abandon_after e.sender ticket) else record e { sender = abandon_after e.sender ticket }
 
 -- ---- take (11.1.6)
 

@@ -6,7 +6,7 @@ use Rattle.sctp_model.specs.messages.Plan.{Message, bytes_of, Part, Plan, entry_
 use Rattle.sctp_model.specs.messages.Orderly.{Orderly}
 use Rattle.sctp_model.specs.messages.Pieces.{Piece, piece_of, payload_of, IsNumberBelow, IsFragment}
 use Rattle.sctp_model.specs.messages.Whole.{IsWhole, text_of}
-use Rattle.sctp_model.specs.sender.SenderView.{SenderView, IsGivenUp, IsAllGivenUp}
+use Rattle.sctp_model.specs.sender.SenderView.{SenderView, IsOfAbandoned, IsAllAbandoned}
 use Rattle.sctp_model.specs.messages.Forward.{Skip, Forward, IsForward}
 use Rattle.sctp_model.specs.receiver.Receiving.{IsWholeWith}
 
@@ -40,7 +40,7 @@ pub record IsTaken (f : Format) (p : Plan) (kept : List Piece) (i : ℕ) : Type 
 -- A receiver holds chunks of the plan, and each index up to c was taken or belongs to an abandoned message.
 pub record IsUpTo (f : Format) (v : SenderView) (kept : List Piece) (c : ℕ) : Type 0 where
   pub chunks : (x : Piece) → Has kept x → IsFragment f v.plan x
-  pub taken : (i : ℕ) → 0 < i → i ≤ c → IsTaken f v.plan kept i ⊎ IsGivenUp v i
+  pub taken : (i : ℕ) → 0 < i → i ≤ c → IsTaken f v.plan kept i ⊎ IsOfAbandoned v i
 
 -- A FORWARD makes a chunk go: where the format numbers its lane by its number, and else by its index (RFC 3758, 3.6; RFC 8260, 2.3.1).
 abbrev pub MakesGo : Format → Forward → Piece → Type 0
@@ -53,5 +53,5 @@ MakesGo f x y =
 abbrev pub SkipLaw : Format → Type 0
 SkipLaw f =
     (v : SenderView) (c p : ℕ) (x : Forward) (kept : List Piece) →
-    Orderly f v.plan → c < p → IsAllGivenUp v c p → IsForward f v.plan c p x → IsUpTo f v kept c →
-    (y : Piece) → Has kept y → MakesGo f x y → ((xs : List Piece) × IsWholeWith f kept y xs) ⊎ IsGivenUp v y.index
+    Orderly f v.plan → c < p → IsAllAbandoned v c p → IsForward f v.plan c p x → IsUpTo f v kept c →
+    (y : Piece) → Has kept y → MakesGo f x y → ((xs : List Piece) × IsWholeWith f kept y xs) ⊎ IsOfAbandoned v y.index

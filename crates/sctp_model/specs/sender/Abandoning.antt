@@ -78,27 +78,27 @@ ended v n = if is_in_part v n.lane n.number then with_entry v.plan (End n.lane n
 
 -- the message is abandoned, and none of its fragments is to be repeated
 abbrev pub given_up : SenderView → Name → SenderView
-given_up v n = record v {
+with_abandoned v n = record v {
   plan = ended v n;
   abandoned = at_lane v.abandoned n.lane (at (v.abandoned n.lane) n.number true);
   marked = λ i. v.marked i && not (passes_at v.plan (λ j e. is_of n.lane n.number e) i);
 }
 
 -- a message with a number may be abandoned where that is allowed, and it neither was before nor is acknowledged
-abbrev pub may_give_up : SenderView → Name → Bool
-may_give_up v n = v.partial && (not (is_abandoned v n) && not (is_covered v n))
+abbrev pub may_abandon_named : SenderView → Name → Bool
+may_abandon_named v n = v.partial && (not (is_abandoned v n) && not (is_covered v n))
 
 -- it is abandoned where it may be
-abbrev pub give_up : SenderView → Name → SenderView
-give_up v n = if may_give_up v n then given_up v n else v
+abbrev pub abandon_named : SenderView → Name → SenderView
+abandon_named v n = if may_abandon_named v n then with_abandoned v n else v
 
 -- The view after `abandon`: a message without a number leaves the queue.
 abbrev pub abandon_after : SenderView → (ticket : ℕ) → SenderView
-abandon_after v t = option_map_or (give_up v) (name_of v t) (record v { queue = without t v.queue })
+abandon_after v t = option_map_or (abandon_named v) (name_of v t) (record v { queue = without t v.queue })
 
 -- the message with this ticket may be abandoned: it waits for its number, or it has one
 abbrev pub may_abandon : SenderView → (ticket : ℕ) → Bool
-may_abandon v t = option_map_or (may_give_up v) (name_of v t) (waits t v.queue)
+may_abandon v t = option_map_or (may_abandon_named v) (name_of v t) (waits t v.queue)
 
 -- ---- what is past its time
 

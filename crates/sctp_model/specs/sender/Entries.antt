@@ -70,12 +70,12 @@ passes_at p test i = some_passes (test i) (entry_at p i)
 -- ---- how far it came
 
 -- its message was abandoned
-abbrev pub is_given_up : SenderView → Entry → Bool
-is_given_up v e = v.abandoned (entry_lane e) (entry_number e)
+abbrev pub is_of_abandoned : SenderView → Entry → Bool
+is_of_abandoned v e = v.abandoned (entry_lane e) (entry_number e)
 
 -- Wanted: the last SACK taken doesn't cover it, and its message was not abandoned, so that the peer may still need it.
 abbrev pub is_wanted : SenderView → ℕ → Entry → Bool
-is_wanted v i e = not (v.covered i) && not (is_given_up v e)
+is_wanted v i e = not (v.covered i) && not (is_of_abandoned v e)
 
 -- it went out, and is wanted still: what the data timer runs for (RFC 9260, 6.3.2 and 6.3.3)
 abbrev pub is_unsettled : SenderView → ℕ → Entry → Bool

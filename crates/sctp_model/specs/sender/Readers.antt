@@ -3,7 +3,7 @@ use Rattle.std.specs.Prelude.{ℕ, suc, ◌+◌, ◌-◌, ◌==◌, if◌then◌
 use Rattle.sctp_model.specs.messages.Plan.{Entry}
 use Rattle.sctp_model.specs.sender.SenderView.{SenderView}
 use Rattle.sctp_model.specs.sender.Words.{some_passes}
-use Rattle.sctp_model.specs.sender.Entries.{is_given_up, is_unsettled, some_entry, in_part}
+use Rattle.sctp_model.specs.sender.Entries.{is_of_abandoned, is_unsettled, some_entry, in_part}
 use Rattle.sctp_model.specs.sender.Abandoning.{Name, name_of, is_covered, is_abandoned}
 
 -- ---- of all
@@ -11,7 +11,7 @@ use Rattle.sctp_model.specs.sender.Abandoning.{Name, name_of, is_covered, is_aba
 -- how many entries, from the first on, are of abandoned messages
 abbrev pub given_up_run : SenderView → List Entry → ℕ
 given_up_run v [] = 0
-given_up_run v (e ∷ es) = if is_given_up v e then suc (given_up_run v es) else 0
+given_up_run v (e ∷ es) = if is_of_abandoned v e then suc (given_up_run v es) else 0
 
 -- The point: CUM, and so many indexes behind it as are all of abandoned messages (RFC 3758, 3.5).
 abbrev pub point : SenderView → ℕ

@@ -7,7 +7,7 @@ use Rattle.sctp_model.specs.messages.Format.{Plain, Interleaved}
 use Rattle.sctp_model.specs.messages.Plan.{Entry, entry_at}
 use Rattle.sctp_model.specs.sender.SenderView.{Queued, SenderView}
 use Rattle.sctp_model.specs.sender.Words.{first_there, count_up, lowest, some_passes}
-use Rattle.sctp_model.specs.sender.Entries.{is_unsent, is_given_up, passes_at}
+use Rattle.sctp_model.specs.sender.Entries.{is_unsent, is_of_abandoned, passes_at}
 use Rattle.sctp_model.specs.sender.Assigning.{with_message, turn_of, whole_next, assigned}
 use Rattle.sctp_model.specs.sender.Filling.{Wish, standing, newcomer, next_wish}
 use Rattle.sctp_model.proofs.sender.WordLaws.{lowest_is, lowest_none, lowest_found, none_lowest}
@@ -144,9 +144,9 @@ unsent_tells v = (λ i on. forth i (entry_at v.plan i) refl on, λ i so. back i 
     forth : (i : ℕ) (o : Option Entry) → entry_at v.plan i ≡ o → some_passes (is_unsent v i) o ≡ true → IsToGo v i
     forth i None stands on = absurd (cc)
     forth i (Some e) stands on =
-        let a = and_parts (not (v.sent i)) (not (v.covered i) && not (is_given_up v e)) on in
-        let b = and_parts (not (v.covered i)) (not (is_given_up v e)) a.1 in
-        record { entry = e; stands = stands; unsent = not_true (v.sent i) a.0; uncovered = not_true (v.covered i) b.0; kept = not_true (is_given_up v e) b.1 }
+        let a = and_parts (not (v.sent i)) (not (v.covered i) && not (is_of_abandoned v e)) on in
+        let b = and_parts (not (v.covered i)) (not (is_of_abandoned v e)) a.1 in
+        record { entry = e; stands = stands; unsent = not_true (v.sent i) a.0; uncovered = not_true (v.covered i) b.0; kept = not_true (is_of_abandoned v e) b.1 }
 
     back : (i : ℕ) → IsToGo v i → passes_at v.plan (is_unsent v) i ≡ true
     back i so = rw so.stands (rw so.unsent (rw so.uncovered (rw so.kept refl)))

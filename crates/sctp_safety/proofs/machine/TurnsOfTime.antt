@@ -12,17 +12,17 @@ use Rattle.sctp_model.specs.sender.Readers.{point}
 use Rattle.sctp_model.specs.sender.Abandoning.{expired as expired_messages}
 use Rattle.std.specs.Prelude.{if◌then◌else◌, nat_lt, nat_le}
 use Rattle.sctp_model.specs.end.Closing.{rested}
-use Rattle.sctp_model.specs.end.Moments.{after_giving_up, due_again, rung, ring, rung_all, all_alarms, passed, ticked}
+use Rattle.sctp_model.specs.end.Moments.{after_abandoning, due_again, rung, ring, rung_all, all_alarms, passed, ticked}
 use Rattle.sctp_model.specs.end.UserCalls.{SendAnswer, Ticket, Refused, NotOpen, send_leaves, is_open, abandoned_at, UserTakes, shut_in, shut, Aborts, TooLong, abort_answer, abort_answer_to, abort_leaves, abort_packet, peer_tag}
 use Rattle.sctp_safety.specs.States.{UserShuts}
 use Rattle.sctp_safety.proofs.machine.Turns.{rested_has, by_stage, IsPlainTurn, IsPlain, Stays, plain_same, plain_on, plain_rested, goes_from, left_closed}
 
 -- ---- time
 
-pub plain_given_up : (e : EndView) (v : SenderView) → IsPlain e (after_giving_up e v)
-plain_given_up e v =
+pub plain_abandoned : (e : EndView) (v : SenderView) → IsPlain e (after_abandoning e v)
+plain_abandoned e v =
     let mid = settled (record e { sender = v; due = record e.due { forward = e.due.forward || not (point v == point e.sender) } }) in
-    plain_on e mid (after_giving_up e v) (record { configuration = refl; role = refl; moment = refl; terms = refl; turn = Stays e.phase }) (plain_rested mid)
+    plain_on e mid (after_abandoning e v) (record { configuration = refl; role = refl; moment = refl; terms = refl; turn = Stays e.phase }) (plain_rested mid)
 
 plain_again : (a : Alarm) (e : EndView) → IsPlain e (due_again a e)
 plain_again InitAlarm e = record { configuration = refl; role = refl; moment = refl; terms = refl; turn = Stays e.phase }
@@ -81,8 +81,8 @@ plain_ticked e now = go (has_association e.phase) refl
     go false is = plain_same (at_moment e now)
     go true is =
         let mid = settled (record (at_moment e now) { sender = expired_messages (at_moment e now).sender (at_moment e now).moment; due = record e.due { forward = e.due.forward || not (point (expired_messages (at_moment e now).sender (at_moment e now).moment) == point e.sender) } }) in
-        let u = after_giving_up (at_moment e now) (expired_messages (at_moment e now).sender (at_moment e now).moment) in
-        let g = plain_given_up (at_moment e now) (expired_messages (at_moment e now).sender (at_moment e now).moment) in
+        let u = after_abandoning (at_moment e now) (expired_messages (at_moment e now).sender (at_moment e now).moment) in
+        let g = plain_abandoned (at_moment e now) (expired_messages (at_moment e now).sender (at_moment e now).moment) in
         plain_on (at_moment e now) u (rung_all all_alarms u) g (all_plain all_alarms u (inl (rested_has mid is)))
 
 -- ---- the user
@@ -95,8 +95,8 @@ plain_sent e c NotOpen = plain_same e
 pub plain_abandoned : (e : EndView) (k : ℕ) → IsPlain e (abandoned_at e k)
 plain_abandoned e k = go (is_open e.phase)
   where
-    go : (b : Bool) → IsPlain e (if b then after_giving_up e (abandon_after e.sender k) else record e { sender = abandon_after e.sender k })
-    go true = plain_given_up e (abandon_after e.sender k)
+    go : (b : Bool) → IsPlain e (if b then after_abandoning e (abandon_after e.sender k) else record e { sender = abandon_after e.sender k })
+    go true = plain_abandoned e (abandon_after e.sender k)
     go false = record { configuration = refl; role = refl; moment = refl; terms = refl; turn = Stays e.phase }
 
 pub plain_taken : (e : EndView) (n : ℕ) (h : Option Handed) (t : EndView) → UserTakes e n h t → IsPlain e t

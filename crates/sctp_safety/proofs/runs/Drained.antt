@@ -8,7 +8,7 @@ use Rattle.sctp_model.specs.sender.Words.{some_passes, count_up}
 use Rattle.sctp_model.specs.sender.Entries.{is_of, is_in_part}
 use Rattle.sctp_model.specs.sender.Assigning.{first_on}
 use Rattle.sctp_model.specs.sender.Filling.{Wish, next_wish, gone, Follows, fill}
-use Rattle.sctp_model.specs.sender.Abandoning.{Name, waits, given_up, abandon_after, is_overdue, expire_one, expired, timed_out}
+use Rattle.sctp_model.specs.sender.Abandoning.{Name, waits, with_abandoned, abandon_after, is_overdue, expire_one, expired, timed_out}
 use Rattle.sctp_model.specs.sender.Readers.{drained}
 use Rattle.sctp_model.specs.sender.Reached.{IsReached, Goes, Abandons}
 use Rattle.sctp_model.proofs.sender.AbandonCases.{after_abandon, after_end}
@@ -43,7 +43,7 @@ drained_fill f room v h empty = drained_follows f v room (fill f room v).wishes 
 
 -- ---- giving up
 
-drained_given : (v : SenderView) (n : Name) → n.lane.stream < v.streams → drained v ≡ true → drained (given_up v n) ≡ true
+drained_given : (v : SenderView) (n : Name) → n.lane.stream < v.streams → drained v ≡ true → drained (with_abandoned v n) ≡ true
 drained_given v n lt empty = after_end (λ (p : Plan). drained (record v { plan = p }) ≡ true) v n (λ off. empty) (λ on. absurd (let quiet = off in cc))
   where
     off : is_in_part v n.lane n.number ≡ false

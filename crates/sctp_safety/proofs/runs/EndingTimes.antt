@@ -12,7 +12,7 @@ use Rattle.sctp_model.specs.end.EndView.{TimedOut, Established, ShutdownPending,
 use Rattle.sctp_model.specs.end.Clock.{repeats_of, is_over_at, with_timer, turned, closed, at_moment, settled}
 use Rattle.sctp_model.specs.end.Clock.{expired_timer}
 use Rattle.sctp_model.specs.end.Closing.{hears}
-use Rattle.sctp_model.specs.end.Moments.{after_giving_up, due_again, rung, ring, rung_all, all_alarms, passed, ticked}
+use Rattle.sctp_model.specs.end.Moments.{after_abandoning, due_again, rung, ring, rung_all, all_alarms, passed, ticked}
 use Rattle.sctp_model.specs.end.UserCalls.{NotOpen, is_established, answer_for, send_answer, send_leaves, is_open, abandoned_at, UserTakes, shut_in, shut, AbortAnswer, Aborts, NoPeer, TooLong, abort_leaves}
 use Rattle.sctp_safety.proofs.runs.Drained.{drained_abandoned, drained_expired, drained_timed_out}
 use Rattle.sctp_safety.proofs.runs.Homes.{home_like, IsHome, home_turned}
@@ -34,8 +34,8 @@ module _ (p : EndView) (out back : List ChunkMeaning) where
   pub ending_now : (e : EndView) (now : ℕ) → Ending e → Ending (at_moment e now)
   ending_now e now c = still e (at_moment e now) c (home_like e _ c.this.home refl refl refl refl refl) refl (λ on. on)
 
-  gives_up : (e : EndView) (a : SenderView) → Ending e → (drained e.sender ≡ true → drained a ≡ true) → Ending (after_giving_up e a)
-  gives_up e a c keeps =
+  becomes_abandoned : (e : EndView) (a : SenderView) → Ending e → (drained e.sender ≡ true → drained a ≡ true) → Ending (after_abandoning e a)
+  becomes_abandoned e a c keeps =
       ending_rested p out back (settled (record e { sender = a; due = record e.due { forward = e.due.forward || not (point a == point e.sender) } }))
       (still e _ c (home_like e _ c.this.home refl refl refl refl refl) refl keeps)
 
@@ -79,8 +79,8 @@ module _ (p : EndView) (out back : List ChunkMeaning) where
       go : (b : Bool) → Ending (if b then passed (at_moment e now) else at_moment e now)
       go false = there
       go true =
-          all_ring all_alarms (after_giving_up (at_moment e now) (expired e.sender (at_moment e now).moment))
-          (gives_up (at_moment e now) (expired e.sender (at_moment e now).moment) there (drained_expired (format_of e) e.sender (at_moment e now).moment h))
+          all_ring all_alarms (after_abandoning (at_moment e now) (expired e.sender (at_moment e now).moment))
+          (becomes_abandoned (at_moment e now) (expired e.sender (at_moment e now).moment) there (drained_expired (format_of e) e.sender (at_moment e now).moment h))
 
   -- ---- the user
 
@@ -120,8 +120,8 @@ module _ (p : EndView) (out back : List ChunkMeaning) where
   pub ending_abandoned : (e : EndView) (k : ℕ) → IsReached (format_of e) e.sender → Ending e → Ending (abandoned_at e k)
   ending_abandoned e k h c = go (is_open e.phase)
     where
-      go : (b : Bool) → Ending (if b then after_giving_up e (abandon_after e.sender k) else record e { sender = abandon_after e.sender k })
-      go true = gives_up e (abandon_after e.sender k) c (drained_abandoned (format_of e) e.sender k h)
+      go : (b : Bool) → Ending (if b then after_abandoning e (abandon_after e.sender k) else record e { sender = abandon_after e.sender k })
+      go true = becomes_abandoned e (abandon_after e.sender k) c (drained_abandoned (format_of e) e.sender k h)
       go false = still e (record e { sender = abandon_after e.sender k }) c (home_like e _ c.this.home refl refl refl refl refl) refl (drained_abandoned (format_of e) e.sender k h)
 
   pub ending_taken : (e : EndView) (s : ℕ) (h : Option Handed) (t : EndView) → Ending e → UserTakes e s h t → Ending t

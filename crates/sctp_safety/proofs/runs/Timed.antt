@@ -12,7 +12,7 @@ use Rattle.sctp_model.specs.end.EndView.{TimedOut, Established, ShutdownPending,
 use Rattle.sctp_model.specs.end.Clock.{repeats_of, is_over_at, with_timer, turned, closed, at_moment, settled}
 use Rattle.sctp_model.specs.end.Clock.{expired_timer}
 use Rattle.sctp_model.specs.end.Closing.{hears}
-use Rattle.sctp_model.specs.end.Moments.{after_giving_up, due_again, rung, ring, rung_all, all_alarms, passed, ticked}
+use Rattle.sctp_model.specs.end.Moments.{after_abandoning, due_again, rung, ring, rung_all, all_alarms, passed, ticked}
 use Rattle.sctp_model.specs.end.UserCalls.{SendAnswer, Ticket, Refused, NotOpen, is_established, answer_for, send_answer, send_leaves, is_open, abandoned_at, UserTakes, shut_in, shut, AbortAnswer, Aborts, NoPeer, TooLong, abort_leaves}
 use Rattle.sctp_safety.specs.States.{has_agreed}
 use Rattle.sctp_safety.proofs.runs.Direction.{Direction}
@@ -44,8 +44,8 @@ module _ (p : EndView) (u v : Asked) (out back : List ChunkMeaning) where
     moment_there = m.moment_there;
   }
 
-  met_given_up : (e : EndView) (a : SenderView) → Met e → Direction (format_of e) e.terms.outbound a u p.receiver out back → Met (after_giving_up e a)
-  met_given_up e a m d =
+  met_abandoned : (e : EndView) (a : SenderView) → Met e → Direction (format_of e) e.terms.outbound a u p.receiver out back → Met (after_abandoning e a)
+  met_abandoned e a m d =
       met_rested (settled (record e { sender = a; due = record e.due { forward = e.due.forward || not (point a == point e.sender) } })) p u v out back
       (still (record e { sender = a }) _ (with_sender e a m d) (record { terms = refl; sender = refl; receiver = refl; moment = refl }) m.phase)
 
@@ -81,8 +81,8 @@ module _ (p : EndView) (u v : Asked) (out back : List ChunkMeaning) where
       go : (b : Bool) → Met (if b then passed (at_moment e now) else at_moment e now)
       go false = there
       go true =
-          met_rung_all all_alarms (after_giving_up (at_moment e now) (expired e.sender (at_moment e now).moment))
-          (met_given_up (at_moment e now) (expired e.sender (at_moment e now).moment) there
+          met_rung_all all_alarms (after_abandoning (at_moment e now) (expired e.sender (at_moment e now).moment))
+          (met_abandoned (at_moment e now) (expired e.sender (at_moment e now).moment) there
           (after_expiry (format_of e) e.terms.outbound e.sender u p.receiver out back m.going (at_moment e now).moment there.moment))
 
   -- ---- calls that change nothing of the sender
@@ -161,7 +161,7 @@ met_abandoned e p u v out back k m = go (is_open e.phase)
     less : IsMet (record e { sender = abandon_after e.sender k }) p x v out back
     less = met_asked e p u x v (abandon_after e.sender k) out back m refl d
 
-    go : (b : Bool) → IsMet (if b then after_giving_up e (abandon_after e.sender k) else record e { sender = abandon_after e.sender k }) p x v out back
+    go : (b : Bool) → IsMet (if b then after_abandoning e (abandon_after e.sender k) else record e { sender = abandon_after e.sender k }) p x v out back
     go false = less
     go true =
         met_rested (settled (record e { sender = abandon_after e.sender k; due = record e.due { forward = e.due.forward || not (point (abandon_after e.sender k) == point e.sender) } })) p x v out back

@@ -14,7 +14,7 @@ use Rattle.sctp_model.specs.end.Clock.{expired_timer}
 use Rattle.sctp_model.specs.end.Building.{Slot, EchoSlot, CookieAckSlot, HeartbeatSlot, ErrorSlot, SackSlot, ForwardSlot, ShutdownSlot, ShutdownAckSlot, Wants, EchoCookie, AckCookie, AckHeartbeat, ReportCauses, Acknowledge, PassOn, SayShutdown, AnswerShutdown, Puts, NoMore, NotDue, Put, IsFull, echoing_slots, Builds, Sleeps, Waits, Calls, Echoes, Fills, once_built}
 use Rattle.sctp_model.specs.end.Building.{EndsFull}
 use Rattle.sctp_model.specs.end.Closing.{hears}
-use Rattle.sctp_model.specs.end.Moments.{after_giving_up, due_again, rung, ring, rung_all, all_alarms, passed, ticked}
+use Rattle.sctp_model.specs.end.Moments.{after_abandoning, due_again, rung, ring, rung_all, all_alarms, passed, ticked}
 use Rattle.sctp_model.specs.end.UserCalls.{NotOpen, is_established, send_answer, is_open, abandoned_at, UserTakes, shut_in, shut, AbortAnswer, Aborts, NoPeer, TooLong, abort_leaves, called}
 use Rattle.sctp_safety.proofs.Basics.{Has-cases}
 use Rattle.sctp_safety.proofs.runs.Homes.{home_like, home_turned}
@@ -64,8 +64,8 @@ module _ (clock : ℕ) where
     moment = let b = m.moment in omega (arith, b, le);
   }
 
-  gives_up : (e : EndView) (a : SenderView) → Unmet e → a ≡ e.sender → Unmet (after_giving_up e a)
-  gives_up e a m same =
+  becomes_abandoned : (e : EndView) (a : SenderView) → Unmet e → a ≡ e.sender → Unmet (after_abandoning e a)
+  becomes_abandoned e a m same =
       rests clock (settled (record e { sender = a; due = record e.due { forward = e.due.forward || not (point a == point e.sender) } }))
       (still clock e _ m (alike e _ refl refl same refl refl) m.unopened (home_like e _ m.home refl refl refl refl refl))
 
@@ -96,8 +96,8 @@ module _ (clock : ℕ) where
 
       go : (b : Bool) → Unmet (if b then passed (at_moment e now) else at_moment e now)
       go false = there
-      go true = all_ring all_alarms (after_giving_up (at_moment e now) (expired e.sender (at_moment e now).moment))
-          (gives_up (at_moment e now) (expired e.sender (at_moment e now).moment) there (none_expires e m.blank (at_moment e now).moment))
+      go true = all_ring all_alarms (after_abandoning (at_moment e now) (expired e.sender (at_moment e now).moment))
+          (becomes_abandoned (at_moment e now) (expired e.sender (at_moment e now).moment) there (none_expires e m.blank (at_moment e now).moment))
 
   -- ---- a packet
 
@@ -170,8 +170,8 @@ module _ (clock : ℕ) where
   pub waits_abandoned : (e : EndView) (k : ℕ) → Unmet e → Unmet (abandoned_at e k)
   waits_abandoned e k m = go (is_open e.phase)
     where
-      go : (b : Bool) → Unmet (if b then after_giving_up e (abandon_after e.sender k) else record e { sender = abandon_after e.sender k })
-      go true = gives_up e (abandon_after e.sender k) m (none_is_abandoned e m.blank k)
+      go : (b : Bool) → Unmet (if b then after_abandoning e (abandon_after e.sender k) else record e { sender = abandon_after e.sender k })
+      go true = becomes_abandoned e (abandon_after e.sender k) m (none_is_abandoned e m.blank k)
       go false = still clock e (record e { sender = abandon_after e.sender k }) m (alike e _ refl refl (none_is_abandoned e m.blank k) refl refl) m.unopened (home_like e _ m.home refl refl refl refl refl)
 
   pub waits_taken : (e : EndView) (s : ℕ) (h : Option Handed) (t : EndView) → Unmet e → UserTakes e s h t → Unmet t

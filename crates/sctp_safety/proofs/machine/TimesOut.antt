@@ -32,5 +32,5 @@ first_again = (refl, refl)
 pub eighth_again : ((rounds 8 caller).phase ≡ Calling of_a) × ((rounds 8 caller).due.init ≡ true) × ((rounds 8 caller).moment ≡ 183000)
 eighth_again = (refl, refl, refl)
 
-pub gives_up : ((rounds 9 caller).phase ≡ Over TimedOut) × ((rounds 9 caller).moment ≡ 243000)
-gives_up = (refl, refl)
+pub times_out : ((rounds 9 caller).phase ≡ Over TimedOut) × ((rounds 9 caller).moment ≡ 243000)
+times_out = (refl, refl)

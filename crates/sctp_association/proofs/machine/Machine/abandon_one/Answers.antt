@@ -4,7 +4,7 @@ use Rattle.sctp_model.specs.sender.Abandoning.{abandon_after}
 use Rattle.sctp_association.specs.MachineStands.{MachineStands}
 use Rattle.sctp_association.proofs.MachineLemmas.{at_view, joined, unjoined, with_traffic}
 use Rattle.sctp_association.proofs.CallLemmas.{abandon_fresh, unknown_fresh}
-use Rattle.sctp_association.proofs.machine.Machine.give_up.Goals as goal
+use Rattle.sctp_association.proofs.machine.Machine.abandon_one.Goals as goal
 
 pub returns-in-Unjoined-clause-answer : goal.returns-in-Unjoined-clause-answer
 unfolding MachineStands

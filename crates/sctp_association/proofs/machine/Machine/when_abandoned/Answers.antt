@@ -5,7 +5,7 @@ use Rattle.sctp_model.specs.end.EndView.{EndView}
 use Rattle.sctp_association.specs.MachineStands.{MachineStands}
 use Rattle.sctp_association.proofs.MachineLemmas.{with_due}
 use Rattle.sctp_association.proofs.MomentLemmas.{skipped_due}
-use Rattle.sctp_association.proofs.machine.Machine.gave_up.Goals as goal
+use Rattle.sctp_association.proofs.machine.Machine.when_abandoned.Goals as goal
 
 pub returns : goal.returns
 unfolding MachineStands

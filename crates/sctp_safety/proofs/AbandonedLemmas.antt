@@ -10,13 +10,13 @@ use Rattle.sctp_model.specs.messages.Plan.{Entry, Part, End, entry_at, message_a
 use Rattle.sctp_model.specs.sender.SenderView.{Queued, SenderView}
 use Rattle.sctp_model.specs.sender.Words.{some_passes}
 use Rattle.sctp_model.specs.sender.Entries.{is_of, is_in_part, passes_at}
-use Rattle.sctp_model.specs.sender.Abandoning.{Name, name_of, without, is_abandoned, is_covered, given_up, give_up, abandon_after}
+use Rattle.sctp_model.specs.sender.Abandoning.{Name, name_of, without, is_abandoned, is_covered, with_abandoned, abandon_named, abandon_after}
 use Rattle.sctp_model.specs.sender.Readers.{acknowledged}
 use Rattle.sctp_model.specs.sender.Reached.{IsReached}
 use Rattle.sctp_model.proofs.sender.AbandonCases.{lanes_same, same_lane-self, given_or_before, given_itself}
 use Rattle.sctp_model.proofs.sender.EndLaws.{given_stays}
 use Rattle.sctp_safety.specs.Told.{HasNumber}
-use Rattle.sctp_safety.specs.GivenUp.{IsWithdrawn, Leaves_queue, Waits_not, GivesUp, AbandonLeaves, Withdraws, Lets_be, Abandons, AbandonIsTaken}
+use Rattle.sctp_safety.specs.Abandoned.{IsWithdrawn, Leaves_queue, Waits_not, BecomesAbandoned, AbandonLeaves, Withdraws, Lets_be, Abandons, AbandonIsTaken}
 use Rattle.sctp_safety.proofs.InPart.{in_part_open}
 use Rattle.sctp_safety.proofs.Searches.{first_meant}
 use Rattle.sctp_safety.proofs.NameFacts.{never_both, closed_unless_in_part}
@@ -97,8 +97,8 @@ module _ (f : Format) (v : SenderView) (reached : IsReached f v) where
       let named = subst (λ (k : Lane). message_at v.plan k n ≡ Some h.message) lane (subst (λ (m : ℕ). message_at v.plan h.lane m ≡ Some h.message) number h.named) in
       ((o.plan).begun l n h.message named, λ closed. in_part_open o.format v o.plan o.ends l n on closed)
 
-  gives_up : (t : ℕ) (n : Name) (h : HasNumber v t) → h.lane ≡ n.lane → h.number ≡ n.number → GivesUp v (given_up v n) n.lane n.number
-  gives_up t n h lane number = record {
+  becomes_abandoned : (t : ℕ) (n : Name) (h : HasNumber v t) → h.lane ≡ n.lane → h.number ≡ n.number → BecomesAbandoned v (with_abandoned v n) n.lane n.number
+  becomes_abandoned t n h lane number = record {
     abandoned = λ k m. (λ is. given_or_before v n k m is, λ is. back k m is);
     marked = λ i. mark_stays v n.lane n.number i;
     ended = λ open_now. by_part (is_in_part v n.lane n.number) refl open_now;
@@ -106,15 +106,15 @@ module _ (f : Format) (v : SenderView) (reached : IsReached f v) where
     others = refl;
   }
     where
-      back : (k : Lane) (m : ℕ) → ((k ≡ n.lane) × (m ≡ n.number)) ⊎ (v.abandoned k m ≡ true) → (given_up v n).abandoned k m ≡ true
-      back k m (inl same) = subst (λ (x : Lane). (given_up v n).abandoned x m ≡ true) (sym same.0) (subst (λ (x : ℕ). (given_up v n).abandoned n.lane x ≡ true) (sym same.1) (given_itself v n))
+      back : (k : Lane) (m : ℕ) → ((k ≡ n.lane) × (m ≡ n.number)) ⊎ (v.abandoned k m ≡ true) → (with_abandoned v n).abandoned k m ≡ true
+      back k m (inl same) = subst (λ (x : Lane). (with_abandoned v n).abandoned x m ≡ true) (sym same.0) (subst (λ (x : ℕ). (with_abandoned v n).abandoned n.lane x ≡ true) (sym same.1) (given_itself v n))
       back k m (inr before) = given_stays v n k m before
 
-      by_part : (b : Bool) → is_in_part v n.lane n.number ≡ b → IsInPart v.plan n.lane n.number → (given_up v n).plan ≡ record v.plan { entries = v.plan.entries ++ End n.lane n.number ∷ [] }
+      by_part : (b : Bool) → is_in_part v n.lane n.number ≡ b → IsInPart v.plan n.lane n.number → (with_abandoned v n).plan ≡ record v.plan { entries = v.plan.entries ++ End n.lane n.number ∷ [] }
       by_part true on open_now = rw on refl
       by_part false off open_now = absurd (in_part_is n.lane n.number off t h lane number open_now)
 
-      by_whole : (b : Bool) → is_in_part v n.lane n.number ≡ b → (IsInPart v.plan n.lane n.number → ⊥) → (given_up v n).plan ≡ v.plan
+      by_whole : (b : Bool) → is_in_part v n.lane n.number ≡ b → (IsInPart v.plan n.lane n.number → ⊥) → (with_abandoned v n).plan ≡ v.plan
       by_whole true on closed = absurd (closed (is_in_part_on n.lane n.number t h lane number on))
       by_whole false off closed = rw off refl
 
@@ -122,17 +122,17 @@ module _ (f : Format) (v : SenderView) (reached : IsReached f v) where
   taken t = by_name (name_of v t) refl
     where
       by_tests : (n : Name) → name_of v t ≡ Some n → (p : Bool) → v.partial ≡ p → (a : Bool) → is_abandoned v n ≡ a → (c : Bool) → is_covered v n ≡ c
-          → AbandonLeaves v t (if p && (not a && not c) then given_up v n else v)
+          → AbandonLeaves v t (if p && (not a && not c) then with_abandoned v n else v)
       by_tests n is false off a given c cover = Lets_be (number_of f v reached t n is) (inr (inr off))
       by_tests n is true on true given c cover = Lets_be (number_of f v reached t n is) (inl (record { has = number_of f v reached t n is; given = given }))
       by_tests n is true on false kept true cover = Lets_be (number_of f v reached t n is) (inr (inl (acknowledged_name f v reached t n is cover kept)))
       by_tests n is true on false kept false cover =
-          Abandons (given_up v n) (number_of f v reached t n is)
+          Abandons (with_abandoned v n) (number_of f v reached t n is)
           (λ w. let told = gives f v reached t w in never_both (some_passes (is_abandoned v) (name_of v t)) told (rw is kept))
           (λ w. let told = tells f v reached t w in never_both (acknowledged v t) told (rw is (rw cover refl)))
-          on (gives_up t n (number_of f v reached t n is) refl refl)
+          on (becomes_abandoned t n (number_of f v reached t n is) refl refl)
 
-      by_name : (x : Option Name) → name_of v t ≡ x → AbandonLeaves v t (option_map_or (give_up v) x (record v { queue = without t v.queue }))
+      by_name : (x : Option Name) → name_of v t ≡ x → AbandonLeaves v t (option_map_or (abandon_named v) x (record v { queue = without t v.queue }))
       by_name None none = Withdraws (without t v.queue) (none_has f v reached t none) (withdrawn t v.queue)
       by_name (Some n) some = by_tests n some v.partial refl (is_abandoned v n) refl (is_covered v n) refl
 

@@ -16,7 +16,7 @@ pub data IsWithdrawn (t : ℕ) : (before after : List Queued) → Type 0 where
 
 -- A message is given up: it counts as abandoned beside those that did; none of its entries is to be repeated; where it is in part, one index more is
 -- assigned, to its end mark; and nothing else changes.
-pub record GivesUp (v u : SenderView) (l : Lane) (n : ℕ) : Type 0 where
+pub record BecomesAbandoned (v u : SenderView) (l : Lane) (n : ℕ) : Type 0 where
   pub abandoned : (k : Lane) (m : ℕ) → (u.abandoned k m ≡ true) ↔ (((k ≡ l) × (m ≡ n)) ⊎ (v.abandoned k m ≡ true))
   pub marked : (i : ℕ) → (u.marked i ≡ true) ↔ ((v.marked i ≡ true) × ((e : Entry) → entry_at v.plan i ≡ Some e → IsOf l n e → ⊥))
   pub ended : IsInPart v.plan l n → u.plan ≡ record v.plan { entries = v.plan.entries ++ End l n ∷ [] }
@@ -27,7 +27,7 @@ pub record GivesUp (v u : SenderView) (l : Lane) (n : ℕ) : Type 0 where
 pub data AbandonLeaves (v : SenderView) (t : ℕ) : SenderView → Type 0 where
   Withdraws : (queue : List Queued) → (HasNumber v t → ⊥) → IsWithdrawn t v.queue queue → AbandonLeaves v t (record v { queue = queue })
   Lets_be : HasNumber v t → WasAbandoned v t ⊎ (WasAcknowledged v t ⊎ (v.partial ≡ false)) → AbandonLeaves v t v
-  Abandons : (u : SenderView) → (h : HasNumber v t) → (WasAbandoned v t → ⊥) → (WasAcknowledged v t → ⊥) → v.partial ≡ true → GivesUp v u h.lane h.number → AbandonLeaves v t u
+  Abandons : (u : SenderView) → (h : HasNumber v t) → (WasAbandoned v t → ⊥) → (WasAcknowledged v t → ⊥) → v.partial ≡ true → BecomesAbandoned v u h.lane h.number → AbandonLeaves v t u
 
 -- So it is of every view that calls reach.
 abbrev pub AbandonIsTaken : Type 0

@@ -1,5 +1,0 @@
-use Rattle.sctp_safety.proofs.GivenUpLemmas.{abandon_is_taken}
-use Rattle.sctp_safety.proofs.told.a_message_is_given_up_by_its_ticket.Goals as goal
-
-pub returns : goal.returns
-returns c = abandon_is_taken
