@@ -77,7 +77,7 @@ abbrev pub ended : SenderView → Name → Plan
 ended v n = if is_in_part v n.lane n.number then with_entry v.plan (End n.lane n.number) else v.plan
 
 -- the message is abandoned, and none of its fragments is to be repeated
-abbrev pub given_up : SenderView → Name → SenderView
+abbrev pub with_abandoned : SenderView → Name → SenderView
 with_abandoned v n = record v {
   plan = ended v n;
   abandoned = at_lane v.abandoned n.lane (at (v.abandoned n.lane) n.number true);
