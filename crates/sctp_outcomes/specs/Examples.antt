@@ -42,7 +42,7 @@ pub record AMessageIsPassedOver : Type 0 where
   pub sent : Has events (Send A first) × Has events (Send A second)
   pub lost : Has events (Deliver A 1) → ⊥
   pub named : Has events (Abandon A 1)
-  pub given_up : last.a.sender.abandoned (ordered_lane 0) 0 ≡ true
+  pub abandoned : last.a.sender.abandoned (ordered_lane 0) 0 ≡ true
   pub message : Handed
   pub only : handed last.b.receiver 0 ≡ message ∷ []
   pub number : message.number ≡ Some 1

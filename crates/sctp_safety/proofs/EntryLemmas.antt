@@ -20,8 +20,8 @@ same_gone a l k n m (el, en) gone =
     subst (λ (u : Lane). a.abandoned u n ≡ true) (sym el) (subst (λ (u : ℕ). a.abandoned k u ≡ true) (sym en) gone)
 
 -- the message of an index that is given up was abandoned
-pub given_up_at : (a : SenderView) (i : ℕ) (l : Lane) (n : ℕ) (e : Entry) → entry_at a.plan i ≡ Some e → IsOf l n e → IsOfAbandoned a i → a.abandoned l n ≡ true
-given_up_at a i l n e here of (k, m, d, at', of', gone) = same_gone a l k n m (one_entry a.plan i l k n m e d here of at' of') gone
+pub entry_abandoned_at : (a : SenderView) (i : ℕ) (l : Lane) (n : ℕ) (e : Entry) → entry_at a.plan i ≡ Some e → IsOf l n e → IsOfAbandoned a i → a.abandoned l n ≡ true
+entry_abandoned_at a i l n e here of (k, m, d, at', of', gone) = same_gone a l k n m (one_entry a.plan i l k n m e d here of at' of') gone
 
 pub lost_at : (f : Format) (a : SenderView) (r : ReceiverView) (i : ℕ) (l : Lane) (n : ℕ) (e : Entry) → entry_at a.plan i ≡ Some e → IsOf l n e → IsLost f a r i → a.abandoned l n ≡ true
 lost_at f a r i l n e here of x = same_gone a l x.lane n x.number (one_entry a.plan i l x.lane n x.number e x.entry here of x.here x.of) x.gone

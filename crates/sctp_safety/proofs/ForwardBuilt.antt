@@ -10,7 +10,7 @@ use Rattle.sctp_model.specs.receiver.ReceiverView.{Reaches}
 use Rattle.sctp_safety.specs.Way.{Way}
 use Rattle.sctp_safety.proofs.Basics.{each_or, item_at-above}
 use Rattle.sctp_safety.proofs.Facts.{IsDone, IsLost, IsLostBy, IsSettled, MayPass, IsRetired, IsAhead, IsSendersForward, IsOrderedPlan, Good}
-use Rattle.sctp_safety.proofs.EntryLemmas.{one_entry, same_gone, given_up_at, slice_get-below, between_fragments}
+use Rattle.sctp_safety.proofs.EntryLemmas.{one_entry, same_gone, entry_abandoned_at, slice_get-below, between_fragments}
 
 -- What a FORWARD that may be built says.
 module _ (w : Way) (x : Forward) (g : Good w) (gone : IsAllAbandoned w.sender w.sender.cum x.point)
@@ -116,7 +116,7 @@ module _ (w : Way) (x : Forward) (g : Good w) (gone : IsAllAbandoned w.sender w.
                   which (inr h) = inr h
 
       go : (n ≡ m) ⊎ (n ≡ m → ⊥) → MayPass w.sender w.receiver l n
-      go (inl h) = inl (subst (λ (u : ℕ). w.sender.abandoned l u ≡ true) (sym h) (given_up_at w.sender i l m e here of (gone i above below)))
+      go (inl h) = inl (subst (λ (u : ℕ). w.sender.abandoned l u ≡ true) (sym h) (entry_abandoned_at w.sender i l m e here of (gone i above below)))
       go (inr h) =
           let less : n < m = omega (arith, le, h) in
           let (y, named) = slice_get-below (w.sender.plan.messages l) n m message.0 message.1 less in
@@ -171,7 +171,7 @@ module _ (w : Way) (x : Forward) (g : Good w) (gone : IsAllAbandoned w.sender w.
                   where' (inl above) =
                       let (o, next) = between_fragments w.sender.plan arranged h.lane h.number h.fragment w.sender.cum i h.here old
                       (z - suc w.sender.cum) z k (omega (arith, above)) there in
-                      inr (given_up_at w.sender (suc w.sender.cum) h.lane h.number (Part h.lane h.number o) next (refl, refl)
+                      inr (entry_abandoned_at w.sender (suc w.sender.cum) h.lane h.number (Part h.lane h.number o) next (refl, refl)
                       (gone (suc w.sender.cum) (omega arith) (omega (arith, ahead))))
                   where' (inr below) = which (settled_upto z h.lane h.number (Part h.lane h.number k) there (refl, refl) (omega (arith, below, ahead)))
                     where

@@ -51,8 +51,8 @@ part_still : (p : Plan) (l : Lane) (n i : ℕ) → HasPart p i → HasPart (with
 part_still p l n i (b, o, c, here) = (b, o, c, item_at-left p.entries (End l n ∷ []) i (Part b o c) here)
 
 -- A message that the user may give up: abandoned; its marks end; and its end mark takes an index where it is in part.
-pub given_up_moved : (w : Way) (n : Named) (m : Message) → Good w → IsInOrder w → message_at w.sender.plan n.lane n.number ≡ Some m → IsAskedFor w.asked m → IsMoved w (with_sender w (with_abandoned w.sender n))
-given_up_moved w n m g order named asked = by_part (is_in_part w.sender n.lane n.number) refl
+pub abandoned_moved : (w : Way) (n : Named) (m : Message) → Good w → IsInOrder w → message_at w.sender.plan n.lane n.number ≡ Some m → IsAskedFor w.asked m → IsMoved w (with_sender w (with_abandoned w.sender n))
+abandoned_moved w n m g order named asked = by_part (is_in_part w.sender n.lane n.number) refl
   where
     lost : Lane → ℕ → Bool
     lost = at_lane w.sender.abandoned n.lane (at (w.sender.abandoned n.lane) n.number true)
@@ -127,7 +127,7 @@ MayAbandon w t = (l : Lane) (n : ℕ) (m : Message) → message_at w.sender.plan
 
 abandon_moved : (w : Way) (t : ℕ) → Good w → IsInOrder w → MayAbandon w t → IsMoved w (with_sender w (abandon_after w.sender t))
 abandon_moved w t g order may = after_abandon (λ (v : SenderView). IsMoved w (with_sender w v)) w.sender t (nothing_moved w order) (λ waiting. withdrawn_moved w t order waiting)
-    (λ n is kept. let b = name_bears w.sender t n is in given_up_moved w n b.message g order b.named (may n.lane n.number b.message b.named b.ticket))
+    (λ n is kept. let b = name_bears w.sender t n is in abandoned_moved w n b.message g order b.named (may n.lane n.number b.message b.named b.ticket))
 
 pub abandon_is_moves : AbandonIsMoves
 abandon_is_moves w t usual =

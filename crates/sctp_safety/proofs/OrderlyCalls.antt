@@ -30,7 +30,7 @@ use Rattle.sctp_safety.proofs.OrderlyPlan.{orderly_when_arranged}
 use Rattle.sctp_safety.proofs.UsualLemmas.{good_usual, usual_moved, constants_same, retuned}
 use Rattle.sctp_safety.proofs.AssignMoves.{assigns}
 use Rattle.sctp_safety.proofs.FillMoves.{wanted_part}
-use Rattle.sctp_safety.proofs.GivingMoves.{given_up_moved, withdrawn_moved, Bears, name_bears}
+use Rattle.sctp_safety.proofs.GivingMoves.{abandoned_moved, withdrawn_moved, Bears, name_bears}
 use Rattle.sctp_safety.proofs.QueueMoves.{queue_is_moves}
 
 -- the view, as if nothing were acknowledged
@@ -144,7 +144,7 @@ becomes_abandoned f v t n h is = record { base = asked; usual = usual_moved way 
     b = name_bears (shadow v) t n is
 
     led : IsMoved way (with_sender way (with_abandoned (shadow v) n))
-    led = given_up_moved way n b.message (good_usual way named) named.order b.named (inl (subst (λ (k : ℕ). at h.base.asked.named t true k ≡ true) (sym b.ticket) (at_same h.base.asked.named t true)))
+    led = abandoned_moved way n b.message (good_usual way named) named.order b.named (inl (subst (λ (k : ℕ). at h.base.asked.named t true k ≡ true) (sym b.ticket) (at_same h.base.asked.named t true)))
 
 withdraws : (f : Format) (v : SenderView) (t : ℕ) → (h : IsShadowed f v) → waits t v.queue ≡ true → IsShadowed f (record v { queue = without t v.queue })
 withdraws f v t h on = shadow_moved f v (record v { queue = without t v.queue }) h refl (withdrawn_moved (with_sender h.base (shadow v)) t h.usual.order on)

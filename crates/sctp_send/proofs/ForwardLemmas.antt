@@ -30,7 +30,7 @@ use Rattle.sctp_framing.specs.SkipForms.{skip_form}
 use Rattle.sctp_send.specs.SenderKept.{Item, Kept}
 use Rattle.sctp_send.specs.OutstandingFields.{lane_of, item_meaning, entries_of}
 use Rattle.sctp_send.specs.SenderStands.{items_from, Keeps}
-use Rattle.sctp_send.specs.inner.Walks.{given_up_items}
+use Rattle.sctp_send.specs.inner.Walks.{abandoned_items}
 use Rattle.sctp_send.specs.declared.outstanding.Outstanding.{Outstanding}
 use Rattle.sctp_send.proofs.KeepLemmas.{kept_length}
 use Rattle.sctp_send.proofs.ReaderLemmas.{run_items, run_within}
@@ -189,9 +189,9 @@ pub record IsPassed (v : SenderView) (run : ℕ) : Type 0 where
   pub point : point v ≡ v.cum + run
   pub within : v.cum + run < 2 ^ 31
 
-pub is_passed : (f : Format) (s : Kept) (v : SenderView) → Keeps f s v → IsPassed v (given_up_items s.items % 2 ^ 32)
+pub is_passed : (f : Format) (s : Kept) (v : SenderView) → Keeps f s v → IsPassed v (abandoned_items s.items % 2 ^ 32)
 is_passed f s v k =
-    let run = ap given_up_items k.holds.items ∙ run_items v (suc v.cum) (drop v.cum v.plan.entries) in
+    let run = ap abandoned_items k.holds.items ∙ run_items v (suc v.cum) (drop v.cum v.plan.entries) in
     let within = run_within s.items in
     let long = kept_length f s v k in
     let most = is_promised f v k.reached in

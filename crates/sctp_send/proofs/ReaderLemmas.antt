@@ -8,14 +8,14 @@ use Rattle.sctp_model.specs.messages.Plan.{Entry}
 use Rattle.sctp_model.specs.sender.Words.{some_passes}
 use Rattle.sctp_model.specs.sender.SenderView.{Queued, SenderView}
 use Rattle.sctp_model.specs.sender.Entries.{any_from, some_entry, is_unsettled, in_part}
-use Rattle.sctp_model.specs.sender.Readers.{given_up_run, point, unsettled, drained, outstanding, abandoned}
+use Rattle.sctp_model.specs.sender.Readers.{abandoned_run, point, unsettled, drained, outstanding, abandoned}
 use Rattle.sctp_model.specs.sender.Abandoning.{Name, waits, name_of, is_abandoned}
 use Rattle.sctp_model.proofs.sender.Bounds.{is_bounded}
 use Rattle.sctp_model.proofs.sender.OwedLaws.{is_promised, is_windowed}
 use Rattle.sctp_model.proofs.sender.TicketLaws.{IsTicketed, is_ticketed, name_of_none, found_owns}
 use Rattle.sctp_send.specs.SenderKept.{Item, Kept}
 use Rattle.sctp_send.specs.SenderStands.{items_from, fate_here, fate_named, Keeps}
-use Rattle.sctp_send.specs.inner.Walks.{given_up_items, any_unsettled, total, one_if_rest, is_given_up_fate}
+use Rattle.sctp_send.specs.inner.Walks.{abandoned_items, any_unsettled, total, one_if_rest, is_given_up_fate}
 use Rattle.sctp_send.specs.declared.message.Fate.{Fate}
 use Rattle.sctp_send.specs.declared.message.Fate.TheVariants.{Waiting, Numbered, GivenUp}
 use Rattle.sctp_send.proofs.KeepLemmas.{kept_length}
@@ -24,27 +24,27 @@ use Rattle.sctp_send.proofs.TableLemmas.{get_or-table, length-table}
 
 -- ---- walks
 
-pub run_step : (xs : List Item) (at : ℕ) (d : Item) → at < length xs → given_up_items (drop at xs) ≡ (if (get_or xs at d).given_up then suc (given_up_items (drop (suc at) xs)) else 0)
+pub run_step : (xs : List Item) (at : ℕ) (d : Item) → at < length xs → abandoned_items (drop at xs) ≡ (if (get_or xs at d).given_up then suc (abandoned_items (drop (suc at) xs)) else 0)
 run_step [] at d lt = absurd (omega arith)
 run_step (x ∷ xs) zero d lt = refl
 run_step (x ∷ xs) (suc at) d lt = run_step xs at d (omega arith)
 
-pub run_items : (v : SenderView) (i : ℕ) (es : List Entry) → given_up_items (items_from v i es) ≡ given_up_run v es
+pub run_items : (v : SenderView) (i : ℕ) (es : List Entry) → abandoned_items (items_from v i es) ≡ abandoned_run v es
 run_items v i [] = refl
 run_items v i (e ∷ es) = rw (run_items v (suc i) es) refl
 
-pub run_within : (xs : List Item) → given_up_items xs ≤ length xs
+pub run_within : (xs : List Item) → abandoned_items xs ≤ length xs
 run_within [] = omega arith
 run_within (x ∷ xs) = by_test x.given_up (run_within xs)
   where
-    by_test : (b : Bool) → given_up_items xs ≤ length xs → (if b then suc (given_up_items xs) else 0) ≤ suc (length xs)
+    by_test : (b : Bool) → abandoned_items xs ≤ length xs → (if b then suc (abandoned_items xs) else 0) ≤ suc (length xs)
     by_test true rest = omega arith
     by_test false rest = omega arith
 
 -- the point
-pub point_is : (f : Format) (s : Kept) (v : SenderView) → Keeps f s v → (s.cum + given_up_items s.items % 2 ^ 32) % 2 ^ 32 ≡ point v
+pub point_is : (f : Format) (s : Kept) (v : SenderView) → Keeps f s v → (s.cum + abandoned_items s.items % 2 ^ 32) % 2 ^ 32 ≡ point v
 point_is f s v k =
-    let run = ap given_up_items k.holds.items ∙ run_items v (suc v.cum) (drop v.cum v.plan.entries) in
+    let run = ap abandoned_items k.holds.items ∙ run_items v (suc v.cum) (drop v.cum v.plan.entries) in
     let within = run_within s.items in
     let long = kept_length f s v k in
     let most = is_promised f v k.reached in
@@ -67,14 +67,14 @@ any_above v i (suc n) (e ∷ es) on le =
     by_sent true = refl
     by_sent false = refl
 
-pub unsettled_is : (f : Format) (s : Kept) (v : SenderView) → Keeps f s v → (any_unsettled s.items || nat_lt 0 (given_up_items s.items)) ≡ unsettled v
+pub unsettled_is : (f : Format) (s : Kept) (v : SenderView) → Keeps f s v → (any_unsettled s.items || nat_lt 0 (abandoned_items s.items)) ≡ unsettled v
 unsettled_is f s v k =
     let b = is_bounded f v k.reached in
     let one : 1 + v.cum ≡ suc v.cum = omega arith in
     let above = any_above v 1 v.cum v.plan.entries (λ j lo hi. b.covered j (omega arith) (omega arith)) b.within in
     let any : any_unsettled s.items ≡ some_entry v (is_unsettled v) = ap any_unsettled k.holds.items ∙ sym (any_items v (suc v.cum) (drop v.cum v.plan.entries)) ∙ sym (rw one at above) in
-    let run : given_up_items s.items ≡ given_up_run v (drop v.cum v.plan.entries) = ap given_up_items k.holds.items ∙ run_items v (suc v.cum) (drop v.cum v.plan.entries) in
-    rw (any, run) (ap (λ (c : Bool). some_entry v (is_unsettled v) || c) (past v.cum (given_up_run v (drop v.cum v.plan.entries))))
+    let run : abandoned_items s.items ≡ abandoned_run v (drop v.cum v.plan.entries) = ap abandoned_items k.holds.items ∙ run_items v (suc v.cum) (drop v.cum v.plan.entries) in
+    rw (any, run) (ap (λ (c : Bool). some_entry v (is_unsettled v) || c) (past v.cum (abandoned_run v (drop v.cum v.plan.entries))))
   where
     past : (c n : ℕ) → nat_lt 0 n ≡ not ((c + n) == c)
     past c n = by_test (nat_lt 0 n) refl
@@ -185,5 +185,5 @@ nothing_waits f s v k none parts =
 pub some_is_unsettled : (f : Format) (s : Kept) (v : SenderView) → Keeps f s v → any_unsettled s.items ≡ true → true ≡ unsettled v
 some_is_unsettled f s v k any = rw any at (unsettled_is f s v k)
 
-pub point_alone : (f : Format) (s : Kept) (v : SenderView) → Keeps f s v → any_unsettled s.items ≡ false → nat_lt 0 (given_up_items s.items) ≡ unsettled v
+pub point_alone : (f : Format) (s : Kept) (v : SenderView) → Keeps f s v → any_unsettled s.items ≡ false → nat_lt 0 (abandoned_items s.items) ≡ unsettled v
 point_alone f s v k any = rw any at (unsettled_is f s v k)

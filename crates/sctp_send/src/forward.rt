@@ -15,7 +15,7 @@ ghost use Rattle.sctp_send.specs.SenderStands.{StandsFor};
 ghost use Rattle.sctp_send.specs.inner.Newcomers.{one_if};
 
 use crate::outstanding::Outstanding;
-use crate::readers::given_up_run;
+use crate::readers::abandoned_run;
 use crate::sender::Sender;
 use crate::window::Window;
 use sctp_framing::Framing;
@@ -41,7 +41,7 @@ impl<F: Framing> Sender<F> {
         ensures memory { (v : SenderView) → StandsFor F.format self.now v
             → OnErr result ((nat_lt v.cum (point v) && has_room packet.old (forward_chunk_of F.format v)) ≡ true) }
     {
-        let run = given_up_run(&self.outstanding);
+        let run = abandoned_run(&self.outstanding);
         if run == 0 {
             return Ok(false);
         }

@@ -7,7 +7,7 @@ ghost use Rattle.sctp_model.specs.sender.Readers.{point, unsettled, drained, out
 ghost use Rattle.sctp_send.specs.OutstandingFields.{item_meaning};
 ghost use Rattle.sctp_send.specs.SenderFields.{track_meaning};
 ghost use Rattle.sctp_send.specs.SenderStands.{StandsFor};
-ghost use Rattle.sctp_send.specs.inner.Walks.{total, one_if_rest, given_up_items, any_unsettled, is_item_unsettled, is_given_up_fate, is_numbered_fate, any_uncovered, is_item_uncovered, any_rest, rest_has};
+ghost use Rattle.sctp_send.specs.inner.Walks.{total, one_if_rest, abandoned_items, any_unsettled, is_item_unsettled, is_given_up_fate, is_numbered_fate, any_uncovered, is_item_uncovered, any_rest, rest_has};
 
 use crate::message::Fate;
 use crate::outstanding::Outstanding;
@@ -29,7 +29,7 @@ impl<F: Framing> Sender<F> {
     pub fn point(&self) -> u32
         ensures { (v : SenderView) → StandsFor F.format self.now v → result ≡ point v }
     {
-        self.cum.wrapping_add(given_up_run(&self.outstanding))
+        self.cum.wrapping_add(abandoned_run(&self.outstanding))
     }
 
     /// Whether the data timer is wanted (RFC 9260, 6.3.2): something that went out is neither covered nor abandoned, or the point is past CUM,
@@ -40,7 +40,7 @@ impl<F: Framing> Sender<F> {
         if self.outstanding.is_unsettled() {
             return true;
         }
-        first_is_given_up(&self.outstanding)
+        first_is_abandoned(&self.outstanding)
     }
 
     /// The indexes above CUM, and the messages in part: at most 32,767.
@@ -184,8 +184,8 @@ fn count_of(outstanding: &Window) -> u32
 }
 
 /// The first entry is of an abandoned message.
-fn first_is_given_up(outstanding: &Window) -> bool
-    ensures { (size : ℕ) → result ≡ nat_lt 0 (given_up_items (map (item_meaning size) outstanding.now.items)) }
+fn first_is_abandoned(outstanding: &Window) -> bool
+    ensures { (size : ℕ) → result ≡ nat_lt 0 (abandoned_items (map (item_meaning size) outstanding.now.items)) }
 {
     if outstanding.len() == 0 {
         return false;
@@ -194,8 +194,8 @@ fn first_is_given_up(outstanding: &Window) -> bool
 }
 
 /// How many of the first entries are of abandoned messages.
-pub fn given_up_run(outstanding: &Window) -> u32
-    ensures { (size : ℕ) → result ≡ given_up_items (map (item_meaning size) outstanding.now.items) % 2 ^ 32 }
+pub fn abandoned_run(outstanding: &Window) -> u32
+    ensures { (size : ℕ) → result ≡ abandoned_items (map (item_meaning size) outstanding.now.items) % 2 ^ 32 }
 {
     let mut run = 0u32;
     for at in 0..outstanding.len() {

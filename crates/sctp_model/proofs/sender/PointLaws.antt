@@ -6,7 +6,7 @@ use Rattle.sctp_model.specs.messages.Format.{Lane}
 use Rattle.sctp_model.specs.messages.Plan.{Entry, Part, End, entry_at, IsOf}
 use Rattle.sctp_model.specs.sender.SenderView.{SenderView, IsAllAbandoned, IsPoint}
 use Rattle.sctp_model.specs.sender.Entries.{entry_lane, entry_number, is_of_abandoned}
-use Rattle.sctp_model.specs.sender.Readers.{given_up_run, point}
+use Rattle.sctp_model.specs.sender.Readers.{abandoned_run, point}
 
 -- ---- entries by their index
 
@@ -25,25 +25,25 @@ get-drop (suc c) (e ∷ es) j = let same : suc c + j ≡ suc (c + j) = omega ari
 
 -- ---- the run of abandoned entries
 
-run_within : (v : SenderView) (es : List Entry) (j : ℕ) → j < given_up_run v es → (e : Entry) × (slice_get es j ≡ Some e) × (is_of_abandoned v e ≡ true)
+run_within : (v : SenderView) (es : List Entry) (j : ℕ) → j < abandoned_run v es → (e : Entry) × (slice_get es j ≡ Some e) × (is_of_abandoned v e ≡ true)
 run_within v [] j lt = absurd (omega arith)
 run_within v (e ∷ es) j lt = by_test (is_of_abandoned v e) refl lt (λ i low. run_within v es i low)
   where
-    by_place : (k : ℕ) → is_of_abandoned v e ≡ true → k < suc (given_up_run v es) → ((i : ℕ) → i < given_up_run v es → (d : Entry) × (slice_get es i ≡ Some d) × (is_of_abandoned v d ≡ true))
+    by_place : (k : ℕ) → is_of_abandoned v e ≡ true → k < suc (abandoned_run v es) → ((i : ℕ) → i < abandoned_run v es → (d : Entry) × (slice_get es i ≡ Some d) × (is_of_abandoned v d ≡ true))
         → (d : Entry) × (slice_get (e ∷ es) k ≡ Some d) × (is_of_abandoned v d ≡ true)
     by_place zero on less further = (e, refl, on)
     by_place (suc k) on less further = further k (omega arith)
 
-    by_test : (b : Bool) → is_of_abandoned v e ≡ b → j < (if b then suc (given_up_run v es) else 0) → ((i : ℕ) → i < given_up_run v es → (d : Entry) × (slice_get es i ≡ Some d) × (is_of_abandoned v d ≡ true))
+    by_test : (b : Bool) → is_of_abandoned v e ≡ b → j < (if b then suc (abandoned_run v es) else 0) → ((i : ℕ) → i < abandoned_run v es → (d : Entry) × (slice_get es i ≡ Some d) × (is_of_abandoned v d ≡ true))
         → (d : Entry) × (slice_get (e ∷ es) j ≡ Some d) × (is_of_abandoned v d ≡ true)
     by_test false off less further = absurd (omega arith)
     by_test true on less further = by_place j on less further
 
-run_ends : (v : SenderView) (es : List Entry) (e : Entry) → slice_get es (given_up_run v es) ≡ Some e → is_of_abandoned v e ≡ false
+run_ends : (v : SenderView) (es : List Entry) (e : Entry) → slice_get es (abandoned_run v es) ≡ Some e → is_of_abandoned v e ≡ false
 run_ends v [] e is = absurd (cc)
 run_ends v (d ∷ es) e is = by_test (is_of_abandoned v d) refl is (λ there. run_ends v es e there)
   where
-    by_test : (b : Bool) → is_of_abandoned v d ≡ b → slice_get (d ∷ es) (if b then suc (given_up_run v es) else 0) ≡ Some e → (slice_get es (given_up_run v es) ≡ Some e → is_of_abandoned v e ≡ false) → is_of_abandoned v e ≡ false
+    by_test : (b : Bool) → is_of_abandoned v d ≡ b → slice_get (d ∷ es) (if b then suc (abandoned_run v es) else 0) ≡ Some e → (slice_get es (abandoned_run v es) ≡ Some e → is_of_abandoned v e ≡ false) → is_of_abandoned v e ≡ false
     by_test true on there further = further there
     by_test false off there further = let same : d ≡ e = cc in subst (λ (x : Entry). is_of_abandoned v x ≡ false) same off
 
@@ -65,7 +65,7 @@ point_is_point v = record {
   where
     by_entry : (l : Lane) (n : ℕ) (e : Entry) → entry_at v.plan (suc (point v)) ≡ Some e → IsOf l n e → v.abandoned l n ≡ true → ⊥
     by_entry l n e here of on =
-        let there : slice_get (drop v.cum v.plan.entries) (given_up_run v (drop v.cum v.plan.entries)) ≡ Some e = sym (at_offset v (given_up_run v (drop v.cum v.plan.entries))) ∙ here in
+        let there : slice_get (drop v.cum v.plan.entries) (abandoned_run v (drop v.cum v.plan.entries)) ≡ Some e = sym (at_offset v (abandoned_run v (drop v.cum v.plan.entries))) ∙ here in
         let off = run_ends v (drop v.cum v.plan.entries) e there in
         let same = is_itself l n e of in
         let also : is_of_abandoned v e ≡ true = ap (λ (k : Lane). v.abandoned k (entry_number e)) same.0 ∙ ap (v.abandoned l) same.1 ∙ on in

@@ -9,13 +9,13 @@ use Rattle.sctp_model.specs.sender.Abandoning.{Name, name_of, is_covered, is_aba
 -- ---- of all
 
 -- how many entries, from the first on, are of abandoned messages
-abbrev pub given_up_run : SenderView → List Entry → ℕ
-given_up_run v [] = 0
-given_up_run v (e ∷ es) = if is_of_abandoned v e then suc (given_up_run v es) else 0
+abbrev pub abandoned_run : SenderView → List Entry → ℕ
+abandoned_run v [] = 0
+abandoned_run v (e ∷ es) = if is_of_abandoned v e then suc (abandoned_run v es) else 0
 
 -- The point: CUM, and so many indexes behind it as are all of abandoned messages (RFC 3758, 3.5).
 abbrev pub point : SenderView → ℕ
-point v = v.cum + given_up_run v (drop v.cum v.plan.entries)
+point v = v.cum + abandoned_run v (drop v.cum v.plan.entries)
 
 -- The data timer is wanted: something is unsettled, or a FORWARD is due as long as CUM hasn't reached the point (RFC 3758, 3.5).
 abbrev pub unsettled : SenderView → Bool

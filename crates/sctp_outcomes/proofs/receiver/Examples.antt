@@ -156,15 +156,15 @@ by_number = (refl, refl)
 abbrev second_alone : ReceiverView
 second_alone = takes Plain (fresh_receiver 1 1 100) (chunk false true true 2 1 7 2)
 
-abbrev all_given_up : ReceiverView
-all_given_up = forwards Plain second_alone (record { cumulative = 3; skips = names false 2 ∷ [] })
+abbrev all_abandoned : ReceiverView
+all_abandoned = forwards Plain second_alone (record { cumulative = 3; skips = names false 2 ∷ [] })
 
-second_is_handed_over : (texts (all_given_up.waiting 0) ≡ (2 ∷ []) ∷ []) × (numbers_of (all_given_up.waiting 0) ≡ Some 1 ∷ []) × (all_given_up.next 0 ≡ 3) × (cumulative all_given_up 9 ≡ 3)
+second_is_handed_over : (texts (all_abandoned.waiting 0) ≡ (2 ∷ []) ∷ []) × (numbers_of (all_abandoned.waiting 0) ≡ Some 1 ∷ []) × (all_abandoned.next 0 ≡ 3) × (cumulative all_abandoned 9 ≡ 3)
 second_is_handed_over = (refl, refl, refl, refl)
 
 -- the first message's chunk comes late: it is passed, and the FORWARD again is out of date
-late_is_behind : (answer_to Plain all_given_up 3 (chunk false true true 1 0 7 1) ≡ Duplicate)
-    × (forward_answer all_given_up 3 (record { cumulative = 3; skips = names false 2 ∷ [] }) ≡ OutOfDate)
+late_is_behind : (answer_to Plain all_abandoned 3 (chunk false true true 1 0 7 1) ≡ Duplicate)
+    × (forward_answer all_abandoned 3 (record { cumulative = 3; skips = names false 2 ∷ [] }) ≡ OutOfDate)
 late_is_behind = (refl, refl)
 
 -- ---- the blocks of a SACK

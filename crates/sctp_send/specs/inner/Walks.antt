@@ -28,9 +28,9 @@ rest_owes (Some r) = owed_for (length (fragments_in r.message) - entry_fragment 
 -- ---- walks over the items
 
 -- how many of the first items are of abandoned messages
-abbrev pub given_up_items : List Item → ℕ
-given_up_items [] = 0
-given_up_items (x ∷ xs) = if x.given_up then suc (given_up_items xs) else 0
+abbrev pub abandoned_items : List Item → ℕ
+abandoned_items [] = 0
+abandoned_items (x ∷ xs) = if x.given_up then suc (abandoned_items xs) else 0
 
 -- it went out, and the peer may still need it
 abbrev pub is_item_unsettled : Item → Bool

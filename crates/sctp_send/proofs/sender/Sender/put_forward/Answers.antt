@@ -20,7 +20,7 @@ unfolding StandsFor
 returns-then-run-eq0-clause-answer g c = λ v stands.
     let s = c.self.inside in
     let keeps = subst (λ (k : Kept). Keeps g.F.Framing.format k v) (sym c.self.view_is) stands in
-    let none = not_passed v _ (is_passed g.F.Framing.format _ v keeps) (sym (c.given_up_run-run.ensures s.fragment) ∙ c.if-run-eq0.true) in
+    let none = not_passed v _ (is_passed g.F.Framing.format _ v keeps) (sym (c.abandoned_run-run.ensures s.fragment) ∙ c.if-run-eq0.true) in
     rw none refl
 
 pub skips_below-requires : goal.skips_below-requires
@@ -28,22 +28,22 @@ skips_below-requires g c =
     let s = c.self.inside in
     let within = run_within (map (item_meaning 1) s.outstanding.items) in
     let long = length-map s.outstanding.items (item_meaning 1) in
-    omega (arith, within, long, c.given_up_run-run.ensures 1)
+    omega (arith, within, long, c.abandoned_run-run.ensures 1)
 
 pub has_room_for-requires : goal.has_room_for-requires
 has_room_for-requires g c =
     let s = c.self.inside in
     let within = run_within (map (item_meaning 1) s.outstanding.items) in
     let long = length-map s.outstanding.items (item_meaning 1) in
-    omega (arith, within, long, c.given_up_run-run.ensures 1)
+    omega (arith, within, long, c.abandoned_run-run.ensures 1)
 
 pub returns-then-has_room_for-clause-memory : goal.returns-then-has_room_for-clause-memory
 unfolding StandsFor
 returns-then-has_room_for-clause-memory g c = λ v stands.
     let s = c.self.inside in
-    let run = c.given_up_run-run.result in
+    let run = c.abandoned_run-run.result in
     let keeps = subst (λ (k : Kept). Keeps g.F.Framing.format k v) (sym c.self.view_is) stands in
-    let passed : IsPassed v run = rw (c.given_up_run-run.ensures s.fragment) (is_passed g.F.Framing.format _ v keeps) in
+    let passed : IsPassed v run = rw (c.abandoned_run-run.ensures s.fragment) (is_passed g.F.Framing.format _ v keeps) in
     let room = sym (room_is g.F.Framing.format _ v s.fragment run s.outstanding.items c.args.packet.now _ keeps refl passed (c.has_room_for.ensures s.fragment (tsn v.initial (point v)))) ∙ c.if-has_room_for.true in
     rw (some_passed v run passed c.if-run-eq0.false, room) refl
 
@@ -51,9 +51,9 @@ pub returns-in-Err-clause-answer : goal.returns-in-Err-clause-answer
 unfolding StandsFor
 returns-in-Err-clause-answer g c = λ v stands.
     let s = c.self.inside in
-    let run = c.given_up_run-run.result in
+    let run = c.abandoned_run-run.result in
     let keeps = subst (λ (k : Kept). Keeps g.F.Framing.format k v) (sym c.self.view_is) stands in
-    let passed : IsPassed v run = rw (c.given_up_run-run.ensures s.fragment) (is_passed g.F.Framing.format _ v keeps) in
+    let passed : IsPassed v run = rw (c.abandoned_run-run.ensures s.fragment) (is_passed g.F.Framing.format _ v keeps) in
     let room = sym (room_is g.F.Framing.format _ v s.fragment run s.outstanding.items c.args.packet.now _ keeps refl passed (c.has_room_for.ensures s.fragment (tsn v.initial (point v)))) ∙ c.if-has_room_for.false in
     rw room (sym (with_false _))
 
@@ -62,8 +62,8 @@ unfolding StandsFor
 returns-then-len-saturating_sub-clause-answer g c = λ v stands.
     let s = c.self.inside in
     let keeps = subst (λ (k : Kept). Keeps g.F.Framing.format k v) (sym c.self.view_is) stands in
-    let passed : IsPassed v c.given_up_run-run.result = rw (c.given_up_run-run.ensures s.fragment) (is_passed g.F.Framing.format _ v keeps) in
-    let is = forward_is g.F.Framing.format _ v s.fragment c.given_up_run-run.result (tsn v.initial (point v)) s.outstanding.items _ keeps refl passed (c.in-Ok.ensures.skips s.fragment) refl in
+    let passed : IsPassed v c.abandoned_run-run.result = rw (c.abandoned_run-run.ensures s.fragment) (is_passed g.F.Framing.format _ v keeps) in
+    let is = forward_is g.F.Framing.format _ v s.fragment c.abandoned_run-run.result (tsn v.initial (point v)) s.outstanding.items _ keeps refl passed (c.in-Ok.ensures.skips s.fragment) refl in
     let full = no_room g.F.Framing.format c.args.packet.now (record { cumulative = tsn v.initial (point v); skips = skips_in (skip_form g.F.Framing.format) c.in-Ok.list.items }) (omega (arith, c.in-Ok.ensures.count, c.saturating_sub.ensures, c.room.ensures.room)) in
     sym (rw (← is, full) (with_false _))
 
@@ -72,7 +72,7 @@ try_chunk-requires g c =
     let s = c.self.inside in
     let is = forward_chunk_is g.F.Framing.format c.forward_chunk-chunk.result c.tsn_of.result c.skip_form.result c.deref.result.now c.in-Ok.list.items c.new.result c.forward_chunk-chunk.ensures c.new.ensures c.skip_form.ensures c.deref.ensures.value in
     let fit : AllByRecursion (IsSkip (skip_form g.F.Framing.format)) (skips_in (skip_form g.F.Framing.format) c.in-Ok.list.items) =
-    rw (c.in-Ok.ensures.skips 1) (all_fit g.F.Framing.format (entries_of (map (item_meaning 1) (take c.given_up_run-run.result s.outstanding.items))) s.streams (omega arith)) in
+    rw (c.in-Ok.ensures.skips 1) (all_fit g.F.Framing.format (entries_of (map (item_meaning 1) (take c.abandoned_run-run.result s.outstanding.items))) s.streams (omega arith)) in
     rw is (forward_fits g.F.Framing.format (record { cumulative = c.tsn_of.result; skips = skips_in (skip_form g.F.Framing.format) c.in-Ok.list.items }) (omega arith) fit
     (omega (arith, c.in-Ok.ensures.count, c.saturating_sub.ensures, c.room.ensures.small)))
 
@@ -80,9 +80,9 @@ pub returns-clause-answer : goal.returns-clause-answer
 unfolding StandsFor
 returns-clause-answer g c = λ v stands.
     let s = c.self.inside in
-    let run = c.given_up_run-run.result in
+    let run = c.abandoned_run-run.result in
     let keeps = subst (λ (k : Kept). Keeps g.F.Framing.format k v) (sym c.self.view_is) stands in
-    let passed : IsPassed v run = rw (c.given_up_run-run.ensures s.fragment) (is_passed g.F.Framing.format _ v keeps) in
+    let passed : IsPassed v run = rw (c.abandoned_run-run.ensures s.fragment) (is_passed g.F.Framing.format _ v keeps) in
     let is = forward_chunk_is g.F.Framing.format c.forward_chunk-chunk.result c.tsn_of.result c.skip_form.result c.deref.result.now c.in-Ok.list.items c.new.result c.forward_chunk-chunk.ensures c.new.ensures c.skip_form.ensures c.deref.ensures.value in
     let first : c.tsn_of.result ≡ tsn v.initial (point v) = c.tsn_of.ensures ∙ passed_tsn g.F.Framing.format _ v run keeps passed in
     let said = forward_is g.F.Framing.format _ v s.fragment run c.tsn_of.result s.outstanding.items _ keeps refl passed (c.in-Ok.ensures.skips s.fragment) first in
@@ -93,9 +93,9 @@ pub returns-clause-after : goal.returns-clause-after
 unfolding StandsFor
 returns-clause-after g c = λ v stands.
     let s = c.self.inside in
-    let run = c.given_up_run-run.result in
+    let run = c.abandoned_run-run.result in
     let keeps = subst (λ (k : Kept). Keeps g.F.Framing.format k v) (sym c.self.view_is) stands in
-    let passed : IsPassed v run = rw (c.given_up_run-run.ensures s.fragment) (is_passed g.F.Framing.format _ v keeps) in
+    let passed : IsPassed v run = rw (c.abandoned_run-run.ensures s.fragment) (is_passed g.F.Framing.format _ v keeps) in
     let is = forward_chunk_is g.F.Framing.format c.forward_chunk-chunk.result c.tsn_of.result c.skip_form.result c.deref.result.now c.in-Ok.list.items c.new.result c.forward_chunk-chunk.ensures c.new.ensures c.skip_form.ensures c.deref.ensures.value in
     let first : c.tsn_of.result ≡ tsn v.initial (point v) = c.tsn_of.ensures ∙ passed_tsn g.F.Framing.format _ v run keeps passed in
     let said = forward_is g.F.Framing.format _ v s.fragment run c.tsn_of.result s.outstanding.items _ keeps refl passed (c.in-Ok.ensures.skips s.fragment) first in
@@ -106,9 +106,9 @@ pub returns-clause-memory : goal.returns-clause-memory
 unfolding StandsFor
 returns-clause-memory g c = λ v stands.
     let s = c.self.inside in
-    let run = c.given_up_run-run.result in
+    let run = c.abandoned_run-run.result in
     let keeps = subst (λ (k : Kept). Keeps g.F.Framing.format k v) (sym c.self.view_is) stands in
-    let passed : IsPassed v run = rw (c.given_up_run-run.ensures s.fragment) (is_passed g.F.Framing.format _ v keeps) in
+    let passed : IsPassed v run = rw (c.abandoned_run-run.ensures s.fragment) (is_passed g.F.Framing.format _ v keeps) in
     let is = forward_chunk_is g.F.Framing.format c.forward_chunk-chunk.result c.tsn_of.result c.skip_form.result c.deref.result.now c.in-Ok.list.items c.new.result c.forward_chunk-chunk.ensures c.new.ensures c.skip_form.ensures c.deref.ensures.value in
     let first : c.tsn_of.result ≡ tsn v.initial (point v) = c.tsn_of.ensures ∙ passed_tsn g.F.Framing.format _ v run keeps passed in
     let said = forward_is g.F.Framing.format _ v s.fragment run c.tsn_of.result s.outstanding.items _ keeps refl passed (c.in-Ok.ensures.skips s.fragment) first in

@@ -1,6 +1,6 @@
 use Rattle.std.proofs.Common.{arith}
 use Rattle.sctp_send.proofs.WalkLemmas.{walked_run, stopped_run, ended_run}
-use Rattle.sctp_send.proofs.readers.given_up_run.Goals as goal
+use Rattle.sctp_send.proofs.readers.abandoned_run.Goals as goal
 
 pub loop-at-preserved : goal.loop-at-preserved
 loop-at-preserved c = λ size.
