@@ -4,10 +4,11 @@ use Rattle.std.proofs.lemmas.List.{take_more}
 use Rattle.sctp_model.specs.world.World.{World}
 use Rattle.sctp_model.specs.world.Events as meaning
 use Rattle.sctp_model.specs.world.Steps.{Step, PassesThrough, last_of}
-use Rattle.sctp_pair.specs.Happens.{Means, outcome_meaning}
+use Rattle.sctp_events.specs.Events.{outcome_meaning}
+use Rattle.sctp_pair.specs.Happens.{Means}
 use Rattle.sctp_pair.specs.PairRuns.{AllMean, answers_of}
-use Rattle.sctp_pair.specs.declared.event.Event.{Event}
-use Rattle.sctp_pair.specs.declared.outcome.Outcome.{Outcome}
+use Rattle.sctp_events.specs.declared.event.Event.{Event}
+use Rattle.sctp_events.specs.declared.outcome.Outcome.{Outcome}
 
 pub passes_push : (w : World) (es : List meaning.Event) (os : List (Option meaning.Outcome)) (vs : List World) (e : meaning.Event) (o : Option meaning.Outcome) (x : World) →
     PassesThrough w es os vs → Step (last_of w vs) e o x → PassesThrough w (es ++ e ∷ []) (os ++ o ∷ []) (vs ++ x ∷ [])

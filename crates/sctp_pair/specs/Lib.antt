@@ -1,5 +1,3 @@
-pub mod Modes
-pub mod Setups
 pub mod Happens
 pub mod Sides
 pub mod PairStands

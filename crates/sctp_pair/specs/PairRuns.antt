@@ -10,9 +10,10 @@ use Rattle.sctp_model.specs.world.Steps.{Run, PassesThrough, last_of}
 use Rattle.sctp_model.specs.world.Premises.{Premises}
 use Rattle.sctp_safety.specs.Runs.{AreAllSafe}
 use Rattle.sctp_values.specs.declared.no_memory.NoMemory.{NoMemory}
-use Rattle.sctp_pair.specs.Happens.{Means, outcome_meaning}
-use Rattle.sctp_pair.specs.declared.event.Event.{Event}
-use Rattle.sctp_pair.specs.declared.outcome.Outcome.{Outcome}
+use Rattle.sctp_events.specs.Events.{outcome_meaning}
+use Rattle.sctp_pair.specs.Happens.{Means}
+use Rattle.sctp_events.specs.declared.event.Event.{Event}
+use Rattle.sctp_events.specs.declared.outcome.Outcome.{Outcome}
 
 -- ---- several events
 

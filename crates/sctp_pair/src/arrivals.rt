@@ -11,12 +11,12 @@ ghost use Rattle.sctp_model.specs.world.Events as meaning;
 ghost use Rattle.sctp_model.specs.world.Steps.{Step, Brings};
 ghost use Rattle.sctp_endpoint.specs.EndpointStands.{EndpointStands};
 ghost use Rattle.sctp_endpoint.specs.Handled.{IsRead};
-ghost use Rattle.sctp_pair.specs.Happens.{answer_of};
+ghost use Rattle.sctp_events.specs.Events.{answer_of};
 ghost use Rattle.sctp_pair.specs.Sides.{SideView, side_of, left, SideStands, ArePackets, IsItem};
 
 use crate::one_side::OneSide;
-use crate::outcome::Outcome;
 use sctp_endpoint::{Endpoint, Verdict};
+use sctp_events::Outcome;
 use sctp_packet::written_packet_reads;
 use sctp_terms::Draw;
 use sctp_values::NoMemory;

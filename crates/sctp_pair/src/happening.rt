@@ -8,15 +8,14 @@ ghost use Rattle.sctp_model.specs.world.Steps.{Step};
 ghost use Rattle.sctp_send.specs.SenderAnswers.{lane_for};
 ghost use Rattle.sctp_association.specs.CallAnswers.{call_of};
 ghost use Rattle.sctp_endpoint.specs.Handled.{IsRead};
-ghost use Rattle.sctp_pair.specs.Happens.{side_meaning, outcome_meaning, answer_of};
+ghost use Rattle.sctp_events.specs.Events.{side_meaning, outcome_meaning, answer_of};
 ghost use Rattle.sctp_pair.specs.PairStands.{PairStands};
 
 use crate::arrivals::{arrive, packet_at};
-use crate::event::Side;
 use crate::one_side::{abort_at, build_at, abandon_at, refused, send_at, shut_down, take_at};
-use crate::outcome::{Outcome, Refusal};
 use crate::pair::Pair;
 use sctp_endpoint::Endpoint;
+use sctp_events::{Outcome, Refusal, Side};
 use sctp_packet::read_packet;
 use sctp_terms::Draw;
 use sctp_values::{NoMemory, Ticket};

@@ -7,11 +7,11 @@ ghost use Rattle.sctp_model.specs.world.Events as meaning;
 ghost use Rattle.sctp_model.specs.world.Steps.{Step};
 ghost use Rattle.sctp_send.specs.SenderAnswers.{lane_for};
 ghost use Rattle.sctp_association.specs.CallAnswers.{call_of};
-ghost use Rattle.sctp_pair.specs.Happens.{refusal_meaning, outcome_meaning, answer_of};
+ghost use Rattle.sctp_events.specs.Events.{refusal_meaning, outcome_meaning, answer_of};
 ghost use Rattle.sctp_pair.specs.Sides.{SideView, side_of, with_side, SideStands};
 
-use crate::outcome::{Outcome, Refusal};
 use sctp_endpoint::{Endpoint, Refused};
+use sctp_events::{Outcome, Refusal};
 use sctp_packet::written_packet_reads;
 use sctp_send::SendFault;
 use sctp_terms::AbortFault;

@@ -8,19 +8,18 @@ ghost use Rattle.sctp_model.specs.world.Events as meaning;
 ghost use Rattle.sctp_model.specs.world.Steps.{Step, last_of};
 ghost use Rattle.sctp_cookie.specs.Seals.{IsUnder};
 ghost use Rattle.sctp_endpoint.specs.EndpointStands.{EndpointStands};
-ghost use Rattle.sctp_pair.specs.Setups.{setup_of};
-ghost use Rattle.sctp_pair.specs.Happens.{side_meaning, Means, answer_of};
+ghost use Rattle.sctp_events.specs.Setups.{setup_of};
+ghost use Rattle.sctp_events.specs.Events.{side_meaning, answer_of};
+ghost use Rattle.sctp_pair.specs.Happens.{Means};
 ghost use Rattle.sctp_pair.specs.Sides.{IsItem};
 ghost use Rattle.sctp_pair.specs.PairStands.{PairStands};
 ghost use Rattle.sctp_pair.specs.PairRuns.{Course, one_event, RunLeaves, Promised};
 
 use crate::arrivals::packet_at;
-use crate::config::PairConfig;
-use crate::event::{Event, Side};
 use crate::one_side::OneSide;
-use crate::outcome::Outcome;
 use sctp_cookie::Key;
 use sctp_endpoint::Endpoint;
+use sctp_events::{Event, Outcome, PairConfig, Side};
 use sctp_safety::{a_run_passes_its_worlds, each_world_on_the_way_is_safe};
 use sctp_terms::Draw;
 use sctp_values::NoMemory;
@@ -50,11 +49,11 @@ impl Pair {
         Pair {
             alloc,
             a: OneSide {
-                end: Endpoint::caller(alloc, config.a),
+                end: Endpoint::caller(alloc, config.caller()),
                 bag: Vec::new(alloc),
             },
             b: OneSide {
-                end: Endpoint::listener(alloc, config.b, key),
+                end: Endpoint::listener(alloc, config.listener(), key),
                 bag: Vec::new(alloc),
             },
             clock: 0,

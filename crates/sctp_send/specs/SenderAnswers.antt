@@ -62,3 +62,11 @@ answer_meaning Abandoned = gone.Abandoned
 answer_meaning Acknowledged = gone.Acknowledged
 answer_meaning Unknown = gone.Unknown
 answer_meaning Reliable = gone.Reliable
+
+-- and its code
+abbrev pub answer_code : AbandonedFields → ℕ
+answer_code Withdrawn = 1
+answer_code Abandoned = 2
+answer_code Acknowledged = 3
+answer_code Unknown = 4
+answer_code Reliable = 5

@@ -9,7 +9,7 @@ ghost use Rattle.sctp_send.specs.inner.Changes.{given, all_given};
 ghost use Rattle.sctp_send.specs.SenderFields.{queued_by, track_meaning, rest_meaning};
 ghost use Rattle.sctp_send.specs.SenderStands.{StandsFor, fate_here};
 ghost use Rattle.sctp_send.specs.inner.Walks.{is_numbered_fate, any_rest, end_item, GoesOnAt, EndsAt};
-ghost use Rattle.sctp_send.specs.SenderAnswers.{answer_meaning};
+ghost use Rattle.sctp_send.specs.SenderAnswers.{answer_meaning, answer_code};
 
 use crate::message::Fate;
 use crate::outstanding::{Outstanding, Place, Standing, unmarked};
@@ -24,16 +24,31 @@ use sctp_values::Ticket;
 /// What abandoning a ticket's message is answered.
 #[derive(Clone, Copy, Debug, PartialEq, Eq)]
 pub enum Abandoned {
-    /// It has no number, and is withdrawn, now or already before.
+    /// 1: it has no number, and is withdrawn, now or already before.
     Withdrawn,
-    /// It is abandoned, now or already before.
+    /// 2: it is abandoned, now or already before.
     Abandoned,
-    /// It was acknowledged whole.
+    /// 3: it was acknowledged whole.
     Acknowledged,
-    /// There is no message with this ticket.
+    /// 4: there is no message with this ticket.
     Unknown,
-    /// It has a number, and messages with one may not be abandoned.
+    /// 5: it has a number, and messages with one may not be abandoned.
     Reliable,
+}
+
+impl Abandoned {
+    /// The code, 1 to 5.
+    pub fn code(self) -> u8
+        ensures { result ≡ answer_code self }
+    {
+        match self {
+            Abandoned::Withdrawn => 1,
+            Abandoned::Abandoned => 2,
+            Abandoned::Acknowledged => 3,
+            Abandoned::Unknown => 4,
+            Abandoned::Reliable => 5,
+        }
+    }
 }
 
 #[tactic(auto, unfolding(crate::specs::SenderStands::StandsFor))]

@@ -2,7 +2,7 @@ use Rattle.std.proofs.Common.{◌≡◌, ◌+◌, [], ◌∷◌, ◌++◌, take,
 use Rattle.std.proofs.lemmas.Grind.{common_steps}
 use Rattle.std.proofs.lemmas.Result.{err_from_is_err_and}
 use Rattle.std.proofs.lemmas.List.{take-append-drop}
-use Rattle.sctp_pair.specs.Happens.{outcome_meaning}
+use Rattle.sctp_events.specs.Events.{outcome_meaning}
 use Rattle.sctp_pair.specs.PairRuns.{Course}
 use Rattle.sctp_pair.proofs.RunLemmas.{passes_push, last_push, told_push, mean_more}
 use Rattle.sctp_pair.proofs.PromiseLemmas.{promised_run}

@@ -2,7 +2,8 @@ use Rattle.std.proofs.Common.{refl}
 use Rattle.sctp_model.specs.world.Events as meaning
 use Rattle.sctp_send.specs.SenderAnswers.{lane_for}
 use Rattle.sctp_association.specs.CallAnswers.{call_of}
-use Rattle.sctp_pair.specs.Happens.{Means, side_meaning}
+use Rattle.sctp_events.specs.Events.{side_meaning}
+use Rattle.sctp_pair.specs.Happens.{Means}
 use Rattle.sctp_pair.proofs.PromiseLemmas.{promised_step}
 use Rattle.sctp_pair.proofs.pair.Pair.step.Goals as goal
 

@@ -10,6 +10,22 @@ pub enum Side {
     B,
 }
 
+impl Side {
+    ghost use Rattle.std.specs.Prelude.{◌≡◌};
+    ghost use Rattle.sctp_model.specs.world.World.{other};
+    ghost use Rattle.sctp_events.specs.Events.{side_meaning};
+
+    /// The end across.
+    pub fn other(self) -> Side
+        ensures { side_meaning result ≡ other (side_meaning self) }
+    {
+        match self {
+            Side::A => Side::B,
+            Side::B => Side::A,
+        }
+    }
+}
+
 /// Something that happens to a pair.
 #[derive(Debug, PartialEq, Drop)]
 pub enum Event {

@@ -4,33 +4,21 @@ ghost use Rattle.std.specs.Prelude.{◌≡◌, Some, None, MatchResult};
 ghost use Rattle.sctp_model.specs.end.EndView.{Configuration};
 ghost use Rattle.sctp_model.specs.end.Configured.{configuration_fault, plain_configuration};
 ghost use Rattle.sctp_terms.specs.Meanings.{config_fault_meaning};
-ghost use Rattle.sctp_pair.specs.Modes.{asked, turned_round};
+ghost use Rattle.sctp_terms.specs.Modes.{asked};
+ghost use Rattle.sctp_events.specs.Alike.{turned_round};
 
-use sctp_terms::{Config, ConfigFault};
+use sctp_terms::{Config, ConfigFault, Mode};
 
 /// The port of A, which calls.
 const A_PORT: u16 = 5_000;
 /// The port of B, which listens.
 const B_PORT: u16 = 5_001;
 
-/// The format of user data, and whether messages may be given up.
-#[derive(Clone, Copy, Debug, PartialEq, Eq)]
-pub enum Mode {
-    /// DATA chunks, nothing is given up (RFC 9260, 3.3.1).
-    Data,
-    /// DATA chunks, and partial reliability (RFC 3758).
-    PartialData,
-    /// I-DATA chunks, nothing is given up (RFC 8260, 2.1).
-    IData,
-    /// I-DATA chunks, and partial reliability (RFC 8260, 2.3).
-    PartialIData,
-}
-
 /// The configuration of both ends of a pair, alike but for the ports, each of which is the other's peer's.
 #[derive(Clone, Copy, Debug, PartialEq, Eq)]
 pub struct PairConfig {
-    pub(crate) a: Config,
-    pub(crate) b: Config,
+    a: Config,
+    b: Config,
     ghost across: { b ≡ turned_round a },
 }
 
@@ -38,7 +26,8 @@ impl PairConfig {
     ghost use Rattle.std.specs.Prelude.{◌≡◌, Some, None, MatchResult};
     ghost use Rattle.sctp_model.specs.end.Configured.{configuration_fault, plain_configuration};
     ghost use Rattle.sctp_terms.specs.Meanings.{config_fault_meaning};
-    ghost use Rattle.sctp_pair.specs.Modes.{asked, turned_round};
+    ghost use Rattle.sctp_terms.specs.Modes.{asked};
+    ghost use Rattle.sctp_events.specs.Alike.{turned_round};
 
     /// The configuration with packets of at most `limit` bytes, messages cut at `fragment` bytes, a receive buffer of `buffer` bytes, and
     /// `streams` streams each way; both ends ask for what the mode says. A is at port 5,000 and B at 5,001.
@@ -60,20 +49,22 @@ impl PairConfig {
         let a = Config::new(A_PORT, B_PORT, limit, fragment, buffer, streams, streams)?;
         let b = Config::new(B_PORT, A_PORT, limit, fragment, buffer, streams, streams)?;
         Ok(PairConfig {
-            a: asking(mode, a),
-            b: asking(mode, b),
+            a: mode.asked(a),
+            b: mode.asked(b),
         })
     }
-}
 
-/// The configuration that also asks for what the mode says.
-fn asking(mode: Mode, config: Config) -> Config
-    ensures { result ≡ asked mode config }
-{
-    match mode {
-        Mode::Data => config,
-        Mode::PartialData => config.with_partial(),
-        Mode::IData => config.with_interleave(),
-        Mode::PartialIData => config.with_interleave().with_partial(),
+    /// The configuration of A, the caller.
+    pub fn caller(&self) -> Config
+        ensures { result ≡ self.now.a }
+    {
+        self.a
+    }
+
+    /// The configuration of B, the listener.
+    pub fn listener(&self) -> Config
+        ensures { result ≡ turned_round self.now.a }
+    {
+        self.b
     }
 }

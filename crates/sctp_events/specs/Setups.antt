@@ -1,7 +1,7 @@
 -- How a pair is set up.
 use Rattle.sctp_model.specs.end.Sealing.{Sealing}
 use Rattle.sctp_model.specs.world.World.{Setup}
-use Rattle.sctp_pair.specs.declared.config.PairConfig.{PairConfig}
+use Rattle.sctp_events.specs.declared.config.PairConfig.{PairConfig}
 
 -- what a pair of this configuration is set up with, its listener with this seal
 abbrev pub setup_of : PairConfig → Sealing → Setup
