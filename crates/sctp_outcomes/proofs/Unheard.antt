@@ -31,8 +31,8 @@ unheard_rested e = rested_cases (IsUnheard e) e (unheard e) (λ t is d. record {
 
 -- ---- time
 
-pub unheard_abandoned : (e : EndView) (v : SenderView) → IsUnheard e (after_abandoning e v)
-unheard_abandoned e v =
+pub unheard_after_abandoning : (e : EndView) (v : SenderView) → IsUnheard e (after_abandoning e v)
+unheard_after_abandoning e v =
     let mid = settled (record e { sender = v; due = record e.due { forward = e.due.forward || not (point v == point e.sender) } }) in
     unheard_on e mid (after_abandoning e v) (record { receiver = refl; terms = refl; configuration = refl }) (unheard_rested mid)
 
@@ -65,7 +65,7 @@ unheard_ticked e now = go (has_association e.phase)
     go true =
         let m = at_moment e now in
         let u = after_abandoning m (expired_messages m.sender m.moment) in
-        unheard_on e u (rung_all all_alarms u) (unheard_on e m u (record { receiver = refl; terms = refl; configuration = refl }) (unheard_abandoned m (expired_messages m.sender m.moment))) (unheard_all all_alarms u)
+        unheard_on e u (rung_all all_alarms u) (unheard_on e m u (record { receiver = refl; terms = refl; configuration = refl }) (unheard_after_abandoning m (expired_messages m.sender m.moment))) (unheard_all all_alarms u)
 
 -- ---- the user
 
@@ -78,7 +78,7 @@ pub unheard_abandoned : (e : EndView) (k : ℕ) → IsUnheard e (abandoned_at e 
 unheard_abandoned e k = go (is_open e.phase)
   where
     go : (b : Bool) → IsUnheard e (if b then after_abandoning e (abandon_after e.sender k) else record e { sender = abandon_after e.sender k })
-    go true = unheard_abandoned e (abandon_after e.sender k)
+    go true = unheard_after_abandoning e (abandon_after e.sender k)
     go false = record { receiver = refl; terms = refl; configuration = refl }
 
 pub unheard_shut : (e : EndView) → IsUnheard e (shut e)

@@ -19,8 +19,8 @@ use Rattle.sctp_safety.proofs.machine.Turns.{rested_has, by_stage, IsPlainTurn, 
 
 -- ---- time
 
-pub plain_abandoned : (e : EndView) (v : SenderView) → IsPlain e (after_abandoning e v)
-plain_abandoned e v =
+pub plain_after_abandoning : (e : EndView) (v : SenderView) → IsPlain e (after_abandoning e v)
+plain_after_abandoning e v =
     let mid = settled (record e { sender = v; due = record e.due { forward = e.due.forward || not (point v == point e.sender) } }) in
     plain_on e mid (after_abandoning e v) (record { configuration = refl; role = refl; moment = refl; terms = refl; turn = Stays e.phase }) (plain_rested mid)
 
@@ -82,7 +82,7 @@ plain_ticked e now = go (has_association e.phase) refl
     go true is =
         let mid = settled (record (at_moment e now) { sender = expired_messages (at_moment e now).sender (at_moment e now).moment; due = record e.due { forward = e.due.forward || not (point (expired_messages (at_moment e now).sender (at_moment e now).moment) == point e.sender) } }) in
         let u = after_abandoning (at_moment e now) (expired_messages (at_moment e now).sender (at_moment e now).moment) in
-        let g = plain_abandoned (at_moment e now) (expired_messages (at_moment e now).sender (at_moment e now).moment) in
+        let g = plain_after_abandoning (at_moment e now) (expired_messages (at_moment e now).sender (at_moment e now).moment) in
         plain_on (at_moment e now) u (rung_all all_alarms u) g (all_plain all_alarms u (inl (rested_has mid is)))
 
 -- ---- the user
@@ -96,7 +96,7 @@ pub plain_abandoned : (e : EndView) (k : ℕ) → IsPlain e (abandoned_at e k)
 plain_abandoned e k = go (is_open e.phase)
   where
     go : (b : Bool) → IsPlain e (if b then after_abandoning e (abandon_after e.sender k) else record e { sender = abandon_after e.sender k })
-    go true = plain_abandoned e (abandon_after e.sender k)
+    go true = plain_after_abandoning e (abandon_after e.sender k)
     go false = record { configuration = refl; role = refl; moment = refl; terms = refl; turn = Stays e.phase }
 
 pub plain_taken : (e : EndView) (n : ℕ) (h : Option Handed) (t : EndView) → UserTakes e n h t → IsPlain e t

@@ -44,8 +44,8 @@ module _ (p : EndView) (u v : Asked) (out back : List ChunkMeaning) where
     moment_there = m.moment_there;
   }
 
-  met_abandoned : (e : EndView) (a : SenderView) → Met e → Direction (format_of e) e.terms.outbound a u p.receiver out back → Met (after_abandoning e a)
-  met_abandoned e a m d =
+  met_after_abandoning : (e : EndView) (a : SenderView) → Met e → Direction (format_of e) e.terms.outbound a u p.receiver out back → Met (after_abandoning e a)
+  met_after_abandoning e a m d =
       met_rested (settled (record e { sender = a; due = record e.due { forward = e.due.forward || not (point a == point e.sender) } })) p u v out back
       (still (record e { sender = a }) _ (with_sender e a m d) (record { terms = refl; sender = refl; receiver = refl; moment = refl }) m.phase)
 
@@ -82,7 +82,7 @@ module _ (p : EndView) (u v : Asked) (out back : List ChunkMeaning) where
       go false = there
       go true =
           met_rung_all all_alarms (after_abandoning (at_moment e now) (expired e.sender (at_moment e now).moment))
-          (met_abandoned (at_moment e now) (expired e.sender (at_moment e now).moment) there
+          (met_after_abandoning (at_moment e now) (expired e.sender (at_moment e now).moment) there
           (after_expiry (format_of e) e.terms.outbound e.sender u p.receiver out back m.going (at_moment e now).moment there.moment))
 
   -- ---- calls that change nothing of the sender
