@@ -1,0 +1,44 @@
+-- What a word may say, by its field, and the words of several fields.
+use Rattle.std.specs.Prelude.{◌≡◌, ℕ, ◌<◌, ◌^◌, List, [], ◌∷◌, Option, None, Some, codes}
+use Rattle.sctp_model.specs.messages.Format.{Kind, Ordered, Unordered}
+use Rattle.sctp_terms.specs.declared.mode.Mode.{Mode}
+use Rattle.sctp_terms.specs.declared.mode.Mode.TheVariants.{Data, PartialData, IData, PartialIData}
+use Rattle.sctp_text.specs.Numerals.{IsDecimal}
+
+-- a number that a field of so many bits holds
+abbrev pub IsNumber : ℕ → List ℕ → ℕ → Type 0
+IsNumber bits word n = IsDecimal word n × (n < 2 ^ bits)
+
+-- a verification tag, which isn't 0 (RFC 9260, 5.3.1)
+abbrev pub IsTag : List ℕ → ℕ → Type 0
+IsTag word n = IsNumber 32 word n × (0 < n)
+
+-- when a message is handed over (RFC 9260, 6.6)
+abbrev pub kind_word : Kind → List ℕ
+kind_word Ordered = codes "o"
+kind_word Unordered = codes "u"
+
+-- the name of a mode
+abbrev pub mode_word : Mode → List ℕ
+mode_word Data = codes "data"
+mode_word PartialData = codes "data-pr"
+mode_word IData = codes "idata"
+mode_word PartialIData = codes "idata-pr"
+
+-- the moment from which a message is worthless, in milliseconds, or none
+abbrev pub IsUntil : List ℕ → Option ℕ → Type 0
+IsUntil word None = word ≡ codes "-"
+IsUntil word (Some n) = IsNumber 64 word n
+
+-- ---- the words of several fields: F is what a program has as fields, Value what a word of a field says, and IsValue that it does
+
+-- a value for each field
+abbrev pub Values : {F : Type 0} → (Value : F → Type 0) → List F → Type 0
+Values Value [] = Unit {0}
+Values Value (f ∷ fs) = Value f × Values Value fs
+
+-- there is a word for each field, and it says this value
+abbrev pub AreValues : {F : Type 0} → (Value : F → Type 0) → (IsValue : (f : F) → List ℕ → Value f → Type 0) → (fs : List F) → List (List ℕ) → Values Value fs → Type 0
+AreValues Value IsValue [] words vs = words ≡ []
+AreValues Value IsValue (f ∷ fs) words (v, vs) =
+    (word : List ℕ) × (others : List (List ℕ)) × (words ≡ word ∷ others) × IsValue f word v × AreValues Value IsValue fs others vs

@@ -1,0 +1,69 @@
+//! The words behind a command that are more than a number, each by its field.
+
+ghost use Rattle.std.specs.Prelude.{◌≡◌, ℕ, List, Option, IfOk, MatchOption};
+ghost use Rattle.sctp_model.specs.messages.Format as format;
+ghost use Rattle.sctp_values.specs.Meanings.{kind_meaning};
+ghost use Rattle.sctp_text.specs.Numerals.{IsHex};
+ghost use Rattle.sctp_words.specs.Fields.{IsNumber, IsTag, IsUntil, kind_word, mode_word};
+
+use crate::numbers::{read_u32, read_u64};
+use sctp_terms::{Draw, Mode};
+use sctp_text::{Bytes, read_hex};
+use sctp_values::{Kind, NoMemory};
+use std::alloc::Global;
+
+/// The draw that two words say, the tag first.
+pub fn read_draw(tag: &[u8], tsn: &[u8]) -> Option<Draw>
+    ensures { MatchOption result
+        ((t n : ℕ) → IsTag tag.now t → IsNumber 32 tsn.now n → ⊥)
+        (λ draw. IsTag tag.now draw.tag × IsNumber 32 tsn.now draw.tsn) }
+{
+    let tag = read_u32(tag)?;
+    let tsn = read_u32(tsn)?;
+    Draw::new(tag, tsn)
+}
+
+/// The bytes that a word says in hexadecimal, None where it says none.
+///
+/// # Errors
+/// `NoMemory` where there was no room for the bytes.
+pub fn read_bytes(alloc: Global, word: &[u8]) -> Result<Option<Bytes>, NoMemory>
+    ensures { IfOk result (λ found. MatchOption found
+        ((bytes : List ℕ) → IsHex word.now bytes → ⊥) (λ bytes. IsHex word.now bytes)) }
+{
+    read_hex(alloc, word).map_err(|_| NoMemory)
+}
+
+/// When a message is handed over, as a word says it: `o` or `u`.
+pub fn read_kind(word: &[u8]) -> Option<Kind>
+    ensures { MatchOption result ((k : format.Kind) → word.now ≡ kind_word k → ⊥) (λ k. word.now ≡ kind_word (kind_meaning k)) }
+{
+    match word {
+        b"o" => Some(Kind::Ordered),
+        b"u" => Some(Kind::Unordered),
+        _ => None,
+    }
+}
+
+/// The moment from which a message is worthless, as a word says it, in milliseconds, or that there is none.
+pub fn read_until(word: &[u8]) -> Option<Option<u64>>
+    ensures { MatchOption result ((t : Option ℕ) → IsUntil word.now t → ⊥) (λ t. IsUntil word.now t) }
+{
+    if word == b"-".as_slice() {
+        return Some(None);
+    }
+    Some(Some(read_u64(word)?))
+}
+
+/// The mode that a word names.
+pub fn read_mode(word: &[u8]) -> Option<Mode>
+    ensures { MatchOption result ((m : Mode) → word.now ≡ mode_word m → ⊥) (λ m. word.now ≡ mode_word m) }
+{
+    match word {
+        b"data" => Some(Mode::Data),
+        b"data-pr" => Some(Mode::PartialData),
+        b"idata" => Some(Mode::IData),
+        b"idata-pr" => Some(Mode::PartialIData),
+        _ => None,
+    }
+}
