@@ -16,3 +16,5 @@ pub mod OneOutcome
 pub mod OneEnd
 pub mod InOrder
 pub mod stories
+pub mod logs
+pub mod Untouched

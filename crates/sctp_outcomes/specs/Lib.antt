@@ -5,3 +5,5 @@ pub mod OneEnd
 pub mod Examples
 pub mod Script
 pub mod Views
+pub mod Kept
+pub mod Untouched

@@ -5,6 +5,7 @@
 #![tactic(auto)]
 
 mod examples;
+mod kept;
 mod outcomes;
 mod receiver_steps;
 mod sender_calls;
@@ -13,6 +14,10 @@ mod views;
 
 pub use examples::{
     a_message_arrives, a_message_in_part_is_ended, a_message_is_passed_over, the_script_runs,
+};
+pub use kept::{
+    calls_note_their_own, new_ends_have_no_logs, packets_note_their_numbers,
+    what_comes_keeps_logs,
 };
 pub use outcomes::{every_event_has_an_outcome, every_event_has_one_outcome};
 pub use receiver_steps::{
@@ -23,7 +28,9 @@ pub use sender_calls::{
     messages_are_cut, next_wishes_are_computed, refusals_are_told, sacks_are_taken,
     shutdowns_are_taken,
 };
-pub use steps::{each_end_has_one_next_packet, each_packet_has_one_verdict};
+pub use steps::{
+    each_end_has_one_next_packet, each_packet_has_one_verdict, packets_leave_no_trace,
+};
 pub use views::{
     both_receivers_are_at_rest, both_senders_are_in_order, no_receiver_passes_its_buffer,
 };

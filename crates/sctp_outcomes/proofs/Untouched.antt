@@ -1,0 +1,190 @@
+-- What is dropped, but for a cookie, changed nothing: no chunk of it was listed, or the end still waits for an INIT ACK.
+use Rattle.std.proofs.Common.{◌≡◌, ℕ, ◌⊎◌, Bool, true, false, List, Option, Some, None, inl, inr, refl, sym, subst, ap, ◌∙◌}
+use Rattle.std.specs.Prelude.{◌&&◌, if◌then◌else◌}
+use Rattle.sctp_model.specs.wire.Typed.{Typed}
+use Rattle.sctp_model.specs.wire.Packet.{Packet}
+use Rattle.sctp_model.specs.wire.Unknown.{chunk_rule}
+use Rattle.sctp_model.specs.wire.Chunk.{ChunkMeaning, Data, IData, Init, InitAck, Sack, Heartbeat, HeartbeatAck, Abort, Shutdown, ShutdownAck, Error, CookieEcho, CookieAck, ShutdownComplete, ForwardTsn, IForwardTsn, Unknown}
+use Rattle.sctp_model.specs.end.EndView.{Draw, Stage, Phase, Idle, Listening, Calling, Echoing, Open, Over, EndView, has_association}
+use Rattle.sctp_model.specs.end.Clock.{at_moment}
+use Rattle.sctp_model.specs.end.Closing.{takes_acknowledgements, hears, rested}
+use Rattle.sctp_model.specs.end.Reports.{with_causes, causes_with}
+use Rattle.sctp_model.specs.end.PeerFaults.{COOKIE, Note, Unnoted, ToAcknowledge, GoesOn, Drops}
+use Rattle.sctp_model.specs.end.Opening.{is_calling, NoTag, AcceptedAck, EchoedAgain, IsStrange, CookieAcked, begun}
+use Rattle.sctp_model.specs.end.Acting.{Acts, PieceComes, IsOld, ForwardComes, SackStale, SackCounts, HeartbeatCounts, SaysNothing, ShutdownStale, ShutdownCounts, Crosses, Again, may_report, unknown_item, unknown_causes, unknown_leaves}
+use Rattle.sctp_model.specs.end.Strays.{Verdict, Dropped, opened_by}
+use Rattle.sctp_model.specs.end.Arriving.{Notes, no_notes, noted, acknowledges_in, packet_ended, verdict_of, AllAct, NoneLeft, Next, Passes, Last, EndsAnswered, Stopped, Arrives, Elsewhere, NotOurs, Stray, CookieBegins, Heard, Receives, DroppedUnread, ReadAs}
+use Rattle.sctp_safety.proofs.machine.EndWords.{rested_cases}
+use Rattle.sctp_safety.proofs.machine.Sides.{unknown_goes}
+use Rattle.sctp_outcomes.specs.Untouched.{StraysChangeNothing, DropsChangeNothing}
+
+-- ---- an end that waits for an INIT ACK
+
+-- it is in no other state
+not_open : {X : Type 0} (h k : Phase) → is_calling k ≡ false → h ≡ k → is_calling h ≡ true → X
+not_open {X} h k off is on = let q : false ≡ true = sym off ∙ sym (ap is_calling is) ∙ on in absurd (cc)
+
+not_heard : {X : Type 0} (f : Stage → Bool) (h : Phase) → hears f h ≡ true → is_calling h ≡ true → X
+not_heard f Idle heard on = absurd (cc)
+not_heard f Listening heard on = absurd (cc)
+not_heard f (Calling d) heard on = absurd (cc)
+not_heard f (Echoing t xs) heard on = absurd (cc)
+not_heard f (Open t g) heard on = absurd (cc)
+not_heard f (Over why) heard on = absurd (cc)
+
+-- it reports nothing
+reports_nothing : (e : EndView) (k f : ℕ) (v : List ℕ) → is_calling e.phase ≡ true → unknown_causes e k f v ≡ e.due.causes
+reports_nothing e k f v on = go e.phase on (chunk_rule k).report
+  where
+    go : (h : Phase) → is_calling h ≡ true → (b : Bool) → (if b && may_report h then causes_with e (unknown_item k f v) else e.due.causes) ≡ e.due.causes
+    go (Calling d) is true = refl
+    go (Calling d) is false = refl
+    go Idle is b = absurd (cc)
+    go Listening is b = absurd (cc)
+    go (Echoing t xs) is b = absurd (cc)
+    go (Open t g) is b = absurd (cc)
+    go (Over why) is b = absurd (cc)
+
+-- a chunk after which it waits still changed nothing
+still_calling : (e : EndView) (tag : ℕ) (x : ChunkMeaning) (y : Note) (t : EndView) → Acts e tag x (GoesOn y t) → is_calling t.phase ≡ true → t ≡ e
+still_calling e tag (Data p) y t (PieceComes u g a r is _ _ _ came) on = not_open e.phase (Open u g) refl is on
+still_calling e tag (IData p) y t (PieceComes u g a r is _ _ _ came) on = not_open e.phase (Open u g) refl is on
+still_calling e tag (Init m) y t h on = absurd (cc)
+still_calling e tag (InitAck m) y t (AcceptedAck _ _ _ _ _ _) on = absurd (cc)
+still_calling e tag (Sack k) y t (SackStale _ _) on = refl
+still_calling e tag (Sack k) y t (SackCounts heard _) on = not_heard takes_acknowledgements e.phase heard on
+still_calling e tag (Heartbeat i) y t (HeartbeatCounts heard) on = not_heard (λ g. true) e.phase heard on
+still_calling e tag (HeartbeatAck i) y t h on = cc
+still_calling e tag (Abort b xs) y t h on = absurd (cc)
+still_calling e tag (Shutdown n) y t (ShutdownStale _ _ _ _ _) on = absurd (cc)
+still_calling e tag (Shutdown n) y t (ShutdownCounts _ _ _ _ _) on = absurd (cc)
+still_calling e tag (Shutdown n) y t (Crosses _ _) on = absurd (cc)
+still_calling e tag (Shutdown n) y t (Again u is) on = not_open e.phase _ refl is on
+still_calling e tag ShutdownAck y t h on = elim h [ ]
+still_calling e tag (Error xs) y t (SaysNothing _) on = refl
+still_calling e tag (CookieEcho xs) y t (EchoedAgain s u g _ is _ _) on = not_open e.phase (Open u g) refl is on
+still_calling e tag CookieAck y t (CookieAcked _ _ _) on = absurd (cc)
+still_calling e tag (ShutdownComplete b) y t h on = elim h [ ]
+still_calling e tag (ForwardTsn m) y t (IsOld u g r is _ _ came) on = not_open e.phase (Open u g) refl is on
+still_calling e tag (ForwardTsn m) y t (ForwardComes u g r is _ _ came) on = not_open e.phase (Open u g) refl is on
+still_calling e tag (IForwardTsn m) y t (IsOld u g r is _ _ came) on = not_open e.phase (Open u g) refl is on
+still_calling e tag (IForwardTsn m) y t (ForwardComes u g r is _ _ came) on = not_open e.phase (Open u g) refl is on
+still_calling e tag (Unknown n f v) y t h on =
+    let u = unknown_goes e y t n f v h in
+    let same : is_calling e.phase ≡ true = subst (λ (x : EndView). is_calling x.phase ≡ true) u.same on in
+    u.same ∙ ap (λ (xs : List Typed). with_causes xs e) (reports_nothing e n f v same)
+
+-- nor has it gone on with closing
+rested_calling : (e : EndView) → is_calling (rested e).phase ≡ true → rested e ≡ e
+rested_calling e = rested_cases (λ (x : EndView). is_calling x.phase ≡ true → x ≡ e) e (λ on. refl) (λ t is d on. absurd (cc)) (λ t is d on. absurd (cc))
+
+-- ---- chunks
+
+-- why a chunk drops its packet
+chunk_drops : (e : EndView) (tag : ℕ) (x : ChunkMeaning) (r : ℕ) → Acts e tag x (Drops r) → (r ≡ COOKIE) ⊎ (is_calling e.phase ≡ true)
+chunk_drops e tag (Data p) r h = elim h [ ]
+chunk_drops e tag (IData p) r h = elim h [ ]
+chunk_drops e tag (Init m) r h = absurd (cc)
+chunk_drops e tag (InitAck m) r (NoTag d is none) = inr (ap is_calling is)
+chunk_drops e tag (Sack k) r h = elim h [ ]
+chunk_drops e tag (Heartbeat i) r h = elim h [ ]
+chunk_drops e tag (HeartbeatAck i) r h = absurd (cc)
+chunk_drops e tag (Abort b xs) r h = absurd (cc)
+chunk_drops e tag (Shutdown n) r h = elim h [ ]
+chunk_drops e tag ShutdownAck r h = elim h [ ]
+chunk_drops e tag (Error xs) r h = elim h [ ]
+chunk_drops e tag (CookieEcho xs) r (IsStrange _ _ _ _ _ _ _) = inl refl
+chunk_drops e tag CookieAck r h = elim h [ ]
+chunk_drops e tag (ShutdownComplete b) r h = elim h [ ]
+chunk_drops e tag (ForwardTsn m) r h = elim h [ ]
+chunk_drops e tag (IForwardTsn m) r h = elim h [ ]
+chunk_drops e tag (Unknown n f v) r h = absurd (go (chunk_rule n).stop h)
+  where
+    go : (b : Bool) → Drops r ≡ unknown_leaves b (with_causes (unknown_causes e n f v) e) → ⊥
+    go true q = absurd (cc)
+    go false q = absurd (cc)
+
+-- It was dropped for its cookie, or nothing changed: the end waits for an INIT ACK still, or nothing was noted.
+abbrev LeftSo : ℕ → EndView → Notes → EndView → Notes → Type 0
+LeftSo r e n t m = (r ≡ COOKIE) ⊎ ((t ≡ e) × ((is_calling t.phase ≡ true) ⊎ ((m ≡ n) × (n.listed ≡ false))))
+
+noted_listed : (k : Note) (n : Notes) → (noted k n).listed ≡ true
+noted_listed Unnoted n = refl
+noted_listed (ToAcknowledge b) n = refl
+
+left_by : (r : ℕ) (e : EndView) (n : Notes) (b : Bool) → n.listed ≡ b → verdict_of b ≡ Dropped r → LeftSo r e n e n
+left_by r e n true is told = absurd (cc)
+left_by r e n false is told = inr (refl, inr (refl, is))
+
+goes_left : (r tag : ℕ) (e mid t : EndView) (k : Note) (n m : Notes) (x : ChunkMeaning) → Acts e tag x (GoesOn k mid) → LeftSo r (rested mid) (noted k n) t m → LeftSo r e n t m
+goes_left r tag e mid t k n m x act (inl cookie) = inl cookie
+goes_left r tag e mid t k n m x act (inr (same, inl calling)) =
+    let here = subst (λ (y : EndView). is_calling y.phase ≡ true) same calling in
+    let rests = rested_calling mid here in
+    inr (same ∙ rests ∙ still_calling e tag x k mid act (subst (λ (y : EndView). is_calling y.phase ≡ true) rests here), inl calling)
+goes_left r tag e mid t k n m x act (inr (same, inr (notes, off))) = let on = noted_listed k n in let q : true ≡ false = sym on ∙ off in absurd (cc)
+
+acts_left : (r tag : ℕ) (e : EndView) (n : Notes) (xs : List ChunkMeaning) (t : EndView) (m : Notes) (v : Verdict) → AllAct tag e n xs t m v → v ≡ Dropped r → LeftSo r e n t m
+acts_left r tag e n xs t m v (NoneLeft _ _) told = left_by r e n n.listed refl told
+acts_left r tag e n xs t m v (Next _ mid _ k _ _ x ys _ act rest) told = goes_left r tag e mid t k n m x act (acts_left r tag (rested mid) (noted k n) ys t m v rest told)
+acts_left r tag e n xs t m v (Passes _ _ _ _ x ys _ act rest) told = acts_left r tag e n ys t m v rest told
+acts_left r tag e n xs t m v (Last _ _ _ x ys act) told = absurd (cc)
+acts_left r tag e n xs t m v (EndsAnswered _ _ _ x ys p act) told = absurd (cc)
+acts_left r tag e n xs t m v (Stopped _ _ x ys q act) told =
+    let same : q ≡ r = cc in
+    elim (chunk_drops e tag x q act) [
+      | inl cookie ↦ inl (sym same ∙ cookie)
+      | inr calling ↦ inr (refl, inl calling)
+    ]
+
+-- ---- a packet
+
+ended_calling : (n : Notes) (t : EndView) → is_calling t.phase ≡ true → packet_ended n t ≡ t
+ended_calling n t on = go n.acknowledges t.phase on
+  where
+    go : (b : Bool) (h : Phase) → is_calling h ≡ true → acknowledges_in b h t ≡ t
+    go false h is = refl
+    go true (Calling d) is = refl
+    go true Idle is = absurd (cc)
+    go true Listening is = absurd (cc)
+    go true (Echoing u xs) is = absurd (cc)
+    go true (Open u g) is = absurd (cc)
+    go true (Over why) is = absurd (cc)
+
+ended_left : (r : ℕ) (e t : EndView) (m : Notes) → (r ≡ COOKIE → ⊥) → LeftSo r e no_notes t m → packet_ended m t ≡ e
+ended_left r e t m other (inl cookie) = absurd (other cookie)
+ended_left r e t m other (inr (same, inl calling)) = ended_calling m t calling ∙ same
+ended_left r e t m other (inr (same, inr (notes, off))) = ap (λ (k : Notes). packet_ended k t) notes ∙ same
+
+-- an end that a cookie opened doesn't wait for an INIT ACK, and has a note
+never_left : {X : Type 0} (r : ℕ) (e t : EndView) (n m : Notes) → is_calling e.phase ≡ false → n.listed ≡ true → (r ≡ COOKIE → ⊥) → LeftSo r e n t m → X
+never_left r e t n m off on other (inl cookie) = absurd (other cookie)
+never_left r e t n m off on other (inr (same, inl calling)) = not_open t.phase e.phase off (ap (λ (x : EndView). x.phase) same) calling
+never_left r e t n m off on other (inr (same, inr (notes, none))) = let q : true ≡ false = sym on ∙ none in absurd (cc)
+
+arrives_left : (r : ℕ) (e : EndView) (d : Draw) (p : Packet) (t : EndView) (v : Verdict) → Arrives e d p t v → (r ≡ COOKIE → ⊥) → v ≡ Dropped r → t ≡ e
+arrives_left r e d p t v (Elsewhere _) other told = refl
+arrives_left r e d p t v (NotOurs _ _) other told = refl
+arrives_left r e d p t v (Stray _ _ _ _) other told = refl
+arrives_left r e d p t v (CookieBegins b u n _ _ _ _ _ acts) other told =
+    never_left r (begun b e) u (noted Unnoted no_notes) n refl refl other (acts_left r p.tag (begun b e) (noted Unnoted no_notes) _ u n v acts told)
+arrives_left r e d p t v (Heard u n _ _ _ _ acts) other told = ended_left r e u n other (acts_left r p.tag e no_notes p.chunks u n v acts told)
+
+pub drops_change_nothing : DropsChangeNothing
+drops_change_nothing e now d p t reason other came = go p t (Dropped reason) came refl
+  where
+    go : (o : Option Packet) (u : EndView) (v : Verdict) → Receives e now d o u v → v ≡ Dropped reason → u ≡ at_moment e now
+    go o u v DroppedUnread told = refl
+    go o u v (ReadAs q _ _ arrives) told = arrives_left reason (at_moment e now) d q u v arrives other told
+
+-- ---- an end without an association
+
+stray_left : (e : EndView) (d : Draw) (p : Packet) (t : EndView) (v : Verdict) → has_association e.phase ≡ false → opened_by e p ≡ None → Arrives e d p t v → t ≡ e
+stray_left e d p t v off none (Elsewhere _) = refl
+stray_left e d p t v off none (NotOurs _ _) = refl
+stray_left e d p t v off none (Stray _ _ _ _) = refl
+stray_left e d p t v off none (CookieBegins b u n _ _ _ _ opens _) = let q : None ≡ Some b = sym none ∙ opens in absurd (cc)
+stray_left e d p t v off none (Heard u n _ _ _ on _) = let q : true ≡ false = sym on ∙ off in absurd (cc)
+
+pub strays_change_nothing : StraysChangeNothing
+strays_change_nothing e now d p t v off none (ReadAs _ _ _ arrives) = stray_left (at_moment e now) d p t v off none arrives

@@ -1,0 +1,7 @@
+pub mod Senders
+pub mod Filled
+pub mod Ends
+pub mod Heard
+pub mod Passed
+pub mod Called
+pub mod Built

@@ -1,0 +1,82 @@
+-- A packet that is built notes what it newly numbers, and nothing else.
+use Rattle.std.proofs.Common.{◌≡◌, Bool, true, false, List, [], ◌∷◌, ◌++◌, refl, sym, subst, ap, ◌∙◌}
+use Rattle.std.specs.Prelude.{◌-◌}
+use Rattle.sctp_model.specs.wire.Chunk.{ChunkMeaning}
+use Rattle.sctp_model.specs.wire.Packet.{size_of_packet}
+use Rattle.sctp_model.specs.sender.SenderView.{SenderView}
+use Rattle.sctp_model.specs.end.EndView.{EndView, format_of}
+use Rattle.sctp_model.specs.end.Clock.{at_moment}
+use Rattle.sctp_model.specs.end.Building.{Slot, Puts, NoMore, NotDue, Put, IsFull, Builds, Sleeps, Waits, Calls, Echoes, EndsFull, Fills, EchoSlot, CookieAckSlot, HeartbeatSlot, ErrorSlot, SackSlot, ForwardSlot, ShutdownSlot, ShutdownAckSlot, once_built, sent}
+use Rattle.sctp_outcomes.specs.Kept.{is_before, IsNamed, IsSound, AddsNumbers, BuildsAddNumbers}
+use Rattle.sctp_outcomes.proofs.logs.Filled.{Grows, grows_not, grows_filled, numbers_grow}
+use Rattle.sctp_outcomes.proofs.logs.Ends.{never, same_keeps}
+use Rattle.sctp_outcomes.proofs.logs.Heard.{moment_keeps}
+
+-- ---- what is due goes in
+
+-- neither the sender nor the state changed, and nothing was taken
+record IsPut (e t : EndView) : Type 0 where
+  sender : t.sender ≡ e.sender
+  taken : t.receiver.taken ≡ e.receiver.taken
+  phase : t.phase ≡ e.phase
+
+put_on : (e t u : EndView) → IsPut e t → IsPut t u → IsPut e u
+put_on e t u a b = record { sender = b.sender ∙ a.sender; taken = b.taken ∙ a.taken; phase = b.phase ∙ a.phase }
+
+once_put : (s : Slot) (e : EndView) → IsPut e (once_built s e)
+once_put EchoSlot e = record { sender = refl; taken = refl; phase = refl }
+once_put CookieAckSlot e = record { sender = refl; taken = refl; phase = refl }
+once_put HeartbeatSlot e = record { sender = refl; taken = refl; phase = refl }
+once_put ErrorSlot e = record { sender = refl; taken = refl; phase = refl }
+once_put SackSlot e = record { sender = refl; taken = refl; phase = refl }
+once_put ForwardSlot e = record { sender = refl; taken = refl; phase = refl }
+once_put ShutdownSlot e = record { sender = refl; taken = refl; phase = refl }
+once_put ShutdownAckSlot e = record { sender = refl; taken = refl; phase = refl }
+
+all_put : (ss : List Slot) (e : EndView) (xs zs : List ChunkMeaning) (full : Bool) (t : EndView) → Puts ss e xs zs full t → IsPut e t
+all_put ss e xs zs full t (NoMore _ _) = record { sender = refl; taken = refl; phase = refl }
+all_put ss e xs zs full t (NotDue _ more _ _ _ _ _ off rest) = all_put more e xs zs full t rest
+all_put ss e xs zs full t (Put s more _ x _ _ _ _ due wants room rest) = put_on e (once_built s e) t (once_put s e) (all_put more (once_built s e) (xs ++ x ∷ []) zs full t rest)
+all_put ss e xs zs full t (IsFull _ _ _ _ _ due wants room) = record { sender = refl; taken = refl; phase = refl }
+
+-- ---- the packet
+
+-- an end whose sender has grown, with an association
+grown : (e t : EndView) → Grows e.sender t.sender → t.receiver.taken ≡ e.receiver.taken → is_before t.phase ≡ false → IsSound e → AddsNumbers e t
+grown e t g taken after s = record {
+  sound = record { bare = λ on. never after on; named = g.named };
+  numbers = numbers_grow e.sender t.sender s.named g;
+  tickets = g.tickets;
+  taken = taken;
+}
+
+-- or one that is the same to its logs
+same_adds : (e t : EndView) → t.sender ≡ e.sender → t.receiver ≡ e.receiver → t.configuration ≡ e.configuration → t.phase ≡ e.phase → IsSound e → AddsNumbers e t
+same_adds e t sender receiver configuration phase s =
+    let k = same_keeps e t sender receiver configuration (λ on. ap is_before (sym phase) ∙ on) s in
+    let g = grows_not e.sender t.sender (ap (λ (v : SenderView). v.plan) sender) (ap (λ (v : SenderView). v.tickets) sender) s.named in
+    record { sound = k.sound; numbers = numbers_grow e.sender t.sender s.named g; tickets = k.tickets; taken = k.taken }
+
+put_grown : (e t : EndView) → IsPut e t → is_before e.phase ≡ false → IsSound e → AddsNumbers e t
+put_grown e t p after s =
+    grown e t (grows_not e.sender t.sender (ap (λ (v : SenderView). v.plan) p.sender) (ap (λ (v : SenderView). v.tickets) p.sender) s.named) p.taken (ap is_before p.phase ∙ after) s
+
+-- fragments behind what is due
+sent_grown : (e x : EndView) (zs : List ChunkMeaning) → IsPut e x → is_before e.phase ≡ false → IsSound e → AddsNumbers e (sent x zs)
+sent_grown e x zs p after s =
+    let from = subst (λ (v : SenderView). Grows v (sent x zs).sender) p.sender
+        (grows_filled (format_of x) (x.configuration.limit - size_of_packet zs) x.sender (subst (λ (v : SenderView). IsNamed v.plan) (sym p.sender) s.named)) in
+    grown e (sent x zs) from p.taken (ap is_before p.phase ∙ after) s
+
+built_adds : (e t : EndView) (xs : List ChunkMeaning) → IsSound e → Builds e xs t → AddsNumbers e t
+built_adds e t xs s (Sleeps _) = same_adds e e refl refl refl refl s
+built_adds e t xs s (Waits _ _ _) = same_adds e e refl refl refl refl s
+built_adds e t xs s (Calls _ _ _) = same_adds e t refl refl refl refl s
+built_adds e t xs s (Echoes _ _ _ full _ is puts) = put_grown e t (all_put _ e [] _ full t puts) (ap is_before is) s
+built_adds e t xs s (EndsFull _ _ _ _ is puts) = put_grown e t (all_put _ e [] _ true t puts) (ap is_before is) s
+built_adds e t xs s (Fills _ _ zs x is puts) = sent_grown e x zs (all_put _ e [] zs false x puts) (ap is_before is) s
+
+pub builds_add_numbers : BuildsAddNumbers
+builds_add_numbers e now xs t s builds =
+    let a = built_adds (at_moment e now) t xs (moment_keeps e now s).sound builds in
+    record { sound = a.sound; numbers = a.numbers; tickets = a.tickets; taken = a.taken }

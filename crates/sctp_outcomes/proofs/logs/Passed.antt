@@ -1,0 +1,57 @@
+-- A moment that comes notes nothing.
+use Rattle.std.proofs.Common.{not, ◌||◌, ◌==◌, Bool, true, false, List, [], ◌∷◌, refl}
+use Rattle.std.specs.Prelude.{if◌then◌else◌, nat_lt}
+use Rattle.sctp_model.specs.sender.SenderView.{SenderView}
+use Rattle.sctp_model.specs.sender.Readers.{point}
+use Rattle.sctp_model.specs.sender.Abandoning.{expired as expired_messages}
+use Rattle.sctp_model.specs.end.EndView.{TimedOut, Alarm, InitAlarm, CookieAlarm, DataAlarm, ShutdownAlarm, AckAlarm, EndView, has_association}
+use Rattle.sctp_model.specs.end.Clock.{at_moment, closed, settled, with_timer, is_over_at, repeats_of}
+use Rattle.sctp_model.specs.end.Clock.{expired_timer}
+use Rattle.sctp_model.specs.end.Closing.{rested}
+use Rattle.sctp_model.specs.end.Moments.{after_abandoning, due_again, rung, ring, rung_all, all_alarms, passed}
+use Rattle.sctp_outcomes.specs.Kept.{IsSound, KeepsLogs, MomentsKeepLogs}
+use Rattle.sctp_outcomes.proofs.logs.Senders.{KeepsNumbers, expired_keeps, timed_out_keeps}
+use Rattle.sctp_outcomes.proofs.logs.Ends.{keeps_itself, keeps_on, same_keeps, sender_keeps, rested_keeps}
+use Rattle.sctp_outcomes.proofs.logs.Heard.{moment_keeps}
+
+pub abandoning_keeps : (e : EndView) (v : SenderView) → KeepsNumbers e.sender v → IsSound e → KeepsLogs e (after_abandoning e v)
+abandoning_keeps e v k s =
+    let mid = settled (record e { sender = v; due = record e.due { forward = e.due.forward || not (point v == point e.sender) } }) in
+    let first = sender_keeps e mid k refl refl refl s in
+    keeps_on e mid (rested mid) first (rested_keeps mid first.sound)
+
+again_keeps : (a : Alarm) (e : EndView) → IsSound e → KeepsLogs e (due_again a e)
+again_keeps InitAlarm e s = same_keeps e _ refl refl refl (λ on. on) s
+again_keeps CookieAlarm e s = same_keeps e _ refl refl refl (λ on. on) s
+again_keeps DataAlarm e s = sender_keeps e _ (timed_out_keeps e.sender) refl refl refl s
+again_keeps ShutdownAlarm e s = same_keeps e _ refl refl refl (λ on. on) s
+again_keeps AckAlarm e s = same_keeps e _ refl refl refl (λ on. on) s
+
+rung_keeps : (b : Bool) (a : Alarm) (e : EndView) → IsSound e → KeepsLogs e (rung b a e)
+rung_keeps false a e s = keeps_itself e s
+rung_keeps true a e s = go (nat_lt (e.timers a).repeats (repeats_of a))
+  where
+    go : (c : Bool) → KeepsLogs e (if c then due_again a (with_timer a (expired_timer (e.timers a)) e) else closed TimedOut e)
+    go true =
+        let mid = with_timer a (expired_timer (e.timers a)) e in
+        let first = same_keeps e mid refl refl refl (λ on. on) s in
+        keeps_on e mid (due_again a mid) first (again_keeps a mid first.sound)
+    go false = same_keeps e (closed TimedOut e) refl refl refl (λ on. absurd (cc)) s
+
+all_keep : (alarms : List Alarm) (e : EndView) → IsSound e → KeepsLogs e (rung_all alarms e)
+all_keep [] e s = keeps_itself e s
+all_keep (a ∷ more) e s =
+    let first = rung_keeps (is_over_at e.moment (e.timers a).expiry) a e s in
+    keeps_on e (ring a e) (rung_all more (ring a e)) first (all_keep more (ring a e) first.sound)
+
+pub moments_keep_logs : MomentsKeepLogs
+moments_keep_logs e now s = go (has_association e.phase)
+  where
+    go : (b : Bool) → KeepsLogs e (if b then passed (at_moment e now) else at_moment e now)
+    go false = moment_keeps e now s
+    go true =
+        let m = at_moment e now in
+        let u = after_abandoning m (expired_messages m.sender m.moment) in
+        let first = moment_keeps e now s in
+        let second = abandoning_keeps m (expired_messages m.sender m.moment) (expired_keeps m.sender m.moment) first.sound in
+        keeps_on e m (rung_all all_alarms u) first (keeps_on m u (rung_all all_alarms u) second (all_keep all_alarms u second.sound))

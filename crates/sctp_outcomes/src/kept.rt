@@ -1,0 +1,34 @@
+//! What each call of an end leaves of all that its user notes of it, whatever the end is told.
+//!
+//! No function here does anything: each carries laws as its contract.
+
+ghost use Rattle.sctp_outcomes.specs.Kept.{AbandonKeepsLogs, AbortKeepsLogs, BuildsAddNumbers, ConnectKeepsLogs, CutPacketsKeepLogs, FreshHasNoLogs, MomentsKeepLogs, OpenedHasNoLogs, PacketsKeepLogs, SendGivesTickets, ShutdownKeepsLogs, TakeTakesOne};
+
+/// Of an end that is made, or opened without packets, nothing is noted: no ticket, no number, no message taken.
+pub fn new_ends_have_no_logs()
+    ensures fresh { FreshHasNoLogs }
+    ensures opened { OpenedHasNoLogs }
+{}
+
+/// A packet that comes, whole or cut short, and a moment note nothing.
+pub fn what_comes_keeps_logs()
+    ensures packets { PacketsKeepLogs }
+    ensures cut { CutPacketsKeepLogs }
+    ensures moments { MomentsKeepLogs }
+{}
+
+/// Nor do connect, shutdown, abort and abandon; send notes a ticket exactly where it answers one, and take a message exactly where it answers one
+/// (RFC 9260, 11.1; RFC 3758, 3.5).
+pub fn calls_note_their_own()
+    ensures connect { ConnectKeepsLogs }
+    ensures shutdown { ShutdownKeepsLogs }
+    ensures abort { AbortKeepsLogs }
+    ensures abandon { AbandonKeepsLogs }
+    ensures send { SendGivesTickets }
+    ensures take { TakeTakesOne }
+{}
+
+/// A packet that is built notes the tickets of the messages that it newly numbers, behind all before them, and nothing else (RFC 9260, 6.9).
+pub fn packets_note_their_numbers()
+    ensures { BuildsAddNumbers }
+{}
