@@ -7,3 +7,4 @@ mod WritingLemmas
 mod SourceLineLemmas
 mod LineSplits
 mod LineRuns
+mod SkipLemmas

@@ -4,4 +4,5 @@ pub mod WrittenWords
 pub mod Streams
 pub mod TextLines
 pub mod NextLineAnswer
+pub mod SkippedLines
 pub mod inner

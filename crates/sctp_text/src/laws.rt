@@ -5,7 +5,10 @@ ghost use Rattle.sctp_text.specs.Numerals.{SaysOneNumber, SaysOneList};
 ghost use Rattle.sctp_text.specs.SpacedWords.{words_of, AreItsWords};
 ghost use Rattle.sctp_text.specs.TextLines.{IsTooLong, Reading, SplitInOneWay, IsLines};
 ghost use Rattle.sctp_text.specs.NextLineAnswer.{LeadsOn};
+ghost use Rattle.sctp_text.specs.SkippedLines.{IsSkipped};
 ghost use Rattle.sctp_text.specs.declared.line_reader.NextLine.{NextLine};
+ghost use Rattle.sctp_text.specs.declared.line_reader.SkippedLine.{SkippedLine};
+ghost use Rattle.sctp_text.specs.declared.source_sink.Failed.{Failed};
 ghost use Rattle.sctp_text.specs.declared.line_reader.ReadFault.{ReadFault};
 
 /// A text is split into lines in one way, from its front; whoever was given lines one by one was given these.
@@ -23,6 +26,12 @@ pub fn too_long_for_good()
 pub fn line_after_line()
     ensures { (text : List ℕ) (lines : List (List ℕ)) (now : Reading) (bytes : List ℕ) (answer : Result NextLine ReadFault)
         (after : Reading) → LeadsOn text lines now bytes answer after }
+{}
+
+/// A line that is skipped is one of the lines of the text that was read; one that was said to be too long has more bytes than a line has.
+pub fn skipped_lines_count()
+    ensures { (text : List ℕ) (lines : List (List ℕ)) (now : Reading) (bytes : List ℕ) (answer : Result SkippedLine Failed)
+        (after : Reading) → IsSkipped text lines now bytes answer after }
 {}
 
 /// The words of a line are what stands between its spaces.

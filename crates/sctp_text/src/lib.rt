@@ -19,11 +19,12 @@ pub use bytes::Bytes;
 pub use decimal::{put_decimal, read_decimal};
 pub use hexadecimal::{put_hex, read_hex};
 pub use laws::{
-    line_after_line, lines_in_one_way, too_long_for_good, words_part_at_spaces, words_say_one_value,
+    line_after_line, lines_in_one_way, skipped_lines_count, too_long_for_good,
+    words_part_at_spaces, words_say_one_value,
 };
 pub use limits::{LINE_FEED, LONGEST_LINE, LONGEST_TEXT, SPACE};
 pub use line_out::{Word, put_line};
-pub use line_reader::{LineReader, NextLine, ReadFault};
+pub use line_reader::{LineReader, NextLine, ReadFault, SkippedLine};
 pub use source_sink::{Failed, FromRead, Sink, Source, ToWrite};
 pub use words_of_line::Words;
 pub use writing::write_all;

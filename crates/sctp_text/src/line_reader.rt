@@ -4,11 +4,13 @@ ghost use Rattle.std.specs.Prelude.{◌≡◌, ℕ, List, [], ◌++◌, ◌+◌,
 ghost use Rattle.std.specs.List.{position};
 ghost use Rattle.sctp_text.specs.TextLines.{Reading, MayBegin, IsReadFor, is_line_feed, first_length};
 ghost use Rattle.sctp_text.specs.NextLineAnswer.{given_by, IsAnswer, AtTheEnd, failed_reads};
-ghost use Rattle.sctp_text.specs.inner.Gathering.{IsGathered, AtEndOfInput};
+ghost use Rattle.sctp_text.specs.SkippedLines.{Skips, EndsInput};
+ghost use Rattle.sctp_text.specs.Streams.{failed_calls};
+ghost use Rattle.sctp_text.specs.inner.Gathering.{IsGathered, AtEndOfInput, IsPassed};
 
 use crate::block::{BLOCK, Block};
 use crate::limits::{LINE_FEED, LONGEST_LINE, LONGEST_TEXT};
-use crate::source_sink::Source;
+use crate::source_sink::{Failed, Source};
 use std::alloc::{AllocError, Global};
 use std::marker::Model;
 use std::mem;
@@ -36,6 +38,17 @@ pub enum ReadFault {
     /// Memory ran out.
     #[error("out of memory")]
     NoMemory,
+}
+
+/// What became of a line that is skipped.
+#[derive(Clone, Copy, Debug, PartialEq, Eq)]
+pub enum SkippedLine {
+    /// It is skipped, with the line feed that ends it.
+    Ended,
+    /// It is skipped, and the input ends here.
+    Last,
+    /// With it the text has more than `LONGEST_TEXT` bytes: it is skipped no further.
+    TextTooLong,
 }
 
 /// Why a line is gathered no further, though the input may go on.
@@ -114,6 +127,68 @@ impl LineReader {
                 Ok(NextLine::Last(emptied(&mut self.line, self.alloc)))
             }
         }
+    }
+
+    /// Skips a line: what is held of it goes, and what is read of it, up to the line feed that ends it, which goes too. No more than a block
+    /// is held meanwhile. What goes is counted as given. It is for a line that is too long, of which `next_line` gives nothing: the call of
+    /// `next_line` behind it gives the line that follows.
+    ///
+    /// # Errors
+    /// `Failed` where a reading call failed: what was read of the line before is gone, and the next call skips the rest of it.
+    pub fn skip_line<S: Source>(&mut self, source: &mut S) -> Result<SkippedLine, Failed>
+        requires { S.failures source.old < 2 ^ 64 - 1 }
+        ensures skips { (bytes : List ℕ) × S.Reads source.old bytes source.new × Skips self.old bytes result self.new }
+        ensures end { EndsInput result (S.IsAtEnd source.new) }
+        ensures failed { S.failures source.new ≡ S.failures source.old + failed_calls result }
+    {
+        let held = emptied(&mut self.line, self.alloc);
+        self.given += held.len() as u64;
+        pass_line(&mut self.block, &mut self.given, source)
+    }
+}
+
+/// Skips what the block holds of a line, and what is read of it.
+fn pass_line<S: Source>(
+    block: &mut Block,
+    given: &mut u64,
+    source: &mut S,
+) -> Result<SkippedLine, Failed>
+    requires room { S.failures source.old < 2 ^ 64 - 1 }
+    requires within { given.old ≤ LONGEST_TEXT }
+    ensures skips { (bytes : List ℕ) × S.Reads source.old bytes source.new
+        × Skips (record { held = block.old; given = given.old }) bytes result (record { held = block.new; given = given.new }) }
+    ensures end { EndsInput result (S.IsAtEnd source.new) }
+    ensures failed { S.failures source.new ≡ S.failures source.old + failed_calls result }
+{
+    'skipping: loop {
+        if let Some(skipped) = pass_block(block, given) {
+            return Ok(skipped);
+        }
+        block.fill(source)?;
+        if block.is_empty() {
+            return Ok(SkippedLine::Last);
+        }
+    }
+}
+
+/// Skips what the block holds of a line, None where the line may go on.
+fn pass_block(block: &mut Block, given: &mut u64) -> Option<SkippedLine>
+    requires { given.old ≤ LONGEST_TEXT }
+    ensures within { given.new ≤ LONGEST_TEXT }
+    ensures passed { IsPassed result given.old block.old given.new block.new }
+{
+    let bytes = block.bytes();
+    let count = line_length(bytes);
+    let end = bytes.len().min(count + 1);
+    if end as u64 > LONGEST_TEXT - *given {
+        return Some(SkippedLine::TextTooLong);
+    }
+    block.skip(end);
+    *given += end as u64;
+    if count < end {
+        Some(SkippedLine::Ended)
+    } else {
+        None
     }
 }
 
