@@ -1,0 +1,102 @@
+#!/usr/bin/env python3
+"""Compares `sctp-trace run` with the model on random scripts, or on given ones.
+
+compare.py [--program P] [--keep FOLDER] [--shrink] N [SEED]
+compare.py [--program P] [--shrink] FILE ..
+
+What differs is kept in FOLDER (found/ beside this file); --shrink also writes the smallest script
+found that still differs, by leaving out lines.
+"""
+
+import argparse
+import os
+import subprocess
+import sys
+
+import model
+import scripts
+
+HERE = os.path.dirname(os.path.abspath(__file__))
+
+
+def of_model(data):
+    """(output, faults, status) of the model."""
+    out = []
+    fault = model.run(data, out.append)
+    faults = b'' if fault is None else b'line %d: %d\n' % fault
+    return ''.join(line + '\n' for line in out).encode(), faults, 2 if fault else 0
+
+
+def of_program(program, data):
+    done = subprocess.run([program, 'run'], input=data, capture_output=True, check=False)
+    return done.stdout, done.stderr, done.returncode
+
+
+def difference(program, data):
+    """The first line that differs as (line number, model, program), or None."""
+    ours, theirs = of_model(data), of_program(program, data)
+    if ours == theirs:
+        return None
+    pairs = [part[0].split(b'\n') + [part[1], b'status %d' % part[2]] for part in (ours, theirs)]
+    for place, (mine, other) in enumerate(zip(*pairs), 1):
+        if mine != other:
+            return place, mine[:200].decode('latin1'), other[:200].decode('latin1')
+    return 0, 'another length', 'another length'
+
+
+def smaller(program, data):
+    """Leaves out lines while the two still differ without a line fault of the model."""
+    lines, step = data.split(b'\n'), 64
+    faulty = of_model(data)[2]
+    while step:
+        at = 0
+        while at < len(lines):
+            less = lines[:at] + lines[at + step:]
+            tried = b'\n'.join(less)
+            if of_model(tried)[2] == faulty and difference(program, tried):
+                lines = less
+            else:
+                at += step
+        step //= 2
+    return b'\n'.join(lines)
+
+
+def cases(words):
+    """(name, script) for each number or file."""
+    if words[0].isdigit():
+        count, seed = int(words[0]), int(words[1]) if len(words) > 1 else 1
+        for n in range(seed, seed + count):
+            yield 'seed-%d' % n, scripts.script(n).encode()
+    else:
+        for name in words:
+            with open(name, 'rb') as file:
+                yield os.path.basename(name), file.read()
+
+
+def main():
+    parser = argparse.ArgumentParser()
+    parser.add_argument('--program', default=os.path.join(HERE, '..', '..', 'sctp-trace'))
+    parser.add_argument('--keep', default=os.path.join(HERE, 'found'))
+    parser.add_argument('--shrink', action='store_true')
+    parser.add_argument('words', nargs='+')
+    asked = parser.parse_args()
+    count = differing = 0
+    for name, data in cases(asked.words):
+        count += 1
+        found = difference(asked.program, data)
+        if found is None:
+            continue
+        differing += 1
+        os.makedirs(asked.keep, exist_ok=True)
+        if asked.shrink:
+            data = smaller(asked.program, data)
+            found = difference(asked.program, data)
+        with open(os.path.join(asked.keep, name), 'wb') as out:
+            out.write(data)
+        print('%s: line %d of the output: model %r, program %r' % (name, *found), flush=True)
+    print('%d scripts, %d differ' % (count, differing))
+    return 1 if differing else 0
+
+
+if __name__ == '__main__':
+    sys.exit(main())

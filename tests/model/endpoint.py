@@ -1,0 +1,600 @@
+"""One end of an association: states, tags, timers, packets in and out."""
+
+import struct
+
+import wire
+from receiver import BAD, NO_SUCH_STREAM, Receiver
+from sender import STALE as STALE_SACK, UNKNOWN, Sender
+from wire import Chunk, Cookie, Fault, Forward, Opening, Packet, Piece, Sack, chunk, item, padded
+
+CLOSED, LISTEN, COOKIE_WAIT, COOKIE_ECHOED = 'Closed', 'Listen', 'CookieWait', 'CookieEchoed'
+ESTABLISHED, PENDING, SENT = 'Established', 'ShutdownPending', 'ShutdownSent'
+RECEIVED, ACK_SENT = 'ShutdownReceived', 'ShutdownAckSent'
+SHUTDOWN_STATES = (PENDING, SENT, RECEIVED, ACK_SENT)
+
+COMPLETED, ABORTED, ABORTED_HERE = 'Completed', 'Aborted', 'AbortedHere'
+TIMED_OUT, STALE_COOKIE = 'TimedOut', 'StaleCookie'
+
+# Why a packet was dropped.
+FAULT, WRONG_PORTS, WRONG_TAG, WRONG_STATE, BAD_COOKIE = 1, 2, 3, 4, 5
+TAKEN = ('taken',)
+
+LAST_MOMENT = 2**64 - 1
+FIRST_WAIT, LONGEST_WAIT = 1_000, 60_000
+OPENING_REPEATS, OTHER_REPEATS = 8, 10
+
+
+class Config:
+    def __init__(self, own_port, peer_port, limit, fragment, buffer, streams, partial, interleave):
+        self.own_port, self.peer_port, self.limit, self.fragment = own_port, peer_port, limit, fragment
+        self.buffer, self.streams, self.partial, self.interleave = buffer, streams, partial, interleave
+
+    def options(self):
+        """The option parameters of INIT and INIT ACK (RFC 3758 3.3, RFC 8260 2.2.1)."""
+        types = bytes([wire.I_DATA] * self.interleave + [wire.FORWARD_TSN] * self.partial
+                      + [wire.I_FORWARD_TSN] * (self.partial and self.interleave))
+        return (([item(wire.FORWARD_SUPPORTED)] if self.partial else [])
+                + ([item(wire.SUPPORTED_EXTENSIONS, types)] if types else []))
+
+    def agreed(self, opening):
+        """(partial reliability, I-DATA) with a peer that sent this INIT or INIT ACK."""
+        interleave = self.interleave and opening.lists(wire.I_DATA)
+        partial = self.partial and opening.partial
+        if interleave:
+            partial = partial and opening.lists(wire.I_FORWARD_TSN)
+        return partial, interleave
+
+
+class Writer:
+    """A packet that is being filled, up to the limit (RFC 9260 section 6.10)."""
+
+    def __init__(self, limit):
+        self.limit, self.chunks, self.size = limit, [], wire.HEADER
+
+    def room(self, size):
+        return self.size + size <= self.limit
+
+    def put(self, written):
+        if not self.room(len(written)):
+            return False
+        self.chunks.append(written)
+        self.size += len(written)
+        return True
+
+
+class Timer:
+    """A wait that doubles at each expiry (RFC 9260 sections 6.3.2 and 6.3.3)."""
+
+    def __init__(self, repeats):
+        self.repeats, self.count, self.wait, self.expiry = repeats, 0, FIRST_WAIT, None
+
+    def start(self, now):
+        if self.expiry is None:
+            self.restart(now)
+
+    def restart(self, now):
+        self.expiry = min(now + self.wait, LAST_MOMENT)
+
+    def stop(self):
+        self.expiry = None
+
+    def expire(self):
+        """Expires once; false where it was repeated as often as may be."""
+        self.expiry = None
+        if self.count == self.repeats:
+            return False
+        self.count += 1
+        self.wait = min(2 * self.wait, LONGEST_WAIT)
+        return True
+
+
+# The packet that a state sends again by its own timer, and that timer (sections 5.1 and 9.2).
+STATE_PACKETS = {COOKIE_WAIT: 'init', COOKIE_ECHOED: 'cookie echo', SENT: 'shutdown', ACK_SENT: 'shutdown ack'}
+
+
+class PacketEnds(Exception):
+    """The rest of the packet isn't acted on; the verdict."""
+
+
+class Endpoint:
+    def __init__(self, config, key=None):
+        """A listener where there is a key, else a caller."""
+        self.config, self.key = config, key
+        self.state = LISTEN if key is not None else CLOSED
+        self.ended = None
+        self.fresh = True                    # no association yet
+        self.now = 0
+        self.own_tag = self.own_tsn = self.peer_tag = None
+        self.sender = self.receiver = None
+        self.due = set()
+        self.cookie = self.heartbeat = None
+        self.causes = []                     # of the ERROR that is due
+        self.timers = {'init': Timer(OPENING_REPEATS), 'cookie echo': Timer(OPENING_REPEATS),
+                       'data': Timer(OTHER_REPEATS), 'shutdown': Timer(OTHER_REPEATS),
+                       'shutdown ack': Timer(OTHER_REPEATS)}
+
+    @classmethod
+    def opened(cls, config, own, peer):
+        """Established without packets, both ends taken to have the same configuration."""
+        end = cls(config)
+        end.own_tag, end.own_tsn = own
+        end.associate(peer[0], peer[1], config.buffer, config.streams, config.streams,
+                      config.partial, config.interleave)
+        end.state = ESTABLISHED
+        return end
+
+    def associate(self, peer_tag, peer_tsn, peer_rwnd, outbound, inbound, partial, interleave):
+        self.fresh, self.peer_tag = False, peer_tag
+        self.partial, self.interleave = partial, interleave
+        self.sender = Sender(interleave, self.own_tsn, outbound, self.config.fragment, peer_rwnd, partial)
+        self.receiver = Receiver(interleave, peer_tsn, inbound, self.config.buffer)
+
+    # ---- States ----
+
+    def enter(self, state):
+        """Leaving a state ends its timer and its packet."""
+        packet = STATE_PACKETS.get(self.state)
+        if packet is not None and state != self.state:
+            self.timers[packet].stop()
+            self.due.discard(packet)
+        self.state = state
+        if state in STATE_PACKETS:
+            self.due.add(STATE_PACKETS[state])
+
+    def close(self, why):
+        """Closed after an association, for good: no timer, no packet."""
+        self.state, self.ended = CLOSED, why
+        self.due, self.causes = set(), []
+        for timer in self.timers.values():
+            timer.stop()
+
+    def settle(self):
+        """What follows at once from the sender's state after a chunk or call (section 9.2)."""
+        if self.sender is None or self.state == CLOSED:
+            return
+        if self.sender.point() == self.sender.cum:
+            self.due.discard('forward')
+        if not self.sender.unsettled():
+            self.timers['data'].stop()
+        if self.sender.drained():
+            if self.state == PENDING:
+                self.enter(SENT)
+            elif self.state == RECEIVED:
+                self.enter(ACK_SENT)
+
+    # ---- Packets out ----
+
+    def packet(self, tag, chunks):
+        return wire.packet(self.config.own_port, self.config.peer_port, tag, chunks)
+
+    def body_limit(self):
+        return self.config.limit - wire.HEADER
+
+    def report(self, cause):
+        """One more cause of the ERROR that is due, where it fits (section 3.3.10)."""
+        if self.error_fits(self.causes + [cause]):
+            self.causes.append(cause)
+
+    def error_fits(self, causes):
+        return padded(4 + len(wire.item_list(causes))) <= self.body_limit()
+
+    def chunk_for(self, name):
+        """The chunk of this name that is due."""
+        if name == 'cookie echo':
+            return chunk(wire.COOKIE_ECHO, self.cookie)
+        if name == 'cookie ack':
+            return chunk(wire.COOKIE_ACK)
+        if name == 'heartbeat ack':
+            return chunk(wire.HEARTBEAT_ACK, self.heartbeat)
+        if name == 'error':
+            return chunk(wire.ERROR, wire.item_list(self.causes))
+        if name == 'sack':
+            return self.receiver.sack()
+        if name == 'forward':
+            return self.sender.forward()
+        if name == 'shutdown':
+            return chunk(wire.SHUTDOWN, struct.pack('>I', self.receiver.tsn(self.receiver.c)))
+        return chunk(wire.SHUTDOWN_ACK)
+
+    def is_due(self, name):
+        return bool(self.causes) if name == 'error' else name in self.due
+
+    def built(self, name):
+        """A chunk of this name stands in a packet that goes out."""
+        self.due.discard(name)
+        if name == 'error':
+            self.causes = []
+        elif name == 'sack':
+            self.receiver.sack_sent()
+        elif name == 'forward':
+            self.timers['data'].start(self.now)
+        elif name in self.timers:
+            self.timers[name].start(self.now)
+
+    def poll_transmit(self, now):
+        """One packet, or None, and the tickets newly numbered."""
+        self.take_moment(now)
+        if self.state in (CLOSED, LISTEN):
+            return None, []
+        if 'init' in self.due:
+            self.built('init')
+            return self.packet(0, [self.opening_chunk(wire.INIT, [])]), []
+        writer, tickets = Writer(self.config.limit), []
+        if 'cookie echo' in self.due:
+            self.put_due(writer, ('cookie echo', 'error'))
+        elif self.put_due(writer, ('cookie ack', 'heartbeat ack', 'error', 'sack', 'forward',
+                                   'shutdown', 'shutdown ack')) and self.sender is not None:
+            before = len(writer.chunks)
+            tickets = self.sender.fill(writer)
+            if len(writer.chunks) > before:
+                self.timers['data'].start(self.now)
+        if not writer.chunks:
+            return None, []
+        self.settle()
+        return self.packet(self.peer_tag, writer.chunks), tickets
+
+    def put_due(self, writer, names):
+        """False where one didn't fit: it stays due and ends the packet."""
+        for name in names:
+            if self.is_due(name):
+                if not writer.put(self.chunk_for(name)):
+                    return False
+                self.built(name)
+        return True
+
+    def opening_chunk(self, kind, before, draw=None, after=()):
+        """INIT or INIT ACK with this end's values (sections 3.3.2 and 3.3.3)."""
+        tag, tsn = draw or (self.own_tag, self.own_tsn)
+        config = self.config
+        parameters = list(before) + config.options()
+        for report in after:
+            more = parameters + [report]
+            if padded(20 + len(wire.item_list(more))) <= self.body_limit():
+                parameters = more
+        return chunk(kind, wire.init_value(tag, config.buffer, config.streams, config.streams, tsn, parameters))
+
+    # ---- Moments ----
+
+    def take_moment(self, now):
+        self.now = max(self.now, now)
+
+    def on_moment(self, now):
+        self.take_moment(now)
+        if self.state == CLOSED:
+            return
+        if self.sender is not None:
+            self.abandoning(lambda: self.sender.expire(self.now))
+        self.settle()
+        for name, timer in self.timers.items():
+            if timer.expiry is not None and timer.expiry <= self.now:
+                if not timer.expire():
+                    self.close(TIMED_OUT)
+                    return
+                self.expired(name)
+        self.settle()
+
+    def expired(self, name):
+        if name != 'data':
+            self.due.add(name)
+            return
+        self.sender.on_timeout()
+        self.want_forward()
+
+    def want_forward(self):
+        if self.sender.point() > self.sender.cum:
+            self.due.add('forward')
+
+    def abandoning(self, act):
+        """A FORWARD is due where the point moved (RFC 3758 section 3.5)."""
+        point = self.sender.point()
+        answer = act()
+        if self.sender.point() != point:
+            self.want_forward()
+        return answer
+
+    def next_moment(self):
+        running = [t.expiry for t in self.timers.values() if t.expiry is not None]
+        return min(running) if running else None
+
+    # ---- The user's calls (RFC 9260 section 11.1) ----
+
+    def connect(self, now, draw):
+        self.take_moment(now)
+        if self.state != CLOSED or not self.fresh:
+            return False
+        self.fresh = False
+        self.own_tag, self.own_tsn = draw
+        self.enter(COOKIE_WAIT)
+        return True
+
+    def send(self, stream, ordered, payload_id, data, until):
+        if self.state != ESTABLISHED:
+            return -7
+        return self.sender.send(stream, ordered, payload_id, data, until)
+
+    def abandon(self, ticket):
+        if self.sender is None:
+            return UNKNOWN
+        fate = self.abandoning(lambda: self.sender.abandon(ticket))
+        if self.state == CLOSED:
+            self.due = set()
+        self.settle()
+        return fate
+
+    def take(self, stream):
+        return self.receiver.take(stream) if self.receiver is not None else None
+
+    def shutdown(self):
+        if self.state != ESTABLISHED and self.state not in SHUTDOWN_STATES:
+            return False
+        if self.state == ESTABLISHED:
+            self.enter(PENDING)
+            self.settle()
+        return True
+
+    def abort(self, reason):
+        """The ABORT packet, or the refusal as a number (section 9.1)."""
+        if self.state in (CLOSED, LISTEN, COOKIE_WAIT):
+            return 1
+        abort = chunk(wire.ABORT, item(wire.USER_ABORT, reason))
+        if len(abort) > self.body_limit():
+            return 2
+        self.close(ABORTED_HERE)
+        return self.packet(self.peer_tag, [abort])
+
+    # ---- Packets in ----
+
+    def handle_packet(self, now, data, draw):
+        """('taken',), ('dropped', reason) or ('answer', bytes)."""
+        self.take_moment(now)
+        try:
+            packet = Packet(data)
+        except Fault:
+            return 'dropped', FAULT
+        if (packet.destination, packet.source) != (self.config.own_port, self.config.peer_port):
+            return 'dropped', WRONG_PORTS
+        if not self.tag_passes(packet):
+            return 'dropped', WRONG_TAG
+        try:
+            if self.state in (CLOSED, LISTEN):
+                self.out_of_the_blue(packet, draw)
+                return self.act(packet.chunks[1:], True)       # behind a cookie that opened
+            return self.act(packet.chunks, False)
+        except PacketEnds as end:
+            return end.args
+
+    def tag_passes(self, packet):
+        """Sections 8.5 and 8.5.1."""
+        first = packet.chunks[0]
+        if first.kind == wire.INIT:
+            return packet.tag == 0
+        if self.state in (CLOSED, LISTEN):
+            return True
+        if first.kind in (wire.ABORT, wire.SHUTDOWN_COMPLETE) and first.t:
+            return packet.tag == self.peer_tag
+        return packet.tag == self.own_tag
+
+    # -- In Listen and Closed (sections 5.1 and 8.4): the first chunk decides.
+
+    def out_of_the_blue(self, packet, draw):
+        """Ends the packet, but where a cookie opens."""
+        first = packet.chunks[0]
+        if any(found.kind == wire.ABORT for found in packet.chunks):
+            raise PacketEnds('dropped', WRONG_STATE)
+        if first.kind == wire.INIT:
+            self.stray_init(Opening(first), draw)
+        if first.kind == wire.COOKIE_ECHO and self.state == LISTEN:
+            return self.listen_cookie(packet, first.value)
+        if first.kind == wire.SHUTDOWN_ACK:
+            self.answer(packet.tag, chunk(wire.SHUTDOWN_COMPLETE, flags=wire.FLAG_T))
+        dropped = (wire.SHUTDOWN_COMPLETE, wire.COOKIE_ACK, wire.INIT_ACK, wire.ERROR)
+        if first.kind in dropped or first.kind not in wire.KNOWN:
+            raise PacketEnds('dropped', WRONG_STATE)
+        self.answer(packet.tag, chunk(wire.ABORT, flags=wire.FLAG_T))
+
+    def answer(self, tag, written):
+        raise PacketEnds('answer', self.packet(tag, [written]))
+
+    def stray_init(self, opening, draw):
+        if opening.tag == 0:
+            raise PacketEnds('dropped', WRONG_TAG)
+        if self.state == CLOSED:
+            self.answer(opening.tag, chunk(wire.ABORT))
+        if opening.no_streams:
+            self.answer(opening.tag, chunk(wire.ABORT, item(wire.INVALID_PARAMETER)))
+        config = self.config
+        partial, interleave = config.agreed(opening)
+        cookie = Cookie(self.now, config.own_port, config.peer_port, draw[0], opening.tag, draw[1],
+                        opening.tsn, opening.rwnd, min(config.streams, opening.inbound),
+                        min(opening.outbound, config.streams), partial + 2 * interleave)
+        reports = [item(wire.UNRECOGNIZED, whole) for whole in opening.reports]
+        self.answer(opening.tag, self.opening_chunk(
+            wire.INIT_ACK, [item(wire.STATE_COOKIE, cookie.seal(self.key))], draw, reports))
+
+    def open_cookie(self, packet, value):
+        ports = (self.config.own_port, self.config.peer_port)
+        return wire.open_cookie(self.key, value, self.now, ports, packet.tag)
+
+    def listen_cookie(self, packet, value):
+        cookie, fault, stale = self.open_cookie(packet, value)
+        if fault == wire.STALE:
+            self.answer(cookie.peer_tag, chunk(wire.ERROR, item(wire.STALE_COOKIE, struct.pack('>I', stale))))
+        if fault:
+            raise PacketEnds('dropped', BAD_COOKIE)
+        self.own_tag, self.own_tsn = cookie.own_tag, cookie.own_tsn
+        self.associate(cookie.peer_tag, cookie.peer_tsn, cookie.peer_rwnd, cookie.outbound, cookie.inbound,
+                       bool(cookie.options & 1), bool(cookie.options & 2))
+        self.state = ESTABLISHED
+        self.due.add('cookie ack')
+
+    # -- In an association: chunk by chunk, each in the state that it finds.
+
+    def act(self, chunks, acted):
+        self.piece_acted = False
+        try:
+            for found in chunks:
+                known = found.kind in wire.KNOWN
+                row = self.row(found) if known else self.unknown
+                if row is not None:
+                    acted = True
+                    if row(found) == 'stop':
+                        break
+                    self.settle()
+                    if self.state == CLOSED:
+                        break
+        finally:
+            self.after_packet()
+        return TAKEN if acted else ('dropped', WRONG_STATE)
+
+    def after_packet(self):
+        """A SACK for every packet with a piece or FORWARD, and a SHUTDOWN with it while one is
+        unanswered (sections 6.2 and 9.2, RFC 3758 section 3.6)."""
+        if self.piece_acted and self.state != CLOSED:
+            self.due.add('sack')
+            if self.state == SENT:
+                self.due.add('shutdown')
+
+    def row(self, found):
+        """What the state table has for this chunk in this state, or None."""
+        kind, state = found.kind, self.state
+        if kind == wire.INIT_ACK and state == COOKIE_WAIT:
+            return self.init_ack
+        if kind == wire.COOKIE_ECHO and state in (ESTABLISHED, PENDING, SENT, RECEIVED):
+            return self.cookie_again if self.key is not None else None
+        if kind == wire.COOKIE_ACK and state == COOKIE_ECHOED:
+            return lambda found: self.enter(ESTABLISHED)
+        if kind in (wire.DATA, wire.I_DATA) and state in (ESTABLISHED, PENDING, SENT):
+            return self.piece
+        if kind in (wire.FORWARD_TSN, wire.I_FORWARD_TSN) and state in (ESTABLISHED, PENDING, SENT):
+            return self.forward
+        if kind == wire.SACK and state in (ESTABLISHED, PENDING, RECEIVED):
+            return self.sack
+        if kind == wire.HEARTBEAT and (state == ESTABLISHED or state in SHUTDOWN_STATES):
+            return self.heartbeat_came
+        if kind == wire.HEARTBEAT_ACK:
+            return lambda found: None
+        if kind == wire.ERROR:
+            return self.error
+        if kind == wire.ABORT:
+            return lambda found: self.close(ABORTED)
+        if kind == wire.SHUTDOWN and state in (ESTABLISHED, PENDING, RECEIVED, SENT, ACK_SENT):
+            return self.shutdown_came
+        if kind == wire.SHUTDOWN_ACK and state in (SENT, ACK_SENT):
+            return self.shutdown_ack_came
+        if kind == wire.SHUTDOWN_COMPLETE and state == ACK_SENT:
+            return lambda found: self.close(COMPLETED)
+        return None
+
+    def unknown(self, found):
+        """Section 3.2, the two highest bits."""
+        stop, report = wire.unknown_rule(found.kind >> 6)
+        if report and self.state != COOKIE_WAIT:
+            self.report(item(wire.UNRECOGNIZED_CHUNK, found.raw))
+        return 'stop' if stop else None
+
+    def abort_with(self, cause, tag=None):
+        """A fault of the peer ends the association with an ABORT (section 9.1)."""
+        self.close(ABORTED_HERE)
+        self.answer(self.peer_tag if tag is None else tag, chunk(wire.ABORT, cause))
+
+    def violation(self):
+        self.abort_with(item(wire.PROTOCOL_VIOLATION))
+
+    def init_ack(self, found):
+        """Sections 5.1 and 3.3.3; the first of these that holds counts."""
+        opening = Opening(found)
+        if opening.tag == 0:
+            raise PacketEnds('dropped', WRONG_TAG)
+        if opening.no_streams:
+            self.abort_with(item(wire.INVALID_PARAMETER), opening.tag)
+        if opening.cookie is None:
+            self.abort_with(item(wire.MISSING_PARAMETER, struct.pack('>IH', 1, wire.STATE_COOKIE)), opening.tag)
+        if padded(4 + len(opening.cookie)) > self.body_limit():
+            self.abort_with(item(wire.OUT_OF_RESOURCE), opening.tag)
+        partial, interleave = self.config.agreed(opening)
+        streams = self.config.streams
+        self.associate(opening.tag, opening.tsn, opening.rwnd, min(streams, opening.inbound),
+                       min(opening.outbound, streams), partial, interleave)
+        self.cookie = opening.cookie
+        self.enter(COOKIE_ECHOED)
+        self.report_parameters(opening.reports)
+
+    def report_parameters(self, wholes):
+        """Cause 8 with the parameters to be reported, each that fits."""
+        taken = []
+        for whole in wholes:
+            more = taken + [whole]
+            if self.error_fits([item(wire.UNRECOGNIZED_PARAMETERS, wire.item_list(more))]):
+                taken = more
+        if taken:
+            self.causes.append(item(wire.UNRECOGNIZED_PARAMETERS, wire.item_list(taken)))
+
+    def cookie_again(self, found):
+        """A cookie that comes again, stale or not, with both tags (section 5.2.4, case D)."""
+        cookie, fault, _ = wire.open_cookie(
+            self.key, found.value, self.now, (self.config.own_port, self.config.peer_port), self.own_tag)
+        if fault not in (0, wire.STALE) or cookie.peer_tag != self.peer_tag:
+            raise PacketEnds('dropped', BAD_COOKIE)
+        self.due.add('cookie ack')
+
+    def piece(self, found):
+        piece = Piece(found)
+        if not piece.data:
+            self.abort_with(item(wire.NO_USER_DATA, struct.pack('>I', piece.tsn)))     # section 6.2
+        if piece.interleave != self.interleave:
+            self.violation()                                                # RFC 8260 section 2.2.1
+        self.piece_acted = True
+        if self.receiver.on_data(piece) == NO_SUCH_STREAM:
+            self.report(item(wire.INVALID_STREAM, struct.pack('>HH', piece.stream, 0)))   # section 6.5
+
+    def forward(self, found):
+        forward = Forward(found)
+        if forward.interleave != self.interleave or not self.partial:
+            self.violation()
+        if self.receiver.on_forward(forward) == BAD:
+            self.violation()
+        self.piece_acted = True
+
+    def sack(self, found):
+        """Sections 6.2.1 and 6.3.2."""
+        cum = self.sender.cum
+        refusal = self.sender.on_sack(Sack(found))
+        if refusal == STALE_SACK:
+            return
+        if refusal is not None:
+            self.violation()
+        timer = self.timers['data']
+        timer.count = 0
+        if not self.sender.unsettled():
+            timer.stop()
+        if self.sender.cum > cum:
+            timer.wait = FIRST_WAIT
+            if timer.expiry is not None:
+                timer.restart(self.now)
+        self.want_forward()
+
+    def heartbeat_came(self, found):
+        """Section 8.3; the latest one alone is answered."""
+        if padded(4 + len(found.value)) <= self.body_limit():
+            self.heartbeat = found.value
+            self.due.add('heartbeat ack')
+
+    def error(self, found):
+        """Section 5.2.6: a stale cookie ends the opening."""
+        causes = [kind for kind, _ in wire.read_items(found.value)]
+        if self.state == COOKIE_ECHOED and wire.STALE_COOKIE in causes:
+            self.close(STALE_COOKIE)
+
+    def shutdown_came(self, found):
+        """Section 9.2."""
+        if self.state in (ESTABLISHED, PENDING, RECEIVED):
+            refusal = self.sender.on_shutdown(struct.unpack('>I', found.value)[0])
+            if refusal not in (None, STALE_SACK):
+                self.violation()
+            self.enter(RECEIVED)
+        else:
+            self.enter(ACK_SENT)
+
+    def shutdown_ack_came(self, found):
+        self.close(COMPLETED)
+        self.answer(self.peer_tag, chunk(wire.SHUTDOWN_COMPLETE))

@@ -1,0 +1,345 @@
+"""One direction, the sending end: numbering, filling, window, flow, SACK, abandoning.
+
+Indexes count the assigned TSNs from 1; index 0 stands for nothing yet.
+"""
+
+from wire import FLAG_B, FLAG_E, FLAG_U, before, data_chunk, forward_chunk, padded
+
+MESSAGE_LIMIT = 65_536
+QUEUE_LIMIT = 1_024
+WINDOW = 32_767
+OWED_LIMIT = 2**31 - 1
+TICKET_LIMIT = 2**32 - 1
+
+# Refusals of `queue` (NoMemory, 6, doesn't come here).
+NO_SUCH_STREAM, EMPTY, TOO_LONG, QUEUE_FULL, SPENT = 1, 2, 3, 4, 5
+# Refusals of a SACK or SHUTDOWN.
+STALE, BEYOND, BAD_BLOCK = 1, 2, 3
+# Answers of `abandon`.
+WITHDRAWN, ABANDONED, ACKNOWLEDGED, UNKNOWN, RELIABLE = 1, 2, 3, 4, 5
+
+
+class Message:
+    """A message from `queue` on: its call, and what was assigned of it."""
+
+    def __init__(self, ticket, stream, ordered, payload_id, data, until):
+        self.ticket, self.stream, self.ordered = ticket, stream, ordered
+        self.payload_id, self.data, self.until = payload_id, data, until
+        self.number = None                        # ordered ones, and unordered ones under I-DATA
+        self.indexes = []                         # one for each fragment assigned
+        self.withdrawn = self.abandoned = self.end_mark = False
+
+
+class Entry:
+    """What one TSN was assigned to: a fragment, or the end mark of an abandoned message."""
+
+    def __init__(self, message, fragment, last, data):
+        self.message, self.fragment, self.last, self.data = message, fragment, last, data
+        self.sent = self.marked = False
+
+    @property
+    def is_end_mark(self):
+        return self.fragment is None
+
+
+class Sender:
+    def __init__(self, interleave, initial_tsn, streams, fragment, peer_rwnd, partial):
+        self.interleave, self.initial, self.streams = interleave, initial_tsn, streams
+        self.fragment, self.rwnd, self.partial = fragment, peer_rwnd, partial
+        self.messages = []            # by ticket; ticket n stands at place n - 1
+        self.queue = []               # without a number, in the order of the send calls
+        self.parts = {}               # stream: the message assigned in part (RFC 8260 alone)
+        self.plan = [None]            # entries by index; index 0 is nothing
+        self.cum = 0                  # acknowledged up to here
+        self.covered = set()          # what the last SACK covers above it
+        self.numbers = {}             # (stream, ordered): the next number
+        self.flight = 0               # data bytes in flight, kept while a packet is filled
+        self.served = None            # the stream that was served last (RFC 8260 alone)
+        self.abandon_order = []       # tickets in the order of abandoning
+
+    # ---- Readers ----
+
+    def tsn(self, index):
+        return (self.initial + index - 1) % 2**32
+
+    def last(self):
+        return len(self.plan) - 1
+
+    def is_covered(self, index):
+        return index <= self.cum or index in self.covered
+
+    def fragments(self, message):
+        """How many fragments the message has: all but the last are of one size (RFC 9260 6.9)."""
+        return -(-len(message.data) // self.fragment)
+
+    def outstanding(self):
+        return self.last() - self.cum + len(self.parts)
+
+    def whole(self, message):
+        """Its last fragment is assigned."""
+        return len(message.indexes) == self.fragments(message)
+
+    def acknowledged(self, message):
+        return (self.whole(message) and not message.abandoned
+                and all(self.is_covered(i) for i in message.indexes))
+
+    def drained(self):
+        return not self.queue and not self.parts and self.cum == self.last()
+
+    def point(self):
+        """The advanced peer ack point (RFC 3758 section 3.5, C1)."""
+        p = self.cum
+        while p < self.last() and self.plan[p + 1].message.abandoned:
+            p += 1
+        return p
+
+    def waits_for_cover(self, index):
+        """A sent fragment that is neither covered nor abandoned."""
+        entry = self.plan[index]
+        return entry.sent and not self.is_covered(index) and not entry.message.abandoned
+
+    def above_cum(self):
+        return range(self.cum + 1, self.last() + 1)
+
+    def unsettled(self):
+        """The data timer is wanted (RFC 9260 section 6.3.2, RFC 3758 section 3.5)."""
+        return self.point() > self.cum or any(self.waits_for_cover(i) for i in self.above_cum())
+
+    def in_flight(self):
+        return sum(len(self.plan[i].data) for i in self.above_cum()
+                   if self.waits_for_cover(i) and not self.plan[i].marked)
+
+    # ---- Calls ----
+
+    def send(self, stream, ordered, payload_id, data, until):
+        """A ticket, or the first refusal that holds as a negative number."""
+        if stream >= self.streams:
+            return -NO_SUCH_STREAM
+        if not data:
+            return -EMPTY
+        if len(data) > MESSAGE_LIMIT:
+            return -TOO_LONG
+        if len(self.queue) >= QUEUE_LIMIT:
+            return -QUEUE_FULL
+        message = Message(len(self.messages) + 1, stream, ordered, payload_id, data, until)
+        owing = self.queue + list(self.parts.values()) + [message]
+        owed = sum(self.fragments(m) - len(m.indexes) + 1 for m in owing)
+        if message.ticket > TICKET_LIMIT or self.last() + owed > OWED_LIMIT:
+            return -SPENT
+        self.messages.append(message)
+        self.queue.append(message)
+        return message.ticket
+
+    def abandon(self, ticket):
+        """RFC 3758 section 3.5, A1 and the user's wish; RFC 8260 section 2.2.2 for the end mark."""
+        if not 1 <= ticket <= len(self.messages):
+            return UNKNOWN
+        message = self.messages[ticket - 1]
+        if not message.indexes:
+            if not message.withdrawn:
+                message.withdrawn = True
+                self.queue.remove(message)
+            return WITHDRAWN
+        if message.abandoned:
+            return ABANDONED
+        if self.acknowledged(message):
+            return ACKNOWLEDGED
+        if not self.partial:
+            return RELIABLE
+        message.abandoned = True
+        self.abandon_order.append(ticket)
+        for index in message.indexes:
+            self.plan[index].marked = False
+        if not self.whole(message):
+            message.end_mark = True
+            self.plan.append(Entry(message, None, True, b''))
+            del self.parts[message.stream]
+        return ABANDONED
+
+    def expire(self, now):
+        """Abandons what is past its time, by rising ticket (RFC 3758 section 3.5, timed reliability)."""
+        for message in self.messages:
+            if message.until is not None and message.until <= now:
+                self.abandon(message.ticket)
+
+    def on_timeout(self):
+        """All that was sent and isn't covered is to be sent again (RFC 9260 section 6.3.3)."""
+        for index in self.above_cum():
+            if self.waits_for_cover(index):
+                self.plan[index].marked = True
+
+    # ---- Acknowledgements (RFC 9260 section 6.2.1) ----
+
+    def index_of(self, tsn):
+        """The index of a cumulative TSN, None where it is before the one known."""
+        if before(tsn, self.tsn(self.cum)):
+            return None
+        return self.cum + (tsn - self.tsn(self.cum)) % 2**32
+
+    def on_sack(self, sack):
+        """The refusal or None. What is covered is what this SACK says: it may be less than before."""
+        index = self.index_of(sack.cumulative)
+        if index is None:
+            return STALE
+        if max([index] + [index + end for _, end in sack.blocks]) > self.last():
+            return BEYOND
+        floor = 0
+        for start, end in sack.blocks:
+            if start <= floor or start > end:     # also start 0
+                return BAD_BLOCK
+            floor = end
+        covered = {index + i for start, end in sack.blocks for i in range(start, end + 1)}
+        self.cover(index, covered)
+        self.rwnd = sack.rwnd
+        return None
+
+    def on_shutdown(self, tsn):
+        """A SHUTDOWN's cumulative TSN; what lay covered beyond stays so (section 9.2)."""
+        index = self.index_of(tsn)
+        if index is None:
+            return STALE
+        if index > self.last():
+            return BEYOND
+        self.cover(index, {i for i in self.covered if i > index})
+        return None
+
+    def cover(self, cum, covered):
+        for index in self.above_cum():
+            if index <= cum or index in covered:
+                self.plan[index].marked = False
+        self.cum, self.covered = cum, covered
+
+    # ---- Filling a packet (RFC 9260 sections 6.1 and 6.10) ----
+
+    def fill(self, writer):
+        """Appends fragments to the packet; the tickets newly numbered, by first TSN."""
+        tickets = []
+        self.flight = self.in_flight()
+        # Repeats go first, lowest TSN first; a full window of the peer doesn't hold them (6.1 C).
+        for index in [i for i in self.above_cum() if self.plan[i].marked]:
+            if not self.put(writer, index):
+                return tickets
+        # Then what has a TSN and was never sent.
+        for index in [i for i in self.above_cum() if self.is_unsent(i)]:
+            if not self.flow_allows(self.plan[index].data) or not self.put(writer, index):
+                return tickets
+        while self.assign(writer, tickets):
+            pass
+        return tickets
+
+    def is_unsent(self, index):
+        entry = self.plan[index]
+        return not (entry.sent or entry.is_end_mark or entry.message.abandoned or self.is_covered(index))
+
+    def flow_allows(self, data):
+        """Room at the peer, or nothing in flight (section 6.1, rule A)."""
+        return self.flight == 0 or self.flight + len(data) <= self.rwnd
+
+    def fragment_chunk(self, index):
+        entry = self.plan[index]
+        message = entry.message
+        flags = (0 if message.ordered else FLAG_U)
+        flags |= (FLAG_B if entry.fragment == 0 else 0) | (FLAG_E if entry.last else 0)
+        if self.interleave:
+            # The payload id with B, else the fragment number (RFC 8260 section 2.1).
+            number = message.number % 2**32
+            word = message.payload_id if entry.fragment == 0 else entry.fragment
+        else:
+            # An unordered DATA has SSN 0 here (RFC 9260 section 3.3.1).
+            number = message.number % 2**16 if message.ordered else 0
+            word = message.payload_id
+        return data_chunk(self.interleave, flags, self.tsn(index), message.stream, number, word, entry.data)
+
+    def put(self, writer, index):
+        if not writer.put(self.fragment_chunk(index)):
+            return False
+        self.plan[index].sent, self.plan[index].marked = True, False
+        self.flight += len(self.plan[index].data)
+        return True
+
+    def data_of(self, message, fragment):
+        return message.data[fragment * self.fragment:(fragment + 1) * self.fragment]
+
+    def next_message(self):
+        """The message of which a fragment takes the next TSN, None where there is nothing."""
+        if not self.interleave:
+            return self.queue[0] if self.queue else None
+        # The streams take turns, one fragment each, upward from the one after the last served
+        # (RFC 8260 section 2.2.2); one message at a time in a stream.
+        start = 0 if self.served is None else self.served + 1
+        for turn in range(self.streams):
+            stream = (start + turn) % self.streams
+            if stream in self.parts:
+                return self.parts[stream]
+            for message in self.queue:
+                if message.stream == stream:
+                    return message
+        return None
+
+    def window_allows(self, message):
+        """At most 32,767 TSNs above CUM and messages in part, after what would be assigned."""
+        left = self.fragments(message) - len(message.indexes)
+        if not self.interleave:
+            return self.outstanding() + left <= WINDOW
+        in_part_now = 1 if message.indexes else 0
+        in_part_then = 1 if left > 1 else 0
+        return self.outstanding() + 1 + in_part_then - in_part_now <= WINDOW
+
+    def assign(self, writer, tickets):
+        """Assigns for one more fragment that goes into this packet; with DATA its whole message."""
+        message = self.next_message()
+        if message is None or not self.window_allows(message):
+            return False
+        data = self.data_of(message, len(message.indexes))
+        room = padded((20 if self.interleave else 16) + len(data))
+        if not writer.room(room) or not self.flow_allows(data):
+            return False
+        if not message.indexes:
+            self.give_number(message)
+            tickets.append(message.ticket)
+        self.assign_fragment(message)
+        self.put(writer, self.last())
+        if self.interleave:
+            self.served = message.stream
+            if self.whole(message):
+                self.parts.pop(message.stream, None)
+            else:
+                self.parts[message.stream] = message
+            return True
+        first = self.last()
+        while not self.whole(message):
+            self.assign_fragment(message)
+        for index in range(first + 1, self.last() + 1):
+            if not self.flow_allows(self.plan[index].data) or not self.put(writer, index):
+                return False
+        return True
+
+    def give_number(self, message):
+        self.queue.remove(message)
+        if message.ordered or self.interleave:
+            kind = (message.stream, message.ordered)
+            message.number = self.numbers.get(kind, 0)
+            self.numbers[kind] = message.number + 1
+
+    def assign_fragment(self, message):
+        fragment = len(message.indexes)
+        last = fragment == self.fragments(message) - 1
+        self.plan.append(Entry(message, fragment, last, self.data_of(message, fragment)))
+        message.indexes.append(self.last())
+
+    # ---- FORWARD-TSN (RFC 3758 section 3.5, RFC 8260 section 2.3.1) ----
+
+    def forward(self):
+        """The chunk for the point, None where it is CUM."""
+        point, largest = self.point(), {}
+        if point == self.cum:
+            return None
+        for index in range(self.cum + 1, point + 1):
+            message = self.plan[index].message
+            if message.number is not None:
+                kind = (message.stream, not message.ordered)
+                largest[kind] = max(largest.get(kind, 0), message.number)
+        width = 32 if self.interleave else 16
+        skips = [(stream, unordered, number % 2**width)
+                 for (stream, unordered), number in sorted(largest.items())]
+        return forward_chunk(self.interleave, self.tsn(point), skips)
