@@ -42,9 +42,10 @@ IsBare e = is_before e.phase ≡ true → IsUnused e
 abbrev pub IsNamed : Plan → Type 0
 IsNamed p = (e : Entry) → Has p.entries e → entry_number e < length (p.messages (entry_lane e))
 
--- An end is bare before an association, and each index that it gave is of a message of its own.
+-- An end is bare before an association, its receiver has the buffer that it is set up with, and each index that it gave is of a message of its own.
 pub record IsSound (e : EndView) : Type 0 where
   pub bare : IsBare e
+  pub buffer : e.receiver.buffer ≡ e.configuration.buffer
   pub named : IsNamed e.sender.plan
 
 -- ---- what is noted

@@ -4,12 +4,12 @@ use Rattle.std.specs.Prelude.{◌-◌}
 use Rattle.sctp_model.specs.wire.Chunk.{ChunkMeaning}
 use Rattle.sctp_model.specs.wire.Packet.{size_of_packet}
 use Rattle.sctp_model.specs.sender.SenderView.{SenderView}
-use Rattle.sctp_model.specs.end.EndView.{EndView, format_of}
+use Rattle.sctp_model.specs.end.EndView.{Configuration, EndView, format_of}
 use Rattle.sctp_model.specs.end.Clock.{at_moment}
 use Rattle.sctp_model.specs.end.Building.{Slot, Puts, NoMore, NotDue, Put, IsFull, Builds, Sleeps, Waits, Calls, Echoes, EndsFull, Fills, EchoSlot, CookieAckSlot, HeartbeatSlot, ErrorSlot, SackSlot, ForwardSlot, ShutdownSlot, ShutdownAckSlot, once_built, sent}
 use Rattle.sctp_outcomes.specs.Kept.{is_before, IsNamed, IsSound, AddsNumbers, BuildsAddNumbers}
 use Rattle.sctp_outcomes.proofs.logs.Filled.{Grows, grows_not, grows_filled, numbers_grow}
-use Rattle.sctp_outcomes.proofs.logs.Ends.{never, same_keeps}
+use Rattle.sctp_outcomes.proofs.logs.Ends.{never, IsSameToUser, same_keeps}
 use Rattle.sctp_outcomes.proofs.logs.Heard.{moment_keeps}
 
 -- ---- what is due goes in
@@ -17,37 +17,46 @@ use Rattle.sctp_outcomes.proofs.logs.Heard.{moment_keeps}
 -- neither the sender nor the state changed, and nothing was taken
 record IsPut (e t : EndView) : Type 0 where
   sender : t.sender ≡ e.sender
-  taken : t.receiver.taken ≡ e.receiver.taken
+  same : IsSameToUser e.receiver t.receiver
+  configuration : t.configuration ≡ e.configuration
   phase : t.phase ≡ e.phase
 
+put_not : (e : EndView) → IsPut e e
+put_not e = record { sender = refl; same = record { taken = refl; buffer = refl }; configuration = refl; phase = refl }
+
 put_on : (e t u : EndView) → IsPut e t → IsPut t u → IsPut e u
-put_on e t u a b = record { sender = b.sender ∙ a.sender; taken = b.taken ∙ a.taken; phase = b.phase ∙ a.phase }
+put_on e t u a b = record {
+  sender = b.sender ∙ a.sender;
+  same = record { taken = b.same.taken ∙ a.same.taken; buffer = b.same.buffer ∙ a.same.buffer };
+  configuration = b.configuration ∙ a.configuration;
+  phase = b.phase ∙ a.phase;
+}
 
 once_put : (s : Slot) (e : EndView) → IsPut e (once_built s e)
-once_put EchoSlot e = record { sender = refl; taken = refl; phase = refl }
-once_put CookieAckSlot e = record { sender = refl; taken = refl; phase = refl }
-once_put HeartbeatSlot e = record { sender = refl; taken = refl; phase = refl }
-once_put ErrorSlot e = record { sender = refl; taken = refl; phase = refl }
-once_put SackSlot e = record { sender = refl; taken = refl; phase = refl }
-once_put ForwardSlot e = record { sender = refl; taken = refl; phase = refl }
-once_put ShutdownSlot e = record { sender = refl; taken = refl; phase = refl }
-once_put ShutdownAckSlot e = record { sender = refl; taken = refl; phase = refl }
+once_put EchoSlot e = record { sender = refl; same = record { taken = refl; buffer = refl }; configuration = refl; phase = refl }
+once_put CookieAckSlot e = record { sender = refl; same = record { taken = refl; buffer = refl }; configuration = refl; phase = refl }
+once_put HeartbeatSlot e = record { sender = refl; same = record { taken = refl; buffer = refl }; configuration = refl; phase = refl }
+once_put ErrorSlot e = record { sender = refl; same = record { taken = refl; buffer = refl }; configuration = refl; phase = refl }
+once_put SackSlot e = record { sender = refl; same = record { taken = refl; buffer = refl }; configuration = refl; phase = refl }
+once_put ForwardSlot e = record { sender = refl; same = record { taken = refl; buffer = refl }; configuration = refl; phase = refl }
+once_put ShutdownSlot e = record { sender = refl; same = record { taken = refl; buffer = refl }; configuration = refl; phase = refl }
+once_put ShutdownAckSlot e = record { sender = refl; same = record { taken = refl; buffer = refl }; configuration = refl; phase = refl }
 
 all_put : (ss : List Slot) (e : EndView) (xs zs : List ChunkMeaning) (full : Bool) (t : EndView) → Puts ss e xs zs full t → IsPut e t
-all_put ss e xs zs full t (NoMore _ _) = record { sender = refl; taken = refl; phase = refl }
+all_put ss e xs zs full t (NoMore _ _) = put_not e
 all_put ss e xs zs full t (NotDue _ more _ _ _ _ _ off rest) = all_put more e xs zs full t rest
 all_put ss e xs zs full t (Put s more _ x _ _ _ _ due wants room rest) = put_on e (once_built s e) t (once_put s e) (all_put more (once_built s e) (xs ++ x ∷ []) zs full t rest)
-all_put ss e xs zs full t (IsFull _ _ _ _ _ due wants room) = record { sender = refl; taken = refl; phase = refl }
+all_put ss e xs zs full t (IsFull _ _ _ _ _ due wants room) = put_not e
 
 -- ---- the packet
 
 -- an end whose sender has grown, with an association
-grown : (e t : EndView) → Grows e.sender t.sender → t.receiver.taken ≡ e.receiver.taken → is_before t.phase ≡ false → IsSound e → AddsNumbers e t
-grown e t g taken after s = record {
-  sound = record { bare = λ on. never after on; named = g.named };
+grown : (e t : EndView) → Grows e.sender t.sender → IsSameToUser e.receiver t.receiver → t.configuration ≡ e.configuration → is_before t.phase ≡ false → IsSound e → AddsNumbers e t
+grown e t g same configuration after s = record {
+  sound = record { bare = λ on. never after on; buffer = same.buffer ∙ s.buffer ∙ ap (λ (c : Configuration). c.buffer) (sym configuration); named = g.named };
   numbers = numbers_grow e.sender t.sender s.named g;
   tickets = g.tickets;
-  taken = taken;
+  taken = same.taken;
 }
 
 -- or one that is the same to its logs
@@ -59,14 +68,14 @@ same_adds e t sender receiver configuration phase s =
 
 put_grown : (e t : EndView) → IsPut e t → is_before e.phase ≡ false → IsSound e → AddsNumbers e t
 put_grown e t p after s =
-    grown e t (grows_not e.sender t.sender (ap (λ (v : SenderView). v.plan) p.sender) (ap (λ (v : SenderView). v.tickets) p.sender) s.named) p.taken (ap is_before p.phase ∙ after) s
+    grown e t (grows_not e.sender t.sender (ap (λ (v : SenderView). v.plan) p.sender) (ap (λ (v : SenderView). v.tickets) p.sender) s.named) p.same p.configuration (ap is_before p.phase ∙ after) s
 
 -- fragments behind what is due
 sent_grown : (e x : EndView) (zs : List ChunkMeaning) → IsPut e x → is_before e.phase ≡ false → IsSound e → AddsNumbers e (sent x zs)
 sent_grown e x zs p after s =
     let from = subst (λ (v : SenderView). Grows v (sent x zs).sender) p.sender
         (grows_filled (format_of x) (x.configuration.limit - size_of_packet zs) x.sender (subst (λ (v : SenderView). IsNamed v.plan) (sym p.sender) s.named)) in
-    grown e (sent x zs) from p.taken (ap is_before p.phase ∙ after) s
+    grown e (sent x zs) from p.same p.configuration (ap is_before p.phase ∙ after) s
 
 built_adds : (e t : EndView) (xs : List ChunkMeaning) → IsSound e → Builds e xs t → AddsNumbers e t
 built_adds e t xs s (Sleeps _) = same_adds e e refl refl refl refl s

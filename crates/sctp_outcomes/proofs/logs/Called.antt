@@ -1,5 +1,5 @@
 -- What the user's calls note.
-use Rattle.std.proofs.Common.{◌≡◌, ℕ, Bool, true, false, List, [], ◌∷◌, Option, Some, None, refl, sym, subst, ap}
+use Rattle.std.proofs.Common.{◌≡◌, ℕ, Bool, true, false, List, [], ◌∷◌, Option, Some, None, refl, sym, subst, ap, ◌∙◌}
 use Rattle.std.specs.Prelude.{if◌then◌else◌}
 use Rattle.sctp_model.specs.sender.Queueing.{Refusal, refusal}
 use Rattle.sctp_model.specs.sender.Abandoning.{abandon_after}
@@ -68,7 +68,7 @@ send_gives_tickets e c s = by_state (hears is_established e.phase) refl
   where
     by_reason : (o : Option Refusal) → hears is_established e.phase ≡ true → SendNotes (answer_for e o) e (send_leaves (answer_for e o) e c)
     by_reason None on = record {
-      sound = record { bare = λ before. never (heard_after is_established e.phase on) before; named = s.named };
+      sound = record { bare = λ before. never (heard_after is_established e.phase on) before; buffer = s.buffer; named = s.named };
       numbers = refl;
       tickets = refl;
       taken = refl;
@@ -89,7 +89,7 @@ nothing_waits e n h rest u waits = let q : [] ≡ h ∷ rest = subst (λ (r : Re
 take_notes : (e : EndView) (n : ℕ) (h : Option Handed) (r : ReceiverView) → IsSound e → TakeLeaves e.receiver n h r → TakeNotes h n e (record e { receiver = r })
 take_notes e n None r s (none, is) = same_keeps e _ refl is refl (λ on. on) s
 take_notes e n (Some h) r s (rest, waits, is) = record {
-  sound = record { bare = λ on. absurd (nothing_waits e n h rest (s.bare on) waits); named = s.named };
+  sound = record { bare = λ on. absurd (nothing_waits e n h rest (s.bare on) waits); buffer = ap (λ (x : ReceiverView). x.buffer) is ∙ s.buffer; named = s.named };
   numbers = refl;
   tickets = refl;
   taken = ap (λ (x : ReceiverView). x.taken) is;

@@ -41,6 +41,7 @@ same_keeps e t sender receiver configuration before s = record {
       sender = sender ∙ u.sender ∙ ap (λ (c : Configuration). fresh_sender 0 0 c.fragment 0 false) (sym configuration);
       receiver = receiver ∙ u.receiver ∙ ap (λ (c : Configuration). fresh_receiver 0 0 c.buffer) (sym configuration);
     };
+    buffer = ap (λ (r : ReceiverView). r.buffer) receiver ∙ s.buffer ∙ ap (λ (c : Configuration). c.buffer) (sym configuration);
     named = subst (λ (v : SenderView). IsNamed v.plan) (sym sender) s.named;
   };
   numbers = ap (λ (v : SenderView). begun_tickets v.plan v.plan.entries) sender;
@@ -48,14 +49,23 @@ same_keeps e t sender receiver configuration before s = record {
   taken = ap (λ (r : ReceiverView). r.taken) receiver;
 }
 
+-- a receiver of which the same was taken, and its buffer
+pub record IsSameToUser (r t : ReceiverView) : Type 0 where
+  pub taken : t.taken ≡ r.taken
+  pub buffer : t.buffer ≡ r.buffer
+
 -- with an association: the plan is the same, and what was taken
-pub joined_keeps : (e t : EndView) → t.sender.plan ≡ e.sender.plan → t.sender.tickets ≡ e.sender.tickets → t.receiver.taken ≡ e.receiver.taken → is_before t.phase ≡ false
-    → IsSound e → KeepsLogs e t
-joined_keeps e t plan tickets taken after s = record {
-  sound = record { bare = λ on. never after on; named = subst IsNamed (sym plan) s.named };
+pub joined_keeps : (e t : EndView) → t.sender.plan ≡ e.sender.plan → t.sender.tickets ≡ e.sender.tickets → IsSameToUser e.receiver t.receiver → t.configuration ≡ e.configuration
+    → is_before t.phase ≡ false → IsSound e → KeepsLogs e t
+joined_keeps e t plan tickets same configuration after s = record {
+  sound = record {
+    bare = λ on. never after on;
+    buffer = same.buffer ∙ s.buffer ∙ ap (λ (c : Configuration). c.buffer) (sym configuration);
+    named = subst IsNamed (sym plan) s.named;
+  };
   numbers = ap (λ (p : Plan). begun_tickets p p.entries) plan;
   tickets = tickets;
-  taken = taken;
+  taken = same.taken;
 }
 
 -- the sender alone changed, and keeps its numbers
@@ -66,6 +76,7 @@ sender_keeps e t k receiver configuration phase s = record {
       sender = k.new e.configuration.fragment u.sender ∙ ap (λ (c : Configuration). fresh_sender 0 0 c.fragment 0 false) (sym configuration);
       receiver = receiver ∙ u.receiver ∙ ap (λ (c : Configuration). fresh_receiver 0 0 c.buffer) (sym configuration);
     };
+    buffer = ap (λ (r : ReceiverView). r.buffer) receiver ∙ s.buffer ∙ ap (λ (c : Configuration). c.buffer) (sym configuration);
     named = k.named s.named;
   };
   numbers = k.numbers;
@@ -74,11 +85,11 @@ sender_keeps e t k receiver configuration phase s = record {
 }
 
 -- it had no association, and has one now: sender and receiver are new
-pub begins_keeps : (e t : EndView) → t.sender.plan ≡ record { messages = λ l. []; entries = [] } → t.sender.tickets ≡ 0 → t.receiver.taken ≡ (λ s. []) → is_before t.phase ≡ false
+pub begins_keeps : (e t : EndView) → t.sender.plan ≡ record { messages = λ l. []; entries = [] } → t.sender.tickets ≡ 0 → t.receiver.taken ≡ (λ s. []) → t.receiver.buffer ≡ t.configuration.buffer → is_before t.phase ≡ false
     → is_before e.phase ≡ true → IsSound e → KeepsLogs e t
-begins_keeps e t plan tickets taken after before s =
+begins_keeps e t plan tickets taken buffer after before s =
     let u = s.bare before in record {
-      sound = record { bare = λ on. never after on; named = subst IsNamed (sym plan) (λ x none. absurd none) };
+      sound = record { bare = λ on. never after on; buffer = buffer; named = subst IsNamed (sym plan) (λ x none. absurd none) };
       numbers = ap (λ (p : Plan). begun_tickets p p.entries) plan ∙ sym (ap (λ (v : SenderView). begun_tickets v.plan v.plan.entries) u.sender);
       tickets = tickets ∙ sym (ap (λ (v : SenderView). v.tickets) u.sender);
       taken = taken ∙ sym (ap (λ (r : ReceiverView). r.taken) u.receiver);

@@ -22,43 +22,45 @@ use Rattle.sctp_model.specs.end.Arriving.{Notes, no_notes, packet_ended, AllAct,
 use Rattle.sctp_safety.proofs.machine.EndWords.{Keeps, all_act_keeps, ended_cases}
 use Rattle.sctp_safety.proofs.machine.Sides.{unknown_goes, unknown_ends, unknown_never_replies}
 use Rattle.sctp_outcomes.specs.Kept.{is_before, IsSound, KeepsLogs, PacketsKeepLogs, CutPacketsKeepLogs}
-use Rattle.sctp_outcomes.proofs.logs.Ends.{heard_after, keeps_itself, keeps_on, same_keeps, joined_keeps, begins_keeps, rested_keeps}
+use Rattle.sctp_outcomes.proofs.logs.Ends.{heard_after, IsSameToUser, keeps_itself, keeps_on, same_keeps, joined_keeps, begins_keeps, rested_keeps}
 
 -- ---- what comes to a receiver is taken by nobody yet
 
--- the same was taken
-abbrev SameTaken : ReceiverView → ReceiverView → Type 0
-SameTaken r t = t.taken ≡ r.taken
+same : (r : ReceiverView) → IsSameToUser r r
+same r = record { taken = refl; buffer = refl }
 
-given : (f : Format) (s : ℕ) (r t : ReceiverView) → GivesOrdered f s r t → SameTaken r t
-given f s r t (ms, n, due, is) = subst (SameTaken r) (sym is) refl
+given : (f : Format) (s : ℕ) (r t : ReceiverView) → GivesOrdered f s r t → IsSameToUser r t
+given f s r t (ms, n, due, is) = subst (IsSameToUser r) (sym is) (record { taken = refl; buffer = refl })
 
-gives : (f : Format) (k : Kind) (y : Piece) (r t : ReceiverView) → Gives f k y r t → SameTaken r t
+gives : (f : Format) (k : Kind) (y : Piece) (r t : ReceiverView) → Gives f k y r t → IsSameToUser r t
 gives f Ordered y r t g = given f y.lane.stream r t g
-gives f Unordered y r t (inl (x, xs, whole, is)) = subst (SameTaken r) (sym is) refl
-gives f Unordered y r t (inr (none, is)) = subst (SameTaken r) (sym is) refl
+gives f Unordered y r t (inl (x, xs, whole, is)) = subst (IsSameToUser r) (sym is) (record { taken = refl; buffer = refl })
+gives f Unordered y r t (inr (none, is)) = subst (IsSameToUser r) (sym is) (same r)
 
-gives_all : (f : Format) (n : ℕ) (r t : ReceiverView) → GivesAll f n r t → SameTaken r t
-gives_all f zero r t is = subst (SameTaken r) (sym is) refl
-gives_all f (suc n) r t (mid, before, g) = given f n mid t g ∙ gives_all f n r mid before
+gives_all : (f : Format) (n : ℕ) (r t : ReceiverView) → GivesAll f n r t → IsSameToUser r t
+gives_all f zero r t is = subst (IsSameToUser r) (sym is) (same r)
+gives_all f (suc n) r t (mid, before, g) =
+    let first = gives_all f n r mid before in
+    let second = given f n mid t g in
+    record { taken = second.taken ∙ first.taken; buffer = second.buffer ∙ first.buffer }
 
-by_answer : (f : Format) (r : ReceiverView) (x : Piece) (wire : ℕ) (a : PieceAnswer) (t : ReceiverView) → Leaves f r x wire a t → SameTaken r t
-by_answer f r x wire Duplicate t is = subst (SameTaken r) (sym is) refl
-by_answer f r x wire Ahead t is = subst (SameTaken r) (sym is) refl
-by_answer f r x wire NoSuchStream t is = subst (SameTaken r) (sym is) refl
-by_answer f r x wire Passed t is = subst (SameTaken r) (sym is) refl
-by_answer f r x wire NoRoom t is = subst (SameTaken r) (sym is) refl
-by_answer f r x wire Kept t g = gives f x.lane.kind x _ t g
+by_answer : (f : Format) (r : ReceiverView) (x : Piece) (wire : ℕ) (a : PieceAnswer) (t : ReceiverView) → Leaves f r x wire a t → IsSameToUser r t
+by_answer f r x wire Duplicate t is = subst (IsSameToUser r) (sym is) (record { taken = refl; buffer = refl })
+by_answer f r x wire Ahead t is = subst (IsSameToUser r) (sym is) (record { taken = refl; buffer = refl })
+by_answer f r x wire NoSuchStream t is = subst (IsSameToUser r) (sym is) (record { taken = refl; buffer = refl })
+by_answer f r x wire Passed t is = subst (IsSameToUser r) (sym is) (record { taken = refl; buffer = refl })
+by_answer f r x wire NoRoom t is = subst (IsSameToUser r) (sym is) (record { taken = refl; buffer = refl })
+by_answer f r x wire Kept t g = let k = gives f x.lane.kind x _ t g in record { taken = k.taken; buffer = k.buffer }
 
-piece_same : (f : Format) (r : ReceiverView) (p : PieceMeaning) (a : PieceAnswer) (t : ReceiverView) → PieceTaken f r p a t → SameTaken r t
+piece_same : (f : Format) (r : ReceiverView) (p : PieceMeaning) (a : PieceAnswer) (t : ReceiverView) → PieceTaken f r p a t → IsSameToUser r t
 piece_same f r p a t came = by_answer f r (piece_at f r came.c p) p.tsn a t came.leaves
 
-by_forward : (f : Format) (r : ReceiverView) (c : ℕ) (m : ForwardMeaning) (a : ForwardAnswer) (t : ReceiverView) → ForwardLeaves f r c m a t → SameTaken r t
-by_forward f r c m OutOfDate t is = subst (SameTaken r) (sym is) refl
-by_forward f r c m Bad t is = subst (SameTaken r) (sym is) refl
-by_forward f r c m Moved t g = gives_all f r.streams _ t g
+by_forward : (f : Format) (r : ReceiverView) (c : ℕ) (m : ForwardMeaning) (a : ForwardAnswer) (t : ReceiverView) → ForwardLeaves f r c m a t → IsSameToUser r t
+by_forward f r c m OutOfDate t is = subst (IsSameToUser r) (sym is) (record { taken = refl; buffer = refl })
+by_forward f r c m Bad t is = subst (IsSameToUser r) (sym is) (record { taken = refl; buffer = refl })
+by_forward f r c m Moved t g = let k = gives_all f r.streams _ t g in record { taken = k.taken; buffer = k.buffer }
 
-forward_same : (f : Format) (r : ReceiverView) (m : ForwardMeaning) (a : ForwardAnswer) (t : ReceiverView) → ForwardTaken f r m a t → SameTaken r t
+forward_same : (f : Format) (r : ReceiverView) (m : ForwardMeaning) (a : ForwardAnswer) (t : ReceiverView) → ForwardTaken f r m a t → IsSameToUser r t
 forward_same f r m a t came = by_forward f r came.c m a t came.leaves
 
 -- ---- chunks
@@ -69,17 +71,17 @@ open_after e h after is = ap is_before is ∙ after
 
 -- one after which the packet goes on
 goes_keeps : (e : EndView) (tag : ℕ) (x : ChunkMeaning) (y : Note) (t : EndView) → IsSound e → Acts e tag x (GoesOn y t) → KeepsLogs e t
-goes_keeps e tag (Data p) y t s (PieceComes u g a r is _ _ _ came) = joined_keeps e t refl refl (piece_same _ e.receiver p a r came) (open_after e (Open u g) refl is) s
-goes_keeps e tag (IData p) y t s (PieceComes u g a r is _ _ _ came) = joined_keeps e t refl refl (piece_same _ e.receiver p a r came) (open_after e (Open u g) refl is) s
+goes_keeps e tag (Data p) y t s (PieceComes u g a r is _ _ _ came) = joined_keeps e t refl refl (piece_same _ e.receiver p a r came) refl (open_after e (Open u g) refl is) s
+goes_keeps e tag (IData p) y t s (PieceComes u g a r is _ _ _ came) = joined_keeps e t refl refl (piece_same _ e.receiver p a r came) refl (open_after e (Open u g) refl is) s
 goes_keeps e tag (Init m) y t s h = absurd (cc)
-goes_keeps e tag (InitAck m) y t s (AcceptedAck d xs is _ _ _) = begins_keeps e t refl refl refl refl (ap is_before is) s
+goes_keeps e tag (InitAck m) y t s (AcceptedAck d xs is _ _ _) = begins_keeps e t refl refl refl refl refl (ap is_before is) s
 goes_keeps e tag (Sack k) y t s (SackStale _ _) = keeps_itself e s
-goes_keeps e tag (Sack k) y t s (SackCounts on _) = joined_keeps e t refl refl refl (heard_after takes_acknowledgements e.phase on) s
+goes_keeps e tag (Sack k) y t s (SackCounts on _) = joined_keeps e t refl refl (same e.receiver) refl (heard_after takes_acknowledgements e.phase on) s
 goes_keeps e tag (Heartbeat i) y t s (HeartbeatCounts _) = same_keeps e t refl refl refl (λ on. on) s
 goes_keeps e tag (HeartbeatAck i) y t s h = let q : t ≡ e = cc in subst (KeepsLogs e) (sym q) (keeps_itself e s)
 goes_keeps e tag (Abort b xs) y t s h = absurd (cc)
 goes_keeps e tag (Shutdown n) y t s (ShutdownStale _ _ _ _ _) = same_keeps e t refl refl refl (λ on. absurd (cc)) s
-goes_keeps e tag (Shutdown n) y t s (ShutdownCounts _ _ _ _ _) = joined_keeps e t refl refl refl refl s
+goes_keeps e tag (Shutdown n) y t s (ShutdownCounts _ _ _ _ _) = joined_keeps e t refl refl (same e.receiver) refl refl s
 goes_keeps e tag (Shutdown n) y t s (Crosses _ _) = same_keeps e t refl refl refl (λ on. absurd (cc)) s
 goes_keeps e tag (Shutdown n) y t s (Again _ _) = same_keeps e t refl refl refl (λ on. on) s
 goes_keeps e tag ShutdownAck y t s h = elim h [ ]
@@ -87,10 +89,10 @@ goes_keeps e tag (Error xs) y t s (SaysNothing _) = keeps_itself e s
 goes_keeps e tag (CookieEcho xs) y t s (EchoedAgain _ _ _ _ _ _ _) = same_keeps e t refl refl refl (λ on. on) s
 goes_keeps e tag CookieAck y t s (CookieAcked _ _ _) = same_keeps e t refl refl refl (λ on. absurd (cc)) s
 goes_keeps e tag (ShutdownComplete b) y t s h = elim h [ ]
-goes_keeps e tag (ForwardTsn m) y t s (IsOld u g r is _ _ came) = joined_keeps e t refl refl (forward_same _ e.receiver m _ r came) (open_after e (Open u g) refl is) s
-goes_keeps e tag (ForwardTsn m) y t s (ForwardComes u g r is _ _ came) = joined_keeps e t refl refl (forward_same _ e.receiver m _ r came) (open_after e (Open u g) refl is) s
-goes_keeps e tag (IForwardTsn m) y t s (IsOld u g r is _ _ came) = joined_keeps e t refl refl (forward_same _ e.receiver m _ r came) (open_after e (Open u g) refl is) s
-goes_keeps e tag (IForwardTsn m) y t s (ForwardComes u g r is _ _ came) = joined_keeps e t refl refl (forward_same _ e.receiver m _ r came) (open_after e (Open u g) refl is) s
+goes_keeps e tag (ForwardTsn m) y t s (IsOld u g r is _ _ came) = joined_keeps e t refl refl (forward_same _ e.receiver m _ r came) refl (open_after e (Open u g) refl is) s
+goes_keeps e tag (ForwardTsn m) y t s (ForwardComes u g r is _ _ came) = joined_keeps e t refl refl (forward_same _ e.receiver m _ r came) refl (open_after e (Open u g) refl is) s
+goes_keeps e tag (IForwardTsn m) y t s (IsOld u g r is _ _ came) = joined_keeps e t refl refl (forward_same _ e.receiver m _ r came) refl (open_after e (Open u g) refl is) s
+goes_keeps e tag (IForwardTsn m) y t s (ForwardComes u g r is _ _ came) = joined_keeps e t refl refl (forward_same _ e.receiver m _ r came) refl (open_after e (Open u g) refl is) s
 goes_keeps e tag (Unknown n f v) y t s h = let u = unknown_goes e y t n f v h in subst (KeepsLogs e) (sym u.same) (same_keeps e _ refl refl refl (λ on. on) s)
 
 -- one that ends it
@@ -176,7 +178,7 @@ arrives_keeps e d p t v s (Elsewhere _) = keeps_itself e s
 arrives_keeps e d p t v s (NotOurs _ _) = keeps_itself e s
 arrives_keeps e d p t v s (Stray _ _ _ _) = keeps_itself e s
 arrives_keeps e d p t v s (CookieBegins b u n _ _ _ _ opens acts) =
-    let new = begins_keeps e (begun b e) refl refl refl refl (opens_before e p.tag p.chunks b opens) s in
+    let new = begins_keeps e (begun b e) refl refl refl refl refl (opens_before e p.tag p.chunks b opens) s in
     let all = keeps_on e (begun b e) u new (acts_keep p.tag (begun b e) _ _ u n v new.sound acts) in
     keeps_on e u (packet_ended n u) all (ended_keeps n u all.sound)
 arrives_keeps e d p t v s (Heard u n _ _ _ _ acts) =
