@@ -21,9 +21,12 @@ pub fn talk(alloc: Global) -> Result<String> {
     let bytes = taken(alloc, listener.take(0))?;
     caller.shutdown()?;
     exchange(&mut caller, &mut listener, 20)?;
-    Ok(
-        format!(in alloc; "{:?} was taken; {:?}, {:?}", bytes.as_slice(), caller.ended(), listener.ended())?,
-    )
+    Ok(format!(in alloc;
+        "{:?} was taken; {:?}, {:?}",
+        bytes.as_slice(),
+        caller.ended(),
+        listener.ended()
+    )?)
 }
 
 /// How an end is set up: its port and its peer's, packets of 1,500 bytes, fragments of 1,400, a buffer of 64 KiB, a stream each way.
