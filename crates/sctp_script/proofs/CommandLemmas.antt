@@ -6,16 +6,23 @@ use Rattle.std.proofs.lemmas.Bool.{cases_Bool, and_parts}
 use Rattle.std.proofs.lemmas.Slice.Eq.{bytes_eq-Decides}
 use Rattle.sctp_script.specs.Commands.{commands, name_of, first_named, command_named}
 use Rattle.sctp_script.specs.declared.command.Command.{Command}
-use Rattle.sctp_script.specs.declared.command.Command.TheVariants.{Pair, Open, Send, Build, Deliver, Take}
+use Rattle.sctp_script.specs.declared.command.Command.TheVariants.{Pair, Open, At, Draw, Connect, Build, Deliver, Foreign, Send, Abandon, Take, Shutdown, Abort}
 
 -- a row for each command: by its name it is found again, so that it is in the list, and no other one has its name
 pub named_again : (c : Command) → command_named (name_of c) ≡ Some c
 named_again Pair = refl
 named_again Open = refl
-named_again Send = refl
+named_again At = refl
+named_again Draw = refl
+named_again Connect = refl
 named_again Build = refl
 named_again Deliver = refl
+named_again Foreign = refl
+named_again Send = refl
+named_again Abandon = refl
 named_again Take = refl
+named_again Shutdown = refl
+named_again Abort = refl
 
 -- ---- one name, one command
 

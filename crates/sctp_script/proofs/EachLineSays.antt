@@ -3,13 +3,14 @@ use Rattle.std.proofs.Common.{◌≡◌, ℕ, ◌<◌, ◌≤◌, Bool, true, fa
 use Rattle.std.proofs.lemmas.Bool.{cases_eq, cases_lt}
 use Rattle.sctp_script.specs.declared.command.Command.{Command}
 use Rattle.sctp_script.specs.declared.command.Command.TheVariants as command
-use Rattle.sctp_script.specs.declared.line.TheConstants.{COMMENT}
-use Rattle.sctp_script.specs.declared.line.LineFault.{LineFault}
-use Rattle.sctp_script.specs.declared.line.LineFault.TheVariants.{TooLong, UnknownCommand, WordCount, BadValue, PairOrder}
+use Rattle.sctp_words.specs.declared.line_fault.TheConstants.{COMMENT}
+use Rattle.sctp_words.specs.declared.line_fault.LineFault.{LineFault}
+use Rattle.sctp_words.specs.declared.line_fault.LineFault.TheVariants.{TooLong, UnknownCommand, WordCount, BadValue, PairOrder}
 use Rattle.sctp_script.specs.Commands.{fields_of, arguments_of, is_pair}
-use Rattle.sctp_script.specs.Configuration.{pair_fault, sizes}
-use Rattle.sctp_script.specs.Fields.{Values}
-use Rattle.sctp_script.specs.Grammar.{LineMeaning, Silent, Pairs, Acts, Fault, IsSilent, AreGood, Spells, IsLineOf, Means, HasFault, HasNoFault, Says, SaysOneThing, meaning_of, kind_of}
+use Rattle.sctp_model.specs.end.Configured.{configuration_fault}
+use Rattle.sctp_script.specs.Configuration.{sizes}
+use Rattle.sctp_script.specs.Grammar.{LineMeaning, Silent, Pairs, Acts, Fault, CommandValues, AreGood, Spells, IsLineOf, Means, HasFault, HasNoFault, Says, SaysOneThing, meaning_of}
+use Rattle.sctp_words.specs.Lines.{IsSilent, kind_of}
 use Rattle.sctp_script.proofs.CommandLemmas.{command_or_none}
 use Rattle.sctp_script.proofs.FieldLemmas.{one_values, values_or_none}
 use Rattle.sctp_script.proofs.LineLemmas.{first_of, one_command, one_list, Reads, out_of_order, faultless}
@@ -25,8 +26,8 @@ none_or_not (Some x) = inr (λ h. cc (h))
 
 -- ---- what a command with its words says is decided
 
-good_or_not : (c : Command) (vs : Values (fields_of c)) → AreGood c vs ⊎ (AreGood c vs → ⊥)
-good_or_not command.Pair (limit, (fragment, (buffer, (streams, (mode, rest))))) = none_or_not (pair_fault (sizes limit fragment buffer streams))
+good_or_not : (c : Command) (vs : CommandValues c) → AreGood c vs ⊎ (AreGood c vs → ⊥)
+good_or_not command.Pair (limit, (fragment, (buffer, (streams, (mode, rest))))) = none_or_not (configuration_fault (sizes limit fragment buffer streams))
 good_or_not _ vs = inl tt
 
 decided : (c : Command) (args : List (List ℕ)) → ((m : LineMeaning) × Spells c args m) ⊎ ((m : LineMeaning) → Spells c args m → ⊥)
@@ -35,7 +36,7 @@ decided c args =
       | inr none ↦ inr (λ m s. none s.0 s.1)
       | inl found ↦ elim (good_or_not c found.0) [
         | inl good ↦ inl (meaning_of c found.0, (found.0, found.1, good, refl))
-        | inr bad ↦ inr (λ m s. bad (subst (λ (vs : Values (fields_of c)). AreGood c vs) (one_values (fields_of c) args s.0 found.0 s.1 found.1) s.2))
+        | inr bad ↦ inr (λ m s. bad (subst (λ (vs : CommandValues c). AreGood c vs) (one_values (fields_of c) args s.0 found.0 s.1 found.1) s.2))
       ]
     ]
 
@@ -95,7 +96,7 @@ IsSpoken (Pairs c) = Unit {0}
 IsSpoken (Acts e) = Unit {0}
 IsSpoken (Fault f) = ⊥
 
-meant : (c : Command) (vs : Values (fields_of c)) → IsSpoken (meaning_of c vs)
+meant : (c : Command) (vs : CommandValues c) → IsSpoken (meaning_of c vs)
 meant command.Pair vs = tt
 meant _ vs = tt
 

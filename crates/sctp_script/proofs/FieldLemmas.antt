@@ -1,12 +1,14 @@
 -- A word says one value of its field or none, and so do the words behind a command.
-use Rattle.std.proofs.Common.{◌≡◌, ℕ, suc, ◌^◌, ◌⊎◌, inl, inr, List, [], ◌∷◌, length, slice_index, None, codes, refl, sym, ap, ◌∙◌, subst, arith}
+use Rattle.std.proofs.Common.{◌≡◌, ℕ, ◌==◌, cond, ◌^◌, ◌⊎◌, inl, inr, List, [], ◌∷◌, length, slice_index, Option, None, Some, codes, refl, sym, ap, ◌∙◌, subst, arith}
 use Rattle.std.proofs.lemmas.Bool.{cases_lt}
-use Rattle.sctp_model.specs.messages.Format.{Ordered}
-use Rattle.sctp_model.specs.first.World.{Side, A, B}
-use Rattle.sctp_script.specs.declared.config.Mode.{Mode}
-use Rattle.sctp_script.specs.declared.config.Mode.TheVariants.{Data}
-use Rattle.sctp_script.specs.Fields.{Field, ASide, ANumber, AMode, AKind, AnUntil, SomeBytes, Value, mode_word, IsValue, Values, AreValues}
-use Rattle.sctp_script.specs.OutcomeText.{side_word, kind_word}
+use Rattle.sctp_model.specs.messages.Format.{Kind, Ordered, Unordered}
+use Rattle.sctp_model.specs.world.World.{Side, A, B}
+use Rattle.sctp_terms.specs.declared.mode.Mode.{Mode}
+use Rattle.sctp_terms.specs.declared.mode.Mode.TheVariants.{Data, PartialData, IData, PartialIData}
+use Rattle.sctp_words.specs.Fields.{IsNumber, IsUntil, kind_word, mode_word, Values, AreValues}
+use Rattle.sctp_script.specs.Fields.{Field, ASide, ANumber, ATag, AMode, AKind, AnUntil, SomeBytes, Value, IsValue}
+use Rattle.sctp_script.specs.OutcomeText.{side_word}
+use Rattle.sctp_text.specs.Numerals.{IsDecimal}
 use Rattle.sctp_text.proofs.WordValues.{same_or_not, one_decimal, decimal_or_none, one_hex, hex_or_none}
 
 -- ---- one value
@@ -17,15 +19,44 @@ one_side A B e = absurd (omega (arith, ap (λ (w : List ℕ). slice_index w 0) e
 one_side B A e = absurd (omega (arith, ap (λ (w : List ℕ). slice_index w 0) e))
 one_side B B e = refl
 
+one_kind : (k l : Kind) → kind_word k ≡ kind_word l → k ≡ l
+one_kind Ordered Ordered e = refl
+one_kind Ordered Unordered e = absurd (omega (arith, ap (λ (w : List ℕ). slice_index w 0) e))
+one_kind Unordered Ordered e = absurd (omega (arith, ap (λ (w : List ℕ). slice_index w 0) e))
+one_kind Unordered Unordered e = refl
+
+-- each mode has a length of its own
+abbrev mode_long : ℕ → Mode
+mode_long n = cond (n == 4) Data (cond (n == 5) IData (cond (n == 7) PartialData PartialIData))
+
+long_mode : (m : Mode) → mode_long (length (mode_word m)) ≡ m
+long_mode Data = refl
+long_mode PartialData = refl
+long_mode IData = refl
+long_mode PartialIData = refl
+
 one_mode : (m n : Mode) → mode_word m ≡ mode_word n → m ≡ n
-one_mode Data Data e = refl
+one_mode m n e = sym (long_mode m) ∙ ap (λ (w : List ℕ). mode_long (length w)) e ∙ long_mode n
+
+-- `-` is no number
+no_number : (word : List ℕ) (n : ℕ) → word ≡ codes "-" → IsDecimal word n → ⊥
+no_number word n dash is =
+    let digits = subst (λ (w : List ℕ). IsDecimal w n) dash is in
+    omega (arith, digits.digits.1.0)
+
+one_until : (word : List ℕ) (t u : Option ℕ) → IsUntil word t → IsUntil word u → t ≡ u
+one_until word None None a b = refl
+one_until word None (Some n) a b = absurd (no_number word n a b.0)
+one_until word (Some m) None a b = absurd (no_number word m b a.0)
+one_until word (Some m) (Some n) a b = ap Some (one_decimal word m n a.0 b.0)
 
 pub one_value : (f : Field) (word : List ℕ) (u v : Value f) → IsValue f word u → IsValue f word v → u ≡ v
 one_value ASide word x y a b = one_side x y (sym a ∙ b)
 one_value (ANumber bits) word m n a b = one_decimal word m n a.0 b.0
+one_value ATag word m n a b = one_decimal word m n a.0.0 b.0.0
 one_value AMode word m n a b = one_mode m n (sym a ∙ b)
-one_value AKind word k l a b = a.0 ∙ sym b.0
-one_value AnUntil word t u a b = a.0 ∙ sym b.0
+one_value AKind word k l a b = one_kind k l (sym a ∙ b)
+one_value AnUntil word t u a b = one_until word t u a b
 one_value SomeBytes word xs ys a b = one_hex word xs ys a b
 
 -- ---- a value or none
@@ -33,15 +64,15 @@ one_value SomeBytes word xs ys a b = one_hex word xs ys a b
 abbrev IsSaid : Field → List ℕ → Type 0
 IsSaid f word = ((v : Value f) × IsValue f word v) ⊎ ((v : Value f) → IsValue f word v → ⊥)
 
-neither : (w : List ℕ) → (w ≡ codes "A" → ⊥) → (w ≡ codes "B" → ⊥) → (x : Side) → w ≡ side_word x → ⊥
-neither w na nb A e = na e
-neither w na nb B e = nb e
+no_side : (w : List ℕ) → (w ≡ codes "A" → ⊥) → (w ≡ codes "B" → ⊥) → (x : Side) → w ≡ side_word x → ⊥
+no_side w na nb A e = na e
+no_side w na nb B e = nb e
 
 side_or_none : (w : List ℕ) → IsSaid ASide w
 side_or_none w =
     elim (same_or_not w (codes "A")) [
       | inl a ↦ inl (A, a)
-      | inr na ↦ elim (same_or_not w (codes "B")) [ inl b ↦ inl (B, b) | inr nb ↦ inr (neither w na nb) ]
+      | inr na ↦ elim (same_or_not w (codes "B")) [ inl b ↦ inl (B, b) | inr nb ↦ inr (no_side w na nb) ]
     ]
 
 number_or_none : (bits : ℕ) (w : List ℕ) → IsSaid (ANumber bits) w
@@ -54,21 +85,62 @@ number_or_none bits w =
       | inr none ↦ inr (λ m is. none m is.0)
     ]
 
-no_mode : (w : List ℕ) → (w ≡ codes "data" → ⊥) → (m : Mode) → w ≡ mode_word m → ⊥
-no_mode w nd Data e = nd e
+tag_or_none : (w : List ℕ) → IsSaid ATag w
+tag_or_none w =
+    elim (number_or_none 32 w) [
+      | inl n ↦ elim (cases_lt 0 n.0) [
+        | inl some ↦ inl (n.0, (n.1, some))
+        | inr zero_is ↦ inr (λ m is. omega (arith, zero_is, is.1, one_decimal w m n.0 is.0.0 n.1.0))
+      ]
+      | inr none ↦ inr (λ m is. none m is.0)
+    ]
+
+no_mode : (w : List ℕ) → (w ≡ codes "data" → ⊥) → (w ≡ codes "data-pr" → ⊥) → (w ≡ codes "idata" → ⊥) → (w ≡ codes "idata-pr" → ⊥)
+    → (m : Mode) → w ≡ mode_word m → ⊥
+no_mode w nd np ni nq Data e = nd e
+no_mode w nd np ni nq PartialData e = np e
+no_mode w nd np ni nq IData e = ni e
+no_mode w nd np ni nq PartialIData e = nq e
 
 mode_or_none : (w : List ℕ) → IsSaid AMode w
-mode_or_none w = elim (same_or_not w (codes "data")) [ inl data_is ↦ inl (Data, data_is) | inr nd ↦ inr (no_mode w nd) ]
+mode_or_none w =
+    elim (same_or_not w (codes "data")) [
+      | inl d ↦ inl (Data, d)
+      | inr nd ↦ elim (same_or_not w (codes "data-pr")) [
+        | inl p ↦ inl (PartialData, p)
+        | inr np ↦ elim (same_or_not w (codes "idata")) [
+          | inl i ↦ inl (IData, i)
+          | inr ni ↦ elim (same_or_not w (codes "idata-pr")) [ inl q ↦ inl (PartialIData, q) | inr nq ↦ inr (no_mode w nd np ni nq) ]
+        ]
+      ]
+    ]
+
+no_kind : (w : List ℕ) → (w ≡ codes "o" → ⊥) → (w ≡ codes "u" → ⊥) → (k : Kind) → w ≡ kind_word k → ⊥
+no_kind w not_o not_u Ordered e = not_o e
+no_kind w not_o not_u Unordered e = not_u e
 
 kind_or_none : (w : List ℕ) → IsSaid AKind w
-kind_or_none w = elim (same_or_not w (codes "o")) [ inl o ↦ inl (Ordered, (refl, o)) | inr other ↦ inr (λ k is. other (is.1 ∙ ap kind_word is.0)) ]
+kind_or_none w =
+    elim (same_or_not w (codes "o")) [
+      | inl o ↦ inl (Ordered, o)
+      | inr not_o ↦ elim (same_or_not w (codes "u")) [ inl u ↦ inl (Unordered, u) | inr not_u ↦ inr (no_kind w not_o not_u) ]
+    ]
+
+no_until : (w : List ℕ) → (w ≡ codes "-" → ⊥) → ((n : ℕ) → IsNumber 64 w n → ⊥) → (t : Option ℕ) → IsUntil w t → ⊥
+no_until w other none None is = other is
+no_until w other none (Some n) is = none n is
 
 until_or_none : (w : List ℕ) → IsSaid AnUntil w
-until_or_none w = elim (same_or_not w (codes "-")) [ inl dash ↦ inl (None, (refl, dash)) | inr other ↦ inr (λ t is. other is.1) ]
+until_or_none w =
+    elim (same_or_not w (codes "-")) [
+      | inl dash ↦ inl (None, dash)
+      | inr other ↦ elim (number_or_none 64 w) [ inl n ↦ inl (Some n.0, n.1) | inr none ↦ inr (no_until w other none) ]
+    ]
 
 pub value_or_none : (f : Field) (w : List ℕ) → IsSaid f w
 value_or_none ASide w = side_or_none w
 value_or_none (ANumber bits) w = number_or_none bits w
+value_or_none ATag w = tag_or_none w
 value_or_none AMode w = mode_or_none w
 value_or_none AKind w = kind_or_none w
 value_or_none AnUntil w = until_or_none w
@@ -84,24 +156,31 @@ abbrev others_of : List (List ℕ) → List (List ℕ)
 others_of [] = []
 others_of (w ∷ ws) = ws
 
+-- a value for each of some fields, and that the words say them
+abbrev pub Given : List Field → Type 0
+Given fs = Values Value fs
+
+abbrev pub AreGiven : (fs : List Field) → List (List ℕ) → Given fs → Type 0
+AreGiven fs words vs = AreValues Value IsValue fs words vs
+
 -- what words that are there say of the first field
-pub first_value : (f : Field) (fs : List Field) (words : List (List ℕ)) (w : List ℕ) (ws : List (List ℕ)) (vs : Values (f ∷ fs)) → words ≡ w ∷ ws
-    → AreValues (f ∷ fs) words vs → IsValue f w vs.0
+pub first_value : (f : Field) (fs : List Field) (words : List (List ℕ)) (w : List ℕ) (ws : List (List ℕ)) (vs : Given (f ∷ fs)) → words ≡ w ∷ ws
+    → AreGiven (f ∷ fs) words vs → IsValue f w vs.0
 first_value f fs words w ws vs is are = subst (λ (word : List ℕ). IsValue f word vs.0) (ap first_of (sym are.2 ∙ is)) are.3
 
 -- and of the others
-pub other_values : (f : Field) (fs : List Field) (words : List (List ℕ)) (w : List ℕ) (ws : List (List ℕ)) (vs : Values (f ∷ fs)) → words ≡ w ∷ ws
-    → AreValues (f ∷ fs) words vs → AreValues fs ws vs.1
-other_values f fs words w ws vs is are = subst (λ (others : List (List ℕ)). AreValues fs others vs.1) (ap others_of (sym are.2 ∙ is)) are.4
+pub other_values : (f : Field) (fs : List Field) (words : List (List ℕ)) (w : List ℕ) (ws : List (List ℕ)) (vs : Given (f ∷ fs)) → words ≡ w ∷ ws
+    → AreGiven (f ∷ fs) words vs → AreGiven fs ws vs.1
+other_values f fs words w ws vs is are = subst (λ (others : List (List ℕ)). AreGiven fs others vs.1) (ap others_of (sym are.2 ∙ is)) are.4
 
-pub one_values : (fs : List Field) (words : List (List ℕ)) (us vs : Values fs) → AreValues fs words us → AreValues fs words vs → us ≡ vs
+pub one_values : (fs : List Field) (words : List (List ℕ)) (us vs : Given fs) → AreGiven fs words us → AreGiven fs words vs → us ≡ vs
 one_values [] words us vs a b = refl
 one_values (f ∷ fs) words us vs a b =
     let first = one_value f a.0 us.0 vs.0 a.3 (first_value f fs words a.0 a.1 vs a.2 b) in
     let others = one_values fs a.1 us.1 vs.1 a.4 (other_values f fs words a.0 a.1 vs a.2 b) in
     λ i. (first i, others i)
 
-pub values_or_none : (fs : List Field) (words : List (List ℕ)) → ((vs : Values fs) × AreValues fs words vs) ⊎ ((vs : Values fs) → AreValues fs words vs → ⊥)
+pub values_or_none : (fs : List Field) (words : List (List ℕ)) → ((vs : Given fs) × AreGiven fs words vs) ⊎ ((vs : Given fs) → AreGiven fs words vs → ⊥)
 values_or_none [] [] = inl (tt, refl)
 values_or_none [] (w ∷ ws) = inr (λ vs is. omega (arith, ap length is))
 values_or_none (f ∷ fs) [] = inr (λ vs are. omega (arith, ap length are.2))
@@ -114,21 +193,7 @@ values_or_none (f ∷ fs) (w ∷ ws) =
       ]
     ]
 
--- there are as many words as fields
-pub length-values : (fs : List Field) (words : List (List ℕ)) (vs : Values fs) → AreValues fs words vs → length words ≡ length fs
-length-values [] words vs are = ap length are
-length-values (f ∷ fs) words vs are = ap length are.2 ∙ ap suc (length-values fs are.1 vs.1 are.4)
-
 -- no word is left
 pub no_words : (words : List (List ℕ)) → length words ≡ 0 → words ≡ []
 no_words [] none = refl
 no_words (w ∷ ws) none = absurd (omega (arith, none))
-
--- a first word that says no value of its field, and others that don't say theirs
-pub no_first : (f : Field) (fs : List Field) (words : List (List ℕ)) (w : List ℕ) (ws : List (List ℕ)) → words ≡ w ∷ ws
-    → ((v : Value f) → IsValue f w v → ⊥) → (vs : Values (f ∷ fs)) → AreValues (f ∷ fs) words vs → ⊥
-no_first f fs words w ws is none vs are = none vs.0 (first_value f fs words w ws vs is are)
-
-pub no_others : (f : Field) (fs : List Field) (words : List (List ℕ)) (w : List ℕ) (ws : List (List ℕ)) → words ≡ w ∷ ws
-    → ((vs : Values fs) → AreValues fs ws vs → ⊥) → (vs : Values (f ∷ fs)) → AreValues (f ∷ fs) words vs → ⊥
-no_others f fs words w ws is none vs are = none vs.1 (other_values f fs words w ws vs is are)

@@ -1,5 +1,7 @@
+mod TicketLemmas
 mod CommandLemmas
 mod FieldLemmas
+mod SpellLemmas
 mod LineLemmas
 mod OneMeaning
 mod EachLineSays

@@ -4,18 +4,21 @@ use Rattle.sctp_script.specs.declared.command.Command.{Command}
 use Rattle.sctp_script.specs.declared.command.Command.TheVariants as command
 use Rattle.sctp_terms.specs.declared.config_fault.ConfigFault.{ConfigFault}
 use Rattle.sctp_terms.specs.Meanings.{config_fault_meaning}
-use Rattle.sctp_script.specs.declared.config.Mode.{Mode}
-use Rattle.sctp_script.specs.declared.line.LineFault.{LineFault}
-use Rattle.sctp_script.specs.declared.line.LineFault.TheVariants.{TooLong, UnknownCommand, WordCount, BadValue, PairOrder}
+use Rattle.sctp_terms.specs.declared.mode.Mode.{Mode}
+use Rattle.sctp_words.specs.declared.line_fault.LineFault.{LineFault}
+use Rattle.sctp_words.specs.declared.line_fault.LineFault.TheVariants.{TooLong, UnknownCommand, WordCount, BadValue, PairOrder}
 use Rattle.sctp_script.specs.declared.line.Acting.{Acting}
 use Rattle.sctp_script.specs.declared.line.Acting.TheVariants as acting
 use Rattle.sctp_script.specs.Commands.{fields_of, arguments_of, is_pair}
-use Rattle.sctp_script.specs.Configuration.{pair_fault, sizes}
-use Rattle.sctp_script.specs.Fields.{AMode, Values, AreValues, IsNumber, IsValue}
-use Rattle.sctp_script.specs.Grammar.{LineMeaning, AreGood, Spells, IsLineOf, HasFault, IsFirstFaultOf, HasNoFault, Says, kind_of}
+use Rattle.sctp_model.specs.end.Configured.{configuration_fault}
+use Rattle.sctp_script.specs.Configuration.{sizes}
+use Rattle.sctp_script.specs.Fields.{AMode, IsValue}
+use Rattle.sctp_words.specs.Fields.{IsNumber}
+use Rattle.sctp_script.specs.Grammar.{LineMeaning, CommandValues, AreGood, Spells, IsLineOf, HasFault, IsFirstFaultOf, HasNoFault, Says}
+use Rattle.sctp_words.specs.Lines.{kind_of}
 use Rattle.sctp_script.specs.ReadLineAnswer.{acting_meaning}
 use Rattle.sctp_script.proofs.CommandLemmas.{same_command}
-use Rattle.sctp_script.proofs.FieldLemmas.{one_values, no_words}
+use Rattle.sctp_script.proofs.FieldLemmas.{AreGiven, one_values, no_words}
 use Rattle.sctp_text.specs.declared.limits.TheConstants.{LONGEST_LINE}
 
 -- ---- one command
@@ -83,17 +86,17 @@ in_order paired line c args (acting.Event event) r order = (faultless paired lin
 pub pair_words : (args a b c d rest : List (List ℕ)) (t u v w x : List ℕ) (limit fragment buffer streams : ℕ) (mode : Mode) → length args ≡ 5
     → args ≡ t ∷ a → a ≡ u ∷ b → b ≡ v ∷ c → c ≡ w ∷ d → d ≡ x ∷ rest
     → IsNumber 16 t limit → IsNumber 16 u fragment → IsNumber 32 v buffer → IsNumber 16 w streams → IsValue AMode x mode
-    → AreValues (fields_of command.Pair) args (limit, (fragment, (buffer, (streams, (mode, tt)))))
+    → AreGiven (fields_of command.Pair) args (limit, (fragment, (buffer, (streams, (mode, tt)))))
 pair_words args a b c d rest t u v w x limit fragment buffer streams mode five first second third fourth fifth is_limit is_fragment is_buffer are_streams is_mode =
     let none : rest ≡ [] = no_words rest (omega (arith, five, ap length first, ap length second, ap length third, ap length fourth, ap length fifth)) in
     (_, _, first, is_limit, (_, _, second, is_fragment, (_, _, third, is_buffer, (_, _, fourth, are_streams, (_, _, fifth, is_mode, none)))))
 
 -- sizes with a fault say no configuration
 pub says_nothing : (args : List (List ℕ)) (l f b s : ℕ) (mode : Mode) (fault : ConfigFault)
-    → AreValues (fields_of command.Pair) args (l, (f, (b, (s, (mode, tt))))) → pair_fault (sizes l f b s) ≡ Some (config_fault_meaning fault)
+    → AreGiven (fields_of command.Pair) args (l, (f, (b, (s, (mode, tt))))) → configuration_fault (sizes l f b s) ≡ Some (config_fault_meaning fault)
     → (m : LineMeaning) → Spells command.Pair args m → ⊥
 says_nothing args l f b s mode fault are wrong m spells =
-    let vs : Values (fields_of command.Pair) = (l, (f, (b, (s, (mode, tt))))) in
+    let vs : CommandValues command.Pair = (l, (f, (b, (s, (mode, tt))))) in
     let same = one_values (fields_of command.Pair) args spells.0 vs spells.1 are in
-    let good : pair_fault (sizes l f b s) ≡ None = subst (λ (us : Values (fields_of command.Pair)). AreGood command.Pair us) same spells.2 in
+    let good : configuration_fault (sizes l f b s) ≡ None = subst (λ (us : CommandValues command.Pair). AreGood command.Pair us) same spells.2 in
     absurd (cc (good, wrong))

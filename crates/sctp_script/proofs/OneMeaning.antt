@@ -2,10 +2,11 @@
 use Rattle.std.proofs.Common.{◌≡◌, ℕ, ◌==◌, ◌&&◌, Bool, true, false, not, cond, nat_lt, inl, inr, List, [], ◌∷◌, length, slice_index, refl, sym, ap, ◌∙◌, subst}
 use Rattle.std.proofs.lemmas.Bool.{cases_order}
 use Rattle.sctp_script.specs.declared.command.Command.{Command}
-use Rattle.sctp_script.specs.declared.line.LineFault.{LineFault}
-use Rattle.sctp_script.specs.declared.line.LineFault.TheVariants.{TooLong, UnknownCommand, WordCount, BadValue, PairOrder}
+use Rattle.sctp_words.specs.declared.line_fault.LineFault.{LineFault}
+use Rattle.sctp_words.specs.declared.line_fault.LineFault.TheVariants.{TooLong, UnknownCommand, WordCount, BadValue, PairOrder}
 use Rattle.sctp_script.specs.Commands.{name_of, fields_of}
-use Rattle.sctp_script.specs.Grammar.{LineMeaning, Silent, Pairs, Acts, Fault, IsSilent, Spells, IsLineOf, Means, IsFirstFaultOf, Says, meaning_of, kind_of}
+use Rattle.sctp_script.specs.Grammar.{LineMeaning, Silent, Pairs, Acts, Fault, Spells, IsLineOf, Means, IsFirstFaultOf, Says, meaning_of}
+use Rattle.sctp_words.specs.Lines.{IsSilent, kind_of}
 use Rattle.sctp_script.proofs.CommandLemmas.{plain_name}
 use Rattle.sctp_script.proofs.FieldLemmas.{one_values}
 use Rattle.sctp_script.proofs.LineLemmas.{first_of, one_command, one_list}

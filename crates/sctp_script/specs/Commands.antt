@@ -1,30 +1,49 @@
 -- The commands of a script: their names, which are all different, and the fields behind each.
 use Rattle.std.specs.Prelude.{ℕ, Bool, true, false, if◌then◌else◌, List, [], ◌∷◌, length, Option, None, Some, codes, bytes_eq}
-use Rattle.sctp_script.specs.Fields.{Field, ASide, ANumber, AMode, AKind, AnUntil, SomeBytes}
+use Rattle.sctp_script.specs.Fields.{Field, ASide, ANumber, ATag, AMode, AKind, AnUntil, SomeBytes}
 use Rattle.sctp_script.specs.declared.command.Command.{Command}
-use Rattle.sctp_script.specs.declared.command.Command.TheVariants.{Pair, Open, Send, Build, Deliver, Take}
+use Rattle.sctp_script.specs.declared.command.Command.TheVariants.{Pair, Open, At, Draw, Connect, Build, Deliver, Foreign, Send, Abandon, Take, Shutdown, Abort}
 
 -- all commands
 abbrev pub commands : List Command
-commands = Pair ∷ Open ∷ Send ∷ Build ∷ Deliver ∷ Take ∷ []
+commands = Pair ∷ Open ∷ At ∷ Draw ∷ Connect ∷ Build ∷ Deliver ∷ Foreign ∷ Send ∷ Abandon ∷ Take ∷ Shutdown ∷ Abort ∷ []
 
 -- the word that a command is
 abbrev pub name_of : Command → List ℕ
 name_of Pair = codes "pair"
 name_of Open = codes "open"
-name_of Send = codes "send"
+name_of At = codes "at"
+name_of Draw = codes "draw"
+name_of Connect = codes "connect"
 name_of Build = codes "build"
 name_of Deliver = codes "deliver"
+name_of Foreign = codes "foreign"
+name_of Send = codes "send"
+name_of Abandon = codes "abandon"
 name_of Take = codes "take"
+name_of Shutdown = codes "shutdown"
+name_of Abort = codes "abort"
 
--- pair LIMIT FRAGMENT BUFFER STREAMS MODE; open; send X STREAM KIND ID UNTIL HEX; build X; deliver X N; take X STREAM
+-- TAG TSN
+abbrev pub draw_fields : List Field
+draw_fields = ATag ∷ ANumber 32 ∷ []
+
+-- pair LIMIT FRAGMENT BUFFER STREAMS MODE; open; at T; draw TAG TSN; connect TAG TSN; build X; deliver X N; foreign X HEX;
+-- send X STREAM KIND ID UNTIL HEX; abandon X K; take X STREAM; shutdown X; abort X HEX
 abbrev pub fields_of : Command → List Field
 fields_of Pair = ANumber 16 ∷ ANumber 16 ∷ ANumber 32 ∷ ANumber 16 ∷ AMode ∷ []
 fields_of Open = []
-fields_of Send = ASide ∷ ANumber 16 ∷ AKind ∷ ANumber 32 ∷ AnUntil ∷ SomeBytes ∷ []
+fields_of At = ANumber 64 ∷ []
+fields_of Draw = draw_fields
+fields_of Connect = draw_fields
 fields_of Build = ASide ∷ []
 fields_of Deliver = ASide ∷ ANumber 32 ∷ []
+fields_of Foreign = ASide ∷ SomeBytes ∷ []
+fields_of Send = ASide ∷ ANumber 16 ∷ AKind ∷ ANumber 32 ∷ AnUntil ∷ SomeBytes ∷ []
+fields_of Abandon = ASide ∷ ANumber 32 ∷ []
 fields_of Take = ASide ∷ ANumber 16 ∷ []
+fields_of Shutdown = ASide ∷ []
+fields_of Abort = ASide ∷ SomeBytes ∷ []
 
 -- how many words stand behind a command
 abbrev pub arguments_of : Command → ℕ
@@ -43,3 +62,10 @@ command_named word = first_named word commands
 abbrev pub is_pair : Command → Bool
 is_pair Pair = true
 is_pair _ = false
+
+-- bytes stand behind it
+abbrev pub has_bytes : Command → Bool
+has_bytes Foreign = true
+has_bytes Send = true
+has_bytes Abort = true
+has_bytes _ = false

@@ -1,42 +1,22 @@
--- What a pair is set up with, and what is wrong with sizes that it may not have.
-use Rattle.std.specs.Prelude.{ℕ, ◌==◌, not, [], ◌∷◌, Option}
-use Rattle.sctp_model.specs.sender.Words.{when, first_there}
-use Rattle.sctp_model.specs.end.EndView as view
-use Rattle.sctp_model.specs.end.Configured.{ConfigurationFault, WrongStreams, plain_configuration, configuration_fault}
-use Rattle.sctp_model.specs.first.Ends.{Configuration}
-use Rattle.sctp_model.specs.first.World.{Side, A, B, other}
-use Rattle.sctp_script.specs.declared.config.Mode.{Mode}
-use Rattle.sctp_script.specs.declared.config.PairConfig.{PairConfig}
+-- What a `pair` line sets up.
+use Rattle.std.specs.Prelude.{◌≡◌, ℕ, None}
+use Rattle.sctp_model.specs.end.EndView.{Configuration}
+use Rattle.sctp_model.specs.end.Configured.{plain_configuration, configuration_fault}
 
--- these sizes as the world has them
-abbrev pub sizes : ℕ → ℕ → ℕ → ℕ → Configuration
-sizes limit fragment buffer streams = record { limit = limit; fragment = fragment; buffer = buffer; streams = streams }
+-- the port of A, which calls
+abbrev pub PORT_A : ℕ
+PORT_A = 5_000
 
--- ---- faults
+-- the port of B, which listens
+abbrev pub PORT_B : ℕ
+PORT_B = 5_001
 
--- the ports of a pair are fixed
-abbrev pub port_of : Side → ℕ
-port_of A = 5_000
-port_of B = 5_001
+-- A with these sizes and streams, both ways, asking for nothing; B is alike but for the ports
+abbrev pub sizes : (limit fragment buffer streams : ℕ) → Configuration
+sizes limit fragment buffer streams = plain_configuration PORT_A PORT_B limit fragment buffer streams streams
 
--- both ends have the same sizes and streams
-abbrev pub configuration_at : Side → Configuration → view.Configuration
-configuration_at x c = plain_configuration (port_of x) (port_of (other x)) c.limit c.fragment c.buffer c.streams c.streams
-
--- What is wrong with a pair's sizes: the first fault of an end with them. As yet there is one stream each way.
-abbrev pub pair_fault : Configuration → Option ConfigurationFault
-pair_fault c = first_there (
-    configuration_fault (configuration_at A c)
-    ∷ configuration_fault (configuration_at B c)
-    ∷ when (not (c.streams == 1)) WrongStreams
-    ∷ [])
-
--- ---- values
-
--- the sizes of a configuration
-abbrev pub configuration_meaning : PairConfig → Configuration
-configuration_meaning c = sizes c.a.limit c.a.fragment c.a.buffer c.a.outbound
-
--- the format of its user data
-abbrev pub mode_of : PairConfig → Mode
-mode_of c = c.mode
+-- what a `pair` line says is right: its ports are the pair's, and nothing is wrong with the rest
+pub record IsOfPair (c : Configuration) : Type 0 where
+  pub own_port : c.own_port ≡ PORT_A
+  pub peer_port : c.peer_port ≡ PORT_B
+  pub faultless : configuration_fault c ≡ None

@@ -1,52 +1,34 @@
 -- The words behind a command: what a word may say, by its field.
-use Rattle.std.specs.Prelude.{◌≡◌, ℕ, ◌<◌, ◌^◌, List, [], ◌∷◌, Option, None, codes}
-use Rattle.sctp_model.specs.messages.Format.{Kind, Ordered}
-use Rattle.sctp_model.specs.first.World.{Side}
-use Rattle.sctp_script.specs.OutcomeText.{side_word, kind_word}
-use Rattle.sctp_script.specs.declared.config.Mode as mode
-use Rattle.sctp_script.specs.declared.config.Mode.TheVariants.{Data}
-use Rattle.sctp_text.specs.Numerals.{IsDecimal, IsHex}
+use Rattle.std.specs.Prelude.{◌≡◌, ℕ, List, Option}
+use Rattle.sctp_model.specs.messages.Format.{Kind}
+use Rattle.sctp_model.specs.world.World.{Side}
+use Rattle.sctp_terms.specs.declared.mode.Mode.{Mode}
+use Rattle.sctp_script.specs.OutcomeText.{side_word}
+use Rattle.sctp_words.specs.Fields.{IsNumber, IsTag, IsUntil, kind_word, mode_word}
+use Rattle.sctp_text.specs.Numerals.{IsHex}
 
--- X; a number of so many bits; MODE; KIND; UNTIL; HEX
+-- X; a number of so many bits; TAG, which isn't 0; MODE; KIND; UNTIL; HEX
 pub data Field : Type 0 where
   ASide : Field
   ANumber : (bits : ℕ) → Field
-  AMode AKind AnUntil SomeBytes : Field
+  ATag AMode AKind AnUntil SomeBytes : Field
 
 -- what a word of a field says
 abbrev pub Value : Field → Type 0
 Value ASide = Side
 Value (ANumber bits) = ℕ
-Value AMode = mode.Mode
+Value ATag = ℕ
+Value AMode = Mode
 Value AKind = Kind
 Value AnUntil = Option ℕ
 Value SomeBytes = List ℕ
 
--- a number that a field of so many bits holds
-abbrev pub IsNumber : ℕ → List ℕ → ℕ → Type 0
-IsNumber bits word n = IsDecimal word n × (n < 2 ^ bits)
-
--- the name of a mode
-abbrev pub mode_word : mode.Mode → List ℕ
-mode_word Data = codes "data"
-
--- The word says this value. As yet a message is ordered, and is never given up.
+-- the word says this value
 abbrev pub IsValue : (f : Field) → List ℕ → Value f → Type 0
 IsValue ASide word x = word ≡ side_word x
 IsValue (ANumber bits) word n = IsNumber bits word n
+IsValue ATag word n = IsTag word n
 IsValue AMode word m = word ≡ mode_word m
-IsValue AKind word k = (k ≡ Ordered) × (word ≡ kind_word k)
-IsValue AnUntil word t = (t ≡ None) × (word ≡ codes "-")
+IsValue AKind word k = word ≡ kind_word k
+IsValue AnUntil word t = IsUntil word t
 IsValue SomeBytes word bytes = IsHex word bytes
-
--- ---- the words of several fields
-
--- a value for each field
-abbrev pub Values : List Field → Type 0
-Values [] = Unit {0}
-Values (f ∷ fs) = Value f × Values fs
-
--- there is a word for each field, and it says this value
-abbrev pub AreValues : (fs : List Field) → List (List ℕ) → Values fs → Type 0
-AreValues [] words vs = words ≡ []
-AreValues (f ∷ fs) words (v, vs) = (word : List ℕ) × (others : List (List ℕ)) × (words ≡ word ∷ others) × IsValue f word v × AreValues fs others vs

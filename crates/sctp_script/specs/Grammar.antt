@@ -1,51 +1,66 @@
 -- The script's grammar: what a line says. A line is bytes without the line feed.
-use Rattle.std.specs.Prelude.{◌≡◌, ◌≢◌, ℕ, ◌<◌, Bool, List, [], ◌∷◌, length, None}
-use Rattle.sctp_model.specs.first.Ends.{Configuration}
-use Rattle.sctp_model.specs.first.World.{Event, Open, Send, Build, Deliver, Take}
+use Rattle.std.specs.Prelude.{◌≡◌, ◌≢◌, ℕ, ◌<◌, Bool, List, ◌∷◌, length, None}
+use Rattle.sctp_model.specs.end.EndView.{Configuration, Draw}
+use Rattle.sctp_model.specs.end.Configured.{configuration_fault}
+use Rattle.sctp_model.specs.world.Events.{OpenBoth, At, Drawing, Connect, Build, Deliver, Send, Abandon, Take, Shutdown, Abort}
+use Rattle.sctp_terms.specs.Modes.{asked}
+use Rattle.sctp_events.specs.Events.{Wanted, Happens, BringsBytes}
+use Rattle.sctp_words.specs.declared.line_fault.LineFault.{LineFault}
+use Rattle.sctp_words.specs.declared.line_fault.LineFault.TheVariants.{TooLong, UnknownCommand, WordCount, BadValue, PairOrder}
+use Rattle.sctp_words.specs.Fields.{Values, AreValues}
+use Rattle.sctp_words.specs.Lines.{IsSilent, kind_of}
 use Rattle.sctp_script.specs.declared.command.Command.{Command}
 use Rattle.sctp_script.specs.declared.command.Command.TheVariants as command
-use Rattle.sctp_script.specs.declared.line.TheConstants.{COMMENT}
-use Rattle.sctp_script.specs.declared.line.LineFault.{LineFault}
-use Rattle.sctp_script.specs.declared.line.LineFault.TheVariants.{TooLong, UnknownCommand, WordCount, BadValue, PairOrder}
 use Rattle.sctp_script.specs.Commands.{name_of, fields_of, arguments_of, is_pair}
-use Rattle.sctp_script.specs.Configuration.{pair_fault, sizes}
-use Rattle.sctp_script.specs.Fields.{Values, AreValues}
+use Rattle.sctp_script.specs.Configuration.{sizes}
+use Rattle.sctp_script.specs.Fields.{Value, IsValue}
 use Rattle.sctp_text.specs.declared.limits.TheConstants.{LONGEST_LINE}
 use Rattle.sctp_text.specs.SpacedWords.{words_of}
 
--- what a line may say
+-- What a line may say: nothing; that a pair is made, whose A has this configuration; that something happens to it; or that it has a fault.
 pub data LineMeaning : Type 0 where
   Silent : LineMeaning
   Pairs : (configuration : Configuration) → LineMeaning
-  Acts : (event : Event) → LineMeaning
+  Acts : (wanted : Wanted) → LineMeaning
   Fault : (fault : LineFault) → LineMeaning
 
 -- ---- what words say
 
--- What a command with these values says.
-abbrev pub meaning_of : (c : Command) → Values (fields_of c) → LineMeaning
-meaning_of command.Pair (limit, (fragment, (buffer, (streams, (mode, rest))))) = Pairs (sizes limit fragment buffer streams)
-meaning_of command.Open rest = Acts Open
-meaning_of command.Send (x, (stream, (kind, (payload, (until, (bytes, rest)))))) = Acts (Send x stream payload bytes)
-meaning_of command.Build (x, rest) = Acts (Build x)
-meaning_of command.Deliver (x, (number, rest)) = Acts (Deliver x number)
-meaning_of command.Take (x, (stream, rest)) = Acts (Take x stream)
+-- a value for each field of a command
+abbrev pub CommandValues : Command → Type 0
+CommandValues c = Values Value (fields_of c)
+
+-- the draw of a TAG and a TSN
+abbrev pub draw_of : (tag tsn : ℕ) → Draw
+draw_of tag tsn = record { tag = tag; tsn = tsn }
+
+-- What a command with these values says; `open` draws tag 1 for A and tag 2 for B, and TSN 1 for both.
+abbrev pub meaning_of : (c : Command) → CommandValues c → LineMeaning
+meaning_of command.Pair (limit, (fragment, (buffer, (streams, (mode, rest))))) = Pairs (asked mode (sizes limit fragment buffer streams))
+meaning_of command.Open rest = Acts (Happens (OpenBoth (draw_of 1 1) (draw_of 2 1)))
+meaning_of command.At (moment, rest) = Acts (Happens (At moment))
+meaning_of command.Draw (tag, (tsn, rest)) = Acts (Happens (Drawing (draw_of tag tsn)))
+meaning_of command.Connect (tag, (tsn, rest)) = Acts (Happens (Connect (draw_of tag tsn)))
+meaning_of command.Build (x, rest) = Acts (Happens (Build x))
+meaning_of command.Deliver (x, (number, rest)) = Acts (Happens (Deliver x number))
+meaning_of command.Foreign (x, (bytes, rest)) = Acts (BringsBytes x bytes)
+meaning_of command.Send (x, (stream, (kind, (payload, (until, (bytes, rest)))))) =
+    Acts (Happens (Send x (record { lane = record { stream = stream; kind = kind }; payload = payload; bytes = bytes; until = until })))
+meaning_of command.Abandon (x, (ticket, rest)) = Acts (Happens (Abandon x ticket))
+meaning_of command.Take (x, (stream, rest)) = Acts (Happens (Take x stream))
+meaning_of command.Shutdown (x, rest) = Acts (Happens (Shutdown x))
+meaning_of command.Abort (x, (reason, rest)) = Acts (Happens (Abort x reason))
 
 -- the values say something together: those of `pair` are a configuration without a fault
-abbrev pub AreGood : (c : Command) → Values (fields_of c) → Type 0
-AreGood command.Pair (limit, (fragment, (buffer, (streams, (mode, rest))))) = pair_fault (sizes limit fragment buffer streams) ≡ None
+abbrev pub AreGood : (c : Command) → CommandValues c → Type 0
+AreGood command.Pair (limit, (fragment, (buffer, (streams, (mode, rest))))) = configuration_fault (sizes limit fragment buffer streams) ≡ None
 AreGood _ vs = Unit {0}
 
 -- What a command says with these words behind it.
 abbrev pub Spells : Command → List (List ℕ) → LineMeaning → Type 0
-Spells c args m = (vs : Values (fields_of c)) × AreValues (fields_of c) args vs × AreGood c vs × (m ≡ meaning_of c vs)
+Spells c args m = (vs : CommandValues c) × AreValues Value IsValue (fields_of c) args vs × AreGood c vs × (m ≡ meaning_of c vs)
 
 -- ---- lines
-
--- an empty line, or a comment
-abbrev pub IsSilent : List ℕ → Type 0
-IsSilent [] = Unit {0}
-IsSilent (c ∷ cs) = c ≡ COMMENT
 
 -- the line is this command with these words behind it
 abbrev pub IsLineOf : List ℕ → Command → List (List ℕ) → Type 0
@@ -60,14 +75,6 @@ HasFault paired line BadValue =
     (c : Command) × (args : List (List ℕ)) × IsLineOf line c args × (length args ≡ arguments_of c)
     × ((m : LineMeaning) → Spells c args m → ⊥)
 HasFault paired line PairOrder = (c : Command) × (args : List (List ℕ)) × IsLineOf line c args × (is_pair c ≡ paired)
-
--- the kinds of the faults
-abbrev pub kind_of : LineFault → ℕ
-kind_of TooLong = 1
-kind_of UnknownCommand = 2
-kind_of WordCount = 3
-kind_of BadValue = 4
-kind_of PairOrder = 5
 
 -- of several faults the one with the smallest kind counts
 abbrev pub IsFirstFaultOf : Bool → List ℕ → LineFault → Type 0
@@ -86,7 +93,7 @@ Means line m = (c : Command) × (args : List (List ℕ)) × IsLineOf line c args
 abbrev pub Says : Bool → List ℕ → LineMeaning → Type 0
 Says paired line Silent = HasNoFault paired line × IsSilent line
 Says paired line (Pairs c) = HasNoFault paired line × Means line (Pairs c)
-Says paired line (Acts e) = HasNoFault paired line × Means line (Acts e)
+Says paired line (Acts w) = HasNoFault paired line × Means line (Acts w)
 Says paired line (Fault fault) = IsFirstFaultOf paired line fault
 
 -- a law: a line says one thing, and nothing else

@@ -1,5 +1,5 @@
 pub mod Configuration
-pub mod Events
+pub mod CanBe
 pub mod OutcomeText
 pub mod ReportText
 pub mod Fields

@@ -1,49 +1,82 @@
--- The line of each outcome.
-use Rattle.std.specs.Prelude.{ℕ, List, [], ◌∷◌, Option, Some, None, codes, decimal}
-use Rattle.sctp_model.specs.messages.Format.{Kind, Ordered, Unordered}
-use Rattle.sctp_model.specs.first.Sending.{Refusal, AlreadyOpen, NoSuchStream, Empty, TooLong, QueueFull, Spent, NotOpen}
-use Rattle.sctp_model.specs.first.World.{Side, A, B, Outcome, Done, Refused, Ticket, Sent, Quiet, Acted, Absent, Message, Nothing}
+-- The line of each outcome. The end and the stream that a line names stand in the event that it answers.
+use Rattle.std.specs.Prelude.{ℕ, List, [], ◌∷◌, codes, decimal}
+use Rattle.sctp_model.specs.sender.Queueing as message
+use Rattle.sctp_model.specs.sender.Abandoning as fate
+use Rattle.sctp_model.specs.sender.Abandoning.{AbandonAnswer}
+use Rattle.sctp_model.specs.end.UserCalls.{SendAnswer, Ticket, Refused, NotOpen}
+use Rattle.sctp_model.specs.world.World.{Side, A, B, other}
+use Rattle.sctp_model.specs.world.Events.{Build, Deliver, Send, Abandon, Take, Shutdown, Abort, Outcome, Done, RefusedState, Sent, Quiet, Acted, Absent, Answered, NotActed, Told, Fate, Message, NoMessage, AbortTooLong}
+use Rattle.sctp_events.specs.Events.{Wanted, Happens, BringsBytes}
+use Rattle.sctp_words.specs.Fields.{kind_word}
+use Rattle.sctp_words.specs.Names.{number_word}
 use Rattle.sctp_text.specs.Numerals.{hex_word}
 use Rattle.sctp_text.specs.SpacedWords.{line_of}
+
+-- ---- what is named
 
 -- the name of an end
 abbrev pub side_word : Side → List ℕ
 side_word A = codes "A"
 side_word B = codes "B"
 
--- ordered or unordered
-abbrev pub kind_word : Kind → List ℕ
-kind_word Ordered = codes "o"
-kind_word Unordered = codes "u"
+-- the end that answers: where a packet is delivered, the one that it comes to; A for an event of no end, whose line names none
+abbrev pub end_named : Wanted → Side
+end_named (Happens (Build x)) = x
+end_named (Happens (Deliver x n)) = other x
+end_named (Happens (Send x c)) = x
+end_named (Happens (Abandon x k)) = x
+end_named (Happens (Take x s)) = x
+end_named (Happens (Shutdown x)) = x
+end_named (Happens (Abort x r)) = x
+end_named (Happens e) = A
+end_named (BringsBytes x bytes) = x
 
--- the code that is printed for a refusal; 1 to 5 and 7 are those of a message, and 6 is want of memory, which is no outcome
-abbrev pub refusal_code : Refusal → ℕ
-refusal_code AlreadyOpen = 1
-refusal_code NoSuchStream = 1
-refusal_code Empty = 2
-refusal_code TooLong = 3
-refusal_code QueueFull = 4
-refusal_code Spent = 5
-refusal_code NotOpen = 7
+-- the stream of `take`; 0 for another event, whose line names none
+abbrev pub stream_named : Wanted → ℕ
+stream_named (Happens (Take x s)) = s
+stream_named w = 0
 
--- a message's number in its stream, `-` where its format gives it none (RFC 9260, 3.3.1: an unordered DATA)
-abbrev pub number_word : Option ℕ → List ℕ
-number_word (Some n) = decimal n
-number_word None = codes "-"
+-- ---- the words of outcomes
 
--- the words of an outcome
-abbrev pub outcome_words : Outcome → List (List ℕ)
-outcome_words Done = codes "ok" ∷ []
-outcome_words (Refused r) = codes "refused" ∷ decimal (refusal_code r) ∷ []
-outcome_words (Ticket x ticket) = codes "ticket" ∷ side_word x ∷ decimal ticket ∷ []
-outcome_words (Sent x number length) = codes "sent" ∷ side_word x ∷ decimal number ∷ decimal length ∷ []
-outcome_words (Quiet x) = codes "quiet" ∷ side_word x ∷ []
-outcome_words (Acted x) = codes "taken" ∷ side_word x ∷ []
-outcome_words Absent = codes "absent" ∷ []
-outcome_words (Message x stream h) =
-    codes "message" ∷ side_word x ∷ decimal stream ∷ kind_word h.lane.kind ∷ number_word h.number ∷ decimal h.payload ∷ hex_word h.bytes ∷ []
-outcome_words (Nothing x stream) = codes "empty" ∷ side_word x ∷ decimal stream ∷ []
+-- the codes of a refused message; 6 is want of memory, which is no outcome
+abbrev pub refusal_code : message.Refusal → ℕ
+refusal_code message.NoSuchStream = 1
+refusal_code message.Empty = 2
+refusal_code message.TooLong = 3
+refusal_code message.QueueFull = 4
+refusal_code message.Spent = 5
 
--- the line of an outcome
-abbrev pub outcome_line : Outcome → List ℕ
-outcome_line o = line_of (outcome_words o)
+-- the codes of what became of a message to be abandoned
+abbrev pub fate_code : AbandonAnswer → ℕ
+fate_code fate.Withdrawn = 1
+fate_code fate.Abandoned = 2
+fate_code fate.Acknowledged = 3
+fate_code fate.Unknown = 4
+fate_code fate.Reliable = 5
+
+-- what this end tells of a message that was sent; 7 where it isn't established
+abbrev pub told_words : Side → SendAnswer → List (List ℕ)
+told_words x (Ticket k) = codes "ticket" ∷ side_word x ∷ decimal k ∷ []
+told_words x (Refused r) = codes "refused" ∷ decimal (refusal_code r) ∷ []
+told_words x NotOpen = codes "refused" ∷ decimal 7 ∷ []
+
+-- the words of an outcome at this end, and on this stream
+abbrev pub outcome_words : Side → ℕ → Outcome → List (List ℕ)
+outcome_words x s Done = codes "ok" ∷ []
+outcome_words x s RefusedState = codes "refused" ∷ decimal 1 ∷ []
+outcome_words x s AbortTooLong = codes "refused" ∷ decimal 2 ∷ []
+outcome_words x s (Sent number length) = codes "sent" ∷ side_word x ∷ decimal number ∷ decimal length ∷ []
+outcome_words x s Quiet = codes "quiet" ∷ side_word x ∷ []
+outcome_words x s Acted = codes "taken" ∷ side_word x ∷ []
+outcome_words x s (NotActed reason) = codes "dropped" ∷ side_word x ∷ decimal reason ∷ []
+outcome_words x s (Answered number length) = codes "answer" ∷ side_word x ∷ decimal number ∷ decimal length ∷ []
+outcome_words x s Absent = codes "absent" ∷ []
+outcome_words x s (Told answer) = told_words x answer
+outcome_words x s (Fate answer) = codes "fate" ∷ side_word x ∷ decimal (fate_code answer) ∷ []
+outcome_words x s (Message h) =
+    codes "message" ∷ side_word x ∷ decimal s ∷ kind_word h.lane.kind ∷ number_word h.number ∷ decimal h.payload ∷ hex_word h.bytes ∷ []
+outcome_words x s NoMessage = codes "empty" ∷ side_word x ∷ decimal s ∷ []
+
+-- the line of what was answered to what was wanted
+abbrev pub outcome_line : Wanted → Outcome → List ℕ
+outcome_line w o = line_of (outcome_words (end_named w) (stream_named w) o)

@@ -8,10 +8,17 @@ ghost use Rattle.sctp_script.specs.Commands.{name_of, arguments_of, is_pair};
 pub enum Command {
     Pair,
     Open,
-    Send,
+    At,
+    Draw,
+    Connect,
     Build,
     Deliver,
+    Foreign,
+    Send,
+    Abandon,
     Take,
+    Shutdown,
+    Abort,
 }
 
 impl Command {
@@ -22,10 +29,17 @@ impl Command {
         match word {
             b"pair" => Some(Command::Pair),
             b"open" => Some(Command::Open),
-            b"send" => Some(Command::Send),
+            b"at" => Some(Command::At),
+            b"draw" => Some(Command::Draw),
+            b"connect" => Some(Command::Connect),
             b"build" => Some(Command::Build),
             b"deliver" => Some(Command::Deliver),
+            b"foreign" => Some(Command::Foreign),
+            b"send" => Some(Command::Send),
+            b"abandon" => Some(Command::Abandon),
             b"take" => Some(Command::Take),
+            b"shutdown" => Some(Command::Shutdown),
+            b"abort" => Some(Command::Abort),
             _ => None,
         }
     }
@@ -35,11 +49,17 @@ impl Command {
         ensures { result ≡ arguments_of self }
     {
         match self {
-            Command::Pair => 5,
             Command::Open => 0,
+            Command::At | Command::Build | Command::Shutdown => 1,
+            Command::Draw
+            | Command::Connect
+            | Command::Deliver
+            | Command::Foreign
+            | Command::Abandon
+            | Command::Take
+            | Command::Abort => 2,
+            Command::Pair => 5,
             Command::Send => 6,
-            Command::Build => 1,
-            Command::Deliver | Command::Take => 2,
         }
     }
 

@@ -1,21 +1,16 @@
 //! The script of a pair: what its lines say, and the lines of outcomes and of the report.
 #![tactic(auto)]
 
-mod arguments;
 mod command;
-mod config;
-mod event;
+mod command_words;
 mod laws;
 mod line;
-mod line_out;
 mod outcome_line;
 mod report;
+mod side_word;
+mod ticket_line;
 
-pub use config::{Mode, PairConfig};
-pub use event::{Event, Outcome, Refusal, Side, State};
-pub use laws::{events_follow_the_pair, one_meaning};
-pub use line::{Acting, LineError, LineFault, read_line};
+pub use laws::{events_can_happen, events_follow_the_pair, one_meaning, the_pair_comes_first};
+pub use line::{Acting, read_line};
 pub use outcome_line::put_outcome;
-pub use report::{put_end, put_handed, put_numbered};
-pub use sctp_terms::{ConfigFault, Draw};
-pub use sctp_text::Bytes;
+pub use report::{put_abandoned, put_count, put_end, put_handed, put_numbered};

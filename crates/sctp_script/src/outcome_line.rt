@@ -1,125 +1,146 @@
 //! The line of each outcome.
 
-ghost use Rattle.std.specs.Prelude.{◌≡◌, ◌++◌, OnOk, OnErr};
-ghost use Rattle.sctp_model.specs.receiver.ReceiverView.{Handed};
-ghost use Rattle.sctp_model.specs.first.World as world;
-ghost use Rattle.sctp_script.specs.Events.{side_meaning, refusal_meaning, Answers, IsToldOf};
-ghost use Rattle.sctp_script.specs.OutcomeText.{side_word, number_word, outcome_line};
-ghost use Rattle.sctp_text.specs.WrittenWords.{text_of};
+ghost use Rattle.std.specs.Prelude.{◌≡◌, ℕ, [], ◌∷◌, ◌++◌, map, codes, decimal, OnOk, OnErr};
+ghost use Rattle.sctp_model.specs.world.World as world;
+ghost use Rattle.sctp_model.specs.world.Events as meaning;
+ghost use Rattle.sctp_recv.specs.HandedOf.{handed_of};
+ghost use Rattle.sctp_events.specs.Events.{side_meaning, event_meaning, refusal_meaning, outcome_meaning};
+ghost use Rattle.sctp_text.specs.SpacedWords.{line_of};
+ghost use Rattle.sctp_script.specs.OutcomeText.{side_word, end_named, stream_named, outcome_words, outcome_line};
 
-use crate::event::{Outcome, Refusal, Side};
-use crate::line_out::put_line;
-use sctp_text::{Bytes, Word};
-use sctp_values::NoMemory;
+use crate::side_word::side_name;
+use sctp_events::{Event, Outcome, Refusal, Side};
+use sctp_recv::Message;
+use sctp_text::Word;
+use sctp_values::{Kind, NoMemory};
+use sctp_words::{kind_word, number_word, put_line};
+use std::alloc::Global;
 
-/// Appends the line of an outcome, with its line feed.
+/// Appends the line of an outcome, with its line feed; the event is the one that it answers.
 ///
 /// # Errors
 /// `NoMemory` where there was no room and none was got; `out` is then as before.
-pub fn put_outcome(outcome: &Outcome, out: &mut Vec<u8>) -> Result<(), NoMemory>
-    ensures put { (o : world.Outcome) → Answers outcome.now o → OnOk result (out.new.items ≡ out.old.items ++ outcome_line o) }
+pub fn put_outcome(
+    alloc: Global,
+    event: &Event,
+    outcome: &Outcome,
+    out: &mut Vec<u8>,
+) -> Result<(), NoMemory>
+    ensures put { OnOk result (out.new.items ≡ out.old.items ++ outcome_line (event_meaning event.now) (outcome_meaning outcome.now)) }
     ensures refused { OnErr result (out.new.items ≡ out.old.items) }
 {
+    let side = side_named(event);
     match outcome {
         Outcome::Done => put_line(b"ok", &[], &[], out),
-        Outcome::Refused { refusal } => put_refused(*refusal, out),
-        Outcome::Ticket { side, ticket } => put_ticket(*side, *ticket, out),
-        Outcome::Sent {
-            side,
-            number,
-            length,
-        } => put_sent(*side, *number, *length, out),
-        Outcome::Quiet { side } => put_line(b"quiet", &[side_word(*side)], &[], out),
-        Outcome::Taken { side } => put_line(b"taken", &[side_word(*side)], &[], out),
+        Outcome::Refused { refusal } => put_line(b"refused", &[], &[refusal_code(*refusal)], out),
+        Outcome::Sent { number, length } => put_packet(b"sent", side, *number, *length, out),
+        Outcome::Quiet => put_side(b"quiet", side, &[], out),
+        Outcome::Taken => put_side(b"taken", side, &[], out),
+        Outcome::Dropped { reason } => {
+            put_side(b"dropped", side, &[u32::from(reason.code())], out)
+        }
+        Outcome::Answer { number, length } => put_packet(b"answer", side, *number, *length, out),
         Outcome::Absent => put_line(b"absent", &[], &[], out),
-        Outcome::Message {
-            side,
-            stream,
-            number,
-            payload_id,
-            bytes,
-        } => put_message(*side, *stream, *number, *payload_id, bytes, out),
-        Outcome::Empty { side, stream } => put_empty(*side, *stream, out),
+        Outcome::Ticket { ticket } => put_side(b"ticket", side, &[ticket.0], out),
+        Outcome::Fate { fate } => put_side(b"fate", side, &[u32::from(fate.code())], out),
+        Outcome::Message { message } => put_message(alloc, side, stream_named(event), message, out),
+        Outcome::Empty => put_side(b"empty", side, &[u32::from(stream_named(event))], out),
     }
 }
 
-/// Appends `refused CODE`, or nothing where memory is wanting.
-fn put_refused(refusal: Refusal, out: &mut Vec<u8>) -> Result<(), NoMemory>
-    ensures put { OnOk result (out.new.items ≡ out.old.items ++ outcome_line (world.Refused (refusal_meaning refusal))) }
-    ensures refused { OnErr result (out.new.items ≡ out.old.items) }
+/// The end that the line of an event's outcome names.
+fn side_named(event: &Event) -> Side
+    ensures { side_meaning result ≡ end_named (event_meaning event.now) }
 {
-    put_line(b"refused", &[], &[u32::from(refusal.code())], out)
+    match event {
+        Event::Open { .. } | Event::At { .. } | Event::Drawing { .. } | Event::Connect { .. } => {
+            Side::A
+        }
+        Event::Deliver { side, .. } => side.other(),
+        Event::Build { side } => *side,
+        Event::Foreign { side, .. } => *side,
+        Event::Send { side, .. } => *side,
+        Event::Abandon { side, .. } => *side,
+        Event::Take { side, .. } => *side,
+        Event::Shutdown { side } => *side,
+        Event::Abort { side, .. } => *side,
+    }
 }
 
-/// Appends `ticket X K`, or nothing where memory is wanting.
-fn put_ticket(side: Side, ticket: u32, out: &mut Vec<u8>) -> Result<(), NoMemory>
-    ensures put { OnOk result (out.new.items ≡ out.old.items ++ outcome_line (world.Ticket (side_meaning side) ticket)) }
-    ensures refused { OnErr result (out.new.items ≡ out.old.items) }
+/// The stream that it names.
+fn stream_named(event: &Event) -> u16
+    ensures { result ≡ stream_named (event_meaning event.now) }
 {
-    put_line(b"ticket", &[side_word(side)], &[ticket], out)
+    match event {
+        Event::Take { stream, .. } => *stream,
+        _ => 0,
+    }
 }
 
-/// Appends `sent X N LENGTH`, or nothing where memory is wanting.
-fn put_sent(side: Side, number: usize, length: usize, out: &mut Vec<u8>) -> Result<(), NoMemory>
-    ensures put { OnOk result (out.new.items ≡ out.old.items ++ outcome_line (world.Sent (side_meaning side) number length)) }
+/// The code of a refusal, 1 to 7.
+fn refusal_code(refusal: Refusal) -> u32
+    ensures { (x : world.Side) (s : ℕ) → outcome_words x s (refusal_meaning refusal) ≡ codes "refused" ∷ decimal result ∷ [] }
+{
+    match refusal {
+        Refusal::State | Refusal::NoSuchStream => 1,
+        Refusal::ReasonTooLong | Refusal::Empty => 2,
+        Refusal::TooLong => 3,
+        Refusal::QueueFull => 4,
+        Refusal::Spent => 5,
+        Refusal::NotOpen => 7,
+    }
+}
+
+/// Appends a line of a word, an end and numbers, or nothing where memory is wanting.
+fn put_side(first: &[u8], side: Side, numbers: &[u32], out: &mut Vec<u8>) -> Result<(), NoMemory>
+    ensures put { OnOk result (out.new.items ≡ out.old.items
+        ++ line_of (first.now ∷ side_word (side_meaning side) ∷ map decimal numbers.now)) }
+    ensures refused { OnErr result (out.new.items ≡ out.old.items) }
+{
+    put_line(first, &[Word::Text(side_name(side))], numbers, out)
+}
+
+/// Appends a line of a word, an end, and a packet's number and length, or nothing where memory is wanting.
+fn put_packet(
+    first: &[u8],
+    side: Side,
+    number: usize,
+    length: usize,
+    out: &mut Vec<u8>,
+) -> Result<(), NoMemory>
+    ensures put { OnOk result (out.new.items ≡ out.old.items
+        ++ line_of (first.now ∷ side_word (side_meaning side) ∷ decimal number ∷ decimal length ∷ [])) }
     ensures refused { OnErr result (out.new.items ≡ out.old.items) }
 {
     let words = [
-        side_word(side),
+        Word::Text(side_name(side)),
         Word::Number(number as u64),
         Word::Number(length as u64),
     ];
-    put_line(b"sent", &words, &[], out)
+    put_line(first, &words, &[], out)
 }
 
-/// Appends `empty X STREAM`, or nothing where memory is wanting.
-fn put_empty(side: Side, stream: u16, out: &mut Vec<u8>) -> Result<(), NoMemory>
-    ensures put { OnOk result (out.new.items ≡ out.old.items ++ outcome_line (world.Nothing (side_meaning side) stream)) }
-    ensures refused { OnErr result (out.new.items ≡ out.old.items) }
-{
-    put_line(b"empty", &[side_word(side)], &[u32::from(stream)], out)
-}
-
-/// Appends `message X STREAM o NUMBER ID HEX`, or nothing where memory is wanting.
+/// Appends `message X STREAM KIND NUMBER ID HEX`, or nothing where memory is wanting.
 fn put_message(
+    alloc: Global,
     side: Side,
     stream: u16,
-    number: Option<u32>,
-    payload_id: u32,
-    bytes: &Bytes,
+    message: &Message,
     out: &mut Vec<u8>,
 ) -> Result<(), NoMemory>
-    ensures put { (h : Handed) → IsToldOf stream number payload_id bytes.now h
-        → OnOk result (out.new.items ≡ out.old.items ++ outcome_line (world.Message (side_meaning side) stream h)) }
+    ensures put { OnOk result (out.new.items ≡ out.old.items
+        ++ line_of (outcome_words (side_meaning side) stream (meaning.Message (handed_of message.now)))) }
     ensures refused { OnErr result (out.new.items ≡ out.old.items) }
 {
+    let mut bytes = Vec::new(alloc);
+    message.copy_to(&mut bytes)?;
     let words = [
-        side_word(side),
+        Word::Text(side_name(side)),
         Word::Number(u64::from(stream)),
-        Word::Text(b"o"),
-        number_word(number),
-        Word::Number(u64::from(payload_id)),
-        Word::Hex(bytes.as_slice()),
+        kind_word(Kind::of_flag(!message.ordered)),
+        number_word(message.number.map(u64::from)),
+        Word::Number(u64::from(message.payload_id)),
+        Word::Hex(&bytes),
     ];
     put_line(b"message", &words, &[], out)
-}
-
-/// A message's number, or that it has none.
-fn number_word(number: Option<u32>) -> Word<'static>
-    ensures { text_of result ≡ number_word number }
-{
-    match number {
-        Some(number) => Word::Number(u64::from(number)),
-        None => Word::Text(b"-"),
-    }
-}
-
-/// The name of an end.
-pub fn side_word(side: Side) -> Word<'static>
-    ensures { text_of result ≡ side_word (side_meaning side) }
-{
-    match side {
-        Side::A => Word::Text(b"A"),
-        Side::B => Word::Text(b"B"),
-    }
 }

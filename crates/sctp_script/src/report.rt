@@ -1,47 +1,69 @@
 //! The lines of a pair's report.
 
-ghost use Rattle.std.specs.Prelude.{◌≡◌, ◌++◌, OnOk, OnErr};
-ghost use Rattle.sctp_script.specs.Events.{side_meaning, state_meaning};
-ghost use Rattle.sctp_script.specs.ReportText.{state_word, end_line, numbered_line, handed_line};
-ghost use Rattle.sctp_text.specs.WrittenWords.{text_of};
+ghost use Rattle.std.specs.Prelude.{◌≡◌, ◌++◌, map, option_map, OnOk, OnErr};
+ghost use Rattle.sctp_terms.specs.Meanings.{state_meaning, end_meaning};
+ghost use Rattle.sctp_events.specs.Events.{side_meaning};
+ghost use Rattle.sctp_script.specs.ReportText.{ticket_number, end_line, numbered_line, abandoned_line, handed_line, count_line};
 
-use crate::event::{Side, State};
-use crate::line_out::put_line;
-use crate::outcome_line::side_word;
+use crate::side_word::side_name;
+use crate::ticket_line::put_tickets;
+use sctp_events::Side;
+use sctp_terms::{End, State};
 use sctp_text::Word;
-use sctp_values::NoMemory;
+use sctp_values::{NoMemory, Ticket};
+use sctp_words::{end_word, put_line, state_word};
 
-/// Appends `end X STATE -`: an end's state, and that it hasn't ended.
+/// Appends `end X STATE WHY`: where an end stands, and how it ended, `-` where it hasn't.
 ///
 /// # Errors
 /// `NoMemory` where there was no room and none was got; `out` is then as before.
-pub fn put_end(side: Side, state: State, out: &mut Vec<u8>) -> Result<(), NoMemory>
-    ensures put { OnOk result (out.new.items ≡ out.old.items ++ end_line (side_meaning side) (state_meaning state)) }
+pub fn put_end(
+    side: Side,
+    state: State,
+    ended: Option<End>,
+    out: &mut Vec<u8>,
+) -> Result<(), NoMemory>
+    ensures put { OnOk result (out.new.items ≡ out.old.items
+        ++ end_line (side_meaning side) (state_meaning state) (option_map end_meaning ended)) }
     ensures refused { OnErr result (out.new.items ≡ out.old.items) }
 {
-    put_line(
-        b"end",
-        &[side_word(side), state_word(state), Word::Text(b"-")],
-        &[],
-        out,
-    )
+    let words = [
+        Word::Text(side_name(side)),
+        state_word(state),
+        end_word(ended),
+    ];
+    put_line(b"end", &words, &[], out)
 }
 
-/// Appends `numbered X` and the tickets, or nothing where there is none.
+/// Appends `numbered X` and the tickets of the messages that have numbers, or nothing where there is none.
 ///
 /// # Errors
 /// `NoMemory` where there was no room and none was got; `out` is then as before.
-pub fn put_numbered(side: Side, tickets: &[u32], out: &mut Vec<u8>) -> Result<(), NoMemory>
-    ensures put { OnOk result (out.new.items ≡ out.old.items ++ numbered_line (side_meaning side) tickets.now) }
+pub fn put_numbered(side: Side, tickets: &[Ticket], out: &mut Vec<u8>) -> Result<(), NoMemory>
+    ensures put { OnOk result (out.new.items ≡ out.old.items ++ numbered_line (side_meaning side) (map ticket_number tickets.now)) }
     ensures refused { OnErr result (out.new.items ≡ out.old.items) }
 {
     if tickets.is_empty() {
         return Ok(());
     }
-    put_line(b"numbered", &[side_word(side)], tickets, out)
+    put_tickets(b"numbered", side, tickets, out)
 }
 
-/// Appends `handed X STREAM o` and the numbers, or nothing where there is none.
+/// Appends `abandoned X` and the tickets of the messages that were abandoned, or nothing where there is none.
+///
+/// # Errors
+/// `NoMemory` where there was no room and none was got; `out` is then as before.
+pub fn put_abandoned(side: Side, tickets: &[Ticket], out: &mut Vec<u8>) -> Result<(), NoMemory>
+    ensures put { OnOk result (out.new.items ≡ out.old.items ++ abandoned_line (side_meaning side) (map ticket_number tickets.now)) }
+    ensures refused { OnErr result (out.new.items ≡ out.old.items) }
+{
+    if tickets.is_empty() {
+        return Ok(());
+    }
+    put_tickets(b"abandoned", side, tickets, out)
+}
+
+/// Appends `handed X STREAM o` and the numbers of the ordered messages that were handed over, or nothing where there is none.
 ///
 /// # Errors
 /// `NoMemory` where there was no room and none was got; `out` is then as before.
@@ -58,20 +80,29 @@ pub fn put_handed(
         return Ok(());
     }
     let words = [
-        side_word(side),
+        Word::Text(side_name(side)),
         Word::Number(u64::from(stream)),
         Word::Text(b"o"),
     ];
     put_line(b"handed", &words, numbers, out)
 }
 
-/// The name of a state.
-fn state_word(state: State) -> Word<'static>
-    ensures { text_of result ≡ state_word (state_meaning state) }
+/// Appends `handed X STREAM u COUNT`: how many unordered messages were handed over; nothing where there is none.
+///
+/// # Errors
+/// `NoMemory` where there was no room and none was got; `out` is then as before.
+pub fn put_count(side: Side, stream: u16, count: u64, out: &mut Vec<u8>) -> Result<(), NoMemory>
+    ensures put { OnOk result (out.new.items ≡ out.old.items ++ count_line (side_meaning side) stream count) }
+    ensures refused { OnErr result (out.new.items ≡ out.old.items) }
 {
-    match state {
-        State::Closed => Word::Text(b"Closed"),
-        State::Listen => Word::Text(b"Listen"),
-        State::Established => Word::Text(b"Established"),
+    if count == 0 {
+        return Ok(());
     }
+    let words = [
+        Word::Text(side_name(side)),
+        Word::Number(u64::from(stream)),
+        Word::Text(b"u"),
+        Word::Number(count),
+    ];
+    put_line(b"handed", &words, &[], out)
 }

@@ -1,17 +1,17 @@
 use Rattle.std.proofs.Common.{ap}
 use Rattle.sctp_script.specs.Grammar.{Pairs}
 use Rattle.sctp_script.proofs.LineLemmas.{pair_words, says_nothing}
-use Rattle.sctp_script.proofs.line.read_pair.Goals as goal
+use Rattle.sctp_script.proofs.command_words.read_pair.Goals as goal
 
 pub returns-in-Ok : goal.returns-in-Ok
 returns-in-Ok c =
-    let made = c.in-Ok.ensures.exact in
+    let made = c.in-Ok.ensures in
     let said = pair_words _ _ _ _ _ _ _ _ _ _ _ _ _ _ _ _ c.requires c.next_word.ensures c.next_word-2.ensures c.next_word-3.ensures
     c.next_word-4.ensures c.next_word-5.ensures c.in_ok-limit.ensures c.in_ok-fragment.ensures c.in_ok-buffer.ensures c.in_ok-streams.ensures c.in_ok-mode.ensures in
-    ((_, said, made.0, ap Pairs made.1), tt)
+    (_, said, made.1, ap Pairs made.0)
 
 pub returns-in-Err : goal.returns-in-Err
 returns-in-Err c =
     let said = pair_words _ _ _ _ _ _ _ _ _ _ _ _ _ _ _ _ c.requires c.next_word.ensures c.next_word-2.ensures c.next_word-3.ensures
     c.next_word-4.ensures c.next_word-5.ensures c.in_ok-limit.ensures c.in_ok-fragment.ensures c.in_ok-buffer.ensures c.in_ok-streams.ensures c.in_ok-mode.ensures in
-    says_nothing _ _ _ _ _ _ _ said c.in-Err.ensures.exact
+    says_nothing _ _ _ _ _ _ _ said c.in-Err.ensures
