@@ -11,10 +11,11 @@
 //! - `- TEXT`: this line without its line feed,
 //! - `*N TEXT`: this line N times; what is written for all but the last isn't shown,
 //! - `~N TEXT`: this line, filled with `0` up to N bytes,
-//! - with `/` before any of these: an alternative. The lines above the first one are run before each of them, and what is
-//!   written for those isn't shown.
+//! - with `/` before any of these: an alternative begins, of this line and those below it. The lines above the first one are
+//!   run before each of them, and what is written for those isn't shown.
 //!
-//! Other lines are remarks. Of a script only what was read is shown.
+//! Other lines are remarks: one that begins with two spaces says what the bytes below it are. Of a script only what was read
+//! is shown. The model in tests/model writes the same transcript: `rows.py`.
 #![tactic(auto)]
 
 mod line;
@@ -42,32 +43,45 @@ fn main(rt: HostRuntime) -> Result<()> {
     Ok(())
 }
 
-/// Runs a case, with each of its alternatives.
+/// Runs a case, each of its alternatives by itself.
 fn run_case(rt: &HostRuntime, case: &str) -> Result<()> {
     let (name, rest) = case.split_once('\n').unwrap_or((case, ""));
     let (words, rest) = rest.split_once('\n').unwrap_or((rest, ""));
     writeln!(rt.stdout(), "= {name}\n{words}")?;
     let mut lines = Vec::new(rt.alloc());
-    let mut is_run = false;
+    let mut above = None;
     for text in rest.split('\n') {
-        match text.strip_prefix('/') {
-            None => lines.extend(Line::read(rt.alloc(), text, text)?)?,
-            Some(rest) => {
-                if !is_run {
-                    show(rt, &lines)?;
-                }
-                is_run = true;
-                let above = lines.len();
-                lines.extend(Line::read(rt.alloc(), text, rest)?)?;
-                run(rt, words, &lines, above)?;
-                lines.truncate(above);
+        let line = match text.strip_prefix('/') {
+            None => text,
+            Some(line) => {
+                above = Some(begin_alternative(rt, words, &mut lines, above)?);
+                line
             }
+        };
+        lines.extend(Line::read(rt.alloc(), text, line)?)?;
+    }
+    run(rt, words, &lines, above.unwrap_or(0))?;
+    writeln!(rt.stdout(), "")
+}
+
+/// Ends the alternative before this one, which is run, or shows the lines above the first one. How many lines are above.
+fn begin_alternative(
+    rt: &HostRuntime,
+    words: &str,
+    lines: &mut Vec<Line<'_>>,
+    above: Option<usize>,
+) -> Result<usize> {
+    match above {
+        None => {
+            show(rt, lines)?;
+            Ok(lines.len())
+        }
+        Some(count) => {
+            run(rt, words, lines, count)?;
+            lines.truncate(count);
+            Ok(count)
         }
     }
-    if !is_run {
-        run(rt, words, &lines, 0)?;
-    }
-    writeln!(rt.stdout(), "")
 }
 
 /// Prints lines as they stand in the case.
