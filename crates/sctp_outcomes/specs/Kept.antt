@@ -155,3 +155,7 @@ TakeTakesOne = (e : EndView) (stream : ℕ) (h : Option Handed) (t : EndView) �
 -- A packet that is built numbers what is newly numbered, and nothing else (RFC 9260, 6.9).
 abbrev pub BuildsAddNumbers : Type 0
 BuildsAddNumbers = (e : EndView) (now : ℕ) (xs : List ChunkMeaning) (t : EndView) → IsSound e → Builds (at_moment e now) xs t → AddsNumbers e t
+
+-- Where there is no next packet nothing is numbered.
+abbrev pub EmptyBuildsKeepLogs : Type 0
+EmptyBuildsKeepLogs = (e : EndView) (now : ℕ) (t : EndView) → IsSound e → Builds (at_moment e now) [] t → KeepsLogs e t

@@ -2,7 +2,7 @@
 //!
 //! No function here does anything: each carries laws as its contract.
 
-ghost use Rattle.sctp_outcomes.specs.Kept.{AbandonKeepsLogs, AbortKeepsLogs, BuildsAddNumbers, ConnectKeepsLogs, CutPacketsKeepLogs, FreshHasNoLogs, MomentsKeepLogs, OpenedHasNoLogs, PacketsKeepLogs, SendGivesTickets, ShutdownKeepsLogs, TakeTakesOne};
+ghost use Rattle.sctp_outcomes.specs.Kept.{AbandonKeepsLogs, AbortKeepsLogs, BuildsAddNumbers, ConnectKeepsLogs, CutPacketsKeepLogs, EmptyBuildsKeepLogs, FreshHasNoLogs, MomentsKeepLogs, OpenedHasNoLogs, PacketsKeepLogs, SendGivesTickets, ShutdownKeepsLogs, TakeTakesOne};
 
 /// Of an end that is made, or opened without packets, nothing is noted: no ticket, no number, no message taken.
 pub fn new_ends_have_no_logs()
@@ -31,4 +31,9 @@ pub fn calls_note_their_own()
 /// A packet that is built notes the tickets of the messages that it newly numbers, behind all before them, and nothing else (RFC 9260, 6.9).
 pub fn packets_note_their_numbers()
     ensures { BuildsAddNumbers }
+{}
+
+/// Where there is no packet to build, asking for it notes nothing.
+pub fn no_packet_notes_nothing()
+    ensures { EmptyBuildsKeepLogs }
 {}

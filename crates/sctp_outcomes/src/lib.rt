@@ -16,8 +16,8 @@ pub use examples::{
     a_message_arrives, a_message_in_part_is_ended, a_message_is_passed_over, the_script_runs,
 };
 pub use kept::{
-    calls_note_their_own, new_ends_have_no_logs, packets_note_their_numbers,
-    what_comes_keeps_logs,
+    calls_note_their_own, new_ends_have_no_logs, no_packet_notes_nothing,
+    packets_note_their_numbers, what_comes_keeps_logs,
 };
 pub use outcomes::{every_event_has_an_outcome, every_event_has_one_outcome};
 pub use receiver_steps::{

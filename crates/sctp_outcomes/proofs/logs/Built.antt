@@ -1,15 +1,17 @@
 -- A packet that is built notes what it newly numbers, and nothing else.
 use Rattle.std.proofs.Common.{◌≡◌, Bool, true, false, List, [], ◌∷◌, ◌++◌, refl, sym, subst, ap, ◌∙◌}
-use Rattle.std.specs.Prelude.{◌-◌}
+use Rattle.std.specs.Prelude.{◌-◌, map}
 use Rattle.sctp_model.specs.wire.Chunk.{ChunkMeaning}
 use Rattle.sctp_model.specs.wire.Packet.{size_of_packet}
 use Rattle.sctp_model.specs.sender.SenderView.{SenderView}
 use Rattle.sctp_model.specs.end.EndView.{Configuration, EndView, format_of}
 use Rattle.sctp_model.specs.end.Clock.{at_moment}
-use Rattle.sctp_model.specs.end.Building.{Slot, Puts, NoMore, NotDue, Put, IsFull, Builds, Sleeps, Waits, Calls, Echoes, EndsFull, Fills, EchoSlot, CookieAckSlot, HeartbeatSlot, ErrorSlot, SackSlot, ForwardSlot, ShutdownSlot, ShutdownAckSlot, once_built, sent}
-use Rattle.sctp_outcomes.specs.Kept.{is_before, IsNamed, IsSound, AddsNumbers, BuildsAddNumbers}
-use Rattle.sctp_outcomes.proofs.logs.Filled.{Grows, grows_not, grows_filled, numbers_grow}
-use Rattle.sctp_outcomes.proofs.logs.Ends.{never, IsSameToUser, same_keeps}
+use Rattle.sctp_model.specs.end.Building.{Slot, Puts, NoMore, NotDue, Put, IsFull, Builds, Sleeps, Waits, Calls, Echoes, EndsFull, Fills, EchoSlot, CookieAckSlot, HeartbeatSlot, ErrorSlot, SackSlot, ForwardSlot, ShutdownSlot, ShutdownAckSlot, once_built, sent, filled_behind, fragments}
+use Rattle.sctp_model.specs.sender.Filling.{Wish}
+use Rattle.sctp_model.specs.sender.SentChunks.{chunk_of}
+use Rattle.sctp_outcomes.specs.Kept.{is_before, IsNamed, IsSound, KeepsLogs, AddsNumbers, BuildsAddNumbers, EmptyBuildsKeepLogs}
+use Rattle.sctp_outcomes.proofs.logs.Filled.{Grows, grows_not, grows_filled, numbers_grow, nothing_filled}
+use Rattle.sctp_outcomes.proofs.logs.Ends.{never, IsSameToUser, keeps_itself, same_keeps, joined_keeps}
 use Rattle.sctp_outcomes.proofs.logs.Heard.{moment_keeps}
 
 -- ---- what is due goes in
@@ -74,7 +76,7 @@ put_grown e t p after s =
 sent_grown : (e x : EndView) (zs : List ChunkMeaning) → IsPut e x → is_before e.phase ≡ false → IsSound e → AddsNumbers e (sent x zs)
 sent_grown e x zs p after s =
     let from = subst (λ (v : SenderView). Grows v (sent x zs).sender) p.sender
-        (grows_filled (format_of x) (x.configuration.limit - size_of_packet zs) x.sender (subst (λ (v : SenderView). IsNamed v.plan) (sym p.sender) s.named)) in
+    (grows_filled (format_of x) (x.configuration.limit - size_of_packet zs) x.sender (subst (λ (v : SenderView). IsNamed v.plan) (sym p.sender) s.named)) in
     grown e (sent x zs) from p.same p.configuration (ap is_before p.phase ∙ after) s
 
 built_adds : (e t : EndView) (xs : List ChunkMeaning) → IsSound e → Builds e xs t → AddsNumbers e t
@@ -89,3 +91,37 @@ pub builds_add_numbers : BuildsAddNumbers
 builds_add_numbers e now xs t s builds =
     let a = built_adds (at_moment e now) t xs (moment_keeps e now s).sound builds in
     record { sound = a.sound; numbers = a.numbers; tickets = a.tickets; taken = a.taken }
+
+-- ---- no packet
+
+mapped_nothing : (g : Wish → ChunkMeaning) (ws : List Wish) → map g ws ≡ [] → ws ≡ []
+mapped_nothing g [] none = refl
+mapped_nothing g (w ∷ ws) none = absurd (cc)
+
+joined_nothing : (xs ys : List ChunkMeaning) → xs ++ ys ≡ [] → ys ≡ []
+joined_nothing [] ys none = none
+joined_nothing (x ∷ xs) ys none = absurd (cc)
+
+put_keeps : (e t : EndView) → IsPut e t → is_before e.phase ≡ false → IsSound e → KeepsLogs e t
+put_keeps e t p after s =
+    joined_keeps e t (ap (λ (v : SenderView). v.plan) p.sender) (ap (λ (v : SenderView). v.tickets) p.sender) p.same p.configuration (ap is_before p.phase ∙ after) s
+
+-- no fragment went out
+unsent : (e x : EndView) (zs : List ChunkMeaning) → IsPut e x → fragments x zs ≡ [] → IsPut e (sent x zs)
+unsent e x zs p none = record {
+  sender = nothing_filled (format_of x) (x.configuration.limit - size_of_packet zs) x.sender (mapped_nothing (chunk_of (format_of x)) (filled_behind x zs).wishes none) ∙ p.sender;
+  same = record { taken = p.same.taken; buffer = p.same.buffer };
+  configuration = p.configuration;
+  phase = p.phase;
+}
+
+empty_keeps : (e t : EndView) (xs : List ChunkMeaning) → IsSound e → xs ≡ [] → Builds e xs t → KeepsLogs e t
+empty_keeps e t xs s none (Sleeps _) = keeps_itself e s
+empty_keeps e t xs s none (Waits _ _ _) = keeps_itself e s
+empty_keeps e t xs s none (Calls _ _ _) = absurd (cc)
+empty_keeps e t xs s none (Echoes _ _ _ full _ is puts) = put_keeps e t (all_put _ e [] _ full t puts) (ap is_before is) s
+empty_keeps e t xs s none (EndsFull _ _ _ _ is puts) = put_keeps e t (all_put _ e [] _ true t puts) (ap is_before is) s
+empty_keeps e t xs s none (Fills _ _ zs x is puts) = put_keeps e (sent x zs) (unsent e x zs (all_put _ e [] zs false x puts) (joined_nothing zs (fragments x zs) none)) (ap is_before is) s
+
+pub empty_builds_keep_logs : EmptyBuildsKeepLogs
+empty_builds_keep_logs e now t s builds = let k = empty_keeps (at_moment e now) t [] (moment_keeps e now s).sound refl builds in record { sound = k.sound; numbers = k.numbers; tickets = k.tickets; taken = k.taken }

@@ -153,6 +153,19 @@ grows_most (suc many) f room v named = go (goes f room v) refl (λ w known. grow
 pub grows_filled : (f : Format) (room : ℕ) (v : SenderView) → IsNamed v.plan → Grows v (fill f room v).view
 grows_filled f room v named = grows_most room f room v named
 
+-- where none goes, nothing changes
+fills_nothing : (many : ℕ) (f : Format) (room : ℕ) (v : SenderView) → (fill_at_most many f room v).wishes ≡ [] → (fill_at_most many f room v).view ≡ v
+fills_nothing zero f room v none = refl
+fills_nothing (suc many) f room v none = go (goes f room v) none
+  where
+    go : (o : Option Wish) → (option_map_or (λ w. before_these w (fill_at_most many f (room - room_of f w) (gone w))) o (no_more v)).wishes ≡ []
+        → (option_map_or (λ w. before_these w (fill_at_most many f (room - room_of f w) (gone w))) o (no_more v)).view ≡ v
+    go None empty = refl
+    go (Some w) empty = absurd (cc)
+
+pub nothing_filled : (f : Format) (room : ℕ) (v : SenderView) → (fill f room v).wishes ≡ [] → (fill f room v).view ≡ v
+nothing_filled f room v none = fills_nothing room f room v none
+
 -- ---- the tickets numbered
 
 tickets_stay : (p r : Plan) (es : List Entry) → ((e : Entry) → Has es e → entry_message r e ≡ entry_message p e) → begun_tickets r es ≡ begun_tickets p es

@@ -141,7 +141,6 @@ replies_keeps e tag (Unknown n f v) t p s h = absurd (unknown_never_replies e t 
 
 -- ---- a packet
 
-
 each_keeps : (tag : ℕ) (o : EndView) → Keeps tag (KeepsLogs o) (λ (x : ChunkMeaning). Unit {0}) (λ (p : Packet). Unit {0})
 each_keeps tag o = record {
   goes = λ e x y t any k act. let mid = goes_keeps e tag x y t k.sound act in keeps_on o e (rested t) k (keeps_on e t (rested t) mid (rested_keeps t mid.sound));
