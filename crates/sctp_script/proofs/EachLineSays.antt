@@ -12,10 +12,9 @@ use Rattle.sctp_script.specs.Configuration.{sizes}
 use Rattle.sctp_script.specs.Grammar.{LineMeaning, Silent, Pairs, Acts, Fault, CommandValues, AreGood, Spells, IsLineOf, Means, HasFault, HasNoFault, Says, SaysOneThing, meaning_of}
 use Rattle.sctp_words.specs.Lines.{IsSilent, kind_of}
 use Rattle.sctp_script.proofs.CommandLemmas.{command_or_none}
-use Rattle.sctp_script.proofs.FieldLemmas.{one_values, values_or_none}
-use Rattle.sctp_script.proofs.LineLemmas.{first_of, one_command, one_list, Reads, out_of_order, faultless}
+use Rattle.sctp_script.proofs.FieldLemmas.{WordsSay, one_values, values_or_none}
+use Rattle.sctp_script.proofs.LineLemmas.{first_and_others, first_of, one_command, one_list, Reads, out_of_order, faultless}
 use Rattle.sctp_script.proofs.OneMeaning.{silent_is_no_command, one_said}
-use Rattle.sctp_text.proofs.WordLemmas.{first_and_others}
 use Rattle.sctp_text.specs.declared.limits.TheConstants.{LONGEST_LINE}
 
 -- ---- whether sizes are a configuration is decided
@@ -30,13 +29,13 @@ good_or_not : (c : Command) (vs : CommandValues c) → AreGood c vs ⊎ (AreGood
 good_or_not command.Pair (limit, (fragment, (buffer, (streams, (mode, rest))))) = none_or_not (configuration_fault (sizes limit fragment buffer streams))
 good_or_not _ vs = inl tt
 
-decided : (c : Command) (args : List (List ℕ)) → ((m : LineMeaning) × Spells c args m) ⊎ ((m : LineMeaning) → Spells c args m → ⊥)
-decided c args =
-    elim (values_or_none (fields_of c) args) [
+decided : (say : WordsSay) (c : Command) (args : List (List ℕ)) → ((m : LineMeaning) × Spells c args m) ⊎ ((m : LineMeaning) → Spells c args m → ⊥)
+decided say c args =
+    elim (values_or_none say (fields_of c) args) [
       | inr none ↦ inr (λ m s. none s.0 s.1)
       | inl found ↦ elim (good_or_not c found.0) [
         | inl good ↦ inl (meaning_of c found.0, (found.0, found.1, good, refl))
-        | inr bad ↦ inr (λ m s. bad (subst (λ (vs : CommandValues c). AreGood c vs) (one_values (fields_of c) args s.0 found.0 s.1 found.1) s.2))
+        | inr bad ↦ inr (λ m s. bad (subst (λ (vs : CommandValues c). AreGood c vs) (one_values say (fields_of c) args s.0 found.0 s.1 found.1) s.2))
       ]
     ]
 
@@ -122,11 +121,11 @@ read_says p line c args m r =
       | inr right ↦ (m, said p line m (spoken c args m r.says) (faultless p line c args m r right) (c, args, r.line_is, r.says))
     ]
 
-command_says : (p : Bool) (line : List ℕ) (c : Command) (args : List (List ℕ)) → length line ≤ LONGEST_LINE → IsLineOf line c args → Something p line
-command_says p line c args short is =
+command_says : (say : WordsSay) (p : Bool) (line : List ℕ) (c : Command) (args : List (List ℕ)) → length line ≤ LONGEST_LINE → IsLineOf line c args → Something p line
+command_says say p line c args short is =
     elim (cases_eq (length args) (arguments_of c)) [
       | inr other ↦ (Fault WordCount, ((c, args, is, other), above_command p line c args short is))
-      | inl count ↦ elim (decided c args) [
+      | inl count ↦ elim (decided say c args) [
         | inr none ↦ (Fault BadValue, ((c, args, is, count, none), above_count p line c args short is count))
         | inl found ↦ read_says p line c args found.0 (record { short = short; line_is = is; count = count; says = found.1 })
       ]
@@ -136,26 +135,26 @@ silent_or_not : (line : List ℕ) → IsSilent line ⊎ (IsSilent line → ⊥)
 silent_or_not [] = inl tt
 silent_or_not (x ∷ xs) = cases_eq x COMMENT
 
-short_says : (p : Bool) (line : List ℕ) → length line ≤ LONGEST_LINE → Something p line
-short_says p line short =
+short_says : (say : WordsSay) (p : Bool) (line : List ℕ) → length line ≤ LONGEST_LINE → Something p line
+short_says say p line short =
     elim (silent_or_not line) [
       | inl silent ↦ (Silent, (silent_faultless p line short silent, silent))
       | inr acts ↦
           let (w, ws, shape) = first_and_others line in
           elim (command_or_none w) [
-            | inl c ↦ command_says p line c.0 ws short (shape ∙ ap (λ (v : List ℕ). v ∷ ws) c.1)
+            | inl c ↦ command_says say p line c.0 ws short (shape ∙ ap (λ (v : List ℕ). v ∷ ws) c.1)
             | inr none ↦ (Fault UnknownCommand, ((acts, λ c args is. none c (ap first_of (sym shape ∙ is))), above_length p line short))
           ]
     ]
 
-line_says : (p : Bool) (line : List ℕ) → Something p line
-line_says p line =
+line_says : (say : WordsSay) (p : Bool) (line : List ℕ) → Something p line
+line_says say p line =
     elim (cases_lt LONGEST_LINE (length line)) [
       | inl long ↦ (Fault TooLong, (long, none_before p line))
-      | inr short ↦ short_says p line short
+      | inr short ↦ short_says say p line short
     ]
 
-pub says_one_thing : (p : Bool) (line : List ℕ) → SaysOneThing p line
-says_one_thing p line =
-    let (m, says) = line_says p line in
-    record { meaning = m; says = says; only = λ n other. one_said p line n m other says }
+pub says_one_thing : (say : WordsSay) (p : Bool) (line : List ℕ) → SaysOneThing p line
+says_one_thing say p line =
+    let (m, says) = line_says say p line in
+    record { meaning = m; says = says; only = λ n other. one_said say p line n m other says }

@@ -1,6 +1,8 @@
 -- A word says one value of its field or none, and so do the words behind a command.
 use Rattle.std.proofs.Common.{◌≡◌, ℕ, ◌==◌, cond, ◌^◌, ◌⊎◌, inl, inr, List, [], ◌∷◌, length, slice_index, Option, None, Some, codes, refl, sym, ap, ◌∙◌, subst, arith}
-use Rattle.std.proofs.lemmas.Bool.{cases_lt}
+use Rattle.std.specs.Str.{bytes_eq}
+use Rattle.std.proofs.lemmas.Bool.{cases_Bool, cases_lt}
+use Rattle.std.proofs.lemmas.Slice.Eq.{bytes_eq-Decides}
 use Rattle.sctp_model.specs.messages.Format.{Kind, Ordered, Unordered}
 use Rattle.sctp_model.specs.world.World.{Side, A, B}
 use Rattle.sctp_terms.specs.declared.mode.Mode.{Mode}
@@ -8,8 +10,20 @@ use Rattle.sctp_terms.specs.declared.mode.Mode.TheVariants.{Data, PartialData, I
 use Rattle.sctp_words.specs.Fields.{IsNumber, IsUntil, kind_word, mode_word, Values, AreValues}
 use Rattle.sctp_script.specs.Fields.{Field, ASide, ANumber, ATag, AMode, AKind, AnUntil, SomeBytes, Value, IsValue}
 use Rattle.sctp_script.specs.OutcomeText.{side_word}
-use Rattle.sctp_text.specs.Numerals.{IsDecimal}
-use Rattle.sctp_text.proofs.WordValues.{same_or_not, one_decimal, decimal_or_none, one_hex, hex_or_none}
+use Rattle.sctp_text.specs.Numerals.{IsDecimal, SaysOneNumber, SaysOneList}
+
+-- what is known of words: each says one number or none, and one list of bytes or none
+pub record WordsSay : Type 0 where
+  pub numbers : (word : List ℕ) → SaysOneNumber word
+  pub bytes : (word : List ℕ) → SaysOneList word
+
+same_or_not : (xs ys : List ℕ) → (xs ≡ ys) ⊎ (xs ≡ ys → ⊥)
+same_or_not xs ys =
+    let test = bytes_eq-Decides xs ys in
+    elim (cases_Bool (bytes_eq xs ys)) [
+      | inl good ↦ inl (test.0 good)
+      | inr bad ↦ inr (λ e. let good = test.1 e in cc)
+    ]
 
 -- ---- one value
 
@@ -44,20 +58,20 @@ no_number word n dash is =
     let digits = subst (λ (w : List ℕ). IsDecimal w n) dash is in
     omega (arith, digits.digits.1.0)
 
-one_until : (word : List ℕ) (t u : Option ℕ) → IsUntil word t → IsUntil word u → t ≡ u
-one_until word None None a b = refl
-one_until word None (Some n) a b = absurd (no_number word n a b.0)
-one_until word (Some m) None a b = absurd (no_number word m b a.0)
-one_until word (Some m) (Some n) a b = ap Some (one_decimal word m n a.0 b.0)
+one_until : (say : WordsSay) (word : List ℕ) (t u : Option ℕ) → IsUntil word t → IsUntil word u → t ≡ u
+one_until say word None None a b = refl
+one_until say word None (Some n) a b = absurd (no_number word n a b.0)
+one_until say word (Some m) None a b = absurd (no_number word m b a.0)
+one_until say word (Some m) (Some n) a b = ap Some ((say.numbers word).one m n a.0 b.0)
 
-pub one_value : (f : Field) (word : List ℕ) (u v : Value f) → IsValue f word u → IsValue f word v → u ≡ v
-one_value ASide word x y a b = one_side x y (sym a ∙ b)
-one_value (ANumber bits) word m n a b = one_decimal word m n a.0 b.0
-one_value ATag word m n a b = one_decimal word m n a.0.0 b.0.0
-one_value AMode word m n a b = one_mode m n (sym a ∙ b)
-one_value AKind word k l a b = one_kind k l (sym a ∙ b)
-one_value AnUntil word t u a b = one_until word t u a b
-one_value SomeBytes word xs ys a b = one_hex word xs ys a b
+pub one_value : (say : WordsSay) (f : Field) (word : List ℕ) (u v : Value f) → IsValue f word u → IsValue f word v → u ≡ v
+one_value say ASide word x y a b = one_side x y (sym a ∙ b)
+one_value say (ANumber bits) word m n a b = (say.numbers word).one m n a.0 b.0
+one_value say ATag word m n a b = (say.numbers word).one m n a.0.0 b.0.0
+one_value say AMode word m n a b = one_mode m n (sym a ∙ b)
+one_value say AKind word k l a b = one_kind k l (sym a ∙ b)
+one_value say AnUntil word t u a b = one_until say word t u a b
+one_value say SomeBytes word xs ys a b = (say.bytes word).one xs ys a b
 
 -- ---- a value or none
 
@@ -75,22 +89,22 @@ side_or_none w =
       | inr na ↦ elim (same_or_not w (codes "B")) [ inl b ↦ inl (B, b) | inr nb ↦ inr (no_side w na nb) ]
     ]
 
-number_or_none : (bits : ℕ) (w : List ℕ) → IsSaid (ANumber bits) w
-number_or_none bits w =
-    elim (decimal_or_none w) [
+number_or_none : (say : WordsSay) (bits : ℕ) (w : List ℕ) → IsSaid (ANumber bits) w
+number_or_none say bits w =
+    elim (say.numbers w).decided [
       | inl n ↦ elim (cases_lt n.0 (2 ^ bits)) [
         | inl fits ↦ inl (n.0, (n.1, fits))
-        | inr past ↦ inr (λ m is. omega (arith, past, is.1, one_decimal w m n.0 is.0 n.1))
+        | inr past ↦ inr (λ m is. omega (arith, past, is.1, (say.numbers w).one m n.0 is.0 n.1))
       ]
       | inr none ↦ inr (λ m is. none m is.0)
     ]
 
-tag_or_none : (w : List ℕ) → IsSaid ATag w
-tag_or_none w =
-    elim (number_or_none 32 w) [
+tag_or_none : (say : WordsSay) (w : List ℕ) → IsSaid ATag w
+tag_or_none say w =
+    elim (number_or_none say 32 w) [
       | inl n ↦ elim (cases_lt 0 n.0) [
         | inl some ↦ inl (n.0, (n.1, some))
-        | inr zero_is ↦ inr (λ m is. omega (arith, zero_is, is.1, one_decimal w m n.0 is.0.0 n.1.0))
+        | inr zero_is ↦ inr (λ m is. omega (arith, zero_is, is.1, (say.numbers w).one m n.0 is.0.0 n.1.0))
       ]
       | inr none ↦ inr (λ m is. none m is.0)
     ]
@@ -130,21 +144,21 @@ no_until : (w : List ℕ) → (w ≡ codes "-" → ⊥) → ((n : ℕ) → IsNum
 no_until w other none None is = other is
 no_until w other none (Some n) is = none n is
 
-until_or_none : (w : List ℕ) → IsSaid AnUntil w
-until_or_none w =
+until_or_none : (say : WordsSay) (w : List ℕ) → IsSaid AnUntil w
+until_or_none say w =
     elim (same_or_not w (codes "-")) [
       | inl dash ↦ inl (None, dash)
-      | inr other ↦ elim (number_or_none 64 w) [ inl n ↦ inl (Some n.0, n.1) | inr none ↦ inr (no_until w other none) ]
+      | inr other ↦ elim (number_or_none say 64 w) [ inl n ↦ inl (Some n.0, n.1) | inr none ↦ inr (no_until w other none) ]
     ]
 
-pub value_or_none : (f : Field) (w : List ℕ) → IsSaid f w
-value_or_none ASide w = side_or_none w
-value_or_none (ANumber bits) w = number_or_none bits w
-value_or_none ATag w = tag_or_none w
-value_or_none AMode w = mode_or_none w
-value_or_none AKind w = kind_or_none w
-value_or_none AnUntil w = until_or_none w
-value_or_none SomeBytes w = hex_or_none w
+pub value_or_none : (say : WordsSay) (f : Field) (w : List ℕ) → IsSaid f w
+value_or_none say ASide w = side_or_none w
+value_or_none say (ANumber bits) w = number_or_none say bits w
+value_or_none say ATag w = tag_or_none say w
+value_or_none say AMode w = mode_or_none w
+value_or_none say AKind w = kind_or_none w
+value_or_none say AnUntil w = until_or_none say w
+value_or_none say SomeBytes w = (say.bytes w).decided
 
 -- ---- the words of several fields
 
@@ -173,21 +187,21 @@ pub other_values : (f : Field) (fs : List Field) (words : List (List ℕ)) (w : 
     → AreGiven (f ∷ fs) words vs → AreGiven fs ws vs.1
 other_values f fs words w ws vs is are = subst (λ (others : List (List ℕ)). AreGiven fs others vs.1) (ap others_of (sym are.2 ∙ is)) are.4
 
-pub one_values : (fs : List Field) (words : List (List ℕ)) (us vs : Given fs) → AreGiven fs words us → AreGiven fs words vs → us ≡ vs
-one_values [] words us vs a b = refl
-one_values (f ∷ fs) words us vs a b =
-    let first = one_value f a.0 us.0 vs.0 a.3 (first_value f fs words a.0 a.1 vs a.2 b) in
-    let others = one_values fs a.1 us.1 vs.1 a.4 (other_values f fs words a.0 a.1 vs a.2 b) in
+pub one_values : (say : WordsSay) (fs : List Field) (words : List (List ℕ)) (us vs : Given fs) → AreGiven fs words us → AreGiven fs words vs → us ≡ vs
+one_values say [] words us vs a b = refl
+one_values say (f ∷ fs) words us vs a b =
+    let first = one_value say f a.0 us.0 vs.0 a.3 (first_value f fs words a.0 a.1 vs a.2 b) in
+    let others = one_values say fs a.1 us.1 vs.1 a.4 (other_values f fs words a.0 a.1 vs a.2 b) in
     λ i. (first i, others i)
 
-pub values_or_none : (fs : List Field) (words : List (List ℕ)) → ((vs : Given fs) × AreGiven fs words vs) ⊎ ((vs : Given fs) → AreGiven fs words vs → ⊥)
-values_or_none [] [] = inl (tt, refl)
-values_or_none [] (w ∷ ws) = inr (λ vs is. omega (arith, ap length is))
-values_or_none (f ∷ fs) [] = inr (λ vs are. omega (arith, ap length are.2))
-values_or_none (f ∷ fs) (w ∷ ws) =
-    elim (value_or_none f w) [
+pub values_or_none : (say : WordsSay) (fs : List Field) (words : List (List ℕ)) → ((vs : Given fs) × AreGiven fs words vs) ⊎ ((vs : Given fs) → AreGiven fs words vs → ⊥)
+values_or_none say [] [] = inl (tt, refl)
+values_or_none say [] (w ∷ ws) = inr (λ vs is. omega (arith, ap length is))
+values_or_none say (f ∷ fs) [] = inr (λ vs are. omega (arith, ap length are.2))
+values_or_none say (f ∷ fs) (w ∷ ws) =
+    elim (value_or_none say f w) [
       | inr none ↦ inr (λ vs are. none vs.0 (first_value f fs (w ∷ ws) w ws vs refl are))
-      | inl v ↦ elim (values_or_none fs ws) [
+      | inl v ↦ elim (values_or_none say fs ws) [
         | inr none ↦ inr (λ vs are. none vs.1 (other_values f fs (w ∷ ws) w ws vs refl are))
         | inl vs ↦ inl ((v.0, vs.0), (w, ws, refl, v.1, vs.1))
       ]

@@ -1,5 +1,5 @@
 -- A line is of one command, and has no fault or a first one.
-use Rattle.std.proofs.Common.{◌≡◌, ℕ, ◌<◌, ◌≤◌, Bool, List, [], ◌∷◌, length, None, Some, sym, ap, ◌∙◌, subst, arith}
+use Rattle.std.proofs.Common.{◌≡◌, ◌==◌, inl, inr, refl, ℕ, ◌<◌, ◌≤◌, Bool, List, [], ◌∷◌, length, None, Some, sym, ap, ◌∙◌, subst, arith}
 use Rattle.sctp_script.specs.declared.command.Command.{Command}
 use Rattle.sctp_script.specs.declared.command.Command.TheVariants as command
 use Rattle.sctp_terms.specs.declared.config_fault.ConfigFault.{ConfigFault}
@@ -18,8 +18,22 @@ use Rattle.sctp_script.specs.Grammar.{LineMeaning, CommandValues, AreGood, Spell
 use Rattle.sctp_words.specs.Lines.{kind_of}
 use Rattle.sctp_script.specs.ReadLineAnswer.{acting_meaning}
 use Rattle.sctp_script.proofs.CommandLemmas.{same_command}
-use Rattle.sctp_script.proofs.FieldLemmas.{AreGiven, one_values, no_words}
-use Rattle.sctp_text.specs.declared.limits.TheConstants.{LONGEST_LINE}
+use Rattle.sctp_script.proofs.FieldLemmas.{WordsSay, AreGiven, one_values, no_words}
+use Rattle.sctp_text.specs.SpacedWords.{words_of}
+use Rattle.sctp_text.specs.declared.limits.TheConstants.{LONGEST_LINE, SPACE}
+use Rattle.std.proofs.lemmas.Bool.{cases_Bool}
+
+-- ---- the words of a line
+
+-- there is a first one
+pub first_and_others : (xs : List ℕ) → (w : List ℕ) × (ws : List (List ℕ)) × (words_of xs ≡ w ∷ ws)
+first_and_others [] = ([], [], refl)
+first_and_others (x ∷ xs) =
+    let (w, ws, is) = first_and_others xs in
+    elim (cases_Bool (x == SPACE)) [
+      | inl space ↦ ([], w ∷ ws, rw (space, is) refl)
+      | inr other ↦ (x ∷ w, ws, rw (other, is) refl)
+    ]
 
 -- ---- one command
 
@@ -92,11 +106,11 @@ pair_words args a b c d rest t u v w x limit fragment buffer streams mode five f
     (_, _, first, is_limit, (_, _, second, is_fragment, (_, _, third, is_buffer, (_, _, fourth, are_streams, (_, _, fifth, is_mode, none)))))
 
 -- sizes with a fault say no configuration
-pub says_nothing : (args : List (List ℕ)) (l f b s : ℕ) (mode : Mode) (fault : ConfigFault)
+pub says_nothing : (say : WordsSay) (args : List (List ℕ)) (l f b s : ℕ) (mode : Mode) (fault : ConfigFault)
     → AreGiven (fields_of command.Pair) args (l, (f, (b, (s, (mode, tt))))) → configuration_fault (sizes l f b s) ≡ Some (config_fault_meaning fault)
     → (m : LineMeaning) → Spells command.Pair args m → ⊥
-says_nothing args l f b s mode fault are wrong m spells =
+says_nothing say args l f b s mode fault are wrong m spells =
     let vs : CommandValues command.Pair = (l, (f, (b, (s, (mode, tt))))) in
-    let same = one_values (fields_of command.Pair) args spells.0 vs spells.1 are in
+    let same = one_values say (fields_of command.Pair) args spells.0 vs spells.1 are in
     let good : configuration_fault (sizes l f b s) ≡ None = subst (λ (us : CommandValues command.Pair). AreGood command.Pair us) same spells.2 in
     absurd (cc (good, wrong))

@@ -1,8 +1,8 @@
 -- What the words of each command say is right.
-use Rattle.std.proofs.Common.{◌≡◌, ℕ, Bool, true, false, not, List, [], ◌∷◌, Option, None, refl, sym, ap, ◌∙◌, subst, arith}
+use Rattle.std.proofs.Common.{◌≡◌, ℕ, Bool, true, false, not, List, [], ◌∷◌, Option, None, Some, MatchOption, refl, sym, ap, ◌∙◌, subst, arith}
 use Rattle.sctp_model.specs.messages.Format.{Kind}
 use Rattle.sctp_model.specs.messages.Framing.{lane_kind}
-use Rattle.sctp_model.specs.end.EndView.{Configuration, IsDraw}
+use Rattle.sctp_model.specs.end.EndView.{Configuration, Draw, IsDraw}
 use Rattle.sctp_model.specs.end.Configured.{configuration_fault}
 use Rattle.sctp_model.specs.world.World.{Side}
 use Rattle.sctp_model.specs.world.Events.{Send}
@@ -97,11 +97,18 @@ leads true line d says = absurd (says.0 PairOrder (says.1.0, says.1.1, says.1.2,
 -- ---- what is read
 
 -- two words that are no draw
-pub no_draw : (words a b : List (List ℕ)) (t u : List ℕ) → words ≡ t ∷ a → a ≡ u ∷ b → ((x y : ℕ) → IsTag t x → IsNumber 32 u y → ⊥)
+no_draw : (words a b : List (List ℕ)) (t u : List ℕ) → words ≡ t ∷ a → a ≡ u ∷ b → ((x y : ℕ) → IsTag t x → IsNumber 32 u y → ⊥)
     → (vs : Given draw_fields) → AreGiven draw_fields words vs → ⊥
 no_draw words a b t u is at none vs are =
     none vs.0 vs.1.0 (first_value ATag (ANumber 32 ∷ []) words t a vs is are)
     (first_value (ANumber 32) [] a u b vs.1 at (other_values ATag (ANumber 32 ∷ []) words t a vs is are))
+
+-- two words and what was read of them
+pub draw_said : (draw : Option Draw) (words a b : List (List ℕ)) (t u : List ℕ) → words ≡ t ∷ a → a ≡ u ∷ b → b ≡ []
+    → MatchOption draw ((x y : ℕ) → IsTag t x → IsNumber 32 u y → ⊥) (λ d. IsTag t d.tag × IsNumber 32 u d.tsn)
+    → MatchOption draw ((vs : Given draw_fields) → AreGiven draw_fields words vs → ⊥) (λ d. AreGiven draw_fields words (d.tag, (d.tsn, tt)))
+draw_said None words a b t u is at left none = no_draw words a b t u is at none
+draw_said (Some d) words a b t u is at left read = (t, a, is, read.0, (u, b, at, read.1, left))
 
 -- a flag that is turned twice
 kind_again : (b : Bool) (k : Kind) → lane_kind b ≡ k → lane_kind (not (not b)) ≡ k

@@ -1,16 +1,18 @@
 //! What each command says with the words behind it.
 
 ghost use Rattle.std.specs.Prelude.{◌≡◌, length, IfOk, MatchOption};
-ghost use Rattle.sctp_script.specs.Commands.{arguments_of};
+ghost use Rattle.sctp_script.specs.Commands.{arguments_of, draw_fields};
+ghost use Rattle.sctp_script.specs.Fields.{Value, IsValue};
 ghost use Rattle.sctp_script.specs.Grammar.{LineMeaning, Spells};
 ghost use Rattle.sctp_script.specs.ReadLineAnswer.{acting_meaning};
+ghost use Rattle.sctp_words.specs.Fields.{Values, AreValues};
 
 use crate::command::Command;
 use crate::line::Acting;
 use crate::side_word::read_side;
 use sctp_events::{Event, PairConfig};
 use sctp_terms::Draw;
-use sctp_text::Words;
+use sctp_text::{Words, words_say_one_value};
 use sctp_values::{NoMemory, Ticket};
 use sctp_words::{
     read_bytes, read_draw, read_kind, read_mode, read_u16, read_u32, read_u64, read_until,
@@ -29,6 +31,8 @@ pub(crate) fn read_pair(mut words: Words<'_>) -> Option<Acting>
     let buffer = read_u32(words.next_word())?;
     let streams = read_u16(words.next_word())?;
     let mode = read_mode(words.next_word())?;
+    // No other values are said by these words.
+    words_say_one_value();
     match PairConfig::new(limit, fragment, buffer, streams, mode) {
         Ok(config) => Some(Acting::Pair(config)),
         Err(_) => None,
@@ -46,6 +50,18 @@ pub(crate) fn opening(words: Words<'_>) -> Acting
     Acting::Event(Event::Open { a, b })
 }
 
+/// `TAG TSN`
+fn draw_behind(mut words: Words<'_>) -> Option<Draw>
+    requires { length words ≡ length draw_fields }
+    ensures { MatchOption result
+        ((vs : Values Value draw_fields) → AreValues Value IsValue draw_fields words.entry vs → ⊥)
+        (λ draw. AreValues Value IsValue draw_fields words.entry (draw.tag, (draw.tsn, tt))) }
+{
+    let tag = words.next_word();
+    let tsn = words.next_word();
+    read_draw(tag, tsn)
+}
+
 /// `at T`
 pub(crate) fn read_at(mut words: Words<'_>) -> Option<Acting>
     requires { length words ≡ arguments_of Command.At }
@@ -58,28 +74,24 @@ pub(crate) fn read_at(mut words: Words<'_>) -> Option<Acting>
 }
 
 /// `draw TAG TSN`
-pub(crate) fn read_drawing(mut words: Words<'_>) -> Option<Acting>
+pub(crate) fn read_drawing(words: Words<'_>) -> Option<Acting>
     requires { length words ≡ arguments_of Command.Draw }
     ensures { MatchOption result
         ((m : LineMeaning) → Spells Command.Draw words.entry m → ⊥)
         (λ acting. Spells Command.Draw words.entry (acting_meaning acting)) }
 {
-    let tag = words.next_word();
-    let tsn = words.next_word();
-    let draw = read_draw(tag, tsn)?;
+    let draw = draw_behind(words)?;
     Some(Acting::Event(Event::Drawing { draw }))
 }
 
 /// `connect TAG TSN`
-pub(crate) fn read_connect(mut words: Words<'_>) -> Option<Acting>
+pub(crate) fn read_connect(words: Words<'_>) -> Option<Acting>
     requires { length words ≡ arguments_of Command.Connect }
     ensures { MatchOption result
         ((m : LineMeaning) → Spells Command.Connect words.entry m → ⊥)
         (λ acting. Spells Command.Connect words.entry (acting_meaning acting)) }
 {
-    let tag = words.next_word();
-    let tsn = words.next_word();
-    let draw = read_draw(tag, tsn)?;
+    let draw = draw_behind(words)?;
     Some(Acting::Event(Event::Connect { draw }))
 }
 

@@ -7,10 +7,14 @@ ghost use Rattle.sctp_script.specs.CanBe.{CanBe};
 ghost use Rattle.sctp_script.specs.Configuration.{IsOfPair};
 ghost use Rattle.sctp_script.specs.Grammar.{Pairs, Acts, Says, SaysOneThing};
 
+use sctp_text::words_say_one_value;
+
 /// Each line says exactly one thing.
 pub fn one_meaning()
     ensures { (paired : Bool) (line : List ℕ) → SaysOneThing paired line }
-{}
+{
+    words_say_one_value();
+}
 
 /// A line makes a pair only where none stood before it, and what it sets up is right.
 pub fn the_pair_comes_first()

@@ -14,4 +14,5 @@ pub returns-in-Err : goal.returns-in-Err
 returns-in-Err c =
     let said = pair_words _ _ _ _ _ _ _ _ _ _ _ _ _ _ _ _ c.requires c.next_word.ensures c.next_word-2.ensures c.next_word-3.ensures
     c.next_word-4.ensures c.next_word-5.ensures c.in_ok-limit.ensures c.in_ok-fragment.ensures c.in_ok-buffer.ensures c.in_ok-streams.ensures c.in_ok-mode.ensures in
-    says_nothing _ _ _ _ _ _ _ said c.in-Err.ensures
+    let say = c.words_say_one_value.ensures in
+    says_nothing (record { numbers = say.numbers; bytes = say.bytes }) _ _ _ _ _ _ _ said c.in-Err.ensures

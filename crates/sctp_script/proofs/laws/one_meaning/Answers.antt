@@ -2,4 +2,6 @@ use Rattle.sctp_script.proofs.EachLineSays.{says_one_thing}
 use Rattle.sctp_script.proofs.laws.one_meaning.Goals as goal
 
 pub returns : goal.returns
-returns c = λ paired line. says_one_thing paired line
+returns c =
+    let say = c.words_say_one_value.ensures in
+    λ paired line. says_one_thing (record { numbers = say.numbers; bytes = say.bytes }) paired line
