@@ -1,4 +1,7 @@
 pub mod Happens
+pub mod Unforged
+pub mod Taken
+pub mod Noted
 pub mod Sides
 pub mod PairStands
 pub mod PairRuns

@@ -1,8 +1,12 @@
 -- Which pair stands for which world.
-use Rattle.std.specs.Prelude.{◌≡◌}
-use Rattle.sctp_model.specs.world.World.{A, B, World}
+use Rattle.std.specs.Prelude.{◌≡◌, ◌≤◌}
+use Rattle.sctp_model.specs.world.World.{Side, A, B, World, end_of}
 use Rattle.sctp_pair.specs.Sides.{side_of, SideStands}
 use Rattle.sctp_pair.specs.declared.pair.Pair.{Pair}
+
+-- no end was told a moment past the clock
+abbrev pub IsOnTime : World → Type 0
+IsOnTime w = (s : Side) → (end_of w s).moment ≤ w.clock
 
 -- Each part of a pair stands for its part of the world.
 pub record KeepsPair (p : Pair) (w : World) : Type 0 where
@@ -11,6 +15,7 @@ pub record KeepsPair (p : Pair) (w : World) : Type 0 where
   pub clock : w.clock ≡ p.clock
   pub draw : w.draw ≡ p.draw
   pub openable : w.openable ≡ p.openable
+  pub on_time : IsOnTime w
 
 -- the pair stands for this world
 unfoldable pub PairStands : Pair → World → Type 0

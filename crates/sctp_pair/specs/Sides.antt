@@ -5,9 +5,12 @@ use Rattle.std.specs.declared.alloc.Global.{Global}
 use Rattle.sctp_model.specs.numbers.Lists.{item_at}
 use Rattle.sctp_model.specs.wire.Packet.{Packet}
 use Rattle.sctp_model.specs.end.EndView.{EndView}
-use Rattle.sctp_model.specs.world.World.{Side, A, B, World, Log, end_of, bag_of, log_of}
+use Rattle.sctp_model.specs.end.Moments.{ticked}
+use Rattle.sctp_model.specs.world.World.{Side, A, B, World, Log, end_of, bag_of, log_of, with_order, newly_abandoned}
+use Rattle.sctp_outcomes.specs.Kept.{IsSound}
 use Rattle.sctp_packet.specs.PacketBytes.{ReadsPacket}
 use Rattle.sctp_endpoint.specs.EndpointStands.{EndpointStands}
+use Rattle.sctp_pair.specs.Noted.{AreNoted}
 use Rattle.sctp_pair.specs.declared.one_side.OneSide.{OneSide}
 
 -- ---- one side of the world
@@ -31,6 +34,13 @@ with_side w B h = record w { b = h.end; from_b = h.bag; log_b = h.log }
 abbrev pub left : World → Side → SideView → World
 left w s h = record (with_side w s h) { openable = false }
 
+-- a side that a moment leaves: its end, and in its user's log what the moment abandoned
+abbrev pub ticked_side : SideView → (now : ℕ) → SideView
+ticked_side v now = record v {
+  end = ticked v.end now;
+  log = with_order v.log (newly_abandoned v.end.sender (ticked v.end now).sender (ticked v.end now).sender.tickets);
+}
+
 -- ---- what stands for it
 
 -- the bytes of each packet of a bag, in order
@@ -46,10 +56,12 @@ pub record IsItem (ps : List Packet) (number : ℕ) (bytes : List ℕ) : Type 0 
   pub here : item_at ps number ≡ Some packet
   pub reads : ReadsPacket bytes packet
 
--- Each part of a side of a pair stands for its part of the world's. Of the user's log nothing is kept.
+-- Each part of a side of a pair stands for its part of the world's: the end, which is one that calls lead to, the bag, and all that is noted.
 pub record KeepsSide (h : OneSide) (v : SideView) : Type 0 where
   pub end : EndpointStands h.end v.end
+  pub sound : IsSound v.end
   pub bag : ArePackets h.bag.items v.bag
+  pub notes : AreNoted h.numbered.items h.abandoned.items h.taken.items v.end v.log
 
 -- it stands for this side
 unfoldable pub SideStands : OneSide → SideView → Type 0

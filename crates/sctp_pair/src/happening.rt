@@ -12,10 +12,12 @@ ghost use Rattle.sctp_events.specs.Events.{side_meaning, outcome_meaning, answer
 ghost use Rattle.sctp_pair.specs.PairStands.{PairStands};
 
 use crate::arrivals::{arrive, packet_at};
-use crate::one_side::{abort_at, build_at, abandon_at, refused, send_at, shut_down, take_at};
+use crate::moments::{abandon_at, make_room, tick};
+use crate::one_side::{abort_at, build_at, refused, send_at, shut_down, take_at};
 use crate::pair::Pair;
 use sctp_endpoint::Endpoint;
 use sctp_events::{Outcome, Refusal, Side};
+use sctp_outcomes::new_ends_have_no_logs;
 use sctp_packet::read_packet;
 use sctp_terms::Draw;
 use sctp_values::{NoMemory, Ticket};
@@ -30,27 +32,36 @@ impl Pair {
         ensures { (w : World) → PairStands self.old w
             → (x : World) × Step w (meaning.OpenBoth a b) (answer_of result) x × PairStands self.new x }
     {
+        // It does nothing: its contract is the law that nothing is noted of an end that is opened.
+        new_ends_have_no_logs();
         if !self.openable {
             return refused(Refusal::State);
         }
         let _tags = (a.tag(), b.tag());
         let at_a = Endpoint::opened(self.alloc, *self.a.end.config(), a, b)?;
         let at_b = Endpoint::opened(self.alloc, *self.b.end.config(), b, a)?;
-        self.a.end = at_a;
-        self.b.end = at_b;
+        self.a.put_in(self.alloc, at_a);
+        self.b.put_in(self.alloc, at_b);
         self.openable = false;
         Ok(Outcome::Done)
     }
 
-    /// The clock goes on, and both ends are told the moment. A moment before the latest counts as that one.
-    pub(crate) fn pass_time(&mut self, moment: u64) -> Outcome
+    /// The clock goes on, and both ends are told the moment; what it abandons is noted. A moment before the latest counts as that one. The room
+    /// for both notes is made before either end is told.
+    ///
+    /// # Errors
+    /// Memory ran out, and nothing changed.
+    pub(crate) fn pass_time(&mut self, moment: u64) -> Result<Outcome, NoMemory>
         ensures { (w : World) → PairStands self.old w
-            → (x : World) × Step w (meaning.At moment) (Some (outcome_meaning result)) x × PairStands self.new x }
+            → (x : World) × Step w (meaning.At moment) (answer_of result) x × PairStands self.new x }
     {
-        self.clock = self.clock.max(moment);
-        self.a.end.on_moment(self.clock);
-        self.b.end.on_moment(self.clock);
-        Outcome::Done
+        let now = self.clock.max(moment);
+        let of_a = make_room(self.alloc, &mut self.a, now)?;
+        let of_b = make_room(self.alloc, &mut self.b, now)?;
+        self.clock = now;
+        tick(&mut self.a, &of_a, now);
+        tick(&mut self.b, &of_b, now);
+        Ok(Outcome::Done)
     }
 
     /// What an end draws from now on.
@@ -179,9 +190,12 @@ impl Pair {
     }
 
     /// An end's user gives up a message.
-    pub(crate) fn abandon(&mut self, side: Side, ticket: Ticket) -> Outcome
+    ///
+    /// # Errors
+    /// Memory ran out, and nothing changed.
+    pub(crate) fn abandon(&mut self, side: Side, ticket: Ticket) -> Result<Outcome, NoMemory>
         ensures { (w : World) → PairStands self.old w
-            → (x : World) × Step w (meaning.Abandon (side_meaning side) ticket.0) (Some (outcome_meaning result)) x × PairStands self.new x }
+            → (x : World) × Step w (meaning.Abandon (side_meaning side) ticket.0) (answer_of result) x × PairStands self.new x }
     {
         match side {
             Side::A => abandon_at(&mut self.a, ticket),
@@ -190,13 +204,17 @@ impl Pair {
     }
 
     /// An end's user takes the next message of a stream.
-    pub(crate) fn take(&mut self, side: Side, stream: u16) -> Outcome
+    ///
+    /// # Errors
+    /// Memory ran out, and nothing changed.
+    pub(crate) fn take(&mut self, side: Side, stream: u16) -> Result<Outcome, NoMemory>
         ensures { (w : World) → PairStands self.old w
-            → (x : World) × Step w (meaning.Take (side_meaning side) stream) (Some (outcome_meaning result)) x × PairStands self.new x }
+            → (x : World) × Step w (meaning.Take (side_meaning side) stream) (answer_of result) x × PairStands self.new x }
     {
+        let alloc = self.alloc;
         match side {
-            Side::A => take_at(&mut self.a, stream),
-            Side::B => take_at(&mut self.b, stream),
+            Side::A => take_at(alloc, &mut self.a, stream),
+            Side::B => take_at(alloc, &mut self.b, stream),
         }
     }
 

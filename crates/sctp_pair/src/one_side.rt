@@ -1,16 +1,20 @@
-//! One side of a pair: its end and its bag, and what becomes of an event at it.
+//! One side of a pair: its end, its bag and what is noted of its user, and what becomes of an event at it.
 
-ghost use Rattle.std.specs.Prelude.{◌≡◌, Some, Option};
+ghost use Rattle.std.specs.Prelude.{◌≡◌, [], Some, Option};
+ghost use Rattle.sctp_model.specs.end.EndView.{EndView};
 ghost use Rattle.sctp_model.specs.world.World as world;
-ghost use Rattle.sctp_model.specs.world.World.{World};
+ghost use Rattle.sctp_model.specs.world.World.{World, no_log};
 ghost use Rattle.sctp_model.specs.world.Events as meaning;
 ghost use Rattle.sctp_model.specs.world.Steps.{Step};
 ghost use Rattle.sctp_send.specs.SenderAnswers.{lane_for};
 ghost use Rattle.sctp_association.specs.CallAnswers.{call_of};
+ghost use Rattle.sctp_outcomes.specs.Kept.{HasNoLogs};
+ghost use Rattle.sctp_endpoint.specs.EndpointStands.{EndpointStands};
 ghost use Rattle.sctp_events.specs.Events.{refusal_meaning, outcome_meaning, answer_of};
 ghost use Rattle.sctp_pair.specs.Sides.{SideView, side_of, with_side, SideStands};
 
-use sctp_endpoint::{Endpoint, Refused};
+use crate::taken::{StreamLog, make_room_at, note_at};
+use sctp_endpoint::{Endpoint, Refused, Sent};
 use sctp_events::{Outcome, Refusal};
 use sctp_packet::written_packet_reads;
 use sctp_send::SendFault;
@@ -24,9 +28,40 @@ pub(crate) struct OneSide {
     pub(crate) end: Endpoint,
     /// Every packet that the end gave to the network, oldest first.
     pub(crate) bag: Vec<Vec<u8>>,
+    /// The tickets that took their numbers with each packet, by their first TSN.
+    pub(crate) numbered: Vec<Vec<Ticket>>,
+    /// The tickets of the messages that were abandoned, in the order in which they were.
+    pub(crate) abandoned: Vec<Ticket>,
+    /// What its user took from each stream, as far as it took from any.
+    pub(crate) taken: Vec<StreamLog>,
 }
 
-/// The end is asked for its next packet, which goes into its bag. The room for it is made first.
+#[tactic(auto, unfolding(crate::specs::Sides::SideStands))]
+impl OneSide {
+    /// A side of which nothing is noted. It takes no memory.
+    pub(crate) fn new(alloc: Global, end: Endpoint) -> OneSide
+        ensures { (v : EndView) → EndpointStands end v → HasNoLogs v → SideStands result (record { end = v; bag = []; log = no_log }) }
+    {
+        OneSide {
+            end,
+            bag: Vec::new(alloc),
+            numbered: Vec::new(alloc),
+            abandoned: Vec::new(alloc),
+            taken: Vec::new(alloc),
+        }
+    }
+
+    /// Puts another end, of which nothing is noted, in place of the one that is there. The bag stays, and what was abandoned.
+    pub(crate) fn put_in(&mut self, alloc: Global, end: Endpoint)
+        ensures { (v : SideView) (t : EndView) → SideStands self.old v → EndpointStands end t → HasNoLogs t → SideStands self.new (record v { end = t }) }
+    {
+        self.end = end;
+        self.numbered = Vec::new(alloc);
+        self.taken = Vec::new(alloc);
+    }
+}
+
+/// The end is asked for its next packet, which goes into its bag; the tickets that it numbers are noted. The room for both is made first.
 ///
 /// # Errors
 /// Memory ran out, and nothing changed.
@@ -38,11 +73,14 @@ pub(crate) fn build_at(side: &mut OneSide, clock: u64) -> Result<Outcome, NoMemo
     // It does nothing: its contract is the law by which what was written reads.
     written_packet_reads();
     side.bag.reserve(1).map_err(|_| NoMemory)?;
+    side.numbered.reserve(1).map_err(|_| NoMemory)?;
     match side.end.poll_transmit(clock)? {
         None => Ok(Outcome::Quiet),
         Some(sent) => {
-            let length = sent.packet.len();
-            side.bag.push_reserved(sent.packet);
+            let Sent { packet, tickets } = sent;
+            let length = packet.len();
+            side.bag.push_reserved(packet);
+            side.numbered.push_reserved(tickets);
             Ok(Outcome::Sent {
                 number: side.bag.len(),
                 length,
@@ -88,26 +126,25 @@ pub(crate) fn refused(refusal: Refusal) -> Result<Outcome, NoMemory>
     Ok(Outcome::Refused { refusal })
 }
 
-/// The end's user gives up a message.
+/// The end's user takes the next message of a stream; that is noted. The room for the note is made first, where a message waits.
+///
+/// # Errors
+/// Memory ran out, and nothing changed.
 #[tactic(auto, unfolding(crate::specs::Sides::SideStands))]
-pub(crate) fn abandon_at(side: &mut OneSide, ticket: Ticket) -> Outcome
+pub(crate) fn take_at(alloc: Global, side: &mut OneSide, stream: u16) -> Result<Outcome, NoMemory>
     ensures { (w : World) (s : world.Side) → SideStands side.old (side_of w s)
-        → (h : SideView) × Step w (meaning.Abandon s ticket.0) (Some (outcome_meaning result)) (with_side w s h) × SideStands side.new h }
+        → (h : SideView) × Step w (meaning.Take s stream) (answer_of result) (with_side w s h) × SideStands side.new h }
 {
-    Outcome::Fate {
-        fate: side.end.abandon(ticket),
-    }
-}
-
-/// The end's user takes the next message of a stream.
-#[tactic(auto, unfolding(crate::specs::Sides::SideStands))]
-pub(crate) fn take_at(side: &mut OneSide, stream: u16) -> Outcome
-    ensures { (w : World) (s : world.Side) → SideStands side.old (side_of w s)
-        → (h : SideView) × Step w (meaning.Take s stream) (Some (outcome_meaning result)) (with_side w s h) × SideStands side.new h }
-{
+    let Some(_) = side.end.waiting(stream, 0) else {
+        return Ok(Outcome::Empty);
+    };
+    make_room_at(alloc, &mut side.taken, stream)?;
     match side.end.take(stream) {
-        None => Outcome::Empty,
-        Some(message) => Outcome::Message { message },
+        None => Ok(Outcome::Empty),
+        Some(message) => {
+            note_at(&mut side.taken, stream, &message);
+            Ok(Outcome::Message { message })
+        }
     }
 }
 

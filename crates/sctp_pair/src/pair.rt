@@ -1,6 +1,6 @@
 //! Two ends, and the packets between them.
 
-ghost use Rattle.std.specs.Prelude.{◌≡◌, None, MatchOption};
+ghost use Rattle.std.specs.Prelude.{◌≡◌, None, MatchOption, IfOk};
 ghost use Rattle.sctp_model.specs.numbers.Lists.{item_at};
 ghost use Rattle.sctp_model.specs.end.Sealing.{Sealing};
 ghost use Rattle.sctp_model.specs.world.World.{World, start, end_of, bag_of};
@@ -8,6 +8,7 @@ ghost use Rattle.sctp_model.specs.world.Events as meaning;
 ghost use Rattle.sctp_model.specs.world.Steps.{Step, last_of};
 ghost use Rattle.sctp_cookie.specs.Seals.{IsUnder};
 ghost use Rattle.sctp_endpoint.specs.EndpointStands.{EndpointStands};
+ghost use Rattle.sctp_script.specs.ReportText.{report};
 ghost use Rattle.sctp_events.specs.Setups.{setup_of};
 ghost use Rattle.sctp_events.specs.Events.{side_meaning, answer_of};
 ghost use Rattle.sctp_pair.specs.Happens.{Means};
@@ -17,15 +18,17 @@ ghost use Rattle.sctp_pair.specs.PairRuns.{Course, one_event, RunLeaves, Promise
 
 use crate::arrivals::packet_at;
 use crate::one_side::OneSide;
+use crate::reporting::put_side;
 use sctp_cookie::Key;
 use sctp_endpoint::Endpoint;
 use sctp_events::{Event, Outcome, PairConfig, Side};
+use sctp_outcomes::new_ends_have_no_logs;
 use sctp_safety::{a_run_passes_its_worlds, each_world_on_the_way_is_safe};
 use sctp_terms::Draw;
 use sctp_values::NoMemory;
 use std::alloc::Global;
 
-/// Two ends, the packets that either ever gave to the network, the clock, the draw for packets that come, and whether both may still be
+/// Two ends, the packets that either ever gave to the network, what is noted of their users, the clock, the draw for packets that come, and whether both may still be
 /// opened without packets: neither has called, nor did anything come to one.
 #[derive(Drop)]
 pub struct Pair {
@@ -43,19 +46,15 @@ impl Pair {
     pub fn new(alloc: Global, config: PairConfig, key: Key) -> Pair
         ensures { (s : Sealing) → IsUnder key s → PairStands result (start (setup_of config s)) }
     {
+        // It does nothing: its contract is the law that nothing is noted of a new end.
+        new_ends_have_no_logs();
         let Some(draw) = Draw::new(1, 1) else {
             unreachable!()
         };
         Pair {
             alloc,
-            a: OneSide {
-                end: Endpoint::caller(alloc, config.caller()),
-                bag: Vec::new(alloc),
-            },
-            b: OneSide {
-                end: Endpoint::listener(alloc, config.listener(), key),
-                bag: Vec::new(alloc),
-            },
+            a: OneSide::new(alloc, Endpoint::caller(alloc, config.caller())),
+            b: OneSide::new(alloc, Endpoint::listener(alloc, config.listener(), key)),
             clock: 0,
             draw,
             openable: true,
@@ -63,8 +62,11 @@ impl Pair {
     }
 
     /// Something happens. Whatever it is, the pair goes on as two ends and the network between them may: in both directions each stream hands
-    /// over what the peer sent, whole, at most once, and in order; and what an end has completed lacks nothing. That is promised of every
-    /// world on the way, wherever chance draws no tag twice and no stranger knows a tag or the listener's key.
+    /// over what the peer sent, whole, at most once, and in order; and what an end has completed lacks nothing.
+    ///
+    /// That is promised of every world on the way, as long as no stranger's packet carries a tag that was drawn, asks for one in an INIT, or
+    /// holds a COOKIE ECHO of a cookie that the listener's key seals: that these are the contract's premises is the law
+    /// [`premises_are_the_keys`](crate::premises_are_the_keys).
     ///
     /// # Errors
     /// Memory ran out. A packet that came is then cut before some chunk; any other event changed nothing.
@@ -78,7 +80,7 @@ impl Pair {
         each_world_on_the_way_is_safe();
         match event {
             Event::Open { a, b } => self.open(*a, *b),
-            Event::At { moment } => Ok(self.pass_time(*moment)),
+            Event::At { moment } => self.pass_time(*moment),
             Event::Drawing { draw } => Ok(self.set_draw(*draw)),
             Event::Connect { draw } => Ok(self.connect(*draw)),
             Event::Build { side } => self.build(*side),
@@ -92,14 +94,15 @@ impl Pair {
                 bytes,
                 until,
             } => self.send(*side, *stream, *ordered, *payload_id, bytes, *until),
-            Event::Abandon { side, ticket } => Ok(self.abandon(*side, *ticket)),
-            Event::Take { side, stream } => Ok(self.take(*side, *stream)),
+            Event::Abandon { side, ticket } => self.abandon(*side, *ticket),
+            Event::Take { side, stream } => self.take(*side, *stream),
             Event::Shutdown { side } => Ok(self.shutdown(*side)),
             Event::Abort { side, reason } => self.abort(*side, reason),
         }
     }
 
-    /// Events happen in turn, each as `step` says.
+    /// Events happen in turn, each as `step` says. What it promises is promised of each world on the way, as long as the strangers among all of
+    /// them keep to its premises, which [`premises_are_the_keys`](crate::premises_are_the_keys) says in the words of the listener's key.
     ///
     /// # Errors
     /// At the first one for which memory ran out, as `step` says; those before it happened.
@@ -116,6 +119,22 @@ impl Pair {
             outcomes.push_reserved(outcome);
         }
         Ok(outcomes)
+    }
+
+    /// What became of both users' messages, line by line: for A and then for B where the end stands, the tickets of the messages that were numbered,
+    /// by their first TSN, of those that were abandoned, as they were, and for each stream what was handed over, taken or not: the numbers of the
+    /// ordered messages, in their order, and how many unordered ones. Lines that would name nothing are left out.
+    ///
+    /// # Errors
+    /// Memory ran out.
+    #[tactic(auto, unfolding(crate::specs::PairStands::PairStands))]
+    pub fn report(&self) -> Result<Vec<u8>, NoMemory>
+        ensures { (w : World) → PairStands self.now w → IfOk result (λ text. text.items ≡ report w) }
+    {
+        let mut text = Vec::new(self.alloc);
+        put_side(self.alloc, Side::A, &self.a, &mut text)?;
+        put_side(self.alloc, Side::B, &self.b, &mut text)?;
+        Ok(text)
     }
 
     /// An end of the pair.

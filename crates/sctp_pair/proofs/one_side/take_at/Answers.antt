@@ -1,16 +1,58 @@
+use Rattle.std.proofs.Common.{None, Some, refl}
+use Rattle.std.proofs.lemmas.Result.{err_from_is_err_and}
 use Rattle.sctp_model.specs.world.World.{end_of, bag_of, log_of}
-use Rattle.sctp_pair.specs.Sides.{SideStands}
-use Rattle.sctp_pair.proofs.StepLemmas.{side, takes}
+use Rattle.sctp_model.specs.world.Events as meaning
+use Rattle.sctp_model.specs.world.Steps as steps
+use Rattle.sctp_recv.specs.HandedOf.{handed_of}
+use Rattle.sctp_outcomes.proofs.logs.Called.{take_takes_one}
+use Rattle.sctp_pair.specs.Noted.{AreNoted}
+use Rattle.sctp_pair.specs.Sides.{side_of, SideStands}
+use Rattle.sctp_pair.proofs.NotesLemmas.{notes_kept, notes_taken}
+use Rattle.sctp_pair.proofs.StepLemmas.{side, takes, no_memory}
+use Rattle.sctp_pair.proofs.TakeLemmas.{nothing_taken}
 use Rattle.sctp_pair.proofs.one_side.take_at.Goals as goal
+
+pub returns-in_default : goal.returns-in_default
+unfolding SideStands
+returns-in_default c = λ w s stands.
+    let v = end_of w s in
+    let none = nothing_taken v c.args.stream (c.in_default.ensures v stands.end) in
+    (side v (bag_of w s) (log_of w s), takes w s c.args.stream None v none, stands)
+
+pub returns-in_err-make_room_at : goal.returns-in_err-make_room_at
+unfolding SideStands
+returns-in_err-make_room_at c = λ w s stands.
+    let e = meaning.Take s c.args.stream in
+    let p = err_from_is_err_and c.from_residual.result c.from_residual.ensures.1 in
+    let taken = c.make_room_at.ensures.same (end_of w s).receiver.taken stands.notes.taken in (
+      side_of w s,
+      rw p.1 (no_memory w e s (steps.NoMemory e refl)),
+      record { end = stands.end; sound = stands.sound; bag = stands.bag; notes = record { numbers = stands.notes.numbers; order = stands.notes.order; taken = taken } },
+    )
 
 pub returns-in-None : goal.returns-in-None
 unfolding SideStands
 returns-in-None c = λ w s stands.
-    let got = c.in-None.ensures (end_of w s) stands.end in
-    (side got.0 (bag_of w s) (log_of w s), takes w s c.args.stream _ got.0 got.1, record { end = got.2; bag = stands.bag })
+    let v = end_of w s in
+    let got = c.in-None.ensures v stands.end in
+    let keeps = take_takes_one v c.args.stream None got.0 stands.sound got.1 in
+    let taken = c.make_room_at.ensures.same v.receiver.taken stands.notes.taken in
+    let notes : AreNoted c.args.side.now.numbered.items c.args.side.now.abandoned.items c.make_room_at.new.logs.items v (log_of w s) =
+    record { numbers = stands.notes.numbers; order = stands.notes.order; taken = taken } in (
+      side got.0 (bag_of w s) (log_of w s),
+      takes w s c.args.stream None got.0 got.1,
+      record { end = got.2; sound = keeps.sound; bag = stands.bag; notes = notes_kept _ _ _ v got.0 (log_of w s) notes keeps },
+    )
 
-pub returns-in-Some : goal.returns-in-Some
+pub returns-in-Some-take : goal.returns-in-Some-take
 unfolding SideStands
-returns-in-Some c = λ w s stands.
-    let got = c.in-Some.ensures (end_of w s) stands.end in
-    (side got.0 (bag_of w s) (log_of w s), takes w s c.args.stream _ got.0 got.1, record { end = got.2; bag = stands.bag })
+returns-in-Some-take c = λ w s stands.
+    let v = end_of w s in
+    let h = handed_of c.in-Some-take.message in
+    let got = c.in-Some-take.ensures v stands.end in
+    let adds = take_takes_one v c.args.stream (Some h) got.0 stands.sound got.1 in
+    let taken = c.note_at.ensures v.receiver.taken (c.make_room_at.ensures.same v.receiver.taken stands.notes.taken) in (
+      side got.0 (bag_of w s) (log_of w s),
+      takes w s c.args.stream (Some h) got.0 got.1,
+      record { end = got.2; sound = adds.sound; bag = stands.bag; notes = notes_taken _ _ _ v got.0 (log_of w s) c.note_at.new.logs.items c.args.stream h taken stands.notes adds },
+    )

@@ -4,6 +4,7 @@ use Rattle.sctp_model.specs.world.Events as meaning
 use Rattle.sctp_model.specs.world.Steps as steps
 use Rattle.sctp_pair.specs.Sides.{left, SideStands}
 use Rattle.sctp_pair.specs.PairStands.{PairStands}
+use Rattle.sctp_pair.proofs.ClockLemmas.{on_time}
 use Rattle.sctp_pair.proofs.pair.Pair.deliver.Goals as goal
 
 pub returns-in_default : goal.returns-in_default
@@ -24,7 +25,7 @@ returns-in-Some c = λ w stands.
     let n = c.args.number in
     let item = c.in-Some.ensures (bag_of w A) (rw c.deref.ensures.value stands.a.bag) in
     let done = c.arrive.ensures w B (meaning.Deliver A n) (Some item.packet) stands.b (steps.FromBag A n item.packet item.here) item.reads stands.clock stands.draw in
-    rw c.in-A.is (left w B done.0, done.1, record { a = stands.a; b = done.2; clock = stands.clock; draw = stands.draw; openable = refl })
+    rw c.in-A.is (left w B done.0, done.1, record { a = stands.a; b = done.2; clock = stands.clock; draw = stands.draw; openable = refl; on_time = on_time w _ _ _ stands.on_time done.1 })
 
 pub returns-in-Some-packet_at : goal.returns-in-Some-packet_at
 unfolding PairStands SideStands
@@ -32,4 +33,4 @@ returns-in-Some-packet_at c = λ w stands.
     let n = c.args.number in
     let item = c.in-Some-packet_at.ensures (bag_of w B) (rw c.deref-in-B.ensures.value stands.b.bag) in
     let done = c.arrive-in-B.ensures w A (meaning.Deliver B n) (Some item.packet) stands.a (steps.FromBag B n item.packet item.here) item.reads stands.clock stands.draw in
-    rw c.in-B.is (left w A done.0, done.1, record { a = done.2; b = stands.b; clock = stands.clock; draw = stands.draw; openable = refl })
+    rw c.in-B.is (left w A done.0, done.1, record { a = done.2; b = stands.b; clock = stands.clock; draw = stands.draw; openable = refl; on_time = on_time w _ _ _ stands.on_time done.1 })

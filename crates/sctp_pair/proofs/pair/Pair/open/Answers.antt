@@ -6,7 +6,9 @@ use Rattle.sctp_model.specs.end.Opening.{opened}
 use Rattle.sctp_model.specs.world.Events as meaning
 use Rattle.sctp_model.specs.world.Steps as steps
 use Rattle.sctp_endpoint.specs.EndpointStands.{EndpointStands}
-use Rattle.sctp_pair.specs.Sides.{SideStands}
+use Rattle.sctp_pair.specs.Sides.{side_of, SideStands}
+use Rattle.sctp_model.specs.world.World.{A, B}
+use Rattle.sctp_pair.proofs.ClockLemmas.{on_time}
 use Rattle.sctp_pair.specs.PairStands.{PairStands}
 use Rattle.sctp_pair.proofs.pair.Pair.open.Goals as goal
 
@@ -35,14 +37,17 @@ returns c = λ w stands.
     let y = c.args.b in
     let on : c.args.self.now.openable ≡ true = grind (arith, common_steps) in
     let a = subst (λ (k : Configuration). EndpointStands c.in_ok-at_a.at_a (opened k x y)) (c.config.ensures w.a stands.a.end) c.in_ok-at_a.ensures in
-    let b = subst (λ (k : Configuration). EndpointStands c.in_ok-at_b.at_b (opened k y x)) (c.config-2.ensures w.b stands.b.end) c.in_ok-at_b.ensures in (
+    let b = subst (λ (k : Configuration). EndpointStands c.in_ok-at_b.at_b (opened k y x)) (c.config-2.ensures w.b stands.b.end) c.in_ok-at_b.ensures in
+    let new = c.new_ends_have_no_logs.ensures.opened in
+    let step = steps.OpensBoth x y (stands.openable ∙ on) c.tag.ensures.drawn c.tag-2.ensures.drawn in (
       record w { a = opened w.a.configuration x y; b = opened w.b.configuration y x; openable = false },
-      steps.OpensBoth x y (stands.openable ∙ on) c.tag.ensures.drawn c.tag-2.ensures.drawn,
+      step,
       record {
-        a = record { end = a; bag = stands.a.bag };
-        b = record { end = b; bag = stands.b.bag };
+        a = c.put_in.ensures (side_of w A) (opened w.a.configuration x y) stands.a a (new w.a.configuration x y);
+        b = c.put_in-2.ensures (side_of w B) (opened w.b.configuration y x) stands.b b (new w.b.configuration y x);
         clock = stands.clock;
         draw = stands.draw;
         openable = refl;
+        on_time = on_time w _ _ _ stands.on_time step;
       },
     )

@@ -1,17 +1,41 @@
-use Rattle.std.proofs.Common.{◌≡◌, max, refl, arith}
+use Rattle.std.proofs.Common.{◌≡◌, ◌≤◌, max, refl, arith}
 use Rattle.std.proofs.lemmas.Grind.{common_steps}
-use Rattle.sctp_pair.specs.Sides.{SideStands}
+use Rattle.std.proofs.lemmas.Result.{err_from_is_err_and}
+use Rattle.sctp_model.specs.world.World.{A, B}
+use Rattle.sctp_model.specs.world.Events as meaning
+use Rattle.sctp_model.specs.world.Steps as steps
+use Rattle.sctp_pair.specs.Sides.{side_of}
 use Rattle.sctp_pair.specs.PairStands.{PairStands}
+use Rattle.sctp_pair.proofs.ClockLemmas.{on_time}
 use Rattle.sctp_pair.proofs.TimeLemmas.{at_time, time_passes}
 use Rattle.sctp_pair.proofs.pair.Pair.pass_time.Goals as goal
 
+pub returns-in_err-of_a : goal.returns-in_err-of_a
+unfolding PairStands
+returns-in_err-of_a c = λ w stands.
+    let p = err_from_is_err_and c.from_residual.result c.from_residual.ensures.1 in
+    let a = c.make_room.ensures.same (side_of w A) stands.a in
+    (w, rw p.1 (steps.NoMemory (meaning.At c.args.moment) refl), record { a = a; b = stands.b; clock = stands.clock; draw = stands.draw; openable = stands.openable; on_time = stands.on_time })
+
+pub returns-in_err-of_b : goal.returns-in_err-of_b
+unfolding PairStands
+returns-in_err-of_b c = λ w stands.
+    let p = err_from_is_err_and c.from_residual-in_err-of_b.result c.from_residual-in_err-of_b.ensures.1 in
+    let a = c.make_room.ensures.same (side_of w A) stands.a in
+    let b = c.make_room-2.ensures.same (side_of w B) stands.b in
+    (w, rw p.1 (steps.NoMemory (meaning.At c.args.moment) refl), record { a = a; b = b; clock = stands.clock; draw = stands.draw; openable = stands.openable; on_time = stands.on_time })
+
 pub returns : goal.returns
-unfolding PairStands SideStands
+unfolding PairStands
 returns c = λ w stands.
-    let n = c.max-self.result in
+    let n = c.max-now.result in
     let m = c.args.moment in
     let clock : max c.args.self.now.clock m ≡ n = grind (arith, common_steps) in
     let is : max w.clock m ≡ n = rw stands.clock clock in
-    let a = c.on_moment.ensures w.a stands.a.end in
-    let b = c.on_moment-2.ensures w.b stands.b.end in
-    (at_time w n, time_passes w m n (omega (arith, c.ranges.moment.fits)) is, record { a = record { end = a; bag = stands.a.bag }; b = record { end = b; bag = stands.b.bag }; clock = refl; draw = stands.draw; openable = stands.openable })
+    let late : w.clock ≤ n = omega (arith, is) in
+    let of_a : w.a.moment ≤ n = let t = stands.on_time A in omega (arith, t, late) in
+    let of_b : w.b.moment ≤ n = let t = stands.on_time B in omega (arith, t, late) in
+    let a = c.tick.ensures (side_of w A) (c.make_room.ensures.same (side_of w A) stands.a) (rw c.deref.ensures.value (c.in_ok-of_a.ensures.watched (side_of w A) stands.a of_a)) in
+    let b = c.tick-2.ensures (side_of w B) (c.make_room-2.ensures.same (side_of w B) stands.b) (rw c.deref-2.ensures.value (c.in_ok-of_b.ensures.watched (side_of w B) stands.b of_b)) in
+    let step = time_passes w m n (omega (arith, c.ranges.moment.fits)) is in
+    (at_time w n, step, record { a = a; b = b; clock = refl; draw = stands.draw; openable = stands.openable; on_time = on_time w _ _ _ stands.on_time step })

@@ -1,0 +1,18 @@
+use Rattle.std.proofs.Common.{◌≡◌, false, arith}
+use Rattle.std.proofs.lemmas.Grind.{common_steps}
+use Rattle.sctp_model.specs.sender.Abandoning.{has_late}
+use Rattle.sctp_model.specs.end.Moments.{ticked}
+use Rattle.sctp_pair.specs.Sides.{SideStands}
+use Rattle.sctp_pair.proofs.AbandonedLemmas.{nothing_given, watched_is}
+use Rattle.sctp_pair.proofs.moments.make_room.Goals as goal
+
+pub returns-then-not-has_late-clause-watched : goal.returns-then-not-has_late-clause-watched
+unfolding SideStands
+returns-then-not-has_late-clause-watched c = λ v stands reached.
+    let told = c.has_late.ensures v.end stands.end in
+    let off : has_late v.end.sender c.args.now ≡ false = grind (arith, common_steps) in
+    rw c.new.ensures.items (nothing_given v.end c.args.now (ticked v.end c.args.now).sender.tickets reached off)
+
+pub returns-clause-watched : goal.returns-clause-watched
+unfolding SideStands
+returns-clause-watched c = λ v stands reached. watched_is v.end c.args.now c.in_ok-before.before.items stands.sound (c.in_ok-before.ensures v.end stands.end)

@@ -1,0 +1,12 @@
+use Rattle.sctp_pair.specs.Sides.{SideStands}
+use Rattle.sctp_pair.proofs.NotesLemmas.{notes_none}
+use Rattle.sctp_pair.proofs.one_side.OneSide.put_in.Goals as goal
+
+pub returns : goal.returns
+unfolding SideStands
+returns c = λ v t stands end none. record {
+  end = end;
+  sound = none.sound;
+  bag = stands.bag;
+  notes = rw (c.new.ensures.items, c.new-2.ensures.items) (notes_none c.args.self.now.abandoned.items t v.log stands.notes.order none);
+}

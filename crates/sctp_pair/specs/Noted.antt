@@ -1,0 +1,37 @@
+-- What a pair notes of a user beside the packets: the tickets that were numbered, those that were abandoned, and the messages taken.
+use Rattle.std.specs.Prelude.{◌≡◌, ℕ, not, List, map, filter}
+use Rattle.std.specs.declared.vec.Vec.{Vec}
+use Rattle.std.specs.declared.alloc.Global.{Global}
+use Rattle.sctp_model.specs.numbers.Lists.{joined}
+use Rattle.sctp_model.specs.sender.SenderView.{SenderView}
+use Rattle.sctp_model.specs.sender.Words.{count_up}
+use Rattle.sctp_model.specs.sender.Readers.{abandoned}
+use Rattle.sctp_model.specs.end.EndView.{EndView}
+use Rattle.sctp_model.specs.end.Moments.{ticked}
+use Rattle.sctp_model.specs.world.World.{Log, newly_abandoned}
+use Rattle.sctp_outcomes.specs.Kept.{numbered}
+use Rattle.sctp_script.specs.ReportText.{ticket_number}
+use Rattle.sctp_values.specs.declared.ticket.Ticket.{Ticket}
+use Rattle.sctp_pair.specs.Taken.{AreLogged}
+use Rattle.sctp_pair.specs.declared.taken.StreamLog.{StreamLog}
+
+-- the tickets numbered with each packet, one packet's behind another's
+abbrev pub tickets_noted : List (Vec Ticket Global) → List ℕ
+tickets_noted packets = joined (map (λ tickets. map ticket_number tickets.items) packets)
+
+-- These lists say of an end and of its user's log what the world does.
+pub record AreNoted (packets : List (Vec Ticket Global)) (gone : List Ticket) (logs : List StreamLog) (e : EndView) (l : Log) : Type 0 where
+  pub numbers : tickets_noted packets ≡ numbered e
+  pub order : map ticket_number gone ≡ l.order
+  pub taken : AreLogged logs e.receiver.taken
+
+-- ---- what a moment abandons
+
+-- the tickets that aren't abandoned, rising
+abbrev pub held_tickets : SenderView → List ℕ
+held_tickets v = filter (λ k. not (abandoned v k)) (count_up 1 v.tickets)
+
+-- All that the moment abandons is among these tickets, in its order, and of these nothing else is abandoned after it.
+abbrev pub IsWatched : EndView → (now : ℕ) → List Ticket → Type 0
+IsWatched e now tickets =
+    newly_abandoned e.sender (ticked e now).sender (ticked e now).sender.tickets ≡ filter (λ k. abandoned (ticked e now).sender k) (map ticket_number tickets)

@@ -1,0 +1,103 @@
+//! What a moment, or a call of `abandon`, makes of an end, and the note of what it abandons.
+
+ghost use Rattle.std.specs.Prelude.{◌≡◌, ◌+◌, ◌≤◌, ◌++◌, length, map, filter, vec_capacity, IfOk};
+ghost use Rattle.sctp_model.specs.sender.Readers.{abandoned};
+ghost use Rattle.sctp_model.specs.end.EndView.{EndView};
+ghost use Rattle.sctp_model.specs.world.World as world;
+ghost use Rattle.sctp_model.specs.world.World.{World};
+ghost use Rattle.sctp_model.specs.world.Events as meaning;
+ghost use Rattle.sctp_model.specs.world.Steps.{Step};
+ghost use Rattle.sctp_endpoint.specs.EndpointStands.{EndpointStands};
+ghost use Rattle.sctp_events.specs.Events.{answer_of};
+ghost use Rattle.sctp_script.specs.ReportText.{ticket_number};
+ghost use Rattle.sctp_pair.specs.Noted.{held_tickets, IsWatched};
+ghost use Rattle.sctp_pair.specs.Sides.{SideView, side_of, with_side, ticked_side, SideStands};
+
+use crate::one_side::OneSide;
+use sctp_endpoint::Endpoint;
+use sctp_events::Outcome;
+use sctp_values::{NoMemory, Ticket};
+use std::alloc::Global;
+
+/// Makes room for the note of what a moment abandons, and answers the tickets to look at again after it: none where no message is late, so
+/// that then no ticket is looked at.
+///
+/// # Errors
+/// Memory ran out, and nothing changed.
+#[tactic(auto, unfolding(crate::specs::Sides::SideStands))]
+pub(crate) fn make_room(
+    alloc: Global,
+    side: &mut OneSide,
+    now: u64,
+) -> Result<Vec<Ticket>, NoMemory>
+    ensures same { (v : SideView) → SideStands side.old v → SideStands side.new v }
+    ensures watched { (v : SideView) → SideStands side.old v → v.end.moment ≤ now → IfOk result (λ before. IsWatched v.end now before.items) }
+    ensures room { IfOk result (λ before. length side.new.abandoned.items + length before.items ≤ vec_capacity side.new.abandoned) }
+{
+    if !side.end.has_late(now) {
+        return Ok(Vec::new(alloc));
+    }
+    let before = held(alloc, &side.end)?;
+    side.abandoned.reserve(before.len()).map_err(|_| NoMemory)?;
+    Ok(before)
+}
+
+/// The tickets that aren't abandoned, rising.
+///
+/// # Errors
+/// Memory ran out.
+fn held(alloc: Global, end: &Endpoint) -> Result<Vec<Ticket>, NoMemory>
+    ensures { (v : EndView) → EndpointStands end.now v → IfOk result (λ before. map ticket_number before.items ≡ held_tickets v.sender) }
+{
+    let mut before = Vec::new(alloc);
+    for number in 0..end.tickets() {
+        let ticket = Ticket(number + 1);
+        if !end.abandoned(ticket) {
+            before.push(ticket).map_err(|_| NoMemory)?;
+        }
+    }
+    Ok(before)
+}
+
+/// A moment comes to the end; what it abandons is noted, for which there is room.
+#[tactic(auto, unfolding(crate::specs::Sides::SideStands))]
+pub(crate) fn tick(side: &mut OneSide, before: &[Ticket], now: u64)
+    requires { length side.old.abandoned.items + length before.now ≤ vec_capacity side.old.abandoned }
+    ensures { (v : SideView) → SideStands side.old v → IsWatched v.end now before.now → SideStands side.new (ticked_side v now) }
+{
+    side.end.on_moment(now);
+    note(&side.end, &mut side.abandoned, before);
+}
+
+/// Notes which of these tickets are abandoned now; there is room for all of them.
+fn note(end: &Endpoint, log: &mut Vec<Ticket>, before: &[Ticket])
+    requires { length log.old.items + length before.now ≤ vec_capacity log.old }
+    ensures { (v : EndView) → EndpointStands end.now v
+        → map ticket_number log.new.items ≡ map ticket_number log.old.items ++ filter (λ k. abandoned v.sender k) (map ticket_number before.now) }
+{
+    for ticket in before {
+        if end.abandoned(*ticket) {
+            log.push_reserved(*ticket);
+        }
+    }
+}
+
+/// The end's user gives up a message; where that abandons it, it is noted. The room for the note is made first.
+///
+/// # Errors
+/// Memory ran out, and nothing changed.
+#[tactic(auto, unfolding(crate::specs::Sides::SideStands))]
+pub(crate) fn abandon_at(side: &mut OneSide, ticket: Ticket) -> Result<Outcome, NoMemory>
+    ensures { (w : World) (s : world.Side) → SideStands side.old (side_of w s)
+        → (h : SideView) × Step w (meaning.Abandon s ticket.0) (answer_of result) (with_side w s h) × SideStands side.new h }
+{
+    if side.end.abandoned(ticket) {
+        return Ok(Outcome::Fate {
+            fate: side.end.abandon(ticket),
+        });
+    }
+    side.abandoned.reserve(1).map_err(|_| NoMemory)?;
+    let fate = side.end.abandon(ticket);
+    note(&side.end, &mut side.abandoned, &[ticket]);
+    Ok(Outcome::Fate { fate })
+}
