@@ -11,3 +11,4 @@ pub mod RoomLemmas
 pub mod PutLemmas
 pub mod BuildLemmas
 pub mod AbortLemmas
+mod BareLemmas

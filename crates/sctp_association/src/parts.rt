@@ -1,9 +1,10 @@
 //! What an end asks of its traffic, and does to it, in every state: before an association nothing was sent, and nothing came. Everything above
 //! goes by these calls, and doesn't know where an end stands in its life.
 
-ghost use Rattle.std.specs.Prelude.{◌≡◌, option_map, false};
+ghost use Rattle.std.specs.Prelude.{◌≡◌, ◌≤◌, option_map, false};
+ghost use Rattle.sctp_model.specs.numbers.Limits.{WINDOW};
 ghost use Rattle.sctp_model.specs.receiver.ReceiverView.{held_bytes};
-ghost use Rattle.sctp_model.specs.sender.Readers.{point, unsettled, drained, acknowledged, abandoned};
+ghost use Rattle.sctp_model.specs.sender.Readers.{point, unsettled, drained, outstanding, acknowledged, abandoned};
 ghost use Rattle.sctp_model.specs.sender.Abandoning.{expired, timed_out, abandon_answer, abandon_after};
 ghost use Rattle.sctp_model.specs.end.EndView.{EndView, has_association};
 ghost use Rattle.sctp_model.specs.end.Clock.{is_point_past};
@@ -100,9 +101,22 @@ impl Machine {
         }
     }
 
-    /// The bytes of all data that came and wasn't taken yet.
+    /// The indexes above the acknowledged one, and the messages in part. There are never more than 32,767, so that the peer can tell each TSN that it
+    /// doesn't know yet (RFC 9260, 1.6).
+    pub fn outstanding(&self) -> u32
+        ensures count { (v : EndView) → MachineStands self.now v → result ≡ outstanding v.sender }
+        ensures bound { (v : EndView) → MachineStands self.now v → outstanding v.sender ≤ WINDOW }
+    {
+        match &self.life {
+            Life::Unjoined(_) => 0,
+            Life::Joined(association) => association.traffic.outstanding(),
+        }
+    }
+
+    /// The bytes of all data that came and wasn't taken yet: never more than the receive buffer has.
     pub fn held_bytes(&self) -> u32
-        ensures { (v : EndView) → MachineStands self.now v → result ≡ held_bytes v.receiver }
+        ensures held { (v : EndView) → MachineStands self.now v → result ≡ held_bytes v.receiver }
+        ensures bound { (v : EndView) → MachineStands self.now v → result ≤ v.receiver.buffer }
     {
         match &self.life {
             Life::Unjoined(_) => 0,

@@ -6,6 +6,7 @@ ghost use Rattle.sctp_model.specs.sender.Abandoning.{has_late};
 ghost use Rattle.sctp_model.specs.end.EndView.{EndView, InStage, state_of, ended_of};
 ghost use Rattle.sctp_terms.specs.Meanings.{end_meaning, state_meaning};
 ghost use Rattle.sctp_recv.specs.HandedOf.{handed_of};
+ghost use Rattle.sctp_outcomes.specs.Kept.{IsBare};
 ghost use Rattle.sctp_association.specs.StageMeans.{stage_meaning};
 ghost use Rattle.sctp_association.specs.PhaseMeans.{phase_in, phase_unjoined};
 ghost use Rattle.sctp_association.specs.MachineStands.{MachineStands};
@@ -84,6 +85,11 @@ impl Machine {
             Life::Joined(association) => association.terms.partial,
         }
     }
+
+    /// Before an association nothing stands in sender and receiver: they are as they are made. It does nothing, and has this as its contract.
+    pub fn bare(&self)
+        ensures { (v : EndView) → MachineStands self.now v → IsBare v }
+    {}
 
     /// How many tickets were given.
     pub fn tickets(&self) -> u32

@@ -1,10 +1,11 @@
 //! What an association's traffic does as a sender, in either format (RFC 9260, 6; RFC 3758, 3.5; RFC 8260, 2.2).
 
-ghost use Rattle.std.specs.Prelude.{◌≡◌, ◌<◌, nat_lt, false};
+ghost use Rattle.std.specs.Prelude.{◌≡◌, ◌<◌, ◌≤◌, nat_lt, false};
+ghost use Rattle.sctp_model.specs.numbers.Limits.{WINDOW};
 ghost use Rattle.sctp_model.specs.messages.Format.{Format};
 ghost use Rattle.sctp_model.specs.sender.SenderView.{SenderView};
 ghost use Rattle.sctp_model.specs.receiver.ReceiverView.{ReceiverView};
-ghost use Rattle.sctp_model.specs.sender.Readers.{drained, unsettled, point, acknowledged, abandoned};
+ghost use Rattle.sctp_model.specs.sender.Readers.{drained, unsettled, point, outstanding, acknowledged, abandoned};
 ghost use Rattle.sctp_model.specs.sender.SackTaken.{sack_fault, sack_after, shutdown_fault, shutdown_after};
 ghost use Rattle.sctp_model.specs.sender.Abandoning.{has_late, expired, timed_out, abandon_answer, abandon_after};
 ghost use Rattle.sctp_model.specs.end.Clock.{is_point_past};
@@ -63,6 +64,17 @@ impl Traffic {
         match self {
             Traffic::Plain(directions) => directions.sender.drained(),
             Traffic::Interleaved(directions) => directions.sender.drained(),
+        }
+    }
+
+    /// The indexes above the acknowledged one, and the messages in part: at most 32,767.
+    pub fn outstanding(&self) -> u32
+        ensures count { (f : Format) (s : SenderView) (r : ReceiverView) → TrafficStands self.now f s r → result ≡ outstanding s }
+        ensures bound { (f : Format) (s : SenderView) (r : ReceiverView) → TrafficStands self.now f s r → result ≤ WINDOW }
+    {
+        match self {
+            Traffic::Plain(directions) => directions.sender.outstanding(),
+            Traffic::Interleaved(directions) => directions.sender.outstanding(),
         }
     }
 

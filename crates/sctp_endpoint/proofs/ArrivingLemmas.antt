@@ -1,5 +1,5 @@
 -- A packet whose chunks acted, all of them or those before the one that wanted memory: what its end received.
-use Rattle.std.proofs.Common.{◌≡◌, ℕ, ◌⊎◌, inl, inr, Bool, true, false, List, [], ◌∷◌, ◌++◌, drop, Option, Some, None, refl, sym, subst, ap, ◌∙◌}
+use Rattle.std.proofs.Common.{◌≡◌, ℕ, inl, inr, Bool, true, false, List, [], ◌∷◌, ◌++◌, drop, Some, None, refl, sym, subst, ◌∙◌}
 use Rattle.std.specs.Prelude.{Result, Ok, Err, if◌then◌else◌, ◌||◌}
 use Rattle.sctp_model.specs.wire.Chunk.{ChunkMeaning}
 use Rattle.sctp_model.specs.wire.Packet.{Packet}
@@ -9,19 +9,18 @@ use Rattle.sctp_model.specs.end.EndView.{Draw, EndView, has_association}
 use Rattle.sctp_model.specs.end.Clock.{at_moment}
 use Rattle.sctp_model.specs.end.Opening.{begun}
 use Rattle.sctp_model.specs.end.PeerFaults.{Unnoted}
-use Rattle.sctp_model.specs.end.Passing.{has_ports, passes}
 use Rattle.sctp_model.specs.end.Strays as model
 use Rattle.sctp_model.specs.end.Strays.{holds_abort, is_abort, listens, body_in, body_among}
-use Rattle.sctp_model.specs.end.Arriving.{AllAct, NoneLeft, Arrives, Stray, CookieBegins, Heard, Notes, noted, no_notes, verdict_of, is_answer, packet_ended, Receives, ReadAs, IsCutShort, CutFirst, CutLater, WantsNoMemory}
+use Rattle.sctp_model.specs.end.Arriving.{AllAct, NoneLeft, CookieBegins, Heard, Notes, noted, no_notes, verdict_of, is_answer, packet_ended, ReadAs, IsCutShort, CutFirst, CutLater, WantsNoMemory}
 use Rattle.sctp_values.specs.declared.no_memory.NoMemory.{NoMemory}
 use Rattle.sctp_association.specs.MachineStands.{MachineStands}
 use Rattle.sctp_association.specs.declared.machine.Machine.{Machine}
 use Rattle.sctp_endpoint.specs.Straying.{StrayWants}
-use Rattle.sctp_endpoint.specs.inner.Acted.{HasTag, notes_meaning, ActsAll}
+use Rattle.sctp_endpoint.specs.inner.Acted.{notes_meaning, ActsAll}
 use Rattle.sctp_endpoint.specs.inner.Arrived.{IsFor, HearsAll, Arrived}
 use Rattle.sctp_endpoint.specs.declared.after.Notes as declared
 use Rattle.sctp_endpoint.specs.declared.after.Verdict.{Verdict}
-use Rattle.sctp_endpoint.proofs.TagLemmas.{HaveTags, all_tagged, others_tagged, late_heard, late_outside, wants}
+use Rattle.sctp_endpoint.proofs.TagLemmas.{all_tagged, others_tagged, late_heard, late_outside, wants}
 
 -- what is told of chunks that went on is no answer
 pub goes_unanswered : (listed : Bool) → is_answer (verdict_of listed) ≡ false

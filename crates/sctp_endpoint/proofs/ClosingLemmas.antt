@@ -1,7 +1,7 @@
 -- Which ERROR closes an end: only a caller's whose cookie is on its way.
-use Rattle.std.proofs.Common.{◌≡◌, ℕ, Bool, true, false, List, refl}
+use Rattle.std.proofs.Common.{◌≡◌, ℕ, true, false, List, refl}
 use Rattle.sctp_model.specs.wire.Typed.{typed_in}
-use Rattle.sctp_model.specs.end.EndView.{Phase, Idle, Listening, Calling, Echoing, Open, Over}
+use Rattle.sctp_model.specs.end.EndView.{Phase, Echoing}
 use Rattle.sctp_model.specs.end.Reports.{STALE_COOKIE}
 use Rattle.sctp_model.specs.end.Opening.{is_echoing}
 use Rattle.sctp_model.specs.end.Acting.{has_cause, is_stale_cookie}

@@ -6,3 +6,4 @@ pub mod ChunksInTurn
 pub mod TagLemmas
 pub mod ArrivingLemmas
 pub mod HandlingLemmas
+pub mod LogLemmas

@@ -1,6 +1,7 @@
 pub mod EndpointStands
 pub mod Handled
 pub mod Left
+pub mod Logs
 pub mod Straying
 pub mod Transmitted
 pub mod inner

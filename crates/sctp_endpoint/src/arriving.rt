@@ -7,7 +7,9 @@ ghost use Rattle.sctp_model.specs.end.Clock.{at_moment};
 ghost use Rattle.sctp_model.specs.end.Arriving.{packet_ended};
 ghost use Rattle.sctp_packet.specs.PacketTree.{packet_meaning};
 ghost use Rattle.sctp_association.specs.MachineStands.{MachineStands};
+ghost use Rattle.sctp_outcomes.specs.Kept.{IsSound};
 ghost use Rattle.sctp_endpoint.specs.EndpointStands.{EndpointStands};
+ghost use Rattle.sctp_endpoint.specs.Logs.{LeavesLogs};
 ghost use Rattle.sctp_endpoint.specs.Handled.{IsRead, Handled};
 ghost use Rattle.sctp_endpoint.specs.inner.Acted.{notes_meaning};
 ghost use Rattle.sctp_endpoint.specs.inner.Arrived.{Arrived, HearsAll, IsFor};
@@ -29,14 +31,16 @@ impl Endpoint {
     /// before the latest counts as that one. The draw is a fresh one, for an INIT: what a listener answers with, and forgets.
     ///
     /// The verdict says whether it acted. An answer is a packet to send at once; whatever else the end has to say comes from
-    /// `poll_transmit`. Messages that became whole wait for `take`. A packet that is dropped changes nothing but the moment, except where
-    /// chunks before the one that dropped it have acted.
+    /// `poll_transmit`. Messages that became whole wait for `take`. A packet that is dropped changes nothing but the moment, except that before a
+    /// COOKIE ECHO that doesn't open chunks of it may have acted. Nor does a packet change anything at an end without an association, unless a
+    /// cookie in it opens; both are laws of the rows that this call follows (`sctp_outcomes::packets_leave_no_trace`).
     ///
     /// # Errors
     /// `NoMemory` where a growth was refused: the end stands as after the packet cut before the chunk that wanted it, so the packet may be
     /// handed in once more. Where that is the first chunk only the moment counts.
     pub fn handle_packet(&mut self, now: u64, bytes: &[u8], draw: Draw) -> Result<Verdict, NoMemory>
-        ensures { (v : EndView) (o : Option meaning.Packet) → EndpointStands self.old v → IsRead bytes.now o → Handled v now draw o result self.new }
+        ensures step { (v : EndView) (o : Option meaning.Packet) → EndpointStands self.old v → IsRead bytes.now o → Handled v now draw o result self.new }
+        ensures logs { (v : EndView) → EndpointStands self.old v → IsSound v → LeavesLogs v self.new }
     {
         self.machine.tell(now);
         match read_packet(bytes) {

@@ -1,13 +1,15 @@
 //! What an end tells of itself. None of these calls changes anything or takes memory.
 
-ghost use Rattle.std.specs.Prelude.{◌≡◌, Some, None, MatchOption, option_map, slice_get};
-ghost use Rattle.sctp_model.specs.sender.Readers.{acknowledged, abandoned};
+ghost use Rattle.std.specs.Prelude.{◌≡◌, ◌≤◌, Some, None, MatchOption, option_map, slice_get};
+ghost use Rattle.sctp_model.specs.sender.Readers.{outstanding, acknowledged, abandoned};
+ghost use Rattle.sctp_model.specs.numbers.Limits.{WINDOW};
 ghost use Rattle.sctp_model.specs.sender.Abandoning.{has_late};
 ghost use Rattle.sctp_model.specs.receiver.ReceiverView.{held_bytes};
 ghost use Rattle.sctp_model.specs.end.EndView.{EndView, state_of, ended_of};
 ghost use Rattle.sctp_model.specs.end.Moments.{next_moment};
 ghost use Rattle.sctp_terms.specs.Meanings.{end_meaning, state_meaning};
 ghost use Rattle.sctp_recv.specs.HandedOf.{handed_of};
+ghost use Rattle.sctp_outcomes.specs.Kept.{IsBare, IsSound};
 ghost use Rattle.sctp_endpoint.specs.EndpointStands.{EndpointStands};
 
 use crate::endpoint::Endpoint;
@@ -53,9 +55,10 @@ impl Endpoint {
         self.machine.abandoned(ticket)
     }
 
-    /// The bytes of user data that came and weren't taken: they fill the receive buffer.
+    /// The bytes of user data that came and weren't taken: they fill the receive buffer, and never pass the size that it was set up with.
     pub fn held_bytes(&self) -> u32
-        ensures { (v : EndView) → EndpointStands self.now v → result ≡ held_bytes v.receiver }
+        ensures held { (v : EndView) → EndpointStands self.now v → result ≡ held_bytes v.receiver }
+        ensures bound { (v : EndView) → EndpointStands self.now v → IsSound v → result ≤ v.configuration.buffer }
     {
         self.machine.held_bytes()
     }
@@ -115,5 +118,21 @@ impl Endpoint {
         ensures { (v : EndView) → EndpointStands self.now v → result ≡ has_late v.sender now }
     {
         self.machine.has_late(now)
+    }
+
+    /// How many TSNs it has assigned that the peer hasn't acknowledged, with one for each message in part: never more than 32,767, so that the
+    /// peer can tell each TSN (RFC 9260, 1.6).
+    pub fn outstanding(&self) -> u32
+        ensures count { (v : EndView) → EndpointStands self.now v → result ≡ outstanding v.sender }
+        ensures bound { (v : EndView) → EndpointStands self.now v → outstanding v.sender ≤ WINDOW }
+    {
+        self.machine.outstanding()
+    }
+
+    /// Before an association nothing stands in sender and receiver: they are as they are made. It does nothing, and has this as its contract.
+    pub fn bare(&self)
+        ensures { (v : EndView) → EndpointStands self.now v → IsBare v }
+    {
+        self.machine.bare();
     }
 }

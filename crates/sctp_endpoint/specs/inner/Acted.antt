@@ -1,5 +1,5 @@
 -- What acted of a packet so far, in terms of a view, of the chunks and of the notes on them (RFC 9260, 6.2 and 6.10).
-use Rattle.std.specs.Prelude.{◌≡◌, ℕ, ◌<◌, Bool, List, [], ◌∷◌, ◌++◌, Option, Some, None, Result, Ok, Err}
+use Rattle.std.specs.Prelude.{◌≡◌, ℕ, ◌<◌, Bool, List, ◌∷◌, ◌++◌, Option, Some, None, Result, Ok, Err}
 use Rattle.sctp_model.specs.wire.Chunk.{ChunkMeaning, InitAck}
 use Rattle.sctp_model.specs.end.EndView.{EndView}
 use Rattle.sctp_model.specs.end.Strays as model

@@ -1,4 +1,4 @@
-use Rattle.std.proofs.Common.{◌≡◌, ◌||◌, refl}
+use Rattle.std.proofs.Common.{◌||◌, refl}
 use Rattle.sctp_model.specs.end.Closing.{rested}
 use Rattle.sctp_model.specs.end.PeerFaults.{Unnoted, ToAcknowledge}
 use Rattle.sctp_model.specs.end.Strays as model

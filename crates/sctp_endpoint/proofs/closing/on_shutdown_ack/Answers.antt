@@ -1,4 +1,4 @@
-use Rattle.std.proofs.Common.{◌≡◌, true, false, sym, ◌∙◌}
+use Rattle.std.proofs.Common.{false, sym, ◌∙◌}
 use Rattle.sctp_model.specs.wire.Chunk.{ShutdownComplete}
 use Rattle.sctp_model.specs.end.EndView.{Completed}
 use Rattle.sctp_model.specs.end.Clock.{closed}

@@ -1,4 +1,4 @@
-use Rattle.std.proofs.Common.{◌≡◌, true, false, sym, ◌∙◌}
+use Rattle.std.proofs.Common.{sym, ◌∙◌}
 use Rattle.sctp_model.specs.end.Acting.{HeartbeatNotHeard, HeartbeatCounts, heartbeat_heard}
 use Rattle.sctp_endpoint.proofs.small.on_heartbeat.Goals as goal
 

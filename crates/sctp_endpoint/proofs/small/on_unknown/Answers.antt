@@ -1,4 +1,3 @@
-use Rattle.std.proofs.Common.{◌≡◌, true, false}
 use Rattle.sctp_wire.specs.RuleTree.{rule_meaning}
 use Rattle.sctp_endpoint.proofs.UnknownLemmas.{reported, unknown_ends, unknown_goes_on}
 use Rattle.sctp_endpoint.proofs.small.on_unknown.Goals as goal

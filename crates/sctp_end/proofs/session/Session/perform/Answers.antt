@@ -44,4 +44,4 @@ pub returns-in-State : goal.returns-in-State
 returns-in-State c = rw c.in-State.is (λ read v reader stands. (v, TellsState _ _ (c.state.ensures v stands) (c.ended.ensures v stands), stands))
 
 pub returns-in-Held : goal.returns-in-Held
-returns-in-Held c = rw c.in-Held.is (λ read v reader stands. (v, TellsHeld _ (c.held_bytes.ensures v stands), stands))
+returns-in-Held c = rw c.in-Held.is (λ read v reader stands. (v, TellsHeld _ (c.held_bytes.ensures.held v stands), stands))

@@ -1,5 +1,8 @@
-use Rattle.std.proofs.Common.{◌≡◌}
+use Rattle.std.proofs.Common.{ℕ, List, ◌++◌, sym, ap, ◌∙◌}
+use Rattle.sctp_outcomes.specs.Kept.{numbered}
+use Rattle.sctp_outcomes.proofs.logs.Built.{builds_add_numbers}
 use Rattle.sctp_endpoint.specs.EndpointStands.{EndpointStands}
+use Rattle.sctp_endpoint.proofs.LogLemmas.{no_packet_logs}
 use Rattle.sctp_endpoint.proofs.endpoint.Endpoint.poll_transmit.Goals as goal
 
 pub returns-in-Some-clause-step : goal.returns-in-Some-clause-step
@@ -11,3 +14,14 @@ returns-in-Some-clause-step c = λ v stands.
 pub returns-in-None-clause-step : goal.returns-in-None-clause-step
 unfolding EndpointStands
 returns-in-None-clause-step c = λ v stands. rw c.in-None.is at c.in_ok-built.ensures.built v stands
+
+pub returns-in-Some-clause-logs : goal.returns-in-Some-clause-logs
+unfolding EndpointStands
+returns-in-Some-clause-logs c = λ v stands sound.
+    let b = rw c.in-Some.is at c.in_ok-built.ensures.built v stands in
+    let adds = builds_add_numbers v c.args.now b.chunks b.after sound b.builds in
+    (b.after, adds, adds.numbers ∙ ap (λ (ts : List ℕ). numbered v ++ ts) (sym b.tickets), b.stands)
+
+pub returns-in-None-clause-logs : goal.returns-in-None-clause-logs
+unfolding EndpointStands
+returns-in-None-clause-logs c = λ v stands sound. no_packet_logs v c.args.now _ sound (rw c.in-None.is at c.in_ok-built.ensures.built v stands)

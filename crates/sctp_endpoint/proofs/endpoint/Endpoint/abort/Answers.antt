@@ -1,0 +1,7 @@
+use Rattle.sctp_endpoint.specs.EndpointStands.{EndpointStands}
+use Rattle.sctp_endpoint.proofs.LogLemmas.{abort_logs}
+use Rattle.sctp_endpoint.proofs.endpoint.Endpoint.abort.Goals as goal
+
+pub returns-clause-logs : goal.returns-clause-logs
+unfolding EndpointStands
+returns-clause-logs c = λ v stands sound. abort_logs c.abort.result v c.args.reason.now _ sound (c.abort.ensures.step v stands)

@@ -1,0 +1,7 @@
+use Rattle.sctp_endpoint.specs.EndpointStands.{EndpointStands}
+use Rattle.sctp_endpoint.proofs.LogLemmas.{connect_logs}
+use Rattle.sctp_endpoint.proofs.endpoint.Endpoint.connect.Goals as goal
+
+pub returns-clause-logs : goal.returns-clause-logs
+unfolding EndpointStands
+returns-clause-logs c = λ v stands sound. connect_logs c.connect.result v c.args.now c.args.draw _ sound (c.connect.ensures.answer v stands) (c.connect.ensures.step v stands)

@@ -1,0 +1,7 @@
+use Rattle.sctp_outcomes.proofs.logs.Passed.{moments_keep_logs}
+use Rattle.sctp_endpoint.specs.EndpointStands.{EndpointStands}
+use Rattle.sctp_endpoint.proofs.endpoint.Endpoint.on_moment.Goals as goal
+
+pub returns-clause-logs : goal.returns-clause-logs
+unfolding EndpointStands
+returns-clause-logs c = λ v stands sound. (_, moments_keep_logs v c.args.now sound, c.on_moment.ensures v stands)

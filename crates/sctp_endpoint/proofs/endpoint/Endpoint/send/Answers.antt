@@ -1,0 +1,7 @@
+use Rattle.sctp_endpoint.specs.EndpointStands.{EndpointStands}
+use Rattle.sctp_endpoint.proofs.LogLemmas.{send_logs}
+use Rattle.sctp_endpoint.proofs.endpoint.Endpoint.send.Goals as goal
+
+pub returns-clause-logs : goal.returns-clause-logs
+unfolding EndpointStands
+returns-clause-logs c = λ v stands sound. send_logs c.send.result v _ _ sound (c.send.ensures.answer v stands) (c.send.ensures.step v stands)

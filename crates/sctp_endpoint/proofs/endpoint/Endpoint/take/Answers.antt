@@ -1,0 +1,7 @@
+use Rattle.sctp_endpoint.specs.EndpointStands.{EndpointStands}
+use Rattle.sctp_endpoint.proofs.LogLemmas.{take_logs}
+use Rattle.sctp_endpoint.proofs.endpoint.Endpoint.take.Goals as goal
+
+pub returns-clause-logs : goal.returns-clause-logs
+unfolding EndpointStands
+returns-clause-logs c = λ v stands sound. let t = c.take.ensures v stands in take_logs c.take.result v c.args.stream t.0 _ sound t.1 t.2

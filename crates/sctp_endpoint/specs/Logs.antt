@@ -1,0 +1,30 @@
+-- What each call leaves of what an endpoint's user notes of it: tickets given, tickets numbered, messages taken (RFC 9260, 11.1).
+use Rattle.std.specs.Prelude.{◌≡◌, ℕ, ◌++◌, map, Option, Some, None, Result, Ok, Err}
+use Rattle.sctp_model.specs.end.EndView.{EndView}
+use Rattle.sctp_values.specs.declared.ticket.Ticket.{Ticket}
+use Rattle.sctp_recv.specs.HandedOf.{handed_of}
+use Rattle.sctp_recv.specs.declared.message.Message.{Message}
+use Rattle.sctp_association.specs.declared.calls.Refused.{Refused}
+use Rattle.sctp_outcomes.specs.Kept.{numbered, KeepsLogs, AddsNumbers, AddsTicket, AddsTaken}
+use Rattle.sctp_endpoint.specs.EndpointStands.{EndpointStands}
+use Rattle.sctp_endpoint.specs.declared.transmit.Sent.{Sent}
+use Rattle.sctp_endpoint.specs.declared.endpoint.Endpoint.{Endpoint}
+
+-- all that was noted stays, and nothing more is
+abbrev pub LeavesLogs : EndView → Endpoint → Type 0
+LeavesLogs v e = (t : EndView) × KeepsLogs v t × EndpointStands e t
+
+-- Of a packet that goes out its tickets are noted as numbered, behind all before them; nothing else, and of no packet nothing.
+abbrev pub SendsLogs : EndView → Option Sent → Endpoint → Type 0
+SendsLogs v None e = LeavesLogs v e
+SendsLogs v (Some s) e = (t : EndView) × AddsNumbers v t × (numbered t ≡ numbered v ++ map (λ t. t.0) s.tickets.items) × EndpointStands e t
+
+-- Of an accepted message one ticket more is noted, and nothing else; of a refused one nothing.
+abbrev pub GivesLogs : EndView → Result Ticket Refused → Endpoint → Type 0
+GivesLogs v (Ok ticket) e = (t : EndView) × AddsTicket v t × EndpointStands e t
+GivesLogs v (Err why) e = LeavesLogs v e
+
+-- Of a message taken it alone is noted, on its stream; where there is none nothing.
+abbrev pub TakesLogs : EndView → (stream : ℕ) → Option Message → Endpoint → Type 0
+TakesLogs v stream (Some m) e = (t : EndView) × AddsTaken v stream (handed_of m) t × EndpointStands e t
+TakesLogs v stream None e = LeavesLogs v e
