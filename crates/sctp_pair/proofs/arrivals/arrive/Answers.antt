@@ -32,7 +32,7 @@ unfolding SideStands
 returns-in_err-handle_packet c = λ w s e p stands brings reads clock draw.
     let none = err_from_is_err_and c.from_residual.result c.from_residual.ensures.1 in
     let v = end_of w s in
-    let did = c.in_err-handle_packet.ensures v p stands.end reads in
+    let did = c.in_err-handle_packet.ensures.step v p stands.end reads in
     let keeps = cut_packets_keep_logs v c.args.clock c.args.draw p did.0 stands.sound did.1 in
     rw none.1 (
       side did.0 (bag_of w s) (log_of w s),
@@ -43,7 +43,7 @@ returns-in_err-handle_packet c = λ w s e p stands brings reads clock draw.
 pub returns-in-Taken : goal.returns-in-Taken
 unfolding SideStands
 returns-in-Taken c = λ w s e p stands brings reads clock draw.
-    let did = c.in_ok-handle_packet.ensures (end_of w s) p stands.end reads in
+    let did = c.in_ok-handle_packet.ensures.step (end_of w s) p stands.end reads in
     let told = rw c.in-Taken.is at did.3 in
     let keeps = packets_keep_logs (end_of w s) c.args.clock c.args.draw p did.0 did.1 stands.sound did.2 in (
       side did.0 (bag_of w s) (log_of w s),
@@ -54,7 +54,7 @@ returns-in-Taken c = λ w s e p stands brings reads clock draw.
 pub returns-in-Dropped : goal.returns-in-Dropped
 unfolding SideStands
 returns-in-Dropped c = λ w s e p stands brings reads clock draw.
-    let did = c.in_ok-handle_packet.ensures (end_of w s) p stands.end reads in
+    let did = c.in_ok-handle_packet.ensures.step (end_of w s) p stands.end reads in
     let told = rw c.in-Dropped.is at did.3 in
     let keeps = packets_keep_logs (end_of w s) c.args.clock c.args.draw p did.0 did.1 stands.sound did.2 in (
       side did.0 (bag_of w s) (log_of w s),
@@ -66,7 +66,7 @@ pub returns-in-Answer : goal.returns-in-Answer
 unfolding SideStands
 returns-in-Answer c = λ w s e p stands brings reads clock draw.
     let v = end_of w s in
-    let did = c.in_ok-handle_packet.ensures v p stands.end reads in
+    let did = c.in_ok-handle_packet.ensures.step v p stands.end reads in
     let told = rw c.in-Answer.is at did.3 in
     let packet = c.in-Answer.packet in
     let is = the_answer packet.items did.1 told in

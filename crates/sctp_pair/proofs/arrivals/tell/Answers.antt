@@ -4,4 +4,4 @@ use Rattle.sctp_pair.proofs.ReadLemmas.{told_leaves}
 use Rattle.sctp_pair.proofs.arrivals.tell.Goals as goal
 
 pub returns : goal.returns
-returns c = λ v stands. told_leaves v c.args.clock c.args.draw c.handle_packet-dropped.result _ (c.handle_packet-dropped.ensures v None stands (Short, omega arith))
+returns c = λ v stands. told_leaves v c.args.clock c.args.draw c.handle_packet-dropped.result _ (c.handle_packet-dropped.ensures.step v None stands (Short, omega arith))

@@ -13,7 +13,7 @@ unfolding SideStands
 returns c = λ v stands watched.
     let n = c.args.now in
     let t : EndView = ticked v.end n in
-    let end = c.on_moment.ensures v.end stands.end in
+    let end = c.on_moment.ensures.step v.end stands.end in
     let keeps = moments_keep_logs v.end n stands.sound in
     let gone : List ℕ = newly_abandoned v.end.sender t.sender t.sender.tickets in
     let noted = c.note.ensures t end ∙ ap (λ (ks : List ℕ). map ticket_number c.args.side.now.abandoned.items ++ ks) (sym watched) in record {

@@ -34,7 +34,7 @@ pub returns-in-None : goal.returns-in-None
 unfolding SideStands
 returns-in-None c = λ w s stands.
     let v = end_of w s in
-    let got = c.in-None.ensures v stands.end in
+    let got = c.in-None.ensures.step v stands.end in
     let keeps = take_takes_one v c.args.stream None got.0 stands.sound got.1 in
     let taken = c.make_room_at.ensures.same v.receiver.taken stands.notes.taken in
     let notes : AreNoted c.args.side.now.numbered.items c.args.side.now.abandoned.items c.make_room_at.new.logs.items v (log_of w s) =
@@ -49,7 +49,7 @@ unfolding SideStands
 returns-in-Some-take c = λ w s stands.
     let v = end_of w s in
     let h = handed_of c.in-Some-take.message in
-    let got = c.in-Some-take.ensures v stands.end in
+    let got = c.in-Some-take.ensures.step v stands.end in
     let adds = take_takes_one v c.args.stream (Some h) got.0 stands.sound got.1 in
     let taken = c.note_at.ensures v.receiver.taken (c.make_room_at.ensures.same v.receiver.taken stands.notes.taken) in (
       side got.0 (bag_of w s) (log_of w s),
