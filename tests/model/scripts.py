@@ -517,7 +517,7 @@ class Maker:
         clock = self.pair.clock
         tags = [(end.own_tag, end.peer_tag)] if end.own_tag is not None and end.peer_tag is not None else []
         own_tag, peer_tag = self.pick(tags * 3 + [(self.tag(), self.tag())])
-        made = wire.Cookie(self.pick((0, clock, clock, max(0, clock - 60000), max(0, clock - 60001), clock + 5)),
+        made = wire.Cookie(self.pick((0, clock, clock, max(0, clock - 60000), max(0, clock - 60001), min(clock + 5, 2**64 - 1))),
                            self.pick((5001, 5001, 5001, 5000)), self.pick((5000, 5000, 5000, 5001)),
                            own_tag, peer_tag, self.tsn(), self.tsn(), self.pick((0, 65536, 2**32 - 1)),
                            self.pick((1, 2, 32)), self.pick((1, 2, 32)), self.pick((0, 1, 2, 3, 3, 4)))
