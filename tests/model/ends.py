@@ -1,0 +1,184 @@
+#!/usr/bin/env python3
+"""Compares `sctp-end` with the model's ends, packets byte for byte, on random scripts.
+
+ends.py [--program P] N [SEED]: each script opens by packets; what comes to an end is what came to it
+in the model's run. After each line the state, the next moment and the held bytes are asked too.
+ends.py --write FILE N [SEED] writes the lines of each end and the answers wanted, and runs nothing.
+"""
+
+import argparse
+import os
+import subprocess
+import sys
+
+import model
+import scripts
+
+HERE = os.path.dirname(os.path.abspath(__file__))
+
+
+class Recorder:
+    """The lines for one end and the answers wanted."""
+
+    def __init__(self, words):
+        self.words, self.lines, self.answers = words, [], []
+
+    def add(self, line, answer):
+        self.lines.append(line)
+        self.answers.append(answer)
+
+
+class RecordedPair(model.Pair):
+    """A pair that notes what each end was told and what it answered."""
+
+    last = None
+
+    def __init__(self, limit, fragment, buffer, streams, mode):
+        super().__init__(limit, fragment, buffer, streams, mode)
+        values = [str(value) for value in (limit, fragment, buffer, streams)] + [mode]
+        self.notes = {'A': Recorder(['caller', *values, '5000', '5001']),
+                      'B': Recorder(['listener', *values, '5001', '5000', model.KEY.hex()])}
+        RecordedPair.last = self
+
+    def note(self, x, line, answer):
+        self.notes[x].add(line, answer)
+        end = self.ends[x]
+        moment = end.next_moment()
+        self.notes[x].add('state', 'state %s %s' % (end.state, end.ended or '-'))
+        self.notes[x].add('next', 'next %s' % ('-' if moment is None else moment))
+        self.notes[x].add('held', 'held %d' % (end.receiver.held if end.receiver else 0))
+
+    def without_side(self, outcome):
+        """An outcome line of a script without its end."""
+        words = outcome.split(' ')
+        return ' '.join(words[:1] + words[2:])
+
+    def bytes_of(self, x, outcome):
+        """The same with the packet in place of its number and length."""
+        word = outcome.split(' ')[0]
+        return '%s %s' % (word, self.bags[x][-1].hex()) if word in ('sent', 'answer') else self.without_side(outcome)
+
+    def at(self, moment):
+        outcome = super().at(moment)
+        for x in 'AB':
+            self.note(x, 'at %d' % self.clock, 'ok')
+        return outcome
+
+    def draw(self, drawn_tag, tsn):
+        for x in 'AB':
+            self.note(x, 'draw %d %d' % (drawn_tag, tsn), 'ok')
+        return super().draw(drawn_tag, tsn)
+
+    def connect(self, drawn_tag, tsn):
+        outcome = super().connect(drawn_tag, tsn)
+        self.note('A', 'connect %d %d' % (drawn_tag, tsn), outcome)
+        return outcome
+
+    def build(self, x):
+        outcome = super().build(x)
+        self.note(x, 'build', self.bytes_of(x, outcome))
+        return outcome
+
+    def arrive(self, y, packet):
+        outcome = super().arrive(y, packet)
+        self.note(y, 'packet ' + model.hex_text(packet), self.bytes_of(y, outcome))
+        return outcome
+
+    def send(self, x, stream, kind, payload_id, limit, data):
+        outcome = super().send(x, stream, kind, payload_id, limit, data)
+        line = 'send %d %s %d %s %s' % (stream, kind, payload_id, '-' if limit is None else limit, model.hex_text(data))
+        self.note(x, line, outcome if outcome.startswith('refused') else self.without_side(outcome))
+        return outcome
+
+    def abandon(self, x, ticket):
+        outcome = super().abandon(x, ticket)
+        self.note(x, 'abandon %d' % ticket, self.without_side(outcome))
+        sender = self.ends[x].sender
+        known = sender is not None and 1 <= ticket <= len(sender.messages)
+        message = sender.messages[ticket - 1] if known else None
+        self.notes[x].add('acknowledged %d' % ticket, 'yes' if known and sender.acknowledged(message) else 'no')
+        self.notes[x].add('abandoned %d' % ticket, 'yes' if known and message.abandoned else 'no')
+        return outcome
+
+    def take(self, x, stream):
+        outcome = super().take(x, stream)
+        self.note(x, 'take %d' % stream, self.without_side(outcome))
+        return outcome
+
+    def shutdown(self, x):
+        outcome = super().shutdown(x)
+        self.note(x, 'shutdown', outcome)
+        return outcome
+
+    def abort(self, x, reason):
+        outcome = super().abort(x, reason)
+        self.note(x, 'abort ' + model.hex_text(reason),
+                  outcome if outcome.startswith('refused') else self.bytes_of(x, outcome))
+        return outcome
+
+
+class OpensByPackets(scripts.Maker):
+    """A maker of scripts without `open`, which one end alone has no line for."""
+
+    def open(self):
+        if self.pair is not None and self.pair.may_open:
+            self.open_by_packets()
+
+
+def recorders(seed):
+    """What each end of this random script is told and answers."""
+    script, plain = OpensByPackets(seed).make().encode(), model.Pair
+    RecordedPair.last, model.Pair = None, RecordedPair
+    try:
+        model.run(script, lambda line: None)
+    finally:
+        model.Pair = plain
+    return list(RecordedPair.last.notes.items()) if RecordedPair.last is not None else []
+
+
+def difference(program, recorder):
+    """(line, program's answer, model's answer) of the first that differ, or None."""
+    told = ''.join(line + '\n' for line in recorder.lines).encode()
+    done = subprocess.run([program, *recorder.words], input=told, capture_output=True, check=False)
+    answers = done.stdout.decode('latin1').split('\n')[:-1]
+    answers += ['(nothing, status %d)' % done.returncode] * (len(recorder.lines) - len(answers))
+    for told, theirs, ours in zip(recorder.lines, answers, recorder.answers):
+        if theirs != ours:
+            return told, theirs, ours
+    return None
+
+
+def write(file, name, recorder):
+    file.write('\n= %s\n$ sctp-end %s\n' % (name, ' '.join(recorder.words)))
+    file.write(''.join('> %s\n' % line for line in recorder.lines))
+    file.write(''.join('< %s\n' % line for line in recorder.answers))
+
+
+def main():
+    parser = argparse.ArgumentParser()
+    parser.add_argument('--program', default=os.path.join(HERE, '..', '..', 'sctp-end'))
+    parser.add_argument('--write')
+    parser.add_argument('count', type=int)
+    parser.add_argument('seed', type=int, nargs='?', default=1)
+    asked = parser.parse_args()
+    count = differing = 0
+    file = open(asked.write, 'w', encoding='ascii') if asked.write else None
+    for seed in range(asked.seed, asked.seed + asked.count):
+        for x, recorder in recorders(seed):
+            count += 1
+            name = 'seed-%d %s' % (seed, x)
+            if file is not None:
+                write(file, name, recorder)
+                continue
+            found = difference(asked.program, recorder)
+            if found is not None:
+                differing += 1
+                print('%s: %.200s: program %.200s, model %.200s' % (name, *found), flush=True)
+    if file is not None:
+        file.close()
+    print('%d ends, %d differ' % (count, differing))
+    return 1 if differing else 0
+
+
+if __name__ == '__main__':
+    sys.exit(main())
