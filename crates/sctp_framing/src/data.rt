@@ -13,8 +13,8 @@ pub struct DataFraming;
 
 impl Framing for DataFraming {
     ghost use Rattle.sctp_model.specs.messages.Format.{Plain};
-    ghost use Rattle.sctp_safety.proofs.WholeLaw.{whole_law};
-    ghost use Rattle.sctp_safety.proofs.SkipLaw.{skip_law};
+    ghost use Rattle.sctp_safety.proofs.plan.WholeLaw.{whole_law};
+    ghost use Rattle.sctp_safety.proofs.plan.SkipLaw.{skip_law};
 
     ghost format = { Plain };
 

@@ -13,8 +13,8 @@ pub struct IDataFraming;
 
 impl Framing for IDataFraming {
     ghost use Rattle.sctp_model.specs.messages.Format.{Interleaved};
-    ghost use Rattle.sctp_safety.proofs.WholeLaw.{whole_law};
-    ghost use Rattle.sctp_safety.proofs.SkipLaw.{skip_law};
+    ghost use Rattle.sctp_safety.proofs.plan.WholeLaw.{whole_law};
+    ghost use Rattle.sctp_safety.proofs.plan.SkipLaw.{skip_law};
 
     ghost format = { Interleaved };
 

@@ -10,7 +10,7 @@ use Rattle.sctp_model.proofs.receiver.ForwardAtRest.{forward_at_rest}
 use Rattle.sctp_model.specs.end.EndView.{Phase, EndView, format_of}
 use Rattle.sctp_model.specs.world.World.{Side, A, B, World, end_of}
 use Rattle.sctp_safety.specs.Agreement.{was_open}
-use Rattle.sctp_safety.proofs.OrderlyCalls.{plan_stays_orderly}
+use Rattle.sctp_safety.proofs.sending.OrderlyCalls.{plan_stays_orderly}
 use Rattle.sctp_safety.proofs.runs.Unmet.{IsBlank}
 use Rattle.sctp_safety.proofs.runs.Safety.{IsKept, kept_always}
 use Rattle.sctp_outcomes.specs.Views.{SendersAreInOrder, ReceiversAreAtRest, BuffersHold}

@@ -1,71 +1,7 @@
-mod Basics
-mod Numbers
-mod Facts
-mod Framing
-mod OneMessage
-mod Later
-mod MovesBySide
-mod EntryLemmas
-mod ForwardBuilt
-mod BagMoves
-mod SafeWhenGood
-mod GoodStart
-mod Built
-mod Taken
-mod PlanLemmas
-mod PlanGrows
-mod OrderlyPlan
-mod Gains
-mod QueueLemmas
-mod UserMoves
-mod NumberMoves
-mod SenderMoves
-mod Settled
-mod Handing
-mod OrderedMoves
-mod UnorderedMoves
-mod PieceMoves
-mod ForwardMove
-mod TakeMoves
-pub mod SkipLaw
-pub mod WholeLaw
-mod Always
-mod Searches
-mod InPart
-mod UsualLemmas
-mod AssignMoves
-mod FillMoves
-mod GivingMoves
-mod SackMoves
-mod QueueMoves
-pub mod OrderlyCalls
-mod SenderCalls
-mod NewlyAbandoned
-mod NameFacts
-mod ToldLemmas
-mod AbandonedLemmas
-mod EndedLemmas
-mod ExpiredLemmas
-mod WorldWay
-mod WorldUser
-mod WorldNumber
-mod WorldBuild
-mod WorldDeliver
-mod WorldSteps
-mod Example
-mod TotalReceiver
-mod TotalTaken
-mod TotalBuild
-mod TotalSteps
-mod Spread
-mod WaitedFor
-mod NearReads
-mod ReadBounds
-mod PieceAnswers
-mod PieceReads
-mod SkipReads
-mod ForwardReads
-mod SackMade
+mod lists
+pub mod plan
+mod moves
+pub mod sending
+mod receiving
 pub mod machine
 pub mod runs
-mod RestLaws

@@ -11,7 +11,6 @@ mod safety;
 mod sender;
 mod told;
 mod two_ends;
-mod worlds;
 
 pub use ends::{
     an_association_closes, an_association_opens, closed_for_good, ends_follow_the_diagram,
@@ -33,12 +32,10 @@ pub use sender::{
     plan_stays_orderly,
 };
 pub use told::{
-    a_message_is_abandoned_by_its_ticket, a_message_is_told_by_its_ticket, nothing_is_left_to_expire,
+    a_message_is_abandoned_by_its_ticket, a_message_is_told_by_its_ticket,
+    nothing_is_left_to_expire,
 };
 pub use two_ends::{
     a_beginning_meets_the_premises, a_run_passes_its_worlds, each_world_on_the_way_is_safe,
     nothing_is_missing_once_completed, two_ends_are_safe,
-};
-pub use worlds::{
-    a_message_arrives, every_event_is_answered, safe_in_every_run, safe_in_every_world,
 };

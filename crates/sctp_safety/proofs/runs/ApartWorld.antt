@@ -15,7 +15,7 @@ use Rattle.sctp_model.specs.world.Steps.{accepted}
 use Rattle.sctp_model.specs.world.Premises.{asked_at}
 use Rattle.sctp_safety.specs.States.{has_begun}
 use Rattle.sctp_safety.specs.Agreement.{AreAgreed}
-use Rattle.sctp_safety.proofs.Basics.{Has-cases}
+use Rattle.sctp_safety.proofs.lists.Basics.{Has-cases}
 use Rattle.sctp_safety.proofs.machine.Turns.{IsPlainTurn}
 use Rattle.sctp_safety.proofs.machine.Diagram.{plain_unbegun}
 use Rattle.sctp_safety.proofs.runs.Bags.{chunks_in, chunks_push}

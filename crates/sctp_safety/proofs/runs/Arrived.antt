@@ -15,15 +15,15 @@ use Rattle.sctp_model.specs.sender.Readers.{drained}
 use Rattle.sctp_model.specs.receiver.Laws.{IsIdle}
 use Rattle.sctp_model.specs.world.Premises.{IsAllArrived}
 use Rattle.sctp_safety.specs.Way.{Way}
-use Rattle.sctp_safety.proofs.Basics.{lane_is, each_or, item_at-within, item_at-above}
-use Rattle.sctp_safety.proofs.Facts.{Good, IsLost, IsOver}
-use Rattle.sctp_safety.proofs.EntryLemmas.{lost_at}
-use Rattle.sctp_safety.proofs.PlanLemmas.{message_of}
-use Rattle.sctp_safety.proofs.OneMessage.{whole_when_kept}
-use Rattle.sctp_safety.proofs.SafeWhenGood.{settled_at}
-use Rattle.sctp_safety.proofs.InPart.{idle_closed}
-use Rattle.sctp_safety.proofs.Spread.{lower_to}
-use Rattle.sctp_safety.proofs.WaitedFor.{not_all_reached}
+use Rattle.sctp_safety.proofs.lists.Basics.{lane_is, each_or, item_at-within, item_at-above}
+use Rattle.sctp_safety.proofs.moves.Facts.{Good, IsLost, IsOver}
+use Rattle.sctp_safety.proofs.plan.EntryLemmas.{lost_at}
+use Rattle.sctp_safety.proofs.plan.PlanLemmas.{message_of}
+use Rattle.sctp_safety.proofs.plan.OneMessage.{whole_when_kept}
+use Rattle.sctp_safety.proofs.moves.SafeWhenGood.{settled_at}
+use Rattle.sctp_safety.proofs.plan.InPart.{idle_closed}
+use Rattle.sctp_safety.proofs.plan.Spread.{lower_to}
+use Rattle.sctp_safety.proofs.plan.WaitedFor.{not_all_reached}
 use Rattle.sctp_safety.proofs.runs.Direction.{way_of, Direction}
 use Rattle.sctp_safety.proofs.runs.Sending.{good_here}
 

@@ -3,7 +3,7 @@ use Rattle.std.proofs.Common.{◌≡◌, ℕ, zero, suc, List, [], ◌∷◌, �
 use Rattle.sctp_model.specs.numbers.Lists.{Has, item_at}
 use Rattle.sctp_model.specs.wire.Chunk.{ChunkMeaning}
 use Rattle.sctp_model.specs.wire.Packet.{Packet}
-use Rattle.sctp_safety.proofs.Basics.{Has-left, Has-right}
+use Rattle.sctp_safety.proofs.lists.Basics.{Has-left, Has-right}
 
 -- every chunk that an end ever built
 abbrev pub chunks_in : List Packet → List ChunkMeaning

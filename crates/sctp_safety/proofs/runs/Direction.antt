@@ -17,7 +17,7 @@ use Rattle.sctp_model.proofs.sender.OwedLaws.{is_windowed, is_promised}
 use Rattle.sctp_safety.specs.Way.{Way}
 use Rattle.sctp_safety.specs.SenderLaws.{IsUsual, IsSackOf}
 use Rattle.sctp_safety.specs.ReceiverLaws.{IsJoined, IsCounted, IsPieceSaid, IsForwardSaid, IsTopped}
-use Rattle.sctp_safety.proofs.Basics.{item_at-within, item_at-above}
+use Rattle.sctp_safety.proofs.lists.Basics.{item_at-within, item_at-above}
 use Rattle.sctp_safety.proofs.runs.Grown.{IsPrefix}
 
 -- ---- what the chunks of a direction say

@@ -6,7 +6,7 @@ use Rattle.sctp_model.specs.sender.Readers.{drained}
 use Rattle.sctp_model.specs.end.EndView.{Tags, Stage, ShutdownPending, ShutdownSent, ShutdownReceived, ShutdownAckSent, Ended, Completed, Phase, Idle, Listening, Calling, Echoing, Open, Over, EndView}
 use Rattle.sctp_model.specs.end.Clock.{closed}
 use Rattle.sctp_model.specs.end.Closing.{hears, awaits_ack, rested}
-use Rattle.sctp_safety.proofs.Basics.{Has-cases, Has-left}
+use Rattle.sctp_safety.proofs.lists.Basics.{Has-cases, Has-left}
 use Rattle.sctp_safety.proofs.machine.EndWords.{rested_cases}
 use Rattle.sctp_safety.proofs.runs.Homes.{IsHome, home_closed, home_says, home_answers}
 

@@ -13,14 +13,14 @@ use Rattle.sctp_model.specs.receiver.SackMade.{IsSack, TakeLeaves}
 use Rattle.sctp_safety.specs.Way.{Way, Put_shutdown, Note_duplicates, with_receiver}
 use Rattle.sctp_safety.specs.Exact.{Leads}
 use Rattle.sctp_safety.specs.ReceiverLaws.{IsReceived, IsPieceSaid, IsSackPut}
-use Rattle.sctp_safety.proofs.Basics.{Has-cases}
-use Rattle.sctp_safety.proofs.Built.{shutdown_is_allowed}
-use Rattle.sctp_safety.proofs.Taken.{leads_by}
-use Rattle.sctp_safety.proofs.UsualLemmas.{good_usual, usual_on}
-use Rattle.sctp_safety.proofs.Facts.{Good}
-use Rattle.sctp_safety.proofs.PieceReads.{piece_taken_is_moves}
-use Rattle.sctp_safety.proofs.ForwardReads.{forward_taken_is_moves}
-use Rattle.sctp_safety.proofs.SackMade.{sack_made_is_moves, take_is_moves}
+use Rattle.sctp_safety.proofs.lists.Basics.{Has-cases}
+use Rattle.sctp_safety.proofs.moves.Built.{shutdown_is_allowed}
+use Rattle.sctp_safety.proofs.moves.Taken.{leads_by}
+use Rattle.sctp_safety.proofs.moves.UsualLemmas.{good_usual, usual_on}
+use Rattle.sctp_safety.proofs.moves.Facts.{Good}
+use Rattle.sctp_safety.proofs.receiving.PieceReads.{piece_taken_is_moves}
+use Rattle.sctp_safety.proofs.receiving.ForwardReads.{forward_taken_is_moves}
+use Rattle.sctp_safety.proofs.receiving.SackMade.{sack_made_is_moves, take_is_moves}
 use Rattle.sctp_safety.proofs.runs.Nearness.{piece_index_near, piece_number_near, point_near, skips_near}
 use Rattle.sctp_safety.proofs.runs.Direction.{Bags, way_of, IsForwardIn, IsSaid, IsSaidBack, Direction, joined_in, assigned_below_half, counted_in, IsMore, said_later, said_back_later}
 

@@ -14,8 +14,8 @@ use Rattle.sctp_safety.specs.Way.{Way, IsStart}
 use Rattle.sctp_safety.specs.SenderLaws.{IsInOrder}
 use Rattle.sctp_safety.specs.States.{has_agreed}
 use Rattle.sctp_safety.specs.Agreement.{AreAgreed}
-use Rattle.sctp_safety.proofs.GoodStart.{new_ends_start}
-use Rattle.sctp_safety.proofs.Always.{safe_always}
+use Rattle.sctp_safety.proofs.moves.GoodStart.{new_ends_start}
+use Rattle.sctp_safety.proofs.moves.Always.{safe_always}
 use Rattle.sctp_model.proofs.receiver.AtRest.{fresh_at_rest}
 use Rattle.sctp_safety.proofs.runs.Direction.{Bags, way_of, Direction}
 use Rattle.sctp_safety.proofs.runs.Pair.{AreOpening, IsMet, opening_quiet, opening_quiet_back, quiet_says, quiet_says_back}

@@ -10,11 +10,11 @@ use Rattle.sctp_model.specs.messages.Pieces.{Piece, piece_of, number_of, IsFragm
 use Rattle.sctp_model.specs.receiver.Reading.{reference_in}
 use Rattle.sctp_safety.specs.Way.{Way}
 use Rattle.sctp_safety.specs.ReceiverLaws.{IsIndexNear, IsNumberNear, IsPieceSaid, IsForwardSaid}
-use Rattle.sctp_safety.proofs.Basics.{item_at-within}
-use Rattle.sctp_safety.proofs.Facts.{Good, IsSendersForward, IsLostBy}
-use Rattle.sctp_safety.proofs.OneMessage.{number_counts}
-use Rattle.sctp_safety.proofs.ReadBounds.{cumulative_within, number_within, passed_within, skip_within, next_within}
-use Rattle.sctp_safety.proofs.Settled.{all_numbered}
+use Rattle.sctp_safety.proofs.lists.Basics.{item_at-within}
+use Rattle.sctp_safety.proofs.moves.Facts.{Good, IsSendersForward, IsLostBy}
+use Rattle.sctp_safety.proofs.plan.OneMessage.{number_counts}
+use Rattle.sctp_safety.proofs.receiving.ReadBounds.{cumulative_within, number_within, passed_within, skip_within, next_within}
+use Rattle.sctp_safety.proofs.moves.Settled.{all_numbered}
 
 module _ (w : Way) (g : Good w) (total : length w.sender.plan.entries < half_space 32) where
   index_near : (i : ℕ) → i ≤ length w.sender.plan.entries → IsIndexNear w.receiver i

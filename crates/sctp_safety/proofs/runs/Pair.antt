@@ -10,7 +10,7 @@ use Rattle.sctp_model.specs.world.Calls.{Asked}
 use Rattle.sctp_model.specs.end.EndView.{Terms, EndView, format_of}
 use Rattle.sctp_model.specs.end.Closing.{rested}
 use Rattle.sctp_safety.specs.States.{has_agreed}
-use Rattle.sctp_safety.proofs.Basics.{Has-cases}
+use Rattle.sctp_safety.proofs.lists.Basics.{Has-cases}
 use Rattle.sctp_safety.proofs.machine.EndWords.{rested_cases}
 use Rattle.sctp_safety.proofs.runs.Direction.{with_chunks, Bags, IsSaid, IsSaidBack, Direction}
 use Rattle.sctp_safety.proofs.runs.Sending.{said_more}

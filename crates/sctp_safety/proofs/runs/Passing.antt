@@ -17,11 +17,11 @@ use Rattle.sctp_model.proofs.sender.PointLaws.{point_is_point}
 use Rattle.sctp_model.proofs.sender.ForwardLaws.{forward_is_forward}
 use Rattle.sctp_safety.specs.Way.{Put_forward}
 use Rattle.sctp_safety.specs.ReceiverLaws.{IsTopped}
-use Rattle.sctp_safety.proofs.Basics.{item_at-within}
-use Rattle.sctp_safety.proofs.Facts.{IsOrderedPlan, Good}
-use Rattle.sctp_safety.proofs.OrderlyPlan.{orderly_when_arranged}
-use Rattle.sctp_safety.proofs.Built.{forward_is_allowed}
-use Rattle.sctp_safety.proofs.Taken.{leads_by}
+use Rattle.sctp_safety.proofs.lists.Basics.{item_at-within}
+use Rattle.sctp_safety.proofs.moves.Facts.{IsOrderedPlan, Good}
+use Rattle.sctp_safety.proofs.plan.OrderlyPlan.{orderly_when_arranged}
+use Rattle.sctp_safety.proofs.moves.Built.{forward_is_allowed}
+use Rattle.sctp_safety.proofs.moves.Taken.{leads_by}
 use Rattle.sctp_safety.proofs.runs.Direction.{Bags, way_of, IsForwardIn, IsSaid, Direction}
 use Rattle.sctp_safety.proofs.runs.Sending.{good_here, sender_moved, said_more}
 

@@ -17,8 +17,8 @@ use Rattle.sctp_safety.specs.Agreement.{IsOpening}
 use Rattle.sctp_safety.specs.Runs.{TwoEndsAreSafe, NothingIsMissing}
 use Rattle.sctp_safety.proofs.machine.Ground.{IsFine}
 use Rattle.sctp_safety.proofs.machine.EndsAgree.{fine_by, IsSound, sound_step, sound_start, opening_of}
-use Rattle.sctp_safety.proofs.SafeWhenGood.{safe_when_good}
-use Rattle.sctp_safety.proofs.UsualLemmas.{good_usual}
+use Rattle.sctp_safety.proofs.moves.SafeWhenGood.{safe_when_good}
+use Rattle.sctp_safety.proofs.moves.UsualLemmas.{good_usual}
 use Rattle.sctp_safety.proofs.machine.DiagramRuns.{step_onward}
 use Rattle.sctp_safety.proofs.runs.Bags.{chunks_in}
 use Rattle.sctp_safety.proofs.runs.Direction.{way_of, Direction}

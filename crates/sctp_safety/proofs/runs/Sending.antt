@@ -27,15 +27,15 @@ use Rattle.sctp_model.proofs.sender.AbandonedLaws.{expired_reached}
 use Rattle.sctp_safety.specs.Way.{Way, Time_passes}
 use Rattle.sctp_safety.specs.ReceiverLaws.{IsPieceSaid}
 use Rattle.sctp_safety.specs.SenderLaws.{IsMoved, IsPut, IsFilled, IsSackOf}
-use Rattle.sctp_safety.proofs.Basics.{Has-cases}
-use Rattle.sctp_safety.proofs.Facts.{Good}
-use Rattle.sctp_safety.proofs.Taken.{leads_by}
-use Rattle.sctp_safety.proofs.UsualLemmas.{good_usual, usual_moved}
-use Rattle.sctp_safety.proofs.ReadBounds.{reached_within}
-use Rattle.sctp_safety.proofs.FillMoves.{fill_is_moves}
-use Rattle.sctp_safety.proofs.QueueMoves.{queue_is_moves}
-use Rattle.sctp_safety.proofs.GivingMoves.{abandon_is_moves, expire_is_moves, timeout_is_moves}
-use Rattle.sctp_safety.proofs.SackMoves.{sack_is_moves, shutdown_is_moves}
+use Rattle.sctp_safety.proofs.lists.Basics.{Has-cases}
+use Rattle.sctp_safety.proofs.moves.Facts.{Good}
+use Rattle.sctp_safety.proofs.moves.Taken.{leads_by}
+use Rattle.sctp_safety.proofs.moves.UsualLemmas.{good_usual, usual_moved}
+use Rattle.sctp_safety.proofs.receiving.ReadBounds.{reached_within}
+use Rattle.sctp_safety.proofs.sending.FillMoves.{fill_is_moves}
+use Rattle.sctp_safety.proofs.sending.QueueMoves.{queue_is_moves}
+use Rattle.sctp_safety.proofs.sending.GivingMoves.{abandon_is_moves, expire_is_moves, timeout_is_moves}
+use Rattle.sctp_safety.proofs.sending.SackMoves.{sack_is_moves, shutdown_is_moves}
 use Rattle.sctp_safety.proofs.runs.Grown.{plan_lasts}
 use Rattle.sctp_safety.proofs.runs.Direction.{with_chunks, Bags, way_of, IsSaid, Direction, assigned_below_half, IsMore, more_same, said_later, said_back_later}
 

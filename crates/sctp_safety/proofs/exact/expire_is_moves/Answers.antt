@@ -1,4 +1,4 @@
-use Rattle.sctp_safety.proofs.GivingMoves.{expire_is_moves as it}
+use Rattle.sctp_safety.proofs.sending.GivingMoves.{expire_is_moves as it}
 use Rattle.sctp_safety.proofs.exact.expire_is_moves.Goals as goal
 
 pub returns : goal.returns

@@ -1,4 +1,4 @@
-use Rattle.sctp_safety.proofs.SackMade.{sack_made_is_moves as it}
+use Rattle.sctp_safety.proofs.receiving.SackMade.{sack_made_is_moves as it}
 use Rattle.sctp_safety.proofs.exact.sack_made_is_moves.Goals as goal
 
 pub returns : goal.returns

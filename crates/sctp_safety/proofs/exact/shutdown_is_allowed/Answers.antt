@@ -1,4 +1,4 @@
-use Rattle.sctp_safety.proofs.Built.{shutdown_is_allowed as it}
+use Rattle.sctp_safety.proofs.moves.Built.{shutdown_is_allowed as it}
 use Rattle.sctp_safety.proofs.exact.shutdown_is_allowed.Goals as goal
 
 pub returns : goal.returns

@@ -1,4 +1,4 @@
-use Rattle.sctp_safety.proofs.RestLaws.{filter_words}
+use Rattle.sctp_safety.proofs.receiving.RestLaws.{filter_words}
 use Rattle.sctp_safety.proofs.rest.nothing_whole_is_let_go.Goals as goal
 
 pub returns : goal.returns

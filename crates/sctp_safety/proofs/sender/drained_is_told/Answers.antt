@@ -1,4 +1,4 @@
-use Rattle.sctp_safety.proofs.SenderCalls.{drained_is_told as law}
+use Rattle.sctp_safety.proofs.sending.SenderCalls.{drained_is_told as law}
 use Rattle.sctp_safety.proofs.sender.drained_is_told.Goals as goal
 
 pub returns : goal.returns

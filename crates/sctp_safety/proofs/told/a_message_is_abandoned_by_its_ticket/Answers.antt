@@ -1,4 +1,4 @@
-use Rattle.sctp_safety.proofs.AbandonedLemmas.{abandon_is_taken}
+use Rattle.sctp_safety.proofs.sending.AbandonedLemmas.{abandon_is_taken}
 use Rattle.sctp_safety.proofs.told.a_message_is_abandoned_by_its_ticket.Goals as goal
 
 pub returns : goal.returns

@@ -1,4 +1,4 @@
-use Rattle.sctp_safety.proofs.ToldLemmas.{acknowledged_is_told, abandoned_is_told, answer_is_told}
+use Rattle.sctp_safety.proofs.sending.ToldLemmas.{acknowledged_is_told, abandoned_is_told, answer_is_told}
 use Rattle.sctp_safety.proofs.told.a_message_is_told_by_its_ticket.Goals as goal
 
 pub returns-clause-acknowledged : goal.returns-clause-acknowledged

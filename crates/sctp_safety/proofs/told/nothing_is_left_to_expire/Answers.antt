@@ -1,4 +1,4 @@
-use Rattle.sctp_safety.proofs.ExpiredLemmas.{none_is_left_to_expire}
+use Rattle.sctp_safety.proofs.sending.ExpiredLemmas.{none_is_left_to_expire}
 use Rattle.sctp_safety.proofs.told.nothing_is_left_to_expire.Goals as goal
 
 pub returns : goal.returns

@@ -1,3 +1,0 @@
-pub mod Sending
-pub mod Ends
-pub mod World

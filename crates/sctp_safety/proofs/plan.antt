@@ -1,0 +1,15 @@
+pub mod Searches
+pub mod EntryLemmas
+pub mod Gains
+pub mod InPart
+pub mod OneMessage
+pub mod OrderlyPlan
+pub mod PlanGrows
+pub mod PlanLemmas
+pub mod NameFacts
+pub mod QueueLemmas
+pub mod WholeLaw
+pub mod SkipLaw
+pub mod Framing
+pub mod Spread
+pub mod WaitedFor

@@ -1,0 +1,12 @@
+pub mod AssignMoves
+pub mod FillMoves
+pub mod GivingMoves
+pub mod SackMoves
+pub mod QueueMoves
+pub mod OrderlyCalls
+pub mod SenderCalls
+pub mod NewlyAbandoned
+pub mod ToldLemmas
+pub mod AbandonedLemmas
+pub mod EndedLemmas
+pub mod ExpiredLemmas
