@@ -1,3 +1,6 @@
 mod CommandLemmas
+mod FieldLemmas
 mod LineLemmas
+mod RunLemmas
 mod SessionLemmas
+mod SetUpLemmas

@@ -2,7 +2,7 @@
 use Rattle.std.proofs.Common.{◌≡◌, ℕ, ◌≤◌, List, [], ◌∷◌, length, sym, ap, ◌∙◌, subst, arith}
 use Rattle.sctp_end.specs.declared.command.Command.{Command}
 use Rattle.sctp_end.specs.declared.call.Call.{Call}
-use Rattle.sctp_end.specs.declared.line.LineFault.TheVariants.{TooLong, UnknownCommand, WordCount, BadValue}
+use Rattle.sctp_words.specs.declared.line_fault.LineFault.TheVariants.{TooLong, UnknownCommand, WordCount, BadValue, PairOrder}
 use Rattle.sctp_end.specs.Commands.{arguments_of}
 use Rattle.sctp_end.specs.Grammar.{Spells, IsLineOf, HasNoFault}
 use Rattle.sctp_end.proofs.CommandLemmas.{same_command}
@@ -34,3 +34,4 @@ faultless line c args call short is count says BadValue (d, bs, at, other, none)
     let same = one_command line c d args bs is at in
     let list = one_list line c d args bs is at in
     none call (subst (λ (x : Command). Spells x bs call) same (subst (λ (xs : List (List ℕ)). Spells c xs call) list says))
+faultless line c args call short is count says PairOrder f = f

@@ -1,6 +1,6 @@
 -- What becomes of a session by its end's calls.
 use Rattle.std.proofs.Common.{◌≡◌, ◌∙◌, ℕ, Bool, true, false, List, [], ◌∷◌, inl, inr, refl, sym, subst}
-use Rattle.std.specs.Prelude.{not, Option, Some, None, Ok, Err, slice_get}
+use Rattle.std.specs.Prelude.{not, Option, Some, None, Result, Ok, Err, MatchResult, slice_get}
 use Rattle.std.specs.declared.vec.Vec.{Vec}
 use Rattle.std.specs.declared.alloc.Global.{Global}
 use Rattle.sctp_model.specs.wire.Chunk.{ChunkMeaning}
@@ -22,7 +22,8 @@ use Rattle.sctp_values.specs.declared.no_memory.NoMemory.{NoMemory}
 use Rattle.sctp_values.specs.declared.ticket.Ticket.{Ticket}
 use Rattle.sctp_values.specs.Meanings.{kind_meaning}
 use Rattle.sctp_terms.specs.declared.reason.Reason.{Reason}
-use Rattle.sctp_packet.specs.PacketBytes.{WritesPacket}
+use Rattle.sctp_packet.specs.declared.fault.PacketFault.{PacketFault}
+use Rattle.sctp_packet.specs.PacketBytes.{ReadsPacket, FaultsPacket, WritesPacket}
 use Rattle.sctp_send.specs.SenderAnswers.{lane_for}
 use Rattle.sctp_association.specs.AbortAnswers.{AbortAnswers, aborted_view}
 use Rattle.sctp_association.specs.CallAnswers.{call_of, SendAnswers, sent_view}
@@ -31,7 +32,7 @@ use Rattle.sctp_endpoint.specs.declared.after.Verdict.TheVariants as verdict
 use Rattle.sctp_endpoint.specs.declared.endpoint.Endpoint.{Endpoint}
 use Rattle.sctp_endpoint.specs.declared.transmit.Sent.{Sent}
 use Rattle.sctp_endpoint.specs.EndpointStands.{EndpointStands}
-use Rattle.sctp_endpoint.specs.Handled.{Handled, VerdictStands}
+use Rattle.sctp_endpoint.specs.Handled.{IsRead, Handled, VerdictStands}
 use Rattle.sctp_endpoint.specs.Transmitted.{IsSent}
 use Rattle.sctp_end.specs.declared.call.Call.{Call}
 use Rattle.sctp_end.specs.declared.call.Call.TheVariants as call
@@ -89,53 +90,63 @@ told_answer packet bytes (strays.Answer p) is writes = (bytes, subst (λ (ys : L
 told_answer packet bytes (strays.Dropped n) is writes = absurd writes
 told_answer packet bytes strays.Taken is writes = absurd writes
 
+-- bytes that were read are a packet or have a fault
+pub came_as : {P : Type 0} → (meaning : P → Packet) → (shown bytes : List ℕ) (answer : Result P PacketFault) → shown ≡ bytes
+    → MatchResult answer (λ packet. ReadsPacket shown (meaning packet)) (λ fault. FaultsPacket shown fault) → (o : Option Packet) × IsRead bytes o
+came_as meaning shown bytes (Ok packet) is reads = (Some (meaning packet), subst (λ (ys : List ℕ). ReadsPacket ys (meaning packet)) is reads)
+came_as meaning shown bytes (Err fault) is faults = (None, (fault, subst (λ (ys : List ℕ). FaultsPacket ys fault) is faults))
+
 -- the call was made, and the end that it leaves is this one
-abbrev pub Leaves : (List ℕ → Option Packet) → Standing → Call → Reply → Endpoint → Type 0
-Leaves read s c r e = (w : EndView) × Performs read s c r (record s { view = w }) × EndpointStands e w
+abbrev pub Leaves : Standing → Call → Reply → Endpoint → Type 0
+Leaves s c r e = (w : EndView) × Performs s c r (record s { view = w }) × EndpointStands e w
 
-heard : (read : List ℕ → Option Packet) (s : Standing) (bytes shown : List ℕ) (told : Verdict) (e : Endpoint) (r : Reply) → shown ≡ bytes
-    → Handled s.view s.now s.draw (read shown) (Ok told) e → ((x : strays.Verdict) → VerdictStands told x → TellsPacket x r) → Leaves read s (call.Packet bytes) r e
-heard read s bytes shown told e r is h tells =
-    let came = subst (λ (ys : List ℕ). Handled s.view s.now s.draw (read ys) (Ok told) e) is h in
-    (came.0, PacketComes bytes came.0 came.1 r came.2 (tells came.1 came.3), came.4)
+-- what handling these bytes tells, whatever they are
+abbrev Handles : Standing → List ℕ → Result Verdict NoMemory → Endpoint → Type 0
+Handles s shown told e = (o : Option Packet) → IsRead shown o → Handled s.view s.now s.draw o told e
 
-pub heard_taken : (read : List ℕ → Option Packet) (s : Standing) (bytes shown : List ℕ) (e : Endpoint) → shown ≡ bytes
-    → Handled s.view s.now s.draw (read shown) (Ok verdict.Taken) e → Leaves read s (call.Packet bytes) reply.Taken e
-heard_taken read s bytes shown e is h = heard read s bytes shown verdict.Taken e reply.Taken is h told_taken
+heard : (s : Standing) (bytes shown : List ℕ) (told : Verdict) (e : Endpoint) (r : Reply) → ((o : Option Packet) × IsRead bytes o) → shown ≡ bytes
+    → Handles s shown (Ok told) e → ((x : strays.Verdict) → VerdictStands told x → TellsPacket x r) → Leaves s (call.Packet bytes) r e
+heard s bytes shown told e r (o, reads) is h tells =
+    let came = h o (subst (λ (ys : List ℕ). IsRead ys o) (sym is) reads) in
+    (came.0, PacketComes bytes o came.0 came.1 r reads came.2 (tells came.1 came.3), came.4)
 
-pub heard_dropped : (read : List ℕ → Option Packet) (s : Standing) (bytes shown : List ℕ) (reason : Reason) (e : Endpoint) → shown ≡ bytes
-    → Handled s.view s.now s.draw (read shown) (Ok (verdict.Dropped reason)) e → Leaves read s (call.Packet bytes) (reply.Dropped reason) e
-heard_dropped read s bytes shown reason e is h = heard read s bytes shown (verdict.Dropped reason) e (reply.Dropped reason) is h (told_dropped reason)
+pub heard_taken : (s : Standing) (bytes shown : List ℕ) (e : Endpoint) → ((o : Option Packet) × IsRead bytes o) → shown ≡ bytes
+    → Handles s shown (Ok verdict.Taken) e → Leaves s (call.Packet bytes) reply.Taken e
+heard_taken s bytes shown e reads is h = heard s bytes shown verdict.Taken e reply.Taken reads is h told_taken
 
-pub heard_answer : (read : List ℕ → Option Packet) (s : Standing) (bytes shown : List ℕ) (packet : Vec ℕ Global) (answer : List ℕ) (e : Endpoint) → shown ≡ bytes
-    → Handled s.view s.now s.draw (read shown) (Ok (verdict.Answer packet)) e → answer ≡ packet.items → Leaves read s (call.Packet bytes) (reply.Answer answer) e
-heard_answer read s bytes shown packet answer e is h same = heard read s bytes shown (verdict.Answer packet) e (reply.Answer answer) is h (λ x. told_answer packet answer x same)
+pub heard_dropped : (s : Standing) (bytes shown : List ℕ) (reason : Reason) (e : Endpoint) → ((o : Option Packet) × IsRead bytes o) → shown ≡ bytes
+    → Handles s shown (Ok (verdict.Dropped reason)) e → Leaves s (call.Packet bytes) (reply.Dropped reason) e
+heard_dropped s bytes shown reason e reads is h = heard s bytes shown (verdict.Dropped reason) e (reply.Dropped reason) reads is h (told_dropped reason)
 
-pub cut_short : (read : List ℕ → Option Packet) (s : Standing) (bytes shown : List ℕ) (why : NoMemory) (e : Endpoint) → shown ≡ bytes
-    → Handled s.view s.now s.draw (read shown) (Err why) e → Leaves read s (call.Packet bytes) reply.NoMemory e
-cut_short read s bytes shown why e is h =
-    let came = subst (λ (ys : List ℕ). Handled s.view s.now s.draw (read ys) (Err why) e) is h in
-    (came.0, PacketCut bytes came.0 came.1 came.3, came.2)
+pub heard_answer : (s : Standing) (bytes shown : List ℕ) (packet : Vec ℕ Global) (answer : List ℕ) (e : Endpoint) → ((o : Option Packet) × IsRead bytes o) → shown ≡ bytes
+    → Handles s shown (Ok (verdict.Answer packet)) e → answer ≡ packet.items → Leaves s (call.Packet bytes) (reply.Answer answer) e
+heard_answer s bytes shown packet answer e reads is h same = heard s bytes shown (verdict.Answer packet) e (reply.Answer answer) reads is h (λ x. told_answer packet answer x same)
+
+pub cut_short : (s : Standing) (bytes shown : List ℕ) (why : NoMemory) (e : Endpoint) → ((o : Option Packet) × IsRead bytes o) → shown ≡ bytes
+    → Handles s shown (Err why) e → Leaves s (call.Packet bytes) reply.NoMemory e
+cut_short s bytes shown why e (o, reads) is h =
+    let came = h o (subst (λ (ys : List ℕ). IsRead ys o) (sym is) reads) in
+    (came.0, PacketCut bytes o came.0 reads came.1 came.3, came.2)
 
 -- ---- a packet that is built
 
-built_at : (read : List ℕ → Option Packet) (s : Standing) (bytes : List ℕ) (cs : List ChunkMeaning) (t : EndView) → (cs ≡ [] → ⊥) → Builds (at_moment s.view s.now) cs t
-    → WritesPacket bytes (packet_of (at_moment s.view s.now) cs) → Performs read s call.Build (reply.Sent bytes) (record s { view = t })
-built_at read s bytes [] t some builds writes = absurd (some refl)
-built_at read s bytes (x ∷ xs) t some builds writes = BuildsOne bytes x xs t builds writes
+built_at : (s : Standing) (bytes : List ℕ) (cs : List ChunkMeaning) (t : EndView) → (cs ≡ [] → ⊥) → Builds (at_moment s.view s.now) cs t
+    → WritesPacket bytes (packet_of (at_moment s.view s.now) cs) → Performs s call.Build (reply.Sent bytes) (record s { view = t })
+built_at s bytes [] t some builds writes = absurd (some refl)
+built_at s bytes (x ∷ xs) t some builds writes = BuildsOne bytes x xs t builds writes
 
-pub built_one : (read : List ℕ → Option Packet) (s : Standing) (sent : Sent) (bytes : List ℕ) (e : Endpoint) → IsSent (at_moment s.view s.now) sent e
-    → bytes ≡ sent.packet.items → Leaves read s call.Build (reply.Sent bytes) e
-built_one read s sent bytes e h is =
-    (h.after, built_at read s bytes h.chunks h.after h.some h.builds (subst (λ (ys : List ℕ). WritesPacket ys (packet_of (at_moment s.view s.now) h.chunks)) (sym is) h.packet), h.stands)
+pub built_one : (s : Standing) (sent : Sent) (bytes : List ℕ) (e : Endpoint) → IsSent (at_moment s.view s.now) sent e
+    → bytes ≡ sent.packet.items → Leaves s call.Build (reply.Sent bytes) e
+built_one s sent bytes e h is =
+    (h.after, built_at s bytes h.chunks h.after h.some h.builds (subst (λ (ys : List ℕ). WritesPacket ys (packet_of (at_moment s.view s.now) h.chunks)) (sym is) h.packet), h.stands)
 
 -- ---- a message that is sent
 
-pub accepted : (read : List ℕ → Option Packet) (s : Standing) (stream : ℕ) (kind : Kind) (payload : ℕ) (until : Option ℕ) (bytes items : List ℕ) (b : Bool) (k : Ticket) (e : Endpoint)
+pub accepted : (s : Standing) (stream : ℕ) (kind : Kind) (payload : ℕ) (until : Option ℕ) (bytes items : List ℕ) (b : Bool) (k : Ticket) (e : Endpoint)
     → lane_kind b ≡ kind_meaning kind → items ≡ bytes → SendAnswers s.view (call_of (lane_for stream (not b)) payload items until) (Ok k)
     → EndpointStands e (sent_view s.view (call_of (lane_for stream (not b)) payload items until) (Ok k))
-    → Leaves read s (call.Send stream kind payload until bytes) (reply.Ticket k.0) e
-accepted read s stream kind payload until bytes items b k e flag is answer stands =
+    → Leaves s (call.Send stream kind payload until bytes) (reply.Ticket k.0) e
+accepted s stream kind payload until bytes items b k e flag is answer stands =
     let same = same_message stream kind payload until bytes items b flag is in (
       send_leaves (model.Ticket k.0) s.view (message_of stream kind payload until bytes),
       Sends stream kind payload until bytes (model.Ticket k.0) (subst (λ (m : Message). send_answer s.view m ≡ model.Ticket k.0) same answer),
@@ -143,22 +154,22 @@ accepted read s stream kind payload until bytes items b k e flag is answer stand
     )
 
 -- what is told changes nothing
-told_sent : (read : List ℕ → Option Packet) (s : Standing) (stream : ℕ) (kind : Kind) (payload : ℕ) (until : Option ℕ) (bytes : List ℕ) (r : Reply)
-    → SendTold s.view (message_of stream kind payload until bytes) r → Performs read s (call.Send stream kind payload until bytes) r s
-told_sent read s stream kind payload until bytes r (inl (a, is, said, same)) =
+told_sent : (s : Standing) (stream : ℕ) (kind : Kind) (payload : ℕ) (until : Option ℕ) (bytes : List ℕ) (r : Reply)
+    → SendTold s.view (message_of stream kind payload until bytes) r → Performs s (call.Send stream kind payload until bytes) r s
+told_sent s stream kind payload until bytes r (inl (a, is, said, same)) =
     let c = call.Send stream kind payload until bytes in
     let done = Sends stream kind payload until bytes a is in
-    let here = subst (λ (v : EndView). Performs read s c (send_reply a) (record s { view = v })) same done in
-    subst (λ (x : Reply). Performs read s c x s) (sym said) here
-told_sent read s stream kind payload until bytes r (inr want) =
-    subst (λ (x : Reply). Performs read s (call.Send stream kind payload until bytes) x s) (sym want) (WantsMemory (call.Send stream kind payload until bytes) refl)
+    let here = subst (λ (v : EndView). Performs s c (send_reply a) (record s { view = v })) same done in
+    subst (λ (x : Reply). Performs s c x s) (sym said) here
+told_sent s stream kind payload until bytes r (inr want) =
+    subst (λ (x : Reply). Performs s (call.Send stream kind payload until bytes) x s) (sym want) (WantsMemory (call.Send stream kind payload until bytes) refl)
 
-pub refused : (read : List ℕ → Option Packet) (s : Standing) (stream : ℕ) (kind : Kind) (payload : ℕ) (until : Option ℕ) (bytes items : List ℕ) (b : Bool) (r : Reply) (e : Endpoint)
+pub refused : (s : Standing) (stream : ℕ) (kind : Kind) (payload : ℕ) (until : Option ℕ) (bytes items : List ℕ) (b : Bool) (r : Reply) (e : Endpoint)
     → lane_kind b ≡ kind_meaning kind → items ≡ bytes → SendTold s.view (call_of (lane_for stream (not b)) payload items until) r → EndpointStands e s.view
-    → Leaves read s (call.Send stream kind payload until bytes) r e
-refused read s stream kind payload until bytes items b r e flag is told stands =
+    → Leaves s (call.Send stream kind payload until bytes) r e
+refused s stream kind payload until bytes items b r e flag is told stands =
     let same = same_message stream kind payload until bytes items b flag is in
-    (s.view, told_sent read s stream kind payload until bytes r (subst (λ (m : Message). SendTold s.view m r) same told), stands)
+    (s.view, told_sent s stream kind payload until bytes r (subst (λ (m : Message). SendTold s.view m r) same told), stands)
 
 -- a refusal of the sender is the definitions'
 pub refuses : (v : EndView) (m : Message) (q : queueing.Refusal) → hears is_established v.phase ≡ true → refusal v.sender m.lane.stream m.bytes ≡ Some q
@@ -167,10 +178,10 @@ refuses v m q heard is = inl (model.Refused q, rw heard (rw is refl), refl, refl
 
 -- ---- an abort
 
-pub aborted : (read : List ℕ → Option Packet) (s : Standing) (reason shown : List ℕ) (packet : Vec ℕ Global) (bytes : List ℕ) (e : Endpoint) → shown ≡ reason
+pub aborted : (s : Standing) (reason shown : List ℕ) (packet : Vec ℕ Global) (bytes : List ℕ) (e : Endpoint) → shown ≡ reason
     → AbortAnswers s.view shown (Ok packet) → bytes ≡ packet.items → EndpointStands e (aborted_view s.view shown (Ok packet))
-    → Leaves read s (call.Abort reason) (reply.Answer bytes) e
-aborted read s reason shown packet bytes e is answer same stands =
+    → Leaves s (call.Abort reason) (reply.Answer bytes) e
+aborted s reason shown packet bytes e is answer same stands =
     let told = subst (λ (ys : List ℕ). AbortAnswers s.view ys (Ok packet)) is answer in
     let left = subst (λ (ys : List ℕ). EndpointStands e (aborted_view s.view ys (Ok packet))) is stands in (
       abort_leaves (model.Aborts told.0) s.view,
@@ -178,11 +189,11 @@ aborted read s reason shown packet bytes e is answer same stands =
       subst (λ (a : model.AbortAnswer). EndpointStands e (abort_leaves a s.view)) told.1 left,
     )
 
-told_abort : (read : List ℕ → Option Packet) (s : Standing) (reason : List ℕ) (r : Reply) → AbortTold s.view reason r → Performs read s (call.Abort reason) r s
-told_abort read s reason r (inl (a, is, tells, same)) =
-    subst (λ (v : EndView). Performs read s (call.Abort reason) r (record s { view = v })) same (AbortsIt reason a r is tells)
-told_abort read s reason r (inr want) = subst (λ (x : Reply). Performs read s (call.Abort reason) x s) (sym want) (WantsMemory (call.Abort reason) refl)
+told_abort : (s : Standing) (reason : List ℕ) (r : Reply) → AbortTold s.view reason r → Performs s (call.Abort reason) r s
+told_abort s reason r (inl (a, is, tells, same)) =
+    subst (λ (v : EndView). Performs s (call.Abort reason) r (record s { view = v })) same (AbortsIt reason a r is tells)
+told_abort s reason r (inr want) = subst (λ (x : Reply). Performs s (call.Abort reason) x s) (sym want) (WantsMemory (call.Abort reason) refl)
 
-pub abort_not : (read : List ℕ → Option Packet) (s : Standing) (reason shown : List ℕ) (r : Reply) (e : Endpoint) → shown ≡ reason → AbortTold s.view shown r
-    → EndpointStands e s.view → Leaves read s (call.Abort reason) r e
-abort_not read s reason shown r e is told stands = (s.view, told_abort read s reason r (subst (λ (ys : List ℕ). AbortTold s.view ys r) is told), stands)
+pub abort_not : (s : Standing) (reason shown : List ℕ) (r : Reply) (e : Endpoint) → shown ≡ reason → AbortTold s.view shown r
+    → EndpointStands e s.view → Leaves s (call.Abort reason) r e
+abort_not s reason shown r e is told stands = (s.view, told_abort s reason r (subst (λ (ys : List ℕ). AbortTold s.view ys r) is told), stands)

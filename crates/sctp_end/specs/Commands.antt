@@ -1,10 +1,11 @@
 -- The commands: their names, which are all different, and the fields behind each.
 use Rattle.std.specs.Prelude.{ℕ, if◌then◌else◌, List, [], ◌∷◌, length, Option, None, Some, codes, bytes_eq}
-use Rattle.sctp_end.specs.Fields.{Field, ANumber, ATag, AKind, AnUntil, SomeBytes, Values}
+use Rattle.sctp_end.specs.Fields.{Field, ANumber, ATag, AKind, AnUntil, SomeBytes, Value}
 use Rattle.sctp_end.specs.declared.command.Command.{Command}
 use Rattle.sctp_end.specs.declared.command.Command.TheVariants.{Connect, Draw, At, Packet, Build, Send, Abandon, Acknowledged, Abandoned, Take, Shutdown, Abort, Next, State, Held}
 use Rattle.sctp_end.specs.declared.call.Call.{Call}
 use Rattle.sctp_end.specs.declared.call.Call.TheVariants as call
+use Rattle.sctp_words.specs.Fields.{Values}
 
 -- all commands
 abbrev pub commands : List Command
@@ -61,7 +62,7 @@ abbrev pub arguments_of : Command → ℕ
 arguments_of c = length (fields_of c)
 
 -- What a command with these values asks for.
-abbrev pub meaning_of : (c : Command) → Values (fields_of c) → Call
+abbrev pub meaning_of : (c : Command) → Values Value (fields_of c) → Call
 meaning_of Connect (tag, (tsn, rest)) = call.Connect (record { tag = tag; tsn = tsn })
 meaning_of Draw (tag, (tsn, rest)) = call.NewDraw (record { tag = tag; tsn = tsn })
 meaning_of At (moment, rest) = call.At moment

@@ -1,31 +1,27 @@
 -- What a line says. A line is bytes without the line feed.
-use Rattle.std.specs.Prelude.{◌≡◌, ◌≢◌, ℕ, ◌<◌, List, [], ◌∷◌, length, Option, Some, None}
+use Rattle.std.specs.Prelude.{◌≡◌, ◌≢◌, ℕ, ◌<◌, List, ◌∷◌, length, Option, Some, None}
 use Rattle.sctp_end.specs.declared.command.Command.{Command}
 use Rattle.sctp_end.specs.declared.call.Call.{Call}
-use Rattle.sctp_end.specs.declared.line.TheConstants.{COMMENT}
-use Rattle.sctp_end.specs.declared.line.LineFault.{LineFault}
-use Rattle.sctp_end.specs.declared.line.LineFault.TheVariants.{TooLong, UnknownCommand, WordCount, BadValue}
-use Rattle.sctp_end.specs.declared.line.LineError.{LineError}
-use Rattle.sctp_end.specs.declared.line.LineError.TheVariants as error
 use Rattle.sctp_end.specs.Commands.{name_of, fields_of, arguments_of, meaning_of}
-use Rattle.sctp_end.specs.Fields.{Values, AreValues}
+use Rattle.sctp_end.specs.Fields.{Value, IsValue}
 use Rattle.sctp_text.specs.declared.limits.TheConstants.{LONGEST_LINE}
 use Rattle.sctp_text.specs.SpacedWords.{words_of}
+use Rattle.sctp_words.specs.declared.line_fault.LineError.{LineError}
+use Rattle.sctp_words.specs.declared.line_fault.LineError.TheVariants as error
+use Rattle.sctp_words.specs.declared.line_fault.LineFault.{LineFault}
+use Rattle.sctp_words.specs.declared.line_fault.LineFault.TheVariants.{TooLong, UnknownCommand, WordCount, BadValue, PairOrder}
+use Rattle.sctp_words.specs.Fields.{Values, AreValues}
+use Rattle.sctp_words.specs.Lines.{IsSilent, kind_of}
 
 -- What a command asks for with these words behind it.
 abbrev pub Spells : Command → List (List ℕ) → Call → Type 0
-Spells c args call = (vs : Values (fields_of c)) × AreValues (fields_of c) args vs × (call ≡ meaning_of c vs)
-
--- an empty line, or a comment
-abbrev pub IsSilent : List ℕ → Type 0
-IsSilent [] = Unit {0}
-IsSilent (c ∷ cs) = c ≡ COMMENT
+Spells c args call = (vs : Values Value (fields_of c)) × AreValues Value IsValue (fields_of c) args vs × (call ≡ meaning_of c vs)
 
 -- the line is this command with these words behind it
 abbrev pub IsLineOf : List ℕ → Command → List (List ℕ) → Type 0
 IsLineOf line c args = words_of line ≡ name_of c ∷ args
 
--- What is wrong with a line, fault by fault.
+-- What is wrong with a line, fault by fault; of one end no line is out of order.
 abbrev pub HasFault : List ℕ → LineFault → Type 0
 HasFault line TooLong = LONGEST_LINE < length line
 HasFault line UnknownCommand = (IsSilent line → ⊥) × ((c : Command) (args : List (List ℕ)) → IsLineOf line c args → ⊥)
@@ -33,13 +29,7 @@ HasFault line WordCount = (c : Command) × (args : List (List ℕ)) × IsLineOf 
 HasFault line BadValue =
     (c : Command) × (args : List (List ℕ)) × IsLineOf line c args × (length args ≡ arguments_of c)
     × ((call : Call) → Spells c args call → ⊥)
-
--- the kinds of the faults
-abbrev pub kind_of : LineFault → ℕ
-kind_of TooLong = 1
-kind_of UnknownCommand = 2
-kind_of WordCount = 3
-kind_of BadValue = 4
+HasFault line PairOrder = ⊥
 
 -- of several faults the one with the smallest kind counts
 abbrev pub IsFirstFaultOf : List ℕ → LineFault → Type 0

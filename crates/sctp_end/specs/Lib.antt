@@ -4,6 +4,7 @@ pub mod Grammar
 pub mod ReplyText
 pub mod Performing
 pub mod SessionStands
-pub mod Runs
+pub mod Answering
 pub mod SetUpWords
+pub mod ExitStatus
 pub mod inner

@@ -36,10 +36,6 @@ pub record Standing : Type 0 where
   pub draw : Draw
   pub now : ℕ
 
--- what each list of bytes reads as: its packet, or none where it has a fault
-abbrev pub IsReader : (List ℕ → Option Packet) → Type 0
-IsReader read = (bytes : List ℕ) → IsRead bytes (read bytes)
-
 -- ---- what is told
 
 -- of connect
@@ -98,37 +94,37 @@ may_want _ = false
 
 -- ---- calls
 
--- A call is answered so, and leaves this; `read` says what packets read as.
-pub data Performs (read : List ℕ → Option Packet) (s : Standing) : Call → Reply → Standing → Type 0 where
+-- A call is answered so, and leaves this.
+pub data Performs (s : Standing) : Call → Reply → Standing → Type 0 where
   Connects : (d : Draw) (a : model.ConnectAnswer) → connect_answer s.view.phase ≡ a →
-      Performs read s (call.Connect d) (connect_reply a) (record s { view = connect_leaves a s d })
-  Draws : (d : Draw) → Performs read s (call.NewDraw d) reply.Done (record s { draw = d })
+      Performs s (call.Connect d) (connect_reply a) (record s { view = connect_leaves a s d })
+  Draws : (d : Draw) → Performs s (call.NewDraw d) reply.Done (record s { draw = d })
   TimePasses : (m now : ℕ) → now ≡ max s.now m →
-      Performs read s (call.At m) reply.Done (record s { view = ticked s.view now; now = now })
-  PacketComes : (bytes : List ℕ) (t : EndView) (x : strays.Verdict) (r : Reply) → Receives s.view s.now s.draw (read bytes) t x → TellsPacket x r →
-      Performs read s (call.Packet bytes) r (record s { view = t })
-  PacketCut : (bytes : List ℕ) (t : EndView) → IsCutShort s.view s.now s.draw (read bytes) t → (WantsNoMemory s.view s.now s.draw (read bytes) → ⊥) →
-      Performs read s (call.Packet bytes) reply.NoMemory (record s { view = t })
+      Performs s (call.At m) reply.Done (record s { view = ticked s.view now; now = now })
+  PacketComes : (bytes : List ℕ) (p : Option Packet) (t : EndView) (x : strays.Verdict) (r : Reply) → IsRead bytes p → Receives s.view s.now s.draw p t x → TellsPacket x r →
+      Performs s (call.Packet bytes) r (record s { view = t })
+  PacketCut : (bytes : List ℕ) (p : Option Packet) (t : EndView) → IsRead bytes p → IsCutShort s.view s.now s.draw p t → (WantsNoMemory s.view s.now s.draw p → ⊥) →
+      Performs s (call.Packet bytes) reply.NoMemory (record s { view = t })
   BuildsOne : (bytes : List ℕ) (x : ChunkMeaning) (xs : List ChunkMeaning) (t : EndView) → Builds (at_moment s.view s.now) (x ∷ xs) t →
-      WritesPacket bytes (packet_of (at_moment s.view s.now) (x ∷ xs)) → Performs read s call.Build (reply.Sent bytes) (record s { view = t })
-  BuildsNone : (t : EndView) → Builds (at_moment s.view s.now) [] t → Performs read s call.Build reply.Quiet (record s { view = t })
+      WritesPacket bytes (packet_of (at_moment s.view s.now) (x ∷ xs)) → Performs s call.Build (reply.Sent bytes) (record s { view = t })
+  BuildsNone : (t : EndView) → Builds (at_moment s.view s.now) [] t → Performs s call.Build reply.Quiet (record s { view = t })
   Sends : (stream : ℕ) (kind : Kind) (payload : ℕ) (until : Option ℕ) (bytes : List ℕ) (a : model.SendAnswer) →
       send_answer s.view (message_of stream kind payload until bytes) ≡ a →
-      Performs read s (call.Send stream kind payload until bytes) (send_reply a)
+      Performs s (call.Send stream kind payload until bytes) (send_reply a)
       (record s { view = send_leaves a s.view (message_of stream kind payload until bytes) })
   Abandons : (k : ℕ) (fate : Fates) → answer_meaning fate ≡ abandons s.view k →
-      Performs read s (call.Abandon k) (reply.Fate fate) (record s { view = abandoned_at s.view k })
-  TellsAcknowledged : (k : ℕ) (b : Bool) → b ≡ acknowledged s.view.sender k → Performs read s (call.Acknowledged k) (reply.Holds b) s
-  TellsAbandoned : (k : ℕ) (b : Bool) → b ≡ abandoned s.view.sender k → Performs read s (call.Abandoned k) (reply.Holds b) s
+      Performs s (call.Abandon k) (reply.Fate fate) (record s { view = abandoned_at s.view k })
+  TellsAcknowledged : (k : ℕ) (b : Bool) → b ≡ acknowledged s.view.sender k → Performs s (call.Acknowledged k) (reply.Holds b) s
+  TellsAbandoned : (k : ℕ) (b : Bool) → b ≡ abandoned s.view.sender k → Performs s (call.Abandoned k) (reply.Holds b) s
   TakesOne : (stream : ℕ) (h : Handed) (r : Reply) (t : EndView) → UserTakes s.view stream (Some h) t → TellsMessage stream h r →
-      Performs read s (call.Take stream) r (record s { view = t })
-  TakesNone : (stream : ℕ) (t : EndView) → UserTakes s.view stream None t → Performs read s (call.Take stream) (reply.Empty stream) (record s { view = t })
+      Performs s (call.Take stream) r (record s { view = t })
+  TakesNone : (stream : ℕ) (t : EndView) → UserTakes s.view stream None t → Performs s (call.Take stream) (reply.Empty stream) (record s { view = t })
   ShutsDown : (a : model.ShutdownAnswer) → shutdown_answer s.view.phase ≡ a →
-      Performs read s call.Shutdown (shutdown_reply a) (record s { view = shut s.view })
+      Performs s call.Shutdown (shutdown_reply a) (record s { view = shut s.view })
   AbortsIt : (reason : List ℕ) (a : model.AbortAnswer) (r : Reply) → abort_answer s.view reason ≡ a → TellsAbort a r →
-      Performs read s (call.Abort reason) r (record s { view = abort_leaves a s.view })
-  TellsNext : (m : Option ℕ) → m ≡ next_moment s.view → Performs read s call.Next (reply.Next m) s
+      Performs s (call.Abort reason) r (record s { view = abort_leaves a s.view })
+  TellsNext : (m : Option ℕ) → m ≡ next_moment s.view → Performs s call.Next (reply.Next m) s
   TellsState : (x : State) (y : Option End) → state_meaning x ≡ state_of s.view.phase → option_map end_meaning y ≡ ended_of s.view.phase →
-      Performs read s call.State (reply.Stands x y) s
-  TellsHeld : (n : ℕ) → n ≡ held_bytes s.view.receiver → Performs read s call.Held (reply.Held n) s
-  WantsMemory : (c : Call) → may_want c ≡ true → Performs read s c reply.NoMemory s
+      Performs s call.State (reply.Stands x y) s
+  TellsHeld : (n : ℕ) → n ≡ held_bytes s.view.receiver → Performs s call.Held (reply.Held n) s
+  WantsMemory : (c : Call) → may_want c ≡ true → Performs s c reply.NoMemory s

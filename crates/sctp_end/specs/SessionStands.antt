@@ -1,12 +1,10 @@
 -- Which session stands for what between two lines, and what it is after a call.
-use Rattle.std.specs.Prelude.{ℕ, List, Option}
-use Rattle.sctp_model.specs.wire.Packet.{Packet}
 use Rattle.sctp_model.specs.end.EndView.{EndView}
 use Rattle.sctp_endpoint.specs.EndpointStands.{EndpointStands}
 use Rattle.sctp_end.specs.declared.call.Call.{Call}
 use Rattle.sctp_end.specs.declared.reply.Reply.{Reply}
 use Rattle.sctp_end.specs.declared.session.Session.{Session}
-use Rattle.sctp_end.specs.Performing.{Standing, IsReader, Performs}
+use Rattle.sctp_end.specs.Performing.{Standing, Performs}
 
 -- the end as this view has it, with the session's draw and moment
 abbrev pub standing : Session → EndView → Standing
@@ -15,5 +13,4 @@ standing s v = record { view = v; draw = s.draw; now = s.moment }
 -- A session was asked for this, whatever view its end stands for, and answered so.
 abbrev pub Performed : Session → Call → Reply → Session → Type 0
 Performed old c r new =
-    (read : List ℕ → Option Packet) (v : EndView) → IsReader read → EndpointStands old.endpoint v
-    → (w : EndView) × Performs read (standing old v) c r (standing new w) × EndpointStands new.endpoint w
+    (v : EndView) → EndpointStands old.endpoint v → (w : EndView) × Performs (standing old v) c r (standing new w) × EndpointStands new.endpoint w

@@ -1,12 +1,56 @@
 -- What the words say that the program is started with.
-use Rattle.std.specs.Prelude.{true}
-use Rattle.sctp_model.specs.end.EndView.{Configuration}
-use Rattle.sctp_end.specs.declared.mode.Mode.{Mode}
-use Rattle.sctp_end.specs.declared.mode.Mode.TheVariants.{Data, DataPartial, IData, IDataPartial}
+use Rattle.std.specs.Prelude.{◌≡◌, ℕ, ◌⊎◌, List, [], ◌∷◌, ◌++◌, length, None, codes}
+use Rattle.sctp_model.specs.end.Configured.{configuration_fault, plain_configuration}
+use Rattle.sctp_model.specs.end.EndView.{Configuration, EndView, Caller, Listener, Idle, Listening, fresh_end}
+use Rattle.sctp_model.specs.end.Sealing.{Sealing}
+use Rattle.sctp_terms.specs.declared.mode.Mode.{Mode}
+use Rattle.sctp_terms.specs.Modes.{asked}
+use Rattle.sctp_cookie.specs.Seals.{IsUnder}
+use Rattle.sctp_end.specs.Fields.{Field, ANumber, AMode, Value, IsValue}
+use Rattle.sctp_end.specs.Performing.{Standing}
+use Rattle.sctp_text.specs.Numerals.{IsHex}
+use Rattle.sctp_words.specs.Fields.{Values, AreValues}
 
--- a configuration that asks for what a mode names
-abbrev pub with_mode : Mode → Configuration → Configuration
-with_mode Data c = c
-with_mode DataPartial c = record c { partial = true }
-with_mode IData c = record c { interleave = true }
-with_mode IDataPartial c = record c { partial = true; interleave = true }
+-- LIMIT FRAGMENT BUFFER STREAMS MODE PORT PEER
+abbrev pub setting_fields : List Field
+setting_fields = ANumber 16 ∷ ANumber 16 ∷ ANumber 32 ∷ ANumber 16 ∷ AMode ∷ ANumber 16 ∷ ANumber 16 ∷ []
+
+-- the configuration that they say but for the mode: as many streams each way
+abbrev pub plain_of : Values Value setting_fields → Configuration
+plain_of (limit, (fragment, (buffer, (streams, (mode, (own_port, (peer_port, rest))))))) =
+    plain_configuration own_port peer_port limit fragment buffer streams streams
+
+-- the mode
+abbrev pub mode_of : Values Value setting_fields → Mode
+mode_of (limit, (fragment, (buffer, (streams, (mode, rest))))) = mode
+
+-- the words say this configuration, and it has no fault
+abbrev pub Configures : List (List ℕ) → Configuration → Type 0
+Configures words c =
+    (vs : Values Value setting_fields) × AreValues Value IsValue setting_fields words vs
+    × (configuration_fault (plain_of vs) ≡ None) × (c ≡ asked (mode_of vs) (plain_of vs))
+
+-- the word says a key: 32 bytes in hexadecimal
+abbrev pub IsKey : List ℕ → List ℕ → Type 0
+IsKey word key = IsHex word key × (length key ≡ 32)
+
+-- NAME caller LIMIT FRAGMENT BUFFER STREAMS MODE PORT PEER
+abbrev pub SetsUpCaller : List (List ℕ) → EndView → Type 0
+SetsUpCaller words v =
+    (name : List ℕ) × (settings : List (List ℕ)) × (c : Configuration) × (words ≡ name ∷ codes "caller" ∷ settings) × Configures settings c
+    × (v ≡ fresh_end c Caller Idle)
+
+-- NAME listener LIMIT FRAGMENT BUFFER STREAMS MODE PORT PEER KEY: it has a seal under this key
+abbrev pub SetsUpListener : List (List ℕ) → EndView → Type 0
+SetsUpListener words v =
+    (name last key : List ℕ) × (settings : List (List ℕ)) × (c : Configuration) × (seal : Sealing)
+    × (words ≡ name ∷ codes "listener" ∷ (settings ++ last ∷ [])) × Configures settings c × IsKey last key × IsUnder key seal
+    × (v ≡ fresh_end c (Listener seal) Listening)
+
+-- The words, the program's own name first, set up this end. Others are wrong.
+abbrev pub SetsUp : List (List ℕ) → EndView → Type 0
+SetsUp words v = SetsUpCaller words v ⊎ SetsUpListener words v
+
+-- before the first line: the draw is (1, 1), and the moment 0
+abbrev pub first_standing : EndView → Standing
+first_standing v = record { view = v; draw = record { tag = 1; tsn = 1 }; now = 0 }

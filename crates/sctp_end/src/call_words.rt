@@ -1,49 +1,35 @@
 //! The words behind each command that has some: what they ask for together.
 
 ghost use Rattle.std.specs.Prelude.{◌≡◌, length, IfOk, MatchOption};
-ghost use Rattle.sctp_end.specs.Commands.{arguments_of, draw_fields};
-ghost use Rattle.sctp_end.specs.Fields.{Values, AreValues};
+ghost use Rattle.sctp_end.specs.Commands.{arguments_of};
 ghost use Rattle.sctp_end.specs.Grammar.{Spells};
 
 use crate::call::Call;
 use crate::command::Command;
-use crate::fields::{read_bytes, read_kind, read_u16, read_u32, read_u64, read_until};
-use sctp_terms::Draw;
 use sctp_text::Words;
 use sctp_values::NoMemory;
+use sctp_words::{read_bytes, read_draw, read_kind, read_u16, read_u32, read_u64, read_until};
 use std::alloc::Global;
 
-/// `TAG TSN`
-fn read_draw(mut words: Words<'_>) -> Option<Draw>
-    requires { length words ≡ 2 }
-    ensures { MatchOption result
-        ((vs : Values draw_fields) → AreValues draw_fields words.entry vs → ⊥)
-        (λ d. AreValues draw_fields words.entry (d.tag, (d.tsn, tt))) }
-{
-    let tag = read_u32(words.next_word())?;
-    let tsn = read_u32(words.next_word())?;
-    Draw::new(tag, tsn)
-}
-
 /// `connect TAG TSN`
-pub(crate) fn read_connect(words: Words<'_>) -> Option<Call>
+pub(crate) fn read_connect(mut words: Words<'_>) -> Option<Call>
     requires { length words ≡ arguments_of Command.Connect }
     ensures { MatchOption result
         ((call : Call) → Spells Command.Connect words.entry call → ⊥)
         (λ call. Spells Command.Connect words.entry call) }
 {
-    let draw = read_draw(words)?;
+    let draw = read_draw(words.next_word(), words.next_word())?;
     Some(Call::Connect(draw))
 }
 
 /// `draw TAG TSN`
-pub(crate) fn read_new_draw(words: Words<'_>) -> Option<Call>
+pub(crate) fn read_new_draw(mut words: Words<'_>) -> Option<Call>
     requires { length words ≡ arguments_of Command.Draw }
     ensures { MatchOption result
         ((call : Call) → Spells Command.Draw words.entry call → ⊥)
         (λ call. Spells Command.Draw words.entry call) }
 {
-    let draw = read_draw(words)?;
+    let draw = read_draw(words.next_word(), words.next_word())?;
     Some(Call::NewDraw(draw))
 }
 

@@ -1,8 +1,12 @@
 //! The command line of the program: an end as its words set it up answers the lines of its input.
 
-ghost use Rattle.std.specs.Prelude.{◌≡◌, ℕ, ◌+◌, ◌-◌, ◌^◌, ◌<◌, ◌≤◌, List, []};
+ghost use Rattle.std.specs.Prelude.{◌≡◌, ℕ, ◌+◌, ◌-◌, ◌^◌, ◌<◌, ◌≤◌, List, map, string_bytes};
+ghost use Rattle.sctp_model.specs.end.EndView.{EndView};
+ghost use Rattle.sctp_endpoint.specs.EndpointStands.{EndpointStands};
+ghost use Rattle.sctp_end.specs.ExitStatus.{Runs, TellsForms, Ends};
+ghost use Rattle.sctp_end.specs.SetUpWords.{first_standing};
 
-use crate::run::{RunFault, run_lines};
+use crate::run::run_lines;
 use crate::session::Session;
 use crate::set_up::end_of;
 use sctp_endpoint::{Draw, Endpoint};
@@ -18,16 +22,14 @@ pub const USAGE: &str = "usage:
 pub const DONE: u8 = 0;
 /// The exit status of words that are no form of the program's.
 pub const WRONG_WORDS: u8 = 1;
-/// The exit status behind a line that is too long.
-pub const REFUSED: u8 = 2;
 /// The exit status where reading, writing or memory failed.
 pub const FAILED: u8 = 3;
 
-/// Sets an end up as the words say, of which the first is the program's own name, answers the lines of the input, and gives the exit status:
+/// Sets an end up as the words say, of which the first is the program's own name, answers the lines of the input, each before the next one is
+/// read, and gives the exit status:
 /// - 0 where the input was answered to its end,
-/// - 1 where the words are no form: the forms are written to `faults`,
-/// - 2 where a line is too long: it is answered, and what stands behind it isn't read,
-/// - 3 where reading, writing (to `faults` too) or memory failed.
+/// - 1 where the words are no form, or the sizes, streams or ports are out of their ranges: the forms are written to `faults`,
+/// - 3 where reading, writing (to `faults` too) or memory failed, or the input has more than 2^40 bytes: what is written is a beginning.
 pub fn run_words<R: Source, W: Sink, F: Sink>(
     alloc: Global,
     words: &[String],
@@ -38,10 +40,8 @@ pub fn run_words<R: Source, W: Sink, F: Sink>(
     requires reads { R.failures input.old < 2 ^ 64 - 1 }
     requires writes { W.failures output.old < 2 ^ 64 - 1 }
     requires tells { F.failures faults.old < 2 ^ 64 - 1 }
-    ensures bytes { (read written said : List ℕ) × R.Reads input.old read input.new × W.Writes output.old written output.new
-        × F.Writes faults.old said faults.new }
-    // Wrong words are told, and nothing is read or answered.
-    ensures wrong { result ≡ WRONG_WORDS → (input.new ≡ input.old) × (output.new ≡ output.old) × F.Writes faults.old USAGE.now faults.new }
+    ensures ends { (read written said : List ℕ) × R.Reads input.old read input.new × W.Writes output.old written output.new
+        × F.Writes faults.old said faults.new × Ends (R.IsAtEnd input.new) (map string_bytes words.now) result read written said }
     // No call fails but the last one, and then the status says so.
     ensures well { result < FAILED → (R.failures input.new ≡ R.failures input.old) × (W.failures output.new ≡ W.failures output.old)
         × (F.failures faults.new ≡ F.failures faults.old) }
@@ -59,8 +59,9 @@ pub fn run_words<R: Source, W: Sink, F: Sink>(
 fn run<R: Source, W: Sink>(alloc: Global, endpoint: Endpoint, input: &mut R, output: &mut W) -> u8
     requires reads { R.failures input.old < 2 ^ 64 - 1 }
     requires writes { W.failures output.old < 2 ^ 64 - 1 }
-    ensures bytes { (read written : List ℕ) × R.Reads input.old read input.new × W.Writes output.old written output.new }
-    ensures right { result ≡ WRONG_WORDS → ⊥ }
+    ensures runs { (v : EndView) → EndpointStands endpoint v
+        → (read written : List ℕ) × R.Reads input.old read input.new × W.Writes output.old written output.new
+        × Runs (R.IsAtEnd input.new) (first_standing v) result read written }
     ensures well { result < FAILED → (R.failures input.new ≡ R.failures input.old) × (W.failures output.new ≡ W.failures output.old) }
     ensures once { R.failures input.new + W.failures output.new ≤ R.failures input.old + W.failures output.old + 1 }
 {
@@ -75,18 +76,14 @@ fn run<R: Source, W: Sink>(alloc: Global, endpoint: Endpoint, input: &mut R, out
     };
     match run_lines(&mut session, input, output) {
         Ok(()) => DONE,
-        Err(RunFault::TooLong) => REFUSED,
-        Err(RunFault::Read) => FAILED,
-        Err(RunFault::Write) => FAILED,
-        Err(RunFault::NoMemory) => FAILED,
+        Err(_) => FAILED,
     }
 }
 
 /// Says the forms.
 fn refuse<F: Sink>(faults: &mut F) -> u8
     requires { F.failures faults.old < 2 ^ 64 - 1 }
-    ensures bytes { (said : List ℕ) × F.Writes faults.old said faults.new }
-    ensures told { result ≡ WRONG_WORDS → F.Writes faults.old USAGE.now faults.new }
+    ensures tells { (said : List ℕ) × F.Writes faults.old said faults.new × TellsForms result said }
     ensures well { result < FAILED → F.failures faults.new ≡ F.failures faults.old }
     ensures once { F.failures faults.new ≤ F.failures faults.old + 1 }
 {

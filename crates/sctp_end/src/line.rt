@@ -1,8 +1,8 @@
 //! A line, read: what it asks for, or the smallest kind of its faults.
 
-ghost use Rattle.std.specs.Prelude.{◌≡◌, length, ◌↔◌, IsTrue, IfOk, MatchOption, MatchResult};
+ghost use Rattle.std.specs.Prelude.{◌≡◌, length, IfOk, MatchOption, MatchResult};
 ghost use Rattle.sctp_end.specs.Commands.{arguments_of};
-ghost use Rattle.sctp_end.specs.Grammar.{Spells, IsSilent, kind_of, Finds, Refuses};
+ghost use Rattle.sctp_end.specs.Grammar.{Spells, Finds, Refuses};
 
 use crate::call::Call;
 use crate::call_words::{
@@ -12,53 +12,8 @@ use crate::call_words::{
 use crate::command::Command;
 use sctp_text::{LONGEST_LINE, Words};
 use sctp_values::NoMemory;
+use sctp_words::{LineError, LineFault, is_silent};
 use std::alloc::Global;
-use thiserror::Error;
-
-/// What a line begins with that does nothing, `#`.
-const COMMENT: u8 = 35;
-
-/// What is wrong with a line; of several faults the one with the smallest kind is answered.
-#[derive(Clone, Copy, Debug, PartialEq, Eq, Error)]
-pub enum LineFault {
-    /// 1: the line is longer than 140,000 bytes; a comment too may be.
-    #[error("too long")]
-    TooLong,
-    /// 2: the first word is no command.
-    #[error("unknown command")]
-    UnknownCommand,
-    /// 3: the command has another number of words.
-    #[error("wrong number of words")]
-    WordCount,
-    /// 4: a word says no value of its field.
-    #[error("bad value")]
-    BadValue,
-}
-
-impl LineFault {
-    /// The kind, 1 to 4.
-    pub fn kind(self) -> u8
-        ensures { result ≡ kind_of self }
-    {
-        match self {
-            LineFault::TooLong => 1,
-            LineFault::UnknownCommand => 2,
-            LineFault::WordCount => 3,
-            LineFault::BadValue => 4,
-        }
-    }
-}
-
-/// Why a line asks for nothing.
-#[derive(Clone, Copy, Debug, PartialEq, Eq, Error)]
-pub enum LineError {
-    /// The line has this fault.
-    #[error("{0}")]
-    Fault(LineFault),
-    /// Memory ran out for the bytes of a word.
-    #[error("out of memory")]
-    NoMemory,
-}
 
 /// Reads a line, without its line feed. One that is empty or begins with `#` gives None.
 ///
@@ -84,16 +39,6 @@ pub fn read_line(alloc: Global, line: &[u8]) -> Result<Option<Call>, LineError>
         Ok(Some(call)) => Ok(Some(call)),
         Ok(None) => Err(LineError::Fault(LineFault::BadValue)),
         Err(NoMemory) => Err(LineError::NoMemory),
-    }
-}
-
-/// The line is empty or a comment.
-fn is_silent(line: &[u8]) -> bool
-    ensures { IsTrue result ↔ IsSilent line.now }
-{
-    match line.first() {
-        Some(first) => *first == COMMENT,
-        None => true,
     }
 }
 

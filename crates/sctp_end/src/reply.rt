@@ -1,10 +1,10 @@
 //! What an end answers to a line: one case for each answer line.
 
-use crate::line::LineFault;
 use sctp_send::Abandoned;
 use sctp_terms::{End, Reason, State};
 use sctp_text::Bytes;
 use sctp_values::Kind;
+use sctp_words::LineFault;
 
 /// Why a call is refused. Of a message the first reason that holds counts, in this order but for the last one, which comes first.
 #[derive(Clone, Copy, Debug, PartialEq, Eq)]

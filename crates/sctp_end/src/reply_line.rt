@@ -1,17 +1,18 @@
 //! The line of each answer.
 
 ghost use Rattle.std.specs.Prelude.{◌≡◌, ◌∷◌, [], ◌++◌, map, codes, decimal, OnOk, OnErr};
-ghost use Rattle.sctp_end.specs.Fields.{kind_word};
-ghost use Rattle.sctp_end.specs.ReplyText.{state_word, end_word, number_word, fate_code, truth_word, reply_line, reply_words};
+ghost use Rattle.sctp_end.specs.ReplyText.{truth_word, reply_line, reply_words};
+ghost use Rattle.sctp_values.specs.Meanings.{kind_meaning};
+ghost use Rattle.sctp_words.specs.Fields.{kind_word};
+ghost use Rattle.sctp_words.specs.Names.{number_word};
 ghost use Rattle.sctp_text.specs.Numerals.{hex_word};
 ghost use Rattle.sctp_text.specs.SpacedWords.{line_of};
 ghost use Rattle.sctp_text.specs.WrittenWords.{text_of};
 
 use crate::reply::Reply;
-use sctp_send::Abandoned;
-use sctp_terms::{End, State};
-use sctp_text::{Bytes, Word, put_line};
+use sctp_text::{Bytes, Word};
 use sctp_values::{Kind, NoMemory};
+use sctp_words::{end_word, kind_word, number_word, put_line, state_word};
 
 /// Appends the line of an answer, with its line feed.
 ///
@@ -30,7 +31,7 @@ pub fn put_reply(reply: &Reply, out: &mut Vec<u8>) -> Result<(), NoMemory>
         Reply::Sent(bytes) => put_words(b"sent", &[Word::Hex(bytes.as_slice())], out),
         Reply::Quiet => put_words(b"quiet", &[], out),
         Reply::Ticket(ticket) => put_number(b"ticket", u64::from(*ticket), out),
-        Reply::Fate(fate) => put_number(b"fate", fate_code(*fate), out),
+        Reply::Fate(fate) => put_number(b"fate", u64::from(fate.code()), out),
         Reply::Holds(holds) => put_words(truth(*holds), &[], out),
         Reply::Message {
             stream,
@@ -55,7 +56,7 @@ fn put_words(first: &[u8], words: &[Word<'_>], out: &mut Vec<u8>) -> Result<(), 
     ensures put { OnOk result (out.new.items ≡ out.old.items ++ line_of (first.now ∷ map text_of words.now)) }
     ensures refused { OnErr result (out.new.items ≡ out.old.items) }
 {
-    put_line(first, words, &[], out).map_err(|_| NoMemory)
+    put_line(first, words, &[], out)
 }
 
 /// Appends a line of a word and a number, or nothing where memory is wanting.
@@ -76,7 +77,7 @@ fn put_message(
     out: &mut Vec<u8>,
 ) -> Result<(), NoMemory>
     ensures put { OnOk result (out.new.items ≡ out.old.items
-        ++ line_of (codes "message" ∷ decimal stream ∷ kind_word kind ∷ number_word number ∷ decimal payload_id ∷ hex_word bytes.now ∷ [])) }
+        ++ line_of (codes "message" ∷ decimal stream ∷ kind_word (kind_meaning kind) ∷ number_word number ∷ decimal payload_id ∷ hex_word bytes.now ∷ [])) }
     ensures refused { OnErr result (out.new.items ≡ out.old.items) }
 {
     let words = [
@@ -94,68 +95,4 @@ fn truth(holds: bool) -> &'static [u8]
     ensures { result.now ≡ truth_word holds }
 {
     if holds { b"yes" } else { b"no" }
-}
-
-/// When a message is handed over.
-fn kind_word(kind: Kind) -> Word<'static>
-    ensures { text_of result ≡ kind_word kind }
-{
-    match kind {
-        Kind::Ordered => Word::Text(b"o"),
-        Kind::Unordered => Word::Text(b"u"),
-    }
-}
-
-/// A number, or that there is none.
-fn number_word(number: Option<u64>) -> Word<'static>
-    ensures { text_of result ≡ number_word number }
-{
-    match number {
-        Some(number) => Word::Number(number),
-        None => Word::Text(b"-"),
-    }
-}
-
-/// The code of what becomes of a message that is given up, 1 to 5.
-fn fate_code(fate: Abandoned) -> u64
-    ensures { result ≡ fate_code fate }
-{
-    match fate {
-        Abandoned::Withdrawn => 1,
-        Abandoned::Abandoned => 2,
-        Abandoned::Acknowledged => 3,
-        Abandoned::Unknown => 4,
-        Abandoned::Reliable => 5,
-    }
-}
-
-/// The name of a state.
-fn state_word(state: State) -> Word<'static>
-    ensures { text_of result ≡ state_word state }
-{
-    match state {
-        State::Closed => Word::Text(b"Closed"),
-        State::Listen => Word::Text(b"Listen"),
-        State::CookieWait => Word::Text(b"CookieWait"),
-        State::CookieEchoed => Word::Text(b"CookieEchoed"),
-        State::Established => Word::Text(b"Established"),
-        State::ShutdownPending => Word::Text(b"ShutdownPending"),
-        State::ShutdownSent => Word::Text(b"ShutdownSent"),
-        State::ShutdownReceived => Word::Text(b"ShutdownReceived"),
-        State::ShutdownAckSent => Word::Text(b"ShutdownAckSent"),
-    }
-}
-
-/// The name of how it ended, or that it hasn't.
-fn end_word(ended: Option<End>) -> Word<'static>
-    ensures { text_of result ≡ end_word ended }
-{
-    match ended {
-        Some(End::Completed) => Word::Text(b"Completed"),
-        Some(End::Aborted) => Word::Text(b"Aborted"),
-        Some(End::AbortedHere) => Word::Text(b"AbortedHere"),
-        Some(End::TimedOut) => Word::Text(b"TimedOut"),
-        Some(End::StaleCookie) => Word::Text(b"StaleCookie"),
-        None => Word::Text(b"-"),
-    }
 }

@@ -1,20 +1,27 @@
 //! Lines, one after another: each is answered before the next one is read.
 
-ghost use Rattle.std.specs.Prelude.{◌≡◌, ℕ, true, ◌+◌, ◌-◌, ◌^◌, ◌<◌, ◌≤◌, List, IfOk};
-ghost use Rattle.sctp_end.specs.Runs.{failed_reads, failed_writes};
+ghost use Rattle.std.specs.Prelude.{◌≡◌, ℕ, true, ◌+◌, ◌-◌, ◌^◌, ◌<◌, ◌≤◌, List, ◌++◌, IfOk};
+ghost use Rattle.sctp_model.specs.end.EndView.{EndView};
+ghost use Rattle.sctp_endpoint.specs.EndpointStands.{EndpointStands};
+ghost use Rattle.sctp_text.specs.TextLines.{IsTooLong};
 ghost use Rattle.sctp_text.specs.declared.limits.TheConstants.{LONGEST_TEXT};
+ghost use Rattle.sctp_end.specs.Performing.{Standing};
+ghost use Rattle.sctp_end.specs.ReplyText.{reply_line};
+ghost use Rattle.sctp_end.specs.SessionStands.{standing};
+ghost use Rattle.sctp_end.specs.inner.Running.{failed_reads, failed_writes, IsWritten, LineLeaves, IsSoFar, EndsAs, RunsOn};
 
-use crate::line::{LineError, LineFault, read_line};
+use crate::line::read_line;
 use crate::reply::Reply;
 use crate::reply_line::put_reply;
 use crate::session::Session;
-use sctp_text::{LineReader, NextLine, ReadFault, Sink, Source, write_all};
+use sctp_text::{
+    LineReader, NextLine, ReadFault, Sink, SkippedLine, Source, line_after_line, lines_in_one_way,
+    skipped_lines_count, write_all,
+};
 use sctp_values::NoMemory;
+use sctp_words::{LineError, LineFault};
 use std::alloc::Global;
 use thiserror::Error;
-
-/// What is written where memory is wanting for the line of an answer.
-const MEMORY_LINE: &[u8] = b"memory\n";
 
 /// Why lines are answered no more, though the input may go on.
 #[derive(Clone, Copy, Debug, PartialEq, Eq, Error)]
@@ -25,19 +32,19 @@ pub enum RunFault {
     /// A call of the writer failed.
     #[error("the answers can't be written")]
     Write,
-    /// Memory ran out for a line.
+    /// Memory ran out for a line, or for the line of an answer.
     #[error("out of memory")]
     NoMemory,
-    /// A line was too long: where the next one begins isn't known.
-    #[error("a line is too long")]
-    TooLong,
+    /// The input has more than 2^40 bytes.
+    #[error("the input is too long")]
+    TextTooLong,
 }
 
 /// Answers line after line of the input.
 ///
 /// # Errors
-/// `Read` and `Write` where a call of the reader or the writer failed, `NoMemory` where there was no room for a line, `TooLong` behind the
-/// answer to a line that is too long.
+/// `Read` and `Write` where a call of the reader or the writer failed, `NoMemory` where there was no room for a line or for the line of an
+/// answer, `TextTooLong` where the input has more than 2^40 bytes: a beginning of the answers is written then.
 pub(crate) fn run_lines<R: Source, W: Sink>(
     session: &mut Session,
     input: &mut R,
@@ -45,7 +52,9 @@ pub(crate) fn run_lines<R: Source, W: Sink>(
 ) -> Result<(), RunFault>
     requires reads { R.failures input.old < 2 ^ 64 - 1 }
     requires writes { W.failures output.old < 2 ^ 64 - 1 }
-    ensures bytes { (read written : List ℕ) × R.Reads input.old read input.new × W.Writes output.old written output.new }
+    ensures answers { (v : EndView) → EndpointStands session.old.endpoint v
+        → (read written : List ℕ) × R.Reads input.old read input.new × W.Writes output.old written output.new
+        × EndsAs (R.IsAtEnd input.new) (standing session.old v) result read written }
     ensures failed_reads { R.failures input.new ≡ R.failures input.old + failed_reads result }
     ensures failed_writes { W.failures output.new ≡ W.failures output.old + failed_writes result }
 {
@@ -63,12 +72,17 @@ fn run_line<R: Source, W: Sink>(
 ) -> Result<bool, RunFault>
     requires reads { R.failures input.old < 2 ^ 64 - 1 }
     requires writes { W.failures output.old < 2 ^ 64 - 1 }
-    ensures bytes { (read written : List ℕ) × R.Reads input.old read input.new × W.Writes output.old written output.new }
+    ensures runs { (first : Standing) (text written : List ℕ) (given : List (List ℕ)) → IsSoFar first session.old lines.old text written given
+        → (read more : List ℕ) × R.Reads input.old read input.new × W.Writes output.old more output.new
+        × RunsOn (R.IsAtEnd input.new) first result session.new lines.new (text ++ read) (written ++ more) }
     ensures small { IfOk result (λ on. on ≡ true → lines.new.given ≤ LONGEST_TEXT) }
     ensures forth { IfOk result (λ on. on ≡ true → lines.old.given < lines.new.given) }
     ensures failed_reads { R.failures input.new ≡ R.failures input.old + failed_reads result }
     ensures failed_writes { W.failures output.new ≡ W.failures output.old + failed_writes result }
 {
+    // They do nothing: their contracts say how the lines that are given make up what was read.
+    line_after_line();
+    lines_in_one_way();
     match lines.next_line(input) {
         Ok(NextLine::Ended(line)) => {
             answer(session, &line, output)?;
@@ -78,20 +92,53 @@ fn run_line<R: Source, W: Sink>(
             answer(session, &line, output)?;
             Ok(false)
         }
-        Ok(NextLine::TooLong) => {
-            tell(session.alloc, &Reply::Fault(LineFault::TooLong), output)?;
-            Err(RunFault::TooLong)
-        }
+        Ok(NextLine::TooLong) => skip(session, lines, input, output),
         Ok(NextLine::End) => Ok(false),
         Err(ReadFault::Failed) => Err(RunFault::Read),
         Err(ReadFault::NoMemory) => Err(RunFault::NoMemory),
     }
 }
 
+/// Skips a line that is too long, and tells its fault. Tells whether the input may go on.
+fn skip<R: Source, W: Sink>(
+    session: &mut Session,
+    lines: &mut LineReader,
+    input: &mut R,
+    output: &mut W,
+) -> Result<bool, RunFault>
+    requires reads { R.failures input.old < 2 ^ 64 - 1 }
+    requires writes { W.failures output.old < 2 ^ 64 - 1 }
+    requires long { IsTooLong lines.old.given lines.old.held }
+    ensures runs { (first : Standing) (text written : List ℕ) (given : List (List ℕ)) → IsSoFar first session.old lines.old text written given
+        → (read more : List ℕ) × R.Reads input.old read input.new × W.Writes output.old more output.new
+        × RunsOn (R.IsAtEnd input.new) first result session.new lines.new (text ++ read) (written ++ more) }
+    ensures small { IfOk result (λ on. on ≡ true → lines.new.given ≤ LONGEST_TEXT) }
+    ensures forth { IfOk result (λ on. on ≡ true → lines.old.given < lines.new.given) }
+    ensures failed_reads { R.failures input.new ≡ R.failures input.old + failed_reads result }
+    ensures failed_writes { W.failures output.new ≡ W.failures output.old + failed_writes result }
+{
+    // They do nothing: their contracts say how the line that is skipped counts among those of what was read.
+    skipped_lines_count();
+    lines_in_one_way();
+    match lines.skip_line(input) {
+        Ok(SkippedLine::Ended) => {
+            tell_too_long(session.alloc, output)?;
+            Ok(true)
+        }
+        Ok(SkippedLine::Last) => {
+            tell_too_long(session.alloc, output)?;
+            Ok(false)
+        }
+        Ok(SkippedLine::TextTooLong) => Err(RunFault::TextTooLong),
+        Err(_) => Err(RunFault::Read),
+    }
+}
+
 /// Answers a line: what it asks for is done, and the answer is written.
 fn answer<W: Sink>(session: &mut Session, line: &[u8], output: &mut W) -> Result<(), RunFault>
     requires { W.failures output.old < 2 ^ 64 - 1 }
-    ensures bytes { (written : List ℕ) × W.Writes output.old written output.new }
+    ensures answers { (v : EndView) → EndpointStands session.old.endpoint v
+        → (written : List ℕ) × W.Writes output.old written output.new × LineLeaves result (standing session.old v) line.now written session.new }
     ensures failed_writes { W.failures output.new ≡ W.failures output.old + failed_writes result }
     ensures no_reads { failed_reads result ≡ 0 }
 {
@@ -107,24 +154,34 @@ fn answer<W: Sink>(session: &mut Session, line: &[u8], output: &mut W) -> Result
     }
 }
 
-/// Writes the line of an answer, or that memory was wanting for it.
+/// Writes that a line is too long.
+fn tell_too_long<W: Sink>(alloc: Global, output: &mut W) -> Result<(), RunFault>
+    requires { W.failures output.old < 2 ^ 64 - 1 }
+    ensures told { (written : List ℕ) × W.Writes output.old written output.new × IsWritten result (reply_line (Reply.Fault LineFault.TooLong)) written }
+    ensures failed_writes { W.failures output.new ≡ W.failures output.old + failed_writes result }
+    ensures no_reads { failed_reads result ≡ 0 }
+{
+    tell(alloc, &Reply::Fault(LineFault::TooLong), output)
+}
+
+/// Writes the line of an answer.
 fn tell<W: Sink>(alloc: Global, reply: &Reply, output: &mut W) -> Result<(), RunFault>
     requires { W.failures output.old < 2 ^ 64 - 1 }
-    ensures bytes { (written : List ℕ) × W.Writes output.old written output.new }
+    ensures told { (written : List ℕ) × W.Writes output.old written output.new × IsWritten result (reply_line reply.now) written }
     ensures failed_writes { W.failures output.new ≡ W.failures output.old + failed_writes result }
     ensures no_reads { failed_reads result ≡ 0 }
 {
     let mut line = Vec::new(alloc);
     match put_reply(reply, &mut line) {
         Ok(()) => write_bytes(output, &line),
-        Err(NoMemory) => write_bytes(output, MEMORY_LINE),
+        Err(NoMemory) => Err(RunFault::NoMemory),
     }
 }
 
 /// Writes all of the bytes.
 fn write_bytes<W: Sink>(output: &mut W, bytes: &[u8]) -> Result<(), RunFault>
     requires { W.failures output.old < 2 ^ 64 - 1 }
-    ensures bytes { (written : List ℕ) × W.Writes output.old written output.new }
+    ensures written { (written : List ℕ) × W.Writes output.old written output.new × IsWritten result bytes.now written }
     ensures failed_writes { W.failures output.new ≡ W.failures output.old + failed_writes result }
     ensures no_reads { failed_reads result ≡ 0 }
 {

@@ -12,6 +12,7 @@ use crate::call::Call;
 use crate::replies::{abort_refused, send_refused};
 use crate::reply::{Refusal, Reply};
 use sctp_endpoint::{ConnectFault, Draw, Endpoint, Sent, ShutdownFault, Ticket, Verdict};
+use sctp_packet::read_packet;
 use sctp_text::Bytes;
 use sctp_values::{Kind, NoMemory};
 use std::alloc::Global;
@@ -89,10 +90,10 @@ impl Session {
     fn hear(&mut self, bytes: &Bytes) -> Reply
         ensures { Performed self.old (call.Packet bytes.now) result self.new }
     {
-        match self
-            .endpoint
-            .handle_packet(self.moment, bytes.as_slice(), self.draw)
-        {
+        let bytes = bytes.as_slice();
+        // It changes nothing: its contract says that the bytes are a packet or have a fault.
+        let _read = read_packet(bytes);
+        match self.endpoint.handle_packet(self.moment, bytes, self.draw) {
             Ok(Verdict::Taken) => Reply::Taken,
             Ok(Verdict::Dropped(reason)) => Reply::Dropped(reason),
             Ok(Verdict::Answer(packet)) => Reply::Answer(Bytes::new(packet)),

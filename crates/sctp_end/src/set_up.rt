@@ -1,70 +1,130 @@
 //! How an end is set up by the words that the program is started with.
 
-ghost use Rattle.std.specs.Prelude.{◌≤◌, length};
+ghost use Rattle.std.specs.Prelude.{◌≡◌, ℕ, List, [], map, string_bytes, length, IfOk, MatchOption};
+ghost use Rattle.sctp_model.specs.end.EndView.{Configuration, EndView, Caller, Listener, Idle, Listening, fresh_end};
+ghost use Rattle.sctp_model.specs.end.Sealing.{Sealing};
+ghost use Rattle.sctp_cookie.specs.Seals.{IsUnder};
+ghost use Rattle.sctp_endpoint.specs.EndpointStands.{EndpointStands};
+ghost use Rattle.sctp_end.specs.SetUpWords.{Configures, IsKey, SetsUp};
+ghost use Rattle.sctp_end.specs.inner.SettingUp.{role_word, SetsListener};
 
-use crate::fields::{read_bytes, read_mode, read_u16, read_u32};
+use sctp_cookie::keys_have_seals;
 use sctp_endpoint::{Config, Endpoint, Key};
+use sctp_text::words_say_one_value;
 use sctp_values::NoMemory;
+use sctp_words::{read_bytes, read_mode, read_u16, read_u32};
 use std::alloc::Global;
 
 /// How many words say a configuration: `LIMIT FRAGMENT BUFFER STREAMS MODE PORT PEER`.
-const SIZES: usize = 7;
+const SETTINGS: usize = 7;
 /// The bytes of a key.
 const KEY_LENGTH: usize = 32;
 
+/// How an end begins (RFC 9260, 5.1).
+#[derive(Clone, Copy)]
+enum Role {
+    /// It calls its peer.
+    Caller,
+    /// It waits for a peer.
+    Listener,
+}
+
 /// The end that these words set up, of which the first is the program's own name: `caller` or `listener`, its configuration, and the key of a
-/// listener. None where they say none.
+/// listener. None where they set up none.
 ///
 /// # Errors
 /// Memory ran out for a key.
-pub(crate) fn end_of(alloc: Global, words: &[String]) -> Result<Option<Endpoint>, NoMemory> {
-    if words.len() < 2 {
+pub(crate) fn end_of(alloc: Global, words: &[String]) -> Result<Option<Endpoint>, NoMemory>
+    ensures { IfOk result (λ found. MatchOption found
+        ((v : EndView) → SetsUp (map string_bytes words.now) v → ⊥)
+        (λ end. (v : EndView) × SetsUp (map string_bytes words.now) v × EndpointStands end v)) }
+{
+    let [_, role, rest @ ..] = words else {
         return Ok(None);
-    }
-    match words[1].as_bytes() {
-        b"caller" => Ok(caller_of(alloc, &words[2..])),
-        b"listener" => listener_of(alloc, &words[2..]),
-        _ => Ok(None),
+    };
+    match role_named(role.as_bytes()) {
+        Some(Role::Caller) => Ok(caller_of(alloc, rest)),
+        Some(Role::Listener) => listener_of(alloc, rest),
+        None => Ok(None),
     }
 }
 
-/// A caller with this configuration.
-fn caller_of(alloc: Global, words: &[String]) -> Option<Endpoint> {
-    if words.len() != SIZES {
-        return None;
+/// What a word says that an end is.
+fn role_named(word: &[u8]) -> Option<Role>
+    ensures { MatchOption result ((r : Role) → word.now ≡ role_word r → ⊥) (λ r. word.now ≡ role_word r) }
+{
+    match word {
+        b"caller" => Some(Role::Caller),
+        b"listener" => Some(Role::Listener),
+        _ => None,
     }
+}
+
+/// A caller with the configuration that these words say.
+fn caller_of(alloc: Global, words: &[String]) -> Option<Endpoint>
+    ensures { MatchOption result
+        ((c : Configuration) → Configures (map string_bytes words.now) c → ⊥)
+        (λ end. (c : Configuration) × Configures (map string_bytes words.now) c × EndpointStands end (fresh_end c Caller Idle)) }
+{
     let config = read_config(words)?;
     Some(Endpoint::caller(alloc, config))
 }
 
-/// A listener with this configuration and this key.
+/// A listener with the configuration that these words say, and the key that the last of them says.
 ///
 /// # Errors
 /// Memory ran out for the key.
-fn listener_of(alloc: Global, words: &[String]) -> Result<Option<Endpoint>, NoMemory> {
-    if words.len() != SIZES + 1 {
-        return Ok(None);
-    }
-    let Some(config) = read_config(words) else {
+fn listener_of(alloc: Global, words: &[String]) -> Result<Option<Endpoint>, NoMemory>
+    ensures { IfOk result (λ found. MatchOption found
+        ((c : Configuration) (key : List ℕ) → SetsListener (map string_bytes words.now) c key → ⊥)
+        (λ end. (c : Configuration) × (key : List ℕ) × (seal : Sealing) × SetsListener (map string_bytes words.now) c key × IsUnder key seal
+        × EndpointStands end (fresh_end c (Listener seal) Listening))) }
+{
+    // It does nothing: its contract says that the key has a seal.
+    keys_have_seals();
+    let [settings @ .., last] = words else {
         return Ok(None);
     };
-    match read_key(alloc, words[SIZES].as_bytes())? {
+    let Some(config) = read_config(settings) else {
+        return Ok(None);
+    };
+    match read_key(alloc, last.as_bytes())? {
         Some(key) => Ok(Some(Endpoint::listener(alloc, config, key))),
         None => Ok(None),
     }
 }
 
-/// The configuration that the first words say.
+/// The configuration that these words say.
 fn read_config(words: &[String]) -> Option<Config>
-    requires { SIZES ≤ length words.now }
+    ensures { MatchOption result
+        ((c : Configuration) → Configures (map string_bytes words.now) c → ⊥)
+        (λ config. Configures (map string_bytes words.now) config) }
 {
-    let limit = read_u16(words[0].as_bytes())?;
-    let fragment = read_u16(words[1].as_bytes())?;
-    let buffer = read_u32(words[2].as_bytes())?;
-    let streams = read_u16(words[3].as_bytes())?;
-    let mode = read_mode(words[4].as_bytes())?;
-    let own_port = read_u16(words[5].as_bytes())?;
-    let peer_port = read_u16(words[6].as_bytes())?;
+    // It does nothing: its contract says that a word says one number.
+    words_say_one_value();
+    if words.len() > SETTINGS {
+        return None;
+    }
+    let [
+        limit,
+        fragment,
+        buffer,
+        streams,
+        mode,
+        own_port,
+        peer_port,
+        ..
+    ] = words
+    else {
+        return None;
+    };
+    let limit = read_u16(limit.as_bytes())?;
+    let fragment = read_u16(fragment.as_bytes())?;
+    let buffer = read_u32(buffer.as_bytes())?;
+    let streams = read_u16(streams.as_bytes())?;
+    let mode = read_mode(mode.as_bytes())?;
+    let own_port = read_u16(own_port.as_bytes())?;
+    let peer_port = read_u16(peer_port.as_bytes())?;
     match Config::new(
         own_port, peer_port, limit, fragment, buffer, streams, streams,
     ) {
@@ -77,7 +137,11 @@ fn read_config(words: &[String]) -> Option<Config>
 ///
 /// # Errors
 /// Memory ran out.
-fn read_key(alloc: Global, word: &[u8]) -> Result<Option<Key>, NoMemory> {
+fn read_key(alloc: Global, word: &[u8]) -> Result<Option<Key>, NoMemory>
+    ensures { IfOk result (λ found. MatchOption found ((key : List ℕ) → IsKey word.now key → ⊥) (λ key. IsKey word.now key)) }
+{
+    // It does nothing: its contract says that a word says one list of bytes.
+    words_say_one_value();
     let Some(bytes) = read_bytes(alloc, word)? else {
         return Ok(None);
     };

@@ -4,7 +4,7 @@
 //! A case is
 //! - `= NAME`,
 //! - `$ WORDS`: the words of the program, its own name first, with one space between them,
-//! - the lines on its standard input, each behind `> `.
+//! - the lines on its standard input, each behind `> `, or behind `>*COUNT ` where a line is a text so many times.
 //!
 //! Other lines are remarks.
 #![tactic(auto)]

@@ -1,5 +1,6 @@
 use Rattle.std.proofs.Common.{◌≡◌, [], length, refl, ap, arith, rules}
-use Rattle.sctp_end.specs.Fields.{IsNumber, IsUntil, kind_word}
+use Rattle.sctp_values.specs.Meanings.{kind_meaning}
+use Rattle.sctp_words.specs.Fields.{IsNumber, IsUntil, kind_word}
 use Rattle.sctp_end.proofs.CommandLemmas.{no_words}
 use Rattle.sctp_end.proofs.call_words.read_send.Goals as goal
 
@@ -8,7 +9,7 @@ returns-in-Some c =
     let values = c.in-Some-Some-Some-Some in
     let left : c.next_word-5.new.self ≡ [] = no_words _ (omega (arith, c.requires, ap length c.next_word.ensures, ap length c.next_word-2.ensures, ap length c.next_word-3.ensures, ap length c.next_word-4.ensures, ap length c.next_word-5.ensures)) in
     let stream : IsNumber 16 c.next_word.result.now values.stream = search rules in
-    let kind : c.next_word-2.result.now ≡ kind_word values.kind = search rules in
+    let kind : c.next_word-2.result.now ≡ kind_word (kind_meaning values.kind) = search rules in
     let payload : IsNumber 32 c.next_word-3.result.now values.payload_id = search rules in
     let until : IsUntil c.next_word-4.result.now values.until = search rules in (
       (values.stream, (values.kind, (values.payload_id, (values.until, (c.in-Some.bytes, tt))))),

@@ -2,4 +2,4 @@ use Rattle.sctp_end.specs.Performing.{Abandons}
 use Rattle.sctp_end.proofs.session.Session.abandon.Goals as goal
 
 pub returns : goal.returns
-returns c = λ read v reader stands. (_, Abandons _ _ (c.abandon.ensures.answer v stands), c.abandon.ensures.step v stands)
+returns c = λ v stands. (_, Abandons _ _ (c.abandon.ensures.answer v stands), c.abandon.ensures.step v stands)

@@ -2,4 +2,4 @@ use Rattle.sctp_end.specs.Performing.{TellsAbandoned}
 use Rattle.sctp_end.proofs.session.Session.abandoned.Goals as goal
 
 pub returns : goal.returns
-returns c = λ read v reader stands. (v, TellsAbandoned _ _ (c.abandoned.ensures v stands), stands)
+returns c = λ v stands. (v, TellsAbandoned _ _ (c.abandoned.ensures v stands), stands)

@@ -2,4 +2,4 @@ use Rattle.sctp_end.specs.Performing.{TellsAcknowledged}
 use Rattle.sctp_end.proofs.session.Session.acknowledged.Goals as goal
 
 pub returns : goal.returns
-returns c = λ read v reader stands. (v, TellsAcknowledged _ _ (c.acknowledged.ensures v stands), stands)
+returns c = λ v stands. (v, TellsAcknowledged _ _ (c.acknowledged.ensures v stands), stands)

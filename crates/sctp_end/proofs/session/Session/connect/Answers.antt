@@ -4,7 +4,7 @@ use Rattle.sctp_end.specs.Performing.{Connects}
 use Rattle.sctp_end.proofs.session.Session.connect.Goals as goal
 
 pub returns-in-Ok : goal.returns-in-Ok
-returns-in-Ok c = λ read v reader stands. (_, Connects _ Called (sym (c.in-Ok.ensures.answer v stands)), c.in-Ok.ensures.step v stands)
+returns-in-Ok c = λ v stands. (_, Connects _ Called (sym (c.in-Ok.ensures.answer v stands)), c.in-Ok.ensures.step v stands)
 
 pub returns-in-Err-State : goal.returns-in-Err-State
-returns-in-Err-State c = λ read v reader stands. (_, Connects _ NotIdle (sym (c.in-Err-State.ensures.answer v stands)), c.in-Err-State.ensures.step v stands)
+returns-in-Err-State c = λ v stands. (_, Connects _ NotIdle (sym (c.in-Err-State.ensures.answer v stands)), c.in-Err-State.ensures.step v stands)

@@ -38,10 +38,10 @@ pub returns-in-Abort : goal.returns-in-Abort
 returns-in-Abort c = rw c.in-Abort.is c.abort.ensures
 
 pub returns-in-Next : goal.returns-in-Next
-returns-in-Next c = rw c.in-Next.is (λ read v reader stands. (v, TellsNext _ (c.next_moment.ensures v stands), stands))
+returns-in-Next c = rw c.in-Next.is (λ v stands. (v, TellsNext _ (c.next_moment.ensures v stands), stands))
 
 pub returns-in-State : goal.returns-in-State
-returns-in-State c = rw c.in-State.is (λ read v reader stands. (v, TellsState _ _ (c.state.ensures v stands) (c.ended.ensures v stands), stands))
+returns-in-State c = rw c.in-State.is (λ v stands. (v, TellsState _ _ (c.state.ensures v stands) (c.ended.ensures v stands), stands))
 
 pub returns-in-Held : goal.returns-in-Held
-returns-in-Held c = rw c.in-Held.is (λ read v reader stands. (v, TellsHeld _ (c.held_bytes.ensures.held v stands), stands))
+returns-in-Held c = rw c.in-Held.is (λ v stands. (v, TellsHeld _ (c.held_bytes.ensures.held v stands), stands))

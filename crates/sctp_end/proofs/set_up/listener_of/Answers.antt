@@ -1,0 +1,27 @@
+use Rattle.std.proofs.Common.{◌≡◌, map, length, string_bytes, arith}
+use Rattle.std.proofs.lemmas.List.{length-map}
+use Rattle.sctp_end.proofs.SetUpLemmas.{last_of, no_words_listen, settings_listen_not, key_listens_not}
+use Rattle.sctp_end.proofs.set_up.listener_of.Goals as goal
+
+pub returns-in_default : goal.returns-in_default
+returns-in_default c =
+    let size : length (map string_bytes c.args.words.now) ≡ length c.args.words.now = length-map c.args.words.now string_bytes in
+    no_words_listen _ (omega (arith, size, c.in_default.len_below))
+
+pub returns-in_default-read_config : goal.returns-in_default-read_config
+returns-in_default-read_config c =
+    let is = last_of string_bytes c.args.words.now c.last-item.result c.in-len1-up.len_at_least c.last-item.is in
+    settings_listen_not _ _ _ is c.in_default-read_config.ensures
+
+pub returns-in-None : goal.returns-in-None
+returns-in-None c =
+    let is = last_of string_bytes c.args.words.now c.last-item.result c.in-len1-up.len_at_least c.last-item.is in
+    let none = rw c.in-None.is at c.in_ok-key.ensures in
+    key_listens_not _ _ _ is (λ key keyed. none key (rw c.as_bytes.ensures.value keyed))
+
+pub returns-in-Some-2 : goal.returns-in-Some-2
+returns-in-Some-2 c =
+    let is = last_of string_bytes c.args.words.now c.last-item.result c.in-len1-up.len_at_least c.last-item.is in
+    let keyed = rw c.in-Some-2.is at c.in_ok-key.ensures in
+    let seal = c.keys_have_seals.ensures.some c.in-Some-2.key in
+    (c.in-Some.config, c.in-Some-2.key, seal.0, (_, _, is, c.in-Some.ensures, rw c.as_bytes.ensures.value at keyed), seal.1, c.listener.ensures seal.0 seal.1)
