@@ -10,8 +10,8 @@ trap 'rm -rf -- "$room"' EXIT
 trap 'exit 130' HUP INT TERM
 cp -a -- "$root" "$room/copy" && cd -- "$room/copy" || exit 3
 main=crates/sctp_trace_main
-source=crates/sctp_trace/src/pair.rt
-definition=crates/sctp_trace/specs/PairRuns.antt
+source=crates/sctp_trace/src/script.rt
+definition=crates/sctp_trace/specs/Script.antt
 rm -f -- $main/out/sctp_trace_main*
 failed=0
 

@@ -1,13 +1,11 @@
-//! Tests of what no row can show: readers and writers that are slow or fail, memory that is refused, a run of a pair's events. They stand in
-//! a crate of their own, since a crate that has tests is proved twice.
+//! Tests of what no row can show: readers and writers that are slow or fail, and memory that is refused. They stand in a crate of their own,
+//! since a crate that has tests is proved twice.
 #![tactic(auto)]
 
 #[cfg(test)]
 mod fakes;
 #[cfg(test)]
 mod lines;
-#[cfg(test)]
-mod pairs;
 #[cfg(test)]
 mod statuses;
 #[cfg(test)]

@@ -53,7 +53,9 @@ fn where_memory_fails_the_status_is_3(rt: HostRuntime) -> Result<(), Fail> {
     // To be run with each allocation failing in turn: the writers take no memory.
     let alloc = rt.alloc();
     for (word, script, wanted) in [("run", TABLE, 0), ("run", "open", 2), ("walk", TABLE, 1)] {
-        let words = words_of(alloc, &["sctp-trace", word])?;
+        let Ok(words) = words_of(alloc, &["sctp-trace", word]) else {
+            continue;
+        };
         let mut output = [0; 256];
         let mut faults = [0; 1_024];
         let status = run_words(

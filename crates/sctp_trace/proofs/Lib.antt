@@ -1,11 +1,4 @@
 mod FormLemmas
-mod EndLemmas
-mod PlanTickets
-mod EndLogs
-mod EndSends
-mod EndBuilds
-mod BagLemmas
-mod RunLemmas
 mod ScriptRuns
 mod ScriptLemmas
 mod LineActs
@@ -14,4 +7,3 @@ mod ScriptLines
 mod ScriptAnswers
 mod ScriptGathered
 mod ScriptOneFault
-pub mod PlacedLemmas

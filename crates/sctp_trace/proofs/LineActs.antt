@@ -3,23 +3,22 @@ use Rattle.std.proofs.Common.{◌≡◌, ℕ, Bool, true, List, Option, Some, No
 use Rattle.std.specs.Prelude.{MatchResult}
 use Rattle.std.specs.Result.{IsErrAnd}
 use Rattle.std.specs.Option.{is_some}
-use Rattle.sctp_model.specs.first.World as world
-use Rattle.sctp_model.specs.first.World.{World, Step}
+use Rattle.sctp_model.specs.world.World.{World}
+use Rattle.sctp_model.specs.world.Events as meaning
+use Rattle.sctp_model.specs.world.Steps.{Step}
+use Rattle.sctp_events.specs.Events.{Wanted, event_meaning}
+use Rattle.sctp_events.specs.declared.config.PairConfig.{PairConfig}
+use Rattle.sctp_events.specs.declared.event.Event.{Event}
 use Rattle.sctp_script.specs.Grammar.{LineMeaning, Pairs, Acts, Says}
 use Rattle.sctp_script.specs.OutcomeText.{outcome_line}
-use Rattle.sctp_script.specs.Events.{Answers, event_meaning}
 use Rattle.sctp_script.specs.ReadLineAnswer.{Finds}
-use Rattle.sctp_script.specs.Configuration.{configuration_meaning}
-use Rattle.sctp_script.specs.declared.config.PairConfig.{PairConfig}
-use Rattle.sctp_script.specs.declared.event.Event.{Event}
 use Rattle.sctp_script.specs.declared.line.Acting.{Acting}
 use Rattle.sctp_script.specs.declared.line.Acting.TheVariants as acting
-use Rattle.sctp_script.specs.declared.event.Outcome.{Outcome}
-use Rattle.sctp_trace.specs.declared.pair.Pair.{Pair}
+use Rattle.sctp_pair.specs.declared.pair.Pair.{Pair}
+use Rattle.sctp_pair.specs.Happens.{IsMeant}
 use Rattle.sctp_trace.specs.declared.script.ScriptFault.{ScriptFault}
 use Rattle.sctp_trace.specs.declared.script.ScriptFault.TheVariants.{Read, Write, NoMemory, Line}
-use Rattle.sctp_trace.specs.PairStands.{PairStands}
-use Rattle.sctp_trace.specs.PairRuns.{StepAnswer}
+use Rattle.sctp_pair.specs.PairStands.{PairStands}
 use Rattle.sctp_trace.specs.Script.{is_paired}
 use Rattle.sctp_trace.specs.inner.ScriptSteps.{StandsAt, IsGatheredOf, LineLeaves}
 
@@ -46,21 +45,16 @@ world_of (Some other) pair (Some w) e stands =
     let same : other ≡ pair = cc in
     (w, refl, subst (λ (p : Pair). PairStands p w) same stands)
 
--- a step that was answered has an answer
-pub told_some : (outcome : Outcome) (o : Option world.Outcome) → StepAnswer (Ok outcome) o → (a : world.Outcome) × (o ≡ Some a) × Answers outcome a
-told_some outcome None told = absurd told
-told_some outcome (Some a) told = (a, refl, told)
-
--- an event stepped, and what was written of its outcome
-pub outcome_leaves : (result : Result (Unit {0}) ScriptFault) (n : ℕ) (state : Option World) (w x : World) (line : List ℕ) (e : world.Event) (a : world.Outcome)
-    (here : List ℕ) (pair : Pair) → state ≡ Some w → Says (is_paired state) line (Acts e) → Step w e (Some a) x → PairStands pair x
-    → IsGatheredOf result (outcome_line a) here → LineLeaves result n state line here (Some pair)
-outcome_leaves (Ok u) n state w x line e a here pair is says step stands written =
-    (Some x, (Acts e, says, (w, x, a, is, step, written, refl)), stands)
-outcome_leaves (Err Read) n state w x line e a here pair is says step stands written = absurd written
-outcome_leaves (Err Write) n state w x line e a here pair is says step stands written = absurd written
-outcome_leaves (Err NoMemory) n state w x line e a here pair is says step stands written = written
-outcome_leaves (Err (Line m fault)) n state w x line e a here pair is says step stands written = absurd written
+-- what is wanted came to pass, and what was written of its outcome
+pub outcome_leaves : (result : Result (Unit {0}) ScriptFault) (n : ℕ) (state : Option World) (w x : World) (line : List ℕ) (wanted : Wanted) (e : meaning.Event)
+    (o : meaning.Outcome) (here : List ℕ) (pair : Pair) → state ≡ Some w → Says (is_paired state) line (Acts wanted) → IsMeant wanted e → Step w e (Some o) x → PairStands pair x
+    → IsGatheredOf result (outcome_line wanted o) here → LineLeaves result n state line here (Some pair)
+outcome_leaves (Ok u) n state w x line wanted e o here pair is says meant step stands written =
+    (Some x, (Acts wanted, says, (w, x, e, o, meant, is, step, written, refl)), stands)
+outcome_leaves (Err Read) n state w x line wanted e o here pair is says meant step stands written = absurd written
+outcome_leaves (Err Write) n state w x line wanted e o here pair is says meant step stands written = absurd written
+outcome_leaves (Err NoMemory) n state w x line wanted e o here pair is says meant step stands written = written
+outcome_leaves (Err (Line m fault)) n state w x line wanted e o here pair is says meant step stands written = absurd written
 
 -- ---- what calls answered
 
@@ -75,12 +69,12 @@ mapped_is Q (Err e) (Err d) x cases is = cc
 pub finds_event : (b : Bool) (line : List ℕ) (found : Option Acting) (a : Acting) (event : Event) → found ≡ Some a → a ≡ acting.Event event
     → Finds b line found → Says b line (Acts (event_meaning event))
 finds_event b line found a event f e finds =
-    let finds : Finds b line (Some (acting.Event event)) = subst (λ (x : Option Acting). Finds b line x) (f ∙ ap Some e) finds in finds.0
+    subst (λ (x : Option Acting). Finds b line x) (f ∙ ap Some e) finds
 
 pub finds_pair : (b : Bool) (line : List ℕ) (found : Option Acting) (a : Acting) (config : PairConfig) → found ≡ Some a → a ≡ acting.Pair config
-    → Finds b line found → Says b line (Pairs (configuration_meaning config))
+    → Finds b line found → Says b line (Pairs config.a)
 finds_pair b line found a config f e finds =
-    let finds : Finds b line (Some (acting.Pair config)) = subst (λ (x : Option Acting). Finds b line x) (f ∙ ap Some e) finds in finds.0
+    subst (λ (x : Option Acting). Finds b line x) (f ∙ ap Some e) finds
 
 pub no_pair : (b : Bool) (option : Option Pair) → b ≡ true → b ≡ is_some option → option ≡ None → ⊥
 no_pair b None t e n = cc

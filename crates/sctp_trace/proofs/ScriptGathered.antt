@@ -5,8 +5,8 @@ use Rattle.sctp_text.specs.TextLines.{Reading, IsOneLine}
 use Rattle.sctp_text.specs.NextLineAnswer.{given_by, IsAnswer, LeadsOn}
 use Rattle.sctp_text.specs.declared.line_reader.NextLine.{NextLine}
 use Rattle.sctp_text.specs.declared.line_reader.ReadFault.{ReadFault}
-use Rattle.sctp_model.specs.first.World.{World}
-use Rattle.sctp_script.specs.declared.line.LineFault.{LineFault}
+use Rattle.sctp_model.specs.world.World.{World}
+use Rattle.sctp_words.specs.declared.line_fault.LineFault.{LineFault}
 use Rattle.sctp_trace.specs.declared.script.Running.{Running}
 use Rattle.sctp_trace.specs.declared.script.ScriptFault.{ScriptFault}
 use Rattle.sctp_trace.specs.declared.script.ScriptFault.TheVariants.{Read, Write, NoMemory, Line}

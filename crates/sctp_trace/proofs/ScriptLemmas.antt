@@ -2,9 +2,9 @@
 use Rattle.std.proofs.Common.{◌≡◌, ℕ, ◌+◌, ◌<◌, ◌≤◌, ◌⊎◌, inl, inr, List, [], ◌∷◌, ◌++◌, length, Option, Some, None, Result, Ok, Err, refl, sym, ap, ◌∙◌, subst, arith, append_assoc, append-nil, length-append}
 use Rattle.std.specs.declared.vec.Vec.{Vec}
 use Rattle.std.specs.declared.alloc.Global.{Global}
-use Rattle.sctp_model.specs.first.World.{World}
-use Rattle.sctp_script.specs.declared.line.LineFault.{LineFault}
-use Rattle.sctp_script.specs.declared.line.LineFault.TheVariants.{TooLong}
+use Rattle.sctp_model.specs.world.World.{World}
+use Rattle.sctp_words.specs.declared.line_fault.LineFault.{LineFault}
+use Rattle.sctp_words.specs.declared.line_fault.LineFault.TheVariants.{TooLong}
 use Rattle.sctp_text.specs.declared.line_reader.ReadFault.{ReadFault}
 use Rattle.sctp_text.specs.declared.line_reader.ReadFault.TheVariants as read
 use Rattle.sctp_script.specs.Grammar.{IsFirstFaultOf}
@@ -14,7 +14,7 @@ use Rattle.sctp_text.specs.declared.line_reader.NextLine.{NextLine}
 use Rattle.sctp_text.specs.declared.line_reader.NextLine.TheVariants as next
 use Rattle.sctp_text.specs.declared.line_reader.NextLine.TheVariants.{Ended, Last, End}
 use Rattle.sctp_script.specs.ReportText.{report}
-use Rattle.sctp_trace.specs.declared.pair.Pair.{Pair}
+use Rattle.sctp_pair.specs.declared.pair.Pair.{Pair}
 use Rattle.sctp_trace.specs.declared.script.Running.{Running}
 use Rattle.sctp_trace.specs.declared.script.ScriptFault.{ScriptFault}
 use Rattle.sctp_trace.specs.declared.script.ScriptFault.TheVariants.{Read, Write, NoMemory, Line}

@@ -3,27 +3,109 @@ use Rattle.std.proofs.Common.{◌≡◌, ℕ, ◌+◌, ◌<◌, ◌≤◌, ◌�
 use Rattle.std.specs.List.{All}
 use Rattle.std.proofs.lemmas.Bool.{cases_lt}
 use Rattle.std.proofs.lemmas.List.Elements.{All-nil, All-cons, All-head, All-tail}
-use Rattle.sctp_model.specs.first.World.{World, Event, start}
-use Rattle.sctp_safety.specs.Answered.{EventsAreAnswered}
-use Rattle.sctp_script.specs.declared.line.LineFault.TheVariants.{TooLong}
+use Rattle.sctp_model.specs.end.Sealing.{Sealing}
+use Rattle.sctp_model.specs.world.World.{World, Setup, start}
+use Rattle.sctp_model.specs.world.Events.{Event, OpenBoth, At, Drawing, Connect, Build, Deliver, Foreign, Send, Abandon, Take, Shutdown, Abort, Outcome}
+use Rattle.sctp_model.specs.world.Steps.{Step, Run, Rest, Then}
+use Rattle.sctp_cookie.specs.Seals.{IsUnder}
+use Rattle.sctp_packet.specs.PacketLaws.{ReadInOneWay}
+use Rattle.sctp_outcomes.specs.Outcomes.{CanHappen, EventsHaveOutcomes}
+use Rattle.sctp_events.specs.Events.{Wanted, Happens, BringsBytes}
+use Rattle.sctp_pair.specs.Happens.{IsMeant}
+use Rattle.sctp_words.specs.declared.line_fault.LineFault.TheVariants.{TooLong}
+use Rattle.sctp_script.specs.CanBe.{CanBe}
 use Rattle.sctp_script.specs.Grammar.{SaysOneThing}
 use Rattle.sctp_script.specs.Grammar.{LineMeaning, Silent, Pairs, Acts, Fault, Says}
 use Rattle.sctp_text.specs.TextLines.{SplitInOneWay}
 use Rattle.sctp_text.specs.TextLines as split
 use Rattle.sctp_text.specs.TextLines.{IsOneLine, IsTooLong, ended, joined, ended_lines_of, first_length, first_end}
 use Rattle.sctp_script.specs.OutcomeText.{outcome_line}
-use Rattle.sctp_trace.specs.Script.{is_paired, Does, Goes, IsFront, Stops, IsLines}
+use Rattle.sctp_trace.specs.Script.{LISTENER_KEY, set_up, is_paired, Does, Goes, IsFront, Stops, IsLines}
 use Rattle.sctp_trace.proofs.ScriptRuns.{first_length-ended, front_goes_on}
-use Rattle.sctp_trace.proofs.ScriptSafety.{IsReached, at_start, one_step, all_lines}
 use Rattle.sctp_text.specs.declared.limits.TheConstants.{LINE_FEED, LONGEST_LINE, LONGEST_TEXT}
 
--- the laws of the script's grammar, of its lines, and of the world of two ends
+-- the laws of the script's grammar, of its lines, of packets and seals, and of the world of two ends
 pub record Laws : Type 0 where
   pub one_meaning : (paired : Bool) (line : List ℕ) → SaysOneThing paired line
-  pub events_follow : (paired : Bool) (line : List ℕ) (event : Event) → Says paired line (Acts event) → paired ≡ true
+  pub events_follow : (paired : Bool) (line : List ℕ) (wanted : Wanted) → Says paired line (Acts wanted) → paired ≡ true
+  pub can_be : (paired : Bool) (line : List ℕ) (wanted : Wanted) → Says paired line (Acts wanted) → CanBe wanted
   pub splits : (lines : List (List ℕ)) (rest : List ℕ) → SplitInOneWay lines rest
   pub lines : (text : List ℕ) → split.IsLines text
-  pub answered : EventsAreAnswered
+  pub packets : (bytes : List ℕ) → ReadInOneWay bytes
+  pub seals : (key : List ℕ) → (s : Sealing) × IsUnder key s
+  pub outcomes : EventsHaveOutcomes
+
+-- ---- worlds that lines lead to
+
+-- a run from START led to the world
+pub record IsRunTo (w : World) : Type 0 where
+  pub setup : Setup
+  pub events : List Event
+  pub answers : List (Option Outcome)
+  pub run : Run (start setup) events answers w
+
+-- a script's state: before the pair, or such a world
+abbrev pub IsReached : Option World → Type 0
+IsReached None = Unit {0}
+IsReached (Some w) = IsRunTo w
+
+run_push : (v w x : World) (es : List Event) (os : List (Option Outcome)) (e : Event) (o : Option Outcome) → Run v es os w → Step w e o x
+    → Run v (es ++ e ∷ []) (os ++ o ∷ []) x
+run_push v w x es os e o (Rest last) step = Then w x x e [] o [] step (Rest x)
+run_push v w x es os e o (Then first next last f fs p ps is run) step =
+    Then first next x f (fs ++ e ∷ []) p (ps ++ o ∷ []) is (run_push next w x fs ps e o run step)
+
+one_step : (w x : World) (e : Event) (o : Outcome) → IsRunTo w → Step w e (Some o) x → IsRunTo x
+one_step w x e o r step = record {
+  setup = r.setup;
+  events = r.events ++ e ∷ [];
+  answers = r.answers ++ Some o ∷ [];
+  run = run_push (start r.setup) w x r.events r.answers e (Some o) r.run step;
+}
+
+at_start : (s : Setup) → IsRunTo (start s)
+at_start s = record { setup = s; events = []; answers = []; run = Rest (start s) }
+
+does_reach : (state : Option World) (m : LineMeaning) (written : List ℕ) (after : Option World) → IsReached state → Does state m written after → IsReached after
+does_reach state Silent written after r does = subst IsReached (sym does.1) r
+does_reach state (Pairs c) written after r (s, under, line, is) = subst IsReached (sym is) (at_start (set_up c s))
+does_reach state (Acts wanted) written after r (w, x, e, o, meant, was, step, line, is) =
+    subst IsReached (sym is) (one_step w x e o (subst IsReached was r) step)
+does_reach state (Fault fault) written after r does = absurd does
+
+all_lines : (state : Option World) (lines : List (List ℕ)) (written : List ℕ) (after : Option World) → IsReached state → Goes state lines written after → IsReached after
+all_lines state [] written after r goes = subst IsReached (sym goes.1) r
+all_lines state (line ∷ lines) written after r (here, behind, mid, (m, says, does), rest, whole) =
+    all_lines mid lines behind after (does_reach state m here mid r does) rest
+
+-- ---- one line
+
+-- the event of the world that a line asks for
+pub record HasEvent (wanted : Wanted) : Type 0 where
+  pub event : Event
+  pub meant : IsMeant wanted event
+  pub can : CanHappen event
+
+is_event : (e : Event) → CanBe (Happens e) → HasEvent (Happens e)
+is_event (OpenBoth x y) can = record { event = OpenBoth x y; meant = refl; can = can }
+is_event (At m) can = record { event = At m; meant = refl; can = can }
+is_event (Drawing d) can = record { event = Drawing d; meant = refl; can = can }
+is_event (Connect d) can = record { event = Connect d; meant = refl; can = can }
+is_event (Build s) can = record { event = Build s; meant = refl; can = tt }
+is_event (Deliver s n) can = record { event = Deliver s n; meant = refl; can = tt }
+is_event (Foreign s p) can = absurd can
+is_event (Send s call) can = record { event = Send s call; meant = refl; can = tt }
+is_event (Abandon s k) can = record { event = Abandon s k; meant = refl; can = tt }
+is_event (Take s n) can = record { event = Take s n; meant = refl; can = tt }
+is_event (Shutdown s) can = record { event = Shutdown s; meant = refl; can = tt }
+is_event (Abort s reason) can = record { event = Abort s reason; meant = refl; can = tt }
+
+has_event : ((bytes : List ℕ) → ReadInOneWay bytes) → (wanted : Wanted) → CanBe wanted → HasEvent wanted
+has_event packets (Happens e) can = is_event e can
+has_event packets (BringsBytes s bytes) can = elim ((packets bytes).one_of_them can) [
+  | inl reads ↦ record { event = Foreign s (Some reads.0); meant = (Some reads.0, reads.1, refl); can = reads.1.chunks.placed }
+  | inr fault ↦ record { event = Foreign s None; meant = (None, fault, refl); can = tt }
+]
 
 -- what a line without a fault says is done
 pub record IsDone (state : Option World) (m : LineMeaning) : Type 0 where
@@ -32,18 +114,27 @@ pub record IsDone (state : Option World) (m : LineMeaning) : Type 0 where
   pub does : Does state m written after
   pub reached : IsReached after
 
-done_event : EventsAreAnswered → (state : Option World) (e : Event) → IsReached state → is_paired state ≡ true → IsDone state (Acts e)
-done_event answered None e reached paired = cc
-done_event answered (Some w) e reached paired =
-    let a = answered w e reached in
-    record { written = outcome_line a.0; after = Some a.1; does = (w, a.1, a.0, refl, a.2, refl, refl); reached = one_step w a.1 e a.0 reached a.2 }
+done_event : EventsHaveOutcomes → (state : Option World) (wanted : Wanted) → HasEvent wanted → IsReached state → is_paired state ≡ true → IsDone state (Acts wanted)
+done_event outcomes None wanted its reached paired = cc
+done_event outcomes (Some w) wanted its reached paired =
+    let told = outcomes reached.setup reached.events reached.answers w reached.run its.event its.can in
+    record {
+      written = outcome_line wanted told.0;
+      after = Some told.1;
+      does = (w, told.1, its.event, told.0, its.meant, refl, told.2, refl, refl);
+      reached = one_step w told.1 its.event told.0 reached told.2;
+    }
 
 -- a line has a fault, or is done
 one_line : (laws : Laws) (state : Option World) (line : List ℕ) (m : LineMeaning) → IsReached state → Says (is_paired state) line m
     → ((f : _) × (m ≡ Fault f)) ⊎ IsDone state m
 one_line laws state line Silent reached says = inr (record { written = []; after = state; does = (refl, refl); reached = reached })
-one_line laws state line (Pairs c) reached says = inr (record { written = []; after = Some (start c); does = (refl, refl); reached = at_start c })
-one_line laws state line (Acts e) reached says = inr (done_event laws.answered state e reached (laws.events_follow (is_paired state) line e says))
+one_line laws state line (Pairs c) reached says =
+    let s = laws.seals LISTENER_KEY in
+    inr (record { written = []; after = Some (start (set_up c s.0)); does = (s.0, s.1, refl, refl); reached = at_start (set_up c s.0) })
+one_line laws state line (Acts wanted) reached says =
+    let its = has_event laws.packets wanted (laws.can_be (is_paired state) line wanted says) in
+    inr (done_event laws.outcomes state wanted its reached (laws.events_follow (is_paired state) line wanted says))
 one_line laws state line (Fault f) reached says = inl (f, refl)
 
 -- whether the next line is too long is decided

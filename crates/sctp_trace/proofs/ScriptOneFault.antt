@@ -3,9 +3,9 @@ use Rattle.std.proofs.Common.{◌≡◌, ℕ, suc, ◌+◌, ◌≤◌, inl, inr,
 use Rattle.std.specs.List.{All}
 use Rattle.std.proofs.lemmas.Bool.{cases_lt}
 use Rattle.std.proofs.lemmas.List.Elements.{All-head, All-tail}
-use Rattle.sctp_model.specs.first.World.{World}
-use Rattle.sctp_script.specs.declared.line.LineFault.{LineFault}
-use Rattle.sctp_script.specs.declared.line.LineFault.TheVariants.{TooLong}
+use Rattle.sctp_model.specs.world.World.{World}
+use Rattle.sctp_words.specs.declared.line_fault.LineFault.{LineFault}
+use Rattle.sctp_words.specs.declared.line_fault.LineFault.TheVariants.{TooLong}
 use Rattle.sctp_script.specs.Grammar.{SaysOneThing}
 use Rattle.sctp_script.specs.Grammar.{LineMeaning, Silent, Pairs, Acts, Fault, Says}
 use Rattle.sctp_text.specs.TextLines.{IsOneLine, is_line_feed, ended, joined, first_length}
@@ -65,21 +65,21 @@ two_faults law end b given text f g (inr (short, (l, begins, has))) (inr (too, (
 no_fault : (m : LineMeaning) (f : LineFault) (state after : Option World) (here : List ℕ) → Does state m here after → m ≡ Fault f → ⊥
 no_fault Silent f state after here does e = cc
 no_fault (Pairs c) f state after here does e = cc
-no_fault (Acts event) f state after here does e = cc
+no_fault (Acts wanted) f state after here does e = cc
 no_fault (Fault other) f state after here does e = does
 
 short_line : OneMeaning → (b : Bool) (line : List ℕ) (m : LineMeaning) (state after : Option World) (here : List ℕ)
     → Says b line m → Does state m here after → length line ≤ LONGEST_LINE
 short_line law b line Silent state after here says does = elim (cases_lt LONGEST_LINE (length line)) [ inl long ↦ absurd (says.0 TooLong long) | inr le ↦ le ]
 short_line law b line (Pairs c) state after here says does = elim (cases_lt LONGEST_LINE (length line)) [ inl long ↦ absurd (says.0 TooLong long) | inr le ↦ le ]
-short_line law b line (Acts e) state after here says does = elim (cases_lt LONGEST_LINE (length line)) [ inl long ↦ absurd (says.0 TooLong long) | inr le ↦ le ]
+short_line law b line (Acts wanted) state after here says does = elim (cases_lt LONGEST_LINE (length line)) [ inl long ↦ absurd (says.0 TooLong long) | inr le ↦ le ]
 short_line law b line (Fault f) state after here says does = absurd does
 
 -- both lead to a pair, or neither
 both_paired : (m : LineMeaning) (s t p q : Option World) (v w : List ℕ) → Does s m v p → Does t m w q → is_paired s ≡ is_paired t → is_paired p ≡ is_paired q
 both_paired Silent s t p q v w a b e = ap is_paired a.1 ∙ e ∙ ap is_paired (sym b.1)
-both_paired (Pairs c) s t p q v w a b e = ap is_paired a.1 ∙ ap is_paired (sym b.1)
-both_paired (Acts event) s t p q v w a b e = ap is_paired a.6 ∙ ap is_paired (sym b.6)
+both_paired (Pairs c) s t p q v w a b e = ap is_paired a.3 ∙ ap is_paired (sym b.3)
+both_paired (Acts wanted) s t p q v w a b e = ap is_paired a.8 ∙ ap is_paired (sym b.8)
 both_paired (Fault f) s t p q v w a b e = absurd a
 
 -- a line that acts has no first fault in its place

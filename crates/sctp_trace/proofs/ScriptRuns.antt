@@ -4,7 +4,7 @@ use Rattle.std.specs.Prelude.{not}
 use Rattle.std.specs.List.{All}
 use Rattle.std.proofs.lemmas.List.Elements.{All-append, All-head, All-tail}
 use Rattle.std.proofs.lemmas.Grind.{flat_map-append}
-use Rattle.sctp_model.specs.first.World.{World}
+use Rattle.sctp_model.specs.world.World.{World}
 use Rattle.sctp_script.specs.Grammar.{LineMeaning, Silent, Pairs, Acts, Fault}
 use Rattle.sctp_text.specs.TextLines.{Reading, HasGiven, IsOneLine, is_line_feed, ended, joined, first_length}
 use Rattle.sctp_trace.specs.declared.script.Running.{Running}
@@ -33,8 +33,8 @@ goes-append (l ∷ lines) more state mid after done further goes on =
 -- a line that leaves no pair writes nothing, and there was none before it
 none_does : (m : LineMeaning) (state after : Option World) (here : List ℕ) → Does state m here after → after ≡ None → (state ≡ None) × (here ≡ [])
 none_does Silent state after here does e = (sym does.1 ∙ e, does.0)
-none_does (Pairs c) state after here does e = let some = does.1 in cc
-none_does (Acts event) state after here does e = let some = does.6 in cc
+none_does (Pairs c) state after here does e = let some = does.3 in cc
+none_does (Acts wanted) state after here does e = let some = does.8 in cc
 none_does (Fault fault) state after here does e = absurd does
 
 pub goes_none : (lines : List (List ℕ)) (state after : Option World) (done : List ℕ) → Goes state lines done after → after ≡ None → (state ≡ None) × (done ≡ [])

@@ -4,8 +4,8 @@ use Rattle.clap.specs.Faults.{fault_of}
 use Rattle.clap.specs.Kinds.{IsAmong}
 use Rattle.clap.specs.Values.{kind_text}
 use Rattle.clap.specs.declared.error.kind.ErrorKind.{ErrorKind}
-use Rattle.sctp_script.specs.Grammar.{kind_of}
-use Rattle.sctp_script.specs.declared.line.LineFault.{LineFault}
+use Rattle.sctp_words.specs.Lines.{kind_of}
+use Rattle.sctp_words.specs.declared.line_fault.LineFault.{LineFault}
 use Rattle.sctp_print.specs.PrintedText.{IsPacketTextOf, IsChunksTextOf}
 use Rattle.sctp_trace.specs.Forms.{commands, IsForm, Form, Run, Packet, Chunks, form_of}
 use Rattle.sctp_trace.specs.Script.{IsAnswered}

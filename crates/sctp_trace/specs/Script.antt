@@ -2,9 +2,16 @@
 -- A script's state is the world of its two ends, once there was a `pair` line. Want of memory is no answer of a step here.
 use Rattle.std.specs.Prelude.{◌≡◌, ℕ, suc, ◌<◌, ◌≤◌, ◌⊎◌, Bool, true, false, List, [], ◌∷◌, ◌++◌, length, Option, Some, None, Result, Ok, Err}
 use Rattle.std.specs.List.{All}
-use Rattle.sctp_model.specs.first.World.{World, Outcome, start, Step}
-use Rattle.sctp_script.specs.declared.line.LineFault.{LineFault}
-use Rattle.sctp_script.specs.declared.line.LineFault.TheVariants.{TooLong, PairOrder}
+use Rattle.sctp_model.specs.sender.Words.{count_up}
+use Rattle.sctp_model.specs.end.Sealing.{Sealing}
+use Rattle.sctp_model.specs.end.EndView.{Configuration}
+use Rattle.sctp_model.specs.world.World.{World, Setup, start}
+use Rattle.sctp_model.specs.world.Events.{Event, Outcome}
+use Rattle.sctp_model.specs.world.Steps.{Step}
+use Rattle.sctp_cookie.specs.Seals.{IsUnder}
+use Rattle.sctp_pair.specs.Happens.{IsMeant}
+use Rattle.sctp_words.specs.declared.line_fault.LineFault.{LineFault}
+use Rattle.sctp_words.specs.declared.line_fault.LineFault.TheVariants.{TooLong, PairOrder}
 use Rattle.sctp_script.specs.Grammar.{LineMeaning, Silent, Pairs, Acts, Fault, Says, IsFirstFaultOf}
 use Rattle.sctp_text.specs.TextLines.{IsOneLine, IsTooLong, ended, joined, lines_of, ended_lines_of}
 use Rattle.sctp_script.specs.OutcomeText.{outcome_line}
@@ -12,6 +19,16 @@ use Rattle.sctp_script.specs.ReportText.{report}
 use Rattle.sctp_trace.specs.declared.script.ScriptFault.{ScriptFault}
 use Rattle.sctp_trace.specs.declared.script.ScriptFault.TheVariants.{Read, Write, NoMemory, Line}
 use Rattle.sctp_text.specs.declared.limits.TheConstants.{LONGEST_TEXT}
+
+-- ---- pairs
+
+-- B's key: the bytes 0 to 31
+abbrev pub LISTENER_KEY : List ℕ
+LISTENER_KEY = count_up 0 32
+
+-- how two ends are set up with this configuration of A's, B with this seal
+abbrev pub set_up : Configuration → Sealing → Setup
+set_up c s = record { alike = c; a_port = c.own_port; b_port = c.peer_port; sealing = s }
 
 -- ---- lines that act
 
@@ -23,9 +40,10 @@ is_paired (Some w) = true
 -- what is written for what a line says, and the state that it leads to
 abbrev pub Does : Option World → LineMeaning → List ℕ → Option World → Type 0
 Does state Silent written after = (written ≡ []) × (after ≡ state)
-Does state (Pairs c) written after = (written ≡ []) × (after ≡ Some (start c))
-Does state (Acts e) written after =
-    (w x : World) × (o : Outcome) × (state ≡ Some w) × Step w e (Some o) x × (written ≡ outcome_line o) × (after ≡ Some x)
+Does state (Pairs c) written after = (s : Sealing) × IsUnder LISTENER_KEY s × (written ≡ []) × (after ≡ Some (start (set_up c s)))
+Does state (Acts wanted) written after =
+    (w x : World) × (e : Event) × (o : Outcome) × IsMeant wanted e × (state ≡ Some w) × Step w e (Some o) x
+    × (written ≡ outcome_line wanted o) × (after ≡ Some x)
 Does state (Fault fault) written after = ⊥
 
 -- a line without a fault writes this and leads to this state

@@ -1,6 +1,6 @@
 -- What is written for the lines of a text is there, and what first lines write is a beginning of it.
 use Rattle.std.specs.Prelude.{◌≡◌, ℕ, List, ◌++◌, Option}
-use Rattle.sctp_model.specs.first.World.{World}
+use Rattle.sctp_model.specs.world.World.{World}
 use Rattle.sctp_trace.specs.Script.{IsFront, IsLines}
 
 -- Whatever first lines of a text wrote, LINES of it begins so.

@@ -1,6 +1,6 @@
 -- A script has one first fault.
 use Rattle.std.specs.Prelude.{◌≡◌, ℕ, List}
-use Rattle.sctp_script.specs.declared.line.LineFault.{LineFault}
+use Rattle.sctp_words.specs.declared.line_fault.LineFault.{LineFault}
 use Rattle.sctp_trace.specs.Script.{IsFaulty}
 
 -- Of any two first faults of a text, its last line counted, each is the other, on the same line.

@@ -1,19 +1,20 @@
 //! What a script writes, gathered line by line, and when it is written.
 
 ghost use Rattle.std.specs.Prelude.{◌≡◌, ℕ, ◌+◌, ◌-◌, ◌^◌, ◌<◌, List, [], ◌++◌, Option, OnOk, ◌⊎◌};
-ghost use Rattle.sctp_model.specs.first.World as world;
-ghost use Rattle.sctp_model.specs.first.World.{World};
-ghost use Rattle.sctp_script.specs.Events.{Answers};
+ghost use Rattle.sctp_model.specs.world.World.{World};
+ghost use Rattle.sctp_events.specs.Events.{event_meaning, outcome_meaning};
 ghost use Rattle.sctp_script.specs.OutcomeText.{outcome_line};
 ghost use Rattle.sctp_text.specs.TextLines.{MayBegin};
 ghost use Rattle.sctp_trace.specs.Script.{failed_reads, failed_writes};
 ghost use Rattle.sctp_trace.specs.inner.ScriptSteps.{StandsAt, IsWrittenOf, IsGatheredOf, IsPassedOn, IsClosed, Closes};
 
-use crate::pair::Pair;
 use crate::script::ScriptFault;
-use sctp_script::{LineFault, Outcome, put_outcome};
+use sctp_pair::{Event, Outcome, Pair};
+use sctp_script::put_outcome;
 use sctp_text::{Failed, LineReader, Sink, write_all};
 use sctp_values::NoMemory;
+use sctp_words::LineFault;
+use std::alloc::Global;
 
 /// With so many bytes gathered they are written, also where the next line needn't be waited for.
 const ENOUGH: usize = 4_096;
@@ -60,13 +61,18 @@ pub(crate) fn pass_on<W: Sink>(
     written
 }
 
-/// Gathers the line of an outcome.
-pub(crate) fn gather_outcome(outcome: &Outcome, gathered: &mut Vec<u8>) -> Result<(), ScriptFault>
-    ensures gathers { (o : world.Outcome) → Answers outcome.now o
-        → (here : List ℕ) × (gathered.new.items ≡ gathered.old.items ++ here) × IsGatheredOf result (outcome_line o) here }
+/// Gathers the line of what an event was answered.
+pub(crate) fn gather_outcome(
+    alloc: Global,
+    event: &Event,
+    outcome: &Outcome,
+    gathered: &mut Vec<u8>,
+) -> Result<(), ScriptFault>
+    ensures gathers { (here : List ℕ) × (gathered.new.items ≡ gathered.old.items ++ here)
+        × IsGatheredOf result (outcome_line (event_meaning event.now) (outcome_meaning outcome.now)) here }
     ensures no_calls { (failed_reads result ≡ 0) × (failed_writes result ≡ 0) }
 {
-    match put_outcome(outcome, gathered) {
+    match put_outcome(alloc, event, outcome, gathered) {
         Ok(()) => Ok(()),
         Err(NoMemory) => Err(ScriptFault::NoMemory),
     }

@@ -1,27 +1,27 @@
 //! A script, run: each line acts before the next one is read, and the report comes last.
 
 ghost use Rattle.std.specs.Prelude.{◌≡◌, ℕ, suc, true, ◌+◌, ◌-◌, ◌^◌, ◌<◌, ◌≤◌, List, [], ◌++◌, length, Option, None, IfOk, OnOk, ◌⊎◌};
-ghost use Rattle.sctp_model.specs.first.World as world;
-ghost use Rattle.sctp_model.specs.first.World.{World};
-ghost use Rattle.sctp_script.specs.Events.{Answers};
-ghost use Rattle.sctp_script.specs.OutcomeText.{outcome_line};
+ghost use Rattle.sctp_model.specs.world.World.{World};
 ghost use Rattle.sctp_trace.specs.Script.{IsAnswered, failed_reads, failed_writes};
 ghost use Rattle.sctp_trace.specs.inner.ScriptSteps.{StandsAt, IsWrittenOf, IsGatheredOf, IsPassedOn, IsClosed, LineLeaves, Closes, IsSoFar, RunsOn, EndsAs, fault_of};
 ghost use Rattle.sctp_text.specs.TextLines.{MayBegin};
 ghost use Rattle.sctp_text.specs.declared.limits.TheConstants.{LONGEST_TEXT};
 
 use crate::gathered::{close, finish, gather_outcome, pass_on};
-use crate::pair::Pair;
 use crate::script_laws::lines_are_there;
-use sctp_script::{
-    Acting, LineError, LineFault, Outcome, events_follow_the_pair, put_outcome, read_line,
-};
-use sctp_text::{
-    Failed, LineReader, NextLine, ReadFault, Sink, Source, line_after_line, write_all,
-};
-use sctp_values::NoMemory;
+use sctp_cookie::{Key, keys_have_seals};
+use sctp_pair::Pair;
+use sctp_script::{Acting, events_follow_the_pair, read_line};
+use sctp_text::{LineReader, NextLine, ReadFault, Sink, Source, line_after_line};
+use sctp_words::{LineError, LineFault};
 use std::alloc::Global;
 use thiserror::Error;
+
+/// The key of a script's listener: the bytes 0 to 31.
+const LISTENER_KEY: [u8; 32] = [
+    0, 1, 2, 3, 4, 5, 6, 7, 8, 9, 10, 11, 12, 13, 14, 15, 16, 17, 18, 19, 20, 21, 22, 23, 24, 25,
+    26, 27, 28, 29, 30, 31,
+];
 
 /// Why a script ended before its report was written.
 #[derive(Clone, Copy, Debug, PartialEq, Eq, Error)]
@@ -159,18 +159,20 @@ fn act(
         → (here : List ℕ) × (gathered.new.items ≡ gathered.old.items ++ here) × LineLeaves result number state line.now here pair.new }
     ensures no_calls { (failed_reads result ≡ 0) × (failed_writes result ≡ 0) }
 {
-    // It does nothing: its contract says that an event stands behind the `pair` line.
+    // They do nothing: their contracts say that an event stands behind the `pair` line, and that the listener's key has a seal.
     events_follow_the_pair();
+    keys_have_seals();
     match read_line(alloc, line, pair.is_some()) {
         Ok(None) => Ok(()),
         Ok(Some(Acting::Pair(config))) => {
-            *pair = Some(Pair::new(alloc, config).map_err(|_| ScriptFault::NoMemory)?);
+            let key = Key::new(LISTENER_KEY);
+            *pair = Some(Pair::new(alloc, config, key));
             Ok(())
         }
         Ok(Some(Acting::Event(event))) => {
             let Some(pair) = pair else { unreachable!() };
             let outcome = pair.step(&event).map_err(|_| ScriptFault::NoMemory)?;
-            gather_outcome(&outcome, gathered)
+            gather_outcome(alloc, &event, &outcome, gathered)
         }
         Err(LineError::Fault(fault)) => Err(ScriptFault::Line(number, fault)),
         Err(LineError::NoMemory) => Err(ScriptFault::NoMemory),

@@ -1,17 +1,17 @@
 -- How far a script has been run, and what one line, its outcome and the report leave.
 use Rattle.std.specs.Prelude.{◌≡◌, ℕ, suc, ◌≤◌, ◌⊎◌, Bool, true, false, List, [], ◌++◌, length, Option, Some, None, Result, Ok, Err}
-use Rattle.sctp_model.specs.first.World.{World}
-use Rattle.sctp_script.specs.declared.line.LineFault.TheVariants.{PairOrder}
+use Rattle.sctp_model.specs.world.World.{World}
+use Rattle.sctp_words.specs.declared.line_fault.LineFault.TheVariants.{PairOrder}
 use Rattle.sctp_text.specs.declared.line_reader.ReadFault.{ReadFault}
 use Rattle.sctp_text.specs.declared.line_reader.ReadFault.TheVariants as read
 use Rattle.sctp_script.specs.Grammar.{IsFirstFaultOf}
 use Rattle.sctp_text.specs.TextLines.{HasGiven, lines_of}
 use Rattle.sctp_script.specs.ReportText.{report}
-use Rattle.sctp_trace.specs.declared.pair.Pair.{Pair}
+use Rattle.sctp_pair.specs.declared.pair.Pair.{Pair}
 use Rattle.sctp_trace.specs.declared.script.Running.{Running}
 use Rattle.sctp_trace.specs.declared.script.ScriptFault.{ScriptFault}
 use Rattle.sctp_trace.specs.declared.script.ScriptFault.TheVariants.{Read, Write, NoMemory, Line}
-use Rattle.sctp_trace.specs.PairStands.{PairStands}
+use Rattle.sctp_pair.specs.PairStands.{PairStands}
 use Rattle.sctp_trace.specs.Script.{is_paired, LineActs, Goes, IsFront, IsOutput, BeginsOutput, FaultsFirst}
 use Rattle.sctp_text.specs.declared.limits.TheConstants.{LONGEST_TEXT}
 

@@ -10,7 +10,7 @@ use Rattle.sctp_trace.proofs.command_line.run.Goals as goal
 pub returns-in-Ok-clause-runs : goal.returns-in-Ok-clause-runs
 returns-in-Ok-clause-runs g c =
     let ran = c.in-Ok.ensures.answer in
-    (ran.0, ran.1, [], ran.2, ran.3, search rules, (Ok tt, ran.4, (refl, refl)))
+    (ran.0, ran.1, [], ran.2, ran.3, g.met.F.Sink.writes_none _, (Ok tt, ran.4, (refl, refl)))
 
 -- the line was said whole, or a beginning of it
 pub returns-in-Ok-format-clause-runs : goal.returns-in-Ok-format-clause-runs
@@ -38,4 +38,4 @@ returns-in-Err-clause-runs g c =
     let ran = c.in-Err-Line.ensures.answer in
     let end = g.R.Source.IsAtEnd c.run_script.new.input in
     let answer = subst (λ f. IsAnswered end (Err f) ran.0 ran.1) c.in-Err-Line.field-0-is ran.4 in
-    (ran.0, ran.1, [], ran.2, ran.3, search rules, (Err (Line c.in-Err-Line.number c.in-Err-Line.fault), answer, inr (refl, (_, refl))))
+    (ran.0, ran.1, [], ran.2, ran.3, g.met.F.Sink.writes_none _, (Err (Line c.in-Err-Line.number c.in-Err-Line.fault), answer, inr (refl, (_, refl))))

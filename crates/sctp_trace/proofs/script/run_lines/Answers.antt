@@ -1,4 +1,5 @@
-use Rattle.std.proofs.Common.{◌≡◌, ◌++◌, Err, arith}
+use Rattle.std.proofs.Common.{◌≡◌, ◌++◌, Err, ap, ◌∙◌, arith}
+use Rattle.std.proofs.lemmas.Result.{err_from_is_err_and}
 use Rattle.std.proofs.lemmas.Grind.{common_steps}
 use Rattle.sctp_trace.proofs.ScriptLemmas.{lines_within, closed}
 use Rattle.sctp_trace.proofs.ScriptGathered.{behind_gathered}
@@ -13,7 +14,8 @@ pub returns-in_err-run_line-clause-answer : goal.returns-in_err-run_line-clause-
 returns-in_err-run_line-clause-answer g c =
     let so = c.loop-running.invariant.so in
     let ran = c.in_err-run_line.ensures.runs so.0 so.1 so.2 so.3 so.6 in
-    let same : c.from_residual.result ≡ Err c.in_err-run_line.field-0.0 = grind (arith, common_steps) in (
+    let p = err_from_is_err_and c.from_residual.result c.from_residual.ensures.1 in
+    let same : c.from_residual.result ≡ Err c.in_err-run_line.field-0.0 = p.1 ∙ ap Err p.2 in (
       so.0 ++ ran.0,
       so.1 ++ ran.1,
       g.met.R.Source.reads_more _ _ _ _ _ so.4 ran.2,

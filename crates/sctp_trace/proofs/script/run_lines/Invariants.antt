@@ -1,5 +1,5 @@
 use Rattle.std.proofs.Common.{◌≡◌, ℕ, ◌-◌, ◌≤◌, ◌++◌, List, Option}
-use Rattle.sctp_model.specs.first.World.{World}
+use Rattle.sctp_model.specs.world.World.{World}
 use Rattle.sctp_trace.specs.inner.ScriptSteps.{IsSoFar}
 use Rattle.sctp_trace.proofs.script.run_lines.Given as goal
 use Rattle.sctp_text.specs.declared.limits.TheConstants.{LONGEST_TEXT}

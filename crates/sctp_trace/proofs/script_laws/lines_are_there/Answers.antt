@@ -8,6 +8,9 @@ returns c = λ text front rest written state is.
       events_follow = c.events_follow_the_pair.ensures;
       splits = c.lines_in_one_way.ensures.split;
       lines = c.lines_in_one_way.ensures.exist;
-      answered = c.every_event_is_answered.ensures.event;
+      can_be = c.events_can_happen.ensures;
+      packets = c.one_packet.ensures;
+      seals = c.keys_have_seals.ensures.some;
+      outcomes = c.every_event_has_an_outcome.ensures;
     }) text front rest written state is in
     (there.lines, there.more, there.are, there.begins)

@@ -1,5 +1,5 @@
 use Rattle.std.proofs.Common.{◌≡◌, true, false, [], ◌∷◌, ◌++◌, Ok, Err, refl, sym, append-nil, arith}
-use Rattle.sctp_script.specs.declared.line.LineFault.TheVariants.{TooLong as LineTooLong}
+use Rattle.sctp_words.specs.declared.line_fault.LineFault.TheVariants.{TooLong as LineTooLong}
 use Rattle.sctp_trace.specs.declared.script.ScriptFault.TheVariants.{Line}
 use Rattle.sctp_trace.specs.inner.ScriptSteps.{BeginsFront}
 use Rattle.std.proofs.lemmas.Grind.{common_steps}

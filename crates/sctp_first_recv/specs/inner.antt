@@ -1,2 +1,0 @@
-pub mod HandsOver
-pub mod Recording

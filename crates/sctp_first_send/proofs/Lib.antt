@@ -1,2 +1,0 @@
-mod SenderLemmas
-mod FillLemmas
