@@ -42,7 +42,7 @@ fn copied(alloc: Global, bytes: &[u8]) -> Result<Vec<u8>> {
 /// What an end answers that is asked for a packet before there is an association.
 fn built(alloc: Global) -> Result<String> {
     let config = PairConfig::new(1_500, 1_400, 65_536, 1, Mode::Data)?;
-    let mut pair = Pair::new(alloc, config)?;
+    let mut pair = Pair::new(alloc, config, Key::new([7; 32]));
     let outcome = pair.step(&Event::Build { side: Side::A })?;
     Ok(format!(in alloc; "{outcome:?}")?)
 }
