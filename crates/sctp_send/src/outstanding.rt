@@ -1,6 +1,6 @@
 //! What was assigned and isn't acknowledged cumulatively: an entry for each index, the one of CUM + 1 in front.
 
-ghost use Rattle.std.specs.Prelude.{◌≡◌, ℕ, Bool, true, false, ◌<◌, ◌≤◌, List, length, drop, None};
+ghost use Rattle.std.specs.Prelude.{◌≡◌, ℕ, Bool, true, false, ◌<◌, ◌≤◌, ◌-◌, List, length, drop, None};
 ghost use Rattle.sctp_send.specs.WindowKept.{IsSameRoom, changed};
 ghost use Rattle.sctp_model.specs.messages.Acknowledgement.{in_blocks};
 ghost use Rattle.sctp_send.specs.inner.Changes.{unmarked, told, all_told, or_run, timed, all_timed};
@@ -10,7 +10,6 @@ ghost use Rattle.sctp_send.specs.inner.Acknowledging.{block_fault};
 
 use crate::message::{Message, lay_by};
 use crate::window::Window;
-use sctp_values::BLOCK_LIMIT;
 use sctp_wire::Blocks;
 use std::alloc::Global;
 use std::rc::Rc;
@@ -50,9 +49,13 @@ pub struct Outstanding {
 /// A run of entries that the peer has, by their offsets above CUM: those behind `from`, up to `to`.
 #[derive(Clone, Copy, Debug, PartialEq, Eq)]
 pub struct Run {
-    pub from: usize,
-    pub to: usize,
+    pub from: u16,
+    pub to: u16,
 }
+
+/// The most runs that are kept: as many blocks as a SACK has in a packet of 1,500 bytes (RFC 9260, 3.3.4), behind the packet's header and
+/// its own first 16 bytes.
+pub const RUNS: usize = 368;
 
 /// The same standing without its mark.
 pub fn unmarked(standing: Standing) -> Standing
@@ -146,8 +149,19 @@ fn run_behind(run: Run, passed: usize) -> Run
     ensures { result ≡ run_behind passed run }
 {
     Run {
-        from: run.from.saturating_sub(passed),
-        to: run.to.saturating_sub(passed),
+        from: less(run.from, passed),
+        to: less(run.to, passed),
+    }
+}
+
+/// An offset less so many entries; 0 where it is no more than they are.
+fn less(offset: u16, passed: usize) -> u16
+    ensures { result ≡ offset - passed }
+{
+    if passed < usize::from(offset) {
+        offset - passed as u16
+    } else {
+        0
     }
 }
 
@@ -159,10 +173,10 @@ pub fn remember(runs: &mut Vec<Run>, blocks: &Blocks<'_>) -> bool
     runs.clear();
     for block in blocks.iter() {
         let run = Run {
-            from: usize::from(block.start).saturating_sub(1),
-            to: usize::from(block.end),
+            from: block.start.saturating_sub(1),
+            to: block.end,
         };
-        if runs.len() >= BLOCK_LIMIT || runs.push(run).is_err() {
+        if runs.len() >= RUNS || runs.push(run).is_err() {
             return false;
         }
     }

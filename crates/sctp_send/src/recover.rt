@@ -70,8 +70,8 @@ fn tell_alone(outstanding: &mut Window, runs: &[Run], others: &[Run], covered: b
             others,
             first,
             covered,
-            run.from,
-            run.to.min(last),
+            usize::from(run.from),
+            usize::from(run.to).min(last),
         );
     }
 }
@@ -95,10 +95,11 @@ fn tell_gaps(
     let mut at = from;
     for next in first..runs.len() {
         let run = runs[next];
-        let gap = run.from.min(to);
+        let end = usize::from(run.to);
+        let gap = usize::from(run.from).min(to);
         tell_run(outstanding, covered, at.min(gap), gap);
-        at = at.max(run.to);
-        if to < run.to {
+        at = at.max(end);
+        if to < end {
             return next;
         }
     }

@@ -8,12 +8,12 @@ ghost use Rattle.sctp_send.specs.SenderStands.{StandsFor};
 
 use crate::draft::Change;
 use crate::message::{Fate, Message, SPENT};
-use crate::outstanding::Run;
+use crate::outstanding::{RUNS, Run};
 use crate::streams::Streams;
 use crate::waiting::Waiting;
 use crate::window::Window;
 use sctp_framing::Framing;
-use sctp_values::{BLOCK_LIMIT, NoMemory};
+use sctp_values::NoMemory;
 use std::alloc::Global;
 use std::marker::{Model, PhantomData};
 use std::rc::Rc;
@@ -117,9 +117,9 @@ impl<F: Framing> Sender<F> {
     {
         let tracks = Streams::new(alloc, streams, fragment)?;
         let mut covered = Vec::new(alloc);
-        covered.reserve(BLOCK_LIMIT).map_err(|_| NoMemory)?;
+        covered.reserve(RUNS).map_err(|_| NoMemory)?;
         let mut spare = Vec::new(alloc);
-        spare.reserve(BLOCK_LIMIT).map_err(|_| NoMemory)?;
+        spare.reserve(RUNS).map_err(|_| NoMemory)?;
         let mut spent = Vec::new(alloc);
         spent.reserve(SPENT).map_err(|_| NoMemory)?;
         Ok(Sender {

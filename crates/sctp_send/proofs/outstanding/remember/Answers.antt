@@ -25,11 +25,11 @@ loop-block-preserved c =
     let b = block_meaning c.in-Some.block in
     let bs = c.next.new.self in
     let runs = c.loop-block.runs.items in
-    let run : Run = record { from = c.saturating_sub.result; to = c.from-in-loop-block.result } in
+    let run : Run = record { from = c.saturating_sub.result; to = c.in-Some.block.end } in
     let ok = went_in c.push.result (sym c.is_err.ensures.value ∙ c.if-is_err.false) in
     let pushed : c.push.new.self.items ≡ runs ++ run ∷ [] = rw (c.push.ensures.items, ok) refl in
-    let from : run.from ≡ b.start - 1 = c.saturating_sub.ensures ∙ ap (λ (n : ℕ). n - 1) c.from.ensures in
-    let to : run.to ≡ b.end = c.from-in-loop-block.ensures in
+    let from : run.from ≡ b.start - 1 = c.saturating_sub.ensures in
+    let to : run.to ≡ b.end = refl in
     let steps : c.loop-block.block-iterator ≡ b ∷ bs = c.in-Some.ensures.steps in
     let good : some_is_bad (end_of 0 runs) (b ∷ bs) ≡ false = rw steps at before.behind in
     let next = good_block (end_of 0 runs) b bs good in

@@ -1,4 +1,5 @@
-use Rattle.std.proofs.Common.{◌≡◌, ap, arith, refl, ◌∙◌, ℕ, ◌+◌, ◌<◌, length, get_or, min}
+use Rattle.std.proofs.Common.{◌≡◌, ap, sym, subst, arith, refl, ◌∙◌, ℕ, ◌+◌, ◌<◌, length, get_or, min}
+use Rattle.sctp_send.specs.CoveredRuns.{HasPassed}
 use Rattle.sctp_send.specs.inner.Changes.{told_where, in_gaps}
 use Rattle.sctp_send.specs.declared.outstanding.Run.{Run}
 use Rattle.sctp_send.proofs.GapLemmas.{ends_behind, next_begins, passed_on}
@@ -22,15 +23,18 @@ loop-run-preserved c =
     let runs = c.args.runs.now in
     let r : Run = get_or runs k none in
     let some : k < length runs = omega arith in
+    let from : c.from.result ≡ r.from = c.from.ensures in
+    let end : c.min.result ≡ min r.to c.len-last.result = c.min.ensures ∙ ap (λ (n : ℕ). min n c.len-last.result) c.from-in-loop-run.ensures in
     record {
       items = λ sorted order.
           let told : c.tell_gaps-first.new.outstanding.items ≡ told_where c.args.covered (in_gaps c.args.others.now r.from (min r.to c.len-last.result)) 1 now =
-          c.tell_gaps-first.ensures.items order (before.passed sorted none some) ∙ ap (λ (n : ℕ). told_where c.args.covered (in_gaps c.args.others.now r.from n) 1 now) c.min.ensures in
+          c.tell_gaps-first.ensures.items order (subst (HasPassed c.args.others.now c.loop-run.first) (sym from) (before.passed sorted none some))
+          ∙ ap (λ (n : ℕ). told_where c.args.covered (in_gaps c.args.others.now n c.min.result) 1 now) from ∙ ap (λ (n : ℕ). told_where c.args.covered (in_gaps c.args.others.now r.from n) 1 now) end in
           alone_more c.args.covered runs c.args.others.now k c.len-last.result r none c.args.outstanding.now.items now c.tell_gaps-first.new.outstanding.items some refl c.len-last.ensures (before.items sorted order) told;
       passed = λ sorted d more.
           let ends = ends_behind runs 0 k r none sorted some refl in
           let next = next_begins runs 0 k r none d sorted more refl in
-          passed_on c.args.others.now c.tell_gaps-first.result _ (get_or runs (k + 1) d).from (omega (arith, ends, next, c.min.ensures)) (c.tell_gaps-first.ensures.passed (before.passed sorted none some));
+          passed_on c.args.others.now c.tell_gaps-first.result _ (get_or runs (k + 1) d).from (omega (arith, ends, next, from, end)) (c.tell_gaps-first.ensures.passed (subst (HasPassed c.args.others.now c.loop-run.first) (sym from) (before.passed sorted none some)));
       count = c.tell_gaps-first.ensures.long ∙ before.count;
       room = record { size = c.tell_gaps-first.ensures.kept.size ∙ before.room.size; capacity = c.tell_gaps-first.ensures.kept.capacity ∙ before.room.capacity };
     }

@@ -1,4 +1,4 @@
-use Rattle.std.proofs.Common.{◌≤◌, ◌<◌, ℕ, ap, length, get_or, refl, ◌∙◌, arith}
+use Rattle.std.proofs.Common.{◌≡◌, ◌≤◌, ◌<◌, ℕ, min, max, ap, length, get_or, refl, ◌∙◌, arith}
 use Rattle.sctp_send.specs.inner.Changes.{told_where, is_between}
 use Rattle.sctp_send.specs.declared.outstanding.Run.{Run}
 use Rattle.sctp_send.proofs.TellLemmas.{length-told_where}
@@ -20,36 +20,40 @@ loop-next-preserved c =
     let before = c.loop-next.invariant in
     let none : Run = record { from = 0; to = 0 } in
     let run : Run = get_or c.args.runs.now c.loop-next.next none in
-    let ends : run.to ≤ c.args.to = c.if-to-run.false in
+    let end : c.from-end.result ≡ run.to = c.from-end.ensures in
+    let from : c.from.result ≡ run.from = c.from.ensures in
+    let ends : run.to ≤ c.args.to = omega (arith, end, c.if-to-end.false) in
     let now = c.loop-next.outstanding.items in
     record {
       low = omega (arith, before.low, c.max-at.ensures);
-      near = omega (arith, before.near, c.max-at.ensures, ends);
-      passed = λ passed. passed_more c.args.runs.now c.loop-next.next run none c.loop-next.at c.max-at.result (omega arith) refl (omega (arith, c.max-at.ensures)) (omega (arith, c.max-at.ensures)) (before.passed passed);
+      near = omega (arith, before.near, c.max-at.ensures, ends, end);
+      passed = λ passed. passed_more c.args.runs.now c.loop-next.next run none c.loop-next.at c.max-at.result (omega arith) refl (omega (arith, c.max-at.ensures)) (omega (arith, c.max-at.ensures, end)) (before.passed passed);
       items = λ order passed.
           gaps_more c.args.covered c.args.runs.now c.loop-next.next run none c.args.from c.loop-next.at c.args.to c.min-gap.result c.max-at.result c.args.outstanding.now.items now c.tell_run.new.outstanding.items order (omega arith) refl before.low
-          c.min-gap.ensures c.max-at.ensures (before.passed passed) (before.items order passed) (c.tell_run.ensures.items ∙ ap (λ (n : ℕ). told_where c.args.covered (is_between n c.min-gap.result) 1 now) c.min.ensures);
+          (c.min-gap.ensures ∙ ap (λ (n : ℕ). min n c.args.to) from) (c.max-at.ensures ∙ ap (max c.loop-next.at) end) (before.passed passed) (before.items order passed) (c.tell_run.ensures.items ∙ ap (λ (n : ℕ). told_where c.args.covered (is_between n c.min-gap.result) 1 now) c.min.ensures);
       count = ap length c.tell_run.ensures.items ∙ length-told_where c.args.covered (is_between c.min.result c.min-gap.result) 1 now ∙ before.count;
       room = record { size = c.tell_run.ensures.kept.size ∙ before.room.size; capacity = c.tell_run.ensures.kept.capacity ∙ before.room.capacity };
     }
 
-pub returns-then-to-run-clause-items : goal.returns-then-to-run-clause-items
-returns-then-to-run-clause-items c = λ order passed.
+pub returns-then-to-end-clause-items : goal.returns-then-to-end-clause-items
+returns-then-to-end-clause-items c = λ order passed.
     let before = c.loop-next.invariant in
     let none : Run = record { from = 0; to = 0 } in
     let run : Run = get_or c.args.runs.now c.loop-next.next none in
-    let past : c.args.to < run.to = c.if-to-run.true in
+    let end : c.from-end.result ≡ run.to = c.from-end.ensures in
+    let from : c.from.result ≡ run.from = c.from.ensures in
+    let past : c.args.to < run.to = omega (arith, end, c.if-to-end.true) in
     let now = c.loop-next.outstanding.items in
     let last = c.tell_run.new.outstanding.items in
-    gaps_end c.args.covered c.args.runs.now c.args.from c.max-at.result c.args.to c.args.outstanding.now.items last (omega (arith, past, c.max-at.ensures))
+    gaps_end c.args.covered c.args.runs.now c.args.from c.max-at.result c.args.to c.args.outstanding.now.items last (omega (arith, past, c.max-at.ensures, end))
     (gaps_more c.args.covered c.args.runs.now c.loop-next.next run none c.args.from c.loop-next.at c.args.to c.min-gap.result c.max-at.result c.args.outstanding.now.items now last order (omega arith) refl before.low
-    c.min-gap.ensures c.max-at.ensures (before.passed passed) (before.items order passed) (c.tell_run.ensures.items ∙ ap (λ (n : ℕ). told_where c.args.covered (is_between n c.min-gap.result) 1 now) c.min.ensures))
+    (c.min-gap.ensures ∙ ap (λ (n : ℕ). min n c.args.to) from) (c.max-at.ensures ∙ ap (max c.loop-next.at) end) (before.passed passed) (before.items order passed) (c.tell_run.ensures.items ∙ ap (λ (n : ℕ). told_where c.args.covered (is_between n c.min-gap.result) 1 now) c.min.ensures))
 
-pub returns-then-to-run-clause-passed : goal.returns-then-to-run-clause-passed
-returns-then-to-run-clause-passed c = λ passed. passed_on c.args.runs.now c.loop-next.next c.loop-next.at _ c.loop-next.invariant.near (c.loop-next.invariant.passed passed)
+pub returns-then-to-end-clause-passed : goal.returns-then-to-end-clause-passed
+returns-then-to-end-clause-passed c = λ passed. passed_on c.args.runs.now c.loop-next.next c.loop-next.at _ c.loop-next.invariant.near (c.loop-next.invariant.passed passed)
 
-pub returns-then-to-run-clause-long : goal.returns-then-to-run-clause-long
-returns-then-to-run-clause-long c = ap length c.tell_run.ensures.items ∙ length-told_where c.args.covered (is_between c.min.result c.min-gap.result) 1 c.loop-next.outstanding.items ∙ c.loop-next.invariant.count
+pub returns-then-to-end-clause-long : goal.returns-then-to-end-clause-long
+returns-then-to-end-clause-long c = ap length c.tell_run.ensures.items ∙ length-told_where c.args.covered (is_between c.min.result c.min-gap.result) 1 c.loop-next.outstanding.items ∙ c.loop-next.invariant.count
 
 pub returns-clause-items : goal.returns-clause-items
 returns-clause-items c = λ order passed.
