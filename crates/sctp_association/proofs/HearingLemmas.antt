@@ -21,6 +21,7 @@ use Rattle.sctp_recv.specs.AnswerOf.{answer_of, forward_answer_of}
 use Rattle.sctp_recv.specs.declared.answer.Answer.{Answer}
 use Rattle.sctp_recv.specs.declared.answer.Answer.TheVariants as answer
 use Rattle.sctp_recv.specs.declared.forward.ForwardAnswer.{ForwardAnswer}
+use Rattle.sctp_outcomes.proofs.Buffers.{piece_keeps_buffer, forward_keeps_buffer}
 use Rattle.sctp_association.specs.PhaseMeans.{phase_unjoined, phase_of}
 use Rattle.sctp_association.specs.DueStands.{DueStands}
 use Rattle.sctp_association.specs.TrafficStands.{TrafficStands}
@@ -53,20 +54,20 @@ pub piece_taken : (m : Machine) (a : Association) (s : Traffic) (v : EndView) (p
     → IfOk r (λ b. (t : ReceiverView) × PieceTaken (format_of v) v.receiver p (answer_of b) t × TrafficStands s (format_of v) v.sender t)
     → IfOk r (λ b. (t : ReceiverView) × PieceTaken (format_of v) v.receiver p (answer_of b) t
     × KeepsMachine (record m { life = life.Joined (record a { traffic = s }) }) (record v { receiver = t }))
-piece_taken m a s v p (Ok b) is k (t, took, stands) = (t, took, with_traffic m a s v v.sender t is k stands)
+piece_taken m a s v p (Ok b) is k (t, took, stands) = (t, took, with_traffic m a s v v.sender t is k stands (piece_keeps_buffer _ v.receiver p _ t took))
 piece_taken m a s v p (Err why) is k took = tt
 
 pub forward_taken : (m : Machine) (a : Association) (s : Traffic) (v : EndView) (p : ForwardMeaning) (r : Result ForwardAnswer NoMemory) → m.life ≡ life.Joined a → KeepsMachine m v
     → IfOk r (λ b. (t : ReceiverView) × ForwardTaken (format_of v) v.receiver p (forward_answer_of b) t × TrafficStands s (format_of v) v.sender t)
     → IfOk r (λ b. (t : ReceiverView) × ForwardTaken (format_of v) v.receiver p (forward_answer_of b) t
     × KeepsMachine (record m { life = life.Joined (record a { traffic = s }) }) (record v { receiver = t }))
-forward_taken m a s v p (Ok b) is k (t, took, stands) = (t, took, with_traffic m a s v v.sender t is k stands)
+forward_taken m a s v p (Ok b) is k (t, took, stands) = (t, took, with_traffic m a s v v.sender t is k stands (forward_keeps_buffer _ v.receiver p _ t took))
 forward_taken m a s v p (Err why) is k took = tt
 
 pub untaken : {A : Type 0} (m : Machine) (a : Association) (s : Traffic) (v : EndView) (r : Result A NoMemory) → m.life ≡ life.Joined a → KeepsMachine m v
     → OnErr r (TrafficStands s (format_of v) v.sender v.receiver) → OnErr r (KeepsMachine (record m { life = life.Joined (record a { traffic = s }) }) v)
 untaken m a s v (Ok b) is k stands = tt
-untaken m a s v (Err why) is k stands = with_traffic m a s v v.sender v.receiver is k stands
+untaken m a s v (Err why) is k stands = with_traffic m a s v v.sender v.receiver is k stands refl
 
 -- the causes that wait are those from before the chunk came
 pub causes_came : (v : EndView) (r : ReceiverView) (p : PieceMeaning) (a : taken.PieceAnswer) → piece_causes (record v { receiver = r }) p a ≡ piece_causes v p a

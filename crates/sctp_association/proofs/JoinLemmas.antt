@@ -36,7 +36,7 @@ joined_there m v a d s x rwnd h y k terms phase due timers begins =
       due = due;
       timers = timers ∙ ap (timers_in h) k.timers;
       phase = phase;
-      life = record { terms = refl; traffic = subst (λ (c : Configuration). Begins a c rwnd) k.configuration begins };
+      life = record { terms = refl; traffic = subst (λ (c : Configuration). Begins a c rwnd) k.configuration begins; buffer = refl };
     })
 
 echoed_at : (t : model.Tags) (xs : List ℕ) (f : Alarm → model.Timer) (a : Alarm)

@@ -11,4 +11,4 @@ pub mod RoomLemmas
 pub mod PutLemmas
 pub mod BuildLemmas
 pub mod AbortLemmas
-mod BareLemmas
+mod SoundLemmas

@@ -67,7 +67,7 @@ due_shutdown_ack d m s = record { init = s.init; cookie_echo = s.cookie_echo; co
 -- ---- terms, sender and receiver
 
 -- those of an association
-pub joined : (m : Machine) (a : Association) (v : EndView) → m.life ≡ life.Joined a → KeepsMachine m v → IsJoined a v.terms v.sender v.receiver
+pub joined : (m : Machine) (a : Association) (v : EndView) → m.life ≡ life.Joined a → KeepsMachine m v → IsJoined a v.configuration v.terms v.sender v.receiver
 joined m a v is k = subst (λ h. LifeStands h v.configuration v.terms v.sender v.receiver) is k.life
 
 -- before one
@@ -81,22 +81,23 @@ pub phase_joined : (m : Machine) (a : Association) (v : EndView) → m.life ≡ 
 phase_joined m a v is k = subst (λ h. phase_of h ≡ v.phase) is k.phase
 
 pub with_traffic : (m : Machine) (a : Association) (s : Traffic) (v : EndView) (x : SenderView) (y : ReceiverView) → m.life ≡ life.Joined a → KeepsMachine m v
-    → TrafficStands s (format_for v.terms.interleave) x y → KeepsMachine (record m { life = life.Joined (record a { traffic = s }) }) (record v { sender = x; receiver = y })
-with_traffic m a s v x y is k stands = record {
+    → TrafficStands s (format_for v.terms.interleave) x y → y.buffer ≡ v.receiver.buffer
+    → KeepsMachine (record m { life = life.Joined (record a { traffic = s }) }) (record v { sender = x; receiver = y })
+with_traffic m a s v x y is k stands same = record {
   configuration = k.configuration;
   role = k.role;
   clock = k.clock;
   due = k.due;
   timers = k.timers;
   phase = phase_joined m a v is k;
-  life = record { terms = (joined m a v is k).terms; traffic = stands };
+  life = record { terms = (joined m a v is k).terms; traffic = stands; buffer = same ∙ (joined m a v is k).buffer };
 }
 
 pub with_expired : (m : Machine) (a : Association) (s : Traffic) (v : EndView) (now : ℕ) → m.life ≡ life.Joined a → KeepsMachine m v → now ≡ v.moment
     → TrafficStands s (format_for v.terms.interleave) (expired v.sender now) v.receiver
     → KeepsMachine (record m { life = life.Joined (record a { traffic = s }) }) (record v { sender = expired v.sender v.moment })
 with_expired m a s v now is k clock stands =
-    with_traffic m a s v (expired v.sender v.moment) v.receiver is k (subst (λ (n : ℕ). TrafficStands s (format_for v.terms.interleave) (expired v.sender n) v.receiver) clock stands)
+    with_traffic m a s v (expired v.sender v.moment) v.receiver is k (subst (λ (n : ℕ). TrafficStands s (format_for v.terms.interleave) (expired v.sender n) v.receiver) clock stands) refl
 
 -- a sender that was never used stays so
 pub expired_fresh : (s : SenderView) (f now : ℕ) → s ≡ fresh_sender 0 0 f 0 false → expired s now ≡ s
@@ -128,7 +129,7 @@ turned_open m a v t g stage d s is k phase due timers =
       due = due;
       timers = timers ∙ ap (timers_in (model.Open t (stage_meaning stage))) k.timers;
       phase = ap (λ (x : model.Tags). model.Open x (stage_meaning stage)) same;
-      life = record { terms = (joined m a v is k).terms; traffic = (joined m a v is k).traffic };
+      life = record { terms = (joined m a v is k).terms; traffic = (joined m a v is k).traffic; buffer = (joined m a v is k).buffer };
     }
 
 -- no timer is at home where all is over
@@ -165,7 +166,7 @@ closed_joined m a v why d s is k due timers = record {
   due = due;
   timers = timers ∙ ap resting k.timers ∙ all_rest (end_meaning why) v.timers;
   phase = refl;
-  life = record { terms = (joined m a v is k).terms; traffic = (joined m a v is k).traffic };
+  life = record { terms = (joined m a v is k).terms; traffic = (joined m a v is k).traffic; buffer = (joined m a v is k).buffer };
 }
 
 pub closed_unjoined : (m : Machine) (x : Unjoined) (v : EndView) (why : End) (d : Due) (s : Timers) → m.life ≡ life.Unjoined x → KeepsMachine m v → DueStands d nothing_due

@@ -55,7 +55,7 @@ established_there m a v t xs d s is k phase due timers =
       due = due;
       timers = timers ∙ ap (timers_in (model.Open t model.Established)) k.timers;
       phase = ap (λ (x : model.Tags). model.Open x model.Established) same;
-      life = record { terms = (joined m a v is k).terms; traffic = (joined m a v is k).traffic };
+      life = record { terms = (joined m a v is k).terms; traffic = (joined m a v is k).traffic; buffer = (joined m a v is k).buffer };
     }
 
 -- ---- a COOKIE ACK that is due

@@ -30,15 +30,16 @@ pub record IsUnjoined (c : Configuration) (t : Terms) (s : SenderView) (r : Rece
   pub sender : s ≡ fresh_sender 0 0 c.fragment 0 false
   pub receiver : r ≡ fresh_receiver 0 0 c.buffer
 
--- an association has its terms, and its traffic goes on in the format agreed on
-pub record IsJoined (a : Association) (t : Terms) (s : SenderView) (r : ReceiverView) : Type 0 where
+-- an association has its terms, and its traffic goes on in the format agreed on, with the receive buffer that the end is set up with
+pub record IsJoined (a : Association) (c : Configuration) (t : Terms) (s : SenderView) (r : ReceiverView) : Type 0 where
   pub terms : terms_meaning a.terms ≡ t
   pub traffic : TrafficStands a.traffic (format_for t.interleave) s r
+  pub buffer : r.buffer ≡ c.buffer
 
 -- What stands for terms, sender and receiver: a relation of these parts, so that a change of the others leaves it as it is.
 abbrev pub LifeStands : Life → Configuration → Terms → SenderView → ReceiverView → Type 0
 LifeStands (Unjoined x) c t s r = IsUnjoined c t s r
-LifeStands (Joined a) c t s r = IsJoined a t s r
+LifeStands (Joined a) c t s r = IsJoined a c t s r
 
 -- each part stands for its part
 pub record KeepsMachine (m : Machine) (v : EndView) : Type 0 where

@@ -116,7 +116,7 @@ impl Machine {
     /// The bytes of all data that came and wasn't taken yet: never more than the receive buffer has.
     pub fn held_bytes(&self) -> u32
         ensures held { (v : EndView) → MachineStands self.now v → result ≡ held_bytes v.receiver }
-        ensures bound { (v : EndView) → MachineStands self.now v → result ≤ v.receiver.buffer }
+        ensures bound { (v : EndView) → MachineStands self.now v → result ≤ v.configuration.buffer }
     {
         match &self.life {
             Life::Unjoined(_) => 0,

@@ -6,7 +6,7 @@ ghost use Rattle.sctp_model.specs.sender.Abandoning.{has_late};
 ghost use Rattle.sctp_model.specs.end.EndView.{EndView, InStage, state_of, ended_of};
 ghost use Rattle.sctp_terms.specs.Meanings.{end_meaning, state_meaning};
 ghost use Rattle.sctp_recv.specs.HandedOf.{handed_of};
-ghost use Rattle.sctp_outcomes.specs.Kept.{IsBare};
+ghost use Rattle.sctp_outcomes.specs.Kept.{IsSound};
 ghost use Rattle.sctp_association.specs.StageMeans.{stage_meaning};
 ghost use Rattle.sctp_association.specs.PhaseMeans.{phase_in, phase_unjoined};
 ghost use Rattle.sctp_association.specs.MachineStands.{MachineStands};
@@ -86,10 +86,16 @@ impl Machine {
         }
     }
 
-    /// Before an association nothing stands in sender and receiver: they are as they are made. It does nothing, and has this as its contract.
-    pub fn bare(&self)
-        ensures { (v : EndView) → MachineStands self.now v → IsBare v }
-    {}
+    /// Every view that it stands for is sound: bare before an association, with the receive buffer that it is set up with, and with a message
+    /// of its own for each TSN. It does nothing, and has this as its contract.
+    pub fn sound(&self)
+        ensures { (v : EndView) → MachineStands self.now v → IsSound v }
+    {
+        match &self.life {
+            Life::Unjoined(_) => {}
+            Life::Joined(association) => association.traffic.reached(),
+        }
+    }
 
     /// How many tickets were given.
     pub fn tickets(&self) -> u32

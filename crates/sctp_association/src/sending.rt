@@ -5,6 +5,7 @@ ghost use Rattle.sctp_model.specs.numbers.Limits.{WINDOW};
 ghost use Rattle.sctp_model.specs.messages.Format.{Format};
 ghost use Rattle.sctp_model.specs.sender.SenderView.{SenderView};
 ghost use Rattle.sctp_model.specs.receiver.ReceiverView.{ReceiverView};
+ghost use Rattle.sctp_model.specs.sender.Reached.{IsReached};
 ghost use Rattle.sctp_model.specs.sender.Readers.{drained, unsettled, point, outstanding, acknowledged, abandoned};
 ghost use Rattle.sctp_model.specs.sender.SackTaken.{sack_fault, sack_after, shutdown_fault, shutdown_after};
 ghost use Rattle.sctp_model.specs.sender.Abandoning.{has_late, expired, timed_out, abandon_answer, abandon_after};
@@ -36,6 +37,16 @@ impl Traffic {
         match self {
             Traffic::Plain(directions) => directions.sender.point(),
             Traffic::Interleaved(directions) => directions.sender.point(),
+        }
+    }
+
+    /// Its sender stands only for views that calls reach. It does nothing, and has this as its contract.
+    pub fn reached(&self)
+        ensures { (f : Format) (s : SenderView) (r : ReceiverView) → TrafficStands self.now f s r → IsReached f s }
+    {
+        match self {
+            Traffic::Plain(directions) => directions.sender.reached(),
+            Traffic::Interleaved(directions) => directions.sender.reached(),
         }
     }
 

@@ -7,7 +7,6 @@ ghost use Rattle.sctp_model.specs.end.UserCalls.{connect_answer, abandons, aband
 ghost use Rattle.sctp_send.specs.SenderAnswers.{answer_meaning, lane_for};
 ghost use Rattle.sctp_recv.specs.HandedOf.{handed_of};
 ghost use Rattle.sctp_association.specs.CallAnswers.{connect_meaning, connected, shutdown_meaning, call_of, SendAnswers, sent_view};
-ghost use Rattle.sctp_outcomes.specs.Kept.{IsSound};
 ghost use Rattle.sctp_endpoint.specs.EndpointStands.{EndpointStands};
 ghost use Rattle.sctp_endpoint.specs.Logs.{LeavesLogs, GivesLogs, TakesLogs};
 
@@ -28,8 +27,10 @@ impl Endpoint {
     pub fn connect(&mut self, now: u64, draw: Draw) -> Result<(), ConnectFault>
         ensures answer { (v : EndView) → EndpointStands self.old v → connect_meaning result ≡ connect_answer v.phase }
         ensures step { (v : EndView) → EndpointStands self.old v → EndpointStands self.new (connected v now draw result) }
-        ensures logs { (v : EndView) → EndpointStands self.old v → IsSound v → LeavesLogs v self.new }
+        ensures logs { (v : EndView) → EndpointStands self.old v → LeavesLogs v self.new }
     {
+        // It does nothing: its contract is that the end is sound.
+        self.machine.sound();
         self.machine.connect(now, draw)
     }
 
@@ -51,8 +52,10 @@ impl Endpoint {
     ) -> Result<Ticket, Refused>
         ensures answer { (v : EndView) → EndpointStands self.old v → SendAnswers v (call_of (lane_for stream ordered) payload_id bytes.items until) result }
         ensures step { (v : EndView) → EndpointStands self.old v → EndpointStands self.new (sent_view v (call_of (lane_for stream ordered) payload_id bytes.items until) result) }
-        ensures logs { (v : EndView) → EndpointStands self.old v → IsSound v → GivesLogs v result self.new }
+        ensures logs { (v : EndView) → EndpointStands self.old v → GivesLogs v result self.new }
     {
+        // It does nothing: its contract is that the end is sound.
+        self.machine.sound();
         self.machine.send(stream, ordered, payload_id, bytes, until)
     }
 
@@ -60,8 +63,10 @@ impl Endpoint {
     /// It takes no memory.
     pub fn take(&mut self, stream: u16) -> Option<Message>
         ensures step { (v : EndView) → EndpointStands self.old v → (t : EndView) × UserTakes v stream (option_map handed_of result) t × EndpointStands self.new t }
-        ensures logs { (v : EndView) → EndpointStands self.old v → IsSound v → TakesLogs v stream result self.new }
+        ensures logs { (v : EndView) → EndpointStands self.old v → TakesLogs v stream result self.new }
     {
+        // It does nothing: its contract is that the end is sound.
+        self.machine.sound();
         self.machine.take(stream)
     }
 
@@ -70,8 +75,10 @@ impl Endpoint {
     pub fn abandon(&mut self, ticket: Ticket) -> Abandoned
         ensures answer { (v : EndView) → EndpointStands self.old v → answer_meaning result ≡ abandons v ticket.0 }
         ensures step { (v : EndView) → EndpointStands self.old v → EndpointStands self.new (abandoned_at v ticket.0) }
-        ensures logs { (v : EndView) → EndpointStands self.old v → IsSound v → LeavesLogs v self.new }
+        ensures logs { (v : EndView) → EndpointStands self.old v → LeavesLogs v self.new }
     {
+        // It does nothing: its contract is that the end is sound.
+        self.machine.sound();
         self.machine.abandon(ticket)
     }
 
@@ -83,8 +90,10 @@ impl Endpoint {
     pub fn shutdown(&mut self) -> Result<(), ShutdownFault>
         ensures answer { (v : EndView) → EndpointStands self.old v → shutdown_meaning result ≡ shutdown_answer v.phase }
         ensures step { (v : EndView) → EndpointStands self.old v → EndpointStands self.new (shut v) }
-        ensures logs { (v : EndView) → EndpointStands self.old v → IsSound v → LeavesLogs v self.new }
+        ensures logs { (v : EndView) → EndpointStands self.old v → LeavesLogs v self.new }
     {
+        // It does nothing: its contract is that the end is sound.
+        self.machine.sound();
         self.machine.shutdown()
     }
 
@@ -93,8 +102,10 @@ impl Endpoint {
     /// `next_moment` says, and `poll_transmit` afterwards. It takes no memory.
     pub fn on_moment(&mut self, now: u64)
         ensures step { (v : EndView) → EndpointStands self.old v → EndpointStands self.new (ticked v now) }
-        ensures logs { (v : EndView) → EndpointStands self.old v → IsSound v → LeavesLogs v self.new }
+        ensures logs { (v : EndView) → EndpointStands self.old v → LeavesLogs v self.new }
     {
+        // It does nothing: its contract is that the end is sound.
+        self.machine.sound();
         self.machine.on_moment(now);
     }
 }

@@ -9,7 +9,7 @@ ghost use Rattle.sctp_model.specs.end.EndView.{EndView, state_of, ended_of};
 ghost use Rattle.sctp_model.specs.end.Moments.{next_moment};
 ghost use Rattle.sctp_terms.specs.Meanings.{end_meaning, state_meaning};
 ghost use Rattle.sctp_recv.specs.HandedOf.{handed_of};
-ghost use Rattle.sctp_outcomes.specs.Kept.{IsBare, IsSound};
+ghost use Rattle.sctp_outcomes.specs.Kept.{IsSound};
 ghost use Rattle.sctp_endpoint.specs.EndpointStands.{EndpointStands};
 
 use crate::endpoint::Endpoint;
@@ -58,7 +58,7 @@ impl Endpoint {
     /// The bytes of user data that came and weren't taken: they fill the receive buffer, and never pass the size that it was set up with.
     pub fn held_bytes(&self) -> u32
         ensures held { (v : EndView) → EndpointStands self.now v → result ≡ held_bytes v.receiver }
-        ensures bound { (v : EndView) → EndpointStands self.now v → IsSound v → result ≤ v.configuration.buffer }
+        ensures bound { (v : EndView) → EndpointStands self.now v → result ≤ v.configuration.buffer }
     {
         self.machine.held_bytes()
     }
@@ -129,10 +129,11 @@ impl Endpoint {
         self.machine.outstanding()
     }
 
-    /// Before an association nothing stands in sender and receiver: they are as they are made. It does nothing, and has this as its contract.
-    pub fn bare(&self)
-        ensures { (v : EndView) → EndpointStands self.now v → IsBare v }
+    /// Every view that it stands for is sound: before an association sender and receiver are as they are made; the receive buffer is the one
+    /// that it is set up with; and each TSN is of a message that has its number. It does nothing, and has this as its contract.
+    pub fn sound(&self)
+        ensures { (v : EndView) → EndpointStands self.now v → IsSound v }
     {
-        self.machine.bare();
+        self.machine.sound();
     }
 }

@@ -4,7 +4,6 @@ ghost use Rattle.std.specs.Prelude.{IfOk, OnErr};
 ghost use Rattle.sctp_model.specs.end.EndView.{EndView};
 ghost use Rattle.sctp_model.specs.end.Clock.{at_moment};
 ghost use Rattle.sctp_association.specs.AbortAnswers.{AbortAnswers, aborted_view};
-ghost use Rattle.sctp_outcomes.specs.Kept.{IsSound};
 ghost use Rattle.sctp_endpoint.specs.EndpointStands.{EndpointStands};
 ghost use Rattle.sctp_endpoint.specs.Logs.{LeavesLogs, SendsLogs};
 ghost use Rattle.sctp_endpoint.specs.Transmitted.{Transmits};
@@ -33,8 +32,10 @@ impl Endpoint {
     pub fn poll_transmit(&mut self, now: u64) -> Result<Option<Sent>, NoMemory>
         ensures step { (v : EndView) → EndpointStands self.old v → IfOk result (λ sent. Transmits (at_moment v now) sent self.new) }
         ensures refused { (v : EndView) → EndpointStands self.old v → OnErr result (EndpointStands self.new v) }
-        ensures logs { (v : EndView) → EndpointStands self.old v → IsSound v → IfOk result (λ sent. SendsLogs v sent self.new) }
+        ensures logs { (v : EndView) → EndpointStands self.old v → IfOk result (λ sent. SendsLogs v sent self.new) }
     {
+        // It does nothing: its contract is that the end is sound.
+        self.machine.sound();
         match self.machine.build(now)? {
             Some(built) => Ok(Some(Sent {
                 packet: built.packet,
@@ -53,8 +54,10 @@ impl Endpoint {
     pub fn abort(&mut self, reason: &[u8]) -> Result<Vec<u8>, AbortFault>
         ensures answer { (v : EndView) → EndpointStands self.old v → AbortAnswers v reason.now result }
         ensures step { (v : EndView) → EndpointStands self.old v → EndpointStands self.new (aborted_view v reason.now result) }
-        ensures logs { (v : EndView) → EndpointStands self.old v → IsSound v → LeavesLogs v self.new }
+        ensures logs { (v : EndView) → EndpointStands self.old v → LeavesLogs v self.new }
     {
+        // It does nothing: its contract is that the end is sound.
+        self.machine.sound();
         self.machine.abort(reason)
     }
 }

@@ -7,7 +7,6 @@ use Rattle.sctp_model.specs.wire.Packet.{Packet}
 use Rattle.sctp_model.specs.end.EndView.{EndView}
 use Rattle.sctp_model.specs.end.Moments.{ticked}
 use Rattle.sctp_model.specs.world.World.{Side, A, B, World, Log, end_of, bag_of, log_of, with_order, newly_abandoned}
-use Rattle.sctp_outcomes.specs.Kept.{IsSound}
 use Rattle.sctp_packet.specs.PacketBytes.{ReadsPacket}
 use Rattle.sctp_endpoint.specs.EndpointStands.{EndpointStands}
 use Rattle.sctp_pair.specs.Noted.{AreNoted}
@@ -56,10 +55,9 @@ pub record IsItem (ps : List Packet) (number : ℕ) (bytes : List ℕ) : Type 0 
   pub here : item_at ps number ≡ Some packet
   pub reads : ReadsPacket bytes packet
 
--- Each part of a side of a pair stands for its part of the world's: the end, which is one that calls lead to, the bag, and all that is noted.
+-- Each part of a side of a pair stands for its part of the world's: the end, the bag, and all that is noted.
 pub record KeepsSide (h : OneSide) (v : SideView) : Type 0 where
   pub end : EndpointStands h.end v.end
-  pub sound : IsSound v.end
   pub bag : ArePackets h.bag.items v.bag
   pub notes : AreNoted h.numbered.items h.abandoned.items h.taken.items v.end v.log
 

@@ -49,6 +49,8 @@ pub(crate) fn arrive(
 {
     // It does nothing: its contract is the law by which what was written reads.
     written_packet_reads();
+    // It does nothing: its contract is that the end is sound.
+    side.end.sound();
     if side.bag.reserve(1).is_err() {
         tell(&mut side.end, clock, draw);
         return Err(NoMemory);

@@ -79,6 +79,8 @@ impl Pair {
         ensures { (w : World) → PairStands self.old w
             → (x : World) × Step w (meaning.Connect draw) (Some (outcome_meaning result)) x × PairStands self.new x }
     {
+        // It does nothing: its contract is that the end is sound.
+        self.a.end.sound();
         let _tag = draw.tag();
         match self.a.end.connect(self.clock, draw) {
             Ok(()) => {

@@ -34,6 +34,8 @@ pub(crate) fn make_room(
     ensures watched { (v : SideView) → SideStands side.old v → v.end.moment ≤ now → IfOk result (λ before. IsWatched v.end now before.items) }
     ensures room { IfOk result (λ before. length side.new.abandoned.items + length before.items ≤ vec_capacity side.new.abandoned) }
 {
+    // It does nothing: its contract is that the end is sound.
+    side.end.sound();
     if !side.end.has_late(now) {
         return Ok(Vec::new(alloc));
     }
@@ -65,6 +67,8 @@ pub(crate) fn tick(side: &mut OneSide, before: &[Ticket], now: u64)
     requires { length side.old.abandoned.items + length before.now ≤ vec_capacity side.old.abandoned }
     ensures { (v : SideView) → SideStands side.old v → IsWatched v.end now before.now → SideStands side.new (ticked_side v now) }
 {
+    // It does nothing: its contract is that the end is sound.
+    side.end.sound();
     side.end.on_moment(now);
     note(&side.end, &mut side.abandoned, before);
 }
@@ -91,6 +95,8 @@ pub(crate) fn abandon_at(side: &mut OneSide, ticket: Ticket) -> Result<Outcome, 
     ensures { (w : World) (s : world.Side) → SideStands side.old (side_of w s)
         → (h : SideView) × Step w (meaning.Abandon s ticket.0) (answer_of result) (with_side w s h) × SideStands side.new h }
 {
+    // It does nothing: its contract is that the end is sound.
+    side.end.sound();
     if side.end.abandoned(ticket) {
         return Ok(Outcome::Fate {
             fate: side.end.abandon(ticket),

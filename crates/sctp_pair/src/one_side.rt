@@ -72,6 +72,8 @@ pub(crate) fn build_at(side: &mut OneSide, clock: u64) -> Result<Outcome, NoMemo
 {
     // It does nothing: its contract is the law by which what was written reads.
     written_packet_reads();
+    // It does nothing: its contract is that the end is sound.
+    side.end.sound();
     side.bag.reserve(1).map_err(|_| NoMemory)?;
     side.numbered.reserve(1).map_err(|_| NoMemory)?;
     match side.end.poll_transmit(clock)? {
@@ -106,6 +108,8 @@ pub(crate) fn send_at(
     ensures { (w : World) (s : world.Side) → SideStands side.old (side_of w s)
         → (h : SideView) × Step w (meaning.Send s (call_of (lane_for stream ordered) payload_id bytes.now until)) (answer_of result) (with_side w s h) × SideStands side.new h }
 {
+    // It does nothing: its contract is that the end is sound.
+    side.end.sound();
     let copy = Vec::from_slice(alloc, bytes).map_err(|_| NoMemory)?;
     match side.end.send(stream, ordered, payload_id, copy, until) {
         Ok(ticket) => Ok(Outcome::Ticket { ticket }),
@@ -135,6 +139,8 @@ pub(crate) fn take_at(alloc: Global, side: &mut OneSide, stream: u16) -> Result<
     ensures { (w : World) (s : world.Side) → SideStands side.old (side_of w s)
         → (h : SideView) × Step w (meaning.Take s stream) (answer_of result) (with_side w s h) × SideStands side.new h }
 {
+    // It does nothing: its contract is that the end is sound.
+    side.end.sound();
     let Some(_) = side.end.waiting(stream, 0) else {
         return Ok(Outcome::Empty);
     };
@@ -154,6 +160,8 @@ pub(crate) fn shut_down(side: &mut OneSide) -> Outcome
     ensures { (w : World) (s : world.Side) → SideStands side.old (side_of w s)
         → (h : SideView) × Step w (meaning.Shutdown s) (Some (outcome_meaning result)) (with_side w s h) × SideStands side.new h }
 {
+    // It does nothing: its contract is that the end is sound.
+    side.end.sound();
     match side.end.shutdown() {
         Ok(()) => Outcome::Done,
         Err(_) => Outcome::Refused {
@@ -173,6 +181,8 @@ pub(crate) fn abort_at(side: &mut OneSide, reason: &[u8]) -> Result<Outcome, NoM
 {
     // It does nothing: its contract is the law by which what was written reads.
     written_packet_reads();
+    // It does nothing: its contract is that the end is sound.
+    side.end.sound();
     side.bag.reserve(1).map_err(|_| NoMemory)?;
     match side.end.abort(reason) {
         Ok(packet) => {

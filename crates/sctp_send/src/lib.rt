@@ -10,6 +10,7 @@ mod entering;
 mod expire;
 mod fill;
 mod forward;
+mod laws;
 mod message;
 mod outstanding;
 mod pieces;

@@ -21,10 +21,10 @@ unfolding SideStands
 returns-then-is_err c = λ w s e p stands brings reads clock draw.
     let v = end_of w s in
     let t = at_moment v c.args.clock in
-    let keeps = cut_packets_keep_logs v c.args.clock c.args.draw p t stands.sound (CutFirst p) in (
+    let keeps = cut_packets_keep_logs v c.args.clock c.args.draw p t (c.sound.ensures _ stands.end) (CutFirst p) in (
       side t (bag_of w s) (log_of w s),
       is_cut w e s c.args.clock c.args.draw p t brings clock draw (CutFirst p),
-      record { end = c.tell.ensures v stands.end; sound = keeps.sound; bag = rw c.reserve.ensures.items stands.bag; notes = notes_kept _ _ _ v t (log_of w s) stands.notes keeps },
+      record { end = c.tell.ensures v stands.end; bag = rw c.reserve.ensures.items stands.bag; notes = notes_kept _ _ _ v t (log_of w s) stands.notes keeps },
     )
 
 pub returns-in_err-handle_packet : goal.returns-in_err-handle_packet
@@ -33,11 +33,11 @@ returns-in_err-handle_packet c = λ w s e p stands brings reads clock draw.
     let none = err_from_is_err_and c.from_residual.result c.from_residual.ensures.1 in
     let v = end_of w s in
     let did = c.in_err-handle_packet.ensures.step v p stands.end reads in
-    let keeps = cut_packets_keep_logs v c.args.clock c.args.draw p did.0 stands.sound did.1 in
+    let keeps = cut_packets_keep_logs v c.args.clock c.args.draw p did.0 (c.sound.ensures _ stands.end) did.1 in
     rw none.1 (
       side did.0 (bag_of w s) (log_of w s),
       is_cut w e s c.args.clock c.args.draw p did.0 brings clock draw did.1,
-      record { end = did.2; sound = keeps.sound; bag = rw c.reserve.ensures.items stands.bag; notes = notes_kept _ _ _ v did.0 (log_of w s) stands.notes keeps },
+      record { end = did.2; bag = rw c.reserve.ensures.items stands.bag; notes = notes_kept _ _ _ v did.0 (log_of w s) stands.notes keeps },
     )
 
 pub returns-in-Taken : goal.returns-in-Taken
@@ -45,10 +45,10 @@ unfolding SideStands
 returns-in-Taken c = λ w s e p stands brings reads clock draw.
     let did = c.in_ok-handle_packet.ensures.step (end_of w s) p stands.end reads in
     let told = rw c.in-Taken.is at did.3 in
-    let keeps = packets_keep_logs (end_of w s) c.args.clock c.args.draw p did.0 did.1 stands.sound did.2 in (
+    let keeps = packets_keep_logs (end_of w s) c.args.clock c.args.draw p did.0 did.1 (c.sound.ensures _ stands.end) did.2 in (
       side did.0 (bag_of w s) (log_of w s),
       acts w e s c.args.clock c.args.draw p did.0 did.1 brings clock draw did.2 told,
-      record { end = did.4; sound = keeps.sound; bag = rw c.reserve.ensures.items stands.bag; notes = notes_kept _ _ _ (end_of w s) did.0 (log_of w s) stands.notes keeps },
+      record { end = did.4; bag = rw c.reserve.ensures.items stands.bag; notes = notes_kept _ _ _ (end_of w s) did.0 (log_of w s) stands.notes keeps },
     )
 
 pub returns-in-Dropped : goal.returns-in-Dropped
@@ -56,10 +56,10 @@ unfolding SideStands
 returns-in-Dropped c = λ w s e p stands brings reads clock draw.
     let did = c.in_ok-handle_packet.ensures.step (end_of w s) p stands.end reads in
     let told = rw c.in-Dropped.is at did.3 in
-    let keeps = packets_keep_logs (end_of w s) c.args.clock c.args.draw p did.0 did.1 stands.sound did.2 in (
+    let keeps = packets_keep_logs (end_of w s) c.args.clock c.args.draw p did.0 did.1 (c.sound.ensures _ stands.end) did.2 in (
       side did.0 (bag_of w s) (log_of w s),
       drops w e s c.args.clock c.args.draw p did.0 did.1 (reason_code c.in-Dropped.reason) brings clock draw did.2 told,
-      record { end = did.4; sound = keeps.sound; bag = rw c.reserve.ensures.items stands.bag; notes = notes_kept _ _ _ (end_of w s) did.0 (log_of w s) stands.notes keeps },
+      record { end = did.4; bag = rw c.reserve.ensures.items stands.bag; notes = notes_kept _ _ _ (end_of w s) did.0 (log_of w s) stands.notes keeps },
     )
 
 pub returns-in-Answer : goal.returns-in-Answer
@@ -80,8 +80,8 @@ returns-in-Answer c = λ w s e p stands brings reads clock draw.
     let there : next_number w s ≡ c.len.result = sym (number ∙ ap suc (bag_length _ _ stands.bag)) in
     let long : size_of_packet q.chunks ≡ c.len-length.result = plain_size packet.items q is.2 plain ∙ sym size in
     let kept = c.written_packet_reads.ensures packet.items q is.2 (plain_is_placed q plain) in
-    let keeps = packets_keep_logs v c.args.clock c.args.draw p did.0 did.1 stands.sound did.2 in (
+    let keeps = packets_keep_logs v c.args.clock c.args.draw p did.0 did.1 (c.sound.ensures _ stands.end) did.2 in (
       side did.0 (bag_of w s ++ q ∷ []) (log_of w s),
       answers w e s c.args.clock c.args.draw p did.0 q c.len.result c.len-length.result brings clock draw there long came,
-      record { end = did.4; sound = keeps.sound; bag = rw bag (bag_push _ _ packet q stands.bag kept); notes = notes_kept _ _ _ v did.0 (log_of w s) stands.notes keeps },
+      record { end = did.4; bag = rw bag (bag_push _ _ packet q stands.bag kept); notes = notes_kept _ _ _ v did.0 (log_of w s) stands.notes keeps },
     )

@@ -24,14 +24,14 @@ returns-then-abandoned c = λ w s stands.
     let t = abandoned_at v k in
     let h = side t (bag_of w s) (log_after w s k) in
     let before : abandoned v.sender k ≡ true = sym (c.abandoned.ensures v stands.end) ∙ c.if-abandoned.true in
-    let keeps = abandon_keeps_logs v k stands.sound in
+    let keeps = abandon_keeps_logs v k (c.sound.ensures _ stands.end) in
     let gone = if_newly_abandoned v.sender t.sender k in
     let same = c.args.side.now.abandoned.items in
     let noted : map ticket_number same ≡ map ticket_number same ++ gone =
     sym (append-nil (map ticket_number same)) ∙ ap (λ (ks : List ℕ). map ticket_number same ++ ks) (sym (none_noted v.sender t.sender k before)) in (
       h,
       subst (λ (a : AbandonAnswer). Step w (meaning.Abandon s k) (Some (meaning.Fate a)) (with_side w s h)) (sym (c.abandon.ensures.answer v stands.end)) (abandons_at w s k),
-      record { end = c.abandon.ensures.step v stands.end; sound = keeps.sound; bag = stands.bag; notes = notes_abandoned _ _ _ v t (log_of w s) same (log_after w s k) gone noted refl stands.notes keeps },
+      record { end = c.abandon.ensures.step v stands.end; bag = stands.bag; notes = notes_abandoned _ _ _ v t (log_of w s) same (log_after w s k) gone noted refl stands.notes keeps },
     )
 
 pub returns-in_err-map_err : goal.returns-in_err-map_err
@@ -41,7 +41,7 @@ returns-in_err-map_err c = λ w s stands.
     let p = err_from_is_err_and c.from_residual.result c.from_residual.ensures.1 in (
       side_of w s,
       rw p.1 (no_memory w e s (steps.NoMemory e refl)),
-      record { end = stands.end; sound = stands.sound; bag = stands.bag; notes = rw c.reserve.ensures.items stands.notes },
+      record { end = stands.end; bag = stands.bag; notes = rw c.reserve.ensures.items stands.notes },
     )
 
 pub returns : goal.returns
@@ -52,12 +52,12 @@ returns c = λ w s stands.
     let t = abandoned_at v k in
     let h = side t (bag_of w s) (log_after w s k) in
     let before : abandoned v.sender k ≡ false = sym (c.abandoned.ensures v stands.end) ∙ c.if-abandoned.false in
-    let keeps = abandon_keeps_logs v k stands.sound in
+    let keeps = abandon_keeps_logs v k (c.sound.ensures _ stands.end) in
     let end = c.abandon-fate.ensures.step v stands.end in
     let gone = if_newly_abandoned v.sender t.sender k in
     let noted : map ticket_number c.note.new.log.items ≡ map ticket_number c.args.side.now.abandoned.items ++ gone =
     c.note.ensures t end ∙ rw c.reserve.ensures.items (ap (λ (ks : List ℕ). map ticket_number c.args.side.now.abandoned.items ++ ks) (one_noted v.sender t.sender k before)) in (
       h,
       subst (λ (a : AbandonAnswer). Step w (meaning.Abandon s k) (Some (meaning.Fate a)) (with_side w s h)) (sym (c.abandon-fate.ensures.answer v stands.end)) (abandons_at w s k),
-      record { end = end; sound = keeps.sound; bag = stands.bag; notes = notes_abandoned _ _ _ v t (log_of w s) c.note.new.log.items (log_after w s k) gone noted refl stands.notes keeps },
+      record { end = end; bag = stands.bag; notes = notes_abandoned _ _ _ v t (log_of w s) c.note.new.log.items (log_after w s k) gone noted refl stands.notes keeps },
     )

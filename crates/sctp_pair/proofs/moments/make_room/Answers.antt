@@ -15,4 +15,4 @@ returns-then-not-has_late-clause-watched c = λ v stands reached.
 
 pub returns-clause-watched : goal.returns-clause-watched
 unfolding SideStands
-returns-clause-watched c = λ v stands reached. watched_is v.end c.args.now c.in_ok-before.before.items stands.sound (c.in_ok-before.ensures v.end stands.end)
+returns-clause-watched c = λ v stands reached. watched_is v.end c.args.now c.in_ok-before.before.items (c.sound.ensures _ stands.end) (c.in_ok-before.ensures v.end stands.end)

@@ -14,11 +14,10 @@ returns c = λ v stands watched.
     let n = c.args.now in
     let t : EndView = ticked v.end n in
     let end = c.on_moment.ensures.step v.end stands.end in
-    let keeps = moments_keep_logs v.end n stands.sound in
+    let keeps = moments_keep_logs v.end n (c.sound.ensures _ stands.end) in
     let gone : List ℕ = newly_abandoned v.end.sender t.sender t.sender.tickets in
     let noted = c.note.ensures t end ∙ ap (λ (ks : List ℕ). map ticket_number c.args.side.now.abandoned.items ++ ks) (sym watched) in record {
       end = end;
-      sound = keeps.sound;
       bag = stands.bag;
       notes = notes_abandoned _ _ _ v.end t v.log c.note.new.log.items (with_order v.log gone) gone noted refl stands.notes keeps;
     }

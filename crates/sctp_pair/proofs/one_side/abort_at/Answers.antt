@@ -27,7 +27,7 @@ unfolding SideStands
 returns-in_err-map_err c = λ w s stands.
     let e = meaning.Abort s c.args.reason.now in
     let p = err_from_is_err_and c.from_residual.result c.from_residual.ensures.1 in
-    rw p.1 (side_of w s, no_memory w e s (steps.NoMemory e refl), record { end = stands.end; sound = stands.sound; bag = rw c.reserve.ensures.items stands.bag; notes = stands.notes })
+    rw p.1 (side_of w s, no_memory w e s (steps.NoMemory e refl), record { end = stands.end; bag = rw c.reserve.ensures.items stands.bag; notes = stands.notes })
 
 pub returns-in-Ok : goal.returns-in-Ok
 unfolding SideStands
@@ -45,12 +45,11 @@ returns-in-Ok c = λ w s stands.
     let there : next_number w s ≡ c.len.result = sym (number ∙ ap suc (bag_length _ _ stands.bag)) in
     let long : size_of_packet p.chunks ≡ c.len-length.result = plain_size packet.items p told.2 plain ∙ sym size in
     let reads = c.written_packet_reads.ensures packet.items p told.2 (plain_is_placed p plain) in
-    let keeps = abort_keeps_logs v (Aborts p) stands.sound in (
+    let keeps = abort_keeps_logs v (Aborts p) (c.sound.ensures _ stands.end) in (
       side (abort_leaves (Aborts p) v) (bag_of w s ++ p ∷ []) (log_of w s),
       aborts w s r p c.len.result c.len-length.result told.1 there long,
       record {
         end = left_so _ v _ _ told.1 (c.in-Ok.ensures.step v stands.end);
-        sound = keeps.sound;
         bag = rw bag (bag_push _ _ packet p stands.bag reads);
         notes = notes_kept _ _ _ v (abort_leaves (Aborts p) v) (log_of w s) stands.notes keeps;
       },
@@ -61,18 +60,18 @@ unfolding SideStands
 returns-in-Err-State c = λ w s stands.
     let v = end_of w s in
     let told = rw c.in-Err-State.field-0-is at (c.in-Err-State.ensures.answer v stands.end) in
-    rw c.refused.ensures (side_of w s, has_no_peer w s c.args.reason.now told, record { end = c.in-Err-State.ensures.step v stands.end; sound = stands.sound; bag = rw c.reserve.ensures.items stands.bag; notes = stands.notes })
+    rw c.refused.ensures (side_of w s, has_no_peer w s c.args.reason.now told, record { end = c.in-Err-State.ensures.step v stands.end; bag = rw c.reserve.ensures.items stands.bag; notes = stands.notes })
 
 pub returns-in-Err-TooLong : goal.returns-in-Err-TooLong
 unfolding SideStands
 returns-in-Err-TooLong c = λ w s stands.
     let v = end_of w s in
     let told = rw c.in-Err-TooLong.field-0-is at (c.in-Err-TooLong.ensures.answer v stands.end) in
-    rw c.refused-in-Err-TooLong.ensures (side_of w s, is_too_long w s c.args.reason.now told, record { end = c.in-Err-TooLong.ensures.step v stands.end; sound = stands.sound; bag = rw c.reserve.ensures.items stands.bag; notes = stands.notes })
+    rw c.refused-in-Err-TooLong.ensures (side_of w s, is_too_long w s c.args.reason.now told, record { end = c.in-Err-TooLong.ensures.step v stands.end; bag = rw c.reserve.ensures.items stands.bag; notes = stands.notes })
 
 pub returns-in-Err-NoMemory : goal.returns-in-Err-NoMemory
 unfolding SideStands
 returns-in-Err-NoMemory c = λ w s stands.
     let v = end_of w s in
     let e = meaning.Abort s c.args.reason.now in
-    (side_of w s, no_memory w e s (steps.NoMemory e refl), record { end = c.in-Err-NoMemory.ensures.step v stands.end; sound = stands.sound; bag = rw c.reserve.ensures.items stands.bag; notes = stands.notes })
+    (side_of w s, no_memory w e s (steps.NoMemory e refl), record { end = c.in-Err-NoMemory.ensures.step v stands.end; bag = rw c.reserve.ensures.items stands.bag; notes = stands.notes })

@@ -21,31 +21,31 @@ pub returns-in_err-map_err : goal.returns-in_err-map_err
 unfolding SideStands
 returns-in_err-map_err c = λ w s stands clock.
     let p = err_from_is_err_and c.from_residual.result c.from_residual.ensures.1 in
-    rw p.1 (side_of w s, no_memory w (meaning.Build s) s (steps.NoMemory (meaning.Build s) refl), record { end = stands.end; sound = stands.sound; bag = rw c.reserve.ensures.items stands.bag; notes = stands.notes })
+    rw p.1 (side_of w s, no_memory w (meaning.Build s) s (steps.NoMemory (meaning.Build s) refl), record { end = stands.end; bag = rw c.reserve.ensures.items stands.bag; notes = stands.notes })
 
 pub returns-in_err-map_err-2 : goal.returns-in_err-map_err-2
 unfolding SideStands
 returns-in_err-map_err-2 c = λ w s stands clock.
     let p = err_from_is_err_and c.from_residual-in_err-map_err-2.result c.from_residual-in_err-map_err-2.ensures.1 in
-    rw p.1 (side_of w s, no_memory w (meaning.Build s) s (steps.NoMemory (meaning.Build s) refl), record { end = stands.end; sound = stands.sound; bag = rw c.reserve.ensures.items stands.bag; notes = rw c.reserve-2.ensures.items stands.notes })
+    rw p.1 (side_of w s, no_memory w (meaning.Build s) s (steps.NoMemory (meaning.Build s) refl), record { end = stands.end; bag = rw c.reserve.ensures.items stands.bag; notes = rw c.reserve-2.ensures.items stands.notes })
 
 pub returns-in_err-poll_transmit : goal.returns-in_err-poll_transmit
 unfolding SideStands
 returns-in_err-poll_transmit c = λ w s stands clock.
     let p = err_from_is_err_and c.from_residual-in_err-poll_transmit.result c.from_residual-in_err-poll_transmit.ensures.1 in
     let end = c.in_err-poll_transmit.ensures.refused (end_of w s) stands.end in
-    rw p.1 (side_of w s, no_memory w (meaning.Build s) s (steps.NoMemory (meaning.Build s) refl), record { end = end; sound = stands.sound; bag = rw c.reserve.ensures.items stands.bag; notes = rw c.reserve-2.ensures.items stands.notes })
+    rw p.1 (side_of w s, no_memory w (meaning.Build s) s (steps.NoMemory (meaning.Build s) refl), record { end = end; bag = rw c.reserve.ensures.items stands.bag; notes = rw c.reserve-2.ensures.items stands.notes })
 
 pub returns-in-None : goal.returns-in-None
 unfolding SideStands
 returns-in-None c = λ w s stands clock.
     let v = end_of w s in
     let sent = rw c.in-None.is at (c.in_ok-poll_transmit.ensures.step v stands.end) in
-    let adds = builds_add_numbers v c.args.clock [] sent.0 stands.sound sent.1 in
+    let adds = builds_add_numbers v c.args.clock [] sent.0 (c.sound.ensures _ stands.end) sent.1 in
     let none = nothing_numbered (at_moment v c.args.clock) sent.0 sent.1 in (
       side sent.0 (bag_of w s) (log_of w s),
       builds_none w s c.args.clock sent.0 clock sent.1,
-      record { end = sent.2; sound = adds.sound; bag = rw c.reserve.ensures.items stands.bag; notes = rw c.reserve-2.ensures.items (notes_unnumbered _ _ _ v sent.0 (log_of w s) none stands.notes adds) },
+      record { end = sent.2; bag = rw c.reserve.ensures.items stands.bag; notes = rw c.reserve-2.ensures.items (notes_unnumbered _ _ _ v sent.0 (log_of w s) none stands.notes adds) },
     )
 
 pub returns-in-Some : goal.returns-in-Some
@@ -64,12 +64,11 @@ returns-in-Some c = λ w s stands clock.
     let there : next_number w s ≡ c.len.result = sym (number ∙ ap suc (bag_length _ _ stands.bag)) in
     let long : size_of_packet xs ≡ c.len-length.result = sym (size ∙ sent.size) in
     let reads = c.written_packet_reads.ensures packet.items (packet_of v xs) sent.packet (built_is_placed _ xs sent.after sent.builds) in
-    let adds = builds_add_numbers v c.args.clock xs sent.after stands.sound sent.builds in (
+    let adds = builds_add_numbers v c.args.clock xs sent.after (c.sound.ensures _ stands.end) sent.builds in (
       side sent.after (bag_of w s ++ packet_of v xs ∷ []) (log_of w s),
       builds w s c.args.clock xs sent.after c.len.result c.len-length.result clock sent.some there long sent.builds,
       record {
         end = sent.stands;
-        sound = adds.sound;
         bag = rw bag (bag_push _ _ packet (packet_of v xs) stands.bag reads);
         notes = notes_numbered _ _ _ v sent.after (log_of w s) c.push_reserved-in-Some.new.self.items tickets numbered sent.tickets stands.notes adds;
       },

@@ -32,12 +32,11 @@ returns-in-Ok c = λ w s stands.
     let call = call_of lane a.payload_id c.in_ok-copy.copy.items a.until in
     let same : c.in_ok-copy.copy.items ≡ a.bytes.now = grind (arith, common_steps) in
     let answer = calls.Ticket c.in-Ok.ticket.0 in
-    let adds = gives_ticket v call c.in-Ok.ticket.0 stands.sound (c.in-Ok.ensures.answer v stands.end) in (
+    let adds = gives_ticket v call c.in-Ok.ticket.0 (c.sound.ensures _ stands.end) (c.in-Ok.ensures.answer v stands.end) in (
       side (calls.send_leaves answer v call) (bag_of w s) (accepted w s answer call),
       same_bytes w s lane a.payload_id _ _ a.until _ _ same (sends w s call answer (c.in-Ok.ensures.answer v stands.end)),
       record {
         end = c.in-Ok.ensures.step v stands.end;
-        sound = adds.sound;
         bag = stands.bag;
         notes = notes_same _ _ _ v (calls.send_leaves answer v call) (log_of w s) (accepted w s answer call) stands.notes adds.numbers adds.taken refl;
       },
@@ -54,7 +53,7 @@ returns-in-Err-NotOpen c = λ w s stands.
     let told = rw c.in-Err-NotOpen.field-0-is at (c.in-Err-NotOpen.ensures.answer v stands.end) in (
       side_of w s,
       rw c.refused.ensures (same_bytes w s lane a.payload_id _ _ a.until _ _ same (sends w s call calls.NotOpen told)),
-      record { end = c.in-Err-NotOpen.ensures.step v stands.end; sound = stands.sound; bag = stands.bag; notes = stands.notes },
+      record { end = c.in-Err-NotOpen.ensures.step v stands.end; bag = stands.bag; notes = stands.notes },
     )
 
 pub returns-in-Err-Fault-NoSuchStream : goal.returns-in-Err-Fault-NoSuchStream
@@ -68,7 +67,7 @@ returns-in-Err-Fault-NoSuchStream c = λ w s stands.
     let told = rw c.in-Err-Fault-NoSuchStream.field-0-0-is at (rw c.in-Err-Fault-NoSuchStream.field-0-is at (c.in-Err-Fault-NoSuchStream.ensures.answer v stands.end)) in (
       side_of w s,
       rw c.refused-in-Err-Fault-NoSuchStream.ensures (same_bytes w s lane a.payload_id _ _ a.until _ _ same (sends w s call (calls.Refused refusals.NoSuchStream) (is_refused v call refusals.NoSuchStream told.0 told.1))),
-      record { end = c.in-Err-Fault-NoSuchStream.ensures.step v stands.end; sound = stands.sound; bag = stands.bag; notes = stands.notes },
+      record { end = c.in-Err-Fault-NoSuchStream.ensures.step v stands.end; bag = stands.bag; notes = stands.notes },
     )
 
 pub returns-in-Err-Fault-Empty : goal.returns-in-Err-Fault-Empty
@@ -82,7 +81,7 @@ returns-in-Err-Fault-Empty c = λ w s stands.
     let told = rw c.in-Err-Fault-Empty.field-0-0-is at (rw c.in-Err-Fault-Empty.field-0-is at (c.in-Err-Fault-Empty.ensures.answer v stands.end)) in (
       side_of w s,
       rw c.refused-in-Err-Fault-Empty.ensures (same_bytes w s lane a.payload_id _ _ a.until _ _ same (sends w s call (calls.Refused refusals.Empty) (is_refused v call refusals.Empty told.0 told.1))),
-      record { end = c.in-Err-Fault-Empty.ensures.step v stands.end; sound = stands.sound; bag = stands.bag; notes = stands.notes },
+      record { end = c.in-Err-Fault-Empty.ensures.step v stands.end; bag = stands.bag; notes = stands.notes },
     )
 
 pub returns-in-Err-Fault-TooLong : goal.returns-in-Err-Fault-TooLong
@@ -96,7 +95,7 @@ returns-in-Err-Fault-TooLong c = λ w s stands.
     let told = rw c.in-Err-Fault-TooLong.field-0-0-is at (rw c.in-Err-Fault-TooLong.field-0-is at (c.in-Err-Fault-TooLong.ensures.answer v stands.end)) in (
       side_of w s,
       rw c.refused-in-Err-Fault-TooLong.ensures (same_bytes w s lane a.payload_id _ _ a.until _ _ same (sends w s call (calls.Refused refusals.TooLong) (is_refused v call refusals.TooLong told.0 told.1))),
-      record { end = c.in-Err-Fault-TooLong.ensures.step v stands.end; sound = stands.sound; bag = stands.bag; notes = stands.notes },
+      record { end = c.in-Err-Fault-TooLong.ensures.step v stands.end; bag = stands.bag; notes = stands.notes },
     )
 
 pub returns-in-Err-Fault-QueueFull : goal.returns-in-Err-Fault-QueueFull
@@ -110,7 +109,7 @@ returns-in-Err-Fault-QueueFull c = λ w s stands.
     let told = rw c.in-Err-Fault-QueueFull.field-0-0-is at (rw c.in-Err-Fault-QueueFull.field-0-is at (c.in-Err-Fault-QueueFull.ensures.answer v stands.end)) in (
       side_of w s,
       rw c.refused-in-Err-Fault-QueueFull.ensures (same_bytes w s lane a.payload_id _ _ a.until _ _ same (sends w s call (calls.Refused refusals.QueueFull) (is_refused v call refusals.QueueFull told.0 told.1))),
-      record { end = c.in-Err-Fault-QueueFull.ensures.step v stands.end; sound = stands.sound; bag = stands.bag; notes = stands.notes },
+      record { end = c.in-Err-Fault-QueueFull.ensures.step v stands.end; bag = stands.bag; notes = stands.notes },
     )
 
 pub returns-in-Err-Fault-Spent : goal.returns-in-Err-Fault-Spent
@@ -124,7 +123,7 @@ returns-in-Err-Fault-Spent c = λ w s stands.
     let told = rw c.in-Err-Fault-Spent.field-0-0-is at (rw c.in-Err-Fault-Spent.field-0-is at (c.in-Err-Fault-Spent.ensures.answer v stands.end)) in (
       side_of w s,
       rw c.refused-in-Err-Fault-Spent.ensures (same_bytes w s lane a.payload_id _ _ a.until _ _ same (sends w s call (calls.Refused refusals.Spent) (is_refused v call refusals.Spent told.0 told.1))),
-      record { end = c.in-Err-Fault-Spent.ensures.step v stands.end; sound = stands.sound; bag = stands.bag; notes = stands.notes },
+      record { end = c.in-Err-Fault-Spent.ensures.step v stands.end; bag = stands.bag; notes = stands.notes },
     )
 
 pub returns-in-Err-Fault-NoMemory : goal.returns-in-Err-Fault-NoMemory
@@ -132,4 +131,4 @@ unfolding SideStands
 returns-in-Err-Fault-NoMemory c = λ w s stands.
     let a = c.args in
     let e = meaning.Send s (call_of (lane_for a.stream a.ordered) a.payload_id a.bytes.now a.until) in
-    (side_of w s, no_memory w e s (steps.NoMemory e refl), record { end = c.in-Err-Fault-NoMemory.ensures.step (end_of w s) stands.end; sound = stands.sound; bag = stands.bag; notes = stands.notes })
+    (side_of w s, no_memory w e s (steps.NoMemory e refl), record { end = c.in-Err-Fault-NoMemory.ensures.step (end_of w s) stands.end; bag = stands.bag; notes = stands.notes })

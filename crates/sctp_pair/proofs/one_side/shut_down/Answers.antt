@@ -15,10 +15,10 @@ unfolding SideStands
 returns-in-Ok c = λ w s stands.
     let v = end_of w s in
     let h = side (shut v) (bag_of w s) (log_of w s) in
-    let keeps = shutdown_keeps_logs v stands.sound in (
+    let keeps = shutdown_keeps_logs v (c.sound.ensures _ stands.end) in (
       h,
       subst (λ (a : ShutdownAnswer). Step w (meaning.Shutdown s) (Some (shutdown_told a)) (with_side w s h)) (sym (c.in-Ok.ensures.answer v stands.end)) (shuts_down w s),
-      record { end = c.in-Ok.ensures.step v stands.end; sound = keeps.sound; bag = stands.bag; notes = notes_kept _ _ _ v (shut v) (log_of w s) stands.notes keeps },
+      record { end = c.in-Ok.ensures.step v stands.end; bag = stands.bag; notes = notes_kept _ _ _ v (shut v) (log_of w s) stands.notes keeps },
     )
 
 pub returns-in-Err : goal.returns-in-Err
@@ -26,8 +26,8 @@ unfolding SideStands
 returns-in-Err c = λ w s stands.
     let v = end_of w s in
     let h = side (shut v) (bag_of w s) (log_of w s) in
-    let keeps = shutdown_keeps_logs v stands.sound in (
+    let keeps = shutdown_keeps_logs v (c.sound.ensures _ stands.end) in (
       h,
       subst (λ (a : ShutdownAnswer). Step w (meaning.Shutdown s) (Some (shutdown_told a)) (with_side w s h)) (sym (c.in-Err.ensures.answer v stands.end)) (shuts_down w s),
-      record { end = c.in-Err.ensures.step v stands.end; sound = keeps.sound; bag = stands.bag; notes = notes_kept _ _ _ v (shut v) (log_of w s) stands.notes keeps },
+      record { end = c.in-Err.ensures.step v stands.end; bag = stands.bag; notes = notes_kept _ _ _ v (shut v) (log_of w s) stands.notes keeps },
     )

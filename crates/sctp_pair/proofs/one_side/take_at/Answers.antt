@@ -27,7 +27,7 @@ returns-in_err-make_room_at c = λ w s stands.
     let taken = c.make_room_at.ensures.same (end_of w s).receiver.taken stands.notes.taken in (
       side_of w s,
       rw p.1 (no_memory w e s (steps.NoMemory e refl)),
-      record { end = stands.end; sound = stands.sound; bag = stands.bag; notes = record { numbers = stands.notes.numbers; order = stands.notes.order; taken = taken } },
+      record { end = stands.end; bag = stands.bag; notes = record { numbers = stands.notes.numbers; order = stands.notes.order; taken = taken } },
     )
 
 pub returns-in-None : goal.returns-in-None
@@ -35,13 +35,13 @@ unfolding SideStands
 returns-in-None c = λ w s stands.
     let v = end_of w s in
     let got = c.in-None.ensures.step v stands.end in
-    let keeps = take_takes_one v c.args.stream None got.0 stands.sound got.1 in
+    let keeps = take_takes_one v c.args.stream None got.0 (c.sound.ensures _ stands.end) got.1 in
     let taken = c.make_room_at.ensures.same v.receiver.taken stands.notes.taken in
     let notes : AreNoted c.args.side.now.numbered.items c.args.side.now.abandoned.items c.make_room_at.new.logs.items v (log_of w s) =
     record { numbers = stands.notes.numbers; order = stands.notes.order; taken = taken } in (
       side got.0 (bag_of w s) (log_of w s),
       takes w s c.args.stream None got.0 got.1,
-      record { end = got.2; sound = keeps.sound; bag = stands.bag; notes = notes_kept _ _ _ v got.0 (log_of w s) notes keeps },
+      record { end = got.2; bag = stands.bag; notes = notes_kept _ _ _ v got.0 (log_of w s) notes keeps },
     )
 
 pub returns-in-Some-take : goal.returns-in-Some-take
@@ -50,9 +50,9 @@ returns-in-Some-take c = λ w s stands.
     let v = end_of w s in
     let h = handed_of c.in-Some-take.message in
     let got = c.in-Some-take.ensures.step v stands.end in
-    let adds = take_takes_one v c.args.stream (Some h) got.0 stands.sound got.1 in
+    let adds = take_takes_one v c.args.stream (Some h) got.0 (c.sound.ensures _ stands.end) got.1 in
     let taken = c.note_at.ensures v.receiver.taken (c.make_room_at.ensures.same v.receiver.taken stands.notes.taken) in (
       side got.0 (bag_of w s) (log_of w s),
       takes w s c.args.stream (Some h) got.0 got.1,
-      record { end = got.2; sound = adds.sound; bag = stands.bag; notes = notes_taken _ _ _ v got.0 (log_of w s) c.note_at.new.logs.items c.args.stream h taken stands.notes adds },
+      record { end = got.2; bag = stands.bag; notes = notes_taken _ _ _ v got.0 (log_of w s) c.note_at.new.logs.items c.args.stream h taken stands.notes adds },
     )

@@ -1,4 +1,4 @@
-use Rattle.std.proofs.Common.{ap}
+use Rattle.std.proofs.Common.{ap, refl}
 use Rattle.sctp_model.specs.sender.SenderView.{SenderView}
 use Rattle.sctp_model.specs.sender.Abandoning.{abandon_after}
 use Rattle.sctp_association.specs.MachineStands.{MachineStands}
@@ -23,4 +23,4 @@ pub returns-in-Joined-clause-step : goal.returns-in-Joined-clause-step
 unfolding MachineStands
 returns-in-Joined-clause-step c = λ v stands.
     with_traffic _ _ _ v (abandon_after v.sender c.args.ticket.0) v.receiver c.in-Joined.is stands
-    (c.abandon.ensures.step _ v.sender v.receiver (joined _ _ v c.in-Joined.is stands).traffic)
+    (c.abandon.ensures.step _ v.sender v.receiver (joined _ _ v c.in-Joined.is stands).traffic) refl

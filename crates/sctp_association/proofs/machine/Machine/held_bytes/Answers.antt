@@ -17,4 +17,6 @@ returns-in-Joined-clause-held c = λ v stands. c.held_bytes.ensures.held _ v.sen
 
 pub returns-in-Joined-clause-bound : goal.returns-in-Joined-clause-bound
 unfolding MachineStands
-returns-in-Joined-clause-bound c = λ v stands. c.held_bytes.ensures.bound _ v.sender v.receiver (joined _ _ v c.in-Joined.is stands).traffic
+returns-in-Joined-clause-bound c = λ v stands.
+    let there = joined _ _ v c.in-Joined.is stands in
+    rw there.buffer at (c.held_bytes.ensures.bound _ v.sender v.receiver there.traffic)

@@ -23,5 +23,6 @@ returns c =
         terms = c.alike-terms.ensures;
         traffic = subst (λ (x : model.Terms). TrafficStands c.in_ok-traffic.traffic (format_for x.interleave)
             (fresh_sender x.own_tsn x.outbound config.fragment config.buffer x.partial) (fresh_receiver x.peer_tsn x.inbound config.buffer)) c.alike-terms.ensures begins;
+        buffer = refl;
       };
     }

@@ -1,5 +1,6 @@
 use Rattle.std.proofs.Common.{refl}
 use Rattle.sctp_model.specs.end.EndView.{EndView}
+use Rattle.sctp_outcomes.proofs.Buffers.{take_keeps_buffer}
 use Rattle.sctp_association.specs.MachineStands.{MachineStands}
 use Rattle.sctp_association.proofs.MachineLemmas.{joined, unjoined, with_traffic}
 use Rattle.sctp_association.proofs.CallLemmas.{takes_unjoined}
@@ -14,4 +15,4 @@ unfolding MachineStands
 returns-in-Joined c = λ v stands.
     let a = c.take.ensures _ v.sender v.receiver (joined _ _ v c.in-Joined.is stands).traffic in
     let after : EndView = record v { receiver = a.0 } in
-    (after, record { receiver = a.0; takes = a.1; leaves = refl }, with_traffic _ _ _ v v.sender a.0 c.in-Joined.is stands a.2)
+    (after, record { receiver = a.0; takes = a.1; leaves = refl }, with_traffic _ _ _ v v.sender a.0 c.in-Joined.is stands a.2 (take_keeps_buffer v.receiver c.args.stream _ a.0 a.1))

@@ -1,3 +1,4 @@
+use Rattle.std.proofs.Common.{refl}
 use Rattle.sctp_model.specs.sender.SackTaken.{sack_after}
 use Rattle.sctp_wire.specs.ChunkTree.{sack_meaning}
 use Rattle.sctp_association.specs.MachineStands.{MachineStands}
@@ -21,4 +22,4 @@ pub returns-in-Joined-clause-step : goal.returns-in-Joined-clause-step
 unfolding MachineStands
 returns-in-Joined-clause-step c = λ v t g stands phase.
     with_traffic _ _ _ v (sack_after v.sender (sack_meaning c.args.sack.now)) v.receiver c.in-Joined.is stands
-    (c.on_sack.ensures.step _ v.sender v.receiver (joined _ _ v c.in-Joined.is stands).traffic)
+    (c.on_sack.ensures.step _ v.sender v.receiver (joined _ _ v c.in-Joined.is stands).traffic) refl

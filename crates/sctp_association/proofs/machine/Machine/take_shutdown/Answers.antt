@@ -1,3 +1,4 @@
+use Rattle.std.proofs.Common.{refl}
 use Rattle.sctp_model.specs.sender.SackTaken.{shutdown_after}
 use Rattle.sctp_association.specs.MachineStands.{MachineStands}
 use Rattle.sctp_association.proofs.MachineLemmas.{joined, with_traffic}
@@ -20,4 +21,4 @@ pub returns-in-Joined-clause-step : goal.returns-in-Joined-clause-step
 unfolding MachineStands
 returns-in-Joined-clause-step c = λ v t g stands phase.
     with_traffic _ _ _ v (shutdown_after v.sender c.args.tsn) v.receiver c.in-Joined.is stands
-    (c.on_shutdown.ensures.step _ v.sender v.receiver (joined _ _ v c.in-Joined.is stands).traffic)
+    (c.on_shutdown.ensures.step _ v.sender v.receiver (joined _ _ v c.in-Joined.is stands).traffic) refl

@@ -4,4 +4,4 @@ use Rattle.sctp_endpoint.proofs.endpoint.Endpoint.abort.Goals as goal
 
 pub returns-clause-logs : goal.returns-clause-logs
 unfolding EndpointStands
-returns-clause-logs c = λ v stands sound. abort_logs c.abort.result v c.args.reason.now _ sound (c.abort.ensures.step v stands)
+returns-clause-logs c = λ v stands. abort_logs c.abort.result v c.args.reason.now _ (c.sound.ensures v stands) (c.abort.ensures.step v stands)

@@ -4,4 +4,4 @@ use Rattle.sctp_endpoint.proofs.endpoint.Endpoint.connect.Goals as goal
 
 pub returns-clause-logs : goal.returns-clause-logs
 unfolding EndpointStands
-returns-clause-logs c = λ v stands sound. connect_logs c.connect.result v c.args.now c.args.draw _ sound (c.connect.ensures.answer v stands) (c.connect.ensures.step v stands)
+returns-clause-logs c = λ v stands. connect_logs c.connect.result v c.args.now c.args.draw _ (c.sound.ensures v stands) (c.connect.ensures.answer v stands) (c.connect.ensures.step v stands)

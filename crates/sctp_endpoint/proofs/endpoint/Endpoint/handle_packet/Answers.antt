@@ -15,7 +15,7 @@ returns-in-Err-clause-step c = λ v o stands read.
 
 pub returns-in-Err-clause-logs : goal.returns-in-Err-clause-logs
 unfolding EndpointStands
-returns-in-Err-clause-logs c = λ v stands sound. moment_logs v c.args.now _ sound (c.tell.ensures v stands)
+returns-in-Err-clause-logs c = λ v stands. moment_logs v c.args.now _ (c.sound.ensures v stands) (c.tell.ensures v stands)
 
 pub returns-in-Ok-clause-step : goal.returns-in-Ok-clause-step
 unfolding EndpointStands
@@ -25,6 +25,6 @@ returns-in-Ok-clause-step c = λ v o stands read.
 
 pub returns-in-Ok-clause-logs : goal.returns-in-Ok-clause-logs
 unfolding EndpointStands
-returns-in-Ok-clause-logs c = λ v stands sound.
-    handled_logs c.arrive.result v c.args.now c.args.draw _ _ sound
+returns-in-Ok-clause-logs c = λ v stands.
+    handled_logs c.arrive.result v c.args.now c.args.draw _ _ (c.sound.ensures v stands)
     (handled c.arrive.result v c.args.now c.args.draw c.args.bytes.now _ _ _ c.in-Ok.ensures.exact refl (c.arrive.ensures v c.args.now (c.tell.ensures v stands)))

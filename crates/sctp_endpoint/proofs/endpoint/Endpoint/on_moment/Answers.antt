@@ -4,4 +4,4 @@ use Rattle.sctp_endpoint.proofs.endpoint.Endpoint.on_moment.Goals as goal
 
 pub returns-clause-logs : goal.returns-clause-logs
 unfolding EndpointStands
-returns-clause-logs c = λ v stands sound. (_, moments_keep_logs v c.args.now sound, c.on_moment.ensures v stands)
+returns-clause-logs c = λ v stands. (_, moments_keep_logs v c.args.now (c.sound.ensures v stands), c.on_moment.ensures v stands)

@@ -17,11 +17,11 @@ returns-in-None-clause-step c = λ v stands. rw c.in-None.is at c.in_ok-built.en
 
 pub returns-in-Some-clause-logs : goal.returns-in-Some-clause-logs
 unfolding EndpointStands
-returns-in-Some-clause-logs c = λ v stands sound.
+returns-in-Some-clause-logs c = λ v stands.
     let b = rw c.in-Some.is at c.in_ok-built.ensures.built v stands in
-    let adds = builds_add_numbers v c.args.now b.chunks b.after sound b.builds in
+    let adds = builds_add_numbers v c.args.now b.chunks b.after (c.sound.ensures v stands) b.builds in
     (b.after, adds, adds.numbers ∙ ap (λ (ts : List ℕ). numbered v ++ ts) (sym b.tickets), b.stands)
 
 pub returns-in-None-clause-logs : goal.returns-in-None-clause-logs
 unfolding EndpointStands
-returns-in-None-clause-logs c = λ v stands sound. no_packet_logs v c.args.now _ sound (rw c.in-None.is at c.in_ok-built.ensures.built v stands)
+returns-in-None-clause-logs c = λ v stands. no_packet_logs v c.args.now _ (c.sound.ensures v stands) (rw c.in-None.is at c.in_ok-built.ensures.built v stands)

@@ -4,4 +4,4 @@ use Rattle.sctp_endpoint.proofs.endpoint.Endpoint.send.Goals as goal
 
 pub returns-clause-logs : goal.returns-clause-logs
 unfolding EndpointStands
-returns-clause-logs c = λ v stands sound. send_logs c.send.result v _ _ sound (c.send.ensures.answer v stands) (c.send.ensures.step v stands)
+returns-clause-logs c = λ v stands. send_logs c.send.result v _ _ (c.sound.ensures v stands) (c.send.ensures.answer v stands) (c.send.ensures.step v stands)

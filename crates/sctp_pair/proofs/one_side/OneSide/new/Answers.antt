@@ -8,7 +8,6 @@ pub returns : goal.returns
 unfolding SideStands
 returns c = λ v stands none. record {
   end = stands;
-  sound = none.sound;
   bag = rw c.new.ensures.items tt;
   notes = rw (c.new-2.ensures.items, c.new-3.ensures.items, c.new-4.ensures.items) (notes_none [] v no_log refl none);
 }

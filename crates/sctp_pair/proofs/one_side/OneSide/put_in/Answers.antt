@@ -6,7 +6,6 @@ pub returns : goal.returns
 unfolding SideStands
 returns c = λ v t stands end none. record {
   end = end;
-  sound = none.sound;
   bag = stands.bag;
   notes = rw (c.new.ensures.items, c.new-2.ensures.items) (notes_none c.args.self.now.abandoned.items t v.log stands.notes.order none);
 }

@@ -19,12 +19,12 @@ returns-in-Ok c = λ w stands.
     let n = c.args.self.now.clock in
     let to : ℕ → World = λ k. record w { a = called (at_moment w.a k) d; openable = false } in
     let answer = sym (c.in-Ok.ensures.answer w.a stands.a.end) in
-    let keeps = connect_keeps_logs w.a n d stands.a.sound answer in
+    let keeps = connect_keeps_logs w.a n d (c.sound.ensures _ stands.a.end) answer in
     let step = subst (λ (k : ℕ). Step w (meaning.Connect d) (Some meaning.Done) (to k)) stands.clock (steps.Connects d c.tag-tag.ensures.drawn answer) in (
       to n,
       step,
       record {
-        a = record { end = c.in-Ok.ensures.step w.a stands.a.end; sound = keeps.sound; bag = stands.a.bag; notes = notes_kept _ _ _ w.a (called (at_moment w.a n) d) w.log_a stands.a.notes keeps };
+        a = record { end = c.in-Ok.ensures.step w.a stands.a.end; bag = stands.a.bag; notes = notes_kept _ _ _ w.a (called (at_moment w.a n) d) w.log_a stands.a.notes keeps };
         b = stands.b;
         clock = stands.clock;
         draw = stands.draw;
@@ -41,7 +41,7 @@ returns-in-Err c = λ w stands.
       w,
       steps.ConnectRefused d (sym answer),
       record {
-        a = record { end = c.in-Err.ensures.step w.a stands.a.end; sound = stands.a.sound; bag = stands.a.bag; notes = stands.a.notes };
+        a = record { end = c.in-Err.ensures.step w.a stands.a.end; bag = stands.a.bag; notes = stands.a.notes };
         b = stands.b;
         clock = stands.clock;
         draw = stands.draw;
