@@ -1,12 +1,12 @@
 #!/usr/bin/env python3
-"""Two ends, each a process of its own (`sctp-end`, built), talk over UDP on the loopback interface: the caller sends messages, the listener
-takes them, the caller shuts. Run by hand: examples/over-udp.py [MODE [MESSAGES [LOSS]]], LOSS in percent of the packets."""
-import random, select, socket, subprocess, sys, time
+"""Two ends, each a process of its own (`sctp-end`, built), talk over UDP on the loopback interface: each sends messages to the other, which
+takes them; then the caller shuts. Run by hand: examples/over-udp.py [MODE [MESSAGES [LOST [REPEATED [LATE]]]]], the last three in percent of
+the packets: lost, sent twice, and held back for up to 50 ms, so that others overtake them. Status 0: all came whole, once and in order."""
+import heapq, random, select, socket, subprocess, sys, time
 from pathlib import Path
 
 mode = sys.argv[1] if len(sys.argv) > 1 else "data"
-messages = int(sys.argv[2]) if len(sys.argv) > 2 else 20
-loss = int(sys.argv[3]) if len(sys.argv) > 3 else 0
+messages, lost, repeated, late = (int(word) for word in (sys.argv[2:] + ["20", "0", "0", "0"][len(sys.argv[2:]):]))
 program = Path(__file__).resolve().parent.parent / "crates/sctp_end_main/out/sctp_end_main"
 begun = time.monotonic()
 if not program.exists():
@@ -19,14 +19,16 @@ class End:
         self.process = subprocess.Popen(words, stdin=subprocess.PIPE, stdout=subprocess.PIPE, text=True, bufsize=1)
         self.socket = socket.socket(socket.AF_INET, socket.SOCK_DGRAM)
         self.socket.bind(("127.0.0.1", 0))
+        self.held, self.sent, self.taken = [], 0, []
 
     def ask(self, line):
         self.process.stdin.write(line + "\n")
         return self.process.stdout.readline().rstrip("\n")
 
     def send(self, packet):
-        if random.randrange(100) >= loss:
-            self.socket.sendto(bytes.fromhex(packet), self.peer.socket.getsockname())
+        for _ in range(0 if random.randrange(100) < lost else 2 if random.randrange(100) < repeated else 1):
+            wait = random.random() / 20 if random.randrange(100) < late else 0
+            heapq.heappush(self.held, (time.monotonic() + wait, packet))
 
     def hear(self):  # what came from the network
         answer = self.ask("packet " + self.socket.recv(65536).hex()).split()
@@ -37,21 +39,25 @@ class End:
         self.ask(f"at {int((time.monotonic() - begun) * 1000)}")
         while (built := self.ask("build").split())[0] == "sent":
             self.send(built[1])
+        while self.held and self.held[0][0] <= time.monotonic():
+            self.socket.sendto(bytes.fromhex(heapq.heappop(self.held)[1]), self.peer.socket.getsockname())
+        while (message := self.ask("take 0").split())[0] == "message":
+            self.taken.append(int(message[-1], 16))
+        if self.sent < messages and self.ask(f"send 0 o 0 - {self.sent + 1:08x}").startswith("ticket"):
+            self.sent += 1
 
 
 caller, listener = End("caller", 5000, 5001), End("listener", 5001, 5000, "%064x" % random.getrandbits(256))
-caller.peer, listener.peer, sent, taken = listener, caller, 0, 0
+caller.peer, listener.peer, both = listener, caller, (caller, listener)
 caller.ask(f"connect {random.randrange(1, 2**32)} {random.randrange(2**32)}")
-while not all(end.ask("state").startswith("state Closed") for end in (caller, listener)):
+while not all(end.ask("state").startswith("state Closed") for end in both):
     listener.ask(f"draw {random.randrange(1, 2**32)} {random.randrange(2**32)}")
-    for end in (caller, listener):
+    for end in both:
         end.go_on()
-    for ready in select.select([caller.socket, listener.socket], [], [], 0.01)[0]:
-        (caller if ready is caller.socket else listener).hear()
-    while listener.ask("take 0").startswith("message"):
-        taken += 1
-    if sent < messages and caller.ask(f"send 0 o 0 - {sent + 1:08x}").startswith("ticket"):
-        sent += 1
-    if sent == messages == taken:
+    for ready in select.select([end.socket for end in both], [], [], 0.005)[0]:
+        next(end for end in both if end.socket is ready).hear()
+    if all(len(end.taken) == messages for end in both):
         caller.ask("shutdown")
-print(f"{sent} sent, {taken} taken; caller: {caller.ask('state')[6:]}, listener: {listener.ask('state')[6:]}")
+for name, end in (("caller", caller), ("listener", listener)):
+    print(f"{name}: {end.sent} sent, {len(end.taken)} taken, {end.ask('state')[6:]}")
+sys.exit(any(end.taken != list(range(1, messages + 1)) for end in both))
