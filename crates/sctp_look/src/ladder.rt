@@ -1,0 +1,75 @@
+//! A run as a ladder in text: the moment, what A did, the two lines of life and what goes between them, what B did.
+
+mod foot;
+mod labels;
+mod strokes;
+
+use crate::recording::Recording;
+use crate::row::Row;
+use crate::style::Style;
+use crate::text::put_times;
+pub(crate) use foot::put_foot;
+use labels::{label_of, put_label};
+use std::alloc::AllocError;
+use strokes::put_arrow;
+
+/// The columns of the moment.
+const MOMENT: usize = 8;
+
+/// Appends the line above the rows.
+///
+/// # Errors
+/// Memory ran out.
+pub(crate) fn put_head(style: &Style, out: &mut String) -> Result<(), AllocError> {
+    out.push_str("  moment")?;
+    put_times(" ", style.beside.saturating_sub(1), out)?;
+    out.push_str("A")?;
+    put_times(" ", style.between.saturating_add(4), out)?;
+    out.push_str("B\n")
+}
+
+/// Appends a row.
+///
+/// # Errors
+/// Memory ran out.
+pub(crate) fn put_row(
+    style: &Style,
+    run: &Recording,
+    row: &Row,
+    out: &mut String,
+) -> Result<(), AllocError> {
+    put_left(style, run, row, out)?;
+    out.push_str(" ")?;
+    match &row.arrow {
+        Some(arrow) => put_arrow(style, run, arrow, out)?,
+        None => {
+            let line = style.signs().line;
+            out.push_str(line)?;
+            put_times(" ", style.between, out)?;
+            out.push_str(line)?;
+        }
+    }
+    let label = label_of(run, &row.at_b, style.beside)?;
+    if label.width > 0 {
+        out.push_str(" ")?;
+        put_label(style, &label, out)?;
+    }
+    out.push_str("\n")
+}
+
+/// Appends the moment, where a row begins it, and the words beside A.
+fn put_left(style: &Style, run: &Recording, row: &Row, out: &mut String) -> Result<(), AllocError> {
+    let mut moment = String::new(run.alloc());
+    if row.begins {
+        let number = row.moment;
+        write!(&mut moment, "{number}")?;
+    }
+    let whole = MOMENT.saturating_add(style.beside);
+    let taken = moment.len().max(MOMENT);
+    let rest = whole.saturating_sub(taken);
+    let label = label_of(run, &row.at_a, rest.saturating_sub(1))?;
+    put_times(" ", MOMENT.saturating_sub(moment.len()), out)?;
+    out.push_str(moment.as_str())?;
+    put_times(" ", rest.saturating_sub(label.width), out)?;
+    put_label(style, &label, out)
+}

@@ -1,0 +1,179 @@
+//! What stands beside an end, in words.
+
+use crate::row::{Call, Deed, Note, Packet, Standing, Taken};
+use sctp_pair::{Abandoned, Reason, Refusal, Side};
+use sctp_text::Word;
+use sctp_words::{end_word, state_word};
+use std::alloc::{AllocError, Global};
+use std::str;
+
+/// The words of what an end did, or what was done to it: none where there is nothing to tell.
+///
+/// # Errors
+/// Memory ran out.
+pub(crate) fn deed_words(alloc: Global, note: &Note) -> Result<String, AllocError> {
+    let mut words = String::new(alloc);
+    if let Some(deed) = &note.deed {
+        put_deed(deed, &mut words)?;
+    }
+    Ok(words)
+}
+
+/// The state that begins, in brackets: nothing where none does.
+///
+/// # Errors
+/// Memory ran out.
+pub(crate) fn state_words(alloc: Global, note: &Note) -> Result<String, AllocError> {
+    let mut words = String::new(alloc);
+    if let Some(standing) = note.begun {
+        put_standing(standing, &mut words)?;
+    }
+    Ok(words)
+}
+
+/// The name of an end.
+pub(crate) fn side_word(side: Side) -> &'static str {
+    match side {
+        Side::A => "A",
+        Side::B => "B",
+    }
+}
+
+/// Appends the name of a packet, as in `A3`.
+///
+/// # Errors
+/// Memory ran out.
+pub(crate) fn put_name(packet: Packet, words: &mut String) -> Result<(), AllocError> {
+    let side = side_word(packet.side);
+    let number = packet.number;
+    write!(words, "{side}{number}")
+}
+
+/// Appends the state of an end in brackets, and how it ended.
+fn put_standing(standing: Standing, words: &mut String) -> Result<(), AllocError> {
+    let state = text_of(state_word(standing.state));
+    match standing.ended {
+        None => write!(words, "[{state}]"),
+        Some(_) => {
+            let end = text_of(end_word(standing.ended));
+            write!(words, "[{state} {end}]")
+        }
+    }
+}
+
+/// The letters of a fixed word.
+fn text_of(word: Word<'static>) -> &'static str {
+    match word {
+        Word::Text(text) => str::from_utf8(text).unwrap_or(""),
+        _ => "",
+    }
+}
+
+/// Appends what an end did, or what was done to it.
+fn put_deed(deed: &Deed, words: &mut String) -> Result<(), AllocError> {
+    match deed {
+        Deed::At { moment } => {
+            let moment = *moment;
+            write!(words, "at {moment}")
+        }
+        Deed::Call(call) => put_call(call, words),
+        Deed::Refused { call, refusal } => {
+            put_call(call, words)?;
+            let why = refusal_word(*refusal);
+            write!(words, " refused: {why}")
+        }
+        Deed::Quiet => words.push_str("build: quiet"),
+        Deed::Absent { packet } => {
+            words.push_str("deliver ")?;
+            put_name(*packet, words)?;
+            words.push_str(": absent")
+        }
+        Deed::Dropped { reason } => {
+            let why = reason_word(*reason);
+            write!(words, "dropped: {why}")
+        }
+        Deed::Abandoned { ticket, fate } => {
+            let (ticket, fate) = (*ticket, fate_word(*fate));
+            write!(words, "abandon #{ticket}: {fate}")
+        }
+        Deed::Taken { stream, message } => put_taken(*stream, message, words),
+    }
+}
+
+/// Appends what a user asked for.
+fn put_call(call: &Call, words: &mut String) -> Result<(), AllocError> {
+    match call {
+        Call::Open => words.push_str("open"),
+        Call::Connect => words.push_str("connect"),
+        Call::Shutdown => words.push_str("shutdown"),
+        Call::Abort => words.push_str("abort"),
+        Call::Send {
+            stream,
+            ordered,
+            length,
+            ticket,
+        } => {
+            let (stream, length) = (*stream, *length);
+            let kind = if *ordered { "" } else { "u" };
+            write!(words, "send {stream}{kind} {length}B")?;
+            put_ticket(*ticket, words)
+        }
+    }
+}
+
+/// Appends the ticket of a message that was accepted.
+fn put_ticket(ticket: Option<u32>, words: &mut String) -> Result<(), AllocError> {
+    match ticket {
+        Some(ticket) => write!(words, " #{ticket}"),
+        None => Ok(()),
+    }
+}
+
+/// Appends what a user took.
+fn put_taken(stream: u16, message: &Option<Taken>, words: &mut String) -> Result<(), AllocError> {
+    write!(words, "take {stream}: ")?;
+    let Some(message) = message else {
+        return words.push_str("empty");
+    };
+    words.push_str(if message.ordered { "o" } else { "u" })?;
+    if let Some(number) = message.number {
+        write!(words, "{number}")?;
+    }
+    let length = message.length;
+    write!(words, " {length}B")
+}
+
+/// Why a call was refused.
+fn refusal_word(refusal: Refusal) -> &'static str {
+    match refusal {
+        Refusal::State => "state",
+        Refusal::ReasonTooLong | Refusal::TooLong => "too long",
+        Refusal::NotOpen => "not open",
+        Refusal::NoSuchStream => "no such stream",
+        Refusal::Empty => "empty",
+        Refusal::QueueFull => "queue full",
+        Refusal::Spent => "spent",
+    }
+}
+
+/// Why a packet was dropped.
+fn reason_word(reason: Reason) -> &'static str {
+    match reason {
+        Reason::Fault => "fault",
+        Reason::Ports => "ports",
+        Reason::Tag => "tag",
+        Reason::State => "state",
+        Reason::Cookie => "cookie",
+    }
+}
+
+/// What has become of a message to be abandoned.
+fn fate_word(fate: Abandoned) -> &'static str {
+    match fate {
+        Abandoned::Withdrawn => "withdrawn",
+        Abandoned::Abandoned => "abandoned",
+        Abandoned::Acknowledged => "acknowledged",
+        Abandoned::Unknown => "unknown",
+        Abandoned::Reliable => "reliable",
+    }
+}

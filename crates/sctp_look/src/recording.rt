@@ -1,0 +1,234 @@
+//! A pair to which the events of a script happen, and the rows that show them.
+
+use crate::lives::Lives;
+use crate::row::{Arrow, Call, Deed, Packet, Row, Taken};
+use crate::rows::Rows;
+use sctp_pair::{Event, Key, Outcome, Pair, PairConfig, Side, Ticket};
+use std::alloc::{AllocError, Global};
+
+/// The key under which a script's listener seals its cookies: the bytes 0 to 31.
+const KEY: [u8; 32] = [
+    0, 1, 2, 3, 4, 5, 6, 7, 8, 9, 10, 11, 12, 13, 14, 15, 16, 17, 18, 19, 20, 21, 22, 23, 24, 25,
+    26, 27, 28, 29, 30, 31,
+];
+
+/// A pair, and what is shown of what happened to it.
+#[derive(Drop)]
+pub(crate) struct Recording {
+    alloc: Global,
+    pair: Pair,
+    rows: Rows,
+    lives: Lives,
+    /// What strangers sent, first to last.
+    strange: Vec<Vec<u8>>,
+}
+
+impl Recording {
+    /// A pair to which nothing happened yet: its first row shows how both ends stand.
+    ///
+    /// # Errors
+    /// Memory ran out.
+    pub(crate) fn new(alloc: Global, config: PairConfig) -> Result<Recording, AllocError> {
+        let pair = Pair::new(alloc, config, Key::new(KEY));
+        let mut rows = Rows::new(alloc);
+        rows.push(&pair, None, None, None)?;
+        Ok(Recording {
+            alloc,
+            pair,
+            rows,
+            lives: Lives::new(alloc),
+            strange: Vec::new(alloc),
+        })
+    }
+
+    /// The allocator.
+    pub(crate) fn alloc(&self) -> Global {
+        self.alloc
+    }
+
+    /// The rows.
+    pub(crate) fn rows(&self) -> &[Row] {
+        self.rows.as_slice()
+    }
+
+    /// What became of the packets.
+    pub(crate) fn lives(&self) -> &Lives {
+        &self.lives
+    }
+
+    /// The bytes of a packet, none where there is no such packet.
+    pub(crate) fn bytes(&self, packet: Packet) -> &[u8] {
+        match u32::try_from(packet.number) {
+            Ok(number) => self.pair.packet(packet.side, number).unwrap_or(&[]),
+            Err(_) => &[],
+        }
+    }
+
+    /// What a stranger sent, none where there is no such number.
+    pub(crate) fn strange(&self, index: usize) -> &[u8] {
+        match self.strange.get(index) {
+            Some(bytes) => bytes.as_slice(),
+            None => &[],
+        }
+    }
+
+    /// An event happens, and is shown. What chance gives for later isn't.
+    ///
+    /// # Errors
+    /// Memory ran out.
+    pub(crate) fn record(&mut self, event: &Event) -> Result<(), AllocError> {
+        let Ok(outcome) = self.pair.step(event) else {
+            return Err(AllocError);
+        };
+        match event {
+            Event::Drawing { .. } => Ok(()),
+            Event::At { moment } => self.wait(*moment),
+            Event::Open { .. } => self.call(Side::A, Call::Open, &outcome),
+            Event::Connect { .. } => self.call(Side::A, Call::Connect, &outcome),
+            Event::Build { side } => self.build(*side, &outcome),
+            Event::Deliver { side, number } => self.deliver(*side, *number, &outcome),
+            Event::Foreign { side, bytes } => self.meet(*side, bytes, &outcome),
+            Event::Send {
+                side,
+                stream,
+                ordered,
+                bytes,
+                ..
+            } => self.send(*side, *stream, *ordered, bytes.len(), &outcome),
+            Event::Abandon { side, ticket } => self.abandon(*side, *ticket, &outcome),
+            Event::Take { side, stream } => self.take(*side, *stream, &outcome),
+            Event::Shutdown { side } => self.call(*side, Call::Shutdown, &outcome),
+            Event::Abort { side, .. } => self.abort(*side, &outcome),
+        }
+    }
+
+    /// A moment comes, for both ends.
+    fn wait(&mut self, moment: u64) -> Result<(), AllocError> {
+        let deed = Some(Deed::At { moment });
+        self.rows.push(&self.pair, deed, deed, None)
+    }
+
+    /// An end's user asks for something.
+    fn call(&mut self, side: Side, call: Call, outcome: &Outcome) -> Result<(), AllocError> {
+        self.show(side, Some(Deed::of_call(call, outcome)), None)
+    }
+
+    /// An end's user sends a message of so many bytes.
+    fn send(
+        &mut self,
+        side: Side,
+        stream: u16,
+        ordered: bool,
+        length: usize,
+        outcome: &Outcome,
+    ) -> Result<(), AllocError> {
+        let call = Call::Send {
+            stream,
+            ordered,
+            length,
+            ticket: match outcome {
+                Outcome::Ticket { ticket } => Some(ticket.0),
+                _ => None,
+            },
+        };
+        self.call(side, call, outcome)
+    }
+
+    /// An end's user gives up a message.
+    fn abandon(&mut self, side: Side, ticket: Ticket, outcome: &Outcome) -> Result<(), AllocError> {
+        let deed = match outcome {
+            Outcome::Fate { fate } => Some(Deed::Abandoned {
+                ticket: ticket.0,
+                fate: *fate,
+            }),
+            _ => None,
+        };
+        self.show(side, deed, None)
+    }
+
+    /// An end's user takes a message.
+    fn take(&mut self, side: Side, stream: u16, outcome: &Outcome) -> Result<(), AllocError> {
+        let message = match outcome {
+            Outcome::Message { message } => Some(Taken {
+                ordered: message.ordered,
+                number: message.number,
+                length: message.len(),
+            }),
+            _ => None,
+        };
+        self.show(side, Some(Deed::Taken { stream, message }), None)
+    }
+
+    /// A packet of an end leaves, or it has none.
+    fn build(&mut self, side: Side, outcome: &Outcome) -> Result<(), AllocError> {
+        match outcome {
+            Outcome::Sent { number, .. } => self.leave(side, *number, None),
+            _ => self.show(side, Some(Deed::Quiet), None),
+        }
+    }
+
+    /// A packet comes to the other end.
+    fn deliver(&mut self, side: Side, number: u32, outcome: &Outcome) -> Result<(), AllocError> {
+        let number = number as usize;
+        let packet = Packet { side, number };
+        if matches!(outcome, Outcome::Absent) {
+            return self.show(side, Some(Deed::Absent { packet }), None);
+        }
+        let time = self.lives.count(packet);
+        let to = side.other();
+        let deed = Deed::of_drop(outcome);
+        if self.rows.has_just_left(packet) {
+            self.rows.join(&self.pair, packet, deed);
+        } else {
+            self.show(to, deed, Some(Arrow::Comes { packet, time }))?;
+        }
+        self.answer(to, outcome)
+    }
+
+    /// A stranger's bytes come to an end.
+    fn meet(&mut self, to: Side, bytes: &[u8], outcome: &Outcome) -> Result<(), AllocError> {
+        let bytes = Vec::from_slice(self.alloc, bytes)?;
+        let index = self.strange.len();
+        self.strange.push(bytes)?;
+        self.show(
+            to,
+            Deed::of_drop(outcome),
+            Some(Arrow::Strange { to, index }),
+        )?;
+        self.answer(to, outcome)
+    }
+
+    /// An end's user ends the association, and its packet leaves.
+    fn abort(&mut self, side: Side, outcome: &Outcome) -> Result<(), AllocError> {
+        let deed = Deed::of_call(Call::Abort, outcome);
+        match outcome {
+            Outcome::Answer { number, .. } => self.leave(side, *number, Some(deed)),
+            _ => self.show(side, Some(deed), None),
+        }
+    }
+
+    /// The packet by which an end answers what came leaves, if there is one.
+    fn answer(&mut self, side: Side, outcome: &Outcome) -> Result<(), AllocError> {
+        match outcome {
+            Outcome::Answer { number, .. } => self.leave(side, *number, None),
+            _ => Ok(()),
+        }
+    }
+
+    /// A packet of an end leaves.
+    fn leave(&mut self, side: Side, number: usize, deed: Option<Deed>) -> Result<(), AllocError> {
+        self.lives.begin(side, self.rows.len())?;
+        let packet = Packet { side, number };
+        self.show(side, deed, Some(Arrow::Leaves { packet }))
+    }
+
+    /// A row shows what an end did.
+    fn show(
+        &mut self,
+        side: Side,
+        deed: Option<Deed>,
+        arrow: Option<Arrow>,
+    ) -> Result<(), AllocError> {
+        self.rows.push_at(&self.pair, side, deed, arrow)
+    }
+}

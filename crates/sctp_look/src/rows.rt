@@ -1,0 +1,116 @@
+//! The rows of a picture as they grow, event by event.
+
+use crate::row::{Arrow, Deed, Note, Packet, Row, Standing};
+use sctp_pair::{Pair, Side};
+use std::alloc::{AllocError, Global};
+
+/// The rows, and how both ends stood when they were last shown.
+#[derive(Drop)]
+pub(crate) struct Rows {
+    rows: Vec<Row>,
+    shown_a: Option<Standing>,
+    shown_b: Option<Standing>,
+}
+
+impl Rows {
+    /// Before the first row.
+    pub(crate) fn new(alloc: Global) -> Rows {
+        Rows {
+            rows: Vec::new(alloc),
+            shown_a: None,
+            shown_b: None,
+        }
+    }
+
+    /// The rows.
+    pub(crate) fn as_slice(&self) -> &[Row] {
+        &self.rows
+    }
+
+    /// How many there are.
+    pub(crate) fn len(&self) -> usize {
+        self.rows.len()
+    }
+
+    /// Appends a row: the moment of the pair, what both ends did, how they stand if that is new, and what goes between them.
+    ///
+    /// # Errors
+    /// Memory ran out.
+    pub(crate) fn push(
+        &mut self,
+        pair: &Pair,
+        at_a: Option<Deed>,
+        at_b: Option<Deed>,
+        arrow: Option<Arrow>,
+    ) -> Result<(), AllocError> {
+        let moment = pair.clock();
+        let begins = self.rows.last().is_none_or(|row| row.moment != moment);
+        let row = Row {
+            moment,
+            begins,
+            at_a: self.note(pair, Side::A, at_a),
+            at_b: self.note(pair, Side::B, at_b),
+            arrow,
+        };
+        self.rows.push(row)?;
+        Ok(())
+    }
+
+    /// Appends a row in which one end did something.
+    ///
+    /// # Errors
+    /// Memory ran out.
+    pub(crate) fn push_at(
+        &mut self,
+        pair: &Pair,
+        side: Side,
+        deed: Option<Deed>,
+        arrow: Option<Arrow>,
+    ) -> Result<(), AllocError> {
+        match side {
+            Side::A => self.push(pair, deed, None, arrow),
+            Side::B => self.push(pair, None, deed, arrow),
+        }
+    }
+
+    /// Whether the last row shows that the packet leaves.
+    pub(crate) fn has_just_left(&self, packet: Packet) -> bool {
+        match self.rows.last().and_then(|row| row.arrow) {
+            Some(Arrow::Leaves { packet: last }) => last == packet,
+            _ => false,
+        }
+    }
+
+    /// The packet that leaves in the last row comes in it too.
+    pub(crate) fn join(&mut self, pair: &Pair, packet: Packet, deed: Option<Deed>) {
+        let to = packet.side.other();
+        let note = self.note(pair, to, deed);
+        if let Some(row) = self.rows.last_mut() {
+            row.arrow = Some(Arrow::Crosses { packet });
+            match to {
+                Side::A => row.at_a = note,
+                Side::B => row.at_b = note,
+            }
+        }
+    }
+
+    /// What an end did, and how it stands if it stood otherwise when that was last shown.
+    fn note(&mut self, pair: &Pair, side: Side, deed: Option<Deed>) -> Note {
+        let end = pair.end(side);
+        let standing = Standing {
+            state: end.state(),
+            ended: end.ended(),
+        };
+        let shown = match side {
+            Side::A => &mut self.shown_a,
+            Side::B => &mut self.shown_b,
+        };
+        let begun = if *shown == Some(standing) {
+            None
+        } else {
+            Some(standing)
+        };
+        *shown = Some(standing);
+        Note { deed, begun }
+    }
+}

@@ -1,0 +1,98 @@
+//! A script, read line by line; each line happens before the next one is read.
+
+ghost use Rattle.std.specs.Prelude.{◌≡◌, true, ◌-◌, ◌^◌, ◌<◌, ◌≤◌, IfOk, OnOk};
+ghost use Rattle.sctp_text.specs.declared.limits.TheConstants.{LONGEST_TEXT};
+
+use crate::fault::LookFault;
+use crate::recording::Recording;
+use sctp_script::{Acting, read_line};
+use sctp_text::{LineReader, NextLine, ReadFault, Source};
+use sctp_words::{LineError, LineFault};
+use std::alloc::Global;
+
+/// What was read of a script: the pair and what happened to it, once there is one, and the number of the next line.
+#[derive(Drop)]
+pub(crate) struct Reading {
+    alloc: Global,
+    lines: LineReader,
+    run: Option<Recording>,
+    number: u64,
+}
+
+impl Reading {
+    /// Before the first line.
+    pub(crate) fn new(alloc: Global) -> Reading {
+        Reading {
+            alloc,
+            lines: LineReader::new(alloc),
+            run: None,
+            number: 1,
+        }
+    }
+
+    /// What happened, if there is a pair.
+    pub(crate) fn run(&self) -> Option<&Recording> {
+        self.run.as_ref()
+    }
+
+    /// Reads all lines.
+    ///
+    /// # Errors
+    /// `Line` at the first line that has a fault: what stands before it happened. A script in which no line acts has one at line 1. `Read`
+    /// where a call of the reader failed, and `NoMemory`.
+    pub(crate) fn read<R: Source>(&mut self, input: &mut R) -> Result<(), LookFault>
+        requires { R.failures input.old < 2 ^ 64 - 1 }
+    {
+        for _ in 0..u64::MAX {
+            if !self.read_next(input)? {
+                break;
+            }
+        }
+        match self.run {
+            Some(_) => Ok(()),
+            None => Err(LookFault::Line(1, LineFault::PairOrder)),
+        }
+    }
+
+    /// Reads the next line, which happens. Answers whether the input may go on.
+    fn read_next<R: Source>(&mut self, input: &mut R) -> Result<bool, LookFault>
+        requires { R.failures input.old < 2 ^ 64 - 1 }
+        ensures well { OnOk result (R.failures input.new ≡ R.failures input.old) }
+    {
+        match self.lines.next_line(input) {
+            Ok(NextLine::Ended(line)) => {
+                self.happen(&line)?;
+                self.number = self.number.saturating_add(1);
+                Ok(true)
+            }
+            Ok(NextLine::Last(line)) => {
+                self.happen(&line)?;
+                Ok(false)
+            }
+            Ok(NextLine::TooLong) => Err(LookFault::Line(self.number, LineFault::TooLong)),
+            Ok(NextLine::End) => Ok(false),
+            Err(ReadFault::Failed) => Err(LookFault::Read),
+            Err(ReadFault::NoMemory) => Err(LookFault::NoMemory),
+        }
+    }
+
+    /// What a line says happens.
+    fn happen(&mut self, line: &[u8]) -> Result<(), LookFault> {
+        match read_line(self.alloc, line, self.run.is_some()) {
+            Ok(None) => Ok(()),
+            Ok(Some(Acting::Pair(config))) => {
+                self.run = Some(Recording::new(self.alloc, config)?);
+                Ok(())
+            }
+            Ok(Some(Acting::Event(event))) => match &mut self.run {
+                Some(run) => {
+                    run.record(&event)?;
+                    Ok(())
+                }
+                None => Ok(()),
+            },
+            Err(LineError::Fault(fault)) => Err(LookFault::Line(self.number, fault)),
+            Err(LineError::NoMemory) => Err(LookFault::NoMemory),
+        }
+    }
+}
