@@ -4,7 +4,6 @@ pub mod BagLemmas
 pub mod BuiltLemmas
 pub mod ClockLemmas
 pub mod NotesLemmas
-pub mod NothingBuiltLemmas
 pub mod PromiseLemmas
 pub mod ReadLemmas
 pub mod RunLemmas

@@ -61,14 +61,6 @@ module _ (packets : List (Vec Ticket Global)) (gone : List Ticket) (taken : List
     taken = same_logged taken e.receiver.taken t.receiver.taken a.taken n.taken;
   }
 
-  -- none was
-  pub notes_unnumbered : newly_numbered e.sender t.sender ≡ [] → AreNoted packets gone taken e l → AddsNumbers e t → AreNoted packets gone taken t l
-  notes_unnumbered none n a = record {
-    numbers = n.numbers ∙ sym (a.numbers ∙ (ap (λ (ks : List ℕ). numbered e ++ ks) none ∙ append-nil (numbered e)));
-    order = n.order;
-    taken = same_logged taken e.receiver.taken t.receiver.taken a.taken n.taken;
-  }
-
   -- messages were abandoned
   pub notes_abandoned : (more : List Ticket) (m : Log) (ks : List ℕ) → map ticket_number more ≡ map ticket_number gone ++ ks → m.order ≡ l.order ++ ks →
       AreNoted packets gone taken e l → KeepsLogs e t → AreNoted packets more taken t m

@@ -1,6 +1,6 @@
 -- What bytes read as, and what a moment leaves where they don't read.
-use Rattle.std.proofs.Common.{◌≡◌, ℕ, List, Option, None, Some, Result, Ok, Err, refl, inl, subst}
-use Rattle.std.specs.Result.{MatchResult}
+use Rattle.std.proofs.Common.{◌≡◌, ℕ, List, Option, None, Some, Result, Ok, Err, refl, inl, inr, ◌⊎◌, subst}
+use Rattle.sctp_model.specs.numbers.Numbers.{AreBytes}
 use Rattle.sctp_model.specs.wire.Packet as meaning
 use Rattle.sctp_model.specs.end.EndView.{Draw, EndView}
 use Rattle.sctp_model.specs.end.Clock.{at_moment}
@@ -11,8 +11,7 @@ use Rattle.sctp_model.specs.world.World.{World, Side}
 use Rattle.sctp_model.specs.world.Events as events
 use Rattle.sctp_model.specs.world.Steps.{Brings, FromStranger, NoPacket}
 use Rattle.sctp_packet.specs.PacketBytes.{ReadsPacket, FaultsPacket, WritesPacket}
-use Rattle.sctp_packet.specs.PacketTree.{packet_meaning}
-use Rattle.sctp_packet.specs.declared.read.Packet.{Packet}
+use Rattle.sctp_packet.specs.PacketLaws.{ReadInOneWay}
 use Rattle.sctp_packet.specs.declared.fault.PacketFault.{PacketFault}
 use Rattle.sctp_endpoint.specs.Handled.{IsRead, Handled}
 use Rattle.sctp_endpoint.specs.EndpointStands.{EndpointStands}
@@ -21,11 +20,13 @@ use Rattle.sctp_endpoint.specs.declared.endpoint.Endpoint.{Endpoint}
 use Rattle.sctp_opening.specs.Told.{IsAnswer}
 use Rattle.sctp_values.specs.declared.no_memory.NoMemory.{NoMemory}
 
--- what was read, whatever it is
-pub is_read : (bytes : List ℕ) (r : Result Packet PacketFault) → MatchResult r (λ packet. ReadsPacket bytes (packet_meaning packet)) (λ fault. FaultsPacket bytes fault) →
-    (p : Option meaning.Packet) × IsRead bytes p
-is_read bytes (Ok x) m = (Some (packet_meaning x), m)
-is_read bytes (Err x) m = (None, (x, m))
+-- bytes read as a packet or have a fault
+pub is_read : (bytes : List ℕ) → ReadInOneWay bytes → AreBytes bytes → (p : Option meaning.Packet) × IsRead bytes p
+is_read bytes law are = by (law.one_of_them are)
+  where
+    by : ((p : meaning.Packet) × ReadsPacket bytes p) ⊎ ((f : PacketFault) × FaultsPacket bytes f) → (p : Option meaning.Packet) × IsRead bytes p
+    by (inl reads) = (Some reads.0, reads.1)
+    by (inr faults) = (None, faults)
 
 -- what a stranger's bytes bring
 pub brings_foreign : (w : World) (s : Side) (bytes : List ℕ) (p : Option meaning.Packet) → IsRead bytes p → Brings w (events.Foreign s p) s p

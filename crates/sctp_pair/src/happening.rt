@@ -18,7 +18,7 @@ use crate::pair::Pair;
 use sctp_endpoint::Endpoint;
 use sctp_events::{Outcome, Refusal, Side};
 use sctp_outcomes::new_ends_have_no_logs;
-use sctp_packet::read_packet;
+use sctp_packet::one_packet;
 use sctp_terms::Draw;
 use sctp_values::{NoMemory, Ticket};
 
@@ -142,8 +142,8 @@ impl Pair {
             → (p : Option Packet) × (x : World) × IsRead bytes.now p
             × Step w (meaning.Foreign (side_meaning side) p) (answer_of result) x × PairStands self.new x }
     {
-        // It changes nothing: its contract says that the bytes read as a packet or have a fault.
-        let _read = read_packet(bytes);
+        // It does nothing: its contract is the law that bytes read as a packet or have a fault.
+        one_packet();
         self.openable = false;
         match side {
             Side::A => arrive(&mut self.a, self.clock, self.draw, bytes),

@@ -7,10 +7,8 @@ use Rattle.sctp_model.specs.world.World.{end_of, bag_of, log_of}
 use Rattle.sctp_model.specs.world.Events as meaning
 use Rattle.sctp_model.specs.world.Events.{next_number}
 use Rattle.sctp_model.specs.world.Steps as steps
-use Rattle.sctp_model.specs.end.Clock.{at_moment}
-use Rattle.sctp_outcomes.proofs.logs.Built.{builds_add_numbers}
-use Rattle.sctp_pair.proofs.NotesLemmas.{notes_numbered, notes_unnumbered}
-use Rattle.sctp_pair.proofs.NothingBuiltLemmas.{nothing_numbered}
+use Rattle.sctp_outcomes.proofs.logs.Built.{builds_add_numbers, empty_builds_keep_logs}
+use Rattle.sctp_pair.proofs.NotesLemmas.{notes_kept, notes_numbered}
 use Rattle.sctp_pair.specs.Sides.{side_of, SideStands}
 use Rattle.sctp_pair.proofs.BagLemmas.{bag_push, bag_length}
 use Rattle.sctp_pair.proofs.BuiltLemmas.{built_is_placed}
@@ -41,11 +39,10 @@ unfolding SideStands
 returns-in-None c = λ w s stands clock.
     let v = end_of w s in
     let sent = rw c.in-None.is at (c.in_ok-poll_transmit.ensures.step v stands.end) in
-    let adds = builds_add_numbers v c.args.clock [] sent.0 (c.sound.ensures _ stands.end) sent.1 in
-    let none = nothing_numbered (at_moment v c.args.clock) sent.0 sent.1 in (
+    let keeps = empty_builds_keep_logs v c.args.clock sent.0 (c.sound.ensures _ stands.end) sent.1 in (
       side sent.0 (bag_of w s) (log_of w s),
       builds_none w s c.args.clock sent.0 clock sent.1,
-      record { end = sent.2; bag = rw c.reserve.ensures.items stands.bag; notes = rw c.reserve-2.ensures.items (notes_unnumbered _ _ _ v sent.0 (log_of w s) none stands.notes adds) },
+      record { end = sent.2; bag = rw c.reserve.ensures.items stands.bag; notes = rw c.reserve-2.ensures.items (notes_kept _ _ _ v sent.0 (log_of w s) stands.notes keeps) },
     )
 
 pub returns-in-Some : goal.returns-in-Some
