@@ -1,0 +1,190 @@
+//! Two ends that a script is run over, with all the packets that either gave to the network.
+
+use crate::bases::Base;
+use crate::step::{Side, Step};
+use anyhow::{Result, anyhow};
+use sctp_endpoint::{Config, Draw, Endpoint, Key, Ticket, Verdict};
+use std::alloc::Global;
+
+/// The moment at which all happens, in milliseconds.
+pub const NOW: u64 = 0;
+
+/// The key of the listener's cookies.
+const KEY: [u8; 32] = [
+    0, 1, 2, 3, 4, 5, 6, 7, 8, 9, 10, 11, 12, 13, 14, 15, 16, 17, 18, 19, 20, 21, 22, 23, 24, 25,
+    26, 27, 28, 29, 30, 31,
+];
+
+/// One end, and the packets that it gave to the network.
+#[derive(Drop)]
+struct OneSide {
+    end: Endpoint,
+    bag: Vec<Vec<u8>>,
+}
+
+/// Two ends, and the draw for INITs that come.
+#[derive(Drop)]
+pub struct Ends {
+    alloc: Global,
+    a: OneSide,
+    b: OneSide,
+    draw: Draw,
+    configs: [Config; 2],
+}
+
+impl Ends {
+    /// The two ends as they stand before a packet comes.
+    pub fn before(alloc: Global, base: &Base) -> Result<Ends> {
+        let mut ends = Ends::new(alloc, base)?;
+        for step in base.script.iter().take(base.before) {
+            ends.step(*step)?;
+        }
+        Ok(ends)
+    }
+
+    /// Two ends to which nothing happened yet.
+    fn new(alloc: Global, base: &Base) -> Result<Ends> {
+        let limits = if base.interleave {
+            (576, 500)
+        } else {
+            (1_500, 1_400)
+        };
+        let configs = [
+            config(base, 5_000, 5_001, limits)?,
+            config(base, 5_001, 5_000, limits)?,
+        ];
+        Ok(Ends {
+            alloc,
+            a: OneSide {
+                end: Endpoint::caller(alloc, configs[0]),
+                bag: Vec::new(alloc),
+            },
+            b: OneSide {
+                end: Endpoint::listener(alloc, configs[1], Key::new(KEY)),
+                bag: Vec::new(alloc),
+            },
+            draw: draw(1, 1)?,
+            configs,
+        })
+    }
+
+    /// The packet that comes, and the end that it comes to.
+    pub fn packet_and_taker(self, base: &Base) -> Result<(Vec<u8>, Endpoint)> {
+        let Ends { a, b, .. } = self;
+        let (from, to) = match base.from {
+            Side::A => (a, b),
+            Side::B => (b, a),
+        };
+        let packet = packet_at(&from.bag, base.place)?.clone()?;
+        Ok((packet, to.end))
+    }
+
+    /// One of the two.
+    fn side(&mut self, side: Side) -> &mut OneSide {
+        match side {
+            Side::A => &mut self.a,
+            Side::B => &mut self.b,
+        }
+    }
+
+    /// What happens next.
+    fn step(&mut self, step: Step) -> Result<()> {
+        match step {
+            Step::Open => self.open(),
+            Step::Connect(tag, tsn) => Ok(self.a.end.connect(NOW, draw(tag, tsn)?)?),
+            Step::Draw(tag, tsn) => self.take_draw(tag, tsn),
+            Step::Send(side, bytes, times) => self.send(side, bytes, times),
+            Step::Build(side) => self.build(side),
+            Step::Deliver(side, place) => self.deliver(side, place),
+            Step::Take(side) => self.take(side),
+            Step::Abandon(side, ticket) => self.abandon(side, ticket),
+            Step::Shutdown(side) => Ok(self.side(side).end.shutdown()?),
+        }
+    }
+
+    /// Both are opened without packets.
+    fn open(&mut self) -> Result<()> {
+        let [at_a, at_b] = self.configs;
+        self.a.end = Endpoint::opened(self.alloc, at_a, draw(1, 1)?, draw(2, 1)?)?;
+        self.b.end = Endpoint::opened(self.alloc, at_b, draw(2, 1)?, draw(1, 1)?)?;
+        Ok(())
+    }
+
+    /// INITs that come are answered with this tag and first TSN.
+    fn take_draw(&mut self, tag: u32, tsn: u32) -> Result<()> {
+        self.draw = draw(tag, tsn)?;
+        Ok(())
+    }
+
+    /// The user of this end sends a message of these bytes so many times over.
+    fn send(&mut self, side: Side, bytes: &[u8], times: usize) -> Result<()> {
+        let mut message = Vec::new(self.alloc);
+        for _ in 0..times {
+            message.extend_from_slice(bytes)?;
+        }
+        self.side(side).end.send(0, true, 0, message, None)?;
+        Ok(())
+    }
+
+    /// This end builds a packet.
+    fn build(&mut self, side: Side) -> Result<()> {
+        let side = self.side(side);
+        let sent = side.end.poll_transmit(NOW)?;
+        let sent = sent.ok_or_else(|| anyhow!("no packet is due"))?;
+        Ok(side.bag.push(sent.packet)?)
+    }
+
+    /// A packet of this end comes to the other one.
+    fn deliver(&mut self, side: Side, place: usize) -> Result<()> {
+        match side {
+            Side::A => carry(&self.a, &mut self.b, place, self.draw),
+            Side::B => carry(&self.b, &mut self.a, place, self.draw),
+        }
+    }
+
+    /// The user of this end takes a message.
+    fn take(&mut self, side: Side) -> Result<()> {
+        let message = self.side(side).end.take(0);
+        message.ok_or_else(|| anyhow!("no message waits"))?;
+        Ok(())
+    }
+
+    /// The user of this end abandons this ticket.
+    fn abandon(&mut self, side: Side, ticket: u32) -> Result<()> {
+        let _ = self.side(side).end.abandon(Ticket(ticket));
+        Ok(())
+    }
+}
+
+/// A packet of one end comes to another one; its answer goes into that one's bag.
+fn carry(from: &OneSide, to: &mut OneSide, place: usize, draw: Draw) -> Result<()> {
+    let packet = packet_at(&from.bag, place)?;
+    if let Verdict::Answer(reply) = to.end.handle_packet(NOW, packet, draw)? {
+        to.bag.push(reply)?;
+    }
+    Ok(())
+}
+
+/// The packet at this place of a bag, from 0.
+fn packet_at(bag: &[Vec<u8>], place: usize) -> Result<&Vec<u8>> {
+    bag.get(place)
+        .ok_or_else(|| anyhow!("there is no such packet"))
+}
+
+/// A tag that isn't 0, and a first TSN.
+pub fn draw(tag: u32, tsn: u32) -> Result<Draw> {
+    Draw::new(tag, tsn).ok_or_else(|| anyhow!("the tag 0 is no tag"))
+}
+
+/// How an end is set up: its port and its peer's, the limit of packets and the size of fragments, a buffer of 64 KiB, a stream each way.
+fn config(base: &Base, own_port: u16, peer_port: u16, limits: (u16, u16)) -> Result<Config> {
+    let (limit, fragment) = limits;
+    let mut config = Config::new(own_port, peer_port, limit, fragment, 65_536, 1, 1)?;
+    if base.interleave {
+        config = config.with_interleave();
+    }
+    if base.partial {
+        config = config.with_partial();
+    }
+    Ok(config)
+}

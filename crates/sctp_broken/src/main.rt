@@ -1,0 +1,45 @@
+//! Broken packets at ends that know what a packet is: every packet of three scripts, cut at every length, with every bit flipped, with every
+//! length of its chunk and every type of it. What is told of each is compared with a plain table of the rules, and what the end tells of
+//! itself with what it told before.
+//!
+//! It prints a line for each packet: how many were tried, what was told of them, how many differ from the table, and how many changed an
+//! end that they may not change; those that do are shown; the last line has the sums.
+#![tactic(auto)]
+
+mod acts;
+mod bases;
+mod bench;
+mod checksum;
+mod ends;
+mod reading;
+mod scripts;
+mod seen;
+mod step;
+mod taker;
+mod tally;
+mod told;
+mod wanted;
+
+use crate::bases::{Base, closing_packets, opened_packets};
+use crate::bench::Bench;
+use crate::checksum::Checksum;
+use crate::tally::Tally;
+use anyhow::Result;
+
+fn main(rt: HostRuntime) -> Result<()> {
+    let sums = Checksum::new();
+    let mut sum = Tally::default();
+    run_all(&rt, &closing_packets(), &sums, &mut sum)?;
+    run_all(&rt, &opened_packets(), &sums, &mut sum)?;
+    sum.write("all", &mut rt.stdout())?;
+    Ok(())
+}
+
+/// Tries each of these packets, broken in every way.
+fn run_all(rt: &HostRuntime, bases: &[Base], sums: &Checksum, sum: &mut Tally) -> Result<()> {
+    for base in bases {
+        let tally = Bench::new(rt.alloc(), base, sums, rt.stdout())?.run()?;
+        sum.add(&tally);
+    }
+    Ok(())
+}

@@ -1,0 +1,76 @@
+//! How many packets were tried, and what was told of them.
+
+use crate::told::Told;
+use std::io::{Result, Write};
+
+/// Counts of packets.
+#[derive(Clone, Copy, Default)]
+pub struct Tally {
+    tried: u32,
+    taken: u32,
+    answered: u32,
+    /// By reason, 1 to 5.
+    dropped: [u32; 5],
+    /// How many were told otherwise than the rules want, and after how many that do nothing the end told something else than before.
+    differing: u32,
+    changed: u32,
+}
+
+impl Tally {
+    /// Counts what was told of a packet.
+    pub fn count(&mut self, told: Told) {
+        add(&mut self.tried, 1);
+        match told {
+            Told::Taken => add(&mut self.taken, 1),
+            Told::Answered => add(&mut self.answered, 1),
+            Told::Dropped(reason) => self.count_dropped(reason),
+        }
+    }
+
+    /// Counts a packet that was dropped for this reason.
+    fn count_dropped(&mut self, reason: u8) {
+        let place = usize::from(reason.saturating_sub(1));
+        if let Some(count) = self.dropped.get_mut(place) {
+            add(count, 1);
+        }
+    }
+
+    /// Counts a packet of which something else was told than the rules want: how many there were.
+    pub fn differs(&mut self) -> u32 {
+        add(&mut self.differing, 1);
+        self.differing
+    }
+
+    /// Counts a packet after which an end isn't as it was, though it should be: how many there were.
+    pub fn changes(&mut self) -> u32 {
+        add(&mut self.changed, 1);
+        self.changed
+    }
+
+    /// Adds the counts of another one.
+    pub fn add(&mut self, other: &Tally) {
+        add(&mut self.tried, other.tried);
+        add(&mut self.taken, other.taken);
+        add(&mut self.answered, other.answered);
+        for (count, more) in self.dropped.iter_mut().zip(other.dropped) {
+            add(count, more);
+        }
+        add(&mut self.differing, other.differing);
+        add(&mut self.changed, other.changed);
+    }
+
+    /// Writes the counts behind this name.
+    pub fn write<W: Write>(&self, name: &str, out: &mut W) -> Result<()> {
+        let [fault, ports, tag, state, cookie] = self.dropped;
+        write!(out, "{name}: {} tried; ", self.tried)?;
+        write!(out, "dropped: {fault} fault, {ports} ports, {tag} tag, ")?;
+        write!(out, "{state} state, {cookie} cookie; ")?;
+        write!(out, "{} answered, {} taken; ", self.answered, self.taken)?;
+        writeln!(out, "{} differ, {} changed", self.differing, self.changed)
+    }
+}
+
+/// Adds to a count.
+fn add(count: &mut u32, more: u32) {
+    *count = count.saturating_add(more);
+}
