@@ -13,6 +13,7 @@ use Rattle.sctp_recv.specs.declared.inbound.Inbound.{Inbound}
 use Rattle.sctp_model.specs.receiver.KeptOfLane.{of_lane}
 use Rattle.sctp_recv.specs.Filed.{IsFiledOn, AreFiled}
 use Rattle.sctp_recv.specs.inner.Giving.{HasRoom}
+use Rattle.sctp_recv.specs.inner.Forwarding.{HaveRoom}
 use Rattle.std.proofs.lemmas.Option.{slice_get_within}
 
 -- ---- one element of a list
@@ -28,6 +29,11 @@ got_set_other (y ∷ xs) zero zero x other = absurd (other refl)
 got_set_other (y ∷ xs) zero (suc j) x other = refl
 got_set_other (y ∷ xs) (suc i) zero x other = refl
 got_set_other (y ∷ xs) (suc i) (suc j) x other = got_set_other xs i j x (λ e. other (ap suc e))
+
+pub got_below : {A : Type 0} (xs : List A) (i : ℕ) → i < length xs → (x : A) × (slice_get xs i ≡ Some x)
+got_below [] i low = absurd (omega (arith, low))
+got_below (x ∷ xs) zero low = (x, refl)
+got_below (x ∷ xs) (suc i) low = got_below xs i (omega (arith, low))
 
 -- one element behind the others
 pub got_more : {A : Type 0} (xs : List A) (y : A) (i : ℕ) (x : A) → slice_get (xs ++ y ∷ []) i ≡ Some x → (slice_get xs i ≡ Some x) ⊎ ((i ≡ length xs) × (y ≡ x))
@@ -59,18 +65,25 @@ fresh_filed f streams h = record {
   there = λ x has. absurd has;
 }
 
--- there is room on the streams below k
-abbrev pub HaveRoomBelow : {F : Type 0} → ℕ → List (Inbound F) → Type 0
-HaveRoomBelow {F} k streams = (s : ℕ) (x : Inbound F) → s < k → slice_get streams s ≡ Some x → HasRoom x 0
-
-pub room_next : {F : Type 0} (k : ℕ) (streams : List (Inbound F)) (y : Inbound F) → HaveRoomBelow k streams → k < length streams → HasRoom y 0 → HaveRoomBelow (k + 1) (set streams k y)
-room_next {F} k streams y h low room s z less got = elim (cases_eq s k) [
-  | inl same ↦ subst (λ (w : Inbound F). HasRoom w 0) (one_got (slice_get (set streams k y) k) y z (got_set_same streams k y low) (ap (slice_get (set streams k y)) (sym same) ∙ got)) room
-  | inr other ↦ h s z (omega (arith, less, other)) (sym (got_set_other streams k s y other) ∙ got)
+-- on so many of the streams touched there is room, also once one stream more has it
+pub room_next : {F : Type 0} (touched : List ℕ) (n s : ℕ) (streams : List (Inbound F)) (y : Inbound F) → HaveRoom touched n streams → slice_get touched n ≡ Some s → s < length streams → HasRoom y 0 →
+    HaveRoom touched (n + 1) (set streams s y)
+room_next {F} touched n s streams y h is low room i q z less at_i got = elim (cases_eq q s) [
+  | inl same ↦ subst (λ (w : Inbound F). HasRoom w 0) (one_got (slice_get (set streams s y) s) y z (got_set_same streams s y low) (ap (slice_get (set streams s y)) (sym same) ∙ got)) room
+  | inr other ↦
+      let not_here : i ≡ n → ⊥ = λ e. other (one_got (slice_get touched n) q s (ap (slice_get touched) (sym e) ∙ at_i) is) in
+      h i q z (omega (arith, less, not_here)) at_i (sym (got_set_other streams s q y other) ∙ got)
 ]
 
-pub room_all : {F : Type 0} (streams : List (Inbound F)) (k : ℕ) → HaveRoomBelow k streams → length streams ≤ k → (s : ℕ) (x : Inbound F) → slice_get streams s ≡ Some x → HasRoom x 0
-room_all streams k h all s x got = let low = slice_get_within streams s x got in h s x (omega (arith, low, all)) got
+-- or is not there
+pub room_past : {F : Type 0} (touched : List ℕ) (n s : ℕ) (streams : List (Inbound F)) → HaveRoom touched n streams → slice_get touched n ≡ Some s → length streams ≤ s → HaveRoom touched (n + 1) streams
+room_past {F} touched n s streams h is past i q z less at_i got = elim (cases_eq i n) [
+  | inl e ↦
+      let same : q ≡ s = one_got (slice_get touched n) q s (ap (slice_get touched) (sym e) ∙ at_i) is in
+      let low = slice_get_within streams q z got in
+      absurd (omega (arith, same, low, past))
+  | inr other ↦ h i q z (omega (arith, less, other)) at_i got
+]
 
 -- ---- one stream's chunks are others
 

@@ -1,5 +1,5 @@
 -- What a receiver keeps once a FORWARD was taken, and what was then due handed over.
-use Rattle.std.proofs.Common.{◌≡◌, ℕ, zero, suc, ◌+◌, ◌<◌, ◌≤◌, max, Bool, false, List, [], ◌∷◌, ◌++◌, length, map, Some, inl, inr, refl, sym, ◌∙◌, ap, subst, arith}
+use Rattle.std.proofs.Common.{◌≡◌, ℕ, zero, suc, ◌+◌, ◌≤◌, max, Bool, false, List, ◌++◌, length, map, Some, inl, inr, refl, sym, ◌∙◌, ap, subst, arith}
 use Rattle.std.specs.Prelude.{not, slice_get}
 use Rattle.std.proofs.lemmas.Bool.{cases_lt}
 use Rattle.std.proofs.lemmas.List.{length-map}
@@ -28,7 +28,8 @@ use Rattle.sctp_recv.specs.SeenStands.{SeenStands, Jumps}
 use Rattle.sctp_recv.specs.ReceiverKept.{StreamKept, ReceiverKept, FRESH, stream_at}
 use Rattle.sctp_recv.specs.StandsFor.{KeepsView}
 use Rattle.sctp_recv.specs.inner.Rows.{offset_from, IsAbove}
-use Rattle.sctp_recv.specs.inner.Forwarding.{lowest_after, stay, HaveRoom, AreToPass, ArePassed}
+use Rattle.sctp_recv.specs.inner.Forwarding.{lowest_after, stay, AreToPass, ArePassed}
+use Rattle.sctp_recv.proofs.FiledLemmas.{got_below}
 use Rattle.sctp_recv.proofs.StreamLemmas.{past_streams, got_stream}
 use Rattle.sctp_recv.proofs.ForwardSkips.{unordered_read, ordered_read}
 
@@ -92,11 +93,10 @@ module _ (f : Format) (k : ReceiverKept) (v : ReceiverView) (x : ForwardMeaning)
         ap (λ (l : Lane). model.stays_by l.kind f passed y) lane
         ∙ (λ j. not (lets_go f y.index y.number (jump_is j) ((ap passed.skip lane ∙ skip_now q z got) j))))
 
-    pub to_pass : AreFiled f v.kept streams → HaveRoom streams → AreToPass f i x.skips v left streams k.held
-    to_pass filed room = record {
+    pub to_pass : AreFiled f v.kept streams → AreToPass f i x.skips v left streams k.held
+    to_pass filed = record {
       filed = filed;
       counted = h.numbers;
-      room = room;
       stream = λ q z got. record { next = h.next q ∙ ap (λ (a : StreamKept). a.next) (stream_is q z got); waiting = h.waiting q ∙ ap (λ (a : StreamKept). a.waiting) (stream_is q z got) };
       ordered = ordered_stay;
       unordered = unordered_stay;
@@ -124,15 +124,10 @@ module _ (f : Format) (k : ReceiverKept) (v : ReceiverView) (x : ForwardMeaning)
           ((q : ℕ) → length streams ≤ q → new q ≡ field FRESH) → (q : ℕ) → new q ≡ field (stream_at (map stream_of news) q)
       each_field field new there past q = elim (cases_lt q (length streams)) [
         | inl low ↦
-            let z = got_one news q (omega (arith, low, size)) in
+            let z = got_below news q (omega (arith, low, size)) in
             there q z.0 z.1 ∙ ap field (sym (got_stream news q z.0 z.1))
         | inr high ↦ past q high ∙ ap field (sym (past_streams (map stream_of news) q (let m = length-map news stream_of in omega (arith, high, m, size))))
       ]
-        where
-          got_one : (zs : List (Inbound F)) (j : ℕ) → j < length zs → (z : Inbound F) × (slice_get zs j ≡ Some z)
-          got_one [] j low = absurd (omega (arith, low))
-          got_one (z ∷ zs) zero low = (z, refl)
-          got_one (z ∷ zs) (suc j) low = got_one zs j (omega (arith, low))
 
       fresh_past : {A : Type 0} (field : StreamKept → A) (q : ℕ) → length streams ≤ q → field (stream_at k.streams q) ≡ field FRESH
       fresh_past field q high = ap field (past_streams k.streams q (let n = count in omega (arith, n, high)))

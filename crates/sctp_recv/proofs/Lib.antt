@@ -10,7 +10,10 @@ mod KeptLemmas
 mod TakenLemmas
 mod ChunkLemmas
 mod ReadLemmas
+mod RestLemmas
+mod TouchedLemmas
 mod PassLemmas
+mod QuietLemmas
 mod ForwardKeeps
 mod ListOrder
 mod RunLemmas

@@ -1,18 +1,17 @@
 -- A FORWARD on one stream after the other: what is due on each is handed over in a view, and the bytes held are counted.
-use Rattle.std.proofs.Common.{◌≡◌, ℕ, suc, ◌+◌, ◌-◌, ◌^◌, ◌<◌, ◌≤◌, List, ◌++◌, length, set, Some, inl, inr, refl, sym, ◌∙◌, ap, subst, arith}
+use Rattle.std.proofs.Common.{◌≡◌, ℕ, suc, ◌+◌, ◌-◌, ◌^◌, ◌<◌, ◌≤◌, List, [], ◌∷◌, ◌++◌, length, set, Some, inl, inr, refl, sym, ◌∙◌, ap, subst, arith}
 use Rattle.std.specs.Prelude.{not, slice_get}
 use Rattle.std.proofs.lemmas.Bool.{cases_eq}
-use Rattle.std.proofs.lemmas.Option.{slice_get_within}
 use Rattle.sctp_model.specs.numbers.Lists.{Has, at}
 use Rattle.sctp_model.specs.wire.Chunk.{SkipMeaning}
 use Rattle.sctp_model.specs.messages.Format.{Format, Ordered, Unordered, Lane, ordered_lane, unordered_lane}
 use Rattle.sctp_model.specs.messages.Framing.{lets_go}
 use Rattle.sctp_model.specs.messages.Pieces.{Piece}
 use Rattle.sctp_model.specs.receiver.ReceiverView.{Handed, ReceiverView, size_of_pieces, size_of_messages, size_of_waiting}
-use Rattle.sctp_model.specs.receiver.Receiving.{IsDue, is_below, without_below, handed_ordered, GivesAll}
+use Rattle.sctp_model.specs.receiver.Receiving.{IsDue, Stop, IsWholeNumber, HasNoWhole, is_below, without_below, handed_ordered, GivesAll}
 use Rattle.sctp_model.proofs.receiver.Giving.{at_here, at_elsewhere}
 use Rattle.sctp_model.proofs.receiver.HeldBytes.{filter_size}
-use Rattle.sctp_model.proofs.receiver.OfLane.{of_below, of_below_other, off_below, size_of_lane}
+use Rattle.sctp_model.proofs.receiver.OfLane.{whole_of, of_below, of_below_other, off_below, size_of_lane}
 use Rattle.sctp_model.proofs.receiver.OneStep.{filter_has}
 use Rattle.sctp_model.proofs.receiver.Sizes.{due_size}
 use Rattle.sctp_chains.specs.StandsFor as lane
@@ -23,7 +22,7 @@ use Rattle.sctp_model.specs.receiver.KeptOfLane.{of_lane}
 use Rattle.sctp_recv.specs.Filed.{IsFiledOn}
 use Rattle.sctp_recv.specs.ReceiverKept.{StreamKept}
 use Rattle.sctp_recv.specs.inner.Giving.{sized, IsDueView}
-use Rattle.sctp_recv.specs.inner.Forwarding.{lowest_after, stay, PassesOn, IsStreamOf, AreToPass, ArePassed}
+use Rattle.sctp_recv.specs.inner.Forwarding.{lowest_after, stay, IsQuiet, PassesOn, IsStreamOf, AreToPass}
 use Rattle.sctp_recv.proofs.StreamLemmas.{waiting_set, size_append}
 use Rattle.sctp_recv.proofs.FiledLemmas.{got_set_same, got_set_other, one_got, sum_to, sum_same, sum_upto, stream_size, all_sizes}
 
@@ -77,8 +76,7 @@ kinds_apart : (q p : ℕ) → unordered_lane q ≡ ordered_lane p → ⊥
 kinds_apart q p e = let no : Unordered ≡ Ordered = ap (λ (l : Lane). l.kind) e in cc
 
 module _ {F : Type 0} (f : Format) (jump : ℕ) (xs : List SkipMeaning) (v r : ReceiverView) (olds now : List (Inbound F)) (held left k : ℕ) (t : ReceiverView) (h : AreToPass f jump xs v r olds held)
-    (u : IsUpTo f v r olds now held left k t) (x y : Inbound F) (low : k < length olds) (size : length now ≡ length olds) (got : slice_get olds k ≡ Some x) (now_left : ℕ)
-    (p : PassesOn f k jump xs (of_lane (ordered_lane k) v.kept) (of_lane (unordered_lane k) v.kept) x y left now_left) where
+    (u : IsUpTo f v r olds now held left k t) (x : Inbound F) (low : k < length olds) (size : length now ≡ length olds) (got : slice_get olds k ≡ Some x) where
   own : of_lane (ordered_lane k) t.kept ≡ of_lane (ordered_lane k) v.kept
   own = u.kept k (omega arith) ∙ h.ordered k
 
@@ -98,76 +96,6 @@ module _ {F : Type 0} (f : Format) (jump : ℕ) (xs : List SkipMeaning) (v r : R
     skipped = λ n lo hi. let both = h.floor k x got in let s = skip_is in omega (arith, both, s, lo, hi);
   }
 
-  due : IsDue f t k (t.next k) p.messages p.next
-  due = subst (λ (n : ℕ). IsDue f t k n p.messages p.next) (sym next_is) (p.due t view)
-
-  own_after : of_lane (ordered_lane k) (without_below t.kept k p.next) ≡ from_number p.next (of_lane (ordered_lane k) v.kept)
-  own_after = of_below k p.next t.kept ∙ ap (from_number p.next) own
-
-  ordered_off : (q : ℕ) → (q ≡ k → ⊥) → of_lane (ordered_lane q) (without_below t.kept k p.next) ≡ of_lane (ordered_lane q) t.kept
-  ordered_off q other = of_below_other (ordered_lane q) k p.next t.kept (lanes_apart q k other)
-
-  unordered_off : (q : ℕ) → of_lane (unordered_lane q) (without_below t.kept k p.next) ≡ of_lane (unordered_lane q) t.kept
-  unordered_off q = of_below_other (unordered_lane q) k p.next t.kept (kinds_apart q k)
-
-  loose_after : of_lane (unordered_lane k) (without_below t.kept k p.next) ≡ stay f jump (lowest_after f (unordered_lane k) x.skip xs) (of_lane (unordered_lane k) v.kept)
-  loose_after = unordered_off k ∙ u.loose k ∙ h.unordered k x got
-
-  -- the stream itself
-  here : IsFiledOn f (without_below t.kept k p.next) k y
-  here = record {
-    ordered = subst (λ (ps : List Piece). lane.StandsFor f y.ordered (ordered_lane k) ps) (sym own_after) p.ordered;
-    unordered = subst (λ (ps : List Piece). lane.StandsFor f y.unordered (unordered_lane k) ps) (sym loose_after) p.unordered;
-  }
-
-  says : IsStreamOf (handed_ordered t k p.messages p.next) k y
-  says = record {
-    next = at_here t.next k p.next ∙ sym (ap (λ (a : StreamKept). a.next) p.stream);
-    waiting = at_here t.waiting k (t.waiting k ++ p.messages) ∙ ap (λ (ms : List Handed). ms ++ p.messages) waiting_is ∙ sym (ap (λ (a : StreamKept). a.waiting) p.stream);
-  }
-
-  -- one that was done before
-  still : (q : ℕ) (z : Inbound F) → (q ≡ k → ⊥) → IsFiledOn f t.kept q z × IsStreamOf t q z × (t.skip (unordered_lane q) ≡ z.skip) →
-      IsFiledOn f (without_below t.kept k p.next) q z × IsStreamOf (handed_ordered t k p.messages p.next) q z × (t.skip (unordered_lane q) ≡ z.skip)
-  still q z other (on, stream, skip) = (
-    record {
-      ordered = subst (λ (ps : List Piece). lane.StandsFor f z.ordered (ordered_lane q) ps) (sym (ordered_off q other)) on.ordered;
-      unordered = subst (λ (ps : List Piece). lane.StandsFor f z.unordered (unordered_lane q) ps) (sym (unordered_off q)) on.unordered;
-    },
-    record {
-      next = at_elsewhere t.next k p.next q other ∙ stream.next;
-      waiting = at_elsewhere t.waiting k (t.waiting k ++ p.messages) q other ∙ stream.waiting;
-    },
-    skip,
-  )
-
-  -- ---- bytes
-
-  ordered_less : size_of_messages p.messages + size_of_pieces (of_lane (ordered_lane k) (without_below t.kept k p.next)) ≤ size_of_pieces (of_lane (ordered_lane k) v.kept)
-  ordered_less =
-      let all = due_size f t k (t.next k) p.messages p.next due in
-      let a = size_of_lane (ordered_lane k) t.kept in
-      let b = size_of_lane (ordered_lane k) (without_below t.kept k p.next) in
-      let off = ap size_of_pieces (off_below k p.next t.kept) in
-      let same = ap size_of_pieces own in
-      omega (arith, all, a, b, off, same)
-
-  unordered_less : size_of_pieces (of_lane (unordered_lane k) (without_below t.kept k p.next)) ≤ size_of_pieces (of_lane (unordered_lane k) v.kept)
-  unordered_less =
-      let less = filter_size (λ (z : Piece). not (lets_go f z.index z.number jump (lowest_after f (unordered_lane k) x.skip xs))) (of_lane (unordered_lane k) v.kept) in
-      let same = ap size_of_pieces loose_after in
-      omega (arith, less, same)
-
-  fewer : stream_size (without_below t.kept k p.next) k + size_of_messages p.messages ≤ stream_size v.kept k
-  fewer = let o = ordered_less in let w = unordered_less in omega (arith, o, w)
-
-  waits : size_of_waiting (at t.waiting k (t.waiting k ++ p.messages)) (length olds) ≡ size_of_waiting t.waiting (length olds) + size_of_messages p.messages
-  waits = let one = waiting_set t.waiting k (length olds) (t.waiting k ++ p.messages) low in let both = size_append (t.waiting k) p.messages in omega (arith, one, both)
-
-  before_same : sum_to (stream_size (without_below t.kept k p.next)) k ≡ sum_to (stream_size t.kept) k
-  before_same = sum_same (stream_size (without_below t.kept k p.next)) (stream_size t.kept) k
-      (λ q less. let o = ap size_of_pieces (ordered_off q (λ e. omega (arith, less, e))) in let w = ap size_of_pieces (unordered_off q) in omega (arith, o, w))
-
   part : stream_size v.kept k ≤ left
   part =
       let held_is = h.held in
@@ -180,57 +108,134 @@ module _ {F : Type 0} (f : Format) (jump : ℕ) (xs : List SkipMeaning) (v r : R
   under : left ≤ held
   under = let sum = u.held in let less = u.less in omega (arith, sum, less)
 
-  counted : now_left + stream_size v.kept k ≡ left + stream_size (without_below t.kept k p.next) k + size_of_messages p.messages
-  counted =
-      let o = ap size_of_pieces own_after in
-      let w = ap size_of_pieces loose_after in
-      let small = h.small in
-      let low_left = under in
-      left_counted left (stream_size v.kept k) (stream_size (without_below t.kept k p.next) k) (size_of_messages p.messages) now_left part fewer (omega (arith, small, low_left))
-      (p.bytes ∙ (λ j. sized (sized (left - sized (stream_size v.kept k) + sized (sym o j + sym w j)) + sized (size_of_messages p.messages))))
-
-  pub upto_next : IsUpTo f v r olds (set now k y) held now_left (suc k) (handed_ordered t k p.messages p.next)
-  upto_next = record {
-    gives = (t, u.gives, (p.messages, p.next, due, refl));
-    done = λ q z less at_q. elim (cases_eq q k) [
-      | inl same ↦
-          let is : y ≡ z = one_got (slice_get (set now k y) k) y z (got_set_same now k y (omega (arith, low, size))) (ap (slice_get (set now k y)) (sym same) ∙ at_q) in
-          let skip = ap (λ (g : Lane → ℕ). g (unordered_lane k)) u.skip ∙ h.skip k x got ∙ sym (ap (λ (a : StreamKept). a.skip) p.stream) in
-          subst (λ (i : ℕ). IsFiledOn f (without_below t.kept k p.next) i z × IsStreamOf (handed_ordered t k p.messages p.next) i z × (t.skip (unordered_lane i) ≡ z.skip)) (sym same)
-          (subst (λ (w : Inbound F). IsFiledOn f (without_below t.kept k p.next) k w × IsStreamOf (handed_ordered t k p.messages p.next) k w × (t.skip (unordered_lane k) ≡ w.skip)) is (here, says, skip))
-      | inr other ↦ still q z other (u.done q z (omega (arith, less, other)) (sym (got_set_other now k q y other) ∙ at_q))
-    ];
-    later = λ q high. got_set_other now k q y (λ e. omega (arith, high, e)) ∙ u.later q (omega (arith, high));
-    kept = λ q high. ordered_off q (λ e. omega (arith, high, e)) ∙ u.kept q (omega (arith, high));
-    loose = λ q. unordered_off q ∙ u.loose q;
-    next = λ q high. at_elsewhere t.next k p.next q (λ e. omega (arith, high, e)) ∙ u.next q (omega (arith, high));
-    waiting = λ q high. at_elsewhere t.waiting k (t.waiting k ++ p.messages) q (λ e. omega (arith, high, e)) ∙ u.waiting q (omega (arith, high));
-    skip = u.skip;
-    within = λ z has. u.within z (filter_has (λ (w : Piece). not (is_below k p.next w)) t.kept z has);
-    held = let sum = u.held in let w = waits in let same = before_same in let c = counted in omega (arith, sum, w, same, c);
-    less = let sum = u.less in let w = waits in let same = before_same in let f = fewer in omega (arith, sum, w, same, f);
-    more = let more = u.more in let w = waits in omega (arith, more, w);
+  -- a stream that is quiet is passed as it is
+  pub nothing : IsQuiet f jump xs v k x → PassesOn f k jump xs (of_lane (ordered_lane k) v.kept) (of_lane (unordered_lane k) v.kept) x x left left
+  nothing q = record {
+    messages = [];
+    next = x.next;
+    due = λ w is. Stop x.next (let above = is.above in let same = q.ordered in omega (arith, above, same)) (none_as w is.same);
+    ordered = subst (λ (ps : List Piece). lane.StandsFor f x.ordered (ordered_lane k) ps) (sym q.clear) (h.filed.each k x got).ordered;
+    unordered = subst (λ (ps : List Piece). lane.StandsFor f x.unordered (unordered_lane k) ps) (sym none_go) (h.filed.each k x got).unordered;
+    stream = λ i. record { next = x.next; skip = sym q.unordered i; waiting = sym (none_more (stream_of x).waiting) i };
+    bytes =
+        let same = ap size_of_pieces q.clear in
+        let loose = ap size_of_pieces none_go in
+        let own_part = part in
+        let small = h.small in
+        let low_left = under in
+        omega (arith, same, loose, own_part, small, low_left);
   }
+    where
+      none_as : (w : ReceiverView) → of_lane (ordered_lane k) w.kept ≡ of_lane (ordered_lane k) v.kept → HasNoWhole f w.kept (ordered_lane k) x.next
+      none_as w same ys whole = q.none ys
+          ((whole_of f v.kept (ordered_lane k) x.next ys).1 (subst (λ (ps : List Piece). IsWholeNumber f ps (ordered_lane k) x.next ys) same ((whole_of f w.kept (ordered_lane k) x.next ys).0 whole)))
 
--- all streams
-pub upto_all : {F : Type 0} (f : Format) (jump : ℕ) (xs : List SkipMeaning) (v r : ReceiverView) (olds now : List (Inbound F)) (held left : ℕ) (t : ReceiverView) → AreToPass f jump xs v r olds held →
-    IsUpTo f v r olds now held left (length olds) t → length now ≡ length olds → ArePassed f t now left
-upto_all {F} f jump xs v r olds now held left t h u size = record {
-  filed = record { each = λ q x got. (u.done q x (within q x got) got).0; there = λ y has. let low = there y has in omega (arith, low, size) };
-  stream = λ q x got. let d = u.done q x (within q x got) got in (d.1, d.2);
-  held = subst (λ (n : ℕ). left ≡ size_of_pieces t.kept + size_of_waiting t.waiting n) (sym size) total;
-}
-  where
-    within : (q : ℕ) (x : Inbound F) → slice_get now q ≡ Some x → q < length olds
-    within q x got = let low = slice_get_within now q x got in omega (arith, low, size)
+      none_more : (ms : List Handed) → ms ++ [] ≡ ms
+      none_more [] = refl
+      none_more (m ∷ ms) = ap (λ (os : List Handed). m ∷ os) (none_more ms)
 
-    there : (y : Piece) → Has t.kept y → y.lane.stream < length olds
-    there y has = h.filed.there y (h.within y (u.within y has))
+      none_go : stay f jump (lowest_after f (unordered_lane k) x.skip xs) (of_lane (unordered_lane k) v.kept) ≡ of_lane (unordered_lane k) v.kept
+      none_go = ap (stay f jump (lowest_after f (unordered_lane k) x.skip xs)) q.loose ∙ sym q.loose
 
-    total : left ≡ size_of_pieces t.kept + size_of_waiting t.waiting (length olds)
-    total =
-        let a = all_sizes (length olds) v.kept h.filed.there in
-        let b = all_sizes (length olds) t.kept there in
-        let sum = u.held in
-        let held_is = h.held in
-        omega (arith, a, b, sum, held_is)
+  module _ (y : Inbound F) (now_left : ℕ) (p : PassesOn f k jump xs (of_lane (ordered_lane k) v.kept) (of_lane (unordered_lane k) v.kept) x y left now_left) where
+    due : IsDue f t k (t.next k) p.messages p.next
+    due = subst (λ (n : ℕ). IsDue f t k n p.messages p.next) (sym next_is) (p.due t view)
+
+    own_after : of_lane (ordered_lane k) (without_below t.kept k p.next) ≡ from_number p.next (of_lane (ordered_lane k) v.kept)
+    own_after = of_below k p.next t.kept ∙ ap (from_number p.next) own
+
+    ordered_off : (q : ℕ) → (q ≡ k → ⊥) → of_lane (ordered_lane q) (without_below t.kept k p.next) ≡ of_lane (ordered_lane q) t.kept
+    ordered_off q other = of_below_other (ordered_lane q) k p.next t.kept (lanes_apart q k other)
+
+    unordered_off : (q : ℕ) → of_lane (unordered_lane q) (without_below t.kept k p.next) ≡ of_lane (unordered_lane q) t.kept
+    unordered_off q = of_below_other (unordered_lane q) k p.next t.kept (kinds_apart q k)
+
+    loose_after : of_lane (unordered_lane k) (without_below t.kept k p.next) ≡ stay f jump (lowest_after f (unordered_lane k) x.skip xs) (of_lane (unordered_lane k) v.kept)
+    loose_after = unordered_off k ∙ u.loose k ∙ h.unordered k x got
+
+    -- the stream itself
+    here : IsFiledOn f (without_below t.kept k p.next) k y
+    here = record {
+      ordered = subst (λ (ps : List Piece). lane.StandsFor f y.ordered (ordered_lane k) ps) (sym own_after) p.ordered;
+      unordered = subst (λ (ps : List Piece). lane.StandsFor f y.unordered (unordered_lane k) ps) (sym loose_after) p.unordered;
+    }
+
+    says : IsStreamOf (handed_ordered t k p.messages p.next) k y
+    says = record {
+      next = at_here t.next k p.next ∙ sym (ap (λ (a : StreamKept). a.next) p.stream);
+      waiting = at_here t.waiting k (t.waiting k ++ p.messages) ∙ ap (λ (ms : List Handed). ms ++ p.messages) waiting_is ∙ sym (ap (λ (a : StreamKept). a.waiting) p.stream);
+    }
+
+    -- one that was done before
+    still : (q : ℕ) (z : Inbound F) → (q ≡ k → ⊥) → IsFiledOn f t.kept q z × IsStreamOf t q z × (t.skip (unordered_lane q) ≡ z.skip) →
+        IsFiledOn f (without_below t.kept k p.next) q z × IsStreamOf (handed_ordered t k p.messages p.next) q z × (t.skip (unordered_lane q) ≡ z.skip)
+    still q z other (on, stream, skip) = (
+      record {
+        ordered = subst (λ (ps : List Piece). lane.StandsFor f z.ordered (ordered_lane q) ps) (sym (ordered_off q other)) on.ordered;
+        unordered = subst (λ (ps : List Piece). lane.StandsFor f z.unordered (unordered_lane q) ps) (sym (unordered_off q)) on.unordered;
+      },
+      record {
+        next = at_elsewhere t.next k p.next q other ∙ stream.next;
+        waiting = at_elsewhere t.waiting k (t.waiting k ++ p.messages) q other ∙ stream.waiting;
+      },
+      skip,
+    )
+
+    -- ---- bytes
+
+    ordered_less : size_of_messages p.messages + size_of_pieces (of_lane (ordered_lane k) (without_below t.kept k p.next)) ≤ size_of_pieces (of_lane (ordered_lane k) v.kept)
+    ordered_less =
+        let all = due_size f t k (t.next k) p.messages p.next due in
+        let a = size_of_lane (ordered_lane k) t.kept in
+        let b = size_of_lane (ordered_lane k) (without_below t.kept k p.next) in
+        let off = ap size_of_pieces (off_below k p.next t.kept) in
+        let same = ap size_of_pieces own in
+        omega (arith, all, a, b, off, same)
+
+    unordered_less : size_of_pieces (of_lane (unordered_lane k) (without_below t.kept k p.next)) ≤ size_of_pieces (of_lane (unordered_lane k) v.kept)
+    unordered_less =
+        let less = filter_size (λ (z : Piece). not (lets_go f z.index z.number jump (lowest_after f (unordered_lane k) x.skip xs))) (of_lane (unordered_lane k) v.kept) in
+        let same = ap size_of_pieces loose_after in
+        omega (arith, less, same)
+
+    fewer : stream_size (without_below t.kept k p.next) k + size_of_messages p.messages ≤ stream_size v.kept k
+    fewer = let o = ordered_less in let w = unordered_less in omega (arith, o, w)
+
+    waits : size_of_waiting (at t.waiting k (t.waiting k ++ p.messages)) (length olds) ≡ size_of_waiting t.waiting (length olds) + size_of_messages p.messages
+    waits = let one = waiting_set t.waiting k (length olds) (t.waiting k ++ p.messages) low in let both = size_append (t.waiting k) p.messages in omega (arith, one, both)
+
+    before_same : sum_to (stream_size (without_below t.kept k p.next)) k ≡ sum_to (stream_size t.kept) k
+    before_same = sum_same (stream_size (without_below t.kept k p.next)) (stream_size t.kept) k
+        (λ q less. let o = ap size_of_pieces (ordered_off q (λ e. omega (arith, less, e))) in let w = ap size_of_pieces (unordered_off q) in omega (arith, o, w))
+
+    counted : now_left + stream_size v.kept k ≡ left + stream_size (without_below t.kept k p.next) k + size_of_messages p.messages
+    counted =
+        let o = ap size_of_pieces own_after in
+        let w = ap size_of_pieces loose_after in
+        let small = h.small in
+        let low_left = under in
+        left_counted left (stream_size v.kept k) (stream_size (without_below t.kept k p.next) k) (size_of_messages p.messages) now_left part fewer (omega (arith, small, low_left))
+        (p.bytes ∙ (λ j. sized (sized (left - sized (stream_size v.kept k) + sized (sym o j + sym w j)) + sized (size_of_messages p.messages))))
+
+    pub upto_next : IsUpTo f v r olds (set now k y) held now_left (suc k) (handed_ordered t k p.messages p.next)
+    upto_next = record {
+      gives = (t, u.gives, (p.messages, p.next, due, refl));
+      done = λ q z less at_q. elim (cases_eq q k) [
+        | inl same ↦
+            let is : y ≡ z = one_got (slice_get (set now k y) k) y z (got_set_same now k y (omega (arith, low, size))) (ap (slice_get (set now k y)) (sym same) ∙ at_q) in
+            let skip = ap (λ (g : Lane → ℕ). g (unordered_lane k)) u.skip ∙ h.skip k x got ∙ sym (ap (λ (a : StreamKept). a.skip) p.stream) in
+            subst (λ (i : ℕ). IsFiledOn f (without_below t.kept k p.next) i z × IsStreamOf (handed_ordered t k p.messages p.next) i z × (t.skip (unordered_lane i) ≡ z.skip)) (sym same)
+            (subst (λ (w : Inbound F). IsFiledOn f (without_below t.kept k p.next) k w × IsStreamOf (handed_ordered t k p.messages p.next) k w × (t.skip (unordered_lane k) ≡ w.skip)) is (here, says, skip))
+        | inr other ↦ still q z other (u.done q z (omega (arith, less, other)) (sym (got_set_other now k q y other) ∙ at_q))
+      ];
+      later = λ q high. got_set_other now k q y (λ e. omega (arith, high, e)) ∙ u.later q (omega (arith, high));
+      kept = λ q high. ordered_off q (λ e. omega (arith, high, e)) ∙ u.kept q (omega (arith, high));
+      loose = λ q. unordered_off q ∙ u.loose q;
+      next = λ q high. at_elsewhere t.next k p.next q (λ e. omega (arith, high, e)) ∙ u.next q (omega (arith, high));
+      waiting = λ q high. at_elsewhere t.waiting k (t.waiting k ++ p.messages) q (λ e. omega (arith, high, e)) ∙ u.waiting q (omega (arith, high));
+      skip = u.skip;
+      within = λ z has. u.within z (filter_has (λ (w : Piece). not (is_below k p.next w)) t.kept z has);
+      held = let sum = u.held in let w = waits in let same = before_same in let c = counted in omega (arith, sum, w, same, c);
+      less = let sum = u.less in let w = waits in let same = before_same in let f = fewer in omega (arith, sum, w, same, f);
+      more = let more = u.more in let w = waits in omega (arith, more, w);
+    }

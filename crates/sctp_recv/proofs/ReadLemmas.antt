@@ -57,7 +57,7 @@ read_at f r v p c i s x n reached late kind is_kind w c_is within at reached_is 
   new = sym reached_is ∙ new;
   low = let all = length-map r.streams.items stream_of in omega (arith, low, s_is, all);
   stream = sym (stream_mapped r.streams.items s x low got) ∙ ap (λ (j : ℕ). stream_at (kept_of r).streams j) s_is;
-  own = subst (λ (q : ℕ). IsFiledOn f v.kept q x) s_is (w.1.each s x (slice_get_read r.streams.items (length r.streams.items) s x refl low got));
+  own = subst (λ (q : ℕ). IsFiledOn f v.kept q x) s_is (w.1.0.each s x (slice_get_read r.streams.items (length r.streams.items) s x refl low got));
   near = subst (λ (q : Kind). n ≡ number_near f q p.number (reference_of (stream_of x) q)) is_kind near;
   is_late = subst (λ (q : Kind). late ≡ (is_numbered f q && is_below_or_none (reference_of (stream_of x) q) n)) is_kind late_is;
 }

@@ -1,5 +1,5 @@
 -- What contracts see of a receiver: what it keeps, without where it lies in memory.
-use Rattle.std.specs.Prelude.{ℕ, Bool, true, false, nat_lt, Option, None, Some, List, [], slice_index_or}
+use Rattle.std.specs.Prelude.{ℕ, Bool, true, nat_lt, Option, None, Some, List, [], slice_index_or}
 use Rattle.sctp_model.specs.messages.Format.{Kind, Ordered, Unordered}
 use Rattle.sctp_model.specs.receiver.ReceiverView.{Handed}
 use Rattle.sctp_recv.specs.SeenKept.{SeenKept}

@@ -1,11 +1,12 @@
 -- Which receiver stands for which view.
-use Rattle.std.specs.Prelude.{◌≡◌, ℕ, suc, ◌^◌, ◌<◌, ◌≤◌, true, Some, length}
+use Rattle.std.specs.Prelude.{◌≡◌, ℕ, suc, ◌^◌, ◌<◌, ◌≤◌, true, List, Some, length}
+use Rattle.std.specs.List.{Contains}
 use Rattle.sctp_model.specs.numbers.Lists.{Has}
 use Rattle.sctp_model.specs.numbers.Serial.{COUNTS}
-use Rattle.sctp_model.specs.messages.Format.{Format, ordered_lane, unordered_lane}
+use Rattle.sctp_model.specs.messages.Format.{Format, Unordered, ordered_lane, unordered_lane}
 use Rattle.sctp_model.specs.messages.Pieces.{Piece}
 use Rattle.sctp_model.specs.receiver.ReceiverView.{ReceiverView, held_bytes}
-use Rattle.sctp_model.specs.receiver.Laws.{IsFilledOnce}
+use Rattle.sctp_model.specs.receiver.Laws.{IsFilledOnce, IsAtRest}
 use Rattle.sctp_recv.specs.ReceiverKept.{ReceiverKept, stream_at}
 use Rattle.sctp_recv.specs.SeenStands.{SeenStands}
 use Rattle.sctp_recv.specs.KeptOf.{kept_of}
@@ -34,6 +35,14 @@ pub record KeepsView (f : Format) (k : ReceiverKept) (v : ReceiverView) : Type 0
   pub initial : v.initial ≡ k.initial
   pub buffer : v.buffer ≡ k.buffer
 
--- the receiver stands for this view
+-- the receiver keeps what the view says
+abbrev pub Stands : {F : Type 0} → Format → Receiver F → ReceiverView → Type 0
+Stands f r v = KeepsView f (kept_of r) v × AreFiled f v.kept r.streams.items
+
+-- the streams of all unordered chunks that are kept are listed
+abbrev pub AreListed : List Piece → List ℕ → Type 0
+AreListed kept streams = (x : Piece) → Has kept x → x.lane.kind ≡ Unordered → Contains streams x.lane.stream
+
+-- the receiver stands for this view, which is at rest
 unfoldable pub StandsFor : {F : Type 0} → Format → Receiver F → ReceiverView → Type 0
-StandsFor f r v = KeepsView f (kept_of r) v × AreFiled f v.kept r.streams.items
+StandsFor f r v = KeepsView f (kept_of r) v × (AreFiled f v.kept r.streams.items × (IsAtRest f v × AreListed v.kept r.loose.items))

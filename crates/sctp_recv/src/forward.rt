@@ -1,7 +1,9 @@
 //! A FORWARD: its sender gave up all that is missing up to an index, and names the messages that are waited for in vain
 //! (RFC 3758, 3.6; RFC 8260, 2.3).
 
-ghost use Rattle.std.specs.Prelude.{◌≡◌, ℕ, ◌<◌, ◌^◌, false, map, length, IfOk, OnOk, OnErr};
+ghost use Rattle.std.specs.Prelude.{◌≡◌, ℕ, false, map, length, IfOk, OnOk, OnErr};
+ghost use Rattle.std.specs.List.{Contains};
+ghost use Rattle.std.specs.List.Sorted.{IsNonDecreasing};
 ghost use Rattle.sctp_model.specs.receiver.ReceiverView.{ReceiverView, IsCumulative};
 ghost use Rattle.sctp_model.specs.receiver.Receiving.{GivesAll};
 ghost use Rattle.sctp_model.specs.receiver.Reading.{lane_of};
@@ -14,8 +16,8 @@ ghost use Rattle.sctp_chains.specs.StandsFor as lane;
 ghost use Rattle.sctp_recv.specs.AnswerOf.{forward_answer_of};
 ghost use Rattle.sctp_recv.specs.Fields.{stream_of, lane_at};
 ghost use Rattle.sctp_recv.specs.Filed.{AreFiled};
-ghost use Rattle.sctp_recv.specs.StandsFor.{StandsFor};
-ghost use Rattle.sctp_recv.specs.inner.Forwarding.{skipped_by, lowest_after, HaveRoom, PassesOn, AreToPass, ArePassed};
+ghost use Rattle.sctp_recv.specs.StandsFor.{Stands, StandsFor};
+ghost use Rattle.sctp_recv.specs.inner.Forwarding.{skipped_by, lowest_after, IsTouched, HaveRoom, AreQuiet, PassesOn, AreToPass, ArePassed};
 ghost use Rattle.sctp_recv.specs.inner.Giving.{HasRoom, AreCounted};
 ghost use Rattle.sctp_recv.specs.inner.Rows.{IsAbove};
 
@@ -26,6 +28,7 @@ use crate::receiver::Receiver;
 use sctp_framing::Framing;
 use sctp_values::{Kind, NoMemory};
 use sctp_wire::{Forward, Skip, Skips};
+use std::alloc::Global;
 
 /// What was done with a FORWARD.
 #[derive(Clone, Copy, Debug, PartialEq, Eq)]
@@ -81,17 +84,36 @@ fn lowest_after<F: Framing>(skips: &Skips<'_>, stream: u16, kind: Kind, referenc
     lowest
 }
 
-/// Makes room on each stream for the messages that may be handed over.
+/// The streams that a FORWARD may change, in rising order: those that it names, and those on which a part of an unordered message came.
 ///
 /// # Errors
 /// Memory ran out.
-fn make_rooms<F: Framing>(streams: &mut Vec<Inbound<F>>) -> Result<(), NoMemory>
+fn touched_by(alloc: Global, loose: &[u16], skips: &Skips<'_>) -> Result<Vec<u16>, NoMemory>
+    ensures rising { IfOk result (λ streams. IsNonDecreasing streams.items) }
+    ensures named { IfOk result (λ streams. (s : ℕ) → IsTouched s loose.now skips.now.skips → Contains streams.items s) }
+{
+    let mut streams = Vec::from_slice(alloc, loose).map_err(|_| NoMemory)?;
+    for skip in skips.iter() {
+        streams.push(skip.stream).map_err(|_| NoMemory)?;
+    }
+    streams.sort_unstable();
+    Ok(streams)
+}
+
+/// Makes room on each of these streams for the messages that may be handed over.
+///
+/// # Errors
+/// Memory ran out.
+fn make_rooms<F: Framing>(streams: &mut Vec<Inbound<F>>, touched: &[u16]) -> Result<(), NoMemory>
     ensures same { map stream_of streams.new.items ≡ map stream_of streams.old.items }
     ensures filed { (kept : Kept) → AreFiled F.format kept streams.old.items → AreFiled F.format kept streams.new.items }
-    ensures room { OnOk result (HaveRoom streams.new.items) }
+    ensures room { OnOk result (HaveRoom touched.now (length touched.now) streams.new.items) }
 {
-    for at in 0..streams.len() {
-        make_room(&mut streams[at])?;
+    for at in 0..touched.len() {
+        let place = usize::from(touched[at]);
+        if place < streams.len() {
+            make_room(&mut streams[place])?;
+        }
     }
     Ok(())
 }
@@ -118,21 +140,28 @@ fn pass_on<F: Framing>(
         .saturating_add(given)
 }
 
-/// The same on every stream.
+/// The same on each of these streams, which rise.
 fn pass_on_all<F: Framing>(
     streams: &mut Vec<Inbound<F>>,
+    touched: &[u16],
     skips: &Skips<'_>,
     jump: u32,
     held: u32,
 ) -> u32
     ensures count { length streams.new.items ≡ length streams.old.items }
-    ensures passed { (v r : ReceiverView) → AreToPass F.format jump skips.now.skips v r streams.old.items held → length streams.old.items < 2 ^ 16
+    ensures passed { (v r : ReceiverView) → AreToPass F.format jump skips.now.skips v r streams.old.items held → HaveRoom touched.now (length touched.now) streams.old.items
+        → IsNonDecreasing touched.now → AreQuiet F.format jump skips.now.skips v touched.now streams.old.items
         → (t : ReceiverView) × GivesAll F.format (length streams.old.items) r t × ArePassed F.format t streams.new.items result }
 {
     let mut left = held;
-    let count = u16::try_from(streams.len()).unwrap_or(u16::MAX);
-    for stream in 0..count {
-        left = pass_on(&mut streams[usize::from(stream)], stream, skips, jump, left);
+    let mut next: usize = 0;
+    for at in 0..touched.len() {
+        let stream = touched[at];
+        let place = usize::from(stream);
+        if next <= place && place < streams.len() {
+            left = pass_on(&mut streams[place], stream, skips, jump, left);
+            next = place + 1;
+        }
     }
     left
 }
@@ -169,11 +198,13 @@ impl<F: Framing> Receiver<F> {
     fn pass_to(&mut self, index: u32, skips: &Skips<'_>) -> Result<(), NoMemory>
         ensures passed { (v : ReceiverView) → StandsFor F.format self.old v → (x : ForwardMeaning) → x.skips ≡ skips.now.skips
             → IsAbove self.old.initial self.old.seen.kept.cumulative x.cumulative index → names_other_stream (length self.old.streams.items) x.skips ≡ false
-            → OnOk result ((t : ReceiverView) × GivesAll F.format v.streams (forwarded F.format v self.old.seen.kept.cumulative x) t × StandsFor F.format self.new t) }
+            → OnOk result ((t : ReceiverView) × GivesAll F.format v.streams (forwarded F.format v self.old.seen.kept.cumulative x) t × Stands F.format self.new t) }
+        ensures loose { self.new.loose ≡ self.old.loose }
         ensures refused { (v : ReceiverView) → StandsFor F.format self.old v → OnErr result (StandsFor F.format self.new v) }
     {
-        make_rooms(&mut self.streams)?;
-        self.held = pass_on_all(&mut self.streams, skips, index, self.held);
+        let touched = touched_by(self.alloc, &self.loose, skips)?;
+        make_rooms(&mut self.streams, &touched)?;
+        self.held = pass_on_all(&mut self.streams, &touched, skips, index, self.held);
         self.seen.jump(index);
         Ok(())
     }

@@ -1,6 +1,7 @@
 //! A data chunk comes: the first row that fits it is its answer, and that is done (RFC 9260, 6.2 and 6.6; RFC 8260, 2.2).
 
-ghost use Rattle.std.specs.Prelude.{◌≡◌, ℕ, IfOk, OnOk, OnErr};
+ghost use Rattle.std.specs.Prelude.{◌≡◌, ℕ, true, false, ◌&&◌, IfOk, OnOk, OnErr};
+ghost use Rattle.std.specs.List.{Contains};
 ghost use Rattle.sctp_model.specs.receiver.ReceiverView.{ReceiverView, IsCumulative};
 ghost use Rattle.sctp_model.specs.receiver.Receiving.{TakesPiece};
 ghost use Rattle.sctp_model.specs.receiver.Reading.{index_at, piece_at};
@@ -8,7 +9,7 @@ ghost use Rattle.sctp_model.specs.receiver.PieceTaken.{PieceTaken, answer_to};
 ghost use Rattle.sctp_wire.specs.ChunkTree.{piece_meaning};
 ghost use Rattle.sctp_recv.specs.AnswerOf.{answer_of, NeedsMemory};
 ghost use Rattle.sctp_recv.specs.KeptOf.{kept_of};
-ghost use Rattle.sctp_recv.specs.StandsFor.{StandsFor};
+ghost use Rattle.sctp_recv.specs.StandsFor.{Stands, StandsFor};
 ghost use Rattle.sctp_recv.specs.inner.Rows.{IsRowOf, IsWanted};
 
 use crate::answer::{Answer, Row, TsnPlace, place_of_tsn};
@@ -17,6 +18,23 @@ use crate::receiver::Receiver;
 use sctp_framing::Framing;
 use sctp_values::{Kind, NoMemory};
 use sctp_wire::Piece;
+
+/// Lists the stream of an unordered message's part among those on which one came, unless it is there.
+///
+/// # Errors
+/// Memory ran out, and nothing changed.
+fn list(loose: &mut Vec<u16>, piece: &Piece<'_>) -> Result<(), NoMemory>
+    ensures more { (s : ℕ) → Contains loose.old.items s → Contains loose.new.items s }
+    ensures listed { OnOk result (piece.now.unordered ≡ true → (piece.now.begin && piece.now.end) ≡ false → Contains loose.new.items piece.now.stream) }
+{
+    if !piece.unordered || (piece.begin && piece.end) {
+        return Ok(());
+    }
+    if let Err(at) = loose.binary_search(&piece.stream) {
+        loose.insert(at, piece.stream).map_err(|_| NoMemory)?;
+    }
+    Ok(())
+}
 
 #[tactic(auto, unfolding(crate::specs::StandsFor::StandsFor))]
 impl<F: Framing> Receiver<F> {
@@ -47,6 +65,7 @@ impl<F: Framing> Receiver<F> {
             }
             Row::NoRoom => Ok(Answer::NoRoom),
             Row::Taken { index, number } => {
+                list(&mut self.loose, piece)?;
                 self.keep(piece, index, number)?;
                 Ok(Answer::Taken)
             }
@@ -88,7 +107,8 @@ impl<F: Framing> Receiver<F> {
     /// Memory ran out, and nothing changed.
     fn keep(&mut self, piece: &Piece<'_>, index: u32, number: Option<u32>) -> Result<(), NoMemory>
         ensures kept { (v : ReceiverView) → StandsFor F.format self.old v → IsWanted F.format (kept_of self.old) v (piece_meaning piece.now) index number
-            → OnOk result ((t : ReceiverView) × TakesPiece F.format v (piece_at F.format v self.old.seen.kept.cumulative (piece_meaning piece.now)) t × StandsFor F.format self.new t) }
+            → OnOk result ((t : ReceiverView) × TakesPiece F.format v (piece_at F.format v self.old.seen.kept.cumulative (piece_meaning piece.now)) t × Stands F.format self.new t) }
+        ensures loose { self.new.loose ≡ self.old.loose }
         ensures refused { (v : ReceiverView) → StandsFor F.format self.old v → OnErr result (StandsFor F.format self.new v) }
     {
         let stream = usize::from(piece.stream);

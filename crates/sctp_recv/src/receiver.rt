@@ -25,13 +25,15 @@ use std::alloc::Global;
 /// The receiving end, in one format of user data.
 #[derive(Drop)]
 pub struct Receiver<F: Framing> {
-    alloc: Global,
+    pub(crate) alloc: Global,
     pub(crate) initial: u32,
     pub(crate) buffer: u32,
     pub(crate) held: u32,
     pub(crate) seen: Seen,
     pub(crate) streams: Vec<Inbound<F>>,
     pub(crate) duplicates: Duplicates,
+    /// Rising: the streams on which a part of an unordered message came.
+    pub(crate) loose: Vec<u16>,
 }
 
 #[tactic(auto, unfolding(crate::specs::StandsFor::StandsFor))]
@@ -57,6 +59,7 @@ impl<F: Framing> Receiver<F> {
             seen: Seen::new(alloc),
             streams,
             duplicates: Duplicates::new(alloc),
+            loose: Vec::new(alloc),
         })
     }
 

@@ -1,11 +1,13 @@
 -- What a FORWARD does on each stream (RFC 3758, 3.6; RFC 8260, 2.3).
-use Rattle.std.specs.Prelude.{◌≡◌, ℕ, suc, ◌+◌, ◌-◌, ◌^◌, ◌<◌, max, not, if◌then◌else◌, List, [], ◌∷◌, ◌++◌, length, filter, slice_get, Option, None, Some}
+use Rattle.std.specs.Prelude.{◌≡◌, ℕ, suc, ◌+◌, ◌-◌, ◌^◌, ◌<◌, ◌⊎◌, max, not, if◌then◌else◌, List, [], ◌∷◌, ◌++◌, length, filter, slice_get, Option, None, Some}
+use Rattle.std.specs.List.{Contains}
 use Rattle.sctp_model.specs.numbers.Lists.{Has}
 use Rattle.sctp_model.specs.wire.Chunk.{SkipMeaning}
 use Rattle.sctp_model.specs.messages.Format.{Format, Lane, same_lane, ordered_lane, unordered_lane}
 use Rattle.sctp_model.specs.messages.Framing.{number_near, lets_go}
 use Rattle.sctp_model.specs.messages.Pieces.{Piece}
 use Rattle.sctp_model.specs.receiver.ReceiverView.{Handed, ReceiverView, size_of_pieces, size_of_messages, size_of_waiting}
+use Rattle.sctp_model.specs.receiver.Receiving.{HasNoWhole}
 use Rattle.sctp_model.specs.receiver.Reading.{lane_of}
 use Rattle.sctp_chains.specs.StandsFor as lane
 use Rattle.sctp_chains.specs.WholeOf.{from_number}
@@ -42,9 +44,25 @@ lowest_after f l reference xs = max reference (most_skipped f l reference xs)
 abbrev pub stay : Format → (jump skip : ℕ) → List Piece → List Piece
 stay f jump skip kept = filter (λ (x : Piece). not (lets_go f x.index x.number jump skip)) kept
 
--- there is room on each stream for the messages that its ordered chunks may make
-abbrev pub HaveRoom : {F : Type 0} → List (Inbound F) → Type 0
-HaveRoom {F} streams = (s : ℕ) (x : Inbound F) → slice_get streams s ≡ Some x → HasRoom x 0
+-- the FORWARD names the stream, or it is one of these
+abbrev pub IsTouched : (s : ℕ) → List ℕ → List SkipMeaning → Type 0
+IsTouched s loose xs = Contains loose s ⊎ ((x : SkipMeaning) × Has xs x × (x.stream ≡ s))
+
+-- on so many of these streams there is room for the messages that their ordered chunks may make
+abbrev pub HaveRoom : {F : Type 0} → (touched : List ℕ) → ℕ → List (Inbound F) → Type 0
+HaveRoom {F} touched n streams = (i s : ℕ) (x : Inbound F) → i < n → slice_get touched i ≡ Some s → slice_get streams s ≡ Some x → HasRoom x 0
+
+-- On a stream nothing is skipped, nothing is due, and nothing goes.
+pub record IsQuiet {F : Type 0} (f : Format) (jump : ℕ) (xs : List SkipMeaning) (v : ReceiverView) (q : ℕ) (x : Inbound F) : Type 0 where
+  pub ordered : lowest_after f (ordered_lane q) x.next xs ≡ x.next
+  pub unordered : lowest_after f (unordered_lane q) x.skip xs ≡ x.skip
+  pub none : HasNoWhole f v.kept (ordered_lane q) x.next
+  pub clear : from_number x.next (of_lane (ordered_lane q) v.kept) ≡ of_lane (ordered_lane q) v.kept
+  pub loose : of_lane (unordered_lane q) v.kept ≡ []
+
+-- on none but these streams
+abbrev pub AreQuiet : {F : Type 0} → Format → (jump : ℕ) → List SkipMeaning → ReceiverView → (touched : List ℕ) → List (Inbound F) → Type 0
+AreQuiet {F} f jump xs v touched streams = (q : ℕ) (x : Inbound F) → slice_get streams q ≡ Some x → (Contains touched q → ⊥) → IsQuiet f jump xs v q x
 
 -- What is due once its numbers are skipped waits for the user; what is left behind, or below the number that is waited for then, is gone.
 pub record PassesOn {F : Type 0} (f : Format) (s jump : ℕ) (xs : List SkipMeaning) (os us : List Piece) (old new : Inbound F) (held left : ℕ) : Type 0 where
@@ -68,7 +86,6 @@ pub record IsStreamOf {F : Type 0} (v : ReceiverView) (q : ℕ) (x : Inbound F) 
 pub record AreToPass {F : Type 0} (f : Format) (jump : ℕ) (xs : List SkipMeaning) (v r : ReceiverView) (streams : List (Inbound F)) (bytes : ℕ) : Type 0 where
   pub filed : AreFiled f v.kept streams
   pub counted : AreCounted v.kept
-  pub room : HaveRoom streams
   pub stream : (q : ℕ) (x : Inbound F) → slice_get streams q ≡ Some x → IsStreamOf v q x
   pub ordered : (q : ℕ) → of_lane (ordered_lane q) r.kept ≡ of_lane (ordered_lane q) v.kept
   pub unordered : (q : ℕ) (x : Inbound F) → slice_get streams q ≡ Some x →

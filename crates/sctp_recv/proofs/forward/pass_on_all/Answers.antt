@@ -1,6 +1,5 @@
-use Rattle.std.proofs.Common.{◌≡◌, ℕ, suc, ◌+◌, ◌<◌, length, set, Some, refl, sym, ◌∙◌, subst, arith}
-use Rattle.std.specs.Prelude.{slice_get}
-use Rattle.std.proofs.lemmas.Grind.{common_steps}
+use Rattle.std.proofs.Common.{◌≡◌, ℕ, suc, ◌+◌, ◌<◌, length, set, Some, inl, inr, refl, sym, ◌∙◌, subst, arith}
+use Rattle.std.specs.Prelude.{slice_get, slice_index_or}
 use Rattle.std.proofs.lemmas.List.{length-set}
 use Rattle.std.proofs.lemmas.Option.{slice_get_read}
 use Rattle.sctp_model.specs.messages.Format.{ordered_lane, unordered_lane}
@@ -9,46 +8,80 @@ use Rattle.sctp_model.proofs.receiver.OfLane.{of_says}
 use Rattle.sctp_chains.specs.StandsFor as lane
 use Rattle.sctp_model.specs.receiver.KeptOfLane.{of_lane}
 use Rattle.sctp_recv.specs.inner.Forwarding.{PassesOn}
-use Rattle.sctp_recv.proofs.PassLemmas.{IsUpTo, upto_first, upto_next, upto_all}
+use Rattle.sctp_recv.proofs.TouchedLemmas.{got_at, below_more, between, behind_all}
+use Rattle.sctp_recv.proofs.PassLemmas.{IsUpTo, upto_first, upto_next}
+use Rattle.sctp_recv.proofs.QuietLemmas.{upto_to, upto_all}
 use Rattle.sctp_recv.proofs.forward.pass_on_all.Goals as goal
+use Rattle.sctp_recv.proofs.forward.pass_on_all.Goals.{then-next-place+then-place-len, else-next-place, else-next-place-via-then-next-place+else-place-len, else-next-place-via-else-next-place}
 
-pub loop-stream-init : goal.loop-stream-init
-loop-stream-init g c = record { size = refl; upto = λ v r h. (r, upto_first g.F.Framing.format c.args.jump c.args.skips.now.skips v r c.args.streams.now.items c.args.held h) }
+pub loop-at-init : goal.loop-at-init
+loop-at-init g c = record {
+  size = refl;
+  within = omega arith;
+  below = λ i s low got. absurd (omega (arith, low));
+  upto = λ v r h room rising quiet. (r, upto_first g.F.Framing.format c.args.jump c.args.skips.now.skips v r c.args.streams.now.items c.args.held h);
+}
 
-pub loop-stream-preserved : goal.loop-stream-preserved
-loop-stream-preserved g c =
+pub loop-at-preserved : goal.loop-at-preserved
+loop-at-preserved g c =
     let f = g.F.Framing.format in
     let olds = c.args.streams.now.items in
-    let items = c.loop-stream.streams.items in
-    let k = c.from.result in
-    let inv = c.loop-stream.invariant in
-    let x = c.index_mut.result.now in
-    let y = c.pass_on-left.new.inbound in
-    let low : k < length items = grind (arith, common_steps) in
-    let same : c.loop-stream.stream ≡ k = sym c.from.ensures in
-    let got_now : slice_get items k ≡ Some x = slice_get_read items (length items) k x refl low c.index_mut.ensures.value in
-    record {
-      size = length-set items k y ∙ inv.size;
-      upto = λ v r h.
-          let m = inv.upto v r h in
-          let u = subst (λ (q : ℕ). IsUpTo f v r olds items c.args.held c.loop-stream.left q m.0) same m.1 in
-          let got : slice_get olds k ≡ Some x = sym (u.later k (omega arith)) ∙ got_now in
-          let filed = h.filed.each k x got in
-          let p = subst (λ (q : ℕ). PassesOn f q c.args.jump c.args.skips.now.skips (of_lane (ordered_lane q) v.kept) (of_lane (unordered_lane q) v.kept) x y c.loop-stream.left c.pass_on-left.result) same
-          (c.pass_on-left.ensures (of_lane (ordered_lane c.loop-stream.stream) v.kept) (of_lane (unordered_lane c.loop-stream.stream) v.kept)
-          (subst (λ (q : ℕ). lane.StandsFor f x.ordered (ordered_lane q) (of_lane (ordered_lane q) v.kept)) (sym same) filed.ordered)
-          (subst (λ (q : ℕ). lane.StandsFor f x.unordered (unordered_lane q) (of_lane (unordered_lane q) v.kept)) (sym same) filed.unordered)
-          (λ z n has number. h.counted z n (of_says (ordered_lane c.loop-stream.stream) v.kept z has).0 number) (h.room k x got)) in
-          let next = upto_next f c.args.jump c.args.skips.now.skips v r olds items c.args.held c.loop-stream.left k m.0 h u x y (omega (arith, low, inv.size)) inv.size got c.pass_on-left.result p in
-          let at_next : suc k ≡ c.loop-stream.stream + 1 = omega (arith, same) in
-          (handed_ordered m.0 k p.messages p.next, subst (λ (q : ℕ). IsUpTo f v r olds (set items k y) c.args.held c.pass_on-left.result q (handed_ordered m.0 k p.messages p.next)) at_next next);
-    }
+    let items = c.loop-at.streams.items in
+    let touched = c.args.touched.now in
+    let i = c.loop-at.at in
+    let k = c.from-place.result in
+    let inv = c.loop-at.invariant in
+    let stream = slice_index_or touched i 0 in
+    let same : stream ≡ k = sym c.from-place.ensures in
+    let here : slice_get touched i ≡ Some k = got_at touched i k 0 c.loop-at-test.true c.from-place.ensures in
+    elim c.if-next-place.branch [
+      | then-next-place+then-place-len w ↦
+          let x = w.index_mut.result.now in
+          let y = w.pass_on-left.new.inbound in
+          let low : k < length items = omega (arith, w.if-place-len.true, w.len.ensures, c.loop-at.streams.ok) in
+          let got_now : slice_get items k ≡ Some x = slice_get_read items (length items) k x refl low w.index_mut.ensures.value in
+          rw (w.streams-is, w.left-is, w.next-is) (record {
+            size = length-set items k y ∙ inv.size;
+            within = omega (arith, low, inv.size);
+            below = below_more touched i c.loop-at.next (k + 1) (length olds) k inv.below here (omega (arith, w.if-next-place.true)) (inl (omega arith));
+            upto = λ v r h room rising quiet.
+                let m = inv.upto v r h room rising quiet in
+                let n = upto_to f c.args.jump c.args.skips.now.skips v r olds items c.args.held c.loop-at.left h inv.size c.loop-at.next k m.0 (omega (arith, w.if-next-place.true)) (omega (arith, low, inv.size))
+                (λ q z past less at_q. quiet q z at_q (between touched i c.loop-at.next (length olds) k q inv.below rising here past less (omega (arith, less, low, inv.size)))) m.1 in
+                let got : slice_get olds k ≡ Some x = sym (n.1.later k (omega arith)) ∙ got_now in
+                let filed = h.filed.each k x got in
+                let p = subst (λ (q : ℕ). PassesOn f q c.args.jump c.args.skips.now.skips (of_lane (ordered_lane q) v.kept) (of_lane (unordered_lane q) v.kept) x y c.loop-at.left w.pass_on-left.result) same
+                (w.pass_on-left.ensures (of_lane (ordered_lane stream) v.kept) (of_lane (unordered_lane stream) v.kept)
+                (subst (λ (q : ℕ). lane.StandsFor f x.ordered (ordered_lane q) (of_lane (ordered_lane q) v.kept)) (sym same) filed.ordered)
+                (subst (λ (q : ℕ). lane.StandsFor f x.unordered (unordered_lane q) (of_lane (unordered_lane q) v.kept)) (sym same) filed.unordered)
+                (λ z n has number. h.counted z n (of_says (ordered_lane stream) v.kept z has).0 number) (room i k x c.loop-at-test.true here got)) in
+                let next = upto_next f c.args.jump c.args.skips.now.skips v r olds items c.args.held c.loop-at.left k n.0 h n.1 x (omega (arith, low, inv.size)) inv.size got y w.pass_on-left.result p in
+                let at_next : suc k ≡ k + 1 = omega arith in
+                (handed_ordered n.0 k p.messages p.next, subst (λ (q : ℕ). IsUpTo f v r olds (set items k y) c.args.held w.pass_on-left.result q (handed_ordered n.0 k p.messages p.next)) at_next next);
+          })
+      | else-next-place w ↦
+          rw (w.streams-is, w.left-is, w.next-is) (record {
+            size = inv.size;
+            within = inv.within;
+            below = below_more touched i c.loop-at.next c.loop-at.next (length olds) k inv.below here (omega arith) (elim w.else-next-place.branch [
+              | else-next-place-via-then-next-place+else-place-len u ↦ inr (omega (arith, u.if-place-len.false, u.len.ensures, c.loop-at.streams.ok, inv.size))
+              | else-next-place-via-else-next-place u ↦ inl (omega (arith, u.if-next-place.false))
+            ]);
+            upto = inv.upto;
+          })
+    ]
+
+pub returns-clause-count : goal.returns-clause-count
+returns-clause-count g c = c.loop-at.invariant.size
 
 pub returns-clause-passed : goal.returns-clause-passed
-returns-clause-passed g c = λ v r h few.
+returns-clause-passed g c = λ v r h room rising quiet.
     let f = g.F.Framing.format in
     let olds = c.args.streams.now.items in
-    let m = c.loop-stream.invariant.upto v r h in
-    let all : c.loop-stream.stream ≡ length olds = grind (arith, common_steps) in
-    let u = subst (λ (q : ℕ). IsUpTo f v r olds c.loop-stream.streams.items c.args.held c.loop-stream.left q m.0) all m.1 in
-    (m.0, u.gives, upto_all f c.args.jump c.args.skips.now.skips v r olds c.loop-stream.streams.items c.args.held c.loop-stream.left m.0 h u c.loop-stream.invariant.size)
+    let items = c.loop-at.streams.items in
+    let touched = c.args.touched.now in
+    let inv = c.loop-at.invariant in
+    let m = inv.upto v r h room rising quiet in
+    let n = upto_to f c.args.jump c.args.skips.now.skips v r olds items c.args.held c.loop-at.left h inv.size c.loop-at.next (length olds) m.0 inv.within (omega arith)
+    (λ q z past less at_q. quiet q z at_q (behind_all touched c.loop-at.at c.loop-at.next (length olds) q inv.below (omega (arith, c.loop-at-test.false)) past less)) m.1 in
+    (n.0, n.1.gives, upto_all f c.args.jump c.args.skips.now.skips v r olds items c.args.held c.loop-at.left n.0 h n.1 inv.size)

@@ -1,6 +1,6 @@
-use Rattle.std.proofs.Common.{◌≡◌, ℕ, List, sym, subst, arith}
+use Rattle.std.proofs.Common.{sym, subst, arith}
 use Rattle.std.specs.List.{AllByRecursion}
-use Rattle.sctp_wire.specs.Items.{words_in, IsWord}
+use Rattle.sctp_wire.specs.Items.{IsWord}
 use Rattle.sctp_recv.proofs.WireLemmas.{no_words}
 use Rattle.sctp_recv.proofs.duplicates.Duplicates.put.Goals as goal
 

@@ -42,7 +42,7 @@ returns-in_err-given-clause-refused g c = λ v w.
     let chunks = c.in_err-given.ensures.refused.1 in
     if_err c.from_residual-in_err-given.result (
       keeps_same g.F.Framing.format (kept_of c.args.self.now) v c.reserve.new.self.kept _ w.0 c.reserve.ensures.same same,
-      filed_same g.F.Framing.format v.kept items c.from-stream.result c.index_mut-inbound.result.now c.keep_in.new.inbound w.1 l got chunks.0 chunks.1,
+      (filed_same g.F.Framing.format v.kept items c.from-stream.result c.index_mut-inbound.result.now c.keep_in.new.inbound w.1.0 l got chunks.0 chunks.1, w.1.1),
     )
 
 pub returns-clause-kept : goal.returns-clause-kept
@@ -78,7 +78,7 @@ returns-clause-kept g c = λ v w want.
       stream = want.stream;
       fits = want.fits;
     } in
-    let filed = w.1.each s old got in
+    let filed = w.1.0.each s old got in
     let kept = of_lane (lane_of s p.unordered) v.kept in
     let fresh : IsNew f (lane_of s p.unordered) kept y = subst (λ (z : Piece). IsNew f (lane_of s p.unordered) kept z) (sym is)
     (chunk_new f k v x seen able (subst (λ (z : Piece). IsOf f (lane_of s p.unordered) z) is want.of)) in
@@ -92,7 +92,7 @@ returns-clause-kept g c = λ v w want.
     c.kept_bytes-before.ensures (ordered_lane s) (unordered_lane s) (of_lane (ordered_lane s) v.kept) (of_lane (unordered_lane s) v.kept) filed.ordered filed.unordered in
     let held = c.saturating_add-self.ensures ∙ (λ j. sized (c.saturating_add.ensures j + c.in_ok-given.given)) ∙ (λ j. sized (sized (c.saturating_sub.ensures j + c.kept_bytes.result) + c.in_ok-given.given))
     ∙ (λ j. sized (sized (k.held - before j + c.kept_bytes.result) + c.in_ok-given.given)) in
-    let m = keeps_taken_in f k v x seen able items s old new refl w.1 got low refl p.unordered c.in_ok-given.given c.saturating_add-self.result c.kept_bytes.result refl gives
+    let m = keeps_taken_in f k v x seen able items s old new refl w.1.0 got low refl p.unordered c.in_ok-given.given c.saturating_add-self.result c.kept_bytes.result refl gives
     (λ ks on. c.kept_bytes.ensures (ordered_lane s) (unordered_lane s) (of_lane (ordered_lane s) ks) (of_lane (unordered_lane s) ks) on.ordered on.unordered) held in
     let there = subst (λ (q : ℕ). KeepsView f (record k { seen = seen; streams = set k.streams q (stream_of new); held = c.saturating_add-self.result }) m.0) (sym c.from-stream.ensures) m.2.0 in
     let files = subst (λ (q : ℕ). AreFiled f m.0.kept (set items q new)) (sym c.from-stream.ensures) m.2.1 in

@@ -1,3 +1,4 @@
+use Rattle.sctp_model.proofs.receiver.AtRest.{fresh_at_rest}
 use Rattle.sctp_recv.specs.StandsFor.{StandsFor}
 use Rattle.sctp_recv.proofs.ReceiverSteps.{keeps_fresh}
 use Rattle.sctp_recv.proofs.receiver.Receiver.new.Goals as goal
@@ -6,5 +7,5 @@ pub returns : goal.returns
 unfolding StandsFor
 returns g c = (
   rw c.new-2.ensures (keeps_fresh g.F.Framing.format c.new.result.kept _ c.args.initial_tsn c.args.streams c.args.buffer c.new.ensures c.in_ok-streams.ensures.streams c.ranges.streams.fits c.ranges.buffer.fits),
-  c.in_ok-streams.ensures.filed,
+  (c.in_ok-streams.ensures.filed, (fresh_at_rest g.F.Framing.format c.args.initial_tsn c.args.streams c.args.buffer, λ x has kind. absurd has)),
 )

@@ -1,11 +1,17 @@
 use Rattle.std.proofs.Common.{ℕ, suc, ◌<◌, List, length, refl, sym, subst, ◌∙◌}
 use Rattle.sctp_model.specs.numbers.Limits.{DUPLICATE_LIMIT}
 use Rattle.sctp_recv.proofs.ResultLemmas.{if_err}
-use Rattle.sctp_model.specs.receiver.Reading.{index_at}
+use Rattle.sctp_model.specs.receiver.Reading.{index_at, piece_at}
 use Rattle.sctp_wire.specs.ChunkTree.{piece_meaning}
 use Rattle.sctp_recv.specs.AnswerOf.{NeedsMemory}
 use Rattle.sctp_recv.specs.KeptOf.{kept_of}
-use Rattle.sctp_recv.specs.StandsFor.{StandsFor}
+use Rattle.sctp_recv.specs.StandsFor.{AreListed, StandsFor}
+use Rattle.std.specs.declared.vec.Vec.{Vec}
+use Rattle.std.specs.declared.alloc.Global.{Global}
+use Rattle.sctp_model.specs.receiver.Receiving.{recorded}
+use Rattle.sctp_model.specs.receiver.PieceTaken.{Duplicate, NoSuchStream, Passed, Kept, noted, PieceTaken}
+use Rattle.sctp_model.proofs.receiver.AtRest.{piece_at_rest}
+use Rattle.sctp_recv.proofs.RestLemmas.{unordered_is, listed_taken}
 use Rattle.sctp_recv.proofs.ReceiverSteps.{cumulative_is}
 use Rattle.sctp_recv.proofs.RecordedLemmas.{keeps_new, keeps_same, keeps_duplicates, keeps_noted}
 use Rattle.sctp_recv.proofs.receiver.Receiver.on_data.Goals as goal
@@ -13,8 +19,12 @@ use Rattle.sctp_recv.proofs.receiver.Receiver.on_data.Goals as goal
 pub returns-in_ok-note-in-Duplicate-clause-step : goal.returns-in_ok-note-in-Duplicate-clause-step
 unfolding StandsFor
 returns-in_ok-note-in-Duplicate-clause-step g c = λ v w.
+    let f = g.F.Framing.format in
     let s = c.args.self.now.seen.kept in
-    (_, record { c = s.cumulative; cumulative = cumulative_is s v w.0.seen; answer = sym (c.in-Duplicate.ensures v w); leaves = refl }, (keeps_noted g.F.Framing.format (kept_of c.args.self.now) v c.args.piece.now.tsn _ w.0 c.in_ok-note-in-Duplicate.ensures.noted, w.1))
+    let p = piece_meaning c.args.piece.now in
+    let t = noted v p.tsn in
+    let taken : PieceTaken f v p Duplicate t = record { c = s.cumulative; cumulative = cumulative_is s v w.0.seen; answer = sym (c.in-Duplicate.ensures v w); leaves = refl } in
+    (t, taken, (keeps_noted f (kept_of c.args.self.now) v c.args.piece.now.tsn _ w.0 c.in_ok-note-in-Duplicate.ensures.noted, (w.1.0, (piece_at_rest f v p Duplicate t w.1.1.0 taken, w.1.1.1))))
 
 pub returns-in-Ahead-clause-step : goal.returns-in-Ahead-clause-step
 unfolding StandsFor
@@ -25,22 +35,24 @@ returns-in-Ahead-clause-step g c = λ v w.
 pub returns-in_ok-add-in-NoSuchStream-clause-step : goal.returns-in_ok-add-in-NoSuchStream-clause-step
 unfolding StandsFor
 returns-in_ok-add-in-NoSuchStream-clause-step g c = λ v w.
+    let f = g.F.Framing.format in
     let s = c.args.self.now.seen.kept in
-    let row = c.in-NoSuchStream.ensures v w in (
-      _,
-      record { c = s.cumulative; cumulative = cumulative_is s v w.0.seen; answer = sym row.0; leaves = refl },
-      (keeps_new g.F.Framing.format (kept_of c.args.self.now) v (piece_meaning c.args.piece.now) c.in-NoSuchStream.index _ w.0 row.1 c.in_ok-add-in-NoSuchStream.ensures.recorded, w.1),
-    )
+    let p = piece_meaning c.args.piece.now in
+    let t = recorded v (piece_at f v s.cumulative p) in
+    let row = c.in-NoSuchStream.ensures v w in
+    let taken : PieceTaken f v p NoSuchStream t = record { c = s.cumulative; cumulative = cumulative_is s v w.0.seen; answer = sym row.0; leaves = refl } in
+    (t, taken, (keeps_new f (kept_of c.args.self.now) v p c.in-NoSuchStream.index _ w.0 row.1 c.in_ok-add-in-NoSuchStream.ensures.recorded, (w.1.0, (piece_at_rest f v p NoSuchStream t w.1.1.0 taken, w.1.1.1))))
 
 pub returns-in_ok-add-in-Passed-clause-step : goal.returns-in_ok-add-in-Passed-clause-step
 unfolding StandsFor
 returns-in_ok-add-in-Passed-clause-step g c = λ v w.
+    let f = g.F.Framing.format in
     let s = c.args.self.now.seen.kept in
-    let row = c.in-Passed.ensures v w in (
-      _,
-      record { c = s.cumulative; cumulative = cumulative_is s v w.0.seen; answer = sym row.0; leaves = refl },
-      (keeps_new g.F.Framing.format (kept_of c.args.self.now) v (piece_meaning c.args.piece.now) c.in-Passed.index _ w.0 row.1 c.in_ok-add-in-Passed.ensures.recorded, w.1),
-    )
+    let p = piece_meaning c.args.piece.now in
+    let t = recorded v (piece_at f v s.cumulative p) in
+    let row = c.in-Passed.ensures v w in
+    let taken : PieceTaken f v p Passed t = record { c = s.cumulative; cumulative = cumulative_is s v w.0.seen; answer = sym row.0; leaves = refl } in
+    (t, taken, (keeps_new f (kept_of c.args.self.now) v p c.in-Passed.index _ w.0 row.1 c.in_ok-add-in-Passed.ensures.recorded, (w.1.0, (piece_at_rest f v p Passed t w.1.1.0 taken, w.1.1.1))))
 
 pub returns-in-NoRoom-clause-step : goal.returns-in-NoRoom-clause-step
 unfolding StandsFor
@@ -51,10 +63,20 @@ returns-in-NoRoom-clause-step g c = λ v w.
 pub returns-in_ok-keep-in-Taken-clause-step : goal.returns-in_ok-keep-in-Taken-clause-step
 unfolding StandsFor
 returns-in_ok-keep-in-Taken-clause-step g c = λ v w.
+    let f = g.F.Framing.format in
     let s = c.args.self.now.seen.kept in
+    let p = piece_meaning c.args.piece.now in
+    let x = piece_at f v s.cumulative p in
+    let old = c.args.self.now.loose.items in
+    let loose = c.list.new.loose.items in
     let row = c.in-Taken.ensures v w in
-    let t = c.in_ok-keep-in-Taken.ensures.kept v w row.1 in
-    (t.0, record { c = s.cumulative; cumulative = cumulative_is s v w.0.seen; answer = sym row.0; leaves = t.1 }, t.2)
+    let m = c.in_ok-keep-in-Taken.ensures.kept v (w.0, (w.1.0, (w.1.1.0, λ y has kind. c.list.ensures.more y.lane.stream (w.1.1.1 y has kind)))) row.1 in
+    let taken : PieceTaken f v p Kept m.0 = record { c = s.cumulative; cumulative = cumulative_is s v w.0.seen; answer = sym row.0; leaves = m.1 } in
+    let rest = piece_at_rest f v p Kept m.0 w.1.1.0 taken in
+    let listed : AreListed m.0.kept loose = listed_taken f v m.0 x old loose m.1 rest.idle w.1.1.1 c.list.ensures.more
+    (λ kind part. c.in_ok-list-in-Taken.ensures.listed (unordered_is p.stream p.unordered kind) part) in
+    let still = subst (λ (l : Vec ℕ Global). AreListed m.0.kept l.items) (sym c.keep.ensures.loose) listed in
+    (m.0, taken, (m.2.0, (m.2.1, (rest, still))))
 
 pub returns-in_err-note-in-Duplicate-clause-memory : goal.returns-in_err-note-in-Duplicate-clause-memory
 unfolding StandsFor
@@ -99,3 +121,19 @@ unfolding StandsFor
 returns-in_err-add-in-Passed-clause-refused g c = λ v w.
     if_err c.from_residual-in_err-add-in-Passed.result
     (keeps_same g.F.Framing.format (kept_of c.args.self.now) v c.add-in-Passed.new.self.kept _ w.0 c.in_err-add-in-Passed.ensures.refused refl, w.1)
+
+pub returns-in_err-list-in-Taken-clause-memory : goal.returns-in_err-list-in-Taken-clause-memory
+unfolding StandsFor
+returns-in_err-list-in-Taken-clause-memory g c = λ v w.
+    let s = c.args.self.now.seen.kept in
+    if_err c.from_residual-in_err-list-in-Taken.result (s.cumulative, cumulative_is s v w.0.seen, subst (NeedsMemory v s.cumulative (index_at v s.cumulative c.args.piece.now.tsn)) (sym (c.in-Taken.ensures v w).0) tt)
+
+pub returns-in_err-list-in-Taken-clause-refused : goal.returns-in_err-list-in-Taken-clause-refused
+unfolding StandsFor
+returns-in_err-list-in-Taken-clause-refused g c = λ v w.
+    if_err c.from_residual-in_err-list-in-Taken.result (w.0, (w.1.0, (w.1.1.0, λ y has kind. c.list.ensures.more y.lane.stream (w.1.1.1 y has kind))))
+
+pub returns-in_err-keep-in-Taken-clause-refused : goal.returns-in_err-keep-in-Taken-clause-refused
+unfolding StandsFor
+returns-in_err-keep-in-Taken-clause-refused g c = λ v w.
+    if_err c.from_residual-in_err-keep-in-Taken.result (c.in_err-keep-in-Taken.ensures.refused v (w.0, (w.1.0, (w.1.1.0, λ y has kind. c.list.ensures.more y.lane.stream (w.1.1.1 y has kind)))))

@@ -1,12 +1,16 @@
 use Rattle.std.proofs.Common.{◌≡◌, ℕ, true, false, length, refl, sym, ◌∙◌, ap, subst, arith}
 use Rattle.std.proofs.lemmas.List.{length-map}
-use Rattle.sctp_model.specs.receiver.ForwardTaken.{names_other_stream}
+use Rattle.sctp_model.specs.receiver.ForwardTaken.{Moved, ForwardTaken, names_other_stream}
+use Rattle.sctp_model.proofs.receiver.ForwardAtRest.{moved_fewer, moves_there, forward_at_rest}
+use Rattle.std.specs.declared.vec.Vec.{Vec}
+use Rattle.std.specs.declared.alloc.Global.{Global}
 use Rattle.sctp_wire.specs.ChunkTree.{forward_meaning}
 use Rattle.sctp_recv.specs.Fields.{stream_of}
 use Rattle.sctp_recv.specs.KeptOf.{kept_of}
-use Rattle.sctp_recv.specs.StandsFor.{StandsFor}
+use Rattle.sctp_recv.specs.StandsFor.{AreListed, StandsFor}
 use Rattle.sctp_recv.specs.declared.answer.TsnPlace.TheVariants.{Behind, Ahead, At}
 use Rattle.sctp_recv.specs.inner.Rows.{IsTsnPlace}
+use Rattle.sctp_recv.proofs.RestLemmas.{listed_fewer}
 use Rattle.sctp_recv.proofs.ReceiverSteps.{cumulative_is}
 use Rattle.sctp_recv.proofs.ResultLemmas.{if_err}
 use Rattle.sctp_recv.proofs.ForwardRows.{row_out_of_date, row_far, row_other, row_moved}
@@ -50,8 +54,13 @@ returns-clause-step g c = λ v w.
     let count : length items ≡ c.len.result = omega (arith, c.len.ensures, c.args.self.now.streams.ok) in
     let named : names_other_stream (length items) x.skips ≡ false = ap (λ (n : ℕ). names_other_stream n x.skips) count ∙ sym c.names_other_stream.ensures ∙ c.if-names_other_stream.false in
     let kept_named : names_other_stream (length (kept_of c.args.self.now).streams) x.skips ≡ false = ap (λ (n : ℕ). names_other_stream n x.skips) m ∙ named in
-    let t = c.in_ok-pass_to.ensures.passed v w x refl place named in
-    (t.0, record { c = s.cumulative; cumulative = cumulative_is s v w.0.seen; answer = sym (row_moved g.F.Framing.format (kept_of c.args.self.now) v x w.0 c.in-At.index place kept_named); leaves = t.1 }, t.2)
+    let f = g.F.Framing.format in
+    let m = c.in_ok-pass_to.ensures.passed v w x refl place named in
+    let answer = row_moved f (kept_of c.args.self.now) v x w.0 c.in-At.index place kept_named in
+    let taken : ForwardTaken f v x Moved m.0 = record { c = s.cumulative; cumulative = cumulative_is s v w.0.seen; answer = sym answer; leaves = m.1 } in
+    let listed : AreListed m.0.kept c.args.self.now.loose.items = listed_fewer v.kept m.0.kept c.args.self.now.loose.items w.1.1.1 (moved_fewer f v m.0 s.cumulative x (moves_there v s.cumulative x answer) m.1) in
+    let still = subst (λ (l : Vec ℕ Global). AreListed m.0.kept l.items) (sym c.pass_to.ensures.loose) listed in
+    (m.0, taken, (m.2.0, (m.2.1, (forward_at_rest f v x Moved m.0 w.1.1.0 taken, still))))
 
 pub returns-in_err-pass_to-clause-memory : goal.returns-in_err-pass_to-clause-memory
 unfolding StandsFor

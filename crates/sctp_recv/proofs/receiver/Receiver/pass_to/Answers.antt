@@ -7,17 +7,23 @@ use Rattle.sctp_recv.specs.Fields.{stream_of}
 use Rattle.sctp_recv.specs.KeptOf.{kept_of}
 use Rattle.sctp_recv.specs.ReceiverKept.{StreamKept}
 use Rattle.sctp_recv.specs.StandsFor.{StandsFor}
-use Rattle.sctp_recv.specs.inner.Forwarding.{AreToPass}
+use Rattle.sctp_recv.specs.inner.Forwarding.{IsTouched, HaveRoom, AreQuiet, AreToPass}
+use Rattle.std.specs.List.{Contains}
+use Rattle.std.specs.List.Sorted.{IsNonDecreasing}
+use Rattle.sctp_recv.proofs.TouchedLemmas.{are_quiet}
 use Rattle.sctp_recv.proofs.ResultLemmas.{if_err}
 use Rattle.sctp_recv.proofs.RecordedLemmas.{keeps_same}
 use Rattle.sctp_recv.proofs.ForwardKeeps.{to_pass, keeps_forwarded}
 use Rattle.sctp_recv.proofs.receiver.Receiver.pass_to.Goals as goal
 
+pub returns-in_err-touched-clause-refused : goal.returns-in_err-touched-clause-refused
+returns-in_err-touched-clause-refused g c = λ v w. if_err c.from_residual.result w
+
 pub returns-in_err-make_rooms-clause-refused : goal.returns-in_err-make_rooms-clause-refused
 unfolding StandsFor
 returns-in_err-make_rooms-clause-refused g c = λ v w.
     let k = kept_of c.args.self.now in
-    if_err c.from_residual.result (keeps_same g.F.Framing.format k v k.seen _ w.0 refl c.make_rooms.ensures.same, c.make_rooms.ensures.filed v.kept w.1)
+    if_err c.from_residual-in_err-make_rooms.result (keeps_same g.F.Framing.format k v k.seen _ w.0 refl c.make_rooms.ensures.same, (c.make_rooms.ensures.filed v.kept w.1.0, w.1.1))
 
 pub returns-clause-passed : goal.returns-clause-passed
 unfolding StandsFor
@@ -31,9 +37,17 @@ returns-clause-passed g c = λ v w x skips above named.
     let same : k.streams ≡ map stream_of olds = sym c.make_rooms.ensures.same in
     let kept_named : names_other_stream (length k.streams) x.skips ≡ false = ap (λ (n : ℕ). names_other_stream n x.skips) (length-map items stream_of) ∙ named in
     let count : length k.streams ≡ length olds = ap (λ (ss : List StreamKept). length ss) same ∙ length-map olds stream_of in
-    let ready = to_pass f k v x i w.0 above kept_named olds same (c.make_rooms.ensures.filed v.kept w.1) c.in_ok-make_rooms.ensures.room in
+    let ready = to_pass f k v x i w.0 above kept_named olds same (c.make_rooms.ensures.filed v.kept w.1.0) in
     let told = subst (λ (xs : List SkipMeaning). AreToPass f i xs v left olds k.held) skips ready in
-    let m = c.pass_on_all-self.ensures.passed v left told (let few = w.0.few_streams in omega (arith, few, count)) in
+    let loose = c.args.self.now.loose.items in
+    let touched = c.in_ok-touched.touched.items in
+    let read = subst (λ (ts : List ℕ). (s : ℕ) → IsTouched s ts c.args.skips.now.skips → Contains touched s) c.deref.ensures.value c.in_ok-touched.ensures.named in
+    let all = subst (λ (xs : List SkipMeaning). (s : ℕ) → IsTouched s loose xs → Contains touched s) (sym skips) read in
+    let quiet = are_quiet f i x.skips v loose touched olds w.1.1.0 w.1.1.1 all (λ q z got. (ready.stream q z got).next) in
+    let still = subst (λ (ts : List ℕ). AreQuiet f i c.args.skips.now.skips v ts olds) (sym c.deref-3.ensures.value) (subst (λ (xs : List SkipMeaning). AreQuiet f i xs v touched olds) skips quiet) in
+    let rising = subst IsNonDecreasing (sym c.deref-3.ensures.value) c.in_ok-touched.ensures.rising in
+    let room = subst (λ (ts : List ℕ). HaveRoom ts (length ts) olds) (c.deref-2.ensures.value ∙ sym c.deref-3.ensures.value) c.in_ok-make_rooms.ensures.room in
+    let m = c.pass_on_all-self.ensures.passed v left told room rising still in
     let streams : v.streams ≡ length olds = w.0.streams ∙ count in
     let jumped = let high = above.above in c.jump.ensures (omega (arith, high)) in
     let stands = keeps_forwarded f k v x i w.0 above kept_named olds same m.0 m.1 c.pass_on_all-self.new.streams.items c.pass_on_all-self.ensures.count c.pass_on_all-self.result m.2 c.jump.new.self.kept jumped in

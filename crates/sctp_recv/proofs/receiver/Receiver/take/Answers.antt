@@ -1,5 +1,7 @@
-use Rattle.std.proofs.Common.{◌≡◌, ℕ, ◌<◌, ◌-◌, List, ◌∷◌, length, map, refl, sym, ◌∙◌, ap, arith}
+use Rattle.std.proofs.Common.{◌≡◌, ℕ, ◌<◌, ◌-◌, ◌∷◌, length, map, Some, refl, sym, ◌∙◌, ap, arith}
 use Rattle.std.proofs.lemmas.List.{length-map}
+use Rattle.sctp_model.specs.receiver.SackMade.{first_taken, TakeLeaves}
+use Rattle.sctp_model.proofs.receiver.AtRest.{take_at_rest}
 use Rattle.sctp_recv.specs.HandedOf.{handed_of, message_bytes}
 use Rattle.sctp_recv.specs.ReceiverKept.{StreamKept, stream_at}
 use Rattle.sctp_recv.specs.Fields.{stream_of}
@@ -20,8 +22,8 @@ returns-in-None g c = λ v w.
     let there : stream_at (map stream_of items) c.args.stream ≡ stream_of c.index_mut.result.now = ap (λ (i : ℕ). stream_at (map stream_of items) i) (sym c.from-at.ensures) ∙ here in
     let same = set_unchanged items c.from-at.result c.take_first.new.inbound c.index_mut.result.now l c.index_mut.ensures.value c.in-None.ensures.first.1 in
     let got = slice_get_read items (length items) c.from-at.result c.index_mut.result.now refl l c.index_mut.ensures.value in
-    let files = filed_same g.F.Framing.format v.kept items c.from-at.result c.index_mut.result.now c.take_first.new.inbound w.1 l got c.take_first.ensures.chunks.0 c.take_first.ensures.chunks.1 in
-    (v, (w.0.waiting c.args.stream ∙ ap (λ (s : StreamKept). s.waiting) there ∙ c.in-None.ensures.first.0, refl), (rw same w.0, files))
+    let files = filed_same g.F.Framing.format v.kept items c.from-at.result c.index_mut.result.now c.take_first.new.inbound w.1.0 l got c.take_first.ensures.chunks.0 c.take_first.ensures.chunks.1 in
+    (v, (w.0.waiting c.args.stream ∙ ap (λ (s : StreamKept). s.waiting) there ∙ c.in-None.ensures.first.0, refl), (rw same w.0, (files, w.1.1)))
 
 pub returns-in-Some : goal.returns-in-Some
 unfolding StandsFor
@@ -37,5 +39,7 @@ returns-in-Some g c = λ v w.
     let n = length-map items stream_of in
     let done = keeps_taken g.F.Framing.format (kept_of c.args.self.now) v s c.less-self.result (handed_of c.in-Some.message) x.waiting x w.0 (omega (arith, c.from-at.ensures)) there refl less in
     let got = slice_get_read items (length items) c.from-at.result c.index_mut.result.now refl l c.index_mut.ensures.value in
-    let files = filed_same g.F.Framing.format v.kept items c.from-at.result c.index_mut.result.now c.take_first.new.inbound w.1 l got c.take_first.ensures.chunks.0 c.take_first.ensures.chunks.1 in
-    (_, (x.waiting, w.0.waiting s ∙ ap (λ (y : StreamKept). y.waiting) there, refl), (rw (set_mapped items c.from-at.result c.take_first.new.inbound, c.from-at.ensures) done, files))
+    let files = filed_same g.F.Framing.format v.kept items c.from-at.result c.index_mut.result.now c.take_first.new.inbound w.1.0 l got c.take_first.ensures.chunks.0 c.take_first.ensures.chunks.1 in
+    let h = handed_of c.in-Some.message in
+    let leaves : TakeLeaves v s (Some h) (first_taken v s h x.waiting) = (x.waiting, w.0.waiting s ∙ ap (λ (y : StreamKept). y.waiting) there, refl) in
+    (first_taken v s h x.waiting, leaves, (rw (set_mapped items c.from-at.result c.take_first.new.inbound, c.from-at.ensures) done, (files, (take_at_rest g.F.Framing.format v s (Some h) (first_taken v s h x.waiting) w.1.1.0 leaves, w.1.1.1))))
