@@ -108,8 +108,6 @@ growth() {
         grows "$format: a fragment before so many of its message" 2000 100 "$built" "$format" backwards
         grows "$format: a gap closed amid so many runs" 2000 100 "$built" "$format" gaps
         grows "$format: a FORWARD at so many streams" 500 20 "$built" "$format" forwards
-        grows "$format: a FORWARD with eight entries at so many streams" 500 20 "$built" "$format" named
-        grows "$format: a FORWARD while on so many streams a message waits for the one before it" 500 20 "$built" "$format" waits
     done
 }
 
