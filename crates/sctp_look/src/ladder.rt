@@ -57,18 +57,16 @@ pub(crate) fn put_row(
     out.push_str("\n")
 }
 
-/// Appends the moment, where a row begins it, and the words beside A.
+/// Appends the moment, where a row begins it, and the words beside A, which may stand in the moment's columns where it doesn't.
 fn put_left(style: &Style, run: &Recording, row: &Row, out: &mut String) -> Result<(), AllocError> {
     let mut moment = String::new(run.alloc());
     if row.begins {
         let number = row.moment;
-        write!(&mut moment, "{number}")?;
+        write!(&mut moment, "{number:>8}")?;
     }
     let whole = MOMENT.saturating_add(style.beside);
-    let taken = moment.len().max(MOMENT);
-    let rest = whole.saturating_sub(taken);
+    let rest = whole.saturating_sub(moment.len());
     let label = label_of(run, &row.at_a, rest.saturating_sub(1))?;
-    put_times(" ", MOMENT.saturating_sub(moment.len()), out)?;
     out.push_str(moment.as_str())?;
     put_times(" ", rest.saturating_sub(label.width), out)?;
     put_label(style, &label, out)
