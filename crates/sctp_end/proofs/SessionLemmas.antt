@@ -1,8 +1,9 @@
 -- What becomes of a session by its end's calls.
-use Rattle.std.proofs.Common.{◌≡◌, ◌∙◌, ℕ, Bool, true, false, List, [], ◌∷◌, inl, inr, refl, sym, subst}
-use Rattle.std.specs.Prelude.{not, Option, Some, None, Result, Ok, Err, MatchResult, slice_get}
+use Rattle.std.proofs.Common.{◌≡◌, ◌∙◌, ℕ, Bool, true, false, List, [], ◌∷◌, ◌⊎◌, inl, inr, refl, sym, subst}
+use Rattle.std.specs.Prelude.{not, Option, Some, None, Result, Ok, Err, slice_get}
 use Rattle.std.specs.declared.vec.Vec.{Vec}
 use Rattle.std.specs.declared.alloc.Global.{Global}
+use Rattle.sctp_model.specs.numbers.Numbers.{AreBytes}
 use Rattle.sctp_model.specs.wire.Chunk.{ChunkMeaning}
 use Rattle.sctp_model.specs.wire.Packet.{Packet}
 use Rattle.sctp_model.specs.world.Calls.{Call as Message}
@@ -23,6 +24,7 @@ use Rattle.sctp_values.specs.declared.ticket.Ticket.{Ticket}
 use Rattle.sctp_values.specs.Meanings.{kind_meaning}
 use Rattle.sctp_terms.specs.declared.reason.Reason.{Reason}
 use Rattle.sctp_packet.specs.declared.fault.PacketFault.{PacketFault}
+use Rattle.sctp_packet.specs.PacketLaws.{ReadInOneWay}
 use Rattle.sctp_packet.specs.PacketBytes.{ReadsPacket, FaultsPacket, WritesPacket}
 use Rattle.sctp_send.specs.SenderAnswers.{lane_for}
 use Rattle.sctp_association.specs.AbortAnswers.{AbortAnswers, aborted_view}
@@ -90,11 +92,16 @@ told_answer packet bytes (strays.Answer p) is writes = (bytes, subst (λ (ys : L
 told_answer packet bytes (strays.Dropped n) is writes = absurd writes
 told_answer packet bytes strays.Taken is writes = absurd writes
 
--- bytes that were read are a packet or have a fault
-pub came_as : {P : Type 0} → (meaning : P → Packet) → (shown bytes : List ℕ) (answer : Result P PacketFault) → shown ≡ bytes
-    → MatchResult answer (λ packet. ReadsPacket shown (meaning packet)) (λ fault. FaultsPacket shown fault) → (o : Option Packet) × IsRead bytes o
-came_as meaning shown bytes (Ok packet) is reads = (Some (meaning packet), subst (λ (ys : List ℕ). ReadsPacket ys (meaning packet)) is reads)
-came_as meaning shown bytes (Err fault) is faults = (None, (fault, subst (λ (ys : List ℕ). FaultsPacket ys fault) is faults))
+-- bytes are a packet or have a fault
+pub is_read : (bytes : List ℕ) → ReadInOneWay bytes → AreBytes bytes → (o : Option Packet) × IsRead bytes o
+is_read bytes law are = by (law.one_of_them are)
+  where
+    by : ((p : Packet) × ReadsPacket bytes p) ⊎ ((f : PacketFault) × FaultsPacket bytes f) → (o : Option Packet) × IsRead bytes o
+    by (inl reads) = (Some reads.0, reads.1)
+    by (inr faults) = (None, faults)
+
+pub came_as : (shown bytes : List ℕ) → shown ≡ bytes → (o : Option Packet) × IsRead shown o → (o : Option Packet) × IsRead bytes o
+came_as shown bytes is read = (read.0, subst (λ (ys : List ℕ). IsRead ys read.0) is read.1)
 
 -- the call was made, and the end that it leaves is this one
 abbrev pub Leaves : Standing → Call → Reply → Endpoint → Type 0

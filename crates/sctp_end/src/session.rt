@@ -1,9 +1,11 @@
 //! An end between two lines, and what becomes of each call at it.
 
 ghost use Rattle.std.specs.Prelude.{◌≡◌, ℕ, List, Option, Some, None, IfOk, MatchOption, slice_get};
+ghost use Rattle.sctp_model.specs.wire.Packet.{Packet};
 ghost use Rattle.sctp_model.specs.receiver.ReceiverView.{Handed};
 ghost use Rattle.sctp_model.specs.end.EndView.{EndView};
 ghost use Rattle.sctp_endpoint.specs.EndpointStands.{EndpointStands};
+ghost use Rattle.sctp_endpoint.specs.Handled.{IsRead};
 ghost use Rattle.sctp_end.specs.declared.call.Call.TheVariants as call;
 ghost use Rattle.sctp_end.specs.Performing.{TellsMessage};
 ghost use Rattle.sctp_end.specs.SessionStands.{Performed};
@@ -12,7 +14,7 @@ use crate::call::Call;
 use crate::replies::{abort_refused, send_refused};
 use crate::reply::{Refusal, Reply};
 use sctp_endpoint::{ConnectFault, Draw, Endpoint, Sent, ShutdownFault, Ticket, Verdict};
-use sctp_packet::read_packet;
+use sctp_packet::one_packet;
 use sctp_text::Bytes;
 use sctp_values::{Kind, NoMemory};
 use std::alloc::Global;
@@ -91,8 +93,8 @@ impl Session {
         ensures { Performed self.old (call.Packet bytes.now) result self.new }
     {
         let bytes = bytes.as_slice();
-        // It changes nothing: its contract says that the bytes are a packet or have a fault.
-        let _read = read_packet(bytes);
+        // It does nothing: its contract says that the bytes are a packet or have a fault.
+        reads_or_faults(bytes);
         match self.endpoint.handle_packet(self.moment, bytes, self.draw) {
             Ok(Verdict::Taken) => Reply::Taken,
             Ok(Verdict::Dropped(reason)) => Reply::Dropped(reason),
@@ -209,4 +211,12 @@ impl Session {
             Err(why) => abort_refused(why),
         }
     }
+}
+
+/// Bytes read as a packet or have a fault. It does nothing, and has this as its contract.
+fn reads_or_faults(bytes: &[u8])
+    ensures { (o : Option Packet) × IsRead bytes.now o }
+{
+    // The law that holds of all bytes.
+    one_packet();
 }
