@@ -1,5 +1,5 @@
 -- The FORWARD, from what a sender keeps: the largest numbers that were passed, as entries on the wire.
-use Rattle.std.proofs.Common.{◌≡◌, ℕ, zero, suc, ◌+◌, ◌-◌, ◌*◌, ◌%◌, ◌^◌, ◌<◌, ◌≤◌, List, [], ◌∷◌, ◌++◌, length, map, take, drop, Bool, true, false, Option, Some, None, refl, sym, ap, ◌∙◌, arith, get_or, append_assoc}
+use Rattle.std.proofs.Common.{◌≡◌, ℕ, zero, suc, ◌+◌, ◌-◌, ◌*◌, ◌%◌, ◌^◌, ◌<◌, ◌≤◌, List, [], ◌∷◌, ◌++◌, length, map, take, drop, Bool, true, false, Option, Some, None, refl, sym, ap, ◌∙◌, arith, get_or}
 use Rattle.std.specs.Prelude.{◌&&◌, nat_lt, nat_le, if◌then◌else◌}
 use Rattle.std.specs.List.{AllByRecursion}
 use Rattle.std.proofs.lemmas.List.{length-map, map-append, length-take-le}
@@ -80,14 +80,6 @@ skip_fits Plain stream n unordered Unordered small on flag = absurd (cc)
 skip_fits Plain stream n true Ordered small on flag = absurd (cc)
 skip_fits Plain stream n false Ordered small on flag = (small, omega arith, refl)
 skip_fits Interleaved stream n unordered kind small on flag = (small, omega arith)
-
--- one stream more
-pub lanes_more : (f : Format) (es : List Entry) (s : ℕ) (before half after : List SkipMeaning) → half ≡ before ++ map (skip_said f) (skip_of f es (lane_of s Ordered)) → after ≡ half ++ map (skip_said f) (skip_of f es (lane_of s Unordered))
-    → before ≡ map (skip_said f) (skips_below f es s) → after ≡ map (skip_said f) (skips_below f es (s + 1))
-lanes_more f es s before half after ordered unordered is =
-    let one : s + 1 ≡ suc s = omega arith in
-    unordered ∙ rw (ordered, is, one, map-append (skip_said f) (skips_below f es s) (skips_on f es s), map-append (skip_said f) (skip_of f es (lane_of s Ordered)) (skip_of f es (lane_of s Unordered)))
-    (append_assoc (map (skip_said f) (skips_below f es s)) (map (skip_said f) (skip_of f es (lane_of s Ordered))) (map (skip_said f) (skip_of f es (lane_of s Unordered))))
 
 pub none_in : (f : Format) → skips_in (skip_form f) [] ≡ []
 unfolding skips_in

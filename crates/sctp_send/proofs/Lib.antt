@@ -18,6 +18,7 @@ pub mod WithdrawLemmas
 pub mod GivenLemmas
 pub mod EndLemmas
 pub mod AnswerLemmas
+pub mod LaneLemmas
 pub mod ForwardLemmas
 pub mod GoneLemmas
 pub mod WishLemmas

@@ -7,3 +7,4 @@ pub mod Newcomers
 pub mod Drafting
 pub mod Counting
 pub mod Undoing
+pub mod Lanes

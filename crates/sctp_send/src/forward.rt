@@ -1,19 +1,20 @@
 //! How far the point went is told to the peer: FORWARD-TSN and I-FORWARD-TSN (RFC 3758, 3.5; RFC 8260, 2.3.1).
 
-ghost use Rattle.std.specs.Prelude.{◌≡◌, ℕ, ◌<◌, ◌≤◌, ◌*◌, [], ◌∷◌, ◌++◌, ◌&&◌, true, None, List, length, map, take, nat_lt, IfOk, OnErr, OnOk};
-ghost use Rattle.sctp_model.specs.messages.Format.{Lane, is_numbered};
+ghost use Rattle.std.specs.Prelude.{◌≡◌, ℕ, ◌<◌, ◌≤◌, ◌*◌, [], ◌∷◌, ◌++◌, ◌&&◌, true, None, List, length, map, take, nat_lt, IfOk, OnErr};
+ghost use Rattle.std.specs.List.{AllByRecursion};
 ghost use Rattle.sctp_model.specs.messages.Framing.{forward_chunk};
 ghost use Rattle.sctp_model.specs.sender.SenderView.{SenderView};
 ghost use Rattle.sctp_model.specs.sender.Readers.{point};
 ghost use Rattle.sctp_model.specs.sender.Forwarding.{larger, largest_in, skip_of, skips_below};
 ghost use Rattle.sctp_model.specs.sender.SentChunks.{skip_said, forward_chunk_of};
-ghost use Rattle.sctp_wire.specs.Skips.{skip_size, skips_in};
+ghost use Rattle.sctp_wire.specs.Skips.{skip_size, skips_in, IsSkip};
 ghost use Rattle.sctp_framing.specs.SkipForms.{skip_form};
 ghost use Rattle.sctp_packet.specs.Draft.{has_room, after_try};
 ghost use Rattle.sctp_send.specs.OutstandingFields.{item_meaning, lane_of, entries_of};
 ghost use Rattle.sctp_send.specs.SenderStands.{StandsFor};
 ghost use Rattle.sctp_send.specs.inner.Newcomers.{one_if};
 
+use crate::lanes::{lanes_below, list_of};
 use crate::outstanding::Outstanding;
 use crate::readers::abandoned_run;
 use crate::sender::Sender;
@@ -22,7 +23,7 @@ use sctp_framing::Framing;
 use sctp_packet::PacketWriter;
 use sctp_serial::tsn_of;
 use sctp_values::{Kind, NoMemory};
-use sctp_wire::{Forward, Skip, Skips, put_skip};
+use sctp_wire::{Forward, Skips};
 use std::alloc::Global;
 
 #[tactic(auto, unfolding(crate::specs::SenderStands::StandsFor))]
@@ -45,7 +46,11 @@ impl<F: Framing> Sender<F> {
         if run == 0 {
             return Ok(false);
         }
-        let list = match skips_below::<F>(self.alloc, &self.outstanding, run, self.streams) {
+        // Header and cumulative TSN take 8 bytes.
+        let room = packet.room().saturating_sub(8);
+        let form = F::skip_form();
+        let most = room / form.size();
+        let list = match skips_below::<F>(self.alloc, &self.outstanding, run, self.streams, most) {
             Ok(list) => list,
             Err(failed) => {
                 // Where the chunk doesn't fit, no memory is wanted.
@@ -55,67 +60,37 @@ impl<F: Framing> Sender<F> {
                 return Ok(false);
             }
         };
-        // Header and cumulative TSN take 8 bytes.
-        if list.len() > packet.room().saturating_sub(8) {
+        if list.len() > room {
             return Ok(false);
         }
         let chunk = F::forward_chunk(Forward {
             cumulative: tsn_of(self.initial, self.cum.wrapping_add(run)),
-            skips: Skips::new(F::skip_form(), &list),
+            skips: Skips::new(form, &list),
         });
         packet.try_chunk(&chunk)
     }
 }
 
-/// What a FORWARD over the first `run` entries lists of the streams below `streams`.
+/// What a FORWARD over the first `run` entries lists of the streams below `streams`; a part of it, with more than `most` entries, where it has
+/// more than that.
 fn skips_below<F: Framing>(
     alloc: Global,
     outstanding: &Window,
     run: u32,
     streams: u16,
+    most: usize,
 ) -> Result<Vec<u8>, NoMemory>
     requires { run ≤ length outstanding.now.items }
     ensures count { IfOk result (λ list. length list.items ≡ skip_size (skip_form F.format) * length (skips_in (skip_form F.format) list.items)) }
-    ensures skips { (size : ℕ) → IfOk result (λ list. skips_in (skip_form F.format) list.items
+    ensures skips { (size : ℕ) → IfOk result (λ list. length (skips_in (skip_form F.format) list.items) ≤ most → skips_in (skip_form F.format) list.items
         ≡ map (skip_said F.format) (skips_below F.format (entries_of (map (item_meaning size) (take run outstanding.now.items))) streams)) }
+    ensures many { (size : ℕ) → IfOk result (λ list. most < length (skips_in (skip_form F.format) list.items)
+        → most < length (skips_below F.format (entries_of (map (item_meaning size) (take run outstanding.now.items))) streams)) }
+    ensures fits { IfOk result (λ list. AllByRecursion (IsSkip (skip_form F.format)) (skips_in (skip_form F.format) list.items)) }
 {
-    let mut list = Vec::new(alloc);
-    for stream in 0..streams {
-        put_lane::<F>(outstanding, run, stream, Kind::Ordered, &mut list)?;
-        put_lane::<F>(outstanding, run, stream, Kind::Unordered, &mut list)?;
-    }
+    let lanes = lanes_below::<F>(alloc, outstanding, run, streams, most)?;
+    let list = list_of::<F>(alloc, &lanes)?;
     Ok(list)
-}
-
-/// Puts the largest number of a lane among the first `run` entries, if the lane is numbered and has one there.
-fn put_lane<F: Framing>(
-    outstanding: &Window,
-    run: u32,
-    stream: u16,
-    kind: Kind,
-    list: &mut Vec<u8>,
-) -> Result<(), NoMemory>
-    requires run { run ≤ length outstanding.now.items }
-    requires count { length list.old.items ≡ skip_size (skip_form F.format) * length (skips_in (skip_form F.format) list.old.items) }
-    ensures count { OnOk result (length list.new.items ≡ skip_size (skip_form F.format) * length (skips_in (skip_form F.format) list.new.items)) }
-    ensures skips { (size : ℕ) → OnOk result (skips_in (skip_form F.format) list.new.items
-        ≡ skips_in (skip_form F.format) list.old.items
-        ++ map (skip_said F.format) (skip_of F.format (entries_of (map (item_meaning size) (take run outstanding.now.items))) (lane_of stream kind))) }
-{
-    if !F::is_numbered(kind) {
-        return Ok(());
-    }
-    match largest_in(outstanding, run, stream, kind) {
-        None => Ok(()),
-        Some(number) => {
-            let skip = Skip {
-                stream,
-                unordered: kind.flag(),
-                number: F::wire_number(kind, number),
-            };
-            put_skip(F::skip_form(), skip, list)
-        }
-    }
 }
 
 /// Whether a FORWARD over the first `run` entries, of the streams below `streams`, fits a packet.

@@ -10,6 +10,7 @@ mod entering;
 mod expire;
 mod fill;
 mod forward;
+mod lanes;
 mod laws;
 mod message;
 mod outstanding;

@@ -1,23 +1,36 @@
-use Rattle.std.proofs.Common.{◌≡◌, arith, map, take}
-use Rattle.sctp_wire.specs.Skips.{skips_in}
+use Rattle.std.proofs.Common.{◌≡◌, ◌∙◌, List, length, map, sym, ap, subst, arith}
+use Rattle.std.specs.List.{AllByRecursion}
+use Rattle.std.proofs.lemmas.List.{length-map}
+use Rattle.sctp_model.specs.messages.Format.{Format}
+use Rattle.sctp_model.specs.sender.SentChunks.{skip_said}
+use Rattle.sctp_wire.specs.Skips.{skips_in, IsSkip}
 use Rattle.sctp_framing.specs.SkipForms.{skip_form}
-use Rattle.sctp_send.specs.OutstandingFields.{item_meaning, entries_of}
-use Rattle.sctp_send.proofs.ForwardLemmas.{none_counted, lanes_more}
+use Rattle.sctp_send.specs.inner.Lanes.{passed_meaning}
+use Rattle.sctp_send.specs.declared.lanes.Passed.{Passed}
 use Rattle.sctp_send.proofs.forward.skips_below.Goals as goal
 
-pub loop-stream-init : goal.loop-stream-init
-loop-stream-init g c = let none = none_counted g.F.Framing.format c.new-list.result.items c.new-list.ensures.items in record { count = none.0; skips = λ size. none.1 }
-
-pub loop-stream-preserved : goal.loop-stream-preserved
-loop-stream-preserved g c = record {
-  count = c.in_ok-put_lane-2.ensures.count;
-  skips = λ size.
-      lanes_more g.F.Framing.format (entries_of (map (item_meaning size) (take c.args.run c.args.outstanding.now.items))) c.loop-stream.stream
-      (skips_in (skip_form g.F.Framing.format) c.loop-stream.list.items) (skips_in (skip_form g.F.Framing.format) c.put_lane.new.list.items) _
-      (c.in_ok-put_lane.ensures.skips size) (c.in_ok-put_lane-2.ensures.skips size) (c.loop-stream.invariant.skips size);
-}
+pub list_of-requires : goal.list_of-requires
+list_of-requires g c =
+    subst (λ (ys : List Passed). AllByRecursion (IsSkip (skip_form g.F.Framing.format)) (map (skip_said g.F.Framing.format) (map passed_meaning ys))) (sym c.deref.ensures.value) c.in_ok-lanes.ensures.fits
 
 pub returns-clause-skips : goal.returns-clause-skips
-returns-clause-skips g c = λ size.
-    let same : c.loop-stream.stream ≡ c.args.streams = omega arith in
-    rw same at (c.loop-stream.invariant.skips size)
+returns-clause-skips g c = λ size few.
+    let f : Format = g.F.Framing.format in
+    let lanes = c.in_ok-lanes.lanes.items in
+    let is : skips_in (skip_form f) c.in_ok-list.list.items ≡ map (skip_said f) (map passed_meaning lanes) = c.in_ok-list.ensures.skips ∙ ap (λ (ys : List Passed). map (skip_said f) (map passed_meaning ys)) c.deref.ensures.value in
+    let long : length (skips_in (skip_form f) c.in_ok-list.list.items) ≡ length lanes = ap length is ∙ length-map (map passed_meaning lanes) (skip_said f) ∙ length-map lanes passed_meaning in
+    is ∙ ap (map (skip_said f)) (c.in_ok-lanes.ensures.lanes size (omega (arith, few, long)))
+
+pub returns-clause-many : goal.returns-clause-many
+returns-clause-many g c = λ size many.
+    let f : Format = g.F.Framing.format in
+    let lanes = c.in_ok-lanes.lanes.items in
+    let is : skips_in (skip_form f) c.in_ok-list.list.items ≡ map (skip_said f) (map passed_meaning lanes) = c.in_ok-list.ensures.skips ∙ ap (λ (ys : List Passed). map (skip_said f) (map passed_meaning ys)) c.deref.ensures.value in
+    let long : length (skips_in (skip_form f) c.in_ok-list.list.items) ≡ length lanes = ap length is ∙ length-map (map passed_meaning lanes) (skip_said f) ∙ length-map lanes passed_meaning in
+    c.in_ok-lanes.ensures.many size (omega (arith, many, long))
+
+pub returns-clause-fits : goal.returns-clause-fits
+returns-clause-fits g c =
+    let f : Format = g.F.Framing.format in
+    let is : skips_in (skip_form f) c.in_ok-list.list.items ≡ map (skip_said f) (map passed_meaning c.in_ok-lanes.lanes.items) = c.in_ok-list.ensures.skips ∙ ap (λ (ys : List Passed). map (skip_said f) (map passed_meaning ys)) c.deref.ensures.value in
+    subst (AllByRecursion (IsSkip (skip_form f))) (sym is) c.in_ok-lanes.ensures.fits
