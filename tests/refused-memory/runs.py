@@ -1,9 +1,10 @@
 """Runs built programs with memory refused, one growth after the other, and with each read and write failing or moving a single byte: by
-tests/refused-memory.sh, which says what is looked for."""
-import os, subprocess, sys, tempfile
+tests/refused-memory.sh, which says what is looked for. Words: the runs, none for all of them."""
+import collections, os, subprocess, sys, tempfile
 from pathlib import Path
 
 ROOT = Path(__file__).resolve().parent.parent.parent
+STARVED = ["wire", "packet", "send", "send-i", "receive", "receive-i", "three", "ends", "bundles", "closing", "skipped", "end-mark", "full"]
 KINDS = {"REFUSE": 0, "FAIL": 1, "SHORT": 2}  # what the shim is told, and the place of its number in what it tells
 room = Path(tempfile.mkdtemp())
 failed = 0
@@ -37,6 +38,34 @@ def report(right, line):
     global failed
     print(("ok      " if right else "FAILED  ") + line, flush=True)
     failed |= not right
+
+
+def parted(output):
+    """What is the same in every run, and the lines that tell of refusals."""
+    lines = output.decode().splitlines()
+    told = [line for line in lines if line.startswith(("no memory: ", "before the refused one"))]
+    return [line for line in lines if line not in told], told
+
+
+def starve(name):
+    """A run of sctp_starved: whatever is refused, it prints what it prints where nothing is."""
+    words = [program("sctp_starved"), name, "told"]
+    status, output, _, _ = run(words)
+    whole, told = parted(output)
+    wrong = [] if status == 0 and not told else ["without a refusal"]
+    refused = collections.Counter()
+    for number, (status, output, _, _) in each("REFUSE", words):
+        lines, told = parted(output)
+        refused.update(line.split(": ", 1)[1] if line.startswith("no") else line for line in told)
+        if status != 0 or lines != whole:
+            other = next((line for line in lines if line not in whole), f"status {status}")
+            wrong.append(f"{number}: {other}")
+    if told:
+        wrong.append("the last run was refused memory")
+    seen = ", ".join(f"{call} {times}" for call, times in sorted(refused.items()))
+    report(not wrong, f"{name}: {number - 1} growths; refused: {seen or 'none'}")
+    for line in wrong[:9]:
+        print("        " + line)
 
 
 def endure(kind, crate, words, text, name):
@@ -157,5 +186,6 @@ def programs():
                 endure(kind, "sctp_end_main", words, "".join(line + "\n" for line in lines).encode(), f"{words[0]}, {mode}")
 
 
-programs()
+for name in sys.argv[1:] or [*STARVED, "programs"]:
+    programs() if name == "programs" else starve(name)
 sys.exit(failed)
