@@ -30,10 +30,11 @@ abbrev pub before : (key : ℕ) → List Skip → ℕ
 before k [] = 0
 before k (x ∷ xs) = if nat_lt (lane_key x.lane) k then suc (before k xs) else 0
 
--- a lane with a number, and one with the larger of two
+-- a lane with a number
 abbrev pub told_at : Lane → ℕ → Skip
 told_at l n = record { lane = l; number = n }
 
+-- what was said of a lane, with the larger of its number and this one
 abbrev pub at_least : ℕ → Skip → Skip
 at_least n x = record { lane = x.lane; number = max x.number n }
 
