@@ -7,7 +7,7 @@ use Rattle.sctp_model.specs.messages.Plan.{Message}
 use Rattle.sctp_send.specs.SenderKept.{Item}
 use Rattle.sctp_send.specs.OutstandingFields.{item_meaning}
 use Rattle.sctp_send.specs.inner.Wishing.{first_place, is_item_marked, is_item_unsent, item_weight, item_flight}
-use Rattle.sctp_send.specs.inner.Walks.{is_item_unsettled}
+use Rattle.sctp_send.specs.inner.Walks.{abandoned_items, is_item_unsettled}
 use Rattle.sctp_send.specs.inner.Expiring.{item_message}
 use Rattle.sctp_send.specs.inner.Counting.{count_unsettled, entered, left, lowered, reached, AreWorth, IsCounted}
 use Rattle.sctp_send.specs.declared.counts.Counts.{Counts}
@@ -15,6 +15,7 @@ use Rattle.sctp_send.specs.declared.outstanding.Outstanding.{Outstanding}
 use Rattle.sctp_send.proofs.ItemLemmas.{item_read}
 use Rattle.sctp_send.proofs.WeightLemmas.{weight_small, one_small, flight_sum, unsettled_one, unsettled_sum}
 use Rattle.sctp_send.proofs.CursorLemmas.{lower_within, reach_within, none_reached, none_behind_first, none_cut, none_set}
+use Rattle.sctp_send.proofs.FrontLemmas.{front_pushed, front_cut}
 use Rattle.sctp_send.proofs.WorthLemmas.{messages_by, worth_push, worth_set}
 
 -- ---- sums modulo 2^64
@@ -55,13 +56,14 @@ counts_pushed size es e c h =
       flight = rw more (sum_pushed item_weight item_flight flight_sum items x c.flight h.flight);
       unsettled = rw more (sum_pushed unsettled_one count_unsettled unsettled_sum items x c.unsettled h.unsettled);
       earliest = worth_push (item_meaning size) item_message c.earliest es e h.earliest;
+      front = rw more (front_pushed items x c.front (length es) long h.front);
     }
 
 -- ---- an entry less
 
-pub counts_behind : (size : ℕ) (e : Outstanding) (es : List Outstanding) (c : Counts) → IsCounted size (e ∷ es) c
-    → IsCounted size es (record (left (item_meaning size e) c) { marked = c.marked - 1; unsent = c.unsent - 1 })
-counts_behind size e es c h =
+pub counts_behind : (size : ℕ) (e : Outstanding) (es : List Outstanding) (c : Counts) (front : ℕ) → IsCounted size (e ∷ es) c → front ≡ abandoned_items (map (item_meaning size) es)
+    → IsCounted size es (record (left (item_meaning size e) c) { marked = c.marked - 1; unsent = c.unsent - 1; front = front })
+counts_behind size e es c front h is =
     let x = item_meaning size e in
     let items = map (item_meaning size) es in
     record {
@@ -74,6 +76,7 @@ counts_behind size e es c h =
       flight = sum_behind item_weight item_flight flight_sum x items c.flight (weight_small size e h.some h.small) h.flight;
       unsettled = sum_behind unsettled_one count_unsettled unsettled_sum x items c.unsettled (one_small (is_item_unsettled x)) h.unsettled;
       earliest = h.earliest.1;
+      front = is;
     }
 
 worth_front : {A B : Type 0} (g : A → B) (f : B → Option Message) (first : ℕ) (xs ys : List A) → AreWorth first (messages_by g f (xs ++ ys)) → AreWorth first (messages_by g f xs)
@@ -81,11 +84,12 @@ worth_front g f first [] ys worth = tt
 worth_front g f first (x ∷ xs) ys worth = (worth.0, worth_front g f first xs ys worth.1)
 
 pub counts_cut : (size : ℕ) (es : List Outstanding) (e : Outstanding) (c : Counts) → IsCounted size (es ++ e ∷ []) c
-    → IsCounted size es (record (left (item_meaning size e) c) { marked = min c.marked (length es); unsent = min c.unsent (length es) })
+    → IsCounted size es (record (left (item_meaning size e) c) { marked = min c.marked (length es); unsent = min c.unsent (length es); front = min c.front (length es) })
 counts_cut size es e c h =
     let x = item_meaning size e in
     let items = map (item_meaning size) es in
     let more : map (item_meaning size) (es ++ e ∷ []) ≡ items ++ x ∷ [] = map-append (item_meaning size) es (e ∷ []) in
+    let long : length es ≡ length items = sym (length-map es (item_meaning size)) in
     record {
       some = h.some;
       small = h.small;
@@ -96,13 +100,15 @@ counts_cut size es e c h =
       flight = sum_cut item_weight item_flight flight_sum items x c.flight (weight_small size e h.some h.small) (h.flight ∙ ap (λ (ys : List Item). item_flight ys % 2 ^ 64) more);
       unsettled = sum_cut unsettled_one count_unsettled unsettled_sum items x c.unsettled (one_small (is_item_unsettled x)) (h.unsettled ∙ ap (λ (ys : List Item). count_unsettled ys % 2 ^ 64) more);
       earliest = worth_front (item_meaning size) item_message c.earliest es (e ∷ []) h.earliest;
+      front = front_cut items x c.front (length es) long (h.front ∙ ap abandoned_items more);
     }
 
 -- ---- an entry becomes another
 
-pub counts_set : (size : ℕ) (es : List Outstanding) (at : ℕ) (e new : Outstanding) (c : Counts) → at < length es → e ≡ get_or es at e → IsCounted size es c
-    → IsCounted size (set es at new) (lowered at (item_meaning size new) (entered (item_meaning size new) (left (item_meaning size e) c)))
-counts_set size es at e new c lt read h =
+pub counts_set : (size : ℕ) (es : List Outstanding) (at : ℕ) (e new : Outstanding) (c : Counts) (front : ℕ) → at < length es → e ≡ get_or es at e → IsCounted size es c
+    → front ≡ abandoned_items (map (item_meaning size) (set es at new))
+    → IsCounted size (set es at new) (record (lowered at (item_meaning size new) (entered (item_meaning size new) (left (item_meaning size e) c))) { front = front })
+counts_set size es at e new c front lt read h is =
     let x = item_meaning size e in
     let y = item_meaning size new in
     let items = map (item_meaning size) es in
@@ -120,6 +126,7 @@ counts_set size es at e new c lt read h =
       flight = rw more (sum_set item_weight item_flight flight_sum items at x y c.flight within there (weight_small size e h.some h.small) h.flight);
       unsettled = rw more (sum_set unsettled_one count_unsettled unsettled_sum items at x y c.unsettled within there (one_small (is_item_unsettled x)) h.unsettled);
       earliest = worth_set (item_meaning size) item_message c.earliest at es new h.earliest;
+      front = is;
     }
 
 -- ---- a search went further
@@ -127,9 +134,9 @@ counts_set size es at e new c lt read h =
 pub counts_marked : (size : ℕ) (es : List Outstanding) (c : Counts) (at : ℕ) → at ≤ length es → first_place is_item_marked (take at (map (item_meaning size) es)) ≡ None → IsCounted size es c
     → IsCounted size es (record c { marked = at })
 counts_marked size es c at within none h =
-    record { some = h.some; small = h.small; marked = none; marked_within = within; unsent = h.unsent; unsent_within = h.unsent_within; flight = h.flight; unsettled = h.unsettled; earliest = h.earliest }
+    record { some = h.some; small = h.small; marked = none; marked_within = within; unsent = h.unsent; unsent_within = h.unsent_within; flight = h.flight; unsettled = h.unsettled; earliest = h.earliest; front = h.front }
 
 pub counts_unsent : (size : ℕ) (es : List Outstanding) (c : Counts) (at : ℕ) → at ≤ length es → first_place is_item_unsent (take at (map (item_meaning size) es)) ≡ None → IsCounted size es c
     → IsCounted size es (record c { unsent = at })
 counts_unsent size es c at within none h =
-    record { some = h.some; small = h.small; marked = h.marked; marked_within = h.marked_within; unsent = none; unsent_within = within; flight = h.flight; unsettled = h.unsettled; earliest = h.earliest }
+    record { some = h.some; small = h.small; marked = h.marked; marked_within = h.marked_within; unsent = none; unsent_within = within; flight = h.flight; unsettled = h.unsettled; earliest = h.earliest; front = h.front }

@@ -31,6 +31,7 @@ pub mod ExpireKept
 pub mod GoingOnLemmas
 pub mod CursorLemmas
 pub mod WeightLemmas
+pub mod FrontLemmas
 pub mod CountLemmas
 pub mod TurnLemmas
 pub mod AssignedKept

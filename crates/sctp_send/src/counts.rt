@@ -1,13 +1,16 @@
 //! What is counted of the entries above CUM: each count follows an entry that comes, goes or changes.
 
-ghost use Rattle.std.specs.Prelude.{◌≡◌, ℕ, ◌<◌, min, if◌then◌else◌};
+ghost use Rattle.std.specs.Prelude.{◌≡◌, ℕ, ◌+◌, ◌<◌, ◌≤◌, ◌∷◌, List, min, if◌then◌else◌, map, drop, length, slice_set};
+ghost use Rattle.sctp_send.specs.SenderKept.{Item};
 ghost use Rattle.sctp_send.specs.OutstandingFields.{item_meaning};
 ghost use Rattle.sctp_send.specs.inner.Counting.{entered, left, lowered, furthest, reached, moment};
+ghost use Rattle.sctp_send.specs.inner.Walks.{abandoned_items};
 ghost use Rattle.sctp_send.specs.inner.Newcomers.{one_if};
 
 use crate::message::moment_of;
 use crate::outstanding::Outstanding;
 use crate::wishes::{is_done, is_first_sending, is_repeat, is_unsettled, weight};
+use std::collections::VecDeque;
 
 /// Counts of entries, by their offsets above CUM. Sums are modulo 2^64.
 #[derive(Clone, Copy, Debug)]
@@ -22,12 +25,14 @@ pub struct Counts {
     pub unsettled: u64,
     /// Before this moment no message is past its time, of entries that are neither covered nor given up.
     pub earliest: u64,
+    /// So many entries in front are given up.
+    pub front: usize,
 }
 
 impl Counts {
     /// Those of no entry.
     pub fn none() -> Counts
-        ensures { result ≡ record { marked = 0; unsent = 0; flight = 0; unsettled = 0; earliest = 0xffff_ffff_ffff_ffff } }
+        ensures { result ≡ record { marked = 0; unsent = 0; flight = 0; unsettled = 0; earliest = 0xffff_ffff_ffff_ffff; front = 0 } }
     {
         Counts {
             marked: 0,
@@ -35,6 +40,7 @@ impl Counts {
             flight: 0,
             unsettled: 0,
             earliest: u64::MAX,
+            front: 0,
         }
     }
 
@@ -57,13 +63,15 @@ impl Counts {
         self.unsettled = self.unsettled.wrapping_sub(one_if(is_unsettled(entry)));
     }
 
-    /// What comes at an offset, behind all others, may have to go out; where it hasn't, a cursor there passes it.
+    /// What comes at an offset, behind all others, may have to go out; where it hasn't, a cursor there passes it, and where it is given up,
+    /// the count in front does.
     pub fn reach(&mut self, at: usize, entry: &Outstanding)
         requires { at < 0xffff_ffff_ffff_ffff }
         ensures { (size : ℕ) → self.new ≡ reached at (item_meaning size entry.now) self.old }
     {
         self.marked = furthest(self.marked, at, is_repeat(entry));
         self.unsent = furthest(self.unsent, at, is_first_sending(entry));
+        self.front = furthest(self.front, at, !entry.given_up);
     }
 
     /// What stands at an offset may have to go out.
@@ -110,4 +118,45 @@ pub fn moment(entry: &Outstanding) -> u64
     } else {
         moment_of(&entry.message)
     }
+}
+
+/// How many of the first entries are given up, where so many were before the one at an offset changed.
+pub fn front_after(front: usize, at: usize, entries: &VecDeque<Outstanding>) -> usize
+    requires at { at < length entries.now.items }
+    requires front { front ≤ length entries.now.items }
+    ensures { (size : ℕ) (before : List Item) (x : Item) → front ≡ abandoned_items before → at < length before → map (item_meaning size) entries.now.items ≡ slice_set before at x
+        → result ≡ abandoned_items (map (item_meaning size) entries.now.items) }
+{
+    if !entries[at].given_up {
+        return front.min(at);
+    }
+    if at != front {
+        return front;
+    }
+    given_up_from(front, entries)
+}
+
+/// How many of the first entries are given up, where so many were before the first of all went.
+pub fn front_behind(front: usize, entries: &VecDeque<Outstanding>) -> usize
+    ensures { (size : ℕ) (x : Item) → front ≡ abandoned_items (x ∷ map (item_meaning size) entries.now.items)
+        → result ≡ abandoned_items (map (item_meaning size) entries.now.items) }
+{
+    if front > 0 {
+        return front - 1;
+    }
+    given_up_from(0, entries)
+}
+
+/// The first offset, from one on, whose entry isn't given up; or the end.
+fn given_up_from(from: usize, entries: &VecDeque<Outstanding>) -> usize
+    requires { from ≤ length entries.now.items }
+    ensures { (size : ℕ) → result ≡ from + abandoned_items (drop from (map (item_meaning size) entries.now.items)) }
+{
+    for at in from..entries.len() {
+        let given_up = entries[at].given_up;
+        if !given_up {
+            return at;
+        }
+    }
+    entries.len()
 }

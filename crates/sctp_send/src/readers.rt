@@ -1,6 +1,6 @@
 //! What a sender tells of itself.
 
-ghost use Rattle.std.specs.Prelude.{◌≡◌, ℕ, Bool, ◌<◌, ◌≤◌, ◌^◌, ◌%◌, ◌&&◌, not, map, length, nat_lt};
+ghost use Rattle.std.specs.Prelude.{◌≡◌, ℕ, Bool, ◌<◌, ◌≤◌, ◌^◌, ◌%◌, ◌&&◌, not, map, length};
 ghost use Rattle.sctp_model.specs.numbers.Limits.{WINDOW};
 ghost use Rattle.sctp_model.specs.sender.SenderView.{SenderView};
 ghost use Rattle.sctp_model.specs.sender.Readers.{point, unsettled, drained, outstanding, abandoned, acknowledged};
@@ -40,7 +40,7 @@ impl<F: Framing> Sender<F> {
         if self.outstanding.is_unsettled() {
             return true;
         }
-        first_is_abandoned(&self.outstanding)
+        self.outstanding.front() > 0
     }
 
     /// The indexes above CUM, and the messages in part: at most 32,767.
@@ -183,27 +183,9 @@ fn count_of(outstanding: &Window) -> u32
     (outstanding.len() % 0x1_0000_0000) as u32
 }
 
-/// The first entry is of an abandoned message.
-fn first_is_abandoned(outstanding: &Window) -> bool
-    ensures { (size : ℕ) → result ≡ nat_lt 0 (abandoned_items (map (item_meaning size) outstanding.now.items)) }
-{
-    if outstanding.len() == 0 {
-        return false;
-    }
-    outstanding.get(0).given_up
-}
-
 /// How many of the first entries are of abandoned messages.
 pub fn abandoned_run(outstanding: &Window) -> u32
     ensures { (size : ℕ) → result ≡ abandoned_items (map (item_meaning size) outstanding.now.items) % 2 ^ 32 }
 {
-    let mut run = 0u32;
-    for at in 0..outstanding.len() {
-        let entry = outstanding.get(at);
-        if !entry.given_up {
-            return run;
-        }
-        run = run.wrapping_add(1);
-    }
-    run
+    (outstanding.front() % 0x1_0000_0000) as u32
 }

@@ -4,11 +4,11 @@ ghost use Rattle.std.specs.Prelude.{◌≡◌, ℕ, ◌+◌, ◌*◌, ◌-◌, �
 ghost use Rattle.sctp_send.specs.OutstandingFields.{item_meaning};
 ghost use Rattle.sctp_send.specs.WindowKept.{changed};
 ghost use Rattle.sctp_send.specs.inner.Changes.{stood};
-ghost use Rattle.sctp_send.specs.inner.Walks.{any_unsettled};
+ghost use Rattle.sctp_send.specs.inner.Walks.{abandoned_items, any_unsettled};
 ghost use Rattle.sctp_send.specs.inner.Wishing.{first_place, is_item_marked, is_item_unsent, item_flight};
 ghost use Rattle.sctp_send.specs.inner.Expiring.{soonest, item_messages};
 
-use crate::counts::{Counts, moment};
+use crate::counts::{Counts, front_after, front_behind, moment};
 use crate::expire::sooner_entry;
 use crate::message::Message;
 use crate::outstanding::{Outstanding, Standing};
@@ -117,6 +117,13 @@ impl Window {
         self.counts.unsettled > 0
     }
 
+    /// How many of the first entries are given up.
+    pub fn front(&self) -> usize
+        ensures { (size : ℕ) → result ≡ abandoned_items (map (item_meaning size) self.now.items) }
+    {
+        self.counts.front
+    }
+
     /// Room for so many entries more.
     ///
     /// # Errors
@@ -157,6 +164,7 @@ impl Window {
             self.counts.leave(&entry, self.size);
             self.counts.marked = self.counts.marked.saturating_sub(1);
             self.counts.unsent = self.counts.unsent.saturating_sub(1);
+            self.counts.front = front_behind(self.counts.front, &self.entries);
             let Outstanding { message, .. } = entry;
             return Some(message);
         }
@@ -171,6 +179,7 @@ impl Window {
             self.counts.leave(&entry, self.size);
             self.counts.marked = self.counts.marked.min(self.entries.len());
             self.counts.unsent = self.counts.unsent.min(self.entries.len());
+            self.counts.front = self.counts.front.min(self.entries.len());
         }
     }
 
@@ -195,6 +204,7 @@ impl Window {
         entry.given_up = given_up;
         self.counts.enter(entry, self.size);
         self.counts.lower(at, entry);
+        self.counts.front = front_after(self.counts.front, at, &self.entries);
     }
 
     /// The lowest ticket above the last one of messages that are past their time, of entries that are neither covered nor given up; or one

@@ -9,7 +9,7 @@ use Rattle.sctp_send.specs.SenderKept.{Item}
 use Rattle.sctp_send.specs.OutstandingFields.{item_meaning}
 use Rattle.sctp_send.specs.SenderFields.{queued_by, track_meaning}
 use Rattle.sctp_send.specs.inner.Wishing.{first_place, is_item_marked, is_item_unsent, item_weight, item_flight}
-use Rattle.sctp_send.specs.inner.Walks.{total, one_if_rest, rest_owes, is_item_unsettled}
+use Rattle.sctp_send.specs.inner.Walks.{total, one_if_rest, rest_owes, abandoned_items, is_item_unsettled}
 use Rattle.sctp_send.specs.inner.Newcomers.{one_if}
 use Rattle.sctp_send.specs.inner.Expiring.{item_message, queue_messages, item_messages, rest_messages}
 use Rattle.sctp_send.specs.declared.counts.Counts.{Counts}
@@ -71,6 +71,7 @@ abbrev pub reached : (at : ℕ) → Item → Counts → Counts
 reached at x c = record c {
   marked = furthest at (is_item_marked x) c.marked;
   unsent = furthest at (is_item_unsent x) c.unsent;
+  front = furthest at (not x.given_up) c.front;
 }
 
 -- The counts are those of the entries: before two offsets nothing is to go out; the sums are modulo 2^64.
@@ -84,6 +85,7 @@ pub record IsCounted (size : ℕ) (es : List Outstanding) (c : Counts) : Type 0 
   pub flight : c.flight ≡ item_flight (map (item_meaning size) es) % 2 ^ 64
   pub unsettled : c.unsettled ≡ count_unsettled (map (item_meaning size) es) % 2 ^ 64
   pub earliest : AreWorth c.earliest (item_messages (map (item_meaning size) es))
+  pub front : c.front ≡ abandoned_items (map (item_meaning size) es)
 
 -- ---- messages that wait, and streams
 

@@ -11,4 +11,5 @@ invariant_of-self c =
     let counted = subst (λ (es : List Outstanding). IsCounted s.size es s.counts) c.in-Some.ensures.items c.self.invariant in
     let one : c.len.result ≡ length rest = c.len.ensures ∙ c.pop_back.new.self.ok.0 in
     let two : c.len-in-Some.result ≡ length rest = c.len-in-Some.ensures ∙ c.pop_back.new.self.ok.0 in
-    rw (c.min-self-inside.ensures, c.min-self-inside-in-Some.ensures, one, two, c.leave.ensures) (counts_cut s.size rest c.in-Some.entry s.counts counted)
+    let three : c.len-in-Some-2.result ≡ length rest = c.len-in-Some-2.ensures ∙ c.pop_back.new.self.ok.0 in
+    rw (c.min-self-inside.ensures, c.min-self-inside-in-Some.ensures, c.min-self-inside-in-Some-2.ensures, one, two, three, c.leave.ensures) (counts_cut s.size rest c.in-Some.entry s.counts counted)
