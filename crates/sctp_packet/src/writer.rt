@@ -1,6 +1,6 @@
 //! A packet in the making: its header, and chunks for as long as they fit (RFC 9260, 3 and 6.10).
 
-ghost use Rattle.std.specs.Prelude.{◌≡◌, ◌<◌, ◌≤◌, ◌^◌, ◌⊎◌, ◌++◌, [], true, length, take, drop, IfOk, OnOk, OnErr, IfSome, MatchOption};
+ghost use Rattle.std.specs.Prelude.{◌≡◌, ◌<◌, ◌≤◌, ◌+◌, ◌^◌, ◌++◌, [], true, length, take, drop, vec_len, vec_capacity, IfOk, OnOk, OnErr, IfSome, MatchOption};
 ghost use Rattle.byteorder.specs.Endian.{little_bytes};
 ghost use Rattle.sctp_model.specs.wire.Packet.{size_of_packet};
 ghost use Rattle.sctp_wire.specs.ChunkTree.{chunk_meaning};
@@ -18,7 +18,7 @@ use std::marker::Model;
 
 /// A packet in the making: the most bytes that it may have, its ports and tag, and the chunks put in so far.
 ///
-/// It takes no memory before its first chunk.
+/// It takes no memory before its first chunk, and with that the room for all that it may have.
 #[derive(Drop)]
 pub struct PacketWriter {
     limit: u16,
@@ -30,7 +30,7 @@ pub struct PacketWriter {
 }
 
 impl Model for PacketWriter {
-    ghost use Rattle.std.specs.Prelude.{drop};
+    ghost use Rattle.std.specs.Prelude.{drop, vec_capacity};
     ghost use Rattle.sctp_model.specs.wire.Packet.{HEADER_ROOM};
     ghost use Rattle.sctp_wire.specs.Reading.{chunks_of};
     ghost use Rattle.sctp_packet.specs.Draft.{Draft, bare, IsKept};
@@ -45,7 +45,7 @@ impl Model for PacketWriter {
       chunks = chunks_of (drop HEADER_ROOM s.bytes.items);
     } };
 
-    ghost invariant = { λ s. IsKept s.limit (bare s.source s.destination s.tag) s.bytes.items };
+    ghost invariant = { λ s. IsKept s.limit (bare s.source s.destination s.tag) s.bytes.items (vec_capacity s.bytes) };
 }
 
 impl PacketWriter {
@@ -74,13 +74,14 @@ impl PacketWriter {
     /// padding, would pass its limit; nothing is put in then.
     ///
     /// # Errors
-    /// `NoMemory` where the chunk fits and memory ran out; nothing is put in then.
+    /// `NoMemory` where the chunk fits and memory ran out; nothing is put in then. It comes only before the first chunk.
     pub fn try_chunk(&mut self, chunk: &Chunk<'_>) -> Result<bool, NoMemory>
         requires { Fits (chunk_meaning chunk.now) }
         ensures answer { IfOk result (λ put. put ≡ has_room self.old (chunk_meaning chunk.now)) }
         ensures after { IfOk result (λ put. self.new ≡ after_try self.old (chunk_meaning chunk.now) put) }
         ensures unchanged { OnErr result (self.new ≡ self.old) }
         ensures refused { OnErr result (has_room self.old (chunk_meaning chunk.now) ≡ true) }
+        ensures first { OnErr result (self.old.chunks ≡ []) }
     {
         if chunk.written_length() > self.room() {
             return Ok(false);
@@ -88,8 +89,9 @@ impl PacketWriter {
         // The laws give that the bytes with this chunk read as the chunks with it.
         written_each_reads();
         chunks_are_read();
-        let header = header(self.source, self.destination, self.tag);
-        put(&mut self.bytes, &header, chunk)?;
+        let (source, destination, tag) = (self.source, self.destination, self.tag);
+        begin(&mut self.bytes, self.limit, source, destination, tag)?;
+        put(&mut self.bytes, chunk);
         Ok(true)
     }
 
@@ -109,16 +111,39 @@ impl PacketWriter {
     }
 }
 
-/// Appends a chunk's bytes, behind the header where there is none yet.
-fn put(bytes: &mut Vec<u8>, header: &[u8], chunk: &Chunk<'_>) -> Result<(), NoMemory>
-    requires { Fits (chunk_meaning chunk.now) }
-    ensures put { OnOk result (bytes.new.items ≡ with_header header.now bytes.old.items ++ written (chunk_meaning chunk.now)) }
-    ensures refused { OnErr result ((bytes.new.items ≡ bytes.old.items) ⊎ (bytes.new.items ≡ with_header header.now bytes.old.items)) }
+/// Takes the room for the whole packet, and writes the header; or both are there.
+fn begin(
+    bytes: &mut Vec<u8>,
+    limit: u16,
+    source: u16,
+    destination: u16,
+    tag: u32,
+) -> Result<(), NoMemory>
+    requires within { 12 ≤ limit }
+    requires room { 0 < length bytes.old.items → limit ≤ vec_capacity bytes.old }
+    ensures begun { OnOk result (bytes.new.items ≡ with_header (header_bytes source destination tag 0) bytes.old.items) }
+    ensures room { OnOk result (limit ≤ vec_capacity bytes.new) }
+    ensures unchanged { OnErr result (bytes.new.items ≡ bytes.old.items) }
+    ensures first { OnErr result (bytes.old.items ≡ []) }
 {
-    if bytes.is_empty() {
-        bytes.extend_from_slice(header).map_err(|_| NoMemory)?;
+    if !bytes.is_empty() {
+        return Ok(());
     }
-    write_chunk(chunk, bytes)
+    bytes.reserve(usize::from(limit)).map_err(|_| NoMemory)?;
+    let header = header(source, destination, tag);
+    bytes.extend_from_slice(&header).map_err(|_| NoMemory)
+}
+
+/// Appends a chunk's bytes, for which there is room.
+fn put(bytes: &mut Vec<u8>, chunk: &Chunk<'_>)
+    requires fits { Fits (chunk_meaning chunk.now) }
+    requires room { vec_len bytes.old + length (written (chunk_meaning chunk.now)) ≤ vec_capacity bytes.old }
+    ensures put { bytes.new.items ≡ bytes.old.items ++ written (chunk_meaning chunk.now) }
+    ensures capacity { vec_capacity bytes.old ≤ vec_capacity bytes.new }
+{
+    if write_chunk(chunk, bytes).is_err() {
+        unreachable!()
+    }
 }
 
 /// Writes the checksum into its field.

@@ -78,5 +78,7 @@ pub fn append_zeros(out: &mut Vec<u8>, count: usize)
     ensures len { vec_len out.new ≡ vec_len out.old + count }
     ensures room { vec_capacity out.old ≤ vec_capacity out.new }
 {
-    append(out, &[0, 0, 0][..count]);
+    if count > 0 {
+        append(out, &[0, 0, 0][..count]);
+    }
 }

@@ -7,7 +7,7 @@ ghost use Rattle.sctp_wire.specs.Reads.{header, Reads};
 ghost use Rattle.sctp_wire.specs.Writes.{written, Writes};
 
 use crate::chunk::{Chunk, append_value, flags_of, kind_of, length_of};
-use crate::numbers::{append, append_u16, append_zeros, padded};
+use crate::numbers::{append, append_zeros, padded};
 use sctp_values::NoMemory;
 
 /// Appends the bytes of a chunk that fits, with its padding: unused flags, reserved bits and padding are zero.
@@ -24,6 +24,8 @@ pub fn write_chunk(chunk: &Chunk<'_>, out: &mut Vec<u8>) -> Result<(), NoMemory>
     // It fails only where that room was missing.
     ensures memory { vec_len out.old + length (written (chunk_meaning chunk.now)) ≤ vec_capacity out.old
         → IsOk result }
+    // What room there is stays.
+    ensures capacity { vec_capacity out.old ≤ vec_capacity out.new }
 {
     let size = length_of(chunk);
     let whole = padded(size);
@@ -35,12 +37,13 @@ pub fn write_chunk(chunk: &Chunk<'_>, out: &mut Vec<u8>) -> Result<(), NoMemory>
 }
 
 /// Appends type, flags and length.
+#[tactic(auto, unfolding(sctp_model::specs::numbers::Numbers::u16_bytes))]
 fn append_header(out: &mut Vec<u8>, kind: u8, flags: u8, size: u16)
     requires { vec_len out.old + 4 ≤ vec_capacity out.old }
     ensures items { out.new.items ≡ out.old.items ++ header kind flags size }
     ensures len { vec_len out.new ≡ vec_len out.old + 4 }
     ensures room { vec_capacity out.old ≤ vec_capacity out.new }
 {
-    append(out, &[kind, flags]);
-    append_u16(out, size);
+    let [high, low] = size.to_be_bytes();
+    append(out, &[kind, flags, high, low]);
 }

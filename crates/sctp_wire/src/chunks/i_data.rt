@@ -9,7 +9,7 @@ ghost use Rattle.sctp_wire.specs.chunks.IData.{i_data_laid, is_i_data_value, i_d
 use crate::chunks::flags::is_set;
 use crate::chunks::piece::Piece;
 use crate::codes::{BEGIN, END, I_DATA_HEADER, IMMEDIATE, LONGEST, UNORDERED};
-use crate::numbers::{append, append_u16, append_u32, read_u16, read_u32};
+use crate::numbers::{append, read_u16, read_u32};
 
 /// Whether an I-DATA's length has 16 bits.
 pub fn i_data_fits(piece: &Piece<'_>) -> bool
@@ -56,16 +56,17 @@ pub fn read_i_data(flags: u8, value: &[u8]) -> Piece<'_>
 }
 
 /// Appends I-DATA's value, its reserved bits zero.
+#[tactic(auto, unfolding(sctp_model::specs::numbers::Numbers::u16_bytes, sctp_model::specs::numbers::Numbers::u32_bytes))]
 pub fn append_i_data(out: &mut Vec<u8>, piece: &Piece<'_>)
     requires spare { vec_len out.old + 16 + length piece.now.bytes.now ≤ vec_capacity out.old }
     ensures items { out.new.items ≡ out.old.items ++ i_data_laid 0 (piece_meaning piece.now) }
     ensures len { vec_len out.new ≡ vec_len out.old + 16 + length piece.now.bytes.now }
     ensures room { vec_capacity out.old ≤ vec_capacity out.new }
 {
-    append_u32(out, piece.tsn);
-    append_u16(out, piece.stream);
-    append_u16(out, 0);
-    append_u32(out, piece.number);
-    append_u32(out, piece.word);
+    let [a, b, c, d] = piece.tsn.to_be_bytes();
+    let [e, f] = piece.stream.to_be_bytes();
+    let [g, h, i, j] = piece.number.to_be_bytes();
+    let [k, l, m, n] = piece.word.to_be_bytes();
+    append(out, &[a, b, c, d, e, f, 0, 0, g, h, i, j, k, l, m, n]);
     append(out, piece.bytes);
 }

@@ -9,7 +9,7 @@ ghost use Rattle.sctp_wire.specs.chunks.Data.{data_value, is_data_value, data_at
 use crate::chunks::flags::is_set;
 use crate::chunks::piece::Piece;
 use crate::codes::{BEGIN, DATA_HEADER, END, IMMEDIATE, LONGEST, UNORDERED};
-use crate::numbers::{append, append_u16, append_u32, read_u16, read_u32};
+use crate::numbers::{append, read_u16, read_u32};
 
 /// Whether a DATA's number has 16 bits, and its length too.
 pub fn data_fits(piece: &Piece<'_>) -> bool
@@ -54,6 +54,7 @@ pub fn read_data(flags: u8, value: &[u8]) -> Piece<'_>
 }
 
 /// Appends DATA's value.
+#[tactic(auto, unfolding(sctp_model::specs::numbers::Numbers::u16_bytes, sctp_model::specs::numbers::Numbers::u32_bytes))]
 pub fn append_data(out: &mut Vec<u8>, piece: &Piece<'_>)
     requires number { piece.now.number < 2 ^ 16 }
     requires spare { vec_len out.old + 12 + length piece.now.bytes.now ≤ vec_capacity out.old }
@@ -61,9 +62,10 @@ pub fn append_data(out: &mut Vec<u8>, piece: &Piece<'_>)
     ensures len { vec_len out.new ≡ vec_len out.old + 12 + length piece.now.bytes.now }
     ensures room { vec_capacity out.old ≤ vec_capacity out.new }
 {
-    append_u32(out, piece.tsn);
-    append_u16(out, piece.stream);
-    append_u16(out, piece.number as u16);
-    append_u32(out, piece.word);
+    let [a, b, c, d] = piece.tsn.to_be_bytes();
+    let [e, f] = piece.stream.to_be_bytes();
+    let [g, h] = (piece.number as u16).to_be_bytes();
+    let [i, j, k, l] = piece.word.to_be_bytes();
+    append(out, &[a, b, c, d, e, f, g, h, i, j, k, l]);
     append(out, piece.bytes);
 }

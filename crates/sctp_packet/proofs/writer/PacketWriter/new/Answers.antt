@@ -7,6 +7,7 @@ pub invariant_of-result : goal.invariant_of-result
 invariant_of-result c = record {
   header = record { source = omega arith; destination = omega arith; tag = omega arith };
   draft = rw c.new.ensures.items (draft_empty c.args.limit (header_bytes c.args.source c.args.destination c.args.tag 0));
+  room = rw c.new.ensures.items (λ some. absurd (omega arith));
 }
 
 pub returns : goal.returns

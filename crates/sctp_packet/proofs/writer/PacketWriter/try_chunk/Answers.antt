@@ -1,13 +1,13 @@
-use Rattle.std.proofs.Common.{◌≡◌, ◌++◌, drop, refl, arith}
+use Rattle.std.proofs.Common.{◌≡◌, ◌+◌, ◌≤◌, ◌∙◌, ◌++◌, ap, length, drop, refl, arith}
 use Rattle.std.proofs.lemmas.Grind.{common_steps}
 use Rattle.std.proofs.lemmas.Result.{err_from_is_err_and}
-use Rattle.sctp_model.specs.wire.Packet.{HEADER_ROOM}
+use Rattle.sctp_model.specs.wire.Packet.{HEADER_ROOM, size_of_packet}
 use Rattle.sctp_wire.specs.ChunkTree.{chunk_meaning}
 use Rattle.sctp_wire.specs.Reading.{chunks_of}
 use Rattle.sctp_packet.specs.PacketBytes.{header_bytes}
 use Rattle.sctp_wire.specs.Writes.{written}
 use Rattle.sctp_packet.specs.Draft.{with_header}
-use Rattle.sctp_packet.proofs.DraftLemmas.{IsPut, IsReadBack, size_of_more, size_some, draft_put}
+use Rattle.sctp_packet.proofs.DraftLemmas.{IsPut, IsReadBack, size_of_more, size_some, draft_put, draft_size, draft_none}
 use Rattle.sctp_packet.proofs.writer.PacketWriter.try_chunk.Goals as goal
 
 pub returns-then-written_length-room-clause-answer : goal.returns-then-written_length-room-clause-answer
@@ -17,15 +17,35 @@ returns-then-written_length-room-clause-answer c =
     let some = size_some m in
     grind (arith, common_steps)
 
-pub returns-in_err-put-clause-refused : goal.returns-in_err-put-clause-refused
-returns-in_err-put-clause-refused c =
+pub returns-in_err-begin-clause-refused : goal.returns-in_err-begin-clause-refused
+returns-in_err-begin-clause-refused c =
     let p = err_from_is_err_and c.from_residual.result c.from_residual.ensures.1 in
     let m = chunk_meaning c.args.chunk.now in
     let more = size_of_more c.args.self.now.chunks m in
     let some = size_some m in
     rw p.1 (grind (arith, common_steps))
 
-is_put : (c : goal.In_ok-put) → IsPut c.self.inside.limit (header_bytes c.self.inside.source c.self.inside.destination c.self.inside.tag 0) c.self.inside.bytes.items c.put.new.bytes.items (chunk_meaning c.args.chunk.now)
+pub returns-in_err-begin-clause-first : goal.returns-in_err-begin-clause-first
+returns-in_err-begin-clause-first c =
+    let p = err_from_is_err_and c.from_residual.result c.from_residual.ensures.1 in
+    let s = c.self.inside in
+    let header = header_bytes s.source s.destination s.tag 0 in
+    let none = ap length c.in_err-begin.ensures.first in
+    rw (p.1, ← c.self.view_is) (draft_none s.limit header s.bytes.items c.self.invariant.draft (omega (arith, none)))
+
+pub put-requires-clause-room : goal.put-requires-clause-room
+put-requires-clause-room c =
+    let s = c.self.inside in
+    let m = chunk_meaning c.args.chunk.now in
+    let header = header_bytes s.source s.destination s.tag 0 in
+    let chunks = chunks_of (drop HEADER_ROOM s.bytes.items) in
+    let size = draft_size header refl s.limit s.bytes.items c.self.invariant.draft in
+    let long = c.begin.new.bytes.ok.0 ∙ ap length c.in_ok-begin.ensures.begun ∙ size in
+    let room = rw (← c.self.view_is) at c.room.ensures.room in
+    let fits : size_of_packet chunks + length (written m) ≤ s.limit = omega (arith, room, c.written_length.ensures.written, c.written_length.ensures.size, c.if-written_length-room.false, size_of_more chunks m, size_some m) in
+    omega (arith, long, fits, c.in_ok-begin.ensures.room)
+
+is_put : (c : goal.After-put) → IsPut c.self.inside.limit (header_bytes c.self.inside.source c.self.inside.destination c.self.inside.tag 0) c.self.inside.bytes.items c.put.new.bytes.items (chunk_meaning c.args.chunk.now)
 is_put c =
     let s = c.self.inside in
     let m = chunk_meaning c.args.chunk.now in
@@ -33,11 +53,11 @@ is_put c =
     let chunks = chunks_of (drop HEADER_ROOM s.bytes.items) in
     let room = rw (← c.self.view_is) at c.room.ensures.room in
     let law : IsReadBack = λ bytes ms writes. c.chunks_are_read.ensures bytes ms (c.written_each_reads.ensures bytes ms writes) in
-    let put : c.put.new.bytes.items ≡ with_header header s.bytes.items ++ written m = rw c.header-header.ensures at c.in_ok-put.ensures.put in
+    let put : c.put.new.bytes.items ≡ with_header header s.bytes.items ++ written m = rw c.in_ok-begin.ensures.begun at c.put.ensures.put in
     draft_put _ header _ _ m refl law c.self.invariant.draft c.requires (omega (arith, room, size_of_more chunks m, size_some m)) put
 
 pub invariant_of-self-2 : goal.invariant_of-self-2
-invariant_of-self-2 c = record { header = c.self.invariant.header; draft = (is_put c).draft }
+invariant_of-self-2 c = record { header = c.self.invariant.header; draft = (is_put c).draft; room = λ some. omega (arith, c.in_ok-begin.ensures.room, c.put.ensures.capacity) }
 
 pub returns-clause-answer : goal.returns-clause-answer
 returns-clause-answer c =
