@@ -5,7 +5,7 @@ use Rattle.sctp_chains.specs.Links.{ChainKept, chain_of, one_of, join, IsChain, 
 use Rattle.sctp_chains.specs.declared.chain.Chain.{Chain}
 use Rattle.sctp_chains.specs.declared.chain.Part.{Part}
 use Rattle.sctp_chains.specs.inner.Filing.{IsPlace, IsLinkBefore, IsLinkBehind, IsJoined, Gains}
-use Rattle.sctp_chains.proofs.MemoryLemmas.{at_kept, same_at, length_kept, set_kept, remove_kept, insert_kept, left_at, other_at, set_twice}
+use Rattle.sctp_chains.proofs.MemoryLemmas.{at_kept, same_at, length_kept, set_kept, remove_kept, insert_kept, earlier_at, set_earlier}
 use Rattle.sctp_chains.proofs.ListLemmas.{at_same}
 use Rattle.sctp_chains.proofs.FilingLemmas.{files_alone, files_back, files_front, files_both}
 
@@ -46,22 +46,22 @@ module _ (cs : List Chain) (k : ℕ) (p : Part) (le : k ≤ length cs) (place : 
 
 -- ---- one chain of two, and the fragment between them
 
-pub joined_up : (cs new : List Chain) (i j : ℕ) (p : Part) (x y z w r : Chain) → i < j → j < length cs → x ≡ get_or cs i x → chain_of y ≡ chain_of x →
-    r ≡ get_or (set cs i y) j r → new ≡ remove (set cs i y) j → w ≡ get_or new i w → chain_of z ≡ join (join (chain_of w) (one_of p)) (chain_of r) →
+pub joined_up : (cs mid new : List Chain) (i j : ℕ) (p : Part) (z w r : Chain) → i < j → j < length mid → map chain_of mid ≡ map chain_of cs →
+    r ≡ get_or mid j r → new ≡ remove mid j → w ≡ get_or new i w → chain_of z ≡ join (join (chain_of w) (one_of p)) (chain_of r) →
     IsJoined (map chain_of cs) i (one_of p) j (map chain_of (set new i z))
-joined_up cs new i j p x y z w r order less at same taken left again is c d here there =
+joined_up cs mid new i j p z w r order less same taken left again is c d here there =
     set_kept new i z ∙ ap (λ (xs : List Chain). set (map chain_of xs) i (chain_of z)) left
-    ∙ ap (λ (xs : List ChainKept). set xs i (chain_of z)) (remove_kept (set cs i y) j ∙ ap (λ (xs : List ChainKept). remove xs j) (set_kept cs i y))
-    ∙ set_twice (map chain_of cs) i j (chain_of y) (chain_of z) order ∙ ap (λ (m : ChainKept). remove (set (map chain_of cs) i m) j) all
+    ∙ ap (λ (xs : List ChainKept). set xs i (chain_of z)) (remove_kept mid j ∙ ap (λ (xs : List ChainKept). remove xs j) same)
+    ∙ set_earlier (map chain_of cs) i j (chain_of z) order ∙ ap (λ (m : ChainKept). remove (set (map chain_of cs) i m) j) all
   where
-    first : chain_of x ≡ c
-    first = same_at cs i i x c refl (let o = order in let l = less in omega (arith, o, l)) at here
+    kept : w ≡ get_or mid i w
+    kept = again ∙ ap (λ (xs : List Chain). get_or xs i w) left ∙ earlier_at mid i j w order less
+
+    first : chain_of w ≡ c
+    first = same_at mid i i w c refl (let o = order in let l = less in omega (arith, o, l)) kept (here ∙ sym (ap (λ (xs : List ChainKept). get_or xs i c) same))
 
     second : chain_of r ≡ d
-    second = same_at cs j j r d refl less (taken ∙ other_at cs i j y r order) there
-
-    kept : w ≡ y
-    kept = again ∙ ap (λ (xs : List Chain). get_or xs i w) left ∙ left_at cs i j y w order less
+    second = same_at mid j j r d refl less taken (there ∙ sym (ap (λ (xs : List ChainKept). get_or xs j d) same))
 
     all : chain_of z ≡ join (join c (one_of p)) d
-    all = is ∙ ap (λ (v : ChainKept). join (join v (one_of p)) (chain_of r)) (ap chain_of kept ∙ same ∙ first) ∙ ap (join (join c (one_of p))) second
+    all = is ∙ ap (λ (v : ChainKept). join (join v (one_of p)) (chain_of r)) first ∙ ap (join (join c (one_of p))) second

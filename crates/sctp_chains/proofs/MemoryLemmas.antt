@@ -37,6 +37,10 @@ pub length_kept : (cs : List Chain) → length (map chain_of cs) ≡ length cs
 length_kept [] = refl
 length_kept (c ∷ cs) = ap suc (length_kept cs)
 
+-- chains that say the same are as many
+pub same_size : (cs ds : List Chain) → map chain_of cs ≡ map chain_of ds → length cs ≡ length ds
+same_size cs ds same = sym (length_kept cs) ∙ ap (λ (ks : List ChainKept). length ks) same ∙ length_kept ds
+
 -- ---- changes
 
 pub take_kept : (cs : List Chain) (k : ℕ) → map chain_of (take k cs) ≡ take k (map chain_of cs)
@@ -85,26 +89,20 @@ one_shorter [] i less = absurd (omega (arith, less))
 one_shorter (c ∷ cs) zero less = refl
 one_shorter (c ∷ cs) (suc i) less = ap suc (one_shorter cs i (omega (arith, less)))
 
--- ---- one chain changes, a later one is taken out, and the first changes again
+-- ---- a chain is taken out, and an earlier one changes
 
-pub left_at : (cs : List Chain) (i j : ℕ) (y d : Chain) → i < j → j < length cs → get_or (remove (set cs i y) j) i d ≡ y
-left_at [] i j y d order less = absurd (omega (arith, less))
-left_at (c ∷ cs) i zero y d order less = absurd (omega (arith, order))
-left_at (c ∷ cs) zero (suc j) y d order less = refl
-left_at (c ∷ cs) (suc i) (suc j) y d order less = left_at cs i j y d (omega (arith, order)) (omega (arith, less))
+pub earlier_at : (cs : List Chain) (i j : ℕ) (d : Chain) → i < j → j < length cs → get_or (remove cs j) i d ≡ get_or cs i d
+earlier_at [] i j d order less = absurd (omega (arith, less))
+earlier_at (c ∷ cs) i zero d order less = absurd (omega (arith, order))
+earlier_at (c ∷ cs) zero (suc j) d order less = refl
+earlier_at (c ∷ cs) (suc i) (suc j) d order less = earlier_at cs i j d (omega (arith, order)) (omega (arith, less))
 
-pub other_at : (cs : List Chain) (i j : ℕ) (y d : Chain) → i < j → get_or (set cs i y) j d ≡ get_or cs j d
-other_at [] i j y d order = refl
-other_at (c ∷ cs) i zero y d order = absurd (omega (arith, order))
-other_at (c ∷ cs) zero (suc j) y d order = refl
-other_at (c ∷ cs) (suc i) (suc j) y d order = other_at cs i j y d (omega (arith, order))
-
-pub set_twice : (cs : List ChainKept) (i j : ℕ) (y z : ChainKept) → i < j → set (remove (set cs i y) j) i z ≡ remove (set cs i z) j
-set_twice [] i j y z order = nothing i j
+pub set_earlier : (cs : List ChainKept) (i j : ℕ) (z : ChainKept) → i < j → set (remove cs j) i z ≡ remove (set cs i z) j
+set_earlier [] i j z order = nothing i j
   where
     nothing : (a b : ℕ) → set (remove [] b) a z ≡ remove [] b
     nothing a zero = refl
     nothing a (suc b) = refl
-set_twice (c ∷ cs) i zero y z order = absurd (omega (arith, order))
-set_twice (c ∷ cs) zero (suc j) y z order = refl
-set_twice (c ∷ cs) (suc i) (suc j) y z order = ap (λ (xs : List ChainKept). c ∷ xs) (set_twice cs i j y z (omega (arith, order)))
+set_earlier (c ∷ cs) i zero z order = absurd (omega (arith, order))
+set_earlier (c ∷ cs) zero (suc j) z order = refl
+set_earlier (c ∷ cs) (suc i) (suc j) z order = ap (λ (xs : List ChainKept). c ∷ xs) (set_earlier cs i j z (omega (arith, order)))

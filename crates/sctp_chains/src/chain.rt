@@ -1,10 +1,15 @@
 //! Fragments that follow one another. Nothing here knows of numbers or formats.
 
-ghost use Rattle.std.specs.Prelude.{◌≡◌, ◌≤◌, ◌+◌, ◌<◌, ◌&&◌, if◌then◌else◌, vec_len, vec_capacity, OnOk, OnErr, IfOk};
+ghost use Rattle.std.specs.Prelude.{◌≡◌, ◌≤◌, ◌+◌, ◌<◌, ◌&&◌, if◌then◌else◌, OnOk, OnErr, IfOk};
+ghost use Rattle.std.specs.VecDeque.{deque_len, deque_capacity};
 ghost use Rattle.sctp_chains.specs.Links.{chain_of, one_of, is_linked, one_if_whole, join};
+ghost use Rattle.sctp_chains.specs.inner.Filing.{HasJointRoom};
 
+use crate::parts::{put_before, put_behind};
 use sctp_values::NoMemory;
 use std::alloc::Global;
+use std::collections::VecDeque;
+use std::mem::replace;
 
 /// What the chunk that begins a message says of it: its own index, and the payload protocol identifier.
 #[derive(Clone, Copy, Debug, PartialEq, Eq)]
@@ -20,7 +25,7 @@ pub(crate) struct Chain {
     pub(crate) last: u64,
     pub(crate) head: Option<Head>,
     pub(crate) ends: bool,
-    pub(crate) parts: Vec<Vec<u8>>,
+    pub(crate) parts: VecDeque<Vec<u8>>,
 }
 
 /// One fragment, to be filed.
@@ -55,7 +60,7 @@ impl Chain {
         ensures joined { OnOk result (chain_of self.new ≡ join (chain_of self.old) (one_of part)) }
         ensures refused { OnErr result (chain_of self.new ≡ chain_of self.old) }
     {
-        self.parts.push(part.data).map_err(|_| NoMemory)?;
+        self.parts.push_back(part.data).map_err(|_| NoMemory)?;
         self.last = part.rank;
         self.ends = part.end;
         Ok(())
@@ -69,7 +74,7 @@ impl Chain {
         ensures joined { OnOk result (chain_of self.new ≡ join (one_of part) (chain_of self.old)) }
         ensures refused { OnErr result (chain_of self.new ≡ chain_of self.old) }
     {
-        self.parts.insert(0, part.data).map_err(|_| NoMemory)?;
+        self.parts.push_front(part.data).map_err(|_| NoMemory)?;
         self.first = part.rank;
         self.head = part.head;
         Ok(())
@@ -81,18 +86,23 @@ impl Chain {
     /// Memory ran out.
     pub(crate) fn reserve(&mut self, more: usize) -> Result<(), NoMemory>
         ensures same { chain_of self.new ≡ chain_of self.old }
-        ensures room { OnOk result (vec_len self.new.parts + more ≤ vec_capacity self.new.parts) }
+        ensures length { deque_len self.new.parts ≡ deque_len self.old.parts }
+        ensures room { OnOk result (deque_len self.new.parts + more ≤ deque_capacity self.new.parts) }
     {
         self.parts.reserve(more).map_err(|_| NoMemory)
     }
 
-    /// Puts a fragment behind it, and another chain behind that. There is room for all of them.
-    pub(crate) fn close_gap(&mut self, part: Part, mut right: Chain)
-        requires { vec_len self.old.parts + (vec_len right.parts + 1) ≤ vec_capacity self.old.parts }
+    /// Puts a fragment behind it, and another chain behind that. The longer of the two has room for all of them.
+    pub(crate) fn close_gap(&mut self, part: Part, right: Chain)
+        requires { HasJointRoom self.old right }
         ensures { chain_of self.new ≡ join (join (chain_of self.old) (one_of part)) (chain_of right) }
     {
-        self.parts.push_reserved(part.data);
-        let _ = self.parts.append(&mut right.parts);
+        if self.parts.len() < right.parts.len() {
+            let left = replace(&mut self.parts, right.parts);
+            put_before(&mut self.parts, part.data, left);
+        } else {
+            put_behind(&mut self.parts, part.data, right.parts);
+        }
         self.last = right.last;
         self.ends = right.ends;
     }
@@ -121,8 +131,8 @@ pub(crate) fn one_if(ends: bool, begins: bool) -> usize
 pub(crate) fn alone(alloc: Global, part: Part) -> Result<Chain, NoMemory>
     ensures { IfOk result (λ c. chain_of c ≡ one_of part) }
 {
-    let mut parts = Vec::with_capacity(alloc, 1).map_err(|_| NoMemory)?;
-    parts.push_reserved(part.data);
+    let mut parts = VecDeque::with_capacity(alloc, 1).map_err(|_| NoMemory)?;
+    parts.push_back_reserved(part.data);
     Ok(Chain {
         first: part.rank,
         last: part.rank,

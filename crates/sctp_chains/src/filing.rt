@@ -1,8 +1,8 @@
 //! A fragment is filed: it lengthens a chain, closes the gap between two, or is a chain of its own.
 
-ghost use Rattle.std.specs.Prelude.{◌≡◌, ◌≤◌, ◌<◌, ◌+◌, suc, nat_lt, length, map, OnOk, OnErr, IfOk};
+ghost use Rattle.std.specs.Prelude.{◌≡◌, ◌≤◌, ◌<◌, ◌+◌, suc, nat_lt, length, get_or, map, OnOk, OnErr, IfOk};
 ghost use Rattle.sctp_chains.specs.Links.{chain_of, one_of, whole_in, AreChains};
-ghost use Rattle.sctp_chains.specs.inner.Filing.{IsPlace, IsLinkBefore, IsLinkBehind, IsJoined, Gains};
+ghost use Rattle.sctp_chains.specs.inner.Filing.{IsPlace, IsLinkBefore, IsLinkBehind, IsJoined, HasJointRoom, Gains};
 
 use crate::chain::{Chain, Part, alone, one_if};
 use sctp_values::{NoMemory, put_at};
@@ -87,6 +87,24 @@ pub(crate) fn file(
     }
 }
 
+/// Makes room in the longer of two chains for the fragments of the shorter, and one more.
+///
+/// # Errors
+/// Memory ran out.
+fn make_joint_room(chains: &mut VecDeque<Chain>, left: usize, right: usize) -> Result<(), NoMemory>
+    requires order { left < right }
+    requires within { right < length chains.old.items }
+    ensures same { map chain_of chains.new.items ≡ map chain_of chains.old.items }
+    ensures room { OnOk result ((c d : Chain) → c ≡ get_or chains.new.items left c → d ≡ get_or chains.new.items right d → HasJointRoom c d) }
+{
+    let before = chains[left].parts.len();
+    let behind = chains[right].parts.len();
+    if before < behind {
+        return chains[right].reserve(before.saturating_add(1));
+    }
+    chains[left].reserve(behind.saturating_add(1))
+}
+
 /// Makes one chain of a chain, a fragment behind it, and the chain behind that.
 ///
 /// # Errors
@@ -103,8 +121,7 @@ fn join_all(
     ensures joined { OnOk result (IsJoined (map chain_of chains.old.items) left (one_of part) right (map chain_of chains.new.items)) }
     ensures refused { OnErr result (map chain_of chains.new.items ≡ map chain_of chains.old.items) }
 {
-    let more = chains[right].parts.len().saturating_add(1);
-    chains[left].reserve(more)?;
+    make_joint_room(chains, left, right)?;
     if let Some(chain) = chains.remove(right) {
         chains[left].close_gap(part, chain);
     }

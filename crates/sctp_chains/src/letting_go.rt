@@ -1,6 +1,6 @@
 //! Fragments go: a message that is taken, or what a rank leaves behind. The bytes held are counted.
 
-ghost use Rattle.std.specs.Prelude.{◌≡◌, ◌≤◌, ◌+◌, ◌-◌, suc, length, map, MatchOption, IfNone, IfSome, OnSome};
+ghost use Rattle.std.specs.Prelude.{◌≡◌, ◌≤◌, ◌+◌, ◌-◌, suc, length, map, take, MatchOption, IfNone, IfSome, OnSome};
 ghost use Rattle.sctp_chains.specs.Links.{chain_of, bytes_of, one_if_whole, whole_in};
 ghost use Rattle.sctp_chains.specs.inner.LettingGo.{size_of_parts, LetsGo, Removes, Trims};
 
@@ -8,19 +8,33 @@ use crate::chain::Chain;
 use crate::ends::remove_at;
 use std::collections::VecDeque;
 
-/// A number less the bytes of these parts, 0 where there are more.
+/// A number less the bytes of a part, 0 where it has more.
+fn less_one(held: u32, part: &Vec<u8>) -> u32
+    ensures { result ≡ held - length part.now.items }
+{
+    match u32::try_from(part.len()) {
+        Ok(bytes) => held.saturating_sub(bytes),
+        Err(_) => 0,
+    }
+}
+
+/// A number less the bytes of the first `count` of these parts, 0 where they have more.
 #[tactic(auto, using(crate::proofs::SizeLemmas::size_more))]
-fn less(held: u32, parts: &[Vec<u8>]) -> u32
-    ensures { result ≡ held - size_of_parts (map bytes_of parts.now) }
+fn less(held: u32, parts: &VecDeque<Vec<u8>>, count: usize) -> u32
+    ensures { result ≡ held - size_of_parts (map bytes_of (take count parts.now.items)) }
 {
     let mut left = held;
-    for part in parts {
-        left = match u32::try_from(part.len()) {
-            Ok(bytes) => left.saturating_sub(bytes),
-            Err(_) => 0,
-        };
+    for at in 0..count.min(parts.len()) {
+        left = less_one(left, &parts[at]);
     }
     left
+}
+
+/// A number less the bytes of all of these parts, 0 where they have more.
+fn less_all(held: u32, parts: &VecDeque<Vec<u8>>) -> u32
+    ensures { result ≡ held - size_of_parts (map bytes_of parts.now.items) }
+{
+    less(held, parts, parts.len())
 }
 
 /// Takes out the chain at a place.
@@ -31,7 +45,7 @@ pub(crate) fn remove(chains: &mut VecDeque<Chain>, held: &mut u32, at: usize) ->
     ensures taken { MatchOption result (length chains.old.items ≤ at) (λ c. Removes at (map chain_of chains.old.items) (map chain_of chains.new.items) held.old held.new (chain_of c)) }
 {
     let chain = remove_at(chains, at)?;
-    *held = less(*held, &chain.parts);
+    *held = less_all(*held, &chain.parts);
     Some(chain)
 }
 
@@ -44,7 +58,7 @@ pub(crate) fn drop_upto(chains: &mut VecDeque<Chain>, held: u32, at: usize, upto
     let mut left = held;
     while at < chains.len() && chains[at].last <= upto {
         if let Some(chain) = remove_at(chains, at) {
-            left = less(left, &chain.parts);
+            left = less_all(left, &chain.parts);
         }
     }
     if at < chains.len() && chains[at].first <= upto {
@@ -68,7 +82,7 @@ fn trim(chain: &mut Chain, held: u32, upto: u64) -> u32
         return held;
     }
     let stay = chain.parts.len() - gone;
-    let left = less(held, &chain.parts[..gone]);
+    let left = less(held, &chain.parts, gone);
     chain.parts.rotate_left(gone);
     chain.parts.truncate(stay);
     chain.first = upto.saturating_add(1);

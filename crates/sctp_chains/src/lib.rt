@@ -21,6 +21,7 @@ mod ends;
 mod filed;
 mod filing;
 mod letting_go;
+mod parts;
 mod rank;
 mod search;
 mod whole;

@@ -26,6 +26,6 @@ pub(crate) fn whole_of(chain: Chain, head: Head, number: Option<u32>) -> Whole
         first: head.index,
         number,
         payload_id: head.payload_id,
-        parts: chain.parts,
+        parts: chain.parts.into_vec(),
     }
 }

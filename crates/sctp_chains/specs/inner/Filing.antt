@@ -1,9 +1,11 @@
 -- A fragment is filed.
-use Rattle.std.specs.Prelude.{◌≡◌, ℕ, suc, ◌<◌, ◌≤◌, true, false, List, ◌++◌, length, get_or, set, take, drop, Option, Some, None}
+use Rattle.std.specs.Prelude.{◌≡◌, ℕ, suc, ◌+◌, ◌<◌, ◌≤◌, true, false, List, ◌++◌, length, get_or, set, take, drop, Option, Some, None}
 use Rattle.std.specs.List.{remove}
+use Rattle.std.specs.VecDeque.{deque_len, deque_capacity}
 use Rattle.sctp_model.specs.numbers.Lists.{Has}
 use Rattle.sctp_chains.specs.Same.{AreSame}
 use Rattle.sctp_chains.specs.Cells.{Cell}
+use Rattle.sctp_chains.specs.declared.chain.Chain.{Chain}
 use Rattle.sctp_chains.specs.Links.{ChainKept, cells_in, cells_of, is_linked, join, AreChains}
 
 -- So many chains at the front lie below a rank, and none behind them does.
@@ -29,6 +31,11 @@ IsLinkBehind cs k a (Some j) = (j ≡ k) × (j < length cs) × ((c : ChainKept) 
 abbrev pub IsJoined : (old : List ChainKept) → (left : ℕ) → ChainKept → (right : ℕ) → (new : List ChainKept) → Type 0
 IsJoined old left a right new =
     (c d : ChainKept) → c ≡ get_or old left c → d ≡ get_or old right d → new ≡ remove (set old left (join (join c a) d)) right
+
+-- The longer of two chains has room for the fragments of the shorter, and one more.
+pub record HasJointRoom (left right : Chain) : Type 0 where
+  pub before : deque_len left.parts < deque_len right.parts → deque_len right.parts + (deque_len left.parts + 1) ≤ deque_capacity right.parts
+  pub behind : deque_len right.parts ≤ deque_len left.parts → deque_len left.parts + (deque_len right.parts + 1) ≤ deque_capacity left.parts
 
 -- The chains have the fragments of one more.
 pub record HaveMore (a : ChainKept) (old new : List ChainKept) : Type 0 where

@@ -1,7 +1,6 @@
-use Rattle.std.proofs.Common.{◌≡◌, ◌-◌, ◌<◌, ◌≤◌, List, length, map, ap, sym, ◌∙◌, arith}
+use Rattle.std.proofs.Common.{◌≡◌, ◌<◌, ◌≤◌, List, length, map, ap, sym, ◌∙◌, arith}
 use Rattle.sctp_chains.specs.declared.chain.Chain.{Chain}
-use Rattle.sctp_chains.specs.Links.{chain_of, bytes_of, whole_in}
-use Rattle.sctp_chains.specs.inner.LettingGo.{size_of_parts}
+use Rattle.sctp_chains.specs.Links.{chain_of, whole_in}
 use Rattle.sctp_chains.proofs.ListLemmas.{at_same}
 use Rattle.sctp_chains.proofs.MemoryLemmas.{as_long, one_shorter}
 use Rattle.sctp_chains.proofs.GoingLemmas.{one_more, front_more, none_more, none_left}
@@ -18,8 +17,8 @@ loop-chains-preserved-in-Some c =
     let same : x ≡ c.index.result.now = c.in-Some.ensures.value ∙ at_same cs k x c.index.result.now l ∙ sym c.index.ensures in
     let low : x.last ≤ c.args.upto = let e = ap (λ (z : Chain). z.last) same in let h = c.if-index-upto.true in omega (arith, e, h) in
     record {
-      drops = one_more cs k x l c.in-Some.ensures.value c.args.upto (map chain_of c.args.chains.now.items) c.remove_at.new.chains.items c.args.held c.loop-chains.left c.less-left.result
-          c.loop-chains.invariant.drops low c.in-Some.ensures.items (c.less-left.ensures ∙ ap (λ ps. c.loop-chains.left - size_of_parts (map bytes_of ps)) c.deref.ensures.value);
+      drops = one_more cs k x l c.in-Some.ensures.value c.args.upto (map chain_of c.args.chains.now.items) c.remove_at.new.chains.items c.args.held c.loop-chains.left c.less_all-left.result
+          c.loop-chains.invariant.drops low c.in-Some.ensures.items c.less_all-left.ensures;
       whole =
           let step = whole_remove cs k x l c.in-Some.ensures.value in let is = ap (λ (xs : List Chain). whole_in (map chain_of xs)) c.in-Some.ensures.items in let before = c.loop-chains.invariant.whole in omega (arith, step, is, before);
       fewer =

@@ -1,6 +1,5 @@
-use Rattle.std.proofs.Common.{List, suc, ◌+◌, ◌-◌, ◌<◌, length, map, refl, ap, ◌∙◌, arith}
-use Rattle.sctp_chains.specs.Links.{bytes_of, chain_of, one_if_whole, whole_in}
-use Rattle.sctp_chains.specs.inner.LettingGo.{size_of_parts}
+use Rattle.std.proofs.Common.{List, suc, ◌+◌, ◌<◌, length, map, refl, ap, ◌∙◌, arith}
+use Rattle.sctp_chains.specs.Links.{chain_of, one_if_whole, whole_in}
 use Rattle.sctp_chains.specs.declared.chain.Chain.{Chain}
 use Rattle.sctp_chains.proofs.MemoryLemmas.{one_shorter}
 use Rattle.sctp_chains.proofs.GoingLemmas.{out_of}
@@ -11,8 +10,8 @@ pub returns-clause-taken : goal.returns-clause-taken
 returns-clause-taken c =
     let cs = c.args.chains.now.items in
     let l : c.args.at < length cs = let some = c.in_ok-chain.ensures.variant.0 refl in omega (arith, some, c.args.chains.now.ok) in
-    out_of cs c.args.at c.in_ok-chain.chain l c.in_ok-chain.ensures.value c.remove_at.new.chains.items c.args.held.now c.less.result c.in_ok-chain.ensures.items
-    (c.less.ensures ∙ ap (λ ps. c.args.held.now - size_of_parts (map bytes_of ps)) c.deref.ensures.value)
+    out_of cs c.args.at c.in_ok-chain.chain l c.in_ok-chain.ensures.value c.remove_at.new.chains.items c.args.held.now c.less_all.result c.in_ok-chain.ensures.items
+    c.less_all.ensures
 
 pub returns-clause-fewer : goal.returns-clause-fewer
 returns-clause-fewer c =

@@ -15,5 +15,5 @@ returns-clause-trimmed c = λ good low high.
     ∙ ap (λ (n : ℕ). drop n (map bytes_of ps)) gone in
     let left : c.less-left.result ≡ c.args.held - size_of_parts (take (suc (c.args.upto - c.args.chain.now.first)) (map bytes_of ps)) =
     c.less-left.ensures ∙ ap (λ (xs : List (List ℕ)). c.args.held - size_of_parts xs)
-    (ap (λ xs. map bytes_of (take c.saturating_add-gone.result xs)) c.deref.ensures.value ∙ kept_front ps c.saturating_add-gone.result ∙ ap (λ (n : ℕ). take n (map bytes_of ps)) gone) in
+    (kept_front ps c.saturating_add-gone.result ∙ ap (λ (n : ℕ). take n (map bytes_of ps)) gone) in
     (λ i. record { first = next i; last = c.args.chain.now.last; head = None; ends = c.args.chain.now.ends; parts = parts i }, left)

@@ -1,0 +1,34 @@
+//! The parts of two chains, and one between them, become one list: the shorter moves to the longer. Nothing here knows what a part is.
+
+ghost use Rattle.std.specs.Prelude.{◌≡◌, ◌≤◌, ◌+◌, ◌++◌, ◌∷◌};
+ghost use Rattle.std.specs.VecDeque.{deque_len, deque_capacity};
+
+use std::collections::VecDeque;
+
+/// Puts a part behind these, and more behind that. There is room for them.
+pub(crate) fn put_behind(
+    parts: &mut VecDeque<Vec<u8>>,
+    between: Vec<u8>,
+    mut behind: VecDeque<Vec<u8>>,
+)
+    requires { deque_len parts.old + (deque_len behind + 1) ≤ deque_capacity parts.old }
+    ensures { parts.new.items ≡ parts.old.items ++ between ∷ behind.items }
+{
+    parts.push_back_reserved(between);
+    let _ = parts.append(&mut behind);
+}
+
+/// Puts a part before these, and more before that. There is room for them.
+pub(crate) fn put_before(
+    parts: &mut VecDeque<Vec<u8>>,
+    between: Vec<u8>,
+    mut before: VecDeque<Vec<u8>>,
+)
+    requires { deque_len parts.old + (deque_len before + 1) ≤ deque_capacity parts.old }
+    ensures { parts.new.items ≡ before.items ++ between ∷ parts.old.items }
+{
+    parts.push_front_reserved(between);
+    while let Some(part) = before.pop_back() {
+        parts.push_front_reserved(part);
+    }
+}
