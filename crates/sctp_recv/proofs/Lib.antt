@@ -11,6 +11,7 @@ mod TakenLemmas
 mod ChunkLemmas
 mod ReadLemmas
 mod RestLemmas
+mod EntryLemmas
 mod TouchedLemmas
 mod PassLemmas
 mod QuietLemmas

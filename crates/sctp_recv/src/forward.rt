@@ -1,27 +1,27 @@
 //! A FORWARD: its sender gave up all that is missing up to an index, and names the messages that are waited for in vain
 //! (RFC 3758, 3.6; RFC 8260, 2.3).
 
-ghost use Rattle.std.specs.Prelude.{◌≡◌, ℕ, false, map, length, IfOk, OnOk, OnErr};
+ghost use Rattle.std.specs.Prelude.{◌≡◌, ℕ, false, List, map, length, IfOk, OnOk, OnErr};
 ghost use Rattle.std.specs.List.{Contains};
-ghost use Rattle.std.specs.List.Sorted.{IsNonDecreasing};
+ghost use Rattle.std.specs.List.Sorted.{IsNonDecreasing, IsPermutation};
 ghost use Rattle.sctp_model.specs.receiver.ReceiverView.{ReceiverView, IsCumulative};
 ghost use Rattle.sctp_model.specs.receiver.Receiving.{GivesAll};
-ghost use Rattle.sctp_model.specs.receiver.Reading.{lane_of};
 ghost use Rattle.sctp_model.specs.receiver.ForwardTaken.{Moved, ForwardTaken, forward_answer, forwarded, names_other_stream};
-ghost use Rattle.sctp_model.specs.wire.Chunk.{ForwardMeaning};
-ghost use Rattle.sctp_model.specs.messages.Format.{same_lane, ordered_lane, unordered_lane};
+ghost use Rattle.sctp_model.specs.wire.Chunk.{ForwardMeaning, SkipMeaning};
+ghost use Rattle.sctp_model.specs.messages.Format.{ordered_lane, unordered_lane};
 ghost use Rattle.sctp_wire.specs.ChunkTree.{skip_meaning, forward_meaning};
 ghost use Rattle.sctp_chains.specs.Cells.{Kept};
 ghost use Rattle.sctp_chains.specs.StandsFor as lane;
 ghost use Rattle.sctp_recv.specs.AnswerOf.{forward_answer_of};
-ghost use Rattle.sctp_recv.specs.Fields.{stream_of, lane_at};
+ghost use Rattle.sctp_recv.specs.Fields.{stream_of};
 ghost use Rattle.sctp_recv.specs.Filed.{AreFiled};
 ghost use Rattle.sctp_recv.specs.StandsFor.{Stands, StandsFor};
-ghost use Rattle.sctp_recv.specs.inner.Forwarding.{skipped_by, lowest_after, IsTouched, HaveRoom, AreQuiet, PassesOn, AreToPass, ArePassed};
+ghost use Rattle.sctp_recv.specs.inner.Forwarding.{AreByStream, IsTouched, HaveRoom, AreQuiet, PassesOn, AreToPass, ArePassed};
 ghost use Rattle.sctp_recv.specs.inner.Giving.{HasRoom, AreCounted};
 ghost use Rattle.sctp_recv.specs.inner.Rows.{IsAbove};
 
 use crate::answer::{TsnPlace, place_of_tsn};
+use crate::entries::{by_stream, lowest_after, of_stream};
 use crate::give::{give_ordered, make_room};
 use crate::inbound::Inbound;
 use crate::receiver::Receiver;
@@ -51,37 +51,6 @@ fn names_other_stream(streams: usize, skips: &Skips<'_>) -> bool
         }
     }
     false
-}
-
-/// Whether an entry is for this stream and kind.
-fn is_for(skip: Skip, stream: u16, kind: Kind) -> bool
-    ensures { result ≡ same_lane (lane_at stream kind) (lane_of skip.stream skip.unordered) }
-{
-    stream == skip.stream && kind.flag() == skip.unordered
-}
-
-/// One past the number that an entry skips of this stream and kind, or 0 where it skips none there.
-fn skipped_by<F: Framing>(skip: Skip, stream: u16, kind: Kind, reference: u32) -> u32
-    ensures { result ≡ skipped_by F.format (lane_at stream kind) reference (skip_meaning skip) }
-{
-    if !is_for(skip, stream, kind) {
-        return 0;
-    }
-    match F::number_near(kind, skip.number, reference) {
-        Some(number) => number + 1,
-        None => 0,
-    }
-}
-
-/// The lowest number of this stream and kind that still counts, of which `reference` was the lowest before.
-fn lowest_after<F: Framing>(skips: &Skips<'_>, stream: u16, kind: Kind, reference: u32) -> u32
-    ensures { result ≡ lowest_after F.format (lane_at stream kind) reference skips.now.skips }
-{
-    let mut lowest = reference;
-    for skip in skips.iter() {
-        lowest = lowest.max(skipped_by::<F>(skip, stream, kind, reference));
-    }
-    lowest
 }
 
 /// The streams that a FORWARD may change, in rising order: those that it names, and those on which a part of an unordered message came.
@@ -118,20 +87,20 @@ fn make_rooms<F: Framing>(streams: &mut Vec<Inbound<F>>, touched: &[u16]) -> Res
     Ok(())
 }
 
-/// Passes what a FORWARD skips on a stream, lets go of the unordered chunks left behind, and hands over what is then due. It answers
-/// how many bytes are held then, of so many before.
+/// Passes what a FORWARD skips on a stream by its entries for it, lets go of the unordered chunks left behind, and hands over what is
+/// then due. It answers how many bytes are held then, of so many before.
 fn pass_on<F: Framing>(
     inbound: &mut Inbound<F>,
     stream: u16,
-    skips: &Skips<'_>,
+    entries: &[Skip],
     jump: u32,
     held: u32,
 ) -> u32
     ensures { (os us : Kept) → lane.StandsFor F.format inbound.old.ordered (ordered_lane stream) os → lane.StandsFor F.format inbound.old.unordered (unordered_lane stream) us
-        → AreCounted os → HasRoom inbound.old 0 → PassesOn F.format stream jump skips.now.skips os us inbound.old inbound.new held result }
+        → AreCounted os → HasRoom inbound.old 0 → PassesOn F.format stream jump (map skip_meaning entries.now) os us inbound.old inbound.new held result }
 {
-    let floor = lowest_after::<F>(skips, stream, Kind::Ordered, inbound.next);
-    inbound.skip = lowest_after::<F>(skips, stream, Kind::Unordered, inbound.skip);
+    let floor = lowest_after::<F>(entries, stream, Kind::Ordered, inbound.next);
+    inbound.skip = lowest_after::<F>(entries, stream, Kind::Unordered, inbound.skip);
     let before = inbound.kept_bytes();
     inbound.unordered.let_go(jump, inbound.skip);
     let given = give_ordered(inbound, stream, floor);
@@ -140,17 +109,18 @@ fn pass_on<F: Framing>(
         .saturating_add(given)
 }
 
-/// The same on each of these streams, which rise.
+/// The same on each of these streams, which rise, each by its own entries.
 fn pass_on_all<F: Framing>(
     streams: &mut Vec<Inbound<F>>,
     touched: &[u16],
-    skips: &Skips<'_>,
+    entries: &[Skip],
     jump: u32,
     held: u32,
 ) -> u32
     ensures count { length streams.new.items ≡ length streams.old.items }
-    ensures passed { (v r : ReceiverView) → AreToPass F.format jump skips.now.skips v r streams.old.items held → HaveRoom touched.now (length touched.now) streams.old.items
-        → IsNonDecreasing touched.now → AreQuiet F.format jump skips.now.skips v touched.now streams.old.items
+    ensures passed { (v r : ReceiverView) (xs : List SkipMeaning) → AreByStream entries.now → IsPermutation xs (map skip_meaning entries.now)
+        → AreToPass F.format jump xs v r streams.old.items held → HaveRoom touched.now (length touched.now) streams.old.items
+        → IsNonDecreasing touched.now → AreQuiet F.format jump xs v touched.now streams.old.items
         → (t : ReceiverView) × GivesAll F.format (length streams.old.items) r t × ArePassed F.format t streams.new.items result }
 {
     let mut left = held;
@@ -159,7 +129,8 @@ fn pass_on_all<F: Framing>(
         let stream = touched[at];
         let place = usize::from(stream);
         if next <= place && place < streams.len() {
-            left = pass_on(&mut streams[place], stream, skips, jump, left);
+            let own = of_stream(entries, stream);
+            left = pass_on(&mut streams[place], stream, own, jump, left);
             next = place + 1;
         }
     }
@@ -202,9 +173,10 @@ impl<F: Framing> Receiver<F> {
         ensures loose { self.new.loose ≡ self.old.loose }
         ensures refused { (v : ReceiverView) → StandsFor F.format self.old v → OnErr result (StandsFor F.format self.new v) }
     {
+        let entries = by_stream(self.alloc, skips)?;
         let touched = touched_by(self.alloc, &self.loose, skips)?;
         make_rooms(&mut self.streams, &touched)?;
-        self.held = pass_on_all(&mut self.streams, &touched, skips, index, self.held);
+        self.held = pass_on_all(&mut self.streams, &touched, &entries, index, self.held);
         self.seen.jump(index);
         Ok(())
     }

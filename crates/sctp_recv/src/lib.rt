@@ -4,6 +4,7 @@
 
 mod answer;
 mod duplicates;
+mod entries;
 mod forward;
 mod give;
 mod inbound;

@@ -1,6 +1,7 @@
 -- What a FORWARD does on each stream (RFC 3758, 3.6; RFC 8260, 2.3).
 use Rattle.std.specs.Prelude.{◌≡◌, ℕ, suc, ◌+◌, ◌-◌, ◌^◌, ◌<◌, ◌⊎◌, max, not, if◌then◌else◌, List, [], ◌∷◌, ◌++◌, length, filter, slice_get, Option, None, Some}
 use Rattle.std.specs.List.{Contains}
+use Rattle.std.specs.List.Sorted.{IsNonDecreasingBy}
 use Rattle.sctp_model.specs.numbers.Lists.{Has}
 use Rattle.sctp_model.specs.wire.Chunk.{SkipMeaning}
 use Rattle.sctp_model.specs.messages.Format.{Format, Lane, same_lane, ordered_lane, unordered_lane}
@@ -9,6 +10,7 @@ use Rattle.sctp_model.specs.messages.Pieces.{Piece}
 use Rattle.sctp_model.specs.receiver.ReceiverView.{Handed, ReceiverView, size_of_pieces, size_of_messages, size_of_waiting}
 use Rattle.sctp_model.specs.receiver.Receiving.{HasNoWhole}
 use Rattle.sctp_model.specs.receiver.Reading.{lane_of}
+use Rattle.sctp_wire.specs.declared.skips.Skip.{Skip}
 use Rattle.sctp_chains.specs.StandsFor as lane
 use Rattle.sctp_chains.specs.WholeOf.{from_number}
 use Rattle.sctp_recv.specs.declared.inbound.Inbound.{Inbound}
@@ -37,6 +39,14 @@ most_skipped f l reference (x ∷ xs) = max (skipped_by f l reference x) (most_s
 -- the lowest number of a lane that still counts, of which the reference was the lowest before
 abbrev pub lowest_after : Format → Lane → (reference : ℕ) → List SkipMeaning → ℕ
 lowest_after f l reference xs = max reference (most_skipped f l reference xs)
+
+-- the entries come in rising order of their streams
+abbrev pub AreByStream : List Skip → Type 0
+AreByStream es = IsNonDecreasingBy (λ (e : Skip). e.stream) es
+
+-- of a stream these are all entries
+abbrev pub AreEntriesOf : (s : ℕ) → (all own : List SkipMeaning) → Type 0
+AreEntriesOf s all own = (x : SkipMeaning) → x.stream ≡ s → (Has all x → Has own x) × (Has own x → Has all x)
 
 -- ---- what it does on a stream
 

@@ -1,6 +1,7 @@
-use Rattle.std.proofs.Common.{◌≡◌, ℕ, ◌+◌, ◌-◌, ◌++◌, inl, refl, ◌∙◌, subst}
+use Rattle.std.proofs.Common.{map, ◌≡◌, ℕ, ◌+◌, ◌-◌, ◌++◌, inl, refl, ◌∙◌, subst}
 use Rattle.sctp_model.specs.messages.Format.{ordered_lane, unordered_lane}
 use Rattle.sctp_model.specs.receiver.ReceiverView.{size_of_pieces, size_of_messages}
+use Rattle.sctp_wire.specs.ChunkTree.{skip_meaning}
 use Rattle.sctp_chains.specs.StandsFor as lane
 use Rattle.sctp_chains.specs.WholeOf.{from_number}
 use Rattle.sctp_recv.specs.Fields.{stream_of}
@@ -12,7 +13,7 @@ pub returns : goal.returns
 returns g c = λ os us ordered unordered counted room.
     let f = g.F.Framing.format in
     let s = c.args.stream in
-    let xs = c.args.skips.now.skips in
+    let xs = map skip_meaning c.args.entries.now in
     let old = c.args.inbound.now in
     let jump = c.args.jump in
     let skip : c.lowest_after-inbound.result ≡ lowest_after f (unordered_lane s) old.skip xs = c.lowest_after-inbound.ensures in

@@ -1,4 +1,4 @@
-use Rattle.std.proofs.Common.{◌≡◌, ℕ, suc, ◌+◌, ◌<◌, length, set, Some, inl, inr, refl, sym, ◌∙◌, subst, arith}
+use Rattle.std.proofs.Common.{◌≡◌, ℕ, suc, ◌+◌, ◌<◌, length, map, set, Some, inl, inr, refl, sym, ◌∙◌, subst, arith}
 use Rattle.std.specs.Prelude.{slice_get, slice_index_or}
 use Rattle.std.proofs.lemmas.List.{length-set}
 use Rattle.std.proofs.lemmas.Option.{slice_get_read}
@@ -7,7 +7,9 @@ use Rattle.sctp_model.specs.receiver.Receiving.{handed_ordered}
 use Rattle.sctp_model.proofs.receiver.OfLane.{of_says}
 use Rattle.sctp_chains.specs.StandsFor as lane
 use Rattle.sctp_model.specs.receiver.KeptOfLane.{of_lane}
-use Rattle.sctp_recv.specs.inner.Forwarding.{PassesOn}
+use Rattle.sctp_wire.specs.ChunkTree.{skip_meaning}
+use Rattle.sctp_recv.specs.inner.Forwarding.{PassesOn, AreEntriesOf}
+use Rattle.sctp_recv.proofs.EntryLemmas.{moved, passes_own}
 use Rattle.sctp_recv.proofs.TouchedLemmas.{got_at, below_more, between, behind_all}
 use Rattle.sctp_recv.proofs.PassLemmas.{IsUpTo, upto_first, upto_next}
 use Rattle.sctp_recv.proofs.QuietLemmas.{upto_to, upto_all}
@@ -19,7 +21,7 @@ loop-at-init g c = record {
   size = refl;
   within = omega arith;
   below = λ i s low got. absurd (omega (arith, low));
-  upto = λ v r h room rising quiet. (r, upto_first g.F.Framing.format c.args.jump c.args.skips.now.skips v r c.args.streams.now.items c.args.held h);
+  upto = λ v r xs rise entries h room rising quiet. (r, upto_first g.F.Framing.format c.args.jump xs v r c.args.streams.now.items c.args.held h);
 }
 
 pub loop-at-preserved : goal.loop-at-preserved
@@ -44,18 +46,21 @@ loop-at-preserved g c =
             size = length-set items k y ∙ inv.size;
             within = omega (arith, low, inv.size);
             below = below_more touched i c.loop-at.next (k + 1) (length olds) k inv.below here (omega (arith, w.if-next-place.true)) (inl (omega arith));
-            upto = λ v r h room rising quiet.
-                let m = inv.upto v r h room rising quiet in
-                let n = upto_to f c.args.jump c.args.skips.now.skips v r olds items c.args.held c.loop-at.left h inv.size c.loop-at.next k m.0 (omega (arith, w.if-next-place.true)) (omega (arith, low, inv.size))
+            upto = λ v r xs rise entries h room rising quiet.
+                let m = inv.upto v r xs rise entries h room rising quiet in
+                let n = upto_to f c.args.jump xs v r olds items c.args.held c.loop-at.left h inv.size c.loop-at.next k m.0 (omega (arith, w.if-next-place.true)) (omega (arith, low, inv.size))
                 (λ q z past less at_q. quiet q z at_q (between touched i c.loop-at.next (length olds) k q inv.below rising here past less (omega (arith, less, low, inv.size)))) m.1 in
                 let got : slice_get olds k ≡ Some x = sym (n.1.later k (omega arith)) ∙ got_now in
                 let filed = h.filed.each k x got in
-                let p = subst (λ (q : ℕ). PassesOn f q c.args.jump c.args.skips.now.skips (of_lane (ordered_lane q) v.kept) (of_lane (unordered_lane q) v.kept) x y c.loop-at.left w.pass_on-left.result) same
+                let own = map skip_meaning w.of_stream-own.result.now in
+                let its = moved k xs (map skip_meaning c.args.entries.now) own entries (subst (λ (q : ℕ). AreEntriesOf q (map skip_meaning c.args.entries.now) own) same (w.of_stream-own.ensures rise)) in
+                let p = passes_own f k c.args.jump xs own (of_lane (ordered_lane k) v.kept) (of_lane (unordered_lane k) v.kept) x y c.loop-at.left w.pass_on-left.result its
+                (subst (λ (q : ℕ). PassesOn f q c.args.jump own (of_lane (ordered_lane q) v.kept) (of_lane (unordered_lane q) v.kept) x y c.loop-at.left w.pass_on-left.result) same
                 (w.pass_on-left.ensures (of_lane (ordered_lane stream) v.kept) (of_lane (unordered_lane stream) v.kept)
                 (subst (λ (q : ℕ). lane.StandsFor f x.ordered (ordered_lane q) (of_lane (ordered_lane q) v.kept)) (sym same) filed.ordered)
                 (subst (λ (q : ℕ). lane.StandsFor f x.unordered (unordered_lane q) (of_lane (unordered_lane q) v.kept)) (sym same) filed.unordered)
-                (λ z n has number. h.counted z n (of_says (ordered_lane stream) v.kept z has).0 number) (room i k x c.loop-at-test.true here got)) in
-                let next = upto_next f c.args.jump c.args.skips.now.skips v r olds items c.args.held c.loop-at.left k n.0 h n.1 x (omega (arith, low, inv.size)) inv.size got y w.pass_on-left.result p in
+                (λ z n has number. h.counted z n (of_says (ordered_lane stream) v.kept z has).0 number) (room i k x c.loop-at-test.true here got))) in
+                let next = upto_next f c.args.jump xs v r olds items c.args.held c.loop-at.left k n.0 h n.1 x (omega (arith, low, inv.size)) inv.size got y w.pass_on-left.result p in
                 let at_next : suc k ≡ k + 1 = omega arith in
                 (handed_ordered n.0 k p.messages p.next, subst (λ (q : ℕ). IsUpTo f v r olds (set items k y) c.args.held w.pass_on-left.result q (handed_ordered n.0 k p.messages p.next)) at_next next);
           })
@@ -75,13 +80,13 @@ pub returns-clause-count : goal.returns-clause-count
 returns-clause-count g c = c.loop-at.invariant.size
 
 pub returns-clause-passed : goal.returns-clause-passed
-returns-clause-passed g c = λ v r h room rising quiet.
+returns-clause-passed g c = λ v r xs rise entries h room rising quiet.
     let f = g.F.Framing.format in
     let olds = c.args.streams.now.items in
     let items = c.loop-at.streams.items in
     let touched = c.args.touched.now in
     let inv = c.loop-at.invariant in
-    let m = inv.upto v r h room rising quiet in
-    let n = upto_to f c.args.jump c.args.skips.now.skips v r olds items c.args.held c.loop-at.left h inv.size c.loop-at.next (length olds) m.0 inv.within (omega arith)
+    let m = inv.upto v r xs rise entries h room rising quiet in
+    let n = upto_to f c.args.jump xs v r olds items c.args.held c.loop-at.left h inv.size c.loop-at.next (length olds) m.0 inv.within (omega arith)
     (λ q z past less at_q. quiet q z at_q (behind_all touched c.loop-at.at c.loop-at.next (length olds) q inv.below (omega (arith, c.loop-at-test.false)) past less)) m.1 in
-    (n.0, n.1.gives, upto_all f c.args.jump c.args.skips.now.skips v r olds items c.args.held c.loop-at.left n.0 h n.1 inv.size)
+    (n.0, n.1.gives, upto_all f c.args.jump xs v r olds items c.args.held c.loop-at.left n.0 h n.1 inv.size)

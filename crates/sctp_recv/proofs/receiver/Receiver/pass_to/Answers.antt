@@ -7,17 +7,22 @@ use Rattle.sctp_recv.specs.Fields.{stream_of}
 use Rattle.sctp_recv.specs.KeptOf.{kept_of}
 use Rattle.sctp_recv.specs.ReceiverKept.{StreamKept}
 use Rattle.sctp_recv.specs.StandsFor.{StandsFor}
-use Rattle.sctp_recv.specs.inner.Forwarding.{IsTouched, HaveRoom, AreQuiet, AreToPass}
+use Rattle.sctp_wire.specs.declared.skips.Skip.{Skip}
+use Rattle.sctp_wire.specs.ChunkTree.{skip_meaning}
+use Rattle.sctp_recv.specs.inner.Forwarding.{AreByStream, IsTouched, HaveRoom, AreQuiet, AreToPass}
 use Rattle.std.specs.List.{Contains}
-use Rattle.std.specs.List.Sorted.{IsNonDecreasing}
+use Rattle.std.specs.List.Sorted.{IsNonDecreasing, IsPermutation}
 use Rattle.sctp_recv.proofs.TouchedLemmas.{are_quiet}
 use Rattle.sctp_recv.proofs.ResultLemmas.{if_err}
 use Rattle.sctp_recv.proofs.RecordedLemmas.{keeps_same}
 use Rattle.sctp_recv.proofs.ForwardKeeps.{to_pass, keeps_forwarded}
 use Rattle.sctp_recv.proofs.receiver.Receiver.pass_to.Goals as goal
 
+pub returns-in_err-entries-clause-refused : goal.returns-in_err-entries-clause-refused
+returns-in_err-entries-clause-refused g c = λ v w. if_err c.from_residual.result w
+
 pub returns-in_err-touched-clause-refused : goal.returns-in_err-touched-clause-refused
-returns-in_err-touched-clause-refused g c = λ v w. if_err c.from_residual.result w
+returns-in_err-touched-clause-refused g c = λ v w. if_err c.from_residual-in_err-touched.result w
 
 pub returns-in_err-make_rooms-clause-refused : goal.returns-in_err-make_rooms-clause-refused
 unfolding StandsFor
@@ -47,7 +52,9 @@ returns-clause-passed g c = λ v w x skips above named.
     let still = subst (λ (ts : List ℕ). AreQuiet f i c.args.skips.now.skips v ts olds) (sym c.deref-3.ensures.value) (subst (λ (xs : List SkipMeaning). AreQuiet f i xs v touched olds) skips quiet) in
     let rising = subst IsNonDecreasing (sym c.deref-3.ensures.value) c.in_ok-touched.ensures.rising in
     let room = subst (λ (ts : List ℕ). HaveRoom ts (length ts) olds) (c.deref-2.ensures.value ∙ sym c.deref-3.ensures.value) c.in_ok-make_rooms.ensures.room in
-    let m = c.pass_on_all-self.ensures.passed v left told room rising still in
+    let rise = subst AreByStream (sym c.deref-4.ensures.value) c.in_ok-entries.ensures.rising in
+    let entries = subst (λ (es : List Skip). IsPermutation c.args.skips.now.skips (map skip_meaning es)) (sym c.deref-4.ensures.value) c.in_ok-entries.ensures.same in
+    let m = c.pass_on_all-self.ensures.passed v left c.args.skips.now.skips rise entries told room rising still in
     let streams : v.streams ≡ length olds = w.0.streams ∙ count in
     let jumped = let high = above.above in c.jump.ensures (omega (arith, high)) in
     let stands = keeps_forwarded f k v x i w.0 above kept_named olds same m.0 m.1 c.pass_on_all-self.new.streams.items c.pass_on_all-self.ensures.count c.pass_on_all-self.result m.2 c.jump.new.self.kept jumped in

@@ -1,0 +1,88 @@
+//! The entries of a FORWARD, each stream's together: which numbers they skip there (RFC 3758, 3.2; RFC 8260, 2.3.1).
+
+ghost use Rattle.std.specs.Prelude.{◌≡◌, nat_lt, nat_le, map, IfOk};
+ghost use Rattle.std.specs.List.Sorted.{IsPermutation};
+ghost use Rattle.sctp_model.specs.messages.Format.{same_lane};
+ghost use Rattle.sctp_model.specs.receiver.Reading.{lane_of};
+ghost use Rattle.sctp_wire.specs.ChunkTree.{skip_meaning};
+ghost use Rattle.sctp_recv.specs.Fields.{lane_at};
+ghost use Rattle.sctp_recv.specs.inner.Forwarding.{skipped_by, lowest_after, AreByStream, AreEntriesOf};
+
+use sctp_framing::Framing;
+use sctp_values::{Kind, NoMemory};
+use sctp_wire::{Skip, Skips};
+use std::alloc::Global;
+
+/// The entries in rising order of their streams.
+///
+/// # Errors
+/// Memory ran out.
+pub(crate) fn by_stream(alloc: Global, skips: &Skips<'_>) -> Result<Vec<Skip>, NoMemory>
+    ensures rising { IfOk result (λ entries. AreByStream entries.items) }
+    ensures same { IfOk result (λ entries. IsPermutation skips.now.skips (map skip_meaning entries.items)) }
+{
+    let mut entries = Vec::new(alloc);
+    for skip in skips.iter() {
+        entries.push(skip).map_err(|_| NoMemory)?;
+    }
+    entries.sort_unstable_by_key(
+        |skip: &Skip| -> u16
+            ensures { result ≡ skip.now.stream }
+        { skip.stream },
+    );
+    Ok(entries)
+}
+
+/// Those of one stream.
+pub(crate) fn of_stream(entries: &[Skip], stream: u16) -> &[Skip]
+    ensures { AreByStream entries.now → AreEntriesOf stream (map skip_meaning entries.now) (map skip_meaning result.now) }
+{
+    let from = entries.partition_point(
+        |skip: &Skip| -> bool
+            ensures { result ≡ nat_lt skip.now.stream stream }
+        { skip.stream < stream },
+    );
+    let rest = &entries[from..];
+    let count = rest.partition_point(
+        |skip: &Skip| -> bool
+            ensures { result ≡ nat_le skip.now.stream stream }
+        { skip.stream <= stream },
+    );
+    &rest[..count]
+}
+
+/// Whether an entry is for this stream and kind.
+fn is_for(skip: Skip, stream: u16, kind: Kind) -> bool
+    ensures { result ≡ same_lane (lane_at stream kind) (lane_of skip.stream skip.unordered) }
+{
+    stream == skip.stream && kind.flag() == skip.unordered
+}
+
+/// One past the number that an entry skips of this stream and kind, or 0 where it skips none there.
+fn skipped_by<F: Framing>(skip: Skip, stream: u16, kind: Kind, reference: u32) -> u32
+    ensures { result ≡ skipped_by F.format (lane_at stream kind) reference (skip_meaning skip) }
+{
+    if !is_for(skip, stream, kind) {
+        return 0;
+    }
+    match F::number_near(kind, skip.number, reference) {
+        Some(number) => number + 1,
+        None => 0,
+    }
+}
+
+/// The lowest number of this stream and kind that still counts, of which `reference` was the lowest before.
+pub(crate) fn lowest_after<F: Framing>(
+    entries: &[Skip],
+    stream: u16,
+    kind: Kind,
+    reference: u32,
+) -> u32
+    ensures { result ≡ lowest_after F.format (lane_at stream kind) reference (map skip_meaning entries.now) }
+{
+    let mut lowest = reference;
+    for skip in entries {
+        lowest = lowest.max(skipped_by::<F>(*skip, stream, kind, reference));
+    }
+    lowest
+}
