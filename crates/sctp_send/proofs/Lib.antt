@@ -47,3 +47,6 @@ pub mod ContinuedPut
 pub mod FilledLemmas
 pub mod UndoLemmas
 pub mod BehindLemmas
+pub mod ListParts
+pub mod OrderLemmas
+pub mod TicketWalks

@@ -10,12 +10,12 @@ use Rattle.sctp_send.specs.declared.outstanding.Outstanding.{Outstanding}
 
 -- ---- the window with one entry changed
 
-same_there : {A : Type 0} (f g : A → A) (n : ℕ) (xs : List A) (x : A) → x ≡ get_or xs n x → f x ≡ g x → at_place f n xs ≡ at_place g n xs
+pub same_there : {A : Type 0} (f g : A → A) (n : ℕ) (xs : List A) (x : A) → x ≡ get_or xs n x → f x ≡ g x → at_place f n xs ≡ at_place g n xs
 same_there f g n [] x read same = refl
 same_there {A = A} f g zero (y ∷ ys) x read same = ap (λ (z : A). z ∷ ys) (ap f (sym read) ∙ same ∙ ap g read)
 same_there {A = A} f g (suc n) (y ∷ ys) x read same = ap (λ (zs : List A). y ∷ zs) (same_there f g n ys x read same)
 
-stays_there : {A : Type 0} (f : A → A) (n : ℕ) (xs : List A) (x : A) → x ≡ get_or xs n x → f x ≡ x → xs ≡ at_place f n xs
+pub stays_there : {A : Type 0} (f : A → A) (n : ℕ) (xs : List A) (x : A) → x ≡ get_or xs n x → f x ≡ x → xs ≡ at_place f n xs
 stays_there f n [] x read same = refl
 stays_there {A = A} f zero (y ∷ ys) x read same = ap (λ (z : A). z ∷ ys) (sym (ap f (sym read) ∙ same ∙ read))
 stays_there {A = A} f (suc n) (y ∷ ys) x read same = ap (λ (zs : List A). y ∷ zs) (stays_there f n ys x read same)

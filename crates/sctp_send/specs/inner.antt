@@ -8,3 +8,4 @@ pub mod Drafting
 pub mod Counting
 pub mod Undoing
 pub mod Lanes
+pub mod TicketOrder

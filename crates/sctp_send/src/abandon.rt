@@ -1,18 +1,17 @@
 //! Messages that are abandoned (RFC 3758, 3.5; RFC 8260, 2.3.1).
 
 ghost use Rattle.std.specs.Prelude.{◌≡◌, ℕ, ◌<◌, ◌≤◌, ◌+◌, [], ◌∷◌, ◌++◌, true, false, List, length, map, take, drop, set, IfSome, IfNone};
-ghost use Rattle.sctp_send.specs.WindowKept.{IsSameRoom, changed};
+ghost use Rattle.sctp_send.specs.WindowKept.{IsSameRoom};
 ghost use Rattle.sctp_model.specs.sender.SenderView.{SenderView};
 ghost use Rattle.sctp_model.specs.sender.Abandoning.{AbandonAnswer, abandon_answer, abandon_after, without};
 ghost use Rattle.sctp_send.specs.OutstandingFields.{item_meaning};
-ghost use Rattle.sctp_send.specs.inner.Changes.{given, all_given};
 ghost use Rattle.sctp_send.specs.SenderFields.{queued_by, track_meaning, rest_meaning};
 ghost use Rattle.sctp_send.specs.SenderStands.{StandsFor, fate_here};
 ghost use Rattle.sctp_send.specs.inner.Walks.{is_numbered_fate, any_rest, end_item, GoesOnAt, EndsAt};
 ghost use Rattle.sctp_send.specs.SenderAnswers.{answer_meaning, answer_code};
 
 use crate::message::Fate;
-use crate::outstanding::{Outstanding, Place, Standing, unmarked};
+use crate::outstanding::{Outstanding, Place, Standing};
 use crate::readers::{goes_on, is_all_covered};
 use crate::sender::{Rest, Sender, Track};
 use crate::streams::Streams;
@@ -92,7 +91,7 @@ impl<F: Framing> Sender<F> {
             return Abandoned::Reliable;
         }
         self.fates[ticket as usize - 1] = Fate::GivenUp;
-        give_up(&mut self.outstanding, ticket);
+        self.outstanding.give_up(ticket);
         if let Some(rest) = end(&mut self.tracks, ticket) {
             push_end(&mut self.outstanding, rest);
         }
@@ -121,29 +120,6 @@ fn withdraw(queue: &mut Waiting, ticket: u32)
 {
     let place = place_of(queue, ticket);
     let _withdrawn = queue.remove(place);
-}
-
-/// An entry of the message with this ticket is given up; its mark ends.
-fn give_one(outstanding: &mut Window, at: usize, ticket: u32)
-    requires { at < length outstanding.old.items }
-    ensures { outstanding.new ≡ changed (given ticket) at outstanding.old }
-{
-    let entry = outstanding.get(at);
-    if entry.message.ticket == ticket {
-        let standing = unmarked(entry.standing);
-        let covered = entry.covered;
-        outstanding.stand(at, standing, covered, true);
-    }
-}
-
-/// Each entry of the message with this ticket is given up.
-fn give_up(outstanding: &mut Window, ticket: u32)
-    ensures items { outstanding.new.items ≡ all_given ticket outstanding.old.items }
-    ensures kept { IsSameRoom outstanding.old outstanding.new }
-{
-    for at in 0..outstanding.len() {
-        give_one(outstanding, at, ticket);
-    }
 }
 
 /// The stream that goes on with the message with this ticket goes on with nothing; what was left of the message, where there is such a stream.

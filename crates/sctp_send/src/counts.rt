@@ -3,12 +3,15 @@
 ghost use Rattle.std.specs.Prelude.{◌≡◌, ℕ, ◌+◌, ◌<◌, ◌≤◌, ◌∷◌, List, min, if◌then◌else◌, map, drop, length, slice_set};
 ghost use Rattle.sctp_send.specs.SenderKept.{Item};
 ghost use Rattle.sctp_send.specs.OutstandingFields.{item_meaning};
-ghost use Rattle.sctp_send.specs.inner.Counting.{entered, left, lowered, furthest, reached, moment};
+ghost use Rattle.std.specs.VecDeque.{deque_capacity};
+ghost use Rattle.sctp_send.specs.WindowKept.{at_place};
+ghost use Rattle.sctp_send.specs.inner.Changes.{stood};
+ghost use Rattle.sctp_send.specs.inner.Counting.{entered, left, lowered, furthest, reached, moment, IsCounted};
 ghost use Rattle.sctp_send.specs.inner.Walks.{abandoned_items};
 ghost use Rattle.sctp_send.specs.inner.Newcomers.{one_if};
 
 use crate::message::moment_of;
-use crate::outstanding::Outstanding;
+use crate::outstanding::{Outstanding, Standing};
 use crate::wishes::{is_done, is_first_sending, is_repeat, is_unsettled, weight};
 use std::collections::VecDeque;
 
@@ -120,8 +123,34 @@ pub fn moment(entry: &Outstanding) -> u64
     }
 }
 
+/// What became of the entry at an offset; its ticket stays.
+pub fn stand_one(
+    entries: &mut VecDeque<Outstanding>,
+    counts: &mut Counts,
+    size: u16,
+    at: usize,
+    standing: Standing,
+    covered: bool,
+    given_up: bool,
+)
+    requires within { at < length entries.old.items }
+    requires counted { IsCounted size entries.old.items counts.old }
+    ensures items { entries.new.items ≡ at_place (stood standing covered given_up) at entries.old.items }
+    ensures counted { IsCounted size entries.new.items counts.new }
+    ensures capacity { deque_capacity entries.new ≡ deque_capacity entries.old }
+{
+    let entry = &mut entries[at];
+    counts.leave(entry, size);
+    entry.standing = standing;
+    entry.covered = covered;
+    entry.given_up = given_up;
+    counts.enter(entry, size);
+    counts.lower(at, entry);
+    counts.front = front_after(counts.front, at, entries);
+}
+
 /// How many of the first entries are given up, where so many were before the one at an offset changed.
-pub fn front_after(front: usize, at: usize, entries: &VecDeque<Outstanding>) -> usize
+fn front_after(front: usize, at: usize, entries: &VecDeque<Outstanding>) -> usize
     requires at { at < length entries.now.items }
     requires front { front ≤ length entries.now.items }
     ensures { (size : ℕ) (before : List Item) (x : Item) → front ≡ abandoned_items before → at < length before → map (item_meaning size) entries.now.items ≡ slice_set before at x

@@ -3,15 +3,13 @@
 ghost use Rattle.std.specs.Prelude.{◌≡◌, ℕ, false, Some, None, map};
 ghost use Rattle.sctp_model.specs.sender.SenderView.{SenderView};
 ghost use Rattle.sctp_model.specs.sender.Abandoning.{has_late, expired};
-ghost use Rattle.sctp_send.specs.OutstandingFields.{message_meaning, item_meaning};
+ghost use Rattle.sctp_send.specs.OutstandingFields.{message_meaning};
 ghost use Rattle.sctp_send.specs.SenderFields.{track_meaning};
 ghost use Rattle.sctp_send.specs.SenderStands.{StandsFor};
-ghost use Rattle.sctp_send.specs.inner.Expiring.{sooner, late_after, soonest, item_message, rest_message, kept_messages};
+ghost use Rattle.sctp_send.specs.inner.Expiring.{sooner, late_after, soonest, rest_message, kept_messages};
 
 use crate::message::Message;
-use crate::outstanding::Outstanding;
 use crate::sender::{Sender, Track};
-use crate::wishes::is_done;
 use sctp_framing::Framing;
 use sctp_values::Ticket;
 
@@ -87,16 +85,6 @@ pub fn sooner(found: Option<u32>, message: &Message, last: u32, now: u64) -> Opt
         Some(ticket) => Some(ticket.min(message.ticket)),
         None => Some(message.ticket),
     }
-}
-
-/// The same of the message of an entry that is neither covered nor given up.
-pub fn sooner_entry(found: Option<u32>, entry: &Outstanding, last: u32, now: u64) -> Option<u32>
-    ensures { (size : ℕ) → result ≡ sooner found (late_after now last (item_message (item_meaning size entry.now))) }
-{
-    if is_done(entry) {
-        return found;
-    }
-    sooner(found, &entry.message, last, now)
 }
 
 /// The same of the message in part of one stream.

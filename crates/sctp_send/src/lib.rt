@@ -4,6 +4,8 @@
 
 mod abandon;
 mod assigning;
+mod by_message;
+mod by_ticket;
 mod counts;
 mod draft;
 mod entering;

@@ -7,10 +7,9 @@ ghost use Rattle.sctp_model.specs.sender.Readers.{point, unsettled, drained, out
 ghost use Rattle.sctp_send.specs.OutstandingFields.{item_meaning};
 ghost use Rattle.sctp_send.specs.SenderFields.{track_meaning};
 ghost use Rattle.sctp_send.specs.SenderStands.{StandsFor};
-ghost use Rattle.sctp_send.specs.inner.Walks.{total, one_if_rest, abandoned_items, any_unsettled, is_item_unsettled, is_given_up_fate, is_numbered_fate, any_uncovered, is_item_uncovered, any_rest, rest_has};
+ghost use Rattle.sctp_send.specs.inner.Walks.{total, one_if_rest, abandoned_items, any_unsettled, is_item_unsettled, is_given_up_fate, is_numbered_fate, any_uncovered, any_rest, rest_has};
 
 use crate::message::Fate;
-use crate::outstanding::Outstanding;
 use crate::sender::{Sender, Track};
 use crate::window::Window;
 use sctp_framing::Framing;
@@ -131,27 +130,7 @@ pub fn is_all_covered(tracks: &[Track], outstanding: &Window, ticket: u32) -> bo
     ensures { (size : ℕ) → result
         ≡ (not (any_rest ticket (map (track_meaning size) tracks.now)) && not (any_uncovered ticket (map (item_meaning size) outstanding.now.items))) }
 {
-    !some_goes_on(tracks, ticket) && !some_uncovered(outstanding, ticket)
-}
-
-/// Some entry of the message with this ticket is not covered.
-fn some_uncovered(outstanding: &Window, ticket: u32) -> bool
-    ensures { (size : ℕ) → result ≡ any_uncovered ticket (map (item_meaning size) outstanding.now.items) }
-{
-    for at in 0..outstanding.len() {
-        let entry = outstanding.get(at);
-        if is_uncovered(entry, ticket) {
-            return true;
-        }
-    }
-    false
-}
-
-/// An entry is of the message with this ticket, and not covered.
-fn is_uncovered(entry: &Outstanding, ticket: u32) -> bool
-    ensures { (size : ℕ) → result ≡ is_item_uncovered ticket (item_meaning size entry.now) }
-{
-    entry.message.ticket == ticket && !entry.covered
+    !some_goes_on(tracks, ticket) && !outstanding.some_uncovered(ticket)
 }
 
 /// Some stream goes on with the message with this ticket.

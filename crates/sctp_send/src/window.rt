@@ -6,10 +6,9 @@ ghost use Rattle.sctp_send.specs.WindowKept.{changed};
 ghost use Rattle.sctp_send.specs.inner.Changes.{stood};
 ghost use Rattle.sctp_send.specs.inner.Walks.{abandoned_items, any_unsettled};
 ghost use Rattle.sctp_send.specs.inner.Wishing.{first_place, is_item_marked, is_item_unsent, item_flight};
-ghost use Rattle.sctp_send.specs.inner.Expiring.{soonest, item_messages};
 
-use crate::counts::{Counts, front_after, front_behind, moment};
-use crate::expire::sooner_entry;
+use crate::by_ticket::{ByTicket, MOST};
+use crate::counts::{Counts, front_behind, stand_one};
 use crate::message::Message;
 use crate::outstanding::{Outstanding, Standing};
 use crate::wishes::{is_first_sending, is_repeat};
@@ -19,26 +18,29 @@ use std::collections::VecDeque;
 use std::marker::Model;
 use std::rc::Rc;
 
-/// An entry for each index above CUM, that of CUM + 1 in front, with counts of them.
+/// An entry for each index above CUM, that of CUM + 1 in front, with counts of them, and their order by ticket.
 #[derive(Debug, Drop)]
 pub struct Window {
     // the most bytes of a fragment
-    size: u16,
-    entries: VecDeque<Outstanding>,
-    counts: Counts,
+    pub(crate) size: u16,
+    pub(crate) entries: VecDeque<Outstanding>,
+    pub(crate) counts: Counts,
+    pub(crate) by_ticket: ByTicket,
+    // how many entries there is room for
+    pub(crate) room: usize,
 }
 
 impl Model for Window {
-    ghost use Rattle.std.specs.VecDeque.{deque_capacity};
     ghost use Rattle.sctp_send.specs.WindowKept.{WindowKept};
 
     ghost Value = { WindowKept };
 
-    ghost use Rattle.sctp_send.specs.inner.Counting.{IsCounted};
+    ghost use Rattle.std.specs.VecDeque.{deque_capacity};
+    ghost use Rattle.sctp_send.specs.inner.TicketOrder.{IsInOrder};
 
-    ghost view = { λ w. record { size = w.size; items = w.entries.items; capacity = deque_capacity w.entries } };
+    ghost view = { λ w. record { size = w.size; items = w.entries.items; capacity = w.room } };
 
-    ghost invariant = { λ w. IsCounted w.size w.entries.items w.counts };
+    ghost invariant = { λ w. IsInOrder w.size w.entries.items (deque_capacity w.entries) w.counts w.by_ticket w.room };
 }
 
 impl Window {
@@ -52,6 +54,8 @@ impl Window {
             size,
             entries: VecDeque::new(alloc),
             counts: Counts::none(),
+            by_ticket: ByTicket::new(alloc),
+            room: 0,
         }
     }
 
@@ -127,14 +131,30 @@ impl Window {
     /// Room for so many entries more.
     ///
     /// # Errors
-    /// `NoMemory`.
+    /// `NoMemory`. It comes only where there is no such room.
     pub fn reserve(&mut self, more: usize) -> Result<(), NoMemory>
         ensures size { self.new.size ≡ self.old.size }
         ensures items { self.new.items ≡ self.old.items }
         ensures capacity { self.old.capacity ≤ self.new.capacity }
         ensures room { OnOk result (length self.new.items + more ≤ self.new.capacity) }
+        ensures in_place { length self.old.items + more ≤ self.old.capacity → self.new ≡ self.old }
+        ensures refused { OnErr result (self.old.capacity < length self.old.items + more) }
     {
-        self.entries.reserve(more).map_err(|_| NoMemory)
+        if more <= self.room - self.entries.len() {
+            return Ok(());
+        }
+        self.entries.reserve(more).map_err(|_| NoMemory)?;
+        self.by_ticket.reserve(more)?;
+        self.room = self
+            .entries
+            .capacity()
+            .min(self.by_ticket.capacity())
+            .min(MOST);
+        if more <= self.room - self.entries.len() {
+            Ok(())
+        } else {
+            Err(NoMemory)
+        }
     }
 
     /// One entry more, behind the others.
@@ -148,12 +168,20 @@ impl Window {
         ensures capacity { self.old.capacity ≤ self.new.capacity }
         ensures in_place { length self.old.items < self.old.capacity → self.new ≡ record self.old { items = self.old.items ++ entry ∷ [] } }
     {
-        let mut counts = self.counts;
-        counts.enter(&entry, self.size);
-        counts.reach(self.entries.len(), &entry);
-        self.entries.push_back(entry).map_err(|_| NoMemory)?;
-        self.counts = counts;
+        self.reserve(1)?;
+        self.put(entry);
         Ok(())
+    }
+
+    /// One entry more, behind the others, for which there is room.
+    fn put(&mut self, entry: Outstanding)
+        requires { length self.old.items < self.old.capacity }
+        ensures { self.new ≡ record self.old { items = self.old.items ++ entry ∷ [] } }
+    {
+        self.counts.enter(&entry, self.size);
+        self.counts.reach(self.entries.len(), &entry);
+        self.by_ticket.push(entry.message.ticket);
+        self.entries.push_back_reserved(entry);
     }
 
     /// The first entry goes, where there is one. It answers the message of that.
@@ -161,6 +189,7 @@ impl Window {
         ensures { self.new ≡ record self.old { items = drop 1 self.old.items } }
     {
         if let Some(entry) = self.entries.pop_front() {
+            self.by_ticket.pop_front(entry.message.ticket);
             self.counts.leave(&entry, self.size);
             self.counts.marked = self.counts.marked.saturating_sub(1);
             self.counts.unsent = self.counts.unsent.saturating_sub(1);
@@ -176,6 +205,7 @@ impl Window {
         ensures { self.new ≡ record self.old { items = take (length self.old.items - 1) self.old.items } }
     {
         if let Some(entry) = self.entries.pop_back() {
+            self.by_ticket.pop_back(entry.message.ticket);
             self.counts.leave(&entry, self.size);
             self.counts.marked = self.counts.marked.min(self.entries.len());
             self.counts.unsent = self.counts.unsent.min(self.entries.len());
@@ -197,42 +227,14 @@ impl Window {
         requires { at < length self.old.items }
         ensures { self.new ≡ changed (stood standing covered given_up) at self.old }
     {
-        let entry = &mut self.entries[at];
-        self.counts.leave(entry, self.size);
-        entry.standing = standing;
-        entry.covered = covered;
-        entry.given_up = given_up;
-        self.counts.enter(entry, self.size);
-        self.counts.lower(at, entry);
-        self.counts.front = front_after(self.counts.front, at, &self.entries);
-    }
-
-    /// The lowest ticket above the last one of messages that are past their time, of entries that are neither covered nor given up; or one
-    /// found before.
-    pub fn late(&self, last: u32, now: u64, found: Option<u32>) -> Option<u32>
-        ensures { result ≡ soonest now last found (item_messages (map (item_meaning self.now.size) self.now.items)) }
-    {
-        if now < self.counts.earliest {
-            return found;
-        }
-        let mut found = found;
-        for at in 0..self.entries.len() {
-            found = sooner_entry(found, &self.entries[at], last, now);
-        }
-        found
-    }
-
-    /// Looks anew from which moment on a message may be past its time, if that may be this moment.
-    pub fn look_again(&mut self, now: u64)
-        ensures { self.new ≡ self.old }
-    {
-        if now < self.counts.earliest {
-            return;
-        }
-        let mut earliest = u64::MAX;
-        for at in 0..self.entries.len() {
-            earliest = earliest.min(moment(&self.entries[at]));
-        }
-        self.counts.earliest = earliest;
+        stand_one(
+            &mut self.entries,
+            &mut self.counts,
+            self.size,
+            at,
+            standing,
+            covered,
+            given_up,
+        );
     }
 }

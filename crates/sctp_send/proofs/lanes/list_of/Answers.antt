@@ -1,10 +1,8 @@
-use Rattle.std.proofs.Common.{◌≡◌, ◌∙◌, ◌<◌, ◌++◌, ◌∷◌, [], length, map, take, get_or, refl, sym, ap, arith}
-use Rattle.sctp_model.specs.sender.SentChunks.{skip_said}
+use Rattle.std.proofs.Common.{arith}
 use Rattle.sctp_wire.specs.Skips.{skips_in}
 use Rattle.sctp_framing.specs.SkipForms.{skip_form}
 use Rattle.sctp_values.specs.declared.kind.Kind.TheVariants.{Ordered}
 use Rattle.sctp_send.specs.declared.lanes.Passed.{Passed}
-use Rattle.sctp_send.specs.inner.Lanes.{passed_meaning}
 use Rattle.sctp_send.proofs.ForwardLemmas.{none_counted}
 use Rattle.sctp_send.proofs.LaneLemmas.{said_fits, said_more, said_all}
 use Rattle.sctp_send.proofs.lanes.list_of.Goals as goal

@@ -1,8 +1,7 @@
-use Rattle.std.proofs.Common.{◌≡◌, ◌∙◌, ◌<◌, length, sym, ap, arith}
+use Rattle.std.proofs.Common.{◌≡◌, ◌∙◌, ap, arith}
 use Rattle.sctp_send.specs.inner.Lanes.{lane_key, passed_meaning, before}
-use Rattle.sctp_values.specs.declared.kind.Kind.TheVariants.{Ordered}
 use Rattle.sctp_send.specs.declared.lanes.Passed.{Passed}
-use Rattle.std.proofs.Common.{ℕ, List, map, take, drop}
+use Rattle.std.proofs.Common.{ℕ, List, map}
 use Rattle.sctp_send.proofs.LaneLemmas.{raised, put_in}
 use Rattle.sctp_send.proofs.lanes.note.Goals as goal
 use Rattle.sctp_send.proofs.lanes.note.Goals.{then-place-len+else-key_of-key, else-place-len}

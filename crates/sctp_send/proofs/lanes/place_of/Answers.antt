@@ -1,4 +1,4 @@
-use Rattle.std.proofs.Common.{◌≡◌, ℕ, ◌+◌, ◌-◌, ◌/◌, ◌<◌, ◌≤◌, length, map, get_or, arith}
+use Rattle.std.proofs.Common.{ℕ, ◌+◌, ◌-◌, ◌/◌, ◌<◌, ◌≤◌, map, get_or, arith}
 use Rattle.std.proofs.lemmas.List.{length-map}
 use Rattle.sctp_values.specs.declared.kind.Kind.TheVariants.{Ordered}
 use Rattle.sctp_send.specs.declared.lanes.Passed.{Passed}

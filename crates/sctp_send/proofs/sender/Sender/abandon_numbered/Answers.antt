@@ -78,7 +78,7 @@ returns-in-Some-clause-step g c = λ v stands on.
     let taken = keeps_ended g.F.Framing.format _ v c.args.ticket m.name _ _ keeps m.kept m.uncovered m.partial (c.in-Some.ensures.some s.fragment) in
     let long = length-map s.outstanding.items (item_meaning s.fragment) in
     let same = ap (λ (es : List Outstanding). length es) c.give_up.ensures.items ∙ length-map s.outstanding.items (given c.args.ticket) in
-    let room : length c.give_up.new.outstanding.items < c.give_up.new.outstanding.capacity = omega (arith, taken.0, long, same, c.give_up.ensures.kept.capacity) in
+    let room : length c.give_up.new.self.items < c.give_up.new.self.capacity = omega (arith, taken.0, long, same, c.give_up.ensures.kept.capacity) in
     rw (c.push_end.ensures.items s.fragment room, c.give_up.ensures.items, items_given, (c.push_end.ensures.kept room).capacity, c.give_up.ensures.kept.capacity) taken.1
 
 pub returns-in_default-clause-step : goal.returns-in_default-clause-step

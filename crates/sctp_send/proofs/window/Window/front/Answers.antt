@@ -8,4 +8,4 @@ use Rattle.sctp_send.proofs.window.Window.front.Goals as goal
 pub returns : goal.returns
 returns c = λ size.
     let s = c.self.inside in
-    c.self.invariant.front ∙ front_any s.size size s.entries.items ∙ ap (λ (w : WindowKept). abandoned_items (map (item_meaning size) w.items)) c.self.view_is
+    c.self.invariant.counted.front ∙ front_any s.size size s.entries.items ∙ ap (λ (w : WindowKept). abandoned_items (map (item_meaning size) w.items)) c.self.view_is
