@@ -41,11 +41,11 @@ impl Duplicates {
         Ok(())
     }
 
-    /// A SACK told them: all are forgotten.
-    pub(crate) fn forget(&mut self)
-        ensures { self.new.tsns.items ≡ [] }
+    /// Keeps the first of them, so many.
+    pub(crate) fn truncate(&mut self, count: usize)
+        ensures { self.new.tsns.items ≡ take count self.old.tsns.items }
     {
-        self.tsns.clear();
+        self.tsns.truncate(count);
     }
 
     /// Puts them into an empty list of a SACK.

@@ -128,7 +128,7 @@ impl<F: Framing> Receiver<F> {
     pub fn sack_sent(&mut self)
         ensures { (v : ReceiverView) → StandsFor F.format self.old v → StandsFor F.format self.new (sack_sent v) }
     {
-        self.duplicates.forget();
+        self.duplicates.truncate(0);
     }
 
     /// Takes the first message that waits on a stream: None exactly where none waits, as on a stream that isn't there.

@@ -9,4 +9,4 @@ pub returns : goal.returns
 unfolding StandsFor
 returns g c = λ v w.
     let f = g.F.Framing.format in
-    (keeps_duplicates f (kept_of c.args.self.now) v _ [] w.0 (sym c.forget.ensures), (w.1.0, (sent_at_rest f v w.1.1.0, w.1.1.1)))
+    (keeps_duplicates f (kept_of c.args.self.now) v _ [] w.0 (sym c.truncate.ensures), (w.1.0, (sent_at_rest f v w.1.1.0, w.1.1.1)))
