@@ -1,5 +1,5 @@
 -- How many of the first items are given up, as one comes, goes or changes.
-use Rattle.std.proofs.Common.{◌≡◌, ℕ, zero, suc, ◌+◌, ◌-◌, ◌<◌, ◌≤◌, ◌≢◌, min, List, [], ◌∷◌, ◌++◌, length, map, drop, get_or, set, get_or-set_same, Bool, true, false, refl, sym, ap, ◌∙◌, arith}
+use Rattle.std.proofs.Common.{◌≡◌, ℕ, zero, suc, ◌+◌, ◌-◌, ◌<◌, ◌≤◌, ◌≢◌, min, List, [], ◌∷◌, ◌++◌, length, map, drop, get_or, set, Bool, true, false, refl, sym, ap, ◌∙◌, arith}
 use Rattle.std.specs.Prelude.{if◌then◌else◌, not, ◌&&◌, ◌==◌}
 use Rattle.std.proofs.lemmas.List.{length-map}
 use Rattle.std.proofs.lemmas.Bool.Decides.{nat_tests}
@@ -147,17 +147,12 @@ front_ended size es from at end before =
 
 -- ---- the one that changed isn't given up; is, and isn't the first that wasn't; is, and was
 
-module _ (size : ℕ) (es : List Outstanding) (at : ℕ) (e : Outstanding) (before : List Item) (x : Item) (lt : at < length before) (read : e ≡ get_or es at e) (same : map (item_meaning size) es ≡ set before at x) where
-  is_read : e.given_up ≡ x.given_up
-  is_read =
-      let here = sym (item_read size es at e read) ∙ ap (λ (ys : List Item). get_or ys at (item_meaning size e)) same ∙ get_or-set_same before at x (item_meaning size e) lt in
-      ap (λ (y : Item). y.given_up) here
+module _ (items : List Item) (at : ℕ) (before : List Item) (x : Item) (lt : at < length before) (same : items ≡ set before at x) where
+  pub after_off : (front : ℕ) → front ≡ abandoned_items before → x.given_up ≡ false → min front at ≡ abandoned_items items
+  after_off front is off = rw (same, is) (set_off before at x lt off)
 
-  pub after_off : (front : ℕ) → front ≡ abandoned_items before → e.given_up ≡ false → min front at ≡ abandoned_items (map (item_meaning size) es)
-  after_off front is off = rw (same, is) (set_off before at x lt (sym is_read ∙ off))
+  pub after_far : (front : ℕ) → front ≡ abandoned_items before → x.given_up ≡ true → at ≢ front → front ≡ abandoned_items items
+  after_far front is on far = rw same (is ∙ set_far before at x on (λ there. far (sym there ∙ sym is)))
 
-  pub after_far : (front : ℕ) → front ≡ abandoned_items before → e.given_up ≡ true → at ≢ front → front ≡ abandoned_items (map (item_meaning size) es)
-  after_far front is on far = rw same (is ∙ set_far before at x (sym is_read ∙ on) (λ there. far (sym there ∙ sym is)))
-
-  pub after_there : (front : ℕ) → front ≡ abandoned_items before → at ≡ front → front + abandoned_items (drop front (map (item_meaning size) es)) ≡ abandoned_items (map (item_meaning size) es)
+  pub after_there : (front : ℕ) → front ≡ abandoned_items before → at ≡ front → front + abandoned_items (drop front items) ≡ abandoned_items items
   after_there front is near = rw (same, ← near) (set_there before at x (sym is ∙ sym near))

@@ -146,17 +146,16 @@ pub fn stand_one(
     entry.given_up = given_up;
     counts.enter(entry, size);
     counts.lower(at, entry);
-    counts.front = front_after(counts.front, at, entries);
+    counts.front = front_after(counts.front, at, given_up, entries);
 }
 
-/// How many of the first entries are given up, where so many were before the one at an offset changed.
-fn front_after(front: usize, at: usize, entries: &VecDeque<Outstanding>) -> usize
-    requires at { at < length entries.now.items }
-    requires front { front ≤ length entries.now.items }
+/// How many of the first entries are given up, where so many were before the one at an offset changed to one that is, or isn't.
+fn front_after(front: usize, at: usize, given_up: bool, entries: &VecDeque<Outstanding>) -> usize
+    requires { front ≤ length entries.now.items }
     ensures { (size : ℕ) (before : List Item) (x : Item) → front ≡ abandoned_items before → at < length before → map (item_meaning size) entries.now.items ≡ slice_set before at x
-        → result ≡ abandoned_items (map (item_meaning size) entries.now.items) }
+        → x.given_up ≡ given_up → result ≡ abandoned_items (map (item_meaning size) entries.now.items) }
 {
-    if !entries[at].given_up {
+    if !given_up {
         return front.min(at);
     }
     if at != front {
@@ -173,10 +172,17 @@ pub fn front_behind(front: usize, entries: &VecDeque<Outstanding>) -> usize
     if front > 0 {
         return front - 1;
     }
+    let Some(entry) = entries.front() else {
+        return 0;
+    };
+    if !entry.given_up {
+        return 0;
+    }
     given_up_from(0, entries)
 }
 
 /// The first offset, from one on, whose entry isn't given up; or the end.
+#[inline(never)]
 fn given_up_from(from: usize, entries: &VecDeque<Outstanding>) -> usize
     requires { from ≤ length entries.now.items }
     ensures { (size : ℕ) → result ≡ from + abandoned_items (drop from (map (item_meaning size) entries.now.items)) }

@@ -1,15 +1,16 @@
-use Rattle.std.proofs.Common.{◌∙◌}
+use Rattle.std.proofs.Common.{map, ◌∙◌}
+use Rattle.sctp_send.specs.OutstandingFields.{item_meaning}
 use Rattle.sctp_send.proofs.FrontLemmas.{after_off, after_far, after_there}
 use Rattle.sctp_send.proofs.counts.front_after.Goals as goal
 
-pub returns-then-not-index : goal.returns-then-not-index
-returns-then-not-index c = λ size before x is lt same.
-    c.min.ensures ∙ after_off size c.args.entries.now.items c.args.at c.index.result.now before x lt c.index.ensures same c.args.front is c.if-not-index.true
+pub returns-then-not-given_up : goal.returns-then-not-given_up
+returns-then-not-given_up c = λ size before x is lt same told.
+    c.min.ensures ∙ after_off (map (item_meaning size) c.args.entries.now.items) c.args.at before x lt same c.args.front is (told ∙ c.if-not-given_up.true)
 
 pub returns-then-at-front : goal.returns-then-at-front
-returns-then-at-front c = λ size before x is lt same.
-    after_far size c.args.entries.now.items c.args.at c.index.result.now before x lt c.index.ensures same c.args.front is c.if-not-index.false c.if-at-front.true
+returns-then-at-front c = λ size before x is lt same told.
+    after_far (map (item_meaning size) c.args.entries.now.items) c.args.at before x lt same c.args.front is (told ∙ c.if-not-given_up.false) c.if-at-front.true
 
 pub returns : goal.returns
-returns c = λ size before x is lt same.
-    c.given_up_from.ensures size ∙ after_there size c.args.entries.now.items c.args.at c.index.result.now before x lt c.index.ensures same c.args.front is c.if-at-front.false
+returns c = λ size before x is lt same told.
+    c.given_up_from.ensures size ∙ after_there (map (item_meaning size) c.args.entries.now.items) c.args.at before x lt same c.args.front is c.if-at-front.false

@@ -8,8 +8,8 @@ use Rattle.sctp_send.proofs.FrontLemmas.{front_within}
 use Rattle.sctp_send.proofs.PlacedLemmas.{placed_set}
 use Rattle.sctp_send.proofs.counts.stand_one.Goals as goal
 
-pub front_after-counts-requires-clause-front : goal.front_after-counts-requires-clause-front
-front_after-counts-requires-clause-front c =
+pub front_after-counts-requires : goal.front_after-counts-requires
+front_after-counts-requires c =
     let es = c.args.entries.now.items in
     let counts = c.args.counts.now in
     let within : counts.front ≤ length es = front_within c.args.size es counts.front c.requires.counted.front in
@@ -24,7 +24,7 @@ returns-clause-counted c =
     let items = map (item_meaning size) es in
     let before : c.lower.new.self.front ≡ abandoned_items items = rw (c.lower.ensures size, c.enter.ensures, c.leave.ensures) c.requires.counted.front in
     let within : c.args.at < length items = rw (length-map es (item_meaning size)) c.requires.within in
-    let front = c.front_after-counts.ensures size items (item_meaning size new) before within (map-set (item_meaning size) es c.args.at new) in
+    let front = c.front_after-counts.ensures size items (item_meaning size new) before within (map-set (item_meaning size) es c.args.at new) refl in
     rw (c.lower.ensures size, c.enter.ensures, c.leave.ensures)
     (counts_set size es c.args.at c.index_mut-entry.result.now new counts c.front_after-counts.result c.requires.within c.index_mut-entry.ensures.value c.requires.counted front)
 
