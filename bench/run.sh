@@ -1,7 +1,8 @@
 #!/bin/sh
 # Counts instructions by callgrind, of programs that `rt run` proves and builds: what a byte of crc32c takes (beside the same loop in C at -O2), and what a
-# receiver and a sender take for a message; what an endpoint adds to that; and what calls of a receiver take that keeps much. `./run.sh` runs all,
-# `./run.sh crc32c`, `./run.sh receiver`, `./run.sh sender`, `./run.sh endpoint` and `./run.sh growth` one of them. Needs rt, valgrind and cc.
+# receiver and a sender take for a message; what an endpoint adds to that; what calls of a receiver and of a sender take that keep much; and what one packet
+# of each chunk costs an end at the most. `./run.sh` runs all, `./run.sh crc32c`, `./run.sh receiver`, `./run.sh sender`, `./run.sh endpoint`, `./run.sh growth`
+# and `./run.sh packets` one of them. Needs rt, valgrind and cc.
 set -e
 here=$(cd "$(dirname "$0")" && pwd)
 work=$(mktemp -d)
@@ -80,38 +81,92 @@ sender() {
     "$built" window 32768
 }
 
+# the crates that an endpoint stands on
+end='sctp_model sctp_values sctp_terms sctp_safety sctp_outcomes sctp_serial sctp_wire sctp_cookie sctp_framing sctp_packet sctp_opening sctp_chains sctp_recv sctp_send sctp_association sctp_endpoint'
+
 # what an endpoint adds to a message: the same packets over two endpoints, and over a sender and a receiver side by side
 endpoint() {
-    build endpoint sctp_model sctp_values sctp_terms sctp_safety sctp_serial sctp_wire sctp_cookie sctp_framing sctp_packet sctp_opening sctp_chains sctp_recv sctp_send sctp_association sctp_endpoint
-    for over in halves ends; do
-        each "$over: a message of 64 bytes, 9.5 to a packet" 100 300 19 "$built" "$over" 19
-        each "$over: a message of 64 bytes, one to a packet" 1000 3000 1 "$built" "$over" 1
+    # shellcheck disable=SC2086
+    build endpoint $end
+    for over in halves ends interleaved; do
+        each "$over: a message of 64 bytes, 9.5 to a packet" 100 300 19 "$built" "$over" 19 64
+        each "$over: a message of 64 bytes, one to a packet" 1000 3000 1 "$built" "$over" 1 64
+        each "$over: a message of 16,384 bytes in 12 fragments" 50 150 1 "$built" "$over" 1 16384
     done
 }
 
-# what one of so many calls takes at a size, twice and four times that: NAME SIZE CALLS PROGRAM WORD ..; a call that costs its own work alone takes as much
-# at each of them
+# what a call takes at a size, twice and four times that: NAME SIZE CALLS OF PROGRAM WORD ..; a call that costs its own work alone takes as much at each of
+# them. OF is `call`, or `kept`: the cost is told by call, or by call and by what is kept
 grows() {
-    name=$1 size=$2 calls=$3
-    shift 3
+    name=$1 size=$2 calls=$3 of=$4
+    shift 4
+    costs=
     for times in 1 2 4; do
+        parts=$calls
+        [ "$of" = call ] || parts=$((calls * size * times))
         none=$(count "$@" $((size * times)) 0)
         some=$(count "$@" $((size * times)) "$calls")
-        echo "$none $some" | awk -v name="$name" -v size=$((size * times)) -v calls="$calls" '{ printf "%s, at %d: %.0f instructions\n", name, size, ($2 - $1) / calls }'
+        costs="$costs $none $some $parts"
     done
+    echo "$costs" | awk -v name="$name" -v n="$size" '{
+        a = ($2 - $1) / $3; b = ($5 - $4) / $6; c = ($8 - $7) / $9
+        printf "%s, at %d, %d and %d: %.0f, %.0f, %.0f instructions, %.2f and %.2f times\n", name, n, 2 * n, 4 * n, a, b, c, b / a, c / b
+    }'
 }
 
 growth() {
+    receiver_growth
+    sender_growth
+}
+
+# calls of a receiver
+receiver_growth() {
     build receiver_growth sctp_model sctp_values sctp_safety sctp_serial sctp_wire sctp_framing sctp_chains sctp_recv
     for format in data i-data; do
-        grows "$format: a fragment between two of so many chains of its message" 2000 100 "$built" "$format" fragments
-        grows "$format: a fragment before so many of its message" 2000 100 "$built" "$format" backwards
-        grows "$format: a gap closed amid so many runs" 2000 100 "$built" "$format" gaps
-        grows "$format: a FORWARD at so many streams" 500 20 "$built" "$format" forwards
+        grows "$format: a fragment between two of so many chains of its message" 2000 100 call "$built" "$format" fragments
+        grows "$format: a fragment before so many of its message" 2000 100 call "$built" "$format" backwards
+        grows "$format: a gap closed amid so many runs" 2000 100 call "$built" "$format" gaps
+        grows "$format: a FORWARD at so many streams" 500 20 call "$built" "$format" forwards
+    done
+}
+
+# calls of a sender
+sender_growth() {
+    build sender_growth sctp_model sctp_values sctp_safety sctp_serial sctp_wire sctp_framing sctp_packet sctp_send
+    for format in data i-data; do
+        grows "$format: expire, all of so many late, by message" 1024 1 kept "$built" "$format" late
+        grows "$format: expire, none of so many late" 1024 100 call "$built" "$format" early
+        grows "$format: expire, one of so many late" 1024 20 call "$built" "$format" one-late
+        grows "$format: abandon, one of so many outstanding" 1024 20 call "$built" "$format" abandon
+        grows "$format: abandon, one of so many that wait" 250 20 call "$built" "$format" withdraw
+        grows "$format: acknowledged, of one of so many outstanding" 1024 20 call "$built" "$format" acknowledged
+        grows "$format: point, behind so many abandoned" 1024 100 call "$built" "$format" point
+        grows "$format: put_forward, of so many abandoned on 32 streams" 1024 20 call "$built" "$format" forward
+        grows "$format: put_forward, of 1,000 abandoned on one of so many streams" 512 20 call "$built" "$format" forward-few
+        grows "$format: fill, a packet of 64-byte messages, so many waiting on one of 32 streams" 250 8 call "$built" "$format" fill
+        grows "$format: fill, a packet of 64-byte messages, 900 waiting on one of so many streams" 32 8 call "$built" "$format" fill-streams
+        grows "$format: a SACK of 64 blocks over so many, 128 change" 8000 20 call "$built" "$format" blocks
+        grows "$format: a SACK of 365 blocks over so many, 730 change" 8000 20 call "$built" "$format" more-blocks
+    done
+}
+
+# what one packet of at most 1,500 bytes takes, and what the end sends then
+packets() {
+    # shellcheck disable=SC2086
+    build packets $end
+    for case in data-order data-gaps data-odd data-backwards data-again data-nowhere i-data-order i-data-gaps i-data-odd i-data-backwards i-data-again \
+        forward forwards i-forward i-forwards blocks cover turns all shutdowns abort heartbeat heartbeats error stop stop-tell pass pass-tell shutdown-acks \
+        completes cookie-acks init-late wrong init init-ack cookie bad-cookie; do
+        none=$(count "$built" "$case" none)
+        heard=$(count "$built" "$case" heard)
+        sent=$(count "$built" "$case" sent)
+        "$built" "$case" sent | awk -v name="$case" -v heard=$((heard - none)) -v sent=$((sent - heard)) '{
+            printf "%s, %s: %d instructions, %.1f a byte, and %d then\n", name, $0, heard, heard / $1, sent
+        }'
     done
 }
 
 case ${1:-all} in
-    all) crc32c; receiver; sender; endpoint; growth ;;
+    all) crc32c; receiver; sender; endpoint; growth; packets ;;
     *) "$1" ;;
 esac
