@@ -11,6 +11,7 @@ pub mod RecoverLemmas
 pub mod SackLemmas
 pub mod QueueLemmas
 pub mod ReaderLemmas
+pub mod PairLemmas
 pub mod WalkLemmas
 pub mod TicketLemmas
 pub mod TrackLemmas
@@ -34,6 +35,10 @@ pub mod WeightLemmas
 pub mod FrontLemmas
 pub mod CountLemmas
 pub mod TurnLemmas
+pub mod RiseLemmas
+pub mod SeatLemmas
+pub mod SeatedLemmas
+pub mod NextLemmas
 pub mod AssignedKept
 pub mod RoomLemmas
 pub mod ChunkLemmas

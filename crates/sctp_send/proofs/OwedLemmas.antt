@@ -1,6 +1,7 @@
 -- What is counted of the messages that wait, and of the streams: one message more, one less, one stream in place of another.
 use Rattle.std.proofs.Common.{◌≡◌, ℕ, zero, suc, ◌+◌, ◌-◌, ◌%◌, ◌^◌, ◌<◌, ◌≤◌, min, List, [], ◌∷◌, ◌++◌, length, map, Option, Some, None, refl, ap, ◌∙◌, arith, get_or}
 use Rattle.std.specs.Prelude.{set, insert, remove, replicate}
+use Rattle.std.proofs.lemmas.List.{length-set, length-replicate}
 use Rattle.std.specs.declared.rc.Rc.{Rc}
 use Rattle.std.specs.declared.alloc.Global.{Global}
 use Rattle.sctp_model.specs.numbers.Limits.{LAST_MOMENT}
@@ -8,11 +9,12 @@ use Rattle.sctp_model.specs.sender.SenderView.{Queued}
 use Rattle.sctp_model.specs.sender.Queueing.{cut, owed_for, owed_by_queue}
 use Rattle.sctp_send.specs.SenderKept.{Track, Rest}
 use Rattle.sctp_send.specs.OutstandingFields.{message_meaning}
-use Rattle.sctp_send.specs.SenderFields.{queued_by, track_meaning}
+use Rattle.sctp_send.specs.SenderFields.{queued_by, rests_meaning, track_meaning}
 use Rattle.sctp_send.specs.inner.Walks.{total, one_if_rest, rest_owes}
 use Rattle.sctp_send.specs.inner.Expiring.{rest_message, rest_messages}
 use Rattle.sctp_send.specs.inner.Counting.{moment_from, AreWorth, IsOwedOf, IsCountedOf}
 use Rattle.sctp_send.specs.declared.message.Message.{Message as MessageFields}
+use Rattle.sctp_send.specs.declared.sender.Rest.{Rest as RestFields}
 use Rattle.sctp_send.specs.declared.sender.Track.{Track as TrackFields}
 use Rattle.sctp_send.proofs.WorthLemmas.{worth_push, worth_insert, worth_remove, worth_set}
 
@@ -101,11 +103,12 @@ worth_fresh size zero = tt
 worth_fresh size (suc n) = (omega arith, worth_fresh size n)
 
 -- the counts of such streams
-pub counted_fresh : (size n : ℕ) (ts : List TrackFields) → 0 < size → ts ≡ replicate n fresh_fields → IsCountedOf size ts 0 0 LAST_MOMENT
-counted_fresh size n ts some is =
+pub counted_fresh : (size n : ℕ) (ts : List TrackFields) → 0 < size → n < 2 ^ 16 → ts ≡ replicate n fresh_fields → IsCountedOf size ts 0 0 LAST_MOMENT
+counted_fresh size n ts some few is =
+    let long = length-replicate n fresh_fields in
     let parts : total_by (λ t. one_if_rest t.rest) size (replicate n fresh_fields) ≡ 0 = none_fresh (λ (t : Track). one_if_rest t.rest) size n refl in
     let owes : total_by (λ t. rest_owes t.rest) size (replicate n fresh_fields) ≡ 0 = none_fresh (λ (t : Track). rest_owes t.rest) size n refl in
-    rw is (record { some = some; parts = omega (arith, parts); owed = omega (arith, owes); earliest = worth_fresh size n })
+    rw is (record { some = some; few = omega (arith, long, few); parts = omega (arith, parts); owed = omega (arith, owes); earliest = worth_fresh size n })
 
 -- what a stream counts for
 pub record IsCountOf (size : ℕ) (t : TrackFields) (part owed : ℕ) : Type 0 where
@@ -121,8 +124,10 @@ counted_set size many sum first part owed was had moment least n ts next x y h l
     ap (λ (us : List TrackFields). total_by (λ t. one_if_rest t.rest) size us + one_if_rest (track_meaning size x).rest) is ∙ total_set (λ (t : Track). one_if_rest t.rest) size ts n x y lt read in
     let owes : total_by (λ t. rest_owes t.rest) size next + rest_owes (track_meaning size x).rest ≡ total_by (λ t. rest_owes t.rest) size ts + rest_owes (track_meaning size y).rest =
     ap (λ (us : List TrackFields). total_by (λ t. rest_owes t.rest) size us + rest_owes (track_meaning size x).rest) is ∙ total_set (λ (t : Track). rest_owes t.rest) size ts n x y lt read in
+    let long = ap (λ (us : List TrackFields). length us) is ∙ length-set ts n y in
     record {
       some = h.some;
+      few = omega (arith, long, h.few);
       parts = count_turned many part was _ _ _ _ h.parts new.one old.one (at_most (track_meaning size x)) parts;
       owed = sum_turned sum owed had _ _ _ _ h.owed new.owes old.owes owes;
       earliest = rw (low, from, is) (worth_set (track_meaning size) rest_message first n ts y h.earliest);
@@ -140,3 +145,30 @@ counted_set size many sum first part owed was had moment least n ts next x y h l
 
     sum_turned : (sum owed had before new old after : ℕ) → sum ≡ before % 2 ^ 64 → owed ≡ new % 2 ^ 64 → had ≡ old % 2 ^ 64 → after + old ≡ before + new → ((sum + owed) % 2 ^ 64 + (2 ^ 64 - had)) % 2 ^ 64 ≡ after % 2 ^ 64
     sum_turned sum owed had before new old after a b c d = omega arith
+
+-- ---- none in part
+
+-- fragments of another size change nothing in that
+parts_of_any : (a b : ℕ) (ts : List TrackFields) → total_by (λ t. one_if_rest t.rest) a ts ≡ total_by (λ t. one_if_rest t.rest) b ts
+parts_of_any a b [] = refl
+parts_of_any a b (t ∷ ts) = let rest = parts_of_any a b ts in let here = same t.rest in omega (arith, here, rest)
+  where
+    same : (o : Option RestFields) → one_if_rest (rests_meaning a o) ≡ one_if_rest (rests_meaning b o)
+    same None = refl
+    same (Some r) = refl
+
+parts_within : (size : ℕ) (ts : List TrackFields) → total_by (λ t. one_if_rest t.rest) size ts ≤ length ts
+parts_within size [] = omega arith
+parts_within size (t ∷ ts) = let rest = parts_within size ts in let here = most t.rest in omega (arith, here, rest)
+  where
+    most : (o : Option RestFields) → one_if_rest (rests_meaning size o) ≤ 1
+    most None = omega arith
+    most (Some r) = omega arith
+
+-- the count is exact, since streams are few
+pub no_part : (size other many sum first : ℕ) (ts : List TrackFields) → IsCountedOf size ts many sum first → many ≡ 0 → total_by (λ t. one_if_rest t.rest) other ts ≡ 0
+no_part size other many sum first ts h none =
+    let most = parts_within size ts in
+    let exact = h.parts in
+    let few = h.few in
+    parts_of_any other size ts ∙ (omega (arith, most, exact, few, none))

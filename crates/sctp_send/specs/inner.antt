@@ -5,7 +5,9 @@ pub mod Expiring
 pub mod Wishing
 pub mod Newcomers
 pub mod Drafting
+pub mod Ordering
 pub mod Counting
+pub mod Seating
 pub mod Undoing
 pub mod Lanes
 pub mod TicketOrder

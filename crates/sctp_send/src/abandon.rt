@@ -84,7 +84,7 @@ impl<F: Framing> Sender<F> {
         ensures answer { (v : SenderView) → StandsFor F.format self.old v → is_numbered_fate (fate_here v ticket) ≡ true → answer_meaning result ≡ abandon_answer v ticket }
         ensures step { (v : SenderView) → StandsFor F.format self.old v → is_numbered_fate (fate_here v ticket) ≡ true → StandsFor F.format self.new (abandon_after v ticket) }
     {
-        if is_all_covered(self.tracks.tracks(), &self.outstanding, ticket) {
+        if is_all_covered(&self.tracks, &self.outstanding, ticket) {
             return Abandoned::Acknowledged;
         }
         if !self.partial {
@@ -104,7 +104,7 @@ fn place_of(queue: &Waiting, ticket: u32) -> usize
     ensures { (size : ℕ) → without ticket (map (queued_by size) queue.now.items)
         ≡ take result (map (queued_by size) queue.now.items) ++ drop (result + 1) (map (queued_by size) queue.now.items) }
 {
-    for at in 0..queue.len() {
+    for at in queue.first_from(ticket)..queue.len() {
         let message = queue.get(at);
         if message.ticket == ticket {
             return at;
@@ -129,6 +129,9 @@ fn end(tracks: &mut Streams, ticket: u32) -> Option<Rest>
     ensures same { IfNone result (tracks.new.items ≡ tracks.old.items) }
     ensures some { (size : ℕ) → IfSome result (λ rest. EndsAt ticket (rest_meaning size rest) (map (track_meaning size) tracks.old.items) (map (track_meaning size) tracks.new.items)) }
 {
+    if !tracks.has_part() {
+        return None;
+    }
     let at = stream_of(tracks.tracks(), ticket)?;
     let track = &tracks.tracks()[at];
     let next = Track {

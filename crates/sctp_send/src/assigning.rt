@@ -1,20 +1,21 @@
 //! What takes an index next, found among what waits and what is in part (RFC 9260, 6.9; RFC 8260, 2.2.2 and 3.2).
 
-ghost use Rattle.std.specs.Prelude.{◌≡◌, ℕ, suc, ◌+◌, ◌<◌, ◌≤◌, ◌%◌, ◌^◌, true, map, length, nat_le, IfOk, IfSome};
+ghost use Rattle.std.specs.Prelude.{◌≡◌, ℕ, suc, ◌+◌, ◌<◌, ◌≤◌, ◌%◌, ◌^◌, true, None, map, length, nat_le, IfOk, IfSome};
 ghost use Rattle.sctp_model.specs.messages.Format.{Plain, Interleaved};
 ghost use Rattle.sctp_model.specs.numbers.Limits.{WINDOW};
+ghost use Rattle.sctp_model.specs.sender.Assigning.{first_on};
 ghost use Rattle.sctp_model.specs.sender.SenderView.{SenderView};
 ghost use Rattle.sctp_send.specs.SenderKept.{Kept};
 ghost use Rattle.sctp_send.specs.SenderStands.{Keeps};
-ghost use Rattle.sctp_send.specs.SenderFields.{queued_by, track_meaning, rests_meaning};
+ghost use Rattle.sctp_send.specs.SenderFields.{track_meaning, rests_meaning};
 ghost use Rattle.sctp_send.specs.inner.Walks.{total, one_if_rest};
-ghost use Rattle.sctp_send.specs.inner.Drafting.{drafted, NewAnswer, TurnAnswer, IsNextWithin};
-ghost use Rattle.sctp_send.specs.inner.Newcomers.{rest_at, has_rest, one_if, FirstOnAnswer};
+ghost use Rattle.sctp_send.specs.inner.Drafting.{drafted, NewAnswer, FirstTurnAnswer, IsNextWithin};
+ghost use Rattle.sctp_send.specs.inner.Newcomers.{rest_at, has_rest, one_if, IsNextPart};
 
 use crate::draft::{Draft, copied_rest};
 use crate::queue::fragments_of;
 use crate::sender::{Rest, Track};
-use crate::waiting::Waiting;
+use crate::streams::Streams;
 use sctp_framing::Framing;
 use sctp_values::{NoMemory, WINDOW};
 
@@ -71,32 +72,62 @@ fn next_in_turn(draft: &Draft, streams: u16) -> Option<Next>
     ensures next { (s : Kept) (v : SenderView) → s.streams ≡ streams → Keeps Interleaved (drafted s draft.now) v → NewAnswer Interleaved v result }
     ensures within { IsNextWithin draft.now streams result }
 {
-    for step in 0..streams {
-        let stream = ((u32::from(draft.turn) + u32::from(step)) % u32::from(streams)) as u16;
-        if let Some(next) = turn_of(draft, stream, streams) {
-            return Some(next);
-        }
+    let turn = draft.turn;
+    if let Some(next) = next_between(draft, turn, streams, streams) {
+        return Some(next);
+    }
+    next_between(draft, 0, turn.min(streams), streams)
+}
+
+/// What the first stream from one on, below another, that has something to send does: it goes on with its message in part, or else begins the
+/// message that has waited longest on it.
+fn next_between(draft: &Draft, from: u16, below: u16, streams: u16) -> Option<Next>
+    requires { below ≤ streams }
+    ensures does { (s : Kept) (v : SenderView) → s.streams ≡ streams → Keeps Interleaved (drafted s draft.now) v → FirstTurnAnswer v from below result }
+    ensures within { IsNextWithin draft.now streams result }
+{
+    let Some(found) = draft.queue.next_on(from, below) else {
+        return part_between(draft, from, below, streams);
+    };
+    let stream = found.stream;
+    let behind = stream_after(stream, streams);
+    let part = next_part(&draft.tracks, from, stream + 1);
+    if part <= stream {
+        return Some(Next::Continues(part));
+    }
+    Some(Next::Begins(Beginning {
+        place: found.place,
+        count: 1,
+        turn: behind,
+    }))
+}
+
+/// The same where no message waits on any of these streams.
+fn part_between(draft: &Draft, from: u16, below: u16, streams: u16) -> Option<Next>
+    requires { below ≤ streams }
+    ensures does { (s : Kept) (v : SenderView) → s.streams ≡ streams → Keeps Interleaved (drafted s draft.now) v → ((j : ℕ) → from ≤ j → j < below → first_on j v.queue ≡ None) → FirstTurnAnswer v from below result }
+    ensures within { IsNextWithin draft.now streams result }
+{
+    let part = next_part(&draft.tracks, from, below);
+    if part < below {
+        return Some(Next::Continues(part));
     }
     None
 }
 
-/// What a stream does in its turn: it goes on with its message in part, or else begins the message that has waited longest on it.
-fn turn_of(draft: &Draft, stream: u16, streams: u16) -> Option<Next>
-    requires { stream < streams }
-    ensures does { (s : Kept) (v : SenderView) → s.streams ≡ streams → Keeps Interleaved (drafted s draft.now) v → TurnAnswer v stream result }
-    ensures within { IsNextWithin draft.now streams result }
+/// The first stream from one on, below another, with a message in part, or that other.
+fn next_part(tracks: &Streams, from: u16, below: u16) -> u16
+    ensures { (size : ℕ) → IsNextPart from below (map (track_meaning size) tracks.now.items) result }
 {
-    if goes_on_at(draft.tracks.tracks(), stream) {
-        return Some(Next::Continues(stream));
+    if !tracks.has_part() {
+        return below;
     }
-    match first_on(&draft.queue, stream) {
-        Some(place) => Some(Next::Begins(Beginning {
-            place,
-            count: 1,
-            turn: stream_after(stream, streams),
-        })),
-        None => None,
+    for stream in from..below {
+        if goes_on_at(tracks.tracks(), stream) {
+            return stream;
+        }
     }
+    below
 }
 
 /// The stream behind this one, upward and cyclic.
@@ -115,20 +146,6 @@ fn goes_on_at(tracks: &[Track], stream: u16) -> bool
         Some(track) => track.rest.is_some(),
         None => false,
     }
-}
-
-/// The place of the message that has waited longest on a stream.
-fn first_on(queue: &Waiting, stream: u16) -> Option<usize>
-    ensures first { (size : ℕ) → FirstOnAnswer stream (map (queued_by size) queue.now.items) result }
-    ensures within { IfSome result (λ at. at < length queue.now.items) }
-{
-    for at in 0..queue.len() {
-        let message = queue.get(at);
-        if message.stream == stream {
-            return Some(at);
-        }
-    }
-    None
 }
 
 /// A copy of what is left of the message in part of a stream.

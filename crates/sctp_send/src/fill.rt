@@ -60,7 +60,7 @@ impl<F: Framing> Sender<F> {
         log.clear();
         Draft {
             outstanding: mem::replace(&mut self.outstanding, Window::new(alloc, size)),
-            queue: mem::replace(&mut self.queue, Waiting::new(alloc, size)),
+            queue: mem::replace(&mut self.queue, Waiting::new(alloc, size, false)),
             tracks: mem::replace(&mut self.tracks, Streams::none(alloc, size)),
             turn: self.turn,
             tickets: Vec::new(alloc),

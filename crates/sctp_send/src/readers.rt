@@ -11,6 +11,7 @@ ghost use Rattle.sctp_send.specs.inner.Walks.{total, one_if_rest, abandoned_item
 
 use crate::message::Fate;
 use crate::sender::{Sender, Track};
+use crate::streams::Streams;
 use crate::window::Window;
 use sctp_framing::Framing;
 use sctp_values::Ticket;
@@ -86,7 +87,7 @@ impl<F: Framing> Sender<F> {
         if !is_numbered(fate) {
             return false;
         }
-        is_all_covered(self.tracks.tracks(), &self.outstanding, ticket.0)
+        is_all_covered(&self.tracks, &self.outstanding, ticket.0)
     }
 
     /// Whether the message with this ticket has a number and was abandoned. False for a ticket that was never given.
@@ -126,11 +127,21 @@ fn is_numbered(fate: Fate) -> bool
 }
 
 /// All of the message with this ticket is assigned and covered.
-pub fn is_all_covered(tracks: &[Track], outstanding: &Window, ticket: u32) -> bool
+pub fn is_all_covered(tracks: &Streams, outstanding: &Window, ticket: u32) -> bool
     ensures { (size : ℕ) → result
-        ≡ (not (any_rest ticket (map (track_meaning size) tracks.now)) && not (any_uncovered ticket (map (item_meaning size) outstanding.now.items))) }
+        ≡ (not (any_rest ticket (map (track_meaning size) tracks.now.items)) && not (any_uncovered ticket (map (item_meaning size) outstanding.now.items))) }
 {
-    !some_goes_on(tracks, ticket) && !outstanding.some_uncovered(ticket)
+    !is_in_part(tracks, ticket) && !outstanding.some_uncovered(ticket)
+}
+
+/// The message with this ticket is in part.
+fn is_in_part(tracks: &Streams, ticket: u32) -> bool
+    ensures { (size : ℕ) → result ≡ any_rest ticket (map (track_meaning size) tracks.now.items) }
+{
+    if !tracks.has_part() {
+        return false;
+    }
+    some_goes_on(tracks.tracks(), ticket)
 }
 
 /// Some stream goes on with the message with this ticket.

@@ -132,7 +132,7 @@ impl<F: Framing> Sender<F> {
             rwnd: peer_rwnd,
             turn: 0,
             outstanding: Window::new(alloc, fragment),
-            queue: Waiting::new(alloc, fragment),
+            queue: Waiting::new(alloc, fragment, F::takes_turns()),
             tracks,
             fates: Vec::new(alloc),
             covered,

@@ -1,6 +1,6 @@
 //! What is kept of each stream, and what is counted of all: so many messages in part, and the TSNs that they may take.
 
-ghost use Rattle.std.specs.Prelude.{◌≡◌, ℕ, ◌+◌, ◌<◌, ◌≤◌, ◌%◌, ◌^◌, map, length, set, replicate, slice_index_or, IfOk};
+ghost use Rattle.std.specs.Prelude.{◌≡◌, ℕ, ◌+◌, ◌<◌, ◌≤◌, ◌%◌, ◌^◌, false, map, length, set, replicate, slice_index_or, IfOk};
 ghost use Rattle.sctp_send.specs.SenderFields.{track_meaning};
 ghost use Rattle.sctp_send.specs.inner.Walks.{total, one_if_rest, rest_owes};
 ghost use Rattle.sctp_send.specs.inner.Expiring.{soonest, rest_message, rest_messages};
@@ -89,6 +89,13 @@ impl Streams {
         self.parts
     }
 
+    /// Whether some message is in part. Under DATA none ever is.
+    pub fn has_part(&self) -> bool
+        ensures { (size : ℕ) → result ≡ false → total (λ t. one_if_rest t.rest) (map (track_meaning size) self.now.items) ≡ 0 }
+    {
+        self.parts > 0
+    }
+
     /// The TSNs that the messages in part may take, modulo 2^64.
     pub fn owed(&self) -> u64
         ensures { result ≡ total (λ t. rest_owes t.rest) (map (track_meaning self.now.size) self.now.items) % 2 ^ 64 }
@@ -116,6 +123,10 @@ impl Streams {
         ensures { result ≡ soonest now last found (rest_messages (map (track_meaning self.now.size) self.now.items)) }
     {
         if now < self.earliest {
+            return found;
+        }
+        let parts = self.parts;
+        if parts == 0 {
             return found;
         }
         let mut found = found;

@@ -5,10 +5,15 @@ ghost use Rattle.std.specs.VecDeque.{deque_len, deque_capacity};
 ghost use Rattle.sctp_model.specs.sender.Queueing.{owed_by_queue};
 ghost use Rattle.sctp_send.specs.SenderFields.{queued_by};
 ghost use Rattle.sctp_send.specs.inner.Expiring.{soonest, queue_messages};
+ghost use Rattle.sctp_send.specs.inner.Seating.{AreLower, NextOnAnswer};
 
 use crate::expire::sooner;
 use crate::message::{Message, moment_of};
+use crate::ordered::{Ordered, Pair};
 use crate::queue::owed_by_message;
+use crate::seats::{
+    Found, first_from, fits_at, is_first_late, make_room, next_by_looking, seat_of, take_seat,
+};
 use sctp_values::NoMemory;
 use std::alloc::Global;
 use std::collections::VecDeque;
@@ -25,6 +30,11 @@ pub struct Waiting {
     owed: u64,
     // before this moment no message is past its time
     earliest: u64,
+    // tickets rise from the front on: so it is where `queue` gives them
+    rises: bool,
+    // where streams take turns, each message by its stream and its ticket
+    seats: Ordered,
+    is_seated: bool,
 }
 
 impl Model for Waiting {
@@ -33,25 +43,30 @@ impl Model for Waiting {
 
     ghost Value = { WaitingKept };
 
-    ghost use Rattle.sctp_send.specs.inner.Counting.{IsOwedOf};
+    ghost use Rattle.sctp_send.specs.inner.Seating.{IsQueueOf};
 
     ghost view = { λ w. record { size = w.size; items = w.messages.items; capacity = deque_capacity w.messages } };
 
-    ghost invariant = { λ w. IsOwedOf w.size w.messages.items w.owed w.earliest };
+    ghost invariant = { λ w. IsQueueOf w.size w.messages.items w.owed w.earliest w.rises w.is_seated w.seats.items };
 }
 
 impl Waiting {
-    /// No message, of fragments with at most so many bytes.
-    pub fn new(alloc: Global, size: u16) -> Waiting
+    /// No message, of fragments with at most so many bytes; streams take turns, or don't.
+    pub fn new(alloc: Global, size: u16, takes_turns: bool) -> Waiting
         requires { 0 < size }
         ensures size { result.size ≡ size }
         ensures items { result.items ≡ [] }
     {
+        let messages = VecDeque::new(alloc);
+        let seats = Ordered::new(alloc);
         Waiting {
             size,
-            messages: VecDeque::new(alloc),
+            messages,
             owed: 0,
             earliest: u64::MAX,
+            rises: true,
+            seats,
+            is_seated: takes_turns,
         }
     }
 
@@ -89,12 +104,18 @@ impl Waiting {
     {
         let owed = owed_by_message(&message, self.size);
         let moment = moment_of(&message);
+        let seat = seat_of(&message);
+        let behind = self.messages.len();
+        let fits = fits_at(&self.messages, self.rises, behind, seat.second);
+        make_room(&mut self.seats, self.is_seated)?;
         match self.messages.push_back(message) {
             Ok(()) => {}
             Err(_) => return Err(NoMemory),
         }
         self.owed = self.owed.wrapping_add(owed);
         self.earliest = self.earliest.min(moment);
+        self.rises = fits;
+        self.is_seated = take_seat(&mut self.seats, self.is_seated, seat);
         Ok(())
     }
 
@@ -107,6 +128,8 @@ impl Waiting {
         let message = take_at(&mut self.messages, place)?;
         let owed = owed_by_message(&message, self.size);
         self.owed = self.owed.wrapping_sub(owed);
+        let seat = seat_of(&message);
+        self.seats.remove(seat);
         Some(message)
     }
 
@@ -120,12 +143,50 @@ impl Waiting {
     {
         let owed = owed_by_message(&message, self.size);
         let moment = moment_of(&message);
+        let seat = seat_of(&message);
+        let fits = fits_at(&self.messages, self.rises, place, seat.second);
         match self.messages.insert(place, message) {
             Ok(()) => {}
             Err(_) => return,
         }
         self.owed = self.owed.wrapping_add(owed);
         self.earliest = self.earliest.min(moment);
+        self.rises = fits;
+        self.is_seated = take_seat(&mut self.seats, self.is_seated, seat);
+    }
+
+    /// How many of the first messages have lower tickets, where tickets rise; else none.
+    pub fn first_from(&self, ticket: u32) -> usize
+        ensures lower { AreLower ticket result self.now.items }
+        ensures within { result ≤ length self.now.items }
+    {
+        first_from(&self.messages, self.rises, ticket)
+    }
+
+    /// The first stream from one on, below another, on which a message waits, and the place of the message that has waited longest on it.
+    pub fn next_on(&self, from: u16, below: u16) -> Option<Found>
+        ensures next { (size : ℕ) → NextOnAnswer from below (map (queued_by size) self.now.items) result }
+        ensures within { IfSome result (λ found. found.place < length self.now.items) }
+    {
+        let (rises, is_seated) = (self.rises, self.is_seated);
+        if !rises || !is_seated {
+            return next_by_looking(&self.messages, from, below);
+        }
+        let at = self.seats.place_of(Pair {
+            first: u32::from(from),
+            second: 0,
+        });
+        if at >= self.seats.len() {
+            return None;
+        }
+        let seat = self.seats.get(at);
+        let place = first_from(&self.messages, rises, seat.second);
+        let message = &self.messages[place];
+        let stream = message.stream;
+        if stream >= below {
+            return None;
+        }
+        Some(Found { stream, place })
     }
 
     /// The lowest ticket above the last one of messages that are past their time, or one found before.
@@ -135,10 +196,15 @@ impl Waiting {
         if now < self.earliest {
             return found;
         }
+        let rises = self.rises;
+        let start = first_from(&self.messages, rises, last);
         let mut found = found;
-        for at in 0..self.messages.len() {
+        for at in start..self.messages.len() {
             let message = &self.messages[at];
             found = sooner(found, message, last, now);
+            if is_first_late(message, rises, last, now) {
+                return found;
+            }
         }
         found
     }

@@ -98,6 +98,7 @@ pub record IsOwedOf (size : ℕ) (ms : List (Rc MessageFields Global)) (sum firs
 -- how many messages are in part, what they may take, and when the first of them is worthless
 pub record IsCountedOf (size : ℕ) (ts : List TrackFields) (many sum first : ℕ) : Type 0 where
   pub some : 0 < size
+  pub few : length ts < 2 ^ 16
   pub parts : many ≡ total (λ t. one_if_rest t.rest) (map (track_meaning size) ts) % 2 ^ 32
   pub owed : sum ≡ total (λ t. rest_owes t.rest) (map (track_meaning size) ts) % 2 ^ 64
   pub earliest : AreWorth first (rest_messages (map (track_meaning size) ts))

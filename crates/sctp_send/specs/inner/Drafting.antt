@@ -1,5 +1,5 @@
 -- What a draft of a sender keeps, and what each wish makes of it and of the packet.
-use Rattle.std.specs.Prelude.{◌≡◌, ℕ, suc, nat_lt, ◌-◌, ◌<◌, Bool, true, false, List, [], ◌∷◌, ◌++◌, ◌+◌, ◌&&◌, map, length, slice_set, Option, None, Some, option_map}
+use Rattle.std.specs.Prelude.{◌≡◌, ℕ, suc, nat_lt, ◌-◌, ◌<◌, ◌≤◌, Bool, true, false, List, [], ◌∷◌, ◌++◌, ◌+◌, ◌&&◌, map, length, slice_set, Option, None, Some, option_map}
 use Rattle.sctp_model.specs.messages.Format.{Format, Kind}
 use Rattle.sctp_model.specs.messages.Plan.{Part}
 use Rattle.sctp_model.specs.sender.Words.{when}
@@ -159,3 +159,16 @@ abbrev pub TurnAnswer : SenderView → (stream : ℕ) → Option Next → Type 0
 TurnAnswer v stream None = turn_of v stream ≡ None
 TurnAnswer v stream (Some (Begins next)) = IsTurnBegun v stream next.place next.count next.turn
 TurnAnswer v stream (Some (Continues s)) = (s ≡ stream) × IsTurnContinued v stream
+
+-- The first of some streams that has something to send does this, and those before it have nothing.
+pub record IsFirstTurn (v : SenderView) (from below : ℕ) (next : Next) : Type 0 where
+  pub stream : ℕ
+  pub above : from ≤ stream
+  pub low : stream < below
+  pub does : TurnAnswer v stream (Some next)
+  pub before : (j : ℕ) → from ≤ j → j < stream → turn_of v j ≡ None
+
+-- what the first of them does, or none has anything
+abbrev pub FirstTurnAnswer : SenderView → (from below : ℕ) → Option Next → Type 0
+FirstTurnAnswer v from below None = (j : ℕ) → from ≤ j → j < below → turn_of v j ≡ None
+FirstTurnAnswer v from below (Some next) = IsFirstTurn v from below next

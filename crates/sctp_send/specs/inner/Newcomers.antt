@@ -1,5 +1,5 @@
 -- What takes an index next, among what is kept, and what is kept then (RFC 9260, 6.9; RFC 8260, 2.2.2 and 3.2).
-use Rattle.std.specs.Prelude.{◌≡◌, ℕ, zero, suc, ◌-◌, ◌<◌, ◌⊎◌, nat_lt, Bool, true, false, List, [], ◌∷◌, ◌++◌, length, take, drop, slice_get, slice_set, Option, None, Some, option_and_then}
+use Rattle.std.specs.Prelude.{◌≡◌, ℕ, zero, suc, ◌-◌, ◌<◌, ◌≤◌, ◌⊎◌, nat_lt, Bool, true, false, List, [], ◌∷◌, ◌++◌, length, take, drop, slice_get, slice_set, Option, None, Some, option_and_then}
 use Rattle.std.specs.Prelude.{slice_index_or}
 use Rattle.sctp_model.specs.messages.Format.{Format, Kind, Ordered, Unordered, Lane}
 use Rattle.sctp_model.specs.messages.Plan.{Message, Entry, Part, End}
@@ -65,6 +65,12 @@ rest_at ts j = option_and_then (λ t. t.rest) (slice_get ts j)
 abbrev pub has_rest : Option Rest → Bool
 has_rest None = false
 has_rest (Some r) = true
+
+-- the first of some streams with a message in part, or the one behind them
+pub record IsNextPart (from below : ℕ) (ts : List Track) (next : ℕ) : Type 0 where
+  pub before : (j : ℕ) → from ≤ j → j < next → has_rest (rest_at ts j) ≡ false
+  pub here : next < below → (from ≤ next) × (has_rest (rest_at ts next) ≡ true)
+  pub within : next ≤ below
 
 -- one where it is so
 abbrev pub one_if : Bool → ℕ

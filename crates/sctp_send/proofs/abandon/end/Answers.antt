@@ -4,6 +4,7 @@ use Rattle.sctp_send.specs.WindowKept.{StreamsKept}
 use Rattle.sctp_send.specs.inner.Walks.{GoesOnAt}
 use Rattle.sctp_send.specs.declared.sender.Track.{Track as TrackFields}
 use Rattle.sctp_send.proofs.TrackLemmas.{rest_taken, never_none, same_read}
+use Rattle.sctp_send.proofs.NextLemmas.{none_with}
 use Rattle.sctp_send.proofs.abandon.end.Goals as goal
 
 pub returns-clause-none : goal.returns-clause-none
@@ -24,3 +25,6 @@ returns-clause-some c = λ size.
     let same = same_read ts c.in_ok-at.at c.index-tracks-at.result x (rw c.tracks.ensures at c.in_ok-at.ensures.within) (rw c.tracks-2.ensures at c.index-tracks-at.is) c.replace.ensures.before in
     let next : c.replace.new.self.items ≡ set ts c.in_ok-at.at (record x { rest = None }) = ap (λ (w : StreamsKept). w.items) c.replace.ensures.after ∙ ap (λ (t : TrackFields). set ts c.in_ok-at.at (record t { rest = None })) same in
     rw next (rest_taken size c.args.ticket c.in_ok-at.at ts x c.replace.ensures.before there)
+
+pub returns-then-not-has_part-clause-none : goal.returns-then-not-has_part-clause-none
+returns-then-not-has_part-clause-none c = λ size. none_with c.args.ticket (map (track_meaning size) c.args.tracks.now.items) (c.has_part.ensures size c.if-not-has_part.true)

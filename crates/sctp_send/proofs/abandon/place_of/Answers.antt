@@ -1,6 +1,7 @@
 use Rattle.std.proofs.Common.{arith, ap, sym, ◌∙◌}
 use Rattle.sctp_send.specs.declared.message.Message.{Message as MessageFields}
 use Rattle.sctp_send.proofs.WithdrawLemmas.{walked_place, found_place, ended_place}
+use Rattle.sctp_send.proofs.SeatedLemmas.{place_from}
 use Rattle.sctp_send.proofs.abandon.place_of.Goals as goal
 
 pub loop-at-preserved : goal.loop-at-preserved
@@ -15,3 +16,6 @@ returns-then-deref-ticket c = λ size.
 
 pub returns : goal.returns
 returns c = λ size. ended_place c.args.ticket size c.args.queue.now.items c.loop-at.at c.len.result (omega arith) (omega arith) (c.loop-at.invariant size)
+
+pub loop-at-init : goal.loop-at-init
+loop-at-init c = λ size. place_from c.args.ticket size c.first_from-at.result c.args.queue.now.items c.first_from-at.ensures.within c.first_from-at.ensures.lower

@@ -19,7 +19,7 @@ returns-then-is_all_covered-clause-answer g c = λ v stands on.
     let s = c.self.inside in
     let keeps = subst (λ (k : Kept). Keeps g.F.Framing.format k v) (sym c.self.view_is) stands in
     let whole : (not (any_rest c.args.ticket (map (track_meaning s.fragment) s.tracks.items)) && not (any_uncovered c.args.ticket (map (item_meaning s.fragment) s.outstanding.items))) ≡ true =
-    rw c.tracks.ensures at (sym (c.is_all_covered.ensures s.fragment) ∙ c.if-is_all_covered.true) in
+    sym (c.is_all_covered.ensures s.fragment) ∙ c.if-is_all_covered.true in
     (answered_whole g.F.Framing.format _ v c.args.ticket keeps on whole).answer
 
 pub returns-then-is_all_covered-clause-step : goal.returns-then-is_all_covered-clause-step
@@ -28,7 +28,7 @@ returns-then-is_all_covered-clause-step g c = λ v stands on.
     let s = c.self.inside in
     let keeps = subst (λ (k : Kept). Keeps g.F.Framing.format k v) (sym c.self.view_is) stands in
     let whole : (not (any_rest c.args.ticket (map (track_meaning s.fragment) s.tracks.items)) && not (any_uncovered c.args.ticket (map (item_meaning s.fragment) s.outstanding.items))) ≡ true =
-    rw c.tracks.ensures at (sym (c.is_all_covered.ensures s.fragment) ∙ c.if-is_all_covered.true) in
+    sym (c.is_all_covered.ensures s.fragment) ∙ c.if-is_all_covered.true in
     rw (answered_whole g.F.Framing.format _ v c.args.ticket keeps on whole).after stands
 
 pub returns-then-not-self-clause-answer : goal.returns-then-not-self-clause-answer
@@ -37,7 +37,7 @@ returns-then-not-self-clause-answer g c = λ v stands on.
     let s = c.self.inside in
     let keeps = subst (λ (k : Kept). Keeps g.F.Framing.format k v) (sym c.self.view_is) stands in
     let missing : (not (any_rest c.args.ticket (map (track_meaning s.fragment) s.tracks.items)) && not (any_uncovered c.args.ticket (map (item_meaning s.fragment) s.outstanding.items))) ≡ false =
-    rw c.tracks.ensures at (sym (c.is_all_covered.ensures s.fragment) ∙ c.if-is_all_covered.false) in
+    sym (c.is_all_covered.ensures s.fragment) ∙ c.if-is_all_covered.false in
     (answered_reliable g.F.Framing.format _ v c.args.ticket keeps on missing c.if-not-self.true).answer
 
 pub returns-then-not-self-clause-step : goal.returns-then-not-self-clause-step
@@ -46,7 +46,7 @@ returns-then-not-self-clause-step g c = λ v stands on.
     let s = c.self.inside in
     let keeps = subst (λ (k : Kept). Keeps g.F.Framing.format k v) (sym c.self.view_is) stands in
     let missing : (not (any_rest c.args.ticket (map (track_meaning s.fragment) s.tracks.items)) && not (any_uncovered c.args.ticket (map (item_meaning s.fragment) s.outstanding.items))) ≡ false =
-    rw c.tracks.ensures at (sym (c.is_all_covered.ensures s.fragment) ∙ c.if-is_all_covered.false) in
+    sym (c.is_all_covered.ensures s.fragment) ∙ c.if-is_all_covered.false in
     rw (answered_reliable g.F.Framing.format _ v c.args.ticket keeps on missing c.if-not-self.true).after stands
 
 pub returns-in-Some-clause-answer : goal.returns-in-Some-clause-answer
@@ -55,7 +55,7 @@ returns-in-Some-clause-answer g c = λ v stands on.
     let s = c.self.inside in
     let keeps = subst (λ (k : Kept). Keeps g.F.Framing.format k v) (sym c.self.view_is) stands in
     let missing : (not (any_rest c.args.ticket (map (track_meaning s.fragment) s.tracks.items)) && not (any_uncovered c.args.ticket (map (item_meaning s.fragment) s.outstanding.items))) ≡ false =
-    rw c.tracks.ensures at (sym (c.is_all_covered.ensures s.fragment) ∙ c.if-is_all_covered.false) in
+    sym (c.is_all_covered.ensures s.fragment) ∙ c.if-is_all_covered.false in
     (answered_given g.F.Framing.format _ v c.args.ticket keeps on missing c.if-not-self.false).answer
 
 pub returns-in_default-clause-answer : goal.returns-in_default-clause-answer
@@ -64,7 +64,7 @@ returns-in_default-clause-answer g c = λ v stands on.
     let s = c.self.inside in
     let keeps = subst (λ (k : Kept). Keeps g.F.Framing.format k v) (sym c.self.view_is) stands in
     let missing : (not (any_rest c.args.ticket (map (track_meaning s.fragment) s.tracks.items)) && not (any_uncovered c.args.ticket (map (item_meaning s.fragment) s.outstanding.items))) ≡ false =
-    rw c.tracks.ensures at (sym (c.is_all_covered.ensures s.fragment) ∙ c.if-is_all_covered.false) in
+    sym (c.is_all_covered.ensures s.fragment) ∙ c.if-is_all_covered.false in
     (answered_given g.F.Framing.format _ v c.args.ticket keeps on missing c.if-not-self.false).answer
 
 pub returns-in-Some-clause-step : goal.returns-in-Some-clause-step
@@ -73,7 +73,7 @@ returns-in-Some-clause-step g c = λ v stands on.
     let s = c.self.inside in
     let keeps = subst (λ (k : Kept). Keeps g.F.Framing.format k v) (sym c.self.view_is) stands in
     let missing : (not (any_rest c.args.ticket (map (track_meaning s.fragment) s.tracks.items)) && not (any_uncovered c.args.ticket (map (item_meaning s.fragment) s.outstanding.items))) ≡ false =
-    rw c.tracks.ensures at (sym (c.is_all_covered.ensures s.fragment) ∙ c.if-is_all_covered.false) in
+    sym (c.is_all_covered.ensures s.fragment) ∙ c.if-is_all_covered.false in
     let m = answered_given g.F.Framing.format _ v c.args.ticket keeps on missing c.if-not-self.false in
     let taken = keeps_ended g.F.Framing.format _ v c.args.ticket m.name _ _ keeps m.kept m.uncovered m.partial (c.in-Some.ensures.some s.fragment) in
     let long = length-map s.outstanding.items (item_meaning s.fragment) in
@@ -87,7 +87,7 @@ returns-in_default-clause-step g c = λ v stands on.
     let s = c.self.inside in
     let keeps = subst (λ (k : Kept). Keeps g.F.Framing.format k v) (sym c.self.view_is) stands in
     let missing : (not (any_rest c.args.ticket (map (track_meaning s.fragment) s.tracks.items)) && not (any_uncovered c.args.ticket (map (item_meaning s.fragment) s.outstanding.items))) ≡ false =
-    rw c.tracks.ensures at (sym (c.is_all_covered.ensures s.fragment) ∙ c.if-is_all_covered.false) in
+    sym (c.is_all_covered.ensures s.fragment) ∙ c.if-is_all_covered.false in
     let m = answered_given g.F.Framing.format _ v c.args.ticket keeps on missing c.if-not-self.false in
     let taken = keeps_given g.F.Framing.format _ v c.args.ticket m.name keeps m.kept m.uncovered m.partial (c.in_default.ensures.none s.fragment) in
     rw (c.give_up.ensures.items, items_given, c.in_default.ensures.same, c.give_up.ensures.kept.capacity) taken

@@ -18,6 +18,7 @@ invariant_of-self c =
     let w = c.self.inside in
     record {
       some = c.self.invariant.some;
+      few = c.self.invariant.few;
       parts = c.self.invariant.parts;
       owed = c.self.invariant.owed;
       earliest = worth_all (track_meaning w.size) rest_message c.loop-at.earliest c.loop-at.at w.tracks.items (omega arith) c.loop-at.invariant;

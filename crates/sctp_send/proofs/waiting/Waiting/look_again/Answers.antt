@@ -20,7 +20,10 @@ pub invariant_of-self : goal.invariant_of-self
 invariant_of-self c =
     let w = c.self.inside in
     record {
-      some = c.self.invariant.some;
-      owed = c.self.invariant.owed;
-      earliest = worth_all (queued_by w.size) (λ (q : Queued). Some q.message) c.loop-at.earliest c.loop-at.at w.messages.items (omega arith) c.loop-at.invariant;
+      owed = record {
+        some = c.self.invariant.owed.some;
+        owed = c.self.invariant.owed.owed;
+        earliest = worth_all (queued_by w.size) (λ (q : Queued). Some q.message) c.loop-at.earliest c.loop-at.at w.messages.items (omega arith) c.loop-at.invariant;
+      };
+      seats = c.self.invariant.seats;
     }

@@ -1,0 +1,166 @@
+-- The seats as messages come and go, and what is asked of the messages by their tickets.
+use Rattle.std.proofs.Common.{◌≡◌, ℕ, zero, suc, ◌+◌, ◌<◌, ◌≤◌, ◌^◌, min, List, [], ◌∷◌, ◌++◌, length, map, take, drop, get_or, Bool, true, false, Option, Some, None, refl, sym, ap, ◌∙◌, arith, subst}
+use Rattle.std.specs.Prelude.{insert, remove, nat_lt, ◌&&◌, if◌then◌else◌}
+use Rattle.std.specs.declared.rc.Rc.{Rc}
+use Rattle.std.specs.declared.alloc.Global.{Global}
+use Rattle.std.specs.List.{sum_by}
+use Rattle.std.proofs.lemmas.Bool.Decides.{nat_tests}
+use Rattle.std.proofs.lemmas.List.{length-map, get_or-map, drop-map}
+use Rattle.std.proofs.lemmas.List.Sums.{sum_by-insert, sum_by-remove}
+use Rattle.sctp_model.specs.numbers.Limits.{LAST_MOMENT}
+use Rattle.sctp_model.specs.messages.Plan.{Message}
+use Rattle.sctp_model.specs.sender.Abandoning.{is_past, without}
+use Rattle.sctp_model.specs.sender.SenderView.{Queued}
+use Rattle.sctp_model.specs.sender.Words.{when}
+use Rattle.sctp_send.specs.OutstandingFields.{message_meaning}
+use Rattle.sctp_send.specs.SenderFields.{queued_by}
+use Rattle.sctp_send.specs.inner.Expiring.{sooner, late_after, soonest, queue_messages}
+use Rattle.sctp_send.specs.inner.Ordering.{key, before, AreOrdered}
+use Rattle.sctp_send.specs.inner.Seating.{ticket_in, seat_of, DoTicketsRise, IsBetween, AreLower, AreSeats, IsSeatedOf, IsQueueOf}
+use Rattle.sctp_send.specs.declared.message.Message.{Message as MessageFields}
+use Rattle.sctp_send.specs.declared.ordered.Pair.{Pair}
+use Rattle.sctp_send.proofs.ExpireLemmas.{late_walked}
+use Rattle.sctp_send.proofs.PairLemmas.{in_order, before_below, comes_before, comes_behind, is_small, among, same_numbers}
+use Rattle.sctp_send.proofs.RiseLemmas.{rise_inserted, rise_removed}
+use Rattle.sctp_send.proofs.WithdrawLemmas.{walked_place}
+
+-- ---- messages come and go
+
+mapped_inserted : {A B : Type 0} (f : A → B) (xs : List A) (n : ℕ) (x : A) → map f (insert xs n x) ≡ insert (map f xs) n (f x)
+mapped_inserted f xs zero x = refl
+mapped_inserted f [] (suc n) x = refl
+mapped_inserted f (y ∷ xs) (suc n) x = ap (λ ys. f y ∷ ys) (mapped_inserted f xs n x)
+
+mapped_removed : {A B : Type 0} (f : A → B) (xs : List A) (n : ℕ) → map f (remove xs n) ≡ remove (map f xs) n
+mapped_removed f [] zero = refl
+mapped_removed f [] (suc n) = refl
+mapped_removed f (y ∷ xs) zero = refl
+mapped_removed f (y ∷ xs) (suc n) = ap (λ ys. f y ∷ ys) (mapped_removed f xs n)
+
+-- no message waits
+pub seated_fresh : (size : ℕ) (seated : Bool) (ms : List (Rc MessageFields Global)) (ps : List Pair) → 0 < size → ms ≡ [] → ps ≡ [] → IsQueueOf size ms 0 LAST_MOMENT true seated ps
+seated_fresh size seated ms ps some none empty = rw (none, empty) (record {
+  owed = record { some = some; owed = omega arith; earliest = tt };
+  seats = record { order = λ on. tt; seats = λ on f. refl };
+})
+
+-- the same messages and seats
+pub seated_same : (size sum first : ℕ) (rises seated : Bool) (ms next : List (Rc MessageFields Global)) (ps qs : List Pair) → IsQueueOf size ms sum first rises seated ps → next ≡ ms → qs ≡ ps → IsQueueOf size next sum first rises seated qs
+seated_same size sum first rises seated ms next ps qs h is same = rw (is, same) h
+
+-- one message more
+pub seated_inserted : (was rises had seated : Bool) (n : ℕ) (x : Rc MessageFields Global) (ms next : List (Rc MessageFields Global)) (ps qs : List Pair) (p : Pair) → IsSeatedOf was had ms ps → next ≡ insert ms n x → n ≤ length ms
+    → (rises ≡ true → was ≡ true) → (rises ≡ true → IsBetween n (ticket_in x) ms) → (seated ≡ true → had ≡ true) → (seated ≡ true → qs ≡ insert ps (before key (key p) ps) p) → p ≡ seat_of x → IsSeatedOf rises seated next qs
+seated_inserted was rises had seated n x ms next ps qs p h is le up between kept taken own = record {
+  order = λ on. subst (DoTicketsRise 0) (sym is) (rise_inserted 0 n x ms (omega arith) le (between on) (h.order (up on)));
+  seats = λ on f.
+      let before_it = h.seats (kept on) f in
+      let one = sum_by-insert f ps (before key (key p) ps) p in
+      let other = sum_by-insert f (map seat_of ms) n (seat_of x) in
+      let same : f p ≡ f (seat_of x) = ap f own in
+      let left : sum_by f qs ≡ sum_by f ps + f p = ap (sum_by f) (taken on) ∙ one in
+      let right : sum_by f (map seat_of next) ≡ sum_by f (map seat_of ms) + f (seat_of x) = ap (λ (ys : List (Rc MessageFields Global)). sum_by f (map seat_of ys)) is ∙ ap (sum_by f) (mapped_inserted seat_of ms n x) ∙ other in
+      omega (arith, left, right, before_it, same);
+}
+
+-- one less
+pub seated_removed : (rises seated : Bool) (n : ℕ) (x : Rc MessageFields Global) (ms next : List (Rc MessageFields Global)) (ps qs : List Pair) (p : Pair) → IsSeatedOf rises seated ms ps → AreOrdered ps → n < length ms → x ≡ get_or ms n x → next ≡ remove ms n
+    → p ≡ seat_of x → (before key (key p) ps < length ps → qs ≡ remove ps (before key (key p) ps)) → IsSeatedOf rises seated next qs
+seated_removed rises seated n x ms next ps qs p h o lt read is own taken = record {
+  order = λ on. subst (DoTicketsRise 0) (sym is) (rise_removed 0 n ms (h.order on));
+  seats = λ on f.
+      let all : AreSeats ms ps = h.seats on in
+      let long = length-map ms seat_of in
+      let there : get_or (map seat_of ms) n p ≡ p = get_or-map seat_of ms n x p lt ∙ ap seat_of (sym read) ∙ sym own in
+      let found = among p ps (map seat_of ms) n p all (omega (arith, long, lt)) there in
+      let found_key : key (get_or ps found.0 p) ≡ key p = ap key found.2 in
+      let at = before key (key p) ps in
+      let low : at ≤ found.0 = before_below key (key p) found.0 ps p found.1 (omega (arith, found_key)) in
+      let within : at < length ps = omega (arith, low, found.1) in
+      let more = comes_behind key (key p) 0 at ps p o.order (omega arith) within in
+      let less = in_order key 0 at found.0 ps p o.order low found.1 in
+      let here : get_or ps at p ≡ p = same_numbers (get_or ps at p) p (omega (arith, more, less, found_key)) (is_small at ps p o.small within) (subst (λ (q : Pair). q.second < 2 ^ 32) found.2 (is_small found.0 ps p o.small found.1)) in
+      let one = sum_by-remove f ps at p within in
+      let other = sum_by-remove f (map seat_of ms) n p (omega (arith, long, lt)) in
+      let before_it = all f in
+      let same : f (get_or ps at p) ≡ f (get_or (map seat_of ms) n p) = ap f (here ∙ sym there) in
+      let left : sum_by f qs ≡ sum_by f (remove ps at) = ap (sum_by f) (taken within) in
+      let right : sum_by f (map seat_of next) ≡ sum_by f (remove (map seat_of ms) n) = ap (λ (ys : List (Rc MessageFields Global)). sum_by f (map seat_of ys)) is ∙ ap (sum_by f) (mapped_removed seat_of ms n) in
+      omega (arith, left, right, one, other, before_it, same);
+}
+
+-- ---- by ticket
+
+-- where the lower ones end, or nowhere
+pub lower_there : (b : Bool) (t n : ℕ) (ms : List (Rc MessageFields Global)) → n ≡ (if b then before ticket_in t ms else 0) → AreLower t n ms
+lower_there true t n ms is = λ k d lt. comes_before ticket_in t k ms d (omega (arith, lt, is))
+lower_there false t n ms is = λ k d lt. absurd (omega (arith, lt, is))
+
+-- a message with a ticket isn't among those with lower ones
+pub place_from : (t size n : ℕ) (ms : List (Rc MessageFields Global)) → n ≤ length ms → AreLower t n ms → without t (map (queued_by size) ms) ≡ take n (map (queued_by size) ms) ++ without t (drop n (map (queued_by size) ms))
+place_from t size n [] le low = by_place n
+  where
+    by_place : (k : ℕ) → without t [] ≡ take k [] ++ without t (drop k [])
+    by_place zero = refl
+    by_place (suc k) = refl
+place_from t size zero (m ∷ ms) le low = refl
+place_from t size (suc n) (m ∷ ms) le low =
+    let x = m in
+    let first = low 0 x (omega arith) in
+    let step = walked_place t size (m ∷ ms) 0 x (omega arith) refl (λ e. omega (arith, first, e)) refl in
+    let rest = place_from t size n ms (omega arith) (λ k d lt. low (suc k) d (omega arith)) in
+    step ∙ ap (λ (ys : List Queued). queued_by size m ∷ ys) rest
+
+-- ---- the lowest that is late
+
+-- messages with tickets no higher than the last one are passed by
+pub late_from : (now last size n : ℕ) (found : Option ℕ) (ms : List (Rc MessageFields Global)) → n ≤ length ms → AreLower last n ms
+    → soonest now last found (queue_messages (map (queued_by size) ms)) ≡ soonest now last found (drop n (queue_messages (map (queued_by size) ms)))
+late_from now last size zero found ms le low = refl
+late_from now last size (suc n) found [] le low = refl
+late_from now last size (suc n) found (m ∷ ms) le low =
+    let first = low 0 m (omega arith) in
+    let off : nat_lt last (ticket_in m) ≡ false = grind (arith, nat_tests) in
+    let none : late_after now last (Some (message_meaning size m.value)) ≡ None = rw off refl in
+    let rest = late_from now last size n found ms (omega arith) (λ k d lt. low (suc k) d (omega arith)) in
+    ap (λ (o : Option ℕ). soonest now last (sooner found o) (queue_messages (map (queued_by size) ms))) none ∙ ap (λ (o : Option ℕ). soonest now last o (queue_messages (map (queued_by size) ms))) (unfound found) ∙ rest
+  where
+    unfound : (o : Option ℕ) → sooner o None ≡ o
+    unfound None = refl
+    unfound (Some t) = refl
+
+-- behind one that is late none has a lower ticket
+rest_later : (now last size here t : ℕ) (ms : List (Rc MessageFields Global)) → DoTicketsRise here ms → t ≤ here → soonest now last (Some t) (queue_messages (map (queued_by size) ms)) ≡ Some t
+rest_later now last size here t [] h le = refl
+rest_later now last size here t (m ∷ ms) h le =
+    ap (λ (o : Option ℕ). soonest now last o (queue_messages (map (queued_by size) ms))) (by_test (nat_lt last (ticket_in m) && is_past now (message_meaning size m.value)))
+    ∙ rest_later now last size (suc (ticket_in m)) t ms h.1 (omega (arith, h.0, le))
+  where
+    by_test : (b : Bool) → sooner (Some t) (when b (ticket_in m)) ≡ Some t
+    by_test false = refl
+    by_test true = let low : min t (ticket_in m) ≡ t = omega (arith, h.0, le) in ap (λ (n : ℕ). Some n) low
+
+rise_dropped : (here at : ℕ) (ms : List (Rc MessageFields Global)) (x : Rc MessageFields Global) → DoTicketsRise here ms → at < length ms → DoTicketsRise (suc (ticket_in (get_or ms at x))) (drop (suc at) ms)
+rise_dropped here at [] x h lt = absurd (omega arith)
+rise_dropped here zero (m ∷ ms) x h lt = h.1
+rise_dropped here (suc at) (m ∷ ms) x h lt = rise_dropped (suc (ticket_in m)) at ms x h.1 (omega arith)
+
+-- the first late one ends the walk
+pub late_ends : (now last size at t : ℕ) (start found : Option ℕ) (ms : List (Rc MessageFields Global)) (x : Rc MessageFields Global) → DoTicketsRise 0 ms → at < length ms → x ≡ get_or ms at x
+    → late_after now last (Some (message_meaning size x.value)) ≡ Some t → t ≡ ticket_in x
+    → soonest now last start (queue_messages (map (queued_by size) ms)) ≡ soonest now last found (drop at (queue_messages (map (queued_by size) ms)))
+    → sooner found (late_after now last (Some (message_meaning size x.value))) ≡ soonest now last start (queue_messages (map (queued_by size) ms))
+late_ends now last size at t start found ms x h lt read late own before_it =
+    let one : at + 1 ≡ suc at = omega arith in
+    let walked = late_walked (queued_by size) (λ (q : Queued). Some q.message) now last start found (sooner found (late_after now last (Some (message_meaning size x.value)))) ms at x lt read refl before_it in
+    let ended = rise_dropped 0 at ms x h lt in
+    let here : ticket_in (get_or ms at x) ≡ t = ap ticket_in (sym read) ∙ sym own in
+    let rest = by_found found (drop (suc at) ms) (omega (arith, here)) ended in
+    let moved : drop (suc at) (queue_messages (map (queued_by size) ms)) ≡ queue_messages (map (queued_by size) (drop (suc at) ms)) = drop-map (λ (q : Queued). Some q.message) (suc at) (map (queued_by size) ms) ∙ ap queue_messages (drop-map (queued_by size) (suc at) ms) in
+    sym (walked ∙ ap (λ (k : ℕ). soonest now last (sooner found (late_after now last (Some (message_meaning size x.value)))) (drop k (queue_messages (map (queued_by size) ms)))) one
+    ∙ ap (λ (ys : List (Option Message)). soonest now last (sooner found (late_after now last (Some (message_meaning size x.value)))) ys) moved
+    ∙ ap (λ (o : Option ℕ). soonest now last (sooner found o) (queue_messages (map (queued_by size) (drop (suc at) ms)))) late ∙ rest ∙ ap (λ (o : Option ℕ). sooner found o) (sym late))
+  where
+    by_found : (o : Option ℕ) (ys : List (Rc MessageFields Global)) → t ≤ suc (ticket_in (get_or ms at x)) → DoTicketsRise (suc (ticket_in (get_or ms at x))) ys → soonest now last (sooner o (Some t)) (queue_messages (map (queued_by size) ys)) ≡ sooner o (Some t)
+    by_found None ys le up = rest_later now last size (suc (ticket_in (get_or ms at x))) t ys up le
+    by_found (Some u) ys le up = rest_later now last size (suc (ticket_in (get_or ms at x))) (min u t) ys up (omega (arith, le))

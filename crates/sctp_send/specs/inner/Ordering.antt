@@ -1,0 +1,34 @@
+-- What stands in rising order, by a number that each element has; and pairs of numbers: by the first, then by the second.
+use Rattle.std.specs.Prelude.{ℕ, suc, ◌+◌, ◌*◌, ◌^◌, ◌<◌, ◌≤◌, nat_lt, if◌then◌else◌, List, [], ◌∷◌}
+use Rattle.sctp_send.specs.declared.ordered.Pair.{Pair}
+
+-- The elements stand in order, the first one no lower than here.
+abbrev pub AreInOrder : {A : Type 0} → (number : A → ℕ) → (here : ℕ) → List A → Type 0
+AreInOrder f n [] = Unit {0}
+AreInOrder f n (x ∷ xs) = (n ≤ f x) × AreInOrder f (f x) xs
+
+-- how many of them, from the first on, have lower numbers
+abbrev pub before : {A : Type 0} → (number : A → ℕ) → ℕ → List A → ℕ
+before f n [] = 0
+before f n (x ∷ xs) = if nat_lt (f x) n then suc (before f n xs) else 0
+
+-- ---- pairs
+
+-- where a pair stands
+abbrev pub key : Pair → ℕ
+key p = p.first * 2 ^ 32 + p.second
+
+-- second numbers have 32 bits
+abbrev pub AreSmall : List Pair → Type 0
+AreSmall [] = Unit {0}
+AreSmall (x ∷ xs) = (x.second < 2 ^ 32) × AreSmall xs
+
+-- Pairs are in order.
+pub record AreOrdered (ps : List Pair) : Type 0 where
+  pub order : AreInOrder key 0 ps
+  pub small : AreSmall ps
+
+-- the pairs, and how many there is room for
+pub record OrderedKept : Type 0 where
+  pub items : List Pair
+  pub capacity : ℕ

@@ -1,0 +1,60 @@
+-- Where a message that waits stands: by its ticket, and by its stream.
+use Rattle.std.specs.Prelude.{◌≡◌, ℕ, suc, ◌-◌, slice_index_or, ◌<◌, ◌≤◌, Bool, true, List, [], ◌∷◌, map, length, Option, None, Some}
+use Rattle.std.specs.List.{sum_by}
+use Rattle.std.specs.declared.rc.Rc.{Rc}
+use Rattle.std.specs.declared.alloc.Global.{Global}
+use Rattle.sctp_model.specs.sender.SenderView.{Queued}
+use Rattle.sctp_model.specs.sender.Assigning.{first_on}
+use Rattle.sctp_send.specs.inner.Counting.{IsOwedOf}
+use Rattle.sctp_send.specs.inner.Newcomers.{IsFirstOn}
+use Rattle.sctp_send.specs.declared.message.Message.{Message as MessageFields}
+use Rattle.sctp_send.specs.declared.ordered.Pair.{Pair}
+use Rattle.sctp_send.specs.declared.seats.Found.{Found}
+
+-- a message's ticket
+abbrev pub ticket_in : Rc MessageFields Global → ℕ
+ticket_in m = m.value.ticket
+
+-- a message by its stream and its ticket
+abbrev pub seat_of : Rc MessageFields Global → Pair
+seat_of m = record { first = m.value.stream; second = m.value.ticket }
+
+-- each ticket is above those in front of it, the first no lower than here
+abbrev pub DoTicketsRise : (here : ℕ) → List (Rc MessageFields Global) → Type 0
+DoTicketsRise n [] = Unit {0}
+DoTicketsRise n (m ∷ ms) = (n ≤ ticket_in m) × DoTicketsRise (suc (ticket_in m)) ms
+
+-- so many messages have lower tickets
+abbrev pub AreLower : (ticket many : ℕ) → List (Rc MessageFields Global) → Type 0
+AreLower t n ms = (k : ℕ) (d : Rc MessageFields Global) → k < n → ticket_in (slice_index_or ms k d) < t
+
+-- a ticket lies between the neighbours' at a place
+pub record IsBetween (place ticket : ℕ) (ms : List (Rc MessageFields Global)) : Type 0 where
+  pub behind : (d : Rc MessageFields Global) → 0 < place → ticket_in (slice_index_or ms (place - 1) d) < ticket
+  pub ahead : (d : Rc MessageFields Global) → place < length ms → ticket < ticket_in (slice_index_or ms place d)
+
+-- The messages' seats are these: whatever is summed over the ones and over the others is the same.
+abbrev pub AreSeats : List (Rc MessageFields Global) → List Pair → Type 0
+AreSeats ms ps = (f : Pair → ℕ) → sum_by f ps ≡ sum_by f (map seat_of ms)
+
+-- Tickets rise, and the seats are those of the messages, where it is said so.
+pub record IsSeatedOf (rises seated : Bool) (ms : List (Rc MessageFields Global)) (ps : List Pair) : Type 0 where
+  pub order : rises ≡ true → DoTicketsRise 0 ms
+  pub seats : seated ≡ true → AreSeats ms ps
+
+-- What is counted of the messages that wait, and where they stand.
+pub record IsQueueOf (size : ℕ) (ms : List (Rc MessageFields Global)) (sum first : ℕ) (rises seated : Bool) (ps : List Pair) : Type 0 where
+  pub owed : IsOwedOf size ms sum first
+  pub seats : IsSeatedOf rises seated ms ps
+
+-- the first of some streams on which a message waits, and the place of the one that has waited longest on it
+pub record IsNextOn (from below : ℕ) (qs : List Queued) (found : Found) : Type 0 where
+  pub above : from ≤ found.stream
+  pub low : found.stream < below
+  pub first : IsFirstOn found.stream found.place qs
+  pub before : (s : ℕ) → from ≤ s → s < found.stream → first_on s qs ≡ None
+
+-- that stream, or there is none
+abbrev pub NextOnAnswer : (from below : ℕ) → List Queued → Option Found → Type 0
+NextOnAnswer from below qs None = (s : ℕ) → from ≤ s → s < below → first_on s qs ≡ None
+NextOnAnswer from below qs (Some found) = IsNextOn from below qs found

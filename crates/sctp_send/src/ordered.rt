@@ -1,0 +1,128 @@
+//! Pairs of numbers in rising order, so that one is found by halves.
+
+ghost use Rattle.std.specs.Prelude.{◌≡◌, ℕ, ◌+◌, ◌*◌, ◌^◌, ◌<◌, ◌≤◌, [], length, insert, remove, slice_index_or, OnOk};
+ghost use Rattle.sctp_send.specs.inner.Ordering.{key, before, AreOrdered};
+
+use sctp_values::NoMemory;
+use std::alloc::Global;
+use std::marker::Model;
+
+/// Two numbers. Pairs stand by rising first number, and where it is the same by rising second one.
+#[derive(Clone, Copy, Debug)]
+pub struct Pair {
+    pub first: u32,
+    pub second: u32,
+}
+
+/// Pairs in rising order.
+#[derive(Debug, Drop)]
+pub struct Ordered {
+    pairs: Vec<Pair>,
+}
+
+impl Model for Ordered {
+    ghost use Rattle.std.specs.Vec.{vec_capacity};
+    ghost use Rattle.sctp_send.specs.inner.Ordering.{OrderedKept};
+
+    ghost Value = { OrderedKept };
+
+    ghost use Rattle.sctp_send.specs.inner.Ordering.{AreOrdered};
+
+    ghost view = { λ w. record { items = w.pairs.items; capacity = vec_capacity w.pairs } };
+
+    ghost invariant = { λ w. AreOrdered w.pairs.items };
+}
+
+impl Ordered {
+    /// No pair.
+    pub fn new(alloc: Global) -> Ordered
+        ensures { result.items ≡ [] }
+    {
+        Ordered {
+            pairs: Vec::new(alloc),
+        }
+    }
+
+    /// Takes room for so many pairs more.
+    ///
+    /// # Errors
+    /// `NoMemory`.
+    pub fn reserve(&mut self, more: usize) -> Result<(), NoMemory>
+        ensures items { self.new.items ≡ self.old.items }
+        ensures capacity { self.old.capacity ≤ self.new.capacity }
+        ensures room { OnOk result (length self.new.items + more ≤ self.new.capacity) }
+    {
+        match self.pairs.reserve(more) {
+            Ok(()) => Ok(()),
+            Err(_) => Err(NoMemory),
+        }
+    }
+
+    /// How many pairs there are.
+    pub fn len(&self) -> usize
+        ensures len { result ≡ length self.now.items }
+        ensures order { AreOrdered self.now.items }
+        ensures within { length self.now.items ≤ self.now.capacity }
+    {
+        self.pairs.len()
+    }
+
+    /// The pair at a place.
+    pub fn get(&self, at: usize) -> Pair
+        requires { at < length self.now.items }
+        ensures { result ≡ slice_index_or self.now.items at result }
+    {
+        self.pairs[at]
+    }
+
+    /// How many pairs come before one.
+    pub fn place_of(&self, pair: Pair) -> usize
+        ensures place { result ≡ before key (key pair) self.now.items }
+        ensures within { result ≤ length self.now.items }
+        ensures order { AreOrdered self.now.items }
+        ensures small { pair.second < 2 ^ 32 }
+    {
+        let key = key_of(pair);
+        let mut low = 0;
+        let mut high = self.pairs.len();
+        while low < high {
+            let middle = low + (high - low) / 2;
+            if key_of(self.pairs[middle]) < key {
+                low = middle + 1;
+            } else {
+                high = middle;
+            }
+        }
+        low
+    }
+
+    /// A pair comes at its place. There is room for it.
+    pub fn insert(&mut self, pair: Pair)
+        requires { length self.old.items < self.old.capacity }
+        ensures items { self.new.items ≡ insert self.old.items (before key (key pair) self.old.items) pair }
+        ensures capacity { self.new.capacity ≡ self.old.capacity }
+    {
+        let place = self.place_of(pair);
+        let _placed = self.pairs.insert(place, pair);
+    }
+
+    /// The pair at the place of one goes, where there is one at it or behind.
+    pub fn remove(&mut self, pair: Pair)
+        ensures order { AreOrdered self.old.items }
+        ensures items { before key (key pair) self.old.items < length self.old.items → self.new.items ≡ remove self.old.items (before key (key pair) self.old.items) }
+        ensures capacity { self.new.capacity ≡ self.old.capacity }
+    {
+        let place = self.place_of(pair);
+        if place < self.pairs.len() {
+            let _gone = self.pairs.remove(place);
+        }
+    }
+}
+
+/// Where a pair stands.
+fn key_of(pair: Pair) -> u64
+    ensures exact { result ≡ key pair }
+    ensures small { pair.second < 2 ^ 32 }
+{
+    (u64::from(pair.first) << 32) + u64::from(pair.second)
+}

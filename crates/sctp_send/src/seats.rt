@@ -1,0 +1,130 @@
+//! Where a message that waits stands: by its ticket among the others, and by its stream.
+
+ghost use Rattle.std.specs.Prelude.{◌≡◌, ℕ, ◌+◌, ◌-◌, ◌<◌, ◌≤◌, Some, true, map, length, insert, slice_index_or, if◌then◌else◌, IfSome};
+ghost use Rattle.sctp_send.specs.SenderFields.{queued_by};
+ghost use Rattle.sctp_send.specs.OutstandingFields.{message_meaning};
+ghost use Rattle.sctp_send.specs.inner.Expiring.{late_after};
+ghost use Rattle.sctp_send.specs.inner.Newcomers.{FirstOnAnswer};
+ghost use Rattle.sctp_send.specs.inner.Ordering.{key, before};
+ghost use Rattle.sctp_send.specs.inner.Seating.{ticket_in, DoTicketsRise, IsBetween, NextOnAnswer};
+
+use crate::message::Message;
+use crate::ordered::{Ordered, Pair};
+use sctp_values::NoMemory;
+use std::collections::VecDeque;
+use std::rc::Rc;
+
+/// A stream on which a message waits, and the place of the message that has waited longest on it.
+#[derive(Clone, Copy, Debug)]
+pub struct Found {
+    pub stream: u16,
+    pub place: usize,
+}
+
+/// A message by its stream and its ticket.
+pub fn seat_of(message: &Message) -> Pair
+    ensures first { result.first ≡ message.now.stream }
+    ensures second { result.second ≡ message.now.ticket }
+{
+    Pair {
+        first: u32::from(message.stream),
+        second: message.ticket,
+    }
+}
+
+/// Tickets rise, and go on rising with one at a place: it lies between those of its neighbours there.
+pub fn fits_at(messages: &VecDeque<Rc<Message>>, rises: bool, place: usize, ticket: u32) -> bool
+    requires { place ≤ length messages.now.items }
+    ensures rises { result ≡ true → rises ≡ true }
+    ensures between { result ≡ true → IsBetween place ticket messages.now.items }
+{
+    rises
+        && (place == 0 || messages[place - 1].ticket < ticket)
+        && (place == messages.len() || ticket < messages[place].ticket)
+}
+
+/// How many of the first messages have lower tickets, by halves, where tickets rise; else none.
+pub fn first_from(messages: &VecDeque<Rc<Message>>, rises: bool, ticket: u32) -> usize
+    requires { rises ≡ true → DoTicketsRise 0 messages.now.items }
+    ensures place { result ≡ (if rises then before ticket_in ticket messages.now.items else 0) }
+    ensures within { result ≤ length messages.now.items }
+{
+    if !rises || messages.len() == 0 {
+        return 0;
+    }
+    // The first one is asked for most often.
+    if messages[0].ticket >= ticket {
+        return 0;
+    }
+    let mut low = 1;
+    let mut high = messages.len();
+    while low < high {
+        let middle = low + (high - low) / 2;
+        if messages[middle].ticket < ticket {
+            low = middle + 1;
+        } else {
+            high = middle;
+        }
+    }
+    low
+}
+
+/// There is room for one seat more, where the seats are kept.
+///
+/// # Errors
+/// `NoMemory`.
+pub fn make_room(seats: &mut Ordered, is_seated: bool) -> Result<(), NoMemory>
+    ensures { seats.new.items ≡ seats.old.items }
+{
+    if is_seated { seats.reserve(1) } else { Ok(()) }
+}
+
+/// A seat is taken, where the seats are kept and there is memory for it: whether they still are those of all messages.
+pub fn take_seat(seats: &mut Ordered, is_seated: bool, seat: Pair) -> bool
+    ensures kept { result ≡ true → is_seated ≡ true }
+    ensures seats { result ≡ true → seats.new.items ≡ insert seats.old.items (before key (key seat) seats.old.items) seat }
+{
+    if !is_seated || seats.reserve(1).is_err() {
+        return false;
+    }
+    seats.insert(seat);
+    true
+}
+
+/// The place of the message that has waited longest on a stream.
+fn first_on(messages: &VecDeque<Rc<Message>>, stream: u16) -> Option<usize>
+    ensures first { (size : ℕ) → FirstOnAnswer stream (map (queued_by size) messages.now.items) result }
+    ensures within { IfSome result (λ at. at < length messages.now.items) }
+{
+    for at in 0..messages.len() {
+        let message = &messages[at];
+        if message.stream == stream {
+            return Some(at);
+        }
+    }
+    None
+}
+
+/// The first stream from one on, below another, on which a message waits, and where, by looking through all messages for each.
+pub fn next_by_looking(messages: &VecDeque<Rc<Message>>, from: u16, below: u16) -> Option<Found>
+    ensures next { (size : ℕ) → NextOnAnswer from below (map (queued_by size) messages.now.items) result }
+    ensures within { IfSome result (λ found. found.place < length messages.now.items) }
+{
+    for stream in from..below {
+        if let Some(place) = first_on(messages, stream) {
+            return Some(Found { stream, place });
+        }
+    }
+    None
+}
+
+/// Where tickets rise, a message that is past its time, with a ticket above the last one: none behind it has a lower ticket.
+pub fn is_first_late(message: &Message, rises: bool, last: u32, now: u64) -> bool
+    ensures rises { result ≡ true → rises ≡ true }
+    ensures late { (size : ℕ) → result ≡ true → late_after now last (Some (message_meaning size message.now)) ≡ Some message.now.ticket }
+{
+    match message.until {
+        Some(until) => rises && until <= now && message.ticket > last,
+        None => false,
+    }
+}
