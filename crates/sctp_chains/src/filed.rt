@@ -46,7 +46,8 @@ impl Filed {
         Ok(())
     }
 
-    /// Takes out the chain at a place.
+    /// Takes out the chain at a place. Its callers have it in line, since one of them runs for each message.
+    #[inline(always)]
     pub(crate) fn remove(&mut self, held: &mut u32, at: usize) -> Option<Chain>
         ensures fewer { OnSome result (suc (length self.new.chains.items) ≡ length self.old.chains.items) }
         ensures taken { MatchOption result (length self.old.chains.items ≤ at) (λ c. Removes at (map chain_of self.old.chains.items) (map chain_of self.new.chains.items) held.old held.new (chain_of c)) }

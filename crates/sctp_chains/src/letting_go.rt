@@ -38,6 +38,7 @@ fn less_all(held: u32, parts: &VecDeque<Vec<u8>>) -> u32
 }
 
 /// Takes out the chain at a place.
+#[inline(always)]
 pub(crate) fn remove(chains: &mut VecDeque<Chain>, held: &mut u32, at: usize) -> Option<Chain>
     ensures fewer { OnSome result (suc (length chains.new.items) ≡ length chains.old.items) }
     ensures unchanged { IfNone result (map chain_of chains.new.items ≡ map chain_of chains.old.items) }

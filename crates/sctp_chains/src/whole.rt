@@ -19,6 +19,7 @@ pub struct Whole {
 }
 
 /// A chain as the whole message that it is.
+#[inline(always)]
 pub(crate) fn whole_of(chain: Chain, head: Head, number: Option<u32>) -> Whole
     ensures { IsWholeOf (chain_of chain) head number result }
 {
