@@ -25,9 +25,9 @@ build() {
     built=$work/crates/$program/out/$program
 }
 
-# the instructions of a run of these words
+# the instructions of a run of these words, of one function where `within` names it
 count() {
-    valgrind --tool=callgrind --callgrind-out-file="$work/out" "$@" 2>&1 > /dev/null | sed -n 's/.*Collected : \([0-9]*\).*/\1/p'
+    valgrind --tool=callgrind ${within:+"--toggle-collect=$within"} --callgrind-out-file="$work/out" "$@" 2>&1 > /dev/null | sed -n 's/.*Collected : \([0-9]*\).*/\1/p'
 }
 
 # what one of them takes: NAME FEW MANY PER PROGRAM [WORD], the difference of two runs, so that the beginning and the end fall away
@@ -123,10 +123,17 @@ growth() {
 receiver_growth() {
     build receiver_growth sctp_model sctp_values sctp_safety sctp_serial sctp_wire sctp_framing sctp_chains sctp_recv
     for format in data i-data; do
+        # what is freed at the program's end jumps
+        within='sctp_recv::receiver::Receiver::on_data*'
+        grows "$format: a fragment before so many of its message" 2000 1000 call "$built" "$format" backwards
+        grows "$format: a fragment between the last two of so many chains of its message" 2000 100 call "$built" "$format" inwards
+        within=
         grows "$format: a fragment between two of so many chains of its message" 2000 100 call "$built" "$format" fragments
-        grows "$format: a fragment before so many of its message" 2000 100 call "$built" "$format" backwards
         grows "$format: a gap closed amid so many runs" 2000 100 call "$built" "$format" gaps
         grows "$format: a FORWARD at so many streams" 500 20 call "$built" "$format" forwards
+        grows "$format: a FORWARD with an entry for each of so many streams, by entry" 80 20 kept "$built" "$format" entries
+        grows "$format: a FORWARD with so many entries for 32 streams, by entry" 80 20 kept "$built" "$format" shared
+        grows "$format: a FORWARD while a part lies on each of so many streams" 500 20 call "$built" "$format" loose
     done
 }
 
