@@ -2,14 +2,13 @@
 
 use crate::bases::Base;
 use crate::checksum::Checksum;
-use crate::ends::{Ends, NOW, draw};
+use crate::ends::Ends;
 use crate::reading::{half_at, padded};
 use crate::seen::Seen;
 use crate::tally::Tally;
 use crate::told::{FAULT, Told};
 use crate::wanted::wanted;
 use anyhow::Result;
-use sctp_endpoint::Endpoint;
 use std::alloc::Global;
 use std::io::Write;
 
@@ -19,7 +18,7 @@ const SHOWN: u32 = 20;
 /// The bits of a byte.
 const BITS: [u8; 8] = [1, 2, 4, 8, 16, 32, 64, 128];
 
-/// A packet and its end, what the end told before, and the counts so far.
+/// A packet and its ends, what the one told that it comes to, and the counts so far.
 #[derive(Drop)]
 pub struct Bench<'a, W> {
     alloc: Global,
@@ -27,7 +26,7 @@ pub struct Bench<'a, W> {
     sums: &'a Checksum,
     out: W,
     whole: Vec<u8>,
-    end: Endpoint,
+    ends: Ends,
     before: Seen,
     tally: Tally,
 }
@@ -35,22 +34,23 @@ pub struct Bench<'a, W> {
 impl<'a, W: Write + Drop> Bench<'a, W> {
     /// This packet, and the end that it comes to.
     pub fn new(alloc: Global, base: &'a Base, sums: &'a Checksum, out: W) -> Result<Bench<'a, W>> {
-        let (whole, end) = Ends::before(alloc, base)?.packet_and_taker(base)?;
-        let before = Seen::of(&end);
+        let ends = Ends::before(alloc, base)?;
+        let whole = ends.packet(base)?;
+        let before = Seen::of(ends.taker(base));
         Ok(Bench {
             alloc,
             base,
             sums,
             out,
             whole,
-            end,
+            ends,
             before,
             tally: Tally::default(),
         })
     }
 
     /// Breaks the packet in every way, and writes the counts.
-    pub fn run(mut self) -> Result<Tally> {
+    pub fn run(&mut self) -> Result<Tally> {
         self.cut()?;
         self.flip()?;
         self.change_lengths()?;
@@ -149,7 +149,7 @@ impl<'a, W: Write + Drop> Bench<'a, W> {
 
     /// Tries a packet, of which this is to be told. The end is built anew where it may have changed.
     fn try_packet(&mut self, bytes: &[u8], wanted: Told, change: &str) -> Result<()> {
-        let told = Told::of(&self.end.handle_packet(NOW, bytes, draw(11, 700)?)?);
+        let told = self.ends.told(self.base, bytes)?;
         self.tally.count(told);
         if told != wanted && self.tally.differs() <= SHOWN {
             self.show(bytes, change, told, wanted)?;
@@ -157,16 +157,15 @@ impl<'a, W: Write + Drop> Bench<'a, W> {
         if !told.is_strange() {
             return self.renew();
         }
-        if Seen::of(&self.end) != self.before && self.tally.changes() <= SHOWN {
+        if Seen::of(self.ends.taker(self.base)) != self.before && self.tally.changes() <= SHOWN {
             self.show(bytes, "that changed its end", told, wanted)?;
         }
         Ok(())
     }
 
-    /// Builds the end anew, as it stands before the packet comes.
+    /// Builds the ends anew, as they stand before the packet comes.
     fn renew(&mut self) -> Result<()> {
-        let (_, end) = Ends::before(self.alloc, self.base)?.packet_and_taker(self.base)?;
-        self.end = end;
+        self.ends = Ends::before(self.alloc, self.base)?;
         Ok(())
     }
 

@@ -2,6 +2,7 @@
 
 use crate::bases::Base;
 use crate::step::{Side, Step};
+use crate::told::Told;
 use anyhow::{Result, anyhow};
 use sctp_endpoint::{Config, Draw, Endpoint, Key, Ticket, Verdict};
 use std::alloc::Global;
@@ -36,10 +37,16 @@ impl Ends {
     /// The two ends as they stand before a packet comes.
     pub fn before(alloc: Global, base: &Base) -> Result<Ends> {
         let mut ends = Ends::new(alloc, base)?;
-        for step in base.script.iter().take(base.before) {
-            ends.step(*step)?;
-        }
+        ends.run(base)?;
         Ok(ends)
+    }
+
+    /// All that comes before the packet does.
+    fn run(&mut self, base: &Base) -> Result<()> {
+        for step in base.script.iter().take(base.before) {
+            self.step(*step)?;
+        }
+        Ok(())
     }
 
     /// Two ends to which nothing happened yet.
@@ -53,6 +60,7 @@ impl Ends {
             config(base, 5_000, 5_001, limits)?,
             config(base, 5_001, 5_000, limits)?,
         ];
+        let draw = draw(1, 1)?;
         Ok(Ends {
             alloc,
             a: OneSide {
@@ -63,20 +71,33 @@ impl Ends {
                 end: Endpoint::listener(alloc, configs[1], Key::new(KEY)),
                 bag: Vec::new(alloc),
             },
-            draw: draw(1, 1)?,
+            draw,
             configs,
         })
     }
 
-    /// The packet that comes, and the end that it comes to.
-    pub fn packet_and_taker(self, base: &Base) -> Result<(Vec<u8>, Endpoint)> {
-        let Ends { a, b, .. } = self;
-        let (from, to) = match base.from {
-            Side::A => (a, b),
-            Side::B => (b, a),
+    /// The packet that comes.
+    pub fn packet(&self, base: &Base) -> Result<Vec<u8>> {
+        let bag = match base.from {
+            Side::A => &self.a.bag,
+            Side::B => &self.b.bag,
         };
-        let packet = packet_at(&from.bag, base.place)?.clone()?;
-        Ok((packet, to.end))
+        Ok(packet_at(bag, base.place)?.clone()?)
+    }
+
+    /// The end that it comes to.
+    pub fn taker(&self, base: &Base) -> &Endpoint {
+        match base.from {
+            Side::A => &self.b.end,
+            Side::B => &self.a.end,
+        }
+    }
+
+    /// What that end tells of these bytes, which come in its place.
+    pub fn told(&mut self, base: &Base, bytes: &[u8]) -> Result<Told> {
+        let draw = draw(11, 700)?;
+        let to = self.side(base.from.other());
+        Ok(Told::of(&to.end.handle_packet(NOW, bytes, draw)?))
     }
 
     /// One of the two.
@@ -105,8 +126,9 @@ impl Ends {
     /// Both are opened without packets.
     fn open(&mut self) -> Result<()> {
         let [at_a, at_b] = self.configs;
-        self.a.end = Endpoint::opened(self.alloc, at_a, draw(1, 1)?, draw(2, 1)?)?;
-        self.b.end = Endpoint::opened(self.alloc, at_b, draw(2, 1)?, draw(1, 1)?)?;
+        let (of_a, of_b) = (draw(1, 1)?, draw(2, 1)?);
+        self.a.end = opened(self.alloc, at_a, of_a, of_b)?;
+        self.b.end = opened(self.alloc, at_b, of_b, of_a)?;
         Ok(())
     }
 
@@ -176,10 +198,14 @@ pub fn draw(tag: u32, tsn: u32) -> Result<Draw> {
     Draw::new(tag, tsn).ok_or_else(|| anyhow!("the tag 0 is no tag"))
 }
 
-/// How an end is set up: its port and its peer's, the limit of packets and the size of fragments, a buffer of 64 KiB, a stream each way.
+/// An end that was opened without packets.
+fn opened(alloc: Global, config: Config, own: Draw, peer: Draw) -> Result<Endpoint> {
+    Ok(Endpoint::opened(alloc, config, own, peer)?)
+}
+
+/// How an end is set up: its port and its peer's, the limit of packets and the size of fragments, and what it asks for.
 fn config(base: &Base, own_port: u16, peer_port: u16, limits: (u16, u16)) -> Result<Config> {
-    let (limit, fragment) = limits;
-    let mut config = Config::new(own_port, peer_port, limit, fragment, 65_536, 1, 1)?;
+    let mut config = plain_config(own_port, peer_port, limits)?;
     if base.interleave {
         config = config.with_interleave();
     }
@@ -187,4 +213,10 @@ fn config(base: &Base, own_port: u16, peer_port: u16, limits: (u16, u16)) -> Res
         config = config.with_partial();
     }
     Ok(config)
+}
+
+/// The same without extensions: a buffer of 64 KiB, a stream each way.
+fn plain_config(own_port: u16, peer_port: u16, limits: (u16, u16)) -> Result<Config> {
+    let (limit, fragment) = limits;
+    Ok(Config::new(own_port, peer_port, limit, fragment, 65_536, 1, 1)?)
 }

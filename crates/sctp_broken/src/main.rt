@@ -38,8 +38,14 @@ fn main(rt: HostRuntime) -> Result<()> {
 /// Tries each of these packets, broken in every way.
 fn run_all(rt: &HostRuntime, bases: &[Base], sums: &Checksum, sum: &mut Tally) -> Result<()> {
     for base in bases {
-        let tally = Bench::new(rt.alloc(), base, sums, rt.stdout())?.run()?;
+        let tally = run_one(rt, base, sums)?;
         sum.add(&tally);
     }
     Ok(())
+}
+
+/// Tries a packet, broken in every way.
+fn run_one(rt: &HostRuntime, base: &Base, sums: &Checksum) -> Result<Tally> {
+    let mut bench = Bench::new(rt.alloc(), base, sums, rt.stdout())?;
+    bench.run()
 }

@@ -7,6 +7,16 @@ pub enum Side {
     B,
 }
 
+impl Side {
+    /// The other one.
+    pub fn other(self) -> Side {
+        match self {
+            Side::A => Side::B,
+            Side::B => Side::A,
+        }
+    }
+}
+
 /// What happens to two ends, all at the moment 0.
 #[derive(Clone, Copy)]
 pub enum Step {

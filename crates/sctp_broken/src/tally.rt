@@ -61,12 +61,28 @@ impl Tally {
 
     /// Writes the counts behind this name.
     pub fn write<W: Write>(&self, name: &str, out: &mut W) -> Result<()> {
+        write!(out, "{name}")?;
+        for (before, count) in self.counts() {
+            write!(out, "{before}{count}")?;
+        }
+        writeln!(out, " changed")
+    }
+
+    /// Each count, and the words before it.
+    fn counts(&self) -> [(&'static str, u32); 10] {
         let [fault, ports, tag, state, cookie] = self.dropped;
-        write!(out, "{name}: {} tried; ", self.tried)?;
-        write!(out, "dropped: {fault} fault, {ports} ports, {tag} tag, ")?;
-        write!(out, "{state} state, {cookie} cookie; ")?;
-        write!(out, "{} answered, {} taken; ", self.answered, self.taken)?;
-        writeln!(out, "{} differ, {} changed", self.differing, self.changed)
+        [
+            (": ", self.tried),
+            (" tried; dropped: ", fault),
+            (" fault, ", ports),
+            (" ports, ", tag),
+            (" tag, ", state),
+            (" state, ", cookie),
+            (" cookie; ", self.answered),
+            (" answered, ", self.taken),
+            (" taken; ", self.differing),
+            (" differ, ", self.changed),
+        ]
     }
 }
 
