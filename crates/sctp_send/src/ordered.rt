@@ -85,12 +85,15 @@ impl Ordered {
         let key = key_of(pair);
         let mut low = 0;
         let mut high = self.pairs.len();
+        // Most pairs come behind all others.
+        let mut middle = high.saturating_sub(1);
         while low < high {
-            let middle = low + (high - low) / 2;
             if key_of(self.pairs[middle]) < key {
                 low = middle + 1;
+                middle = low + (high - low) / 2;
             } else {
                 high = middle;
+                middle = low + (high - low) / 2;
             }
         }
         low

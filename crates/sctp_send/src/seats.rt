@@ -4,7 +4,7 @@ ghost use Rattle.std.specs.Prelude.{◌≡◌, ℕ, ◌+◌, ◌-◌, ◌<◌, �
 ghost use Rattle.sctp_send.specs.SenderFields.{queued_by};
 ghost use Rattle.sctp_send.specs.OutstandingFields.{message_meaning};
 ghost use Rattle.sctp_send.specs.inner.Expiring.{late_after};
-ghost use Rattle.sctp_send.specs.inner.Newcomers.{FirstOnAnswer};
+ghost use Rattle.sctp_send.specs.inner.Newcomers.{FirstOnAnswer, IsFirstOn};
 ghost use Rattle.sctp_send.specs.inner.Ordering.{key, before};
 ghost use Rattle.sctp_send.specs.inner.Seating.{ticket_in, DoTicketsRise, IsBetween, NextOnAnswer};
 
@@ -103,6 +103,22 @@ fn first_on(messages: &VecDeque<Rc<Message>>, stream: u16) -> Option<usize>
         }
     }
     None
+}
+
+/// The message in front of all is of a stream, which is below another.
+pub fn is_in_front(messages: &VecDeque<Rc<Message>>, stream: u16, below: u16) -> bool
+    ensures first { (size : ℕ) → result ≡ true → IsFirstOn stream 0 (map (queued_by size) messages.now.items) }
+    ensures low { result ≡ true → stream < below }
+    ensures within { result ≡ true → 0 < length messages.now.items }
+{
+    if messages.len() == 0 || stream >= below {
+        return false;
+    }
+    let message = &messages[0];
+    if message.stream == stream {
+        return true;
+    }
+    false
 }
 
 /// The first stream from one on, below another, on which a message waits, and where, by looking through all messages for each.

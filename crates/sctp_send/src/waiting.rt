@@ -12,7 +12,8 @@ use crate::message::{Message, moment_of};
 use crate::ordered::{Ordered, Pair};
 use crate::queue::owed_by_message;
 use crate::seats::{
-    Found, first_from, fits_at, is_first_late, make_room, next_by_looking, seat_of, take_seat,
+    Found, first_from, fits_at, is_first_late, is_in_front, make_room, next_by_looking, seat_of,
+    take_seat,
 };
 use sctp_values::NoMemory;
 use std::alloc::Global;
@@ -168,6 +169,12 @@ impl Waiting {
         ensures next { (size : ℕ) → NextOnAnswer from below (map (queued_by size) self.now.items) result }
         ensures within { IfSome result (λ found. found.place < length self.now.items) }
     {
+        if is_in_front(&self.messages, from, below) {
+            return Some(Found {
+                stream: from,
+                place: 0,
+            });
+        }
         let (rises, is_seated) = (self.rises, self.is_seated);
         if !rises || !is_seated {
             return next_by_looking(&self.messages, from, below);

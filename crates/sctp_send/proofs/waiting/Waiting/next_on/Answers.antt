@@ -67,3 +67,18 @@ returns-clause-within c =
     let lt : c.place_of-at.result < length w.seats.items = omega (arith, c.len.ensures.len, c.if-at-len.false) in
     subst (λ (k : WaitingKept). c.first_from-place.result < length k.items) c.self.view_is
     (next_within c.args.from c.place_of-at.result c.first_from-place.result w.messages.items w.seats.items c.get-seat.result (inv.order c.if-not-rises.false) (inv.seats c.if-not-is_seated.false) lt c.get-seat.ensures by_ticket)
+
+pub returns-then-is_in_front-clause-next : goal.returns-then-is_in_front-clause-next
+returns-then-is_in_front-clause-next c = λ size.
+    let found : Found = record { stream = c.args.from; place = 0 } in
+    let w = c.self.inside in
+    let on : NextOnAnswer c.args.from c.args.below (map (queued_by size) w.messages.items) (Some found) = record {
+      above = omega arith;
+      low = c.is_in_front.ensures.low c.if-is_in_front.true;
+      first = c.is_in_front.ensures.first size c.if-is_in_front.true;
+      before = λ s le less. absurd (omega (arith, le, less));
+    } in
+    subst (λ (k : WaitingKept). NextOnAnswer c.args.from c.args.below (map (queued_by size) k.items) (Some found)) c.self.view_is on
+
+pub returns-then-is_in_front-clause-within : goal.returns-then-is_in_front-clause-within
+returns-then-is_in_front-clause-within c = subst (λ (k : WaitingKept). 0 < length k.items) c.self.view_is (c.is_in_front.ensures.within c.if-is_in_front.true)
