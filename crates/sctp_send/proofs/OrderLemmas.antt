@@ -1,6 +1,6 @@
 -- The order of entries by their tickets: searches in it, and what it is as entries come and go.
 use Rattle.std.proofs.Common.{◌≡◌, ℕ, zero, suc, ◌+◌, ◌%◌, ◌^◌, ◌<◌, ◌≤◌, Bool, true, false, List, [], ◌∷◌, ◌++◌, length, get_or, take, drop, Option, Some, None, Result, Ok, Err, inl, inr, refl, sym, ◌∙◌, ap, subst, arith, length-append}
-use Rattle.std.specs.Prelude.{nat_lt, ◌==◌, ◌&&◌, ◌||◌, slice_get, OnOk, OnErr, OnSome, IsSome}
+use Rattle.std.specs.Prelude.{nat_lt, ◌==◌, ◌&&◌, ◌||◌, slice_get, OnOk, OnErr, OnSome, IsSome, IfNone}
 use Rattle.std.specs.List.{insert, remove}
 use Rattle.std.specs.List.Sorted.{IsPartitionPoint, IsPartitionedBy}
 use Rattle.std.proofs.lemmas.Bool.Decides.{nat_tests}
@@ -8,8 +8,8 @@ use Rattle.std.proofs.lemmas.Bool.{cases_lt}
 use Rattle.std.proofs.lemmas.List.Edits.{length-insert}
 use Rattle.sctp_model.specs.numbers.Lists.{Has, AreInOrder}
 use Rattle.sctp_send.specs.declared.by_ticket.Spot.{Spot}
-use Rattle.sctp_send.specs.inner.TicketOrder.{offset_of, comes_before, AreRising, IsOrderOf, IsPlaceOf, IsGone}
-use Rattle.sctp_send.proofs.ListParts.{in_back, in_part, in_around, in_midst, halves, here_first, taken_has, dropped_has, front_or_back, none_dropped, has_at, at_same, order_front, order_back, order_across, order_join, order_kept, parted, placed}
+use Rattle.sctp_send.specs.inner.TicketOrder.{offset_of, comes_before, AreRising, IsOrderOf, IsPlaceOf, IsGone, AreUpTo}
+use Rattle.sctp_send.proofs.ListParts.{in_back, in_part, in_around, in_midst, halves, here_first, taken_has, dropped_has, front_or_back, none_dropped, at_same, order_front, order_back, order_across, order_join, order_kept, parted, placed}
 
 -- ---- before and not
 
@@ -81,25 +81,34 @@ get_within (t ∷ ts) (suc n) x is = let lt = get_within ts n x is in omega (ari
 pub ordered_none : IsOrderOf [] 0 []
 ordered_none = record { small = omega arith; many = refl; rising = tt; each = λ s there. absurd there; all = λ n lt. absurd (omega arith) }
 
--- no ticket lies above that of the last spot
-below_last : (first : ℕ) (ss : List Spot) (n : ℕ) (x : Spot) → n + 1 ≡ length ss → AreInOrder (AreRising first) ss → x ≡ get_or ss n x → (s : Spot) → Has ss s → s.ticket ≤ x.ticket
-below_last first [] n x long order read s there = absurd there
-below_last first (y ∷ []) zero x long order read s (inl is) = let ticket = ap (λ (z : Spot). z.ticket) (sym is ∙ sym read) in omega (arith, ticket)
-below_last first (y ∷ []) zero x long order read s (inr there) = absurd there
-below_last first (y ∷ z ∷ ss) zero x long order read s there = absurd (omega arith)
-below_last first (y ∷ ss) (suc n) x long order read s (inl is) =
-    let at : Has ss x = subst (λ (w : Spot). Has ss w) (sym read) (has_at ss n x (omega arith)) in
-    let rises = (order.0 x at).tickets in
-    let ticket = ap (λ (w : Spot). w.ticket) is in
-    omega (arith, rises, ticket)
-below_last first (y ∷ ss) (suc n) x long order read s (inr there) = below_last first ss n x (omega arith) order.1 read s there
-
 -- behind all others
-pub place_last : (ts : List ℕ) (first t : ℕ) (ss : List Spot) (n : ℕ) (x : Spot) → n + 1 ≡ length ss → IsOrderOf ts first ss → x ≡ get_or ss n x → x.ticket ≤ t → IsPlaceOf first t (length ts) ss (length ss)
-place_last ts first t ss n x long h read low = record {
-  front = λ s there. let here = taken_has ss (length ss) s there in is_before first t (length ts) s (let le = below_last first ss n x long h.rising read s here in omega (arith, le, low)) (λ e. get_within ts (offset_of first s) s.ticket (h.each s here));
+pub place_last : (ts : List ℕ) (first t highest : ℕ) (ss : List Spot) → highest ≤ t → AreUpTo highest ss → IsOrderOf ts first ss → IsPlaceOf first t (length ts) ss (length ss)
+place_last ts first t highest ss low below h = record {
+  front = λ s there.
+      let here = taken_has ss (length ss) s there in
+      let le = below s here in
+      is_before first t (length ts) s (omega (arith, le, low)) (λ e. get_within ts (offset_of first s) s.ticket (h.each s here));
   back = λ s there is. none_dropped ss (length ss) s (omega arith) there;
 }
+
+-- one more up to a ticket
+pub upto_inserted : (highest t : ℕ) (y : Spot) (ss : List Spot) (k : ℕ) → highest ≤ t → y.ticket ≤ t → AreUpTo highest ss → AreUpTo t (insert ss k y)
+upto_inserted highest t y ss k low mine below s there = elim (in_midst (take k ss) (drop k ss) y s there) [
+  | inl is ↦ let ticket = ap (λ (z : Spot). z.ticket) is in omega (arith, ticket, mine)
+  | inr other ↦ let le = below s (subst (λ (xs : List Spot). Has xs s) (halves ss k) other) in omega (arith, le, low)
+]
+
+-- one less
+pub upto_removed : {A : Type 0} (highest k : ℕ) (o : Option A) (before after : List Spot) → OnSome o (after ≡ remove before k) → IfNone o (after ≡ before) → AreUpTo highest before → AreUpTo highest after
+upto_removed highest k (Some x) before after gone same below s there =
+    elim (in_part (take k before) (drop (suc k) before) s (subst (λ (xs : List Spot). Has xs s) gone there)) [
+      | inl front ↦ below s (taken_has before k s front)
+      | inr back ↦ below s (dropped_has before (suc k) s back)
+    ]
+upto_removed highest k None before after gone same below s there = below s (subst (λ (xs : List Spot). Has xs s) same there)
+
+pub upto_behind : (highest : ℕ) (ss : List Spot) → AreUpTo highest ss → AreUpTo highest (drop 1 ss)
+upto_behind highest ss below s there = below s (dropped_has ss 1 s there)
 
 pub ordered_pushed : (ts : List ℕ) (first : ℕ) (y : Spot) (ss : List Spot) (k : ℕ) → k ≤ length ss → offset_of first y ≡ length ts → IsOrderOf ts first ss → IsPlaceOf first y.ticket (length ts) ss k
     → IsOrderOf (ts ++ y.ticket ∷ []) first (insert ss k y)
@@ -273,3 +282,8 @@ when_some None good is = absurd (cc)
 -- the offset of an entry that comes behind n others
 pub fresh_offset : (first t n m : ℕ) → first < 2 ^ 32 → n < 2 ^ 32 → n ≡ m → offset_of first (record { ticket = t; index = (first + n) % 2 ^ 32 }) ≡ m
 fresh_offset first t n m small few same = omega (arith, small, few, same)
+
+-- where nothing went, the elements stay
+pub unchanged_items : {A : Type 0} (o : Option A) {Q : Type 0} {P : Type 0} → IfNone o Q → (Q → P) → IfNone o P
+unchanged_items (Some x) same then = tt
+unchanged_items None same then = then same

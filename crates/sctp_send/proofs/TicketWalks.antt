@@ -326,4 +326,4 @@ late_ticket_is now last size u e is = by_done (e.covered || e.given_up) refl
 
 -- other counts of the same entries
 pub recounted : (size : ℕ) (es : List Outstanding) (capacity : ℕ) (c d : Counts) (o : ByTicket) (room : ℕ) → IsCounted size es d → IsInOrder size es capacity c o room → IsInOrder size es capacity d o room
-recounted size es capacity c d o room counted h = record { counted = counted; order = h.order; few = h.few; within = h.within; here = h.here; there = h.there }
+recounted size es capacity c d o room counted h = record { counted = counted; order = h.order; below = h.below; few = h.few; within = h.within; here = h.here; there = h.there }

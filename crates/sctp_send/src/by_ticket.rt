@@ -2,7 +2,7 @@
 
 ghost use Rattle.std.specs.Prelude.{◌≡◌, ℕ, ◌+◌, ◌<◌, ◌≤◌, ◌^◌, ◌++◌, ◌∷◌, [], true, List, length, slice_get, slice_index_or, Some, OnOk};
 ghost use Rattle.std.specs.VecDeque.{deque_len, deque_capacity};
-ghost use Rattle.sctp_send.specs.inner.TicketOrder.{offset_of, comes_before, IsOrderOf, IsPlaceOf, IsGone};
+ghost use Rattle.sctp_send.specs.inner.TicketOrder.{offset_of, comes_before, IsOrderOf, IsPlaceOf, IsGone, AreUpTo};
 ghost use Rattle.sctp_send.specs.declared.by_ticket.Spot.{Spot};
 
 use sctp_values::NoMemory;
@@ -27,16 +27,20 @@ pub struct ByTicket {
     spots: VecDeque<Spot>,
     // the index of the first entry, modulo 2^32; offsets are counted from there
     first: u32,
+    // no ticket lies above it
+    highest: u32,
 }
 
 impl ByTicket {
     /// That of no entry.
     pub fn new(alloc: Global) -> ByTicket
         ensures order { IsOrderOf [] result.first result.spots.items }
+        ensures below { AreUpTo result.highest result.spots.items }
     {
         ByTicket {
             spots: VecDeque::new(alloc),
             first: 0,
+            highest: 0,
         }
     }
 
@@ -61,6 +65,7 @@ impl ByTicket {
     pub fn reserve(&mut self, more: usize) -> Result<(), NoMemory>
         ensures same { self.new.spots.items ≡ self.old.spots.items }
         ensures first { self.new.first ≡ self.old.first }
+        ensures highest { self.new.highest ≡ self.old.highest }
         ensures capacity { deque_capacity self.old.spots ≤ deque_capacity self.new.spots }
         ensures room { OnOk result (length self.new.spots.items + more ≤ deque_capacity self.new.spots) }
     {
@@ -71,8 +76,10 @@ impl ByTicket {
     pub fn push(&mut self, ticket: u32)
         requires room { length self.old.spots.items < deque_capacity self.old.spots }
         requires few { length self.old.spots.items < 0xffff_ffff }
+        requires below { AreUpTo self.old.highest self.old.spots.items }
         ensures order { (tickets : List ℕ) → IsOrderOf tickets self.old.first self.old.spots.items
             → IsOrderOf (tickets ++ ticket ∷ []) self.new.first self.new.spots.items }
+        ensures below { AreUpTo self.new.highest self.new.spots.items }
         ensures capacity { deque_capacity self.old.spots ≤ deque_capacity self.new.spots }
     {
         let offset = self.spots.len();
@@ -80,7 +87,8 @@ impl ByTicket {
             ticket,
             index: self.first.wrapping_add(offset as u32),
         };
-        if self.is_highest(ticket) {
+        if self.highest <= ticket {
+            self.highest = ticket;
             self.spots.push_back_reserved(spot);
             return;
         }
@@ -92,6 +100,7 @@ impl ByTicket {
     pub fn pop_front(&mut self, ticket: u32)
         ensures order { (tickets : List ℕ) → IsOrderOf (ticket ∷ tickets) self.old.first self.old.spots.items
             → IsOrderOf tickets self.new.first self.new.spots.items }
+        ensures below { AreUpTo self.old.highest self.old.spots.items → AreUpTo self.new.highest self.new.spots.items }
         ensures capacity { deque_capacity self.new.spots ≡ deque_capacity self.old.spots }
     {
         if self.is_front_first() {
@@ -106,6 +115,7 @@ impl ByTicket {
     pub fn pop_back(&mut self, ticket: u32)
         ensures order { (tickets : List ℕ) → IsOrderOf (tickets ++ ticket ∷ []) self.old.first self.old.spots.items
             → IsOrderOf tickets self.new.first self.new.spots.items }
+        ensures below { AreUpTo self.old.highest self.old.spots.items → AreUpTo self.new.highest self.new.spots.items }
         ensures capacity { deque_capacity self.new.spots ≡ deque_capacity self.old.spots }
     {
         let offset = self.spots.len().saturating_sub(1);
@@ -145,22 +155,12 @@ impl ByTicket {
         }
     }
 
-    /// No ticket lies above this one, so that an entry of it, behind the others, has the last spot.
-    fn is_highest(&self, ticket: u32) -> bool
-        ensures { (tickets : List ℕ) → IsOrderOf tickets self.now.first self.now.spots.items → result ≡ true
-            → IsPlaceOf self.now.first ticket (length tickets) self.now.spots.items (length self.now.spots.items) }
-    {
-        match self.spots.back() {
-            Some(back) => back.ticket <= ticket,
-            None => true,
-        }
-    }
-
     /// The spot of an entry of this ticket at this offset goes.
     fn remove(&mut self, ticket: u32, offset: usize)
         ensures gone { (tickets : List ℕ) → IsOrderOf tickets self.old.first self.old.spots.items → slice_get tickets offset ≡ Some ticket
             → IsGone self.old.first offset self.old.spots.items self.new.spots.items }
         ensures first { self.new.first ≡ self.old.first }
+        ensures below { AreUpTo self.old.highest self.old.spots.items → AreUpTo self.new.highest self.new.spots.items }
         ensures capacity { deque_capacity self.new.spots ≡ deque_capacity self.old.spots }
     {
         let place = self.place(ticket, offset);

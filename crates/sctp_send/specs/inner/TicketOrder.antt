@@ -29,6 +29,10 @@ pub record IsOrderOf (tickets : List ℕ) (first : ℕ) (spots : List Spot) : Ty
   pub each : (s : Spot) → Has spots s → slice_get tickets (offset_of first s) ≡ Some s.ticket
   pub all : (n : ℕ) → n < length tickets → (s : Spot) × Has spots s × (offset_of first s ≡ n)
 
+-- no spot has a ticket above this one
+abbrev pub AreUpTo : (highest : ℕ) → List Spot → Type 0
+AreUpTo t spots = (s : Spot) → Has spots s → s.ticket ≤ t
+
 -- So many spots in front lie before an entry of this ticket at this offset, and the others don't.
 pub record IsPlaceOf (first ticket offset : ℕ) (spots : List Spot) (place : ℕ) : Type 0 where
   pub front : (s : Spot) → Has (take place spots) s → comes_before first ticket offset s ≡ true
@@ -55,6 +59,7 @@ tickets_of es = map ticket_of es
 pub record IsInOrder (size : ℕ) (es : List Outstanding) (capacity : ℕ) (c : Counts) (o : ByTicket) (room : ℕ) : Type 0 where
   pub counted : IsCounted size es c
   pub order : IsOrderOf (tickets_of es) o.first o.spots.items
+  pub below : AreUpTo o.highest o.spots.items
   pub few : room < 2 ^ 32
   pub within : length es ≤ room
   pub here : room ≤ capacity

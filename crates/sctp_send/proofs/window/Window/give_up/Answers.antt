@@ -54,6 +54,7 @@ loop-place-preserved c =
       kept = record {
         counted = c.give_one.ensures.counted;
         order = subst (λ (ts : List ℕ). IsOrderOf ts s.by_ticket.first s.by_ticket.spots.items) (sym (ap tickets_of items ∙ placed_tickets (given t) (given_ticket t) at es)) h.kept.order;
+        below = h.kept.below;
         few = h.kept.few;
         within = let le = h.kept.within in omega (arith, long, le);
         here = let le = h.kept.here in omega (arith, c.give_one.ensures.capacity, le);

@@ -25,6 +25,7 @@ invariant_of-self c =
       counted = rw (c.min-self-inside.ensures, c.min-self-inside-in-Some.ensures, c.min-self-inside-in-Some-2.ensures, one, two, three, c.leave.ensures)
           (counts_cut s.size rest c.in-Some.entry s.counts counted);
       order = c.pop_back-in-Some.ensures.order (tickets_of rest) (subst (λ (ts : List ℕ). IsOrderOf ts o.first o.spots.items) last h.order);
+      below = c.pop_back-in-Some.ensures.below h.below;
       few = h.few;
       within =
           let long = ap (λ (es : List Outstanding). length es) items in

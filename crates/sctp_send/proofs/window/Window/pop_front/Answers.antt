@@ -24,6 +24,7 @@ invariant_of-self c =
       counted = rw (c.saturating_sub-self-inside.ensures, c.saturating_sub-self-inside-in-Some.ensures, c.leave.ensures)
           (counts_behind s.size c.in-Some.entry rest s.counts c.front_behind-self-inside.result counted front);
       order = c.pop_front-in-Some.ensures.order (tickets_of rest) (subst (λ (t : ℕ). IsOrderOf (t ∷ tickets_of rest) o.first o.spots.items) (sym ticket) order);
+      below = c.pop_front-in-Some.ensures.below h.below;
       few = h.few;
       within =
           let long : length s.entries.items ≡ suc (length rest) = ap (λ (es : List Outstanding). length es) items in

@@ -15,6 +15,7 @@ push-requires c =
     let lt = subst (λ (w : WindowKept). length w.items < w.capacity) (sym c.self.view_is) c.requires in
     record {
       room = omega (arith, lt, h.there, h.order.many, long_tickets s.entries.items);
+      below = h.below;
       few = omega (arith, lt, h.few, h.order.many, long_tickets s.entries.items);
     }
 
@@ -40,6 +41,7 @@ invariant_of-self c =
     record {
       counted = rw (items, c.reach.ensures s.size, long, c.enter.ensures) (counts_pushed s.size es e s.counts h.counted);
       order = subst (λ (ts : List ℕ). IsOrderOf ts c.push.new.self.first c.push.new.self.spots.items) (sym (ap tickets_of items ∙ more)) order;
+      below = c.push.ensures.below;
       few = h.few;
       within = let n = ap (λ (xs : List Outstanding). length xs) items in let m = length-append es (e ∷ []) in omega (arith, n, m, lt);
       here = let le = h.here in omega (arith, le, c.push_back_reserved.ensures.capacity);

@@ -24,6 +24,7 @@ invariant_of-self c =
     record {
       counted = c.stand_one.ensures.counted;
       order = subst (λ (ts : List ℕ). IsOrderOf ts s.by_ticket.first s.by_ticket.spots.items) (sym (ap tickets_of items ∙ placed_tickets new (λ e. refl) c.args.at es)) h.order;
+      below = h.below;
       few = h.few;
       within = let le = h.within in omega (arith, long, le);
       here = let le = h.here in omega (arith, c.stand_one.ensures.capacity, le);
