@@ -1,11 +1,12 @@
 #!/usr/bin/env python3
 """Compares `sctp-trace run` with the model on random scripts, or on given ones.
 
-compare.py [--program P] [--keep FOLDER] [--shrink] N [SEED]
+compare.py [--program P] [--keep FOLDER] [--shrink] [--odd | --edges] N [SEED]
 compare.py [--program P] [--shrink] FILE ..
 
-What differs is kept in FOLDER (found/ beside this file); --shrink also writes the smallest script
-found that still differs, by leaving out lines.
+--odd takes scripts of odd bytes (odd.py), --edges those with every limit at an edge (edges.py). What
+differs is kept in FOLDER (found/ beside this file); --shrink also writes the smallest script found
+that still differs, by leaving out lines.
 """
 
 import argparse
@@ -13,7 +14,9 @@ import os
 import subprocess
 import sys
 
+import edges
 import model
+import odd
 import scripts
 
 HERE = os.path.dirname(os.path.abspath(__file__))
@@ -61,12 +64,13 @@ def smaller(program, data):
     return b'\n'.join(lines)
 
 
-def cases(words):
+def cases(words, kind):
     """(name, script) for each number or file."""
+    made = {'seed': lambda n: scripts.script(n).encode(), 'odd': odd.script, 'edges': edges.script}[kind]
     if words[0].isdigit():
         count, seed = int(words[0]), int(words[1]) if len(words) > 1 else 1
         for n in range(seed, seed + count):
-            yield 'seed-%d' % n, scripts.script(n).encode()
+            yield '%s-%d' % (kind, n), made(n)
     else:
         for name in words:
             with open(name, 'rb') as file:
@@ -78,11 +82,14 @@ def main():
     parser.add_argument('--program', default=os.path.join(HERE, '..', '..', 'sctp-trace'))
     parser.add_argument('--keep', default=os.path.join(HERE, 'found'))
     parser.add_argument('--shrink', action='store_true')
+    parser.add_argument('--odd', dest='kind', action='store_const', const='odd', default='seed')
+    parser.add_argument('--edges', dest='kind', action='store_const', const='edges')
     parser.add_argument('words', nargs='+')
     asked = parser.parse_args()
-    count = differing = 0
-    for name, data in cases(asked.words):
+    count = lines = differing = 0
+    for name, data in cases(asked.words, asked.kind):
         count += 1
+        lines += data.count(b'\n')
         found = difference(asked.program, data)
         if found is None:
             continue
@@ -94,7 +101,7 @@ def main():
         with open(os.path.join(asked.keep, name), 'wb') as out:
             out.write(data)
         print('%s: line %d of the output: model %r, program %r' % (name, *found), flush=True)
-    print('%d scripts, %d differ' % (count, differing))
+    print('%d scripts, %d lines, %d differ' % (count, lines, differing))
     return 1 if differing else 0
 
 

@@ -336,11 +336,10 @@ class Endpoint:
         """The ABORT packet, or the refusal as a number (section 9.1)."""
         if self.state in (CLOSED, LISTEN, COOKIE_WAIT):
             return 1
-        abort = chunk(wire.ABORT, item(wire.USER_ABORT, reason))
-        if len(abort) > self.body_limit():
+        if wire.padded(8 + len(reason)) > self.body_limit():
             return 2
         self.close(ABORTED_HERE)
-        return self.packet(self.peer_tag, [abort])
+        return self.packet(self.peer_tag, [chunk(wire.ABORT, item(wire.USER_ABORT, reason))])
 
     # ---- Packets in ----
 

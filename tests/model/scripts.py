@@ -550,15 +550,15 @@ def script(seed):
     return Maker(seed).make()
 
 
-def main():
+def main(made=lambda seed: script(seed).encode()):
     if len(sys.argv) not in (3, 4):
-        sys.exit('scripts.py FOLDER N [SEED]')
+        sys.exit('%s FOLDER N [SEED]' % os.path.basename(sys.argv[0]))
     folder, count = sys.argv[1], int(sys.argv[2])
     seed = int(sys.argv[3]) if len(sys.argv) == 4 else 1
     os.makedirs(folder, exist_ok=True)
     for n in range(seed, seed + count):
-        with open(os.path.join(folder, '%06d.script' % n), 'w', encoding='ascii', newline='') as out:
-            out.write(script(n))
+        with open(os.path.join(folder, '%06d.script' % n), 'wb') as out:
+            out.write(made(n))
 
 
 if __name__ == '__main__':
