@@ -1,5 +1,5 @@
 -- Chains that go, as they lie in memory.
-use Rattle.std.proofs.Common.{◌≡◌, ℕ, suc, ◌-◌, ◌<◌, ◌≤◌, List, length, get_or, set, take, map, sym, ◌∙◌, ap, subst, arith}
+use Rattle.std.proofs.Common.{◌≡◌, ℕ, suc, ◌-◌, ◌<◌, ◌≤◌, List, length, get_or, set, take, map, refl, sym, ◌∙◌, ap, subst, arith}
 use Rattle.std.specs.List.{remove}
 use Rattle.sctp_chains.specs.Links.{ChainKept, chain_of}
 use Rattle.sctp_chains.specs.declared.chain.Chain.{Chain}
@@ -48,3 +48,14 @@ module _ (cs : List Chain) (k : ℕ) (x : Chain) (l : k < length cs) (at : x ≡
 pub none_left : (cs : List Chain) (k high : ℕ) (old : List ChainKept) (held left : ℕ) → length cs ≤ k → Drops high k old (map chain_of cs) held left → LetsGo high k old (map chain_of cs) held left
 none_left cs k high old held left past d = drops_end high k old (map chain_of cs) held left d (λ c h there.
     absurd (none_dropped (map chain_of cs) k c (let n = length_kept cs in omega (arith, past, n)) there))
+
+-- ---- where none lies there
+
+nothing_yet : (high k : ℕ) (old : List ChainKept) (held : ℕ) → Drops high k old old held held
+nothing_yet high k old held = λ h low cut. record { chains = h; cut = cut; cells = refl; count = λ is. is }
+
+pub none_there : (cs : List Chain) (k high held : ℕ) → length cs ≤ k → LetsGo high k (map chain_of cs) (map chain_of cs) held held
+none_there cs k high held past = none_left cs k high (map chain_of cs) held held past (nothing_yet high k (map chain_of cs) held)
+
+pub none_so_low : (cs : List Chain) (k high held : ℕ) (x : Chain) → k < length cs → x ≡ get_or cs k x → high < x.first → LetsGo high k (map chain_of cs) (map chain_of cs) held held
+none_so_low cs k high held x l at past = none_more cs k x l at high (map chain_of cs) held held (nothing_yet high k (map chain_of cs) held) past

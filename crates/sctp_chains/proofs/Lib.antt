@@ -7,6 +7,7 @@ mod SpotLemmas
 mod FilingLemmas
 mod JoiningLemmas
 mod WholeCounts
+mod OpenLemmas
 mod FindingLemmas
 mod SearchLemmas
 mod SizeLemmas

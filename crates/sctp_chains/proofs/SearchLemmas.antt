@@ -1,14 +1,56 @@
 -- Whole messages among chains: by a rank, and the first within bounds.
-use Rattle.std.proofs.Common.{◌≡◌, ℕ, suc, ◌<◌, ◌≤◌, ◌⊎◌, true, false, List, [], ◌∷◌, length, get_or, take, drop, Option, Some, None, inl, inr, refl, sym, ◌∙◌, ap, subst, arith}
-use Rattle.std.specs.Prelude.{is_some}
+use Rattle.std.proofs.Common.{◌≡◌, ℕ, zero, suc, ◌<◌, ◌≤◌, ◌⊎◌, true, false, List, [], ◌∷◌, length, get_or, take, drop, map, Option, Some, None, inl, inr, refl, sym, ◌∙◌, ap, subst, arith}
+use Rattle.std.specs.Prelude.{max}
 use Rattle.std.proofs.lemmas.Bool.{cases_lt}
 use Rattle.sctp_model.specs.numbers.Lists.{Has, AreInOrder}
-use Rattle.sctp_chains.specs.Links.{ChainKept, is_whole, IsBelow, AreChains}
+use Rattle.sctp_chains.specs.Links.{ChainKept, chain_of, is_whole, IsBelow, AreChains}
+use Rattle.sctp_chains.specs.declared.chain.Chain.{Chain}
 use Rattle.sctp_chains.specs.declared.search.Found.{Found}
 use Rattle.sctp_chains.specs.inner.Filing.{IsPlace}
-use Rattle.sctp_chains.specs.inner.Finding.{IsIn, IsWholeAt, IsWholeHere, IsWholeWithRank, IsFirstWhole}
+use Rattle.sctp_chains.specs.inner.Finding.{IsStart, IsIn, IsWholeAt, IsWholeHere, IsWholeWithRank, IsFirstWhole, IsOver, IsStop, AreOpen}
 use Rattle.sctp_chains.proofs.ListLemmas.{in_part, halves, around, here_first, at_same, take_one, dropped_has, none_dropped, order_back}
+use Rattle.sctp_chains.proofs.MemoryLemmas.{at_kept, length_kept}
+use Rattle.sctp_chains.proofs.OpenLemmas.{taken_more}
 use Rattle.sctp_chains.proofs.ChainLemmas.{chain_order, one_chain}
+
+-- ---- places passed over
+
+max_left : (a b : ℕ) → b ≤ a → max a b ≡ a
+max_left a b le = omega (arith, le)
+
+max_right : (a b : ℕ) → a ≤ b → max a b ≡ b
+max_right a b le = omega (arith, le)
+
+max_above : (a b : ℕ) → a ≤ max a b
+max_above a b = omega arith
+
+dropped_more : (j k : ℕ) (cs : List ChainKept) (c : ChainKept) → j ≤ k → Has (drop k cs) c → Has (drop j cs) c
+dropped_more zero k cs c le there = dropped_has cs k c there
+dropped_more (suc j) zero cs c le there = absurd (omega (arith, le))
+dropped_more (suc j) (suc k) [] c le there = there
+dropped_more (suc j) (suc k) (x ∷ cs) c le there = dropped_more j k cs c (omega (arith, le)) there
+
+pub over_more : (cs : List ChainKept) (b k : ℕ) (x : ChainKept) → k < length cs → x ≡ get_or cs k x → is_whole x ≡ false → IsOver cs b k → IsOver cs b (suc k)
+over_more cs b k x less at none over = record {
+  between = λ c there. elim (in_part (take k cs) (x ∷ []) c (subst (λ (xs : List ChainKept). Has xs c) (take_one cs k x less at) there)) [
+    | inl early ↦ over.between c early
+    | inr last ↦ elim last [ inl is ↦ inr (subst (λ (z : ChainKept). is_whole z ≡ false) is none) | inr end ↦ absurd end ]
+  ];
+  behind = λ c there. over.behind c (dropped_more k (suc k) cs c (omega arith) there);
+}
+
+pub over_all : (cs : List ChainKept) (b k : ℕ) → length cs ≤ k → IsOver cs b k → IsOver cs b (length cs)
+over_all cs b k past over = record {
+  between = λ c there. over.between c (taken_more (length cs) k cs c past there);
+  behind = λ c there. absurd (none_dropped cs (length cs) c (omega arith) there);
+}
+
+-- chains that are known to be open, and those behind them that were passed over
+pub open_upto : (cs : List ChainKept) (begin known k : ℕ) → begin ≤ known → AreOpen known cs → IsOver cs (max begin known) k → AreOpen k cs
+open_upto cs begin known k le opens over = λ c there. elim (over.between c there) [
+  | inl early ↦ opens c (subst (λ (n : ℕ). Has (take n cs) c) (max_right begin known le) early)
+  | inr is ↦ is
+]
 
 module _ (cs : List ChainKept) (h : AreChains cs) where
   -- ---- the chain at a place, and those behind it
@@ -63,29 +105,23 @@ module _ (cs : List ChainKept) (h : AreChains cs) where
     pub none : (c : ChainKept) → Has (take k cs) c → from ≤ c.first → is_whole c ≡ false
     pub back : (c : ChainKept) → Has (drop k cs) c → from ≤ c.first
 
-  passed_more : (from k : ℕ) → k < length cs → IsPassed from k → IsWholeHere cs k None → IsPassed from (suc k)
-  passed_more from k less p none = record {
-    none = λ c there low.
-        let x = get_or cs k c in
-        let at : x ≡ get_or cs k x = at_same cs k c x less in
-        elim (in_part (take k cs) (x ∷ []) c (subst (λ (xs : List ChainKept). Has xs c) (take_one cs k x less at) there)) [
-          | inl early ↦ p.none c early low
-          | inr last ↦ elim last [ inl is ↦ subst (λ (z : ChainKept). is_whole z ≡ false) is (none x at) | inr end ↦ absurd end ]
-        ];
-    back = λ c there.
-        let x = get_or cs k c in
-        let at : x ≡ get_or cs k x = at_same cs k c x less in
-        p.back c (subst (λ (xs : List ChainKept). Has xs c) (sym (here_first cs k x less at)) (inr there));
+  -- what lies before place k passed it: what begins lower lies before the start, and the first chains are open
+  pub passed_upto : (from begin known k : ℕ) → IsStart from cs begin → AreOpen known cs → IsOver cs (max begin known) k → IsPassed from k
+  passed_upto from begin known k start opens over = record {
+    none = λ c there low. elim (over.between c there) [
+      | inl early ↦ elim (cases_lt known begin) [
+        | inl less ↦ absurd (let below = start.front c (subst (λ (n : ℕ). Has (take n cs) c) (max_left begin known (omega (arith, less))) early) in omega (arith, below, low))
+        | inr le ↦ opens c (subst (λ (n : ℕ). Has (take n cs) c) (max_right begin known le) early)
+      ]
+      | inr is ↦ is
+    ];
+    back = λ c there. start.back c (dropped_more begin (max begin known) cs c (omega (arith, max_above begin known)) (over.behind c there));
   }
 
-  pub passed_on : (from k : ℕ) (o : Option Found) → k < length cs → IsPassed from k → IsWholeHere cs k o → is_some o ≡ false → IsPassed from (suc k)
-  passed_on from k None less p none is = passed_more from k less p none
-  passed_on from k (Some w) less p found is = absurd (cc)
-
-  pub first_found : (from last k : ℕ) (x : ChainKept) (o : Option Found) → k < length cs → x ≡ get_or cs k x → IsPassed from k → x.first ≤ last → IsWholeHere cs k o →
-      is_some o ≡ true → IsFirstWhole cs from last o
-  first_found from last k x None less at p high none is = absurd (cc)
-  first_found from last k x (Some v) less at p high found is =
+  pub first_found : (from last k : ℕ) (x : ChainKept) (o : Option Found) → k < length cs → x ≡ get_or cs k x → IsPassed from k → x.first ≤ last → is_whole x ≡ true → IsWholeHere cs k o →
+      IsFirstWhole cs from last o
+  first_found from last k x None less at p high whole none = let is = none x at in absurd (cc)
+  first_found from last k x (Some v) less at p high whole found =
       let same = found_here k x v less at found.0 found.1.0 found.1.1 in
       let first = ap (λ (z : ChainKept). z.first) same in
       let low = p.back x (stands_in k x less at) in (
@@ -110,3 +146,23 @@ module _ (cs : List ChainKept) (h : AreChains cs) where
     | inl front ↦ p.none c front low
     | inr back ↦ absurd (none_dropped cs k c past back)
   ]
+
+-- ---- where a search stopped, as chains lie in memory
+
+module _ (cs : List Chain) (from last begin known m k : ℕ) (is : m ≡ max begin known) (start : AreChains (map chain_of cs) → IsStart from (map chain_of cs) begin)
+    (stop : IsStop last (map chain_of cs) m k) (h : AreChains (map chain_of cs)) (opens : AreOpen known (map chain_of cs)) where
+  passed : IsPassed (map chain_of cs) h from k
+  passed = passed_upto (map chain_of cs) h from begin known k (start h) opens (subst (λ (n : ℕ). IsOver (map chain_of cs) n k) is stop.over)
+
+  pub stopped_here : (x : Chain) (o : Option Found) → k < length cs → x ≡ get_or cs k x → x.first ≤ last → IsWholeHere (map chain_of cs) k o → IsFirstWhole (map chain_of cs) from last o
+  stopped_here x o l at low whole =
+      let here = sym (at_kept cs k x l at (chain_of x)) in
+      let less : k < length (map chain_of cs) = let n = length_kept cs in omega (arith, l, n) in
+      first_found (map chain_of cs) h from last k (chain_of x) o less here passed low (stop.here (chain_of x) less here low) whole
+
+  pub stopped_past : (x : Chain) → k < length cs → x ≡ get_or cs k x → last < x.first → IsFirstWhole (map chain_of cs) from last None
+  stopped_past x l at high =
+      none_further (map chain_of cs) h from last k (chain_of x) (let n = length_kept cs in omega (arith, l, n)) (sym (at_kept cs k x l at (chain_of x))) passed high
+
+  pub stopped_end : length cs ≤ k → IsFirstWhole (map chain_of cs) from last None
+  stopped_end past = none_at_all (map chain_of cs) h from last k (let n = length_kept cs in omega (arith, past, n)) passed

@@ -1,5 +1,5 @@
 -- How many chains are whole messages, where chains come, change and go.
-use Rattle.std.proofs.Common.{◌≡◌, ℕ, zero, suc, ◌+◌, ◌<◌, ◌≤◌, true, false, List, [], ◌∷◌, length, get_or, set, map, inl, inr, refl, sym, ◌∙◌, ap, arith}
+use Rattle.std.proofs.Common.{◌≡◌, ℕ, zero, suc, ◌+◌, ◌<◌, ◌≤◌, true, false, List, [], ◌∷◌, length, get_or, set, map, inl, inr, refl, sym, ◌∙◌, ap, arith, Some}
 use Rattle.std.specs.Prelude.{is_some}
 use Rattle.std.specs.List.{insert, remove}
 use Rattle.std.proofs.lemmas.Bool.{cases_Bool}
@@ -8,6 +8,7 @@ use Rattle.sctp_model.specs.numbers.Lists.{Has}
 use Rattle.sctp_chains.specs.Same.{total}
 use Rattle.sctp_chains.specs.Links.{ChainKept, chain_of, one_of, join, is_linked, is_whole, one_if_whole, whole_in}
 use Rattle.sctp_chains.specs.declared.chain.Chain.{Chain}
+use Rattle.sctp_chains.specs.declared.chain.Head.{Head}
 use Rattle.sctp_chains.specs.declared.chain.Part.{Part}
 use Rattle.sctp_chains.specs.inner.Filing.{IsJoined}
 use Rattle.sctp_chains.proofs.MemoryLemmas.{at_kept, length_kept}
@@ -65,6 +66,17 @@ whole_insert cs i x =
 
 pub one_of_none : (c : ChainKept) → is_whole c ≡ false → one_if_whole c ≡ 0
 one_of_none c e = rw e refl
+
+-- a chain counts once at the most
+pub once : (c : ChainKept) (n : ℕ) → n ≡ one_if_whole c → n ≤ 1
+once c n is = elim (cases_Bool (is_whole c)) [
+  | inl so ↦ let one : one_if_whole c ≡ 1 = rw so refl in omega (arith, is, one)
+  | inr other ↦ let none = one_of_none c other in omega (arith, is, none)
+]
+
+-- one that ends a message, and begins one, counts
+pub ends_and_begins : (c : ChainKept) (h : Head) → c.ends ≡ true → c.head ≡ Some h → one_if_whole c ≡ 1
+ends_and_begins c h ends head = rw (ends, head) refl
 
 pub linked_open : (c d : ChainKept) → is_linked c d ≡ true → is_whole c ≡ false
 linked_open c d e = elim (cases_Bool c.ends) [

@@ -27,6 +27,10 @@ StandsFor f r l kept = KeepsLane f l (map chain_of r.filed.chains.items) r.held 
 unfoldable pub chain_count : {F : Type 0} → Chains F → ℕ
 chain_count r = length r.filed.chains.items
 
+-- how many of them became whole messages and are there still, at the most
+unfoldable pub whole_count : {F : Type 0} → Chains F → ℕ
+whole_count r = r.filed.whole
+
 -- A chunk of the lane for a place that none fills, and all bytes can be counted.
 pub record IsNew (f : Format) (l : Lane) (kept : List Piece) (x : Piece) : Type 0 where
   pub of : IsOf f l x

@@ -10,16 +10,15 @@ ghost use Rattle.sctp_model.specs.receiver.ReceiverView.{size_of_pieces};
 ghost use Rattle.sctp_model.specs.receiver.PieceTaken.{is_repeated};
 ghost use Rattle.sctp_wire.specs.ChunkTree.{piece_meaning};
 ghost use Rattle.sctp_chains.specs.Cells.{Kept, cell_of, counted, IsOf};
-ghost use Rattle.sctp_chains.specs.StandsFor.{StandsFor, IsNew, chain_count};
+ghost use Rattle.sctp_chains.specs.StandsFor.{StandsFor, IsNew, chain_count, whole_count};
 ghost use Rattle.sctp_chains.specs.WholeOf.{TakesLowest, TakesWith, IsMissing, IsThere, AreThere, from_number};
-ghost use Rattle.sctp_chains.specs.Links.{chain_of, one_of, cells_in, AreChains};
-ghost use Rattle.sctp_chains.specs.inner.Finding.{IsFirstWhole};
+ghost use Rattle.sctp_chains.specs.Links.{one_of, cells_in};
 
 use crate::chain::{Head, Part};
 use crate::filed::Filed;
 use crate::filing::place;
 use crate::rank::rank_at;
-use crate::search::{Found, first_whole, whole_with};
+use crate::search::whole_with;
 use crate::whole::{Whole, whole_of};
 use sctp_framing::Framing;
 use sctp_values::{Kind, NoMemory, small_len};
@@ -36,7 +35,7 @@ pub struct Chains<F: Framing> {
     framing: PhantomData<F>,
 }
 
-#[tactic(auto, unfolding(crate::specs::StandsFor::StandsFor, crate::specs::StandsFor::chain_count))]
+#[tactic(auto, unfolding(crate::specs::StandsFor::StandsFor, crate::specs::StandsFor::chain_count, crate::specs::StandsFor::whole_count))]
 impl<F: Framing> Chains<F> {
     /// Of a lane of which nothing is kept.
     pub fn new(alloc: Global) -> Chains<F>
@@ -62,6 +61,13 @@ impl<F: Framing> Chains<F> {
         ensures { result ≡ chain_count self.now }
     {
         self.filed.chains.len()
+    }
+
+    /// How many of them are whole messages, at the most: no more messages than that can be taken out before another chunk is added.
+    pub fn whole_count(&self) -> usize
+        ensures { result ≡ whole_count self.now }
+    {
+        self.filed.whole
     }
 
     /// Whether this fragment of this message is kept already, where that can be: under DATA a fragment is its TSN.
@@ -91,6 +97,7 @@ impl<F: Framing> Chains<F> {
             → OnOk result (StandsFor F.format self.new l (counted index (piece_meaning piece.now) number ∷ kept)) }
         ensures refused { (l : Lane) (kept : Kept) → StandsFor F.format self.old l kept → OnErr result (StandsFor F.format self.new l kept) }
         ensures count { OnOk result (chain_count self.new ≤ suc (chain_count self.old)) }
+        ensures whole { OnOk result (whole_count self.new ≤ suc (whole_count self.old)) }
     {
         let part = part_of::<F>(self.alloc, piece, index, number)?;
         self.filed.file(self.alloc, part)?;
@@ -104,8 +111,10 @@ impl<F: Framing> Chains<F> {
         ensures taken { (l : Lane) (kept : Kept) → StandsFor F.format self.old l kept → is_numbered F.format l.kind ≡ true
             → TakesLowest F.format l kept from last result self.new }
         ensures count { OnSome result (suc (chain_count self.new) ≤ chain_count self.old) }
+        ensures whole { (l : Lane) (kept : Kept) → StandsFor F.format self.old l kept → OnSome result (suc (whole_count self.new) ≤ whole_count self.old) }
     {
-        let found = self.find_whole(rank_at(Some(from), 0), rank_at(Some(last), u32::MAX))?;
+        let lower = rank_at(Some(from), 0);
+        let found = self.filed.find(lower, rank_at(Some(last), u32::MAX))?;
         let chain = self.filed.remove(&mut self.held, found.at)?;
         let number = (chain.first / 4_294_967_296) as u32;
         let upto = rank_at(Some(number), u32::MAX);
@@ -157,18 +166,7 @@ impl<F: Framing> Chains<F> {
         }
         let lower = rank_at(Some(number), 0);
         let upper = rank_at(Some(number), u32::MAX);
-        self.find_whole(lower, upper).is_some()
-    }
-
-    /// The first whole message that begins with one of these ranks. Where no chain is whole it looks at none.
-    #[inline(always)]
-    fn find_whole(&self, from: u64, last: u64) -> Option<Found>
-        ensures { AreChains (map chain_of self.now.filed.chains.items) → IsFirstWhole (map chain_of self.now.filed.chains.items) from last result }
-    {
-        if self.filed.whole == 0 {
-            return None;
-        }
-        first_whole(&self.filed.chains, from, last)
+        self.filed.first_whole(lower, upper).found.is_some()
     }
 
     /// Lets go of the chunks below a number, in a lane that is numbered.

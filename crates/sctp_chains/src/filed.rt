@@ -1,13 +1,15 @@
 //! The chains of a lane in their order, and how many of them may be whole messages.
 
-ghost use Rattle.std.specs.Prelude.{◌≡◌, ◌≤◌, [], suc, length, map, MatchOption, OnSome, OnOk, OnErr};
-ghost use Rattle.sctp_chains.specs.Links.{chain_of, one_of, whole_in};
+ghost use Rattle.std.specs.Prelude.{◌≡◌, ◌≤◌, ◌+◌, [], suc, length, map, MatchOption, IfSome, OnSome, OnOk, OnErr};
+ghost use Rattle.sctp_chains.specs.Links.{chain_of, one_of, one_if_whole, whole_in, AreChains};
 ghost use Rattle.sctp_chains.specs.inner.Filing.{Gains};
+ghost use Rattle.sctp_chains.specs.inner.Finding.{AreOpen, IsFirstWhole};
 ghost use Rattle.sctp_chains.specs.inner.LettingGo.{LetsGo, Removes};
 
 use crate::chain::{Chain, Part};
 use crate::filing::file;
 use crate::letting_go::{drop_upto, remove};
+use crate::search::{Found, Looked, first_whole};
 use sctp_values::NoMemory;
 use std::alloc::Global;
 use std::collections::VecDeque;
@@ -18,7 +20,10 @@ pub(crate) struct Filed {
     pub(crate) chains: VecDeque<Chain>,
     /// How many became whole messages and weren't taken out one by one: at least as many as are whole.
     pub(crate) whole: usize,
+    /// So many at the front are known not to be whole, so that a search begins behind them.
+    pub(crate) passed: usize,
     ghost counted: { whole_in (map chain_of chains.items) ≤ whole },
+    ghost known: { AreOpen passed (map chain_of chains.items) },
 }
 
 impl Filed {
@@ -29,6 +34,7 @@ impl Filed {
         Filed {
             chains: VecDeque::new(alloc),
             whole: 0,
+            passed: 0,
         }
     }
 
@@ -38,11 +44,18 @@ impl Filed {
     /// Memory ran out, and nothing changed.
     pub(crate) fn file(&mut self, alloc: Global, part: Part) -> Result<(), NoMemory>
         ensures few { OnOk result (length self.new.chains.items ≤ suc (length self.old.chains.items)) }
+        ensures whole { OnOk result (self.new.whole ≤ suc self.old.whole) }
         ensures filed { OnOk result (Gains (one_of part) (map chain_of self.old.chains.items) (map chain_of self.new.chains.items)) }
         ensures refused { OnErr result (map chain_of self.new.chains.items ≡ map chain_of self.old.chains.items) }
     {
-        let whole = file(alloc, &mut self.chains, part)?;
-        self.whole = self.whole.saturating_add(whole).min(self.chains.len());
+        let before = self.chains.len();
+        let filed = file(alloc, &mut self.chains, part)?;
+        let count = self.chains.len();
+        self.whole = self.whole.saturating_add(filed.whole).min(count);
+        self.passed = self.passed.saturating_sub(before.saturating_sub(count));
+        if filed.whole > 0 {
+            self.passed = self.passed.min(filed.at);
+        }
         Ok(())
     }
 
@@ -50,18 +63,59 @@ impl Filed {
     #[inline(always)]
     pub(crate) fn remove(&mut self, held: &mut u32, at: usize) -> Option<Chain>
         ensures fewer { OnSome result (suc (length self.new.chains.items) ≡ length self.old.chains.items) }
+        ensures whole { IfSome result (λ c. self.new.whole + one_if_whole (chain_of c) ≡ self.old.whole) }
         ensures taken { MatchOption result (length self.old.chains.items ≤ at) (λ c. Removes at (map chain_of self.old.chains.items) (map chain_of self.new.chains.items) held.old held.new (chain_of c)) }
     {
         let chain = remove(&mut self.chains, held, at)?;
         self.whole = self.whole.saturating_sub(chain.whole());
+        self.passed = self.passed.saturating_sub(1);
         Some(chain)
     }
 
-    /// From a place on, lets go of all fragments of ranks up to this one.
+    /// From a place on, lets go of all fragments of ranks up to this one. Where none lies there, as at most messages, that is all in line.
+    #[inline(always)]
     pub(crate) fn drop_upto(&mut self, held: u32, at: usize, upto: u64) -> u32
         ensures fewer { length self.new.chains.items ≤ length self.old.chains.items }
+        ensures whole { self.new.whole ≡ self.old.whole }
         ensures left { LetsGo upto at (map chain_of self.old.chains.items) (map chain_of self.new.chains.items) held result }
     {
-        drop_upto(&mut self.chains, held, at, upto)
+        let before = self.chains.len();
+        if at >= before {
+            return held;
+        }
+        if self.chains[at].first > upto {
+            return held;
+        }
+        let left = drop_upto(&mut self.chains, held, at, upto);
+        let gone = before.saturating_sub(self.chains.len());
+        self.passed = self.passed.saturating_sub(gone);
+        left
+    }
+
+    /// The first whole message that begins with one of these ranks. Where no chain is whole it looks at none.
+    #[inline(always)]
+    pub(crate) fn first_whole(&self, from: u64, last: u64) -> Looked
+        ensures found { AreChains (map chain_of self.now.chains.items) → IsFirstWhole (map chain_of self.now.chains.items) from last result.found }
+        ensures passed { AreOpen result.passed (map chain_of self.now.chains.items) }
+    {
+        if self.whole == 0 {
+            return Looked {
+                found: None,
+                passed: self.chains.len(),
+            };
+        }
+        first_whole(&self.chains, self.passed, from, last)
+    }
+
+    /// The same, and it notes which chains needn't be looked at again.
+    #[inline(always)]
+    pub(crate) fn find(&mut self, from: u64, last: u64) -> Option<Found>
+        ensures same { self.new.chains.items ≡ self.old.chains.items }
+        ensures whole { self.new.whole ≡ self.old.whole }
+        ensures found { AreChains (map chain_of self.old.chains.items) → IsFirstWhole (map chain_of self.old.chains.items) from last result }
+    {
+        let looked = self.first_whole(from, last);
+        self.passed = looked.passed;
+        looked.found
     }
 }

@@ -2,7 +2,7 @@
 
 ghost use Rattle.std.specs.Prelude.{◌≡◌, ◌≤◌, ◌<◌, ◌+◌, suc, nat_lt, length, get_or, map, OnOk, OnErr, IfOk};
 ghost use Rattle.sctp_chains.specs.Links.{chain_of, one_of, whole_in, AreChains};
-ghost use Rattle.sctp_chains.specs.inner.Filing.{IsPlace, IsLinkBefore, IsLinkBehind, IsJoined, HasJointRoom, Gains};
+ghost use Rattle.sctp_chains.specs.inner.Filing.{IsPlace, IsLinkBefore, IsLinkBehind, IsJoined, HasJointRoom, Gains, StaysOpen};
 
 use crate::chain::{Chain, Part, alone, one_if};
 use sctp_values::{NoMemory, put_at};
@@ -42,7 +42,16 @@ fn linked_behind(chains: &VecDeque<Chain>, at: usize, part: &Part) -> Option<usi
     None
 }
 
-/// Files a fragment. It answers 1 where its chain is a whole message then, else 0.
+/// The chain that a fragment was filed in.
+#[derive(Clone, Copy)]
+pub(crate) struct FiledIn {
+    /// Its place.
+    pub(crate) at: usize,
+    /// 1 where it is a whole message, else 0.
+    pub(crate) whole: usize,
+}
+
+/// Files a fragment.
 ///
 /// # Errors
 /// Memory ran out, and nothing changed.
@@ -50,10 +59,12 @@ pub(crate) fn file(
     alloc: Global,
     chains: &mut VecDeque<Chain>,
     part: Part,
-) -> Result<usize, NoMemory>
+) -> Result<FiledIn, NoMemory>
     ensures few { OnOk result (length chains.new.items ≤ suc (length chains.old.items)) }
     ensures filed { OnOk result (Gains (one_of part) (map chain_of chains.old.items) (map chain_of chains.new.items)) }
-    ensures whole { IfOk result (λ n. whole_in (map chain_of chains.new.items) ≤ whole_in (map chain_of chains.old.items) + n) }
+    ensures one { IfOk result (λ f. f.whole ≤ 1) }
+    ensures whole { IfOk result (λ f. whole_in (map chain_of chains.new.items) ≤ whole_in (map chain_of chains.old.items) + f.whole) }
+    ensures passed { IfOk result (λ f. StaysOpen (map chain_of chains.old.items) (map chain_of chains.new.items) f.at f.whole) }
     ensures refused { OnErr result (map chain_of chains.new.items ≡ map chain_of chains.old.items) }
 {
     let at = place(chains, part.rank);
@@ -66,23 +77,25 @@ pub(crate) fn file(
             let begins = chains[left].head.is_some();
             let whole = one_if(ends, begins);
             join_all(chains, left, part, right)?;
-            Ok(whole)
+            Ok(FiledIn { at: left, whole })
         }
         (Some(left), None) => {
             let chain = &mut chains[left];
             chain.push_back(part)?;
-            Ok(chain.whole())
+            let whole = chain.whole();
+            Ok(FiledIn { at: left, whole })
         }
         (None, Some(right)) => {
             let chain = &mut chains[right];
             chain.push_front(part)?;
-            Ok(chain.whole())
+            let whole = chain.whole();
+            Ok(FiledIn { at: right, whole })
         }
         (None, None) => {
             let chain = alone(alloc, part)?;
             let whole = chain.whole();
             put_at(chains, at, chain)?;
-            Ok(whole)
+            Ok(FiledIn { at, whole })
         }
     }
 }

@@ -1,7 +1,8 @@
 //! Fragments go: a message that is taken, or what a rank leaves behind. The bytes held are counted.
 
-ghost use Rattle.std.specs.Prelude.{◌≡◌, ◌≤◌, ◌+◌, ◌-◌, suc, length, map, take, MatchOption, IfNone, IfSome, OnSome};
+ghost use Rattle.std.specs.Prelude.{◌≡◌, ℕ, ◌≤◌, ◌+◌, ◌-◌, suc, length, map, take, MatchOption, IfNone, IfSome, OnSome};
 ghost use Rattle.sctp_chains.specs.Links.{chain_of, bytes_of, one_if_whole, whole_in};
+ghost use Rattle.sctp_chains.specs.inner.Finding.{AreOpen};
 ghost use Rattle.sctp_chains.specs.inner.LettingGo.{size_of_parts, LetsGo, Removes, Trims};
 
 use crate::chain::Chain;
@@ -43,6 +44,7 @@ pub(crate) fn remove(chains: &mut VecDeque<Chain>, held: &mut u32, at: usize) ->
     ensures fewer { OnSome result (suc (length chains.new.items) ≡ length chains.old.items) }
     ensures unchanged { IfNone result (map chain_of chains.new.items ≡ map chain_of chains.old.items) }
     ensures whole { IfSome result (λ c. whole_in (map chain_of chains.new.items) + one_if_whole (chain_of c) ≡ whole_in (map chain_of chains.old.items)) }
+    ensures passed { OnSome result ((k : ℕ) → AreOpen k (map chain_of chains.old.items) → AreOpen (k - 1) (map chain_of chains.new.items)) }
     ensures taken { MatchOption result (length chains.old.items ≤ at) (λ c. Removes at (map chain_of chains.old.items) (map chain_of chains.new.items) held.old held.new (chain_of c)) }
 {
     let chain = remove_at(chains, at)?;
@@ -54,6 +56,7 @@ pub(crate) fn remove(chains: &mut VecDeque<Chain>, held: &mut u32, at: usize) ->
 pub(crate) fn drop_upto(chains: &mut VecDeque<Chain>, held: u32, at: usize, upto: u64) -> u32
     ensures fewer { length chains.new.items ≤ length chains.old.items }
     ensures whole { whole_in (map chain_of chains.new.items) ≤ whole_in (map chain_of chains.old.items) }
+    ensures passed { (k : ℕ) → AreOpen k (map chain_of chains.old.items) → AreOpen (k - (length chains.old.items - length chains.new.items)) (map chain_of chains.new.items) }
     ensures left { LetsGo upto at (map chain_of chains.old.items) (map chain_of chains.new.items) held result }
 {
     let mut left = held;

@@ -5,10 +5,10 @@
 //! chunks of that lane, and its calls use them so:
 //!
 //! - A data chunk: `is_held` tells a fragment that came again under I-DATA. Then what can be refused comes first: room for what may wait,
-//!   which for an ordered chunk is at most the numbers up to `first_missing` and at most one message more than `count` says, room for
-//!   the index, and `add`, which changes nothing where it is refused; then the index is recorded. After an unordered chunk
-//!   `take_with` gives its message, if it is whole. After an ordered one `take_lowest(next, next)`
-//!   gives the message that is waited for, if it is whole, and so on with the number after it, until none is; what lies below went with them.
+//!   which for an ordered chunk is at most one message more than `whole_count` says, room for the index, and `add`, which changes nothing
+//!   where it is refused; then the index is recorded. After an unordered chunk `take_with` gives its message, if it is whole. After an
+//!   ordered one `take_lowest(next, next)` gives the message that is waited for, if it is whole, and so on with the number after it, until
+//!   none is; what lies below went with them.
 //! - A FORWARD: of the unordered chunks of each stream `let_go` drops those that it leaves behind. Of the ordered ones
 //!   `take_lowest(next, next.max(floor))` gives what is due, one message after another, where all numbers below `floor` are skipped;
 //!   then `drop_below` drops what is left below the number that is waited for.

@@ -2,7 +2,7 @@
 
 ghost use Rattle.std.specs.Prelude.{◌≡◌, ◌≤◌, ◌<◌, nat_lt, length, map};
 ghost use Rattle.sctp_chains.specs.Links.{chain_of, AreChains};
-ghost use Rattle.sctp_chains.specs.inner.Finding.{IsStart, IsWholeHere, IsWholeWithRank, IsFirstWhole};
+ghost use Rattle.sctp_chains.specs.inner.Finding.{IsStart, IsWholeHere, IsWholeWithRank, IsFirstWhole, IsStop, AreOpen};
 
 use crate::chain::{Chain, Head};
 use crate::filing::place;
@@ -13,6 +13,14 @@ use std::collections::VecDeque;
 pub(crate) struct Found {
     pub(crate) at: usize,
     pub(crate) head: Head,
+}
+
+/// What a search found.
+#[derive(Clone, Copy)]
+pub(crate) struct Looked {
+    pub(crate) found: Option<Found>,
+    /// So many chains at the front are known then to be no whole messages.
+    pub(crate) passed: usize,
 }
 
 /// How many chains begin below a rank.
@@ -50,19 +58,35 @@ pub(crate) fn whole_with(chains: &VecDeque<Chain>, rank: u64) -> Option<Found>
     None
 }
 
-/// The first whole message that begins with one of these ranks. Its callers have it in line, since one of them runs for each message.
+/// The place of the first chain, from one on, that is a whole message or begins past a rank; how many there are, where none is.
 #[inline(always)]
-pub(crate) fn first_whole(chains: &VecDeque<Chain>, from: u64, last: u64) -> Option<Found>
-    ensures { AreChains (map chain_of chains.now.items) → IsFirstWhole (map chain_of chains.now.items) from last result }
+fn stop(chains: &VecDeque<Chain>, from: usize, last: u64) -> usize
+    ensures { IsStop last (map chain_of chains.now.items) from result }
 {
-    for at in start(chains, from)..chains.len() {
-        if chains[at].first > last {
-            return None;
-        }
-        let found = whole_at(chains, at);
-        if found.is_some() {
-            return found;
+    for at in from..chains.len() {
+        let chain = &chains[at];
+        if chain.first > last || chain.whole() == 1 {
+            return at;
         }
     }
-    None
+    chains.len()
+}
+
+/// The first whole message that begins with one of these ranks, where so many chains at the front are known to be none: it looks at no
+/// chain before the first rank, and at none of these. Its callers have it in line, since one of them runs for each message.
+#[inline(always)]
+pub(crate) fn first_whole(chains: &VecDeque<Chain>, passed: usize, from: u64, last: u64) -> Looked
+    ensures found { AreChains (map chain_of chains.now.items) → AreOpen passed (map chain_of chains.now.items)
+        → IsFirstWhole (map chain_of chains.now.items) from last result.found }
+    ensures passed { AreOpen passed (map chain_of chains.now.items) → AreOpen result.passed (map chain_of chains.now.items) }
+{
+    let begin = start(chains, from);
+    let at = stop(chains, begin.max(passed), last);
+    let found = if at < chains.len() && chains[at].first <= last {
+        whole_at(chains, at)
+    } else {
+        None
+    };
+    let passed = if begin <= passed { at } else { passed };
+    Looked { found, passed }
 }

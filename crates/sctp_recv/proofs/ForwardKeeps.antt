@@ -73,7 +73,7 @@ module _ (f : Format) (k : ReceiverKept) (v : ReceiverView) (x : ForwardMeaning)
     count : length k.streams ≡ length streams
     count = ap (λ (ss : List StreamKept). length ss) streams_are ∙ length-map streams stream_of
 
-    stream_is : (q : ℕ) (z : Inbound F) → slice_get streams q ≡ Some z → stream_at k.streams q ≡ stream_of z
+    pub stream_is : (q : ℕ) (z : Inbound F) → slice_get streams q ≡ Some z → stream_at k.streams q ≡ stream_of z
     stream_is q z got = ap (λ (ss : List StreamKept). stream_at ss q) streams_are ∙ got_stream streams q z got
 
     ordered_stay : (q : ℕ) → of_lane (ordered_lane q) left.kept ≡ of_lane (ordered_lane q) v.kept

@@ -135,7 +135,7 @@ module _ {F : Type 0} (f : Format) (jump : ℕ) (xs : List SkipMeaning) (v r : R
       none_more (m ∷ ms) = ap (λ (os : List Handed). m ∷ os) (none_more ms)
 
       none_go : stay f jump (lowest_after f (unordered_lane k) x.skip xs) (of_lane (unordered_lane k) v.kept) ≡ of_lane (unordered_lane k) v.kept
-      none_go = ap (stay f jump (lowest_after f (unordered_lane k) x.skip xs)) q.loose ∙ sym q.loose
+      none_go = ap (λ (n : ℕ). stay f jump n (of_lane (unordered_lane k) v.kept)) q.unordered ∙ q.stays
 
   module _ (y : Inbound F) (now_left : ℕ) (p : PassesOn f k jump xs (of_lane (ordered_lane k) v.kept) (of_lane (unordered_lane k) v.kept) x y left now_left) where
     due : IsDue f t k (t.next k) p.messages p.next

@@ -7,7 +7,8 @@ use Rattle.std.proofs.lemmas.Bool.{cases_Bool, cases_lt}
 use Rattle.std.proofs.lemmas.Option.{slice_get_read}
 use Rattle.sctp_model.specs.numbers.Lists.{Has}
 use Rattle.sctp_model.specs.wire.Chunk.{SkipMeaning}
-use Rattle.sctp_model.specs.messages.Format.{Format, Lane, same_lane, ordered_lane, unordered_lane}
+use Rattle.sctp_model.specs.messages.Format.{Format, Plain, Interleaved, Lane, same_lane, ordered_lane, unordered_lane}
+use Rattle.sctp_model.specs.messages.Framing.{is_skipped}
 use Rattle.sctp_model.specs.messages.Pieces.{Piece}
 use Rattle.sctp_model.specs.receiver.ReceiverView.{ReceiverView}
 use Rattle.sctp_model.specs.receiver.Receiving.{is_below, without_below, HasNoWhole}
@@ -19,8 +20,8 @@ use Rattle.sctp_model.proofs.receiver.Filters.{filter_none}
 use Rattle.sctp_model.proofs.receiver.OfLane.{of_says, of_below}
 use Rattle.sctp_chains.specs.WholeOf.{from_number}
 use Rattle.sctp_recv.specs.declared.inbound.Inbound.{Inbound}
-use Rattle.sctp_recv.specs.StandsFor.{AreListed}
-use Rattle.sctp_recv.specs.inner.Forwarding.{most_skipped, IsTouched, AreQuiet}
+use Rattle.sctp_recv.specs.StandsFor.{IsFindable, AreFindable}
+use Rattle.sctp_recv.specs.inner.Forwarding.{most_skipped, stay, IsTouched, AreQuiet}
 
 -- ---- which streams are touched
 
@@ -89,16 +90,27 @@ none_of_lane : (kept : List Piece) → ((x : Piece) → Has kept x → ⊥) → 
 none_of_lane [] none = refl
 none_of_lane (x ∷ kept) none = absurd (none x (inl refl))
 
-pub are_quiet : {F : Type 0} (f : Format) (jump : ℕ) (xs : List SkipMeaning) (v : ReceiverView) (loose touched : List ℕ) (streams : List (Inbound F)) → IsAtRest f v → AreListed v.kept loose →
-    ((s : ℕ) → IsTouched s loose xs → Contains touched s) → ((q : ℕ) (x : Inbound F) → slice_get streams q ≡ Some x → v.next q ≡ x.next) → AreQuiet f jump xs v touched streams
-are_quiet f jump xs v loose touched streams rest listed all next q x got off = record {
+-- no unordered chunk goes from a stream that isn't listed and that no entry names
+none_left : (f : Format) (jump skip q : ℕ) (loose : List ℕ) (us : List Piece) → (Contains loose q → ⊥) → ((y : Piece) → Has us y → (y.lane.stream ≡ q) × IsFindable f loose skip y) →
+    stay f jump skip us ≡ us
+none_left Plain jump skip q loose us off all =
+    let none = none_of_lane us (λ y has. let it = all y has in off (subst (Contains loose) it.0 it.1)) in
+    ap (stay Plain jump skip) none ∙ sym none
+none_left Interleaved jump skip q loose us off all = filter_none (λ (y : Piece). not (is_skipped y.number skip)) us (λ y has. ap not (all y has).1)
+
+pub are_quiet : {F : Type 0} (f : Format) (jump : ℕ) (xs : List SkipMeaning) (v : ReceiverView) (loose touched : List ℕ) (streams : List (Inbound F)) → IsAtRest f v → AreFindable f v loose →
+    ((s : ℕ) → IsTouched s loose xs → Contains touched s) → ((q : ℕ) (x : Inbound F) → slice_get streams q ≡ Some x → v.next q ≡ x.next) →
+    ((q : ℕ) (x : Inbound F) → slice_get streams q ≡ Some x → v.skip (unordered_lane q) ≡ x.skip) → AreQuiet f jump xs v touched streams
+are_quiet f jump xs v loose touched streams rest findable all next skip q x got off = record {
   ordered = let none = unnamed f (ordered_lane q) x.next xs (λ y there same. off (all q (inr (y, there, same)))) in omega (arith, none);
   unordered = let none = unnamed f (unordered_lane q) x.skip xs (λ y there same. off (all q (inr (y, there, same)))) in omega (arith, none);
   none = subst (λ (n : ℕ). HasNoWhole f v.kept (ordered_lane q) n) (next q x got) (rest.idle.ordered q).none;
   clear = subst (λ (n : ℕ). from_number n (of_lane (ordered_lane q) v.kept) ≡ of_lane (ordered_lane q) v.kept) (next q x got) clear_there;
-  loose = none_of_lane (of_lane (unordered_lane q) v.kept)
-      (λ y has. let says = of_says (unordered_lane q) v.kept y has in
-      off (all q (inl (subst (Contains loose) (ap (λ (l : Lane). l.stream) says.1) (listed y says.0 (ap (λ (l : Lane). l.kind) says.1))))));
+  stays = none_left f jump x.skip q loose (of_lane (unordered_lane q) v.kept) (λ there. off (all q (inl there)))
+      (λ y has. let says = of_says (unordered_lane q) v.kept y has in (
+        ap (λ (l : Lane). l.stream) says.1,
+        subst (λ (n : ℕ). IsFindable f loose n y) (ap v.skip says.1 ∙ skip q x got) (findable y says.0 (ap (λ (l : Lane). l.kind) says.1)),
+      ));
 }
   where
     stays : without_below v.kept q (v.next q) ≡ v.kept

@@ -1,5 +1,5 @@
 -- The indexes that came, as they are kept.
-use Rattle.std.specs.Prelude.{◌≡◌, ℕ, ◌+◌, ◌≤◌, Bool, true, ◌||◌, nat_lt, nat_le, List}
+use Rattle.std.specs.Prelude.{◌≡◌, ℕ, ◌+◌, ◌≤◌, Bool, true, ◌||◌, nat_le, List}
 use Rattle.sctp_model.specs.numbers.Limits.{WINDOW}
 use Rattle.sctp_recv.specs.declared.runs.SeenRun.{SeenRun}
 use Rattle.sctp_recv.specs.Runs.{in_runs, AreRuns}
@@ -22,9 +22,9 @@ seen_of c rs = record { cumulative = c; runs = rs }
 abbrev pub is_reached : SeenKept → ℕ → Bool
 is_reached k i = nat_le i k.cumulative || in_runs k.runs i
 
--- the same with its room: so many runs are there, and there is memory for so many
-abbrev pub with_room : SeenKept → (len capacity : ℕ) → SeenRoom
-with_room k len capacity = record { kept = k; room = nat_lt len capacity }
+-- the same, and whether there is room
+abbrev pub with_room : SeenKept → Bool → SeenRoom
+with_room k r = record { kept = k; room = r }
 
 -- no run has an index past the bound
 abbrev pub AreWithin : (bound : ℕ) → List SeenRun → Type 0

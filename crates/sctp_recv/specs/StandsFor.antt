@@ -1,9 +1,10 @@
 -- Which receiver stands for which view.
-use Rattle.std.specs.Prelude.{◌≡◌, ℕ, suc, ◌^◌, ◌<◌, ◌≤◌, true, List, Some, length}
+use Rattle.std.specs.Prelude.{◌≡◌, ℕ, suc, ◌^◌, ◌<◌, ◌≤◌, true, false, List, Some, length}
 use Rattle.std.specs.List.{Contains}
 use Rattle.sctp_model.specs.numbers.Lists.{Has}
 use Rattle.sctp_model.specs.numbers.Serial.{COUNTS}
-use Rattle.sctp_model.specs.messages.Format.{Format, Unordered, ordered_lane, unordered_lane}
+use Rattle.sctp_model.specs.messages.Format.{Format, Plain, Interleaved, Unordered, ordered_lane, unordered_lane}
+use Rattle.sctp_model.specs.messages.Framing.{is_skipped}
 use Rattle.sctp_model.specs.messages.Pieces.{Piece}
 use Rattle.sctp_model.specs.receiver.ReceiverView.{ReceiverView, held_bytes}
 use Rattle.sctp_model.specs.receiver.Laws.{IsFilledOnce, IsAtRest}
@@ -39,10 +40,16 @@ pub record KeepsView (f : Format) (k : ReceiverKept) (v : ReceiverView) : Type 0
 abbrev pub Stands : {F : Type 0} → Format → Receiver F → ReceiverView → Type 0
 Stands f r v = KeepsView f (kept_of r) v × AreFiled f v.kept r.streams.items
 
--- the streams of all unordered chunks that are kept are listed
-abbrev pub AreListed : List Piece → List ℕ → Type 0
-AreListed kept streams = (x : Piece) → Has kept x → x.lane.kind ≡ Unordered → Contains streams x.lane.stream
+-- How a FORWARD finds an unordered chunk that it leaves behind: under DATA its stream is listed; under I-DATA its number isn't skipped yet, so
+-- that an entry names its stream.
+abbrev pub IsFindable : Format → (streams : List ℕ) → (skip : ℕ) → Piece → Type 0
+IsFindable Plain streams skip x = Contains streams x.lane.stream
+IsFindable Interleaved streams skip x = is_skipped x.number skip ≡ false
+
+-- so are all unordered chunks that are kept
+abbrev pub AreFindable : Format → ReceiverView → (streams : List ℕ) → Type 0
+AreFindable f v streams = (x : Piece) → Has v.kept x → x.lane.kind ≡ Unordered → IsFindable f streams (v.skip x.lane) x
 
 -- the receiver stands for this view, which is at rest
 unfoldable pub StandsFor : {F : Type 0} → Format → Receiver F → ReceiverView → Type 0
-StandsFor f r v = KeepsView f (kept_of r) v × (AreFiled f v.kept r.streams.items × (IsAtRest f v × AreListed v.kept r.loose.items))
+StandsFor f r v = KeepsView f (kept_of r) v × (AreFiled f v.kept r.streams.items × (IsAtRest f v × AreFindable f v r.loose.items))

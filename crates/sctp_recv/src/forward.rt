@@ -81,7 +81,7 @@ fn make_rooms<F: Framing>(streams: &mut Vec<Inbound<F>>, touched: &[u16]) -> Res
     for at in 0..touched.len() {
         let place = usize::from(touched[at]);
         if place < streams.len() {
-            make_room(&mut streams[place])?;
+            make_room(&mut streams[place], 0)?;
         }
     }
     Ok(())

@@ -1,8 +1,8 @@
 //! Handing over: a chunk is kept, and what is due with it goes to what waits for the user (RFC 9260, 6.6; RFC 3758, 3.6).
 
-ghost use Rattle.std.specs.Prelude.{◌≡◌, ◌-◌, ◌⊎◌, ◌^◌, ◌<◌, true, ◌++◌, [], ◌∷◌, ◌≤◌, ℕ, suc, Some, map, length, OnOk, OnErr, IfOk};
+ghost use Rattle.std.specs.Prelude.{◌≡◌, ◌-◌, ◌^◌, ◌<◌, ◌++◌, [], ◌∷◌, ◌≤◌, ℕ, suc, Some, map, length, OnOk, OnErr, IfOk};
 ghost use Rattle.std.specs.VecDeque.{deque_len, deque_capacity};
-ghost use Rattle.sctp_model.specs.messages.Format.{Lane, is_numbered, ordered_lane, unordered_lane};
+ghost use Rattle.sctp_model.specs.messages.Format.{ordered_lane, unordered_lane};
 ghost use Rattle.sctp_model.specs.receiver.Reading.{lane_of};
 ghost use Rattle.sctp_wire.specs.ChunkTree.{piece_meaning};
 ghost use Rattle.sctp_chains.specs.Cells.{Kept};
@@ -11,7 +11,7 @@ ghost use Rattle.sctp_chains.specs.StandsFor.{IsNew};
 ghost use Rattle.sctp_chains.specs.Cells.{counted};
 ghost use Rattle.sctp_recv.specs.Fields.{stream_of};
 ghost use Rattle.sctp_recv.specs.HandedOf.{handed_of, message_bytes};
-ghost use Rattle.sctp_recv.specs.inner.Giving.{sized, HasRoom, HasRoomFor, HasRoomBefore, SameChunks, AreCounted, GivesDue, GivesNewest, GivesBy, lane_in};
+ghost use Rattle.sctp_recv.specs.inner.Giving.{sized, HasRoom, SameChunks, AreCounted, GivesDue, GivesNewest, GivesBy, lane_in};
 
 use crate::inbound::Inbound;
 use crate::message::{Message, message_of};
@@ -49,39 +49,16 @@ fn number_after(number: Option<u32>) -> u32
     }
 }
 
-/// Makes room for all messages that can be taken out of the ordered chunks.
+/// Makes room for all messages that can be taken out of the ordered chunks, and for so many more.
 ///
 /// # Errors
 /// Memory ran out.
-pub(crate) fn make_room<F: Framing>(inbound: &mut Inbound<F>) -> Result<(), NoMemory>
+pub(crate) fn make_room<F: Framing>(inbound: &mut Inbound<F>, more: usize) -> Result<(), NoMemory>
     ensures same { stream_of inbound.new ≡ stream_of inbound.old }
     ensures chunks { SameChunks F.format inbound.old inbound.new }
-    ensures room { OnOk result (HasRoom inbound.new 0) }
+    ensures room { OnOk result (HasRoom inbound.new more) }
 {
-    let most = inbound.ordered.count();
-    inbound.waiting.reserve(most).map_err(|_| NoMemory)
-}
-
-/// Makes room for the messages that are due once a chunk of this number is kept: where there is less than one for each chain and one
-/// more, just for the numbers up to the first that isn't whole then.
-///
-/// # Errors
-/// Memory ran out.
-fn make_due_room<F: Framing>(inbound: &mut Inbound<F>, number: Option<u32>) -> Result<(), NoMemory>
-    ensures same { stream_of inbound.new ≡ stream_of inbound.old }
-    ensures chunks { SameChunks F.format inbound.old inbound.new }
-    ensures room { (l : Lane) (kept : Kept) → lane.StandsFor F.format inbound.old.ordered l kept → is_numbered F.format l.kind ≡ true
-        → OnOk result (HasRoom inbound.new 1 ⊎ HasRoomBefore F.format l kept number inbound.new) }
-{
-    let spare = inbound
-        .waiting
-        .capacity()
-        .saturating_sub(inbound.waiting.len());
-    if inbound.ordered.count() < spare {
-        return Ok(());
-    }
-    let missing = inbound.ordered.first_missing(inbound.next, number);
-    let most = missing.saturating_sub(inbound.next) as usize;
+    let most = inbound.ordered.whole_count().saturating_add(more);
     inbound.waiting.reserve(most).map_err(|_| NoMemory)
 }
 
@@ -99,7 +76,7 @@ fn make_one(waiting: &mut VecDeque<Message>) -> Result<(), NoMemory>
 /// Hands over the whole messages from the next number on, where all ordered numbers below `floor` are skipped; what lies below the
 /// next number then is kept no longer. It answers the bytes handed over.
 pub(crate) fn give_ordered<F: Framing>(inbound: &mut Inbound<F>, stream: u16, floor: u32) -> u32
-    ensures { (kept : Kept) → lane.StandsFor F.format inbound.old.ordered (ordered_lane stream) kept → AreCounted kept → HasRoomFor F.format (ordered_lane stream) kept floor inbound.old
+    ensures { (kept : Kept) → lane.StandsFor F.format inbound.old.ordered (ordered_lane stream) kept → AreCounted kept → HasRoom inbound.old 0
         → GivesDue F.format stream floor kept inbound.old inbound.new result }
 {
     let mut given: u32 = 0;
@@ -135,7 +112,7 @@ fn keep_ordered<F: Framing>(
         → IfOk result (λ bytes. GivesDue F.format piece.now.stream inbound.old.next (counted index (piece_meaning piece.now) number ∷ kept) inbound.old inbound.new bytes) }
     ensures refused { OnErr result ((stream_of inbound.new ≡ stream_of inbound.old) × SameChunks F.format inbound.old inbound.new) }
 {
-    make_due_room(inbound, number)?;
+    make_room(inbound, 1)?;
     inbound.ordered.add(piece, index, number)?;
     let next = inbound.next;
     Ok(give_ordered(inbound, piece.stream, next))

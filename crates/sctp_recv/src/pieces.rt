@@ -2,6 +2,7 @@
 
 ghost use Rattle.std.specs.Prelude.{◌≡◌, ℕ, true, false, ◌&&◌, IfOk, OnOk, OnErr};
 ghost use Rattle.std.specs.List.{Contains};
+ghost use Rattle.sctp_model.specs.messages.Format.{Unordered, is_numbered};
 ghost use Rattle.sctp_model.specs.receiver.ReceiverView.{ReceiverView, IsCumulative};
 ghost use Rattle.sctp_model.specs.receiver.Receiving.{TakesPiece};
 ghost use Rattle.sctp_model.specs.receiver.Reading.{index_at, piece_at};
@@ -19,14 +20,18 @@ use sctp_framing::Framing;
 use sctp_values::{Kind, NoMemory};
 use sctp_wire::Piece;
 
-/// Lists the stream of an unordered message's part among those on which one came, unless it is there.
+/// Lists the stream of an unordered message's part among those on which one came, unless it is there. Where unordered messages have
+/// numbers, an entry of a FORWARD names each stream from which one goes, and none is listed.
 ///
 /// # Errors
 /// Memory ran out, and nothing changed.
-fn list(loose: &mut Vec<u16>, piece: &Piece<'_>) -> Result<(), NoMemory>
+fn list<F: Framing>(loose: &mut Vec<u16>, piece: &Piece<'_>) -> Result<(), NoMemory>
     ensures more { (s : ℕ) → Contains loose.old.items s → Contains loose.new.items s }
-    ensures listed { OnOk result (piece.now.unordered ≡ true → (piece.now.begin && piece.now.end) ≡ false → Contains loose.new.items piece.now.stream) }
+    ensures listed { OnOk result (is_numbered F.format Unordered ≡ false → piece.now.unordered ≡ true → (piece.now.begin && piece.now.end) ≡ false → Contains loose.new.items piece.now.stream) }
 {
+    if F::is_numbered(Kind::Unordered) {
+        return Ok(());
+    }
     if !piece.unordered || (piece.begin && piece.end) {
         return Ok(());
     }
@@ -65,7 +70,7 @@ impl<F: Framing> Receiver<F> {
             }
             Row::NoRoom => Ok(Answer::NoRoom),
             Row::Taken { index, number } => {
-                list(&mut self.loose, piece)?;
+                list::<F>(&mut self.loose, piece)?;
                 self.keep(piece, index, number)?;
                 Ok(Answer::Taken)
             }

@@ -32,7 +32,7 @@ pub struct Receiver<F: Framing> {
     pub(crate) seen: Seen,
     pub(crate) streams: Vec<Inbound<F>>,
     pub(crate) duplicates: Duplicates,
-    /// Rising: the streams on which a part of an unordered message came.
+    /// Rising: the streams on which a part of an unordered message without a number came.
     pub(crate) loose: Vec<u16>,
 }
 

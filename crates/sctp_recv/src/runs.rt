@@ -1,12 +1,10 @@
 //! Runs of indexes in rising order, with an index missing between any two. Nothing here knows of a cumulative index.
 
-ghost use Rattle.std.specs.Prelude.{◌≡◌, ℕ, ◌<◌, ◌≤◌, ◌-◌, ◌&&◌, nat_lt, nat_le, length, OnOk, OnErr, IsOk};
-ghost use Rattle.std.specs.List.{insert};
-ghost use Rattle.std.specs.VecDeque.{deque_len, deque_capacity};
+ghost use Rattle.std.specs.Prelude.{◌≡◌, ℕ, ◌≤◌, ◌-◌, ◌&&◌, true, nat_lt, nat_le, length, OnOk, OnErr, IsOk};
 ghost use Rattle.sctp_recv.specs.Runs.{AreSpaced, in_run, lies_below, begins_by, IsPlace, Gain};
 
-use sctp_values::{NoMemory, put_at};
-use std::collections::VecDeque;
+use sctp_sequence::Sequence;
+use sctp_values::NoMemory;
 
 /// Indexes that came, from the first to the last.
 #[derive(Clone, Copy, Debug, PartialEq, Eq)]
@@ -25,7 +23,7 @@ impl SeenRun {
 }
 
 /// How many runs lie below an index and don't touch it.
-fn below(runs: &VecDeque<SeenRun>, index: u32) -> usize
+fn below(runs: &Sequence<SeenRun>, index: u32) -> usize
     ensures bound { result ≤ length runs.now.items }
     ensures place { AreSpaced runs.now.items → IsPlace (lies_below index) runs.now.items result }
 {
@@ -38,7 +36,7 @@ fn below(runs: &VecDeque<SeenRun>, index: u32) -> usize
 }
 
 /// How many runs lie below an index, have it, or touch it.
-pub(crate) fn upto(runs: &VecDeque<SeenRun>, index: u32) -> usize
+pub(crate) fn upto(runs: &Sequence<SeenRun>, index: u32) -> usize
     ensures bound { result ≤ length runs.now.items }
     ensures place { AreSpaced runs.now.items → IsPlace (begins_by index) runs.now.items result }
 {
@@ -53,10 +51,10 @@ pub(crate) fn upto(runs: &VecDeque<SeenRun>, index: u32) -> usize
 ///
 /// # Errors
 /// Memory ran out, and nothing changed.
-pub(crate) fn insert(runs: &mut VecDeque<SeenRun>, index: u32) -> Result<(), NoMemory>
+pub(crate) fn insert(runs: &mut Sequence<SeenRun>, index: u32) -> Result<(), NoMemory>
     ensures inserted { OnOk result (Gain index runs.old.items runs.new.items) }
     ensures refused { OnErr result (runs.new.items ≡ runs.old.items) }
-    ensures memory { deque_len runs.old < deque_capacity runs.old → IsOk result }
+    ensures memory { runs.old.room ≡ true → IsOk result }
 {
     let at = below(runs, index);
     match upto(runs, index).saturating_sub(at) {
@@ -65,18 +63,22 @@ pub(crate) fn insert(runs: &mut VecDeque<SeenRun>, index: u32) -> Result<(), NoM
                 first: index,
                 last: index,
             };
-            return put_at(runs, at, alone);
+            return runs.insert(at, alone);
         }
         1 => {
-            let run = runs[at];
-            runs[at] = SeenRun {
+            let run = *runs.get(at);
+            let grown = SeenRun {
                 first: run.first.min(index),
                 last: run.last.max(index),
             };
+            let _ = runs.replace(at, grown);
         }
         _ => {
-            let end = runs[at + 1].last;
-            runs[at].last = end;
+            let joined = SeenRun {
+                first: runs.get(at).first,
+                last: runs.get(at + 1).last,
+            };
+            let _ = runs.replace(at, joined);
             let _ = runs.remove(at + 1);
         }
     }

@@ -11,28 +11,27 @@ ghost use Rattle.sctp_recv.specs.SeenStands.{SeenStands, Records, Jumps};
 ghost use Rattle.sctp_model.specs.numbers.Limits.{WINDOW, BLOCK_LIMIT, RUN_LIMIT};
 
 use crate::runs::{SeenRun, insert, upto};
+use sctp_sequence::Sequence;
 use sctp_values::{BLOCK_LIMIT, NoMemory, WINDOW};
 use sctp_wire::{GapBlock, put_block};
 use std::alloc::Global;
-use std::collections::VecDeque;
 use std::marker::Model;
 
 /// The indexes recorded.
 #[derive(Drop)]
 pub(crate) struct Seen {
     cumulative: u32,
-    runs: VecDeque<SeenRun>,
+    runs: Sequence<SeenRun>,
 }
 
 impl Model for Seen {
-    ghost use Rattle.std.specs.VecDeque.{deque_len, deque_capacity};
     ghost use Rattle.sctp_recv.specs.SeenKept.{SeenRoom};
 
     ghost Value = { SeenRoom };
 
     ghost use Rattle.sctp_recv.specs.SeenKept.{IsKept, seen_of, with_room};
 
-    ghost view = { λ s. with_room (seen_of s.cumulative s.runs.items) (deque_len s.runs) (deque_capacity s.runs) };
+    ghost view = { λ s. with_room (seen_of s.cumulative s.runs.items) s.runs.room };
 
     ghost invariant = { λ s. IsKept s.cumulative s.runs.items };
 }
@@ -44,7 +43,7 @@ impl Seen {
     {
         Seen {
             cumulative: 0,
-            runs: VecDeque::new(alloc),
+            runs: Sequence::new(alloc),
         }
     }
 
@@ -77,7 +76,7 @@ impl Seen {
     {
         let told = self.runs.len().min(BLOCK_LIMIT);
         for i in 0..told {
-            put_block(block_above(self.cumulative, self.runs[i]), list)?;
+            put_block(block_above(self.cumulative, *self.runs.get(i)), list)?;
         }
         Ok(())
     }
@@ -94,7 +93,7 @@ impl Seen {
         }
         match upto(&self.runs, index) {
             0 => false,
-            some => self.runs[some - 1].has(index),
+            some => self.runs.get(some - 1).has(index),
         }
     }
 
@@ -106,7 +105,7 @@ impl Seen {
         ensures same { self.new.kept ≡ self.old.kept }
         ensures room { OnOk result (self.new.room ≡ true) }
     {
-        self.runs.reserve(1).map_err(|_| NoMemory)
+        self.runs.reserve()
     }
 
     /// Records an index that was not reached, at most 32,767 above the cumulative one. Another changes nothing.
@@ -155,14 +154,18 @@ fn block_above(index: u32, run: SeenRun) -> GapBlock
 }
 
 /// Moves the cumulative index up to an index, and on to the end of the run that it then touches or lies in. What it passes is dropped.
-fn advance(cumulative: &mut u32, runs: &mut VecDeque<SeenRun>, index: u32)
+fn advance(cumulative: &mut u32, runs: &mut Sequence<SeenRun>, index: u32)
     requires { AreSpaced runs.old.items }
     ensures { IsAdvanced index runs.old.items (seen_of cumulative.new runs.new.items) }
 {
+    if runs.is_empty() {
+        *cumulative = index;
+        return;
+    }
     let passed = upto(runs, index);
     *cumulative = match passed {
         0 => index,
-        some => runs[some - 1].last.max(index),
+        some => runs.get(some - 1).last.max(index),
     };
     for _ in 0..passed {
         let _ = runs.pop_front();

@@ -1,5 +1,5 @@
 -- A fragment is filed.
-use Rattle.std.specs.Prelude.{◌≡◌, ℕ, suc, ◌+◌, ◌<◌, ◌≤◌, true, false, List, ◌++◌, length, get_or, set, take, drop, Option, Some, None}
+use Rattle.std.specs.Prelude.{◌≡◌, ℕ, suc, ◌+◌, ◌-◌, ◌<◌, ◌≤◌, true, false, List, ◌++◌, length, get_or, set, take, drop, Option, Some, None}
 use Rattle.std.specs.List.{remove}
 use Rattle.std.specs.VecDeque.{deque_len, deque_capacity}
 use Rattle.sctp_model.specs.numbers.Lists.{Has}
@@ -7,6 +7,7 @@ use Rattle.sctp_chains.specs.Same.{AreSame}
 use Rattle.sctp_chains.specs.Cells.{Cell}
 use Rattle.sctp_chains.specs.declared.chain.Chain.{Chain}
 use Rattle.sctp_chains.specs.Links.{ChainKept, cells_in, cells_of, is_linked, join, AreChains}
+use Rattle.sctp_chains.specs.inner.Finding.{AreOpen}
 
 -- So many chains at the front lie below a rank, and none behind them does.
 pub record IsPlace (rank : ℕ) (cs : List ChainKept) (k : ℕ) : Type 0 where
@@ -31,6 +32,10 @@ IsLinkBehind cs k a (Some j) = (j ≡ k) × (j < length cs) × ((c : ChainKept) 
 abbrev pub IsJoined : (old : List ChainKept) → (left : ℕ) → ChainKept → (right : ℕ) → (new : List ChainKept) → Type 0
 IsJoined old left a right new =
     (c d : ChainKept) → c ≡ get_or old left c → d ≡ get_or old right d → new ≡ remove (set old left (join (join c a) d)) right
+
+-- Where a fragment makes a chain at a place whole, those before it that were open are; else as many as were, less one where two chains became one.
+abbrev pub StaysOpen : (old new : List ChainKept) → (at whole : ℕ) → Type 0
+StaysOpen old new at n = (k j : ℕ) → AreOpen k old → j ≤ k - (length old - length new) → (0 < n → j ≤ at) → AreOpen j new
 
 -- The longer of two chains has room for the fragments of the shorter, and one more.
 pub record HasJointRoom (left right : Chain) : Type 0 where

@@ -1,5 +1,5 @@
 -- What searches among chains find.
-use Rattle.std.specs.Prelude.{◌≡◌, ℕ, ◌<◌, ◌≤◌, true, false, List, length, get_or, take, drop, Option, Some, None}
+use Rattle.std.specs.Prelude.{◌≡◌, ℕ, ◌<◌, ◌≤◌, ◌⊎◌, true, false, List, length, get_or, take, drop, Option, Some, None}
 use Rattle.sctp_model.specs.numbers.Lists.{Has}
 use Rattle.sctp_chains.specs.Links.{ChainKept, is_whole}
 use Rattle.sctp_chains.specs.declared.search.Found.{Found}
@@ -29,6 +29,20 @@ IsWholeHere cs k (Some w) = (w.at ≡ k) × ((c : ChainKept) × IsWholeAt cs w c
 abbrev pub IsWholeWithRank : List ChainKept → ℕ → Option Found → Type 0
 IsWholeWithRank cs r None = (c : ChainKept) → Has cs c → IsIn r c → is_whole c ≡ false
 IsWholeWithRank cs r (Some w) = (c : ChainKept) × IsWholeAt cs w c × IsIn r c
+
+-- the first k chains are open: none of them is whole
+abbrev pub AreOpen : (k : ℕ) → List ChainKept → Type 0
+AreOpen k cs = (c : ChainKept) → Has (take k cs) c → is_whole c ≡ false
+
+-- From place b to place k no chain is whole, and what lies behind k lies behind b.
+pub record IsOver (cs : List ChainKept) (b k : ℕ) : Type 0 where
+  pub between : (c : ChainKept) → Has (take k cs) c → Has (take b cs) c ⊎ (is_whole c ≡ false)
+  pub behind : (c : ChainKept) → Has (drop k cs) c → Has (drop b cs) c
+
+-- Place k is the first from place b on whose chain is whole or begins past a rank, or no chain stands there.
+pub record IsStop (last : ℕ) (cs : List ChainKept) (b k : ℕ) : Type 0 where
+  pub over : IsOver cs b k
+  pub here : (c : ChainKept) → k < length cs → c ≡ get_or cs k c → c.first ≤ last → is_whole c ≡ true
 
 -- the first whole chain that begins within these ranks, or that none does
 abbrev pub IsFirstWhole : List ChainKept → (from last : ℕ) → Option Found → Type 0

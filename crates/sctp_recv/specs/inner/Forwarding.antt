@@ -68,7 +68,7 @@ pub record IsQuiet {F : Type 0} (f : Format) (jump : ℕ) (xs : List SkipMeaning
   pub unordered : lowest_after f (unordered_lane q) x.skip xs ≡ x.skip
   pub none : HasNoWhole f v.kept (ordered_lane q) x.next
   pub clear : from_number x.next (of_lane (ordered_lane q) v.kept) ≡ of_lane (ordered_lane q) v.kept
-  pub loose : of_lane (unordered_lane q) v.kept ≡ []
+  pub stays : stay f jump x.skip (of_lane (unordered_lane q) v.kept) ≡ of_lane (unordered_lane q) v.kept
 
 -- on none but these streams
 abbrev pub AreQuiet : {F : Type 0} → Format → (jump : ℕ) → List SkipMeaning → ReceiverView → (touched : List ℕ) → List (Inbound F) → Type 0

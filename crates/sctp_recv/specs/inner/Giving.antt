@@ -1,5 +1,5 @@
 -- What handing over leaves.
-use Rattle.std.specs.Prelude.{◌≡◌, ℕ, suc, ◌+◌, ◌-◌, ◌^◌, ◌<◌, ◌≤◌, ◌⊎◌, min, Bool, true, false, List, [], ◌∷◌, ◌++◌, length, Option, Some}
+use Rattle.std.specs.Prelude.{◌≡◌, ℕ, suc, ◌+◌, ◌-◌, ◌^◌, ◌<◌, ◌≤◌, ◌⊎◌, min, Bool, true, false, List, [], ◌∷◌, ◌++◌, length, Some}
 use Rattle.std.specs.VecDeque.{deque_len, deque_capacity}
 use Rattle.sctp_model.specs.numbers.Lists.{Has}
 use Rattle.sctp_model.specs.numbers.Serial.{COUNTS}
@@ -8,11 +8,11 @@ use Rattle.sctp_model.specs.messages.Pieces.{Piece}
 use Rattle.sctp_model.specs.numbers.Limits.{WINDOW}
 use Rattle.sctp_model.specs.receiver.ReceiverView.{Handed, ReceiverView, size_of_messages}
 use Rattle.sctp_model.specs.messages.Whole.{text_of}
-use Rattle.sctp_model.specs.receiver.Receiving.{HasNoWhole, IsDue, IsWholeWith, HasNoWholeWith, message_of, without_message}
+use Rattle.sctp_model.specs.receiver.Receiving.{IsDue, IsWholeWith, HasNoWholeWith, message_of, without_message}
 use Rattle.sctp_chains.specs.StandsFor as lane
 use Rattle.sctp_chains.specs.declared.chains.Chains.{Chains}
-use Rattle.sctp_chains.specs.StandsFor.{chain_count}
-use Rattle.sctp_chains.specs.WholeOf.{from_number, IsMissing}
+use Rattle.sctp_chains.specs.StandsFor.{whole_count}
+use Rattle.sctp_chains.specs.WholeOf.{from_number}
 use Rattle.sctp_recv.specs.declared.inbound.Inbound.{Inbound}
 use Rattle.sctp_recv.specs.Fields.{stream_of}
 use Rattle.sctp_model.specs.receiver.KeptOfLane.{of_lane}
@@ -25,26 +25,7 @@ sized n = min n (2 ^ 32 - 1)
 
 -- there is room for all messages that the ordered chunks may make, and for so many more
 abbrev pub HasRoom : {F : Type 0} → Inbound F → ℕ → Type 0
-HasRoom x more = deque_len x.waiting + (chain_count x.ordered + more) ≤ deque_capacity x.waiting
-
--- there is room for as many messages as there are numbers below one that isn't whole, where none is passed over
-pub record HasRoomBelow {F : Type 0} (f : Format) (l : Lane) (kept : List Piece) (floor : ℕ) (x : Inbound F) : Type 0 where
-  pub missing : ℕ
-  pub none : HasNoWhole f kept l missing
-  pub from : x.next ≤ missing
-  pub past : floor ≤ x.next
-  pub room : deque_len x.waiting + (missing - x.next) ≤ deque_capacity x.waiting
-
--- there is room for what can be due: for all chains, or for the numbers up to one that isn't whole
-abbrev pub HasRoomFor : {F : Type 0} → Format → Lane → List Piece → (floor : ℕ) → Inbound F → Type 0
-HasRoomFor f l kept floor x = HasRoom x 0 ⊎ HasRoomBelow f l kept floor x
-
--- there is room for the numbers up to one that isn't whole, also once a chunk of this number is added
-pub record HasRoomBefore {F : Type 0} (f : Format) (l : Lane) (kept : List Piece) (newest : Option ℕ) (x : Inbound F) : Type 0 where
-  pub missing : ℕ
-  pub is : suc missing < COUNTS → IsMissing f l kept newest missing
-  pub from : x.next ≤ missing
-  pub room : deque_len x.waiting + (missing - x.next) ≤ deque_capacity x.waiting
+HasRoom x more = deque_len x.waiting + (whole_count x.ordered + more) ≤ deque_capacity x.waiting
 
 -- the chunks of both kinds are those that they were
 abbrev pub SameChunks : {F : Type 0} → Format → (old new : Inbound F) → Type 0

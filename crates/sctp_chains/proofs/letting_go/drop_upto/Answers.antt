@@ -1,10 +1,11 @@
-use Rattle.std.proofs.Common.{◌≡◌, ◌<◌, ◌≤◌, List, length, map, ap, sym, ◌∙◌, arith}
+use Rattle.std.proofs.Common.{◌≡◌, ◌<◌, ◌≤◌, List, length, map, set, ap, sym, ◌∙◌, arith}
 use Rattle.sctp_chains.specs.declared.chain.Chain.{Chain}
 use Rattle.sctp_chains.specs.Links.{chain_of, whole_in}
 use Rattle.sctp_chains.proofs.ListLemmas.{at_same}
 use Rattle.sctp_chains.proofs.MemoryLemmas.{as_long, one_shorter}
 use Rattle.sctp_chains.proofs.GoingLemmas.{one_more, front_more, none_more, none_left}
 use Rattle.sctp_chains.proofs.WholeCounts.{whole_set, whole_remove}
+use Rattle.sctp_chains.proofs.OpenLemmas.{open_less, kept_removed, kept_cut}
 use Rattle.sctp_chains.proofs.letting_go.drop_upto.Goals as goal
 use Rattle.sctp_chains.proofs.letting_go.drop_upto.Goals.{then-loop-chains-test+else-index-upto, else-loop-chains-test, else-at-len-via-then-at-len+else-index-upto-2, else-at-len-via-else-at-len}
 
@@ -23,6 +24,10 @@ loop-chains-preserved-in-Some c =
           let step = whole_remove cs k x l c.in-Some.ensures.value in let is = ap (λ (xs : List Chain). whole_in (map chain_of xs)) c.in-Some.ensures.items in let before = c.loop-chains.invariant.whole in omega (arith, step, is, before);
       fewer =
           let one = one_shorter cs k l in let all = ap length c.in-Some.ensures.items in let before = c.loop-chains.invariant.fewer in omega (arith, one, all, before);
+      passed = λ n h.
+          let one = one_shorter cs k l in let all = ap length c.in-Some.ensures.items in let before = c.loop-chains.invariant.fewer in
+          open_less _ _ (map chain_of c.remove_at.new.chains.items) (kept_removed cs c.remove_at.new.chains.items k _ c.in-Some.ensures.items (c.loop-chains.invariant.passed n h))
+          (omega (arith, one, all, before));
     }
 
 pub returns-then-index-upto-2-clause-left : goal.returns-then-index-upto-2-clause-left
@@ -69,3 +74,11 @@ returns-then-index-upto-2-clause-whole c =
 
 pub returns-else-at-len-clause-whole : goal.returns-else-at-len-clause-whole
 returns-else-at-len-clause-whole c = c.loop-chains.invariant.whole
+
+pub returns-then-index-upto-2-clause-passed : goal.returns-then-index-upto-2-clause-passed
+returns-then-index-upto-2-clause-passed c = λ n h.
+    let cs = c.loop-chains.chains.items in
+    let l : c.args.at < length cs = omega (arith, c.if-at-len.true, c.len-2.ensures) in
+    let all = as_long cs c.args.at c.trim-left.new.chain in
+    open_less _ _ (map chain_of (set cs c.args.at c.trim-left.new.chain)) (kept_cut cs c.args.at _ c.index_mut.result.now c.trim-left.new.chain l c.index_mut.ensures.value c.trim-left.ensures.whole (c.loop-chains.invariant.passed n h))
+    (omega (arith, all))

@@ -1,5 +1,6 @@
-use Rattle.std.proofs.Common.{◌≤◌, length, map}
+use Rattle.std.proofs.Common.{ℕ, ◌-◌, ◌≤◌, length, map}
 use Rattle.sctp_chains.specs.Links.{chain_of, whole_in}
+use Rattle.sctp_chains.specs.inner.Finding.{AreOpen}
 use Rattle.sctp_chains.proofs.TrimLemmas.{Drops}
 use Rattle.sctp_chains.proofs.letting_go.drop_upto.Given as goal
 
@@ -8,6 +9,7 @@ invariant-loop-chains l = record {
   drops : Drops l.upto l.at (map chain_of l.initial.chains.items) (map chain_of l.chains.items) l.fn.held l.left;
   whole : whole_in (map chain_of l.chains.items) ≤ whole_in (map chain_of l.initial.chains.items);
   fewer : length l.chains.items ≤ length l.initial.chains.items;
+  passed : (k : ℕ) → AreOpen k (map chain_of l.initial.chains.items) → AreOpen (k - (length l.initial.chains.items - length l.chains.items)) (map chain_of l.chains.items);
 }
 
 abbrev pub decreases-loop-chains : goal.decreases-loop-chains

@@ -1,40 +1,42 @@
-use Rattle.std.proofs.Common.{◌≡◌, ◌<◌, ◌≤◌, ◌+◌, suc, length, map, sym, ◌∙◌, subst, arith}
-use Rattle.sctp_chains.specs.Links.{chain_of}
-use Rattle.sctp_chains.proofs.MemoryLemmas.{at_kept, length_kept}
-use Rattle.sctp_chains.proofs.SearchLemmas.{IsPassed, passed_on, first_found, none_further, none_at_all}
+use Rattle.std.proofs.Common.{arith}
+use Rattle.sctp_chains.proofs.SearchLemmas.{stopped_here, stopped_past, stopped_end}
 use Rattle.sctp_chains.proofs.search.first_whole.Goals as goal
+use Rattle.sctp_chains.proofs.search.first_whole.Goals.{then-at-len+then-index-last, else-at-len, else-at-len-via-then-at-len+else-index-last, else-at-len-via-else-at-len}
 
-pub returns-then-index-last : goal.returns-then-index-last
-returns-then-index-last c = λ chains.
+pub returns-then-begin-passed-clause-found : goal.returns-then-begin-passed-clause-found
+returns-then-begin-passed-clause-found c = λ chains opens.
     let cs = c.args.chains.now.items in
-    let k = c.loop-at.at in
-    let x = c.index.result.now in
-    let l : k < length cs = omega (arith, c.loop-at-test.true, c.len-at-end.ensures) in
-    let less : k < length (map chain_of cs) = let n = length_kept cs in omega (arith, l, n) in
-    none_further (map chain_of cs) chains c.args.from c.args.last k (chain_of x) less (sym (at_kept cs k x l c.index.ensures (chain_of x))) (c.loop-at.invariant chains) c.if-index-last.true
+    let m = c.max.ensures in
+    let start = c.start-begin.ensures.place in
+    elim c.if-at-len.branch [
+      | then-at-len+then-index-last w ↦
+          rw w.found-is (stopped_here cs c.args.from c.args.last c.start-begin.result c.args.passed c.max.result c.stop-at.result m start c.stop-at.ensures chains opens w.index.result.now
+          w.whole_at-found.result (omega (arith, w.if-at-len.true, c.len.ensures)) w.index.ensures w.if-index-last.true w.whole_at-found.ensures)
+      | else-at-len w ↦ elim w.else-at-len.branch [
+        | else-at-len-via-then-at-len+else-index-last u ↦
+            rw w.found-is (stopped_past cs c.args.from c.args.last c.start-begin.result c.args.passed c.max.result c.stop-at.result m start c.stop-at.ensures chains opens u.index.result.now
+            (omega (arith, u.if-at-len.true, c.len.ensures)) u.index.ensures (let high = u.if-index-last.false in omega (arith, high)))
+        | else-at-len-via-else-at-len u ↦
+            rw w.found-is (stopped_end cs c.args.from c.args.last c.start-begin.result c.args.passed c.max.result c.stop-at.result m start c.stop-at.ensures chains opens
+            (let past = u.if-at-len.false in omega (arith, past, c.len.ensures)))
+      ]
+    ]
 
-pub returns-then-is_some : goal.returns-then-is_some
-returns-then-is_some c = λ chains.
+pub returns-else-begin-passed-clause-found : goal.returns-else-begin-passed-clause-found
+returns-else-begin-passed-clause-found c = λ chains opens.
     let cs = c.args.chains.now.items in
-    let k = c.loop-at.at in
-    let x = c.index.result.now in
-    let l : k < length cs = omega (arith, c.loop-at-test.true, c.len-at-end.ensures) in
-    let less : k < length (map chain_of cs) = let n = length_kept cs in omega (arith, l, n) in
-    let high : x.first ≤ c.args.last = omega (arith, c.if-index-last.false) in
-    first_found (map chain_of cs) chains c.args.from c.args.last k (chain_of x) c.whole_at-found.result less (sym (at_kept cs k x l c.index.ensures (chain_of x))) (c.loop-at.invariant chains)
-    high c.whole_at-found.ensures (sym c.is_some.ensures ∙ c.if-is_some.true)
-
-pub loop-at-preserved : goal.loop-at-preserved
-loop-at-preserved c = λ chains.
-    let cs = c.args.chains.now.items in
-    let k = c.loop-at.at in
-    let less : k < length (map chain_of cs) = let n = length_kept cs in omega (arith, c.loop-at-test.true, c.len-at-end.ensures, n) in
-    let next : suc k ≡ k + 1 = omega arith in
-    subst (IsPassed (map chain_of cs) chains c.args.from) next
-    (passed_on (map chain_of cs) chains c.args.from k c.whole_at-found.result less (c.loop-at.invariant chains) c.whole_at-found.ensures (sym c.is_some.ensures ∙ c.if-is_some.false))
-
-pub returns : goal.returns
-returns c = λ chains.
-    let cs = c.args.chains.now.items in
-    let past : length (map chain_of cs) ≤ c.loop-at.at = let n = length_kept cs in omega (arith, c.loop-at-test.false, c.len-at-end.ensures, n) in
-    none_at_all (map chain_of cs) chains c.args.from c.args.last c.loop-at.at past (c.loop-at.invariant chains)
+    let m = c.max.ensures in
+    let start = c.start-begin.ensures.place in
+    elim c.if-at-len.branch [
+      | then-at-len+then-index-last w ↦
+          rw w.found-is (stopped_here cs c.args.from c.args.last c.start-begin.result c.args.passed c.max.result c.stop-at.result m start c.stop-at.ensures chains opens w.index.result.now
+          w.whole_at-found.result (omega (arith, w.if-at-len.true, c.len.ensures)) w.index.ensures w.if-index-last.true w.whole_at-found.ensures)
+      | else-at-len w ↦ elim w.else-at-len.branch [
+        | else-at-len-via-then-at-len+else-index-last u ↦
+            rw w.found-is (stopped_past cs c.args.from c.args.last c.start-begin.result c.args.passed c.max.result c.stop-at.result m start c.stop-at.ensures chains opens u.index.result.now
+            (omega (arith, u.if-at-len.true, c.len.ensures)) u.index.ensures (let high = u.if-index-last.false in omega (arith, high)))
+        | else-at-len-via-else-at-len u ↦
+            rw w.found-is (stopped_end cs c.args.from c.args.last c.start-begin.result c.args.passed c.max.result c.stop-at.result m start c.stop-at.ensures chains opens
+            (let past = u.if-at-len.false in omega (arith, past, c.len.ensures)))
+      ]
+    ]

@@ -1,4 +1,4 @@
-use Rattle.std.proofs.Common.{map, ◌≡◌, ℕ, ◌+◌, ◌-◌, ◌++◌, inl, refl, ◌∙◌, subst}
+use Rattle.std.proofs.Common.{map, ◌≡◌, ℕ, ◌+◌, ◌-◌, ◌++◌, refl, ◌∙◌, subst}
 use Rattle.sctp_model.specs.messages.Format.{ordered_lane, unordered_lane}
 use Rattle.sctp_model.specs.receiver.ReceiverView.{size_of_pieces, size_of_messages}
 use Rattle.sctp_wire.specs.ChunkTree.{skip_meaning}
@@ -19,7 +19,7 @@ returns g c = λ os us ordered unordered counted room.
     let skip : c.lowest_after-inbound.result ≡ lowest_after f (unordered_lane s) old.skip xs = c.lowest_after-inbound.ensures in
     let left = stay f jump (lowest_after f (unordered_lane s) old.skip xs) us in
     let stays = subst (λ (n : ℕ). lane.StandsFor f c.let_go.new.self (unordered_lane s) (stay f jump n us)) skip (c.let_go.ensures (unordered_lane s) us unordered refl) in
-    let gives = c.give_ordered-given.ensures os ordered counted (inl room) in
+    let gives = c.give_ordered-given.ensures os ordered counted room in
     let new_unordered = gives.others (unordered_lane s) left stays in
     let before : c.kept_bytes-before.result ≡ sized (size_of_pieces os + size_of_pieces us) = c.kept_bytes-before.ensures (ordered_lane s) (unordered_lane s) os us ordered unordered in
     let after : c.kept_bytes.result ≡ sized (size_of_pieces (from_number gives.next os) + size_of_pieces left) =

@@ -15,7 +15,7 @@ use Rattle.sctp_recv.specs.Fields.{stream_of}
 use Rattle.sctp_recv.specs.ReceiverKept.{StreamKept}
 use Rattle.sctp_recv.proofs.StreamLemmas.{size_append}
 use Rattle.sctp_recv.proofs.DueLemmas.{IsRest, rest_first, rest_next, IsDueSoFar, due_first, due_more, due_end}
-use Rattle.sctp_recv.proofs.GiveLemmas.{ordered_numbered, room_spare, room_after}
+use Rattle.sctp_recv.proofs.GiveLemmas.{ordered_numbered}
 use Rattle.sctp_recv.proofs.give.give_ordered.Goals as goal
 
 pub loop-whole-init : goal.loop-whole-init
@@ -47,8 +47,9 @@ loop-whole-preserved g c = λ kept stands counted room.
     let made : handed_of c.message_of.result ≡ message_of f t.head t.rest = c.message_of.ensures f t.head t.rest t.made t.whole.2.0 in
     let low : old.next ≤ n = t.low in
     let high : n ≤ max old.next c.args.floor = let h = t.high in omega (arith, h, c.max.ensures) in
-    let fewer = c.in-Some.ensures.count in
-    let spare : deque_len old.waiting < deque_capacity old.waiting = room_spare f (ordered_lane s) so.rest c.args.floor n _ old (t.head ∷ t.rest) so.room t.whole low high fewer in
+    let fewer = c.in-Some.ensures.whole (ordered_lane s) so.rest so.left in
+    let room = so.room in
+    let spare : deque_len old.waiting < deque_capacity old.waiting = omega (arith, room, fewer) in
     let waits : map handed_of c.wait-bytes.new.waiting.items ≡ map handed_of start.waiting.items ++ (so.messages ++ message_of f t.head t.rest ∷ []) =
     c.wait-bytes.ensures.waits spare ∙ ap (λ (hs : List Handed). hs ++ handed_of c.message_of.result ∷ []) (ap (λ (a : StreamKept). a.waiting) so.stream)
     ∙ append_assoc (map handed_of start.waiting.items) so.messages (handed_of c.message_of.result ∷ [])
@@ -68,7 +69,7 @@ loop-whole-preserved g c = λ kept stands counted room.
       stream = λ i. record { next = c.number_after-inbound.result; skip = skip i; waiting = waits i };
       others = so.others;
       bytes = omega (arith, before, both, bytes_is, c.saturating_add-given.ensures, c.wait-bytes.ensures.bytes);
-      room = room_after f (ordered_lane s) so.rest c.args.floor n old _ (t.head ∷ t.rest) so.room t.whole low high fewer next c.wait-bytes.ensures.len c.wait-bytes.ensures.room;
+      room = omega (arith, room, fewer, c.wait-bytes.ensures.len, c.wait-bytes.ensures.room);
     }
 
 pub returns : goal.returns

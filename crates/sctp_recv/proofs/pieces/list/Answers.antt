@@ -5,7 +5,7 @@ use Rattle.sctp_recv.proofs.RestLemmas.{still_there}
 use Rattle.sctp_recv.proofs.pieces.list.Goals as goal
 
 pub returns-in_ok-map_err-clause-more : goal.returns-in_ok-map_err-clause-more
-returns-in_ok-map_err-clause-more c = λ s there.
+returns-in_ok-map_err-clause-more g c = λ s there.
     let old = c.args.loose.now.items in
     let put : c.insert.new.self.items ≡ insert old c.in-Err.at c.args.piece.now.stream = grind (arith, common_steps) in
     rw put (still_there old c.in-Err.at c.args.piece.now.stream s there)

@@ -11,5 +11,5 @@ returns-clause-place c = λ spaced.
     let before = c.saturating_sub-before.result in
     let test = λ (r : SeenRun). nat_lt r.last before in
     let point = c.partition_point.ensures.partitioned test (always_returns_same _ _ _ (λ a r f k. search (rules, of_calls))) (ends_parted before runs spaced) in
-    let place = placed test runs c.partition_point.result (omega (arith, c.partition_point.ensures.bound, c.args.runs.now.ok)) point in
+    let place = placed test runs c.partition_point.result (omega (arith, c.partition_point.ensures.bound)) point in
     subst (λ (b : ℕ). IsPlace (λ (r : SeenRun). nat_lt r.last b) runs c.partition_point.result) c.saturating_sub-before.ensures place

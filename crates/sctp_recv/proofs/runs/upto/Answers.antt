@@ -8,4 +8,4 @@ pub returns-clause-place : goal.returns-clause-place
 returns-clause-place c = λ spaced.
     let runs = c.args.runs.now.items in
     let point = c.partition_point.ensures.partitioned (begins_by c.args.index) (always_returns_same _ _ _ (λ a r f k. search (rules, of_calls))) (by_parted c.args.index runs spaced) in
-    placed (begins_by c.args.index) runs c.partition_point.result (omega (arith, c.partition_point.ensures.bound, c.args.runs.now.ok)) point
+    placed (begins_by c.args.index) runs c.partition_point.result (omega (arith, c.partition_point.ensures.bound)) point

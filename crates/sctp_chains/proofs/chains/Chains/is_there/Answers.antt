@@ -12,5 +12,5 @@ pub returns : goal.returns
 unfolding StandsFor
 returns g c = λ l kept stands numbered.
     there_told g.F.Framing.format l (map chain_of c.args.self.now.filed.chains.items) c.args.self.now.held kept stands c.args.number c.rank_at-lower.result c.rank_at-upper.result
-    c.rank_at-lower.ensures c.rank_at-upper.ensures numbered c.args.newest (sym c.is_number.ensures ∙ c.if-is_number.false) c.find_whole.result c.is_some.result c.is_some.ensures
-    (c.find_whole.ensures stands.chains)
+    c.rank_at-lower.ensures c.rank_at-upper.ensures numbered c.args.newest (sym c.is_number.ensures ∙ c.if-is_number.false) c.first_whole.result.found c.is_some.result c.is_some.ensures
+    (c.first_whole.ensures.found stands.chains)

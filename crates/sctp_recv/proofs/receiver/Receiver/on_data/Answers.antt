@@ -5,13 +5,13 @@ use Rattle.sctp_model.specs.receiver.Reading.{index_at, piece_at}
 use Rattle.sctp_wire.specs.ChunkTree.{piece_meaning}
 use Rattle.sctp_recv.specs.AnswerOf.{NeedsMemory}
 use Rattle.sctp_recv.specs.KeptOf.{kept_of}
-use Rattle.sctp_recv.specs.StandsFor.{AreListed, StandsFor}
+use Rattle.sctp_recv.specs.StandsFor.{AreFindable, StandsFor}
 use Rattle.std.specs.declared.vec.Vec.{Vec}
 use Rattle.std.specs.declared.alloc.Global.{Global}
 use Rattle.sctp_model.specs.receiver.Receiving.{recorded}
 use Rattle.sctp_model.specs.receiver.PieceTaken.{Duplicate, NoSuchStream, Passed, Kept, noted, PieceTaken}
 use Rattle.sctp_model.proofs.receiver.AtRest.{piece_at_rest}
-use Rattle.sctp_recv.proofs.RestLemmas.{unordered_is, listed_taken}
+use Rattle.sctp_recv.proofs.RestLemmas.{unordered_is, found_more, findable_taken}
 use Rattle.sctp_recv.proofs.ReceiverSteps.{cumulative_is}
 use Rattle.sctp_recv.proofs.RecordedLemmas.{keeps_new, keeps_same, keeps_duplicates, keeps_noted}
 use Rattle.sctp_recv.proofs.receiver.Receiver.on_data.Goals as goal
@@ -70,12 +70,12 @@ returns-in_ok-keep-in-Taken-clause-step g c = λ v w.
     let old = c.args.self.now.loose.items in
     let loose = c.list.new.loose.items in
     let row = c.in-Taken.ensures v w in
-    let m = c.in_ok-keep-in-Taken.ensures.kept v (w.0, (w.1.0, (w.1.1.0, λ y has kind. c.list.ensures.more y.lane.stream (w.1.1.1 y has kind)))) row.1 in
+    let m = c.in_ok-keep-in-Taken.ensures.kept v (w.0, (w.1.0, (w.1.1.0, λ y has kind. found_more g.F.Framing.format c.args.self.now.loose.items c.list.new.loose.items (v.skip y.lane) y c.list.ensures.more (w.1.1.1 y has kind)))) row.1 in
     let taken : PieceTaken f v p Kept m.0 = record { c = s.cumulative; cumulative = cumulative_is s v w.0.seen; answer = sym row.0; leaves = m.1 } in
     let rest = piece_at_rest f v p Kept m.0 w.1.1.0 taken in
-    let listed : AreListed m.0.kept loose = listed_taken f v m.0 x old loose m.1 rest.idle w.1.1.1 c.list.ensures.more
-    (λ kind part. c.in_ok-list-in-Taken.ensures.listed (unordered_is p.stream p.unordered kind) part) in
-    let still = subst (λ (l : Vec ℕ Global). AreListed m.0.kept l.items) (sym c.keep.ensures.loose) listed in
+    let findable = findable_taken f v m.0 x old loose m.1 rest.idle row.1.wanted w.1.1.1 c.list.ensures.more
+    (λ plain kind part. c.in_ok-list-in-Taken.ensures.listed plain (unordered_is p.stream p.unordered kind) part) in
+    let still = subst (λ (l : Vec ℕ Global). AreFindable f m.0 l.items) (sym c.keep.ensures.loose) findable in
     (m.0, taken, (m.2.0, (m.2.1, (rest, still))))
 
 pub returns-in_err-note-in-Duplicate-clause-memory : goal.returns-in_err-note-in-Duplicate-clause-memory
@@ -131,9 +131,9 @@ returns-in_err-list-in-Taken-clause-memory g c = λ v w.
 pub returns-in_err-list-in-Taken-clause-refused : goal.returns-in_err-list-in-Taken-clause-refused
 unfolding StandsFor
 returns-in_err-list-in-Taken-clause-refused g c = λ v w.
-    if_err c.from_residual-in_err-list-in-Taken.result (w.0, (w.1.0, (w.1.1.0, λ y has kind. c.list.ensures.more y.lane.stream (w.1.1.1 y has kind))))
+    if_err c.from_residual-in_err-list-in-Taken.result (w.0, (w.1.0, (w.1.1.0, λ y has kind. found_more g.F.Framing.format c.args.self.now.loose.items c.list.new.loose.items (v.skip y.lane) y c.list.ensures.more (w.1.1.1 y has kind))))
 
 pub returns-in_err-keep-in-Taken-clause-refused : goal.returns-in_err-keep-in-Taken-clause-refused
 unfolding StandsFor
 returns-in_err-keep-in-Taken-clause-refused g c = λ v w.
-    if_err c.from_residual-in_err-keep-in-Taken.result (c.in_err-keep-in-Taken.ensures.refused v (w.0, (w.1.0, (w.1.1.0, λ y has kind. c.list.ensures.more y.lane.stream (w.1.1.1 y has kind)))))
+    if_err c.from_residual-in_err-keep-in-Taken.result (c.in_err-keep-in-Taken.ensures.refused v (w.0, (w.1.0, (w.1.1.0, λ y has kind. found_more g.F.Framing.format c.args.self.now.loose.items c.list.new.loose.items (v.skip y.lane) y c.list.ensures.more (w.1.1.1 y has kind)))))

@@ -15,7 +15,7 @@ use Rattle.std.specs.List.Sorted.{IsNonDecreasing, IsPermutation}
 use Rattle.sctp_recv.proofs.TouchedLemmas.{are_quiet}
 use Rattle.sctp_recv.proofs.ResultLemmas.{if_err}
 use Rattle.sctp_recv.proofs.RecordedLemmas.{keeps_same}
-use Rattle.sctp_recv.proofs.ForwardKeeps.{to_pass, keeps_forwarded}
+use Rattle.sctp_recv.proofs.ForwardKeeps.{stream_is, to_pass, keeps_forwarded}
 use Rattle.sctp_recv.proofs.receiver.Receiver.pass_to.Goals as goal
 
 pub returns-in_err-entries-clause-refused : goal.returns-in_err-entries-clause-refused
@@ -48,7 +48,8 @@ returns-clause-passed g c = λ v w x skips above named.
     let touched = c.in_ok-touched.touched.items in
     let read = subst (λ (ts : List ℕ). (s : ℕ) → IsTouched s ts c.args.skips.now.skips → Contains touched s) c.deref.ensures.value c.in_ok-touched.ensures.named in
     let all = subst (λ (xs : List SkipMeaning). (s : ℕ) → IsTouched s loose xs → Contains touched s) (sym skips) read in
-    let quiet = are_quiet f i x.skips v loose touched olds w.1.1.0 w.1.1.1 all (λ q z got. (ready.stream q z got).next) in
+    let quiet = are_quiet f i x.skips v loose touched olds w.1.1.0 w.1.1.1 all (λ q z got. (ready.stream q z got).next)
+    (λ q z got. w.0.skip q ∙ ap (λ (a : StreamKept). a.skip) (stream_is f k v x i w.0 above kept_named olds same q z got)) in
     let still = subst (λ (ts : List ℕ). AreQuiet f i c.args.skips.now.skips v ts olds) (sym c.deref-3.ensures.value) (subst (λ (xs : List SkipMeaning). AreQuiet f i xs v touched olds) skips quiet) in
     let rising = subst IsNonDecreasing (sym c.deref-3.ensures.value) c.in_ok-touched.ensures.rising in
     let room = subst (λ (ts : List ℕ). HaveRoom ts (length ts) olds) (c.deref-2.ensures.value ∙ sym c.deref-3.ensures.value) c.in_ok-make_rooms.ensures.room in

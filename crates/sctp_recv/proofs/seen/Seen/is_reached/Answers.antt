@@ -26,6 +26,6 @@ returns-in_default c =
     let next : c.upto.result ≡ suc (c.upto.result - 1) = omega (arith, c.in_default) in
     let less : c.upto.result - 1 < length runs = omega (arith, next, c.upto.ensures.bound) in
     let place = subst (IsPlace (begins_by c.args.index) runs) next (c.upto.ensures.place c.self.invariant.runs.spaced) in
-    let held = held_at runs c.args.index (c.upto.result - 1) c.index.result.now c.self.invariant.runs.spaced less c.index.ensures place in
+    let held = held_at runs c.args.index (c.upto.result - 1) c.get.result.now c.self.invariant.runs.spaced less c.get.ensures place in
     let above : nat_le c.args.index c.self.inside.cumulative ≡ false = let high = c.if-index-self.false in grind (arith, high, nat_tests) in
     rw (← c.self.view_is) (rw (above, held) c.has.ensures)

@@ -16,26 +16,26 @@ loop-i-init c = record { told = no_blocks c.args.list.now.items c.requires; four
 pub block_above-requires-clause-below : goal.block_above-requires-clause-below
 block_above-requires-clause-below c =
     let s = c.self.inside in
-    let less : c.loop-i.i < length s.runs.items = omega (arith, c.loop-i-test.true, c.min-told.ensures, c.len.ensures, s.runs.ok) in
-    let run = run_at s.cumulative _ s.runs.items c.loop-i.i c.index.result.now c.self.invariant.runs c.self.invariant.within less c.index.ensures in
+    let less : c.loop-i.i < length s.runs.items = omega (arith, c.loop-i-test.true, c.min-told.ensures, c.len.ensures) in
+    let run = run_at s.cumulative _ s.runs.items c.loop-i.i c.get.result.now c.self.invariant.runs c.self.invariant.within less c.get.ensures in
     omega (arith, run.0)
 
 pub block_above-requires-clause-order : goal.block_above-requires-clause-order
 block_above-requires-clause-order c =
     let s = c.self.inside in
-    let less : c.loop-i.i < length s.runs.items = omega (arith, c.loop-i-test.true, c.min-told.ensures, c.len.ensures, s.runs.ok) in
-    (run_at s.cumulative _ s.runs.items c.loop-i.i c.index.result.now c.self.invariant.runs c.self.invariant.within less c.index.ensures).1
+    let less : c.loop-i.i < length s.runs.items = omega (arith, c.loop-i-test.true, c.min-told.ensures, c.len.ensures) in
+    (run_at s.cumulative _ s.runs.items c.loop-i.i c.get.result.now c.self.invariant.runs c.self.invariant.within less c.get.ensures).1
 
 pub block_above-requires-clause-near : goal.block_above-requires-clause-near
 block_above-requires-clause-near c =
     let s = c.self.inside in
-    let less : c.loop-i.i < length s.runs.items = omega (arith, c.loop-i-test.true, c.min-told.ensures, c.len.ensures, s.runs.ok) in
-    (run_at s.cumulative _ s.runs.items c.loop-i.i c.index.result.now c.self.invariant.runs c.self.invariant.within less c.index.ensures).2
+    let less : c.loop-i.i < length s.runs.items = omega (arith, c.loop-i-test.true, c.min-told.ensures, c.len.ensures) in
+    (run_at s.cumulative _ s.runs.items c.loop-i.i c.get.result.now c.self.invariant.runs c.self.invariant.within less c.get.ensures).2
 
 pub returns-clause-blocks : goal.returns-clause-blocks
 returns-clause-blocks c =
     let s = c.self.inside in
-    let end : c.loop-i.i ≡ min 64 (length s.runs.items) = omega (arith, c.min-told.ensures, c.len.ensures, s.runs.ok, c.loop-i.auto.i-end, c.loop-i-test.false) in
+    let end : c.loop-i.i ≡ min 64 (length s.runs.items) = omega (arith, c.min-told.ensures, c.len.ensures, c.loop-i.auto.i-end, c.loop-i-test.false) in
     let told = c.loop-i.invariant.told ∙ ap (λ (n : ℕ). map (block_of_run s.cumulative) (take n s.runs.items)) end ∙ ap (map (block_of_run s.cumulative)) (take_min 64 s.runs.items) in
     rw (← c.self.view_is) told
 

@@ -1,0 +1,50 @@
+-- A list in blocks: the first one, the others behind it, and an empty one in reserve.
+use Rattle.std.specs.Prelude.{◌≡◌, ℕ, ◌^◌, ◌-◌, ◌<◌, ◌≤◌, Bool, ◌&&◌, cond, ◌==◌, nat_lt, List, ◌++◌, length, Option, is_some, IfSome}
+use Rattle.std.specs.List.{flat_map, AllByRecursion}
+use Rattle.std.specs.declared.vec.Vec.{Vec}
+use Rattle.std.specs.declared.collections.VecDeque.{VecDeque}
+use Rattle.std.specs.Vec.{vec_len, vec_capacity}
+use Rattle.std.specs.VecDeque.{deque_items, deque_len, deque_capacity}
+use Rattle.sctp_sequence.specs.Kept.{SequenceKept}
+
+module _ {X Z : Type 0} where
+  -- the items of the blocks, one block after another
+  abbrev pub joined : List (VecDeque X Z) → List X
+  joined bs = flat_map deque_items bs
+
+  -- A block behind the first: it has an item, at most 256, and memory for 256.
+  pub record IsBlock (b : VecDeque X Z) : Type 0 where
+    pub some : 0 < deque_len b
+    pub short : deque_len b ≤ 256
+    pub wide : 256 ≤ deque_capacity b
+
+  -- A block in reserve: it has no item, and memory for 256.
+  pub record IsSpare (b : VecDeque X Z) : Type 0 where
+    pub none : deque_len b ≡ 0
+    pub wide : 256 ≤ deque_capacity b
+
+module _ {X Z Y : Type 0} where
+  -- there is one block, and it isn't full
+  abbrev pub is_single : (first : VecDeque X Z) → (rest : Vec (VecDeque X Z) Y) → Bool
+  is_single f r = (vec_len r == 0) && nat_lt (deque_len f) 256
+
+  -- a full block can be halved: a block is in reserve, and has a place among the others
+  abbrev pub can_halve : ℕ → (rest : Vec (VecDeque X Z) Y) → (spare : Option (VecDeque X Z)) → Bool
+  can_halve n r s = is_some s && (nat_lt (vec_len r) (vec_capacity r) && nat_lt n (2 ^ 64 - 1))
+
+  -- one item more can come at any place
+  abbrev pub has_room : ℕ → (first : VecDeque X Z) → (rest : Vec (VecDeque X Z) Y) → (spare : Option (VecDeque X Z)) → Bool
+  has_room n f r s = cond (is_single f r) (nat_lt (deque_len f) (deque_capacity f)) (can_halve n r s)
+
+  -- what is kept of so many items in these blocks
+  abbrev pub sequence_of : ℕ → (first : VecDeque X Z) → (rest : Vec (VecDeque X Z) Y) → (spare : Option (VecDeque X Z)) → SequenceKept X
+  sequence_of n f r s = record { items = f.items ++ joined r.items; room = has_room n f r s }
+
+  -- What always holds of the blocks.
+  pub record AreBlocks (n : ℕ) (f : VecDeque X Z) (r : Vec (VecDeque X Z) Y) (s : Option (VecDeque X Z)) : Type 0 where
+    pub count : n ≡ length (f.items ++ joined r.items)
+    pub short : deque_len f ≤ 256
+    pub some : 0 < vec_len r → 0 < deque_len f
+    pub wide : 0 < vec_len r → 256 ≤ deque_capacity f
+    pub rest : AllByRecursion IsBlock r.items
+    pub spare : IfSome s IsSpare

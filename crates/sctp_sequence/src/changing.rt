@@ -1,0 +1,96 @@
+//! Items come, and are replaced.
+
+ghost use Rattle.std.specs.Prelude.{◌≡◌, ◌<◌, ◌≤◌, ◌++◌, ◌∷◌, [], true, length, slice_index_or, slice_set, OnOk, OnErr, IsOk};
+ghost use Rattle.std.specs.List.{insert};
+
+use crate::blocks::find;
+use crate::coming::{insert_halving_first, insert_later, reserve_block};
+use crate::sequence::{BLOCK, Sequence};
+use sctp_values::NoMemory;
+use std::mem::replace;
+
+impl<T: Drop> Sequence<T> {
+    /// Takes memory for one item more, wherever it comes.
+    ///
+    /// # Errors
+    /// Memory ran out.
+    pub fn reserve(&mut self) -> Result<(), NoMemory>
+        ensures items { self.new.items ≡ self.old.items }
+        ensures room { OnOk result (self.new.room ≡ true) }
+        ensures had { self.old.room ≡ true → IsOk result }
+    {
+        if self.rest.is_empty() && self.first.len() < BLOCK {
+            return self.first.reserve(1).map_err(|_| NoMemory);
+        }
+        if self.count == usize::MAX {
+            return Err(NoMemory);
+        }
+        let alloc = *self.first.allocator();
+        reserve_block(&mut self.spare, alloc)?;
+        self.rest.reserve(1).map_err(|_| NoMemory)
+    }
+
+    /// Puts an item in at a place, before what stands there. There is room for it.
+    pub fn insert_reserved(&mut self, at: usize, item: T)
+        requires at { at ≤ length self.old.items }
+        requires room { self.old.room ≡ true }
+        ensures { self.new.items ≡ insert self.old.items at item }
+    {
+        self.count += 1;
+        let before = self.first.len();
+        if before <= at && !self.rest.is_empty() {
+            return insert_later(&mut self.rest, &mut self.spare, at - before, item);
+        }
+        if before < BLOCK {
+            let _ = self.first.insert(at, item);
+            return;
+        }
+        insert_halving_first(&mut self.first, &mut self.rest, &mut self.spare, at, item);
+    }
+
+    /// Puts an item in at a place, before what stands there.
+    ///
+    /// # Errors
+    /// Memory ran out, and nothing changed.
+    pub fn insert(&mut self, at: usize, item: T) -> Result<(), NoMemory>
+        requires { at ≤ length self.old.items }
+        ensures items { OnOk result (self.new.items ≡ insert self.old.items at item) }
+        ensures unchanged { OnErr result (self.new.items ≡ self.old.items) }
+        ensures memory { self.old.room ≡ true → IsOk result }
+    {
+        self.reserve()?;
+        self.insert_reserved(at, item);
+        Ok(())
+    }
+
+    /// Puts an item in behind all others.
+    ///
+    /// # Errors
+    /// Memory ran out, and nothing changed.
+    pub fn push_back(&mut self, item: T) -> Result<(), NoMemory>
+        ensures items { OnOk result (self.new.items ≡ self.old.items ++ item ∷ []) }
+        ensures unchanged { OnErr result (self.new.items ≡ self.old.items) }
+        ensures memory { self.old.room ≡ true → IsOk result }
+    {
+        self.reserve()?;
+        let end = self.len();
+        self.insert_reserved(end, item);
+        Ok(())
+    }
+
+    /// Puts an item in the place of another, which it hands back.
+    pub fn replace(&mut self, at: usize, item: T) -> T
+        requires { at < length self.old.items }
+        ensures value { result ≡ slice_index_or self.old.items at result }
+        ensures items { self.new.items ≡ slice_set self.old.items at item }
+        ensures room { self.new.room ≡ self.old.room }
+    {
+        let before = self.first.len();
+        if at < before {
+            return replace(&mut self.first[at], item);
+        }
+        let place = find(&self.rest, at - before);
+        let block = &mut self.rest[place.block];
+        replace(&mut block[place.offset], item)
+    }
+}

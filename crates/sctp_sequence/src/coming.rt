@@ -1,0 +1,88 @@
+//! An item comes among blocks, and a full one is halved for it.
+
+ghost use Rattle.std.specs.Prelude.{◌≡◌, ◌<◌, ◌≤◌, ◌++◌, ◌&&◌, true, length, nat_lt, is_some, IfSome, IsSome, OnOk, IsOk, ◌==◌};
+ghost use Rattle.std.specs.List.{insert, AllByRecursion};
+ghost use Rattle.std.specs.Vec.{vec_len, vec_capacity};
+ghost use Rattle.std.specs.VecDeque.{deque_len, deque_capacity};
+ghost use Rattle.sctp_sequence.specs.Blocks.{joined, IsBlock, IsSpare};
+ghost use Rattle.sctp_sequence.specs.declared.sequence.TheConstants.{BLOCK};
+
+use crate::blocks::find_for;
+use crate::halving::insert_halving;
+use crate::sequence::BLOCK;
+use sctp_values::NoMemory;
+use std::alloc::Global;
+use std::collections::VecDeque;
+
+/// Takes memory for a block, where none is in reserve.
+///
+/// # Errors
+/// Memory ran out.
+pub(crate) fn reserve_block<T: Drop>(
+    spare: &mut Option<VecDeque<T>>,
+    alloc: Global,
+) -> Result<(), NoMemory>
+    requires { IfSome spare.old IsSpare }
+    ensures spare { IfSome spare.new IsSpare }
+    ensures there { OnOk result (IsSome spare.new) }
+    ensures had { IsSome spare.old → IsOk result }
+{
+    if spare.is_none() {
+        *spare = Some(VecDeque::with_capacity(alloc, BLOCK).map_err(|_| NoMemory)?);
+    }
+    Ok(())
+}
+
+/// An item comes into the first block, which is full. Its later half is the first of the others then.
+pub(crate) fn insert_halving_first<T: Drop>(
+    first: &mut VecDeque<T>,
+    rest: &mut Vec<VecDeque<T>>,
+    spare: &mut Option<VecDeque<T>>,
+    at: usize,
+    item: T,
+)
+    requires at { at ≤ deque_len first.old }
+    requires full { deque_len first.old ≡ BLOCK }
+    requires blocks { AllByRecursion IsBlock rest.old.items }
+    requires spare { IfSome spare.old IsSpare }
+    requires there { IsSome spare.old }
+    requires room { vec_len rest.old < vec_capacity rest.old }
+    ensures items { first.new.items ++ joined rest.new.items ≡ insert first.old.items at item ++ joined rest.old.items }
+    ensures first { IsBlock first.new }
+    ensures blocks { AllByRecursion IsBlock rest.new.items }
+    ensures spare { IfSome spare.new IsSpare }
+{
+    if let Some(mut later) = spare.take() {
+        insert_halving(first, &mut later, at, item);
+        let _ = rest.insert(0, later);
+    }
+}
+
+/// An item comes into one of the other blocks, and into the last one where it comes behind all others.
+pub(crate) fn insert_later<T: Drop>(
+    rest: &mut Vec<VecDeque<T>>,
+    spare: &mut Option<VecDeque<T>>,
+    at: usize,
+    item: T,
+)
+    requires at { at ≤ length (joined rest.old.items) }
+    requires some { 0 < vec_len rest.old }
+    requires blocks { AllByRecursion IsBlock rest.old.items }
+    requires spare { IfSome spare.old IsSpare }
+    requires there { IsSome spare.old }
+    requires room { vec_len rest.old < vec_capacity rest.old }
+    ensures items { joined rest.new.items ≡ insert (joined rest.old.items) at item }
+    ensures blocks { AllByRecursion IsBlock rest.new.items }
+    ensures spare { IfSome spare.new IsSpare }
+{
+    let place = find_for(rest, at);
+    let block = &mut rest[place.block];
+    if block.len() < BLOCK {
+        let _ = block.insert(place.offset, item);
+        return;
+    }
+    if let Some(mut later) = spare.take() {
+        insert_halving(block, &mut later, place.offset, item);
+        let _ = rest.insert(place.block + 1, later);
+    }
+}

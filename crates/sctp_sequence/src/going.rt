@@ -1,0 +1,49 @@
+//! An item goes from blocks, and a block that becomes empty with it.
+
+ghost use Rattle.std.specs.Prelude.{◌≡◌, ◌<◌, ◌≤◌, ◌++◌, length, slice_index_or, IfSome, IsSome};
+ghost use Rattle.std.specs.List.{remove, AllByRecursion};
+ghost use Rattle.std.specs.Vec.{vec_len, vec_capacity};
+ghost use Rattle.std.specs.VecDeque.{deque_len, deque_capacity};
+ghost use Rattle.sctp_sequence.specs.Blocks.{joined, IsBlock};
+ghost use Rattle.sctp_sequence.specs.declared.sequence.TheConstants.{BLOCK};
+
+use crate::blocks::find;
+use std::collections::VecDeque;
+
+/// Where the first block is empty, the next becomes the first.
+pub(crate) fn move_up<T: Drop>(first: &mut VecDeque<T>, rest: &mut Vec<VecDeque<T>>)
+    requires blocks { AllByRecursion IsBlock rest.old.items }
+    requires wide { 0 < vec_len rest.old → BLOCK ≤ deque_capacity first.old }
+    ensures items { first.new.items ++ joined rest.new.items ≡ first.old.items ++ joined rest.old.items }
+    ensures blocks { AllByRecursion IsBlock rest.new.items }
+    ensures some { 0 < vec_len rest.new → 0 < deque_len first.new }
+    ensures short { deque_len first.old ≤ BLOCK → deque_len first.new ≤ BLOCK }
+    ensures wide { BLOCK ≤ deque_capacity first.old → BLOCK ≤ deque_capacity first.new }
+    ensures alone { vec_len rest.old ≡ 0 → first.new ≡ first.old }
+    ensures len { vec_len rest.new ≤ vec_len rest.old }
+    ensures capacity { vec_capacity rest.new ≡ vec_capacity rest.old }
+{
+    if first.is_empty() && !rest.is_empty() {
+        *first = rest.remove(0);
+    }
+}
+
+/// Takes out the item that has this place among those of the blocks.
+pub(crate) fn remove_later<T: Drop>(rest: &mut Vec<VecDeque<T>>, at: usize) -> Option<T>
+    requires at { at < length (joined rest.old.items) }
+    requires blocks { AllByRecursion IsBlock rest.old.items }
+    ensures there { IsSome result }
+    ensures value { IfSome result (λ item. item ≡ slice_index_or (joined rest.old.items) at item) }
+    ensures items { joined rest.new.items ≡ remove (joined rest.old.items) at }
+    ensures blocks { AllByRecursion IsBlock rest.new.items }
+    ensures len { vec_len rest.new ≤ vec_len rest.old }
+    ensures capacity { vec_capacity rest.new ≡ vec_capacity rest.old }
+{
+    let place = find(rest, at);
+    let block = &mut rest[place.block];
+    let item = block.remove(place.offset);
+    if block.is_empty() {
+        let _ = rest.remove(place.block);
+    }
+    item
+}

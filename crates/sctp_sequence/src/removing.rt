@@ -1,0 +1,45 @@
+//! Items go.
+
+ghost use Rattle.std.specs.Prelude.{◌≡◌, ◌<◌, ◌≤◌, ◌↔◌, true, length, drop, slice_index_or, IfNone, IfSome, IsSome, OnSome};
+ghost use Rattle.std.specs.List.{remove};
+
+use crate::going::{move_up, remove_later};
+use crate::sequence::Sequence;
+
+impl<T: Drop> Sequence<T> {
+    /// Takes out the item at a place.
+    pub fn remove(&mut self, at: usize) -> Option<T>
+        ensures value { IfSome result (λ item. item ≡ slice_index_or self.old.items at item) }
+        ensures items { OnSome result (self.new.items ≡ remove self.old.items at) }
+        ensures unchanged { IfNone result (self.new.items ≡ self.old.items) }
+        ensures variant { IsSome result ↔ (at < length self.old.items) }
+        ensures room { self.old.room ≡ true → self.new.room ≡ true }
+    {
+        if self.count <= at {
+            return None;
+        }
+        let before = self.first.len();
+        self.count -= 1;
+        if before <= at {
+            return remove_later(&mut self.rest, at - before);
+        }
+        let item = self.first.remove(at);
+        move_up(&mut self.first, &mut self.rest);
+        item
+    }
+
+    /// Takes out the first item.
+    pub fn pop_front(&mut self) -> Option<T>
+        ensures value { IfSome result (λ item. item ≡ slice_index_or self.old.items 0 item) }
+        ensures rest { self.new.items ≡ drop 1 self.old.items }
+        ensures variant { IsSome result ↔ (0 < length self.old.items) }
+        ensures room { self.old.room ≡ true → self.new.room ≡ true }
+    {
+        let item = self.first.pop_front();
+        if item.is_some() {
+            self.count -= 1;
+            move_up(&mut self.first, &mut self.rest);
+        }
+        item
+    }
+}

@@ -1,0 +1,74 @@
+//! A list in blocks, and what is read of it.
+
+ghost use Rattle.std.specs.Prelude.{◌≡◌, ◌<◌, ◌==◌, [], length, slice_index_or};
+
+use crate::blocks::find;
+use std::alloc::Global;
+use std::collections::VecDeque;
+use std::marker::Model;
+
+/// How many items a block has at the most.
+pub(crate) const BLOCK: usize = 256;
+
+/// A list of items. The first block is empty only if there is no other; each other block has an item.
+#[derive(Debug, Drop)]
+pub struct Sequence<T> {
+    pub(crate) count: usize,
+    pub(crate) first: VecDeque<T>,
+    pub(crate) rest: Vec<VecDeque<T>>,
+    pub(crate) spare: Option<VecDeque<T>>,
+}
+
+impl<T> Model for Sequence<T> {
+    ghost use Rattle.sctp_sequence.specs.Kept.{SequenceKept, sequence_code};
+
+    ghost Value = { SequenceKept T };
+
+    ghost coded = { sequence_code T.code };
+
+    ghost use Rattle.sctp_sequence.specs.Blocks.{sequence_of, AreBlocks};
+
+    ghost view = { λ s. sequence_of s.count s.first s.rest s.spare };
+
+    ghost invariant = { λ s. AreBlocks s.count s.first s.rest s.spare };
+}
+
+impl<T> Sequence<T> {
+    /// No item. It takes no memory.
+    pub fn new(alloc: Global) -> Sequence<T>
+        ensures { result.items ≡ [] }
+    {
+        Sequence {
+            count: 0,
+            first: VecDeque::new(alloc),
+            rest: Vec::new(alloc),
+            spare: None,
+        }
+    }
+
+    /// How many items there are.
+    pub fn len(&self) -> usize
+        ensures { result ≡ length self.now.items }
+    {
+        self.count
+    }
+
+    /// Whether there is no item.
+    pub fn is_empty(&self) -> bool
+        ensures { result ≡ (length self.now.items == 0) }
+    {
+        self.count == 0
+    }
+
+    /// The item at a place.
+    pub fn get(&self, at: usize) -> &T
+        requires { at < length self.now.items }
+        ensures { result.now ≡ slice_index_or self.now.items at result.now }
+    {
+        if at < self.first.len() {
+            return &self.first[at];
+        }
+        let place = find(&self.rest, at - self.first.len());
+        &self.rest[place.block][place.offset]
+    }
+}

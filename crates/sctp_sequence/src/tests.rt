@@ -1,0 +1,73 @@
+//! Many items come amid each other, are found, replaced and go.
+
+use crate::Sequence;
+use std::alloc::Global;
+use std::test::Fail;
+
+/// So many even numbers, and then each odd one amid them.
+fn numbers(alloc: Global, half: usize) -> Result<Sequence<usize>, Fail> {
+    let mut items = Sequence::new(alloc);
+    for n in 0..half {
+        items.push_back(n.wrapping_mul(2))?;
+    }
+    for n in 0..half {
+        let number = n.wrapping_mul(2).wrapping_add(1);
+        items.insert(number.min(items.len()), number)?;
+    }
+    Ok(items)
+}
+
+/// The items, one after another, are this one and each the one before and so much more.
+fn count_up(items: &Sequence<usize>, first: usize, step: usize) -> bool {
+    let mut next = first;
+    for at in 0..items.len() {
+        if *items.get(at) != next {
+            return false;
+        }
+        next = next.wrapping_add(step);
+    }
+    true
+}
+
+#[test]
+fn items_come_amid_others_and_are_found(rt: HostRuntime) -> Result<(), Fail> {
+    for half in [0, 1, 127, 128, 129, 900] {
+        let mut items = numbers(rt.alloc(), half)?;
+        assert_eq!(rt; items.len(), half.wrapping_mul(2));
+        assert!(rt; count_up(&items, 0, 1));
+        for bound in [0, 1, 128, 255, 256, 257, 640, 1_000] {
+            let found = items.partition_point(|number: &usize| *number < bound);
+            assert_eq!(rt; found, bound.min(items.len()), "{half} below {bound}");
+        }
+        items.reserve()?;
+        assert!(rt; count_up(&items, 0, 1));
+    }
+    Ok(())
+}
+
+#[test]
+fn items_go_and_are_replaced(rt: HostRuntime) -> Result<(), Fail> {
+    for half in [1, 127, 128, 129, 900] {
+        let mut items = numbers(rt.alloc(), half)?;
+        for at in 0..half {
+            assert_eq!(rt; items.remove(at), Some(at.wrapping_mul(2)));
+        }
+        assert!(rt; count_up(&items, 1, 2));
+        assert_eq!(rt; items.remove(half), None);
+        if !items.is_empty() {
+            let last = items.len() - 1;
+            assert_eq!(rt;
+                items.replace(last, 7),
+                last.wrapping_mul(2).wrapping_add(1)
+            );
+            assert_eq!(rt; *items.get(last), 7);
+        }
+        for n in 1..half {
+            assert_eq!(rt; items.pop_front(), Some(n.wrapping_mul(2) - 1));
+        }
+        assert_eq!(rt; items.pop_front(), Some(7));
+        assert_eq!(rt; items.pop_front(), None);
+        assert!(rt; items.is_empty());
+    }
+    Ok(())
+}
