@@ -9,8 +9,8 @@ use Rattle.sctp_send.specs.declared.draft.Change.{Change}
 use Rattle.sctp_send.specs.declared.draft.Change.TheVariants.{Out, Taken, In}
 use Rattle.sctp_send.specs.declared.draft.Draft.{Draft}
 use Rattle.sctp_send.specs.declared.message.Message.{Message}
-use Rattle.sctp_send.specs.declared.outstanding.Outstanding.{Outstanding}
-use Rattle.sctp_send.specs.declared.sender.Track.{Track}
+use Rattle.sctp_send.specs.declared.entry.Outstanding.{Outstanding}
+use Rattle.sctp_send.specs.declared.track.Track.{Track}
 use Rattle.sctp_send.proofs.UndoLemmas.{out_undone, taken_undone, before_last}
 
 -- an entry went out

@@ -25,8 +25,8 @@ use Rattle.sctp_send.specs.SenderKept.{Item, Track, Kept}
 use Rattle.sctp_send.specs.SenderStands.{item_here, items_from, Keeps}
 use Rattle.sctp_send.specs.OutstandingFields.{lane_meaning, message_meaning, entry_meaning}
 use Rattle.sctp_send.specs.declared.message.Message.{Message as MessageFields}
-use Rattle.sctp_send.specs.declared.outstanding.Place.{Place}
-use Rattle.sctp_send.specs.declared.outstanding.Place.TheVariants.{Fragment, EndMark}
+use Rattle.sctp_send.specs.declared.entry.Place.{Place}
+use Rattle.sctp_send.specs.declared.entry.Place.TheVariants.{Fragment, EndMark}
 use Rattle.sctp_send.proofs.KeepLemmas.{kept_length}
 use Rattle.sctp_send.proofs.NewItems.{numbered}
 use Rattle.sctp_send.proofs.AssignLemmas.{number_in, number_is, track_at}

@@ -27,8 +27,8 @@ use Rattle.sctp_send.specs.inner.Newcomers as kept
 use Rattle.sctp_send.specs.inner.Newcomers.{gone_item, rest_item, rest_after, begun_items, number_in, begun_track, rest_at, has_rest, one_if, without_place, fresh_track, track_of, number_on, begun, IsBegun, IsContinued}
 use Rattle.sctp_send.specs.inner.Drafting.{numbers_of, drafted, fragment_chunk, IsPut, IsStopped, IsOffered, NothingStands}
 use Rattle.sctp_send.specs.declared.draft.Draft.{Draft}
-use Rattle.sctp_send.specs.declared.outstanding.Place.TheVariants.{Fragment}
-use Rattle.sctp_send.specs.declared.sender.Rest.{Rest as RestFields}
+use Rattle.sctp_send.specs.declared.entry.Place.TheVariants.{Fragment}
+use Rattle.sctp_send.specs.declared.track.Rest.{Rest as RestFields}
 use Rattle.sctp_send.proofs.TableLemmas.{length-table}
 use Rattle.sctp_send.proofs.AssignLemmas.{track_at}
 use Rattle.sctp_send.proofs.GoingOnLemmas.{gone_on}

@@ -12,9 +12,9 @@ use Rattle.sctp_send.specs.SenderKept.{Item}
 use Rattle.sctp_send.specs.OutstandingFields.{item_meaning}
 use Rattle.sctp_send.specs.inner.Changes.{unmarked, as_covered, as_uncovered, told, all_told, or_run}
 use Rattle.sctp_send.specs.inner.Acknowledging.{block_fault}
-use Rattle.sctp_send.specs.declared.outstanding.Standing.{Standing}
-use Rattle.sctp_send.specs.declared.outstanding.Standing.TheVariants.{Unsent, Sent, Marked}
-use Rattle.sctp_send.specs.declared.outstanding.Outstanding.{Outstanding}
+use Rattle.sctp_send.specs.declared.entry.Standing.{Standing}
+use Rattle.sctp_send.specs.declared.entry.Standing.TheVariants.{Unsent, Sent, Marked}
+use Rattle.sctp_send.specs.declared.entry.Outstanding.{Outstanding}
 
 -- ---- by index
 

@@ -20,16 +20,16 @@ use Rattle.sctp_send.specs.inner.Drafting.{numbers_of, all_numbered, drafted, fr
 use Rattle.sctp_send.specs.SenderFields.{queued_by, track_meaning, rest_meaning}
 use Rattle.std.specs.declared.alloc.Global.{Global}
 use Rattle.std.specs.declared.rc.Rc.{Rc}
-use Rattle.sctp_send.specs.declared.sender.Track.{Track as TrackFields}
+use Rattle.sctp_send.specs.declared.track.Track.{Track as TrackFields}
 use Rattle.sctp_send.specs.declared.draft.Draft.{Draft}
-use Rattle.sctp_send.specs.declared.sender.Rest.{Rest as RestFields}
-use Rattle.sctp_send.specs.declared.outstanding.Standing.TheVariants.{Sent}
-use Rattle.sctp_send.specs.declared.outstanding.Outstanding.{Outstanding}
+use Rattle.sctp_send.specs.declared.track.Rest.{Rest as RestFields}
+use Rattle.sctp_send.specs.declared.entry.Standing.TheVariants.{Sent}
+use Rattle.sctp_send.specs.declared.entry.Outstanding.{Outstanding}
 use Rattle.sctp_send.specs.declared.message.Fate.{Fate}
 use Rattle.sctp_send.specs.declared.message.Fate.TheVariants.{Numbered}
 use Rattle.sctp_send.specs.declared.message.Message.{Message as MessageFields}
-use Rattle.sctp_send.specs.declared.outstanding.Place.{Place}
-use Rattle.sctp_send.specs.declared.outstanding.Place.TheVariants.{Fragment, EndMark}
+use Rattle.sctp_send.specs.declared.entry.Place.{Place}
+use Rattle.sctp_send.specs.declared.entry.Place.TheVariants.{Fragment, EndMark}
 use Rattle.sctp_values.specs.declared.ticket.Ticket.{Ticket}
 use Rattle.sctp_send.proofs.WalkLemmas.{none_behind}
 use Rattle.sctp_send.proofs.ChunkLemmas.{fragment_is}

@@ -39,7 +39,7 @@ late_walked g f now last start found next xs at x lt read is before =
 -- ---- where nothing is worthless yet
 
 -- a message that isn't worthless before a later moment gives no ticket
-not_late : (now last earliest : ℕ) (m : Option Message) → now < earliest → earliest ≤ moment_from m → late_after now last m ≡ None
+pub not_late : (now last earliest : ℕ) (m : Option Message) → now < earliest → earliest ≤ moment_from m → late_after now last m ≡ None
 not_late now last earliest None lt worth = refl
 not_late now last earliest (Some x) lt worth = by_until x.until worth
   where

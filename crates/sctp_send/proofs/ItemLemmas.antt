@@ -5,9 +5,9 @@ use Rattle.sctp_send.specs.WindowKept.{at_place}
 use Rattle.sctp_send.specs.SenderKept.{Item}
 use Rattle.sctp_send.specs.OutstandingFields.{was_sent, is_marked, item_meaning}
 use Rattle.sctp_send.specs.inner.Changes.{marked_if, timed, all_timed}
-use Rattle.sctp_send.specs.declared.outstanding.Standing.{Standing}
-use Rattle.sctp_send.specs.declared.outstanding.Standing.TheVariants.{Unsent, Sent, Marked}
-use Rattle.sctp_send.specs.declared.outstanding.Outstanding.{Outstanding}
+use Rattle.sctp_send.specs.declared.entry.Standing.{Standing}
+use Rattle.sctp_send.specs.declared.entry.Standing.TheVariants.{Unsent, Sent, Marked}
+use Rattle.sctp_send.specs.declared.entry.Outstanding.{Outstanding}
 
 -- an item marked where it is unsettled
 abbrev pub timed_item : Item → Item

@@ -16,7 +16,7 @@ use Rattle.sctp_model.proofs.sender.OwedLaws.{is_promised, sum-zero}
 use Rattle.sctp_model.proofs.sender.PointLaws.{get-drop}
 use Rattle.sctp_send.specs.SenderKept.{Item, Kept}
 use Rattle.sctp_send.specs.CoveredRuns.{AreCovered, runs_behind}
-use Rattle.sctp_send.specs.declared.outstanding.Run.{Run}
+use Rattle.sctp_send.specs.declared.entry.CoveredRun.{CoveredRun}
 use Rattle.sctp_send.specs.SenderStands.{items_from, Keeps}
 use Rattle.sctp_send.specs.inner.Acknowledging.{IsPassing}
 use Rattle.sctp_send.proofs.TableLemmas.{table-replicate}
@@ -79,11 +79,11 @@ beyond_covers : (c i : ℕ) (bs : List BlockMeaning) → 0 < i → in_blocks 0 b
 beyond_covers c i bs some = let past : nat_le (c + i) c ≡ false = grind (arith, nat_tests) in rw past (sym (offset_blocks c i bs))
 
 -- the runs of a SACK's blocks are what it covers above its index
-sacked_runs : (o : Option (List Run)) (c : ℕ) (bs : List BlockMeaning) → AreOfBlocks o bs → AreCovered o (sack_covers c bs) c
+sacked_runs : (o : Option (List CoveredRun)) (c : ℕ) (bs : List BlockMeaning) → AreOfBlocks o bs → AreCovered o (sack_covers c bs) c
 sacked_runs None c bs h = tt
 sacked_runs (Some rs) c bs h = (h.order, λ i some. sym (beyond_covers c i bs some) ∙ sym (h.same i some))
 
-pub keeps_sacked : (f : Format) (s : Kept) (v : SenderView) (x : SackMeaning) (n : ℕ) (rs : Option (List Run)) → Keeps f s v → IsPassing v x.cumulative n → sack_fault v x ≡ None → AreOfBlocks rs x.blocks
+pub keeps_sacked : (f : Format) (s : Kept) (v : SenderView) (x : SackMeaning) (n : ℕ) (rs : Option (List CoveredRun)) → Keeps f s v → IsPassing v x.cumulative n → sack_fault v x ≡ None → AreOfBlocks rs x.blocks
     → Keeps f (record s { cum = (s.cum + n) % 2 ^ 32; rwnd = x.rwnd; items = items_told (in_blocks 0 x.blocks) 1 (drop n s.items); runs = rs }) (sack_after v x)
 keeps_sacked f s v x n rs k p none runs =
     let c = v.cum + n in

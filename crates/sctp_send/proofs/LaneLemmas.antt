@@ -20,7 +20,7 @@ use Rattle.sctp_send.specs.SenderKept.{Item}
 use Rattle.sctp_send.specs.OutstandingFields.{item_meaning, entries_of}
 use Rattle.sctp_send.specs.inner.Lanes.{lane_key, passed_meaning, AreRising, before, told_at, at_least, noted, noted_entry}
 use Rattle.sctp_send.specs.declared.lanes.Passed.{Passed}
-use Rattle.sctp_send.specs.declared.outstanding.Outstanding.{Outstanding}
+use Rattle.sctp_send.specs.declared.entry.Outstanding.{Outstanding}
 
 -- ---- in order
 

@@ -54,4 +54,11 @@ pub mod UndoLemmas
 pub mod BehindLemmas
 pub mod ListParts
 pub mod OrderLemmas
+pub mod BoundLemmas
 pub mod TicketWalks
+pub mod PartPairLemmas
+pub mod PartLookLemmas
+pub mod PartStreams
+pub mod PartWalks
+pub mod MomentWalks
+pub mod PartBounds

@@ -14,8 +14,8 @@ use Rattle.sctp_send.specs.inner.Walks.{total, one_if_rest, rest_owes}
 use Rattle.sctp_send.specs.inner.Expiring.{rest_message, rest_messages}
 use Rattle.sctp_send.specs.inner.Counting.{moment_from, AreWorth, IsOwedOf, IsCountedOf}
 use Rattle.sctp_send.specs.declared.message.Message.{Message as MessageFields}
-use Rattle.sctp_send.specs.declared.sender.Rest.{Rest as RestFields}
-use Rattle.sctp_send.specs.declared.sender.Track.{Track as TrackFields}
+use Rattle.sctp_send.specs.declared.track.Rest.{Rest as RestFields}
+use Rattle.sctp_send.specs.declared.track.Track.{Track as TrackFields}
 use Rattle.sctp_send.proofs.WorthLemmas.{worth_push, worth_insert, worth_remove, worth_set}
 
 -- ---- messages that wait

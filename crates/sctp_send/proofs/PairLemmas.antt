@@ -2,6 +2,7 @@
 use Rattle.std.proofs.Common.{◌≡◌, ℕ, zero, suc, ◌<◌, ◌≤◌, ◌^◌, List, [], ◌∷◌, length, get_or, Bool, true, false, refl, ap, ◌∙◌, arith}
 use Rattle.std.specs.Prelude.{nat_lt, ◌==◌, ◌&&◌, if◌then◌else◌, insert, remove}
 use Rattle.std.specs.List.{sum_by}
+use Rattle.std.specs.List.Sorted.{IsPartitionedBy, IsPartitionPoint}
 use Rattle.std.proofs.lemmas.Bool.Decides.{nat_tests}
 use Rattle.std.proofs.lemmas.List.Sums.{sum_by-cons, get_or-le-sum_by}
 use Rattle.sctp_send.specs.inner.Ordering.{key, before, AreInOrder, AreSmall, AreOrdered}
@@ -72,6 +73,20 @@ comes_behind f n here at xs d h le lt = by_test (nat_lt (f (get_or xs at d)) n) 
     by_test : (b : Bool) → nat_lt (f (get_or xs at d)) n ≡ b → n ≤ f (get_or xs at d)
     by_test true is = let less : f (get_or xs at d) < n = grind (arith, nat_tests) in let low = before_above f n here at xs d h lt less in absurd (omega (arith, low, le))
     by_test false is = grind (arith, nat_tests)
+
+-- a search by halves can find that place
+pub can_search : {A : Type 0} (f : A → ℕ) (n here : ℕ) (xs : List A) → AreInOrder f here xs → IsPartitionedBy (λ x. nat_lt (f x) n) xs
+can_search f n here xs h = λ i j d le lt low. let more = in_order f here i j xs d h le lt in grind (arith, nat_tests)
+
+-- and finds it
+pub searched : {A : Type 0} (f : A → ℕ) (n i : ℕ) (xs : List A) → i ≤ length xs → IsPartitionPoint (λ x. nat_lt (f x) n ≡ true) (λ x. nat_lt (f x) n ≡ false) xs i → i ≡ before f n xs
+searched f n zero [] le point = refl
+searched f n (suc i) [] le point = absurd (omega arith)
+searched f n zero (x ∷ xs) le point = let off : nat_lt (f x) n ≡ false = point.1 0 x (omega arith) (omega arith) in rw off refl
+searched f n (suc i) (x ∷ xs) le point =
+    let on : nat_lt (f x) n ≡ true = point.0 0 x (omega arith) (omega arith) in
+    let rest = searched f n i xs (omega arith) ((λ k d low less. point.0 (suc k) d (omega arith) (omega arith)), (λ k d low less. point.1 (suc k) d (omega arith) (omega arith))) in
+    rw on (ap suc rest)
 
 -- ---- one more, one less
 

@@ -23,7 +23,7 @@ use Rattle.sctp_send.specs.inner.Newcomers.{gone_item}
 use Rattle.sctp_send.specs.inner.Drafting.{numbers_of, drafted, fragment_chunk, went_out, IsPut, IsStopped, PutAnswer, IsNextEntry, IsNextUnsent, NothingStands}
 use Rattle.sctp_send.specs.declared.draft.Draft.{Draft}
 use Rattle.sctp_send.specs.declared.message.Message.{Message as MessageFields}
-use Rattle.sctp_send.specs.declared.outstanding.Outstanding.{Outstanding}
+use Rattle.sctp_send.specs.declared.entry.Outstanding.{Outstanding}
 use Rattle.sctp_send.proofs.ItemLemmas.{item_read}
 use Rattle.sctp_send.proofs.WishLemmas.{wish_marked, wish_unsent, wish_new}
 use Rattle.sctp_send.proofs.GoneLemmas.{keeps_gone}

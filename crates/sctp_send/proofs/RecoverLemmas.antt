@@ -12,26 +12,26 @@ use Rattle.sctp_send.specs.SenderStands.{item_here, items_from, Keeps}
 use Rattle.sctp_send.specs.CoveredRuns.{in_run, in_runs, AreCovered, runs_behind}
 use Rattle.sctp_send.specs.OutstandingFields.{is_marked, item_meaning}
 use Rattle.sctp_send.specs.inner.Changes.{unmarked, told, all_told, told_where, in_gaps, in_alone, IsExact}
-use Rattle.sctp_send.specs.declared.outstanding.Run.{Run}
-use Rattle.sctp_send.specs.declared.outstanding.Standing.{Standing}
-use Rattle.sctp_send.specs.declared.outstanding.Standing.TheVariants.{Unsent, Sent, Marked}
-use Rattle.sctp_send.specs.declared.outstanding.Outstanding.{Outstanding}
+use Rattle.sctp_send.specs.declared.entry.CoveredRun.{CoveredRun}
+use Rattle.sctp_send.specs.declared.entry.Standing.{Standing}
+use Rattle.sctp_send.specs.declared.entry.Standing.TheVariants.{Unsent, Sent, Marked}
+use Rattle.sctp_send.specs.declared.entry.Outstanding.{Outstanding}
 use Rattle.sctp_send.proofs.RunLemmas.{runs_more, order_behind, all_behind}
 use Rattle.sctp_send.proofs.KeepLemmas.{left_items}
 use Rattle.sctp_send.proofs.TellLemmas.{where_same, where_none, where_joined}
 
 -- ---- runs over others
 
-take_step : (rs : List Run) (k : ℕ) (r d : Run) → k < length rs → r ≡ get_or rs k d → take (suc k) rs ≡ take k rs ++ r ∷ []
+take_step : (rs : List CoveredRun) (k : ℕ) (r d : CoveredRun) → k < length rs → r ≡ get_or rs k d → take (suc k) rs ≡ take k rs ++ r ∷ []
 take_step [] k r d lt is = absurd (omega arith)
-take_step (x ∷ rs) zero r d lt is = ap (λ (y : Run). y ∷ []) (sym is)
-take_step (x ∷ rs) (suc k) r d lt is = ap (λ (ys : List Run). x ∷ ys) (take_step rs k r d (omega arith) is)
+take_step (x ∷ rs) zero r d lt is = ap (λ (y : CoveredRun). y ∷ []) (sym is)
+take_step (x ∷ rs) (suc k) r d lt is = ap (λ (ys : List CoveredRun). x ∷ ys) (take_step rs k r d (omega arith) is)
 
-pub alone_start : (b : Bool) (os : List Run) (es : List Outstanding) → es ≡ told_where b (in_alone [] os) 1 es
+pub alone_start : (b : Bool) (os : List CoveredRun) (es : List Outstanding) → es ≡ told_where b (in_alone [] os) 1 es
 alone_start b os es = sym (where_none b (in_alone [] os) 1 es (λ j lo. refl))
 
 -- one run more
-pub alone_more : (b : Bool) (rs os : List Run) (k last : ℕ) (r d : Run) (es now later : List Outstanding) → k < length rs → r ≡ get_or rs k d → last ≡ length es → now ≡ told_where b (in_alone (take k rs) os) 1 es
+pub alone_more : (b : Bool) (rs os : List CoveredRun) (k last : ℕ) (r d : CoveredRun) (es now later : List Outstanding) → k < length rs → r ≡ get_or rs k d → last ≡ length es → now ≡ told_where b (in_alone (take k rs) os) 1 es
     → later ≡ told_where b (in_gaps os r.from (min r.to last)) 1 now → later ≡ told_where b (in_alone (take (k + 1) rs) os) 1 es
 alone_more b rs os k last r d es now later lt read long is last_is =
     last_is ∙ ap (told_where b (in_gaps os r.from (min r.to last)) 1) is ∙ where_joined b (in_alone (take k rs) os) (in_gaps os r.from (min r.to last)) 1 es
@@ -48,26 +48,26 @@ alone_more b rs os k last r d es now later lt read long is last_is =
     same j le =
         let one : k + 1 ≡ suc k = omega arith in
         let near : nat_le j (min r.to last) ≡ nat_le j r.to = by_to (nat_le j r.to) refl in
-        let runs : in_runs (take (k + 1) rs) j ≡ (in_runs (take k rs) j || in_run r j) = ap (λ (n : ℕ). in_runs (take n rs) j) one ∙ ap (λ (ys : List Run). in_runs ys j) (take_step rs k r d lt read) ∙ runs_more (take k rs) r j in
+        let runs : in_runs (take (k + 1) rs) j ≡ (in_runs (take k rs) j || in_run r j) = ap (λ (n : ℕ). in_runs (take n rs) j) one ∙ ap (λ (ys : List CoveredRun). in_runs ys j) (take_step rs k r d lt read) ∙ runs_more (take k rs) r j in
         ap (λ (c : Bool). in_alone (take k rs) os j || ((nat_lt r.from j && c) && not (in_runs os j))) near ∙ common (in_runs (take k rs) j) (in_run r j) (not (in_runs os j)) ∙ ap (λ (c : Bool). c && not (in_runs os j)) (sym runs)
       where
         by_to : (c : Bool) → nat_le j r.to ≡ c → nat_le j (min r.to last) ≡ c
         by_to true up = grind (arith, nat_tests)
         by_to false out = grind (arith, nat_tests)
 
-pub alone_all : (b : Bool) (rs os : List Run) (k : ℕ) (es now : List Outstanding) → length rs ≤ k → now ≡ told_where b (in_alone (take k rs) os) 1 es → now ≡ told_where b (in_alone rs os) 1 es
-alone_all b rs os k es now le is = is ∙ ap (λ (ys : List Run). told_where b (in_alone ys os) 1 es) (all rs k le)
+pub alone_all : (b : Bool) (rs os : List CoveredRun) (k : ℕ) (es now : List Outstanding) → length rs ≤ k → now ≡ told_where b (in_alone (take k rs) os) 1 es → now ≡ told_where b (in_alone rs os) 1 es
+alone_all b rs os k es now le is = is ∙ ap (λ (ys : List CoveredRun). told_where b (in_alone ys os) 1 es) (all rs k le)
   where
-    all : (xs : List Run) (n : ℕ) → length xs ≤ n → take n xs ≡ xs
+    all : (xs : List CoveredRun) (n : ℕ) → length xs ≤ n → take n xs ≡ xs
     all [] zero lt = refl
     all [] (suc n) lt = refl
     all (x ∷ xs) zero lt = absurd (omega arith)
-    all (x ∷ xs) (suc n) lt = ap (λ (ys : List Run). x ∷ ys) (all xs n (omega arith))
+    all (x ∷ xs) (suc n) lt = ap (λ (ys : List CoveredRun). x ∷ ys) (all xs n (omega arith))
 
 -- ---- all of it
 
 -- what lay in the old runs is told covered where it lies in new ones alone, and then uncovered where it lay in old ones alone
-all_recovered : (old new : List Run) (i : ℕ) (es : List Outstanding) → all_told (in_runs old) i es ≡ es → told_where false (in_alone old new) i (told_where true (in_alone new old) i es) ≡ all_told (in_runs new) i es
+all_recovered : (old new : List CoveredRun) (i : ℕ) (es : List Outstanding) → all_told (in_runs old) i es ≡ es → told_where false (in_alone old new) i (told_where true (in_alone new old) i es) ≡ all_told (in_runs new) i es
 all_recovered old new i [] exact = refl
 all_recovered old new i (e ∷ es) exact =
     let head : told (in_runs old i) e ≡ e = ap (λ (xs : List Outstanding). get_or xs 0 e) exact in
@@ -82,7 +82,7 @@ all_recovered old new i (e ∷ es) exact =
     by_tests false true stays more = ap (λ (xs : List Outstanding). told true e ∷ xs) more
     by_tests false false stays more = ap (λ (xs : List Outstanding). e ∷ xs) more ∙ ap (λ (y : Outstanding). y ∷ all_told (in_runs new) (suc i) es) (sym stays)
 
-pub recovered : (old new : List Run) (es now later : List Outstanding) → all_told (in_runs old) 1 es ≡ es → now ≡ told_where true (in_alone new old) 1 es → later ≡ told_where false (in_alone old new) 1 now → later ≡ all_told (in_runs new) 1 es
+pub recovered : (old new : List CoveredRun) (es now later : List Outstanding) → all_told (in_runs old) 1 es ≡ es → now ≡ told_where true (in_alone new old) 1 es → later ≡ told_where false (in_alone old new) 1 now → later ≡ all_told (in_runs new) 1 es
 recovered old new es now later exact first last_is = last_is ∙ ap (told_where false (in_alone old new) 1) first ∙ all_recovered old new 1 es exact
 
 -- ---- what is kept is exact
@@ -117,12 +117,12 @@ map_drop g (suc n) [] = refl
 map_drop g (suc n) (x ∷ xs) = map_drop g n xs
 
 -- the entries that are left are as the runs say that are left
-pub exact_kept : (f : Format) (s : Kept) (v : SenderView) (size n : ℕ) (outs es : List Outstanding) (b : Bool) (rs xs : List Run) → Keeps f s v → s.items ≡ map (item_meaning size) outs → s.runs ≡ when b rs
+pub exact_kept : (f : Format) (s : Kept) (v : SenderView) (size n : ℕ) (outs es : List Outstanding) (b : Bool) (rs xs : List CoveredRun) → Keeps f s v → s.items ≡ map (item_meaning size) outs → s.runs ≡ when b rs
     → es ≡ drop n outs → xs ≡ runs_behind n rs → IsExact b xs es
 exact_kept f s v size n outs es false rs xs k items runs left behind = tt
 exact_kept f s v size n outs es true rs xs k items runs left behind =
     let c = v.cum + n in
-    let known : AreCovered (Some rs) v.covered v.cum = subst (λ (o : Option (List Run)). AreCovered o v.covered v.cum) runs k.holds.covered in
+    let known : AreCovered (Some rs) v.covered v.cum = subst (λ (o : Option (List CoveredRun)). AreCovered o v.covered v.cum) runs k.holds.covered in
     let start : suc (c + 0) ≡ suc c = omega arith in
     let same : map (item_meaning size) (drop n outs) ≡ items_from v (suc c) (drop c v.plan.entries) = map_drop (item_meaning size) n outs ∙ ap (drop n) (sym items) ∙ left_items f s v n k in
     let exact = exact_told size v c (in_runs (runs_behind n rs)) 0 (drop n outs) (drop c v.plan.entries) (rw start same)

@@ -7,12 +7,12 @@ use Rattle.sctp_model.specs.messages.Acknowledgement.{in_blocks}
 use Rattle.sctp_model.specs.sender.SackTaken.{some_is_bad}
 use Rattle.sctp_model.specs.sender.Words.{when}
 use Rattle.sctp_send.specs.CoveredRuns.{in_run, in_runs, AreInOrder, AreCovered, HoldsBlocks, run_behind, runs_behind}
-use Rattle.sctp_send.specs.declared.outstanding.Run.{Run}
+use Rattle.sctp_send.specs.declared.entry.CoveredRun.{CoveredRun}
 
 -- ---- seen from further on
 
 -- an offset lies in a run just where the same entry's new offset lies in the run as it is seen then
-one_behind : (n i : ℕ) (r : Run) → 0 < i → in_run r (n + i) ≡ in_run (run_behind n r) i
+one_behind : (n i : ℕ) (r : CoveredRun) → 0 < i → in_run r (n + i) ≡ in_run (run_behind n r) i
 one_behind n i r some = both (nat_lt r.from (n + i)) (nat_le (n + i) r.to) (nat_lt (r.from - n) i) (nat_le i (r.to - n)) from to
   where
     from : nat_lt r.from (n + i) ≡ nat_lt (r.from - n) i
@@ -24,16 +24,16 @@ one_behind n i r some = both (nat_lt r.from (n + i)) (nat_le (n + i) r.to) (nat_
     both : (a b c d : Bool) → a ≡ c → b ≡ d → (a && b) ≡ (c && d)
     both a b c d x y = ap (λ (z : Bool). z && b) x ∙ ap (λ (z : Bool). c && z) y
 
-pub order_behind : (n low here : ℕ) (rs : List Run) → low ≤ here - n → AreInOrder here rs → AreInOrder low (runs_behind n rs)
+pub order_behind : (n low here : ℕ) (rs : List CoveredRun) → low ≤ here - n → AreInOrder here rs → AreInOrder low (runs_behind n rs)
 order_behind n low here [] le order = tt
 order_behind n low here (r ∷ rs) le order = (omega (arith, order.0, le), omega (arith, order.1), order_behind n (r.to - n) r.to rs (omega arith) order.2)
 
-pub all_behind : (n i : ℕ) (rs : List Run) → 0 < i → in_runs rs (n + i) ≡ in_runs (runs_behind n rs) i
+pub all_behind : (n i : ℕ) (rs : List CoveredRun) → 0 < i → in_runs rs (n + i) ≡ in_runs (runs_behind n rs) i
 all_behind n i [] some = refl
 all_behind n i (r ∷ rs) some = rw (one_behind n i r some, all_behind n i rs some) refl
 
 -- what a SHUTDOWN leaves covered
-pub covered_behind : (o : Option (List Run)) (covered : ℕ → Bool) (cum c n : ℕ) → c ≡ cum + n → AreCovered o covered cum → AreCovered (option_map (runs_behind n) o) (λ j. nat_le j c || covered j) c
+pub covered_behind : (o : Option (List CoveredRun)) (covered : ℕ → Bool) (cum c n : ℕ) → c ≡ cum + n → AreCovered o covered cum → AreCovered (option_map (runs_behind n) o) (λ j. nat_le j c || covered j) c
 covered_behind None covered cum c n is h = tt
 covered_behind (Some rs) covered cum c n is h = (
   order_behind n 0 0 rs (omega arith) h.0,
@@ -44,15 +44,15 @@ covered_behind (Some rs) covered cum c n is h = (
 )
 
 -- the first so many of them are seen so
-abbrev pub first_behind : (passed at : ℕ) → List Run → List Run
+abbrev pub first_behind : (passed at : ℕ) → List CoveredRun → List CoveredRun
 first_behind n at rs = map (run_behind n) (take at rs) ++ drop at rs
 
-behind_step : (n at : ℕ) (rs : List Run) (d : Run) → at < length rs → set (first_behind n at rs) at (run_behind n (get_or (first_behind n at rs) at d)) ≡ first_behind n (suc at) rs
+behind_step : (n at : ℕ) (rs : List CoveredRun) (d : CoveredRun) → at < length rs → set (first_behind n at rs) at (run_behind n (get_or (first_behind n at rs) at d)) ≡ first_behind n (suc at) rs
 behind_step n at [] d low = absurd (omega arith)
 behind_step n zero (r ∷ rs) d low = refl
-behind_step n (suc at) (r ∷ rs) d low = ap (λ (xs : List Run). run_behind n r ∷ xs) (behind_step n at rs d (omega arith))
+behind_step n (suc at) (r ∷ rs) d low = ap (λ (xs : List CoveredRun). run_behind n r ∷ xs) (behind_step n at rs d (omega arith))
 
-pub length-first_behind : (n at : ℕ) (rs : List Run) → length (first_behind n at rs) ≡ length rs
+pub length-first_behind : (n at : ℕ) (rs : List CoveredRun) → length (first_behind n at rs) ≡ length rs
 length-first_behind n at [] = by_place at
   where
     by_place : (k : ℕ) → length (first_behind n k []) ≡ 0
@@ -61,29 +61,29 @@ length-first_behind n at [] = by_place at
 length-first_behind n zero (r ∷ rs) = refl
 length-first_behind n (suc at) (r ∷ rs) = ap suc (length-first_behind n at rs)
 
-pub behind_more : (n at : ℕ) (rs now : List Run) (x : Run) → at < length rs → now ≡ first_behind n at rs → x ≡ get_or now at x → set now at (run_behind n x) ≡ first_behind n (at + 1) rs
+pub behind_more : (n at : ℕ) (rs now : List CoveredRun) (x : CoveredRun) → at < length rs → now ≡ first_behind n at rs → x ≡ get_or now at x → set now at (run_behind n x) ≡ first_behind n (at + 1) rs
 behind_more n at rs now x low is read =
     let one : at + 1 ≡ suc at = omega arith in
-    let value : x ≡ get_or (first_behind n at rs) at x = read ∙ ap (λ (xs : List Run). get_or xs at x) is in
-    ap (λ (xs : List Run). set xs at (run_behind n x)) is ∙ ap (λ (y : Run). set (first_behind n at rs) at (run_behind n y)) value ∙ behind_step n at rs x low ∙ rw one refl
+    let value : x ≡ get_or (first_behind n at rs) at x = read ∙ ap (λ (xs : List CoveredRun). get_or xs at x) is in
+    ap (λ (xs : List CoveredRun). set xs at (run_behind n x)) is ∙ ap (λ (y : CoveredRun). set (first_behind n at rs) at (run_behind n y)) value ∙ behind_step n at rs x low ∙ rw one refl
 
 -- runs that are known or not
-pub when_behind : (b : Bool) (n : ℕ) (rs xs : List Run) → xs ≡ runs_behind n rs → when b xs ≡ option_map (runs_behind n) (when b rs)
-when_behind true n rs xs is = ap (λ (ys : List Run). Some ys) is
+pub when_behind : (b : Bool) (n : ℕ) (rs xs : List CoveredRun) → xs ≡ runs_behind n rs → when b xs ≡ option_map (runs_behind n) (when b rs)
+when_behind true n rs xs is = ap (λ (ys : List CoveredRun). Some ys) is
 when_behind false n rs xs is = refl
 
 -- ---- kept from blocks
 
 -- the runs are what the blocks cover, where they are known
-abbrev pub AreOfBlocks : Option (List Run) → List BlockMeaning → Type 0
+abbrev pub AreOfBlocks : Option (List CoveredRun) → List BlockMeaning → Type 0
 AreOfBlocks None bs = Unit {0}
 AreOfBlocks (Some rs) bs = HoldsBlocks rs bs
 
-pub when_remembered : (b : Bool) (xs : List Run) (bs : List BlockMeaning) → (b ≡ true → HoldsBlocks xs bs) → AreOfBlocks (when b xs) bs
+pub when_remembered : (b : Bool) (xs : List CoveredRun) (bs : List BlockMeaning) → (b ≡ true → HoldsBlocks xs bs) → AreOfBlocks (when b xs) bs
 when_remembered true xs bs h = h refl
 when_remembered false xs bs h = tt
 
-pub runs_more : (rs : List Run) (r : Run) (i : ℕ) → in_runs (rs ++ r ∷ []) i ≡ (in_runs rs i || in_run r i)
+pub runs_more : (rs : List CoveredRun) (r : CoveredRun) (i : ℕ) → in_runs (rs ++ r ∷ []) i ≡ (in_runs rs i || in_run r i)
 runs_more [] r i = or_none (in_run r i)
   where
     or_none : (b : Bool) → (b || false) ≡ b
@@ -96,16 +96,16 @@ runs_more (x ∷ rs) r i = ap (λ (b : Bool). in_run x i || b) (runs_more rs r i
     regroup false b c = refl
 
 -- where the last of the runs ends
-abbrev pub end_of : (here : ℕ) → List Run → ℕ
+abbrev pub end_of : (here : ℕ) → List CoveredRun → ℕ
 end_of n [] = n
 end_of n (r ∷ rs) = end_of r.to rs
 
-pub end_more : (n : ℕ) (rs : List Run) (r : Run) → end_of n (rs ++ r ∷ []) ≡ r.to
+pub end_more : (n : ℕ) (rs : List CoveredRun) (r : CoveredRun) → end_of n (rs ++ r ∷ []) ≡ r.to
 end_more n [] r = refl
 end_more n (x ∷ rs) r = end_more x.to rs r
 
 -- one more begins there or behind
-pub order_more : (n : ℕ) (rs : List Run) (r : Run) → AreInOrder n rs → end_of n rs ≤ r.from → r.from ≤ r.to → AreInOrder n (rs ++ r ∷ [])
+pub order_more : (n : ℕ) (rs : List CoveredRun) (r : CoveredRun) → AreInOrder n rs → end_of n rs ≤ r.from → r.from ≤ r.to → AreInOrder n (rs ++ r ∷ [])
 order_more n [] r order begins ends = (begins, ends, tt)
 order_more n (x ∷ rs) r order begins ends = (order.0, order.1, order_more x.to rs r order.2 begins ends)
 
@@ -114,7 +114,7 @@ pub good_block : (last : ℕ) (b : BlockMeaning) (bs : List BlockMeaning) → so
 good_block last b bs good = (grind (arith, nat_tests), grind (arith, nat_tests), grind (arith, nat_tests))
 
 -- one block more is kept
-pub remembered_more : (rs : List Run) (r : Run) (b : BlockMeaning) (bs : List BlockMeaning) (i : ℕ) → 0 < i → r.from ≡ b.start - 1 → r.to ≡ b.end → (in_runs (rs ++ r ∷ []) i || in_blocks 0 bs i) ≡ (in_runs rs i || in_blocks 0 (b ∷ bs) i)
+pub remembered_more : (rs : List CoveredRun) (r : CoveredRun) (b : BlockMeaning) (bs : List BlockMeaning) (i : ℕ) → 0 < i → r.from ≡ b.start - 1 → r.to ≡ b.end → (in_runs (rs ++ r ∷ []) i || in_blocks 0 bs i) ≡ (in_runs rs i || in_blocks 0 (b ∷ bs) i)
 remembered_more rs r b bs i some from to =
     let starts : nat_lt r.from i ≡ nat_le (0 + b.start) i = grind (arith, nat_tests) in
     let ends : nat_le i r.to ≡ nat_le i (0 + b.end) = grind (arith, nat_tests) in

@@ -19,8 +19,8 @@ use Rattle.sctp_send.specs.SenderStands.{items_from, table, track_here, rest_her
 use Rattle.sctp_send.specs.inner.Walks.{is_numbered_fate, any_uncovered, is_item_uncovered, any_rest, rest_has}
 use Rattle.sctp_send.specs.declared.message.Fate.{Fate}
 use Rattle.sctp_send.specs.declared.message.Fate.TheVariants.{Waiting, Numbered, GivenUp}
-use Rattle.sctp_send.specs.declared.outstanding.Outstanding.{Outstanding}
-use Rattle.sctp_send.specs.declared.sender.Track.{Track as TrackFields}
+use Rattle.sctp_send.specs.declared.entry.Outstanding.{Outstanding}
+use Rattle.sctp_send.specs.declared.track.Track.{Track as TrackFields}
 use Rattle.sctp_send.proofs.TableLemmas.{table-push}
 use Rattle.sctp_send.proofs.ItemLemmas.{item_read}
 use Rattle.sctp_send.proofs.ReaderLemmas.{fate_at}

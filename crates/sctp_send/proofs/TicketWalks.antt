@@ -15,9 +15,9 @@ use Rattle.sctp_send.specs.inner.Counting.{IsCounted}
 use Rattle.sctp_send.specs.declared.by_ticket.Spot.{Spot}
 use Rattle.sctp_send.specs.declared.by_ticket.ByTicket.{ByTicket}
 use Rattle.sctp_send.specs.declared.counts.Counts.{Counts}
-use Rattle.sctp_send.specs.declared.outstanding.Standing.{Standing}
-use Rattle.sctp_send.specs.declared.outstanding.Standing.TheVariants.{Unsent, Sent, Marked}
-use Rattle.sctp_send.specs.declared.outstanding.Outstanding.{Outstanding}
+use Rattle.sctp_send.specs.declared.entry.Standing.{Standing}
+use Rattle.sctp_send.specs.declared.entry.Standing.TheVariants.{Unsent, Sent, Marked}
+use Rattle.sctp_send.specs.declared.entry.Outstanding.{Outstanding}
 use Rattle.sctp_send.proofs.ListParts.{has_at, at_same, here_first, taken_has, dropped_has, front_or_back, taken_one, order_back, halves}
 use Rattle.sctp_send.proofs.OrderLemmas.{before_is, is_before, get_within}
 
@@ -63,7 +63,7 @@ module _ (es : List Outstanding) (first : ℕ) (ss : List Spot) (order : IsOrder
       let long = long_tickets es in
       omega (arith, within, is, long)
 
-  spot_ticket : (s : Spot) (e : Outstanding) → Has ss s → slice_get es (offset_of first s) ≡ Some e → ticket_of e ≡ s.ticket
+  pub spot_ticket : (s : Spot) (e : Outstanding) → Has ss s → slice_get es (offset_of first s) ≡ Some e → ticket_of e ≡ s.ticket
   spot_ticket s e there read = ticket_there es (offset_of first s) s.ticket e (order.each s there) read
 
   -- those of lower tickets
@@ -325,5 +325,5 @@ late_ticket_is now last size u e is = by_done (e.covered || e.given_up) refl
 -- ---- a window
 
 -- other counts of the same entries
-pub recounted : (size : ℕ) (es : List Outstanding) (capacity : ℕ) (c d : Counts) (o : ByTicket) (room : ℕ) → IsCounted size es d → IsInOrder size es capacity c o room → IsInOrder size es capacity d o room
-recounted size es capacity c d o room counted h = record { counted = counted; order = h.order; below = h.below; few = h.few; within = h.within; here = h.here; there = h.there }
+pub recounted : (size : ℕ) (es : List Outstanding) (capacity : ℕ) (c d : Counts) (o : ByTicket) (room : ℕ) (bs : List ℕ) → IsCounted size es d → IsInOrder size es capacity c o room bs → IsInOrder size es capacity d o room bs
+recounted size es capacity c d o room bs counted h = record { counted = counted; order = h.order; below = h.below; few = h.few; within = h.within; here = h.here; there = h.there; bounded = h.bounded }

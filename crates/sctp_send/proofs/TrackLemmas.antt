@@ -5,8 +5,8 @@ use Rattle.std.proofs.lemmas.Option.{get_or_from_slice_get}
 use Rattle.sctp_send.specs.SenderKept.{Track}
 use Rattle.sctp_send.specs.SenderFields.{rest_meaning, rests_meaning, track_meaning}
 use Rattle.sctp_send.specs.inner.Walks.{rest_has, GoesOnAt, EndsAt}
-use Rattle.sctp_send.specs.declared.sender.Rest.{Rest as RestFields}
-use Rattle.sctp_send.specs.declared.sender.Track.{Track as TrackFields}
+use Rattle.sctp_send.specs.declared.track.Rest.{Rest as RestFields}
+use Rattle.sctp_send.specs.declared.track.Track.{Track as TrackFields}
 use Rattle.sctp_send.proofs.WalkLemmas.{track_read}
 
 pub rest_taken : (size t at : ℕ) (ts : List TrackFields) (x : TrackFields) → x ≡ get_or ts at x → GoesOnAt t at (map (track_meaning size) ts)

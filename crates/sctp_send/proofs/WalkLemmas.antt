@@ -4,7 +4,7 @@ use Rattle.std.specs.declared.rc.Rc.{Rc}
 use Rattle.std.specs.declared.alloc.Global.{Global}
 use Rattle.sctp_send.specs.SenderFields.{track_meaning, queued_by}
 use Rattle.sctp_send.specs.declared.message.Message.{Message as MessageFields}
-use Rattle.sctp_send.specs.declared.sender.Track.{Track as TrackFields}
+use Rattle.sctp_send.specs.declared.track.Track.{Track as TrackFields}
 
 -- ---- the end
 

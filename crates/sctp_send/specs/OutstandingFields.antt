@@ -8,11 +8,11 @@ use Rattle.sctp_values.specs.Meanings.{kind_meaning}
 use Rattle.sctp_values.specs.declared.kind.Kind.{Kind}
 use Rattle.sctp_send.specs.SenderKept.{Item}
 use Rattle.sctp_send.specs.declared.message.Message.{Message as MessageFields}
-use Rattle.sctp_send.specs.declared.outstanding.Standing.{Standing}
-use Rattle.sctp_send.specs.declared.outstanding.Standing.TheVariants.{Unsent, Sent, Marked}
-use Rattle.sctp_send.specs.declared.outstanding.Place.{Place}
-use Rattle.sctp_send.specs.declared.outstanding.Place.TheVariants.{Fragment, EndMark}
-use Rattle.sctp_send.specs.declared.outstanding.Outstanding.{Outstanding}
+use Rattle.sctp_send.specs.declared.entry.Standing.{Standing}
+use Rattle.sctp_send.specs.declared.entry.Standing.TheVariants.{Unsent, Sent, Marked}
+use Rattle.sctp_send.specs.declared.entry.Place.{Place}
+use Rattle.sctp_send.specs.declared.entry.Place.TheVariants.{Fragment, EndMark}
+use Rattle.sctp_send.specs.declared.entry.Outstanding.{Outstanding}
 
 -- the entry went out at least once
 abbrev pub was_sent : Standing → Bool

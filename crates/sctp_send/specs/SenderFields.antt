@@ -8,8 +8,8 @@ use Rattle.sctp_model.specs.sender.SenderView.{Queued}
 use Rattle.sctp_send.specs.SenderKept.{Rest, Track}
 use Rattle.sctp_send.specs.OutstandingFields.{lane_meaning, message_meaning, queued_meaning}
 use Rattle.sctp_send.specs.declared.message.Message.{Message as MessageFields}
-use Rattle.sctp_send.specs.declared.sender.Rest.{Rest as RestFields}
-use Rattle.sctp_send.specs.declared.sender.Track.{Track as TrackFields}
+use Rattle.sctp_send.specs.declared.track.Rest.{Rest as RestFields}
+use Rattle.sctp_send.specs.declared.track.Track.{Track as TrackFields}
 
 -- a message that waits
 abbrev pub queued_by : ℕ → Rc MessageFields Global → Queued

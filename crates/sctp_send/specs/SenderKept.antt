@@ -3,7 +3,7 @@ use Rattle.std.specs.Prelude.{ℕ, Bool, List, Option}
 use Rattle.sctp_model.specs.messages.Plan.{Message, Entry}
 use Rattle.sctp_model.specs.sender.SenderView.{Queued}
 use Rattle.sctp_send.specs.declared.message.Fate.{Fate}
-use Rattle.sctp_send.specs.declared.outstanding.Run.{Run}
+use Rattle.sctp_send.specs.declared.entry.CoveredRun.{CoveredRun}
 
 -- what is kept of one index above CUM
 pub record Item : Type 0 where
@@ -40,6 +40,6 @@ pub record Kept : Type 0 where
   -- by ticket, from 1 on
   pub fates : List Fate
   -- what is covered above CUM, where that is known
-  pub runs : Option (List Run)
+  pub runs : Option (List CoveredRun)
   -- how many entries above CUM there is room for
   pub capacity : ℕ

@@ -10,4 +10,6 @@ pub mod Counting
 pub mod Seating
 pub mod Undoing
 pub mod Lanes
+pub mod Bounding
 pub mod TicketOrder
+pub mod PartPairs

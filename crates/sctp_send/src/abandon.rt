@@ -7,14 +7,15 @@ ghost use Rattle.sctp_model.specs.sender.Abandoning.{AbandonAnswer, abandon_answ
 ghost use Rattle.sctp_send.specs.OutstandingFields.{item_meaning};
 ghost use Rattle.sctp_send.specs.SenderFields.{queued_by, track_meaning, rest_meaning};
 ghost use Rattle.sctp_send.specs.SenderStands.{StandsFor, fate_here};
-ghost use Rattle.sctp_send.specs.inner.Walks.{is_numbered_fate, any_rest, end_item, GoesOnAt, EndsAt};
+ghost use Rattle.sctp_send.specs.inner.Walks.{is_numbered_fate, any_rest, end_item, EndsAt};
 ghost use Rattle.sctp_send.specs.SenderAnswers.{answer_meaning, answer_code};
 
+use crate::entry::{Outstanding, Place, Standing};
 use crate::message::Fate;
-use crate::outstanding::{Outstanding, Place, Standing};
-use crate::readers::{goes_on, is_all_covered};
-use crate::sender::{Rest, Sender, Track};
+use crate::readers::is_all_covered;
+use crate::sender::Sender;
 use crate::streams::Streams;
+use crate::track::{Rest, Track};
 use crate::waiting::Waiting;
 use crate::window::Window;
 use sctp_framing::Framing;
@@ -129,10 +130,7 @@ fn end(tracks: &mut Streams, ticket: u32) -> Option<Rest>
     ensures same { IfNone result (tracks.new.items ≡ tracks.old.items) }
     ensures some { (size : ℕ) → IfSome result (λ rest. EndsAt ticket (rest_meaning size rest) (map (track_meaning size) tracks.old.items) (map (track_meaning size) tracks.new.items)) }
 {
-    if !tracks.has_part() {
-        return None;
-    }
-    let at = stream_of(tracks.tracks(), ticket)?;
+    let at = tracks.stream_of(ticket)?;
     let track = &tracks.tracks()[at];
     let next = Track {
         ordered: track.ordered,
@@ -140,20 +138,6 @@ fn end(tracks: &mut Streams, ticket: u32) -> Option<Rest>
         rest: None,
     };
     tracks.replace(at, next).rest
-}
-
-/// The stream that goes on with the message with this ticket.
-fn stream_of(tracks: &[Track], ticket: u32) -> Option<usize>
-    ensures within { IfSome result (λ at. at < length tracks.now) }
-    ensures none { (size : ℕ) → IfNone result (any_rest ticket (map (track_meaning size) tracks.now) ≡ false) }
-    ensures some { (size : ℕ) → IfSome result (λ at. GoesOnAt ticket at (map (track_meaning size) tracks.now)) }
-{
-    for at in 0..tracks.len() {
-        if goes_on(&tracks[at], ticket) {
-            return Some(at);
-        }
-    }
-    None
 }
 
 /// The end mark of a message stands behind the other entries. There is room for it since the message took its number.

@@ -10,12 +10,12 @@ ghost use Rattle.sctp_send.specs.SenderStands.{Keeps};
 ghost use Rattle.sctp_send.specs.SenderFields.{track_meaning, rests_meaning};
 ghost use Rattle.sctp_send.specs.inner.Walks.{total, one_if_rest};
 ghost use Rattle.sctp_send.specs.inner.Drafting.{drafted, NewAnswer, FirstTurnAnswer, IsNextWithin};
-ghost use Rattle.sctp_send.specs.inner.Newcomers.{rest_at, has_rest, one_if, IsNextPart};
+ghost use Rattle.sctp_send.specs.inner.Newcomers.{rest_at, has_rest, one_if};
 
 use crate::draft::{Draft, copied_rest};
-use crate::queue::fragments_of;
-use crate::sender::{Rest, Track};
-use crate::streams::Streams;
+use crate::looking::goes_on_at;
+use crate::message::fragments_of;
+use crate::track::{Rest, Track};
 use sctp_framing::Framing;
 use sctp_values::{NoMemory, WINDOW};
 
@@ -91,7 +91,7 @@ fn next_between(draft: &Draft, from: u16, below: u16, streams: u16) -> Option<Ne
     };
     let stream = found.stream;
     let behind = stream_after(stream, streams);
-    let part = next_part(&draft.tracks, from, stream + 1);
+    let part = draft.tracks.next_part(from, stream + 1);
     if part <= stream {
         return Some(Next::Continues(part));
     }
@@ -108,26 +108,11 @@ fn part_between(draft: &Draft, from: u16, below: u16, streams: u16) -> Option<Ne
     ensures does { (s : Kept) (v : SenderView) → s.streams ≡ streams → Keeps Interleaved (drafted s draft.now) v → ((j : ℕ) → from ≤ j → j < below → first_on j v.queue ≡ None) → FirstTurnAnswer v from below result }
     ensures within { IsNextWithin draft.now streams result }
 {
-    let part = next_part(&draft.tracks, from, below);
+    let part = draft.tracks.next_part(from, below);
     if part < below {
         return Some(Next::Continues(part));
     }
     None
-}
-
-/// The first stream from one on, below another, with a message in part, or that other.
-fn next_part(tracks: &Streams, from: u16, below: u16) -> u16
-    ensures { (size : ℕ) → IsNextPart from below (map (track_meaning size) tracks.now.items) result }
-{
-    if !tracks.has_part() {
-        return below;
-    }
-    for stream in from..below {
-        if goes_on_at(tracks.tracks(), stream) {
-            return stream;
-        }
-    }
-    below
 }
 
 /// The stream behind this one, upward and cyclic.
@@ -136,16 +121,6 @@ pub fn stream_after(stream: u16, streams: u16) -> u16
     ensures { result ≡ suc stream % streams }
 {
     ((u32::from(stream) + 1) % u32::from(streams)) as u16
-}
-
-/// A stream has a message in part.
-fn goes_on_at(tracks: &[Track], stream: u16) -> bool
-    ensures { (size : ℕ) → result ≡ has_rest (rest_at (map (track_meaning size) tracks.now) stream) }
-{
-    match tracks.get(usize::from(stream)) {
-        Some(track) => track.rest.is_some(),
-        None => false,
-    }
 }
 
 /// A copy of what is left of the message in part of a stream.

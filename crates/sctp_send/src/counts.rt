@@ -5,13 +5,15 @@ ghost use Rattle.sctp_send.specs.SenderKept.{Item};
 ghost use Rattle.sctp_send.specs.OutstandingFields.{item_meaning};
 ghost use Rattle.std.specs.VecDeque.{deque_capacity};
 ghost use Rattle.sctp_send.specs.WindowKept.{at_place};
+ghost use Rattle.sctp_send.specs.inner.Bounding.{bound_of, IsBounded};
 ghost use Rattle.sctp_send.specs.inner.Changes.{stood};
 ghost use Rattle.sctp_send.specs.inner.Counting.{entered, left, lowered, furthest, reached, moment, IsCounted};
 ghost use Rattle.sctp_send.specs.inner.Walks.{abandoned_items};
 ghost use Rattle.sctp_send.specs.inner.Newcomers.{one_if};
 
+use crate::bounds::{keep, lower};
+use crate::entry::{Outstanding, Standing};
 use crate::message::moment_of;
-use crate::outstanding::{Outstanding, Standing};
 use crate::wishes::{is_done, is_first_sending, is_repeat, is_unsettled, weight};
 use std::collections::VecDeque;
 
@@ -121,6 +123,27 @@ pub fn moment(entry: &Outstanding) -> u64
     } else {
         moment_of(&entry.message)
     }
+}
+
+/// An entry comes to so many others, none of which is worthless before the earliest moment.
+pub fn bound_new(bounds: &mut Vec<u64>, earliest: u64, entry: &Outstanding, others: usize)
+    ensures others { (t m : ℕ) → earliest ≤ m → bound_of bounds.old.items t ≤ m → bound_of bounds.new.items t ≤ m }
+    ensures here { IsBounded bounds.new.items entry.now }
+{
+    let moment = moment(entry);
+    keep(bounds, earliest, moment, others);
+    lower(bounds, entry.message.ticket, moment);
+}
+
+/// An entry changed.
+pub fn bound_again(bounds: &mut Vec<u64>, entry: &Outstanding)
+    ensures others { (t : ℕ) → bound_of bounds.new.items t ≤ bound_of bounds.old.items t }
+    ensures here { IsBounded bounds.new.items entry.now }
+{
+    if bounds.is_empty() {
+        return;
+    }
+    lower(bounds, entry.message.ticket, moment(entry));
 }
 
 /// What became of the entry at an offset; its ticket stays.

@@ -6,10 +6,10 @@ ghost use Rattle.sctp_send.specs.SenderFields.{rests_meaning};
 ghost use Rattle.sctp_send.specs.WindowKept.{changed};
 ghost use Rattle.sctp_send.specs.inner.Undoing.{parts_of, undone, origin, stands_so, waits_again, IsKeptRoom};
 
-use crate::message::Message;
-use crate::outstanding::Standing;
-use crate::sender::{Rest, Track};
+use crate::entry::Standing;
+use crate::message::{Message, shared};
 use crate::streams::Streams;
+use crate::track::{Rest, Track};
 use crate::waiting::Waiting;
 use crate::window::Window;
 use sctp_values::{NoMemory, Ticket};
@@ -131,13 +131,6 @@ fn go_on_again(tracks: &mut Streams, stream: u16, track: Track)
     if at < tracks.tracks().len() {
         let _later = tracks.replace(at, track);
     }
-}
-
-/// The same message, owned once more.
-pub fn shared(message: &Rc<Message>) -> Result<Rc<Message>, NoMemory>
-    ensures { IfOk result (λ copy. copy.value ≡ message.now.value) }
-{
-    message.clone().map_err(|_| NoMemory)
 }
 
 /// A copy of what is left of a message in part, where there is one.

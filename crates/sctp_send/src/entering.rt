@@ -11,13 +11,13 @@ ghost use Rattle.sctp_send.specs.inner.Drafting.{numbers_of, drafted, fragment_i
 ghost use Rattle.sctp_send.specs.inner.Undoing.{Parts, before_all, IsSized, IsBehind};
 
 use crate::assigning::{Beginning, stream_after};
-use crate::draft::{Change, Draft, note, shared};
-use crate::message::Message;
-use crate::outstanding::Standing;
+use crate::draft::{Change, Draft, note};
+use crate::entry::Standing;
+use crate::message::{Message, fragments_of, shared};
 use crate::pushing::{push_begun, push_fragment};
-use crate::queue::fragments_of;
-use crate::sender::{Rest, Sender, Track};
+use crate::sender::Sender;
 use crate::streams::Streams;
+use crate::track::{Rest, Track};
 use crate::waiting::Waiting;
 use sctp_framing::Framing;
 use sctp_values::{Kind, NoMemory, Ticket};

@@ -1,15 +1,12 @@
 //! Messages that are past their time (RFC 3758, 3.5 and 4.1: timed reliability).
 
-ghost use Rattle.std.specs.Prelude.{◌≡◌, ℕ, false, Some, None, map};
+ghost use Rattle.std.specs.Prelude.{◌≡◌, false, None};
 ghost use Rattle.sctp_model.specs.sender.SenderView.{SenderView};
 ghost use Rattle.sctp_model.specs.sender.Abandoning.{has_late, expired};
-ghost use Rattle.sctp_send.specs.OutstandingFields.{message_meaning};
-ghost use Rattle.sctp_send.specs.SenderFields.{track_meaning};
 ghost use Rattle.sctp_send.specs.SenderStands.{StandsFor};
-ghost use Rattle.sctp_send.specs.inner.Expiring.{sooner, late_after, soonest, rest_message, kept_messages};
+ghost use Rattle.sctp_send.specs.inner.Expiring.{soonest, kept_messages};
 
-use crate::message::Message;
-use crate::sender::{Sender, Track};
+use crate::sender::Sender;
 use sctp_framing::Framing;
 use sctp_values::Ticket;
 
@@ -67,32 +64,5 @@ impl<F: Framing> Sender<F> {
         }
         let found = self.outstanding.late(last, now, found);
         self.tracks.late(last, now, found)
-    }
-}
-
-/// The lower of a ticket, if there is one, and that of a message, if it lies above the last one and the message is past its time.
-pub fn sooner(found: Option<u32>, message: &Message, last: u32, now: u64) -> Option<u32>
-    ensures { (size : ℕ) → result ≡ sooner found (late_after now last (Some (message_meaning size message.now))) }
-{
-    let late = match message.until {
-        Some(until) => until <= now,
-        None => false,
-    };
-    if !late || message.ticket <= last {
-        return found;
-    }
-    match found {
-        Some(ticket) => Some(ticket.min(message.ticket)),
-        None => Some(message.ticket),
-    }
-}
-
-/// The same of the message in part of one stream.
-pub fn sooner_rest(found: Option<u32>, track: &Track, last: u32, now: u64) -> Option<u32>
-    ensures { (size : ℕ) → result ≡ sooner found (late_after now last (rest_message (track_meaning size track.now))) }
-{
-    match &track.rest {
-        Some(rest) => sooner(found, &rest.message, last, now),
-        None => found,
     }
 }

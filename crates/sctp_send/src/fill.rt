@@ -38,10 +38,10 @@ impl<F: Framing> Sender<F> {
     {
         let mut draft = self.draft();
         match self.put_all(&mut draft, packet) {
-            Ok(()) => Ok(self.take_over(draft)),
+            Ok(()) => Ok(self.take_over(&mut draft)),
             Err(failed) => {
                 take_back(&mut draft);
-                let _as_before = self.take_over(draft);
+                let _as_before = self.take_over(&mut draft);
                 Err(failed)
             }
         }
@@ -68,26 +68,19 @@ impl<F: Framing> Sender<F> {
         }
     }
 
-    /// The draft takes the place of the sender's own parts.
-    fn take_over(&mut self, draft: Draft) -> Filled
-        requires { IsSized self.old.fragment draft }
-        ensures kept { self.new ≡ drafted self.old draft }
-        ensures tickets { result.tickets ≡ draft.tickets }
+    /// What is in the draft takes the place of the sender's own parts, which are left there.
+    fn take_over(&mut self, draft: &mut Draft) -> Filled
+        requires { IsSized self.old.fragment draft.old }
+        ensures kept { self.new ≡ drafted self.old draft.old }
+        ensures tickets { result.tickets ≡ draft.old.tickets }
     {
-        let Draft {
-            outstanding,
-            queue,
-            tracks,
-            turn,
-            tickets,
-            mut log,
-        } = draft;
-        log.clear();
-        self.outstanding = outstanding;
-        self.queue = queue;
-        self.tracks = tracks;
-        self.turn = turn;
-        self.log = log;
+        draft.log.clear();
+        mem::swap(&mut self.outstanding, &mut draft.outstanding);
+        mem::swap(&mut self.queue, &mut draft.queue);
+        mem::swap(&mut self.tracks, &mut draft.tracks);
+        mem::swap(&mut self.log, &mut draft.log);
+        self.turn = draft.turn;
+        let tickets = mem::replace(&mut draft.tickets, Vec::new(self.alloc));
         number_all(&mut self.fates, &tickets);
         Filled { tickets }
     }

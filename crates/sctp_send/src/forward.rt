@@ -14,8 +14,8 @@ ghost use Rattle.sctp_send.specs.OutstandingFields.{item_meaning, lane_of, entri
 ghost use Rattle.sctp_send.specs.SenderStands.{StandsFor};
 ghost use Rattle.sctp_send.specs.inner.Newcomers.{one_if};
 
+use crate::entry::Outstanding;
 use crate::lanes::{lanes_below, list_of};
-use crate::outstanding::Outstanding;
 use crate::readers::abandoned_run;
 use crate::sender::Sender;
 use crate::window::Window;

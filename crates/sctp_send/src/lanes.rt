@@ -10,7 +10,7 @@ ghost use Rattle.sctp_framing.specs.SkipForms.{skip_form};
 ghost use Rattle.sctp_send.specs.OutstandingFields.{item_meaning, lane_of, entries_of};
 ghost use Rattle.sctp_send.specs.inner.Lanes.{lane_key, passed_meaning, AreRising, before, noted, noted_entry};
 
-use crate::outstanding::Outstanding;
+use crate::entry::Outstanding;
 use crate::window::Window;
 use sctp_framing::Framing;
 use sctp_values::{Kind, NoMemory};

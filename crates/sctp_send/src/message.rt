@@ -1,6 +1,7 @@
 //! A message as it was handed in, and what became of it.
 
-ghost use Rattle.std.specs.Prelude.{◌≡◌, ℕ, Some, IfOk};
+ghost use Rattle.std.specs.Prelude.{◌≡◌, ℕ, Some, IfOk, ◌<◌, ◌%◌, ◌^◌, length};
+ghost use Rattle.sctp_model.specs.sender.Queueing.{cut, owed_for};
 ghost use Rattle.sctp_send.specs.OutstandingFields.{message_meaning};
 ghost use Rattle.sctp_send.specs.inner.Counting.{moment_from};
 
@@ -78,4 +79,38 @@ pub enum Fate {
     Withdrawn,
     /// It has a number and was abandoned.
     GivenUp,
+}
+
+/// The same message, owned once more.
+pub fn shared(message: &Rc<Message>) -> Result<Rc<Message>, NoMemory>
+    ensures { IfOk result (λ copy. copy.value ≡ message.now.value) }
+{
+    message.clone().map_err(|_| NoMemory)
+}
+
+/// How many fragments of this size so many bytes make.
+pub fn fragments_of(size: u16, bytes: &[u8]) -> usize
+    requires { 0 < size }
+    ensures { result ≡ length (cut size bytes.now) }
+{
+    bytes.len().div_ceil(usize::from(size))
+}
+
+/// What a message owes with so many unassigned fragments: their TSNs, and one for an end mark.
+pub fn owed(count: usize) -> u64
+    ensures { result ≡ owed_for count % 2 ^ 64 }
+{
+    if count == 0 {
+        0
+    } else {
+        (count as u64).wrapping_add(1)
+    }
+}
+
+/// What a message that waits owes.
+pub fn owed_by_message(message: &Message, size: u16) -> u64
+    requires { 0 < size }
+    ensures { result ≡ owed_for (length (message_meaning size message.now).fragments) % 2 ^ 64 }
+{
+    owed(fragments_of(size, &message.bytes))
 }

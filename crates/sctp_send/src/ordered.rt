@@ -1,10 +1,11 @@
 //! Pairs of numbers in rising order, so that one is found by halves.
 
-ghost use Rattle.std.specs.Prelude.{◌≡◌, ℕ, ◌+◌, ◌*◌, ◌^◌, ◌<◌, ◌≤◌, [], length, insert, remove, slice_index_or, OnOk};
+ghost use Rattle.std.specs.Prelude.{◌≡◌, ◌+◌, ◌^◌, ◌<◌, ◌≤◌, [], nat_lt, length, insert, remove, slice_index_or, OnOk, IfSome};
 ghost use Rattle.sctp_send.specs.inner.Ordering.{key, before, AreOrdered};
 
 use sctp_values::NoMemory;
 use std::alloc::Global;
+use std::collections::VecDeque;
 use std::marker::Model;
 
 /// Two numbers. Pairs stand by rising first number, and where it is the same by rising second one.
@@ -17,18 +18,18 @@ pub struct Pair {
 /// Pairs in rising order.
 #[derive(Debug, Drop)]
 pub struct Ordered {
-    pairs: Vec<Pair>,
+    pairs: VecDeque<Pair>,
 }
 
 impl Model for Ordered {
-    ghost use Rattle.std.specs.Vec.{vec_capacity};
+    ghost use Rattle.std.specs.VecDeque.{deque_capacity};
     ghost use Rattle.sctp_send.specs.inner.Ordering.{OrderedKept};
 
     ghost Value = { OrderedKept };
 
     ghost use Rattle.sctp_send.specs.inner.Ordering.{AreOrdered};
 
-    ghost view = { λ w. record { items = w.pairs.items; capacity = vec_capacity w.pairs } };
+    ghost view = { λ w. record { items = w.pairs.items; capacity = deque_capacity w.pairs } };
 
     ghost invariant = { λ w. AreOrdered w.pairs.items };
 }
@@ -39,7 +40,7 @@ impl Ordered {
         ensures { result.items ≡ [] }
     {
         Ordered {
-            pairs: Vec::new(alloc),
+            pairs: VecDeque::new(alloc),
         }
     }
 
@@ -82,28 +83,43 @@ impl Ordered {
         ensures order { AreOrdered self.now.items }
         ensures small { pair.second < 2 ^ 32 }
     {
-        let key = key_of(pair);
-        let mut low = 0;
-        let mut high = self.pairs.len();
-        // Most pairs come behind all others.
-        let mut middle = high.saturating_sub(1);
-        while low < high {
-            if key_of(self.pairs[middle]) < key {
-                low = middle + 1;
-                middle = low + (high - low) / 2;
-            } else {
-                high = middle;
-                middle = low + (high - low) / 2;
-            }
+        let sought = key_of(pair);
+        if let Some(place) = self.place_at_end(sought) {
+            return place;
         }
-        low
+        self.pairs.partition_point(
+            |one: &Pair| -> bool
+                ensures { result ≡ nat_lt (key one.now) sought }
+            { key_of(*one) < sought },
+        )
+    }
+
+    /// The place of what comes before all pairs, or behind them.
+    fn place_at_end(&self, sought: u64) -> Option<usize>
+        ensures place { IfSome result (λ place. place ≡ before key sought self.now.items) }
+        ensures within { IfSome result (λ place. place ≤ length self.now.items) }
+        ensures order { AreOrdered self.now.items }
+    {
+        let len = self.pairs.len();
+        if len == 0 {
+            return Some(0);
+        }
+        let first = self.pairs[0];
+        if sought <= key_of(first) {
+            return Some(0);
+        }
+        let last = self.pairs[len - 1];
+        if key_of(last) < sought {
+            return Some(len);
+        }
+        None
     }
 
     /// A pair comes at its place. There is room for it.
     pub fn insert(&mut self, pair: Pair)
         requires { length self.old.items < self.old.capacity }
         ensures items { self.new.items ≡ insert self.old.items (before key (key pair) self.old.items) pair }
-        ensures capacity { self.new.capacity ≡ self.old.capacity }
+        ensures capacity { self.old.capacity ≤ self.new.capacity }
     {
         let place = self.place_of(pair);
         let _placed = self.pairs.insert(place, pair);

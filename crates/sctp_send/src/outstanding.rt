@@ -3,69 +3,18 @@
 ghost use Rattle.std.specs.Prelude.{◌≡◌, ℕ, Bool, true, false, ◌<◌, ◌≤◌, ◌-◌, List, length, drop, None};
 ghost use Rattle.sctp_send.specs.WindowKept.{IsSameRoom, changed};
 ghost use Rattle.sctp_model.specs.messages.Acknowledgement.{in_blocks};
-ghost use Rattle.sctp_send.specs.inner.Changes.{unmarked, told, all_told, or_run, timed, all_timed};
+ghost use Rattle.sctp_send.specs.inner.Changes.{told, all_told, or_run, timed, all_timed};
 ghost use Rattle.sctp_model.specs.sender.SackTaken.{some_is_bad};
 ghost use Rattle.sctp_send.specs.CoveredRuns.{run_behind, runs_behind, HoldsBlocks};
 ghost use Rattle.sctp_send.specs.inner.Acknowledging.{block_fault};
+ghost use Rattle.sctp_send.specs.declared.entry.Outstanding.{Outstanding};
 
+use crate::entry::{CoveredRun, RUNS, Standing, unmarked};
 use crate::message::{Message, lay_by};
 use crate::window::Window;
 use sctp_wire::Blocks;
 use std::alloc::Global;
 use std::rc::Rc;
-
-/// Whether an entry went out, and whether it is to go out again.
-#[derive(Clone, Copy, Debug, PartialEq, Eq)]
-pub enum Standing {
-    /// It never went out.
-    Unsent,
-    /// It went out.
-    Sent,
-    /// It went out, and waits to be repeated.
-    Marked,
-}
-
-/// What stands at an index.
-#[derive(Clone, Copy, Debug, PartialEq, Eq)]
-pub enum Place {
-    /// A fragment of a message.
-    Fragment(u32),
-    /// The end mark of a message that was given up in part.
-    EndMark,
-}
-
-/// One index above CUM: the fragment or end mark that has it, and what became of it.
-#[derive(Debug, Drop)]
-pub struct Outstanding {
-    pub message: Rc<Message>,
-    /// Its message's place in the lane (SSN or MID, as a count).
-    pub number: u32,
-    pub place: Place,
-    pub standing: Standing,
-    pub covered: bool,
-    pub given_up: bool,
-}
-
-/// A run of entries that the peer has, by their offsets above CUM: those behind `from`, up to `to`.
-#[derive(Clone, Copy, Debug, PartialEq, Eq)]
-pub struct Run {
-    pub from: u16,
-    pub to: u16,
-}
-
-/// The most runs that are kept: as many blocks as a SACK has in a packet of 1,500 bytes (RFC 9260, 3.3.4), behind the packet's header and
-/// its own first 16 bytes.
-pub const RUNS: usize = 368;
-
-/// The same standing without its mark.
-pub fn unmarked(standing: Standing) -> Standing
-    ensures { result ≡ unmarked standing }
-{
-    match standing {
-        Standing::Unsent => Standing::Unsent,
-        Standing::Sent | Standing::Marked => Standing::Sent,
-    }
-}
 
 /// An entry is told covered, where there is nothing to repeat, or not.
 pub fn tell_one(outstanding: &mut Window, at: usize, covered: bool)
@@ -136,7 +85,7 @@ pub fn forget(outstanding: &mut Window, spent: &mut Vec<Rc<Message>>, alloc: Glo
 }
 
 /// The runs as seen from so many entries further on.
-pub fn move_on(runs: &mut Vec<Run>, passed: usize)
+pub fn move_on(runs: &mut Vec<CoveredRun>, passed: usize)
     ensures { runs.new.items ≡ runs_behind passed runs.old.items }
 {
     for at in 0..runs.len() {
@@ -145,10 +94,10 @@ pub fn move_on(runs: &mut Vec<Run>, passed: usize)
 }
 
 /// A run as seen from so many entries further on.
-fn run_behind(run: Run, passed: usize) -> Run
+fn run_behind(run: CoveredRun, passed: usize) -> CoveredRun
     ensures { result ≡ run_behind passed run }
 {
-    Run {
+    CoveredRun {
         from: less(run.from, passed),
         to: less(run.to, passed),
     }
@@ -166,13 +115,13 @@ fn less(offset: u16, passed: usize) -> u16
 }
 
 /// Keeps what blocks cover, in place of what was kept; false where they are too many.
-pub fn remember(runs: &mut Vec<Run>, blocks: &Blocks<'_>) -> bool
+pub fn remember(runs: &mut Vec<CoveredRun>, blocks: &Blocks<'_>) -> bool
     requires { some_is_bad 0 blocks.now ≡ false }
     ensures { result ≡ true → HoldsBlocks runs.new.items blocks.now }
 {
     runs.clear();
     for block in blocks.iter() {
-        let run = Run {
+        let run = CoveredRun {
             from: block.start.saturating_sub(1),
             to: block.end,
         };

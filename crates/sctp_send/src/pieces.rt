@@ -9,9 +9,8 @@ ghost use Rattle.sctp_packet.specs.Draft.{has_room, after_try};
 ghost use Rattle.sctp_send.specs.OutstandingFields.{message_meaning, entry_meaning};
 ghost use Rattle.sctp_send.specs.inner.Drafting.{fragment_chunk};
 
-use crate::message::Message;
-use crate::outstanding::Place;
-use crate::queue::fragments_of;
+use crate::entry::Place;
+use crate::message::{Message, fragments_of};
 use sctp_framing::Framing;
 use sctp_packet::PacketWriter;
 use sctp_values::NoMemory;

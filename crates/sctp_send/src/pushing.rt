@@ -7,9 +7,8 @@ ghost use Rattle.sctp_send.specs.inner.Newcomers.{begun_items};
 ghost use Rattle.sctp_send.specs.inner.Drafting.{fragment_item};
 ghost use Rattle.sctp_model.specs.numbers.Limits.{WINDOW};
 
-use crate::draft::shared;
-use crate::message::Message;
-use crate::outstanding::{Outstanding, Place, Standing};
+use crate::entry::{Outstanding, Place, Standing};
+use crate::message::{Message, shared};
 use crate::window::Window;
 use sctp_values::NoMemory;
 use std::rc::Rc;

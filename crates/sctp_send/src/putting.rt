@@ -11,12 +11,11 @@ ghost use Rattle.sctp_send.specs.inner.Drafting.{drafted, went_out, PutAnswer, I
 ghost use Rattle.sctp_send.specs.inner.Newcomers.{IsBegun, IsContinued};
 
 use crate::assigning::{Beginning, Next, has_window, next_new, rest_of};
-use crate::draft::{Change, Draft, note, shared};
+use crate::draft::{Change, Draft, note};
 use crate::entering::number_next;
-use crate::message::Message;
-use crate::outstanding::{Place, Standing};
+use crate::entry::{Place, Standing};
+use crate::message::{Message, fragments_of, shared};
 use crate::pieces::{bytes_of, put_fragment};
-use crate::queue::fragments_of;
 use crate::sender::Sender;
 use crate::window::Window;
 use crate::wishes::may_flow;

@@ -1,17 +1,16 @@
 //! Messages handed in: refused for the first reason that holds, or queued (RFC 9260, 6.9).
 
-ghost use Rattle.std.specs.Prelude.{◌≡◌, ℕ, ◌<◌, ◌^◌, ◌%◌, ◌+◌, ◌++◌, ◌∷◌, [], map, length, OnOk, OnErr, IfErr};
+ghost use Rattle.std.specs.Prelude.{◌≡◌, ℕ, ◌++◌, ◌∷◌, [], map, OnOk, OnErr, IfErr};
 ghost use Rattle.sctp_model.specs.sender.SenderView.{SenderView};
-ghost use Rattle.sctp_model.specs.sender.Queueing.{cut, owed_for, promised};
-ghost use Rattle.sctp_send.specs.OutstandingFields.{message_meaning, queued_meaning};
-ghost use Rattle.sctp_send.specs.SenderFields.{track_meaning, queued_by};
+ghost use Rattle.sctp_model.specs.sender.Queueing.{promised};
+ghost use Rattle.sctp_send.specs.OutstandingFields.{queued_meaning};
+ghost use Rattle.sctp_send.specs.SenderFields.{queued_by};
 ghost use Rattle.sctp_send.specs.declared.queue.SendFault.TheVariants.{NoMemory};
 ghost use Rattle.sctp_send.specs.SenderStands.{StandsFor};
-ghost use Rattle.sctp_send.specs.inner.Walks.{rest_owes};
 ghost use Rattle.sctp_send.specs.SenderAnswers.{QueueAnswer, queue_after, lane_for};
 
-use crate::message::{Fate, Message, placed};
-use crate::sender::{Sender, Track};
+use crate::message::{Fate, Message, fragments_of, owed, placed};
+use crate::sender::Sender;
 use crate::waiting::Waiting;
 use sctp_framing::Framing;
 use sctp_values::{Kind, LONGEST_MESSAGE, QUEUE_LIMIT, TICKET_LIMIT, TSN_LIMIT, Ticket};
@@ -131,46 +130,5 @@ fn wait_behind(
     match queue.push(message) {
         Ok(()) => Ok(()),
         Err(_) => Err(SendFault::NoMemory),
-    }
-}
-
-/// How many fragments of this size so many bytes make.
-pub fn fragments_of(size: u16, bytes: &[u8]) -> usize
-    requires { 0 < size }
-    ensures { result ≡ length (cut size bytes.now) }
-{
-    bytes.len().div_ceil(usize::from(size))
-}
-
-/// What a message owes with so many unassigned fragments: their TSNs, and one for an end mark.
-fn owed(count: usize) -> u64
-    ensures { result ≡ owed_for count % 2 ^ 64 }
-{
-    if count == 0 {
-        0
-    } else {
-        (count as u64).wrapping_add(1)
-    }
-}
-
-/// What a message that waits owes.
-pub fn owed_by_message(message: &Message, size: u16) -> u64
-    requires { 0 < size }
-    ensures { result ≡ owed_for (length (message_meaning size message.now).fragments) % 2 ^ 64 }
-{
-    owed(fragments_of(size, &message.bytes))
-}
-
-/// What the message in part of a stream owes.
-pub fn owed_by_track(track: &Track, size: u16) -> u64
-    requires { 0 < size }
-    ensures { result ≡ rest_owes (track_meaning size track.now).rest % 2 ^ 64 }
-{
-    match &track.rest {
-        Some(rest) => {
-            let all = fragments_of(size, &rest.message.bytes);
-            owed(all.saturating_sub(rest.fragment as usize))
-        }
-        None => 0,
     }
 }

@@ -7,10 +7,10 @@ ghost use Rattle.sctp_model.specs.sender.Readers.{point, unsettled, drained, out
 ghost use Rattle.sctp_send.specs.OutstandingFields.{item_meaning};
 ghost use Rattle.sctp_send.specs.SenderFields.{track_meaning};
 ghost use Rattle.sctp_send.specs.SenderStands.{StandsFor};
-ghost use Rattle.sctp_send.specs.inner.Walks.{total, one_if_rest, abandoned_items, any_unsettled, is_item_unsettled, is_given_up_fate, is_numbered_fate, any_uncovered, any_rest, rest_has};
+ghost use Rattle.sctp_send.specs.inner.Walks.{total, one_if_rest, abandoned_items, any_unsettled, is_item_unsettled, is_given_up_fate, is_numbered_fate, any_uncovered, any_rest};
 
 use crate::message::Fate;
-use crate::sender::{Sender, Track};
+use crate::sender::Sender;
 use crate::streams::Streams;
 use crate::window::Window;
 use sctp_framing::Framing;
@@ -138,30 +138,8 @@ pub fn is_all_covered(tracks: &Streams, outstanding: &Window, ticket: u32) -> bo
 fn is_in_part(tracks: &Streams, ticket: u32) -> bool
     ensures { (size : ℕ) → result ≡ any_rest ticket (map (track_meaning size) tracks.now.items) }
 {
-    if !tracks.has_part() {
-        return false;
-    }
-    some_goes_on(tracks.tracks(), ticket)
-}
-
-/// Some stream goes on with the message with this ticket.
-fn some_goes_on(tracks: &[Track], ticket: u32) -> bool
-    ensures { (size : ℕ) → result ≡ any_rest ticket (map (track_meaning size) tracks.now) }
-{
-    for track in tracks {
-        if goes_on(track, ticket) {
-            return true;
-        }
-    }
-    false
-}
-
-/// A stream goes on with the message with this ticket.
-pub fn goes_on(track: &Track, ticket: u32) -> bool
-    ensures { (size : ℕ) → result ≡ rest_has ticket (track_meaning size track.now).rest }
-{
-    match &track.rest {
-        Some(rest) => rest.message.ticket == ticket,
+    match tracks.stream_of(ticket) {
+        Some(_) => true,
         None => false,
     }
 }

@@ -9,8 +9,8 @@ ghost use Rattle.sctp_send.specs.SenderStands.{StandsFor};
 ghost use Rattle.sctp_send.specs.SenderAnswers.{reason_meaning};
 ghost use Rattle.sctp_send.specs.inner.Acknowledging.{PassingAnswer};
 
+use crate::covered::take_blocks;
 use crate::outstanding::{forget, mark_unsettled, move_on};
-use crate::recover::take_blocks;
 use crate::sender::Sender;
 use sctp_framing::Framing;
 use sctp_serial::{S32, Serial, tsn_of};

@@ -7,8 +7,8 @@ ghost use Rattle.sctp_model.specs.sender.SenderView.{SenderView, fresh_sender};
 ghost use Rattle.sctp_send.specs.SenderStands.{StandsFor};
 
 use crate::draft::Change;
+use crate::entry::{CoveredRun, RUNS};
 use crate::message::{Fate, Message, SPENT};
-use crate::outstanding::{RUNS, Run};
 use crate::streams::Streams;
 use crate::waiting::Waiting;
 use crate::window::Window;
@@ -17,22 +17,6 @@ use sctp_values::NoMemory;
 use std::alloc::Global;
 use std::marker::{Model, PhantomData};
 use std::rc::Rc;
-
-/// What is left of a message in part: the fragment that it takes next.
-#[derive(Debug, Drop)]
-pub struct Rest {
-    pub message: Rc<Message>,
-    pub number: u32,
-    pub fragment: u32,
-}
-
-/// What is kept of a stream: how many messages of each kind have a number, and its message in part.
-#[derive(Debug, Drop)]
-pub struct Track {
-    pub ordered: u32,
-    pub unordered: u32,
-    pub rest: Option<Rest>,
-}
 
 /// One end's sending half: what it was given, what has a TSN, and what its peer told.
 #[derive(Debug, Drop)]
@@ -55,10 +39,10 @@ pub struct Sender<F: Framing> {
     // by ticket, from 1 on
     pub(crate) fates: Vec<Fate>,
     // what the last SACK covers above CUM, unless it had too many blocks
-    pub(crate) covered: Vec<Run>,
+    pub(crate) covered: Vec<CoveredRun>,
     pub(crate) is_known: bool,
     // the place of the next SACK's runs
-    pub(crate) spare: Vec<Run>,
+    pub(crate) spare: Vec<CoveredRun>,
     // the places of messages that are gone, for messages to come
     pub(crate) spent: Vec<Rc<Message>>,
     // the place of the next fill's changes
@@ -115,7 +99,7 @@ impl<F: Framing> Sender<F> {
         requires short { fragment ≤ GREATEST_FRAGMENT }
         ensures { IfOk result (λ sender. StandsFor F.format sender (fresh_sender initial_tsn streams fragment peer_rwnd partial)) }
     {
-        let tracks = Streams::new(alloc, streams, fragment)?;
+        let tracks = Streams::new(alloc, streams, fragment, F::takes_turns())?;
         let mut covered = Vec::new(alloc);
         covered.reserve(RUNS).map_err(|_| NoMemory)?;
         let mut spare = Vec::new(alloc);

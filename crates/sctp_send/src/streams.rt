@@ -1,15 +1,18 @@
 //! What is kept of each stream, and what is counted of all: so many messages in part, and the TSNs that they may take.
 
-ghost use Rattle.std.specs.Prelude.{◌≡◌, ℕ, ◌+◌, ◌<◌, ◌≤◌, ◌%◌, ◌^◌, false, map, length, set, replicate, slice_index_or, IfOk};
+ghost use Rattle.std.specs.Prelude.{◌≡◌, ℕ, ◌+◌, ◌<◌, ◌≤◌, ◌%◌, ◌^◌, false, map, length, set, replicate, slice_index_or, IfOk, IfSome, IfNone};
 ghost use Rattle.sctp_send.specs.SenderFields.{track_meaning};
-ghost use Rattle.sctp_send.specs.inner.Walks.{total, one_if_rest, rest_owes};
-ghost use Rattle.sctp_send.specs.inner.Expiring.{soonest, rest_message, rest_messages};
-ghost use Rattle.sctp_send.specs.inner.Counting.{moment_from};
+ghost use Rattle.sctp_send.specs.inner.Walks.{total, one_if_rest, rest_owes, any_rest, GoesOnAt};
+ghost use Rattle.sctp_send.specs.inner.Newcomers.{IsNextPart};
+ghost use Rattle.sctp_send.specs.inner.Expiring.{soonest, rest_messages};
 
-use crate::expire::sooner_rest;
-use crate::message::moment_of;
-use crate::queue::owed_by_track;
-use crate::sender::Track;
+use crate::bounds::{GROUPS, least, replace, take_above};
+use crate::looking::{
+    bound_left, bound_listed, earliest_by_looking, late_by_looking, late_listed, moment_of_track,
+    next_part_by_looking, stream_by_looking, ticket_of_track,
+};
+use crate::part_lists::PartLists;
+use crate::track::{Track, owed_by_track};
 use sctp_values::NoMemory;
 use std::alloc::Global;
 use std::marker::Model;
@@ -27,6 +30,10 @@ pub struct Streams {
     owed: u64,
     // before this moment no message in part is past its time
     earliest: u64,
+    // which streams have a message in part
+    lists: PartLists,
+    // by groups of tickets, before which moment no message in part is past its time; none until one has a time
+    bounds: Vec<u64>,
 }
 
 impl Model for Streams {
@@ -34,30 +41,38 @@ impl Model for Streams {
 
     ghost Value = { StreamsKept };
 
-    ghost use Rattle.sctp_send.specs.inner.Counting.{IsCountedOf};
+    ghost use Rattle.sctp_send.specs.inner.PartPairs.{IsStreamsOf};
 
     ghost view = { λ w. record { size = w.size; items = w.tracks.items } };
 
-    ghost invariant = { λ w. IsCountedOf w.size w.tracks.items w.parts w.owed w.earliest };
+    ghost invariant = { λ w. IsStreamsOf w.size w.tracks.items w.parts w.owed w.earliest w.lists w.bounds.items };
 }
 
 impl Streams {
-    /// Streams that have no message with a number.
+    /// Streams that have no message with a number; where they take turns, with room for a message in part on each.
     ///
     /// # Errors
     /// `NoMemory`.
-    pub fn new(alloc: Global, streams: u16, size: u16) -> Result<Streams, NoMemory>
+    pub fn new(
+        alloc: Global,
+        streams: u16,
+        size: u16,
+        takes_turns: bool,
+    ) -> Result<Streams, NoMemory>
         requires { 0 < size }
         ensures size { IfOk result (λ made. made.size ≡ size) }
         ensures items { IfOk result (λ made. made.items ≡ replicate streams (record { ordered = 0; unordered = 0; rest = None })) }
     {
         let tracks = fresh_tracks(alloc, streams)?;
+        let lists = PartLists::new(alloc, streams, takes_turns)?;
         Ok(Streams {
             size,
             tracks,
             parts: 0,
             owed: 0,
             earliest: u64::MAX,
+            lists,
+            bounds: Vec::new(alloc),
         })
     }
 
@@ -72,6 +87,8 @@ impl Streams {
             parts: 0,
             owed: 0,
             earliest: u64::MAX,
+            lists: PartLists::none(alloc),
+            bounds: Vec::new(alloc),
         }
     }
 
@@ -89,13 +106,6 @@ impl Streams {
         self.parts
     }
 
-    /// Whether some message is in part. Under DATA none ever is.
-    pub fn has_part(&self) -> bool
-        ensures { (size : ℕ) → result ≡ false → total (λ t. one_if_rest t.rest) (map (track_meaning size) self.now.items) ≡ 0 }
-    {
-        self.parts > 0
-    }
-
     /// The TSNs that the messages in part may take, modulo 2^64.
     pub fn owed(&self) -> u64
         ensures { result ≡ total (λ t. rest_owes t.rest) (map (track_meaning self.now.size) self.now.items) % 2 ^ 64 }
@@ -109,13 +119,51 @@ impl Streams {
         ensures before { result ≡ slice_index_or self.old.items at result }
         ensures after { self.new ≡ record self.old { items = set self.old.items at track } }
     {
+        bound_left(&mut self.bounds, self.earliest, &track, self.parts);
         self.parts = self.parts.wrapping_add(one_if_in_part(&track));
         self.owed = self.owed.wrapping_add(owed_by_track(&track, self.size));
         self.earliest = self.earliest.min(moment_of_track(&track));
+        let comes = ticket_of_track(&track);
         let before = mem::replace(&mut self.tracks[at], track);
         self.parts = self.parts.wrapping_sub(one_if_in_part(&before));
         self.owed = self.owed.wrapping_sub(owed_by_track(&before, self.size));
+        let goes = ticket_of_track(&before);
+        self.lists.change(at as u32, goes, comes);
         before
+    }
+
+    /// The first stream from one on, below another, with a message in part, or that other.
+    pub fn next_part(&self, from: u16, below: u16) -> u16
+        ensures { (size : ℕ) → IsNextPart from below (map (track_meaning size) self.now.items) result }
+    {
+        if self.parts == 0 {
+            return below;
+        }
+        if !self.lists.is_listed() {
+            return next_part_by_looking(&self.tracks, from, below);
+        }
+        match self.lists.first_from(from) {
+            Some(part) => part.first.min(u32::from(below)) as u16,
+            None => below,
+        }
+    }
+
+    /// The stream that goes on with the message with this ticket.
+    pub fn stream_of(&self, ticket: u32) -> Option<usize>
+        ensures within { IfSome result (λ at. at < length self.now.items) }
+        ensures none { (size : ℕ) → IfNone result (any_rest ticket (map (track_meaning size) self.now.items) ≡ false) }
+        ensures some { (size : ℕ) → IfSome result (λ at. GoesOnAt ticket at (map (track_meaning size) self.now.items)) }
+    {
+        if self.parts == 0 {
+            return None;
+        }
+        if !self.lists.is_listed() {
+            return stream_by_looking(&self.tracks, ticket);
+        }
+        match self.lists.stream_with(ticket) {
+            Some(stream) => Some(stream as usize),
+            None => None,
+        }
     }
 
     /// The lowest ticket above the last one of messages in part that are past their time, or one found before.
@@ -129,12 +177,10 @@ impl Streams {
         if parts == 0 {
             return found;
         }
-        let mut found = found;
-        for at in 0..self.tracks.len() {
-            let track = &self.tracks[at];
-            found = sooner_rest(found, track, last, now);
+        if !self.lists.is_listed() {
+            return late_by_looking(&self.tracks, last, now, found);
         }
-        found
+        late_listed(&self.tracks, &self.lists, &self.bounds, last, now, found)
     }
 
     /// Looks anew from which moment on a message in part may be past its time, if that may be this moment.
@@ -144,12 +190,23 @@ impl Streams {
         if now < self.earliest {
             return;
         }
-        let mut earliest = u64::MAX;
-        for at in 0..self.tracks.len() {
-            let track = &self.tracks[at];
-            earliest = earliest.min(moment_of_track(track));
+        self.look_anew(now);
+    }
+
+    /// The same, where it may be. A frame with room for the bounds is made for it alone.
+    #[inline(never)]
+    fn look_anew(&mut self, now: u64)
+        ensures { self.new ≡ self.old }
+    {
+        if !self.lists.is_listed() {
+            self.earliest = earliest_by_looking(&self.tracks);
+            return;
         }
-        self.earliest = earliest;
+        let mut fresh = [u64::MAX; GROUPS];
+        take_above(&self.bounds, now, &mut fresh);
+        bound_listed(&self.tracks, &self.lists, &self.bounds, now, &mut fresh);
+        self.earliest = least(&fresh);
+        replace(&mut self.bounds, &fresh);
     }
 }
 
@@ -177,15 +234,5 @@ fn one_if_in_part(track: &Track) -> u32
     match &track.rest {
         Some(_) => 1,
         None => 0,
-    }
-}
-
-/// The moment from which the message in part of a stream is worthless; the last moment, where there is none.
-fn moment_of_track(track: &Track) -> u64
-    ensures { (size : ℕ) → result ≡ moment_from (rest_message (track_meaning size track.now)) }
-{
-    match &track.rest {
-        Some(rest) => moment_of(&rest.message),
-        None => u64::MAX,
     }
 }

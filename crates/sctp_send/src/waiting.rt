@@ -7,10 +7,9 @@ ghost use Rattle.sctp_send.specs.SenderFields.{queued_by};
 ghost use Rattle.sctp_send.specs.inner.Expiring.{soonest, queue_messages};
 ghost use Rattle.sctp_send.specs.inner.Seating.{AreLower, NextOnAnswer};
 
-use crate::expire::sooner;
-use crate::message::{Message, moment_of};
+use crate::lateness::sooner;
+use crate::message::{Message, moment_of, owed_by_message};
 use crate::ordered::{Ordered, Pair};
-use crate::queue::owed_by_message;
 use crate::seats::{
     Found, first_from, fits_at, is_first_late, is_in_front, make_room, next_by_looking, seat_of,
     take_seat,

@@ -8,9 +8,9 @@ ghost use Rattle.sctp_send.specs.inner.Walks.{abandoned_items, any_unsettled};
 ghost use Rattle.sctp_send.specs.inner.Wishing.{first_place, is_item_marked, is_item_unsent, item_flight};
 
 use crate::by_ticket::{ByTicket, MOST};
-use crate::counts::{Counts, front_behind, stand_one};
+use crate::counts::{Counts, bound_again, bound_new, front_behind, stand_one};
+use crate::entry::{Outstanding, Standing};
 use crate::message::Message;
-use crate::outstanding::{Outstanding, Standing};
 use crate::wishes::{is_first_sending, is_repeat};
 use sctp_values::NoMemory;
 use std::alloc::Global;
@@ -28,6 +28,8 @@ pub struct Window {
     pub(crate) by_ticket: ByTicket,
     // how many entries there is room for
     pub(crate) room: usize,
+    // by groups of tickets, before which moment no message is past its time; none until a message has a time
+    pub(crate) bounds: Vec<u64>,
 }
 
 impl Model for Window {
@@ -40,7 +42,7 @@ impl Model for Window {
 
     ghost view = { λ w. record { size = w.size; items = w.entries.items; capacity = w.room } };
 
-    ghost invariant = { λ w. IsInOrder w.size w.entries.items (deque_capacity w.entries) w.counts w.by_ticket w.room };
+    ghost invariant = { λ w. IsInOrder w.size w.entries.items (deque_capacity w.entries) w.counts w.by_ticket w.room w.bounds.items };
 }
 
 impl Window {
@@ -56,6 +58,7 @@ impl Window {
             counts: Counts::none(),
             by_ticket: ByTicket::new(alloc),
             room: 0,
+            bounds: Vec::new(alloc),
         }
     }
 
@@ -178,8 +181,10 @@ impl Window {
         requires { length self.old.items < self.old.capacity }
         ensures { self.new ≡ record self.old { items = self.old.items ++ entry ∷ [] } }
     {
+        let others = self.entries.len();
+        bound_new(&mut self.bounds, self.counts.earliest, &entry, others);
         self.counts.enter(&entry, self.size);
-        self.counts.reach(self.entries.len(), &entry);
+        self.counts.reach(others, &entry);
         self.by_ticket.push(entry.message.ticket);
         self.entries.push_back_reserved(entry);
     }
@@ -236,5 +241,6 @@ impl Window {
             covered,
             given_up,
         );
+        bound_again(&mut self.bounds, &self.entries[at]);
     }
 }

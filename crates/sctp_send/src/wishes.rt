@@ -5,7 +5,7 @@ ghost use Rattle.sctp_send.specs.OutstandingFields.{item_meaning};
 ghost use Rattle.sctp_send.specs.inner.Wishing.{is_item_marked, is_item_unsent, item_weight, lets_flow};
 ghost use Rattle.sctp_send.specs.inner.Walks.{is_item_unsettled};
 
-use crate::outstanding::{Outstanding, Standing};
+use crate::entry::{Outstanding, Standing};
 use crate::pieces::bytes_of;
 
 /// An entry waits to be repeated.

@@ -1,10 +1,10 @@
 -- What the calls make of entries, one by one.
 use Rattle.std.specs.Prelude.{◌≡◌, ℕ, suc, nat_lt, nat_le, Bool, true, false, not, ◌&&◌, ◌||◌, ◌==◌, if◌then◌else◌, List, [], ◌∷◌, map}
-use Rattle.sctp_send.specs.declared.outstanding.Standing.{Standing}
-use Rattle.sctp_send.specs.declared.outstanding.Standing.TheVariants.{Unsent, Sent, Marked}
+use Rattle.sctp_send.specs.declared.entry.Standing.{Standing}
+use Rattle.sctp_send.specs.declared.entry.Standing.TheVariants.{Unsent, Sent, Marked}
 use Rattle.sctp_send.specs.CoveredRuns.{in_runs, AreInOrder}
-use Rattle.sctp_send.specs.declared.outstanding.Run.{Run}
-use Rattle.sctp_send.specs.declared.outstanding.Outstanding.{Outstanding}
+use Rattle.sctp_send.specs.declared.entry.CoveredRun.{CoveredRun}
+use Rattle.sctp_send.specs.declared.entry.Outstanding.{Outstanding}
 
 -- the standing without its mark
 abbrev pub unmarked : Standing → Standing
@@ -41,7 +41,7 @@ told_where b test i [] = []
 told_where b test i (e ∷ es) = (if test i then told b e else e) ∷ told_where b test (suc i) es
 
 -- the runs are in order, and each entry is as they say
-abbrev pub IsExact : (known : Bool) → List Run → List Outstanding → Type 0
+abbrev pub IsExact : (known : Bool) → List CoveredRun → List Outstanding → Type 0
 IsExact false rs es = Unit {0}
 IsExact true rs es = AreInOrder 0 rs × (all_told (in_runs rs) 1 es ≡ es)
 
@@ -50,11 +50,11 @@ abbrev pub is_between : ℕ → ℕ → ℕ → Bool
 is_between from to i = nat_lt from i && nat_le i to
 
 -- there, and in none of the runs
-abbrev pub in_gaps : List Run → (from to : ℕ) → ℕ → Bool
+abbrev pub in_gaps : List CoveredRun → (from to : ℕ) → ℕ → Bool
 in_gaps rs from to i = is_between from to i && not (in_runs rs i)
 
 -- in one of the runs, and in none of the others
-abbrev pub in_alone : (runs others : List Run) → ℕ → Bool
+abbrev pub in_alone : (runs others : List CoveredRun) → ℕ → Bool
 in_alone rs os i = in_runs rs i && not (in_runs os i)
 
 -- those that pass, and a run: after `from`, up to `to`

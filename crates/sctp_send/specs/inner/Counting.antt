@@ -14,8 +14,8 @@ use Rattle.sctp_send.specs.inner.Newcomers.{one_if}
 use Rattle.sctp_send.specs.inner.Expiring.{item_message, queue_messages, item_messages, rest_messages}
 use Rattle.sctp_send.specs.declared.counts.Counts.{Counts}
 use Rattle.sctp_send.specs.declared.message.Message.{Message as MessageFields}
-use Rattle.sctp_send.specs.declared.outstanding.Outstanding.{Outstanding}
-use Rattle.sctp_send.specs.declared.sender.Track.{Track as TrackFields}
+use Rattle.sctp_send.specs.declared.entry.Outstanding.{Outstanding}
+use Rattle.sctp_send.specs.declared.track.Track.{Track as TrackFields}
 
 -- ---- moments
 

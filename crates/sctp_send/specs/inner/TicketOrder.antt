@@ -1,11 +1,12 @@
 -- The entries above CUM in the order of their tickets.
-use Rattle.std.specs.Prelude.{◌≡◌, ℕ, ◌+◌, ◌-◌, ◌%◌, ◌^◌, ◌<◌, ◌≤◌, nat_lt, ◌==◌, ◌&&◌, ◌||◌, Bool, true, List, ◌∷◌, ◌++◌, length, take, drop, slice_get, Some, map}
+use Rattle.std.specs.Prelude.{◌≡◌, ℕ, ◌+◌, ◌-◌, ◌%◌, ◌^◌, ◌<◌, ◌≤◌, nat_lt, ◌==◌, ◌&&◌, ◌||◌, Bool, true, List, ◌∷◌, ◌++◌, ◌⊎◌, length, take, drop, slice_get, Some, map}
 use Rattle.std.specs.VecDeque.{deque_capacity}
 use Rattle.sctp_model.specs.numbers.Lists.{Has, AreInOrder}
 use Rattle.sctp_send.specs.declared.by_ticket.Spot.{Spot}
 use Rattle.sctp_send.specs.declared.by_ticket.ByTicket.{ByTicket}
 use Rattle.sctp_send.specs.declared.counts.Counts.{Counts}
-use Rattle.sctp_send.specs.declared.outstanding.Outstanding.{Outstanding}
+use Rattle.sctp_send.specs.declared.entry.Outstanding.{Outstanding}
+use Rattle.sctp_send.specs.inner.Bounding.{bound_of, AreBounded}
 use Rattle.sctp_send.specs.inner.Counting.{IsCounted}
 
 -- the offset of a spot's entry, where the first entry has this index
@@ -38,6 +39,10 @@ pub record IsPlaceOf (first ticket offset : ℕ) (spots : List Spot) (place : �
   pub front : (s : Spot) → Has (take place spots) s → comes_before first ticket offset s ≡ true
   pub back : (s : Spot) → Has (drop place spots) s → comes_before first ticket offset s ≡ true → ⊥
 
+-- Spots before one place stand before another, or their tickets' bounds lie above a moment.
+abbrev pub ArePassed : (now : ℕ) → List ℕ → (start end : ℕ) → List Spot → Type 0
+ArePassed now bs m n spots = (s : Spot) → Has (take n spots) s → Has (take m spots) s ⊎ (now < bound_of bs s.ticket)
+
 -- The spot of the entry at this offset went, and no other.
 pub record IsGone (first offset : ℕ) (before after : List Spot) : Type 0 where
   pub front : List Spot
@@ -55,8 +60,8 @@ ticket_of e = e.message.value.ticket
 abbrev pub tickets_of : List Outstanding → List ℕ
 tickets_of es = map ticket_of es
 
--- What a window keeps: its entries counted, and in the order of their tickets, with room for so many in both lists.
-pub record IsInOrder (size : ℕ) (es : List Outstanding) (capacity : ℕ) (c : Counts) (o : ByTicket) (room : ℕ) : Type 0 where
+-- What a window keeps: its entries counted, and in the order of their tickets, with room for so many in both lists; and bounds of their moments.
+pub record IsInOrder (size : ℕ) (es : List Outstanding) (capacity : ℕ) (c : Counts) (o : ByTicket) (room : ℕ) (bs : List ℕ) : Type 0 where
   pub counted : IsCounted size es c
   pub order : IsOrderOf (tickets_of es) o.first o.spots.items
   pub below : AreUpTo o.highest o.spots.items
@@ -64,3 +69,4 @@ pub record IsInOrder (size : ℕ) (es : List Outstanding) (capacity : ℕ) (c : 
   pub within : length es ≤ room
   pub here : room ≤ capacity
   pub there : room ≤ deque_capacity o.spots
+  pub bounded : AreBounded bs es

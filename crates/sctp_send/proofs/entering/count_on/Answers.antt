@@ -4,7 +4,7 @@ use Rattle.sctp_send.specs.SenderFields.{track_meaning, rests_meaning}
 use Rattle.sctp_send.specs.WindowKept.{StreamsKept}
 use Rattle.sctp_send.specs.inner.Newcomers.{number_in}
 use Rattle.sctp_send.specs.inner.Drafting.{counted_track}
-use Rattle.sctp_send.specs.declared.sender.Track.{Track}
+use Rattle.sctp_send.specs.declared.track.Track.{Track}
 use Rattle.sctp_send.proofs.EnterLemmas.{set_on, track_there, replaced}
 use Rattle.sctp_send.proofs.entering.count_on.Goals as goal
 

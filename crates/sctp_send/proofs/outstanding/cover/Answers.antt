@@ -3,7 +3,7 @@ use Rattle.std.specs.Prelude.{◌||◌}
 use Rattle.sctp_model.specs.messages.Acknowledgement.{in_blocks}
 use Rattle.sctp_wire.specs.ChunkTree.{block_meaning}
 use Rattle.sctp_model.specs.sender.SackTaken.{some_is_bad, some_ends_past}
-use Rattle.sctp_send.specs.declared.outstanding.Outstanding.{Outstanding}
+use Rattle.sctp_send.specs.declared.entry.Outstanding.{Outstanding}
 use Rattle.sctp_send.specs.inner.Changes.{all_told, or_run}
 use Rattle.sctp_send.proofs.CoverLemmas.{count_told, told_same, told_again, or_nothing, no_fault, next_block, block_run}
 use Rattle.sctp_send.proofs.outstanding.cover.Goals as goal

@@ -1,5 +1,5 @@
 use Rattle.std.proofs.Common.{◌≡◌, ℕ, Bool, List, length}
-use Rattle.sctp_send.specs.declared.outstanding.Outstanding.{Outstanding}
+use Rattle.sctp_send.specs.declared.entry.Outstanding.{Outstanding}
 use Rattle.sctp_send.specs.inner.Changes.{all_told, or_run}
 use Rattle.sctp_send.specs.WindowKept.{IsSameRoom}
 use Rattle.sctp_send.proofs.outstanding.cover_run.Given as goal

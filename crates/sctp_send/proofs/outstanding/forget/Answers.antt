@@ -1,6 +1,6 @@
 use Rattle.std.proofs.Common.{ap, ◌∙◌, drop, List}
 use Rattle.std.proofs.lemmas.List.{drop-drop}
-use Rattle.sctp_send.specs.declared.outstanding.Outstanding.{Outstanding}
+use Rattle.sctp_send.specs.declared.entry.Outstanding.{Outstanding}
 use Rattle.sctp_send.proofs.outstanding.forget.Goals as goal
 
 pub loop-preserved : goal.loop-preserved

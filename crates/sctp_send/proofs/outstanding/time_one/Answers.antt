@@ -1,10 +1,10 @@
 use Rattle.std.proofs.Common.{◌≡◌, ◌∙◌, refl, sym, true, false}
 use Rattle.std.specs.Prelude.{not, ◌&&◌}
 use denote.Enum.Bare.{sameb}
-use Rattle.sctp_send.specs.contracts.outstanding.Standing.{the_type}
+use Rattle.sctp_send.specs.contracts.entry.Standing.{the_type}
 use Rattle.sctp_send.specs.inner.Changes.{stood, timed}
-use Rattle.sctp_send.specs.declared.outstanding.Standing.{Standing}
-use Rattle.sctp_send.specs.declared.outstanding.Standing.TheVariants.{Unsent, Sent, Marked}
+use Rattle.sctp_send.specs.declared.entry.Standing.{Standing}
+use Rattle.sctp_send.specs.declared.entry.Standing.TheVariants.{Unsent, Sent, Marked}
 use Rattle.sctp_send.proofs.StoodLemmas.{changed_same, changed_none, timed_sent, timed_unneeded, timed_other}
 use Rattle.sctp_send.proofs.outstanding.time_one.Goals as goal
 use Rattle.sctp_send.proofs.outstanding.time_one.Goals.{then-not-entry, else-not-entry, else-needed-via-then-needed+else-eq, else-needed-via-else-needed}

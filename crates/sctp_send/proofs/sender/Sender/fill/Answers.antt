@@ -22,16 +22,16 @@ pub take_over-as_before-requires : goal.take_over-as_before-requires
 take_over-as_before-requires g c =
     sized_on c.draft-draft.new.self.fragment c.put_all.new.draft c.take_back.new.draft (sized_on c.draft-draft.new.self.fragment c.draft-draft.result c.put_all.new.draft c.draft-draft.ensures.sized c.put_all.ensures.behind.room) c.take_back.ensures.room
 
-pub returns-in-Err-clause-memory : goal.returns-in-Err-clause-memory
+pub returns-clause-memory : goal.returns-clause-memory
 unfolding StandsFor
-returns-in-Err-clause-memory g c = λ v stands.
+returns-clause-memory g c = λ v stands.
     let f = g.F.Framing.format in
     let keeps = subst (λ (k : Kept). Keeps f k v) (sym c.draft-draft.ensures.same) stands in
     subst (λ (k : Kept). Keeps f k v) (sym c.take_over-as_before.ensures.kept)
     (keeps_taken f c.draft-draft.new.self v c.draft-draft.result c.put_all.new.draft c.take_back.new.draft keeps c.draft-draft.ensures.unlogged c.draft-draft.ensures.fresh c.put_all.ensures.behind c.take_back.ensures.parts c.take_back.ensures.tickets c.take_back.ensures.room)
 
-pub returns-in-Err-clause-some : goal.returns-in-Err-clause-some
+pub returns-clause-some : goal.returns-clause-some
 unfolding StandsFor
-returns-in-Err-clause-some g c = λ v stands.
+returns-clause-some g c = λ v stands.
     let keeps = subst (λ (k : Kept). Keeps g.F.Framing.format k v) (sym c.draft-draft.ensures.same) stands in
     c.in-Err.ensures.some v keeps

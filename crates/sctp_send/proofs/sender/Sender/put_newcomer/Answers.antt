@@ -2,7 +2,7 @@ use Rattle.std.proofs.Common.{◌≡◌, ℕ, length, map, sym, ap, subst, ◌�
 use Rattle.sctp_send.specs.SenderKept.{Kept}
 use Rattle.sctp_send.specs.OutstandingFields.{lane_meaning, item_meaning}
 use Rattle.sctp_send.specs.inner.Wishing.{item_flight, lets_flow}
-use Rattle.sctp_send.specs.declared.outstanding.Place.TheVariants.{Fragment}
+use Rattle.sctp_send.specs.declared.entry.Place.TheVariants.{Fragment}
 use Rattle.sctp_send.proofs.NewMayLemmas.{flow_read, offered, offered_not, of_both}
 use Rattle.sctp_send.proofs.sender.Sender.put_newcomer.Goals as goal
 

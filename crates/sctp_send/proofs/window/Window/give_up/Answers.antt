@@ -1,12 +1,14 @@
 use Rattle.std.proofs.Common.{◌≡◌, ◌+◌, ◌<◌, ◌≤◌, ℕ, List, length, refl, sym, ◌∙◌, ap, subst, arith}
 use Rattle.sctp_send.specs.declared.by_ticket.ByTicket.{ByTicket}
-use Rattle.sctp_send.specs.declared.outstanding.Outstanding.{Outstanding}
+use Rattle.sctp_send.specs.declared.entry.Outstanding.{Outstanding}
 use Rattle.sctp_send.specs.inner.Changes.{given, all_given}
+use Rattle.sctp_send.specs.inner.Bounding.{AreBounded}
 use Rattle.sctp_send.specs.inner.TicketOrder.{IsOrderOf, IsPlaceOf, tickets_of}
 use Rattle.sctp_send.proofs.ListParts.{dropped_more}
 use Rattle.sctp_send.proofs.PlacedLemmas.{count_placed}
 use Rattle.sctp_send.proofs.StoodLemmas.{given_other}
 use Rattle.sctp_send.proofs.TicketWalks.{no_spot, WerePassed, IsGiven, lower_passed, all_passed, higher_left, spot_within, given_ticket, placed_tickets, placed_given, given_more, all_are_given}
+use Rattle.sctp_send.proofs.MomentWalks.{bounded_given}
 use Rattle.sctp_send.proofs.window.Window.give_up.Goals as goal
 
 pub loop-place-init : goal.loop-place-init
@@ -59,6 +61,7 @@ loop-place-preserved c =
         within = let le = h.kept.within in omega (arith, long, le);
         here = let le = h.kept.here in omega (arith, c.give_one.ensures.capacity, le);
         there = h.kept.there;
+        bounded = subst (λ (xs : List Outstanding). AreBounded s.bounds.items xs) (sym items) (bounded_given t at s.bounds.items es h.kept.bounded);
       };
       size = h.size;
       room = h.room;

@@ -1,10 +1,12 @@
 use Rattle.std.proofs.Common.{◌≡◌, ◌++◌, ◌∷◌, [], ℕ, List, length, sym, subst, ap, ◌∙◌, arith, length-append}
 use Rattle.std.proofs.lemmas.List.{map-append}
 use Rattle.sctp_send.specs.declared.message.Message.{Message as MessageFields}
-use Rattle.sctp_send.specs.declared.outstanding.Outstanding.{Outstanding}
+use Rattle.sctp_send.specs.declared.entry.Outstanding.{Outstanding}
 use Rattle.sctp_send.specs.inner.Counting.{IsCounted}
+use Rattle.sctp_send.specs.inner.Bounding.{AreBounded}
 use Rattle.sctp_send.specs.inner.TicketOrder.{IsOrderOf, ticket_of, tickets_of}
 use Rattle.sctp_send.proofs.CountLemmas.{counts_cut}
+use Rattle.sctp_send.proofs.ListParts.{in_front}
 use Rattle.sctp_send.proofs.window.Window.pop_back.Goals as goal
 
 pub invariant_of-self : goal.invariant_of-self
@@ -34,4 +36,5 @@ invariant_of-self c =
           omega (arith, long, more, le);
       here = let le = h.here in omega (arith, c.pop_back.ensures.capacity, le);
       there = let le = h.there in omega (arith, c.pop_back-in-Some.ensures.capacity, le);
+      bounded = λ d there. subst (λ (es : List Outstanding). AreBounded s.bounds.items es) items h.bounded d (in_front rest (c.in-Some.entry ∷ []) d there);
     }

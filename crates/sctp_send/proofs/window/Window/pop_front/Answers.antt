@@ -1,9 +1,10 @@
-use Rattle.std.proofs.Common.{◌≡◌, ◌∷◌, ℕ, suc, List, length, sym, subst, ap, ◌∙◌, arith}
+use Rattle.std.proofs.Common.{◌≡◌, ◌∷◌, ℕ, suc, List, length, inr, sym, subst, ap, ◌∙◌, arith}
 use Rattle.sctp_send.specs.OutstandingFields.{item_meaning}
 use Rattle.sctp_send.specs.declared.counts.Counts.{Counts}
 use Rattle.sctp_send.specs.declared.message.Message.{Message as MessageFields}
-use Rattle.sctp_send.specs.declared.outstanding.Outstanding.{Outstanding}
+use Rattle.sctp_send.specs.declared.entry.Outstanding.{Outstanding}
 use Rattle.sctp_send.specs.inner.Counting.{IsCounted}
+use Rattle.sctp_send.specs.inner.Bounding.{AreBounded}
 use Rattle.sctp_send.specs.inner.TicketOrder.{IsOrderOf, tickets_of}
 use Rattle.sctp_send.proofs.CountLemmas.{counts_behind}
 use Rattle.sctp_send.proofs.window.Window.pop_front.Goals as goal
@@ -32,4 +33,5 @@ invariant_of-self c =
           omega (arith, long, le);
       here = let le = h.here in omega (arith, c.pop_front.ensures.capacity, le);
       there = let le = h.there in omega (arith, c.pop_front-in-Some.ensures.capacity, le);
+      bounded = λ d there. subst (λ (es : List Outstanding). AreBounded s.bounds.items es) items h.bounded d (inr there);
     }

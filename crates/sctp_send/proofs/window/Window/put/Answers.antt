@@ -1,11 +1,13 @@
 use Rattle.std.proofs.Common.{◌≡◌, ◌<◌, ◌∷◌, [], ◌++◌, List, ℕ, length, sym, ◌∙◌, ap, subst, arith, length-append}
 use Rattle.std.proofs.lemmas.List.{map-append}
 use Rattle.sctp_send.specs.WindowKept.{WindowKept}
+use Rattle.sctp_send.specs.inner.Bounding.{AreBounded}
 use Rattle.sctp_send.specs.inner.TicketOrder.{IsOrderOf, ticket_of, tickets_of}
 use Rattle.sctp_send.specs.declared.message.Message.{Message as MessageFields}
-use Rattle.sctp_send.specs.declared.outstanding.Outstanding.{Outstanding}
+use Rattle.sctp_send.specs.declared.entry.Outstanding.{Outstanding}
 use Rattle.sctp_send.proofs.CountLemmas.{counts_pushed}
 use Rattle.sctp_send.proofs.TicketWalks.{long_tickets}
+use Rattle.sctp_send.proofs.MomentWalks.{bounded_pushed}
 use Rattle.sctp_send.proofs.window.Window.put.Goals as goal
 
 pub push-requires : goal.push-requires
@@ -34,7 +36,7 @@ invariant_of-self c =
     let es = s.entries.items in
     let items = c.push_back_reserved.ensures.items in
     let lt = subst (λ (w : WindowKept). length w.items < w.capacity) (sym c.self.view_is) c.requires in
-    let long : c.len.result ≡ length es = c.len.ensures ∙ s.entries.ok.0 in
+    let long : c.len-others.result ≡ length es = c.len-others.ensures ∙ s.entries.ok.0 in
     let ticket = ap (λ (m : MessageFields). m.ticket) c.deref.ensures in
     let more : tickets_of (es ++ e ∷ []) ≡ tickets_of es ++ ticket_of e ∷ [] = map-append ticket_of es (e ∷ []) in
     let order = subst (λ (t : ℕ). IsOrderOf (tickets_of es ++ t ∷ []) c.push.new.self.first c.push.new.self.spots.items) ticket (c.push.ensures.order (tickets_of es) h.order) in
@@ -46,4 +48,5 @@ invariant_of-self c =
       within = let n = ap (λ (xs : List Outstanding). length xs) items in let m = length-append es (e ∷ []) in omega (arith, n, m, lt);
       here = let le = h.here in omega (arith, le, c.push_back_reserved.ensures.capacity);
       there = let le = h.there in omega (arith, le, c.push.ensures.capacity);
+      bounded = subst (λ (xs : List Outstanding). AreBounded c.bound_new.new.bounds.items xs) (sym items) (bounded_pushed s.size s.counts.earliest s.bounds.items c.bound_new.new.bounds.items es e h.counted.earliest h.bounded c.bound_new.ensures.others c.bound_new.ensures.here);
     }

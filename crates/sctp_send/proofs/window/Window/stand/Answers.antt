@@ -1,10 +1,13 @@
-use Rattle.std.proofs.Common.{◌≡◌, ◌<◌, ℕ, List, length, refl, sym, ◌∙◌, ap, subst, arith}
+use Rattle.std.proofs.Common.{◌≡◌, ◌<◌, ℕ, List, length, Some, refl, sym, ◌∙◌, ap, subst, arith}
+use Rattle.std.specs.Prelude.{slice_get}
 use Rattle.sctp_send.specs.WindowKept.{WindowKept}
 use Rattle.sctp_send.specs.inner.Changes.{stood}
+use Rattle.sctp_send.specs.inner.Bounding.{AreBounded}
 use Rattle.sctp_send.specs.inner.TicketOrder.{IsOrderOf, tickets_of}
-use Rattle.sctp_send.specs.declared.outstanding.Outstanding.{Outstanding}
+use Rattle.sctp_send.specs.declared.entry.Outstanding.{Outstanding}
 use Rattle.sctp_send.proofs.PlacedLemmas.{count_placed}
-use Rattle.sctp_send.proofs.TicketWalks.{placed_tickets}
+use Rattle.sctp_send.proofs.TicketWalks.{get_read, placed_tickets}
+use Rattle.sctp_send.proofs.MomentWalks.{bounded_placed}
 use Rattle.sctp_send.proofs.window.Window.stand.Goals as goal
 
 pub stand_one-requires : goal.stand_one-requires
@@ -13,12 +16,20 @@ stand_one-requires c = record {
   counted = c.self.invariant.counted;
 }
 
+pub index-requires : goal.index-requires
+index-requires c =
+    let es = c.self.inside.entries.items in
+    let lt : c.args.at < length es = subst (λ (w : WindowKept). c.args.at < length w.items) (sym c.self.view_is) c.requires in
+    let long : length c.stand_one.new.entries.items ≡ length es = ap (λ (xs : List Outstanding). length xs) c.stand_one.ensures.items ∙ count_placed (stood c.args.standing c.args.covered c.args.given_up) c.args.at es in
+    omega (arith, lt, long, c.stand_one.new.entries.ok)
+
 pub invariant_of-self : goal.invariant_of-self
 invariant_of-self c =
     let s = c.self.inside in
     let h = c.self.invariant in
     let es = s.entries.items in
     let new = stood c.args.standing c.args.covered c.args.given_up in
+    let lt : c.args.at < length es = subst (λ (w : WindowKept). c.args.at < length w.items) (sym c.self.view_is) c.requires in
     let items = c.stand_one.ensures.items in
     let long : length c.stand_one.new.entries.items ≡ length es = ap (λ (xs : List Outstanding). length xs) items ∙ count_placed new c.args.at es in
     record {
@@ -29,6 +40,12 @@ invariant_of-self c =
       within = let le = h.within in omega (arith, long, le);
       here = let le = h.here in omega (arith, c.stand_one.ensures.capacity, le);
       there = h.there;
+      bounded =
+          let x = c.index.result.now in
+          let at : c.args.at < length c.stand_one.new.entries.items = omega (arith, long, lt) in
+          let read = subst (λ (xs : List Outstanding). slice_get xs c.args.at ≡ Some x) items (get_read c.stand_one.new.entries.items c.args.at x at c.index.ensures) in
+          subst (λ (xs : List Outstanding). AreBounded c.bound_again.new.bounds.items xs) (sym items)
+          (bounded_placed new c.args.at s.bounds.items c.bound_again.new.bounds.items es x h.bounded c.bound_again.ensures.others read c.bound_again.ensures.here);
     }
 
 pub returns : goal.returns

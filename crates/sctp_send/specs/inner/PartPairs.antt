@@ -1,0 +1,84 @@
+-- Which streams have a message in part: the tickets of those messages, by stream, and the pairs that list them in two orders.
+use Rattle.std.specs.Prelude.{◌≡◌, ℕ, suc, ◌<◌, ◌≤◌, true, List, [], ◌∷◌, ◌++◌, map, length, slice_index_or, Option, None, Some}
+use Rattle.std.specs.List.{sum_by}
+use Rattle.sctp_send.specs.inner.Bounding.{bound_of, until_of}
+use Rattle.sctp_send.specs.inner.Counting.{IsCountedOf}
+use Rattle.sctp_send.specs.declared.ordered.Pair.{Pair}
+use Rattle.sctp_send.specs.declared.part_lists.PartLists.{PartLists}
+use Rattle.sctp_send.specs.declared.track.Rest.{Rest as RestFields}
+use Rattle.sctp_send.specs.declared.track.Track.{Track as TrackFields}
+
+-- ---- tickets by stream
+
+-- the ticket of a message of which something is left
+abbrev pub ticket_left : Option RestFields → Option ℕ
+ticket_left None = None
+ticket_left (Some r) = Some r.message.value.ticket
+
+-- the tickets of the messages in part, by stream
+abbrev pub tickets_left : List TrackFields → List (Option ℕ)
+tickets_left ts = map (λ t. ticket_left t.rest) ts
+
+-- the one of a stream, if it has a message in part
+abbrev pub left_on : (stream : ℕ) → List (Option ℕ) → Option ℕ
+left_on j os = slice_index_or os j None
+
+-- ---- pairs
+
+-- a stream and the ticket of its message in part
+abbrev pub pair_on : (stream : ℕ) → Option ℕ → List Pair
+pair_on j None = []
+pair_on j (Some t) = record { first = j; second = t } ∷ []
+
+-- those of all streams, from one on
+abbrev pub pairs_from : (stream : ℕ) → List (Option ℕ) → List Pair
+pairs_from j [] = []
+pairs_from j (o ∷ os) = pair_on j o ++ pairs_from (suc j) os
+
+-- the other number first
+abbrev pub turned : Pair → Pair
+turned p = record { first = p.second; second = p.first }
+
+-- The same pairs: whatever is summed over the ones and over the others is the same.
+abbrev pub AreSame : List Pair → List Pair → Type 0
+AreSame ps qs = (f : Pair → ℕ) → sum_by f ps ≡ sum_by f qs
+
+-- Both lists are those of the messages in part, where it is said so.
+pub record IsListed (os : List (Option ℕ)) (lists : PartLists) : Type 0 where
+  pub by_stream : lists.is_listed ≡ true → AreSame lists.by_stream.items (pairs_from 0 os)
+  pub by_ticket : lists.is_listed ≡ true → AreSame lists.by_ticket.items (map turned (pairs_from 0 os))
+
+-- ---- bounds
+
+-- the message of which something is left isn't worthless before its ticket's bound
+abbrev pub IsLeftBounded : List ℕ → Option RestFields → Type 0
+IsLeftBounded bs None = Unit {0}
+IsLeftBounded bs (Some r) = bound_of bs r.message.value.ticket ≤ until_of r.message
+
+-- nor is that of any stream
+abbrev pub AreLeftBounded : List ℕ → List TrackFields → Type 0
+AreLeftBounded bs ts = (j : ℕ) (d : TrackFields) → j < length ts → IsLeftBounded bs (slice_index_or ts j d).rest
+
+-- What is counted of the streams, which of them have a message in part, and before which moments none of those is worthless.
+pub record IsStreamsOf (size : ℕ) (ts : List TrackFields) (many sum first : ℕ) (lists : PartLists) (bs : List ℕ) : Type 0 where
+  pub counted : IsCountedOf size ts many sum first
+  pub listed : IsListed (tickets_left ts) lists
+  pub bounded : AreLeftBounded bs ts
+
+-- ---- what is found
+
+-- the first stream from one on that has a message in part, and the ticket
+pub record IsFirstLeft (from : ℕ) (os : List (Option ℕ)) (pair : Pair) : Type 0 where
+  pub above : from ≤ pair.first
+  pub there : left_on pair.first os ≡ Some pair.second
+  pub before : (j : ℕ) → from ≤ j → j < pair.first → left_on j os ≡ None
+
+-- that stream, or there is none
+abbrev pub FirstLeftAnswer : (from : ℕ) → List (Option ℕ) → Option Pair → Type 0
+FirstLeftAnswer from os None = (j : ℕ) → from ≤ j → left_on j os ≡ None
+FirstLeftAnswer from os (Some pair) = IsFirstLeft from os pair
+
+-- the stream whose message in part has this ticket, or there is none
+abbrev pub StreamWithAnswer : (ticket : ℕ) → List (Option ℕ) → Option ℕ → Type 0
+StreamWithAnswer t os None = (j : ℕ) → left_on j os ≡ Some t → ⊥
+StreamWithAnswer t os (Some j) = left_on j os ≡ Some t
