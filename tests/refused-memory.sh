@@ -2,10 +2,11 @@
 # Refuses memory to built programs, one growth after the other, until a run meets none; has each read and write fail; has each one of
 # several bytes move a single one. To be run by hand:
 #   tests/refused-memory.sh            all of it (half a minute once the programs are built)
-#   tests/refused-memory.sh wire ..    these runs of crates/sctp_starved alone
+#   tests/refused-memory.sh wire ..    these runs of tests/starved alone
 #   tests/refused-memory.sh programs   sctp-trace and sctp-end alone
-# sctp_starved must print the same whichever growth is refused: at each call that answers NoMemory it compares what readers tell with what the
-# contract says is left, makes the call again, and prints what isn't as it should be. Each line of a run says how often each call was refused.
+# The program of tests/starved must print tests/starved/stdout where nothing is refused, and the same whichever growth is refused: at each call
+# that answers NoMemory it compares what readers tell with what the contract says is left, makes the call again, and prints what isn't as it
+# should be. Each line of a run says how often each call was refused.
 # sctp-trace and sctp-end must give their whole output, or a beginning of it and status 3. It ends with 0 where all is so.
 # It needs a C compiler and Python, and glibc: memory is refused by a library that is loaded before the program
 # (tests/refused-memory/refuse.c).
@@ -14,10 +15,12 @@ root=$(CDPATH='' cd -- "$(dirname -- "$0")/.." && pwd -P) || exit 3
 room=$(mktemp -d) || exit 3
 trap 'rm -rf -- "$room"' EXIT
 trap 'exit 130' HUP INT TERM
-for crate in sctp_starved sctp_trace_main sctp_end_main; do
+python3 "$root/tests/build.py" starved "$room/starved" || exit 1
+"$room/starved" >"$room/said" && cmp -- "$root/tests/starved/stdout" "$room/said" || exit 1
+for crate in sctp_trace_main sctp_end_main; do
     # It proves and builds the program, unless it is built; what it prints then is looked at below.
     (cd -- "$root/crates/$crate" && rt run </dev/null >"$room/built" 2>&1)
     [ -x "$root/crates/$crate/out/$crate" ] || { tail -n 9 -- "$room/built"; exit 1; }
 done
 cc -O1 -shared -fPIC -o "$room/refuse.so" "$root/tests/refused-memory/refuse.c" -ldl || exit 3
-REFUSE_LIBRARY=$room/refuse.so python3 "$root/tests/refused-memory/runs.py" "$@"
+STARVED_PROGRAM=$room/starved REFUSE_LIBRARY=$room/refuse.so python3 "$root/tests/refused-memory/runs.py" "$@"

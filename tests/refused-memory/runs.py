@@ -48,8 +48,8 @@ def parted(output):
 
 
 def starve(name):
-    """A run of sctp_starved: whatever is refused, it prints what it prints where nothing is."""
-    words = [program("sctp_starved"), name, "told"]
+    """A run of tests/starved: whatever is refused, it prints what it prints where nothing is."""
+    words = [os.environ["STARVED_PROGRAM"], name, "told"]
     status, output, _, _ = run(words)
     whole, told = parted(output)
     wrong = [] if status == 0 and not told else ["without a refusal"]

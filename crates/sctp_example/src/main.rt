@@ -1,6 +1,7 @@
-//! The libraries as a caller sees them: two ends that talk, chunks read and written again, a pair under a script's events, a cookie sealed and opened.
+//! The libraries as a caller sees them: two ends that talk, chunks read and written again, items of lists, a pair under a script's events, a cookie sealed and opened.
 #![tactic(auto)]
 
+mod lists;
 mod talk;
 
 use anyhow::Result;
@@ -22,6 +23,10 @@ fn main(rt: HostRuntime) -> Result<()> {
         "read and written again: {}",
         copy.as_slice() == HI.as_slice()
     )?;
+    println!(rt;
+        "items are written one by one: {}",
+        lists::are_written(rt.alloc())?
+    )?;
     println!(rt; "{}", built(rt.alloc())?.as_str())?;
     println!(rt; "the cookie opens: {}", opens())?;
     Ok(())
@@ -39,12 +44,18 @@ fn copied(alloc: Global, bytes: &[u8]) -> Result<Vec<u8>> {
     Ok(out)
 }
 
-/// What an end answers that is asked for a packet before there is an association.
+/// What two ends answer that are asked for a packet before there is an association.
 fn built(alloc: Global) -> Result<String> {
     let config = PairConfig::new(1_500, 1_400, 65_536, 1, Mode::Data)?;
     let mut pair = Pair::new(alloc, config, Key::new([7; 32]));
-    let outcome = pair.step(&Event::Build { side: Side::A })?;
-    Ok(format!(in alloc; "{outcome:?}")?)
+    both_build(alloc, &mut pair)
+}
+
+/// What both ends of a pair answer that are asked for a packet, A first.
+fn both_build(alloc: Global, pair: &mut Pair) -> Result<String> {
+    let first = Event::Build { side: Side::A };
+    let outcomes = pair.run(&[first, Event::Build { side: Side::B }])?;
+    Ok(format!(in alloc; "{:?}", outcomes.as_slice())?)
 }
 
 /// Whether a cookie opens a second after it was made.
