@@ -47,7 +47,7 @@ crc32c() {
 }
 
 receiver() {
-    build receiver sctp_model sctp_values sctp_safety sctp_serial sctp_wire sctp_framing sctp_chains sctp_recv
+    build receiver sctp_model sctp_values sctp_safety sctp_serial sctp_wire sctp_framing sctp_chains sctp_sequence sctp_recv
     for range in '1000 2000' '10000 20000' '100000 200000'; do
         # shellcheck disable=SC2086
         each "a message of 64 bytes in order ($range)" $range 1 "$built" order
@@ -82,7 +82,7 @@ sender() {
 }
 
 # the crates that an endpoint stands on
-end='sctp_model sctp_values sctp_terms sctp_safety sctp_outcomes sctp_serial sctp_wire sctp_cookie sctp_framing sctp_packet sctp_opening sctp_chains sctp_recv sctp_send sctp_association sctp_endpoint'
+end='sctp_model sctp_values sctp_terms sctp_safety sctp_outcomes sctp_serial sctp_wire sctp_cookie sctp_framing sctp_packet sctp_opening sctp_chains sctp_sequence sctp_recv sctp_send sctp_association sctp_endpoint'
 
 # what an endpoint adds to a message: the same packets over two endpoints, and over a sender and a receiver side by side
 endpoint() {
@@ -121,7 +121,7 @@ growth() {
 
 # calls of a receiver
 receiver_growth() {
-    build receiver_growth sctp_model sctp_values sctp_safety sctp_serial sctp_wire sctp_framing sctp_chains sctp_recv
+    build receiver_growth sctp_model sctp_values sctp_safety sctp_serial sctp_wire sctp_framing sctp_chains sctp_sequence sctp_recv
     for format in data i-data; do
         # what is freed at the program's end jumps
         within='sctp_recv::receiver::Receiver::on_data*'
@@ -129,6 +129,8 @@ receiver_growth() {
         grows "$format: a fragment between the last two of so many chains of its message" 2000 100 call "$built" "$format" inwards
         within=
         grows "$format: a fragment between two of so many chains of its message" 2000 100 call "$built" "$format" fragments
+        grows "$format: a fragment between two of so many chains of its message, while a later message waits whole" 2000 100 call "$built" "$format" later
+        grows "$format: a fragment of the message that is waited for, while so many later messages wait whole" 1100 100 call "$built" "$format" behind
         grows "$format: a gap closed amid so many runs" 2000 100 call "$built" "$format" gaps
         grows "$format: a FORWARD at so many streams" 500 20 call "$built" "$format" forwards
         grows "$format: a FORWARD with an entry for each of so many streams, by entry" 80 20 kept "$built" "$format" entries
@@ -144,17 +146,26 @@ sender_growth() {
         grows "$format: expire, all of so many late, by message" 1024 1 kept "$built" "$format" late
         grows "$format: expire, none of so many late" 1024 100 call "$built" "$format" early
         grows "$format: expire, one of so many late" 1024 20 call "$built" "$format" one-late
+        grows "$format: expire, one of so many late that wait" 250 20 call "$built" "$format" one-late-waits
         grows "$format: abandon, one of so many outstanding" 1024 20 call "$built" "$format" abandon
         grows "$format: abandon, one of so many that wait" 250 20 call "$built" "$format" withdraw
         grows "$format: acknowledged, of one of so many outstanding" 1024 20 call "$built" "$format" acknowledged
         grows "$format: point, behind so many abandoned" 1024 100 call "$built" "$format" point
         grows "$format: put_forward, of so many abandoned on 32 streams" 1024 20 call "$built" "$format" forward
         grows "$format: put_forward, of 1,000 abandoned on one of so many streams" 512 20 call "$built" "$format" forward-few
+        # what is freed at the program's end jumps
+        within='sender_growth::fill::*'
         grows "$format: fill, a packet of 64-byte messages, so many waiting on one of 32 streams" 250 8 call "$built" "$format" fill
         grows "$format: fill, a packet of 64-byte messages, 900 waiting on one of so many streams" 32 8 call "$built" "$format" fill-streams
+        within=
         grows "$format: a SACK of 64 blocks over so many, 128 change" 8000 20 call "$built" "$format" blocks
         grows "$format: a SACK of 365 blocks over so many, 730 change" 8000 20 call "$built" "$format" more-blocks
     done
+    # under DATA no message is ever in part
+    grows 'i-data: fill, one message in part on one of so many streams' 256 20 call "$built" i-data fill-part
+    grows 'i-data: abandon, of another, one message in part on one of so many streams' 256 20 call "$built" i-data abandon-part
+    grows 'i-data: acknowledged, of another, one message in part on one of so many streams' 256 20 call "$built" i-data acknowledged-part
+    grows 'i-data: expire, one late of so many in part, each on a stream of its own' 128 20 call "$built" i-data expire-part
 }
 
 # what one packet of at most 1,500 bytes takes, and what the end sends then
