@@ -9,14 +9,11 @@ use Rattle.sctp_model.specs.sender.Reached.{IsReached}
 use Rattle.sctp_model.proofs.sender.FillLaws.{goes_parts, room_some, room_fits, room_after, follows_on, follows_more, stopped_is_fill}
 use Rattle.sctp_packet.specs.Draft.{Draft as PacketDraft, room_in, with_chunks}
 use Rattle.sctp_send.specs.SenderKept.{Kept}
-use Rattle.sctp_send.specs.SenderStands.{Keeps, StandsFor}
-use Rattle.sctp_send.specs.OutstandingFields.{item_meaning}
-use Rattle.sctp_send.specs.SenderFields.{queued_by, track_meaning}
-use Rattle.sctp_send.specs.FillAnswers.{FillAnswer, PutSomeOf}
+use Rattle.sctp_send.specs.SenderStands.{Keeps}
+use Rattle.sctp_send.specs.FillAnswers.{PutSomeOf}
 use Rattle.sctp_send.specs.inner.Drafting.{numbers_of, drafted, IsPut, IsStopped, AllPut}
 use Rattle.sctp_send.specs.inner.Undoing.{IsSized, IsBehind}
 use Rattle.sctp_send.specs.declared.draft.Draft.{Draft}
-use Rattle.sctp_send.specs.declared.fill.Filled.{Filled}
 use Rattle.sctp_send.proofs.RoomLemmas.{room_more, goes_nowhere}
 use Rattle.sctp_send.proofs.NewlyLemmas.{newly_self, newly_more}
 
@@ -127,21 +124,4 @@ loop_some f s v p now later d steps x some = record {
   view = some.view;
   follows = follows_on f v x.view some.view (room_in p) x.wishes some.wishes x.follows (subst (λ (n : ℕ). Follows f x.view n some.wishes some.view) (room_now f s v p now d steps x) some.follows);
   chunks = chunks_more f p now later x.wishes some.wishes x.chunks some.chunks;
-}
-
--- a draft of what a sender keeps
-pub moved_is : (s : Kept) (d : Draft) → map (item_meaning s.fragment) d.outstanding.items ≡ s.items → map (queued_by s.fragment) d.queue.items ≡ s.queue → map (track_meaning s.fragment) d.tracks.items ≡ s.tracks
-    → d.turn ≡ s.turn → d.tickets.items ≡ [] → d.outstanding.capacity ≡ s.capacity → drafted s d ≡ s
-moved_is s d items queue tracks turn told room = rw (items, queue, tracks, turn, told, room) refl
-
--- the draft takes the sender's place
-pub filled_is : (f : Format) (s new : Kept) (v : SenderView) (p r : PacketDraft) (d : Draft) (filled : Filled) → AllPut f s v p r d → new ≡ drafted s d → filled.tickets ≡ d.tickets → FillAnswer f v p r new filled
-unfolding StandsFor
-filled_is f s new v p r d filled all kept tickets = record {
-  wishes = all.wishes;
-  view = all.view;
-  fill = all.fill;
-  chunks = all.chunks;
-  stands = subst (λ (y : Kept). Keeps f y all.view) (sym kept) all.keeps;
-  tickets = ap (λ (ts : _). numbers_of ts.items) tickets ∙ all.told;
 }

@@ -111,7 +111,7 @@ behind_same d = record { origin = refl; room = room_same d }
 
 -- and the sizes are the same
 pub sized_on : (size : ℕ) (a b : Draft) → IsSized size a → IsKeptRoom a b → IsSized size b
-sized_on size a b x y = record { window = y.window ∙ x.window; queue = y.queue ∙ x.queue; tracks = y.tracks ∙ x.tracks }
+sized_on size a b x y = record { some = x.some; short = x.short; window = y.window ∙ x.window; queue = y.queue ∙ x.queue; tracks = y.tracks ∙ x.tracks }
 
 -- ---- step by step
 

@@ -1,8 +1,7 @@
 -- What a sender's fields hold.
-use Rattle.std.specs.Prelude.{◌≡◌, ℕ, ◌<◌, ◌≤◌, Option, None, Some}
+use Rattle.std.specs.Prelude.{ℕ, Option, None, Some}
 use Rattle.std.specs.declared.rc.Rc.{Rc}
 use Rattle.std.specs.declared.alloc.Global.{Global}
-use Rattle.sctp_model.specs.numbers.Limits.{GREATEST_FRAGMENT}
 use Rattle.sctp_model.specs.messages.Plan.{Part}
 use Rattle.sctp_model.specs.sender.SenderView.{Queued}
 use Rattle.sctp_send.specs.SenderKept.{Rest, Track}
@@ -27,11 +26,3 @@ rests_meaning size (Some r) = Some (rest_meaning size r)
 -- what is kept of a stream
 abbrev pub track_meaning : ℕ → TrackFields → Track
 track_meaning size t = record { ordered = t.ordered; unordered = t.unordered; rest = rests_meaning size t.rest }
-
--- the constants are within their limits, and all parts have fragments of the same size
-pub record IsConfigured (size w q t : ℕ) : Type 0 where
-  pub some : 0 < size
-  pub short : size ≤ GREATEST_FRAGMENT
-  pub window : w ≡ size
-  pub queue : q ≡ size
-  pub tracks : t ≡ size

@@ -63,15 +63,15 @@ impl<F: Framing> Sender<F> {
         if at == 0 {
             return Abandoned::Unknown;
         }
-        if at > self.fates.len() {
+        if at > self.head.fates.len() {
             return Abandoned::Unknown;
         }
-        match self.fates[at - 1] {
+        match self.head.fates[at - 1] {
             Fate::Withdrawn => Abandoned::Withdrawn,
             Fate::GivenUp => Abandoned::Abandoned,
             Fate::Waiting => {
-                withdraw(&mut self.queue, ticket.0);
-                self.fates[at - 1] = Fate::Withdrawn;
+                withdraw(&mut self.parts.queue, ticket.0);
+                self.head.fates[at - 1] = Fate::Withdrawn;
                 Abandoned::Withdrawn
             }
             Fate::Numbered => self.abandon_numbered(ticket.0),
@@ -85,16 +85,16 @@ impl<F: Framing> Sender<F> {
         ensures answer { (v : SenderView) → StandsFor F.format self.old v → is_numbered_fate (fate_here v ticket) ≡ true → answer_meaning result ≡ abandon_answer v ticket }
         ensures step { (v : SenderView) → StandsFor F.format self.old v → is_numbered_fate (fate_here v ticket) ≡ true → StandsFor F.format self.new (abandon_after v ticket) }
     {
-        if is_all_covered(&self.tracks, &self.outstanding, ticket) {
+        if is_all_covered(&self.parts.tracks, &self.parts.outstanding, ticket) {
             return Abandoned::Acknowledged;
         }
-        if !self.partial {
+        if !self.head.partial {
             return Abandoned::Reliable;
         }
-        self.fates[ticket as usize - 1] = Fate::GivenUp;
-        self.outstanding.give_up(ticket);
-        if let Some(rest) = end(&mut self.tracks, ticket) {
-            push_end(&mut self.outstanding, rest);
+        self.head.fates[ticket as usize - 1] = Fate::GivenUp;
+        self.parts.outstanding.give_up(ticket);
+        if let Some(rest) = end(&mut self.parts.tracks, ticket) {
+            push_end(&mut self.parts.outstanding, rest);
         }
         Abandoned::Abandoned
     }

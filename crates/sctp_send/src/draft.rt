@@ -1,4 +1,4 @@
-//! What filling a packet changes of a sender: moved out of it, changed, and put back; where memory runs out, the changes are taken back first.
+//! What filling a packet changes of a sender: where memory runs out, the changes are taken back.
 
 ghost use Rattle.std.specs.Prelude.{◌≡◌, ℕ, ◌<◌, ◌≤◌, ◌+◌, ◌++◌, ◌∷◌, [], set, length, IfOk};
 ghost use Rattle.std.specs.Vec.{vec_len, vec_capacity};
@@ -47,6 +47,18 @@ pub enum Change {
         track: Track,
         turn: u16,
     },
+}
+
+/// Nothing is noted yet, and nothing is told.
+pub fn begin_anew(draft: &mut Draft)
+    ensures same { draft.new ≡ record draft.old { tickets = draft.new.tickets; log = draft.new.log } }
+    ensures tickets { draft.new.tickets.items ≡ [] }
+    ensures log { draft.new.log.items ≡ [] }
+    ensures room { length draft.new.queue.items ≤ draft.new.queue.capacity }
+{
+    let _waiting = draft.queue.len();
+    draft.tickets.clear();
+    draft.log.clear();
 }
 
 /// A change is noted, where there is room for that.

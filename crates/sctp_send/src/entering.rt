@@ -7,26 +7,25 @@ ghost use Rattle.sctp_values.specs.Meanings.{kind_meaning};
 ghost use Rattle.sctp_send.specs.OutstandingFields.{item_meaning, lane_meaning, message_meaning, queued_meaning};
 ghost use Rattle.sctp_send.specs.SenderFields.{queued_by, track_meaning, rest_meaning, rests_meaning};
 ghost use Rattle.sctp_send.specs.inner.Newcomers.{number_in, number_on, begun_items, track_of, without_place, begun, gone_on};
-ghost use Rattle.sctp_send.specs.inner.Drafting.{numbers_of, drafted, fragment_item, rest_from, counted_track, left_track};
+ghost use Rattle.sctp_send.specs.inner.Drafting.{bare, numbers_of, drafted, fragment_item, rest_from, counted_track, left_track};
 ghost use Rattle.sctp_send.specs.inner.Undoing.{Parts, before_all, IsSized, IsBehind};
 
 use crate::assigning::{Beginning, stream_after};
 use crate::draft::{Change, Draft, note};
 use crate::entry::Standing;
+use crate::head::Head;
 use crate::message::{Message, fragments_of, shared};
 use crate::pushing::{push_begun, push_fragment};
-use crate::sender::Sender;
 use crate::streams::Streams;
 use crate::track::{Rest, Track};
 use crate::waiting::Waiting;
-use sctp_framing::Framing;
 use sctp_values::{Kind, NoMemory, Ticket};
 use std::rc::Rc;
 
 /// Room for so many tickets is taken at once.
 const TICKETS: usize = 32;
 
-impl<F: Framing> Sender<F> {
+impl Head {
     /// The message at a place of the queue takes its number, and so many of its fragments their indexes.
     ///
     /// # Errors
@@ -43,9 +42,9 @@ impl<F: Framing> Sender<F> {
         requires place { next.place < length draft.old.queue.items }
         requires stream { message.value.stream < length draft.old.tracks.items }
         requires sized { IsSized self.now.fragment draft.old }
-        ensures kept { suc number < 2 ^ 32 → number ≡ number_on (drafted self.now draft.old).tracks (lane_meaning message.value)
-            → OnOk result (drafted self.now draft.new
-            ≡ begun (drafted self.now draft.old) (queued_meaning self.now.fragment message.value) next.place next.count next.turn draft.new.outstanding.capacity) }
+        ensures kept { suc number < 2 ^ 32 → number ≡ number_on (drafted (bare self.now) draft.old).tracks (lane_meaning message.value)
+            → OnOk result (drafted (bare self.now) draft.new
+            ≡ begun (drafted (bare self.now) draft.old) (queued_meaning self.now.fragment message.value) next.place next.count next.turn draft.new.outstanding.capacity) }
         ensures room { OnOk result (self.now.streams + length draft.new.outstanding.items ≤ draft.new.outstanding.capacity) }
         ensures told { OnOk result (numbers_of draft.new.tickets.items ≡ numbers_of draft.old.tickets.items ++ message.value.ticket ∷ []) }
         ensures behind { IsBehind draft.old draft.new }
@@ -84,8 +83,8 @@ impl<F: Framing> Sender<F> {
         requires stream { stream < length draft.old.tracks.items }
         requires sized { IsSized self.now.fragment draft.old }
         ensures kept { suc rest.now.fragment < 2 ^ 32
-            → OnOk result (drafted self.now draft.new
-            ≡ gone_on (drafted self.now draft.old) (rest_meaning self.now.fragment rest.now) stream (suc stream % self.now.streams) draft.new.outstanding.capacity) }
+            → OnOk result (drafted (bare self.now) draft.new
+            ≡ gone_on (drafted (bare self.now) draft.old) (rest_meaning self.now.fragment rest.now) stream (suc stream % self.now.streams) draft.new.outstanding.capacity) }
         ensures room { OnOk result (self.now.streams + length draft.new.outstanding.items ≤ draft.new.outstanding.capacity) }
         ensures told { OnOk result (draft.new.tickets ≡ draft.old.tickets) }
         ensures behind { IsBehind draft.old draft.new }

@@ -18,12 +18,12 @@ impl<F: Framing> Sender<F> {
         ensures { (v : SenderView) → StandsFor F.format self.old v → StandsFor F.format self.new (expired v now) }
     {
         self.expire_all(now);
-        self.queue.look_again(now);
-        if !self.partial {
+        self.parts.queue.look_again(now);
+        if !self.head.partial {
             return;
         }
-        self.outstanding.look_again(now);
-        self.tracks.look_again(now);
+        self.parts.outstanding.look_again(now);
+        self.parts.tracks.look_again(now);
     }
 
     /// The same, one ticket after the other.
@@ -31,7 +31,7 @@ impl<F: Framing> Sender<F> {
         ensures { (v : SenderView) → StandsFor F.format self.old v → StandsFor F.format self.new (expired v now) }
     {
         let mut last = 0;
-        for _ in 0..self.fates.len() {
+        for _ in 0..self.head.fates.len() {
             match self.next_late(last, now) {
                 Some(ticket) => {
                     let _answer = self.abandon(Ticket(ticket));
@@ -58,11 +58,11 @@ impl<F: Framing> Sender<F> {
     fn next_late(&self, last: u32, now: u64) -> Option<u32>
         ensures { result ≡ soonest now last None (kept_messages self.now) }
     {
-        let found = self.queue.late(last, now, None);
-        if !self.partial {
+        let found = self.parts.queue.late(last, now, None);
+        if !self.head.partial {
             return found;
         }
-        let found = self.outstanding.late(last, now, found);
-        self.tracks.late(last, now, found)
+        let found = self.parts.outstanding.late(last, now, found);
+        self.parts.tracks.late(last, now, found)
     }
 }

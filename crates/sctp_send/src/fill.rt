@@ -1,18 +1,16 @@
 //! What goes into a packet (RFC 9260, 6.1 and 6.3.3; RFC 8260, 2.2).
 
-ghost use Rattle.std.specs.Prelude.{◌≡◌, ◌≤◌, [], length, IfOk, OnErr, OnOk};
+ghost use Rattle.std.specs.Prelude.{◌≡◌, [], IfOk, OnErr, OnOk};
 ghost use Rattle.sctp_model.specs.sender.SenderView.{SenderView};
 ghost use Rattle.sctp_send.specs.SenderStands.{StandsFor, Keeps};
 ghost use Rattle.sctp_send.specs.FillAnswers.{FillAnswer, PutSomeOf};
-ghost use Rattle.sctp_send.specs.inner.Drafting.{numbers_of, all_numbered, drafted, AllPut};
+ghost use Rattle.sctp_send.specs.inner.Drafting.{bare, numbers_of, all_numbered, drafted, AllPut};
 ghost use Rattle.sctp_send.specs.inner.Undoing.{IsSized, IsBehind};
 
-use crate::draft::{Draft, take_back};
+use crate::draft::{Draft, begin_anew, take_back};
+use crate::head::Head;
 use crate::message::Fate;
 use crate::sender::Sender;
-use crate::streams::Streams;
-use crate::waiting::Waiting;
-use crate::window::Window;
 use sctp_framing::Framing;
 use sctp_packet::PacketWriter;
 use sctp_values::{NoMemory, Ticket};
@@ -36,66 +34,38 @@ impl<F: Framing> Sender<F> {
         ensures memory { (v : SenderView) → StandsFor F.format self.old v → OnErr result (StandsFor F.format self.new v) }
         ensures some { (v : SenderView) → StandsFor F.format self.old v → OnErr result (PutSomeOf F.format v packet.old packet.new) }
     {
-        let mut draft = self.draft();
-        match self.put_all(&mut draft, packet) {
-            Ok(()) => Ok(self.take_over(&mut draft)),
+        begin_anew(&mut self.parts);
+        match self.head.put_all::<F>(&mut self.parts, packet) {
+            Ok(()) => {
+                self.parts.log.clear();
+                let tickets = mem::replace(&mut self.parts.tickets, Vec::new(self.head.alloc));
+                number_all(&mut self.head.fates, &tickets);
+                Ok(Filled { tickets })
+            }
             Err(failed) => {
-                take_back(&mut draft);
-                let _as_before = self.take_over(&mut draft);
+                take_back(&mut self.parts);
                 Err(failed)
             }
         }
     }
+}
 
-    /// The parts that filling changes, moved out: a draft that keeps what the sender did.
-    fn draft(&mut self) -> Draft
-        ensures same { drafted self.new result ≡ self.old }
-        ensures sized { IsSized self.new.fragment result }
-        ensures fresh { result.tickets.items ≡ [] }
-        ensures unlogged { result.log.items ≡ [] }
-        ensures room { length result.queue.items ≤ result.queue.capacity }
-    {
-        let (alloc, size) = (self.alloc, self.fragment);
-        let mut log = mem::replace(&mut self.log, Vec::new(alloc));
-        log.clear();
-        Draft {
-            outstanding: mem::replace(&mut self.outstanding, Window::new(alloc, size)),
-            queue: mem::replace(&mut self.queue, Waiting::new(alloc, size, false)),
-            tracks: mem::replace(&mut self.tracks, Streams::none(alloc, size)),
-            turn: self.turn,
-            tickets: Vec::new(alloc),
-            log,
-        }
-    }
-
-    /// What is in the draft takes the place of the sender's own parts, which are left there.
-    fn take_over(&mut self, draft: &mut Draft) -> Filled
-        requires { IsSized self.old.fragment draft.old }
-        ensures kept { self.new ≡ drafted self.old draft.old }
-        ensures tickets { result.tickets ≡ draft.old.tickets }
-    {
-        draft.log.clear();
-        mem::swap(&mut self.outstanding, &mut draft.outstanding);
-        mem::swap(&mut self.queue, &mut draft.queue);
-        mem::swap(&mut self.tracks, &mut draft.tracks);
-        mem::swap(&mut self.log, &mut draft.log);
-        self.turn = draft.turn;
-        let tickets = mem::replace(&mut draft.tickets, Vec::new(self.alloc));
-        number_all(&mut self.fates, &tickets);
-        Filled { tickets }
-    }
-
+impl Head {
     /// Puts one wish after the other, until none may go.
-    fn put_all(&self, draft: &mut Draft, packet: &mut PacketWriter) -> Result<(), NoMemory>
+    fn put_all<F: Framing>(
+        &self,
+        draft: &mut Draft,
+        packet: &mut PacketWriter,
+    ) -> Result<(), NoMemory>
         requires fresh { draft.old.tickets.items ≡ [] }
         requires sized { IsSized self.now.fragment draft.old }
         ensures behind { IsBehind draft.old draft.new }
-        ensures all { (v : SenderView) → Keeps F.format (drafted self.now draft.old) v → OnOk result (AllPut F.format self.now v packet.old packet.new draft.new) }
-        ensures some { (v : SenderView) → Keeps F.format (drafted self.now draft.old) v → OnErr result (PutSomeOf F.format v packet.old packet.new) }
+        ensures all { (v : SenderView) → Keeps F.format (drafted (bare self.now) draft.old) v → OnOk result (AllPut F.format (bare self.now) v packet.old packet.new draft.new) }
+        ensures some { (v : SenderView) → Keeps F.format (drafted (bare self.now) draft.old) v → OnErr result (PutSomeOf F.format v packet.old packet.new) }
     {
         // Each chunk takes room.
         for _ in 0..packet.room() {
-            if !self.put_next(draft, packet)? {
+            if !self.put_next::<F>(draft, packet)? {
                 return Ok(());
             }
         }

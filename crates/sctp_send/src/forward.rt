@@ -42,7 +42,7 @@ impl<F: Framing> Sender<F> {
         ensures memory { (v : SenderView) → StandsFor F.format self.now v
             → OnErr result ((nat_lt v.cum (point v) && has_room packet.old (forward_chunk_of F.format v)) ≡ true) }
     {
-        let run = abandoned_run(&self.outstanding);
+        let run = abandoned_run(&self.parts.outstanding);
         if run == 0 {
             return Ok(false);
         }
@@ -50,11 +50,17 @@ impl<F: Framing> Sender<F> {
         let room = packet.room().saturating_sub(8);
         let form = F::skip_form();
         let most = room / form.size();
-        let list = match skips_below::<F>(self.alloc, &self.outstanding, run, self.streams, most) {
+        let list = match skips_below::<F>(
+            self.head.alloc,
+            &self.parts.outstanding,
+            run,
+            self.head.streams,
+            most,
+        ) {
             Ok(list) => list,
             Err(failed) => {
                 // Where the chunk doesn't fit, no memory is wanted.
-                if has_room_for::<F>(packet, &self.outstanding, run, self.streams) {
+                if has_room_for::<F>(packet, &self.parts.outstanding, run, self.head.streams) {
                     return Err(failed);
                 }
                 return Ok(false);
@@ -64,7 +70,7 @@ impl<F: Framing> Sender<F> {
             return Ok(false);
         }
         let chunk = F::forward_chunk(Forward {
-            cumulative: tsn_of(self.initial, self.cum.wrapping_add(run)),
+            cumulative: tsn_of(self.head.initial, self.head.cum.wrapping_add(run)),
             skips: Skips::new(form, &list),
         });
         packet.try_chunk(&chunk)

@@ -16,6 +16,7 @@ mod entry;
 mod expire;
 mod fill;
 mod forward;
+mod head;
 mod lanes;
 mod lateness;
 mod laws;

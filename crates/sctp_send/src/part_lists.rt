@@ -43,17 +43,6 @@ impl PartLists {
         })
     }
 
-    /// Nothing is listed, which takes no memory.
-    pub fn none(alloc: Global) -> PartLists
-        ensures { (tickets : List (Option ℕ)) → IsListed tickets result }
-    {
-        PartLists {
-            by_stream: Ordered::new(alloc),
-            by_ticket: Ordered::new(alloc),
-            is_listed: false,
-        }
-    }
-
     /// Whether all messages in part are listed.
     pub fn is_listed(&self) -> bool
         ensures { result ≡ self.now.is_listed }

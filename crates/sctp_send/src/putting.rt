@@ -7,16 +7,16 @@ ghost use Rattle.sctp_send.specs.SenderStands.{Keeps};
 ghost use Rattle.sctp_send.specs.FillAnswers.{PutSomeOf};
 ghost use Rattle.sctp_send.specs.WindowKept.{changed};
 ghost use Rattle.sctp_send.specs.inner.Undoing.{IsSized, IsBehind};
-ghost use Rattle.sctp_send.specs.inner.Drafting.{drafted, went_out, PutAnswer, IsFlying, IsNextEntry, IsNextUnsent, NothingStands, IsOffered};
+ghost use Rattle.sctp_send.specs.inner.Drafting.{bare, drafted, went_out, PutAnswer, IsFlying, IsNextEntry, IsNextUnsent, NothingStands, IsOffered};
 ghost use Rattle.sctp_send.specs.inner.Newcomers.{IsBegun, IsContinued};
 
 use crate::assigning::{Beginning, Next, has_window, next_new, rest_of};
 use crate::draft::{Change, Draft, note};
 use crate::entering::number_next;
 use crate::entry::{Place, Standing};
+use crate::head::Head;
 use crate::message::{Message, fragments_of, shared};
 use crate::pieces::{bytes_of, put_fragment};
-use crate::sender::Sender;
 use crate::window::Window;
 use crate::wishes::may_flow;
 use sctp_framing::Framing;
@@ -25,53 +25,53 @@ use sctp_serial::tsn_of;
 use sctp_values::NoMemory;
 use std::rc::Rc;
 
-impl<F: Framing> Sender<F> {
+impl Head {
     /// Puts the next wish into the packet; false where there is none that may go.
-    pub(crate) fn put_next(
+    pub(crate) fn put_next<F: Framing>(
         &self,
         draft: &mut Draft,
         packet: &mut PacketWriter,
     ) -> Result<bool, NoMemory>
         requires { IsSized self.now.fragment draft.old }
-        ensures put { (v : SenderView) → Keeps F.format (drafted self.now draft.old) v
-            → IfOk result (λ put. PutAnswer F.format self.now v packet.old packet.new draft.old draft.new put) }
-        ensures some { (v : SenderView) → Keeps F.format (drafted self.now draft.old) v
+        ensures put { (v : SenderView) → Keeps F.format (drafted (bare self.now) draft.old) v
+            → IfOk result (λ put. PutAnswer F.format (bare self.now) v packet.old packet.new draft.old draft.new put) }
+        ensures some { (v : SenderView) → Keeps F.format (drafted (bare self.now) draft.old) v
             → OnErr result (PutSomeOf F.format v packet.old packet.new) }
         ensures behind { IsBehind draft.old draft.new }
     {
         if let Some(at) = draft.outstanding.first_marked() {
-            return self.put_entry(draft, at, packet);
+            return self.put_entry::<F>(draft, at, packet);
         }
         let flying = draft.outstanding.flight();
         if let Some(at) = draft.outstanding.first_unsent() {
-            return self.put_unsent(draft, at, flying, packet);
+            return self.put_unsent::<F>(draft, at, flying, packet);
         }
-        self.put_new(draft, flying, packet)
+        self.put_new::<F>(draft, flying, packet)
     }
 
     /// What is to take the next index does, where its fragment may go.
-    fn put_new(
+    fn put_new<F: Framing>(
         &self,
         draft: &mut Draft,
         flying: u64,
         packet: &mut PacketWriter,
     ) -> Result<bool, NoMemory>
         requires sized { IsSized self.now.fragment draft.old }
-        ensures put { (v : SenderView) → Keeps F.format (drafted self.now draft.old) v → NothingStands F.format v → IsFlying self.now draft.old flying
-            → IfOk result (λ put. PutAnswer F.format self.now v packet.old packet.new draft.old draft.new put) }
-        ensures some { (v : SenderView) → Keeps F.format (drafted self.now draft.old) v → NothingStands F.format v → IsFlying self.now draft.old flying
+        ensures put { (v : SenderView) → Keeps F.format (drafted (bare self.now) draft.old) v → NothingStands F.format v → IsFlying (bare self.now) draft.old flying
+            → IfOk result (λ put. PutAnswer F.format (bare self.now) v packet.old packet.new draft.old draft.new put) }
+        ensures some { (v : SenderView) → Keeps F.format (drafted (bare self.now) draft.old) v → NothingStands F.format v → IsFlying (bare self.now) draft.old flying
             → OnErr result (PutSomeOf F.format v packet.old packet.new) }
         ensures behind { IsBehind draft.old draft.new }
     {
         match next_new::<F>(draft, self.streams, self.fragment) {
-            Some(Next::Begins(next)) => self.put_begun(draft, next, flying, packet),
-            Some(Next::Continues(stream)) => self.put_continued(draft, stream, flying, packet),
+            Some(Next::Begins(next)) => self.put_begun::<F>(draft, next, flying, packet),
+            Some(Next::Continues(stream)) => self.put_continued::<F>(draft, stream, flying, packet),
             None => Ok(false),
         }
     }
 
     /// Puts the entry at this offset, where it fits.
-    fn put_entry(
+    fn put_entry<F: Framing>(
         &self,
         draft: &mut Draft,
         at: usize,
@@ -79,8 +79,8 @@ impl<F: Framing> Sender<F> {
     ) -> Result<bool, NoMemory>
         requires sized { IsSized self.now.fragment draft.old }
         requires within { at < length draft.old.outstanding.items }
-        ensures put { (v : SenderView) → Keeps F.format (drafted self.now draft.old) v → IsNextEntry F.format v at
-            → IfOk result (λ put. PutAnswer F.format self.now v packet.old packet.new draft.old draft.new put) }
+        ensures put { (v : SenderView) → Keeps F.format (drafted (bare self.now) draft.old) v → IsNextEntry F.format v at
+            → IfOk result (λ put. PutAnswer F.format (bare self.now) v packet.old packet.new draft.old draft.new put) }
         ensures unchanged { OnErr result (packet.new ≡ packet.old) }
         ensures behind { IsBehind draft.old draft.new }
     {
@@ -104,7 +104,7 @@ impl<F: Framing> Sender<F> {
     }
 
     /// Puts the entry at this offset for the first time, where it fits and may flow.
-    fn put_unsent(
+    fn put_unsent<F: Framing>(
         &self,
         draft: &mut Draft,
         at: usize,
@@ -113,8 +113,8 @@ impl<F: Framing> Sender<F> {
     ) -> Result<bool, NoMemory>
         requires sized { IsSized self.now.fragment draft.old }
         requires within { at < length draft.old.outstanding.items }
-        ensures put { (v : SenderView) → Keeps F.format (drafted self.now draft.old) v → IsNextUnsent F.format v at → IsFlying self.now draft.old flying
-            → IfOk result (λ put. PutAnswer F.format self.now v packet.old packet.new draft.old draft.new put) }
+        ensures put { (v : SenderView) → Keeps F.format (drafted (bare self.now) draft.old) v → IsNextUnsent F.format v at → IsFlying (bare self.now) draft.old flying
+            → IfOk result (λ put. PutAnswer F.format (bare self.now) v packet.old packet.new draft.old draft.new put) }
         ensures unchanged { OnErr result (packet.new ≡ packet.old) }
         ensures behind { IsBehind draft.old draft.new }
     {
@@ -123,11 +123,11 @@ impl<F: Framing> Sender<F> {
         if !may_flow(flying, bytes, self.rwnd) {
             return Ok(false);
         }
-        self.put_entry(draft, at, packet)
+        self.put_entry::<F>(draft, at, packet)
     }
 
     /// A message takes its number, where its first fragment fits and may flow, and the window has room for all that take an index.
-    fn put_begun(
+    fn put_begun<F: Framing>(
         &self,
         draft: &mut Draft,
         next: Beginning,
@@ -137,9 +137,9 @@ impl<F: Framing> Sender<F> {
         requires sized { IsSized self.now.fragment draft.old }
         requires place { next.place < length draft.old.queue.items }
         requires some { 0 < next.count }
-        ensures put { (v : SenderView) → Keeps F.format (drafted self.now draft.old) v → NothingStands F.format v → IsBegun F.format v next.place next.count next.turn → IsFlying self.now draft.old flying
-            → IfOk result (λ put. PutAnswer F.format self.now v packet.old packet.new draft.old draft.new put) }
-        ensures some { (v : SenderView) → Keeps F.format (drafted self.now draft.old) v → NothingStands F.format v → IsBegun F.format v next.place next.count next.turn → IsFlying self.now draft.old flying
+        ensures put { (v : SenderView) → Keeps F.format (drafted (bare self.now) draft.old) v → NothingStands F.format v → IsBegun F.format v next.place next.count next.turn → IsFlying (bare self.now) draft.old flying
+            → IfOk result (λ put. PutAnswer F.format (bare self.now) v packet.old packet.new draft.old draft.new put) }
+        ensures some { (v : SenderView) → Keeps F.format (drafted (bare self.now) draft.old) v → NothingStands F.format v → IsBegun F.format v next.place next.count next.turn → IsFlying (bare self.now) draft.old flying
             → OnErr result (PutSomeOf F.format v packet.old packet.new) }
         ensures behind { IsBehind draft.old draft.new }
     {
@@ -152,7 +152,7 @@ impl<F: Framing> Sender<F> {
         if !has_window(draft, message.stream, next.count, more) {
             return Ok(false);
         }
-        if !self.put_newcomer(draft, &message, number, 0, flying, packet)? {
+        if !self.put_newcomer::<F>(draft, &message, number, 0, flying, packet)? {
             return Ok(false);
         }
         self.begin(draft, next, message, number)?;
@@ -160,7 +160,7 @@ impl<F: Framing> Sender<F> {
     }
 
     /// The message in part of a stream takes its next index, where its fragment fits and may flow.
-    fn put_continued(
+    fn put_continued<F: Framing>(
         &self,
         draft: &mut Draft,
         stream: u16,
@@ -169,9 +169,9 @@ impl<F: Framing> Sender<F> {
     ) -> Result<bool, NoMemory>
         requires sized { IsSized self.now.fragment draft.old }
         requires within { stream < self.now.streams }
-        ensures put { (v : SenderView) → Keeps F.format (drafted self.now draft.old) v → NothingStands F.format v → IsContinued F.format v stream → IsFlying self.now draft.old flying
-            → IfOk result (λ put. PutAnswer F.format self.now v packet.old packet.new draft.old draft.new put) }
-        ensures some { (v : SenderView) → Keeps F.format (drafted self.now draft.old) v → NothingStands F.format v → IsContinued F.format v stream → IsFlying self.now draft.old flying
+        ensures put { (v : SenderView) → Keeps F.format (drafted (bare self.now) draft.old) v → NothingStands F.format v → IsContinued F.format v stream → IsFlying (bare self.now) draft.old flying
+            → IfOk result (λ put. PutAnswer F.format (bare self.now) v packet.old packet.new draft.old draft.new put) }
+        ensures some { (v : SenderView) → Keeps F.format (drafted (bare self.now) draft.old) v → NothingStands F.format v → IsContinued F.format v stream → IsFlying (bare self.now) draft.old flying
             → OnErr result (PutSomeOf F.format v packet.old packet.new) }
         ensures behind { IsBehind draft.old draft.new }
     {
@@ -183,7 +183,7 @@ impl<F: Framing> Sender<F> {
         if !has_window(draft, stream, 1, more) {
             return Ok(false);
         }
-        if !self.put_newcomer(
+        if !self.put_newcomer::<F>(
             draft,
             &rest.message,
             rest.number,
@@ -198,7 +198,7 @@ impl<F: Framing> Sender<F> {
     }
 
     /// Puts a fragment that is to take the next index, where it fits and may flow.
-    fn put_newcomer(
+    fn put_newcomer<F: Framing>(
         &self,
         draft: &Draft,
         message: &Rc<Message>,
@@ -207,7 +207,8 @@ impl<F: Framing> Sender<F> {
         flying: u64,
         packet: &mut PacketWriter,
     ) -> Result<bool, NoMemory>
-        ensures put { IsFlying self.now draft.now flying → IfOk result (λ put. IsOffered F.format self.now draft.now packet.old packet.new message.now.value number fragment put) }
+        requires { IsSized self.now.fragment draft.now }
+        ensures put { IsFlying (bare self.now) draft.now flying → IfOk result (λ put. IsOffered F.format (bare self.now) draft.now packet.old packet.new message.now.value number fragment put) }
         ensures unchanged { OnErr result (packet.new ≡ packet.old) }
     {
         let place = Place::Fragment(fragment);

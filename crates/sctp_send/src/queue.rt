@@ -60,7 +60,7 @@ impl<F: Framing> Sender<F> {
         ensures step { (v : SenderView) → StandsFor F.format self.old v
             → StandsFor F.format self.new (queue_after v (lane_for stream ordered) payload_id bytes.items until result) }
     {
-        if stream >= self.streams {
+        if stream >= self.head.streams {
             return Err(SendFault::NoSuchStream);
         }
         if bytes.len() == 0 {
@@ -69,19 +69,19 @@ impl<F: Framing> Sender<F> {
         if bytes.len() > LONGEST_MESSAGE {
             return Err(SendFault::TooLong);
         }
-        if self.queue.len() >= QUEUE_LIMIT {
+        if self.parts.queue.len() >= QUEUE_LIMIT {
             return Err(SendFault::QueueFull);
         }
         let promised = self.promised();
-        let more = owed(fragments_of(self.fragment, &bytes));
-        let given = self.fates.len();
+        let more = owed(fragments_of(self.head.fragment, &bytes));
+        let given = self.head.fates.len();
         if given >= TICKET_LIMIT as usize {
             return Err(SendFault::Spent);
         }
         if promised.wrapping_add(more) > u64::from(TSN_LIMIT) {
             return Err(SendFault::Spent);
         }
-        match self.fates.reserve(1) {
+        match self.head.fates.reserve(1) {
             Ok(()) => {}
             Err(_) => return Err(SendFault::NoMemory),
         }
@@ -94,9 +94,14 @@ impl<F: Framing> Sender<F> {
             until,
             bytes,
         };
-        wait_behind(&mut self.queue, &mut self.spent, self.alloc, message)?;
+        wait_behind(
+            &mut self.parts.queue,
+            &mut self.head.spent,
+            self.head.alloc,
+            message,
+        )?;
         // There is room for it.
-        self.fates.push_reserved(Fate::Waiting);
+        self.head.fates.push_reserved(Fate::Waiting);
         Ok(Ticket(ticket))
     }
 
@@ -104,10 +109,10 @@ impl<F: Framing> Sender<F> {
     fn promised(&self) -> u64
         ensures { (v : SenderView) → StandsFor F.format self.now v → result ≡ promised v }
     {
-        u64::from(self.cum)
-            .wrapping_add(self.outstanding.len() as u64)
-            .wrapping_add(self.queue.owed())
-            .wrapping_add(self.tracks.owed())
+        u64::from(self.head.cum)
+            .wrapping_add(self.parts.outstanding.len() as u64)
+            .wrapping_add(self.parts.queue.owed())
+            .wrapping_add(self.parts.tracks.owed())
     }
 }
 

@@ -22,14 +22,16 @@ impl<F: Framing> Sender<F> {
     pub fn cum(&self) -> u32
         ensures { (v : SenderView) → StandsFor F.format self.now v → result ≡ v.cum }
     {
-        self.cum
+        self.head.cum
     }
 
     /// The point: the largest index from CUM on, up to which all beyond CUM is of abandoned messages (RFC 3758, 3.5).
     pub fn point(&self) -> u32
         ensures { (v : SenderView) → StandsFor F.format self.now v → result ≡ point v }
     {
-        self.cum.wrapping_add(abandoned_run(&self.outstanding))
+        self.head
+            .cum
+            .wrapping_add(abandoned_run(&self.parts.outstanding))
     }
 
     /// Whether the data timer is wanted (RFC 9260, 6.3.2): something that went out is neither covered nor abandoned, or the point is past CUM,
@@ -37,10 +39,10 @@ impl<F: Framing> Sender<F> {
     pub fn unsettled(&self) -> bool
         ensures { (v : SenderView) → StandsFor F.format self.now v → result ≡ unsettled v }
     {
-        if self.outstanding.is_unsettled() {
+        if self.parts.outstanding.is_unsettled() {
             return true;
         }
-        self.outstanding.front() > 0
+        self.parts.outstanding.front() > 0
     }
 
     /// The indexes above CUM, and the messages in part: at most 32,767.
@@ -48,27 +50,27 @@ impl<F: Framing> Sender<F> {
         ensures count { (v : SenderView) → StandsFor F.format self.now v → result ≡ outstanding v }
         ensures bound { (v : SenderView) → StandsFor F.format self.now v → result ≤ WINDOW }
     {
-        count_of(&self.outstanding).wrapping_add(self.tracks.in_part())
+        count_of(&self.parts.outstanding).wrapping_add(self.parts.tracks.in_part())
     }
 
     /// Whether nothing waits, nothing is in part, and all that has an index is acknowledged (RFC 9260, 9.2).
     pub fn drained(&self) -> bool
         ensures { (v : SenderView) → StandsFor F.format self.now v → result ≡ drained v }
     {
-        if self.queue.len() > 0 {
+        if self.parts.queue.len() > 0 {
             return false;
         }
-        if self.tracks.in_part() > 0 {
+        if self.parts.tracks.in_part() > 0 {
             return false;
         }
-        self.outstanding.len() == 0
+        self.parts.outstanding.len() == 0
     }
 
     /// How many tickets were given: the calls of `queue` that were accepted. They are 1 to this number.
     pub fn tickets(&self) -> u32
         ensures { (v : SenderView) → StandsFor F.format self.now v → result ≡ v.tickets }
     {
-        (self.fates.len() % 0x1_0000_0000) as u32
+        (self.head.fates.len() % 0x1_0000_0000) as u32
     }
 
     /// Whether the message with this ticket is acknowledged whole: its last fragment is assigned, all its indexes are covered, and it was
@@ -80,14 +82,14 @@ impl<F: Framing> Sender<F> {
         if at == 0 {
             return false;
         }
-        if at > self.fates.len() {
+        if at > self.head.fates.len() {
             return false;
         }
-        let fate = self.fates[at - 1];
+        let fate = self.head.fates[at - 1];
         if !is_numbered(fate) {
             return false;
         }
-        is_all_covered(&self.tracks, &self.outstanding, ticket.0)
+        is_all_covered(&self.parts.tracks, &self.parts.outstanding, ticket.0)
     }
 
     /// Whether the message with this ticket has a number and was abandoned. False for a ticket that was never given.
@@ -98,10 +100,10 @@ impl<F: Framing> Sender<F> {
         if at == 0 {
             return false;
         }
-        if at > self.fates.len() {
+        if at > self.head.fates.len() {
             return false;
         }
-        let fate = self.fates[at - 1];
+        let fate = self.head.fates[at - 1];
         is_given_up(fate)
     }
 }

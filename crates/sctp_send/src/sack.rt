@@ -43,7 +43,7 @@ impl<F: Framing> Sender<F> {
         ensures step { (v : SenderView) → StandsFor F.format self.old v → StandsFor F.format self.new (sack_after v (sack_meaning sack.now)) }
     {
         let passed = self.passed_by(sack.cumulative)?;
-        let left = self.outstanding.len() - passed as usize;
+        let left = self.parts.outstanding.len() - passed as usize;
         if reach_past(&sack.blocks, left) {
             return Err(SackFault::Beyond);
         }
@@ -51,21 +51,21 @@ impl<F: Framing> Sender<F> {
             return Err(SackFault::BadBlock);
         }
         forget(
-            &mut self.outstanding,
-            &mut self.spent,
-            self.alloc,
+            &mut self.parts.outstanding,
+            &mut self.head.spent,
+            self.head.alloc,
             passed as usize,
         );
-        move_on(&mut self.covered, passed as usize);
-        self.is_known = take_blocks(
-            &mut self.outstanding,
-            &mut self.covered,
-            &mut self.spare,
-            self.is_known,
+        move_on(&mut self.head.covered, passed as usize);
+        self.head.is_known = take_blocks(
+            &mut self.parts.outstanding,
+            &mut self.head.covered,
+            &mut self.head.spare,
+            self.head.is_known,
             &sack.blocks,
         );
-        self.cum = self.cum.wrapping_add(passed);
-        self.rwnd = sack.rwnd;
+        self.head.cum = self.head.cum.wrapping_add(passed);
+        self.head.rwnd = sack.rwnd;
         Ok(())
     }
 
@@ -80,14 +80,14 @@ impl<F: Framing> Sender<F> {
     {
         let passed = self.passed_by(tsn)?;
         forget(
-            &mut self.outstanding,
-            &mut self.spent,
-            self.alloc,
+            &mut self.parts.outstanding,
+            &mut self.head.spent,
+            self.head.alloc,
             passed as usize,
         );
         let gone = passed as usize;
-        move_on(&mut self.covered, gone);
-        self.cum = self.cum.wrapping_add(passed);
+        move_on(&mut self.head.covered, gone);
+        self.head.cum = self.head.cum.wrapping_add(passed);
         Ok(())
     }
 
@@ -96,7 +96,7 @@ impl<F: Framing> Sender<F> {
     pub fn on_timeout(&mut self)
         ensures { (v : SenderView) → StandsFor F.format self.old v → StandsFor F.format self.new (timed_out v) }
     {
-        mark_unsettled(&mut self.outstanding);
+        mark_unsettled(&mut self.parts.outstanding);
     }
 
     /// How many entries a cumulative TSN passes.
@@ -104,13 +104,13 @@ impl<F: Framing> Sender<F> {
         ensures answer { (v : SenderView) → StandsFor F.format self.now v → PassingAnswer v wire result }
         ensures within { IfOk result (λ passed. passed ≤ length self.now.items) }
     {
-        let known = S32(tsn_of(self.initial, self.cum));
+        let known = S32(tsn_of(self.head.initial, self.head.cum));
         let told = S32(wire);
         if told.before(known) {
             return Err(SackFault::Stale);
         }
         let passed = known.ahead(told);
-        if passed as usize > self.outstanding.len() {
+        if passed as usize > self.parts.outstanding.len() {
             return Err(SackFault::Beyond);
         }
         Ok(passed)

@@ -6,9 +6,10 @@ ghost use Rattle.sctp_model.specs.numbers.Limits.{GREATEST_FRAGMENT};
 ghost use Rattle.sctp_model.specs.sender.SenderView.{SenderView, fresh_sender};
 ghost use Rattle.sctp_send.specs.SenderStands.{StandsFor};
 
-use crate::draft::Change;
-use crate::entry::{CoveredRun, RUNS};
-use crate::message::{Fate, Message, SPENT};
+use crate::draft::Draft;
+use crate::entry::RUNS;
+use crate::head::Head;
+use crate::message::SPENT;
 use crate::streams::Streams;
 use crate::waiting::Waiting;
 use crate::window::Window;
@@ -16,37 +17,12 @@ use sctp_framing::Framing;
 use sctp_values::NoMemory;
 use std::alloc::Global;
 use std::marker::{Model, PhantomData};
-use std::rc::Rc;
 
 /// One end's sending half: what it was given, what has a TSN, and what its peer told.
 #[derive(Debug, Drop)]
 pub struct Sender<F: Framing> {
-    pub(crate) alloc: Global,
-    pub(crate) initial: u32,
-    pub(crate) streams: u16,
-    pub(crate) fragment: u16,
-    pub(crate) partial: bool,
-    // CUM: all indexes up to it are acknowledged
-    pub(crate) cum: u32,
-    // the peer's last advertised window, in bytes
-    pub(crate) rwnd: u32,
-    // the stream from which the next turn is looked for
-    pub(crate) turn: u16,
-    // by offset from CUM + 1
-    pub(crate) outstanding: Window,
-    pub(crate) queue: Waiting,
-    pub(crate) tracks: Streams,
-    // by ticket, from 1 on
-    pub(crate) fates: Vec<Fate>,
-    // what the last SACK covers above CUM, unless it had too many blocks
-    pub(crate) covered: Vec<CoveredRun>,
-    pub(crate) is_known: bool,
-    // the place of the next SACK's runs
-    pub(crate) spare: Vec<CoveredRun>,
-    // the places of messages that are gone, for messages to come
-    pub(crate) spent: Vec<Rc<Message>>,
-    // the place of the next fill's changes
-    pub(crate) log: Vec<Change>,
+    pub(crate) head: Head,
+    pub(crate) parts: Draft,
     pub(crate) format: PhantomData<F>,
 }
 
@@ -58,25 +34,26 @@ impl<F: Framing> Model for Sender<F> {
     ghost Value = { Kept };
 
     ghost use Rattle.sctp_send.specs.OutstandingFields.{item_meaning};
-    ghost use Rattle.sctp_send.specs.SenderFields.{track_meaning, queued_by, IsConfigured};
+    ghost use Rattle.sctp_send.specs.SenderFields.{track_meaning, queued_by};
+    ghost use Rattle.sctp_send.specs.inner.Undoing.{IsSized};
 
     ghost view = { λ s. record {
-      initial = s.initial;
-      streams = s.streams;
-      fragment = s.fragment;
-      partial = s.partial;
-      cum = s.cum;
-      rwnd = s.rwnd;
-      turn = s.turn;
-      items = map (item_meaning s.fragment) s.outstanding.items;
-      queue = map (queued_by s.fragment) s.queue.items;
-      tracks = map (track_meaning s.fragment) s.tracks.items;
-      fates = s.fates.items;
-      runs = when s.is_known s.covered.items;
-      capacity = s.outstanding.capacity;
+      initial = s.head.initial;
+      streams = s.head.streams;
+      fragment = s.head.fragment;
+      partial = s.head.partial;
+      cum = s.head.cum;
+      rwnd = s.head.rwnd;
+      turn = s.parts.turn;
+      items = map (item_meaning s.head.fragment) s.parts.outstanding.items;
+      queue = map (queued_by s.head.fragment) s.parts.queue.items;
+      tracks = map (track_meaning s.head.fragment) s.parts.tracks.items;
+      fates = s.head.fates.items;
+      runs = when s.head.is_known s.head.covered.items;
+      capacity = s.parts.outstanding.capacity;
     } };
 
-    ghost invariant = { λ s. IsConfigured s.fragment s.outstanding.size s.queue.size s.tracks.size };
+    ghost invariant = { λ s. IsSized s.head.fragment s.parts };
 }
 
 #[tactic(auto, unfolding(crate::specs::SenderStands::StandsFor))]
@@ -107,23 +84,29 @@ impl<F: Framing> Sender<F> {
         let mut spent = Vec::new(alloc);
         spent.reserve(SPENT).map_err(|_| NoMemory)?;
         Ok(Sender {
-            alloc,
-            initial: initial_tsn,
-            streams,
-            fragment,
-            partial,
-            cum: 0,
-            rwnd: peer_rwnd,
-            turn: 0,
-            outstanding: Window::new(alloc, fragment),
-            queue: Waiting::new(alloc, fragment, F::takes_turns()),
-            tracks,
-            fates: Vec::new(alloc),
-            covered,
-            is_known: true,
-            spare,
-            spent,
-            log: Vec::new(alloc),
+            head: Head {
+                alloc,
+                initial: initial_tsn,
+                streams,
+                fragment,
+                partial,
+                cum: 0,
+                rwnd: peer_rwnd,
+                fates: Vec::new(alloc),
+                covered,
+                is_known: true,
+                spare,
+                spent,
+            },
+            parts: Draft {
+                // what is outstanding, by offset from CUM + 1
+                outstanding: Window::new(alloc, fragment),
+                queue: Waiting::new(alloc, fragment, F::takes_turns()),
+                tracks,
+                turn: 0,
+                tickets: Vec::new(alloc),
+                log: Vec::new(alloc),
+            },
             format: PhantomData,
         })
     }

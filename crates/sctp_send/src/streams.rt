@@ -76,22 +76,6 @@ impl Streams {
         })
     }
 
-    /// No stream, which takes no memory.
-    pub fn none(alloc: Global, size: u16) -> Streams
-        requires { 0 < size }
-        ensures { result.size ≡ size }
-    {
-        Streams {
-            size,
-            tracks: Vec::new(alloc),
-            parts: 0,
-            owed: 0,
-            earliest: u64::MAX,
-            lists: PartLists::none(alloc),
-            bounds: Vec::new(alloc),
-        }
-    }
-
     /// All streams, by number.
     pub fn tracks(&self) -> &[Track]
         ensures { result.now ≡ self.now.items }

@@ -22,6 +22,7 @@ use Rattle.sctp_send.specs.inner.Newcomers.{counted_in, IsBegun, IsContinued, Is
 use Rattle.sctp_send.specs.declared.assigning.Next.{Next}
 use Rattle.sctp_send.specs.declared.assigning.Next.TheVariants.{Begins, Continues}
 use Rattle.sctp_send.specs.declared.draft.Draft.{Draft}
+use Rattle.sctp_send.specs.declared.head.Head.{Head}
 use Rattle.sctp_send.specs.declared.message.Fate.{Fate}
 use Rattle.sctp_send.specs.declared.message.Fate.TheVariants.{Numbered}
 use Rattle.sctp_values.specs.declared.ticket.Ticket.{Ticket}
@@ -42,6 +43,24 @@ numbers_of ts = map (λ t. t.0) ts
 abbrev pub all_numbered : List Fate → List ℕ → List Fate
 all_numbered fates [] = fates
 all_numbered fates (t ∷ ts) = all_numbered (slice_set fates (t - 1) Numbered) ts
+
+-- what a sender keeps with this head, whose parts have nothing in them
+abbrev pub bare : Head → Kept
+bare h = record {
+  initial = h.initial;
+  streams = h.streams;
+  fragment = h.fragment;
+  partial = h.partial;
+  cum = h.cum;
+  rwnd = h.rwnd;
+  turn = 0;
+  items = [];
+  queue = [];
+  tracks = [];
+  fates = h.fates.items;
+  runs = when h.is_known h.covered.items;
+  capacity = 0;
+}
 
 -- what a sender keeps, with a draft's parts in place of its own
 abbrev pub drafted : Kept → Draft → Kept

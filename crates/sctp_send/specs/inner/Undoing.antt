@@ -1,7 +1,8 @@
 -- What a fill changed, and how it is taken back.
-use Rattle.std.specs.Prelude.{◌≡◌, ℕ, ◌-◌, ◌≤◌, nat_le, if◌then◌else◌, List, [], ◌∷◌, length, take, set, insert}
+use Rattle.std.specs.Prelude.{◌≡◌, ℕ, ◌-◌, ◌<◌, ◌≤◌, nat_le, if◌then◌else◌, List, [], ◌∷◌, length, take, set, insert}
 use Rattle.std.specs.declared.rc.Rc.{Rc}
 use Rattle.std.specs.declared.alloc.Global.{Global}
+use Rattle.sctp_model.specs.numbers.Limits.{GREATEST_FRAGMENT}
 use Rattle.sctp_send.specs.WindowKept.{at_place}
 use Rattle.sctp_send.specs.declared.draft.Change.{Change}
 use Rattle.sctp_send.specs.declared.draft.Change.TheVariants.{Out, Taken, In}
@@ -45,8 +46,10 @@ before_all (c ∷ cs) p = undone c (before_all cs p)
 abbrev pub origin : Draft → Parts
 origin d = before_all d.log.items (parts_of d)
 
--- all parts have fragments of the same size
+-- all parts have fragments of the same size, which is within its limits
 pub record IsSized (size : ℕ) (d : Draft) : Type 0 where
+  pub some : 0 < size
+  pub short : size ≤ GREATEST_FRAGMENT
   pub window : d.outstanding.size ≡ size
   pub queue : d.queue.size ≡ size
   pub tracks : d.tracks.size ≡ size

@@ -83,7 +83,7 @@ returns-in-Waiting-clause-step g c = λ v stands.
     let keeps = subst (λ (k : Kept). Keeps g.F.Framing.format k v) (sym c.self.view_is) stands in
     let fate = fate_read g.F.Framing.format _ v c.args.ticket.0 c.index.result.now Waiting keeps (omega arith) (omega arith) c.index.ensures c.in-Waiting.is in
     let by = subst (AnsweredBy v c.args.ticket.0) fate (answered_by g.F.Framing.format _ v c.args.ticket.0 keeps (omega arith) (omega arith)) in
-    rw (c.withdraw.ensures.items s.fragment) (keeps_withdrawn g.F.Framing.format _ v c.args.ticket.0 keeps by.1)
+    rw (c.withdraw.ensures.items s.head.fragment) (keeps_withdrawn g.F.Framing.format _ v c.args.ticket.0 keeps by.1)
 
 pub returns-in-Numbered-clause-answer : goal.returns-in-Numbered-clause-answer
 unfolding StandsFor

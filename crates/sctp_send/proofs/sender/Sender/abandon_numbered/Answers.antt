@@ -18,8 +18,8 @@ unfolding StandsFor
 returns-then-is_all_covered-clause-answer g c = λ v stands on.
     let s = c.self.inside in
     let keeps = subst (λ (k : Kept). Keeps g.F.Framing.format k v) (sym c.self.view_is) stands in
-    let whole : (not (any_rest c.args.ticket (map (track_meaning s.fragment) s.tracks.items)) && not (any_uncovered c.args.ticket (map (item_meaning s.fragment) s.outstanding.items))) ≡ true =
-    sym (c.is_all_covered.ensures s.fragment) ∙ c.if-is_all_covered.true in
+    let whole : (not (any_rest c.args.ticket (map (track_meaning s.head.fragment) s.parts.tracks.items)) && not (any_uncovered c.args.ticket (map (item_meaning s.head.fragment) s.parts.outstanding.items))) ≡ true =
+    sym (c.is_all_covered.ensures s.head.fragment) ∙ c.if-is_all_covered.true in
     (answered_whole g.F.Framing.format _ v c.args.ticket keeps on whole).answer
 
 pub returns-then-is_all_covered-clause-step : goal.returns-then-is_all_covered-clause-step
@@ -27,8 +27,8 @@ unfolding StandsFor
 returns-then-is_all_covered-clause-step g c = λ v stands on.
     let s = c.self.inside in
     let keeps = subst (λ (k : Kept). Keeps g.F.Framing.format k v) (sym c.self.view_is) stands in
-    let whole : (not (any_rest c.args.ticket (map (track_meaning s.fragment) s.tracks.items)) && not (any_uncovered c.args.ticket (map (item_meaning s.fragment) s.outstanding.items))) ≡ true =
-    sym (c.is_all_covered.ensures s.fragment) ∙ c.if-is_all_covered.true in
+    let whole : (not (any_rest c.args.ticket (map (track_meaning s.head.fragment) s.parts.tracks.items)) && not (any_uncovered c.args.ticket (map (item_meaning s.head.fragment) s.parts.outstanding.items))) ≡ true =
+    sym (c.is_all_covered.ensures s.head.fragment) ∙ c.if-is_all_covered.true in
     rw (answered_whole g.F.Framing.format _ v c.args.ticket keeps on whole).after stands
 
 pub returns-then-not-self-clause-answer : goal.returns-then-not-self-clause-answer
@@ -36,8 +36,8 @@ unfolding StandsFor
 returns-then-not-self-clause-answer g c = λ v stands on.
     let s = c.self.inside in
     let keeps = subst (λ (k : Kept). Keeps g.F.Framing.format k v) (sym c.self.view_is) stands in
-    let missing : (not (any_rest c.args.ticket (map (track_meaning s.fragment) s.tracks.items)) && not (any_uncovered c.args.ticket (map (item_meaning s.fragment) s.outstanding.items))) ≡ false =
-    sym (c.is_all_covered.ensures s.fragment) ∙ c.if-is_all_covered.false in
+    let missing : (not (any_rest c.args.ticket (map (track_meaning s.head.fragment) s.parts.tracks.items)) && not (any_uncovered c.args.ticket (map (item_meaning s.head.fragment) s.parts.outstanding.items))) ≡ false =
+    sym (c.is_all_covered.ensures s.head.fragment) ∙ c.if-is_all_covered.false in
     (answered_reliable g.F.Framing.format _ v c.args.ticket keeps on missing c.if-not-self.true).answer
 
 pub returns-then-not-self-clause-step : goal.returns-then-not-self-clause-step
@@ -45,8 +45,8 @@ unfolding StandsFor
 returns-then-not-self-clause-step g c = λ v stands on.
     let s = c.self.inside in
     let keeps = subst (λ (k : Kept). Keeps g.F.Framing.format k v) (sym c.self.view_is) stands in
-    let missing : (not (any_rest c.args.ticket (map (track_meaning s.fragment) s.tracks.items)) && not (any_uncovered c.args.ticket (map (item_meaning s.fragment) s.outstanding.items))) ≡ false =
-    sym (c.is_all_covered.ensures s.fragment) ∙ c.if-is_all_covered.false in
+    let missing : (not (any_rest c.args.ticket (map (track_meaning s.head.fragment) s.parts.tracks.items)) && not (any_uncovered c.args.ticket (map (item_meaning s.head.fragment) s.parts.outstanding.items))) ≡ false =
+    sym (c.is_all_covered.ensures s.head.fragment) ∙ c.if-is_all_covered.false in
     rw (answered_reliable g.F.Framing.format _ v c.args.ticket keeps on missing c.if-not-self.true).after stands
 
 pub returns-in-Some-clause-answer : goal.returns-in-Some-clause-answer
@@ -54,8 +54,8 @@ unfolding StandsFor
 returns-in-Some-clause-answer g c = λ v stands on.
     let s = c.self.inside in
     let keeps = subst (λ (k : Kept). Keeps g.F.Framing.format k v) (sym c.self.view_is) stands in
-    let missing : (not (any_rest c.args.ticket (map (track_meaning s.fragment) s.tracks.items)) && not (any_uncovered c.args.ticket (map (item_meaning s.fragment) s.outstanding.items))) ≡ false =
-    sym (c.is_all_covered.ensures s.fragment) ∙ c.if-is_all_covered.false in
+    let missing : (not (any_rest c.args.ticket (map (track_meaning s.head.fragment) s.parts.tracks.items)) && not (any_uncovered c.args.ticket (map (item_meaning s.head.fragment) s.parts.outstanding.items))) ≡ false =
+    sym (c.is_all_covered.ensures s.head.fragment) ∙ c.if-is_all_covered.false in
     (answered_given g.F.Framing.format _ v c.args.ticket keeps on missing c.if-not-self.false).answer
 
 pub returns-in_default-clause-answer : goal.returns-in_default-clause-answer
@@ -63,8 +63,8 @@ unfolding StandsFor
 returns-in_default-clause-answer g c = λ v stands on.
     let s = c.self.inside in
     let keeps = subst (λ (k : Kept). Keeps g.F.Framing.format k v) (sym c.self.view_is) stands in
-    let missing : (not (any_rest c.args.ticket (map (track_meaning s.fragment) s.tracks.items)) && not (any_uncovered c.args.ticket (map (item_meaning s.fragment) s.outstanding.items))) ≡ false =
-    sym (c.is_all_covered.ensures s.fragment) ∙ c.if-is_all_covered.false in
+    let missing : (not (any_rest c.args.ticket (map (track_meaning s.head.fragment) s.parts.tracks.items)) && not (any_uncovered c.args.ticket (map (item_meaning s.head.fragment) s.parts.outstanding.items))) ≡ false =
+    sym (c.is_all_covered.ensures s.head.fragment) ∙ c.if-is_all_covered.false in
     (answered_given g.F.Framing.format _ v c.args.ticket keeps on missing c.if-not-self.false).answer
 
 pub returns-in-Some-clause-step : goal.returns-in-Some-clause-step
@@ -72,22 +72,22 @@ unfolding StandsFor
 returns-in-Some-clause-step g c = λ v stands on.
     let s = c.self.inside in
     let keeps = subst (λ (k : Kept). Keeps g.F.Framing.format k v) (sym c.self.view_is) stands in
-    let missing : (not (any_rest c.args.ticket (map (track_meaning s.fragment) s.tracks.items)) && not (any_uncovered c.args.ticket (map (item_meaning s.fragment) s.outstanding.items))) ≡ false =
-    sym (c.is_all_covered.ensures s.fragment) ∙ c.if-is_all_covered.false in
+    let missing : (not (any_rest c.args.ticket (map (track_meaning s.head.fragment) s.parts.tracks.items)) && not (any_uncovered c.args.ticket (map (item_meaning s.head.fragment) s.parts.outstanding.items))) ≡ false =
+    sym (c.is_all_covered.ensures s.head.fragment) ∙ c.if-is_all_covered.false in
     let m = answered_given g.F.Framing.format _ v c.args.ticket keeps on missing c.if-not-self.false in
-    let taken = keeps_ended g.F.Framing.format _ v c.args.ticket m.name _ _ keeps m.kept m.uncovered m.partial (c.in-Some.ensures.some s.fragment) in
-    let long = length-map s.outstanding.items (item_meaning s.fragment) in
-    let same = ap (λ (es : List Outstanding). length es) c.give_up.ensures.items ∙ length-map s.outstanding.items (given c.args.ticket) in
+    let taken = keeps_ended g.F.Framing.format _ v c.args.ticket m.name _ _ keeps m.kept m.uncovered m.partial (c.in-Some.ensures.some s.head.fragment) in
+    let long = length-map s.parts.outstanding.items (item_meaning s.head.fragment) in
+    let same = ap (λ (es : List Outstanding). length es) c.give_up.ensures.items ∙ length-map s.parts.outstanding.items (given c.args.ticket) in
     let room : length c.give_up.new.self.items < c.give_up.new.self.capacity = omega (arith, taken.0, long, same, c.give_up.ensures.kept.capacity) in
-    rw (c.push_end.ensures.items s.fragment room, c.give_up.ensures.items, items_given, (c.push_end.ensures.kept room).capacity, c.give_up.ensures.kept.capacity) taken.1
+    rw (c.push_end.ensures.items s.head.fragment room, c.give_up.ensures.items, items_given, (c.push_end.ensures.kept room).capacity, c.give_up.ensures.kept.capacity) taken.1
 
 pub returns-in_default-clause-step : goal.returns-in_default-clause-step
 unfolding StandsFor
 returns-in_default-clause-step g c = λ v stands on.
     let s = c.self.inside in
     let keeps = subst (λ (k : Kept). Keeps g.F.Framing.format k v) (sym c.self.view_is) stands in
-    let missing : (not (any_rest c.args.ticket (map (track_meaning s.fragment) s.tracks.items)) && not (any_uncovered c.args.ticket (map (item_meaning s.fragment) s.outstanding.items))) ≡ false =
-    sym (c.is_all_covered.ensures s.fragment) ∙ c.if-is_all_covered.false in
+    let missing : (not (any_rest c.args.ticket (map (track_meaning s.head.fragment) s.parts.tracks.items)) && not (any_uncovered c.args.ticket (map (item_meaning s.head.fragment) s.parts.outstanding.items))) ≡ false =
+    sym (c.is_all_covered.ensures s.head.fragment) ∙ c.if-is_all_covered.false in
     let m = answered_given g.F.Framing.format _ v c.args.ticket keeps on missing c.if-not-self.false in
-    let taken = keeps_given g.F.Framing.format _ v c.args.ticket m.name keeps m.kept m.uncovered m.partial (c.in_default.ensures.none s.fragment) in
+    let taken = keeps_given g.F.Framing.format _ v c.args.ticket m.name keeps m.kept m.uncovered m.partial (c.in_default.ensures.none s.head.fragment) in
     rw (c.give_up.ensures.items, items_given, c.in_default.ensures.same, c.give_up.ensures.kept.capacity) taken

@@ -15,4 +15,4 @@ pub returns : goal.returns
 unfolding StandsFor
 returns g c =
     rw (c.reserve.ensures.items, c.new-covered.ensures.items, c.new-2.ensures.items, c.new-3.ensures.items, c.new-4.ensures.items, c.in_ok-tracks.ensures.items, map-replicate)
-    (keeps_fresh g.F.Framing.format c.args.initial_tsn c.args.streams c.args.fragment c.args.peer_rwnd c.new-2.result.capacity c.args.partial c.requires.some)
+    (keeps_fresh g.F.Framing.format c.args.initial_tsn c.args.streams c.args.fragment c.args.peer_rwnd c.new-3.result.capacity c.args.partial c.requires.some)

@@ -22,21 +22,21 @@ unfolding StandsFor
 returns-then-run-eq0-clause-answer g c = λ v stands.
     let s = c.self.inside in
     let keeps = subst (λ (k : Kept). Keeps g.F.Framing.format k v) (sym c.self.view_is) stands in
-    let none = not_passed v _ (is_passed g.F.Framing.format _ v keeps) (sym (c.abandoned_run-run.ensures s.fragment) ∙ c.if-run-eq0.true) in
+    let none = not_passed v _ (is_passed g.F.Framing.format _ v keeps) (sym (c.abandoned_run-run.ensures s.head.fragment) ∙ c.if-run-eq0.true) in
     rw none refl
 
 pub skips_below-requires : goal.skips_below-requires
 skips_below-requires g c =
     let s = c.self.inside in
-    let within = run_within (map (item_meaning 1) s.outstanding.items) in
-    let long = length-map s.outstanding.items (item_meaning 1) in
+    let within = run_within (map (item_meaning 1) s.parts.outstanding.items) in
+    let long = length-map s.parts.outstanding.items (item_meaning 1) in
     omega (arith, within, long, c.abandoned_run-run.ensures 1)
 
 pub has_room_for-requires : goal.has_room_for-requires
 has_room_for-requires g c =
     let s = c.self.inside in
-    let within = run_within (map (item_meaning 1) s.outstanding.items) in
-    let long = length-map s.outstanding.items (item_meaning 1) in
+    let within = run_within (map (item_meaning 1) s.parts.outstanding.items) in
+    let long = length-map s.parts.outstanding.items (item_meaning 1) in
     omega (arith, within, long, c.abandoned_run-run.ensures 1)
 
 pub returns-then-has_room_for-clause-memory : goal.returns-then-has_room_for-clause-memory
@@ -45,8 +45,8 @@ returns-then-has_room_for-clause-memory g c = λ v stands.
     let s = c.self.inside in
     let run = c.abandoned_run-run.result in
     let keeps = subst (λ (k : Kept). Keeps g.F.Framing.format k v) (sym c.self.view_is) stands in
-    let passed : IsPassed v run = rw (c.abandoned_run-run.ensures s.fragment) (is_passed g.F.Framing.format _ v keeps) in
-    let room = sym (room_is g.F.Framing.format _ v s.fragment run s.outstanding.items c.args.packet.now _ keeps refl passed (c.has_room_for.ensures s.fragment (tsn v.initial (point v)))) ∙ c.if-has_room_for.true in
+    let passed : IsPassed v run = rw (c.abandoned_run-run.ensures s.head.fragment) (is_passed g.F.Framing.format _ v keeps) in
+    let room = sym (room_is g.F.Framing.format _ v s.head.fragment run s.parts.outstanding.items c.args.packet.now _ keeps refl passed (c.has_room_for.ensures s.head.fragment (tsn v.initial (point v)))) ∙ c.if-has_room_for.true in
     rw (some_passed v run passed c.if-run-eq0.false, room) refl
 
 pub returns-in-Err-clause-answer : goal.returns-in-Err-clause-answer
@@ -55,8 +55,8 @@ returns-in-Err-clause-answer g c = λ v stands.
     let s = c.self.inside in
     let run = c.abandoned_run-run.result in
     let keeps = subst (λ (k : Kept). Keeps g.F.Framing.format k v) (sym c.self.view_is) stands in
-    let passed : IsPassed v run = rw (c.abandoned_run-run.ensures s.fragment) (is_passed g.F.Framing.format _ v keeps) in
-    let room = sym (room_is g.F.Framing.format _ v s.fragment run s.outstanding.items c.args.packet.now _ keeps refl passed (c.has_room_for.ensures s.fragment (tsn v.initial (point v)))) ∙ c.if-has_room_for.false in
+    let passed : IsPassed v run = rw (c.abandoned_run-run.ensures s.head.fragment) (is_passed g.F.Framing.format _ v keeps) in
+    let room = sym (room_is g.F.Framing.format _ v s.head.fragment run s.parts.outstanding.items c.args.packet.now _ keeps refl passed (c.has_room_for.ensures s.head.fragment (tsn v.initial (point v)))) ∙ c.if-has_room_for.false in
     rw room (sym (with_false _))
 
 pub nonzero_div-most : goal.nonzero_div-most
@@ -74,13 +74,13 @@ returns-then-len-room-clause-answer g c = λ v stands.
     let room = c.saturating_sub-room.result in
     let list = c.in-Ok.list.items in
     let keeps = subst (λ (k : Kept). Keeps f k v) (sym c.self.view_is) stands in
-    let passed : IsPassed v run = rw (c.abandoned_run-run.ensures s.fragment) (is_passed f _ v keeps) in
+    let passed : IsPassed v run = rw (c.abandoned_run-run.ensures s.head.fragment) (is_passed f _ v keeps) in
     let size : c.size.result ≡ skip_size (skip_form f) = c.size.ensures ∙ ap skip_size c.skip_form-form.ensures in
-    let said = map (skip_said f) (skips_below f (entries_of (map (item_meaning s.fragment) (take run s.outstanding.items))) s.streams) in
-    let is = forward_is f _ v s.fragment run (tsn v.initial (point v)) s.outstanding.items said keeps refl passed refl refl in
+    let said = map (skip_said f) (skips_below f (entries_of (map (item_meaning s.head.fragment) (take run s.parts.outstanding.items))) s.head.streams) in
+    let is = forward_is f _ v s.head.fragment run (tsn v.initial (point v)) s.parts.outstanding.items said keeps refl passed refl refl in
     let over = over_most f room (length list) (length (skips_in (skip_form f) list)) c.size.result size c.in-Ok.ensures.count (omega arith) in
-    let many = most_over f room _ c.size.result size (c.in-Ok.ensures.many s.fragment over) in
-    let long = length-map (skips_below f (entries_of (map (item_meaning s.fragment) (take run s.outstanding.items))) s.streams) (skip_said f) in
+    let many = most_over f room _ c.size.result size (c.in-Ok.ensures.many s.head.fragment over) in
+    let long = length-map (skips_below f (entries_of (map (item_meaning s.head.fragment) (take run s.parts.outstanding.items))) s.head.streams) (skip_said f) in
     let past : room_in c.args.packet.now - 8 < skip_size (skip_form f) * length said = rw long (omega (arith, many, c.saturating_sub-room.ensures, c.room.ensures.room)) in
     let full = no_room f c.args.packet.now (record { cumulative = tsn v.initial (point v); skips = said }) past in
     sym (rw (← is, full) (with_false _))
@@ -101,10 +101,10 @@ returns-clause-answer g c = λ v stands.
     let size : c.size.result ≡ skip_size (skip_form g.F.Framing.format) = c.size.ensures ∙ ap skip_size c.skip_form-form.ensures in
     let few = under_most g.F.Framing.format c.saturating_sub-room.result (length c.in-Ok.list.items) (length (skips_in (skip_form g.F.Framing.format) c.in-Ok.list.items)) c.size.result size c.in-Ok.ensures.count (omega arith) in
     let keeps = subst (λ (k : Kept). Keeps g.F.Framing.format k v) (sym c.self.view_is) stands in
-    let passed : IsPassed v run = rw (c.abandoned_run-run.ensures s.fragment) (is_passed g.F.Framing.format _ v keeps) in
+    let passed : IsPassed v run = rw (c.abandoned_run-run.ensures s.head.fragment) (is_passed g.F.Framing.format _ v keeps) in
     let is = forward_chunk_is g.F.Framing.format c.forward_chunk-chunk.result c.tsn_of.result c.skip_form-form.result c.deref.result.now c.in-Ok.list.items c.new.result c.forward_chunk-chunk.ensures c.new.ensures c.skip_form-form.ensures c.deref.ensures.value in
     let first : c.tsn_of.result ≡ tsn v.initial (point v) = c.tsn_of.ensures ∙ passed_tsn g.F.Framing.format _ v run keeps passed in
-    let said = forward_is g.F.Framing.format _ v s.fragment run c.tsn_of.result s.outstanding.items _ keeps refl passed (c.in-Ok.ensures.skips s.fragment few) first in
+    let said = forward_is g.F.Framing.format _ v s.head.fragment run c.tsn_of.result s.parts.outstanding.items _ keeps refl passed (c.in-Ok.ensures.skips s.head.fragment few) first in
     let chunk : chunk_meaning c.forward_chunk-chunk.result ≡ forward_chunk_of g.F.Framing.format v = is ∙ ap (forward_chunk g.F.Framing.format) said in
     rw (some_passed v run passed c.if-run-eq0.false) (rw chunk at c.try_chunk.ensures.answer)
 
@@ -116,10 +116,10 @@ returns-clause-after g c = λ v stands.
     let size : c.size.result ≡ skip_size (skip_form g.F.Framing.format) = c.size.ensures ∙ ap skip_size c.skip_form-form.ensures in
     let few = under_most g.F.Framing.format c.saturating_sub-room.result (length c.in-Ok.list.items) (length (skips_in (skip_form g.F.Framing.format) c.in-Ok.list.items)) c.size.result size c.in-Ok.ensures.count (omega arith) in
     let keeps = subst (λ (k : Kept). Keeps g.F.Framing.format k v) (sym c.self.view_is) stands in
-    let passed : IsPassed v run = rw (c.abandoned_run-run.ensures s.fragment) (is_passed g.F.Framing.format _ v keeps) in
+    let passed : IsPassed v run = rw (c.abandoned_run-run.ensures s.head.fragment) (is_passed g.F.Framing.format _ v keeps) in
     let is = forward_chunk_is g.F.Framing.format c.forward_chunk-chunk.result c.tsn_of.result c.skip_form-form.result c.deref.result.now c.in-Ok.list.items c.new.result c.forward_chunk-chunk.ensures c.new.ensures c.skip_form-form.ensures c.deref.ensures.value in
     let first : c.tsn_of.result ≡ tsn v.initial (point v) = c.tsn_of.ensures ∙ passed_tsn g.F.Framing.format _ v run keeps passed in
-    let said = forward_is g.F.Framing.format _ v s.fragment run c.tsn_of.result s.outstanding.items _ keeps refl passed (c.in-Ok.ensures.skips s.fragment few) first in
+    let said = forward_is g.F.Framing.format _ v s.head.fragment run c.tsn_of.result s.parts.outstanding.items _ keeps refl passed (c.in-Ok.ensures.skips s.head.fragment few) first in
     let chunk : chunk_meaning c.forward_chunk-chunk.result ≡ forward_chunk_of g.F.Framing.format v = is ∙ ap (forward_chunk g.F.Framing.format) said in
     rw chunk at c.try_chunk.ensures.after
 
@@ -131,9 +131,9 @@ returns-clause-memory g c = λ v stands.
     let size : c.size.result ≡ skip_size (skip_form g.F.Framing.format) = c.size.ensures ∙ ap skip_size c.skip_form-form.ensures in
     let few = under_most g.F.Framing.format c.saturating_sub-room.result (length c.in-Ok.list.items) (length (skips_in (skip_form g.F.Framing.format) c.in-Ok.list.items)) c.size.result size c.in-Ok.ensures.count (omega arith) in
     let keeps = subst (λ (k : Kept). Keeps g.F.Framing.format k v) (sym c.self.view_is) stands in
-    let passed : IsPassed v run = rw (c.abandoned_run-run.ensures s.fragment) (is_passed g.F.Framing.format _ v keeps) in
+    let passed : IsPassed v run = rw (c.abandoned_run-run.ensures s.head.fragment) (is_passed g.F.Framing.format _ v keeps) in
     let is = forward_chunk_is g.F.Framing.format c.forward_chunk-chunk.result c.tsn_of.result c.skip_form-form.result c.deref.result.now c.in-Ok.list.items c.new.result c.forward_chunk-chunk.ensures c.new.ensures c.skip_form-form.ensures c.deref.ensures.value in
     let first : c.tsn_of.result ≡ tsn v.initial (point v) = c.tsn_of.ensures ∙ passed_tsn g.F.Framing.format _ v run keeps passed in
-    let said = forward_is g.F.Framing.format _ v s.fragment run c.tsn_of.result s.outstanding.items _ keeps refl passed (c.in-Ok.ensures.skips s.fragment few) first in
+    let said = forward_is g.F.Framing.format _ v s.head.fragment run c.tsn_of.result s.parts.outstanding.items _ keeps refl passed (c.in-Ok.ensures.skips s.head.fragment few) first in
     let chunk : chunk_meaning c.forward_chunk-chunk.result ≡ forward_chunk_of g.F.Framing.format v = is ∙ ap (forward_chunk g.F.Framing.format) said in
     rw (some_passed v run passed c.if-run-eq0.false) (rw chunk at c.try_chunk.ensures.refused)

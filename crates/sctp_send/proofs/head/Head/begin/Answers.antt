@@ -1,30 +1,28 @@
-use Rattle.std.proofs.Common.{◌≡◌, ◌∙◌, ◌^◌, ◌<◌, suc, map, refl, ap, arith}
+use Rattle.std.proofs.Common.{◌≡◌, ◌∙◌, ◌^◌, ◌<◌, suc, map, refl, arith}
 use Rattle.sctp_values.specs.Meanings.{kind_meaning}
 use Rattle.sctp_send.specs.SenderFields.{rests_meaning, track_meaning}
-use Rattle.sctp_send.specs.SenderKept.{Kept}
 use Rattle.sctp_send.specs.inner.Newcomers.{track_of, number_in}
-use Rattle.sctp_send.specs.inner.Drafting.{rest_from}
+use Rattle.sctp_send.specs.inner.Drafting.{bare, rest_from}
 use Rattle.sctp_send.specs.inner.Undoing.{Parts}
 use Rattle.sctp_send.specs.declared.draft.Draft.{Draft}
 use Rattle.sctp_send.proofs.EnterLemmas.{begun_is}
 use Rattle.sctp_send.proofs.BehindLemmas.{in_behind, noted_before}
-use Rattle.sctp_send.proofs.sender.Sender.begin.Goals as goal
+use Rattle.sctp_send.proofs.head.Head.begin.Goals as goal
 
 pub returns-clause-kept : goal.returns-clause-kept
-returns-clause-kept g c = λ small number.
-    let s = c.args.self.now in
+returns-clause-kept c = λ small number.
+    let s = bare c.args.self.now in
     let m = c.args.message.value in
     let old = c.args.draft.now in
-    let same : c.self.inside.fragment ≡ s.fragment = ap (λ (k : Kept). k.fragment) c.self.view_is in
     let few : suc (number_in (kind_meaning m.kind) (track_of (map (track_meaning s.fragment) old.tracks.items) m.stream)) < 2 ^ 32 = omega (arith, small, number) in
     let counted = rw (c.deref-2.ensures, c.deref-3.ensures) at (c.count_on-track.ensures.items s.fragment) in
-    let rest : rests_meaning s.fragment c.in_ok-rest.rest ≡ rest_from s.fragment m c.args.number c.args.next.count = rw same at c.in_ok-rest.ensures in
+    let rest : rests_meaning s.fragment c.in_ok-rest.rest ≡ rest_from s.fragment m c.args.number c.args.next.count = c.in_ok-rest.ensures in
     let told = rw c.deref.ensures at c.in_ok-tell.ensures in
     let d : Draft = record { outstanding = c.push_begun.new.outstanding; queue = c.take_out.new.queue; tracks = c.count_on-track.new.tracks; turn = c.args.next.turn; tickets = c.tell.new.tickets; log = c.note.new.log } in
     begun_is s old d m c.args.next.place c.args.next.count c.args.number c.args.next.turn (rests_meaning s.fragment c.in_ok-rest.rest) (c.in_ok-push_begun.ensures.items s.fragment) (c.take_out.ensures.queue s.fragment) (counted few) rest told refl number
 
 pub returns-clause-behind : goal.returns-clause-behind
-returns-clause-behind g c =
+returns-clause-behind c =
     let old = c.args.draft.now in
     record {
       origin = in_behind old c.take_out.new.log.items c.note.new.log.items c.push_begun.new.outstanding.items c.take_out.new.queue.items c.count_on-track.new.tracks.items c.args.next.count c.deref-2.result.now.stream c.args.next.turn c.count_on-track.result

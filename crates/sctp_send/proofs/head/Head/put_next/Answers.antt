@@ -7,11 +7,11 @@ use Rattle.sctp_send.specs.SenderStands.{Keeps}
 use Rattle.sctp_send.specs.WindowKept.{WindowKept}
 use Rattle.sctp_send.specs.FillAnswers.{PutSomeOf}
 use Rattle.sctp_send.specs.inner.Wishing.{is_item_marked, is_item_unsent}
-use Rattle.sctp_send.specs.inner.Drafting.{drafted, PutAnswer, IsNextEntry, IsNextUnsent, IsFlying, NothingStands}
+use Rattle.sctp_send.specs.inner.Drafting.{bare, drafted, PutAnswer, IsNextEntry, IsNextUnsent, IsFlying, NothingStands}
 use Rattle.sctp_send.specs.inner.Undoing.{IsBehind}
 use Rattle.sctp_send.proofs.NewMayLemmas.{flying_is}
 use Rattle.sctp_send.proofs.PutLemmas.{searched, marked_next, unsent_next, nothing_stands}
-use Rattle.sctp_send.proofs.sender.Sender.put_next.Goals as goal
+use Rattle.sctp_send.proofs.head.Head.put_next.Goals as goal
 
 no_item : Item
 no_item = record { entry = End (ordered_lane 0) 0; message = None; sent = false; marked = false; covered = false; given_up = false }
@@ -19,7 +19,7 @@ no_item = record { entry = End (ordered_lane 0) 0; message = None; sent = false;
 pub returns-in-Some-clause-put : goal.returns-in-Some-clause-put
 returns-in-Some-clause-put g c = λ v keeps.
     let f = g.F.Framing.format in
-    let s = c.args.self.now in
+    let s = bare c.args.self.now in
     let d = c.args.draft.now in
     let at = c.in-Some.at in
     let found = searched s d d.outstanding is_item_marked (Some at) refl c.requires.window c.in-Some.ensures.first in
@@ -34,7 +34,7 @@ returns-in-Some-clause-behind g c = subst (λ (w : WindowKept). IsBehind (record
 pub returns-in-Some-first_unsent-clause-put : goal.returns-in-Some-first_unsent-clause-put
 returns-in-Some-first_unsent-clause-put g c = λ v keeps.
     let f = g.F.Framing.format in
-    let s = c.args.self.now in
+    let s = bare c.args.self.now in
     let d = c.args.draft.now in
     let first = c.first_marked.ensures.same in
     let at = c.in-Some-first_unsent.at in
@@ -54,7 +54,7 @@ returns-in-Some-first_unsent-clause-behind g c =
 pub returns-clause-put : goal.returns-clause-put
 returns-clause-put g c = λ v keeps.
     let f = g.F.Framing.format in
-    let s = c.args.self.now in
+    let s = bare c.args.self.now in
     let d = c.args.draft.now in
     let first = c.first_marked.ensures.same in
     let nomark = searched s d d.outstanding is_item_marked None refl c.requires.window c.in_default.ensures.first in
@@ -68,7 +68,7 @@ returns-clause-put g c = λ v keeps.
 pub returns-clause-some : goal.returns-clause-some
 returns-clause-some g c = λ v keeps.
     let f = g.F.Framing.format in
-    let s = c.args.self.now in
+    let s = bare c.args.self.now in
     let d = c.args.draft.now in
     let first = c.first_marked.ensures.same in
     let nomark = searched s d d.outstanding is_item_marked None refl c.requires.window c.in_default.ensures.first in

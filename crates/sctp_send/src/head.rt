@@ -1,0 +1,29 @@
+//! What of a sender a fill leaves as it is, but for the fates that it tells of in the end.
+
+use crate::entry::CoveredRun;
+use crate::message::{Fate, Message};
+use std::alloc::Global;
+use std::rc::Rc;
+
+/// All of a sender but the parts that filling a packet changes.
+#[derive(Debug, Drop)]
+pub struct Head {
+    pub alloc: Global,
+    pub initial: u32,
+    pub streams: u16,
+    pub fragment: u16,
+    pub partial: bool,
+    // CUM: all indexes up to it are acknowledged
+    pub cum: u32,
+    // the peer's last advertised window, in bytes
+    pub rwnd: u32,
+    // by ticket, from 1 on
+    pub fates: Vec<Fate>,
+    // what the last SACK covers above CUM, unless it had too many blocks
+    pub covered: Vec<CoveredRun>,
+    pub is_known: bool,
+    // the place of the next SACK's runs
+    pub spare: Vec<CoveredRun>,
+    // the places of messages that are gone, for messages to come
+    pub spent: Vec<Rc<Message>>,
+}
