@@ -18,6 +18,7 @@ mod QuietLemmas
 mod ForwardKeeps
 mod ListOrder
 mod RunLemmas
+mod RunPlaces
 mod RunGains
 mod RunBounds
 mod SeenLemmas

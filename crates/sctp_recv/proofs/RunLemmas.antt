@@ -1,5 +1,5 @@
 -- Runs in order: where an index belongs among them, and what they hold.
-use Rattle.std.proofs.Common.{◌≡◌, ℕ, zero, suc, ◌<◌, ◌≤◌, Bool, true, false, nat_lt, List, [], ◌∷◌, ◌++◌, length, get_or, set, take, drop, inl, inr, refl, sym, ◌∙◌, ap, subst, arith}
+use Rattle.std.proofs.Common.{◌≡◌, ℕ, zero, suc, ◌<◌, ◌≤◌, Bool, true, false, List, [], ◌∷◌, ◌++◌, length, get_or, set, take, drop, inl, inr, refl, sym, ◌∙◌, ap, subst, arith}
 use Rattle.std.specs.Prelude.{◌||◌}
 use Rattle.std.specs.List.{remove}
 use Rattle.std.specs.List.Sorted.{IsPartitionPoint, IsPartitionedBy}
@@ -44,9 +44,6 @@ parted test down (r ∷ rs) h zero (suc k) d le l e =
     down r (get_or rs k d) (h.apart.0 (get_or rs k d) there) (h.some r (inl refl)) (h.some (get_or rs k d) (inr there)) e
 parted test down (r ∷ rs) h (suc j) zero d le l e = absurd (omega arith)
 parted test down (r ∷ rs) h (suc j) (suc k) d le l e = parted test down rs (spaced_tail r rs h) j k d (omega arith) (omega arith) e
-
-pub ends_parted : (b : ℕ) (rs : List SeenRun) → AreSpaced rs → IsPartitionedBy (λ (r : SeenRun). nat_lt r.last b) rs
-ends_parted b = parted (λ (r : SeenRun). nat_lt r.last b) (λ low high apart some also e. grind (arith, apart, also, e, nat_tests))
 
 pub by_parted : (i : ℕ) (rs : List SeenRun) → AreSpaced rs → IsPartitionedBy (begins_by i) rs
 by_parted i = parted (begins_by i) (λ low high apart some also e. grind (arith, apart, some, e, nat_tests))

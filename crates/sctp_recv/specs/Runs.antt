@@ -1,5 +1,5 @@
 -- Runs of indexes, each told by its first and its last.
-use Rattle.std.specs.Prelude.{◌≡◌, ℕ, suc, ◌-◌, ◌<◌, ◌≤◌, Bool, true, false, ◌&&◌, ◌||◌, nat_lt, nat_le, ◌==◌, List, take, drop}
+use Rattle.std.specs.Prelude.{◌≡◌, ℕ, suc, ◌-◌, ◌<◌, ◌≤◌, Bool, true, false, ◌&&◌, ◌||◌, nat_lt, nat_le, ◌==◌, List, get_or, take, drop}
 use Rattle.std.specs.List.{list_any}
 use Rattle.sctp_model.specs.numbers.Lists.{Has, AreInOrder}
 use Rattle.sctp_recv.specs.declared.runs.SeenRun.{SeenRun}
@@ -44,6 +44,15 @@ begins_by i r = nat_le (r.first - 1) i
 pub record IsPlace (test : SeenRun → Bool) (rs : List SeenRun) (k : ℕ) : Type 0 where
   pub front : (r : SeenRun) → Has (take k rs) r → test r ≡ true
   pub back : (r : SeenRun) → Has (drop k rs) r → test r ≡ false
+
+-- all runs before a place end before the index, and don't touch it
+abbrev pub AllBelow : ℕ → List SeenRun → ℕ → Type 0
+AllBelow i rs k = (r : SeenRun) → Has (take k rs) r → lies_below i r ≡ true
+
+-- The run right before a place, which doesn't.
+pub record IsReaching (i : ℕ) (rs : List SeenRun) (k : ℕ) (r : SeenRun) : Type 0 where
+  pub there : r ≡ get_or rs (k - 1) r
+  pub reaches : lies_below i r ≡ false
 
 -- ---- one index more
 

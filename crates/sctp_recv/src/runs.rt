@@ -1,7 +1,7 @@
 //! Runs of indexes in rising order, with an index missing between any two. Nothing here knows of a cumulative index.
 
-ghost use Rattle.std.specs.Prelude.{◌≡◌, ℕ, ◌≤◌, ◌-◌, ◌&&◌, true, nat_lt, nat_le, length, OnOk, OnErr, IsOk};
-ghost use Rattle.sctp_recv.specs.Runs.{AreSpaced, in_run, lies_below, begins_by, IsPlace, Gain};
+ghost use Rattle.std.specs.Prelude.{◌≡◌, ◌<◌, ◌≤◌, ◌-◌, true, nat_le, length, MatchOption, OnSome, OnOk, OnErr, IsOk};
+ghost use Rattle.sctp_recv.specs.Runs.{AreSpaced, in_run, in_runs, begins_by, IsPlace, AllBelow, IsReaching, Gain};
 
 use sctp_sequence::Sequence;
 use sctp_values::NoMemory;
@@ -22,19 +22,6 @@ impl SeenRun {
     }
 }
 
-/// How many runs lie below an index and don't touch it.
-fn below(runs: &Sequence<SeenRun>, index: u32) -> usize
-    ensures bound { result ≤ length runs.now.items }
-    ensures place { AreSpaced runs.now.items → IsPlace (lies_below index) runs.now.items result }
-{
-    let before = index.saturating_sub(1);
-    runs.partition_point(
-        |run: &SeenRun| -> bool
-            ensures { result ≡ nat_lt run.now.last before }
-        { run.last < before },
-    )
-}
-
 /// How many runs lie below an index, have it, or touch it.
 pub(crate) fn upto(runs: &Sequence<SeenRun>, index: u32) -> usize
     ensures bound { result ≤ length runs.now.items }
@@ -47,40 +34,52 @@ pub(crate) fn upto(runs: &Sequence<SeenRun>, index: u32) -> usize
     )
 }
 
-/// Puts a new index into the runs: one of its own, a run that grows by it, or two that become one.
+/// The run before a place, where it doesn't lie below an index without touching it.
+fn reaching(runs: &Sequence<SeenRun>, at: usize, index: u32) -> Option<SeenRun>
+    requires { at ≤ length runs.now.items }
+    ensures some { OnSome result (0 < at) }
+    ensures run { AreSpaced runs.now.items → MatchOption result (AllBelow index runs.now.items at) (IsReaching index runs.now.items at) }
+{
+    let run = *runs.get(at.checked_sub(1)?);
+    if run.last < index.saturating_sub(1) {
+        return None;
+    }
+    Some(run)
+}
+
+/// The run of these ends.
+fn run_of(first: u32, last: u32) -> SeenRun
+    ensures first { result.first ≡ first }
+    ensures last { result.last ≡ last }
+{
+    SeenRun { first, last }
+}
+
+/// Puts an index into the runs: one of its own, a run that grows by it, or two that become one. One that is there changes nothing.
 ///
 /// # Errors
 /// Memory ran out, and nothing changed.
 pub(crate) fn insert(runs: &mut Sequence<SeenRun>, index: u32) -> Result<(), NoMemory>
     ensures inserted { OnOk result (Gain index runs.old.items runs.new.items) }
+    ensures there { OnOk result (AreSpaced runs.old.items → in_runs runs.old.items index ≡ true → runs.new.items ≡ runs.old.items) }
     ensures refused { OnErr result (runs.new.items ≡ runs.old.items) }
     ensures memory { runs.old.room ≡ true → IsOk result }
 {
-    let at = below(runs, index);
-    match upto(runs, index).saturating_sub(at) {
-        0 => {
-            let alone = SeenRun {
-                first: index,
-                last: index,
-            };
-            return runs.insert(at, alone);
-        }
-        1 => {
-            let run = *runs.get(at);
-            let grown = SeenRun {
-                first: run.first.min(index),
-                last: run.last.max(index),
-            };
-            let _ = runs.replace(at, grown);
-        }
-        _ => {
-            let joined = SeenRun {
-                first: runs.get(at).first,
-                last: runs.get(at + 1).last,
-            };
-            let _ = runs.replace(at, joined);
-            let _ = runs.remove(at + 1);
+    let next = upto(runs, index);
+    let Some(last) = reaching(runs, next, index) else {
+        return runs.insert(next, run_of(index, index));
+    };
+    let at = next - 1;
+    if last.has(index) {
+        return Ok(());
+    }
+    if last.first > index {
+        if let Some(before) = reaching(runs, at, index) {
+            let _ = runs.replace(at - 1, run_of(before.first, last.last));
+            let _ = runs.remove(at);
+            return Ok(());
         }
     }
+    let _ = runs.replace(at, run_of(last.first.min(index), last.last.max(index)));
     Ok(())
 }

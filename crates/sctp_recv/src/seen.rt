@@ -124,7 +124,7 @@ impl Seen {
             advance(&mut self.cumulative, &mut self.runs, index);
             return Ok(());
         }
-        if above > WINDOW || self.is_reached(index) {
+        if above == 0 || above > WINDOW {
             return Ok(());
         }
         insert(&mut self.runs, index)

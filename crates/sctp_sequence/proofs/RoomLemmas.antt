@@ -14,9 +14,9 @@ became_ok (Ok a) z x y Q h e never = h
 became_ok (Err a) z x y Q h e never = absurd (never e)
 
 -- the first block's length and capacity, the others' number and its bound, how many items there are, and whether a block is in reserve
-pub room_kept : (len cap blocks most n len' cap' blocks' most' n' : ℕ) (spare : Bool) → len ≤ cap → most' ≡ most → blocks' ≤ blocks → n' ≤ n → (0 < blocks → 256 ≤ cap') → (blocks ≡ 0 → len' ≤ len) → (blocks ≡ 0 → cap' ≡ cap)
-    → cond ((blocks == 0) && nat_lt len 256) (nat_lt len cap) (spare && (nat_lt blocks most && nat_lt n (2 ^ 64 - 1))) ≡ true
-    → cond ((blocks' == 0) && nat_lt len' 256) (nat_lt len' cap') (spare && (nat_lt blocks' most' && nat_lt n' (2 ^ 64 - 1))) ≡ true
+pub room_kept : (len cap blocks most n len' cap' blocks' most' n' : ℕ) (spare : Bool) → len ≤ cap → most' ≡ most → blocks' ≤ blocks → n' ≤ n → (0 < blocks → 512 ≤ cap') → (blocks ≡ 0 → len' ≤ len) → (blocks ≡ 0 → cap' ≡ cap)
+    → cond ((blocks == 0) && nat_lt len 512) (nat_lt len cap) (spare && (nat_lt blocks most && nat_lt n (2 ^ 64 - 1))) ≡ true
+    → cond ((blocks' == 0) && nat_lt len' 512) (nat_lt len' cap') (spare && (nat_lt blocks' most' && nat_lt n' (2 ^ 64 - 1))) ≡ true
 room_kept len cap blocks most n len' cap' blocks' most' n' spare a same b c d e f h = grind (arith, nat_tests)
 
 -- the item that an equal list has there

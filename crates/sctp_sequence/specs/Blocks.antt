@@ -12,21 +12,21 @@ module _ {X Z : Type 0} where
   abbrev pub joined : List (VecDeque X Z) → List X
   joined bs = flat_map deque_items bs
 
-  -- A block behind the first: it has an item, at most 256, and memory for 256.
+  -- A block behind the first: it has an item, at most 512, and memory for 512.
   pub record IsBlock (b : VecDeque X Z) : Type 0 where
     pub some : 0 < deque_len b
-    pub short : deque_len b ≤ 256
-    pub wide : 256 ≤ deque_capacity b
+    pub short : deque_len b ≤ 512
+    pub wide : 512 ≤ deque_capacity b
 
-  -- A block in reserve: it has no item, and memory for 256.
+  -- A block in reserve: it has no item, and memory for 512.
   pub record IsSpare (b : VecDeque X Z) : Type 0 where
     pub none : deque_len b ≡ 0
-    pub wide : 256 ≤ deque_capacity b
+    pub wide : 512 ≤ deque_capacity b
 
 module _ {X Z Y : Type 0} where
   -- there is one block, and it isn't full
   abbrev pub is_single : (first : VecDeque X Z) → (rest : Vec (VecDeque X Z) Y) → Bool
-  is_single f r = (vec_len r == 0) && nat_lt (deque_len f) 256
+  is_single f r = (vec_len r == 0) && nat_lt (deque_len f) 512
 
   -- a full block can be halved: a block is in reserve, and has a place among the others
   abbrev pub can_halve : ℕ → (rest : Vec (VecDeque X Z) Y) → (spare : Option (VecDeque X Z)) → Bool
@@ -43,8 +43,8 @@ module _ {X Z Y : Type 0} where
   -- What always holds of the blocks.
   pub record AreBlocks (n : ℕ) (f : VecDeque X Z) (r : Vec (VecDeque X Z) Y) (s : Option (VecDeque X Z)) : Type 0 where
     pub count : n ≡ length (f.items ++ joined r.items)
-    pub short : deque_len f ≤ 256
+    pub short : deque_len f ≤ 512
     pub some : 0 < vec_len r → 0 < deque_len f
-    pub wide : 0 < vec_len r → 256 ≤ deque_capacity f
+    pub wide : 0 < vec_len r → 512 ≤ deque_capacity f
     pub rest : AllByRecursion IsBlock r.items
     pub spare : IfSome s IsSpare

@@ -15,8 +15,8 @@ fn halve<T>(block: &mut VecDeque<T>, later: &mut VecDeque<T>)
     requires wide { BLOCK ≤ deque_capacity block.old }
     requires spare { IsSpare later.old }
     ensures items { block.new.items ++ later.new.items ≡ block.old.items }
-    ensures len { deque_len block.new ≡ 128 }
-    ensures later_len { deque_len later.new ≡ 128 }
+    ensures len { deque_len block.new ≡ 256 }
+    ensures later_len { deque_len later.new ≡ 256 }
     ensures capacity { deque_capacity block.new ≡ deque_capacity block.old }
     ensures later_capacity { deque_capacity later.new ≡ deque_capacity later.old }
 {

@@ -8,7 +8,7 @@ use std::collections::VecDeque;
 use std::marker::Model;
 
 /// How many items a block has at the most.
-pub(crate) const BLOCK: usize = 256;
+pub(crate) const BLOCK: usize = 512;
 
 /// A list of items. The first block is empty only if there is no other; each other block has an item.
 #[derive(Debug, Drop)]

@@ -31,11 +31,11 @@ fn count_up(items: &Sequence<usize>, first: usize, step: usize) -> bool {
 
 #[test]
 fn items_come_amid_others_and_are_found(rt: HostRuntime) -> Result<(), Fail> {
-    for half in [0, 1, 127, 128, 129, 900] {
+    for half in [0, 1, 255, 256, 257, 1_800] {
         let mut items = numbers(rt.alloc(), half)?;
         assert_eq!(rt; items.len(), half.wrapping_mul(2));
         assert!(rt; count_up(&items, 0, 1));
-        for bound in [0, 1, 128, 255, 256, 257, 640, 1_000] {
+        for bound in [0, 1, 256, 511, 512, 513, 1_280, 2_000] {
             let found = items.partition_point(|number: &usize| *number < bound);
             assert_eq!(rt; found, bound.min(items.len()), "{half} below {bound}");
         }
@@ -47,7 +47,7 @@ fn items_come_amid_others_and_are_found(rt: HostRuntime) -> Result<(), Fail> {
 
 #[test]
 fn items_go_and_are_replaced(rt: HostRuntime) -> Result<(), Fail> {
-    for half in [1, 127, 128, 129, 900] {
+    for half in [1, 255, 256, 257, 1_800] {
         let mut items = numbers(rt.alloc(), half)?;
         for at in 0..half {
             assert_eq!(rt; items.remove(at), Some(at.wrapping_mul(2)));

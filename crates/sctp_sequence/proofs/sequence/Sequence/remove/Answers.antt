@@ -22,7 +22,7 @@ returns-clause-room g c = λ room.
     let gone = c.remove-item.new.self in
     let less : c.args.at < deque_len s.first = omega (arith, c.len-before.ensures, c.if-before-at.false) in
     let one = when_some c.remove-item.result _ (c.remove-item.ensures.variant.1 less) c.remove-item.ensures.len in
-    let wide : 0 < vec_len s.rest → 256 ≤ deque_capacity f = λ more. let w = c.self.invariant.wide more in c.move_up.ensures.wide (omega (arith, w, c.remove-item.ensures.capacity)) in
+    let wide : 0 < vec_len s.rest → 512 ≤ deque_capacity f = λ more. let w = c.self.invariant.wide more in c.move_up.ensures.wide (omega (arith, w, c.remove-item.ensures.capacity)) in
     let short : vec_len s.rest ≡ 0 → deque_len f ≤ deque_len s.first = λ none. let same = ap deque_len (c.move_up.ensures.alone none) in omega (arith, same, one) in
     let memory : vec_len s.rest ≡ 0 → deque_capacity f ≡ deque_capacity s.first = λ none. ap deque_capacity (c.move_up.ensures.alone none) ∙ c.remove-item.ensures.capacity in
     room_kept (deque_len s.first) (deque_capacity s.first) (vec_len s.rest) (vec_capacity s.rest) s.count (deque_len f) (deque_capacity f) (vec_len r) (vec_capacity r) (s.count - 1) (is_some s.spare)
