@@ -14,6 +14,7 @@ use Rattle.sctp_model.specs.sender.SenderView.{Queued}
 use Rattle.sctp_model.specs.sender.Words.{when}
 use Rattle.sctp_send.specs.OutstandingFields.{message_meaning}
 use Rattle.sctp_send.specs.SenderFields.{queued_by}
+use Rattle.sctp_send.specs.inner.Bounding.{AreMessagesBounded}
 use Rattle.sctp_send.specs.inner.Expiring.{sooner, late_after, soonest, queue_messages}
 use Rattle.sctp_send.specs.inner.Ordering.{key, before, AreOrdered}
 use Rattle.sctp_send.specs.inner.Seating.{ticket_in, seat_of, DoTicketsRise, IsBetween, AreLower, AreSeats, IsSeatedOf, IsQueueOf}
@@ -38,15 +39,16 @@ mapped_removed f (y ∷ xs) zero = refl
 mapped_removed f (y ∷ xs) (suc n) = ap (λ ys. f y ∷ ys) (mapped_removed f xs n)
 
 -- no message waits
-pub seated_fresh : (size : ℕ) (seated : Bool) (ms : List (Rc MessageFields Global)) (ps : List Pair) → 0 < size → ms ≡ [] → ps ≡ [] → IsQueueOf size ms 0 LAST_MOMENT true seated ps
-seated_fresh size seated ms ps some none empty = rw (none, empty) (record {
+pub seated_fresh : (size : ℕ) (seated : Bool) (ms : List (Rc MessageFields Global)) (ps : List Pair) (bs : List ℕ) → 0 < size → ms ≡ [] → ps ≡ [] → IsQueueOf size ms 0 LAST_MOMENT true seated ps bs
+seated_fresh size seated ms ps bs some none empty = rw (none, empty) (record {
   owed = record { some = some; owed = omega arith; earliest = tt };
   seats = record { order = λ on. tt; seats = λ on f. refl };
+  bounded = λ k d lt. absurd (omega (arith, lt));
 })
 
 -- the same messages and seats
-pub seated_same : (size sum first : ℕ) (rises seated : Bool) (ms next : List (Rc MessageFields Global)) (ps qs : List Pair) → IsQueueOf size ms sum first rises seated ps → next ≡ ms → qs ≡ ps → IsQueueOf size next sum first rises seated qs
-seated_same size sum first rises seated ms next ps qs h is same = rw (is, same) h
+pub seated_same : (size sum first : ℕ) (rises seated : Bool) (ms next : List (Rc MessageFields Global)) (ps qs : List Pair) (bs cs : List ℕ) → IsQueueOf size ms sum first rises seated ps bs → next ≡ ms → qs ≡ ps → AreMessagesBounded cs ms → IsQueueOf size next sum first rises seated qs cs
+seated_same size sum first rises seated ms next ps qs bs cs h is same bounded = rw (is, same) (record { owed = h.owed; seats = h.seats; bounded = bounded })
 
 -- one message more
 pub seated_inserted : (was rises had seated : Bool) (n : ℕ) (x : Rc MessageFields Global) (ms next : List (Rc MessageFields Global)) (ps qs : List Pair) (p : Pair) → IsSeatedOf was had ms ps → next ≡ insert ms n x → n ≤ length ms

@@ -1,6 +1,6 @@
 //! Before which moment no message is past its time, for groups of tickets: a group whose moment hasn't come need not be looked at.
 
-ghost use Rattle.std.specs.Prelude.{◌≡◌, ℕ, ◌<◌, ◌≤◌, length, IfSome};
+ghost use Rattle.std.specs.Prelude.{◌≡◌, ℕ, ◌+◌, ◌*◌, ◌/◌, ◌%◌, ◌<◌, ◌≤◌, length, IfSome};
 ghost use Rattle.sctp_send.specs.inner.Bounding.{bound_at, bound_of};
 
 /// How many tickets in a row are a group.
@@ -37,6 +37,7 @@ fn first_low(bounds: &[u64], from: u32, end: u32, now: u64) -> u32
 /// `upto` are not asked for.
 pub fn passed(bounds: &[u64], ticket: u32, upto: u32, now: u64) -> Option<u32>
     ensures last { IfSome result (λ last. ticket ≤ last) }
+    ensures within { IfSome result (λ last. last ≤ upto / 64 * 64 + 63) }
     ensures above { IfSome result (λ last. (t : ℕ) → ticket ≤ t → t ≤ last → now < bound_of bounds.now t) }
 {
     let from = ticket / TICKETS;
@@ -66,8 +67,15 @@ pub fn keep(bounds: &mut Vec<u64>, earliest: u64, moment: u64, others: usize)
     if moment == u64::MAX || others < FEW {
         return;
     }
+    begin(bounds, GROUPS, earliest);
+}
+
+/// So many bounds are kept from now on, if none are and there is memory for them. None is worthless before the earliest one.
+pub fn begin(bounds: &mut Vec<u64>, groups: usize, earliest: u64)
+    ensures { (t m : ℕ) → earliest ≤ m → bound_of bounds.old.items t ≤ m → bound_of bounds.new.items t ≤ m }
+{
     if bounds.is_empty() {
-        let _kept = bounds.resize(GROUPS, earliest);
+        let _kept = bounds.resize(groups, earliest);
     }
 }
 
@@ -94,10 +102,9 @@ pub fn replace(bounds: &mut Vec<u64>, fresh: &[u64])
     let _replaced = bounds.extend_from_slice(fresh);
 }
 
-/// The lowest of as many bounds as there are groups.
+/// The lowest of the bounds: of all tickets' that have one.
 pub fn least(bounds: &[u64]) -> u64
-    requires { length bounds.now ≡ 512 }
-    ensures { (t : ℕ) → result ≤ bound_of bounds.now t }
+    ensures { (t : ℕ) → t / 64 % 512 < length bounds.now → result ≤ bound_of bounds.now t }
 {
     let mut least = u64::MAX;
     for at in 0..bounds.len() {

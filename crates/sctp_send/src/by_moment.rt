@@ -1,19 +1,77 @@
-//! A window's entries whose messages are past their time, and when the next one is: groups of tickets whose moments haven't come are passed.
+//! Messages past their time, of a window's entries and of those that wait, and when the next one is: groups of tickets whose moments haven't come are
+//! passed.
 
 ghost use Rattle.std.specs.Prelude.{◌≡◌, ℕ, ◌<◌, ◌≤◌, map, Some};
 ghost use Rattle.sctp_send.specs.OutstandingFields.{item_meaning};
 ghost use Rattle.sctp_send.specs.inner.Bounding.{bound_of, AreBounded};
-ghost use Rattle.sctp_send.specs.inner.Expiring.{sooner, late_after, soonest, item_message, item_messages};
+ghost use Rattle.sctp_send.specs.SenderFields.{queued_by};
+ghost use Rattle.sctp_send.specs.inner.Expiring.{sooner, late_after, soonest, item_message, item_messages, queue_messages};
 ghost use Rattle.sctp_send.specs.inner.TicketOrder.{IsOrderOf, tickets_of};
 
 use crate::bounds::{GROUPS, least, lower, replace, take_above};
 use crate::by_ticket::ByTicket;
 use crate::counts::moment;
 use crate::entry::Outstanding;
+use crate::late_waiting::{WAITING_GROUPS, behind, earliest_of, look_waiting};
 use crate::lateness;
+use crate::seats::{first_from, is_first_late};
+use crate::waiting::Waiting;
 use crate::window::Window;
 use crate::wishes::is_done;
 use std::collections::VecDeque;
+
+impl Waiting {
+    /// The lowest ticket above the last one of messages that are past their time, or one found before.
+    pub fn late(&self, last: u32, now: u64, found: Option<u32>) -> Option<u32>
+        ensures { result ≡ soonest now last found (queue_messages (map (queued_by self.now.size) self.now.items)) }
+    {
+        if now < self.earliest {
+            return found;
+        }
+        let rises = self.rises;
+        let mut found = found;
+        let mut place = first_from(&self.messages, rises, last);
+        while place < self.messages.len() {
+            let at = behind(&self.messages, rises, &self.bounds, place, now);
+            if at >= self.messages.len() {
+                return found;
+            }
+            let message = &self.messages[at];
+            found = lateness::sooner(found, message, last, now);
+            if is_first_late(message, rises, last, now) {
+                return found;
+            }
+            place = at + 1;
+        }
+        found
+    }
+
+    /// Looks anew from which moment on a message may be past its time, if that may be this moment.
+    pub fn look_again(&mut self, now: u64)
+        ensures { self.new ≡ self.old }
+    {
+        if now < self.earliest {
+            return;
+        }
+        if self.bounds.is_empty() {
+            self.earliest = earliest_of(&self.messages);
+            return;
+        }
+        self.look_anew(now);
+    }
+
+    /// The same, by groups. A frame with room for the bounds is made for it alone.
+    #[inline(never)]
+    fn look_anew(&mut self, now: u64)
+        ensures { self.new ≡ self.old }
+    {
+        let mut fresh = [u64::MAX; WAITING_GROUPS];
+        take_above(&self.bounds, now, &mut fresh);
+        look_waiting(&self.messages, self.rises, &self.bounds, now, &mut fresh);
+        self.earliest = least(&fresh);
+        replace(&mut self.bounds, &fresh);
+    }
+}
 
 impl Window {
     /// The lowest ticket above the last one of messages that are past their time, of entries that are neither covered nor given up; or one

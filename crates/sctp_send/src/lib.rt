@@ -18,6 +18,7 @@ mod fill;
 mod forward;
 mod head;
 mod lanes;
+mod late_waiting;
 mod lateness;
 mod laws;
 mod looking;

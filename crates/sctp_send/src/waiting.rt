@@ -4,15 +4,13 @@ ghost use Rattle.std.specs.Prelude.{◌≡◌, ℕ, ◌+◌, ◌<◌, ◌≤◌,
 ghost use Rattle.std.specs.VecDeque.{deque_len, deque_capacity};
 ghost use Rattle.sctp_model.specs.sender.Queueing.{owed_by_queue};
 ghost use Rattle.sctp_send.specs.SenderFields.{queued_by};
-ghost use Rattle.sctp_send.specs.inner.Expiring.{soonest, queue_messages};
 ghost use Rattle.sctp_send.specs.inner.Seating.{AreLower, NextOnAnswer};
 
-use crate::lateness::sooner;
+use crate::late_waiting::bound;
 use crate::message::{Message, moment_of, owed_by_message};
 use crate::ordered::{Ordered, Pair};
 use crate::seats::{
-    Found, first_from, fits_at, is_first_late, is_in_front, make_room, next_by_looking, seat_of,
-    take_seat,
+    Found, first_from, fits_at, is_in_front, make_room, next_by_looking, seat_of, take_seat,
 };
 use sctp_values::NoMemory;
 use std::alloc::Global;
@@ -24,17 +22,19 @@ use std::rc::Rc;
 #[derive(Debug, Drop)]
 pub struct Waiting {
     // the most bytes of a fragment
-    size: u16,
-    messages: VecDeque<Rc<Message>>,
+    pub(crate) size: u16,
+    pub(crate) messages: VecDeque<Rc<Message>>,
     // the TSNs that they may take, modulo 2^64
-    owed: u64,
+    pub(crate) owed: u64,
     // before this moment no message is past its time
-    earliest: u64,
+    pub(crate) earliest: u64,
     // tickets rise from the front on: so it is where `queue` gives them
-    rises: bool,
+    pub(crate) rises: bool,
     // where streams take turns, each message by its stream and its ticket
-    seats: Ordered,
-    is_seated: bool,
+    pub(crate) seats: Ordered,
+    pub(crate) is_seated: bool,
+    // by groups of tickets, before which moment no message is past its time; none until many wait, and one of them has a time
+    pub(crate) bounds: Vec<u64>,
 }
 
 impl Model for Waiting {
@@ -47,7 +47,7 @@ impl Model for Waiting {
 
     ghost view = { λ w. record { size = w.size; items = w.messages.items; capacity = deque_capacity w.messages } };
 
-    ghost invariant = { λ w. IsQueueOf w.size w.messages.items w.owed w.earliest w.rises w.is_seated w.seats.items };
+    ghost invariant = { λ w. IsQueueOf w.size w.messages.items w.owed w.earliest w.rises w.is_seated w.seats.items w.bounds.items };
 }
 
 impl Waiting {
@@ -67,6 +67,7 @@ impl Waiting {
             rises: true,
             seats,
             is_seated: takes_turns,
+            bounds: Vec::new(alloc),
         }
     }
 
@@ -108,6 +109,7 @@ impl Waiting {
         let behind = self.messages.len();
         let fits = fits_at(&self.messages, self.rises, behind, seat.second);
         make_room(&mut self.seats, self.is_seated)?;
+        bound(&mut self.bounds, self.earliest, &message, behind);
         match self.messages.push_back(message) {
             Ok(()) => {}
             Err(_) => return Err(NoMemory),
@@ -145,6 +147,7 @@ impl Waiting {
         let moment = moment_of(&message);
         let seat = seat_of(&message);
         let fits = fits_at(&self.messages, self.rises, place, seat.second);
+        bound(&mut self.bounds, self.earliest, &message, 0);
         match self.messages.insert(place, message) {
             Ok(()) => {}
             Err(_) => return,
@@ -193,41 +196,6 @@ impl Waiting {
             return None;
         }
         Some(Found { stream, place })
-    }
-
-    /// The lowest ticket above the last one of messages that are past their time, or one found before.
-    pub fn late(&self, last: u32, now: u64, found: Option<u32>) -> Option<u32>
-        ensures { result ≡ soonest now last found (queue_messages (map (queued_by self.now.size) self.now.items)) }
-    {
-        if now < self.earliest {
-            return found;
-        }
-        let rises = self.rises;
-        let start = first_from(&self.messages, rises, last);
-        let mut found = found;
-        for at in start..self.messages.len() {
-            let message = &self.messages[at];
-            found = sooner(found, message, last, now);
-            if is_first_late(message, rises, last, now) {
-                return found;
-            }
-        }
-        found
-    }
-
-    /// Looks anew from which moment on a message may be past its time, if that may be this moment.
-    pub fn look_again(&mut self, now: u64)
-        ensures { self.new ≡ self.old }
-    {
-        if now < self.earliest {
-            return;
-        }
-        let mut earliest = u64::MAX;
-        for at in 0..self.messages.len() {
-            let message = &self.messages[at];
-            earliest = earliest.min(moment_of(message));
-        }
-        self.earliest = earliest;
     }
 }
 

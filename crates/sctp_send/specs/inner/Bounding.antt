@@ -1,5 +1,5 @@
 -- Before which moment no message is past its time, for groups of tickets.
-use Rattle.std.specs.Prelude.{◌≡◌, ℕ, ◌/◌, ◌%◌, ◌≤◌, ◌||◌, false, List, slice_index_or, unwrap_or}
+use Rattle.std.specs.Prelude.{◌≡◌, ℕ, ◌*◌, ◌/◌, ◌%◌, ◌<◌, ◌≤◌, ◌||◌, false, List, length, slice_index_or, Some, unwrap_or}
 use Rattle.std.specs.declared.rc.Rc.{Rc}
 use Rattle.std.specs.declared.alloc.Global.{Global}
 use Rattle.sctp_model.specs.numbers.Limits.{LAST_MOMENT}
@@ -27,6 +27,16 @@ IsBounded bs e = (e.covered || e.given_up) ≡ false → bound_of bs e.message.v
 abbrev pub AreBounded : List ℕ → List Outstanding → Type 0
 AreBounded bs es = (e : Outstanding) → Has es e → IsBounded bs e
 
--- nor is any of these messages
+-- ---- messages that wait
+
+-- the first of the numbers that a ticket has among those with bounds: so 16 tickets in a row share a bound, and those that lie 1,024 apart
+unfoldable pub spot_of : (ticket : ℕ) → ℕ
+spot_of t = t % 1024 * 4
+
+-- a message isn't worthless before its ticket's bound
+abbrev pub IsMessageBounded : List ℕ → MessageFields → Type 0
+IsMessageBounded bs m = (until : ℕ) → m.until ≡ Some until → bound_of bs (spot_of m.ticket) ≤ until
+
+-- nor is any of these
 abbrev pub AreMessagesBounded : List ℕ → List (Rc MessageFields Global) → Type 0
-AreMessagesBounded bs ms = (m : Rc MessageFields Global) → Has ms m → bound_of bs m.value.ticket ≤ until_of m
+AreMessagesBounded bs ms = (k : ℕ) (d : Rc MessageFields Global) → k < length ms → IsMessageBounded bs (slice_index_or ms k d).value

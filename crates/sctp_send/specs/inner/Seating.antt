@@ -5,6 +5,7 @@ use Rattle.std.specs.declared.rc.Rc.{Rc}
 use Rattle.std.specs.declared.alloc.Global.{Global}
 use Rattle.sctp_model.specs.sender.SenderView.{Queued}
 use Rattle.sctp_model.specs.sender.Assigning.{first_on}
+use Rattle.sctp_send.specs.inner.Bounding.{AreMessagesBounded}
 use Rattle.sctp_send.specs.inner.Counting.{IsOwedOf}
 use Rattle.sctp_send.specs.inner.Newcomers.{IsFirstOn}
 use Rattle.sctp_send.specs.declared.message.Message.{Message as MessageFields}
@@ -42,10 +43,11 @@ pub record IsSeatedOf (rises seated : Bool) (ms : List (Rc MessageFields Global)
   pub order : rises ≡ true → DoTicketsRise 0 ms
   pub seats : seated ≡ true → AreSeats ms ps
 
--- What is counted of the messages that wait, and where they stand.
-pub record IsQueueOf (size : ℕ) (ms : List (Rc MessageFields Global)) (sum first : ℕ) (rises seated : Bool) (ps : List Pair) : Type 0 where
+-- What is counted of the messages that wait, where they stand, and before which moments none of them is worthless.
+pub record IsQueueOf (size : ℕ) (ms : List (Rc MessageFields Global)) (sum first : ℕ) (rises seated : Bool) (ps : List Pair) (bs : List ℕ) : Type 0 where
   pub owed : IsOwedOf size ms sum first
   pub seats : IsSeatedOf rises seated ms ps
+  pub bounded : AreMessagesBounded bs ms
 
 -- the first of some streams on which a message waits, and the place of the one that has waited longest on it
 pub record IsNextOn (from below : ℕ) (qs : List Queued) (found : Found) : Type 0 where

@@ -4,4 +4,4 @@ use Rattle.sctp_send.proofs.bounds.least.Goals as goal
 
 pub returns : goal.returns
 unfolding bound_of bound_at
-returns c = λ t. c.loop-at.invariant (t / 64 % 512) (omega (arith, c.loop-at-test.false, c.requires))
+returns c = λ t within. c.loop-at.invariant (t / 64 % 512) (omega (arith, c.loop-at-test.false, within))

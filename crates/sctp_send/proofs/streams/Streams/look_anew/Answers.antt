@@ -15,7 +15,7 @@ invariant_of-self-2 c =
         few = h.counted.few;
         parts = h.counted.parts;
         owed = h.counted.owed;
-        earliest = left_worth c.least-self-inside.result w.size c.bound_listed.new.fresh ts (omega (arith, c.least-self-inside.type_inv)) c.least-self-inside.ensures bounded;
+        earliest = left_worth c.least-self-inside.result w.size c.bound_listed.new.fresh ts (omega (arith, c.least-self-inside.type_inv)) (λ t. c.least-self-inside.ensures t (omega (arith, c.bound_listed.auto.fresh))) bounded;
       };
       listed = h.listed;
       bounded = left_lower c.bound_listed.new.fresh c.replace.new.bounds.items ts c.replace.ensures bounded;

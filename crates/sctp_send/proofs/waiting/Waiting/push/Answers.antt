@@ -10,17 +10,19 @@ use Rattle.sctp_send.specs.declared.ordered.Pair.{Pair}
 use Rattle.sctp_send.proofs.OwedLemmas.{owed_pushed}
 use Rattle.sctp_send.proofs.SeatLemmas.{seat_is}
 use Rattle.sctp_send.proofs.SeatedLemmas.{seated_same, seated_inserted}
+use Rattle.sctp_send.proofs.WaitingBounds.{waits_begun, waits_inserted, own_bound}
 use Rattle.sctp_send.proofs.waiting.Waiting.push.Goals as goal
 
 pub invariant_of-self : goal.invariant_of-self
 invariant_of-self c =
     let w = c.self.inside in
-    seated_same w.size w.owed w.earliest w.rises w.is_seated w.messages.items w.messages.items w.seats.items c.make_room.new.seats.items c.self.invariant refl c.make_room.ensures
+    seated_same w.size w.owed w.earliest w.rises w.is_seated w.messages.items w.messages.items w.seats.items c.make_room.new.seats.items w.bounds.items w.bounds.items c.self.invariant refl c.make_room.ensures c.self.invariant.bounded
 
 pub invariant_of-self-in-Err : goal.invariant_of-self-in-Err
 invariant_of-self-in-Err c =
     let w = c.self.inside in
-    seated_same w.size w.owed w.earliest w.rises w.is_seated w.messages.items c.push_back.new.self.items w.seats.items c.make_room.new.seats.items c.self.invariant c.in-Err.ensures.items c.make_room.ensures
+    seated_same w.size w.owed w.earliest w.rises w.is_seated w.messages.items c.push_back.new.self.items w.seats.items c.make_room.new.seats.items w.bounds.items c.bound.new.bounds.items c.self.invariant c.in-Err.ensures.items c.make_room.ensures
+    (waits_begun w.size w.earliest w.bounds.items c.bound.new.bounds.items w.messages.items c.self.invariant.owed.earliest c.bound.ensures.others c.self.invariant.bounded)
 
 pub invariant_of-self-2 : goal.invariant_of-self-2
 invariant_of-self-2 c =
@@ -36,6 +38,7 @@ invariant_of-self-2 c =
     let seats : IsSeatedOf w.rises w.is_seated ms c.make_room.new.seats.items = subst (λ (ps : List Pair). IsSeatedOf w.rises w.is_seated ms ps) (sym c.make_room.ensures) c.self.invariant.seats in
     record {
       owed = owed_pushed w.size w.owed w.earliest c.owed_by_message-owed.result c.moment_of-moment.result c.min-self-inside.result ms _ x c.self.invariant.owed c.in-Ok.ensures.items owed moment c.min-self-inside.ensures;
+      bounded = waits_inserted w.size w.earliest c.len-behind.result w.bounds.items c.bound.new.bounds.items ms c.push_back.new.self.items x is c.self.invariant.owed.earliest c.bound.ensures.others (own_bound c.bound.new.bounds.items c.deref-4.result.now x c.deref-4.ensures c.bound.ensures.here) c.self.invariant.bounded;
       seats = seated_inserted w.rises c.fits_at-fits.result w.is_seated c.take_seat-self-inside.result c.len-behind.result x ms c.push_back.new.self.items c.make_room.new.seats.items c.take_seat-self-inside.new.seats.items p seats is (omega arith)
           c.fits_at-fits.ensures.rises (λ on. subst (λ (n : ℕ). IsBetween c.len-behind.result n ms) (ap (λ (q : Pair). q.second) own) (c.fits_at-fits.ensures.between on)) c.take_seat-self-inside.ensures.kept c.take_seat-self-inside.ensures.seats own;
     }

@@ -9,6 +9,7 @@ use Rattle.sctp_send.specs.declared.ordered.Pair.{Pair}
 use Rattle.sctp_send.proofs.OwedLemmas.{owed_inserted}
 use Rattle.sctp_send.proofs.SeatLemmas.{seat_is}
 use Rattle.sctp_send.proofs.SeatedLemmas.{seated_inserted}
+use Rattle.sctp_send.proofs.WaitingBounds.{waits_inserted, own_bound}
 use Rattle.sctp_send.proofs.waiting.Waiting.put_back.Goals as goal
 
 pub invariant_of-self-2 : goal.invariant_of-self-2
@@ -23,6 +24,7 @@ invariant_of-self-2 c =
     let low : c.args.place ≤ length ms = subst (λ (k : WaitingKept). c.args.place ≤ length k.items) (sym c.self.view_is) c.requires.place in
     record {
       owed = owed_inserted w.size w.owed w.earliest c.owed_by_message-owed.result c.moment_of-moment.result c.min-self-inside.result c.args.place ms c.insert.new.self.items x c.self.invariant.owed c.in-Ok.ensures.items owed moment c.min-self-inside.ensures;
+      bounded = waits_inserted w.size w.earliest c.args.place w.bounds.items c.bound.new.bounds.items ms c.insert.new.self.items x c.in-Ok.ensures.items c.self.invariant.owed.earliest c.bound.ensures.others (own_bound c.bound.new.bounds.items c.deref-4.result.now x c.deref-4.ensures c.bound.ensures.here) c.self.invariant.bounded;
       seats = seated_inserted w.rises c.fits_at-fits.result w.is_seated c.take_seat-self-inside.result c.args.place x ms c.insert.new.self.items w.seats.items c.take_seat-self-inside.new.seats.items p c.self.invariant.seats c.in-Ok.ensures.items low
           c.fits_at-fits.ensures.rises (λ on. subst (λ (n : ℕ). IsBetween c.args.place n ms) (ap (λ (q : Pair). q.second) own) (c.fits_at-fits.ensures.between on)) c.take_seat-self-inside.ensures.kept c.take_seat-self-inside.ensures.seats own;
     }

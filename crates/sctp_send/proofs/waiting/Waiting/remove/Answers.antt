@@ -6,6 +6,7 @@ use Rattle.sctp_send.specs.declared.ordered.Pair.{Pair}
 use Rattle.sctp_send.proofs.OwedLemmas.{owed_removed}
 use Rattle.sctp_send.proofs.SeatLemmas.{seat_is}
 use Rattle.sctp_send.proofs.SeatedLemmas.{seated_removed}
+use Rattle.sctp_send.proofs.WaitingBounds.{waits_removed}
 use Rattle.sctp_send.proofs.waiting.Waiting.remove.Goals as goal
 
 pub invariant_of-self-2 : goal.invariant_of-self-2
@@ -20,5 +21,6 @@ invariant_of-self-2 c =
     let own : p ≡ seat_of x = seat_is p c.deref-2.result.now x c.seat_of-seat.ensures.first c.seat_of-seat.ensures.second c.deref-2.ensures in
     record {
       owed = owed_removed w.size w.owed w.earliest c.owed_by_message-owed.result c.args.place ms c.take_at.new.messages.items x c.self.invariant.owed within c.in_ok-message.ensures.value c.in_ok-message.ensures.items owed;
+      bounded = waits_removed w.bounds.items c.args.place ms c.take_at.new.messages.items c.in_ok-message.ensures.items c.self.invariant.bounded;
       seats = seated_removed w.rises w.is_seated c.args.place x ms c.take_at.new.messages.items w.seats.items c.remove.new.self.items p c.self.invariant.seats c.remove.ensures.order within c.in_ok-message.ensures.value c.in_ok-message.ensures.items own c.remove.ensures.items;
     }

@@ -8,7 +8,7 @@ invariant_of-self c =
     let h = c.self.invariant in
     let es = s.entries.items in
     record {
-      counted = counts_worth s.size c.least-self-inside.result es s.counts (worth_bounded s.size c.least-self-inside.result c.look_at.new.fresh es (omega (arith, c.least-self-inside.type_inv)) c.least-self-inside.ensures c.look_at.ensures) h.counted;
+      counted = counts_worth s.size c.least-self-inside.result es s.counts (worth_bounded s.size c.least-self-inside.result c.look_at.new.fresh es (omega (arith, c.least-self-inside.type_inv)) (λ t. c.least-self-inside.ensures t (omega (arith, c.look_at.auto.fresh))) c.look_at.ensures) h.counted;
       order = h.order;
       below = h.below;
       few = h.few;
