@@ -137,6 +137,10 @@ receiver_growth() {
         grows "$format: a FORWARD with so many entries for 32 streams, by entry" 80 20 kept "$built" "$format" shared
         grows "$format: a FORWARD while a part lies on each of so many streams" 500 20 call "$built" "$format" loose
     done
+    # under I-DATA they go by number; what is freed at the program's end jumps
+    within='sctp_recv::receiver::Receiver::on_forward*'
+    grows 'data: a FORWARD that leaves the part on one of so many streams behind' 500 20 call "$built" data left
+    within=
 }
 
 # calls of a sender

@@ -21,3 +21,4 @@ mod HeldLemmas
 mod FoundLemmas
 mod TakeLemmas
 mod WithLemmas
+mod LowestLemmas

@@ -1,5 +1,6 @@
 -- What a lane keeps of each of its chunks (RFC 9260, 6.9; RFC 8260, 2.2.2).
-use Rattle.std.specs.Prelude.{◌≡◌, ℕ, suc, ◌+◌, ◌*◌, ◌^◌, ◌<◌, Bool, List, Option, Some, None, is_some, if◌then◌else◌}
+use Rattle.std.specs.Prelude.{◌≡◌, ℕ, suc, ◌+◌, ◌*◌, ◌^◌, ◌<◌, ◌≤◌, Bool, List, [], Option, Some, None, is_some, if◌then◌else◌}
+use Rattle.sctp_model.specs.numbers.Lists.{Has}
 use Rattle.sctp_model.specs.numbers.Serial.{COUNTS}
 use Rattle.sctp_model.specs.messages.Format.{Format, Lane, is_numbered}
 use Rattle.sctp_model.specs.messages.Framing.{place_in, begins_in, payload_in}
@@ -45,6 +46,11 @@ cell_of f x = record { rank = rank_of f x; head = head_of f x; end = x.end; byte
 -- kept chunks, in any order
 abbrev pub Kept : Type 0
 Kept = List Piece
+
+-- the lowest index of these, none exactly where there is none of them
+abbrev pub IsLowestIndex : Kept → Option ℕ → Type 0
+IsLowestIndex kept None = kept ≡ []
+IsLowestIndex kept (Some i) = ((x : Piece) → Has kept x → i ≤ x.index) × ((x : Piece) × Has kept x × (x.index ≡ i))
 
 -- A chunk of the lane, with a number exactly where its format numbers the lane, and with counts that 32 bits hold.
 pub record IsOf (f : Format) (l : Lane) (x : Piece) : Type 0 where

@@ -1,6 +1,6 @@
 //! The kept chunks of one lane.
 
-ghost use Rattle.std.specs.Prelude.{◌≡◌, ◌≤◌, ◌-◌, ◌^◌, ◌<◌, ℕ, suc, true, not, [], ◌∷◌, filter, map, IfOk, OnOk, OnErr, OnSome};
+ghost use Rattle.std.specs.Prelude.{◌≡◌, ◌≤◌, ◌-◌, ◌^◌, ◌<◌, ℕ, suc, true, false, not, [], ◌∷◌, filter, map, IfOk, OnOk, OnErr, OnSome};
 ghost use Rattle.sctp_model.specs.messages.Format.{Lane, Unordered, is_numbered};
 ghost use Rattle.sctp_model.specs.messages.Framing.{lets_go};
 ghost use Rattle.sctp_model.specs.numbers.Lists.{Has};
@@ -9,7 +9,7 @@ ghost use Rattle.sctp_model.specs.numbers.Serial.{COUNTS};
 ghost use Rattle.sctp_model.specs.receiver.ReceiverView.{size_of_pieces};
 ghost use Rattle.sctp_model.specs.receiver.PieceTaken.{is_repeated};
 ghost use Rattle.sctp_wire.specs.ChunkTree.{piece_meaning};
-ghost use Rattle.sctp_chains.specs.Cells.{Kept, cell_of, counted, IsOf};
+ghost use Rattle.sctp_chains.specs.Cells.{Kept, cell_of, counted, IsOf, IsLowestIndex};
 ghost use Rattle.sctp_chains.specs.StandsFor.{StandsFor, IsNew, chain_count, whole_count};
 ghost use Rattle.sctp_chains.specs.WholeOf.{TakesLowest, TakesWith, IsMissing, IsThere, AreThere, from_number};
 ghost use Rattle.sctp_chains.specs.Links.{one_of, cells_in};
@@ -68,6 +68,16 @@ impl<F: Framing> Chains<F> {
         ensures { result ≡ whole_count self.now }
     {
         self.filed.whole
+    }
+
+    /// The lowest index of the chunks kept, in a lane whose messages have no number: none exactly where none is kept.
+    pub fn lowest_index(&self) -> Option<u32>
+        ensures { (l : Lane) (kept : Kept) → StandsFor F.format self.now l kept → is_numbered F.format l.kind ≡ false → IsLowestIndex kept result }
+    {
+        if self.filed.chains.len() == 0 {
+            return None;
+        }
+        Some((self.filed.chains[0].first % 4_294_967_296) as u32)
     }
 
     /// Whether this fragment of this message is kept already, where that can be: under DATA a fragment is its TSN.

@@ -9,7 +9,8 @@
 //!   where it is refused; then the index is recorded. After an unordered chunk `take_with` gives its message, if it is whole. After an
 //!   ordered one `take_lowest(next, next)` gives the message that is waited for, if it is whole, and so on with the number after it, until
 //!   none is; what lies below went with them.
-//! - A FORWARD: of the unordered chunks of each stream `let_go` drops those that it leaves behind. Of the ordered ones
+//! - A FORWARD: of the unordered chunks of each stream `let_go` drops those that it leaves behind; under DATA `lowest_index` then tells from
+//!   which index on a FORWARD leaves more behind. Of the ordered ones
 //!   `take_lowest(next, next.max(floor))` gives what is due, one message after another, where all numbers below `floor` are skipped;
 //!   then `drop_below` drops what is left below the number that is waited for.
 //! - `held_bytes` before and after a call tells how many bytes are kept no longer.

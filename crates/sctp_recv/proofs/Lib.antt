@@ -17,6 +17,7 @@ mod PassLemmas
 mod QuietLemmas
 mod ForwardKeeps
 mod ListOrder
+mod PlaceLemmas
 mod RunLemmas
 mod RunPlaces
 mod RunGains

@@ -1,14 +1,15 @@
 -- The streams that a FORWARD may change, and those that it leaves as they are.
 use Rattle.std.proofs.Common.{◌≡◌, ℕ, zero, suc, ◌+◌, ◌<◌, ◌≤◌, ◌⊎◌, List, [], ◌∷◌, length, Option, None, Some, inl, inr, refl, sym, ◌∙◌, ap, subst, arith}
-use Rattle.std.specs.Prelude.{not, slice_get, slice_index_or}
+use Rattle.std.specs.Prelude.{false, nat_le, not, slice_get, slice_index_or}
 use Rattle.std.specs.List.{Contains}
 use Rattle.std.specs.List.Sorted.{IsNonDecreasing}
 use Rattle.std.proofs.lemmas.Bool.{cases_Bool, cases_lt}
+use Rattle.std.proofs.lemmas.Bool.Decides.{nat_tests}
 use Rattle.std.proofs.lemmas.Option.{slice_get_read}
 use Rattle.sctp_model.specs.numbers.Lists.{Has}
 use Rattle.sctp_model.specs.wire.Chunk.{SkipMeaning}
 use Rattle.sctp_model.specs.messages.Format.{Format, Plain, Interleaved, Lane, same_lane, ordered_lane, unordered_lane}
-use Rattle.sctp_model.specs.messages.Framing.{is_skipped}
+use Rattle.sctp_model.specs.messages.Framing.{is_skipped, lets_go}
 use Rattle.sctp_model.specs.messages.Pieces.{Piece}
 use Rattle.sctp_model.specs.receiver.ReceiverView.{ReceiverView}
 use Rattle.sctp_model.specs.receiver.Receiving.{is_below, without_below, HasNoWhole}
@@ -21,18 +22,21 @@ use Rattle.sctp_model.proofs.receiver.OfLane.{of_says, of_below}
 use Rattle.sctp_chains.specs.WholeOf.{from_number}
 use Rattle.sctp_recv.specs.declared.inbound.Inbound.{Inbound}
 use Rattle.sctp_recv.specs.StandsFor.{IsFindable, AreFindable}
-use Rattle.sctp_recv.specs.inner.Forwarding.{most_skipped, stay, IsTouched, AreQuiet}
+use Rattle.sctp_recv.specs.inner.Forwarding.{most_skipped, stay, IsNamed, IsTouched, AreQuiet}
+use Rattle.sctp_recv.specs.Lows.{IsMarked}
+use Rattle.sctp_recv.specs.declared.places.Lows.{Lows}
 
 -- ---- which streams are touched
 
-pub touched_kept : (s : ℕ) (old new : List ℕ) (x : SkipMeaning) (xs : List SkipMeaning) → ((q : ℕ) → Contains old q → Contains new q) → Contains new x.stream → IsTouched s old (x ∷ xs) → IsTouched s new xs
-touched_kept s old new x xs more here (inl there) = inl (more s there)
-touched_kept s old new x xs more here (inr (y, inl is, stream)) = inl (subst (Contains new) (ap (λ (z : SkipMeaning). z.stream) is ∙ stream) here)
-touched_kept s old new x xs more here (inr (y, inr later, stream)) = inr (y, later, stream)
+pub named_kept : (s : ℕ) (old new : List ℕ) (x : SkipMeaning) (xs : List SkipMeaning) → ((q : ℕ) → Contains old q → Contains new q) → Contains new x.stream → Contains old s ⊎ IsNamed s (x ∷ xs) →
+    Contains new s ⊎ IsNamed s xs
+named_kept s old new x xs more here (inl there) = inl (more s there)
+named_kept s old new x xs more here (inr (y, inl is, stream)) = inl (subst (Contains new) (ap (λ (z : SkipMeaning). z.stream) is ∙ stream) here)
+named_kept s old new x xs more here (inr (y, inr later, stream)) = inr (y, later, stream)
 
-pub touched_all : (s : ℕ) (all : List ℕ) → IsTouched s all [] → Contains all s
-touched_all s all (inl there) = there
-touched_all s all (inr (y, none, stream)) = absurd none
+pub named_all : (s : ℕ) (all : List ℕ) → Contains all s ⊎ IsNamed s [] → Contains all s
+named_all s all (inl there) = there
+named_all s all (inr (y, none, stream)) = absurd none
 
 -- ---- which are not
 
@@ -86,30 +90,30 @@ unnamed f l reference (x ∷ xs) other = elim (cases_Bool (same_lane l (lane_of 
   | inr apart ↦ let more = unnamed f l reference xs (λ y there. other y (inr there)) in rw apart (omega (arith, more))
 ]
 
-none_of_lane : (kept : List Piece) → ((x : Piece) → Has kept x → ⊥) → kept ≡ []
-none_of_lane [] none = refl
-none_of_lane (x ∷ kept) none = absurd (none x (inl refl))
-
--- no unordered chunk goes from a stream that isn't listed and that no entry names
-none_left : (f : Format) (jump skip q : ℕ) (loose : List ℕ) (us : List Piece) → (Contains loose q → ⊥) → ((y : Piece) → Has us y → (y.lane.stream ≡ q) × IsFindable f loose skip y) →
+-- no unordered chunk goes from a stream to which the index doesn't lead, and that no entry names
+none_left : (f : Format) (jump skip q : ℕ) (lows : Lows) (us : List Piece) → (IsMarked lows q jump → ⊥) → ((y : Piece) → Has us y → (y.lane.stream ≡ q) × IsFindable f lows skip y) →
     stay f jump skip us ≡ us
-none_left Plain jump skip q loose us off all =
-    let none = none_of_lane us (λ y has. let it = all y has in off (subst (Contains loose) it.0 it.1)) in
-    ap (stay Plain jump skip) none ∙ sym none
-none_left Interleaved jump skip q loose us off all = filter_none (λ (y : Piece). not (is_skipped y.number skip)) us (λ y has. ap not (all y has).1)
+none_left Plain jump skip q lows us off all = filter_none (λ (y : Piece). not (lets_go Plain y.index y.number jump skip)) us (λ y has. ap not (behind y has))
+  where
+    behind : (y : Piece) → Has us y → nat_le y.index jump ≡ false
+    behind y has = elim (cases_lt jump y.index) [
+      | inl past ↦ grind (arith, past, nat_tests)
+      | inr low ↦ let it = all y has in let le = it.1.1 in absurd (off (subst (λ (s : ℕ). IsMarked lows s jump) it.0 (it.1.0, omega (arith, le, low))))
+    ]
+none_left Interleaved jump skip q lows us off all = filter_none (λ (y : Piece). not (is_skipped y.number skip)) us (λ y has. ap not (all y has).1)
 
-pub are_quiet : {F : Type 0} (f : Format) (jump : ℕ) (xs : List SkipMeaning) (v : ReceiverView) (loose touched : List ℕ) (streams : List (Inbound F)) → IsAtRest f v → AreFindable f v loose →
-    ((s : ℕ) → IsTouched s loose xs → Contains touched s) → ((q : ℕ) (x : Inbound F) → slice_get streams q ≡ Some x → v.next q ≡ x.next) →
+pub are_quiet : {F : Type 0} (f : Format) (jump : ℕ) (xs : List SkipMeaning) (v : ReceiverView) (lows : Lows) (touched : List ℕ) (streams : List (Inbound F)) → IsAtRest f v → AreFindable f v lows →
+    ((s : ℕ) → IsTouched s lows jump xs → Contains touched s) → ((q : ℕ) (x : Inbound F) → slice_get streams q ≡ Some x → v.next q ≡ x.next) →
     ((q : ℕ) (x : Inbound F) → slice_get streams q ≡ Some x → v.skip (unordered_lane q) ≡ x.skip) → AreQuiet f jump xs v touched streams
-are_quiet f jump xs v loose touched streams rest findable all next skip q x got off = record {
+are_quiet f jump xs v lows touched streams rest findable all next skip q x got off = record {
   ordered = let none = unnamed f (ordered_lane q) x.next xs (λ y there same. off (all q (inr (y, there, same)))) in omega (arith, none);
   unordered = let none = unnamed f (unordered_lane q) x.skip xs (λ y there same. off (all q (inr (y, there, same)))) in omega (arith, none);
   none = subst (λ (n : ℕ). HasNoWhole f v.kept (ordered_lane q) n) (next q x got) (rest.idle.ordered q).none;
   clear = subst (λ (n : ℕ). from_number n (of_lane (ordered_lane q) v.kept) ≡ of_lane (ordered_lane q) v.kept) (next q x got) clear_there;
-  stays = none_left f jump x.skip q loose (of_lane (unordered_lane q) v.kept) (λ there. off (all q (inl there)))
+  stays = none_left f jump x.skip q lows (of_lane (unordered_lane q) v.kept) (λ there. off (all q (inl there)))
       (λ y has. let says = of_says (unordered_lane q) v.kept y has in (
         ap (λ (l : Lane). l.stream) says.1,
-        subst (λ (n : ℕ). IsFindable f loose n y) (ap v.skip says.1 ∙ skip q x got) (findable y says.0 (ap (λ (l : Lane). l.kind) says.1)),
+        subst (λ (n : ℕ). IsFindable f lows n y) (ap v.skip says.1 ∙ skip q x got) (findable.1 y says.0 (ap (λ (l : Lane). l.kind) says.1)),
       ));
 }
   where

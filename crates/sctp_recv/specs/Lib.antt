@@ -7,6 +7,7 @@ pub mod HandedOf
 pub mod ReceiverKept
 pub mod Fields
 pub mod KeptOf
+pub mod Lows
 pub mod Filed
 pub mod StandsFor
 pub mod SackOf

@@ -1,6 +1,5 @@
 -- Which receiver stands for which view.
-use Rattle.std.specs.Prelude.{◌≡◌, ℕ, suc, ◌^◌, ◌<◌, ◌≤◌, true, false, List, Some, length}
-use Rattle.std.specs.List.{Contains}
+use Rattle.std.specs.Prelude.{◌≡◌, ℕ, suc, ◌^◌, ◌<◌, ◌≤◌, true, false, Some, length}
 use Rattle.sctp_model.specs.numbers.Lists.{Has}
 use Rattle.sctp_model.specs.numbers.Serial.{COUNTS}
 use Rattle.sctp_model.specs.messages.Format.{Format, Plain, Interleaved, Unordered, ordered_lane, unordered_lane}
@@ -12,6 +11,8 @@ use Rattle.sctp_recv.specs.ReceiverKept.{ReceiverKept, stream_at}
 use Rattle.sctp_recv.specs.SeenStands.{SeenStands}
 use Rattle.sctp_recv.specs.KeptOf.{kept_of}
 use Rattle.sctp_recv.specs.Filed.{AreFiled}
+use Rattle.sctp_recv.specs.Lows.{IsMarked}
+use Rattle.sctp_recv.specs.declared.places.Lows.{Lows}
 use Rattle.sctp_recv.specs.declared.receiver.Receiver.{Receiver}
 
 -- What is kept says the view, up to what the receiver has let go: the indexes at or below the cumulative one, the messages taken, and the
@@ -40,16 +41,16 @@ pub record KeepsView (f : Format) (k : ReceiverKept) (v : ReceiverView) : Type 0
 abbrev pub Stands : {F : Type 0} → Format → Receiver F → ReceiverView → Type 0
 Stands f r v = KeepsView f (kept_of r) v × AreFiled f v.kept r.streams.items
 
--- How a FORWARD finds an unordered chunk that it leaves behind: under DATA its stream is listed; under I-DATA its number isn't skipped yet, so
--- that an entry names its stream.
-abbrev pub IsFindable : Format → (streams : List ℕ) → (skip : ℕ) → Piece → Type 0
-IsFindable Plain streams skip x = Contains streams x.lane.stream
-IsFindable Interleaved streams skip x = is_skipped x.number skip ≡ false
+-- How a FORWARD finds an unordered chunk that it leaves behind: under DATA each one up to the chunk's index goes to its stream; under I-DATA
+-- its number isn't skipped yet, so that an entry names its stream.
+abbrev pub IsFindable : Format → Lows → (skip : ℕ) → Piece → Type 0
+IsFindable Plain lows skip x = IsMarked lows x.lane.stream x.index
+IsFindable Interleaved lows skip x = is_skipped x.number skip ≡ false
 
--- so are all unordered chunks that are kept
-abbrev pub AreFindable : Format → ReceiverView → (streams : List ℕ) → Type 0
-AreFindable f v streams = (x : Piece) → Has v.kept x → x.lane.kind ≡ Unordered → IsFindable f streams (v.skip x.lane) x
+-- so are all unordered chunks that are kept, and each stream has its number
+abbrev pub AreFindable : Format → ReceiverView → Lows → Type 0
+AreFindable f v lows = (v.streams ≤ lows.count) × ((x : Piece) → Has v.kept x → x.lane.kind ≡ Unordered → IsFindable f lows (v.skip x.lane) x)
 
 -- the receiver stands for this view, which is at rest
 unfoldable pub StandsFor : {F : Type 0} → Format → Receiver F → ReceiverView → Type 0
-StandsFor f r v = KeepsView f (kept_of r) v × (AreFiled f v.kept r.streams.items × (IsAtRest f v × AreFindable f v r.loose.items))
+StandsFor f r v = KeepsView f (kept_of r) v × (AreFiled f v.kept r.streams.items × (IsAtRest f v × AreFindable f v r.lows))

@@ -1,3 +1,4 @@
 pub mod Giving
 pub mod Rows
 pub mod Forwarding
+pub mod Places

@@ -15,7 +15,7 @@ ghost use Rattle.sctp_chains.specs.StandsFor as lane;
 ghost use Rattle.sctp_recv.specs.AnswerOf.{forward_answer_of};
 ghost use Rattle.sctp_recv.specs.Fields.{stream_of};
 ghost use Rattle.sctp_recv.specs.Filed.{AreFiled};
-ghost use Rattle.sctp_recv.specs.StandsFor.{Stands, StandsFor};
+ghost use Rattle.sctp_recv.specs.StandsFor.{Stands, AreFindable, StandsFor};
 ghost use Rattle.sctp_recv.specs.inner.Forwarding.{AreByStream, IsTouched, HaveRoom, AreQuiet, PassesOn, AreToPass, ArePassed};
 ghost use Rattle.sctp_recv.specs.inner.Giving.{HasRoom, AreCounted};
 ghost use Rattle.sctp_recv.specs.inner.Rows.{IsAbove};
@@ -24,6 +24,7 @@ use crate::answer::{TsnPlace, place_of_tsn};
 use crate::entries::{by_stream, lowest_after, of_stream};
 use crate::give::{give_ordered, make_room};
 use crate::inbound::Inbound;
+use crate::places::Lows;
 use crate::receiver::Receiver;
 use sctp_framing::Framing;
 use sctp_values::{Kind, NoMemory};
@@ -53,15 +54,20 @@ fn names_other_stream(streams: usize, skips: &Skips<'_>) -> bool
     false
 }
 
-/// The streams that a FORWARD may change, in rising order: those that it names, and those on which a part of an unordered message came.
+/// The streams that a FORWARD up to an index may change, in rising order: those that it names, and those from which the index lets something go.
 ///
 /// # Errors
 /// Memory ran out.
-fn touched_by(alloc: Global, loose: &[u16], skips: &Skips<'_>) -> Result<Vec<u16>, NoMemory>
+fn touched_by(
+    alloc: Global,
+    lows: &Lows,
+    jump: u32,
+    skips: &Skips<'_>,
+) -> Result<Vec<u16>, NoMemory>
     ensures rising { IfOk result (λ streams. IsNonDecreasing streams.items) }
-    ensures named { IfOk result (λ streams. (s : ℕ) → IsTouched s loose.now skips.now.skips → Contains streams.items s) }
+    ensures named { IfOk result (λ streams. (s : ℕ) → IsTouched s lows.now jump skips.now.skips → Contains streams.items s) }
 {
-    let mut streams = Vec::from_slice(alloc, loose).map_err(|_| NoMemory)?;
+    let mut streams = lows.upto(alloc, jump)?;
     for skip in skips.iter() {
         streams.push(skip.stream).map_err(|_| NoMemory)?;
     }
@@ -137,6 +143,23 @@ fn pass_on_all<F: Framing>(
     left
 }
 
+/// Notes of each of these streams the lowest index of the unordered chunks that stay there, where their messages have no number.
+fn note_lowest<F: Framing>(lows: &mut Lows, streams: &Vec<Inbound<F>>, touched: &[u16])
+    ensures { (v : ReceiverView) → AreFiled F.format v.kept streams.now.items → AreFindable F.format v lows.old → AreFindable F.format v lows.new }
+{
+    if F::is_numbered(Kind::Unordered) {
+        return;
+    }
+    for at in 0..touched.len() {
+        let stream = touched[at];
+        let place = usize::from(stream);
+        if place < streams.len() {
+            let lowest = streams[place].unordered.lowest_index();
+            lows.set(stream, lowest.unwrap_or(u32::MAX));
+        }
+    }
+}
+
 #[tactic(auto, unfolding(crate::specs::StandsFor::StandsFor))]
 impl<F: Framing> Receiver<F> {
     /// Takes a FORWARD: its index and its numbers are passed, and what is then due is handed over.
@@ -169,14 +192,14 @@ impl<F: Framing> Receiver<F> {
     fn pass_to(&mut self, index: u32, skips: &Skips<'_>) -> Result<(), NoMemory>
         ensures passed { (v : ReceiverView) → StandsFor F.format self.old v → (x : ForwardMeaning) → x.skips ≡ skips.now.skips
             → IsAbove self.old.initial self.old.seen.kept.cumulative x.cumulative index → names_other_stream (length self.old.streams.items) x.skips ≡ false
-            → OnOk result ((t : ReceiverView) × GivesAll F.format v.streams (forwarded F.format v self.old.seen.kept.cumulative x) t × Stands F.format self.new t) }
-        ensures loose { self.new.loose ≡ self.old.loose }
+            → OnOk result ((t : ReceiverView) × GivesAll F.format v.streams (forwarded F.format v self.old.seen.kept.cumulative x) t × (Stands F.format self.new t × AreFindable F.format t self.new.lows)) }
         ensures refused { (v : ReceiverView) → StandsFor F.format self.old v → OnErr result (StandsFor F.format self.new v) }
     {
         let entries = by_stream(self.alloc, skips)?;
-        let touched = touched_by(self.alloc, &self.loose, skips)?;
+        let touched = touched_by(self.alloc, &self.lows, index, skips)?;
         make_rooms(&mut self.streams, &touched)?;
         self.held = pass_on_all(&mut self.streams, &touched, &entries, index, self.held);
+        note_lowest(&mut self.lows, &self.streams, &touched);
         self.seen.jump(index);
         Ok(())
     }

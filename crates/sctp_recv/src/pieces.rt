@@ -1,7 +1,6 @@
 //! A data chunk comes: the first row that fits it is its answer, and that is done (RFC 9260, 6.2 and 6.6; RFC 8260, 2.2).
 
-ghost use Rattle.std.specs.Prelude.{◌≡◌, ℕ, true, false, ◌&&◌, IfOk, OnOk, OnErr};
-ghost use Rattle.std.specs.List.{Contains};
+ghost use Rattle.std.specs.Prelude.{◌≡◌, ◌<◌, ℕ, true, false, ◌&&◌, IfOk, OnOk, OnErr};
 ghost use Rattle.sctp_model.specs.messages.Format.{Unordered, is_numbered};
 ghost use Rattle.sctp_model.specs.receiver.ReceiverView.{ReceiverView, IsCumulative};
 ghost use Rattle.sctp_model.specs.receiver.Receiving.{TakesPiece};
@@ -10,35 +9,30 @@ ghost use Rattle.sctp_model.specs.receiver.PieceTaken.{PieceTaken, answer_to};
 ghost use Rattle.sctp_wire.specs.ChunkTree.{piece_meaning};
 ghost use Rattle.sctp_recv.specs.AnswerOf.{answer_of, NeedsMemory};
 ghost use Rattle.sctp_recv.specs.KeptOf.{kept_of};
+ghost use Rattle.sctp_recv.specs.Lows.{IsMarked};
 ghost use Rattle.sctp_recv.specs.StandsFor.{Stands, StandsFor};
 ghost use Rattle.sctp_recv.specs.inner.Rows.{IsRowOf, IsWanted};
 
 use crate::answer::{Answer, Row, TsnPlace, place_of_tsn};
 use crate::give::keep_in;
+use crate::places::Lows;
 use crate::receiver::Receiver;
 use sctp_framing::Framing;
 use sctp_values::{Kind, NoMemory};
 use sctp_wire::Piece;
 
-/// Lists the stream of an unordered message's part among those on which one came, unless it is there. Where unordered messages have
-/// numbers, an entry of a FORWARD names each stream from which one goes, and none is listed.
-///
-/// # Errors
-/// Memory ran out, and nothing changed.
-fn list<F: Framing>(loose: &mut Vec<u16>, piece: &Piece<'_>) -> Result<(), NoMemory>
-    ensures more { (s : ℕ) → Contains loose.old.items s → Contains loose.new.items s }
-    ensures listed { OnOk result (is_numbered F.format Unordered ≡ false → piece.now.unordered ≡ true → (piece.now.begin && piece.now.end) ≡ false → Contains loose.new.items piece.now.stream) }
+/// Notes that a part of an unordered message comes to a stream with this index. Where unordered messages have numbers, an entry of a FORWARD
+/// names each stream from which one goes, and nothing is noted.
+fn note<F: Framing>(lows: &mut Lows, piece: &Piece<'_>, index: u32)
+    ensures count { lows.new.count ≡ lows.old.count }
+    ensures more { (s i : ℕ) → IsMarked lows.old s i → IsMarked lows.new s i }
+    ensures marked { is_numbered F.format Unordered ≡ false → piece.now.unordered ≡ true → (piece.now.begin && piece.now.end) ≡ false → piece.now.stream < lows.old.count
+        → IsMarked lows.new piece.now.stream index }
 {
-    if F::is_numbered(Kind::Unordered) {
-        return Ok(());
+    if F::is_numbered(Kind::Unordered) || !piece.unordered || (piece.begin && piece.end) {
+        return;
     }
-    if !piece.unordered || (piece.begin && piece.end) {
-        return Ok(());
-    }
-    if let Err(at) = loose.binary_search(&piece.stream) {
-        loose.insert(at, piece.stream).map_err(|_| NoMemory)?;
-    }
-    Ok(())
+    lows.lower(piece.stream, index);
 }
 
 #[tactic(auto, unfolding(crate::specs::StandsFor::StandsFor))]
@@ -70,7 +64,7 @@ impl<F: Framing> Receiver<F> {
             }
             Row::NoRoom => Ok(Answer::NoRoom),
             Row::Taken { index, number } => {
-                list::<F>(&mut self.loose, piece)?;
+                note::<F>(&mut self.lows, piece, index);
                 self.keep(piece, index, number)?;
                 Ok(Answer::Taken)
             }
@@ -113,7 +107,7 @@ impl<F: Framing> Receiver<F> {
     fn keep(&mut self, piece: &Piece<'_>, index: u32, number: Option<u32>) -> Result<(), NoMemory>
         ensures kept { (v : ReceiverView) → StandsFor F.format self.old v → IsWanted F.format (kept_of self.old) v (piece_meaning piece.now) index number
             → OnOk result ((t : ReceiverView) × TakesPiece F.format v (piece_at F.format v self.old.seen.kept.cumulative (piece_meaning piece.now)) t × Stands F.format self.new t) }
-        ensures loose { self.new.loose ≡ self.old.loose }
+        ensures lows { self.new.lows ≡ self.old.lows }
         ensures refused { (v : ReceiverView) → StandsFor F.format self.old v → OnErr result (StandsFor F.format self.new v) }
     {
         let stream = usize::from(piece.stream);

@@ -15,6 +15,7 @@ use crate::duplicates::Duplicates;
 use crate::give::less;
 use crate::inbound::{Inbound, fresh_streams, take_first};
 use crate::message::Message;
+use crate::places::Lows;
 use crate::sack::SackLists;
 use crate::seen::Seen;
 use sctp_framing::Framing;
@@ -32,8 +33,8 @@ pub struct Receiver<F: Framing> {
     pub(crate) seen: Seen,
     pub(crate) streams: Vec<Inbound<F>>,
     pub(crate) duplicates: Duplicates,
-    /// Rising: the streams on which a part of an unordered message without a number came.
-    pub(crate) loose: Vec<u16>,
+    /// Of each stream a bound of the indexes of the unordered chunks kept, where their messages have no number.
+    pub(crate) lows: Lows,
 }
 
 #[tactic(auto, unfolding(crate::specs::StandsFor::StandsFor))]
@@ -50,6 +51,7 @@ impl<F: Framing> Receiver<F> {
     ) -> Result<Receiver<F>, NoMemory>
         ensures { IfOk result (λ r. StandsFor F.format r (fresh_receiver initial_tsn streams buffer)) }
     {
+        let lows = Lows::new(alloc, streams)?;
         let streams = fresh_streams(alloc, streams)?;
         Ok(Receiver {
             alloc,
@@ -59,7 +61,7 @@ impl<F: Framing> Receiver<F> {
             seen: Seen::new(alloc),
             streams,
             duplicates: Duplicates::new(alloc),
-            loose: Vec::new(alloc),
+            lows,
         })
     }
 

@@ -17,6 +17,8 @@ use Rattle.sctp_recv.specs.declared.inbound.Inbound.{Inbound}
 use Rattle.sctp_recv.specs.Fields.{stream_of}
 use Rattle.sctp_model.specs.receiver.KeptOfLane.{of_lane}
 use Rattle.sctp_recv.specs.Filed.{AreFiled}
+use Rattle.sctp_recv.specs.Lows.{IsMarked}
+use Rattle.sctp_recv.specs.declared.places.Lows.{Lows}
 use Rattle.sctp_recv.specs.inner.Giving.{sized, HasRoom, AreCounted, IsDueFrom}
 
 -- ---- which numbers it skips
@@ -54,9 +56,13 @@ AreEntriesOf s all own = (x : SkipMeaning) → x.stream ≡ s → (Has all x →
 abbrev pub stay : Format → (jump skip : ℕ) → List Piece → List Piece
 stay f jump skip kept = filter (λ (x : Piece). not (lets_go f x.index x.number jump skip)) kept
 
--- the FORWARD names the stream, or it is one of these
-abbrev pub IsTouched : (s : ℕ) → List ℕ → List SkipMeaning → Type 0
-IsTouched s loose xs = Contains loose s ⊎ ((x : SkipMeaning) × Has xs x × (x.stream ≡ s))
+-- an entry names the stream
+abbrev pub IsNamed : (s : ℕ) → List SkipMeaning → Type 0
+IsNamed s xs = (x : SkipMeaning) × Has xs x × (x.stream ≡ s)
+
+-- the FORWARD goes to the stream because of its index, or names it
+abbrev pub IsTouched : (s : ℕ) → Lows → (jump : ℕ) → List SkipMeaning → Type 0
+IsTouched s lows jump xs = IsMarked lows s jump ⊎ IsNamed s xs
 
 -- on so many of these streams there is room for the messages that their ordered chunks may make
 abbrev pub HaveRoom : {F : Type 0} → (touched : List ℕ) → ℕ → List (Inbound F) → Type 0

@@ -1,3 +1,4 @@
+use Rattle.std.proofs.Common.{arith}
 use Rattle.sctp_model.proofs.receiver.AtRest.{fresh_at_rest}
 use Rattle.sctp_recv.specs.StandsFor.{StandsFor}
 use Rattle.sctp_recv.proofs.ReceiverSteps.{keeps_fresh}
@@ -6,6 +7,6 @@ use Rattle.sctp_recv.proofs.receiver.Receiver.new.Goals as goal
 pub returns : goal.returns
 unfolding StandsFor
 returns g c = (
-  rw c.new-2.ensures (keeps_fresh g.F.Framing.format c.new.result.kept _ c.args.initial_tsn c.args.streams c.args.buffer c.new.ensures c.in_ok-streams.ensures.streams c.ranges.streams.fits c.ranges.buffer.fits),
-  (c.in_ok-streams.ensures.filed, (fresh_at_rest g.F.Framing.format c.args.initial_tsn c.args.streams c.args.buffer, λ x has kind. absurd has)),
+  rw c.new-3.ensures (keeps_fresh g.F.Framing.format c.new-2.result.kept _ c.args.initial_tsn c.args.streams c.args.buffer c.new-2.ensures c.in_ok-streams.ensures.streams c.ranges.streams.fits c.ranges.buffer.fits),
+  (c.in_ok-streams.ensures.filed, (fresh_at_rest g.F.Framing.format c.args.initial_tsn c.args.streams c.args.buffer, (let count = c.in_ok-lows.ensures in omega (arith, count), λ x has kind. absurd has))),
 )

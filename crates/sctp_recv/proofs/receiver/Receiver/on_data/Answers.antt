@@ -1,4 +1,4 @@
-use Rattle.std.proofs.Common.{ℕ, suc, ◌<◌, List, length, refl, sym, subst, ◌∙◌}
+use Rattle.std.proofs.Common.{ℕ, suc, ◌<◌, List, length, refl, sym, subst, ◌∙◌, arith}
 use Rattle.sctp_model.specs.numbers.Limits.{DUPLICATE_LIMIT}
 use Rattle.sctp_recv.proofs.ResultLemmas.{if_err}
 use Rattle.sctp_model.specs.receiver.Reading.{index_at, piece_at}
@@ -6,12 +6,12 @@ use Rattle.sctp_wire.specs.ChunkTree.{piece_meaning}
 use Rattle.sctp_recv.specs.AnswerOf.{NeedsMemory}
 use Rattle.sctp_recv.specs.KeptOf.{kept_of}
 use Rattle.sctp_recv.specs.StandsFor.{AreFindable, StandsFor}
-use Rattle.std.specs.declared.vec.Vec.{Vec}
-use Rattle.std.specs.declared.alloc.Global.{Global}
+use Rattle.sctp_recv.specs.Lows.{IsMarked}
+use Rattle.sctp_recv.specs.declared.places.Lows.{Lows}
 use Rattle.sctp_model.specs.receiver.Receiving.{recorded}
 use Rattle.sctp_model.specs.receiver.PieceTaken.{Duplicate, NoSuchStream, Passed, Kept, noted, PieceTaken}
 use Rattle.sctp_model.proofs.receiver.AtRest.{piece_at_rest}
-use Rattle.sctp_recv.proofs.RestLemmas.{unordered_is, found_more, findable_taken}
+use Rattle.sctp_recv.proofs.RestLemmas.{unordered_is, findable_more, findable_taken}
 use Rattle.sctp_recv.proofs.ReceiverSteps.{cumulative_is}
 use Rattle.sctp_recv.proofs.RecordedLemmas.{keeps_new, keeps_same, keeps_duplicates, keeps_noted}
 use Rattle.sctp_recv.proofs.receiver.Receiver.on_data.Goals as goal
@@ -67,15 +67,16 @@ returns-in_ok-keep-in-Taken-clause-step g c = λ v w.
     let s = c.args.self.now.seen.kept in
     let p = piece_meaning c.args.piece.now in
     let x = piece_at f v s.cumulative p in
-    let old = c.args.self.now.loose.items in
-    let loose = c.list.new.loose.items in
+    let old = c.args.self.now.lows in
+    let lows = c.note-in-Taken.new.lows in
     let row = c.in-Taken.ensures v w in
-    let m = c.in_ok-keep-in-Taken.ensures.kept v (w.0, (w.1.0, (w.1.1.0, λ y has kind. found_more g.F.Framing.format c.args.self.now.loose.items c.list.new.loose.items (v.skip y.lane) y c.list.ensures.more (w.1.1.1 y has kind)))) row.1 in
+    let m = c.in_ok-keep-in-Taken.ensures.kept v (w.0, (w.1.0, (w.1.1.0, findable_more f v old lows c.note-in-Taken.ensures.count c.note-in-Taken.ensures.more w.1.1.1))) row.1 in
     let taken : PieceTaken f v p Kept m.0 = record { c = s.cumulative; cumulative = cumulative_is s v w.0.seen; answer = sym row.0; leaves = m.1 } in
     let rest = piece_at_rest f v p Kept m.0 w.1.1.0 taken in
-    let findable = findable_taken f v m.0 x old loose m.1 rest.idle row.1.wanted w.1.1.1 c.list.ensures.more
-    (λ plain kind part. c.in_ok-list-in-Taken.ensures.listed plain (unordered_is p.stream p.unordered kind) part) in
-    let still = subst (λ (l : Vec ℕ Global). AreFindable f m.0 l.items) (sym c.keep.ensures.loose) findable in
+    let there : p.stream < old.count = let low = row.1.stream in let all = w.1.1.1.0 in let streams = w.0.streams in omega (arith, low, all, streams) in
+    let findable = findable_taken f v m.0 x old lows m.1 rest.idle row.1.wanted w.1.1.1 c.note-in-Taken.ensures.count c.note-in-Taken.ensures.more
+    (λ plain kind part. subst (IsMarked lows p.stream) row.1.new.index (c.note-in-Taken.ensures.marked plain (unordered_is p.stream p.unordered kind) part there)) in
+    let still = subst (λ (l : Lows). AreFindable f m.0 l) (sym c.keep.ensures.lows) findable in
     (m.0, taken, (m.2.0, (m.2.1, (rest, still))))
 
 pub returns-in_err-note-in-Duplicate-clause-memory : goal.returns-in_err-note-in-Duplicate-clause-memory
@@ -122,18 +123,10 @@ returns-in_err-add-in-Passed-clause-refused g c = λ v w.
     if_err c.from_residual-in_err-add-in-Passed.result
     (keeps_same g.F.Framing.format (kept_of c.args.self.now) v c.add-in-Passed.new.self.kept _ w.0 c.in_err-add-in-Passed.ensures.refused refl, w.1)
 
-pub returns-in_err-list-in-Taken-clause-memory : goal.returns-in_err-list-in-Taken-clause-memory
-unfolding StandsFor
-returns-in_err-list-in-Taken-clause-memory g c = λ v w.
-    let s = c.args.self.now.seen.kept in
-    if_err c.from_residual-in_err-list-in-Taken.result (s.cumulative, cumulative_is s v w.0.seen, subst (NeedsMemory v s.cumulative (index_at v s.cumulative c.args.piece.now.tsn)) (sym (c.in-Taken.ensures v w).0) tt)
-
-pub returns-in_err-list-in-Taken-clause-refused : goal.returns-in_err-list-in-Taken-clause-refused
-unfolding StandsFor
-returns-in_err-list-in-Taken-clause-refused g c = λ v w.
-    if_err c.from_residual-in_err-list-in-Taken.result (w.0, (w.1.0, (w.1.1.0, λ y has kind. found_more g.F.Framing.format c.args.self.now.loose.items c.list.new.loose.items (v.skip y.lane) y c.list.ensures.more (w.1.1.1 y has kind))))
-
 pub returns-in_err-keep-in-Taken-clause-refused : goal.returns-in_err-keep-in-Taken-clause-refused
 unfolding StandsFor
 returns-in_err-keep-in-Taken-clause-refused g c = λ v w.
-    if_err c.from_residual-in_err-keep-in-Taken.result (c.in_err-keep-in-Taken.ensures.refused v (w.0, (w.1.0, (w.1.1.0, λ y has kind. found_more g.F.Framing.format c.args.self.now.loose.items c.list.new.loose.items (v.skip y.lane) y c.list.ensures.more (w.1.1.1 y has kind)))))
+    let f = g.F.Framing.format in
+    if_err c.from_residual-in_err-keep-in-Taken.result
+    (c.in_err-keep-in-Taken.ensures.refused v
+    (w.0, (w.1.0, (w.1.1.0, findable_more f v c.args.self.now.lows c.note-in-Taken.new.lows c.note-in-Taken.ensures.count c.note-in-Taken.ensures.more w.1.1.1))))

@@ -2,15 +2,12 @@ use Rattle.std.proofs.Common.{◌≡◌, ℕ, true, false, length, refl, sym, �
 use Rattle.std.proofs.lemmas.List.{length-map}
 use Rattle.sctp_model.specs.receiver.ForwardTaken.{Moved, ForwardTaken, names_other_stream}
 use Rattle.sctp_model.proofs.receiver.ForwardAtRest.{forward_at_rest}
-use Rattle.std.specs.declared.vec.Vec.{Vec}
-use Rattle.std.specs.declared.alloc.Global.{Global}
 use Rattle.sctp_wire.specs.ChunkTree.{forward_meaning}
 use Rattle.sctp_recv.specs.Fields.{stream_of}
 use Rattle.sctp_recv.specs.KeptOf.{kept_of}
-use Rattle.sctp_recv.specs.StandsFor.{AreFindable, StandsFor}
+use Rattle.sctp_recv.specs.StandsFor.{StandsFor}
 use Rattle.sctp_recv.specs.declared.answer.TsnPlace.TheVariants.{Behind, Ahead, At}
 use Rattle.sctp_recv.specs.inner.Rows.{IsTsnPlace}
-use Rattle.sctp_recv.proofs.RestLemmas.{findable_forward}
 use Rattle.sctp_recv.proofs.ReceiverSteps.{cumulative_is}
 use Rattle.sctp_recv.proofs.ResultLemmas.{if_err}
 use Rattle.sctp_recv.proofs.ForwardRows.{row_out_of_date, row_far, row_other, row_moved}
@@ -58,9 +55,7 @@ returns-clause-step g c = λ v w.
     let m = c.in_ok-pass_to.ensures.passed v w x refl place named in
     let answer = row_moved f (kept_of c.args.self.now) v x w.0 c.in-At.index place kept_named in
     let taken : ForwardTaken f v x Moved m.0 = record { c = s.cumulative; cumulative = cumulative_is s v w.0.seen; answer = sym answer; leaves = m.1 } in
-    let findable = findable_forward f v m.0 s.cumulative v.streams x c.args.self.now.loose.items m.1 w.1.1.1 in
-    let still = subst (λ (l : Vec ℕ Global). AreFindable f m.0 l.items) (sym c.pass_to.ensures.loose) findable in
-    (m.0, taken, (m.2.0, (m.2.1, (forward_at_rest f v x Moved m.0 w.1.1.0 taken, still))))
+    (m.0, taken, (m.2.0.0, (m.2.0.1, (forward_at_rest f v x Moved m.0 w.1.1.0 taken, m.2.1))))
 
 pub returns-in_err-pass_to-clause-memory : goal.returns-in_err-pass_to-clause-memory
 unfolding StandsFor

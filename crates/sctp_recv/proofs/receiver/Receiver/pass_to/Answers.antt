@@ -14,6 +14,7 @@ use Rattle.std.specs.List.{Contains}
 use Rattle.std.specs.List.Sorted.{IsNonDecreasing, IsPermutation}
 use Rattle.sctp_recv.proofs.TouchedLemmas.{are_quiet}
 use Rattle.sctp_recv.proofs.ResultLemmas.{if_err}
+use Rattle.sctp_recv.proofs.RestLemmas.{findable_forward}
 use Rattle.sctp_recv.proofs.RecordedLemmas.{keeps_same}
 use Rattle.sctp_recv.proofs.ForwardKeeps.{stream_is, to_pass, keeps_forwarded}
 use Rattle.sctp_recv.proofs.receiver.Receiver.pass_to.Goals as goal
@@ -44,19 +45,19 @@ returns-clause-passed g c = λ v w x skips above named.
     let count : length k.streams ≡ length olds = ap (λ (ss : List StreamKept). length ss) same ∙ length-map olds stream_of in
     let ready = to_pass f k v x i w.0 above kept_named olds same (c.make_rooms.ensures.filed v.kept w.1.0) in
     let told = subst (λ (xs : List SkipMeaning). AreToPass f i xs v left olds k.held) skips ready in
-    let loose = c.args.self.now.loose.items in
+    let lows = c.args.self.now.lows in
     let touched = c.in_ok-touched.touched.items in
-    let read = subst (λ (ts : List ℕ). (s : ℕ) → IsTouched s ts c.args.skips.now.skips → Contains touched s) c.deref.ensures.value c.in_ok-touched.ensures.named in
-    let all = subst (λ (xs : List SkipMeaning). (s : ℕ) → IsTouched s loose xs → Contains touched s) (sym skips) read in
-    let quiet = are_quiet f i x.skips v loose touched olds w.1.1.0 w.1.1.1 all (λ q z got. (ready.stream q z got).next)
+    let all = subst (λ (xs : List SkipMeaning). (s : ℕ) → IsTouched s lows i xs → Contains touched s) (sym skips) c.in_ok-touched.ensures.named in
+    let quiet = are_quiet f i x.skips v lows touched olds w.1.1.0 w.1.1.1 all (λ q z got. (ready.stream q z got).next)
     (λ q z got. w.0.skip q ∙ ap (λ (a : StreamKept). a.skip) (stream_is f k v x i w.0 above kept_named olds same q z got)) in
-    let still = subst (λ (ts : List ℕ). AreQuiet f i c.args.skips.now.skips v ts olds) (sym c.deref-3.ensures.value) (subst (λ (xs : List SkipMeaning). AreQuiet f i xs v touched olds) skips quiet) in
-    let rising = subst IsNonDecreasing (sym c.deref-3.ensures.value) c.in_ok-touched.ensures.rising in
-    let room = subst (λ (ts : List ℕ). HaveRoom ts (length ts) olds) (c.deref-2.ensures.value ∙ sym c.deref-3.ensures.value) c.in_ok-make_rooms.ensures.room in
-    let rise = subst AreByStream (sym c.deref-4.ensures.value) c.in_ok-entries.ensures.rising in
-    let entries = subst (λ (es : List Skip). IsPermutation c.args.skips.now.skips (map skip_meaning es)) (sym c.deref-4.ensures.value) c.in_ok-entries.ensures.same in
+    let still = subst (λ (ts : List ℕ). AreQuiet f i c.args.skips.now.skips v ts olds) (sym c.deref-2.ensures.value) (subst (λ (xs : List SkipMeaning). AreQuiet f i xs v touched olds) skips quiet) in
+    let rising = subst IsNonDecreasing (sym c.deref-2.ensures.value) c.in_ok-touched.ensures.rising in
+    let room = subst (λ (ts : List ℕ). HaveRoom ts (length ts) olds) (c.deref.ensures.value ∙ sym c.deref-2.ensures.value) c.in_ok-make_rooms.ensures.room in
+    let rise = subst AreByStream (sym c.deref-3.ensures.value) c.in_ok-entries.ensures.rising in
+    let entries = subst (λ (es : List Skip). IsPermutation c.args.skips.now.skips (map skip_meaning es)) (sym c.deref-3.ensures.value) c.in_ok-entries.ensures.same in
     let m = c.pass_on_all-self.ensures.passed v left c.args.skips.now.skips rise entries told room rising still in
     let streams : v.streams ≡ length olds = w.0.streams ∙ count in
     let jumped = let high = above.above in c.jump.ensures (omega (arith, high)) in
     let stands = keeps_forwarded f k v x i w.0 above kept_named olds same m.0 m.1 c.pass_on_all-self.new.streams.items c.pass_on_all-self.ensures.count c.pass_on_all-self.result m.2 c.jump.new.self.kept jumped in
-    (m.0, subst (λ (n : ℕ). GivesAll f n left m.0) (sym streams) m.1, (stands, m.2.filed))
+    let gives = subst (λ (n : ℕ). GivesAll f n left m.0) (sym streams) m.1 in
+    (m.0, gives, ((stands, m.2.filed), c.note_lowest.ensures m.0 m.2.filed (findable_forward f v m.0 k.seen.cumulative v.streams x lows gives w.1.1.1)))
