@@ -30,6 +30,7 @@ impl Head {
     ///
     /// # Errors
     /// `NoMemory`: the draft has its parts as before.
+    #[inline(always)]
     pub(crate) fn begin(
         &self,
         draft: &mut Draft,
@@ -166,6 +167,7 @@ fn counted(track: &Track, kind: Kind, rest: Option<Rest>) -> Track
 }
 
 /// A message took its number on a stream, and so much of it is left. It answers how the stream was.
+#[inline(always)]
 fn count_on(tracks: &mut Streams, stream: u16, kind: Kind, rest: Option<Rest>) -> Track
     requires { stream < length tracks.old.items }
     ensures size { tracks.new.size ≡ tracks.old.size }
