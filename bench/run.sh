@@ -8,6 +8,12 @@ here=$(cd "$(dirname "$0")" && pwd)
 work=$(mktemp -d)
 trap 'rm -rf "$work"' EXIT
 
+# a crate as it is, but what a check keeps for its next run
+take() {
+    mkdir "$work/crates/$1"
+    (cd "$here/../crates/$1" && tar -c --exclude=./out/incremental .) | tar -x -C "$work/crates/$1"
+}
+
 # a repository of its own: the crates that the program named first stands on, as they are, and the program; it is built
 build() {
     program=$1
@@ -15,7 +21,7 @@ build() {
     mkdir -p "$work/crates/$program/src"
     : > "$work/crates.txt"
     for crate in "$@"; do
-        [ -d "$work/crates/$crate" ] || cp -R "$here/../crates/$crate" "$work/crates/$crate"
+        [ -d "$work/crates/$crate" ] || take "$crate"
         grep "^$crate:" "$here/../crates.txt" >> "$work/crates.txt"
     done
     echo "$program: $*" >> "$work/crates.txt"

@@ -35,9 +35,12 @@ def in_order(names, below):
 
 
 def run(words, folder):
-    """Runs a command, and ends with what it said last where it fails."""
+    """Runs a command, and answers its status, and what it said of errors and last."""
     ran = subprocess.run(words, cwd=folder, stdin=subprocess.DEVNULL, stdout=subprocess.PIPE, stderr=subprocess.STDOUT, text=True, errors="replace")
-    return ran.returncode, "\n".join(ran.stdout.splitlines()[-9:])
+    lines = ran.stdout.splitlines()
+    found = [at for at, line in enumerate(lines) if "error" in line or "not proved" in line]
+    shown = {near for at in found[:9] for near in range(at, at + 3)} | set(range(len(lines) - 9, len(lines)))
+    return ran.returncode, "\n".join(line for at, line in enumerate(lines) if at in shown)
 
 
 def main(name, made):
