@@ -161,7 +161,8 @@ sender_growth() {
         grows "$format: abandon, one of so many that wait" 250 20 call "$built" "$format" withdraw
         grows "$format: acknowledged, of one of so many outstanding" 1024 20 call "$built" "$format" acknowledged
         grows "$format: point, behind so many abandoned" 1024 100 call "$built" "$format" point
-        grows "$format: put_forward, of so many abandoned on 32 streams" 1024 20 call "$built" "$format" forward
+        grows "$format: put_forward, of so many abandoned on 32 streams, by message" 1024 20 kept "$built" "$format" forward
+        grows "$format: put_forward, of 1,000 abandoned in front of so many on 32 streams" 2048 20 call "$built" "$format" forward-front
         grows "$format: put_forward, of 1,000 abandoned on one of so many streams" 512 20 call "$built" "$format" forward-few
         # what is freed at the program's end jumps
         within='sender_growth::fill::*'
