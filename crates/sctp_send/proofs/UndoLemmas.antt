@@ -5,13 +5,9 @@ use Rattle.std.proofs.lemmas.Bool.Decides.{nat_tests}
 use Rattle.std.proofs.lemmas.List.Edits.{length-insert, length-remove}
 use Rattle.std.specs.declared.rc.Rc.{Rc}
 use Rattle.std.specs.declared.alloc.Global.{Global}
-use Rattle.sctp_model.specs.messages.Format.{Format}
-use Rattle.sctp_model.specs.sender.SenderView.{SenderView}
-use Rattle.sctp_send.specs.SenderKept.{Kept}
-use Rattle.sctp_send.specs.SenderStands.{Keeps}
 use Rattle.sctp_send.specs.WindowKept.{WindowKept, at_place, changed}
 use Rattle.sctp_send.specs.inner.Changes.{stood}
-use Rattle.sctp_send.specs.inner.Drafting.{drafted, went_out}
+use Rattle.sctp_send.specs.inner.Drafting.{went_out}
 use Rattle.sctp_send.specs.inner.Undoing.{Parts, parts_of, stands_so, waits_again, undone, before_all, origin, IsSized, IsKeptRoom, IsBehind}
 use Rattle.sctp_send.specs.declared.draft.Change.{Change}
 use Rattle.sctp_send.specs.declared.draft.Change.TheVariants.{Out, Taken, In}
@@ -154,54 +150,3 @@ taken_all old now steps x all = let none : now.log.items ≡ [] = empty now.log.
     empty : (ds : List Change) → length ds ≡ 0 → ds ≡ []
     empty [] is = refl
     empty (d ∷ ds) is = absurd (omega arith)
-
--- ---- the sender afterwards
-
--- more room does no harm
-pub more_room : (f : Format) (s : Kept) (v : SenderView) (n : ℕ) → Keeps f s v → s.capacity ≤ n → Keeps f (record s { capacity = n }) v
-more_room f s v n k le = record {
-  holds = record {
-    initial = k.holds.initial;
-    streams = k.holds.streams;
-    fragment = k.holds.fragment;
-    partial = k.holds.partial;
-    cum = k.holds.cum;
-    rwnd = k.holds.rwnd;
-    turn = k.holds.turn;
-    items = k.holds.items;
-    queue = k.holds.queue;
-    tracks = k.holds.tracks;
-    fates = k.holds.fates;
-    covered = k.holds.covered;
-    room = let room = k.holds.room in omega (arith, room, le);
-  };
-  reached = k.reached;
-}
-
--- a draft with these parts again keeps the same
-pub keeps_again : (f : Format) (s : Kept) (v : SenderView) (old new : Draft) → Keeps f (drafted s old) v → parts_of new ≡ parts_of old → new.tickets.items ≡ old.tickets.items → old.outstanding.capacity ≤ new.outstanding.capacity
-    → Keeps f (drafted s new) v
-keeps_again f s v old new k parts told room =
-    let items : new.outstanding.items ≡ old.outstanding.items = ap (λ (p : Parts). p.items) parts in
-    let queue : new.queue.items ≡ old.queue.items = ap (λ (p : Parts). p.queue) parts in
-    let tracks : new.tracks.items ≡ old.tracks.items = ap (λ (p : Parts). p.tracks) parts in
-    let turn : new.turn ≡ old.turn = ap (λ (p : Parts). p.turn) parts in
-    let same : drafted s new ≡ record (drafted s old) { capacity = new.outstanding.capacity } = rw (items, queue, tracks, turn, told) refl in
-    subst (λ (y : Kept). Keeps f y v) (sym same) (more_room f (drafted s old) v new.outstanding.capacity k room)
-
--- a draft that took nothing back yet is what its parts were
-pub origin_fresh : (d : Draft) → d.log.items ≡ [] → origin d ≡ parts_of d
-origin_fresh d none = ap (λ (cs : List Change). before_all cs (parts_of d)) none
-
--- there is room for all messages that waited
-pub origin_fits : (fresh now : Draft) → IsBehind fresh now → fresh.log.items ≡ [] → length fresh.queue.items ≤ fresh.queue.capacity → length (origin now).queue ≤ now.queue.capacity
-origin_fits fresh now b none fits =
-    let same : length (origin now).queue ≡ length fresh.queue.items = ap (λ (p : Parts). length p.queue) (b.origin ∙ origin_fresh fresh none) in
-    let more = b.room.messages in
-    omega (arith, same, more, fits)
-
--- all is taken back: the draft keeps what it kept when it was fresh
-pub keeps_taken : (f : Format) (s : Kept) (v : SenderView) (fresh now back : Draft) → Keeps f (drafted s fresh) v → fresh.log.items ≡ [] → fresh.tickets.items ≡ [] → IsBehind fresh now → parts_of back ≡ origin now → back.tickets.items ≡ []
-    → IsKeptRoom now back → Keeps f (drafted s back) v
-keeps_taken f s v fresh now back k none untold b parts told room =
-    keeps_again f s v fresh back k (parts ∙ b.origin ∙ origin_fresh fresh none) (told ∙ sym untold) (room_on fresh now back b.room room).entries
