@@ -40,15 +40,24 @@ fn spot_of(ticket: u32) -> u32
 }
 
 /// A message comes to so many others, none of which is worthless before a moment. What has no time of its own changes nothing.
+#[inline(always)]
 pub fn bound(bounds: &mut Vec<u64>, earliest: u64, message: &Message, others: usize)
     ensures here { IsMessageBounded bounds.new.items message.now }
     ensures others { (t m : ℕ) → earliest ≤ m → bound_of bounds.old.items t ≤ m → bound_of bounds.new.items t ≤ m }
 {
-    let Some(until) = message.until else {
-        return;
-    };
+    if let Some(until) = message.until {
+        bound_until(bounds, earliest, message.ticket, until, others);
+    }
+}
+
+/// A ticket whose message is worthless from a moment on comes to so many others.
+#[inline(never)]
+fn bound_until(bounds: &mut Vec<u64>, earliest: u64, ticket: u32, until: u64, others: usize)
+    ensures here { bound_of bounds.new.items (spot_of ticket) ≤ until }
+    ensures others { (t m : ℕ) → earliest ≤ m → bound_of bounds.old.items t ≤ m → bound_of bounds.new.items t ≤ m }
+{
     begin_among(bounds, earliest, others);
-    lower(bounds, spot_of(message.ticket), until);
+    lower(bounds, spot_of(ticket), until);
 }
 
 /// Bounds are kept from so many other messages on.

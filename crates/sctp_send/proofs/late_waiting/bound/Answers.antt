@@ -1,18 +1,7 @@
-use Rattle.std.proofs.Common.{ℕ, ◌≤◌, List, subst, sym, arith}
-use Rattle.sctp_send.specs.inner.Bounding.{bound_of, IsMessageBounded}
-use Rattle.sctp_send.proofs.BoundLemmas.{whole_again}
+use Rattle.std.proofs.Common.{refl}
+use Rattle.sctp_send.specs.inner.Bounding.{spot_of}
 use Rattle.sctp_send.proofs.WaitingBounds.{until_bound}
 use Rattle.sctp_send.proofs.late_waiting.bound.Goals as goal
 
-pub returns-clause-others : goal.returns-clause-others
-returns-clause-others c = λ t m le old.
-    let same = whole_again c.begin_among.new.bounds.len c.lower.new.bounds c.begin_among.new.bounds.items (omega (arith, c.lower.auto.bounds, c.deref_mut.ensures.len)) in
-    let kept = c.begin_among.ensures t m le old in
-    let less = c.lower.ensures.each t in
-    let moved = subst (λ (bs : List ℕ). bound_of c.lower.new.bounds t ≤ bound_of bs t) c.deref_mut.ensures.value less in
-    subst (λ (bs : List ℕ). bound_of bs t ≤ m) (sym same) (omega (arith, moved, kept))
-
-pub returns-clause-here : goal.returns-clause-here
-returns-clause-here c =
-    let same = whole_again c.begin_among.new.bounds.len c.lower.new.bounds c.begin_among.new.bounds.items (omega (arith, c.lower.auto.bounds, c.deref_mut.ensures.len)) in
-    subst (λ (bs : List ℕ). IsMessageBounded bs c.args.message.now) (sym same) (until_bound c.in-Some.until c.spot_of.result c.lower.new.bounds c.args.message.now c.in-Some.is c.spot_of.ensures.exact c.lower.ensures.here)
+pub returns-in-Some-clause-here : goal.returns-in-Some-clause-here
+returns-in-Some-clause-here c = until_bound c.in-Some.until (spot_of c.args.message.now.ticket) c.bound_until.new.bounds.items c.args.message.now c.in-Some.is refl c.bound_until.ensures.here
