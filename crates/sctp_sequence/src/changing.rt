@@ -42,6 +42,9 @@ impl<T: Drop> Sequence<T> {
             return insert_later(&mut self.rest, &mut self.spare, at - before, item);
         }
         if before < BLOCK {
+            if at == before {
+                return self.first.push_back_reserved(item);
+            }
             let _ = self.first.insert(at, item);
             return;
         }
