@@ -20,5 +20,6 @@ mod LaneLemmas
 mod HeldLemmas
 mod FoundLemmas
 mod TakeLemmas
+mod AloneLemmas
 mod WithLemmas
 mod LowestLemmas

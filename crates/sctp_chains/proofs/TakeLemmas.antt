@@ -7,25 +7,25 @@ use Rattle.std.proofs.lemmas.Grind.{common_steps}
 use Rattle.sctp_model.specs.numbers.Lists.{Has}
 use Rattle.sctp_model.specs.messages.Format.{Format, Plain, Interleaved, Lane, is_numbered}
 use Rattle.sctp_model.specs.messages.Framing.{place_in}
-use Rattle.sctp_model.specs.messages.Pieces.{Piece, is_number, is_number_below}
+use Rattle.sctp_model.specs.messages.Pieces.{Piece, is_number_below}
 use Rattle.sctp_model.specs.messages.Whole.{IsFirst}
 use Rattle.sctp_model.specs.receiver.Receiving.{IsWholeNumber, HasNoWhole}
 use Rattle.sctp_model.proofs.receiver.RowFacts.{row_same}
 use Rattle.sctp_chains.specs.Cells.{Cell, cell_of, key_of, rank_at, rank_of, IsOf}
 use Rattle.sctp_chains.specs.Links.{ChainKept, chain_of, cells_from, is_whole}
 use Rattle.sctp_chains.specs.StandsFor.{KeepsLane, StandsFor}
-use Rattle.sctp_chains.specs.WholeOf.{IsWholeOf, IsMadeOf, TakesLowest, HasWhole, IsThere}
+use Rattle.sctp_chains.specs.WholeOf.{IsWholeOf, IsMadeOf, TakesLowest}
 use Rattle.sctp_chains.specs.declared.chain.Head.{Head}
 use Rattle.sctp_chains.specs.declared.search.Found.{Found}
 use Rattle.sctp_chains.specs.declared.whole.Whole.{Whole}
 use Rattle.sctp_chains.specs.declared.chains.Chains.{Chains}
 use Rattle.sctp_chains.specs.inner.Finding.{IsIn, IsFirstWhole}
 use Rattle.sctp_chains.specs.inner.LettingGo.{Leaves, is_outside, LetsGo, Removes}
-use Rattle.sctp_chains.proofs.ListLemmas.{map_has, has_at}
+use Rattle.sctp_chains.proofs.ListLemmas.{map_has}
 use Rattle.sctp_chains.proofs.CellLemmas.{cell_there}
 use Rattle.sctp_chains.proofs.ChainLemmas.{chain_order}
 use Rattle.sctp_chains.proofs.RankLemmas.{place_small, has_head, rank_place}
-use Rattle.sctp_chains.proofs.WholeLemmas.{AreOf, whole_chain, whole_is_chain}
+use Rattle.sctp_chains.proofs.WholeLemmas.{AreOf, whole_is_chain}
 use Rattle.sctp_chains.proofs.FoundLemmas.{IsFoundOut, found_out}
 use Rattle.sctp_chains.proofs.LaneLemmas.{stays, leaves_both, cut_low, below_agrees}
 
@@ -75,13 +75,6 @@ out_of_both low first last high r above below e = grind (arith, above, below, e,
 
 -- ---- one number
 
-pub is_one : (n : ℕ) (o : Option ℕ) → is_number n o ≡ true → o ≡ Some n
-is_one n None e = absurd (cc)
-is_one n (Some m) e = let same : n ≡ m = grind (arith, e, nat_tests) in ap (λ (i : ℕ). Some i) (sym same)
-
-is_other : (n : ℕ) (o : Option ℕ) → is_number n o ≡ false → o ≡ Some n → ⊥
-is_other n o e is = let no : is_number n (Some n) ≡ false = subst (λ (p : Option ℕ). is_number n p ≡ false) is e in grind (arith, no, nat_tests)
-
 module _ (f : Format) (l : Lane) (cs : List ChainKept) (bytes : ℕ) (kept : List Piece) (h : KeepsLane f l cs bytes kept) where
   pub chain_end : (c : ChainKept) (x : Piece) (xs : List Piece) → Has cs c → AreOf f kept c x xs → c.last ≤ rank_at x.number (2 ^ 32 - 1)
   chain_end c x xs there o =
@@ -117,24 +110,6 @@ module _ (f : Format) (l : Lane) (cs : List ChainKept) (bytes : ℕ) (kept : Lis
       (n : ℕ) → from ≤ n → n ≤ last → HasNoWhole f kept l n
   none_lowest_by from last low high a b none =
       none_lowest from last (subst (λ (u : ℕ). IsFirstWhole cs u (rank_at (Some last) (2 ^ 32 - 1)) None) a (subst (λ (v : ℕ). IsFirstWhole cs low v None) b none))
-
-  -- a whole chain at the number's ranks is a whole message of the number
-  has_whole : (n : ℕ) (w : Found) → is_numbered f l.kind ≡ true → IsFirstWhole cs (rank_at (Some n) 0) (rank_at (Some n) (2 ^ 32 - 1)) (Some w) → HasWhole f kept l n
-  has_whole n w numbered (c, at, low, up, before) =
-      let m = whole_chain f l cs bytes kept h c w.head (subst (Has cs) (at.here c) (has_at cs w.at c at.within)) at.ends at.head in
-      let of = h.of m.0 (m.2.within m.0 (inl refl)) in
-      let number = some_number m.0.number (of.numbered ∙ numbered) in
-      let ranks = in_number f l m.0 of number.0 (ap key_of number.1) in
-      let first = m.2.rank in
-      let same : number.0 ≡ n = let i = ranks.0 in let j = ranks.1 in omega (arith, i, j, first, low, up) in
-      (m.0 ∷ m.1, (m.2.whole, m.2.within, (of.lane, number.1 ∙ ap (λ (i : ℕ). Some i) same)))
-
-  pub there_told : (n low high : ℕ) → low ≡ rank_at (Some n) 0 → high ≡ rank_at (Some n) (2 ^ 32 - 1) → is_numbered f l.kind ≡ true → (newest : Option ℕ) → is_number n newest ≡ false →
-      (o : Option Found) (b : Bool) → b ≡ is_some o → IsFirstWhole cs low high o → IsThere f l kept newest n b
-  there_told n low high a b numbered newest other None t e none =
-      subst (IsThere f l kept newest n) (sym e) (record { none = none_lowest_by n n low high a b none n (omega arith) (omega arith); other = is_other n newest other })
-  there_told n low high a b numbered newest other (Some w) t e found = subst (IsThere f l kept newest n) (sym e) (inl (has_whole n w numbered
-      (subst (λ (u : ℕ). IsFirstWhole cs u (rank_at (Some n) (2 ^ 32 - 1)) (Some w)) a (subst (λ (v : ℕ). IsFirstWhole cs low v (Some w)) b found))))
 
   first_place : (g : Format) (x y : Piece) → IsFirst g x → IsFirst g y → x.number ≡ y.number → rank_of g x ≤ rank_of g y → (x.index ≤ y.index) ⊎ (rank_of g x ≡ rank_of g y)
   first_place Plain x y a b number le = let key = ap key_of number in inl (omega (arith, key, le))

@@ -1,5 +1,6 @@
 -- What a message taken out says, and what it leaves.
-use Rattle.std.specs.Prelude.{◌≡◌, ℕ, suc, ◌<◌, ◌≤◌, ◌⊎◌, Bool, true, false, not, List, ◌∷◌, map, filter, Option, Some, None}
+use Rattle.std.specs.Prelude.{◌≡◌, ℕ, suc, ◌<◌, ◌≤◌, false, not, List, ◌∷◌, map, filter, Option, Some, None}
+use Rattle.sctp_model.specs.numbers.Lists.{Has}
 use Rattle.sctp_model.specs.messages.Format.{Format, Lane}
 use Rattle.sctp_model.specs.messages.Pieces.{Piece, is_number_below, payload_of}
 use Rattle.sctp_model.specs.receiver.Receiving.{IsWholeNumber, IsLowest, HasNoWhole, IsWholeWith, HasNoWholeWith, without_message}
@@ -48,25 +49,9 @@ abbrev pub TakesLowest : {F : Type 0} → Format → Lane → List Piece → (fr
 TakesLowest f l kept from last None new = ((n : ℕ) → from ≤ n → n ≤ last → HasNoWhole f kept l n) × StandsFor f new l kept
 TakesLowest f l kept from last (Some m) new = (n : ℕ) × TakesNumber f l kept from last m new n
 
--- ---- the first number that isn't whole
-
--- no whole message has the number, and it isn't the newest chunk's
-pub record IsMissing (f : Format) (l : Lane) (kept : List Piece) (newest : Option ℕ) (n : ℕ) : Type 0 where
-  pub none : HasNoWhole f kept l n
-  pub other : newest ≡ Some n → ⊥
-
--- a whole message has the number
-abbrev pub HasWhole : Format → List Piece → Lane → ℕ → Type 0
-HasWhole f kept l n = (xs : List Piece) × IsWholeNumber f kept l n xs
-
--- whether one has it, or it is the newest chunk's
-abbrev pub IsThere : Format → Lane → List Piece → (newest : Option ℕ) → (n : ℕ) → Bool → Type 0
-IsThere f l kept newest n true = HasWhole f kept l n ⊎ (newest ≡ Some n)
-IsThere f l kept newest n false = IsMissing f l kept newest n
-
--- so it is of all numbers from one up to another
-abbrev pub AreThere : Format → Lane → List Piece → (newest : Option ℕ) → (from end : ℕ) → Type 0
-AreThere f l kept newest from end = (n : ℕ) → from ≤ n → n < end → IsThere f l kept newest n true
+-- no chunk has this number or a lower one
+abbrev pub AreAbove : ℕ → List Piece → Type 0
+AreAbove n kept = (y : Piece) → Has kept y → is_number_below (suc n) y.number ≡ false
 
 -- ---- the whole message of one chunk
 

@@ -1,18 +1,16 @@
 //! The kept chunks of one lane.
 
-ghost use Rattle.std.specs.Prelude.{◌≡◌, ◌≤◌, ◌-◌, ◌^◌, ◌<◌, ℕ, suc, true, false, not, [], ◌∷◌, filter, map, IfOk, OnOk, OnErr, OnSome};
+ghost use Rattle.std.specs.Prelude.{◌≡◌, ◌≤◌, ℕ, suc, true, false, not, [], ◌∷◌, filter, map, Some, IfSome, IfOk, OnOk, OnErr, OnSome};
 ghost use Rattle.sctp_model.specs.messages.Format.{Lane, Unordered, is_numbered};
 ghost use Rattle.sctp_model.specs.messages.Framing.{lets_go};
 ghost use Rattle.sctp_model.specs.numbers.Lists.{Has};
-ghost use Rattle.sctp_model.specs.messages.Pieces.{is_number};
-ghost use Rattle.sctp_model.specs.numbers.Serial.{COUNTS};
 ghost use Rattle.sctp_model.specs.receiver.ReceiverView.{size_of_pieces};
 ghost use Rattle.sctp_model.specs.receiver.PieceTaken.{is_repeated};
 ghost use Rattle.sctp_wire.specs.ChunkTree.{piece_meaning};
 ghost use Rattle.sctp_chains.specs.Cells.{Kept, cell_of, counted, IsOf, IsLowestIndex};
 ghost use Rattle.sctp_chains.specs.StandsFor.{StandsFor, IsNew, chain_count, whole_count};
-ghost use Rattle.sctp_chains.specs.WholeOf.{TakesLowest, TakesWith, IsMissing, IsThere, AreThere, from_number};
-ghost use Rattle.sctp_chains.specs.Links.{one_of, cells_in};
+ghost use Rattle.sctp_chains.specs.WholeOf.{TakesLowest, TakesWith, AreAbove, from_number};
+ghost use Rattle.sctp_chains.specs.Links.{one_of, cells_in, bytes_of};
 
 use crate::chain::{Head, Part};
 use crate::filed::Filed;
@@ -56,14 +54,7 @@ impl<F: Framing> Chains<F> {
         self.held
     }
 
-    /// How many chains there are: no more messages than that can be taken out before another chunk is added.
-    pub fn count(&self) -> usize
-        ensures { result ≡ chain_count self.now }
-    {
-        self.filed.chains.len()
-    }
-
-    /// How many of them are whole messages, at the most: no more messages than that can be taken out before another chunk is added.
+    /// How many chains are whole messages, at the most: no more messages than that can be taken out before another chunk is added.
     pub fn whole_count(&self) -> usize
         ensures { result ≡ whole_count self.now }
     {
@@ -115,6 +106,40 @@ impl<F: Framing> Chains<F> {
         Ok(())
     }
 
+    /// The whole message that a chunk is alone, where no chunk of its number or a lower one is kept: it needn't be filed.
+    ///
+    /// # Errors
+    /// Memory ran out.
+    #[inline(always)]
+    pub fn alone(
+        &self,
+        piece: &Piece<'_>,
+        index: u32,
+        number: u32,
+    ) -> Result<Option<Whole>, NoMemory>
+        ensures { (l : Lane) (kept : Kept) → StandsFor F.format self.now l kept → IsNew F.format l kept (counted index (piece_meaning piece.now) (Some number))
+            → is_numbered F.format l.kind ≡ true
+            → IfOk result (λ found. IfSome found (λ m. TakesLowest F.format l (counted index (piece_meaning piece.now) (Some number) ∷ kept) number number (Some m) self.now)) }
+    {
+        if !piece.end || !F::begins(piece.begin, piece.word) || !self.is_above(number) {
+            return Ok(None);
+        }
+        let data = Vec::from_slice(self.alloc, piece.bytes).map_err(|_| NoMemory)?;
+        Ok(Some(Whole {
+            first: index,
+            number: Some(number),
+            payload_id: F::payload(piece.begin, piece.word),
+            parts: list_of(self.alloc, data)?,
+        }))
+    }
+
+    /// Whether no chunk of this number or a lower one is kept.
+    fn is_above(&self, number: u32) -> bool
+        ensures { (l : Lane) (kept : Kept) → StandsFor F.format self.now l kept → is_numbered F.format l.kind ≡ true → result ≡ true → AreAbove number kept }
+    {
+        self.filed.chains.is_empty() || rank_at(Some(number), u32::MAX) < self.filed.chains[0].first
+    }
+
     /// Takes the whole message with the lowest number within these bounds, and lets go of all chunks up to its number. Of several with one
     /// number, which an honest peer never sends, it is the one that begins with the lowest index.
     pub fn take_lowest(&mut self, from: u32, last: u32) -> Option<Whole>
@@ -148,35 +173,6 @@ impl<F: Framing> Chains<F> {
         };
         self.held = self.filed.drop_upto(self.held, found.at, upto);
         Some(whole_of(chain, found.head, number))
-    }
-
-    /// The first number from `next` on that no whole message has and that isn't the newest chunk's; 2^32 - 1 where there is none below it.
-    pub fn first_missing(&self, next: u32, newest: Option<u32>) -> u32
-        ensures from { next ≤ result }
-        ensures missing { (l : Lane) (kept : Kept) → StandsFor F.format self.now l kept → is_numbered F.format l.kind ≡ true → suc result < COUNTS
-            → IsMissing F.format l kept newest result }
-        ensures first { (l : Lane) (kept : Kept) → StandsFor F.format self.now l kept → is_numbered F.format l.kind ≡ true
-            → AreThere F.format l kept newest next result }
-    {
-        for wanted in next..u32::MAX {
-            if !self.is_there(newest, wanted) {
-                return wanted;
-            }
-        }
-        u32::MAX
-    }
-
-    /// Whether a number is the newest chunk's, or a whole message has it.
-    fn is_there(&self, newest: Option<u32>, number: u32) -> bool
-        ensures { (l : Lane) (kept : Kept) → StandsFor F.format self.now l kept → is_numbered F.format l.kind ≡ true
-            → IsThere F.format l kept newest number result }
-    {
-        if is_number(newest, number) {
-            return true;
-        }
-        let lower = rank_at(Some(number), 0);
-        let upper = rank_at(Some(number), u32::MAX);
-        self.filed.first_whole(lower, upper).found.is_some()
     }
 
     /// Lets go of the chunks below a number, in a lane that is numbered.
@@ -233,12 +229,14 @@ fn part_of<F: Framing>(
     })
 }
 
-/// Whether a number is this one.
-fn is_number(number: Option<u32>, wanted: u32) -> bool
-    ensures { result ≡ is_number wanted number }
+/// A list of one part.
+///
+/// # Errors
+/// Memory ran out.
+fn list_of(alloc: Global, part: Vec<u8>) -> Result<Vec<Vec<u8>>, NoMemory>
+    ensures { IfOk result (λ list. map bytes_of list.items ≡ bytes_of part ∷ []) }
 {
-    match number {
-        Some(number) => wanted == number,
-        None => false,
-    }
+    let mut list = Vec::with_capacity(alloc, 1).map_err(|_| NoMemory)?;
+    list.push(part).map_err(|_| NoMemory)?;
+    Ok(list)
 }

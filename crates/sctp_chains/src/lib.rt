@@ -8,7 +8,7 @@
 //!   which for an ordered chunk is at most one message more than `whole_count` says, room for the index, and `add`, which changes nothing
 //!   where it is refused; then the index is recorded. After an unordered chunk `take_with` gives its message, if it is whole. After an
 //!   ordered one `take_lowest(next, next)` gives the message that is waited for, if it is whole, and so on with the number after it, until
-//!   none is; what lies below went with them.
+//!   none is; what lies below went with them. An ordered chunk that is the next message alone needn't be added: `alone` gives it.
 //! - A FORWARD: of the unordered chunks of each stream `let_go` drops those that it leaves behind; under DATA `lowest_index` then tells from
 //!   which index on a FORWARD leaves more behind. Of the ordered ones
 //!   `take_lowest(next, next.max(floor))` gives what is due, one message after another, where all numbers below `floor` are skipped;

@@ -12,7 +12,7 @@ use Rattle.sctp_model.proofs.receiver.OneStep.{filter_has}
 use Rattle.sctp_model.proofs.receiver.OfLane.{whole_of}
 use Rattle.sctp_model.proofs.receiver.RowFacts.{row_same}
 use Rattle.sctp_chains.specs.WholeOf.{from_number}
-use Rattle.sctp_recv.specs.inner.Giving.{IsDueView}
+use Rattle.sctp_recv.specs.inner.Giving.{IsDueView, IsRest, IsDueSoFar}
 
 -- ---- chunks from a number on
 
@@ -40,10 +40,6 @@ number_from f kept l n (x ∷ xs) = (
   (λ w. (w.0, (λ z there. filter_has (λ (y : Piece). not (is_number_below n y.number)) kept z (w.1 z there)), w.2)),
 )
 
--- from a number on, these are the chunks that were kept
-pub record IsRest (next : ℕ) (kept rest : List Piece) : Type 0 where
-  pub same : (k : ℕ) → next ≤ k → from_number k rest ≡ from_number k kept
-
 pub rest_first : (next : ℕ) (kept : List Piece) → IsRest next kept kept
 rest_first next kept = record { same = λ k le. refl }
 
@@ -65,11 +61,6 @@ past_all f r s zero n m o ms e each due = let same : m ≡ n = omega arith in su
 past_all f r s (suc d) n m o ms e each due =
     let here = each n (omega arith) (omega arith) in
     Past n o ms here.0 here.1 (past_all f r s d (suc n) m o ms (omega arith) (λ k low high. each k (omega arith) high) due)
-
--- so far these messages are handed over, and the number has come to `next`
-abbrev pub IsDueSoFar : Format → List Piece → (s from floor next : ℕ) → List Handed → Type 0
-IsDueSoFar f kept s from floor next ms =
-    (r : ReceiverView) → IsDueView f kept s from floor r → (from ≤ next) × ((os : List Handed) (o : ℕ) → IsDue f r s next os o → IsDue f r s from (ms ++ os) o)
 
 pub due_first : (f : Format) (kept : List Piece) (s from floor : ℕ) → IsDueSoFar f kept s from floor from []
 due_first f kept s from floor r v = (omega arith, λ os o due. due)

@@ -1,6 +1,6 @@
 //! Handing over: a chunk is kept, and what is due with it goes to what waits for the user (RFC 9260, 6.6; RFC 3758, 3.6).
 
-ghost use Rattle.std.specs.Prelude.{◌≡◌, ◌-◌, ◌^◌, ◌<◌, ◌++◌, [], ◌∷◌, ◌≤◌, ℕ, suc, Some, map, length, OnOk, OnErr, IfOk};
+ghost use Rattle.std.specs.Prelude.{◌≡◌, ◌-◌, ◌^◌, ◌<◌, ◌++◌, [], ◌∷◌, ◌≤◌, ℕ, suc, true, Some, map, length, OnOk, OnErr, IfOk};
 ghost use Rattle.std.specs.VecDeque.{deque_len, deque_capacity};
 ghost use Rattle.sctp_model.specs.messages.Format.{ordered_lane, unordered_lane};
 ghost use Rattle.sctp_model.specs.receiver.Reading.{lane_of};
@@ -11,7 +11,7 @@ ghost use Rattle.sctp_chains.specs.StandsFor.{IsNew};
 ghost use Rattle.sctp_chains.specs.Cells.{counted};
 ghost use Rattle.sctp_recv.specs.Fields.{stream_of};
 ghost use Rattle.sctp_recv.specs.HandedOf.{handed_of, message_bytes};
-ghost use Rattle.sctp_recv.specs.inner.Giving.{sized, HasRoom, SameChunks, AreCounted, GivesDue, GivesNewest, GivesBy, lane_in};
+ghost use Rattle.sctp_recv.specs.inner.Giving.{sized, HasRoom, SameChunks, AreCounted, GivesDue, IsGivenSoFar, GivesNewest, GivesBy, lane_in};
 
 use crate::inbound::Inbound;
 use crate::message::{Message, message_of};
@@ -79,7 +79,15 @@ pub(crate) fn give_ordered<F: Framing>(inbound: &mut Inbound<F>, stream: u16, fl
     ensures { (kept : Kept) → lane.StandsFor F.format inbound.old.ordered (ordered_lane stream) kept → AreCounted kept → HasRoom inbound.old 0
         → GivesDue F.format stream floor kept inbound.old inbound.new result }
 {
-    let mut given: u32 = 0;
+    give_on(inbound, stream, floor, 0)
+}
+
+/// The same, where so many bytes were handed over before: it answers these, too.
+fn give_on<F: Framing>(inbound: &mut Inbound<F>, stream: u16, floor: u32, before: u32) -> u32
+    ensures { (start : _) (kept : Kept) → AreCounted kept → IsGivenSoFar F.format stream floor kept start inbound.old before
+        → GivesDue F.format stream floor kept start inbound.new result }
+{
+    let mut given = before;
     while let Some(whole) = inbound
         .ordered
         .take_lowest(inbound.next, inbound.next.max(floor))
@@ -96,7 +104,17 @@ pub(crate) fn give_ordered<F: Framing>(inbound: &mut Inbound<F>, stream: u16, fl
     given
 }
 
-/// Keeps an ordered chunk, and hands over what is then due. It answers the bytes handed over.
+/// Whether a number is the next one.
+fn is_next(number: Option<u32>, next: u32) -> bool
+    ensures { result ≡ true → number ≡ Some next }
+{
+    match number {
+        Some(number) => number == next,
+        None => false,
+    }
+}
+
+/// Keeps an ordered chunk, and hands over what is then due: one that is the next message alone goes first, and isn't filed. It answers the bytes handed over.
 ///
 /// # Errors
 /// Memory ran out, and nothing changed.
@@ -113,8 +131,18 @@ fn keep_ordered<F: Framing>(
     ensures refused { OnErr result ((stream_of inbound.new ≡ stream_of inbound.old) × SameChunks F.format inbound.old inbound.new) }
 {
     make_room(inbound, 1)?;
-    inbound.ordered.add(piece, index, number)?;
     let next = inbound.next;
+    if is_next(number, next) {
+        if let Some(whole) = inbound.ordered.alone(piece, index, next)? {
+            inbound.next = number_after(whole.number);
+            let bytes = wait(
+                &mut inbound.waiting,
+                message_of(whole, piece.stream, Kind::Ordered),
+            );
+            return Ok(give_on(inbound, piece.stream, next, bytes));
+        }
+    }
+    inbound.ordered.add(piece, index, number)?;
     Ok(give_ordered(inbound, piece.stream, next))
 }
 

@@ -47,6 +47,32 @@ pub record IsDueView (f : Format) (kept : List Piece) (s from floor : ℕ) (r : 
 abbrev pub IsDueFrom : Format → List Piece → (s from floor : ℕ) → List Handed → ℕ → Type 0
 IsDueFrom f kept s from floor ms m = (r : ReceiverView) → IsDueView f kept s from floor r → IsDue f r s from ms m
 
+-- from a number on, these are the chunks that were kept
+pub record IsRest (next : ℕ) (kept rest : List Piece) : Type 0 where
+  pub same : (k : ℕ) → next ≤ k → from_number k rest ≡ from_number k kept
+
+-- so far these messages are handed over, and the number has come to `next`
+abbrev pub IsDueSoFar : Format → List Piece → (s from floor next : ℕ) → List Handed → Type 0
+IsDueSoFar f kept s from floor next ms =
+    (r : ReceiverView) → IsDueView f kept s from floor r → (from ≤ next) × ((os : List Handed) (o : ℕ) → IsDue f r s next os o → IsDue f r s from (ms ++ os) o)
+
+-- What was handed over so far, and what is left then of the stream's ordered chunks.
+pub record IsHandedSoFar {F : Type 0} (f : Format) (s floor : ℕ) (kept : List Piece) (old now : Inbound F) (given : ℕ) (rest : List Piece) : Type 0 where
+  pub messages : List Handed
+  pub within : (x : Piece) → Has rest x → Has kept x
+  pub rests : IsRest now.next kept rest
+  pub due : IsDueSoFar f kept s old.next floor now.next messages
+  pub stream : stream_of now ≡ record (stream_of old) { next = now.next; waiting = (stream_of old).waiting ++ messages }
+  pub others : (l : Lane) (ks : List Piece) → lane.StandsFor f old.unordered l ks → lane.StandsFor f now.unordered l ks
+  pub bytes : given ≡ sized (size_of_messages messages)
+
+-- The same, where the ordered chunks kept are those, and there is room for what they may make.
+pub record IsGivenSoFar {F : Type 0} (f : Format) (s floor : ℕ) (kept : List Piece) (old now : Inbound F) (given : ℕ) : Type 0 where
+  pub rest : List Piece
+  pub handed : IsHandedSoFar f s floor kept old now given rest
+  pub left : lane.StandsFor f now.ordered (ordered_lane s) rest
+  pub room : HasRoom now 0
+
 -- What is due from the next number on waits for the user; the ordered chunks below the number that is waited for then are gone.
 pub record GivesDue {F : Type 0} (f : Format) (s floor : ℕ) (kept : List Piece) (old new : Inbound F) (given : ℕ) : Type 0 where
   pub messages : List Handed
