@@ -1,22 +1,28 @@
 -- What is counted of the entries above CUM, as one comes, goes or changes.
-use Rattle.std.proofs.Common.{◌≡◌, ℕ, suc, ◌+◌, ◌-◌, ◌%◌, ◌^◌, ◌<◌, ◌≤◌, min, List, [], ◌∷◌, ◌++◌, length, map, take, get_or, set, Option, None, sym, ap, ◌∙◌, subst, arith, length-append}
+use Rattle.std.proofs.Common.{◌≡◌, ℕ, suc, ◌+◌, ◌-◌, ◌%◌, ◌^◌, ◌<◌, ◌≤◌, min, List, [], ◌∷◌, ◌++◌, length, map, take, get_or, set, Bool, true, false, Option, None, refl, sym, ap, ◌∙◌, subst, arith, length-append}
+use Rattle.std.specs.Prelude.{not, ◌&&◌, if◌then◌else◌}
 use Rattle.std.specs.List.{sum_by}
 use Rattle.std.proofs.lemmas.List.{length-map, length-set, map-append, map-set}
 use Rattle.std.proofs.lemmas.List.Sums.{sum_by-cons, sum_by_push, sum_by-set}
 use Rattle.sctp_model.specs.messages.Plan.{Message}
+use Rattle.sctp_model.specs.numbers.Limits.{LAST_MOMENT}
 use Rattle.sctp_send.specs.SenderKept.{Item}
-use Rattle.sctp_send.specs.OutstandingFields.{item_meaning}
-use Rattle.sctp_send.specs.inner.Wishing.{first_place, is_item_marked, is_item_unsent, item_weight, item_flight}
+use Rattle.sctp_send.specs.OutstandingFields.{is_marked, item_meaning}
+use Rattle.sctp_send.specs.inner.Wishing.{first_place, is_item_marked, is_item_unsent, item_bytes, item_weight, item_flight}
 use Rattle.sctp_send.specs.inner.Walks.{abandoned_items, is_item_unsettled}
-use Rattle.sctp_send.specs.inner.Expiring.{item_message}
+use Rattle.sctp_send.specs.inner.Expiring.{item_message, item_messages}
+use Rattle.sctp_send.specs.inner.Changes.{unmarked, as_covered, as_uncovered}
+use Rattle.sctp_send.specs.inner.Newcomers.{one_if}
 use Rattle.sctp_send.specs.inner.Counting.{count_unsettled, entered, left, lowered, reached, AreWorth, IsCounted}
 use Rattle.sctp_send.specs.declared.counts.Counts.{Counts}
+use Rattle.sctp_send.specs.declared.entry.Standing.{Standing}
+use Rattle.sctp_send.specs.declared.entry.Standing.TheVariants.{Unsent, Sent, Marked}
 use Rattle.sctp_send.specs.declared.entry.Outstanding.{Outstanding}
 use Rattle.sctp_send.proofs.ItemLemmas.{item_read}
 use Rattle.sctp_send.proofs.WeightLemmas.{weight_small, one_small, flight_sum, unsettled_one, unsettled_sum}
 use Rattle.sctp_send.proofs.CursorLemmas.{lower_within, reach_within, none_reached, none_behind_first, none_cut, none_set}
-use Rattle.sctp_send.proofs.FrontLemmas.{front_pushed, front_cut}
-use Rattle.sctp_send.proofs.WorthLemmas.{messages_by, worth_push, worth_set}
+use Rattle.sctp_send.proofs.FrontLemmas.{front_pushed, front_cut, front_stays}
+use Rattle.sctp_send.proofs.WorthLemmas.{messages_by, worth_sooner, worth_push, worth_set}
 
 -- ---- sums modulo 2^64
 
@@ -127,6 +133,84 @@ counts_set size es at e new c front lt read h is =
       unsettled = rw more (sum_set unsettled_one count_unsettled unsettled_sum items at x y c.unsettled within there (one_small (is_item_unsettled x)) h.unsettled);
       earliest = worth_set (item_meaning size) item_message c.earliest at es new h.earliest;
       front = is;
+    }
+
+-- ---- an entry is told covered, or uncovered
+
+both_off : (a b : Bool) → (a && (b && false)) ≡ false
+both_off true true = refl
+both_off true false = refl
+both_off false b = refl
+
+-- what is covered has no weight
+covered_weight : (x : Item) → x.covered ≡ true → item_weight x ≡ 0
+covered_weight x on = ap (λ (b : Bool). if b then length (item_bytes x) else 0) off
+  where
+    off : (not x.marked && (x.sent && (not x.covered && not x.given_up))) ≡ false
+    off = rw on (both_off (not x.marked) x.sent)
+
+-- nor is it unsettled, or to go out
+covered_settled : (x : Item) → x.covered ≡ true → unsettled_one x ≡ 0
+covered_settled x on = ap one_if off
+  where
+    off : is_item_unsettled x ≡ false
+    off = rw on (both_off true x.sent)
+
+covered_waits : (x : Item) → x.covered ≡ true → is_item_unsent x ≡ false
+covered_waits x on = rw on (both_off true (not x.sent))
+
+never_marked : (s : Standing) → is_marked (unmarked s) ≡ false
+never_marked Unsent = refl
+never_marked Sent = refl
+never_marked Marked = refl
+
+pub counts_covered : (size : ℕ) (es : List Outstanding) (at : ℕ) (e : Outstanding) (c : Counts) → at < length es → e ≡ get_or es at e → c.earliest ≤ LAST_MOMENT → IsCounted size es c
+    → IsCounted size (set es at (as_covered e)) (left (item_meaning size e) c)
+counts_covered size es at e c lt read last h =
+    let x = item_meaning size e in
+    let y = item_meaning size (as_covered e) in
+    let items = map (item_meaning size) es in
+    let more : map (item_meaning size) (set es at (as_covered e)) ≡ set items at y = map-set (item_meaning size) es at (as_covered e) in
+    let long = length-set es at (as_covered e) in
+    let within : at < length items = omega (arith, length-map es (item_meaning size)) in
+    let there : x ≡ get_or items at x = sym (item_read size es at e read) in
+    let front : c.front ≡ abandoned_items (map (item_meaning size) (set es at (as_covered e))) = rw more (h.front ∙ sym (front_stays items at x y within there refl)) in
+    let all = counts_set size es at e (as_covered e) c c.front lt read h front in
+    record {
+      some = h.some;
+      small = h.small;
+      marked = subst (λ (b : Bool). first_place is_item_marked (take (if b then min c.marked at else c.marked) (map (item_meaning size) (set es at (as_covered e)))) ≡ None) (never_marked e.standing) all.marked;
+      marked_within = let le = h.marked_within in omega (arith, long, le);
+      unsent = subst (λ (b : Bool). first_place is_item_unsent (take (if b then min c.unsent at else c.unsent) (map (item_meaning size) (set es at (as_covered e)))) ≡ None) (covered_waits y refl) all.unsent;
+      unsent_within = let le = h.unsent_within in omega (arith, long, le);
+      flight = let is = all.flight in omega (arith, is, covered_weight y refl);
+      unsettled = let is = all.unsettled in omega (arith, is, covered_settled y refl);
+      earliest = worth_sooner c.earliest (min c.earliest LAST_MOMENT) (item_messages (map (item_meaning size) (set es at (as_covered e)))) (omega (arith, last)) all.earliest;
+      front = front;
+    }
+
+pub counts_uncovered : (size : ℕ) (es : List Outstanding) (at : ℕ) (e : Outstanding) (c : Counts) → at < length es → e ≡ get_or es at e → e.covered ≡ true → IsCounted size es c
+    → IsCounted size (set es at (as_uncovered e)) (lowered at (item_meaning size (as_uncovered e)) (entered (item_meaning size (as_uncovered e)) c))
+counts_uncovered size es at e c lt read on h =
+    let x = item_meaning size e in
+    let y = item_meaning size (as_uncovered e) in
+    let items = map (item_meaning size) es in
+    let more : map (item_meaning size) (set es at (as_uncovered e)) ≡ set items at y = map-set (item_meaning size) es at (as_uncovered e) in
+    let within : at < length items = omega (arith, length-map es (item_meaning size)) in
+    let there : x ≡ get_or items at x = sym (item_read size es at e read) in
+    let front : c.front ≡ abandoned_items (map (item_meaning size) (set es at (as_uncovered e))) = rw more (h.front ∙ sym (front_stays items at x y within there refl)) in
+    let all = counts_set size es at e (as_uncovered e) c c.front lt read h front in
+    record {
+      some = h.some;
+      small = h.small;
+      marked = all.marked;
+      marked_within = all.marked_within;
+      unsent = all.unsent;
+      unsent_within = all.unsent_within;
+      flight = let is = all.flight in omega (arith, is, covered_weight x on);
+      unsettled = let is = all.unsettled in omega (arith, is, covered_settled x on);
+      earliest = all.earliest;
+      front = front;
     }
 
 -- ---- a search went further

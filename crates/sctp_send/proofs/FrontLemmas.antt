@@ -106,6 +106,12 @@ set_there (x ∷ xs) (suc at) y is = by_test x.given_up refl (set_there xs at y)
     by_test true on rest = let before = rest (omega (arith, is, counts x xs on)) in omega (arith, before, counts x (set xs at y) on)
     by_test false off rest = absurd (omega (arith, is, ends x xs off))
 
+-- one that is given up as it was
+pub front_stays : (xs : List Item) (at : ℕ) (x y : Item) → at < length xs → x ≡ get_or xs at x → y.given_up ≡ x.given_up → abandoned_items (set xs at y) ≡ abandoned_items xs
+front_stays [] at x y lt read same = absurd (omega arith)
+front_stays (z ∷ zs) zero x y lt read same = ap (λ (b : Bool). if b then suc (abandoned_items zs) else 0) (same ∙ ap (λ (i : Item). i.given_up) read)
+front_stays (z ∷ zs) (suc at) x y lt read same = ap (λ (n : ℕ). if z.given_up then suc n else 0) (front_stays zs at x y (omega arith) read same)
+
 -- ---- what is read of entries
 
 -- whatever fragments are cut to

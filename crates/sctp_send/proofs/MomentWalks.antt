@@ -7,7 +7,7 @@ use Rattle.sctp_model.specs.numbers.Lists.{Has, AreInOrder}
 use Rattle.sctp_send.specs.OutstandingFields.{item_meaning, message_meaning}
 use Rattle.sctp_send.specs.WindowKept.{at_place}
 use Rattle.sctp_send.specs.inner.Bounding.{bound_at, bound_of, until_of, IsBounded, AreBounded}
-use Rattle.sctp_send.specs.inner.Changes.{given, unmarked}
+use Rattle.sctp_send.specs.inner.Changes.{given, unmarked, as_covered}
 use Rattle.sctp_send.specs.inner.Counting.{AreWorth, IsCounted, moment, moment_from}
 use Rattle.sctp_send.specs.inner.Expiring.{item_message, item_messages}
 use Rattle.sctp_send.specs.inner.TicketOrder.{offset_of, AreRising, IsOrderOf, IsPlaceOf, ArePassed, ticket_of, tickets_of}
@@ -138,6 +138,13 @@ bounded_placed f n bs cs es x bounded lower read here e there = elim (placed_has
 on_right : (b : Bool) → (b || true) ≡ false → true ≡ false
 on_right true is = is
 on_right false is = is
+
+-- one entry covered
+pub bounded_covered : (n : ℕ) (bs : List ℕ) (es : List Outstanding) → AreBounded bs es → AreBounded bs (at_place as_covered n es)
+bounded_covered n bs es bounded e there = elim (placed_has as_covered n es e there) [
+  | inl old ↦ bounded e old
+  | inr new ↦ subst (λ (z : Outstanding). IsBounded bs z) (sym new.2) (λ on. absurd (cc))
+]
 
 -- one entry given up
 pub bounded_given : (t n : ℕ) (bs : List ℕ) (es : List Outstanding) → AreBounded bs es → AreBounded bs (at_place (given t) n es)

@@ -5,10 +5,10 @@ ghost use Rattle.sctp_send.specs.WindowKept.{IsSameRoom};
 ghost use Rattle.sctp_model.specs.messages.Acknowledgement.{in_blocks};
 ghost use Rattle.sctp_send.specs.CoveredRuns.{in_runs, AreInOrder, HasPassed, HoldsBlocks};
 ghost use Rattle.sctp_send.specs.inner.Acknowledging.{block_fault};
-ghost use Rattle.sctp_send.specs.inner.Changes.{told, all_told, told_where, is_between, in_gaps, in_alone, IsExact};
+ghost use Rattle.sctp_send.specs.inner.Changes.{all_told, told_where, is_between, in_gaps, in_alone, IsExact};
 
 use crate::entry::CoveredRun;
-use crate::outstanding::{cover, remember, tell_one};
+use crate::outstanding::{cover, remember};
 use crate::window::Window;
 use sctp_wire::Blocks;
 use std::mem;
@@ -122,6 +122,6 @@ fn tell_run(outstanding: &mut Window, covered: bool, from: usize, to: usize)
     ensures kept { IsSameRoom outstanding.old outstanding.new }
 {
     for at in from..to {
-        tell_one(outstanding, at, covered);
+        outstanding.tell(at, covered);
     }
 }

@@ -3,33 +3,18 @@
 ghost use Rattle.std.specs.Prelude.{◌≡◌, ℕ, Bool, true, false, ◌<◌, ◌≤◌, ◌-◌, List, length, drop, None};
 ghost use Rattle.sctp_send.specs.WindowKept.{IsSameRoom, changed};
 ghost use Rattle.sctp_model.specs.messages.Acknowledgement.{in_blocks};
-ghost use Rattle.sctp_send.specs.inner.Changes.{told, all_told, or_run, timed, all_timed};
+ghost use Rattle.sctp_send.specs.inner.Changes.{all_told, or_run, timed, all_timed};
 ghost use Rattle.sctp_model.specs.sender.SackTaken.{some_is_bad};
 ghost use Rattle.sctp_send.specs.CoveredRuns.{run_behind, runs_behind, HoldsBlocks};
 ghost use Rattle.sctp_send.specs.inner.Acknowledging.{block_fault};
 ghost use Rattle.sctp_send.specs.declared.entry.Outstanding.{Outstanding};
 
-use crate::entry::{CoveredRun, RUNS, Standing, unmarked};
+use crate::entry::{CoveredRun, RUNS, Standing};
 use crate::message::{Message, lay_by};
 use crate::window::Window;
 use sctp_wire::Blocks;
 use std::alloc::Global;
 use std::rc::Rc;
-
-/// An entry is told covered, where there is nothing to repeat, or not.
-pub fn tell_one(outstanding: &mut Window, at: usize, covered: bool)
-    requires { at < length outstanding.old.items }
-    ensures { outstanding.new ≡ changed (told covered) at outstanding.old }
-{
-    let entry = outstanding.get(at);
-    let standing = if covered {
-        unmarked(entry.standing)
-    } else {
-        entry.standing
-    };
-    let given_up = entry.given_up;
-    outstanding.stand(at, standing, covered, given_up);
-}
 
 /// A run of entries is covered: those from the offset `from` up to before the offset `to`.
 fn cover_run(outstanding: &mut Window, from: usize, to: usize)
@@ -41,7 +26,7 @@ fn cover_run(outstanding: &mut Window, from: usize, to: usize)
         → outstanding.old.items ≡ all_told test 1 es → outstanding.new.items ≡ all_told (or_run test from to) 1 es }
 {
     for at in from..to {
-        tell_one(outstanding, at, true);
+        outstanding.tell(at, true);
     }
 }
 
@@ -51,7 +36,7 @@ fn uncover(outstanding: &mut Window)
     ensures kept { IsSameRoom outstanding.old outstanding.new }
 {
     for at in 0..outstanding.len() {
-        tell_one(outstanding, at, false);
+        outstanding.tell(at, false);
     }
 }
 

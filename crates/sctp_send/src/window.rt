@@ -3,12 +3,14 @@
 ghost use Rattle.std.specs.Prelude.{◌≡◌, ℕ, ◌+◌, ◌*◌, ◌-◌, ◌<◌, ◌≤◌, ◌%◌, ◌^◌, ◌++◌, ◌∷◌, [], take, drop, map, length, slice_index_or, OnOk, OnErr, IfSome};
 ghost use Rattle.sctp_send.specs.OutstandingFields.{item_meaning};
 ghost use Rattle.sctp_send.specs.WindowKept.{changed};
-ghost use Rattle.sctp_send.specs.inner.Changes.{stood};
+ghost use Rattle.sctp_send.specs.inner.Changes.{stood, told};
 ghost use Rattle.sctp_send.specs.inner.Walks.{abandoned_items, any_unsettled};
 ghost use Rattle.sctp_send.specs.inner.Wishing.{first_place, is_item_marked, is_item_unsent, item_flight};
 
 use crate::by_ticket::{ByTicket, MOST};
-use crate::counts::{Counts, bound_again, bound_new, front_behind, stand_one};
+use crate::counts::{
+    Counts, bound_again, bound_new, cover_one, front_behind, stand_one, uncover_one,
+};
 use crate::entry::{Outstanding, Standing};
 use crate::message::Message;
 use crate::wishes::{is_first_sending, is_repeat};
@@ -242,5 +244,23 @@ impl Window {
             given_up,
         );
         bound_again(&mut self.bounds, &self.entries[at]);
+    }
+
+    /// The entry at an offset is told covered, where there is nothing to repeat, or not.
+    pub fn tell(&mut self, at: usize, covered: bool)
+        requires { at < length self.old.items }
+        ensures { self.new ≡ changed (told covered) at self.old }
+    {
+        if covered {
+            cover_one(&mut self.entries, &mut self.counts, self.size, at);
+            return;
+        }
+        uncover_one(
+            &mut self.entries,
+            &mut self.counts,
+            &mut self.bounds,
+            self.size,
+            at,
+        );
     }
 }

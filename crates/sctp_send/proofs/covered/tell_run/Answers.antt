@@ -11,7 +11,7 @@ pub loop-at-preserved : goal.loop-at-preserved
 loop-at-preserved c =
     let before = c.loop-at.invariant in
     let now = c.loop-at.outstanding.items in
-    rw c.tell_one.ensures (record {
+    rw c.tell.ensures (record {
       items = run_step c.args.covered c.args.from c.loop-at.at c.args.outstanding.now.items now (omega arith) (omega (arith, before.count)) before.items;
       count = count_placed (told c.args.covered) c.loop-at.at now ∙ before.count;
       room = record { size = before.room.size; capacity = before.room.capacity };

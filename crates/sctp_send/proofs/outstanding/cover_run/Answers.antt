@@ -8,7 +8,7 @@ pub loop-at-preserved : goal.loop-at-preserved
 loop-at-preserved c =
     let before = c.loop-at.invariant in
     let now = c.loop-at.outstanding.items in
-    rw c.tell_one.ensures (record {
+    rw c.tell.ensures (record {
       count = count_placed as_covered c.loop-at.at now ∙ before.count;
       room = record { size = before.room.size; capacity = before.room.capacity };
       run = λ test es is. run_grows test c.args.from c.loop-at.at es now (omega arith) (omega (arith, before.count)) (before.run test es is);

@@ -4,13 +4,13 @@ use Rattle.sctp_send.proofs.ItemLemmas.{change_step, change_long, first_changed-
 use Rattle.sctp_send.proofs.CoverLemmas.{none_told}
 use Rattle.sctp_send.proofs.outstanding.uncover.Goals as goal
 
-pub tell_one-requires : goal.tell_one-requires
-tell_one-requires c = omega (arith, change_long as_uncovered c.loop-at.at c.args.outstanding.now.items c.loop-at.outstanding.items c.loop-at.invariant.items)
+pub tell-requires : goal.tell-requires
+tell-requires c = omega (arith, change_long as_uncovered c.loop-at.at c.args.outstanding.now.items c.loop-at.outstanding.items c.loop-at.invariant.items)
 
 pub loop-at-preserved : goal.loop-at-preserved
 loop-at-preserved c =
     let before = c.loop-at.invariant in
-    rw c.tell_one.ensures (record {
+    rw c.tell.ensures (record {
       items = change_step as_uncovered c.loop-at.at c.args.outstanding.now.items c.loop-at.outstanding.items before.items;
       room = record { size = before.room.size; capacity = before.room.capacity };
     })

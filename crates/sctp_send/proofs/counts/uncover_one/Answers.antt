@@ -1,0 +1,40 @@
+use Rattle.std.proofs.Common.{◌≡◌, ◌<◌, List, length, get_or, set, Some, Bool, refl, sym, subst, ap, arith}
+use Rattle.std.proofs.lemmas.List.{length-set, get_or-set_same}
+use Rattle.std.specs.Prelude.{slice_get}
+use Rattle.sctp_send.specs.inner.Bounding.{AreBounded}
+use Rattle.sctp_send.specs.inner.Changes.{as_uncovered}
+use Rattle.sctp_send.specs.WindowKept.{at_place}
+use Rattle.sctp_send.specs.declared.entry.Outstanding.{Outstanding}
+use Rattle.sctp_send.proofs.CountLemmas.{counts_uncovered}
+use Rattle.sctp_send.proofs.PlacedLemmas.{placed_set}
+use Rattle.sctp_send.proofs.TicketWalks.{get_read}
+use Rattle.sctp_send.proofs.MomentWalks.{bounded_placed}
+use Rattle.sctp_send.proofs.counts.uncover_one.Goals as goal
+
+pub returns-clause-items : goal.returns-clause-items
+returns-clause-items c =
+    let es = c.args.entries.now.items in
+    rw (placed_set as_uncovered c.args.at es c.index_mut-entry.result.now c.requires.within c.index_mut-entry.ensures.value) refl
+
+pub returns-clause-counted : goal.returns-clause-counted
+returns-clause-counted c =
+    rw (c.lower.ensures c.args.size, c.enter.ensures) (counts_uncovered c.args.size c.args.entries.now.items c.args.at c.index_mut-entry.result.now c.args.counts.now c.requires.within c.index_mut-entry.ensures.value (cc) c.requires.counted)
+
+pub returns-then-not-entry-clause-items : goal.returns-then-not-entry-clause-items
+returns-then-not-entry-clause-items c =
+    let es = c.args.entries.now.items in
+    let x = c.index_mut-entry.result.now in
+    let same : as_uncovered x ≡ x = ap (λ (b : Bool). record x { covered = b }) (sym c.if-not-entry.true) in
+    subst (λ (y : Outstanding). set es c.args.at y ≡ at_place as_uncovered c.args.at es) same (sym (placed_set as_uncovered c.args.at es x c.requires.within c.index_mut-entry.ensures.value))
+
+pub returns-clause-bounded : goal.returns-clause-bounded
+returns-clause-bounded c = λ bounded.
+    let es = c.args.entries.now.items in
+    let x = c.index_mut-entry.result.now in
+    let long : length (set es c.args.at (as_uncovered x)) ≡ length es = length-set es c.args.at (as_uncovered x) in
+    let is = placed_set as_uncovered c.args.at es x c.requires.within c.index_mut-entry.ensures.value in
+    let lt : c.args.at < length (set es c.args.at (as_uncovered x)) = omega (arith, long, c.requires.within) in
+    let read : as_uncovered x ≡ get_or (set es c.args.at (as_uncovered x)) c.args.at (as_uncovered x) = sym (get_or-set_same es c.args.at (as_uncovered x) (as_uncovered x) c.requires.within) in
+    let there = subst (λ (xs : List Outstanding). slice_get xs c.args.at ≡ Some (as_uncovered x)) (sym is) (get_read (set es c.args.at (as_uncovered x)) c.args.at (as_uncovered x) lt read) in
+    subst (λ (xs : List Outstanding). AreBounded c.bound_again.new.bounds.items xs) is
+    (bounded_placed as_uncovered c.args.at c.args.bounds.now.items c.bound_again.new.bounds.items es (as_uncovered x) bounded c.bound_again.ensures.others there c.bound_again.ensures.here)
