@@ -1,11 +1,11 @@
 -- A fragment is filed among chains as they lie in memory.
 use Rattle.std.proofs.Common.{◌≡◌, ℕ, ◌<◌, ◌≤◌, List, ◌∷◌, ◌++◌, length, get_or, set, take, drop, map, Some, None, refl, sym, ◌∙◌, ap, subst, arith}
-use Rattle.std.specs.List.{insert, remove}
+use Rattle.std.specs.List.{insert}
 use Rattle.sctp_chains.specs.Links.{ChainKept, chain_of, one_of, join, IsChain, AreChains}
 use Rattle.sctp_chains.specs.declared.chain.Chain.{Chain}
 use Rattle.sctp_chains.specs.declared.chain.Part.{Part}
 use Rattle.sctp_chains.specs.inner.Filing.{IsPlace, IsLinkBefore, IsLinkBehind, IsJoined, Gains}
-use Rattle.sctp_chains.proofs.MemoryLemmas.{at_kept, same_at, length_kept, set_kept, remove_kept, insert_kept, earlier_at, set_earlier}
+use Rattle.sctp_chains.proofs.MemoryLemmas.{at_kept, length_kept, set_kept, insert_kept}
 use Rattle.sctp_chains.proofs.ListLemmas.{at_same}
 use Rattle.sctp_chains.proofs.FilingLemmas.{files_alone, files_back, files_front, files_both}
 
@@ -43,25 +43,3 @@ module _ (cs : List Chain) (k : ℕ) (p : Part) (le : k ≤ length cs) (place : 
       let at : c ≡ get_or kept i c = at_same kept i (one_of p) c before.1 in
       let also : d ≡ get_or kept j d = at_same kept j (one_of p) d behind.1 in
       subst (Gains (one_of p) kept) (sym (joined c d at also)) (files_both kept k (one_of p) within (one_own p) refl place i j c d at also before behind)
-
--- ---- one chain of two, and the fragment between them
-
-pub joined_up : (cs mid new : List Chain) (i j : ℕ) (p : Part) (z w r : Chain) → i < j → j < length mid → map chain_of mid ≡ map chain_of cs →
-    r ≡ get_or mid j r → new ≡ remove mid j → w ≡ get_or new i w → chain_of z ≡ join (join (chain_of w) (one_of p)) (chain_of r) →
-    IsJoined (map chain_of cs) i (one_of p) j (map chain_of (set new i z))
-joined_up cs mid new i j p z w r order less same taken left again is c d here there =
-    set_kept new i z ∙ ap (λ (xs : List Chain). set (map chain_of xs) i (chain_of z)) left
-    ∙ ap (λ (xs : List ChainKept). set xs i (chain_of z)) (remove_kept mid j ∙ ap (λ (xs : List ChainKept). remove xs j) same)
-    ∙ set_earlier (map chain_of cs) i j (chain_of z) order ∙ ap (λ (m : ChainKept). remove (set (map chain_of cs) i m) j) all
-  where
-    kept : w ≡ get_or mid i w
-    kept = again ∙ ap (λ (xs : List Chain). get_or xs i w) left ∙ earlier_at mid i j w order less
-
-    first : chain_of w ≡ c
-    first = same_at mid i i w c refl (let o = order in let l = less in omega (arith, o, l)) kept (here ∙ sym (ap (λ (xs : List ChainKept). get_or xs i c) same))
-
-    second : chain_of r ≡ d
-    second = same_at mid j j r d refl less taken (there ∙ sym (ap (λ (xs : List ChainKept). get_or xs j d) same))
-
-    all : chain_of z ≡ join (join c (one_of p)) d
-    all = is ∙ ap (λ (v : ChainKept). join (join v (one_of p)) (chain_of r)) first ∙ ap (join (join c (one_of p))) second

@@ -1,6 +1,7 @@
 mod ListLemmas
 mod SameLemmas
 mod MemoryLemmas
+mod LiftedLemmas
 mod CellLemmas
 mod ChainLemmas
 mod SpotLemmas

@@ -91,13 +91,7 @@ one_shorter (c ∷ cs) (suc i) less = ap suc (one_shorter cs i (omega (arith, le
 
 -- ---- a chain is taken out, and an earlier one changes
 
-pub earlier_at : (cs : List Chain) (i j : ℕ) (d : Chain) → i < j → j < length cs → get_or (remove cs j) i d ≡ get_or cs i d
-earlier_at [] i j d order less = absurd (omega (arith, less))
-earlier_at (c ∷ cs) i zero d order less = absurd (omega (arith, order))
-earlier_at (c ∷ cs) zero (suc j) d order less = refl
-earlier_at (c ∷ cs) (suc i) (suc j) d order less = earlier_at cs i j d (omega (arith, order)) (omega (arith, less))
-
-pub set_earlier : (cs : List ChainKept) (i j : ℕ) (z : ChainKept) → i < j → set (remove cs j) i z ≡ remove (set cs i z) j
+pub set_earlier : {X : Type 0} (cs : List X) (i j : ℕ) (z : X) → i < j → set (remove cs j) i z ≡ remove (set cs i z) j
 set_earlier [] i j z order = nothing i j
   where
     nothing : (a b : ℕ) → set (remove [] b) a z ≡ remove [] b
@@ -105,4 +99,4 @@ set_earlier [] i j z order = nothing i j
     nothing a (suc b) = refl
 set_earlier (c ∷ cs) i zero z order = absurd (omega (arith, order))
 set_earlier (c ∷ cs) zero (suc j) z order = refl
-set_earlier (c ∷ cs) (suc i) (suc j) z order = ap (λ (xs : List ChainKept). c ∷ xs) (set_earlier cs i j z (omega (arith, order)))
+set_earlier (c ∷ cs) (suc i) (suc j) z order = ap (λ (xs : List _). c ∷ xs) (set_earlier cs i j z (omega (arith, order)))

@@ -7,8 +7,9 @@ use Rattle.std.proofs.lemmas.List.{length-set}
 use Rattle.sctp_chains.specs.Links.{ChainKept, chain_of, one_of, is_whole, one_if_whole, join}
 use Rattle.sctp_chains.specs.declared.chain.Chain.{Chain}
 use Rattle.sctp_chains.specs.declared.chain.Part.{Part}
-use Rattle.sctp_chains.specs.inner.Filing.{IsJoined, StaysOpen}
+use Rattle.sctp_chains.specs.inner.Filing.{IsJoined, IsWholeOfJoined, StaysOpen}
 use Rattle.sctp_chains.specs.inner.Finding.{AreOpen}
+use Rattle.sctp_chains.proofs.ListLemmas.{at_same}
 use Rattle.sctp_chains.proofs.MemoryLemmas.{at_kept, length_kept, set_kept, insert_kept, remove_kept}
 
 -- ---- a number of them
@@ -127,22 +128,33 @@ one_fewer [] r less = absurd (omega (arith, less))
 one_fewer (c ∷ cs) zero less = refl
 one_fewer (c ∷ cs) (suc r) less = ap suc (one_fewer cs r (omega (arith, less)))
 
-pub kept_both : (cs new : List Chain) (i r : ℕ) (p : Part) (x z : Chain) (n : ℕ) → i < r → r < length cs → x ≡ get_or cs i x → z ≡ get_or cs r z →
-    IsJoined (map chain_of cs) i (one_of p) r (map chain_of new) → n ≡ one_if_whole (join (join (chain_of x) (one_of p)) (chain_of z)) → StaysOpen (map chain_of cs) (map chain_of new) i n
-kept_both cs new i r p x z n order high at also joined is = stays_both old (map chain_of new) i r y n order size made is
+pub kept_both : (cs new : List Chain) (i r : ℕ) (p : Part) (n : ℕ) → i < r → r < length (map chain_of cs) →
+    IsJoined (map chain_of cs) i (one_of p) r (map chain_of new) → IsWholeOfJoined (map chain_of cs) i (one_of p) r n → StaysOpen (map chain_of cs) (map chain_of new) i n
+kept_both cs new i r p n order high joined whole = stays_both old (map chain_of new) i r y n order size made (whole c d c_at d_at)
   where
     old : List ChainKept
     old = map chain_of cs
 
+    c : ChainKept
+    c = get_or old i (one_of p)
+
+    d : ChainKept
+    d = get_or old r (one_of p)
+
+    c_at : c ≡ get_or old i c
+    c_at = at_same old i (one_of p) c (let o = order in let h = high in omega (arith, o, h))
+
+    d_at : d ≡ get_or old r d
+    d_at = at_same old r (one_of p) d high
+
     y : ChainKept
-    y = join (join (chain_of x) (one_of p)) (chain_of z)
+    y = join (join c (one_of p)) d
 
     made : map chain_of new ≡ remove (set old i y) r
-    made = joined (chain_of x) (chain_of z) (sym (at_kept cs i x (let o = order in let h = high in omega (arith, o, h)) at (chain_of x))) (sym (at_kept cs r z high also (chain_of z)))
+    made = joined c d c_at d_at
 
     size : suc (length (map chain_of new)) ≡ length old
-    size = ap (λ (ks : List ChainKept). suc (length ks)) made
-        ∙ one_fewer (set old i y) r (let same = length-set old i y in let count = length_kept cs in let h = high in omega (arith, same, count, h)) ∙ length-set old i y
+    size = ap (λ (ks : List ChainKept). suc (length ks)) made ∙ one_fewer (set old i y) r (let same = length-set old i y in let h = high in omega (arith, same, h)) ∙ length-set old i y
 
 pub kept_removed : (cs new : List Chain) (i k : ℕ) → new ≡ remove cs i → AreOpen k (map chain_of cs) → AreOpen (k - 1) (map chain_of new)
 kept_removed cs new i k made h = subst (AreOpen (k - 1)) (sym (ap (map chain_of) made ∙ remove_kept cs i)) (open_removed k (k - 1) i (map chain_of cs) h (omega arith))

@@ -10,8 +10,9 @@ use Rattle.sctp_chains.specs.Links.{ChainKept, chain_of, one_of, join, is_linked
 use Rattle.sctp_chains.specs.declared.chain.Chain.{Chain}
 use Rattle.sctp_chains.specs.declared.chain.Head.{Head}
 use Rattle.sctp_chains.specs.declared.chain.Part.{Part}
-use Rattle.sctp_chains.specs.inner.Filing.{IsJoined}
-use Rattle.sctp_chains.proofs.MemoryLemmas.{at_kept, length_kept}
+use Rattle.sctp_chains.specs.inner.Filing.{IsJoined, IsWholeOfJoined}
+use Rattle.sctp_chains.proofs.ListLemmas.{at_same}
+use Rattle.sctp_chains.proofs.MemoryLemmas.{at_kept}
 use Rattle.sctp_chains.proofs.SameLemmas.{total_map}
 
 -- ---- weights
@@ -129,17 +130,20 @@ pub counted_alone : (cs new : List Chain) (k : ℕ) (x : Chain) (n : ℕ) → ne
 counted_alone cs new k x n made is = let step = whole_insert cs k x in let same = ap (λ (xs : List Chain). whole_in (map chain_of xs)) made in omega (arith, step, same, is)
 
 -- two chains with the fragment between them
-pub counted_both : (cs new : List Chain) (i j : ℕ) (p : Part) (x r : Chain) (n : ℕ) → i < length cs → j < length cs → x ≡ get_or cs i x → r ≡ get_or cs j r →
+pub counted_both : (cs new : List Chain) (i j : ℕ) (p : Part) (n : ℕ) → i < length (map chain_of cs) → j < length (map chain_of cs) →
     ((c : ChainKept) → c ≡ get_or (map chain_of cs) i c → is_linked c (one_of p) ≡ true) → IsJoined (map chain_of cs) i (one_of p) j (map chain_of new) →
-    n ≡ one_if_whole (join (join (chain_of x) (one_of p)) (chain_of r)) → whole_in (map chain_of new) ≤ whole_in (map chain_of cs) + n
-counted_both cs new i j p x r n low high at also linked joined is =
+    IsWholeOfJoined (map chain_of cs) i (one_of p) j n → whole_in (map chain_of new) ≤ whole_in (map chain_of cs) + n
+counted_both cs new i j p n low high linked joined whole =
     let old = map chain_of cs in
     let a = one_of p in
-    let c_at = sym (at_kept cs i x low at (chain_of x)) in
-    let d_at = sym (at_kept cs j r high also (chain_of r)) in
-    let z = join (join (chain_of x) a) (chain_of r) in
-    let none = one_of_none (chain_of x) (linked_open (chain_of x) a (linked (chain_of x) c_at)) in
-    let step = weight_set one_if_whole old i (chain_of x) z (let m = length_kept cs in omega (arith, low, m)) c_at in
+    let c = get_or old i a in
+    let d = get_or old j a in
+    let c_at = at_same old i a c low in
+    let d_at = at_same old j a d high in
+    let z = join (join c a) d in
+    let none = one_of_none c (linked_open c a (linked c c_at)) in
+    let step = weight_set one_if_whole old i c z low c_at in
     let fewer = weight_less one_if_whole (set old i z) j in
-    let same = ap whole_in (joined (chain_of x) (chain_of r) c_at d_at) in
+    let same = ap whole_in (joined c d c_at d_at) in
+    let is = whole c d c_at d_at in
     omega (arith, none, step, fewer, same, is)

@@ -124,6 +124,17 @@ pub(crate) fn one_if(ends: bool, begins: bool) -> usize
     if ends && begins { 1 } else { 0 }
 }
 
+/// No chain: it stands where one was taken out that is put back. It takes no memory.
+pub(crate) fn nothing(alloc: Global) -> Chain {
+    Chain {
+        first: 0,
+        last: 0,
+        head: None,
+        ends: false,
+        parts: VecDeque::new(alloc),
+    }
+}
+
 /// A chain of one fragment.
 ///
 /// # Errors

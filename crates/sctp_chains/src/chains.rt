@@ -68,7 +68,7 @@ impl<F: Framing> Chains<F> {
         if self.filed.chains.len() == 0 {
             return None;
         }
-        Some((self.filed.chains[0].first % 4_294_967_296) as u32)
+        Some((self.filed.chains.get(0).first % 4_294_967_296) as u32)
     }
 
     /// Whether this fragment of this message is kept already, where that can be: under DATA a fragment is its TSN.
@@ -81,7 +81,7 @@ impl<F: Framing> Chains<F> {
         }
         let rank = rank_at(number, F::place(0, piece.begin, piece.word));
         let at = place(&self.filed.chains, rank);
-        at < self.filed.chains.len() && self.filed.chains[at].first <= rank
+        at < self.filed.chains.len() && self.filed.chains.get(at).first <= rank
     }
 
     /// Keeps a chunk, with this index and number in place of its wire values. Its data is copied.
@@ -137,7 +137,8 @@ impl<F: Framing> Chains<F> {
     fn is_above(&self, number: u32) -> bool
         ensures { (l : Lane) (kept : Kept) → StandsFor F.format self.now l kept → is_numbered F.format l.kind ≡ true → result ≡ true → AreAbove number kept }
     {
-        self.filed.chains.is_empty() || rank_at(Some(number), u32::MAX) < self.filed.chains[0].first
+        self.filed.chains.is_empty()
+            || rank_at(Some(number), u32::MAX) < self.filed.chains.get(0).first
     }
 
     /// Takes the whole message with the lowest number within these bounds, and lets go of all chunks up to its number. Of several with one

@@ -1,18 +1,17 @@
 //! A chain taken out of a queue: at an end, no other moves. Nothing here knows what a chain is.
 
-ghost use Rattle.std.specs.Prelude.{◌≡◌, ◌<◌, ◌↔◌, slice_index_or, IfNone, IfSome, IsSome, OnSome};
+ghost use Rattle.std.specs.Prelude.{◌≡◌, ◌<◌, ◌↔◌, length, slice_index_or, IfNone, IfSome, IsSome, OnSome};
 ghost use Rattle.std.specs.List.{remove};
-ghost use Rattle.std.specs.VecDeque.{deque_len};
 
 use crate::chain::Chain;
-use std::collections::VecDeque;
+use sctp_sequence::Sequence;
 
 /// Takes out the chain at a place.
-pub(crate) fn remove_at(chains: &mut VecDeque<Chain>, at: usize) -> Option<Chain>
+pub(crate) fn remove_at(chains: &mut Sequence<Chain>, at: usize) -> Option<Chain>
     ensures value { IfSome result (λ c. c ≡ slice_index_or chains.old.items at c) }
     ensures items { OnSome result (chains.new.items ≡ remove chains.old.items at) }
     ensures unchanged { IfNone result (chains.new.items ≡ chains.old.items) }
-    ensures variant { IsSome result ↔ (at < deque_len chains.old) }
+    ensures variant { IsSome result ↔ (at < length chains.old.items) }
 {
     if at == 0 {
         return chains.pop_front();

@@ -10,14 +10,14 @@ use crate::chain::{Chain, Part};
 use crate::filing::file;
 use crate::letting_go::{drop_upto, remove};
 use crate::search::{Found, Looked, first_whole};
+use sctp_sequence::Sequence;
 use sctp_values::NoMemory;
 use std::alloc::Global;
-use std::collections::VecDeque;
 
 /// Chains in rising order. So long as none can be whole, nobody needs to look for one that is.
 #[derive(Drop)]
 pub(crate) struct Filed {
-    pub(crate) chains: VecDeque<Chain>,
+    pub(crate) chains: Sequence<Chain>,
     /// How many became whole messages and weren't taken out one by one: at least as many as are whole.
     pub(crate) whole: usize,
     /// So many at the front are known not to be whole, so that a search begins behind them.
@@ -32,7 +32,7 @@ impl Filed {
         ensures { result.chains.items ≡ [] }
     {
         Filed {
-            chains: VecDeque::new(alloc),
+            chains: Sequence::new(alloc),
             whole: 0,
             passed: 0,
         }
@@ -83,7 +83,7 @@ impl Filed {
         if at >= before {
             return held;
         }
-        if self.chains[at].first > upto {
+        if self.chains.get(at).first > upto {
             return held;
         }
         let left = drop_upto(&mut self.chains, held, at, upto);

@@ -2,15 +2,15 @@
 
 ghost use Rattle.std.specs.Prelude.{◌≡◌, ◌≤◌, ◌<◌, ◌+◌, suc, nat_lt, length, get_or, map, OnOk, OnErr, IfOk};
 ghost use Rattle.sctp_chains.specs.Links.{chain_of, one_of, whole_in, AreChains};
-ghost use Rattle.sctp_chains.specs.inner.Filing.{IsPlace, IsLinkBefore, IsLinkBehind, IsJoined, HasJointRoom, Gains, StaysOpen};
+ghost use Rattle.sctp_chains.specs.inner.Filing.{IsPlace, IsLinkBefore, IsLinkBehind, IsJoined, IsWholeOfJoined, HasJointRoom, Gains, StaysOpen};
 
-use crate::chain::{Chain, Part, alone, one_if};
-use sctp_values::{NoMemory, put_at};
+use crate::chain::{Chain, Part, alone, nothing};
+use sctp_sequence::Sequence;
+use sctp_values::NoMemory;
 use std::alloc::Global;
-use std::collections::VecDeque;
 
 /// How many chains lie below a rank.
-pub(crate) fn place(chains: &VecDeque<Chain>, rank: u64) -> usize
+pub(crate) fn place(chains: &Sequence<Chain>, rank: u64) -> usize
     ensures bound { result ≤ length chains.now.items }
     ensures place { AreChains (map chain_of chains.now.items) → IsPlace rank (map chain_of chains.now.items) result }
 {
@@ -22,21 +22,21 @@ pub(crate) fn place(chains: &VecDeque<Chain>, rank: u64) -> usize
 }
 
 /// The chain before a place that a fragment continues.
-fn linked_before(chains: &VecDeque<Chain>, at: usize, part: &Part) -> Option<usize>
+fn linked_before(chains: &Sequence<Chain>, at: usize, part: &Part) -> Option<usize>
     ensures { at ≤ length chains.now.items → IsLinkBefore (map chain_of chains.now.items) at (one_of part.now) result }
 {
     let before = at.checked_sub(1)?;
-    if before < chains.len() && part.continues(&chains[before]) {
+    if before < chains.len() && part.continues(chains.get(before)) {
         return Some(before);
     }
     None
 }
 
 /// The chain at a place, if it continues a fragment.
-fn linked_behind(chains: &VecDeque<Chain>, at: usize, part: &Part) -> Option<usize>
+fn linked_behind(chains: &Sequence<Chain>, at: usize, part: &Part) -> Option<usize>
     ensures { IsLinkBehind (map chain_of chains.now.items) at (one_of part.now) result }
 {
-    if at < chains.len() && chains[at].continues(part) {
+    if at < chains.len() && chains.get(at).continues(part) {
         return Some(at);
     }
     None
@@ -57,7 +57,7 @@ pub(crate) struct FiledIn {
 /// Memory ran out, and nothing changed.
 pub(crate) fn file(
     alloc: Global,
-    chains: &mut VecDeque<Chain>,
+    chains: &mut Sequence<Chain>,
     part: Part,
 ) -> Result<FiledIn, NoMemory>
     ensures few { OnOk result (length chains.new.items ≤ suc (length chains.old.items)) }
@@ -73,28 +73,29 @@ pub(crate) fn file(
         linked_behind(chains, at, &part),
     ) {
         (Some(left), Some(right)) => {
-            let ends = chains[right].ends;
-            let begins = chains[left].head.is_some();
-            let whole = one_if(ends, begins);
-            join_all(chains, left, part, right)?;
+            let whole = join_all(alloc, chains, left, part, right)?;
             Ok(FiledIn { at: left, whole })
         }
         (Some(left), None) => {
-            let chain = &mut chains[left];
-            chain.push_back(part)?;
+            let mut chain = chains.replace(left, nothing(alloc));
+            let pushed = chain.push_back(part);
             let whole = chain.whole();
+            let _ = chains.replace(left, chain);
+            pushed?;
             Ok(FiledIn { at: left, whole })
         }
         (None, Some(right)) => {
-            let chain = &mut chains[right];
-            chain.push_front(part)?;
+            let mut chain = chains.replace(right, nothing(alloc));
+            let pushed = chain.push_front(part);
             let whole = chain.whole();
+            let _ = chains.replace(right, chain);
+            pushed?;
             Ok(FiledIn { at: right, whole })
         }
         (None, None) => {
             let chain = alone(alloc, part)?;
             let whole = chain.whole();
-            put_at(chains, at, chain)?;
+            chains.insert(at, chain)?;
             Ok(FiledIn { at, whole })
         }
     }
@@ -104,39 +105,47 @@ pub(crate) fn file(
 ///
 /// # Errors
 /// Memory ran out.
-fn make_joint_room(chains: &mut VecDeque<Chain>, left: usize, right: usize) -> Result<(), NoMemory>
-    requires order { left < right }
-    requires within { right < length chains.old.items }
-    ensures same { map chain_of chains.new.items ≡ map chain_of chains.old.items }
-    ensures room { OnOk result ((c d : Chain) → c ≡ get_or chains.new.items left c → d ≡ get_or chains.new.items right d → HasJointRoom c d) }
+fn make_joint_room(left: &mut Chain, right: &mut Chain) -> Result<(), NoMemory>
+    ensures left { chain_of left.new ≡ chain_of left.old }
+    ensures right { chain_of right.new ≡ chain_of right.old }
+    ensures room { OnOk result (HasJointRoom left.new right.new) }
 {
-    let before = chains[left].parts.len();
-    let behind = chains[right].parts.len();
+    let before = left.parts.len();
+    let behind = right.parts.len();
     if before < behind {
-        return chains[right].reserve(before.saturating_add(1));
+        return right.reserve(before.saturating_add(1));
     }
-    chains[left].reserve(behind.saturating_add(1))
+    left.reserve(behind.saturating_add(1))
 }
 
-/// Makes one chain of a chain, a fragment behind it, and the chain behind that.
+/// Makes one chain of a chain, a fragment behind it, and the chain behind that; it answers 1 where that is a whole message, else 0.
 ///
 /// # Errors
 /// Memory ran out, and nothing changed.
 fn join_all(
-    chains: &mut VecDeque<Chain>,
+    alloc: Global,
+    chains: &mut Sequence<Chain>,
     left: usize,
     part: Part,
     right: usize,
-) -> Result<(), NoMemory>
+) -> Result<usize, NoMemory>
     requires order { left < right }
     requires within { right < length chains.old.items }
     ensures few { OnOk result (length chains.new.items ≤ suc (length chains.old.items)) }
     ensures joined { OnOk result (IsJoined (map chain_of chains.old.items) left (one_of part) right (map chain_of chains.new.items)) }
+    ensures whole { IfOk result (λ w. IsWholeOfJoined (map chain_of chains.old.items) left (one_of part) right w) }
     ensures refused { OnErr result (map chain_of chains.new.items ≡ map chain_of chains.old.items) }
 {
-    make_joint_room(chains, left, right)?;
-    if let Some(chain) = chains.remove(right) {
-        chains[left].close_gap(part, chain);
+    let mut high = chains.replace(right, nothing(alloc));
+    let mut low = chains.replace(left, nothing(alloc));
+    if make_joint_room(&mut low, &mut high).is_err() {
+        let _ = chains.replace(left, low);
+        let _ = chains.replace(right, high);
+        return Err(NoMemory);
     }
-    Ok(())
+    low.close_gap(part, high);
+    let whole = low.whole();
+    let _ = chains.remove(right);
+    let _ = chains.replace(left, low);
+    Ok(whole)
 }

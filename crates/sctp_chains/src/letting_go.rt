@@ -5,8 +5,9 @@ ghost use Rattle.sctp_chains.specs.Links.{chain_of, bytes_of, one_if_whole, whol
 ghost use Rattle.sctp_chains.specs.inner.Finding.{AreOpen};
 ghost use Rattle.sctp_chains.specs.inner.LettingGo.{size_of_parts, LetsGo, Removes, Trims};
 
-use crate::chain::Chain;
+use crate::chain::{Chain, nothing};
 use crate::ends::remove_at;
+use sctp_sequence::Sequence;
 use std::collections::VecDeque;
 
 /// A number less the bytes of a part, 0 where it has more.
@@ -40,7 +41,7 @@ fn less_all(held: u32, parts: &VecDeque<Vec<u8>>) -> u32
 
 /// Takes out the chain at a place.
 #[inline(always)]
-pub(crate) fn remove(chains: &mut VecDeque<Chain>, held: &mut u32, at: usize) -> Option<Chain>
+pub(crate) fn remove(chains: &mut Sequence<Chain>, held: &mut u32, at: usize) -> Option<Chain>
     ensures fewer { OnSome result (suc (length chains.new.items) ≡ length chains.old.items) }
     ensures unchanged { IfNone result (map chain_of chains.new.items ≡ map chain_of chains.old.items) }
     ensures whole { IfSome result (λ c. whole_in (map chain_of chains.new.items) + one_if_whole (chain_of c) ≡ whole_in (map chain_of chains.old.items)) }
@@ -53,20 +54,23 @@ pub(crate) fn remove(chains: &mut VecDeque<Chain>, held: &mut u32, at: usize) ->
 }
 
 /// From a place on, lets go of all fragments of ranks up to this one.
-pub(crate) fn drop_upto(chains: &mut VecDeque<Chain>, held: u32, at: usize, upto: u64) -> u32
+pub(crate) fn drop_upto(chains: &mut Sequence<Chain>, held: u32, at: usize, upto: u64) -> u32
     ensures fewer { length chains.new.items ≤ length chains.old.items }
     ensures whole { whole_in (map chain_of chains.new.items) ≤ whole_in (map chain_of chains.old.items) }
     ensures passed { (k : ℕ) → AreOpen k (map chain_of chains.old.items) → AreOpen (k - (length chains.old.items - length chains.new.items)) (map chain_of chains.new.items) }
     ensures left { LetsGo upto at (map chain_of chains.old.items) (map chain_of chains.new.items) held result }
 {
     let mut left = held;
-    while at < chains.len() && chains[at].last <= upto {
+    while at < chains.len() && chains.get(at).last <= upto {
         if let Some(chain) = remove_at(chains, at) {
             left = less_all(left, &chain.parts);
         }
     }
-    if at < chains.len() && chains[at].first <= upto {
-        left = trim(&mut chains[at], left, upto);
+    if at < chains.len() && chains.get(at).first <= upto {
+        let blank = nothing(*chains.get(at).parts.allocator());
+        let mut chain = chains.replace(at, blank);
+        left = trim(&mut chain, left, upto);
+        let _ = chains.replace(at, chain);
     }
     left
 }

@@ -6,7 +6,7 @@ ghost use Rattle.sctp_chains.specs.inner.Finding.{IsStart, IsWholeHere, IsWholeW
 
 use crate::chain::{Chain, Head};
 use crate::filing::place;
-use std::collections::VecDeque;
+use sctp_sequence::Sequence;
 
 /// A chain that is a whole message: its place, and what its first chunk says.
 #[derive(Clone, Copy)]
@@ -24,7 +24,7 @@ pub(crate) struct Looked {
 }
 
 /// How many chains begin below a rank.
-fn start(chains: &VecDeque<Chain>, rank: u64) -> usize
+fn start(chains: &Sequence<Chain>, rank: u64) -> usize
     ensures bound { result ≤ length chains.now.items }
     ensures place { AreChains (map chain_of chains.now.items) → IsStart rank (map chain_of chains.now.items) result }
 {
@@ -36,11 +36,11 @@ fn start(chains: &VecDeque<Chain>, rank: u64) -> usize
 }
 
 /// The whole message of the chain at a place.
-fn whole_at(chains: &VecDeque<Chain>, at: usize) -> Option<Found>
+fn whole_at(chains: &Sequence<Chain>, at: usize) -> Option<Found>
     requires { at < length chains.now.items }
     ensures { IsWholeHere (map chain_of chains.now.items) at result }
 {
-    let chain = &chains[at];
+    let chain = chains.get(at);
     match chain.head {
         Some(head) if chain.ends => Some(Found { at, head }),
         _ => None,
@@ -48,11 +48,11 @@ fn whole_at(chains: &VecDeque<Chain>, at: usize) -> Option<Found>
 }
 
 /// The whole message that the fragment of a rank is one of.
-pub(crate) fn whole_with(chains: &VecDeque<Chain>, rank: u64) -> Option<Found>
+pub(crate) fn whole_with(chains: &Sequence<Chain>, rank: u64) -> Option<Found>
     ensures { AreChains (map chain_of chains.now.items) → IsWholeWithRank (map chain_of chains.now.items) rank result }
 {
     let at = place(chains, rank);
-    if at < chains.len() && chains[at].first <= rank {
+    if at < chains.len() && chains.get(at).first <= rank {
         return whole_at(chains, at);
     }
     None
@@ -60,11 +60,11 @@ pub(crate) fn whole_with(chains: &VecDeque<Chain>, rank: u64) -> Option<Found>
 
 /// The place of the first chain, from one on, that is a whole message or begins past a rank; how many there are, where none is.
 #[inline(always)]
-fn stop(chains: &VecDeque<Chain>, from: usize, last: u64) -> usize
+fn stop(chains: &Sequence<Chain>, from: usize, last: u64) -> usize
     ensures { IsStop last (map chain_of chains.now.items) from result }
 {
     for at in from..chains.len() {
-        let chain = &chains[at];
+        let chain = chains.get(at);
         if chain.first > last || chain.whole() == 1 {
             return at;
         }
@@ -75,14 +75,14 @@ fn stop(chains: &VecDeque<Chain>, from: usize, last: u64) -> usize
 /// The first whole message that begins with one of these ranks, where so many chains at the front are known to be none: it looks at no
 /// chain before the first rank, and at none of these. Its callers have it in line, since one of them runs for each message.
 #[inline(always)]
-pub(crate) fn first_whole(chains: &VecDeque<Chain>, passed: usize, from: u64, last: u64) -> Looked
+pub(crate) fn first_whole(chains: &Sequence<Chain>, passed: usize, from: u64, last: u64) -> Looked
     ensures found { AreChains (map chain_of chains.now.items) → AreOpen passed (map chain_of chains.now.items)
         → IsFirstWhole (map chain_of chains.now.items) from last result.found }
     ensures passed { AreOpen passed (map chain_of chains.now.items) → AreOpen result.passed (map chain_of chains.now.items) }
 {
     let begin = start(chains, from);
     let at = stop(chains, begin.max(passed), last);
-    let found = if at < chains.len() && chains[at].first <= last {
+    let found = if at < chains.len() && chains.get(at).first <= last {
         whole_at(chains, at)
     } else {
         None

@@ -6,7 +6,7 @@ use Rattle.sctp_model.specs.numbers.Lists.{Has}
 use Rattle.sctp_chains.specs.Same.{AreSame}
 use Rattle.sctp_chains.specs.Cells.{Cell}
 use Rattle.sctp_chains.specs.declared.chain.Chain.{Chain}
-use Rattle.sctp_chains.specs.Links.{ChainKept, cells_in, cells_of, is_linked, join, AreChains}
+use Rattle.sctp_chains.specs.Links.{ChainKept, cells_in, cells_of, is_linked, join, one_if_whole, AreChains}
 use Rattle.sctp_chains.specs.inner.Finding.{AreOpen}
 
 -- So many chains at the front lie below a rank, and none behind them does.
@@ -32,6 +32,10 @@ IsLinkBehind cs k a (Some j) = (j ≡ k) × (j < length cs) × ((c : ChainKept) 
 abbrev pub IsJoined : (old : List ChainKept) → (left : ℕ) → ChainKept → (right : ℕ) → (new : List ChainKept) → Type 0
 IsJoined old left a right new =
     (c d : ChainKept) → c ≡ get_or old left c → d ≡ get_or old right d → new ≡ remove (set old left (join (join c a) d)) right
+
+-- how many whole messages that one is
+abbrev pub IsWholeOfJoined : List ChainKept → (left : ℕ) → ChainKept → (right : ℕ) → ℕ → Type 0
+IsWholeOfJoined cs left a right n = (c d : ChainKept) → c ≡ get_or cs left c → d ≡ get_or cs right d → n ≡ one_if_whole (join (join c a) d)
 
 -- Where a fragment makes a chain at a place whole, those before it that were open are; else as many as were, less one where two chains became one.
 abbrev pub StaysOpen : (old new : List ChainKept) → (at whole : ℕ) → Type 0

@@ -1,119 +1,138 @@
-use Rattle.std.proofs.Common.{ℕ, ◌<◌, Bool, List, Option, sym, ap, ◌∙◌, subst, length, map, arith}
-use Rattle.std.specs.Prelude.{◌&&◌, if◌then◌else◌}
+use Rattle.std.proofs.Common.{ℕ, ◌<◌, ◌≤◌, ◌+◌, List, Option, sym, subst, length, get_or, map, arith}
 use Rattle.sctp_chains.specs.declared.chain.Chain.{Chain}
-use Rattle.sctp_chains.specs.Links.{chain_of, one_of, join}
-use Rattle.sctp_chains.specs.inner.Filing.{IsLinkBefore, IsLinkBehind, Gains}
-use Rattle.sctp_chains.proofs.MemoryLemmas.{any_err, set_same, length_kept}
+use Rattle.sctp_chains.specs.Links.{chain_of, one_of, join, whole_in}
+use Rattle.sctp_chains.proofs.ListLemmas.{at_same}
+use Rattle.sctp_chains.specs.inner.Filing.{IsLinkBefore, IsLinkBehind, Gains, StaysOpen}
+use Rattle.sctp_chains.proofs.MemoryLemmas.{any_err, length_kept}
+use Rattle.sctp_chains.proofs.LiftedLemmas.{put_back, put_back_same}
 use Rattle.sctp_chains.proofs.JoiningLemmas.{filed_back, filed_front, filed_alone, filed_both}
 use Rattle.sctp_chains.proofs.WholeCounts.{once, counted_back, counted_front, counted_alone, counted_both}
 use Rattle.sctp_chains.proofs.OpenLemmas.{kept_set, kept_insert, kept_both}
 use Rattle.sctp_chains.proofs.filing.file.Goals as goal
 
-pub returns-in_ok-join_all-in-Some-Some-clause-filed : goal.returns-in_ok-join_all-in-Some-Some-clause-filed
-returns-in_ok-join_all-in-Some-Some-clause-filed c =
-    filed_both c.args.chains.now.items c.place-at.result c.args.part c.place-at.ensures.bound c.place-at.ensures.place c.in-Some-Some.left c.in-Some-Some.right
-    c.join_all.new.chains.items (c.in-Some-Some.ensures c.place-at.ensures.bound) c.in-Some-Some.ensures' c.in_ok-join_all-in-Some-Some.ensures.joined
+-- ---- two chains and the fragment between them
 
-pub returns-in_ok-join_all-in-Some-Some-clause-whole : goal.returns-in_ok-join_all-in-Some-Some-clause-whole
-returns-in_ok-join_all-in-Some-Some-clause-whole c =
-    let cs = c.args.chains.now.items in
+pub returns-in_ok-whole-in-Some-Some-clause-filed : goal.returns-in_ok-whole-in-Some-Some-clause-filed
+returns-in_ok-whole-in-Some-Some-clause-filed c =
+    filed_both c.args.chains.now.items c.place-at.result c.args.part c.place-at.ensures.bound c.place-at.ensures.place c.in-Some-Some.left c.in-Some-Some.right
+    c.join_all.new.chains.items (c.in-Some-Some.ensures c.place-at.ensures.bound) c.in-Some-Some.ensures' c.in_ok-whole-in-Some-Some.ensures.joined
+
+pub returns-in_ok-whole-in-Some-Some-clause-one : goal.returns-in_ok-whole-in-Some-Some-clause-one
+returns-in_ok-whole-in-Some-Some-clause-one c =
+    let cs = map chain_of c.args.chains.now.items in
+    let a = one_of c.args.part in
+    let d = get_or cs c.in-Some-Some.left a in
+    let e = get_or cs c.in-Some-Some.right a in
+    once (join (join d a) e) c.in_ok-whole-in-Some-Some.whole
+    (c.in_ok-whole-in-Some-Some.ensures.whole d e (at_same cs c.in-Some-Some.left a d (c.in-Some-Some.ensures c.place-at.ensures.bound).1) (at_same cs c.in-Some-Some.right a e c.in-Some-Some.ensures'.1))
+
+pub returns-in_ok-whole-in-Some-Some-clause-whole : goal.returns-in_ok-whole-in-Some-Some-clause-whole
+returns-in_ok-whole-in-Some-Some-clause-whole c =
+    let before = c.in-Some-Some.ensures c.place-at.ensures.bound in
+    counted_both c.args.chains.now.items c.join_all.new.chains.items c.in-Some-Some.left c.in-Some-Some.right c.args.part c.in_ok-whole-in-Some-Some.whole before.1 c.in-Some-Some.ensures'.1
+    before.2 c.in_ok-whole-in-Some-Some.ensures.joined c.in_ok-whole-in-Some-Some.ensures.whole
+
+pub returns-in_ok-whole-in-Some-Some-clause-passed : goal.returns-in_ok-whole-in-Some-Some-clause-passed
+returns-in_ok-whole-in-Some-Some-clause-passed c =
     let before = c.in-Some-Some.ensures c.place-at.ensures.bound in
     let behind = c.in-Some-Some.ensures' in
-    let n = length_kept cs in
-    let low : c.in-Some-Some.left < length cs = let l = before.1 in omega (arith, l, n) in
-    let high : c.in-Some-Some.right < length cs = let l = behind.1 in omega (arith, l, n) in
-    counted_both cs c.join_all.new.chains.items c.in-Some-Some.left c.in-Some-Some.right c.args.part c.index-in-Some-Some.result.now c.index.result.now c.one_if-whole.result low high
-    c.index-in-Some-Some.ensures c.index.ensures before.2 c.in_ok-join_all-in-Some-Some.ensures.joined
-    (c.one_if-whole.ensures ∙ ap (λ (b : Bool). if (c.index.result.now.ends && b) then 1 else 0) c.is_some-begins.ensures)
+    let order : c.in-Some-Some.left < c.in-Some-Some.right = let l = before.0 in let r = behind.0 in omega (arith, l, r) in
+    kept_both c.args.chains.now.items c.join_all.new.chains.items c.in-Some-Some.left c.in-Some-Some.right c.args.part c.in_ok-whole-in-Some-Some.whole order behind.1
+    c.in_ok-whole-in-Some-Some.ensures.joined c.in_ok-whole-in-Some-Some.ensures.whole
 
-pub returns-in_ok-push_back-in-Some-None-clause-filed : goal.returns-in_ok-push_back-in-Some-None-clause-filed
-returns-in_ok-push_back-in-Some-None-clause-filed c =
-    let cs = c.args.chains.now.items in
-    let before = c.in-Some-None.ensures c.place-at.ensures.bound in
-    let less : c.in-Some-None.left < length cs = let l = before.1 in let n = length_kept cs in omega (arith, l, n) in
-    filed_back cs c.place-at.result c.args.part c.place-at.ensures.bound c.place-at.ensures.place c.in-Some-None.left c.index_mut-chain.result.now
-    c.push_back.new.self less c.index_mut-chain.ensures.value c.in_ok-push_back-in-Some-None.ensures.joined before c.in-Some-None.ensures'
+-- ---- behind a chain
 
-pub returns-in_ok-push_back-in-Some-None-clause-whole : goal.returns-in_ok-push_back-in-Some-None-clause-whole
-returns-in_ok-push_back-in-Some-None-clause-whole c =
+pub returns-in_ok-pushed-in-Some-None-clause-filed : goal.returns-in_ok-pushed-in-Some-None-clause-filed
+returns-in_ok-pushed-in-Some-None-clause-filed c =
+    let less : c.in-Some-None.left < length c.args.chains.now.items = let l = (c.in-Some-None.ensures c.place-at.ensures.bound).1 in let n = length_kept c.args.chains.now.items in omega (arith, l, n) in
+    let put = put_back c.args.chains.now.items c.in-Some-None.left c.nothing.result c.push_back-pushed.new.self c.replace-chain.new.self.items c.replace.new.self.items c.replace-chain.ensures.items c.replace.ensures.items in
     let cs = c.args.chains.now.items in
-    let before = c.in-Some-None.ensures c.place-at.ensures.bound in
-    let less : c.in-Some-None.left < length cs = let l = before.1 in let n = length_kept cs in omega (arith, l, n) in
-    counted_back cs c.args.part c.index_mut-chain.result.now c.push_back.new.self c.whole-whole.result c.in-Some-None.left less c.index_mut-chain.ensures.value c.whole-whole.ensures
-    before.2
+    subst (λ (xs : List Chain). Gains (one_of c.args.part) (map chain_of cs) (map chain_of xs)) (sym put)
+    (filed_back cs c.place-at.result c.args.part c.place-at.ensures.bound c.place-at.ensures.place c.in-Some-None.left c.replace-chain.result
+    c.push_back-pushed.new.self less c.replace-chain.ensures.value c.in_ok-pushed-in-Some-None.ensures.joined (c.in-Some-None.ensures c.place-at.ensures.bound) c.in-Some-None.ensures')
 
-pub returns-in_err-push_back-in-Some-None-clause-refused : goal.returns-in_err-push_back-in-Some-None-clause-refused
-returns-in_err-push_back-in-Some-None-clause-refused c =
-    let cs = c.args.chains.now.items in
-    let less : c.in-Some-None.left < length cs = let l = (c.in-Some-None.ensures c.place-at.ensures.bound).1 in let n = length_kept cs in omega (arith, l, n) in
-    any_err c.from_residual-in_err-push_back-in-Some-None.result _ (set_same cs c.in-Some-None.left c.index_mut-chain.result.now c.push_back.new.self less c.index_mut-chain.ensures.value c.in_err-push_back-in-Some-None.ensures.refused)
+pub returns-in_ok-pushed-in-Some-None-clause-one : goal.returns-in_ok-pushed-in-Some-None-clause-one
+returns-in_ok-pushed-in-Some-None-clause-one c = once (chain_of c.push_back-pushed.new.self) c.whole-whole.result c.whole-whole.ensures
 
-pub returns-in_ok-push_front-in-None-Some-clause-filed : goal.returns-in_ok-push_front-in-None-Some-clause-filed
-returns-in_ok-push_front-in-None-Some-clause-filed c =
+pub returns-in_ok-pushed-in-Some-None-clause-whole : goal.returns-in_ok-pushed-in-Some-None-clause-whole
+returns-in_ok-pushed-in-Some-None-clause-whole c =
+    let less : c.in-Some-None.left < length c.args.chains.now.items = let l = (c.in-Some-None.ensures c.place-at.ensures.bound).1 in let n = length_kept c.args.chains.now.items in omega (arith, l, n) in
+    let put = put_back c.args.chains.now.items c.in-Some-None.left c.nothing.result c.push_back-pushed.new.self c.replace-chain.new.self.items c.replace.new.self.items c.replace-chain.ensures.items c.replace.ensures.items in
     let cs = c.args.chains.now.items in
-    let behind = c.in-None-Some.ensures in
-    let less : c.in-None-Some.right < length cs = let l = behind.1 in let n = length_kept cs in omega (arith, l, n) in
-    filed_front cs c.place-at.result c.args.part c.place-at.ensures.bound c.place-at.ensures.place c.in-None-Some.right c.index_mut-chain-in-None-Some.result.now
-    c.push_front.new.self less c.index_mut-chain-in-None-Some.ensures.value c.in_ok-push_front-in-None-Some.ensures.joined (subst (λ (o : Option ℕ). IsLinkBefore (map chain_of cs) c.place-at.result (one_of c.args.part) o) c.in-None-Some.is-0 (c.linked_before.ensures c.place-at.ensures.bound)) behind
+    subst (λ (xs : List Chain). whole_in (map chain_of xs) ≤ whole_in (map chain_of cs) + c.whole-whole.result) (sym put)
+    (counted_back cs c.args.part c.replace-chain.result c.push_back-pushed.new.self c.whole-whole.result c.in-Some-None.left less c.replace-chain.ensures.value c.whole-whole.ensures
+    (c.in-Some-None.ensures c.place-at.ensures.bound).2)
 
-pub returns-in_ok-push_front-in-None-Some-clause-whole : goal.returns-in_ok-push_front-in-None-Some-clause-whole
-returns-in_ok-push_front-in-None-Some-clause-whole c =
+pub returns-in_ok-pushed-in-Some-None-clause-passed : goal.returns-in_ok-pushed-in-Some-None-clause-passed
+returns-in_ok-pushed-in-Some-None-clause-passed c =
+    let put = put_back c.args.chains.now.items c.in-Some-None.left c.nothing.result c.push_back-pushed.new.self c.replace-chain.new.self.items c.replace.new.self.items c.replace-chain.ensures.items c.replace.ensures.items in
     let cs = c.args.chains.now.items in
-    let behind = c.in-None-Some.ensures in
-    let less : c.in-None-Some.right < length cs = let l = behind.1 in let n = length_kept cs in omega (arith, l, n) in
-    counted_front cs c.args.part c.index_mut-chain-in-None-Some.result.now c.push_front.new.self c.whole-whole-in-None-Some.result c.in-None-Some.right less c.index_mut-chain-in-None-Some.ensures.value c.whole-whole-in-None-Some.ensures
-    behind.2
+    subst (λ (xs : List Chain). StaysOpen (map chain_of cs) (map chain_of xs) c.in-Some-None.left c.whole-whole.result) (sym put)
+    (kept_set cs c.in-Some-None.left c.push_back-pushed.new.self c.whole-whole.result c.whole-whole.ensures)
 
-pub returns-in_err-push_front-in-None-Some-clause-refused : goal.returns-in_err-push_front-in-None-Some-clause-refused
-returns-in_err-push_front-in-None-Some-clause-refused c =
-    let cs = c.args.chains.now.items in
-    let less : c.in-None-Some.right < length cs = let l = c.in-None-Some.ensures.1 in let n = length_kept cs in omega (arith, l, n) in
-    any_err c.from_residual-in_err-push_front-in-None-Some.result _ (set_same cs c.in-None-Some.right c.index_mut-chain-in-None-Some.result.now c.push_front.new.self less c.index_mut-chain-in-None-Some.ensures.value c.in_err-push_front-in-None-Some.ensures.refused)
+pub returns-in_err-pushed-in-Some-None-clause-refused : goal.returns-in_err-pushed-in-Some-None-clause-refused
+returns-in_err-pushed-in-Some-None-clause-refused c =
+    let less : c.in-Some-None.left < length c.args.chains.now.items = let l = (c.in-Some-None.ensures c.place-at.ensures.bound).1 in let n = length_kept c.args.chains.now.items in omega (arith, l, n) in
+    any_err c.from_residual-in_err-pushed-in-Some-None.result _
+    (put_back_same c.args.chains.now.items c.in-Some-None.left c.nothing.result c.replace-chain.result c.push_back-pushed.new.self c.replace-chain.new.self.items c.replace.new.self.items less
+    c.replace-chain.ensures.value c.replace-chain.ensures.items c.replace.ensures.items c.in_err-pushed-in-Some-None.ensures.refused)
 
-pub returns-in_ok-put_at-in-None-None-clause-filed : goal.returns-in_ok-put_at-in-None-None-clause-filed
-returns-in_ok-put_at-in-None-None-clause-filed c =
+-- ---- before a chain
+
+pub returns-in_ok-pushed-in-None-Some-clause-filed : goal.returns-in_ok-pushed-in-None-Some-clause-filed
+returns-in_ok-pushed-in-None-Some-clause-filed c =
+    let less : c.in-None-Some.right < length c.args.chains.now.items = let l = c.in-None-Some.ensures.1 in let n = length_kept c.args.chains.now.items in omega (arith, l, n) in
+    let put = put_back c.args.chains.now.items c.in-None-Some.right c.nothing-in-None-Some.result c.push_front-pushed.new.self c.replace-chain-in-None-Some.new.self.items c.replace-in-None-Some.new.self.items c.replace-chain-in-None-Some.ensures.items c.replace-in-None-Some.ensures.items in
     let cs = c.args.chains.now.items in
-    subst (λ (xs : List Chain). Gains (one_of c.args.part) (map chain_of cs) (map chain_of xs)) (sym c.in_ok-put_at-in-None-None.ensures.items)
+    subst (λ (xs : List Chain). Gains (one_of c.args.part) (map chain_of cs) (map chain_of xs)) (sym put)
+    (filed_front cs c.place-at.result c.args.part c.place-at.ensures.bound c.place-at.ensures.place c.in-None-Some.right c.replace-chain-in-None-Some.result
+    c.push_front-pushed.new.self less c.replace-chain-in-None-Some.ensures.value c.in_ok-pushed-in-None-Some.ensures.joined
+    (subst (λ (o : Option ℕ). IsLinkBefore (map chain_of cs) c.place-at.result (one_of c.args.part) o) c.in-None-Some.is-0 (c.linked_before.ensures c.place-at.ensures.bound)) c.in-None-Some.ensures)
+
+pub returns-in_ok-pushed-in-None-Some-clause-one : goal.returns-in_ok-pushed-in-None-Some-clause-one
+returns-in_ok-pushed-in-None-Some-clause-one c = once (chain_of c.push_front-pushed.new.self) c.whole-whole-in-None-Some.result c.whole-whole-in-None-Some.ensures
+
+pub returns-in_ok-pushed-in-None-Some-clause-whole : goal.returns-in_ok-pushed-in-None-Some-clause-whole
+returns-in_ok-pushed-in-None-Some-clause-whole c =
+    let less : c.in-None-Some.right < length c.args.chains.now.items = let l = c.in-None-Some.ensures.1 in let n = length_kept c.args.chains.now.items in omega (arith, l, n) in
+    let put = put_back c.args.chains.now.items c.in-None-Some.right c.nothing-in-None-Some.result c.push_front-pushed.new.self c.replace-chain-in-None-Some.new.self.items c.replace-in-None-Some.new.self.items c.replace-chain-in-None-Some.ensures.items c.replace-in-None-Some.ensures.items in
+    let cs = c.args.chains.now.items in
+    subst (λ (xs : List Chain). whole_in (map chain_of xs) ≤ whole_in (map chain_of cs) + c.whole-whole-in-None-Some.result) (sym put)
+    (counted_front cs c.args.part c.replace-chain-in-None-Some.result c.push_front-pushed.new.self c.whole-whole-in-None-Some.result c.in-None-Some.right less c.replace-chain-in-None-Some.ensures.value
+    c.whole-whole-in-None-Some.ensures c.in-None-Some.ensures.2)
+
+pub returns-in_ok-pushed-in-None-Some-clause-passed : goal.returns-in_ok-pushed-in-None-Some-clause-passed
+returns-in_ok-pushed-in-None-Some-clause-passed c =
+    let put = put_back c.args.chains.now.items c.in-None-Some.right c.nothing-in-None-Some.result c.push_front-pushed.new.self c.replace-chain-in-None-Some.new.self.items c.replace-in-None-Some.new.self.items c.replace-chain-in-None-Some.ensures.items c.replace-in-None-Some.ensures.items in
+    let cs = c.args.chains.now.items in
+    subst (λ (xs : List Chain). StaysOpen (map chain_of cs) (map chain_of xs) c.in-None-Some.right c.whole-whole-in-None-Some.result) (sym put)
+    (kept_set cs c.in-None-Some.right c.push_front-pushed.new.self c.whole-whole-in-None-Some.result c.whole-whole-in-None-Some.ensures)
+
+pub returns-in_err-pushed-in-None-Some-clause-refused : goal.returns-in_err-pushed-in-None-Some-clause-refused
+returns-in_err-pushed-in-None-Some-clause-refused c =
+    let less : c.in-None-Some.right < length c.args.chains.now.items = let l = c.in-None-Some.ensures.1 in let n = length_kept c.args.chains.now.items in omega (arith, l, n) in
+    any_err c.from_residual-in_err-pushed-in-None-Some.result _
+    (put_back_same c.args.chains.now.items c.in-None-Some.right c.nothing-in-None-Some.result c.replace-chain-in-None-Some.result c.push_front-pushed.new.self c.replace-chain-in-None-Some.new.self.items
+    c.replace-in-None-Some.new.self.items less c.replace-chain-in-None-Some.ensures.value c.replace-chain-in-None-Some.ensures.items c.replace-in-None-Some.ensures.items
+    c.in_err-pushed-in-None-Some.ensures.refused)
+
+-- ---- a chain of its own
+
+pub returns-in_ok-insert-in-None-None-clause-filed : goal.returns-in_ok-insert-in-None-None-clause-filed
+returns-in_ok-insert-in-None-None-clause-filed c =
+    let cs = c.args.chains.now.items in
+    subst (λ (xs : List Chain). Gains (one_of c.args.part) (map chain_of cs) (map chain_of xs)) (sym c.in_ok-insert-in-None-None.ensures.items)
     (filed_alone cs c.place-at.result c.args.part c.place-at.ensures.bound c.place-at.ensures.place c.in_ok-chain-in-None-None.chain c.in_ok-chain-in-None-None.ensures
     (subst (λ (o : Option ℕ). IsLinkBefore (map chain_of cs) c.place-at.result (one_of c.args.part) o) c.in-None-None.is-0 (c.linked_before.ensures c.place-at.ensures.bound)) (subst (λ (o : Option ℕ). IsLinkBehind (map chain_of cs) c.place-at.result (one_of c.args.part) o) c.in-None-None.is-1 c.linked_behind.ensures))
 
-pub returns-in_ok-put_at-in-None-None-clause-whole : goal.returns-in_ok-put_at-in-None-None-clause-whole
-returns-in_ok-put_at-in-None-None-clause-whole c =
-    counted_alone c.args.chains.now.items c.put_at.new.queue.items c.place-at.result c.in_ok-chain-in-None-None.chain c.whole-whole-in-None-None.result c.in_ok-put_at-in-None-None.ensures.items c.whole-whole-in-None-None.ensures
+pub returns-in_ok-insert-in-None-None-clause-one : goal.returns-in_ok-insert-in-None-None-clause-one
+returns-in_ok-insert-in-None-None-clause-one c = once (chain_of c.in_ok-chain-in-None-None.chain) c.whole-whole-in-None-None.result c.whole-whole-in-None-None.ensures
 
-pub returns-in_ok-join_all-in-Some-Some-clause-passed : goal.returns-in_ok-join_all-in-Some-Some-clause-passed
-returns-in_ok-join_all-in-Some-Some-clause-passed c =
-    let cs = c.args.chains.now.items in
-    let before = c.in-Some-Some.ensures c.place-at.ensures.bound in
-    let behind = c.in-Some-Some.ensures' in
-    let n = length_kept cs in
-    let order : c.in-Some-Some.left < c.in-Some-Some.right = let l = before.0 in let r = behind.0 in omega (arith, l, r) in
-    let high : c.in-Some-Some.right < length cs = let l = behind.1 in omega (arith, l, n) in
-    kept_both cs c.join_all.new.chains.items c.in-Some-Some.left c.in-Some-Some.right c.args.part c.index-in-Some-Some.result.now c.index.result.now c.one_if-whole.result order high
-    c.index-in-Some-Some.ensures c.index.ensures c.in_ok-join_all-in-Some-Some.ensures.joined
-    (c.one_if-whole.ensures ∙ ap (λ (b : Bool). if (c.index.result.now.ends && b) then 1 else 0) c.is_some-begins.ensures)
+pub returns-in_ok-insert-in-None-None-clause-whole : goal.returns-in_ok-insert-in-None-None-clause-whole
+returns-in_ok-insert-in-None-None-clause-whole c =
+    counted_alone c.args.chains.now.items c.insert.new.self.items c.place-at.result c.in_ok-chain-in-None-None.chain c.whole-whole-in-None-None.result c.in_ok-insert-in-None-None.ensures.items c.whole-whole-in-None-None.ensures
 
-pub returns-in_ok-push_back-in-Some-None-clause-passed : goal.returns-in_ok-push_back-in-Some-None-clause-passed
-returns-in_ok-push_back-in-Some-None-clause-passed c = kept_set c.args.chains.now.items c.in-Some-None.left c.push_back.new.self c.whole-whole.result c.whole-whole.ensures
-
-pub returns-in_ok-push_front-in-None-Some-clause-passed : goal.returns-in_ok-push_front-in-None-Some-clause-passed
-returns-in_ok-push_front-in-None-Some-clause-passed c = kept_set c.args.chains.now.items c.in-None-Some.right c.push_front.new.self c.whole-whole-in-None-Some.result c.whole-whole-in-None-Some.ensures
-
-pub returns-in_ok-put_at-in-None-None-clause-passed : goal.returns-in_ok-put_at-in-None-None-clause-passed
-returns-in_ok-put_at-in-None-None-clause-passed c =
-    kept_insert c.args.chains.now.items c.put_at.new.queue.items c.place-at.result c.in_ok-chain-in-None-None.chain c.whole-whole-in-None-None.result c.place-at.ensures.bound
-    c.in_ok-put_at-in-None-None.ensures.items c.whole-whole-in-None-None.ensures
-
-pub returns-in_ok-join_all-in-Some-Some-clause-one : goal.returns-in_ok-join_all-in-Some-Some-clause-one
-returns-in_ok-join_all-in-Some-Some-clause-one c =
-    once (join (join (chain_of c.index-in-Some-Some.result.now) (one_of c.args.part)) (chain_of c.index.result.now)) c.one_if-whole.result
-    (c.one_if-whole.ensures ∙ ap (λ (b : Bool). if (c.index.result.now.ends && b) then 1 else 0) c.is_some-begins.ensures)
-
-pub returns-in_ok-push_back-in-Some-None-clause-one : goal.returns-in_ok-push_back-in-Some-None-clause-one
-returns-in_ok-push_back-in-Some-None-clause-one c = once (chain_of c.push_back.new.self) c.whole-whole.result c.whole-whole.ensures
-
-pub returns-in_ok-push_front-in-None-Some-clause-one : goal.returns-in_ok-push_front-in-None-Some-clause-one
-returns-in_ok-push_front-in-None-Some-clause-one c = once (chain_of c.push_front.new.self) c.whole-whole-in-None-Some.result c.whole-whole-in-None-Some.ensures
-
-pub returns-in_ok-put_at-in-None-None-clause-one : goal.returns-in_ok-put_at-in-None-None-clause-one
-returns-in_ok-put_at-in-None-None-clause-one c = once (chain_of c.in_ok-chain-in-None-None.chain) c.whole-whole-in-None-None.result c.whole-whole-in-None-None.ensures
+pub returns-in_ok-insert-in-None-None-clause-passed : goal.returns-in_ok-insert-in-None-None-clause-passed
+returns-in_ok-insert-in-None-None-clause-passed c =
+    kept_insert c.args.chains.now.items c.insert.new.self.items c.place-at.result c.in_ok-chain-in-None-None.chain c.whole-whole-in-None-None.result c.place-at.ensures.bound
+    c.in_ok-insert-in-None-None.ensures.items c.whole-whole-in-None-None.ensures

@@ -1,36 +1,44 @@
-use Rattle.std.proofs.Common.{◌<◌, List, length, ap, ◌∙◌, get_or, arith}
-use Rattle.sctp_chains.proofs.MemoryLemmas.{any_err, as_long, one_shorter, earlier_at, same_size}
-use Rattle.sctp_chains.proofs.JoiningLemmas.{joined_up}
-use Rattle.sctp_chains.specs.declared.chain.Chain.{Chain}
+use Rattle.std.proofs.Common.{◌≡◌, ◌<◌, length, ap, arith}
+use Rattle.std.specs.Prelude.{Option, None, Some, IsSome, OnSome}
+use Rattle.std.specs.List.{remove}
+use Rattle.sctp_chains.proofs.MemoryLemmas.{as_long}
+use Rattle.sctp_chains.proofs.LiftedLemmas.{both_back, joined_back, joined_whole, joined_few}
 use Rattle.sctp_chains.proofs.filing.join_all.Goals as goal
 
-pub returns-in_err-make_joint_room-clause-refused : goal.returns-in_err-make_joint_room-clause-refused
-returns-in_err-make_joint_room-clause-refused c = any_err c.from_residual.result _ c.make_joint_room.ensures.same
+when_some : {X : Type 0} (r : Option X) (P : Type 0) → IsSome r → OnSome r P → P
+when_some (Some x) P some p = p
+when_some None P some p = absurd (let never = some in cc)
 
-pub close_gap-requires : goal.close_gap-requires
-close_gap-requires c =
-    let mid = c.make_joint_room.new.chains.items in
-    let w = c.index_mut.result.now in
-    let size = same_size mid c.args.chains.now.items c.make_joint_room.ensures.same in
-    let less : c.args.right < length mid = let l = c.requires.within in omega (arith, l, size) in
-    c.in_ok-make_joint_room.ensures.room w c.in-Some.chain
-    (c.index_mut.ensures.value ∙ ap (λ (xs : List Chain). get_or xs c.args.left w) c.in-Some.ensures.items ∙ earlier_at mid c.args.left c.args.right w c.requires.order less)
-    c.in-Some.ensures.value
+pub returns-then-is_err-clause-refused : goal.returns-then-is_err-clause-refused
+returns-then-is_err-clause-refused c =
+    both_back c.args.chains.now.items c.replace-high.new.self.items c.replace-low.new.self.items c.args.left c.args.right c.nothing.result c.nothing-2.result c.replace-low.result c.replace-high.result
+    c.make_joint_room.new.left c.make_joint_room.new.right c.requires.order c.requires.within c.replace-high.ensures.value c.replace-high.ensures.items c.replace-low.ensures.value c.replace-low.ensures.items
+    c.make_joint_room.ensures.left c.make_joint_room.ensures.right c.replace.new.self.items c.replace-then-is_err.new.self.items c.replace.ensures.items c.replace-then-is_err.ensures.items
 
-pub returns-in-Some-clause-joined : goal.returns-in-Some-clause-joined
-returns-in-Some-clause-joined c = λ d e.
-    let mid = c.make_joint_room.new.chains.items in
-    let size = same_size mid c.args.chains.now.items c.make_joint_room.ensures.same in
-    let less : c.args.right < length mid = let l = c.requires.within in omega (arith, l, size) in
-    joined_up c.args.chains.now.items mid c.remove.new.self.items c.args.left c.args.right c.args.part c.close_gap.new.self c.index_mut.result.now c.in-Some.chain
-    c.requires.order less c.make_joint_room.ensures.same c.in-Some.ensures.value c.in-Some.ensures.items c.index_mut.ensures.value c.close_gap.ensures d e
+-- the one behind is taken out
+gone : (c : goal.After-drop-replace-2) → c.remove.new.self.items ≡ remove c.replace-low.new.self.items c.args.right
+gone c =
+    let one = as_long c.args.chains.now.items c.args.right c.nothing.result in
+    let two = as_long c.replace-high.new.self.items c.args.left c.nothing-2.result in
+    let first = ap length c.replace-high.ensures.items in
+    let second = ap length c.replace-low.ensures.items in
+    let less : c.args.right < length c.replace-low.new.self.items = let l = c.requires.within in omega (arith, l, one, two, first, second) in
+    when_some c.remove.result _ (c.remove.ensures.variant.1 less) c.remove.ensures.items
 
-pub returns-in-Some-clause-few : goal.returns-in-Some-clause-few
-returns-in-Some-clause-few c =
-    let mid = c.make_joint_room.new.chains.items in
-    let size = same_size mid c.args.chains.now.items c.make_joint_room.ensures.same in
-    let less : c.args.right < length mid = let l = c.requires.within in omega (arith, l, size) in
-    let one = one_shorter mid c.args.right less in
-    let left = ap length c.in-Some.ensures.items in
-    let last = as_long c.remove.new.self.items c.args.left c.close_gap.new.self in
-    omega (arith, size, one, left, last)
+pub returns-clause-few : goal.returns-clause-few
+returns-clause-few c =
+    joined_few c.args.chains.now.items c.replace-high.new.self.items c.replace-low.new.self.items c.args.left c.args.right c.nothing.result c.nothing-2.result c.replace-low.result c.replace-high.result
+    c.make_joint_room.new.left c.make_joint_room.new.right c.requires.order c.requires.within c.replace-high.ensures.value c.replace-high.ensures.items c.replace-low.ensures.value c.replace-low.ensures.items
+    c.make_joint_room.ensures.left c.make_joint_room.ensures.right c.remove.new.self.items c.replace-2.new.self.items c.close_gap.new.self (gone c) c.replace-2.ensures.items
+
+pub returns-clause-joined : goal.returns-clause-joined
+returns-clause-joined c =
+    joined_back c.args.chains.now.items c.replace-high.new.self.items c.replace-low.new.self.items c.args.left c.args.right c.nothing.result c.nothing-2.result c.replace-low.result c.replace-high.result
+    c.make_joint_room.new.left c.make_joint_room.new.right c.requires.order c.requires.within c.replace-high.ensures.value c.replace-high.ensures.items c.replace-low.ensures.value c.replace-low.ensures.items
+    c.make_joint_room.ensures.left c.make_joint_room.ensures.right c.remove.new.self.items c.replace-2.new.self.items c.close_gap.new.self c.args.part (gone c) c.replace-2.ensures.items c.close_gap.ensures
+
+pub returns-clause-whole : goal.returns-clause-whole
+returns-clause-whole c =
+    joined_whole c.args.chains.now.items c.replace-high.new.self.items c.replace-low.new.self.items c.args.left c.args.right c.nothing.result c.nothing-2.result c.replace-low.result c.replace-high.result
+    c.make_joint_room.new.left c.make_joint_room.new.right c.requires.order c.requires.within c.replace-high.ensures.value c.replace-high.ensures.items c.replace-low.ensures.value c.replace-low.ensures.items
+    c.make_joint_room.ensures.left c.make_joint_room.ensures.right c.close_gap.new.self c.args.part c.whole-whole.result c.close_gap.ensures c.whole-whole.ensures

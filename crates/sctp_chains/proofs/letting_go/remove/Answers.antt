@@ -1,4 +1,4 @@
-use Rattle.std.proofs.Common.{List, suc, ◌+◌, ◌<◌, length, map, refl, ap, ◌∙◌, arith}
+use Rattle.std.proofs.Common.{List, suc, ◌+◌, ◌<◌, length, map, refl, ap, ◌∙◌}
 use Rattle.sctp_chains.specs.Links.{chain_of, one_if_whole, whole_in}
 use Rattle.sctp_chains.specs.declared.chain.Chain.{Chain}
 use Rattle.sctp_chains.proofs.MemoryLemmas.{one_shorter}
@@ -10,20 +10,20 @@ use Rattle.sctp_chains.proofs.letting_go.remove.Goals as goal
 pub returns-clause-taken : goal.returns-clause-taken
 returns-clause-taken c =
     let cs = c.args.chains.now.items in
-    let l : c.args.at < length cs = let some = c.in_ok-chain.ensures.variant.0 refl in omega (arith, some, c.args.chains.now.ok) in
+    let l : c.args.at < length cs = c.in_ok-chain.ensures.variant.0 refl in
     out_of cs c.args.at c.in_ok-chain.chain l c.in_ok-chain.ensures.value c.remove_at.new.chains.items c.args.held.now c.less_all.result c.in_ok-chain.ensures.items
     c.less_all.ensures
 
 pub returns-clause-fewer : goal.returns-clause-fewer
 returns-clause-fewer c =
     let cs = c.args.chains.now.items in
-    let l : c.args.at < length cs = let some = c.in_ok-chain.ensures.variant.0 refl in omega (arith, some, c.args.chains.now.ok) in
+    let l : c.args.at < length cs = c.in_ok-chain.ensures.variant.0 refl in
     ap (λ (xs : List Chain). suc (length xs)) c.in_ok-chain.ensures.items ∙ one_shorter cs c.args.at l
 
 pub returns-clause-whole : goal.returns-clause-whole
 returns-clause-whole c =
     let cs = c.args.chains.now.items in
-    let l : c.args.at < length cs = let some = c.in_ok-chain.ensures.variant.0 refl in omega (arith, some, c.args.chains.now.ok) in
+    let l : c.args.at < length cs = c.in_ok-chain.ensures.variant.0 refl in
     ap (λ (xs : List Chain). whole_in (map chain_of xs) + one_if_whole (chain_of c.in_ok-chain.chain)) c.in_ok-chain.ensures.items ∙ whole_remove cs c.args.at c.in_ok-chain.chain l c.in_ok-chain.ensures.value
 
 pub returns-clause-passed : goal.returns-clause-passed

@@ -1,4 +1,4 @@
-use Rattle.std.proofs.Common.{nat_lt, rules, of_calls, arith}
+use Rattle.std.proofs.Common.{nat_lt, rules, of_calls}
 use Rattle.std.proofs.lemmas.Fn.{always_returns_same}
 use Rattle.sctp_chains.specs.declared.chain.Chain.{Chain}
 use Rattle.sctp_chains.proofs.FindingLemmas.{begins_below, begins_placed}
@@ -9,4 +9,4 @@ returns-clause-place c = λ chains.
     let cs = c.args.chains.now.items in
     let test = λ (x : Chain). nat_lt x.first c.args.rank in
     let point = c.partition_point.ensures.partitioned test (always_returns_same _ _ _ (λ a r f k. search (rules, of_calls))) (begins_below c.args.rank cs chains) in
-    begins_placed c.args.rank cs c.partition_point.result (omega (arith, c.partition_point.ensures.bound, c.args.chains.now.ok)) point
+    begins_placed c.args.rank cs c.partition_point.result c.partition_point.ensures.bound point

@@ -10,9 +10,9 @@ pub loop-at-preserved : goal.loop-at-preserved
 loop-at-preserved c =
     let cs = c.args.chains.now.items in
     let k = c.loop-at.at in
-    let x = c.index-chain.result.now in
+    let x = c.get-chain.result.now in
     let l : k < length cs = omega (arith, c.loop-at-test.true, c.len-at-end.ensures) in
     let less : k < length (map chain_of cs) = let n = length_kept cs in omega (arith, l, n) in
     let none : is_whole (chain_of x) ≡ false = no_one (chain_of x) c.whole.result c.whole.ensures c.if-whole-eq1.false in
     let next : suc k ≡ k + 1 = omega arith in
-    subst (IsOver (map chain_of cs) c.args.from) next (over_more (map chain_of cs) c.args.from k (chain_of x) less (sym (at_kept cs k x l c.index-chain.ensures (chain_of x))) none c.loop-at.invariant)
+    subst (IsOver (map chain_of cs) c.args.from) next (over_more (map chain_of cs) c.args.from k (chain_of x) less (sym (at_kept cs k x l c.get-chain.ensures (chain_of x))) none c.loop-at.invariant)

@@ -18,17 +18,17 @@ pub returns-then-is_empty : goal.returns-then-is_empty
 unfolding StandsFor
 returns-then-is_empty g c = λ l kept stands numbered yes.
     let ms = c.args.self.now.filed.chains.items in
-    let none = no_chains ms (let is = c.is_empty.ensures in let ok = c.args.self.now.filed.chains.ok in grind (arith, is, yes, ok, nat_tests)) in
+    let none = no_chains ms (let is = c.is_empty.ensures in grind (arith, is, yes, nat_tests)) in
     chunks_above g.F.Framing.format l (map chain_of ms) c.args.self.now.held kept stands numbered c.args.number (λ d there. absurd (subst (λ (ns : List Chain). Has (map chain_of ns) d) none there))
 
 pub returns-else-is_empty : goal.returns-else-is_empty
 unfolding StandsFor
 returns-else-is_empty g c = λ l kept stands numbered yes.
     let ms = c.args.self.now.filed.chains.items in
-    let x = c.index.result.now in
-    let some : 0 < length ms = let is = c.is_empty.ensures in let no = c.if-is_empty.false in let ok = c.args.self.now.filed.chains.ok in grind (arith, is, no, ok, nat_tests) in
+    let x = c.get.result.now in
+    let some : 0 < length ms = let is = c.is_empty.ensures in let no = c.if-is_empty.false in grind (arith, is, no, nat_tests) in
     let less : 0 < length (map chain_of ms) = let all = length_kept ms in omega (arith, some, all) in
-    let at = sym (at_kept ms 0 x some c.index.ensures (chain_of x)) in
+    let at = sym (at_kept ms 0 x some c.get.ensures (chain_of x)) in
     let past : c.rank_at.result < x.first = grind (arith, yes, nat_tests) in
     chunks_above g.F.Framing.format l (map chain_of ms) c.args.self.now.held kept stands numbered c.args.number
     (λ d there. let low = not_lower (map chain_of ms) stands.chains 0 (chain_of x) less at d there in omega (arith, low, past, c.rank_at.ensures))

@@ -17,10 +17,10 @@ returns-then-at-len g c = λ i l kept stands of.
     let cs = map chain_of ms in
     let k = c.place-at.result in
     let r = c.rank_at-rank.result in
-    let x = c.index.result.now in
-    let n : k < length ms = omega (arith, c.if-at-len.true, c.len.ensures, c.args.self.now.filed.chains.ok) in
+    let x = c.get.result.now in
+    let n : k < length ms = omega (arith, c.if-at-len.true, c.len.ensures) in
     let less : k < length cs = let all = length_kept ms in omega (arith, n, all) in
-    let at = sym (at_kept ms k x n c.index.ensures (chain_of x)) in
+    let at = sym (at_kept ms k x n c.get.ensures (chain_of x)) in
     let place = c.place-at.ensures.place stands.chains in
     let back = stands_in cs stands.chains k (chain_of x) less at in
     held_agrees g.F.Framing.format l cs c.args.self.now.held kept stands (sym c.is_numbered.ensures ∙ c.if-not-is_numbered.false) (counted i (piece_meaning c.args.piece.now) c.args.number) of r
@@ -35,7 +35,7 @@ returns-else-at-len g c = λ i l kept stands of.
     let cs = map chain_of ms in
     let k = c.place-at.result in
     let r = c.rank_at-rank.result in
-    let past : length cs ≤ k = let all = length_kept ms in omega (arith, c.if-at-len.false, c.len.ensures, c.args.self.now.filed.chains.ok, all) in
+    let past : length cs ≤ k = let all = length_kept ms in omega (arith, c.if-at-len.false, c.len.ensures, all) in
     held_agrees g.F.Framing.format l cs c.args.self.now.held kept stands (sym c.is_numbered.ensures ∙ c.if-not-is_numbered.false) (counted i (piece_meaning c.args.piece.now) c.args.number) of r
     (c.rank_at-rank.ensures ∙ ap (rank_at c.args.number) c.place.ensures) (nat_lt k c.len.result)
     (λ e. absurd (let low : k < c.len.result = grind (arith, e, nat_tests) in omega (arith, low, c.if-at-len.false)))

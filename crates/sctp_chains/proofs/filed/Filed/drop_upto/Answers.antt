@@ -4,9 +4,9 @@ use Rattle.sctp_chains.proofs.filed.Filed.drop_upto.Goals as goal
 
 pub returns-then-at-before-clause-left : goal.returns-then-at-before-clause-left
 returns-then-at-before-clause-left c =
-    none_there c.args.self.now.chains.items c.args.at c.args.upto c.args.held (omega (arith, c.if-at-before.true, c.len-before.ensures, c.args.self.now.chains.ok))
+    none_there c.args.self.now.chains.items c.args.at c.args.upto c.args.held (omega (arith, c.if-at-before.true, c.len-before.ensures))
 
-pub returns-then-index-upto-clause-left : goal.returns-then-index-upto-clause-left
-returns-then-index-upto-clause-left c =
-    none_so_low c.args.self.now.chains.items c.args.at c.args.upto c.args.held c.index.result.now (omega (arith, c.if-at-before.false, c.len-before.ensures, c.args.self.now.chains.ok))
-    c.index.ensures c.if-index-upto.true
+pub returns-then-get-upto-clause-left : goal.returns-then-get-upto-clause-left
+returns-then-get-upto-clause-left c =
+    none_so_low c.args.self.now.chains.items c.args.at c.args.upto c.args.held c.get.result.now (omega (arith, c.if-at-before.false, c.len-before.ensures))
+    c.get.ensures c.if-get-upto.true

@@ -11,7 +11,7 @@ invariant_of-self-then-filed-gt0 c =
     let size = length_kept new in
     let old = length_kept c.args.self.now.chains.items in
     record {
-      counted = omega (arith, few, size, c.in_ok-filed.ensures.whole, c.args.self.now.counted, c.file.new.chains.ok);
+      counted = omega (arith, few, size, c.in_ok-filed.ensures.whole, c.args.self.now.counted, c.len-count.ensures);
       known = c.in_ok-filed.ensures.passed c.args.self.now.passed _ c.args.self.now.known (omega (arith, size, old)) (λ some. omega arith);
     }
 
@@ -22,6 +22,6 @@ invariant_of-self-else-filed-gt0 c =
     let size = length_kept new in
     let old = length_kept c.args.self.now.chains.items in
     record {
-      counted = omega (arith, few, size, c.in_ok-filed.ensures.whole, c.args.self.now.counted, c.file.new.chains.ok);
+      counted = omega (arith, few, size, c.in_ok-filed.ensures.whole, c.args.self.now.counted, c.len-count.ensures);
       known = c.in_ok-filed.ensures.passed c.args.self.now.passed _ c.args.self.now.known (omega (arith, size, old)) (λ some. absurd (omega (arith, some)));
     }
