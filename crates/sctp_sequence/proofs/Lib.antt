@@ -1,5 +1,6 @@
 mod PartLemmas
 mod JoinedLemmas
+mod StartLemmas
 mod PlaceLemmas
 mod BlockLemmas
 mod WriteLemmas

@@ -13,11 +13,45 @@ pub became_ok : {A E X : Type 0} (r : Result A E) (z x y : X) (Q : Type 0) → z
 became_ok (Ok a) z x y Q h e never = h
 became_ok (Err a) z x y Q h e never = absurd (never e)
 
--- the first block's length and capacity, the others' number and its bound, how many items there are, and whether a block is in reserve
-pub room_kept : (len cap blocks most n len' cap' blocks' most' n' : ℕ) (spare : Bool) → len ≤ cap → most' ≡ most → blocks' ≤ blocks → n' ≤ n → (0 < blocks → 512 ≤ cap') → (blocks ≡ 0 → len' ≤ len) → (blocks ≡ 0 → cap' ≡ cap)
+-- of three tests behind another the last and one of the others, and back
+without_second : (single alone s p q r : Bool) → cond single alone (s && (p && (q && r))) ≡ true → cond single alone (s && (p && r)) ≡ true
+without_second true alone s p q r h = h
+without_second false alone false p q r h = h
+without_second false alone true false q r h = h
+without_second false alone true true true r h = h
+without_second false alone true true false r h = absurd (true≢false (sym h))
+
+without_first : (single alone s p q r : Bool) → cond single alone (s && (p && (q && r))) ≡ true → cond single alone (s && (q && r)) ≡ true
+without_first true alone s p q r h = h
+without_first false alone false p q r h = h
+without_first false alone true true q r h = h
+without_first false alone true false q r h = absurd (true≢false (sym h))
+
+with_both : (single alone s p q r : Bool) → cond single alone (s && (p && r)) ≡ true → cond single alone (s && (q && r)) ≡ true → cond single alone (s && (p && (q && r))) ≡ true
+with_both true alone s p q r h l = h
+with_both false alone false p q r h l = h
+with_both false alone true false q r h l = h
+with_both false alone true true q r h l = l
+
+-- the first block's length and capacity, the others' number and a bound of it, how many items there are, and whether a block is in reserve
+one_kept : (len cap blocks most n len' cap' blocks' most' n' : ℕ) (spare : Bool) → len ≤ cap → most' ≡ most → blocks' ≤ blocks → n' ≤ n → (0 < blocks → 512 ≤ cap') → (blocks ≡ 0 → len' ≤ len) → (blocks ≡ 0 → cap' ≡ cap)
     → cond ((blocks == 0) && nat_lt len 512) (nat_lt len cap) (spare && (nat_lt blocks most && nat_lt n (2 ^ 64 - 1))) ≡ true
     → cond ((blocks' == 0) && nat_lt len' 512) (nat_lt len' cap') (spare && (nat_lt blocks' most' && nat_lt n' (2 ^ 64 - 1))) ≡ true
-room_kept len cap blocks most n len' cap' blocks' most' n' spare a same b c d e f h = grind (arith, nat_tests)
+one_kept len cap blocks most n len' cap' blocks' most' n' spare a same b c d e f h = grind (arith, nat_tests)
+
+-- the same with both bounds of their number
+pub room_kept : (len cap blocks most places n len' cap' blocks' most' places' n' : ℕ) (spare : Bool) → len ≤ cap → most' ≡ most → places' ≡ places → blocks' ≤ blocks → n' ≤ n → (0 < blocks → 512 ≤ cap') → (blocks ≡ 0 → len' ≤ len) → (blocks ≡ 0 → cap' ≡ cap)
+    → cond ((blocks == 0) && nat_lt len 512) (nat_lt len cap) (spare && (nat_lt blocks most && (nat_lt blocks places && nat_lt n (2 ^ 64 - 1)))) ≡ true
+    → cond ((blocks' == 0) && nat_lt len' 512) (nat_lt len' cap') (spare && (nat_lt blocks' most' && (nat_lt blocks' places' && nat_lt n' (2 ^ 64 - 1)))) ≡ true
+room_kept len cap blocks most places n len' cap' blocks' most' places' n' spare a same same' b c d e f h =
+    let single = (blocks == 0) && nat_lt len 512 in
+    let single' = (blocks' == 0) && nat_lt len' 512 in
+    let p = nat_lt blocks most in
+    let q = nat_lt blocks places in
+    let r = nat_lt n (2 ^ 64 - 1) in
+    with_both single' (nat_lt len' cap') spare (nat_lt blocks' most') (nat_lt blocks' places') (nat_lt n' (2 ^ 64 - 1))
+    (one_kept len cap blocks most n len' cap' blocks' most' n' spare a same b c d e f (without_second single (nat_lt len cap) spare p q r h))
+    (one_kept len cap blocks places n len' cap' blocks' places' n' spare a same' b c d e f (without_first single (nat_lt len cap) spare p q r h))
 
 -- the item that an equal list has there
 pub if_some_by : {X : Type 0} (r : Option X) (f f' : X → X) → ((d : X) → f d ≡ f' d) → IfSome r (λ x. x ≡ f x) → IfSome r (λ x. x ≡ f' x)

@@ -27,7 +27,8 @@ impl<T: Drop> Sequence<T> {
         }
         let alloc = *self.first.allocator();
         reserve_block(&mut self.spare, alloc)?;
-        self.rest.reserve(1).map_err(|_| NoMemory)
+        self.rest.reserve(1).map_err(|_| NoMemory)?;
+        self.starts.reserve(1).map_err(|_| NoMemory)
     }
 
     /// Puts an item in at a place, before what stands there. There is room for it.
@@ -39,7 +40,13 @@ impl<T: Drop> Sequence<T> {
         self.count += 1;
         let before = self.first.len();
         if before <= at && !self.rest.is_empty() {
-            return insert_later(&mut self.rest, &mut self.spare, at - before, item);
+            return insert_later(
+                &mut self.rest,
+                &mut self.starts,
+                &mut self.spare,
+                at - before,
+                item,
+            );
         }
         if before < BLOCK {
             if at == before {
@@ -48,7 +55,14 @@ impl<T: Drop> Sequence<T> {
             let _ = self.first.insert(at, item);
             return;
         }
-        insert_halving_first(&mut self.first, &mut self.rest, &mut self.spare, at, item);
+        insert_halving_first(
+            &mut self.first,
+            &mut self.rest,
+            &mut self.starts,
+            &mut self.spare,
+            at,
+            item,
+        );
     }
 
     /// Puts an item in at a place, before what stands there.
@@ -92,7 +106,7 @@ impl<T: Drop> Sequence<T> {
         if at < before {
             return replace(&mut self.first[at], item);
         }
-        let place = find(&self.rest, at - before);
+        let place = find(&self.rest, &self.starts, at - before);
         let block = &mut self.rest[place.block];
         replace(&mut block[place.offset], item)
     }

@@ -1,13 +1,13 @@
 //! An item comes among blocks, and a full one is halved for it.
 
-ghost use Rattle.std.specs.Prelude.{◌≡◌, ◌<◌, ◌≤◌, ◌++◌, ◌&&◌, true, length, nat_lt, is_some, IfSome, IsSome, OnOk, IsOk, ◌==◌};
+ghost use Rattle.std.specs.Prelude.{◌≡◌, ◌<◌, ◌≤◌, ◌+◌, ◌^◌, ◌++◌, ◌&&◌, true, length, nat_lt, is_some, IfSome, IsSome, OnOk, IsOk, ◌==◌};
 ghost use Rattle.std.specs.List.{insert, AllByRecursion};
 ghost use Rattle.std.specs.Vec.{vec_len, vec_capacity};
 ghost use Rattle.std.specs.VecDeque.{deque_len, deque_capacity};
-ghost use Rattle.sctp_sequence.specs.Blocks.{joined, IsBlock, IsSpare};
+ghost use Rattle.sctp_sequence.specs.Blocks.{joined, AreStarts, IsBlock, IsSpare};
 ghost use Rattle.sctp_sequence.specs.declared.sequence.TheConstants.{BLOCK};
 
-use crate::blocks::find_for;
+use crate::blocks::{find_for, raise, recount};
 use crate::halving::insert_halving;
 use crate::sequence::BLOCK;
 use sctp_values::NoMemory;
@@ -37,6 +37,7 @@ pub(crate) fn reserve_block<T: Drop>(
 pub(crate) fn insert_halving_first<T: Drop>(
     first: &mut VecDeque<T>,
     rest: &mut Vec<VecDeque<T>>,
+    starts: &mut Vec<usize>,
     spare: &mut Option<VecDeque<T>>,
     at: usize,
     item: T,
@@ -46,21 +47,29 @@ pub(crate) fn insert_halving_first<T: Drop>(
     requires blocks { AllByRecursion IsBlock rest.old.items }
     requires spare { IfSome spare.old IsSpare }
     requires there { IsSome spare.old }
+    requires each { vec_len starts.old ≡ vec_len rest.old }
     requires room { vec_len rest.old < vec_capacity rest.old }
+    requires starts_room { vec_len rest.old < vec_capacity starts.old }
+    requires small { length (first.old.items ++ joined rest.old.items) + 1 < 2 ^ 64 }
     ensures items { first.new.items ++ joined rest.new.items ≡ insert first.old.items at item ++ joined rest.old.items }
     ensures first { IsBlock first.new }
     ensures blocks { AllByRecursion IsBlock rest.new.items }
+    ensures each { vec_len starts.new ≡ vec_len rest.new }
+    ensures starts { AreStarts (vec_len rest.new) starts.new.items rest.new.items }
     ensures spare { IfSome spare.new IsSpare }
 {
     if let Some(mut later) = spare.take() {
         insert_halving(first, &mut later, at, item);
         let _ = rest.insert(0, later);
+        starts.push_reserved(0);
+        recount(rest, starts, 0, 0);
     }
 }
 
 /// An item comes into one of the other blocks, and into the last one where it comes behind all others.
 pub(crate) fn insert_later<T: Drop>(
     rest: &mut Vec<VecDeque<T>>,
+    starts: &mut Vec<usize>,
     spare: &mut Option<VecDeque<T>>,
     at: usize,
     item: T,
@@ -68,21 +77,29 @@ pub(crate) fn insert_later<T: Drop>(
     requires at { at ≤ length (joined rest.old.items) }
     requires some { 0 < vec_len rest.old }
     requires blocks { AllByRecursion IsBlock rest.old.items }
+    requires each { vec_len starts.old ≡ vec_len rest.old }
+    requires starts { AreStarts (vec_len rest.old) starts.old.items rest.old.items }
     requires spare { IfSome spare.old IsSpare }
     requires there { IsSome spare.old }
     requires room { vec_len rest.old < vec_capacity rest.old }
+    requires starts_room { vec_len rest.old < vec_capacity starts.old }
+    requires small { length (joined rest.old.items) + 1 < 2 ^ 64 }
     ensures items { joined rest.new.items ≡ insert (joined rest.old.items) at item }
     ensures blocks { AllByRecursion IsBlock rest.new.items }
+    ensures each { vec_len starts.new ≡ vec_len rest.new }
+    ensures starts { AreStarts (vec_len rest.new) starts.new.items rest.new.items }
     ensures spare { IfSome spare.new IsSpare }
 {
-    let place = find_for(rest, at);
+    let place = find_for(rest, starts, at);
     let block = &mut rest[place.block];
     if block.len() < BLOCK {
         let _ = block.insert(place.offset, item);
-        return;
+        return raise(starts, place.block + 1);
     }
     if let Some(mut later) = spare.take() {
         insert_halving(block, &mut later, place.offset, item);
         let _ = rest.insert(place.block + 1, later);
+        starts.push_reserved(0);
+        recount(rest, starts, place.block, at - place.offset);
     }
 }

@@ -21,10 +21,10 @@ impl<T: Drop> Sequence<T> {
         let before = self.first.len();
         self.count -= 1;
         if before <= at {
-            return remove_later(&mut self.rest, at - before);
+            return remove_later(&mut self.rest, &mut self.starts, at - before);
         }
         let item = self.first.remove(at);
-        move_up(&mut self.first, &mut self.rest);
+        move_up(&mut self.first, &mut self.rest, &mut self.starts);
         item
     }
 
@@ -38,7 +38,7 @@ impl<T: Drop> Sequence<T> {
         let item = self.first.pop_front();
         if item.is_some() {
             self.count -= 1;
-            move_up(&mut self.first, &mut self.rest);
+            move_up(&mut self.first, &mut self.rest, &mut self.starts);
         }
         item
     }

@@ -4,7 +4,6 @@ ghost use Rattle.std.specs.Prelude.{◌≡◌, ◌≤◌, Bool, true, false, len
 ghost use Rattle.std.specs.Fn.{ComputesKey};
 ghost use Rattle.std.specs.List.Sorted.{IsPartitionedBy, IsPartitionPoint};
 
-use crate::blocks::count_before;
 use crate::sequence::Sequence;
 
 impl<T> Sequence<T> {
@@ -29,7 +28,7 @@ impl<T> Sequence<T> {
         if low == 0 {
             return self.first.partition_point(pred);
         }
-        let before = self.first.len() + count_before(&self.rest, low - 1);
+        let before = self.first.len() + self.starts[low - 1];
         before + self.rest[low - 1].partition_point(pred)
     }
 }

@@ -10,12 +10,14 @@ use std::marker::Model;
 /// How many items a block has at the most.
 pub(crate) const BLOCK: usize = 512;
 
-/// A list of items. The first block is empty only if there is no other; each other block has an item.
+/// A list of items. The first block is empty only if there is no other; each other block has an item. Beside those others stands how many of
+/// their items come before each, so that a place is found by halves.
 #[derive(Debug, Drop)]
 pub struct Sequence<T> {
     pub(crate) count: usize,
     pub(crate) first: VecDeque<T>,
     pub(crate) rest: Vec<VecDeque<T>>,
+    pub(crate) starts: Vec<usize>,
     pub(crate) spare: Option<VecDeque<T>>,
 }
 
@@ -28,9 +30,9 @@ impl<T> Model for Sequence<T> {
 
     ghost use Rattle.sctp_sequence.specs.Blocks.{sequence_of, AreBlocks};
 
-    ghost view = { λ s. sequence_of s.count s.first s.rest s.spare };
+    ghost view = { λ s. sequence_of s.count s.first s.rest s.starts s.spare };
 
-    ghost invariant = { λ s. AreBlocks s.count s.first s.rest s.spare };
+    ghost invariant = { λ s. AreBlocks s.count s.first s.rest s.starts s.spare };
 }
 
 impl<T> Sequence<T> {
@@ -42,6 +44,7 @@ impl<T> Sequence<T> {
             count: 0,
             first: VecDeque::new(alloc),
             rest: Vec::new(alloc),
+            starts: Vec::new(alloc),
             spare: None,
         }
     }
@@ -68,7 +71,7 @@ impl<T> Sequence<T> {
         if at < self.first.len() {
             return &self.first[at];
         }
-        let place = find(&self.rest, at - self.first.len());
+        let place = find(&self.rest, &self.starts, at - self.first.len());
         &self.rest[place.block][place.offset]
     }
 }

@@ -71,3 +71,58 @@ fn items_go_and_are_replaced(rt: HostRuntime) -> Result<(), Fail> {
     }
     Ok(())
 }
+
+/// A place below a bound, far from the one before.
+fn scattered(n: usize, bound: usize) -> usize {
+    if bound == 0 {
+        return 0;
+    }
+    n.wrapping_mul(7_919) % bound
+}
+
+/// They have the same items, one after another.
+fn are_same(items: &Sequence<usize>, plain: &Vec<usize>) -> bool {
+    if items.len() != plain.len() {
+        return false;
+    }
+    for at in 0..items.len() {
+        if *items.get(at) != plain[at] {
+            return false;
+        }
+    }
+    true
+}
+
+#[test]
+fn items_come_and_go_as_in_a_plain_list(rt: HostRuntime) -> Result<(), Fail> {
+    let mut items = Sequence::new(rt.alloc());
+    let mut plain = Vec::new(rt.alloc());
+    for n in 0..4_000 {
+        let at = scattered(n, plain.len());
+        items.insert(at.min(items.len()), n)?;
+        plain.insert(at.min(plain.len()), n)?;
+        if n % 3 == 2 {
+            let at = scattered(n, plain.len());
+            if at < plain.len() {
+                assert_eq!(rt; items.remove(at), Some(plain.remove(at)));
+            }
+        }
+        assert!(rt; n % 64 != 0 || are_same(&items, &plain));
+    }
+    for n in 0..2_000 {
+        // Blocks amid others become empty.
+        let at = 600;
+        if at < plain.len() {
+            assert_eq!(rt; items.remove(at), Some(plain.remove(at)));
+        }
+        assert!(rt; n % 64 != 0 || are_same(&items, &plain));
+    }
+    for _ in 0..plain.len() {
+        if !plain.is_empty() {
+            assert_eq!(rt; items.pop_front(), Some(plain.remove(0)));
+        }
+        assert!(rt; are_same(&items, &plain));
+    }
+    assert!(rt; items.is_empty());
+    Ok(())
+}

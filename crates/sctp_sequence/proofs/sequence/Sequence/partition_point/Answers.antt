@@ -56,20 +56,16 @@ returns-then-low-eq0-clause-partitioned g c =
     first_point p f bs c.partition_point.result c.loop-low.low c.loop-low.high c.self.invariant.rest (omega (arith, f.ok, c.partition_point.ensures.bound)) c.if-low-eq0.true c.loop-low-test.false parted i.1
     (c.partition_point.ensures.partitioned p i.0 (parted_front p f.items (joined bs) parted)))
 
-pub count_before-requires-clause-small : goal.count_before-requires-clause-small
-count_before-requires-clause-small g c =
-    let s = c.self.inside in
-    let all = length-append s.first.items (joined s.rest.items) in
-    let count = rw (← c.self.view_is) at c.len-count.ensures in
-    omega (arith, all, count, c.len-count.type_inv)
-
 pub overflow_add-before : goal.overflow_add-before
 overflow_add-before g c =
     let s = c.self.inside in
+    let k = c.loop-low.low - 1 in
+    let top = c.loop-low.invariant.1 in
+    let start : c.index-2.result.now ≡ length (joined (take k s.rest.items)) = c.index-2.ensures ∙ c.self.invariant.starts k _ (omega (arith, s.rest.ok, top, c.loop-low.invariant.0, c.if-low-eq0.false)) in
     let all = length-append s.first.items (joined s.rest.items) in
-    let within = count_within s.rest.items (c.loop-low.low - 1) in
+    let within = count_within s.rest.items k in
     let count = rw (← c.self.view_is) at c.len-count.ensures in
-    omega (arith, all, within, count, c.len-count.type_inv, s.first.ok, c.len.ensures, c.count_before.ensures)
+    omega (arith, all, within, count, c.len-count.type_inv, s.first.ok, c.len.ensures, start)
 
 pub overflow_add-result : goal.overflow_add-result
 overflow_add-result g c =
@@ -78,10 +74,11 @@ overflow_add-result g c =
     let k = c.loop-low.low - 1 in
     let top = c.loop-low.invariant.1 in
     let less : k < length bs = omega (arith, top, c.loop-low.invariant.0, c.if-low-eq0.false) in
-    let b = c.index-2.result.now in
-    let all = within_all s.first bs k b less c.index-2.ensures in
+    let start : c.index-2.result.now ≡ length (joined (take k bs)) = c.index-2.ensures ∙ c.self.invariant.starts k _ (omega (arith, s.rest.ok, less)) in
+    let b = c.index-3.result.now in
+    let all = within_all s.first bs k b less c.index-3.ensures in
     let count = rw (← c.self.view_is) at c.len-count.ensures in
-    omega (arith, all, count, c.len-count.type_inv, s.first.ok, b.ok, c.len.ensures, c.count_before.ensures, c.partition_point-2.ensures.bound)
+    omega (arith, all, count, c.len-count.type_inv, s.first.ok, b.ok, c.len.ensures, start, c.partition_point-2.ensures.bound)
 
 pub returns-clause-bound : goal.returns-clause-bound
 returns-clause-bound g c =
@@ -90,9 +87,10 @@ returns-clause-bound g c =
     let k = c.loop-low.low - 1 in
     let top = c.loop-low.invariant.1 in
     let less : k < length bs = omega (arith, top, c.loop-low.invariant.0, c.if-low-eq0.false) in
-    let b = c.index-2.result.now in
-    let all = within_all s.first bs k b less c.index-2.ensures in
-    rw (← c.self.view_is) (omega (arith, all, s.first.ok, b.ok, c.len.ensures, c.count_before.ensures, c.partition_point-2.ensures.bound))
+    let start : c.index-2.result.now ≡ length (joined (take k bs)) = c.index-2.ensures ∙ c.self.invariant.starts k _ (omega (arith, s.rest.ok, less)) in
+    let b = c.index-3.result.now in
+    let all = within_all s.first bs k b less c.index-3.ensures in
+    rw (← c.self.view_is) (omega (arith, all, s.first.ok, b.ok, c.len.ensures, start, c.partition_point-2.ensures.bound))
 
 pub returns-clause-partitioned : goal.returns-clause-partitioned
 returns-clause-partitioned g c =
@@ -104,9 +102,10 @@ returns-clause-partitioned g c =
     let top = c.loop-low.invariant.1 in
     let some : 0 < low = omega (arith, c.if-low-eq0.false) in
     let less : k < length bs = omega (arith, top, c.loop-low.invariant.0, some) in
-    let b = c.index-2.result.now in
-    let count : c.len.result + c.count_before.result ≡ length f.items + length (joined (take k bs)) = omega (arith, f.ok, c.len.ensures, c.count_before.ensures) in
+    let start : c.index-2.result.now ≡ length (joined (take k bs)) = c.index-2.ensures ∙ c.self.invariant.starts k _ (omega (arith, s.rest.ok, less)) in
+    let b = c.index-3.result.now in
+    let count : c.len.result + c.index-2.result.now ≡ length f.items + length (joined (take k bs)) = omega (arith, f.ok, c.len.ensures, start) in
     rw (← c.self.view_is) (λ p computes parted.
     let i = c.loop-low.invariant.3 p computes in
-    later_point p f bs k b less c.index-2.ensures _ c.partition_point-2.result low c.loop-low.high c.self.invariant.rest count (omega (arith, b.ok, c.partition_point-2.ensures.bound)) (omega (arith, some)) (omega (arith, c.loop-low-test.false, c.loop-low.invariant.0)) (i.1.passes some b c.index-2.ensures) parted i.1
-    (c.partition_point-2.ensures.partitioned p i.0 (later_parted p f bs k b less c.index-2.ensures parted)))
+    later_point p f bs k b less c.index-3.ensures _ c.partition_point-2.result low c.loop-low.high c.self.invariant.rest count (omega (arith, b.ok, c.partition_point-2.ensures.bound)) (omega (arith, some)) (omega (arith, c.loop-low-test.false, c.loop-low.invariant.0)) (i.1.passes some b c.index-3.ensures) parted i.1
+    (c.partition_point-2.ensures.partitioned p i.0 (later_parted p f bs k b less c.index-3.ensures parted)))

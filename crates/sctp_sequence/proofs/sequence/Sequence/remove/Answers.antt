@@ -25,5 +25,5 @@ returns-clause-room g c = λ room.
     let wide : 0 < vec_len s.rest → 512 ≤ deque_capacity f = λ more. let w = c.self.invariant.wide more in c.move_up.ensures.wide (omega (arith, w, c.remove-item.ensures.capacity)) in
     let short : vec_len s.rest ≡ 0 → deque_len f ≤ deque_len s.first = λ none. let same = ap deque_len (c.move_up.ensures.alone none) in omega (arith, same, one) in
     let memory : vec_len s.rest ≡ 0 → deque_capacity f ≡ deque_capacity s.first = λ none. ap deque_capacity (c.move_up.ensures.alone none) ∙ c.remove-item.ensures.capacity in
-    room_kept (deque_len s.first) (deque_capacity s.first) (vec_len s.rest) (vec_capacity s.rest) s.count (deque_len f) (deque_capacity f) (vec_len r) (vec_capacity r) (s.count - 1) (is_some s.spare)
-    s.first.small.1 c.move_up.ensures.capacity c.move_up.ensures.len (omega arith) wide short memory (rw (← c.self.view_is) at room)
+    room_kept (deque_len s.first) (deque_capacity s.first) (vec_len s.rest) (vec_capacity s.rest) (vec_capacity s.starts) s.count (deque_len f) (deque_capacity f) (vec_len r) (vec_capacity r) (vec_capacity c.move_up.new.starts) (s.count - 1) (is_some s.spare)
+    s.first.small.1 c.move_up.ensures.capacity c.move_up.ensures.starts_capacity c.move_up.ensures.len (omega arith) wide short memory (rw (← c.self.view_is) at room)

@@ -22,7 +22,7 @@ invariant_of-self-2 g c =
     let offset = c.find-place.result.offset in
     let less : k < length bs = omega (arith, s.rest.ok, c.find-place.ensures.block) in
     let within : offset < length b.items = omega (arith, b.ok, as_read (λ d. offset < deque_len d) bs k b c.index_mut-block.ensures.value c.find-place.ensures.offset) in
-    written s.count s.first s.rest s.spare k _ offset b (deque_with_item b offset c.replace-2.new.dest) c.replace-2.new.dest c.self.invariant less c.index_mut-block.ensures.value c.find-place.ensures.place within refl refl refl
+    written s.count s.first s.rest s.starts s.spare k _ offset b (deque_with_item b offset c.replace-2.new.dest) c.replace-2.new.dest c.self.invariant less c.index_mut-block.ensures.value c.find-place.ensures.place within refl refl refl
 
 pub returns-clause-value : goal.returns-clause-value
 returns-clause-value g c =
