@@ -171,6 +171,7 @@ sender_growth() {
         within=
         grows "$format: a SACK of 64 blocks over so many, 128 change" 8000 20 call "$built" "$format" blocks
         grows "$format: a SACK of 365 blocks over so many, 730 change" 8000 20 call "$built" "$format" more-blocks
+        grows "$format: SACKs that cover nothing and all but the first of so many by turns, by entry" 4000 2 kept "$built" "$format" turns
     done
     # under DATA no message is ever in part
     grows 'i-data: fill, one message in part on one of so many streams' 256 20 call "$built" i-data fill-part

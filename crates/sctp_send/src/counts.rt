@@ -181,7 +181,8 @@ pub fn cover_one(entries: &mut VecDeque<Outstanding>, counts: &mut Counts, size:
     ensures capacity { deque_capacity entries.new ≡ deque_capacity entries.old }
 {
     let entry = &mut entries[at];
-    let _no_later = counts.earliest;
+    // It is read for the proof alone: no moment is later than the last one.
+    let _earliest = counts.earliest;
     counts.leave(entry, size);
     entry.standing = unmarked(entry.standing);
     entry.covered = true;
