@@ -133,6 +133,7 @@ receiver_growth() {
         within='sctp_recv::receiver::Receiver::on_data*'
         grows "$format: a fragment before so many of its message" 2000 1000 call "$built" "$format" backwards
         grows "$format: a fragment between the last two of so many chains of its message" 2000 100 call "$built" "$format" inwards
+        grows "$format: a fragment between two amid so many chains of its message" 2000 1000 call "$built" "$format" amid
         within=
         grows "$format: a fragment between two of so many chains of its message" 2000 100 call "$built" "$format" fragments
         grows "$format: a fragment between two of so many chains of its message, while a later message waits whole" 2000 100 call "$built" "$format" later
