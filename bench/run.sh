@@ -158,6 +158,8 @@ sender_growth() {
         grows "$format: expire, none of so many late" 1024 100 call "$built" "$format" early
         grows "$format: expire, one of so many late" 1024 20 call "$built" "$format" one-late
         grows "$format: expire, one of so many late that wait" 250 20 call "$built" "$format" one-late-waits
+        grows "$format: expire, all of so many late that wait, by message" 250 1 kept "$built" "$format" late-waits
+        grows "$format: expire, every other one of so many late that wait, by message that waits" 250 1 kept "$built" "$format" half-late-waits
         grows "$format: abandon, one of so many outstanding" 1024 20 call "$built" "$format" abandon
         grows "$format: abandon, one of so many that wait" 250 20 call "$built" "$format" withdraw
         grows "$format: acknowledged, of one of so many outstanding" 1024 20 call "$built" "$format" acknowledged
