@@ -3,6 +3,7 @@ use Rattle.std.proofs.Common.{◌≡◌, ℕ, suc, ◌+◌, ◌^◌, ◌<◌, �
 use Rattle.std.specs.Prelude.{nat_le, nat_lt, ◌&&◌, Option, IsSome, None}
 use Rattle.std.proofs.lemmas.Option.{get_or_from_slice_get}
 use Rattle.std.proofs.lemmas.List.{length-map}
+use Rattle.std.proofs.lemmas.Bool.{and_parts}
 use Rattle.std.specs.declared.rc.Rc.{Rc}
 use Rattle.std.specs.declared.alloc.Global.{Global}
 use Rattle.sctp_model.specs.numbers.Limits.{WINDOW}
@@ -22,14 +23,14 @@ use Rattle.sctp_model.proofs.sender.SetLaws.{AllFilled, is_filled}
 use Rattle.sctp_model.proofs.sender.CountLaws.{first_there}
 use Rattle.sctp_model.proofs.sender.QueueLaws.{IsTaken, taken_head, taken_first}
 use Rattle.sctp_packet.specs.Draft.{Draft as PacketDraft, room_in, has_room, with_chunks}
-use Rattle.sctp_send.specs.SenderKept.{Track, Kept}
+use Rattle.sctp_send.specs.SenderKept.{Item, Track, Kept}
 use Rattle.sctp_send.specs.SenderStands.{track_here, Keeps}
 use Rattle.sctp_send.specs.OutstandingFields.{item_meaning, lane_meaning, message_meaning, queued_meaning}
 use Rattle.sctp_send.specs.SenderFields.{queued_by, track_meaning}
-use Rattle.sctp_send.specs.FillAnswers.{PutSomeOf}
 use Rattle.sctp_send.specs.inner.Walks.{total, one_if_rest}
-use Rattle.sctp_send.specs.inner.Newcomers.{begun_items, number_in, begun_track, rest_at, has_rest, one_if, without_place, fresh_track, number_on, begun, IsBegun}
-use Rattle.sctp_send.specs.inner.Drafting.{numbers_of, drafted, fragment_chunk, IsPut, IsStopped, IsOffered, NothingStands}
+use Rattle.sctp_send.specs.inner.Newcomers.{gone_item, new_item, new_items, begun_items, number_in, begun_track, rest_at, has_rest, one_if, without_place, fresh_track, number_on, begun, IsBegun}
+use Rattle.sctp_send.specs.inner.Wishing.{item_flight}
+use Rattle.sctp_send.specs.inner.Drafting.{numbers_of, drafted, fragment_chunk, item_chunk, let_in, IsStopped, IsRefused, IsTried, PutAnswer, NothingStands}
 use Rattle.sctp_values.specs.Meanings.{kind_meaning}
 use Rattle.std.proofs.lemmas.Option.{slice_get-get_or}
 use Rattle.sctp_send.specs.declared.track.Track.{Track as TrackFields}
@@ -44,7 +45,7 @@ use Rattle.sctp_send.proofs.AssignedKept.{begun_kept, outstanding_begun, length-
 use Rattle.sctp_send.proofs.ChunkLemmas.{chunk_begun, bytes_begun}
 use Rattle.sctp_send.proofs.FewLemmas.{few_messages}
 use Rattle.sctp_send.proofs.NewlyLemmas.{newly_begun}
-use Rattle.sctp_send.proofs.NewMayLemmas.{flows, in_window, new_may, next_is, few_parts, rest_read, when_rest, window_test, and_off, map_read}
+use Rattle.sctp_send.proofs.NewMayLemmas.{flows, in_window, new_may, next_is, few_parts, rest_read, when_rest, window_test, and_off, map_read, tried_put, item_behind}
 
 -- ---- a message begins
 
@@ -111,11 +112,6 @@ number_read n i number xs ts x m y all stream same low read is =
 pub window_read : (x : ℕ) (ts : List Track) (m y : MessageFields) (r b : Bool) → y ≡ m → r ≡ nat_le x (WINDOW + one_if (has_rest (rest_at ts y.stream))) → r ≡ b → nat_le x (WINDOW + one_if (has_rest (rest_at ts m.stream))) ≡ b
 window_read x ts m y r b same is tested = ap (λ (z : MessageFields). nat_le x (WINDOW + one_if (has_rest (rest_at ts z.stream)))) (sym same) ∙ sym is ∙ tested
 
--- whether more fragments are left, as it was read
-pub left_over : (count size n many : ℕ) (bytes : List ℕ) (m y : MessageFields) → many ≡ length (cut size bytes) → size ≡ n → bytes ≡ y.bytes.items → y ≡ m → nat_lt count many ≡ nat_lt count (length (cut n m.bytes.items))
-left_over count size n many bytes m y all one read same =
-    ap (nat_lt count) (all ∙ ap (λ (k : ℕ). length (cut k bytes)) one ∙ ap (λ (bs : List ℕ). length (cut n bs)) (read ∙ ap (λ (z : MessageFields). z.bytes.items) same))
-
 -- a stream that is there was found
 pub never_none : {A : Type 0} (o : Option A) (P : Type 0) → o ≡ None → (P → IsSome o) → P → ⊥
 never_none None P is found p = let off = found p in cc
@@ -174,17 +170,16 @@ module _ (f : Format) (s : Kept) (v : SenderView) (old : Draft) (m : MessageFiel
 
   begun_goes : (p : PacketDraft) (more : Bool) → more ≡ nat_lt count (length (cut s.fragment m.bytes.items))
       → in_window s old count m.stream more ≡ true
-      → (flows s old (bytes_in (Part (lane_meaning m) number 0) (Some (message_meaning s.fragment m)))
-      && has_room p (fragment_chunk f s.fragment s.initial (suc (s.cum + length old.outstanding.items)) m number (Fragment 0))) ≡ true
+      → let_in f (item_flight (map (item_meaning s.fragment) old.outstanding.items)) s (suc (s.cum + length old.outstanding.items)) p (Part (lane_meaning m) number 0) (Some (message_meaning s.fragment m)) ≡ true
       → goes f (room_in p) v ≡ Some (newcomer v led)
-  begun_goes p more is window offered =
-      goes_is f (room_in p) v (newcomer v led) (next_is f v led stands by.assigned) (begun_may p ∙ ap (λ (x : Bool). x && nat_le (outstanding led) WINDOW) offered ∙ begun_window more is ∙ window)
+  begun_goes p more is window on =
+      goes_is f (room_in p) v (newcomer v led) (next_is f v led stands by.assigned) (begun_may p ∙ ap (λ (x : Bool). x && nat_le (outstanding led) WINDOW) on ∙ begun_window more is ∙ window)
 
-  -- it was not let flow, or did not fit
-  pub begun_held : (p r : PacketDraft) (new : Draft) → IsOffered f s old p r m number 0 false → drafted s new ≡ drafted s old → new.tickets ≡ old.tickets → IsStopped f s v p r old new
-  begun_held p r new offer kept tickets = record {
-    none = goes_not f (room_in p) v (newcomer v led) (next_is f v led stands by.assigned) (begun_may p ∙ ap (λ (x : Bool). x && nat_le (outstanding led) WINDOW) (sym offer.answer));
-    packet = offer.packet;
+  -- it may not flow, or does not fit
+  pub begun_held : (p r : PacketDraft) (new : Draft) → let_in f (item_flight (map (item_meaning s.fragment) old.outstanding.items)) s (suc (s.cum + length old.outstanding.items)) p (Part (lane_meaning m) number 0) (Some (message_meaning s.fragment m)) ≡ false → r ≡ p → drafted s new ≡ drafted s old → new.tickets ≡ old.tickets → IsStopped f s v p r old new
+  begun_held p r new off packet kept tickets = record {
+    none = goes_not f (room_in p) v (newcomer v led) (next_is f v led stands by.assigned) (begun_may p ∙ ap (λ (x : Bool). x && nat_le (outstanding led) WINDOW) off);
+    packet = packet;
     kept = kept;
     tickets = tickets;
   }
@@ -200,14 +195,32 @@ module _ (f : Format) (s : Kept) (v : SenderView) (old : Draft) (m : MessageFiel
     tickets = tickets;
   }
 
-  -- it is in the packet, and took its number
-  pub begun_put : (p r : PacketDraft) (new : Draft) (more : Bool) (capacity : ℕ) → more ≡ nat_lt count (length (cut s.fragment m.bytes.items))
-      → in_window s old count m.stream more ≡ true
-      → IsOffered f s old p r m number 0 true → drafted s new ≡ begun (drafted s old) (queued_meaning s.fragment m) place count turn capacity → s.streams + length new.outstanding.items ≤ capacity
-      → numbers_of new.tickets.items ≡ numbers_of old.tickets.items ++ m.ticket ∷ [] → IsPut f s v p r old new
-  begun_put p r new more capacity is window offer kept room tickets =
+  -- its chunk, of the item that it is then
+  begun_tried : (p r : PacketDraft) (new : Draft) (at capacity : ℕ) (none : Item) (put : Bool) → at ≡ length old.outstanding.items → drafted s new ≡ begun (drafted s old) (queued_meaning s.fragment m) place count turn capacity
+      → IsTried p r (item_chunk f s.initial (suc (s.cum + at)) (get_or (drafted s new).items at none)) put
+      → IsTried p r (fragment_chunk f s.fragment s.initial (suc (s.cum + length old.outstanding.items)) m number (Fragment 0)) put
+  begun_tried p r new at capacity none put here kept tried =
       let q = queued_meaning s.fragment m in
-      let goes_now = begun_goes p more is window (sym offer.answer) in
+      let xs = (drafted s old).items in
+      let n = number_on (drafted s old).tracks q.lane in
+      let long : at ≡ length xs = here ∙ sym (length-map old.outstanding.items (item_meaning s.fragment)) in
+      let items = ap (λ (y : Kept). y.items) kept ∙ ap (λ (d : ℕ). xs ++ begun_items q.lane n q.message d) by.some in
+      let item = ap (λ (ys : List Item). get_or ys at none) items ∙ ap (λ (j : ℕ). get_or (xs ++ begun_items q.lane n q.message (suc by.less)) j none) long
+      ∙ item_behind xs (gone_item (new_item (Part q.lane n 0) q.message)) (new_items q.lane n q.message 1 by.less) none
+      ∙ ap (λ (j : ℕ). gone_item (new_item (Part q.lane j 0) q.message)) (sym its) in
+      subst (λ (j : ℕ). IsTried p r (fragment_chunk f s.fragment s.initial (suc (s.cum + j)) m number (Fragment 0)) put) here
+      (subst (λ (x : Item). IsTried p r (item_chunk f s.initial (suc (s.cum + at)) x) put) item tried)
+
+  -- it is in the packet, and took its number
+  pub begun_put : (p r : PacketDraft) (new : Draft) (more : Bool) (at capacity : ℕ) (none : Item) (put : Bool) → more ≡ nat_lt count (length (cut s.fragment m.bytes.items))
+      → in_window s old count m.stream more ≡ true
+      → let_in f (item_flight (map (item_meaning s.fragment) old.outstanding.items)) s (suc (s.cum + length old.outstanding.items)) p (Part (lane_meaning m) number 0) (Some (message_meaning s.fragment m)) ≡ true → at ≡ length old.outstanding.items
+      → drafted s new ≡ begun (drafted s old) (queued_meaning s.fragment m) place count turn capacity → s.streams + length new.outstanding.items ≤ capacity
+      → numbers_of new.tickets.items ≡ numbers_of old.tickets.items ++ m.ticket ∷ []
+      → IsTried p r (item_chunk f s.initial (suc (s.cum + at)) (get_or (drafted s new).items at none)) put → PutAnswer f s v p r old new put
+  begun_put p r new more at capacity none put is window on here kept room tickets tried =
+      let q = queued_meaning s.fragment m in
+      let goes_now = begun_goes p more is window on in
       let many = ap (λ (y : Kept). length y.items) kept in
       let long = length-map new.outstanding.items (item_meaning s.fragment) in
       let all = ap (λ (n : ℕ). length (begun (drafted s old) q place n turn capacity).items) by.some in
@@ -217,21 +230,18 @@ module _ (f : Format) (s : Kept) (v : SenderView) (old : Draft) (m : MessageFiel
       let h = begun_kept f (drafted s old) v q (without_place place v.queue) by.less turn capacity (room_in p) fresh_track k by.taken by.low goes_now (omega (arith, many, long, all, more_items, new_ones, streams, room)) in
       let queue = subst (λ (qs : List Queued). Keeps f (record (begun (drafted s old) q place (suc by.less) turn capacity) { queue = without_place place qs }) (gone (newcomer v led))) (sym k.holds.queue) h in
       let counted = subst (λ (n : ℕ). Keeps f (begun (drafted s old) q place n turn capacity) (gone (newcomer v led))) (sym by.some) queue in
-      record {
+      let in_packet = tried_put p r _ put (and_parts _ _ on).1 (begun_tried p r new at capacity none put here kept tried) in
+      subst (λ (b : Bool). PutAnswer f s v p r old new b) (sym in_packet.0)
+      (record {
         wish = newcomer v led;
         next = goes_now;
-        chunk = offer.packet ∙ ap (λ (c : ChunkMeaning). with_chunks p (c ∷ [])) (sym begun_chunk);
+        chunk = in_packet.1 ∙ ap (λ (c : ChunkMeaning). with_chunks p (c ∷ [])) (sym begun_chunk);
         keeps = subst (λ (y : Kept). Keeps f y (gone (newcomer v led))) (sym kept) counted;
         told = tickets ∙ ap (λ (ts : List ℕ). numbers_of old.tickets.items ++ ts) (sym (newly_begun v q (without_place place v.queue) by.less turn));
-      }
+      })
 
-  -- it is in the packet, and memory ran out then
-  pub begun_some : (p r : PacketDraft) (more : Bool) → more ≡ nat_lt count (length (cut s.fragment m.bytes.items))
+  -- memory ran out for it
+  pub begun_refused : (p r : PacketDraft) (more : Bool) → more ≡ nat_lt count (length (cut s.fragment m.bytes.items))
       → in_window s old count m.stream more ≡ true
-      → IsOffered f s old p r m number 0 true → PutSomeOf f v p r
-  begun_some p r more is window offer = record {
-    wishes = newcomer v led ∷ [];
-    view = gone (newcomer v led);
-    follows = (begun_goes p more is window (sym offer.answer), refl);
-    chunks = offer.packet ∙ ap (λ (c : ChunkMeaning). with_chunks p (c ∷ [])) (sym begun_chunk);
-  }
+      → let_in f (item_flight (map (item_meaning s.fragment) old.outstanding.items)) s (suc (s.cum + length old.outstanding.items)) p (Part (lane_meaning m) number 0) (Some (message_meaning s.fragment m)) ≡ true → r ≡ p → IsRefused f v p r
+  begun_refused p r more is window on packet = record { wish = newcomer v led; next = begun_goes p more is window on; packet = packet }

@@ -1,8 +1,9 @@
 -- A message in part goes on: its next fragment is put into a packet, or isn't.
-use Rattle.std.proofs.Common.{◌≡◌, ℕ, suc, ◌+◌, ◌%◌, ◌^◌, ◌<◌, ◌≤◌, List, [], ◌∷◌, ◌++◌, length, map, Bool, true, false, Option, Some, None, refl, sym, ap, ◌∙◌, subst, arith, append-nil, length-append}
+use Rattle.std.proofs.Common.{◌≡◌, ℕ, suc, ◌+◌, ◌%◌, ◌^◌, ◌<◌, ◌≤◌, List, [], ◌∷◌, ◌++◌, length, map, get_or, Bool, true, false, Option, Some, None, refl, sym, ap, ◌∙◌, subst, arith, append-nil, length-append}
 use Rattle.std.specs.Prelude.{nat_le, nat_lt, ◌&&◌}
 use Rattle.std.proofs.lemmas.Option.{slice_get-get_or}
 use Rattle.std.proofs.lemmas.List.{length-map}
+use Rattle.std.proofs.lemmas.Bool.{and_parts}
 use Rattle.sctp_model.specs.numbers.Limits.{WINDOW}
 use Rattle.sctp_model.specs.messages.Format.{Format}
 use Rattle.sctp_model.specs.wire.Chunk.{ChunkMeaning}
@@ -17,15 +18,15 @@ use Rattle.sctp_model.specs.sender.Readers.{outstanding}
 use Rattle.sctp_model.specs.sender.Filling.{newcomer, may_go, chunk_of, goes, gone}
 use Rattle.sctp_model.proofs.sender.FillLaws.{goes_is, goes_not}
 use Rattle.sctp_packet.specs.Draft.{Draft as PacketDraft, room_in, has_room, with_chunks}
-use Rattle.sctp_send.specs.SenderKept.{Rest, Track, Kept}
+use Rattle.sctp_send.specs.SenderKept.{Item, Rest, Track, Kept}
 use Rattle.sctp_send.specs.SenderStands.{rest_here, track_here, Keeps}
 use Rattle.sctp_send.specs.OutstandingFields.{item_meaning, lane_meaning, message_meaning}
 use Rattle.sctp_send.specs.SenderFields.{track_meaning, rest_meaning}
-use Rattle.sctp_send.specs.FillAnswers.{PutSomeOf}
 use Rattle.sctp_send.specs.inner.Walks.{total, one_if_rest}
 use Rattle.sctp_send.specs.inner.Newcomers as kept
 use Rattle.sctp_send.specs.inner.Newcomers.{gone_item, rest_item, rest_after, begun_items, number_in, begun_track, rest_at, has_rest, one_if, without_place, fresh_track, track_of, number_on, begun, IsBegun, IsContinued}
-use Rattle.sctp_send.specs.inner.Drafting.{numbers_of, drafted, fragment_chunk, IsPut, IsStopped, IsOffered, NothingStands}
+use Rattle.sctp_send.specs.inner.Wishing.{item_flight}
+use Rattle.sctp_send.specs.inner.Drafting.{numbers_of, drafted, fragment_chunk, item_chunk, let_in, IsStopped, IsRefused, IsTried, PutAnswer, NothingStands}
 use Rattle.sctp_send.specs.declared.draft.Draft.{Draft}
 use Rattle.sctp_send.specs.declared.entry.Place.TheVariants.{Fragment}
 use Rattle.sctp_send.specs.declared.track.Rest.{Rest as RestFields}
@@ -36,7 +37,7 @@ use Rattle.sctp_send.proofs.AssignedKept.{continued_kept, outstanding_continued}
 use Rattle.sctp_send.proofs.ChunkLemmas.{chunk_continued, bytes_continued}
 use Rattle.sctp_send.proofs.FewLemmas.{few_fragments}
 use Rattle.sctp_send.proofs.NewlyLemmas.{newly_continued}
-use Rattle.sctp_send.proofs.NewMayLemmas.{flows, in_window, new_may, next_is, few_parts, rest_read, when_rest, window_test, and_off}
+use Rattle.sctp_send.proofs.NewMayLemmas.{flows, in_window, new_may, next_is, few_parts, rest_read, when_rest, window_test, and_off, tried_put, item_behind}
 
 -- ---- a message goes on
 
@@ -125,17 +126,16 @@ module _ (f : Format) (s : Kept) (v : SenderView) (old : Draft) (r : RestFields)
 
   continued_goes : (p : PacketDraft) (more : Bool) → more ≡ nat_lt (suc r.fragment) (length (cut s.fragment r.message.value.bytes.items))
       → in_window s old 1 stream more ≡ true
-      → (flows s old (bytes_in e (Some (message_meaning s.fragment r.message.value)))
-      && has_room p (fragment_chunk f s.fragment s.initial (suc (s.cum + length old.outstanding.items)) r.message.value r.number (Fragment r.fragment))) ≡ true
+      → let_in f (item_flight (map (item_meaning s.fragment) old.outstanding.items)) s (suc (s.cum + length old.outstanding.items)) p e (Some (message_meaning s.fragment r.message.value)) ≡ true
       → goes f (room_in p) v ≡ Some (newcomer v led)
-  continued_goes p more is window offered =
-      goes_is f (room_in p) v (newcomer v led) (next_is f v led stands led_is) (continued_may p ∙ ap (λ (x : Bool). x && nat_le (outstanding led) WINDOW) offered ∙ continued_window more is ∙ window)
+  continued_goes p more is window on =
+      goes_is f (room_in p) v (newcomer v led) (next_is f v led stands led_is) (continued_may p ∙ ap (λ (x : Bool). x && nat_le (outstanding led) WINDOW) on ∙ continued_window more is ∙ window)
 
-  -- it was not let flow, or did not fit
-  pub continued_held : (p q : PacketDraft) (new : Draft) → IsOffered f s old p q r.message.value r.number r.fragment false → drafted s new ≡ drafted s old → new.tickets ≡ old.tickets → IsStopped f s v p q old new
-  continued_held p q new offer kept tickets = record {
-    none = goes_not f (room_in p) v (newcomer v led) (next_is f v led stands led_is) (continued_may p ∙ ap (λ (x : Bool). x && nat_le (outstanding led) WINDOW) (sym offer.answer));
-    packet = offer.packet;
+  -- it may not flow, or does not fit
+  pub continued_held : (p q : PacketDraft) (new : Draft) → let_in f (item_flight (map (item_meaning s.fragment) old.outstanding.items)) s (suc (s.cum + length old.outstanding.items)) p e (Some (message_meaning s.fragment r.message.value)) ≡ false → q ≡ p → drafted s new ≡ drafted s old → new.tickets ≡ old.tickets → IsStopped f s v p q old new
+  continued_held p q new off packet kept tickets = record {
+    none = goes_not f (room_in p) v (newcomer v led) (next_is f v led stands led_is) (continued_may p ∙ ap (λ (x : Bool). x && nat_le (outstanding led) WINDOW) off);
+    packet = packet;
     kept = kept;
     tickets = tickets;
   }
@@ -151,13 +151,27 @@ module _ (f : Format) (s : Kept) (v : SenderView) (old : Draft) (r : RestFields)
     tickets = tickets;
   }
 
+  -- its chunk, of the item that it is then
+  continued_tried : (p q : PacketDraft) (new : Draft) (at turn capacity : ℕ) (none : Item) (put : Bool) → at ≡ length old.outstanding.items → drafted s new ≡ kept.gone_on (drafted s old) (rest_meaning s.fragment r) stream turn capacity
+      → IsTried p q (item_chunk f s.initial (suc (s.cum + at)) (get_or (drafted s new).items at none)) put
+      → IsTried p q (fragment_chunk f s.fragment s.initial (suc (s.cum + length old.outstanding.items)) r.message.value r.number (Fragment r.fragment)) put
+  continued_tried p q new at turn capacity none put here same tried =
+      let xs = (drafted s old).items in
+      let x = gone_item (rest_item (rest_meaning s.fragment r)) in
+      let long : at ≡ length xs = here ∙ sym (length-map old.outstanding.items (item_meaning s.fragment)) in
+      let item = ap (λ (y : Kept). get_or y.items at none) same ∙ ap (λ (j : ℕ). get_or (xs ++ x ∷ []) j none) long ∙ item_behind xs x [] none in
+      subst (λ (j : ℕ). IsTried p q (fragment_chunk f s.fragment s.initial (suc (s.cum + j)) r.message.value r.number (Fragment r.fragment)) put) here
+      (subst (λ (y : Item). IsTried p q (item_chunk f s.initial (suc (s.cum + at)) y) put) item tried)
+
   -- it is in the packet, and took its index
-  pub continued_put : (p q : PacketDraft) (new : Draft) (more : Bool) (capacity : ℕ) → more ≡ nat_lt (suc r.fragment) (length (cut s.fragment r.message.value.bytes.items))
+  pub continued_put : (p q : PacketDraft) (new : Draft) (more : Bool) (at capacity : ℕ) (none : Item) (put : Bool) → more ≡ nat_lt (suc r.fragment) (length (cut s.fragment r.message.value.bytes.items))
       → in_window s old 1 stream more ≡ true
-      → IsOffered f s old p q r.message.value r.number r.fragment true → drafted s new ≡ kept.gone_on (drafted s old) (rest_meaning s.fragment r) stream (suc stream % s.streams) capacity
-      → s.streams + length new.outstanding.items ≤ capacity → new.tickets ≡ old.tickets → IsPut f s v p q old new
-  continued_put p q new more capacity is window offer same room tickets =
-      let goes_now = continued_goes p more is window (sym offer.answer) in
+      → let_in f (item_flight (map (item_meaning s.fragment) old.outstanding.items)) s (suc (s.cum + length old.outstanding.items)) p e (Some (message_meaning s.fragment r.message.value)) ≡ true → at ≡ length old.outstanding.items
+      → drafted s new ≡ kept.gone_on (drafted s old) (rest_meaning s.fragment r) stream (suc stream % s.streams) capacity
+      → s.streams + length new.outstanding.items ≤ capacity → new.tickets ≡ old.tickets
+      → IsTried p q (item_chunk f s.initial (suc (s.cum + at)) (get_or (drafted s new).items at none)) put → PutAnswer f s v p q old new put
+  continued_put p q new more at capacity none put is window on here same room tickets tried =
+      let goes_now = continued_goes p more is window on in
       let many = ap (λ (y : Kept). length y.items) same in
       let long = length-map new.outstanding.items (item_meaning s.fragment) in
       let one = length-append (drafted s old).items (gone_item (rest_item (rest_meaning s.fragment r)) ∷ []) in
@@ -165,22 +179,19 @@ module _ (f : Format) (s : Kept) (v : SenderView) (old : Draft) (r : RestFields)
       let h = continued_kept f (drafted s old) v stream (stream_after v stream) capacity (room_in p) e fresh_track k c.low left.on goes_now (omega (arith, many, long, one, streams, room)) in
       let mine = subst (λ (x : Option Message). Keeps f (kept.gone_on (drafted s old) (record { entry = e; message = x }) stream (stream_after v stream) capacity) (gone (newcomer v led))) (sym left.message) h in
       let turned = subst (λ (n : ℕ). Keeps f (kept.gone_on (drafted s old) (rest_meaning s.fragment r) stream (suc stream % n) capacity) (gone (newcomer v led))) (sym streams) mine in
-      record {
+      let in_packet = tried_put p q _ put (and_parts _ _ on).1 (continued_tried p q new at (suc stream % s.streams) capacity none put here same tried) in
+      subst (λ (b : Bool). PutAnswer f s v p q old new b) (sym in_packet.0)
+      (record {
         wish = newcomer v led;
         next = goes_now;
-        chunk = offer.packet ∙ ap (λ (x : ChunkMeaning). with_chunks p (x ∷ [])) (sym continued_chunk);
+        chunk = in_packet.1 ∙ ap (λ (x : ChunkMeaning). with_chunks p (x ∷ [])) (sym continued_chunk);
         keeps = subst (λ (y : Kept). Keeps f y (gone (newcomer v led))) (sym same) turned;
         told = ap (λ (ts : _). numbers_of ts.items) tickets
             ∙ sym (ap (λ (ts : List ℕ). numbers_of old.tickets.items ++ ts) (newly_continued f v stream (stream_after v stream) e k.reached left.on) ∙ append-nil (numbers_of old.tickets.items));
-      }
+      })
 
-  -- it is in the packet, and memory ran out then
-  pub continued_some : (p q : PacketDraft) (more : Bool) → more ≡ nat_lt (suc r.fragment) (length (cut s.fragment r.message.value.bytes.items))
+  -- memory ran out for it
+  pub continued_refused : (p q : PacketDraft) (more : Bool) → more ≡ nat_lt (suc r.fragment) (length (cut s.fragment r.message.value.bytes.items))
       → in_window s old 1 stream more ≡ true
-      → IsOffered f s old p q r.message.value r.number r.fragment true → PutSomeOf f v p q
-  continued_some p q more is window offer = record {
-    wishes = newcomer v led ∷ [];
-    view = gone (newcomer v led);
-    follows = (continued_goes p more is window (sym offer.answer), refl);
-    chunks = offer.packet ∙ ap (λ (x : ChunkMeaning). with_chunks p (x ∷ [])) (sym continued_chunk);
-  }
+      → let_in f (item_flight (map (item_meaning s.fragment) old.outstanding.items)) s (suc (s.cum + length old.outstanding.items)) p e (Some (message_meaning s.fragment r.message.value)) ≡ true → q ≡ p → IsRefused f v p q
+  continued_refused p q more is window on packet = record { wish = newcomer v led; next = continued_goes p more is window on; packet = packet }

@@ -6,12 +6,12 @@ use Rattle.sctp_model.specs.wire.Chunk.{ChunkMeaning}
 use Rattle.sctp_model.specs.sender.SenderView.{SenderView}
 use Rattle.sctp_model.specs.sender.Filling.{Wish, chunk_of, room_of, goes, gone, Follows, newly_numbered}
 use Rattle.sctp_model.specs.sender.Reached.{IsReached}
-use Rattle.sctp_model.proofs.sender.FillLaws.{goes_parts, room_some, room_fits, room_after, follows_on, follows_more, stopped_is_fill}
+use Rattle.sctp_model.proofs.sender.FillLaws.{goes_parts, room_some, room_fits, room_after, follows_more, stopped_is_fill}
 use Rattle.sctp_packet.specs.Draft.{Draft as PacketDraft, room_in, with_chunks}
 use Rattle.sctp_send.specs.SenderKept.{Kept}
 use Rattle.sctp_send.specs.SenderStands.{Keeps}
 use Rattle.sctp_send.specs.FillAnswers.{PutSomeOf}
-use Rattle.sctp_send.specs.inner.Drafting.{numbers_of, drafted, IsPut, IsStopped, AllPut}
+use Rattle.sctp_send.specs.inner.Drafting.{numbers_of, drafted, IsPut, IsStopped, IsRefused, AllPut}
 use Rattle.sctp_send.specs.inner.Undoing.{IsSized, IsBehind}
 use Rattle.sctp_send.specs.declared.draft.Draft.{Draft}
 use Rattle.sctp_send.proofs.RoomLemmas.{room_more, goes_nowhere}
@@ -118,10 +118,12 @@ loop_full f s v p now d steps x all =
     record { wishes = x.wishes; view = x.view; fill = stopped_is_fill f v x.view (room_in p) x.wishes x.follows none; chunks = x.chunks; keeps = x.keeps; told = x.told }
 
 -- memory ran out in a step
-pub loop_some : (f : Format) (s : Kept) (v : SenderView) (p now later : PacketDraft) (d : Draft) (steps : ℕ) → (x : IsSoFar f s v p now d steps) → PutSomeOf f x.view now later → PutSomeOf f v p later
-loop_some f s v p now later d steps x some = record {
-  wishes = x.wishes ++ some.wishes;
-  view = some.view;
-  follows = follows_on f v x.view some.view (room_in p) x.wishes some.wishes x.follows (subst (λ (n : ℕ). Follows f x.view n some.wishes some.view) (room_now f s v p now d steps x) some.follows);
-  chunks = chunks_more f p now later x.wishes some.wishes x.chunks some.chunks;
+pub loop_some : (f : Format) (s : Kept) (v : SenderView) (p now later : PacketDraft) (d : Draft) (steps : ℕ) → (x : IsSoFar f s v p now d steps) → IsRefused f x.view now later → PutSomeOf f v p later
+loop_some f s v p now later d steps x refused = record {
+  wishes = x.wishes;
+  view = x.view;
+  follows = x.follows;
+  chunks = refused.packet ∙ x.chunks;
+  refused = refused.wish;
+  next = ap (λ (y : PacketDraft). goes f (room_in y) x.view) refused.packet ∙ refused.next;
 }

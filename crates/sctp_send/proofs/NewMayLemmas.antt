@@ -1,12 +1,12 @@
 -- Whether what is assigned next may go, as the code tests it: flow, room, and the window.
-use Rattle.std.proofs.Common.{◌≡◌, ℕ, zero, suc, ◌+◌, ◌*◌, ◌%◌, ◌^◌, ◌<◌, ◌≤◌, List, [], ◌∷◌, length, map, get_or, Bool, true, false, Option, Some, None, refl, sym, ap, ◌∙◌, arith}
+use Rattle.std.proofs.Common.{◌≡◌, ℕ, zero, suc, ◌+◌, ◌*◌, ◌%◌, ◌^◌, ◌<◌, ◌≤◌, List, [], ◌∷◌, ◌++◌, length, map, get_or, Bool, true, false, Option, Some, None, refl, sym, ap, ◌∙◌, arith}
 use Rattle.std.specs.Prelude.{nat_le, ◌&&◌, option_map, Result, Ok, Err, IfOk, OnErr, nat_lt}
 use Rattle.std.proofs.lemmas.Bool.Decides.{nat_tests}
 use Rattle.std.proofs.lemmas.Option.{slice_get-get_or}
 use Rattle.sctp_model.specs.numbers.Limits.{WINDOW}
-use Rattle.sctp_model.specs.messages.Format.{Format, Lane}
+use Rattle.sctp_model.specs.messages.Format.{Format, Lane, ordered_lane}
 use Rattle.sctp_model.specs.wire.Chunk.{ChunkMeaning}
-use Rattle.sctp_model.specs.messages.Plan.{Part}
+use Rattle.sctp_model.specs.messages.Plan.{Entry, Part, End}
 use Rattle.sctp_model.specs.sender.SenderView.{SenderView}
 use Rattle.sctp_model.specs.sender.Entries.{bytes_in}
 use Rattle.sctp_model.specs.sender.Words.{when}
@@ -16,25 +16,22 @@ use Rattle.sctp_model.specs.sender.Readers.{outstanding}
 use Rattle.sctp_model.specs.sender.Filling.{newcomer, next_wish, may_go, bytes_of_wish, chunk_of, room_of}
 use Rattle.sctp_model.proofs.sender.Bounds.{is_bounded}
 use Rattle.sctp_model.proofs.sender.OwedLaws.{is_windowed}
-use Rattle.sctp_packet.specs.Draft.{Draft as PacketDraft, room_in, has_room, after_try}
-use Rattle.sctp_send.specs.SenderKept.{Rest, Track, Kept}
+use Rattle.sctp_packet.specs.Draft.{Draft as PacketDraft, room_in, with_chunks, has_room, after_try}
+use Rattle.sctp_send.specs.SenderKept.{Item, Rest, Track, Kept}
 use Rattle.sctp_send.specs.SenderStands.{Keeps}
 use Rattle.sctp_send.specs.OutstandingFields.{item_meaning, lane_meaning, message_meaning, entry_meaning}
-use Rattle.sctp_send.specs.SenderFields.{track_meaning, rest_meaning, rests_meaning}
+use Rattle.sctp_send.specs.SenderFields.{track_meaning}
 use Rattle.sctp_send.specs.inner.Walks.{total, one_if_rest}
 use Rattle.sctp_send.specs.inner.Wishing.{item_flight, lets_flow}
 use Rattle.sctp_send.specs.inner.Newcomers.{rest_at, has_rest, one_if}
-use Rattle.sctp_send.specs.inner.Drafting.{drafted, fragment_chunk, IsOffered, IsFlying, NothingStands}
+use Rattle.sctp_send.specs.inner.Drafting.{drafted, IsTried, IsFlying, NothingStands}
 use Rattle.sctp_send.specs.WindowKept.{WindowKept}
 use Rattle.sctp_send.proofs.KeepLemmas.{kept_length}
 use Rattle.std.proofs.lemmas.List.{length-map}
 use Rattle.sctp_send.specs.declared.draft.Draft.{Draft}
 use Rattle.sctp_send.specs.declared.message.Message.{Message as MessageFields}
-use Rattle.sctp_send.specs.declared.track.Rest.{Rest as RestFields}
-use Rattle.sctp_send.specs.declared.track.Track.{Track as TrackFields}
 use Rattle.sctp_send.specs.declared.entry.Outstanding.{Outstanding}
 use Rattle.sctp_send.specs.declared.entry.Place.{Place}
-use Rattle.sctp_send.specs.declared.entry.Place.TheVariants.{Fragment}
 use Rattle.sctp_send.proofs.QueueLemmas.{kept_in_part}
 use Rattle.sctp_send.proofs.RoomLemmas.{has_room_is, go_new}
 
@@ -142,37 +139,31 @@ flow_read size fragment rwnd window es bytes l n p m x one two three is =
     ∙ ap (λ (y : MessageFields). lets_flow (item_flight (map (item_meaning fragment) es)) (length (bytes_in (entry_meaning l n p) (Some (message_meaning fragment y)))) rwnd) three
     ∙ ap (lets_flow (item_flight (map (item_meaning fragment) es)) (length (bytes_in (entry_meaning l n p) (Some (message_meaning fragment x))))) two
 
--- a fragment that may not flow was offered in vain
-pub offered_not : (f : Format) (s : Kept) (d : Draft) (p : PacketDraft) (m : MessageFields) (number k : ℕ)
-    → lets_flow (item_flight (map (item_meaning s.fragment) d.outstanding.items)) (length (bytes_in (Part (lane_meaning m) number k) (Some (message_meaning s.fragment m)))) s.rwnd ≡ false
-    → IsOffered f s d p p m number k false
-offered_not f s d p m number k off = record { answer = sym (ap (λ (b : Bool). b && has_room p (fragment_chunk f s.fragment s.initial (suc (s.cum + length d.outstanding.items)) m number (Fragment k))) off); packet = refl }
+-- how many bytes an entry's data has, with size and message as they were read
+pub length_read : (size fragment : ℕ) (bytes : List ℕ) (e : Entry) (m x : MessageFields) → size ≡ fragment → m ≡ x → bytes ≡ bytes_in e (Some (message_meaning size m)) → length bytes ≡ length (bytes_in e (Some (message_meaning fragment x)))
+length_read size fragment bytes e m x one two is =
+    ap (λ (ds : List ℕ). length ds) is ∙ ap (λ (k : ℕ). length (bytes_in e (Some (message_meaning k m)))) one ∙ ap (λ (y : MessageFields). length (bytes_in e (Some (message_meaning fragment y)))) two
 
--- one that may flow is in the packet where it fits
-pub offered : (f : Format) (s : Kept) (d : Draft) (p r : PacketDraft) (m x : MessageFields) (size count number k : ℕ) (put : Bool) → size ≡ s.fragment → m ≡ x → count ≡ length d.outstanding.items
-    → lets_flow (item_flight (map (item_meaning s.fragment) d.outstanding.items)) (length (bytes_in (Part (lane_meaning x) number k) (Some (message_meaning s.fragment x)))) s.rwnd ≡ true
-    → put ≡ has_room p (fragment_chunk f size s.initial (suc (s.cum + count)) m number (Fragment k)) → r ≡ after_try p (fragment_chunk f size s.initial (suc (s.cum + count)) m number (Fragment k)) put
-    → IsOffered f s d p r x number k put
-offered f s d p r m x size count number k put one two three flows room packet = record {
-  answer = room ∙ ap (has_room p) chunk ∙ sym (ap (λ (b : Bool). b && has_room p (fragment_chunk f s.fragment s.initial (suc (s.cum + length d.outstanding.items)) x number (Fragment k))) flows);
-  packet = packet ∙ ap (λ (c : ChunkMeaning). after_try p c put) chunk;
-}
-  where
-    chunk : fragment_chunk f size s.initial (suc (s.cum + count)) m number (Fragment k) ≡ fragment_chunk f s.fragment s.initial (suc (s.cum + length d.outstanding.items)) x number (Fragment k)
-    chunk =
-        ap (λ (n : ℕ). fragment_chunk f n s.initial (suc (s.cum + count)) m number (Fragment k)) one
-        ∙ ap (λ (y : MessageFields). fragment_chunk f s.fragment s.initial (suc (s.cum + count)) y number (Fragment k)) two
-        ∙ ap (λ (n : ℕ). fragment_chunk f s.fragment s.initial (suc (s.cum + n)) x number (Fragment k)) three
+-- both tests, of which the second is made where the first one passes
+pub both_pass : (first second a b : Bool) → first ≡ a → first ≡ true → second ≡ b → second ≡ (a && b)
+both_pass first second a b one on two = two ∙ ap (λ (x : Bool). x && b) (sym on ∙ one)
 
--- what follows of an answer from two facts of it
-pub of_both : {A E : Type 0} (P Q R : A → Type 0) (r : Result A E) → ((x : A) → P x → Q x → R x) → IfOk r P → IfOk r Q → IfOk r R
-of_both P Q R (Ok x) both p q = both x p q
-of_both P Q R (Err e) both p q = tt
+pub first_fails : (first a b : Bool) → first ≡ a → first ≡ false → false ≡ (a && b)
+first_fails first a b one off = ap (λ (x : Bool). x && b) (sym off ∙ one)
+
+-- what follows of an answer
+pub of_ok : {A E : Type 0} (P Q : A → Type 0) (r : Result A E) → ((x : A) → P x → Q x) → IfOk r P → IfOk r Q
+of_ok P Q (Ok x) so p = so x p
+of_ok P Q (Err e) so p = tt
 
 -- what is so anyway is so after an error
 pub on_err : {A E : Type 0} (P : Type 0) (r : Result A E) → P → OnErr r P
 on_err P (Ok x) p = tt
 on_err P (Err e) p = p
+
+pub of_err : {A E : Type 0} (P Q : Type 0) (r : Result A E) → (P → Q) → OnErr r P → OnErr r Q
+of_err P Q (Ok x) so p = tt
+of_err P Q (Err e) so p = so p
 
 -- whether a message has more fragments, as it was read
 pub more_read : (fragment size n count : ℕ) (bytes items : List ℕ) → suc fragment < 2 ^ 32 → count ≡ length (cut size bytes) → size ≡ n → bytes ≡ items
@@ -181,7 +172,22 @@ more_read fragment size n count bytes items small many one same =
     let next : (fragment + 1) % 2 ^ 32 ≡ suc fragment = omega arith in
     ap (λ (k : ℕ). nat_lt k count) next ∙ ap (nat_lt (suc fragment)) (many ∙ ap (λ (k : ℕ). length (cut k bytes)) one ∙ ap (λ (bs : List ℕ). length (cut n bs)) same)
 
--- what is left of a message in part, as it was read
-pub left_read : (n stream : ℕ) (o : Option RestFields) (r : RestFields) (xs ts : List TrackFields) → o ≡ Some r → rests_meaning n o ≡ rest_at (map (track_meaning n) xs) stream → xs ≡ ts
-    → Some (rest_meaning n r) ≡ rest_at (map (track_meaning n) ts) stream
-left_read n stream o r xs ts is read same = sym (ap (rests_meaning n) is) ∙ read ∙ ap (λ (ys : List TrackFields). rest_at (map (track_meaning n) ys) stream) same
+-- the same of a message that begins
+pub left_over : (count size n many : ℕ) (bytes : List ℕ) (m y : MessageFields) → many ≡ length (cut size bytes) → size ≡ n → bytes ≡ y.bytes.items → y ≡ m → nat_lt count many ≡ nat_lt count (length (cut n m.bytes.items))
+left_over count size n many bytes m y all one read same =
+    ap (nat_lt count) (all ∙ ap (λ (k : ℕ). length (cut k bytes)) one ∙ ap (λ (bs : List ℕ). length (cut n bs)) (read ∙ ap (λ (z : MessageFields). z.bytes.items) same))
+
+-- ---- a chunk that was tried
+
+-- where there is room, it is in the packet
+pub tried_put : (before after : PacketDraft) (c : ChunkMeaning) (put : Bool) → has_room before c ≡ true → IsTried before after c put → (put ≡ true) × (after ≡ with_chunks before (c ∷ []))
+tried_put before after c put room tried = let on = tried.answer ∙ room in (on, tried.packet ∙ ap (after_try before c) on)
+
+-- an item, for a place where there is none
+pub no_item : Item
+no_item = record { entry = End (ordered_lane 0) 0; message = None; sent = false; marked = false; covered = false; given_up = false }
+
+-- the item behind some others
+pub item_behind : (xs : List Item) (x : Item) (ys : List Item) (none : Item) → get_or (xs ++ x ∷ ys) (length xs) none ≡ x
+item_behind [] x ys none = refl
+item_behind (y ∷ xs) x ys none = item_behind xs x ys none

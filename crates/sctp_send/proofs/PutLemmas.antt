@@ -20,9 +20,8 @@ use Rattle.sctp_send.specs.WindowKept.{WindowKept, at_place, changed}
 use Rattle.sctp_send.specs.OutstandingFields.{item_meaning, lane_meaning, message_meaning, entry_meaning}
 use Rattle.sctp_send.specs.inner.Wishing.{first_place, is_item_marked, is_item_unsent, item_flight, lets_flow}
 use Rattle.sctp_send.specs.inner.Newcomers.{gone_item}
-use Rattle.sctp_send.specs.inner.Drafting.{numbers_of, drafted, fragment_chunk, went_out, IsPut, IsStopped, PutAnswer, IsNextEntry, IsNextUnsent, NothingStands}
+use Rattle.sctp_send.specs.inner.Drafting.{numbers_of, drafted, fragment_chunk, item_chunk, went_out, IsPut, IsStopped, IsRefused, IsTried, PutAnswer, IsNextEntry, IsNextUnsent, NothingStands}
 use Rattle.sctp_send.specs.declared.draft.Draft.{Draft}
-use Rattle.sctp_send.specs.declared.message.Message.{Message as MessageFields}
 use Rattle.sctp_send.specs.declared.entry.Outstanding.{Outstanding}
 use Rattle.sctp_send.proofs.ItemLemmas.{item_read}
 use Rattle.sctp_send.proofs.WishLemmas.{wish_marked, wish_unsent, wish_new}
@@ -151,23 +150,31 @@ entry_stops f s v before after old new at x k premise low read room packet kept 
     let may = may_where_fits f (drafted s old) v before (suc (v.cum + at)) k premise.flows ∙ ap (has_room before) chunk ∙ room in
     record { none = goes_not f (room_in before) v (standing v (suc (v.cum + at))) premise.next may; packet = packet; kept = kept; tickets = tickets }
 
--- one of the two, as the packet answered; size and message as the code has them
-pub entry_put : (f : Format) (s : Kept) (v : SenderView) (before after : PacketDraft) (old new : Draft) (at : ℕ) (x : Outstanding) (size : ℕ) (m : MessageFields) (put : Bool) → Keeps f (drafted s old) v → IsNextEntry f v at
-    → at < length old.outstanding.items → x ≡ get_or old.outstanding.items at x → size ≡ s.fragment → m ≡ x.message.value
-    → put ≡ has_room before (fragment_chunk f size s.initial (suc (s.cum + at)) m x.number x.place) → after ≡ after_try before (fragment_chunk f size s.initial (suc (s.cum + at)) m x.number x.place) put
+-- memory ran out for it
+pub entry_refused : (f : Format) (s : Kept) (v : SenderView) (before after : PacketDraft) (old : Draft) (at : ℕ) (x : Outstanding) → Keeps f (drafted s old) v → IsNextEntry f v at → at < length old.outstanding.items
+    → x ≡ get_or old.outstanding.items at x → has_room before (fragment_chunk f s.fragment s.initial (suc (s.cum + at)) x.message.value x.number x.place) ≡ true → after ≡ before → IsRefused f v before after
+entry_refused f s v before after old at x k premise low read room packet =
+    let chunk = standing_chunk f s v old at x k low read in
+    let may = may_where_fits f (drafted s old) v before (suc (v.cum + at)) k premise.flows ∙ ap (has_room before) chunk ∙ room in
+    record { wish = standing v (suc (v.cum + at)); next = goes_is f (room_in before) v (standing v (suc (v.cum + at))) premise.next may; packet = packet }
+
+-- one of the two, as the packet answered
+pub entry_put : (f : Format) (s : Kept) (v : SenderView) (before after : PacketDraft) (old new : Draft) (at : ℕ) (x : Outstanding) (put : Bool) → Keeps f (drafted s old) v → IsNextEntry f v at
+    → at < length old.outstanding.items → x ≡ get_or old.outstanding.items at x
+    → IsTried before after (item_chunk f s.initial (suc (s.cum + at)) (get_or (map (item_meaning s.fragment) old.outstanding.items) at (item_meaning s.fragment x))) put
     → (put ≡ true → (drafted s new ≡ with_gone s old at x) × (new.tickets ≡ old.tickets)) → (put ≡ false → (drafted s new ≡ drafted s old) × (new.tickets ≡ old.tickets)) → PutAnswer f s v before after old new put
-entry_put f s v before after old new at x size m put k premise low read sized mine room packet went stayed = by_put put refl
+entry_put f s v before after old new at x put k premise low read tried went stayed = by_put put refl
   where
-    chunk : fragment_chunk f size s.initial (suc (s.cum + at)) m x.number x.place ≡ fragment_chunk f s.fragment s.initial (suc (s.cum + at)) x.message.value x.number x.place
-    chunk = ap (λ (n : ℕ). fragment_chunk f n s.initial (suc (s.cum + at)) m x.number x.place) sized ∙ ap (λ (y : MessageFields). fragment_chunk f s.fragment s.initial (suc (s.cum + at)) y x.number x.place) mine
+    here : IsTried before after (fragment_chunk f s.fragment s.initial (suc (s.cum + at)) x.message.value x.number x.place) put
+    here = subst (λ (y : Item). IsTried before after (item_chunk f s.initial (suc (s.cum + at)) y) put) (item_read s.fragment old.outstanding.items at x read) tried
 
     by_put : (b : Bool) → put ≡ b → PutAnswer f s v before after old new b
     by_put true is =
-        entry_goes f s v before after old new at x k premise low read (ap (has_room before) (sym chunk) ∙ sym room ∙ is)
-        (packet ∙ ap (after_try before (fragment_chunk f size s.initial (suc (s.cum + at)) m x.number x.place)) is ∙ ap (λ (c : ChunkMeaning). with_chunks before (c ∷ [])) chunk) (went is).0 (ap (λ (ts : _). numbers_of ts.items) (went is).1)
+        entry_goes f s v before after old new at x k premise low read (sym here.answer ∙ is)
+        (here.packet ∙ ap (after_try before (fragment_chunk f s.fragment s.initial (suc (s.cum + at)) x.message.value x.number x.place)) is) (went is).0 (ap (λ (ts : _). numbers_of ts.items) (went is).1)
     by_put false is =
-        entry_stops f s v before after old new at x k premise low read (ap (has_room before) (sym chunk) ∙ sym room ∙ is)
-        (packet ∙ ap (after_try before (fragment_chunk f size s.initial (suc (s.cum + at)) m x.number x.place)) is) (stayed is).0 (stayed is).1
+        entry_stops f s v before after old new at x k premise low read (sym here.answer ∙ is)
+        (here.packet ∙ ap (after_try before (fragment_chunk f s.fragment s.initial (suc (s.cum + at)) x.message.value x.number x.place)) is) (stayed is).0 (stayed is).1
 
 -- the draft in which an entry went out
 pub sent_draft : (s : Kept) (old : Draft) (w : WindowKept) (at : ℕ) (x : Outstanding) → x ≡ get_or old.outstanding.items at x → w ≡ changed went_out at old.outstanding → drafted s (record old { outstanding = w }) ≡ with_gone s old at x

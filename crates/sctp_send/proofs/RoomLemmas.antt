@@ -3,12 +3,13 @@ use Rattle.std.proofs.Common.{◌≡◌, ℕ, suc, ◌+◌, ◌-◌, ◌<◌, �
 use Rattle.std.specs.Prelude.{nat_le, ◌&&◌}
 use Rattle.std.proofs.lemmas.Bool.Decides.{nat_tests}
 use Rattle.sctp_model.specs.numbers.Limits.{WINDOW}
-use Rattle.sctp_model.specs.messages.Format.{Format}
-use Rattle.sctp_model.specs.wire.Chunk.{ChunkMeaning, size_of_chunk}
+use Rattle.sctp_model.specs.messages.Format.{Format, Plain, Interleaved}
+use Rattle.sctp_model.specs.wire.Chunk.{ChunkMeaning, padded, size_of_chunk}
 use Rattle.sctp_model.specs.wire.Packet.{size_of_chunks, size_of_packet}
-use Rattle.sctp_model.specs.messages.Plan.{Entry}
+use Rattle.sctp_model.specs.messages.Framing.{header_of}
+use Rattle.sctp_model.specs.messages.Plan.{Message, Entry}
 use Rattle.sctp_model.specs.sender.SenderView.{SenderView}
-use Rattle.sctp_model.specs.sender.Entries.{sum_from, flight_of, in_flight, in_part}
+use Rattle.sctp_model.specs.sender.Entries.{bytes_in, sum_from, flight_of, in_flight, in_part}
 use Rattle.sctp_model.specs.sender.Assigning.{assigned}
 use Rattle.sctp_model.specs.sender.Readers.{outstanding}
 use Rattle.sctp_model.specs.sender.Filling.{Wish, newcomer, bytes_of_wish, chunk_of, room_of, may_go, goes}
@@ -21,6 +22,7 @@ use Rattle.sctp_model.proofs.sender.OwedLaws.{is_windowed}
 use Rattle.sctp_packet.specs.Draft.{Draft, room_in, has_room, with_chunks}
 use Rattle.sctp_send.specs.SenderKept.{Kept}
 use Rattle.sctp_send.specs.SenderStands.{items_from, Keeps}
+use Rattle.sctp_send.specs.inner.Drafting.{said_chunk}
 pub use Rattle.sctp_send.specs.inner.Wishing.{item_bytes, item_weight, item_flight, lets_flow}
 
 -- ---- room in the packet
@@ -38,6 +40,11 @@ fits_room d m some = let more = size_joined d.chunks m in same d.limit (size_of_
 
 pub has_room_is : (f : Format) (d : Draft) (w : Wish) → has_room d (chunk_of f w) ≡ nat_le (room_of f w) (room_in d)
 has_room_is f d w = fits_room d (chunk_of f w) (room_some f w)
+
+-- the chunk of a message's entry fits by the bytes of its data alone
+pub fits_by_length : (f : Format) (d : Draft) (initial i : ℕ) (e : Entry) (m : Option Message) → has_room d (said_chunk f initial i e m) ≡ nat_le (padded (header_of f + length (bytes_in e m))) (room_in d)
+fits_by_length Plain d initial i e m = fits_room d (said_chunk Plain initial i e m) (omega arith)
+fits_by_length Interleaved d initial i e m = fits_room d (said_chunk Interleaved initial i e m) (omega arith)
 
 -- what is left behind a chunk
 pub room_more : (d : Draft) (m : ChunkMeaning) → room_in (with_chunks d (m ∷ [])) ≡ room_in d - size_of_chunk m

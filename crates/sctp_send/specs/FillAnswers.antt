@@ -1,8 +1,8 @@
 -- What `fill` answers, in terms of a view that the sender stands for.
-use Rattle.std.specs.Prelude.{◌≡◌, List, map}
+use Rattle.std.specs.Prelude.{◌≡◌, List, map, Some}
 use Rattle.sctp_model.specs.messages.Format.{Format}
 use Rattle.sctp_model.specs.sender.SenderView.{SenderView}
-use Rattle.sctp_model.specs.sender.Filling.{Wish, IsFill, Follows, newly_numbered}
+use Rattle.sctp_model.specs.sender.Filling.{Wish, goes, IsFill, Follows, newly_numbered}
 use Rattle.sctp_model.specs.sender.SentChunks.{chunk_of}
 use Rattle.sctp_packet.specs.Draft.{Draft, room_in, with_chunks}
 use Rattle.sctp_send.specs.SenderKept.{Kept}
@@ -19,9 +19,11 @@ pub record FillAnswer (f : Format) (v : SenderView) (before after : Draft) (s : 
   pub stands : StandsFor f s view
   pub tickets : map (λ t. t.0) filled.tickets.items ≡ newly_numbered v view
 
--- Some of the chunks went in, each whole: those of a beginning of FILL.
+-- Some of the chunks went in, each whole: those of a beginning of FILL. Another wish goes behind them, which wanted the memory.
 pub record PutSomeOf (f : Format) (v : SenderView) (before after : Draft) : Type 0 where
   pub wishes : List Wish
   pub view : SenderView
   pub follows : Follows f v (room_in before) wishes view
   pub chunks : after ≡ with_chunks before (map (chunk_of f) wishes)
+  pub refused : Wish
+  pub next : goes f (room_in after) view ≡ Some refused

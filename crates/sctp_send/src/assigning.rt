@@ -1,21 +1,23 @@
 //! What takes an index next, found among what waits and what is in part (RFC 9260, 6.9; RFC 8260, 2.2.2 and 3.2).
 
-ghost use Rattle.std.specs.Prelude.{◌≡◌, ℕ, suc, ◌+◌, ◌<◌, ◌≤◌, ◌%◌, ◌^◌, true, None, map, length, nat_le, IfOk, IfSome};
+ghost use Rattle.std.specs.Prelude.{◌≡◌, ℕ, suc, ◌+◌, ◌<◌, ◌≤◌, ◌%◌, ◌^◌, true, None, Some, map, length, nat_le, IfOk, IfSome, MatchOption};
 ghost use Rattle.sctp_model.specs.messages.Format.{Plain, Interleaved};
 ghost use Rattle.sctp_model.specs.numbers.Limits.{WINDOW};
 ghost use Rattle.sctp_model.specs.sender.Assigning.{first_on};
 ghost use Rattle.sctp_model.specs.sender.SenderView.{SenderView};
 ghost use Rattle.sctp_send.specs.SenderKept.{Kept};
 ghost use Rattle.sctp_send.specs.SenderStands.{Keeps};
-ghost use Rattle.sctp_send.specs.SenderFields.{track_meaning, rests_meaning};
+ghost use Rattle.sctp_send.specs.SenderFields.{track_meaning, rest_meaning};
 ghost use Rattle.sctp_send.specs.inner.Walks.{total, one_if_rest};
 ghost use Rattle.sctp_send.specs.inner.Drafting.{drafted, NewAnswer, FirstTurnAnswer, IsNextWithin};
 ghost use Rattle.sctp_send.specs.inner.Newcomers.{rest_at, has_rest, one_if};
 
-use crate::draft::{Draft, copied_rest};
+use crate::draft::Draft;
 use crate::looking::goes_on_at;
-use crate::message::fragments_of;
+use crate::message::{fragments_of, shared};
+use crate::streams::Streams;
 use crate::track::{Rest, Track};
+use crate::window::Window;
 use sctp_framing::Framing;
 use sctp_values::{NoMemory, WINDOW};
 
@@ -123,30 +125,42 @@ pub fn stream_after(stream: u16, streams: u16) -> u16
     ((u32::from(stream) + 1) % u32::from(streams)) as u16
 }
 
-/// A copy of what is left of the message in part of a stream.
-pub fn rest_of(tracks: &[Track], stream: u16) -> Result<Option<Rest>, NoMemory>
-    ensures there { IfOk result (λ rest. IfSome rest (λ _. stream < length tracks.now)) }
-    ensures rest { (size : ℕ) → IfOk result (λ rest. rests_meaning size rest ≡ rest_at (map (track_meaning size) tracks.now) stream) }
+/// What is left of the message in part of a stream.
+pub fn rest_of(tracks: &[Track], stream: u16) -> Option<&Rest>
+    ensures there { IfSome result (λ _. stream < length tracks.now) }
+    ensures rest { (size : ℕ) → MatchOption result (None ≡ rest_at (map (track_meaning size) tracks.now) stream) (λ rest. Some (rest_meaning size rest.now) ≡ rest_at (map (track_meaning size) tracks.now) stream) }
 {
     match tracks.get(usize::from(stream)) {
-        Some(track) => copied_rest(&track.rest),
-        None => Ok(None),
+        Some(track) => track.rest.as_ref(),
+        None => None,
     }
 }
 
+/// A copy of what is left of a message in part.
+pub fn copied(rest: &Rest) -> Result<Rest, NoMemory>
+    ensures fragment { IfOk result (λ copy. copy.fragment ≡ rest.now.fragment) }
+    ensures same { (size : ℕ) → IfOk result (λ copy. rest_meaning size copy ≡ rest_meaning size rest.now) }
+{
+    Ok(Rest {
+        message: shared(&rest.message)?,
+        number: rest.number,
+        fragment: rest.fragment,
+    })
+}
+
 /// So many indexes more keep within the window, where the stream then has a message in part or not.
-pub fn has_window(draft: &Draft, stream: u16, count: usize, more: bool) -> bool
+pub fn has_window(entries: &Window, tracks: &Streams, stream: u16, count: usize, more: bool) -> bool
     requires { 0 < count }
-    ensures fits { (size : ℕ) → size ≡ draft.now.tracks.size → result ≡ nat_le (length draft.now.outstanding.items + count + (total (λ t. one_if_rest t.rest) (map (track_meaning size) draft.now.tracks.items) % 2 ^ 32 + one_if more))
-        (WINDOW + one_if (has_rest (rest_at (map (track_meaning size) draft.now.tracks.items) stream))) }
+    ensures fits { (size : ℕ) → size ≡ tracks.now.size → result ≡ nat_le (length entries.now.items + count + (total (λ t. one_if_rest t.rest) (map (track_meaning size) tracks.now.items) % 2 ^ 32 + one_if more))
+        (WINDOW + one_if (has_rest (rest_at (map (track_meaning size) tracks.now.items) stream))) }
     ensures few { result ≡ true → count ≤ WINDOW + 1 }
 {
     let window = WINDOW as usize;
-    let outstanding = draft.outstanding.len();
+    let outstanding = entries.len();
     if outstanding > window || count > window + 1 {
         return false;
     }
-    let parts = draft.tracks.in_part() as usize + usize::from(more);
-    let had = usize::from(goes_on_at(draft.tracks.tracks(), stream));
+    let parts = tracks.in_part() as usize + usize::from(more);
+    let had = usize::from(goes_on_at(tracks.tracks(), stream));
     outstanding + count + parts <= window + had
 }

@@ -2,17 +2,16 @@
 
 ghost use Rattle.std.specs.Prelude.{◌≡◌, ℕ, ◌<◌, ◌≤◌, ◌+◌, ◌++◌, ◌∷◌, [], set, length, IfOk};
 ghost use Rattle.std.specs.Vec.{vec_len, vec_capacity};
-ghost use Rattle.sctp_send.specs.SenderFields.{rests_meaning};
 ghost use Rattle.sctp_send.specs.WindowKept.{changed};
 ghost use Rattle.sctp_send.specs.inner.Undoing.{parts_of, undone, origin, stands_so, waits_again, IsKeptRoom};
 
 use crate::entry::Standing;
-use crate::message::{Message, shared};
+use crate::message::Message;
 use crate::streams::Streams;
-use crate::track::{Rest, Track};
+use crate::track::Track;
 use crate::waiting::Waiting;
 use crate::window::Window;
-use sctp_values::{NoMemory, Ticket};
+use sctp_values::Ticket;
 use std::rc::Rc;
 
 /// What filling changes: entries, the queue, streams and the turn as in a sender; the messages that took their numbers, in order; and what was
@@ -142,22 +141,5 @@ fn go_on_again(tracks: &mut Streams, stream: u16, track: Track)
     let at = usize::from(stream);
     if at < tracks.tracks().len() {
         let _later = tracks.replace(at, track);
-    }
-}
-
-/// A copy of what is left of a message in part, where there is one.
-pub fn copied_rest(rest: &Option<Rest>) -> Result<Option<Rest>, NoMemory>
-    ensures { (size : ℕ) → IfOk result (λ copy. rests_meaning size copy ≡ rests_meaning size rest.now) }
-{
-    match rest {
-        Some(rest) => {
-            let message = shared(&rest.message)?;
-            Ok(Some(Rest {
-                message,
-                number: rest.number,
-                fragment: rest.fragment,
-            }))
-        }
-        None => Ok(None),
     }
 }

@@ -46,6 +46,7 @@ impl Head {
         ensures kept { suc number < 2 ^ 32 → number ≡ number_on (drafted (bare self.now) draft.old).tracks (lane_meaning message.value)
             → OnOk result (drafted (bare self.now) draft.new
             ≡ begun (drafted (bare self.now) draft.old) (queued_meaning self.now.fragment message.value) next.place next.count next.turn draft.new.outstanding.capacity) }
+        ensures more { OnOk result (length draft.old.outstanding.items < length draft.new.outstanding.items) }
         ensures room { OnOk result (self.now.streams + length draft.new.outstanding.items ≤ draft.new.outstanding.capacity) }
         ensures told { OnOk result (numbers_of draft.new.tickets.items ≡ numbers_of draft.old.tickets.items ++ message.value.ticket ∷ []) }
         ensures behind { IsBehind draft.old draft.new }
@@ -86,6 +87,7 @@ impl Head {
         ensures kept { suc rest.now.fragment < 2 ^ 32
             → OnOk result (drafted (bare self.now) draft.new
             ≡ gone_on (drafted (bare self.now) draft.old) (rest_meaning self.now.fragment rest.now) stream (suc stream % self.now.streams) draft.new.outstanding.capacity) }
+        ensures more { OnOk result (length draft.old.outstanding.items < length draft.new.outstanding.items) }
         ensures room { OnOk result (self.now.streams + length draft.new.outstanding.items ≤ draft.new.outstanding.capacity) }
         ensures told { OnOk result (draft.new.tickets ≡ draft.old.tickets) }
         ensures behind { IsBehind draft.old draft.new }

@@ -17,6 +17,7 @@ mod expire;
 mod fill;
 mod forward;
 mod head;
+mod indexed;
 mod lanes;
 mod late_waiting;
 mod lateness;

@@ -1,13 +1,14 @@
 //! A fragment's bytes and its chunk (RFC 9260, 3.3.1 and 6.9; RFC 8260, 2.1).
 
-ghost use Rattle.std.specs.Prelude.{◌≡◌, ℕ, ◌<◌, ◌≤◌, IfOk, OnErr, Some};
+ghost use Rattle.std.specs.Prelude.{◌≡◌, ℕ, ◌<◌, ◌≤◌, ◌^◌, length, IfOk, OnErr, Option, Some};
 ghost use Rattle.sctp_model.specs.messages.Format.{Lane};
+ghost use Rattle.sctp_model.specs.messages.Plan.{Message as Said, Entry};
 ghost use Rattle.sctp_model.specs.numbers.Limits.{GREATEST_FRAGMENT};
 ghost use Rattle.sctp_model.specs.numbers.Serial as serial;
 ghost use Rattle.sctp_model.specs.sender.Entries.{entry_fragment, bytes_in};
 ghost use Rattle.sctp_packet.specs.Draft.{has_room, after_try};
 ghost use Rattle.sctp_send.specs.OutstandingFields.{message_meaning, entry_meaning};
-ghost use Rattle.sctp_send.specs.inner.Drafting.{fragment_chunk};
+ghost use Rattle.sctp_send.specs.inner.Drafting.{fragment_chunk, said_chunk};
 
 use crate::entry::Place;
 use crate::message::{Message, fragments_of};
@@ -54,6 +55,14 @@ fn payload_of(message: &Message) -> u32
     ensures { result ≡ message.now.payload_id }
 {
     message.payload_id
+}
+
+/// A chunk with so many bytes of data fits into what is left of a packet.
+pub fn fits<F: Framing>(bytes: usize, packet: &PacketWriter) -> bool
+    requires { bytes < 2 ^ 63 }
+    ensures { (initial i : ℕ) (e : Entry) (m : Option Said) → bytes ≡ length (bytes_in e m) → result ≡ has_room packet.now (said_chunk F.format initial i e m) }
+{
+    (F::header() + bytes + 3) / 4 * 4 <= packet.room()
 }
 
 /// Puts the chunk of a fragment into a packet, if it fits.

@@ -74,6 +74,7 @@ pub fn push_begun(
     ensures items { (size : ℕ) → OnOk result (map (item_meaning size) outstanding.new.items
         ≡ map (item_meaning size) outstanding.old.items ++ begun_items (lane_meaning message.value) number (message_meaning size message.value) count) }
     ensures before { OnOk result (outstanding.old.items ≡ take (length outstanding.new.items - count) outstanding.new.items) }
+    ensures long { OnOk result (length outstanding.new.items ≡ length outstanding.old.items + count) }
     ensures room { OnOk result (more + length outstanding.new.items ≤ outstanding.new.capacity) }
     ensures unchanged { OnErr result (outstanding.new.items ≡ outstanding.old.items) }
     ensures size { outstanding.new.size ≡ outstanding.old.size }

@@ -1,27 +1,25 @@
-//! One wish after the other goes into a packet, and into a draft (RFC 9260, 6.1 and 6.3.3; RFC 8260, 2.2).
+//! One wish after the other goes into a packet, and into a draft (RFC 9260, 6.1 and 6.3.3; RFC 8260, 2.2). Whether one may go is asked first,
+//! without memory; then the draft changes, for which memory may be wanted, and last its chunk is put.
 
-ghost use Rattle.std.specs.Prelude.{◌≡◌, suc, ◌+◌, ◌<◌, true, false, length, IfOk, OnErr};
+ghost use Rattle.std.specs.Prelude.{◌≡◌, ℕ, ◌<◌, Some, length, IfOk, OnErr};
+ghost use Rattle.sctp_model.specs.messages.Plan.{Part};
 ghost use Rattle.sctp_model.specs.sender.SenderView.{SenderView};
-ghost use Rattle.sctp_model.specs.numbers.Serial.{tsn};
 ghost use Rattle.sctp_send.specs.SenderStands.{Keeps};
-ghost use Rattle.sctp_send.specs.FillAnswers.{PutSomeOf};
-ghost use Rattle.sctp_send.specs.WindowKept.{changed};
+ghost use Rattle.sctp_send.specs.OutstandingFields.{lane_meaning, message_meaning};
 ghost use Rattle.sctp_send.specs.inner.Undoing.{IsSized, IsBehind};
-ghost use Rattle.sctp_send.specs.inner.Drafting.{bare, drafted, went_out, PutAnswer, IsFlying, IsNextEntry, IsNextUnsent, NothingStands, IsOffered};
+ghost use Rattle.sctp_send.specs.inner.Drafting.{bare, drafted, let_in, PutAnswer, IsRefused, IsFlying, NothingStands};
 ghost use Rattle.sctp_send.specs.inner.Newcomers.{IsBegun, IsContinued};
 
-use crate::assigning::{Beginning, Next, has_window, next_new, rest_of};
-use crate::draft::{Change, Draft, note};
+use crate::assigning::{Beginning, Next, copied, has_window, next_new, rest_of};
+use crate::draft::Draft;
 use crate::entering::number_next;
-use crate::entry::{Place, Standing};
+use crate::entry::Place;
 use crate::head::Head;
 use crate::message::{Message, fragments_of, shared};
-use crate::pieces::{bytes_of, put_fragment};
-use crate::window::Window;
+use crate::pieces::{bytes_of, fits};
 use crate::wishes::may_flow;
 use sctp_framing::Framing;
 use sctp_packet::PacketWriter;
-use sctp_serial::tsn_of;
 use sctp_values::NoMemory;
 use std::rc::Rc;
 
@@ -35,8 +33,8 @@ impl Head {
         requires { IsSized self.now.fragment draft.old }
         ensures put { (v : SenderView) → Keeps F.format (drafted (bare self.now) draft.old) v
             → IfOk result (λ put. PutAnswer F.format (bare self.now) v packet.old packet.new draft.old draft.new put) }
-        ensures some { (v : SenderView) → Keeps F.format (drafted (bare self.now) draft.old) v
-            → OnErr result (PutSomeOf F.format v packet.old packet.new) }
+        ensures refused { (v : SenderView) → Keeps F.format (drafted (bare self.now) draft.old) v
+            → OnErr result (IsRefused F.format v packet.old packet.new) }
         ensures behind { IsBehind draft.old draft.new }
     {
         if let Some(at) = draft.outstanding.first_marked() {
@@ -59,8 +57,8 @@ impl Head {
         requires sized { IsSized self.now.fragment draft.old }
         ensures put { (v : SenderView) → Keeps F.format (drafted (bare self.now) draft.old) v → NothingStands F.format v → IsFlying (bare self.now) draft.old flying
             → IfOk result (λ put. PutAnswer F.format (bare self.now) v packet.old packet.new draft.old draft.new put) }
-        ensures some { (v : SenderView) → Keeps F.format (drafted (bare self.now) draft.old) v → NothingStands F.format v → IsFlying (bare self.now) draft.old flying
-            → OnErr result (PutSomeOf F.format v packet.old packet.new) }
+        ensures refused { (v : SenderView) → Keeps F.format (drafted (bare self.now) draft.old) v → NothingStands F.format v → IsFlying (bare self.now) draft.old flying
+            → OnErr result (IsRefused F.format v packet.old packet.new) }
         ensures behind { IsBehind draft.old draft.new }
     {
         match next_new::<F>(draft, self.streams, self.fragment) {
@@ -68,62 +66,6 @@ impl Head {
             Some(Next::Continues(stream)) => self.put_continued::<F>(draft, stream, flying, packet),
             None => Ok(false),
         }
-    }
-
-    /// Puts the entry at this offset, where it fits.
-    fn put_entry<F: Framing>(
-        &self,
-        draft: &mut Draft,
-        at: usize,
-        packet: &mut PacketWriter,
-    ) -> Result<bool, NoMemory>
-        requires sized { IsSized self.now.fragment draft.old }
-        requires within { at < length draft.old.outstanding.items }
-        ensures put { (v : SenderView) → Keeps F.format (drafted (bare self.now) draft.old) v → IsNextEntry F.format v at
-            → IfOk result (λ put. PutAnswer F.format (bare self.now) v packet.old packet.new draft.old draft.new put) }
-        ensures unchanged { OnErr result (packet.new ≡ packet.old) }
-        ensures behind { IsBehind draft.old draft.new }
-    {
-        draft.log.reserve(1).map_err(|_| NoMemory)?;
-        let entry = draft.outstanding.get(at);
-        let tsn = self.tsn_at(at);
-        let put = put_fragment::<F>(
-            &entry.message,
-            entry.number,
-            entry.place,
-            self.fragment,
-            tsn,
-            packet,
-        )?;
-        if put {
-            let standing = entry.standing;
-            note(&mut draft.log, Change::Out { at, standing });
-            send_out(&mut draft.outstanding, at);
-        }
-        Ok(put)
-    }
-
-    /// Puts the entry at this offset for the first time, where it fits and may flow.
-    fn put_unsent<F: Framing>(
-        &self,
-        draft: &mut Draft,
-        at: usize,
-        flying: u64,
-        packet: &mut PacketWriter,
-    ) -> Result<bool, NoMemory>
-        requires sized { IsSized self.now.fragment draft.old }
-        requires within { at < length draft.old.outstanding.items }
-        ensures put { (v : SenderView) → Keeps F.format (drafted (bare self.now) draft.old) v → IsNextUnsent F.format v at → IsFlying (bare self.now) draft.old flying
-            → IfOk result (λ put. PutAnswer F.format (bare self.now) v packet.old packet.new draft.old draft.new put) }
-        ensures unchanged { OnErr result (packet.new ≡ packet.old) }
-        ensures behind { IsBehind draft.old draft.new }
-    {
-        let entry = draft.outstanding.get(at);
-        let bytes = bytes_of(&entry.message, entry.place, self.fragment).len();
-        if !may_flow(flying, bytes, self.rwnd) {
-            return Ok(false);
-        }
-        self.put_entry::<F>(draft, at, packet)
     }
 
     /// A message takes its number, where its first fragment fits and may flow, and the window has room for all that take an index.
@@ -139,24 +81,32 @@ impl Head {
         requires some { 0 < next.count }
         ensures put { (v : SenderView) → Keeps F.format (drafted (bare self.now) draft.old) v → NothingStands F.format v → IsBegun F.format v next.place next.count next.turn → IsFlying (bare self.now) draft.old flying
             → IfOk result (λ put. PutAnswer F.format (bare self.now) v packet.old packet.new draft.old draft.new put) }
-        ensures some { (v : SenderView) → Keeps F.format (drafted (bare self.now) draft.old) v → NothingStands F.format v → IsBegun F.format v next.place next.count next.turn → IsFlying (bare self.now) draft.old flying
-            → OnErr result (PutSomeOf F.format v packet.old packet.new) }
+        ensures refused { (v : SenderView) → Keeps F.format (drafted (bare self.now) draft.old) v → NothingStands F.format v → IsBegun F.format v next.place next.count next.turn → IsFlying (bare self.now) draft.old flying
+            → OnErr result (IsRefused F.format v packet.old packet.new) }
         ensures behind { IsBehind draft.old draft.new }
     {
-        let message = shared(draft.queue.get(next.place))?;
+        let message = draft.queue.get(next.place);
         let Some(track) = draft.tracks.tracks().get(usize::from(message.stream)) else {
             return Ok(false);
         };
         let number = number_next(track, message.kind);
         let more = next.count < fragments_of(self.fragment, &message.bytes);
-        if !has_window(draft, message.stream, next.count, more) {
+        if !has_window(
+            &draft.outstanding,
+            &draft.tracks,
+            message.stream,
+            next.count,
+            more,
+        ) {
             return Ok(false);
         }
-        if !self.put_newcomer::<F>(draft, &message, number, 0, flying, packet)? {
+        if !self.is_let_in::<F>(message, 0, flying, packet) {
             return Ok(false);
         }
+        let message = shared(message)?;
+        let at = draft.outstanding.len();
         self.begin(draft, next, message, number)?;
-        Ok(true)
+        self.put_at::<F>(draft, at, packet)
     }
 
     /// The message in part of a stream takes its next index, where its fragment fits and may flow.
@@ -171,71 +121,40 @@ impl Head {
         requires within { stream < self.now.streams }
         ensures put { (v : SenderView) → Keeps F.format (drafted (bare self.now) draft.old) v → NothingStands F.format v → IsContinued F.format v stream → IsFlying (bare self.now) draft.old flying
             → IfOk result (λ put. PutAnswer F.format (bare self.now) v packet.old packet.new draft.old draft.new put) }
-        ensures some { (v : SenderView) → Keeps F.format (drafted (bare self.now) draft.old) v → NothingStands F.format v → IsContinued F.format v stream → IsFlying (bare self.now) draft.old flying
-            → OnErr result (PutSomeOf F.format v packet.old packet.new) }
+        ensures refused { (v : SenderView) → Keeps F.format (drafted (bare self.now) draft.old) v → NothingStands F.format v → IsContinued F.format v stream → IsFlying (bare self.now) draft.old flying
+            → OnErr result (IsRefused F.format v packet.old packet.new) }
         ensures behind { IsBehind draft.old draft.new }
     {
-        let Some(rest) = rest_of(draft.tracks.tracks(), stream)? else {
+        let Some(rest) = rest_of(draft.tracks.tracks(), stream) else {
             return Ok(false);
         };
         let next = rest.fragment.wrapping_add(1);
         let more = (next as usize) < fragments_of(self.fragment, &rest.message.bytes);
-        if !has_window(draft, stream, 1, more) {
+        if !has_window(&draft.outstanding, &draft.tracks, stream, 1, more) {
             return Ok(false);
         }
-        if !self.put_newcomer::<F>(
-            draft,
-            &rest.message,
-            rest.number,
-            rest.fragment,
-            flying,
-            packet,
-        )? {
+        if !self.is_let_in::<F>(&rest.message, rest.fragment, flying, packet) {
             return Ok(false);
         }
+        let rest = copied(rest)?;
+        let at = draft.outstanding.len();
         self.go_on(draft, stream, &rest)?;
-        Ok(true)
+        self.put_at::<F>(draft, at, packet)
     }
 
-    /// Puts a fragment that is to take the next index, where it fits and may flow.
-    fn put_newcomer<F: Framing>(
+    /// A fragment that is to take the next index may flow, while so much is in flight, and fits.
+    fn is_let_in<F: Framing>(
         &self,
-        draft: &Draft,
         message: &Rc<Message>,
-        number: u32,
         fragment: u32,
         flying: u64,
-        packet: &mut PacketWriter,
-    ) -> Result<bool, NoMemory>
-        requires { IsSized self.now.fragment draft.now }
-        ensures put { IsFlying (bare self.now) draft.now flying → IfOk result (λ put. IsOffered F.format (bare self.now) draft.now packet.old packet.new message.now.value number fragment put) }
-        ensures unchanged { OnErr result (packet.new ≡ packet.old) }
+        packet: &PacketWriter,
+    ) -> bool
+        requires { 0 < self.now.fragment }
+        ensures { (number i : ℕ)
+            → result ≡ let_in F.format flying (bare self.now) i packet.now (Part (lane_meaning message.now.value) number fragment) (Some (message_meaning self.now.fragment message.now.value)) }
     {
-        let place = Place::Fragment(fragment);
-        let bytes = bytes_of(message, place, self.fragment).len();
-        if !may_flow(flying, bytes, self.rwnd) {
-            return Ok(false);
-        }
-        let tsn = self.tsn_at(draft.outstanding.len());
-        put_fragment::<F>(message, number, place, self.fragment, tsn, packet)
+        let bytes = bytes_of(message, Place::Fragment(fragment), self.fragment).len();
+        may_flow(flying, bytes, self.rwnd) && fits::<F>(bytes, packet)
     }
-
-    /// The TSN of the entry at this offset.
-    fn tsn_at(&self, at: usize) -> u32
-        ensures { result ≡ tsn self.now.initial (suc (self.now.cum + at)) }
-    {
-        let offset = (at % 0x1_0000_0000) as u32;
-        tsn_of(self.initial, self.cum.wrapping_add(offset).wrapping_add(1))
-    }
-}
-
-/// An entry goes out.
-fn send_out(outstanding: &mut Window, at: usize)
-    requires { at < length outstanding.old.items }
-    ensures { outstanding.new ≡ changed went_out at outstanding.old }
-{
-    let entry = outstanding.get(at);
-    let covered = entry.covered;
-    let given_up = entry.given_up;
-    outstanding.stand(at, Standing::Sent, covered, given_up);
 }

@@ -1,7 +1,7 @@
 -- What a draft of a sender keeps, and what each wish makes of it and of the packet.
 use Rattle.std.specs.Prelude.{◌≡◌, ℕ, suc, nat_lt, ◌-◌, ◌<◌, ◌≤◌, Bool, true, false, List, [], ◌∷◌, ◌++◌, ◌+◌, ◌&&◌, map, length, slice_set, Option, None, Some, option_map}
 use Rattle.sctp_model.specs.messages.Format.{Format, Kind}
-use Rattle.sctp_model.specs.messages.Plan.{Part}
+use Rattle.sctp_model.specs.messages.Plan.{Message, Entry, Part}
 use Rattle.sctp_model.specs.sender.Words.{when}
 use Rattle.sctp_model.specs.sender.Queueing.{cut}
 use Rattle.sctp_model.specs.sender.Assigning.{turn_of, assigned}
@@ -75,9 +75,17 @@ drafted s d = record s {
 
 -- ---- one wish
 
--- the chunk of a fragment at an index
+-- the chunk of a message's entry at an index
+abbrev pub said_chunk : Format → (initial i : ℕ) → Entry → Option Message → ChunkMeaning
+said_chunk f initial i e m = data_chunk f (piece_said f initial i e m)
+
+-- the same of what is kept of the index
+abbrev pub item_chunk : Format → (initial i : ℕ) → Item → ChunkMeaning
+item_chunk f initial i x = said_chunk f initial i x.entry x.message
+
+-- the same of a fragment
 abbrev pub fragment_chunk : Format → (size initial i : ℕ) → MessageFields → (number : ℕ) → Place → ChunkMeaning
-fragment_chunk f size initial i m n place = data_chunk f (piece_said f initial i (entry_meaning (lane_meaning m) n place) (Some (message_meaning size m)))
+fragment_chunk f size initial i m n place = said_chunk f initial i (entry_meaning (lane_meaning m) n place) (Some (message_meaning size m))
 
 -- the item of a fragment
 abbrev pub fragment_item : (size : ℕ) → MessageFields → (number fragment : ℕ) → Standing → Item
@@ -121,7 +129,13 @@ pub record IsStopped (f : Format) (s : Kept) (v : SenderView) (before after : Pa
   pub kept : drafted s new ≡ drafted s old
   pub tickets : new.tickets ≡ old.tickets
 
--- one of the two
+-- Memory ran out for a wish that may go; the packet is as before.
+pub record IsRefused (f : Format) (v : SenderView) (before after : PacketDraft) : Type 0 where
+  pub wish : Wish
+  pub next : goes f (room_in before) v ≡ Some wish
+  pub packet : after ≡ before
+
+-- the first or the second
 abbrev pub PutAnswer : Format → Kept → SenderView → (before after : PacketDraft) → (old new : Draft) → (put : Bool) → Type 0
 PutAnswer f s v before after old new true = IsPut f s v before after old new
 PutAnswer f s v before after old new false = IsStopped f s v before after old new
@@ -140,11 +154,14 @@ pub record IsNextUnsent (f : Format) (v : SenderView) (at : ℕ) : Type 0 where
 abbrev pub NothingStands : Format → SenderView → Type 0
 NothingStands f v = next_wish f v ≡ option_map (newcomer v) (assigned f v)
 
--- A fragment was offered for the next index: it is in the packet exactly where it may flow and fits.
-pub record IsOffered (f : Format) (s : Kept) (d : Draft) (before after : PacketDraft) (m : MessageFields) (number fragment : ℕ) (put : Bool) : Type 0 where
-  pub answer : put ≡ (lets_flow (item_flight (map (item_meaning s.fragment) d.outstanding.items)) (length (bytes_in (Part (lane_meaning m) number fragment) (Some (message_meaning s.fragment m)))) s.rwnd
-      && has_room before (fragment_chunk f s.fragment s.initial (suc (s.cum + length d.outstanding.items)) m number (Fragment fragment)))
-  pub packet : after ≡ after_try before (fragment_chunk f s.fragment s.initial (suc (s.cum + length d.outstanding.items)) m number (Fragment fragment)) put
+-- a message's entry may flow, while so much is in flight, and its chunk at an index fits
+abbrev pub let_in : Format → (flying : ℕ) → Kept → (i : ℕ) → PacketDraft → Entry → Option Message → Bool
+let_in f flying s i p e m = lets_flow flying (length (bytes_in e m)) s.rwnd && has_room p (said_chunk f s.initial i e m)
+
+-- A chunk was tried: it is in the packet exactly where it fits.
+pub record IsTried (before after : PacketDraft) (chunk : ChunkMeaning) (put : Bool) : Type 0 where
+  pub answer : put ≡ has_room before chunk
+  pub packet : after ≡ after_try before chunk put
 
 -- ---- what is in flight, and all of FILL
 

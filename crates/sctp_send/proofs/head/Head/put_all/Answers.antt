@@ -34,7 +34,7 @@ returns-in_err-put_next-clause-some g c = λ v keeps.
     let s = bare c.args.self.now in
     let x = c.loop.invariant.so_far v keeps in
     let p = err_from_is_err_and c.from_residual.result c.from_residual.ensures.1 in
-    rw p.1 (loop_some f s v c.args.packet.now c.loop.packet c.put_next.new.packet c.loop.draft c.loop.counter x (c.in_err-put_next.ensures.some x.view x.keeps))
+    rw p.1 (loop_some f s v c.args.packet.now c.loop.packet c.put_next.new.packet c.loop.draft c.loop.counter x (c.in_err-put_next.ensures.refused x.view x.keeps))
 
 pub returns-then-not-branch-clause-behind : goal.returns-then-not-branch-clause-behind
 returns-then-not-branch-clause-behind g c = behind_on c.args.draft.now c.loop.draft c.put_next.new.draft c.loop.invariant.behind c.in_ok-put_next.ensures.behind

@@ -1,12 +1,13 @@
-use Rattle.std.proofs.Common.{ℕ, length, map, refl, sym, ap, ◌∙◌, subst, arith, ◌<◌, true, false, Bool}
+use Rattle.std.proofs.Common.{ℕ, suc, ◌+◌, ◌<◌, List, [], ◌∷◌, ◌++◌, length, map, true, false, Some, refl, sym, ap, ◌∙◌, subst, arith}
 use Rattle.std.specs.Prelude.{nat_lt}
-use Rattle.sctp_send.specs.FillAnswers.{PutSomeOf}
-use Rattle.sctp_send.specs.OutstandingFields.{queued_meaning}
+use Rattle.sctp_model.specs.messages.Plan.{Part}
+use Rattle.sctp_send.specs.OutstandingFields.{lane_meaning, message_meaning, queued_meaning}
 use Rattle.sctp_send.specs.SenderFields.{track_meaning}
-use Rattle.sctp_send.specs.inner.Drafting.{bare, IsOffered}
+use Rattle.sctp_send.specs.inner.Newcomers.{number_on, begun}
+use Rattle.sctp_send.specs.inner.Drafting.{bare, numbers_of, drafted, let_in, IsRefused}
 use Rattle.sctp_send.specs.declared.message.Message.{Message as MessageFields}
-use Rattle.sctp_send.proofs.NewMayLemmas.{on_err}
-use Rattle.sctp_send.proofs.BegunPut.{begun_message, begun_there, number_read, window_read, left_over, never_none, begun_few, begun_held, begun_full, begun_put, begun_some}
+use Rattle.sctp_send.proofs.NewMayLemmas.{left_over, of_ok, on_err, of_err, no_item}
+use Rattle.sctp_send.proofs.BegunPut.{begun_message, begun_there, number_read, window_read, never_none, begun_few, begun_held, begun_full, begun_put, begun_refused}
 use Rattle.sctp_send.proofs.head.Head.put_begun.Goals as goal
 
 pub returns-in_default-clause-put : goal.returns-in_default-clause-put
@@ -14,70 +15,133 @@ returns-in_default-clause-put g c = λ v k stands next flying.
     let f = g.F.Framing.format in
     let s = bare c.args.self.now in
     let d = c.args.draft.now in
-    let m = c.in_ok-message.message.value in
-    let mine = ap (queued_meaning s.fragment) c.in_ok-message.ensures ∙ begun_message f s v d c.args.next.place c.args.next.count c.args.next.turn c.get.result.now k next c.get.ensures in
+    let p = c.args.packet.now in
+    let m = c.get-message.result.now.value in
+    let mine = begun_message f s v d c.args.next.place c.args.next.count c.args.next.turn c.get-message.result.now k next c.get-message.ensures in
     let there = begun_there f s v d m c.args.next.place c.args.next.count c.args.next.turn k next mine in
     let stream = c.from.ensures ∙ ap (λ (y : MessageFields). y.stream) c.deref.ensures in
     let wide = ap length c.tracks.ensures in
-    absurd (never_none c.get-2.result (c.from.result < length c.tracks.result.now) c.in_default.is c.get-2.ensures.lookup.2 (omega (arith, stream, there, wide)))
+    absurd (never_none c.get.result (c.from.result < length c.tracks.result.now) c.in_default.is c.get.ensures.lookup.2 (omega (arith, stream, there, wide)))
 
 pub returns-then-not-has_window-clause-put : goal.returns-then-not-has_window-clause-put
 returns-then-not-has_window-clause-put g c = λ v k stands next flying.
     let f = g.F.Framing.format in
     let s = bare c.args.self.now in
     let d = c.args.draft.now in
-    let m = c.in_ok-message.message.value in
-    let mine = ap (queued_meaning s.fragment) c.in_ok-message.ensures ∙ begun_message f s v d c.args.next.place c.args.next.count c.args.next.turn c.get.result.now k next c.get.ensures in
+    let p = c.args.packet.now in
+    let m = c.get-message.result.now.value in
+    let mine = begun_message f s v d c.args.next.place c.args.next.count c.args.next.turn c.get-message.result.now k next c.get-message.ensures in
     let there = begun_there f s v d m c.args.next.place c.args.next.count c.args.next.turn k next mine in
     let stream = c.from.ensures ∙ ap (λ (y : MessageFields). y.stream) c.deref.ensures in
-    let its = number_read s.fragment c.from.result c.number_next-number.result c.tracks.result.now d.tracks.items c.in-Some.track.now m c.deref-2.result.now c.tracks.ensures stream c.deref-2.ensures (subst (λ (i : ℕ). i < length d.tracks.items) (sym stream) there)
+    let number = c.number_next-number.result in
+    let its = number_read s.fragment c.from.result number c.tracks.result.now d.tracks.items c.in-Some.track.now m c.deref-2.result.now c.tracks.ensures stream c.deref-2.ensures (subst (λ (i : ℕ). i < length d.tracks.items) (sym stream) there)
     c.in-Some.ensures.lookup.1 (c.number_next-number.ensures s.fragment) in
     let more = left_over c.args.next.count c.args.self.now.fragment s.fragment c.fragments_of.result c.deref-4.result.now m c.deref-3.result.now c.fragments_of.ensures refl c.deref-4.ensures.value c.deref-3.ensures in
+    let left = nat_lt c.args.next.count c.fragments_of.result in
     let window = window_read _ (map (track_meaning s.fragment) d.tracks.items) m c.deref-5.result.now c.has_window.result false c.deref-5.ensures (c.has_window.ensures.fits s.fragment (sym c.requires.sized.tracks)) c.if-not-has_window.true in
-    begun_full f s v d m c.args.next.place c.args.next.count c.args.next.turn c.number_next-number.result k stands next mine its c.args.packet.now c.args.packet.now _ (nat_lt c.args.next.count c.fragments_of.result) more window refl refl refl
+    begun_full f s v d m c.args.next.place c.args.next.count c.args.next.turn number k stands next mine its p p _ left more window refl refl refl
 
-pub returns-then-not-branch-clause-put : goal.returns-then-not-branch-clause-put
-returns-then-not-branch-clause-put g c = λ v k stands next flying.
+pub returns-then-not-is_let_in-clause-put : goal.returns-then-not-is_let_in-clause-put
+returns-then-not-is_let_in-clause-put g c = λ v k stands next flying.
     let f = g.F.Framing.format in
     let s = bare c.args.self.now in
     let d = c.args.draft.now in
-    let m = c.in_ok-message.message.value in
-    let mine = ap (queued_meaning s.fragment) c.in_ok-message.ensures ∙ begun_message f s v d c.args.next.place c.args.next.count c.args.next.turn c.get.result.now k next c.get.ensures in
+    let p = c.args.packet.now in
+    let m = c.get-message.result.now.value in
+    let mine = begun_message f s v d c.args.next.place c.args.next.count c.args.next.turn c.get-message.result.now k next c.get-message.ensures in
     let there = begun_there f s v d m c.args.next.place c.args.next.count c.args.next.turn k next mine in
     let stream = c.from.ensures ∙ ap (λ (y : MessageFields). y.stream) c.deref.ensures in
-    let its = number_read s.fragment c.from.result c.number_next-number.result c.tracks.result.now d.tracks.items c.in-Some.track.now m c.deref-2.result.now c.tracks.ensures stream c.deref-2.ensures (subst (λ (i : ℕ). i < length d.tracks.items) (sym stream) there)
+    let number = c.number_next-number.result in
+    let its = number_read s.fragment c.from.result number c.tracks.result.now d.tracks.items c.in-Some.track.now m c.deref-2.result.now c.tracks.ensures stream c.deref-2.ensures (subst (λ (i : ℕ). i < length d.tracks.items) (sym stream) there)
     c.in-Some.ensures.lookup.1 (c.number_next-number.ensures s.fragment) in
-    begun_held f s v d m c.args.next.place c.args.next.count c.args.next.turn c.number_next-number.result k stands next mine its c.args.packet.now c.put_newcomer.new.packet _ (subst (λ (b : Bool). IsOffered f s d c.args.packet.now c.put_newcomer.new.packet m c.number_next-number.result 0 b) c.if-not-branch.true (c.in_ok-put_newcomer.ensures.put flying)) refl refl
+    let i = suc (s.cum + length d.outstanding.items) in
+    let on = sym (c.is_let_in.ensures number i ∙ ap (λ (n : ℕ). let_in f n s i p (Part (lane_meaning m) number 0) (Some (message_meaning s.fragment m))) flying) ∙ c.if-not-is_let_in.true in
+    begun_held f s v d m c.args.next.place c.args.next.count c.args.next.turn number k stands next mine its p p _ on refl refl refl
 
-pub returns-in_err-begin-clause-some : goal.returns-in_err-begin-clause-some
-returns-in_err-begin-clause-some g c = λ v k stands next flying.
+pub returns-in_err-message-clause-refused : goal.returns-in_err-message-clause-refused
+returns-in_err-message-clause-refused g c = λ v k stands next flying.
     let f = g.F.Framing.format in
     let s = bare c.args.self.now in
     let d = c.args.draft.now in
-    let m = c.in_ok-message.message.value in
-    let mine = ap (queued_meaning s.fragment) c.in_ok-message.ensures ∙ begun_message f s v d c.args.next.place c.args.next.count c.args.next.turn c.get.result.now k next c.get.ensures in
+    let p = c.args.packet.now in
+    let m = c.get-message.result.now.value in
+    let mine = begun_message f s v d c.args.next.place c.args.next.count c.args.next.turn c.get-message.result.now k next c.get-message.ensures in
     let there = begun_there f s v d m c.args.next.place c.args.next.count c.args.next.turn k next mine in
     let stream = c.from.ensures ∙ ap (λ (y : MessageFields). y.stream) c.deref.ensures in
-    let its = number_read s.fragment c.from.result c.number_next-number.result c.tracks.result.now d.tracks.items c.in-Some.track.now m c.deref-2.result.now c.tracks.ensures stream c.deref-2.ensures (subst (λ (i : ℕ). i < length d.tracks.items) (sym stream) there)
+    let number = c.number_next-number.result in
+    let its = number_read s.fragment c.from.result number c.tracks.result.now d.tracks.items c.in-Some.track.now m c.deref-2.result.now c.tracks.ensures stream c.deref-2.ensures (subst (λ (i : ℕ). i < length d.tracks.items) (sym stream) there)
     c.in-Some.ensures.lookup.1 (c.number_next-number.ensures s.fragment) in
     let more = left_over c.args.next.count c.args.self.now.fragment s.fragment c.fragments_of.result c.deref-4.result.now m c.deref-3.result.now c.fragments_of.ensures refl c.deref-4.ensures.value c.deref-3.ensures in
+    let left = nat_lt c.args.next.count c.fragments_of.result in
     let window = window_read _ (map (track_meaning s.fragment) d.tracks.items) m c.deref-5.result.now c.has_window.result true c.deref-5.ensures (c.has_window.ensures.fits s.fragment (sym c.requires.sized.tracks)) c.if-not-has_window.false in
-    on_err (PutSomeOf f v c.args.packet.now c.put_newcomer.new.packet) c.from_residual-in_err-begin.result
-    (begun_some f s v d m c.args.next.place c.args.next.count c.args.next.turn c.number_next-number.result k stands next mine its c.args.packet.now c.put_newcomer.new.packet (nat_lt c.args.next.count c.fragments_of.result) more window (subst (λ (b : Bool). IsOffered f s d c.args.packet.now c.put_newcomer.new.packet m c.number_next-number.result 0 b) c.if-not-branch.false (c.in_ok-put_newcomer.ensures.put flying)))
+    let i = suc (s.cum + length d.outstanding.items) in
+    let on = sym (c.is_let_in.ensures number i ∙ ap (λ (n : ℕ). let_in f n s i p (Part (lane_meaning m) number 0) (Some (message_meaning s.fragment m))) flying) ∙ c.if-not-is_let_in.false in
+    on_err (IsRefused f v p p) _ (begun_refused f s v d m c.args.next.place c.args.next.count c.args.next.turn number k stands next mine its p p left more window on refl)
+
+pub returns-in_err-begin-clause-refused : goal.returns-in_err-begin-clause-refused
+returns-in_err-begin-clause-refused g c = λ v k stands next flying.
+    let f = g.F.Framing.format in
+    let s = bare c.args.self.now in
+    let d = c.args.draft.now in
+    let p = c.args.packet.now in
+    let m = c.get-message.result.now.value in
+    let mine = begun_message f s v d c.args.next.place c.args.next.count c.args.next.turn c.get-message.result.now k next c.get-message.ensures in
+    let there = begun_there f s v d m c.args.next.place c.args.next.count c.args.next.turn k next mine in
+    let stream = c.from.ensures ∙ ap (λ (y : MessageFields). y.stream) c.deref.ensures in
+    let number = c.number_next-number.result in
+    let its = number_read s.fragment c.from.result number c.tracks.result.now d.tracks.items c.in-Some.track.now m c.deref-2.result.now c.tracks.ensures stream c.deref-2.ensures (subst (λ (i : ℕ). i < length d.tracks.items) (sym stream) there)
+    c.in-Some.ensures.lookup.1 (c.number_next-number.ensures s.fragment) in
+    let more = left_over c.args.next.count c.args.self.now.fragment s.fragment c.fragments_of.result c.deref-4.result.now m c.deref-3.result.now c.fragments_of.ensures refl c.deref-4.ensures.value c.deref-3.ensures in
+    let left = nat_lt c.args.next.count c.fragments_of.result in
+    let window = window_read _ (map (track_meaning s.fragment) d.tracks.items) m c.deref-5.result.now c.has_window.result true c.deref-5.ensures (c.has_window.ensures.fits s.fragment (sym c.requires.sized.tracks)) c.if-not-has_window.false in
+    let i = suc (s.cum + length d.outstanding.items) in
+    let on = sym (c.is_let_in.ensures number i ∙ ap (λ (n : ℕ). let_in f n s i p (Part (lane_meaning m) number 0) (Some (message_meaning s.fragment m))) flying) ∙ c.if-not-is_let_in.false in
+    on_err (IsRefused f v p p) _ (begun_refused f s v d m c.args.next.place c.args.next.count c.args.next.turn number k stands next mine its p p left more window on refl)
 
 pub returns-clause-put : goal.returns-clause-put
 returns-clause-put g c = λ v k stands next flying.
     let f = g.F.Framing.format in
     let s = bare c.args.self.now in
     let d = c.args.draft.now in
-    let m = c.in_ok-message.message.value in
-    let mine = ap (queued_meaning s.fragment) c.in_ok-message.ensures ∙ begun_message f s v d c.args.next.place c.args.next.count c.args.next.turn c.get.result.now k next c.get.ensures in
+    let p = c.args.packet.now in
+    let m = c.get-message.result.now.value in
+    let mine = begun_message f s v d c.args.next.place c.args.next.count c.args.next.turn c.get-message.result.now k next c.get-message.ensures in
     let there = begun_there f s v d m c.args.next.place c.args.next.count c.args.next.turn k next mine in
     let stream = c.from.ensures ∙ ap (λ (y : MessageFields). y.stream) c.deref.ensures in
-    let its = number_read s.fragment c.from.result c.number_next-number.result c.tracks.result.now d.tracks.items c.in-Some.track.now m c.deref-2.result.now c.tracks.ensures stream c.deref-2.ensures (subst (λ (i : ℕ). i < length d.tracks.items) (sym stream) there)
+    let number = c.number_next-number.result in
+    let its = number_read s.fragment c.from.result number c.tracks.result.now d.tracks.items c.in-Some.track.now m c.deref-2.result.now c.tracks.ensures stream c.deref-2.ensures (subst (λ (i : ℕ). i < length d.tracks.items) (sym stream) there)
     c.in-Some.ensures.lookup.1 (c.number_next-number.ensures s.fragment) in
     let more = left_over c.args.next.count c.args.self.now.fragment s.fragment c.fragments_of.result c.deref-4.result.now m c.deref-3.result.now c.fragments_of.ensures refl c.deref-4.ensures.value c.deref-3.ensures in
+    let left = nat_lt c.args.next.count c.fragments_of.result in
     let window = window_read _ (map (track_meaning s.fragment) d.tracks.items) m c.deref-5.result.now c.has_window.result true c.deref-5.ensures (c.has_window.ensures.fits s.fragment (sym c.requires.sized.tracks)) c.if-not-has_window.false in
-    let few = begun_few f s v d m c.args.next.place c.args.next.count c.args.next.turn c.number_next-number.result k stands next mine its in
-    begun_put f s v d m c.args.next.place c.args.next.count c.args.next.turn c.number_next-number.result k stands next mine its c.args.packet.now c.put_newcomer.new.packet c.begin.new.draft (nat_lt c.args.next.count c.fragments_of.result) (c.begin.new.draft.outstanding.capacity) more window (subst (λ (b : Bool). IsOffered f s d c.args.packet.now c.put_newcomer.new.packet m c.number_next-number.result 0 b) c.if-not-branch.false (c.in_ok-put_newcomer.ensures.put flying))
-    (c.in_ok-begin.ensures.kept few its) c.in_ok-begin.ensures.room c.in_ok-begin.ensures.told
+    let i = suc (s.cum + length d.outstanding.items) in
+    let on = sym (c.is_let_in.ensures number i ∙ ap (λ (n : ℕ). let_in f n s i p (Part (lane_meaning m) number 0) (Some (message_meaning s.fragment m))) flying) ∙ c.if-not-is_let_in.false in
+    let few = begun_few f s v d m c.args.next.place c.args.next.count c.args.next.turn number k stands next mine its in
+    let new = c.begin.new.draft in
+    let same = c.in_ok-message.ensures in
+    let kept = c.in_ok-begin.ensures.kept few (its ∙ ap (λ (y : MessageFields). number_on (drafted s d).tracks (lane_meaning y)) (sym same))
+    ∙ ap (λ (y : MessageFields). begun (drafted s d) (queued_meaning s.fragment y) c.args.next.place c.args.next.count c.args.next.turn new.outstanding.capacity) same in
+    let told = c.in_ok-begin.ensures.told ∙ ap (λ (y : MessageFields). numbers_of d.tickets.items ++ y.ticket ∷ []) same in
+    of_ok _ _ c.put_at.result
+    (λ put tried. begun_put f s v d m c.args.next.place c.args.next.count c.args.next.turn number k stands next mine its p c.put_at.new.packet new left c.len-at.result new.outstanding.capacity no_item put more window on c.len-at.ensures kept c.in_ok-begin.ensures.room told tried)
+    (c.put_at.ensures.tried no_item)
+
+pub returns-clause-refused : goal.returns-clause-refused
+returns-clause-refused g c = λ v k stands next flying.
+    let f = g.F.Framing.format in
+    let s = bare c.args.self.now in
+    let d = c.args.draft.now in
+    let p = c.args.packet.now in
+    let m = c.get-message.result.now.value in
+    let mine = begun_message f s v d c.args.next.place c.args.next.count c.args.next.turn c.get-message.result.now k next c.get-message.ensures in
+    let there = begun_there f s v d m c.args.next.place c.args.next.count c.args.next.turn k next mine in
+    let stream = c.from.ensures ∙ ap (λ (y : MessageFields). y.stream) c.deref.ensures in
+    let number = c.number_next-number.result in
+    let its = number_read s.fragment c.from.result number c.tracks.result.now d.tracks.items c.in-Some.track.now m c.deref-2.result.now c.tracks.ensures stream c.deref-2.ensures (subst (λ (i : ℕ). i < length d.tracks.items) (sym stream) there)
+    c.in-Some.ensures.lookup.1 (c.number_next-number.ensures s.fragment) in
+    let more = left_over c.args.next.count c.args.self.now.fragment s.fragment c.fragments_of.result c.deref-4.result.now m c.deref-3.result.now c.fragments_of.ensures refl c.deref-4.ensures.value c.deref-3.ensures in
+    let left = nat_lt c.args.next.count c.fragments_of.result in
+    let window = window_read _ (map (track_meaning s.fragment) d.tracks.items) m c.deref-5.result.now c.has_window.result true c.deref-5.ensures (c.has_window.ensures.fits s.fragment (sym c.requires.sized.tracks)) c.if-not-has_window.false in
+    let i = suc (s.cum + length d.outstanding.items) in
+    let on = sym (c.is_let_in.ensures number i ∙ ap (λ (n : ℕ). let_in f n s i p (Part (lane_meaning m) number 0) (Some (message_meaning s.fragment m))) flying) ∙ c.if-not-is_let_in.false in
+    of_err _ _ c.put_at.result (λ same. begun_refused f s v d m c.args.next.place c.args.next.count c.args.next.turn number k stands next mine its p c.put_at.new.packet left more window on same) c.put_at.ensures.unchanged

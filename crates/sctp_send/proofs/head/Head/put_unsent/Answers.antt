@@ -23,3 +23,12 @@ returns-clause-put g c = λ v k premise flying.
     refl refl c.deref.ensures (c.bytes_of-bytes.ensures (lane_meaning x.message.value) x.number) in
     let may = c.may_flow.ensures ∙ ap (λ (n : ℕ). lets_flow n (length c.bytes_of-bytes.result.now) c.args.self.now.rwnd) flying in
     c.put_entry.ensures.put v k (unsent_flows g.F.Framing.format s v c.args.draft.now c.args.at x k premise c.requires.within c.get-entry.ensures (sym flow ∙ sym may ∙ c.if-not-may_flow.false))
+
+pub returns-clause-refused : goal.returns-clause-refused
+returns-clause-refused g c = λ v k premise flying.
+    let x = c.get-entry.result.now in
+    let s = bare c.args.self.now in
+    let flow = flow_read c.args.self.now.fragment s.fragment c.args.self.now.rwnd s.rwnd c.args.draft.now.outstanding.items c.bytes_of-bytes.result.now (lane_meaning x.message.value) x.number x.place c.deref.result.now x.message.value
+    refl refl c.deref.ensures (c.bytes_of-bytes.ensures (lane_meaning x.message.value) x.number) in
+    let may = c.may_flow.ensures ∙ ap (λ (n : ℕ). lets_flow n (length c.bytes_of-bytes.result.now) c.args.self.now.rwnd) flying in
+    c.put_entry.ensures.refused v k (unsent_flows g.F.Framing.format s v c.args.draft.now c.args.at x k premise c.requires.within c.get-entry.ensures (sym flow ∙ sym may ∙ c.if-not-may_flow.false))
