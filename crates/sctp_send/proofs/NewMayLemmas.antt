@@ -6,7 +6,7 @@ use Rattle.std.proofs.lemmas.Option.{slice_get-get_or}
 use Rattle.sctp_model.specs.numbers.Limits.{WINDOW}
 use Rattle.sctp_model.specs.messages.Format.{Format, Lane, ordered_lane}
 use Rattle.sctp_model.specs.wire.Chunk.{ChunkMeaning}
-use Rattle.sctp_model.specs.messages.Plan.{Entry, Part, End}
+use Rattle.sctp_model.specs.messages.Plan.{Entry, End}
 use Rattle.sctp_model.specs.sender.SenderView.{SenderView}
 use Rattle.sctp_model.specs.sender.Entries.{bytes_in}
 use Rattle.sctp_model.specs.sender.Words.{when}
@@ -19,7 +19,7 @@ use Rattle.sctp_model.proofs.sender.OwedLaws.{is_windowed}
 use Rattle.sctp_packet.specs.Draft.{Draft as PacketDraft, room_in, with_chunks, has_room, after_try}
 use Rattle.sctp_send.specs.SenderKept.{Item, Rest, Track, Kept}
 use Rattle.sctp_send.specs.SenderStands.{Keeps}
-use Rattle.sctp_send.specs.OutstandingFields.{item_meaning, lane_meaning, message_meaning, entry_meaning}
+use Rattle.sctp_send.specs.OutstandingFields.{item_meaning, message_meaning, entry_meaning}
 use Rattle.sctp_send.specs.SenderFields.{track_meaning}
 use Rattle.sctp_send.specs.inner.Walks.{total, one_if_rest}
 use Rattle.sctp_send.specs.inner.Wishing.{item_flight, lets_flow}

@@ -28,7 +28,7 @@ impl<F: Framing> Sender<F> {
     /// flow rule and the window let it. It answers the tickets newly numbered.
     ///
     /// # Errors
-    /// `NoMemory`: nothing of the sender changes, and the packet may hold some whole chunks more.
+    /// `NoMemory`: nothing of the sender changes, and the packet may hold some whole chunks more. It comes only where a further one may go.
     pub fn fill(&mut self, packet: &mut PacketWriter) -> Result<Filled, NoMemory>
         ensures step { (v : SenderView) → StandsFor F.format self.old v → IfOk result (λ filled. FillAnswer F.format v packet.old packet.new self.new filled) }
         ensures memory { (v : SenderView) → StandsFor F.format self.old v → OnErr result (StandsFor F.format self.new v) }

@@ -28,7 +28,6 @@ use Rattle.sctp_send.specs.declared.message.Fate.TheVariants.{Numbered}
 use Rattle.sctp_values.specs.declared.ticket.Ticket.{Ticket}
 use Rattle.sctp_send.specs.declared.message.Message.{Message as MessageFields}
 use Rattle.sctp_send.specs.declared.entry.Place.{Place}
-use Rattle.sctp_send.specs.declared.entry.Place.TheVariants.{Fragment}
 use Rattle.sctp_send.specs.declared.entry.Standing.{Standing}
 use Rattle.sctp_send.specs.declared.entry.Standing.TheVariants.{Sent}
 use Rattle.sctp_send.specs.declared.entry.Outstanding.{Outstanding}

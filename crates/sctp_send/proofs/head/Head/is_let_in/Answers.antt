@@ -1,9 +1,8 @@
-use Rattle.std.proofs.Common.{◌≡◌, ℕ, ◌∙◌, refl, length, Some, ap}
+use Rattle.std.proofs.Common.{ℕ, ◌∙◌, refl, Some, ap}
 use Rattle.sctp_model.specs.messages.Plan.{Part}
 use Rattle.sctp_packet.specs.Draft.{has_room}
 use Rattle.sctp_send.specs.OutstandingFields.{lane_meaning, message_meaning}
 use Rattle.sctp_send.specs.inner.Wishing.{lets_flow}
-use Rattle.sctp_send.specs.declared.entry.Place.TheVariants.{Fragment}
 use Rattle.sctp_send.specs.inner.Drafting.{bare, said_chunk}
 use Rattle.sctp_send.proofs.NewMayLemmas.{length_read, both_pass, first_fails}
 use Rattle.sctp_send.proofs.head.Head.is_let_in.Goals as goal

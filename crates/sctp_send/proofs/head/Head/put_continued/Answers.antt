@@ -1,4 +1,4 @@
-use Rattle.std.proofs.Common.{ℕ, suc, ◌+◌, ◌<◌, ◌%◌, ◌^◌, List, length, map, Some, None, refl, sym, ap, ◌∙◌, subst}
+use Rattle.std.proofs.Common.{ℕ, suc, ◌+◌, ◌<◌, ◌%◌, ◌^◌, List, length, map, Some, refl, sym, ap, ◌∙◌, subst}
 use Rattle.std.specs.Prelude.{nat_lt}
 use Rattle.sctp_model.specs.messages.Plan.{Part}
 use Rattle.sctp_send.specs.SenderKept.{Rest}
