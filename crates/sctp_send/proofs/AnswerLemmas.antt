@@ -14,7 +14,7 @@ use Rattle.sctp_send.specs.SenderKept.{Kept}
 use Rattle.sctp_send.specs.SenderStands.{fate_here, fate_named, Keeps}
 use Rattle.sctp_send.specs.inner.Walks.{is_numbered_fate, any_rest, any_uncovered}
 use Rattle.sctp_send.specs.declared.message.Fate.{Fate}
-use Rattle.sctp_send.specs.declared.message.Fate.TheVariants.{Waiting, Numbered, Withdrawn, GivenUp}
+use Rattle.sctp_send.specs.declared.message.Fate.TheVariants.{Queued as StillQueued, Numbered, Withdrawn, Abandoned as WasAbandoned}
 use Rattle.sctp_send.proofs.ReaderLemmas.{fate_at}
 use Rattle.sctp_send.proofs.TicketLemmas.{kept_goes_on, kept_uncovered}
 use Rattle.sctp_send.proofs.GivenLemmas.{IsKept, kept_name, kept_answer, same_after, reliable_after}
@@ -45,7 +45,7 @@ answered_reliable f s v t k on missing fixed =
     let partial = sym k.holds.partial ∙ fixed in
     record { answer = sym (kept_answer v t m.0 m.1 ∙ rw (uncovered, partial) refl); after = reliable_after v t m.0 m.1 partial }
 
--- what is given up by it
+-- what is abandoned by it
 pub record IsGivenNow (v : SenderView) (t : ℕ) : Type 0 where
   pub name : Name
   pub kept : IsKept v t name
@@ -108,10 +108,10 @@ answered_unknown f s v t k out = by_wait (waits t v.queue) refl
 
 -- by its fate, where it isn't numbered
 abbrev pub AnsweredBy : SenderView → ℕ → Fate → Type 0
-AnsweredBy v t Waiting = gone.Withdrawn ≡ abandon_answer v t × (waits t v.queue ≡ true)
+AnsweredBy v t StillQueued = gone.Withdrawn ≡ abandon_answer v t × (waits t v.queue ≡ true)
 AnsweredBy v t Numbered = Unit {0}
 AnsweredBy v t Withdrawn = IsAnswered v t gone.Withdrawn
-AnsweredBy v t GivenUp = IsAnswered v t gone.Abandoned
+AnsweredBy v t WasAbandoned = IsAnswered v t gone.Abandoned
 
 pub answered_by : (f : Format) (s : Kept) (v : SenderView) (t : ℕ) → Keeps f s v → 0 < t → t ≤ length s.fates → AnsweredBy v t (fate_here v t)
 answered_by f s v t k low high = by_wait (waits t v.queue) refl
@@ -119,7 +119,7 @@ answered_by f s v t k low high = by_wait (waits t v.queue) refl
     given : (nat_lt 0 t && nat_le t v.tickets) ≡ true
     given = let count = fates_given f s v k in grind (arith, nat_tests)
 
-    by_kept : (n : Name) → waits t v.queue ≡ false → name_of v t ≡ Some n → (b : Bool) → is_abandoned v n ≡ b → AnsweredBy v t (if b then GivenUp else Numbered)
+    by_kept : (n : Name) → waits t v.queue ≡ false → name_of v t ≡ Some n → (b : Bool) → is_abandoned v n ≡ b → AnsweredBy v t (if b then WasAbandoned else Numbered)
     by_kept n off is false kept = tt
     by_kept n off is true on = record {
       answer = rw (is, on) refl;
@@ -130,6 +130,6 @@ answered_by f s v t k low high = by_wait (waits t v.queue) refl
     by_name off None is = record { answer = rw (is, given) refl; after = nothing_done v t off is }
     by_name off (Some n) is = by_kept n off is (is_abandoned v n) refl
 
-    by_wait : (b : Bool) → waits t v.queue ≡ b → AnsweredBy v t (if b then Waiting else fate_named v (name_of v t))
+    by_wait : (b : Bool) → waits t v.queue ≡ b → AnsweredBy v t (if b then StillQueued else fate_named v (name_of v t))
     by_wait true on = (rw ((is_ticketed f v k.reached).waiting t on).2 (rw given refl), on)
     by_wait false off = by_name off (name_of v t) refl

@@ -17,7 +17,7 @@ use Rattle.sctp_send.specs.inner.Counting.{count_unsettled, entered, left, lower
 use Rattle.sctp_send.specs.declared.counts.Counts.{Counts}
 use Rattle.sctp_send.specs.declared.entry.Standing.{Standing}
 use Rattle.sctp_send.specs.declared.entry.Standing.TheVariants.{Unsent, Sent, Marked}
-use Rattle.sctp_send.specs.declared.entry.Outstanding.{Outstanding}
+use Rattle.sctp_send.specs.declared.entry.Entry.{Entry as EntryFields}
 use Rattle.sctp_send.proofs.ItemLemmas.{item_read}
 use Rattle.sctp_send.proofs.WeightLemmas.{weight_small, one_small, flight_sum, unsettled_one, unsettled_sum}
 use Rattle.sctp_send.proofs.CursorLemmas.{lower_within, reach_within, none_reached, none_behind_first, none_cut, none_set}
@@ -44,7 +44,7 @@ module _ (weight : Item → ℕ) (total : List Item → ℕ) (is : (xs : List It
 
 -- ---- an entry more
 
-pub counts_pushed : (size : ℕ) (es : List Outstanding) (e : Outstanding) (c : Counts) → IsCounted size es c
+pub counts_pushed : (size : ℕ) (es : List EntryFields) (e : EntryFields) (c : Counts) → IsCounted size es c
     → IsCounted size (es ++ e ∷ []) (reached (length es) (item_meaning size e) (entered (item_meaning size e) c))
 counts_pushed size es e c h =
     let x = item_meaning size e in
@@ -67,7 +67,7 @@ counts_pushed size es e c h =
 
 -- ---- an entry less
 
-pub counts_behind : (size : ℕ) (e : Outstanding) (es : List Outstanding) (c : Counts) (front : ℕ) → IsCounted size (e ∷ es) c → front ≡ abandoned_items (map (item_meaning size) es)
+pub counts_behind : (size : ℕ) (e : EntryFields) (es : List EntryFields) (c : Counts) (front : ℕ) → IsCounted size (e ∷ es) c → front ≡ abandoned_items (map (item_meaning size) es)
     → IsCounted size es (record (left (item_meaning size e) c) { marked = c.marked - 1; unsent = c.unsent - 1; front = front })
 counts_behind size e es c front h is =
     let x = item_meaning size e in
@@ -89,7 +89,7 @@ worth_front : {A B : Type 0} (g : A → B) (f : B → Option Message) (first : �
 worth_front g f first [] ys worth = tt
 worth_front g f first (x ∷ xs) ys worth = (worth.0, worth_front g f first xs ys worth.1)
 
-pub counts_cut : (size : ℕ) (es : List Outstanding) (e : Outstanding) (c : Counts) → IsCounted size (es ++ e ∷ []) c
+pub counts_cut : (size : ℕ) (es : List EntryFields) (e : EntryFields) (c : Counts) → IsCounted size (es ++ e ∷ []) c
     → IsCounted size es (record (left (item_meaning size e) c) { marked = min c.marked (length es); unsent = min c.unsent (length es); front = min c.front (length es) })
 counts_cut size es e c h =
     let x = item_meaning size e in
@@ -111,7 +111,7 @@ counts_cut size es e c h =
 
 -- ---- an entry becomes another
 
-pub counts_set : (size : ℕ) (es : List Outstanding) (at : ℕ) (e new : Outstanding) (c : Counts) (front : ℕ) → at < length es → e ≡ get_or es at e → IsCounted size es c
+pub counts_set : (size : ℕ) (es : List EntryFields) (at : ℕ) (e new : EntryFields) (c : Counts) (front : ℕ) → at < length es → e ≡ get_or es at e → IsCounted size es c
     → front ≡ abandoned_items (map (item_meaning size) (set es at new))
     → IsCounted size (set es at new) (record (lowered at (item_meaning size new) (entered (item_meaning size new) (left (item_meaning size e) c))) { front = front })
 counts_set size es at e new c front lt read h is =
@@ -146,7 +146,7 @@ both_off false b = refl
 covered_weight : (x : Item) → x.covered ≡ true → item_weight x ≡ 0
 covered_weight x on = ap (λ (b : Bool). if b then length (item_bytes x) else 0) off
   where
-    off : (not x.marked && (x.sent && (not x.covered && not x.given_up))) ≡ false
+    off : (not x.marked && (x.sent && (not x.covered && not x.abandoned))) ≡ false
     off = rw on (both_off (not x.marked) x.sent)
 
 -- nor is it unsettled, or to go out
@@ -164,7 +164,7 @@ never_marked Unsent = refl
 never_marked Sent = refl
 never_marked Marked = refl
 
-pub counts_covered : (size : ℕ) (es : List Outstanding) (at : ℕ) (e : Outstanding) (c : Counts) → at < length es → e ≡ get_or es at e → c.earliest ≤ LAST_MOMENT → IsCounted size es c
+pub counts_covered : (size : ℕ) (es : List EntryFields) (at : ℕ) (e : EntryFields) (c : Counts) → at < length es → e ≡ get_or es at e → c.earliest ≤ LAST_MOMENT → IsCounted size es c
     → IsCounted size (set es at (as_covered e)) (left (item_meaning size e) c)
 counts_covered size es at e c lt read last h =
     let x = item_meaning size e in
@@ -189,7 +189,7 @@ counts_covered size es at e c lt read last h =
       front = front;
     }
 
-pub counts_uncovered : (size : ℕ) (es : List Outstanding) (at : ℕ) (e : Outstanding) (c : Counts) → at < length es → e ≡ get_or es at e → e.covered ≡ true → IsCounted size es c
+pub counts_uncovered : (size : ℕ) (es : List EntryFields) (at : ℕ) (e : EntryFields) (c : Counts) → at < length es → e ≡ get_or es at e → e.covered ≡ true → IsCounted size es c
     → IsCounted size (set es at (as_uncovered e)) (lowered at (item_meaning size (as_uncovered e)) (entered (item_meaning size (as_uncovered e)) c))
 counts_uncovered size es at e c lt read on h =
     let x = item_meaning size e in
@@ -215,12 +215,12 @@ counts_uncovered size es at e c lt read on h =
 
 -- ---- a search went further
 
-pub counts_marked : (size : ℕ) (es : List Outstanding) (c : Counts) (at : ℕ) → at ≤ length es → first_place is_item_marked (take at (map (item_meaning size) es)) ≡ None → IsCounted size es c
+pub counts_marked : (size : ℕ) (es : List EntryFields) (c : Counts) (at : ℕ) → at ≤ length es → first_place is_item_marked (take at (map (item_meaning size) es)) ≡ None → IsCounted size es c
     → IsCounted size es (record c { marked = at })
 counts_marked size es c at within none h =
     record { some = h.some; small = h.small; marked = none; marked_within = within; unsent = h.unsent; unsent_within = h.unsent_within; flight = h.flight; unsettled = h.unsettled; earliest = h.earliest; front = h.front }
 
-pub counts_unsent : (size : ℕ) (es : List Outstanding) (c : Counts) (at : ℕ) → at ≤ length es → first_place is_item_unsent (take at (map (item_meaning size) es)) ≡ None → IsCounted size es c
+pub counts_unsent : (size : ℕ) (es : List EntryFields) (c : Counts) (at : ℕ) → at ≤ length es → first_place is_item_unsent (take at (map (item_meaning size) es)) ≡ None → IsCounted size es c
     → IsCounted size es (record c { unsent = at })
 counts_unsent size es c at within none h =
     record { some = h.some; small = h.small; marked = h.marked; marked_within = h.marked_within; unsent = none; unsent_within = within; flight = h.flight; unsettled = h.unsettled; earliest = h.earliest; front = h.front }

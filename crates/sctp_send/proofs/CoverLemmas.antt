@@ -7,29 +7,29 @@ use Rattle.sctp_model.specs.messages.Acknowledgement.{in_blocks}
 use Rattle.sctp_model.specs.sender.Words.{when, first_there}
 use Rattle.sctp_model.specs.sender.SackTaken as taken
 use Rattle.sctp_model.specs.sender.SackTaken.{some_is_bad, some_ends_past}
-use Rattle.sctp_send.specs.WindowKept.{at_place}
+use Rattle.sctp_send.specs.PartsKept.{at_place}
 use Rattle.sctp_send.specs.SenderKept.{Item}
 use Rattle.sctp_send.specs.OutstandingFields.{item_meaning}
 use Rattle.sctp_send.specs.inner.Changes.{unmarked, as_covered, as_uncovered, told, all_told, or_run}
 use Rattle.sctp_send.specs.inner.Acknowledging.{block_fault}
 use Rattle.sctp_send.specs.declared.entry.Standing.{Standing}
 use Rattle.sctp_send.specs.declared.entry.Standing.TheVariants.{Unsent, Sent, Marked}
-use Rattle.sctp_send.specs.declared.entry.Outstanding.{Outstanding}
+use Rattle.sctp_send.specs.declared.entry.Entry.{Entry as EntryFields}
 
 -- ---- by index
 
-pub count_told : (test : ℕ → Bool) (es : List Outstanding) (i : ℕ) → length (all_told test i es) ≡ length es
+pub count_told : (test : ℕ → Bool) (es : List EntryFields) (i : ℕ) → length (all_told test i es) ≡ length es
 count_told test [] i = refl
 count_told test (e ∷ es) i = ap suc (count_told test es (suc i))
 
 -- tests that agree from the first index on tell the same
-pub told_same : (test other : ℕ → Bool) (es : List Outstanding) (i : ℕ) → ((j : ℕ) → i ≤ j → test j ≡ other j) → all_told test i es ≡ all_told other i es
+pub told_same : (test other : ℕ → Bool) (es : List EntryFields) (i : ℕ) → ((j : ℕ) → i ≤ j → test j ≡ other j) → all_told test i es ≡ all_told other i es
 told_same test other [] i same = refl
 told_same test other (e ∷ es) i same = rw (same i (omega arith), told_same test other es (suc i) (λ j le. same j (omega arith))) refl
 
-pub none_told : (es : List Outstanding) (i : ℕ) → map as_uncovered es ≡ all_told (λ j. false) i es
+pub none_told : (es : List EntryFields) (i : ℕ) → map as_uncovered es ≡ all_told (λ j. false) i es
 none_told [] i = refl
-none_told (e ∷ es) i = ap (λ (xs : List Outstanding). as_uncovered e ∷ xs) (none_told es (suc i))
+none_told (e ∷ es) i = ap (λ (xs : List EntryFields). as_uncovered e ∷ xs) (none_told es (suc i))
 
 unmarked_twice : (s : Standing) → unmarked (unmarked s) ≡ unmarked s
 unmarked_twice Unsent = refl
@@ -37,12 +37,12 @@ unmarked_twice Sent = refl
 unmarked_twice Marked = refl
 
 -- what was told before counts no more
-cover_told : (b : Bool) (e : Outstanding) → as_covered (told b e) ≡ told true e
+cover_told : (b : Bool) (e : EntryFields) → as_covered (told b e) ≡ told true e
 cover_told true e = rw (unmarked_twice e.standing) refl
 cover_told false e = refl
 
 -- one index more is covered
-cover_next : (test other : ℕ → Bool) (es : List Outstanding) (i n : ℕ) → n < length es → other (i + n) ≡ true → ((j : ℕ) → i ≤ j → (j ≡ i + n → ⊥) → other j ≡ test j)
+cover_next : (test other : ℕ → Bool) (es : List EntryFields) (i n : ℕ) → n < length es → other (i + n) ≡ true → ((j : ℕ) → i ≤ j → (j ≡ i + n → ⊥) → other j ≡ test j)
     → at_place as_covered n (all_told test i es) ≡ all_told other i es
 cover_next test other [] i n lt on same = absurd (omega arith)
 cover_next test other (e ∷ es) i zero lt on same =
@@ -52,10 +52,10 @@ cover_next test other (e ∷ es) i zero lt on same =
 cover_next test other (e ∷ es) i (suc n) lt on same =
     let next : suc i + n ≡ i + suc n = omega arith in
     let rest = cover_next test other es (suc i) n (omega arith) (ap other next ∙ on) (λ j le ne. same j (omega arith) (λ is. ne (is ∙ sym next))) in
-    rw (same i (omega arith) (λ is. omega arith)) (ap (λ (xs : List Outstanding). told (test i) e ∷ xs) rest)
+    rw (same i (omega arith) (λ is. omega arith)) (ap (λ (xs : List EntryFields). told (test i) e ∷ xs) rest)
 
 -- uncovering first changes nothing of what is told then
-pub told_again : (test : ℕ → Bool) (es : List Outstanding) (i : ℕ) → all_told test i (all_told (λ j. false) i es) ≡ all_told test i es
+pub told_again : (test : ℕ → Bool) (es : List EntryFields) (i : ℕ) → all_told test i (all_told (λ j. false) i es) ≡ all_told test i es
 told_again test [] i = refl
 told_again test (e ∷ es) i = rw (once_more (test i), told_again test es (suc i)) refl
   where
@@ -76,7 +76,7 @@ or_sure false = refl
 in_run : (from to i : ℕ) → from < i → i ≤ to → (nat_lt from i && nat_le i to) ≡ true
 in_run from to i lo hi = grind (arith, nat_tests)
 
-pub run_grows : (test : ℕ → Bool) (from at : ℕ) (es now : List Outstanding) → from ≤ at → at < length now → now ≡ all_told (or_run test from at) 1 es → at_place as_covered at now ≡ all_told (or_run test from (at + 1)) 1 es
+pub run_grows : (test : ℕ → Bool) (from at : ℕ) (es now : List EntryFields) → from ≤ at → at < length now → now ≡ all_told (or_run test from at) 1 es → at_place as_covered at now ≡ all_told (or_run test from (at + 1)) 1 es
 run_grows test from at es now le lt is =
     let long : at < length es = rw (is, count_told (or_run test from at) es 1) at lt in
     let here : or_run test from (at + 1) (1 + at) ≡ true = rw (in_run from (at + 1) (1 + at) (omega arith) (omega arith)) (or_sure (test (1 + at))) in
@@ -144,7 +144,7 @@ abbrev pub items_told : (ℕ → Bool) → ℕ → List Item → List Item
 items_told test i [] = []
 items_told test i (x ∷ xs) = item_told (test i) x ∷ items_told test (suc i) xs
 
-told_meaning : (size : ℕ) (b : Bool) (e : Outstanding) → item_meaning size (told b e) ≡ item_told b (item_meaning size e)
+told_meaning : (size : ℕ) (b : Bool) (e : EntryFields) → item_meaning size (told b e) ≡ item_told b (item_meaning size e)
 told_meaning size true e = by_standing e.standing
   where
     by_standing : (s : Standing) → item_meaning size (record e { covered = true; standing = unmarked s }) ≡ item_told true (item_meaning size (record e { standing = s }))
@@ -158,7 +158,7 @@ told_meaning size false e = by_standing e.standing
     by_standing Sent = refl
     by_standing Marked = refl
 
-pub all_told_meaning : (size : ℕ) (test : ℕ → Bool) (es : List Outstanding) (i : ℕ) → map (item_meaning size) (all_told test i es) ≡ items_told test i (map (item_meaning size) es)
+pub all_told_meaning : (size : ℕ) (test : ℕ → Bool) (es : List EntryFields) (i : ℕ) → map (item_meaning size) (all_told test i es) ≡ items_told test i (map (item_meaning size) es)
 all_told_meaning size test [] i = refl
 all_told_meaning size test (e ∷ es) i = rw (told_meaning size (test i) e, all_told_meaning size test es (suc i)) refl
 

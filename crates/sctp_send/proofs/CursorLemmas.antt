@@ -7,7 +7,7 @@ use Rattle.sctp_send.specs.SenderKept.{Item}
 use Rattle.sctp_send.specs.OutstandingFields.{item_meaning}
 use Rattle.sctp_send.specs.inner.Wishing.{first_place}
 use Rattle.sctp_send.specs.inner.Counting.{furthest}
-use Rattle.sctp_send.specs.declared.entry.Outstanding.{Outstanding}
+use Rattle.sctp_send.specs.declared.entry.Entry.{Entry as EntryFields}
 use Rattle.sctp_send.proofs.ItemLemmas.{item_read}
 
 -- none of them passes
@@ -128,7 +128,7 @@ none_set test xs n k x none = by_test (test x) refl
 -- ---- a search that begins at a cursor
 
 -- one entry more that doesn't pass
-pub none_more : (test : Item → Bool) (size : ℕ) (es : List Outstanding) (at : ℕ) (x : Outstanding) → at < length es → x ≡ get_or es at x → test (item_meaning size x) ≡ false
+pub none_more : (test : Item → Bool) (size : ℕ) (es : List EntryFields) (at : ℕ) (x : EntryFields) → at < length es → x ≡ get_or es at x → test (item_meaning size x) ≡ false
     → first_place test (take at (map (item_meaning size) es)) ≡ None → first_place test (take (at + 1) (map (item_meaning size) es)) ≡ None
 none_more test size es at x lt read off none =
     let items = map (item_meaning size) es in
@@ -143,7 +143,7 @@ found_at test (y ∷ xs) zero x lt read on off = let here : test y ≡ true = ap
 found_at test (y ∷ xs) (suc n) x lt read on off = rw off.0 (ap (option_map suc) (found_at test xs n x (omega arith) read on off.1))
 
 -- an entry that passes is the first one
-pub first_found : (test : Item → Bool) (size : ℕ) (es : List Outstanding) (at : ℕ) (x : Outstanding) → at < length es → x ≡ get_or es at x → test (item_meaning size x) ≡ true
+pub first_found : (test : Item → Bool) (size : ℕ) (es : List EntryFields) (at : ℕ) (x : EntryFields) → at < length es → x ≡ get_or es at x → test (item_meaning size x) ≡ true
     → first_place test (take at (map (item_meaning size) es)) ≡ None → Some at ≡ first_place test (map (item_meaning size) es)
 first_found test size es at x lt read on none =
     let items = map (item_meaning size) es in
@@ -151,7 +151,7 @@ first_found test size es at x lt read on none =
     found_at test items at (item_meaning size x) within (sym (item_read size es at x read)) on (off_of test (take at items) none)
 
 -- at the end there is none
-pub none_found : (test : Item → Bool) (size : ℕ) (es : List Outstanding) (at : ℕ) → length es ≤ at → first_place test (take at (map (item_meaning size) es)) ≡ None → None ≡ first_place test (map (item_meaning size) es)
+pub none_found : (test : Item → Bool) (size : ℕ) (es : List EntryFields) (at : ℕ) → length es ≤ at → first_place test (take at (map (item_meaning size) es)) ≡ None → None ≡ first_place test (map (item_meaning size) es)
 none_found test size es at le none =
     let items = map (item_meaning size) es in
     let all : take at items ≡ items = take_all at items (omega (arith, length-map es (item_meaning size))) in

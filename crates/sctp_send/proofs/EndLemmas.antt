@@ -1,4 +1,4 @@
--- A message with a number that is given up: what is kept after it, where it was in part and where it wasn't.
+-- A message with a number that is abandoned: what is kept after it, where it was in part and where it wasn't.
 use Rattle.std.proofs.Common.{◌≡◌, ℕ, zero, suc, ◌+◌, ◌-◌, ◌<◌, List, [], ◌∷◌, ◌++◌, length, map, drop, set, Bool, true, false, Option, Some, None, refl, sym, ap, ◌∙◌, arith, length-append, length-drop}
 use Rattle.std.specs.Prelude.{not, ◌&&◌, ◌||◌, if◌then◌else◌, slice_get}
 use Rattle.std.proofs.lemmas.List.{length-map, drop-append-le}
@@ -20,12 +20,12 @@ use Rattle.sctp_model.proofs.sender.AbandonCases.{given_itself}
 use Rattle.sctp_send.specs.SenderKept.{Item, Rest, Track, Kept}
 use Rattle.sctp_send.specs.SenderStands.{item_here, items_from, table, rest_here, track_here, Keeps}
 use Rattle.sctp_send.specs.inner.Walks.{any_rest, rest_has, end_item, EndsAt}
-use Rattle.sctp_send.specs.declared.message.Fate.TheVariants.{GivenUp}
+use Rattle.sctp_send.specs.declared.message.Fate.TheVariants.{Abandoned as WasAbandoned}
 use Rattle.sctp_send.proofs.TableLemmas.{table-set, table-same}
 use Rattle.sctp_send.proofs.TicketLemmas.{kept_goes_on}
 use Rattle.sctp_send.proofs.GivenLemmas.{given_item, all_own_drop, same_messages, same_entry_message, given-items_from, given_fates, IsKept, given_after}
 
--- ---- given up: what stands above CUM
+-- ---- abandoned: what stands above CUM
 
 items_joined : (v : SenderView) (i : ℕ) (es ds : List Entry) → items_from v i (es ++ ds) ≡ items_from v i es ++ items_from v (i + length es) ds
 items_joined v i [] ds = let same : i + 0 ≡ i = omega arith in rw same refl
@@ -37,7 +37,7 @@ given_items f s v t n k m =
     ap (map (given_item t)) k.holds.items
     ∙ given-items_from f v t n (suc v.cum) (drop v.cum v.plan.entries) k.reached m.named own (λ j lt. let next : suc v.cum + j ≡ suc (v.cum + j) = omega arith in rw next (get-drop v.cum v.plan.entries j))
 
--- ---- given up: what streams go on with
+-- ---- abandoned: what streams go on with
 
 -- the plan names the same messages
 rest_same : (v : SenderView) (n : Name) (o : Option Entry) → rest_here (with_abandoned v n).plan o ≡ rest_here v.plan o
@@ -80,9 +80,9 @@ any_there t (y ∷ xs) (suc at) x is on = rw (any_there t xs at x is on) (or_tru
     or_true true = refl
     or_true false = refl
 
--- the view with it given up, where its stream doesn't go on with it
+-- the view with it abandoned, where its stream doesn't go on with it
 pub keeps_given : (f : Format) (s : Kept) (v : SenderView) (t : ℕ) (n : Name) → Keeps f s v → IsKept v t n → is_covered v n ≡ false → v.partial ≡ true → any_rest t s.tracks ≡ false
-    → Keeps f (record s { items = map (given_item t) s.items; fates = set s.fates (t - 1) GivenUp }) (abandon_after v t)
+    → Keeps f (record s { items = map (given_item t) s.items; fates = set s.fates (t - 1) WasAbandoned }) (abandon_after v t)
 keeps_given f s v t n k m off partial none =
     let u = with_abandoned v n in
     let part : is_in_part v n.lane n.number ≡ false = sym (kept_goes_on f s v t n k m.named) ∙ none in
@@ -115,21 +115,21 @@ keeps_given f s v t n k m off partial none =
 
 -- its end mark
 end_here : (f : Format) (v : SenderView) (t : ℕ) (n : Name) (i : ℕ) → IsReached f v → length v.plan.entries < i → item_here (with_abandoned v n) i (End n.lane n.number)
-    ≡ record { entry = End n.lane n.number; message = message_at v.plan n.lane n.number; sent = false; marked = false; covered = false; given_up = true }
+    ≡ record { entry = End n.lane n.number; message = message_at v.plan n.lane n.number; sent = false; marked = false; covered = false; abandoned = true }
 end_here f v t n i h past =
     let b = is_bounded f v h in
     item_alike _ _ _ _ _ _ _ _ _ _ (same_entry_message v n (End n.lane n.number)) (b.unsent i past) (ap (λ (m : Bool). m && not (passes_at v.plan (λ j e. is_of n.lane n.number e) i)) (b.unmarked i past)) (b.uncovered i past) (given_itself v n)
   where
     item : Option Message → Bool → Bool → Bool → Bool → Item
-    item m sent marked covered given = record { entry = End n.lane n.number; message = m; sent = sent; marked = marked; covered = covered; given_up = given }
+    item m sent marked covered given = record { entry = End n.lane n.number; message = m; sent = sent; marked = marked; covered = covered; abandoned = given }
 
     item_alike : (m k : Option Message) (a b c d x y g h : Bool) → m ≡ k → a ≡ b → c ≡ d → x ≡ y → g ≡ h → item m a c x g ≡ item k b d y h
     item_alike m k a b c d x y g h p q r z w =
         ap (λ (o : Option Message). item o a c x g) p ∙ ap (λ (o : Bool). item k o c x g) q ∙ ap (λ (o : Bool). item k b o x g) r ∙ ap (λ (o : Bool). item k b d o g) z ∙ ap (item k b d y) w
 
--- the view with it given up, where its stream goes on with it
+-- the view with it abandoned, where its stream goes on with it
 pub keeps_ended : (f : Format) (s : Kept) (v : SenderView) (t : ℕ) (n : Name) (r : Rest) (tracks : List Track) → Keeps f s v → IsKept v t n → is_covered v n ≡ false → v.partial ≡ true → EndsAt t r s.tracks tracks
-    → (length s.items < s.capacity) × Keeps f (record s { items = map (given_item t) s.items ++ end_item r ∷ []; fates = set s.fates (t - 1) GivenUp; tracks = tracks }) (abandon_after v t)
+    → (length s.items < s.capacity) × Keeps f (record s { items = map (given_item t) s.items ++ end_item r ∷ []; fates = set s.fates (t - 1) WasAbandoned; tracks = tracks }) (abandon_after v t)
 keeps_ended f s v t n r tracks k m off partial ends =
     let u = with_abandoned v n in
     let read : slice_get (table (track_here v) 0 v.streams) ends.at ≡ Some ends.track = rw k.holds.tracks at ends.there in
@@ -143,7 +143,7 @@ keeps_ended f s v t n r tracks k m off partial ends =
     let named = is_named f v k.reached in
     let is = in_part_is v n named part in
     let entry : next.0 ≡ Part n.lane n.number (suc is.0) = some_same (sym next.1 ∙ ap (continued v.plan) (sym stream) ∙ is.1) in
-    let mark : end_item r ≡ record { entry = End n.lane n.number; message = message_at v.plan n.lane n.number; sent = false; marked = false; covered = false; given_up = true } =
+    let mark : end_item r ≡ record { entry = End n.lane n.number; message = message_at v.plan n.lane n.number; sent = false; marked = false; covered = false; abandoned = true } =
     ap end_item (next.2 ∙ ap (λ (e : Entry). record { entry = e; message = entry_message v.plan e }) entry) in
     let plan : u.plan ≡ with_end v.plan n = ap (λ (b : Bool). if b then with_entry v.plan (End n.lane n.number) else v.plan) part in
     let bound = is_bounded f v k.reached in

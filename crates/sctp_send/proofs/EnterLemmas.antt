@@ -12,7 +12,7 @@ use Rattle.sctp_model.specs.messages.Plan.{Message, Part}
 use Rattle.sctp_model.specs.sender.Entries.{entry_fragment, bytes_in}
 use Rattle.sctp_model.specs.sender.Queueing.{cut}
 use Rattle.sctp_model.specs.sender.PieceSaid.{is_unordered}
-use Rattle.sctp_send.specs.WindowKept.{WindowKept, IsSameRoom}
+use Rattle.sctp_send.specs.PartsKept.{OutstandingKept, IsSameRoom}
 use Rattle.sctp_send.specs.SenderKept.{Item, Rest, Track, Kept}
 use Rattle.sctp_send.specs.OutstandingFields.{item_meaning, queued_meaning, lane_meaning, message_meaning, entry_meaning}
 use Rattle.sctp_send.specs.inner.Newcomers.{gone_item, new_item, new_items, begun_items, fresh_track, track_of, number_on, without_place, begun, gone_on}
@@ -24,7 +24,7 @@ use Rattle.sctp_send.specs.declared.track.Track.{Track as TrackFields}
 use Rattle.sctp_send.specs.declared.draft.Draft.{Draft}
 use Rattle.sctp_send.specs.declared.track.Rest.{Rest as RestFields}
 use Rattle.sctp_send.specs.declared.entry.Standing.TheVariants.{Sent}
-use Rattle.sctp_send.specs.declared.entry.Outstanding.{Outstanding}
+use Rattle.sctp_send.specs.declared.entry.Entry.{Entry as EntryFields}
 use Rattle.sctp_send.specs.declared.message.Fate.{Fate}
 use Rattle.sctp_send.specs.declared.message.Fate.TheVariants.{Numbered}
 use Rattle.sctp_send.specs.declared.message.Message.{Message as MessageFields}
@@ -49,20 +49,20 @@ begun_push l n m (suc d) some =
     rw next (ap (λ (xs : List Item). gone_item (new_item (Part l n 0) m) ∷ xs) (rw place at (new_push l n m 1 d)))
 
 -- So many first fragments of a message came behind the entries that there were, and there is as much room.
-pub record IsPushed (old new : WindowKept) (m : MessageFields) (number count : ℕ) : Type 0 where
+pub record IsPushed (old new : OutstandingKept) (m : MessageFields) (number count : ℕ) : Type 0 where
   pub items : (size : ℕ) → map (item_meaning size) new.items ≡ map (item_meaning size) old.items ++ begun_items (lane_meaning m) number (message_meaning size m) count
   pub before : old.items ≡ take (length old.items) new.items
   pub long : length new.items ≡ length old.items + count
   pub room : IsSameRoom old new
 
 -- those before are the same where one more comes
-pub before_more : (xs ys zs : List Outstanding) → xs ≡ take (length xs) ys → length xs ≤ length ys → ys ≡ take (length zs - 1) zs → length zs ≡ length ys + 1 → xs ≡ take (length xs) zs
+pub before_more : (xs ys zs : List EntryFields) → xs ≡ take (length xs) ys → length xs ≤ length ys → ys ≡ take (length zs - 1) zs → length zs ≡ length ys + 1 → xs ≡ take (length xs) zs
 before_more xs ys zs first le more long =
     let one : length zs - 1 ≡ length ys = omega arith in
     first ∙ ap (take (length xs)) (more ∙ ap (λ (n : ℕ). take n zs) one) ∙ take-take (length xs) (length ys) zs le
 
 -- one that came is behind all before
-pub before_one : (xs ys : List Outstanding) → xs ≡ take (length ys - 1) ys → length ys ≡ length xs + 1 → xs ≡ take (length xs) ys
+pub before_one : (xs ys : List EntryFields) → xs ≡ take (length ys - 1) ys → length ys ≡ length xs + 1 → xs ≡ take (length xs) ys
 before_one xs ys more long = let one : length ys - 1 ≡ length xs = omega arith in more ∙ ap (λ (n : ℕ). take n ys) one
 
 -- ---- bytes of a fragment

@@ -31,7 +31,7 @@ use Rattle.sctp_send.specs.SenderKept.{Item, Kept}
 use Rattle.sctp_send.specs.OutstandingFields.{lane_of, item_meaning, entries_of}
 use Rattle.sctp_send.specs.SenderStands.{items_from, Keeps}
 use Rattle.sctp_send.specs.inner.Walks.{abandoned_items}
-use Rattle.sctp_send.specs.declared.entry.Outstanding.{Outstanding}
+use Rattle.sctp_send.specs.declared.entry.Entry.{Entry as EntryFields}
 use Rattle.sctp_send.proofs.KeepLemmas.{kept_length}
 use Rattle.sctp_send.proofs.ReaderLemmas.{run_items, run_within}
 
@@ -43,21 +43,21 @@ entries_step l found (e ∷ es) zero d lt = refl
 entries_step l found (e ∷ es) (suc at) d lt = entries_step l found es at d (omega arith)
 
 -- the entries of the first `run` items
-first_length : (size run : ℕ) (es : List Outstanding) → run ≤ length es → length (entries_of (map (item_meaning size) (take run es))) ≡ run
+first_length : (size run : ℕ) (es : List EntryFields) → run ≤ length es → length (entries_of (map (item_meaning size) (take run es))) ≡ run
 first_length size run es le =
     length-map (map (item_meaning size) (take run es)) (λ x. x.entry) ∙ length-map (take run es) (item_meaning size) ∙ length-take-le run es le
 
-first_read : (size run at : ℕ) (es : List Outstanding) (x : Outstanding) → at < run → x ≡ get_or es at x
+first_read : (size run at : ℕ) (es : List EntryFields) (x : EntryFields) → at < run → x ≡ get_or es at x
     → get_or (entries_of (map (item_meaning size) (take run es))) at (item_meaning size x).entry ≡ (item_meaning size x).entry
-first_read size run at es x lt read = of_map run es at x lt ∙ ap (λ (y : Outstanding). (item_meaning size y).entry) (sym read)
+first_read size run at es x lt read = of_map run es at x lt ∙ ap (λ (y : EntryFields). (item_meaning size y).entry) (sym read)
   where
-    of_map : (n : ℕ) (ds : List Outstanding) (j : ℕ) (d : Outstanding) → j < n → get_or (entries_of (map (item_meaning size) (take n ds))) j (item_meaning size d).entry ≡ (item_meaning size (get_or ds j d)).entry
+    of_map : (n : ℕ) (ds : List EntryFields) (j : ℕ) (d : EntryFields) → j < n → get_or (entries_of (map (item_meaning size) (take n ds))) j (item_meaning size d).entry ≡ (item_meaning size (get_or ds j d)).entry
     of_map zero ds j d less = absurd (omega arith)
     of_map (suc n) [] j d less = refl
     of_map (suc n) (y ∷ ds) zero d less = refl
     of_map (suc n) (y ∷ ds) (suc j) d less = of_map n ds j d (omega arith)
 
-pub walked_largest : (size stream run at : ℕ) (kind : Kind) (found next : Option ℕ) (es : List Outstanding) (x : Outstanding) → run ≤ length es → at < run → x ≡ get_or es at x
+pub walked_largest : (size stream run at : ℕ) (kind : Kind) (found next : Option ℕ) (es : List EntryFields) (x : EntryFields) → run ≤ length es → at < run → x ≡ get_or es at x
     → next ≡ largest_in (lane_of stream kind) found ((item_meaning size x).entry ∷ [])
     → largest_in (lane_of stream kind) None (entries_of (map (item_meaning size) (take run es))) ≡ largest_in (lane_of stream kind) found (drop at (entries_of (map (item_meaning size) (take run es))))
     → largest_in (lane_of stream kind) None (entries_of (map (item_meaning size) (take run es))) ≡ largest_in (lane_of stream kind) next (drop (at + 1) (entries_of (map (item_meaning size) (take run es))))
@@ -171,7 +171,7 @@ entries_back : (v : SenderView) (i : ℕ) (es : List Entry) → entries_of (item
 entries_back v i [] = refl
 entries_back v i (e ∷ es) = ap (λ (xs : List Entry). e ∷ xs) (entries_back v (suc i) es)
 
-first_entries : (size run : ℕ) (es : List Outstanding) → entries_of (map (item_meaning size) (take run es)) ≡ take run (entries_of (map (item_meaning size) es))
+first_entries : (size run : ℕ) (es : List EntryFields) → entries_of (map (item_meaning size) (take run es)) ≡ take run (entries_of (map (item_meaning size) es))
 first_entries size zero es = refl
 first_entries size (suc run) [] = refl
 first_entries size (suc run) (e ∷ es) = ap (λ (xs : List Entry). (item_meaning size e).entry ∷ xs) (first_entries size run es)
@@ -189,7 +189,7 @@ is_passed f s v k =
     let most = is_promised f v k.reached in
     record { point = omega (arith, run, within, long, most); within = omega (arith, run, within, long, most) }
 
-pub entries_passed : (f : Format) (s : Kept) (v : SenderView) (size run : ℕ) (es : List Outstanding) → Keeps f s v → s.items ≡ map (item_meaning size) es → IsPassed v run
+pub entries_passed : (f : Format) (s : Kept) (v : SenderView) (size run : ℕ) (es : List EntryFields) → Keeps f s v → s.items ≡ map (item_meaning size) es → IsPassed v run
     → entries_of (map (item_meaning size) (take run es)) ≡ passed_entries v
 entries_passed f s v size run es k is p =
     let count : point v - v.cum ≡ run = omega (arith, p.point) in
@@ -215,14 +215,14 @@ pub some_passed : (v : SenderView) (run : ℕ) → IsPassed v run → (run ≡ 0
 some_passed v run p some = let there = p.point in let lt : 0 < run = omega arith in grind (arith, nat_tests)
 
 -- the FORWARD is the one that the view says
-pub forward_is : (f : Format) (s : Kept) (v : SenderView) (size run cumulative : ℕ) (es : List Outstanding) (xs : List SkipMeaning) → Keeps f s v → s.items ≡ map (item_meaning size) es → IsPassed v run
+pub forward_is : (f : Format) (s : Kept) (v : SenderView) (size run cumulative : ℕ) (es : List EntryFields) (xs : List SkipMeaning) → Keeps f s v → s.items ≡ map (item_meaning size) es → IsPassed v run
     → xs ≡ map (skip_said f) (skips_below f (entries_of (map (item_meaning size) (take run es))) s.streams) → cumulative ≡ tsn v.initial (point v) → record { cumulative = cumulative; skips = xs } ≡ forward_said f v
 forward_is f s v size run cumulative es xs k items p is tsn_is =
     let streams = k.holds.streams in
     rw (tsn_is, is, entries_passed f s v size run es k items p, streams) refl
 
 -- so a packet has room for it where it has room for what was counted
-pub room_is : (f : Format) (s : Kept) (v : SenderView) (size run : ℕ) (es : List Outstanding) (d : Draft) (fits : Bool) → Keeps f s v → s.items ≡ map (item_meaning size) es → IsPassed v run
+pub room_is : (f : Format) (s : Kept) (v : SenderView) (size run : ℕ) (es : List EntryFields) (d : Draft) (fits : Bool) → Keeps f s v → s.items ≡ map (item_meaning size) es → IsPassed v run
     → fits ≡ has_room d (forward_chunk f (record { cumulative = tsn v.initial (point v); skips = map (skip_said f) (skips_below f (entries_of (map (item_meaning size) (take run es))) s.streams) })) → fits ≡ has_room d (forward_chunk_of f v)
 room_is f s v size run es d fits k items p is = is ∙ ap (λ (x : ForwardMeaning). has_room d (forward_chunk f x)) (forward_is f s v size run (tsn v.initial (point v)) es _ k items p refl refl)
 

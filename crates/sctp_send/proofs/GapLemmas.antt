@@ -5,7 +5,7 @@ use Rattle.std.proofs.lemmas.Bool.Decides.{nat_tests}
 use Rattle.sctp_send.specs.CoveredRuns.{in_run, in_runs, AreInOrder, HasPassed}
 use Rattle.sctp_send.specs.inner.Changes.{told_where, is_between, in_gaps}
 use Rattle.sctp_send.specs.declared.entry.CoveredRun.{CoveredRun}
-use Rattle.sctp_send.specs.declared.entry.Outstanding.{Outstanding}
+use Rattle.sctp_send.specs.declared.entry.Entry.{Entry as EntryFields}
 use Rattle.sctp_send.proofs.TellLemmas.{where_same, where_none, where_joined, between_on, between_low, between_high}
 
 -- ---- one run, and those behind it
@@ -142,7 +142,7 @@ gap_more rs from at x end to most later i le ends most_is later_is free held = b
         let past : at < i = grind (arith, nat_tests) in
         ap (λ (b : Bool). (b && not (in_runs rs i)) || is_between (min at most) most i) (between_high from (min at to) i (omega arith)) ∙ by_gap (nat_le i x) refl past
 
-pub gaps_start : (b : Bool) (rs : List CoveredRun) (from to : ℕ) (es : List Outstanding) → es ≡ told_where b (in_gaps rs from (min from to)) 1 es
+pub gaps_start : (b : Bool) (rs : List CoveredRun) (from to : ℕ) (es : List EntryFields) → es ≡ told_where b (in_gaps rs from (min from to)) 1 es
 gaps_start b rs from to es = sym (where_none b (in_gaps rs from (min from to)) 1 es (λ j lo. ap (λ (c : Bool). c && not (in_runs rs j)) (by_test j (nat_le j from) refl)))
   where
     by_test : (j : ℕ) (c : Bool) → nat_le j from ≡ c → is_between from (min from to) j ≡ false
@@ -150,7 +150,7 @@ gaps_start b rs from to es = sym (where_none b (in_gaps rs from (min from to)) 1
     by_test j false gt = let past : from < j = grind (arith, nat_tests) in between_high from (min from to) j (omega arith)
 
 -- the gap before a run was told, and the run is passed
-pub gaps_more : (b : Bool) (rs : List CoveredRun) (k : ℕ) (r d : CoveredRun) (from at to most later : ℕ) (es now last : List Outstanding) → AreInOrder 0 rs → k < length rs → r ≡ get_or rs k d → from ≤ at → most ≡ min r.from to → later ≡ max at r.to → HasPassed rs k at
+pub gaps_more : (b : Bool) (rs : List CoveredRun) (k : ℕ) (r d : CoveredRun) (from at to most later : ℕ) (es now last : List EntryFields) → AreInOrder 0 rs → k < length rs → r ≡ get_or rs k d → from ≤ at → most ≡ min r.from to → later ≡ max at r.to → HasPassed rs k at
     → now ≡ told_where b (in_gaps rs from (min at to)) 1 es → last ≡ told_where b (is_between (min at most) most) 1 now → last ≡ told_where b (in_gaps rs from (min later to)) 1 es
 gaps_more b rs k r d from at to most later es now last order lt read le most_is later_is passed is last_is =
     last_is ∙ ap (told_where b (is_between (min at most) most) 1) is ∙ where_joined b (in_gaps rs from (min at to)) (is_between (min at most) most) 1 es
@@ -159,7 +159,7 @@ gaps_more b rs k r d from at to most later es now last order lt read le most_is 
     (λ far near. run_holds rs k r d j lt read (between_on r.from r.to j far near)))
 
 -- behind all runs the rest was told
-pub gaps_rest : (b : Bool) (rs : List CoveredRun) (k from at to most : ℕ) (es now last : List Outstanding) → length rs ≤ k → from ≤ at → most ≡ min at to → HasPassed rs k at
+pub gaps_rest : (b : Bool) (rs : List CoveredRun) (k from at to most : ℕ) (es now last : List EntryFields) → length rs ≤ k → from ≤ at → most ≡ min at to → HasPassed rs k at
     → now ≡ told_where b (in_gaps rs from (min at to)) 1 es → last ≡ told_where b (is_between most to) 1 now → last ≡ told_where b (in_gaps rs from to) 1 es
 gaps_rest b rs k from at to most es now last all le most_is passed is last_is =
     let end : min (max at to) to ≡ to = omega arith in
@@ -169,5 +169,5 @@ gaps_rest b rs k from at to most es now last all le most_is passed is last_is =
     ∙ ap (λ (n : ℕ). told_where b (in_gaps rs from n) 1 es) end
 
 -- so it was where a run reaches further
-pub gaps_end : (b : Bool) (rs : List CoveredRun) (from at to : ℕ) (es now : List Outstanding) → to ≤ at → now ≡ told_where b (in_gaps rs from (min at to)) 1 es → now ≡ told_where b (in_gaps rs from to) 1 es
+pub gaps_end : (b : Bool) (rs : List CoveredRun) (from at to : ℕ) (es now : List EntryFields) → to ≤ at → now ≡ told_where b (in_gaps rs from (min at to)) 1 es → now ≡ told_where b (in_gaps rs from to) 1 es
 gaps_end b rs from at to es now le is = let same : min at to ≡ to = omega arith in is ∙ ap (λ (n : ℕ). told_where b (in_gaps rs from n) 1 es) same

@@ -1,4 +1,4 @@
--- A message with a number that is given up: its entries above CUM, its fate, and the answers.
+-- A message with a number that is abandoned: its entries above CUM, its fate, and the answers.
 use Rattle.std.proofs.Common.{◌≡◌, ℕ, zero, suc, ◌+◌, ◌-◌, ◌<◌, ◌≤◌, List, [], ◌∷◌, length, map, drop, set, Bool, true, false, Option, Some, None, refl, ap, ◌∙◌, arith, sym}
 use Rattle.std.specs.Prelude.{not, ◌&&◌, ◌==◌, if◌then◌else◌, slice_get, unwrap_or}
 use Rattle.std.specs.Option.{option_map_or}
@@ -24,17 +24,17 @@ use Rattle.sctp_send.specs.inner.Changes.{unmarked, given, all_given}
 use Rattle.sctp_send.specs.SenderStands.{item_here, items_from, table, fate_here, fate_named, Keeps}
 use Rattle.sctp_send.specs.inner.Walks.{is_numbered_fate}
 use Rattle.sctp_send.specs.declared.message.Fate.{Fate}
-use Rattle.sctp_send.specs.declared.message.Fate.TheVariants.{Waiting, Numbered, GivenUp}
+use Rattle.sctp_send.specs.declared.message.Fate.TheVariants.{Queued as StillQueued, Numbered, Abandoned as WasAbandoned}
 use Rattle.sctp_send.specs.declared.entry.Standing.{Standing}
 use Rattle.sctp_send.specs.declared.entry.Standing.TheVariants.{Unsent, Sent, Marked}
-use Rattle.sctp_send.specs.declared.entry.Outstanding.{Outstanding}
+use Rattle.sctp_send.specs.declared.entry.Entry.{Entry as EntryFields}
 use Rattle.sctp_send.proofs.TableLemmas.{table-set}
 
--- ---- a message given up
+-- ---- a message abandoned
 
--- an item of the message with this ticket is given up, and its mark ends
+-- an item of the message with this ticket is abandoned, and its mark ends
 abbrev pub given_item : ℕ → Item → Item
-given_item t x = if has_ticket t x.message then record x { given_up = true; marked = false } else x
+given_item t x = if has_ticket t x.message then record x { abandoned = true; marked = false } else x
 
 pub all_own_drop : (p : Plan) (k c : ℕ) (all es : List Entry) → AllOwn p k all es → AllOwn p k all (drop c es)
 all_own_drop p k zero all es h = h
@@ -61,7 +61,7 @@ given_one f v t n i e is all own here = by_name (is_of n.lane n.number e) refl
     has = same_message v.plan v.tickets t v.plan.entries n (entry_lane e) (entry_number e) own is (found_owns v.plan v.tickets t v.plan.entries v.plan.entries n all is).1
 
     item : Option Message → Bool → Bool → Item
-    item m marked gone_now = record { entry = e; message = m; sent = v.sent i; marked = marked; covered = v.covered i; given_up = gone_now }
+    item m marked gone_now = record { entry = e; message = m; sent = v.sent i; marked = marked; covered = v.covered i; abandoned = gone_now }
 
     alike : (m k : Option Message) (a b c d : Bool) → m ≡ k → a ≡ b → c ≡ d → item m a c ≡ item k b d
     alike m k a b c d x y z = ap (λ (h : Option Message). item h a c) x ∙ ap (λ (h : Bool). item k h c) y ∙ ap (item k b) z
@@ -115,28 +115,28 @@ not_waiting f v t n h is = by_test (waits t v.queue) refl
     by_test true on = let none = ((is_ticketed f v h).waiting t on).2 in absurd (cc)
 
 -- its fate, and that of the others
-given_fate : (f : Format) (v : SenderView) (t : ℕ) (n : Name) → IsReached f v → name_of v t ≡ Some n → fate_here (with_abandoned v n) t ≡ GivenUp
+given_fate : (f : Format) (v : SenderView) (t : ℕ) (n : Name) → IsReached f v → name_of v t ≡ Some n → fate_here (with_abandoned v n) t ≡ WasAbandoned
 given_fate f v t n h is =
-    ap (λ (b : Bool). if b then Waiting else fate_named (with_abandoned v n) (name_of (with_abandoned v n) t)) (not_waiting f v t n h is)
-    ∙ ap (fate_named (with_abandoned v n)) (names_given f v t n h is t ∙ is) ∙ ap (λ (b : Bool). if b then GivenUp else Numbered) (given_itself v n)
+    ap (λ (b : Bool). if b then StillQueued else fate_named (with_abandoned v n) (name_of (with_abandoned v n) t)) (not_waiting f v t n h is)
+    ∙ ap (fate_named (with_abandoned v n)) (names_given f v t n h is t ∙ is) ∙ ap (λ (b : Bool). if b then WasAbandoned else Numbered) (given_itself v n)
 
 other_fate : (f : Format) (v : SenderView) (t x : ℕ) (n : Name) → IsReached f v → name_of v t ≡ Some n → (t ≡ x → ⊥) → fate_here (with_abandoned v n) x ≡ fate_here v x
-other_fate f v t x n h is ne = ap (λ (o : Fate). if waits x v.queue then Waiting else o) (ap (fate_named (with_abandoned v n)) (names_given f v t n h is x) ∙ by_name (name_of v x) refl)
+other_fate f v t x n h is ne = ap (λ (o : Fate). if waits x v.queue then StillQueued else o) (ap (fate_named (with_abandoned v n)) (names_given f v t n h is x) ∙ by_name (name_of v x) refl)
   where
     by_name : (o : Option Name) → name_of v x ≡ o → fate_named (with_abandoned v n) o ≡ fate_named v o
     by_name None also = refl
-    by_name (Some m) also = ap (λ (b : Bool). if b then GivenUp else Numbered) (others_given f v t x n m h is also ne)
+    by_name (Some m) also = ap (λ (b : Bool). if b then WasAbandoned else Numbered) (others_given f v t x n m h is also ne)
 
-pub given_fates : (f : Format) (s : Kept) (v : SenderView) (t : ℕ) (n : Name) → Keeps f s v → name_of v t ≡ Some n → 0 < t → t ≤ v.tickets → set s.fates (t - 1) GivenUp ≡ table (fate_here (with_abandoned v n)) 1 v.tickets
+pub given_fates : (f : Format) (s : Kept) (v : SenderView) (t : ℕ) (n : Name) → Keeps f s v → name_of v t ≡ Some n → 0 < t → t ≤ v.tickets → set s.fates (t - 1) WasAbandoned ≡ table (fate_here (with_abandoned v n)) 1 v.tickets
 given_fates f s v t n k is low high =
     let back : 1 + (t - 1) ≡ t = omega arith in
-    let self : fate_here (with_abandoned v n) (1 + (t - 1)) ≡ GivenUp = rw back (given_fate f v t n k.reached is) in
+    let self : fate_here (with_abandoned v n) (1 + (t - 1)) ≡ WasAbandoned = rw back (given_fate f v t n k.reached is) in
     let others : (j : ℕ) → 1 ≤ j → j < 1 + v.tickets → (j ≡ 1 + (t - 1) → ⊥) → fate_here (with_abandoned v n) j ≡ fate_here v j = λ j lo hi ne. other_fate f v t j n k.reached is (λ e. ne (omega arith)) in
     rw (k.holds.fates, table-set (fate_here v) (fate_here (with_abandoned v n)) 1 v.tickets (t - 1) (omega arith) others, self) refl
 
 -- ---- entries, as clauses see them
 
-given_meaning : (size t : ℕ) (e : Outstanding) → item_meaning size (given t e) ≡ given_item t (item_meaning size e)
+given_meaning : (size t : ℕ) (e : EntryFields) → item_meaning size (given t e) ≡ given_item t (item_meaning size e)
 given_meaning size t e = by_ticket (e.message.value.ticket == t)
   where
     sent : (s : Standing) → was_sent (unmarked s) ≡ was_sent s
@@ -149,16 +149,16 @@ given_meaning size t e = by_ticket (e.message.value.ticket == t)
     no_mark Sent = refl
     no_mark Marked = refl
 
-    by_ticket : (b : Bool) → item_meaning size (if b then record e { given_up = true; standing = unmarked e.standing } else e)
-        ≡ (if b then record (item_meaning size e) { given_up = true; marked = false } else item_meaning size e)
+    by_ticket : (b : Bool) → item_meaning size (if b then record e { abandoned = true; standing = unmarked e.standing } else e)
+        ≡ (if b then record (item_meaning size e) { abandoned = true; marked = false } else item_meaning size e)
     by_ticket true = rw (sent e.standing, no_mark e.standing) refl
     by_ticket false = refl
 
-pub items_given : (size t : ℕ) (es : List Outstanding) → map (item_meaning size) (all_given t es) ≡ map (given_item t) (map (item_meaning size) es)
+pub items_given : (size t : ℕ) (es : List EntryFields) → map (item_meaning size) (all_given t es) ≡ map (given_item t) (map (item_meaning size) es)
 items_given size t [] = refl
 items_given size t (e ∷ es) = rw (given_meaning size t e, items_given size t es) refl
 
--- ---- what is kept of a message that is given up
+-- ---- what is kept of a message that is abandoned
 
 -- the message of a ticket that has a number and was not abandoned
 pub record IsKept (v : SenderView) (t : ℕ) (n : Name) : Type 0 where
@@ -177,7 +177,7 @@ kept_name f v t h on = by_wait (waits t v.queue) refl on
         let given = own.0 t own.1 in
         record { named = is; waits = off; kept = kept; low = given.0; high = given.1 }
 
-    by_kept : (n : Name) → name_of v t ≡ Some n → waits t v.queue ≡ false → (b : Bool) → is_abandoned v n ≡ b → is_numbered_fate (if b then GivenUp else Numbered) ≡ true → (m : Name) × IsKept v t m
+    by_kept : (n : Name) → name_of v t ≡ Some n → waits t v.queue ≡ false → (b : Bool) → is_abandoned v n ≡ b → is_numbered_fate (if b then WasAbandoned else Numbered) ≡ true → (m : Name) × IsKept v t m
     by_kept n is off true gone here = absurd (cc)
     by_kept n is off false kept here = (n, of_name n is off kept)
 
@@ -185,7 +185,7 @@ kept_name f v t h on = by_wait (waits t v.queue) refl on
     by_name off None is here = absurd (cc)
     by_name off (Some n) is here = by_kept n is off (is_abandoned v n) refl here
 
-    by_wait : (b : Bool) → waits t v.queue ≡ b → is_numbered_fate (if b then Waiting else fate_named v (name_of v t)) ≡ true → (n : Name) × IsKept v t n
+    by_wait : (b : Bool) → waits t v.queue ≡ b → is_numbered_fate (if b then StillQueued else fate_named v (name_of v t)) ≡ true → (n : Name) × IsKept v t n
     by_wait true is here = absurd (cc)
     by_wait false is here = by_name is (name_of v t) refl here
 

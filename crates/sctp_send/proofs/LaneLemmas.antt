@@ -20,7 +20,7 @@ use Rattle.sctp_send.specs.SenderKept.{Item}
 use Rattle.sctp_send.specs.OutstandingFields.{item_meaning, entries_of}
 use Rattle.sctp_send.specs.inner.Lanes.{lane_key, passed_meaning, AreRising, before, told_at, at_least, noted, noted_entry}
 use Rattle.sctp_send.specs.declared.lanes.Passed.{Passed}
-use Rattle.sctp_send.specs.declared.entry.Outstanding.{Outstanding}
+use Rattle.sctp_send.specs.declared.entry.Entry.{Entry as EntryFields}
 
 -- ---- in order
 
@@ -372,23 +372,23 @@ none_below f (suc s) = joined (skips_below f [] s) (skip_of f [] (record { strea
     joined : (xs ys zs : List Skip) → xs ≡ [] → ys ≡ [] → zs ≡ [] → xs ++ (ys ++ zs) ≡ []
     joined xs ys zs p q r = rw (p, q, r) refl
 
-pub lanes_step : (f : Format) (size s at : ℕ) (es : List Outstanding) (x : Outstanding) (was now : List Skip) → at < length es → x ≡ get_or es at x → now ≡ noted_entry f s (item_meaning size x).entry was
+pub lanes_step : (f : Format) (size s at : ℕ) (es : List EntryFields) (x : EntryFields) (was now : List Skip) → at < length es → x ≡ get_or es at x → now ≡ noted_entry f s (item_meaning size x).entry was
     → was ≡ skips_below f (entries_of (map (item_meaning size) (take at es))) s → now ≡ skips_below f (entries_of (map (item_meaning size) (take (at + 1) es))) s
 lanes_step f size s at es x was now lt read is so_far =
-    let more : take (at + 1) es ≡ take at es ++ x ∷ [] = take_more es at x lt ∙ ap (λ (y : Outstanding). take at es ++ y ∷ []) (sym read) in
+    let more : take (at + 1) es ≡ take at es ++ x ∷ [] = take_more es at x lt ∙ ap (λ (y : EntryFields). take at es ++ y ∷ []) (sym read) in
     let entries : entries_of (map (item_meaning size) (take (at + 1) es)) ≡ entries_of (map (item_meaning size) (take at es)) ++ (item_meaning size x).entry ∷ [] =
-    ap (λ (xs : List Outstanding). entries_of (map (item_meaning size) xs)) more ∙ ap entries_of (map-append (item_meaning size) (take at es) (x ∷ [])) ∙ map-append (λ (y : Item). y.entry) (map (item_meaning size) (take at es)) (item_meaning size x ∷ []) in
+    ap (λ (xs : List EntryFields). entries_of (map (item_meaning size) xs)) more ∙ ap entries_of (map-append (item_meaning size) (take at es) (x ∷ [])) ∙ map-append (λ (y : Item). y.entry) (map (item_meaning size) (take at es)) (item_meaning size x ∷ []) in
     is ∙ ap (noted_entry f s (item_meaning size x).entry) so_far ∙ sym (skips_more f s (entries_of (map (item_meaning size) (take at es))) (item_meaning size x).entry)
     ∙ ap (λ (xs : List Entry). skips_below f xs s) (sym entries)
 
-split : (size k run : ℕ) (es : List Outstanding) → k ≤ run → (ds : List Entry) × (entries_of (map (item_meaning size) (take run es)) ≡ entries_of (map (item_meaning size) (take k es)) ++ ds)
+split : (size k run : ℕ) (es : List EntryFields) → k ≤ run → (ds : List Entry) × (entries_of (map (item_meaning size) (take run es)) ≡ entries_of (map (item_meaning size) (take k es)) ++ ds)
 split size zero run es le = (entries_of (map (item_meaning size) (take run es)), refl)
 split size (suc k) zero es le = absurd (omega arith)
 split size (suc k) (suc run) [] le = ([], refl)
 split size (suc k) (suc run) (e ∷ es) le = let rest = split size k run es (omega arith) in (rest.0, ap (λ (xs : List Entry). (item_meaning size e).entry ∷ xs) rest.1)
 
 -- too many lanes so far are too many of all
-pub too_many : (f : Format) (size s k run most : ℕ) (es : List Outstanding) (xs : List Skip) → k ≤ run → most < length xs → xs ≡ skips_below f (entries_of (map (item_meaning size) (take k es))) s
+pub too_many : (f : Format) (size s k run most : ℕ) (es : List EntryFields) (xs : List Skip) → k ≤ run → most < length xs → xs ≡ skips_below f (entries_of (map (item_meaning size) (take k es))) s
     → most < length (skips_below f (entries_of (map (item_meaning size) (take run es))) s)
 too_many f size s k run most es xs le over is =
     let parts = split size k run es le in

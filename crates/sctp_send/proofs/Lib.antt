@@ -62,4 +62,4 @@ pub mod PartStreams
 pub mod PartWalks
 pub mod MomentWalks
 pub mod PartBounds
-pub mod WaitingBounds
+pub mod QueueBounds

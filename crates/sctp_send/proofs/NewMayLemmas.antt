@@ -25,12 +25,12 @@ use Rattle.sctp_send.specs.inner.Walks.{total, one_if_rest}
 use Rattle.sctp_send.specs.inner.Wishing.{item_flight, lets_flow}
 use Rattle.sctp_send.specs.inner.Newcomers.{rest_at, has_rest, one_if}
 use Rattle.sctp_send.specs.inner.Drafting.{drafted, IsTried, IsFlying, NothingStands}
-use Rattle.sctp_send.specs.WindowKept.{WindowKept}
+use Rattle.sctp_send.specs.PartsKept.{OutstandingKept}
 use Rattle.sctp_send.proofs.KeepLemmas.{kept_length}
 use Rattle.std.proofs.lemmas.List.{length-map}
 use Rattle.sctp_send.specs.declared.draft.Draft.{Draft}
 use Rattle.sctp_send.specs.declared.message.Message.{Message as MessageFields}
-use Rattle.sctp_send.specs.declared.entry.Outstanding.{Outstanding}
+use Rattle.sctp_send.specs.declared.entry.Entry.{Entry as EntryFields}
 use Rattle.sctp_send.specs.declared.entry.Place.{Place}
 use Rattle.sctp_send.proofs.QueueLemmas.{kept_in_part}
 use Rattle.sctp_send.proofs.RoomLemmas.{has_room_is, go_new}
@@ -105,11 +105,11 @@ and_off false b is = refl
 -- ---- what is in flight
 
 -- what is counted modulo 2^64 is all that is in flight: so few entries hold no more
-pub flying_is : (f : Format) (s : Kept) (v : SenderView) (d : Draft) (w : WindowKept) (flying : ℕ) → Keeps f (drafted s d) v → w ≡ d.outstanding → d.outstanding.size ≡ s.fragment
+pub flying_is : (f : Format) (s : Kept) (v : SenderView) (d : Draft) (w : OutstandingKept) (flying : ℕ) → Keeps f (drafted s d) v → w ≡ d.outstanding → d.outstanding.size ≡ s.fragment
     → flying ≡ item_flight (map (item_meaning w.size) w.items) % 2 ^ 64 → item_flight (map (item_meaning w.size) w.items) ≤ length w.items * 65535 → IsFlying s d flying
 flying_is f s v d w flying k same sized counted few =
-    let here = ap (λ (y : WindowKept). item_flight (map (item_meaning y.size) y.items)) same ∙ ap (λ (n : ℕ). item_flight (map (item_meaning n) d.outstanding.items)) sized in
-    let items = ap (λ (y : WindowKept). length y.items) same in
+    let here = ap (λ (y : OutstandingKept). item_flight (map (item_meaning y.size) y.items)) same ∙ ap (λ (n : ℕ). item_flight (map (item_meaning n) d.outstanding.items)) sized in
+    let items = ap (λ (y : OutstandingKept). length y.items) same in
     let count = kept_length f (drafted s d) v k in
     let long = length-map d.outstanding.items (item_meaning s.fragment) in
     let most = is_windowed f v k.reached in
@@ -130,7 +130,7 @@ map_read g xs i x read = of_map xs i x ∙ ap g (sym read)
 -- ---- as the code reads it
 
 -- whether a fragment may flow, with size, window and message as they were read
-pub flow_read : (size fragment rwnd window : ℕ) (es : List Outstanding) (bytes : List ℕ) (l : Lane) (n : ℕ) (p : Place) (m x : MessageFields) → size ≡ fragment → rwnd ≡ window → m ≡ x
+pub flow_read : (size fragment rwnd window : ℕ) (es : List EntryFields) (bytes : List ℕ) (l : Lane) (n : ℕ) (p : Place) (m x : MessageFields) → size ≡ fragment → rwnd ≡ window → m ≡ x
     → bytes ≡ bytes_in (entry_meaning l n p) (Some (message_meaning size m)) → lets_flow (item_flight (map (item_meaning size) es)) (length bytes) rwnd
     ≡ lets_flow (item_flight (map (item_meaning fragment) es)) (length (bytes_in (entry_meaning l n p) (Some (message_meaning fragment x)))) window
 flow_read size fragment rwnd window es bytes l n p m x one two three is =
@@ -185,7 +185,7 @@ tried_put before after c put room tried = let on = tried.answer ∙ room in (on,
 
 -- an item, for a place where there is none
 pub no_item : Item
-no_item = record { entry = End (ordered_lane 0) 0; message = None; sent = false; marked = false; covered = false; given_up = false }
+no_item = record { entry = End (ordered_lane 0) 0; message = None; sent = false; marked = false; covered = false; abandoned = false }
 
 -- the item behind some others
 pub item_behind : (xs : List Item) (x : Item) (ys : List Item) (none : Item) → get_or (xs ++ x ∷ ys) (length xs) none ≡ x

@@ -1,6 +1,6 @@
 -- A list in which the element at a place is changed: as one that is set, and its length.
 use Rattle.std.proofs.Common.{◌≡◌, ℕ, zero, suc, ◌<◌, List, [], ◌∷◌, length, get_or, set, refl, ap, arith}
-use Rattle.sctp_send.specs.WindowKept.{at_place}
+use Rattle.sctp_send.specs.PartsKept.{at_place}
 
 -- what is changed is set to what became of it
 pub placed_set : {A : Type 0} (f : A → A) (n : ℕ) (xs : List A) (x : A) → n < length xs → x ≡ get_or xs n x → at_place f n xs ≡ set xs n (f x)

@@ -16,13 +16,13 @@ use Rattle.sctp_model.specs.sender.PieceSaid.{piece_said}
 use Rattle.sctp_packet.specs.Draft.{Draft as PacketDraft, room_in, has_room, with_chunks, after_try}
 use Rattle.sctp_send.specs.SenderKept.{Item, Kept}
 use Rattle.sctp_send.specs.SenderStands.{item_here, Keeps}
-use Rattle.sctp_send.specs.WindowKept.{WindowKept, at_place, changed}
+use Rattle.sctp_send.specs.PartsKept.{OutstandingKept, at_place, changed}
 use Rattle.sctp_send.specs.OutstandingFields.{item_meaning, lane_meaning, message_meaning, entry_meaning}
 use Rattle.sctp_send.specs.inner.Wishing.{first_place, is_item_marked, is_item_unsent, item_flight, lets_flow}
 use Rattle.sctp_send.specs.inner.Newcomers.{gone_item}
 use Rattle.sctp_send.specs.inner.Drafting.{numbers_of, drafted, fragment_chunk, item_chunk, went_out, IsPut, IsStopped, IsRefused, IsTried, PutAnswer, IsNextEntry, IsNextUnsent, NothingStands}
 use Rattle.sctp_send.specs.declared.draft.Draft.{Draft}
-use Rattle.sctp_send.specs.declared.entry.Outstanding.{Outstanding}
+use Rattle.sctp_send.specs.declared.entry.Entry.{Entry as EntryFields}
 use Rattle.sctp_send.proofs.ItemLemmas.{item_read}
 use Rattle.sctp_send.proofs.WishLemmas.{wish_marked, wish_unsent, wish_new}
 use Rattle.sctp_send.proofs.GoneLemmas.{keeps_gone}
@@ -64,11 +64,11 @@ kept_there f s v at d k low =
     let index : suc v.cum + at ≡ suc (v.cum + at) = omega arith in
     record { entry = r.0; item = ap (λ (xs : List Item). get_or xs at d) k.holds.items ∙ rw index at r.2 }
 
--- what a search in the window answers, by what a sender with its size keeps
-pub searched : (s : Kept) (d : Draft) (w : WindowKept) (test : Item → Bool) (o : Option ℕ) → w ≡ d.outstanding → d.outstanding.size ≡ s.fragment → o ≡ first_place test (map (item_meaning w.size) w.items)
+-- what a search in the outstanding entries answers, by what a sender with its size keeps
+pub searched : (s : Kept) (d : Draft) (w : OutstandingKept) (test : Item → Bool) (o : Option ℕ) → w ≡ d.outstanding → d.outstanding.size ≡ s.fragment → o ≡ first_place test (map (item_meaning w.size) w.items)
     → first_place test (drafted s d).items ≡ o
 searched s d w test o same sized is =
-    sym (is ∙ ap (λ (y : WindowKept). first_place test (map (item_meaning y.size) y.items)) same ∙ ap (λ (n : ℕ). first_place test (map (item_meaning n) d.outstanding.items)) sized)
+    sym (is ∙ ap (λ (y : OutstandingKept). first_place test (map (item_meaning y.size) y.items)) same ∙ ap (λ (n : ℕ). first_place test (map (item_meaning n) d.outstanding.items)) sized)
 
 -- what is marked is the next wish, and is never held back
 pub marked_next : (f : Format) (s : Kept) (v : SenderView) (at : ℕ) (d : Item) → Keeps f s v → first_place is_item_marked s.items ≡ Some at → (at < length s.items) × IsNextEntry f v at
@@ -85,7 +85,7 @@ pub unsent_next : (f : Format) (s : Kept) (v : SenderView) (at : ℕ) (d : Item)
 unsent_next f s v at d k none is =
     let r = found is_item_unsent s.items at d is in
     let there = kept_there f s v at d k r.within in
-    let wanted = and_parts (not (get_or s.items at d).sent) (not (get_or s.items at d).covered && not (get_or s.items at d).given_up) r.passes in
+    let wanted = and_parts (not (get_or s.items at d).sent) (not (get_or s.items at d).covered && not (get_or s.items at d).abandoned) r.passes in
     (r.within, record { next = wish_unsent f s v at k none is; unsent = sym (ap (λ (x : Item). x.sent) there.item) ∙ off (get_or s.items at d).sent wanted.0 })
   where
     off : (b : Bool) → not b ≡ true → b ≡ false
@@ -109,7 +109,7 @@ may_where_fits f s v p i k flows =
     rw (flows, window) (and_true (nat_le (room_of f (standing v i)) (room_in p)) ∙ sym (has_room_is f p (standing v i)))
 
 -- its chunk, by what the draft keeps
-standing_chunk : (f : Format) (s : Kept) (v : SenderView) (old : Draft) (at : ℕ) (x : Outstanding) → Keeps f (drafted s old) v → at < length old.outstanding.items → x ≡ get_or old.outstanding.items at x
+standing_chunk : (f : Format) (s : Kept) (v : SenderView) (old : Draft) (at : ℕ) (x : EntryFields) → Keeps f (drafted s old) v → at < length old.outstanding.items → x ≡ get_or old.outstanding.items at x
     → chunk_of f (standing v (suc (v.cum + at))) ≡ fragment_chunk f s.fragment s.initial (suc (s.cum + at)) x.message.value x.number x.place
 standing_chunk f s v old at x k low read =
     let long = length-map old.outstanding.items (item_meaning s.fragment) in
@@ -117,10 +117,10 @@ standing_chunk f s v old at x k low read =
     chunk_standing f (drafted s old) v at (item_meaning s.fragment x) k (omega arith) ∙ ap (λ (y : Item). data_chunk f (piece_said f s.initial (suc (s.cum + at)) y.entry y.message)) item
 
 -- what a draft keeps when the entry at this place went out
-abbrev pub with_gone : Kept → Draft → (at : ℕ) → Outstanding → Kept
+abbrev pub with_gone : Kept → Draft → (at : ℕ) → EntryFields → Kept
 with_gone s d at x = record (drafted s d) { items = set (map (item_meaning s.fragment) d.outstanding.items) at (item_meaning s.fragment (went_out x)) }
 
-pub entry_goes : (f : Format) (s : Kept) (v : SenderView) (before after : PacketDraft) (old new : Draft) (at : ℕ) (x : Outstanding) → Keeps f (drafted s old) v → IsNextEntry f v at
+pub entry_goes : (f : Format) (s : Kept) (v : SenderView) (before after : PacketDraft) (old new : Draft) (at : ℕ) (x : EntryFields) → Keeps f (drafted s old) v → IsNextEntry f v at
     → at < length old.outstanding.items → x ≡ get_or old.outstanding.items at x → has_room before (fragment_chunk f s.fragment s.initial (suc (s.cum + at)) x.message.value x.number x.place) ≡ true
     → after ≡ with_chunks before (fragment_chunk f s.fragment s.initial (suc (s.cum + at)) x.message.value x.number x.place ∷ []) → drafted s new ≡ with_gone s old at x
     → numbers_of new.tickets.items ≡ numbers_of old.tickets.items → IsPut f s v before after old new
@@ -142,7 +142,7 @@ entry_goes f s v before after old new at x k premise low read room packet kept t
     }
 
 -- it doesn't where its chunk doesn't fit
-pub entry_stops : (f : Format) (s : Kept) (v : SenderView) (before after : PacketDraft) (old new : Draft) (at : ℕ) (x : Outstanding) → Keeps f (drafted s old) v → IsNextEntry f v at
+pub entry_stops : (f : Format) (s : Kept) (v : SenderView) (before after : PacketDraft) (old new : Draft) (at : ℕ) (x : EntryFields) → Keeps f (drafted s old) v → IsNextEntry f v at
     → at < length old.outstanding.items → x ≡ get_or old.outstanding.items at x → has_room before (fragment_chunk f s.fragment s.initial (suc (s.cum + at)) x.message.value x.number x.place) ≡ false
     → after ≡ before → drafted s new ≡ drafted s old → new.tickets ≡ old.tickets → IsStopped f s v before after old new
 entry_stops f s v before after old new at x k premise low read room packet kept tickets =
@@ -151,7 +151,7 @@ entry_stops f s v before after old new at x k premise low read room packet kept 
     record { none = goes_not f (room_in before) v (standing v (suc (v.cum + at))) premise.next may; packet = packet; kept = kept; tickets = tickets }
 
 -- memory ran out for it
-pub entry_refused : (f : Format) (s : Kept) (v : SenderView) (before after : PacketDraft) (old : Draft) (at : ℕ) (x : Outstanding) → Keeps f (drafted s old) v → IsNextEntry f v at → at < length old.outstanding.items
+pub entry_refused : (f : Format) (s : Kept) (v : SenderView) (before after : PacketDraft) (old : Draft) (at : ℕ) (x : EntryFields) → Keeps f (drafted s old) v → IsNextEntry f v at → at < length old.outstanding.items
     → x ≡ get_or old.outstanding.items at x → has_room before (fragment_chunk f s.fragment s.initial (suc (s.cum + at)) x.message.value x.number x.place) ≡ true → after ≡ before → IsRefused f v before after
 entry_refused f s v before after old at x k premise low read room packet =
     let chunk = standing_chunk f s v old at x k low read in
@@ -159,7 +159,7 @@ entry_refused f s v before after old at x k premise low read room packet =
     record { wish = standing v (suc (v.cum + at)); next = goes_is f (room_in before) v (standing v (suc (v.cum + at))) premise.next may; packet = packet }
 
 -- one of the two, as the packet answered
-pub entry_put : (f : Format) (s : Kept) (v : SenderView) (before after : PacketDraft) (old new : Draft) (at : ℕ) (x : Outstanding) (put : Bool) → Keeps f (drafted s old) v → IsNextEntry f v at
+pub entry_put : (f : Format) (s : Kept) (v : SenderView) (before after : PacketDraft) (old new : Draft) (at : ℕ) (x : EntryFields) (put : Bool) → Keeps f (drafted s old) v → IsNextEntry f v at
     → at < length old.outstanding.items → x ≡ get_or old.outstanding.items at x
     → IsTried before after (item_chunk f s.initial (suc (s.cum + at)) (get_or (map (item_meaning s.fragment) old.outstanding.items) at (item_meaning s.fragment x))) put
     → (put ≡ true → (drafted s new ≡ with_gone s old at x) × (new.tickets ≡ old.tickets)) → (put ≡ false → (drafted s new ≡ drafted s old) × (new.tickets ≡ old.tickets)) → PutAnswer f s v before after old new put
@@ -177,18 +177,18 @@ entry_put f s v before after old new at x put k premise low read tried went stay
         (here.packet ∙ ap (after_try before (fragment_chunk f s.fragment s.initial (suc (s.cum + at)) x.message.value x.number x.place)) is) (stayed is).0 (stayed is).1
 
 -- the draft in which an entry went out
-pub sent_draft : (s : Kept) (old : Draft) (w : WindowKept) (at : ℕ) (x : Outstanding) → x ≡ get_or old.outstanding.items at x → w ≡ changed went_out at old.outstanding → drafted s (record old { outstanding = w }) ≡ with_gone s old at x
-sent_draft s old w at x read is = ap (λ (y : WindowKept). drafted s (record old { outstanding = y })) is ∙ ap (λ (xs : List Item). record (drafted s old) { items = xs }) (placed at old.outstanding.items read)
+pub sent_draft : (s : Kept) (old : Draft) (w : OutstandingKept) (at : ℕ) (x : EntryFields) → x ≡ get_or old.outstanding.items at x → w ≡ changed went_out at old.outstanding → drafted s (record old { outstanding = w }) ≡ with_gone s old at x
+sent_draft s old w at x read is = ap (λ (y : OutstandingKept). drafted s (record old { outstanding = y })) is ∙ ap (λ (xs : List Item). record (drafted s old) { items = xs }) (placed at old.outstanding.items read)
   where
-    placed : (n : ℕ) (es : List Outstanding) → x ≡ get_or es n x → map (item_meaning s.fragment) (at_place went_out n es) ≡ set (map (item_meaning s.fragment) es) n (item_meaning s.fragment (went_out x))
+    placed : (n : ℕ) (es : List EntryFields) → x ≡ get_or es n x → map (item_meaning s.fragment) (at_place went_out n es) ≡ set (map (item_meaning s.fragment) es) n (item_meaning s.fragment (went_out x))
     placed n [] here = refl
-    placed zero (e ∷ es) here = ap (λ (y : Outstanding). item_meaning s.fragment (went_out y) ∷ map (item_meaning s.fragment) es) (sym here)
+    placed zero (e ∷ es) here = ap (λ (y : EntryFields). item_meaning s.fragment (went_out y) ∷ map (item_meaning s.fragment) es) (sym here)
     placed (suc n) (e ∷ es) here = ap (λ (xs : List Item). item_meaning s.fragment e ∷ xs) (placed n es here)
 
 -- ---- an entry that never went out
 
 -- whether it may flow, by what the draft keeps
-unsent_flow : (f : Format) (s : Kept) (v : SenderView) (old : Draft) (at : ℕ) (x : Outstanding) → Keeps f (drafted s old) v → IsNextUnsent f v at → at < length old.outstanding.items → x ≡ get_or old.outstanding.items at x
+unsent_flow : (f : Format) (s : Kept) (v : SenderView) (old : Draft) (at : ℕ) (x : EntryFields) → Keeps f (drafted s old) v → IsNextUnsent f v at → at < length old.outstanding.items → x ≡ get_or old.outstanding.items at x
     → is_let_flow (standing v (suc (v.cum + at)))
     ≡ lets_flow (item_flight (map (item_meaning s.fragment) old.outstanding.items)) (length (bytes_in (entry_meaning (lane_meaning x.message.value) x.number x.place) (Some (message_meaning s.fragment x.message.value)))) s.rwnd
 unsent_flow f s v old at x k premise low read =
@@ -199,12 +199,12 @@ unsent_flow f s v old at x k premise low read =
     let rwnd = k.holds.rwnd in
     ap (λ (b : Bool). b || lets_flow (in_flight v) (length (bytes_of_wish (standing v (suc (v.cum + at))))) v.rwnd) premise.unsent ∙ rw (bytes, flight, ← rwnd) refl
 
-pub unsent_flows : (f : Format) (s : Kept) (v : SenderView) (old : Draft) (at : ℕ) (x : Outstanding) → Keeps f (drafted s old) v → IsNextUnsent f v at → at < length old.outstanding.items → x ≡ get_or old.outstanding.items at x
+pub unsent_flows : (f : Format) (s : Kept) (v : SenderView) (old : Draft) (at : ℕ) (x : EntryFields) → Keeps f (drafted s old) v → IsNextUnsent f v at → at < length old.outstanding.items → x ≡ get_or old.outstanding.items at x
     → lets_flow (item_flight (map (item_meaning s.fragment) old.outstanding.items)) (length (bytes_in (entry_meaning (lane_meaning x.message.value) x.number x.place) (Some (message_meaning s.fragment x.message.value)))) s.rwnd ≡ true
     → IsNextEntry f v at
 unsent_flows f s v old at x k premise low read flows = record { next = premise.next; flows = unsent_flow f s v old at x k premise low read ∙ flows }
 
-pub unsent_stops : (f : Format) (s : Kept) (v : SenderView) (before after : PacketDraft) (old new : Draft) (at : ℕ) (x : Outstanding) → Keeps f (drafted s old) v → IsNextUnsent f v at
+pub unsent_stops : (f : Format) (s : Kept) (v : SenderView) (before after : PacketDraft) (old new : Draft) (at : ℕ) (x : EntryFields) → Keeps f (drafted s old) v → IsNextUnsent f v at
     → at < length old.outstanding.items → x ≡ get_or old.outstanding.items at x
     → lets_flow (item_flight (map (item_meaning s.fragment) old.outstanding.items)) (length (bytes_in (entry_meaning (lane_meaning x.message.value) x.number x.place) (Some (message_meaning s.fragment x.message.value)))) s.rwnd ≡ false
     → after ≡ before → drafted s new ≡ drafted s old → new.tickets ≡ old.tickets → IsStopped f s v before after old new

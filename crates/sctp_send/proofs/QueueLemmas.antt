@@ -21,13 +21,13 @@ use Rattle.sctp_model.proofs.sender.OwedLaws.{is_promised}
 use Rattle.sctp_model.proofs.sender.TicketLaws.{waits_push}
 use Rattle.sctp_send.specs.SenderAnswers.{refused_with, QueueAnswer}
 use Rattle.sctp_values.specs.declared.ticket.Ticket.{Ticket}
-use Rattle.sctp_send.specs.declared.queue.SendFault.{SendFault}
-use Rattle.sctp_send.specs.declared.queue.SendFault.TheVariants.{NoMemory}
+use Rattle.sctp_send.specs.declared.queueing.SendFault.{SendFault}
+use Rattle.sctp_send.specs.declared.queueing.SendFault.TheVariants.{NoMemory}
 use Rattle.sctp_send.specs.SenderKept.{Track, Kept}
 use Rattle.sctp_send.specs.SenderStands.{table, rest_here, track_here, fate_here, fate_named, Keeps}
 use Rattle.sctp_send.specs.inner.Walks.{total, one_if_rest, rest_owes}
 use Rattle.sctp_send.specs.declared.message.Fate.{Fate}
-use Rattle.sctp_send.specs.declared.message.Fate.TheVariants.{Waiting}
+use Rattle.sctp_send.specs.declared.message.Fate.TheVariants.{Queued as StillQueued}
 use Rattle.sctp_send.proofs.TableLemmas.{table-push, table-same, length-table}
 use Rattle.sctp_send.proofs.KeepLemmas.{kept_length}
 
@@ -80,21 +80,21 @@ promised_is f s v k =
 -- ---- a message more
 
 pub keeps_queued : (f : Format) (s : Kept) (v : SenderView) (lane : Lane) (payload ticket : ℕ) (bytes : List ℕ) (until : Option ℕ) → Keeps f s v → refusal v lane.stream bytes ≡ None → ticket ≡ suc v.tickets
-    → Keeps f (record s { queue = s.queue ++ record { lane = lane; message = record { ticket = ticket; payload = payload; fragments = cut s.fragment bytes; until = until } } ∷ []; fates = s.fates ++ Waiting ∷ [] })
+    → Keeps f (record s { queue = s.queue ++ record { lane = lane; message = record { ticket = ticket; payload = payload; fragments = cut s.fragment bytes; until = until } } ∷ []; fates = s.fates ++ StillQueued ∷ [] })
     (queued v lane payload bytes until)
 keeps_queued f s v lane payload ticket bytes until k free given =
     let u = queued v lane payload bytes until in
     let q : Queued = record { lane = lane; message = record { ticket = suc v.tickets; payload = payload; fragments = cut v.fragment bytes; until = until } } in
-    let last : fate_here u (1 + v.tickets) ≡ Waiting =
+    let last : fate_here u (1 + v.tickets) ≡ StillQueued =
     let one : 1 + v.tickets ≡ suc v.tickets = omega arith in
     let here : (suc v.tickets == suc v.tickets) ≡ true = grind (arith, nat_tests) in
     let waiting : waits (suc v.tickets) (v.queue ++ q ∷ []) ≡ true = waits_push (suc v.tickets) v.queue q ∙ rw here (or_true (waits (suc v.tickets) v.queue)) in
-    rw one (ap (λ (b : Bool). if b then Waiting else fate_named u (name_of u (suc v.tickets))) waiting) in
+    rw one (ap (λ (b : Bool). if b then StillQueued else fate_named u (name_of u (suc v.tickets))) waiting) in
     let same : (t : ℕ) → 1 ≤ t → t < 1 + v.tickets → fate_here u t ≡ fate_here v t = λ t lo hi.
     let off : (suc v.tickets == t) ≡ false = grind (arith, nat_tests) in
     let waiting : waits t (v.queue ++ q ∷ []) ≡ waits t v.queue = waits_push t v.queue q ∙ rw off (or_false (waits t v.queue)) in
-    ap (λ (b : Bool). if b then Waiting else fate_named u (name_of u t)) waiting in
-    let fates : s.fates ++ Waiting ∷ [] ≡ table (fate_here u) 1 (suc v.tickets) = rw (table-push (fate_here u) 1 v.tickets, last, table-same (fate_here u) (fate_here v) 1 v.tickets same, k.holds.fates) refl in
+    ap (λ (b : Bool). if b then StillQueued else fate_named u (name_of u t)) waiting in
+    let fates : s.fates ++ StillQueued ∷ [] ≡ table (fate_here u) 1 (suc v.tickets) = rw (table-push (fate_here u) 1 v.tickets, last, table-same (fate_here u) (fate_here v) 1 v.tickets same, k.holds.fates) refl in
     record {
       holds = record {
         initial = k.holds.initial;

@@ -15,16 +15,16 @@ use Rattle.sctp_model.proofs.sender.OwedLaws.{is_promised, is_windowed}
 use Rattle.sctp_model.proofs.sender.TicketLaws.{IsTicketed, is_ticketed, name_of_none, found_owns}
 use Rattle.sctp_send.specs.SenderKept.{Item, Kept}
 use Rattle.sctp_send.specs.SenderStands.{items_from, fate_here, fate_named, Keeps}
-use Rattle.sctp_send.specs.inner.Walks.{abandoned_items, any_unsettled, total, one_if_rest, is_given_up_fate}
+use Rattle.sctp_send.specs.inner.Walks.{abandoned_items, any_unsettled, total, one_if_rest, is_abandoned_fate}
 use Rattle.sctp_send.specs.declared.message.Fate.{Fate}
-use Rattle.sctp_send.specs.declared.message.Fate.TheVariants.{Waiting, Numbered, GivenUp}
+use Rattle.sctp_send.specs.declared.message.Fate.TheVariants.{Queued as StillQueued, Numbered, Abandoned as WasAbandoned}
 use Rattle.sctp_send.proofs.KeepLemmas.{kept_length}
 use Rattle.sctp_send.proofs.QueueLemmas.{kept_in_part, fates_given}
 use Rattle.sctp_send.proofs.TableLemmas.{get_or-table, length-table}
 
 -- ---- walks
 
-pub run_step : (xs : List Item) (at : ℕ) (d : Item) → at < length xs → abandoned_items (drop at xs) ≡ (if (get_or xs at d).given_up then suc (abandoned_items (drop (suc at) xs)) else 0)
+pub run_step : (xs : List Item) (at : ℕ) (d : Item) → at < length xs → abandoned_items (drop at xs) ≡ (if (get_or xs at d).abandoned then suc (abandoned_items (drop (suc at) xs)) else 0)
 run_step [] at d lt = absurd (omega arith)
 run_step (x ∷ xs) zero d lt = refl
 run_step (x ∷ xs) (suc at) d lt = run_step xs at d (omega arith)
@@ -35,7 +35,7 @@ run_items v i (e ∷ es) = rw (run_items v (suc i) es) refl
 
 pub run_within : (xs : List Item) → abandoned_items xs ≤ length xs
 run_within [] = omega arith
-run_within (x ∷ xs) = by_test x.given_up (run_within xs)
+run_within (x ∷ xs) = by_test x.abandoned (run_within xs)
   where
     by_test : (b : Bool) → abandoned_items xs ≤ length xs → (if b then suc (abandoned_items xs) else 0) ≤ suc (length xs)
     by_test true rest = omega arith
@@ -124,28 +124,28 @@ fate_at f s v t d k lt =
     let long = ap (λ (xs : List Fate). length xs) k.holds.fates ∙ length-table (fate_here v) 1 v.tickets in
     ap (λ (xs : List Fate). get_or xs t d) k.holds.fates ∙ get_or-table (fate_here v) 1 v.tickets t d (omega arith) ∙ ap (fate_here v) (let e : 1 + t ≡ suc t = omega arith in e)
 
-pub abandoned_fate : (f : Format) (v : SenderView) (t : ℕ) → IsTicketed v → abandoned v t ≡ is_given_up_fate (fate_here v t)
+pub abandoned_fate : (f : Format) (v : SenderView) (t : ℕ) → IsTicketed v → abandoned v t ≡ is_abandoned_fate (fate_here v t)
 abandoned_fate f v t h = by_wait (waits t v.queue) refl
   where
-    by_kept : (n : Name) (b : Bool) → b ≡ is_given_up_fate (if b then GivenUp else Numbered)
+    by_kept : (n : Name) (b : Bool) → b ≡ is_abandoned_fate (if b then WasAbandoned else Numbered)
     by_kept n true = refl
     by_kept n false = refl
 
-    by_name : (o : Option Name) → some_passes (is_abandoned v) o ≡ is_given_up_fate (fate_named v o)
+    by_name : (o : Option Name) → some_passes (is_abandoned v) o ≡ is_abandoned_fate (fate_named v o)
     by_name None = refl
     by_name (Some n) = by_kept n (is_abandoned v n)
 
-    by_wait : (b : Bool) → waits t v.queue ≡ b → abandoned v t ≡ is_given_up_fate (if b then Waiting else fate_named v (name_of v t))
+    by_wait : (b : Bool) → waits t v.queue ≡ b → abandoned v t ≡ is_abandoned_fate (if b then StillQueued else fate_named v (name_of v t))
     by_wait true is = ap (some_passes (is_abandoned v)) (h.waiting t is).2
     by_wait false is = by_name (name_of v t)
 
 pub not_abandoned : (f : Format) (s : Kept) (v : SenderView) (t : ℕ) → Keeps f s v → v.tickets < t → abandoned v t ≡ false
 not_abandoned f s v t k lt = ap (some_passes (is_abandoned v)) (name_of_none v t (is_ticketed f v k.reached) lt)
 
-pub is_abandoned_at : (f : Format) (s : Kept) (v : SenderView) (t : ℕ) (d : Fate) → Keeps f s v → 0 < t → t ≤ length s.fates → is_given_up_fate (get_or s.fates (t - 1) d) ≡ abandoned v t
+pub is_abandoned_at : (f : Format) (s : Kept) (v : SenderView) (t : ℕ) (d : Fate) → Keeps f s v → 0 < t → t ≤ length s.fates → is_abandoned_fate (get_or s.fates (t - 1) d) ≡ abandoned v t
 is_abandoned_at f s v t d k some le =
     let here : suc (t - 1) ≡ t = omega arith in
-    ap is_given_up_fate (fate_at f s v (t - 1) d k (omega arith) ∙ ap (fate_here v) here) ∙ sym (abandoned_fate f v t (is_ticketed f v k.reached))
+    ap is_abandoned_fate (fate_at f s v (t - 1) d k (omega arith) ∙ ap (fate_here v) here) ∙ sym (abandoned_fate f v t (is_ticketed f v k.reached))
 
 pub no_ticket : (f : Format) (s : Kept) (v : SenderView) (t : ℕ) → Keeps f s v → (t ≡ 0) ⊎ (length s.fates < t) → abandoned v t ≡ false
 no_ticket f s v t k out =

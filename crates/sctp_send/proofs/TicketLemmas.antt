@@ -18,8 +18,8 @@ use Rattle.sctp_send.specs.SenderFields.{track_meaning}
 use Rattle.sctp_send.specs.SenderStands.{items_from, table, track_here, rest_here, fate_here, fate_named, Keeps}
 use Rattle.sctp_send.specs.inner.Walks.{is_numbered_fate, any_uncovered, is_item_uncovered, any_rest, rest_has}
 use Rattle.sctp_send.specs.declared.message.Fate.{Fate}
-use Rattle.sctp_send.specs.declared.message.Fate.TheVariants.{Waiting, Numbered, GivenUp}
-use Rattle.sctp_send.specs.declared.entry.Outstanding.{Outstanding}
+use Rattle.sctp_send.specs.declared.message.Fate.TheVariants.{Queued as StillQueued, Numbered, Abandoned as WasAbandoned}
+use Rattle.sctp_send.specs.declared.entry.Entry.{Entry as EntryFields}
 use Rattle.sctp_send.specs.declared.track.Track.{Track as TrackFields}
 use Rattle.sctp_send.proofs.TableLemmas.{table-push}
 use Rattle.sctp_send.proofs.ItemLemmas.{item_read}
@@ -88,7 +88,7 @@ with_false false = refl
 pub numbered_acknowledged : (f : Format) (s : Kept) (v : SenderView) (t : ℕ) → Keeps f s v → is_numbered_fate (fate_here v t) ≡ true → (not (any_rest t s.tracks) && not (any_uncovered t s.items)) ≡ acknowledged v t
 numbered_acknowledged f s v t k numbered = by_wait (waits t v.queue) refl numbered
   where
-    by_kept : (n : Name) (b : Bool) → name_of v t ≡ Some n → is_abandoned v n ≡ b → is_numbered_fate (if b then GivenUp else Numbered) ≡ true → (not (any_rest t s.tracks) && not (any_uncovered t s.items)) ≡ some_passes (is_acknowledged v) (Some n)
+    by_kept : (n : Name) (b : Bool) → name_of v t ≡ Some n → is_abandoned v n ≡ b → is_numbered_fate (if b then WasAbandoned else Numbered) ≡ true → (not (any_rest t s.tracks) && not (any_uncovered t s.items)) ≡ some_passes (is_acknowledged v) (Some n)
     by_kept n true is on here = absurd (cc)
     by_kept n false is off here = rw (kept_goes_on f s v t n k is, kept_uncovered f s v t n k is, off) (sym (with_true (not (is_in_part v n.lane n.number) && not (has_uncovered v n))))
 
@@ -96,14 +96,14 @@ numbered_acknowledged f s v t k numbered = by_wait (waits t v.queue) refl number
     by_name None is here = absurd (cc)
     by_name (Some n) is here = by_kept n (is_abandoned v n) is refl here
 
-    by_wait : (b : Bool) → waits t v.queue ≡ b → is_numbered_fate (if b then Waiting else fate_named v (name_of v t)) ≡ true → (not (any_rest t s.tracks) && not (any_uncovered t s.items)) ≡ acknowledged v t
+    by_wait : (b : Bool) → waits t v.queue ≡ b → is_numbered_fate (if b then StillQueued else fate_named v (name_of v t)) ≡ true → (not (any_rest t s.tracks) && not (any_uncovered t s.items)) ≡ acknowledged v t
     by_wait true is here = absurd (cc)
     by_wait false is here = by_name (name_of v t) refl here
 
 pub other_acknowledged : (f : Format) (s : Kept) (v : SenderView) (t : ℕ) → Keeps f s v → is_numbered_fate (fate_here v t) ≡ false → acknowledged v t ≡ false
 other_acknowledged f s v t k other = by_wait (waits t v.queue) refl other
   where
-    by_kept : (n : Name) (b : Bool) → is_abandoned v n ≡ b → is_numbered_fate (if b then GivenUp else Numbered) ≡ false → some_passes (is_acknowledged v) (Some n) ≡ false
+    by_kept : (n : Name) (b : Bool) → is_abandoned v n ≡ b → is_numbered_fate (if b then WasAbandoned else Numbered) ≡ false → some_passes (is_acknowledged v) (Some n) ≡ false
     by_kept n true on here = rw on (with_false (not (is_in_part v n.lane n.number) && not (has_uncovered v n)))
     by_kept n false off here = absurd (cc)
 
@@ -111,7 +111,7 @@ other_acknowledged f s v t k other = by_wait (waits t v.queue) refl other
     by_name None here = refl
     by_name (Some n) here = by_kept n (is_abandoned v n) refl here
 
-    by_wait : (b : Bool) → waits t v.queue ≡ b → is_numbered_fate (if b then Waiting else fate_named v (name_of v t)) ≡ false → acknowledged v t ≡ false
+    by_wait : (b : Bool) → waits t v.queue ≡ b → is_numbered_fate (if b then StillQueued else fate_named v (name_of v t)) ≡ false → acknowledged v t ≡ false
     by_wait true is here = ap (some_passes (is_acknowledged v)) ((is_ticketed f v k.reached).waiting t is).2
     by_wait false is here = by_name (name_of v t) here
 
@@ -147,7 +147,7 @@ step_rest t [] at d lt = absurd (omega arith)
 step_rest t (x ∷ xs) zero d lt = refl
 step_rest t (x ∷ xs) (suc at) d lt = step_rest t xs at d (omega arith)
 
-pub walked_uncovered : (t size : ℕ) (es : List Outstanding) (at : ℕ) (x : Outstanding) (b : Bool) → at < length es → x ≡ get_or es at x → b ≡ is_item_uncovered t (item_meaning size x)
+pub walked_uncovered : (t size : ℕ) (es : List EntryFields) (at : ℕ) (x : EntryFields) (b : Bool) → at < length es → x ≡ get_or es at x → b ≡ is_item_uncovered t (item_meaning size x)
     → any_uncovered t (map (item_meaning size) es) ≡ any_uncovered t (drop at (map (item_meaning size) es)) → any_uncovered t (map (item_meaning size) es) ≡ (b || any_uncovered t (drop (at + 1) (map (item_meaning size) es)))
 walked_uncovered t size es at x b lt read is before =
     let long = length-map es (item_meaning size) in
@@ -155,7 +155,7 @@ walked_uncovered t size es at x b lt read is before =
     let one : at + 1 ≡ suc at = omega arith in
     before ∙ step ∙ rw (item_read size es at x read, ← is, one) refl
 
-pub ended_uncovered : (t size : ℕ) (es : List Outstanding) (at : ℕ) → length es ≤ at → any_uncovered t (map (item_meaning size) es) ≡ any_uncovered t (drop at (map (item_meaning size) es)) → false ≡ any_uncovered t (map (item_meaning size) es)
+pub ended_uncovered : (t size : ℕ) (es : List EntryFields) (at : ℕ) → length es ≤ at → any_uncovered t (map (item_meaning size) es) ≡ any_uncovered t (drop at (map (item_meaning size) es)) → false ≡ any_uncovered t (map (item_meaning size) es)
 ended_uncovered t size es at le before =
     let long = length-map es (item_meaning size) in
     sym (before ∙ ap (any_uncovered t) (none_behind at (map (item_meaning size) es) (omega arith)))

@@ -5,7 +5,7 @@ use Rattle.std.proofs.lemmas.Bool.Decides.{nat_tests}
 use Rattle.std.proofs.lemmas.Bool.{cases_lt}
 use Rattle.sctp_model.specs.numbers.Lists.{Has, AreInOrder}
 use Rattle.sctp_model.specs.sender.Words.{when}
-use Rattle.sctp_send.specs.WindowKept.{at_place}
+use Rattle.sctp_send.specs.PartsKept.{at_place}
 use Rattle.sctp_send.specs.OutstandingFields.{item_meaning}
 use Rattle.sctp_send.specs.inner.Changes.{unmarked, given, all_given}
 use Rattle.sctp_send.specs.inner.Walks.{any_uncovered, is_item_uncovered}
@@ -17,7 +17,7 @@ use Rattle.sctp_send.specs.declared.by_ticket.ByTicket.{ByTicket}
 use Rattle.sctp_send.specs.declared.counts.Counts.{Counts}
 use Rattle.sctp_send.specs.declared.entry.Standing.{Standing}
 use Rattle.sctp_send.specs.declared.entry.Standing.TheVariants.{Unsent, Sent, Marked}
-use Rattle.sctp_send.specs.declared.entry.Outstanding.{Outstanding}
+use Rattle.sctp_send.specs.declared.entry.Entry.{Entry as EntryFields}
 use Rattle.sctp_send.proofs.ListParts.{has_at, at_same, here_first, taken_has, dropped_has, front_or_back, taken_one, order_back, halves}
 use Rattle.sctp_send.proofs.OrderLemmas.{before_is, is_before, get_within}
 
@@ -29,7 +29,7 @@ get_read {A = A} (y ∷ xs) zero x lt read = ap (λ (z : A). Some z) (sym read)
 get_read (y ∷ xs) (suc n) x lt read = get_read xs n x (omega arith) read
 
 -- the ticket of an entry is the one at its offset
-ticket_there : (es : List Outstanding) (n t : ℕ) (e : Outstanding) → slice_get (tickets_of es) n ≡ Some t → slice_get es n ≡ Some e → ticket_of e ≡ t
+ticket_there : (es : List EntryFields) (n t : ℕ) (e : EntryFields) → slice_get (tickets_of es) n ≡ Some t → slice_get es n ≡ Some e → ticket_of e ≡ t
 ticket_there [] n t e told read = absurd (cc)
 ticket_there (d ∷ es) zero t e told read = let same : d ≡ e = cc in let ticket : ticket_of d ≡ t = cc in ap ticket_of (sym same) ∙ ticket
 ticket_there (d ∷ es) (suc n) t e told read = ticket_there es n t e told read
@@ -39,7 +39,7 @@ get_long [] n x is = absurd (cc)
 get_long (y ∷ xs) zero x is = omega arith
 get_long (y ∷ xs) (suc n) x is = let lt = get_long xs n x is in omega (arith, lt)
 
-pub long_tickets : (es : List Outstanding) → length (tickets_of es) ≡ length es
+pub long_tickets : (es : List EntryFields) → length (tickets_of es) ≡ length es
 long_tickets [] = refl
 long_tickets (e ∷ es) = ap suc (long_tickets es)
 
@@ -51,10 +51,10 @@ pub no_spot : Spot
 no_spot = record { ticket = 0; index = 0 }
 
 -- So many spots in front are passed: of each entry that one of them leads to, a property holds.
-abbrev pub WerePassed : List Outstanding → (first : ℕ) → List Spot → (Outstanding → Type 0) → ℕ → Type 0
-WerePassed es first ss P k = (s : Spot) (e : Outstanding) → Has (take k ss) s → slice_get es (offset_of first s) ≡ Some e → P e
+abbrev pub WerePassed : List EntryFields → (first : ℕ) → List Spot → (EntryFields → Type 0) → ℕ → Type 0
+WerePassed es first ss P k = (s : Spot) (e : EntryFields) → Has (take k ss) s → slice_get es (offset_of first s) ≡ Some e → P e
 
-module _ (es : List Outstanding) (first : ℕ) (ss : List Spot) (order : IsOrderOf (tickets_of es) first ss) where
+module _ (es : List EntryFields) (first : ℕ) (ss : List Spot) (order : IsOrderOf (tickets_of es) first ss) where
   -- the entry of a spot lies in the window, and has its ticket
   pub spot_within : (k n : ℕ) (s : Spot) → k < length ss → n ≡ offset_of first (get_or ss k s) → n < length es
   spot_within k n s lt is =
@@ -63,11 +63,11 @@ module _ (es : List Outstanding) (first : ℕ) (ss : List Spot) (order : IsOrder
       let long = long_tickets es in
       omega (arith, within, is, long)
 
-  pub spot_ticket : (s : Spot) (e : Outstanding) → Has ss s → slice_get es (offset_of first s) ≡ Some e → ticket_of e ≡ s.ticket
+  pub spot_ticket : (s : Spot) (e : EntryFields) → Has ss s → slice_get es (offset_of first s) ≡ Some e → ticket_of e ≡ s.ticket
   spot_ticket s e there read = ticket_there es (offset_of first s) s.ticket e (order.each s there) read
 
   -- those of lower tickets
-  pub lower_passed : (P : Outstanding → Type 0) (t k : ℕ) → IsPlaceOf first t 0 ss k → ((e : Outstanding) → ticket_of e < t → P e) → WerePassed es first ss P k
+  pub lower_passed : (P : EntryFields → Type 0) (t k : ℕ) → IsPlaceOf first t 0 ss k → ((e : EntryFields) → ticket_of e < t → P e) → WerePassed es first ss P k
   lower_passed P t k place holds s e there read =
       let before = before_is first t 0 s (place.front s there) in
       let ticket = spot_ticket s e (taken_has ss k s there) read in
@@ -78,14 +78,14 @@ module _ (es : List Outstanding) (first : ℕ) (ss : List Spot) (order : IsOrder
       ])
 
   -- those up to a ticket
-  pub upto_passed : (P : Outstanding → Type 0) (t n k : ℕ) → IsPlaceOf first t n ss k → ((e : Outstanding) → ticket_of e ≤ t → P e) → WerePassed es first ss P k
+  pub upto_passed : (P : EntryFields → Type 0) (t n k : ℕ) → IsPlaceOf first t n ss k → ((e : EntryFields) → ticket_of e ≤ t → P e) → WerePassed es first ss P k
   upto_passed P t n k place holds s e there read =
       let le = (before_is first t n s (place.front s there)).0 in
       let ticket = spot_ticket s e (taken_has ss k s there) read in
       holds e (omega (arith, le, ticket))
 
   -- one more
-  pub one_passed : (P : Outstanding → Type 0) (k n : ℕ) (s : Spot) (e : Outstanding) → k < length ss → n ≡ offset_of first (get_or ss k s) → e ≡ get_or es n e → P e → WerePassed es first ss P k → WerePassed es first ss P (k + 1)
+  pub one_passed : (P : EntryFields → Type 0) (k n : ℕ) (s : Spot) (e : EntryFields) → k < length ss → n ≡ offset_of first (get_or ss k s) → e ≡ get_or es n e → P e → WerePassed es first ss P k → WerePassed es first ss P (k + 1)
   one_passed P k n s e lt at read holds passed u d there here =
       let x = get_or ss k s in
       let one : k + 1 ≡ suc k = omega arith in
@@ -98,8 +98,8 @@ module _ (es : List Outstanding) (first : ℕ) (ss : List Spot) (order : IsOrder
       ]
 
   -- with all of them, all entries are
-  pub all_passed : (P : Outstanding → Type 0) (k : ℕ) → WerePassed es first ss P k → ((s : Spot) (e : Outstanding) → Has (drop k ss) s → slice_get es (offset_of first s) ≡ Some e → P e)
-      → (n : ℕ) (e : Outstanding) → slice_get es n ≡ Some e → P e
+  pub all_passed : (P : EntryFields → Type 0) (k : ℕ) → WerePassed es first ss P k → ((s : Spot) (e : EntryFields) → Has (drop k ss) s → slice_get es (offset_of first s) ≡ Some e → P e)
+      → (n : ℕ) (e : EntryFields) → slice_get es n ≡ Some e → P e
   all_passed P k front back n e read =
       let lt = get_long es n e read in
       let long = long_tickets es in
@@ -108,8 +108,8 @@ module _ (es : List Outstanding) (first : ℕ) (ss : List Spot) (order : IsOrder
       elim (front_or_back ss k m.0 m.1) [ inl before ↦ front m.0 e before here | inr behind ↦ back m.0 e behind here ]
 
   -- those behind a ticket
-  pub higher_left : (P : Outstanding → Type 0) (t n k : ℕ) → 2 ^ 32 ≤ n → IsPlaceOf first t n ss k → ((e : Outstanding) → t < ticket_of e → P e)
-      → (s : Spot) (e : Outstanding) → Has (drop k ss) s → slice_get es (offset_of first s) ≡ Some e → P e
+  pub higher_left : (P : EntryFields → Type 0) (t n k : ℕ) → 2 ^ 32 ≤ n → IsPlaceOf first t n ss k → ((e : EntryFields) → t < ticket_of e → P e)
+      → (s : Spot) (e : EntryFields) → Has (drop k ss) s → slice_get es (offset_of first s) ≡ Some e → P e
   higher_left P t n k most place holds s e there read =
       let ticket = spot_ticket s e (dropped_has ss k s there) read in
       let small = offset_small first s in
@@ -119,8 +119,8 @@ module _ (es : List Outstanding) (first : ℕ) (ss : List Spot) (order : IsOrder
       ])
 
   -- those from the spot at a place on
-  pub from_left : (k n : ℕ) (d : Spot) (x : Outstanding) → k < length ss → n ≡ offset_of first (get_or ss k d) → x ≡ get_or es n x
-      → (s : Spot) (e : Outstanding) → Has (drop k ss) s → slice_get es (offset_of first s) ≡ Some e → ticket_of x ≤ ticket_of e
+  pub from_left : (k n : ℕ) (d : Spot) (x : EntryFields) → k < length ss → n ≡ offset_of first (get_or ss k d) → x ≡ get_or es n x
+      → (s : Spot) (e : EntryFields) → Has (drop k ss) s → slice_get es (offset_of first s) ≡ Some e → ticket_of x ≤ ticket_of e
   from_left k n d x lt at read s e there here =
       let y = get_or ss k d in
       let rest : drop k ss ≡ y ∷ drop (suc k) ss = here_first ss k y lt (at_same ss k d y lt) in
@@ -136,13 +136,13 @@ module _ (es : List Outstanding) (first : ℕ) (ss : List Spot) (order : IsOrder
 
 -- ---- covered or not
 
-pub none_uncovered : (t size : ℕ) (es : List Outstanding) → ((n : ℕ) (e : Outstanding) → slice_get es n ≡ Some e → is_item_uncovered t (item_meaning size e) ≡ false) → any_uncovered t (map (item_meaning size) es) ≡ false
+pub none_uncovered : (t size : ℕ) (es : List EntryFields) → ((n : ℕ) (e : EntryFields) → slice_get es n ≡ Some e → is_item_uncovered t (item_meaning size e) ≡ false) → any_uncovered t (map (item_meaning size) es) ≡ false
 none_uncovered t size [] each = refl
 none_uncovered t size (e ∷ es) each = rw (each 0 e refl) (none_uncovered t size es (λ n d there. each (suc n) d there))
 
-pub one_uncovered : (t size n : ℕ) (es : List Outstanding) (e : Outstanding) → n < length es → e ≡ get_or es n e → is_item_uncovered t (item_meaning size e) ≡ true → any_uncovered t (map (item_meaning size) es) ≡ true
+pub one_uncovered : (t size n : ℕ) (es : List EntryFields) (e : EntryFields) → n < length es → e ≡ get_or es n e → is_item_uncovered t (item_meaning size e) ≡ true → any_uncovered t (map (item_meaning size) es) ≡ true
 one_uncovered t size n [] e lt read is = absurd (omega arith)
-one_uncovered t size zero (d ∷ es) e lt read is = let here : is_item_uncovered t (item_meaning size d) ≡ true = subst (λ (x : Outstanding). is_item_uncovered t (item_meaning size x) ≡ true) read is in rw here refl
+one_uncovered t size zero (d ∷ es) e lt read is = let here : is_item_uncovered t (item_meaning size d) ≡ true = subst (λ (x : EntryFields). is_item_uncovered t (item_meaning size x) ≡ true) read is in rw here refl
 one_uncovered t size (suc n) (d ∷ es) e lt read is = rw (one_uncovered t size n es e (omega arith) read is) (by_first (is_item_uncovered t (item_meaning size d)))
   where
     by_first : (b : Bool) → (b || true) ≡ true
@@ -150,12 +150,12 @@ one_uncovered t size (suc n) (d ∷ es) e lt read is = rw (one_uncovered t size 
     by_first false = refl
 
 -- an entry of another message isn't one of these
-pub other_uncovered : (t size : ℕ) (e : Outstanding) → (ticket_of e ≡ t → ⊥) → is_item_uncovered t (item_meaning size e) ≡ false
+pub other_uncovered : (t size : ℕ) (e : EntryFields) → (ticket_of e ≡ t → ⊥) → is_item_uncovered t (item_meaning size e) ≡ false
 other_uncovered t size e other = let off : (ticket_of e == t) ≡ false = grind (arith, nat_tests) in rw off refl
 
--- ---- given up
+-- ---- abandoned
 
-pub given_twice : (t : ℕ) (e : Outstanding) → given t (given t e) ≡ given t e
+pub given_twice : (t : ℕ) (e : EntryFields) → given t (given t e) ≡ given t e
 given_twice t e = by_test (e.message.value.ticket == t) refl
   where
     twice : (s : Standing) → unmarked (unmarked s) ≡ unmarked s
@@ -167,27 +167,27 @@ given_twice t e = by_test (e.message.value.ticket == t) refl
     by_test true on = rw (on, on, twice e.standing) refl
     by_test false off = rw (off, off) refl
 
-pub given_ticket : (t : ℕ) (e : Outstanding) → ticket_of (given t e) ≡ ticket_of e
+pub given_ticket : (t : ℕ) (e : EntryFields) → ticket_of (given t e) ≡ ticket_of e
 given_ticket t e = by_test (e.message.value.ticket == t) refl
   where
     by_test : (b : Bool) → (e.message.value.ticket == t) ≡ b → ticket_of (given t e) ≡ ticket_of e
     by_test true on = rw on refl
     by_test false off = rw off refl
 
--- one given up more: tickets stay, and what all become stays
-pub placed_tickets : (f : Outstanding → Outstanding) → ((e : Outstanding) → ticket_of (f e) ≡ ticket_of e) → (n : ℕ) (es : List Outstanding) → tickets_of (at_place f n es) ≡ tickets_of es
+-- one abandoned more: tickets stay, and what all become stays
+pub placed_tickets : (f : EntryFields → EntryFields) → ((e : EntryFields) → ticket_of (f e) ≡ ticket_of e) → (n : ℕ) (es : List EntryFields) → tickets_of (at_place f n es) ≡ tickets_of es
 placed_tickets f stays n [] = refl
 placed_tickets f stays zero (e ∷ es) = rw (stays e) refl
 placed_tickets f stays (suc n) (e ∷ es) = rw (placed_tickets f stays n es) refl
 
-pub placed_given : (t n : ℕ) (es : List Outstanding) → all_given t (at_place (given t) n es) ≡ all_given t es
+pub placed_given : (t n : ℕ) (es : List EntryFields) → all_given t (at_place (given t) n es) ≡ all_given t es
 placed_given t n [] = refl
 placed_given t zero (e ∷ es) = rw (given_twice t e) refl
 placed_given t (suc n) (e ∷ es) = rw (placed_given t n es) refl
 
 -- what is read then was there, or became so
-placed_read : (f : Outstanding → Outstanding) (n m : ℕ) (es : List Outstanding) (e : Outstanding) → slice_get (at_place f n es) m ≡ Some e
-    → (slice_get es m ≡ Some e) ⊎ ((d : Outstanding) × (m ≡ n) × (slice_get es m ≡ Some d) × (e ≡ f d))
+placed_read : (f : EntryFields → EntryFields) (n m : ℕ) (es : List EntryFields) (e : EntryFields) → slice_get (at_place f n es) m ≡ Some e
+    → (slice_get es m ≡ Some e) ⊎ ((d : EntryFields) × (m ≡ n) × (slice_get es m ≡ Some d) × (e ≡ f d))
 placed_read f n m [] e read = inl read
 placed_read f zero zero (d ∷ es) e read = inr (d, refl, refl, cc)
 placed_read f zero (suc m) (d ∷ es) e read = inl read
@@ -197,18 +197,18 @@ placed_read f (suc n) (suc m) (d ∷ es) e read = elim (placed_read f n m es e r
   | inr new ↦ inr (new.0, ap suc new.1, new.2, new.3)
 ]
 
-abbrev pub IsGiven : ℕ → Outstanding → Type 0
+abbrev pub IsGiven : ℕ → EntryFields → Type 0
 IsGiven t e = given t e ≡ e
 
--- what was given up stays so, and one entry more is
-pub given_more : (t first : ℕ) (ss : List Spot) (es : List Outstanding) (k n : ℕ) (s : Spot) → k < length ss → n ≡ offset_of first (get_or ss k s)
-    → ((u : Spot) (e : Outstanding) → Has (take k ss) u → slice_get es (offset_of first u) ≡ Some e → IsGiven t e)
-    → (u : Spot) (e : Outstanding) → Has (take (k + 1) ss) u → slice_get (at_place (given t) n es) (offset_of first u) ≡ Some e → IsGiven t e
+-- what was abandoned stays so, and one entry more is
+pub given_more : (t first : ℕ) (ss : List Spot) (es : List EntryFields) (k n : ℕ) (s : Spot) → k < length ss → n ≡ offset_of first (get_or ss k s)
+    → ((u : Spot) (e : EntryFields) → Has (take k ss) u → slice_get es (offset_of first u) ≡ Some e → IsGiven t e)
+    → (u : Spot) (e : EntryFields) → Has (take (k + 1) ss) u → slice_get (at_place (given t) n es) (offset_of first u) ≡ Some e → IsGiven t e
 given_more t first ss es k n s lt at passed u e there read =
     let x = get_or ss k s in
     let one : k + 1 ≡ suc k = omega arith in
     elim (placed_read (given t) n (offset_of first u) es e read) [
-      | inr new ↦ subst (λ (d : Outstanding). given t d ≡ d) (sym new.3) (given_twice t new.0)
+      | inr new ↦ subst (λ (d : EntryFields). given t d ≡ d) (sym new.3) (given_twice t new.0)
       | inl same ↦ elim (taken_one ss k x u lt (at_same ss k s x lt) (subst (λ (m : ℕ). Has (take m ss) u) one there)) [
         | inl early ↦ passed u e early same
         | inr last ↦
@@ -218,31 +218,31 @@ given_more t first ss es k n s lt at passed u e there read =
     ]
   where
     -- the entry at the place became so
-    became : (m : ℕ) (ds : List Outstanding) (d : Outstanding) → slice_get (at_place (given t) m ds) m ≡ Some d → IsGiven t d
+    became : (m : ℕ) (ds : List EntryFields) (d : EntryFields) → slice_get (at_place (given t) m ds) m ≡ Some d → IsGiven t d
     became m [] d is = absurd (cc)
-    became zero (c ∷ ds) d is = let same : given t c ≡ d = cc in subst (λ (z : Outstanding). given t z ≡ z) same (given_twice t c)
+    became zero (c ∷ ds) d is = let same : given t c ≡ d = cc in subst (λ (z : EntryFields). given t z ≡ z) same (given_twice t c)
     became (suc m) (c ∷ ds) d is = became m ds d is
 
-    fixed_there : (v m : ℕ) (ds : List Outstanding) (d : Outstanding) → slice_get (at_place (given t) m ds) (offset_of first u) ≡ Some d → offset_of first u ≡ m → IsGiven t d
+    fixed_there : (v m : ℕ) (ds : List EntryFields) (d : EntryFields) → slice_get (at_place (given t) m ds) (offset_of first u) ≡ Some d → offset_of first u ≡ m → IsGiven t d
     fixed_there v m ds d is here = became m ds d (subst (λ (i : ℕ). slice_get (at_place (given t) m ds) i ≡ Some d) here is)
 
--- where nothing is left to give up, all is as it becomes
-pub all_are_given : (t : ℕ) (es : List Outstanding) → ((n : ℕ) (e : Outstanding) → slice_get es n ≡ Some e → IsGiven t e) → all_given t es ≡ es
+-- where nothing is left to abandon, all is as it becomes
+pub all_are_given : (t : ℕ) (es : List EntryFields) → ((n : ℕ) (e : EntryFields) → slice_get es n ≡ Some e → IsGiven t e) → all_given t es ≡ es
 all_are_given t [] each = refl
 all_are_given t (e ∷ es) each = rw (each 0 e refl, all_are_given t es (λ n d there. each (suc n) d there)) refl
 
 -- ---- past their time
 
 -- what an entry gives, if it is late
-abbrev pub late_of : (now last size : ℕ) → Outstanding → Option ℕ
+abbrev pub late_of : (now last size : ℕ) → EntryFields → Option ℕ
 late_of now last size e = late_after now last (item_message (item_meaning size e))
 
 -- no entry is late with a ticket below this one
-abbrev NoneLower : (now last size t : ℕ) → List Outstanding → Type 0
-NoneLower now last size t es = (m : ℕ) (e : Outstanding) → slice_get es m ≡ Some e → (u : ℕ) → late_of now last size e ≡ Some u → t ≤ u
+abbrev NoneLower : (now last size t : ℕ) → List EntryFields → Type 0
+NoneLower now last size t es = (m : ℕ) (e : EntryFields) → slice_get es m ≡ Some e → (u : ℕ) → late_of now last size e ≡ Some u → t ≤ u
 
 -- what is found and no higher stays
-soonest_stays : (now last size t f : ℕ) (es : List Outstanding) → f ≤ t → NoneLower now last size t es → soonest now last (Some f) (item_messages (map (item_meaning size) es)) ≡ Some f
+soonest_stays : (now last size t f : ℕ) (es : List EntryFields) → f ≤ t → NoneLower now last size t es → soonest now last (Some f) (item_messages (map (item_meaning size) es)) ≡ Some f
 soonest_stays now last size t f [] low each = refl
 soonest_stays now last size t f (e ∷ es) low each = by_late (late_of now last size e) refl (soonest_stays now last size t f es low (λ m d there. each (suc m) d there))
   where
@@ -264,11 +264,11 @@ unfound None = refl
 unfound (Some t) = refl
 
 -- the lowest of late tickets is the one found, where all others are no lower
-pub soonest_is : (now last size : ℕ) (found : Option ℕ) (t n : ℕ) (es : List Outstanding) (x : Outstanding) → NoneLower now last size t es → n < length es → x ≡ get_or es n x → late_of now last size x ≡ Some t
+pub soonest_is : (now last size : ℕ) (found : Option ℕ) (t n : ℕ) (es : List EntryFields) (x : EntryFields) → NoneLower now last size t es → n < length es → x ≡ get_or es n x → late_of now last size x ≡ Some t
     → soonest now last found (item_messages (map (item_meaning size) es)) ≡ sooner found (Some t)
 soonest_is now last size found t n [] x each lt read late = absurd (omega arith)
 soonest_is now last size found t zero (e ∷ es) x each lt read late =
-    let here : late_of now last size e ≡ Some t = subst (λ (d : Outstanding). late_of now last size d ≡ Some t) read late in
+    let here : late_of now last size e ≡ Some t = subst (λ (d : EntryFields). late_of now last size d ≡ Some t) read late in
     ap (λ (o : Option ℕ). soonest now last (sooner found o) (item_messages (map (item_meaning size) es))) here ∙ by_found found
   where
     rest : (f : ℕ) → f ≤ t → soonest now last (Some f) (item_messages (map (item_meaning size) es)) ≡ Some f
@@ -291,7 +291,7 @@ soonest_is now last size found t (suc n) (e ∷ es) x each lt read late =
         ∙ rest (sooner found (Some u)) ∙ lower_of_both found t u (each 0 e refl u is)
 
 -- no other is late
-pub soonest_found : (now last size : ℕ) (found : Option ℕ) (es : List Outstanding) → ((m : ℕ) (e : Outstanding) → slice_get es m ≡ Some e → late_of now last size e ≡ None)
+pub soonest_found : (now last size : ℕ) (found : Option ℕ) (es : List EntryFields) → ((m : ℕ) (e : EntryFields) → slice_get es m ≡ Some e → late_of now last size e ≡ None)
     → soonest now last found (item_messages (map (item_meaning size) es)) ≡ found
 soonest_found now last size found [] each = refl
 soonest_found now last size found (e ∷ es) each =
@@ -300,30 +300,30 @@ soonest_found now last size found (e ∷ es) each =
     ∙ soonest_found now last size found es (λ m d there. each (suc m) d there)
 
 -- an entry up to the last ticket isn't late
-pub not_above : (now last size : ℕ) (e : Outstanding) → ticket_of e ≤ last → late_of now last size e ≡ None
-not_above now last size e le = by_done (e.covered || e.given_up) refl
+pub not_above : (now last size : ℕ) (e : EntryFields) → ticket_of e ≤ last → late_of now last size e ≡ None
+not_above now last size e le = by_done (e.covered || e.abandoned) refl
   where
     off : nat_lt last e.message.value.ticket ≡ false
     off = grind (arith, le, nat_tests)
 
-    by_done : (b : Bool) → (e.covered || e.given_up) ≡ b → late_of now last size e ≡ None
+    by_done : (b : Bool) → (e.covered || e.abandoned) ≡ b → late_of now last size e ≡ None
     by_done true done = rw done refl
     by_done false on = rw (on, off) refl
 
 -- what an entry gives is its ticket
-pub late_ticket_is : (now last size u : ℕ) (e : Outstanding) → late_of now last size e ≡ Some u → u ≡ ticket_of e
-late_ticket_is now last size u e is = by_done (e.covered || e.given_up) refl
+pub late_ticket_is : (now last size u : ℕ) (e : EntryFields) → late_of now last size e ≡ Some u → u ≡ ticket_of e
+late_ticket_is now last size u e is = by_done (e.covered || e.abandoned) refl
   where
     by_test : (b : Bool) → when b e.message.value.ticket ≡ Some u → u ≡ ticket_of e
     by_test true there = cc
     by_test false there = absurd (cc)
 
-    by_done : (b : Bool) → (e.covered || e.given_up) ≡ b → u ≡ ticket_of e
+    by_done : (b : Bool) → (e.covered || e.abandoned) ≡ b → u ≡ ticket_of e
     by_done true done = absurd (let none = rw done at is in cc)
     by_done false on = by_test _ (rw on at is)
 
--- ---- a window
+-- ---- what is outstanding
 
 -- other counts of the same entries
-pub recounted : (size : ℕ) (es : List Outstanding) (capacity : ℕ) (c d : Counts) (o : ByTicket) (room : ℕ) (bs : List ℕ) → IsCounted size es d → IsInOrder size es capacity c o room bs → IsInOrder size es capacity d o room bs
+pub recounted : (size : ℕ) (es : List EntryFields) (capacity : ℕ) (c d : Counts) (o : ByTicket) (room : ℕ) (bs : List ℕ) → IsCounted size es d → IsInOrder size es capacity c o room bs → IsInOrder size es capacity d o room bs
 recounted size es capacity c d o room bs counted h = record { counted = counted; order = h.order; below = h.below; few = h.few; within = h.within; here = h.here; there = h.there; bounded = h.bounded }

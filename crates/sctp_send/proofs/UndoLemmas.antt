@@ -5,7 +5,7 @@ use Rattle.std.proofs.lemmas.Bool.Decides.{nat_tests}
 use Rattle.std.proofs.lemmas.List.Edits.{length-insert, length-remove}
 use Rattle.std.specs.declared.rc.Rc.{Rc}
 use Rattle.std.specs.declared.alloc.Global.{Global}
-use Rattle.sctp_send.specs.WindowKept.{WindowKept, at_place, changed}
+use Rattle.sctp_send.specs.PartsKept.{OutstandingKept, at_place, changed}
 use Rattle.sctp_send.specs.inner.Changes.{stood}
 use Rattle.sctp_send.specs.inner.Drafting.{went_out}
 use Rattle.sctp_send.specs.inner.Undoing.{Parts, parts_of, stands_so, waits_again, undone, before_all, origin, IsSized, IsKeptRoom, IsBehind}
@@ -13,7 +13,7 @@ use Rattle.sctp_send.specs.declared.draft.Change.{Change}
 use Rattle.sctp_send.specs.declared.draft.Change.TheVariants.{Out, Taken, In}
 use Rattle.sctp_send.specs.declared.draft.Draft.{Draft}
 use Rattle.sctp_send.specs.declared.message.Message.{Message}
-use Rattle.sctp_send.specs.declared.entry.Outstanding.{Outstanding}
+use Rattle.sctp_send.specs.declared.entry.Entry.{Entry as EntryFields}
 use Rattle.sctp_send.specs.declared.entry.Standing.{Standing}
 use Rattle.sctp_send.specs.declared.entry.Standing.TheVariants.{Sent}
 
@@ -34,10 +34,10 @@ at_place_past f (suc n) (y ∷ ys) le = ap (λ zs. y ∷ zs) (at_place_past f n 
 -- ---- one change is taken back
 
 -- an entry that went out stands as before
-pub out_undone : (at : ℕ) (es : List Outstanding) (x : Outstanding) → x ≡ get_or es at x → at_place (stands_so x.standing) at (at_place went_out at es) ≡ es
+pub out_undone : (at : ℕ) (es : List EntryFields) (x : EntryFields) → x ≡ get_or es at x → at_place (stands_so x.standing) at (at_place went_out at es) ≡ es
 out_undone at [] x read = refl
-out_undone zero (e ∷ es) x read = ap (λ (y : Outstanding). stands_so y.standing (went_out e) ∷ es) read
-out_undone (suc at) (e ∷ es) x read = ap (λ (ys : List Outstanding). e ∷ ys) (out_undone at es x read)
+out_undone zero (e ∷ es) x read = ap (λ (y : EntryFields). stands_so y.standing (went_out e) ∷ es) read
+out_undone (suc at) (e ∷ es) x read = ap (λ (ys : List EntryFields). e ∷ ys) (out_undone at es x read)
 
 inserted : {A : Type 0} (n : ℕ) (xs : List A) (x : A) → n < length xs → x ≡ get_or xs n x → insert (remove xs n) n x ≡ xs
 inserted n [] x lt read = absurd (omega arith)
@@ -55,14 +55,14 @@ taken_undone place ms m low read =
     test a b h = grind (arith, nat_tests)
 
 -- an entry that was read stands as it is told
-pub stood_again : (w : WindowKept) (at : ℕ) (x : Outstanding) (s : Standing) → x ≡ get_or w.items at x → changed (stood s x.covered x.given_up) at w ≡ changed (stands_so s) at w
-stood_again w at x s read = ap (λ (es : List Outstanding). record w { items = es }) (at_place_like (stood s x.covered x.given_up) (stands_so s) at w.items x read refl)
+pub stood_again : (w : OutstandingKept) (at : ℕ) (x : EntryFields) (s : Standing) → x ≡ get_or w.items at x → changed (stood s x.covered x.abandoned) at w ≡ changed (stands_so s) at w
+stood_again w at x s read = ap (λ (es : List EntryFields). record w { items = es }) (at_place_like (stood s x.covered x.abandoned) (stands_so s) at w.items x read refl)
 
-pub stood_sent : (w : WindowKept) (at : ℕ) (x : Outstanding) → x ≡ get_or w.items at x → changed (stood Sent x.covered x.given_up) at w ≡ changed went_out at w
-stood_sent w at x read = ap (λ (es : List Outstanding). record w { items = es }) (at_place_like (stood Sent x.covered x.given_up) went_out at w.items x read refl)
+pub stood_sent : (w : OutstandingKept) (at : ℕ) (x : EntryFields) → x ≡ get_or w.items at x → changed (stood Sent x.covered x.abandoned) at w ≡ changed went_out at w
+stood_sent w at x read = ap (λ (es : List EntryFields). record w { items = es }) (at_place_like (stood Sent x.covered x.abandoned) went_out at w.items x read refl)
 
-pub stood_nowhere : (f : Outstanding → Outstanding) (w : WindowKept) (at : ℕ) → length w.items ≤ at → w ≡ changed f at w
-stood_nowhere f w at le = ap (λ (es : List Outstanding). record w { items = es }) (at_place_past f at w.items le)
+pub stood_nowhere : (f : EntryFields → EntryFields) (w : OutstandingKept) (at : ℕ) → length w.items ≤ at → w ≡ changed f at w
+stood_nowhere f w at le = ap (λ (es : List EntryFields). record w { items = es }) (at_place_past f at w.items le)
 
 -- ---- all of them
 

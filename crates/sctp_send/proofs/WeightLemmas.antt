@@ -14,13 +14,13 @@ use Rattle.sctp_send.specs.inner.Newcomers.{one_if}
 use Rattle.sctp_send.specs.inner.Counting.{count_unsettled}
 use Rattle.sctp_send.specs.declared.entry.Place.{Place}
 use Rattle.sctp_send.specs.declared.entry.Place.TheVariants.{Fragment, EndMark}
-use Rattle.sctp_send.specs.declared.entry.Outstanding.{Outstanding}
+use Rattle.sctp_send.specs.declared.entry.Entry.{Entry as EntryFields}
 use Rattle.sctp_send.proofs.ChunkLemmas.{fragment_is}
 
 -- ---- bytes in flight
 
 -- a fragment is no longer than fragments may be
-bytes_short : (size : ℕ) (e : Outstanding) → 0 < size → length (item_bytes (item_meaning size e)) ≤ size
+bytes_short : (size : ℕ) (e : EntryFields) → 0 < size → length (item_bytes (item_meaning size e)) ≤ size
 bytes_short size e some = by_place e.place
   where
     by_place : (p : Place) → length (bytes_in (entry_meaning (lane_meaning e.message.value) e.number p) (Some (message_meaning size e.message.value))) ≤ size
@@ -34,22 +34,22 @@ if_short : (b : Bool) (n m : ℕ) → n ≤ m → (if b then n else 0) ≤ m
 if_short true n m le = le
 if_short false n m le = omega arith
 
-pub weight_short : (size : ℕ) (e : Outstanding) → 0 < size → item_weight (item_meaning size e) ≤ size
+pub weight_short : (size : ℕ) (e : EntryFields) → 0 < size → item_weight (item_meaning size e) ≤ size
 weight_short size e some =
     let x = item_meaning size e in
-    if_short (not x.marked && (x.sent && (not x.covered && not x.given_up))) (length (item_bytes x)) size (bytes_short size e some)
+    if_short (not x.marked && (x.sent && (not x.covered && not x.abandoned))) (length (item_bytes x)) size (bytes_short size e some)
 
 up_to : (n size : ℕ) → n ≤ size → size < 2 ^ 16 → n ≤ 2 ^ 64
 up_to n size le small = omega arith
 
-pub weight_small : (size : ℕ) (e : Outstanding) → 0 < size → size < 2 ^ 16 → item_weight (item_meaning size e) ≤ 2 ^ 64
+pub weight_small : (size : ℕ) (e : EntryFields) → 0 < size → size < 2 ^ 16 → item_weight (item_meaning size e) ≤ 2 ^ 64
 weight_small size e some small = up_to (item_weight (item_meaning size e)) size (weight_short size e some) small
 
 one_more : (w f n size : ℕ) → w ≤ size → size < 2 ^ 16 → f ≤ n * 65535 → w + f ≤ suc n * 65535
 one_more w f n size le small rest = omega arith
 
 -- so few bytes are in flight
-pub flight_bound : (size : ℕ) (es : List Outstanding) → 0 < size → size < 2 ^ 16 → item_flight (map (item_meaning size) es) ≤ length es * 65535
+pub flight_bound : (size : ℕ) (es : List EntryFields) → 0 < size → size < 2 ^ 16 → item_flight (map (item_meaning size) es) ≤ length es * 65535
 flight_bound size [] some small = omega arith
 flight_bound size (e ∷ es) some small =
     one_more (item_weight (item_meaning size e)) (item_flight (map (item_meaning size) es)) (length es) size (weight_short size e some) small (flight_bound size es some small)
@@ -89,7 +89,7 @@ any_counts (x ∷ xs) = by_test (is_item_unsettled x) (any_unsettled xs) (count_
     by_test false c n is = let same : n ≡ 0 + n = omega arith in is ∙ ap (nat_lt 0) same
 
 -- some are, where their count isn't 0
-pub some_counts : (size : ℕ) (es : List Outstanding) (n : ℕ) → length es < 2 ^ 64 → n ≡ count_unsettled (map (item_meaning size) es) % 2 ^ 64 → nat_lt 0 n ≡ any_unsettled (map (item_meaning size) es)
+pub some_counts : (size : ℕ) (es : List EntryFields) (n : ℕ) → length es < 2 ^ 64 → n ≡ count_unsettled (map (item_meaning size) es) % 2 ^ 64 → nat_lt 0 n ≡ any_unsettled (map (item_meaning size) es)
 some_counts size es n small is =
     let items = map (item_meaning size) es in
     let same : n ≡ count_unsettled items = omega (arith, is, unsettled_few items, length-map es (item_meaning size)) in

@@ -13,11 +13,11 @@ use Rattle.sctp_model.specs.sender.Reached.{Abandons}
 use Rattle.sctp_model.proofs.sender.TicketLaws.{is_ticketed}
 use Rattle.sctp_model.proofs.sender.QueueLaws.{without_other, without_self}
 use Rattle.sctp_send.specs.SenderKept.{Kept}
-use Rattle.sctp_send.specs.WindowKept.{WaitingKept}
+use Rattle.sctp_send.specs.PartsKept.{QueueKept}
 use Rattle.sctp_send.specs.SenderFields.{queued_by}
 use Rattle.sctp_send.specs.SenderStands.{table, fate_here, fate_named, Keeps}
 use Rattle.sctp_send.specs.declared.message.Message.{Message as MessageFields}
-use Rattle.sctp_send.specs.declared.message.Fate.TheVariants.{Waiting, Withdrawn}
+use Rattle.sctp_send.specs.declared.message.Fate.TheVariants.{Queued as StillQueued, Withdrawn}
 use Rattle.sctp_send.proofs.TableLemmas.{table-set}
 use Rattle.sctp_send.proofs.WalkLemmas.{none_behind, queue_read}
 
@@ -75,7 +75,7 @@ ended_place t size ms at n le is before =
     all_taken (suc a) (suc b) (q ∷ qs) x y = ap (λ (xs : List Queued). q ∷ xs) (all_taken a b qs (omega arith) (omega arith))
 
 -- what is left around the place, or all where it is past the end
-pub withdrawn_is : (p : ℕ) (old new : WaitingKept) (taken : Option (Rc MessageFields Global)) → (p < length old.items → new ≡ record old { items = remove old.items p }) → IfSome taken (λ m. (p < length old.items) × (m ≡ get_or old.items p m))
+pub withdrawn_is : (p : ℕ) (old new : QueueKept) (taken : Option (Rc MessageFields Global)) → (p < length old.items → new ≡ record old { items = remove old.items p }) → IfSome taken (λ m. (p < length old.items) × (m ≡ get_or old.items p m))
     → IfNone taken ((length old.items ≤ p) × (new ≡ old)) → new ≡ record old { items = remove old.items p }
 withdrawn_is p old new (Some m) there some none = there some.0
 withdrawn_is p old new None there some none =
@@ -99,9 +99,9 @@ keeps_withdrawn f s v t k on =
     let high = w.1 in
     let u : SenderView = record v { queue = without t v.queue } in
     let back : 1 + (t - 1) ≡ t = omega arith in
-    let self : fate_here u (1 + (t - 1)) ≡ Withdrawn = rw back (ap (λ (b : Bool). if b then Waiting else fate_named u (name_of u t)) (without_self t v.queue h.apart) ∙ ap (fate_named u) w.2) in
+    let self : fate_here u (1 + (t - 1)) ≡ Withdrawn = rw back (ap (λ (b : Bool). if b then StillQueued else fate_named u (name_of u t)) (without_self t v.queue h.apart) ∙ ap (fate_named u) w.2) in
     let others : (j : ℕ) → 1 ≤ j → j < 1 + v.tickets → (j ≡ 1 + (t - 1) → ⊥) → fate_here u j ≡ fate_here v j = λ j lo hi ne.
-    ap (λ (b : Bool). if b then Waiting else fate_named v (name_of v j)) (without_other t j v.queue (λ e. ne (omega arith))) in
+    ap (λ (b : Bool). if b then StillQueued else fate_named v (name_of v j)) (without_other t j v.queue (λ e. ne (omega arith))) in
     let fates : set s.fates (t - 1) Withdrawn ≡ table (fate_here u) 1 v.tickets = rw (k.holds.fates, table-set (fate_here v) (fate_here u) 1 v.tickets (t - 1) (omega arith) others, self) refl in
     let reached = Abandons v t k.reached in
     let after : abandon_after v t ≡ u = ap (λ (o : Option Name). option_map_or (abandon_named v) o u) w.2 in

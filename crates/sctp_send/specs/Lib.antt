@@ -1,5 +1,5 @@
 pub mod CoveredRuns
-pub mod WindowKept
+pub mod PartsKept
 pub mod SenderKept
 pub mod SenderStands
 pub mod OutstandingFields

@@ -12,7 +12,7 @@ use Rattle.sctp_send.specs.declared.entry.Standing.{Standing}
 use Rattle.sctp_send.specs.declared.entry.Standing.TheVariants.{Unsent, Sent, Marked}
 use Rattle.sctp_send.specs.declared.entry.Place.{Place}
 use Rattle.sctp_send.specs.declared.entry.Place.TheVariants.{Fragment, EndMark}
-use Rattle.sctp_send.specs.declared.entry.Outstanding.{Outstanding}
+use Rattle.sctp_send.specs.declared.entry.Entry.{Entry as EntryFields}
 
 -- the entry went out at least once
 abbrev pub was_sent : Standing → Bool
@@ -44,14 +44,14 @@ entry_meaning l n (Fragment k) = Part l n k
 entry_meaning l n EndMark = End l n
 
 -- all that an entry says
-abbrev pub item_meaning : ℕ → Outstanding → Item
+abbrev pub item_meaning : ℕ → EntryFields → Item
 item_meaning size e = record {
   entry = entry_meaning (lane_meaning e.message.value) e.number e.place;
   message = Some (message_meaning size e.message.value);
   sent = was_sent e.standing;
   marked = is_marked e.standing;
   covered = e.covered;
-  given_up = e.given_up;
+  abandoned = e.abandoned;
 }
 
 -- the lane of a stream and a kind

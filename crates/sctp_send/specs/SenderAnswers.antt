@@ -10,8 +10,8 @@ use Rattle.sctp_model.specs.sender.Abandoning as gone
 use Rattle.sctp_send.specs.declared.abandon.Abandoned.{Abandoned as AbandonedFields}
 use Rattle.sctp_send.specs.declared.abandon.Abandoned.TheVariants.{Withdrawn, Abandoned, Acknowledged, Unknown, Reliable}
 use Rattle.sctp_values.specs.declared.ticket.Ticket.{Ticket}
-use Rattle.sctp_send.specs.declared.queue.SendFault.{SendFault}
-use Rattle.sctp_send.specs.declared.queue.SendFault.TheVariants.{NoSuchStream, Empty, TooLong, QueueFull, Spent, NoMemory}
+use Rattle.sctp_send.specs.declared.queueing.SendFault.{SendFault}
+use Rattle.sctp_send.specs.declared.queueing.SendFault.TheVariants.{NoSuchStream, Empty, TooLong, QueueFull, Spent, NoMemory}
 use Rattle.sctp_send.specs.declared.sack.SackFault.{SackFault}
 use Rattle.sctp_send.specs.declared.sack.SackFault.TheVariants.{Stale, Beyond, BadBlock}
 

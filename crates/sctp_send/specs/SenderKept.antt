@@ -12,7 +12,7 @@ pub record Item : Type 0 where
   pub sent : Bool
   pub marked : Bool
   pub covered : Bool
-  pub given_up : Bool
+  pub abandoned : Bool
 
 -- the fragment that a message in part takes next
 pub record Rest : Type 0 where

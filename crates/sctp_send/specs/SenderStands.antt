@@ -9,7 +9,7 @@ use Rattle.sctp_model.specs.sender.Reached.{IsReached}
 use Rattle.sctp_send.specs.SenderKept.{Item, Rest, Track, Kept}
 use Rattle.sctp_send.specs.CoveredRuns.{AreCovered}
 use Rattle.sctp_send.specs.declared.message.Fate.{Fate}
-use Rattle.sctp_send.specs.declared.message.Fate.TheVariants.{Waiting, Numbered, Withdrawn, GivenUp}
+use Rattle.sctp_send.specs.declared.message.Fate.TheVariants.{Queued as StillQueued, Numbered, Withdrawn, Abandoned as WasAbandoned}
 
 -- what a function answers at n numbers from i on
 abbrev pub table : {A : Type 0} → (ℕ → A) → ℕ → ℕ → List A
@@ -18,7 +18,7 @@ table f i (suc n) = f i ∷ table f (suc i) n
 
 -- what the view says of an entry at an index
 abbrev pub item_here : SenderView → ℕ → Entry → Item
-item_here v i e = record { entry = e; message = entry_message v.plan e; sent = v.sent i; marked = v.marked i; covered = v.covered i; given_up = is_of_abandoned v e }
+item_here v i e = record { entry = e; message = entry_message v.plan e; sent = v.sent i; marked = v.marked i; covered = v.covered i; abandoned = is_of_abandoned v e }
 
 -- the same of entries one behind the other, the first of them at this index
 abbrev pub items_from : SenderView → ℕ → List Entry → List Item
@@ -41,11 +41,11 @@ track_here v s = record {
 -- what became of a message without a number that waits no more, or of one with a number
 abbrev pub fate_named : SenderView → Option Name → Fate
 fate_named v None = Withdrawn
-fate_named v (Some n) = if is_abandoned v n then GivenUp else Numbered
+fate_named v (Some n) = if is_abandoned v n then WasAbandoned else Numbered
 
 -- what became of the message with a ticket
 abbrev pub fate_here : SenderView → ℕ → Fate
-fate_here v t = if waits t v.queue then Waiting else fate_named v (name_of v t)
+fate_here v t = if waits t v.queue then StillQueued else fate_named v (name_of v t)
 
 -- What is kept is a function of the view: of the entries above CUM, of streams and of tickets, what they say now.
 pub record Holds (s : Kept) (v : SenderView) : Type 0 where

@@ -1,7 +1,7 @@
 //! Messages that are abandoned (RFC 3758, 3.5; RFC 8260, 2.3.1).
 
 ghost use Rattle.std.specs.Prelude.{◌≡◌, ℕ, ◌<◌, ◌≤◌, ◌+◌, [], ◌∷◌, ◌++◌, true, false, List, length, map, take, drop, set, IfSome, IfNone};
-ghost use Rattle.sctp_send.specs.WindowKept.{IsSameRoom};
+ghost use Rattle.sctp_send.specs.PartsKept.{IsSameRoom};
 ghost use Rattle.sctp_model.specs.sender.SenderView.{SenderView};
 ghost use Rattle.sctp_model.specs.sender.Abandoning.{AbandonAnswer, abandon_answer, abandon_after, without};
 ghost use Rattle.sctp_send.specs.OutstandingFields.{item_meaning};
@@ -10,14 +10,14 @@ ghost use Rattle.sctp_send.specs.SenderStands.{StandsFor, fate_here};
 ghost use Rattle.sctp_send.specs.inner.Walks.{is_numbered_fate, any_rest, end_item, EndsAt};
 ghost use Rattle.sctp_send.specs.SenderAnswers.{answer_meaning, answer_code};
 
-use crate::entry::{Outstanding, Place, Standing};
+use crate::entry::{Entry, Place, Standing};
 use crate::message::Fate;
+use crate::outstanding::Outstanding;
+use crate::queue::Queue;
 use crate::readers::is_all_covered;
 use crate::sender::Sender;
 use crate::streams::Streams;
 use crate::track::{Rest, Track};
-use crate::waiting::Waiting;
-use crate::window::Window;
 use sctp_framing::Framing;
 use sctp_values::Ticket;
 
@@ -68,8 +68,8 @@ impl<F: Framing> Sender<F> {
         }
         match self.head.fates[at - 1] {
             Fate::Withdrawn => Abandoned::Withdrawn,
-            Fate::GivenUp => Abandoned::Abandoned,
-            Fate::Waiting => {
+            Fate::Abandoned => Abandoned::Abandoned,
+            Fate::Queued => {
                 withdraw(&mut self.parts.queue, ticket.0);
                 self.head.fates[at - 1] = Fate::Withdrawn;
                 Abandoned::Withdrawn
@@ -91,8 +91,8 @@ impl<F: Framing> Sender<F> {
         if !self.head.partial {
             return Abandoned::Reliable;
         }
-        self.head.fates[ticket as usize - 1] = Fate::GivenUp;
-        self.parts.outstanding.give_up(ticket);
+        self.head.fates[ticket as usize - 1] = Fate::Abandoned;
+        self.parts.outstanding.abandon(ticket);
         if let Some(rest) = end(&mut self.parts.tracks, ticket) {
             push_end(&mut self.parts.outstanding, rest);
         }
@@ -101,7 +101,7 @@ impl<F: Framing> Sender<F> {
 }
 
 /// The place of the message with this ticket among those that wait, or how many there are.
-fn place_of(queue: &Waiting, ticket: u32) -> usize
+fn place_of(queue: &Queue, ticket: u32) -> usize
     ensures { (size : ℕ) → without ticket (map (queued_by size) queue.now.items)
         ≡ take result (map (queued_by size) queue.now.items) ++ drop (result + 1) (map (queued_by size) queue.now.items) }
 {
@@ -115,7 +115,7 @@ fn place_of(queue: &Waiting, ticket: u32) -> usize
 }
 
 /// The message with this ticket waits no more.
-fn withdraw(queue: &mut Waiting, ticket: u32)
+fn withdraw(queue: &mut Queue, ticket: u32)
     ensures size { queue.new.size ≡ queue.old.size }
     ensures items { (size : ℕ) → map (queued_by size) queue.new.items ≡ without ticket (map (queued_by size) queue.old.items) }
 {
@@ -141,7 +141,7 @@ fn end(tracks: &mut Streams, ticket: u32) -> Option<Rest>
 }
 
 /// The end mark of a message stands behind the other entries. There is room for it since the message took its number.
-fn push_end(outstanding: &mut Window, rest: Rest)
+fn push_end(outstanding: &mut Outstanding, rest: Rest)
     ensures items { (size : ℕ) → length outstanding.old.items < outstanding.old.capacity
         → map (item_meaning size) outstanding.new.items ≡ map (item_meaning size) outstanding.old.items ++ end_item (rest_meaning size rest) ∷ [] }
     ensures kept { length outstanding.old.items < outstanding.old.capacity → IsSameRoom outstanding.old outstanding.new }
@@ -151,15 +151,15 @@ fn push_end(outstanding: &mut Window, rest: Rest)
 }
 
 /// The end mark of a message in part.
-fn end_mark(rest: Rest) -> Outstanding
+fn end_mark(rest: Rest) -> Entry
     ensures { (size : ℕ) → item_meaning size result ≡ end_item (rest_meaning size rest) }
 {
-    Outstanding {
+    Entry {
         message: rest.message,
         number: rest.number,
         place: Place::EndMark,
         standing: Standing::Unsent,
         covered: false,
-        given_up: true,
+        abandoned: true,
     }
 }

@@ -15,9 +15,9 @@ ghost use Rattle.sctp_send.specs.inner.Newcomers.{rest_at, has_rest, one_if};
 use crate::draft::Draft;
 use crate::looking::goes_on_at;
 use crate::message::{fragments_of, shared};
+use crate::outstanding::Outstanding;
 use crate::streams::Streams;
 use crate::track::{Rest, Track};
-use crate::window::Window;
 use sctp_framing::Framing;
 use sctp_values::{NoMemory, WINDOW};
 
@@ -149,7 +149,13 @@ pub fn copied(rest: &Rest) -> Result<Rest, NoMemory>
 }
 
 /// So many indexes more keep within the window, where the stream then has a message in part or not.
-pub fn has_window(entries: &Window, tracks: &Streams, stream: u16, count: usize, more: bool) -> bool
+pub fn has_window(
+    entries: &Outstanding,
+    tracks: &Streams,
+    stream: u16,
+    count: usize,
+    more: bool,
+) -> bool
     requires { 0 < count }
     ensures fits { (size : ℕ) → size ≡ tracks.now.size → result ≡ nat_le (length entries.now.items + count + (total (λ t. one_if_rest t.rest) (map (track_meaning size) tracks.now.items) % 2 ^ 32 + one_if more))
         (WINDOW + one_if (has_rest (rest_at (map (track_meaning size) tracks.now.items) stream))) }

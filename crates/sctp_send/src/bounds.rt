@@ -80,7 +80,7 @@ pub fn begin(bounds: &mut Vec<u64>, groups: usize, earliest: u64)
 }
 
 /// The bounds of groups whose moments haven't come are these too.
-pub fn take_above(bounds: &[u64], now: u64, fresh: &mut [u64])
+pub fn keep_above(bounds: &[u64], now: u64, fresh: &mut [u64])
     ensures { (t : ℕ) → now < bound_of bounds.now t → bound_of fresh.new t ≤ bound_of bounds.now t }
 {
     for at in 0..bounds.len().min(fresh.len()) {

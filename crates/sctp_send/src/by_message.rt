@@ -1,19 +1,19 @@
-//! A window's entries message by message, in the order of their tickets: what is covered, and what is given up.
+//! The outstanding entries message by message, in the order of their tickets: what is covered, and what is abandoned.
 
 ghost use Rattle.std.specs.Prelude.{◌≡◌, ℕ, ◌<◌, map, length};
 ghost use Rattle.std.specs.VecDeque.{deque_capacity};
 ghost use Rattle.sctp_send.specs.OutstandingFields.{item_meaning};
-ghost use Rattle.sctp_send.specs.WindowKept.{IsSameRoom, at_place};
+ghost use Rattle.sctp_send.specs.PartsKept.{IsSameRoom, at_place};
 ghost use Rattle.sctp_send.specs.inner.Changes.{given, all_given};
 ghost use Rattle.sctp_send.specs.inner.Counting.{IsCounted};
 ghost use Rattle.sctp_send.specs.inner.Walks.{any_uncovered, is_item_uncovered};
 
 use crate::counts::{Counts, stand_one};
-use crate::entry::{Outstanding, unmarked};
-use crate::window::Window;
+use crate::entry::{Entry, unmarked};
+use crate::outstanding::Outstanding;
 use std::collections::VecDeque;
 
-impl Window {
+impl Outstanding {
     /// Some entry of the message with this ticket is not covered.
     pub fn some_uncovered(&self, ticket: u32) -> bool
         ensures { (size : ℕ) → result ≡ any_uncovered ticket (map (item_meaning size) self.now.items) }
@@ -29,8 +29,8 @@ impl Window {
         false
     }
 
-    /// Each entry of the message with this ticket is given up.
-    pub fn give_up(&mut self, ticket: u32)
+    /// Each entry of the message with this ticket is abandoned.
+    pub fn abandon(&mut self, ticket: u32)
         ensures items { self.new.items ≡ all_given ticket self.old.items }
         ensures kept { IsSameRoom self.old self.new }
     {
@@ -44,20 +44,14 @@ impl Window {
 }
 
 /// An entry is of the message with this ticket, and not covered.
-fn is_uncovered(entry: &Outstanding, ticket: u32) -> bool
+fn is_uncovered(entry: &Entry, ticket: u32) -> bool
     ensures { (size : ℕ) → result ≡ is_item_uncovered ticket (item_meaning size entry.now) }
 {
     entry.message.ticket == ticket && !entry.covered
 }
 
-/// An entry of the message with this ticket is given up; its mark ends.
-fn give_one(
-    entries: &mut VecDeque<Outstanding>,
-    counts: &mut Counts,
-    size: u16,
-    at: usize,
-    ticket: u32,
-)
+/// An entry of the message with this ticket is abandoned; its mark ends.
+fn give_one(entries: &mut VecDeque<Entry>, counts: &mut Counts, size: u16, at: usize, ticket: u32)
     requires within { at < length entries.old.items }
     requires counted { IsCounted size entries.old.items counts.old }
     ensures items { entries.new.items ≡ at_place (given ticket) at entries.old.items }

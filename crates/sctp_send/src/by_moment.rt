@@ -1,4 +1,4 @@
-//! Messages past their time, of a window's entries and of those that wait, and when the next one is: groups of tickets whose moments haven't come are
+//! Messages past their time, of the outstanding entries and of the queue, and when the next one is: groups of tickets whose moments haven't come are
 //! passed.
 
 ghost use Rattle.std.specs.Prelude.{◌≡◌, ℕ, ◌<◌, ◌≤◌, map, Some};
@@ -8,19 +8,19 @@ ghost use Rattle.sctp_send.specs.SenderFields.{queued_by};
 ghost use Rattle.sctp_send.specs.inner.Expiring.{sooner, late_after, soonest, item_message, item_messages, queue_messages};
 ghost use Rattle.sctp_send.specs.inner.TicketOrder.{IsOrderOf, tickets_of};
 
-use crate::bounds::{GROUPS, least, lower, replace, take_above};
+use crate::bounds::{GROUPS, keep_above, least, lower, replace};
 use crate::by_ticket::ByTicket;
 use crate::counts::moment;
-use crate::entry::Outstanding;
-use crate::late_waiting::{WAITING_GROUPS, behind, earliest_of, look_waiting};
+use crate::entry::Entry;
+use crate::late_queued::{WAITING_GROUPS, behind, earliest_of, look_queued};
 use crate::lateness;
+use crate::outstanding::Outstanding;
+use crate::queue::Queue;
 use crate::seats::{first_from, is_first_late};
-use crate::waiting::Waiting;
-use crate::window::Window;
 use crate::wishes::is_done;
 use std::collections::VecDeque;
 
-impl Waiting {
+impl Queue {
     /// The lowest ticket above the last one of messages that are past their time, or one found before.
     pub fn late(&self, last: u32, now: u64, found: Option<u32>) -> Option<u32>
         ensures { result ≡ soonest now last found (queue_messages (map (queued_by self.now.size) self.now.items)) }
@@ -66,15 +66,15 @@ impl Waiting {
         ensures { self.new ≡ self.old }
     {
         let mut fresh = [u64::MAX; WAITING_GROUPS];
-        take_above(&self.bounds, now, &mut fresh);
-        look_waiting(&self.messages, self.rises, &self.bounds, now, &mut fresh);
+        keep_above(&self.bounds, now, &mut fresh);
+        look_queued(&self.messages, self.rises, &self.bounds, now, &mut fresh);
         self.earliest = least(&fresh);
         replace(&mut self.bounds, &fresh);
     }
 }
 
-impl Window {
-    /// The lowest ticket above the last one of messages that are past their time, of entries that are neither covered nor given up; or one
+impl Outstanding {
+    /// The lowest ticket above the last one of messages that are past their time, of entries that are neither covered nor abandoned; or one
     /// found before.
     pub fn late(&self, last: u32, now: u64, found: Option<u32>) -> Option<u32>
         ensures { result ≡ soonest now last found (item_messages (map (item_meaning self.now.size) self.now.items)) }
@@ -113,7 +113,7 @@ impl Window {
         ensures { self.new ≡ self.old }
     {
         let mut fresh = [u64::MAX; GROUPS];
-        take_above(&self.bounds, now, &mut fresh);
+        keep_above(&self.bounds, now, &mut fresh);
         look_at(
             &self.entries,
             &self.by_ticket,
@@ -128,7 +128,7 @@ impl Window {
 
 /// Bounds anew: those of groups whose moments haven't come are there, and the entries of the others are looked at.
 fn look_at(
-    entries: &VecDeque<Outstanding>,
+    entries: &VecDeque<Entry>,
     by_ticket: &ByTicket,
     bounds: &[u64],
     now: u64,
@@ -151,8 +151,8 @@ fn look_at(
     }
 }
 
-/// The ticket of an entry that is neither covered nor given up, if it lies above the last one and the message is past its time.
-fn late_ticket(entry: &Outstanding, last: u32, now: u64) -> Option<u32>
+/// The ticket of an entry that is neither covered nor abandoned, if it lies above the last one and the message is past its time.
+fn late_ticket(entry: &Entry, last: u32, now: u64) -> Option<u32>
     ensures { (size : ℕ) → result ≡ late_after now last (item_message (item_meaning size entry.now)) }
 {
     if is_done(entry) {

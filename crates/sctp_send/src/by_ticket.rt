@@ -1,4 +1,4 @@
-//! The order of a window's entries by their tickets: those of one message stand side by side in it, and are found by halves.
+//! The order of the outstanding entries by their tickets: those of one message stand side by side in it, and are found by halves.
 
 ghost use Rattle.std.specs.Prelude.{◌≡◌, ℕ, ◌+◌, ◌<◌, ◌≤◌, ◌^◌, ◌++◌, ◌∷◌, [], true, List, length, slice_get, slice_index_or, Some, OnOk};
 ghost use Rattle.std.specs.VecDeque.{deque_len, deque_capacity};

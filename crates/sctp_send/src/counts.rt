@@ -4,7 +4,7 @@ ghost use Rattle.std.specs.Prelude.{◌≡◌, ℕ, ◌+◌, ◌<◌, ◌≤◌,
 ghost use Rattle.sctp_send.specs.SenderKept.{Item};
 ghost use Rattle.sctp_send.specs.OutstandingFields.{item_meaning};
 ghost use Rattle.std.specs.VecDeque.{deque_capacity};
-ghost use Rattle.sctp_send.specs.WindowKept.{at_place};
+ghost use Rattle.sctp_send.specs.PartsKept.{at_place};
 ghost use Rattle.sctp_send.specs.inner.Bounding.{bound_of, IsBounded, AreBounded};
 ghost use Rattle.sctp_send.specs.inner.Changes.{stood, as_covered, as_uncovered};
 ghost use Rattle.sctp_send.specs.inner.Counting.{entered, left, lowered, furthest, reached, moment, IsCounted};
@@ -12,7 +12,7 @@ ghost use Rattle.sctp_send.specs.inner.Walks.{abandoned_items};
 ghost use Rattle.sctp_send.specs.inner.Newcomers.{one_if};
 
 use crate::bounds::{keep, lower};
-use crate::entry::{Outstanding, Standing, unmarked};
+use crate::entry::{Entry, Standing, unmarked};
 use crate::message::moment_of;
 use crate::wishes::{is_done, is_first_sending, is_repeat, is_unsettled, weight};
 use std::collections::VecDeque;
@@ -26,11 +26,11 @@ pub struct Counts {
     pub unsent: usize,
     /// The bytes in flight.
     pub flight: u64,
-    /// How many entries went out, and are neither covered nor given up.
+    /// How many entries went out, and are neither covered nor abandoned.
     pub unsettled: u64,
-    /// Before this moment no message is past its time, of entries that are neither covered nor given up.
+    /// Before this moment no message is past its time, of entries that are neither covered nor abandoned.
     pub earliest: u64,
-    /// So many entries in front are given up.
+    /// So many entries in front are abandoned.
     pub front: usize,
 }
 
@@ -50,7 +50,7 @@ impl Counts {
     }
 
     /// One entry more counts.
-    pub fn enter(&mut self, entry: &Outstanding, size: u16)
+    pub fn enter(&mut self, entry: &Entry, size: u16)
         requires { 0 < size }
         ensures { self.new ≡ entered (item_meaning size entry.now) self.old }
     {
@@ -60,7 +60,7 @@ impl Counts {
     }
 
     /// An entry counts no more.
-    pub fn leave(&mut self, entry: &Outstanding, size: u16)
+    pub fn leave(&mut self, entry: &Entry, size: u16)
         requires { 0 < size }
         ensures { self.new ≡ left (item_meaning size entry.now) self.old }
     {
@@ -68,19 +68,19 @@ impl Counts {
         self.unsettled = self.unsettled.wrapping_sub(one_if(is_unsettled(entry)));
     }
 
-    /// What comes at an offset, behind all others, may have to go out; where it hasn't, a cursor there passes it, and where it is given up,
+    /// What comes at an offset, behind all others, may have to go out; where it hasn't, a cursor there passes it, and where it is abandoned,
     /// the count in front does.
-    pub fn reach(&mut self, at: usize, entry: &Outstanding)
+    pub fn reach(&mut self, at: usize, entry: &Entry)
         requires { at < 0xffff_ffff_ffff_ffff }
         ensures { (size : ℕ) → self.new ≡ reached at (item_meaning size entry.now) self.old }
     {
         self.marked = furthest(self.marked, at, is_repeat(entry));
         self.unsent = furthest(self.unsent, at, is_first_sending(entry));
-        self.front = furthest(self.front, at, !entry.given_up);
+        self.front = furthest(self.front, at, !entry.abandoned);
     }
 
     /// What stands at an offset may have to go out.
-    pub fn lower(&mut self, at: usize, entry: &Outstanding)
+    pub fn lower(&mut self, at: usize, entry: &Entry)
         ensures { (size : ℕ) → self.new ≡ lowered at (item_meaning size entry.now) self.old }
     {
         self.marked = lowest(self.marked, at, is_repeat(entry));
@@ -114,8 +114,8 @@ fn one_if(counts: bool) -> u64
     if counts { 1 } else { 0 }
 }
 
-/// The moment from which the message of an entry is worthless, if it has one and the entry is neither covered nor given up; else the last moment.
-pub fn moment(entry: &Outstanding) -> u64
+/// The moment from which the message of an entry is worthless, if it has one and the entry is neither covered nor abandoned; else the last moment.
+pub fn moment(entry: &Entry) -> u64
     ensures { (size : ℕ) → result ≡ moment (item_meaning size entry.now) }
 {
     if is_done(entry) {
@@ -126,7 +126,7 @@ pub fn moment(entry: &Outstanding) -> u64
 }
 
 /// An entry comes to so many others, none of which is worthless before the earliest moment.
-pub fn bound_new(bounds: &mut Vec<u64>, earliest: u64, entry: &Outstanding, others: usize)
+pub fn bound_new(bounds: &mut Vec<u64>, earliest: u64, entry: &Entry, others: usize)
     ensures others { (t m : ℕ) → earliest ≤ m → bound_of bounds.old.items t ≤ m → bound_of bounds.new.items t ≤ m }
     ensures here { IsBounded bounds.new.items entry.now }
 {
@@ -136,7 +136,7 @@ pub fn bound_new(bounds: &mut Vec<u64>, earliest: u64, entry: &Outstanding, othe
 }
 
 /// An entry changed.
-pub fn bound_again(bounds: &mut Vec<u64>, entry: &Outstanding)
+pub fn bound_again(bounds: &mut Vec<u64>, entry: &Entry)
     ensures others { (t : ℕ) → bound_of bounds.new.items t ≤ bound_of bounds.old.items t }
     ensures here { IsBounded bounds.new.items entry.now }
 {
@@ -148,17 +148,17 @@ pub fn bound_again(bounds: &mut Vec<u64>, entry: &Outstanding)
 
 /// What became of the entry at an offset; its ticket stays.
 pub fn stand_one(
-    entries: &mut VecDeque<Outstanding>,
+    entries: &mut VecDeque<Entry>,
     counts: &mut Counts,
     size: u16,
     at: usize,
     standing: Standing,
     covered: bool,
-    given_up: bool,
+    abandoned: bool,
 )
     requires within { at < length entries.old.items }
     requires counted { IsCounted size entries.old.items counts.old }
-    ensures items { entries.new.items ≡ at_place (stood standing covered given_up) at entries.old.items }
+    ensures items { entries.new.items ≡ at_place (stood standing covered abandoned) at entries.old.items }
     ensures counted { IsCounted size entries.new.items counts.new }
     ensures capacity { deque_capacity entries.new ≡ deque_capacity entries.old }
 {
@@ -166,14 +166,14 @@ pub fn stand_one(
     counts.leave(entry, size);
     entry.standing = standing;
     entry.covered = covered;
-    entry.given_up = given_up;
+    entry.abandoned = abandoned;
     counts.enter(entry, size);
     counts.lower(at, entry);
-    counts.front = front_after(counts.front, at, given_up, entries);
+    counts.front = front_after(counts.front, at, abandoned, entries);
 }
 
 /// The entry at an offset is told covered, where there is nothing to repeat: it counts no more.
-pub fn cover_one(entries: &mut VecDeque<Outstanding>, counts: &mut Counts, size: u16, at: usize)
+pub fn cover_one(entries: &mut VecDeque<Entry>, counts: &mut Counts, size: u16, at: usize)
     requires within { at < length entries.old.items }
     requires counted { IsCounted size entries.old.items counts.old }
     ensures items { entries.new.items ≡ at_place as_covered at entries.old.items }
@@ -190,7 +190,7 @@ pub fn cover_one(entries: &mut VecDeque<Outstanding>, counts: &mut Counts, size:
 
 /// The entry at an offset is told uncovered: where it was covered, it counts again.
 pub fn uncover_one(
-    entries: &mut VecDeque<Outstanding>,
+    entries: &mut VecDeque<Entry>,
     counts: &mut Counts,
     bounds: &mut Vec<u64>,
     size: u16,
@@ -213,23 +213,23 @@ pub fn uncover_one(
     bound_again(bounds, entry);
 }
 
-/// How many of the first entries are given up, where so many were before the one at an offset changed to one that is, or isn't.
-fn front_after(front: usize, at: usize, given_up: bool, entries: &VecDeque<Outstanding>) -> usize
+/// How many of the first entries are abandoned, where so many were before the one at an offset changed to one that is, or isn't.
+fn front_after(front: usize, at: usize, abandoned: bool, entries: &VecDeque<Entry>) -> usize
     requires { front ≤ length entries.now.items }
     ensures { (size : ℕ) (before : List Item) (x : Item) → front ≡ abandoned_items before → at < length before → map (item_meaning size) entries.now.items ≡ slice_set before at x
-        → x.given_up ≡ given_up → result ≡ abandoned_items (map (item_meaning size) entries.now.items) }
+        → x.abandoned ≡ abandoned → result ≡ abandoned_items (map (item_meaning size) entries.now.items) }
 {
-    if !given_up {
+    if !abandoned {
         return front.min(at);
     }
     if at != front {
         return front;
     }
-    given_up_from(front, entries)
+    abandoned_from(front, entries)
 }
 
-/// How many of the first entries are given up, where so many were before the first of all went.
-pub fn front_behind(front: usize, entries: &VecDeque<Outstanding>) -> usize
+/// How many of the first entries are abandoned, where so many were before the first of all went.
+pub fn front_behind(front: usize, entries: &VecDeque<Entry>) -> usize
     ensures { (size : ℕ) (x : Item) → front ≡ abandoned_items (x ∷ map (item_meaning size) entries.now.items)
         → result ≡ abandoned_items (map (item_meaning size) entries.now.items) }
 {
@@ -239,21 +239,21 @@ pub fn front_behind(front: usize, entries: &VecDeque<Outstanding>) -> usize
     let Some(entry) = entries.front() else {
         return 0;
     };
-    if !entry.given_up {
+    if !entry.abandoned {
         return 0;
     }
-    given_up_from(0, entries)
+    abandoned_from(0, entries)
 }
 
-/// The first offset, from one on, whose entry isn't given up; or the end.
+/// The first offset, from one on, whose entry isn't abandoned; or the end.
 #[inline(never)]
-fn given_up_from(from: usize, entries: &VecDeque<Outstanding>) -> usize
+fn abandoned_from(from: usize, entries: &VecDeque<Entry>) -> usize
     requires { from ≤ length entries.now.items }
     ensures { (size : ℕ) → result ≡ from + abandoned_items (drop from (map (item_meaning size) entries.now.items)) }
 {
     for at in from..entries.len() {
-        let given_up = entries[at].given_up;
-        if !given_up {
+        let abandoned = entries[at].abandoned;
+        if !abandoned {
             return at;
         }
     }

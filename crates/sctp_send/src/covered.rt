@@ -1,23 +1,23 @@
 //! What a SACK changes of what is covered: it is told by whole runs, so that what stays covered or uncovered costs nothing (RFC 9260, 6.2.1).
 
 ghost use Rattle.std.specs.Prelude.{◌≡◌, ℕ, ◌≤◌, true, max, length, None};
-ghost use Rattle.sctp_send.specs.WindowKept.{IsSameRoom};
+ghost use Rattle.sctp_send.specs.PartsKept.{IsSameRoom};
 ghost use Rattle.sctp_model.specs.messages.Acknowledgement.{in_blocks};
 ghost use Rattle.sctp_send.specs.CoveredRuns.{in_runs, AreInOrder, HasPassed, HoldsBlocks};
 ghost use Rattle.sctp_send.specs.inner.Acknowledging.{block_fault};
 ghost use Rattle.sctp_send.specs.inner.Changes.{all_told, told_where, is_between, in_gaps, in_alone, IsExact};
 
 use crate::entry::CoveredRun;
-use crate::outstanding::{cover, remember};
-use crate::window::Window;
+use crate::outstanding::Outstanding;
+use crate::settling::{cover, remember};
 use sctp_wire::Blocks;
 use std::mem;
 
 /// What lies in a block is covered, and nothing else; the runs are those of the blocks then. False where there are too many to keep.
 ///
 /// It costs the blocks, the runs, each once, and the entries that change; where the runs weren't known, all entries.
-pub fn take_blocks(
-    outstanding: &mut Window,
+pub fn cover_blocks(
+    outstanding: &mut Outstanding,
     covered: &mut Vec<CoveredRun>,
     spare: &mut Vec<CoveredRun>,
     is_known: bool,
@@ -36,7 +36,7 @@ pub fn take_blocks(
 
 /// What lies in a block is covered, and nothing else: by what changes, where both the old runs and the new ones are known.
 fn retell(
-    outstanding: &mut Window,
+    outstanding: &mut Outstanding,
     old: &[CoveredRun],
     new: &[CoveredRun],
     are_known: bool,
@@ -55,7 +55,7 @@ fn retell(
 }
 
 /// What lay in the old runs lies in the new ones: entries in one alone are told so.
-fn cover_anew(outstanding: &mut Window, old: &[CoveredRun], new: &[CoveredRun])
+fn cover_anew(outstanding: &mut Outstanding, old: &[CoveredRun], new: &[CoveredRun])
     ensures covered { IsExact true old.now outstanding.old.items → AreInOrder 0 new.now → outstanding.new.items ≡ all_told (in_runs new.now) 1 outstanding.old.items }
     ensures kept { IsSameRoom outstanding.old outstanding.new }
 {
@@ -64,7 +64,12 @@ fn cover_anew(outstanding: &mut Window, old: &[CoveredRun], new: &[CoveredRun])
 }
 
 /// Entries in some run, and in none of the others, are told covered, or not: both lists are gone through once, side by side.
-fn tell_alone(outstanding: &mut Window, runs: &[CoveredRun], others: &[CoveredRun], covered: bool)
+fn tell_alone(
+    outstanding: &mut Outstanding,
+    runs: &[CoveredRun],
+    others: &[CoveredRun],
+    covered: bool,
+)
     ensures items { AreInOrder 0 runs.now → AreInOrder 0 others.now → outstanding.new.items ≡ told_where covered (in_alone runs.now others.now) 1 outstanding.old.items }
     ensures kept { IsSameRoom outstanding.old outstanding.new }
 {
@@ -86,7 +91,7 @@ fn tell_alone(outstanding: &mut Window, runs: &[CoveredRun], others: &[CoveredRu
 /// Entries behind `from`, up to `to`, that lie in none of the runs are told covered, or not. The first so many runs end before, and are
 /// passed over; it answers how many end up to there.
 fn tell_gaps(
-    outstanding: &mut Window,
+    outstanding: &mut Outstanding,
     runs: &[CoveredRun],
     first: usize,
     covered: bool,
@@ -115,7 +120,7 @@ fn tell_gaps(
 }
 
 /// Entries behind `from`, up to `to`, are told covered, or not.
-fn tell_run(outstanding: &mut Window, covered: bool, from: usize, to: usize)
+fn tell_run(outstanding: &mut Outstanding, covered: bool, from: usize, to: usize)
     requires order { from ≤ to }
     requires within { to ≤ length outstanding.old.items }
     ensures items { outstanding.new.items ≡ told_where covered (is_between from to) 1 outstanding.old.items }

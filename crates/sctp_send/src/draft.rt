@@ -2,15 +2,15 @@
 
 ghost use Rattle.std.specs.Prelude.{◌≡◌, ℕ, ◌<◌, ◌≤◌, ◌+◌, ◌++◌, ◌∷◌, [], set, length, IfOk};
 ghost use Rattle.std.specs.Vec.{vec_len, vec_capacity};
-ghost use Rattle.sctp_send.specs.WindowKept.{changed};
+ghost use Rattle.sctp_send.specs.PartsKept.{changed};
 ghost use Rattle.sctp_send.specs.inner.Undoing.{parts_of, undone, origin, stands_so, waits_again, IsKeptRoom};
 
 use crate::entry::Standing;
 use crate::message::Message;
+use crate::outstanding::Outstanding;
+use crate::queue::Queue;
 use crate::streams::Streams;
 use crate::track::Track;
-use crate::waiting::Waiting;
-use crate::window::Window;
 use sctp_values::Ticket;
 use std::rc::Rc;
 
@@ -18,8 +18,8 @@ use std::rc::Rc;
 /// changed, the last change last.
 #[derive(Debug, Drop)]
 pub struct Draft {
-    pub outstanding: Window,
-    pub queue: Waiting,
+    pub outstanding: Outstanding,
+    pub queue: Queue,
     pub tracks: Streams,
     pub turn: u16,
     pub tickets: Vec<Ticket>,
@@ -71,7 +71,7 @@ pub fn note(log: &mut Vec<Change>, change: Change)
 }
 
 /// All changes are taken back, the last one first.
-pub fn take_back(draft: &mut Draft)
+pub fn undo_all(draft: &mut Draft)
     requires { length (origin draft.old).queue ≤ draft.old.queue.capacity }
     ensures parts { parts_of draft.new ≡ origin draft.old }
     ensures tickets { draft.new.tickets.items ≡ [] }
@@ -95,7 +95,7 @@ fn undo(draft: &mut Draft, change: Change)
 {
     match change {
         Change::Out { at, standing } => stand_again(&mut draft.outstanding, at, standing),
-        Change::Taken { place, message } => wait_again(&mut draft.queue, place, message),
+        Change::Taken { place, message } => queue_again(&mut draft.queue, place, message),
         Change::In {
             count,
             stream,
@@ -111,19 +111,19 @@ fn undo(draft: &mut Draft, change: Change)
 }
 
 /// The entry at an offset, where there is one, stands as before.
-fn stand_again(outstanding: &mut Window, at: usize, standing: Standing)
+fn stand_again(outstanding: &mut Outstanding, at: usize, standing: Standing)
     ensures { outstanding.new ≡ changed (stands_so standing) at outstanding.old }
 {
     if at < outstanding.len() {
         let entry = outstanding.get(at);
         let covered = entry.covered;
-        let given_up = entry.given_up;
-        outstanding.stand(at, standing, covered, given_up);
+        let abandoned = entry.abandoned;
+        outstanding.stand(at, standing, covered, abandoned);
     }
 }
 
-/// A message waits again at its place, where there is such a place.
-fn wait_again(queue: &mut Waiting, place: usize, message: Rc<Message>)
+/// A message stands in the queue again, at its place, where there is such a place.
+fn queue_again(queue: &mut Queue, place: usize, message: Rc<Message>)
     requires { place ≤ length queue.old.items → length queue.old.items < queue.old.capacity }
     ensures size { queue.new.size ≡ queue.old.size }
     ensures items { queue.new.items ≡ waits_again place message queue.old.items }

@@ -16,9 +16,9 @@ use crate::entry::Standing;
 use crate::head::Head;
 use crate::message::{Message, fragments_of, shared};
 use crate::pushing::{push_begun, push_fragment};
+use crate::queue::Queue;
 use crate::streams::Streams;
 use crate::track::{Rest, Track};
-use crate::waiting::Waiting;
 use sctp_values::{Kind, NoMemory, Ticket};
 use std::rc::Rc;
 
@@ -63,7 +63,7 @@ impl Head {
             next.count,
             self.streams,
         )?;
-        take_out(&mut draft.queue, &mut draft.log, next.place);
+        dequeue(&mut draft.queue, &mut draft.log, next.place);
         let track = count_on(&mut draft.tracks, stream, kind, rest);
         let change = Change::In {
             count: next.count,
@@ -201,8 +201,8 @@ fn leave_on(tracks: &mut Streams, stream: u16, rest: Option<Rest>) -> Track
     tracks.replace(at, next)
 }
 
-/// The message at a place of the queue waits no more; that is noted.
-fn take_out(queue: &mut Waiting, log: &mut Vec<Change>, place: usize)
+/// The message at a place leaves the queue; that is noted.
+fn dequeue(queue: &mut Queue, log: &mut Vec<Change>, place: usize)
     requires place { place < length queue.old.items }
     requires room { vec_len log.old < vec_capacity log.old }
     ensures queue { (size : ℕ) → map (queued_by size) queue.new.items ≡ without_place place (map (queued_by size) queue.old.items) }

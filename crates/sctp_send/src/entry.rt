@@ -32,20 +32,20 @@ pub fn unmarked(standing: Standing) -> Standing
 pub enum Place {
     /// A fragment of a message.
     Fragment(u32),
-    /// The end mark of a message that was given up in part.
+    /// The end mark of a message that was abandoned in part.
     EndMark,
 }
 
 /// One index above CUM: the fragment or end mark that has it, and what became of it.
 #[derive(Debug, Drop)]
-pub struct Outstanding {
+pub struct Entry {
     pub message: Rc<Message>,
     /// Its message's place in the lane (SSN or MID, as a count).
     pub number: u32,
     pub place: Place,
     pub standing: Standing,
     pub covered: bool,
-    pub given_up: bool,
+    pub abandoned: bool,
 }
 
 /// A run of entries that the peer has, by their offsets above CUM: those behind `from`, up to `to`.

@@ -7,7 +7,7 @@ ghost use Rattle.sctp_send.specs.FillAnswers.{FillAnswer, PutSomeOf};
 ghost use Rattle.sctp_send.specs.inner.Drafting.{bare, numbers_of, all_numbered, drafted, AllPut};
 ghost use Rattle.sctp_send.specs.inner.Undoing.{IsSized, IsBehind};
 
-use crate::draft::{Draft, begin_anew, take_back};
+use crate::draft::{Draft, begin_anew, undo_all};
 use crate::head::Head;
 use crate::message::Fate;
 use crate::sender::Sender;
@@ -43,7 +43,7 @@ impl<F: Framing> Sender<F> {
                 Ok(Filled { tickets })
             }
             Err(failed) => {
-                take_back(&mut self.parts);
+                undo_all(&mut self.parts);
                 Err(failed)
             }
         }

@@ -14,11 +14,11 @@ ghost use Rattle.sctp_send.specs.OutstandingFields.{item_meaning, lane_of, entri
 ghost use Rattle.sctp_send.specs.SenderStands.{StandsFor};
 ghost use Rattle.sctp_send.specs.inner.Newcomers.{one_if};
 
-use crate::entry::Outstanding;
+use crate::entry::Entry;
 use crate::lanes::{lanes_below, list_of};
+use crate::outstanding::Outstanding;
 use crate::readers::abandoned_run;
 use crate::sender::Sender;
-use crate::window::Window;
 use sctp_framing::Framing;
 use sctp_packet::PacketWriter;
 use sctp_serial::tsn_of;
@@ -81,7 +81,7 @@ impl<F: Framing> Sender<F> {
 /// more than that.
 fn skips_below<F: Framing>(
     alloc: Global,
-    outstanding: &Window,
+    outstanding: &Outstanding,
     run: u32,
     streams: u16,
     most: usize,
@@ -102,7 +102,7 @@ fn skips_below<F: Framing>(
 /// Whether a FORWARD over the first `run` entries, of the streams below `streams`, fits a packet.
 fn has_room_for<F: Framing>(
     packet: &PacketWriter,
-    outstanding: &Window,
+    outstanding: &Outstanding,
     run: u32,
     streams: u16,
 ) -> bool
@@ -117,7 +117,7 @@ fn has_room_for<F: Framing>(
 }
 
 /// How many entries a FORWARD over the first `run` entries has of the streams below `streams`.
-fn count_below<F: Framing>(outstanding: &Window, run: u32, streams: u16) -> usize
+fn count_below<F: Framing>(outstanding: &Outstanding, run: u32, streams: u16) -> usize
     requires { run ≤ length outstanding.now.items }
     ensures count { (size : ℕ) → result ≡ length (skips_below F.format (entries_of (map (item_meaning size) (take run outstanding.now.items))) streams) }
     ensures few { result ≤ 2 * streams }
@@ -131,7 +131,7 @@ fn count_below<F: Framing>(outstanding: &Window, run: u32, streams: u16) -> usiz
 }
 
 /// Whether a lane is numbered and has a number among the first `run` entries.
-fn is_listed<F: Framing>(outstanding: &Window, run: u32, stream: u16, kind: Kind) -> bool
+fn is_listed<F: Framing>(outstanding: &Outstanding, run: u32, stream: u16, kind: Kind) -> bool
     requires { run ≤ length outstanding.now.items }
     ensures { (size : ℕ) → length (skip_of F.format (entries_of (map (item_meaning size) (take run outstanding.now.items))) (lane_of stream kind)) ≡ one_if result }
 {
@@ -139,7 +139,7 @@ fn is_listed<F: Framing>(outstanding: &Window, run: u32, stream: u16, kind: Kind
 }
 
 /// The largest number of a lane among the first `run` entries.
-fn largest_in(outstanding: &Window, run: u32, stream: u16, kind: Kind) -> Option<u32>
+fn largest_in(outstanding: &Outstanding, run: u32, stream: u16, kind: Kind) -> Option<u32>
     requires { run ≤ length outstanding.now.items }
     ensures { (size : ℕ) → result
         ≡ largest_in (lane_of stream kind) None (entries_of (map (item_meaning size) (take run outstanding.now.items))) }
@@ -152,7 +152,7 @@ fn largest_in(outstanding: &Window, run: u32, stream: u16, kind: Kind) -> Option
 }
 
 /// The larger of a number, if there is one, and that of an entry, if it is of the lane.
-fn larger_with(found: Option<u32>, entry: &Outstanding, stream: u16, kind: Kind) -> Option<u32>
+fn larger_with(found: Option<u32>, entry: &Entry, stream: u16, kind: Kind) -> Option<u32>
     ensures { (size : ℕ) → result ≡ largest_in (lane_of stream kind) found ((item_meaning size entry.now).entry ∷ []) }
 {
     if entry.message.stream != stream || entry.message.kind != kind {

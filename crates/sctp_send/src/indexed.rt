@@ -6,15 +6,15 @@ ghost use Rattle.sctp_model.specs.sender.SenderView.{SenderView};
 ghost use Rattle.sctp_send.specs.SenderKept.{Item};
 ghost use Rattle.sctp_send.specs.SenderStands.{Keeps};
 ghost use Rattle.sctp_send.specs.OutstandingFields.{item_meaning};
-ghost use Rattle.sctp_send.specs.WindowKept.{changed};
+ghost use Rattle.sctp_send.specs.PartsKept.{changed};
 ghost use Rattle.sctp_send.specs.inner.Undoing.{IsSized, IsBehind};
 ghost use Rattle.sctp_send.specs.inner.Drafting.{bare, drafted, went_out, item_chunk, IsTried, PutAnswer, IsRefused, IsFlying, IsNextEntry, IsNextUnsent};
 
 use crate::draft::{Change, Draft, note};
 use crate::entry::Standing;
 use crate::head::Head;
+use crate::outstanding::Outstanding;
 use crate::pieces::{bytes_of, fits, put_fragment};
-use crate::window::Window;
 use crate::wishes::may_flow;
 use sctp_framing::Framing;
 use sctp_packet::PacketWriter;
@@ -114,12 +114,12 @@ impl Head {
 }
 
 /// An entry goes out.
-fn send_out(outstanding: &mut Window, at: usize)
+fn send_out(outstanding: &mut Outstanding, at: usize)
     requires { at < length outstanding.old.items }
     ensures { outstanding.new ≡ changed went_out at outstanding.old }
 {
     let entry = outstanding.get(at);
     let covered = entry.covered;
-    let given_up = entry.given_up;
-    outstanding.stand(at, Standing::Sent, covered, given_up);
+    let abandoned = entry.abandoned;
+    outstanding.stand(at, Standing::Sent, covered, abandoned);
 }

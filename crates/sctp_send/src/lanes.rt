@@ -10,8 +10,8 @@ ghost use Rattle.sctp_framing.specs.SkipForms.{skip_form};
 ghost use Rattle.sctp_send.specs.OutstandingFields.{item_meaning, lane_of, entries_of};
 ghost use Rattle.sctp_send.specs.inner.Lanes.{lane_key, passed_meaning, AreRising, before, noted, noted_entry};
 
-use crate::entry::Outstanding;
-use crate::window::Window;
+use crate::entry::Entry;
+use crate::outstanding::Outstanding;
 use sctp_framing::Framing;
 use sctp_values::{Kind, NoMemory};
 use sctp_wire::{Skip, put_skip};
@@ -32,7 +32,7 @@ pub struct Passed {
 /// `NoMemory`.
 pub fn lanes_below<F: Framing>(
     alloc: Global,
-    outstanding: &Window,
+    outstanding: &Outstanding,
     run: u32,
     streams: u16,
     most: usize,
@@ -57,7 +57,7 @@ pub fn lanes_below<F: Framing>(
 /// Notes the number of an entry, where its lane is numbered, and its stream one of so many.
 fn note_entry<F: Framing>(
     lanes: &mut Vec<Passed>,
-    entry: &Outstanding,
+    entry: &Entry,
     streams: u16,
 ) -> Result<(), NoMemory>
     requires { AreRising 0 (map passed_meaning lanes.old.items) }

@@ -1,4 +1,4 @@
-//! The sending end of an association: what was given to it, what has a TSN, what is acknowledged and what was given up (RFC 9260, 6; RFC
+//! The sending end of an association: what was given to it, what has a TSN, what is acknowledged and what was abandoned (RFC 9260, 6; RFC
 //! 3758, 3.5; RFC 8260, 2).
 #![tactic(auto)]
 
@@ -19,7 +19,7 @@ mod forward;
 mod head;
 mod indexed;
 mod lanes;
-mod late_waiting;
+mod late_queued;
 mod lateness;
 mod laws;
 mod looking;
@@ -31,19 +31,19 @@ mod pieces;
 mod pushing;
 mod putting;
 mod queue;
+mod queueing;
 mod readers;
 mod sack;
 mod seats;
 mod sender;
+mod settling;
 mod streams;
 mod track;
-mod waiting;
-mod window;
 mod wishes;
 
 pub use abandon::Abandoned;
 pub use fill::Filled;
-pub use queue::SendFault;
+pub use queueing::SendFault;
 pub use sack::SackFault;
 pub use sctp_values::{NoMemory, Ticket};
 pub use sender::Sender;

@@ -72,13 +72,13 @@ pub fn placed(
 #[derive(Clone, Copy, Debug, PartialEq, Eq)]
 pub enum Fate {
     /// It waits for its number.
-    Waiting,
+    Queued,
     /// It has a number.
     Numbered,
     /// It was withdrawn before it had one.
     Withdrawn,
     /// It has a number and was abandoned.
-    GivenUp,
+    Abandoned,
 }
 
 /// The same message, owned once more.

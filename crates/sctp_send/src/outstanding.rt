@@ -1,140 +1,266 @@
-//! What was assigned and isn't acknowledged cumulatively: an entry for each index, the one of CUM + 1 in front.
+//! The entries above CUM, and what is counted of them, so that no call goes over all of them for it.
 
-ghost use Rattle.std.specs.Prelude.{◌≡◌, ℕ, Bool, true, false, ◌<◌, ◌≤◌, ◌-◌, List, length, drop, None};
-ghost use Rattle.sctp_send.specs.WindowKept.{IsSameRoom, changed};
-ghost use Rattle.sctp_model.specs.messages.Acknowledgement.{in_blocks};
-ghost use Rattle.sctp_send.specs.inner.Changes.{all_told, or_run, timed, all_timed};
-ghost use Rattle.sctp_model.specs.sender.SackTaken.{some_is_bad};
-ghost use Rattle.sctp_send.specs.CoveredRuns.{run_behind, runs_behind, HoldsBlocks};
-ghost use Rattle.sctp_send.specs.inner.Acknowledging.{block_fault};
-ghost use Rattle.sctp_send.specs.declared.entry.Outstanding.{Outstanding};
+ghost use Rattle.std.specs.Prelude.{◌≡◌, ℕ, ◌+◌, ◌*◌, ◌-◌, ◌<◌, ◌≤◌, ◌%◌, ◌^◌, ◌++◌, ◌∷◌, [], take, drop, map, length, slice_index_or, OnOk, OnErr, IfSome};
+ghost use Rattle.sctp_send.specs.OutstandingFields.{item_meaning};
+ghost use Rattle.sctp_send.specs.PartsKept.{changed};
+ghost use Rattle.sctp_send.specs.inner.Changes.{stood, told};
+ghost use Rattle.sctp_send.specs.inner.Walks.{abandoned_items, any_unsettled};
+ghost use Rattle.sctp_send.specs.inner.Wishing.{first_place, is_item_marked, is_item_unsent, item_flight};
 
-use crate::entry::{CoveredRun, RUNS, Standing};
-use crate::message::{Message, lay_by};
-use crate::window::Window;
-use sctp_wire::Blocks;
+use crate::by_ticket::{ByTicket, MOST};
+use crate::counts::{
+    Counts, bound_again, bound_new, cover_one, front_behind, stand_one, uncover_one,
+};
+use crate::entry::{Entry, Standing};
+use crate::message::Message;
+use crate::wishes::{is_first_sending, is_repeat};
+use sctp_values::NoMemory;
 use std::alloc::Global;
+use std::collections::VecDeque;
+use std::marker::Model;
 use std::rc::Rc;
 
-/// A run of entries is covered: those from the offset `from` up to before the offset `to`.
-fn cover_run(outstanding: &mut Window, from: usize, to: usize)
-    requires order { from ≤ to }
-    requires within { to ≤ length outstanding.old.items }
-    ensures long { length outstanding.new.items ≡ length outstanding.old.items }
-    ensures kept { IsSameRoom outstanding.old outstanding.new }
-    ensures run { (test : ℕ → Bool) (es : List Outstanding)
-        → outstanding.old.items ≡ all_told test 1 es → outstanding.new.items ≡ all_told (or_run test from to) 1 es }
-{
-    for at in from..to {
-        outstanding.tell(at, true);
-    }
+/// An entry for each index above CUM, that of CUM + 1 in front, with counts of them, and their order by ticket.
+#[derive(Debug, Drop)]
+pub struct Outstanding {
+    // the most bytes of a fragment
+    pub(crate) size: u16,
+    pub(crate) entries: VecDeque<Entry>,
+    pub(crate) counts: Counts,
+    pub(crate) by_ticket: ByTicket,
+    // how many entries there is room for
+    pub(crate) room: usize,
+    // by groups of tickets, before which moment no message is past its time; none until a message has a time
+    pub(crate) bounds: Vec<u64>,
 }
 
-/// No entry is covered.
-fn uncover(outstanding: &mut Window)
-    ensures items { outstanding.new.items ≡ all_told (λ i. false) 1 outstanding.old.items }
-    ensures kept { IsSameRoom outstanding.old outstanding.new }
-{
-    for at in 0..outstanding.len() {
-        outstanding.tell(at, false);
-    }
+impl Model for Outstanding {
+    ghost use Rattle.sctp_send.specs.PartsKept.{OutstandingKept};
+
+    ghost Value = { OutstandingKept };
+
+    ghost use Rattle.std.specs.VecDeque.{deque_capacity};
+    ghost use Rattle.sctp_send.specs.inner.TicketOrder.{IsInOrder};
+
+    ghost view = { λ w. record { size = w.size; items = w.entries.items; capacity = w.room } };
+
+    ghost invariant = { λ w. IsInOrder w.size w.entries.items (deque_capacity w.entries) w.counts w.by_ticket w.room w.bounds.items };
 }
 
-/// What lies in a block is covered, and nothing else: what an earlier SACK covered counts no more.
-pub fn cover(outstanding: &mut Window, blocks: &Blocks<'_>)
-    requires { block_fault (length outstanding.old.items) blocks.now ≡ None }
-    ensures covered { outstanding.new.items ≡ all_told (in_blocks 0 blocks.now) 1 outstanding.old.items }
-    ensures kept { IsSameRoom outstanding.old outstanding.new }
-{
-    uncover(outstanding);
-    for block in blocks.iter() {
-        cover_run(
-            outstanding,
-            usize::from(block.start) - 1,
-            usize::from(block.end),
+impl Outstanding {
+    /// No entry, of fragments with at most so many bytes.
+    pub fn new(alloc: Global, size: u16) -> Outstanding
+        requires { 0 < size }
+        ensures size { result.size ≡ size }
+        ensures items { result.items ≡ [] }
+    {
+        Outstanding {
+            size,
+            entries: VecDeque::new(alloc),
+            counts: Counts::none(),
+            by_ticket: ByTicket::new(alloc),
+            room: 0,
+            bounds: Vec::new(alloc),
+        }
+    }
+
+    /// How many entries there are.
+    pub fn len(&self) -> usize
+        ensures { result ≡ length self.now.items }
+    {
+        self.entries.len()
+    }
+
+    /// The entry at an offset.
+    pub fn get(&self, at: usize) -> &Entry
+        requires { at < length self.now.items }
+        ensures { result.now ≡ slice_index_or self.now.items at result.now }
+    {
+        &self.entries[at]
+    }
+
+    /// The first entry that waits to be repeated.
+    pub fn first_marked(&mut self) -> Option<usize>
+        ensures same { self.new ≡ self.old }
+        ensures first { result ≡ first_place is_item_marked (map (item_meaning self.old.size) self.old.items) }
+        ensures within { IfSome result (λ at. at < length self.old.items) }
+    {
+        for at in self.counts.marked..self.entries.len() {
+            if is_repeat(&self.entries[at]) {
+                self.counts.marked = at;
+                return Some(at);
+            }
+        }
+        self.counts.marked = self.entries.len();
+        None
+    }
+
+    /// The first entry that never went out, and that the peer may need.
+    pub fn first_unsent(&mut self) -> Option<usize>
+        ensures same { self.new ≡ self.old }
+        ensures first { result ≡ first_place is_item_unsent (map (item_meaning self.old.size) self.old.items) }
+        ensures within { IfSome result (λ at. at < length self.old.items) }
+    {
+        for at in self.counts.unsent..self.entries.len() {
+            if is_first_sending(&self.entries[at]) {
+                self.counts.unsent = at;
+                return Some(at);
+            }
+        }
+        self.counts.unsent = self.entries.len();
+        None
+    }
+
+    /// How many bytes are in flight, modulo 2^64.
+    pub fn flight(&self) -> u64
+        ensures flight { result ≡ item_flight (map (item_meaning self.now.size) self.now.items) % 2 ^ 64 }
+        ensures bound { item_flight (map (item_meaning self.now.size) self.now.items) ≤ length self.now.items * 65535 }
+    {
+        self.counts.flight
+    }
+
+    /// Some entry went out, and is neither covered nor abandoned.
+    pub fn is_unsettled(&self) -> bool
+        ensures { result ≡ any_unsettled (map (item_meaning self.now.size) self.now.items) }
+    {
+        self.counts.unsettled > 0
+    }
+
+    /// How many of the first entries are abandoned.
+    pub fn front(&self) -> usize
+        ensures { (size : ℕ) → result ≡ abandoned_items (map (item_meaning size) self.now.items) }
+    {
+        self.counts.front
+    }
+
+    /// Room for so many entries more.
+    ///
+    /// # Errors
+    /// `NoMemory`. It comes only where there is no such room.
+    pub fn reserve(&mut self, more: usize) -> Result<(), NoMemory>
+        ensures size { self.new.size ≡ self.old.size }
+        ensures items { self.new.items ≡ self.old.items }
+        ensures capacity { self.old.capacity ≤ self.new.capacity }
+        ensures room { OnOk result (length self.new.items + more ≤ self.new.capacity) }
+        ensures in_place { length self.old.items + more ≤ self.old.capacity → self.new ≡ self.old }
+        ensures refused { OnErr result (self.old.capacity < length self.old.items + more) }
+    {
+        if more <= self.room - self.entries.len() {
+            return Ok(());
+        }
+        self.entries.reserve(more).map_err(|_| NoMemory)?;
+        self.by_ticket.reserve(more)?;
+        self.room = self
+            .entries
+            .capacity()
+            .min(self.by_ticket.capacity())
+            .min(MOST);
+        if more <= self.room - self.entries.len() {
+            Ok(())
+        } else {
+            Err(NoMemory)
+        }
+    }
+
+    /// One entry more, behind the others.
+    ///
+    /// # Errors
+    /// `NoMemory`: there is no entry more. It comes only where there is no room.
+    pub fn push(&mut self, entry: Entry) -> Result<(), NoMemory>
+        ensures size { self.new.size ≡ self.old.size }
+        ensures items { OnOk result (self.new.items ≡ self.old.items ++ entry ∷ []) }
+        ensures unchanged { OnErr result (self.new.items ≡ self.old.items) }
+        ensures capacity { self.old.capacity ≤ self.new.capacity }
+        ensures in_place { length self.old.items < self.old.capacity → self.new ≡ record self.old { items = self.old.items ++ entry ∷ [] } }
+    {
+        self.reserve(1)?;
+        self.put(entry);
+        Ok(())
+    }
+
+    /// One entry more, behind the others, for which there is room.
+    fn put(&mut self, entry: Entry)
+        requires { length self.old.items < self.old.capacity }
+        ensures { self.new ≡ record self.old { items = self.old.items ++ entry ∷ [] } }
+    {
+        let others = self.entries.len();
+        bound_new(&mut self.bounds, self.counts.earliest, &entry, others);
+        self.counts.enter(&entry, self.size);
+        self.counts.reach(others, &entry);
+        self.by_ticket.push(entry.message.ticket);
+        self.entries.push_back_reserved(entry);
+    }
+
+    /// The first entry goes, where there is one. It answers the message of that.
+    pub fn pop_front(&mut self) -> Option<Rc<Message>>
+        ensures { self.new ≡ record self.old { items = drop 1 self.old.items } }
+    {
+        if let Some(entry) = self.entries.pop_front() {
+            self.by_ticket.pop_front(entry.message.ticket);
+            self.counts.leave(&entry, self.size);
+            self.counts.marked = self.counts.marked.saturating_sub(1);
+            self.counts.unsent = self.counts.unsent.saturating_sub(1);
+            self.counts.front = front_behind(self.counts.front, &self.entries);
+            let Entry { message, .. } = entry;
+            return Some(message);
+        }
+        None
+    }
+
+    /// The last entry goes, where there is one.
+    fn pop_back(&mut self)
+        ensures { self.new ≡ record self.old { items = take (length self.old.items - 1) self.old.items } }
+    {
+        if let Some(entry) = self.entries.pop_back() {
+            self.by_ticket.pop_back(entry.message.ticket);
+            self.counts.leave(&entry, self.size);
+            self.counts.marked = self.counts.marked.min(self.entries.len());
+            self.counts.unsent = self.counts.unsent.min(self.entries.len());
+            self.counts.front = self.counts.front.min(self.entries.len());
+        }
+    }
+
+    /// The entries behind the first so many go.
+    pub fn truncate(&mut self, many: usize)
+        ensures { self.new ≡ record self.old { items = take many self.old.items } }
+    {
+        for _ in many..self.len() {
+            self.pop_back();
+        }
+    }
+
+    /// What became of the entry at an offset.
+    pub fn stand(&mut self, at: usize, standing: Standing, covered: bool, abandoned: bool)
+        requires { at < length self.old.items }
+        ensures { self.new ≡ changed (stood standing covered abandoned) at self.old }
+    {
+        stand_one(
+            &mut self.entries,
+            &mut self.counts,
+            self.size,
+            at,
+            standing,
+            covered,
+            abandoned,
         );
+        bound_again(&mut self.bounds, &self.entries[at]);
     }
-}
 
-/// The first entries go: so many are acknowledged cumulatively. What they leave is laid by for messages to come.
-pub fn forget(outstanding: &mut Window, spent: &mut Vec<Rc<Message>>, alloc: Global, passed: usize)
-    requires { passed ≤ length outstanding.old.items }
-    ensures items { outstanding.new.items ≡ drop passed outstanding.old.items }
-    ensures kept { IsSameRoom outstanding.old outstanding.new }
-{
-    for _ in 0..passed {
-        if let Some(message) = outstanding.pop_front() {
-            lay_by(spent, alloc, message);
+    /// The entry at an offset is told covered, where there is nothing to repeat, or not.
+    pub fn tell(&mut self, at: usize, covered: bool)
+        requires { at < length self.old.items }
+        ensures { self.new ≡ changed (told covered) at self.old }
+    {
+        if covered {
+            cover_one(&mut self.entries, &mut self.counts, self.size, at);
+            return;
         }
-    }
-}
-
-/// The runs as seen from so many entries further on.
-pub fn move_on(runs: &mut Vec<CoveredRun>, passed: usize)
-    ensures { runs.new.items ≡ runs_behind passed runs.old.items }
-{
-    for at in 0..runs.len() {
-        runs[at] = run_behind(runs[at], passed);
-    }
-}
-
-/// A run as seen from so many entries further on.
-fn run_behind(run: CoveredRun, passed: usize) -> CoveredRun
-    ensures { result ≡ run_behind passed run }
-{
-    CoveredRun {
-        from: less(run.from, passed),
-        to: less(run.to, passed),
-    }
-}
-
-/// An offset less so many entries; 0 where it is no more than they are.
-fn less(offset: u16, passed: usize) -> u16
-    ensures { result ≡ offset - passed }
-{
-    if passed < usize::from(offset) {
-        offset - passed as u16
-    } else {
-        0
-    }
-}
-
-/// Keeps what blocks cover, in place of what was kept; false where they are too many.
-pub fn remember(runs: &mut Vec<CoveredRun>, blocks: &Blocks<'_>) -> bool
-    requires { some_is_bad 0 blocks.now ≡ false }
-    ensures { result ≡ true → HoldsBlocks runs.new.items blocks.now }
-{
-    runs.clear();
-    for block in blocks.iter() {
-        let run = CoveredRun {
-            from: block.start.saturating_sub(1),
-            to: block.end,
-        };
-        if runs.len() >= RUNS || runs.push(run).is_err() {
-            return false;
-        }
-    }
-    true
-}
-
-/// An entry that the peer may still need is marked.
-fn time_one(outstanding: &mut Window, at: usize)
-    requires { at < length outstanding.old.items }
-    ensures { outstanding.new ≡ changed timed at outstanding.old }
-{
-    let entry = outstanding.get(at);
-    let needed = !entry.covered && !entry.given_up;
-    if needed && entry.standing == Standing::Sent {
-        outstanding.stand(at, Standing::Marked, false, false);
-    }
-}
-
-/// Each entry that the peer may still need is marked.
-pub fn mark_unsettled(outstanding: &mut Window)
-    ensures items { outstanding.new.items ≡ all_timed outstanding.old.items }
-    ensures kept { IsSameRoom outstanding.old outstanding.new }
-{
-    for at in 0..outstanding.len() {
-        time_one(outstanding, at);
+        uncover_one(
+            &mut self.entries,
+            &mut self.counts,
+            &mut self.bounds,
+            self.size,
+            at,
+        );
     }
 }

@@ -8,7 +8,7 @@ ghost use Rattle.sctp_send.specs.declared.ordered.Pair.{Pair};
 
 use crate::bounds::passed;
 use crate::ordered::{Ordered, Pair};
-use crate::seats::take_seat;
+use crate::seats::add_seat;
 use sctp_values::NoMemory;
 use std::alloc::Global;
 
@@ -175,8 +175,8 @@ impl PartLists {
             first: ticket,
             second: stream,
         };
-        let has_one = take_seat(&mut self.by_stream, self.is_listed, one);
-        self.is_listed = take_seat(&mut self.by_ticket, has_one, other);
+        let has_one = add_seat(&mut self.by_stream, self.is_listed, one);
+        self.is_listed = add_seat(&mut self.by_ticket, has_one, other);
     }
 }
 

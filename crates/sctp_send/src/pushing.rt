@@ -2,20 +2,20 @@
 
 ghost use Rattle.std.specs.Prelude.{◌≡◌, ℕ, ◌+◌, ◌-◌, ◌<◌, ◌≤◌, ◌^◌, ◌∷◌, [], ◌++◌, map, take, length, OnOk, OnErr};
 ghost use Rattle.sctp_send.specs.OutstandingFields.{item_meaning, lane_meaning, message_meaning};
-ghost use Rattle.sctp_send.specs.WindowKept.{IsSameRoom};
+ghost use Rattle.sctp_send.specs.PartsKept.{IsSameRoom};
 ghost use Rattle.sctp_send.specs.inner.Newcomers.{begun_items};
 ghost use Rattle.sctp_send.specs.inner.Drafting.{fragment_item};
 ghost use Rattle.sctp_model.specs.numbers.Limits.{WINDOW};
 
-use crate::entry::{Outstanding, Place, Standing};
+use crate::entry::{Entry, Place, Standing};
 use crate::message::{Message, shared};
-use crate::window::Window;
+use crate::outstanding::Outstanding;
 use sctp_values::NoMemory;
 use std::rc::Rc;
 
 /// A fragment takes the next index.
 pub fn push_fragment(
-    outstanding: &mut Window,
+    outstanding: &mut Outstanding,
     message: &Rc<Message>,
     number: u32,
     fragment: u32,
@@ -35,7 +35,7 @@ pub fn push_fragment(
 
 /// A fragment takes the next index, with a message that nothing else is to have from here.
 fn push_owned(
-    outstanding: &mut Window,
+    outstanding: &mut Outstanding,
     message: Rc<Message>,
     number: u32,
     fragment: u32,
@@ -50,20 +50,20 @@ fn push_owned(
     ensures capacity { outstanding.old.capacity ≤ outstanding.new.capacity }
     ensures in_place { length outstanding.old.items < outstanding.old.capacity → outstanding.new.capacity ≡ outstanding.old.capacity }
 {
-    let entry = Outstanding {
+    let entry = Entry {
         message,
         number,
         place: Place::Fragment(fragment),
         standing,
         covered: false,
-        given_up: false,
+        abandoned: false,
     };
     outstanding.push(entry)
 }
 
 /// The first fragments of a message take the next indexes, and there is room for so many entries more than them; or no entry came.
 pub fn push_begun(
-    outstanding: &mut Window,
+    outstanding: &mut Outstanding,
     message: Rc<Message>,
     number: u32,
     count: usize,
@@ -96,7 +96,7 @@ pub fn push_begun(
 
 /// The first fragments of a message take the next indexes, as far as memory goes; the very first of them goes out.
 fn push_fragments(
-    outstanding: &mut Window,
+    outstanding: &mut Outstanding,
     message: &Rc<Message>,
     number: u32,
     count: usize,

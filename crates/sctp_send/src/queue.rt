@@ -1,139 +1,214 @@
-//! Messages handed in: refused for the first reason that holds, or queued (RFC 9260, 6.9).
+//! The messages that wait for their numbers, the first to come in front, and what is counted of them.
 
-ghost use Rattle.std.specs.Prelude.{◌≡◌, ℕ, ◌++◌, ◌∷◌, [], map, OnOk, OnErr, IfErr};
-ghost use Rattle.sctp_model.specs.sender.SenderView.{SenderView};
-ghost use Rattle.sctp_model.specs.sender.Queueing.{promised};
-ghost use Rattle.sctp_send.specs.OutstandingFields.{queued_meaning};
+ghost use Rattle.std.specs.Prelude.{◌≡◌, ℕ, ◌+◌, ◌<◌, ◌≤◌, ◌%◌, ◌^◌, ◌↔◌, ◌++◌, ◌∷◌, [], map, length, insert, remove, slice_index_or, OnOk, OnErr, OnSome, IsSome, IfSome, IfNone};
+ghost use Rattle.std.specs.VecDeque.{deque_len, deque_capacity};
+ghost use Rattle.sctp_model.specs.sender.Queueing.{owed_by_queue};
 ghost use Rattle.sctp_send.specs.SenderFields.{queued_by};
-ghost use Rattle.sctp_send.specs.declared.queue.SendFault.TheVariants.{NoMemory};
-ghost use Rattle.sctp_send.specs.SenderStands.{StandsFor};
-ghost use Rattle.sctp_send.specs.SenderAnswers.{QueueAnswer, queue_after, lane_for};
+ghost use Rattle.sctp_send.specs.inner.Seating.{AreLower, NextOnAnswer};
 
-use crate::message::{Fate, Message, fragments_of, owed, placed};
-use crate::sender::Sender;
-use crate::waiting::Waiting;
-use sctp_framing::Framing;
-use sctp_values::{Kind, LONGEST_MESSAGE, QUEUE_LIMIT, TICKET_LIMIT, TSN_LIMIT, Ticket};
+use crate::late_queued::bound;
+use crate::message::{Message, moment_of, owed_by_message};
+use crate::ordered::{Ordered, Pair};
+use crate::seats::{
+    Found, add_seat, first_from, fits_at, is_in_front, make_room, next_by_looking, seat_of,
+};
+use sctp_values::NoMemory;
 use std::alloc::Global;
+use std::collections::VecDeque;
+use std::marker::Model;
 use std::rc::Rc;
-use thiserror::Error;
 
-/// Why a message is not accepted: the first reason that holds, in this order.
-#[derive(Clone, Copy, Debug, PartialEq, Eq, Error)]
-pub enum SendFault {
-    /// The stream's number isn't below the number of streams.
-    #[error("there is no such stream")]
-    NoSuchStream,
-    /// The message has no byte.
-    #[error("the message is empty")]
-    Empty,
-    /// The message has more than 65,536 bytes.
-    #[error("the message is too long")]
-    TooLong,
-    /// As many messages wait for a number as may.
-    #[error("too many messages wait")]
-    QueueFull,
-    /// There is no ticket left, or the TSNs assigned and owed would be too many.
-    #[error("no more messages can be numbered")]
-    Spent,
-    /// Memory ran out.
-    #[error("out of memory")]
-    NoMemory,
+/// The messages without a number, with counts of them.
+#[derive(Debug, Drop)]
+pub struct Queue {
+    // the most bytes of a fragment
+    pub(crate) size: u16,
+    pub(crate) messages: VecDeque<Rc<Message>>,
+    // the TSNs that they may take, modulo 2^64
+    pub(crate) owed: u64,
+    // before this moment no message is past its time
+    pub(crate) earliest: u64,
+    // tickets rise from the front on: so it is where `queue` gives them
+    pub(crate) rises: bool,
+    // where streams take turns, each message by its stream and its ticket
+    pub(crate) seats: Ordered,
+    pub(crate) is_seated: bool,
+    // by groups of tickets, before which moment no message is past its time; none until many wait, and one of them has a time
+    pub(crate) bounds: Vec<u64>,
 }
 
-#[tactic(auto, unfolding(crate::specs::SenderStands::StandsFor))]
-impl<F: Framing> Sender<F> {
-    /// Accepts a message for a stream: `until` is the moment from which it is worthless, in milliseconds. It is cut into fragments of the
-    /// configured size, and waits for its number. A refusal drops the bytes.
+impl Model for Queue {
+    ghost use Rattle.std.specs.VecDeque.{deque_capacity};
+    ghost use Rattle.sctp_send.specs.PartsKept.{QueueKept};
+
+    ghost Value = { QueueKept };
+
+    ghost use Rattle.sctp_send.specs.inner.Seating.{IsQueueOf};
+
+    ghost view = { λ w. record { size = w.size; items = w.messages.items; capacity = deque_capacity w.messages } };
+
+    ghost invariant = { λ w. IsQueueOf w.size w.messages.items w.owed w.earliest w.rises w.is_seated w.seats.items w.bounds.items };
+}
+
+impl Queue {
+    /// No message, of fragments with at most so many bytes; streams take turns, or don't.
+    pub fn new(alloc: Global, size: u16, takes_turns: bool) -> Queue
+        requires { 0 < size }
+        ensures size { result.size ≡ size }
+        ensures items { result.items ≡ [] }
+    {
+        let messages = VecDeque::new(alloc);
+        let seats = Ordered::new(alloc);
+        Queue {
+            size,
+            messages,
+            owed: 0,
+            earliest: u64::MAX,
+            rises: true,
+            seats,
+            is_seated: takes_turns,
+            bounds: Vec::new(alloc),
+        }
+    }
+
+    /// How many messages wait.
+    pub fn len(&self) -> usize
+        ensures len { result ≡ length self.now.items }
+        ensures within { length self.now.items ≤ self.now.capacity }
+    {
+        self.messages.len()
+    }
+
+    /// The message at a place.
+    pub fn get(&self, at: usize) -> &Rc<Message>
+        requires { at < length self.now.items }
+        ensures { result.now ≡ slice_index_or self.now.items at result.now }
+    {
+        &self.messages[at]
+    }
+
+    /// The TSNs that the messages may take, modulo 2^64.
+    pub fn owed(&self) -> u64
+        ensures { result ≡ owed_by_queue (map (queued_by self.now.size) self.now.items) % 2 ^ 64 }
+    {
+        self.owed
+    }
+
+    /// A message waits behind the others.
     ///
     /// # Errors
-    /// The first reason of `SendFault` that holds; nothing changes then.
-    pub fn queue(
-        &mut self,
-        stream: u16,
-        ordered: bool,
-        payload_id: u32,
-        bytes: Vec<u8>,
-        until: Option<u64>,
-    ) -> Result<Ticket, SendFault>
-        ensures answer { (v : SenderView) → StandsFor F.format self.old v → QueueAnswer v stream bytes.items result }
-        ensures step { (v : SenderView) → StandsFor F.format self.old v
-            → StandsFor F.format self.new (queue_after v (lane_for stream ordered) payload_id bytes.items until result) }
+    /// `NoMemory`: it doesn't wait.
+    pub fn push(&mut self, message: Rc<Message>) -> Result<(), NoMemory>
+        ensures size { self.new.size ≡ self.old.size }
+        ensures items { OnOk result (self.new.items ≡ self.old.items ++ message ∷ []) }
+        ensures unchanged { OnErr result (self.new.items ≡ self.old.items) }
     {
-        if stream >= self.head.streams {
-            return Err(SendFault::NoSuchStream);
-        }
-        if bytes.len() == 0 {
-            return Err(SendFault::Empty);
-        }
-        if bytes.len() > LONGEST_MESSAGE {
-            return Err(SendFault::TooLong);
-        }
-        if self.parts.queue.len() >= QUEUE_LIMIT {
-            return Err(SendFault::QueueFull);
-        }
-        let promised = self.promised();
-        let more = owed(fragments_of(self.head.fragment, &bytes));
-        let given = self.head.fates.len();
-        if given >= TICKET_LIMIT as usize {
-            return Err(SendFault::Spent);
-        }
-        if promised.wrapping_add(more) > u64::from(TSN_LIMIT) {
-            return Err(SendFault::Spent);
-        }
-        match self.head.fates.reserve(1) {
+        let owed = owed_by_message(&message, self.size);
+        let moment = moment_of(&message);
+        let seat = seat_of(&message);
+        let behind = self.messages.len();
+        let fits = fits_at(&self.messages, self.rises, behind, seat.second);
+        make_room(&mut self.seats, self.is_seated)?;
+        bound(&mut self.bounds, self.earliest, &message, behind);
+        match self.messages.push_back(message) {
             Ok(()) => {}
-            Err(_) => return Err(SendFault::NoMemory),
+            Err(_) => return Err(NoMemory),
         }
-        let ticket = given as u32 + 1;
-        let message = Message {
-            ticket,
-            stream,
-            kind: Kind::of_flag(!ordered),
-            payload_id,
-            until,
-            bytes,
-        };
-        wait_behind(
-            &mut self.parts.queue,
-            &mut self.head.spent,
-            self.head.alloc,
-            message,
-        )?;
-        // There is room for it.
-        self.head.fates.push_reserved(Fate::Waiting);
-        Ok(Ticket(ticket))
+        self.owed = self.owed.wrapping_add(owed);
+        self.earliest = self.earliest.min(moment);
+        self.rises = fits;
+        self.is_seated = add_seat(&mut self.seats, self.is_seated, seat);
+        Ok(())
     }
 
-    /// The TSNs assigned, and those that the accepted messages may still take.
-    fn promised(&self) -> u64
-        ensures { (v : SenderView) → StandsFor F.format self.now v → result ≡ promised v }
+    /// The message at a place waits no more, where there is one.
+    pub fn remove(&mut self, place: usize) -> Option<Rc<Message>>
+        ensures some { place < length self.old.items → self.new ≡ record self.old { items = remove self.old.items place } }
+        ensures message { IfSome result (λ message. (place < length self.old.items) × (message ≡ slice_index_or self.old.items place message)) }
+        ensures none { IfNone result ((length self.old.items ≤ place) × (self.new ≡ self.old)) }
     {
-        u64::from(self.head.cum)
-            .wrapping_add(self.parts.outstanding.len() as u64)
-            .wrapping_add(self.parts.queue.owed())
-            .wrapping_add(self.parts.tracks.owed())
+        let message = remove_at(&mut self.messages, place)?;
+        let owed = owed_by_message(&message, self.size);
+        self.owed = self.owed.wrapping_sub(owed);
+        let seat = seat_of(&message);
+        self.seats.remove(seat);
+        Some(message)
+    }
+
+    /// A message waits again at its place, where there is room since it went.
+    pub fn put_back(&mut self, place: usize, message: Rc<Message>)
+        requires place { place ≤ length self.old.items }
+        requires room { length self.old.items < self.old.capacity }
+        ensures size { self.new.size ≡ self.old.size }
+        ensures items { self.new.items ≡ insert self.old.items place message }
+        ensures capacity { self.old.capacity ≤ self.new.capacity }
+    {
+        let owed = owed_by_message(&message, self.size);
+        let moment = moment_of(&message);
+        let seat = seat_of(&message);
+        let fits = fits_at(&self.messages, self.rises, place, seat.second);
+        bound(&mut self.bounds, self.earliest, &message, 0);
+        match self.messages.insert(place, message) {
+            Ok(()) => {}
+            Err(_) => return,
+        }
+        self.owed = self.owed.wrapping_add(owed);
+        self.earliest = self.earliest.min(moment);
+        self.rises = fits;
+        self.is_seated = add_seat(&mut self.seats, self.is_seated, seat);
+    }
+
+    /// How many of the first messages have lower tickets, where tickets rise; else none.
+    pub fn first_from(&self, ticket: u32) -> usize
+        ensures lower { AreLower ticket result self.now.items }
+        ensures within { result ≤ length self.now.items }
+    {
+        first_from(&self.messages, self.rises, ticket)
+    }
+
+    /// The first stream from one on, below another, on which a message waits, and the place of the message that has waited longest on it.
+    pub fn next_on(&self, from: u16, below: u16) -> Option<Found>
+        ensures next { (size : ℕ) → NextOnAnswer from below (map (queued_by size) self.now.items) result }
+        ensures within { IfSome result (λ found. found.place < length self.now.items) }
+    {
+        if is_in_front(&self.messages, from, below) {
+            return Some(Found {
+                stream: from,
+                place: 0,
+            });
+        }
+        let (rises, is_seated) = (self.rises, self.is_seated);
+        if !rises || !is_seated {
+            return next_by_looking(&self.messages, from, below);
+        }
+        let at = self.seats.place_of(Pair {
+            first: u32::from(from),
+            second: 0,
+        });
+        if at >= self.seats.len() {
+            return None;
+        }
+        let seat = self.seats.get(at);
+        let place = first_from(&self.messages, rises, seat.second);
+        let message = &self.messages[place];
+        let stream = message.stream;
+        if stream >= below {
+            return None;
+        }
+        Some(Found { stream, place })
     }
 }
 
-/// A message waits behind the others.
-fn wait_behind(
-    queue: &mut Waiting,
-    spent: &mut Vec<Rc<Message>>,
-    alloc: Global,
-    message: Message,
-) -> Result<(), SendFault>
-    ensures size { queue.new.size ≡ queue.old.size }
-    ensures waits { (size : ℕ) → OnOk result (map (queued_by size) queue.new.items ≡ map (queued_by size) queue.old.items ++ queued_meaning size message ∷ []) }
-    ensures unchanged { OnErr result (queue.new.items ≡ queue.old.items) }
-    ensures memory { IfErr result (λ fault. fault ≡ NoMemory) }
+/// The message at a place goes, where there is one. The first one moves no other.
+fn remove_at(messages: &mut VecDeque<Rc<Message>>, place: usize) -> Option<Rc<Message>>
+    ensures value { IfSome result (λ message. message ≡ slice_index_or messages.old.items place message) }
+    ensures items { OnSome result (messages.new.items ≡ remove messages.old.items place) }
+    ensures variant { IsSome result ↔ (place < deque_len messages.old) }
+    ensures unchanged { IfNone result (messages.new ≡ messages.old) }
+    ensures capacity { deque_capacity messages.new ≡ deque_capacity messages.old }
 {
-    let message = match placed(spent, alloc, message) {
-        Ok(message) => message,
-        Err(_) => return Err(SendFault::NoMemory),
-    };
-    match queue.push(message) {
-        Ok(()) => Ok(()),
-        Err(_) => Err(SendFault::NoMemory),
+    if place > 0 || messages.is_empty() {
+        return messages.remove(place);
     }
+    messages.pop_front()
 }

@@ -7,12 +7,12 @@ ghost use Rattle.sctp_model.specs.sender.Readers.{point, unsettled, drained, out
 ghost use Rattle.sctp_send.specs.OutstandingFields.{item_meaning};
 ghost use Rattle.sctp_send.specs.SenderFields.{track_meaning};
 ghost use Rattle.sctp_send.specs.SenderStands.{StandsFor};
-ghost use Rattle.sctp_send.specs.inner.Walks.{total, one_if_rest, abandoned_items, any_unsettled, is_item_unsettled, is_given_up_fate, is_numbered_fate, any_uncovered, any_rest};
+ghost use Rattle.sctp_send.specs.inner.Walks.{total, one_if_rest, abandoned_items, any_unsettled, is_item_unsettled, is_abandoned_fate, is_numbered_fate, any_uncovered, any_rest};
 
 use crate::message::Fate;
+use crate::outstanding::Outstanding;
 use crate::sender::Sender;
 use crate::streams::Streams;
-use crate::window::Window;
 use sctp_framing::Framing;
 use sctp_values::Ticket;
 
@@ -104,17 +104,17 @@ impl<F: Framing> Sender<F> {
             return false;
         }
         let fate = self.head.fates[at - 1];
-        is_given_up(fate)
+        was_abandoned(fate)
     }
 }
 
 /// The message has a number and was abandoned.
-fn is_given_up(fate: Fate) -> bool
-    ensures { result ≡ is_given_up_fate fate }
+fn was_abandoned(fate: Fate) -> bool
+    ensures { result ≡ is_abandoned_fate fate }
 {
     match fate {
-        Fate::GivenUp => true,
-        Fate::Waiting | Fate::Numbered | Fate::Withdrawn => false,
+        Fate::Abandoned => true,
+        Fate::Queued | Fate::Numbered | Fate::Withdrawn => false,
     }
 }
 
@@ -124,12 +124,12 @@ fn is_numbered(fate: Fate) -> bool
 {
     match fate {
         Fate::Numbered => true,
-        Fate::Waiting | Fate::Withdrawn | Fate::GivenUp => false,
+        Fate::Queued | Fate::Withdrawn | Fate::Abandoned => false,
     }
 }
 
 /// All of the message with this ticket is assigned and covered.
-pub fn is_all_covered(tracks: &Streams, outstanding: &Window, ticket: u32) -> bool
+pub fn is_all_covered(tracks: &Streams, outstanding: &Outstanding, ticket: u32) -> bool
     ensures { (size : ℕ) → result
         ≡ (not (any_rest ticket (map (track_meaning size) tracks.now.items)) && not (any_uncovered ticket (map (item_meaning size) outstanding.now.items))) }
 {
@@ -147,14 +147,14 @@ fn is_in_part(tracks: &Streams, ticket: u32) -> bool
 }
 
 /// How many entries there are.
-fn count_of(outstanding: &Window) -> u32
+fn count_of(outstanding: &Outstanding) -> u32
     ensures { result ≡ length outstanding.now.items % 2 ^ 32 }
 {
     (outstanding.len() % 0x1_0000_0000) as u32
 }
 
 /// How many of the first entries are of abandoned messages.
-pub fn abandoned_run(outstanding: &Window) -> u32
+pub fn abandoned_run(outstanding: &Outstanding) -> u32
     ensures { (size : ℕ) → result ≡ abandoned_items (map (item_meaning size) outstanding.now.items) % 2 ^ 32 }
 {
     (outstanding.front() % 0x1_0000_0000) as u32

@@ -9,9 +9,9 @@ ghost use Rattle.sctp_send.specs.SenderStands.{StandsFor};
 ghost use Rattle.sctp_send.specs.SenderAnswers.{reason_meaning};
 ghost use Rattle.sctp_send.specs.inner.Acknowledging.{PassingAnswer};
 
-use crate::covered::take_blocks;
-use crate::outstanding::{forget, mark_unsettled, move_on};
+use crate::covered::cover_blocks;
 use crate::sender::Sender;
+use crate::settling::{forget, mark_unsettled, move_on};
 use sctp_framing::Framing;
 use sctp_serial::{S32, Serial, tsn_of};
 use sctp_wire::{Blocks, Sack};
@@ -57,7 +57,7 @@ impl<F: Framing> Sender<F> {
             passed as usize,
         );
         move_on(&mut self.head.covered, passed as usize);
-        self.head.is_known = take_blocks(
+        self.head.is_known = cover_blocks(
             &mut self.parts.outstanding,
             &mut self.head.covered,
             &mut self.head.spare,

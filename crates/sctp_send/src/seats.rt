@@ -80,7 +80,7 @@ pub fn make_room(seats: &mut Ordered, is_seated: bool) -> Result<(), NoMemory>
 }
 
 /// A seat is taken, where the seats are kept and there is memory for it: whether they still are those of all messages.
-pub fn take_seat(seats: &mut Ordered, is_seated: bool, seat: Pair) -> bool
+pub fn add_seat(seats: &mut Ordered, is_seated: bool, seat: Pair) -> bool
     ensures kept { result ≡ true → is_seated ≡ true }
     ensures seats { result ≡ true → seats.new.items ≡ insert seats.old.items (before key (key seat) seats.old.items) seat }
 {

@@ -10,9 +10,9 @@ use crate::draft::Draft;
 use crate::entry::RUNS;
 use crate::head::Head;
 use crate::message::SPENT;
+use crate::outstanding::Outstanding;
+use crate::queue::Queue;
 use crate::streams::Streams;
-use crate::waiting::Waiting;
-use crate::window::Window;
 use sctp_framing::Framing;
 use sctp_values::NoMemory;
 use std::alloc::Global;
@@ -100,8 +100,8 @@ impl<F: Framing> Sender<F> {
             },
             parts: Draft {
                 // what is outstanding, by offset from CUM + 1
-                outstanding: Window::new(alloc, fragment),
-                queue: Waiting::new(alloc, fragment, F::takes_turns()),
+                outstanding: Outstanding::new(alloc, fragment),
+                queue: Queue::new(alloc, fragment, F::takes_turns()),
                 tracks,
                 turn: 0,
                 tickets: Vec::new(alloc),

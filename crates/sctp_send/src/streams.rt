@@ -6,7 +6,7 @@ ghost use Rattle.sctp_send.specs.inner.Walks.{total, one_if_rest, rest_owes, any
 ghost use Rattle.sctp_send.specs.inner.Newcomers.{IsNextPart};
 ghost use Rattle.sctp_send.specs.inner.Expiring.{soonest, rest_messages};
 
-use crate::bounds::{GROUPS, least, replace, take_above};
+use crate::bounds::{GROUPS, keep_above, least, replace};
 use crate::looking::{
     bound_left, bound_listed, earliest_by_looking, late_by_looking, late_listed, moment_of_track,
     next_part_by_looking, stream_by_looking, ticket_of_track,
@@ -37,7 +37,7 @@ pub struct Streams {
 }
 
 impl Model for Streams {
-    ghost use Rattle.sctp_send.specs.WindowKept.{StreamsKept};
+    ghost use Rattle.sctp_send.specs.PartsKept.{StreamsKept};
 
     ghost Value = { StreamsKept };
 
@@ -187,7 +187,7 @@ impl Streams {
             return;
         }
         let mut fresh = [u64::MAX; GROUPS];
-        take_above(&self.bounds, now, &mut fresh);
+        keep_above(&self.bounds, now, &mut fresh);
         bound_listed(&self.tracks, &self.lists, &self.bounds, now, &mut fresh);
         self.earliest = least(&fresh);
         replace(&mut self.bounds, &fresh);

@@ -5,7 +5,7 @@ use Rattle.std.specs.declared.alloc.Global.{Global}
 use Rattle.sctp_model.specs.numbers.Limits.{LAST_MOMENT}
 use Rattle.sctp_model.specs.numbers.Lists.{Has}
 use Rattle.sctp_send.specs.declared.message.Message.{Message as MessageFields}
-use Rattle.sctp_send.specs.declared.entry.Outstanding.{Outstanding}
+use Rattle.sctp_send.specs.declared.entry.Entry.{Entry as EntryFields}
 
 -- the bound of a group of tickets: groups that lie 512 apart share one, and without bounds it is the first moment
 unfoldable pub bound_at : List ℕ → (group : ℕ) → ℕ
@@ -19,13 +19,13 @@ bound_of bs t = bound_at bs (t / 64)
 abbrev pub until_of : Rc MessageFields Global → ℕ
 until_of m = unwrap_or m.value.until LAST_MOMENT
 
--- an entry's message isn't worthless before its ticket's bound, unless the entry is covered or given up
-abbrev pub IsBounded : List ℕ → Outstanding → Type 0
-IsBounded bs e = (e.covered || e.given_up) ≡ false → bound_of bs e.message.value.ticket ≤ until_of e.message
+-- an entry's message isn't worthless before its ticket's bound, unless the entry is covered or abandoned
+abbrev pub IsBounded : List ℕ → EntryFields → Type 0
+IsBounded bs e = (e.covered || e.abandoned) ≡ false → bound_of bs e.message.value.ticket ≤ until_of e.message
 
 -- that of no entry is
-abbrev pub AreBounded : List ℕ → List Outstanding → Type 0
-AreBounded bs es = (e : Outstanding) → Has es e → IsBounded bs e
+abbrev pub AreBounded : List ℕ → List EntryFields → Type 0
+AreBounded bs es = (e : EntryFields) → Has es e → IsBounded bs e
 
 -- ---- messages that wait
 

@@ -4,7 +4,7 @@ use Rattle.sctp_send.specs.declared.entry.Standing.{Standing}
 use Rattle.sctp_send.specs.declared.entry.Standing.TheVariants.{Unsent, Sent, Marked}
 use Rattle.sctp_send.specs.CoveredRuns.{in_runs, AreInOrder}
 use Rattle.sctp_send.specs.declared.entry.CoveredRun.{CoveredRun}
-use Rattle.sctp_send.specs.declared.entry.Outstanding.{Outstanding}
+use Rattle.sctp_send.specs.declared.entry.Entry.{Entry as EntryFields}
 
 -- the standing without its mark
 abbrev pub unmarked : Standing → Standing
@@ -12,36 +12,36 @@ unmarked Unsent = Unsent
 unmarked Sent = Sent
 unmarked Marked = Sent
 
--- an entry with this standing, covered or not, given up or not
-abbrev pub stood : Standing → (covered given_up : Bool) → Outstanding → Outstanding
-stood s c g e = record e { standing = s; covered = c; given_up = g }
+-- an entry with this standing, covered or not, abandoned or not
+abbrev pub stood : Standing → (covered abandoned : Bool) → EntryFields → EntryFields
+stood s c g e = record e { standing = s; covered = c; abandoned = g }
 
 -- ---- covered or not (RFC 9260, 6.2.1)
 
 -- the peer has it: there is nothing to repeat
-abbrev pub as_covered : Outstanding → Outstanding
+abbrev pub as_covered : EntryFields → EntryFields
 as_covered e = record e { covered = true; standing = unmarked e.standing }
 
 -- the peer says that it hasn't, or no longer
-abbrev pub as_uncovered : Outstanding → Outstanding
+abbrev pub as_uncovered : EntryFields → EntryFields
 as_uncovered e = record e { covered = false }
 
 -- one of the two
-abbrev pub told : Bool → Outstanding → Outstanding
+abbrev pub told : Bool → EntryFields → EntryFields
 told b e = if b then as_covered e else as_uncovered e
 
 -- entries told by their indexes, the first of which is i
-abbrev pub all_told : (ℕ → Bool) → ℕ → List Outstanding → List Outstanding
+abbrev pub all_told : (ℕ → Bool) → ℕ → List EntryFields → List EntryFields
 all_told test i [] = []
 all_told test i (e ∷ es) = told (test i) e ∷ all_told test (suc i) es
 
 -- entries that pass are told so, and the others stay
-abbrev pub told_where : Bool → (ℕ → Bool) → ℕ → List Outstanding → List Outstanding
+abbrev pub told_where : Bool → (ℕ → Bool) → ℕ → List EntryFields → List EntryFields
 told_where b test i [] = []
 told_where b test i (e ∷ es) = (if test i then told b e else e) ∷ told_where b test (suc i) es
 
 -- the runs are in order, and each entry is as they say
-abbrev pub IsExact : (known : Bool) → List CoveredRun → List Outstanding → Type 0
+abbrev pub IsExact : (known : Bool) → List CoveredRun → List EntryFields → Type 0
 IsExact false rs es = Unit {0}
 IsExact true rs es = AreInOrder 0 rs × (all_told (in_runs rs) 1 es ≡ es)
 
@@ -71,19 +71,19 @@ marked_if false Sent = Sent
 marked_if needed Marked = Marked
 
 -- an entry after the timer
-abbrev pub timed : Outstanding → Outstanding
-timed e = record e { standing = marked_if (not e.covered && not e.given_up) e.standing }
+abbrev pub timed : EntryFields → EntryFields
+timed e = record e { standing = marked_if (not e.covered && not e.abandoned) e.standing }
 
 -- all entries after the timer
-abbrev pub all_timed : List Outstanding → List Outstanding
+abbrev pub all_timed : List EntryFields → List EntryFields
 all_timed es = map timed es
 
--- ---- given up (RFC 3758, 3.5)
+-- ---- abandoned (RFC 3758, 3.5)
 
--- an entry of the message with this ticket is given up, and its mark ends
-abbrev pub given : ℕ → Outstanding → Outstanding
-given t e = if e.message.value.ticket == t then record e { given_up = true; standing = unmarked e.standing } else e
+-- an entry of the message with this ticket is abandoned, and its mark ends
+abbrev pub given : ℕ → EntryFields → EntryFields
+given t e = if e.message.value.ticket == t then record e { abandoned = true; standing = unmarked e.standing } else e
 
--- each entry of that message is given up
-abbrev pub all_given : ℕ → List Outstanding → List Outstanding
+-- each entry of that message is abandoned
+abbrev pub all_given : ℕ → List EntryFields → List EntryFields
 all_given t es = map (given t) es

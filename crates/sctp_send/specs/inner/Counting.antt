@@ -14,7 +14,7 @@ use Rattle.sctp_send.specs.inner.Newcomers.{one_if}
 use Rattle.sctp_send.specs.inner.Expiring.{item_message, queue_messages, item_messages, rest_messages}
 use Rattle.sctp_send.specs.declared.counts.Counts.{Counts}
 use Rattle.sctp_send.specs.declared.message.Message.{Message as MessageFields}
-use Rattle.sctp_send.specs.declared.entry.Outstanding.{Outstanding}
+use Rattle.sctp_send.specs.declared.entry.Entry.{Entry as EntryFields}
 use Rattle.sctp_send.specs.declared.track.Track.{Track as TrackFields}
 
 -- ---- moments
@@ -24,7 +24,7 @@ abbrev pub moment_from : Option Message → ℕ
 moment_from None = LAST_MOMENT
 moment_from (Some m) = unwrap_or m.until LAST_MOMENT
 
--- that of an entry's message, unless the entry is covered or given up
+-- that of an entry's message, unless the entry is covered or abandoned
 abbrev pub moment : Item → ℕ
 moment x = moment_from (item_message x)
 
@@ -35,7 +35,7 @@ AreWorth earliest (m ∷ ms) = (earliest ≤ moment_from m) × AreWorth earliest
 
 -- ---- entries
 
--- how many of the items went out, and are neither covered nor given up
+-- how many of the items went out, and are neither covered nor abandoned
 abbrev pub count_unsettled : List Item → ℕ
 count_unsettled [] = 0
 count_unsettled (x ∷ xs) = one_if (is_item_unsettled x) + count_unsettled xs
@@ -71,11 +71,11 @@ abbrev pub reached : (at : ℕ) → Item → Counts → Counts
 reached at x c = record c {
   marked = furthest at (is_item_marked x) c.marked;
   unsent = furthest at (is_item_unsent x) c.unsent;
-  front = furthest at (not x.given_up) c.front;
+  front = furthest at (not x.abandoned) c.front;
 }
 
 -- The counts are those of the entries: before two offsets nothing is to go out; the sums are modulo 2^64.
-pub record IsCounted (size : ℕ) (es : List Outstanding) (c : Counts) : Type 0 where
+pub record IsCounted (size : ℕ) (es : List EntryFields) (c : Counts) : Type 0 where
   pub some : 0 < size
   pub small : size < 2 ^ 16
   pub marked : first_place is_item_marked (take c.marked (map (item_meaning size) es)) ≡ None

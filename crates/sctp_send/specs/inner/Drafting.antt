@@ -30,7 +30,7 @@ use Rattle.sctp_send.specs.declared.message.Message.{Message as MessageFields}
 use Rattle.sctp_send.specs.declared.entry.Place.{Place}
 use Rattle.sctp_send.specs.declared.entry.Standing.{Standing}
 use Rattle.sctp_send.specs.declared.entry.Standing.TheVariants.{Sent}
-use Rattle.sctp_send.specs.declared.entry.Outstanding.{Outstanding}
+use Rattle.sctp_send.specs.declared.entry.Entry.{Entry as EntryFields}
 
 -- ---- what a draft keeps
 
@@ -94,7 +94,7 @@ fragment_item size m n k standing = record {
   sent = was_sent standing;
   marked = is_marked standing;
   covered = false;
-  given_up = false;
+  abandoned = false;
 }
 
 -- what is left of a message from a fragment on
@@ -110,7 +110,7 @@ abbrev pub left_track : Option Rest → Track → Track
 left_track rest t = record t { rest = rest }
 
 -- an entry went out
-abbrev pub went_out : Outstanding → Outstanding
+abbrev pub went_out : EntryFields → EntryFields
 went_out e = record e { standing = Sent }
 
 -- The next wish went: its chunk is in the packet, and the draft keeps what it leaves.

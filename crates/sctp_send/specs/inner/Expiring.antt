@@ -12,9 +12,9 @@ use Rattle.sctp_send.specs.SenderKept.{Item, Track, Kept}
 abbrev pub queue_messages : List Queued → List (Option Message)
 queue_messages qs = map (λ q. Some q.message) qs
 
--- the message of an entry above CUM, unless the entry is covered or given up: a message that isn't acknowledged has one that isn't covered, or is in part
+-- the message of an entry above CUM, unless the entry is covered or abandoned: a message that isn't acknowledged has one that isn't covered, or is in part
 abbrev pub item_message : Item → Option Message
-item_message x = if x.covered || x.given_up then None else x.message
+item_message x = if x.covered || x.abandoned then None else x.message
 
 -- those of all entries
 abbrev pub item_messages : List Item → List (Option Message)

@@ -18,7 +18,7 @@ gone_item x = record x { sent = true; marked = false }
 
 -- a fragment that never went out
 abbrev pub new_item : Entry → Message → Item
-new_item e m = record { entry = e; message = Some m; sent = false; marked = false; covered = false; given_up = false }
+new_item e m = record { entry = e; message = Some m; sent = false; marked = false; covered = false; abandoned = false }
 
 -- so many fragments of a message, from one on
 abbrev pub new_items : Lane → (number : ℕ) → Message → (from many : ℕ) → List Item
@@ -32,7 +32,7 @@ begun_items l n m (suc d) = gone_item (new_item (Part l n 0) m) ∷ new_items l 
 
 -- the item of a rest's fragment
 abbrev pub rest_item : Rest → Item
-rest_item r = record { entry = r.entry; message = r.message; sent = false; marked = false; covered = false; given_up = false }
+rest_item r = record { entry = r.entry; message = r.message; sent = false; marked = false; covered = false; abandoned = false }
 
 -- ---- streams
 

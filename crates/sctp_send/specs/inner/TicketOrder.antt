@@ -5,7 +5,7 @@ use Rattle.sctp_model.specs.numbers.Lists.{Has, AreInOrder}
 use Rattle.sctp_send.specs.declared.by_ticket.Spot.{Spot}
 use Rattle.sctp_send.specs.declared.by_ticket.ByTicket.{ByTicket}
 use Rattle.sctp_send.specs.declared.counts.Counts.{Counts}
-use Rattle.sctp_send.specs.declared.entry.Outstanding.{Outstanding}
+use Rattle.sctp_send.specs.declared.entry.Entry.{Entry as EntryFields}
 use Rattle.sctp_send.specs.inner.Bounding.{bound_of, AreBounded}
 use Rattle.sctp_send.specs.inner.Counting.{IsCounted}
 
@@ -53,15 +53,15 @@ pub record IsGone (first offset : ℕ) (before after : List Spot) : Type 0 where
   pub there : offset_of first gone ≡ offset
 
 -- the ticket of an entry's message
-abbrev pub ticket_of : Outstanding → ℕ
+abbrev pub ticket_of : EntryFields → ℕ
 ticket_of e = e.message.value.ticket
 
 -- the tickets of entries
-abbrev pub tickets_of : List Outstanding → List ℕ
+abbrev pub tickets_of : List EntryFields → List ℕ
 tickets_of es = map ticket_of es
 
--- What a window keeps: its entries counted, and in the order of their tickets, with room for so many in both lists; and bounds of their moments.
-pub record IsInOrder (size : ℕ) (es : List Outstanding) (capacity : ℕ) (c : Counts) (o : ByTicket) (room : ℕ) (bs : List ℕ) : Type 0 where
+-- What is kept of the outstanding: the entries counted, and in the order of their tickets, with room for so many in both lists; and bounds of their moments.
+pub record IsInOrder (size : ℕ) (es : List EntryFields) (capacity : ℕ) (c : Counts) (o : ByTicket) (room : ℕ) (bs : List ℕ) : Type 0 where
   pub counted : IsCounted size es c
   pub order : IsOrderOf (tickets_of es) o.first o.spots.items
   pub below : AreUpTo o.highest o.spots.items

@@ -3,18 +3,18 @@ use Rattle.std.specs.Prelude.{◌≡◌, ℕ, ◌-◌, ◌<◌, ◌≤◌, nat_l
 use Rattle.std.specs.declared.rc.Rc.{Rc}
 use Rattle.std.specs.declared.alloc.Global.{Global}
 use Rattle.sctp_model.specs.numbers.Limits.{GREATEST_FRAGMENT}
-use Rattle.sctp_send.specs.WindowKept.{at_place}
+use Rattle.sctp_send.specs.PartsKept.{at_place}
 use Rattle.sctp_send.specs.declared.draft.Change.{Change}
 use Rattle.sctp_send.specs.declared.draft.Change.TheVariants.{Out, Taken, In}
 use Rattle.sctp_send.specs.declared.draft.Draft.{Draft}
 use Rattle.sctp_send.specs.declared.message.Message.{Message}
-use Rattle.sctp_send.specs.declared.entry.Outstanding.{Outstanding}
+use Rattle.sctp_send.specs.declared.entry.Entry.{Entry as EntryFields}
 use Rattle.sctp_send.specs.declared.entry.Standing.{Standing}
 use Rattle.sctp_send.specs.declared.track.Track.{Track}
 
 -- what a fill may change
 pub record Parts : Type 0 where
-  pub items : List Outstanding
+  pub items : List EntryFields
   pub queue : List (Rc Message Global)
   pub tracks : List Track
   pub turn : ℕ
@@ -24,7 +24,7 @@ abbrev pub parts_of : Draft → Parts
 parts_of d = record { items = d.outstanding.items; queue = d.queue.items; tracks = d.tracks.items; turn = d.turn }
 
 -- an entry with this standing
-abbrev pub stands_so : Standing → Outstanding → Outstanding
+abbrev pub stands_so : Standing → EntryFields → EntryFields
 stands_so s e = record e { standing = s }
 
 -- a message waits again at its place, where there is such a place

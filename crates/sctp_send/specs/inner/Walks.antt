@@ -6,7 +6,7 @@ use Rattle.sctp_model.specs.sender.Queueing.{owed_for}
 use Rattle.sctp_model.specs.sender.Abandoning.{has_ticket}
 use Rattle.sctp_send.specs.SenderKept.{Item, Rest, Track}
 use Rattle.sctp_send.specs.declared.message.Fate.{Fate}
-use Rattle.sctp_send.specs.declared.message.Fate.TheVariants.{Waiting, Numbered, Withdrawn, GivenUp}
+use Rattle.sctp_send.specs.declared.message.Fate.TheVariants.{Queued as StillQueued, Numbered, Withdrawn, Abandoned as WasAbandoned}
 
 -- ---- sums over the streams
 
@@ -30,11 +30,11 @@ rest_owes (Some r) = owed_for (length (fragments_in r.message) - entry_fragment 
 -- how many of the first items are of abandoned messages
 abbrev pub abandoned_items : List Item → ℕ
 abandoned_items [] = 0
-abandoned_items (x ∷ xs) = if x.given_up then suc (abandoned_items xs) else 0
+abandoned_items (x ∷ xs) = if x.abandoned then suc (abandoned_items xs) else 0
 
 -- it went out, and the peer may still need it
 abbrev pub is_item_unsettled : Item → Bool
-is_item_unsettled x = x.sent && (not x.covered && not x.given_up)
+is_item_unsettled x = x.sent && (not x.covered && not x.abandoned)
 
 -- some item went out, and is neither covered nor of an abandoned message
 abbrev pub any_unsettled : List Item → Bool
@@ -42,18 +42,18 @@ any_unsettled [] = false
 any_unsettled (x ∷ xs) = is_item_unsettled x || any_unsettled xs
 
 -- the message was abandoned
-abbrev pub is_given_up_fate : Fate → Bool
-is_given_up_fate Waiting = false
-is_given_up_fate Numbered = false
-is_given_up_fate Withdrawn = false
-is_given_up_fate GivenUp = true
+abbrev pub is_abandoned_fate : Fate → Bool
+is_abandoned_fate StillQueued = false
+is_abandoned_fate Numbered = false
+is_abandoned_fate Withdrawn = false
+is_abandoned_fate WasAbandoned = true
 
 -- the message has a number, and was not abandoned
 abbrev pub is_numbered_fate : Fate → Bool
-is_numbered_fate Waiting = false
+is_numbered_fate StillQueued = false
 is_numbered_fate Numbered = true
 is_numbered_fate Withdrawn = false
-is_numbered_fate GivenUp = false
+is_numbered_fate WasAbandoned = false
 
 -- ---- a message by its ticket
 
@@ -99,5 +99,5 @@ end_item r = record {
   sent = false;
   marked = false;
   covered = false;
-  given_up = true;
+  abandoned = true;
 }

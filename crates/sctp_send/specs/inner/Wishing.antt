@@ -16,7 +16,7 @@ is_item_marked x = x.marked
 
 -- it never went out, and is wanted
 abbrev pub is_item_unsent : Item → Bool
-is_item_unsent x = not x.sent && (not x.covered && not x.given_up)
+is_item_unsent x = not x.sent && (not x.covered && not x.abandoned)
 
 -- ---- bytes in flight
 
@@ -26,7 +26,7 @@ item_bytes x = bytes_in x.entry x.message
 
 -- how many bytes of it are in flight
 abbrev pub item_weight : Item → ℕ
-item_weight x = if not x.marked && (x.sent && (not x.covered && not x.given_up)) then length (item_bytes x) else 0
+item_weight x = if not x.marked && (x.sent && (not x.covered && not x.abandoned)) then length (item_bytes x) else 0
 
 -- the bytes of all items that are in flight
 abbrev pub item_flight : List Item → ℕ

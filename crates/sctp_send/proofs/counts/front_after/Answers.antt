@@ -3,14 +3,14 @@ use Rattle.sctp_send.specs.OutstandingFields.{item_meaning}
 use Rattle.sctp_send.proofs.FrontLemmas.{after_off, after_far, after_there}
 use Rattle.sctp_send.proofs.counts.front_after.Goals as goal
 
-pub returns-then-not-given_up : goal.returns-then-not-given_up
-returns-then-not-given_up c = λ size before x is lt same told.
-    c.min.ensures ∙ after_off (map (item_meaning size) c.args.entries.now.items) c.args.at before x lt same c.args.front is (told ∙ c.if-not-given_up.true)
+pub returns-then-not-abandoned : goal.returns-then-not-abandoned
+returns-then-not-abandoned c = λ size before x is lt same told.
+    c.min.ensures ∙ after_off (map (item_meaning size) c.args.entries.now.items) c.args.at before x lt same c.args.front is (told ∙ c.if-not-abandoned.true)
 
 pub returns-then-at-front : goal.returns-then-at-front
 returns-then-at-front c = λ size before x is lt same told.
-    after_far (map (item_meaning size) c.args.entries.now.items) c.args.at before x lt same c.args.front is (told ∙ c.if-not-given_up.false) c.if-at-front.true
+    after_far (map (item_meaning size) c.args.entries.now.items) c.args.at before x lt same c.args.front is (told ∙ c.if-not-abandoned.false) c.if-at-front.true
 
 pub returns : goal.returns
 returns c = λ size before x is lt same told.
-    c.given_up_from.ensures size ∙ after_there (map (item_meaning size) c.args.entries.now.items) c.args.at before x lt same c.args.front is c.if-at-front.false
+    c.abandoned_from.ensures size ∙ after_there (map (item_meaning size) c.args.entries.now.items) c.args.at before x lt same c.args.front is c.if-at-front.false

@@ -10,4 +10,4 @@ returns-then-front-gt0 c = λ size x is. first_some x (map (item_meaning size) c
 pub returns : goal.returns
 returns c = λ size x is.
     let none : 0 + abandoned_items (drop 0 (map (item_meaning size) c.args.entries.now.items)) ≡ abandoned_items (map (item_meaning size) c.args.entries.now.items) = omega arith in
-    c.given_up_from.ensures size ∙ none
+    c.abandoned_from.ensures size ∙ none

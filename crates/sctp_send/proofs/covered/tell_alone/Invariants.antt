@@ -1,7 +1,7 @@
 use Rattle.std.proofs.Common.{◌≡◌, ◌<◌, length, take, get_or}
 use Rattle.sctp_send.specs.CoveredRuns.{AreInOrder, HasPassed}
 use Rattle.sctp_send.specs.inner.Changes.{told_where, in_alone}
-use Rattle.sctp_send.specs.WindowKept.{IsSameRoom}
+use Rattle.sctp_send.specs.PartsKept.{IsSameRoom}
 use Rattle.sctp_send.specs.declared.entry.CoveredRun.{CoveredRun}
 use Rattle.sctp_send.proofs.covered.tell_alone.Given as goal
 

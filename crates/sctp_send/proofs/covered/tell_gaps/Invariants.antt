@@ -1,7 +1,7 @@
 use Rattle.std.proofs.Common.{◌≡◌, ◌≤◌, length, min, max}
 use Rattle.sctp_send.specs.CoveredRuns.{AreInOrder, HasPassed}
 use Rattle.sctp_send.specs.inner.Changes.{told_where, in_gaps}
-use Rattle.sctp_send.specs.WindowKept.{IsSameRoom}
+use Rattle.sctp_send.specs.PartsKept.{IsSameRoom}
 use Rattle.sctp_send.proofs.covered.tell_gaps.Given as goal
 
 -- told so far, past the runs so far

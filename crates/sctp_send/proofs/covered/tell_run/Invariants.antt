@@ -1,6 +1,6 @@
 use Rattle.std.proofs.Common.{◌≡◌, length}
 use Rattle.sctp_send.specs.inner.Changes.{told_where, is_between}
-use Rattle.sctp_send.specs.WindowKept.{IsSameRoom}
+use Rattle.sctp_send.specs.PartsKept.{IsSameRoom}
 use Rattle.sctp_send.proofs.covered.tell_run.Given as goal
 
 -- the run that is told so far

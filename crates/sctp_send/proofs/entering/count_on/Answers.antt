@@ -1,7 +1,7 @@
 use Rattle.std.proofs.Common.{◌∙◌, List, map, get_or, ◌^◌, ◌<◌, suc, ap, sym}
 use Rattle.sctp_values.specs.Meanings.{kind_meaning}
 use Rattle.sctp_send.specs.SenderFields.{track_meaning, rests_meaning}
-use Rattle.sctp_send.specs.WindowKept.{StreamsKept}
+use Rattle.sctp_send.specs.PartsKept.{StreamsKept}
 use Rattle.sctp_send.specs.inner.Newcomers.{number_in}
 use Rattle.sctp_send.specs.inner.Drafting.{counted_track}
 use Rattle.sctp_send.specs.declared.track.Track.{Track}

@@ -1,6 +1,6 @@
 use Rattle.std.proofs.Common.{◌∙◌, List, map, get_or, ap, sym}
 use Rattle.sctp_send.specs.SenderFields.{track_meaning, rests_meaning}
-use Rattle.sctp_send.specs.WindowKept.{StreamsKept}
+use Rattle.sctp_send.specs.PartsKept.{StreamsKept}
 use Rattle.sctp_send.specs.inner.Drafting.{left_track}
 use Rattle.sctp_send.specs.declared.track.Track.{Track}
 use Rattle.sctp_send.proofs.EnterLemmas.{set_on, track_there, replaced}

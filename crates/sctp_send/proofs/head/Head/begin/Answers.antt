@@ -18,21 +18,21 @@ returns-clause-kept c = λ small number.
     let counted = rw (c.deref-2.ensures, c.deref-3.ensures) at (c.count_on-track.ensures.items s.fragment) in
     let rest : rests_meaning s.fragment c.in_ok-rest.rest ≡ rest_from s.fragment m c.args.number c.args.next.count = c.in_ok-rest.ensures in
     let told = rw c.deref.ensures at c.in_ok-tell.ensures in
-    let d : Draft = record { outstanding = c.push_begun.new.outstanding; queue = c.take_out.new.queue; tracks = c.count_on-track.new.tracks; turn = c.args.next.turn; tickets = c.tell.new.tickets; log = c.note.new.log } in
-    begun_is s old d m c.args.next.place c.args.next.count c.args.number c.args.next.turn (rests_meaning s.fragment c.in_ok-rest.rest) (c.in_ok-push_begun.ensures.items s.fragment) (c.take_out.ensures.queue s.fragment) (counted few) rest told refl number
+    let d : Draft = record { outstanding = c.push_begun.new.outstanding; queue = c.dequeue.new.queue; tracks = c.count_on-track.new.tracks; turn = c.args.next.turn; tickets = c.tell.new.tickets; log = c.note.new.log } in
+    begun_is s old d m c.args.next.place c.args.next.count c.args.number c.args.next.turn (rests_meaning s.fragment c.in_ok-rest.rest) (c.in_ok-push_begun.ensures.items s.fragment) (c.dequeue.ensures.queue s.fragment) (counted few) rest told refl number
 
 pub returns-clause-behind : goal.returns-clause-behind
 returns-clause-behind c =
     let old = c.args.draft.now in
     record {
-      origin = in_behind old c.take_out.new.log.items c.note.new.log.items c.push_begun.new.outstanding.items c.take_out.new.queue.items c.count_on-track.new.tracks.items c.args.next.count c.deref-2.result.now.stream c.args.next.turn c.count_on-track.result
-          (λ (p : Parts) is. c.take_out.ensures.back p is ∙ noted_before old c.reserve.new.self.items c.reserve.ensures.items (record p { queue = old.queue.items }) refl)
+      origin = in_behind old c.dequeue.new.log.items c.note.new.log.items c.push_begun.new.outstanding.items c.dequeue.new.queue.items c.count_on-track.new.tracks.items c.args.next.count c.deref-2.result.now.stream c.args.next.turn c.count_on-track.result
+          (λ (p : Parts) is. c.dequeue.ensures.back p is ∙ noted_before old c.reserve.new.self.items c.reserve.ensures.items (record p { queue = old.queue.items }) refl)
           c.note.ensures.items c.in_ok-push_begun.ensures.before c.count_on-track.ensures.before;
       room = record {
         window = c.in_ok-push_begun.ensures.size;
-        queue = c.take_out.ensures.size;
+        queue = c.dequeue.ensures.size;
         tracks = c.count_on-track.ensures.size;
         entries = c.in_ok-push_begun.ensures.capacity;
-        messages = omega (arith, c.take_out.ensures.capacity);
+        messages = omega (arith, c.dequeue.ensures.capacity);
       };
     }

@@ -1,5 +1,5 @@
 use Rattle.std.proofs.Common.{suc, ◌+◌, ◌∷◌, [], ◌++◌, List, Some, refl, sym, ap, ◌∙◌, arith}
-use Rattle.sctp_send.specs.WindowKept.{WindowKept}
+use Rattle.sctp_send.specs.PartsKept.{OutstandingKept}
 use Rattle.sctp_send.specs.OutstandingFields.{item_meaning, lane_meaning, message_meaning, entry_meaning}
 use Rattle.sctp_send.specs.declared.draft.Change.{Change}
 use Rattle.sctp_send.specs.declared.draft.Change.TheVariants.{Out}
@@ -54,10 +54,10 @@ returns-then-put-clause-behind g c =
     let old = c.args.draft.now in
     let x = c.get-entry.result.now in
     let noted = c.note.ensures.items ∙ ap (λ (cs : List Change). cs ++ Out c.args.at x.standing ∷ []) c.reserve.ensures.items in
-    let room = ap (λ (w : WindowKept). w.capacity) c.send_out.ensures in
+    let room = ap (λ (w : OutstandingKept). w.capacity) c.send_out.ensures in
     record {
-      origin = out_behind old c.note.new.log.items c.send_out.new.outstanding.items c.args.at x c.get-entry.ensures noted (ap (λ (w : WindowKept). w.items) c.send_out.ensures);
-      room = record { window = ap (λ (w : WindowKept). w.size) c.send_out.ensures; queue = refl; tracks = refl; entries = omega (arith, room); messages = omega arith };
+      origin = out_behind old c.note.new.log.items c.send_out.new.outstanding.items c.args.at x c.get-entry.ensures noted (ap (λ (w : OutstandingKept). w.items) c.send_out.ensures);
+      room = record { window = ap (λ (w : OutstandingKept). w.size) c.send_out.ensures; queue = refl; tracks = refl; entries = omega (arith, room); messages = omega arith };
     }
 
 pub returns-else-put-clause-put : goal.returns-else-put-clause-put

@@ -2,7 +2,7 @@ use Rattle.std.proofs.Common.{subst, sym, ap, arith, inl, inr}
 use Rattle.sctp_send.specs.SenderKept.{Kept}
 use Rattle.sctp_send.specs.SenderStands.{StandsFor, Keeps}
 use Rattle.sctp_send.specs.inner.Walks.{is_numbered_fate}
-use Rattle.sctp_send.specs.declared.message.Fate.TheVariants.{Waiting, Numbered, Withdrawn, GivenUp}
+use Rattle.sctp_send.specs.declared.message.Fate.TheVariants.{Queued as StillQueued, Numbered, Withdrawn, Abandoned as WasAbandoned}
 use Rattle.sctp_send.proofs.WithdrawLemmas.{keeps_withdrawn}
 use Rattle.sctp_send.proofs.AnswerLemmas.{fate_read, answered_unknown, AnsweredBy, answered_by}
 use Rattle.sctp_send.proofs.sender.Sender.abandon.Goals as goal
@@ -49,39 +49,39 @@ returns-in-Withdrawn-clause-step g c = λ v stands.
     let by = subst (AnsweredBy v c.args.ticket.0) fate (answered_by g.F.Framing.format _ v c.args.ticket.0 keeps (omega arith) (omega arith)) in
     rw by.after stands
 
-pub returns-in-GivenUp-clause-answer : goal.returns-in-GivenUp-clause-answer
+pub returns-in-Abandoned-clause-answer : goal.returns-in-Abandoned-clause-answer
 unfolding StandsFor
-returns-in-GivenUp-clause-answer g c = λ v stands.
+returns-in-Abandoned-clause-answer g c = λ v stands.
     let s = c.self.inside in
     let keeps = subst (λ (k : Kept). Keeps g.F.Framing.format k v) (sym c.self.view_is) stands in
-    let fate = fate_read g.F.Framing.format _ v c.args.ticket.0 c.index.result.now GivenUp keeps (omega arith) (omega arith) c.index.ensures c.in-GivenUp.is in
+    let fate = fate_read g.F.Framing.format _ v c.args.ticket.0 c.index.result.now WasAbandoned keeps (omega arith) (omega arith) c.index.ensures c.in-Abandoned.is in
     let by = subst (AnsweredBy v c.args.ticket.0) fate (answered_by g.F.Framing.format _ v c.args.ticket.0 keeps (omega arith) (omega arith)) in
     by.answer
 
-pub returns-in-GivenUp-clause-step : goal.returns-in-GivenUp-clause-step
+pub returns-in-Abandoned-clause-step : goal.returns-in-Abandoned-clause-step
 unfolding StandsFor
-returns-in-GivenUp-clause-step g c = λ v stands.
+returns-in-Abandoned-clause-step g c = λ v stands.
     let s = c.self.inside in
     let keeps = subst (λ (k : Kept). Keeps g.F.Framing.format k v) (sym c.self.view_is) stands in
-    let fate = fate_read g.F.Framing.format _ v c.args.ticket.0 c.index.result.now GivenUp keeps (omega arith) (omega arith) c.index.ensures c.in-GivenUp.is in
+    let fate = fate_read g.F.Framing.format _ v c.args.ticket.0 c.index.result.now WasAbandoned keeps (omega arith) (omega arith) c.index.ensures c.in-Abandoned.is in
     let by = subst (AnsweredBy v c.args.ticket.0) fate (answered_by g.F.Framing.format _ v c.args.ticket.0 keeps (omega arith) (omega arith)) in
     rw by.after stands
 
-pub returns-in-Waiting-clause-answer : goal.returns-in-Waiting-clause-answer
+pub returns-in-Queued-clause-answer : goal.returns-in-Queued-clause-answer
 unfolding StandsFor
-returns-in-Waiting-clause-answer g c = λ v stands.
+returns-in-Queued-clause-answer g c = λ v stands.
     let s = c.self.inside in
     let keeps = subst (λ (k : Kept). Keeps g.F.Framing.format k v) (sym c.self.view_is) stands in
-    let fate = fate_read g.F.Framing.format _ v c.args.ticket.0 c.index.result.now Waiting keeps (omega arith) (omega arith) c.index.ensures c.in-Waiting.is in
+    let fate = fate_read g.F.Framing.format _ v c.args.ticket.0 c.index.result.now StillQueued keeps (omega arith) (omega arith) c.index.ensures c.in-Queued.is in
     let by = subst (AnsweredBy v c.args.ticket.0) fate (answered_by g.F.Framing.format _ v c.args.ticket.0 keeps (omega arith) (omega arith)) in
     by.0
 
-pub returns-in-Waiting-clause-step : goal.returns-in-Waiting-clause-step
+pub returns-in-Queued-clause-step : goal.returns-in-Queued-clause-step
 unfolding StandsFor
-returns-in-Waiting-clause-step g c = λ v stands.
+returns-in-Queued-clause-step g c = λ v stands.
     let s = c.self.inside in
     let keeps = subst (λ (k : Kept). Keeps g.F.Framing.format k v) (sym c.self.view_is) stands in
-    let fate = fate_read g.F.Framing.format _ v c.args.ticket.0 c.index.result.now Waiting keeps (omega arith) (omega arith) c.index.ensures c.in-Waiting.is in
+    let fate = fate_read g.F.Framing.format _ v c.args.ticket.0 c.index.result.now StillQueued keeps (omega arith) (omega arith) c.index.ensures c.in-Queued.is in
     let by = subst (AnsweredBy v c.args.ticket.0) fate (answered_by g.F.Framing.format _ v c.args.ticket.0 keeps (omega arith) (omega arith)) in
     rw (c.withdraw.ensures.items s.head.fragment) (keeps_withdrawn g.F.Framing.format _ v c.args.ticket.0 keeps by.1)
 

@@ -5,7 +5,7 @@ use Rattle.sctp_send.specs.OutstandingFields.{item_meaning}
 use Rattle.sctp_send.specs.inner.Changes.{given}
 use Rattle.sctp_send.specs.SenderFields.{track_meaning}
 use Rattle.sctp_send.specs.SenderKept.{Kept}
-use Rattle.sctp_send.specs.declared.entry.Outstanding.{Outstanding}
+use Rattle.sctp_send.specs.declared.entry.Entry.{Entry as EntryFields}
 use Rattle.sctp_send.specs.SenderStands.{StandsFor, Keeps}
 use Rattle.sctp_send.specs.inner.Walks.{any_rest, any_uncovered}
 use Rattle.sctp_send.proofs.GivenLemmas.{items_given}
@@ -77,9 +77,9 @@ returns-in-Some-clause-step g c = λ v stands on.
     let m = answered_given g.F.Framing.format _ v c.args.ticket keeps on missing c.if-not-self.false in
     let taken = keeps_ended g.F.Framing.format _ v c.args.ticket m.name _ _ keeps m.kept m.uncovered m.partial (c.in-Some.ensures.some s.head.fragment) in
     let long = length-map s.parts.outstanding.items (item_meaning s.head.fragment) in
-    let same = ap (λ (es : List Outstanding). length es) c.give_up.ensures.items ∙ length-map s.parts.outstanding.items (given c.args.ticket) in
-    let room : length c.give_up.new.self.items < c.give_up.new.self.capacity = omega (arith, taken.0, long, same, c.give_up.ensures.kept.capacity) in
-    rw (c.push_end.ensures.items s.head.fragment room, c.give_up.ensures.items, items_given, (c.push_end.ensures.kept room).capacity, c.give_up.ensures.kept.capacity) taken.1
+    let same = ap (λ (es : List EntryFields). length es) c.abandon.ensures.items ∙ length-map s.parts.outstanding.items (given c.args.ticket) in
+    let room : length c.abandon.new.self.items < c.abandon.new.self.capacity = omega (arith, taken.0, long, same, c.abandon.ensures.kept.capacity) in
+    rw (c.push_end.ensures.items s.head.fragment room, c.abandon.ensures.items, items_given, (c.push_end.ensures.kept room).capacity, c.abandon.ensures.kept.capacity) taken.1
 
 pub returns-in_default-clause-step : goal.returns-in_default-clause-step
 unfolding StandsFor
@@ -90,4 +90,4 @@ returns-in_default-clause-step g c = λ v stands on.
     sym (c.is_all_covered.ensures s.head.fragment) ∙ c.if-is_all_covered.false in
     let m = answered_given g.F.Framing.format _ v c.args.ticket keeps on missing c.if-not-self.false in
     let taken = keeps_given g.F.Framing.format _ v c.args.ticket m.name keeps m.kept m.uncovered m.partial (c.in_default.ensures.none s.head.fragment) in
-    rw (c.give_up.ensures.items, items_given, c.in_default.ensures.same, c.give_up.ensures.kept.capacity) taken
+    rw (c.abandon.ensures.items, items_given, c.in_default.ensures.same, c.abandon.ensures.kept.capacity) taken

@@ -1,7 +1,7 @@
 use Rattle.std.proofs.Common.{◌∙◌, subst, sym, ap, arith, inl, inr}
 use Rattle.sctp_send.specs.SenderKept.{Kept}
 use Rattle.sctp_send.specs.SenderStands.{StandsFor, Keeps}
-use Rattle.sctp_send.specs.inner.Walks.{is_given_up_fate}
+use Rattle.sctp_send.specs.inner.Walks.{is_abandoned_fate}
 use Rattle.sctp_send.proofs.ReaderLemmas.{is_abandoned_at, no_ticket}
 use Rattle.sctp_send.proofs.sender.Sender.abandoned.Goals as goal
 
@@ -22,4 +22,4 @@ unfolding StandsFor
 returns g c = λ v stands.
     let s = c.self.inside in
     let keeps = subst (λ (k : Kept). Keeps g.F.Framing.format k v) (sym c.self.view_is) stands in
-    c.is_given_up.ensures ∙ ap is_given_up_fate c.index-fate.ensures ∙ is_abandoned_at g.F.Framing.format _ v c.args.ticket.0 c.index-fate.result.now keeps (omega arith) (omega arith)
+    c.was_abandoned.ensures ∙ ap is_abandoned_fate c.index-fate.ensures ∙ is_abandoned_at g.F.Framing.format _ v c.args.ticket.0 c.index-fate.result.now keeps (omega arith) (omega arith)

@@ -84,10 +84,10 @@ returns-clause-step g c = λ v stands.
     let long = length-map s.parts.outstanding.items (item_meaning s.head.fragment) in
     let within : n ≤ length (map (item_meaning s.head.fragment) s.parts.outstanding.items) = subst (λ (k : Kept). n ≤ length k.items) (sym c.self.view_is) c.in_ok-passed.ensures.within in
     let by = sack_by_blocks g.F.Framing.format _ v (sack_meaning c.args.sack.now) n (c.len.result - n) keeps p (omega (arith, long, within, c.len.ensures)) in
-    let runs = when_remembered c.take_blocks-self-inside.result c.take_blocks-self-inside.new.covered.items c.args.sack.now.blocks c.take_blocks-self-inside.ensures.runs in
-    let taken = keeps_sacked g.F.Framing.format _ v (sack_meaning c.args.sack.now) n (when c.take_blocks-self-inside.result c.take_blocks-self-inside.new.covered.items) keeps p (by ∙ blocks_good (c.len.result - n) c.args.sack.now.blocks (sym c.reach_past.ensures ∙ c.if-reach_past.false) (sym c.are_disordered.ensures ∙ c.if-are_disordered.false)) runs in
+    let runs = when_remembered c.cover_blocks-self-inside.result c.cover_blocks-self-inside.new.covered.items c.args.sack.now.blocks c.cover_blocks-self-inside.ensures.runs in
+    let taken = keeps_sacked g.F.Framing.format _ v (sack_meaning c.args.sack.now) n (when c.cover_blocks-self-inside.result c.cover_blocks-self-inside.new.covered.items) keeps p (by ∙ blocks_good (c.len.result - n) c.args.sack.now.blocks (sym c.reach_past.ensures ∙ c.if-reach_past.false) (sym c.are_disordered.ensures ∙ c.if-are_disordered.false)) runs in
     let exact = exact_kept g.F.Framing.format _ v s.head.fragment n s.parts.outstanding.items c.forget.new.outstanding.items s.head.is_known s.head.covered.items c.move_on.new.runs.items keeps refl refl c.forget.ensures.items c.move_on.ensures in
-    let told = c.take_blocks-self-inside.ensures.told exact in
-    let items : map (item_meaning s.head.fragment) c.take_blocks-self-inside.new.outstanding.items ≡ items_told (in_blocks 0 c.args.sack.now.blocks) 1 (drop n (map (item_meaning s.head.fragment) s.parts.outstanding.items)) =
+    let told = c.cover_blocks-self-inside.ensures.told exact in
+    let items : map (item_meaning s.head.fragment) c.cover_blocks-self-inside.new.outstanding.items ≡ items_told (in_blocks 0 c.args.sack.now.blocks) 1 (drop n (map (item_meaning s.head.fragment) s.parts.outstanding.items)) =
     rw (told, all_told_meaning, c.forget.ensures.items, drop-map) refl in
-    rw (items, c.take_blocks-self-inside.ensures.kept.capacity, c.forget.ensures.kept.capacity) taken
+    rw (items, c.cover_blocks-self-inside.ensures.kept.capacity, c.forget.ensures.kept.capacity) taken

@@ -6,7 +6,7 @@ use Rattle.sctp_send.specs.SenderStands.{StandsFor, Keeps}
 use Rattle.std.proofs.Common.{◌%◌, ◌^◌, ◌+◌, ◌∷◌, ◌++◌, [], List}
 use Rattle.sctp_model.specs.sender.Queueing.{cut, owed_for}
 use Rattle.sctp_send.specs.SenderAnswers.{lane_for}
-use Rattle.sctp_send.specs.declared.message.Fate.TheVariants.{Waiting}
+use Rattle.sctp_send.specs.declared.message.Fate.TheVariants.{Queued as StillQueued}
 use Rattle.sctp_send.proofs.QueueLemmas.{memory_told, spent_ticket, spent_owed, none_refuses, keeps_queued, fates_given}
 use Rattle.sctp_send.proofs.sender.Sender.queue.Goals as goal
 
@@ -39,16 +39,16 @@ returns-in-Err-clause-answer g c = λ v stands.
     let more = c.owed-more.ensures ∙ ap (λ (n : ℕ). owed_for n % 2 ^ 64) (c.fragments_of.ensures ∙ ap (λ (b : List ℕ). length (cut s.head.fragment b)) c.deref.ensures.value) in
     none_refuses g.F.Framing.format _ v c.args.stream c.args.bytes.items c.promised-promised.result c.owed-more.result keeps (record { stream = omega arith; some = omega arith; short = omega arith; waits = omega arith }) (omega arith) (c.promised-promised.ensures v stands) more (omega arith)
 
-pub returns-in_err-wait_behind-clause-answer : goal.returns-in_err-wait_behind-clause-answer
+pub returns-in_err-enqueue-clause-answer : goal.returns-in_err-enqueue-clause-answer
 unfolding StandsFor
-returns-in_err-wait_behind-clause-answer g c = λ v stands.
+returns-in_err-enqueue-clause-answer g c = λ v stands.
     let s = c.self.inside in
     let keeps = subst (λ (k : Kept). Keeps g.F.Framing.format k v) (sym c.self.view_is) stands in
     let long = length-map s.parts.queue.items (queued_by s.head.fragment) in
     let count : length c.args.bytes.items ≡ vec_len c.args.bytes = ap (λ (b : List ℕ). length b) (sym c.deref.ensures.value) ∙ c.deref.ensures.len in
     let more = c.owed-more.ensures ∙ ap (λ (n : ℕ). owed_for n % 2 ^ 64) (c.fragments_of.ensures ∙ ap (λ (b : List ℕ). length (cut s.head.fragment b)) c.deref.ensures.value) in
     let none = none_refuses g.F.Framing.format _ v c.args.stream c.args.bytes.items c.promised-promised.result c.owed-more.result keeps (record { stream = omega arith; some = omega arith; short = omega arith; waits = omega arith }) (omega arith) (c.promised-promised.ensures v stands) more (omega arith) in
-    memory_told v c.args.stream c.args.bytes.items c.from_residual.result _ c.from_residual.ensures.1 (λ e is. is ∙ c.in_err-wait_behind.ensures.memory) none
+    memory_told v c.args.stream c.args.bytes.items c.from_residual.result _ c.from_residual.ensures.1 (λ e is. is ∙ c.in_err-enqueue.ensures.memory) none
 
 pub returns-clause-answer : goal.returns-clause-answer
 unfolding StandsFor
@@ -71,6 +71,6 @@ returns-clause-step g c = λ v stands.
     let more = c.owed-more.ensures ∙ ap (λ (n : ℕ). owed_for n % 2 ^ 64) (c.fragments_of.ensures ∙ ap (λ (b : List ℕ). length (cut s.head.fragment b)) c.deref.ensures.value) in
     let none = (returns-clause-answer g c v stands).0 in
     let given = fates_given g.F.Framing.format _ v keeps in
-    let fates : c.push_reserved.new.self.items ≡ s.head.fates.items ++ Waiting ∷ [] = rw (c.push_reserved.ensures.items, c.in-Ok.ensures.items) refl in
+    let fates : c.push_reserved.new.self.items ≡ s.head.fates.items ++ StillQueued ∷ [] = rw (c.push_reserved.ensures.items, c.in-Ok.ensures.items) refl in
     let taken = keeps_queued g.F.Framing.format _ v (lane_for c.args.stream c.args.ordered) c.args.payload_id (c.len-given.result + 1) c.args.bytes.items c.args.until keeps none (omega (arith, given)) in
-    rw (c.in_ok-wait_behind.ensures.waits s.head.fragment, fates, c.of_flag.ensures) taken
+    rw (c.in_ok-enqueue.ensures.waits s.head.fragment, fates, c.of_flag.ensures) taken

@@ -1,6 +1,6 @@
 use Rattle.std.proofs.Common.{◌≡◌, map, sym, subst, arith}
 use Rattle.sctp_send.specs.SenderFields.{track_meaning}
-use Rattle.sctp_send.specs.WindowKept.{StreamsKept}
+use Rattle.sctp_send.specs.PartsKept.{StreamsKept}
 use Rattle.sctp_send.specs.inner.Expiring.{soonest, rest_messages}
 use Rattle.sctp_send.proofs.ExpireLemmas.{none_sooner}
 use Rattle.sctp_send.proofs.NextLemmas.{none_late}

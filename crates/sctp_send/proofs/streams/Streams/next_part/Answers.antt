@@ -1,6 +1,6 @@
 use Rattle.std.proofs.Common.{map, subst, ◌∙◌, ap, arith, min}
 use Rattle.sctp_send.specs.SenderFields.{track_meaning}
-use Rattle.sctp_send.specs.WindowKept.{StreamsKept}
+use Rattle.sctp_send.specs.PartsKept.{StreamsKept}
 use Rattle.sctp_send.specs.inner.Newcomers.{IsNextPart}
 use Rattle.sctp_send.specs.inner.PartPairs.{tickets_left}
 use Rattle.sctp_send.proofs.NextLemmas.{none_goes_on}

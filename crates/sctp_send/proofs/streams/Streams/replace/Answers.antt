@@ -1,6 +1,6 @@
 use Rattle.std.proofs.Common.{◌<◌, ◌∙◌, ◌%◌, ◌^◌, length, set, sym, ap, subst}
 use Rattle.sctp_send.specs.SenderFields.{track_meaning}
-use Rattle.sctp_send.specs.WindowKept.{StreamsKept}
+use Rattle.sctp_send.specs.PartsKept.{StreamsKept}
 use Rattle.sctp_send.specs.inner.PartPairs.{ticket_left}
 use Rattle.sctp_send.specs.inner.Walks.{one_if_rest, rest_owes}
 use Rattle.sctp_send.specs.declared.track.Track.{Track as TrackFields}

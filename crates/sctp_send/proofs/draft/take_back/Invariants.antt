@@ -1,5 +1,0 @@
-use Rattle.sctp_send.proofs.UndoLemmas.{IsTakenBack}
-use Rattle.sctp_send.proofs.draft.take_back.Given as goal
-
-abbrev pub invariant-loop : goal.invariant-loop
-invariant-loop l = IsTakenBack l.fn.draft l.draft l.counter

@@ -1,0 +1,52 @@
+use Rattle.std.proofs.Common.{◌≡◌, ◌<◌, ℕ, List, length, Some, refl, sym, ◌∙◌, ap, subst, arith}
+use Rattle.std.specs.Prelude.{slice_get}
+use Rattle.sctp_send.specs.PartsKept.{OutstandingKept}
+use Rattle.sctp_send.specs.inner.Changes.{stood}
+use Rattle.sctp_send.specs.inner.Bounding.{AreBounded}
+use Rattle.sctp_send.specs.inner.TicketOrder.{IsOrderOf, tickets_of}
+use Rattle.sctp_send.specs.declared.entry.Entry.{Entry as EntryFields}
+use Rattle.sctp_send.proofs.PlacedLemmas.{count_placed}
+use Rattle.sctp_send.proofs.TicketWalks.{get_read, placed_tickets}
+use Rattle.sctp_send.proofs.MomentWalks.{bounded_placed}
+use Rattle.sctp_send.proofs.outstanding.Outstanding.stand.Goals as goal
+
+pub stand_one-requires : goal.stand_one-requires
+stand_one-requires c = record {
+  within = subst (λ (w : OutstandingKept). c.args.at < length w.items) (sym c.self.view_is) c.requires;
+  counted = c.self.invariant.counted;
+}
+
+pub index-requires : goal.index-requires
+index-requires c =
+    let es = c.self.inside.entries.items in
+    let lt : c.args.at < length es = subst (λ (w : OutstandingKept). c.args.at < length w.items) (sym c.self.view_is) c.requires in
+    let long : length c.stand_one.new.entries.items ≡ length es = ap (λ (xs : List EntryFields). length xs) c.stand_one.ensures.items ∙ count_placed (stood c.args.standing c.args.covered c.args.abandoned) c.args.at es in
+    omega (arith, lt, long, c.stand_one.new.entries.ok)
+
+pub invariant_of-self : goal.invariant_of-self
+invariant_of-self c =
+    let s = c.self.inside in
+    let h = c.self.invariant in
+    let es = s.entries.items in
+    let new = stood c.args.standing c.args.covered c.args.abandoned in
+    let lt : c.args.at < length es = subst (λ (w : OutstandingKept). c.args.at < length w.items) (sym c.self.view_is) c.requires in
+    let items = c.stand_one.ensures.items in
+    let long : length c.stand_one.new.entries.items ≡ length es = ap (λ (xs : List EntryFields). length xs) items ∙ count_placed new c.args.at es in
+    record {
+      counted = c.stand_one.ensures.counted;
+      order = subst (λ (ts : List ℕ). IsOrderOf ts s.by_ticket.first s.by_ticket.spots.items) (sym (ap tickets_of items ∙ placed_tickets new (λ e. refl) c.args.at es)) h.order;
+      below = h.below;
+      few = h.few;
+      within = let le = h.within in omega (arith, long, le);
+      here = let le = h.here in omega (arith, c.stand_one.ensures.capacity, le);
+      there = h.there;
+      bounded =
+          let x = c.index.result.now in
+          let at : c.args.at < length c.stand_one.new.entries.items = omega (arith, long, lt) in
+          let read = subst (λ (xs : List EntryFields). slice_get xs c.args.at ≡ Some x) items (get_read c.stand_one.new.entries.items c.args.at x at c.index.ensures) in
+          subst (λ (xs : List EntryFields). AreBounded c.bound_again.new.bounds.items xs) (sym items)
+          (bounded_placed new c.args.at s.bounds.items c.bound_again.new.bounds.items es x h.bounded c.bound_again.ensures.others read c.bound_again.ensures.here);
+    }
+
+pub returns : goal.returns
+returns c = rw (← c.self.view_is, c.stand_one.ensures.items) refl

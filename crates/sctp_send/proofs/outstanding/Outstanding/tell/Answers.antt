@@ -1,0 +1,64 @@
+use Rattle.std.proofs.Common.{◌≡◌, ◌<◌, ℕ, List, length, refl, sym, ◌∙◌, ap, subst, arith}
+use Rattle.sctp_send.specs.PartsKept.{OutstandingKept}
+use Rattle.sctp_send.specs.inner.Changes.{as_covered, as_uncovered}
+use Rattle.sctp_send.specs.inner.Bounding.{AreBounded}
+use Rattle.sctp_send.specs.inner.TicketOrder.{IsOrderOf, tickets_of}
+use Rattle.sctp_send.specs.declared.entry.Entry.{Entry as EntryFields}
+use Rattle.sctp_send.proofs.PlacedLemmas.{count_placed}
+use Rattle.sctp_send.proofs.TicketWalks.{placed_tickets}
+use Rattle.sctp_send.proofs.MomentWalks.{bounded_covered}
+use Rattle.sctp_send.proofs.outstanding.Outstanding.tell.Goals as goal
+
+pub cover_one-requires : goal.cover_one-requires
+cover_one-requires c = record {
+  within = subst (λ (w : OutstandingKept). c.args.at < length w.items) (sym c.self.view_is) c.requires;
+  counted = c.self.invariant.counted;
+}
+
+pub uncover_one-requires : goal.uncover_one-requires
+uncover_one-requires c = record {
+  within = subst (λ (w : OutstandingKept). c.args.at < length w.items) (sym c.self.view_is) c.requires;
+  counted = c.self.invariant.counted;
+}
+
+pub invariant_of-self : goal.invariant_of-self
+invariant_of-self c =
+    let s = c.self.inside in
+    let h = c.self.invariant in
+    let es = s.entries.items in
+    let items = c.cover_one.ensures.items in
+    let long : length c.cover_one.new.entries.items ≡ length es = ap (λ (xs : List EntryFields). length xs) items ∙ count_placed as_covered c.args.at es in
+    record {
+      counted = c.cover_one.ensures.counted;
+      order = subst (λ (ts : List ℕ). IsOrderOf ts s.by_ticket.first s.by_ticket.spots.items) (sym (ap tickets_of items ∙ placed_tickets as_covered (λ e. refl) c.args.at es)) h.order;
+      below = h.below;
+      few = h.few;
+      within = let le = h.within in omega (arith, long, le);
+      here = let le = h.here in omega (arith, c.cover_one.ensures.capacity, le);
+      there = h.there;
+      bounded = subst (λ (xs : List EntryFields). AreBounded s.bounds.items xs) (sym items) (bounded_covered c.args.at s.bounds.items es h.bounded);
+    }
+
+pub invariant_of-self-2 : goal.invariant_of-self-2
+invariant_of-self-2 c =
+    let s = c.self.inside in
+    let h = c.self.invariant in
+    let es = s.entries.items in
+    let items = c.uncover_one.ensures.items in
+    let long : length c.uncover_one.new.entries.items ≡ length es = ap (λ (xs : List EntryFields). length xs) items ∙ count_placed as_uncovered c.args.at es in
+    record {
+      counted = c.uncover_one.ensures.counted;
+      order = subst (λ (ts : List ℕ). IsOrderOf ts s.by_ticket.first s.by_ticket.spots.items) (sym (ap tickets_of items ∙ placed_tickets as_uncovered (λ e. refl) c.args.at es)) h.order;
+      below = h.below;
+      few = h.few;
+      within = let le = h.within in omega (arith, long, le);
+      here = let le = h.here in omega (arith, c.uncover_one.ensures.capacity, le);
+      there = h.there;
+      bounded = c.uncover_one.ensures.bounded h.bounded;
+    }
+
+pub returns-then-covered : goal.returns-then-covered
+returns-then-covered c = rw (c.if-covered.true, ← c.self.view_is, c.cover_one.ensures.items) refl
+
+pub returns : goal.returns
+returns c = rw (c.if-covered.false, ← c.self.view_is, c.uncover_one.ensures.items) refl

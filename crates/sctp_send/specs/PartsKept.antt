@@ -1,0 +1,39 @@
+-- What the parts of a sender keep: the entries above CUM, the messages that wait, the streams.
+use Rattle.std.specs.Prelude.{◌≡◌, ℕ, zero, suc, List, [], ◌∷◌}
+use Rattle.std.specs.declared.rc.Rc.{Rc}
+use Rattle.std.specs.declared.alloc.Global.{Global}
+use Rattle.sctp_send.specs.declared.message.Message.{Message}
+use Rattle.sctp_send.specs.declared.entry.Entry.{Entry as EntryFields}
+use Rattle.sctp_send.specs.declared.track.Track.{Track}
+
+-- the entries above CUM, of fragments with at most so many bytes, and how many there is room for
+pub record OutstandingKept : Type 0 where
+  pub size : ℕ
+  pub items : List EntryFields
+  pub capacity : ℕ
+
+-- the messages that wait, the first to come in front
+pub record QueueKept : Type 0 where
+  pub size : ℕ
+  pub items : List (Rc Message Global)
+  pub capacity : ℕ
+
+-- the streams, by number
+pub record StreamsKept : Type 0 where
+  pub size : ℕ
+  pub items : List Track
+
+-- a list in which the element at a place is changed
+abbrev pub at_place : {A : Type 0} → (A → A) → ℕ → List A → List A
+at_place f n [] = []
+at_place f zero (x ∷ xs) = f x ∷ xs
+at_place f (suc n) (x ∷ xs) = x ∷ at_place f n xs
+
+-- the entry at an offset is changed
+abbrev pub changed : (EntryFields → EntryFields) → (at : ℕ) → OutstandingKept → OutstandingKept
+changed f at w = record w { items = at_place f at w.items }
+
+-- fragments are as long as before, and there is as much room
+pub record IsSameRoom (old new : OutstandingKept) : Type 0 where
+  pub size : new.size ≡ old.size
+  pub capacity : new.capacity ≡ old.capacity

@@ -1,0 +1,139 @@
+//! Messages handed in: refused for the first reason that holds, or queued (RFC 9260, 6.9).
+
+ghost use Rattle.std.specs.Prelude.{◌≡◌, ℕ, ◌++◌, ◌∷◌, [], map, OnOk, OnErr, IfErr};
+ghost use Rattle.sctp_model.specs.sender.SenderView.{SenderView};
+ghost use Rattle.sctp_model.specs.sender.Queueing.{promised};
+ghost use Rattle.sctp_send.specs.OutstandingFields.{queued_meaning};
+ghost use Rattle.sctp_send.specs.SenderFields.{queued_by};
+ghost use Rattle.sctp_send.specs.declared.queueing.SendFault.TheVariants.{NoMemory};
+ghost use Rattle.sctp_send.specs.SenderStands.{StandsFor};
+ghost use Rattle.sctp_send.specs.SenderAnswers.{QueueAnswer, queue_after, lane_for};
+
+use crate::message::{Fate, Message, fragments_of, owed, placed};
+use crate::queue::Queue;
+use crate::sender::Sender;
+use sctp_framing::Framing;
+use sctp_values::{Kind, LONGEST_MESSAGE, QUEUE_LIMIT, TICKET_LIMIT, TSN_LIMIT, Ticket};
+use std::alloc::Global;
+use std::rc::Rc;
+use thiserror::Error;
+
+/// Why a message is not accepted: the first reason that holds, in this order.
+#[derive(Clone, Copy, Debug, PartialEq, Eq, Error)]
+pub enum SendFault {
+    /// The stream's number isn't below the number of streams.
+    #[error("there is no such stream")]
+    NoSuchStream,
+    /// The message has no byte.
+    #[error("the message is empty")]
+    Empty,
+    /// The message has more than 65,536 bytes.
+    #[error("the message is too long")]
+    TooLong,
+    /// As many messages wait for a number as may.
+    #[error("too many messages wait")]
+    QueueFull,
+    /// There is no ticket left, or the TSNs assigned and owed would be too many.
+    #[error("no more messages can be numbered")]
+    Spent,
+    /// Memory ran out.
+    #[error("out of memory")]
+    NoMemory,
+}
+
+#[tactic(auto, unfolding(crate::specs::SenderStands::StandsFor))]
+impl<F: Framing> Sender<F> {
+    /// Accepts a message for a stream: `until` is the moment from which it is worthless, in milliseconds. It is cut into fragments of the
+    /// configured size, and waits for its number. A refusal drops the bytes.
+    ///
+    /// # Errors
+    /// The first reason of `SendFault` that holds; nothing changes then.
+    pub fn queue(
+        &mut self,
+        stream: u16,
+        ordered: bool,
+        payload_id: u32,
+        bytes: Vec<u8>,
+        until: Option<u64>,
+    ) -> Result<Ticket, SendFault>
+        ensures answer { (v : SenderView) → StandsFor F.format self.old v → QueueAnswer v stream bytes.items result }
+        ensures step { (v : SenderView) → StandsFor F.format self.old v
+            → StandsFor F.format self.new (queue_after v (lane_for stream ordered) payload_id bytes.items until result) }
+    {
+        if stream >= self.head.streams {
+            return Err(SendFault::NoSuchStream);
+        }
+        if bytes.len() == 0 {
+            return Err(SendFault::Empty);
+        }
+        if bytes.len() > LONGEST_MESSAGE {
+            return Err(SendFault::TooLong);
+        }
+        if self.parts.queue.len() >= QUEUE_LIMIT {
+            return Err(SendFault::QueueFull);
+        }
+        let promised = self.promised();
+        let more = owed(fragments_of(self.head.fragment, &bytes));
+        let given = self.head.fates.len();
+        if given >= TICKET_LIMIT as usize {
+            return Err(SendFault::Spent);
+        }
+        if promised.wrapping_add(more) > u64::from(TSN_LIMIT) {
+            return Err(SendFault::Spent);
+        }
+        match self.head.fates.reserve(1) {
+            Ok(()) => {}
+            Err(_) => return Err(SendFault::NoMemory),
+        }
+        let ticket = given as u32 + 1;
+        let message = Message {
+            ticket,
+            stream,
+            kind: Kind::of_flag(!ordered),
+            payload_id,
+            until,
+            bytes,
+        };
+        enqueue(
+            &mut self.parts.queue,
+            &mut self.head.spent,
+            self.head.alloc,
+            message,
+        )?;
+        // There is room for it.
+        self.head.fates.push_reserved(Fate::Queued);
+        Ok(Ticket(ticket))
+    }
+
+    /// The TSNs assigned, and those that the accepted messages may still take.
+    fn promised(&self) -> u64
+        ensures { (v : SenderView) → StandsFor F.format self.now v → result ≡ promised v }
+    {
+        u64::from(self.head.cum)
+            .wrapping_add(self.parts.outstanding.len() as u64)
+            .wrapping_add(self.parts.queue.owed())
+            .wrapping_add(self.parts.tracks.owed())
+    }
+}
+
+/// A message comes to the end of the queue.
+fn enqueue(
+    queue: &mut Queue,
+    spent: &mut Vec<Rc<Message>>,
+    alloc: Global,
+    message: Message,
+) -> Result<(), SendFault>
+    ensures size { queue.new.size ≡ queue.old.size }
+    ensures waits { (size : ℕ) → OnOk result (map (queued_by size) queue.new.items ≡ map (queued_by size) queue.old.items ++ queued_meaning size message ∷ []) }
+    ensures unchanged { OnErr result (queue.new.items ≡ queue.old.items) }
+    ensures memory { IfErr result (λ fault. fault ≡ NoMemory) }
+{
+    let message = match placed(spent, alloc, message) {
+        Ok(message) => message,
+        Err(_) => return Err(SendFault::NoMemory),
+    };
+    match queue.push(message) {
+        Ok(()) => Ok(()),
+        Err(_) => Err(SendFault::NoMemory),
+    }
+}
