@@ -147,6 +147,10 @@ receiver_growth() {
     # under I-DATA they go by number; what is freed at the program's end jumps
     within='sctp_recv::receiver::Receiver::on_forward*'
     grows 'data: a FORWARD that leaves the part on one of so many streams behind' 500 20 call "$built" data left
+    for format in data i-data; do
+        grows "$format: a FORWARD that jumps over so many messages in part on 32 streams, by message" 4000 1 kept "$built" "$format" parts
+        grows "$format: the same, but for the last one on each stream, by message" 4000 1 kept "$built" "$format" parts-but-one
+    done
     within=
 }
 

@@ -1,13 +1,16 @@
 -- Chains that go, as they lie in memory.
-use Rattle.std.proofs.Common.{◌≡◌, ℕ, suc, ◌-◌, ◌<◌, ◌≤◌, List, length, get_or, set, take, map, refl, sym, ◌∙◌, ap, subst, arith}
+use Rattle.std.proofs.Common.{◌≡◌, ℕ, suc, ◌-◌, ◌<◌, ◌≤◌, List, [], ◌∷◌, length, get_or, set, take, drop, filter, map, inl, inr, refl, sym, ◌∙◌, ap, subst, arith}
 use Rattle.std.specs.List.{remove}
-use Rattle.sctp_chains.specs.Links.{ChainKept, chain_of}
+use Rattle.sctp_model.specs.numbers.Lists.{Has}
+use Rattle.sctp_chains.specs.Cells.{Cell}
+use Rattle.sctp_chains.specs.Links.{ChainKept, chain_of, cells_of, AreChains}
 use Rattle.sctp_chains.specs.declared.chain.Chain.{Chain}
-use Rattle.sctp_chains.specs.inner.LettingGo.{size_of_parts, LetsGo, Removes, Trims}
-use Rattle.sctp_chains.proofs.ListLemmas.{none_dropped, dropped_has}
+use Rattle.sctp_chains.specs.inner.LettingGo.{size_of_parts, is_outside, passing, IsCut, LetsGo, Removes, Trims}
+use Rattle.sctp_chains.proofs.ListLemmas.{here_first, none_dropped, dropped_has, filter_none}
 use Rattle.sctp_chains.proofs.MemoryLemmas.{at_kept, length_kept, set_kept, remove_kept}
-use Rattle.sctp_chains.proofs.DroppingLemmas.{takes_out}
-use Rattle.sctp_chains.proofs.SearchLemmas.{not_lower, stands_in}
+use Rattle.sctp_chains.proofs.ChainLemmas.{chain_order, chain_ranks, cell_chain}
+use Rattle.sctp_chains.proofs.DroppingLemmas.{inside, low_front, split_chains, takes_out}
+use Rattle.sctp_chains.proofs.SearchLemmas.{not_lower, stands_in, front_or_back}
 use Rattle.sctp_chains.proofs.TrimLemmas.{Drops, drops_more, drops_end, drops_front}
 
 module _ (cs : List Chain) (k : ℕ) (x : Chain) (l : k < length cs) (at : x ≡ get_or cs k x) where
@@ -59,3 +62,40 @@ none_there cs k high held past = none_left cs k high (map chain_of cs) held held
 
 pub none_so_low : (cs : List Chain) (k high held : ℕ) (x : Chain) → k < length cs → x ≡ get_or cs k x → high < x.first → LetsGo high k (map chain_of cs) (map chain_of cs) held held
 none_so_low cs k high held x l at past = none_more cs k x l at high (map chain_of cs) held held (nothing_yet high k (map chain_of cs) held) past
+
+-- ---- where all go
+
+module _ (cs : List ChainKept) (h : AreChains cs) (n high : ℕ) (x : ChainKept) (last : suc n ≡ length cs) (at : x ≡ get_or cs n x) (low : x.last ≤ high) where
+  here_last : n < length cs
+  here_last = omega (arith, last)
+
+  ends_low : (c : ChainKept) → Has cs c → c.last ≤ high
+  ends_low c there = elim (front_or_back cs h n c there) [
+    | inl a ↦
+        let below = low_front (take n cs) (drop (suc n) cs) x (split_chains cs n x here_last at h) c a in
+        let order = chain_order x (h.each x (dropped_has cs n x (stands_in cs h n x here_last at))) in omega (arith, below, order, low)
+    | inr b ↦ elim (subst (λ (xs : List ChainKept). Has xs c) (here_first cs n x here_last at) b) [
+      | inl is ↦ let e = ap (λ (z : ChainKept). z.last) is in omega (arith, e, low)
+      | inr d ↦ absurd (none_dropped cs (suc n) c (omega (arith, last)) d)
+    ]
+  ]
+
+  none_stays : (bound : ℕ) → IsCut bound cs 0 → passing (is_outside bound high) (cells_of cs) ≡ []
+  none_stays bound cut = filter_none (λ (x : Cell). is_outside bound high x.rank) (cells_of cs) (λ y there.
+      let m = cell_chain cs y there in
+      let ranks = chain_ranks m.0 (h.each m.0 m.1) y m.2 in
+      let above = cut.back m.0 m.1 in
+      let below = ends_low m.0 m.1 in
+      inside bound high y.rank (let r = ranks.0 in omega (arith, above, r)) (let r = ranks.1 in omega (arith, below, r)))
+
+no_chains : AreChains []
+no_chains = record { each = λ c there. absurd there; rising = tt; parted = λ c d there other. absurd there }
+
+pub all_gone : (cs new : List Chain) (n k high held : ℕ) (x : Chain) → suc n ≡ length cs → x ≡ get_or cs n x → x.last ≤ high → k ≡ 0 → new ≡ [] →
+    LetsGo high k (map chain_of cs) (map chain_of new) held 0
+all_gone cs new n k high held x last at low first none =
+    subst (λ (j : ℕ). LetsGo high j (map chain_of cs) (map chain_of new) held 0) (sym first)
+    (subst (λ (xs : List Chain). LetsGo high 0 (map chain_of cs) (map chain_of xs) held 0) (sym none) (λ h bound cut.
+    let long = length_kept cs in
+    let here = sym (at_kept cs n x (omega (arith, last)) at (chain_of x)) in
+    record { chains = no_chains; cells = sym (none_stays (map chain_of cs) h n high (chain_of x) (omega (arith, last, long)) here low bound cut); held = λ is. refl }))

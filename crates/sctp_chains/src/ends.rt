@@ -7,6 +7,7 @@ use crate::chain::Chain;
 use sctp_sequence::Sequence;
 
 /// Takes out the chain at a place.
+#[inline(always)]
 pub(crate) fn remove_at(chains: &mut Sequence<Chain>, at: usize) -> Option<Chain>
     ensures value { IfSome result (λ c. c ≡ slice_index_or chains.old.items at c) }
     ensures items { OnSome result (chains.new.items ≡ remove chains.old.items at) }

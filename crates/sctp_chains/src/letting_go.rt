@@ -53,8 +53,23 @@ pub(crate) fn remove(chains: &mut Sequence<Chain>, held: &mut u32, at: usize) ->
     Some(chain)
 }
 
-/// From a place on, lets go of all fragments of ranks up to this one.
+/// From a place on, lets go of all fragments of ranks up to this one: where no chain stays, of all at once, and then no byte is held.
 pub(crate) fn drop_upto(chains: &mut Sequence<Chain>, held: u32, at: usize, upto: u64) -> u32
+    ensures fewer { length chains.new.items ≤ length chains.old.items }
+    ensures whole { whole_in (map chain_of chains.new.items) ≤ whole_in (map chain_of chains.old.items) }
+    ensures passed { (k : ℕ) → AreOpen k (map chain_of chains.old.items) → AreOpen (k - (length chains.old.items - length chains.new.items)) (map chain_of chains.new.items) }
+    ensures left { LetsGo upto at (map chain_of chains.old.items) (map chain_of chains.new.items) held result }
+{
+    let before = chains.len();
+    if at == 0 && before > 0 && chains.get(before - 1).last <= upto {
+        chains.clear();
+        return 0;
+    }
+    drop_each(chains, held, at, upto)
+}
+
+/// The same, one chain after another.
+fn drop_each(chains: &mut Sequence<Chain>, held: u32, at: usize, upto: u64) -> u32
     ensures fewer { length chains.new.items ≤ length chains.old.items }
     ensures whole { whole_in (map chain_of chains.new.items) ≤ whole_in (map chain_of chains.old.items) }
     ensures passed { (k : ℕ) → AreOpen k (map chain_of chains.old.items) → AreOpen (k - (length chains.old.items - length chains.new.items)) (map chain_of chains.new.items) }

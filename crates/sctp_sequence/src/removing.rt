@@ -1,6 +1,6 @@
 //! Items go.
 
-ghost use Rattle.std.specs.Prelude.{◌≡◌, ◌<◌, ◌≤◌, ◌↔◌, true, length, drop, slice_index_or, IfNone, IfSome, IsSome, OnSome};
+ghost use Rattle.std.specs.Prelude.{◌≡◌, ◌<◌, ◌≤◌, ◌↔◌, [], true, length, drop, slice_index_or, IfNone, IfSome, IsSome, OnSome};
 ghost use Rattle.std.specs.List.{remove};
 
 use crate::going::{move_up, remove_later};
@@ -28,7 +28,8 @@ impl<T: Drop> Sequence<T> {
         item
     }
 
-    /// Takes out the first item.
+    /// Takes out the first item. Its callers have it in line, since some take out one after another.
+    #[inline(always)]
     pub fn pop_front(&mut self) -> Option<T>
         ensures value { IfSome result (λ item. item ≡ slice_index_or self.old.items 0 item) }
         ensures rest { self.new.items ≡ drop 1 self.old.items }
@@ -41,5 +42,16 @@ impl<T: Drop> Sequence<T> {
             move_up(&mut self.first, &mut self.rest, &mut self.starts);
         }
         item
+    }
+
+    /// Lets go of all items.
+    pub fn clear(&mut self)
+        ensures items { self.new.items ≡ [] }
+        ensures room { self.old.room ≡ true → self.new.room ≡ true }
+    {
+        self.count = 0;
+        self.first.clear();
+        self.rest.clear();
+        self.starts.clear();
     }
 }

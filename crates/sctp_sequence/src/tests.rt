@@ -126,3 +126,17 @@ fn items_come_and_go_as_in_a_plain_list(rt: HostRuntime) -> Result<(), Fail> {
     assert!(rt; items.is_empty());
     Ok(())
 }
+
+#[test]
+fn all_items_go_at_once(rt: HostRuntime) -> Result<(), Fail> {
+    for half in [0, 1, 256, 257, 1_800] {
+        let mut items = numbers(rt.alloc(), half)?;
+        items.clear();
+        assert!(rt; items.is_empty());
+        assert_eq!(rt; items.pop_front(), None);
+        items.push_back(7)?;
+        assert_eq!(rt; items.len(), 1);
+        assert_eq!(rt; items.pop_front(), Some(7));
+    }
+    Ok(())
+}

@@ -2,7 +2,7 @@ use Rattle.std.proofs.Common.{ℕ, ◌-◌, ◌≤◌, length, map}
 use Rattle.sctp_chains.specs.Links.{chain_of, whole_in}
 use Rattle.sctp_chains.specs.inner.Finding.{AreOpen}
 use Rattle.sctp_chains.proofs.TrimLemmas.{Drops}
-use Rattle.sctp_chains.proofs.letting_go.drop_upto.Given as goal
+use Rattle.sctp_chains.proofs.letting_go.drop_each.Given as goal
 
 abbrev pub invariant-loop-chains : goal.invariant-loop-chains
 invariant-loop-chains l = record {
