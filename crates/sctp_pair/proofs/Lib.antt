@@ -3,6 +3,7 @@ pub mod AnswerLemmas
 pub mod BagLemmas
 pub mod BuiltLemmas
 pub mod ClockLemmas
+pub mod MemoryLemmas
 pub mod NotesLemmas
 pub mod PromiseLemmas
 pub mod ReadLemmas

@@ -1,5 +1,5 @@
 -- Runs that grow by an event at a time.
-use Rattle.std.proofs.Common.{◌≡◌, ℕ, ◌+◌, ◌<◌, List, [], ◌∷◌, ◌++◌, length, take, get_or, Option, Some, refl, ap, ◌∙◌}
+use Rattle.std.proofs.Common.{◌≡◌, ℕ, zero, suc, ◌+◌, ◌<◌, Bool, true, false, List, [], ◌∷◌, ◌++◌, length, take, get_or, Option, Some, refl, ap, ◌∙◌, arith}
 use Rattle.std.proofs.lemmas.List.{take_more}
 use Rattle.sctp_model.specs.world.World.{World}
 use Rattle.sctp_model.specs.world.Events as meaning
@@ -43,3 +43,8 @@ told_push outcomes answers outcome is =
     back : (os : List Outcome) → answers_of os ++ Some (outcome_meaning outcome) ∷ [] ≡ answers_of (os ++ outcome ∷ [])
     back [] = refl
     back (x ∷ xs) = ap (λ (ys : List (Option meaning.Outcome)). Some (outcome_meaning x) ∷ ys) (back xs)
+
+-- room was wanting, so some was wanted
+pub some_wanted : (n : ℕ) (ok : Bool) → (n ≡ 0 → ok ≡ true) → ok ≡ false → 0 < n
+some_wanted zero ok enough off = let on = enough refl in absurd (cc)
+some_wanted (suc n) ok enough off = omega arith

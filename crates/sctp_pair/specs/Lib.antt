@@ -1,4 +1,5 @@
 pub mod Happens
+pub mod Memory
 pub mod Unforged
 pub mod Taken
 pub mod Noted

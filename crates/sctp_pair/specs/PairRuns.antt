@@ -1,5 +1,5 @@
 -- What a pair answers to events, and what is promised of the worlds that they lead through.
-use Rattle.std.specs.Prelude.{◌≡◌, ◌⊎◌, List, [], ◌∷◌, ◌++◌, map, Option, Some, None, Result, Ok, Err}
+use Rattle.std.specs.Prelude.{◌≡◌, ◌<◌, ◌⊎◌, List, [], ◌∷◌, ◌++◌, length, map, Option, Some, None, Result, Ok, Err}
 use Rattle.std.specs.declared.vec.Vec.{Vec}
 use Rattle.std.specs.declared.alloc.Global.{Global}
 use Rattle.sctp_model.specs.end.Configured.{IsConfiguration}
@@ -12,6 +12,7 @@ use Rattle.sctp_safety.specs.Runs.{AreAllSafe}
 use Rattle.sctp_values.specs.declared.no_memory.NoMemory.{NoMemory}
 use Rattle.sctp_events.specs.Events.{outcome_meaning}
 use Rattle.sctp_pair.specs.Happens.{Means}
+use Rattle.sctp_pair.specs.Memory.{TakesMemory}
 use Rattle.sctp_events.specs.declared.event.Event.{Event}
 use Rattle.sctp_events.specs.declared.outcome.Outcome.{Outcome}
 
@@ -42,15 +43,29 @@ AllMean (event ∷ events) [] = ⊥
 abbrev pub answers_of : List Outcome → List (Option meaning.Outcome)
 answers_of outcomes = map (λ o. Some (outcome_meaning o)) outcomes
 
--- Memory was wanting before the first event, or in the last one, and in none before.
-abbrev pub IsCut : List (Option meaning.Outcome) → Type 0
-IsCut answers = (answers ≡ []) ⊎ ((outcomes : List Outcome) × (answers ≡ answers_of outcomes ++ None ∷ []))
+-- the course with one event more
+abbrev pub and_then : Course → meaning.Event → Option meaning.Outcome → World → Course
+and_then c e o x = record { events = c.events ++ e ∷ []; answers = c.answers ++ o ∷ []; worlds = c.worlds ++ x ∷ [] }
+
+-- Memory was wanting in the last event, which takes some, and in none before.
+pub record IsCut (w : World) (c : Course) : Type 0 where
+  pub before : Course
+  pub outcomes : List Outcome
+  pub answered : before.answers ≡ answers_of outcomes
+  pub event : meaning.Event
+  pub takes : TakesMemory (last_of w before.worlds) event
+  pub left : World
+  pub cut : c ≡ and_then before event None left
+
+-- It was so; or it was wanting before the first event, where there is one, for the outcomes.
+abbrev pub IsWanting : World → List Event → Course → Type 0
+IsWanting w events c = ((0 < length events) × (c.answers ≡ [])) ⊎ IsCut w c
 
 -- a run over all events with these outcomes, or one over the events so far
 abbrev pub RunLeaves : World → List Event → Result (Vec Outcome Global) NoMemory → Course → Type 0
 RunLeaves w events (Ok outcomes) c = (c.answers ≡ answers_of outcomes.items) × AllMean events c.events × LeadsOn w c
 RunLeaves w events (Err _) c =
-    (done rest : List Event) × (events ≡ done ++ rest) × AllMean done c.events × IsCut c.answers × LeadsOn w c
+    (done rest : List Event) × (events ≡ done ++ rest) × AllMean done c.events × IsWanting w events c × LeadsOn w c
 
 -- ---- what is promised
 

@@ -1,26 +1,25 @@
 //! Each thing that may happen to a pair.
 
-ghost use Rattle.std.specs.Prelude.{Option, Some};
+ghost use Rattle.std.specs.Prelude.{Option, Some, OnErr};
 ghost use Rattle.sctp_model.specs.wire.Packet.{Packet};
 ghost use Rattle.sctp_model.specs.world.World.{World};
 ghost use Rattle.sctp_model.specs.world.Events as meaning;
 ghost use Rattle.sctp_model.specs.world.Steps.{Step};
-ghost use Rattle.sctp_send.specs.SenderAnswers.{lane_for};
-ghost use Rattle.sctp_association.specs.CallAnswers.{call_of};
 ghost use Rattle.sctp_endpoint.specs.Handled.{IsRead};
 ghost use Rattle.sctp_events.specs.Events.{side_meaning, outcome_meaning, answer_of};
+ghost use Rattle.sctp_pair.specs.Memory.{TakesMemory};
 ghost use Rattle.sctp_pair.specs.PairStands.{PairStands};
 
 use crate::arrivals::{arrive, packet_at};
-use crate::moments::{abandon_at, make_room, tick};
-use crate::one_side::{abort_at, build_at, refused, send_at, shut_down, take_at};
+use crate::moments::{make_room, tick};
+use crate::one_side::{build_at, refused};
 use crate::pair::Pair;
 use sctp_endpoint::Endpoint;
 use sctp_events::{Outcome, Refusal, Side};
 use sctp_outcomes::new_ends_have_no_logs;
 use sctp_packet::one_packet;
 use sctp_terms::Draw;
-use sctp_values::{NoMemory, Ticket};
+use sctp_values::NoMemory;
 
 #[tactic(auto, unfolding(crate::specs::PairStands::PairStands))]
 impl Pair {
@@ -29,8 +28,9 @@ impl Pair {
     /// # Errors
     /// Memory ran out, and nothing changed.
     pub(crate) fn open(&mut self, a: Draw, b: Draw) -> Result<Outcome, NoMemory>
-        ensures { (w : World) → PairStands self.old w
+        ensures step { (w : World) → PairStands self.old w
             → (x : World) × Step w (meaning.OpenBoth a b) (answer_of result) x × PairStands self.new x }
+        ensures memory { (w : World) → PairStands self.old w → OnErr result (TakesMemory w (meaning.OpenBoth a b)) }
     {
         // It does nothing: its contract is the law that nothing is noted of an end that is opened.
         new_ends_have_no_logs();
@@ -52,8 +52,9 @@ impl Pair {
     /// # Errors
     /// Memory ran out, and nothing changed.
     pub(crate) fn pass_time(&mut self, moment: u64) -> Result<Outcome, NoMemory>
-        ensures { (w : World) → PairStands self.old w
+        ensures step { (w : World) → PairStands self.old w
             → (x : World) × Step w (meaning.At moment) (answer_of result) x × PairStands self.new x }
+        ensures memory { (w : World) → PairStands self.old w → OnErr result (TakesMemory w (meaning.At moment)) }
     {
         let now = self.clock.max(moment);
         let of_a = make_room(self.alloc, &mut self.a, now)?;
@@ -112,8 +113,9 @@ impl Pair {
     /// # Errors
     /// Memory ran out: the packet is cut before some chunk.
     pub(crate) fn deliver(&mut self, side: Side, number: u32) -> Result<Outcome, NoMemory>
-        ensures { (w : World) → PairStands self.old w
+        ensures step { (w : World) → PairStands self.old w
             → (x : World) × Step w (meaning.Deliver (side_meaning side) number) (answer_of result) x × PairStands self.new x }
+        ensures memory { (w : World) → PairStands self.old w → OnErr result (TakesMemory w (meaning.Deliver (side_meaning side) number)) }
     {
         match side {
             Side::A => {
@@ -148,100 +150,6 @@ impl Pair {
         match side {
             Side::A => arrive(&mut self.a, self.clock, self.draw, bytes),
             Side::B => arrive(&mut self.b, self.clock, self.draw, bytes),
-        }
-    }
-
-    /// An end's user hands in a message.
-    ///
-    /// # Errors
-    /// Memory ran out, and nothing changed.
-    pub(crate) fn send(
-        &mut self,
-        side: Side,
-        stream: u16,
-        ordered: bool,
-        payload_id: u32,
-        bytes: &[u8],
-        until: Option<u64>,
-    ) -> Result<Outcome, NoMemory>
-        ensures { (w : World) → PairStands self.old w
-            → (x : World) × Step w (meaning.Send (side_meaning side) (call_of (lane_for stream ordered) payload_id bytes.now until)) (answer_of result) x
-            × PairStands self.new x }
-    {
-        let alloc = self.alloc;
-        match side {
-            Side::A => send_at(
-                alloc,
-                &mut self.a,
-                stream,
-                ordered,
-                payload_id,
-                bytes,
-                until,
-            ),
-            Side::B => send_at(
-                alloc,
-                &mut self.b,
-                stream,
-                ordered,
-                payload_id,
-                bytes,
-                until,
-            ),
-        }
-    }
-
-    /// An end's user gives up a message.
-    ///
-    /// # Errors
-    /// Memory ran out, and nothing changed.
-    pub(crate) fn abandon(&mut self, side: Side, ticket: Ticket) -> Result<Outcome, NoMemory>
-        ensures { (w : World) → PairStands self.old w
-            → (x : World) × Step w (meaning.Abandon (side_meaning side) ticket.0) (answer_of result) x × PairStands self.new x }
-    {
-        match side {
-            Side::A => abandon_at(&mut self.a, ticket),
-            Side::B => abandon_at(&mut self.b, ticket),
-        }
-    }
-
-    /// An end's user takes the next message of a stream.
-    ///
-    /// # Errors
-    /// Memory ran out, and nothing changed.
-    pub(crate) fn take(&mut self, side: Side, stream: u16) -> Result<Outcome, NoMemory>
-        ensures { (w : World) → PairStands self.old w
-            → (x : World) × Step w (meaning.Take (side_meaning side) stream) (answer_of result) x × PairStands self.new x }
-    {
-        let alloc = self.alloc;
-        match side {
-            Side::A => take_at(alloc, &mut self.a, stream),
-            Side::B => take_at(alloc, &mut self.b, stream),
-        }
-    }
-
-    /// An end's user has no more to send.
-    pub(crate) fn shutdown(&mut self, side: Side) -> Outcome
-        ensures { (w : World) → PairStands self.old w
-            → (x : World) × Step w (meaning.Shutdown (side_meaning side)) (Some (outcome_meaning result)) x × PairStands self.new x }
-    {
-        match side {
-            Side::A => shut_down(&mut self.a),
-            Side::B => shut_down(&mut self.b),
-        }
-    }
-
-    /// An end's user ends the association at once.
-    ///
-    /// # Errors
-    /// Memory ran out, and nothing changed.
-    pub(crate) fn abort(&mut self, side: Side, reason: &[u8]) -> Result<Outcome, NoMemory>
-        ensures { (w : World) → PairStands self.old w
-            → (x : World) × Step w (meaning.Abort (side_meaning side) reason.now) (answer_of result) x × PairStands self.new x }
-    {
-        match side {
-            Side::A => abort_at(&mut self.a, reason),
-            Side::B => abort_at(&mut self.b, reason),
         }
     }
 }

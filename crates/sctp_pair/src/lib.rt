@@ -10,6 +10,7 @@ mod one_side;
 mod pair;
 mod reporting;
 mod taken;
+mod user_calls;
 
 pub use laws::premises_are_the_keys;
 pub use pair::Pair;

@@ -1,6 +1,7 @@
 //! What a moment, or a call of `abandon`, makes of an end, and the note of what it abandons.
 
-ghost use Rattle.std.specs.Prelude.{◌≡◌, ◌+◌, ◌≤◌, ◌++◌, length, map, filter, vec_capacity, IfOk};
+ghost use Rattle.std.specs.Prelude.{◌≡◌, ◌+◌, ◌≤◌, ◌++◌, true, length, map, filter, vec_capacity, IfOk, OnErr};
+ghost use Rattle.sctp_model.specs.sender.Abandoning.{has_late};
 ghost use Rattle.sctp_model.specs.sender.Readers.{abandoned};
 ghost use Rattle.sctp_model.specs.end.EndView.{EndView};
 ghost use Rattle.sctp_model.specs.world.World as world;
@@ -10,6 +11,7 @@ ghost use Rattle.sctp_model.specs.world.Steps.{Step};
 ghost use Rattle.sctp_endpoint.specs.EndpointStands.{EndpointStands};
 ghost use Rattle.sctp_events.specs.Events.{answer_of};
 ghost use Rattle.sctp_script.specs.ReportText.{ticket_number};
+ghost use Rattle.sctp_pair.specs.Memory.{TakesMemory};
 ghost use Rattle.sctp_pair.specs.Noted.{held_tickets, IsWatched};
 ghost use Rattle.sctp_pair.specs.Sides.{SideView, side_of, with_side, ticked_side, SideStands};
 
@@ -32,6 +34,7 @@ pub(crate) fn make_room(
 ) -> Result<Vec<Ticket>, NoMemory>
     ensures same { (v : SideView) → SideStands side.old v → SideStands side.new v }
     ensures watched { (v : SideView) → SideStands side.old v → v.end.moment ≤ now → IfOk result (λ before. IsWatched v.end now before.items) }
+    ensures memory { (v : SideView) → SideStands side.old v → OnErr result (has_late v.end.sender now ≡ true) }
     ensures room { IfOk result (λ before. length side.new.abandoned.items + length before.items ≤ vec_capacity side.new.abandoned) }
 {
     // It does nothing: its contract is that the end is sound.
@@ -92,8 +95,9 @@ fn note(end: &Endpoint, log: &mut Vec<Ticket>, before: &[Ticket])
 /// Memory ran out, and nothing changed.
 #[tactic(auto, unfolding(crate::specs::Sides::SideStands))]
 pub(crate) fn abandon_at(side: &mut OneSide, ticket: Ticket) -> Result<Outcome, NoMemory>
-    ensures { (w : World) (s : world.Side) → SideStands side.old (side_of w s)
+    ensures step { (w : World) (s : world.Side) → SideStands side.old (side_of w s)
         → (h : SideView) × Step w (meaning.Abandon s ticket.0) (answer_of result) (with_side w s h) × SideStands side.new h }
+    ensures memory { (w : World) (s : world.Side) → SideStands side.old (side_of w s) → OnErr result (TakesMemory w (meaning.Abandon s ticket.0)) }
 {
     // It does nothing: its contract is that the end is sound.
     side.end.sound();

@@ -1,6 +1,6 @@
 //! One side of a pair: its end, its bag and what is noted of its user, and what becomes of an event at it.
 
-ghost use Rattle.std.specs.Prelude.{◌≡◌, [], Some, Option};
+ghost use Rattle.std.specs.Prelude.{◌≡◌, [], Some, Option, OnErr};
 ghost use Rattle.sctp_model.specs.end.EndView.{EndView};
 ghost use Rattle.sctp_model.specs.world.World as world;
 ghost use Rattle.sctp_model.specs.world.World.{World, no_log};
@@ -11,6 +11,7 @@ ghost use Rattle.sctp_association.specs.CallAnswers.{call_of};
 ghost use Rattle.sctp_outcomes.specs.Kept.{HasNoLogs};
 ghost use Rattle.sctp_endpoint.specs.EndpointStands.{EndpointStands};
 ghost use Rattle.sctp_events.specs.Events.{refusal_meaning, outcome_meaning, answer_of};
+ghost use Rattle.sctp_pair.specs.Memory.{TakesMemory};
 ghost use Rattle.sctp_pair.specs.Sides.{SideView, side_of, with_side, SideStands};
 
 use crate::taken::{StreamLog, make_room_at, note_at};
@@ -136,8 +137,9 @@ pub(crate) fn refused(refusal: Refusal) -> Result<Outcome, NoMemory>
 /// Memory ran out, and nothing changed.
 #[tactic(auto, unfolding(crate::specs::Sides::SideStands))]
 pub(crate) fn take_at(alloc: Global, side: &mut OneSide, stream: u16) -> Result<Outcome, NoMemory>
-    ensures { (w : World) (s : world.Side) → SideStands side.old (side_of w s)
+    ensures step { (w : World) (s : world.Side) → SideStands side.old (side_of w s)
         → (h : SideView) × Step w (meaning.Take s stream) (answer_of result) (with_side w s h) × SideStands side.new h }
+    ensures memory { (w : World) (s : world.Side) → SideStands side.old (side_of w s) → OnErr result (TakesMemory w (meaning.Take s stream)) }
 {
     // It does nothing: its contract is that the end is sound.
     side.end.sound();

@@ -1,6 +1,6 @@
 //! Two ends, and the packets between them.
 
-ghost use Rattle.std.specs.Prelude.{◌≡◌, None, MatchOption, IfOk};
+ghost use Rattle.std.specs.Prelude.{◌≡◌, None, MatchOption, IfOk, OnErr};
 ghost use Rattle.sctp_model.specs.numbers.Lists.{item_at};
 ghost use Rattle.sctp_model.specs.end.Sealing.{Sealing};
 ghost use Rattle.sctp_model.specs.world.World.{World, start, end_of, bag_of};
@@ -12,6 +12,7 @@ ghost use Rattle.sctp_script.specs.ReportText.{report};
 ghost use Rattle.sctp_events.specs.Setups.{setup_of};
 ghost use Rattle.sctp_events.specs.Events.{side_meaning, answer_of};
 ghost use Rattle.sctp_pair.specs.Happens.{Means};
+ghost use Rattle.sctp_pair.specs.Memory.{TakesMemory};
 ghost use Rattle.sctp_pair.specs.Sides.{IsItem};
 ghost use Rattle.sctp_pair.specs.PairStands.{PairStands};
 ghost use Rattle.sctp_pair.specs.PairRuns.{Course, one_event, RunLeaves, Promised};
@@ -69,11 +70,13 @@ impl Pair {
     /// [`premises_are_the_keys`](crate::premises_are_the_keys).
     ///
     /// # Errors
-    /// Memory ran out. A packet that came is then cut before some chunk; any other event changed nothing.
+    /// Memory ran out, which it does only in an event that takes some. A packet that came is then cut before some chunk; any other event changed
+    /// nothing.
     pub fn step(&mut self, event: &Event) -> Result<Outcome, NoMemory>
-        ensures { (w : World) → PairStands self.old w
+        ensures step { (w : World) → PairStands self.old w
             → (e : meaning.Event) × (x : World) × Means event.now e × Step w e (answer_of result) x
             × Promised w (one_event e (answer_of result) x) × PairStands self.new x }
+        ensures memory { (w : World) (e : meaning.Event) → PairStands self.old w → Means event.now e → OnErr result (TakesMemory w e) }
     {
         // They do nothing: their contracts are the theorems that the promise cites.
         a_run_passes_its_worlds();
@@ -105,7 +108,8 @@ impl Pair {
     /// them keep to its premises, which [`premises_are_the_keys`](crate::premises_are_the_keys) says in the words of the listener's key.
     ///
     /// # Errors
-    /// At the first one for which memory ran out, as `step` says; those before it happened.
+    /// At the first one for which memory ran out, as `step` says; those before it happened. Or, if there are events, before the first: room for the
+    /// outcomes is made then.
     pub fn run(&mut self, events: &[Event]) -> Result<Vec<Outcome>, NoMemory>
         ensures { (w : World) → PairStands self.old w
             → (c : Course) × RunLeaves w events.now result c × Promised w c × PairStands self.new (last_of w c.worlds) }

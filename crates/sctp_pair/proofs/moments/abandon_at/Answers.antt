@@ -12,13 +12,14 @@ use Rattle.sctp_outcomes.proofs.logs.Called.{abandon_keeps_logs}
 use Rattle.sctp_script.specs.ReportText.{ticket_number}
 use Rattle.sctp_pair.specs.Sides.{side_of, with_side, SideStands}
 use Rattle.sctp_pair.proofs.AbandonedLemmas.{one_noted, none_noted}
+use Rattle.sctp_pair.proofs.MemoryLemmas.{anyway}
 use Rattle.sctp_pair.proofs.NotesLemmas.{notes_abandoned}
 use Rattle.sctp_pair.proofs.StepLemmas.{side, log_after, abandons_at, no_memory}
 use Rattle.sctp_pair.proofs.moments.abandon_at.Goals as goal
 
-pub returns-then-abandoned : goal.returns-then-abandoned
+pub returns-then-abandoned-clause-step : goal.returns-then-abandoned-clause-step
 unfolding SideStands
-returns-then-abandoned c = λ w s stands.
+returns-then-abandoned-clause-step c = λ w s stands.
     let v = end_of w s in
     let k = c.args.ticket.0 in
     let t = abandoned_at v k in
@@ -34,9 +35,9 @@ returns-then-abandoned c = λ w s stands.
       record { end = c.abandon.ensures.step v stands.end; bag = stands.bag; notes = notes_abandoned _ _ _ v t (log_of w s) same (log_after w s k) gone noted refl stands.notes keeps },
     )
 
-pub returns-in_err-map_err : goal.returns-in_err-map_err
+pub returns-in_err-map_err-clause-step : goal.returns-in_err-map_err-clause-step
 unfolding SideStands
-returns-in_err-map_err c = λ w s stands.
+returns-in_err-map_err-clause-step c = λ w s stands.
     let e = meaning.Abandon s c.args.ticket.0 in
     let p = err_from_is_err_and c.from_residual.result c.from_residual.ensures.1 in (
       side_of w s,
@@ -44,9 +45,9 @@ returns-in_err-map_err c = λ w s stands.
       record { end = stands.end; bag = stands.bag; notes = rw c.reserve.ensures.items stands.notes },
     )
 
-pub returns : goal.returns
+pub returns-clause-step : goal.returns-clause-step
 unfolding SideStands
-returns c = λ w s stands.
+returns-clause-step c = λ w s stands.
     let v = end_of w s in
     let k = c.args.ticket.0 in
     let t = abandoned_at v k in
@@ -61,3 +62,9 @@ returns c = λ w s stands.
       subst (λ (a : AbandonAnswer). Step w (meaning.Abandon s k) (Some (meaning.Fate a)) (with_side w s h)) (sym (c.abandon-fate.ensures.answer v stands.end)) (abandons_at w s k),
       record { end = end; bag = stands.bag; notes = notes_abandoned _ _ _ v t (log_of w s) c.note.new.log.items (log_after w s k) gone noted refl stands.notes keeps },
     )
+
+pub returns-in_err-map_err-clause-memory : goal.returns-in_err-map_err-clause-memory
+unfolding SideStands
+returns-in_err-map_err-clause-memory c = λ w s stands.
+    let before : abandoned (end_of w s).sender c.args.ticket.0 ≡ false = sym (c.abandoned.ensures (end_of w s) stands.end) ∙ c.if-abandoned.false in
+    anyway c.from_residual.result before

@@ -9,30 +9,31 @@ use Rattle.sctp_endpoint.specs.EndpointStands.{EndpointStands}
 use Rattle.sctp_pair.specs.Sides.{side_of, SideStands}
 use Rattle.sctp_model.specs.world.World.{A, B}
 use Rattle.sctp_pair.proofs.ClockLemmas.{on_time}
+use Rattle.sctp_pair.proofs.MemoryLemmas.{anyway}
 use Rattle.sctp_pair.specs.PairStands.{PairStands}
 use Rattle.sctp_pair.proofs.pair.Pair.open.Goals as goal
 
-pub returns-then-not-self : goal.returns-then-not-self
+pub returns-then-not-self-clause-step : goal.returns-then-not-self-clause-step
 unfolding PairStands
-returns-then-not-self c = λ w stands.
+returns-then-not-self-clause-step c = λ w stands.
     let off : c.args.self.now.openable ≡ false = grind (arith, common_steps) in
     (w, rw c.refused.ensures (steps.OpenRefused c.args.a c.args.b (stands.openable ∙ off)), stands)
 
-pub returns-in_err-at_a : goal.returns-in_err-at_a
+pub returns-in_err-at_a-clause-step : goal.returns-in_err-at_a-clause-step
 unfolding PairStands
-returns-in_err-at_a c = λ w stands.
+returns-in_err-at_a-clause-step c = λ w stands.
     let p = err_from_is_err_and c.from_residual.result c.from_residual.ensures.1 in
     (w, rw p.1 (steps.NoMemory (meaning.OpenBoth c.args.a c.args.b) refl), stands)
 
-pub returns-in_err-at_b : goal.returns-in_err-at_b
+pub returns-in_err-at_b-clause-step : goal.returns-in_err-at_b-clause-step
 unfolding PairStands
-returns-in_err-at_b c = λ w stands.
+returns-in_err-at_b-clause-step c = λ w stands.
     let p = err_from_is_err_and c.from_residual-in_err-at_b.result c.from_residual-in_err-at_b.ensures.1 in
     (w, rw p.1 (steps.NoMemory (meaning.OpenBoth c.args.a c.args.b) refl), stands)
 
-pub returns : goal.returns
+pub returns-clause-step : goal.returns-clause-step
 unfolding PairStands SideStands
-returns c = λ w stands.
+returns-clause-step c = λ w stands.
     let x = c.args.a in
     let y = c.args.b in
     let on : c.args.self.now.openable ≡ true = grind (arith, common_steps) in
@@ -51,3 +52,15 @@ returns c = λ w stands.
         on_time = on_time w _ _ _ stands.on_time step;
       },
     )
+
+pub returns-in_err-at_a-clause-memory : goal.returns-in_err-at_a-clause-memory
+unfolding PairStands
+returns-in_err-at_a-clause-memory c = λ w stands.
+    let on : c.args.self.now.openable ≡ true = grind (arith, common_steps) in
+    anyway c.from_residual.result (stands.openable ∙ on)
+
+pub returns-in_err-at_b-clause-memory : goal.returns-in_err-at_b-clause-memory
+unfolding PairStands
+returns-in_err-at_b-clause-memory c = λ w stands.
+    let on : c.args.self.now.openable ≡ true = grind (arith, common_steps) in
+    anyway c.from_residual-in_err-at_b.result (stands.openable ∙ on)

@@ -1,33 +1,35 @@
-use Rattle.std.proofs.Common.{◌≡◌, ◌≤◌, max, refl, arith}
+use Rattle.std.proofs.Common.{◌≡◌, ℕ, ◌≤◌, max, true, refl, sym, subst, arith}
 use Rattle.std.proofs.lemmas.Grind.{common_steps}
 use Rattle.std.proofs.lemmas.Result.{err_from_is_err_and}
-use Rattle.sctp_model.specs.world.World.{A, B}
+use Rattle.sctp_model.specs.sender.Abandoning.{has_late}
+use Rattle.sctp_model.specs.world.World.{A, B, end_of}
 use Rattle.sctp_model.specs.world.Events as meaning
 use Rattle.sctp_model.specs.world.Steps as steps
 use Rattle.sctp_pair.specs.Sides.{side_of}
 use Rattle.sctp_pair.specs.PairStands.{PairStands}
 use Rattle.sctp_pair.proofs.ClockLemmas.{on_time}
+use Rattle.sctp_pair.proofs.MemoryLemmas.{anyway}
 use Rattle.sctp_pair.proofs.TimeLemmas.{at_time, time_passes}
 use Rattle.sctp_pair.proofs.pair.Pair.pass_time.Goals as goal
 
-pub returns-in_err-of_a : goal.returns-in_err-of_a
+pub returns-in_err-of_a-clause-step : goal.returns-in_err-of_a-clause-step
 unfolding PairStands
-returns-in_err-of_a c = λ w stands.
+returns-in_err-of_a-clause-step c = λ w stands.
     let p = err_from_is_err_and c.from_residual.result c.from_residual.ensures.1 in
     let a = c.make_room.ensures.same (side_of w A) stands.a in
     (w, rw p.1 (steps.NoMemory (meaning.At c.args.moment) refl), record { a = a; b = stands.b; clock = stands.clock; draw = stands.draw; openable = stands.openable; on_time = stands.on_time })
 
-pub returns-in_err-of_b : goal.returns-in_err-of_b
+pub returns-in_err-of_b-clause-step : goal.returns-in_err-of_b-clause-step
 unfolding PairStands
-returns-in_err-of_b c = λ w stands.
+returns-in_err-of_b-clause-step c = λ w stands.
     let p = err_from_is_err_and c.from_residual-in_err-of_b.result c.from_residual-in_err-of_b.ensures.1 in
     let a = c.make_room.ensures.same (side_of w A) stands.a in
     let b = c.make_room-2.ensures.same (side_of w B) stands.b in
     (w, rw p.1 (steps.NoMemory (meaning.At c.args.moment) refl), record { a = a; b = b; clock = stands.clock; draw = stands.draw; openable = stands.openable; on_time = stands.on_time })
 
-pub returns : goal.returns
+pub returns-clause-step : goal.returns-clause-step
 unfolding PairStands
-returns c = λ w stands.
+returns-clause-step c = λ w stands.
     let n = c.max-now.result in
     let m = c.args.moment in
     let clock : max c.args.self.now.clock m ≡ n = grind (arith, common_steps) in
@@ -39,3 +41,21 @@ returns c = λ w stands.
     let b = c.tick-2.ensures (side_of w B) (c.make_room-2.ensures.same (side_of w B) stands.b) (rw c.deref-2.ensures.value (c.in_ok-of_b.ensures.watched (side_of w B) stands.b of_b)) in
     let step = time_passes w m n (omega (arith, c.ranges.moment.fits)) is in
     (at_time w n, step, record { a = a; b = b; clock = refl; draw = stands.draw; openable = stands.openable; on_time = on_time w _ _ _ stands.on_time step })
+
+pub returns-in_err-of_a-clause-memory : goal.returns-in_err-of_a-clause-memory
+unfolding PairStands
+returns-in_err-of_a-clause-memory c = λ w stands.
+    let n = c.max-now.result in
+    let clock : max c.args.self.now.clock c.args.moment ≡ n = grind (arith, common_steps) in
+    let is : max w.clock c.args.moment ≡ n = rw stands.clock clock in
+    let late = c.in_err-of_a.ensures.memory (side_of w A) stands.a in
+    anyway c.from_residual.result (A, subst (λ (k : ℕ). has_late (end_of w A).sender k ≡ true) (sym is) late)
+
+pub returns-in_err-of_b-clause-memory : goal.returns-in_err-of_b-clause-memory
+unfolding PairStands
+returns-in_err-of_b-clause-memory c = λ w stands.
+    let n = c.max-now.result in
+    let clock : max c.args.self.now.clock c.args.moment ≡ n = grind (arith, common_steps) in
+    let is : max w.clock c.args.moment ≡ n = rw stands.clock clock in
+    let late = c.in_err-of_b.ensures.memory (side_of w B) stands.b in
+    anyway c.from_residual-in_err-of_b.result (B, subst (λ (k : ℕ). has_late (end_of w B).sender k ≡ true) (sym is) late)

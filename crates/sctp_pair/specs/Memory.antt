@@ -1,0 +1,25 @@
+-- Which events take memory. Of any other none can be wanting.
+use Rattle.std.specs.Prelude.{◌≡◌, max, true, false, Some, slice_get}
+use Rattle.sctp_model.specs.numbers.Lists.{item_at}
+use Rattle.sctp_model.specs.wire.Packet.{Packet}
+use Rattle.sctp_model.specs.sender.Abandoning.{has_late}
+use Rattle.sctp_model.specs.sender.Readers.{abandoned}
+use Rattle.sctp_model.specs.receiver.ReceiverView.{Handed}
+use Rattle.sctp_model.specs.world.World.{Side, World, end_of, bag_of}
+use Rattle.sctp_model.specs.world.Events.{Event, OpenBoth, At, Drawing, Connect, Build, Deliver, Foreign, Send, Abandon, Take, Shutdown, Abort}
+
+-- Something grows in this world if the event happens: ends are made, where they may be; a note of what a moment or a user abandons, or of a message
+-- taken; a bag. What is drawn, a call and a shutdown want no memory, nor does a packet that the bag doesn't have.
+abbrev pub TakesMemory : World → Event → Type 0
+TakesMemory w (OpenBoth x y) = w.openable ≡ true
+TakesMemory w (At m) = (s : Side) × (has_late (end_of w s).sender (max w.clock m) ≡ true)
+TakesMemory w (Drawing d) = ⊥
+TakesMemory w (Connect d) = ⊥
+TakesMemory w (Build s) = Unit {0}
+TakesMemory w (Deliver s n) = (p : Packet) × (item_at (bag_of w s) n ≡ Some p)
+TakesMemory w (Foreign s p) = Unit {0}
+TakesMemory w (Send s c) = Unit {0}
+TakesMemory w (Abandon s k) = abandoned (end_of w s).sender k ≡ false
+TakesMemory w (Take s n) = (h : Handed) × (slice_get ((end_of w s).receiver.waiting n) 0 ≡ Some h)
+TakesMemory w (Shutdown s) = ⊥
+TakesMemory w (Abort s r) = Unit {0}
