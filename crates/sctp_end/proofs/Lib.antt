@@ -1,5 +1,6 @@
 mod CommandLemmas
 mod FieldLemmas
+mod KeyLemmas
 mod LineLemmas
 mod RunLemmas
 mod SessionLemmas

@@ -1,7 +1,7 @@
 -- The words that the program is started with.
 use Rattle.std.proofs.Common.{◌≡◌, ℕ, ◌+◌, ◌-◌, ◌<◌, ◌≤◌, inl, inr, List, [], ◌∷◌, ◌++◌, length, map, take, drop, get_or, take-append-drop, take_all, slice_index, Some, None, codes, arith, refl, sym, ap, ◌∙◌, subst, length-append}
 use Rattle.sctp_model.specs.end.Configured.{ConfigurationFault, configuration_fault, plain_configuration}
-use Rattle.std.specs.Prelude.{Option, Result, Ok, Err, IfOk, MatchOption}
+use Rattle.std.specs.Prelude.{Option, MatchOption}
 use Rattle.std.proofs.lemmas.List.{drop_all, drop_more, map-append}
 use Rattle.sctp_cookie.specs.Seals.{IsUnder}
 use Rattle.sctp_endpoint.specs.EndpointStands.{EndpointStands}
@@ -237,16 +237,14 @@ caller_set words name role rest None is called none = caller_not words name role
 caller_set words name role rest (Some end) is called (c, configures, stands) =
     (fresh_end c Caller Idle, inl (name, rest, c, is ∙ ap (λ w. name ∷ w ∷ rest) called, configures, refl), stands)
 
-pub listener_set : {E : Type 0} → (words : List (List ℕ)) (name role : List ℕ) (rest : List (List ℕ)) (result : Result (Option Endpoint) E) → words ≡ name ∷ role ∷ rest
-    → role ≡ codes "listener"
-    → IfOk result (λ found. MatchOption found ((c : Configuration) (key : List ℕ) → SetsListener rest c key → ⊥)
+pub listener_set : (words : List (List ℕ)) (name role : List ℕ) (rest : List (List ℕ)) (result : Option Endpoint) → words ≡ name ∷ role ∷ rest → role ≡ codes "listener"
+    → MatchOption result ((c : Configuration) (key : List ℕ) → SetsListener rest c key → ⊥)
     (λ end. (c : Configuration) × (key : List ℕ) × (seal : Sealing) × SetsListener rest c key × IsUnder key seal
-    × EndpointStands end (fresh_end c (Listener seal) Listening)))
-    → IfOk result (λ found. MatchOption found ((v : EndView) → SetsUp words v → ⊥) (λ end. (v : EndView) × SetsUp words v × EndpointStands end v))
-listener_set words name role rest (Ok None) is called none = listener_not words name role rest is called none
-listener_set words name role rest (Ok (Some end)) is called (c, key, seal, (settings, last, whole, configures, keyed), under, stands) = (
+    × EndpointStands end (fresh_end c (Listener seal) Listening))
+    → MatchOption result ((v : EndView) → SetsUp words v → ⊥) (λ end. (v : EndView) × SetsUp words v × EndpointStands end v)
+listener_set words name role rest None is called none = listener_not words name role rest is called none
+listener_set words name role rest (Some end) is called (c, key, seal, (settings, last, whole, configures, keyed), under, stands) = (
   fresh_end c (Listener seal) Listening,
   inr (name, last, key, settings, c, seal, is ∙ (λ i. name ∷ called i ∷ whole i), configures, keyed, under, refl),
   stands,
 )
-listener_set words name role rest (Err why) is called so = tt

@@ -15,10 +15,8 @@ Runs end s status read written =
 abbrev pub TellsForms : ℕ → (said : List ℕ) → Type 0
 TellsForms status said = ((status ≡ WRONG_WORDS) × (said ≡ USAGE.now)) ⊎ ((status ≡ FAILED) × Begins said USAGE.now)
 
--- Words that set up an end: it answered the lines of the input. Wrong words: nothing was read or written, and the forms were said. Or memory was wanting for
--- the key, and nothing was done.
+-- Words that set up an end: it answered the lines of the input. Wrong words: nothing was read or written, and the forms were said.
 abbrev pub Ends : Type 0 → List (List ℕ) → ℕ → (read written said : List ℕ) → Type 0
 Ends end words status read written said =
     ((v : EndView) × SetsUp words v × (said ≡ []) × Runs end (first_standing v) status read written)
-    ⊎ ((((v : EndView) → SetsUp words v → ⊥) × (read ≡ []) × (written ≡ []) × TellsForms status said)
-    ⊎ ((status ≡ FAILED) × (read ≡ []) × (written ≡ []) × (said ≡ [])))
+    ⊎ (((v : EndView) → SetsUp words v → ⊥) × (read ≡ []) × (written ≡ []) × TellsForms status said)

@@ -4,7 +4,7 @@ ghost use Rattle.std.specs.Prelude.{◌≡◌, ℕ, ◌+◌, ◌-◌, ◌^◌, �
 ghost use Rattle.sctp_model.specs.end.EndView.{EndView};
 ghost use Rattle.sctp_endpoint.specs.EndpointStands.{EndpointStands};
 ghost use Rattle.sctp_end.specs.ExitStatus.{Runs, TellsForms, Ends};
-ghost use Rattle.sctp_end.specs.SetUpWords.{first_standing};
+ghost use Rattle.sctp_end.specs.SetUpWords.{SetsUp, first_standing};
 
 use crate::run::run_lines;
 use crate::session::Session;
@@ -29,7 +29,8 @@ pub const FAILED: u8 = 3;
 /// read, and gives the exit status:
 /// - 0 where the input was answered to its end,
 /// - 1 where the words are no form, or the sizes, streams or ports are out of their ranges: the forms are written to `faults`,
-/// - 3 where reading, writing (to `faults` too) or memory failed, or the input has more than 2^40 bytes: what is written is a beginning.
+/// - 3 where reading, writing (to `faults` too) or memory failed, or the input has more than 2^40 bytes: what is written is a beginning. Memory
+///   isn't wanted before the first line is read.
 pub fn run_words<R: Source, W: Sink, F: Sink>(
     alloc: Global,
     words: &[String],
@@ -42,6 +43,8 @@ pub fn run_words<R: Source, W: Sink, F: Sink>(
     requires tells { F.failures faults.old < 2 ^ 64 - 1 }
     ensures ends { (read written said : List ℕ) × R.Reads input.old read input.new × W.Writes output.old written output.new
         × F.Writes faults.old said faults.new × Ends (R.IsAtEnd input.new) (map string_bytes words.now) result read written said }
+    // Wrong words are answered by 1, or by 3 where the forms couldn't be said.
+    ensures wrong { ((v : EndView) → SetsUp (map string_bytes words.now) v → ⊥) → result ≡ FAILED → F.failures faults.new ≡ F.failures faults.old + 1 }
     // No call fails but the last one, and then the status says so.
     ensures well { result < FAILED → (R.failures input.new ≡ R.failures input.old) × (W.failures output.new ≡ W.failures output.old)
         × (F.failures faults.new ≡ F.failures faults.old) }
@@ -49,9 +52,8 @@ pub fn run_words<R: Source, W: Sink, F: Sink>(
         ≤ R.failures input.old + W.failures output.old + F.failures faults.old + 1 }
 {
     match end_of(alloc, words) {
-        Ok(Some(endpoint)) => run(alloc, endpoint, input, output),
-        Ok(None) => refuse(faults),
-        Err(_) => FAILED,
+        Some(endpoint) => run(alloc, endpoint, input, output),
+        None => refuse(faults),
     }
 }
 
@@ -84,6 +86,7 @@ fn run<R: Source, W: Sink>(alloc: Global, endpoint: Endpoint, input: &mut R, out
 fn refuse<F: Sink>(faults: &mut F) -> u8
     requires { F.failures faults.old < 2 ^ 64 - 1 }
     ensures tells { (said : List ℕ) × F.Writes faults.old said faults.new × TellsForms result said }
+    ensures failed { result ≡ FAILED → F.failures faults.new ≡ F.failures faults.old + 1 }
     ensures well { result < FAILED → F.failures faults.new ≡ F.failures faults.old }
     ensures once { F.failures faults.new ≤ F.failures faults.old + 1 }
 {

@@ -1,6 +1,6 @@
 //! How an end is set up by the words that the program is started with.
 
-ghost use Rattle.std.specs.Prelude.{◌≡◌, ℕ, List, [], map, string_bytes, length, IfOk, MatchOption};
+ghost use Rattle.std.specs.Prelude.{◌≡◌, ℕ, List, [], map, string_bytes, length, MatchOption};
 ghost use Rattle.sctp_model.specs.end.EndView.{Configuration, EndView, Caller, Listener, Idle, Listening, fresh_end};
 ghost use Rattle.sctp_model.specs.end.Sealing.{Sealing};
 ghost use Rattle.sctp_cookie.specs.Seals.{IsUnder};
@@ -11,14 +11,15 @@ ghost use Rattle.sctp_end.specs.inner.SettingUp.{role_word, SetsListener};
 use sctp_cookie::keys_have_seals;
 use sctp_endpoint::{Config, Endpoint, Key};
 use sctp_text::words_say_one_value;
-use sctp_values::NoMemory;
-use sctp_words::{read_bytes, read_mode, read_u16, read_u32};
+use sctp_words::{read_mode, read_u16, read_u32};
 use std::alloc::Global;
 
 /// How many words say a configuration: `LIMIT FRAGMENT BUFFER STREAMS MODE PORT PEER`.
 const SETTINGS: usize = 7;
 /// The bytes of a key.
 const KEY_LENGTH: usize = 32;
+/// The digits that say them, two each.
+const KEY_DIGITS: usize = 64;
 
 /// How an end begins (RFC 9260, 5.1).
 #[derive(Clone, Copy)]
@@ -30,22 +31,19 @@ enum Role {
 }
 
 /// The end that these words set up, of which the first is the program's own name: `caller` or `listener`, its configuration, and the key of a
-/// listener. None where they set up none.
-///
-/// # Errors
-/// Memory ran out for a key.
-pub(crate) fn end_of(alloc: Global, words: &[String]) -> Result<Option<Endpoint>, NoMemory>
-    ensures { IfOk result (λ found. MatchOption found
+/// listener. None where they set up none. It takes no memory.
+pub(crate) fn end_of(alloc: Global, words: &[String]) -> Option<Endpoint>
+    ensures { MatchOption result
         ((v : EndView) → SetsUp (map string_bytes words.now) v → ⊥)
-        (λ end. (v : EndView) × SetsUp (map string_bytes words.now) v × EndpointStands end v)) }
+        (λ end. (v : EndView) × SetsUp (map string_bytes words.now) v × EndpointStands end v) }
 {
     let [_, role, rest @ ..] = words else {
-        return Ok(None);
+        return None;
     };
     match role_named(role.as_bytes()) {
-        Some(Role::Caller) => Ok(caller_of(alloc, rest)),
+        Some(Role::Caller) => caller_of(alloc, rest),
         Some(Role::Listener) => listener_of(alloc, rest),
-        None => Ok(None),
+        None => None,
     }
 }
 
@@ -71,26 +69,23 @@ fn caller_of(alloc: Global, words: &[String]) -> Option<Endpoint>
 }
 
 /// A listener with the configuration that these words say, and the key that the last of them says.
-///
-/// # Errors
-/// Memory ran out for the key.
-fn listener_of(alloc: Global, words: &[String]) -> Result<Option<Endpoint>, NoMemory>
-    ensures { IfOk result (λ found. MatchOption found
+fn listener_of(alloc: Global, words: &[String]) -> Option<Endpoint>
+    ensures { MatchOption result
         ((c : Configuration) (key : List ℕ) → SetsListener (map string_bytes words.now) c key → ⊥)
         (λ end. (c : Configuration) × (key : List ℕ) × (seal : Sealing) × SetsListener (map string_bytes words.now) c key × IsUnder key seal
-        × EndpointStands end (fresh_end c (Listener seal) Listening))) }
+        × EndpointStands end (fresh_end c (Listener seal) Listening)) }
 {
     // It does nothing: its contract says that the key has a seal.
     keys_have_seals();
     let [settings @ .., last] = words else {
-        return Ok(None);
+        return None;
     };
     let Some(config) = read_config(settings) else {
-        return Ok(None);
+        return None;
     };
-    match read_key(alloc, last.as_bytes())? {
-        Some(key) => Ok(Some(Endpoint::listener(alloc, config, key))),
-        None => Ok(None),
+    match read_key(last.as_bytes()) {
+        Some(key) => Some(Endpoint::listener(alloc, config, key)),
+        None => None,
     }
 }
 
@@ -133,22 +128,21 @@ fn read_config(words: &[String]) -> Option<Config>
     }
 }
 
-/// The key that a word says.
-///
-/// # Errors
-/// Memory ran out.
-fn read_key(alloc: Global, word: &[u8]) -> Result<Option<Key>, NoMemory>
-    ensures { IfOk result (λ found. MatchOption found ((key : List ℕ) → IsKey word.now key → ⊥) (λ key. IsKey word.now key)) }
+/// The key that a word says, in digits of lower case: those of upper case decode too, and don't come back. It takes no memory.
+fn read_key(word: &[u8]) -> Option<Key>
+    ensures { MatchOption result ((key : List ℕ) → IsKey word.now key → ⊥) (λ key. IsKey word.now key) }
 {
-    // It does nothing: its contract says that a word says one list of bytes.
-    words_say_one_value();
-    let Some(bytes) = read_bytes(alloc, word)? else {
-        return Ok(None);
-    };
-    if bytes.as_slice().len() != KEY_LENGTH {
-        return Ok(None);
-    }
     let mut key = [0; KEY_LENGTH];
-    key.copy_from_slice(bytes.as_slice());
-    Ok(Some(Key::new(key)))
+    let Ok(()) = hex::decode_to_slice(word, &mut key) else {
+        return None;
+    };
+    let mut digits = [0; KEY_DIGITS];
+    let Ok(()) = hex::encode_to_slice(&key, &mut digits) else {
+        return None;
+    };
+    if digits.as_slice() == word {
+        Some(Key::new(key))
+    } else {
+        None
+    }
 }

@@ -16,12 +16,11 @@ returns-in_default-read_config c =
 pub returns-in-None : goal.returns-in-None
 returns-in-None c =
     let is = last_of string_bytes c.args.words.now c.last-item.result c.in-len1-up.len_at_least c.last-item.is in
-    let none = rw c.in-None.is at c.in_ok-key.ensures in
-    key_listens_not _ _ _ is (λ key keyed. none key (rw c.as_bytes.ensures.value keyed))
+    key_listens_not _ _ _ is (λ key keyed. c.in-None.ensures key (rw c.as_bytes.ensures.value keyed))
 
-pub returns-in-Some-2 : goal.returns-in-Some-2
-returns-in-Some-2 c =
+pub returns-in-Some-read_key : goal.returns-in-Some-read_key
+returns-in-Some-read_key c =
     let is = last_of string_bytes c.args.words.now c.last-item.result c.in-len1-up.len_at_least c.last-item.is in
-    let keyed = rw c.in-Some-2.is at c.in_ok-key.ensures in
-    let seal = c.keys_have_seals.ensures.some c.in-Some-2.key in
-    (c.in-Some.config, c.in-Some-2.key, seal.0, (_, _, is, c.in-Some.ensures, rw c.as_bytes.ensures.value at keyed), seal.1, c.listener.ensures seal.0 seal.1)
+    let keyed = c.in-Some-read_key.ensures in
+    let seal = c.keys_have_seals.ensures.some c.in-Some-read_key.key in
+    (c.in-Some.config, c.in-Some-read_key.key, seal.0, (_, _, is, c.in-Some.ensures, rw c.as_bytes.ensures.value at keyed), seal.1, c.listener.ensures seal.0 seal.1)
