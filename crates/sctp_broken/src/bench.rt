@@ -36,7 +36,7 @@ impl<'a, W: Write + Drop> Bench<'a, W> {
     pub fn new(alloc: Global, base: &'a Base, sums: &'a Checksum, out: W) -> Result<Bench<'a, W>> {
         let ends = Ends::before(alloc, base)?;
         let whole = ends.packet(base)?;
-        let before = Seen::of(ends.taker(base));
+        let before = Seen::of(ends.taker(base)?);
         Ok(Bench {
             alloc,
             base,
@@ -157,7 +157,8 @@ impl<'a, W: Write + Drop> Bench<'a, W> {
         if !told.is_strange() {
             return self.renew();
         }
-        if Seen::of(self.ends.taker(self.base)) != self.before && self.tally.changes() <= SHOWN {
+        let seen = Seen::of(self.ends.taker(self.base)?);
+        if seen != self.before && self.tally.changes() <= SHOWN {
             self.show(bytes, "that changed its end", told, wanted)?;
         }
         Ok(())

@@ -23,12 +23,29 @@ struct OneSide {
     bag: Vec<Vec<u8>>,
 }
 
-/// Two ends, and the draw for INITs that come.
+impl OneSide {
+    /// An end that gave none yet.
+    fn new(alloc: Global, end: Endpoint) -> OneSide {
+        OneSide {
+            end,
+            bag: Vec::new(alloc),
+        }
+    }
+
+    /// The packet at this place of the bag, from 0.
+    fn packet(&self, place: usize) -> Result<Vec<u8>> {
+        let packet = self.bag.get(place);
+        let packet = packet.ok_or_else(|| anyhow!("there is no such packet"))?;
+        Ok(packet.clone()?)
+    }
+}
+
+/// Two ends, A and then B, and the draw for INITs that come. They stand in a list, since each place at which an end that stands by itself
+/// is dropped is proved anew.
 #[derive(Drop)]
 pub struct Ends {
     alloc: Global,
-    a: OneSide,
-    b: OneSide,
+    sides: Vec<OneSide>,
     draw: Draw,
     configs: [Config; 2],
 }
@@ -60,66 +77,63 @@ impl Ends {
             config(base, 5_000, 5_001, limits)?,
             config(base, 5_001, 5_000, limits)?,
         ];
-        let draw = draw(1, 1)?;
-        Ok(Ends {
+        let mut ends = Ends {
             alloc,
-            a: OneSide {
-                end: Endpoint::caller(alloc, configs[0]),
-                bag: Vec::new(alloc),
-            },
-            b: OneSide {
-                end: Endpoint::listener(alloc, configs[1], Key::new(KEY)),
-                bag: Vec::new(alloc),
-            },
-            draw,
+            sides: Vec::new(alloc),
+            draw: draw(1, 1)?,
             configs,
-        })
+        };
+        ends.add(Endpoint::caller(alloc, configs[0]))?;
+        ends.add(Endpoint::listener(alloc, configs[1], Key::new(KEY)))?;
+        Ok(ends)
+    }
+
+    /// Adds an end.
+    fn add(&mut self, end: Endpoint) -> Result<()> {
+        Ok(self.sides.push(OneSide::new(self.alloc, end))?)
     }
 
     /// The packet that comes.
     pub fn packet(&self, base: &Base) -> Result<Vec<u8>> {
-        let bag = match base.from {
-            Side::A => &self.a.bag,
-            Side::B => &self.b.bag,
-        };
-        Ok(packet_at(bag, base.place)?.clone()?)
+        self.of(base.from)?.packet(base.place)
     }
 
     /// The end that it comes to.
-    pub fn taker(&self, base: &Base) -> &Endpoint {
-        match base.from {
-            Side::A => &self.b.end,
-            Side::B => &self.a.end,
-        }
+    pub fn taker(&self, base: &Base) -> Result<&Endpoint> {
+        Ok(&self.of(base.from.other())?.end)
     }
 
     /// What that end tells of these bytes, which come in its place.
     pub fn told(&mut self, base: &Base, bytes: &[u8]) -> Result<Told> {
         let draw = draw(11, 700)?;
-        let to = self.side(base.from.other());
+        let to = self.side(base.from.other())?;
         Ok(Told::of(&to.end.handle_packet(NOW, bytes, draw)?))
     }
 
+    /// One of the two, to look at.
+    fn of(&self, side: Side) -> Result<&OneSide> {
+        let found = self.sides.get(side.place());
+        found.ok_or_else(|| anyhow!("there is no such end"))
+    }
+
     /// One of the two.
-    fn side(&mut self, side: Side) -> &mut OneSide {
-        match side {
-            Side::A => &mut self.a,
-            Side::B => &mut self.b,
-        }
+    fn side(&mut self, side: Side) -> Result<&mut OneSide> {
+        let found = self.sides.get_mut(side.place());
+        found.ok_or_else(|| anyhow!("there is no such end"))
     }
 
     /// What happens next.
     fn step(&mut self, step: Step) -> Result<()> {
         match step {
             Step::Open => self.open(),
-            Step::Connect(tag, tsn) => Ok(self.a.end.connect(NOW, draw(tag, tsn)?)?),
+            Step::Connect(tag, tsn) => self.connect(tag, tsn),
             Step::Draw(tag, tsn) => self.take_draw(tag, tsn),
             Step::Send(side, bytes, times) => self.send(side, bytes, times),
             Step::Build(side) => self.build(side),
             Step::Deliver(side, place) => self.deliver(side, place),
             Step::Take(side) => self.take(side),
             Step::Abandon(side, ticket) => self.abandon(side, ticket),
-            Step::Shutdown(side) => Ok(self.side(side).end.shutdown()?),
+            Step::Shutdown(side) => Ok(self.side(side)?.end.shutdown()?),
         }
     }
 
@@ -127,9 +141,15 @@ impl Ends {
     fn open(&mut self) -> Result<()> {
         let [at_a, at_b] = self.configs;
         let (of_a, of_b) = (draw(1, 1)?, draw(2, 1)?);
-        self.a.end = opened(self.alloc, at_a, of_a, of_b)?;
-        self.b.end = opened(self.alloc, at_b, of_b, of_a)?;
-        Ok(())
+        self.sides.clear();
+        self.add(opened(self.alloc, at_a, of_a, of_b)?)?;
+        self.add(opened(self.alloc, at_b, of_b, of_a)?)
+    }
+
+    /// The caller calls.
+    fn connect(&mut self, tag: u32, tsn: u32) -> Result<()> {
+        let draw = draw(tag, tsn)?;
+        Ok(self.side(Side::A)?.end.connect(NOW, draw)?)
     }
 
     /// INITs that come are answered with this tag and first TSN.
@@ -144,53 +164,41 @@ impl Ends {
         for _ in 0..times {
             message.extend_from_slice(bytes)?;
         }
-        self.side(side).end.send(0, true, 0, message, None)?;
+        self.side(side)?.end.send(0, true, 0, message, None)?;
         Ok(())
     }
 
     /// This end builds a packet.
     fn build(&mut self, side: Side) -> Result<()> {
-        let side = self.side(side);
+        let side = self.side(side)?;
         let sent = side.end.poll_transmit(NOW)?;
         let sent = sent.ok_or_else(|| anyhow!("no packet is due"))?;
         Ok(side.bag.push(sent.packet)?)
     }
 
-    /// A packet of this end comes to the other one.
+    /// A packet of this end comes to the other one; its answer goes into that one's bag.
     fn deliver(&mut self, side: Side, place: usize) -> Result<()> {
-        match side {
-            Side::A => carry(&self.a, &mut self.b, place, self.draw),
-            Side::B => carry(&self.b, &mut self.a, place, self.draw),
+        let packet = self.of(side)?.packet(place)?;
+        let draw = self.draw;
+        let to = self.side(side.other())?;
+        if let Verdict::Answer(reply) = to.end.handle_packet(NOW, &packet, draw)? {
+            to.bag.push(reply)?;
         }
+        Ok(())
     }
 
     /// The user of this end takes a message.
     fn take(&mut self, side: Side) -> Result<()> {
-        let message = self.side(side).end.take(0);
+        let message = self.side(side)?.end.take(0);
         message.ok_or_else(|| anyhow!("no message waits"))?;
         Ok(())
     }
 
     /// The user of this end abandons this ticket.
     fn abandon(&mut self, side: Side, ticket: u32) -> Result<()> {
-        let _ = self.side(side).end.abandon(Ticket(ticket));
+        let _ = self.side(side)?.end.abandon(Ticket(ticket));
         Ok(())
     }
-}
-
-/// A packet of one end comes to another one; its answer goes into that one's bag.
-fn carry(from: &OneSide, to: &mut OneSide, place: usize, draw: Draw) -> Result<()> {
-    let packet = packet_at(&from.bag, place)?;
-    if let Verdict::Answer(reply) = to.end.handle_packet(NOW, packet, draw)? {
-        to.bag.push(reply)?;
-    }
-    Ok(())
-}
-
-/// The packet at this place of a bag, from 0.
-fn packet_at(bag: &[Vec<u8>], place: usize) -> Result<&Vec<u8>> {
-    bag.get(place)
-        .ok_or_else(|| anyhow!("there is no such packet"))
 }
 
 /// A tag that isn't 0, and a first TSN.

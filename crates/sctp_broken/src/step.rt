@@ -15,6 +15,14 @@ impl Side {
             Side::B => Side::A,
         }
     }
+
+    /// Its place among the two, from 0.
+    pub fn place(self) -> usize {
+        match self {
+            Side::A => 0,
+            Side::B => 1,
+        }
+    }
 }
 
 /// What happens to two ends, all at the moment 0.

@@ -4,7 +4,7 @@ use crate::words::Words;
 use sctp_send::Ticket;
 
 /// A call of a sender, of a receiver, or of both.
-#[derive(Clone, Copy, Debug)]
+#[derive(Clone, Copy)]
 pub enum Call<'a> {
     /// A new sender; every packet of the one before it is dropped.
     Sender {

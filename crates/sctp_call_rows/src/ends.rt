@@ -59,30 +59,50 @@ impl<F: Framing> Ends<F> {
 
     /// A new sender, or a new receiver.
     fn begin(&mut self, call: &Call<'_>, out: &mut String) -> Result<()> {
-        match *call {
+        let begun = match *call {
             Call::Sender {
                 tsn,
                 streams,
                 fragment,
                 rwnd,
                 partial,
-            } if streams > 0 && fragment > 0 && fragment <= GREATEST_FRAGMENT => {
-                let sender = Sender::new(self.alloc, tsn, streams, fragment, rwnd, partial)?;
-                self.sender = Some(sender);
-                self.packets = Packets::new(self.alloc);
-                write!(out, "ok")?;
-            }
+            } => self.begin_sending(tsn, streams, fragment, rwnd, partial)?,
             Call::Receiver {
                 tsn,
                 streams,
                 buffer,
-            } => {
-                self.receiver = Some(Receiver::new(self.alloc, tsn, streams, buffer)?);
-                write!(out, "ok")?;
-            }
-            _ => {}
+            } => self.begin_receiving(tsn, streams, buffer)?,
+            _ => false,
+        };
+        if begun {
+            write!(out, "ok")?;
         }
         Ok(())
+    }
+
+    /// A new sender, and no packets; false where its words are no limits.
+    fn begin_sending(
+        &mut self,
+        tsn: u32,
+        streams: u16,
+        fragment: u16,
+        rwnd: u32,
+        partial: bool,
+    ) -> Result<bool> {
+        if streams == 0 || fragment == 0 || fragment > GREATEST_FRAGMENT {
+            return Ok(false);
+        }
+        let sender = Sender::new(self.alloc, tsn, streams, fragment, rwnd, partial)?;
+        drop(self.sender.replace(sender));
+        self.packets = Packets::new(self.alloc);
+        Ok(true)
+    }
+
+    /// A new receiver.
+    fn begin_receiving(&mut self, tsn: u32, streams: u16, buffer: u32) -> Result<bool> {
+        let receiver = Receiver::new(self.alloc, tsn, streams, buffer)?;
+        drop(self.receiver.replace(receiver));
+        Ok(true)
     }
 
     /// The SACK that goes out now comes to the sender.

@@ -43,6 +43,13 @@ fn main(rt: HostRuntime) -> Result<()> {
 /// Runs the calls of a case, under this format.
 fn run_case<F: Framing>(rt: &HostRuntime, lines: &str) -> Result<()> {
     let mut ends: Ends<F> = Ends::new(rt.alloc());
+    let ended = run_lines(rt, &mut ends, lines);
+    drop(ends);
+    ended
+}
+
+/// Runs the calls that these lines say, each as often as it says.
+fn run_lines<F: Framing>(rt: &HostRuntime, ends: &mut Ends<F>, lines: &str) -> Result<()> {
     for line in lines.split('\n') {
         writeln!(rt.stdout(), "{line}")?;
         let (times, text) = repeated(line);

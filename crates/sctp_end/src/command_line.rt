@@ -68,6 +68,7 @@ fn run<R: Source, W: Sink>(alloc: Global, endpoint: Endpoint, input: &mut R, out
     ensures once { R.failures input.new + W.failures output.new ≤ R.failures input.old + W.failures output.old + 1 }
 {
     let Some(draw) = Draw::new(1, 1) else {
+        drop(endpoint);
         return FAILED;
     };
     let mut session = Session {
@@ -76,7 +77,9 @@ fn run<R: Source, W: Sink>(alloc: Global, endpoint: Endpoint, input: &mut R, out
         draw,
         moment: 0,
     };
-    match run_lines(&mut session, input, output) {
+    let ended = run_lines(&mut session, input, output);
+    drop(session);
+    match ended {
         Ok(()) => DONE,
         Err(_) => FAILED,
     }

@@ -48,7 +48,9 @@ fn copied(alloc: Global, bytes: &[u8]) -> Result<Vec<u8>> {
 fn built(alloc: Global) -> Result<String> {
     let config = PairConfig::new(1_500, 1_400, 65_536, 1, Mode::Data)?;
     let mut pair = Pair::new(alloc, config, Key::new([7; 32]));
-    both_build(alloc, &mut pair)
+    let told = both_build(alloc, &mut pair);
+    drop(pair);
+    told
 }
 
 /// What both ends of a pair answer that are asked for a packet, A first.

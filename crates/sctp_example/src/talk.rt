@@ -10,17 +10,27 @@ const ROUNDS: u32 = 100;
 /// A caller opens an association with a listener, sends `Hi` on stream 0, and shuts it: the bytes that the listener's user took, and how it
 /// ended for both.
 pub fn talk(alloc: Global) -> Result<String> {
-    let mut caller = Endpoint::caller(alloc, config(5_000, 5_001)?);
-    let mut listener = Endpoint::listener(alloc, config(5_001, 5_000)?, Key::new([7; 32]));
+    let (of_caller, of_listener) = (config(5_000, 5_001)?, config(5_001, 5_000)?);
+    let mut caller = Endpoint::caller(alloc, of_caller);
+    let mut listener = Endpoint::listener(alloc, of_listener, Key::new([7; 32]));
+    let told = say_hi(alloc, &mut caller, &mut listener);
+    // Each place at which an end goes is proved: they go here alone, and at no `?`.
+    drop(caller);
+    drop(listener);
+    told
+}
+
+/// The same, between these two ends.
+fn say_hi(alloc: Global, caller: &mut Endpoint, listener: &mut Endpoint) -> Result<String> {
     // Tags and TSNs come from a source of chance; these stand for it.
     caller.connect(0, draw(7, 100)?)?;
-    exchange(&mut caller, &mut listener, 0)?;
+    exchange(caller, listener, 0)?;
     let hi = Vec::from_slice(alloc, b"Hi")?;
     caller.send(0, true, 0, hi, None)?;
-    exchange(&mut caller, &mut listener, 10)?;
+    exchange(caller, listener, 10)?;
     let bytes = taken(alloc, listener.take(0))?;
     caller.shutdown()?;
-    exchange(&mut caller, &mut listener, 20)?;
+    exchange(caller, listener, 20)?;
     Ok(format!(in alloc;
         "{:?} was taken; {:?}, {:?}",
         bytes.as_slice(),

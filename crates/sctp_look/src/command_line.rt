@@ -68,6 +68,21 @@ fn look<R: Source, W: Sink>(
     requires writes { W.failures output.old < 2 ^ 64 - 1 }
 {
     let mut reading = Reading::new(alloc);
+    let ended = read_and_draw(&mut reading, wish, input, output);
+    drop(reading);
+    ended
+}
+
+/// The same, into what was read of nothing yet.
+fn read_and_draw<R: Source, W: Sink>(
+    reading: &mut Reading,
+    wish: &Wish,
+    input: &mut R,
+    output: &mut W,
+) -> Result<(), LookFault>
+    requires reads { R.failures input.old < 2 ^ 64 - 1 }
+    requires writes { W.failures output.old < 2 ^ 64 - 1 }
+{
     let ended = reading.read(input);
     if matches!(ended, Ok(()) | Err(LookFault::Line(..))) {
         if let Some(run) = reading.run() {

@@ -24,21 +24,23 @@ pub(crate) struct Recording {
 }
 
 impl Recording {
-    /// A pair to which nothing happened yet: its first row shows how both ends stand.
+    /// A pair to which nothing happened yet, and no row.
+    pub(crate) fn new(alloc: Global, config: PairConfig) -> Recording {
+        Recording {
+            alloc,
+            pair: Pair::new(alloc, config, Key::new(KEY)),
+            rows: Rows::new(alloc),
+            lives: Lives::new(alloc),
+            strange: Vec::new(alloc),
+        }
+    }
+
+    /// The first row shows how both ends stand.
     ///
     /// # Errors
     /// Memory ran out.
-    pub(crate) fn new(alloc: Global, config: PairConfig) -> Result<Recording, AllocError> {
-        let pair = Pair::new(alloc, config, Key::new(KEY));
-        let mut rows = Rows::new(alloc);
-        rows.push(&pair, None, None, None)?;
-        Ok(Recording {
-            alloc,
-            pair,
-            rows,
-            lives: Lives::new(alloc),
-            strange: Vec::new(alloc),
-        })
+    pub(crate) fn begin(&mut self) -> Result<(), AllocError> {
+        self.rows.push(&self.pair, None, None, None)
     }
 
     /// The allocator.

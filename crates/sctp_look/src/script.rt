@@ -76,13 +76,21 @@ impl Reading {
         }
     }
 
+    /// How both ends stand is shown, where there is a pair.
+    fn begin(&mut self) -> Result<(), LookFault> {
+        if let Some(run) = &mut self.run {
+            run.begin()?;
+        }
+        Ok(())
+    }
+
     /// What a line says happens.
     fn happen(&mut self, line: &[u8]) -> Result<(), LookFault> {
         match read_line(self.alloc, line, self.run.is_some()) {
             Ok(None) => Ok(()),
             Ok(Some(Acting::Pair(config))) => {
-                self.run = Some(Recording::new(self.alloc, config)?);
-                Ok(())
+                drop(self.run.replace(Recording::new(self.alloc, config)));
+                self.begin()
             }
             Ok(Some(Acting::Event(event))) => match &mut self.run {
                 Some(run) => {

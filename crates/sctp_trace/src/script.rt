@@ -82,6 +82,27 @@ fn run_lines<R: Source, W: Sink>(
     ensures failed_writes { W.failures output.new ≡ W.failures output.old + failed_writes result }
 {
     let mut running = Running::new(alloc);
+    let ended = run_all(&mut running, input, output, gathered);
+    drop(running);
+    ended
+}
+
+/// Runs all lines of a script that is at its beginning.
+fn run_all<R: Source, W: Sink>(
+    running: &mut Running,
+    input: &mut R,
+    output: &mut W,
+    gathered: &mut Vec<u8>,
+) -> Result<(), ScriptFault>
+    requires reads { R.failures input.old < 2 ^ 64 - 1 }
+    requires writes { W.failures output.old < 2 ^ 64 - 1 }
+    requires empty { gathered.old.items ≡ [] }
+    requires begins { IsSoFar running.old [] [] [] None }
+    ensures answer { (read written : List ℕ) × R.Reads input.old read input.new × W.Writes output.old written output.new
+        × EndsAs (R.IsAtEnd input.new) result read (written ++ gathered.new.items) }
+    ensures failed_reads { R.failures input.new ≡ R.failures input.old + failed_reads result }
+    ensures failed_writes { W.failures output.new ≡ W.failures output.old + failed_writes result }
+{
     while running.run_line(input, output, gathered)? {}
     finish(&running.pair, gathered)
 }
@@ -166,7 +187,7 @@ fn act(
         Ok(None) => Ok(()),
         Ok(Some(Acting::Pair(config))) => {
             let key = Key::new(LISTENER_KEY);
-            *pair = Some(Pair::new(alloc, config, key));
+            drop(pair.replace(Pair::new(alloc, config, key)));
             Ok(())
         }
         Ok(Some(Acting::Event(event))) => {

@@ -10,7 +10,7 @@ returns-in-Ok-clause-runs g c = λ v stands.
     let ran = c.in-Ok.ensures.answers v stands in
     (ran.0, ran.1, ran.2, ran.3, ran_whole _ v _ _ _ c.in-Some.ensures.0 ran.4)
 
-pub returns-clause-runs : goal.returns-clause-runs
-returns-clause-runs g c = λ v stands.
+pub returns-in-Err-clause-runs : goal.returns-in-Err-clause-runs
+returns-in-Err-clause-runs g c = λ v stands.
     let ran = c.in-Err.ensures.answers v stands in
     (ran.0, ran.1, ran.2, ran.3, ran_partly _ v _ _ _ c.in-Some.ensures.0 ran.4)

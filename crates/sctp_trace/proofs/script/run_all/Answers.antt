@@ -3,16 +3,16 @@ use Rattle.std.proofs.lemmas.Result.{err_from_is_err_and}
 use Rattle.std.proofs.lemmas.Grind.{common_steps}
 use Rattle.sctp_trace.proofs.ScriptLemmas.{lines_within, closed}
 use Rattle.sctp_trace.proofs.ScriptGathered.{behind_gathered}
-use Rattle.sctp_trace.proofs.script.run_lines.Goals as goal
+use Rattle.sctp_trace.proofs.script.run_all.Goals as goal
 
 pub run_line-requires-clause-number : goal.run_line-requires-clause-number
 run_line-requires-clause-number g c =
-    let so = c.loop-running.invariant.so in
+    let so = c.loop.invariant.so in
     omega (arith, so.6.number, so.6.given.count, lines_within so.2)
 
 pub returns-in_err-run_line-clause-answer : goal.returns-in_err-run_line-clause-answer
 returns-in_err-run_line-clause-answer g c =
-    let so = c.loop-running.invariant.so in
+    let so = c.loop.invariant.so in
     let ran = c.in_err-run_line.ensures.runs so.0 so.1 so.2 so.3 so.6 in
     let p = err_from_is_err_and c.from_residual.result c.from_residual.ensures.1 in
     let same : c.from_residual.result ≡ Err c.in_err-run_line.field-0.0 = p.1 ∙ ap Err p.2 in (
@@ -23,9 +23,9 @@ returns-in_err-run_line-clause-answer g c =
       rw same ran.4,
     )
 
-pub loop-running-preserved : goal.loop-running-preserved
-loop-running-preserved g c =
-    let so = c.loop-running.invariant.so in
+pub loop-preserved : goal.loop-preserved
+loop-preserved g c =
+    let so = c.loop.invariant.so in
     let ran = rw c.if-branch.true at (c.in_ok-run_line.ensures.runs so.0 so.1 so.2 so.3 so.6) in
     let on = ran.4 in
     record {
@@ -39,13 +39,13 @@ loop-running-preserved g c =
         on.2,
       );
       small = c.in_ok-run_line.ensures.small c.if-branch.true;
-      reads = grind (arith, common_steps, c.in_ok-run_line.ensures.failed_reads, c.loop-running.invariant.reads);
-      writes = grind (arith, common_steps, c.in_ok-run_line.ensures.failed_writes, c.loop-running.invariant.writes);
+      reads = grind (arith, common_steps, c.in_ok-run_line.ensures.failed_reads, c.loop.invariant.reads);
+      writes = grind (arith, common_steps, c.in_ok-run_line.ensures.failed_writes, c.loop.invariant.writes);
     }
 
 pub returns-clause-answer : goal.returns-clause-answer
 returns-clause-answer g c =
-    let so = c.loop-running.invariant.so in
+    let so = c.loop.invariant.so in
     let ran = rw c.if-branch.false at (c.in_ok-run_line.ensures.runs so.0 so.1 so.2 so.3 so.6) in
     let last = ran.4 in
     let over = last.1 in

@@ -1,12 +1,12 @@
 use Rattle.std.proofs.Common.{◌≡◌, ℕ, ◌-◌, ◌≤◌, ◌++◌, List, Option}
 use Rattle.sctp_model.specs.world.World.{World}
 use Rattle.sctp_trace.specs.inner.ScriptSteps.{IsSoFar}
-use Rattle.sctp_trace.proofs.script.run_lines.Given as goal
+use Rattle.sctp_trace.proofs.script.run_all.Given as goal
 use Rattle.sctp_text.specs.declared.limits.TheConstants.{LONGEST_TEXT}
 
 -- what was read, written and gathered so far, by which lines; no call has failed
-abbrev pub invariant-loop-running : goal.invariant-loop-running
-invariant-loop-running g l = record {
+abbrev pub invariant-loop : goal.invariant-loop
+invariant-loop g l = record {
   so : (text done : List ℕ) × (lines : List (List ℕ)) × (state : Option World) × g.R.Source.Reads l.fn.input text l.input
       × g.W.Sink.Writes l.fn.output done l.output × IsSoFar l.running text (done ++ l.gathered.items) lines state;
   small : l.running.lines.given ≤ LONGEST_TEXT;
@@ -14,5 +14,5 @@ invariant-loop-running g l = record {
   writes : g.W.Sink.failures l.output ≡ g.W.Sink.failures l.fn.output;
 }
 
-abbrev pub decreases-loop-running : goal.decreases-loop-running
-decreases-loop-running g l = LONGEST_TEXT - l.running.lines.given
+abbrev pub decreases-loop : goal.decreases-loop
+decreases-loop g l = LONGEST_TEXT - l.running.lines.given
