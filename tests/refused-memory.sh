@@ -1,7 +1,7 @@
 #!/bin/sh
 # Refuses memory to built programs, one growth after the other, until a run meets none; has each read and write fail; has each one of
 # several bytes move a single one. To be run by hand:
-#   tests/refused-memory.sh            all of it (half a minute once the programs are built)
+#   tests/refused-memory.sh            all of it (a minute once the programs are built, which takes far longer)
 #   tests/refused-memory.sh wire ..    these runs of tests/starved alone
 #   tests/refused-memory.sh programs   sctp-trace and sctp-end alone
 # The program of tests/starved must print tests/starved/stdout where nothing is refused, and the same whichever growth is refused: at each call

@@ -1,7 +1,7 @@
 #!/bin/sh
 # Long and mixed schedules over a pair, each checked against the five promises by what the program of tests/schedules itself keeps. To be run by hand:
 #   tests/schedules.sh                 200 schedules of 2,000 steps for each of four modes and two habits, and the two long rows (some ten seconds
-#                                      once the program is built, which takes some minutes)
+#                                      once the program is built: a quarter of an hour, the libraries first)
 #   tests/schedules.sh 20x2000 rows    20 of each, and the rows: what it prints then must be tests/schedules/stdout, and is compared with it
 #   tests/schedules.sh COUNTxSTEPS     so many of so many steps
 # It ends with 0 where no promise is broken, and needs Python to build.
