@@ -12,8 +12,6 @@ mod halving;
 mod removing;
 mod searching;
 mod sequence;
-#[cfg(test)]
-mod tests;
 
 pub use sctp_values::NoMemory;
 pub use sequence::Sequence;

@@ -1,6 +1,6 @@
-//! Many items come amid each other, are found, replaced and go.
+//! Lists in blocks: many items come amid each other, are found, replaced and go.
 
-use crate::Sequence;
+use sctp_sequence::Sequence;
 use std::alloc::Global;
 use std::test::Fail;
 
