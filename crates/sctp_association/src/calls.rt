@@ -18,6 +18,7 @@ use crate::timers::{Alarm, Timers};
 use sctp_send::{Abandoned, SendFault};
 use sctp_terms::{ConnectFault, Draw, ShutdownFault};
 use sctp_values::Ticket;
+use std::mem::replace;
 use thiserror::Error;
 
 /// Why a message isn't accepted.
@@ -45,7 +46,7 @@ impl Machine {
             return Err(ConnectFault::State);
         }
         self.moment = self.moment.max(now);
-        self.life = Life::Unjoined(Unjoined::Calling(draw));
+        drop(replace(&mut self.life, Life::Unjoined(Unjoined::Calling(draw))));
         self.due.call();
         call_timers(&mut self.timers);
         Ok(())

@@ -27,6 +27,7 @@ use sctp_opening::Terms;
 use sctp_terms::{Config, Draw};
 use sctp_wire::{Init, NoMemory};
 use std::alloc::Global;
+use std::mem::replace;
 
 #[tactic(auto, unfolding(crate::specs::MachineStands::MachineStands))]
 impl Machine {
@@ -73,12 +74,13 @@ impl Machine {
             own: body.listener_tag,
             peer: body.caller_tag,
         };
-        self.life = Life::Joined(Association {
+        let joined = Association {
             tags,
             terms,
             progress: Progress::Open(Stage::Established),
             traffic,
-        });
+        };
+        drop(replace(&mut self.life, Life::Joined(joined)));
         self.due.begin();
         turn_timers(&mut self.timers, Stage::Established);
         Ok(())
@@ -94,22 +96,23 @@ impl Machine {
         ensures refused { (v : EndView) → MachineStands self.old v → OnErr result (MachineStands self.new v) }
     {
         let terms = Terms::of_init_ack(&self.config, draw, offer);
-        let traffic = begun_for(self.alloc, &self.config, terms, offer.rwnd)?;
         let echoed = EchoedCookie::copied(self.alloc, cookie)?;
         let reported = self
             .due
             .causes
             .with_ack_report(self.alloc, &self.config, &offer.parameters)?;
+        let traffic = begun_for(self.alloc, &self.config, terms, offer.rwnd)?;
         let tags = Tags {
             own: draw.tag(),
             peer: offer.tag,
         };
-        self.life = Life::Joined(Association {
+        let joined = Association {
             tags,
             terms,
             progress: Progress::Echoing(echoed),
             traffic,
-        });
+        };
+        drop(replace(&mut self.life, Life::Joined(joined)));
         self.due.echo(reported);
         echo_timers(&mut self.timers);
         Ok(())

@@ -12,5 +12,5 @@ unfolding MachineStands
 returns-clause-step c = λ v stands.
     let b = body_meaning c.args.body.now in
     let t = tags_of_body b in
-    joined_there _ v _ _ _ (terms_of_body b) b.rwnd (model.Open t model.Established) (record (due_in (model.Open t model.Established) v.due) { cookie_ack = true }) stands
-    c.of_cookie-terms.ensures refl (c.begin.ensures v.due t stands.due) (c.turn_timers.ensures t) c.in_ok-traffic.ensures
+    rw c.replace.ensures.after (joined_there _ v _ _ _ (terms_of_body b) b.rwnd (model.Open t model.Established) (record (due_in (model.Open t model.Established) v.due) { cookie_ack = true }) stands
+    c.of_cookie-terms.ensures refl (c.begin.ensures v.due t stands.due) (c.turn_timers.ensures t) c.in_ok-traffic.ensures)

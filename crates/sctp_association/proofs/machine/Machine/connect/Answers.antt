@@ -20,4 +20,4 @@ pub returns-clause-step : goal.returns-clause-step
 unfolding MachineStands
 returns-clause-step c = λ v stands.
     let now = with_clock _ v _ c.args.now stands c.max-self.ensures in
-    called_stands _ (at_moment v c.args.now) c.args.draw _ _ now (sym c.is_idle.ensures ∙ c.if-not-is_idle.false) (c.call.ensures v.due c.args.draw now.due) (c.call_timers.ensures c.args.draw)
+    rw c.replace.ensures.after (called_stands _ (at_moment v c.args.now) c.args.draw _ _ now (sym c.is_idle.ensures ∙ c.if-not-is_idle.false) (c.call.ensures v.due c.args.draw now.due) (c.call_timers.ensures c.args.draw))
