@@ -12,7 +12,7 @@ use std::collections::VecDeque;
 use std::mem::replace;
 
 /// What the chunk that begins a message says of it: its own index, and the payload protocol identifier.
-#[derive(Clone, Copy, Debug, PartialEq, Eq)]
+#[derive(Clone, Copy)]
 pub(crate) struct Head {
     pub(crate) index: u32,
     pub(crate) payload_id: u32,

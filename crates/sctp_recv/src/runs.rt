@@ -7,7 +7,7 @@ use sctp_sequence::Sequence;
 use sctp_values::NoMemory;
 
 /// Indexes that came, from the first to the last.
-#[derive(Clone, Copy, Debug, PartialEq, Eq)]
+#[derive(Clone, Copy)]
 pub(crate) struct SeenRun {
     pub(crate) first: u32,
     pub(crate) last: u32,

@@ -23,7 +23,7 @@ use sctp_values::{NoMemory, WINDOW};
 
 /// A message that takes its number: it stands at this place of the queue, so many of its fragments take their indexes, and this stream's turn
 /// is next then.
-#[derive(Clone, Copy, Debug)]
+#[derive(Clone, Copy)]
 pub struct Beginning {
     pub place: usize,
     pub count: usize,
@@ -31,7 +31,7 @@ pub struct Beginning {
 }
 
 /// What takes the next index.
-#[derive(Clone, Copy, Debug)]
+#[derive(Clone, Copy)]
 pub enum Next {
     /// A message that has no number yet.
     Begins(Beginning),

@@ -14,7 +14,7 @@ use std::collections::VecDeque;
 pub const MOST: usize = 0xffff_ffff;
 
 /// An entry: its message's ticket, and its index, modulo 2^32.
-#[derive(Clone, Copy, Debug)]
+#[derive(Clone, Copy)]
 pub struct Spot {
     pub ticket: u32,
     pub index: u32,
@@ -23,7 +23,7 @@ pub struct Spot {
 /// A spot for each entry, by rising ticket; those of one ticket by rising index.
 ///
 /// Where tickets rise with the indexes, as under DATA, entries come and go at its ends.
-#[derive(Debug, Drop)]
+#[derive(Drop)]
 pub struct ByTicket {
     spots: VecDeque<Spot>,
     // the index of the first entry, modulo 2^32; offsets are counted from there

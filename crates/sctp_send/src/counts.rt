@@ -18,7 +18,7 @@ use crate::wishes::{is_done, is_first_sending, is_repeat, is_unsettled, weight};
 use std::collections::VecDeque;
 
 /// Counts of entries, by their offsets above CUM. Sums are modulo 2^64.
-#[derive(Clone, Copy, Debug)]
+#[derive(Clone, Copy)]
 pub struct Counts {
     /// Before this offset nothing waits to be repeated.
     pub marked: usize,

@@ -16,7 +16,7 @@ use std::rc::Rc;
 
 /// What filling changes: entries, the queue, streams and the turn as in a sender; the messages that took their numbers, in order; and what was
 /// changed, the last change last.
-#[derive(Debug, Drop)]
+#[derive(Drop)]
 pub struct Draft {
     pub outstanding: Outstanding,
     pub queue: Queue,
@@ -27,7 +27,7 @@ pub struct Draft {
 }
 
 /// One change, with what was before it.
-#[derive(Debug, Drop)]
+#[derive(Drop)]
 pub enum Change {
     /// The entry at an offset went out; it stood so.
     Out {

@@ -7,7 +7,7 @@ use crate::message::Message;
 use std::rc::Rc;
 
 /// Whether an entry went out, and whether it is to go out again.
-#[derive(Clone, Copy, Debug, PartialEq, Eq)]
+#[derive(Clone, Copy, PartialEq, Eq)]
 pub enum Standing {
     /// It never went out.
     Unsent,
@@ -28,7 +28,7 @@ pub fn unmarked(standing: Standing) -> Standing
 }
 
 /// What stands at an index.
-#[derive(Clone, Copy, Debug, PartialEq, Eq)]
+#[derive(Clone, Copy)]
 pub enum Place {
     /// A fragment of a message.
     Fragment(u32),
@@ -37,7 +37,7 @@ pub enum Place {
 }
 
 /// One index above CUM: the fragment or end mark that has it, and what became of it.
-#[derive(Debug, Drop)]
+#[derive(Drop)]
 pub struct Entry {
     pub message: Rc<Message>,
     /// Its message's place in the lane (SSN or MID, as a count).
@@ -49,7 +49,7 @@ pub struct Entry {
 }
 
 /// A run of entries that the peer has, by their offsets above CUM: those behind `from`, up to `to`.
-#[derive(Clone, Copy, Debug, PartialEq, Eq)]
+#[derive(Clone, Copy)]
 pub struct CoveredRun {
     pub from: u16,
     pub to: u16,

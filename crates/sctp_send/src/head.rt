@@ -6,7 +6,7 @@ use std::alloc::Global;
 use std::rc::Rc;
 
 /// All of a sender but the parts that filling a packet changes.
-#[derive(Debug, Drop)]
+#[derive(Drop)]
 pub struct Head {
     pub alloc: Global,
     pub initial: u32,

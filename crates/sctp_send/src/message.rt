@@ -10,7 +10,7 @@ use std::alloc::Global;
 use std::rc::Rc;
 
 /// What `queue` was given for a message. Its bytes are kept once: fragments are ranges of them.
-#[derive(Debug, Drop)]
+#[derive(Drop)]
 pub struct Message {
     pub ticket: u32,
     pub stream: u16,
@@ -69,7 +69,7 @@ pub fn placed(
 }
 
 /// What became of an accepted message.
-#[derive(Clone, Copy, Debug, PartialEq, Eq)]
+#[derive(Clone, Copy)]
 pub enum Fate {
     /// It waits for its number.
     Queued,

@@ -9,14 +9,14 @@ use std::collections::VecDeque;
 use std::marker::Model;
 
 /// Two numbers. Pairs stand by rising first number, and where it is the same by rising second one.
-#[derive(Clone, Copy, Debug)]
+#[derive(Clone, Copy)]
 pub struct Pair {
     pub first: u32,
     pub second: u32,
 }
 
 /// Pairs in rising order.
-#[derive(Debug, Drop)]
+#[derive(Drop)]
 pub struct Ordered {
     pairs: VecDeque<Pair>,
 }

@@ -21,7 +21,7 @@ use std::marker::Model;
 use std::rc::Rc;
 
 /// An entry for each index above CUM, that of CUM + 1 in front, with counts of them, and their order by ticket.
-#[derive(Debug, Drop)]
+#[derive(Drop)]
 pub struct Outstanding {
     // the most bytes of a fragment
     pub(crate) size: u16,

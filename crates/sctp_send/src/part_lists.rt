@@ -13,7 +13,7 @@ use sctp_values::NoMemory;
 use std::alloc::Global;
 
 /// The messages in part.
-#[derive(Debug, Drop)]
+#[derive(Drop)]
 pub struct PartLists {
     // each by its stream and its ticket
     by_stream: Ordered,

@@ -19,7 +19,7 @@ use std::marker::Model;
 use std::rc::Rc;
 
 /// The messages without a number, with counts of them.
-#[derive(Debug, Drop)]
+#[derive(Drop)]
 pub struct Queue {
     // the most bytes of a fragment
     pub(crate) size: u16,

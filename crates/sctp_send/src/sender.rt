@@ -19,7 +19,7 @@ use std::alloc::Global;
 use std::marker::{Model, PhantomData};
 
 /// One end's sending half: what it was given, what has a TSN, and what its peer told.
-#[derive(Debug, Drop)]
+#[derive(Drop)]
 pub struct Sender<F: Framing> {
     pub(crate) head: Head,
     pub(crate) parts: Draft,

@@ -19,7 +19,7 @@ use std::marker::Model;
 use std::mem;
 
 /// The streams of a sender, with counts of them.
-#[derive(Debug, Drop)]
+#[derive(Drop)]
 pub struct Streams {
     // the most bytes of a fragment
     size: u16,

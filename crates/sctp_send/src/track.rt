@@ -8,7 +8,7 @@ use crate::message::{Message, fragments_of, owed};
 use std::rc::Rc;
 
 /// What is left of a message in part: the fragment that it takes next.
-#[derive(Debug, Drop)]
+#[derive(Drop)]
 pub struct Rest {
     pub message: Rc<Message>,
     pub number: u32,
@@ -16,7 +16,7 @@ pub struct Rest {
 }
 
 /// What is kept of a stream: how many messages of each kind have a number, and its message in part.
-#[derive(Debug, Drop)]
+#[derive(Drop)]
 pub struct Track {
     pub ordered: u32,
     pub unordered: u32,
