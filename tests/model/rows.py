@@ -2,7 +2,8 @@
 """The transcript that the model gives to cases in the form of crates/sctp_rows.
 
 rows.py [CASES [TRANSCRIPT]]: by default the two files of that crate. What the program says of wrong
-words is the text of a library, which no model has: it is taken over from TRANSCRIPT.
+words is the text of a library, which no model has: it is taken over from TRANSCRIPT, and so are the
+cases of sctp-end (of random ends ends.py compares the lines) and of sctp-look.
 """
 
 import os

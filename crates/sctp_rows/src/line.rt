@@ -22,6 +22,11 @@ impl<'a> Line<'a> {
             for _ in text.len()..length {
                 bytes.push(b'0')?;
             }
+        } else if let Some(count) = number_behind('x', form) {
+            bytes.clear();
+            for _ in 0..count {
+                bytes.extend_from_slice(text.as_bytes())?;
+            }
         } else {
             return Ok(None);
         }

@@ -1,9 +1,11 @@
-//! Runs the cases that stand on standard input, and prints a transcript: each line of a case as it stands there and,
-//! behind it, what the program wrote before it read on; then what it said of faults, and its status.
+//! Runs the cases that stand on standard input, each with one of the three programs `sctp-trace`, `sctp-end` and `sctp-look`, and
+//! prints a transcript: each line of a case as it stands there and, behind it, what the program wrote before it read on; then what it
+//! said of faults, and its status.
 //!
 //! A case is
 //! - `= NAME`,
-//! - `$ WORDS`: the words of the program, its own name first, with one space between them,
+//! - `$ WORDS`: the words of a program, with one space between them. The first is its own name, and `sctp-end` and `sctp-look` run
+//!   these; any other name, or none, runs `sctp-trace`, which looks at no name,
 //! - the lines of the script on its standard input.
 //!
 //! A line of the script is one of
@@ -11,11 +13,12 @@
 //! - `- TEXT`: this line without its line feed,
 //! - `*N TEXT`: this line N times; what is written for all but the last isn't shown,
 //! - `~N TEXT`: this line, filled with `0` up to N bytes,
+//! - `xN TEXT`: one line of this text N times,
 //! - with `/` before any of these: an alternative begins, of this line and those below it. The lines above the first one are
 //!   run before each of them, and what is written for those isn't shown.
 //!
 //! Other lines are remarks: one that begins with two spaces says what the bytes below it are. Of a script only what was read
-//! is shown. The model in tests/model writes the same transcript: `rows.py`.
+//! is shown. The model in tests/model writes the same transcript of the cases of `sctp-trace`: `rows.py`.
 #![tactic(auto)]
 
 mod line;
@@ -25,7 +28,7 @@ mod shown;
 use crate::line::Line;
 use crate::script::Script;
 use crate::shown::Shown;
-use sctp_trace::{FromRead, ToWrite, run_words};
+use sctp_trace::{FromRead, ToWrite};
 use std::cell::Cell;
 use std::io::{Read, Result, Write};
 use std::str;
@@ -106,17 +109,38 @@ fn words_of(rt: &HostRuntime, words: &str) -> Result<Vec<String>> {
 /// Runs the program once, and prints what it does behind the lines that are hidden.
 fn run(rt: &HostRuntime, words: &str, lines: &[Line<'_>], above: usize) -> Result<()> {
     let list = words_of(rt, words)?;
-    let hidden = Cell::new(false);
     let mut said = Vec::new(rt.alloc());
-    let status = run_words(
-        rt.alloc(),
-        &list,
-        &mut FromRead::new(Script::new(rt.stdout(), lines, above, &hidden)),
-        &mut ToWrite::new(Shown::new(rt.stdout(), &hidden)),
-        &mut ToWrite::new(&mut said),
-    );
+    let status = status_of(rt, &list, lines, above, &mut said);
     tell(rt, str::from_utf8(&said).unwrap_or(""))?;
     writeln!(rt.stdout(), "status {status}")
+}
+
+/// Runs the program that the words name over these lines, with what it says of faults put behind `said`: its status.
+fn status_of(
+    rt: &HostRuntime,
+    words: &[String],
+    lines: &[Line<'_>],
+    above: usize,
+    said: &mut Vec<u8>,
+) -> u8 {
+    let alloc = rt.alloc();
+    let hidden = Cell::new(false);
+    let mut input = FromRead::new(Script::new(rt.stdout(), lines, above, &hidden));
+    let mut output = ToWrite::new(Shown::new(rt.stdout(), &hidden));
+    let mut faults = ToWrite::new(said);
+    match name_of(words) {
+        "sctp-end" => sctp_end::run_words(alloc, words, &mut input, &mut output, &mut faults),
+        "sctp-look" => sctp_look::run_words(alloc, words, &mut input, &mut output, &mut faults),
+        _ => sctp_trace::run_words(alloc, words, &mut input, &mut output, &mut faults),
+    }
+}
+
+/// The first of the words, which is the program's name; empty where there is none.
+fn name_of(words: &[String]) -> &str {
+    match words.first() {
+        Some(name) => name.as_str(),
+        None => "",
+    }
 }
 
 /// Prints what was said of faults, each line behind `!`.
