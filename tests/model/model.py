@@ -84,12 +84,17 @@ COMMANDS = {
 }
 
 
+def in_range(limit, fragment, buffer, streams):
+    """Whether an end may have these sizes and streams."""
+    return (576 <= limit <= 1500 and 4 <= fragment <= 1400 and 32 + (fragment + 3) // 4 * 4 <= limit
+            and 65_536 <= buffer <= 16_777_216 and 1 <= streams <= 32)
+
+
 class Pair:
     """Two ends, a bag of packets for each, the clock and the draw."""
 
     def __init__(self, limit, fragment, buffer, streams, mode):
-        if not (576 <= limit <= 1500 and 4 <= fragment <= 1400 and 32 + (fragment + 3) // 4 * 4 <= limit
-                and 65_536 <= buffer <= 16_777_216 and 1 <= streams <= 32):
+        if not in_range(limit, fragment, buffer, streams):
             raise LineFault(BAD_VALUE)
         partial, interleave = MODES[mode.encode()]
         self.configs = {x: Config(PORT[x], PORT[OTHER[x]], limit, fragment, buffer, streams,

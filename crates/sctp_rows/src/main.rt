@@ -18,7 +18,7 @@
 //!   run before each of them, and what is written for those isn't shown.
 //!
 //! Other lines are remarks: one that begins with two spaces says what the bytes below it are. Of a script only what was read
-//! is shown. The model in tests/model writes the same transcript of the cases of `sctp-trace`: `rows.py`.
+//! is shown. The model in tests/model writes the same transcript, but for the pictures of `sctp-look`: `rows.py`.
 #![tactic(auto)]
 
 mod line;

@@ -1,0 +1,172 @@
+#!/usr/bin/env python3
+"""A model of `sctp-end`: one end, its user's calls and the packets that come, line by line.
+
+end.py caller LIMIT FRAGMENT BUFFER STREAMS MODE PORT PEER < LINES, or listener .. KEY, prints the
+answers. Status 1 for words that are no form.
+"""
+
+import sys
+
+from endpoint import Config, Endpoint
+from model import (BAD_VALUE, KIND, LINE_LIMIT, MODE, MODES, N16, N32, N64, TOO_LONG, UNKNOWN_COMMAND, WORD_COUNT,
+                   LineFault, hex_bytes, in_range, tag, until)
+from printing import hex_text
+
+COMMANDS = {
+    b'connect': (tag, N32),
+    b'draw': (tag, N32),
+    b'at': (N64,),
+    b'packet': (hex_bytes,),
+    b'build': (),
+    b'send': (N16, KIND, N32, until, hex_bytes),
+    b'abandon': (N32,),
+    b'acknowledged': (N32,),
+    b'abandoned': (N32,),
+    b'take': (N16,),
+    b'shutdown': (),
+    b'abort': (hex_bytes,),
+    b'next': (),
+    b'state': (),
+    b'held': (),
+}
+
+
+def port(word):
+    value = N16(word)
+    if value == 0:
+        raise LineFault(BAD_VALUE)
+    return value
+
+
+def key(word):
+    value = hex_bytes(word)
+    if len(value) != 32:
+        raise LineFault(BAD_VALUE)
+    return value
+
+
+SETTINGS = (N32, N32, N32, N32, MODE, port, port)
+ROLES = {b'caller': SETTINGS, b'listener': SETTINGS + (key,)}
+
+
+def end_of(words):
+    """The endpoint that these words set up, or None."""
+    role, *words = words or [b'']
+    if len(words) != len(ROLES.get(role, ())) or not words:
+        return None
+    try:
+        limit, fragment, buffer, streams, mode, own_port, peer_port, *keys = [
+            read(word) for read, word in zip(ROLES[role], words)]
+    except LineFault:
+        return None
+    if not in_range(limit, fragment, buffer, streams):
+        return None
+    config = Config(own_port, peer_port, limit, fragment, buffer, streams, *MODES[mode.encode()])
+    return Endpoint(config, *keys)
+
+
+class Session:
+    """Answers line by line; `write` has the answers so far."""
+
+    def __init__(self, endpoint, write):
+        self.endpoint, self.write, self.clock, self.next_draw = endpoint, write, 0, (1, 1)
+
+    def line(self, line, _):
+        """One line without its LF. A fault changes nothing."""
+        try:
+            if len(line) > LINE_LIMIT:
+                raise LineFault(TOO_LONG)
+            if line and not line.startswith(b'#'):
+                self.write(self.answer(*line.split(b' ')))
+        except LineFault as fault:
+            self.write('fault %d' % fault.args[0])
+
+    def answer(self, command, *words):
+        if command not in COMMANDS:
+            raise LineFault(UNKNOWN_COMMAND)
+        readers = COMMANDS[command]
+        if len(words) != len(readers):
+            raise LineFault(WORD_COUNT)
+        return getattr(self, command.decode())(*[read(word) for read, word in zip(readers, words)])
+
+    def end(self):
+        """Nothing is said behind the last line."""
+
+    # ---- One method for each command; its answer ----
+
+    def connect(self, drawn_tag, tsn):
+        return 'ok' if self.endpoint.connect(self.clock, (drawn_tag, tsn)) else 'refused 1'
+
+    def draw(self, drawn_tag, tsn):
+        self.next_draw = (drawn_tag, tsn)
+        return 'ok'
+
+    def at(self, moment):
+        self.clock = max(self.clock, moment)
+        self.endpoint.on_moment(self.clock)
+        return 'ok'
+
+    def packet(self, data):
+        verdict, *rest = self.endpoint.handle_packet(self.clock, data, self.next_draw)
+        return ' '.join([verdict] + [hex_text(one) if verdict == 'answer' else str(one) for one in rest])
+
+    def build(self):
+        packet, _ = self.endpoint.poll_transmit(self.clock)
+        return 'quiet' if packet is None else 'sent ' + hex_text(packet)
+
+    def send(self, stream, kind, payload_id, limit, data):
+        answer = self.endpoint.send(stream, kind == 'o', payload_id, data, limit)
+        return 'ticket %d' % answer if answer > 0 else 'refused %d' % -answer
+
+    def abandon(self, ticket):
+        return 'fate %d' % self.endpoint.abandon(ticket)
+
+    def acknowledged(self, ticket):
+        return self.holds(ticket, lambda message: self.endpoint.sender.acknowledged(message))
+
+    def abandoned(self, ticket):
+        return self.holds(ticket, lambda message: message.abandoned)
+
+    def holds(self, ticket, test):
+        """Whether there is a message with this ticket of which the test holds."""
+        messages = self.endpoint.sender.messages if self.endpoint.sender is not None else []
+        return 'yes' if 1 <= ticket <= len(messages) and test(messages[ticket - 1]) else 'no'
+
+    def take(self, stream):
+        message = self.endpoint.take(stream)
+        if message is None:
+            return 'empty %d' % stream
+        named = '-' if message.number is None else message.number
+        return 'message %d %s %s %d %s' % (stream, 'o' if message.ordered else 'u', named, message.payload_id,
+                                           hex_text(message.data))
+
+    def shutdown(self):
+        return 'ok' if self.endpoint.shutdown() else 'refused 1'
+
+    def abort(self, reason):
+        answer = self.endpoint.abort(reason)
+        return 'refused %d' % answer if isinstance(answer, int) else 'answer ' + hex_text(answer)
+
+    def next(self):
+        moment = self.endpoint.next_moment()
+        return 'next %s' % ('-' if moment is None else moment)
+
+    def state(self):
+        return 'state %s %s' % (self.endpoint.state, self.endpoint.ended or '-')
+
+    def held(self):
+        return 'held %d' % (self.endpoint.receiver.held if self.endpoint.receiver is not None else 0)
+
+
+def main():
+    endpoint = end_of([word.encode() for word in sys.argv[1:]])
+    if endpoint is None:
+        return 1
+    session = Session(endpoint, lambda answer: print(answer, flush=True))
+    for line in sys.stdin.buffer:
+        session.line(line.removesuffix(b'\n'), len(line))
+    return 0
+
+
+if __name__ == '__main__':
+    sys.exit(main())
