@@ -5,6 +5,7 @@ ghost use Rattle.std.specs.Prelude.{◌≡◌, Some, None, MatchOption, option_m
 ghost use Rattle.sctp_model.specs.sender.Abandoning.{has_late};
 ghost use Rattle.sctp_model.specs.end.EndView.{EndView, InStage, state_of, ended_of};
 ghost use Rattle.sctp_terms.specs.Meanings.{end_meaning, state_meaning};
+ghost use Rattle.sctp_send.specs.SenderAnswers.{next_late};
 ghost use Rattle.sctp_recv.specs.HandedOf.{handed_of};
 ghost use Rattle.sctp_outcomes.specs.Kept.{IsSound};
 ghost use Rattle.sctp_association.specs.StageMeans.{stage_meaning};
@@ -16,6 +17,7 @@ use crate::machine::Machine;
 use crate::stage::Stage;
 use sctp_recv::Message;
 use sctp_terms::{Config, End, State};
+use sctp_values::Ticket;
 
 #[tactic(auto, unfolding(crate::specs::MachineStands::MachineStands))]
 impl Machine {
@@ -114,6 +116,17 @@ impl Machine {
         match &self.life {
             Life::Unjoined(_) => false,
             Life::Joined(association) => association.traffic.has_late(now),
+        }
+    }
+
+    /// The lowest ticket above `last` of a message that may be abandoned and is past its time at this moment, in milliseconds; `Ticket(0)`
+    /// lies below all. Before an association none is.
+    pub fn next_late(&self, last: Ticket, now: u64) -> Option<Ticket>
+        ensures { (v : EndView) → MachineStands self.now v → option_map (λ t. t.0) result ≡ next_late v.sender last.0 now }
+    {
+        match &self.life {
+            Life::Unjoined(_) => None,
+            Life::Joined(association) => association.traffic.next_late(last, now),
         }
     }
 

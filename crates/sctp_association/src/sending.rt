@@ -1,6 +1,6 @@
 //! What an association's traffic does as a sender, in either format (RFC 9260, 6; RFC 3758, 3.5; RFC 8260, 2.2).
 
-ghost use Rattle.std.specs.Prelude.{◌≡◌, ◌<◌, ◌≤◌, nat_lt, false};
+ghost use Rattle.std.specs.Prelude.{◌≡◌, ◌<◌, ◌≤◌, nat_lt, false, option_map};
 ghost use Rattle.sctp_model.specs.numbers.Limits.{WINDOW};
 ghost use Rattle.sctp_model.specs.messages.Format.{Format};
 ghost use Rattle.sctp_model.specs.sender.SenderView.{SenderView};
@@ -11,7 +11,7 @@ ghost use Rattle.sctp_model.specs.sender.SackTaken.{sack_fault, sack_after, shut
 ghost use Rattle.sctp_model.specs.sender.Abandoning.{has_late, expired, timed_out, abandon_answer, abandon_after};
 ghost use Rattle.sctp_model.specs.end.Clock.{is_point_past};
 ghost use Rattle.sctp_wire.specs.ChunkTree.{sack_meaning};
-ghost use Rattle.sctp_send.specs.SenderAnswers.{reason_meaning, answer_meaning, QueueAnswer, queue_after, lane_for};
+ghost use Rattle.sctp_send.specs.SenderAnswers.{reason_meaning, answer_meaning, QueueAnswer, queue_after, lane_for, next_late};
 ghost use Rattle.sctp_association.specs.TrafficStands.{TrafficStands};
 
 use crate::traffic::Traffic;
@@ -107,6 +107,16 @@ impl Traffic {
         match self {
             Traffic::Plain(directions) => directions.sender.has_late(now),
             Traffic::Interleaved(directions) => directions.sender.has_late(now),
+        }
+    }
+
+    /// The lowest ticket above `last` of a message that may be abandoned and is past its time at this moment; `Ticket(0)` lies below all.
+    pub fn next_late(&self, last: Ticket, now: u64) -> Option<Ticket>
+        ensures { (f : Format) (s : SenderView) (r : ReceiverView) → TrafficStands self.now f s r → option_map (λ t. t.0) result ≡ next_late s last.0 now }
+    {
+        match self {
+            Traffic::Plain(directions) => directions.sender.next_late(last, now),
+            Traffic::Interleaved(directions) => directions.sender.next_late(last, now),
         }
     }
 

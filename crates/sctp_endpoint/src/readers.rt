@@ -8,6 +8,7 @@ ghost use Rattle.sctp_model.specs.receiver.ReceiverView.{held_bytes};
 ghost use Rattle.sctp_model.specs.end.EndView.{EndView, state_of, ended_of};
 ghost use Rattle.sctp_model.specs.end.Moments.{next_moment};
 ghost use Rattle.sctp_terms.specs.Meanings.{end_meaning, state_meaning};
+ghost use Rattle.sctp_send.specs.SenderAnswers.{next_late};
 ghost use Rattle.sctp_recv.specs.HandedOf.{handed_of};
 ghost use Rattle.sctp_outcomes.specs.Kept.{IsSound};
 ghost use Rattle.sctp_endpoint.specs.EndpointStands.{EndpointStands};
@@ -118,6 +119,15 @@ impl Endpoint {
         ensures { (v : EndView) → EndpointStands self.now v → result ≡ has_late v.sender now }
     {
         self.machine.has_late(now)
+    }
+
+    /// Of the messages that may be abandoned and are past their time at this moment, in milliseconds, the lowest ticket above `last`:
+    /// `Ticket(0)` lies below all. Asked again with each answer, it names all that `on_moment` would abandon at that moment (RFC 3758, 3.5).
+    /// It searches by halves in what waits and what isn't acknowledged, and passes groups of tickets whose moments haven't come.
+    pub fn next_late(&self, last: Ticket, now: u64) -> Option<Ticket>
+        ensures { (v : EndView) → EndpointStands self.now v → option_map (λ t. t.0) result ≡ next_late v.sender last.0 now }
+    {
+        self.machine.next_late(last, now)
     }
 
     /// How many TSNs it has assigned that the peer hasn't acknowledged, with one for each message in part: never more than 32,767, so that the

@@ -1,6 +1,6 @@
 -- Messages past their time: what is kept shows which tickets are due, and one ticket after the other is done.
 use Rattle.std.proofs.Common.{◌≡◌, ℕ, zero, suc, ◌+◌, ◌-◌, ◌<◌, ◌≤◌, List, [], ◌∷◌, ◌++◌, drop, Bool, true, false, Option, Some, None, refl, sym, ap, ◌∙◌, arith}
-use Rattle.std.specs.Prelude.{◌==◌, ◌||◌, nat_lt, if◌then◌else◌, option_map, option_and_then, find}
+use Rattle.std.specs.Prelude.{◌==◌, ◌&&◌, ◌||◌, nat_lt, if◌then◌else◌, option_map, option_and_then, find}
 use Rattle.std.specs.List.{list_any}
 use Rattle.std.proofs.lemmas.Bool.{and_parts, or_left, or_right}
 use Rattle.std.proofs.lemmas.Bool.Decides.{nat_tests}
@@ -15,7 +15,9 @@ use Rattle.sctp_model.proofs.sender.AbandonCases.{after_abandon}
 use Rattle.sctp_model.proofs.sender.OwnLaws.{found_owns}
 use Rattle.sctp_model.proofs.sender.TicketLaws.{is_ticketed}
 use Rattle.sctp_model.proofs.sender.ExpiredLaws.{is_late, late_waits, expired_to, expired_next}
+use Rattle.sctp_model.proofs.sender.WordLaws.{lowest_none, lowest_found}
 use Rattle.sctp_model.proofs.sender.LateLaws.{shown_message, shown_from, late_waiting, late_shown, late_rest, never_late, expires_none}
+use Rattle.sctp_send.specs.SenderAnswers.{next_late}
 use Rattle.sctp_send.specs.SenderKept.{Item, Rest, Track, Kept}
 use Rattle.sctp_send.specs.SenderStands.{items_from, table, rest_here, track_here, Keeps}
 use Rattle.sctp_send.specs.inner.Expiring.{queue_messages, item_messages, rest_message, rest_messages, kept_messages, soonest}
@@ -242,3 +244,40 @@ some_kept f s v now t k found =
     let here = kept_late f s v now t k late.1 in
     let given = due_given f v now t k.reached (and_parts (is_overdue v now t) (may_abandon v t) here).0 in
     some_up (is_to_expire v now) 1 v.tickets t (omega (arith, late.0)) (omega (arith, given)) here
+
+-- ---- the next one that is late
+
+-- a ticket up to the last one isn't asked for
+up_to_last : (last t : ℕ) (b : Bool) → (last < t → b ≡ false) → (nat_lt last t && b) ≡ false
+up_to_last last t b off = by_above (nat_lt last t) refl
+  where
+    by_above : (a : Bool) → nat_lt last t ≡ a → (a && b) ≡ false
+    by_above true above = off (grind (arith, nat_tests))
+    by_above false above = refl
+
+none_next : (f : Format) (s : Kept) (v : SenderView) (last now : ℕ) → Keeps f s v → soonest now last None (kept_messages s) ≡ None → next_late v last now ≡ None
+none_next f s v last now k none =
+    let quiet = (soonest_none now last None (kept_messages s) none).1 in
+    lowest_none (λ t. nat_lt last t && is_to_expire v now t) v.tickets (λ t lo hi. up_to_last last t (is_to_expire v now t) (λ above. kept_idle f s v now t k (quiet t above)))
+
+some_next : (f : Format) (s : Kept) (v : SenderView) (last now t : ℕ) → Keeps f s v → soonest now last None (kept_messages s) ≡ Some t → next_late v last now ≡ Some t
+some_next f s v last now t k found =
+    let next = soonest_some now last None (kept_messages s) t found in
+    let late = soonest_late now last (kept_messages s) t found in
+    let above = late.0 in
+    let here = kept_late f s v now t k late.1 in
+    let on : nat_lt last t ≡ true = grind (arith, nat_tests) in
+    lowest_found (λ x. nat_lt last x && is_to_expire v now x) v.tickets t (record {
+      some = omega (arith, above);
+      within = due_given f v now t k.reached (and_parts (is_overdue v now t) (may_abandon v t) here).0;
+      passes = rw (on, here) refl;
+      first = λ x lo hi. up_to_last last x (is_to_expire v now x) (λ after. kept_idle f s v now x k (next.quiet x after hi));
+    })
+
+-- what is kept shows just which ticket that is
+pub kept_next : (f : Format) (s : Kept) (v : SenderView) (last now : ℕ) → Keeps f s v → soonest now last None (kept_messages s) ≡ next_late v last now
+kept_next f s v last now k = by_found (soonest now last None (kept_messages s)) refl
+  where
+    by_found : (o : Option ℕ) → soonest now last None (kept_messages s) ≡ o → o ≡ next_late v last now
+    by_found None none = sym (none_next f s v last now k none)
+    by_found (Some t) found = sym (some_next f s v last now t k found)

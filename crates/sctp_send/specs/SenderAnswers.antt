@@ -1,12 +1,14 @@
 -- What the calls of a sender answer, in terms of a view that it stands for, and the view that they leave.
-use Rattle.std.specs.Prelude.{◌≡◌, ℕ, suc, Bool, not, List, Option, None, Some, Result, Ok, Err}
+use Rattle.std.specs.Prelude.{◌≡◌, ℕ, suc, nat_lt, Bool, not, ◌&&◌, List, Option, None, Some, Result, Ok, Err}
 use Rattle.sctp_model.specs.messages.Format.{Lane}
 use Rattle.sctp_model.specs.messages.Framing.{lane_kind}
 use Rattle.sctp_model.specs.sender.SenderView.{SenderView}
+use Rattle.sctp_model.specs.sender.Words.{lowest}
 use Rattle.sctp_model.specs.sender.Queueing as model
 use Rattle.sctp_model.specs.sender.Queueing.{refusal, queued}
 use Rattle.sctp_model.specs.sender.SackTaken as taken
 use Rattle.sctp_model.specs.sender.Abandoning as gone
+use Rattle.sctp_model.specs.sender.Abandoning.{is_to_expire}
 use Rattle.sctp_send.specs.declared.abandon.Abandoned.{Abandoned as AbandonedFields}
 use Rattle.sctp_send.specs.declared.abandon.Abandoned.TheVariants.{Withdrawn, Abandoned, Acknowledged, Unknown, Reliable}
 use Rattle.sctp_values.specs.declared.ticket.Ticket.{Ticket}
@@ -70,3 +72,9 @@ answer_code Abandoned = 2
 answer_code Acknowledged = 3
 answer_code Unknown = 4
 answer_code Reliable = 5
+
+-- ---- the messages that are late
+
+-- the lowest ticket above this one whose message is past its time and may be abandoned
+abbrev pub next_late : SenderView → (last now : ℕ) → Option ℕ
+next_late v last now = lowest (λ t. nat_lt last t && is_to_expire v now t) v.tickets

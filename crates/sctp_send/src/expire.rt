@@ -1,9 +1,10 @@
 //! Messages that are past their time (RFC 3758, 3.5 and 4.1: timed reliability).
 
-ghost use Rattle.std.specs.Prelude.{◌≡◌, false, None};
+ghost use Rattle.std.specs.Prelude.{◌≡◌, false, None, option_map};
 ghost use Rattle.sctp_model.specs.sender.SenderView.{SenderView};
 ghost use Rattle.sctp_model.specs.sender.Abandoning.{has_late, expired};
 ghost use Rattle.sctp_send.specs.SenderStands.{StandsFor};
+ghost use Rattle.sctp_send.specs.SenderAnswers.{next_late};
 ghost use Rattle.sctp_send.specs.inner.Expiring.{soonest, kept_messages};
 
 use crate::sender::Sender;
@@ -32,7 +33,7 @@ impl<F: Framing> Sender<F> {
     {
         let mut last = 0;
         for _ in 0..self.head.fates.len() {
-            match self.next_late(last, now) {
+            match self.lowest_late(last, now) {
                 Some(ticket) => {
                     let _answer = self.abandon(Ticket(ticket));
                     last = ticket;
@@ -48,14 +49,26 @@ impl<F: Framing> Sender<F> {
         ensures exact { (v : SenderView) → StandsFor F.format self.now v → result ≡ has_late v now }
         ensures idle { (v : SenderView) → StandsFor F.format self.now v → result ≡ false → expired v now ≡ v }
     {
-        match self.next_late(0, now) {
+        match self.lowest_late(0, now) {
             Some(_) => true,
             None => false,
         }
     }
 
-    /// The lowest ticket above this one of a message that is past its time and may be abandoned.
-    fn next_late(&self, last: u32, now: u64) -> Option<u32>
+    /// The lowest ticket above `last` of a message that may be abandoned and is past its time at this moment, which is in milliseconds;
+    /// `Ticket(0)` lies below all. Asked again with each answer, it names all that `expire` abandons at that moment. It finds its place by
+    /// halves, and from there on passes groups of tickets whose moments haven't come.
+    pub fn next_late(&self, last: Ticket, now: u64) -> Option<Ticket>
+        ensures { (v : SenderView) → StandsFor F.format self.now v → option_map (λ t. t.0) result ≡ next_late v last.0 now }
+    {
+        match self.lowest_late(last.0, now) {
+            Some(ticket) => Some(Ticket(ticket)),
+            None => None,
+        }
+    }
+
+    /// The same, by its number.
+    fn lowest_late(&self, last: u32, now: u64) -> Option<u32>
         ensures { result ≡ soonest now last None (kept_messages self.now) }
     {
         let found = self.parts.queue.late(last, now, None);

@@ -12,13 +12,13 @@ pub returns-in-None : goal.returns-in-None
 unfolding StandsFor
 returns-in-None g c = λ v stands.
     let so_far = c.loop.invariant.done v stands in
-    let all = late_none g.F.Framing.format c.loop.self v (expired_to c.args.now v c.loop.last) c.args.now c.loop.last so_far.0 refl so_far.1 (sym c.next_late.ensures ∙ c.in-None.is) in
+    let all = late_none g.F.Framing.format c.loop.self v (expired_to c.args.now v c.loop.last) c.args.now c.loop.last so_far.0 refl so_far.1 (sym c.lowest_late.ensures ∙ c.in-None.is) in
     rw all so_far.0
 
 pub loop-preserved : goal.loop-preserved
 unfolding StandsFor
 loop-preserved g c =
-    let found = sym c.next_late.ensures ∙ c.in-Some.is in
+    let found = sym c.lowest_late.ensures ∙ c.in-Some.is in
     let late = soonest_late c.args.now c.loop.last (kept_messages c.loop.self) c.in-Some.ticket found in
     record {
       low = omega (arith, c.loop.invariant.low, late.0);

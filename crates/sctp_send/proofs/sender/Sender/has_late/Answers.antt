@@ -7,14 +7,14 @@ use Rattle.sctp_send.proofs.sender.Sender.has_late.Goals as goal
 pub returns-in-Some-clause-exact : goal.returns-in-Some-clause-exact
 unfolding StandsFor
 returns-in-Some-clause-exact g c = λ v stands.
-    sym (some_kept g.F.Framing.format c.args.self.now v c.args.now c.in-Some.field-0 stands (sym c.next_late.ensures ∙ c.in-Some.is))
+    sym (some_kept g.F.Framing.format c.args.self.now v c.args.now c.in-Some.field-0 stands (sym c.lowest_late.ensures ∙ c.in-Some.is))
 
 pub returns-in-None-clause-exact : goal.returns-in-None-clause-exact
 unfolding StandsFor
 returns-in-None-clause-exact g c = λ v stands.
-    sym (none_kept g.F.Framing.format c.args.self.now v c.args.now stands (sym c.next_late.ensures ∙ c.in-None.is))
+    sym (none_kept g.F.Framing.format c.args.self.now v c.args.now stands (sym c.lowest_late.ensures ∙ c.in-None.is))
 
 pub returns-in-None-clause-idle : goal.returns-in-None-clause-idle
 unfolding StandsFor
 returns-in-None-clause-idle g c = λ v stands none.
-    nothing_expires v c.args.now (none_kept g.F.Framing.format c.args.self.now v c.args.now stands (sym c.next_late.ensures ∙ c.in-None.is))
+    nothing_expires v c.args.now (none_kept g.F.Framing.format c.args.self.now v c.args.now stands (sym c.lowest_late.ensures ∙ c.in-None.is))
