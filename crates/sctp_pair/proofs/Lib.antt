@@ -3,12 +3,14 @@ pub mod AnswerLemmas
 pub mod BagLemmas
 pub mod BuiltLemmas
 pub mod ClockLemmas
+pub mod LateLemmas
 pub mod MemoryLemmas
 pub mod NotesLemmas
 pub mod PromiseLemmas
 pub mod ReadLemmas
 pub mod RunLemmas
 pub mod SendLemmas
+pub mod SparedLemmas
 pub mod StepLemmas
 pub mod TakeLemmas
 pub mod TakenLemmas

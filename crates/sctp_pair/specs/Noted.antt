@@ -1,10 +1,11 @@
 -- What a pair notes of a user beside the packets: the tickets that were numbered, those that were abandoned, and the messages taken.
-use Rattle.std.specs.Prelude.{◌≡◌, ℕ, not, List, map, filter}
+use Rattle.std.specs.Prelude.{◌≡◌, ℕ, List, map, filter}
 use Rattle.std.specs.declared.vec.Vec.{Vec}
 use Rattle.std.specs.declared.alloc.Global.{Global}
 use Rattle.sctp_model.specs.numbers.Lists.{joined}
 use Rattle.sctp_model.specs.sender.SenderView.{SenderView}
 use Rattle.sctp_model.specs.sender.Words.{count_up}
+use Rattle.sctp_model.specs.sender.Abandoning.{is_to_expire}
 use Rattle.sctp_model.specs.sender.Readers.{abandoned}
 use Rattle.sctp_model.specs.end.EndView.{EndView}
 use Rattle.sctp_model.specs.end.Moments.{ticked}
@@ -27,9 +28,9 @@ pub record AreNoted (packets : List (Vec Ticket Global)) (gone : List Ticket) (l
 
 -- ---- what a moment abandons
 
--- the tickets that aren't abandoned, rising
-abbrev pub held_tickets : SenderView → List ℕ
-held_tickets v = filter (λ k. not (abandoned v k)) (count_up 1 v.tickets)
+-- the tickets of messages that are past their time and may be abandoned, rising
+abbrev pub late_tickets : SenderView → (now : ℕ) → List ℕ
+late_tickets v now = filter (is_to_expire v now) (count_up 1 v.tickets)
 
 -- All that the moment abandons is among these tickets, in its order, and of these nothing else is abandoned after it.
 abbrev pub IsWatched : EndView → (now : ℕ) → List Ticket → Type 0

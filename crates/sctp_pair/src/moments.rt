@@ -12,7 +12,7 @@ ghost use Rattle.sctp_endpoint.specs.EndpointStands.{EndpointStands};
 ghost use Rattle.sctp_events.specs.Events.{answer_of};
 ghost use Rattle.sctp_script.specs.ReportText.{ticket_number};
 ghost use Rattle.sctp_pair.specs.Memory.{TakesMemory};
-ghost use Rattle.sctp_pair.specs.Noted.{held_tickets, IsWatched};
+ghost use Rattle.sctp_pair.specs.Noted.{late_tickets, IsWatched};
 ghost use Rattle.sctp_pair.specs.Sides.{SideView, side_of, with_side, ticked_side, SideStands};
 
 use crate::one_side::OneSide;
@@ -21,8 +21,8 @@ use sctp_events::Outcome;
 use sctp_values::{NoMemory, Ticket};
 use std::alloc::Global;
 
-/// Makes room for the note of what a moment abandons, and answers the tickets to look at again after it: none where no message is late, so
-/// that then no ticket is looked at.
+/// Makes room for the note of what a moment abandons, and answers the tickets to look at again after it: those that are late, since it abandons
+/// no other.
 ///
 /// # Errors
 /// Memory ran out, and nothing changed.
@@ -39,29 +39,31 @@ pub(crate) fn make_room(
 {
     // It does nothing: its contract is that the end is sound.
     side.end.sound();
-    if !side.end.has_late(now) {
-        return Ok(Vec::new(alloc));
-    }
-    let before = held(alloc, &side.end)?;
+    let before = late(alloc, &side.end, now)?;
     side.abandoned.reserve(before.len()).map_err(|_| NoMemory)?;
     Ok(before)
 }
 
-/// The tickets that aren't abandoned, rising.
+/// The tickets of messages that are past their time and may be abandoned, rising.
 ///
 /// # Errors
-/// Memory ran out.
-fn held(alloc: Global, end: &Endpoint) -> Result<Vec<Ticket>, NoMemory>
-    ensures { (v : EndView) → EndpointStands end.now v → IfOk result (λ before. map ticket_number before.items ≡ held_tickets v.sender) }
+/// Memory ran out: some message is late then.
+fn late(alloc: Global, end: &Endpoint, now: u64) -> Result<Vec<Ticket>, NoMemory>
+    ensures tickets { (v : EndView) → EndpointStands end.now v → IfOk result (λ tickets. map ticket_number tickets.items ≡ late_tickets v.sender now) }
+    ensures memory { (v : EndView) → EndpointStands end.now v → OnErr result (has_late v.sender now ≡ true) }
 {
-    let mut before = Vec::new(alloc);
-    for number in 0..end.tickets() {
-        let ticket = Ticket(number + 1);
-        if !end.abandoned(ticket) {
-            before.push(ticket).map_err(|_| NoMemory)?;
+    let mut tickets = Vec::new(alloc);
+    let mut last = Ticket(0);
+    for _ in 0..end.tickets() {
+        match end.next_late(last, now) {
+            Some(ticket) => {
+                tickets.push(ticket).map_err(|_| NoMemory)?;
+                last = ticket;
+            }
+            None => return Ok(tickets),
         }
     }
-    Ok(before)
+    Ok(tickets)
 }
 
 /// A moment comes to the end; what it abandons is noted, for which there is room.
