@@ -39,9 +39,14 @@ impl Pair {
         }
         let _tags = (a.tag(), b.tag());
         let at_a = Endpoint::opened(self.alloc, *self.a.end.config(), a, b)?;
-        let at_b = Endpoint::opened(self.alloc, *self.b.end.config(), b, a)?;
+        match Endpoint::opened(self.alloc, *self.b.end.config(), b, a) {
+            Ok(at_b) => self.b.put_in(self.alloc, at_b),
+            Err(refusal) => {
+                drop(at_a);
+                return Err(refusal);
+            }
+        }
         self.a.put_in(self.alloc, at_a);
-        self.b.put_in(self.alloc, at_b);
         self.openable = false;
         Ok(Outcome::Done)
     }

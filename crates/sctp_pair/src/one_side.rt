@@ -22,6 +22,7 @@ use sctp_send::SendFault;
 use sctp_terms::AbortFault;
 use sctp_values::{NoMemory, Ticket};
 use std::alloc::Global;
+use std::mem::replace;
 
 /// One side.
 #[derive(Drop)]
@@ -56,9 +57,9 @@ impl OneSide {
     pub(crate) fn put_in(&mut self, alloc: Global, end: Endpoint)
         ensures { (v : SideView) (t : EndView) → SideStands self.old v → EndpointStands end t → HasNoLogs t → SideStands self.new (record v { end = t }) }
     {
-        self.end = end;
-        self.numbered = Vec::new(alloc);
-        self.taken = Vec::new(alloc);
+        drop(replace(&mut self.end, end));
+        drop(replace(&mut self.numbered, Vec::new(alloc)));
+        drop(replace(&mut self.taken, Vec::new(alloc)));
     }
 }
 

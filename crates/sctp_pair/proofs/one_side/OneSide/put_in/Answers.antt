@@ -5,7 +5,7 @@ use Rattle.sctp_pair.proofs.one_side.OneSide.put_in.Goals as goal
 pub returns : goal.returns
 unfolding SideStands
 returns c = λ v t stands end none. record {
-  end = end;
+  end = rw c.replace.ensures.after end;
   bag = stands.bag;
-  notes = rw (c.new.ensures.items, c.new-2.ensures.items) (notes_none c.args.self.now.abandoned.items t v.log stands.notes.order none);
+  notes = rw (c.replace-2.ensures.after, c.replace-3.ensures.after, c.new.ensures.items, c.new-2.ensures.items) (notes_none c.args.self.now.abandoned.items t v.log stands.notes.order none);
 }

@@ -25,11 +25,9 @@ returns-in_err-at_a-clause-step c = λ w stands.
     let p = err_from_is_err_and c.from_residual.result c.from_residual.ensures.1 in
     (w, rw p.1 (steps.NoMemory (meaning.OpenBoth c.args.a c.args.b) refl), stands)
 
-pub returns-in_err-at_b-clause-step : goal.returns-in_err-at_b-clause-step
+pub returns-in-Err-clause-step : goal.returns-in-Err-clause-step
 unfolding PairStands
-returns-in_err-at_b-clause-step c = λ w stands.
-    let p = err_from_is_err_and c.from_residual-in_err-at_b.result c.from_residual-in_err-at_b.ensures.1 in
-    (w, rw p.1 (steps.NoMemory (meaning.OpenBoth c.args.a c.args.b) refl), stands)
+returns-in-Err-clause-step c = λ w stands. (w, steps.NoMemory (meaning.OpenBoth c.args.a c.args.b) refl, stands)
 
 pub returns-clause-step : goal.returns-clause-step
 unfolding PairStands SideStands
@@ -38,14 +36,14 @@ returns-clause-step c = λ w stands.
     let y = c.args.b in
     let on : c.args.self.now.openable ≡ true = grind (arith, common_steps) in
     let a = subst (λ (k : Configuration). EndpointStands c.in_ok-at_a.at_a (opened k x y)) (c.config.ensures w.a stands.a.end) c.in_ok-at_a.ensures in
-    let b = subst (λ (k : Configuration). EndpointStands c.in_ok-at_b.at_b (opened k y x)) (c.config-2.ensures w.b stands.b.end) c.in_ok-at_b.ensures in
+    let b = subst (λ (k : Configuration). EndpointStands c.in-Ok.at_b (opened k y x)) (c.config-2.ensures w.b stands.b.end) (let made = c.opened-2.ensures in rw c.in-Ok.is at made) in
     let new = c.new_ends_have_no_logs.ensures.opened in
     let step = steps.OpensBoth x y (stands.openable ∙ on) c.tag.ensures.drawn c.tag-2.ensures.drawn in (
       record w { a = opened w.a.configuration x y; b = opened w.b.configuration y x; openable = false },
       step,
       record {
-        a = c.put_in.ensures (side_of w A) (opened w.a.configuration x y) stands.a a (new w.a.configuration x y);
-        b = c.put_in-2.ensures (side_of w B) (opened w.b.configuration y x) stands.b b (new w.b.configuration y x);
+        a = c.put_in-2.ensures (side_of w A) (opened w.a.configuration x y) stands.a a (new w.a.configuration x y);
+        b = c.put_in.ensures (side_of w B) (opened w.b.configuration y x) stands.b b (new w.b.configuration y x);
         clock = stands.clock;
         draw = stands.draw;
         openable = refl;
@@ -59,8 +57,8 @@ returns-in_err-at_a-clause-memory c = λ w stands.
     let on : c.args.self.now.openable ≡ true = grind (arith, common_steps) in
     anyway c.from_residual.result (stands.openable ∙ on)
 
-pub returns-in_err-at_b-clause-memory : goal.returns-in_err-at_b-clause-memory
+pub returns-in-Err-clause-memory : goal.returns-in-Err-clause-memory
 unfolding PairStands
-returns-in_err-at_b-clause-memory c = λ w stands.
+returns-in-Err-clause-memory c = λ w stands.
     let on : c.args.self.now.openable ≡ true = grind (arith, common_steps) in
-    anyway c.from_residual-in_err-at_b.result (stands.openable ∙ on)
+    stands.openable ∙ on
