@@ -14,7 +14,7 @@ ghost use Rattle.sctp_endpoint.specs.Handled.{IsRead};
 ghost use Rattle.sctp_events.specs.Events.{answer_of};
 ghost use Rattle.sctp_pair.specs.Sides.{SideView, side_of, left, SideStands, ArePackets, IsItem};
 
-use crate::one_side::OneSide;
+use crate::one_side::{OneSide, put_packet};
 use sctp_endpoint::{Endpoint, Verdict};
 use sctp_events::Outcome;
 use sctp_packet::written_packet_reads;
@@ -60,7 +60,7 @@ pub(crate) fn arrive(
         Verdict::Dropped(reason) => Ok(Outcome::Dropped { reason }),
         Verdict::Answer(packet) => {
             let length = packet.len();
-            side.bag.push_reserved(packet);
+            put_packet(&mut side.bag, packet);
             Ok(Outcome::Answer {
                 number: side.bag.len(),
                 length,

@@ -1,6 +1,7 @@
 //! One side of a pair: its end, its bag and what is noted of its user, and what becomes of an event at it.
 
-ghost use Rattle.std.specs.Prelude.{◌≡◌, [], Some, Option, OnErr};
+ghost use Rattle.std.specs.Prelude.{◌≡◌, ◌<◌, ◌+◌, ◌++◌, ◌∷◌, [], List, length, vec_capacity, Some, Option, OnErr};
+ghost use Rattle.sctp_model.specs.wire.Packet.{Packet};
 ghost use Rattle.sctp_model.specs.end.EndView.{EndView};
 ghost use Rattle.sctp_model.specs.world.World as world;
 ghost use Rattle.sctp_model.specs.world.World.{World, no_log};
@@ -12,7 +13,8 @@ ghost use Rattle.sctp_outcomes.specs.Kept.{HasNoLogs};
 ghost use Rattle.sctp_endpoint.specs.EndpointStands.{EndpointStands};
 ghost use Rattle.sctp_events.specs.Events.{refusal_meaning, outcome_meaning, answer_of};
 ghost use Rattle.sctp_pair.specs.Memory.{TakesMemory};
-ghost use Rattle.sctp_pair.specs.Sides.{SideView, side_of, with_side, SideStands};
+ghost use Rattle.sctp_packet.specs.PacketBytes.{ReadsPacket};
+ghost use Rattle.sctp_pair.specs.Sides.{SideView, side_of, with_side, SideStands, ArePackets};
 
 use crate::taken::{StreamLog, make_room_at, note_at};
 use sctp_endpoint::{Endpoint, Refused, Sent};
@@ -63,6 +65,17 @@ impl OneSide {
     }
 }
 
+/// Puts a packet into a bag that has room for it. It keeps no more memory than its bytes take: an end takes a whole packet's beforehand.
+pub(crate) fn put_packet(bag: &mut Vec<Vec<u8>>, packet: Vec<u8>)
+    requires { length bag.old.items < vec_capacity bag.old }
+    ensures packets { (ps : List Packet) (p : Packet) → ArePackets bag.old.items ps → ReadsPacket packet.items p → ArePackets bag.new.items (ps ++ p ∷ []) }
+    ensures number { length bag.new.items ≡ length bag.old.items + 1 }
+{
+    let mut packet = packet;
+    packet.shrink_to_fit();
+    bag.push_reserved(packet);
+}
+
 /// The end is asked for its next packet, which goes into its bag; the tickets that it numbers are noted. The room for both is made first.
 ///
 /// # Errors
@@ -83,7 +96,7 @@ pub(crate) fn build_at(side: &mut OneSide, clock: u64) -> Result<Outcome, NoMemo
         Some(sent) => {
             let Sent { packet, tickets } = sent;
             let length = packet.len();
-            side.bag.push_reserved(packet);
+            put_packet(&mut side.bag, packet);
             side.numbered.push_reserved(tickets);
             Ok(Outcome::Sent {
                 number: side.bag.len(),
@@ -190,7 +203,7 @@ pub(crate) fn abort_at(side: &mut OneSide, reason: &[u8]) -> Result<Outcome, NoM
     match side.end.abort(reason) {
         Ok(packet) => {
             let length = packet.len();
-            side.bag.push_reserved(packet);
+            put_packet(&mut side.bag, packet);
             Ok(Outcome::Answer {
                 number: side.bag.len(),
                 length,

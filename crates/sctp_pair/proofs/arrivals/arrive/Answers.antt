@@ -10,7 +10,7 @@ use Rattle.sctp_terms.specs.Meanings.{reason_code}
 use Rattle.sctp_outcomes.proofs.logs.Heard.{packets_keep_logs, cut_packets_keep_logs}
 use Rattle.sctp_pair.proofs.NotesLemmas.{notes_kept}
 use Rattle.sctp_pair.specs.Sides.{SideStands}
-use Rattle.sctp_pair.proofs.BagLemmas.{bag_push, bag_length}
+use Rattle.sctp_pair.proofs.BagLemmas.{bag_length}
 use Rattle.sctp_pair.proofs.AnswerLemmas.{answer_plain, plain_is_placed, plain_size}
 use Rattle.sctp_pair.proofs.ReadLemmas.{the_answer}
 use Rattle.sctp_pair.proofs.StepLemmas.{side, is_cut, acts, drops, answers}
@@ -74,7 +74,6 @@ returns-in-Answer c = λ w s e p stands brings reads clock draw.
     let came = rw is.1 at did.2 in
     let plain = answer_plain v c.args.clock c.args.draw p did.0 q came in
     let old = c.args.side.now in
-    let bag : c.push_reserved.new.self.items ≡ old.bag.items ++ packet ∷ [] = grind (arith, common_steps) in
     let number : c.len.result ≡ suc (length old.bag.items) = grind (arith, common_steps) in
     let size : c.len-length.result ≡ length packet.items = grind (arith, common_steps) in
     let there : next_number w s ≡ c.len.result = sym (number ∙ ap suc (bag_length _ _ stands.bag)) in
@@ -83,5 +82,5 @@ returns-in-Answer c = λ w s e p stands brings reads clock draw.
     let keeps = packets_keep_logs v c.args.clock c.args.draw p did.0 did.1 (c.sound.ensures _ stands.end) did.2 in (
       side did.0 (bag_of w s ++ q ∷ []) (log_of w s),
       answers w e s c.args.clock c.args.draw p did.0 q c.len.result c.len-length.result brings clock draw there long came,
-      record { end = did.4; bag = rw bag (bag_push _ _ packet q stands.bag kept); notes = notes_kept _ _ _ v did.0 (log_of w s) stands.notes keeps },
+      record { end = did.4; bag = c.put_packet.ensures.packets _ q (rw c.reserve.ensures.items stands.bag) kept; notes = notes_kept _ _ _ v did.0 (log_of w s) stands.notes keeps },
     )

@@ -13,7 +13,7 @@ use Rattle.sctp_model.specs.end.EndView.{EndView}
 use Rattle.sctp_outcomes.proofs.logs.Called.{abort_keeps_logs}
 use Rattle.sctp_pair.proofs.NotesLemmas.{notes_kept}
 use Rattle.sctp_pair.specs.Sides.{side_of, SideStands}
-use Rattle.sctp_pair.proofs.BagLemmas.{bag_push, bag_length}
+use Rattle.sctp_pair.proofs.BagLemmas.{bag_length}
 use Rattle.sctp_pair.proofs.AnswerLemmas.{abort_plain, plain_is_placed, plain_size}
 use Rattle.sctp_pair.proofs.StepLemmas.{side, aborts, has_no_peer, is_too_long, no_memory}
 use Rattle.sctp_pair.proofs.one_side.abort_at.Goals as goal
@@ -39,7 +39,6 @@ returns-in-Ok c = λ w s stands.
     let packet = c.in-Ok.packet in
     let old = c.args.side.now in
     let plain = abort_plain v r p told.1 in
-    let bag : c.push_reserved.new.self.items ≡ old.bag.items ++ packet ∷ [] = grind (arith, common_steps) in
     let number : c.len.result ≡ suc (length old.bag.items) = grind (arith, common_steps) in
     let size : c.len-length.result ≡ length packet.items = grind (arith, common_steps) in
     let there : next_number w s ≡ c.len.result = sym (number ∙ ap suc (bag_length _ _ stands.bag)) in
@@ -50,7 +49,7 @@ returns-in-Ok c = λ w s stands.
       aborts w s r p c.len.result c.len-length.result told.1 there long,
       record {
         end = left_so _ v _ _ told.1 (c.in-Ok.ensures.step v stands.end);
-        bag = rw bag (bag_push _ _ packet p stands.bag reads);
+        bag = c.put_packet.ensures.packets _ p (rw c.reserve.ensures.items stands.bag) reads;
         notes = notes_kept _ _ _ v (abort_leaves (Aborts p) v) (log_of w s) stands.notes keeps;
       },
     )

@@ -10,7 +10,7 @@ use Rattle.sctp_model.specs.world.Steps as steps
 use Rattle.sctp_outcomes.proofs.logs.Built.{builds_add_numbers, empty_builds_keep_logs}
 use Rattle.sctp_pair.proofs.NotesLemmas.{notes_kept, notes_numbered}
 use Rattle.sctp_pair.specs.Sides.{side_of, SideStands}
-use Rattle.sctp_pair.proofs.BagLemmas.{bag_push, bag_length}
+use Rattle.sctp_pair.proofs.BagLemmas.{bag_length}
 use Rattle.sctp_pair.proofs.BuiltLemmas.{built_is_placed}
 use Rattle.sctp_pair.proofs.StepLemmas.{side, builds, builds_none, no_memory}
 use Rattle.sctp_pair.proofs.one_side.build_at.Goals as goal
@@ -54,8 +54,7 @@ returns-in-Some c = λ w s stands clock.
     let packet = c.in-Some.sent.packet in
     let tickets = c.in-Some.sent.tickets in
     let old = c.args.side.now in
-    let bag : c.push_reserved.new.self.items ≡ old.bag.items ++ packet ∷ [] = grind (arith, common_steps) in
-    let numbered : c.push_reserved-in-Some.new.self.items ≡ old.numbered.items ++ tickets ∷ [] = grind (arith, common_steps) in
+    let numbered : c.push_reserved.new.self.items ≡ old.numbered.items ++ tickets ∷ [] = grind (arith, common_steps) in
     let number : c.len.result ≡ suc (length old.bag.items) = grind (arith, common_steps) in
     let size : c.len-length.result ≡ length packet.items = grind (arith, common_steps) in
     let there : next_number w s ≡ c.len.result = sym (number ∙ ap suc (bag_length _ _ stands.bag)) in
@@ -66,7 +65,7 @@ returns-in-Some c = λ w s stands clock.
       builds w s c.args.clock xs sent.after c.len.result c.len-length.result clock sent.some there long sent.builds,
       record {
         end = sent.stands;
-        bag = rw bag (bag_push _ _ packet (packet_of v xs) stands.bag reads);
-        notes = notes_numbered _ _ _ v sent.after (log_of w s) c.push_reserved-in-Some.new.self.items tickets numbered sent.tickets stands.notes adds;
+        bag = c.put_packet.ensures.packets _ (packet_of v xs) (rw c.reserve.ensures.items stands.bag) reads;
+        notes = notes_numbered _ _ _ v sent.after (log_of w s) c.push_reserved.new.self.items tickets numbered sent.tickets stands.notes adds;
       },
     )
