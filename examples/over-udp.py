@@ -1,45 +1,64 @@
 #!/usr/bin/env python3
 """Two ends, each a process of its own (`sctp-end`, built), talk over UDP on the loopback interface: each sends messages to the other, which
 takes them; then the caller shuts. Run by hand: examples/over-udp.py [MODE [MESSAGES [LOST [REPEATED [LATE]]]]], the last three in percent of
-the packets: lost, sent twice, and held back for up to 50 ms, so that others overtake them. Status 0: all came whole, once and in order."""
+the packets: lost, sent twice, and held back for up to 50 ms, so that others overtake them. The words `delay` and `standard-closing`, behind
+these, go to both ends. Status 0: all came whole, once and in order.
+
+An end's window may let hundreds of packets go at once, and a socket's buffer holds fewer: so a turn sends at most eight, and then reads all
+that came."""
 import heapq, random, select, socket, subprocess, sys, time
 from pathlib import Path
 
-mode = sys.argv[1] if len(sys.argv) > 1 else "data"
-messages, lost, repeated, late = (int(word) for word in (sys.argv[2:] + ["20", "0", "0", "0"][len(sys.argv[2:]):]))
-program = Path(__file__).resolve().parent.parent / "crates/sctp_end_main/out/sctp_end_main"
+TURN = 8
+OPTIONS = ("delay", "standard-closing")
+words = [word for word in sys.argv[1:] if word not in OPTIONS]
+options = [option for option in OPTIONS if option in sys.argv[1:]]
+mode = words[0] if words else "data"
+messages, lost, repeated, late = (int(word) for word in (words[1:] + ["20", "0", "0", "0"][len(words[1:]):]))
+program = Path(__file__).resolve().parent.parent / "sctp-end"
 begun = time.monotonic()
-if not program.exists():
-    sys.exit("build it first: (cd crates/sctp_end_main && rt run < /dev/null)")
 
 
 class End:
     def __init__(self, role, port, peer, *key):
-        words = [program, role, "1400", "1200", "131072", "4", mode, str(port), str(peer), *key]
+        words = [program, role, "1400", "1200", "131072", "4", mode, *options, str(port), str(peer), *key]
         self.process = subprocess.Popen(words, stdin=subprocess.PIPE, stdout=subprocess.PIPE, text=True, bufsize=1)
         self.socket = socket.socket(socket.AF_INET, socket.SOCK_DGRAM)
         self.socket.bind(("127.0.0.1", 0))
+        self.socket.setblocking(False)
         self.held, self.sent, self.taken = [], 0, []
 
     def ask(self, line):
-        self.process.stdin.write(line + "\n")
-        return self.process.stdout.readline().rstrip("\n")
+        try:
+            self.process.stdin.write(line + "\n")
+        except BrokenPipeError:
+            pass
+        answer = self.process.stdout.readline()
+        if not answer:  # it says why
+            sys.exit(self.process.wait())
+        return answer.rstrip("\n")
 
-    def send(self, packet):
+    def hold(self, packet):  # until it goes out: not at all, once or twice, and maybe late
         for _ in range(0 if random.randrange(100) < lost else 2 if random.randrange(100) < repeated else 1):
             wait = random.random() / 20 if random.randrange(100) < late else 0
             heapq.heappush(self.held, (time.monotonic() + wait, packet))
 
-    def hear(self):  # what came from the network
-        answer = self.ask("packet " + self.socket.recv(65536).hex()).split()
-        if answer[0] == "answer":
-            self.send(answer[1])
+    def hear(self):  # all that came from the network
+        while select.select([self.socket], [], [], 0)[0]:
+            answer = self.ask("packet " + self.socket.recv(65536).hex()).split()
+            if answer[0] == "answer":
+                self.hold(answer[1])
 
-    def go_on(self):  # the time, then all that is to be sent
+    def go_on(self):  # the time, some of what is to be sent, and what the user does
         self.ask(f"at {int((time.monotonic() - begun) * 1000)}")
-        while (built := self.ask("build").split())[0] == "sent":
-            self.send(built[1])
-        while self.held and self.held[0][0] <= time.monotonic():
+        for _ in range(TURN):
+            built = self.ask("build").split()
+            if built[0] != "sent":
+                break
+            self.hold(built[1])
+        for _ in range(TURN):
+            if not self.held or self.held[0][0] > time.monotonic():
+                break
             self.socket.sendto(bytes.fromhex(heapq.heappop(self.held)[1]), self.peer.socket.getsockname())
         while (message := self.ask("take 0").split())[0] == "message":
             self.taken.append(int(message[-1], 16))
@@ -54,8 +73,9 @@ while not all(end.ask("state").startswith("state Closed") for end in both):
     listener.ask(f"draw {random.randrange(1, 2**32)} {random.randrange(2**32)}")
     for end in both:
         end.go_on()
-    for ready in select.select([end.socket for end in both], [], [], 0.005)[0]:
-        next(end for end in both if end.socket is ready).hear()
+    select.select([end.socket for end in both], [], [], 0.005)
+    for end in both:
+        end.hear()
     if all(len(end.taken) == messages for end in both):
         caller.ask("shutdown")
 for name, end in (("caller", caller), ("listener", listener)):

@@ -6,6 +6,8 @@
 #   tests/wrong-bodies.sh sctp_send/NAME ..    this one alone (of must-fail too), NAME without its ending
 #   tests/wrong-bodies.sh --look [CRATE ..]    tries none, and says which of all edits, of must-fail too, don't fit: an edit fits where its
 #                                              file is there, and each of its old texts stands in it once
+#   tests/wrong-bodies.sh --list [CRATE ..]    tries none, and prints all edits, of must-fail too, crate by crate: the gate's or beside it,
+#                                              what is wrong (its name as a sentence), the files that it changes
 # It works on a copy of what the crates stand on, with the libraries that earlier checks left in out/ (`rt all check` makes those that are
 # missing or old in the checkout; here they would be made again). It ends with 0 where each was refused, or fits.
 
@@ -76,6 +78,23 @@ look() {
     [ $failed = 0 ]
 }
 
+# Each edit of each crate, a line for each.
+list() {
+    for crate in $*; do
+        set -- "gate crates/$crate/must-fail" "beside crates/$crate/wrong-bodies"
+        [ -d "${1#* }" ] || [ -d "${2#* }" ] || continue
+        printf '%s\n' "$crate"
+        for place in "$@"; do
+            for edit in "${place#* }"/*.edit; do
+                [ -e "$edit" ] || continue
+                sentence=$(basename "$edit" .edit | tr '_' ' ')
+                files=$(sed -n 's/^file: //p' "$edit" | sort -u | paste -s -d ' ')
+                printf '  %-6s  %s: %s\n' "${place%% *}" "$sentence" "$files"
+            done
+        done
+    done
+}
+
 # Lays what crates stand on into the copy.
 lay() {
     mkdir -p "$room/crates" || exit 3
@@ -120,12 +139,15 @@ edits_of() {
 }
 
 all=$(for folder in crates/*/wrong-bodies; do [ -d "$folder" ] && basename "$(dirname "$folder")"; done)
-if [ "${1:-}" = --look ]; then
-    shift
-    [ $# -gt 0 ] || set -- $(cd crates && ls)
-    look "$@"
-    exit
-fi
+case "${1:-}" in
+    --look | --list)
+        task=${1#--}
+        shift
+        [ $# -gt 0 ] || set -- $(cd crates && ls)
+        $task "$@"
+        exit
+        ;;
+esac
 [ $# -gt 0 ] || set -- $all
 room=$(mktemp -d) || exit 3
 trap 'rm -rf -- "$room"' EXIT

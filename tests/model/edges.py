@@ -19,10 +19,10 @@ class Edges(scripts.Maker):
     def start(self):
         limit = self.pick((576, 1500))
         most = min(1400, (limit - 32) // 4 * 4)
-        self.line('pair', limit, self.pick((4, most)), self.pick((65536, 16777216)), self.pick((1, 32)),
-                  self.pick(('data', 'data-pr', 'idata', 'idata-pr')))
+        self.line('pair', limit, self.pick((4, most)), self.pick((65536, 16777216)), self.pick((1, 1024)),
+                  self.pick(('data', 'data-pr', 'idata', 'idata-pr')), *self.delay())
         if self.chance(0.4):
-            self.line('at', LAST_MOMENT - self.pick((0, 1, 999, 1000, 1001, 59999, 60000, 60001, 61000, 10**6)))
+            self.line('at', LAST_MOMENT - self.pick((0, 1, 199, 200, 201, 999, 1000, 1001, 59999, 60000, 60001, 61000, 10**6)))
         way = self.random.random()
         if way < 0.25:
             self.open()

@@ -2,7 +2,7 @@
 """A model of `sctp-end`: one end, its user's calls and the packets that come, line by line.
 
 end.py caller LIMIT FRAGMENT BUFFER STREAMS MODE PORT PEER < LINES, or listener .. KEY, prints the
-answers. Status 1 for words that are no form.
+answers; behind MODE may stand `delay`, and then `standard-closing`. Status 1 for words that are no form.
 """
 
 import sys
@@ -47,11 +47,16 @@ def key(word):
 
 SETTINGS = (N32, N32, N32, N32, MODE, port, port)
 ROLES = {b'caller': SETTINGS, b'listener': SETTINGS + (key,)}
+OPTIONS = (b'delay', b'standard-closing')      # behind MODE, in this order
 
 
 def end_of(words):
     """The endpoint that these words set up, or None."""
     role, *words = words or [b'']
+    options = []
+    for option in OPTIONS:
+        options.append(words[5:6] == [option])
+        del words[5:5 + options[-1]]
     if len(words) != len(ROLES.get(role, ())) or not words:
         return None
     try:
@@ -61,7 +66,7 @@ def end_of(words):
         return None
     if not in_range(limit, fragment, buffer, streams):
         return None
-    config = Config(own_port, peer_port, limit, fragment, buffer, streams, *MODES[mode.encode()])
+    config = Config(own_port, peer_port, limit, fragment, buffer, streams, *MODES[mode.encode()], *options)
     return Endpoint(config, *keys)
 
 

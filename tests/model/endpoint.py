@@ -3,7 +3,7 @@
 import struct
 
 import wire
-from receiver import BAD, NO_SUCH_STREAM, Receiver
+from receiver import BAD, NO_SUCH_STREAM, TAKEN as PIECE_TAKEN, Receiver
 from sender import STALE as STALE_SACK, UNKNOWN, Sender
 from wire import Chunk, Cookie, Fault, Forward, Opening, Packet, Piece, Sack, chunk, item, padded
 
@@ -22,12 +22,17 @@ TAKEN = ('taken',)
 LAST_MOMENT = 2**64 - 1
 FIRST_WAIT, LONGEST_WAIT = 1_000, 60_000
 OPENING_REPEATS, OTHER_REPEATS = 8, 10
+SACK_DELAY = 200
 
 
 class Config:
-    def __init__(self, own_port, peer_port, limit, fragment, buffer, streams, partial, interleave):
+    def __init__(self, own_port, peer_port, limit, fragment, buffer, streams, partial, interleave,
+                 delay=False, standard_closing=False):
+        """`delay`: a SACK may wait (RFC 9260 section 6.2). `standard_closing`: the timers of a closing
+        go by RFC 9260 sections 6.3.2, 8.1 and 9.2, not by the profile."""
         self.own_port, self.peer_port, self.limit, self.fragment = own_port, peer_port, limit, fragment
         self.buffer, self.streams, self.partial, self.interleave = buffer, streams, partial, interleave
+        self.delay, self.standard_closing = delay, standard_closing
 
     def options(self):
         """The option parameters of INIT and INIT ACK (RFC 3758 3.3, RFC 8260 2.2.1)."""
@@ -78,6 +83,12 @@ class Timer:
     def stop(self):
         self.expiry = None
 
+    def renew(self, now):
+        """No expiry counts any more, and the wait begins anew where it runs."""
+        self.count, self.wait = 0, FIRST_WAIT
+        if self.expiry is not None:
+            self.restart(now)
+
     def expire(self):
         """Expires once; false where it was repeated as often as may be."""
         self.expiry = None
@@ -107,6 +118,7 @@ class Endpoint:
         self.own_tag = self.own_tsn = self.peer_tag = None
         self.sender = self.receiver = None
         self.due = set()
+        self.sack_wait = None                # when a SACK that may wait is due
         self.cookie = self.heartbeat = None
         self.causes = []                     # of the ERROR that is due
         self.timers = {'init': Timer(OPENING_REPEATS), 'cookie echo': Timer(OPENING_REPEATS),
@@ -144,7 +156,7 @@ class Endpoint:
     def close(self, why):
         """Closed after an association, for good: no timer, no packet."""
         self.state, self.ended = CLOSED, why
-        self.due, self.causes = set(), []
+        self.due, self.causes, self.sack_wait = set(), [], None
         for timer in self.timers.values():
             timer.stop()
 
@@ -191,7 +203,7 @@ class Endpoint:
         if name == 'sack':
             return self.receiver.sack()
         if name == 'forward':
-            return self.sender.forward()
+            return self.sender.forward(self.body_limit())
         if name == 'shutdown':
             return chunk(wire.SHUTDOWN, struct.pack('>I', self.receiver.tsn(self.receiver.c)))
         return chunk(wire.SHUTDOWN_ACK)
@@ -206,6 +218,7 @@ class Endpoint:
             self.causes = []
         elif name == 'sack':
             self.receiver.sack_sent()
+            self.sack_wait = None
         elif name == 'forward':
             self.timers['data'].start(self.now)
         elif name in self.timers:
@@ -271,6 +284,9 @@ class Endpoint:
                     self.close(TIMED_OUT)
                     return
                 self.expired(name)
+        if self.sack_wait is not None and self.sack_wait <= self.now:
+            self.sack_wait = None
+            self.due.add('sack')
         self.settle()
 
     def expired(self, name):
@@ -293,8 +309,8 @@ class Endpoint:
         return answer
 
     def next_moment(self):
-        running = [t.expiry for t in self.timers.values() if t.expiry is not None]
-        return min(running) if running else None
+        moments = [timer.expiry for timer in self.timers.values()] + [self.sack_wait]
+        return min((moment for moment in moments if moment is not None), default=None)
 
     # ---- The user's calls (RFC 9260 section 11.1) ----
 
@@ -429,7 +445,7 @@ class Endpoint:
     # -- In an association: chunk by chunk, each in the state that it finds.
 
     def act(self, chunks, acted):
-        self.piece_acted = False
+        self.data_acted = self.forward_acted = self.at_once = False
         try:
             for found in chunks:
                 known = found.kind in wire.KNOWN
@@ -446,12 +462,25 @@ class Endpoint:
         return TAKEN if acted else ('dropped', WRONG_STATE)
 
     def after_packet(self):
-        """A SACK for every packet with a piece or FORWARD, and a SHUTDOWN with it while one is
-        unanswered (sections 6.2 and 9.2, RFC 3758 section 3.6)."""
-        if self.piece_acted and self.state != CLOSED:
+        """A SACK for every packet with a piece or FORWARD, at once or within 200 ms, and a SHUTDOWN
+        with it while one is unanswered (sections 6.2 and 9.2, RFC 3758 section 3.6)."""
+        if not (self.data_acted or self.forward_acted) or self.state == CLOSED:
+            return
+        if self.sack_may_wait():
+            self.sack_wait = min(self.now + SACK_DELAY, LAST_MOMENT)
+        else:
             self.due.add('sack')
-            if self.state == SENT:
-                self.due.add('shutdown')
+        if self.state == SENT:
+            self.due.add('shutdown')
+            if self.data_acted and self.config.standard_closing:
+                self.timers['shutdown'].renew(self.now)
+
+    def sack_may_wait(self):
+        """The first packet since the last SACK, with nothing that asks for one at once: no I flag, no
+        FORWARD, each piece taken, no gap left, no SHUTDOWN of this end's unanswered (section 6.2)."""
+        is_second = 'sack' in self.due or self.sack_wait is not None
+        return (self.config.delay and not is_second and not self.at_once and not self.forward_acted
+                and not self.receiver.seen and self.state != SENT)
 
     def row(self, found):
         """What the state table has for this chunk in this state, or None."""
@@ -542,8 +571,11 @@ class Endpoint:
             self.abort_with(item(wire.NO_USER_DATA, struct.pack('>I', piece.tsn)))     # section 6.2
         if piece.interleave != self.interleave:
             self.violation()                                                # RFC 8260 section 2.2.1
-        self.piece_acted = True
-        if self.receiver.on_data(piece) == NO_SUCH_STREAM:
+        self.data_acted = True
+        answer = self.receiver.on_data(piece)
+        if piece.immediate or answer != PIECE_TAKEN:
+            self.at_once = True
+        if answer == NO_SUCH_STREAM:
             self.report(item(wire.INVALID_STREAM, struct.pack('>HH', piece.stream, 0)))   # section 6.5
 
     def forward(self, found):
@@ -552,7 +584,7 @@ class Endpoint:
             self.violation()
         if self.receiver.on_forward(forward) == BAD:
             self.violation()
-        self.piece_acted = True
+        self.forward_acted = True
 
     def sack(self, found):
         """Sections 6.2.1 and 6.3.2."""
@@ -585,11 +617,16 @@ class Endpoint:
             self.close(STALE_COOKIE)
 
     def shutdown_came(self, found):
-        """Section 9.2."""
+        """Section 9.2. With the RFC's timers a cumulative TSN that moves counts as that of a SACK (6.3.2, 8.1)."""
         if self.state in (ESTABLISHED, PENDING, RECEIVED):
+            cum = self.sender.cum
             refusal = self.sender.on_shutdown(struct.unpack('>I', found.value)[0])
             if refusal not in (None, STALE_SACK):
                 self.violation()
+            if self.sender.cum > cum and self.config.standard_closing:
+                if not self.sender.unsettled():
+                    self.timers['data'].stop()
+                self.timers['data'].renew(self.now)
             self.enter(RECEIVED)
         else:
             self.enter(ACK_SENT)

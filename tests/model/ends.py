@@ -2,7 +2,8 @@
 """Compares `sctp-end` with the model's ends, packets byte for byte, on random scripts.
 
 ends.py [--program P] N [SEED]: each script opens by packets; what comes to an end is what came to it
-in the model's run. After each line the state, the next moment and the held bytes are asked too.
+in the model's run. After each line the state, the next moment and the held bytes are asked too. The
+ends of every third script close by the RFC's timers.
 ends.py --write FILE N [SEED] writes the lines of each end and the answers wanted, and runs nothing.
 """
 
@@ -31,11 +32,14 @@ class Recorder:
 class RecordedPair(model.Pair):
     """A pair that notes what each end was told and what it answered."""
 
-    last = None
+    last, standard_closing = None, False
 
-    def __init__(self, limit, fragment, buffer, streams, mode):
-        super().__init__(limit, fragment, buffer, streams, mode)
+    def __init__(self, limit, fragment, buffer, streams, mode, delay=None):
+        super().__init__(limit, fragment, buffer, streams, mode, delay)
+        for config in self.configs.values():
+            config.standard_closing = self.standard_closing
         values = [str(value) for value in (limit, fragment, buffer, streams)] + [mode]
+        values += ['delay'] * (delay is not None) + ['standard-closing'] * self.standard_closing
         self.notes = {'A': Recorder(['caller', *values, '5000', '5001']),
                       'B': Recorder(['listener', *values, '5001', '5000', model.KEY.hex()])}
         RecordedPair.last = self
@@ -128,7 +132,7 @@ class OpensByPackets(scripts.Maker):
 def recorders(seed):
     """What each end of this random script is told and answers."""
     script, plain = OpensByPackets(seed).make().encode(), model.Pair
-    RecordedPair.last, model.Pair = None, RecordedPair
+    RecordedPair.last, RecordedPair.standard_closing, model.Pair = None, seed % 3 == 0, RecordedPair
     try:
         model.run(script, lambda line: None)
     finally:

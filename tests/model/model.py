@@ -67,8 +67,10 @@ N16, N32, N64 = number(2**16 - 1), number(2**32 - 1), number(2**64 - 1)
 KIND = one_of(b'o', b'u')
 MODE = one_of(*MODES)
 
+DELAY = one_of(b'delay')
+
 COMMANDS = {
-    b'pair': (N32, N32, N32, N32, MODE),
+    b'pair': (N32, N32, N32, N32, MODE, DELAY),
     b'open': (),
     b'at': (N64,),
     b'draw': (tag, N32),
@@ -82,23 +84,24 @@ COMMANDS = {
     b'shutdown': (SIDE,),
     b'abort': (SIDE, hex_bytes),
 }
+MAY_BE_LEFT_OUT = (DELAY,)
 
 
 def in_range(limit, fragment, buffer, streams):
     """Whether an end may have these sizes and streams."""
     return (576 <= limit <= 1500 and 4 <= fragment <= 1400 and 32 + (fragment + 3) // 4 * 4 <= limit
-            and 65_536 <= buffer <= 16_777_216 and 1 <= streams <= 32)
+            and 65_536 <= buffer <= 16_777_216 and 1 <= streams <= 1_024)
 
 
 class Pair:
     """Two ends, a bag of packets for each, the clock and the draw."""
 
-    def __init__(self, limit, fragment, buffer, streams, mode):
+    def __init__(self, limit, fragment, buffer, streams, mode, delay=None):
         if not in_range(limit, fragment, buffer, streams):
             raise LineFault(BAD_VALUE)
         partial, interleave = MODES[mode.encode()]
         self.configs = {x: Config(PORT[x], PORT[OTHER[x]], limit, fragment, buffer, streams,
-                                  partial, interleave) for x in 'AB'}
+                                  partial, interleave, delay is not None) for x in 'AB'}
         self.ends = {'A': Endpoint(self.configs['A']), 'B': Endpoint(self.configs['B'], KEY)}
         self.bags = {'A': [], 'B': []}
         self.tickets = {'A': [], 'B': []}
@@ -220,7 +223,7 @@ class Script:
         if command not in COMMANDS:
             raise LineFault(UNKNOWN_COMMAND)
         readers = COMMANDS[command]
-        if len(words) != len(readers):
+        if len(words) not in (len(readers), len(readers) - (readers[-1:] == MAY_BE_LEFT_OUT)):
             raise LineFault(WORD_COUNT)
         values = [read(word) for read, word in zip(readers, words)]
         if command == b'pair':

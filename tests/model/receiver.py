@@ -27,9 +27,9 @@ class Kept:
 class Delivered:
     """A whole message, from handing over until `take` and after."""
 
-    def __init__(self, stream, ordered, number, payload_id, data):
+    def __init__(self, stream, ordered, number, payload_id, data, parts):
         self.stream, self.ordered, self.number = stream, ordered, number
-        self.payload_id, self.data = payload_id, data
+        self.payload_id, self.data, self.parts = payload_id, data, parts
 
 
 class Receiver:
@@ -148,7 +148,7 @@ class Receiver:
     def hand_over(self, run):
         first = run[0].piece
         message = Delivered(first.stream, not first.unordered, run[0].number, run[0].payload_id(),
-                            b''.join(k.piece.data for k in run))
+                            b''.join(k.piece.data for k in run), len(run))
         self.held += len(message.data)
         self.waiting.append(message)
         self.handed.append(message)

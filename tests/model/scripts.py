@@ -16,7 +16,7 @@ from endpoint import CLOSED, COOKIE_WAIT, LISTEN
 from wire import chunk, item
 
 SIDES = 'AB'
-EDGE_16 = (0, 1, 2, 31, 32, 33, 32767, 32768, 65535)
+EDGE_16 = (0, 1, 2, 1023, 1024, 1025, 32767, 32768, 65535)
 EDGE_32 = (0, 1, 2, 2**31 - 1, 2**31, 2**31 + 1, 2**32 - 2, 2**32 - 1)
 UNKNOWN_TYPES = (12, 13, 15, 0x3f, 0x40 + 1, 0x7f, 0x80, 0x82, 0xbf, 0xc1, 0xc3, 0xff)
 UNKNOWN_PARAMETERS = (1, 2, 0x3fff, 0x4000, 0x7fff, 0x8000, 0x8002, 0xbfff, 0xc001, 0xc006, 0xffff)
@@ -78,8 +78,8 @@ class Maker:
         """Each script has its own mixture of acts."""
         acts = (self.send, self.build, self.deliver, self.exchange, self.abandon, self.take, self.at,
                 self.draw, self.foreign_changed, self.foreign_made, self.shutdown, self.abort, self.connect,
-                self.open, self.fault, self.comment, self.flood, self.silence)
-        usual = (8, 10, 12, 3, 2.5, 3, 3, 0.2, 1.5, 3, 0.3, 0.03, 0.03, 0.03, 0.02, 0.05, 0.5, 0.15)
+                self.open, self.fault, self.comment, self.flood, self.silence, self.spread)
+        usual = (8, 10, 12, 3, 2.5, 3, 3, 0.2, 1.5, 3, 0.3, 0.03, 0.03, 0.03, 0.02, 0.05, 0.5, 0.15, 0.3)
         self.acts = acts
         self.weights = [weight * self.pick((0, 0.3, 1, 1, 1, 3)) for weight in usual]
         for always in (0, 1, 2):
@@ -105,13 +105,18 @@ class Maker:
         most = min(1400, (limit - 32) // 4 * 4)
         fragment = self.pick((4, 5, 7, 8, 64, 100, 500, most - 1, most, self.random.randint(4, most)))
         buffer = self.pick((65536, 65537, 70000, 131072, 16777216))
-        streams = self.pick((1, 1, 2, 3, 5, 32))
-        self.line('pair', limit, min(fragment, most), buffer, streams, self.pick(('data', 'data-pr', 'idata', 'idata-pr')))
+        streams = self.pick((1, 1, 2, 3, 5, 32, 200, 1024))
+        self.line('pair', limit, min(fragment, most), buffer, streams, self.pick(('data', 'data-pr', 'idata', 'idata-pr')),
+                  *self.delay())
         way = self.random.random()
         if way < 0.5:
             self.open()
         elif way < 0.9:
             self.open_by_packets()
+
+    def delay(self):
+        """The word of a pair line for SACKs that wait, in a third of them."""
+        return ('delay',) if self.chance(1 / 3) else ()
 
     def tag(self):
         return self.pick((1, 2, 7, 9, 2**31, 2**32 - 1, self.random.randint(1, 2**32 - 1)))
@@ -195,6 +200,20 @@ class Maker:
         x = self.side()
         for _ in range(self.pick((1, 1, 1, 3, 10))):
             self.line('abandon', x, self.ticket(x))
+
+    def spread(self):
+        """One byte on each of many streams; what went out is often abandoned, as far as it goes."""
+        x = self.side()
+        streams, kinds = self.pair.configs[x].streams, self.pick(('o', 'u', 'ou'))
+        first = self.ticket(x)
+        for n in range(self.pick((20, 150, 300))):
+            self.line('send', x, n % streams, self.pick(kinds), 0, '-', '61')
+        for _ in range(self.pick((1, 5, 40, 40))):
+            if (self.line('build', x) or 'quiet').startswith('quiet'):
+                break
+        if self.chance(0.7) and self.end(x).sender is not None:
+            for ticket in range(max(1, first), len(self.end(x).sender.messages) + 1):
+                self.line('abandon', x, ticket)
 
     def take(self):
         x = self.side()
@@ -296,7 +315,9 @@ class Maker:
             if self.chance(0.3):
                 self.at()
         for x in SIDES:
-            for stream in range(self.pair.configs[x].streams):
+            receiver = self.end(x).receiver
+            waiting = {message.stream for message in receiver.waiting} if receiver else set()
+            for stream in sorted(waiting | {0, self.pair.configs[x].streams - 1}):
                 while not self.faulty and (self.line('take', x, stream) or 'empty').startswith('message'):
                     pass
 
@@ -498,7 +519,7 @@ class Maker:
         cookie = None
         if reply and self.chance(0.85):
             cookie = self.bytes(self.pick((0, 1, 72, limit - 17, limit - 16, limit - 15)))
-        streams = (0 if self.chance(0.08) else self.pick((1, 2, 31, 32, 65535)) for _ in range(2))
+        streams = (0 if self.chance(0.08) else self.pick((1, 2, 32, 1023, 1024, 1025, 65535)) for _ in range(2))
         value = struct.pack('>IIHHI', 0 if self.chance(0.08) else self.tag(),
                             self.pick((0, 1, 65536, 2**32 - 1)), *streams, self.tsn())
         return chunk(wire.INIT_ACK if reply else wire.INIT, value + self.parameters(y, cookie))
@@ -520,7 +541,7 @@ class Maker:
         made = wire.Cookie(self.pick((0, clock, clock, max(0, clock - 60000), max(0, clock - 60001), min(clock + 5, 2**64 - 1))),
                            self.pick((5001, 5001, 5001, 5000)), self.pick((5000, 5000, 5000, 5001)),
                            own_tag, peer_tag, self.tsn(), self.tsn(), self.pick((0, 65536, 2**32 - 1)),
-                           self.pick((1, 2, 32)), self.pick((1, 2, 32)), self.pick((0, 1, 2, 3, 3, 4)))
+                           self.pick((1, 2, 32, 1024)), self.pick((1, 2, 32, 1024)), self.pick((0, 1, 2, 3, 3, 4)))
         return chunk(wire.COOKIE_ECHO, made.seal(model.KEY))
 
     # ---- Faulty lines ----
@@ -539,8 +560,9 @@ class Maker:
             ('foreign', x, 'AB'), ('foreign', x, ''), ('pair', 1500, 1400, 65536, 1, 'data'),
             ('pair', 575, 500, 65536, 1, 'data'), ('pair', 1501, 500, 65536, 1, 'data'), ('pair', 576, 545, 65536, 1, 'data'),
             ('pair', 576, 3, 65536, 1, 'data'), ('pair', 1500, 1401, 65536, 1, 'data'), ('pair', 576, 500, 65535, 1, 'data'),
-            ('pair', 576, 500, 16777217, 1, 'data'), ('pair', 576, 500, 65536, 0, 'data'), ('pair', 576, 500, 65536, 33, 'data'),
+            ('pair', 576, 500, 16777217, 1, 'data'), ('pair', 576, 500, 65536, 0, 'data'), ('pair', 576, 500, 65536, 1025, 'data'),
             ('pair', 576, 500, 65536, 1, 'DATA'), ('pair', 576, 500, 65536, 1), ('pair', 576, 500, 65536, 1, 'data', 'x'),
+            ('pair', 576, 500, 65536, 1, 'data', 'Delay'), ('pair', 576, 500, 65536, 1, 'data', 'delay', 'delay'),
             ('#' * 140001,), ('#' * 140000,), ('x' * 140001,), ('foreign', x, '0' * 139991), ('foreign', x, '0' * 139990),
             ('\t',), (' ',), ('Build', x), ('open\r',),
         )))

@@ -267,14 +267,10 @@ class Sender:
         # The streams take turns, one fragment each, upward from the one after the last served
         # (RFC 8260 section 2.2.2); one message at a time in a stream.
         start = 0 if self.served is None else self.served + 1
-        for turn in range(self.streams):
-            stream = (start + turn) % self.streams
-            if stream in self.parts:
-                return self.parts[stream]
-            for message in self.queue:
-                if message.stream == stream:
-                    return message
-        return None
+        first = {message.stream: message for message in reversed(self.queue)}
+        first.update(self.parts)
+        stream = min(first, key=lambda stream: (stream - start) % self.streams, default=None)
+        return first.get(stream)
 
     def window_allows(self, message):
         """At most 32,767 TSNs above CUM and messages in part, after what would be assigned."""
@@ -329,17 +325,24 @@ class Sender:
 
     # ---- FORWARD-TSN (RFC 3758 section 3.5, RFC 8260 section 2.3.1) ----
 
-    def forward(self):
-        """The chunk for the point, None where it is CUM."""
-        point, largest = self.point(), {}
-        if point == self.cum:
+    def forward(self, limit):
+        """The chunk for the largest index up to the point for which it has at most `limit` bytes; None
+        where that is CUM. What it names only grows with the index."""
+        end, largest = self.cum, {}
+        if limit < 8:
             return None
-        for index in range(self.cum + 1, point + 1):
+        most = (limit - 8) // (8 if self.interleave else 4)
+        for index in range(self.cum + 1, self.point() + 1):
             message = self.plan[index].message
+            kind = (message.stream, not message.ordered)
             if message.number is not None:
-                kind = (message.stream, not message.ordered)
+                if kind not in largest and len(largest) == most:
+                    break
                 largest[kind] = max(largest.get(kind, 0), message.number)
+            end = index
+        if end == self.cum:
+            return None
         width = 32 if self.interleave else 16
         skips = [(stream, unordered, number % 2**width)
                  for (stream, unordered), number in sorted(largest.items())]
-        return forward_chunk(self.interleave, self.tsn(point), skips)
+        return forward_chunk(self.interleave, self.tsn(end), skips)

@@ -264,7 +264,7 @@ class Piece:
 
     def __init__(self, found):
         self.interleave = found.kind == I_DATA
-        self.unordered = bool(found.flags & FLAG_U)
+        self.immediate, self.unordered = bool(found.flags & FLAG_I), bool(found.flags & FLAG_U)
         self.first, self.last = bool(found.flags & FLAG_B), bool(found.flags & FLAG_E)
         if self.interleave:
             self.tsn, self.stream, _, self.number, self.word = struct.unpack('>IHHII', found.value[:16])

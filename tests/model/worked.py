@@ -264,6 +264,45 @@ def many_entries():
 case('a FORWARD with every entry', many_entries(), None, None, [('A', 4, 'c2000208 00000040 00000000 00000000')])
 
 
+WAITING = [('pair 1500 1400 65536 1 data delay', None), (OPEN, 'ok'), ('send A 0 o 0 - 61', 'ticket A 1'), ('build A', 'sent A 1 32')]
+SECOND = [('send A 0 o 0 - 62', 'ticket A 2'), ('build A', 'sent A 2 32')]
+case('a SACK waits 200 ms', WAITING + [
+    ('deliver A 1', 'taken B'), ('build B', 'quiet B'), ('at 199', 'ok'), ('build B', 'quiet B'), ('at 200', 'ok'),
+    ('build B', 'sent B 1 28')])
+case('the second packet asks for the SACK', WAITING + SECOND + [
+    ('deliver A 1', 'taken B'), ('deliver A 2', 'taken B'), ('build B', 'sent B 1 28')])
+case('a gap asks for the SACK', WAITING + SECOND + [('deliver A 2', 'taken B'), ('build B', 'sent B 1 32')])
+DELAYED = [('pair 1500 1400 65536 1 data delay', None), (OPEN, 'ok')]
+case('the flag I asks for the SACK', DELAYED + [
+    (foreign('B', 2, HI.replace('0003', '000b', 1)), 'taken B'), ('build B', 'sent B 1 28')])
+case('what is passed over asks for no SACK', DELAYED + [
+    (foreign('B', 2, '80000004', HI), 'taken B'), ('build B', 'quiet B'), ('at 200', 'ok'), ('build B', 'sent B 1 28')])
+case('what is reported goes before the SACK that waits', DELAYED + [
+    (foreign('B', 2, 'ff000004', HI), 'taken B'), ('build B', 'sent B 1 24')])
+case('a FORWARD asks for the first SACK', [
+    ('pair 1500 1400 65536 1 data-pr delay', None), (OPEN, 'ok'), ('send A 0 o 0 - 61', 'ticket A 1'),
+    ('build A', 'sent A 1 32'), ('abandon A 1', 'fate A 2'), ('build A', 'sent A 2 24'), ('deliver A 1', 'taken B'),
+    ('take B 0', 'message B 0 o 0 0 61'), ('build B', 'quiet B'), ('deliver A 2', 'taken B'), ('build B', 'sent B 1 28')])
+case('closing waits for the SACK that waits', WAITING + [
+    ('shutdown A', 'ok'), ('build A', 'quiet A'), ('deliver A 1', 'taken B'), ('build B', 'quiet B'),
+    ('deliver B 1', 'absent'), ('build A', 'quiet A')], ['end A ShutdownPending -', 'numbered A 1', 'end B Established -', 'handed B 0 o 0'])
+case('the closing script with delay', [('pair 1500 1400 65536 1 data delay', None)] + (OPENING + MESSAGE + CLOSING)[1:],
+     CLOSED_REPORT, {('B', 4): '03000014 00000064 0000fffe 0000 0001 00000064'})
+
+
+def cut_forward():
+    steps = [('pair 576 500 65536 1024 data-pr', None), (OPEN, 'ok')]
+    steps += [('send A %d o 0 - 61' % stream, 'ticket A %d' % (stream + 1)) for stream in range(200)]
+    steps += [('build A', 'sent A %d 572' % n) for n in range(1, 8)] + [('build A', 'sent A 8 92')]
+    steps += [('abandon A %d' % ticket, 'fate A 2') for ticket in range(1, 201)]
+    return steps + [('build A', 'sent A 9 576'), ('deliver A 9', 'taken B'), ('build B', 'sent B 1 28'),
+                    ('deliver B 1', 'taken A'), ('build A', 'sent A 10 264')]
+
+
+case('a FORWARD of what fits, and then the rest', cut_forward(), None, None,
+     [('A', 9, 'c0000234 0000008b 0000 0000'), ('A', 10, 'c00000fc 000000c8 008b 0000')])
+
+
 def swapped_pairs(count, buffer, take_each):
     """One-byte messages, each pair delivered the second first, then all again."""
     steps, packet = [('pair 1500 1400 %d 1 data' % buffer, None), (OPEN, 'ok')], 0

@@ -27,7 +27,7 @@ use Rattle.sctp_association.specs.TimersMean.{timers_meaning}
 use Rattle.sctp_association.specs.PhaseMeans.{phase_unjoined, phase_of}
 use Rattle.sctp_association.specs.TrafficStands.{TrafficStands}
 use Rattle.sctp_association.specs.MachineStands.{KeepsMachine, MachineStands}
-use Rattle.sctp_association.specs.Drafted.{receiver_left, due_left, drafted, IsOf, IsEmpty, PutsAt, IsPacked}
+use Rattle.sctp_association.specs.Drafted.{receiver_left, delayed_left, due_left, drafted, IsOf, IsEmpty, PutsAt, IsPacked}
 use Rattle.sctp_association.specs.FillsBehind.{FillsBehind}
 use Rattle.sctp_association.specs.BuildAnswers.{BuildAnswer}
 use Rattle.sctp_association.specs.declared.life.Unjoined.{Unjoined}
@@ -53,12 +53,18 @@ receiver_same : (b : Bool) (r : ReceiverView) → receiver_left b b r ≡ r
 receiver_same true r = refl
 receiver_same false r = refl
 
+delayed_same : (b : Bool) (d : Option ℕ) → delayed_left b b d ≡ d
+delayed_same true d = refl
+delayed_same false d = refl
+
 pub drafted_same : (m : Marks) (e : EndView) → due_left m e.due ≡ e.due → m.sack ≡ e.due.sack → timers_meaning m.timers ≡ e.timers → drafted m e ≡ e
 drafted_same m e due sack timers =
     let r : receiver_left e.due.sack m.sack e.receiver ≡ e.receiver = ap (λ (b : Bool). receiver_left e.due.sack b e.receiver) sack ∙ receiver_same e.due.sack e.receiver in
-    ap (λ (d : model.Due). record e { due = d; timers = timers_meaning m.timers; receiver = receiver_left e.due.sack m.sack e.receiver }) due
-    ∙ (ap (λ (f : Alarm → Timer). record e { timers = f; receiver = receiver_left e.due.sack m.sack e.receiver }) timers
-    ∙ ap (λ (x : ReceiverView). record e { receiver = x }) r)
+    let w : delayed_left e.due.sack m.sack e.delayed ≡ e.delayed = ap (λ (b : Bool). delayed_left e.due.sack b e.delayed) sack ∙ delayed_same e.due.sack e.delayed in
+    ap (λ (d : model.Due). record (drafted m e) { due = d }) due
+    ∙ (ap (λ (f : Alarm → Timer). record e { timers = f; delayed = delayed_left e.due.sack m.sack e.delayed; receiver = receiver_left e.due.sack m.sack e.receiver }) timers
+    ∙ (ap (λ (n : Option ℕ). record e { delayed = n; receiver = receiver_left e.due.sack m.sack e.receiver }) w
+    ∙ ap (λ (x : ReceiverView). record e { receiver = x }) r))
 
 -- the tag of its packets is that of the peer, where one is known
 pub tag_by : (h : model.Phase) → unwrap_or (peer_tag h) 0 ≡ tag_to h
@@ -202,7 +208,7 @@ answered e s (Some b) m p tickets packed writes size same stands = record {
 -- ---- what stands for the end meanwhile
 
 pub with_moment : (m : Machine) (v : EndView) (n : ℕ) → KeepsMachine m v → KeepsMachine (record m { moment = n }) (record v { moment = n })
-with_moment m v n k = record { configuration = k.configuration; role = k.role; clock = refl; due = k.due; timers = k.timers; phase = k.phase; life = k.life }
+with_moment m v n k = record { configuration = k.configuration; role = k.role; clock = refl; due = k.due; timers = k.timers; delayed = k.delayed; phase = k.phase; life = k.life }
 
 -- a receiver that nothing came to has no duplicates to tell
 pub told_fresh : (r : ReceiverView) (b : ℕ) → r ≡ fresh_receiver 0 0 b → sack_sent r ≡ r

@@ -123,6 +123,7 @@ called_stands m v draw d s k idle due timers = record {
   clock = k.clock;
   due = due;
   timers = timers ∙ ap (timers_in (model.Calling draw)) k.timers;
+  delayed = k.delayed;
   phase = refl;
   life = idle_unjoined m.life v.configuration v.terms v.sender v.receiver idle k.life;
 }

@@ -1,7 +1,6 @@
 -- What comes from the peer, at an association that is open: what its traffic takes, and what is left of the end.
 use Rattle.std.proofs.Common.{◌≡◌, ◌∙◌, ℕ, nat_le, nat_lt, Bool, true, false, List, length, refl, sym, ap, subst}
-use Rattle.std.proofs.lemmas.Bool.{false≢true}
-use Rattle.std.specs.Prelude.{Option, Some, None, is_some, if◌then◌else◌, Result, Ok, Err, IfOk, OnErr}
+use Rattle.std.specs.Prelude.{Option, Some, None, is_some, if◌then◌else◌, ◌&&◌, Result, Ok, Err, IfOk, OnErr}
 use Rattle.sctp_model.specs.wire.Chunk.{PieceMeaning, ForwardMeaning, SackMeaning}
 use Rattle.sctp_model.specs.receiver.ReceiverView.{ReceiverView}
 use Rattle.sctp_model.specs.receiver.PieceTaken as taken
@@ -11,11 +10,10 @@ use Rattle.sctp_model.specs.sender.SenderView.{SenderView}
 use Rattle.sctp_model.specs.sender.SackTaken.{SackFault, sack_fault, sack_taken, sack_after, shutdown_fault, shutdown_taken, shutdown_after}
 use Rattle.sctp_model.specs.end.EndView.{EndView, Alarm, DataAlarm, Timer, format_of}
 use Rattle.sctp_model.specs.end.EndView as model
-use Rattle.sctp_model.specs.end.Clock.{replaced, renewed}
-use Rattle.sctp_model.specs.end.Closing.{hears, with_due}
-use Rattle.sctp_model.specs.end.Arriving.{acknowledges_in}
+use Rattle.sctp_model.specs.end.Clock.{replaced, renewed, with_timer}
+use Rattle.sctp_model.specs.end.Closing.{with_due}
 use Rattle.sctp_model.specs.end.Reports.{with_causes}
-use Rattle.sctp_model.specs.end.Acting.{piece_causes, heartbeat_heard}
+use Rattle.sctp_model.specs.end.Acting.{piece_causes, heartbeat_heard, shut_timer}
 use Rattle.sctp_values.specs.declared.no_memory.NoMemory.{NoMemory}
 use Rattle.sctp_recv.specs.AnswerOf.{answer_of, forward_answer_of}
 use Rattle.sctp_recv.specs.declared.answer.Answer.{Answer}
@@ -105,24 +103,36 @@ shutdown_left v tsn f some = ap (λ (o : Option SackFault). record v { sender = 
 pub moved_as : (v : EndView) (x : SenderView) (m n : ℕ) → m ≡ v.sender.cum → n ≡ x.cum → nat_lt m n ≡ nat_lt v.sender.cum x.cum
 moved_as v x m n before after = ap (λ (k : ℕ). nat_lt k n) before ∙ ap (λ (k : ℕ). nat_lt v.sender.cum k) after
 
-pub renewed_in : (n f g : Alarm → Timer) (t x : Timer) (m k : ℕ) (b : Bool) → n ≡ replaced DataAlarm t f → t ≡ renewed m b x → x ≡ f DataAlarm → f ≡ g → m ≡ k
-    → n ≡ replaced DataAlarm (renewed k b (g DataAlarm)) g
-renewed_in n f g t x m k b is made at same clock =
-    is ∙ ap (λ (z : Timer). replaced DataAlarm z f) (made ∙ ap (λ (z : Timer). renewed m b z) at ∙ ap (λ (j : ℕ). renewed j b (f DataAlarm)) clock)
-    ∙ ap (λ (h : Alarm → Timer). replaced DataAlarm (renewed k b (h DataAlarm)) h) same
+pub renewed_in : (a : Alarm) (n f g : Alarm → Timer) (t x : Timer) (m k : ℕ) (b : Bool) → n ≡ replaced a t f → t ≡ renewed m b x → x ≡ f a → f ≡ g → m ≡ k
+    → n ≡ replaced a (renewed k b (g a)) g
+renewed_in a n f g t x m k b is made at same clock =
+    is ∙ ap (λ (z : Timer). replaced a z f) (made ∙ ap (λ (z : Timer). renewed m b z) at ∙ ap (λ (j : ℕ). renewed j b (f a)) clock)
+    ∙ ap (λ (h : Alarm → Timer). replaced a (renewed k b (h a)) h) same
+
+-- the data timer in its own place
+own_at : (f : Alarm → Timer) (a : Alarm) → replaced DataAlarm (f DataAlarm) f a ≡ f a
+own_at f model.InitAlarm = refl
+own_at f model.CookieAlarm = refl
+own_at f DataAlarm = refl
+own_at f model.ShutdownAlarm = refl
+own_at f model.AckAlarm = refl
+
+-- a SHUTDOWN that renews the data timer
+pub shut_renews : (v : EndView) (moved : Bool) → (v.configuration.standard_closing && moved) ≡ true
+    → with_timer DataAlarm (shut_timer v.configuration.standard_closing moved v.moment (v.timers DataAlarm)) v ≡ with_timer DataAlarm (renewed v.moment true (v.timers DataAlarm)) v
+shut_renews v moved is = ap (λ (b : Bool). with_timer DataAlarm (if b then renewed v.moment true (v.timers DataAlarm) else v.timers DataAlarm) v) is
+
+-- one that leaves it
+pub shut_leaves : (v : EndView) (moved : Bool) → (v.configuration.standard_closing && moved) ≡ false
+    → with_timer DataAlarm (shut_timer v.configuration.standard_closing moved v.moment (v.timers DataAlarm)) v ≡ v
+shut_leaves v moved is =
+    ap (λ (b : Bool). with_timer DataAlarm (if b then renewed v.moment true (v.timers DataAlarm) else v.timers DataAlarm) v) is
+    ∙ ap (λ (f : Alarm → Timer). record v { timers = f }) (λ i a. own_at v.timers a i)
 
 -- ---- what is answered
 
 pub due_heartbeat : (d : Due) (m : model.Due) (h : HeartbeatInfo) (xs : List ℕ) → DueStands d m → h.bytes.items ≡ xs → DueStands (record d { heartbeat = Some h }) (record m { heartbeat = Some xs })
 due_heartbeat d m h xs s is = record { init = s.init; cookie_echo = s.cookie_echo; cookie_ack = s.cookie_ack; heartbeat = ap (λ (ys : List ℕ). Some ys) is; causes = s.causes; sack = s.sack; forward = s.forward; shutdown = s.shutdown; shutdown_ack = s.shutdown_ack }
-
-pub acknowledges_none : (h : model.Phase) (v : EndView) → hears (λ g. true) h ≡ false → acknowledges_in true h v ≡ v
-acknowledges_none model.Idle v shut = refl
-acknowledges_none model.Listening v shut = refl
-acknowledges_none (model.Calling d) v shut = refl
-acknowledges_none (model.Echoing t xs) v shut = refl
-acknowledges_none (model.Open t g) v shut = absurd (false≢true (sym shut))
-acknowledges_none (model.Over why) v shut = refl
 
 pub heartbeat_by : (v : EndView) (info : List ℕ) (room : ℕ) (b : Bool) → HasRoom v.configuration room → nat_le (length info) room ≡ b
     → heartbeat_heard v info ≡ with_due (record v.due { heartbeat = if b then Some info else v.due.heartbeat }) v

@@ -35,6 +35,7 @@ joined_there m v a d s x rwnd h y k terms phase due timers begins =
       clock = k.clock;
       due = due;
       timers = timers ∙ ap (timers_in h) k.timers;
+      delayed = k.delayed;
       phase = phase;
       life = record { terms = refl; traffic = subst (λ (c : Configuration). Begins a c rwnd) k.configuration begins; buffer = refl };
     })

@@ -3,6 +3,7 @@ pub mod RestLemmas
 pub mod MomentLemmas
 pub mod CallLemmas
 pub mod HearingLemmas
+pub mod DelayLemmas
 pub mod ReportLemmas
 pub mod JoinLemmas
 pub mod OpeningLemmas

@@ -1,6 +1,6 @@
 -- An end that stands for a view, with a part of both changed.
 use Rattle.std.proofs.Common.{◌≡◌, ◌∙◌, ℕ, Bool, true, false, refl, sym, ap, subst}
-use Rattle.std.specs.Prelude.{max, zero, suc}
+use Rattle.std.specs.Prelude.{max, zero, suc, Option, None}
 use Rattle.sctp_model.specs.sender.SenderView.{SenderView, fresh_sender}
 use Rattle.sctp_model.specs.receiver.ReceiverView.{ReceiverView}
 use Rattle.sctp_model.specs.sender.Abandoning.{expired, timed_out}
@@ -35,17 +35,20 @@ at_view m v w same keeps = subst (λ x. KeepsMachine m x) (sym same) keeps
 -- ---- the clock, what is due, the timers
 
 pub with_clock : (m : Machine) (v : EndView) (n now : ℕ) → KeepsMachine m v → n ≡ max m.moment now → KeepsMachine (record m { moment = n }) (at_moment v now)
-with_clock m v n now k is = record { configuration = k.configuration; role = k.role; clock = is ∙ ap (λ (x : ℕ). max x now) k.clock; due = k.due; timers = k.timers; phase = k.phase; life = k.life }
+with_clock m v n now k is = record { configuration = k.configuration; role = k.role; clock = is ∙ ap (λ (x : ℕ). max x now) k.clock; due = k.due; timers = k.timers; delayed = k.delayed; phase = k.phase; life = k.life }
 
 pub with_due : (m : Machine) (v : EndView) (d : Due) (x : model.Due) → KeepsMachine m v → DueStands d x → KeepsMachine (record m { due = d }) (record v { due = x })
-with_due m v d x k due = record { configuration = k.configuration; role = k.role; clock = k.clock; due = due; timers = k.timers; phase = k.phase; life = k.life }
+with_due m v d x k due = record { configuration = k.configuration; role = k.role; clock = k.clock; due = due; timers = k.timers; delayed = k.delayed; phase = k.phase; life = k.life }
 
 pub with_timers : (m : Machine) (v : EndView) (s : Timers) (f : Alarm → model.Timer) → KeepsMachine m v → timers_meaning s ≡ f → KeepsMachine (record m { timers = s }) (record v { timers = f })
-with_timers m v s f k timers = record { configuration = k.configuration; role = k.role; clock = k.clock; due = k.due; timers = timers; phase = k.phase; life = k.life }
+with_timers m v s f k timers = record { configuration = k.configuration; role = k.role; clock = k.clock; due = k.due; timers = timers; delayed = k.delayed; phase = k.phase; life = k.life }
 
 pub with_both : (m : Machine) (v : EndView) (d : Due) (x : model.Due) (s : Timers) (f : Alarm → model.Timer) → KeepsMachine m v → DueStands d x → timers_meaning s ≡ f
     → KeepsMachine (record m { due = d; timers = s }) (record v { due = x; timers = f })
-with_both m v d x s f k due timers = record { configuration = k.configuration; role = k.role; clock = k.clock; due = due; timers = timers; phase = k.phase; life = k.life }
+with_both m v d x s f k due timers = record { configuration = k.configuration; role = k.role; clock = k.clock; due = due; timers = timers; delayed = k.delayed; phase = k.phase; life = k.life }
+
+pub with_delayed : (m : Machine) (v : EndView) (n o : Option ℕ) → KeepsMachine m v → n ≡ o → KeepsMachine (record m { delayed = n }) (record v { delayed = o })
+with_delayed m v n o k is = record { configuration = k.configuration; role = k.role; clock = k.clock; due = k.due; timers = k.timers; delayed = is; phase = k.phase; life = k.life }
 
 -- ---- one thing that is due
 
@@ -57,6 +60,9 @@ due_echo d m s = record { init = s.init; cookie_echo = refl; cookie_ack = s.cook
 
 pub due_forward : (d : Due) (m : model.Due) (b c : Bool) → DueStands d m → b ≡ c → DueStands (record d { forward = b }) (record m { forward = c })
 due_forward d m b c s is = record { init = s.init; cookie_echo = s.cookie_echo; cookie_ack = s.cookie_ack; heartbeat = s.heartbeat; causes = s.causes; sack = s.sack; forward = is; shutdown = s.shutdown; shutdown_ack = s.shutdown_ack }
+
+pub due_sack : (d : Due) (m : model.Due) → DueStands d m → DueStands (record d { sack = true }) (record m { sack = true })
+due_sack d m s = record { init = s.init; cookie_echo = s.cookie_echo; cookie_ack = s.cookie_ack; heartbeat = s.heartbeat; causes = s.causes; sack = refl; forward = s.forward; shutdown = s.shutdown; shutdown_ack = s.shutdown_ack }
 
 pub due_shutdown : (d : Due) (m : model.Due) → DueStands d m → DueStands (record d { shutdown = true }) (record m { shutdown = true })
 due_shutdown d m s = record { init = s.init; cookie_echo = s.cookie_echo; cookie_ack = s.cookie_ack; heartbeat = s.heartbeat; causes = s.causes; sack = s.sack; forward = s.forward; shutdown = refl; shutdown_ack = s.shutdown_ack }
@@ -89,6 +95,7 @@ with_traffic m a s v x y is k stands same = record {
   clock = k.clock;
   due = k.due;
   timers = k.timers;
+  delayed = k.delayed;
   phase = phase_joined m a v is k;
   life = record { terms = (joined m a v is k).terms; traffic = stands; buffer = same ∙ (joined m a v is k).buffer };
 }
@@ -128,6 +135,7 @@ turned_open m a v t g stage d s is k phase due timers =
       clock = k.clock;
       due = due;
       timers = timers ∙ ap (timers_in (model.Open t (stage_meaning stage))) k.timers;
+      delayed = k.delayed;
       phase = ap (λ (x : model.Tags). model.Open x (stage_meaning stage)) same;
       life = record { terms = (joined m a v is k).terms; traffic = (joined m a v is k).traffic; buffer = (joined m a v is k).buffer };
     }
@@ -158,25 +166,27 @@ open_in t g n f b c is sent acked =
 
 pub closed_joined : (m : Machine) (a : Association) (v : EndView) (why : End) (d : Due) (s : Timers) → m.life ≡ life.Joined a → KeepsMachine m v → DueStands d nothing_due
     → timers_meaning s ≡ resting (timers_meaning m.timers)
-    → KeepsMachine (record m { due = d; timers = s; life = life.Joined (record a { progress = Over why }) }) (closed (end_meaning why) v)
+    → KeepsMachine (record m { due = d; timers = s; delayed = None; life = life.Joined (record a { progress = Over why }) }) (closed (end_meaning why) v)
 closed_joined m a v why d s is k due timers = record {
   configuration = k.configuration;
   role = k.role;
   clock = k.clock;
   due = due;
   timers = timers ∙ ap resting k.timers ∙ all_rest (end_meaning why) v.timers;
+  delayed = refl;
   phase = refl;
   life = record { terms = (joined m a v is k).terms; traffic = (joined m a v is k).traffic; buffer = (joined m a v is k).buffer };
 }
 
 pub closed_unjoined : (m : Machine) (x : Unjoined) (v : EndView) (why : End) (d : Due) (s : Timers) → m.life ≡ life.Unjoined x → KeepsMachine m v → DueStands d nothing_due
-    → timers_meaning s ≡ resting (timers_meaning m.timers) → KeepsMachine (record m { due = d; timers = s; life = life.Unjoined (Failed why) }) (closed (end_meaning why) v)
+    → timers_meaning s ≡ resting (timers_meaning m.timers) → KeepsMachine (record m { due = d; timers = s; delayed = None; life = life.Unjoined (Failed why) }) (closed (end_meaning why) v)
 closed_unjoined m x v why d s is k due timers = record {
   configuration = k.configuration;
   role = k.role;
   clock = k.clock;
   due = due;
   timers = timers ∙ ap resting k.timers ∙ all_rest (end_meaning why) v.timers;
+  delayed = refl;
   phase = refl;
   life = unjoined m x v is k;
 }

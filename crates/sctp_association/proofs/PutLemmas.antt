@@ -13,7 +13,7 @@ use Rattle.sctp_model.specs.end.Building.{Slot, SackSlot, ShutdownSlot, is_due, 
 use Rattle.sctp_model.proofs.TypedLemmas.{length-item}
 use Rattle.sctp_packet.specs.Draft.{Draft, has_room, after_try, with_chunks}
 use Rattle.sctp_association.specs.TimersMean.{timers_meaning}
-use Rattle.sctp_association.specs.Drafted.{value_left, causes_left, receiver_left, drafted, IsOf, PutsAt}
+use Rattle.sctp_association.specs.Drafted.{value_left, causes_left, receiver_left, delayed_left, drafted, IsOf, PutsAt}
 use Rattle.sctp_association.specs.declared.timers.Timers.{Timers}
 use Rattle.sctp_association.specs.declared.packing.Marks.{Marks}
 use Rattle.sctp_association.specs.declared.packing.Packing.{Packing}
@@ -153,10 +153,12 @@ before_sack false is r due = refl
 pub acknowledges : (e : EndView) (m : Marks) (s : SackMeaning) → m.sack ≡ true → IsSack e.receiver s → Wants (drafted m e) SackSlot (Sack s)
 acknowledges e m s due is = Acknowledge s (subst (λ (r : ReceiverView). IsSack r s) (sym (before_sack e.due.sack m.sack e.receiver due)) is)
 
--- and the receiver has told its duplicates
+-- and the receiver has told its duplicates, and no SACK waits
 pub sack_left : (e : EndView) (m : Marks) → m.sack ≡ true → e.due.sack ≡ true → once_built SackSlot (drafted m e) ≡ drafted (record m { sack = false }) e
 sack_left e m due was =
     let same : receiver_left e.due.sack m.sack e.receiver ≡ e.receiver = before_sack e.due.sack m.sack e.receiver due in
     let after : sack_sent (receiver_left e.due.sack m.sack e.receiver) ≡ receiver_left e.due.sack false e.receiver =
     ap sack_sent same ∙ sym (ap (λ (b : Bool). receiver_left b false e.receiver) was) in
-    ap (λ (r : ReceiverView). record (drafted (record m { sack = false }) e) { receiver = r }) after
+    let gone : None ≡ delayed_left e.due.sack false e.delayed = sym (ap (λ (b : Bool). delayed_left b false e.delayed) was) in
+    ap (λ (r : ReceiverView). record (drafted (record m { sack = false }) e) { delayed = None; receiver = r }) after
+    ∙ ap (λ (n : Option ℕ). record (drafted (record m { sack = false }) e) { delayed = n }) gone

@@ -7,7 +7,7 @@ use Rattle.sctp_model.specs.sender.SenderView.{SenderView}
 use Rattle.sctp_model.specs.sender.Filling.{newly_numbered}
 use Rattle.sctp_model.specs.receiver.ReceiverView.{ReceiverView}
 use Rattle.sctp_model.specs.receiver.SackMade.{sack_sent}
-use Rattle.sctp_model.specs.end.EndView.{EndView, format_of}
+use Rattle.sctp_model.specs.end.EndView.{Configuration, EndView, format_of}
 use Rattle.sctp_model.specs.end.EndView as model
 use Rattle.sctp_model.specs.end.Building.{Slot, Puts, Builds, tag_to}
 use Rattle.sctp_values.specs.declared.ticket.Ticket.{Ticket}
@@ -37,6 +37,12 @@ receiver_left true false r = sack_sent r
 receiver_left true true r = r
 receiver_left false is_due r = r
 
+-- the moment at which a SACK that waits is due: behind a SACK none waits
+abbrev pub delayed_left : (was_due is_due : Bool) → Option ℕ → Option ℕ
+delayed_left true false m = None
+delayed_left true true m = m
+delayed_left false is_due m = m
+
 -- what is still due
 abbrev pub due_left : Marks → model.Due → model.Due
 due_left m d = record d {
@@ -56,6 +62,7 @@ abbrev pub drafted : Marks → EndView → EndView
 drafted m e = record e {
   due = due_left m e.due;
   timers = timers_meaning m.timers;
+  delayed = delayed_left e.due.sack m.sack e.delayed;
   receiver = receiver_left e.due.sack m.sack e.receiver;
 }
 
@@ -89,7 +96,8 @@ pub record IsPacked (e : EndView) (s : SenderView) (p : Packing) (tickets : Vec 
 -- ---- where the chunks come from
 
 -- All that a packet is made of while the association is open stands for its part of the end.
-pub record IsPartOf (traffic : Traffic) (due : Due) (moment : ℕ) (e : EndView) : Type 0 where
+pub record IsPartOf (config : Configuration) (traffic : Traffic) (due : Due) (moment : ℕ) (e : EndView) : Type 0 where
+  pub configured : config ≡ e.configuration
   pub clock : moment ≡ e.moment
   pub due_stands : DueStands due e.due
   pub traffic_stands : TrafficStands traffic (format_of e) e.sender e.receiver

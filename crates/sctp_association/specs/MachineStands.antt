@@ -48,6 +48,7 @@ pub record KeepsMachine (m : Machine) (v : EndView) : Type 0 where
   pub clock : m.moment ≡ v.moment
   pub due : DueStands m.due v.due
   pub timers : timers_meaning m.timers ≡ v.timers
+  pub delayed : m.delayed ≡ v.delayed
   pub phase : phase_of m.life ≡ v.phase
   pub life : LifeStands m.life v.configuration v.terms v.sender v.receiver
 

@@ -1,4 +1,4 @@
-//! What an end answers to its peer, at once or in its next packets (RFC 9260, 6.2, 8.3, 9.1 and 9.2). All memory is taken before anything
+//! What an end answers to its peer, at once or in its next packets (RFC 9260, 8.3, 9.1 and 9.2). All memory is taken before anything
 //! changes.
 
 ghost use Rattle.std.specs.Prelude.{◌≡◌, ◌≤◌, true, false, length, IfOk, OnOk, OnErr};
@@ -10,7 +10,6 @@ ghost use Rattle.sctp_model.specs.end.Closing.{with_due, answers_shutdown};
 ghost use Rattle.sctp_model.specs.end.Reports.{item};
 ghost use Rattle.sctp_model.specs.end.PeerFaults.{packet_to, abort_for};
 ghost use Rattle.sctp_model.specs.end.Acting.{heartbeat_heard};
-ghost use Rattle.sctp_model.specs.end.Arriving.{acknowledges_in};
 ghost use Rattle.sctp_packet.specs.PacketBytes.{WritesPacket};
 ghost use Rattle.sctp_association.specs.MachineStands.{MachineStands};
 
@@ -37,17 +36,6 @@ impl Machine {
         }
         self.due.heartbeat = Some(HeartbeatInfo::copied(self.alloc, info)?);
         Ok(())
-    }
-
-    /// A packet had something to acknowledge: a SACK is due, and in SHUTDOWN SENT the SHUTDOWN again; nothing where the association isn't open
-    /// any more (RFC 9260, 6.2 and 9.2).
-    pub fn acknowledge(&mut self)
-        ensures { (v : EndView) → MachineStands self.old v → MachineStands self.new (acknowledges_in true v.phase v) }
-    {
-        let Some(opened) = self.opened() else {
-            return;
-        };
-        self.due.acknowledge(opened.stage);
     }
 
     /// The end closes with an ABORT for a short cause, to the end whose packets carry this tag (RFC 9260, 9.1).

@@ -16,7 +16,7 @@ ghost use Rattle.sctp_association.specs.PhaseMeans.{phase_in, phase_unjoined};
 ghost use Rattle.sctp_association.specs.DueStands.{DueStands};
 ghost use Rattle.sctp_association.specs.TrafficStands.{TrafficStands};
 ghost use Rattle.sctp_association.specs.MachineStands.{MachineStands};
-ghost use Rattle.sctp_association.specs.Drafted.{receiver_left, drafted, IsEmpty, IsPacked, IsPartOf};
+ghost use Rattle.sctp_association.specs.Drafted.{receiver_left, delayed_left, drafted, IsEmpty, IsPacked, IsPartOf};
 ghost use Rattle.sctp_association.specs.BuildAnswers.{BuildAnswer};
 
 use crate::carried::EchoedCookie;
@@ -91,7 +91,7 @@ impl Machine {
                 pack_unjoined(alloc, &self.config, *unjoined, moment, packing)
             }
             Life::Joined(association) => {
-                pack_joined(alloc, association, &self.due, moment, packing)
+                pack_joined(alloc, &self.config, association, &self.due, moment, packing)
             }
         }
     }
@@ -104,7 +104,7 @@ impl Machine {
         ensures tickets { IfSome result (λ b. b.tickets ≡ tickets) }
     {
         self.moment = moment;
-        self.forget_duplicates(self.due.sack, packing.marks.sack);
+        self.when_sack_sent(self.due.sack, packing.marks.sack);
         self.timers = packing.marks.timers;
         self.due.leave(self.alloc, packing.marks);
         match packing.writer.finish() {
@@ -113,9 +113,10 @@ impl Machine {
         }
     }
 
-    /// Once a SACK that was due went out, the duplicates that it told are forgotten.
-    fn forget_duplicates(&mut self, was_due: bool, is_due: bool)
-        ensures { (v : EndView) → MachineStands self.old v → MachineStands self.new (record v { receiver = receiver_left was_due is_due v.receiver }) }
+    /// Once a SACK that was due went out, the duplicates that it told are forgotten, and none waits (RFC 9260, 6.2).
+    fn when_sack_sent(&mut self, was_due: bool, is_due: bool)
+        ensures { (v : EndView) → MachineStands self.old v
+            → MachineStands self.new (record v { delayed = delayed_left was_due is_due v.delayed; receiver = receiver_left was_due is_due v.receiver }) }
     {
         if !was_due {
             return;
@@ -123,6 +124,7 @@ impl Machine {
         if is_due {
             return;
         }
+        self.delayed = None;
         self.sack_sent();
     }
 
@@ -183,19 +185,29 @@ fn pack_init(
 /// What an association sends, by how far it has come; once it is over, nothing.
 fn pack_joined(
     alloc: Global,
+    config: &Config,
     association: &mut Association,
     due: &Due,
     moment: u64,
     packing: &mut Packing,
 ) -> Result<Vec<Ticket>, NoMemory>
-    ensures packed { (e : EndView) → phase_in association.old.tags association.old.progress ≡ e.phase → IsPartOf association.old.traffic due.now moment e → IsEmpty e packing.old
+    ensures packed { (e : EndView) → phase_in association.old.tags association.old.progress ≡ e.phase → IsPartOf config.now association.old.traffic due.now moment e → IsEmpty e packing.old
         → IfOk result (λ tickets. (s : SenderView) × IsPacked e s packing.new tickets × TrafficStands association.new.traffic (format_of e) s e.receiver) }
     ensures memory { (f : Format) (s : SenderView) (r : ReceiverView) → TrafficStands association.old.traffic f s r → OnErr result (TrafficStands association.new.traffic f s r) }
     ensures kept { association.new ≡ record association.old { traffic = association.new.traffic } }
 {
     match &association.progress {
         Progress::Echoing(cookie) => pack_echoing(alloc, cookie, due, moment, packing),
-        Progress::Open(_) => pack_open(alloc, &mut association.traffic, due, moment, packing),
+        Progress::Open(_) => {
+            pack_open(
+                alloc,
+                config,
+                &mut association.traffic,
+                due,
+                moment,
+                packing,
+            )
+        }
         Progress::Over(_) => Ok(Vec::new(alloc)),
     }
 }
@@ -218,16 +230,17 @@ fn pack_echoing(
 /// All that is due while the association is open, and fragments where there is room behind it (RFC 9260, 6.1 and 6.10).
 fn pack_open(
     alloc: Global,
+    config: &Config,
     traffic: &mut Traffic,
     due: &Due,
     moment: u64,
     packing: &mut Packing,
 ) -> Result<Vec<Ticket>, NoMemory>
-    ensures packed { (e : EndView) (t : model.Tags) (g : model.Stage) → e.phase ≡ model.Open t g → IsPartOf traffic.old due.now moment e → IsEmpty e packing.old
+    ensures packed { (e : EndView) (t : model.Tags) (g : model.Stage) → e.phase ≡ model.Open t g → IsPartOf config.now traffic.old due.now moment e → IsEmpty e packing.old
         → IfOk result (λ tickets. (s : SenderView) × IsPacked e s packing.new tickets × TrafficStands traffic.new (format_of e) s e.receiver) }
     ensures memory { (f : Format) (s : SenderView) (r : ReceiverView) → TrafficStands traffic.old f s r → OnErr result (TrafficStands traffic.new f s r) }
 {
-    if !put_open(traffic, due, moment, packing)? {
+    if !put_open(config, traffic, due, moment, packing)? {
         return Ok(Vec::new(alloc));
     }
     fill_behind(traffic, moment, packing)

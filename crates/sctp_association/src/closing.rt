@@ -37,6 +37,7 @@ impl Machine {
         let alloc = self.alloc;
         self.due.clear(alloc);
         self.timers.stop_all();
+        self.delayed = None;
         match &mut self.life {
             Life::Joined(association) => association.progress = Progress::Over(why),
             Life::Unjoined(unjoined) => *unjoined = Unjoined::Failed(why),

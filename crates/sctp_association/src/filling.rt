@@ -1,7 +1,8 @@
 //! A packet is filled from the traffic: with the FORWARD, and with fragments behind all control chunks (RFC 9260, 6.1 and 6.3.2; RFC 3758,
 //! 3.5; RFC 8260, 2.2 and 2.3.1).
 
-ghost use Rattle.std.specs.Prelude.{◌≡◌, ◌&&◌, map, IfOk, OnOk, OnErr};
+ghost use Rattle.std.specs.Prelude.{◌≡◌, ◌≤◌, ◌&&◌, map, IfOk, OnOk, OnErr};
+ghost use Rattle.sctp_model.specs.numbers.Limits.{LEAST_PACKET, GREATEST_PACKET};
 ghost use Rattle.sctp_model.specs.messages.Format.{Format};
 ghost use Rattle.sctp_model.specs.sender.SenderView.{SenderView};
 ghost use Rattle.sctp_model.specs.receiver.ReceiverView.{ReceiverView};
@@ -25,19 +26,22 @@ use sctp_send::{Filled, Sender};
 use sctp_values::{NoMemory, Ticket};
 
 impl Traffic {
-    /// Puts the FORWARD in (RFC 3758, 3.5). False exactly where there is nothing to skip, or the chunk doesn't fit.
+    /// Puts the FORWARD in, which goes as far as fits a packet of this limit, in bytes (RFC 3758, 3.5). False exactly where there is nothing to
+    /// skip, or the chunk doesn't fit.
     ///
     /// # Errors
     /// Memory ran out.
-    pub fn put_forward(&self, packet: &mut PacketWriter) -> Result<bool, NoMemory>
+    pub fn put_forward(&self, packet: &mut PacketWriter, limit: u16) -> Result<bool, NoMemory>
+        requires least { LEAST_PACKET ≤ limit }
+        requires greatest { limit ≤ GREATEST_PACKET }
         ensures answer { (f : Format) (s : SenderView) (r : ReceiverView) → TrafficStands self.now f s r
-            → IfOk result (λ put. put ≡ (is_point_past s && has_room packet.old (forward_chunk_of f s))) }
+            → IfOk result (λ put. put ≡ (is_point_past s && has_room packet.old (forward_chunk_of f limit s))) }
         ensures after { (f : Format) (s : SenderView) (r : ReceiverView) → TrafficStands self.now f s r
-            → IfOk result (λ put. packet.new ≡ after_try packet.old (forward_chunk_of f s) put) }
+            → IfOk result (λ put. packet.new ≡ after_try packet.old (forward_chunk_of f limit s) put) }
     {
         match self {
-            Traffic::Plain(directions) => directions.sender.put_forward(packet),
-            Traffic::Interleaved(directions) => directions.sender.put_forward(packet),
+            Traffic::Plain(directions) => directions.sender.put_forward(packet, limit),
+            Traffic::Interleaved(directions) => directions.sender.put_forward(packet, limit),
         }
     }
 

@@ -1,20 +1,21 @@
 //! What the peer sends to an association that is open: chunks with data, FORWARDs, and what acknowledges (RFC 9260, 6.2 and 6.2.1; RFC 3758,
 //! 3.6). All memory is taken before anything changes.
 
-ghost use Rattle.std.specs.Prelude.{◌≡◌, ◌+◌, ◌≤◌, nat_lt, length, vec_capacity, IfOk, OnOk, OnErr};
+ghost use Rattle.std.specs.Prelude.{◌≡◌, ◌+◌, ◌≤◌, length, vec_capacity, IfOk, OnOk, OnErr};
 ghost use Rattle.sctp_model.specs.wire.Chunk.{PieceMeaning};
 ghost use Rattle.sctp_model.specs.receiver.ReceiverView.{ReceiverView};
 ghost use Rattle.sctp_model.specs.receiver.PieceTaken.{PieceTaken};
 ghost use Rattle.sctp_model.specs.receiver.ForwardTaken.{ForwardTaken};
-ghost use Rattle.sctp_model.specs.sender.SackTaken.{sack_fault, sack_after, shutdown_fault, shutdown_taken, shutdown_after};
+ghost use Rattle.sctp_model.specs.sender.SackTaken.{sack_fault, sack_after, shutdown_fault, shutdown_after};
 ghost use Rattle.sctp_model.specs.end.EndView.{EndView, format_of};
 ghost use Rattle.sctp_model.specs.end.EndView as model;
-ghost use Rattle.sctp_model.specs.end.Clock.{settled, renewed, with_timer};
+ghost use Rattle.sctp_model.specs.end.Clock.{renewed, with_timer};
 ghost use Rattle.sctp_model.specs.end.Reports.{with_causes};
-ghost use Rattle.sctp_model.specs.end.Acting.{piece_causes, sack_heard};
+ghost use Rattle.sctp_model.specs.end.Acting.{piece_causes, sack_heard, shut_timer, shutdown_counted};
 ghost use Rattle.sctp_wire.specs.ChunkTree.{piece_meaning, forward_meaning, sack_meaning};
 ghost use Rattle.sctp_recv.specs.AnswerOf.{answer_of, forward_answer_of};
 ghost use Rattle.sctp_send.specs.SenderAnswers.{reason_meaning};
+ghost use Rattle.sctp_association.specs.TimersMean.{alarm_meaning};
 ghost use Rattle.sctp_association.specs.MachineStands.{MachineStands};
 
 use crate::life::Life;
@@ -106,7 +107,7 @@ impl Machine {
                 let moved = before < self.cum();
                 self.due.forward = true;
                 self.settle();
-                self.renew(moved);
+                self.renew(Alarm::Fragments, moved);
                 Ok(())
             }
             Err(fault) => Err(fault),
@@ -139,16 +140,17 @@ impl Machine {
         }
     }
 
-    /// The timer of fragments counts anew; where the acknowledged index moved it waits anew, too (RFC 9260, 6.3.2).
-    fn renew(&mut self, moved: bool)
-        ensures { (v : EndView) → MachineStands self.old v → MachineStands self.new (with_timer model.DataAlarm (renewed v.moment moved (v.timers model.DataAlarm)) v) }
+    /// A timer counts anew; where its peer went on it waits anew, too (RFC 9260, 6.3.2 and 9.2).
+    pub(crate) fn renew(&mut self, alarm: Alarm, moved: bool)
+        ensures { (v : EndView) → MachineStands self.old v
+            → MachineStands self.new (with_timer (alarm_meaning alarm) (renewed v.moment moved (v.timers (alarm_meaning alarm))) v) }
     {
-        let timer = self.timers.get(Alarm::Fragments);
-        self.timers
-            .put(Alarm::Fragments, timer.renewed(self.moment, moved));
+        let timer = self.timers.get(alarm);
+        self.timers.put(alarm, timer.renewed(self.moment, moved));
     }
 
-    /// The cumulative TSN of a SHUTDOWN comes, and acknowledges (RFC 9260, 9.2). It takes no memory.
+    /// The cumulative TSN of a SHUTDOWN comes, and acknowledges; with standard closing one that moves the acknowledged index is for the timer of
+    /// fragments what a SACK is (RFC 9260, 6.3.2 and 9.2). It takes no memory.
     ///
     /// # Errors
     /// The first fault that it has; nothing changed then.
@@ -156,16 +158,28 @@ impl Machine {
         ensures answer { (v : EndView) (t : model.Tags) (g : model.Stage) → MachineStands self.old v → v.phase ≡ model.Open t g
             → reason_meaning result ≡ shutdown_fault v.sender tsn }
         ensures step { (v : EndView) (t : model.Tags) (g : model.Stage) → MachineStands self.old v → v.phase ≡ model.Open t g
-            → OnOk result (MachineStands self.new (settled (record v { sender = shutdown_taken v.sender tsn }))) }
+            → OnOk result (MachineStands self.new (shutdown_counted v tsn)) }
         ensures refused { (v : EndView) (t : model.Tags) (g : model.Stage) → MachineStands self.old v → v.phase ≡ model.Open t g
             → OnErr result (MachineStands self.new v) }
     {
+        let before = self.cum();
         match self.take_shutdown(tsn) {
             Ok(()) => {
                 self.settle();
+                self.renew_shut(before < self.cum());
                 Ok(())
             }
             Err(fault) => Err(fault),
+        }
+    }
+
+    /// With standard closing a SHUTDOWN that moved the acknowledged index renews the timer of fragments (RFC 9260, 6.3.2 and 9.2).
+    fn renew_shut(&mut self, moved: bool)
+        ensures { (v : EndView) → MachineStands self.old v
+            → MachineStands self.new (with_timer model.DataAlarm (shut_timer v.configuration.standard_closing moved v.moment (v.timers model.DataAlarm)) v) }
+    {
+        if self.config.standard_closing() && moved {
+            self.renew(Alarm::Fragments, true);
         }
     }
 

@@ -51,6 +51,7 @@ impl Machine {
             moment: 0,
             due: Due::nothing(alloc),
             timers: Timers::unused(),
+            delayed: None,
             life: Life::Joined(Association {
                 tags,
                 terms,

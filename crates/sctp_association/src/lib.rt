@@ -8,6 +8,7 @@ mod building;
 mod calls;
 mod carried;
 mod closing;
+mod delaying;
 mod due;
 mod filling;
 mod hearing;

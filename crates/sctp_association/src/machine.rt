@@ -18,7 +18,8 @@ use sctp_cookie::Key;
 use sctp_terms::Config;
 use std::alloc::Global;
 
-/// An end of an association: how it is set up and came to be, the latest moment that it was told, what is due, its timers, and where it stands.
+/// An end of an association: how it is set up and came to be, the latest moment that it was told, what is due, its timers, a SACK that waits,
+/// and where it stands.
 #[derive(Drop)]
 pub struct Machine {
     pub(crate) alloc: Global,
@@ -27,6 +28,8 @@ pub struct Machine {
     pub(crate) moment: u64,
     pub(crate) due: Due,
     pub(crate) timers: Timers,
+    /// The moment at which a SACK that waits is due, while one waits (RFC 9260, 6.2).
+    pub(crate) delayed: Option<u64>,
     pub(crate) life: Life,
 }
 
@@ -57,6 +60,7 @@ impl Machine {
             moment: 0,
             due: Due::nothing(alloc),
             timers: Timers::unused(),
+            delayed: None,
             life: Life::Unjoined(stands),
         }
     }

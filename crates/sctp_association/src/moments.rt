@@ -1,5 +1,5 @@
-//! Time at an end: what is past its time is abandoned, then each timer that is due expires once (RFC 9260, 5.1, 6.3.3 and 9.2; RFC 3758, 3.5).
-//! Nothing here takes memory.
+//! Time at an end: what is past its time is abandoned, then each timer that is due expires once, and a SACK that waited is due (RFC 9260, 5.1,
+//! 6.2, 6.3.3 and 9.2; RFC 3758, 3.5). Nothing here takes memory.
 
 ghost use Rattle.std.specs.Prelude.{◌≡◌};
 ghost use Rattle.sctp_model.specs.sender.SenderView.{SenderView};
@@ -7,12 +7,12 @@ ghost use Rattle.sctp_model.specs.sender.Readers.{point};
 ghost use Rattle.sctp_model.specs.sender.Abandoning.{timed_out};
 ghost use Rattle.sctp_model.specs.end.EndView.{EndView};
 ghost use Rattle.sctp_model.specs.end.Clock.{at_moment, settled, is_point_past};
-ghost use Rattle.sctp_model.specs.end.Moments.{after_abandoning, due_again, ring, passed, ticked, next_moment};
+ghost use Rattle.sctp_model.specs.end.Moments.{after_abandoning, due_again, ring, waited, passed, ticked, next_moment};
 ghost use Rattle.sctp_association.specs.TimersMean.{alarm_meaning};
 ghost use Rattle.sctp_association.specs.MachineStands.{MachineStands};
 
 use crate::machine::Machine;
-use crate::timers::Alarm;
+use crate::timers::{Alarm, earlier, is_over_at};
 use sctp_terms::End;
 
 #[tactic(auto, unfolding(crate::specs::MachineStands::MachineStands))]
@@ -24,7 +24,8 @@ impl Machine {
         self.moment = self.moment.max(now);
     }
 
-    /// Takes a moment, in milliseconds: what is past its time is abandoned, then each timer that is due expires once.
+    /// Takes a moment, in milliseconds: what is past its time is abandoned, then each timer that is due expires once, and a SACK that
+    /// waited long enough is due.
     pub fn on_moment(&mut self, now: u64)
         ensures { (v : EndView) → MachineStands self.old v → MachineStands self.new (ticked v now) }
     {
@@ -47,6 +48,18 @@ impl Machine {
         self.ring(Alarm::Fragments);
         self.ring(Alarm::Shutdown);
         self.ring(Alarm::ShutdownAck);
+        self.wait_over();
+    }
+
+    /// A SACK that waited long enough is due, and waits no more (RFC 9260, 6.2).
+    fn wait_over(&mut self)
+        ensures { (v : EndView) → MachineStands self.old v → MachineStands self.new (waited v) }
+    {
+        if !is_over_at(self.delayed, self.moment) {
+            return;
+        }
+        self.due.sack = true;
+        self.delayed = None;
     }
 
     /// Messages were abandoned, where the point was at this index before: a FORWARD is due where it moved (RFC 3758, 3.5).
@@ -106,11 +119,11 @@ impl Machine {
         self.repeat();
     }
 
-    /// When to come again: the earliest expiry of a timer that runs, in milliseconds. The moments after which messages are worthless aren't
-    /// among them.
+    /// When to come again: the earliest expiry of a timer that runs, a SACK that waits counted, in milliseconds. The moments after which messages
+    /// are worthless aren't among them.
     pub fn next_moment(&self) -> Option<u64>
         ensures { (v : EndView) → MachineStands self.now v → result ≡ next_moment v }
     {
-        self.timers.next_moment()
+        earlier(self.timers.next_moment(), self.delayed)
     }
 }

@@ -15,6 +15,7 @@ use crate::packing::Packing;
 use crate::replying::{put_answers, put_error};
 use crate::timers::Alarm;
 use crate::traffic::Traffic;
+use sctp_terms::Config;
 use sctp_values::NoMemory;
 use sctp_wire::Chunk;
 
@@ -23,12 +24,13 @@ use sctp_wire::Chunk;
 /// # Errors
 /// Memory ran out.
 pub(crate) fn put_open(
+    config: &Config,
     traffic: &Traffic,
     due: &Due,
     moment: u64,
     packing: &mut Packing,
 ) -> Result<bool, NoMemory>
-    ensures { (e : EndView) → IsPartOf traffic.now due.now moment e → IsOf e packing.old → IfOk result (λ room. PutsAt open_slots e packing.old packing.new room) }
+    ensures { (e : EndView) → IsPartOf config.now traffic.now due.now moment e → IsOf e packing.old → IfOk result (λ room. PutsAt open_slots e packing.old packing.new room) }
 {
     if !put_answers(due, packing)? {
         return Ok(false);
@@ -36,7 +38,7 @@ pub(crate) fn put_open(
     if !put_sack(traffic, packing)? {
         return Ok(false);
     }
-    if !put_forward(traffic, moment, packing)? {
+    if !put_forward(config, traffic, moment, packing)? {
         return Ok(false);
     }
     if !put_shutdown(traffic, moment, packing)? {
@@ -99,9 +101,14 @@ fn put_sack(traffic: &Traffic, packing: &mut Packing) -> Result<bool, NoMemory>
     Ok(true)
 }
 
-/// FORWARD-TSN or I-FORWARD-TSN, where there is something to skip (RFC 3758, 3.5; RFC 8260, 2.3.1).
-fn put_forward(traffic: &Traffic, moment: u64, packing: &mut Packing) -> Result<bool, NoMemory>
-    ensures { (e : EndView) → TrafficStands traffic.now (format_of e) e.sender e.receiver → moment ≡ e.moment → IsOf e packing.old
+/// FORWARD-TSN or I-FORWARD-TSN, where there is something to skip, as far as one packet tells (RFC 3758, 3.5; RFC 8260, 2.3.1).
+fn put_forward(
+    config: &Config,
+    traffic: &Traffic,
+    moment: u64,
+    packing: &mut Packing,
+) -> Result<bool, NoMemory>
+    ensures { (e : EndView) → config.now ≡ e.configuration → TrafficStands traffic.now (format_of e) e.sender e.receiver → moment ≡ e.moment → IsOf e packing.old
         → IfOk result (λ room. PutsAt (ForwardSlot ∷ []) e packing.old packing.new room) }
 {
     if !packing.marks.forward {
@@ -110,7 +117,7 @@ fn put_forward(traffic: &Traffic, moment: u64, packing: &mut Packing) -> Result<
     if !traffic.is_point_past() {
         return Ok(true);
     }
-    if !traffic.put_forward(&mut packing.writer)? {
+    if !traffic.put_forward(&mut packing.writer, config.limit())? {
         return Ok(false);
     }
     packing.marks.forward = false;

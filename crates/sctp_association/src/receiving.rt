@@ -9,6 +9,7 @@ ghost use Rattle.sctp_model.specs.receiver.ReceiverView.{ReceiverView, IsCumulat
 ghost use Rattle.sctp_model.specs.receiver.PieceTaken.{PieceTaken};
 ghost use Rattle.sctp_model.specs.receiver.ForwardTaken.{ForwardTaken};
 ghost use Rattle.sctp_model.specs.receiver.SackMade.{IsSack, sack_sent, TakeLeaves};
+ghost use Rattle.sctp_model.specs.end.Arriving.{TellsGap};
 ghost use Rattle.sctp_wire.specs.ChunkTree.{piece_meaning, forward_meaning};
 ghost use Rattle.sctp_wire.specs.Layouts.{Fits};
 ghost use Rattle.sctp_recv.specs.AnswerOf.{answer_of, forward_answer_of};
@@ -81,6 +82,16 @@ impl Traffic {
         match self {
             Traffic::Plain(directions) => directions.receiver.cumulative(),
             Traffic::Interleaved(directions) => directions.receiver.cumulative(),
+        }
+    }
+
+    /// An index above the cumulative one came: one below it is missing (RFC 9260, 6.2).
+    pub fn has_gap(&self) -> bool
+        ensures { (f : Format) (s : SenderView) (r : ReceiverView) → TrafficStands self.now f s r → TellsGap result r }
+    {
+        match self {
+            Traffic::Plain(directions) => directions.receiver.has_gap(),
+            Traffic::Interleaved(directions) => directions.receiver.has_gap(),
         }
     }
 

@@ -95,10 +95,7 @@ impl Timer {
     pub fn is_over(self, now: u64) -> bool
         ensures { result ≡ is_over_at now (timer_meaning self).expiry }
     {
-        match self.expiry {
-            Some(moment) => moment <= now,
-            None => false,
-        }
+        is_over_at(self.expiry, now)
     }
 
     /// Its packet may go out once more: it was repeated fewer times than may be.
@@ -109,7 +106,7 @@ impl Timer {
         self.repeats < repeats_of(alarm)
     }
 
-    /// The timer of fragments after a SACK: it counts anew; where the cumulative index moved it waits anew, too (RFC 9260, 6.3.2).
+    /// The timer once its packet was answered in part: it counts anew; where that moved something it waits anew, too (RFC 9260, 6.3.2).
     pub fn renewed(self, now: u64, moved: bool) -> Timer
         ensures { timer_meaning result ≡ renewed now moved (timer_meaning self) }
     {
@@ -121,6 +118,16 @@ impl Timer {
             repeats: 0,
             expiry: expiry_after(now, self.expiry),
         }
+    }
+}
+
+/// A moment that is set has come by this one.
+pub(crate) fn is_over_at(set: Option<u64>, now: u64) -> bool
+    ensures { result ≡ is_over_at now set }
+{
+    match set {
+        Some(moment) => moment <= now,
+        None => false,
     }
 }
 
@@ -146,7 +153,7 @@ fn repeats_of(alarm: Alarm) -> u32
 }
 
 /// The earlier of two moments, where there are any.
-fn earlier(one: Option<u64>, other: Option<u64>) -> Option<u64>
+pub(crate) fn earlier(one: Option<u64>, other: Option<u64>) -> Option<u64>
     ensures { result ≡ earlier one other }
 {
     match one {

@@ -1,9 +1,11 @@
 //! A call, as a line of a case says it.
 
+use crate::plain::{Plain, read_plain};
 use crate::words::Words;
 use sctp_send::Ticket;
+use sctp_values::GREATEST_PACKET;
 
-/// A call of a sender, of a receiver, or of both.
+/// A call of a sender, of a receiver, of both, or of neither.
 #[derive(Clone, Copy)]
 pub enum Call<'a> {
     /// A new sender; every packet of the one before it is dropped.
@@ -27,10 +29,20 @@ pub enum Call<'a> {
         until: Option<u64>,
         bytes: &'a str,
     },
+    /// Such a message on each stream below a number, in turn.
+    QueueEach {
+        streams: u16,
+        ordered: bool,
+        payload_id: u32,
+        until: Option<u64>,
+        bytes: &'a str,
+    },
     Fill {
         limit: u16,
     },
+    /// A FORWARD for packets of a limit, into a packet with so many bytes.
     Forward {
+        room: u16,
         limit: u16,
     },
     Sack {
@@ -87,6 +99,8 @@ pub enum Call<'a> {
     Acknowledge,
     /// The readers of the receiver.
     Receiving,
+    /// A call of numbers, bytes or cookies.
+    Plain(Plain<'a>),
 }
 
 impl<'a> Call<'a> {
@@ -125,11 +139,23 @@ fn read_sending<'a>(name: &str, words: &mut Words<'a>) -> Option<Call<'a>> {
             until: words.until()?,
             bytes: words.next()?,
         },
+        "queue-each" => Call::QueueEach {
+            streams: words.number()?,
+            ordered: words.either("o", "u")?,
+            payload_id: words.number()?,
+            until: words.until()?,
+            bytes: words.next()?,
+        },
         "fill" => Call::Fill {
             limit: words.number()?,
         },
         "forward" => Call::Forward {
-            limit: words.number()?,
+            room: words.number()?,
+            limit: if words.are_read() {
+                GREATEST_PACKET
+            } else {
+                words.number()?
+            },
         },
         "sack" => Call::Sack {
             tsn: words.number()?,
@@ -150,7 +176,7 @@ fn read_sending<'a>(name: &str, words: &mut Words<'a>) -> Option<Call<'a>> {
     })
 }
 
-/// A call of a receiver, or of both.
+/// A call of a receiver, of both, or of neither.
 fn read_receiving<'a>(name: &str, words: &mut Words<'a>) -> Option<Call<'a>> {
     Some(match name {
         "receiver" => Call::Receiver {
@@ -186,6 +212,6 @@ fn read_receiving<'a>(name: &str, words: &mut Words<'a>) -> Option<Call<'a>> {
         "tell" => Call::Tell,
         "acknowledge" => Call::Acknowledge,
         "receiving" => Call::Receiving,
-        _ => return None,
+        _ => return Some(Call::Plain(read_plain(name, words)?)),
     })
 }

@@ -2,6 +2,7 @@
 
 use crate::call::Call;
 use crate::parts::{bytes_of, skips_of};
+use crate::plain::answer;
 use crate::receiving::{carry, data, receiving, rise, skip, taken};
 use crate::sending::{Packets, fill, forward, queue, sack, sack_answer, send};
 use crate::shown::sack_digits;
@@ -42,6 +43,7 @@ impl<F: Framing> Ends<F> {
         match call {
             Call::Sender { .. } | Call::Receiver { .. } => self.begin(call, out)?,
             Call::Acknowledge => self.acknowledge(out)?,
+            Call::Plain(call) => answer(self.alloc, call, out)?,
             _ => {
                 if let Some(sender) = &mut self.sender {
                     sending_call(self.alloc, sender, &mut self.packets, call, out)?;
@@ -137,11 +139,41 @@ fn sending_call<F: Framing>(
             Some(bytes) => queue(sender, stream, ordered, payload_id, bytes, until, out),
             None => Ok(()),
         },
+        Call::QueueEach {
+            streams,
+            ordered,
+            payload_id,
+            until,
+            bytes,
+        } => queue_each(
+            alloc, sender, streams, ordered, payload_id, bytes, until, out,
+        ),
         Call::Fill { limit } => fill(alloc, sender, packets, limit, out),
-        Call::Forward { limit } => forward(alloc, sender, packets, limit, out),
+        Call::Forward { room, limit } => forward(alloc, sender, packets, room, limit, out),
         Call::Sack { tsn, rwnd, blocks } => sack(alloc, sender, tsn, rwnd, blocks, out),
         _ => send(sender, call, out),
     }
+}
+
+/// Hands in a message on each stream below a number; what the last one was answered.
+fn queue_each<F: Framing>(
+    alloc: Global,
+    sender: &mut Sender<F>,
+    streams: u16,
+    ordered: bool,
+    payload_id: u32,
+    bytes: &str,
+    until: Option<u64>,
+    out: &mut String,
+) -> Result<()> {
+    let mut last = String::new(alloc);
+    for stream in 0..streams {
+        if let Some(bytes) = bytes_of(alloc, bytes)? {
+            last.clear();
+            queue(sender, stream, ordered, payload_id, bytes, until, &mut last)?;
+        }
+    }
+    Ok(write!(out, "{last}")?)
 }
 
 /// A call of a receiver; nothing is appended for another.

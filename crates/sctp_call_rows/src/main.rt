@@ -1,14 +1,18 @@
 //! Runs the cases of calls that stand on standard input, and prints a transcript: each line of a case as it stands there and, behind each
 //! call, a line with what it answered. A sender and a receiver are called here alone, or one beside the other, with the packets that go
-//! between them.
+//! between them; and numbers, bytes and cookies.
 //!
-//! A case begins with `= data NAME` or `= i-data NAME`, which says the format. Its calls, and what they answer, are told in `docs/CALLS.md`.
-//! Other lines are remarks.
+//! A case begins with `= NAME`; where it has a sender or a receiver, with `= data NAME` or `= i-data NAME`, which says their format. Its
+//! calls, and what they answer, are told in `docs/CALLS.md`. Other lines are remarks.
 #![tactic(auto)]
 
+mod bytes;
 mod call;
+mod cookies;
 mod ends;
+mod numbers;
 mod parts;
+mod plain;
 mod receiving;
 mod sending;
 mod shown;

@@ -7,6 +7,7 @@ use anyhow::Result;
 use sctp_framing::Framing;
 use sctp_packet::PacketWriter;
 use sctp_send::{Abandoned, SackFault, SendFault, Sender, Ticket};
+use sctp_values::GREATEST_PACKET;
 use sctp_wire::{Blocks, Sack, Tsns};
 use std::alloc::Global;
 use std::fmt::Write;
@@ -91,16 +92,20 @@ pub fn fill<F: Framing>(
     Ok(())
 }
 
-/// A packet of so many bytes at most with the FORWARD.
+/// A packet of so many bytes at most with the FORWARD for packets of a limit.
 pub fn forward<F: Framing>(
     alloc: Global,
     sender: &Sender<F>,
     packets: &mut Packets,
+    room: u16,
     limit: u16,
     out: &mut String,
 ) -> Result<()> {
-    let mut packet = PacketWriter::new(alloc, limit, 1, 2, 3);
-    let put = sender.put_forward(&mut packet)?;
+    if limit > GREATEST_PACKET {
+        return Ok(());
+    }
+    let mut packet = PacketWriter::new(alloc, room, 1, 2, 3);
+    let put = sender.put_forward(&mut packet, limit)?;
     match packet.finish() {
         Some(bytes) if put => packets.keep(alloc, bytes, out),
         _ => Ok(write!(out, "nothing")?),

@@ -1,5 +1,5 @@
 -- The words that the program is started with.
-use Rattle.std.proofs.Common.{◌≡◌, ℕ, ◌+◌, ◌-◌, ◌<◌, ◌≤◌, inl, inr, List, [], ◌∷◌, ◌++◌, length, map, take, drop, get_or, take-append-drop, take_all, slice_index, Some, None, codes, arith, refl, sym, ap, ◌∙◌, subst, length-append}
+use Rattle.std.proofs.Common.{◌≡◌, ℕ, ◌+◌, ◌-◌, ◌<◌, ◌≤◌, Bool, true, false, inl, inr, List, [], ◌∷◌, ◌++◌, length, map, take, drop, get_or, take-append-drop, take_all, slice_index, Some, None, codes, arith, refl, sym, ap, ◌∙◌, subst, length-append}
 use Rattle.sctp_model.specs.end.Configured.{ConfigurationFault, configuration_fault, plain_configuration}
 use Rattle.std.specs.Prelude.{Option, MatchOption}
 use Rattle.std.proofs.lemmas.List.{drop_all, drop_more, map-append}
@@ -9,12 +9,13 @@ use Rattle.sctp_endpoint.specs.declared.endpoint.Endpoint.{Endpoint}
 use Rattle.sctp_model.specs.end.EndView.{Configuration, EndView, Caller, Listener, Idle, Listening, fresh_end}
 use Rattle.sctp_model.specs.end.Sealing.{Sealing}
 use Rattle.sctp_terms.specs.declared.mode.Mode.{Mode}
+use Rattle.sctp_terms.specs.declared.mode.Mode.TheVariants.{Data, PartialData, IData, PartialIData}
 use Rattle.sctp_terms.specs.Modes.{asked}
 use Rattle.sctp_text.specs.Numerals.{SaysOneNumber}
 use Rattle.sctp_end.specs.Fields.{Field, ANumber, AMode, Value, IsValue}
-use Rattle.sctp_end.specs.SetUpWords.{setting_fields, plain_of, Configures, IsKey, SetsUpCaller, SetsUpListener, SetsUp}
-use Rattle.sctp_end.specs.inner.SettingUp.{SetsListener}
-use Rattle.sctp_words.specs.Fields.{IsNumber, mode_word, Values, AreValues}
+use Rattle.sctp_end.specs.SetUpWords.{setting_fields, plain_of, word_if, Settles, Configures, IsKey, SetsUpCaller, SetsUpListener, SetsUp}
+use Rattle.sctp_end.specs.inner.SettingUp.{IsSplit, SetsListener}
+use Rattle.sctp_words.specs.Fields.{IsNumber, mode_word, delay_word, standard_closing_word, Values, AreValues}
 use Rattle.sctp_end.proofs.FieldLemmas.{first_of, others_of, first_value, other_values}
 
 -- ---- settings
@@ -72,11 +73,11 @@ they_say words a b c d m p q vs is are =
 
 -- words that say no settings
 pub settings_not : (words : List (List ℕ)) (a b c d m p q : List ℕ) → words ≡ seven a b c d m p q
-    → ((vs : Values Value setting_fields) → Say a b c d m p q vs → configuration_fault (plain_of vs) ≡ None → ⊥) → (x : Configuration) → Configures words x → ⊥
+    → ((vs : Values Value setting_fields) → Say a b c d m p q vs → configuration_fault (plain_of vs) ≡ None → ⊥) → (x : Configuration) → Settles words x → ⊥
 settings_not words a b c d m p q is none x (vs, are, fine, whole) = none vs (they_say words a b c d m p q vs is are) fine
 
--- words that are too few or too many
-pub how_many : (words : List (List ℕ)) (x : Configuration) → Configures words x → length words ≡ 7
+-- they are seven
+how_many : (words : List (List ℕ)) (x : Configuration) → Settles words x → length words ≡ 7
 how_many words x ((limit, (fragment, (buffer, (streams, (mode, (own_port, (peer_port, rest))))))), are, fine, whole) =
     omega (
       arith,
@@ -89,20 +90,6 @@ how_many words x ((limit, (fragment, (buffer, (streams, (mode, (own_port, (peer_
       ap length are.4.4.4.4.4.4.2,
       ap length are.4.4.4.4.4.4.4,
     )
-
--- seven items
-pub seven_of : {X : Type 0} → (f : X → List ℕ) (xs : List X) (a b c d m p q : X) → length xs ≡ 7 → a ≡ get_or xs 0 a → b ≡ get_or xs 1 b → c ≡ get_or xs 2 c
-    → d ≡ get_or xs 3 d → m ≡ get_or xs 4 m → p ≡ get_or xs 5 p → q ≡ get_or xs 6 q → map f xs ≡ seven (f a) (f b) (f c) (f d) (f m) (f p) (f q)
-seven_of f (x0 ∷ x1 ∷ x2 ∷ x3 ∷ x4 ∷ x5 ∷ x6 ∷ []) a b c d m p q size ia ib ic id im ip iq =
-    λ i. seven (f (sym ia i)) (f (sym ib i)) (f (sym ic i)) (f (sym id i)) (f (sym im i)) (f (sym ip i)) (f (sym iq i))
-seven_of f [] a b c d m p q size ia ib ic id im ip iq = absurd (omega (arith, size))
-seven_of f (x0 ∷ []) a b c d m p q size ia ib ic id im ip iq = absurd (omega (arith, size))
-seven_of f (x0 ∷ x1 ∷ []) a b c d m p q size ia ib ic id im ip iq = absurd (omega (arith, size))
-seven_of f (x0 ∷ x1 ∷ x2 ∷ []) a b c d m p q size ia ib ic id im ip iq = absurd (omega (arith, size))
-seven_of f (x0 ∷ x1 ∷ x2 ∷ x3 ∷ []) a b c d m p q size ia ib ic id im ip iq = absurd (omega (arith, size))
-seven_of f (x0 ∷ x1 ∷ x2 ∷ x3 ∷ x4 ∷ []) a b c d m p q size ia ib ic id im ip iq = absurd (omega (arith, size))
-seven_of f (x0 ∷ x1 ∷ x2 ∷ x3 ∷ x4 ∷ x5 ∷ []) a b c d m p q size ia ib ic id im ip iq = absurd (omega (arith, size))
-seven_of f (x0 ∷ x1 ∷ x2 ∷ x3 ∷ x4 ∷ x5 ∷ x6 ∷ x7 ∷ xs) a b c d m p q size ia ib ic id im ip iq = absurd (omega (arith, size))
 
 -- words that say settings with a fault
 pub faulty : ((word : List ℕ) → SaysOneNumber word) → (a b c d m p q : List ℕ) (limit fragment buffer streams own peer : ℕ) (fault : ConfigurationFault)
@@ -125,13 +112,153 @@ faulty one a b c d m p q limit fragment buffer streams own peer fault is_limit i
 pub settings : (words : List (List ℕ)) (a b c d m p q : List ℕ) (limit fragment buffer streams own peer : ℕ) (mode : Mode) (config : Configuration) → words ≡ seven a b c d m p q
     → IsNumber 16 a limit → IsNumber 16 b fragment → IsNumber 32 c buffer → IsNumber 16 d streams → m ≡ mode_word mode → IsNumber 16 p own → IsNumber 16 q peer
     → config ≡ plain_configuration own peer limit fragment buffer streams streams
-    → configuration_fault (plain_configuration own peer limit fragment buffer streams streams) ≡ None → Configures words (asked mode config)
+    → configuration_fault (plain_configuration own peer limit fragment buffer streams streams) ≡ None → Settles words (asked mode config)
 settings words a b c d m p q limit fragment buffer streams own peer mode config is is_limit is_fragment is_buffer is_streams is_mode is_own is_peer whole none = (
   (limit, (fragment, (buffer, (streams, (mode, (own, (peer, tt))))))),
   (a, _, is, is_limit, (b, _, refl, is_fragment, (c, _, refl, is_buffer, (d, _, refl, is_streams, (m, _, refl, is_mode, (p, _, refl, is_own, (q, _, refl, is_peer, refl))))))),
   none,
   ap (asked mode) whole,
 )
+
+-- a mode asks for neither option
+pub asked_plain : (m : Mode) (config : Configuration) → config.delay ≡ false → config.standard_closing ≡ false
+    → ((asked m config).delay ≡ false) × ((asked m config).standard_closing ≡ false)
+asked_plain Data config a b = (a, b)
+asked_plain PartialData config a b = (a, b)
+asked_plain IData config a b = (a, b)
+asked_plain PartialIData config a b = (a, b)
+
+-- ---- the words behind the mode
+
+-- a number begins with a digit
+no_delay : (n : ℕ) → IsNumber 16 delay_word n → ⊥
+no_delay n is = omega (arith, is.0.digits.1.0)
+
+no_standard : (n : ℕ) → IsNumber 16 standard_closing_word n → ⊥
+no_standard n is = omega (arith, is.0.digits.1.0)
+
+other_option : standard_closing_word ≡ delay_word → ⊥
+other_option e = omega (arith, ap length e)
+
+-- what begins with a word, or doesn't, is split as it is
+one_split : (word : List ℕ) (words others rest : List (List ℕ)) (b x : Bool) → words ≡ word_if b word ++ others
+    → ((more : List (List ℕ)) → others ≡ word ∷ more → ⊥) → IsSplit word words x rest → (b ≡ x) × (others ≡ rest)
+one_split word words others rest true true is none split = (refl, ap others_of (sym is ∙ split))
+one_split word words others rest true false is none split = absurd (split.1 others is)
+one_split word words others rest false true is none split = absurd (none rest (sym is ∙ split))
+one_split word words others rest false false is none split = (refl, sym is ∙ split.0)
+
+-- and the other way round
+joined_again : (word : List ℕ) (words rest : List (List ℕ)) (x : Bool) → IsSplit word words x rest → words ≡ word_if x word ++ rest
+joined_again word words rest true split = split
+joined_again word words rest false split = split.0
+
+-- what is configured by five words, two options and two words behind them
+pub record Parts (a b c d m : List ℕ) (x y : Bool) (left : List (List ℕ)) (config : Configuration) : Type 0 where
+  pub own : List ℕ
+  pub peer : List ℕ
+  pub left_is : left ≡ own ∷ peer ∷ []
+  pub plain : Configuration
+  pub settles : Settles (seven a b c d m own peer) plain
+  pub whole : config ≡ record plain { delay = x; standard_closing = y }
+
+five_in_front : (front more : List (List ℕ)) (a b c d m : List ℕ) (rest : List (List ℕ)) → length front ≡ 5 → a ∷ b ∷ c ∷ d ∷ m ∷ rest ≡ front ++ more
+    → (front ≡ a ∷ b ∷ c ∷ d ∷ m ∷ []) × (rest ≡ more)
+five_in_front (x0 ∷ x1 ∷ x2 ∷ x3 ∷ x4 ∷ []) more a b c d m rest size is = (
+  λ i. first_of (sym is i) ∷ first_of (others_of (sym is i)) ∷ first_of (others_of (others_of (sym is i)))
+  ∷ first_of (others_of (others_of (others_of (sym is i)))) ∷ first_of (others_of (others_of (others_of (others_of (sym is i))))) ∷ [],
+  ap (λ (ws : List (List ℕ)). others_of (others_of (others_of (others_of (others_of ws))))) is,
+)
+five_in_front [] more a b c d m rest size is = absurd (omega (arith, size))
+five_in_front (x0 ∷ []) more a b c d m rest size is = absurd (omega (arith, size))
+five_in_front (x0 ∷ x1 ∷ []) more a b c d m rest size is = absurd (omega (arith, size))
+five_in_front (x0 ∷ x1 ∷ x2 ∷ []) more a b c d m rest size is = absurd (omega (arith, size))
+five_in_front (x0 ∷ x1 ∷ x2 ∷ x3 ∷ []) more a b c d m rest size is = absurd (omega (arith, size))
+five_in_front (x0 ∷ x1 ∷ x2 ∷ x3 ∷ x4 ∷ x5 ∷ xs) more a b c d m rest size is = absurd (omega (arith, size))
+
+-- two words behind five of seven
+two_behind : (a b c d m : List ℕ) (back : List (List ℕ)) (x : Configuration) → Settles (a ∷ b ∷ c ∷ d ∷ m ∷ back) x
+    → (p : List ℕ) × (q : List ℕ) × (back ≡ p ∷ q ∷ []) × (n : ℕ) × IsNumber 16 p n
+two_behind a b c d m (p ∷ q ∷ []) x says = (p, q, refl, says.0.1.1.1.1.1.0, (they_say (seven a b c d m p q) a b c d m p q says.0 refl says.1).own_port)
+two_behind a b c d m [] x says = absurd (omega (arith, how_many (a ∷ b ∷ c ∷ d ∷ m ∷ []) x says))
+two_behind a b c d m (p ∷ []) x says = absurd (omega (arith, how_many (a ∷ b ∷ c ∷ d ∷ m ∷ p ∷ []) x says))
+two_behind a b c d m (p ∷ q ∷ r ∷ ws) x says = absurd (omega (arith, how_many (a ∷ b ∷ c ∷ d ∷ m ∷ p ∷ q ∷ r ∷ ws) x says))
+
+-- neither option stands where the ports do
+no_option : (word : List ℕ) (back : List (List ℕ)) (p q : List ℕ) (n : ℕ) → back ≡ p ∷ q ∷ [] → IsNumber 16 p n → ((k : ℕ) → IsNumber 16 word k → ⊥)
+    → (more : List (List ℕ)) → back ≡ word ∷ more → ⊥
+no_option word back p q n is number none more other =
+    none n (subst (λ (w : List ℕ). IsNumber 16 w n) (ap first_of (sym is ∙ other)) number)
+
+no_delay_here : (back : List (List ℕ)) (p q : List ℕ) (n : ℕ) (standard : Bool) → back ≡ p ∷ q ∷ [] → IsNumber 16 p n
+    → (more : List (List ℕ)) → word_if standard standard_closing_word ++ back ≡ delay_word ∷ more → ⊥
+no_delay_here back p q n true is number more other = other_option (ap first_of other)
+no_delay_here back p q n false is number more other = no_option delay_word back p q n is number no_delay more other
+
+-- what is configured by words that were split so
+pub parts_of : (words : List (List ℕ)) (a b c d m : List ℕ) (rest behind left : List (List ℕ)) (x y : Bool) (config : Configuration)
+    → words ≡ a ∷ b ∷ c ∷ d ∷ m ∷ rest → IsSplit delay_word rest x behind → IsSplit standard_closing_word behind y left
+    → Configures words config → Parts a b c d m x y left config
+parts_of words a b c d m rest behind left x y config is first second (front, back, delay, standard, plain, whole, size, says, made) =
+    let (fronts, rests) = five_in_front front _ a b c d m rest size (sym is ∙ whole) in
+    let settles : Settles (a ∷ b ∷ c ∷ d ∷ m ∷ back) plain = subst (λ (ws : List (List ℕ)). Settles (ws ++ back) plain) fronts says in
+    let (p, q, two, n, number) = two_behind a b c d m back plain settles in
+    let one = one_split delay_word rest _ behind delay x rests (no_delay_here back p q n standard two number) first in
+    let other = one_split standard_closing_word behind back left standard y (sym one.1) (no_option standard_closing_word back p q n two number no_standard) second in
+    record {
+      own = p;
+      peer = q;
+      left_is = sym other.1 ∙ two;
+      plain = plain;
+      settles = subst (λ (ws : List (List ℕ)). Settles (a ∷ b ∷ c ∷ d ∷ m ∷ ws) plain) two settles;
+      whole = made ∙ (λ i. record plain { delay = one.0 i; standard_closing = other.0 i });
+    }
+
+-- fewer than five words
+pub too_few_settings : (words : List (List ℕ)) → length words < 5 → (x : Configuration) → Configures words x → ⊥
+too_few_settings words few x (front, back, delay, standard, plain, whole, size, says, made) =
+    omega (arith, few, size, ap length whole, length-append front (word_if delay delay_word ++ (word_if standard standard_closing_word ++ back)))
+
+-- five words, two options and two ports configure what they say
+pub configured : (words : List (List ℕ)) (a b c d m p q : List ℕ) (rest behind left : List (List ℕ)) (x y : Bool) (plain config : Configuration)
+    → words ≡ a ∷ b ∷ c ∷ d ∷ m ∷ rest → IsSplit delay_word rest x behind → IsSplit standard_closing_word behind y left → left ≡ p ∷ q ∷ []
+    → Settles (seven a b c d m p q) plain → config ≡ record plain { delay = x; standard_closing = y } → Configures words config
+configured words a b c d m p q rest behind left x y plain config is first second two says made =
+    let behind_is = joined_again standard_closing_word behind left y second ∙ ap (λ (ws : List (List ℕ)). word_if y standard_closing_word ++ ws) two in
+    let rest_is = joined_again delay_word rest behind x first ∙ ap (λ (ws : List (List ℕ)). word_if x delay_word ++ ws) behind_is in
+    (a ∷ b ∷ c ∷ d ∷ m ∷ [], p ∷ q ∷ [], x, y, plain, is ∙ ap (λ (ws : List (List ℕ)). a ∷ b ∷ c ∷ d ∷ m ∷ ws) rest_is, refl, says, made)
+
+-- nor do they configure anything where the seven words say nothing
+pub none_configured : (words : List (List ℕ)) (a b c d m p q : List ℕ) (rest behind left : List (List ℕ)) (x y : Bool) → words ≡ a ∷ b ∷ c ∷ d ∷ m ∷ rest
+    → IsSplit delay_word rest x behind → IsSplit standard_closing_word behind y left → left ≡ p ∷ q ∷ []
+    → ((config : Configuration) → Settles (seven a b c d m p q) config → ⊥) → (config : Configuration) → Configures words config → ⊥
+none_configured words a b c d m p q rest behind left x y is first second two none config conf =
+    let parts = parts_of words a b c d m rest behind left x y config is first second conf in
+    let ports : parts.own ∷ parts.peer ∷ [] ≡ p ∷ q ∷ [] = sym parts.left_is ∙ two in
+    none parts.plain (subst (λ (ws : List (List ℕ)). Settles (a ∷ b ∷ c ∷ d ∷ m ∷ ws) parts.plain) ports parts.settles)
+
+-- seven words, each the same
+pub same_words : (a b c d m p q e f g h n r s : List ℕ) → e ≡ a → f ≡ b → g ≡ c → h ≡ d → n ≡ m → r ≡ p → s ≡ q → seven a b c d m p q ≡ seven e f g h n r s
+same_words a b c d m p q e f g h n r s ia ib ic id im ip iq =
+    λ i. seven (sym ia i) (sym ib i) (sym ic i) (sym id i) (sym im i) (sym ip i) (sym iq i)
+
+-- five items and those behind them, and two items
+pub five_of : {X : Type 0} → (f : X → List ℕ) (xs : List X) (a b c d m : X) → 5 ≤ length xs → a ≡ get_or xs 0 a → b ≡ get_or xs 1 b → c ≡ get_or xs 2 c
+    → d ≡ get_or xs 3 d → m ≡ get_or xs 4 m → map f xs ≡ f a ∷ f b ∷ f c ∷ f d ∷ f m ∷ map f (take (length xs - 5) (drop 5 xs))
+five_of f (x0 ∷ x1 ∷ x2 ∷ x3 ∷ x4 ∷ xs) a b c d m size ia ib ic id im =
+    let rest : take (length (x0 ∷ x1 ∷ x2 ∷ x3 ∷ x4 ∷ xs) - 5) xs ≡ xs = take_all (length (x0 ∷ x1 ∷ x2 ∷ x3 ∷ x4 ∷ xs) - 5) xs (omega arith) in
+    λ i. f (sym ia i) ∷ f (sym ib i) ∷ f (sym ic i) ∷ f (sym id i) ∷ f (sym im i) ∷ map f (sym rest i)
+five_of f [] a b c d m size ia ib ic id im = absurd (omega (arith, size))
+five_of f (x0 ∷ []) a b c d m size ia ib ic id im = absurd (omega (arith, size))
+five_of f (x0 ∷ x1 ∷ []) a b c d m size ia ib ic id im = absurd (omega (arith, size))
+five_of f (x0 ∷ x1 ∷ x2 ∷ []) a b c d m size ia ib ic id im = absurd (omega (arith, size))
+five_of f (x0 ∷ x1 ∷ x2 ∷ x3 ∷ []) a b c d m size ia ib ic id im = absurd (omega (arith, size))
+
+pub pair_of : {X : Type 0} → (f : X → List ℕ) (xs : List X) (p q : X) → length xs ≡ 2 → p ≡ get_or xs 0 p → q ≡ get_or xs 1 q → map f xs ≡ f p ∷ f q ∷ []
+pair_of f (x0 ∷ x1 ∷ []) p q size ip iq = λ i. f (sym ip i) ∷ f (sym iq i) ∷ []
+pair_of f [] p q size ip iq = absurd (omega (arith, size))
+pair_of f (x0 ∷ []) p q size ip iq = absurd (omega (arith, size))
+pair_of f (x0 ∷ x1 ∷ x2 ∷ xs) p q size ip iq = absurd (omega (arith, size))
 
 -- ---- the program's own name, what the end is, and what stands behind
 

@@ -1,5 +1,5 @@
 -- What the words say that the program is started with.
-use Rattle.std.specs.Prelude.{◌≡◌, ℕ, ◌⊎◌, List, [], ◌∷◌, ◌++◌, length, None, codes}
+use Rattle.std.specs.Prelude.{◌≡◌, ℕ, Bool, if◌then◌else◌, ◌⊎◌, List, [], ◌∷◌, ◌++◌, length, None, codes}
 use Rattle.sctp_model.specs.end.Configured.{configuration_fault, plain_configuration}
 use Rattle.sctp_model.specs.end.EndView.{Configuration, EndView, Caller, Listener, Idle, Listening, fresh_end}
 use Rattle.sctp_model.specs.end.Sealing.{Sealing}
@@ -9,7 +9,7 @@ use Rattle.sctp_cookie.specs.Seals.{IsUnder}
 use Rattle.sctp_end.specs.Fields.{Field, ANumber, AMode, Value, IsValue}
 use Rattle.sctp_end.specs.Performing.{Standing}
 use Rattle.sctp_text.specs.Numerals.{IsHex}
-use Rattle.sctp_words.specs.Fields.{Values, AreValues}
+use Rattle.sctp_words.specs.Fields.{delay_word, standard_closing_word, Values, AreValues}
 
 -- LIMIT FRAGMENT BUFFER STREAMS MODE PORT PEER
 abbrev pub setting_fields : List Field
@@ -24,23 +24,34 @@ plain_of (limit, (fragment, (buffer, (streams, (mode, (own_port, (peer_port, res
 abbrev pub mode_of : Values Value setting_fields → Mode
 mode_of (limit, (fragment, (buffer, (streams, (mode, rest))))) = mode
 
--- the words say this configuration, and it has no fault
-abbrev pub Configures : List (List ℕ) → Configuration → Type 0
-Configures words c =
+-- these seven words say this configuration, and it has no fault
+abbrev pub Settles : List (List ℕ) → Configuration → Type 0
+Settles words c =
     (vs : Values Value setting_fields) × AreValues Value IsValue setting_fields words vs
     × (configuration_fault (plain_of vs) ≡ None) × (c ≡ asked (mode_of vs) (plain_of vs))
+
+-- a word that stands there, or doesn't
+abbrev pub word_if : Bool → List ℕ → List (List ℕ)
+word_if b word = if b then word ∷ [] else []
+
+-- The words say this configuration: behind MODE, the fifth, may stand `delay` and `standard-closing`, in this order.
+abbrev pub Configures : List (List ℕ) → Configuration → Type 0
+Configures words c =
+    (front back : List (List ℕ)) × (delay standard : Bool) × (plain : Configuration)
+    × (words ≡ front ++ (word_if delay delay_word ++ (word_if standard standard_closing_word ++ back))) × (length front ≡ 5)
+    × Settles (front ++ back) plain × (c ≡ record plain { delay = delay; standard_closing = standard })
 
 -- the word says a key: 32 bytes in hexadecimal
 abbrev pub IsKey : List ℕ → List ℕ → Type 0
 IsKey word key = IsHex word key × (length key ≡ 32)
 
--- NAME caller LIMIT FRAGMENT BUFFER STREAMS MODE PORT PEER
+-- NAME caller LIMIT FRAGMENT BUFFER STREAMS MODE [delay] [standard-closing] PORT PEER
 abbrev pub SetsUpCaller : List (List ℕ) → EndView → Type 0
 SetsUpCaller words v =
     (name : List ℕ) × (settings : List (List ℕ)) × (c : Configuration) × (words ≡ name ∷ codes "caller" ∷ settings) × Configures settings c
     × (v ≡ fresh_end c Caller Idle)
 
--- NAME listener LIMIT FRAGMENT BUFFER STREAMS MODE PORT PEER KEY: it has a seal under this key
+-- NAME listener LIMIT FRAGMENT BUFFER STREAMS MODE [delay] [standard-closing] PORT PEER KEY: it has a seal under this key
 abbrev pub SetsUpListener : List (List ℕ) → EndView → Type 0
 SetsUpListener words v =
     (name last key : List ℕ) × (settings : List (List ℕ)) × (c : Configuration) × (seal : Sealing)

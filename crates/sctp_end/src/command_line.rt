@@ -15,8 +15,8 @@ use std::alloc::Global;
 
 /// The forms, as they are said where words are none of them.
 pub const USAGE: &str = "usage:
-  sctp-end caller LIMIT FRAGMENT BUFFER STREAMS MODE PORT PEER        an end that calls; lines on standard input, answers on standard output
-  sctp-end listener LIMIT FRAGMENT BUFFER STREAMS MODE PORT PEER KEY  an end that listens
+  sctp-end caller LIMIT FRAGMENT BUFFER STREAMS MODE [delay] [standard-closing] PORT PEER        an end that calls; lines on standard input, answers on standard output
+  sctp-end listener LIMIT FRAGMENT BUFFER STREAMS MODE [delay] [standard-closing] PORT PEER KEY  an end that listens
 ";
 /// The exit status where the input was answered to its end.
 pub const DONE: u8 = 0;

@@ -1,21 +1,22 @@
 //! How an end is set up by the words that the program is started with.
 
-ghost use Rattle.std.specs.Prelude.{◌≡◌, ℕ, List, [], map, string_bytes, length, MatchOption};
+ghost use Rattle.std.specs.Prelude.{◌≡◌, ℕ, false, List, [], ◌∷◌, map, string_bytes, IfSome, MatchOption};
 ghost use Rattle.sctp_model.specs.end.EndView.{Configuration, EndView, Caller, Listener, Idle, Listening, fresh_end};
 ghost use Rattle.sctp_model.specs.end.Sealing.{Sealing};
 ghost use Rattle.sctp_cookie.specs.Seals.{IsUnder};
 ghost use Rattle.sctp_endpoint.specs.EndpointStands.{EndpointStands};
-ghost use Rattle.sctp_end.specs.SetUpWords.{Configures, IsKey, SetsUp};
-ghost use Rattle.sctp_end.specs.inner.SettingUp.{role_word, SetsListener};
+ghost use Rattle.sctp_end.specs.SetUpWords.{Settles, Configures, IsKey, SetsUp};
+ghost use Rattle.sctp_words.specs.Fields.{delay_word, standard_closing_word};
+ghost use Rattle.sctp_end.specs.inner.SettingUp.{role_word, IsSplit, SetsListener};
 
 use sctp_cookie::keys_have_seals;
 use sctp_endpoint::{Config, Endpoint, Key};
 use sctp_text::words_say_one_value;
-use sctp_words::{read_mode, read_u16, read_u32};
+use sctp_words::{is_delay, is_standard_closing, read_mode, read_u16, read_u32};
 use std::alloc::Global;
 
-/// How many words say a configuration: `LIMIT FRAGMENT BUFFER STREAMS MODE PORT PEER`.
-const SETTINGS: usize = 7;
+/// How many words stand behind the options: `PORT PEER`.
+const PORTS: usize = 2;
 /// The bytes of a key.
 const KEY_LENGTH: usize = 32;
 /// The digits that say them, two each.
@@ -95,31 +96,88 @@ fn read_config(words: &[String]) -> Option<Config>
         ((c : Configuration) → Configures (map string_bytes words.now) c → ⊥)
         (λ config. Configures (map string_bytes words.now) config) }
 {
-    // It does nothing: its contract says that a word says one number.
-    words_say_one_value();
-    if words.len() > SETTINGS {
-        return None;
-    }
-    let [
-        limit,
-        fragment,
-        buffer,
-        streams,
-        mode,
-        own_port,
-        peer_port,
-        ..
-    ] = words
-    else {
+    let [limit, fragment, buffer, streams, mode, rest @ ..] = words else {
         return None;
     };
-    let limit = read_u16(limit.as_bytes())?;
-    let fragment = read_u16(fragment.as_bytes())?;
-    let buffer = read_u32(buffer.as_bytes())?;
-    let streams = read_u16(streams.as_bytes())?;
-    let mode = read_mode(mode.as_bytes())?;
-    let own_port = read_u16(own_port.as_bytes())?;
-    let peer_port = read_u16(peer_port.as_bytes())?;
+    let (delay, rest) = split_delay(rest);
+    let (standard_closing, rest) = split_standard_closing(rest);
+    if rest.len() > PORTS {
+        return None;
+    }
+    let [own_port, peer_port, ..] = rest else {
+        return None;
+    };
+    match config_of(
+        limit.as_bytes(),
+        fragment.as_bytes(),
+        buffer.as_bytes(),
+        streams.as_bytes(),
+        mode.as_bytes(),
+        own_port.as_bytes(),
+        peer_port.as_bytes(),
+    ) {
+        Some(config) => Some(with_options(config, delay, standard_closing)),
+        None => None,
+    }
+}
+
+/// Whether the first of these words is `delay`, and those behind it; else all of them.
+fn split_delay(words: &[String]) -> (bool, &[String])
+    ensures { IsSplit delay_word (map string_bytes words.now) result.0 (map string_bytes result.1.now) }
+{
+    match words {
+        [first, rest @ ..] if is_delay(first.as_bytes()) => (true, rest),
+        _ => (false, words),
+    }
+}
+
+/// Whether the first of these words is `standard-closing`, and those behind it; else all of them.
+fn split_standard_closing(words: &[String]) -> (bool, &[String])
+    ensures { IsSplit standard_closing_word (map string_bytes words.now) result.0 (map string_bytes result.1.now) }
+{
+    match words {
+        [first, rest @ ..] if is_standard_closing(first.as_bytes()) => (true, rest),
+        _ => (false, words),
+    }
+}
+
+/// The configuration, whose SACKs may wait and whose association closes by the RFC's timers where these say so.
+fn with_options(config: Config, delay: bool, standard_closing: bool) -> Config
+    requires plain { (config.delay ≡ false) × (config.standard_closing ≡ false) }
+    ensures { result ≡ record config { delay = delay; standard_closing = standard_closing } }
+{
+    let config = if delay { config.with_delay() } else { config };
+    if standard_closing {
+        config.with_standard_closing()
+    } else {
+        config
+    }
+}
+
+/// The configuration that these seven words say.
+fn config_of(
+    limit: &[u8],
+    fragment: &[u8],
+    buffer: &[u8],
+    streams: &[u8],
+    mode: &[u8],
+    own_port: &[u8],
+    peer_port: &[u8],
+) -> Option<Config>
+    ensures exact { let words = limit.now ∷ fragment.now ∷ buffer.now ∷ streams.now ∷ mode.now ∷ own_port.now ∷ peer_port.now ∷ [] in MatchOption result
+        ((c : Configuration) → Settles words c → ⊥) (λ config. Settles words config) }
+    // Neither option is set as yet.
+    ensures plain { IfSome result (λ config. (config.delay ≡ false) × (config.standard_closing ≡ false)) }
+{
+    // It does nothing: its contract says that a word says one number.
+    words_say_one_value();
+    let limit = read_u16(limit)?;
+    let fragment = read_u16(fragment)?;
+    let buffer = read_u32(buffer)?;
+    let streams = read_u16(streams)?;
+    let mode = read_mode(mode)?;
+    let own_port = read_u16(own_port)?;
+    let peer_port = read_u16(peer_port)?;
     match Config::new(
         own_port, peer_port, limit, fragment, buffer, streams, streams,
     ) {

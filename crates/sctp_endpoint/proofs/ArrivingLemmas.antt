@@ -11,13 +11,13 @@ use Rattle.sctp_model.specs.end.Opening.{begun}
 use Rattle.sctp_model.specs.end.PeerFaults.{Unnoted}
 use Rattle.sctp_model.specs.end.Strays as model
 use Rattle.sctp_model.specs.end.Strays.{holds_abort, is_abort, listens, body_in, body_among}
-use Rattle.sctp_model.specs.end.Arriving.{AllAct, NoneLeft, CookieBegins, Heard, Notes, noted, no_notes, verdict_of, is_answer, packet_ended, ReadAs, IsCutShort, CutFirst, CutLater, WantsNoMemory}
+use Rattle.sctp_model.specs.end.Arriving.{AllAct, NoneLeft, CookieBegins, Heard, Notes, noted, no_notes, verdict_of, is_answer, LeavesGap, urged, packet_ended, ReadAs, IsCutShort, CutFirst, CutLater, WantsNoMemory}
 use Rattle.sctp_values.specs.declared.no_memory.NoMemory.{NoMemory}
 use Rattle.sctp_association.specs.MachineStands.{MachineStands}
 use Rattle.sctp_association.specs.declared.machine.Machine.{Machine}
 use Rattle.sctp_endpoint.specs.Straying.{StrayWants}
 use Rattle.sctp_endpoint.specs.inner.Acted.{notes_meaning, ActsAll}
-use Rattle.sctp_endpoint.specs.inner.Arrived.{IsFor, HearsAll, Arrived}
+use Rattle.sctp_endpoint.specs.inner.Arrived.{IsFor, Ends, HearsAll, Arrived}
 use Rattle.sctp_endpoint.specs.declared.after.Notes as declared
 use Rattle.sctp_endpoint.specs.declared.after.Verdict.{Verdict}
 use Rattle.sctp_endpoint.proofs.TagLemmas.{all_tagged, others_tagged, late_heard, late_outside, wants}
@@ -28,33 +28,32 @@ goes_unanswered true = refl
 goes_unanswered false = refl
 
 -- the end of a packet behind the chunks that acted
-pub hears : (r : Result Verdict NoMemory) (tag : ℕ) (v : EndView) (n l : declared.Notes) (b : Bool) (ms : List ChunkMeaning) (e f : Machine)
-    → ActsAll tag v n b ms r e l
-    → ((t : EndView) (c : Bool) → MachineStands e t → MachineStands f (packet_ended (notes_meaning l c) t)) → HearsAll tag v (notes_meaning n b) ms r f
-hears (Ok told) tag v n l b ms e f a ended = (a.0, notes_meaning l a.1, a.2, a.3, a.4, ended a.0 a.1 a.5)
-hears (Err why) tag v n l b ms e f a ended = (a.0, a.1, a.2, a.3, notes_meaning l a.4, a.5, a.6, a.7, ended a.3 a.4 a.8)
+pub hears : (r : Result Verdict NoMemory) (tag : ℕ) (v : EndView) (n l : declared.Notes) (ms : List ChunkMeaning) (e f : Machine) → ActsAll tag v n ms r e l
+    → ((t : EndView) → MachineStands e t → Ends t (notes_meaning l) f) → HearsAll tag v (notes_meaning n) ms r f
+hears (Ok told) tag v n l ms e f a ended = (a.0, notes_meaning l, a.1, a.2, a.3, ended a.0 a.4)
+hears (Err why) tag v n l ms e f a ended = (a.0, a.1, a.2, a.3, notes_meaning l, a.4, a.5, a.6, ended a.3 a.7)
 
 -- without chunks nothing acted
-none_acted : (tag : ℕ) (v t : EndView) (k n : Notes) (x : model.Verdict) → AllAct tag v k [] t n x → packet_ended n t ≡ packet_ended k v
-none_acted tag v t k n x (NoneLeft _ _) = refl
+none_acted : (tag : ℕ) (v t : EndView) (k n : Notes) (gap : Bool) (x : model.Verdict) → AllAct tag v k [] t n x → packet_ended (urged gap n) t ≡ packet_ended (urged gap k) v
+none_acted tag v t k n gap x (NoneLeft _ _) = refl
 
 -- ---- at an end with an association
 
 module _ (e : EndView) (now : ℕ) (d : Draw) (p : Packet) (for : IsFor (at_moment e now) p) (has : has_association (at_moment e now).phase ≡ true) where
   cut_heard : (m : Machine) (front back : List ChunkMeaning) (c : ChunkMeaning) (t : EndView) (n : Notes) → p.chunks ≡ front ++ c ∷ back
-      → AllAct p.tag (at_moment e now) no_notes front t n (verdict_of n.listed) → MachineStands m (packet_ended n t)
+      → AllAct p.tag (at_moment e now) no_notes front t n (verdict_of n.listed) → Ends t n m
       → (u : EndView) × IsCutShort e now d (Some p) u × MachineStands m u
-  cut_heard m [] back c t n split acts stands =
-      ((at_moment e now), CutFirst (Some p), subst (MachineStands m) (none_acted p.tag (at_moment e now) t no_notes n (verdict_of n.listed) acts) stands)
-  cut_heard m (y ∷ front) back c t n split acts stands = (
-    packet_ended n t,
-    CutLater p y front back c (packet_ended n t) (verdict_of n.listed) split
-        (Heard t n (verdict_of n.listed) for.ports (rw split at for.tag) has acts) (goes_unanswered n.listed),
+  cut_heard m [] back c t n split acts (gap, leaves, stands) =
+      ((at_moment e now), CutFirst (Some p), subst (MachineStands m) (none_acted p.tag (at_moment e now) t no_notes n gap (verdict_of n.listed) acts) stands)
+  cut_heard m (y ∷ front) back c t n split acts (gap, leaves, stands) = (
+    packet_ended (urged gap n) t,
+    CutLater p y front back c (packet_ended (urged gap n) t) (verdict_of n.listed) split
+        (Heard t n (verdict_of n.listed) for.ports (rw split at for.tag) has acts gap leaves) (goes_unanswered n.listed),
     stands,
   )
 
   all_heard : (r : Result Verdict NoMemory) (m : Machine) → HearsAll p.tag (at_moment e now) no_notes p.chunks r m → Arrived e now d p r m
-  all_heard (Ok told) m h = (packet_ended h.1 h.0, h.2, ReadAs p _ _ (Heard h.0 h.1 h.2 for.ports for.tag has h.3), h.4, h.5)
+  all_heard (Ok told) m h = (packet_ended (urged h.5.0 h.1) h.0, h.2, ReadAs p _ _ (Heard h.0 h.1 h.2 for.ports for.tag has h.3 h.5.0 h.5.1), h.4, h.5.2)
   all_heard (Err why) m h =
       let cut = cut_heard m h.0 h.1 h.2 h.3 h.4 h.5 h.7 h.8 in (
         cut.0,
@@ -101,23 +100,24 @@ module _ (e : EndView) (now : ℕ) (d : Draw) (p : Packet) (for : IsFor (at_mome
   stray_cut m (inl answered) stands = ((at_moment e now), CutFirst (Some p), stands, outside_late (λ none. answered))
   stray_cut m (inr opened) stands = ((at_moment e now), CutFirst (Some p), stands, outside_late (opens opened.0 opened.1))
 
-  cut_begun : (m : Machine) (b : Body) (all front back : List ChunkMeaning) (c : ChunkMeaning) (t : EndView) (n : Notes) → p.chunks ≡ all
+  cut_begun : (m : Machine) (b : Body) (all front back : List ChunkMeaning) (c : ChunkMeaning) (t : EndView) (n : Notes) (gap : Bool) → p.chunks ≡ all
       → model.opened_by (at_moment e now) p ≡ Some b → drop 1 all ≡ front ++ c ∷ back
-      → AllAct p.tag (begun b (at_moment e now)) (noted Unnoted no_notes) front t n (verdict_of n.listed) → IsCutShort e now d (Some p) (packet_ended n t)
-  cut_begun m b [] [] back c t n chunks opened split acts = absurd (cc)
-  cut_begun m b [] (f ∷ front) back c t n chunks opened split acts = absurd (cc)
-  cut_begun m b (y ∷ ys) front back c t n chunks opened split acts =
+      → AllAct p.tag (begun b (at_moment e now)) (noted Unnoted no_notes) front t n (verdict_of n.listed) → LeavesGap t gap
+      → IsCutShort e now d (Some p) (packet_ended (urged gap n) t)
+  cut_begun m b [] [] back c t n gap chunks opened split acts leaves = absurd (cc)
+  cut_begun m b [] (f ∷ front) back c t n gap chunks opened split acts leaves = absurd (cc)
+  cut_begun m b (y ∷ ys) front back c t n gap chunks opened split acts leaves =
       let whole : p.chunks ≡ y ∷ (front ++ c ∷ back) = rw split at chunks in
-      CutLater p y front back c (packet_ended n t) (verdict_of n.listed) whole
-      (CookieBegins b t n (verdict_of n.listed) for.ports (rw whole at for.tag) has (same_body (at_moment e now) p.tag y front (c ∷ back) b (rw whole at opened)) acts)
+      CutLater p y front back c (packet_ended (urged gap n) t) (verdict_of n.listed) whole
+      (CookieBegins b t n (verdict_of n.listed) for.ports (rw whole at for.tag) has (same_body (at_moment e now) p.tag y front (c ∷ back) b (rw whole at opened)) acts gap leaves)
       (goes_unanswered n.listed)
 
   all_begun : (r : Result Verdict NoMemory) (m : Machine) (b : Body) → body_among (at_moment e now) p.tag p.chunks ≡ Some b
       → HearsAll p.tag (begun b (at_moment e now)) (noted Unnoted no_notes) (drop 1 p.chunks) r m → Arrived e now d p r m
   all_begun (Ok told) m b opened h =
-      (packet_ended h.1 h.0, h.2, ReadAs p _ _ (CookieBegins b h.0 h.1 h.2 for.ports for.tag has opened h.3), h.4, h.5)
+      (packet_ended (urged h.5.0 h.1) h.0, h.2, ReadAs p _ _ (CookieBegins b h.0 h.1 h.2 for.ports for.tag has opened h.3 h.5.0 h.5.1), h.4, h.5.2)
   all_begun (Err why) m b opened h =
-      (packet_ended h.4 h.3, cut_begun m b p.chunks h.0 h.1 h.2 h.3 h.4 refl opened h.5 h.7, h.8, outside_late (opens b opened))
+      (packet_ended (urged h.8.0 h.4) h.3, cut_begun m b p.chunks h.0 h.1 h.2 h.3 h.4 h.8.0 refl opened h.5 h.7 h.8.1, h.8.2, outside_late (opens b opened))
 
   pub arrived_begun : (r : Result Verdict NoMemory) (m : Machine) (b : Body) (k : Notes) (ms : List ChunkMeaning) → body_among (at_moment e now) p.tag p.chunks ≡ Some b
       → k ≡ noted Unnoted no_notes → ms ≡ drop 1 p.chunks → HearsAll p.tag (begun b (at_moment e now)) k ms r m → Arrived e now d p r m

@@ -43,8 +43,8 @@ behind_all tag v t k l b ms done rest listed split none before =
     (rw split (before rest t l (verdict_of l.listed) (subst (λ (xs : List ChunkMeaning). AllAct tag t l xs t l (verdict_of l.listed)) (sym none) (NoneLeft t l))))
 
 -- those that acted, and one that ended the packet
-pub behind_end : (tag : ℕ) (v t u : EndView) (k : Notes) (n l : declared.Notes) (b : Bool) (ms done rest : List ChunkMeaning) (m : ChunkMeaning) (x : Verdict)
-    → l ≡ n → ms ≡ done ++ m ∷ rest → ActsBehind tag v k done t (notes_meaning n b) → EndsWith tag t (notes_meaning n b) m u x
-    → AllAct tag v k ms u (notes_meaning l b) x
-behind_end tag v t u k n l b ms done rest m x same split before ends =
-    subst (λ (i : declared.Notes). AllAct tag v k ms u (notes_meaning i b) x) (sym same) (rw split (before (m ∷ rest) u (notes_meaning n b) x (ends rest)))
+pub behind_end : (tag : ℕ) (v t u : EndView) (k : Notes) (n l : declared.Notes) (ms done rest : List ChunkMeaning) (m : ChunkMeaning) (x : Verdict)
+    → l ≡ n → ms ≡ done ++ m ∷ rest → ActsBehind tag v k done t (notes_meaning n) → EndsWith tag t (notes_meaning n) m u x
+    → AllAct tag v k ms u (notes_meaning l) x
+behind_end tag v t u k n l ms done rest m x same split before ends =
+    subst (λ (i : declared.Notes). AllAct tag v k ms u (notes_meaning i) x) (sym same) (rw split (before (m ∷ rest) u (notes_meaning n) x (ends rest)))

@@ -195,8 +195,8 @@ pub late_heard : (e : EndView) (d : Draw) (p : Packet) (t : EndView) (x : Verdic
 late_heard e d p t x ports tag has tagged (Elsewhere off) = absurd (clash ports off)
 late_heard e d p t x ports tag has tagged (NotOurs _ off) = absurd (clash tag off)
 late_heard e d p t x ports tag has tagged (Stray _ _ off _) = absurd (clash has off)
-late_heard e d p t x ports tag has tagged (CookieBegins _ _ _ _ _ _ off _ _) = absurd (clash has off)
-late_heard e d p t x ports tag has tagged (Heard u n _ _ _ _ acts) = late_all p.tag e no_notes p.chunks u n x tagged acts
+late_heard e d p t x ports tag has tagged (CookieBegins _ _ _ _ _ _ off _ _ _ _) = absurd (clash has off)
+late_heard e d p t x ports tag has tagged (Heard u n _ _ _ _ acts _ _) = late_all p.tag e no_notes p.chunks u n x tagged acts
 
 -- at an end without one, where a stray is answered or opens it
 pub late_outside : (e : EndView) (d : Draw) (p : Packet) (t : EndView) (x : Verdict) → has_ports e.configuration p ≡ true → passes e.phase p ≡ true
@@ -205,9 +205,9 @@ pub late_outside : (e : EndView) (d : Draw) (p : Packet) (t : EndView) (x : Verd
 late_outside e d p t x ports tag has answered tagged (Elsewhere off) = absurd (clash ports off)
 late_outside e d p t x ports tag has answered tagged (NotOurs _ off) = absurd (clash tag off)
 late_outside e d p t x ports tag has answered tagged (Stray _ _ _ none) = late_answer (stray_verdict e d p) (answered none)
-late_outside e d p t x ports tag has answered tagged (CookieBegins b u n _ _ _ _ _ acts) =
+late_outside e d p t x ports tag has answered tagged (CookieBegins b u n _ _ _ _ _ acts _ _) =
     late_all p.tag (begun b e) (noted Unnoted no_notes) (drop 1 p.chunks) u n x tagged acts
-late_outside e d p t x ports tag has answered tagged (Heard _ _ _ _ _ on _) = absurd (clash on has)
+late_outside e d p t x ports tag has answered tagged (Heard _ _ _ _ _ on _ _ _) = absurd (clash on has)
 
 -- neither is what is dropped before its chunks are looked at
 pub late_never_early : (reason : ℕ) → IsLate (Dropped reason) → (reason ≡ FAULT) ⊎ (reason ≡ PORTS) ⊎ (reason ≡ TAG) → ⊥

@@ -1,5 +1,4 @@
 -- What a chunk left, in terms of a view and of the rows for it (RFC 9260, 4).
-use Rattle.std.specs.Prelude.{Bool}
 use Rattle.sctp_model.specs.wire.Packet.{Packet}
 use Rattle.sctp_model.specs.end.EndView.{EndView}
 use Rattle.sctp_model.specs.end.PeerFaults as model
@@ -10,11 +9,10 @@ use Rattle.sctp_association.specs.declared.machine.Machine.{Machine}
 use Rattle.sctp_endpoint.specs.declared.after.After.{After}
 use Rattle.sctp_endpoint.specs.declared.after.After.TheVariants.{GoesOn, Acknowledges, Ends, PassedOver, Replies, Drops}
 
--- The answer is what one of the rows leaves, and the machine stands for the view that it leaves. Whether it is to be acknowledged at once
--- matters to nobody here: a SACK goes out after every packet that asks for one (6.2).
+-- The answer is what one of the rows leaves, and the machine stands for the view that it leaves.
 abbrev pub Left : After → EndView → (model.After → Type 0) → Machine → Type 0
 Left GoesOn v acts m = (w : EndView) × acts (model.GoesOn model.Unnoted w) × MachineStands m w
-Left Acknowledges v acts m = (w : EndView) × (at_once : Bool) × acts (model.GoesOn (model.ToAcknowledge at_once) w) × MachineStands m w
+Left (Acknowledges is_data at_once) v acts m = (w : EndView) × acts (model.GoesOn (model.ToAcknowledge is_data at_once) w) × MachineStands m w
 Left Ends v acts m = (w : EndView) × acts (model.Ends w) × MachineStands m w
 Left PassedOver v acts m = acts model.PassedOver × MachineStands m v
 Left (Replies bytes) v acts m = (w : EndView) × (p : Packet) × acts (model.Replies w p) × WritesPacket bytes.items p × MachineStands m w

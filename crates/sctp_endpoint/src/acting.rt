@@ -1,6 +1,6 @@
 //! What a chunk does, by its type, and chunks one after the other (RFC 9260, 3.2 and 6.10).
 
-ghost use Rattle.std.specs.Prelude.{◌≡◌, Bool, IfOk, OnErr};
+ghost use Rattle.std.specs.Prelude.{◌≡◌, IfOk, OnErr};
 ghost use Rattle.sctp_model.specs.end.EndView.{EndView};
 ghost use Rattle.sctp_model.specs.end.Acting.{Acts};
 ghost use Rattle.sctp_wire.specs.ChunkTree.{chunk_meaning};
@@ -61,7 +61,7 @@ fn go_on(
     notes: &mut Notes,
     chunk: &Chunk<'_>,
 ) -> Result<Option<Verdict>, NoMemory>
-    ensures { (v : EndView) (b : Bool) → MachineStands machine.old v → ActsOne tag v notes.old b (chunk_meaning chunk.now) result machine.new notes.new }
+    ensures { (v : EndView) → MachineStands machine.old v → ActsOne tag v notes.old (chunk_meaning chunk.now) result machine.new notes.new }
 {
     match act(machine, tag, chunk)? {
         After::GoesOn => {
@@ -69,10 +69,9 @@ fn go_on(
             notes.listed = true;
             Ok(None)
         }
-        After::Acknowledges => {
+        After::Acknowledges { is_data, at_once } => {
             machine.rest();
-            notes.listed = true;
-            notes.acknowledges = true;
+            notes.acknowledge(is_data, at_once);
             Ok(None)
         }
         After::PassedOver => Ok(None),
@@ -92,7 +91,7 @@ pub(crate) fn act_all(
     notes: &mut Notes,
     chunks: Chunks<'_>,
 ) -> Result<Verdict, NoMemory>
-    ensures { (v : EndView) (b : Bool) → MachineStands machine.old v → ActsAll tag v notes.old b chunks.entry result machine.new notes.new }
+    ensures { (v : EndView) → MachineStands machine.old v → ActsAll tag v notes.old chunks.entry result machine.new notes.new }
 {
     for chunk in chunks {
         if let Some(verdict) = go_on(machine, tag, notes, &chunk)? {

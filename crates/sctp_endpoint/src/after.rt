@@ -1,8 +1,8 @@
 //! What a chunk leaves, what is noted of it for the end of its packet, and what is told of a packet.
 
-ghost use Rattle.std.specs.Prelude.{◌≡◌, false};
-ghost use Rattle.sctp_model.specs.end.Arriving.{no_notes, noted};
-ghost use Rattle.sctp_model.specs.end.PeerFaults.{Unnoted};
+ghost use Rattle.std.specs.Prelude.{◌≡◌};
+ghost use Rattle.sctp_model.specs.end.Arriving.{no_notes, noted, urged};
+ghost use Rattle.sctp_model.specs.end.PeerFaults.{Unnoted, ToAcknowledge};
 ghost use Rattle.sctp_endpoint.specs.inner.Acted.{notes_meaning};
 
 use sctp_terms::Reason;
@@ -12,8 +12,13 @@ use sctp_terms::Reason;
 pub(crate) enum After {
     /// The packet goes on behind it.
     GoesOn,
-    /// The packet goes on behind it, and at its end a SACK is due (RFC 9260, 6.2).
-    Acknowledges,
+    /// The packet goes on behind it, and is to be acknowledged at its end (RFC 9260, 6.2).
+    Acknowledges {
+        /// It brought user data.
+        is_data: bool,
+        /// The SACK may not wait.
+        at_once: bool,
+    },
     /// The packet ends with it.
     Ends,
     /// It isn't listed in this state.
@@ -31,27 +36,52 @@ pub(crate) struct Notes {
     pub(crate) listed: bool,
     /// One of them is to be acknowledged (RFC 9260, 6.2).
     pub(crate) acknowledges: bool,
+    /// One of these brought user data.
+    pub(crate) brings_data: bool,
+    /// One of these may not wait for its SACK.
+    pub(crate) at_once: bool,
 }
 
 impl Notes {
     /// Before the first chunk.
     pub(crate) fn none() -> Notes
-        ensures { notes_meaning result false ≡ no_notes }
+        ensures { notes_meaning result ≡ no_notes }
     {
         Notes {
             listed: false,
             acknowledges: false,
+            brings_data: false,
+            at_once: false,
         }
     }
 
     /// Behind a cookie that began an association.
     pub(crate) fn of_cookie() -> Notes
-        ensures { notes_meaning result false ≡ noted Unnoted no_notes }
+        ensures { notes_meaning result ≡ noted Unnoted no_notes }
     {
         Notes {
             listed: true,
             acknowledges: false,
+            brings_data: false,
+            at_once: false,
         }
+    }
+
+    /// With one more that is to be acknowledged.
+    pub(crate) fn acknowledge(&mut self, is_data: bool, at_once: bool)
+        ensures { notes_meaning self.new ≡ noted (ToAcknowledge is_data at_once) (notes_meaning self.old) }
+    {
+        self.listed = true;
+        self.acknowledges = true;
+        self.brings_data = self.brings_data || is_data;
+        self.at_once = self.at_once || at_once;
+    }
+
+    /// One of them may not wait for its SACK, or the packet left a gap.
+    pub(crate) fn is_urged(self, gap: bool) -> bool
+        ensures { result ≡ (urged gap (notes_meaning self)).at_once }
+    {
+        self.at_once || gap
     }
 }
 

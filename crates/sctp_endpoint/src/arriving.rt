@@ -4,7 +4,7 @@ ghost use Rattle.std.specs.Prelude.{◌≡◌, ℕ, Bool, false, drop, Option};
 ghost use Rattle.sctp_model.specs.wire.Packet as meaning;
 ghost use Rattle.sctp_model.specs.end.EndView.{EndView, has_association};
 ghost use Rattle.sctp_model.specs.end.Clock.{at_moment};
-ghost use Rattle.sctp_model.specs.end.Arriving.{packet_ended};
+ghost use Rattle.sctp_model.specs.end.Arriving.{LeavesGap, urged, packet_ended};
 ghost use Rattle.sctp_packet.specs.PacketTree.{packet_meaning};
 ghost use Rattle.sctp_association.specs.MachineStands.{MachineStands};
 ghost use Rattle.sctp_endpoint.specs.EndpointStands.{EndpointStands};
@@ -118,7 +118,7 @@ fn hear(
     notes: Notes,
     chunks: Chunks<'_>,
 ) -> Result<Verdict, NoMemory>
-    ensures { (v : EndView) (b : Bool) → MachineStands machine.old v → HearsAll tag v (notes_meaning notes b) chunks.entry result machine.new }
+    ensures { (v : EndView) → MachineStands machine.old v → HearsAll tag v (notes_meaning notes) chunks.entry result machine.new }
 {
     let mut notes = notes;
     let told = act_all(machine, tag, &mut notes, chunks);
@@ -126,11 +126,13 @@ fn hear(
     told
 }
 
-/// The end of a packet, whatever ended it.
+/// The end of a packet, whatever ended it: a gap that it left counts where the end delays its SACKs (RFC 9260, 6.2).
 fn end_packet(machine: &mut Machine, notes: Notes)
-    ensures { (v : EndView) (b : Bool) → MachineStands machine.old v → MachineStands machine.new (packet_ended (notes_meaning notes b) v) }
+    ensures { (v : EndView) → MachineStands machine.old v
+        → (gap : Bool) × LeavesGap v gap × MachineStands machine.new (packet_ended (urged gap (notes_meaning notes)) v) }
 {
+    let gap = machine.leaves_gap();
     if notes.acknowledges {
-        machine.acknowledge();
+        machine.acknowledge(notes.is_urged(gap), notes.brings_data);
     }
 }

@@ -1,10 +1,11 @@
 //! What a FORWARD-TSN or an I-FORWARD-TSN does to an end (RFC 3758, 3.6; RFC 8260, 2.3.1).
 
-ghost use Rattle.std.specs.Prelude.{◌≡◌, IfOk, OnErr};
+ghost use Rattle.std.specs.Prelude.{◌≡◌, true, false, IfOk, OnErr};
 ghost use Rattle.sctp_model.specs.end.EndView.{EndView, format_for};
 ghost use Rattle.sctp_model.specs.end.Acting.{ForwardActs, may_forward};
 ghost use Rattle.sctp_wire.specs.ChunkTree.{forward_meaning};
 ghost use Rattle.sctp_association.specs.MachineStands.{MachineStands};
+ghost use Rattle.sctp_endpoint.specs.declared.after.After.TheVariants.{Acknowledges};
 ghost use Rattle.sctp_endpoint.specs.Left.{Left};
 
 use crate::after::After;
@@ -40,8 +41,18 @@ pub(crate) fn on_forward(
         ForwardAnswer::Bad => {
             Ok(After::Replies(machine.abort_with(peer, PROTOCOL_VIOLATION, &[])?))
         }
-        ForwardAnswer::OutOfDate => Ok(After::Acknowledges),
-        ForwardAnswer::Moved => Ok(After::Acknowledges),
+        ForwardAnswer::OutOfDate => Ok(acted()),
+        ForwardAnswer::Moved => Ok(acted()),
+    }
+}
+
+/// A FORWARD acted: it brings no user data, and is acknowledged at once (RFC 3758, 3.6).
+fn acted() -> After
+    ensures { result ≡ Acknowledges false true }
+{
+    After::Acknowledges {
+        is_data: false,
+        at_once: true,
     }
 }
 

@@ -3,13 +3,16 @@
 ghost use Rattle.std.specs.Prelude.{◌≡◌, IfOk, OnErr};
 ghost use Rattle.sctp_model.specs.numbers.Numbers.{u32_bytes};
 ghost use Rattle.sctp_model.specs.end.EndView.{EndView, format_for};
-ghost use Rattle.sctp_model.specs.end.Acting.{PieceActs};
+ghost use Rattle.sctp_model.specs.wire.Chunk.{PieceMeaning};
+ghost use Rattle.sctp_model.specs.end.Acting.{PieceActs, asks_at_once};
 ghost use Rattle.sctp_wire.specs.ChunkTree.{piece_meaning};
+ghost use Rattle.sctp_recv.specs.AnswerOf.{answer_of};
 ghost use Rattle.sctp_association.specs.MachineStands.{MachineStands};
 ghost use Rattle.sctp_endpoint.specs.Left.{Left};
 
 use crate::after::After;
 use sctp_association::Machine;
+use sctp_recv::Answer;
 use sctp_values::NoMemory;
 use sctp_wire::Piece;
 use sctp_wire::codes::{NO_USER_DATA, PROTOCOL_VIOLATION};
@@ -40,8 +43,21 @@ pub(crate) fn on_piece(
     if machine.is_interleaved() != interleaved {
         return Ok(After::Replies(machine.abort_with(peer, PROTOCOL_VIOLATION, &[])?));
     }
-    machine.hear_piece(piece)?;
-    Ok(After::Acknowledges)
+    let answer = machine.hear_piece(piece)?;
+    Ok(After::Acknowledges {
+        is_data: true,
+        at_once: asks_at_once(piece.immediate, answer),
+    })
+}
+
+/// A chunk with data that wasn't kept, or says so itself, is to be acknowledged at once (RFC 9260, 6.2).
+fn asks_at_once(immediate: bool, answer: Answer) -> bool
+    ensures { (p : PieceMeaning) → p.immediate ≡ immediate → result ≡ asks_at_once p (answer_of answer) }
+{
+    match answer {
+        Answer::Taken => immediate,
+        _ => true,
+    }
 }
 
 /// The value of the cause for a chunk without data: its TSN (RFC 9260, 3.3.10.9).

@@ -23,7 +23,7 @@ pub struct PairConfig {
 }
 
 impl PairConfig {
-    ghost use Rattle.std.specs.Prelude.{◌≡◌, Some, None, MatchResult};
+    ghost use Rattle.std.specs.Prelude.{◌≡◌, true, Some, None, MatchResult};
     ghost use Rattle.sctp_model.specs.end.Configured.{configuration_fault, plain_configuration};
     ghost use Rattle.sctp_terms.specs.Meanings.{config_fault_meaning};
     ghost use Rattle.sctp_terms.specs.Modes.{asked};
@@ -52,6 +52,26 @@ impl PairConfig {
             a: mode.asked(a),
             b: mode.asked(b),
         })
+    }
+
+    /// The same, at both ends of which a SACK may wait for a second packet (RFC 9260, 6.2).
+    pub fn with_delay(self) -> PairConfig
+        ensures { result.a ≡ record self.a { delay = true } }
+    {
+        PairConfig {
+            a: self.a.with_delay(),
+            b: self.b.with_delay(),
+        }
+    }
+
+    /// The same, both ends of which go on closing as long as the peer acknowledges or its data come (RFC 9260, 9.2).
+    pub fn with_standard_closing(self) -> PairConfig
+        ensures { result.a ≡ record self.a { standard_closing = true } }
+    {
+        PairConfig {
+            a: self.a.with_standard_closing(),
+            b: self.b.with_standard_closing(),
+        }
     }
 
     /// The configuration of A, the caller.

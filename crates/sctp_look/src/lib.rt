@@ -22,6 +22,7 @@ mod signs;
 mod style;
 mod svg;
 mod text;
+mod waits;
 mod wish;
 
 pub use command_line::{DONE, FAILED, REFUSED, USAGE, WRONG_WORDS, run_words};

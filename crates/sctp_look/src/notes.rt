@@ -82,6 +82,10 @@ fn put_deed(deed: &Deed, words: &mut String) -> Result<(), AllocError> {
             let why = refusal_word(*refusal);
             write!(words, " refused: {why}")
         }
+        Deed::Waited { wait } => {
+            let wait = *wait;
+            write!(words, "SACK waited {wait}")
+        }
         Deed::Quiet => words.push_str("build: quiet"),
         Deed::Absent { packet } => {
             words.push_str("deliver ")?;

@@ -3,6 +3,7 @@
 use crate::lives::Lives;
 use crate::row::{Arrow, Call, Deed, Packet, Row, Taken};
 use crate::rows::Rows;
+use crate::waits::Waits;
 use sctp_pair::{Event, Key, Outcome, Pair, PairConfig, Side, Ticket};
 use std::alloc::{AllocError, Global};
 
@@ -19,6 +20,7 @@ pub(crate) struct Recording {
     pair: Pair,
     rows: Rows,
     lives: Lives,
+    waits: Waits,
     /// What strangers sent, first to last.
     strange: Vec<Vec<u8>>,
 }
@@ -31,6 +33,7 @@ impl Recording {
             pair: Pair::new(alloc, config, Key::new(KEY)),
             rows: Rows::new(alloc),
             lives: Lives::new(alloc),
+            waits: Waits::new(config.caller().delay()),
             strange: Vec::new(alloc),
         }
     }
@@ -60,10 +63,7 @@ impl Recording {
 
     /// The bytes of a packet, none where there is no such packet.
     pub(crate) fn bytes(&self, packet: Packet) -> &[u8] {
-        match u32::try_from(packet.number) {
-            Ok(number) => self.pair.packet(packet.side, number).unwrap_or(&[]),
-            Err(_) => &[],
-        }
+        bytes_of(&self.pair, packet)
     }
 
     /// What a stranger sent, none where there is no such number.
@@ -164,7 +164,15 @@ impl Recording {
     /// A packet of an end leaves, or it has none.
     fn build(&mut self, side: Side, outcome: &Outcome) -> Result<(), AllocError> {
         match outcome {
-            Outcome::Sent { number, .. } => self.leave(side, *number, None),
+            Outcome::Sent { number, .. } => {
+                let packet = Packet {
+                    side,
+                    number: *number,
+                };
+                let bytes = bytes_of(&self.pair, packet);
+                let wait = self.waits.left(side, bytes, self.pair.clock());
+                self.leave(side, *number, wait.map(|wait| Deed::Waited { wait }))
+            }
             _ => self.show(side, Some(Deed::Quiet), None),
         }
     }
@@ -179,6 +187,10 @@ impl Recording {
         let time = self.lives.count(packet);
         let to = side.other();
         let deed = Deed::of_drop(outcome);
+        if deed.is_none() {
+            let bytes = bytes_of(&self.pair, packet);
+            self.waits.came(to, bytes, self.pair.clock());
+        }
         if self.rows.has_just_left(packet) {
             self.rows.join(&self.pair, packet, deed);
         } else {
@@ -189,6 +201,9 @@ impl Recording {
 
     /// A stranger's bytes come to an end.
     fn meet(&mut self, to: Side, bytes: &[u8], outcome: &Outcome) -> Result<(), AllocError> {
+        if Deed::of_drop(outcome).is_none() {
+            self.waits.came(to, bytes, self.pair.clock());
+        }
         let bytes = Vec::from_slice(self.alloc, bytes)?;
         let index = self.strange.len();
         self.strange.push(bytes)?;
@@ -232,5 +247,13 @@ impl Recording {
         arrow: Option<Arrow>,
     ) -> Result<(), AllocError> {
         self.rows.push_at(&self.pair, side, deed, arrow)
+    }
+}
+
+/// The bytes of a packet, none where there is no such packet.
+fn bytes_of(pair: &Pair, packet: Packet) -> &[u8] {
+    match u32::try_from(packet.number) {
+        Ok(number) => pair.packet(packet.side, number).unwrap_or(&[]),
+        Err(_) => &[],
     }
 }

@@ -35,6 +35,8 @@ pub(crate) enum Deed {
     At { moment: u64 },
     Call(Call),
     Refused { call: Call, refusal: Refusal },
+    /// A packet leaves with a SACK that waited so long, in milliseconds.
+    Waited { wait: u64 },
     /// Asked for a packet, it had none.
     Quiet,
     /// A packet is to be delivered that there isn't.

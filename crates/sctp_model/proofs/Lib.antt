@@ -1,4 +1,5 @@
 pub mod NumberLemmas
+pub mod NearLaws
 pub mod TypedLemmas
 pub mod TypedWriting
 pub mod sender

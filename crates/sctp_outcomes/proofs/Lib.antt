@@ -3,6 +3,7 @@ pub mod sender
 pub mod Unheard
 pub mod Receivers
 pub mod Bounded
+pub mod Gaps
 pub mod Buffers
 pub mod Ordinary
 pub mod OneAct
@@ -14,6 +15,8 @@ pub mod TotalBuilds
 pub mod TotalSteps
 pub mod OneOutcome
 pub mod OneEnd
+pub mod ReachedEnds
+pub mod Reaching
 pub mod InOrder
 pub mod stories
 pub mod logs

@@ -49,7 +49,7 @@ module _ (e : EndView) (o : IsOrdinary (format_of e) e.receiver) where
   one_piece f p x y (PieceComes t1 g1 a1 r1 i1 k1 s1 m1 c1) (PieceNotHeard o2) = absurd (deaf takes_data e.phase t1 g1 o2 i1 k1)
   one_piece f p x y (PieceComes t1 g1 a1 r1 i1 k1 s1 m1 c1) (PieceEmpty t2 g2 i2 k2 z2) = absurd (let z = z2 in let s = s1 in omega (arith, z, s))
   one_piece f p x y (PieceComes t1 g1 a1 r1 i1 k1 s1 m1 c1) (WrongFormat t2 g2 i2 k2 s2 m2) = absurd (clash m1 m2)
-  one_piece f p x y (PieceComes t1 g1 a1 r1 i1 k1 s1 m1 c1) (PieceComes t2 g2 a2 r2 i2 k2 s2 m2 c2) = let r = piece_only (format_of e) e.receiver p a1 a2 r1 r2 o c1 c2 in ap (λ (a : PieceAnswer). GoesOn (ToAcknowledge (asks_at_once p a)) (with_causes (piece_causes e p a) (record e { receiver = r1 }))) r.0 ∙ ap (λ (v : ReceiverView). GoesOn (ToAcknowledge (asks_at_once p a2)) (with_causes (piece_causes e p a2) (record e { receiver = v }))) r.1
+  one_piece f p x y (PieceComes t1 g1 a1 r1 i1 k1 s1 m1 c1) (PieceComes t2 g2 a2 r2 i2 k2 s2 m2 c2) = let r = piece_only (format_of e) e.receiver p a1 a2 r1 r2 o c1 c2 in ap (λ (a : PieceAnswer). GoesOn (ToAcknowledge true (asks_at_once p a)) (with_causes (piece_causes e p a) (record e { receiver = r1 }))) r.0 ∙ ap (λ (v : ReceiverView). GoesOn (ToAcknowledge true (asks_at_once p a2)) (with_causes (piece_causes e p a2) (record e { receiver = v }))) r.1
 
   one_forward : (f : Format) (m : ForwardMeaning) (x y : After) → ForwardActs f e m x → ForwardActs f e m y → x ≡ y
   one_forward f m x y (ForwardNotHeard o1) (ForwardNotHeard o2) = refl
@@ -70,13 +70,13 @@ module _ (e : EndView) (o : IsOrdinary (format_of e) e.receiver) where
   one_forward f m x y (IsOld t1 g1 r1 i1 k1 y1 c1) (ForwardNotHeard o2) = absurd (deaf takes_data e.phase t1 g1 o2 i1 k1)
   one_forward f m x y (IsOld t1 g1 r1 i1 k1 y1 c1) (WrongKind t2 g2 i2 k2 y2) = absurd (clash y1 y2)
   one_forward f m x y (IsOld t1 g1 r1 i1 k1 y1 c1) (IsBad t2 g2 r2 i2 k2 y2 c2) = absurd (let q = (forward_only (format_of e) e.receiver m _ _ r2 r1 o.apart c2 c1).0 in cc)
-  one_forward f m x y (IsOld t1 g1 r1 i1 k1 y1 c1) (IsOld t2 g2 r2 i2 k2 y2 c2) = let r = forward_only (format_of e) e.receiver m _ _ r1 r2 o.apart c1 c2 in ap (λ (v : ReceiverView). GoesOn (ToAcknowledge true) (record e { receiver = v })) r.1
+  one_forward f m x y (IsOld t1 g1 r1 i1 k1 y1 c1) (IsOld t2 g2 r2 i2 k2 y2 c2) = let r = forward_only (format_of e) e.receiver m _ _ r1 r2 o.apart c1 c2 in ap (λ (v : ReceiverView). GoesOn (ToAcknowledge false true) (record e { receiver = v })) r.1
   one_forward f m x y (IsOld t1 g1 r1 i1 k1 y1 c1) (ForwardComes t2 g2 r2 i2 k2 y2 c2) = absurd (let q = (forward_only (format_of e) e.receiver m _ _ r1 r2 o.apart c1 c2).0 in cc)
   one_forward f m x y (ForwardComes t1 g1 r1 i1 k1 y1 c1) (ForwardNotHeard o2) = absurd (deaf takes_data e.phase t1 g1 o2 i1 k1)
   one_forward f m x y (ForwardComes t1 g1 r1 i1 k1 y1 c1) (WrongKind t2 g2 i2 k2 y2) = absurd (clash y1 y2)
   one_forward f m x y (ForwardComes t1 g1 r1 i1 k1 y1 c1) (IsBad t2 g2 r2 i2 k2 y2 c2) = absurd (let q = (forward_only (format_of e) e.receiver m _ _ r2 r1 o.apart c2 c1).0 in cc)
   one_forward f m x y (ForwardComes t1 g1 r1 i1 k1 y1 c1) (IsOld t2 g2 r2 i2 k2 y2 c2) = absurd (let q = (forward_only (format_of e) e.receiver m _ _ r2 r1 o.apart c2 c1).0 in cc)
-  one_forward f m x y (ForwardComes t1 g1 r1 i1 k1 y1 c1) (ForwardComes t2 g2 r2 i2 k2 y2 c2) = let r = forward_only (format_of e) e.receiver m _ _ r1 r2 o.apart c1 c2 in ap (λ (v : ReceiverView). GoesOn (ToAcknowledge true) (record e { receiver = v })) r.1
+  one_forward f m x y (ForwardComes t1 g1 r1 i1 k1 y1 c1) (ForwardComes t2 g2 r2 i2 k2 y2 c2) = let r = forward_only (format_of e) e.receiver m _ _ r1 r2 o.apart c1 c2 in ap (λ (v : ReceiverView). GoesOn (ToAcknowledge false true) (record e { receiver = v })) r.1
 
   one_sack : (s : SackMeaning) (x y : After) → SackActs e s x → SackActs e s y → x ≡ y
   one_sack s x y (SackNotHeard _) (SackNotHeard _) = refl

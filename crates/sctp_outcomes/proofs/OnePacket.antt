@@ -1,5 +1,5 @@
 -- What a packet leaves is one end, and it has one verdict.
-use Rattle.std.proofs.Common.{◌≡◌, ℕ, List, [], ◌∷◌, drop, Option, Some, None, refl, sym, subst, ap, ◌∙◌}
+use Rattle.std.proofs.Common.{◌≡◌, ℕ, Bool, List, [], ◌∷◌, drop, Option, Some, None, refl, sym, subst, ap, ◌∙◌}
 use Rattle.sctp_model.specs.wire.Chunk.{ChunkMeaning}
 use Rattle.sctp_model.specs.wire.Packet.{Packet}
 use Rattle.sctp_model.specs.receiver.Laws.{IsOrdinary}
@@ -11,10 +11,11 @@ use Rattle.sctp_model.specs.end.Opening.{begun}
 use Rattle.sctp_model.specs.end.PeerFaults.{After, GoesOn, Ends, PassedOver, Replies, Drops, Note, Unnoted}
 use Rattle.sctp_model.specs.end.Acting.{Acts}
 use Rattle.sctp_model.specs.end.Strays.{Verdict, Taken, Dropped, Answer, opened_by}
-use Rattle.sctp_model.specs.end.Arriving.{AllAct, NoneLeft, Next, Last, EndsAnswered, Stopped, Arrives, Elsewhere, NotOurs, Stray, CookieBegins, Heard, verdict_of, Receives, DroppedUnread, ReadAs, Notes, no_notes, noted, packet_ended}
+use Rattle.sctp_model.specs.end.Arriving.{AllAct, NoneLeft, Next, Last, EndsAnswered, Stopped, Arrives, Elsewhere, NotOurs, Stray, CookieBegins, Heard, verdict_of, Receives, DroppedUnread, ReadAs, Notes, no_notes, noted, urged, packet_ended, LeavesGap}
 use Rattle.sctp_model.specs.end.Arriving.{Passes}
 use Rattle.sctp_outcomes.proofs.Receivers.{Whatever, holds_goes, holds_rested}
 use Rattle.sctp_outcomes.proofs.Ordinary.{ordinary_law}
+use Rattle.sctp_outcomes.proofs.Gaps.{gaps_are_one}
 use Rattle.sctp_outcomes.proofs.OneAct.{clash, one_after}
 
 -- ---- chunks, from the first on
@@ -68,8 +69,12 @@ one_all tag e b (x ∷ xs) t u m n v w o one other =
         go (Drops z) act i j = (i.0 ∙ sym j.0, i.1 ∙ sym j.1, i.2 ∙ sym j.2)
 
 -- and behind its end
-ended_one : (t u : EndView) (m n : Notes) (v w : Verdict) → AreOne t u m n v w → (packet_ended m t ≡ packet_ended n u) × (v ≡ w)
-ended_one t u m n v w one = (ap (λ (z : EndView). packet_ended m z) one.0 ∙ ap (λ (z : Notes). packet_ended z u) one.1, one.2)
+ended_one : (t u : EndView) (m n : Notes) (a b : Bool) (v w : Verdict) → LeavesGap t a → LeavesGap u b → AreOne t u m n v w → (packet_ended (urged a m) t ≡ packet_ended (urged b n) u) × (v ≡ w)
+ended_one t u m n a b v w left there one = (
+  ap (λ (z : EndView). packet_ended (urged a m) z) one.0 ∙ ap (λ (z : Notes). packet_ended (urged a z) u) one.1
+      ∙ gaps_are_one u n a b (subst (λ (z : EndView). LeavesGap z a) one.0 left) there,
+  one.2,
+)
 
 -- ---- the whole packet
 
@@ -80,32 +85,32 @@ pub one_arrives : (e : EndView) (d : Draw) (p : Packet) (t u : EndView) (v w : V
 one_arrives e d p t u v w o (Elsewhere _) (Elsewhere _) = (refl, refl)
 one_arrives e d p t u v w o (Elsewhere a) (NotOurs c _) = absurd (clash c a)
 one_arrives e d p t u v w o (Elsewhere a) (Stray c _ _ _) = absurd (clash c a)
-one_arrives e d p t u v w o (Elsewhere a) (CookieBegins _ _ _ _ c _ _ _ _) = absurd (clash c a)
-one_arrives e d p t u v w o (Elsewhere a) (Heard _ _ _ c _ _ _) = absurd (clash c a)
+one_arrives e d p t u v w o (Elsewhere a) (CookieBegins _ _ _ _ c _ _ _ _ _ _) = absurd (clash c a)
+one_arrives e d p t u v w o (Elsewhere a) (Heard _ _ _ c _ _ _ _ _) = absurd (clash c a)
 one_arrives e d p t u v w o (NotOurs c _) (Elsewhere a) = absurd (clash c a)
 one_arrives e d p t u v w o (NotOurs _ _) (NotOurs _ _) = (refl, refl)
 one_arrives e d p t u v w o (NotOurs _ a) (Stray _ c _ _) = absurd (clash c a)
-one_arrives e d p t u v w o (NotOurs _ a) (CookieBegins _ _ _ _ _ c _ _ _) = absurd (clash c a)
-one_arrives e d p t u v w o (NotOurs _ a) (Heard _ _ _ _ c _ _) = absurd (clash c a)
+one_arrives e d p t u v w o (NotOurs _ a) (CookieBegins _ _ _ _ _ c _ _ _ _ _) = absurd (clash c a)
+one_arrives e d p t u v w o (NotOurs _ a) (Heard _ _ _ _ c _ _ _ _) = absurd (clash c a)
 one_arrives e d p t u v w o (Stray c _ _ _) (Elsewhere a) = absurd (clash c a)
 one_arrives e d p t u v w o (Stray _ c _ _) (NotOurs _ a) = absurd (clash c a)
 one_arrives e d p t u v w o (Stray _ _ _ _) (Stray _ _ _ _) = (refl, refl)
-one_arrives e d p t u v w o (Stray _ _ _ n) (CookieBegins b _ _ _ _ _ _ s _) = absurd (none_some e p b n s)
-one_arrives e d p t u v w o (Stray _ _ a _) (Heard _ _ _ _ _ c _) = absurd (clash c a)
-one_arrives e d p t u v w o (CookieBegins _ _ _ _ c _ _ _ _) (Elsewhere a) = absurd (clash c a)
-one_arrives e d p t u v w o (CookieBegins _ _ _ _ _ c _ _ _) (NotOurs _ a) = absurd (clash c a)
-one_arrives e d p t u v w o (CookieBegins b _ _ _ _ _ _ s _) (Stray _ _ _ n) = absurd (none_some e p b n s)
-one_arrives e d p t u v w o (CookieBegins b i m _ _ _ _ s one) (CookieBegins c j n _ _ _ _ z other) =
+one_arrives e d p t u v w o (Stray _ _ _ n) (CookieBegins b _ _ _ _ _ _ s _ _ _) = absurd (none_some e p b n s)
+one_arrives e d p t u v w o (Stray _ _ a _) (Heard _ _ _ _ _ c _ _ _) = absurd (clash c a)
+one_arrives e d p t u v w o (CookieBegins _ _ _ _ c _ _ _ _ _ _) (Elsewhere a) = absurd (clash c a)
+one_arrives e d p t u v w o (CookieBegins _ _ _ _ _ c _ _ _ _ _) (NotOurs _ a) = absurd (clash c a)
+one_arrives e d p t u v w o (CookieBegins b _ _ _ _ _ _ s _ _ _) (Stray _ _ _ n) = absurd (none_some e p b n s)
+one_arrives e d p t u v w o (CookieBegins b i m _ _ _ _ s one gap left) (CookieBegins c j n _ _ _ _ z other hole there) =
     let both : Some b ≡ Some c = sym s ∙ z in
     let body : c ≡ b = cc in
-    ended_one i j m n v w (one_all p.tag (begun b e) (noted Unnoted no_notes) (drop 1 p.chunks) i j m n v w (ordinary_law.fresh _ _ _ _) one
+    ended_one i j m n gap hole v w left there (one_all p.tag (begun b e) (noted Unnoted no_notes) (drop 1 p.chunks) i j m n v w (ordinary_law.fresh _ _ _ _) one
     (subst (λ (y : Body). AllAct p.tag (begun y e) (noted Unnoted no_notes) (drop 1 p.chunks) j n w) body other))
-one_arrives e d p t u v w o (CookieBegins _ _ _ _ _ _ a _ _) (Heard _ _ _ _ _ c _) = absurd (clash c a)
-one_arrives e d p t u v w o (Heard _ _ _ c _ _ _) (Elsewhere a) = absurd (clash c a)
-one_arrives e d p t u v w o (Heard _ _ _ _ c _ _) (NotOurs _ a) = absurd (clash c a)
-one_arrives e d p t u v w o (Heard _ _ _ _ _ c _) (Stray _ _ a _) = absurd (clash c a)
-one_arrives e d p t u v w o (Heard _ _ _ _ _ c _) (CookieBegins _ _ _ _ _ _ a _ _) = absurd (clash c a)
-one_arrives e d p t u v w o (Heard i m _ _ _ _ one) (Heard j n _ _ _ _ other) = ended_one i j m n v w (one_all p.tag e no_notes p.chunks i j m n v w o one other)
+one_arrives e d p t u v w o (CookieBegins _ _ _ _ _ _ a _ _ _ _) (Heard _ _ _ _ _ c _ _ _) = absurd (clash c a)
+one_arrives e d p t u v w o (Heard _ _ _ c _ _ _ _ _) (Elsewhere a) = absurd (clash c a)
+one_arrives e d p t u v w o (Heard _ _ _ _ c _ _ _ _) (NotOurs _ a) = absurd (clash c a)
+one_arrives e d p t u v w o (Heard _ _ _ _ _ c _ _ _) (Stray _ _ a _) = absurd (clash c a)
+one_arrives e d p t u v w o (Heard _ _ _ _ _ c _ _ _) (CookieBegins _ _ _ _ _ _ a _ _ _ _) = absurd (clash c a)
+one_arrives e d p t u v w o (Heard i m _ _ _ _ one gap left) (Heard j n _ _ _ _ other hole there) = ended_one i j m n gap hole v w left there (one_all p.tag e no_notes p.chunks i j m n v w o one other)
 
 pub one_received : (e : EndView) (now : ℕ) (d : Draw) (p : Option Packet) (t u : EndView) (v w : Verdict) → IsOrdinary (format_of e) e.receiver →
     Receives e now d p t v → Receives e now d p u w → (t ≡ u) × (v ≡ w)

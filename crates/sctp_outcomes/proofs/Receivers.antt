@@ -13,7 +13,7 @@ use Rattle.sctp_model.specs.end.Closing.{rested}
 use Rattle.sctp_model.specs.end.PeerFaults.{GoesOn, Ends, Replies, Note, Unnoted}
 use Rattle.sctp_model.specs.end.Opening.{AcceptedAck, RefusedAck, EchoedAgain, CookieAcked, begun}
 use Rattle.sctp_model.specs.end.Acting.{Acts, ForwardComes, PieceComes, IsOld, SackStale, ShutdownStale, HeartbeatCounts, SackCounts, ShutdownCounts, Closes, SaysNothing, Crosses, Again, AckCompletes, CompleteCompleted, PieceEmpty, WrongFormat, SackWrong, ShutdownWrong, WrongKind, IsBad}
-use Rattle.sctp_model.specs.end.Arriving.{AllAct, NoneLeft, Next, Last, EndsAnswered, Stopped, Arrives, Elsewhere, NotOurs, Stray, CookieBegins, Heard, DroppedUnread, ReadAs, CutFirst, CutLater, Notes, no_notes, noted, packet_ended}
+use Rattle.sctp_model.specs.end.Arriving.{AllAct, NoneLeft, Next, Last, EndsAnswered, Stopped, Arrives, Elsewhere, NotOurs, Stray, CookieBegins, Heard, DroppedUnread, ReadAs, CutFirst, CutLater, Notes, no_notes, noted, urged, packet_ended}
 use Rattle.sctp_model.specs.end.Arriving.{Passes}
 use Rattle.sctp_model.specs.end.Strays.{Verdict}
 use Rattle.sctp_model.specs.end.Building.{Slot, Puts, NoMore, NotDue, Put, IsFull, Builds, Sleeps, Waits, Calls, Echoes, Fills, EchoSlot, CookieAckSlot, HeartbeatSlot, ErrorSlot, SackSlot, ForwardSlot, ShutdownSlot, ShutdownAckSlot, once_built}
@@ -134,14 +134,14 @@ module _ (P : Format → ℕ → ReceiverView → Type 0) (law : IsReceiverLaw P
   holds_acts tag e b xs t m v k (Stopped _ _ x ys n act) = k
 
   holds_ended : (n : Notes) (e : EndView) → Holds e → Holds (packet_ended n e)
-  holds_ended n e k = ended_cases Holds n e k (λ t g is. k)
+  holds_ended n e k = ended_cases Holds n e k (λ t g is. k) (λ t g is. k) (λ x h. h)
 
   pub holds_arrives : (e : EndView) (d : Draw) (p : Packet) (t : EndView) (v : Verdict) → Holds e → Arrives e d p t v → Holds t
   holds_arrives e d p t v k (Elsewhere _) = k
   holds_arrives e d p t v k (NotOurs _ _) = k
   holds_arrives e d p t v k (Stray _ _ _ _) = k
-  holds_arrives e d p t v k (CookieBegins b u n _ _ _ _ _ acts) = holds_ended n u (holds_acts p.tag (begun b e) (noted Unnoted no_notes) _ u n v (law.fresh _ _ _ _) acts)
-  holds_arrives e d p t v k (Heard u n _ _ _ _ acts) = holds_ended n u (holds_acts p.tag e no_notes p.chunks u n v k acts)
+  holds_arrives e d p t v k (CookieBegins b u n _ _ _ _ _ acts gap _) = holds_ended (urged gap n) u (holds_acts p.tag (begun b e) (noted Unnoted no_notes) _ u n v (law.fresh _ _ _ _) acts)
+  holds_arrives e d p t v k (Heard u n _ _ _ _ acts gap _) = holds_ended (urged gap n) u (holds_acts p.tag e no_notes p.chunks u n v k acts)
 
   -- ---- a packet that is built
 

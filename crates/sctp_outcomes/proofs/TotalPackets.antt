@@ -10,10 +10,11 @@ use Rattle.sctp_model.specs.end.Opening.{begun}
 use Rattle.sctp_model.specs.end.Acting.{Acts}
 use Rattle.sctp_model.specs.end.Passing.{has_ports, passes}
 use Rattle.sctp_model.specs.end.Strays.{Verdict, Taken, opened_by, stray_verdict}
-use Rattle.sctp_model.specs.end.Arriving.{AllAct, NoneLeft, Next, Last, EndsAnswered, Stopped, Arrives, Elsewhere, NotOurs, Stray, CookieBegins, Heard, verdict_of, Notes, no_notes, noted, packet_ended}
+use Rattle.sctp_model.specs.end.Arriving.{AllAct, NoneLeft, Next, Last, EndsAnswered, Stopped, Arrives, Elsewhere, NotOurs, Stray, CookieBegins, Heard, verdict_of, Notes, no_notes, noted, urged, packet_ended, TellsGap}
 use Rattle.sctp_model.specs.end.Arriving.{Passes}
-use Rattle.sctp_outcomes.proofs.Receivers.{Whatever, holds_goes, holds_rested}
+use Rattle.sctp_outcomes.proofs.Receivers.{Whatever, holds_goes, holds_rested, holds_acts}
 use Rattle.sctp_outcomes.proofs.Bounded.{IsBounded, bounded_law}
+use Rattle.sctp_outcomes.proofs.Gaps.{gap_is_told}
 use Rattle.sctp_outcomes.proofs.TotalActs.{acted}
 
 pub record AllActed (tag : ℕ) (e : EndView) (b : Notes) (xs : List ChunkMeaning) : Type 0 where
@@ -21,6 +22,10 @@ pub record AllActed (tag : ℕ) (e : EndView) (b : Notes) (xs : List ChunkMeanin
   pub notes : Notes
   pub verdict : Verdict
   pub acts : AllAct tag e b xs last notes verdict
+
+-- whether there is a gap behind them
+gap_left : (tag : ℕ) (e : EndView) (b : Notes) (xs : List ChunkMeaning) → IsBounded (format_of e) e.receiver → (r : AllActed tag e b xs) → (gap : Bool) × TellsGap gap r.last.receiver
+gap_left tag e b xs bound r = gap_is_told (format_of r.last) r.last.receiver (holds_acts (Whatever IsBounded) bounded_law tag e b xs r.last r.notes r.verdict bound r.acts)
 
 pub all_acted : (tag : ℕ) (e : EndView) (b : Notes) (xs : List ChunkMeaning) → IsBounded (format_of e) e.receiver → AllActed tag e b xs
 all_acted tag e b [] bound = record { last = e; notes = b; verdict = verdict_of b.listed; acts = NoneLeft e b }
@@ -48,12 +53,14 @@ arrived e d p bound = ports (has_ports e.configuration p) refl
     opened a t none None q = record { last = e; verdict = stray_verdict e d p; arrives = Stray a t none q }
     opened a t none (Some y) q =
         let r = all_acted p.tag (begun y e) (noted Unnoted no_notes) (drop 1 p.chunks) (bounded_law.fresh _ _ _ _) in
-        record { last = packet_ended r.notes r.last; verdict = r.verdict; arrives = CookieBegins y r.last r.notes r.verdict a t none q r.acts }
+        let g = gap_left p.tag (begun y e) (noted Unnoted no_notes) (drop 1 p.chunks) (bounded_law.fresh _ _ _ _) r in
+        record { last = packet_ended (urged g.0 r.notes) r.last; verdict = r.verdict; arrives = CookieBegins y r.last r.notes r.verdict a t none q r.acts g.0 (λ on. g.1) }
 
     joined : has_ports e.configuration p ≡ true → passes e.phase p ≡ true → (h : Bool) → has_association e.phase ≡ h → Arrived e d p
     joined a t true has =
         let r = all_acted p.tag e no_notes p.chunks bound in
-        record { last = packet_ended r.notes r.last; verdict = r.verdict; arrives = Heard r.last r.notes r.verdict a t has r.acts }
+        let g = gap_left p.tag e no_notes p.chunks bound r in
+        record { last = packet_ended (urged g.0 r.notes) r.last; verdict = r.verdict; arrives = Heard r.last r.notes r.verdict a t has r.acts g.0 (λ on. g.1) }
     joined a t false none = opened a t none (opened_by e p) refl
 
     tagged : has_ports e.configuration p ≡ true → (r : Bool) → passes e.phase p ≡ r → Arrived e d p

@@ -10,7 +10,7 @@ use Rattle.sctp_model.specs.end.EndView.{TimedOut, Phase, Idle, Listening, Calli
 use Rattle.sctp_model.specs.end.Clock.{at_moment, closed, settled, turned, with_timer, is_over_at, repeats_of}
 use Rattle.sctp_model.specs.end.Clock.{expired_timer}
 use Rattle.sctp_model.specs.end.Closing.{rested}
-use Rattle.sctp_model.specs.end.Moments.{after_abandoning, due_again, rung, ring, rung_all, all_alarms, passed, ticked}
+use Rattle.sctp_model.specs.end.Moments.{after_abandoning, due_again, rung, ring, rung_all, all_alarms, waited_in, waited, passed, ticked}
 use Rattle.sctp_model.specs.end.UserCalls.{SendAnswer, Ticket, Refused, NotOpen, send_leaves, is_open, abandoned_at, shut_in, shut, AbortAnswer, Aborts, NoPeer, TooLong, abort_leaves}
 use Rattle.sctp_safety.proofs.machine.EndWords.{rested_cases}
 
@@ -57,6 +57,10 @@ pub unheard_all : (alarms : List Alarm) (e : EndView) → IsUnheard e (rung_all 
 unheard_all [] e = unheard e
 unheard_all (a ∷ more) e = unheard_on e (ring a e) (rung_all more (ring a e)) (unheard_rung (is_over_at e.moment (e.timers a).expiry) a e) (unheard_all more (ring a e))
 
+pub unheard_waited : (b : Bool) (e : EndView) → IsUnheard e (waited_in b e)
+unheard_waited false e = unheard e
+unheard_waited true e = record { receiver = refl; terms = refl; configuration = refl }
+
 pub unheard_ticked : (e : EndView) (now : ℕ) → IsUnheard e (ticked e now)
 unheard_ticked e now = go (has_association e.phase)
   where
@@ -65,7 +69,9 @@ unheard_ticked e now = go (has_association e.phase)
     go true =
         let m = at_moment e now in
         let u = after_abandoning m (expired_messages m.sender m.moment) in
-        unheard_on e u (rung_all all_alarms u) (unheard_on e m u (record { receiver = refl; terms = refl; configuration = refl }) (unheard_after_abandoning m (expired_messages m.sender m.moment))) (unheard_all all_alarms u)
+        let r = rung_all all_alarms u in
+        let abandoned = unheard_on e m u (record { receiver = refl; terms = refl; configuration = refl }) (unheard_after_abandoning m (expired_messages m.sender m.moment)) in
+        unheard_on e r (waited r) (unheard_on e u r abandoned (unheard_all all_alarms u)) (unheard_waited (is_over_at r.moment r.delayed) r)
 
 -- ---- the user
 

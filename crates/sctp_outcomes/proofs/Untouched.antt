@@ -1,10 +1,11 @@
--- What is dropped, but for a cookie, changed nothing: no chunk of it was listed, or the end still waits for an INIT ACK.
-use Rattle.std.proofs.Common.{◌≡◌, ℕ, ◌⊎◌, Bool, true, false, List, Option, Some, None, inl, inr, refl, sym, subst, ap, ◌∙◌}
+-- What is dropped changed nothing: no chunk of it was listed, or the end still waits for an INIT ACK, or its first chunk was a COOKIE ECHO that doesn't open.
+use Rattle.std.proofs.Common.{◌≡◌, ℕ, ◌+◌, ◌⊎◌, Bool, true, false, List, [], ◌∷◌, drop, Option, Some, None, inl, inr, refl, sym, subst, ap, ◌∙◌}
 use Rattle.std.specs.Prelude.{◌&&◌, if◌then◌else◌}
 use Rattle.sctp_model.specs.wire.Typed.{Typed}
 use Rattle.sctp_model.specs.wire.Packet.{Packet}
+use Rattle.sctp_model.specs.wire.Places.{stands_alone, never_follows, misplaced_behind, ArePlaced}
 use Rattle.sctp_model.specs.wire.Unknown.{chunk_rule}
-use Rattle.sctp_model.specs.wire.Chunk.{ChunkMeaning, Data, IData, Init, InitAck, Sack, Heartbeat, HeartbeatAck, Abort, Shutdown, ShutdownAck, Error, CookieEcho, CookieAck, ShutdownComplete, ForwardTsn, IForwardTsn, Unknown}
+use Rattle.sctp_model.specs.wire.Chunk.{ChunkMeaning, Data, IData, Init, InitAck, Sack, Heartbeat, HeartbeatAck, Abort, Shutdown, ShutdownAck, Error, CookieEcho, CookieAck, ShutdownComplete, ForwardTsn, IForwardTsn, Unknown, size_of_chunk}
 use Rattle.sctp_model.specs.end.EndView.{Draw, Stage, Phase, Idle, Listening, Calling, Echoing, Open, Over, EndView, has_association}
 use Rattle.sctp_model.specs.end.Clock.{at_moment}
 use Rattle.sctp_model.specs.end.Closing.{takes_acknowledgements, hears, rested}
@@ -13,10 +14,10 @@ use Rattle.sctp_model.specs.end.PeerFaults.{COOKIE, Note, Unnoted, ToAcknowledge
 use Rattle.sctp_model.specs.end.Opening.{is_calling, NoTag, AcceptedAck, EchoedAgain, IsStrange, CookieAcked, begun}
 use Rattle.sctp_model.specs.end.Acting.{Acts, PieceComes, IsOld, ForwardComes, SackStale, SackCounts, HeartbeatCounts, SaysNothing, ShutdownStale, ShutdownCounts, Crosses, Again, may_report, unknown_item, unknown_causes, unknown_leaves}
 use Rattle.sctp_model.specs.end.Strays.{Verdict, Dropped, opened_by}
-use Rattle.sctp_model.specs.end.Arriving.{Notes, no_notes, noted, acknowledges_in, packet_ended, verdict_of, AllAct, NoneLeft, Next, Passes, Last, EndsAnswered, Stopped, Arrives, Elsewhere, NotOurs, Stray, CookieBegins, Heard, Receives, DroppedUnread, ReadAs}
+use Rattle.sctp_model.specs.end.Arriving.{Notes, no_notes, noted, urged, acknowledges_in, packet_ended, verdict_of, AllAct, NoneLeft, Next, Passes, Last, EndsAnswered, Stopped, Arrives, Elsewhere, NotOurs, Stray, CookieBegins, Heard, Receives, DroppedUnread, ReadAs}
 use Rattle.sctp_safety.proofs.machine.EndWords.{rested_cases}
 use Rattle.sctp_safety.proofs.machine.Sides.{unknown_goes}
-use Rattle.sctp_outcomes.specs.Untouched.{StraysChangeNothing, DropsChangeNothing}
+use Rattle.sctp_outcomes.specs.Untouched.{StraysChangeNothing, AreChunksPlaced, DropsChangeNothing}
 
 -- ---- an end that waits for an INIT ACK
 
@@ -80,69 +81,99 @@ rested_calling e = rested_cases (λ (x : EndView). is_calling x.phase ≡ true �
 
 -- ---- chunks
 
--- why a chunk drops its packet
-chunk_drops : (e : EndView) (tag : ℕ) (x : ChunkMeaning) (r : ℕ) → Acts e tag x (Drops r) → (r ≡ COOKIE) ⊎ (is_calling e.phase ≡ true)
-chunk_drops e tag (Data p) r h = elim h [ ]
-chunk_drops e tag (IData p) r h = elim h [ ]
-chunk_drops e tag (Init m) r h = absurd (cc)
-chunk_drops e tag (InitAck m) r (NoTag d is none) = inr (ap is_calling is)
-chunk_drops e tag (Sack k) r h = elim h [ ]
-chunk_drops e tag (Heartbeat i) r h = elim h [ ]
-chunk_drops e tag (HeartbeatAck i) r h = absurd (cc)
-chunk_drops e tag (Abort b xs) r h = absurd (cc)
-chunk_drops e tag (Shutdown n) r h = elim h [ ]
-chunk_drops e tag ShutdownAck r h = elim h [ ]
-chunk_drops e tag (Error xs) r h = elim h [ ]
-chunk_drops e tag (CookieEcho xs) r (IsStrange _ _ _ _ _ _ _) = inl refl
-chunk_drops e tag CookieAck r h = elim h [ ]
-chunk_drops e tag (ShutdownComplete b) r h = elim h [ ]
-chunk_drops e tag (ForwardTsn m) r h = elim h [ ]
-chunk_drops e tag (IForwardTsn m) r h = elim h [ ]
-chunk_drops e tag (Unknown n f v) r h = absurd (go (chunk_rule n).stop h)
+-- chunks behind others, of which none is one that never follows another chunk
+abbrev Follow : List ChunkMeaning → Type 0
+Follow xs = (before : ℕ) × (misplaced_behind before xs ≡ None)
+
+follow_on : (x : ChunkMeaning) (xs : List ChunkMeaning) → Follow (x ∷ xs) → (never_follows x ≡ false) × Follow xs
+follow_on x xs f = go (never_follows x) refl f.1
+  where
+    go : (b : Bool) → never_follows x ≡ b → (if b then Some f.0 else misplaced_behind (f.0 + size_of_chunk x) xs) ≡ None → (never_follows x ≡ false) × Follow xs
+    go true is h = absurd (cc)
+    go false is h = (is, (f.0 + size_of_chunk x, h))
+
+-- where chunks stand as they may, none behind the first is
+placed_follow : (x : ChunkMeaning) (xs : List ChunkMeaning) → ArePlaced (x ∷ xs) → Follow xs
+placed_follow x [] placed = (0, refl)
+placed_follow x (y ∷ ys) placed = go (stands_alone x) placed
+  where
+    go : (b : Bool) → (if b then Some 0 else misplaced_behind (size_of_chunk x) (y ∷ ys)) ≡ None → Follow (y ∷ ys)
+    go true h = absurd (cc)
+    go false h = (size_of_chunk x, h)
+
+-- what drops a packet for a cookie is a COOKIE ECHO; for another reason, only an end that waits for an INIT ACK drops one for a chunk
+chunk_drops : (e : EndView) (tag : ℕ) (x : ChunkMeaning) (r : ℕ) → (r ≡ COOKIE → never_follows x ≡ false) → Acts e tag x (Drops r) → is_calling e.phase ≡ true
+chunk_drops e tag (Data p) r behind h = elim h [ ]
+chunk_drops e tag (IData p) r behind h = elim h [ ]
+chunk_drops e tag (Init m) r behind h = absurd (cc)
+chunk_drops e tag (InitAck m) r behind (NoTag d is none) = ap is_calling is
+chunk_drops e tag (Sack k) r behind h = elim h [ ]
+chunk_drops e tag (Heartbeat i) r behind h = elim h [ ]
+chunk_drops e tag (HeartbeatAck i) r behind h = absurd (cc)
+chunk_drops e tag (Abort b xs) r behind h = absurd (cc)
+chunk_drops e tag (Shutdown n) r behind h = elim h [ ]
+chunk_drops e tag ShutdownAck r behind h = elim h [ ]
+chunk_drops e tag (Error xs) r behind h = elim h [ ]
+chunk_drops e tag (CookieEcho xs) r behind (IsStrange _ _ _ _ _ _ _) = let q : true ≡ false = behind refl in absurd (cc)
+chunk_drops e tag CookieAck r behind h = elim h [ ]
+chunk_drops e tag (ShutdownComplete b) r behind h = elim h [ ]
+chunk_drops e tag (ForwardTsn m) r behind h = elim h [ ]
+chunk_drops e tag (IForwardTsn m) r behind h = elim h [ ]
+chunk_drops e tag (Unknown n f v) r behind h = absurd (go (chunk_rule n).stop h)
   where
     go : (b : Bool) → Drops r ≡ unknown_leaves b (with_causes (unknown_causes e n f v) e) → ⊥
     go true q = absurd (cc)
     go false q = absurd (cc)
 
--- It was dropped for its cookie, or nothing changed: the end waits for an INIT ACK still, or nothing was noted.
-abbrev LeftSo : ℕ → EndView → Notes → EndView → Notes → Type 0
-LeftSo r e n t m = (r ≡ COOKIE) ⊎ ((t ≡ e) × ((is_calling t.phase ≡ true) ⊎ ((m ≡ n) × (n.listed ≡ false))))
+-- Nothing changed: the end waits for an INIT ACK still, or nothing was noted.
+abbrev IsLeftSo : EndView → Notes → EndView → Notes → Type 0
+IsLeftSo e n t m = (t ≡ e) × ((is_calling t.phase ≡ true) ⊎ ((m ≡ n) × (n.listed ≡ false)))
 
 noted_listed : (k : Note) (n : Notes) → (noted k n).listed ≡ true
 noted_listed Unnoted n = refl
-noted_listed (ToAcknowledge b) n = refl
+noted_listed (ToAcknowledge _ _) n = refl
 
-left_by : (r : ℕ) (e : EndView) (n : Notes) (b : Bool) → n.listed ≡ b → verdict_of b ≡ Dropped r → LeftSo r e n e n
+left_by : (r : ℕ) (e : EndView) (n : Notes) (b : Bool) → n.listed ≡ b → verdict_of b ≡ Dropped r → IsLeftSo e n e n
 left_by r e n true is told = absurd (cc)
-left_by r e n false is told = inr (refl, inr (refl, is))
+left_by r e n false is told = (refl, inr (refl, is))
 
-goes_left : (r tag : ℕ) (e mid t : EndView) (k : Note) (n m : Notes) (x : ChunkMeaning) → Acts e tag x (GoesOn k mid) → LeftSo r (rested mid) (noted k n) t m → LeftSo r e n t m
-goes_left r tag e mid t k n m x act (inl cookie) = inl cookie
-goes_left r tag e mid t k n m x act (inr (same, inl calling)) =
+goes_left : (tag : ℕ) (e mid t : EndView) (k : Note) (n m : Notes) (x : ChunkMeaning) → Acts e tag x (GoesOn k mid) → IsLeftSo (rested mid) (noted k n) t m → IsLeftSo e n t m
+goes_left tag e mid t k n m x act (same, inl calling) =
     let here = subst (λ (y : EndView). is_calling y.phase ≡ true) same calling in
     let rests = rested_calling mid here in
-    inr (same ∙ rests ∙ still_calling e tag x k mid act (subst (λ (y : EndView). is_calling y.phase ≡ true) rests here), inl calling)
-goes_left r tag e mid t k n m x act (inr (same, inr (notes, off))) = let on = noted_listed k n in let q : true ≡ false = sym on ∙ off in absurd (cc)
+    (same ∙ rests ∙ still_calling e tag x k mid act (subst (λ (y : EndView). is_calling y.phase ≡ true) rests here), inl calling)
+goes_left tag e mid t k n m x act (same, inr (notes, off)) = let on = noted_listed k n in let q : true ≡ false = sym on ∙ off in absurd (cc)
 
-acts_left : (r tag : ℕ) (e : EndView) (n : Notes) (xs : List ChunkMeaning) (t : EndView) (m : Notes) (v : Verdict) → AllAct tag e n xs t m v → v ≡ Dropped r → LeftSo r e n t m
-acts_left r tag e n xs t m v (NoneLeft _ _) told = left_by r e n n.listed refl told
-acts_left r tag e n xs t m v (Next _ mid _ k _ _ x ys _ act rest) told = goes_left r tag e mid t k n m x act (acts_left r tag (rested mid) (noted k n) ys t m v rest told)
-acts_left r tag e n xs t m v (Passes _ _ _ _ x ys _ act rest) told = acts_left r tag e n ys t m v rest told
-acts_left r tag e n xs t m v (Last _ _ _ x ys act) told = absurd (cc)
-acts_left r tag e n xs t m v (EndsAnswered _ _ _ x ys p act) told = absurd (cc)
-acts_left r tag e n xs t m v (Stopped _ _ x ys q act) told =
+-- of chunks that follow others
+acts_left : (r tag : ℕ) (e : EndView) (n : Notes) (xs : List ChunkMeaning) (t : EndView) (m : Notes) (v : Verdict) → (r ≡ COOKIE → Follow xs) →
+    AllAct tag e n xs t m v → v ≡ Dropped r → IsLeftSo e n t m
+acts_left r tag e n xs t m v behind (NoneLeft _ _) told = left_by r e n n.listed refl told
+acts_left r tag e n xs t m v behind (Next _ mid _ k _ _ x ys _ act rest) told =
+    goes_left tag e mid t k n m x act (acts_left r tag (rested mid) (noted k n) ys t m v (λ is. (follow_on x ys (behind is)).1) rest told)
+acts_left r tag e n xs t m v behind (Passes _ _ _ _ x ys _ act rest) told = acts_left r tag e n ys t m v (λ is. (follow_on x ys (behind is)).1) rest told
+acts_left r tag e n xs t m v behind (Last _ _ _ x ys act) told = absurd (cc)
+acts_left r tag e n xs t m v behind (EndsAnswered _ _ _ x ys p act) told = absurd (cc)
+acts_left r tag e n xs t m v behind (Stopped _ _ x ys q act) told =
     let same : q ≡ r = cc in
-    elim (chunk_drops e tag x q act) [
-      | inl cookie ↦ inl (sym same ∙ cookie)
-      | inr calling ↦ inr (refl, inl calling)
-    ]
+    (refl, inl (chunk_drops e tag x q (λ is. (follow_on x ys (behind (sym same ∙ is))).0) act))
+
+-- of a whole packet, before whose first chunk nothing was noted
+packet_left : (r tag : ℕ) (e : EndView) (xs : List ChunkMeaning) (t : EndView) (m : Notes) (v : Verdict) → (r ≡ COOKIE → ArePlaced xs) →
+    AllAct tag e no_notes xs t m v → v ≡ Dropped r → IsLeftSo e no_notes t m
+packet_left r tag e xs t m v placed (NoneLeft _ _) told = (refl, inr (refl, refl))
+packet_left r tag e xs t m v placed (Next _ mid _ k _ _ x ys _ act rest) told =
+    goes_left tag e mid t k no_notes m x act (acts_left r tag (rested mid) (noted k no_notes) ys t m v (λ is. placed_follow x ys (placed is)) rest told)
+packet_left r tag e xs t m v placed (Passes _ _ _ _ x ys _ act rest) told = acts_left r tag e no_notes ys t m v (λ is. placed_follow x ys (placed is)) rest told
+packet_left r tag e xs t m v placed (Last _ _ _ x ys act) told = absurd (cc)
+packet_left r tag e xs t m v placed (EndsAnswered _ _ _ x ys p act) told = absurd (cc)
+packet_left r tag e xs t m v placed (Stopped _ _ x ys q act) told = (refl, inr (refl, refl))
 
 -- ---- a packet
 
 ended_calling : (n : Notes) (t : EndView) → is_calling t.phase ≡ true → packet_ended n t ≡ t
 ended_calling n t on = go n.acknowledges t.phase on
   where
-    go : (b : Bool) (h : Phase) → is_calling h ≡ true → acknowledges_in b h t ≡ t
+    go : (b : Bool) (h : Phase) → is_calling h ≡ true → acknowledges_in n b h t ≡ t
     go false h is = refl
     go true (Calling d) is = refl
     go true Idle is = absurd (cc)
@@ -151,31 +182,35 @@ ended_calling n t on = go n.acknowledges t.phase on
     go true (Open u g) is = absurd (cc)
     go true (Over why) is = absurd (cc)
 
-ended_left : (r : ℕ) (e t : EndView) (m : Notes) → (r ≡ COOKIE → ⊥) → LeftSo r e no_notes t m → packet_ended m t ≡ e
-ended_left r e t m other (inl cookie) = absurd (other cookie)
-ended_left r e t m other (inr (same, inl calling)) = ended_calling m t calling ∙ same
-ended_left r e t m other (inr (same, inr (notes, off))) = ap (λ (k : Notes). packet_ended k t) notes ∙ same
+ended_left : (e t : EndView) (m : Notes) (gap : Bool) → IsLeftSo e no_notes t m → packet_ended (urged gap m) t ≡ e
+ended_left e t m gap (same, inl calling) = ended_calling (urged gap m) t calling ∙ same
+ended_left e t m gap (same, inr (notes, off)) = ap (λ (k : Notes). packet_ended (urged gap k) t) notes ∙ same
 
 -- an end that a cookie opened doesn't wait for an INIT ACK, and has a note
-never_left : {X : Type 0} (r : ℕ) (e t : EndView) (n m : Notes) → is_calling e.phase ≡ false → n.listed ≡ true → (r ≡ COOKIE → ⊥) → LeftSo r e n t m → X
-never_left r e t n m off on other (inl cookie) = absurd (other cookie)
-never_left r e t n m off on other (inr (same, inl calling)) = not_open t.phase e.phase off (ap (λ (x : EndView). x.phase) same) calling
-never_left r e t n m off on other (inr (same, inr (notes, none))) = let q : true ≡ false = sym on ∙ none in absurd (cc)
+never_left : {X : Type 0} (e t : EndView) (n m : Notes) → is_calling e.phase ≡ false → n.listed ≡ true → IsLeftSo e n t m → X
+never_left e t n m off on (same, inl calling) = not_open t.phase e.phase off (ap (λ (x : EndView). x.phase) same) calling
+never_left e t n m off on (same, inr (notes, none)) = let q : true ≡ false = sym on ∙ none in absurd (cc)
 
-arrives_left : (r : ℕ) (e : EndView) (d : Draw) (p : Packet) (t : EndView) (v : Verdict) → Arrives e d p t v → (r ≡ COOKIE → ⊥) → v ≡ Dropped r → t ≡ e
-arrives_left r e d p t v (Elsewhere _) other told = refl
-arrives_left r e d p t v (NotOurs _ _) other told = refl
-arrives_left r e d p t v (Stray _ _ _ _) other told = refl
-arrives_left r e d p t v (CookieBegins b u n _ _ _ _ _ acts) other told =
-    never_left r (begun b e) u (noted Unnoted no_notes) n refl refl other (acts_left r p.tag (begun b e) (noted Unnoted no_notes) _ u n v acts told)
-arrives_left r e d p t v (Heard u n _ _ _ _ acts) other told = ended_left r e u n other (acts_left r p.tag e no_notes p.chunks u n v acts told)
+-- the chunks behind the cookie that opens follow it
+behind_first : (xs : List ChunkMeaning) → ArePlaced xs → Follow (drop 1 xs)
+behind_first [] placed = (0, refl)
+behind_first (x ∷ xs) placed = placed_follow x xs placed
+
+arrives_left : (r : ℕ) (e : EndView) (d : Draw) (p : Packet) (t : EndView) (v : Verdict) → (r ≡ COOKIE → ArePlaced p.chunks) → Arrives e d p t v → v ≡ Dropped r → t ≡ e
+arrives_left r e d p t v placed (Elsewhere _) told = refl
+arrives_left r e d p t v placed (NotOurs _ _) told = refl
+arrives_left r e d p t v placed (Stray _ _ _ _) told = refl
+arrives_left r e d p t v placed (CookieBegins b u n _ _ _ _ _ acts _ _) told =
+    never_left (begun b e) u (noted Unnoted no_notes) n refl refl
+    (acts_left r p.tag (begun b e) (noted Unnoted no_notes) _ u n v (λ is. behind_first p.chunks (placed is)) acts told)
+arrives_left r e d p t v placed (Heard u n _ _ _ _ acts gap _) told = ended_left e u n gap (packet_left r p.tag e p.chunks u n v placed acts told)
 
 pub drops_change_nothing : DropsChangeNothing
-drops_change_nothing e now d p t reason other came = go p t (Dropped reason) came refl
+drops_change_nothing e now d p t reason placed came = go p t (Dropped reason) placed came refl
   where
-    go : (o : Option Packet) (u : EndView) (v : Verdict) → Receives e now d o u v → v ≡ Dropped reason → u ≡ at_moment e now
-    go o u v DroppedUnread told = refl
-    go o u v (ReadAs q _ _ arrives) told = arrives_left reason (at_moment e now) d q u v arrives other told
+    go : (o : Option Packet) (u : EndView) (v : Verdict) → (reason ≡ COOKIE → AreChunksPlaced o) → Receives e now d o u v → v ≡ Dropped reason → u ≡ at_moment e now
+    go o u v placed DroppedUnread told = refl
+    go o u v placed (ReadAs q _ _ arrives) told = arrives_left reason (at_moment e now) d q u v placed arrives told
 
 -- ---- an end without an association
 
@@ -183,8 +218,8 @@ stray_left : (e : EndView) (d : Draw) (p : Packet) (t : EndView) (v : Verdict) �
 stray_left e d p t v off none (Elsewhere _) = refl
 stray_left e d p t v off none (NotOurs _ _) = refl
 stray_left e d p t v off none (Stray _ _ _ _) = refl
-stray_left e d p t v off none (CookieBegins b u n _ _ _ _ opens _) = let q : None ≡ Some b = sym none ∙ opens in absurd (cc)
-stray_left e d p t v off none (Heard u n _ _ _ on _) = let q : true ≡ false = sym on ∙ off in absurd (cc)
+stray_left e d p t v off none (CookieBegins b u n _ _ _ _ opens _ _ _) = let q : None ≡ Some b = sym none ∙ opens in absurd (cc)
+stray_left e d p t v off none (Heard u n _ _ _ on _ _ _) = let q : true ≡ false = sym on ∙ off in absurd (cc)
 
 pub strays_change_nothing : StraysChangeNothing
 strays_change_nothing e now d p t v off none (ReadAs _ _ _ arrives) = stray_left (at_moment e now) d p t v off none arrives

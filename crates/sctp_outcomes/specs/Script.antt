@@ -24,6 +24,8 @@ script_setup sealing = record {
     inbound = 1;
     interleave = false;
     partial = false;
+    delay = false;
+    standard_closing = false;
   };
   a_port = 5000;
   b_port = 5001;

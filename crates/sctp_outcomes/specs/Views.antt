@@ -1,5 +1,5 @@
 -- What holds of the senders and the receivers of both ends in every world, whatever their peers are told.
-use Rattle.std.specs.Prelude.{◌≡◌, true, List, Option}
+use Rattle.std.specs.Prelude.{◌≡◌, ◌<◌, List, Option}
 use Rattle.sctp_model.specs.messages.Orderly.{Orderly}
 use Rattle.sctp_model.specs.sender.Reached.{IsReached}
 use Rattle.sctp_model.specs.receiver.Laws.{IsAtRest, FitsBuffer}
@@ -8,21 +8,25 @@ use Rattle.sctp_model.specs.world.World.{Side, World, end_of, Setup, start}
 use Rattle.sctp_model.specs.world.Events.{Event, Outcome}
 use Rattle.sctp_model.specs.world.Steps.{Run}
 use Rattle.sctp_model.specs.world.Premises.{IsReachable}
-use Rattle.sctp_safety.specs.Agreement.{was_open}
 
--- ---- senders
+-- ---- senders, over every run, also of one that meets no premise
 
--- Both plans are orderly, whatever happened (RFC 9260, 6.6 and 6.9; RFC 8260, 2.2); and once the ends have met each sender is one that its calls reach, so that
--- all laws of a sender's calls speak of it.
-pub record AreSendersInOrder (w : World) : Type 0 where
-  pub plans : (x : Side) → Orderly (format_of (end_of w x)) (end_of w x).sender.plan
-  pub reached : was_open w.b.phase ≡ true → (x : Side) → IsReached (format_of (end_of w x)) (end_of w x).sender
+-- The sender of an end is one that its calls reach, so that all laws of a sender's calls speak of it; so its plan is orderly (RFC 9260, 6.6 and 6.9; RFC 8260,
+-- 2.2).
+pub record IsSenderInOrder (e : EndView) : Type 0 where
+  pub plan : Orderly (format_of e) e.sender.plan
+  pub reached : IsReached (format_of e) e.sender
 
--- In every world of every run that meets the premises.
+-- Each is, as far as its end may put a byte into a fragment.
 abbrev pub SendersAreInOrder : Type 0
-SendersAreInOrder = (s : Setup) (events : List Event) (w : World) → IsReachable s events w → AreSendersInOrder w
+SendersAreInOrder = (s : Setup) (events : List Event) (answers : List (Option Outcome)) (w : World) → Run (start s) events answers w →
+    (x : Side) → 0 < (end_of w x).configuration.fragment → IsSenderInOrder (end_of w x)
 
--- ---- receivers, over every run, also of one that meets no premise
+-- An end that is set up within the limits may; so in every world of every run that meets the premises both are.
+abbrev pub BothSendersAreInOrder : Type 0
+BothSendersAreInOrder = (s : Setup) (events : List Event) (w : World) → IsReachable s events w → (x : Side) → IsSenderInOrder (end_of w x)
+
+-- ---- receivers, over every run
 
 -- Both are at rest: all that is due was handed over, and no place is filled twice (RFC 9260, 6.6 and 6.9).
 abbrev pub ReceiversAreAtRest : Type 0

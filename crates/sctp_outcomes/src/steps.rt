@@ -14,7 +14,8 @@ pub fn each_end_has_one_next_packet()
 {}
 
 /// A packet that comes to an end without an association, and has no cookie that opens, changes nothing but the moment; nor does one that is dropped, in
-/// whatever state, for its bytes, its ports, its tag or the state (RFC 9260, 5.1 and 8.4). One that is dropped for its cookie may have had chunks that acted.
+/// whatever state and whatever for: its bytes, its ports, its tag, a cookie, the state (RFC 9260, 5.1 and 8.4). Before a COOKIE ECHO stands no other chunk in a
+/// packet that reads, so none acted that is dropped for it.
 pub fn packets_leave_no_trace()
     ensures strays { StraysChangeNothing }
     ensures drops { DropsChangeNothing }

@@ -20,12 +20,12 @@ mixed_is r bytes low ranged =
     let above : bit_xor 0 last ≡ last = xor_zero_l last in
     ap (λ (x : ℕ). bit_xor x (little_number 8 bytes)) alone ∙ ap (bit_xor (0 * 2 ^ 32 + r)) split ∙ sum ∙ omega (arith, above)
 
--- what each of them leaves
-pub eight_left_by : (r : ℕ) (bytes : List ℕ) (mixed : ℕ) → r < 2 ^ 32 → ((k : ℕ) → slice_index bytes k < 256) → mixed ≡ bit_xor r (little_number 4 bytes)
-    → bit_xor (bit_xor (bit_xor (bit_xor (bit_xor (bit_xor (bit_xor (steps 8 (slice_index bytes 7)) (steps 16 (slice_index bytes 6))) (steps 24 (slice_index bytes 5))) (steps 32 (slice_index bytes 4))) (steps 40 (mixed / 2 ^ 24)))
-    (steps 48 (mixed / 2 ^ 16 % 256))) (steps 56 (mixed / 2 ^ 8 % 256))) (steps 64 (mixed % 256))
-    ≡ eight_left (bit_xor r (little_number 8 bytes))
-eight_left_by r bytes mixed low ranged e =
+-- what each of them leaves, where m zero bits follow
+pub eight_left_by : (m r : ℕ) (bytes : List ℕ) (mixed : ℕ) → r < 2 ^ 32 → ((k : ℕ) → slice_index bytes k < 256) → mixed ≡ bit_xor r (little_number 4 bytes)
+    → bit_xor (bit_xor (bit_xor (bit_xor (bit_xor (bit_xor (bit_xor (steps (8 + m) (slice_index bytes 7)) (steps (8 + (8 + m)) (slice_index bytes 6))) (steps (8 + (16 + m)) (slice_index bytes 5)))
+    (steps (8 + (24 + m)) (slice_index bytes 4))) (steps (8 + (32 + m)) (mixed / 2 ^ 24))) (steps (8 + (40 + m)) (mixed / 2 ^ 16 % 256))) (steps (8 + (48 + m)) (mixed / 2 ^ 8 % 256))) (steps (8 + (56 + m)) (mixed % 256))
+    ≡ eight_left m (bit_xor r (little_number 8 bytes))
+eight_left_by m r bytes mixed low ranged e =
     let all = bit_xor r (little_number 8 bytes) in
     let whole : all ≡ mixed + 2 ^ 32 * little_from 4 4 bytes = mixed_is r bytes low ranged ∙ ap (λ (x : ℕ). x + 2 ^ 32 * little_from 4 4 bytes) (sym e) in
     let first : little_number 4 bytes < 2 ^ 32 = omega (arith, ranged 0, ranged 1, ranged 2, ranged 3) in

@@ -10,4 +10,8 @@ pub mod DraftLemmas
 pub mod StepLemmas
 pub mod EightLemmas
 pub mod TableLemmas
+pub mod FoldLemmas
+pub mod JoinedLemmas
+pub mod RoomLemmas
+pub mod LeftLemmas
 pub mod StepBits

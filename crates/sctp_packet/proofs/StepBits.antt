@@ -1,8 +1,8 @@
 -- The register as a number and as bits: where zero bits come in, and where bytes do.
 use Rattle.std.proofs.Common.{◌≡◌, ℕ, zero, suc, ◌+◌, ◌-◌, ◌*◌, ◌/◌, ◌%◌, ◌^◌, ◌<◌, ◌≤◌, Bool, true, false, nat_eq, cond, bit_xor, lit<, List, ◌∷◌, ◌++◌, length, take, drop, get_or, refl, sym, ap, subst, ◌∙◌, arith, append_assoc, length-append, drop-cons}
-use Rattle.std.specs.Int.Bits.{xor_assoc, xor_zero_r}
-use Rattle.std.proofs.lemmas.Nat.{xor_lt, xor_comm}
-use Rattle.std.proofs.lemmas.List.{length-replicate}
+use Rattle.std.specs.Int.Bits.{xor_assoc, xor_zero_l, xor_zero_r}
+use Rattle.std.proofs.lemmas.Nat.{xor_lt, xor_comm, xor_block}
+use Rattle.std.proofs.lemmas.List.{length-replicate, take_all, get_or-drop}
 use Rattle.byteorder.specs.Endian.{little_from, little_number}
 use Rattle.sctp_packet.specs.Remainder.{zeros, add, divide, remainder}
 use Rattle.sctp_packet.specs.Checksum.{bits, divisor, message_bits}
@@ -12,7 +12,7 @@ use Rattle.sctp_packet.proofs.AddLemmas.{add_zeros}
 use Rattle.sctp_packet.proofs.BitLemmas.{length_bits, bits_above, step_of}
 use Rattle.sctp_packet.proofs.RegisterLemmas.{register_is_remainder, register_after-append}
 use Rattle.sctp_packet.proofs.ChecksumLaws.{tail_is, length_tail, divisor_is, byte_is_eight_steps}
-use Rattle.sctp_packet.proofs.StepLemmas.{steps_sum, steps_then, byte_apart}
+use Rattle.sctp_packet.proofs.StepLemmas.{steps_sum, steps_then, steps_down, byte_apart}
 
 -- ---- zero bits
 
@@ -126,3 +126,38 @@ one_at_a_time (suc n) i xs register bytes small within =
 pub eight_bits : (register : ℕ) (xs : List ℕ) → ((k : ℕ) → get_or xs k 0 < 256) → register < 2 ^ 32 → 8 ≤ length xs
     → bits 32 (steps 64 (bit_xor register (little_number 8 xs))) ≡ register_after (drop 1 divisor) (bits 32 register) (message_bits (take 8 xs))
 eight_bits register xs bytes small within = ap (bits 32) (at_once 8 0 xs register bytes) ∙ one_at_a_time 8 0 xs register bytes small within
+
+-- the number of bytes further on
+pub number_behind : (n i j : ℕ) (xs : List ℕ) → little_from i n (drop j xs) ≡ little_from (j + i) n xs
+number_behind zero i j xs = refl
+number_behind (suc n) i j xs =
+    let next : j + suc i ≡ suc (j + i) = omega arith in
+    rw (get_or-drop j xs i 0, number_behind n (suc i) j xs, next) refl
+
+-- two words, of which the first has the register added, and eight bytes follow it
+pub sixteen_bits : (register : ℕ) (xs : List ℕ) → ((k : ℕ) → get_or xs k 0 < 256) → register < 2 ^ 32 → 16 ≤ length xs
+    → bits 32 (bit_xor (steps 128 (bit_xor register (little_from 0 8 xs))) (steps 64 (little_from 8 8 xs))) ≡ register_after (drop 1 divisor) (bits 32 register) (message_bits (take 16 xs))
+sixteen_bits register xs bytes small within =
+    let first = little_from 0 8 xs in
+    let second = little_from 8 8 xs in
+    let over : steps 128 (second * 2 ^ 64) ≡ steps 64 second = steps_then 64 64 (second * 2 ^ 64) ∙ ap (steps 64) (steps_down 64 second) in
+    let whole : bit_xor register (little_number 16 xs) ≡ bit_xor (bit_xor register first) (second * 2 ^ 64) = words_apart register first second (little_number 16 xs) (omega arith) (omega (arith, bytes 0, bytes 1, bytes 2, bytes 3, bytes 4, bytes 5, bytes 6, bytes 7)) in
+    let sum : steps 128 (bit_xor register (little_number 16 xs)) ≡ bit_xor (steps 128 (bit_xor register first)) (steps 64 second) =
+    ap (steps 128) whole ∙ (steps_sum 128 (bit_xor register first) (second * 2 ^ 64) ∙ ap (bit_xor (steps 128 (bit_xor register first))) over) in
+    ap (bits 32) (sym sum) ∙ (ap (bits 32) (at_once 16 0 xs register bytes) ∙ one_at_a_time 16 0 xs register bytes small within)
+  where
+    words_apart : (r a b n : ℕ) → n ≡ a + 2 ^ 64 * b → a < 2 ^ 64 → bit_xor r n ≡ bit_xor (bit_xor r a) (b * 2 ^ 64)
+    words_apart r a b n is low =
+        let block = xor_block 64 b 0 0 a (omega arith) low in
+        let left : b * 2 ^ 64 + 0 ≡ b * 2 ^ 64 = omega arith in
+        let right : 0 * 2 ^ 64 + a ≡ a = omega arith in
+        let apart : n ≡ bit_xor a (b * 2 ^ 64) =
+        (let z = xor_zero_r b in let w = xor_zero_l a in let joined : bit_xor b 0 * 2 ^ 64 + bit_xor 0 a ≡ n = omega (arith, is, z, w) in sym joined ∙ sym (rw (left, right) at block)) ∙ xor_comm (b * 2 ^ 64) a in
+        ap (bit_xor r) apart ∙ sym (xor_assoc r a (b * 2 ^ 64))
+
+-- a whole run, added to the register at once
+pub run_bits : (register : ℕ) (xs : List ℕ) (n : ℕ) → ((k : ℕ) → get_or xs k 0 < 256) → register < 2 ^ 32 → length xs ≡ n
+    → bits 32 (steps (8 * n) (bit_xor register (little_number n xs))) ≡ register_after (drop 1 divisor) (bits 32 register) (message_bits xs)
+run_bits register xs n bytes small long =
+    ap (bits 32) (at_once n 0 xs register bytes)
+    ∙ (one_at_a_time n 0 xs register bytes small (omega (arith, long)) ∙ ap (λ (l : List ℕ). register_after (drop 1 divisor) (bits 32 register) (message_bits l)) (take_all n xs (omega (arith, long))))

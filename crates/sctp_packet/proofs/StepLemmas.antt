@@ -7,7 +7,7 @@ use Rattle.std.proofs.Math.Nat.{pow-suc}
 use Rattle.sctp_packet.specs.Tables.{taken_away, step, steps}
 
 -- the two in the middle change places
-medial : (a b c d : ℕ) → bit_xor (bit_xor a b) (bit_xor c d) ≡ bit_xor (bit_xor a c) (bit_xor b d)
+pub medial : (a b c d : ℕ) → bit_xor (bit_xor a b) (bit_xor c d) ≡ bit_xor (bit_xor a c) (bit_xor b d)
 medial a b c d =
     xor_assoc a b (bit_xor c d)
     ∙ (ap (bit_xor a) (sym (xor_assoc b c d) ∙ (ap (λ (x : ℕ). bit_xor x d) (xor_comm b c) ∙ xor_assoc c b d))
@@ -90,27 +90,31 @@ higher n j k a e =
     low_byte_apart n (a / 2 ^ j)
     ∙ ap (λ (x : ℕ). bit_xor (steps n x) (steps (8 + n) (a / 2 ^ j % 256))) (shr-shr a j 8 ∙ ap (λ (i : ℕ). a / 2 ^ i) e)
 
--- what eight bytes leave, the last one first
-abbrev pub eight_left : ℕ → ℕ
-eight_left a =
-    bit_xor (bit_xor (bit_xor (bit_xor (bit_xor (bit_xor (bit_xor (steps 8 (a / 2 ^ 56)) (steps 16 (a / 2 ^ 48 % 256))) (steps 24 (a / 2 ^ 40 % 256)))
-    (steps 32 (a / 2 ^ 32 % 256))) (steps 40 (a / 2 ^ 24 % 256))) (steps 48 (a / 2 ^ 16 % 256))) (steps 56 (a / 2 ^ 8 % 256))) (steps 64 (a % 256))
+-- what eight bytes leave, the last one first, where m zero bits follow
+abbrev pub eight_left : (m : ℕ) → ℕ → ℕ
+eight_left m a =
+    bit_xor (bit_xor (bit_xor (bit_xor (bit_xor (bit_xor (bit_xor (steps (8 + m) (a / 2 ^ 56)) (steps (8 + (8 + m)) (a / 2 ^ 48 % 256))) (steps (8 + (16 + m)) (a / 2 ^ 40 % 256)))
+    (steps (8 + (24 + m)) (a / 2 ^ 32 % 256))) (steps (8 + (32 + m)) (a / 2 ^ 24 % 256))) (steps (8 + (40 + m)) (a / 2 ^ 16 % 256))) (steps (8 + (48 + m)) (a / 2 ^ 8 % 256))) (steps (8 + (56 + m)) (a % 256))
 
-pub eight_apart : (a : ℕ) → steps 64 a ≡ eight_left a
-eight_apart a =
-    low_byte_apart 56 a
-    ∙ ap (λ (x : ℕ). bit_xor x (steps 64 (a % 256)))
-    (higher 48 8 16 a refl
-    ∙ ap (λ (x : ℕ). bit_xor x (steps 56 (a / 2 ^ 8 % 256)))
-    (higher 40 16 24 a refl
-    ∙ ap (λ (x : ℕ). bit_xor x (steps 48 (a / 2 ^ 16 % 256)))
-    (higher 32 24 32 a refl
-    ∙ ap (λ (x : ℕ). bit_xor x (steps 40 (a / 2 ^ 24 % 256)))
-    (higher 24 32 40 a refl
-    ∙ ap (λ (x : ℕ). bit_xor x (steps 32 (a / 2 ^ 32 % 256)))
-    (higher 16 40 48 a refl
-    ∙ ap (λ (x : ℕ). bit_xor x (steps 24 (a / 2 ^ 40 % 256)))
-    (higher 8 48 56 a refl))))))
+-- the byte at j, and what stands above it in the next place
+next_higher : (n k j i a : ℕ) → 8 + n ≡ k → j + 8 ≡ i → steps k (a / 2 ^ j) ≡ bit_xor (steps n (a / 2 ^ i)) (steps (8 + n) (a / 2 ^ j % 256))
+next_higher n k j i a count place = ap (λ (x : ℕ). steps x (a / 2 ^ j)) (sym count) ∙ higher n j i a place
+
+pub eight_apart : (m a : ℕ) → steps (8 + (56 + m)) a ≡ eight_left m a
+eight_apart m a =
+    low_byte_apart (56 + m) a
+    ∙ ap (λ (x : ℕ). bit_xor x (steps (8 + (56 + m)) (a % 256)))
+    (next_higher (48 + m) (56 + m) 8 16 a (omega arith) refl
+    ∙ ap (λ (x : ℕ). bit_xor x (steps (8 + (48 + m)) (a / 2 ^ 8 % 256)))
+    (next_higher (40 + m) (48 + m) 16 24 a (omega arith) refl
+    ∙ ap (λ (x : ℕ). bit_xor x (steps (8 + (40 + m)) (a / 2 ^ 16 % 256)))
+    (next_higher (32 + m) (40 + m) 24 32 a (omega arith) refl
+    ∙ ap (λ (x : ℕ). bit_xor x (steps (8 + (32 + m)) (a / 2 ^ 24 % 256)))
+    (next_higher (24 + m) (32 + m) 32 40 a (omega arith) refl
+    ∙ ap (λ (x : ℕ). bit_xor x (steps (8 + (24 + m)) (a / 2 ^ 32 % 256)))
+    (next_higher (16 + m) (24 + m) 40 48 a (omega arith) refl
+    ∙ ap (λ (x : ℕ). bit_xor x (steps (8 + (16 + m)) (a / 2 ^ 40 % 256)))
+    (next_higher (8 + m) (16 + m) 48 56 a (omega arith) refl))))))
 
 -- a byte is what its number in the table leaves, and the rest comes down
 pub byte_left : (a : ℕ) → bit_xor (a / 2 ^ 8) (steps 8 (a % 256)) ≡ steps 8 a

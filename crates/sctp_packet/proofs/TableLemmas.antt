@@ -7,8 +7,8 @@ use Rattle.sctp_packet.specs.declared.tables.TheConstants.{TABLES}
 use Rattle.sctp_packet.specs.Tables.{step, steps, rows_from}
 use Rattle.sctp_packet.proofs.StepLemmas.{steps_then}
 
--- all 2,048 numbers, computed
-tables_are : TABLES ≡ rows_from 8 (range_with_len 0 256)
+-- all 4,096 numbers, computed
+tables_are : TABLES ≡ rows_from 16 (range_with_len 0 256)
 unfolding step steps rows_from
 tables_are = refl
 
@@ -23,9 +23,9 @@ row_at (suc n) (suc k) b row d few within =
     ∙ (ap (steps (8 * k + 8)) (get_or-map (steps 8) row b 0 0 within)
     ∙ (sym (steps_then 8 (8 * k + 8) (get_or row b 0)) ∙ ap (λ (i : ℕ). steps i (get_or row b 0)) count))
 
-pub entry_is : (place byte : ℕ) (d : List ℕ) → place < 8 → byte < 256 → get_or (get_or TABLES place d) byte 0 ≡ steps (8 * place + 8) byte
+pub entry_is : (place byte : ℕ) (d : List ℕ) → place < 16 → byte < 256 → get_or (get_or TABLES place d) byte 0 ≡ steps (8 * place + 8) byte
 entry_is place byte d few small =
     let same : 0 + byte ≡ byte = omega arith in
     ap (λ (t : List (List ℕ)). get_or (get_or t place d) byte 0) tables_are
-    ∙ (row_at 8 place byte (range_with_len 0 256) d few (omega (arith, length-range_with_len 0 256))
+    ∙ (row_at 16 place byte (range_with_len 0 256) d few (omega (arith, length-range_with_len 0 256))
     ∙ ap (steps (8 * place + 8)) (get_or-range_with_len 0 256 byte 0 small ∙ same))

@@ -2,6 +2,7 @@ pub mod Remainder
 pub mod Checksum
 pub mod Register
 pub mod Tables
+pub mod Folding
 pub mod PacketBytes
 pub mod PacketTree
 pub mod PacketLaws

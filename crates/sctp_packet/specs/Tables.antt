@@ -1,5 +1,5 @@
 -- The register of a checksum as a number, its highest power in the lowest bit, where only zero bits come in. It is a sum without carries of what
--- each of its bytes leaves, so that eight bytes can be taken at once, a table for each place.
+-- each of its bytes leaves, so that sixteen bytes can be taken at once, a table for each place.
 use Rattle.std.specs.Prelude.{◌≡◌, ℕ, zero, suc, ◌+◌, ◌*◌, ◌/◌, ◌%◌, bit_xor, if◌then◌else◌, ◌==◌, List, [], ◌∷◌, ◌++◌, map}
 use Rattle.sctp_packet.specs.Remainder.{zeros, remainder}
 use Rattle.sctp_packet.specs.Checksum.{bits, divisor}

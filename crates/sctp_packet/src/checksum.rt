@@ -1,11 +1,13 @@
-//! CRC32c, by a register that takes eight bytes at a time.
+//! CRC32c, by a register that takes sixteen bytes at a time, where a long run is folded before.
 
-ghost use Rattle.std.specs.Prelude.{◌≡◌, ◌↔◌, ℕ, ◌+◌, ◌*◌, ◌<◌, ◌≤◌, IsTrue, drop, take, length};
+ghost use Rattle.std.specs.Prelude.{◌≡◌, ◌↔◌, ℕ, ◌+◌, ◌*◌, ◌%◌, ◌<◌, ◌≤◌, IsTrue, drop, take, length, bit_xor};
+ghost use Rattle.byteorder.specs.Endian.{little_number};
 ghost use Rattle.sctp_packet.specs.Checksum.{bits, divisor, message_bits, crc32c, IsChecksum};
 ghost use Rattle.sctp_packet.specs.PacketBytes.{IsChecked};
 ghost use Rattle.sctp_packet.specs.Register.{register_after};
 ghost use Rattle.sctp_packet.specs.Tables.{steps, IsEntry};
 
+use crate::folding::{LEFT, MOST, ROOM, fold, leave};
 use crate::tables::TABLES;
 use byteorder::{ByteOrder, LittleEndian};
 
@@ -14,7 +16,11 @@ pub const HEADER: usize = 12;
 /// Where the checksum stands in it, 4 bytes.
 pub(crate) const SUM_AT: usize = 8;
 /// The bytes that are taken at once, a table for each.
-const PLACES: usize = 8;
+const PLACES: usize = 16;
+/// And where there are fewer.
+const HALF: usize = 8;
+/// From so many bytes on a run is folded: then what is saved pays for what is left of it.
+const LONG: usize = 480;
 
 /// The CRC32c of the bytes: the number that the checksum field of a packet holds, the low byte first,
 /// where these are the packet's bytes with that field zero (RFC 9260, 6.8 and appendix A).
@@ -36,17 +42,56 @@ pub(crate) fn is_checked(bytes: &[u8]) -> bool
     LittleEndian::read_u32(&bytes[SUM_AT..]) == !after_all(field, &bytes[HEADER..])
 }
 
-/// The register after the bytes, eight at a time while there are so many.
+/// The register after the bytes, of which long runs are folded.
 fn after_all(register: u32, bytes: &[u8]) -> u32
     ensures { bits 32 result ≡ register_after (drop 1 divisor) (bits 32 register) (message_bits bytes.now) }
 {
     let mut stepped = register;
     let mut rest = bytes;
+    while rest.len() >= LONG {
+        let most = rest.len().min(MOST) / HALF * HALF;
+        stepped = after_long(stepped, &rest[..most]);
+        rest = &rest[most..];
+    }
+    after_short(stepped, rest)
+}
+
+/// The register after a long run of whole words: what is left of it leaves the same where 0 was before.
+fn after_long(register: u32, bytes: &[u8]) -> u32
+    requires words { length bytes.now % 8 ≡ 0 }
+    requires long { 224 ≤ length bytes.now }
+    requires few { length bytes.now ≤ 1_536 }
+    ensures { bits 32 result ≡ register_after (drop 1 divisor) (bits 32 register) (message_bits bytes.now) }
+{
+    let ends = bytes.len() - LEFT;
+    let mut room = [0; ROOM];
+    fold(register, bytes, ends, &mut room);
+    let mut left = [0; LEFT];
+    leave(bytes, &room, ends, &mut left);
+    after_short(0, &left)
+}
+
+/// The register after the bytes, sixteen at a time while there are so many.
+fn after_short(register: u32, bytes: &[u8]) -> u32
+    ensures { bits 32 result ≡ register_after (drop 1 divisor) (bits 32 register) (message_bits bytes.now) }
+{
+    let mut stepped = register;
+    let mut rest = bytes;
     while rest.len() >= PLACES {
-        stepped = after_eight(stepped, rest);
+        stepped = after_sixteen(stepped, rest);
         rest = &rest[PLACES..];
     }
-    after_rest(stepped, rest)
+    after_last(stepped, rest)
+}
+
+/// The register after fewer bytes, of which eight are taken at once, if there are so many.
+fn after_last(register: u32, bytes: &[u8]) -> u32
+    ensures { bits 32 result ≡ register_after (drop 1 divisor) (bits 32 register) (message_bits bytes.now) }
+{
+    if bytes.len() < HALF {
+        return after_rest(register, bytes);
+    }
+    after_rest(after_eight(register, bytes), &bytes[HALF..])
 }
 
 /// The register after the bytes, one at a time.
@@ -68,27 +113,47 @@ fn after_byte(register: u32, byte: u8) -> u32
     (mixed >> 8) ^ entry(0, mixed % 256)
 }
 
-/// The register after the first eight bytes: what each byte leaves, added up, where the first four have the register added.
+/// The register after the first sixteen bytes.
+#[inline(always)]
+fn after_sixteen(register: u32, bytes: &[u8]) -> u32
+    requires { 16 ≤ length bytes.now }
+    ensures { bits 32 result ≡ register_after (drop 1 divisor) (bits 32 register) (message_bits (take 16 bytes.now)) }
+{
+    left_by_eight(register, bytes, HALF) ^ left_by_eight(0, &bytes[HALF..], 0)
+}
+
+/// The register after the first eight bytes.
 #[inline(always)]
 fn after_eight(register: u32, bytes: &[u8]) -> u32
     requires { 8 ≤ length bytes.now }
     ensures { bits 32 result ≡ register_after (drop 1 divisor) (bits 32 register) (message_bits (take 8 bytes.now)) }
 {
+    left_by_eight(register, bytes, 0)
+}
+
+/// What the first eight bytes leave once so many more have come, all zero: what each byte leaves, added up, where the first four have the register
+/// added.
+#[inline(always)]
+fn left_by_eight(register: u32, bytes: &[u8], follow: usize) -> u32
+    requires bytes { 8 ≤ length bytes.now }
+    requires follow { follow ≤ 8 }
+    ensures { result ≡ steps (8 * follow + 64) (bit_xor register (little_number 8 bytes.now)) }
+{
     let mixed = register ^ LittleEndian::read_u32(bytes);
-    entry(0, u32::from(bytes[7]))
-        ^ entry(1, u32::from(bytes[6]))
-        ^ entry(2, u32::from(bytes[5]))
-        ^ entry(3, u32::from(bytes[4]))
-        ^ entry(4, mixed >> 24)
-        ^ entry(5, (mixed >> 16) % 256)
-        ^ entry(6, (mixed >> 8) % 256)
-        ^ entry(7, mixed % 256)
+    entry(follow, u32::from(bytes[7]))
+        ^ entry(follow + 1, u32::from(bytes[6]))
+        ^ entry(follow + 2, u32::from(bytes[5]))
+        ^ entry(follow + 3, u32::from(bytes[4]))
+        ^ entry(follow + 4, mixed >> 24)
+        ^ entry(follow + 5, (mixed >> 16) % 256)
+        ^ entry(follow + 6, (mixed >> 8) % 256)
+        ^ entry(follow + 7, mixed % 256)
 }
 
 /// What the table has for a byte that so many bytes follow.
 #[inline(always)]
 fn entry(place: usize, byte: u32) -> u32
-    requires place { place < 8 }
+    requires place { place < 16 }
     requires byte { byte < 256 }
     ensures steps { result ≡ steps (8 * place + 8) byte }
     ensures remainder { IsEntry place byte result }

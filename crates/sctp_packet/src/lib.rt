@@ -3,6 +3,7 @@
 
 mod checksum;
 mod fault;
+mod folding;
 mod laws;
 mod read;
 mod tables;

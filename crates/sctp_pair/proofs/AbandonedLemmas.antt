@@ -10,7 +10,7 @@ use Rattle.sctp_model.specs.sender.Readers.{abandoned, point}
 use Rattle.sctp_model.specs.end.EndView.{TimedOut, Alarm, InitAlarm, CookieAlarm, DataAlarm, ShutdownAlarm, AckAlarm, EndView, has_association}
 use Rattle.sctp_model.specs.end.Clock.{is_over_at, repeats_of, with_timer, at_moment, closed, expired_timer, settled}
 use Rattle.sctp_model.specs.end.Closing.{rested}
-use Rattle.sctp_model.specs.end.Moments.{after_abandoning, due_again, rung, ring, rung_all, all_alarms, passed, ticked}
+use Rattle.sctp_model.specs.end.Moments.{after_abandoning, due_again, rung, ring, rung_all, all_alarms, waited_in, passed, ticked}
 use Rattle.sctp_model.specs.world.World.{if_newly_abandoned, newly_abandoned}
 use Rattle.sctp_outcomes.specs.Kept.{IsSound}
 use Rattle.sctp_outcomes.proofs.logs.Passed.{moments_keep_logs}
@@ -45,6 +45,11 @@ all_alike : (v : SenderView) (alarms : List Alarm) (e : EndView) → IsGivenAlik
 all_alike v [] e alike = alike
 all_alike v (a ∷ more) e alike = all_alike v more (ring a e) (rung_alike v (is_over_at e.moment (e.timers a).expiry) a e alike)
 
+-- nor is the sender changed where a SACK waited
+waited_alike : (v : SenderView) (b : Bool) (e : EndView) → IsGivenAlike v e → IsGivenAlike v (waited_in b e)
+waited_alike v true e alike = alike
+waited_alike v false e alike = alike
+
 rested_alike : (v : SenderView) (e : EndView) → IsGivenAlike v e → IsGivenAlike v (rested e)
 rested_alike v e alike = rested_cases (IsGivenAlike v) e alike (λ t h d. alike) (λ t h d. alike)
 
@@ -67,7 +72,9 @@ moment_spares e now k reached off = go (has_association e.phase)
 
     go : (b : Bool) → abandoned (if b then passed (at_moment e now) else at_moment e now).sender k ≡ abandoned e.sender k
     go false = refl
-    go true = all_alike u all_alarms (after_abandoning (at_moment e now) u) (rested_alike u left (λ j. refl)) k ∙ spared
+    go true =
+        let rang = rung_all all_alarms (after_abandoning (at_moment e now) u) in
+        waited_alike u (is_over_at rang.moment rang.delayed) rang (all_alike u all_alarms (after_abandoning (at_moment e now) u) (rested_alike u left (λ j. refl))) k ∙ spared
 
 -- what is newly abandoned is abandoned then, and was late
 newly_late : (e : EndView) (now k : ℕ) → e.moment ≤ now → (abandoned (ticked e now).sender k && not (abandoned e.sender k)) ≡ (abandoned (ticked e now).sender k && is_to_expire e.sender now k)

@@ -145,8 +145,8 @@ arrival_plain : (e : EndView) (d : Draw) (p : Packet) (t : EndView) (v : Verdict
 arrival_plain e d p t v (Elsewhere a) r q = absurd (cc)
 arrival_plain e d p t v (NotOurs a b) r q = absurd (cc)
 arrival_plain e d p t v (Stray a b c f) r q = stray_plain e d p r q
-arrival_plain e d p t v (CookieBegins b x n _ h i j k all) r q = acts_plain p.tag _ _ _ x n v all r q
-arrival_plain e d p t v (Heard x n _ h i j all) r q = acts_plain p.tag e _ p.chunks x n v all r q
+arrival_plain e d p t v (CookieBegins b x n _ h i j k all gap left) r q = acts_plain p.tag _ _ _ x n v all r q
+arrival_plain e d p t v (Heard x n _ h i j all gap left) r q = acts_plain p.tag e _ p.chunks x n v all r q
 
 -- an answer to what came
 pub answer_plain : (e : EndView) (now : ℕ) (d : Draw) (o : Option Packet) (t : EndView) (r : Packet) → Receives e now d o t (Answer r) → IsPlain r

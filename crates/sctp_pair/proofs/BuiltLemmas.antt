@@ -98,9 +98,9 @@ abbrev AreOther : List Slot → Type 0
 AreOther [] = Unit {0}
 AreOther (s ∷ ss) = IsOther s × AreOther ss
 
-forward_free : (f : Format) (v : SenderView) → IsFree (forward_chunk_of f v)
-forward_free Plain v = tt
-forward_free Interleaved v = tt
+forward_free : (f : Format) (limit : ℕ) (v : SenderView) → IsFree (forward_chunk_of f limit v)
+forward_free Plain limit v = tt
+forward_free Interleaved limit v = tt
 
 wants_free : (e : EndView) (s : Slot) (x : ChunkMeaning) → IsOther s → Wants e s x → IsFree x
 wants_free e s x other (EchoCookie t xs is) = absurd other
@@ -108,7 +108,7 @@ wants_free e s x other AckCookie = tt
 wants_free e s x other (AckHeartbeat info is) = tt
 wants_free e s x other ReportCauses = tt
 wants_free e s x other (Acknowledge t is) = tt
-wants_free e s x other PassOn = forward_free (format_of e) e.sender
+wants_free e s x other PassOn = forward_free (format_of e) e.configuration.limit e.sender
 wants_free e s x other (SayShutdown c is) = tt
 wants_free e s x other AnswerShutdown = tt
 

@@ -12,15 +12,14 @@ use Rattle.sctp_model.specs.receiver.Reading.{lane_of}
 use Rattle.sctp_model.proofs.receiver.OfLane.{of_says, size_of_lane, repeated_of}
 use Rattle.sctp_model.proofs.receiver.OneStep.{kept_apart}
 use Rattle.sctp_chains.specs.Cells.{IsOf}
-use Rattle.sctp_chains.specs.StandsFor as lane
 use Rattle.sctp_chains.specs.StandsFor.{IsNew}
-use Rattle.sctp_recv.specs.declared.inbound.Inbound.{Inbound}
+use Rattle.sctp_recv.specs.Fields.{inside}
+use Rattle.sctp_recv.specs.declared.stream.Stream.{Stream}
 use Rattle.sctp_chains.specs.Cells.{counted}
 use Rattle.sctp_model.specs.receiver.KeptOfLane.{of_lane}
-use Rattle.sctp_recv.specs.Filed.{IsFiledOn}
+use Rattle.sctp_recv.specs.Filed.{Keeps, IsFiledOn}
 use Rattle.sctp_recv.specs.ReceiverKept.{ReceiverKept, is_below_or_none}
 use Rattle.sctp_recv.specs.SeenKept.{SeenKept}
-use Rattle.sctp_recv.specs.inner.Giving.{lane_in}
 use Rattle.sctp_recv.proofs.AnswerLemmas.{near_small}
 use Rattle.sctp_recv.proofs.RecordedLemmas.{IsKeepable}
 
@@ -45,13 +44,13 @@ chunk_of f p n i reference near late count word = record {
 }
 
 -- what a stream keeps of a kind
-pub lane_filed : {F : Type 0} (f : Format) (kept : List Piece) (s : ℕ) (x : Inbound F) (u : Bool) → IsFiledOn f kept s x → lane.StandsFor f (lane_in x u) (lane_of s u) (of_lane (lane_of s u) kept)
+pub lane_filed : {F : Type 0} (f : Format) (kept : List Piece) (s : ℕ) (x : Stream F) (u : Bool) → IsFiledOn f kept s x → Keeps f (inside x) u (lane_of s u) (of_lane (lane_of s u) kept)
 lane_filed f kept s x true h = h.unordered
 lane_filed f kept s x false h = h.ordered
 
 -- whether a fragment is kept already, told by its stream
-pub held_in_view : {F : Type 0} (f : Format) (v : ReceiverView) (p : PieceMeaning) (n : Option ℕ) (x : Inbound F) (i j : ℕ) (b : Bool) → IsFiledOn f v.kept p.stream x →
-    ((q : ℕ) (l : Lane) (ks : List Piece) → lane.StandsFor f (lane_in x p.unordered) l ks → IsOf f l (counted q p n) → b ≡ is_repeated f ks (counted q p n)) →
+pub held_in_view : {F : Type 0} (f : Format) (v : ReceiverView) (p : PieceMeaning) (n : Option ℕ) (x : Stream F) (i j : ℕ) (b : Bool) → IsFiledOn f v.kept p.stream x →
+    ((q : ℕ) (l : Lane) (ks : List Piece) → Keeps f (inside x) p.unordered l ks → IsOf f l (counted q p n) → b ≡ is_repeated f ks (counted q p n)) →
     IsOf f (lane_of p.stream p.unordered) (counted i p n) → i ≡ j → b ≡ is_repeated f v.kept (counted j p n)
 held_in_view f v p n x i j b own says of same =
     subst (λ (q : ℕ). b ≡ is_repeated f v.kept (counted q p n)) same

@@ -1,5 +1,5 @@
 -- The entries of a FORWARD, ordered by stream: those of one stream skip there what all skip.
-use Rattle.std.proofs.Common.{◌≡◌, ℕ, zero, suc, ◌+◌, ◌-◌, ◌<◌, ◌≤◌, max, true, false, nat_lt, nat_le, List, [], ◌∷◌, ◌++◌, length, get_or, take, drop, map, inl, inr, refl, sym, ◌∙◌, ap, subst, add-one, arith}
+use Rattle.std.proofs.Common.{◌≡◌, ℕ, zero, suc, ◌+◌, ◌-◌, ◌<◌, ◌≤◌, max, true, false, nat_lt, nat_le, Option, List, [], ◌∷◌, ◌++◌, length, get_or, take, drop, map, inl, inr, refl, sym, ◌∙◌, ap, subst, add-one, arith}
 use Rattle.std.specs.List.Sorted.{IsPartitionPoint, IsPartitionedBy, IsPermutation}
 use Rattle.std.specs.List.{Contains}
 use Rattle.std.proofs.lemmas.Bool.{cases_Bool}
@@ -14,10 +14,10 @@ use Rattle.sctp_model.specs.receiver.Reading.{lane_of}
 use Rattle.sctp_model.proofs.receiver.RowFacts.{lanes_same}
 use Rattle.sctp_wire.specs.declared.skips.Skip.{Skip}
 use Rattle.sctp_wire.specs.ChunkTree.{skip_meaning}
-use Rattle.sctp_chains.specs.StandsFor as lane
+use Rattle.sctp_recv.specs.Filed.{Keeps}
 use Rattle.sctp_chains.specs.WholeOf.{from_number}
 use Rattle.sctp_recv.specs.declared.inbound.Inbound.{Inbound}
-use Rattle.sctp_recv.specs.Fields.{stream_of}
+use Rattle.sctp_recv.specs.Fields.{known_of}
 use Rattle.sctp_recv.specs.inner.Giving.{sized, IsDueFrom}
 use Rattle.sctp_recv.specs.inner.Forwarding.{skipped_by, most_skipped, lowest_after, AreByStream, AreEntriesOf, stay, PassesOn}
 
@@ -147,18 +147,18 @@ between_points s es from count front back x at = (
 )
 
 -- what a stream's own entries do there is what all do
-pub passes_own : {F : Type 0} (f : Format) (s jump : ℕ) (all own : List SkipMeaning) (os us : List Piece) (old new : Inbound F) (held left : ℕ) → AreEntriesOf s all own →
+pub passes_own : {F : Type 0} (f : Format) (s jump : ℕ) (all own : List SkipMeaning) (os us : List Piece) (old new : Option (Inbound F)) (held left : ℕ) → AreEntriesOf s all own →
     PassesOn f s jump own os us old new held left → PassesOn f s jump all os us old new held left
 passes_own f s jump all own os us old new held left entries p = record {
   messages = p.messages;
   next = p.next;
-  due = subst (λ (n : ℕ). IsDueFrom f os s old.next n p.messages p.next) (own_lowest f (ordered_lane s) old.next all own entries) p.due;
+  due = subst (λ (n : ℕ). IsDueFrom f os s (known_of old).next n p.messages p.next) (own_lowest f (ordered_lane s) (known_of old).next all own entries) p.due;
   ordered = p.ordered;
-  unordered = subst (λ (n : ℕ). lane.StandsFor f new.unordered (unordered_lane s) (stay f jump n us)) skip p.unordered;
-  stream = p.stream ∙ (λ i. record { next = p.next; skip = skip i; waiting = (stream_of old).waiting ++ p.messages });
+  unordered = subst (λ (n : ℕ). Keeps f new true (unordered_lane s) (stay f jump n us)) skip p.unordered;
+  stream = p.stream ∙ (λ i. record { next = p.next; skip = skip i; waiting = (known_of old).waiting ++ p.messages });
   bytes = p.bytes
       ∙ (λ i. sized (sized (held - sized (size_of_pieces os + size_of_pieces us) + sized (size_of_pieces (from_number p.next os) + size_of_pieces (stay f jump (skip i) us))) + sized (size_of_messages p.messages)));
 }
   where
-    skip : lowest_after f (unordered_lane s) old.skip own ≡ lowest_after f (unordered_lane s) old.skip all
-    skip = own_lowest f (unordered_lane s) old.skip all own entries
+    skip : lowest_after f (unordered_lane s) (known_of old).skip own ≡ lowest_after f (unordered_lane s) (known_of old).skip all
+    skip = own_lowest f (unordered_lane s) (known_of old).skip all own entries

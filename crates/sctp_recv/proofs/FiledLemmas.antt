@@ -1,5 +1,5 @@
 -- Where the chunks kept are, when those of one stream change; and the bytes of all streams' chunks.
-use Rattle.std.proofs.Common.{◌≡◌, ℕ, zero, suc, ◌+◌, ◌<◌, ◌≤◌, ◌⊎◌, List, [], ◌∷◌, ◌++◌, length, set, Option, None, Some, inl, inr, refl, sym, ◌∙◌, ap, subst, arith}
+use Rattle.std.proofs.Common.{◌≡◌, ℕ, zero, suc, ◌+◌, ◌<◌, ◌≤◌, ◌⊎◌, Bool, true, false, List, [], ◌∷◌, ◌++◌, length, set, Option, None, Some, inl, inr, refl, sym, ◌∙◌, ap, subst, arith}
 use Rattle.std.specs.Prelude.{slice_get}
 use Rattle.std.proofs.lemmas.Bool.{cases_eq}
 use Rattle.std.proofs.lemmas.List.{length-set}
@@ -8,12 +8,13 @@ use Rattle.sctp_model.specs.messages.Format.{Format, Kind, Ordered, Unordered, L
 use Rattle.sctp_model.specs.messages.Pieces.{Piece}
 use Rattle.sctp_model.specs.receiver.ReceiverView.{size_of_pieces}
 use Rattle.sctp_model.proofs.receiver.OfLane.{of_more, of_other}
-use Rattle.sctp_chains.specs.StandsFor as lane
+use Rattle.sctp_recv.specs.Fields.{inside}
 use Rattle.sctp_recv.specs.declared.inbound.Inbound.{Inbound}
+use Rattle.sctp_recv.specs.declared.stream.Stream.{Stream}
 use Rattle.sctp_model.specs.receiver.KeptOfLane.{of_lane}
-use Rattle.sctp_recv.specs.Filed.{IsFiledOn, AreFiled}
-use Rattle.sctp_recv.specs.inner.Giving.{HasRoom}
-use Rattle.sctp_recv.specs.inner.Forwarding.{HaveRoom}
+use Rattle.sctp_recv.specs.Filed.{Keeps, SameLanes, IsFiledOn, AreFiled}
+use Rattle.sctp_recv.specs.inner.Giving.{SameChunks}
+use Rattle.sctp_recv.specs.inner.Forwarding.{HasRoomOn, HaveRoom}
 use Rattle.std.proofs.lemmas.Option.{slice_get_within}
 
 -- ---- one element of a list
@@ -47,36 +48,34 @@ one_got o x y a b = cc
 
 -- ---- nothing is kept as yet
 
--- no chunk is kept of a stream
-pub record IsFresh {F : Type 0} (f : Format) (x : Inbound F) : Type 0 where
-  pub ordered : (l : Lane) → lane.StandsFor f x.ordered l []
-  pub unordered : (l : Lane) → lane.StandsFor f x.unordered l []
+-- nothing is known of any of the streams
+abbrev pub AreFresh : {F : Type 0} → List (Stream F) → Type 0
+AreFresh {F} streams = (s : ℕ) (x : Stream F) → slice_get streams s ≡ Some x → inside x ≡ None
 
--- of none of the streams
-abbrev pub AreFresh : {F : Type 0} → Format → List (Inbound F) → Type 0
-AreFresh {F} f streams = (s : ℕ) (x : Inbound F) → slice_get streams s ≡ Some x → IsFresh f x
+pub fresh_more : {F : Type 0} (streams : List (Stream F)) (y : Stream F) → AreFresh streams → inside y ≡ None → AreFresh (streams ++ y ∷ [])
+fresh_more streams y h new s x got = elim (got_more streams y s x got) [ inl old ↦ h s x old | inr is ↦ ap inside (sym is.1) ∙ new ]
 
-pub fresh_more : {F : Type 0} (f : Format) (streams : List (Inbound F)) (y : Inbound F) → AreFresh f streams → IsFresh f y → AreFresh f (streams ++ y ∷ [])
-fresh_more f streams y h new s x got = elim (got_more streams y s x got) [ inl old ↦ h s x old | inr is ↦ subst (IsFresh f) is.1 new ]
-
-pub fresh_filed : {F : Type 0} (f : Format) (streams : List (Inbound F)) → AreFresh f streams → AreFiled f [] streams
-fresh_filed f streams h = record {
-  each = λ s x got. record { ordered = (h s x got).ordered (ordered_lane s); unordered = (h s x got).unordered (unordered_lane s) };
+pub fresh_filed : {F : Type 0} (f : Format) (streams : List (Stream F)) → AreFresh streams → AreFiled f [] streams
+fresh_filed {F} f streams h = record {
+  each = λ s x got. record { ordered = none (inside x) false (ordered_lane s) (h s x got); unordered = none (inside x) true (unordered_lane s) (h s x got) };
   there = λ x has. absurd has;
 }
+  where
+    none : (o : Option (Inbound F)) (u : Bool) (l : Lane) → o ≡ None → Keeps f o u l []
+    none o u l is = subst (λ (p : Option (Inbound F)). Keeps f p u l []) (sym is) refl
 
 -- on so many of the streams touched there is room, also once one stream more has it
-pub room_next : {F : Type 0} (touched : List ℕ) (n s : ℕ) (streams : List (Inbound F)) (y : Inbound F) → HaveRoom touched n streams → slice_get touched n ≡ Some s → s < length streams → HasRoom y 0 →
+pub room_next : {F : Type 0} (touched : List ℕ) (n s : ℕ) (streams : List (Stream F)) (y : Stream F) → HaveRoom touched n streams → slice_get touched n ≡ Some s → s < length streams → HasRoomOn (inside y) →
     HaveRoom touched (n + 1) (set streams s y)
 room_next {F} touched n s streams y h is low room i q z less at_i got = elim (cases_eq q s) [
-  | inl same ↦ subst (λ (w : Inbound F). HasRoom w 0) (one_got (slice_get (set streams s y) s) y z (got_set_same streams s y low) (ap (slice_get (set streams s y)) (sym same) ∙ got)) room
+  | inl same ↦ subst (λ (w : Stream F). HasRoomOn (inside w)) (one_got (slice_get (set streams s y) s) y z (got_set_same streams s y low) (ap (slice_get (set streams s y)) (sym same) ∙ got)) room
   | inr other ↦
       let not_here : i ≡ n → ⊥ = λ e. other (one_got (slice_get touched n) q s (ap (slice_get touched) (sym e) ∙ at_i) is) in
       h i q z (omega (arith, less, not_here)) at_i (sym (got_set_other streams s q y other) ∙ got)
 ]
 
 -- or is not there
-pub room_past : {F : Type 0} (touched : List ℕ) (n s : ℕ) (streams : List (Inbound F)) → HaveRoom touched n streams → slice_get touched n ≡ Some s → length streams ≤ s → HaveRoom touched (n + 1) streams
+pub room_past : {F : Type 0} (touched : List ℕ) (n s : ℕ) (streams : List (Stream F)) → HaveRoom touched n streams → slice_get touched n ≡ Some s → length streams ≤ s → HaveRoom touched (n + 1) streams
 room_past {F} touched n s streams h is past i q z less at_i got = elim (cases_eq i n) [
   | inl e ↦
       let same : q ≡ s = one_got (slice_get touched n) q s (ap (slice_get touched) (sym e) ∙ at_i) is in
@@ -91,32 +90,36 @@ room_past {F} touched n s streams h is past i q z less at_i got = elim (cases_eq
 abbrev pub SameOff : (s : ℕ) → (old new : List Piece) → Type 0
 SameOff s old new = (l : Lane) → (l.stream ≡ s → ⊥) → of_lane l new ≡ of_lane l old
 
-pub filed_as : {F : Type 0} (f : Format) (old new : List Piece) (q : ℕ) (x : Inbound F) → of_lane (ordered_lane q) new ≡ of_lane (ordered_lane q) old → of_lane (unordered_lane q) new ≡ of_lane (unordered_lane q) old →
+pub filed_as : {F : Type 0} (f : Format) (old new : List Piece) (q : ℕ) (x : Stream F) → of_lane (ordered_lane q) new ≡ of_lane (ordered_lane q) old → of_lane (unordered_lane q) new ≡ of_lane (unordered_lane q) old →
     IsFiledOn f old q x → IsFiledOn f new q x
 filed_as f old new q x o u h = record {
-  ordered = subst (λ (ps : List Piece). lane.StandsFor f x.ordered (ordered_lane q) ps) (sym o) h.ordered;
-  unordered = subst (λ (ps : List Piece). lane.StandsFor f x.unordered (unordered_lane q) ps) (sym u) h.unordered;
+  ordered = subst (λ (ps : List Piece). Keeps f (inside x) false (ordered_lane q) ps) (sym o) h.ordered;
+  unordered = subst (λ (ps : List Piece). Keeps f (inside x) true (unordered_lane q) ps) (sym u) h.unordered;
 }
 
-pub filed_set : {F : Type 0} (f : Format) (old new : List Piece) (streams : List (Inbound F)) (s : ℕ) (y : Inbound F) → AreFiled f old streams → s < length streams → IsFiledOn f new s y → SameOff s old new →
+pub filed_set : {F : Type 0} (f : Format) (old new : List Piece) (streams : List (Stream F)) (s : ℕ) (y : Stream F) → AreFiled f old streams → s < length streams → IsFiledOn f new s y → SameOff s old new →
     ((x : Piece) → Has new x → x.lane.stream < length streams) → AreFiled f new (set streams s y)
 filed_set {F} f old new streams s y h low here off there = record {
   each = λ q x got. elim (cases_eq q s) [
     | inl same ↦
         let is : y ≡ x = one_got (slice_get (set streams s y) s) y x (got_set_same streams s y low) (ap (slice_get (set streams s y)) (sym same) ∙ got) in
-        subst (λ (p : ℕ). IsFiledOn f new p x) (sym same) (subst (λ (z : Inbound F). IsFiledOn f new s z) is here)
+        subst (λ (p : ℕ). IsFiledOn f new p x) (sym same) (subst (λ (z : Stream F). IsFiledOn f new s z) is here)
     | inr other ↦ filed_as f old new q x (off (ordered_lane q) other) (off (unordered_lane q) other) (h.each q x (sym (got_set_other streams s q y other) ∙ got))
   ];
   there = λ x has. let m = length-set streams s y in omega (arith, there x has, m);
 }
 
 -- the same chunks, where a stream's chunks are those that they were
-pub filed_same : {F : Type 0} (f : Format) (kept : List Piece) (streams : List (Inbound F)) (s : ℕ) (x y : Inbound F) → AreFiled f kept streams → s < length streams → slice_get streams s ≡ Some x →
-    ((l : Lane) (ks : List Piece) → lane.StandsFor f x.ordered l ks → lane.StandsFor f y.ordered l ks) → ((l : Lane) (ks : List Piece) → lane.StandsFor f x.unordered l ks → lane.StandsFor f y.unordered l ks) →
-    AreFiled f kept (set streams s y)
-filed_same f kept streams s x y h low got o u =
-    filed_set f kept kept streams s y h low (record { ordered = o (ordered_lane s) _ (h.each s x got).ordered; unordered = u (unordered_lane s) _ (h.each s x got).unordered })
+pub filed_same : {F : Type 0} (f : Format) (kept : List Piece) (streams : List (Stream F)) (s : ℕ) (x y : Stream F) → AreFiled f kept streams → s < length streams → slice_get streams s ≡ Some x →
+    SameLanes f x y → AreFiled f kept (set streams s y)
+filed_same f kept streams s x y h low got same =
+    filed_set f kept kept streams s y h low (record { ordered = same false (ordered_lane s) _ (h.each s x got).ordered; unordered = same true (unordered_lane s) _ (h.each s x got).unordered })
     (λ l other. refl) h.there
+
+-- what a stream's own struct says of either kind
+pub same_lanes : {F : Type 0} (f : Format) (old new : Inbound F) → SameChunks f old new → (u : Bool) (l : Lane) (kept : List Piece) → Keeps f (Some old) u l kept → Keeps f (Some new) u l kept
+same_lanes f old new same true l kept is = same.1 l kept is
+same_lanes f old new same false l kept is = same.0 l kept is
 
 -- ---- bytes
 

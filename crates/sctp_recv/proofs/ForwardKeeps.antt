@@ -19,7 +19,7 @@ use Rattle.sctp_model.proofs.receiver.HeldBytes.{all_holds, filter_size}
 use Rattle.sctp_model.proofs.receiver.Filters.{filter_turned, filter_where, filter_none}
 use Rattle.sctp_model.proofs.receiver.OfLane.{of_says}
 use Rattle.sctp_model.proofs.receiver.OneStep.{filter_has, fewer_apart}
-use Rattle.sctp_recv.specs.declared.inbound.Inbound.{Inbound}
+use Rattle.sctp_recv.specs.declared.stream.Stream.{Stream}
 use Rattle.sctp_recv.specs.Fields.{stream_of}
 use Rattle.sctp_model.specs.receiver.KeptOfLane.{of_lane}
 use Rattle.sctp_recv.specs.Filed.{AreFiled}
@@ -69,11 +69,11 @@ module _ (f : Format) (k : ReceiverKept) (v : ReceiverView) (x : ForwardMeaning)
   abbrev stays : Piece → Bool
   stays y = model.stays_by y.lane.kind f passed y
 
-  module _ {F : Type 0} (streams : List (Inbound F)) (streams_are : k.streams ≡ map stream_of streams) where
+  module _ {F : Type 0} (streams : List (Stream F)) (streams_are : k.streams ≡ map stream_of streams) where
     count : length k.streams ≡ length streams
     count = ap (λ (ss : List StreamKept). length ss) streams_are ∙ length-map streams stream_of
 
-    pub stream_is : (q : ℕ) (z : Inbound F) → slice_get streams q ≡ Some z → stream_at k.streams q ≡ stream_of z
+    pub stream_is : (q : ℕ) (z : Stream F) → slice_get streams q ≡ Some z → stream_at k.streams q ≡ stream_of z
     stream_is q z got = ap (λ (ss : List StreamKept). stream_at ss q) streams_are ∙ got_stream streams q z got
 
     ordered_stay : (q : ℕ) → of_lane (ordered_lane q) left.kept ≡ of_lane (ordered_lane q) v.kept
@@ -81,13 +81,13 @@ module _ (f : Format) (k : ReceiverKept) (v : ReceiverView) (x : ForwardMeaning)
         filter_turned (λ (y : Piece). same_lane y.lane (ordered_lane q)) stays v.kept
         ∙ filter_none stays (of_lane (ordered_lane q) v.kept) (λ y has. ap (λ (l : Lane). model.stays_by l.kind f passed y) (of_says (ordered_lane q) v.kept y has).1)
 
-    skip_now : (q : ℕ) (z : Inbound F) → slice_get streams q ≡ Some z → passed.skip (unordered_lane q) ≡ lowest_after f (unordered_lane q) z.skip x.skips
+    skip_now : (q : ℕ) (z : Stream F) → slice_get streams q ≡ Some z → passed.skip (unordered_lane q) ≡ lowest_after f (unordered_lane q) (stream_of z).skip x.skips
     skip_now q z got = unordered_read f v q x.skips ∙ ap (λ (n : ℕ). lowest_after f (unordered_lane q) n x.skips) (h.skip q ∙ ap (λ (a : StreamKept). a.skip) (stream_is q z got))
 
-    unordered_stay : (q : ℕ) (z : Inbound F) → slice_get streams q ≡ Some z → of_lane (unordered_lane q) left.kept ≡ stay f i (lowest_after f (unordered_lane q) z.skip x.skips) (of_lane (unordered_lane q) v.kept)
+    unordered_stay : (q : ℕ) (z : Stream F) → slice_get streams q ≡ Some z → of_lane (unordered_lane q) left.kept ≡ stay f i (lowest_after f (unordered_lane q) (stream_of z).skip x.skips) (of_lane (unordered_lane q) v.kept)
     unordered_stay q z got =
         filter_turned (λ (y : Piece). same_lane y.lane (unordered_lane q)) stays v.kept
-        ∙ filter_where stays (λ (y : Piece). not (lets_go f y.index y.number i (lowest_after f (unordered_lane q) z.skip x.skips))) (of_lane (unordered_lane q) v.kept)
+        ∙ filter_where stays (λ (y : Piece). not (lets_go f y.index y.number i (lowest_after f (unordered_lane q) (stream_of z).skip x.skips))) (of_lane (unordered_lane q) v.kept)
         (λ y has.
         let lane = (of_says (unordered_lane q) v.kept y has).1 in
         ap (λ (l : Lane). model.stays_by l.kind f passed y) lane
@@ -112,7 +112,7 @@ module _ (f : Format) (k : ReceiverKept) (v : ReceiverView) (x : ForwardMeaning)
 
     -- ---- what it leaves
 
-    module _ (t : ReceiverView) (gives : GivesAll f (length streams) left t) (news : List (Inbound F)) (size : length news ≡ length streams) (held : ℕ) (p : ArePassed f t news held) (seen : SeenKept)
+    module _ (t : ReceiverView) (gives : GivesAll f (length streams) left t) (news : List (Stream F)) (size : length news ≡ length streams) (held : ℕ) (p : ArePassed f t news held) (seen : SeenKept)
         (jumps : Jumps k.seen seen i) where
       served : AreServed f (length streams) left t
       served = all_served f (length streams) left t gives
@@ -120,7 +120,7 @@ module _ (f : Format) (k : ReceiverKept) (v : ReceiverView) (x : ForwardMeaning)
       fewer : (y : Piece) → Has t.kept y → Has v.kept y
       fewer y has = filter_has stays v.kept y (served.giving.fewer y has)
 
-      each_field : {A : Type 0} (field : StreamKept → A) (new : ℕ → A) → ((q : ℕ) (z : Inbound F) → slice_get news q ≡ Some z → new q ≡ field (stream_of z)) →
+      each_field : {A : Type 0} (field : StreamKept → A) (new : ℕ → A) → ((q : ℕ) (z : Stream F) → slice_get news q ≡ Some z → new q ≡ field (stream_of z)) →
           ((q : ℕ) → length streams ≤ q → new q ≡ field FRESH) → (q : ℕ) → new q ≡ field (stream_at (map stream_of news) q)
       each_field field new there past q = elim (cases_lt q (length streams)) [
         | inl low ↦

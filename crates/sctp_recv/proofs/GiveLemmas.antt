@@ -13,7 +13,7 @@ use Rattle.sctp_model.specs.receiver.ReceiverView.{Handed}
 use Rattle.sctp_chains.specs.StandsFor as lane
 use Rattle.sctp_chains.specs.StandsFor.{chain_count}
 use Rattle.sctp_recv.specs.declared.inbound.Inbound.{Inbound}
-use Rattle.sctp_recv.specs.Fields.{stream_of}
+use Rattle.sctp_recv.specs.Fields.{inbound_of}
 use Rattle.sctp_recv.specs.ReceiverKept.{StreamKept}
 use Rattle.sctp_recv.specs.inner.Giving.{sized, AreCounted, IsDueFrom, IsRest, IsDueSoFar, IsHandedSoFar, GivesDue}
 use Rattle.sctp_recv.specs.HandedOf.{handed_of}
@@ -25,7 +25,7 @@ ordered_numbered Plain = refl
 ordered_numbered Interleaved = refl
 
 -- what is handed over of a stream that says the same, and keeps the same unordered chunks
-pub gives_from : {F : Type 0} (f : Format) (s : ℕ) (kept : List Piece) (mid old new : Inbound F) (given : ℕ) → GivesDue f s mid.next kept mid new given → stream_of mid ≡ stream_of old →
+pub gives_from : {F : Type 0} (f : Format) (s : ℕ) (kept : List Piece) (mid old new : Inbound F) (given : ℕ) → GivesDue f s mid.next kept mid new given → inbound_of mid ≡ inbound_of old →
     ((l : Lane) (ks : List Piece) → lane.StandsFor f old.unordered l ks → lane.StandsFor f mid.unordered l ks) → GivesDue f s old.next kept old new given
 gives_from f s kept mid old new given h same others = record {
   messages = h.messages;
@@ -44,7 +44,7 @@ handed_none f s floor kept start = record {
   within = λ x there. there;
   rests = rest_first start.next kept;
   due = due_first f kept s start.next floor;
-  stream = λ i. record (stream_of start) { waiting = sym (append-nil (stream_of start).waiting) i };
+  stream = λ i. record (inbound_of start) { waiting = sym (append-nil (inbound_of start).waiting) i };
   others = λ l ks is. is;
   bytes = refl;
 }

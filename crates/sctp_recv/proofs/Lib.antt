@@ -27,4 +27,5 @@ mod PartLemmas
 mod WireLemmas
 mod StreamLemmas
 mod BlockLemmas
+mod GapLemmas
 mod ReceiverSteps

@@ -1,5 +1,5 @@
 -- A FORWARD on one stream after the other: what is due on each is handed over in a view, and the bytes held are counted.
-use Rattle.std.proofs.Common.{◌≡◌, ℕ, suc, ◌+◌, ◌-◌, ◌^◌, ◌<◌, ◌≤◌, List, [], ◌∷◌, ◌++◌, length, set, Some, inl, inr, refl, sym, ◌∙◌, ap, subst, arith}
+use Rattle.std.proofs.Common.{◌≡◌, ℕ, suc, ◌+◌, ◌-◌, ◌^◌, ◌<◌, ◌≤◌, true, false, List, [], ◌∷◌, ◌++◌, length, set, Some, inl, inr, refl, sym, ◌∙◌, ap, subst, arith}
 use Rattle.std.specs.Prelude.{not, slice_get}
 use Rattle.std.proofs.lemmas.Bool.{cases_eq}
 use Rattle.sctp_model.specs.numbers.Lists.{Has, at}
@@ -14,12 +14,11 @@ use Rattle.sctp_model.proofs.receiver.HeldBytes.{filter_size}
 use Rattle.sctp_model.proofs.receiver.OfLane.{whole_of, of_below, of_below_other, off_below, size_of_lane}
 use Rattle.sctp_model.proofs.receiver.OneStep.{filter_has}
 use Rattle.sctp_model.proofs.receiver.Sizes.{due_size}
-use Rattle.sctp_chains.specs.StandsFor as lane
 use Rattle.sctp_chains.specs.WholeOf.{from_number}
-use Rattle.sctp_recv.specs.declared.inbound.Inbound.{Inbound}
-use Rattle.sctp_recv.specs.Fields.{stream_of}
+use Rattle.sctp_recv.specs.declared.stream.Stream.{Stream}
+use Rattle.sctp_recv.specs.Fields.{inside, stream_of}
 use Rattle.sctp_model.specs.receiver.KeptOfLane.{of_lane}
-use Rattle.sctp_recv.specs.Filed.{IsFiledOn}
+use Rattle.sctp_recv.specs.Filed.{Keeps, IsFiledOn}
 use Rattle.sctp_recv.specs.ReceiverKept.{StreamKept}
 use Rattle.sctp_recv.specs.inner.Giving.{sized, IsDueView}
 use Rattle.sctp_recv.specs.inner.Forwarding.{lowest_after, stay, IsQuiet, PassesOn, IsStreamOf, AreToPass}
@@ -27,9 +26,9 @@ use Rattle.sctp_recv.proofs.StreamLemmas.{waiting_set, size_append}
 use Rattle.sctp_recv.proofs.FiledLemmas.{got_set_same, got_set_other, one_got, sum_to, sum_same, sum_upto, stream_size, all_sizes}
 
 -- What came of the streams below k, in a view that r leads to.
-pub record IsUpTo {F : Type 0} (f : Format) (v r : ReceiverView) (olds now : List (Inbound F)) (bytes left k : ℕ) (t : ReceiverView) : Type 0 where
+pub record IsUpTo {F : Type 0} (f : Format) (v r : ReceiverView) (olds now : List (Stream F)) (bytes left k : ℕ) (t : ReceiverView) : Type 0 where
   pub gives : GivesAll f k r t
-  pub done : (q : ℕ) (x : Inbound F) → q < k → slice_get now q ≡ Some x → IsFiledOn f t.kept q x × IsStreamOf t q x × (t.skip (unordered_lane q) ≡ x.skip)
+  pub done : (q : ℕ) (x : Stream F) → q < k → slice_get now q ≡ Some x → IsFiledOn f t.kept q x × IsStreamOf t q x × (t.skip (unordered_lane q) ≡ (stream_of x).skip)
   pub later : (q : ℕ) → k ≤ q → slice_get now q ≡ slice_get olds q
   pub kept : (q : ℕ) → k ≤ q → of_lane (ordered_lane q) t.kept ≡ of_lane (ordered_lane q) r.kept
   pub loose : (q : ℕ) → of_lane (unordered_lane q) t.kept ≡ of_lane (unordered_lane q) r.kept
@@ -41,7 +40,7 @@ pub record IsUpTo {F : Type 0} (f : Format) (v r : ReceiverView) (olds now : Lis
   pub less : sum_to (stream_size t.kept) k + size_of_waiting t.waiting (length olds) ≤ sum_to (stream_size v.kept) k + size_of_waiting v.waiting (length olds)
   pub more : size_of_waiting v.waiting (length olds) ≤ size_of_waiting t.waiting (length olds)
 
-pub upto_first : {F : Type 0} (f : Format) (jump : ℕ) (xs : List SkipMeaning) (v r : ReceiverView) (olds : List (Inbound F)) (held : ℕ) → AreToPass f jump xs v r olds held → IsUpTo f v r olds olds held held 0 r
+pub upto_first : {F : Type 0} (f : Format) (jump : ℕ) (xs : List SkipMeaning) (v r : ReceiverView) (olds : List (Stream F)) (held : ℕ) → AreToPass f jump xs v r olds held → IsUpTo f v r olds olds held held 0 r
 upto_first f jump xs v r olds held h = record {
   gives = refl;
   done = λ q x low got. absurd (omega (arith, low));
@@ -75,12 +74,12 @@ lanes_apart q p other e = other (ap (λ (l : Lane). l.stream) e)
 kinds_apart : (q p : ℕ) → unordered_lane q ≡ ordered_lane p → ⊥
 kinds_apart q p e = let no : Unordered ≡ Ordered = ap (λ (l : Lane). l.kind) e in cc
 
-module _ {F : Type 0} (f : Format) (jump : ℕ) (xs : List SkipMeaning) (v r : ReceiverView) (olds now : List (Inbound F)) (held left k : ℕ) (t : ReceiverView) (h : AreToPass f jump xs v r olds held)
-    (u : IsUpTo f v r olds now held left k t) (x : Inbound F) (low : k < length olds) (size : length now ≡ length olds) (got : slice_get olds k ≡ Some x) where
+module _ {F : Type 0} (f : Format) (jump : ℕ) (xs : List SkipMeaning) (v r : ReceiverView) (olds now : List (Stream F)) (held left k : ℕ) (t : ReceiverView) (h : AreToPass f jump xs v r olds held)
+    (u : IsUpTo f v r olds now held left k t) (x : Stream F) (low : k < length olds) (size : length now ≡ length olds) (got : slice_get olds k ≡ Some x) where
   own : of_lane (ordered_lane k) t.kept ≡ of_lane (ordered_lane k) v.kept
   own = u.kept k (omega arith) ∙ h.ordered k
 
-  next_is : t.next k ≡ x.next
+  next_is : t.next k ≡ (stream_of x).next
   next_is = u.next k (omega arith) ∙ ap (λ (g : ℕ → ℕ). g k) h.next ∙ (h.stream k x got).next
 
   waiting_is : t.waiting k ≡ (stream_of x).waiting
@@ -89,7 +88,7 @@ module _ {F : Type 0} (f : Format) (jump : ℕ) (xs : List SkipMeaning) (v r : R
   skip_is : t.skip (ordered_lane k) ≡ r.skip (ordered_lane k)
   skip_is = ap (λ (g : Lane → ℕ). g (ordered_lane k)) u.skip
 
-  view : IsDueView f (of_lane (ordered_lane k) v.kept) k x.next (lowest_after f (ordered_lane k) x.next xs) t
+  view : IsDueView f (of_lane (ordered_lane k) v.kept) k (stream_of x).next (lowest_after f (ordered_lane k) (stream_of x).next xs) t
   view = record {
     same = own;
     above = let both = h.floor k x got in let s = skip_is in omega (arith, both, s);
@@ -109,14 +108,14 @@ module _ {F : Type 0} (f : Format) (jump : ℕ) (xs : List SkipMeaning) (v r : R
   under = let sum = u.held in let less = u.less in omega (arith, sum, less)
 
   -- a stream that is quiet is passed as it is
-  pub nothing : IsQuiet f jump xs v k x → PassesOn f k jump xs (of_lane (ordered_lane k) v.kept) (of_lane (unordered_lane k) v.kept) x x left left
+  pub nothing : IsQuiet f jump xs v k x → PassesOn f k jump xs (of_lane (ordered_lane k) v.kept) (of_lane (unordered_lane k) v.kept) (inside x) (inside x) left left
   nothing q = record {
     messages = [];
-    next = x.next;
-    due = λ w is. Stop x.next (let above = is.above in let same = q.ordered in omega (arith, above, same)) (none_as w is.same);
-    ordered = subst (λ (ps : List Piece). lane.StandsFor f x.ordered (ordered_lane k) ps) (sym q.clear) (h.filed.each k x got).ordered;
-    unordered = subst (λ (ps : List Piece). lane.StandsFor f x.unordered (unordered_lane k) ps) (sym none_go) (h.filed.each k x got).unordered;
-    stream = λ i. record { next = x.next; skip = sym q.unordered i; waiting = sym (none_more (stream_of x).waiting) i };
+    next = (stream_of x).next;
+    due = λ w is. Stop (stream_of x).next (let above = is.above in let same = q.ordered in omega (arith, above, same)) (none_as w is.same);
+    ordered = subst (λ (ps : List Piece). Keeps f (inside x) false (ordered_lane k) ps) (sym q.clear) (h.filed.each k x got).ordered;
+    unordered = subst (λ (ps : List Piece). Keeps f (inside x) true (unordered_lane k) ps) (sym none_go) (h.filed.each k x got).unordered;
+    stream = λ i. record { next = (stream_of x).next; skip = sym q.unordered i; waiting = sym (none_more (stream_of x).waiting) i };
     bytes =
         let same = ap size_of_pieces q.clear in
         let loose = ap size_of_pieces none_go in
@@ -126,18 +125,18 @@ module _ {F : Type 0} (f : Format) (jump : ℕ) (xs : List SkipMeaning) (v r : R
         omega (arith, same, loose, own_part, small, low_left);
   }
     where
-      none_as : (w : ReceiverView) → of_lane (ordered_lane k) w.kept ≡ of_lane (ordered_lane k) v.kept → HasNoWhole f w.kept (ordered_lane k) x.next
+      none_as : (w : ReceiverView) → of_lane (ordered_lane k) w.kept ≡ of_lane (ordered_lane k) v.kept → HasNoWhole f w.kept (ordered_lane k) (stream_of x).next
       none_as w same ys whole = q.none ys
-          ((whole_of f v.kept (ordered_lane k) x.next ys).1 (subst (λ (ps : List Piece). IsWholeNumber f ps (ordered_lane k) x.next ys) same ((whole_of f w.kept (ordered_lane k) x.next ys).0 whole)))
+          ((whole_of f v.kept (ordered_lane k) (stream_of x).next ys).1 (subst (λ (ps : List Piece). IsWholeNumber f ps (ordered_lane k) (stream_of x).next ys) same ((whole_of f w.kept (ordered_lane k) (stream_of x).next ys).0 whole)))
 
       none_more : (ms : List Handed) → ms ++ [] ≡ ms
       none_more [] = refl
       none_more (m ∷ ms) = ap (λ (os : List Handed). m ∷ os) (none_more ms)
 
-      none_go : stay f jump (lowest_after f (unordered_lane k) x.skip xs) (of_lane (unordered_lane k) v.kept) ≡ of_lane (unordered_lane k) v.kept
+      none_go : stay f jump (lowest_after f (unordered_lane k) (stream_of x).skip xs) (of_lane (unordered_lane k) v.kept) ≡ of_lane (unordered_lane k) v.kept
       none_go = ap (λ (n : ℕ). stay f jump n (of_lane (unordered_lane k) v.kept)) q.unordered ∙ q.stays
 
-  module _ (y : Inbound F) (now_left : ℕ) (p : PassesOn f k jump xs (of_lane (ordered_lane k) v.kept) (of_lane (unordered_lane k) v.kept) x y left now_left) where
+  module _ (y : Stream F) (now_left : ℕ) (p : PassesOn f k jump xs (of_lane (ordered_lane k) v.kept) (of_lane (unordered_lane k) v.kept) (inside x) (inside y) left now_left) where
     due : IsDue f t k (t.next k) p.messages p.next
     due = subst (λ (n : ℕ). IsDue f t k n p.messages p.next) (sym next_is) (p.due t view)
 
@@ -150,14 +149,14 @@ module _ {F : Type 0} (f : Format) (jump : ℕ) (xs : List SkipMeaning) (v r : R
     unordered_off : (q : ℕ) → of_lane (unordered_lane q) (without_below t.kept k p.next) ≡ of_lane (unordered_lane q) t.kept
     unordered_off q = of_below_other (unordered_lane q) k p.next t.kept (kinds_apart q k)
 
-    loose_after : of_lane (unordered_lane k) (without_below t.kept k p.next) ≡ stay f jump (lowest_after f (unordered_lane k) x.skip xs) (of_lane (unordered_lane k) v.kept)
+    loose_after : of_lane (unordered_lane k) (without_below t.kept k p.next) ≡ stay f jump (lowest_after f (unordered_lane k) (stream_of x).skip xs) (of_lane (unordered_lane k) v.kept)
     loose_after = unordered_off k ∙ u.loose k ∙ h.unordered k x got
 
     -- the stream itself
     here : IsFiledOn f (without_below t.kept k p.next) k y
     here = record {
-      ordered = subst (λ (ps : List Piece). lane.StandsFor f y.ordered (ordered_lane k) ps) (sym own_after) p.ordered;
-      unordered = subst (λ (ps : List Piece). lane.StandsFor f y.unordered (unordered_lane k) ps) (sym loose_after) p.unordered;
+      ordered = subst (λ (ps : List Piece). Keeps f (inside y) false (ordered_lane k) ps) (sym own_after) p.ordered;
+      unordered = subst (λ (ps : List Piece). Keeps f (inside y) true (unordered_lane k) ps) (sym loose_after) p.unordered;
     }
 
     says : IsStreamOf (handed_ordered t k p.messages p.next) k y
@@ -167,12 +166,12 @@ module _ {F : Type 0} (f : Format) (jump : ℕ) (xs : List SkipMeaning) (v r : R
     }
 
     -- one that was done before
-    still : (q : ℕ) (z : Inbound F) → (q ≡ k → ⊥) → IsFiledOn f t.kept q z × IsStreamOf t q z × (t.skip (unordered_lane q) ≡ z.skip) →
-        IsFiledOn f (without_below t.kept k p.next) q z × IsStreamOf (handed_ordered t k p.messages p.next) q z × (t.skip (unordered_lane q) ≡ z.skip)
+    still : (q : ℕ) (z : Stream F) → (q ≡ k → ⊥) → IsFiledOn f t.kept q z × IsStreamOf t q z × (t.skip (unordered_lane q) ≡ (stream_of z).skip) →
+        IsFiledOn f (without_below t.kept k p.next) q z × IsStreamOf (handed_ordered t k p.messages p.next) q z × (t.skip (unordered_lane q) ≡ (stream_of z).skip)
     still q z other (on, stream, skip) = (
       record {
-        ordered = subst (λ (ps : List Piece). lane.StandsFor f z.ordered (ordered_lane q) ps) (sym (ordered_off q other)) on.ordered;
-        unordered = subst (λ (ps : List Piece). lane.StandsFor f z.unordered (unordered_lane q) ps) (sym (unordered_off q)) on.unordered;
+        ordered = subst (λ (ps : List Piece). Keeps f (inside z) false (ordered_lane q) ps) (sym (ordered_off q other)) on.ordered;
+        unordered = subst (λ (ps : List Piece). Keeps f (inside z) true (unordered_lane q) ps) (sym (unordered_off q)) on.unordered;
       },
       record {
         next = at_elsewhere t.next k p.next q other ∙ stream.next;
@@ -194,7 +193,7 @@ module _ {F : Type 0} (f : Format) (jump : ℕ) (xs : List SkipMeaning) (v r : R
 
     unordered_less : size_of_pieces (of_lane (unordered_lane k) (without_below t.kept k p.next)) ≤ size_of_pieces (of_lane (unordered_lane k) v.kept)
     unordered_less =
-        let less = filter_size (λ (z : Piece). not (lets_go f z.index z.number jump (lowest_after f (unordered_lane k) x.skip xs))) (of_lane (unordered_lane k) v.kept) in
+        let less = filter_size (λ (z : Piece). not (lets_go f z.index z.number jump (lowest_after f (unordered_lane k) (stream_of x).skip xs))) (of_lane (unordered_lane k) v.kept) in
         let same = ap size_of_pieces loose_after in
         omega (arith, less, same)
 
@@ -224,8 +223,8 @@ module _ {F : Type 0} (f : Format) (jump : ℕ) (xs : List SkipMeaning) (v r : R
         | inl same ↦
             let is : y ≡ z = one_got (slice_get (set now k y) k) y z (got_set_same now k y (omega (arith, low, size))) (ap (slice_get (set now k y)) (sym same) ∙ at_q) in
             let skip = ap (λ (g : Lane → ℕ). g (unordered_lane k)) u.skip ∙ h.skip k x got ∙ sym (ap (λ (a : StreamKept). a.skip) p.stream) in
-            subst (λ (i : ℕ). IsFiledOn f (without_below t.kept k p.next) i z × IsStreamOf (handed_ordered t k p.messages p.next) i z × (t.skip (unordered_lane i) ≡ z.skip)) (sym same)
-            (subst (λ (w : Inbound F). IsFiledOn f (without_below t.kept k p.next) k w × IsStreamOf (handed_ordered t k p.messages p.next) k w × (t.skip (unordered_lane k) ≡ w.skip)) is (here, says, skip))
+            subst (λ (i : ℕ). IsFiledOn f (without_below t.kept k p.next) i z × IsStreamOf (handed_ordered t k p.messages p.next) i z × (t.skip (unordered_lane i) ≡ (stream_of z).skip)) (sym same)
+            (subst (λ (w : Stream F). IsFiledOn f (without_below t.kept k p.next) k w × IsStreamOf (handed_ordered t k p.messages p.next) k w × (t.skip (unordered_lane k) ≡ (stream_of w).skip)) is (here, says, skip))
         | inr other ↦ still q z other (u.done q z (omega (arith, less, other)) (sym (got_set_other now k q y other) ∙ at_q))
       ];
       later = λ q high. got_set_other now k q y (λ e. omega (arith, high, e)) ∙ u.later q (omega (arith, high));

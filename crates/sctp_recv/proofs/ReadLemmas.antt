@@ -13,17 +13,15 @@ use Rattle.sctp_model.specs.receiver.ReceiverView.{ReceiverView}
 use Rattle.sctp_model.specs.receiver.Reading.{lane_of, piece_at}
 use Rattle.sctp_model.specs.receiver.PieceTaken.{is_passed, is_repeated}
 use Rattle.sctp_chains.specs.Cells.{IsOf, counted}
-use Rattle.sctp_chains.specs.StandsFor as lane
 use Rattle.sctp_recv.specs.declared.answer.Row.TheVariants.{Passed, NoRoom, Taken}
-use Rattle.sctp_recv.specs.declared.inbound.Inbound.{Inbound}
+use Rattle.sctp_recv.specs.declared.stream.Stream.{Stream}
 use Rattle.sctp_recv.specs.declared.receiver.Receiver.{Receiver}
-use Rattle.sctp_recv.specs.Fields.{stream_of}
-use Rattle.sctp_recv.specs.Filed.{IsFiledOn}
+use Rattle.sctp_recv.specs.Fields.{inside, stream_of}
+use Rattle.sctp_recv.specs.Filed.{Keeps, IsFiledOn}
 use Rattle.sctp_recv.specs.KeptOf.{kept_of}
 use Rattle.sctp_recv.specs.ReceiverKept.{StreamKept, ReceiverKept, stream_at, reference_of, is_below_or_none}
 use Rattle.sctp_recv.specs.SeenKept.{is_reached, AreWithin}
 use Rattle.sctp_recv.specs.StandsFor.{KeepsView, StandsFor}
-use Rattle.sctp_recv.specs.inner.Giving.{lane_in}
 use Rattle.sctp_recv.specs.inner.Rows.{IsAbove, IsNewIndex, IsRowOf}
 use Rattle.sctp_recv.proofs.AnswerLemmas.{new_index, row_passed, row_room, row_taken, number_same, passed_late, passed_is, near_small}
 use Rattle.sctp_recv.proofs.ChunkLemmas.{chunk_of, held_in_view}
@@ -34,7 +32,7 @@ abbrev pub comes_late : Format → PieceMeaning → StreamKept → Option ℕ �
 comes_late f p s n = is_numbered f (lane_kind p.unordered) && is_below_or_none (reference_of s (lane_kind p.unordered)) n
 
 -- The chunk p has the new index i, and its stream x reads the number n for it; it says whether p comes too late.
-pub record IsRead {F : Type 0} (f : Format) (k : ReceiverKept) (v : ReceiverView) (p : PieceMeaning) (i : ℕ) (x : Inbound F) (n : Option ℕ) (late : Bool) : Type 0 where
+pub record IsRead {F : Type 0} (f : Format) (k : ReceiverKept) (v : ReceiverView) (p : PieceMeaning) (i : ℕ) (x : Stream F) (n : Option ℕ) (late : Bool) : Type 0 where
   pub keeps : KeepsView f k v
   pub within : AreWithin (k.seen.cumulative + WINDOW) k.seen.runs
   pub above : IsAbove k.initial k.seen.cumulative p.tsn i
@@ -46,7 +44,7 @@ pub record IsRead {F : Type 0} (f : Format) (k : ReceiverKept) (v : ReceiverView
   pub is_late : late ≡ comes_late f p (stream_of x) n
 
 -- what the calls say that read it: the cumulative index c, the stream's place s, and whether the index was reached
-pub read_at : {F : Type 0} (f : Format) (r : Receiver F) (v : ReceiverView) (p : PieceMeaning) (c i s : ℕ) (x : Inbound F) (n : Option ℕ) (reached late : Bool) (kind : Kind) → kind ≡ lane_kind p.unordered → StandsFor f r v → c ≡ r.seen.kept.cumulative →
+pub read_at : {F : Type 0} (f : Format) (r : Receiver F) (v : ReceiverView) (p : PieceMeaning) (c i s : ℕ) (x : Stream F) (n : Option ℕ) (reached late : Bool) (kind : Kind) → kind ≡ lane_kind p.unordered → StandsFor f r v → c ≡ r.seen.kept.cumulative →
     AreWithin (r.seen.kept.cumulative + WINDOW) r.seen.kept.runs → IsAbove r.initial c p.tsn i → reached ≡ is_reached r.seen.kept i → reached ≡ false → s ≡ p.stream → s < length r.streams.items →
     x ≡ get_or r.streams.items s x → n ≡ number_near f kind p.number (reference_of (stream_of x) kind) → late ≡ (is_numbered f kind && is_below_or_none (reference_of (stream_of x) kind) n) → IsRead f (kept_of r) v p i x n late
 unfolding StandsFor
@@ -63,10 +61,10 @@ read_at f r v p c i s x n reached late kind is_kind w c_is within at reached_is 
 }
 
 -- the stream's answer whether it keeps the fragment already
-abbrev pub SaysHeld : {F : Type 0} → Format → Inbound F → PieceMeaning → Option ℕ → Bool → Type 0
-SaysHeld f x p n held = (j : ℕ) (l : Lane) (ks : List Piece) → lane.StandsFor f (lane_in x p.unordered) l ks → IsOf f l (counted j p n) → held ≡ is_repeated f ks (counted j p n)
+abbrev pub SaysHeld : {F : Type 0} → Format → Stream F → PieceMeaning → Option ℕ → Bool → Type 0
+SaysHeld f x p n held = (j : ℕ) (l : Lane) (ks : List Piece) → Keeps f (inside x) p.unordered l ks → IsOf f l (counted j p n) → held ≡ is_repeated f ks (counted j p n)
 
-module _ {F : Type 0} {f : Format} {k : ReceiverKept} {v : ReceiverView} {p : PieceMeaning} {i : ℕ} {x : Inbound F} {n : Option ℕ} {late : Bool} (h : IsRead f k v p i x n late) where
+module _ {F : Type 0} {f : Format} {k : ReceiverKept} {v : ReceiverView} {p : PieceMeaning} {i : ℕ} {x : Stream F} {n : Option ℕ} {late : Bool} (h : IsRead f k v p i x n late) where
   number : n ≡ (piece_at f v k.seen.cumulative p).number
   number = h.near ∙ ap (λ (a : StreamKept). number_near f (lane_kind p.unordered) p.number (reference_of a (lane_kind p.unordered))) h.stream ∙ number_same f k v p h.keeps h.within
 

@@ -21,9 +21,9 @@ use Rattle.sctp_model.proofs.receiver.OneStep.{filter_has}
 use Rattle.sctp_model.specs.receiver.KeptOfLane.{of_lane}
 use Rattle.sctp_model.proofs.receiver.OfLane.{of_has}
 use Rattle.sctp_chains.specs.Cells.{IsLowestIndex}
-use Rattle.sctp_chains.specs.StandsFor as lane
-use Rattle.sctp_recv.specs.Filed.{AreFiled}
-use Rattle.sctp_recv.specs.declared.inbound.Inbound.{Inbound}
+use Rattle.sctp_recv.specs.Fields.{inside}
+use Rattle.sctp_recv.specs.Filed.{Keeps, AreFiled}
+use Rattle.sctp_recv.specs.declared.stream.Stream.{Stream}
 use Rattle.sctp_recv.specs.Lows.{IsMarked}
 use Rattle.sctp_recv.specs.declared.places.Lows.{Lows}
 use Rattle.sctp_recv.specs.StandsFor.{IsFindable, AreFindable}
@@ -145,9 +145,9 @@ findable_taken f v t x old new takes idle wanted findable count more here = (let
 -- ---- a stream's lowest index
 
 -- a stream's number is that of its first unordered chunk
-pub findable_noted : {F : Type 0} (f : Format) (v : ReceiverView) (streams : List (Inbound F)) (s : ℕ) (x : Inbound F) (lowest : Option ℕ) (most : ℕ) (old new : Lows) → is_numbered f Unordered ≡ false →
+pub findable_noted : {F : Type 0} (f : Format) (v : ReceiverView) (streams : List (Stream F)) (s : ℕ) (x : Stream F) (lowest : Option ℕ) (most : ℕ) (old new : Lows) → is_numbered f Unordered ≡ false →
     AreFiled f v.kept streams → slice_get streams s ≡ Some x →
-    ((l : Lane) (kept : List Piece) → lane.StandsFor f x.unordered l kept → is_numbered f l.kind ≡ false → IsLowestIndex kept lowest) → new.count ≡ old.count →
+    ((l : Lane) (kept : List Piece) → Keeps f (inside x) true l kept → is_numbered f l.kind ≡ false → IsLowestIndex kept lowest) → new.count ≡ old.count →
     ((q i : ℕ) → IsMarked old q i → (q ≡ s → unwrap_or lowest most ≤ i) → IsMarked new q i) → AreFindable f v old → AreFindable f v new
 findable_noted f v streams s x lowest most old new plain filed got first count more findable = (let all = findable.0 in omega (arith, all, count), each)
   where

@@ -7,7 +7,7 @@ use Rattle.sctp_model.specs.numbers.Lists.{at}
 use Rattle.sctp_model.specs.receiver.ReceiverView.{Handed, size_of_messages, size_of_waiting}
 use Rattle.sctp_recv.specs.ReceiverKept.{StreamKept, FRESH, stream_at}
 use Rattle.sctp_recv.specs.Fields.{stream_of}
-use Rattle.sctp_recv.specs.declared.inbound.Inbound.{Inbound}
+use Rattle.sctp_recv.specs.declared.stream.Stream.{Stream}
 
 pub fresh_at : (n s : ℕ) → stream_at (replicate n FRESH) s ≡ FRESH
 fresh_at zero s = refl
@@ -36,7 +36,7 @@ stream_set_other (y ∷ ss) zero (suc q) x apart = refl
 stream_set_other (y ∷ ss) (suc s) zero x apart = refl
 stream_set_other (y ∷ ss) (suc s) (suc q) x apart = stream_set_other ss s q x (λ e. apart (ap suc e))
 
-pub set_unchanged : {F : Type 0} (xs : List (Inbound F)) (i : ℕ) (x y : Inbound F) → i < length xs → y ≡ get_or xs i y → stream_of x ≡ stream_of y → map stream_of (set xs i x) ≡ map stream_of xs
+pub set_unchanged : {F : Type 0} (xs : List (Stream F)) (i : ℕ) (x y : Stream F) → i < length xs → y ≡ get_or xs i y → stream_of x ≡ stream_of y → map stream_of (set xs i x) ≡ map stream_of xs
 set_unchanged [] i x y l e same = refl
 set_unchanged (z ∷ xs) zero x y l e same = ap (λ (k : StreamKept). k ∷ map stream_of xs) (same ∙ ap stream_of e)
 set_unchanged (z ∷ xs) (suc i) x y l e same = ap (λ (ks : List StreamKept). stream_of z ∷ ks) (set_unchanged xs i x y (omega arith) e same)
@@ -69,17 +69,17 @@ length_set [] s x = refl
 length_set (y ∷ ss) zero x = refl
 length_set (y ∷ ss) (suc s) x = ap suc (length_set ss s x)
 
-pub set_mapped : {F : Type 0} (xs : List (Inbound F)) (i : ℕ) (x : Inbound F) → map stream_of (set xs i x) ≡ set (map stream_of xs) i (stream_of x)
+pub set_mapped : {F : Type 0} (xs : List (Stream F)) (i : ℕ) (x : Stream F) → map stream_of (set xs i x) ≡ set (map stream_of xs) i (stream_of x)
 set_mapped [] i x = refl
 set_mapped (y ∷ xs) zero x = refl
 set_mapped (y ∷ xs) (suc i) x = ap (λ (zs : List StreamKept). stream_of y ∷ zs) (set_mapped xs i x)
 
-pub stream_mapped : {F : Type 0} (xs : List (Inbound F)) (i : ℕ) (x : Inbound F) → i < length xs → x ≡ get_or xs i x → stream_at (map stream_of xs) i ≡ stream_of x
+pub stream_mapped : {F : Type 0} (xs : List (Stream F)) (i : ℕ) (x : Stream F) → i < length xs → x ≡ get_or xs i x → stream_at (map stream_of xs) i ≡ stream_of x
 stream_mapped [] i x l e = absurd (omega arith)
 stream_mapped (y ∷ xs) zero x l e = ap stream_of (sym e)
 stream_mapped (y ∷ xs) (suc i) x l e = stream_mapped xs i x (omega arith) e
 
-pub got_stream : {F : Type 0} (xs : List (Inbound F)) (i : ℕ) (x : Inbound F) → slice_get xs i ≡ Some x → stream_at (map stream_of xs) i ≡ stream_of x
+pub got_stream : {F : Type 0} (xs : List (Stream F)) (i : ℕ) (x : Stream F) → slice_get xs i ≡ Some x → stream_at (map stream_of xs) i ≡ stream_of x
 got_stream [] i x e = absurd (let no : None ≡ Some x = e in cc)
 got_stream (y ∷ xs) zero x e = let is : y ≡ x = cc in ap stream_of is
 got_stream (y ∷ xs) (suc i) x e = got_stream xs i x e

@@ -1,6 +1,8 @@
 -- What a receiver keeps once a chunk was kept, and what was due with it handed over.
 use Rattle.std.proofs.Common.{◌≡◌, ℕ, ◌+◌, ◌-◌, ◌<◌, ◌≤◌, ◌⊎◌, Bool, true, false, ◌==◌, List, [], ◌∷◌, ◌++◌, length, set, map, Some, inl, inr, refl, sym, ◌∙◌, ap, subst, arith}
 use Rattle.std.specs.Prelude.{not, slice_get}
+use Rattle.std.specs.declared.alloc.Global.{Global}
+use Rattle.std.specs.declared.boxed.Box.{Box}
 use Rattle.std.proofs.lemmas.Bool.{cases_Bool}
 use Rattle.std.proofs.lemmas.Bool.Decides.{nat_tests}
 use Rattle.std.proofs.lemmas.List.{length-map}
@@ -17,7 +19,8 @@ use Rattle.sctp_model.proofs.receiver.Sizes.{due_size, message_size}
 use Rattle.sctp_chains.specs.StandsFor as lane
 use Rattle.sctp_chains.specs.WholeOf.{from_number}
 use Rattle.sctp_recv.specs.declared.inbound.Inbound.{Inbound}
-use Rattle.sctp_recv.specs.Fields.{stream_of}
+use Rattle.sctp_recv.specs.declared.stream.Stream.{Stream}
+use Rattle.sctp_recv.specs.Fields.{inbound_of, stream_of}
 use Rattle.sctp_model.specs.receiver.KeptOfLane.{of_lane}
 use Rattle.sctp_recv.specs.Filed.{IsFiledOn, AreFiled}
 use Rattle.sctp_recv.specs.SeenKept.{SeenKept}
@@ -30,9 +33,19 @@ use Rattle.sctp_recv.proofs.DueLemmas.{due_above}
 use Rattle.sctp_recv.proofs.KeptLemmas.{with_chunk, held_counted, all_apart, all_recorded, all_numbers, keeps_fewer}
 use Rattle.sctp_recv.proofs.RecordedLemmas.{at_cases, IsKeepable}
 
+-- a stream of which this is known
+abbrev pub boxed : {F : Type 0} → Box (Inbound F) Global → Stream F
+boxed b = record { inbound = Some b }
+
 module _ (f : Format) (k : ReceiverKept) (v : ReceiverView) (x : Piece) (seen : SeenKept) (h : IsKeepable f k v x seen) where
-  module _ {F : Type 0} (streams : List (Inbound F)) (s : ℕ) (old new : Inbound F) (streams_are : k.streams ≡ map stream_of streams) (filed : AreFiled f v.kept streams)
-      (got : slice_get streams s ≡ Some old) (low : s < length streams) (mine : x.lane.stream ≡ s) where
+  module _ {F : Type 0} (streams : List (Stream F)) (s : ℕ) (was now : Box (Inbound F) Global) (streams_are : k.streams ≡ map stream_of streams) (filed : AreFiled f v.kept streams)
+      (got : slice_get streams s ≡ Some (boxed was)) (low : s < length streams) (mine : x.lane.stream ≡ s) where
+    abbrev old : Inbound F
+    old = was.value
+
+    abbrev new : Inbound F
+    new = now.value
+
     there_before : (y : Piece) → Has v.kept y → y.lane.stream < length streams
     there_before = filed.there
 
@@ -43,8 +56,8 @@ module _ (f : Format) (k : ReceiverKept) (v : ReceiverView) (x : Piece) (seen : 
     within : s < length k.streams
     within = let m = ap (λ (ss : List StreamKept). length ss) streams_are ∙ length-map streams stream_of in omega (arith, m, low)
 
-    stream_is : stream_at k.streams s ≡ stream_of old
-    stream_is = ap (λ (ss : List StreamKept). stream_at ss s) streams_are ∙ got_stream streams s old got
+    stream_is : stream_at k.streams s ≡ inbound_of old
+    stream_is = ap (λ (ss : List StreamKept). stream_at ss s) streams_are ∙ got_stream streams s (boxed was) got
 
     -- the bytes held, where these chunks are kept then
     counts_kept : (now : List Piece) (ms : List Handed) (held after given : ℕ) → ((y : Piece) → Has now y → y.lane.stream < length streams) → SameOff s v.kept now →
@@ -60,8 +73,8 @@ module _ (f : Format) (k : ReceiverKept) (v : ReceiverView) (x : Piece) (seen : 
 
     -- an ordered chunk is kept, and what is then due handed over
     pub keeps_due : (given held after : ℕ) → x.lane ≡ ordered_lane s → GivesDue f s old.next (x ∷ of_lane (ordered_lane s) v.kept) old new given →
-        ((kept : List Piece) → IsFiledOn f kept s new → after ≡ sized (stream_size kept s)) → held ≡ sized (sized (k.held - sized (stream_size v.kept s) + after) + given) →
-        (t : ReceiverView) × GivesOrdered f s (with_chunk v x) t × (KeepsView f (record k { seen = seen; streams = set k.streams s (stream_of new); held = held }) t × AreFiled f t.kept (set streams s new))
+        ((kept : List Piece) → IsFiledOn f kept s (boxed now) → after ≡ sized (stream_size kept s)) → held ≡ sized (sized (k.held - sized (stream_size v.kept s) + after) + given) →
+        (t : ReceiverView) × GivesOrdered f s (with_chunk v x) t × (KeepsView f (record k { seen = seen; streams = set k.streams s (inbound_of new); held = held }) t × AreFiled f t.kept (set streams s (boxed now)))
     keeps_due given held after lane_is g afters counts = (handed_ordered (with_chunk v x) s g.messages g.next, (g.messages, g.next, due, refl), (stands, files))
       where
         view : IsDueView f (x ∷ of_lane (ordered_lane s) v.kept) s old.next old.next (with_chunk v x)
@@ -97,30 +110,30 @@ module _ (f : Format) (k : ReceiverKept) (v : ReceiverView) (x : Piece) (seen : 
             of_below_other (unordered_lane s) s g.next (x ∷ v.kept) (λ e. let no : Unordered ≡ Ordered = ap (λ (l : Lane). l.kind) e in cc)
             ∙ of_other (unordered_lane s) x v.kept (λ e. let no : Ordered ≡ Unordered = ap (λ (l : Lane). l.kind) (sym lane_is ∙ e) in cc)
 
-        here : IsFiledOn f (without_below (x ∷ v.kept) s g.next) s new
+        here : IsFiledOn f (without_below (x ∷ v.kept) s g.next) s (boxed now)
         here = record {
           ordered = subst (λ (ps : List Piece). lane.StandsFor f new.ordered (ordered_lane s) ps) (sym own) g.left;
-          unordered = subst (λ (ps : List Piece). lane.StandsFor f new.unordered (unordered_lane s) ps) (sym loose) (g.others (unordered_lane s) (of_lane (unordered_lane s) v.kept) (filed.each s old got).unordered);
+          unordered = subst (λ (ps : List Piece). lane.StandsFor f new.unordered (unordered_lane s) ps) (sym loose) (g.others (unordered_lane s) (of_lane (unordered_lane s) v.kept) (filed.each s (boxed was) got).unordered);
         }
 
-        files : AreFiled f (without_below (x ∷ v.kept) s g.next) (set streams s new)
-        files = filed_set f v.kept (without_below (x ∷ v.kept) s g.next) streams s new filed low here off (λ y has. there_now y (filter_has (λ (z : Piece). not (is_below s g.next z)) (x ∷ v.kept) y has))
+        files : AreFiled f (without_below (x ∷ v.kept) s g.next) (set streams s (boxed now))
+        files = filed_set f v.kept (without_below (x ∷ v.kept) s g.next) streams s (boxed now) filed low here off (λ y has. there_now y (filter_has (λ (z : Piece). not (is_below s g.next z)) (x ∷ v.kept) y has))
 
         size : size_of_messages g.messages + size_of_pieces (without_below (x ∷ v.kept) s g.next) ≤ size_of_pieces (x ∷ v.kept)
         size = due_size f (with_chunk v x) s (v.next s) g.messages g.next due
 
-        stands : KeepsView f (record k { seen = seen; streams = set k.streams s (stream_of new); held = held }) (handed_ordered (with_chunk v x) s g.messages g.next)
-        stands = keeps_fewer f k v x seen h s (λ (z : Piece). not (is_below s g.next z)) (stream_of new) held (at v.next s g.next) g.messages within
-            (one_stream v.next (λ (c : StreamKept). c.next) k.streams s (stream_of new) g.next within h.keeps.next (sym (ap (λ (c : StreamKept). c.next) g.stream))) above
+        stands : KeepsView f (record k { seen = seen; streams = set k.streams s (inbound_of new); held = held }) (handed_ordered (with_chunk v x) s g.messages g.next)
+        stands = keeps_fewer f k v x seen h s (λ (z : Piece). not (is_below s g.next z)) (inbound_of new) held (at v.next s g.next) g.messages within
+            (one_stream v.next (λ (c : StreamKept). c.next) k.streams s (inbound_of new) g.next within h.keeps.next (sym (ap (λ (c : StreamKept). c.next) g.stream))) above
             (ap (λ (c : StreamKept). c.skip) g.stream ∙ sym (ap (λ (c : StreamKept). c.skip) stream_is))
             (ap (λ (c : StreamKept). c.waiting) g.stream ∙ ap (λ (hs : List Handed). hs ++ g.messages) (sym (ap (λ (c : StreamKept). c.waiting) stream_is)))
             size (counts_kept (without_below (x ∷ v.kept) s g.next) g.messages held after given (λ y has. there_now y (filter_has (λ (z : Piece). not (is_below s g.next z)) (x ∷ v.kept) y has)) off size (afters (without_below (x ∷ v.kept) s g.next) here) g.bytes counts)
 
     -- an unordered chunk is kept, and its message handed over where it is whole
-    module _ (given held after : ℕ) (lane_is : x.lane ≡ unordered_lane s) (afters : (kept : List Piece) → IsFiledOn f kept s new → after ≡ sized (stream_size kept s))
+    module _ (given held after : ℕ) (lane_is : x.lane ≡ unordered_lane s) (afters : (kept : List Piece) → IsFiledOn f kept s (boxed now) → after ≡ sized (stream_size kept s))
         (counts : held ≡ sized (sized (k.held - sized (stream_size v.kept s) + after) + given)) (others : (l : Lane) (ks : List Piece) → lane.StandsFor f old.ordered l ks → lane.StandsFor f new.ordered l ks) where
       ordered_here : lane.StandsFor f new.ordered (ordered_lane s) (of_lane (ordered_lane s) v.kept)
-      ordered_here = others (ordered_lane s) (of_lane (ordered_lane s) v.kept) (filed.each s old got).ordered
+      ordered_here = others (ordered_lane s) (of_lane (ordered_lane s) v.kept) (filed.each s (boxed was) got).ordered
 
       not_ordered : x.lane ≡ ordered_lane s → ⊥
       not_ordered e = let no : Unordered ≡ Ordered = ap (λ (l : Lane). l.kind) (sym lane_is ∙ e) in cc
@@ -132,7 +145,7 @@ module _ (f : Format) (k : ReceiverKept) (v : ReceiverView) (x : Piece) (seen : 
       off_chunk l other = of_other l x v.kept (λ e. other (ap (λ (m : Lane). m.stream) (sym e) ∙ mine))
 
       keeps_whole : GivesWhole f s x (of_lane (unordered_lane s) v.kept) old new given →
-          (t : ReceiverView) × GivesUnordered f x (with_chunk v x) t × (KeepsView f (record k { seen = seen; streams = set k.streams s (stream_of new); held = held }) t × AreFiled f t.kept (set streams s new))
+          (t : ReceiverView) × GivesUnordered f x (with_chunk v x) t × (KeepsView f (record k { seen = seen; streams = set k.streams s (inbound_of new); held = held }) t × AreFiled f t.kept (set streams s (boxed now)))
       keeps_whole g = (handed_unordered f (with_chunk v x) g.head g.rest, inl (g.head, g.rest, whole, refl), (then_so, files))
         where
           whole : IsWholeWith f (x ∷ v.kept) x (g.head ∷ g.rest)
@@ -144,7 +157,7 @@ module _ (f : Format) (k : ReceiverKept) (v : ReceiverView) (x : Piece) (seen : 
           off : SameOff s v.kept (without_message f (x ∷ v.kept) (g.head ∷ g.rest))
           off l other = without_other f (x ∷ v.kept) l g.head g.rest x (all_apart f k v x seen h) whole (λ e. other (ap (λ (m : Lane). m.stream) (sym e ∙ head_lane))) ∙ off_chunk l other
 
-          here : IsFiledOn f (without_message f (x ∷ v.kept) (g.head ∷ g.rest)) s new
+          here : IsFiledOn f (without_message f (x ∷ v.kept) (g.head ∷ g.rest)) s (boxed now)
           here = record {
             ordered = subst (λ (ps : List Piece). lane.StandsFor f new.ordered (ordered_lane s) ps)
                 (sym (without_other f (x ∷ v.kept) (ordered_lane s) g.head g.rest x (all_apart f k v x seen h) whole (λ e. let no : Unordered ≡ Ordered = ap (λ (l : Lane). l.kind) (sym head_lane ∙ e) in cc)
@@ -156,8 +169,8 @@ module _ (f : Format) (k : ReceiverKept) (v : ReceiverView) (x : Piece) (seen : 
           there : (y : Piece) → Has (without_message f (x ∷ v.kept) (g.head ∷ g.rest)) y → y.lane.stream < length streams
           there y has = there_now y (filter_has (λ (z : Piece). not (goes_with f (g.head ∷ g.rest) z)) (x ∷ v.kept) y has)
 
-          files : AreFiled f (without_message f (x ∷ v.kept) (g.head ∷ g.rest)) (set streams s new)
-          files = filed_set f v.kept (without_message f (x ∷ v.kept) (g.head ∷ g.rest)) streams s new filed low here off there
+          files : AreFiled f (without_message f (x ∷ v.kept) (g.head ∷ g.rest)) (set streams s (boxed now))
+          files = filed_set f v.kept (without_message f (x ∷ v.kept) (g.head ∷ g.rest)) streams s (boxed now) filed low here off there
 
           size : size_of_messages (message_of f g.head g.rest ∷ []) + size_of_pieces (without_message f (x ∷ v.kept) (g.head ∷ g.rest)) ≤ size_of_pieces (x ∷ v.kept)
           size = let less = message_size f (x ∷ v.kept) x g.head g.rest whole in omega (arith, less)
@@ -165,40 +178,40 @@ module _ (f : Format) (k : ReceiverKept) (v : ReceiverView) (x : Piece) (seen : 
           bytes : given ≡ sized (size_of_messages (message_of f g.head g.rest ∷ []))
           bytes = let own = g.bytes in omega (arith, own)
 
-          first_so : KeepsView f (record k { seen = seen; streams = set k.streams s (stream_of new); held = held })
+          first_so : KeepsView f (record k { seen = seen; streams = set k.streams s (inbound_of new); held = held })
               (record (with_chunk v x) { waiting = at v.waiting s (v.waiting s ++ message_of f g.head g.rest ∷ []); kept = without_message f (x ∷ v.kept) (g.head ∷ g.rest) })
-          first_so = keeps_fewer f k v x seen h s (λ (z : Piece). not (goes_with f (g.head ∷ g.rest) z)) (stream_of new) held v.next (message_of f g.head g.rest ∷ []) within
-              (λ q. h.keeps.next q ∙ sym (same_field (λ (c : StreamKept). c.next) k.streams s (stream_of new) within (ap (λ (c : StreamKept). c.next) g.stream ∙ sym (ap (λ (c : StreamKept). c.next) stream_is)) q)) h.keeps.skipped
+          first_so = keeps_fewer f k v x seen h s (λ (z : Piece). not (goes_with f (g.head ∷ g.rest) z)) (inbound_of new) held v.next (message_of f g.head g.rest ∷ []) within
+              (λ q. h.keeps.next q ∙ sym (same_field (λ (c : StreamKept). c.next) k.streams s (inbound_of new) within (ap (λ (c : StreamKept). c.next) g.stream ∙ sym (ap (λ (c : StreamKept). c.next) stream_is)) q)) h.keeps.skipped
               (ap (λ (c : StreamKept). c.skip) g.stream ∙ sym (ap (λ (c : StreamKept). c.skip) stream_is))
               (ap (λ (c : StreamKept). c.waiting) g.stream ∙ ap (λ (hs : List Handed). hs ++ message_of f g.head g.rest ∷ []) (sym (ap (λ (c : StreamKept). c.waiting) stream_is)))
               size (counts_kept (without_message f (x ∷ v.kept) (g.head ∷ g.rest)) (message_of f g.head g.rest ∷ []) held after given there off size (afters (without_message f (x ∷ v.kept) (g.head ∷ g.rest)) here) bytes counts)
 
-          then_so : KeepsView f (record k { seen = seen; streams = set k.streams s (stream_of new); held = held }) (handed_unordered f (with_chunk v x) g.head g.rest)
-          then_so = subst (λ (q : ℕ). KeepsView f (record k { seen = seen; streams = set k.streams s (stream_of new); held = held })
+          then_so : KeepsView f (record k { seen = seen; streams = set k.streams s (inbound_of new); held = held }) (handed_unordered f (with_chunk v x) g.head g.rest)
+          then_so = subst (λ (q : ℕ). KeepsView f (record k { seen = seen; streams = set k.streams s (inbound_of new); held = held })
               (record (with_chunk v x) { waiting = at v.waiting q (v.waiting q ++ message_of f g.head g.rest ∷ []); kept = without_message f (x ∷ v.kept) (g.head ∷ g.rest) }))
               (sym (ap (λ (m : Lane). m.stream) head_lane)) first_so
 
       -- or it stays with the others
       keeps_part : GivesNone f s x (of_lane (unordered_lane s) v.kept) old new given →
-          (t : ReceiverView) × GivesUnordered f x (with_chunk v x) t × (KeepsView f (record k { seen = seen; streams = set k.streams s (stream_of new); held = held }) t × AreFiled f t.kept (set streams s new))
-      keeps_part g = (with_chunk v x, inr (none, refl), (stands, filed_set f v.kept (x ∷ v.kept) streams s new filed low here off_chunk there_now))
+          (t : ReceiverView) × GivesUnordered f x (with_chunk v x) t × (KeepsView f (record k { seen = seen; streams = set k.streams s (inbound_of new); held = held }) t × AreFiled f t.kept (set streams s (boxed now)))
+      keeps_part g = (with_chunk v x, inr (none, refl), (stands, filed_set f v.kept (x ∷ v.kept) streams s (boxed now) filed low here off_chunk there_now))
         where
           none : (xs : List Piece) → IsWholeWith f (x ∷ v.kept) x xs → ⊥
           none xs whole = g.none xs (subst (λ (ps : List Piece). IsWholeWith f ps x xs) more ((with_of f (x ∷ v.kept) (unordered_lane s) x xs lane_is).0 whole))
 
-          here : IsFiledOn f (x ∷ v.kept) s new
+          here : IsFiledOn f (x ∷ v.kept) s (boxed now)
           here = record {
             ordered = subst (λ (ps : List Piece). lane.StandsFor f new.ordered (ordered_lane s) ps) (sym (of_other (ordered_lane s) x v.kept not_ordered)) ordered_here;
             unordered = subst (λ (ps : List Piece). lane.StandsFor f new.unordered (unordered_lane s) ps) (sym more) g.left;
           }
 
-          same : {A : Type 0} (field : StreamKept → A) (q : ℕ) → field (stream_at (set k.streams s (stream_of new)) q) ≡ field (stream_at k.streams q)
-          same field q = same_field field k.streams s (stream_of new) within (ap field (g.stream ∙ sym stream_is)) q
+          same : {A : Type 0} (field : StreamKept → A) (q : ℕ) → field (stream_at (set k.streams s (inbound_of new)) q) ≡ field (stream_at k.streams q)
+          same field q = same_field field k.streams s (inbound_of new) within (ap field (g.stream ∙ sym stream_is)) q
 
           total : held + (length x.bytes + size_of_pieces v.kept) ≡ k.held + length x.bytes + size_of_pieces (x ∷ v.kept) + 0
           total = counts_kept (x ∷ v.kept) [] held after given there_now off_chunk (omega arith) (afters (x ∷ v.kept) here) (let none_given = g.bytes in omega (arith, none_given)) counts
 
-          stands : KeepsView f (record k { seen = seen; streams = set k.streams s (stream_of new); held = held }) (with_chunk v x)
+          stands : KeepsView f (record k { seen = seen; streams = set k.streams s (inbound_of new); held = held }) (with_chunk v x)
           stands = record {
             seen = h.records h.new h.near v.seen v.jump h.keeps.seen;
             counts = λ j came. elim (at_cases v.seen x.index j came) [ inl e ↦ let c = h.small in omega arith | inr there ↦ h.keeps.counts j there ];
@@ -209,8 +222,8 @@ module _ (f : Format) (k : ReceiverKept) (v : ReceiverView) (x : Piece) (seen : 
             skip = λ q. h.keeps.skip q ∙ sym (same (λ (c : StreamKept). c.skip) q);
             skipped = h.keeps.skipped;
             waiting = λ q. h.keeps.waiting q ∙ sym (same (λ (c : StreamKept). c.waiting) q);
-            streams = h.keeps.streams ∙ sym (length_set k.streams s (stream_of new));
-            few_streams = let few = h.keeps.few_streams in let size = length_set k.streams s (stream_of new) in omega (arith, few, size);
+            streams = h.keeps.streams ∙ sym (length_set k.streams s (inbound_of new));
+            few_streams = let few = h.keeps.few_streams in let size = length_set k.streams s (inbound_of new) in omega (arith, few, size);
             duplicates = h.keeps.duplicates;
             held = let was : k.held ≡ size_of_pieces v.kept + size_of_waiting v.waiting v.streams = h.keeps.held in let all = total in omega (arith, was, all);
             room = let fits = h.fits in let all = total in omega (arith, fits, all);
@@ -221,12 +234,12 @@ module _ (f : Format) (k : ReceiverKept) (v : ReceiverView) (x : Piece) (seen : 
 
     -- by its kind
     pub keeps_taken_in : (unordered : Bool) (given held after : ℕ) → x.lane ≡ lane_of s unordered → GivesBy unordered f s x (of_lane (lane_of s unordered) v.kept) old new given →
-        ((kept : List Piece) → IsFiledOn f kept s new → after ≡ sized (stream_size kept s)) → held ≡ sized (sized (k.held - sized (stream_size v.kept s) + after) + given) →
-        (t : ReceiverView) × TakesPiece f v x t × (KeepsView f (record k { seen = seen; streams = set k.streams s (stream_of new); held = held }) t × AreFiled f t.kept (set streams s new))
+        ((kept : List Piece) → IsFiledOn f kept s (boxed now) → after ≡ sized (stream_size kept s)) → held ≡ sized (sized (k.held - sized (stream_size v.kept s) + after) + given) →
+        (t : ReceiverView) × TakesPiece f v x t × (KeepsView f (record k { seen = seen; streams = set k.streams s (inbound_of new); held = held }) t × AreFiled f t.kept (set streams s (boxed now)))
     keeps_taken_in true given held after is g afters counts = finish g.gives
       where
         finish : GivesWhole f s x (of_lane (unordered_lane s) v.kept) old new given ⊎ GivesNone f s x (of_lane (unordered_lane s) v.kept) old new given →
-            (t : ReceiverView) × TakesPiece f v x t × (KeepsView f (record k { seen = seen; streams = set k.streams s (stream_of new); held = held }) t × AreFiled f t.kept (set streams s new))
+            (t : ReceiverView) × TakesPiece f v x t × (KeepsView f (record k { seen = seen; streams = set k.streams s (inbound_of new); held = held }) t × AreFiled f t.kept (set streams s (boxed now)))
         finish (inl whole) =
             let m = keeps_whole given held after is afters counts g.others whole in
             (m.0, subst (λ (c : Kind). Gives f c x (with_chunk v x) m.0) (ap (λ (l : Lane). l.kind) (sym is)) m.1, m.2)

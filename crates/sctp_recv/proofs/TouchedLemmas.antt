@@ -20,7 +20,8 @@ use Rattle.sctp_model.proofs.receiver.RowFacts.{lanes_same}
 use Rattle.sctp_model.proofs.receiver.Filters.{filter_none}
 use Rattle.sctp_model.proofs.receiver.OfLane.{of_says, of_below}
 use Rattle.sctp_chains.specs.WholeOf.{from_number}
-use Rattle.sctp_recv.specs.declared.inbound.Inbound.{Inbound}
+use Rattle.sctp_recv.specs.declared.stream.Stream.{Stream}
+use Rattle.sctp_recv.specs.Fields.{stream_of}
 use Rattle.sctp_recv.specs.StandsFor.{IsFindable, AreFindable}
 use Rattle.sctp_recv.specs.inner.Forwarding.{most_skipped, stay, IsNamed, IsTouched, AreQuiet}
 use Rattle.sctp_recv.specs.Lows.{IsMarked}
@@ -102,15 +103,15 @@ none_left Plain jump skip q lows us off all = filter_none (λ (y : Piece). not (
     ]
 none_left Interleaved jump skip q lows us off all = filter_none (λ (y : Piece). not (is_skipped y.number skip)) us (λ y has. ap not (all y has).1)
 
-pub are_quiet : {F : Type 0} (f : Format) (jump : ℕ) (xs : List SkipMeaning) (v : ReceiverView) (lows : Lows) (touched : List ℕ) (streams : List (Inbound F)) → IsAtRest f v → AreFindable f v lows →
-    ((s : ℕ) → IsTouched s lows jump xs → Contains touched s) → ((q : ℕ) (x : Inbound F) → slice_get streams q ≡ Some x → v.next q ≡ x.next) →
-    ((q : ℕ) (x : Inbound F) → slice_get streams q ≡ Some x → v.skip (unordered_lane q) ≡ x.skip) → AreQuiet f jump xs v touched streams
+pub are_quiet : {F : Type 0} (f : Format) (jump : ℕ) (xs : List SkipMeaning) (v : ReceiverView) (lows : Lows) (touched : List ℕ) (streams : List (Stream F)) → IsAtRest f v → AreFindable f v lows →
+    ((s : ℕ) → IsTouched s lows jump xs → Contains touched s) → ((q : ℕ) (x : Stream F) → slice_get streams q ≡ Some x → v.next q ≡ (stream_of x).next) →
+    ((q : ℕ) (x : Stream F) → slice_get streams q ≡ Some x → v.skip (unordered_lane q) ≡ (stream_of x).skip) → AreQuiet f jump xs v touched streams
 are_quiet f jump xs v lows touched streams rest findable all next skip q x got off = record {
-  ordered = let none = unnamed f (ordered_lane q) x.next xs (λ y there same. off (all q (inr (y, there, same)))) in omega (arith, none);
-  unordered = let none = unnamed f (unordered_lane q) x.skip xs (λ y there same. off (all q (inr (y, there, same)))) in omega (arith, none);
+  ordered = let none = unnamed f (ordered_lane q) (stream_of x).next xs (λ y there same. off (all q (inr (y, there, same)))) in omega (arith, none);
+  unordered = let none = unnamed f (unordered_lane q) (stream_of x).skip xs (λ y there same. off (all q (inr (y, there, same)))) in omega (arith, none);
   none = subst (λ (n : ℕ). HasNoWhole f v.kept (ordered_lane q) n) (next q x got) (rest.idle.ordered q).none;
   clear = subst (λ (n : ℕ). from_number n (of_lane (ordered_lane q) v.kept) ≡ of_lane (ordered_lane q) v.kept) (next q x got) clear_there;
-  stays = none_left f jump x.skip q lows (of_lane (unordered_lane q) v.kept) (λ there. off (all q (inl there)))
+  stays = none_left f jump (stream_of x).skip q lows (of_lane (unordered_lane q) v.kept) (λ there. off (all q (inl there)))
       (λ y has. let says = of_says (unordered_lane q) v.kept y has in (
         ap (λ (l : Lane). l.stream) says.1,
         subst (λ (n : ℕ). IsFindable f lows n y) (ap v.skip says.1 ∙ skip q x got) (findable.1 y says.0 (ap (λ (l : Lane). l.kind) says.1)),

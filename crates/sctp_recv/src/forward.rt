@@ -1,7 +1,7 @@
 //! A FORWARD: its sender gave up all that is missing up to an index, and names the messages that are waited for in vain
 //! (RFC 3758, 3.6; RFC 8260, 2.3).
 
-ghost use Rattle.std.specs.Prelude.{◌≡◌, ℕ, false, List, map, length, IfOk, OnOk, OnErr};
+ghost use Rattle.std.specs.Prelude.{◌≡◌, ℕ, true, false, List, map, length, Some, IfOk, OnOk, OnErr};
 ghost use Rattle.std.specs.List.{Contains};
 ghost use Rattle.std.specs.List.Sorted.{IsNonDecreasing, IsPermutation};
 ghost use Rattle.sctp_model.specs.receiver.ReceiverView.{ReceiverView, IsCumulative};
@@ -13,10 +13,10 @@ ghost use Rattle.sctp_wire.specs.ChunkTree.{skip_meaning, forward_meaning};
 ghost use Rattle.sctp_chains.specs.Cells.{Kept};
 ghost use Rattle.sctp_chains.specs.StandsFor as lane;
 ghost use Rattle.sctp_recv.specs.AnswerOf.{forward_answer_of};
-ghost use Rattle.sctp_recv.specs.Fields.{stream_of};
-ghost use Rattle.sctp_recv.specs.Filed.{AreFiled};
+ghost use Rattle.sctp_recv.specs.Fields.{inside, stream_of};
+ghost use Rattle.sctp_recv.specs.Filed.{Keeps, SameLanes, AreFiled};
 ghost use Rattle.sctp_recv.specs.StandsFor.{Stands, AreFindable, StandsFor};
-ghost use Rattle.sctp_recv.specs.inner.Forwarding.{AreByStream, IsTouched, HaveRoom, AreQuiet, PassesOn, AreToPass, ArePassed};
+ghost use Rattle.sctp_recv.specs.inner.Forwarding.{AreByStream, IsTouched, HasRoomOn, HaveRoom, AreQuiet, PassesOn, AreToPass, ArePassed};
 ghost use Rattle.sctp_recv.specs.inner.Giving.{HasRoom, AreCounted};
 ghost use Rattle.sctp_recv.specs.inner.Rows.{IsAbove};
 
@@ -26,6 +26,7 @@ use crate::give::{give_ordered, make_room};
 use crate::inbound::Inbound;
 use crate::places::Lows;
 use crate::receiver::Receiver;
+use crate::stream::{Stream, make};
 use sctp_framing::Framing;
 use sctp_values::{Kind, NoMemory};
 use sctp_wire::{Forward, Skip, Skips};
@@ -75,11 +76,31 @@ fn touched_by(
     Ok(streams)
 }
 
-/// Makes room on each of these streams for the messages that may be handed over.
+/// Makes room on a stream for the messages that may be handed over.
 ///
 /// # Errors
 /// Memory ran out.
-fn make_rooms<F: Framing>(streams: &mut Vec<Inbound<F>>, touched: &[u16]) -> Result<(), NoMemory>
+fn make_room_on<F: Framing>(alloc: Global, stream: &mut Stream<F>) -> Result<(), NoMemory>
+    ensures same { stream_of stream.new ≡ stream_of stream.old }
+    ensures chunks { SameLanes F.format stream.old stream.new }
+    ensures room { OnOk result (HasRoomOn (inside stream.new)) }
+{
+    make(alloc, stream)?;
+    match &mut stream.inbound {
+        Some(inbound) => make_room(inbound, 0),
+        None => Ok(()),
+    }
+}
+
+/// The same on each of these streams.
+///
+/// # Errors
+/// Memory ran out.
+fn make_rooms<F: Framing>(
+    alloc: Global,
+    streams: &mut Vec<Stream<F>>,
+    touched: &[u16],
+) -> Result<(), NoMemory>
     ensures same { map stream_of streams.new.items ≡ map stream_of streams.old.items }
     ensures filed { (kept : Kept) → AreFiled F.format kept streams.old.items → AreFiled F.format kept streams.new.items }
     ensures room { OnOk result (HaveRoom touched.now (length touched.now) streams.new.items) }
@@ -87,7 +108,7 @@ fn make_rooms<F: Framing>(streams: &mut Vec<Inbound<F>>, touched: &[u16]) -> Res
     for at in 0..touched.len() {
         let place = usize::from(touched[at]);
         if place < streams.len() {
-            make_room(&mut streams[place], 0)?;
+            make_room_on(alloc, &mut streams[place])?;
         }
     }
     Ok(())
@@ -95,7 +116,7 @@ fn make_rooms<F: Framing>(streams: &mut Vec<Inbound<F>>, touched: &[u16]) -> Res
 
 /// Passes what a FORWARD skips on a stream by its entries for it, lets go of the unordered chunks left behind, and hands over what is
 /// then due. It answers how many bytes are held then, of so many before.
-fn pass_on<F: Framing>(
+fn pass_in<F: Framing>(
     inbound: &mut Inbound<F>,
     stream: u16,
     entries: &[Skip],
@@ -103,7 +124,7 @@ fn pass_on<F: Framing>(
     held: u32,
 ) -> u32
     ensures { (os us : Kept) → lane.StandsFor F.format inbound.old.ordered (ordered_lane stream) os → lane.StandsFor F.format inbound.old.unordered (unordered_lane stream) us
-        → AreCounted os → HasRoom inbound.old 0 → PassesOn F.format stream jump (map skip_meaning entries.now) os us inbound.old inbound.new held result }
+        → AreCounted os → HasRoom inbound.old 0 → PassesOn F.format stream jump (map skip_meaning entries.now) os us (Some inbound.old) (Some inbound.new) held result }
 {
     let floor = lowest_after::<F>(entries, stream, Kind::Ordered, inbound.next);
     inbound.skip = lowest_after::<F>(entries, stream, Kind::Unordered, inbound.skip);
@@ -115,9 +136,26 @@ fn pass_on<F: Framing>(
         .saturating_add(given)
 }
 
+/// The same on a stream for which room was made.
+fn pass_on<F: Framing>(
+    known: &mut Stream<F>,
+    stream: u16,
+    entries: &[Skip],
+    jump: u32,
+    held: u32,
+) -> u32
+    ensures { (os us : Kept) → Keeps F.format (inside known.old) false (ordered_lane stream) os → Keeps F.format (inside known.old) true (unordered_lane stream) us
+        → AreCounted os → HasRoomOn (inside known.old) → PassesOn F.format stream jump (map skip_meaning entries.now) os us (inside known.old) (inside known.new) held result }
+{
+    match &mut known.inbound {
+        Some(inbound) => pass_in(inbound, stream, entries, jump, held),
+        None => held,
+    }
+}
+
 /// The same on each of these streams, which rise, each by its own entries.
 fn pass_on_all<F: Framing>(
-    streams: &mut Vec<Inbound<F>>,
+    streams: &mut Vec<Stream<F>>,
     touched: &[u16],
     entries: &[Skip],
     jump: u32,
@@ -144,7 +182,7 @@ fn pass_on_all<F: Framing>(
 }
 
 /// Notes of each of these streams the lowest index of the unordered chunks that stay there, where their messages have no number.
-fn note_lowest<F: Framing>(lows: &mut Lows, streams: &Vec<Inbound<F>>, touched: &[u16])
+fn note_lowest<F: Framing>(lows: &mut Lows, streams: &Vec<Stream<F>>, touched: &[u16])
     ensures { (v : ReceiverView) → AreFiled F.format v.kept streams.now.items → AreFindable F.format v lows.old → AreFindable F.format v lows.new }
 {
     if F::is_numbered(Kind::Unordered) {
@@ -154,7 +192,7 @@ fn note_lowest<F: Framing>(lows: &mut Lows, streams: &Vec<Inbound<F>>, touched: 
         let stream = touched[at];
         let place = usize::from(stream);
         if place < streams.len() {
-            let lowest = streams[place].unordered.lowest_index();
+            let lowest = streams[place].lowest_unordered();
             lows.set(stream, lowest.unwrap_or(u32::MAX));
         }
     }
@@ -197,7 +235,7 @@ impl<F: Framing> Receiver<F> {
     {
         let entries = by_stream(self.alloc, skips)?;
         let touched = touched_by(self.alloc, &self.lows, index, skips)?;
-        make_rooms(&mut self.streams, &touched)?;
+        make_rooms(self.alloc, &mut self.streams, &touched)?;
         self.held = pass_on_all(&mut self.streams, &touched, &entries, index, self.held);
         note_lowest(&mut self.lows, &self.streams, &touched);
         self.seen.jump(index);

@@ -9,9 +9,10 @@ ghost use Rattle.sctp_chains.specs.Cells.{Kept};
 ghost use Rattle.sctp_chains.specs.StandsFor as lane;
 ghost use Rattle.sctp_chains.specs.StandsFor.{IsNew};
 ghost use Rattle.sctp_chains.specs.Cells.{counted};
-ghost use Rattle.sctp_recv.specs.Fields.{stream_of};
+ghost use Rattle.sctp_recv.specs.Fields.{inbound_of};
+ghost use Rattle.sctp_recv.specs.Filed.{lane_in};
 ghost use Rattle.sctp_recv.specs.HandedOf.{handed_of, message_bytes};
-ghost use Rattle.sctp_recv.specs.inner.Giving.{sized, HasRoom, SameChunks, AreCounted, GivesDue, IsGivenSoFar, GivesNewest, GivesBy, lane_in};
+ghost use Rattle.sctp_recv.specs.inner.Giving.{sized, HasRoom, SameChunks, AreCounted, GivesDue, IsGivenSoFar, GivesNewest, GivesBy};
 
 use crate::inbound::Inbound;
 use crate::message::{Message, message_of};
@@ -20,7 +21,9 @@ use sctp_values::{Kind, NoMemory, small_len};
 use sctp_wire::Piece;
 use std::collections::VecDeque;
 
-/// Lets a message wait, where there is room. It answers its bytes, at most 2^32 - 1.
+/// Lets a message wait, where there is room. It answers its bytes, at most 2^32 - 1. Its callers have it in line, since one of them runs for
+/// each message.
+#[inline(always)]
 fn wait(waiting: &mut VecDeque<Message>, message: Message) -> u32
     ensures bytes { result ≡ sized (length (message_bytes message)) }
     ensures waits { deque_len waiting.old < deque_capacity waiting.old → map handed_of waiting.new.items ≡ map handed_of waiting.old.items ++ handed_of message ∷ [] }
@@ -54,7 +57,7 @@ fn number_after(number: Option<u32>) -> u32
 /// # Errors
 /// Memory ran out.
 pub(crate) fn make_room<F: Framing>(inbound: &mut Inbound<F>, more: usize) -> Result<(), NoMemory>
-    ensures same { stream_of inbound.new ≡ stream_of inbound.old }
+    ensures same { inbound_of inbound.new ≡ inbound_of inbound.old }
     ensures chunks { SameChunks F.format inbound.old inbound.new }
     ensures room { OnOk result (HasRoom inbound.new more) }
 {
@@ -128,7 +131,7 @@ fn keep_ordered<F: Framing>(
         → IsNew F.format (ordered_lane piece.now.stream) kept (counted index (piece_meaning piece.now) number)
         → AreCounted (counted index (piece_meaning piece.now) number ∷ kept)
         → IfOk result (λ bytes. GivesDue F.format piece.now.stream inbound.old.next (counted index (piece_meaning piece.now) number ∷ kept) inbound.old inbound.new bytes) }
-    ensures refused { OnErr result ((stream_of inbound.new ≡ stream_of inbound.old) × SameChunks F.format inbound.old inbound.new) }
+    ensures refused { OnErr result ((inbound_of inbound.new ≡ inbound_of inbound.old) × SameChunks F.format inbound.old inbound.new) }
 {
     make_room(inbound, 1)?;
     let next = inbound.next;
@@ -160,7 +163,7 @@ fn keep_unordered<F: Framing>(
         → IsNew F.format (unordered_lane piece.now.stream) kept (counted index (piece_meaning piece.now) number)
         → lane_of piece.now.stream piece.now.unordered ≡ unordered_lane piece.now.stream
         → IfOk result (λ bytes. GivesNewest F.format piece.now.stream (counted index (piece_meaning piece.now) number) kept inbound.old inbound.new bytes) }
-    ensures refused { OnErr result ((stream_of inbound.new ≡ stream_of inbound.old) × SameChunks F.format inbound.old inbound.new) }
+    ensures refused { OnErr result ((inbound_of inbound.new ≡ inbound_of inbound.old) × SameChunks F.format inbound.old inbound.new) }
 {
     make_one(&mut inbound.waiting)?;
     inbound.unordered.add(piece, index, number)?;
@@ -187,7 +190,7 @@ pub(crate) fn keep_in<F: Framing>(
         → IsNew F.format (lane_of piece.now.stream piece.now.unordered) kept (counted index (piece_meaning piece.now) number)
         → AreCounted (counted index (piece_meaning piece.now) number ∷ kept)
         → IfOk result (λ bytes. GivesBy piece.now.unordered F.format piece.now.stream (counted index (piece_meaning piece.now) number) kept inbound.old inbound.new bytes) }
-    ensures refused { OnErr result ((stream_of inbound.new ≡ stream_of inbound.old) × SameChunks F.format inbound.old inbound.new) }
+    ensures refused { OnErr result ((inbound_of inbound.new ≡ inbound_of inbound.old) × SameChunks F.format inbound.old inbound.new) }
 {
     let unordered = piece.unordered;
     if unordered {

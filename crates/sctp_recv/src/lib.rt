@@ -17,6 +17,7 @@ mod receiver;
 mod runs;
 mod sack;
 mod seen;
+mod stream;
 
 pub use answer::Answer;
 pub use forward::ForwardAnswer;

@@ -17,8 +17,9 @@ impl Lows {
     pub(crate) fn new(alloc: Global, count: u16) -> Result<Lows, NoMemory>
         ensures { IfOk result (λ lows. lows.count ≡ count) }
     {
-        let mut places = Vec::new(alloc);
-        for _ in 0..usize::from(count) * 2 {
+        let size = usize::from(count) * 2;
+        let mut places = Vec::with_capacity(alloc, size).map_err(|_| NoMemory)?;
+        for _ in 0..size {
             places.push(u32::MAX).map_err(|_| NoMemory)?;
         }
         Ok(Lows { count, places })

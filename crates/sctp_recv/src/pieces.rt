@@ -15,8 +15,10 @@ ghost use Rattle.sctp_recv.specs.inner.Rows.{IsRowOf, IsWanted};
 
 use crate::answer::{Answer, Row, TsnPlace, place_of_tsn};
 use crate::give::keep_in;
+use crate::inbound::Inbound;
 use crate::places::Lows;
 use crate::receiver::Receiver;
+use crate::stream::make;
 use sctp_framing::Framing;
 use sctp_values::{Kind, NoMemory};
 use sctp_wire::Piece;
@@ -88,10 +90,10 @@ impl<F: Framing> Receiver<F> {
         if stream >= self.streams.len() {
             return Row::NoSuchStream { index };
         }
-        let inbound = &self.streams[stream];
+        let known = &self.streams[stream];
         let kind = Kind::of_flag(piece.unordered);
-        let number = inbound.number_near(kind, piece.number);
-        if inbound.is_late(kind, number) || inbound.is_held(piece, number) {
+        let number = known.number_near(kind, piece.number);
+        if known.is_late(kind, number) || known.is_held(piece, number) {
             return Row::Passed { index };
         }
         if piece.bytes.len() > self.buffer.saturating_sub(self.held) as usize {
@@ -115,7 +117,11 @@ impl<F: Framing> Receiver<F> {
             return Ok(());
         }
         self.seen.reserve()?;
-        let inbound = &mut self.streams[stream];
+        make(self.alloc, &mut self.streams[stream])?;
+        let Some(made) = &mut self.streams[stream].inbound else {
+            return Ok(());
+        };
+        let inbound: &mut Inbound<F> = made;
         let before = inbound.kept_bytes();
         let given = keep_in(inbound, piece, index, number)?;
         self.held = self

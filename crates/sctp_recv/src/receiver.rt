@@ -4,8 +4,9 @@ ghost use Rattle.std.specs.Prelude.{◌≡◌, ℕ, ◌≤◌, ◌-◌, IfOk, Ma
 ghost use Rattle.sctp_model.specs.wire.Chunk.{BlockMeaning, Sack};
 ghost use Rattle.sctp_model.specs.numbers.Limits.{RUN_LIMIT};
 ghost use Rattle.sctp_model.specs.numbers.Serial.{tsn};
-ghost use Rattle.sctp_model.specs.receiver.ReceiverView.{ReceiverView, IsCumulative, fresh_receiver, held_bytes, room_left};
+ghost use Rattle.sctp_model.specs.receiver.ReceiverView.{ReceiverView, IsCumulative, fresh_receiver, held_bytes};
 ghost use Rattle.sctp_model.specs.receiver.SackMade.{AreAllRuns, IsSack, sack_sent, TakeLeaves};
+ghost use Rattle.sctp_model.specs.end.Arriving.{TellsGap};
 ghost use Rattle.sctp_wire.specs.Layouts.{Fits};
 ghost use Rattle.sctp_recv.specs.HandedOf.{handed_of};
 ghost use Rattle.sctp_recv.specs.SackOf.{lists_meaning};
@@ -13,11 +14,11 @@ ghost use Rattle.sctp_recv.specs.StandsFor.{StandsFor};
 
 use crate::duplicates::Duplicates;
 use crate::give::less;
-use crate::inbound::{Inbound, fresh_streams, take_first};
 use crate::message::Message;
 use crate::places::Lows;
 use crate::sack::SackLists;
 use crate::seen::Seen;
+use crate::stream::{Stream, fresh_streams, take_first};
 use sctp_framing::Framing;
 use sctp_serial::tsn_of;
 use sctp_values::NoMemory;
@@ -31,7 +32,7 @@ pub struct Receiver<F: Framing> {
     pub(crate) buffer: u32,
     pub(crate) held: u32,
     pub(crate) seen: Seen,
-    pub(crate) streams: Vec<Inbound<F>>,
+    pub(crate) streams: Vec<Stream<F>>,
     pub(crate) duplicates: Duplicates,
     /// Of each stream a bound of the indexes of the unordered chunks kept, where their messages have no number.
     pub(crate) lows: Lows,
@@ -90,6 +91,13 @@ impl<F: Framing> Receiver<F> {
         self.seen.run_count()
     }
 
+    /// Whether an index above the cumulative one came, so that one below it is missing (RFC 9260, 6.2).
+    pub fn has_gap(&self) -> bool
+        ensures { (v : ReceiverView) → StandsFor F.format self.now v → TellsGap result v }
+    {
+        self.seen.has_runs()
+    }
+
     /// How many streams there are.
     pub fn stream_count(&self) -> u16
         ensures { (v : ReceiverView) → StandsFor F.format self.now v → result ≡ v.streams }
@@ -102,8 +110,7 @@ impl<F: Framing> Receiver<F> {
         ensures { (v : ReceiverView) → StandsFor F.format self.now v → MatchOption result (slice_get (v.waiting stream) place ≡ None)
             (λ m. slice_get (v.waiting stream) place ≡ Some (handed_of m.now)) }
     {
-        let inbound = self.streams.get(usize::from(stream))?;
-        inbound.waiting.get(place)
+        self.streams.get(usize::from(stream))?.message(place)
     }
 
     /// What a SACK says now. Nothing changes.

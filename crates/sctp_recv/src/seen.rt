@@ -1,11 +1,11 @@
 //! Which indexes came: none is missing up to the cumulative one, and above it there are runs. Nothing here knows of data.
 
-ghost use Rattle.std.specs.Prelude.{◌≡◌, ℕ, suc, ◌+◌, ◌≤◌, ◌<◌, ◌%◌, [], true, false, OnOk, OnErr, IfOk, IsOk, take, map, length};
+ghost use Rattle.std.specs.Prelude.{◌≡◌, suc, ◌+◌, ◌≤◌, ◌<◌, ◌%◌, [], true, false, nat_lt, OnOk, OnErr, IsOk, take, map, length};
 ghost use Rattle.std.specs.List.{AllByRecursion};
 ghost use Rattle.sctp_wire.specs.Items.{blocks_in, IsBlock};
 ghost use Rattle.sctp_wire.specs.ChunkTree.{block_meaning};
 ghost use Rattle.sctp_recv.specs.Blocks.{block_of_run};
-ghost use Rattle.sctp_recv.specs.Runs.{AreRuns, AreSpaced, in_runs};
+ghost use Rattle.sctp_recv.specs.Runs.{AreSpaced};
 ghost use Rattle.sctp_recv.specs.SeenKept.{is_reached, seen_of, AreWithin, IsAdvanced};
 ghost use Rattle.sctp_recv.specs.SeenStands.{SeenStands, Records, Jumps};
 ghost use Rattle.sctp_model.specs.numbers.Limits.{WINDOW, BLOCK_LIMIT, RUN_LIMIT};
@@ -61,6 +61,13 @@ impl Seen {
         ensures bound { result ≤ RUN_LIMIT }
     {
         self.runs.len() as u32
+    }
+
+    /// Whether there is a run above it.
+    pub(crate) fn has_runs(&self) -> bool
+        ensures { result ≡ nat_lt 0 (length self.now.kept.runs) }
+    {
+        !self.runs.is_empty()
     }
 
     /// Appends the lowest 64 runs, as gap blocks.

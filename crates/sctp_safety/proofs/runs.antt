@@ -1,6 +1,6 @@
 mod Grown
 pub mod Direction
-mod Sending
+pub mod Sending
 mod Passing
 mod Nearness
 mod Hearing

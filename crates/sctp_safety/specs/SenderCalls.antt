@@ -1,5 +1,5 @@
 -- Laws of a sender's calls, whatever its peer says: the plan stays orderly, nothing is abandoned unasked, and each call has one result.
-use Rattle.std.specs.Prelude.{◌≡◌, ℕ, ◌⊎◌, true, List, Some, Option}
+use Rattle.std.specs.Prelude.{◌≡◌, ℕ, ◌<◌, ◌≤◌, ◌⊎◌, true, false, List, Some, Option}
 use Rattle.sctp_model.specs.messages.Format.{Format, Lane}
 use Rattle.sctp_model.specs.wire.Chunk.{SackMeaning}
 use Rattle.sctp_model.specs.messages.Plan.{Message, Plan, message_at}
@@ -11,7 +11,8 @@ use Rattle.sctp_model.specs.sender.Filling.{Wish, IsFill, fill}
 use Rattle.sctp_model.specs.sender.SackTaken.{sack_after, shutdown_after}
 use Rattle.sctp_model.specs.sender.Abandoning.{has_ticket, abandon_after, is_past, expired, timed_out}
 use Rattle.sctp_model.specs.sender.Readers.{point, drained}
-use Rattle.sctp_model.specs.sender.Forwarding.{forward_of}
+use Rattle.sctp_model.specs.sender.Forwarding.{forward_to}
+use Rattle.sctp_model.specs.sender.SentChunks.{fits_forward, forward_end}
 use Rattle.sctp_model.specs.sender.Reached.{IsReached}
 use Rattle.sctp_model.specs.world.World.{if_newly_abandoned, newly_abandoned}
 
@@ -85,10 +86,21 @@ pub record HasOneForward (f : Format) (plan : Plan) (c p : ℕ) : Type 0 where
 abbrev pub EachPlanHasOneForward : Type 0
 EachPlanHasOneForward = (f : Format) (plan : Plan) (c p : ℕ) → HasOneForward f plan c p
 
--- Of a view that calls reach the function gives the one from CUM to the point: of each numbered lane with an entry there the largest number, each lane once
+-- Of a view that calls reach the function gives the one from CUM to an index: of each numbered lane with an entry there the largest number, each lane once
 -- and in order. All other calls are functions as they stand.
 abbrev pub ForwardIsGiven : Type 0
-ForwardIsGiven = (f : Format) (v : SenderView) → IsReached f v → IsForward f v.plan v.cum (point v) (forward_of f v)
+ForwardIsGiven = (f : Format) (v : SenderView) (p : ℕ) → IsReached f v → IsForward f v.plan v.cum p (forward_to f v p)
+
+-- How far the FORWARD of a view goes: to the largest index from CUM to the point for which its chunk fits a packet of its own (RFC 3758, 3.5).
+pub record IsForwardEnd (f : Format) (limit : ℕ) (v : SenderView) (p : ℕ) : Type 0 where
+  pub from : v.cum ≤ p
+  pub upto : p ≤ point v
+  pub fits : v.cum < p → fits_forward f limit v p ≡ true
+  pub behind : (q : ℕ) → p < q → q ≤ point v → fits_forward f limit v q ≡ false
+
+-- There is one such index, and the function gives it.
+abbrev pub ForwardEndIsGiven : Type 0
+ForwardEndIsGiven = (f : Format) (limit : ℕ) (v : SenderView) → IsForwardEnd f limit v (forward_end f limit v) × ((p : ℕ) → IsForwardEnd f limit v p → p ≡ forward_end f limit v)
 
 -- ---- drained
 

@@ -1,6 +1,6 @@
 //! What a sender's calls keep, whatever its peer says.
 
-ghost use Rattle.sctp_safety.specs.SenderCalls.{AbandonedOnlyAsked, AbandonsItsOwnAlone, DrainedIsTold, EachPlanHasOneForward, EachViewHasOneFill, EachViewHasOnePoint, ForwardIsGiven, PlanStaysOrderly};
+ghost use Rattle.sctp_safety.specs.SenderCalls.{AbandonedOnlyAsked, AbandonsItsOwnAlone, DrainedIsTold, EachPlanHasOneForward, EachViewHasOneFill, EachViewHasOnePoint, ForwardEndIsGiven, ForwardIsGiven, PlanStaysOrderly};
 
 /// The plan of every view that calls reach is orderly, under both formats, whatever SACKs came (RFC 9260, 6.6 and 6.9; RFC 8260, 2.2).
 pub fn plan_stays_orderly()
@@ -17,12 +17,13 @@ pub fn abandons_its_own_alone()
     ensures { AbandonsItsOwnAlone }
 {}
 
-/// What is determined by its property is one: what goes into a packet, the point, and the FORWARD; and the functions give it.
+/// What is determined by its property is one: what goes into a packet, the point, the FORWARD, and how far it goes; and the functions give it.
 pub fn each_call_has_one_result()
     ensures fill { EachViewHasOneFill }
     ensures point { EachViewHasOnePoint }
     ensures forward { EachPlanHasOneForward }
     ensures given { ForwardIsGiven }
+    ensures upto { ForwardEndIsGiven }
 {}
 
 /// A sender is told drained just where nothing waits, nothing is in part, and all that has an index is acknowledged (RFC 9260, 9.2).

@@ -11,9 +11,9 @@ use Rattle.sctp_model.specs.end.Configured.{configuration_fault}
 use Rattle.sctp_script.specs.Configuration.{sizes}
 use Rattle.sctp_script.specs.Grammar.{LineMeaning, Silent, Pairs, Acts, Fault, CommandValues, AreGood, Spells, IsLineOf, Means, HasFault, HasNoFault, Says, SaysOneThing, meaning_of}
 use Rattle.sctp_words.specs.Lines.{IsSilent, kind_of}
-use Rattle.sctp_script.proofs.CommandLemmas.{command_or_none}
+use Rattle.sctp_script.proofs.CommandLemmas.{command_or_none, form_or_none}
 use Rattle.sctp_script.proofs.FieldLemmas.{WordsSay, one_values, values_or_none}
-use Rattle.sctp_script.proofs.LineLemmas.{first_and_others, first_of, one_command, one_list, Reads, out_of_order, faultless}
+use Rattle.sctp_script.proofs.LineLemmas.{first_and_others, first_of, one_name, one_list, Reads, out_of_order, faultless}
 use Rattle.sctp_script.proofs.OneMeaning.{silent_is_no_command, one_said}
 use Rattle.sctp_text.specs.declared.limits.TheConstants.{LONGEST_LINE}
 
@@ -27,6 +27,7 @@ none_or_not (Some x) = inr (λ h. cc (h))
 
 good_or_not : (c : Command) (vs : CommandValues c) → AreGood c vs ⊎ (AreGood c vs → ⊥)
 good_or_not command.Pair (limit, (fragment, (buffer, (streams, (mode, rest))))) = none_or_not (configuration_fault (sizes limit fragment buffer streams))
+good_or_not command.DelayedPair (limit, (fragment, (buffer, (streams, (mode, rest))))) = none_or_not (configuration_fault (sizes limit fragment buffer streams))
 good_or_not _ vs = inl tt
 
 decided : (say : WordsSay) (c : Command) (args : List (List ℕ)) → ((m : LineMeaning) × Spells c args m) ⊎ ((m : LineMeaning) → Spells c args m → ⊥)
@@ -64,7 +65,7 @@ above_count : (p : Bool) (line : List ℕ) (c : Command) (args : List (List ℕ)
 above_count p line c args short is count TooLong less h = omega (arith, short, h)
 above_count p line c args short is count UnknownCommand less h = h.1 c args is
 above_count p line c args short is count WordCount less (d, ys, g, other) =
-    other (sym (ap length (one_list line c d args ys is g)) ∙ count ∙ ap arguments_of (one_command line c d args ys is g))
+    other c (one_name line c d args ys is g) (sym (ap length (one_list line c d args ys is g)) ∙ count)
 above_count p line c args short is count BadValue less h = omega (arith, less)
 above_count p line c args short is count PairOrder less h = omega (arith, less)
 
@@ -97,6 +98,7 @@ IsSpoken (Fault f) = ⊥
 
 meant : (c : Command) (vs : CommandValues c) → IsSpoken (meaning_of c vs)
 meant command.Pair vs = tt
+meant command.DelayedPair vs = tt
 meant _ vs = tt
 
 spoken : (c : Command) (args : List (List ℕ)) (m : LineMeaning) → Spells c args m → IsSpoken m
@@ -121,14 +123,19 @@ read_says p line c args m r =
       | inr right ↦ (m, said p line m (spoken c args m r.says) (faultless p line c args m r right) (c, args, r.line_is, r.says))
     ]
 
+form_says : (say : WordsSay) (p : Bool) (line : List ℕ) (c : Command) (args : List (List ℕ)) → length line ≤ LONGEST_LINE → IsLineOf line c args
+    → length args ≡ arguments_of c → Something p line
+form_says say p line c args short is count =
+    elim (decided say c args) [
+      | inr none ↦ (Fault BadValue, ((c, args, is, count, none), above_count p line c args short is count))
+      | inl found ↦ read_says p line c args found.0 (record { short = short; line_is = is; count = count; says = found.1 })
+    ]
+
 command_says : (say : WordsSay) (p : Bool) (line : List ℕ) (c : Command) (args : List (List ℕ)) → length line ≤ LONGEST_LINE → IsLineOf line c args → Something p line
 command_says say p line c args short is =
-    elim (cases_eq (length args) (arguments_of c)) [
+    elim (form_or_none c (length args)) [
       | inr other ↦ (Fault WordCount, ((c, args, is, other), above_command p line c args short is))
-      | inl count ↦ elim (decided say c args) [
-        | inr none ↦ (Fault BadValue, ((c, args, is, count, none), above_count p line c args short is count))
-        | inl found ↦ read_says p line c args found.0 (record { short = short; line_is = is; count = count; says = found.1 })
-      ]
+      | inl form ↦ form_says say p line form.0 args short (is ∙ ap (λ (name : List ℕ). name ∷ args) (sym form.1)) form.2
     ]
 
 silent_or_not : (line : List ℕ) → IsSilent line ⊎ (IsSilent line → ⊥)

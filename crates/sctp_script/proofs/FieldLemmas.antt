@@ -1,5 +1,5 @@
 -- A word says one value of its field or none, and so do the words behind a command.
-use Rattle.std.proofs.Common.{◌≡◌, ℕ, ◌==◌, cond, ◌^◌, ◌⊎◌, inl, inr, List, [], ◌∷◌, length, slice_index, Option, None, Some, codes, refl, sym, ap, ◌∙◌, subst, arith}
+use Rattle.std.proofs.Common.{◌≡◌, ℕ, suc, ◌==◌, cond, ◌^◌, ◌⊎◌, inl, inr, List, [], ◌∷◌, length, slice_index, Option, None, Some, codes, refl, sym, ap, ◌∙◌, subst, arith}
 use Rattle.std.specs.Str.{bytes_eq}
 use Rattle.std.proofs.lemmas.Bool.{cases_Bool, cases_lt}
 use Rattle.std.proofs.lemmas.Slice.Eq.{bytes_eq-Decides}
@@ -7,8 +7,8 @@ use Rattle.sctp_model.specs.messages.Format.{Kind, Ordered, Unordered}
 use Rattle.sctp_model.specs.world.World.{Side, A, B}
 use Rattle.sctp_terms.specs.declared.mode.Mode.{Mode}
 use Rattle.sctp_terms.specs.declared.mode.Mode.TheVariants.{Data, PartialData, IData, PartialIData}
-use Rattle.sctp_words.specs.Fields.{IsNumber, IsUntil, kind_word, mode_word, Values, AreValues}
-use Rattle.sctp_script.specs.Fields.{Field, ASide, ANumber, ATag, AMode, AKind, AnUntil, SomeBytes, Value, IsValue}
+use Rattle.sctp_words.specs.Fields.{IsNumber, IsUntil, kind_word, mode_word, delay_word, Values, AreValues}
+use Rattle.sctp_script.specs.Fields.{Field, ASide, ANumber, ATag, AMode, ADelay, AKind, AnUntil, SomeBytes, Value, IsValue}
 use Rattle.sctp_script.specs.OutcomeText.{side_word}
 use Rattle.sctp_text.specs.Numerals.{IsDecimal, SaysOneNumber, SaysOneList}
 
@@ -69,6 +69,7 @@ one_value say ASide word x y a b = one_side x y (sym a ∙ b)
 one_value say (ANumber bits) word m n a b = (say.numbers word).one m n a.0 b.0
 one_value say ATag word m n a b = (say.numbers word).one m n a.0.0 b.0.0
 one_value say AMode word m n a b = one_mode m n (sym a ∙ b)
+one_value say ADelay word u v a b = refl
 one_value say AKind word k l a b = one_kind k l (sym a ∙ b)
 one_value say AnUntil word t u a b = one_until say word t u a b
 one_value say SomeBytes word xs ys a b = (say.bytes word).one xs ys a b
@@ -129,6 +130,13 @@ mode_or_none w =
       ]
     ]
 
+delay_or_none : (w : List ℕ) → IsSaid ADelay w
+delay_or_none w =
+    elim (same_or_not w delay_word) [
+      | inl is ↦ inl (tt, is)
+      | inr other ↦ inr (λ v is. other is)
+    ]
+
 no_kind : (w : List ℕ) → (w ≡ codes "o" → ⊥) → (w ≡ codes "u" → ⊥) → (k : Kind) → w ≡ kind_word k → ⊥
 no_kind w not_o not_u Ordered e = not_o e
 no_kind w not_o not_u Unordered e = not_u e
@@ -156,6 +164,7 @@ value_or_none say ASide w = side_or_none w
 value_or_none say (ANumber bits) w = number_or_none say bits w
 value_or_none say ATag w = tag_or_none say w
 value_or_none say AMode w = mode_or_none w
+value_or_none say ADelay w = delay_or_none w
 value_or_none say AKind w = kind_or_none w
 value_or_none say AnUntil w = until_or_none say w
 value_or_none say SomeBytes w = (say.bytes w).decided
@@ -206,6 +215,11 @@ values_or_none say (f ∷ fs) (w ∷ ws) =
         | inl vs ↦ inl ((v.0, vs.0), (w, ws, refl, v.1, vs.1))
       ]
     ]
+
+-- there are as many words as fields
+pub given_count : (fs : List Field) (words : List (List ℕ)) (vs : Given fs) → AreGiven fs words vs → length words ≡ length fs
+given_count [] words vs are = ap length are
+given_count (f ∷ fs) words vs are = ap length are.2 ∙ ap (λ (n : ℕ). suc n) (given_count fs are.1 vs.1 are.4)
 
 -- no word is left
 pub no_words : (words : List (List ℕ)) → length words ≡ 0 → words ≡ []

@@ -9,7 +9,7 @@ use Rattle.sctp_script.specs.Grammar.{LineMeaning, Silent, Pairs, Acts, Fault, S
 use Rattle.sctp_words.specs.Lines.{IsSilent, kind_of}
 use Rattle.sctp_script.proofs.CommandLemmas.{plain_name}
 use Rattle.sctp_script.proofs.FieldLemmas.{WordsSay, one_values}
-use Rattle.sctp_script.proofs.LineLemmas.{first_and_others, first_of, one_command, one_list}
+use Rattle.sctp_script.proofs.LineLemmas.{first_and_others, first_of, one_command, one_list, spelled_count}
 use Rattle.sctp_text.specs.SpacedWords.{words_of}
 
 -- the name of a command is not empty and doesn't begin as a comment does
@@ -31,7 +31,7 @@ one_spelled say c args m n a b = a.3 ∙ ap (meaning_of c) (one_values say (fiel
 
 one_meant : (say : WordsSay) (line : List ℕ) (m n : LineMeaning) → Means line m → Means line n → m ≡ n
 one_meant say line m n (c, xs, f, s) (d, ys, g, t) =
-    let same = one_command line c d xs ys f g in
+    let same = one_command line c d xs ys f g (spelled_count c xs m s) (spelled_count d ys n t) in
     let list = one_list line c d xs ys f g in
     one_spelled say c xs m n s (subst (λ (x : Command). Spells x xs n) (sym same) (subst (λ (zs : List (List ℕ)). Spells d zs n) (sym list) t))
 

@@ -45,8 +45,14 @@ of_pair PartialData l f b s good = record { own_port = refl; peer_port = refl; f
 of_pair IData l f b s good = record { own_port = refl; peer_port = refl; faultless = same_fault IData (sizes l f b s) ∙ good }
 of_pair PartialIData l f b s good = record { own_port = refl; peer_port = refl; faultless = same_fault PartialIData (sizes l f b s) ∙ good }
 
+-- SACKs that may wait change neither
+of_delayed : (c : Configuration) → IsOfPair c → IsOfPair (record c { delay = true })
+of_delayed c right = record { own_port = right.own_port; peer_port = right.peer_port; faultless = right.faultless }
+
 said_right : (c : Command) (args : List (List ℕ)) (vs : CommandValues c) → AreGiven (fields_of c) args vs → AreGood c vs → IsRight (meaning_of c vs)
 said_right command.Pair args (limit, (fragment, (buffer, (streams, (mode, rest))))) are good = of_pair mode limit fragment buffer streams good
+said_right command.DelayedPair args (limit, (fragment, (buffer, (streams, (mode, rest))))) are good =
+    of_delayed (asked mode (sizes limit fragment buffer streams)) (of_pair mode limit fragment buffer streams good)
 said_right command.Open args vs are good =
     (record { some = omega arith; tag = omega arith; tsn = omega arith }, record { some = omega arith; tag = omega arith; tsn = omega arith })
 said_right command.At args (moment, rest) (w, ws, is, number, others) good = number.1
@@ -74,6 +80,7 @@ of_the_pair paired line d (right, (c, args, is, spells)) = spelled_right c args 
 
 not_pair : (c : Command) (args : List (List ℕ)) (w : Wanted) → Spells c args (Acts w) → is_pair c ≡ false
 not_pair command.Pair args w spells = let is = spells.3 in cc
+not_pair command.DelayedPair args w spells = let is = spells.3 in cc
 not_pair _ args w spells = refl
 
 pub follows : (paired : Bool) (line : List ℕ) (w : Wanted) → Says paired line (Acts w) → paired ≡ true
@@ -88,6 +95,7 @@ IsNoPair (Fault fault) = Unit {0}
 
 is_the_pair : (c : Command) (args : List (List ℕ)) (d : Configuration) → Spells c args (Pairs d) → is_pair c ≡ true
 is_the_pair command.Pair args d spells = refl
+is_the_pair command.DelayedPair args d spells = refl
 is_the_pair _ args d spells = absurd (subst IsNoPair (sym spells.3) tt)
 
 pub leads : (paired : Bool) (line : List ℕ) (d : Configuration) → Says paired line (Pairs d) → paired ≡ false

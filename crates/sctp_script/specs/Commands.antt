@@ -1,16 +1,17 @@
--- The commands of a script: their names, which are all different, and the fields behind each.
-use Rattle.std.specs.Prelude.{ℕ, Bool, true, false, if◌then◌else◌, List, [], ◌∷◌, length, Option, None, Some, codes, bytes_eq}
-use Rattle.sctp_script.specs.Fields.{Field, ASide, ANumber, ATag, AMode, AKind, AnUntil, SomeBytes}
+-- The commands of a script: their names and the fields behind each. No two have both alike: `pair` alone has two forms, by how many words stand behind it.
+use Rattle.std.specs.Prelude.{ℕ, ◌==◌, Bool, true, false, if◌then◌else◌, List, [], ◌∷◌, ◌++◌, length, Option, None, Some, codes, bytes_eq}
+use Rattle.sctp_script.specs.Fields.{Field, ASide, ANumber, ATag, AMode, ADelay, AKind, AnUntil, SomeBytes}
 use Rattle.sctp_script.specs.declared.command.Command.{Command}
-use Rattle.sctp_script.specs.declared.command.Command.TheVariants.{Pair, Open, At, Draw, Connect, Build, Deliver, Foreign, Send, Abandon, Take, Shutdown, Abort}
+use Rattle.sctp_script.specs.declared.command.Command.TheVariants.{Pair, DelayedPair, Open, At, Draw, Connect, Build, Deliver, Foreign, Send, Abandon, Take, Shutdown, Abort}
 
 -- all commands
 abbrev pub commands : List Command
-commands = Pair ∷ Open ∷ At ∷ Draw ∷ Connect ∷ Build ∷ Deliver ∷ Foreign ∷ Send ∷ Abandon ∷ Take ∷ Shutdown ∷ Abort ∷ []
+commands = Pair ∷ DelayedPair ∷ Open ∷ At ∷ Draw ∷ Connect ∷ Build ∷ Deliver ∷ Foreign ∷ Send ∷ Abandon ∷ Take ∷ Shutdown ∷ Abort ∷ []
 
 -- the word that a command is
 abbrev pub name_of : Command → List ℕ
 name_of Pair = codes "pair"
+name_of DelayedPair = codes "pair"
 name_of Open = codes "open"
 name_of At = codes "at"
 name_of Draw = codes "draw"
@@ -28,10 +29,15 @@ name_of Abort = codes "abort"
 abbrev pub draw_fields : List Field
 draw_fields = ATag ∷ ANumber 32 ∷ []
 
--- pair LIMIT FRAGMENT BUFFER STREAMS MODE; open; at T; draw TAG TSN; connect TAG TSN; build X; deliver X N; foreign X HEX;
+-- LIMIT FRAGMENT BUFFER STREAMS MODE
+abbrev pub pair_fields : List Field
+pair_fields = ANumber 16 ∷ ANumber 16 ∷ ANumber 32 ∷ ANumber 16 ∷ AMode ∷ []
+
+-- pair LIMIT FRAGMENT BUFFER STREAMS MODE; the same and delay; open; at T; draw TAG TSN; connect TAG TSN; build X; deliver X N; foreign X HEX;
 -- send X STREAM KIND ID UNTIL HEX; abandon X K; take X STREAM; shutdown X; abort X HEX
 abbrev pub fields_of : Command → List Field
-fields_of Pair = ANumber 16 ∷ ANumber 16 ∷ ANumber 32 ∷ ANumber 16 ∷ AMode ∷ []
+fields_of Pair = pair_fields
+fields_of DelayedPair = pair_fields ++ ADelay ∷ []
 fields_of Open = []
 fields_of At = ANumber 64 ∷ []
 fields_of Draw = draw_fields
@@ -49,18 +55,25 @@ fields_of Abort = ASide ∷ SomeBytes ∷ []
 abbrev pub arguments_of : Command → ℕ
 arguments_of c = length (fields_of c)
 
+-- a command's form where so many words stand behind it
+abbrev pub form_of : Command → ℕ → Command
+form_of Pair n = if n == 6 then DelayedPair else Pair
+form_of DelayedPair n = if n == 6 then DelayedPair else Pair
+form_of c n = c
+
 -- the first of these commands with this name
 abbrev pub first_named : List ℕ → List Command → Option Command
 first_named word [] = None
 first_named word (c ∷ cs) = if bytes_eq word (name_of c) then Some c else first_named word cs
 
--- the command of this name
+-- the command of this name; of `pair` the shorter form
 abbrev pub command_named : List ℕ → Option Command
 command_named word = first_named word commands
 
--- the one command that stands before any other
+-- what stands before any other command, in either form
 abbrev pub is_pair : Command → Bool
 is_pair Pair = true
+is_pair DelayedPair = true
 is_pair _ = false
 
 -- bytes stand behind it

@@ -4,14 +4,14 @@ use Rattle.sctp_model.specs.messages.Format.{Kind}
 use Rattle.sctp_model.specs.world.World.{Side}
 use Rattle.sctp_terms.specs.declared.mode.Mode.{Mode}
 use Rattle.sctp_script.specs.OutcomeText.{side_word}
-use Rattle.sctp_words.specs.Fields.{IsNumber, IsTag, IsUntil, kind_word, mode_word}
+use Rattle.sctp_words.specs.Fields.{IsNumber, IsTag, IsUntil, kind_word, mode_word, delay_word}
 use Rattle.sctp_text.specs.Numerals.{IsHex}
 
--- X; a number of so many bits; TAG, which isn't 0; MODE; KIND; UNTIL; HEX
+-- X; a number of so many bits; TAG, which isn't 0; MODE; `delay`; KIND; UNTIL; HEX
 pub data Field : Type 0 where
   ASide : Field
   ANumber : (bits : ℕ) → Field
-  ATag AMode AKind AnUntil SomeBytes : Field
+  ATag AMode ADelay AKind AnUntil SomeBytes : Field
 
 -- what a word of a field says
 abbrev pub Value : Field → Type 0
@@ -19,6 +19,7 @@ Value ASide = Side
 Value (ANumber bits) = ℕ
 Value ATag = ℕ
 Value AMode = Mode
+Value ADelay = Unit {0}
 Value AKind = Kind
 Value AnUntil = Option ℕ
 Value SomeBytes = List ℕ
@@ -29,6 +30,7 @@ IsValue ASide word x = word ≡ side_word x
 IsValue (ANumber bits) word n = IsNumber bits word n
 IsValue ATag word n = IsTag word n
 IsValue AMode word m = word ≡ mode_word m
+IsValue ADelay word v = word ≡ delay_word
 IsValue AKind word k = word ≡ kind_word k
 IsValue AnUntil word t = IsUntil word t
 IsValue SomeBytes word bytes = IsHex word bytes

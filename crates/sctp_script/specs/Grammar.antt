@@ -1,5 +1,5 @@
 -- The script's grammar: what a line says. A line is bytes without the line feed.
-use Rattle.std.specs.Prelude.{◌≡◌, ◌≢◌, ℕ, ◌<◌, Bool, List, ◌∷◌, length, None}
+use Rattle.std.specs.Prelude.{◌≡◌, ◌≢◌, ℕ, ◌<◌, Bool, true, List, ◌∷◌, length, None}
 use Rattle.sctp_model.specs.end.EndView.{Configuration, Draw}
 use Rattle.sctp_model.specs.end.Configured.{configuration_fault}
 use Rattle.sctp_model.specs.world.Events.{OpenBoth, At, Drawing, Connect, Build, Deliver, Send, Abandon, Take, Shutdown, Abort}
@@ -37,6 +37,7 @@ draw_of tag tsn = record { tag = tag; tsn = tsn }
 -- What a command with these values says; `open` draws tag 1 for A and tag 2 for B, and TSN 1 for both.
 abbrev pub meaning_of : (c : Command) → CommandValues c → LineMeaning
 meaning_of command.Pair (limit, (fragment, (buffer, (streams, (mode, rest))))) = Pairs (asked mode (sizes limit fragment buffer streams))
+meaning_of command.DelayedPair (limit, (fragment, (buffer, (streams, (mode, rest))))) = Pairs (record (asked mode (sizes limit fragment buffer streams)) { delay = true })
 meaning_of command.Open rest = Acts (Happens (OpenBoth (draw_of 1 1) (draw_of 2 1)))
 meaning_of command.At (moment, rest) = Acts (Happens (At moment))
 meaning_of command.Draw (tag, (tsn, rest)) = Acts (Happens (Drawing (draw_of tag tsn)))
@@ -54,6 +55,7 @@ meaning_of command.Abort (x, (reason, rest)) = Acts (Happens (Abort x reason))
 -- the values say something together: those of `pair` are a configuration without a fault
 abbrev pub AreGood : (c : Command) → CommandValues c → Type 0
 AreGood command.Pair (limit, (fragment, (buffer, (streams, (mode, rest))))) = configuration_fault (sizes limit fragment buffer streams) ≡ None
+AreGood command.DelayedPair (limit, (fragment, (buffer, (streams, (mode, rest))))) = configuration_fault (sizes limit fragment buffer streams) ≡ None
 AreGood _ vs = Unit {0}
 
 -- What a command says with these words behind it.
@@ -70,7 +72,8 @@ IsLineOf line c args = words_of line ≡ name_of c ∷ args
 abbrev pub HasFault : Bool → List ℕ → LineFault → Type 0
 HasFault paired line TooLong = LONGEST_LINE < length line
 HasFault paired line UnknownCommand = (IsSilent line → ⊥) × ((c : Command) (args : List (List ℕ)) → IsLineOf line c args → ⊥)
-HasFault paired line WordCount = (c : Command) × (args : List (List ℕ)) × IsLineOf line c args × (length args ≢ arguments_of c)
+HasFault paired line WordCount =
+    (c : Command) × (args : List (List ℕ)) × IsLineOf line c args × ((d : Command) → name_of d ≡ name_of c → length args ≢ arguments_of d)
 HasFault paired line BadValue =
     (c : Command) × (args : List (List ℕ)) × IsLineOf line c args × (length args ≡ arguments_of c)
     × ((m : LineMeaning) → Spells c args m → ⊥)

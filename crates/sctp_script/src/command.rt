@@ -1,12 +1,15 @@
 //! The commands of a script.
 
-ghost use Rattle.std.specs.Prelude.{◌≡◌, MatchOption};
-ghost use Rattle.sctp_script.specs.Commands.{name_of, arguments_of, is_pair};
+ghost use Rattle.std.specs.Prelude.{◌≡◌, ◌≢◌, MatchOption};
+ghost use Rattle.sctp_script.specs.Commands.{name_of, arguments_of, form_of, is_pair};
 
-/// A command of the script.
+/// A command of the script. `pair` has two forms, a command each.
 #[derive(Clone, Copy)]
 pub enum Command {
+    /// `pair` with five words behind it.
     Pair,
+    /// `pair` with `delay` behind them.
+    DelayedPair,
     Open,
     At,
     Draw,
@@ -22,7 +25,7 @@ pub enum Command {
 }
 
 impl Command {
-    /// The command of this name.
+    /// The command of this name; of `pair` the shorter form.
     pub fn named(word: &[u8]) -> Option<Command>
         ensures { MatchOption result ((c : Command) → word.now ≡ name_of c → ⊥) (λ c. word.now ≡ name_of c) }
     {
@@ -44,6 +47,31 @@ impl Command {
         }
     }
 
+    /// The command of the same name behind which so many words stand.
+    pub fn with_arguments(self, count: usize) -> Option<Command>
+        ensures { MatchOption result
+            ((c : Command) → name_of c ≡ name_of self → count ≢ arguments_of c)
+            (λ c. (name_of c ≡ name_of self) × (count ≡ arguments_of c)) }
+    {
+        let form = self.form(count);
+        if count == form.arguments() {
+            Some(form)
+        } else {
+            None
+        }
+    }
+
+    /// Its form where so many words stand behind it.
+    fn form(self, count: usize) -> Command
+        ensures { result ≡ form_of self count }
+    {
+        match self {
+            Command::Pair | Command::DelayedPair if count == 6 => Command::DelayedPair,
+            Command::Pair | Command::DelayedPair => Command::Pair,
+            command => command,
+        }
+    }
+
     /// How many words stand behind it.
     pub fn arguments(self) -> usize
         ensures { result ≡ arguments_of self }
@@ -59,14 +87,14 @@ impl Command {
             | Command::Take
             | Command::Abort => 2,
             Command::Pair => 5,
-            Command::Send => 6,
+            Command::DelayedPair | Command::Send => 6,
         }
     }
 
-    /// It is `pair`.
+    /// It is `pair`, in either form.
     pub fn is_pair(self) -> bool
         ensures { result ≡ is_pair self }
     {
-        matches!(self, Command::Pair)
+        matches!(self, Command::Pair | Command::DelayedPair)
     }
 }

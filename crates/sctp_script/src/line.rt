@@ -7,8 +7,8 @@ ghost use Rattle.sctp_script.specs.ReadLineAnswer.{Finds, Refuses, acting_meanin
 
 use crate::command::Command;
 use crate::command_words::{
-    opening, read_abandon, read_abort, read_at, read_build, read_connect, read_deliver,
-    read_drawing, read_foreign, read_pair, read_send, read_shutdown, read_take,
+    opening, read_abandon, read_abort, read_at, read_build, read_connect, read_delayed_pair,
+    read_deliver, read_drawing, read_foreign, read_pair, read_send, read_shutdown, read_take,
 };
 use sctp_events::{Event, PairConfig};
 use sctp_text::{LONGEST_LINE, Words};
@@ -40,12 +40,12 @@ pub fn read_line(alloc: Global, line: &[u8], paired: bool) -> Result<Option<Acti
         return Ok(None);
     }
     let mut words = Words::of(line);
-    let Some(command) = Command::named(words.next_word()) else {
+    let Some(named) = Command::named(words.next_word()) else {
         return Err(LineError::Fault(LineFault::UnknownCommand));
     };
-    if words.count() != command.arguments() {
+    let Some(command) = named.with_arguments(words.count()) else {
         return Err(LineError::Fault(LineFault::WordCount));
-    }
+    };
     match read_acting(alloc, command, words) {
         Ok(Some(acting)) => {
             if command.is_pair() == paired {
@@ -73,6 +73,7 @@ fn read_acting(
 {
     match command {
         Command::Pair => Ok(read_pair(words)),
+        Command::DelayedPair => Ok(read_delayed_pair(words)),
         Command::Open => Ok(Some(opening(words))),
         Command::At => Ok(read_at(words)),
         Command::Draw => Ok(read_drawing(words)),

@@ -1,8 +1,8 @@
 -- The lanes of a FORWARD, found in one walk: each entry is noted in its lane's place, and what is found is what the definition says.
-use Rattle.std.proofs.Common.{◌≡◌, ℕ, zero, suc, ◌+◌, ◌*◌, ◌/◌, ◌%◌, ◌<◌, ◌≤◌, max, List, [], ◌∷◌, ◌++◌, length, map, take, drop, set, get_or, Bool, true, false, Option, Some, None, refl, sym, ap, ◌∙◌, arith, append_assoc, subst}
+use Rattle.std.proofs.Common.{◌≡◌, ℕ, zero, suc, ◌+◌, ◌*◌, ◌%◌, ◌<◌, ◌≤◌, max, List, [], ◌∷◌, ◌++◌, length, map, take, drop, set, get_or, Bool, true, false, Option, Some, None, refl, sym, ap, ◌∙◌, arith, append_assoc, subst}
 use Rattle.std.specs.Prelude.{◌&&◌, ◌==◌, nat_lt, if◌then◌else◌}
 use Rattle.std.proofs.lemmas.Bool.Decides.{nat_tests}
-use Rattle.std.specs.List.{AllByRecursion}
+use Rattle.std.specs.List.{AllByRecursion, refill}
 use Rattle.std.proofs.lemmas.List.{length-map, map-append, map-set, take_more, get_or-map}
 use Rattle.sctp_model.specs.messages.Format.{Format, Plain, Interleaved, Kind, Ordered, Unordered, Lane, is_numbered, same_kind, same_lane}
 use Rattle.sctp_model.specs.messages.Plan.{Entry}
@@ -381,22 +381,6 @@ lanes_step f size s at es x was now lt read is so_far =
     is ∙ ap (noted_entry f s (item_meaning size x).entry) so_far ∙ sym (skips_more f s (entries_of (map (item_meaning size) (take at es))) (item_meaning size x).entry)
     ∙ ap (λ (xs : List Entry). skips_below f xs s) (sym entries)
 
-split : (size k run : ℕ) (es : List EntryFields) → k ≤ run → (ds : List Entry) × (entries_of (map (item_meaning size) (take run es)) ≡ entries_of (map (item_meaning size) (take k es)) ++ ds)
-split size zero run es le = (entries_of (map (item_meaning size) (take run es)), refl)
-split size (suc k) zero es le = absurd (omega arith)
-split size (suc k) (suc run) [] le = ([], refl)
-split size (suc k) (suc run) (e ∷ es) le = let rest = split size k run es (omega arith) in (rest.0, ap (λ (xs : List Entry). (item_meaning size e).entry ∷ xs) rest.1)
-
--- too many lanes so far are too many of all
-pub too_many : (f : Format) (size s k run most : ℕ) (es : List EntryFields) (xs : List Skip) → k ≤ run → most < length xs → xs ≡ skips_below f (entries_of (map (item_meaning size) (take k es))) s
-    → most < length (skips_below f (entries_of (map (item_meaning size) (take run es))) s)
-too_many f size s k run most es xs le over is =
-    let parts = split size k run es le in
-    let longer = skips_longer f s (entries_of (map (item_meaning size) (take k es))) parts.0 in
-    let all = ap (λ (ys : List Entry). length (skips_below f ys s)) parts.1 in
-    let here : length xs ≡ length (skips_below f (entries_of (map (item_meaning size) (take k es))) s) = ap length is in
-    omega (arith, longer, all, here, over)
-
 pub passed_read : (lanes : List Passed) (at : ℕ) (x : Passed) → at < length lanes → x ≡ get_or lanes at x → get_or (map passed_meaning lanes) at (passed_meaning x) ≡ passed_meaning x
 passed_read lanes at x lt read = get_or-map passed_meaning lanes at x (passed_meaning x) lt ∙ ap passed_meaning (sym read)
 
@@ -433,23 +417,6 @@ said_all f lanes at le = ap (λ (xs : List Passed). map (skip_said f) (map passe
     whole [] (suc n) lt = refl
     whole (x ∷ xs) zero lt = absurd (omega arith)
     whole (x ∷ xs) (suc n) lt = ap (λ (ys : List Passed). x ∷ ys) (whole xs n (omega arith))
-
--- how many entries there is room for
-pub over_most : (f : Format) (room long n size : ℕ) → size ≡ skip_size (skip_form f) → long ≡ skip_size (skip_form f) * n → room < long → room / size < n
-over_most Plain room long n size is count over = rw is (omega (arith, count))
-over_most Interleaved room long n size is count over = rw is (omega (arith, count))
-
-pub under_most : (f : Format) (room long n size : ℕ) → size ≡ skip_size (skip_form f) → long ≡ skip_size (skip_form f) * n → long ≤ room → n ≤ room / size
-under_most Plain room long n size is count under = rw is (omega (arith, count))
-under_most Interleaved room long n size is count under = rw is (omega (arith, count))
-
-pub most_over : (f : Format) (room n size : ℕ) → size ≡ skip_size (skip_form f) → room / size < n → room < skip_size (skip_form f) * n
-most_over Plain room n size is over = let less : room / 4 < n = rw is at over in omega (arith, less)
-most_over Interleaved room n size is over = let less : room / 8 < n = rw is at over in omega (arith, less)
-
-pub some_size : (f : Format) → 0 < skip_size (skip_form f)
-some_size Plain = omega arith
-some_size Interleaved = omega arith
 
 -- ---- places of lanes
 
@@ -490,6 +457,25 @@ put_in lanes at next d is other =
     map_insert at lanes next
     ∙ noted_new (passed_meaning next).lane next.number at (map passed_meaning lanes) (passed_meaning d) is
     (λ lt same. let low : at < length lanes = omega (arith, lt, long) in other low (sym (lane_read lanes at d low) ∙ same))
+
+-- and makes them one more
+pub one_more : (lanes : List Passed) (at : ℕ) (next d : Passed) → at ≡ before (lane_key (passed_meaning next).lane) (map passed_meaning lanes)
+    → (at < length lanes → lane_key (passed_meaning (get_or lanes at d)).lane ≡ lane_key (passed_meaning next).lane → ⊥)
+    → length (noted (passed_meaning next).lane next.number (map passed_meaning lanes)) ≡ suc (length lanes)
+one_more lanes at next d is other =
+    ap (λ (xs : List Skip). length xs) (sym (put_in lanes at next d is other)) ∙ length-map (take at lanes ++ next ∷ drop at lanes) passed_meaning ∙ between at lanes
+  where
+    between : (n : ℕ) (xs : List Passed) → length (take n xs ++ next ∷ drop n xs) ≡ suc (length xs)
+    between zero xs = refl
+    between (suc n) [] = refl
+    between (suc n) (x ∷ xs) = ap suc (between n xs)
+
+-- a slice as long as the whole, put back
+pub put_back : (xs ys : List Passed) → length ys ≡ length xs → refill (length xs) xs ys ≡ ys
+put_back [] [] same = refl
+put_back [] (y ∷ ys) same = absurd (omega (arith, same))
+put_back (x ∷ xs) [] same = absurd (omega (arith, same))
+put_back (x ∷ xs) (y ∷ ys) same = ap (λ (zs : List Passed). y ∷ zs) (put_back xs ys (omega (arith, same)))
 
 -- an entry put behind whole ones
 pub whole_before : (f : Format) (form : SkipForm) (n m : ℕ) → form ≡ skip_form f → n ≡ skip_size (skip_form f) * m → n % skip_size form ≡ 0

@@ -21,6 +21,7 @@ pub mod EndLemmas
 pub mod AnswerLemmas
 pub mod LaneLemmas
 pub mod ForwardLemmas
+pub mod ReachLemmas
 pub mod GoneLemmas
 pub mod WishLemmas
 pub mod NewItems

@@ -1,7 +1,7 @@
 //! The lanes that a FORWARD names: found in one walk over the entries that are passed, each with its largest number (RFC 3758, 3.5; RFC
 //! 8260, 2.3.1).
 
-ghost use Rattle.std.specs.Prelude.{◌≡◌, ℕ, ◌<◌, ◌≤◌, ◌*◌, ◌++◌, ◌∷◌, [], length, map, take, IfOk, OnOk};
+ghost use Rattle.std.specs.Prelude.{◌≡◌, ℕ, ◌+◌, ◌<◌, ◌≤◌, ◌*◌, ◌++◌, ◌∷◌, [], true, false, length, map, take, IfOk, OnOk};
 ghost use Rattle.std.specs.List.{AllByRecursion};
 ghost use Rattle.sctp_model.specs.sender.Forwarding.{skips_below};
 ghost use Rattle.sctp_model.specs.sender.SentChunks.{skip_said};
@@ -12,6 +12,7 @@ ghost use Rattle.sctp_send.specs.inner.Lanes.{lane_key, passed_meaning, AreRisin
 
 use crate::entry::Entry;
 use crate::outstanding::Outstanding;
+use arrayvec::ArrayVec;
 use sctp_framing::Framing;
 use sctp_values::{Kind, NoMemory};
 use sctp_wire::{Skip, put_skip};
@@ -19,87 +20,108 @@ use std::alloc::Global;
 
 /// A lane, and its largest number so far.
 #[derive(Clone, Copy)]
-pub struct Passed {
+pub(crate) struct Passed {
     stream: u16,
     kind: Kind,
     number: u32,
 }
 
-/// The lanes below `streams` of the first `run` entries, in order, each with its largest number. Where they are more than `most`, it stops at
-/// the first entry that shows it.
-///
-/// # Errors
-/// `NoMemory`.
-pub fn lanes_below<F: Framing>(
-    alloc: Global,
+impl Default for Passed {
+    fn default() -> Passed {
+        Passed {
+            stream: 0,
+            kind: Kind::Ordered,
+            number: 0,
+        }
+    }
+}
+
+/// Lanes in order. There is room for as many as the FORWARD of the longest packet names: 1,500 bytes, less 20 beside the entries, by 4.
+pub(crate) type Lanes = ArrayVec<Passed, 370>;
+
+/// Notes the lanes below `streams` of the first entries, of as many of the first `run` as have no more than `most` lanes, and answers how many
+/// entries these are. It takes no memory.
+pub(crate) fn note_first<F: Framing>(
+    lanes: &mut Lanes,
     outstanding: &Outstanding,
     run: u32,
     streams: u16,
     most: usize,
-) -> Result<Vec<Passed>, NoMemory>
-    requires { run ≤ length outstanding.now.items }
-    ensures lanes { (size : ℕ) → IfOk result (λ lanes. length lanes.items ≤ most
-        → map passed_meaning lanes.items ≡ skips_below F.format (entries_of (map (item_meaning size) (take run outstanding.now.items))) streams) }
-    ensures many { (size : ℕ) → IfOk result (λ lanes. most < length lanes.items
-        → most < length (skips_below F.format (entries_of (map (item_meaning size) (take run outstanding.now.items))) streams)) }
-    ensures fits { IfOk result (λ lanes. AllByRecursion (IsSkip (skip_form F.format)) (map (skip_said F.format) (map passed_meaning lanes.items))) }
+) -> u32
+    requires none { lanes.old.items ≡ [] }
+    requires run { run ≤ length outstanding.now.items }
+    requires most { most ≤ 370 }
+    ensures within { result ≤ run }
+    ensures lanes { (size : ℕ) → map passed_meaning lanes.new.items
+        ≡ skips_below F.format (entries_of (map (item_meaning size) (take result outstanding.now.items))) streams }
+    ensures few { length lanes.new.items ≤ most }
+    ensures last { (size : ℕ) → result < run
+        → most < length (skips_below F.format (entries_of (map (item_meaning size) (take (result + 1) outstanding.now.items))) streams) }
 {
-    let mut lanes = Vec::new(alloc);
     for at in 0..run {
-        note_entry::<F>(&mut lanes, outstanding.get(at as usize), streams)?;
-        if lanes.len() > most {
-            return Ok(lanes);
+        if !note_entry::<F>(lanes, outstanding.get(at as usize), streams, most) {
+            return at;
         }
     }
-    Ok(lanes)
+    run
 }
 
-/// Notes the number of an entry, where its lane is numbered, and its stream one of so many.
-fn note_entry<F: Framing>(
-    lanes: &mut Vec<Passed>,
-    entry: &Entry,
-    streams: u16,
-) -> Result<(), NoMemory>
-    requires { AreRising 0 (map passed_meaning lanes.old.items) }
-    ensures { (size : ℕ) → OnOk result (map passed_meaning lanes.new.items
-        ≡ noted_entry F.format streams (item_meaning size entry.now).entry (map passed_meaning lanes.old.items)) }
+/// Notes the number of an entry, where its lane is numbered, and its stream one of so many. False where that would be a lane more than
+/// `most`: then nothing is noted.
+fn note_entry<F: Framing>(lanes: &mut Lanes, entry: &Entry, streams: u16, most: usize) -> bool
+    requires rising { AreRising 0 (map passed_meaning lanes.old.items) }
+    requires few { length lanes.old.items ≤ most }
+    requires most { most ≤ 370 }
+    ensures noted { (size : ℕ) → result ≡ true → map passed_meaning lanes.new.items
+        ≡ noted_entry F.format streams (item_meaning size entry.now).entry (map passed_meaning lanes.old.items) }
+    ensures full { (size : ℕ) → result ≡ false
+        → most < length (noted_entry F.format streams (item_meaning size entry.now).entry (map passed_meaning lanes.old.items)) }
+    ensures same { result ≡ false → lanes.new.items ≡ lanes.old.items }
+    ensures few { length lanes.new.items ≤ most }
 {
     let stream = entry.message.stream;
     let kind = entry.message.kind;
     if stream >= streams || !F::is_numbered(kind) {
-        return Ok(());
+        return true;
     }
     let next = Passed {
         stream,
         kind,
         number: entry.number,
     };
-    note(lanes, next)
+    note(lanes, next, most)
 }
 
-/// Notes the number of a lane: the larger one, where the lane has one already.
-fn note(lanes: &mut Vec<Passed>, next: Passed) -> Result<(), NoMemory>
-    requires { AreRising 0 (map passed_meaning lanes.old.items) }
-    ensures { OnOk result (map passed_meaning lanes.new.items
-        ≡ noted (lane_of next.stream next.kind) next.number (map passed_meaning lanes.old.items)) }
+/// Notes the number of a lane: the larger one, where the lane has one already. False where that would be a lane more than `most`: then
+/// nothing is noted.
+fn note(lanes: &mut Lanes, next: Passed, most: usize) -> bool
+    requires rising { AreRising 0 (map passed_meaning lanes.old.items) }
+    requires few { length lanes.old.items ≤ most }
+    requires most { most ≤ 370 }
+    ensures noted { result ≡ true → map passed_meaning lanes.new.items
+        ≡ noted (lane_of next.stream next.kind) next.number (map passed_meaning lanes.old.items) }
+    ensures full { result ≡ false → most < length (noted (lane_of next.stream next.kind) next.number (map passed_meaning lanes.old.items)) }
+    ensures same { result ≡ false → lanes.new.items ≡ lanes.old.items }
+    ensures few { length lanes.new.items ≤ most }
 {
     let key = key_of(next);
-    let place = place_of(lanes, key);
+    let place = place_of(lanes.as_slice(), key);
     if place < lanes.len() {
-        let found = lanes[place];
+        let found = lanes.as_slice()[place];
         if key_of(found) == key {
-            lanes[place] = Passed {
+            lanes.as_mut_slice()[place] = Passed {
                 stream: found.stream,
                 kind: found.kind,
                 number: found.number.max(next.number),
             };
-            return Ok(());
+            return true;
         }
     }
-    match lanes.insert(place, next) {
-        Ok(()) => Ok(()),
-        Err(_) => Err(NoMemory),
+    if lanes.len() >= most {
+        return false;
     }
+    lanes.insert(place, next);
+    true
 }
 
 /// How many of these lanes, which stand in order, come before one.
@@ -136,7 +158,7 @@ fn key_of(lane: Passed) -> u32
 ///
 /// # Errors
 /// `NoMemory`.
-pub fn list_of<F: Framing>(alloc: Global, lanes: &[Passed]) -> Result<Vec<u8>, NoMemory>
+pub(crate) fn list_of<F: Framing>(alloc: Global, lanes: &[Passed]) -> Result<Vec<u8>, NoMemory>
     requires { AllByRecursion (IsSkip (skip_form F.format)) (map (skip_said F.format) (map passed_meaning lanes.now)) }
     ensures count { IfOk result (λ list. length list.items ≡ skip_size (skip_form F.format) * length (skips_in (skip_form F.format) list.items)) }
     ensures skips { IfOk result (λ list. skips_in (skip_form F.format) list.items ≡ map (skip_said F.format) (map passed_meaning lanes.now)) }

@@ -1,2 +1,1 @@
 pub use Rattle.sctp_model.specs.numbers.Serial
-pub mod NearLaws

@@ -24,7 +24,7 @@ impl S32 {
 }
 
 impl Serial for S16 {
-    ghost use Rattle.sctp_serial.specs.NearLaws.{near_answers_16, near_is_one_16, near_finds_16};
+    ghost use Rattle.sctp_model.proofs.NearLaws.{near_answers_16, near_is_one_16, near_finds_16};
 
     ghost bits = { 16 };
 
@@ -56,7 +56,7 @@ impl Serial for S16 {
 }
 
 impl Serial for S32 {
-    ghost use Rattle.sctp_serial.specs.NearLaws.{near_answers_32, near_is_one_32, near_finds_32};
+    ghost use Rattle.sctp_model.proofs.NearLaws.{near_answers_32, near_is_one_32, near_finds_32};
 
     ghost bits = { 32 };
 

@@ -14,8 +14,8 @@ use sctp_values::{
 };
 use std::marker::Model;
 
-/// The configuration of an endpoint: both ports, sizes in bytes, streams each way, and which extensions it asks for. Contracts see the
-/// definitions' `Configuration`, which is within its limits.
+/// The configuration of an endpoint: both ports, sizes in bytes, streams each way, which extensions it asks for, whether its SACKs may wait, and by
+/// which timers it closes. Contracts see the definitions' `Configuration`, which is within its limits.
 #[derive(Clone, Copy, Debug, PartialEq, Eq)]
 pub struct Config {
     own_port: u16,
@@ -27,6 +27,8 @@ pub struct Config {
     inbound: u16,
     interleave: bool,
     partial: bool,
+    delay: bool,
+    standard_closing: bool,
 }
 
 impl Model for Config {
@@ -45,6 +47,8 @@ impl Model for Config {
       inbound = c.inbound;
       interleave = c.interleave;
       partial = c.partial;
+      delay = c.delay;
+      standard_closing = c.standard_closing;
     } };
 
     ghost inverse = { λ c. record {
@@ -57,6 +61,8 @@ impl Model for Config {
       inbound = c.inbound;
       interleave = c.interleave;
       partial = c.partial;
+      delay = c.delay;
+      standard_closing = c.standard_closing;
     } };
 
     ghost invariant = { λ c. IsConfiguration (record {
@@ -69,13 +75,15 @@ impl Model for Config {
       inbound = c.inbound;
       interleave = c.interleave;
       partial = c.partial;
+      delay = c.delay;
+      standard_closing = c.standard_closing;
     }) };
 }
 
 impl Config {
     /// The configuration of an endpoint at `own_port` whose peer is at `peer_port`: it sends packets of at most `limit` bytes, cuts messages at
     /// `fragment` bytes, has a receive buffer of `buffer` bytes, and asks for `outbound` streams to its peer and `inbound` from it. Neither
-    /// extension is asked for.
+    /// extension is asked for, its SACKs don't wait, and it closes by this profile's timers.
     ///
     /// # Errors
     /// The fault with the smallest code.
@@ -118,6 +126,8 @@ impl Config {
             inbound,
             interleave: false,
             partial: false,
+            delay: false,
+            standard_closing: false,
         })
     }
 
@@ -137,6 +147,27 @@ impl Config {
     {
         Config {
             interleave: true,
+            ..self
+        }
+    }
+
+    /// The same, whose SACKs may wait: for a second packet, or 200 ms at most (RFC 9260, 6.2).
+    pub fn with_delay(self) -> Config
+        ensures { result ≡ record self { delay = true } }
+    {
+        Config {
+            delay: true,
+            ..self
+        }
+    }
+
+    /// The same, closing by the RFC's timers: a SHUTDOWN that acknowledges more renews the data timer as a SACK does, and user data that comes in
+    /// ShutdownSent renews the SHUTDOWN's timer and its count of repeats, without end as long as it comes (RFC 9260, 6.3.2, 8.1 and 9.2).
+    pub fn with_standard_closing(self) -> Config
+        ensures { result ≡ record self { standard_closing = true } }
+    {
+        Config {
+            standard_closing: true,
             ..self
         }
     }
@@ -187,20 +218,20 @@ impl Config {
         self.buffer
     }
 
-    /// The streams that it asks for to its peer, 1 to 32.
+    /// The streams that it asks for to its peer, 1 to 1,024.
     pub fn outbound(&self) -> u16
         ensures exact { result ≡ self.now.outbound }
         ensures some { 0 < result }
-        ensures greatest { result ≤ 32 }
+        ensures greatest { result ≤ 1024 }
     {
         self.outbound
     }
 
-    /// The streams that it allows from its peer, 1 to 32.
+    /// The streams that it allows from its peer, 1 to 1,024.
     pub fn inbound(&self) -> u16
         ensures exact { result ≡ self.now.inbound }
         ensures some { 0 < result }
-        ensures greatest { result ≤ 32 }
+        ensures greatest { result ≤ 1024 }
     {
         self.inbound
     }
@@ -217,6 +248,20 @@ impl Config {
         ensures { result ≡ self.now.partial }
     {
         self.partial
+    }
+
+    /// Whether its SACKs may wait for a second packet.
+    pub fn delay(&self) -> bool
+        ensures { result ≡ self.now.delay }
+    {
+        self.delay
+    }
+
+    /// Whether it closes by the RFC's timers.
+    pub fn standard_closing(&self) -> bool
+        ensures { result ≡ self.now.standard_closing }
+    {
+        self.standard_closing
     }
 }
 

@@ -20,7 +20,7 @@ pub enum ConfigFault {
     /// 4: the buffer isn't within 65,536 to 16,777,216 bytes.
     #[error("the buffer is out of range")]
     Buffer,
-    /// 5: a number of streams isn't within 1 to 32.
+    /// 5: a number of streams isn't within 1 to 1,024.
     #[error("the number of streams is out of range")]
     Streams,
 }

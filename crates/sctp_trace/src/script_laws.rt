@@ -16,8 +16,8 @@ use sctp_text::lines_in_one_way;
 
 /// In each world that the lines of a script lead through, both directions are safe, and what an end has completed lacks nothing: each end
 /// was handed over messages that its peer sent on that stream, whole, each at most once, the ordered ones in rising number; what was passed
-/// over was abandoned; and what is acknowledged whole was handed over, or is held whole, or was abandoned. That is promised of a script
-/// whose strangers, if any speak in it, know neither a tag that is drawn in it nor the listener's key.
+/// over was abandoned; and what is acknowledged whole was handed over, or is held whole, or was abandoned. That is promised of a script in
+/// which no stranger's packet carries a tag that is drawn in it, asks for one by an INIT, or has a cookie that the listener's key seals.
 pub fn every_script_is_safe()
     ensures { ScriptsAreSafe }
 {

@@ -1,7 +1,7 @@
 //! The program `sctp-trace`: `run_words` over the process's words and its three standard streams.
 #![tactic(auto)]
 
-use sctp_trace::{FAILED, FromRead, ToWrite, WRONG_WORDS, run_words};
+use sctp_trace::{FAILED, FromRead, ToWrite, USAGE, WRONG_WORDS, run_words};
 use std::process::ExitCode;
 use std::{env, io};
 
@@ -22,7 +22,7 @@ fn main(rt: HostRuntime) -> ExitCode {
             &mut faults,
         )),
         Err(error) if error.kind() == io::ErrorKind::InvalidData => {
-            match eprintln!(rt; "error: a word isn't UTF-8") {
+            match eprint!(rt; "sctp-trace: a word isn't UTF-8\n{USAGE}") {
                 Ok(()) => ExitCode::from(WRONG_WORDS),
                 Err(_) => ExitCode::from(FAILED),
             }

@@ -1,7 +1,7 @@
 -- The limits as Rust has them are those of the definitions.
 use Rattle.std.specs.Prelude.{◌≡◌}
 use Rattle.sctp_model.specs.numbers.Limits as limits
-use Rattle.sctp_values.specs.declared.limits.TheConstants.{STREAM_LIMIT, LEAST_PACKET, GREATEST_PACKET, LEAST_FRAGMENT, GREATEST_FRAGMENT, FRAGMENT_OVERHEAD, LEAST_BUFFER, GREATEST_BUFFER, LONGEST_MESSAGE, QUEUE_LIMIT, WINDOW, TSN_LIMIT, TICKET_LIMIT, BLOCK_LIMIT, DUPLICATE_LIMIT, RUN_LIMIT, LAST_MOMENT, FIRST_WAIT, LONGEST_WAIT, OPENING_REPEATS, REPEATS, COOKIE_LIFE}
+use Rattle.sctp_values.specs.declared.limits.TheConstants.{STREAM_LIMIT, LEAST_PACKET, GREATEST_PACKET, LEAST_FRAGMENT, GREATEST_FRAGMENT, FRAGMENT_OVERHEAD, LEAST_BUFFER, GREATEST_BUFFER, LONGEST_MESSAGE, QUEUE_LIMIT, WINDOW, TSN_LIMIT, TICKET_LIMIT, BLOCK_LIMIT, DUPLICATE_LIMIT, RUN_LIMIT, LAST_MOMENT, FIRST_WAIT, LONGEST_WAIT, OPENING_REPEATS, REPEATS, SACK_DELAY, COOKIE_LIFE}
 
 -- Name by name: of a configuration, of sending, of receiving, of time.
 pub record AreTheLimits : Type 0 where
@@ -26,4 +26,5 @@ pub record AreTheLimits : Type 0 where
   pub longest_wait : LONGEST_WAIT ≡ limits.LONGEST_WAIT
   pub opening_repeats : OPENING_REPEATS ≡ limits.OPENING_REPEATS
   pub repeats : REPEATS ≡ limits.REPEATS
+  pub sack_delay : SACK_DELAY ≡ limits.SACK_DELAY
   pub cookie_life : COOKIE_LIFE ≡ limits.COOKIE_LIFE

@@ -1,7 +1,7 @@
 //! The limits of this profile, under the names that the definitions give them, each in the type in which it is used. Sizes are in bytes.
 
 /// Streams each way: 1 to so many.
-pub const STREAM_LIMIT: u16 = 32;
+pub const STREAM_LIMIT: u16 = 1_024;
 /// The smallest packet limit for sending.
 pub const LEAST_PACKET: u16 = 576;
 /// The largest packet limit for sending.
@@ -46,5 +46,7 @@ pub const LONGEST_WAIT: u64 = 60_000;
 pub const OPENING_REPEATS: u32 = 8;
 /// How often everything else is repeated (Association.Max.Retrans of RFC 9260, 16).
 pub const REPEATS: u32 = 10;
+/// How long a SACK may wait for another packet, in milliseconds, where an end delays its SACKs (RFC 9260, 6.2 and 16).
+pub const SACK_DELAY: u64 = 200;
 /// How long a cookie lives, in milliseconds (Valid.Cookie.Life of RFC 9260, 16).
 pub const COOKIE_LIFE: u64 = 60_000;

@@ -25,6 +25,14 @@ mode_word PartialData = codes "data-pr"
 mode_word IData = codes "idata"
 mode_word PartialIData = codes "idata-pr"
 
+-- behind a mode: SACKs may wait for a second packet (RFC 9260, 6.2)
+abbrev pub delay_word : List ℕ
+delay_word = codes "delay"
+
+-- and the association closes by the RFC's timers (RFC 9260, 9.2)
+abbrev pub standard_closing_word : List ℕ
+standard_closing_word = codes "standard-closing"
+
 -- the moment from which a message is worthless, in milliseconds, or none
 abbrev pub IsUntil : List ℕ → Option ℕ → Type 0
 IsUntil word None = word ≡ codes "-"

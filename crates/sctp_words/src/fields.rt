@@ -1,10 +1,10 @@
 //! The words behind a command that are more than a number, each by its field.
 
-ghost use Rattle.std.specs.Prelude.{◌≡◌, ℕ, List, Option, IfOk, MatchOption};
+ghost use Rattle.std.specs.Prelude.{◌≡◌, ◌↔◌, ℕ, List, Option, IsTrue, IfOk, MatchOption};
 ghost use Rattle.sctp_model.specs.messages.Format as format;
 ghost use Rattle.sctp_values.specs.Meanings.{kind_meaning};
 ghost use Rattle.sctp_text.specs.Numerals.{IsHex};
-ghost use Rattle.sctp_words.specs.Fields.{IsNumber, IsTag, IsUntil, kind_word, mode_word};
+ghost use Rattle.sctp_words.specs.Fields.{IsNumber, IsTag, IsUntil, kind_word, mode_word, delay_word, standard_closing_word};
 
 use crate::numbers::{read_u32, read_u64};
 use sctp_terms::{Draw, Mode};
@@ -66,4 +66,18 @@ pub fn read_mode(word: &[u8]) -> Option<Mode>
         b"idata-pr" => Some(Mode::PartialIData),
         _ => None,
     }
+}
+
+/// The word says that SACKs may wait for a second packet (RFC 9260, 6.2).
+pub fn is_delay(word: &[u8]) -> bool
+    ensures { IsTrue result ↔ word.now ≡ delay_word }
+{
+    word == b"delay".as_slice()
+}
+
+/// The word says that an association closes by the RFC's timers (RFC 9260, 9.2).
+pub fn is_standard_closing(word: &[u8]) -> bool
+    ensures { IsTrue result ↔ word.now ≡ standard_closing_word }
+{
+    word == b"standard-closing".as_slice()
 }

@@ -8,7 +8,9 @@ mod line_out;
 mod names;
 mod numbers;
 
-pub use fields::{read_bytes, read_draw, read_kind, read_mode, read_until};
+pub use fields::{
+    is_delay, is_standard_closing, read_bytes, read_draw, read_kind, read_mode, read_until,
+};
 pub use line_fault::{COMMENT, LineError, LineFault, is_silent};
 pub use line_out::put_line;
 pub use names::{end_word, kind_word, number_word, state_word};

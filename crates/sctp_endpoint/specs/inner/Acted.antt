@@ -1,5 +1,5 @@
 -- What acted of a packet so far, in terms of a view, of the chunks and of the notes on them (RFC 9260, 6.2 and 6.10).
-use Rattle.std.specs.Prelude.{◌≡◌, ℕ, ◌<◌, Bool, List, ◌∷◌, ◌++◌, Option, Some, None, Result, Ok, Err}
+use Rattle.std.specs.Prelude.{◌≡◌, ℕ, ◌<◌, List, ◌∷◌, ◌++◌, Option, Some, None, Result, Ok, Err}
 use Rattle.sctp_model.specs.wire.Chunk.{ChunkMeaning, InitAck}
 use Rattle.sctp_model.specs.end.EndView.{EndView}
 use Rattle.sctp_model.specs.end.Strays as model
@@ -12,9 +12,9 @@ use Rattle.sctp_endpoint.specs.Handled.{VerdictStands}
 use Rattle.sctp_endpoint.specs.declared.after.Notes.{Notes}
 use Rattle.sctp_endpoint.specs.declared.after.Verdict.{Verdict}
 
--- the notes, of which code has no use for one: whether a chunk is to be acknowledged at once
-abbrev pub notes_meaning : Notes → (at_once : Bool) → arriving.Notes
-notes_meaning n b = record { listed = n.listed; acknowledges = n.acknowledges; at_once = b }
+-- the notes, by their names in the definitions
+abbrev pub notes_meaning : Notes → arriving.Notes
+notes_meaning n = record { listed = n.listed; acknowledges = n.acknowledges; brings_data = n.brings_data; at_once = n.at_once }
 
 -- An INIT ACK has a tag: one without is dropped, and wants no memory (3.3.3).
 abbrev pub HasTag : ChunkMeaning → Type 0
@@ -31,16 +31,16 @@ abbrev pub EndsWith : ℕ → EndView → arriving.Notes → ChunkMeaning → En
 EndsWith tag v k m t x = (rest : List ChunkMeaning) → AllAct tag v k (m ∷ rest) t k x
 
 -- One chunk acted: the packet goes on behind it, or ends with it. After want of memory nothing has acted.
-abbrev pub ActsOne : ℕ → EndView → Notes → Bool → ChunkMeaning → Result (Option Verdict) NoMemory → Machine → Notes → Type 0
-ActsOne tag v n b m (Ok None) e l = (t : EndView) × (c : Bool) × MachineStands e t × GoesOnBehind tag v (notes_meaning n b) m t (notes_meaning l c)
-ActsOne tag v n b m (Ok (Some told)) e l =
-    (t : EndView) × (x : model.Verdict) × (l ≡ n) × EndsWith tag v (notes_meaning n b) m t x × VerdictStands told x × MachineStands e t
-ActsOne tag v n b m (Err why) e l = MachineStands e v × (l ≡ n) × HasTag m
+abbrev pub ActsOne : ℕ → EndView → Notes → ChunkMeaning → Result (Option Verdict) NoMemory → Machine → Notes → Type 0
+ActsOne tag v n m (Ok None) e l = (t : EndView) × MachineStands e t × GoesOnBehind tag v (notes_meaning n) m t (notes_meaning l)
+ActsOne tag v n m (Ok (Some told)) e l =
+    (t : EndView) × (x : model.Verdict) × (l ≡ n) × EndsWith tag v (notes_meaning n) m t x × VerdictStands told x × MachineStands e t
+ActsOne tag v n m (Err why) e l = MachineStands e v × (l ≡ n) × HasTag m
 
 -- Chunks acted one after the other; after want of memory those before the one that wanted it.
-abbrev pub ActsAll : ℕ → EndView → Notes → Bool → List ChunkMeaning → Result Verdict NoMemory → Machine → Notes → Type 0
-ActsAll tag v n b ms (Ok told) e l =
-    (t : EndView) × (c : Bool) × (x : model.Verdict) × AllAct tag v (notes_meaning n b) ms t (notes_meaning l c) x × VerdictStands told x × MachineStands e t
-ActsAll tag v n b ms (Err why) e l =
-    (front back : List ChunkMeaning) × (m : ChunkMeaning) × (t : EndView) × (c : Bool) × (ms ≡ front ++ m ∷ back) × HasTag m
-    × AllAct tag v (notes_meaning n b) front t (notes_meaning l c) (verdict_of l.listed) × MachineStands e t
+abbrev pub ActsAll : ℕ → EndView → Notes → List ChunkMeaning → Result Verdict NoMemory → Machine → Notes → Type 0
+ActsAll tag v n ms (Ok told) e l =
+    (t : EndView) × (x : model.Verdict) × AllAct tag v (notes_meaning n) ms t (notes_meaning l) x × VerdictStands told x × MachineStands e t
+ActsAll tag v n ms (Err why) e l =
+    (front back : List ChunkMeaning) × (m : ChunkMeaning) × (t : EndView) × (ms ≡ front ++ m ∷ back) × HasTag m
+    × AllAct tag v (notes_meaning n) front t (notes_meaning l) (verdict_of l.listed) × MachineStands e t

@@ -1,12 +1,12 @@
 -- What a packet that reads leaves, at a machine that was told its moment (RFC 9260, 5.1 and 8.4).
-use Rattle.std.specs.Prelude.{◌≡◌, ℕ, true, List, ◌∷◌, ◌++◌, Some, Result, Ok, Err}
+use Rattle.std.specs.Prelude.{◌≡◌, ℕ, Bool, true, List, ◌∷◌, ◌++◌, Some, Result, Ok, Err}
 use Rattle.sctp_model.specs.wire.Chunk.{ChunkMeaning}
 use Rattle.sctp_model.specs.wire.Packet.{Packet}
 use Rattle.sctp_model.specs.wire.Places.{ArePlaced}
 use Rattle.sctp_model.specs.end.EndView.{Draw, EndView}
 use Rattle.sctp_model.specs.end.Passing.{has_ports, passes}
 use Rattle.sctp_model.specs.end.Strays as model
-use Rattle.sctp_model.specs.end.Arriving.{Notes, AllAct, verdict_of, packet_ended, Receives, IsCutShort, WantsNoMemory}
+use Rattle.sctp_model.specs.end.Arriving.{Notes, AllAct, verdict_of, LeavesGap, urged, packet_ended, Receives, IsCutShort, WantsNoMemory}
 use Rattle.sctp_values.specs.declared.no_memory.NoMemory.{NoMemory}
 use Rattle.sctp_association.specs.MachineStands.{MachineStands}
 use Rattle.sctp_association.specs.declared.machine.Machine.{Machine}
@@ -19,13 +19,17 @@ pub record IsFor (v : EndView) (p : Packet) : Type 0 where
   pub ports : has_ports v.configuration p ≡ true
   pub tag : passes v.phase p ≡ true
 
+-- The packet ended behind chunks that left this view, by the gap that they left.
+abbrev pub Ends : EndView → Notes → Machine → Type 0
+Ends t n e = (gap : Bool) × LeavesGap t gap × MachineStands e (packet_ended (urged gap n) t)
+
 -- Chunks acted, all or those before the one that wanted memory, and the packet ended behind them.
 abbrev pub HearsAll : ℕ → EndView → Notes → List ChunkMeaning → Result Verdict NoMemory → Machine → Type 0
 HearsAll tag v k ms (Ok told) e =
-    (t : EndView) × (n : Notes) × (x : model.Verdict) × AllAct tag v k ms t n x × VerdictStands told x × MachineStands e (packet_ended n t)
+    (t : EndView) × (n : Notes) × (x : model.Verdict) × AllAct tag v k ms t n x × VerdictStands told x × Ends t n e
 HearsAll tag v k ms (Err why) e =
     (front back : List ChunkMeaning) × (m : ChunkMeaning) × (t : EndView) × (n : Notes) × (ms ≡ front ++ m ∷ back) × HasTag m
-    × AllAct tag v k front t n (verdict_of n.listed) × MachineStands e (packet_ended n t)
+    × AllAct tag v k front t n (verdict_of n.listed) × Ends t n e
 
 -- The packet was received, or cut short where it wanted memory; that is nothing that is dropped for its ports or its tag, where each of its chunks
 -- stands where it may.

@@ -11,7 +11,7 @@ use Rattle.sctp_model.specs.sender.Filling.{Wish, fill, begun_tickets}
 use Rattle.sctp_model.specs.sender.SackTaken.{sack_fault, sack_after, Stale, Beyond, BadBlock}
 use Rattle.sctp_model.specs.sender.Abandoning.{abandon_answer, abandon_after, expired, timed_out, Withdrawn, Abandoned, Unknown}
 use Rattle.sctp_model.specs.sender.Readers.{point, unsettled, drained, outstanding, acknowledged, abandoned}
-use Rattle.sctp_model.specs.sender.Forwarding.{forward_of}
+use Rattle.sctp_model.specs.sender.Forwarding.{forward_to}
 
 -- two streams, fragments of 4 bytes, first TSN 4294967295, a window of 100 bytes
 abbrev fresh : SenderView
@@ -112,7 +112,7 @@ point_moves : point given ∷ point (abandon_after given 2) ∷ [] ≡ 1 ∷ 4 �
 point_moves = refl
 
 -- both in part, both abandoned: four indexes, and the two numbers
-forward_of_both : (forward_of Interleaved (abandon_after given 2)).skips ≡ record { lane = ordered_lane 0; number = 0 } ∷ record { lane = ordered_lane 1; number = 0 } ∷ []
+forward_of_both : (forward_to Interleaved (abandon_after given 2) 4).skips ≡ record { lane = ordered_lane 0; number = 0 } ∷ record { lane = ordered_lane 1; number = 0 } ∷ []
 forward_of_both = refl
 
 expires : map (abandoned (expired begun 500)) (1 ∷ 2 ∷ []) ≡ false ∷ true ∷ []
@@ -130,7 +130,7 @@ three = (fill Plain 200 (queued (queued (queued fresh (ordered_lane 0) 0 (1 ∷ 
 abbrev none_left : SenderView
 none_left = abandon_after (abandon_after (abandon_after three 1) 2) 3
 
-forward_of_three : forward_of Plain none_left ≡ record { point = 3; skips = record { lane = ordered_lane 0; number = 2 } ∷ [] }
+forward_of_three : forward_to Plain none_left 3 ≡ record { point = 3; skips = record { lane = ordered_lane 0; number = 2 } ∷ [] }
 forward_of_three = refl
 
 -- the second was covered by a block, the others abandoned: the point stays before it until CUM passes it

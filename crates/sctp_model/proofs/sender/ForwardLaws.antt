@@ -1,4 +1,4 @@
--- The FORWARD of a view names, by rising stream and ordered before unordered, of each numbered lane the largest number up to the point.
+-- A FORWARD of a view names, by rising stream and ordered before unordered, of each numbered lane the largest number up to the index that it goes to.
 use Rattle.std.proofs.Common.{◌≡◌, ℕ, zero, suc, ◌+◌, ◌-◌, ◌<◌, ◌≤◌, ◌⊎◌, inl, inr, List, [], ◌∷◌, ◌++◌, take, drop, Bool, true, false, Option, Some, None, refl, sym, ap, ◌∙◌, subst, arith}
 use Rattle.std.specs.Prelude.{◌==◌, if◌then◌else◌, slice_get, max, nat_le}
 use Rattle.std.proofs.lemmas.Bool.Decides.{nat_tests}
@@ -8,8 +8,7 @@ use Rattle.sctp_model.specs.messages.Plan.{Entry, Plan, entry_at, IsOf}
 use Rattle.sctp_model.specs.sender.SenderView.{SenderView}
 use Rattle.sctp_model.specs.messages.Forward.{Skip, StandsIn, IsLaneBefore, IsListed, IsForward}
 use Rattle.sctp_model.specs.sender.Entries.{entry_lane, entry_number}
-use Rattle.sctp_model.specs.sender.Readers.{point}
-use Rattle.sctp_model.specs.sender.Forwarding.{larger, largest_in, skip_in, skip_of, skips_on, skips_below, forward_of}
+use Rattle.sctp_model.specs.sender.Forwarding.{larger, largest_in, skip_in, skip_of, skips_on, skips_below, forward_to}
 use Rattle.sctp_model.specs.sender.Reached.{IsReached}
 use Rattle.sctp_model.proofs.sender.WordLaws.{has_left, has_right, has_either}
 use Rattle.sctp_model.proofs.sender.AbandonCases.{lanes_same, same_lane-self}
@@ -24,7 +23,7 @@ listed_append [] ys a b apart = b
 listed_append (x ∷ xs) ys a b apart =
     ((λ y has. elim (has_either xs ys y has) [ inl left ↦ a.0 y left | inr right ↦ apart x y (inl refl) right ]), listed_append xs ys a.1 b (λ z y l r. apart z y (inr l) r))
 
--- ---- entries after CUM, up to the point
+-- ---- entries after CUM, up to an index
 
 passed_stands : (es : List Entry) (n : ℕ) (e : Entry) → Has (take n es) e → (j : ℕ) × (j < n) × (slice_get es j ≡ Some e)
 passed_stands es zero e has = absurd has
@@ -245,5 +244,5 @@ on_streams : (f : Format) (v : SenderView) → IsReached f v → (i : ℕ) (e : 
 on_streams f v h zero e here = absurd (cc)
 on_streams f v h (suc i) e here = (named_at v.streams v.plan v.plan.entries i e (is_named f v h) here).stream
 
-pub forward_is_forward : (f : Format) (v : SenderView) → IsReached f v → IsForward f v.plan v.cum (point v) (forward_of f v)
-forward_is_forward f v h = forward_between f v.plan v.cum (point v) v.streams (on_streams f v h)
+pub forward_is_forward : (f : Format) (v : SenderView) (p : ℕ) → IsReached f v → IsForward f v.plan v.cum p (forward_to f v p)
+forward_is_forward f v p h = forward_between f v.plan v.cum p v.streams (on_streams f v h)

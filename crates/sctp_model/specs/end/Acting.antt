@@ -9,7 +9,7 @@ use Rattle.sctp_model.specs.receiver.ReceiverView.{ReceiverView}
 use Rattle.sctp_model.specs.sender.SackTaken.{Stale, Beyond, BadBlock, sack_fault, sack_taken, shutdown_fault, shutdown_taken}
 use Rattle.sctp_model.specs.receiver.PieceTaken.{PieceAnswer, Duplicate, Ahead, NoSuchStream, Passed, NoRoom, Kept, PieceTaken}
 use Rattle.sctp_model.specs.receiver.ForwardTaken.{OutOfDate, Bad, Moved, ForwardTaken}
-use Rattle.sctp_model.specs.end.EndView.{format_of, Tags, Completed, Aborted, StaleCookie, Stage, ShutdownSent, ShutdownReceived, ShutdownAckSent, Phase, Calling, Echoing, Open, DataAlarm, EndView}
+use Rattle.sctp_model.specs.end.EndView.{format_of, Tags, Completed, Aborted, StaleCookie, Stage, ShutdownSent, ShutdownReceived, ShutdownAckSent, Phase, Calling, Echoing, Open, DataAlarm, Timer, EndView}
 use Rattle.sctp_model.specs.end.Clock.{turned, closed, with_timer, settled, renewed}
 use Rattle.sctp_model.specs.end.Closing.{with_due, answers_shutdown, takes_data, takes_acknowledgements, awaits_ack, awaits_complete, hears}
 use Rattle.sctp_model.specs.end.Reports.{item, causes_with, with_causes, fits_alone, INVALID_STREAM, STALE_COOKIE, UNRECOGNIZED_CHUNK}
@@ -48,7 +48,7 @@ pub data PieceActs (f : Format) (e : EndView) (p : PieceMeaning) : After → Typ
       PieceActs f e p (at_fault t violation e)
   PieceComes : (t : Tags) (g : Stage) (a : PieceAnswer) (r : ReceiverView) → e.phase ≡ Open t g → takes_data g ≡ true → 0 < length p.bytes →
       same_format f (format_of e) ≡ true → PieceTaken (format_of e) e.receiver p a r →
-      PieceActs f e p (GoesOn (ToAcknowledge (asks_at_once p a)) (with_causes (piece_causes e p a) (record e { receiver = r })))
+      PieceActs f e p (GoesOn (ToAcknowledge true (asks_at_once p a)) (with_causes (piece_causes e p a) (record e { receiver = r })))
 
 -- ---- FORWARD-TSN and I-FORWARD-TSN (RFC 3758, 3.6; RFC 8260, 2.3.1)
 
@@ -64,9 +64,9 @@ pub data ForwardActs (f : Format) (e : EndView) (m : ForwardMeaning) : After →
   IsBad : (t : Tags) (g : Stage) (r : ReceiverView) → e.phase ≡ Open t g → takes_data g ≡ true → may_forward f e ≡ true →
       ForwardTaken (format_of e) e.receiver m Bad r → ForwardActs f e m (at_fault t violation e)
   IsOld : (t : Tags) (g : Stage) (r : ReceiverView) → e.phase ≡ Open t g → takes_data g ≡ true → may_forward f e ≡ true →
-      ForwardTaken (format_of e) e.receiver m OutOfDate r → ForwardActs f e m (GoesOn (ToAcknowledge true) (record e { receiver = r }))
+      ForwardTaken (format_of e) e.receiver m OutOfDate r → ForwardActs f e m (GoesOn (ToAcknowledge false true) (record e { receiver = r }))
   ForwardComes : (t : Tags) (g : Stage) (r : ReceiverView) → e.phase ≡ Open t g → takes_data g ≡ true → may_forward f e ≡ true →
-      ForwardTaken (format_of e) e.receiver m Moved r → ForwardActs f e m (GoesOn (ToAcknowledge true) (record e { receiver = r }))
+      ForwardTaken (format_of e) e.receiver m Moved r → ForwardActs f e m (GoesOn (ToAcknowledge false true) (record e { receiver = r }))
 
 -- ---- SACK (6.2.1 and 6.3.2)
 
@@ -112,9 +112,19 @@ pub data ErrorActs (e : EndView) (causes : List ℕ) : After → Type 0 where
 
 -- ---- the three chunks that close an association (9.2)
 
+-- The data timer after a SHUTDOWN whose cumulative TSN was taken: it stays as it is; with standard closing one that moved CUM is to it what a SACK is (6.3.2, 9.2).
+abbrev pub shut_timer : (standard moved : Bool) → (now : ℕ) → Timer → Timer
+shut_timer standard moved now t = if standard && moved then renewed now true t else t
+
+-- what the cumulative TSN of a SHUTDOWN acknowledges
+abbrev pub shutdown_counted : EndView → ℕ → EndView
+shutdown_counted e tsn =
+    let x = settled (record e { sender = shutdown_taken e.sender tsn }) in
+    with_timer DataAlarm (shut_timer e.configuration.standard_closing (nat_lt e.sender.cum (shutdown_taken e.sender tsn).cum) e.moment (x.timers DataAlarm)) x
+
 -- the peer says that it is done (9.2): its cumulative TSN acknowledges
 abbrev pub shutdown_heard : Tags → EndView → ℕ → EndView
-shutdown_heard t e tsn = turned (Open t ShutdownReceived) (settled (record e { sender = shutdown_taken e.sender tsn }))
+shutdown_heard t e tsn = turned (Open t ShutdownReceived) (shutdown_counted e tsn)
 
 -- What a SHUTDOWN does (3.3.8 and 9.2).
 pub data ShutdownActs (e : EndView) (tsn : ℕ) : After → Type 0 where

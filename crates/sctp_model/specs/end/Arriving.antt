@@ -1,10 +1,12 @@
 -- A packet that comes, whole or cut short: whether it passes, what its chunks do one after the other, and what is told of it (RFC 9260, 4, 5.1, 8.4 and 8.5).
-use Rattle.std.specs.Prelude.{◌≡◌, ℕ, ◌⊎◌, Bool, true, false, ◌||◌, List, [], ◌∷◌, ◌++◌, drop, Option, Some, None}
+use Rattle.std.specs.Prelude.{◌≡◌, ℕ, ◌<◌, ◌⊎◌, Bool, true, false, not, ◌&&◌, ◌||◌, if◌then◌else◌, List, [], ◌∷◌, ◌++◌, drop, Option, Some, None}
+use Rattle.sctp_model.specs.numbers.Limits.{SACK_DELAY}
 use Rattle.sctp_model.specs.wire.Chunk.{ChunkMeaning}
 use Rattle.sctp_model.specs.wire.Packet.{Packet}
+use Rattle.sctp_model.specs.receiver.ReceiverView.{ReceiverView, IsCumulative}
 use Rattle.sctp_model.specs.end.Sealing.{Body}
-use Rattle.sctp_model.specs.end.EndView.{Draw, Stage, Phase, Open, EndView, has_association}
-use Rattle.sctp_model.specs.end.Clock.{at_moment}
+use Rattle.sctp_model.specs.end.EndView.{Draw, Stage, Phase, Open, ShutdownAlarm, EndView, has_association}
+use Rattle.sctp_model.specs.end.Clock.{after_wait, at_moment, with_timer, renewed}
 use Rattle.sctp_model.specs.end.Closing.{with_due, is_shutdown_sent, rested}
 use Rattle.sctp_model.specs.end.PeerFaults.{FAULT, PORTS, TAG, STATE, Note, Unnoted, ToAcknowledge, GoesOn, Ends, PassedOver, Replies, Drops}
 use Rattle.sctp_model.specs.end.Opening.{begun}
@@ -14,20 +16,21 @@ use Rattle.sctp_model.specs.end.Strays.{Verdict, Taken, Dropped, Answer, stray_v
 
 -- ---- what is noted of a packet
 
--- Notes of the chunks so far: one was listed for the state that it found; one is to be acknowledged; that at once.
+-- Notes of the chunks so far: one was listed for the state that it found; one is to be acknowledged; one of these brought user data; one may not wait.
 pub record Notes : Type 0 where
   pub listed : Bool
   pub acknowledges : Bool
+  pub brings_data : Bool
   pub at_once : Bool
 
 -- before the first chunk
 abbrev pub no_notes : Notes
-no_notes = record { listed = false; acknowledges = false; at_once = false }
+no_notes = record { listed = false; acknowledges = false; brings_data = false; at_once = false }
 
 -- with the note of one chunk more
 abbrev pub noted : Note → Notes → Notes
 noted Unnoted n = record n { listed = true }
-noted (ToAcknowledge at_once) n = record { listed = true; acknowledges = true; at_once = n.at_once || at_once }
+noted (ToAcknowledge is_data at_once) n = record { listed = true; acknowledges = true; brings_data = n.brings_data || is_data; at_once = n.at_once || at_once }
 
 -- taken where some chunk was listed, else dropped for the state (RFC 9260, 4)
 abbrev pub verdict_of : Bool → Verdict
@@ -50,21 +53,67 @@ pub data AllAct (tag : ℕ) : EndView → Notes → List ChunkMeaning → EndVie
   Stopped : (e : EndView) (n : Notes) (x : ChunkMeaning) (xs : List ChunkMeaning) (reason : ℕ) →
       Acts e tag x (Drops reason) → AllAct tag e n (x ∷ xs) e n (Dropped reason)
 
+-- ---- a gap that it leaves (6.2)
+
+-- an index above the cumulative one was seen
+abbrev pub HasGap : ReceiverView → Type 0
+HasGap r = (c : ℕ) × (i : ℕ) × IsCumulative r c × (c < i) × (r.seen i ≡ true)
+
+-- so this says
+abbrev pub TellsGap : Bool → ReceiverView → Type 0
+TellsGap true r = HasGap r
+TellsGap false r = HasGap r → ⊥
+
+-- It is asked of an end that delays its SACKs, after all chunks of the packet: to another one it makes no difference.
+abbrev pub LeavesGap : EndView → (gap : Bool) → Type 0
+LeavesGap e gap = e.configuration.delay ≡ true → TellsGap gap e.receiver
+
+-- with a gap no SACK waits
+abbrev pub urged : (gap : Bool) → Notes → Notes
+urged gap n = record n { at_once = n.at_once || gap }
+
 -- ---- its end
+
+-- there is a moment
+abbrev pub is_set : Option ℕ → Bool
+is_set None = false
+is_set (Some m) = true
+
+-- a packet was acted on since the last SACK was built: a SACK is due, or waits
+abbrev pub owes_sack : EndView → Bool
+owes_sack e = e.due.sack || is_set e.delayed
+
+-- A SACK may not wait: the end doesn't delay, something in the packet asks for it, it is the second such packet, or a SHUTDOWN was sent (6.2 and 9.2).
+abbrev pub is_at_once : Notes → Stage → EndView → Bool
+is_at_once n g e = not e.configuration.delay || (n.at_once || (owes_sack e || is_shutdown_sent g))
 
 -- a SACK is due, and in SHUTDOWN SENT the SHUTDOWN again (6.2 and 9.2)
 abbrev pub acknowledges : Stage → EndView → EndView
 acknowledges g e = with_due (record e.due { sack = true; shutdown = e.due.shutdown || is_shutdown_sent g }) e
 
+-- a SACK waits, for another packet or for its moment (6.2)
+abbrev pub delays : EndView → EndView
+delays e = record e { delayed = Some (after_wait e.moment SACK_DELAY) }
+
+-- with standard closing user data in SHUTDOWN SENT clears the count of the SHUTDOWN's timer, which begins anew where it runs (9.2)
+abbrev pub kept_going : Bool → EndView → EndView
+kept_going false e = e
+kept_going true e = with_timer ShutdownAlarm (renewed e.moment true (e.timers ShutdownAlarm)) e
+
+-- What a packet leaves at an open end, where something in it is to be acknowledged.
+abbrev pub answered_in : Notes → Stage → EndView → EndView
+answered_in n g e =
+    kept_going (e.configuration.standard_closing && (n.brings_data && is_shutdown_sent g)) (if is_at_once n g e then acknowledges g e else delays e)
+
 -- where something is to be acknowledged, and the association isn't over by now
-abbrev pub acknowledges_in : Bool → Phase → EndView → EndView
-acknowledges_in false h e = e
-acknowledges_in true (Open t g) e = acknowledges g e
-acknowledges_in true h e = e
+abbrev pub acknowledges_in : Notes → Bool → Phase → EndView → EndView
+acknowledges_in n false h e = e
+acknowledges_in n true (Open t g) e = answered_in n g e
+acknowledges_in n true h e = e
 
 -- The end of a packet, whatever ended it, or where it was cut: what is due after all its chunks (6.2).
 abbrev pub packet_ended : Notes → EndView → EndView
-packet_ended n e = acknowledges_in n.acknowledges e.phase e
+packet_ended n e = acknowledges_in n n.acknowledges e.phase e
 
 -- ---- a packet
 
@@ -76,9 +125,9 @@ pub data Arrives (e : EndView) (d : Draw) (p : Packet) : EndView → Verdict →
       Arrives e d p e (stray_verdict e d p)
   CookieBegins : (b : Body) (t : EndView) (n : Notes) (v : Verdict) → has_ports e.configuration p ≡ true → passes e.phase p ≡ true →
       has_association e.phase ≡ false → opened_by e p ≡ Some b → AllAct p.tag (begun b e) (noted Unnoted no_notes) (drop 1 p.chunks) t n v →
-      Arrives e d p (packet_ended n t) v
+      (gap : Bool) → LeavesGap t gap → Arrives e d p (packet_ended (urged gap n) t) v
   Heard : (t : EndView) (n : Notes) (v : Verdict) → has_ports e.configuration p ≡ true → passes e.phase p ≡ true → has_association e.phase ≡ true →
-      AllAct p.tag e no_notes p.chunks t n v → Arrives e d p (packet_ended n t) v
+      AllAct p.tag e no_notes p.chunks t n v → (gap : Bool) → LeavesGap t gap → Arrives e d p (packet_ended (urged gap n) t) v
 
 -- ---- what comes to an end at a moment, as it reads: None where the bytes don't
 

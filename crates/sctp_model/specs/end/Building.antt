@@ -56,17 +56,18 @@ pub data Wants (e : EndView) : Slot → ChunkMeaning → Type 0 where
   AckHeartbeat : (info : List ℕ) → e.due.heartbeat ≡ Some info → Wants e HeartbeatSlot (HeartbeatAck info)
   ReportCauses : Wants e ErrorSlot (Error (written e.due.causes))
   Acknowledge : (s : SackMeaning) → IsSack e.receiver s → Wants e SackSlot (Sack s)
-  PassOn : Wants e ForwardSlot (forward_chunk_of (format_of e) e.sender)
+  PassOn : Wants e ForwardSlot (forward_chunk_of (format_of e) e.configuration.limit e.sender)
   SayShutdown : (c : ℕ) → IsCumulative e.receiver c → Wants e ShutdownSlot (Shutdown (tsn e.receiver.initial c))
   AnswerShutdown : Wants e ShutdownAckSlot ShutdownAck
 
--- The end once that chunk is built, whatever it says: at this place nothing is due any more; what is repeated starts its timer (RFC 9260, 6.3.2).
+-- The end once that chunk is built, whatever it says: at this place nothing is due any more; what is repeated starts its timer (RFC 9260, 6.3.2); behind a
+-- SACK none waits.
 abbrev pub once_built : Slot → EndView → EndView
 once_built EchoSlot e = started CookieAlarm (with_due (record e.due { cookie_echo = false }) e)
 once_built CookieAckSlot e = with_due (record e.due { cookie_ack = false }) e
 once_built HeartbeatSlot e = with_due (record e.due { heartbeat = None }) e
 once_built ErrorSlot e = with_due (record e.due { causes = [] }) e
-once_built SackSlot e = record e { due = record e.due { sack = false }; receiver = sack_sent e.receiver }
+once_built SackSlot e = record e { due = record e.due { sack = false }; delayed = None; receiver = sack_sent e.receiver }
 once_built ForwardSlot e = started DataAlarm (with_due (record e.due { forward = false }) e)
 once_built ShutdownSlot e = started ShutdownAlarm (with_due (record e.due { shutdown = false }) e)
 once_built ShutdownAckSlot e = started AckAlarm (with_due (record e.due { shutdown_ack = false }) e)

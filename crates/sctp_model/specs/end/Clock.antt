@@ -93,7 +93,7 @@ turned h e = record e { phase = h; due = due_in h e.due; timers = timers_in h e.
 
 -- The end is closed for good, for this reason (RFC 9260, 9). It sends nothing and waits for nothing; what its user may still take or ask about stays.
 abbrev pub closed : Ended → EndView → EndView
-closed why e = record (turned (Over why) e) { due = nothing_due }
+closed why e = record (turned (Over why) e) { due = nothing_due; delayed = None }
 
 -- ---- the data timer
 

@@ -27,6 +27,8 @@ plain_configuration own_port peer_port limit fragment buffer outbound inbound = 
   inbound = inbound;
   interleave = false;
   partial = false;
+  delay = false;
+  standard_closing = false;
 }
 
 -- ---- faults

@@ -18,6 +18,10 @@ pub record Configuration : Type 0 where
   pub inbound : ℕ
   pub interleave : Bool
   pub partial : Bool
+  -- its SACKs may wait for another packet (RFC 9260, 6.2)
+  pub delay : Bool
+  -- data and what acknowledges it keep a closing association going, as in RFC 9260, 9.2
+  pub standard_closing : Bool
 
 -- What chance gives to an end that begins: the tag that packets to it will carry, and the TSN of its index 1 (RFC 9260, 5.3.1 and 3.3.2).
 pub record Draw : Type 0 where
@@ -175,6 +179,8 @@ pub record EndView : Type 0 where
   pub moment : ℕ
   pub due : Due
   pub timers : Alarm → Timer
+  -- the moment at which a SACK that waits is due, while one waits (RFC 9260, 6.2)
+  pub delayed : Option ℕ
   pub terms : Terms
   pub sender : SenderView
   pub receiver : ReceiverView
@@ -188,6 +194,7 @@ fresh_end c r h = record {
   moment = 0;
   due = nothing_due;
   timers = λ a. unused_timer;
+  delayed = None;
   terms = no_terms;
   sender = fresh_sender 0 0 c.fragment 0 false;
   receiver = fresh_receiver 0 0 c.buffer;

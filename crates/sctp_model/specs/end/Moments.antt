@@ -1,4 +1,5 @@
--- Time at an end: what is past its time is abandoned, then each timer that is due expires once (RFC 9260, 6.3.3, 5.1 and 9.2; RFC 3758, 3.5).
+-- Time at an end: what is past its time is abandoned, then each timer that is due expires once, and a SACK that waited is due (RFC 9260, 6.2, 6.3.3, 5.1
+-- and 9.2; RFC 3758, 3.5).
 use Rattle.std.specs.Prelude.{ℕ, nat_lt, min, Bool, true, false, not, ◌||◌, ◌==◌, if◌then◌else◌, List, [], ◌∷◌, Option, Some, None}
 use Rattle.sctp_model.specs.sender.SenderView.{SenderView}
 use Rattle.sctp_model.specs.sender.Readers.{point}
@@ -46,11 +47,22 @@ rung_all (a ∷ more) e = rung_all more (ring a e)
 abbrev pub all_alarms : List Alarm
 all_alarms = InitAlarm ∷ CookieAlarm ∷ DataAlarm ∷ ShutdownAlarm ∷ AckAlarm ∷ []
 
+-- ---- a SACK that waits
+
+-- a SACK that waited long enough is due, and waits no more (6.2)
+abbrev pub waited_in : Bool → EndView → EndView
+waited_in false e = e
+waited_in true e = record e { due = record e.due { sack = true }; delayed = None }
+
+-- so it is where its moment has come
+abbrev pub waited : EndView → EndView
+waited e = waited_in (is_over_at e.moment e.delayed) e
+
 -- ---- a moment
 
 -- what a moment leaves at an end with an association
 abbrev pub passed : EndView → EndView
-passed e = rung_all all_alarms (after_abandoning e (expired e.sender e.moment))
+passed e = waited (rung_all all_alarms (after_abandoning e (expired e.sender e.moment)))
 
 -- An end without an association takes the moment, and nothing else.
 abbrev pub ticked : EndView → ℕ → EndView
@@ -69,6 +81,6 @@ abbrev pub earliest : (Alarm → Timer) → List Alarm → Option ℕ
 earliest f [] = None
 earliest f (a ∷ more) = earlier (f a).expiry (earliest f more)
 
--- the earliest expiry of a timer that runs
+-- the earliest expiry of a timer that runs, a SACK that waits counted
 abbrev pub next_moment : EndView → Option ℕ
-next_moment e = earliest e.timers all_alarms
+next_moment e = earlier (earliest e.timers all_alarms) e.delayed

@@ -28,11 +28,11 @@ STATE = 4
 abbrev pub COOKIE : ℕ
 COOKIE = 5
 
--- What is noted of a chunk for the end of its packet (6.2): nothing, or that it is to be acknowledged; at once, where that may not wait for another
--- packet, which matters only to an end that delays its SACKs.
+-- What is noted of a chunk for the end of its packet (6.2): nothing, or that it is to be acknowledged, be it user data or a FORWARD; at once, where that may
+-- not wait for another packet, which matters only to an end that delays its SACKs.
 pub data Note : Type 0 where
   Unnoted : Note
-  ToAcknowledge : (at_once : Bool) → Note
+  ToAcknowledge : (is_data at_once : Bool) → Note
 
 -- What a chunk leaves: the packet goes on, with a note, or ends with it; it isn't listed in this state; the packet is answered, and ends; or it drops
 -- the packet.

@@ -5,7 +5,7 @@ use Rattle.std.specs.Prelude.{ℕ, ◌-◌, ◌^◌}
 
 -- streams each way, 1 to so many
 abbrev pub STREAM_LIMIT : ℕ
-STREAM_LIMIT = 32
+STREAM_LIMIT = 1_024
 
 -- the packet limit for sending
 abbrev pub LEAST_PACKET : ℕ
@@ -84,6 +84,10 @@ FIRST_WAIT = 1_000
 -- and its longest (RTO.Max of RFC 9260, 16)
 abbrev pub LONGEST_WAIT : ℕ
 LONGEST_WAIT = 60_000
+
+-- how long a SACK may wait for another packet, where an end delays its SACKs (at most 500 by RFC 9260, 6.2, which recommends this: SACK.Delay of 16)
+abbrev pub SACK_DELAY : ℕ
+SACK_DELAY = 200
 
 -- how often an INIT or a COOKIE ECHO is repeated (Max.Init.Retransmits of RFC 9260, 16)
 abbrev pub OPENING_REPEATS : ℕ

@@ -1,11 +1,10 @@
--- The FORWARD of a view (RFC 3758, 3.5; RFC 8260, 2.3.1): the point, and of each stream and numbered kind the largest number up to it.
+-- What a FORWARD to an index names (RFC 3758, 3.5; RFC 8260, 2.3.1): of each stream and numbered kind the largest number up to it.
 use Rattle.std.specs.Prelude.{ℕ, zero, suc, ◌-◌, if◌then◌else◌, max, List, [], ◌∷◌, ◌++◌, take, drop, Option, None, Some}
 use Rattle.sctp_model.specs.messages.Format.{Format, Ordered, Unordered, Lane, is_numbered, same_lane}
 use Rattle.sctp_model.specs.messages.Plan.{Entry}
 use Rattle.sctp_model.specs.messages.Forward.{Skip, Forward}
 use Rattle.sctp_model.specs.sender.SenderView.{SenderView}
 use Rattle.sctp_model.specs.sender.Entries.{entry_lane, entry_number}
-use Rattle.sctp_model.specs.sender.Readers.{point}
 
 -- the larger of a number, if there is one, and another
 abbrev pub larger : Option ℕ → ℕ → Option ℕ
@@ -17,9 +16,9 @@ abbrev pub largest_in : Lane → Option ℕ → List Entry → Option ℕ
 largest_in l found [] = found
 largest_in l found (e ∷ es) = largest_in l (if same_lane l (entry_lane e) then larger found (entry_number e) else found) es
 
--- the entries after CUM, up to the point
-abbrev pub passed_entries : SenderView → List Entry
-passed_entries v = take (point v - v.cum) (drop v.cum v.plan.entries)
+-- the entries after CUM, up to this index
+abbrev pub entries_to : SenderView → (p : ℕ) → List Entry
+entries_to v p = take (p - v.cum) (drop v.cum v.plan.entries)
 
 -- the entry of a lane, where it has a number
 abbrev pub skip_in : Lane → Option ℕ → List Skip
@@ -39,6 +38,6 @@ abbrev pub skips_below : Format → List Entry → ℕ → List Skip
 skips_below f es zero = []
 skips_below f es (suc s) = skips_below f es s ++ skips_on f es s
 
--- the FORWARD of a view
-abbrev pub forward_of : Format → SenderView → Forward
-forward_of f v = record { point = point v; skips = skips_below f (passed_entries v) v.streams }
+-- the FORWARD from CUM to this index
+abbrev pub forward_to : Format → SenderView → (p : ℕ) → Forward
+forward_to f v p = record { point = p; skips = skips_below f (entries_to v p) v.streams }

@@ -18,7 +18,7 @@ use Rattle.sctp_model.specs.end.PeerFaults.{GoesOn, Ends, Replies, Note}
 use Rattle.sctp_model.specs.end.Opening.{AcceptedAck, RefusedAck, EchoedAgain, CookieAcked, begun}
 use Rattle.sctp_model.specs.end.Acting.{Acts, ForwardComes, PieceComes, IsOld, SackStale, ShutdownStale, HeartbeatCounts, SackCounts, ShutdownCounts, Closes, SaysNothing, Crosses, Again, AckCompletes, CompleteCompleted, PieceEmpty, WrongFormat, SackWrong, ShutdownWrong, WrongKind, IsBad}
 use Rattle.sctp_model.specs.end.Strays.{Verdict, seal_at, listens, holds_abort, body_in, body_among}
-use Rattle.sctp_model.specs.end.Arriving.{Notes, no_notes, packet_ended, AllAct, Arrives, Elsewhere, NotOurs, Stray, CookieBegins, Heard, DroppedUnread, ReadAs, CutFirst, CutLater, cut_to}
+use Rattle.sctp_model.specs.end.Arriving.{Notes, no_notes, urged, kept_going, packet_ended, AllAct, Arrives, Elsewhere, NotOurs, Stray, CookieBegins, Heard, DroppedUnread, ReadAs, CutFirst, CutLater, cut_to}
 use Rattle.sctp_safety.proofs.machine.EndWords.{Keeps, all_act_keeps, ended_cases}
 use Rattle.sctp_safety.proofs.machine.Sides.{unknown_goes, unknown_ends, unknown_never_replies}
 use Rattle.sctp_outcomes.specs.Kept.{is_before, IsSound, KeepsLogs, PacketsKeepLogs, CutPacketsKeepLogs}
@@ -154,6 +154,7 @@ acts_keep tag e b xs t m v s acts =
 
 ended_keeps : (n : Notes) (e : EndView) → IsSound e → KeepsLogs e (packet_ended n e)
 ended_keeps n e s = ended_cases (KeepsLogs e) n e (keeps_itself e s) (λ t g is. same_keeps e _ refl refl refl (λ on. on) s)
+    (λ t g is. same_keeps e _ refl refl refl (λ on. on) s) (λ x k. keeps_on e x (kept_going true x) k (same_keeps x _ refl refl refl (λ on. on) k.sound))
 
 -- a cookie opens at a listener alone
 opens_before : (e : EndView) (tag : ℕ) (xs : List ChunkMeaning) (b : Body) → body_among e tag xs ≡ Some b → is_before e.phase ≡ true
@@ -176,13 +177,13 @@ arrives_keeps : (e : EndView) (d : Draw) (p : Packet) (t : EndView) (v : Verdict
 arrives_keeps e d p t v s (Elsewhere _) = keeps_itself e s
 arrives_keeps e d p t v s (NotOurs _ _) = keeps_itself e s
 arrives_keeps e d p t v s (Stray _ _ _ _) = keeps_itself e s
-arrives_keeps e d p t v s (CookieBegins b u n _ _ _ _ opens acts) =
+arrives_keeps e d p t v s (CookieBegins b u n _ _ _ _ opens acts gap _) =
     let new = begins_keeps e (begun b e) refl refl refl refl refl (opens_before e p.tag p.chunks b opens) s in
     let all = keeps_on e (begun b e) u new (acts_keep p.tag (begun b e) _ _ u n v new.sound acts) in
-    keeps_on e u (packet_ended n u) all (ended_keeps n u all.sound)
-arrives_keeps e d p t v s (Heard u n _ _ _ _ acts) =
+    keeps_on e u (packet_ended (urged gap n) u) all (ended_keeps (urged gap n) u all.sound)
+arrives_keeps e d p t v s (Heard u n _ _ _ _ acts gap _) =
     let all = acts_keep p.tag e no_notes p.chunks u n v s acts in
-    keeps_on e u (packet_ended n u) all (ended_keeps n u all.sound)
+    keeps_on e u (packet_ended (urged gap n) u) all (ended_keeps (urged gap n) u all.sound)
 
 -- ---- at a moment
 

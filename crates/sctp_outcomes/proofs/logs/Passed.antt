@@ -8,7 +8,7 @@ use Rattle.sctp_model.specs.end.EndView.{TimedOut, Alarm, InitAlarm, CookieAlarm
 use Rattle.sctp_model.specs.end.Clock.{at_moment, closed, settled, with_timer, is_over_at, repeats_of}
 use Rattle.sctp_model.specs.end.Clock.{expired_timer}
 use Rattle.sctp_model.specs.end.Closing.{rested}
-use Rattle.sctp_model.specs.end.Moments.{after_abandoning, due_again, rung, ring, rung_all, all_alarms, passed}
+use Rattle.sctp_model.specs.end.Moments.{after_abandoning, due_again, rung, ring, rung_all, all_alarms, waited_in, waited, passed}
 use Rattle.sctp_outcomes.specs.Kept.{IsSound, KeepsLogs, MomentsKeepLogs}
 use Rattle.sctp_outcomes.proofs.logs.Senders.{KeepsNumbers, expired_keeps, timed_out_keeps}
 use Rattle.sctp_outcomes.proofs.logs.Ends.{keeps_itself, keeps_on, same_keeps, sender_keeps, rested_keeps}
@@ -44,6 +44,10 @@ all_keep (a ∷ more) e s =
     let first = rung_keeps (is_over_at e.moment (e.timers a).expiry) a e s in
     keeps_on e (ring a e) (rung_all more (ring a e)) first (all_keep more (ring a e) first.sound)
 
+waited_keeps : (b : Bool) (e : EndView) → IsSound e → KeepsLogs e (waited_in b e)
+waited_keeps false e s = keeps_itself e s
+waited_keeps true e s = same_keeps e _ refl refl refl (λ on. on) s
+
 pub moments_keep_logs : MomentsKeepLogs
 moments_keep_logs e now s = go (has_association e.phase)
   where
@@ -54,4 +58,6 @@ moments_keep_logs e now s = go (has_association e.phase)
         let u = after_abandoning m (expired_messages m.sender m.moment) in
         let first = moment_keeps e now s in
         let second = abandoning_keeps m (expired_messages m.sender m.moment) (expired_keeps m.sender m.moment) first.sound in
-        keeps_on e m (rung_all all_alarms u) first (keeps_on m u (rung_all all_alarms u) second (all_keep all_alarms u second.sound))
+        let r = rung_all all_alarms u in
+        let third = keeps_on m u r second (all_keep all_alarms u second.sound) in
+        keeps_on e m (waited r) first (keeps_on m r (waited r) third (waited_keeps (is_over_at r.moment r.delayed) r third.sound))

@@ -39,23 +39,23 @@ second_came = takes Plain (fresh_receiver 1 1 100) (piece false true true 2 0 1 
 abbrev all_three : SenderView
 all_three = abandon_after (abandon_after (abandon_after three 1) 2) 3
 
-one_forward : forward_chunk_of Plain all_three ≡ ForwardTsn (names_one 3 0 2)
+one_forward : forward_chunk_of Plain 1500 all_three ≡ ForwardTsn (names_one 3 0 2)
 one_forward = refl
 
 -- the second message is handed over all the same, and number 3 is next
-one_arrives : (texts ((forwards Plain second_came (forward_said Plain all_three)).waiting 0) ≡ (20 ∷ []) ∷ []) × ((forwards Plain second_came (forward_said Plain all_three)).next 0 ≡ 3)
+one_arrives : (texts ((forwards Plain second_came (forward_said Plain all_three (point all_three))).waiting 0) ≡ (20 ∷ []) ∷ []) × ((forwards Plain second_came (forward_said Plain all_three (point all_three))).next 0 ≡ 3)
 one_arrives = (refl, refl)
 
 -- the SACK came back, and the first and the third are abandoned: the first FORWARD goes to 1 and names SSN 0
 abbrev two_of_three : SenderView
 two_of_three = abandon_after (abandon_after (sack_after three (sack 0 100 (block 2 2 ∷ []))) 1) 3
 
-first_forward : forward_chunk_of Plain two_of_three ≡ ForwardTsn (names_one 1 0 0)
+first_forward : forward_chunk_of Plain 1500 two_of_three ≡ ForwardTsn (names_one 1 0 0)
 first_forward = refl
 
 -- the peer hands the second over, and its SACK says 2
 abbrev first_arrives : ReceiverView
-first_arrives = forwards Plain second_came (forward_said Plain two_of_three)
+first_arrives = forwards Plain second_came (forward_said Plain two_of_three (point two_of_three))
 
 second_is_due : (texts (first_arrives.waiting 0) ≡ (20 ∷ []) ∷ []) × (first_arrives.next 0 ≡ 2) × (cumulative first_arrives 9 ≡ 2)
 second_is_due = (refl, refl, refl)
@@ -64,10 +64,10 @@ second_is_due = (refl, refl, refl)
 abbrev answered : SenderView
 answered = sack_after two_of_three (sack 2 100 [])
 
-second_forward : forward_chunk_of Plain answered ≡ ForwardTsn (names_one 3 0 2)
+second_forward : forward_chunk_of Plain 1500 answered ≡ ForwardTsn (names_one 3 0 2)
 second_forward = refl
 
-same_end : (texts ((forwards Plain first_arrives (forward_said Plain answered)).waiting 0) ≡ (20 ∷ []) ∷ []) × ((forwards Plain first_arrives (forward_said Plain answered)).next 0 ≡ 3)
+same_end : (texts ((forwards Plain first_arrives (forward_said Plain answered (point answered))).waiting 0) ≡ (20 ∷ []) ∷ []) × ((forwards Plain first_arrives (forward_said Plain answered (point answered))).next 0 ≡ 3)
 same_end = (refl, refl)
 
 -- the second message counts as acknowledged, the others as abandoned, also once CUM has passed them
@@ -87,8 +87,8 @@ late = abandon_after (fill Plain 200 (asks (fresh_sender 1 1 4 100 true) 0 0 (10
 abbrev late_came : ReceiverView
 late_came = takes Plain (fresh_receiver 1 1 100) (piece false true true 1 0 0 0 (10 ∷ []))
 
-late_arrives : (forward_chunk_of Plain late ≡ ForwardTsn (names_one 1 0 0)) × (texts (late_came.waiting 0) ≡ (10 ∷ []) ∷ []) × (forward_answer late_came (cumulative late_came 9) (forward_said Plain late) ≡ OutOfDate)
-    × (forwards Plain late_came (forward_said Plain late) ≡ late_came)
+late_arrives : (forward_chunk_of Plain 1500 late ≡ ForwardTsn (names_one 1 0 0)) × (texts (late_came.waiting 0) ≡ (10 ∷ []) ∷ []) × (forward_answer late_came (cumulative late_came 9) (forward_said Plain late (point late)) ≡ OutOfDate)
+    × (forwards Plain late_came (forward_said Plain late (point late)) ≡ late_came)
 late_arrives = (refl, refl, refl, refl)
 
 -- ---- an end mark, under I-DATA
@@ -105,14 +105,14 @@ end_takes_three : ended.plan.entries ≡ Part (ordered_lane 0) 0 0 ∷ Part (ord
 end_takes_three = refl
 
 -- it is never sent, and the FORWARD goes past it
-end_is_passed : (indexes (fill Interleaved 200 (timed_out ended)).wishes ≡ []) × (point ended ≡ 3) × (forward_chunk_of Interleaved ended ≡ IForwardTsn (names_one 3 0 0))
+end_is_passed : (indexes (fill Interleaved 200 (timed_out ended)).wishes ≡ []) × (point ended ≡ 3) × (forward_chunk_of Interleaved 1500 ended ≡ IForwardTsn (names_one 3 0 0))
 end_is_passed = (refl, refl, refl)
 
 -- the peer lets both fragments go and waits for number 1
 abbrev two_came : ReceiverView
 two_came = takes Interleaved (takes Interleaved (fresh_receiver 1 1 100) (piece false true false 1 0 0 7 (1 ∷ 2 ∷ 3 ∷ 4 ∷ []))) (piece false false false 2 0 0 1 (5 ∷ 6 ∷ 7 ∷ 8 ∷ []))
 
-end_arrives : ((forwards Interleaved two_came (forward_said Interleaved ended)).kept ≡ []) × ((forwards Interleaved two_came (forward_said Interleaved ended)).next 0 ≡ 1)
+end_arrives : ((forwards Interleaved two_came (forward_said Interleaved ended (point ended))).kept ≡ []) × ((forwards Interleaved two_came (forward_said Interleaved ended (point ended))).next 0 ≡ 1)
 end_arrives = (refl, refl)
 
 -- which the next message has, behind the end mark
@@ -126,7 +126,7 @@ abbrev one_went : SenderView
 one_went = abandon_after (fill Plain 20 (asks (fresh_sender 1 1 4 100 true) 0 7 (1 ∷ 2 ∷ 3 ∷ 4 ∷ 5 ∷ 6 ∷ 7 ∷ 8 ∷ 9 ∷ 10 ∷ []))).view 1
 
 no_end : (one_went.plan.entries ≡ Part (ordered_lane 0) 0 0 ∷ Part (ordered_lane 0) 0 1 ∷ Part (ordered_lane 0) 0 2 ∷ []) × (indexes (fill Plain 200 (timed_out one_went)).wishes ≡ [])
-    × (forward_chunk_of Plain one_went ≡ ForwardTsn (names_one 3 0 0))
+    × (forward_chunk_of Plain 1500 one_went ≡ ForwardTsn (names_one 3 0 0))
 no_end = (refl, refl, refl)
 
 -- ---- answers

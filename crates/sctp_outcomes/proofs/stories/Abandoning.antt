@@ -76,12 +76,12 @@ abbrev p6 : World
 p6 = came p5 B (acknowledges Established (rested handed_on))
 
 comes_6 : Step p5 (Deliver A 2) (Some Acted) p6
-comes_6 = PacketComes (Deliver A 2) B (Some packet_2) (acknowledges Established (rested handed_on)) Taken (FromBag A 2 packet_2 refl) (ReadAs packet_2 (acknowledges Established (rested handed_on)) Taken (Heard (rested handed_on) (noted (data_note (rested skipped) 0 second_piece) (noted (ToAcknowledge true) no_notes)) Taken refl refl refl
-    (Next (end_now p5 B) skipped (rested handed_on) (ToAcknowledge true) no_notes (noted (data_note (rested skipped) 0 second_piece) (noted (ToAcknowledge true) no_notes)) (ForwardTsn passes) (Data second_piece ∷ []) Taken
+comes_6 = PacketComes (Deliver A 2) B (Some packet_2) (acknowledges Established (rested handed_on)) Taken (FromBag A 2 packet_2 refl) (ReadAs packet_2 (acknowledges Established (rested handed_on)) Taken (Heard (rested handed_on) (noted (data_note (rested skipped) 0 second_piece) (noted (ToAcknowledge false true) no_notes)) Taken refl refl refl
+    (Next (end_now p5 B) skipped (rested handed_on) (ToAcknowledge false true) no_notes (noted (data_note (rested skipped) 0 second_piece) (noted (ToAcknowledge false true) no_notes)) (ForwardTsn passes) (Data second_piece ∷ []) Taken
     (forward_acts Plain (end_now p5 B) tags_b Established 0 passes (bound_none p5.b.receiver refl) refl refl refl refl)
-    (Next (rested skipped) handed_on (rested handed_on) (data_note (rested skipped) 0 second_piece) (noted (ToAcknowledge true) no_notes) (noted (data_note (rested skipped) 0 second_piece) (noted (ToAcknowledge true) no_notes)) (Data second_piece) [] Taken
+    (Next (rested skipped) handed_on (rested handed_on) (data_note (rested skipped) 0 second_piece) (noted (ToAcknowledge false true) no_notes) (noted (data_note (rested skipped) 0 second_piece) (noted (ToAcknowledge false true) no_notes)) (Data second_piece) [] Taken
     (data_acts Plain (rested skipped) tags_b Established 0 second_piece (bound_none (rested skipped).receiver refl) refl refl (omega arith) refl)
-    (NoneLeft (rested handed_on) (noted (data_note (rested skipped) 0 second_piece) (noted (ToAcknowledge true) no_notes)))))))
+    (NoneLeft (rested handed_on) (noted (data_note (rested skipped) 0 second_piece) (noted (ToAcknowledge false true) no_notes))))) false (λ on. absurd (cc))))
 
 abbrev message : Handed
 message = record { first = 2; lane = ordered_lane 0; number = Some 1; payload = 0; bytes = 2 ∷ [] }

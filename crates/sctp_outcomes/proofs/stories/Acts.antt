@@ -36,7 +36,7 @@ after_data e bound p =
     with_causes (piece_causes e p (answer_to (format_of e) e.receiver c p)) (record e { receiver = piece_step (format_of e) e.receiver c p })
 
 abbrev pub data_note : EndView → (bound : ℕ) → PieceMeaning → Note
-data_note e bound p = ToAcknowledge (asks_at_once p (answer_to (format_of e) e.receiver (cumulative e.receiver bound) p))
+data_note e bound p = ToAcknowledge true (asks_at_once p (answer_to (format_of e) e.receiver (cumulative e.receiver bound) p))
 
 pub data_acts : (f : Format) (e : EndView) (t : Tags) (g : Stage) (bound : ℕ) (p : PieceMeaning) → IsBound e.receiver bound → e.phase ≡ Open t g → takes_data g ≡ true →
     0 < length p.bytes → same_format f (format_of e) ≡ true → PieceActs f e p (GoesOn (data_note e bound p) (after_data e bound p))
@@ -56,6 +56,6 @@ moves e bound m within is =
     (forward_steps (format_of e) e.receiver (cumulative e.receiver bound) m (cumulative_is e.receiver bound within))
 
 pub forward_acts : (f : Format) (e : EndView) (t : Tags) (g : Stage) (bound : ℕ) (m : ForwardMeaning) → IsBound e.receiver bound → e.phase ≡ Open t g → takes_data g ≡ true →
-    may_forward f e ≡ true → forward_answer e.receiver (cumulative e.receiver bound) m ≡ Moved → ForwardActs f e m (GoesOn (ToAcknowledge true) (after_skip e bound m))
+    may_forward f e ≡ true → forward_answer e.receiver (cumulative e.receiver bound) m ≡ Moved → ForwardActs f e m (GoesOn (ToAcknowledge false true) (after_skip e bound m))
 forward_acts f e t g bound m within is hears may moved =
     ForwardComes t g (forward_step (format_of e) e.receiver (cumulative e.receiver bound) m) is hears may (moves e bound m within moved)

@@ -66,7 +66,7 @@ unfolding u16_bytes u32_bytes u16_at u32_at starts_typed typed_of
 step_12 = PacketComes (Deliver A 3) B (Some packet_3) (acknowledges Established (rested e12)) Taken (FromBag A 3 packet_3 refl) (ReadAs packet_3 (acknowledges Established (rested e12)) Taken (Heard (rested e12) (noted (data_note (end_now w11 B) 0 piece) no_notes) Taken refl refl refl
     (Next (end_now w11 B) e12 (rested e12) (data_note (end_now w11 B) 0 piece) no_notes (noted (data_note (end_now w11 B) 0 piece) no_notes) (IData piece) [] Taken
     (data_acts Interleaved (end_now w11 B) tags_b Established 0 piece (bound_none w11.b.receiver refl) refl refl (omega arith) refl)
-    (NoneLeft (rested e12) (noted (data_note (end_now w11 B) 0 piece) no_notes)))))
+    (NoneLeft (rested e12) (noted (data_note (end_now w11 B) 0 piece) no_notes))) false (λ on. absurd (cc))))
 
 -- who takes it
 abbrev pub arrived : Handed
@@ -112,7 +112,7 @@ unfolding u16_bytes u32_bytes u16_at u32_at starts_typed typed_of
 step_15 = PacketComes (Deliver B 3) A (Some packet_4) (rested e15) Taken (FromBag B 3 packet_4 refl) (ReadAs packet_4 (rested e15) Taken (Heard (rested e15) (noted Unnoted no_notes) Taken refl refl refl
     (Next (end_now w14 A) e15 (rested e15) Unnoted no_notes (noted Unnoted no_notes) (Sack sack) [] Taken
     (SackCounts refl refl)
-    (NoneLeft (rested e15) (noted Unnoted no_notes)))))
+    (NoneLeft (rested e15) (noted Unnoted no_notes))) false (λ on. absurd (cc))))
 
 -- ---- closing
 
@@ -146,7 +146,7 @@ unfolding u16_bytes u32_bytes u16_at u32_at starts_typed typed_of
 step_18 = PacketComes (Deliver A 4) B (Some packet_5) (rested e18) Taken (FromBag A 4 packet_5 refl) (ReadAs packet_5 (rested e18) Taken (Heard (rested e18) (noted Unnoted no_notes) Taken refl refl refl
     (Next (end_now w17 B) e18 (rested e18) Unnoted no_notes (noted Unnoted no_notes) (Says (tsn 200 0)) [] Taken
     (ShutdownCounts tags_b Established refl refl refl)
-    (NoneLeft (rested e18) (noted Unnoted no_notes)))))
+    (NoneLeft (rested e18) (noted Unnoted no_notes))) false (λ on. absurd (cc))))
 
 abbrev packet_6 : Packet
 packet_6 = packet_of w18.b (ShutdownAck ∷ [])
@@ -168,7 +168,7 @@ w20 = with_packet (came w19 A (closed Completed (end_now w19 A))) A packet_7
 step_20 : Step w19 (Deliver B 4) (Some (told w19 A (Answer packet_7))) w20
 unfolding u16_bytes u32_bytes u16_at u32_at starts_typed typed_of
 step_20 = PacketComes (Deliver B 4) A (Some packet_6) (closed Completed (end_now w19 A)) (Answer packet_7) (FromBag B 4 packet_6 refl) (ReadAs packet_6 (closed Completed (end_now w19 A)) (Answer packet_7) (Heard (closed Completed (end_now w19 A)) no_notes (Answer packet_7) refl refl refl
-    (EndsAnswered (end_now w19 A) (closed Completed (end_now w19 A)) no_notes ShutdownAck [] packet_7 (AckCompletes tags_a ShutdownSent refl refl))))
+    (EndsAnswered (end_now w19 A) (closed Completed (end_now w19 A)) no_notes ShutdownAck [] packet_7 (AckCompletes tags_a ShutdownSent refl refl)) false (λ on. absurd (cc))))
 
 abbrev w21 : World
 w21 = came w20 B (closed Completed (end_now w20 B))
@@ -176,7 +176,7 @@ w21 = came w20 B (closed Completed (end_now w20 B))
 step_21 : Step w20 (Deliver A 5) (Some Acted) w21
 unfolding u16_bytes u32_bytes u16_at u32_at starts_typed typed_of
 step_21 = PacketComes (Deliver A 5) B (Some packet_7) (closed Completed (end_now w20 B)) Taken (FromBag A 5 packet_7 refl) (ReadAs packet_7 (closed Completed (end_now w20 B)) Taken (Heard (closed Completed (end_now w20 B)) no_notes Taken refl refl refl
-    (Last (end_now w20 B) (closed Completed (end_now w20 B)) no_notes (ShutdownComplete false) [] (CompleteCompleted refl))))
+    (Last (end_now w20 B) (closed Completed (end_now w20 B)) no_notes (ShutdownComplete false) [] (CompleteCompleted refl)) false (λ on. absurd (cc))))
 
 -- ---- the run
 

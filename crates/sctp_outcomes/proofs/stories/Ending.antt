@@ -53,7 +53,7 @@ comes_3 : Step q2 (Deliver A 1) (Some Acted) q3
 comes_3 = PacketComes (Deliver A 1) B (Some packet_1) (acknowledges Established (rested kept)) Taken (FromBag A 1 packet_1 refl) (ReadAs packet_1 (acknowledges Established (rested kept)) Taken (Heard (rested kept) (noted (data_note (end_now q2 B) 0 first_piece) no_notes) Taken refl refl refl
     (Next (end_now q2 B) kept (rested kept) (data_note (end_now q2 B) 0 first_piece) no_notes (noted (data_note (end_now q2 B) 0 first_piece) no_notes) (IData first_piece) [] Taken
     (data_acts Interleaved (end_now q2 B) tags_b Established 0 first_piece (bound_none q2.b.receiver refl) refl refl (omega arith) refl)
-    (NoneLeft (rested kept) (noted (data_note (end_now q2 B) 0 first_piece) no_notes)))))
+    (NoneLeft (rested kept) (noted (data_note (end_now q2 B) 0 first_piece) no_notes))) false (λ on. absurd (cc))))
 
 -- A's user abandons the message, which takes index 2 for its end mark
 abbrev q4 : World
@@ -82,10 +82,10 @@ one_recorded : (i : ℕ) → q5.b.receiver.seen i ≡ true → i ≤ 1
 one_recorded = bound_more (λ i. false) 1 1 (omega arith) (λ i on. absurd (cc))
 
 comes_6 : Step q5 (Deliver A 2) (Some Acted) q6
-comes_6 = PacketComes (Deliver A 2) B (Some packet_2) (acknowledges Established (rested skipped)) Taken (FromBag A 2 packet_2 refl) (ReadAs packet_2 (acknowledges Established (rested skipped)) Taken (Heard (rested skipped) (noted (ToAcknowledge true) no_notes) Taken refl refl refl
-    (Next (end_now q5 B) skipped (rested skipped) (ToAcknowledge true) no_notes (noted (ToAcknowledge true) no_notes) (IForwardTsn passes) [] Taken
+comes_6 = PacketComes (Deliver A 2) B (Some packet_2) (acknowledges Established (rested skipped)) Taken (FromBag A 2 packet_2 refl) (ReadAs packet_2 (acknowledges Established (rested skipped)) Taken (Heard (rested skipped) (noted (ToAcknowledge false true) no_notes) Taken refl refl refl
+    (Next (end_now q5 B) skipped (rested skipped) (ToAcknowledge false true) no_notes (noted (ToAcknowledge false true) no_notes) (IForwardTsn passes) [] Taken
     (forward_acts Interleaved (end_now q5 B) tags_b Established 1 passes one_recorded refl refl refl refl)
-    (NoneLeft (rested skipped) (noted (ToAcknowledge true) no_notes)))))
+    (NoneLeft (rested skipped) (noted (ToAcknowledge false true) no_notes))) false (λ on. absurd (cc))))
 
 abbrev ending : List Event
 ending = OpenBoth of_a of_b ∷ Send A long ∷ Build A ∷ Deliver A 1 ∷ Abandon A 1 ∷ Build A ∷ Deliver A 2 ∷ []

@@ -26,7 +26,7 @@ chunk_at CookieAckSlot e bound = CookieAck
 chunk_at HeartbeatSlot e bound = HeartbeatAck (info_of e.due.heartbeat)
 chunk_at ErrorSlot e bound = Error (written e.due.causes)
 chunk_at SackSlot e bound = Sack (sack_of e.receiver (cumulative e.receiver bound) (all_runs e.receiver (cumulative e.receiver bound) bound))
-chunk_at ForwardSlot e bound = forward_chunk_of (format_of e) e.sender
+chunk_at ForwardSlot e bound = forward_chunk_of (format_of e) e.configuration.limit e.sender
 chunk_at ShutdownSlot e bound = Shutdown (tsn e.receiver.initial (cumulative e.receiver bound))
 chunk_at ShutdownAckSlot e bound = ShutdownAck
 

@@ -101,7 +101,7 @@ unfolding u16_bytes u32_bytes u16_at u32_at starts_typed typed_of
 step_6 = PacketComes (Deliver B 1) A (Some ack_packet) echoes Taken (FromBag B 1 ack_packet refl) (ReadAs ack_packet echoes Taken (Heard echoes (noted Unnoted no_notes) Taken refl refl refl
     (Next (end_now s5 A) echoes echoes Unnoted no_notes (noted Unnoted no_notes) (InitAck ack_meaning) [] Taken
     (AcceptedAck of_a cookie refl some refl refl)
-    (NoneLeft echoes (noted Unnoted no_notes)))))
+    (NoneLeft echoes (noted Unnoted no_notes))) false (λ on. absurd (cc))))
   where
     some : 0 < 9
     some = omega arith
@@ -112,7 +112,7 @@ s7 = came s6 A (end_now s6 A)
 step_7 : Step s6 (Deliver B 1) (Some (NotActed STATE)) s7
 unfolding u16_bytes u32_bytes u16_at u32_at starts_typed typed_of
 step_7 = PacketComes (Deliver B 1) A (Some ack_packet) (end_now s6 A) (Dropped STATE) (FromBag B 1 ack_packet refl) (ReadAs ack_packet (end_now s6 A) (Dropped STATE) (Heard (end_now s6 A) no_notes (Dropped STATE) refl refl refl
-    (Passes (end_now s6 A) (end_now s6 A) no_notes no_notes (InitAck ack_meaning) [] (Dropped STATE) (NotCalling refl) (NoneLeft (end_now s6 A) no_notes))))
+    (Passes (end_now s6 A) (end_now s6 A) no_notes no_notes (InitAck ack_meaning) [] (Dropped STATE) (NotCalling refl) (NoneLeft (end_now s6 A) no_notes)) false (λ on. absurd (cc))))
 
 -- the cookie goes back
 abbrev echoed : EndView
@@ -139,7 +139,7 @@ s9 = came s8 B begins
 
 step_9 : Step s8 (Deliver A 2) (Some Acted) s9
 unfolding u16_bytes u32_bytes u16_at u32_at starts_typed typed_of
-step_9 = PacketComes (Deliver A 2) B (Some packet_2) begins Taken (FromBag A 2 packet_2 refl) (ReadAs packet_2 begins Taken (CookieBegins body begins (noted Unnoted no_notes) Taken refl refl refl refl (NoneLeft begins (noted Unnoted no_notes))))
+step_9 = PacketComes (Deliver A 2) B (Some packet_2) begins Taken (FromBag A 2 packet_2 refl) (ReadAs packet_2 begins Taken (CookieBegins body begins (noted Unnoted no_notes) Taken refl refl refl refl (NoneLeft begins (noted Unnoted no_notes)) false (λ on. absurd (cc))))
 
 abbrev again : EndView
 again = with_due (record (end_now s9 B).due { cookie_ack = true }) (end_now s9 B)
@@ -152,7 +152,7 @@ unfolding u16_bytes u32_bytes u16_at u32_at starts_typed typed_of
 step_10 = PacketComes (Deliver A 2) B (Some packet_2) again Taken (FromBag A 2 packet_2 refl) (ReadAs packet_2 again Taken (Heard again (noted Unnoted no_notes) Taken refl refl refl
     (Next (end_now s9 B) again again Unnoted no_notes (noted Unnoted no_notes) (CookieEcho cookie) [] Taken
     (EchoedAgain open_seal tags_b Established refl refl refl refl)
-    (NoneLeft again (noted Unnoted no_notes)))))
+    (NoneLeft again (noted Unnoted no_notes))) false (λ on. absurd (cc))))
 
 -- and says so
 abbrev packet_3 : Packet
@@ -176,7 +176,7 @@ unfolding u16_bytes u32_bytes u16_at u32_at starts_typed typed_of
 step_12 = PacketComes (Deliver B 3) A (Some packet_3) open_end Taken (FromBag B 3 packet_3 refl) (ReadAs packet_3 open_end Taken (Heard open_end (noted Unnoted no_notes) Taken refl refl refl
     (Next (end_now s11 A) open_end open_end Unnoted no_notes (noted Unnoted no_notes) CookieAck [] Taken
     (CookieAcked tags_a cookie refl)
-    (NoneLeft open_end (noted Unnoted no_notes)))))
+    (NoneLeft open_end (noted Unnoted no_notes))) false (λ on. absurd (cc))))
 
 abbrev pub s13 : World
 s13 = came s12 A (end_now s12 A)
@@ -184,7 +184,7 @@ s13 = came s12 A (end_now s12 A)
 step_13 : Step s12 (Deliver B 3) (Some (NotActed STATE)) s13
 unfolding u16_bytes u32_bytes u16_at u32_at starts_typed typed_of
 step_13 = PacketComes (Deliver B 3) A (Some packet_3) (end_now s12 A) (Dropped STATE) (FromBag B 3 packet_3 refl) (ReadAs packet_3 (end_now s12 A) (Dropped STATE) (Heard (end_now s12 A) no_notes (Dropped STATE) refl refl refl
-    (Passes (end_now s12 A) (end_now s12 A) no_notes no_notes CookieAck [] (Dropped STATE) (NotEchoing refl) (NoneLeft (end_now s12 A) no_notes))))
+    (Passes (end_now s12 A) (end_now s12 A) no_notes no_notes CookieAck [] (Dropped STATE) (NotEchoing refl) (NoneLeft (end_now s12 A) no_notes)) false (λ on. absurd (cc))))
 
 step_1 : Step (start pair) (Connect of_a) (Some Done) s1
 step_1 = Connects of_a (drawn 7 100 (omega arith) (omega arith) (omega arith)) refl

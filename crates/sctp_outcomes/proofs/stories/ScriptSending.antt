@@ -55,7 +55,7 @@ unfolding u16_bytes u32_bytes u16_at u32_at starts_typed typed_of
 step_16 = PacketComes (Deliver A 3) B (Some packet_3) (acknowledges Established (rested e16)) Taken (FromBag A 3 packet_3 refl) (ReadAs packet_3 (acknowledges Established (rested e16)) Taken (Heard (rested e16) (noted (data_note (end_now s15 B) 0 piece) no_notes) Taken refl refl refl
     (Next (end_now s15 B) e16 (rested e16) (data_note (end_now s15 B) 0 piece) no_notes (noted (data_note (end_now s15 B) 0 piece) no_notes) (Data piece) [] Taken
     (data_acts Plain (end_now s15 B) tags_b Established 0 piece (bound_none s15.b.receiver refl) refl refl (omega arith) refl)
-    (NoneLeft (rested e16) (noted (data_note (end_now s15 B) 0 piece) no_notes)))))
+    (NoneLeft (rested e16) (noted (data_note (end_now s15 B) 0 piece) no_notes))) false (λ on. absurd (cc))))
 
 one_recorded : (i : ℕ) → s16.b.receiver.seen i ≡ true → i ≤ 1
 unfolding u16_bytes u32_bytes u16_at u32_at starts_typed typed_of
@@ -72,7 +72,7 @@ unfolding u16_bytes u32_bytes u16_at u32_at starts_typed typed_of
 step_17 = PacketComes (Deliver A 3) B (Some packet_3) (acknowledges Established (rested e17)) Taken (FromBag A 3 packet_3 refl) (ReadAs packet_3 (acknowledges Established (rested e17)) Taken (Heard (rested e17) (noted (data_note (end_now s16 B) 1 piece) no_notes) Taken refl refl refl
     (Next (end_now s16 B) e17 (rested e17) (data_note (end_now s16 B) 1 piece) no_notes (noted (data_note (end_now s16 B) 1 piece) no_notes) (Data piece) [] Taken
     (data_acts Plain (end_now s16 B) tags_b Established 1 piece one_recorded refl refl (omega arith) refl)
-    (NoneLeft (rested e17) (noted (data_note (end_now s16 B) 1 piece) no_notes)))))
+    (NoneLeft (rested e17) (noted (data_note (end_now s16 B) 1 piece) no_notes))) false (λ on. absurd (cc))))
 
 -- the SACK names the duplicate; the two bytes wait, and count against the room
 abbrev sack : SackMeaning
@@ -104,7 +104,7 @@ unfolding u16_bytes u32_bytes u16_at u32_at starts_typed typed_of
 step_19 = PacketComes (Deliver B 4) A (Some packet_4) (rested e19) Taken (FromBag B 4 packet_4 refl) (ReadAs packet_4 (rested e19) Taken (Heard (rested e19) (noted Unnoted no_notes) Taken refl refl refl
     (Next (end_now s18 A) e19 (rested e19) Unnoted no_notes (noted Unnoted no_notes) (Sack sack) [] Taken
     (SackCounts refl refl)
-    (NoneLeft (rested e19) (noted Unnoted no_notes)))))
+    (NoneLeft (rested e19) (noted Unnoted no_notes))) false (λ on. absurd (cc))))
 
 abbrev e20 : EndView
 e20 = sack_heard (end_now s19 A) sack
@@ -117,7 +117,7 @@ unfolding u16_bytes u32_bytes u16_at u32_at starts_typed typed_of
 step_20 = PacketComes (Deliver B 4) A (Some packet_4) (rested e20) Taken (FromBag B 4 packet_4 refl) (ReadAs packet_4 (rested e20) Taken (Heard (rested e20) (noted Unnoted no_notes) Taken refl refl refl
     (Next (end_now s19 A) e20 (rested e20) Unnoted no_notes (noted Unnoted no_notes) (Sack sack) [] Taken
     (SackCounts refl refl)
-    (NoneLeft (rested e20) (noted Unnoted no_notes)))))
+    (NoneLeft (rested e20) (noted Unnoted no_notes))) false (λ on. absurd (cc))))
 
 -- B's user takes the message
 abbrev e21 : EndView

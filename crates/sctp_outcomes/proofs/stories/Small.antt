@@ -25,6 +25,8 @@ small interleave = record {
     inbound = 1;
     interleave = interleave;
     partial = true;
+    delay = false;
+    standard_closing = false;
   };
   a_port = 5000;
   b_port = 5001;

@@ -1,5 +1,5 @@
 -- What a FORWARD does on each stream (RFC 3758, 3.6; RFC 8260, 2.3).
-use Rattle.std.specs.Prelude.{◌≡◌, ℕ, suc, ◌+◌, ◌-◌, ◌^◌, ◌<◌, ◌⊎◌, max, not, if◌then◌else◌, List, [], ◌∷◌, ◌++◌, length, filter, slice_get, Option, None, Some}
+use Rattle.std.specs.Prelude.{◌≡◌, ℕ, suc, ◌+◌, ◌-◌, ◌^◌, ◌<◌, ◌⊎◌, max, true, false, not, if◌then◌else◌, List, [], ◌∷◌, ◌++◌, length, filter, slice_get, Option, None, Some}
 use Rattle.std.specs.List.{Contains}
 use Rattle.std.specs.List.Sorted.{IsNonDecreasingBy}
 use Rattle.sctp_model.specs.numbers.Lists.{Has}
@@ -11,12 +11,12 @@ use Rattle.sctp_model.specs.receiver.ReceiverView.{Handed, ReceiverView, size_of
 use Rattle.sctp_model.specs.receiver.Receiving.{HasNoWhole}
 use Rattle.sctp_model.specs.receiver.Reading.{lane_of}
 use Rattle.sctp_wire.specs.declared.skips.Skip.{Skip}
-use Rattle.sctp_chains.specs.StandsFor as lane
 use Rattle.sctp_chains.specs.WholeOf.{from_number}
 use Rattle.sctp_recv.specs.declared.inbound.Inbound.{Inbound}
-use Rattle.sctp_recv.specs.Fields.{stream_of}
+use Rattle.sctp_recv.specs.declared.stream.Stream.{Stream}
+use Rattle.sctp_recv.specs.Fields.{known_of, inside, stream_of}
 use Rattle.sctp_model.specs.receiver.KeptOfLane.{of_lane}
-use Rattle.sctp_recv.specs.Filed.{AreFiled}
+use Rattle.sctp_recv.specs.Filed.{Keeps, AreFiled}
 use Rattle.sctp_recv.specs.Lows.{IsMarked}
 use Rattle.sctp_recv.specs.declared.places.Lows.{Lows}
 use Rattle.sctp_recv.specs.inner.Giving.{sized, HasRoom, AreCounted, IsDueFrom}
@@ -64,58 +64,63 @@ IsNamed s xs = (x : SkipMeaning) × Has xs x × (x.stream ≡ s)
 abbrev pub IsTouched : (s : ℕ) → Lows → (jump : ℕ) → List SkipMeaning → Type 0
 IsTouched s lows jump xs = IsMarked lows s jump ⊎ IsNamed s xs
 
--- on so many of these streams there is room for the messages that their ordered chunks may make
-abbrev pub HaveRoom : {F : Type 0} → (touched : List ℕ) → ℕ → List (Inbound F) → Type 0
-HaveRoom {F} touched n streams = (i s : ℕ) (x : Inbound F) → i < n → slice_get touched i ≡ Some s → slice_get streams s ≡ Some x → HasRoom x 0
+-- there is room for the messages that the ordered chunks may make
+abbrev pub HasRoomOn : {F : Type 0} → Option (Inbound F) → Type 0
+HasRoomOn None = ⊥
+HasRoomOn (Some x) = HasRoom x 0
+
+-- on so many of these streams
+abbrev pub HaveRoom : {F : Type 0} → (touched : List ℕ) → ℕ → List (Stream F) → Type 0
+HaveRoom {F} touched n streams = (i s : ℕ) (x : Stream F) → i < n → slice_get touched i ≡ Some s → slice_get streams s ≡ Some x → HasRoomOn (inside x)
 
 -- On a stream nothing is skipped, nothing is due, and nothing goes.
-pub record IsQuiet {F : Type 0} (f : Format) (jump : ℕ) (xs : List SkipMeaning) (v : ReceiverView) (q : ℕ) (x : Inbound F) : Type 0 where
-  pub ordered : lowest_after f (ordered_lane q) x.next xs ≡ x.next
-  pub unordered : lowest_after f (unordered_lane q) x.skip xs ≡ x.skip
-  pub none : HasNoWhole f v.kept (ordered_lane q) x.next
-  pub clear : from_number x.next (of_lane (ordered_lane q) v.kept) ≡ of_lane (ordered_lane q) v.kept
-  pub stays : stay f jump x.skip (of_lane (unordered_lane q) v.kept) ≡ of_lane (unordered_lane q) v.kept
+pub record IsQuiet {F : Type 0} (f : Format) (jump : ℕ) (xs : List SkipMeaning) (v : ReceiverView) (q : ℕ) (x : Stream F) : Type 0 where
+  pub ordered : lowest_after f (ordered_lane q) (stream_of x).next xs ≡ (stream_of x).next
+  pub unordered : lowest_after f (unordered_lane q) (stream_of x).skip xs ≡ (stream_of x).skip
+  pub none : HasNoWhole f v.kept (ordered_lane q) (stream_of x).next
+  pub clear : from_number (stream_of x).next (of_lane (ordered_lane q) v.kept) ≡ of_lane (ordered_lane q) v.kept
+  pub stays : stay f jump (stream_of x).skip (of_lane (unordered_lane q) v.kept) ≡ of_lane (unordered_lane q) v.kept
 
 -- on none but these streams
-abbrev pub AreQuiet : {F : Type 0} → Format → (jump : ℕ) → List SkipMeaning → ReceiverView → (touched : List ℕ) → List (Inbound F) → Type 0
-AreQuiet {F} f jump xs v touched streams = (q : ℕ) (x : Inbound F) → slice_get streams q ≡ Some x → (Contains touched q → ⊥) → IsQuiet f jump xs v q x
+abbrev pub AreQuiet : {F : Type 0} → Format → (jump : ℕ) → List SkipMeaning → ReceiverView → (touched : List ℕ) → List (Stream F) → Type 0
+AreQuiet {F} f jump xs v touched streams = (q : ℕ) (x : Stream F) → slice_get streams q ≡ Some x → (Contains touched q → ⊥) → IsQuiet f jump xs v q x
 
 -- What is due once its numbers are skipped waits for the user; what is left behind, or below the number that is waited for then, is gone.
-pub record PassesOn {F : Type 0} (f : Format) (s jump : ℕ) (xs : List SkipMeaning) (os us : List Piece) (old new : Inbound F) (held left : ℕ) : Type 0 where
+pub record PassesOn {F : Type 0} (f : Format) (s jump : ℕ) (xs : List SkipMeaning) (os us : List Piece) (old new : Option (Inbound F)) (held left : ℕ) : Type 0 where
   pub messages : List Handed
   pub next : ℕ
-  pub due : IsDueFrom f os s old.next (lowest_after f (ordered_lane s) old.next xs) messages next
-  pub ordered : lane.StandsFor f new.ordered (ordered_lane s) (from_number next os)
-  pub unordered : lane.StandsFor f new.unordered (unordered_lane s) (stay f jump (lowest_after f (unordered_lane s) old.skip xs) us)
-  pub stream : stream_of new ≡ record { next = next; skip = lowest_after f (unordered_lane s) old.skip xs; waiting = (stream_of old).waiting ++ messages }
+  pub due : IsDueFrom f os s (known_of old).next (lowest_after f (ordered_lane s) (known_of old).next xs) messages next
+  pub ordered : Keeps f new false (ordered_lane s) (from_number next os)
+  pub unordered : Keeps f new true (unordered_lane s) (stay f jump (lowest_after f (unordered_lane s) (known_of old).skip xs) us)
+  pub stream : known_of new ≡ record { next = next; skip = lowest_after f (unordered_lane s) (known_of old).skip xs; waiting = (known_of old).waiting ++ messages }
   pub bytes : left ≡ sized (sized (held - sized (size_of_pieces os + size_of_pieces us)
-      + sized (size_of_pieces (from_number next os) + size_of_pieces (stay f jump (lowest_after f (unordered_lane s) old.skip xs) us))) + sized (size_of_messages messages))
+      + sized (size_of_pieces (from_number next os) + size_of_pieces (stay f jump (lowest_after f (unordered_lane s) (known_of old).skip xs) us))) + sized (size_of_messages messages))
 
 -- ---- what it does on all
 
 -- a stream's own numbers and messages are the view's
-pub record IsStreamOf {F : Type 0} (v : ReceiverView) (q : ℕ) (x : Inbound F) : Type 0 where
-  pub next : v.next q ≡ x.next
+pub record IsStreamOf {F : Type 0} (v : ReceiverView) (q : ℕ) (x : Stream F) : Type 0 where
+  pub next : v.next q ≡ (stream_of x).next
   pub waiting : v.waiting q ≡ (stream_of x).waiting
 
 -- Streams that keep v's chunks and messages, where r is v with index and numbers passed and without what is left behind.
-pub record AreToPass {F : Type 0} (f : Format) (jump : ℕ) (xs : List SkipMeaning) (v r : ReceiverView) (streams : List (Inbound F)) (bytes : ℕ) : Type 0 where
+pub record AreToPass {F : Type 0} (f : Format) (jump : ℕ) (xs : List SkipMeaning) (v r : ReceiverView) (streams : List (Stream F)) (bytes : ℕ) : Type 0 where
   pub filed : AreFiled f v.kept streams
   pub counted : AreCounted v.kept
-  pub stream : (q : ℕ) (x : Inbound F) → slice_get streams q ≡ Some x → IsStreamOf v q x
+  pub stream : (q : ℕ) (x : Stream F) → slice_get streams q ≡ Some x → IsStreamOf v q x
   pub ordered : (q : ℕ) → of_lane (ordered_lane q) r.kept ≡ of_lane (ordered_lane q) v.kept
-  pub unordered : (q : ℕ) (x : Inbound F) → slice_get streams q ≡ Some x →
-      of_lane (unordered_lane q) r.kept ≡ stay f jump (lowest_after f (unordered_lane q) x.skip xs) (of_lane (unordered_lane q) v.kept)
+  pub unordered : (q : ℕ) (x : Stream F) → slice_get streams q ≡ Some x →
+      of_lane (unordered_lane q) r.kept ≡ stay f jump (lowest_after f (unordered_lane q) (stream_of x).skip xs) (of_lane (unordered_lane q) v.kept)
   pub within : (y : Piece) → Has r.kept y → Has v.kept y
-  pub skip : (q : ℕ) (x : Inbound F) → slice_get streams q ≡ Some x → r.skip (unordered_lane q) ≡ lowest_after f (unordered_lane q) x.skip xs
-  pub floor : (q : ℕ) (x : Inbound F) → slice_get streams q ≡ Some x → max x.next (r.skip (ordered_lane q)) ≡ lowest_after f (ordered_lane q) x.next xs
+  pub skip : (q : ℕ) (x : Stream F) → slice_get streams q ≡ Some x → r.skip (unordered_lane q) ≡ lowest_after f (unordered_lane q) (stream_of x).skip xs
+  pub floor : (q : ℕ) (x : Stream F) → slice_get streams q ≡ Some x → max (stream_of x).next (r.skip (ordered_lane q)) ≡ lowest_after f (ordered_lane q) (stream_of x).next xs
   pub next : r.next ≡ v.next
   pub waiting : r.waiting ≡ v.waiting
   pub held : bytes ≡ size_of_pieces v.kept + size_of_waiting v.waiting (length streams)
   pub small : bytes < 2 ^ 32
 
 -- Streams that keep t's chunks, numbers and messages.
-pub record ArePassed {F : Type 0} (f : Format) (t : ReceiverView) (streams : List (Inbound F)) (bytes : ℕ) : Type 0 where
+pub record ArePassed {F : Type 0} (f : Format) (t : ReceiverView) (streams : List (Stream F)) (bytes : ℕ) : Type 0 where
   pub filed : AreFiled f t.kept streams
-  pub stream : (q : ℕ) (x : Inbound F) → slice_get streams q ≡ Some x → IsStreamOf t q x × (t.skip (unordered_lane q) ≡ x.skip)
+  pub stream : (q : ℕ) (x : Stream F) → slice_get streams q ≡ Some x → IsStreamOf t q x × (t.skip (unordered_lane q) ≡ (stream_of x).skip)
   pub held : bytes ≡ size_of_pieces t.kept + size_of_waiting t.waiting (length streams)

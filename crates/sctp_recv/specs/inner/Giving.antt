@@ -10,11 +10,10 @@ use Rattle.sctp_model.specs.receiver.ReceiverView.{Handed, ReceiverView, size_of
 use Rattle.sctp_model.specs.messages.Whole.{text_of}
 use Rattle.sctp_model.specs.receiver.Receiving.{IsDue, IsWholeWith, HasNoWholeWith, message_of, without_message}
 use Rattle.sctp_chains.specs.StandsFor as lane
-use Rattle.sctp_chains.specs.declared.chains.Chains.{Chains}
 use Rattle.sctp_chains.specs.StandsFor.{whole_count}
 use Rattle.sctp_chains.specs.WholeOf.{from_number}
 use Rattle.sctp_recv.specs.declared.inbound.Inbound.{Inbound}
-use Rattle.sctp_recv.specs.Fields.{stream_of}
+use Rattle.sctp_recv.specs.Fields.{inbound_of}
 use Rattle.sctp_model.specs.receiver.KeptOfLane.{of_lane}
 use Rattle.sctp_recv.specs.SeenKept.{SeenKept, is_reached}
 use Rattle.sctp_recv.specs.SeenStands.{Records}
@@ -62,7 +61,7 @@ pub record IsHandedSoFar {F : Type 0} (f : Format) (s floor : ℕ) (kept : List 
   pub within : (x : Piece) → Has rest x → Has kept x
   pub rests : IsRest now.next kept rest
   pub due : IsDueSoFar f kept s old.next floor now.next messages
-  pub stream : stream_of now ≡ record (stream_of old) { next = now.next; waiting = (stream_of old).waiting ++ messages }
+  pub stream : inbound_of now ≡ record (inbound_of old) { next = now.next; waiting = (inbound_of old).waiting ++ messages }
   pub others : (l : Lane) (ks : List Piece) → lane.StandsFor f old.unordered l ks → lane.StandsFor f now.unordered l ks
   pub bytes : given ≡ sized (size_of_messages messages)
 
@@ -79,7 +78,7 @@ pub record GivesDue {F : Type 0} (f : Format) (s floor : ℕ) (kept : List Piece
   pub next : ℕ
   pub due : IsDueFrom f kept s old.next floor messages next
   pub left : lane.StandsFor f new.ordered (ordered_lane s) (from_number next kept)
-  pub stream : stream_of new ≡ record (stream_of old) { next = next; waiting = (stream_of old).waiting ++ messages }
+  pub stream : inbound_of new ≡ record (inbound_of old) { next = next; waiting = (inbound_of old).waiting ++ messages }
   pub others : (l : Lane) (ks : List Piece) → lane.StandsFor f old.unordered l ks → lane.StandsFor f new.unordered l ks
   pub bytes : given ≡ sized (size_of_messages messages)
 
@@ -89,14 +88,14 @@ pub record GivesWhole {F : Type 0} (f : Format) (s : ℕ) (x : Piece) (kept : Li
   pub rest : List Piece
   pub whole : IsWholeWith f (x ∷ kept) x (head ∷ rest)
   pub left : lane.StandsFor f new.unordered (unordered_lane s) (without_message f (x ∷ kept) (head ∷ rest))
-  pub stream : stream_of new ≡ record (stream_of old) { waiting = (stream_of old).waiting ++ message_of f head rest ∷ [] }
+  pub stream : inbound_of new ≡ record (inbound_of old) { waiting = (inbound_of old).waiting ++ message_of f head rest ∷ [] }
   pub bytes : given ≡ sized (length (text_of (head ∷ rest)))
 
 -- It isn't whole, and all stays.
 pub record GivesNone {F : Type 0} (f : Format) (s : ℕ) (x : Piece) (kept : List Piece) (old new : Inbound F) (given : ℕ) : Type 0 where
   pub none : HasNoWholeWith f (x ∷ kept) x
   pub left : lane.StandsFor f new.unordered (unordered_lane s) (x ∷ kept)
-  pub stream : stream_of new ≡ stream_of old
+  pub stream : inbound_of new ≡ inbound_of old
   pub bytes : given ≡ 0
 
 -- an unordered message is handed over, if it is whole; the ordered chunks are those that they were
@@ -108,11 +107,6 @@ pub record GivesNewest {F : Type 0} (f : Format) (s : ℕ) (x : Piece) (kept : L
 abbrev pub GivesBy : {F : Type 0} → (unordered : Bool) → Format → (s : ℕ) → (x : Piece) → (kept : List Piece) → (old new : Inbound F) → (given : ℕ) → Type 0
 GivesBy true f s x kept old new given = GivesNewest f s x kept old new given
 GivesBy false f s x kept old new given = GivesDue f s old.next (x ∷ kept) old new given
-
--- the chunks of a kind
-abbrev pub lane_in : {F : Type 0} → Inbound F → (unordered : Bool) → Chains F
-lane_in x true = x.unordered
-lane_in x false = x.ordered
 
 -- the index is recorded, if it may be
 abbrev pub RecordsNew : SeenKept → SeenKept → ℕ → Type 0

@@ -1,6 +1,7 @@
 -- What a listener answers to the caller's INIT, and that the caller reads in it the terms which the cookie names.
 use Rattle.std.proofs.Common.{◌≡◌, ℕ, ◌^◌, ◌<◌, ◌≤◌, min, List, [], ◌∷◌, ◌++◌, length, Some, refl, sym, subst, ap, arith, ◌∙◌}
 use Rattle.std.proofs.Math.Nat.{min-le_left, le-min}
+use Rattle.sctp_model.specs.numbers.Limits.{STREAM_LIMIT}
 use Rattle.sctp_model.specs.numbers.Lists.{Has}
 use Rattle.sctp_model.specs.wire.Typed.{Typed}
 use Rattle.sctp_model.specs.wire.Chunk.{InitMeaning, InitAck}
@@ -33,7 +34,7 @@ pub both_some : (n m : ℕ) → 1 ≤ n → 1 ≤ m → 0 < min n m
 both_some n m a b = le-min {k = 1} {a = n} {b = m} a b
 
 -- a count of streams has 16 bits
-few : (n m : ℕ) → n ≤ 32 → min n m < 2 ^ 16
+few : (n m : ℕ) → n ≤ STREAM_LIMIT → min n m < 2 ^ 16
 few n m b = let c = min-le_left n m in omega (arith, b, c)
 
 module _ (s : Setup) (configured : (x : Side) → IsConfiguration (configuration_of s x)) (drawn : List ℕ) (d x : Draw) (dd : IsDraw d) (dx : IsDraw x) where

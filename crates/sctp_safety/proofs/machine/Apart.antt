@@ -1,5 +1,5 @@
 -- Two ends that have not met: what a packet does at each of them, and what each says.
-use Rattle.std.proofs.Common.{◌≡◌, ℕ, ◌⊎◌, true, false, List, [], ◌∷◌, drop, Option, Some, None, inl, inr, refl, sym, subst, ap, ◌∙◌}
+use Rattle.std.proofs.Common.{◌≡◌, ℕ, ◌⊎◌, true, false, List, [], ◌∷◌, drop, Option, Some, None, inl, inr, refl, sym, subst, ap, ◌∙◌, Bool}
 use Rattle.sctp_model.specs.numbers.Lists.{Has}
 use Rattle.sctp_model.specs.wire.Chunk.{InitMeaning, ChunkMeaning, Init, InitAck, CookieEcho, CookieAck}
 use Rattle.sctp_model.specs.wire.Packet.{Packet}
@@ -8,7 +8,7 @@ use Rattle.sctp_model.specs.end.EndView.{Phase, Idle, Listening, Calling, Echoin
 use Rattle.sctp_model.specs.end.Configured.{IsConfiguration}
 use Rattle.sctp_model.specs.end.Opening.{init_ack, begun}
 use Rattle.sctp_model.specs.end.Strays.{Verdict, Taken, Dropped, Answer, stray_verdict}
-use Rattle.sctp_model.specs.end.Arriving.{AllAct, Arrives, Elsewhere, NotOurs, Stray, CookieBegins, Heard, Notes, no_notes, noted, packet_ended}
+use Rattle.sctp_model.specs.end.Arriving.{AllAct, Arrives, Elsewhere, NotOurs, Stray, CookieBegins, Heard, Notes, no_notes, noted, packet_ended, urged}
 use Rattle.sctp_model.specs.end.Passing.{passes_chunks}
 use Rattle.sctp_model.specs.end.PeerFaults.{Unnoted}
 use Rattle.sctp_model.specs.world.World.{Side, A, B, World, end_now, Setup, configuration_of}
@@ -62,17 +62,17 @@ module _ (s : Setup) (drawn : List ℕ) (w : World) (ground : IsGrounded s drawn
   caller_now = caller_turns s drawn w.from_a w.from_b w.a (end_now w A) refl refl (Stays w.a.phase) apart.caller
 
   -- the listener's packet, at a caller that has called
-  caller_hears : (q : Packet) (t : EndView) (n : Notes) (v : Verdict) (p : Packet) → Has w.from_b p → IsFront p q → has_association (end_now w A).phase ≡ true →
-      (xs : List ChunkMeaning) → q.chunks ≡ xs → passes_chunks (end_now w A).phase q.tag xs ≡ true → AllAct q.tag (end_now w A) no_notes xs t n v → IsCaller s drawn w.from_a w.from_b (packet_ended n t)
-  caller_hears q t n v p here f has [] same may acts = subst (IsCaller s drawn w.from_a w.from_b) (sym (none_left q.tag (end_now w A) t n v acts)) caller_now
-  caller_hears q t n v p here f has (x ∷ xs) same may acts = by x refl (goes_by (end_now w A).phase x q.tag may)
+  caller_hears : (q : Packet) (t : EndView) (n : Notes) (gap : Bool) (v : Verdict) (p : Packet) → Has w.from_b p → IsFront p q → has_association (end_now w A).phase ≡ true →
+      (xs : List ChunkMeaning) → q.chunks ≡ xs → passes_chunks (end_now w A).phase q.tag xs ≡ true → AllAct q.tag (end_now w A) no_notes xs t n v → IsCaller s drawn w.from_a w.from_b (packet_ended (urged gap n) t)
+  caller_hears q t n gap v p here f has [] same may acts = subst (IsCaller s drawn w.from_a w.from_b) (sym (none_left q.tag (end_now w A) t n gap v acts)) caller_now
+  caller_hears q t n gap v p here f has (x ∷ xs) same may acts = by x refl (goes_by (end_now w A).phase x q.tag may)
     where
       held : (y : ChunkMeaning) → Has (x ∷ xs) y → Has p.chunks y
       held y h = f.chunks y (subst (λ (ys : List ChunkMeaning). Has ys y) (sym same) h)
 
-      by : (y : ChunkMeaning) → x ≡ y → GoesBy (end_now w A).phase q.tag y → IsCaller s drawn w.from_a w.from_b (packet_ended n t)
+      by : (y : ChunkMeaning) → x ≡ y → GoesBy (end_now w A).phase q.tag y → IsCaller s drawn w.from_a w.from_b (packet_ended (urged gap n) t)
       by y e (Tag _ reflected through) =
-          caller_plain s drawn w.from_a w.from_b t (packet_ended n t) (plain_ended n t) (caller_acts s drawn w.from_a w.from_b p here
+          caller_plain s drawn w.from_a w.from_b t (packet_ended (urged gap n) t) (plain_ended (urged gap n) t) (caller_acts s drawn w.from_a w.from_b p here
           (subst (Has drawn) f.tag (apart.caller.drawn_tags q.tag (passing_is_own (end_now w A).phase reflected q.tag has through)))
           (λ h. no_cookie_ack (apart.answers p CookieAck here h)) q.tag (end_now w A) no_notes (x ∷ xs) t n v held has caller_now acts)
       by y e (Zero m) = absurd (no_init m (apart.answers p (Init m) here (held (Init m) (inl e))))
@@ -84,8 +84,8 @@ module _ (s : Setup) (drawn : List ℕ) (w : World) (ground : IsGrounded s drawn
   caller_comes q t v (FromPeer p here f) (Elsewhere ports) = caller_now
   caller_comes q t v (FromPeer p here f) (NotOurs ports may) = caller_now
   caller_comes q t v (FromPeer p here f) (Stray ports may none closed) = caller_now
-  caller_comes q t v (FromPeer p here f) (CookieBegins b _ _ _ ports may none opens acts) = absurd (caller_now.calls (found_is (end_now w A) q.tag q.chunks b opens).phase)
-  caller_comes q t v (FromPeer p here f) (Heard u n _ ports may has acts) = caller_hears q u n v p here f has q.chunks refl may acts
+  caller_comes q t v (FromPeer p here f) (CookieBegins b _ _ _ ports may none opens acts gap _) = absurd (caller_now.calls (found_is (end_now w A) q.tag q.chunks b opens).phase)
+  caller_comes q t v (FromPeer p here f) (Heard u n _ ports may has acts gap _) = caller_hears q u n gap v p here f has q.chunks refl may acts
 
   -- what it answers opens nothing
   pub caller_quiet : (q : Packet) (t : EndView) (v : Verdict) → Arrives (end_now w A) w.draw q t v → IsQuiet (answer_of v)
@@ -96,8 +96,8 @@ module _ (s : Setup) (drawn : List ℕ) (w : World) (ground : IsGrounded s drawn
       by : (r : Packet) → OpensNothing r ⊎ AnswersInit (end_now w A) w.draw q r → OpensNothing r
       by r (inl off) = off
       by r (inr a) = absurd (caller_now.calls ((listener_is (end_now w A).phase (end_now w A).role a.seal a.listening).0))
-  caller_quiet q t v (CookieBegins b _ _ _ ports may none opens acts) = absurd (caller_now.calls (found_is (end_now w A) q.tag q.chunks b opens).phase)
-  caller_quiet q t v (Heard u n _ ports may has acts) = quiet_by v (λ r is. acts_answer q.tag (end_now w A) no_notes q.chunks u n v acts r is)
+  caller_quiet q t v (CookieBegins b _ _ _ ports may none opens acts gap _) = absurd (caller_now.calls (found_is (end_now w A) q.tag q.chunks b opens).phase)
+  caller_quiet q t v (Heard u n _ ports may has acts gap _) = quiet_by v (λ r is. acts_answer q.tag (end_now w A) no_notes q.chunks u n v acts r is)
 
   -- ---- the listener
 
@@ -164,14 +164,14 @@ module _ (s : Setup) (drawn : List ℕ) (w : World) (ground : IsGrounded s drawn
             by (inr none) = elim none [ ]
 
     -- a cookie that opens
-    joins : (q : Packet) (t : EndView) (n : Notes) (v : Verdict) (b : Body) → IsFit drawn w.a b → AllAct q.tag (begun b (end_now w B)) (noted Unnoted no_notes) (drop 1 q.chunks) t n v → Listened (packet_ended n t) (answer_of v)
-    joins q t n v b fit acts = Joins fit.agreed (path_open _ (packet_ended n t).phase refl later.path)
+    joins : (q : Packet) (t : EndView) (n : Notes) (gap : Bool) (v : Verdict) (b : Body) → IsFit drawn w.a b → AllAct q.tag (begun b (end_now w B)) (noted Unnoted no_notes) (drop 1 q.chunks) t n v → Listened (packet_ended (urged gap n) t) (answer_of v)
+    joins q t n gap v b fit acts = Joins fit.agreed (path_open _ (packet_ended (urged gap n) t).phase refl later.path)
         (subst (AreAgreed w.a.terms) (sym (later.terms refl)) fit.terms)
-        (listener_path w.a.phase _ (packet_ended n t).phase refl later.path fit.tags)
-        (λ i h. tags i (path_tags _ (packet_ended n t).phase refl later.path i h))
+        (listener_path w.a.phase _ (packet_ended (urged gap n) t).phase refl later.path fit.tags)
+        (λ i h. tags i (path_tags _ (packet_ended (urged gap n) t).phase refl later.path i h))
       where
-        later : IsLaterEnd (begun b (end_now w B)) (packet_ended n t)
-        later = later_ended (begun b (end_now w B)) t n (acts_later q.tag (begun b (end_now w B)) (noted Unnoted no_notes) (drop 1 q.chunks) t n v refl acts)
+        later : IsLaterEnd (begun b (end_now w B)) (packet_ended (urged gap n) t)
+        later = later_ended (begun b (end_now w B)) t (urged gap n) (acts_later q.tag (begun b (end_now w B)) (noted Unnoted no_notes) (drop 1 q.chunks) t n v refl acts)
 
         tags : (n : ℕ) → Has (b.listener.tag ∷ b.caller.tag ∷ []) n → Has drawn n
         tags n (inl e) = subst (Has drawn) e fit.listener_tag
@@ -194,7 +194,7 @@ module _ (s : Setup) (drawn : List ℕ) (w : World) (ground : IsGrounded s drawn
 
         by : (r : Packet) → stray_verdict (end_now w B) w.draw q ≡ Answer r → IsGiven r
         by r is = split r (stray_answer (end_now w B) w.draw q r is)
-    listener_comes q t v from (CookieBegins b u n _ ports may none opens acts) = by from
+    listener_comes q t v from (CookieBegins b u n _ ports may none opens acts gap _) = by from
       where
         found : IsFound (end_now w B) q.tag q.chunks b
         found = found_is (end_now w B) q.tag q.chunks b opens
@@ -205,8 +205,8 @@ module _ (s : Setup) (drawn : List ℕ) (w : World) (ground : IsGrounded s drawn
         opened : s.sealing.opened found.cookie ≡ Some b
         opened = subst (λ (z : Sealing). z.opened found.cookie ≡ Some b) (listener_well.seal found.seal found.role) found.opens
 
-        by : From s drawn w B q → Listened (packet_ended n u) (answer_of v)
+        by : From s drawn w B q → Listened (packet_ended (urged gap n) u) (answer_of v)
         by (FromOutside strange alone) =
-            absurd (nothing_found s.sealing drawn (end_now w B) u n q v strange (subst (IsDrawn drawn) (sym apart.listens) (λ n x. elim x [ ])) listener_well.seal b found)
-        by (FromPeer p here f) = joins q u n v b (apart.caller.echoed p found.cookie b here (f.chunks (CookieEcho found.cookie) held) opened) acts
-    listener_comes q t v from (Heard _ _ _ ports may has acts) = let h : false ≡ true = subst (λ (k : Phase). has_association k ≡ true) apart.listens has in absurd (cc)
+            absurd (nothing_found s.sealing drawn (end_now w B) u n gap q v strange (subst (IsDrawn drawn) (sym apart.listens) (λ n x. elim x [ ])) listener_well.seal b found)
+        by (FromPeer p here f) = joins q u n gap v b (apart.caller.echoed p found.cookie b here (f.chunks (CookieEcho found.cookie) held) opened) acts
+    listener_comes q t v from (Heard _ _ _ ports may has acts gap _) = let h : false ≡ true = subst (λ (k : Phase). has_association k ≡ true) apart.listens has in absurd (cc)

@@ -96,7 +96,7 @@ unfolding u16_bytes u32_bytes u16_at u32_at starts_typed typed_of
 step_12 = PacketComes (Deliver A 3) B (Some packet_5) (rested heard) Taken (FromBag A 3 packet_5 refl) (ReadAs packet_5 (rested heard) Taken (Heard (rested heard) (noted Unnoted no_notes) Taken refl refl refl
     (Next (end_now w11 B) heard (rested heard) Unnoted no_notes (noted Unnoted no_notes) (Says (tsn 200 0)) [] Taken
     (ShutdownCounts tags_b Established refl refl refl)
-    (NoneLeft (rested heard) (noted Unnoted no_notes)))))
+    (NoneLeft (rested heard) (noted Unnoted no_notes))) false (λ on. absurd (cc))))
 
 step_13 : Step w12 (Build B) (Some (Sent 3 (size_of_packet (ShutdownAck ∷ [])))) w13
 unfolding u16_bytes u32_bytes u16_at u32_at starts_typed typed_of
@@ -113,12 +113,12 @@ step_13 = BuildsOne B ShutdownAck [] (sent answered (ShutdownAck ∷ [])) (Fills
 step_14 : Step w13 (Deliver B 3) (Some (told w13 A (Answer packet_7))) w14
 unfolding u16_bytes u32_bytes u16_at u32_at starts_typed typed_of
 step_14 = PacketComes (Deliver B 3) A (Some packet_6) (closed Completed (end_now w13 A)) (Answer packet_7) (FromBag B 3 packet_6 refl) (ReadAs packet_6 (closed Completed (end_now w13 A)) (Answer packet_7) (Heard (closed Completed (end_now w13 A)) no_notes (Answer packet_7) refl refl refl
-    (EndsAnswered (end_now w13 A) (closed Completed (end_now w13 A)) no_notes ShutdownAck [] packet_7 (AckCompletes tags_a ShutdownSent refl refl))))
+    (EndsAnswered (end_now w13 A) (closed Completed (end_now w13 A)) no_notes ShutdownAck [] packet_7 (AckCompletes tags_a ShutdownSent refl refl)) false (λ on. absurd (cc))))
 
 step_15 : Step w14 (Deliver A 4) (Some Acted) w15
 unfolding u16_bytes u32_bytes u16_at u32_at starts_typed typed_of
 step_15 = PacketComes (Deliver A 4) B (Some packet_7) (closed Completed (end_now w14 B)) Taken (FromBag A 4 packet_7 refl) (ReadAs packet_7 (closed Completed (end_now w14 B)) Taken (Heard (closed Completed (end_now w14 B)) no_notes Taken refl refl refl
-    (Last (end_now w14 B) (closed Completed (end_now w14 B)) no_notes (ShutdownComplete false) [] (CompleteCompleted refl))))
+    (Last (end_now w14 B) (closed Completed (end_now w14 B)) no_notes (ShutdownComplete false) [] (CompleteCompleted refl)) false (λ on. absurd (cc))))
 
 abbrev told_closing : List (Option Outcome)
 told_closing =

@@ -9,7 +9,7 @@ use Rattle.sctp_model.specs.end.Closing.{rested}
 use Rattle.sctp_model.specs.end.Clock.{at_moment}
 use Rattle.sctp_model.specs.end.Opening.{begun, opened}
 use Rattle.sctp_model.specs.end.Strays.{Verdict}
-use Rattle.sctp_model.specs.end.Arriving.{AllAct, NoneLeft, Next, Last, EndsAnswered, Stopped, Arrives, Elsewhere, NotOurs, Stray, CookieBegins, Heard, Notes, no_notes, noted, packet_ended}
+use Rattle.sctp_model.specs.end.Arriving.{AllAct, NoneLeft, Next, Last, EndsAnswered, Stopped, Arrives, Elsewhere, NotOurs, Stray, CookieBegins, Heard, Notes, no_notes, noted, packet_ended, urged}
 use Rattle.sctp_model.specs.end.Arriving.{Passes}
 use Rattle.sctp_model.specs.end.Moments.{ticked}
 use Rattle.sctp_model.specs.end.UserCalls.{called}
@@ -163,7 +163,7 @@ pub arrives_later : (e : EndView) (d : Draw) (p : Packet) (t : EndView) (v : Ver
 arrives_later e d p t v (Elsewhere ports) = later_same e
 arrives_later e d p t v (NotOurs ports passes) = later_same e
 arrives_later e d p t v (Stray ports passes none closed) = later_same e
-arrives_later e d p t v (CookieBegins b u n _ ports passes none opens acts) =
+arrives_later e d p t v (CookieBegins b u n _ ports passes none opens acts gap _) =
     let f = found_is e p.tag p.chunks b opens in
-    later_ended e u n (later_on e (begun b e) u (begun_later b e f.phase) (acts_later p.tag (begun b e) (noted Unnoted no_notes) (drop 1 p.chunks) u n v refl acts))
-arrives_later e d p t v (Heard u n _ ports passes has acts) = later_ended e u n (acts_later p.tag e no_notes p.chunks u n v has acts)
+    later_ended e u (urged gap n) (later_on e (begun b e) u (begun_later b e f.phase) (acts_later p.tag (begun b e) (noted Unnoted no_notes) (drop 1 p.chunks) u n v refl acts))
+arrives_later e d p t v (Heard u n _ ports passes has acts gap _) = later_ended e u (urged gap n) (acts_later p.tag e no_notes p.chunks u n v has acts)

@@ -1,15 +1,16 @@
 -- What a step does to an end, in words that facts are proved over: the turn of the phase, and what every chunk leaves as it was.
+use Rattle.std.specs.Prelude.{◌&&◌, if◌then◌else◌}
 use Rattle.std.proofs.Common.{◌≡◌, ℕ, Bool, true, false, List, inl, inr, refl}
 use Rattle.sctp_model.specs.numbers.Lists.{Has}
 use Rattle.sctp_model.specs.wire.Chunk.{ChunkMeaning}
 use Rattle.sctp_model.specs.wire.Packet.{Packet}
 use Rattle.sctp_model.specs.sender.Readers.{drained}
 use Rattle.sctp_model.specs.end.EndView.{Tags, Established, ShutdownPending, ShutdownSent, ShutdownReceived, ShutdownAckSent, Phase, Idle, Listening, Calling, Echoing, Open, Over, EndView, Stage}
-use Rattle.sctp_model.specs.end.Closing.{says_shutdown, answers_shutdown, rested_in, rested}
+use Rattle.sctp_model.specs.end.Closing.{says_shutdown, answers_shutdown, rested_in, rested, is_shutdown_sent}
 use Rattle.sctp_model.specs.end.PeerFaults.{GoesOn, Ends, Replies, Note}
 use Rattle.sctp_model.specs.end.Acting.{Acts}
 use Rattle.sctp_model.specs.end.Strays.{Verdict, Taken, Dropped, Answer}
-use Rattle.sctp_model.specs.end.Arriving.{AllAct, NoneLeft, Next, Passes, Last, EndsAnswered, Stopped, verdict_of, Notes, noted, acknowledges, acknowledges_in, packet_ended}
+use Rattle.sctp_model.specs.end.Arriving.{AllAct, NoneLeft, Next, Passes, Last, EndsAnswered, Stopped, verdict_of, Notes, noted, acknowledges, delays, kept_going, is_at_once, acknowledges_in, packet_ended}
 
 -- ---- an end at rest
 
@@ -64,14 +65,24 @@ all_act_keeps tag P Q R k e b xs t m v q p (Stopped _ _ x ys n act) = (p, tt)
 
 -- ---- the end of a packet
 
-pub ended_cases : (P : EndView → Type 0) (n : Notes) (e : EndView) → P e → ((t : Tags) (g : Stage) → e.phase ≡ Open t g → P (acknowledges g e)) → P (packet_ended n e)
-ended_cases P n e same open_end = go n.acknowledges e.phase refl
+-- Nothing changes; or a SACK is due, or waits, and then the SHUTDOWN's timer may begin anew.
+pub ended_cases : (P : EndView → Type 0) (n : Notes) (e : EndView) → P e → ((t : Tags) (g : Stage) → e.phase ≡ Open t g → P (acknowledges g e)) →
+    ((t : Tags) (g : Stage) → e.phase ≡ Open t g → P (delays e)) → ((x : EndView) → P x → P (kept_going true x)) → P (packet_ended n e)
+ended_cases P n e same due waits renewed = go n.acknowledges e.phase refl
   where
-    go : (b : Bool) (h : Phase) → e.phase ≡ h → P (acknowledges_in b h e)
+    by : (b : Bool) (t : Tags) (g : Stage) → e.phase ≡ Open t g → P (if b then acknowledges g e else delays e)
+    by true t g is = due t g is
+    by false t g is = waits t g is
+
+    goes_on : (b : Bool) (x : EndView) → P x → P (kept_going b x)
+    goes_on false x p = p
+    goes_on true x p = renewed x p
+
+    go : (b : Bool) (h : Phase) → e.phase ≡ h → P (acknowledges_in n b h e)
     go false h is = same
     go true Idle is = same
     go true Listening is = same
     go true (Calling d) is = same
     go true (Echoing t xs) is = same
-    go true (Open t g) is = open_end t g is
+    go true (Open t g) is = goes_on (e.configuration.standard_closing && (n.brings_data && is_shutdown_sent g)) _ (by (is_at_once n g e) t g is)
     go true (Over why) is = same

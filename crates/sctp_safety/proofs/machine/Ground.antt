@@ -8,7 +8,7 @@ use Rattle.sctp_model.specs.end.EndView.{Draw, Listener, EndView, has_associatio
 use Rattle.sctp_model.specs.end.Clock.{at_moment}
 use Rattle.sctp_model.specs.end.Closing.{rested}
 use Rattle.sctp_model.specs.end.Strays.{Verdict}
-use Rattle.sctp_model.specs.end.Arriving.{AllAct, NoneLeft, Next, Last, EndsAnswered, Stopped, Arrives, Elsewhere, NotOurs, Stray, CookieBegins, Heard, DroppedUnread, ReadAs, CutFirst, CutLater, Notes, no_notes, noted, packet_ended}
+use Rattle.sctp_model.specs.end.Arriving.{AllAct, NoneLeft, Next, Last, EndsAnswered, Stopped, Arrives, Elsewhere, NotOurs, Stray, CookieBegins, Heard, DroppedUnread, ReadAs, CutFirst, CutLater, Notes, no_notes, noted, packet_ended, urged}
 use Rattle.sctp_model.specs.end.Arriving.{Passes}
 use Rattle.sctp_model.specs.end.Moments.{ticked}
 use Rattle.sctp_model.specs.end.Opening.{begun, opened}
@@ -53,9 +53,9 @@ pub arrives_same : (e : EndView) (d : Draw) (p : Packet) (t : EndView) (v : Verd
 arrives_same e d p t v (Elsewhere ports) = same_end e
 arrives_same e d p t v (NotOurs ports tag) = same_end e
 arrives_same e d p t v (Stray ports tag none closed) = same_end e
-arrives_same e d p t v (CookieBegins b u n _ ports tag none opens acts) =
-    same_ended e u n (same_on e (begun b e) u (record { configuration = refl; role = refl; moment = refl }) (acts_same p.tag (begun b e) (noted Unnoted no_notes) _ u n v refl acts))
-arrives_same e d p t v (Heard u n _ ports tag has acts) = same_ended e u n (acts_same p.tag e no_notes p.chunks u n v has acts)
+arrives_same e d p t v (CookieBegins b u n _ ports tag none opens acts gap _) =
+    same_ended e u (urged gap n) (same_on e (begun b e) u (record { configuration = refl; role = refl; moment = refl }) (acts_same p.tag (begun b e) (noted Unnoted no_notes) _ u n v refl acts))
+arrives_same e d p t v (Heard u n _ ports tag has acts gap _) = same_ended e u (urged gap n) (acts_same p.tag e no_notes p.chunks u n v has acts)
 
 -- ---- an end
 

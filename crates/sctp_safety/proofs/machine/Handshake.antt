@@ -44,7 +44,7 @@ unfolding u16_bytes u32_bytes u16_at u32_at starts_typed typed_of
 step_5 = PacketComes (Deliver B 1) A (Some packet_2) echoes Taken (FromBag B 1 packet_2 refl) (ReadAs packet_2 echoes Taken (Heard echoes (noted Unnoted no_notes) Taken refl refl refl
     (Next (end_now w4 A) echoes echoes Unnoted no_notes (noted Unnoted no_notes) (InitAck ack_meaning) [] Taken
     (AcceptedAck of_a cookie refl some refl refl)
-    (NoneLeft echoes (noted Unnoted no_notes)))))
+    (NoneLeft echoes (noted Unnoted no_notes))) false (λ on. absurd (cc))))
   where
     some : 0 < 9
     some = omega arith
@@ -57,7 +57,7 @@ step_6 = BuildsOne A (CookieEcho cookie) [] echoed (Echoes tags_a cookie (Cookie
 
 step_7 : Step w6 (Deliver A 2) (Some Acted) w7
 unfolding u16_bytes u32_bytes u16_at u32_at starts_typed typed_of
-step_7 = PacketComes (Deliver A 2) B (Some packet_3) begins Taken (FromBag A 2 packet_3 refl) (ReadAs packet_3 begins Taken (CookieBegins (body_for (end_now w3 B) of_b init_meaning) begins (noted Unnoted no_notes) Taken refl refl refl refl (NoneLeft begins (noted Unnoted no_notes))))
+step_7 = PacketComes (Deliver A 2) B (Some packet_3) begins Taken (FromBag A 2 packet_3 refl) (ReadAs packet_3 begins Taken (CookieBegins (body_for (end_now w3 B) of_b init_meaning) begins (noted Unnoted no_notes) Taken refl refl refl refl (NoneLeft begins (noted Unnoted no_notes)) false (λ on. absurd (cc))))
 
 step_8 : Step w7 (Build B) (Some (Sent 2 (size_of_packet (CookieAck ∷ [])))) w8
 unfolding u16_bytes u32_bytes u16_at u32_at starts_typed typed_of
@@ -77,7 +77,7 @@ step_9 =
     PacketComes (Deliver B 2) A (Some packet_4) t Taken (FromBag B 2 packet_4 refl) (ReadAs packet_4 t Taken (Heard t (noted Unnoted no_notes) Taken refl refl refl
     (Next (end_now w8 A) t t Unnoted no_notes (noted Unnoted no_notes) CookieAck [] Taken
     (CookieAcked tags_a cookie refl)
-    (NoneLeft t (noted Unnoted no_notes)))))
+    (NoneLeft t (noted Unnoted no_notes))) false (λ on. absurd (cc))))
 
 pub run : Run w0 opening answers w9
 run =

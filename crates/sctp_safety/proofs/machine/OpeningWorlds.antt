@@ -66,6 +66,8 @@ two = record {
     inbound = 3;
     interleave = true;
     partial = true;
+    delay = false;
+    standard_closing = false;
   };
   a_port = 5000;
   b_port = 5001;

@@ -11,7 +11,7 @@ use Rattle.sctp_model.specs.end.EndView.{Tags, Draw, Phase, Idle, Listening, Cal
 use Rattle.sctp_model.specs.end.Opening.{CookieOpens, CookieLate, Strange, is_addressed, body_read, age}
 use Rattle.sctp_model.specs.end.Passing.{passes_tag, passes_first, passes_chunks}
 use Rattle.sctp_model.specs.end.Strays.{Verdict, holds_abort, seal_at, listens, body_of, body_in, body_among}
-use Rattle.sctp_model.specs.end.Arriving.{AllAct, NoneLeft, Next, Last, EndsAnswered, Stopped, Arrives, Elsewhere, NotOurs, Stray, CookieBegins, Heard, Notes, no_notes, packet_ended}
+use Rattle.sctp_model.specs.end.Arriving.{AllAct, NoneLeft, Next, Last, EndsAnswered, Stopped, Arrives, Elsewhere, NotOurs, Stray, CookieBegins, Heard, Notes, no_notes, packet_ended, urged}
 use Rattle.sctp_model.specs.end.Arriving.{Passes}
 use Rattle.sctp_model.specs.world.Premises.{IsBody, IsStranger}
 use Rattle.sctp_safety.specs.Strangers.{tags_of, IsDrawn, StrangersChangeNothing}
@@ -65,12 +65,12 @@ init_alone m [] placed = refl
 init_alone m (y ∷ ys) placed = absurd (cc)
 
 -- and is passed over where there is an association
-init_passed : (e t : EndView) (n : Notes) (tag : ℕ) (m : InitMeaning) (v : Verdict) → AllAct tag e no_notes (Init m ∷ []) t n v → packet_ended n t ≡ e
-init_passed e t n tag m v (Next _ _ _ _ _ _ _ _ _ act more) = absurd (cc)
-init_passed e t n tag m v (Passes _ _ _ _ _ _ _ act (NoneLeft _ _)) = refl
-init_passed e t n tag m v (Last _ _ _ _ _ act) = absurd (cc)
-init_passed e t n tag m v (EndsAnswered _ _ _ _ _ _ act) = absurd (cc)
-init_passed e t n tag m v (Stopped _ _ _ _ _ act) = refl
+init_passed : (e t : EndView) (n : Notes) (gap : Bool) (tag : ℕ) (m : InitMeaning) (v : Verdict) → AllAct tag e no_notes (Init m ∷ []) t n v → packet_ended (urged gap n) t ≡ e
+init_passed e t n gap tag m v (Next _ _ _ _ _ _ _ _ _ act more) = absurd (cc)
+init_passed e t n gap tag m v (Passes _ _ _ _ _ _ _ act (NoneLeft _ _)) = refl
+init_passed e t n gap tag m v (Last _ _ _ _ _ act) = absurd (cc)
+init_passed e t n gap tag m v (EndsAnswered _ _ _ _ _ _ act) = absurd (cc)
+init_passed e t n gap tag m v (Stopped _ _ _ _ _ act) = refl
 
 -- ---- a cookie
 
@@ -127,23 +127,23 @@ found_is e tag (x ∷ xs) b h = go (holds_abort (x ∷ xs)) h
 
 -- ---- the law
 
-pub none_left : (tag : ℕ) (e t : EndView) (n : Notes) (v : Verdict) → AllAct tag e no_notes [] t n v → packet_ended n t ≡ e
-none_left tag e t n v (NoneLeft _ _) = refl
+pub none_left : (tag : ℕ) (e t : EndView) (n : Notes) (gap : Bool) (v : Verdict) → AllAct tag e no_notes [] t n v → packet_ended (urged gap n) t ≡ e
+none_left tag e t n gap v (NoneLeft _ _) = refl
 
 -- where a packet begins with an INIT, that is all of it
 abbrev pub IsInitAlone : List ChunkMeaning → Type 0
 IsInitAlone ys = (m : InitMeaning) (xs : List ChunkMeaning) → ys ≡ Init m ∷ xs → xs ≡ []
 
-module _ (s : Sealing) (drawn : List ℕ) (e t : EndView) (n : Notes) (p : Packet) (v : Verdict) (strange : IsStranger s drawn p) (own : IsDrawn drawn e.phase) where
+module _ (s : Sealing) (drawn : List ℕ) (e t : EndView) (n : Notes) (gap : Bool) (p : Packet) (v : Verdict) (strange : IsStranger s drawn p) (own : IsDrawn drawn e.phase) where
   -- where there is an association
-  heard_stays : has_association e.phase ≡ true → (xs : List ChunkMeaning) → IsInitAlone xs → passes_chunks e.phase p.tag xs ≡ true → AllAct p.tag e no_notes xs t n v → packet_ended n t ≡ e
-  heard_stays has [] alone may all = none_left p.tag e t n v all
+  heard_stays : has_association e.phase ≡ true → (xs : List ChunkMeaning) → IsInitAlone xs → passes_chunks e.phase p.tag xs ≡ true → AllAct p.tag e no_notes xs t n v → packet_ended (urged gap n) t ≡ e
+  heard_stays has [] alone may all = none_left p.tag e t n gap v all
   heard_stays has (x ∷ xs) alone may all = by x (goes_by e.phase x p.tag may) alone all
     where
-      by : (y : ChunkMeaning) → GoesBy e.phase p.tag y → IsInitAlone (y ∷ xs) → AllAct p.tag e no_notes (y ∷ xs) t n v → packet_ended n t ≡ e
+      by : (y : ChunkMeaning) → GoesBy e.phase p.tag y → IsInitAlone (y ∷ xs) → AllAct p.tag e no_notes (y ∷ xs) t n v → packet_ended (urged gap n) t ≡ e
       by y (Tag _ reflected through) stands acts = absurd (strange.untagged (own p.tag (passing_is_own e.phase reflected p.tag has through)))
       by y (Zero m) stands acts =
-          init_passed e t n p.tag m v (subst (λ (ys : List ChunkMeaning). AllAct p.tag e no_notes (Init m ∷ ys) t n v) (stands m xs refl) acts)
+          init_passed e t n gap p.tag m v (subst (λ (ys : List ChunkMeaning). AllAct p.tag e no_notes (Init m ∷ ys) t n v) (stands m xs refl) acts)
 
   -- no cookie of a stranger opens
   pub nothing_found : ((z : Sealing) → e.role ≡ Listener z → z ≡ s) → (b : Body) → IsFound e p.tag p.chunks b → ⊥
@@ -165,9 +165,9 @@ pub stranger_stays : (s : Sealing) (drawn : List ℕ) (e : EndView) (d : Draw) (
 stranger_stays s drawn e d p t v strange alone own one (Elsewhere ports) = refl
 stranger_stays s drawn e d p t v strange alone own one (NotOurs ports may) = refl
 stranger_stays s drawn e d p t v strange alone own one (Stray ports may none closed) = refl
-stranger_stays s drawn e d p t v strange alone own one (CookieBegins b _ _ _ ports may none opens acts) =
-    absurd (nothing_found s drawn e t no_notes p v strange own one b (found_is e p.tag p.chunks b opens))
-stranger_stays s drawn e d p t v strange alone own one (Heard u n _ ports may has acts) = heard_stays s drawn e u n p v strange own has p.chunks alone may acts
+stranger_stays s drawn e d p t v strange alone own one (CookieBegins b _ _ _ ports may none opens acts gap _) =
+    absurd (nothing_found s drawn e t no_notes gap p v strange own one b (found_is e p.tag p.chunks b opens))
+stranger_stays s drawn e d p t v strange alone own one (Heard u n _ ports may has acts gap _) = heard_stays s drawn e u n gap p v strange own has p.chunks alone may acts
 
 pub placed_alone : (ys : List ChunkMeaning) → ArePlaced ys → IsInitAlone ys
 placed_alone ys placed m xs is = init_alone m xs (subst ArePlaced is placed)

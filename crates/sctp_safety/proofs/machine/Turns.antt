@@ -182,6 +182,8 @@ replies_plain e tag (Unknown k f v) t p has h = absurd (unknown_never_replies e 
 
 pub plain_ended : (n : Notes) (e : EndView) → IsPlain e (packet_ended n e)
 plain_ended n e = ended_cases (IsPlain e) n e (plain_same e) (λ t g is. record { configuration = refl; role = refl; moment = refl; terms = refl; turn = Stays e.phase })
+    (λ t g is. record { configuration = refl; role = refl; moment = refl; terms = refl; turn = Stays e.phase })
+    (λ x k. record { configuration = k.configuration; role = k.role; moment = k.moment; terms = k.terms; turn = k.turn })
 
 -- ---- a packet that is built
 

@@ -12,7 +12,7 @@ use Rattle.sctp_model.specs.sender.Readers.{point}
 use Rattle.sctp_model.specs.sender.Abandoning.{expired as expired_messages}
 use Rattle.std.specs.Prelude.{if◌then◌else◌, nat_lt, nat_le}
 use Rattle.sctp_model.specs.end.Closing.{rested}
-use Rattle.sctp_model.specs.end.Moments.{after_abandoning, due_again, rung, ring, rung_all, all_alarms, passed, ticked}
+use Rattle.sctp_model.specs.end.Moments.{after_abandoning, due_again, rung, ring, rung_all, all_alarms, passed, ticked, waited_in, waited}
 use Rattle.sctp_model.specs.end.UserCalls.{SendAnswer, Ticket, Refused, NotOpen, send_leaves, is_open, abandoned_at, UserTakes, shut_in, shut, Aborts, TooLong, abort_answer, abort_answer_to, abort_leaves, abort_packet, peer_tag}
 use Rattle.sctp_safety.specs.States.{UserShuts}
 use Rattle.sctp_safety.proofs.machine.Turns.{rested_has, by_stage, IsPlainTurn, IsPlain, Stays, plain_same, plain_on, plain_rested, goes_from, left_closed}
@@ -74,6 +74,10 @@ all_plain (a ∷ more) e has =
     let b = is_over_at e.moment (e.timers a).expiry in
     plain_on e (ring a e) (rung_all more (ring a e)) (rung_plain b a e has) (all_plain more (ring a e) (rung_on b a e has))
 
+waited_plain : (b : Bool) (e : EndView) → IsPlain e (waited_in b e)
+waited_plain false e = plain_same e
+waited_plain true e = record { configuration = refl; role = refl; moment = refl; terms = refl; turn = Stays e.phase }
+
 pub plain_ticked : (e : EndView) (now : ℕ) → IsPlain (at_moment e now) (ticked e now)
 plain_ticked e now = go (has_association e.phase) refl
   where
@@ -83,7 +87,8 @@ plain_ticked e now = go (has_association e.phase) refl
         let mid = settled (record (at_moment e now) { sender = expired_messages (at_moment e now).sender (at_moment e now).moment; due = record e.due { forward = e.due.forward || not (point (expired_messages (at_moment e now).sender (at_moment e now).moment) == point e.sender) } }) in
         let u = after_abandoning (at_moment e now) (expired_messages (at_moment e now).sender (at_moment e now).moment) in
         let g = plain_after_abandoning (at_moment e now) (expired_messages (at_moment e now).sender (at_moment e now).moment) in
-        plain_on (at_moment e now) u (rung_all all_alarms u) g (all_plain all_alarms u (inl (rested_has mid is)))
+        let r = rung_all all_alarms u in
+        plain_on (at_moment e now) r (waited r) (plain_on (at_moment e now) u r g (all_plain all_alarms u (inl (rested_has mid is)))) (waited_plain (is_over_at r.moment r.delayed) r)
 
 -- ---- the user
 

@@ -91,7 +91,7 @@ unfolding u16_bytes u32_bytes u16_at u32_at starts_typed typed_of
 step_7 = PacketComes (Deliver B 2) A (Some second) echoes Taken (FromBag B 2 second refl) (ReadAs second echoes Taken (Heard echoes (noted Unnoted no_notes) Taken refl refl refl
     (Next (end_now v6 A) echoes echoes Unnoted no_notes (noted Unnoted no_notes) (InitAck ack) [] Taken
     (AcceptedAck of_a cookie refl some refl refl)
-    (NoneLeft echoes (noted Unnoted no_notes)))))
+    (NoneLeft echoes (noted Unnoted no_notes))) false (λ on. absurd (cc))))
   where
     some : 0 < 11
     some = omega arith
@@ -99,7 +99,7 @@ step_7 = PacketComes (Deliver B 2) A (Some second) echoes Taken (FromBag B 2 sec
 step_8 : Step v7 (Deliver B 1) (Some (NotActed STATE)) v8
 unfolding u16_bytes u32_bytes u16_at u32_at starts_typed typed_of
 step_8 = PacketComes (Deliver B 1) A (Some packet_2) (end_now v7 A) (Dropped STATE) (FromBag B 1 packet_2 refl) (ReadAs packet_2 (end_now v7 A) (Dropped STATE) (Heard (end_now v7 A) no_notes (Dropped STATE) refl refl refl
-    (Passes (end_now v7 A) (end_now v7 A) no_notes no_notes (InitAck ack_meaning) [] (Dropped STATE) (NotCalling refl) (NoneLeft (end_now v7 A) no_notes))))
+    (Passes (end_now v7 A) (end_now v7 A) no_notes no_notes (InitAck ack_meaning) [] (Dropped STATE) (NotCalling refl) (NoneLeft (end_now v7 A) no_notes)) false (λ on. absurd (cc))))
 
 step_9 : Step v8 (Build A) (Some (Sent 2 (size_of_packet (CookieEcho cookie ∷ [])))) v9
 unfolding u16_bytes u32_bytes u16_at u32_at starts_typed typed_of
@@ -109,7 +109,7 @@ step_9 = BuildsOne A (CookieEcho cookie) [] echoed (Echoes (record { own = 7; pe
 
 step_10 : Step v9 (Deliver A 2) (Some Acted) v10
 unfolding u16_bytes u32_bytes u16_at u32_at starts_typed typed_of
-step_10 = PacketComes (Deliver A 2) B (Some third) begins Taken (FromBag A 2 third refl) (ReadAs third begins Taken (CookieBegins (body_for (end_now v5 B) of_c init_meaning) begins (noted Unnoted no_notes) Taken refl refl refl refl (NoneLeft begins (noted Unnoted no_notes))))
+step_10 = PacketComes (Deliver A 2) B (Some third) begins Taken (FromBag A 2 third refl) (ReadAs third begins Taken (CookieBegins (body_for (end_now v5 B) of_c init_meaning) begins (noted Unnoted no_notes) Taken refl refl refl refl (NoneLeft begins (noted Unnoted no_notes)) false (λ on. absurd (cc))))
 
 abbrev asked : List Event
 asked = Connect of_a ∷ Build A ∷ Drawing of_b ∷ Deliver A 1 ∷ Drawing of_c ∷ Deliver A 1 ∷ Deliver B 2 ∷ []

@@ -14,7 +14,7 @@ use Rattle.sctp_model.specs.end.Clock.{closed}
 use Rattle.sctp_model.specs.end.PeerFaults.{GoesOn, Ends, Replies, Note}
 use Rattle.sctp_model.specs.end.Opening.{AcceptedAck, RefusedAck, EchoedAgain, CookieAcked}
 use Rattle.sctp_model.specs.end.Acting.{Acts, PieceEmpty, WrongFormat, ForwardComes, PieceComes, WrongKind, IsBad, IsOld, SackStale, ShutdownStale, SackWrong, ShutdownWrong, HeartbeatCounts, SackCounts, ShutdownCounts, Closes, SaysNothing, Crosses, Again, AckCompletes, CompleteCompleted}
-use Rattle.sctp_model.specs.end.Arriving.{Notes, acknowledges, packet_ended}
+use Rattle.sctp_model.specs.end.Arriving.{Notes, acknowledges, packet_ended, delays, kept_going}
 use Rattle.sctp_safety.specs.States.{has_agreed}
 use Rattle.sctp_safety.proofs.machine.EndWords.{ended_cases}
 use Rattle.sctp_safety.proofs.machine.Sides.{unknown_goes, unknown_ends, unknown_never_replies}
@@ -155,3 +155,5 @@ module _ (p : EndView) (u v : Asked) (out back : List ChunkMeaning) where
 
   pub met_ended : (n : Notes) (e : EndView) → Met e → Met (packet_ended n e)
   met_ended n e m = ended_cases Met n e m (λ k g is. still e (acknowledges g e) m (record { terms = refl; sender = refl; receiver = refl; moment = refl }) m.phase)
+      (λ k g is. still e (delays e) m (record { terms = refl; sender = refl; receiver = refl; moment = refl }) m.phase)
+      (λ x k. still x (kept_going true x) k (record { terms = refl; sender = refl; receiver = refl; moment = refl }) k.phase)

@@ -109,5 +109,5 @@ pub answer_opens : (e : EndView) (d : Draw) (p : Packet) (t : EndView) (v : Verd
 answer_opens e d p t v (Elsewhere ports) = tt
 answer_opens e d p t v (NotOurs ports passes) = tt
 answer_opens e d p t v (Stray ports passes none closed) = of_chunks e d p.tag p.chunks
-answer_opens e d p t v (CookieBegins b u n _ ports passes none opens acts) = (all_act_keeps p.tag _ _ _ (any_chunk p.tag) _ (noted Unnoted no_notes) _ u n v (λ x has. tt) tt acts).1
-answer_opens e d p t v (Heard u n _ ports passes has acts) = (all_act_keeps p.tag _ _ _ (any_chunk p.tag) e no_notes p.chunks u n v (λ x has. tt) tt acts).1
+answer_opens e d p t v (CookieBegins b u n _ ports passes none opens acts _ _) = (all_act_keeps p.tag _ _ _ (any_chunk p.tag) _ (noted Unnoted no_notes) _ u n v (λ x has. tt) tt acts).1
+answer_opens e d p t v (Heard u n _ ports passes has acts _ _) = (all_act_keeps p.tag _ _ _ (any_chunk p.tag) e no_notes p.chunks u n v (λ x has. tt) tt acts).1

@@ -1,5 +1,5 @@
 -- Two ends that are apart stay apart, or meet: by `open`, or when the listener opens the cookie of what the caller has joined on.
-use Rattle.std.proofs.Common.{◌≡◌, ℕ, max, true, false, List, [], ◌∷◌, drop, Option, Some, inl, inr, refl, sym, subst, arith, ◌⊎◌}
+use Rattle.std.proofs.Common.{◌≡◌, ℕ, max, true, false, List, [], ◌∷◌, drop, Option, Some, inl, inr, refl, sym, subst, arith, ◌⊎◌, Bool}
 use Rattle.sctp_model.specs.numbers.Lists.{Has, IsWithin}
 use Rattle.sctp_model.specs.wire.Chunk.{ChunkMeaning, CookieEcho}
 use Rattle.sctp_model.specs.wire.Packet.{Packet}
@@ -8,7 +8,7 @@ use Rattle.sctp_model.specs.end.EndView.{Established, Open, Phase, Listening, En
 use Rattle.sctp_model.specs.end.Opening.{begun, joined, terms_of_body, tags_of_body}
 use Rattle.sctp_model.specs.end.Clock.{turned}
 use Rattle.sctp_model.specs.end.Strays.{Verdict}
-use Rattle.sctp_model.specs.end.Arriving.{AllAct, Arrives, Elsewhere, NotOurs, Stray, CookieBegins, Heard, DroppedUnread, ReadAs, CutFirst, CutLater, cut_to, Notes, no_notes, noted, packet_ended}
+use Rattle.sctp_model.specs.end.Arriving.{AllAct, Arrives, Elsewhere, NotOurs, Stray, CookieBegins, Heard, DroppedUnread, ReadAs, CutFirst, CutLater, cut_to, Notes, no_notes, noted, packet_ended, urged}
 use Rattle.sctp_model.specs.end.Building.{Builds, packet_of}
 use Rattle.sctp_model.specs.end.Moments.{ticked}
 use Rattle.sctp_model.specs.end.UserCalls.{called, abandoned_at, shut, abort_answer, abort_leaves}
@@ -47,10 +47,10 @@ has-drop (x ∷ xs) y h = inr h
 
 module _ (s : Setup) (drawn : List ℕ) (w : World) (opening : IsOpening s drawn w) (set : AreSetUp s w) (k : IsApartWorld w) where
   -- The listener opens a cookie of the caller's: the two have met, and what stands behind the cookie acts.
-  meets : (p q : Packet) (b : Body) (t : EndView) (n : Notes) (v : Verdict) → Has w.from_a q → IsWithin p.chunks q.chunks → IsFound (end_now w B) p.tag p.chunks b →
-      AllAct p.tag (begun b (end_now w B)) (noted Unnoted no_notes) (drop 1 p.chunks) t n v → Before w B (packet_ended n t)
-  meets p q b t n v has within found acts =
-      pair_ended w.a (asked_at w B) (asked_at w A) (chunks_in w.from_b) (chunks_in w.from_a) n t (all_act_keeps p.tag _ _ _ (pair_acts w.a (asked_at w B) (asked_at w A) (chunks_in w.from_b) (chunks_in w.from_a) p.tag) (begun b (end_now w B)) (noted Unnoted no_notes) (drop 1 p.chunks) t n v
+  meets : (p q : Packet) (b : Body) (t : EndView) (n : Notes) (gap : Bool) (v : Verdict) → Has w.from_a q → IsWithin p.chunks q.chunks → IsFound (end_now w B) p.tag p.chunks b →
+      AllAct p.tag (begun b (end_now w B)) (noted Unnoted no_notes) (drop 1 p.chunks) t n v → Before w B (packet_ended (urged gap n) t)
+  meets p q b t n gap v has within found acts =
+      pair_ended w.a (asked_at w B) (asked_at w A) (chunks_in w.from_b) (chunks_in w.from_a) (urged gap n) t (all_act_keeps p.tag _ _ _ (pair_acts w.a (asked_at w B) (asked_at w A) (chunks_in w.from_b) (chunks_in w.from_a) p.tag) (begun b (end_now w B)) (noted Unnoted no_notes) (drop 1 p.chunks) t n v
       (λ y h. chunk_of_bag w.from_a q y has (within y (has-drop p.chunks y h))) start acts).0
     where
       echo : Has q.chunks (CookieEcho found.cookie)
@@ -83,8 +83,8 @@ module _ (s : Setup) (drawn : List ℕ) (w : World) (opening : IsOpening s drawn
   listener_hears p q t v has within (Elsewhere ports) = inl refl
   listener_hears p q t v has within (NotOurs ports passes) = inl refl
   listener_hears p q t v has within (Stray ports passes none closed) = inl refl
-  listener_hears p q t v has within (CookieBegins b u n _ ports passes none opens acts) = inr (meets p q b u n v has within (found_is (end_now w B) p.tag p.chunks b opens) acts)
-  listener_hears p q t v has within (Heard _ _ _ ports passes there acts) = absurd (listener_has_none w.b.phase k.listens there)
+  listener_hears p q t v has within (CookieBegins b u n _ ports passes none opens acts gap _) = inr (meets p q b u n gap v has within (found_is (end_now w B) p.tag p.chunks b opens) acts)
+  listener_hears p q t v has within (Heard _ _ _ ports passes there acts gap _) = absurd (listener_has_none w.b.phase k.listens there)
 
   -- ---- either end
 

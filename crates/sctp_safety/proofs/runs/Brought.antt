@@ -3,7 +3,7 @@ use Rattle.std.proofs.Common.{◌≡◌, ℕ, true, false, subst}
 use Rattle.sctp_model.specs.wire.Packet.{Packet}
 use Rattle.sctp_model.specs.end.EndView.{Draw, Phase, Listening, EndView}
 use Rattle.sctp_model.specs.end.Strays.{Verdict}
-use Rattle.sctp_model.specs.end.Arriving.{Arrives, Elsewhere, NotOurs, Stray, CookieBegins, Heard, no_notes}
+use Rattle.sctp_model.specs.end.Arriving.{Arrives, Elsewhere, NotOurs, Stray, CookieBegins, Heard, no_notes, urged}
 use Rattle.sctp_safety.specs.States.{has_agreed}
 use Rattle.sctp_safety.proofs.machine.EndWords.{all_act_keeps}
 use Rattle.sctp_safety.proofs.machine.Strangers.{found_is}
@@ -20,6 +20,6 @@ pub unmet_arrives : (clock : ℕ) (e : EndView) (d : Draw) (k : Packet) (t : End
 unmet_arrives clock e d k t o m calls opening (Elsewhere ports) = m
 unmet_arrives clock e d k t o m calls opening (NotOurs ports passes) = m
 unmet_arrives clock e d k t o m calls opening (Stray ports passes none closed) = m
-unmet_arrives clock e d k t o m calls opening (CookieBegins b _ _ _ ports passes none opens acts) = absurd (calls (found_is e k.tag k.chunks b opens).phase)
-unmet_arrives clock e d k t o m calls opening (Heard u n _ ports passes has acts) =
-    unmet_ended clock n u (all_act_keeps k.tag _ _ _ (openings_keep clock k.tag) e no_notes k.chunks u n o opening m acts).0
+unmet_arrives clock e d k t o m calls opening (CookieBegins b _ _ _ ports passes none opens acts gap _) = absurd (calls (found_is e k.tag k.chunks b opens).phase)
+unmet_arrives clock e d k t o m calls opening (Heard u n _ ports passes has acts gap _) =
+    unmet_ended clock (urged gap n) u (all_act_keeps k.tag _ _ _ (openings_keep clock k.tag) e no_notes k.chunks u n o opening m acts).0

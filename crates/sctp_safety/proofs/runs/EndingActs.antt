@@ -4,20 +4,19 @@ use Rattle.sctp_model.specs.numbers.Lists.{Has}
 use Rattle.sctp_model.specs.wire.Chunk.{ChunkMeaning, Data, IData, Init, InitAck, Sack, Heartbeat, HeartbeatAck, Abort, Shutdown, ShutdownAck, Error, CookieEcho, CookieAck, ShutdownComplete, ForwardTsn, IForwardTsn, Unknown}
 use Rattle.sctp_model.specs.wire.Packet.{Packet}
 use Rattle.sctp_model.specs.sender.SenderView.{SenderView}
-use Rattle.sctp_model.specs.sender.SackTaken.{shutdown_taken}
 use Rattle.sctp_model.specs.sender.Readers.{drained}
 use Rattle.sctp_model.specs.end.EndView.{Tags, Stage, Established, ShutdownPending, ShutdownSent, ShutdownReceived, ShutdownAckSent, Ended, Completed, Aborted, AbortedHere, StaleCookie, Phase, Idle, Listening, Calling, Echoing, Open, Over, AckAlarm, EndView}
-use Rattle.sctp_model.specs.end.Clock.{is_home, closed, settled}
+use Rattle.sctp_model.specs.end.Clock.{is_home, closed}
 use Rattle.sctp_model.specs.end.Closing.{hears, takes_acknowledgements, awaits_ack, awaits_complete, answers_shutdown}
 use Rattle.sctp_model.specs.end.PeerFaults.{GoesOn, Ends, Replies, Note}
 use Rattle.sctp_model.specs.end.Opening.{AcceptedAck, RefusedAck, EchoedAgain, CookieAcked}
-use Rattle.sctp_model.specs.end.Acting.{Acts, PieceEmpty, WrongFormat, ForwardComes, PieceComes, WrongKind, IsBad, IsOld, SackStale, ShutdownStale, SackWrong, ShutdownWrong, HeartbeatCounts, SackCounts, ShutdownCounts, Closes, SaysNothing, Crosses, Again, AckCompletes, CompleteCompleted}
-use Rattle.sctp_model.specs.end.Arriving.{Notes, acknowledges, packet_ended}
+use Rattle.sctp_model.specs.end.Acting.{Acts, PieceEmpty, WrongFormat, ForwardComes, PieceComes, WrongKind, IsBad, IsOld, SackStale, ShutdownStale, SackWrong, ShutdownWrong, HeartbeatCounts, SackCounts, ShutdownCounts, Closes, SaysNothing, Crosses, Again, AckCompletes, CompleteCompleted, shutdown_counted}
+use Rattle.sctp_model.specs.end.Arriving.{Notes, acknowledges, packet_ended, delays, kept_going}
 use Rattle.sctp_safety.specs.States.{has_agreed}
 use Rattle.sctp_safety.proofs.machine.EndWords.{ended_cases}
 use Rattle.sctp_safety.proofs.machine.Sides.{unknown_goes, unknown_ends, unknown_never_replies}
 use Rattle.sctp_safety.proofs.runs.Acted.{not_calling}
-use Rattle.sctp_safety.proofs.runs.Homes.{home_like, IsHome, home_turned, home_answers, home_acknowledges}
+use Rattle.sctp_safety.proofs.runs.Homes.{home_like, IsHome, home_turned, home_answers, home_acknowledges, home_renewed}
 use Rattle.sctp_safety.proofs.runs.Ending.{was_told, is_last, IsDone, last_by_ack, AreEnding, ending_still, onward_same, onward_over, onward_complete, onward_open}
 
 -- an end that hears acknowledgements has more to come
@@ -110,7 +109,7 @@ module _ (p : EndView) (out back : List ChunkMeaning) where
   goes e tag (Abort b xs) y t has m c h = absurd (cc)
   goes e tag (Shutdown n) y t has m c (ShutdownStale k g is on fault) = hears_shutdown e t k g n c has is on (home_turned (Open k ShutdownReceived) e) refl
   goes e tag (Shutdown n) y t has m c (ShutdownCounts k g is on none) =
-      hears_shutdown e t k g n c has is on (home_turned (Open k ShutdownReceived) (settled (record e { sender = shutdown_taken e.sender n }))) refl
+      hears_shutdown e t k g n c has is on (home_turned (Open k ShutdownReceived) (shutdown_counted e n)) refl
   goes e tag (Shutdown n) y t has m c (Crosses k is) = crosses e k n c has is
   goes e tag (Shutdown n) y t has m c (Again k is) = still e t c (record {
     shutdown = c.this.home.shutdown;
@@ -183,3 +182,5 @@ module _ (p : EndView) (out back : List ChunkMeaning) where
 
   pub ending_ended : (n : Notes) (e : EndView) → Ending e → Ending (packet_ended n e)
   ending_ended n e c = ended_cases Ending n e c (λ k g is. still e (acknowledges g e) c (home_acknowledges k g e is c.this.home) refl refl)
+      (λ k g is. still e (delays e) c (home_like e (delays e) c.this.home refl refl refl refl refl) refl refl)
+      (λ x k. still x (kept_going true x) k (home_renewed x k.this.home) refl refl)

@@ -1,12 +1,12 @@
 -- A packet that is built says that its end is done only where it is.
-use Rattle.std.proofs.Common.{◌≡◌, ◌-◌, Bool, true, false, List, [], ◌∷◌, ◌++◌, append_assoc, append-nil, inl, inr, refl, sym, subst}
+use Rattle.std.proofs.Common.{◌≡◌, ◌-◌, Bool, true, false, List, [], ◌∷◌, ◌++◌, append_assoc, append-nil, inl, inr, refl, sym, subst, ℕ}
 use Rattle.sctp_model.specs.numbers.Lists.{Has}
 use Rattle.sctp_model.specs.wire.Chunk.{ChunkMeaning}
 use Rattle.sctp_model.specs.wire.Packet.{size_of_packet}
 use Rattle.sctp_model.specs.messages.Format.{Format, Plain, Interleaved}
 use Rattle.sctp_model.specs.sender.SenderView.{SenderView}
 use Rattle.sctp_model.specs.sender.Filling.{Wish}
-use Rattle.sctp_model.specs.sender.SentChunks.{chunk_of, forward_chunk_of}
+use Rattle.sctp_model.specs.sender.SentChunks.{chunk_of, forward_chunk_to, forward_end}
 use Rattle.sctp_model.specs.sender.Readers.{drained}
 use Rattle.sctp_model.specs.sender.Reached.{IsReached}
 use Rattle.sctp_model.specs.end.EndView.{Terms, Established, ShutdownPending, ShutdownReceived, ShutdownSent, ShutdownAckSent, Phase, Idle, Listening, Calling, Echoing, Open, Over, ShutdownAlarm, AckAlarm, EndView, format_for, format_of}
@@ -45,9 +45,9 @@ ack_home_awaits (Calling d) on = absurd (cc)
 ack_home_awaits (Echoing t xs) on = absurd (cc)
 ack_home_awaits (Over why) on = absurd (cc)
 
-forward_is_other : (f : Format) (a : SenderView) → is_shutting (forward_chunk_of f a) ≡ false
-forward_is_other Plain a = refl
-forward_is_other Interleaved a = refl
+forward_is_other : (f : Format) (a : SenderView) (p : ℕ) → is_shutting (forward_chunk_to f a p) ≡ false
+forward_is_other Plain a p = refl
+forward_is_other Interleaved a p = refl
 
 fragment_is_other : (f : Format) (w : Wish) → is_shutting (chunk_of f w) ≡ false
 fragment_is_other Plain w = refl
@@ -73,7 +73,7 @@ module _ (p : EndView) (back : List ChunkMeaning) where
   put_one s out e x c due (AckHeartbeat _ _) = put out e (once_built HeartbeatSlot e) x c (home_like e _ c.this.home refl refl refl refl refl) refl refl (λ on. absurd (cc))
   put_one s out e x c due ReportCauses = put out e (once_built ErrorSlot e) x c (home_like e _ c.this.home refl refl refl refl refl) refl refl (λ on. absurd (cc))
   put_one s out e x c due (Acknowledge made is) = put out e (once_built SackSlot e) x c (home_like e _ c.this.home refl refl refl refl refl) refl refl (λ on. absurd (cc))
-  put_one s out e x c due PassOn = put out e (once_built ForwardSlot e) x c (home_like e _ c.this.home refl refl refl refl refl) refl refl (λ on. absurd (let off = forward_is_other (format_of e) e.sender in cc))
+  put_one s out e x c due PassOn = put out e (once_built ForwardSlot e) x c (home_like e _ c.this.home refl refl refl refl refl) refl refl (λ on. absurd (let off = forward_is_other (format_of e) e.sender (forward_end (format_of e) e.configuration.limit e.sender) in cc))
   put_one s out e x c due (SayShutdown k is) = put out e (once_built ShutdownSlot e) x c (record {
     shutdown = λ on. absurd (cc);
     ack = c.this.home.ack;

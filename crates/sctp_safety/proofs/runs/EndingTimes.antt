@@ -12,7 +12,7 @@ use Rattle.sctp_model.specs.end.EndView.{TimedOut, Established, ShutdownPending,
 use Rattle.sctp_model.specs.end.Clock.{repeats_of, is_over_at, with_timer, turned, closed, at_moment, settled}
 use Rattle.sctp_model.specs.end.Clock.{expired_timer}
 use Rattle.sctp_model.specs.end.Closing.{hears}
-use Rattle.sctp_model.specs.end.Moments.{after_abandoning, due_again, rung, ring, rung_all, all_alarms, passed, ticked}
+use Rattle.sctp_model.specs.end.Moments.{after_abandoning, due_again, rung, ring, rung_all, all_alarms, passed, ticked, waited_in}
 use Rattle.sctp_model.specs.end.UserCalls.{NotOpen, is_established, answer_for, send_answer, send_leaves, is_open, abandoned_at, UserTakes, shut_in, shut, AbortAnswer, Aborts, NoPeer, TooLong, abort_leaves}
 use Rattle.sctp_safety.proofs.runs.Drained.{drained_abandoned, drained_expired, drained_timed_out}
 use Rattle.sctp_safety.proofs.runs.Homes.{home_like, IsHome, home_turned}
@@ -70,6 +70,10 @@ module _ (p : EndView) (out back : List ChunkMeaning) where
   all_ring [] e c = c
   all_ring (a ∷ more) e c = all_ring more (ring a e) (rings a e c (is_over_at e.moment (e.timers a).expiry) refl)
 
+  waits : (b : Bool) (e : EndView) → Ending e → Ending (waited_in b e)
+  waits false e c = c
+  waits true e c = still e (waited_in true e) c (home_like e (waited_in true e) c.this.home refl refl refl refl refl) refl (λ y. y)
+
   pub ending_ticked : (e : EndView) (now : ℕ) → IsReached (format_of e) e.sender → Ending e → Ending (ticked e now)
   ending_ticked e now h c = go (has_association e.phase)
     where
@@ -79,8 +83,10 @@ module _ (p : EndView) (out back : List ChunkMeaning) where
       go : (b : Bool) → Ending (if b then passed (at_moment e now) else at_moment e now)
       go false = there
       go true =
-          all_ring all_alarms (after_abandoning (at_moment e now) (expired e.sender (at_moment e now).moment))
-          (becomes_abandoned (at_moment e now) (expired e.sender (at_moment e now).moment) there (drained_expired (format_of e) e.sender (at_moment e now).moment h))
+          let u = after_abandoning (at_moment e now) (expired e.sender (at_moment e now).moment) in
+          let r = rung_all all_alarms u in
+          waits (is_over_at r.moment r.delayed) r (all_ring all_alarms u
+          (becomes_abandoned (at_moment e now) (expired e.sender (at_moment e now).moment) there (drained_expired (format_of e) e.sender (at_moment e now).moment h)))
 
   -- ---- the user
 

@@ -1,10 +1,10 @@
 -- A SHUTDOWN and a SHUTDOWN ACK are due, and their timers run, in the state alone that sends them (RFC 9260, 9.2).
-use Rattle.std.proofs.Common.{◌≡◌, ℕ, Bool, true, false, Some, inl, inr, refl, sym, subst, ap, ◌∙◌, if◌then◌else◌, ◌⊎◌}
+use Rattle.std.proofs.Common.{◌≡◌, ℕ, Bool, true, false, Some, inl, inr, refl, sym, subst, ap, ◌∙◌, if◌then◌else◌, ◌⊎◌, Option, None}
 use Rattle.std.proofs.lemmas.Bool.{and_parts, or_cases}
 use Rattle.sctp_model.specs.end.EndView.{Tags, Stage, Established, ShutdownPending, ShutdownSent, ShutdownReceived, ShutdownAckSent, Ended, Phase, Open, ShutdownAlarm, AckAlarm, Timer, EndView}
-use Rattle.sctp_model.specs.end.Clock.{is_home, stopped, turned, closed}
+use Rattle.sctp_model.specs.end.Clock.{is_home, stopped, turned, closed, renewed_expiry}
 use Rattle.sctp_model.specs.end.Closing.{says_shutdown, answers_shutdown, is_shutdown_sent}
-use Rattle.sctp_model.specs.end.Arriving.{acknowledges}
+use Rattle.sctp_model.specs.end.Arriving.{acknowledges, kept_going}
 
 pub record IsHome (e : EndView) : Type 0 where
   pub shutdown : e.due.shutdown ≡ true → is_home ShutdownAlarm e.phase ≡ true
@@ -68,3 +68,11 @@ home_acknowledges t g e is h = record { shutdown = λ on. go (or_cases e.due.shu
     go : (e.due.shutdown ≡ true) ⊎ (is_shutdown_sent g ≡ true) → is_home ShutdownAlarm e.phase ≡ true
     go (inl on) = h.shutdown on
     go (inr on) = subst (λ (k : Phase). is_home ShutdownAlarm k ≡ true) (sym is) (sends_shutdown t g on)
+
+-- a timer that begins anew runs where it ran
+pub home_renewed : (e : EndView) → IsHome e → IsHome (kept_going true e)
+home_renewed e h = record { shutdown = h.shutdown; ack = h.ack; shutdown_runs = λ n on. by (e.timers ShutdownAlarm).expiry refl n on; ack_runs = h.ack_runs }
+  where
+    by : (o : Option ℕ) → (e.timers ShutdownAlarm).expiry ≡ o → (n : ℕ) → renewed_expiry e.moment o ≡ Some n → is_home ShutdownAlarm e.phase ≡ true
+    by None rests n on = absurd (cc)
+    by (Some m) runs n on = h.shutdown_runs m runs

@@ -1,5 +1,6 @@
 -- A packet that an end builds keeps both directions: what stands in it is said.
-use Rattle.std.proofs.Common.{◌≡◌, ◌-◌, Bool, true, false, List, [], ◌∷◌, ◌++◌, append_assoc, append-nil, inl, inr, refl, sym, subst}
+use Rattle.sctp_model.proofs.sender.ForwardEnd.{end_from, end_upto}
+use Rattle.std.proofs.Common.{◌≡◌, ◌-◌, Bool, true, false, List, [], ◌∷◌, ◌++◌, append_assoc, append-nil, inl, inr, refl, sym, subst, ℕ}
 use Rattle.sctp_model.specs.numbers.Lists.{Has}
 use Rattle.sctp_model.specs.wire.Chunk.{ChunkMeaning, Sack}
 use Rattle.sctp_model.specs.wire.Packet.{size_of_packet}
@@ -10,7 +11,7 @@ use Rattle.sctp_model.specs.receiver.SackMade.{sack_sent}
 use Rattle.sctp_safety.proofs.runs.Direction.{Direction}
 use Rattle.sctp_model.specs.world.Calls.{Asked}
 use Rattle.sctp_model.specs.sender.Filling.{Wish}
-use Rattle.sctp_model.specs.sender.SentChunks.{chunk_of, forward_chunk_of}
+use Rattle.sctp_model.specs.sender.SentChunks.{chunk_of, forward_chunk_to, forward_end}
 use Rattle.sctp_model.proofs.sender.FillLaws.{fill_is_fill}
 use Rattle.sctp_model.specs.end.EndView.{Phase, EndView, format_of}
 use Rattle.sctp_model.specs.end.Building.{Slot, Wants, EchoCookie, AckCookie, AckHeartbeat, ReportCauses, Acknowledge, PassOn, SayShutdown, AnswerShutdown, Puts, NoMore, NotDue, Put, IsFull, echoing_slots, open_slots, filled_behind, sent, fragments, Builds, Sleeps, Waits, Calls, Echoes, EndsFull, Fills, EchoSlot, CookieAckSlot, HeartbeatSlot, ErrorSlot, SackSlot, ForwardSlot, ShutdownSlot, ShutdownAckSlot, once_built}
@@ -48,9 +49,9 @@ module _ (p : EndView) (u v : Asked) (back : List ChunkMeaning) where
   coming_quiet : (out : List ChunkMeaning) (e : EndView) (x : ChunkMeaning) → Met out e → is_quiet_back x ≡ true → Direction (format_of p) p.terms.outbound p.sender v e.receiver back (out ++ x ∷ [])
   coming_quiet out e x m quiet = quiet_back_more (format_of p) p.terms.outbound p.sender v e.receiver back out m.coming (x ∷ []) (one_quiet is_quiet_back x quiet)
 
-  forward_is_quiet_back : (f : Format) (a : SenderView) → is_quiet_back (forward_chunk_of f a) ≡ true
-  forward_is_quiet_back Plain a = refl
-  forward_is_quiet_back Interleaved a = refl
+  forward_is_quiet_back : (f : Format) (a : SenderView) (p : ℕ) → is_quiet_back (forward_chunk_to f a p) ≡ true
+  forward_is_quiet_back Plain a p = refl
+  forward_is_quiet_back Interleaved a p = refl
 
   put_one : (s : Slot) (out : List ChunkMeaning) (e : EndView) (x : ChunkMeaning) → Met out e → Wants e s x → Met (out ++ x ∷ []) (once_built s e)
   put_one s out e x m (EchoCookie _ _ _) = put out e (once_built EchoSlot e) x m e.receiver (going_quiet out e x m refl) (coming_quiet out e x m refl) (record { terms = refl; sender = refl; receiver = refl; moment = refl }) refl
@@ -60,8 +61,10 @@ module _ (p : EndView) (u v : Asked) (back : List ChunkMeaning) where
   put_one s out e x m (Acknowledge made is) = put out e (once_built SackSlot e) x m (sack_sent e.receiver) (going_quiet out e x m refl)
       (after_note (format_of p) p.terms.outbound p.sender v e.receiver back (out ++ Sack made ∷ [])
       (after_sack_made (format_of p) p.terms.outbound p.sender v e.receiver back out m.coming made is) []) (record { terms = refl; sender = refl; receiver = refl; moment = refl }) refl
-  put_one s out e x m PassOn = put out e (once_built ForwardSlot e) x m e.receiver (after_forward (format_of e) e.terms.outbound e.sender u p.receiver out back m.going)
-      (coming_quiet out e x m (forward_is_quiet_back (format_of e) e.sender)) (record { terms = refl; sender = refl; receiver = refl; moment = refl }) refl
+  put_one s out e x m PassOn =
+      let q = forward_end (format_of e) e.configuration.limit e.sender in
+      let going = after_forward (format_of e) e.terms.outbound e.sender u p.receiver out back q (end_from (format_of e) e.configuration.limit e.sender) (end_upto (format_of e) e.configuration.limit e.sender) m.going in
+      put out e (once_built ForwardSlot e) x m e.receiver going (coming_quiet out e x m (forward_is_quiet_back (format_of e) e.sender q)) (record { terms = refl; sender = refl; receiver = refl; moment = refl }) refl
   put_one s out e x m (SayShutdown c is) = put out e (once_built ShutdownSlot e) x m e.receiver (going_quiet out e x m refl)
       (after_shutdown_made (format_of p) p.terms.outbound p.sender v e.receiver back out m.coming c is) (record { terms = refl; sender = refl; receiver = refl; moment = refl }) refl
   put_one s out e x m AnswerShutdown = put out e (once_built ShutdownAckSlot e) x m e.receiver (going_quiet out e x m refl) (coming_quiet out e x m refl) (record { terms = refl; sender = refl; receiver = refl; moment = refl }) refl

@@ -12,7 +12,7 @@ use Rattle.sctp_model.specs.end.Building.{Builds}
 use Rattle.sctp_model.specs.end.Moments.{ticked}
 use Rattle.sctp_model.specs.end.UserCalls.{send_answer, send_leaves, abandoned_at, UserTakes, shut, AbortAnswer, abort_leaves}
 use Rattle.sctp_model.specs.end.Strays.{Verdict}
-use Rattle.sctp_model.specs.end.Arriving.{Arrives, Elsewhere, NotOurs, Stray, CookieBegins, Heard, Notes, no_notes, packet_ended}
+use Rattle.sctp_model.specs.end.Arriving.{Arrives, Elsewhere, NotOurs, Stray, CookieBegins, Heard, Notes, no_notes, packet_ended, urged}
 use Rattle.sctp_safety.proofs.machine.EndWords.{Keeps, all_act_keeps}
 use Rattle.sctp_safety.proofs.machine.Strangers.{found_is}
 use Rattle.sctp_safety.proofs.runs.Pair.{opens_or_ends, AreOpening, IsMet, turned_round, met_rested, met_quiet}
@@ -88,9 +88,9 @@ pub pair_arrives : (e p : EndView) (u v : Asked) (out back : List ChunkMeaning) 
 pair_arrives e p u v out back d k t o m within (Elsewhere ports) = m
 pair_arrives e p u v out back d k t o m within (NotOurs ports passes) = m
 pair_arrives e p u v out back d k t o m within (Stray ports passes none closed) = m
-pair_arrives e p u v out back d k t o m within (CookieBegins b _ _ _ ports passes none opens acts) = absurd (listens_not e.phase (found_is e k.tag k.chunks b opens).phase m.met.phase)
-pair_arrives e p u v out back d k t o m within (Heard w n _ ports passes has acts) =
-    pair_ended p u v out back n w (all_act_keeps k.tag _ _ _ (pair_acts p u v out back k.tag) e no_notes k.chunks w n o within m acts).0
+pair_arrives e p u v out back d k t o m within (CookieBegins b _ _ _ ports passes none opens acts gap _) = absurd (listens_not e.phase (found_is e k.tag k.chunks b opens).phase m.met.phase)
+pair_arrives e p u v out back d k t o m within (Heard w n _ ports passes has acts gap _) =
+    pair_ended p u v out back (urged gap n) w (all_act_keeps k.tag _ _ _ (pair_acts p u v out back k.tag) e no_notes k.chunks w n o within m acts).0
 
 -- ---- what is built, called, and passes
 

@@ -1,4 +1,4 @@
--- The FORWARD that a sender builds says one of its direction, and each number that it lists is the largest of its lane up to the point.
+-- The FORWARD that a sender builds says one of its direction, and each number that it lists is the largest of its lane up to the index that it goes to.
 use Rattle.std.proofs.Common.{◌≡◌, ℕ, ◌<◌, ◌≤◌, ◌⊎◌, List, [], ◌∷◌, ◌++◌, length, Some, inl, inr, refl, subst, ap, arith}
 use Rattle.std.proofs.lemmas.Bool.{cases_lt}
 use Rattle.sctp_model.specs.numbers.Lists.{Has}
@@ -10,8 +10,8 @@ use Rattle.sctp_model.specs.sender.SenderView.{SenderView}
 use Rattle.sctp_model.specs.receiver.ReceiverView.{ReceiverView}
 use Rattle.sctp_model.specs.world.Calls.{Asked}
 use Rattle.sctp_model.specs.sender.Readers.{point}
-use Rattle.sctp_model.specs.sender.Forwarding.{forward_of}
-use Rattle.sctp_model.specs.sender.SentChunks.{forward_said, forward_chunk_of}
+use Rattle.sctp_model.specs.sender.Forwarding.{forward_to}
+use Rattle.sctp_model.specs.sender.SentChunks.{forward_said, forward_chunk_to}
 use Rattle.sctp_model.proofs.sender.Bounds.{is_bounded}
 use Rattle.sctp_model.proofs.sender.PointLaws.{point_is_point}
 use Rattle.sctp_model.proofs.sender.ForwardLaws.{forward_is_forward}
@@ -40,7 +40,7 @@ listed_once (x ∷ xs) h y z (inr a) (inl b) e =
     absurd (not_before_itself x.lane y.lane (let s : x.lane ≡ z.lane = ap (λ (k : Skip). k.lane) b in cc) (h.0 y a))
 listed_once (x ∷ xs) h y z (inr a) (inr b) e = listed_once xs h.1 y z a b e
 
--- ---- the largest number up to the point
+-- ---- the largest number up to an index
 
 module _ (f : Format) (p : Plan) (c q : ℕ) (x : Forward) (arranged : IsOrderedPlan f p) (is : IsForward f p c q x) where
   -- an entry past CUM is among those that the list was made of
@@ -80,44 +80,45 @@ point_within f a n u r out back d = go (cases_lt a.cum (point a))
     go (inl lo) = let g = (point_is_point a).abandoned (point a) lo (omega arith) in item_at-within a.plan.entries (point a) g.2 g.3
     go (inr le) = let b = (is_bounded f a d.reached).within in omega (arith, b, le)
 
-pub after_forward : (f : Format) (n : ℕ) (a : SenderView) (u : Asked) (r : ReceiverView) (out back : List ChunkMeaning) → Direction f n a u r out back →
-    Direction f n a u r (out ++ forward_chunk_of f a ∷ []) back
-after_forward f n a u r out back d = said_more f n a u r out back moved (forward_chunk_of f a ∷ []) says
+-- a FORWARD to any index from CUM to the point
+pub after_forward : (f : Format) (n : ℕ) (a : SenderView) (u : Asked) (r : ReceiverView) (out back : List ChunkMeaning) (p : ℕ) → a.cum ≤ p → p ≤ point a →
+    Direction f n a u r out back → Direction f n a u r (out ++ forward_chunk_to f a p ∷ []) back
+after_forward f n a u r out back p from upto d = said_more f n a u r out back moved (forward_chunk_to f a p ∷ []) says
   where
     good : Good (way_of f n a u r d.bags)
     good = good_here f n a u r out back d
 
-    is : IsForward f a.plan a.cum (point a) (forward_of f a)
-    is = forward_is_forward f a d.reached
+    is : IsForward f a.plan a.cum p (forward_to f a p)
+    is = forward_is_forward f a p d.reached
 
     bags : Bags
-    bags = record d.bags { forwards = forward_of f a ∷ d.bags.forwards }
+    bags = record d.bags { forwards = forward_to f a p ∷ d.bags.forwards }
 
     moved : Direction f n a u r out back
     moved = sender_moved f n a u r out back d a u bags
         (record { pieces = λ x h. h; forwards = λ x h. inr h; sacks = λ x h. h; shutdowns = λ x h. h }) d.reached (record {
-          leads = leads_by (way_of f n a u r d.bags) (way_of f n a u r bags) (Put_forward (forward_of f a))
-              (forward_is_allowed (way_of f n a u r d.bags) (point a) (point a) (forward_of f a) (point_is_point a) (point_is_point a).from (omega arith) is);
+          leads = leads_by (way_of f n a u r d.bags) (way_of f n a u r bags) (Put_forward (forward_to f a p))
+              (forward_is_allowed (way_of f n a u r d.bags) (point a) p (forward_to f a p) (point_is_point a) from upto is);
           order = record { ends = d.usual.order.ends; marked = d.usual.order.marked; tickets = d.usual.order.tickets };
           constants = record { initial = refl; streams = refl; fragment = refl; partial = refl };
         })
 
-    within : IsForwardIn f a.initial a.plan bags.forwards (forward_said f a)
+    within : IsForwardIn f a.initial a.plan bags.forwards (forward_said f a p)
     within = record {
       said = record {
-        forward = forward_of f a;
+        forward = forward_to f a p;
         put = inl refl;
         cumulative = refl;
         skips = refl;
-        topped = forward_topped f a.plan a.cum (point a) (forward_of f a) good.arranged is;
+        topped = forward_topped f a.plan a.cum p (forward_to f a p) good.arranged is;
       };
-      within = point_within f a n u r out back d;
+      within = let top = point_within f a n u r out back d in omega (arith, top, upto);
     }
 
-    by_format : (g : Format) → IsForwardIn f a.initial a.plan bags.forwards (forward_said g a) → IsSaid f a.initial a.plan bags (forward_chunk_of g a)
+    by_format : (g : Format) → IsForwardIn f a.initial a.plan bags.forwards (forward_said g a p) → IsSaid f a.initial a.plan bags (forward_chunk_to g a p)
     by_format Plain h = h
     by_format Interleaved h = h
 
-    says : (x : ChunkMeaning) → Has (forward_chunk_of f a ∷ []) x → IsSaid f a.initial a.plan bags x
+    says : (x : ChunkMeaning) → Has (forward_chunk_to f a p ∷ []) x → IsSaid f a.initial a.plan bags x
     says x (inl e) = subst (λ (y : ChunkMeaning). IsSaid f a.initial a.plan bags y) e (by_format f within)
     says x (inr h) = absurd h

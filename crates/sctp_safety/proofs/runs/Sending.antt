@@ -142,7 +142,7 @@ said_more f n a u r out back d xs says = with_chunks f n a u r out back d (out +
 
 -- ---- fragments
 
-follows_reached : (f : Format) (a : SenderView) (room : ℕ) (ws : List Wish) (b : SenderView) → IsReached f a → Follows f a room ws b → IsReached f b
+pub follows_reached : (f : Format) (a : SenderView) (room : ℕ) (ws : List Wish) (b : SenderView) → IsReached f a → Follows f a room ws b → IsReached f b
 follows_reached f a room [] b h follows = subst (λ (x : SenderView). IsReached f x) (sym follows) h
 follows_reached f a room (w ∷ ws) b h (first, rest) = let parts = goes_parts f room a w first in follows_reached f (gone w) _ ws b (Goes a room w h parts.0 parts.1) rest
 

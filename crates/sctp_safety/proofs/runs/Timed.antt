@@ -12,7 +12,7 @@ use Rattle.sctp_model.specs.end.EndView.{TimedOut, Established, ShutdownPending,
 use Rattle.sctp_model.specs.end.Clock.{repeats_of, is_over_at, with_timer, turned, closed, at_moment, settled}
 use Rattle.sctp_model.specs.end.Clock.{expired_timer}
 use Rattle.sctp_model.specs.end.Closing.{hears}
-use Rattle.sctp_model.specs.end.Moments.{after_abandoning, due_again, rung, ring, rung_all, all_alarms, passed, ticked}
+use Rattle.sctp_model.specs.end.Moments.{after_abandoning, due_again, rung, ring, rung_all, all_alarms, passed, ticked, waited_in}
 use Rattle.sctp_model.specs.end.UserCalls.{SendAnswer, Ticket, Refused, NotOpen, is_established, answer_for, send_answer, send_leaves, is_open, abandoned_at, UserTakes, shut_in, shut, AbortAnswer, Aborts, NoPeer, TooLong, abort_leaves}
 use Rattle.sctp_safety.specs.States.{has_agreed}
 use Rattle.sctp_safety.proofs.runs.Direction.{Direction}
@@ -72,6 +72,10 @@ module _ (p : EndView) (u v : Asked) (out back : List ChunkMeaning) where
   met_rung_all [] e m = m
   met_rung_all (a ∷ more) e m = met_rung_all more (ring a e) (met_rung (is_over_at e.moment (e.timers a).expiry) a e m)
 
+  met_waited : (b : Bool) (e : EndView) → Met e → Met (waited_in b e)
+  met_waited false e m = m
+  met_waited true e m = still e (waited_in true e) m (record { terms = refl; sender = refl; receiver = refl; moment = refl }) m.phase
+
   pub met_ticked : (e : EndView) (now : ℕ) → Met e → now ≤ u.clock → Met (ticked e now)
   met_ticked e now m le = go (has_association e.phase)
     where
@@ -81,9 +85,11 @@ module _ (p : EndView) (u v : Asked) (out back : List ChunkMeaning) where
       go : (b : Bool) → Met (if b then passed (at_moment e now) else at_moment e now)
       go false = there
       go true =
-          met_rung_all all_alarms (after_abandoning (at_moment e now) (expired e.sender (at_moment e now).moment))
+          let x = after_abandoning (at_moment e now) (expired e.sender (at_moment e now).moment) in
+          let r = rung_all all_alarms x in
+          met_waited (is_over_at r.moment r.delayed) r (met_rung_all all_alarms x
           (met_after_abandoning (at_moment e now) (expired e.sender (at_moment e now).moment) there
-          (after_expiry (format_of e) e.terms.outbound e.sender u p.receiver out back m.going (at_moment e now).moment there.moment))
+          (after_expiry (format_of e) e.terms.outbound e.sender u p.receiver out back m.going (at_moment e now).moment there.moment)))
 
   -- ---- calls that change nothing of the sender
 

@@ -11,9 +11,9 @@ use Rattle.sctp_model.specs.end.Closing.{awaits_complete, hears, rested}
 use Rattle.sctp_model.specs.end.PeerFaults.{GoesOn, Ends, Replies, Note}
 use Rattle.sctp_model.specs.end.Opening.{echoing, terms_of_ack, joined, AcceptedAck, RefusedAck, EchoedAgain}
 use Rattle.sctp_model.specs.end.Acting.{Acts, Closes, SaysNothing, CompleteCompleted}
-use Rattle.sctp_model.specs.end.Arriving.{Notes, packet_ended}
+use Rattle.sctp_model.specs.end.Arriving.{Notes, packet_ended, kept_going}
 use Rattle.sctp_safety.proofs.machine.EndWords.{rested_cases, Keeps, ended_cases}
-use Rattle.sctp_safety.proofs.runs.Homes.{IsHome, home_turned, home_closed}
+use Rattle.sctp_safety.proofs.runs.Homes.{IsHome, home_turned, home_closed, home_renewed}
 use Rattle.sctp_safety.proofs.runs.Pair.{opens_or_ends, AreOpening, AreViews}
 use Rattle.sctp_safety.proofs.runs.Answers.{reply_opens}
 
@@ -173,4 +173,6 @@ module _ (clock : ℕ) where
   }
 
   pub unmet_ended : (n : Notes) (e : EndView) → Unmet e → Unmet (packet_ended n e)
-  unmet_ended n e m = ended_cases Unmet n e m (λ t g is. absurd (open_now e.phase t g is m.unopened))
+  unmet_ended n e m =
+      ended_cases Unmet n e m (λ t g is. absurd (open_now e.phase t g is m.unopened)) (λ t g is. absurd (open_now e.phase t g is m.unopened))
+      (λ x k. still x (kept_going true x) k (alike x (kept_going true x) refl refl refl refl refl) k.unopened (home_renewed x k.home))

@@ -14,7 +14,7 @@ use Rattle.sctp_model.specs.end.Clock.{expired_timer}
 use Rattle.sctp_model.specs.end.Building.{Slot, EchoSlot, CookieAckSlot, HeartbeatSlot, ErrorSlot, SackSlot, ForwardSlot, ShutdownSlot, ShutdownAckSlot, Wants, EchoCookie, AckCookie, AckHeartbeat, ReportCauses, Acknowledge, PassOn, SayShutdown, AnswerShutdown, Puts, NoMore, NotDue, Put, IsFull, echoing_slots, Builds, Sleeps, Waits, Calls, Echoes, Fills, once_built}
 use Rattle.sctp_model.specs.end.Building.{EndsFull}
 use Rattle.sctp_model.specs.end.Closing.{hears}
-use Rattle.sctp_model.specs.end.Moments.{after_abandoning, due_again, rung, ring, rung_all, all_alarms, passed, ticked}
+use Rattle.sctp_model.specs.end.Moments.{after_abandoning, due_again, rung, ring, rung_all, all_alarms, passed, ticked, waited_in}
 use Rattle.sctp_model.specs.end.UserCalls.{NotOpen, is_established, send_answer, is_open, abandoned_at, UserTakes, shut_in, shut, AbortAnswer, Aborts, NoPeer, TooLong, abort_leaves, called}
 use Rattle.sctp_safety.proofs.lists.Basics.{Has-cases}
 use Rattle.sctp_safety.proofs.runs.Homes.{home_like, home_turned}
@@ -88,6 +88,10 @@ module _ (clock : ℕ) where
   all_ring [] e m = m
   all_ring (a ∷ more) e m = all_ring more (ring a e) (rings a e m (is_over_at e.moment (e.timers a).expiry) refl)
 
+  waits_on : (b : Bool) (e : EndView) → Unmet e → Unmet (waited_in b e)
+  waits_on false e m = m
+  waits_on true e m = still clock e (waited_in true e) m (alike e (waited_in true e) refl refl refl refl refl) m.unopened (home_like e (waited_in true e) m.home refl refl refl refl refl)
+
   pub waits_ticked : (e : EndView) (now : ℕ) → Unmet e → now ≤ clock → Unmet (ticked e now)
   waits_ticked e now m le = go (has_association e.phase)
     where
@@ -96,8 +100,11 @@ module _ (clock : ℕ) where
 
       go : (b : Bool) → Unmet (if b then passed (at_moment e now) else at_moment e now)
       go false = there
-      go true = all_ring all_alarms (after_abandoning (at_moment e now) (expired e.sender (at_moment e now).moment))
-          (becomes_abandoned (at_moment e now) (expired e.sender (at_moment e now).moment) there (none_expires e m.blank (at_moment e now).moment))
+      go true =
+          let u = after_abandoning (at_moment e now) (expired e.sender (at_moment e now).moment) in
+          let r = rung_all all_alarms u in
+          waits_on (is_over_at r.moment r.delayed) r (all_ring all_alarms u
+          (becomes_abandoned (at_moment e now) (expired e.sender (at_moment e now).moment) there (none_expires e m.blank (at_moment e now).moment)))
 
   -- ---- a packet
 

@@ -1,4 +1,5 @@
 -- Laws of a sender's calls: what they abandon, that each has one result, and when the sender is drained.
+use Rattle.sctp_model.proofs.sender.ForwardEnd.{end_from, end_upto, end_fits, end_behind, is_end}
 use Rattle.std.proofs.Common.{◌≡◌, ℕ, zero, suc, max, take, drop, ◌+◌, ◌-◌, ◌<◌, ◌⊎◌, ◌==◌, ◌&&◌, true, false, Bool, List, [], ◌∷◌, length, Option, Some, None, inl, inr, refl, sym, subst, ap, arith, ◌∙◌}
 use Rattle.std.specs.Prelude.{slice_get}
 use Rattle.std.proofs.lemmas.Bool.{and_parts}
@@ -20,7 +21,7 @@ use Rattle.sctp_model.proofs.sender.ForwardLaws.{forward_between, forward_is_for
 use Rattle.sctp_model.proofs.sender.CountLaws.{is_named}
 use Rattle.sctp_model.proofs.sender.AbandonedLaws.{filling_abandons_none, sack_abandons_none, shutdown_abandons_none, abandons_by_ticket, expires_past_alone}
 use Rattle.sctp_safety.specs.Way.{with_sender}
-use Rattle.sctp_safety.specs.SenderCalls.{SameAbandoned, AbandonedOnlyAsked, EachViewHasOneFill, EachViewHasOnePoint, EachPlanHasOneForward, ForwardIsGiven, DrainedIsTold}
+use Rattle.sctp_safety.specs.SenderCalls.{SameAbandoned, AbandonedOnlyAsked, EachViewHasOneFill, EachViewHasOnePoint, EachPlanHasOneForward, ForwardIsGiven, ForwardEndIsGiven, DrainedIsTold}
 use Rattle.sctp_safety.proofs.moves.Facts.{Good}
 use Rattle.sctp_safety.proofs.plan.PlanLemmas.{assigned_below}
 use Rattle.sctp_safety.proofs.plan.InPart.{idle_closed, goes_on_with, not_closed}
@@ -146,7 +147,13 @@ each_plan_has_one_forward f plan c p =
     record { forward = x; forward_is = is; forward_one = λ y other. one_forward f plan c p y x other is }
 
 pub forward_is_given : ForwardIsGiven
-forward_is_given f v h = forward_is_forward f v h
+forward_is_given f v p h = forward_is_forward f v p h
+
+pub forward_end_is_given : ForwardEndIsGiven
+forward_end_is_given f limit v = (
+  record { from = end_from f limit v; upto = end_upto f limit v; fits = end_fits f limit v; behind = end_behind f limit v },
+  λ p is. is_end f limit v p is.from is.upto is.fits is.behind,
+)
 
 -- ---- drained
 

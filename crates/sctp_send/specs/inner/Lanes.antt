@@ -1,9 +1,12 @@
 -- The lanes that a FORWARD names, as they are found entry by entry: in the order of the list (RFC 3758, 3.2; RFC 8260, 2.3.1).
-use Rattle.std.specs.Prelude.{ℕ, suc, ◌+◌, ◌*◌, ◌≤◌, ◌==◌, ◌&&◌, nat_lt, max, if◌then◌else◌, List, [], ◌∷◌}
+use Rattle.std.specs.Prelude.{ℕ, suc, ◌+◌, ◌*◌, ◌≤◌, ◌==◌, ◌&&◌, nat_lt, max, if◌then◌else◌, List, [], ◌∷◌, map}
 use Rattle.sctp_model.specs.messages.Format.{Format, Kind, Ordered, Unordered, Lane, is_numbered}
+use Rattle.sctp_model.specs.messages.Framing.{forward_chunk}
 use Rattle.sctp_model.specs.messages.Plan.{Entry}
 use Rattle.sctp_model.specs.messages.Forward.{Skip}
 use Rattle.sctp_model.specs.sender.Entries.{entry_lane, entry_number}
+use Rattle.sctp_model.specs.sender.SentChunks.{skip_said}
+use Rattle.sctp_model.specs.wire.Chunk.{ChunkMeaning}
 use Rattle.sctp_send.specs.OutstandingFields.{lane_of}
 use Rattle.sctp_send.specs.declared.lanes.Passed.{Passed}
 
@@ -48,3 +51,7 @@ noted l n (x ∷ xs) = if nat_lt (lane_key x.lane) (lane_key l) then x ∷ noted
 -- an entry that is passed, of one of so many streams, is noted where its lane is numbered
 abbrev pub noted_entry : Format → (streams : ℕ) → Entry → List Skip → List Skip
 noted_entry f s e xs = if nat_lt (entry_lane e).stream s && is_numbered f (entry_lane e).kind then noted (entry_lane e) (entry_number e) xs else xs
+
+-- the FORWARD to a TSN that names these lanes (RFC 3758, 3.2; RFC 8260, 2.3.1)
+abbrev pub forward_of_lanes : Format → (cumulative : ℕ) → List Passed → ChunkMeaning
+forward_of_lanes f c xs = forward_chunk f (record { cumulative = c; skips = map (skip_said f) (map passed_meaning xs) })

@@ -1,85 +1,41 @@
-use Rattle.std.proofs.Common.{◌≡◌, ℕ, List, map, length, string_bytes, sym, ◌∙◌, subst, arith}
+use Rattle.std.proofs.Common.{◌≡◌, ◌≤◌, ◌<◌, ℕ, List, [], ◌∷◌, map, length, string_bytes, sym, ap, ◌∙◌, subst, arith}
 use Rattle.std.proofs.lemmas.List.{length-map}
-use Rattle.sctp_words.specs.Fields.{IsNumber}
-use Rattle.sctp_end.proofs.SetUpLemmas.{settings_not, how_many, faulty, settings, seven_of}
+use Rattle.sctp_model.specs.end.EndView.{Configuration}
+use Rattle.sctp_end.specs.SetUpWords.{Settles}
+use Rattle.sctp_end.proofs.SetUpLemmas.{too_few_settings, parts_of, configured, none_configured, five_of, pair_of, seven, same_words}
 use Rattle.sctp_end.proofs.set_up.read_config.Goals as goal
-
-pub returns-then-words-gt-SETTINGS : goal.returns-then-words-gt-SETTINGS
-returns-then-words-gt-SETTINGS c =
-    let size : length (map string_bytes c.args.words.now) ≡ length c.args.words.now = length-map c.args.words.now string_bytes in
-    λ x conf. omega (arith, size, how_many _ x conf)
 
 pub returns-in_default : goal.returns-in_default
 returns-in_default c =
     let size : length (map string_bytes c.args.words.now) ≡ length c.args.words.now = length-map c.args.words.now string_bytes in
-    λ x conf. omega (arith, size, how_many _ x conf, c.in_default.len_below)
+    too_few_settings _ (omega (arith, size, c.in_default.len_below))
 
-pub returns-in_err-limit : goal.returns-in_err-limit
-returns-in_err-limit c =
-    let words_are = seven_of string_bytes c.args.words.now c.limit-item.result c.fragment-item.result c.buffer-item.result c.streams-item.result c.mode-item.result c.own_port-item.result c.peer_port-item.result
-    (omega (arith, c.in-len7-up.len_at_least)) c.limit-item.is c.fragment-item.is c.buffer-item.is c.streams-item.is c.mode-item.is c.own_port-item.is c.peer_port-item.is in
-    rw c.from_residual.ensures (settings_not _ _ _ _ _ _ _ _ words_are (λ vs says fine. c.in_err-limit.ensures vs.0 (subst (λ (w : List ℕ). IsNumber 16 w vs.0) (sym c.as_bytes.ensures.value) says.limit)))
+pub returns-then-rest-gt-PORTS : goal.returns-then-rest-gt-PORTS
+returns-then-rest-gt-PORTS c = λ x conf.
+    let are = five_of string_bytes c.args.words.now c.limit-item.result c.fragment-item.result c.buffer-item.result c.streams-item.result c.mode-item.result c.in-len5-up.len_at_least c.limit-item.is c.fragment-item.is c.buffer-item.is c.streams-item.is c.mode-item.is in
+    let parts = parts_of _ _ _ _ _ _ _ _ _ _ _ x are c.split_delay-delay.ensures c.split_standard_closing-standard_closing.ensures conf in
+    let size = length-map c.split_standard_closing-standard_closing.result.1.now string_bytes in
+    omega (arith, size, ap length parts.left_is, c.if-rest-gt-PORTS.true)
 
-pub returns-in_err-fragment : goal.returns-in_err-fragment
-returns-in_err-fragment c =
-    let words_are = seven_of string_bytes c.args.words.now c.limit-item.result c.fragment-item.result c.buffer-item.result c.streams-item.result c.mode-item.result c.own_port-item.result c.peer_port-item.result
-    (omega (arith, c.in-len7-up.len_at_least)) c.limit-item.is c.fragment-item.is c.buffer-item.is c.streams-item.is c.mode-item.is c.own_port-item.is c.peer_port-item.is in
-    rw c.from_residual-in_err-fragment.ensures (settings_not _ _ _ _ _ _ _ _ words_are (λ vs says fine. c.in_err-fragment.ensures vs.1.0 (subst (λ (w : List ℕ). IsNumber 16 w vs.1.0) (sym c.as_bytes-2.ensures.value) says.fragment)))
+pub returns-in_default-rest : goal.returns-in_default-rest
+returns-in_default-rest c = λ x conf.
+    let are = five_of string_bytes c.args.words.now c.limit-item.result c.fragment-item.result c.buffer-item.result c.streams-item.result c.mode-item.result c.in-len5-up.len_at_least c.limit-item.is c.fragment-item.is c.buffer-item.is c.streams-item.is c.mode-item.is in
+    let parts = parts_of _ _ _ _ _ _ _ _ _ _ _ x are c.split_delay-delay.ensures c.split_standard_closing-standard_closing.ensures conf in
+    let size = length-map c.split_standard_closing-standard_closing.result.1.now string_bytes in
+    omega (arith, size, ap length parts.left_is, c.in_default-rest.len_below)
 
-pub returns-in_err-buffer : goal.returns-in_err-buffer
-returns-in_err-buffer c =
-    let words_are = seven_of string_bytes c.args.words.now c.limit-item.result c.fragment-item.result c.buffer-item.result c.streams-item.result c.mode-item.result c.own_port-item.result c.peer_port-item.result
-    (omega (arith, c.in-len7-up.len_at_least)) c.limit-item.is c.fragment-item.is c.buffer-item.is c.streams-item.is c.mode-item.is c.own_port-item.is c.peer_port-item.is in
-    rw c.from_residual-in_err-buffer.ensures (settings_not _ _ _ _ _ _ _ _ words_are (λ vs says fine. c.in_err-buffer.ensures vs.1.1.0 (subst (λ (w : List ℕ). IsNumber 32 w vs.1.1.0) (sym c.as_bytes-3.ensures.value) says.buffer)))
+pub returns-in-Some : goal.returns-in-Some
+returns-in-Some c =
+    let are = five_of string_bytes c.args.words.now c.limit-item.result c.fragment-item.result c.buffer-item.result c.streams-item.result c.mode-item.result c.in-len5-up.len_at_least c.limit-item.is c.fragment-item.is c.buffer-item.is c.streams-item.is c.mode-item.is in
+    let ports = pair_of string_bytes c.split_standard_closing-standard_closing.result.1.now c.own_port-item.result c.peer_port-item.result (omega (arith, c.if-rest-gt-PORTS.false, c.in-len2-up.len_at_least)) c.own_port-item.is c.peer_port-item.is in
+    let words = same_words _ _ _ _ _ _ _ _ _ _ _ _ _ _ c.as_bytes.ensures.value c.as_bytes-2.ensures.value c.as_bytes-3.ensures.value c.as_bytes-4.ensures.value c.as_bytes-5.ensures.value c.as_bytes-6.ensures.value c.as_bytes-7.ensures.value in
+    configured _ _ _ _ _ _ _ _ _ _ _ _ _ _ _ are c.split_delay-delay.ensures c.split_standard_closing-standard_closing.ensures ports
+    (subst (λ (ws : List (List ℕ)). Settles ws c.in-Some.config) (sym words) c.in-Some.ensures.exact) c.with_options.ensures
 
-pub returns-in_err-streams : goal.returns-in_err-streams
-returns-in_err-streams c =
-    let words_are = seven_of string_bytes c.args.words.now c.limit-item.result c.fragment-item.result c.buffer-item.result c.streams-item.result c.mode-item.result c.own_port-item.result c.peer_port-item.result
-    (omega (arith, c.in-len7-up.len_at_least)) c.limit-item.is c.fragment-item.is c.buffer-item.is c.streams-item.is c.mode-item.is c.own_port-item.is c.peer_port-item.is in
-    rw c.from_residual-in_err-streams.ensures (settings_not _ _ _ _ _ _ _ _ words_are (λ vs says fine. c.in_err-streams.ensures vs.1.1.1.0 (subst (λ (w : List ℕ). IsNumber 16 w vs.1.1.1.0) (sym c.as_bytes-4.ensures.value) says.streams)))
-
-pub returns-in_err-mode : goal.returns-in_err-mode
-returns-in_err-mode c =
-    let words_are = seven_of string_bytes c.args.words.now c.limit-item.result c.fragment-item.result c.buffer-item.result c.streams-item.result c.mode-item.result c.own_port-item.result c.peer_port-item.result
-    (omega (arith, c.in-len7-up.len_at_least)) c.limit-item.is c.fragment-item.is c.buffer-item.is c.streams-item.is c.mode-item.is c.own_port-item.is c.peer_port-item.is in
-    rw c.from_residual-in_err-mode.ensures (settings_not _ _ _ _ _ _ _ _ words_are (λ vs says fine. c.in_err-mode.ensures vs.1.1.1.1.0 (c.as_bytes-5.ensures.value ∙ says.mode)))
-
-pub returns-in_err-own_port : goal.returns-in_err-own_port
-returns-in_err-own_port c =
-    let words_are = seven_of string_bytes c.args.words.now c.limit-item.result c.fragment-item.result c.buffer-item.result c.streams-item.result c.mode-item.result c.own_port-item.result c.peer_port-item.result
-    (omega (arith, c.in-len7-up.len_at_least)) c.limit-item.is c.fragment-item.is c.buffer-item.is c.streams-item.is c.mode-item.is c.own_port-item.is c.peer_port-item.is in
-    rw c.from_residual-in_err-own_port.ensures (settings_not _ _ _ _ _ _ _ _ words_are (λ vs says fine. c.in_err-own_port.ensures vs.1.1.1.1.1.0 (subst (λ (w : List ℕ). IsNumber 16 w vs.1.1.1.1.1.0) (sym c.as_bytes-6.ensures.value) says.own_port)))
-
-pub returns-in_err-peer_port : goal.returns-in_err-peer_port
-returns-in_err-peer_port c =
-    let words_are = seven_of string_bytes c.args.words.now c.limit-item.result c.fragment-item.result c.buffer-item.result c.streams-item.result c.mode-item.result c.own_port-item.result c.peer_port-item.result
-    (omega (arith, c.in-len7-up.len_at_least)) c.limit-item.is c.fragment-item.is c.buffer-item.is c.streams-item.is c.mode-item.is c.own_port-item.is c.peer_port-item.is in
-    rw c.from_residual-in_err-peer_port.ensures (settings_not _ _ _ _ _ _ _ _ words_are (λ vs says fine. c.in_err-peer_port.ensures vs.1.1.1.1.1.1.0 (subst (λ (w : List ℕ). IsNumber 16 w vs.1.1.1.1.1.1.0) (sym c.as_bytes-7.ensures.value) says.peer_port)))
-
-pub returns-in-Ok : goal.returns-in-Ok
-returns-in-Ok c =
-    let words_are = seven_of string_bytes c.args.words.now c.limit-item.result c.fragment-item.result c.buffer-item.result c.streams-item.result c.mode-item.result c.own_port-item.result c.peer_port-item.result
-    (omega (arith, c.in-len7-up.len_at_least)) c.limit-item.is c.fragment-item.is c.buffer-item.is c.streams-item.is c.mode-item.is c.own_port-item.is c.peer_port-item.is in
-    let config = settings _ _ _ _ _ _ _ _ c.in_ok-limit.limit c.in_ok-fragment.fragment c.in_ok-buffer.buffer c.in_ok-streams.streams c.in_ok-own_port.own_port c.in_ok-peer_port.peer_port c.in_ok-mode.mode c.in-Ok.config words_are
-    (subst (λ (w : List ℕ). IsNumber 16 w c.in_ok-limit.limit) c.as_bytes.ensures.value c.in_ok-limit.ensures)
-    (subst (λ (w : List ℕ). IsNumber 16 w c.in_ok-fragment.fragment) c.as_bytes-2.ensures.value c.in_ok-fragment.ensures)
-    (subst (λ (w : List ℕ). IsNumber 32 w c.in_ok-buffer.buffer) c.as_bytes-3.ensures.value c.in_ok-buffer.ensures)
-    (subst (λ (w : List ℕ). IsNumber 16 w c.in_ok-streams.streams) c.as_bytes-4.ensures.value c.in_ok-streams.ensures)
-    (sym c.as_bytes-5.ensures.value ∙ c.in_ok-mode.ensures)
-    (subst (λ (w : List ℕ). IsNumber 16 w c.in_ok-own_port.own_port) c.as_bytes-6.ensures.value c.in_ok-own_port.ensures)
-    (subst (λ (w : List ℕ). IsNumber 16 w c.in_ok-peer_port.peer_port) c.as_bytes-7.ensures.value c.in_ok-peer_port.ensures)
-    c.in-Ok.ensures.exact.0 c.in-Ok.ensures.exact.1 in
-    rw c.asked.ensures config
-
-pub returns-in-Err : goal.returns-in-Err
-returns-in-Err c =
-    let words_are = seven_of string_bytes c.args.words.now c.limit-item.result c.fragment-item.result c.buffer-item.result c.streams-item.result c.mode-item.result c.own_port-item.result c.peer_port-item.result
-    (omega (arith, c.in-len7-up.len_at_least)) c.limit-item.is c.fragment-item.is c.buffer-item.is c.streams-item.is c.mode-item.is c.own_port-item.is c.peer_port-item.is in
-    settings_not _ _ _ _ _ _ _ _ words_are (λ vs says fine. faulty c.words_say_one_value.ensures.numbers _ _ _ _ _ _ _ c.in_ok-limit.limit c.in_ok-fragment.fragment c.in_ok-buffer.buffer c.in_ok-streams.streams c.in_ok-own_port.own_port c.in_ok-peer_port.peer_port _
-    (subst (λ (w : List ℕ). IsNumber 16 w c.in_ok-limit.limit) c.as_bytes.ensures.value c.in_ok-limit.ensures)
-    (subst (λ (w : List ℕ). IsNumber 16 w c.in_ok-fragment.fragment) c.as_bytes-2.ensures.value c.in_ok-fragment.ensures)
-    (subst (λ (w : List ℕ). IsNumber 32 w c.in_ok-buffer.buffer) c.as_bytes-3.ensures.value c.in_ok-buffer.ensures)
-    (subst (λ (w : List ℕ). IsNumber 16 w c.in_ok-streams.streams) c.as_bytes-4.ensures.value c.in_ok-streams.ensures)
-    (subst (λ (w : List ℕ). IsNumber 16 w c.in_ok-own_port.own_port) c.as_bytes-6.ensures.value c.in_ok-own_port.ensures)
-    (subst (λ (w : List ℕ). IsNumber 16 w c.in_ok-peer_port.peer_port) c.as_bytes-7.ensures.value c.in_ok-peer_port.ensures)
-    c.in-Err.ensures.exact vs says fine)
+pub returns-in-None : goal.returns-in-None
+returns-in-None c =
+    let are = five_of string_bytes c.args.words.now c.limit-item.result c.fragment-item.result c.buffer-item.result c.streams-item.result c.mode-item.result c.in-len5-up.len_at_least c.limit-item.is c.fragment-item.is c.buffer-item.is c.streams-item.is c.mode-item.is in
+    let ports = pair_of string_bytes c.split_standard_closing-standard_closing.result.1.now c.own_port-item.result c.peer_port-item.result (omega (arith, c.if-rest-gt-PORTS.false, c.in-len2-up.len_at_least)) c.own_port-item.is c.peer_port-item.is in
+    let words = same_words _ _ _ _ _ _ _ _ _ _ _ _ _ _ c.as_bytes.ensures.value c.as_bytes-2.ensures.value c.as_bytes-3.ensures.value c.as_bytes-4.ensures.value c.as_bytes-5.ensures.value c.as_bytes-6.ensures.value c.as_bytes-7.ensures.value in
+    none_configured _ _ _ _ _ _ _ _ _ _ _ _ _ are c.split_delay-delay.ensures c.split_standard_closing-standard_closing.ensures ports
+    (subst (λ (ws : List (List ℕ)). (x : Configuration) → Settles ws x → ⊥) (sym words) c.in-None.ensures.exact)

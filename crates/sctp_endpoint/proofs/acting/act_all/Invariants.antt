@@ -1,4 +1,4 @@
-use Rattle.std.proofs.Common.{◌≡◌, Bool, List, ◌++◌}
+use Rattle.std.proofs.Common.{◌≡◌, List, ◌++◌}
 use Rattle.sctp_model.specs.wire.Chunk.{ChunkMeaning}
 use Rattle.sctp_model.specs.end.EndView.{EndView}
 use Rattle.sctp_association.specs.MachineStands.{MachineStands}
@@ -9,6 +9,6 @@ use Rattle.sctp_endpoint.proofs.acting.act_all.Given as goal
 -- whatever acts from here on, acts behind what was done
 abbrev pub invariant-loop-chunk : goal.invariant-loop-chunk
 invariant-loop-chunk l =
-    (v : EndView) (b : Bool) → MachineStands l.fn.machine v
-    → (done : List ChunkMeaning) × (t : EndView) × (c : Bool) × (l.fn.chunks ≡ done ++ l.chunk-iterator) × MachineStands l.machine t
-    × ActsBehind l.tag v (notes_meaning l.fn.notes b) done t (notes_meaning l.notes c)
+    (v : EndView) → MachineStands l.fn.machine v
+    → (done : List ChunkMeaning) × (t : EndView) × (l.fn.chunks ≡ done ++ l.chunk-iterator) × MachineStands l.machine t
+    × ActsBehind l.tag v (notes_meaning l.fn.notes) done t (notes_meaning l.notes)

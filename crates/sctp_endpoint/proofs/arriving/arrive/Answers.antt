@@ -1,4 +1,4 @@
-use Rattle.std.proofs.Common.{false, refl, sym, ◌∙◌}
+use Rattle.std.proofs.Common.{refl, sym, ◌∙◌}
 use Rattle.sctp_model.specs.end.Clock.{at_moment}
 use Rattle.sctp_model.specs.end.PeerFaults.{PORTS, TAG}
 use Rattle.sctp_model.specs.end.Strays as model
@@ -23,7 +23,7 @@ pub returns-then-has_association : goal.returns-then-has_association
 returns-then-has_association c = λ e now stands.
     arrived_heard e now _ _
     (record { ports = sym (c.has_ports.ensures _ stands) ∙ c.if-not-has_ports.false; tag = sym (rw c.again.ensures at c.passes.ensures _ stands) ∙ c.if-not-passes.false })
-    (sym (c.has_association.ensures _ stands) ∙ c.if-has_association.true) _ _ _ c.none.ensures (c.hear.ensures _ false stands)
+    (sym (c.has_association.ensures _ stands) ∙ c.if-has_association.true) _ _ _ c.none.ensures (c.hear.ensures _ stands)
 
 pub returns : goal.returns
 returns c = λ e now stands.

@@ -1,4 +1,3 @@
-use Rattle.std.proofs.Common.{false}
 use Rattle.std.proofs.lemmas.Result.{err_from_is_err_and}
 use Rattle.sctp_model.specs.end.Clock.{at_moment}
 use Rattle.sctp_model.specs.end.Opening.{begun}
@@ -16,7 +15,7 @@ returns-in-Told c = λ e now stands for has.
 pub returns-in-Begun : goal.returns-in-Begun
 returns-in-Begun c = λ e now stands for has.
     let s = rw c.in-Begun.is at c.in_ok-told.ensures.step _ stands in
-    arrived_begun e now _ _ for has _ _ s.0 _ _ s.1 c.of_cookie.ensures c.behind_first.ensures (c.hear.ensures (begun s.0 (at_moment e now)) false s.2)
+    arrived_begun e now _ _ for has _ _ s.0 _ _ s.1 c.of_cookie.ensures c.behind_first.ensures (c.hear.ensures (begun s.0 (at_moment e now)) s.2)
 
 pub returns-in_err-told : goal.returns-in_err-told
 returns-in_err-told c = λ e now stands for has.

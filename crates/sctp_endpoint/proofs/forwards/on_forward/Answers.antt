@@ -48,7 +48,7 @@ returns-in-OutOfDate-clause-step c = λ v stands.
     let may = sym (c.may_forward.ensures v stands) ∙ c.if-not-may_forward.false in
     let took = rw c.in-OutOfDate.is at c.in_ok-hear_forward.ensures.step v _ _ stands phase in
     let came : EndView = record v { receiver = took.0 } in
-    (came, true, IsOld _ _ took.0 phase takes may took.1, took.2)
+    rw c.acted.ensures (came, IsOld _ _ took.0 phase takes may took.1, took.2)
 
 pub returns-in-Moved-clause-step : goal.returns-in-Moved-clause-step
 returns-in-Moved-clause-step c = λ v stands.
@@ -57,4 +57,4 @@ returns-in-Moved-clause-step c = λ v stands.
     let may = sym (c.may_forward.ensures v stands) ∙ c.if-not-may_forward.false in
     let took = rw c.in-Moved.is at c.in_ok-hear_forward.ensures.step v _ _ stands phase in
     let came : EndView = record v { receiver = took.0 } in
-    (came, true, ForwardComes _ _ took.0 phase takes may took.1, took.2)
+    rw c.acted-in-Moved.ensures (came, ForwardComes _ _ took.0 phase takes may took.1, took.2)

@@ -1,11 +1,11 @@
-use Rattle.std.proofs.Common.{◌≡◌, ◌∙◌, ◌<◌, true, false, length, sym, arith}
+use Rattle.std.proofs.Common.{◌≡◌, ◌∙◌, ◌<◌, true, false, length, refl, sym, arith}
 use Rattle.std.proofs.lemmas.Grind.{common_steps}
 use Rattle.sctp_model.specs.end.EndView.{AbortedHere, EndView, format_for, format_of}
 use Rattle.sctp_model.specs.end.Clock.{closed}
 use Rattle.sctp_model.specs.end.Closing.{takes_data}
 use Rattle.sctp_model.specs.end.PeerFaults.{packet_to, abort_for, no_user_data, violation}
 use Rattle.sctp_model.specs.end.Reports.{with_causes}
-use Rattle.sctp_model.specs.end.Acting.{PieceNotHeard, PieceEmpty, WrongFormat, PieceComes, same_format, piece_causes, asks_at_once}
+use Rattle.sctp_model.specs.end.Acting.{PieceNotHeard, PieceEmpty, WrongFormat, PieceComes, same_format, piece_causes}
 use Rattle.sctp_wire.specs.ChunkTree.{piece_meaning}
 use Rattle.sctp_recv.specs.AnswerOf.{answer_of}
 use Rattle.sctp_association.specs.StageMeans.{tags_meaning, stage_meaning}
@@ -51,7 +51,7 @@ returns-clause-step c = λ v stands.
     let some : 0 < length c.args.piece.now.bytes.now = grind (arith, common_steps) in
     let same : same_format (format_for c.args.interleaved) (format_of v) ≡ true
     = rw (← c.is_interleaved.ensures v stands) (formats_same c.is_interleaved.result c.args.interleaved (grind (arith, common_steps))) in
-    let took = c.in_ok-hear_piece.ensures.step v t g stands phase in
-    let a = answer_of c.in_ok-hear_piece.field-0 in
+    let took = c.in_ok-answer.ensures.step v t g stands phase in
+    let a = answer_of c.in_ok-answer.answer in
     let came : EndView = record v { receiver = took.0 } in
-    (with_causes (piece_causes v p a) came, asks_at_once p a, PieceComes t g a took.0 phase takes some same took.1, took.2)
+    (with_causes (piece_causes v p a) came, rw (c.asks_at_once.ensures p refl) (PieceComes t g a took.0 phase takes some same took.1), took.2)

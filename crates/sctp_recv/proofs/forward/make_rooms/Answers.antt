@@ -6,24 +6,24 @@ use Rattle.sctp_recv.proofs.StreamLemmas.{set_unchanged}
 use Rattle.sctp_recv.proofs.FiledLemmas.{filed_same, room_next, room_past}
 use Rattle.sctp_recv.proofs.TouchedLemmas.{got_at}
 use Rattle.sctp_recv.proofs.forward.make_rooms.Goals as goal
-use Rattle.sctp_recv.proofs.forward.make_rooms.Goals.{then-place-len+in_ok-make_room, else-place-len}
+use Rattle.sctp_recv.proofs.forward.make_rooms.Goals.{then-place-len+in_ok-make_room_on, else-place-len}
 
 pub loop-at-init : goal.loop-at-init
 loop-at-init g c = record { same = refl; size = refl; filed = λ kept was. was; room = λ i s x low at_i got. absurd (omega (arith, low)) }
 
-pub returns-in_err-make_room-clause-same : goal.returns-in_err-make_room-clause-same
-returns-in_err-make_room-clause-same g c =
+pub returns-in_err-make_room_on-clause-same : goal.returns-in_err-make_room_on-clause-same
+returns-in_err-make_room_on-clause-same g c =
     let items = c.loop-at.streams.items in
     let low : c.from-place.result < length items = omega (arith, c.if-place-len.true, c.len.ensures, c.loop-at.streams.ok) in
-    set_unchanged items c.from-place.result c.make_room.new.inbound c.index_mut.result.now low c.index_mut.ensures.value c.make_room.ensures.same ∙ c.loop-at.invariant.same
+    set_unchanged items c.from-place.result c.make_room_on.new.stream c.index_mut.result.now low c.index_mut.ensures.value c.make_room_on.ensures.same ∙ c.loop-at.invariant.same
 
-pub returns-in_err-make_room-clause-filed : goal.returns-in_err-make_room-clause-filed
-returns-in_err-make_room-clause-filed g c = λ kept was.
+pub returns-in_err-make_room_on-clause-filed : goal.returns-in_err-make_room_on-clause-filed
+returns-in_err-make_room_on-clause-filed g c = λ kept was.
     let items = c.loop-at.streams.items in
     let k = c.from-place.result in
     let low : k < length items = omega (arith, c.if-place-len.true, c.len.ensures, c.loop-at.streams.ok) in
     let got = slice_get_read items (length items) k c.index_mut.result.now refl low c.index_mut.ensures.value in
-    filed_same g.F.Framing.format kept items k c.index_mut.result.now c.make_room.new.inbound (c.loop-at.invariant.filed kept was) low got c.make_room.ensures.chunks.0 c.make_room.ensures.chunks.1
+    filed_same g.F.Framing.format kept items k c.index_mut.result.now c.make_room_on.new.stream (c.loop-at.invariant.filed kept was) low got c.make_room_on.ensures.chunks
 
 pub loop-at-preserved : goal.loop-at-preserved
 loop-at-preserved g c =
@@ -33,16 +33,16 @@ loop-at-preserved g c =
     let inv = c.loop-at.invariant in
     let here : slice_get touched c.loop-at.at ≡ Some k = got_at touched c.loop-at.at k 0 c.loop-at-test.true c.from-place.ensures in
     elim c.if-place-len.branch [
-      | then-place-len+in_ok-make_room w ↦
+      | then-place-len+in_ok-make_room_on w ↦
           let x = w.index_mut.result.now in
-          let y = w.make_room.new.inbound in
+          let y = w.make_room_on.new.stream in
           let low : k < length items = omega (arith, w.if-place-len.true, c.len.ensures, c.loop-at.streams.ok) in
           let got = slice_get_read items (length items) k x refl low w.index_mut.ensures.value in
           rw w.streams-is (record {
-            same = set_unchanged items k y x low w.index_mut.ensures.value w.make_room.ensures.same ∙ inv.same;
+            same = set_unchanged items k y x low w.index_mut.ensures.value w.make_room_on.ensures.same ∙ inv.same;
             size = length-set items k y ∙ inv.size;
-            filed = λ kept was. filed_same g.F.Framing.format kept items k x y (inv.filed kept was) low got w.make_room.ensures.chunks.0 w.make_room.ensures.chunks.1;
-            room = room_next touched c.loop-at.at k items y inv.room here low w.in_ok-make_room.ensures.room;
+            filed = λ kept was. filed_same g.F.Framing.format kept items k x y (inv.filed kept was) low got w.make_room_on.ensures.chunks;
+            room = room_next touched c.loop-at.at k items y inv.room here low w.in_ok-make_room_on.ensures.room;
           })
       | else-place-len w ↦
           let past : length items ≤ k = omega (arith, w.if-place-len.false, c.len.ensures, c.loop-at.streams.ok) in

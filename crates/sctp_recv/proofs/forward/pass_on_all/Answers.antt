@@ -1,11 +1,12 @@
-use Rattle.std.proofs.Common.{◌≡◌, ℕ, suc, ◌+◌, ◌<◌, length, map, set, Some, inl, inr, refl, sym, ◌∙◌, subst, arith}
+use Rattle.std.proofs.Common.{◌≡◌, ℕ, suc, ◌+◌, ◌<◌, length, map, set, true, false, Some, inl, inr, refl, sym, ◌∙◌, subst, arith}
 use Rattle.std.specs.Prelude.{slice_get, slice_index_or}
 use Rattle.std.proofs.lemmas.List.{length-set}
 use Rattle.std.proofs.lemmas.Option.{slice_get_read}
 use Rattle.sctp_model.specs.messages.Format.{ordered_lane, unordered_lane}
 use Rattle.sctp_model.specs.receiver.Receiving.{handed_ordered}
 use Rattle.sctp_model.proofs.receiver.OfLane.{of_says}
-use Rattle.sctp_chains.specs.StandsFor as lane
+use Rattle.sctp_recv.specs.Fields.{inside}
+use Rattle.sctp_recv.specs.Filed.{Keeps}
 use Rattle.sctp_model.specs.receiver.KeptOfLane.{of_lane}
 use Rattle.sctp_wire.specs.ChunkTree.{skip_meaning}
 use Rattle.sctp_recv.specs.inner.Forwarding.{PassesOn, AreEntriesOf}
@@ -39,7 +40,7 @@ loop-at-preserved g c =
     elim c.if-next-place.branch [
       | then-next-place+then-place-len w ↦
           let x = w.index_mut.result.now in
-          let y = w.pass_on-left.new.inbound in
+          let y = w.pass_on-left.new.known in
           let low : k < length items = omega (arith, w.if-place-len.true, w.len.ensures, c.loop-at.streams.ok) in
           let got_now : slice_get items k ≡ Some x = slice_get_read items (length items) k x refl low w.index_mut.ensures.value in
           rw (w.streams-is, w.left-is, w.next-is) (record {
@@ -54,11 +55,11 @@ loop-at-preserved g c =
                 let filed = h.filed.each k x got in
                 let own = map skip_meaning w.of_stream-own.result.now in
                 let its = moved k xs (map skip_meaning c.args.entries.now) own entries (subst (λ (q : ℕ). AreEntriesOf q (map skip_meaning c.args.entries.now) own) same (w.of_stream-own.ensures rise)) in
-                let p = passes_own f k c.args.jump xs own (of_lane (ordered_lane k) v.kept) (of_lane (unordered_lane k) v.kept) x y c.loop-at.left w.pass_on-left.result its
-                (subst (λ (q : ℕ). PassesOn f q c.args.jump own (of_lane (ordered_lane q) v.kept) (of_lane (unordered_lane q) v.kept) x y c.loop-at.left w.pass_on-left.result) same
+                let p = passes_own f k c.args.jump xs own (of_lane (ordered_lane k) v.kept) (of_lane (unordered_lane k) v.kept) (inside x) (inside y) c.loop-at.left w.pass_on-left.result its
+                (subst (λ (q : ℕ). PassesOn f q c.args.jump own (of_lane (ordered_lane q) v.kept) (of_lane (unordered_lane q) v.kept) (inside x) (inside y) c.loop-at.left w.pass_on-left.result) same
                 (w.pass_on-left.ensures (of_lane (ordered_lane stream) v.kept) (of_lane (unordered_lane stream) v.kept)
-                (subst (λ (q : ℕ). lane.StandsFor f x.ordered (ordered_lane q) (of_lane (ordered_lane q) v.kept)) (sym same) filed.ordered)
-                (subst (λ (q : ℕ). lane.StandsFor f x.unordered (unordered_lane q) (of_lane (unordered_lane q) v.kept)) (sym same) filed.unordered)
+                (subst (λ (q : ℕ). Keeps f (inside x) false (ordered_lane q) (of_lane (ordered_lane q) v.kept)) (sym same) filed.ordered)
+                (subst (λ (q : ℕ). Keeps f (inside x) true (unordered_lane q) (of_lane (unordered_lane q) v.kept)) (sym same) filed.unordered)
                 (λ z n has number. h.counted z n (of_says (ordered_lane stream) v.kept z has).0 number) (room i k x c.loop-at-test.true here got))) in
                 let next = upto_next f c.args.jump xs v r olds items c.args.held c.loop-at.left k n.0 h n.1 x (omega (arith, low, inv.size)) inv.size got y w.pass_on-left.result p in
                 let at_next : suc k ≡ k + 1 = omega arith in

@@ -5,7 +5,8 @@ use Rattle.sctp_wire.specs.ChunkTree.{piece_meaning}
 use Rattle.sctp_chains.specs.StandsFor as lane
 use Rattle.sctp_chains.specs.StandsFor.{IsNew}
 use Rattle.sctp_chains.specs.Cells.{counted}
-use Rattle.sctp_recv.specs.inner.Giving.{GivesBy, lane_in}
+use Rattle.sctp_recv.specs.inner.Giving.{GivesBy}
+use Rattle.sctp_recv.specs.Filed.{lane_in}
 use Rattle.sctp_recv.proofs.give.keep_in.Goals as goal
 
 pub returns-then-unordered-clause-given : goal.returns-then-unordered-clause-given

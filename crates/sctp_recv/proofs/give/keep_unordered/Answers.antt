@@ -6,7 +6,7 @@ use Rattle.sctp_model.specs.messages.Whole.{text_of}
 use Rattle.sctp_model.proofs.receiver.RowFacts.{row_same}
 use Rattle.sctp_wire.specs.ChunkTree.{piece_meaning}
 use Rattle.sctp_chains.specs.Cells.{counted}
-use Rattle.sctp_recv.specs.Fields.{stream_of}
+use Rattle.sctp_recv.specs.Fields.{inbound_of}
 use Rattle.sctp_recv.specs.HandedOf.{handed_of}
 use Rattle.sctp_recv.specs.inner.Giving.{sized}
 use Rattle.sctp_recv.proofs.ResultLemmas.{if_err}
@@ -26,7 +26,7 @@ returns-in-Some-clause-given g c = λ kept stands new kind.
     ∙ ap (λ (h : Handed). map handed_of start.waiting.items ++ h ∷ []) made in
     let bytes : c.wait.result ≡ sized (length (text_of (t.head ∷ t.rest))) = c.wait.ensures.bytes ∙ ap (λ (h : Handed). sized (length h.bytes)) made in
     record {
-      gives = inl (record { head = t.head; rest = t.rest; whole = t.whole; left = t.left; stream = λ i. record (stream_of start) { waiting = waits i }; bytes = bytes });
+      gives = inl (record { head = t.head; rest = t.rest; whole = t.whole; left = t.left; stream = λ i. record (inbound_of start) { waiting = waits i }; bytes = bytes });
       others = λ m ks is. is;
     }
 
@@ -37,18 +37,18 @@ returns-in-None-clause-given g c = λ kept stands new kind.
     let added = c.in_ok-add.ensures.kept l kept stands new in
     let t = c.in-None.ensures.taken l (x ∷ kept) added (inl refl) in
     record {
-      gives = inr (record { none = t.0; left = t.1; stream = λ i. record (stream_of c.args.inbound.now) { waiting = c.make_one.ensures.same i }; bytes = refl });
+      gives = inr (record { none = t.0; left = t.1; stream = λ i. record (inbound_of c.args.inbound.now) { waiting = c.make_one.ensures.same i }; bytes = refl });
       others = λ m ks is. is;
     }
 
 pub returns-in_err-make_one-clause-refused : goal.returns-in_err-make_one-clause-refused
 returns-in_err-make_one-clause-refused g c = if_err c.from_residual.result (
-  (λ i. record (stream_of c.args.inbound.now) { waiting = c.make_one.ensures.same i }),
+  (λ i. record (inbound_of c.args.inbound.now) { waiting = c.make_one.ensures.same i }),
   ((λ l kept stands. stands), (λ l kept stands. stands)),
 )
 
 pub returns-in_err-add-clause-refused : goal.returns-in_err-add-clause-refused
 returns-in_err-add-clause-refused g c = if_err c.from_residual-in_err-add.result (
-  (λ i. record (stream_of c.args.inbound.now) { waiting = c.make_one.ensures.same i }),
+  (λ i. record (inbound_of c.args.inbound.now) { waiting = c.make_one.ensures.same i }),
   ((λ l kept stands. stands), (λ l kept stands. c.in_err-add.ensures.refused l kept stands)),
 )

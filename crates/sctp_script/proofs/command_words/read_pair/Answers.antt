@@ -1,18 +1,15 @@
-use Rattle.std.proofs.Common.{ap}
-use Rattle.sctp_script.specs.Grammar.{Pairs}
-use Rattle.sctp_script.proofs.LineLemmas.{pair_words, says_nothing}
+use Rattle.std.proofs.Common.{List, ℕ, subst}
+use Rattle.sctp_script.specs.Grammar.{LineMeaning, Pairs, Spells}
+use Rattle.sctp_script.specs.declared.command.Command.TheVariants as command
+use Rattle.sctp_script.proofs.LineLemmas.{five_words}
 use Rattle.sctp_script.proofs.command_words.read_pair.Goals as goal
 
-pub returns-in-Ok : goal.returns-in-Ok
-returns-in-Ok c =
-    let made = c.in-Ok.ensures in
-    let said = pair_words _ _ _ _ _ _ _ _ _ _ _ _ _ _ _ _ c.requires c.next_word.ensures c.next_word-2.ensures c.next_word-3.ensures
-    c.next_word-4.ensures c.next_word-5.ensures c.in_ok-limit.ensures c.in_ok-fragment.ensures c.in_ok-buffer.ensures c.in_ok-streams.ensures c.in_ok-mode.ensures in
-    (_, said, made.1, ap Pairs made.0)
+pub returns-in-Some : goal.returns-in-Some
+returns-in-Some c =
+    let are = five_words _ _ _ _ _ _ _ _ _ _ _ c.requires c.next_word-limit.ensures c.next_word-fragment.ensures c.next_word-buffer.ensures c.next_word-streams.ensures c.next_word-mode.ensures in
+    subst (λ (words : List (List ℕ)). Spells command.Pair words (Pairs c.in-Some.config.a)) are c.in-Some.ensures
 
-pub returns-in-Err : goal.returns-in-Err
-returns-in-Err c =
-    let said = pair_words _ _ _ _ _ _ _ _ _ _ _ _ _ _ _ _ c.requires c.next_word.ensures c.next_word-2.ensures c.next_word-3.ensures
-    c.next_word-4.ensures c.next_word-5.ensures c.in_ok-limit.ensures c.in_ok-fragment.ensures c.in_ok-buffer.ensures c.in_ok-streams.ensures c.in_ok-mode.ensures in
-    let say = c.words_say_one_value.ensures in
-    says_nothing (record { numbers = say.numbers; bytes = say.bytes }) _ _ _ _ _ _ _ said c.in-Err.ensures
+pub returns-in-None : goal.returns-in-None
+returns-in-None c =
+    let are = five_words _ _ _ _ _ _ _ _ _ _ _ c.requires c.next_word-limit.ensures c.next_word-fragment.ensures c.next_word-buffer.ensures c.next_word-streams.ensures c.next_word-mode.ensures in
+    subst (λ (words : List (List ℕ)). (m : LineMeaning) → Spells command.Pair words m → ⊥) are c.in-None.ensures

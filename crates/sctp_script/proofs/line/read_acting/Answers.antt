@@ -3,6 +3,9 @@ use Rattle.sctp_script.proofs.line.read_acting.Goals as goal
 pub returns-in-Pair-clause-found : goal.returns-in-Pair-clause-found
 returns-in-Pair-clause-found c = rw c.in-Pair.is c.read_pair.ensures
 
+pub returns-in-DelayedPair-clause-found : goal.returns-in-DelayedPair-clause-found
+returns-in-DelayedPair-clause-found c = rw c.in-DelayedPair.is c.read_delayed_pair.ensures
+
 pub returns-in-Open-clause-found : goal.returns-in-Open-clause-found
 returns-in-Open-clause-found c = rw c.in-Open.is c.opening.ensures
 

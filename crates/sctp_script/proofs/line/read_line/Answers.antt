@@ -11,18 +11,20 @@ pub returns-then-is_pair-paired : goal.returns-then-is_pair-paired
 returns-then-is_pair-paired c =
     let found = rw c.in-Ok-Some.field-0-is at c.in-Ok-Some.ensures in
     let named = c.in-Some.ensures in
-    let line_is : IsLineOf c.args.line.now c.in-Some.command c.next_word.new.self = cc in
-    let count : length c.next_word.new.self ≡ arguments_of c.in-Some.command = grind (arith, common_steps) in
-    let reads : Reads c.args.line.now c.in-Some.command c.next_word.new.self (acting_meaning c.in-Ok-Some.acting) = record { short = omega arith; line_is = line_is; count = count; says = found.found } in
-    let order : is_pair c.in-Some.command ≡ c.args.paired = sym c.is_pair.ensures ∙ (booleans_Decides _ _).0 c.if-is_pair-paired.true in
+    let form = c.in-Some-with_arguments.ensures in
+    let line_is : IsLineOf c.args.line.now c.in-Some-with_arguments.command c.next_word.new.self = cc in
+    let count : length c.next_word.new.self ≡ arguments_of c.in-Some-with_arguments.command = grind (arith, common_steps) in
+    let reads : Reads c.args.line.now c.in-Some-with_arguments.command c.next_word.new.self (acting_meaning c.in-Ok-Some.acting) = record { short = omega arith; line_is = line_is; count = count; says = found.found } in
+    let order : is_pair c.in-Some-with_arguments.command ≡ c.args.paired = sym c.is_pair.ensures ∙ (booleans_Decides _ _).0 c.if-is_pair-paired.true in
     out_of_order _ _ _ _ _ reads order
 
 pub returns-else-is_pair-paired : goal.returns-else-is_pair-paired
 returns-else-is_pair-paired c =
     let found = rw c.in-Ok-Some.field-0-is at c.in-Ok-Some.ensures in
     let named = c.in-Some.ensures in
-    let line_is : IsLineOf c.args.line.now c.in-Some.command c.next_word.new.self = cc in
-    let count : length c.next_word.new.self ≡ arguments_of c.in-Some.command = grind (arith, common_steps) in
-    let reads : Reads c.args.line.now c.in-Some.command c.next_word.new.self (acting_meaning c.in-Ok-Some.acting) = record { short = omega arith; line_is = line_is; count = count; says = found.found } in
-    let order : is_pair c.in-Some.command ≡ c.args.paired → ⊥ = grind (arith, common_steps) in
+    let form = c.in-Some-with_arguments.ensures in
+    let line_is : IsLineOf c.args.line.now c.in-Some-with_arguments.command c.next_word.new.self = cc in
+    let count : length c.next_word.new.self ≡ arguments_of c.in-Some-with_arguments.command = grind (arith, common_steps) in
+    let reads : Reads c.args.line.now c.in-Some-with_arguments.command c.next_word.new.self (acting_meaning c.in-Ok-Some.acting) = record { short = omega arith; line_is = line_is; count = count; says = found.found } in
+    let order : is_pair c.in-Some-with_arguments.command ≡ c.args.paired → ⊥ = grind (arith, common_steps) in
     in_order _ _ _ _ c.in-Ok-Some.acting reads order

@@ -18,7 +18,7 @@ returns-in-Joined-clause-packed c = λ v stands empty.
     let e : EndView = record v { moment = c.args.moment } in
     with_sender c.pack_joined.result e v c.pack_joined.new.packing _ c.in-Joined.association c.pack_joined.new.association c.in-Joined.is stands c.pack_joined.ensures.kept
     (c.pack_joined.ensures.packed e (phase_joined _ _ v c.in-Joined.is stands)
-    (record { clock = refl; due_stands = stands.due; traffic_stands = (joined _ _ v c.in-Joined.is stands).traffic }) empty)
+    (record { configured = stands.configuration; clock = refl; due_stands = stands.due; traffic_stands = (joined _ _ v c.in-Joined.is stands).traffic }) empty)
 
 pub returns-in-Joined-clause-memory : goal.returns-in-Joined-clause-memory
 unfolding MachineStands

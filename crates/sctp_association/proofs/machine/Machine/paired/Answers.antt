@@ -18,6 +18,7 @@ returns c =
       clock = refl;
       due = c.nothing.ensures;
       timers = c.unused.ensures;
+      delayed = refl;
       phase = rw (c.tag.ensures.exact, c.tag-2.ensures.exact) refl;
       life = record {
         terms = c.alike-terms.ensures;

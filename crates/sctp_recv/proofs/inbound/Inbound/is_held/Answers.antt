@@ -1,6 +1,6 @@
 use Rattle.std.proofs.Common.{Bool, subst}
 use Rattle.sctp_chains.specs.StandsFor as lane
-use Rattle.sctp_recv.specs.inner.Giving.{lane_in}
+use Rattle.sctp_recv.specs.Filed.{lane_in}
 use Rattle.sctp_recv.proofs.inbound.Inbound.is_held.Goals as goal
 
 pub returns-then-unordered : goal.returns-then-unordered

@@ -11,8 +11,8 @@ returns-then-is_late g c = λ v w.
     let f = g.F.Framing.format in
     let p = piece_meaning c.args.piece.now in
     let within : c.from-stream.result < length c.args.self.now.streams.items = omega (arith, c.len.ensures, c.if-stream-len.false, c.args.self.now.streams.ok) in
-    let read = read_at f c.args.self.now v p c.cumulative.result c.in-At.index c.from-stream.result c.index-inbound.result.now c.number_near-number.result c.is_reached.result c.is_late.result (kind_meaning c.of_flag-kind.result) c.of_flag-kind.ensures w
-    c.cumulative.ensures.value c.cumulative.ensures.within c.in-At.ensures c.is_reached.ensures c.if-is_reached.false c.from-stream.ensures within c.index-inbound.ensures c.number_near-number.ensures c.is_late.ensures in
+    let read = read_at f c.args.self.now v p c.cumulative.result c.in-At.index c.from-stream.result c.index-known.result.now c.number_near-number.result c.is_reached.result c.is_late.result (kind_meaning c.of_flag-kind.result) c.of_flag-kind.ensures w
+    c.cumulative.ensures.value c.cumulative.ensures.within c.in-At.ensures c.is_reached.ensures c.if-is_reached.false c.from-stream.ensures within c.index-known.ensures c.number_near-number.ensures c.is_late.ensures in
     elim c.then-is_late.branch [
       | then-is_late-via-then-is_late u ↦ read_late read u.if-is_late.true
       | then-is_late-via-else-is_late+then-is_held u ↦
@@ -25,8 +25,8 @@ returns-then-piece-saturating_sub g c = λ v w.
     let f = g.F.Framing.format in
     let p = piece_meaning c.args.piece.now in
     let within : c.from-stream.result < length c.args.self.now.streams.items = omega (arith, c.len.ensures, c.if-stream-len.false, c.args.self.now.streams.ok) in
-    let read = read_at f c.args.self.now v p c.cumulative.result c.in-At.index c.from-stream.result c.index-inbound.result.now c.number_near-number.result c.is_reached.result c.is_late.result (kind_meaning c.of_flag-kind.result) c.of_flag-kind.ensures w
-    c.cumulative.ensures.value c.cumulative.ensures.within c.in-At.ensures c.is_reached.ensures c.if-is_reached.false c.from-stream.ensures within c.index-inbound.ensures c.number_near-number.ensures c.is_late.ensures in
+    let read = read_at f c.args.self.now v p c.cumulative.result c.in-At.index c.from-stream.result c.index-known.result.now c.number_near-number.result c.is_reached.result c.is_late.result (kind_meaning c.of_flag-kind.result) c.of_flag-kind.ensures w
+    c.cumulative.ensures.value c.cumulative.ensures.within c.in-At.ensures c.is_reached.ensures c.if-is_reached.false c.from-stream.ensures within c.index-known.ensures c.number_near-number.ensures c.is_late.ensures in
     let large : c.args.self.now.buffer < c.args.self.now.held + length p.bytes = let room = w.0.room in omega (arith, room, c.saturating_sub.ensures, c.if-piece-saturating_sub.true) in
     read_room read (omega arith) c.if-is_late.false c.is_held.result c.is_held.ensures c.if-is_held.false large
 
@@ -36,7 +36,7 @@ returns g c = λ v w.
     let f = g.F.Framing.format in
     let p = piece_meaning c.args.piece.now in
     let within : c.from-stream.result < length c.args.self.now.streams.items = omega (arith, c.len.ensures, c.if-stream-len.false, c.args.self.now.streams.ok) in
-    let read = read_at f c.args.self.now v p c.cumulative.result c.in-At.index c.from-stream.result c.index-inbound.result.now c.number_near-number.result c.is_reached.result c.is_late.result (kind_meaning c.of_flag-kind.result) c.of_flag-kind.ensures w
-    c.cumulative.ensures.value c.cumulative.ensures.within c.in-At.ensures c.is_reached.ensures c.if-is_reached.false c.from-stream.ensures within c.index-inbound.ensures c.number_near-number.ensures c.is_late.ensures in
+    let read = read_at f c.args.self.now v p c.cumulative.result c.in-At.index c.from-stream.result c.index-known.result.now c.number_near-number.result c.is_reached.result c.is_late.result (kind_meaning c.of_flag-kind.result) c.of_flag-kind.ensures w
+    c.cumulative.ensures.value c.cumulative.ensures.within c.in-At.ensures c.is_reached.ensures c.if-is_reached.false c.from-stream.ensures within c.index-known.ensures c.number_near-number.ensures c.is_late.ensures in
     let fits : c.args.self.now.held + length p.bytes ≤ c.args.self.now.buffer = let room = w.0.room in omega (arith, room, c.saturating_sub.ensures, c.if-piece-saturating_sub.false) in
     read_taken read (omega arith) c.if-is_late.false c.is_held.result c.is_held.ensures c.if-is_held.false fits

@@ -20,9 +20,9 @@ returns-in-None g c = λ v w.
     let l : c.from-at.result < length items = omega (arith, c.args.self.now.streams.ok) in
     let here = stream_mapped items c.from-at.result c.index_mut.result.now l c.index_mut.ensures.value in
     let there : stream_at (map stream_of items) c.args.stream ≡ stream_of c.index_mut.result.now = ap (λ (i : ℕ). stream_at (map stream_of items) i) (sym c.from-at.ensures) ∙ here in
-    let same = set_unchanged items c.from-at.result c.take_first.new.inbound c.index_mut.result.now l c.index_mut.ensures.value c.in-None.ensures.first.1 in
+    let same = set_unchanged items c.from-at.result c.take_first.new.stream c.index_mut.result.now l c.index_mut.ensures.value c.in-None.ensures.first.1 in
     let got = slice_get_read items (length items) c.from-at.result c.index_mut.result.now refl l c.index_mut.ensures.value in
-    let files = filed_same g.F.Framing.format v.kept items c.from-at.result c.index_mut.result.now c.take_first.new.inbound w.1.0 l got c.take_first.ensures.chunks.0 c.take_first.ensures.chunks.1 in
+    let files = filed_same g.F.Framing.format v.kept items c.from-at.result c.index_mut.result.now c.take_first.new.stream w.1.0 l got c.take_first.ensures.chunks in
     (v, (w.0.waiting c.args.stream ∙ ap (λ (s : StreamKept). s.waiting) there ∙ c.in-None.ensures.first.0, refl), (rw same w.0, (files, w.1.1)))
 
 pub returns-in-Some : goal.returns-in-Some
@@ -30,7 +30,7 @@ unfolding StandsFor
 returns-in-Some g c = λ v w.
     let items = c.args.self.now.streams.items in
     let s = c.args.stream in
-    let x = stream_of c.take_first.new.inbound in
+    let x = stream_of c.take_first.new.stream in
     let l : c.from-at.result < length items = omega (arith, c.args.self.now.streams.ok) in
     let here = stream_mapped items c.from-at.result c.index_mut.result.now l c.index_mut.ensures.value in
     let there : stream_at (map stream_of items) s ≡ record x { waiting = handed_of c.in-Some.message ∷ x.waiting } =
@@ -39,7 +39,7 @@ returns-in-Some g c = λ v w.
     let n = length-map items stream_of in
     let done = keeps_taken g.F.Framing.format (kept_of c.args.self.now) v s c.less-self.result (handed_of c.in-Some.message) x.waiting x w.0 (omega (arith, c.from-at.ensures)) there refl less in
     let got = slice_get_read items (length items) c.from-at.result c.index_mut.result.now refl l c.index_mut.ensures.value in
-    let files = filed_same g.F.Framing.format v.kept items c.from-at.result c.index_mut.result.now c.take_first.new.inbound w.1.0 l got c.take_first.ensures.chunks.0 c.take_first.ensures.chunks.1 in
+    let files = filed_same g.F.Framing.format v.kept items c.from-at.result c.index_mut.result.now c.take_first.new.stream w.1.0 l got c.take_first.ensures.chunks in
     let h = handed_of c.in-Some.message in
     let leaves : TakeLeaves v s (Some h) (first_taken v s h x.waiting) = (x.waiting, w.0.waiting s ∙ ap (λ (y : StreamKept). y.waiting) there, refl) in
-    (first_taken v s h x.waiting, leaves, (rw (set_mapped items c.from-at.result c.take_first.new.inbound, c.from-at.ensures) done, (files, (take_at_rest g.F.Framing.format v s (Some h) (first_taken v s h x.waiting) w.1.1.0 leaves, w.1.1.1))))
+    (first_taken v s h x.waiting, leaves, (rw (set_mapped items c.from-at.result c.take_first.new.stream, c.from-at.ensures) done, (files, (take_at_rest g.F.Framing.format v s (Some h) (first_taken v s h x.waiting) w.1.1.0 leaves, w.1.1.1))))

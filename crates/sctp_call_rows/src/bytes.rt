@@ -1,0 +1,67 @@
+//! Calls of chunks and packets as bytes, and what they answer.
+
+use crate::parts::bytes_of;
+use anyhow::Result;
+use sctp_packet::{PacketWriter, crc32c};
+use sctp_wire::{Rule, read_chunks, write_chunk};
+use std::alloc::Global;
+use std::fmt::Write;
+
+/// The checksum of bytes, as a number.
+pub fn sum(alloc: Global, bytes: &str, out: &mut String) -> Result<()> {
+    if let Some(bytes) = bytes_of(alloc, bytes)? {
+        write!(out, "{:08x}", crc32c(&bytes))?;
+    }
+    Ok(())
+}
+
+/// Chunks are read, and written again one by one: each with its length.
+pub fn again(alloc: Global, bytes: &str, out: &mut String) -> Result<()> {
+    let Some(bytes) = bytes_of(alloc, bytes)? else {
+        return Ok(());
+    };
+    write!(out, "chunks")?;
+    for chunk in read_chunks(&bytes)? {
+        if !chunk.fits() {
+            write!(out, " unfit")?;
+            continue;
+        }
+        let mut copy = Vec::new(alloc);
+        write_chunk(&chunk, &mut copy)?;
+        let length = chunk.written_length();
+        write!(out, " {length}:{}", hex::encode(alloc, copy.as_slice())?)?;
+    }
+    Ok(())
+}
+
+/// What is done about an unknown type of a chunk or of a parameter.
+pub fn rule(rule: Rule, out: &mut String) -> Result<()> {
+    write!(out, "stop {} report {}", rule.stop, rule.report)?;
+    Ok(())
+}
+
+/// A packet of at most so many bytes, with chunks as far as they fit: how many bytes are left behind each, and the packet.
+pub fn packed(
+    alloc: Global,
+    limit: u16,
+    source: u16,
+    destination: u16,
+    tag: u32,
+    chunks: &str,
+    out: &mut String,
+) -> Result<()> {
+    let Some(bytes) = bytes_of(alloc, chunks)? else {
+        return Ok(());
+    };
+    let mut packet = PacketWriter::new(alloc, limit, source, destination, tag);
+    write!(out, "room {}", packet.room())?;
+    for chunk in read_chunks(&bytes)? {
+        let put = chunk.fits() && packet.try_chunk(&chunk)?;
+        write!(out, " {put} {}", packet.room())?;
+    }
+    match packet.finish() {
+        Some(bytes) => write!(out, ": {}", hex::encode(alloc, bytes.as_slice())?)?,
+        None => write!(out, ": none")?,
+    }
+    Ok(())
+}

@@ -1,0 +1,96 @@
+-- A room in which a run of bytes is folded, a word at a time.
+use Rattle.std.proofs.Common.{◌≡◌, ℕ, zero, suc, replicate, ◌+◌, ◌-◌, ◌*◌, ◌/◌, ◌%◌, ◌^◌, ◌<◌, ◌≤◌, inl, inr, List, length, bit_xor, refl, sym, ap, ◌∙◌, arith}
+use Rattle.std.specs.Prelude.{slice_index, take, drop, [], ◌++◌}
+use Rattle.std.proofs.lemmas.Grind.{common_steps}
+use borrow.Rule.Slice.PartMut.{put_mid, mid_of, post_of}
+use Rattle.std.proofs.lemmas.List.{get_or-append_right, get_or-drop}
+use Rattle.std.proofs.Common.{append-nil}
+use Rattle.std.proofs.lemmas.Bool.{cases_lt}
+use Rattle.std.proofs.lemmas.Nat.{xor_mod, xor_shr, pow_pos, shr-shr}
+use Rattle.std.proofs.Math.Nat.{div-eq_of_lt}
+use Rattle.sctp_packet.specs.Folding.{FRONT, byte_of, mixed_byte, reaching, IsFolded, IsLeft}
+
+-- a byte of a sum is the sum of the bytes
+pub byte_sum : (a b k : ℕ) → byte_of (bit_xor a b) k ≡ bit_xor (byte_of a k) (byte_of b k)
+byte_sum a b k = ap (λ (x : ℕ). x % 2 ^ 8) (xor_shr a b (8 * k)) ∙ xor_mod (a / 2 ^ (8 * k)) (b / 2 ^ (8 * k)) 8
+
+-- a register of 32 bits reaches four bytes
+pub high_byte : (register i : ℕ) → register < 2 ^ 32 → 4 ≤ i → byte_of register i ≡ 0
+high_byte register i small high =
+    let count : 8 * i ≡ 32 + (8 * i - 32) = omega (arith, high) in
+    let none : register / 2 ^ 32 ≡ 0 = omega (arith, small) in
+    let down : register / 2 ^ (8 * i) ≡ 0 / 2 ^ (8 * i - 32) = ap (λ (n : ℕ). register / 2 ^ n) count ∙ (sym (shr-shr register 32 (8 * i - 32)) ∙ ap (λ (x : ℕ). x / 2 ^ (8 * i - 32)) none) in
+    let zero : 0 / 2 ^ (8 * i - 32) ≡ 0 = div-eq_of_lt (pow_pos (8 * i - 32)) in
+    ap (λ (x : ℕ). x % 256) (down ∙ zero)
+
+-- what reaches a place stands at least 65 places before it
+pub reaching_same : (xs ys : List ℕ) (q p : ℕ) → ((j : ℕ) → j < q → slice_index ys j ≡ slice_index xs j) → 0 < q → p < q + 65 → reaching ys p ≡ reaching xs p
+reaching_same xs ys q p same some near =
+    rw (same (p - 65) (omega (arith, near, some)), same (p - 155) (omega (arith, near, some)), same (p - 170) (omega (arith, near, some)), same (p - 195) (omega (arith, near, some)), same (p - 209) (omega (arith, near, some))) refl
+
+-- one word more
+pub folded_more : (register : ℕ) (bytes xs ys : List ℕ) (n : ℕ) → IsFolded register bytes n xs → ((j : ℕ) → j < FRONT + n → slice_index ys j ≡ slice_index xs j) →
+    ((k : ℕ) → k < 8 → slice_index ys (FRONT + n + k) ≡ bit_xor (mixed_byte register bytes (n + k)) (reaching xs (FRONT + n + k))) →
+    ((j : ℕ) → FRONT + n + 8 ≤ j → slice_index ys j ≡ slice_index xs j) → IsFolded register bytes (n + 8) ys
+folded_more register bytes xs ys n f before here behind = record {
+  before = λ j low. before j (omega (arith, low)) ∙ f.before j low;
+  each = λ i lt.
+      elim (cases_lt i n) [
+        | inl old ↦ before (FRONT + i) (omega (arith, old)) ∙ (f.each i old ∙ ap (bit_xor (mixed_byte register bytes i)) (sym (reaching_same xs ys (FRONT + n) (FRONT + i) before (omega arith) (omega (arith, old)))))
+        | inr new ↦ word i (i - n) (omega (arith, new)) (omega (arith, lt))
+      ];
+  behind = λ j high. behind j (omega (arith, high)) ∙ f.behind j (omega (arith, high));
+}
+  where
+    word : (i k : ℕ) → i ≡ n + k → k < 8 → slice_index ys (FRONT + i) ≡ bit_xor (mixed_byte register bytes i) (reaching ys (FRONT + i))
+    word i k is few =
+        let at : FRONT + n + k ≡ FRONT + i = omega (arith, is) in
+        let h = here k few in
+        let same = reaching_same xs ys (FRONT + n) (FRONT + i) before (omega arith) (omega (arith, is, few)) in
+        ap (slice_index ys) (sym at) ∙ (h ∙ (ap (λ (j : ℕ). bit_xor (mixed_byte register bytes j) (reaching xs (FRONT + n + k))) (sym is)
+        ∙ (ap (λ (j : ℕ). bit_xor (mixed_byte register bytes i) (reaching xs j)) at ∙ ap (bit_xor (mixed_byte register bytes i)) (sym same))))
+
+-- nothing reaches the first word
+pub folded_none : (register : ℕ) (bytes xs : List ℕ) → ((j : ℕ) → slice_index xs j ≡ 0) → IsFolded register bytes 0 xs
+folded_none register bytes xs empty = record { before = λ j low. empty j; each = λ i lt. absurd (omega (arith, lt)); behind = λ j high. empty j }
+
+pub reaching_none : (xs : List ℕ) (p : ℕ) → ((j : ℕ) → slice_index xs j ≡ 0) → reaching xs p ≡ 0
+reaching_none xs p empty = rw (empty (p - 65), empty (p - 155), empty (p - 170), empty (p - 195), empty (p - 209)) refl
+
+-- one word more is left
+pub left_more : (bytes room xs ys : List ℕ) (k n : ℕ) → IsLeft bytes room k n xs → ((j : ℕ) → j < n → slice_index ys j ≡ slice_index xs j) →
+    ((i : ℕ) → i < 8 → slice_index ys (n + i) ≡ bit_xor (slice_index bytes (k + n + i)) (reaching room (FRONT + k + n + i))) → IsLeft bytes room k (n + 8) ys
+left_more bytes room xs ys k n l before here i lt =
+    elim (cases_lt i n) [
+      | inl old ↦ before i old ∙ l i old
+      | inr new ↦ word (i - n) (omega (arith, new)) (omega (arith, lt))
+    ]
+  where
+    word : (j : ℕ) → i ≡ n + j → j < 8 → slice_index ys i ≡ bit_xor (slice_index bytes (k + i)) (reaching room (FRONT + (k + i)))
+    word j is few =
+        let first : k + n + j ≡ k + i = omega (arith, is) in
+        let second : FRONT + k + n + j ≡ FRONT + (k + i) = omega (arith, is) in
+        ap (slice_index ys) is ∙ (here j few ∙ rw (first, second) refl)
+
+-- behind n bytes that are written nothing changes
+behind_written : (n a j : ℕ) (xs ws : List ℕ) → length ws ≡ n → a + n ≤ length xs → a + n ≤ j →
+    slice_index (take a xs ++ ((ws ++ drop n (drop a xs)) ++ [])) j ≡ slice_index xs j
+behind_written n a j xs ws word within high =
+    let front : length (take a xs) ≡ a = grind (arith, common_steps, within) in
+    let first = get_or-append_right (take a xs) ((ws ++ drop n (drop a xs)) ++ []) a j 0 front (omega (arith, high)) in
+    let plain : (ws ++ drop n (drop a xs)) ++ [] ≡ ws ++ drop n (drop a xs) = append-nil (ws ++ drop n (drop a xs)) in
+    let second = get_or-append_right ws (drop n (drop a xs)) n (j - a) 0 word (omega (arith, high)) in
+    let count : a + (n + (j - a - n)) ≡ j = omega (arith, high) in
+    first ∙ (ap (λ (l : List ℕ). slice_index l (j - a)) plain ∙ (second ∙ (get_or-drop n (drop a xs) (j - a - n) 0 ∙ (get_or-drop a xs (n + (j - a - n)) 0 ∙ ap (slice_index xs) count))))
+
+pub behind_word : (a j : ℕ) (xs ws zs : List ℕ) → length ws ≡ 8 → a + 8 ≤ length xs → a + 8 ≤ j → zs ≡ ws ++ drop 8 (mid_of a (length xs - a) xs) → slice_index (put_mid a (length xs - a) xs zs) j ≡ slice_index xs j
+behind_word a j xs ws zs word within high is =
+    let whole : mid_of a (length xs - a) xs ≡ drop a xs = grind (arith, common_steps, within) in
+    let none : post_of a (length xs - a) xs ≡ [] = grind (arith, common_steps, within) in
+    rw (is, whole, none) (behind_written 8 a j xs ws word within high)
+
+-- a room that is made holds zeros
+pub empty_room : (n j : ℕ) → slice_index (replicate n 0) j ≡ 0
+empty_room zero j = refl
+empty_room (suc n) zero = refl
+empty_room (suc n) (suc j) = empty_room n j

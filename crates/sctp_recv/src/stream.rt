@@ -1,0 +1,138 @@
+//! A stream, of which something is known or nothing.
+
+ghost use Rattle.std.specs.Prelude.{◌≡◌, ℕ, true, false, [], ◌∷◌, ◌&&◌, map, replicate, slice_get, None, Some, IfOk, OnOk, IsSome, MatchOption};
+ghost use Rattle.sctp_model.specs.messages.Format.{Lane, is_numbered};
+ghost use Rattle.sctp_model.specs.messages.Framing.{number_near};
+ghost use Rattle.sctp_model.specs.receiver.PieceTaken.{is_repeated};
+ghost use Rattle.sctp_values.specs.Meanings.{kind_meaning};
+ghost use Rattle.sctp_wire.specs.ChunkTree.{piece_meaning};
+ghost use Rattle.sctp_chains.specs.Cells.{Kept, IsOf, IsLowestIndex, counted};
+ghost use Rattle.sctp_recv.specs.Fields.{inside, stream_of};
+ghost use Rattle.sctp_recv.specs.Filed.{Keeps, SameLanes, AreFiled};
+ghost use Rattle.sctp_recv.specs.HandedOf.{handed_of};
+ghost use Rattle.sctp_recv.specs.ReceiverKept.{FRESH, reference_of, is_below_or_none};
+
+use crate::inbound::Inbound;
+use crate::message::Message;
+use sctp_framing::Framing;
+use sctp_values::{Kind, NoMemory};
+use sctp_wire::Piece;
+use std::alloc::Global;
+
+/// A stream. Until a chunk of it is kept or a FORWARD goes to it nothing is known of it: its numbers count from 0, and it is an empty pointer.
+#[derive(Drop)]
+pub(crate) struct Stream<F: Framing> {
+    pub(crate) inbound: Option<Box<Inbound<F>>>,
+}
+
+impl<F: Framing> Stream<F> {
+    /// The count near which a number is read, and below which it comes too late.
+    fn reference(&self, kind: Kind) -> u32
+        ensures { result ≡ reference_of (stream_of self.now) (kind_meaning kind) }
+    {
+        match &self.inbound {
+            Some(inbound) => inbound.reference(kind),
+            None => 0,
+        }
+    }
+
+    /// The number that a wire value stands for.
+    pub(crate) fn number_near(&self, kind: Kind, wire: u32) -> Option<u32>
+        ensures { result ≡ number_near F.format (kind_meaning kind) wire (reference_of (stream_of self.now) (kind_meaning kind)) }
+    {
+        F::number_near(kind, wire, self.reference(kind))
+    }
+
+    /// Whether a chunk comes too late: its number is below those that count, or there is none where there should be one.
+    pub(crate) fn is_late(&self, kind: Kind, number: Option<u32>) -> bool
+        ensures { result ≡ (is_numbered F.format (kind_meaning kind) && is_below_or_none (reference_of (stream_of self.now) (kind_meaning kind)) number) }
+    {
+        F::is_numbered(kind)
+            && match number {
+                Some(number) => number < self.reference(kind),
+                None => true,
+            }
+    }
+
+    /// Whether this fragment of this message is kept already, where that can be.
+    pub(crate) fn is_held(&self, piece: &Piece<'_>, number: Option<u32>) -> bool
+        ensures { (i : ℕ) (l : Lane) (kept : Kept) → Keeps F.format (inside self.now) piece.now.unordered l kept
+            → IsOf F.format l (counted i (piece_meaning piece.now) number) → result ≡ is_repeated F.format kept (counted i (piece_meaning piece.now) number) }
+    {
+        match &self.inbound {
+            Some(inbound) => inbound.is_held(piece, number),
+            None => false,
+        }
+    }
+
+    /// The lowest index of the unordered chunks kept, where their messages have no number: None exactly where none is kept.
+    pub(crate) fn lowest_unordered(&self) -> Option<u32>
+        ensures { (l : Lane) (kept : Kept) → Keeps F.format (inside self.now) true l kept → is_numbered F.format l.kind ≡ false → IsLowestIndex kept result }
+    {
+        match &self.inbound {
+            Some(inbound) => inbound.unordered.lowest_index(),
+            None => None,
+        }
+    }
+
+    /// The message that waits at a place, from 0.
+    pub(crate) fn message(&self, place: usize) -> Option<&Message>
+        ensures { MatchOption result (slice_get (stream_of self.now).waiting place ≡ None)
+            (λ m. slice_get (stream_of self.now).waiting place ≡ Some (handed_of m.now)) }
+    {
+        match &self.inbound {
+            Some(inbound) => inbound.waiting.get(place),
+            None => None,
+        }
+    }
+}
+
+/// So many streams on which nothing came.
+///
+/// # Errors
+/// Memory ran out.
+pub(crate) fn fresh_streams<F: Framing>(
+    alloc: Global,
+    count: u16,
+) -> Result<Vec<Stream<F>>, NoMemory>
+    ensures streams { IfOk result (λ streams. map stream_of streams.items ≡ replicate count FRESH) }
+    ensures filed { IfOk result (λ streams. AreFiled F.format [] streams.items) }
+{
+    let mut streams = Vec::with_capacity(alloc, usize::from(count)).map_err(|_| NoMemory)?;
+    for _ in 0..count {
+        streams
+            .push(Stream { inbound: None })
+            .map_err(|_| NoMemory)?;
+    }
+    Ok(streams)
+}
+
+/// Makes a place for what is to be known of a stream, where there is none.
+///
+/// # Errors
+/// Memory ran out.
+pub(crate) fn make<F: Framing>(alloc: Global, stream: &mut Stream<F>) -> Result<(), NoMemory>
+    ensures same { stream_of stream.new ≡ stream_of stream.old }
+    ensures chunks { SameLanes F.format stream.old stream.new }
+    ensures made { OnOk result (IsSome stream.new.inbound) }
+{
+    if stream.inbound.is_none() {
+        let inbound = Box::new(alloc, Inbound::fresh(alloc)).map_err(|_| NoMemory)?;
+        stream.inbound = Some(inbound);
+    }
+    Ok(())
+}
+
+/// Takes the first message that waits, where one waits.
+pub(crate) fn take_first<F: Framing>(stream: &mut Stream<F>) -> Option<Message>
+    ensures first { MatchOption result
+        (((stream_of stream.old).waiting ≡ []) × (stream_of stream.new ≡ stream_of stream.old))
+        (λ m. stream_of stream.old
+        ≡ record (stream_of stream.new) { waiting = handed_of m ∷ (stream_of stream.new).waiting }) }
+    ensures chunks { SameLanes F.format stream.old stream.new }
+{
+    match &mut stream.inbound {
+        Some(inbound) => inbound.waiting.pop_front(),
+        None => None,
+    }
+}

@@ -1,0 +1,291 @@
+#!/usr/bin/env python3
+"""The transcript that the model gives to cases of a sender and a receiver in the form of crates/sctp_call_rows.
+
+calls.py [CASES [TRANSCRIPT]]: by default the two files of that crate. Cases without a format, of
+numbers, bytes and cookies, are taken over from TRANSCRIPT.
+"""
+
+import os
+import re
+import struct
+import sys
+
+import wire
+from endpoint import Writer
+from receiver import BAD, MOVED, OUT_OF_DATE, Receiver
+from sender import Sender
+
+CRATE = os.path.join(os.path.dirname(os.path.abspath(__file__)), '..', '..', 'crates', 'sctp_call_rows')
+GREATEST_PACKET, GREATEST_FRAGMENT = 1_500, 1_400
+QUEUED = {-1: 'no such stream', -2: 'empty', -3: 'too long', -4: 'queue full', -5: 'spent'}
+SACKED = {None: 'ok', 1: 'stale', 2: 'beyond', 3: 'bad block'}
+FATES = {1: 'withdrawn', 2: 'abandoned', 3: 'acknowledged', 4: 'unknown', 5: 'reliable'}
+TAKEN = {1: 'taken', 2: 'duplicate', 3: 'ahead', 4: 'no room', 5: 'passed', 6: 'no such stream'}
+FORWARDED = {MOVED: 'moved', OUT_OF_DATE: 'out of date', BAD: 'bad'}
+FLAGS = {'I': 8, 'U': 4, 'B': 2, 'E': 1}
+PIECES, FORWARDS = (wire.DATA, wire.I_DATA), (wire.FORWARD_TSN, wire.I_FORWARD_TSN)
+
+
+class NoCall(Exception):
+    """The line says no call; or its call has nothing to go to, where `answer` says so."""
+
+    def __init__(self, answer=None):
+        super().__init__()
+        self.answer = answer
+
+
+def number(word, limit):
+    if not re.fullmatch('[0-9]+', word) or int(word) > limit:
+        raise NoCall
+    return int(word)
+
+
+def bytes_of(word):
+    if word == '-':
+        return b''
+    if re.fullmatch(r'\+[0-9]+', word):
+        return bytes(k % 251 for k in range(int(word[1:])))
+    if not re.fullmatch('([0-9a-fA-F]{2})*', word):
+        raise NoCall('not a call')
+    return bytes.fromhex(word)
+
+
+def pairs_of(words, limit):
+    for word in words:
+        if not re.fullmatch('[0-9]+-[0-9]+', word) or any(int(part) > limit for part in word.split('-')):
+            raise NoCall('not a call')
+    return [tuple(int(part) for part in word.split('-')) for word in words]
+
+
+def shown(written):
+    return written.hex() if len(written) <= 32 else '%s..%d' % (written[:24].hex(), len(written))
+
+
+def read(written):
+    return wire.Chunk(written[:struct.unpack('>H', written[2:4])[0]])
+
+
+class Case:
+    """A sender and a receiver, once they were made, and the packets that the sender built."""
+
+    def __init__(self, interleave):
+        self.interleave, self.sender, self.receiver, self.packets = interleave, None, None, []
+
+    def answer(self, name, words):
+        """What a call answers, None where the line is none."""
+        method = getattr(self, 'on_' + name.replace('-', '_'), None)
+        if method is None:
+            return None
+        try:
+            return method(*words)
+        except TypeError:
+            return None
+        except NoCall as fault:
+            return fault.answer
+
+    def of(self, end):
+        if end is None:
+            raise NoCall('not a call')
+        return end
+
+    def kept(self, chunks):
+        """A packet that was built: its number, size, checksum and first chunks."""
+        packet = wire.packet(1, 2, 3, chunks)
+        self.packets.append(chunks)
+        more = ' ..%d' % len(chunks) if len(chunks) > 4 else ''
+        return 'packet %d %d %s: %s%s' % (len(self.packets), len(packet), packet[8:12].hex(),
+                                          ' '.join(shown(one) for one in chunks[:4]), more)
+
+    # ---- A sender ----
+
+    def on_sender(self, tsn, streams, fragment, rwnd, partial):
+        values = [number(word, limit) for word, limit in ((tsn, 2**32 - 1), (streams, 65535), (fragment, 65535), (rwnd, 2**32 - 1))]
+        if partial not in ('pr', 'all'):
+            raise NoCall
+        if values[1] == 0 or not 0 < values[2] <= GREATEST_FRAGMENT:
+            raise NoCall('not a call')
+        self.sender, self.packets = Sender(self.interleave, *values, partial == 'pr'), []
+        return 'ok'
+
+    def on_queue(self, stream, kind, payload_id, until, data):
+        stream, payload_id = number(stream, 65535), number(payload_id, 2**32 - 1)
+        until = None if until == '-' else number(until, 2**64 - 1)
+        if kind not in 'ou' or not data:
+            raise NoCall
+        answer = self.of(self.sender).send(stream, kind == 'o', payload_id, bytes_of(data), until)
+        return 'ticket %d' % answer if answer > 0 else QUEUED[answer]
+
+    def on_queue_each(self, streams, *words):
+        answer = None
+        for stream in range(number(streams, 65535)):
+            answer = self.on_queue(str(stream), *words)
+        return answer
+
+    def on_fill(self, limit):
+        writer = Writer(number(limit, 65535))
+        tickets = self.of(self.sender).fill(writer)
+        named = ', tickets ' + ' '.join(str(ticket) for ticket in tickets[:8]) if tickets else ''
+        more = ' ..%d' % len(tickets) if len(tickets) > 8 else ''
+        return (self.kept(writer.chunks) if writer.chunks else 'nothing') + named + more
+
+    def on_forward(self, room, limit=str(GREATEST_PACKET)):
+        room, limit = number(room, 65535), number(limit, 65535)
+        if limit > GREATEST_PACKET:
+            raise NoCall('not a call')
+        writer, made = Writer(room), self.of(self.sender).forward(limit - wire.HEADER)
+        return self.kept(writer.chunks) if made is not None and writer.put(made) else 'nothing'
+
+    def on_sack(self, tsn, rwnd, *blocks):
+        found = type('Sack', (), {})()
+        found.cumulative, found.rwnd = number(tsn, 2**32 - 1), number(rwnd, 2**32 - 1)
+        sender = self.of(self.sender)
+        found.blocks = pairs_of(blocks, 65535)
+        return SACKED[sender.on_sack(found)]
+
+    def on_shutdown(self, tsn):
+        tsn = number(tsn, 2**32 - 1)
+        return SACKED[self.of(self.sender).on_shutdown(tsn)]
+
+    def on_abandon(self, ticket):
+        ticket = number(ticket, 2**32 - 1)
+        return FATES[self.of(self.sender).abandon(ticket)]
+
+    def on_expire(self, now):
+        now = number(now, 2**64 - 1)
+        self.of(self.sender).expire(now)
+        return 'ok'
+
+    def on_timeout(self):
+        self.of(self.sender).on_timeout()
+        return 'ok'
+
+    def on_fate(self, ticket):
+        ticket, sender = number(ticket, 2**32 - 1), self.of(self.sender)
+        message = sender.messages[ticket - 1] if 1 <= ticket <= len(sender.messages) else None
+        if message is None:
+            return 'neither'
+        return {(True, False): 'acknowledged', (False, True): 'abandoned', (False, False): 'neither',
+                (True, True): 'both'}[sender.acknowledged(message), message.abandoned]
+
+    def on_sending(self):
+        sender = self.of(self.sender)
+        return 'cum %d point %d outstanding %d%s%s' % (
+            sender.cum, sender.point(), sender.outstanding(), ' drained' if sender.drained() else '',
+            ' unsettled' if sender.unsettled() else '')
+
+    # ---- A receiver ----
+
+    def on_receiver(self, tsn, streams, buffer):
+        self.receiver = Receiver(self.interleave, number(tsn, 2**32 - 1), number(streams, 65535), number(buffer, 2**32 - 1))
+        return 'ok'
+
+    def on_data(self, tsn, stream, flags, count, word, data):
+        values = [number(one, limit) for one, limit in ((tsn, 2**32 - 1), (stream, 65535), (count, 2**32 - 1), (word, 2**32 - 1))]
+        if not re.fullmatch('I?U?B?E?|-', flags) or not data:
+            raise NoCall
+        receiver = self.of(self.receiver)
+        return TAKEN[receiver.on_data(self.piece(*values, sum(FLAGS[f] for f in flags if f != '-'), bytes_of(data)))]
+
+    def piece(self, tsn, stream, count, word, flags, data):
+        """A chunk, as long as its data is: a chunk that comes in a packet has at most 65,535 bytes."""
+        piece = wire.Piece(read(wire.data_chunk(
+            self.interleave, flags, tsn, stream, count % (2**32 if self.interleave else 2**16), word, b'')))
+        piece.data = data
+        return piece
+
+    def on_rise(self, times, tsn, stream, count, step='1'):
+        times, tsn, count, step = (number(word, 2**32 - 1) for word in (times, tsn, count, step))
+        stream, receiver = number(stream, 65535), self.of(self.receiver)
+        answers = [receiver.on_data(self.piece((tsn + k * step) % 2**32, stream, count + k, 0, 3, b'a')) for k in range(times)]
+        return 'taken %d' % answers.count(1)
+
+    def on_skip(self, tsn, *skips):
+        found, receiver = type('Forward', (), {})(), None
+        found.cumulative = number(tsn, 2**32 - 1)
+        receiver = self.of(self.receiver)
+        unordered = [self.interleave and skip.endswith('-u') for skip in skips]
+        bare = [skip[:-2] if is_unordered else skip for skip, is_unordered in zip(skips, unordered)]
+        pairs = pairs_of(bare, 2**32 - 1 if self.interleave else 65535)
+        if any(stream > 65535 for stream, _ in pairs):
+            raise NoCall('not a call')
+        found.skips = [(stream, is_unordered, count) for (stream, count), is_unordered in zip(pairs, unordered)]
+        return FORWARDED[receiver.on_forward(found)]
+
+    def on_carry(self, packet):
+        packet, receiver = number(packet, 2**64 - 1), self.of(self.receiver)
+        if not 1 <= packet <= len(self.packets):
+            return 'nothing'
+        runs = []
+        for written in self.packets[packet - 1]:
+            found = read(written)
+            answer = (TAKEN[receiver.on_data(wire.Piece(found))] if found.kind in PIECES
+                      else FORWARDED[receiver.on_forward(wire.Forward(found))])
+            if runs and runs[-1][0] == answer:
+                runs[-1][1] += 1
+            else:
+                runs.append([answer, 1])
+        return ', '.join(answer if times == 1 else '%s x%d' % (answer, times) for answer, times in runs)
+
+    def on_take(self, stream):
+        stream = number(stream, 65535)
+        message = self.of(self.receiver).take(stream)
+        if message is None:
+            return 'nothing'
+        return 'stream %d %s number %s payload %d parts %d size %d: %s%s %08x' % (
+            stream, 'o' if message.ordered else 'u', '-' if message.number is None else message.number,
+            message.payload_id, message.parts, len(message.data), message.data[:16].hex(),
+            '..' if len(message.data) > 16 else '', wire.crc32c(message.data))
+
+    def on_tell(self):
+        receiver = self.of(self.receiver)
+        written = receiver.sack()
+        receiver.sack_sent()
+        return written.hex()
+
+    def on_acknowledge(self):
+        sender = self.of(self.sender)
+        written = self.on_tell()
+        return '%s %s' % (written, SACKED[sender.on_sack(wire.Sack(read(bytes.fromhex(written))))])
+
+    def on_receiving(self):
+        receiver = self.of(self.receiver)
+        runs = sum(1 for index in receiver.seen if index - 1 not in receiver.seen)
+        return 'cumulative %d held %d runs %d' % (receiver.tsn(receiver.c), receiver.held, runs)
+
+
+def transcript(name, lines):
+    """The lines of a case, each with its answer behind it."""
+    case, out = Case(name.startswith('i-data ')), []
+    for line in lines:
+        out.append(line)
+        times = re.match(r'\*([0-9]+) ', line)
+        call, *words = (line[times.end():] if times else line).split(' ')
+        for _ in range(int(times[1]) if times else 1):
+            answer = case.answer(call, words)
+        if answer is not None:
+            out.append(answer)
+    return out
+
+
+def split(text):
+    """The remarks above the first case, and (name, lines) of each."""
+    first, *cases = text.removesuffix('\n').split('\n= ')
+    return first, [(case.split('\n')[0], case.split('\n')[1:]) for case in cases]
+
+
+def main():
+    names = sys.argv[1:] + [os.path.join(CRATE, 'stdin'), os.path.join(CRATE, 'stdout')][len(sys.argv) - 1:]
+    texts = []
+    for name in names:
+        with open(name, encoding='utf-8', newline='') as file:
+            texts.append(file.read())
+    stored = dict(split(texts[1])[1])
+    first, cases = split(texts[0])
+    print(first)
+    for name, lines in cases:
+        has_format = name.startswith(('data ', 'i-data '))
+        print('\n'.join(['= ' + name] + (transcript(name, lines) if has_format else stored.get(name, lines))))
+
+
+if __name__ == '__main__':
+    main()
