@@ -166,7 +166,7 @@ five_in_front : (front more : List (List ℕ)) (a b c d m : List ℕ) (rest : Li
     → (front ≡ a ∷ b ∷ c ∷ d ∷ m ∷ []) × (rest ≡ more)
 five_in_front (x0 ∷ x1 ∷ x2 ∷ x3 ∷ x4 ∷ []) more a b c d m rest size is = (
   λ i. first_of (sym is i) ∷ first_of (others_of (sym is i)) ∷ first_of (others_of (others_of (sym is i)))
-  ∷ first_of (others_of (others_of (others_of (sym is i)))) ∷ first_of (others_of (others_of (others_of (others_of (sym is i))))) ∷ [],
+      ∷ first_of (others_of (others_of (others_of (sym is i)))) ∷ first_of (others_of (others_of (others_of (others_of (sym is i))))) ∷ [],
   ap (λ (ws : List (List ℕ)). others_of (others_of (others_of (others_of (others_of ws))))) is,
 )
 five_in_front [] more a b c d m rest size is = absurd (omega (arith, size))

@@ -13,5 +13,5 @@ pub returns-in-None : goal.returns-in-None
 returns-in-None c =
     let are = six_words _ _ _ _ _ _ _ _ _ _ _ _ _ c.requires c.next_word-limit.ensures c.next_word-fragment.ensures c.next_word-buffer.ensures c.next_word-streams.ensures c.next_word-mode.ensures c.next_word.ensures in
     λ m says.
-        let five = undelayed _ _ _ _ _ _ m (subst (λ (words : List (List ℕ)). Spells command.DelayedPair words m) (sym are) says) in
-        c.in-None.ensures five.1 five.2
+    let five = undelayed _ _ _ _ _ _ m (subst (λ (words : List (List ℕ)). Spells command.DelayedPair words m) (sym are) says) in
+    c.in-None.ensures five.1 five.2
