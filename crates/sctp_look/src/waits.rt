@@ -24,7 +24,7 @@ impl Waits {
 
     /// A packet came to an end, and wasn't dropped.
     pub(crate) fn came(&mut self, to: Side, packet: &[u8], moment: u64) {
-        if self.noted && holds(packet, is_acknowledged) {
+        if self.noted && holds(packet, Sought::Acknowledged) {
             let since = self.since(to);
             *since = since.or(Some(moment));
         }
@@ -32,7 +32,7 @@ impl Waits {
 
     /// A packet leaves an end: how long a SACK in it waited, if it did.
     pub(crate) fn left(&mut self, from: Side, packet: &[u8], moment: u64) -> Option<u64> {
-        if !holds(packet, is_sack) {
+        if !holds(packet, Sought::Sack) {
             return None;
         }
         let since = self.since(from).take()?;
@@ -52,28 +52,33 @@ impl Waits {
     }
 }
 
+/// What is looked for among the chunks of a packet.
+#[derive(Clone, Copy)]
+enum Sought {
+    /// What a SACK acknowledges.
+    Acknowledged,
+    Sack,
+}
+
 /// Whether a packet has such a chunk.
-fn holds(packet: &[u8], is_such: fn(&Chunk<'_>) -> bool) -> bool {
+fn holds(packet: &[u8], sought: Sought) -> bool {
     let Ok(packet) = read_packet(packet) else {
         return false;
     };
     for chunk in packet.chunks {
-        if is_such(&chunk) {
+        if is_such(&chunk, sought) {
             return true;
         }
     }
     false
 }
 
-/// Whether a SACK answers such a chunk.
-fn is_acknowledged(chunk: &Chunk<'_>) -> bool {
-    matches!(
-        chunk,
-        Chunk::Data(_) | Chunk::IData(_) | Chunk::ForwardTsn(_) | Chunk::IForwardTsn(_)
-    )
-}
-
-/// Whether it is a SACK.
-fn is_sack(chunk: &Chunk<'_>) -> bool {
-    matches!(chunk, Chunk::Sack(_))
+fn is_such(chunk: &Chunk<'_>, sought: Sought) -> bool {
+    match sought {
+        Sought::Acknowledged => matches!(
+            chunk,
+            Chunk::Data(_) | Chunk::IData(_) | Chunk::ForwardTsn(_) | Chunk::IForwardTsn(_)
+        ),
+        Sought::Sack => matches!(chunk, Chunk::Sack(_)),
+    }
 }

@@ -132,11 +132,22 @@ behind_line laws line lines w (Pairs c) here behind mid says (s, under, writes, 
 behind_line laws line lines w (Acts wanted) here behind mid says (u, x, e, o, meant, was, step, writes, is) rest again = absurd (no_world u was)
 behind_line laws line lines w (Fault fault) here behind mid says does rest again = absurd does
 
-pub has_course : PairLaws → (lines : List (List ℕ)) (written : List ℕ) (w : World) → Goes None lines written (Some w) → Course lines w
-has_course laws [] written w goes = let none = goes.1 in cc
-has_course laws (line ∷ lines) written w (here, behind, mid, acts, rest, whole) =
+-- what lines lead through from START on has a course
+abbrev HaveCourse : List (List ℕ) → Type 0
+HaveCourse lines = (written : List ℕ) (w : World) → Goes None lines written (Some w) → Course lines w
+
+no_lines : HaveCourse []
+no_lines written w goes = absurd (no_world w (sym goes.1))
+
+-- one line in front of lines that have a course
+one_line_more : PairLaws → (line : List ℕ) (lines : List (List ℕ)) → HaveCourse lines → HaveCourse (line ∷ lines)
+one_line_more laws line lines on written w (here, behind, mid, acts, rest, whole) =
     behind_line laws line lines w acts.0 here behind mid acts.1 acts.2 rest
-    (λ is. has_course laws lines behind w (subst (λ (s : Option World). Goes s lines behind (Some w)) is rest))
+    (λ is. on behind w (subst (λ (s : Option World). Goes s lines behind (Some w)) is rest))
+
+pub has_course : PairLaws → (lines : List (List ℕ)) (written : List ℕ) (w : World) → Goes None lines written (Some w) → Course lines w
+has_course laws [] = no_lines
+has_course laws (line ∷ lines) = one_line_more laws line lines (has_course laws lines)
 
 -- ---- strangers
 
