@@ -19,7 +19,7 @@ pub struct Head {
     pub rwnd: u32,
     // by ticket, from 1 on
     pub fates: Vec<Fate>,
-    // what the last SACK covers above CUM, unless it had too many blocks
+    // what the last SACK covers above CUM, unless it had too many blocks; it has no room until a SACK comes behind the first entry
     pub covered: Vec<CoveredRun>,
     pub is_known: bool,
     // the place of the next SACK's runs

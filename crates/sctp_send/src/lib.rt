@@ -33,6 +33,7 @@ mod putting;
 mod queue;
 mod queueing;
 mod readers;
+mod run_room;
 mod sack;
 mod seats;
 mod sender;

@@ -11,7 +11,7 @@ use crate::by_ticket::{ByTicket, MOST};
 use crate::counts::{
     Counts, bound_again, bound_new, cover_one, front_behind, stand_one, uncover_one,
 };
-use crate::entry::{Entry, Standing};
+use crate::entry::{CoveredRun, Entry, Standing};
 use crate::message::Message;
 use crate::wishes::{is_first_sending, is_repeat};
 use sctp_values::NoMemory;
@@ -32,6 +32,9 @@ pub struct Outstanding {
     pub(crate) room: usize,
     // by groups of tickets, before which moment no message is past its time; none until a message has a time
     pub(crate) bounds: Vec<u64>,
+    // empty: the places of a SACK's runs and of the next one's, from the first entry on until a SACK is taken
+    pub(crate) covered: Vec<CoveredRun>,
+    pub(crate) spare: Vec<CoveredRun>,
 }
 
 impl Model for Outstanding {
@@ -61,6 +64,8 @@ impl Outstanding {
             by_ticket: ByTicket::new(alloc),
             room: 0,
             bounds: Vec::new(alloc),
+            covered: Vec::new(alloc),
+            spare: Vec::new(alloc),
         }
     }
 
@@ -150,6 +155,7 @@ impl Outstanding {
         }
         self.entries.reserve(more).map_err(|_| NoMemory)?;
         self.by_ticket.reserve(more)?;
+        self.reserve_runs()?;
         self.room = self
             .entries
             .capacity()

@@ -50,6 +50,9 @@ impl<F: Framing> Sender<F> {
         if are_disordered(&sack.blocks) {
             return Err(SackFault::BadBlock);
         }
+        self.parts
+            .outstanding
+            .lend_runs(&mut self.head.covered, &mut self.head.spare);
         forget(
             &mut self.parts.outstanding,
             &mut self.head.spent,

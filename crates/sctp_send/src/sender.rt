@@ -7,7 +7,6 @@ ghost use Rattle.sctp_model.specs.sender.SenderView.{SenderView, fresh_sender};
 ghost use Rattle.sctp_send.specs.SenderStands.{StandsFor};
 
 use crate::draft::Draft;
-use crate::entry::RUNS;
 use crate::head::Head;
 use crate::message::SPENT;
 use crate::outstanding::Outstanding;
@@ -77,10 +76,6 @@ impl<F: Framing> Sender<F> {
         ensures { IfOk result (λ sender. StandsFor F.format sender (fresh_sender initial_tsn streams fragment peer_rwnd partial)) }
     {
         let tracks = Streams::new(alloc, streams, fragment, F::takes_turns())?;
-        let mut covered = Vec::new(alloc);
-        covered.reserve(RUNS).map_err(|_| NoMemory)?;
-        let mut spare = Vec::new(alloc);
-        spare.reserve(RUNS).map_err(|_| NoMemory)?;
         let mut spent = Vec::new(alloc);
         spent.reserve(SPENT).map_err(|_| NoMemory)?;
         Ok(Sender {
@@ -93,9 +88,9 @@ impl<F: Framing> Sender<F> {
                 cum: 0,
                 rwnd: peer_rwnd,
                 fates: Vec::new(alloc),
-                covered,
+                covered: Vec::new(alloc),
                 is_known: true,
-                spare,
+                spare: Vec::new(alloc),
                 spent,
             },
             parts: Draft {

@@ -1,4 +1,4 @@
-use Rattle.std.proofs.Common.{◌≡◌, ◌-◌, ◌≤◌, ◌∙◌, length, map, drop, subst, sym, refl, arith}
+use Rattle.std.proofs.Common.{◌≡◌, ◌-◌, ◌≤◌, ◌∙◌, length, map, drop, subst, sym, refl, ap, arith}
 use Rattle.std.proofs.lemmas.List.{length-map, drop-map}
 use Rattle.sctp_wire.specs.ChunkTree.{sack_meaning}
 use Rattle.sctp_model.specs.messages.Acknowledgement.{in_blocks}
@@ -6,6 +6,8 @@ use Rattle.sctp_model.specs.sender.SackTaken as taken
 use Rattle.sctp_send.specs.OutstandingFields.{item_meaning}
 use Rattle.sctp_send.specs.SenderKept.{Kept}
 use Rattle.sctp_send.specs.SenderStands.{StandsFor, Keeps}
+use Rattle.sctp_send.specs.CoveredRuns.{runs_behind}
+use Rattle.sctp_send.specs.PartsKept.{OutstandingKept}
 use Rattle.sctp_send.proofs.CoverLemmas.{items_told, all_told_meaning}
 use Rattle.sctp_model.specs.sender.Words.{when}
 use Rattle.sctp_send.proofs.RunLemmas.{when_remembered}
@@ -86,8 +88,10 @@ returns-clause-step g c = λ v stands.
     let by = sack_by_blocks g.F.Framing.format _ v (sack_meaning c.args.sack.now) n (c.len.result - n) keeps p (omega (arith, long, within, c.len.ensures)) in
     let runs = when_remembered c.cover_blocks-self-inside.result c.cover_blocks-self-inside.new.covered.items c.args.sack.now.blocks c.cover_blocks-self-inside.ensures.runs in
     let taken = keeps_sacked g.F.Framing.format _ v (sack_meaning c.args.sack.now) n (when c.cover_blocks-self-inside.result c.cover_blocks-self-inside.new.covered.items) keeps p (by ∙ blocks_good (c.len.result - n) c.args.sack.now.blocks (sym c.reach_past.ensures ∙ c.if-reach_past.false) (sym c.are_disordered.ensures ∙ c.if-are_disordered.false)) runs in
-    let exact = exact_kept g.F.Framing.format _ v s.head.fragment n s.parts.outstanding.items c.forget.new.outstanding.items s.head.is_known s.head.covered.items c.move_on.new.runs.items keeps refl refl c.forget.ensures.items c.move_on.ensures in
+    let gone = c.forget.ensures.items ∙ ap (λ (w : OutstandingKept). drop n w.items) c.lend_runs.ensures.same in
+    let moved = c.move_on.ensures ∙ ap (runs_behind n) c.lend_runs.ensures.covered in
+    let exact = exact_kept g.F.Framing.format _ v s.head.fragment n s.parts.outstanding.items c.forget.new.outstanding.items s.head.is_known s.head.covered.items c.move_on.new.runs.items keeps refl refl gone moved in
     let told = c.cover_blocks-self-inside.ensures.told exact in
     let items : map (item_meaning s.head.fragment) c.cover_blocks-self-inside.new.outstanding.items ≡ items_told (in_blocks 0 c.args.sack.now.blocks) 1 (drop n (map (item_meaning s.head.fragment) s.parts.outstanding.items)) =
-    rw (told, all_told_meaning, c.forget.ensures.items, drop-map) refl in
-    rw (items, c.cover_blocks-self-inside.ensures.kept.capacity, c.forget.ensures.kept.capacity) taken
+    rw (told, all_told_meaning, gone, drop-map) refl in
+    rw (items, c.cover_blocks-self-inside.ensures.kept.capacity, c.forget.ensures.kept.capacity, c.lend_runs.ensures.same) taken
