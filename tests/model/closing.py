@@ -26,6 +26,8 @@ OWN_TAG, PEER_TAG, OWN_TSN, PEER_TSN = 7, 9, 100, 500
 GUARD, SLOWEST = 180_000, 60_000
 LIMIT, FRAGMENT, BUFFER = 1_500, 1_400, 65_536
 ON_THE_WIRE = 28                       # headers of IP and UDP
+DELAY, RATES, SEEDS = 50, (8_000, 8_000), [1, 2, 3, 4, 5]
+QUEUED, TO_COME = (750, 1_400), (450, 1_000)       # messages of the end in (1), and of its peer in (2), and their length
 
 
 class End:
@@ -66,7 +68,9 @@ class Peer:
         self.shuts, self.closed, self.wait, self.repeat_at, self.guard_at = False, False, 1_000, None, None
 
     def shut(self, now):
+        """It shuts, by a SHUTDOWN."""
         self.shuts, self.guard_at, self.repeat_at = True, now + GUARD, now + self.wait
+        return self.acknowledgement()[:1]
 
     def acknowledgement(self):
         """The SACK, behind a SHUTDOWN where it has shut."""
@@ -113,6 +117,10 @@ class Peer:
         while self.cum + 1 in self.seen:
             self.cum += 1
             self.seen.remove(self.cum)
+
+    def received(self):
+        """How many messages came."""
+        return len(self.messages)
 
     def ring(self, now):
         """Its timers: it shuts again, or gives up."""
@@ -201,42 +209,63 @@ class Run:
         return self.now, self.end.ask('state', False).split(' ')[2]
 
 
-def draining(asked, messages, length, lost, seed):
+def lossy(asked, lost, seed):
+    """The path and the peer of (1)."""
+    return Run(asked, Peer(0, 0), DELAY, (None, None), lost, seed)
+
+
+def draining(run, messages, length):
     """(1): the end has messages queued, and its peer shuts. (when, how, messages lost)"""
-    run = Run(asked, Peer(0, 0), 50, (None, None), lost, seed)
     run.open()
     for _ in range(messages):
         line = 'send 0 o 0 - '
-        asked.ask(line + '00' * length, False)
-        asked.lines.append('~%d %s' % (len(line) + 2 * length, line))
-    run.peer.shut(0)
-    run.tell(run.peer.acknowledgement()[:1])
+        run.end.ask(line + '00' * length, False)
+        run.end.lines.append('~%d %s' % (len(line) + 2 * length, line))
+    run.tell(run.peer.shut(run.now))
     run.out()
     closed = run.close()
-    return (*closed, messages - len(run.peer.messages))
+    return (*closed, messages - run.peer.received())
 
 
-def receiving(asked, messages, length, rates):
+def slow(asked, messages, length, rates):
+    """The path and the peer of (2)."""
+    return Run(asked, Peer(messages, length), DELAY, rates, 0, 0)
+
+
+def receiving(run):
     """(2): the end shuts while its peer's messages come over a slow link. (when, how, messages lost)"""
-    run = Run(asked, Peer(messages, length), 50, rates, 0, 0)
     run.open()
-    asked.ask('shutdown')
+    run.end.ask('shutdown')
     run.out()
     closed = run.close()
-    taken = sum(line == '> take 0' for line in asked.lines)
-    return (*closed, messages - taken)
+    taken = sum(line == '> take 0' for line in run.end.lines)
+    return (*closed, run.peer.to_send - taken)
 
 
 def rows():
     """The small ones, as cases."""
     for options in ((), ('standard-closing',)):
         how = "the RFC's timers" if options else "the profile's timers"
-        for name, play in (('24 messages are queued when the peer shuts, which acknowledges by a SHUTDOWN in front of its SACK', lambda asked: draining(asked, 24, 1_000, 0.2, 14)),
-                           ('it shuts with 42 messages to come, one in 9 s', lambda asked: receiving(asked, 42, 1, (53, None)))):
+        for name, play in (('24 messages are queued when the peer shuts, which acknowledges by a SHUTDOWN in front of its SACK', lambda asked: draining(lossy(asked, 0.2, 14), 24, 1_000)),
+                           ('it shuts with 42 messages to come, one in 9 s', lambda asked: receiving(slow(asked, 42, 1, (53, None))))):
             asked = End(options)
             said = play(asked)
             lines = ['= %s: %s' % (how, name), '$ sctp-end ' + asked.words, '  closed at %d: %s, %d messages lost' % said, *asked.lines]
             print('\n'.join(lines) + '\n')
+
+
+def print_both(options, seeds, drain, receive):
+    """What became of (1) with each seed, and of (2): [(when, how, messages lost)], and (when, how, messages lost)"""
+    name = ' '.join(options) or 'without'
+    drained = []
+    for seed in seeds:
+        when, how, missing = drain(seed)
+        print('%s: peer shuts, seed %d: closed after %.1f s, %s, %d messages lost' % (name, seed, when / 1_000, how, missing), flush=True)
+        drained.append((when, how, missing))
+    print('%s: peer shuts: the middle of %d closes after %.1f s' % (name, len(drained), statistics.median(when for when, _, _ in drained) / 1_000))
+    when, how, missing = receive()
+    print('%s: this end shuts: closed after %.1f s, %s, %d messages lost' % (name, when / 1_000, how, missing), flush=True)
+    return drained, (when, how, missing)
 
 
 def main():
@@ -244,20 +273,16 @@ def main():
     parser.add_argument('--model', action='store_true')
     parser.add_argument('--rows', action='store_true')
     parser.add_argument('--lost', type=int, default=10)
-    parser.add_argument('seeds', type=int, nargs='*', default=[1, 2, 3, 4, 5])
+    parser.add_argument('seeds', type=int, nargs='*', default=SEEDS)
     asked = parser.parse_args()
     if asked.rows:
         rows()
         return
     program = None if asked.model else PROGRAM
     for options in ((), ('standard-closing',)):
-        name = ' '.join(options) or 'without'
-        found = [draining(End(options, program), 750, 1_400, asked.lost / 100, seed) for seed in asked.seeds]
-        for seed, (when, how, missing) in zip(asked.seeds, found):
-            print('%s: peer shuts, seed %d: closed after %.1f s, %s, %d messages lost' % (name, seed, when / 1_000, how, missing))
-        print('%s: peer shuts: the middle of %d closes after %.1f s' % (name, len(found), statistics.median(when for when, _, _ in found) / 1_000))
-        when, how, missing = receiving(End(options, program), 450, 1_000, (8_000, 8_000))
-        print('%s: this end shuts: closed after %.1f s, %s, %d messages lost' % (name, when / 1_000, how, missing))
+        print_both(options, asked.seeds,
+                   lambda seed: draining(lossy(End(options, program), asked.lost / 100, seed), *QUEUED),
+                   lambda: receiving(slow(End(options, program), *TO_COME, RATES)))
 
 
 if __name__ == '__main__':

@@ -1,0 +1,157 @@
+/* usrsctp as the peer of an end that calls: peer PORT BUFFER SEED < LINES. Its packets, its time and its chances come from outside alone.
+ *
+ * at T               moment T comes, in milliseconds; the moment is 0 before
+ * packet HEX         these bytes come, from the common header on
+ * send COUNT LENGTH  its user sends so many messages of this length on stream 0, which must fit its buffer
+ * shut               its user has no more to send
+ *
+ * Each line is answered by `out HEX` for each packet that is sent now, and then by `done N`: N messages came until now, in their order.
+ * Status 1: the words or a line are wrong, or usrsctp refuses a call; standard error says which.
+ *
+ * Its timers go when they are told to, in steps of at most 10 ms, as its own thread would have them; its one thread, for ends that change
+ * their addresses, has nothing to do. It computes and checks CRC32c. gettimeofday and syscall stand here, so that it finds this program's
+ * moment and chances in place of the system's: SEED gives its tag, its TSN and its waits the same bytes each time.
+ */
+#include <stdarg.h>
+#include <stdint.h>
+#include <stdio.h>
+#include <stdlib.h>
+#include <string.h>
+#include <sys/time.h>
+
+#include <usrsctp.h>
+
+/* Milliseconds; the second of the time of day at which moment 0 is; bytes. */
+enum { STEP = 10, FIRST_SECOND = 1000000, SEND_SPACE = 1 << 20, LONGEST_PACKET = 65536, LONGEST_MESSAGE = 65536 };
+
+static uint64_t moment, chance;
+static struct socket *listening, *association;
+static unsigned long received;
+static char path; /* its address names the path to usrsctp */
+
+int gettimeofday(struct timeval *time, void *zone) {
+    (void)zone;
+    time->tv_sec = (time_t)(FIRST_SECOND + moment / 1000);
+    time->tv_usec = (suseconds_t)(moment % 1000 * 1000);
+    return 0;
+}
+
+/* usrsctp's one system call by number: getrandom(bytes, length, flags). */
+long syscall(long number, ...) {
+    va_list words;
+    va_start(words, number);
+    unsigned char *bytes = va_arg(words, unsigned char *);
+    size_t length = va_arg(words, size_t);
+    va_end(words);
+    for (size_t at = 0; at < length; at++) {
+        chance = chance * 6364136223846793005u + 1442695040888963407u;
+        bytes[at] = (unsigned char)(chance >> 56);
+    }
+    return (long)length;
+}
+
+/* Ends the program with these words where it doesn't hold. */
+static void need(int holds, const char *what) {
+    if (holds) return;
+    fprintf(stderr, "peer: %s\n", what);
+    exit(1);
+}
+
+/* usrsctp sends a packet. */
+static int leaves(void *address, void *packet, size_t length, uint8_t tos, uint8_t set_df) {
+    (void)address, (void)tos, (void)set_df;
+    const unsigned char *bytes = packet;
+    fputs("out ", stdout);
+    for (size_t at = 0; at < length; at++) printf("%02x", bytes[at]);
+    putchar('\n');
+    return 0;
+}
+
+/* usrsctp has something for its user, who takes it: a message counts where its number is the next one. */
+static int comes(struct socket *socket, union sctp_sockstore from, void *data, size_t length, struct sctp_rcvinfo about, int flags, void *known) {
+    (void)socket, (void)from, (void)length, (void)known;
+    int is_message = data != NULL && !(flags & MSG_NOTIFICATION) && flags & MSG_EOR;
+    if (is_message && about.rcv_ssn == (uint16_t)received) received++;
+    free(data);
+    return 1;
+}
+
+static struct sockaddr_conn at_port(const char *port) {
+    struct sockaddr_conn name = {.sconn_family = AF_CONN, .sconn_port = htons((uint16_t)atoi(port)), .sconn_addr = &path};
+    return name;
+}
+
+static void listen_at(const char *port, const char *buffer) {
+    usrsctp_init_nothreads(0, leaves, NULL);
+    usrsctp_sysctl_set_sctp_sendspace(SEND_SPACE);
+    usrsctp_sysctl_set_sctp_recvspace((uint32_t)atoi(buffer));
+    usrsctp_register_address(&path);
+    struct sockaddr_conn name = at_port(port);
+    listening = usrsctp_socket(AF_CONN, SOCK_STREAM, IPPROTO_SCTP, comes, NULL, 0, NULL);
+    need(listening != NULL && usrsctp_set_non_blocking(listening, 1) == 0, "no socket");
+    need(usrsctp_bind(listening, (struct sockaddr *)&name, sizeof name) == 0 && usrsctp_listen(listening, 1) == 0, "it can't listen");
+}
+
+static void at(uint64_t until) {
+    while (moment < until) {
+        uint64_t step = until - moment < STEP ? until - moment : STEP;
+        moment += step;
+        usrsctp_handle_timers((uint32_t)step);
+    }
+}
+
+/* The value of a hexadecimal digit: 16 where it is none. */
+static unsigned value_of(char digit) {
+    static const char digits[] = "0123456789abcdef";
+    const char *found = digit == 0 ? NULL : strchr(digits, digit);
+    return found == NULL ? 16 : (unsigned)(found - digits);
+}
+
+static void packet(const char *digits) {
+    static unsigned char bytes[LONGEST_PACKET];
+    size_t length = 0;
+    for (; length < sizeof bytes && value_of(digits[0]) < 16 && value_of(digits[1]) < 16; length++, digits += 2) {
+        bytes[length] = (unsigned char)(16 * value_of(digits[0]) + value_of(digits[1]));
+    }
+    need(digits[0] == '\n', "packet: no bytes in hexadecimal digits, or too many");
+    usrsctp_conninput(&path, bytes, length, 0);
+    if (association == NULL) association = usrsctp_accept(listening, NULL, NULL);
+}
+
+static void send_messages(unsigned count, size_t length) {
+    static const char message[LONGEST_MESSAGE];
+    need(association != NULL && length <= sizeof message, "send: no association, or too long");
+    for (unsigned sent = 0; sent < count; sent++) {
+        need(usrsctp_sendv(association, message, length, NULL, 0, NULL, 0, SCTP_SENDV_NOINFO, 0) == (ssize_t)length, "send: refused");
+    }
+}
+
+static void perform(const char *line) {
+    unsigned long long number;
+    unsigned count;
+    size_t length;
+    if (sscanf(line, "at %llu", &number) == 1) {
+        at(number);
+    } else if (strncmp(line, "packet ", 7) == 0) {
+        packet(line + 7);
+    } else if (sscanf(line, "send %u %zu", &count, &length) == 2) {
+        send_messages(count, length);
+    } else if (strcmp(line, "shut\n") == 0) {
+        need(association != NULL && usrsctp_shutdown(association, SHUT_WR) == 0, "shut: refused");
+    } else {
+        need(0, "a line that is none");
+    }
+}
+
+int main(int count, char **words) {
+    need(count == 4, "its words are PORT BUFFER SEED");
+    chance = strtoull(words[3], NULL, 10);
+    listen_at(words[1], words[2]);
+    static char line[2 * LONGEST_PACKET + 16];
+    while (fgets(line, sizeof line, stdin) != NULL) {
+        perform(line);
+        printf("done %lu\n", received);
+        fflush(stdout);
+    }
+    return 0;
+}
