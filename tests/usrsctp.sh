@@ -4,7 +4,7 @@
 # 8 kbit/s, nothing lost. It prints when each end was closed, how, and how many messages were lost. To be run by hand, sctp-end built:
 #   tests/usrsctp.sh                 five seeds of (1), 10 percent lost, and (2): some twenty seconds
 #   tests/usrsctp.sh --model 7 8     the Python model in place of sctp-end; these seeds
-#   tests/usrsctp.sh --lost 5 --buffer 262144    5 percent lost; so large a receive buffer of usrsctp's, 65,536 bytes else
+#   tests/usrsctp.sh --lost 5 --buffer 65536    5 percent lost; so large a receive buffer of usrsctp's, 262,144 bytes else
 # Status 0: with standard-closing all completed, no message was lost, and the middle run of (1) closed within 15 s. 1: not so, and the last line
 # says what. 2: libusrsctp isn't installed (Debian: libusrsctp-dev), and one line says so. 3: sctp-end isn't built, or something failed.
 # It needs a C compiler and Python.

@@ -19,6 +19,7 @@ import closing
 
 PORT = 5001
 TICK, LAST, WANTED = 10, 3_600_000, 15_000     # milliseconds: between its timers; until a run is given up; for the middle run
+BUFFER = 262_144        # bytes: with less its window closes over a hole, and its SHUTDOWNs tell none (docs/PEERS.md)
 
 
 class Usrsctp:
@@ -120,7 +121,7 @@ def main():
     parser.add_argument('peer')
     parser.add_argument('--model', action='store_true')
     parser.add_argument('--lost', type=int, default=10)
-    parser.add_argument('--buffer', type=int, default=closing.BUFFER)
+    parser.add_argument('--buffer', type=int, default=BUFFER)
     parser.add_argument('seeds', type=int, nargs='*', default=closing.SEEDS)
     asked = parser.parse_intermixed_args()
     both(asked, ())

@@ -25,6 +25,13 @@ pub const WRONG_WORDS: u8 = 1;
 /// The exit status where reading, writing or memory failed.
 pub const FAILED: u8 = 3;
 
+/// A law: the exit statuses are the numbers that the page on programs has.
+pub fn exit_statuses()
+    ensures done { DONE ≡ 0 }
+    ensures wrong_words { WRONG_WORDS ≡ 1 }
+    ensures failed { FAILED ≡ 3 }
+{}
+
 /// Sets an end up as the words say, of which the first is the program's own name, answers the lines of the input, each before the next one is
 /// read, and gives the exit status:
 /// - 0 where the input was answered to its end,

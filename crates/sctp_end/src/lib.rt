@@ -14,7 +14,7 @@ mod session;
 mod set_up;
 
 pub use call::Call;
-pub use command_line::{DONE, FAILED, USAGE, WRONG_WORDS, run_words};
+pub use command_line::{DONE, FAILED, USAGE, WRONG_WORDS, exit_statuses, run_words};
 pub use line::read_line;
 pub use reply::{Refusal, Reply};
 pub use reply_line::put_reply;

@@ -1,6 +1,6 @@
 //! The command line of the program: what its words ask for is drawn, and the exit status answered.
 
-ghost use Rattle.std.specs.Prelude.{◌-◌, ◌^◌, ◌<◌};
+ghost use Rattle.std.specs.Prelude.{◌≡◌, ◌-◌, ◌^◌, ◌<◌};
 
 use crate::drawing::draw;
 use crate::fault::LookFault;
@@ -23,6 +23,14 @@ pub const WRONG_WORDS: u8 = 1;
 pub const REFUSED: u8 = 2;
 /// The exit status where reading, writing or memory failed.
 pub const FAILED: u8 = 3;
+
+/// A law: the exit statuses are the numbers that the page on programs has.
+pub fn exit_statuses()
+    ensures done { DONE ≡ 0 }
+    ensures wrong_words { WRONG_WORDS ≡ 1 }
+    ensures refused { REFUSED ≡ 2 }
+    ensures failed { FAILED ≡ 3 }
+{}
 
 /// Draws the run of the script that stands on `input` as the words ask, of which the first is the program's own name, and gives the exit
 /// status:

@@ -25,5 +25,5 @@ mod text;
 mod waits;
 mod wish;
 
-pub use command_line::{DONE, FAILED, REFUSED, USAGE, WRONG_WORDS, run_words};
+pub use command_line::{DONE, FAILED, REFUSED, USAGE, WRONG_WORDS, exit_statuses, run_words};
 pub use sctp_text::{FromRead, ToWrite};

@@ -1,6 +1,6 @@
 //! Laws of lines and words, which hold of all texts. Their functions do nothing: each carries a theorem as its contract.
 
-ghost use Rattle.std.specs.Prelude.{ℕ, List, ◌++◌, Result};
+ghost use Rattle.std.specs.Prelude.{◌≡◌, ℕ, ◌^◌, List, ◌++◌, Result};
 ghost use Rattle.sctp_text.specs.Numerals.{SaysOneNumber, SaysOneList};
 ghost use Rattle.sctp_text.specs.SpacedWords.{words_of, AreItsWords};
 ghost use Rattle.sctp_text.specs.TextLines.{IsTooLong, Reading, SplitInOneWay, IsLines};
@@ -10,6 +10,16 @@ ghost use Rattle.sctp_text.specs.declared.line_reader.NextLine.{NextLine};
 ghost use Rattle.sctp_text.specs.declared.line_reader.SkippedLine.{SkippedLine};
 ghost use Rattle.sctp_text.specs.declared.source_sink.Failed.{Failed};
 ghost use Rattle.sctp_text.specs.declared.line_reader.ReadFault.{ReadFault};
+
+use crate::limits::{LINE_FEED, LONGEST_LINE, LONGEST_TEXT, SPACE};
+
+/// The bytes that part lines and words, and how many bytes a line and a text have at most, as the pages on formats have them.
+pub fn limits_of_a_text()
+    ensures line_feed { LINE_FEED ≡ 10 }
+    ensures space { SPACE ≡ 32 }
+    ensures line { LONGEST_LINE ≡ 140000 }
+    ensures text { LONGEST_TEXT ≡ 2 ^ 40 }
+{}
 
 /// A text is split into lines in one way, from its front; whoever was given lines one by one was given these.
 pub fn lines_in_one_way()

@@ -19,7 +19,7 @@ pub use bytes::Bytes;
 pub use decimal::{put_decimal, read_decimal};
 pub use hexadecimal::{put_hex, read_hex};
 pub use laws::{
-    line_after_line, lines_in_one_way, skipped_lines_count, too_long_for_good,
+    limits_of_a_text, line_after_line, lines_in_one_way, skipped_lines_count, too_long_for_good,
     words_part_at_spaces, words_say_one_value,
 };
 pub use limits::{LINE_FEED, LONGEST_LINE, LONGEST_TEXT, SPACE};

@@ -27,6 +27,14 @@ pub const REFUSED: u8 = 2;
 /// The exit status where reading, writing or memory failed.
 pub const FAILED: u8 = 3;
 
+/// A law: the exit statuses are the numbers that the page on programs has.
+pub fn exit_statuses()
+    ensures done { DONE ≡ 0 }
+    ensures wrong_words { WRONG_WORDS ≡ 1 }
+    ensures refused { REFUSED ≡ 2 }
+    ensures failed { FAILED ≡ 3 }
+{}
+
 /// Does what the words say, of which the first is the program's own name, and answers the exit status.
 ///
 /// The forms are `run`: the script is read from `input`, and its outcomes and report are written to `output`; `packet HEX` and

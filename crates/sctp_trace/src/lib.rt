@@ -8,7 +8,7 @@ mod gathered;
 mod script;
 mod script_laws;
 
-pub use command_line::{FAILED, USAGE, WRONG_WORDS, run_words};
+pub use command_line::{FAILED, USAGE, WRONG_WORDS, exit_statuses, run_words};
 pub use script::{ScriptFault, run_script};
 pub use script_laws::{every_script_is_safe, lines_are_there, one_first_fault};
 pub use sctp_pair::{ConfigFault, Draw, Event, Mode, Outcome, Pair, PairConfig, Refusal, Side};

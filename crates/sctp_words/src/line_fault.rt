@@ -1,12 +1,17 @@
 //! What is wrong with a line, and which lines do nothing.
 
-ghost use Rattle.std.specs.Prelude.{◌↔◌, IsTrue};
+ghost use Rattle.std.specs.Prelude.{◌≡◌, ◌↔◌, IsTrue};
 ghost use Rattle.sctp_words.specs.Lines.{IsSilent};
 
 use thiserror::Error;
 
 /// What a line begins with that does nothing, `#`.
 pub const COMMENT: u8 = 35;
+
+/// A law: a comment begins with byte 35, as the pages on formats have it.
+pub fn comments_begin_with_a_number_sign()
+    ensures { COMMENT ≡ 35 }
+{}
 
 /// What is wrong with a line; of several faults the one with the smallest kind is answered.
 #[derive(Clone, Copy, Debug, PartialEq, Eq, Error)]
