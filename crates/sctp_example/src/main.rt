@@ -47,7 +47,7 @@ fn copied(alloc: Global, bytes: &[u8]) -> Result<Vec<u8>> {
 /// What two ends answer that are asked for a packet before there is an association.
 fn built(alloc: Global) -> Result<String> {
     let config = PairConfig::new(1_500, 1_400, 65_536, 1, Mode::Data)?;
-    let mut pair = Pair::new(alloc, config, Key::new([7; 32]));
+    let mut pair = Pair::new(alloc, config)?;
     let told = both_build(alloc, &mut pair);
     drop(pair);
     told

@@ -4,14 +4,8 @@ use crate::lives::Lives;
 use crate::row::{Arrow, Call, Deed, Packet, Row, Taken};
 use crate::rows::Rows;
 use crate::waits::Waits;
-use sctp_pair::{Event, Key, Outcome, Pair, PairConfig, Side, Ticket};
+use sctp_pair::{Event, Outcome, Pair, PairConfig, Side, Ticket};
 use std::alloc::{AllocError, Global};
-
-/// The key under which a script's listener seals its cookies: the bytes 0 to 31.
-const KEY: [u8; 32] = [
-    0, 1, 2, 3, 4, 5, 6, 7, 8, 9, 10, 11, 12, 13, 14, 15, 16, 17, 18, 19, 20, 21, 22, 23, 24, 25,
-    26, 27, 28, 29, 30, 31,
-];
 
 /// A pair, and what is shown of what happened to it.
 #[derive(Drop)]
@@ -27,15 +21,19 @@ pub(crate) struct Recording {
 
 impl Recording {
     /// A pair to which nothing happened yet, and no row.
-    pub(crate) fn new(alloc: Global, config: PairConfig) -> Recording {
-        Recording {
+    ///
+    /// # Errors
+    /// Memory ran out.
+    pub(crate) fn new(alloc: Global, config: PairConfig) -> Result<Recording, AllocError> {
+        let pair = Pair::new(alloc, config).map_err(|_| AllocError)?;
+        Ok(Recording {
             alloc,
-            pair: Pair::new(alloc, config, Key::new(KEY)),
+            pair,
             rows: Rows::new(alloc),
             lives: Lives::new(alloc),
             waits: Waits::new(config.caller().delay()),
             strange: Vec::new(alloc),
-        }
+        })
     }
 
     /// The first row shows how both ends stand.

@@ -89,7 +89,8 @@ impl Reading {
         match read_line(self.alloc, line, self.run.is_some()) {
             Ok(None) => Ok(()),
             Ok(Some(Acting::Pair(config))) => {
-                drop(self.run.replace(Recording::new(self.alloc, config)));
+                let run = Recording::new(self.alloc, config)?;
+                drop(self.run.replace(run));
                 self.begin()
             }
             Ok(Some(Acting::Event(event))) => match &mut self.run {

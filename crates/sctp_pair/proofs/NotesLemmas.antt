@@ -35,9 +35,6 @@ noted_push ps p =
 same_logged : (ls : List StreamLog) (f g : ℕ → List Handed) → g ≡ f → AreLogged ls f → AreLogged ls g
 same_logged ls f g same all = λ (s : ℕ). subst (λ (h : ℕ → List Handed). IsLogged (slice_get ls s) (h s)) (sym same) (all s)
 
-none_logged : (f : ℕ → List Handed) → f ≡ (λ s. []) → AreLogged [] f
-none_logged f none = λ (s : ℕ). ap (λ (h : ℕ → List Handed). h s) none
-
 -- ---- notes
 
 module _ (packets : List (Vec Ticket Global)) (gone : List Ticket) (taken : List StreamLog) (e t : EndView) (l : Log) where
@@ -80,8 +77,10 @@ module _ (packets : List (Vec Ticket Global)) (gone : List Ticket) (taken : List
   }
 
 -- of an end of which nothing is noted
-pub notes_none : (gone : List Ticket) (t : EndView) (l : Log) → map ticket_number gone ≡ l.order → HasNoLogs t → AreNoted [] gone [] t l
-notes_none gone t l order none = record { numbers = sym none.numbers; order = order; taken = none_logged t.receiver.taken none.taken }
+pub notes_none : (gone : List Ticket) (logs : List StreamLog) (t : EndView) (l : Log) → map ticket_number gone ≡ l.order → AreLogged logs (λ s. []) → HasNoLogs t
+    → AreNoted [] gone logs t l
+notes_none gone logs t l order quiet none =
+    record { numbers = sym none.numbers; order = order; taken = same_logged logs (λ s. []) t.receiver.taken none.taken quiet }
 
 -- ---- calls
 

@@ -5,4 +5,5 @@ pub mod Taken
 pub mod Noted
 pub mod Sides
 pub mod PairStands
+pub mod PairKey
 pub mod PairRuns

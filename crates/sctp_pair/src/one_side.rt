@@ -1,6 +1,6 @@
 //! One side of a pair: its end, its bag and what is noted of its user, and what becomes of an event at it.
 
-ghost use Rattle.std.specs.Prelude.{◌≡◌, ◌<◌, ◌+◌, ◌++◌, ◌∷◌, [], List, length, vec_capacity, Some, Option, OnErr};
+ghost use Rattle.std.specs.Prelude.{◌≡◌, ◌<◌, ◌+◌, ◌++◌, ◌∷◌, [], List, length, vec_capacity, Some, Option, IfOk, OnErr};
 ghost use Rattle.sctp_model.specs.wire.Packet.{Packet};
 ghost use Rattle.sctp_model.specs.end.EndView.{EndView};
 ghost use Rattle.sctp_model.specs.world.World as world;
@@ -16,7 +16,7 @@ ghost use Rattle.sctp_pair.specs.Memory.{TakesMemory};
 ghost use Rattle.sctp_packet.specs.PacketBytes.{ReadsPacket};
 ghost use Rattle.sctp_pair.specs.Sides.{SideView, side_of, with_side, SideStands, ArePackets};
 
-use crate::taken::{StreamLog, make_room_at, note_at};
+use crate::taken::{StreamLog, fresh_logs, make_room_at, note_at, wipe};
 use sctp_endpoint::{Endpoint, Refused, Sent};
 use sctp_events::{Outcome, Refusal};
 use sctp_packet::written_packet_reads;
@@ -36,23 +36,27 @@ pub(crate) struct OneSide {
     pub(crate) numbered: Vec<Vec<Ticket>>,
     /// The tickets of the messages that were abandoned, in the order in which they were.
     pub(crate) abandoned: Vec<Ticket>,
-    /// What its user took from each stream, as far as it took from any.
+    /// What its user took from each stream: a log for each that it allows from its peer.
     pub(crate) taken: Vec<StreamLog>,
 }
 
 #[tactic(auto, unfolding(crate::specs::Sides::SideStands))]
 impl OneSide {
-    /// A side of which nothing is noted. It takes no memory.
-    pub(crate) fn new(alloc: Global, end: Endpoint) -> OneSide
-        ensures { (v : EndView) → EndpointStands end v → HasNoLogs v → SideStands result (record { end = v; bag = []; log = no_log }) }
+    /// A side of which nothing is noted.
+    ///
+    /// # Errors
+    /// Memory ran out.
+    pub(crate) fn new(alloc: Global, end: Endpoint) -> Result<OneSide, NoMemory>
+        ensures { (v : EndView) → EndpointStands end v → HasNoLogs v → IfOk result (λ side. SideStands side (record { end = v; bag = []; log = no_log })) }
     {
-        OneSide {
+        let taken = fresh_logs(alloc, end.config().inbound())?;
+        Ok(OneSide {
             end,
             bag: Vec::new(alloc),
             numbered: Vec::new(alloc),
             abandoned: Vec::new(alloc),
-            taken: Vec::new(alloc),
-        }
+            taken,
+        })
     }
 
     /// Puts another end, of which nothing is noted, in place of the one that is there. The bag stays, and what was abandoned.
@@ -61,7 +65,7 @@ impl OneSide {
     {
         drop(replace(&mut self.end, end));
         drop(replace(&mut self.numbered, Vec::new(alloc)));
-        drop(replace(&mut self.taken, Vec::new(alloc)));
+        wipe(alloc, &mut self.taken);
     }
 }
 

@@ -14,6 +14,7 @@ ghost use Rattle.sctp_events.specs.Events.{side_meaning, answer_of};
 ghost use Rattle.sctp_pair.specs.Happens.{Means};
 ghost use Rattle.sctp_pair.specs.Memory.{TakesMemory};
 ghost use Rattle.sctp_pair.specs.Sides.{IsItem};
+ghost use Rattle.sctp_pair.specs.PairKey as specs;
 ghost use Rattle.sctp_pair.specs.PairStands.{PairStands};
 ghost use Rattle.sctp_pair.specs.PairRuns.{Course, one_event, RunLeaves, Promised};
 
@@ -29,6 +30,12 @@ use sctp_terms::Draw;
 use sctp_values::NoMemory;
 use std::alloc::Global;
 
+/// The key of a pair that is made without one: the bytes 0 to 31.
+const PAIR_KEY: [u8; 32] = [
+    0, 1, 2, 3, 4, 5, 6, 7, 8, 9, 10, 11, 12, 13, 14, 15, 16, 17, 18, 19, 20, 21, 22, 23, 24, 25,
+    26, 27, 28, 29, 30, 31,
+];
+
 /// Two ends, the packets that either ever gave to the network, what is noted of their users, the clock, the draw for packets that come, and whether both may still be
 /// opened without packets: neither has called, nor did anything come to one.
 #[derive(Drop)]
@@ -42,24 +49,39 @@ pub struct Pair {
 }
 
 impl Pair {
-    /// Two ends to which nothing happened: A may call, and B listens, sealing its cookies with this key. It takes no memory.
+    /// Two ends to which nothing happened, as scripts have them: A may call, and B listens, sealing its cookies with the key of bytes 0 to 31.
+    ///
+    /// # Errors
+    /// Memory ran out.
+    pub fn new(alloc: Global, config: PairConfig) -> Result<Pair, NoMemory>
+        ensures { (s : Sealing) → IsUnder specs.PAIR_KEY s → IfOk result (λ pair. PairStands pair (start (setup_of config s))) }
+    {
+        Pair::with_key(alloc, config, Key::new(PAIR_KEY))
+    }
+
+    /// The same, where B seals its cookies with this key.
+    ///
+    /// # Errors
+    /// Memory ran out.
     #[tactic(auto, unfolding(crate::specs::PairStands::PairStands, crate::specs::Sides::SideStands))]
-    pub fn new(alloc: Global, config: PairConfig, key: Key) -> Pair
-        ensures { (s : Sealing) → IsUnder key s → PairStands result (start (setup_of config s)) }
+    pub fn with_key(alloc: Global, config: PairConfig, key: Key) -> Result<Pair, NoMemory>
+        ensures { (s : Sealing) → IsUnder key s → IfOk result (λ pair. PairStands pair (start (setup_of config s))) }
     {
         // It does nothing: its contract is the law that nothing is noted of a new end.
         new_ends_have_no_logs();
         let Some(draw) = Draw::new(1, 1) else {
             unreachable!()
         };
-        Pair {
+        let a = OneSide::new(alloc, Endpoint::caller(alloc, config.caller()))?;
+        let b = OneSide::new(alloc, Endpoint::listener(alloc, config.listener(), key))?;
+        Ok(Pair {
             alloc,
-            a: OneSide::new(alloc, Endpoint::caller(alloc, config.caller())),
-            b: OneSide::new(alloc, Endpoint::listener(alloc, config.listener(), key)),
+            a,
+            b,
             clock: 0,
             draw,
             openable: true,
-        }
+        })
     }
 
     /// Something happens. Whatever it is, the pair goes on as two ends and the network between them may: in both directions each stream hands

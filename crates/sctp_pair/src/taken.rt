@@ -1,6 +1,6 @@
 //! What is noted of the messages that a user took: for each stream the numbers of the ordered ones, and how many unordered ones.
 
-ghost use Rattle.std.specs.Prelude.{◌≡◌, ℕ, ◌<◌, List, [], ◌∷◌, ◌++◌, length, IfOk, OnOk};
+ghost use Rattle.std.specs.Prelude.{◌≡◌, ℕ, ◌<◌, ◌≤◌, List, [], ◌∷◌, ◌++◌, length, IfOk, OnOk};
 ghost use Rattle.sctp_model.specs.numbers.Lists.{at};
 ghost use Rattle.sctp_model.specs.receiver.ReceiverView.{Handed};
 ghost use Rattle.sctp_recv.specs.HandedOf.{handed_of};
@@ -83,23 +83,45 @@ pub(crate) fn make_room_at(
     ensures same { (taken : ℕ → List Handed) → AreLogged logs.old.items taken → AreLogged logs.new.items taken }
     ensures room { OnOk result (HasRoomAt logs.new.items stream) }
 {
-    grow(alloc, logs, stream)?;
+    grow(alloc, logs, usize::from(stream) + 1)?;
     let log = &mut logs[usize::from(stream)];
     log.make_room()
 }
 
-/// Makes logs of all streams up to this one.
+/// Makes logs until there are so many, one for each stream from 0 on. It costs those that are made.
 ///
 /// # Errors
-/// Memory ran out, and nothing changed.
-fn grow(alloc: Global, logs: &mut Vec<StreamLog>, stream: u16) -> Result<(), NoMemory>
+/// Memory ran out, and nothing changed of what they say.
+fn grow(alloc: Global, logs: &mut Vec<StreamLog>, count: usize) -> Result<(), NoMemory>
     ensures same { (taken : ℕ → List Handed) → AreLogged logs.old.items taken → AreLogged logs.new.items taken }
-    ensures within { OnOk result (stream < length logs.new.items) }
+    ensures within { OnOk result (count ≤ length logs.new.items) }
 {
-    for _next in logs.len()..usize::from(stream) + 1 {
+    for _next in logs.len()..count {
         logs.push(StreamLog::new(alloc)).map_err(|_| NoMemory)?;
     }
     Ok(())
+}
+
+/// A log for each of so many streams, of no message, so that no later call makes one.
+///
+/// # Errors
+/// Memory ran out.
+pub(crate) fn fresh_logs(alloc: Global, streams: u16) -> Result<Vec<StreamLog>, NoMemory>
+    ensures { IfOk result (λ logs. AreLogged logs.items (λ s. [])) }
+{
+    let mut logs = Vec::new(alloc);
+    logs.reserve(usize::from(streams)).map_err(|_| NoMemory)?;
+    grow(alloc, &mut logs, usize::from(streams))?;
+    Ok(logs)
+}
+
+/// As many logs, of no message. It takes no memory: they keep their room.
+pub(crate) fn wipe(alloc: Global, logs: &mut Vec<StreamLog>)
+    ensures { AreLogged logs.new.items (λ s. []) }
+{
+    let count = logs.len();
+    logs.clear();
+    let _made = grow(alloc, logs, count);
 }
 
 /// Notes that a message was taken from a stream, in whose log there is room for it.

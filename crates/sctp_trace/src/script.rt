@@ -9,19 +9,13 @@ ghost use Rattle.sctp_text.specs.declared.limits.TheConstants.{LONGEST_TEXT};
 
 use crate::gathered::{close, finish, gather_outcome, pass_on};
 use crate::script_laws::lines_are_there;
-use sctp_cookie::{Key, keys_have_seals};
+use sctp_cookie::keys_have_seals;
 use sctp_pair::Pair;
 use sctp_script::{Acting, events_follow_the_pair, read_line};
 use sctp_text::{LineReader, NextLine, ReadFault, Sink, Source, line_after_line};
 use sctp_words::{LineError, LineFault};
 use std::alloc::Global;
 use thiserror::Error;
-
-/// The key of a script's listener: the bytes 0 to 31.
-const LISTENER_KEY: [u8; 32] = [
-    0, 1, 2, 3, 4, 5, 6, 7, 8, 9, 10, 11, 12, 13, 14, 15, 16, 17, 18, 19, 20, 21, 22, 23, 24, 25,
-    26, 27, 28, 29, 30, 31,
-];
 
 /// Why a script ended before its report was written.
 #[derive(Clone, Copy, Debug, PartialEq, Eq, Error)]
@@ -186,8 +180,8 @@ fn act(
     match read_line(alloc, line, pair.is_some()) {
         Ok(None) => Ok(()),
         Ok(Some(Acting::Pair(config))) => {
-            let key = Key::new(LISTENER_KEY);
-            drop(pair.replace(Pair::new(alloc, config, key)));
+            let made = Pair::new(alloc, config).map_err(|_| ScriptFault::NoMemory)?;
+            drop(pair.replace(made));
             Ok(())
         }
         Ok(Some(Acting::Event(event))) => {

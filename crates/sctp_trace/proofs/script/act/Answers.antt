@@ -26,8 +26,6 @@ returns-in-Ok-Some-Pair-clause-leaves c = λ state stands.
     let says = finds_pair c.is_some.result c.args.line.now p.field-0 p.field-0-0 p.config p.field-0-is p.field-0-0-is p.ensures in
     let here = says_here c.args.pair.now state c.is_some.result c.args.line.now (Pairs p.config.a) stands c.is_some.ensures says in
     let s = c.keys_have_seals.ensures.some LISTENER_KEY in
-    let key : c.new-key.result ≡ LISTENER_KEY = c.new-key.ensures in
-    let under : IsUnder c.new-key.result s.0 = rw key s.1 in
     ([], sym (append-nil _), (Some (start (set_up p.config.a s.0)), (Pairs p.config.a, here, (s.0, s.1, refl, refl)), rw c.replace.ensures.after (c.new.ensures s.0 under)))
 
 pub returns-in_ok-outcome-in-Ok-Some-Event-clause-leaves : goal.returns-in_ok-outcome-in-Ok-Some-Event-clause-leaves

@@ -9,5 +9,5 @@ unfolding SideStands
 returns c = λ v stands none. record {
   end = stands;
   bag = rw c.new.ensures.items tt;
-  notes = rw (c.new-2.ensures.items, c.new-3.ensures.items, c.new-4.ensures.items) (notes_none [] v no_log refl none);
+  notes = rw (c.new-2.ensures.items, c.new-3.ensures.items) (notes_none [] c.in_ok-taken.taken.items v no_log refl c.in_ok-taken.ensures none);
 }

@@ -7,5 +7,5 @@ unfolding SideStands
 returns c = λ v t stands end none. record {
   end = rw c.replace.ensures.after end;
   bag = stands.bag;
-  notes = rw (c.replace-2.ensures.after, c.replace-3.ensures.after, c.new.ensures.items, c.new-2.ensures.items) (notes_none c.args.self.now.abandoned.items t v.log stands.notes.order none);
+  notes = rw (c.replace-2.ensures.after, c.new.ensures.items) (notes_none c.args.self.now.abandoned.items c.wipe.new.logs.items t v.log stands.notes.order c.wipe.ensures none);
 }
