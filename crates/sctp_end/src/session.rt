@@ -13,8 +13,9 @@ ghost use Rattle.sctp_end.specs.SessionStands.{Performed};
 use crate::call::Call;
 use crate::replies::{abort_refused, send_refused};
 use crate::reply::{Refusal, Reply};
-use sctp_endpoint::{ConnectFault, Draw, Endpoint, Sent, ShutdownFault, Ticket, Verdict};
-use sctp_packet::one_packet;
+use sctp_endpoint::{
+    ConnectFault, Draw, Endpoint, Sent, ShutdownFault, Ticket, Verdict, one_packet,
+};
 use sctp_text::Bytes;
 use sctp_values::{Kind, NoMemory};
 use std::alloc::Global;

@@ -8,6 +8,7 @@ mod calls;
 mod closing;
 mod endpoint;
 mod forwards;
+mod laws;
 mod opening;
 mod passing;
 mod pieces;
@@ -20,6 +21,7 @@ mod transmit;
 
 pub use after::Verdict;
 pub use endpoint::Endpoint;
+pub use laws::{one_packet, written_packet_reads};
 pub use sctp_association::Refused;
 pub use sctp_cookie::Key;
 pub use sctp_recv::Message;

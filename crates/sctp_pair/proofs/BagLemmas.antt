@@ -5,11 +5,10 @@ use Rattle.std.specs.declared.alloc.Global.{Global}
 use Rattle.std.proofs.lemmas.Option.{slice_get_past}
 use Rattle.sctp_model.specs.numbers.Lists.{item_at}
 use Rattle.sctp_model.specs.wire.Packet.{Packet}
-use Rattle.sctp_packet.specs.PacketBytes.{ReadsPacket}
-use Rattle.sctp_pair.specs.Sides.{ArePackets, IsItem}
+use Rattle.sctp_pair.specs.Sides.{Carries, ArePackets, IsItem}
 
 -- a packet more
-pub bag_push : (bag : List (Vec ℕ Global)) (ps : List Packet) (b : Vec ℕ Global) (p : Packet) → ArePackets bag ps → ReadsPacket b.items p →
+pub bag_push : (bag : List (Vec ℕ Global)) (ps : List Packet) (b : Vec ℕ Global) (p : Packet) → ArePackets bag ps → Carries b.items p →
     ArePackets (bag ++ b ∷ []) (ps ++ p ∷ [])
 bag_push [] [] b p h is = (is, tt)
 bag_push (x ∷ bag) (y ∷ ps) b p (first, rest) is = (first, bag_push bag ps b p rest is)
@@ -27,10 +26,12 @@ bag_length (x ∷ bag) [] h = absurd h
 pub bag_there : (bag : List (Vec ℕ Global)) (ps : List Packet) (i : ℕ) (b : Vec ℕ Global) → ArePackets bag ps → i < length bag → b ≡ get_or bag i b →
     IsItem ps (suc i) b.items
 bag_there [] [] i b h l e = absurd (omega arith)
-bag_there (x ∷ bag) (y ∷ ps) zero b (first, rest) l e = record { packet = y; here = refl; reads = rw e first }
+bag_there (x ∷ bag) (y ∷ ps) zero b (first, rest) l e =
+    let both : Carries b.items y = rw e first in
+    record { packet = y; here = refl; writes = both.0; reads = both.1 }
 bag_there (x ∷ bag) (y ∷ ps) (suc i) b (first, rest) l e =
     let there = bag_there bag ps i b rest (omega arith) e in
-    record { packet = there.packet; here = there.here; reads = there.reads }
+    record { packet = there.packet; here = there.here; writes = there.writes; reads = there.reads }
 bag_there [] (y ∷ ps) i b h l e = absurd h
 bag_there (x ∷ bag) [] i b h l e = absurd h
 

@@ -7,7 +7,7 @@ use Rattle.sctp_model.specs.wire.Packet.{Packet}
 use Rattle.sctp_model.specs.end.EndView.{EndView}
 use Rattle.sctp_model.specs.end.Moments.{ticked}
 use Rattle.sctp_model.specs.world.World.{Side, A, B, World, Log, end_of, bag_of, log_of, with_order, newly_abandoned}
-use Rattle.sctp_packet.specs.PacketBytes.{ReadsPacket}
+use Rattle.sctp_packet.specs.PacketBytes.{ReadsPacket, WritesPacket}
 use Rattle.sctp_endpoint.specs.EndpointStands.{EndpointStands}
 use Rattle.sctp_pair.specs.Noted.{AreNoted}
 use Rattle.sctp_pair.specs.declared.one_side.OneSide.{OneSide}
@@ -42,10 +42,14 @@ ticked_side v now = record v {
 
 -- ---- what stands for it
 
+-- the bytes that were written for a packet, byte for byte, which read as it
+abbrev pub Carries : List ℕ → Packet → Type 0
+Carries bytes p = WritesPacket bytes p × ReadsPacket bytes p
+
 -- the bytes of each packet of a bag, in order
 abbrev pub ArePackets : List (Vec ℕ Global) → List Packet → Type 0
 ArePackets [] [] = Unit {0}
-ArePackets (b ∷ bag) (p ∷ ps) = ReadsPacket b.items p × ArePackets bag ps
+ArePackets (b ∷ bag) (p ∷ ps) = Carries b.items p × ArePackets bag ps
 ArePackets [] (p ∷ ps) = ⊥
 ArePackets (b ∷ bag) [] = ⊥
 
@@ -53,6 +57,7 @@ ArePackets (b ∷ bag) [] = ⊥
 pub record IsItem (ps : List Packet) (number : ℕ) (bytes : List ℕ) : Type 0 where
   pub packet : Packet
   pub here : item_at ps number ≡ Some packet
+  pub writes : WritesPacket bytes packet
   pub reads : ReadsPacket bytes packet
 
 -- Each part of a side of a pair stands for its part of the world's: the end, the bag, and all that is noted.

@@ -15,9 +15,8 @@ ghost use Rattle.sctp_events.specs.Events.{answer_of};
 ghost use Rattle.sctp_pair.specs.Sides.{SideView, side_of, left, SideStands, ArePackets, IsItem};
 
 use crate::one_side::{OneSide, put_packet};
-use sctp_endpoint::{Endpoint, Verdict};
+use sctp_endpoint::{Endpoint, Verdict, written_packet_reads};
 use sctp_events::Outcome;
-use sctp_packet::written_packet_reads;
 use sctp_terms::Draw;
 use sctp_values::NoMemory;
 

@@ -14,10 +14,9 @@ use crate::arrivals::{arrive, packet_at};
 use crate::moments::{make_room, tick};
 use crate::one_side::{build_at, refused};
 use crate::pair::Pair;
-use sctp_endpoint::Endpoint;
+use sctp_endpoint::{Endpoint, one_packet};
 use sctp_events::{Outcome, Refusal, Side};
 use sctp_outcomes::new_ends_have_no_logs;
-use sctp_packet::one_packet;
 use sctp_terms::Draw;
 use sctp_values::NoMemory;
 

@@ -13,13 +13,11 @@ ghost use Rattle.sctp_outcomes.specs.Kept.{HasNoLogs};
 ghost use Rattle.sctp_endpoint.specs.EndpointStands.{EndpointStands};
 ghost use Rattle.sctp_events.specs.Events.{refusal_meaning, outcome_meaning, answer_of};
 ghost use Rattle.sctp_pair.specs.Memory.{TakesMemory};
-ghost use Rattle.sctp_packet.specs.PacketBytes.{ReadsPacket};
-ghost use Rattle.sctp_pair.specs.Sides.{SideView, side_of, with_side, SideStands, ArePackets};
+ghost use Rattle.sctp_pair.specs.Sides.{SideView, side_of, with_side, SideStands, Carries, ArePackets};
 
 use crate::taken::{StreamLog, fresh_logs, make_room_at, note_at, wipe};
-use sctp_endpoint::{Endpoint, Refused, Sent};
+use sctp_endpoint::{Endpoint, Refused, Sent, written_packet_reads};
 use sctp_events::{Outcome, Refusal};
-use sctp_packet::written_packet_reads;
 use sctp_send::SendFault;
 use sctp_terms::AbortFault;
 use sctp_values::{NoMemory, Ticket};
@@ -72,7 +70,7 @@ impl OneSide {
 /// Puts a packet into a bag that has room for it. It keeps no more memory than its bytes take: an end takes a whole packet's beforehand.
 pub(crate) fn put_packet(bag: &mut Vec<Vec<u8>>, packet: Vec<u8>)
     requires { length bag.old.items < vec_capacity bag.old }
-    ensures packets { (ps : List Packet) (p : Packet) → ArePackets bag.old.items ps → ReadsPacket packet.items p → ArePackets bag.new.items (ps ++ p ∷ []) }
+    ensures packets { (ps : List Packet) (p : Packet) → ArePackets bag.old.items ps → Carries packet.items p → ArePackets bag.new.items (ps ++ p ∷ []) }
     ensures number { length bag.new.items ≡ length bag.old.items + 1 }
 {
     let mut packet = packet;

@@ -6,8 +6,8 @@ ghost use Rattle.sctp_trace.specs.ScriptSafe.{ScriptsAreSafe};
 ghost use Rattle.sctp_trace.specs.ScriptLaws.{LinesAreThere};
 
 use sctp_cookie::keys_have_seals;
+use sctp_endpoint::one_packet;
 use sctp_outcomes::every_event_has_an_outcome;
-use sctp_packet::one_packet;
 use sctp_pair::premises_are_the_keys;
 use sctp_safety::each_world_on_the_way_is_safe;
 use sctp_script::{events_can_happen, events_follow_the_pair, one_meaning, the_pair_comes_first};

@@ -82,5 +82,5 @@ returns-in-Answer c = λ w s e p stands brings reads clock draw.
     let keeps = packets_keep_logs v c.args.clock c.args.draw p did.0 did.1 (c.sound.ensures _ stands.end) did.2 in (
       side did.0 (bag_of w s ++ q ∷ []) (log_of w s),
       answers w e s c.args.clock c.args.draw p did.0 q c.len.result c.len-length.result brings clock draw there long came,
-      record { end = did.4; bag = c.put_packet.ensures.packets _ q (rw c.reserve.ensures.items stands.bag) kept; notes = notes_kept _ _ _ v did.0 (log_of w s) stands.notes keeps },
+      record { end = did.4; bag = c.put_packet.ensures.packets _ q (rw c.reserve.ensures.items stands.bag) (is.2, kept); notes = notes_kept _ _ _ v did.0 (log_of w s) stands.notes keeps },
     )

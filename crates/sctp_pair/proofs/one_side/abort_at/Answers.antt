@@ -49,7 +49,7 @@ returns-in-Ok c = λ w s stands.
       aborts w s r p c.len.result c.len-length.result told.1 there long,
       record {
         end = left_so _ v _ _ told.1 (c.in-Ok.ensures.step v stands.end);
-        bag = c.put_packet.ensures.packets _ p (rw c.reserve.ensures.items stands.bag) reads;
+        bag = c.put_packet.ensures.packets _ p (rw c.reserve.ensures.items stands.bag) (told.2, reads);
         notes = notes_kept _ _ _ v (abort_leaves (Aborts p) v) (log_of w s) stands.notes keeps;
       },
     )

@@ -65,7 +65,7 @@ returns-in-Some c = λ w s stands clock.
       builds w s c.args.clock xs sent.after c.len.result c.len-length.result clock sent.some there long sent.builds,
       record {
         end = sent.stands;
-        bag = c.put_packet.ensures.packets _ (packet_of v xs) (rw c.reserve.ensures.items stands.bag) reads;
+        bag = c.put_packet.ensures.packets _ (packet_of v xs) (rw c.reserve.ensures.items stands.bag) (sent.packet, reads);
         notes = notes_numbered _ _ _ v sent.after (log_of w s) c.push_reserved.new.self.items tickets numbered sent.tickets stands.notes adds;
       },
     )
