@@ -191,16 +191,17 @@ packet_same e p ours = rw (ours.source, ours.destination, ours.tag) refl
 
 pub answered : (e : EndView) (s : SenderView) (r : Option Built) (m : Machine) (p : Packing) (tickets : Vec Ticket Global) → IsPacked e s p tickets
     → MatchOption r (p.writer.chunks ≡ []) (λ b. WritesPacket b.packet.items (packet_of p.writer)) → IfSome r (λ b. length b.packet.items ≡ size_of_packet p.writer.chunks)
-    → IfSome r (λ b. b.tickets ≡ tickets) → MachineStands m (record (drafted p.marks e) { sender = s }) → BuildAnswer e r m
-answered e s None m p tickets packed none size same stands =
+    → IfSome r (λ b. length b.packet.items ≤ p.writer.limit) → IfSome r (λ b. b.tickets ≡ tickets) → MachineStands m (record (drafted p.marks e) { sender = s }) → BuildAnswer e r m
+answered e s None m p tickets packed none size within same stands =
     let x : EndView = record (drafted p.marks e) { sender = s } in (x, subst (λ (zs : List ChunkMeaning). Builds e zs x) none packed.builds, stands)
-answered e s (Some b) m p tickets packed writes size same stands = record {
+answered e s (Some b) m p tickets packed writes size within same stands = record {
   chunks = p.writer.chunks;
   after = record (drafted p.marks e) { sender = s };
   builds = packed.builds;
   some = writes.some;
   packet = subst (WritesPacket b.packet.items) (packet_same e p packed.packet) writes;
   size = size;
+  within = rw (← packed.packet.limit) within;
   tickets = ap (λ (ts : Vec Ticket Global). map (λ t. t.0) ts.items) same ∙ packed.tickets_are;
   stands = stands;
 }

@@ -1,5 +1,5 @@
 -- What an end answers to building its next packet, and what that leaves (RFC 9260, 6.10).
-use Rattle.std.specs.Prelude.{◌≡◌, List, [], length, map, Option, Some, None}
+use Rattle.std.specs.Prelude.{◌≡◌, ◌≤◌, List, [], length, map, Option, Some, None}
 use Rattle.sctp_model.specs.wire.Chunk.{ChunkMeaning}
 use Rattle.sctp_model.specs.wire.Packet.{size_of_packet}
 use Rattle.sctp_model.specs.sender.Filling.{newly_numbered}
@@ -10,7 +10,7 @@ use Rattle.sctp_association.specs.MachineStands.{MachineStands}
 use Rattle.sctp_association.specs.declared.building.Built.{Built}
 use Rattle.sctp_association.specs.declared.machine.Machine.{Machine}
 
--- A packet of the chunks that the next packet holds, of which there are some; the tickets are those newly numbered, by first TSN.
+-- A packet of the chunks that the next packet holds, of which there are some, within the limit; the tickets are those newly numbered, by first TSN.
 pub record IsBuilt (e : EndView) (b : Built) (m : Machine) : Type 0 where
   pub chunks : List ChunkMeaning
   pub after : EndView
@@ -18,6 +18,7 @@ pub record IsBuilt (e : EndView) (b : Built) (m : Machine) : Type 0 where
   pub some : chunks ≡ [] → ⊥
   pub packet : WritesPacket b.packet.items (packet_of e chunks)
   pub size : length b.packet.items ≡ size_of_packet chunks
+  pub within : length b.packet.items ≤ e.configuration.limit
   pub tickets : map (λ t. t.0) b.tickets.items ≡ newly_numbered e.sender after.sender
   pub stands : MachineStands m after
 

@@ -1,6 +1,6 @@
 //! The user aborts the association (RFC 9260, 9.1 and 11.1.4).
 
-ghost use Rattle.std.specs.Prelude.{◌≡◌};
+ghost use Rattle.std.specs.Prelude.{◌≡◌, ◌≤◌, length, IfOk};
 ghost use Rattle.sctp_model.specs.end.EndView.{EndView};
 ghost use Rattle.sctp_model.specs.end.UserCalls.{peer_tag};
 ghost use Rattle.sctp_association.specs.MachineStands.{MachineStands};
@@ -24,6 +24,7 @@ impl Machine {
     /// was refused. Nothing changed then.
     pub fn abort(&mut self, reason: &[u8]) -> Result<Vec<u8>, AbortFault>
         ensures answer { (v : EndView) → MachineStands self.old v → AbortAnswers v reason.now result }
+        ensures within { (v : EndView) → MachineStands self.old v → IfOk result (λ packet. length packet.items ≤ v.configuration.limit) }
         ensures step { (v : EndView) → MachineStands self.old v → MachineStands self.new (aborted_view v reason.now result) }
     {
         let Some(tag) = self.peer_tag() else {

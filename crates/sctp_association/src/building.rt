@@ -1,7 +1,7 @@
 //! An end's next packet (RFC 9260, 5.1, 6.10 and 9.2): all its chunks are put in first, which alone wants memory, and then the end is left as
 //! they leave it.
 
-ghost use Rattle.std.specs.Prelude.{◌≡◌, ℕ, [], length, IfOk, OnErr, IfSome, MatchOption};
+ghost use Rattle.std.specs.Prelude.{◌≡◌, ◌≤◌, ℕ, [], length, IfOk, OnErr, IfSome, MatchOption};
 ghost use Rattle.sctp_model.specs.messages.Format.{Format};
 ghost use Rattle.sctp_model.specs.sender.SenderView.{SenderView};
 ghost use Rattle.sctp_model.specs.receiver.ReceiverView.{ReceiverView};
@@ -101,6 +101,7 @@ impl Machine {
         ensures stands { (v : EndView) → MachineStands self.old v → MachineStands self.new (drafted packing.marks (record v { moment = moment })) }
         ensures packet { MatchOption result (packing.writer.chunks ≡ []) (λ b. WritesPacket b.packet.items (packet_of packing.writer)) }
         ensures size { IfSome result (λ b. length b.packet.items ≡ size_of_packet packing.writer.chunks) }
+        ensures within { IfSome result (λ b. length b.packet.items ≤ packing.writer.limit) }
         ensures tickets { IfSome result (λ b. b.tickets ≡ tickets) }
     {
         self.moment = moment;

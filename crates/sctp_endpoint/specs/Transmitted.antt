@@ -1,5 +1,5 @@
 -- What an end sends next, in terms of a view (RFC 9260, 6.10).
-use Rattle.std.specs.Prelude.{◌≡◌, List, [], length, map, Option, Some, None}
+use Rattle.std.specs.Prelude.{◌≡◌, ◌≤◌, List, [], length, map, Option, Some, None}
 use Rattle.sctp_model.specs.wire.Chunk.{ChunkMeaning}
 use Rattle.sctp_model.specs.wire.Packet.{size_of_packet}
 use Rattle.sctp_model.specs.sender.Filling.{newly_numbered}
@@ -10,7 +10,7 @@ use Rattle.sctp_endpoint.specs.EndpointStands.{EndpointStands}
 use Rattle.sctp_endpoint.specs.declared.transmit.Sent.{Sent}
 use Rattle.sctp_endpoint.specs.declared.endpoint.Endpoint.{Endpoint}
 
--- A packet of the chunks that the next packet holds, of which there are some; the tickets are those newly numbered, by first TSN.
+-- A packet of the chunks that the next packet holds, of which there are some, within the limit; the tickets are those newly numbered, by first TSN.
 pub record IsSent (v : EndView) (s : Sent) (e : Endpoint) : Type 0 where
   pub chunks : List ChunkMeaning
   pub after : EndView
@@ -18,6 +18,7 @@ pub record IsSent (v : EndView) (s : Sent) (e : Endpoint) : Type 0 where
   pub some : chunks ≡ [] → ⊥
   pub packet : WritesPacket s.packet.items (packet_of v chunks)
   pub size : length s.packet.items ≡ size_of_packet chunks
+  pub within : length s.packet.items ≤ v.configuration.limit
   pub tickets : map (λ t. t.0) s.tickets.items ≡ newly_numbered v.sender after.sender
   pub stands : EndpointStands e after
 

@@ -21,7 +21,7 @@ mod transmit;
 
 pub use after::Verdict;
 pub use endpoint::Endpoint;
-pub use laws::{one_packet, written_packet_reads};
+pub use laws::{chunk_types, one_packet, written_packet_reads};
 pub use sctp_association::Refused;
 pub use sctp_cookie::Key;
 pub use sctp_recv::Message;

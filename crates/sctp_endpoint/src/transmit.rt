@@ -1,6 +1,6 @@
 //! What an end sends (RFC 9260, 6.10 and 11.1.4).
 
-ghost use Rattle.std.specs.Prelude.{IfOk, OnErr};
+ghost use Rattle.std.specs.Prelude.{◌≤◌, length, IfOk, OnErr};
 ghost use Rattle.sctp_model.specs.end.EndView.{EndView};
 ghost use Rattle.sctp_model.specs.end.Clock.{at_moment};
 ghost use Rattle.sctp_association.specs.AbortAnswers.{AbortAnswers, aborted_view};
@@ -53,6 +53,7 @@ impl Endpoint {
     /// one packet, `AbortFault::NoMemory` where a growth was refused. Nothing changed.
     pub fn abort(&mut self, reason: &[u8]) -> Result<Vec<u8>, AbortFault>
         ensures answer { (v : EndView) → EndpointStands self.old v → AbortAnswers v reason.now result }
+        ensures within { (v : EndView) → EndpointStands self.old v → IfOk result (λ packet. length packet.items ≤ v.configuration.limit) }
         ensures step { (v : EndView) → EndpointStands self.old v → EndpointStands self.new (aborted_view v reason.now result) }
         ensures logs { (v : EndView) → EndpointStands self.old v → LeavesLogs v self.new }
     {

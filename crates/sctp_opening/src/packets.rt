@@ -40,7 +40,8 @@ pub fn lone_packet(
 ) -> Result<Vec<u8>, NoMemory>
     requires fits { Fits (chunk_meaning chunk.now) }
     requires within { size_of_packet (chunk_meaning chunk.now ∷ []) ≤ config.now.limit }
-    ensures { IfOk result (λ packet. WritesPacket packet.items (packet_to config.now tag (chunk_meaning chunk.now))) }
+    ensures packet { IfOk result (λ packet. WritesPacket packet.items (packet_to config.now tag (chunk_meaning chunk.now))) }
+    ensures within { IfOk result (λ packet. length packet.items ≤ config.now.limit) }
 {
     let limit = config.limit();
     let mut writer = PacketWriter::new(alloc, limit, config.own_port(), config.peer_port(), tag);
@@ -65,7 +66,8 @@ pub fn abort_packet(
     value: &[u8],
 ) -> Result<Vec<u8>, NoMemory>
     requires { size_alone (8 + length value.now) ≤ config.now.limit }
-    ensures { IfOk result (λ packet. WritesPacket packet.items (packet_to config.now tag (abort_for (item cause value.now)))) }
+    ensures packet { IfOk result (λ packet. WritesPacket packet.items (packet_to config.now tag (abort_for (item cause value.now)))) }
+    ensures within { IfOk result (λ packet. length packet.items ≤ config.now.limit) }
 {
     // So the cause has a length of 16 bits.
     let _limit = config.limit();
@@ -84,7 +86,8 @@ pub(crate) fn bare_abort(
     tag: u32,
     reflected: bool,
 ) -> Result<Vec<u8>, NoMemory>
-    ensures { IfOk result (λ packet. WritesPacket packet.items (packet_to config.now tag (Abort reflected []))) }
+    ensures packet { IfOk result (λ packet. WritesPacket packet.items (packet_to config.now tag (Abort reflected []))) }
+    ensures within { IfOk result (λ packet. length packet.items ≤ config.now.limit) }
 {
     // So a packet has room for it.
     let _limit = config.limit();
@@ -102,7 +105,8 @@ pub(crate) fn stale_cookie_packet(
     tag: u32,
     microseconds: u32,
 ) -> Result<Vec<u8>, NoMemory>
-    ensures { IfOk result (λ packet. WritesPacket packet.items (packet_to config.now tag (Error (written (item STALE_COOKIE (u32_bytes microseconds) ∷ []))))) }
+    ensures packet { IfOk result (λ packet. WritesPacket packet.items (packet_to config.now tag (Error (written (item STALE_COOKIE (u32_bytes microseconds) ∷ []))))) }
+    ensures within { IfOk result (λ packet. length packet.items ≤ config.now.limit) }
 {
     // So a packet has room for the cause.
     let _limit = config.limit();

@@ -25,7 +25,7 @@ returns-in-Ok-clause-answer c = λ v stands.
     let goes = peer_by v c.args.reason.now _ true (c.in-Some.ensures v stands)
     (by_room v c.args.self.now.config c.args.reason.now c.room_behind.result true stands.configuration (c.room_behind.ensures.exact (length c.args.reason.now))
     (short_enough _ _ c.if-reason-room_behind.false)) in
-    (_, goes, subst (λ (k : Configuration). WritesPacket c.in-Ok.packet.items (packet_to k c.in-Some.tag (abort_for (item USER_ABORT c.args.reason.now)))) stands.configuration c.in-Ok.ensures)
+    (_, goes, subst (λ (k : Configuration). WritesPacket c.in-Ok.packet.items (packet_to k c.in-Some.tag (abort_for (item USER_ABORT c.args.reason.now)))) stands.configuration c.in-Ok.ensures.packet)
 
 pub returns-in-Ok-clause-step : goal.returns-in-Ok-clause-step
 unfolding MachineStands

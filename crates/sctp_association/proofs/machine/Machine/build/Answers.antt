@@ -13,4 +13,4 @@ returns-clause-built c = λ v stands.
     let packed = c.in_ok-tickets.ensures.packed v stands (c.packing-packing.ensures v n stands) in
     subst (λ (m : ℕ). BuildAnswer (record v { moment = m }) c.sent.result c.sent.new.self) clock
     (answered (record v { moment = n }) packed.0 c.sent.result c.sent.new.self c.pack.new.packing c.in_ok-tickets.tickets packed.1
-    c.sent.ensures.packet c.sent.ensures.size c.sent.ensures.tickets (c.sent.ensures.stands (record v { sender = packed.0 }) packed.2))
+    c.sent.ensures.packet c.sent.ensures.size c.sent.ensures.within c.sent.ensures.tickets (c.sent.ensures.stands (record v { sender = packed.0 }) packed.2))

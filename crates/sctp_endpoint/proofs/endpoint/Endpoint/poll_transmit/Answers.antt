@@ -9,7 +9,7 @@ pub returns-in-Some-clause-step : goal.returns-in-Some-clause-step
 unfolding EndpointStands
 returns-in-Some-clause-step c = λ v stands.
     let b = rw c.in-Some.is at c.in_ok-built.ensures.built v stands in
-    record { chunks = b.chunks; after = b.after; builds = b.builds; some = b.some; packet = b.packet; size = b.size; tickets = b.tickets; stands = b.stands }
+    record { chunks = b.chunks; after = b.after; builds = b.builds; some = b.some; packet = b.packet; size = b.size; within = b.within; tickets = b.tickets; stands = b.stands }
 
 pub returns-in-None-clause-step : goal.returns-in-None-clause-step
 unfolding EndpointStands

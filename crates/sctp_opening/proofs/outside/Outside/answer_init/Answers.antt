@@ -15,7 +15,7 @@ pub returns-then-has_no_stream : goal.returns-then-has_no_stream
 returns-then-has_no_stream c = λ s e under at.
     let none : has_no_stream (init_meaning c.args.offer.now) ≡ true = grind (arith, common_steps) in
     subst (λ (v : Verdict). IfOk c.abort_packet.result (λ packet. IsAnswer packet.items v))
-    (refused-is s e c.args.self.now.draw (init_meaning c.args.offer.now) c.args.self.now.config at.configured none) c.abort_packet.ensures
+    (refused-is s e c.args.self.now.draw (init_meaning c.args.offer.now) c.args.self.now.config at.configured none) c.abort_packet.ensures.packet
 
 pub introduction-requires : goal.introduction-requires
 introduction-requires c = rw c.deref.ensures.value ((written_list c.in_ok-list.list.items c.in_ok-list.ensures.list).listed)
