@@ -30,9 +30,9 @@ impl Endpoint {
     /// before the latest counts as that one. The draw is a fresh one, for an INIT: what a listener answers with, and forgets.
     ///
     /// The verdict says whether it acted. An answer is a packet to send at once; whatever else the end has to say comes from
-    /// `poll_transmit`. Messages that became whole wait for `take`. A packet that is dropped changes nothing but the moment, except that before a
-    /// COOKIE ECHO that doesn't open chunks of it may have acted. Nor does a packet change anything at an end without an association, unless a
-    /// cookie in it opens; both are laws of the rows that this call follows (`sctp_outcomes::packets_leave_no_trace`).
+    /// `poll_transmit`. Messages that became whole wait for `take`. A packet that is dropped, whatever for, changes nothing but the moment; nor
+    /// does one that comes to an end without an association, unless a cookie in it opens: both are laws of the rows that this call follows
+    /// (`sctp_outcomes::packets_leave_no_trace`).
     ///
     /// # Errors
     /// `NoMemory` where a growth was refused: the end stands as after the packet cut before the chunk that wanted it, so the packet may be
