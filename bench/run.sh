@@ -95,9 +95,14 @@ endpoint() {
     # shellcheck disable=SC2086
     build endpoint $end
     for over in halves ends interleaved; do
-        each "$over: a message of 64 bytes, 9.5 to a packet" 100 300 19 "$built" "$over" 19 64
-        each "$over: a message of 64 bytes, one to a packet" 1000 3000 1 "$built" "$over" 1 64
-        each "$over: a message of 16,384 bytes in 12 fragments" 50 150 1 "$built" "$over" 1 16384
+        each "$over: a message of 64 bytes, 9.5 to a packet" 100 300 19 "$built" "$over" 19 64 1
+        each "$over: a message of 64 bytes, one to a packet" 1000 3000 1 "$built" "$over" 1 64 1
+        each "$over: a message of 16,384 bytes in 12 fragments" 50 150 1 "$built" "$over" 1 16384 1
+    done
+    for over in ends interleaved; do
+        for streams in 32 1024; do
+            each "$over: a message of 64 bytes, 9.5 to a packet, on the last of $streams streams" 100 300 19 "$built" "$over" 19 64 "$streams"
+        done
     done
 }
 
@@ -139,14 +144,14 @@ receiver_growth() {
         grows "$format: a fragment between two of so many chains of its message, while a later message waits whole" 2000 100 call "$built" "$format" later
         grows "$format: a fragment of the message that is waited for, while so many later messages wait whole" 1100 100 call "$built" "$format" behind
         grows "$format: a gap closed amid so many runs" 2000 100 call "$built" "$format" gaps
-        grows "$format: a FORWARD at so many streams" 500 20 call "$built" "$format" forwards
-        grows "$format: a FORWARD with an entry for each of so many streams, by entry" 80 20 kept "$built" "$format" entries
+        grows "$format: a FORWARD at so many streams" 256 20 call "$built" "$format" forwards
+        grows "$format: a FORWARD with an entry for each of so many streams, by entry" 256 20 kept "$built" "$format" entries
         grows "$format: a FORWARD with so many entries for 32 streams, by entry" 80 20 kept "$built" "$format" shared
-        grows "$format: a FORWARD while a part lies on each of so many streams" 500 20 call "$built" "$format" loose
+        grows "$format: a FORWARD while a part lies on each of so many streams" 256 20 call "$built" "$format" loose
     done
     # under I-DATA they go by number; what is freed at the program's end jumps
     within='sctp_recv::receiver::Receiver::on_forward*'
-    grows 'data: a FORWARD that leaves the part on one of so many streams behind' 500 20 call "$built" data left
+    grows 'data: a FORWARD that leaves the part on one of so many streams behind' 256 20 call "$built" data left
     for format in data i-data; do
         grows "$format: a FORWARD that jumps over so many messages in part on 32 streams, by message" 4000 1 kept "$built" "$format" parts
         grows "$format: the same, but for the last one on each stream, by message" 4000 1 kept "$built" "$format" parts-but-one
@@ -170,11 +175,11 @@ sender_growth() {
         grows "$format: point, behind so many abandoned" 1024 100 call "$built" "$format" point
         grows "$format: put_forward, of so many abandoned on 32 streams, by message" 1024 20 kept "$built" "$format" forward
         grows "$format: put_forward, of 1,000 abandoned in front of so many on 32 streams" 2048 20 call "$built" "$format" forward-front
-        grows "$format: put_forward, of 1,000 abandoned on one of so many streams" 512 20 call "$built" "$format" forward-few
+        grows "$format: put_forward, of 1,000 abandoned on one of so many streams" 256 20 call "$built" "$format" forward-few
         # what is freed at the program's end jumps
         within='sender_growth::fill::*'
         grows "$format: fill, a packet of 64-byte messages, so many waiting on one of 32 streams" 250 8 call "$built" "$format" fill
-        grows "$format: fill, a packet of 64-byte messages, 900 waiting on one of so many streams" 32 8 call "$built" "$format" fill-streams
+        grows "$format: fill, a packet of 64-byte messages, 900 waiting on one of so many streams" 256 8 call "$built" "$format" fill-streams
         within=
         grows "$format: a SACK of 64 blocks over so many, 128 change" 8000 20 call "$built" "$format" blocks
         grows "$format: a SACK of 365 blocks over so many, 730 change" 8000 20 call "$built" "$format" more-blocks
@@ -184,7 +189,7 @@ sender_growth() {
     grows 'i-data: fill, one message in part on one of so many streams' 256 20 call "$built" i-data fill-part
     grows 'i-data: abandon, of another, one message in part on one of so many streams' 256 20 call "$built" i-data abandon-part
     grows 'i-data: acknowledged, of another, one message in part on one of so many streams' 256 20 call "$built" i-data acknowledged-part
-    grows 'i-data: expire, one late of so many in part, each on a stream of its own' 128 20 call "$built" i-data expire-part
+    grows 'i-data: expire, one late of so many in part, each on a stream of its own' 256 20 call "$built" i-data expire-part
 }
 
 # what one packet of at most 1,500 bytes takes, and what the end sends then
