@@ -1,7 +1,7 @@
 #!/bin/sh
 # Counts instructions by callgrind, of programs that `rt run` proves and builds: what a byte of crc32c takes (beside the same loop in C at -O2), and what a
-# receiver and a sender take for a message; what an endpoint adds to that; what calls of a receiver and of a sender take that keep much; and what one packet
-# of each chunk costs an end at the most. `./run.sh` runs all, `./run.sh crc32c`, `./run.sh receiver`, `./run.sh sender`, `./run.sh endpoint`, `./run.sh growth`
+# receiver and a sender take for a message; what an endpoint adds to that; what an end takes at rest; what calls of a receiver and of a sender take that keep much; and what one packet
+# of each chunk costs an end at the most. `./run.sh` runs all, `./run.sh crc32c`, `./run.sh receiver`, `./run.sh sender`, `./run.sh endpoint`, `./run.sh rest`, `./run.sh growth`
 # and `./run.sh packets` one of them. Needs rt, valgrind and cc.
 set -e
 here=$(cd "$(dirname "$0")" && pwd)
@@ -102,6 +102,18 @@ endpoint() {
     for over in ends interleaved; do
         for streams in 32 1024; do
             each "$over: a message of 64 bytes, 9.5 to a packet, on the last of $streams streams" 100 300 19 "$built" "$over" 19 64 "$streams"
+        done
+    done
+}
+
+# the bytes of an end at rest: half of what two take at most that were opened and carried nothing
+rest() {
+    # shellcheck disable=SC2086
+    build endpoint $end
+    for over in ends interleaved; do
+        for streams in 1 32 1024; do
+            valgrind --tool=massif --heap-admin=0 --massif-out-file="$work/out" "$built" "$over" 0 0 "$streams" 0 > "$work/log" 2>&1
+            awk -F= -v name="$over, $streams streams" '/^mem_heap_B=/ && $2 > most { most = $2 } END { printf "%s: %d bytes an end at rest\n", name, most / 2 }' "$work/out"
         done
     done
 }
@@ -209,6 +221,6 @@ packets() {
 }
 
 case ${1:-all} in
-    all) crc32c; receiver; sender; endpoint; growth; packets ;;
+    all) crc32c; receiver; sender; endpoint; rest; growth; packets ;;
     *) "$1" ;;
 esac
