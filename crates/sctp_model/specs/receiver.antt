@@ -1,6 +1,7 @@
 pub mod ReceiverView
 pub mod Receiving
 pub mod Rows
+pub mod Top
 pub mod Reading
 pub mod KeptOfLane
 pub mod DueInWords

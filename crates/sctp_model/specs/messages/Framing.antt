@@ -35,7 +35,7 @@ takes_turns Interleaved = true
 
 -- ---- reading it again
 
--- a count of 2 ^ 32 - 1 or more is no number
+-- a count of 2 ^ 64 - 1 or more is no number
 abbrev pub as_number : Option ℕ → Option ℕ
 as_number None = None
 as_number (Some n) = if nat_lt n (COUNTS - 1) then Some n else None

@@ -4,10 +4,11 @@ use Rattle.std.specs.Prelude.{ℕ, ◌+◌, ◌-◌, max, not, nat_lt, nat_le, B
 use Rattle.sctp_model.specs.numbers.Limits.{WINDOW}
 use Rattle.sctp_model.specs.numbers.Serial.{COUNTS, tsn, ahead, before}
 use Rattle.sctp_model.specs.wire.Chunk.{PieceMeaning}
-use Rattle.sctp_model.specs.messages.Format.{Format, Kind, Ordered, Unordered, Lane, unordered_lane}
+use Rattle.sctp_model.specs.messages.Format.{Format, Kind, Ordered, Unordered, Lane}
 use Rattle.sctp_model.specs.messages.Framing.{lane_kind, number_near}
 use Rattle.sctp_model.specs.messages.Pieces.{Piece}
 use Rattle.sctp_model.specs.receiver.ReceiverView.{ReceiverView}
+use Rattle.sctp_model.specs.receiver.Top.{top}
 
 -- ---- TSNs, where c is the cumulative index
 
@@ -33,10 +34,10 @@ is_ahead r c wire = nat_lt WINDOW (offset r c wire) || nat_le (COUNTS - 1) (inde
 abbrev pub lane_of : ℕ → Bool → Lane
 lane_of stream unordered = record { stream = stream; kind = lane_kind unordered }
 
--- The count near which numbers of a stream are read: what its ordered messages wait for, or its lowest unordered number that isn't skipped.
+-- The count near which numbers of a stream are read: what its ordered messages wait for, or its largest unordered number so far.
 abbrev pub reference_in : ReceiverView → (stream : ℕ) → Kind → ℕ
 reference_in r s Ordered = r.next s
-reference_in r s Unordered = r.skip (unordered_lane s)
+reference_in r s Unordered = top r s
 
 -- The number of a chunk of this lane, if the format gives it one and a count is near.
 abbrev pub number_in : Format → ReceiverView → Lane → (wire : ℕ) → Option ℕ
