@@ -14,4 +14,5 @@ pub mod Filters
 pub mod OfLane
 pub mod ForwardAtRest
 pub mod HeldBytes
+pub mod TopLaws
 pub mod Examples

@@ -5,7 +5,7 @@ use Rattle.sctp_model.specs.numbers.Lists.{at}
 use Rattle.sctp_model.specs.wire.Chunk.{PieceMeaning, SkipMeaning}
 use Rattle.sctp_model.specs.messages.Pieces.{Piece}
 use Rattle.sctp_model.specs.messages.Forward.{skipped}
-use Rattle.sctp_model.specs.receiver.ReceiverView.{ReceiverView, fresh_receiver}
+use Rattle.sctp_model.specs.receiver.ReceiverView.{Handed, ReceiverView, fresh_receiver}
 use Rattle.sctp_model.specs.receiver.Reading.{number_in, piece_at}
 use Rattle.sctp_model.specs.receiver.PieceTaken.{Duplicate, Ahead, NoSuchStream, Passed, NoRoom, Kept, answer_to, noted}
 use Rattle.sctp_model.specs.receiver.ForwardTaken.{forward_answer, skips_read, OutOfDate, Bad}
@@ -61,9 +61,20 @@ three_fit = refl
 four_dont : answer_to Plain view 0 (chunk 0 0 65535 (1 ∷ 2 ∷ 3 ∷ 4 ∷ [])) ≡ NoRoom
 four_dont = refl
 
--- under I-DATA 2^32 - 1 is no number, and half of the space away there is none
-largest_is_none : answer_to Interleaved (record view { next = λ s. 4294967290 }) 0 (chunk 0 0 4294967295 (1 ∷ [])) ≡ Passed
+-- under I-DATA 2^64 - 1 is no number, and half of the space away there is none
+largest_is_none : answer_to Interleaved (record view { next = λ s. 18446744073709551610 }) 0 (chunk 0 0 4294967295 (1 ∷ [])) ≡ Passed
 largest_is_none = refl
+
+-- 2^32 - 1 is a number, and so are those behind it, whose MIDs begin again at 0
+last_before_the_wrap : number_in Interleaved (record view { next = λ s. 4294967290 }) (ordered_lane 0) 4294967295 ≡ Some 4294967295
+last_before_the_wrap = refl
+
+first_behind_the_wrap : number_in Interleaved (record view { next = λ s. 4294967290 }) (ordered_lane 0) 0 ≡ Some 4294967296
+first_behind_the_wrap = refl
+
+-- an index goes on over 2^32
+index_behind_the_wrap : (piece_at Plain view 4294967294 (chunk 0 0 65535 (1 ∷ []))).index ≡ 4294967298
+index_behind_the_wrap = refl
 
 half_way_is_none : number_in Interleaved (record view { next = λ s. 0 }) (ordered_lane 0) 2147483648 ≡ None
 half_way_is_none = refl
@@ -79,6 +90,24 @@ held = record { index = 9; lane = unordered_lane 1; number = Some 4; begin = tru
 fragment_again : answer_to Interleaved (record view { kept = held ∷ [] }) 0 (record (chunk 1 1 4 (1 ∷ [])) { unordered = true; begin = false; word = 0 }) ≡ Passed
 unfolding held
 fragment_again = refl
+
+-- An unordered MID is read near the largest number of its stream: of a chunk that is kept, of a message that was handed over, or that was skipped.
+told : Handed
+told = record { first = 9; lane = unordered_lane 1; number = Some 2147483650; payload = 0; bytes = [] }
+
+near_the_kept : number_in Interleaved (record view { kept = held ∷ [] }) (unordered_lane 1) 2147483651 ≡ Some 2147483651
+unfolding held
+near_the_kept = refl
+
+near_the_handed : number_in Interleaved (record view { taken = λ s. told ∷ [] }) (unordered_lane 1) 1 ≡ Some 4294967297
+unfolding told
+near_the_handed = refl
+
+near_the_skipped : number_in Interleaved (record view { skip = λ l. 2147483651 }) (unordered_lane 1) 1 ≡ Some 4294967297
+near_the_skipped = refl
+
+near_none : number_in Interleaved view (unordered_lane 1) 2147483648 ≡ None
+near_none = refl
 
 -- the first 16 duplicates are noted
 sixteen : (record view { duplicates = 1 ∷ 2 ∷ 3 ∷ 4 ∷ 5 ∷ 6 ∷ 7 ∷ 8 ∷ 9 ∷ 10 ∷ 11 ∷ 12 ∷ 13 ∷ 14 ∷ 15 ∷ 16 ∷ [] }) ≡ noted (record view { duplicates = 1 ∷ 2 ∷ 3 ∷ 4 ∷ 5 ∷ 6 ∷ 7 ∷ 8 ∷ 9 ∷ 10 ∷ 11 ∷ 12 ∷ 13 ∷ 14 ∷ 15 ∷ 16 ∷ [] }) 17
