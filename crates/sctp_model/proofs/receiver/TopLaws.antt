@@ -36,13 +36,26 @@ number_most l k (Some n) m most = elim (cases_Bool (same_lane k l)) [
   | inr other ↦ let is = number_other l k (Some n) other in omega (arith, is)
 ]
 
--- ordered chunks have no number of an unordered lane
 never : (b : Bool) → (b && false) ≡ false
 never true = refl
 never false = refl
 
 ordered_apart : (s q : ℕ) → same_lane (ordered_lane s) (unordered_lane q) ≡ false
 ordered_apart s q = never (s == q)
+
+-- ordered chunks have no number of an unordered lane
+pub ordered_none : (s q : ℕ) (o : Option ℕ) → number_on (unordered_lane q) (ordered_lane s) o ≡ 0
+ordered_none s q o = number_other (unordered_lane q) (ordered_lane s) o (ordered_apart s q)
+
+-- those of an unordered lane do
+pub number_own : (s : ℕ) (o : Option ℕ) → ((i : ℕ) → o ≡ Some i → number_on (unordered_lane s) (unordered_lane s) o ≡ i) × (o ≡ None → number_on (unordered_lane s) (unordered_lane s) o ≡ 0)
+number_own s o = (λ i is. ap (number_on (unordered_lane s) (unordered_lane s)) is ∙ number_same (unordered_lane s) (unordered_lane s) i itself, λ none. ap (number_on (unordered_lane s) (unordered_lane s)) none)
+  where
+    same : (s == s) ≡ true
+    same = grind (arith, nat_tests)
+
+    itself : same_lane (unordered_lane s) (unordered_lane s) ≡ true
+    itself = ap (λ (b : Bool). b && true) same
 
 -- ---- lists
 
@@ -173,7 +186,7 @@ goes_low l x xs y goes =
         omega (arith, told, e)
 
 -- a lane of another stream has no number of an unordered lane
-other_stream : (k : Lane) (o : Option ℕ) (q : ℕ) → (q == k.stream) ≡ false → number_on (unordered_lane q) k o ≡ 0
+pub other_stream : (k : Lane) (o : Option ℕ) (q : ℕ) → (q == k.stream) ≡ false → number_on (unordered_lane q) k o ≡ 0
 other_stream k o q other =
     let turned : (k.stream == q) ≡ false = grind (arith, other, nat_tests) in
     number_other (unordered_lane q) k o (ap (λ (b : Bool). b && same_kind k.kind Unordered) turned)
