@@ -4,7 +4,7 @@ use Rattle.sctp_model.specs.numbers.Limits.{WINDOW}
 use Rattle.sctp_model.specs.numbers.Lists.{Has}
 use Rattle.sctp_model.specs.numbers.Serial.{COUNTS, IsWithinHalf, tsn}
 use Rattle.sctp_model.specs.wire.Chunk.{PieceMeaning, SackMeaning, ForwardMeaning}
-use Rattle.sctp_model.specs.messages.Format.{Format, Interleaved, Lane}
+use Rattle.sctp_model.specs.messages.Format.{Format, Lane}
 use Rattle.sctp_model.specs.messages.Plan.{Message, Entry, Part, Plan, entry_at, IsOf}
 use Rattle.sctp_model.specs.messages.Pieces.{Piece, piece_of}
 use Rattle.sctp_model.specs.messages.Forward.{Skip, Forward}
@@ -12,7 +12,6 @@ use Rattle.sctp_model.specs.sender.SenderView.{SenderView}
 use Rattle.sctp_model.specs.receiver.ReceiverView.{Handed, ReceiverView, IsCumulative}
 use Rattle.sctp_model.specs.messages.Acknowledgement.{Acknowledgement}
 use Rattle.sctp_model.specs.sender.SentChunks.{piece_said, skip_said}
-use Rattle.sctp_model.specs.receiver.Reading.{reference_in}
 use Rattle.sctp_model.specs.receiver.PieceTaken.{PieceAnswer, PieceTaken}
 use Rattle.sctp_model.specs.receiver.ForwardTaken.{ForwardAnswer, ForwardTaken}
 use Rattle.sctp_model.specs.receiver.SackMade.{IsSack, TakeLeaves}
@@ -33,14 +32,9 @@ pub record IsCounted (v : SenderView) : Type 0 where
   pub window : length v.plan.entries ≤ v.cum + WINDOW
   pub counts : length v.plan.entries < COUNTS
 
--- An index lies less than half the space of TSNs from the cumulative one.
+-- An index lies less than half the space of TSNs from the cumulative one. Of SSNs and MIDs nothing is asked: the window keeps them near what they are read by.
 abbrev pub IsIndexNear : ReceiverView → (index : ℕ) → Type 0
 IsIndexNear r i = (c : ℕ) → IsCumulative r c → IsWithinHalf 32 i c
-
--- A number of a lane lies less than half the space of MIDs from the one that is waited for (RFC 8260, 2.1). That of an SSN need not be asked:
--- the window keeps it near.
-abbrev pub IsNumberNear : ReceiverView → Lane → (number : ℕ) → Type 0
-IsNumberNear r l n = IsWithinHalf 32 n (reference_in r l.stream l.kind)
 
 -- ---- what a call leaves: moves lead there, nothing is due, and the constants are as they were
 
@@ -78,22 +72,23 @@ pub record IsForwardSaid (f : Format) (initial : ℕ) (p : Plan) (fs : List Forw
 
 -- ---- the laws
 
--- A data chunk that comes while its index, and its MID if it has one, are near, whatever is answered.
+-- A data chunk that comes while its index is near, whatever is answered.
 abbrev pub PieceTakenIsMoves : Type 0
 PieceTakenIsMoves = (w : Way) (p : PieceMeaning) (a : PieceAnswer) (t : ReceiverView) → IsUsual w → IsJoined w → IsCounted w.sender → IsIdle w.format w.receiver →
     (said : IsPieceSaid w.format w.sender.initial w.pieces p) → IsIndexNear w.receiver said.index →
-    (w.format ≡ Interleaved → IsNumberNear w.receiver said.lane said.number) → PieceTaken w.format w.receiver p a t → IsReceived w t
+    PieceTaken w.format w.receiver p a t → IsReceived w t
 
--- A FORWARD that comes while its point, and its MIDs if it has some, are near, whatever is answered.
+-- A FORWARD that comes while its point is near, whatever is answered.
 abbrev pub ForwardTakenIsMoves : Type 0
 ForwardTakenIsMoves = (w : Way) (m : ForwardMeaning) (a : ForwardAnswer) (t : ReceiverView) → IsUsual w → IsJoined w → IsCounted w.sender → IsIdle w.format w.receiver →
     (said : IsForwardSaid w.format w.sender.initial w.sender.plan w.forwards m) → IsIndexNear w.receiver said.forward.point →
-    (w.format ≡ Interleaved → (y : Skip) → Has said.forward.skips y → IsNumberNear w.receiver y.lane y.number) → ForwardTaken w.format w.receiver m a t → IsReceived w t
+    ForwardTaken w.format w.receiver m a t → IsReceived w t
 
 -- The SACK of a receiver says one that may be put between the ends.
 pub record IsSackPut (w : Way) (s : SackMeaning) : Type 0 where
   pub sack : Acknowledgement
   pub of : IsSackOf w.receiver.initial sack s
+  pub cumulative : IsCumulative w.receiver sack.cum
   pub leads : Leads w (record w { sacks = sack ∷ w.sacks })
 
 -- A SACK that a receiver makes may be put between the ends (RFC 9260, 6.2).

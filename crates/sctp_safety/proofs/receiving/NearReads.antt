@@ -4,7 +4,8 @@ use Rattle.std.specs.Prelude.{if◌then◌else◌}
 use Rattle.std.proofs.lemmas.Bool.{cases_lt, lt-ltb, le-leb}
 use Rattle.std.proofs.lemmas.Bool.Decides.{nat_tests}
 use Rattle.sctp_model.specs.numbers.Serial.{COUNTS, IsWithinHalf, wire_value, tsn, ahead, half_space, as_count, near}
-use Rattle.sctp_model.specs.messages.Framing.{as_number}
+use Rattle.sctp_model.specs.messages.Format.{Format, Plain, Interleaved, Kind, Ordered, Unordered, is_numbered}
+use Rattle.sctp_model.specs.messages.Framing.{as_number, wire_number, number_near}
 
 -- ---- TSNs
 
@@ -57,16 +58,32 @@ answered_below half n r up down over is a b c =
     rw (x, y, v, z, u) refl
 
 -- A number less than half the space away is read again, in 16 bits and in 32.
-pub near_16 : (n r : ℕ) → n < r + 2 ^ 15 → r < n + 2 ^ 15 → n < COUNTS - 1 → as_number (near 16 (wire_value 16 n) r) ≡ Some n
+near_16 : (n r : ℕ) → n < r + 2 ^ 15 → r < n + 2 ^ 15 → n < COUNTS - 1 → as_number (near 16 (wire_value 16 n) r) ≡ Some n
 near_16 n r a b c = go (cases_lt n r)
   where
     go : (n < r) ⊎ (r ≤ n) → as_number (near 16 (wire_value 16 n) r) ≡ Some n
     go (inl l) = answered_below (2 ^ 15) n r (ahead 16 r (n % 2 ^ 16)) (ahead 16 (n % 2 ^ 16) r) (over_16 n r l b) (behind_16 n r l b) l b c
     go (inr l) = answered_above (2 ^ 15) n r (ahead 16 r (n % 2 ^ 16)) (ahead 16 (n % 2 ^ 16) r) (ahead_16 n r l a) l a c
 
-pub near_32 : (n r : ℕ) → n < r + 2 ^ 31 → r < n + 2 ^ 31 → n < COUNTS - 1 → as_number (near 32 (wire_value 32 n) r) ≡ Some n
+near_32 : (n r : ℕ) → n < r + 2 ^ 31 → r < n + 2 ^ 31 → n < COUNTS - 1 → as_number (near 32 (wire_value 32 n) r) ≡ Some n
 near_32 n r a b c = go (cases_lt n r)
   where
     go : (n < r) ⊎ (r ≤ n) → as_number (near 32 (wire_value 32 n) r) ≡ Some n
     go (inl l) = answered_below (2 ^ 31) n r (ahead 32 r (n % 2 ^ 32)) (ahead 32 (n % 2 ^ 32) r) (over_32 n r l b) (behind_32 n r l b) l b c
     go (inr l) = answered_above (2 ^ 31) n r (ahead 32 r (n % 2 ^ 32)) (ahead 32 (n % 2 ^ 32) r) (ahead_32 n r l a) l a c
+
+-- ---- numbers that the window keeps near
+
+-- a count lies less than half the space of SSNs from another, and so of MIDs
+pub record IsClose (n r : ℕ) : Type 0 where
+  pub above : n < r + 2 ^ 15
+  pub below : r < n + 2 ^ 15
+
+-- So it is read again in each format that has a number of this kind.
+pub close_reads : (f : Format) (k : Kind) (n r : ℕ) → is_numbered f k ≡ true → IsClose n r → n < COUNTS - 1 → number_near f k (wire_number f k n) r ≡ Some n
+close_reads Plain Ordered n r numbered close small = near_16 n r close.above close.below small
+close_reads Plain Unordered n r numbered close small = absurd (cc)
+close_reads Interleaved k n r numbered close small =
+    let a = close.above in
+    let b = close.below in
+    near_32 n r (omega (arith, a)) (omega (arith, b)) small

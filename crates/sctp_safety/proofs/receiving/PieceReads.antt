@@ -1,12 +1,12 @@
 -- A data chunk of the bag is read as its piece, whatever is answered to it, and what its answer leaves is moves.
-use Rattle.std.proofs.Common.{◌≡◌, ℕ, suc, ◌+◌, ◌-◌, ◌^◌, ◌<◌, ◌≤◌, ◌⊎◌, nat_le, true, false, [], length, Option, Some, None, inl, inr, refl, sym, subst, ap, arith, ◌∙◌}
+use Rattle.std.proofs.Common.{◌≡◌, ℕ, ◌+◌, ◌<◌, ◌≤◌, ◌⊎◌, nat_le, true, false, [], Option, Some, None, inl, inr, refl, sym, subst, ap, arith, ◌∙◌}
 use Rattle.std.specs.Prelude.{if◌then◌else◌}
-use Rattle.std.proofs.lemmas.Bool.{cases_lt, cases_Bool}
-use Rattle.sctp_model.specs.numbers.Serial.{COUNTS, IsWithinHalf, tsn, ahead, half_space}
+use Rattle.std.proofs.lemmas.Bool.{cases_Bool}
+use Rattle.sctp_model.specs.numbers.Serial.{tsn, ahead, half_space}
 use Rattle.sctp_model.specs.wire.Chunk.{PieceMeaning}
-use Rattle.sctp_model.specs.messages.Format.{Format, Plain, Interleaved, Kind, Ordered, Unordered, Lane, is_numbered, ordered_lane, unordered_lane}
+use Rattle.sctp_model.specs.messages.Format.{Format, Plain, Interleaved, Kind, Ordered, Unordered, Lane, is_numbered}
 use Rattle.sctp_model.specs.messages.Framing.{lane_kind, wire_number, number_near}
-use Rattle.sctp_model.specs.messages.Plan.{IsOf, Message, Entry, Part, entry_at, message_at}
+use Rattle.sctp_model.specs.messages.Plan.{Message, Part}
 use Rattle.sctp_model.specs.messages.Pieces.{Piece, piece_of, number_of, IsFragment}
 use Rattle.sctp_model.specs.receiver.ReceiverView.{ReceiverView, IsCumulative}
 use Rattle.sctp_model.specs.receiver.Receiving.{recorded, IsPassed, TakesPiece}
@@ -19,77 +19,16 @@ use Rattle.sctp_model.proofs.receiver.AtRest.{takes_giving}
 use Rattle.sctp_model.proofs.receiver.OneKept.{takes_idle}
 use Rattle.sctp_safety.specs.Way.{Way, Note_duplicates, with_receiver}
 use Rattle.sctp_safety.specs.SenderLaws.{IsUsual}
-use Rattle.sctp_safety.specs.ReceiverLaws.{IsJoined, IsCounted, IsIndexNear, IsNumberNear, IsReceived, IsPieceSaid, PieceTakenIsMoves}
+use Rattle.sctp_safety.specs.ReceiverLaws.{IsJoined, IsCounted, IsIndexNear, IsReceived, IsPieceSaid, PieceTakenIsMoves}
 use Rattle.sctp_safety.proofs.moves.Facts.{Good}
 use Rattle.sctp_safety.proofs.plan.OneMessage.{number_counts}
 use Rattle.sctp_safety.proofs.moves.Settled.{all_numbered}
 use Rattle.sctp_safety.proofs.moves.Taken.{leads_by, taking_is_moves}
 use Rattle.sctp_safety.proofs.moves.Built.{passing_is_moves}
 use Rattle.sctp_safety.proofs.moves.UsualLemmas.{good_usual}
-use Rattle.sctp_safety.proofs.receiving.NearReads.{ahead_is, near_16, near_32}
-use Rattle.sctp_safety.proofs.plan.WaitedFor.{not_far_above, not_far_below}
-use Rattle.sctp_safety.proofs.receiving.ReadBounds.{cum_within, number_within}
+use Rattle.sctp_safety.proofs.receiving.NearReads.{ahead_is}
+use Rattle.sctp_safety.proofs.receiving.NumberReads.{entry_reads}
 use Rattle.sctp_safety.proofs.receiving.PieceAnswers.{ahead_of, fresh_is, no_stream_is, passed_is, passed_by}
-
--- ---- the number
-
--- An ordered number past the cumulative index lies within 16 bits of the next one.
-ordered_reads : (w : Way) (c i n : ℕ) (s : ℕ) (e : Entry) → (g : Good w) → IsIdle w.format w.receiver → IsCounted w.sender → IsCumulative w.receiver c → c < i →
-    entry_at w.sender.plan i ≡ Some e → IsOf (ordered_lane s) n e → n < COUNTS - 1 → number_near Plain Ordered (wire_number Plain Ordered n) (w.receiver.next s) ≡ Some n
-ordered_reads w c i n s e g idle counted cumulative past here of small = near_16 n (w.receiver.next s) above below small
-  where
-    window : length w.sender.plan.entries ≤ c + 32767
-    window = let a = counted.window in let b = cum_within w g c cumulative in omega (arith, a, b)
-
-    known : (k : ℕ) → w.sender.abandoned (ordered_lane s) k ≡ true → (m : Message) × (message_at w.sender.plan (ordered_lane s) k ≡ Some m)
-    known k gone = let x = g.sound.abandoned (ordered_lane s) k gone in (x.0, x.1)
-
-    above : n < w.receiver.next s + 2 ^ 15
-    above = go (cases_lt (w.receiver.next s) n)
-      where
-        go : (w.receiver.next s < n) ⊎ (n ≤ w.receiver.next s) → n < w.receiver.next s + 2 ^ 15
-        go (inr l) = omega (arith, l)
-        go (inl l) =
-            let h = not_far_above w.format w.sender w.receiver s c 32767 g.arranged g.held cumulative.reached (idle.ordered s) window i n e here of l in
-            omega (arith, h)
-
-    below : w.receiver.next s < n + 2 ^ 15
-    below = go (cases_lt (suc n) (w.receiver.next s))
-      where
-        go : (suc n < w.receiver.next s) ⊎ (w.receiver.next s ≤ suc n) → w.receiver.next s < n + 2 ^ 15
-        go (inr l) = omega (arith, l)
-        go (inl l) =
-            let h = not_far_below w.format w.sender w.receiver s g.arranged g.held known c 32767 window i n e here of past l in
-            omega (arith, h)
-
--- The number of an entry past the cumulative index is read again, where the format has one.
-pub number_reads : (w : Way) (c i : ℕ) (l : Lane) (n k : ℕ) (m : Message) → Good w → IsIdle w.format w.receiver → IsCounted w.sender → IsCumulative w.receiver c → c < i →
-    entry_at w.sender.plan i ≡ Some (Part l n k) → message_at w.sender.plan l n ≡ Some m → (w.format ≡ Interleaved → IsNumberNear w.receiver l n) →
-    number_near w.format l.kind (wire_number w.format l.kind n) (reference_in w.receiver l.stream l.kind) ≡ number_of w.format l n
-number_reads w c i l n k m g idle counted cumulative past here named near = go w.format refl l.kind refl
-  where
-    low : n < length w.sender.plan.entries
-    low = number_within w g l n m named
-
-    small : n < COUNTS - 1
-    small = let t = counted.counts in omega (arith, low, t)
-
-    far : (r : ℕ) → IsWithinHalf 32 n r → number_near Interleaved Ordered (wire_number Interleaved Ordered n) r ≡ Some n
-    far r half = near_32 n r half.not_above half.not_below small
-
-    -- the count that a number of this kind is read near
-    close : (q : Kind) → l.kind ≡ q → w.format ≡ Interleaved → IsWithinHalf 32 n (reference_in w.receiver l.stream q)
-    close q e f = subst (λ (y : Kind). IsWithinHalf 32 n (reference_in w.receiver l.stream y)) e (near f)
-
-    lane : (q : Kind) → l.kind ≡ q → l ≡ record { stream = l.stream; kind = q }
-    lane q e = ap (λ (y : Kind). record { stream = l.stream; kind = y }) e
-
-    go : (f : Format) → w.format ≡ f → (q : Kind) → l.kind ≡ q →
-        number_near f q (wire_number f q n) (reference_in w.receiver l.stream q) ≡ (if is_numbered f q then Some n else None)
-    go Plain ef Ordered eq = ordered_reads w c i n l.stream (Part l n k) g idle counted cumulative past here (lane Ordered eq, refl) small
-    go Plain ef Unordered eq = refl
-    go Interleaved ef Ordered eq = far (w.receiver.next l.stream) (close Ordered eq ef)
-    go Interleaved ef Unordered eq = far (w.receiver.skip (unordered_lane l.stream)) (close Unordered eq ef)
 
 -- ---- the chunk
 
@@ -120,7 +59,7 @@ unnumbered_kept Plain r x e = rw e refl
 unnumbered_kept Interleaved r x e = absurd (let h = all_numbered x.lane.kind in cc)
 
 module _ (w : Way) (p : PieceMeaning) (usual : IsUsual w) (joined : IsJoined w) (counted : IsCounted w.sender) (idle : IsIdle w.format w.receiver)
-    (said : IsPieceSaid w.format w.sender.initial w.pieces p) (near : IsIndexNear w.receiver said.index) (number_near_by : w.format ≡ Interleaved → IsNumberNear w.receiver said.lane said.number) where
+    (said : IsPieceSaid w.format w.sender.initial w.pieces p) (near : IsIndexNear w.receiver said.index) where
   g : Good w
   g = good_usual w usual
 
@@ -169,8 +108,8 @@ module _ (w : Way) (p : PieceMeaning) (usual : IsUsual w) (joined : IsJoined w) 
 
       number : (is_numbered w.format said.lane.kind ≡ true) ⊎ (is_numbered w.format said.lane.kind ≡ false) → Reads said.number
       number (inl e) = subst Reads (same_number_said e)
-          (number_reads w c said.index said.lane fragment.number fragment.fragment fragment.message g idle counted cumulative (index_read c cumulative new).1 fragment.here fragment.named
-          (λ f. subst (λ (n : ℕ). IsWithinHalf 32 n (reference_in w.receiver said.lane.stream said.lane.kind)) (sym (same_number_said e)) (number_near_by f)))
+          (entry_reads w g idle counted c cumulative said.lane e said.index fragment.number (Part said.lane fragment.number fragment.fragment) fragment.here (refl, refl) (index_read c cumulative new).1
+          ∙ sym (number_counts w.format said.lane fragment.number e))
       number (inr e) = none w.format said.lane.kind e
         where
           none : (f : Format) (k : Kind) → is_numbered f k ≡ false →
@@ -239,4 +178,4 @@ module _ (w : Way) (p : PieceMeaning) (usual : IsUsual w) (joined : IsJoined w) 
       }
 
 pub piece_taken_is_moves : PieceTakenIsMoves
-piece_taken_is_moves w p a t usual joined counted idle said near number taken = received w p usual joined counted idle said near number a t taken
+piece_taken_is_moves w p a t usual joined counted idle said near taken = received w p usual joined counted idle said near a t taken

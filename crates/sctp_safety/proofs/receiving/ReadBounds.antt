@@ -1,14 +1,12 @@
 -- How far the counts of a direction reach: no further than its plan, which is shorter than half the space of TSNs.
 use Rattle.std.proofs.Common.{◌≡◌, ℕ, zero, suc, ◌<◌, ◌≤◌, ◌⊎◌, true, length, Some, inl, inr, refl, arith}
 use Rattle.std.proofs.lemmas.Bool.{cases_lt}
-use Rattle.sctp_model.specs.messages.Format.{Lane, ordered_lane}
+use Rattle.sctp_model.specs.messages.Format.{Lane}
 use Rattle.sctp_model.specs.messages.Plan.{Message, Part, entry_at, message_at}
 use Rattle.sctp_model.specs.receiver.ReceiverView.{Reaches, IsCumulative}
-use Rattle.sctp_model.specs.world.Safe.{WasHanded}
 use Rattle.sctp_safety.specs.Way.{Way}
-use Rattle.sctp_safety.proofs.moves.Facts.{Good, MayPass, IsLost}
+use Rattle.sctp_safety.proofs.moves.Facts.{Good, IsLost}
 use Rattle.sctp_safety.proofs.lists.Basics.{item_at-above, item_at-within}
-use Rattle.sctp_safety.proofs.plan.PlanLemmas.{message_of}
 use Rattle.sctp_safety.proofs.plan.Spread.{lower_to, spread}
 
 module _ (w : Way) (g : Good w) where
@@ -56,28 +54,3 @@ module _ (w : Way) (g : Good w) where
               let a = item_at-above w.sender.plan.entries j _ there in
               let c = item_at-within w.sender.plan.entries i _ here in
               omega (arith, s, a, c)
-
-  -- a number that may be passed is a message's
-  pub passed_within : (l : Lane) (n : ℕ) → MayPass w.sender w.receiver l n → n < length w.sender.plan.entries
-  passed_within l n (inl gone) = let x = g.sound.abandoned l n gone in number_within l n x.0 x.1
-  passed_within l n (inr seen) = number_within l n seen.message seen.named
-
-  pub skip_within : (l : Lane) → w.receiver.skip l ≤ length w.sender.plan.entries
-  skip_within l = go (w.receiver.skip l) refl
-    where
-      go : (k : ℕ) → w.receiver.skip l ≡ k → k ≤ length w.sender.plan.entries
-      go zero e = omega arith
-      go (suc k) e = let b = passed_within l k (g.held.skips l k (omega (arith, e))) in omega (arith, b)
-
-  pub next_within : (s : ℕ) → w.receiver.next s ≤ length w.sender.plan.entries
-  next_within s = go (w.receiver.next s) refl
-    where
-      by : (k : ℕ) → WasHanded w.sender.plan w.receiver (ordered_lane s) k ⊎ (w.sender.abandoned (ordered_lane s) k ≡ true) → suc k ≤ length w.sender.plan.entries
-      by k (inl (h, has, lane, first)) =
-          let m = message_of w.format w.sender.plan g.arranged h.first (Part (ordered_lane s) k 0) (ordered_lane s) k first (refl, refl) in
-          number_within (ordered_lane s) k m.0 m.1
-      by k (inr gone) = let x = g.sound.abandoned (ordered_lane s) k gone in number_within (ordered_lane s) k x.0 x.1
-
-      go : (k : ℕ) → w.receiver.next s ≡ k → k ≤ length w.sender.plan.entries
-      go zero e = omega arith
-      go (suc k) e = by k (g.held.told.passed s k (omega (arith, e)))

@@ -22,6 +22,7 @@ pub sack_made_is_moves : SackMadeIsMoves
 sack_made_is_moves w s made = record {
   sack = sack;
   of = record { cumulative = ap (λ (z : SackMeaning). z.cumulative) made.is; blocks = refl };
+  cumulative = made.cumulative;
   leads = leads_by w (record w { sacks = sack ∷ w.sacks }) (Put_sack sack) (sack_is_allowed w sack (record { cumulative = made.cumulative; runs = runs }));
 }
   where

@@ -21,7 +21,7 @@ use Rattle.sctp_safety.proofs.moves.Facts.{Good}
 use Rattle.sctp_safety.proofs.receiving.PieceReads.{piece_taken_is_moves}
 use Rattle.sctp_safety.proofs.receiving.ForwardReads.{forward_taken_is_moves}
 use Rattle.sctp_safety.proofs.receiving.SackMade.{sack_made_is_moves, take_is_moves}
-use Rattle.sctp_safety.proofs.runs.Nearness.{piece_index_near, piece_number_near, point_near, skips_near}
+use Rattle.sctp_safety.proofs.runs.Nearness.{piece_index_near, point_near}
 use Rattle.sctp_safety.proofs.runs.Direction.{Bags, way_of, IsForwardIn, IsSaid, IsSaidBack, Direction, joined_in, assigned_below_half, counted_in, IsMore, said_later, said_back_later}
 
 module _ (f : Format) (n : ℕ) (a : SenderView) (u : Asked) (r : ReceiverView) (out back : List ChunkMeaning) (d : Direction f n a u r out back) where
@@ -55,7 +55,7 @@ module _ (f : Format) (n : ℕ) (a : SenderView) (u : Asked) (r : ReceiverView) 
   after_piece x p o t has says taken =
       let said = says (d.said x has) in
       received t (piece_taken_is_moves here p o t d.usual (joined_in f n a u r out back d) (counted_in f a d.reached) d.idle said
-      (piece_index_near here good_here below_half p said) (piece_number_near here good_here below_half p said) taken)
+      (piece_index_near here good_here below_half p said) taken)
 
   -- a FORWARD that lies between the ends
   pub after_skip : (x : ChunkMeaning) (m : ForwardMeaning) (o : ForwardAnswer) (t : ReceiverView) → Has out x →
@@ -63,7 +63,7 @@ module _ (f : Format) (n : ℕ) (a : SenderView) (u : Asked) (r : ReceiverView) 
   after_skip x m o t has says taken =
       let said = (says (d.said x has)).said in
       received t (forward_taken_is_moves here m o t d.usual (joined_in f n a u r out back d) (counted_in f a d.reached) d.idle said
-      (point_near here good_here below_half m said) (λ interleaved. skips_near here good_here below_half m said) taken)
+      (point_near here good_here below_half m said) taken)
 
   pub after_take : (s : ℕ) (h : Option Handed) (t : ReceiverView) → TakeLeaves r s h t → Direction f n a u t out back
   after_take s h t takes = received t (take_is_moves here s h t d.idle takes)
