@@ -12,7 +12,7 @@ import sys
 
 import wire
 from endpoint import Writer
-from receiver import BAD, MOVED, OUT_OF_DATE, Receiver
+from receiver import AHEAD_LIMIT, BAD, MOVED, OUT_OF_DATE, Receiver
 from sender import Sender
 
 CRATE = os.path.join(os.path.dirname(os.path.abspath(__file__)), '..', '..', 'crates', 'sctp_call_rows')
@@ -147,7 +147,7 @@ class Case:
         return SACKED[self.of(self.sender).on_shutdown(tsn)]
 
     def on_abandon(self, ticket):
-        ticket = number(ticket, 2**32 - 1)
+        ticket = number(ticket, 2**64 - 1)
         return FATES[self.of(self.sender).abandon(ticket)]
 
     def on_expire(self, now):
@@ -160,7 +160,7 @@ class Case:
         return 'ok'
 
     def on_fate(self, ticket):
-        ticket, sender = number(ticket, 2**32 - 1), self.of(self.sender)
+        ticket, sender = number(ticket, 2**64 - 1), self.of(self.sender)
         message = sender.messages[ticket - 1] if 1 <= ticket <= len(sender.messages) else None
         if message is None:
             return 'neither'
@@ -198,6 +198,15 @@ class Case:
         stream, receiver = number(stream, 65535), self.of(self.receiver)
         answers = [receiver.on_data(self.piece((tsn + k * step) % 2**32, stream, count + k, 0, 3, b'a')) for k in range(times)]
         return 'taken %d' % answers.count(1)
+
+    def on_leap(self, times, tsn):
+        times, tsn, receiver = number(times, 2**32 - 1), number(tsn, 2**32 - 1), self.of(self.receiver)
+        answers = []
+        for k in range(times):
+            found = type('Forward', (), {})()
+            found.cumulative, found.skips = (tsn + k * AHEAD_LIMIT) % 2**32, []
+            answers.append(receiver.on_forward(found))
+        return 'moved %d' % answers.count(MOVED)
 
     def on_skip(self, tsn, *skips):
         found, receiver = type('Forward', (), {})(), None

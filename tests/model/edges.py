@@ -65,7 +65,7 @@ class Edges(scripts.Maker):
     def ticket(self, x):
         sender = self.end(x).sender
         count = len(sender.messages) if sender else 0
-        return self.pick((0, 1, max(1, count - 1), count, count, count + 1, 2**32 - 1))
+        return self.pick((0, 1, max(1, count - 1), count, count, count + 1, 2**32 - 1, 2**32, 2**64 - 1))
 
     def moments(self):
         due = [self.end(x).next_moment() for x in scripts.SIDES]

@@ -79,7 +79,7 @@ COMMANDS = {
     b'deliver': (SIDE, N32),
     b'foreign': (SIDE, hex_bytes),
     b'send': (SIDE, N16, KIND, N32, until, hex_bytes),
-    b'abandon': (SIDE, N32),
+    b'abandon': (SIDE, N64),
     b'take': (SIDE, N16),
     b'shutdown': (SIDE,),
     b'abort': (SIDE, hex_bytes),

@@ -41,6 +41,7 @@ class Receiver:
         self.kept = {}                   # (stream, unordered, number): pieces by rising index
         self.next = [0] * streams        # the lowest ordered number neither handed over nor skipped
         self.skip = {}                   # (stream, unordered): the largest number skipped
+        self.top = [0] * streams         # the largest unordered number recorded or skipped
         self.waiting = []                # handed over and not taken
         self.handed = []                 # all that was ever handed over
         self.duplicates = []
@@ -56,8 +57,8 @@ class Receiver:
 
     def count(self, stream, unordered, wire):
         """The number with this wire value: near the next one of the stream if ordered, near the
-        lowest one not skipped if unordered (RFC 9260 section 6.6, RFC 8260 section 2.2.3)."""
-        reference = self.skipped(stream, True) + 1 if unordered else self.next[stream]
+        largest one recorded or skipped if unordered (RFC 9260 section 6.6, RFC 8260 section 2.2.3)."""
+        reference = self.top[stream] if unordered else self.next[stream]
         number = near(wire, reference, self.width)
         return None if number == COUNT_END else number
 
@@ -85,6 +86,8 @@ class Receiver:
         if self.held + len(piece.data) > self.buffer:
             return NO_ROOM
         self.record(index)
+        if piece.unordered and number is not None:
+            self.top[piece.stream] = max(self.top[piece.stream], number)
         bisect.insort(self.kept.setdefault(kept.key, []), kept, key=lambda k: k.index)
         self.held += len(piece.data)
         if piece.unordered:
@@ -223,6 +226,8 @@ class Receiver:
             if number is None or (not unordered and number < self.next[stream]):
                 continue
             self.skip[stream, unordered] = max(number, self.skipped(stream, unordered))
+            if unordered:
+                self.top[stream] = max(self.top[stream], number)
         for key in [key for key in self.kept if key[1]]:
             if self.interleave and key[2] <= self.skipped(key[0], True):
                 self.drop(key)

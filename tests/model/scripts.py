@@ -422,7 +422,7 @@ class Maker:
         receiver = self.end(y).receiver
         if receiver is None or stream >= receiver.streams:
             return self.number(EDGE_16, 2**width - 1) % 2**width
-        base = receiver.skipped(stream, True) + 1 if unordered else receiver.next[stream]
+        base = receiver.top[stream] if unordered else receiver.next[stream]
         ahead = self.pick((0, 0, 0, 1, 1, 2, 3, -1, -2, 2**(width - 1) - 1, 2**(width - 1), 2**(width - 1) + 1))
         return (base + ahead) % 2**width
 

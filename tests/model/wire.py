@@ -36,7 +36,7 @@ CUT, LENGTH_TOO_SMALL, PADDING_MISSING, CHUNK_BODY, PARAMETER_LENGTH, NOT_ALONE 
 SHORT, CHECKSUM, WIRE, NO_CHUNK = 1, 2, 3, 4
 
 HEADER = 12
-COUNT_END = 2**32 - 1      # counts and indexes stay below this number
+COUNT_END = 2**64 - 1      # counts and indexes stay below this number
 
 
 class Fault(Exception):
@@ -54,7 +54,7 @@ def near(wire, reference, width):
     """The count with this wire value less than half the space from the reference, or None."""
     base = reference - reference % 2**width + wire
     for count in (base - 2**width, base, base + 2**width):
-        if abs(count - reference) < 2**(width - 1) and 0 <= count <= 2**32 - 1:
+        if abs(count - reference) < 2**(width - 1) and 0 <= count <= COUNT_END:
             return count
     return None
 

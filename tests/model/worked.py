@@ -91,6 +91,20 @@ case('TSNs wrap', [
           ('B', 4): '03000010 00000000 0000fffe 0000 0000',
           ('B', 5): '03000014 00000000 00010000 0000 0001 00000000'})
 
+case('twenty packets over the wrap of TSNs, from last to first, each twice', [
+    ('pair 1500 1400 65536 1 data', None), ('connect 7 4294967290', 'ok'), ('build A', 'sent A 1 32'),
+    ('draw 9 500', 'ok'), ('deliver A 1', 'answer B 1 108'), ('deliver B 1', 'taken A'),
+    ('build A', 'sent A 2 88'), ('deliver A 2', 'taken B'), ('build B', 'sent B 2 16'),
+    ('deliver B 2', 'taken A')]
+    + [step for n in range(1, 21) for step in
+       (('send A 0 o 0 - %02x' % n, 'ticket A %d' % n), ('build A', 'sent A %d 32' % (n + 2)))]
+    + [('deliver A %d' % n, 'taken B') for n in range(22, 2, -1) for _ in range(2)]
+    + [('build B', 'sent B 3 92')]
+    + [('take B 0', 'message B 0 o %d 0 %02x' % (n, n + 1)) for n in range(20)],
+     ['end A Established -', 'numbered A ' + ' '.join(map(str, range(1, 21))),
+      'end B Established -', 'handed B 0 o ' + ' '.join(map(str, range(20)))],
+     {('B', 3): '03000050 0000000d 0000ffec 0000 0010 ' + ' '.join('%08x' % (n % 2**32) for n in range(13, -3, -1))})
+
 
 def text(n, start=0):
     return bytes((start + i) % 251 for i in range(n)).hex()
@@ -207,12 +221,12 @@ for mode, init, ack in (('idata', 40, 116), ('idata-pr', 44, 120)):
 case('the INIT with both options', [
     ('pair 1500 1400 65536 1 idata-pr', None), ('connect 1 1', 'ok'), ('build A', 'sent A 1 44')], None,
     {('A', 1): '0100001f 00000001 00010000 0001 0001 00000001 c0000004 80080007 40c0c2 00'})
-case('a number half the space away', [
+case('a number as far ahead as one may be, and then one behind it', [
     ('pair 1500 1400 65536 1 idata-pr', None), (OPEN, 'ok'),
     (foreign('B', 2, 'c2000010 00000001 0000 0000 7fffffff'), 'taken B'),
     (foreign('B', 2, 'c2000010 00000002 0000 0000 ffffffff'), 'taken B'),
     (foreign('B', 2, '40030015 00000003 0000 0000 80000000 00000000 61000000'), 'taken B'),
-    ('take B 0', 'message B 0 o 2147483648 0 61')])
+    ('take B 0', 'empty B 0')])
 
 case('aborted by the user', [
     ('pair 1500 1400 65536 1 data', None), (OPEN, 'ok'), ('abort A 00', 'answer A 1 24'),

@@ -80,6 +80,11 @@ pub enum Call<'a> {
         number: u32,
         step: u32,
     },
+    /// So many FORWARDs without an entry come, each as far past the one before as it may be.
+    Leap {
+        count: u32,
+        tsn: u32,
+    },
     /// A FORWARD comes.
     Skip {
         tsn: u32,
@@ -198,6 +203,10 @@ fn read_receiving<'a>(name: &str, words: &mut Words<'a>) -> Option<Call<'a>> {
             stream: words.number()?,
             number: words.number()?,
             step: if words.are_read() { 1 } else { words.number()? },
+        },
+        "leap" => Call::Leap {
+            count: words.number()?,
+            tsn: words.number()?,
         },
         "skip" => Call::Skip {
             tsn: words.number()?,

@@ -3,7 +3,7 @@
 use crate::call::Call;
 use crate::parts::{bytes_of, skips_of};
 use crate::plain::answer;
-use crate::receiving::{carry, data, receiving, rise, skip, taken};
+use crate::receiving::{carry, data, leap, receiving, rise, skip, taken};
 use crate::sending::{Packets, fill, forward, queue, sack, sack_answer, send};
 use crate::shown::sack_digits;
 use anyhow::Result;
@@ -196,6 +196,7 @@ fn receiving_call<F: Framing>(
             Some(bytes) => data(receiver, tsn, stream, flags, number, word, &bytes, out),
             None => Ok(()),
         },
+        Call::Leap { count, tsn } => leap(receiver, count, tsn, out),
         Call::Rise {
             count,
             tsn,

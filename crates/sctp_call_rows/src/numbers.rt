@@ -8,8 +8,8 @@ use std::fmt::Write;
 #[derive(Clone, Copy)]
 pub struct Compared {
     pub how: How,
-    pub first: u32,
-    pub second: u32,
+    pub first: u64,
+    pub second: u64,
 }
 
 /// What is asked of two counts.
@@ -35,7 +35,7 @@ pub fn compare<S: Serial>(two: Compared, out: &mut String) -> Result<()> {
 }
 
 /// A count, or that there is none.
-pub fn tell(count: Option<u32>, out: &mut String) -> Result<()> {
+pub fn tell(count: Option<u64>, out: &mut String) -> Result<()> {
     match count {
         Some(count) => write!(out, "{count}")?,
         None => write!(out, "none")?,

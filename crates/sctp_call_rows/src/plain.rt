@@ -20,12 +20,12 @@ pub enum Plain<'a> {
     Long(Compared),
     Tsn {
         initial: u32,
-        index: u32,
+        index: u64,
     },
     /// The index of a TSN, as far ahead of a known one as its TSN is of that one's.
     Index {
         initial: u32,
-        known: u32,
+        known: u64,
         tsn: u32,
     },
     /// A checksum.

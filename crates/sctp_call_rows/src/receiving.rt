@@ -5,6 +5,7 @@ use anyhow::Result;
 use sctp_framing::Framing;
 use sctp_packet::{crc32c, read_packet};
 use sctp_recv::{Answer, ForwardAnswer, Message, Receiver};
+use sctp_values::WINDOW;
 use sctp_wire::{Chunk, Forward, Piece, SkipForm, Skips};
 use std::alloc::Global;
 use std::fmt::Write;
@@ -78,6 +79,26 @@ pub fn rise<F: Framing>(
         }
     }
     Ok(write!(out, "taken {taken}")?)
+}
+
+/// So many FORWARDs without an entry come, the first to this TSN and each other one 32,767 further.
+pub fn leap<F: Framing>(
+    receiver: &mut Receiver<F>,
+    count: u32,
+    tsn: u32,
+    out: &mut String,
+) -> Result<()> {
+    let mut moved = 0u32;
+    for k in 0..count {
+        let answer = receiver.on_forward(&Forward {
+            cumulative: tsn.wrapping_add(k.wrapping_mul(WINDOW)),
+            skips: Skips::new(F::skip_form(), &[]),
+        })?;
+        if answer == ForwardAnswer::Moved {
+            moved = moved.saturating_add(1);
+        }
+    }
+    Ok(write!(out, "moved {moved}")?)
 }
 
 /// A FORWARD comes, with these entries.
