@@ -131,7 +131,7 @@ impl Machine {
     }
 
     /// The index up to which all is acknowledged.
-    fn cum(&self) -> u32
+    fn cum(&self) -> u64
         ensures { (v : EndView) → MachineStands self.now v → result ≡ v.sender.cum }
     {
         match &self.life {

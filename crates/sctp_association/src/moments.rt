@@ -63,7 +63,7 @@ impl Machine {
     }
 
     /// Messages were abandoned, where the point was at this index before: a FORWARD is due where it moved (RFC 3758, 3.5).
-    pub(crate) fn when_abandoned(&mut self, before: u32)
+    pub(crate) fn when_abandoned(&mut self, before: u64)
         ensures { (v : EndView) (s : SenderView) → MachineStands self.old (record v { sender = s }) → before ≡ point v.sender → MachineStands self.new (after_abandoning v s) }
     {
         let moved = self.point() != before;

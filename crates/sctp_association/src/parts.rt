@@ -42,7 +42,7 @@ impl Machine {
     }
 
     /// The index up to which all is acknowledged or abandoned: the Advanced Peer Ack Point (RFC 3758, 3.5).
-    pub fn point(&self) -> u32
+    pub fn point(&self) -> u64
         ensures { (v : EndView) → MachineStands self.now v → result ≡ point v.sender }
     {
         match &self.life {

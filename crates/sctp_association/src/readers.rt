@@ -100,7 +100,7 @@ impl Machine {
     }
 
     /// How many tickets were given.
-    pub fn tickets(&self) -> u32
+    pub fn tickets(&self) -> u64
         ensures { (v : EndView) → MachineStands self.now v → result ≡ v.sender.tickets }
     {
         match &self.life {

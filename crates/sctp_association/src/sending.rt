@@ -21,7 +21,7 @@ use sctp_wire::Sack;
 
 impl Traffic {
     /// The index up to which all is acknowledged.
-    pub fn cum(&self) -> u32
+    pub fn cum(&self) -> u64
         ensures { (f : Format) (s : SenderView) (r : ReceiverView) → TrafficStands self.now f s r → result ≡ s.cum }
     {
         match self {
@@ -31,7 +31,7 @@ impl Traffic {
     }
 
     /// The index up to which all is acknowledged or abandoned: the Advanced Peer Ack Point (RFC 3758, 3.5).
-    pub fn point(&self) -> u32
+    pub fn point(&self) -> u64
         ensures { (f : Format) (s : SenderView) (r : ReceiverView) → TrafficStands self.now f s r → result ≡ point s }
     {
         match self {
@@ -90,7 +90,7 @@ impl Traffic {
     }
 
     /// How many tickets were given.
-    pub fn tickets(&self) -> u32
+    pub fn tickets(&self) -> u64
         ensures { (f : Format) (s : SenderView) (r : ReceiverView) → TrafficStands self.now f s r → result ≡ s.tickets }
     {
         match self {

@@ -195,7 +195,7 @@ impl Ends {
     }
 
     /// The user of this end abandons this ticket.
-    fn abandon(&mut self, side: Side, ticket: u32) -> Result<()> {
+    fn abandon(&mut self, side: Side, ticket: u64) -> Result<()> {
         let _ = self.side(side)?.end.abandon(Ticket(ticket));
         Ok(())
     }

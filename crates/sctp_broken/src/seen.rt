@@ -13,7 +13,7 @@ pub struct Seen {
     ended: Option<End>,
     next_moment: Option<u64>,
     held_bytes: u32,
-    tickets: u32,
+    tickets: u64,
     outstanding: u32,
     inbound: u16,
     outbound: u16,

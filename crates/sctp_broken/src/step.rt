@@ -43,7 +43,7 @@ pub enum Step {
     /// The user of this end takes a message of stream 0.
     Take(Side),
     /// The user of this end abandons this ticket.
-    Abandon(Side, u32),
+    Abandon(Side, u64),
     /// The user of this end shuts it.
     Shutdown(Side),
 }

@@ -36,7 +36,7 @@ draw_fields = ATag ∷ ANumber 32 ∷ []
 
 -- K
 abbrev pub ticket_fields : List Field
-ticket_fields = ANumber 32 ∷ []
+ticket_fields = ANumber 64 ∷ []
 
 -- connect TAG TSN; draw TAG TSN; at T; packet HEX; build; send STREAM KIND ID UNTIL HEX; abandon K; acknowledged K; abandoned K; take STREAM;
 -- shutdown; abort HEX; next; state; held

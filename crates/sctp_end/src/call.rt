@@ -27,15 +27,15 @@ pub enum Call {
     },
     /// `abandon`: its user gives up the message with this ticket.
     Abandon {
-        ticket: u32,
+        ticket: u64,
     },
     /// `acknowledged`: whether the message with this ticket was acknowledged whole.
     Acknowledged {
-        ticket: u32,
+        ticket: u64,
     },
     /// `abandoned`: whether the message with this ticket has a number and was abandoned.
     Abandoned {
-        ticket: u32,
+        ticket: u64,
     },
     /// `take`: its user takes the next message that waits on a stream.
     Take {

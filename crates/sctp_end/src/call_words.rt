@@ -98,7 +98,7 @@ pub(crate) fn read_abandon(mut words: Words<'_>) -> Option<Call>
         ((call : Call) → Spells Command.Abandon words.entry call → ⊥)
         (λ call. Spells Command.Abandon words.entry call) }
 {
-    let ticket = read_u32(words.next_word())?;
+    let ticket = read_u64(words.next_word())?;
     Some(Call::Abandon { ticket })
 }
 
@@ -109,7 +109,7 @@ pub(crate) fn read_acknowledged(mut words: Words<'_>) -> Option<Call>
         ((call : Call) → Spells Command.Acknowledged words.entry call → ⊥)
         (λ call. Spells Command.Acknowledged words.entry call) }
 {
-    let ticket = read_u32(words.next_word())?;
+    let ticket = read_u64(words.next_word())?;
     Some(Call::Acknowledged { ticket })
 }
 
@@ -120,7 +120,7 @@ pub(crate) fn read_abandoned(mut words: Words<'_>) -> Option<Call>
         ((call : Call) → Spells Command.Abandoned words.entry call → ⊥)
         (λ call. Spells Command.Abandoned words.entry call) }
 {
-    let ticket = read_u32(words.next_word())?;
+    let ticket = read_u64(words.next_word())?;
     Some(Call::Abandoned { ticket })
 }
 

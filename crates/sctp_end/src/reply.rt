@@ -49,7 +49,7 @@ pub enum Reply {
     /// `quiet`: there is nothing to send.
     Quiet,
     /// `ticket K`: the message is accepted as the K-th.
-    Ticket(u32),
+    Ticket(u64),
     /// `fate C`: what becomes of the message.
     Fate(Abandoned),
     /// `yes` or `no`
@@ -58,7 +58,7 @@ pub enum Reply {
     Message {
         stream: u16,
         kind: Kind,
-        number: Option<u32>,
+        number: Option<u64>,
         payload_id: u32,
         bytes: Bytes,
     },

@@ -30,7 +30,7 @@ pub fn put_reply(reply: &Reply, out: &mut Vec<u8>) -> Result<(), NoMemory>
         Reply::Answer(bytes) => put_words(b"answer", &[Word::Hex(bytes.as_slice())], out),
         Reply::Sent(bytes) => put_words(b"sent", &[Word::Hex(bytes.as_slice())], out),
         Reply::Quiet => put_words(b"quiet", &[], out),
-        Reply::Ticket(ticket) => put_number(b"ticket", u64::from(*ticket), out),
+        Reply::Ticket(ticket) => put_number(b"ticket", *ticket, out),
         Reply::Fate(fate) => put_number(b"fate", u64::from(fate.code()), out),
         Reply::Holds(holds) => put_words(truth(*holds), &[], out),
         Reply::Message {
@@ -71,7 +71,7 @@ fn put_number(first: &[u8], number: u64, out: &mut Vec<u8>) -> Result<(), NoMemo
 fn put_message(
     stream: u16,
     kind: Kind,
-    number: Option<u32>,
+    number: Option<u64>,
     payload_id: u32,
     bytes: &Bytes,
     out: &mut Vec<u8>,
@@ -83,7 +83,7 @@ fn put_message(
     let words = [
         Word::Number(u64::from(stream)),
         kind_word(kind),
-        number_word(number.map(u64::from)),
+        number_word(number),
         Word::Number(u64::from(payload_id)),
         Word::Hex(bytes.as_slice()),
     ];

@@ -137,21 +137,21 @@ impl Session {
     }
 
     /// `abandon`
-    fn abandon(&mut self, ticket: u32) -> Reply
+    fn abandon(&mut self, ticket: u64) -> Reply
         ensures { Performed self.old (call.Abandon ticket) result self.new }
     {
         Reply::Fate(self.endpoint.abandon(Ticket(ticket)))
     }
 
     /// `acknowledged`
-    fn acknowledged(&self, ticket: u32) -> Reply
+    fn acknowledged(&self, ticket: u64) -> Reply
         ensures { Performed self.now (call.Acknowledged ticket) result self.now }
     {
         Reply::Holds(self.endpoint.acknowledged(Ticket(ticket)))
     }
 
     /// `abandoned`
-    fn abandoned(&self, ticket: u32) -> Reply
+    fn abandoned(&self, ticket: u64) -> Reply
         ensures { Performed self.now (call.Abandoned ticket) result self.now }
     {
         Reply::Holds(self.endpoint.abandoned(Ticket(ticket)))

@@ -72,7 +72,7 @@ impl Endpoint {
     }
 
     /// How many tickets `send` gave: they are 1, 2, 3 and so on.
-    pub fn tickets(&self) -> u32
+    pub fn tickets(&self) -> u64
         ensures { (v : EndView) → EndpointStands self.now v → result ≡ v.sender.tickets }
     {
         self.machine.tickets()

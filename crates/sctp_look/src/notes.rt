@@ -126,7 +126,7 @@ fn put_call(call: &Call, words: &mut String) -> Result<(), AllocError> {
 }
 
 /// Appends the ticket of a message that was accepted.
-fn put_ticket(ticket: Option<u32>, words: &mut String) -> Result<(), AllocError> {
+fn put_ticket(ticket: Option<u64>, words: &mut String) -> Result<(), AllocError> {
     match ticket {
         Some(ticket) => write!(words, " #{ticket}"),
         None => Ok(()),

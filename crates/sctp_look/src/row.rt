@@ -43,7 +43,7 @@ pub(crate) enum Deed {
     Absent { packet: Packet },
     /// A packet came, and was dropped.
     Dropped { reason: Reason },
-    Abandoned { ticket: u32, fate: Abandoned },
+    Abandoned { ticket: u64, fate: Abandoned },
     Taken { stream: u16, message: Option<Taken> },
 }
 
@@ -80,7 +80,7 @@ pub(crate) enum Call {
         ordered: bool,
         length: usize,
         /// The ticket of a message that was accepted.
-        ticket: Option<u32>,
+        ticket: Option<u64>,
     },
 }
 
@@ -88,7 +88,7 @@ pub(crate) enum Call {
 #[derive(Clone, Copy)]
 pub(crate) struct Taken {
     pub(crate) ordered: bool,
-    pub(crate) number: Option<u32>,
+    pub(crate) number: Option<u64>,
     pub(crate) length: usize,
 }
 

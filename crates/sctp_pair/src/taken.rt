@@ -13,7 +13,7 @@ use std::alloc::Global;
 /// The messages of one stream: the numbers of the ordered ones, in their order, and how many unordered ones.
 #[derive(Drop)]
 pub(crate) struct StreamLog {
-    pub(crate) numbers: Vec<u32>,
+    pub(crate) numbers: Vec<u64>,
     pub(crate) unordered: u64,
 }
 

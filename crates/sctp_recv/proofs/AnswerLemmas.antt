@@ -11,12 +11,13 @@ use Rattle.sctp_model.specs.messages.Format.{Format, Plain, Interleaved, Kind, O
 use Rattle.sctp_model.specs.messages.Framing.{lane_kind, number_near, as_number}
 use Rattle.sctp_model.specs.receiver.ReceiverView.{ReceiverView, held_bytes}
 use Rattle.sctp_model.specs.receiver.Rows.{first_of}
+use Rattle.sctp_model.specs.receiver.Top.{top}
 use Rattle.sctp_model.specs.receiver.Reading.{index_at, is_behind, is_ahead, lane_of, is_late, lowest_in, reference_in, piece_at}
 use Rattle.sctp_model.specs.receiver.PieceTaken.{PieceAnswer, Duplicate, Ahead, NoSuchStream, Passed, NoRoom, Kept, is_repeated, is_passed, is_too_much}
 use Rattle.sctp_recv.specs.Runs.{in_runs}
 use Rattle.sctp_recv.specs.SeenKept.{is_reached, AreWithin}
 use Rattle.sctp_chains.specs.Cells.{counted}
-use Rattle.sctp_recv.specs.ReceiverKept.{ReceiverKept, stream_at, reference_of, is_below_or_none}
+use Rattle.sctp_recv.specs.ReceiverKept.{ReceiverKept, stream_at, near_of, lowest_of, is_below_or_none}
 use Rattle.sctp_recv.specs.StandsFor.{KeepsView}
 use Rattle.sctp_recv.specs.inner.Rows.{offset_from, IsAbove, IsNewIndex, answer_at}
 
@@ -36,6 +37,13 @@ table_room a b d e g h i j k l m n = rw (i, j, k, l, m, n) refl
 table_taken : (a b d e g h : Bool) → a ≡ false → b ≡ false → d ≡ false → e ≡ false → g ≡ false → h ≡ false → table a b d e g h ≡ Kept
 unfolding table
 table_taken a b d e g h i j k l m n = rw (i, j, k, l, m, n) refl
+
+-- ---- what is read near one count or another
+
+-- an unordered number counts under I-DATA alone
+pub near_reads : (f : Format) (a b wire : ℕ) → (f ≡ Interleaved → a ≡ b) → number_near f Unordered wire a ≡ number_near f Unordered wire b
+near_reads Plain a b wire same = refl
+near_reads Interleaved a b wire same = ap (λ (m : ℕ). number_near Interleaved Unordered wire m) (same refl)
 
 -- ---- a chunk that comes to a receiver
 
@@ -100,30 +108,30 @@ module _ (f : Format) (k : ReceiverKept) (v : ReceiverView) (p : PieceMeaning) (
 
   -- ---- whether it is passed
 
-  reference_same : (u : Bool) → reference_in v p.stream (lane_kind u) ≡ reference_of (stream_at k.streams p.stream) (lane_kind u)
-  reference_same true = w.skip p.stream
-  reference_same false = w.next p.stream
-
-  lowest_same : (u : Bool) → lowest_in v (lane_of p.stream u) (lane_kind u) ≡ reference_of (stream_at k.streams p.stream) (lane_kind u)
+  lowest_same : (u : Bool) → lowest_in v (lane_of p.stream u) (lane_kind u) ≡ lowest_of (stream_at k.streams p.stream) (lane_kind u)
   lowest_same true = w.skip p.stream
   lowest_same false = let low = w.skipped p.stream in let next = w.next p.stream in omega arith
 
-  late_same : (n : Option ℕ) (u : Bool) → is_late v (lane_of p.stream u) n ≡ is_below_or_none (reference_of (stream_at k.streams p.stream) (lane_kind u)) n
+  late_same : (n : Option ℕ) (u : Bool) → is_late v (lane_of p.stream u) n ≡ is_below_or_none (lowest_of (stream_at k.streams p.stream) (lane_kind u)) n
   late_same None u = refl
   late_same (Some n) u = ap (λ (m : ℕ). nat_lt n m) (lowest_same u)
 
-  pub number_same : number_near f (lane_kind p.unordered) p.number (reference_of (stream_at k.streams p.stream) (lane_kind p.unordered)) ≡ (piece_at f v k.seen.cumulative p).number
-  number_same = ap (λ (m : ℕ). number_near f (lane_kind p.unordered) p.number m) (sym (reference_same p.unordered))
+  near_same : (u : Bool) → number_near f (lane_kind u) p.number (near_of (stream_at k.streams p.stream) (lane_kind u)) ≡ number_near f (lane_kind u) p.number (reference_in v p.stream (lane_kind u))
+  near_same true = near_reads f (near_of (stream_at k.streams p.stream) Unordered) (top v p.stream) p.number (λ e. sym (w.top p.stream e))
+  near_same false = ap (λ (m : ℕ). number_near f Ordered p.number m) (sym (w.next p.stream))
+
+  pub number_same : number_near f (lane_kind p.unordered) p.number (near_of (stream_at k.streams p.stream) (lane_kind p.unordered)) ≡ (piece_at f v k.seen.cumulative p).number
+  number_same = near_same p.unordered
 
   pub passed_late : (n : Option ℕ) → n ≡ (piece_at f v k.seen.cumulative p).number →
-      (is_numbered f (lane_kind p.unordered) && is_below_or_none (reference_of (stream_at k.streams p.stream) (lane_kind p.unordered)) n) ≡ true → is_passed f v (piece_at f v k.seen.cumulative p) ≡ true
+      (is_numbered f (lane_kind p.unordered) && is_below_or_none (lowest_of (stream_at k.streams p.stream) (lane_kind p.unordered)) n) ≡ true → is_passed f v (piece_at f v k.seen.cumulative p) ≡ true
   passed_late n number late =
       let one : (is_numbered f (lane_kind p.unordered) && is_late v (lane_of p.stream p.unordered) n) ≡ true = ap (λ (t : Bool). is_numbered f (lane_kind p.unordered) && t) (late_same n p.unordered) ∙ late in
       subst (λ (m : Option ℕ). ((is_numbered f (lane_kind p.unordered) && is_late v (lane_of p.stream p.unordered) m) || is_repeated f v.kept (counted (piece_at f v k.seen.cumulative p).index p m)) ≡ true) number
       (ap (λ (t : Bool). t || is_repeated f v.kept (counted (piece_at f v k.seen.cumulative p).index p n)) one)
 
   pub passed_is : (n : Option ℕ) (a b : Bool) → n ≡ (piece_at f v k.seen.cumulative p).number →
-      a ≡ (is_numbered f (lane_kind p.unordered) && is_below_or_none (reference_of (stream_at k.streams p.stream) (lane_kind p.unordered)) n) →
+      a ≡ (is_numbered f (lane_kind p.unordered) && is_below_or_none (lowest_of (stream_at k.streams p.stream) (lane_kind p.unordered)) n) →
       b ≡ is_repeated f v.kept (counted (piece_at f v k.seen.cumulative p).index p n) → is_passed f v (piece_at f v k.seen.cumulative p) ≡ (a || b)
   passed_is n a b number late held =
       let one : (is_numbered f (lane_kind p.unordered) && is_late v (lane_of p.stream p.unordered) n) ≡ a = ap (λ (t : Bool). is_numbered f (lane_kind p.unordered) && t) (late_same n p.unordered) ∙ sym late in

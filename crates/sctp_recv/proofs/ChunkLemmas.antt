@@ -33,11 +33,11 @@ numbered_is Interleaved Ordered wire reference low (Some m) near late = refl
 numbered_is Interleaved Unordered wire reference low None near late = absurd (cc)
 numbered_is Interleaved Unordered wire reference low (Some m) near late = refl
 
-pub chunk_of : (f : Format) (p : PieceMeaning) (n : Option ℕ) (i reference : ℕ) → n ≡ number_near f (lane_kind p.unordered) p.number reference →
-    (is_numbered f (lane_kind p.unordered) && is_below_or_none reference n) ≡ false → suc i < COUNTS → p.word < COUNTS → IsOf f (lane_of p.stream p.unordered) (counted i p n)
-chunk_of f p n i reference near late count word = record {
+pub chunk_of : (f : Format) (p : PieceMeaning) (n : Option ℕ) (i reference low : ℕ) → n ≡ number_near f (lane_kind p.unordered) p.number reference →
+    (is_numbered f (lane_kind p.unordered) && is_below_or_none low n) ≡ false → suc i < COUNTS → p.word < COUNTS → IsOf f (lane_of p.stream p.unordered) (counted i p n)
+chunk_of f p n i reference low near late count word = record {
   lane = refl;
-  numbered = numbered_is f (lane_kind p.unordered) p.number reference reference n near late;
+  numbered = numbered_is f (lane_kind p.unordered) p.number reference low n near late;
   number = λ m is. let small = near_small f (lane_kind p.unordered) p.number reference m (sym near ∙ is) in omega (arith, small);
   index = count;
   word = word;

@@ -7,7 +7,7 @@ use Rattle.std.proofs.lemmas.Bool.Decides.{nat_tests}
 use Rattle.std.proofs.lemmas.List.Sorted.{Contains-permutation, IsPermutation-sym}
 use Rattle.sctp_model.specs.numbers.Lists.{Has}
 use Rattle.sctp_model.specs.wire.Chunk.{SkipMeaning}
-use Rattle.sctp_model.specs.messages.Format.{Format, Lane, same_lane, ordered_lane, unordered_lane}
+use Rattle.sctp_model.specs.messages.Format.{Format, Unordered, Lane, same_lane, ordered_lane, unordered_lane}
 use Rattle.sctp_model.specs.messages.Pieces.{Piece}
 use Rattle.sctp_model.specs.receiver.ReceiverView.{size_of_pieces, size_of_messages}
 use Rattle.sctp_model.specs.receiver.Reading.{lane_of}
@@ -18,44 +18,45 @@ use Rattle.sctp_recv.specs.Filed.{Keeps}
 use Rattle.sctp_chains.specs.WholeOf.{from_number}
 use Rattle.sctp_recv.specs.declared.inbound.Inbound.{Inbound}
 use Rattle.sctp_recv.specs.Fields.{known_of}
+use Rattle.sctp_recv.specs.ReceiverKept.{near_of}
 use Rattle.sctp_recv.specs.inner.Giving.{sized, IsDueFrom}
-use Rattle.sctp_recv.specs.inner.Forwarding.{skipped_by, most_skipped, lowest_after, AreByStream, AreEntriesOf, stay, PassesOn}
+use Rattle.sctp_recv.specs.inner.Forwarding.{skipped_by, most_skipped, lowest_after, skip_after, AreByStream, AreEntriesOf, stay, PassesOn}
 
 -- ---- what is skipped, an entry more at a time
 
-most_suc : (f : Format) (l : Lane) (reference : ℕ) (es : List Skip) (i : ℕ) (d : Skip) → i < length es →
-    most_skipped f l reference (map skip_meaning (take (suc i) es)) ≡ max (most_skipped f l reference (map skip_meaning (take i es))) (skipped_by f l reference (skip_meaning (get_or es i d)))
-most_suc f l reference [] i d low = absurd (omega (arith, low))
-most_suc f l reference (x ∷ es) zero d low = omega arith
-most_suc f l reference (x ∷ es) (suc i) d low = let more = most_suc f l reference es i d (omega (arith, low)) in omega (arith, more)
+most_suc : (f : Format) (l : Lane) (near : ℕ) (es : List Skip) (i : ℕ) (d : Skip) → i < length es →
+    most_skipped f l near (map skip_meaning (take (suc i) es)) ≡ max (most_skipped f l near (map skip_meaning (take i es))) (skipped_by f l near (skip_meaning (get_or es i d)))
+most_suc f l near [] i d low = absurd (omega (arith, low))
+most_suc f l near (x ∷ es) zero d low = omega arith
+most_suc f l near (x ∷ es) (suc i) d low = let more = most_suc f l near es i d (omega (arith, low)) in omega (arith, more)
 
-pub lowest_more : (f : Format) (l : Lane) (reference : ℕ) (es : List Skip) (i : ℕ) (d : Skip) → i < length es →
-    lowest_after f l reference (map skip_meaning (take (i + 1) es)) ≡ max (lowest_after f l reference (map skip_meaning (take i es))) (skipped_by f l reference (skip_meaning (get_or es i d)))
-lowest_more f l reference es i d low = rw add-one (let more = most_suc f l reference es i d low in omega (arith, more))
+pub lowest_more : (f : Format) (l : Lane) (near lowest : ℕ) (es : List Skip) (i : ℕ) (d : Skip) → i < length es →
+    lowest_after f l near lowest (map skip_meaning (take (i + 1) es)) ≡ max (lowest_after f l near lowest (map skip_meaning (take i es))) (skipped_by f l near (skip_meaning (get_or es i d)))
+lowest_more f l near lowest es i d low = rw add-one (let more = most_suc f l near es i d low in omega (arith, more))
 
 -- ---- entries that are the same
 
-skipped_most : (f : Format) (l : Lane) (reference : ℕ) (xs : List SkipMeaning) (x : SkipMeaning) → Has xs x → skipped_by f l reference x ≤ most_skipped f l reference xs
-skipped_most f l reference [] x there = absurd there
-skipped_most f l reference (y ∷ xs) x (inl is) = let same = ap (λ (z : SkipMeaning). skipped_by f l reference z) is in omega (arith, same)
-skipped_most f l reference (y ∷ xs) x (inr there) = let more = skipped_most f l reference xs x there in omega (arith, more)
+skipped_most : (f : Format) (l : Lane) (near : ℕ) (xs : List SkipMeaning) (x : SkipMeaning) → Has xs x → skipped_by f l near x ≤ most_skipped f l near xs
+skipped_most f l near [] x there = absurd there
+skipped_most f l near (y ∷ xs) x (inl is) = let same = ap (λ (z : SkipMeaning). skipped_by f l near z) is in omega (arith, same)
+skipped_most f l near (y ∷ xs) x (inr there) = let more = skipped_most f l near xs x there in omega (arith, more)
 
-most_within : (f : Format) (l : Lane) (reference : ℕ) (xs ys : List SkipMeaning) → ((x : SkipMeaning) → x.stream ≡ l.stream → Has xs x → Has ys x) → most_skipped f l reference xs ≤ most_skipped f l reference ys
-most_within f l reference [] ys within = omega arith
-most_within f l reference (x ∷ xs) ys within =
-    let more = most_within f l reference xs ys (λ z at there. within z at (inr there)) in
+most_within : (f : Format) (l : Lane) (near : ℕ) (xs ys : List SkipMeaning) → ((x : SkipMeaning) → x.stream ≡ l.stream → Has xs x → Has ys x) → most_skipped f l near xs ≤ most_skipped f l near ys
+most_within f l near [] ys within = omega arith
+most_within f l near (x ∷ xs) ys within =
+    let more = most_within f l near xs ys (λ z at there. within z at (inr there)) in
     elim (cases_Bool (same_lane l (lane_of x.stream x.unordered))) [
       | inl same ↦
-          let here = skipped_most f l reference ys x (within x (sym (ap (λ (k : Lane). k.stream) (lanes_same l (lane_of x.stream x.unordered) same))) (inl refl)) in
+          let here = skipped_most f l near ys x (within x (sym (ap (λ (k : Lane). k.stream) (lanes_same l (lane_of x.stream x.unordered) same))) (inl refl)) in
           omega (arith, here, more)
-      | inr apart ↦ let none : skipped_by f l reference x ≡ 0 = rw apart refl in omega (arith, none, more)
+      | inr apart ↦ let none : skipped_by f l near x ≡ 0 = rw apart refl in omega (arith, none, more)
     ]
 
 -- a stream's own entries skip there what all skip
-pub own_lowest : (f : Format) (l : Lane) (reference : ℕ) (all own : List SkipMeaning) → AreEntriesOf l.stream all own → lowest_after f l reference own ≡ lowest_after f l reference all
-own_lowest f l reference all own entries =
-    let up = most_within f l reference own all (λ x at there. (entries x at).1 there) in
-    let down = most_within f l reference all own (λ x at there. (entries x at).0 there) in
+pub own_lowest : (f : Format) (l : Lane) (near lowest : ℕ) (all own : List SkipMeaning) → AreEntriesOf l.stream all own → lowest_after f l near lowest own ≡ lowest_after f l near lowest all
+own_lowest f l near lowest all own entries =
+    let up = most_within f l near own all (λ x at there. (entries x at).1 there) in
+    let down = most_within f l near all own (λ x at there. (entries x at).0 there) in
     omega (arith, up, down)
 
 -- ---- in another order
@@ -152,13 +153,13 @@ pub passes_own : {F : Type 0} (f : Format) (s jump : ℕ) (all own : List SkipMe
 passes_own f s jump all own os us old new held left entries p = record {
   messages = p.messages;
   next = p.next;
-  due = subst (λ (n : ℕ). IsDueFrom f os s (known_of old).next n p.messages p.next) (own_lowest f (ordered_lane s) (known_of old).next all own entries) p.due;
+  due = subst (λ (n : ℕ). IsDueFrom f os s (known_of old).next n p.messages p.next) (own_lowest f (ordered_lane s) (known_of old).next (known_of old).next all own entries) p.due;
   ordered = p.ordered;
   unordered = subst (λ (n : ℕ). Keeps f new true (unordered_lane s) (stay f jump n us)) skip p.unordered;
-  stream = p.stream ∙ (λ i. record { next = p.next; skip = skip i; waiting = (known_of old).waiting ++ p.messages });
+  stream = p.stream ∙ (λ i. record (known_of old) { next = p.next; skip = skip i; waiting = (known_of old).waiting ++ p.messages });
   bytes = p.bytes
       ∙ (λ i. sized (sized (held - sized (size_of_pieces os + size_of_pieces us) + sized (size_of_pieces (from_number p.next os) + size_of_pieces (stay f jump (skip i) us))) + sized (size_of_messages p.messages)));
 }
   where
-    skip : lowest_after f (unordered_lane s) (known_of old).skip own ≡ lowest_after f (unordered_lane s) (known_of old).skip all
-    skip = own_lowest f (unordered_lane s) (known_of old).skip all own entries
+    skip : skip_after f s (known_of old) own ≡ skip_after f s (known_of old) all
+    skip = own_lowest f (unordered_lane s) (near_of (known_of old) Unordered) (known_of old).skip all own entries

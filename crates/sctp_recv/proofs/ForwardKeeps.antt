@@ -1,18 +1,20 @@
 -- What a receiver keeps once a FORWARD was taken, and what was then due handed over.
-use Rattle.std.proofs.Common.{◌≡◌, ℕ, zero, suc, ◌+◌, ◌≤◌, max, Bool, false, List, ◌++◌, length, map, Some, inl, inr, refl, sym, ◌∙◌, ap, subst, arith}
-use Rattle.std.specs.Prelude.{not, slice_get}
+use Rattle.std.proofs.Common.{◌≡◌, ℕ, zero, suc, ◌+◌, ◌-◌, ◌≤◌, max, Bool, false, List, [], ◌∷◌, ◌++◌, length, map, Some, inl, inr, refl, sym, ◌∙◌, ap, subst, arith}
+use Rattle.std.specs.Prelude.{not, if◌then◌else◌, slice_get}
 use Rattle.std.proofs.lemmas.Bool.{cases_lt}
 use Rattle.std.proofs.lemmas.List.{length-map}
 use Rattle.sctp_model.specs.numbers.Lists.{Has}
-use Rattle.sctp_model.specs.wire.Chunk.{ForwardMeaning}
-use Rattle.sctp_model.specs.messages.Format.{Format, Lane, same_lane, ordered_lane, unordered_lane}
+use Rattle.sctp_model.specs.wire.Chunk.{SkipMeaning, ForwardMeaning}
+use Rattle.sctp_model.specs.messages.Format.{Format, Interleaved, Unordered, Lane, same_lane, ordered_lane, unordered_lane}
 use Rattle.sctp_model.specs.messages.Framing.{lets_go}
 use Rattle.sctp_model.specs.messages.Pieces.{Piece}
 use Rattle.sctp_model.specs.receiver.ReceiverView.{ReceiverView, held_bytes, size_of_pieces, size_of_waiting}
 use Rattle.sctp_model.specs.receiver.Receiving.{GivesAll}
-use Rattle.sctp_model.specs.receiver.Reading.{index_at}
-use Rattle.sctp_model.specs.receiver.ForwardTaken.{names_other_stream, skips_read, jumped, forwarded}
+use Rattle.sctp_model.specs.receiver.Reading.{index_at, lane_of}
+use Rattle.sctp_model.specs.receiver.ForwardTaken.{names_other_stream, skips_read, jumped, let_go, forwarded}
 use Rattle.sctp_model.specs.receiver.ForwardTaken as model
+use Rattle.sctp_model.specs.receiver.Top.{top}
+use Rattle.sctp_model.proofs.receiver.TopLaws.{top_all_given, top_let_go, top_skips}
 use Rattle.sctp_model.proofs.receiver.ForwardAtRest.{skips_below, skipped_other}
 use Rattle.sctp_model.proofs.receiver.Giving.{at_elsewhere, AreServed, all_served}
 use Rattle.sctp_model.proofs.receiver.HeldBytes.{all_holds, filter_size}
@@ -25,13 +27,24 @@ use Rattle.sctp_model.specs.receiver.KeptOfLane.{of_lane}
 use Rattle.sctp_recv.specs.Filed.{AreFiled}
 use Rattle.sctp_recv.specs.SeenKept.{SeenKept}
 use Rattle.sctp_recv.specs.SeenStands.{SeenStands, Jumps}
-use Rattle.sctp_recv.specs.ReceiverKept.{StreamKept, ReceiverKept, FRESH, stream_at}
+use Rattle.sctp_recv.specs.ReceiverKept.{StreamKept, ReceiverKept, FRESH, stream_at, near_of}
 use Rattle.sctp_recv.specs.StandsFor.{KeepsView}
 use Rattle.sctp_recv.specs.inner.Rows.{offset_from, IsAbove}
-use Rattle.sctp_recv.specs.inner.Forwarding.{lowest_after, stay, AreToPass, ArePassed}
+use Rattle.sctp_recv.specs.inner.Forwarding.{one_past, most_skipped, lowest_after, skip_after, stay, AreToPass, ArePassed}
+use Rattle.sctp_recv.proofs.AnswerLemmas.{near_reads}
 use Rattle.sctp_recv.proofs.FiledLemmas.{got_below}
 use Rattle.sctp_recv.proofs.StreamLemmas.{past_streams, got_stream}
 use Rattle.sctp_recv.proofs.ForwardSkips.{unordered_read, ordered_read}
+
+-- ---- what is read near one count or another
+
+skipped_near : (f : Format) (q a b : ℕ) (xs : List SkipMeaning) → (f ≡ Interleaved → a ≡ b) → most_skipped f (unordered_lane q) a xs ≡ most_skipped f (unordered_lane q) b xs
+skipped_near f q a b [] same = refl
+skipped_near f q a b (x ∷ xs) same =
+    (λ i. max (if same_lane (unordered_lane q) (lane_of x.stream x.unordered) then one_past (near_reads f a b x.number same i) else 0) (skipped_near f q a b xs same i))
+
+lowest_near : (f : Format) (q a b lowest : ℕ) (xs : List SkipMeaning) → (f ≡ Interleaved → a ≡ b) → lowest_after f (unordered_lane q) a lowest xs ≡ lowest_after f (unordered_lane q) b lowest xs
+lowest_near f q a b lowest xs same = ap (λ (n : ℕ). max lowest n) (skipped_near f q a b xs same)
 
 -- ---- what handing over on all streams leaves
 
@@ -81,13 +94,32 @@ module _ (f : Format) (k : ReceiverKept) (v : ReceiverView) (x : ForwardMeaning)
         filter_turned (λ (y : Piece). same_lane y.lane (ordered_lane q)) stays v.kept
         ∙ filter_none stays (of_lane (ordered_lane q) v.kept) (λ y has. ap (λ (l : Lane). model.stays_by l.kind f passed y) (of_says (ordered_lane q) v.kept y has).1)
 
-    skip_now : (q : ℕ) (z : Stream F) → slice_get streams q ≡ Some z → passed.skip (unordered_lane q) ≡ lowest_after f (unordered_lane q) (stream_of z).skip x.skips
-    skip_now q z got = unordered_read f v q x.skips ∙ ap (λ (n : ℕ). lowest_after f (unordered_lane q) n x.skips) (h.skip q ∙ ap (λ (a : StreamKept). a.skip) (stream_is q z got))
+    near_is : (q : ℕ) (z : Stream F) → slice_get streams q ≡ Some z → f ≡ Interleaved → top v q ≡ near_of (stream_of z) Unordered
+    near_is q z got idata = h.top q idata ∙ ap (λ (a : StreamKept). near_of a Unordered) (stream_is q z got)
 
-    unordered_stay : (q : ℕ) (z : Stream F) → slice_get streams q ≡ Some z → of_lane (unordered_lane q) left.kept ≡ stay f i (lowest_after f (unordered_lane q) (stream_of z).skip x.skips) (of_lane (unordered_lane q) v.kept)
+    skip_now : (q : ℕ) (z : Stream F) → slice_get streams q ≡ Some z → passed.skip (unordered_lane q) ≡ skip_after f q (stream_of z) x.skips
+    skip_now q z got =
+        unordered_read f v q x.skips
+        ∙ lowest_near f q (top v q) (near_of (stream_of z) Unordered) (v.skip (unordered_lane q)) x.skips (near_is q z got)
+        ∙ ap (λ (n : ℕ). lowest_after f (unordered_lane q) (near_of (stream_of z) Unordered) n x.skips) (h.skip q ∙ ap (λ (a : StreamKept). a.skip) (stream_is q z got))
+
+    -- what is let go had lower numbers than those that are skipped
+    top_passed : (q : ℕ) → f ≡ Interleaved → top left q ≡ max (top v q) (passed.skip (unordered_lane q) - 1)
+    top_passed q idata =
+        let more : v.skip (unordered_lane q) ≤ passed.skip (unordered_lane q) = let read = unordered_read f v q x.skips in omega (arith, read) in
+        ap (λ (g : Format). top (let_go g passed) q) idata ∙ top_let_go passed q ∙ top_skips v passed.jump passed.skip q more
+
+    top_now : (q : ℕ) (z : Stream F) → slice_get streams q ≡ Some z → f ≡ Interleaved → top left q ≡ max (skip_after f q (stream_of z) x.skips - 1) (stream_of z).largest
+    top_now q z got idata =
+        let all = top_passed q idata in
+        let near = near_is q z got idata in
+        let skip = skip_now q z got in
+        omega (arith, all, near, skip)
+
+    unordered_stay : (q : ℕ) (z : Stream F) → slice_get streams q ≡ Some z → of_lane (unordered_lane q) left.kept ≡ stay f i (skip_after f q (stream_of z) x.skips) (of_lane (unordered_lane q) v.kept)
     unordered_stay q z got =
         filter_turned (λ (y : Piece). same_lane y.lane (unordered_lane q)) stays v.kept
-        ∙ filter_where stays (λ (y : Piece). not (lets_go f y.index y.number i (lowest_after f (unordered_lane q) (stream_of z).skip x.skips))) (of_lane (unordered_lane q) v.kept)
+        ∙ filter_where stays (λ (y : Piece). not (lets_go f y.index y.number i (skip_after f q (stream_of z) x.skips))) (of_lane (unordered_lane q) v.kept)
         (λ y has.
         let lane = (of_says (unordered_lane q) v.kept y has).1 in
         ap (λ (l : Lane). model.stays_by l.kind f passed y) lane
@@ -102,7 +134,8 @@ module _ (f : Format) (k : ReceiverKept) (v : ReceiverView) (x : ForwardMeaning)
       unordered = unordered_stay;
       within = λ y has. filter_has stays v.kept y has;
       skip = skip_now;
-      floor = λ q z got. subst (λ (n : ℕ). max n (passed.skip (ordered_lane q)) ≡ lowest_after f (ordered_lane q) n x.skips) (h.next q ∙ ap (λ (a : StreamKept). a.next) (stream_is q z got))
+      top = top_now;
+      floor = λ q z got. subst (λ (n : ℕ). max n (passed.skip (ordered_lane q)) ≡ lowest_after f (ordered_lane q) n n x.skips) (h.next q ∙ ap (λ (a : StreamKept). a.next) (stream_is q z got))
           (ordered_read f v q x.skips (h.skipped q));
       next = refl;
       waiting = refl;
@@ -145,6 +178,14 @@ module _ (f : Format) (k : ReceiverKept) (v : ReceiverView) (x : ForwardMeaning)
             omega (arith, skip, next, was)
       ]
 
+      -- a stream that isn't there has no numbers
+      top_past : (q : ℕ) → length streams ≤ q → f ≡ Interleaved → top t q ≡ near_of FRESH Unordered
+      top_past q high idata =
+          let all = top_all_given f (length streams) left t q gives ∙ top_passed q idata in
+          let was : top v q ≡ 0 = h.top q idata ∙ fresh_past (λ (a : StreamKept). near_of a Unordered) q high in
+          let skip : passed.skip (unordered_lane q) ≡ 0 = skip_other (unordered_lane q) (let n = count in omega (arith, n, high)) ∙ h.skip q ∙ fresh_past (λ (a : StreamKept). a.skip) q high in
+          omega (arith, all, was, skip)
+
       streams_now : t.streams ≡ length news
       streams_now = served.giving.streams ∙ h.streams ∙ count ∙ sym size
 
@@ -168,6 +209,7 @@ module _ (f : Format) (k : ReceiverKept) (v : ReceiverView) (x : ForwardMeaning)
             (λ q high. served.others q high ∙ h.next q ∙ fresh_past (λ (a : StreamKept). a.next) q high);
         skip = each_field (λ (a : StreamKept). a.skip) (λ (q : ℕ). t.skip (unordered_lane q)) (λ q z got. (p.stream q z got).1)
             (λ q high. skip_is (unordered_lane q) ∙ skip_other (unordered_lane q) (let n = count in omega (arith, n, high)) ∙ h.skip q ∙ fresh_past (λ (a : StreamKept). a.skip) q high);
+        top = λ q idata. each_field (λ (a : StreamKept). near_of a Unordered) (λ (j : ℕ). top t j) (λ j z got. (p.stream j z got).2 idata) (λ j high. top_past j high idata) q;
         skipped = skipped_under;
         waiting = each_field (λ (a : StreamKept). a.waiting) t.waiting (λ q z got. (p.stream q z got).0.waiting)
             (λ q high. gives_past f (length streams) left t gives q high ∙ h.waiting q ∙ fresh_past (λ (a : StreamKept). a.waiting) q high);

@@ -1,15 +1,17 @@
 -- A FORWARD on one stream after the other: what is due on each is handed over in a view, and the bytes held are counted.
-use Rattle.std.proofs.Common.{◌≡◌, ℕ, suc, ◌+◌, ◌-◌, ◌^◌, ◌<◌, ◌≤◌, true, false, List, [], ◌∷◌, ◌++◌, length, set, Some, inl, inr, refl, sym, ◌∙◌, ap, subst, arith}
+use Rattle.std.proofs.Common.{◌≡◌, ℕ, suc, ◌+◌, ◌-◌, ◌^◌, ◌<◌, ◌≤◌, max, true, false, List, [], ◌∷◌, ◌++◌, length, set, Some, inl, inr, refl, sym, ◌∙◌, ap, subst, arith}
 use Rattle.std.specs.Prelude.{not, slice_get}
 use Rattle.std.proofs.lemmas.Bool.{cases_eq}
 use Rattle.sctp_model.specs.numbers.Lists.{Has, at}
 use Rattle.sctp_model.specs.wire.Chunk.{SkipMeaning}
-use Rattle.sctp_model.specs.messages.Format.{Format, Ordered, Unordered, Lane, ordered_lane, unordered_lane}
+use Rattle.sctp_model.specs.messages.Format.{Format, Interleaved, Ordered, Unordered, Lane, ordered_lane, unordered_lane}
 use Rattle.sctp_model.specs.messages.Framing.{lets_go}
 use Rattle.sctp_model.specs.messages.Pieces.{Piece}
 use Rattle.sctp_model.specs.receiver.ReceiverView.{Handed, ReceiverView, size_of_pieces, size_of_messages, size_of_waiting}
 use Rattle.sctp_model.specs.receiver.Receiving.{IsDue, Stop, IsWholeNumber, HasNoWhole, is_below, without_below, handed_ordered, GivesAll}
+use Rattle.sctp_model.specs.receiver.Top.{top}
 use Rattle.sctp_model.proofs.receiver.Giving.{at_here, at_elsewhere}
+use Rattle.sctp_model.proofs.receiver.TopLaws.{top_given, top_all_given}
 use Rattle.sctp_model.proofs.receiver.HeldBytes.{filter_size}
 use Rattle.sctp_model.proofs.receiver.OfLane.{whole_of, of_below, of_below_other, off_below, size_of_lane}
 use Rattle.sctp_model.proofs.receiver.OneStep.{filter_has}
@@ -19,16 +21,20 @@ use Rattle.sctp_recv.specs.declared.stream.Stream.{Stream}
 use Rattle.sctp_recv.specs.Fields.{inside, stream_of}
 use Rattle.sctp_model.specs.receiver.KeptOfLane.{of_lane}
 use Rattle.sctp_recv.specs.Filed.{Keeps, IsFiledOn}
-use Rattle.sctp_recv.specs.ReceiverKept.{StreamKept}
+use Rattle.sctp_recv.specs.ReceiverKept.{StreamKept, near_of}
 use Rattle.sctp_recv.specs.inner.Giving.{sized, IsDueView}
-use Rattle.sctp_recv.specs.inner.Forwarding.{lowest_after, stay, IsQuiet, PassesOn, IsStreamOf, AreToPass}
+use Rattle.sctp_recv.specs.inner.Forwarding.{next_after, skip_after, stay, IsQuiet, PassesOn, IsStreamOf, AreToPass}
 use Rattle.sctp_recv.proofs.StreamLemmas.{waiting_set, size_append}
 use Rattle.sctp_recv.proofs.FiledLemmas.{got_set_same, got_set_other, one_got, sum_to, sum_same, sum_upto, stream_size, all_sizes}
+
+-- a stream's numbers and messages are the view's, those of unordered messages too
+abbrev pub IsPassed : {F : Type 0} → Format → ReceiverView → (q : ℕ) → Stream F → Type 0
+IsPassed f t q x = IsStreamOf t q x × (t.skip (unordered_lane q) ≡ (stream_of x).skip) × (f ≡ Interleaved → top t q ≡ near_of (stream_of x) Unordered)
 
 -- What came of the streams below k, in a view that r leads to.
 pub record IsUpTo {F : Type 0} (f : Format) (v r : ReceiverView) (olds now : List (Stream F)) (bytes left k : ℕ) (t : ReceiverView) : Type 0 where
   pub gives : GivesAll f k r t
-  pub done : (q : ℕ) (x : Stream F) → q < k → slice_get now q ≡ Some x → IsFiledOn f t.kept q x × IsStreamOf t q x × (t.skip (unordered_lane q) ≡ (stream_of x).skip)
+  pub done : (q : ℕ) (x : Stream F) → q < k → slice_get now q ≡ Some x → IsFiledOn f t.kept q x × IsPassed f t q x
   pub later : (q : ℕ) → k ≤ q → slice_get now q ≡ slice_get olds q
   pub kept : (q : ℕ) → k ≤ q → of_lane (ordered_lane q) t.kept ≡ of_lane (ordered_lane q) r.kept
   pub loose : (q : ℕ) → of_lane (unordered_lane q) t.kept ≡ of_lane (unordered_lane q) r.kept
@@ -88,7 +94,7 @@ module _ {F : Type 0} (f : Format) (jump : ℕ) (xs : List SkipMeaning) (v r : R
   skip_is : t.skip (ordered_lane k) ≡ r.skip (ordered_lane k)
   skip_is = ap (λ (g : Lane → ℕ). g (ordered_lane k)) u.skip
 
-  view : IsDueView f (of_lane (ordered_lane k) v.kept) k (stream_of x).next (lowest_after f (ordered_lane k) (stream_of x).next xs) t
+  view : IsDueView f (of_lane (ordered_lane k) v.kept) k (stream_of x).next (next_after f k (stream_of x) xs) t
   view = record {
     same = own;
     above = let both = h.floor k x got in let s = skip_is in omega (arith, both, s);
@@ -115,7 +121,7 @@ module _ {F : Type 0} (f : Format) (jump : ℕ) (xs : List SkipMeaning) (v r : R
     due = λ w is. Stop (stream_of x).next (let above = is.above in let same = q.ordered in omega (arith, above, same)) (none_as w is.same);
     ordered = subst (λ (ps : List Piece). Keeps f (inside x) false (ordered_lane k) ps) (sym q.clear) (h.filed.each k x got).ordered;
     unordered = subst (λ (ps : List Piece). Keeps f (inside x) true (unordered_lane k) ps) (sym none_go) (h.filed.each k x got).unordered;
-    stream = λ i. record { next = (stream_of x).next; skip = sym q.unordered i; waiting = sym (none_more (stream_of x).waiting) i };
+    stream = λ i. record (stream_of x) { next = (stream_of x).next; skip = sym q.unordered i; waiting = sym (none_more (stream_of x).waiting) i };
     bytes =
         let same = ap size_of_pieces q.clear in
         let loose = ap size_of_pieces none_go in
@@ -133,7 +139,7 @@ module _ {F : Type 0} (f : Format) (jump : ℕ) (xs : List SkipMeaning) (v r : R
       none_more [] = refl
       none_more (m ∷ ms) = ap (λ (os : List Handed). m ∷ os) (none_more ms)
 
-      none_go : stay f jump (lowest_after f (unordered_lane k) (stream_of x).skip xs) (of_lane (unordered_lane k) v.kept) ≡ of_lane (unordered_lane k) v.kept
+      none_go : stay f jump (skip_after f k (stream_of x) xs) (of_lane (unordered_lane k) v.kept) ≡ of_lane (unordered_lane k) v.kept
       none_go = ap (λ (n : ℕ). stay f jump n (of_lane (unordered_lane k) v.kept)) q.unordered ∙ q.stays
 
   module _ (y : Stream F) (now_left : ℕ) (p : PassesOn f k jump xs (of_lane (ordered_lane k) v.kept) (of_lane (unordered_lane k) v.kept) (inside x) (inside y) left now_left) where
@@ -149,7 +155,7 @@ module _ {F : Type 0} (f : Format) (jump : ℕ) (xs : List SkipMeaning) (v r : R
     unordered_off : (q : ℕ) → of_lane (unordered_lane q) (without_below t.kept k p.next) ≡ of_lane (unordered_lane q) t.kept
     unordered_off q = of_below_other (unordered_lane q) k p.next t.kept (kinds_apart q k)
 
-    loose_after : of_lane (unordered_lane k) (without_below t.kept k p.next) ≡ stay f jump (lowest_after f (unordered_lane k) (stream_of x).skip xs) (of_lane (unordered_lane k) v.kept)
+    loose_after : of_lane (unordered_lane k) (without_below t.kept k p.next) ≡ stay f jump (skip_after f k (stream_of x) xs) (of_lane (unordered_lane k) v.kept)
     loose_after = unordered_off k ∙ u.loose k ∙ h.unordered k x got
 
     -- the stream itself
@@ -165,19 +171,31 @@ module _ {F : Type 0} (f : Format) (jump : ℕ) (xs : List SkipMeaning) (v r : R
       waiting = at_here t.waiting k (t.waiting k ++ p.messages) ∙ ap (λ (ms : List Handed). ms ++ p.messages) waiting_is ∙ sym (ap (λ (a : StreamKept). a.waiting) p.stream);
     }
 
+    -- what is handed over in order says nothing of unordered numbers
+    top_same : (q : ℕ) → top (handed_ordered t k p.messages p.next) q ≡ top t q
+    top_same q = top_given f k t (handed_ordered t k p.messages p.next) q (p.messages, p.next, due, refl)
+
+    top_here : f ≡ Interleaved → top (handed_ordered t k p.messages p.next) k ≡ near_of (stream_of y) Unordered
+    top_here e =
+        top_same k ∙ top_all_given f k r t k u.gives ∙ h.top k x got e
+        ∙ (λ j. max (sym (ap (λ (a : StreamKept). a.skip) p.stream) j - 1) (sym (ap (λ (a : StreamKept). a.largest) p.stream) j))
+
     -- one that was done before
-    still : (q : ℕ) (z : Stream F) → (q ≡ k → ⊥) → IsFiledOn f t.kept q z × IsStreamOf t q z × (t.skip (unordered_lane q) ≡ (stream_of z).skip) →
-        IsFiledOn f (without_below t.kept k p.next) q z × IsStreamOf (handed_ordered t k p.messages p.next) q z × (t.skip (unordered_lane q) ≡ (stream_of z).skip)
-    still q z other (on, stream, skip) = (
+    still : (q : ℕ) (z : Stream F) → (q ≡ k → ⊥) → IsFiledOn f t.kept q z × IsPassed f t q z →
+        IsFiledOn f (without_below t.kept k p.next) q z × IsPassed f (handed_ordered t k p.messages p.next) q z
+    still q z other (on, (stream, skip, highest)) = (
       record {
         ordered = subst (λ (ps : List Piece). Keeps f (inside z) false (ordered_lane q) ps) (sym (ordered_off q other)) on.ordered;
         unordered = subst (λ (ps : List Piece). Keeps f (inside z) true (unordered_lane q) ps) (sym (unordered_off q)) on.unordered;
       },
-      record {
-        next = at_elsewhere t.next k p.next q other ∙ stream.next;
-        waiting = at_elsewhere t.waiting k (t.waiting k ++ p.messages) q other ∙ stream.waiting;
-      },
-      skip,
+      (
+        record {
+          next = at_elsewhere t.next k p.next q other ∙ stream.next;
+          waiting = at_elsewhere t.waiting k (t.waiting k ++ p.messages) q other ∙ stream.waiting;
+        },
+        skip,
+        λ e. top_same q ∙ highest e,
+      ),
     )
 
     -- ---- bytes
@@ -193,7 +211,7 @@ module _ {F : Type 0} (f : Format) (jump : ℕ) (xs : List SkipMeaning) (v r : R
 
     unordered_less : size_of_pieces (of_lane (unordered_lane k) (without_below t.kept k p.next)) ≤ size_of_pieces (of_lane (unordered_lane k) v.kept)
     unordered_less =
-        let less = filter_size (λ (z : Piece). not (lets_go f z.index z.number jump (lowest_after f (unordered_lane k) (stream_of x).skip xs))) (of_lane (unordered_lane k) v.kept) in
+        let less = filter_size (λ (z : Piece). not (lets_go f z.index z.number jump (skip_after f k (stream_of x) xs))) (of_lane (unordered_lane k) v.kept) in
         let same = ap size_of_pieces loose_after in
         omega (arith, less, same)
 
@@ -223,8 +241,8 @@ module _ {F : Type 0} (f : Format) (jump : ℕ) (xs : List SkipMeaning) (v r : R
         | inl same ↦
             let is : y ≡ z = one_got (slice_get (set now k y) k) y z (got_set_same now k y (omega (arith, low, size))) (ap (slice_get (set now k y)) (sym same) ∙ at_q) in
             let skip = ap (λ (g : Lane → ℕ). g (unordered_lane k)) u.skip ∙ h.skip k x got ∙ sym (ap (λ (a : StreamKept). a.skip) p.stream) in
-            subst (λ (i : ℕ). IsFiledOn f (without_below t.kept k p.next) i z × IsStreamOf (handed_ordered t k p.messages p.next) i z × (t.skip (unordered_lane i) ≡ (stream_of z).skip)) (sym same)
-            (subst (λ (w : Stream F). IsFiledOn f (without_below t.kept k p.next) k w × IsStreamOf (handed_ordered t k p.messages p.next) k w × (t.skip (unordered_lane k) ≡ (stream_of w).skip)) is (here, says, skip))
+            subst (λ (i : ℕ). IsFiledOn f (without_below t.kept k p.next) i z × IsPassed f (handed_ordered t k p.messages p.next) i z) (sym same)
+            (subst (λ (w : Stream F). IsFiledOn f (without_below t.kept k p.next) k w × IsPassed f (handed_ordered t k p.messages p.next) k w) is (here, (says, skip, top_here)))
         | inr other ↦ still q z other (u.done q z (omega (arith, less, other)) (sym (got_set_other now k q y other) ∙ at_q))
       ];
       later = λ q high. got_set_other now k q y (λ e. omega (arith, high, e)) ∙ u.later q (omega (arith, high));

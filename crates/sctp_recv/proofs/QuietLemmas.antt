@@ -52,7 +52,7 @@ pub upto_all : {F : Type 0} (f : Format) (jump : ℕ) (xs : List SkipMeaning) (v
     IsUpTo f v r olds now held left (length olds) t → length now ≡ length olds → ArePassed f t now left
 upto_all {F} f jump xs v r olds now held left t h u size = record {
   filed = record { each = λ q x got. (u.done q x (within q x got) got).0; there = λ y has. let low = there y has in omega (arith, low, size) };
-  stream = λ q x got. let d = u.done q x (within q x got) got in (d.1, d.2);
+  stream = λ q x got. let d = u.done q x (within q x got) got in d.1;
   held = subst (λ (n : ℕ). left ≡ size_of_pieces t.kept + size_of_waiting t.waiting n) (sym size) total;
 }
   where

@@ -19,7 +19,7 @@ use Rattle.sctp_recv.specs.declared.receiver.Receiver.{Receiver}
 use Rattle.sctp_recv.specs.Fields.{inside, stream_of}
 use Rattle.sctp_recv.specs.Filed.{Keeps, IsFiledOn}
 use Rattle.sctp_recv.specs.KeptOf.{kept_of}
-use Rattle.sctp_recv.specs.ReceiverKept.{StreamKept, ReceiverKept, stream_at, reference_of, is_below_or_none}
+use Rattle.sctp_recv.specs.ReceiverKept.{StreamKept, ReceiverKept, stream_at, near_of, lowest_of, is_below_or_none}
 use Rattle.sctp_recv.specs.SeenKept.{is_reached, AreWithin}
 use Rattle.sctp_recv.specs.StandsFor.{KeepsView, StandsFor}
 use Rattle.sctp_recv.specs.inner.Rows.{IsAbove, IsNewIndex, IsRowOf}
@@ -29,7 +29,7 @@ use Rattle.sctp_recv.proofs.StreamLemmas.{stream_mapped}
 
 -- the number is below those that the stream waits for, or there is none where there should be one
 abbrev pub comes_late : Format → PieceMeaning → StreamKept → Option ℕ → Bool
-comes_late f p s n = is_numbered f (lane_kind p.unordered) && is_below_or_none (reference_of s (lane_kind p.unordered)) n
+comes_late f p s n = is_numbered f (lane_kind p.unordered) && is_below_or_none (lowest_of s (lane_kind p.unordered)) n
 
 -- The chunk p has the new index i, and its stream x reads the number n for it; it says whether p comes too late.
 pub record IsRead {F : Type 0} (f : Format) (k : ReceiverKept) (v : ReceiverView) (p : PieceMeaning) (i : ℕ) (x : Stream F) (n : Option ℕ) (late : Bool) : Type 0 where
@@ -40,13 +40,13 @@ pub record IsRead {F : Type 0} (f : Format) (k : ReceiverKept) (v : ReceiverView
   pub low : p.stream < length k.streams
   pub stream : stream_of x ≡ stream_at k.streams p.stream
   pub own : IsFiledOn f v.kept p.stream x
-  pub near : n ≡ number_near f (lane_kind p.unordered) p.number (reference_of (stream_of x) (lane_kind p.unordered))
+  pub near : n ≡ number_near f (lane_kind p.unordered) p.number (near_of (stream_of x) (lane_kind p.unordered))
   pub is_late : late ≡ comes_late f p (stream_of x) n
 
 -- what the calls say that read it: the cumulative index c, the stream's place s, and whether the index was reached
 pub read_at : {F : Type 0} (f : Format) (r : Receiver F) (v : ReceiverView) (p : PieceMeaning) (c i s : ℕ) (x : Stream F) (n : Option ℕ) (reached late : Bool) (kind : Kind) → kind ≡ lane_kind p.unordered → StandsFor f r v → c ≡ r.seen.kept.cumulative →
     AreWithin (r.seen.kept.cumulative + WINDOW) r.seen.kept.runs → IsAbove r.initial c p.tsn i → reached ≡ is_reached r.seen.kept i → reached ≡ false → s ≡ p.stream → s < length r.streams.items →
-    x ≡ get_or r.streams.items s x → n ≡ number_near f kind p.number (reference_of (stream_of x) kind) → late ≡ (is_numbered f kind && is_below_or_none (reference_of (stream_of x) kind) n) → IsRead f (kept_of r) v p i x n late
+    x ≡ get_or r.streams.items s x → n ≡ number_near f kind p.number (near_of (stream_of x) kind) → late ≡ (is_numbered f kind && is_below_or_none (lowest_of (stream_of x) kind) n) → IsRead f (kept_of r) v p i x n late
 unfolding StandsFor
 read_at f r v p c i s x n reached late kind is_kind w c_is within at reached_is new s_is low got near late_is = record {
   keeps = w.0;
@@ -56,8 +56,8 @@ read_at f r v p c i s x n reached late kind is_kind w c_is within at reached_is 
   low = let all = length-map r.streams.items stream_of in omega (arith, low, s_is, all);
   stream = sym (stream_mapped r.streams.items s x low got) ∙ ap (λ (j : ℕ). stream_at (kept_of r).streams j) s_is;
   own = subst (λ (q : ℕ). IsFiledOn f v.kept q x) s_is (w.1.0.each s x (slice_get_read r.streams.items (length r.streams.items) s x refl low got));
-  near = subst (λ (q : Kind). n ≡ number_near f q p.number (reference_of (stream_of x) q)) is_kind near;
-  is_late = subst (λ (q : Kind). late ≡ (is_numbered f q && is_below_or_none (reference_of (stream_of x) q) n)) is_kind late_is;
+  near = subst (λ (q : Kind). n ≡ number_near f q p.number (near_of (stream_of x) q)) is_kind near;
+  is_late = subst (λ (q : Kind). late ≡ (is_numbered f q && is_below_or_none (lowest_of (stream_of x) q) n)) is_kind late_is;
 }
 
 -- the stream's answer whether it keeps the fragment already
@@ -66,7 +66,7 @@ SaysHeld f x p n held = (j : ℕ) (l : Lane) (ks : List Piece) → Keeps f (insi
 
 module _ {F : Type 0} {f : Format} {k : ReceiverKept} {v : ReceiverView} {p : PieceMeaning} {i : ℕ} {x : Stream F} {n : Option ℕ} {late : Bool} (h : IsRead f k v p i x n late) where
   number : n ≡ (piece_at f v k.seen.cumulative p).number
-  number = h.near ∙ ap (λ (a : StreamKept). number_near f (lane_kind p.unordered) p.number (reference_of a (lane_kind p.unordered))) h.stream ∙ number_same f k v p h.keeps h.within
+  number = h.near ∙ ap (λ (a : StreamKept). number_near f (lane_kind p.unordered) p.number (near_of a (lane_kind p.unordered))) h.stream ∙ number_same f k v p h.keeps h.within
 
   late_is : late ≡ comes_late f p (stream_at k.streams p.stream) n
   late_is = h.is_late ∙ ap (λ (a : StreamKept). comes_late f p a n) h.stream
@@ -79,7 +79,7 @@ module _ {F : Type 0} {f : Format} {k : ReceiverKept} {v : ReceiverView} {p : Pi
 
   module _ (word : p.word < COUNTS) (not_late : late ≡ false) (held : Bool) (says : SaysHeld f x p n held) where
     of : IsOf f (lane_of p.stream p.unordered) (counted i p n)
-    of = chunk_of f p n i (reference_of (stream_of x) (lane_kind p.unordered)) h.near (sym h.is_late ∙ not_late) index.count word
+    of = chunk_of f p n i (near_of (stream_of x) (lane_kind p.unordered)) (lowest_of (stream_of x) (lane_kind p.unordered)) h.near (sym h.is_late ∙ not_late) index.count word
 
     passed : is_passed f v (piece_at f v k.seen.cumulative p) ≡ held
     passed =
@@ -99,7 +99,7 @@ module _ {F : Type 0} {f : Format} {k : ReceiverKept} {v : ReceiverView} {p : Pi
         record {
           new = index;
           number = number;
-          small = λ m is. near_small f (lane_kind p.unordered) p.number (reference_of (stream_of x) (lane_kind p.unordered)) m (sym h.near ∙ is);
+          small = λ m is. near_small f (lane_kind p.unordered) p.number (near_of (stream_of x) (lane_kind p.unordered)) m (sym h.near ∙ is);
           stream = h.low;
           wanted = passed ∙ free;
           fits = fits;

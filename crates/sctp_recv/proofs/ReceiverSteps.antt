@@ -1,16 +1,18 @@
 -- What a receiver keeps, after each of its smaller steps.
-use Rattle.std.proofs.Common.{◌≡◌, ℕ, suc, ◌+◌, ◌-◌, ◌^◌, ◌<◌, true, false, ◌==◌, List, [], ◌∷◌, ◌++◌, length, set, replicate, inl, inr, refl, sym, ◌∙◌, ap, arith}
+use Rattle.std.proofs.Common.{◌≡◌, ℕ, suc, ◌+◌, ◌-◌, ◌^◌, ◌<◌, true, false, ◌==◌, List, [], ◌∷◌, ◌++◌, length, set, replicate, Some, inl, inr, refl, sym, ◌∙◌, ap, arith}
 use Rattle.std.proofs.lemmas.Bool.{cases_Bool}
 use Rattle.std.proofs.lemmas.Bool.Decides.{nat_tests}
 use Rattle.sctp_model.specs.numbers.Lists.{at}
-use Rattle.sctp_model.specs.messages.Format.{Format}
+use Rattle.sctp_model.specs.messages.Format.{Format, Unordered}
 use Rattle.sctp_model.specs.receiver.ReceiverView.{Handed, ReceiverView, IsCumulative, fresh_receiver, size_of_messages}
+use Rattle.sctp_model.specs.receiver.SackMade.{first_taken}
+use Rattle.sctp_model.proofs.receiver.TopLaws.{top_taken}
 use Rattle.sctp_recv.specs.SeenKept.{SeenKept}
 use Rattle.sctp_recv.specs.SeenStands.{SeenStands}
-use Rattle.sctp_recv.specs.ReceiverKept.{StreamKept, ReceiverKept, FRESH, stream_at}
+use Rattle.sctp_recv.specs.ReceiverKept.{StreamKept, ReceiverKept, FRESH, stream_at, near_of}
 use Rattle.sctp_recv.specs.StandsFor.{KeepsView}
 use Rattle.sctp_recv.proofs.RunLemmas.{none_after}
-use Rattle.sctp_recv.proofs.StreamLemmas.{fresh_at, length_fresh, no_waiting, stream_set_same, stream_set_other, length_set, waiting_set}
+use Rattle.sctp_recv.proofs.StreamLemmas.{fresh_at, length_fresh, no_waiting, stream_set_same, stream_set_other, same_field, length_set, waiting_set}
 
 -- ---- the cumulative index
 
@@ -35,6 +37,7 @@ keeps_fresh f seen ss initial n buffer s e few fits = record {
   numbers = λ x m h is. absurd h;
   next = λ q. sym (ap (λ (xs : List StreamKept). (stream_at xs q).next) e ∙ ap (λ (x : StreamKept). x.next) (fresh_at n q));
   skip = λ q. sym (ap (λ (xs : List StreamKept). (stream_at xs q).skip) e ∙ ap (λ (x : StreamKept). x.skip) (fresh_at n q));
+  top = λ q idata. sym (ap (λ (xs : List StreamKept). near_of (stream_at xs q) Unordered) e ∙ ap (λ (x : StreamKept). near_of x Unordered) (fresh_at n q));
   skipped = λ q. omega arith;
   waiting = λ q. sym (ap (λ (xs : List StreamKept). (stream_at xs q).waiting) e ∙ ap (λ (x : StreamKept). x.waiting) (fresh_at n q));
   streams = sym (ap (λ (xs : List StreamKept). length xs) e ∙ length_fresh n);
@@ -73,6 +76,7 @@ keeps_taken f k v s held h rest x w l at_s left less = record {
         ∙ sym (ap (λ (i : ℕ). (stream_at (set k.streams s x) i).skip) same ∙ ap (λ (y : StreamKept). y.skip) (stream_set_same k.streams s x l))
     | inr e ↦ w.skip q ∙ sym (ap (λ (y : StreamKept). y.skip) (stream_set_other k.streams s q x (λ same. grind (arith, nat_tests))))
   ];
+  top = λ q idata. top_taken v s (Some h) (first_taken v s h rest) q (rest, waits_here, refl) ∙ w.top q idata ∙ sym (same_field (λ (y : StreamKept). near_of y Unordered) k.streams s x l near_same q);
   skipped = w.skipped;
   waiting = λ q. elim (cases_Bool (q == s)) [
     | inl e ↦
@@ -96,3 +100,9 @@ keeps_taken f k v s held h rest x w l at_s left less = record {
   initial = w.initial;
   buffer = w.buffer;
 }
+  where
+    waits_here : v.waiting s ≡ h ∷ rest
+    waits_here = w.waiting s ∙ ap (λ (y : StreamKept). y.waiting) at_s
+
+    near_same : near_of x Unordered ≡ near_of (stream_at k.streams s) Unordered
+    near_same = sym (ap (λ (y : StreamKept). near_of y Unordered) at_s)

@@ -47,8 +47,7 @@ found_more Interleaved old new skip x more is = is
 
 pub findable_more : (f : Format) (v : ReceiverView) (old new : Lows) → new.count ≡ old.count → ((s i : ℕ) → IsMarked old s i → IsMarked new s i) → AreFindable f v old → AreFindable f v new
 findable_more f v old new count more findable =
-    let all = findable.0 in
-    (omega (arith, all, count), λ x has kind. found_more f old new (v.skip x.lane) x more (findable.1 x has kind))
+    (λ plain. let all = findable.0 plain in omega (arith, all, count), λ x has kind. found_more f old new (v.skip x.lane) x more (findable.1 x has kind))
 
 passes : (test : Piece → Bool) (kept : List Piece) (y : Piece) → Has (filter test kept) y → test y ≡ true
 passes test [] y there = absurd there
@@ -70,7 +69,7 @@ stayed f r y Unordered kind stays = turned (lets_go f y.index y.number r.jump (r
 
 -- what a FORWARD leaves
 pub findable_forward : (f : Format) (v t : ReceiverView) (c n : ℕ) (x : ForwardMeaning) (lows : Lows) → GivesAll f n (forwarded f v c x) t → AreFindable f v lows → AreFindable f t lows
-findable_forward f v t c n x lows gives findable = (let all = findable.0 in let same = served.giving.streams in omega (arith, all, same), each)
+findable_forward f v t c n x lows gives findable = (λ plain. let all = findable.0 plain in let same = served.giving.streams in omega (arith, all, same), each)
   where
     served : AreServed f n (forwarded f v c x) t
     served = all_served f n (forwarded f v c x) t gives
@@ -108,7 +107,7 @@ not_late v x kind late = go x.number late
 -- A chunk that is a whole message by itself doesn't stay.
 pub findable_taken : (f : Format) (v t : ReceiverView) (x : Piece) (old new : Lows) → TakesPiece f v x t → IsIdle f t → is_passed f v x ≡ false → AreFindable f v old → new.count ≡ old.count →
     ((s i : ℕ) → IsMarked old s i → IsMarked new s i) → (is_numbered f Unordered ≡ false → x.lane.kind ≡ Unordered → (x.begin && x.end) ≡ false → IsMarked new x.lane.stream x.index) → AreFindable f t new
-findable_taken f v t x old new takes idle wanted findable count more here = (let all = findable.0 in let same = giving.streams in omega (arith, all, same, count), each)
+findable_taken f v t x old new takes idle wanted findable count more here = (λ plain. let all = findable.0 plain in let same = giving.streams in omega (arith, all, same, count), each)
   where
     giving : IsGiving (with_chunk v x) t
     giving = takes_giving f v t x takes
@@ -149,7 +148,7 @@ pub findable_noted : {F : Type 0} (f : Format) (v : ReceiverView) (streams : Lis
     AreFiled f v.kept streams → slice_get streams s ≡ Some x →
     ((l : Lane) (kept : List Piece) → Keeps f (inside x) true l kept → is_numbered f l.kind ≡ false → IsLowestIndex kept lowest) → new.count ≡ old.count →
     ((q i : ℕ) → IsMarked old q i → (q ≡ s → unwrap_or lowest most ≤ i) → IsMarked new q i) → AreFindable f v old → AreFindable f v new
-findable_noted f v streams s x lowest most old new plain filed got first count more findable = (let all = findable.0 in omega (arith, all, count), each)
+findable_noted f v streams s x lowest most old new plain filed got first count more findable = (λ plain. let all = findable.0 plain in omega (arith, all, count), each)
   where
     least : (o : Option ℕ) (kept : List Piece) (y : Piece) → IsLowestIndex kept o → Has kept y → unwrap_or o most ≤ y.index
     least None kept y none has = absurd (subst (λ (ps : List Piece). Has ps y) none has)

@@ -2,12 +2,13 @@
 use Rattle.std.specs.Prelude.{◌≡◌, ℕ, suc, ◌^◌, ◌<◌, ◌≤◌, true, false, Some, length}
 use Rattle.sctp_model.specs.numbers.Lists.{Has}
 use Rattle.sctp_model.specs.numbers.Serial.{COUNTS}
-use Rattle.sctp_model.specs.messages.Format.{Format, Plain, Interleaved, Unordered, ordered_lane, unordered_lane}
+use Rattle.sctp_model.specs.messages.Format.{Format, Plain, Interleaved, Unordered, is_numbered, ordered_lane, unordered_lane}
 use Rattle.sctp_model.specs.messages.Framing.{is_skipped}
 use Rattle.sctp_model.specs.messages.Pieces.{Piece}
 use Rattle.sctp_model.specs.receiver.ReceiverView.{ReceiverView, held_bytes}
 use Rattle.sctp_model.specs.receiver.Laws.{IsFilledOnce, IsAtRest}
-use Rattle.sctp_recv.specs.ReceiverKept.{ReceiverKept, stream_at}
+use Rattle.sctp_model.specs.receiver.Top.{top}
+use Rattle.sctp_recv.specs.ReceiverKept.{ReceiverKept, stream_at, near_of}
 use Rattle.sctp_recv.specs.SeenStands.{SeenStands}
 use Rattle.sctp_recv.specs.KeptOf.{kept_of}
 use Rattle.sctp_recv.specs.Filed.{AreFiled}
@@ -16,7 +17,7 @@ use Rattle.sctp_recv.specs.declared.places.Lows.{Lows}
 use Rattle.sctp_recv.specs.declared.receiver.Receiver.{Receiver}
 
 -- What is kept says the view, up to what the receiver has let go: the indexes at or below the cumulative one, the messages taken, and the
--- skipped ordered numbers, of which none is past the next. The chunks kept are apart, each was recorded, and all that is held fits the buffer;
+-- skipped ordered numbers, of which none is past the next; of unordered ones the largest, where they are numbered. The chunks kept are apart, each was recorded, and all that is held fits the buffer;
 -- a stream's number has 16 bits.
 pub record KeepsView (f : Format) (k : ReceiverKept) (v : ReceiverView) : Type 0 where
   pub seen : SeenStands k.seen v.seen v.jump
@@ -26,6 +27,7 @@ pub record KeepsView (f : Format) (k : ReceiverKept) (v : ReceiverView) : Type 0
   pub numbers : (x : Piece) (n : ℕ) → Has v.kept x → x.number ≡ Some n → suc n < COUNTS
   pub next : (s : ℕ) → v.next s ≡ (stream_at k.streams s).next
   pub skip : (s : ℕ) → v.skip (unordered_lane s) ≡ (stream_at k.streams s).skip
+  pub top : (s : ℕ) → f ≡ Interleaved → top v s ≡ near_of (stream_at k.streams s) Unordered
   pub skipped : (s : ℕ) → v.skip (ordered_lane s) ≤ v.next s
   pub waiting : (s : ℕ) → v.waiting s ≡ (stream_at k.streams s).waiting
   pub streams : v.streams ≡ length k.streams
@@ -47,9 +49,9 @@ abbrev pub IsFindable : Format → Lows → (skip : ℕ) → Piece → Type 0
 IsFindable Plain lows skip x = IsMarked lows x.lane.stream x.index
 IsFindable Interleaved lows skip x = is_skipped x.number skip ≡ false
 
--- so are all unordered chunks that are kept, and each stream has its number
+-- so are all unordered chunks that are kept; where they have no numbers each stream has its bound
 abbrev pub AreFindable : Format → ReceiverView → Lows → Type 0
-AreFindable f v lows = (v.streams ≤ lows.count) × ((x : Piece) → Has v.kept x → x.lane.kind ≡ Unordered → IsFindable f lows (v.skip x.lane) x)
+AreFindable f v lows = (is_numbered f Unordered ≡ false → v.streams ≤ lows.count) × ((x : Piece) → Has v.kept x → x.lane.kind ≡ Unordered → IsFindable f lows (v.skip x.lane) x)
 
 -- the receiver stands for this view, which is at rest
 unfoldable pub StandsFor : {F : Type 0} → Format → Receiver F → ReceiverView → Type 0

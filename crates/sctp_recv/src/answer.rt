@@ -28,10 +28,10 @@ pub enum Answer {
 pub(crate) enum Row {
     Duplicate,
     Ahead,
-    NoSuchStream { index: u32 },
-    Passed { index: u32 },
+    NoSuchStream { index: u64 },
+    Passed { index: u64 },
     NoRoom,
-    Taken { index: u32, number: Option<u32> },
+    Taken { index: u64, number: Option<u64> },
 }
 
 /// Where a TSN lies, seen from the cumulative index.
@@ -42,18 +42,20 @@ pub(crate) enum TsnPlace {
     /// It lies past the window, or its index is no count below the largest.
     Ahead,
     /// Above the cumulative index, it stands for this one.
-    At(u32),
+    At(u64),
 }
 
 /// Where a TSN lies, where the first one is of index 1.
-pub(crate) fn place_of_tsn(initial: u32, cumulative: u32, tsn: u32) -> TsnPlace
+pub(crate) fn place_of_tsn(initial: u32, cumulative: u64, tsn: u32) -> TsnPlace
     ensures { IsTsnPlace initial cumulative tsn result }
 {
     if !S32(tsn_of(initial, cumulative)).before(S32(tsn)) {
         return TsnPlace::Behind;
     }
     match index_ahead(initial, cumulative, tsn) {
-        Some(index) if index < u32::MAX && index.saturating_sub(cumulative) <= WINDOW => {
+        Some(index)
+            if index < u64::MAX && index.saturating_sub(cumulative) <= u64::from(WINDOW) =>
+        {
             TsnPlace::At(index)
         }
         _ => TsnPlace::Ahead,

@@ -59,30 +59,31 @@ fn is_for(skip: Skip, stream: u16, kind: Kind) -> bool
 }
 
 /// One past the number that an entry skips of this stream and kind, or 0 where it skips none there.
-fn skipped_by<F: Framing>(skip: Skip, stream: u16, kind: Kind, reference: u32) -> u32
-    ensures { result ≡ skipped_by F.format (lane_at stream kind) reference (skip_meaning skip) }
+fn skipped_by<F: Framing>(skip: Skip, stream: u16, kind: Kind, near: u64) -> u64
+    ensures { result ≡ skipped_by F.format (lane_at stream kind) near (skip_meaning skip) }
 {
     if !is_for(skip, stream, kind) {
         return 0;
     }
-    match F::number_near(kind, skip.number, reference) {
+    match F::number_near(kind, skip.number, near) {
         Some(number) => number + 1,
         None => 0,
     }
 }
 
-/// The lowest number of this stream and kind that still counts, of which `reference` was the lowest before.
+/// The lowest number of this stream and kind that still counts, of which `lowest` was the lowest before. Each entry is read near one count.
 pub(crate) fn lowest_after<F: Framing>(
     entries: &[Skip],
     stream: u16,
     kind: Kind,
-    reference: u32,
-) -> u32
-    ensures { result ≡ lowest_after F.format (lane_at stream kind) reference (map skip_meaning entries.now) }
+    near: u64,
+    lowest: u64,
+) -> u64
+    ensures { result ≡ lowest_after F.format (lane_at stream kind) near lowest (map skip_meaning entries.now) }
 {
-    let mut lowest = reference;
+    let mut after = lowest;
     for skip in entries {
-        lowest = lowest.max(skipped_by::<F>(*skip, stream, kind, reference));
+        after = after.max(skipped_by::<F>(*skip, stream, kind, near));
     }
-    lowest
+    after
 }

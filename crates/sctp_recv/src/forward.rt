@@ -62,7 +62,7 @@ fn names_other_stream(streams: usize, skips: &Skips<'_>) -> bool
 fn touched_by(
     alloc: Global,
     lows: &Lows,
-    jump: u32,
+    jump: u64,
     skips: &Skips<'_>,
 ) -> Result<Vec<u16>, NoMemory>
     ensures rising { IfOk result (λ streams. IsNonDecreasing streams.items) }
@@ -120,14 +120,16 @@ fn pass_in<F: Framing>(
     inbound: &mut Inbound<F>,
     stream: u16,
     entries: &[Skip],
-    jump: u32,
+    jump: u64,
     held: u32,
 ) -> u32
     ensures { (os us : Kept) → lane.StandsFor F.format inbound.old.ordered (ordered_lane stream) os → lane.StandsFor F.format inbound.old.unordered (unordered_lane stream) us
         → AreCounted os → HasRoom inbound.old 0 → PassesOn F.format stream jump (map skip_meaning entries.now) os us (Some inbound.old) (Some inbound.new) held result }
 {
-    let floor = lowest_after::<F>(entries, stream, Kind::Ordered, inbound.next);
-    inbound.skip = lowest_after::<F>(entries, stream, Kind::Unordered, inbound.skip);
+    let next = inbound.next;
+    let floor = lowest_after::<F>(entries, stream, Kind::Ordered, next, next);
+    let near = inbound.near(Kind::Unordered);
+    inbound.skip = lowest_after::<F>(entries, stream, Kind::Unordered, near, inbound.skip);
     let before = inbound.kept_bytes();
     inbound.unordered.let_go(jump, inbound.skip);
     let given = give_ordered(inbound, stream, floor);
@@ -141,7 +143,7 @@ fn pass_on<F: Framing>(
     known: &mut Stream<F>,
     stream: u16,
     entries: &[Skip],
-    jump: u32,
+    jump: u64,
     held: u32,
 ) -> u32
     ensures { (os us : Kept) → Keeps F.format (inside known.old) false (ordered_lane stream) os → Keeps F.format (inside known.old) true (unordered_lane stream) us
@@ -158,7 +160,7 @@ fn pass_on_all<F: Framing>(
     streams: &mut Vec<Stream<F>>,
     touched: &[u16],
     entries: &[Skip],
-    jump: u32,
+    jump: u64,
     held: u32,
 ) -> u32
     ensures count { length streams.new.items ≡ length streams.old.items }
@@ -193,7 +195,7 @@ fn note_lowest<F: Framing>(lows: &mut Lows, streams: &Vec<Stream<F>>, touched: &
         let place = usize::from(stream);
         if place < streams.len() {
             let lowest = streams[place].lowest_unordered();
-            lows.set(stream, lowest.unwrap_or(u32::MAX));
+            lows.set(stream, lowest.unwrap_or(u64::MAX));
         }
     }
 }
@@ -227,7 +229,7 @@ impl<F: Framing> Receiver<F> {
     ///
     /// # Errors
     /// Memory ran out, and nothing changed.
-    fn pass_to(&mut self, index: u32, skips: &Skips<'_>) -> Result<(), NoMemory>
+    fn pass_to(&mut self, index: u64, skips: &Skips<'_>) -> Result<(), NoMemory>
         ensures passed { (v : ReceiverView) → StandsFor F.format self.old v → (x : ForwardMeaning) → x.skips ≡ skips.now.skips
             → IsAbove self.old.initial self.old.seen.kept.cumulative x.cumulative index → names_other_stream (length self.old.streams.items) x.skips ≡ false
             → OnOk result ((t : ReceiverView) × GivesAll F.format v.streams (forwarded F.format v self.old.seen.kept.cumulative x) t × (Stands F.format self.new t × AreFindable F.format t self.new.lows)) }

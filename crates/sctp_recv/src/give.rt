@@ -11,6 +11,7 @@ ghost use Rattle.sctp_chains.specs.StandsFor.{IsNew};
 ghost use Rattle.sctp_chains.specs.Cells.{counted};
 ghost use Rattle.sctp_recv.specs.Fields.{inbound_of};
 ghost use Rattle.sctp_recv.specs.Filed.{lane_in};
+ghost use Rattle.sctp_recv.specs.ReceiverKept.{or_larger};
 ghost use Rattle.sctp_recv.specs.HandedOf.{handed_of, message_bytes};
 ghost use Rattle.sctp_recv.specs.inner.Giving.{sized, HasRoom, SameChunks, AreCounted, GivesDue, IsGivenSoFar, GivesNewest, GivesBy};
 
@@ -43,8 +44,8 @@ pub(crate) fn less(held: u32, message: &Message) -> u32
 }
 
 /// One past a number.
-fn number_after(number: Option<u32>) -> u32
-    ensures { (n : ℕ) → number ≡ Some n → suc n < 2 ^ 32 → result ≡ suc n }
+fn number_after(number: Option<u64>) -> u64
+    ensures { (n : ℕ) → number ≡ Some n → suc n < 2 ^ 64 → result ≡ suc n }
 {
     match number {
         Some(number) => number.saturating_add(1),
@@ -78,7 +79,7 @@ fn make_one(waiting: &mut VecDeque<Message>) -> Result<(), NoMemory>
 
 /// Hands over the whole messages from the next number on, where all ordered numbers below `floor` are skipped; what lies below the
 /// next number then is kept no longer. It answers the bytes handed over.
-pub(crate) fn give_ordered<F: Framing>(inbound: &mut Inbound<F>, stream: u16, floor: u32) -> u32
+pub(crate) fn give_ordered<F: Framing>(inbound: &mut Inbound<F>, stream: u16, floor: u64) -> u32
     ensures { (kept : Kept) → lane.StandsFor F.format inbound.old.ordered (ordered_lane stream) kept → AreCounted kept → HasRoom inbound.old 0
         → GivesDue F.format stream floor kept inbound.old inbound.new result }
 {
@@ -86,7 +87,7 @@ pub(crate) fn give_ordered<F: Framing>(inbound: &mut Inbound<F>, stream: u16, fl
 }
 
 /// The same, where so many bytes were handed over before: it answers these, too.
-fn give_on<F: Framing>(inbound: &mut Inbound<F>, stream: u16, floor: u32, before: u32) -> u32
+fn give_on<F: Framing>(inbound: &mut Inbound<F>, stream: u16, floor: u64, before: u32) -> u32
     ensures { (start : _) (kept : Kept) → AreCounted kept → IsGivenSoFar F.format stream floor kept start inbound.old before
         → GivesDue F.format stream floor kept start inbound.new result }
 {
@@ -107,8 +108,18 @@ fn give_on<F: Framing>(inbound: &mut Inbound<F>, stream: u16, floor: u32, before
     given
 }
 
+/// The larger of a number and another, where there is one.
+fn larger(largest: u64, number: Option<u64>) -> u64
+    ensures { result ≡ or_larger largest number }
+{
+    match number {
+        Some(number) => largest.max(number),
+        None => largest,
+    }
+}
+
 /// Whether a number is the next one.
-fn is_next(number: Option<u32>, next: u32) -> bool
+fn is_next(number: Option<u64>, next: u64) -> bool
     ensures { result ≡ true → number ≡ Some next }
 {
     match number {
@@ -124,8 +135,8 @@ fn is_next(number: Option<u32>, next: u32) -> bool
 fn keep_ordered<F: Framing>(
     inbound: &mut Inbound<F>,
     piece: &Piece<'_>,
-    index: u32,
-    number: Option<u32>,
+    index: u64,
+    number: Option<u64>,
 ) -> Result<u32, NoMemory>
     ensures given { (kept : Kept) → lane.StandsFor F.format inbound.old.ordered (ordered_lane piece.now.stream) kept
         → IsNew F.format (ordered_lane piece.now.stream) kept (counted index (piece_meaning piece.now) number)
@@ -156,8 +167,8 @@ fn keep_ordered<F: Framing>(
 fn keep_unordered<F: Framing>(
     inbound: &mut Inbound<F>,
     piece: &Piece<'_>,
-    index: u32,
-    number: Option<u32>,
+    index: u64,
+    number: Option<u64>,
 ) -> Result<u32, NoMemory>
     ensures given { (kept : Kept) → lane.StandsFor F.format inbound.old.unordered (unordered_lane piece.now.stream) kept
         → IsNew F.format (unordered_lane piece.now.stream) kept (counted index (piece_meaning piece.now) number)
@@ -167,6 +178,7 @@ fn keep_unordered<F: Framing>(
 {
     make_one(&mut inbound.waiting)?;
     inbound.unordered.add(piece, index, number)?;
+    inbound.largest = larger(inbound.largest, number);
     match inbound.unordered.take_with(piece, index, number) {
         Some(whole) => Ok(wait(
             &mut inbound.waiting,
@@ -183,8 +195,8 @@ fn keep_unordered<F: Framing>(
 pub(crate) fn keep_in<F: Framing>(
     inbound: &mut Inbound<F>,
     piece: &Piece<'_>,
-    index: u32,
-    number: Option<u32>,
+    index: u64,
+    number: Option<u64>,
 ) -> Result<u32, NoMemory>
     ensures given { (kept : Kept) → lane.StandsFor F.format (lane_in inbound.old piece.now.unordered) (lane_of piece.now.stream piece.now.unordered) kept
         → IsNew F.format (lane_of piece.now.stream piece.now.unordered) kept (counted index (piece_meaning piece.now) number)

@@ -10,7 +10,7 @@ ghost use Rattle.sctp_chains.specs.Cells.{Kept, IsOf, counted};
 ghost use Rattle.sctp_chains.specs.StandsFor as lane;
 ghost use Rattle.sctp_recv.specs.Fields.{inbound_of};
 ghost use Rattle.sctp_recv.specs.Filed.{lane_in};
-ghost use Rattle.sctp_recv.specs.ReceiverKept.{FRESH, reference_of};
+ghost use Rattle.sctp_recv.specs.ReceiverKept.{FRESH, near_of, lowest_of};
 ghost use Rattle.sctp_recv.specs.inner.Giving.{sized};
 
 use crate::message::Message;
@@ -25,9 +25,11 @@ use std::collections::VecDeque;
 #[derive(Drop)]
 pub(crate) struct Inbound<F: Framing> {
     /// The lowest ordered number neither handed over nor skipped.
-    pub(crate) next: u32,
+    pub(crate) next: u64,
     /// The lowest unordered number not skipped.
-    pub(crate) skip: u32,
+    pub(crate) skip: u64,
+    /// The largest number of an unordered chunk that was kept, 0 where there was none.
+    pub(crate) largest: u64,
     /// What was handed over and waits for the user, first to last.
     pub(crate) waiting: VecDeque<Message>,
     /// The ordered chunks kept.
@@ -46,15 +48,26 @@ impl<F: Framing> Inbound<F> {
         Inbound {
             next: 0,
             skip: 0,
+            largest: 0,
             waiting: VecDeque::new(alloc),
             ordered: Chains::new(alloc),
             unordered: Chains::new(alloc),
         }
     }
 
-    /// The count near which a number is read, and below which it comes too late.
-    pub(crate) fn reference(&self, kind: Kind) -> u32
-        ensures { result ≡ reference_of (inbound_of self.now) (kind_meaning kind) }
+    /// The count near which a number is read: the next ordered one, or the largest unordered one that was recorded or skipped.
+    pub(crate) fn near(&self, kind: Kind) -> u64
+        ensures { result ≡ near_of (inbound_of self.now) (kind_meaning kind) }
+    {
+        match kind {
+            Kind::Ordered => self.next,
+            Kind::Unordered => self.skip.saturating_sub(1).max(self.largest),
+        }
+    }
+
+    /// The count below which a number comes too late.
+    pub(crate) fn lowest(&self, kind: Kind) -> u64
+        ensures { result ≡ lowest_of (inbound_of self.now) (kind_meaning kind) }
     {
         match kind {
             Kind::Ordered => self.next,
@@ -63,7 +76,7 @@ impl<F: Framing> Inbound<F> {
     }
 
     /// Whether this fragment of this message is kept already, where that can be.
-    pub(crate) fn is_held(&self, piece: &Piece<'_>, number: Option<u32>) -> bool
+    pub(crate) fn is_held(&self, piece: &Piece<'_>, number: Option<u64>) -> bool
         ensures { (i : ℕ) (l : Lane) (kept : Kept) → lane.StandsFor F.format (lane_in self.now piece.now.unordered) l kept
             → IsOf F.format l (counted i (piece_meaning piece.now) number) → result ≡ is_repeated F.format kept (counted i (piece_meaning piece.now) number) }
     {

@@ -20,13 +20,13 @@ impl Lows {
         let size = usize::from(count) * 2;
         let mut places = Vec::with_capacity(alloc, size).map_err(|_| NoMemory)?;
         for _ in 0..size {
-            places.push(u32::MAX).map_err(|_| NoMemory)?;
+            places.push(u64::MAX).map_err(|_| NoMemory)?;
         }
         Ok(Lows { count, places })
     }
 
     /// A chunk with this index comes to a stream.
-    pub(crate) fn lower(&mut self, stream: u16, index: u32)
+    pub(crate) fn lower(&mut self, stream: u16, index: u64)
         ensures count { self.new.count ≡ self.old.count }
         ensures others { (s i : ℕ) → IsMarked self.old s i → IsMarked self.new s i }
         ensures marked { stream < self.old.count → IsMarked self.new stream index }
@@ -38,7 +38,7 @@ impl Lows {
     }
 
     /// None of the chunks of a stream has an index below this one.
-    pub(crate) fn set(&mut self, stream: u16, low: u32)
+    pub(crate) fn set(&mut self, stream: u16, low: u64)
         ensures count { self.new.count ≡ self.old.count }
         ensures marked { (s i : ℕ) → IsMarked self.old s i → (s ≡ stream → low ≤ i) → IsMarked self.new s i }
     {
@@ -50,7 +50,7 @@ impl Lows {
     ///
     /// # Errors
     /// Memory ran out.
-    pub(crate) fn upto(&self, alloc: Global, index: u32) -> Result<Vec<u16>, NoMemory>
+    pub(crate) fn upto(&self, alloc: Global, index: u64) -> Result<Vec<u16>, NoMemory>
         ensures { IfOk result (λ streams. (s : ℕ) → IsMarked self.now s index → Contains streams.items s) }
     {
         let mut streams = Vec::new(alloc);

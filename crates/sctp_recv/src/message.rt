@@ -16,13 +16,13 @@ use sctp_values::{Kind, NoMemory};
 /// A message that was handed over, whole, with its fragments as they came.
 #[derive(Debug, PartialEq, Drop)]
 pub struct Message {
-    pub(crate) first: u32,
+    pub(crate) first: u64,
     /// The stream that it came on, from 0.
     pub stream: u16,
     /// Whether it is handed over in the order of the numbers.
     pub ordered: bool,
     /// Its number in its stream and kind, from 0; None for an unordered message under DATA.
-    pub number: Option<u32>,
+    pub number: Option<u64>,
     /// The payload protocol identifier.
     pub payload_id: u32,
     pub(crate) parts: Vec<Vec<u8>>,

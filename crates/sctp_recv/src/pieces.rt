@@ -25,7 +25,7 @@ use sctp_wire::Piece;
 
 /// Notes that a part of an unordered message comes to a stream with this index. Where unordered messages have numbers, an entry of a FORWARD
 /// names each stream from which one goes, and nothing is noted.
-fn note<F: Framing>(lows: &mut Lows, piece: &Piece<'_>, index: u32)
+fn note<F: Framing>(lows: &mut Lows, piece: &Piece<'_>, index: u64)
     ensures count { lows.new.count ≡ lows.old.count }
     ensures more { (s i : ℕ) → IsMarked lows.old s i → IsMarked lows.new s i }
     ensures marked { is_numbered F.format Unordered ≡ false → piece.now.unordered ≡ true → (piece.now.begin && piece.now.end) ≡ false → piece.now.stream < lows.old.count
@@ -106,7 +106,7 @@ impl<F: Framing> Receiver<F> {
     ///
     /// # Errors
     /// Memory ran out, and nothing changed.
-    fn keep(&mut self, piece: &Piece<'_>, index: u32, number: Option<u32>) -> Result<(), NoMemory>
+    fn keep(&mut self, piece: &Piece<'_>, index: u64, number: Option<u64>) -> Result<(), NoMemory>
         ensures kept { (v : ReceiverView) → StandsFor F.format self.old v → IsWanted F.format (kept_of self.old) v (piece_meaning piece.now) index number
             → OnOk result ((t : ReceiverView) × TakesPiece F.format v (piece_at F.format v self.old.seen.kept.cumulative (piece_meaning piece.now)) t × Stands F.format self.new t) }
         ensures lows { self.new.lows ≡ self.old.lows }

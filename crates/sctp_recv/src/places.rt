@@ -11,13 +11,13 @@ use sctp_values::NoMemory;
 #[derive(Drop)]
 pub(crate) struct Lows {
     pub(crate) count: u16,
-    pub(crate) places: Vec<u32>,
+    pub(crate) places: Vec<u64>,
     ghost size: { length places.items ≡ count + count },
     ghost tree: { IsTree places.items },
 }
 
 /// Puts a number at a place of the later half, and at each above it the lesser of the two below.
-pub(crate) fn put(places: &mut Vec<u32>, at: usize, low: u32)
+pub(crate) fn put(places: &mut Vec<u64>, at: usize, low: u64)
     ensures size { length places.new.items ≡ length places.old.items }
     ensures tree { length places.old.items ≤ at + at → IsTree places.old.items → IsTree places.new.items }
     ensures here { at < length places.old.items → length places.old.items ≤ at + at → low_at places.new.items at ≡ low }
@@ -42,10 +42,10 @@ pub(crate) fn put(places: &mut Vec<u32>, at: usize, low: u32)
 /// # Errors
 /// Memory ran out.
 pub(crate) fn gather(
-    places: &[u32],
+    places: &[u64],
     count: u16,
     at: usize,
-    most: u32,
+    most: u64,
     streams: &mut Vec<u16>,
 ) -> Result<(), NoMemory>
     ensures more { (s : ℕ) → Contains streams.old.items s → Contains streams.new.items s }

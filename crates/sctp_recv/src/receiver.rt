@@ -1,9 +1,10 @@
 //! The receiving end of an association (RFC 9260, 6.2 and 6.6; RFC 3758, 3.6; RFC 8260, 2.2 and 2.3).
 
-ghost use Rattle.std.specs.Prelude.{◌≡◌, ℕ, ◌≤◌, ◌-◌, IfOk, MatchOption, option_map, slice_get, List, Option, None, Some, length};
+ghost use Rattle.std.specs.Prelude.{◌≡◌, ℕ, ◌≤◌, ◌-◌, false, IfOk, MatchOption, option_map, slice_get, List, Option, None, Some, length};
 ghost use Rattle.sctp_model.specs.wire.Chunk.{BlockMeaning, Sack};
 ghost use Rattle.sctp_model.specs.numbers.Limits.{RUN_LIMIT};
 ghost use Rattle.sctp_model.specs.numbers.Serial.{tsn};
+ghost use Rattle.sctp_model.specs.messages.Format.{Unordered, is_numbered};
 ghost use Rattle.sctp_model.specs.receiver.ReceiverView.{ReceiverView, IsCumulative, fresh_receiver, held_bytes};
 ghost use Rattle.sctp_model.specs.receiver.SackMade.{AreAllRuns, IsSack, sack_sent, TakeLeaves};
 ghost use Rattle.sctp_model.specs.end.Arriving.{TellsGap};
@@ -21,7 +22,7 @@ use crate::seen::Seen;
 use crate::stream::{Stream, fresh_streams, take_first};
 use sctp_framing::Framing;
 use sctp_serial::tsn_of;
-use sctp_values::NoMemory;
+use sctp_values::{Kind, NoMemory};
 use std::alloc::Global;
 
 /// The receiving end, in one format of user data.
@@ -38,6 +39,16 @@ pub struct Receiver<F: Framing> {
     pub(crate) lows: Lows,
 }
 
+/// On how many of so many streams a bound is noted: on none where unordered messages have numbers.
+fn noted_streams<F: Framing>(streams: u16) -> u16
+    ensures { is_numbered F.format Unordered ≡ false → result ≡ streams }
+{
+    if F::is_numbered(Kind::Unordered) {
+        return 0;
+    }
+    streams
+}
+
 #[tactic(auto, unfolding(crate::specs::StandsFor::StandsFor))]
 impl<F: Framing> Receiver<F> {
     /// A receiver to which nothing came: the peer's first TSN, how many streams there are, and the room in bytes.
@@ -52,7 +63,7 @@ impl<F: Framing> Receiver<F> {
     ) -> Result<Receiver<F>, NoMemory>
         ensures { IfOk result (λ r. StandsFor F.format r (fresh_receiver initial_tsn streams buffer)) }
     {
-        let lows = Lows::new(alloc, streams)?;
+        let lows = Lows::new(alloc, noted_streams::<F>(streams))?;
         let streams = fresh_streams(alloc, streams)?;
         Ok(Receiver {
             alloc,

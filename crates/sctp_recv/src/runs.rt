@@ -9,13 +9,13 @@ use sctp_values::NoMemory;
 /// Indexes that came, from the first to the last.
 #[derive(Clone, Copy)]
 pub(crate) struct SeenRun {
-    pub(crate) first: u32,
-    pub(crate) last: u32,
+    pub(crate) first: u64,
+    pub(crate) last: u64,
 }
 
 impl SeenRun {
     /// Whether the index is one of these.
-    pub(crate) fn has(self, index: u32) -> bool
+    pub(crate) fn has(self, index: u64) -> bool
         ensures { result ≡ in_run self index }
     {
         self.first <= index && index <= self.last
@@ -23,7 +23,7 @@ impl SeenRun {
 }
 
 /// How many runs lie below an index, have it, or touch it.
-pub(crate) fn upto(runs: &Sequence<SeenRun>, index: u32) -> usize
+pub(crate) fn upto(runs: &Sequence<SeenRun>, index: u64) -> usize
     ensures bound { result ≤ length runs.now.items }
     ensures place { AreSpaced runs.now.items → IsPlace (begins_by index) runs.now.items result }
 {
@@ -35,7 +35,7 @@ pub(crate) fn upto(runs: &Sequence<SeenRun>, index: u32) -> usize
 }
 
 /// The run before a place, where it doesn't lie below an index without touching it.
-fn reaching(runs: &Sequence<SeenRun>, at: usize, index: u32) -> Option<SeenRun>
+fn reaching(runs: &Sequence<SeenRun>, at: usize, index: u64) -> Option<SeenRun>
     requires { at ≤ length runs.now.items }
     ensures some { OnSome result (0 < at) }
     ensures run { AreSpaced runs.now.items → MatchOption result (AllBelow index runs.now.items at) (IsReaching index runs.now.items at) }
@@ -48,7 +48,7 @@ fn reaching(runs: &Sequence<SeenRun>, at: usize, index: u32) -> Option<SeenRun>
 }
 
 /// The run of these ends.
-fn run_of(first: u32, last: u32) -> SeenRun
+fn run_of(first: u64, last: u64) -> SeenRun
     ensures first { result.first ≡ first }
     ensures last { result.last ≡ last }
 {
@@ -59,7 +59,7 @@ fn run_of(first: u32, last: u32) -> SeenRun
 ///
 /// # Errors
 /// Memory ran out, and nothing changed.
-pub(crate) fn insert(runs: &mut Sequence<SeenRun>, index: u32) -> Result<(), NoMemory>
+pub(crate) fn insert(runs: &mut Sequence<SeenRun>, index: u64) -> Result<(), NoMemory>
     ensures inserted { OnOk result (Gain index runs.old.items runs.new.items) }
     ensures there { OnOk result (AreSpaced runs.old.items → in_runs runs.old.items index ≡ true → runs.new.items ≡ runs.old.items) }
     ensures refused { OnErr result (runs.new.items ≡ runs.old.items) }

@@ -20,7 +20,7 @@ use std::marker::Model;
 /// The indexes recorded.
 #[derive(Drop)]
 pub(crate) struct Seen {
-    cumulative: u32,
+    cumulative: u64,
     runs: Sequence<SeenRun>,
 }
 
@@ -48,7 +48,7 @@ impl Seen {
     }
 
     /// The index up to which all came.
-    pub(crate) fn cumulative(&self) -> u32
+    pub(crate) fn cumulative(&self) -> u64
         ensures value { result ≡ self.now.kept.cumulative }
         ensures within { AreWithin (self.now.kept.cumulative + WINDOW) self.now.kept.runs }
     {
@@ -89,7 +89,7 @@ impl Seen {
     }
 
     /// Whether the index came, or lies at or below the cumulative one.
-    pub(crate) fn is_reached(&self, index: u32) -> bool
+    pub(crate) fn is_reached(&self, index: u64) -> bool
         ensures { result ≡ is_reached self.now.kept index }
     {
         if index <= self.cumulative {
@@ -119,7 +119,7 @@ impl Seen {
     ///
     /// # Errors
     /// Memory ran out, and nothing changed.
-    pub(crate) fn add(&mut self, index: u32) -> Result<(), NoMemory>
+    pub(crate) fn add(&mut self, index: u64) -> Result<(), NoMemory>
         ensures recorded { OnOk result (is_reached self.old.kept index ≡ false → index ≤ self.old.kept.cumulative + WINDOW
             → Records self.old.kept self.new.kept index) }
         ensures refused { OnErr result (self.new.kept ≡ self.old.kept) }
@@ -131,14 +131,14 @@ impl Seen {
             advance(&mut self.cumulative, &mut self.runs, index);
             return Ok(());
         }
-        if above == 0 || above > WINDOW {
+        if above == 0 || above > u64::from(WINDOW) {
             return Ok(());
         }
         insert(&mut self.runs, index)
     }
 
     /// All up to an index counts as reached from now on.
-    pub(crate) fn jump(&mut self, index: u32)
+    pub(crate) fn jump(&mut self, index: u64)
         ensures { self.old.kept.cumulative ≤ index → Jumps self.old.kept self.new.kept index }
     {
         if self.cumulative <= index {
@@ -148,7 +148,7 @@ impl Seen {
 }
 
 /// A run as the offsets of its ends above an index.
-fn block_above(index: u32, run: SeenRun) -> GapBlock
+fn block_above(index: u64, run: SeenRun) -> GapBlock
     requires below { index ≤ run.first }
     requires order { run.first ≤ run.last }
     requires near { run.last ≤ index + WINDOW }
@@ -161,7 +161,7 @@ fn block_above(index: u32, run: SeenRun) -> GapBlock
 }
 
 /// Moves the cumulative index up to an index, and on to the end of the run that it then touches or lies in. What it passes is dropped.
-fn advance(cumulative: &mut u32, runs: &mut Sequence<SeenRun>, index: u32)
+fn advance(cumulative: &mut u64, runs: &mut Sequence<SeenRun>, index: u64)
     requires { AreSpaced runs.old.items }
     ensures { IsAdvanced index runs.old.items (seen_of cumulative.new runs.new.items) }
 {

@@ -10,7 +10,7 @@ ghost use Rattle.sctp_chains.specs.Cells.{Kept, IsOf, IsLowestIndex, counted};
 ghost use Rattle.sctp_recv.specs.Fields.{inside, stream_of};
 ghost use Rattle.sctp_recv.specs.Filed.{Keeps, SameLanes, AreFiled};
 ghost use Rattle.sctp_recv.specs.HandedOf.{handed_of};
-ghost use Rattle.sctp_recv.specs.ReceiverKept.{FRESH, reference_of, is_below_or_none};
+ghost use Rattle.sctp_recv.specs.ReceiverKept.{FRESH, near_of, lowest_of, is_below_or_none};
 
 use crate::inbound::Inbound;
 use crate::message::Message;
@@ -26,36 +26,46 @@ pub(crate) struct Stream<F: Framing> {
 }
 
 impl<F: Framing> Stream<F> {
-    /// The count near which a number is read, and below which it comes too late.
-    fn reference(&self, kind: Kind) -> u32
-        ensures { result ≡ reference_of (stream_of self.now) (kind_meaning kind) }
+    /// The count near which a number is read.
+    fn near(&self, kind: Kind) -> u64
+        ensures { result ≡ near_of (stream_of self.now) (kind_meaning kind) }
     {
         match &self.inbound {
-            Some(inbound) => inbound.reference(kind),
+            Some(inbound) => inbound.near(kind),
+            None => 0,
+        }
+    }
+
+    /// The count below which a number comes too late.
+    fn lowest(&self, kind: Kind) -> u64
+        ensures { result ≡ lowest_of (stream_of self.now) (kind_meaning kind) }
+    {
+        match &self.inbound {
+            Some(inbound) => inbound.lowest(kind),
             None => 0,
         }
     }
 
     /// The number that a wire value stands for.
-    pub(crate) fn number_near(&self, kind: Kind, wire: u32) -> Option<u32>
-        ensures { result ≡ number_near F.format (kind_meaning kind) wire (reference_of (stream_of self.now) (kind_meaning kind)) }
+    pub(crate) fn number_near(&self, kind: Kind, wire: u32) -> Option<u64>
+        ensures { result ≡ number_near F.format (kind_meaning kind) wire (near_of (stream_of self.now) (kind_meaning kind)) }
     {
-        F::number_near(kind, wire, self.reference(kind))
+        F::number_near(kind, wire, self.near(kind))
     }
 
     /// Whether a chunk comes too late: its number is below those that count, or there is none where there should be one.
-    pub(crate) fn is_late(&self, kind: Kind, number: Option<u32>) -> bool
-        ensures { result ≡ (is_numbered F.format (kind_meaning kind) && is_below_or_none (reference_of (stream_of self.now) (kind_meaning kind)) number) }
+    pub(crate) fn is_late(&self, kind: Kind, number: Option<u64>) -> bool
+        ensures { result ≡ (is_numbered F.format (kind_meaning kind) && is_below_or_none (lowest_of (stream_of self.now) (kind_meaning kind)) number) }
     {
         F::is_numbered(kind)
             && match number {
-                Some(number) => number < self.reference(kind),
+                Some(number) => number < self.lowest(kind),
                 None => true,
             }
     }
 
     /// Whether this fragment of this message is kept already, where that can be.
-    pub(crate) fn is_held(&self, piece: &Piece<'_>, number: Option<u32>) -> bool
+    pub(crate) fn is_held(&self, piece: &Piece<'_>, number: Option<u64>) -> bool
         ensures { (i : ℕ) (l : Lane) (kept : Kept) → Keeps F.format (inside self.now) piece.now.unordered l kept
             → IsOf F.format l (counted i (piece_meaning piece.now) number) → result ≡ is_repeated F.format kept (counted i (piece_meaning piece.now) number) }
     {
@@ -66,7 +76,7 @@ impl<F: Framing> Stream<F> {
     }
 
     /// The lowest index of the unordered chunks kept, where their messages have no number: None exactly where none is kept.
-    pub(crate) fn lowest_unordered(&self) -> Option<u32>
+    pub(crate) fn lowest_unordered(&self) -> Option<u64>
         ensures { (l : Lane) (kept : Kept) → Keeps F.format (inside self.now) true l kept → is_numbered F.format l.kind ≡ false → IsLowestIndex kept result }
     {
         match &self.inbound {

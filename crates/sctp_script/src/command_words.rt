@@ -225,7 +225,7 @@ pub(crate) fn read_abandon(mut words: Words<'_>) -> Option<Acting>
         (λ acting. Spells Command.Abandon words.entry (acting_meaning acting)) }
 {
     let side = read_side(words.next_word())?;
-    let ticket = Ticket(read_u32(words.next_word())?);
+    let ticket = Ticket(read_u64(words.next_word())?);
     Some(Acting::Event(Event::Abandon { side, ticket }))
 }
 

@@ -37,14 +37,14 @@ pub fn put_outcome(
         Outcome::Quiet => put_side(b"quiet", side, &[], out),
         Outcome::Taken => put_side(b"taken", side, &[], out),
         Outcome::Dropped { reason } => {
-            put_side(b"dropped", side, &[u32::from(reason.code())], out)
+            put_side(b"dropped", side, &[u64::from(reason.code())], out)
         }
         Outcome::Answer { number, length } => put_packet(b"answer", side, *number, *length, out),
         Outcome::Absent => put_line(b"absent", &[], &[], out),
         Outcome::Ticket { ticket } => put_side(b"ticket", side, &[ticket.0], out),
-        Outcome::Fate { fate } => put_side(b"fate", side, &[u32::from(fate.code())], out),
+        Outcome::Fate { fate } => put_side(b"fate", side, &[u64::from(fate.code())], out),
         Outcome::Message { message } => put_message(alloc, side, stream_named(event), message, out),
-        Outcome::Empty => put_side(b"empty", side, &[u32::from(stream_named(event))], out),
+        Outcome::Empty => put_side(b"empty", side, &[u64::from(stream_named(event))], out),
     }
 }
 
@@ -78,7 +78,7 @@ fn stream_named(event: &Event) -> u16
 }
 
 /// The code of a refusal, 1 to 7.
-fn refusal_code(refusal: Refusal) -> u32
+fn refusal_code(refusal: Refusal) -> u64
     ensures { (x : world.Side) (s : ℕ) → outcome_words x s (refusal_meaning refusal) ≡ codes "refused" ∷ decimal result ∷ [] }
 {
     match refusal {
@@ -92,7 +92,7 @@ fn refusal_code(refusal: Refusal) -> u32
 }
 
 /// Appends a line of a word, an end and numbers, or nothing where memory is wanting.
-fn put_side(first: &[u8], side: Side, numbers: &[u32], out: &mut Vec<u8>) -> Result<(), NoMemory>
+fn put_side(first: &[u8], side: Side, numbers: &[u64], out: &mut Vec<u8>) -> Result<(), NoMemory>
     ensures put { OnOk result (out.new.items ≡ out.old.items
         ++ line_of (first.now ∷ side_word (side_meaning side) ∷ map decimal numbers.now)) }
     ensures refused { OnErr result (out.new.items ≡ out.old.items) }
@@ -138,7 +138,7 @@ fn put_message(
         Word::Text(side_name(side)),
         Word::Number(u64::from(stream)),
         kind_word(Kind::of_flag(!message.ordered)),
-        number_word(message.number.map(u64::from)),
+        number_word(message.number),
         Word::Number(u64::from(message.payload_id)),
         Word::Hex(&bytes),
     ];

@@ -70,7 +70,7 @@ pub fn put_abandoned(side: Side, tickets: &[Ticket], out: &mut Vec<u8>) -> Resul
 pub fn put_handed(
     side: Side,
     stream: u16,
-    numbers: &[u32],
+    numbers: &[u64],
     out: &mut Vec<u8>,
 ) -> Result<(), NoMemory>
     ensures put { OnOk result (out.new.items ≡ out.old.items ++ handed_line (side_meaning side) stream numbers.now) }

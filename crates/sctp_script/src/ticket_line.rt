@@ -61,11 +61,11 @@ fn append_tickets(tickets: &[Ticket], out: &mut Vec<u8>) -> Result<(), NoMemory>
 }
 
 /// Appends a number in decimal, or nothing where memory is wanting.
-fn append_number(number: u32, out: &mut Vec<u8>) -> Result<(), NoMemory>
+fn append_number(number: u64, out: &mut Vec<u8>) -> Result<(), NoMemory>
     ensures put { OnOk result (out.new.items ≡ out.old.items ++ decimal number) }
     ensures refused { OnErr result (out.new.items ≡ out.old.items) }
 {
-    put_decimal(u64::from(number), out).map_err(|_| NoMemory)
+    put_decimal(number, out).map_err(|_| NoMemory)
 }
 
 /// Appends bytes, or nothing where memory is wanting.

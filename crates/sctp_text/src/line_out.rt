@@ -27,7 +27,7 @@ pub enum Word<'a> {
 pub fn put_line(
     first: &[u8],
     words: &[Word<'_>],
-    numbers: &[u32],
+    numbers: &[u64],
     out: &mut Vec<u8>,
 ) -> Result<(), AllocError>
     ensures put { OnOk result (out.new.items ≡ out.old.items
@@ -46,7 +46,7 @@ pub fn put_line(
 fn append_line(
     first: &[u8],
     words: &[Word<'_>],
-    numbers: &[u32],
+    numbers: &[u64],
     out: &mut Vec<u8>,
 ) -> Result<(), AllocError>
     ensures put { OnOk result (out.new.items ≡ out.old.items
@@ -72,13 +72,13 @@ fn append_words(words: &[Word<'_>], out: &mut Vec<u8>) -> Result<(), AllocError>
 }
 
 /// Appends each number behind a space, or some of this where memory is wanting.
-fn append_numbers(numbers: &[u32], out: &mut Vec<u8>) -> Result<(), AllocError>
+fn append_numbers(numbers: &[u64], out: &mut Vec<u8>) -> Result<(), AllocError>
     ensures put { OnOk result (out.new.items ≡ out.old.items ++ each_behind_space (map decimal numbers.now)) }
     ensures part { (part : List ℕ) × (out.new.items ≡ out.old.items ++ part) }
 {
     for number in numbers {
         append(&[SPACE], out)?;
-        put_decimal(u64::from(*number), out)?;
+        put_decimal(*number, out)?;
     }
     Ok(())
 }

@@ -14,7 +14,7 @@ use sctp_values::NoMemory;
 pub fn put_line(
     first: &[u8],
     words: &[Word<'_>],
-    numbers: &[u32],
+    numbers: &[u64],
     out: &mut Vec<u8>,
 ) -> Result<(), NoMemory>
     ensures put { OnOk result (out.new.items ≡ out.old.items

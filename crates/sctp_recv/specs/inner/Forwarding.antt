@@ -4,17 +4,19 @@ use Rattle.std.specs.List.{Contains}
 use Rattle.std.specs.List.Sorted.{IsNonDecreasingBy}
 use Rattle.sctp_model.specs.numbers.Lists.{Has}
 use Rattle.sctp_model.specs.wire.Chunk.{SkipMeaning}
-use Rattle.sctp_model.specs.messages.Format.{Format, Lane, same_lane, ordered_lane, unordered_lane}
+use Rattle.sctp_model.specs.messages.Format.{Format, Interleaved, Unordered, Lane, same_lane, ordered_lane, unordered_lane}
 use Rattle.sctp_model.specs.messages.Framing.{number_near, lets_go}
 use Rattle.sctp_model.specs.messages.Pieces.{Piece}
 use Rattle.sctp_model.specs.receiver.ReceiverView.{Handed, ReceiverView, size_of_pieces, size_of_messages, size_of_waiting}
 use Rattle.sctp_model.specs.receiver.Receiving.{HasNoWhole}
 use Rattle.sctp_model.specs.receiver.Reading.{lane_of}
+use Rattle.sctp_model.specs.receiver.Top.{top}
 use Rattle.sctp_wire.specs.declared.skips.Skip.{Skip}
 use Rattle.sctp_chains.specs.WholeOf.{from_number}
 use Rattle.sctp_recv.specs.declared.inbound.Inbound.{Inbound}
 use Rattle.sctp_recv.specs.declared.stream.Stream.{Stream}
 use Rattle.sctp_recv.specs.Fields.{known_of, inside, stream_of}
+use Rattle.sctp_recv.specs.ReceiverKept.{StreamKept, near_of}
 use Rattle.sctp_model.specs.receiver.KeptOfLane.{of_lane}
 use Rattle.sctp_recv.specs.Filed.{Keeps, AreFiled}
 use Rattle.sctp_recv.specs.Lows.{IsMarked}
@@ -28,19 +30,26 @@ abbrev pub one_past : Option ℕ → ℕ
 one_past None = 0
 one_past (Some n) = suc n
 
--- one past the number that an entry skips in a lane, read near the reference; 0 where it is of another lane or has no number
-abbrev pub skipped_by : Format → Lane → (reference : ℕ) → SkipMeaning → ℕ
-skipped_by f l reference x =
-    if same_lane l (lane_of x.stream x.unordered) then one_past (number_near f l.kind x.number reference) else 0
+-- one past the number that an entry skips in a lane, read near a count; 0 where it is of another lane or has no number
+abbrev pub skipped_by : Format → Lane → (near : ℕ) → SkipMeaning → ℕ
+skipped_by f l near x =
+    if same_lane l (lane_of x.stream x.unordered) then one_past (number_near f l.kind x.number near) else 0
 
 -- the largest of these
-abbrev pub most_skipped : Format → Lane → (reference : ℕ) → List SkipMeaning → ℕ
-most_skipped f l reference [] = 0
-most_skipped f l reference (x ∷ xs) = max (skipped_by f l reference x) (most_skipped f l reference xs)
+abbrev pub most_skipped : Format → Lane → (near : ℕ) → List SkipMeaning → ℕ
+most_skipped f l near [] = 0
+most_skipped f l near (x ∷ xs) = max (skipped_by f l near x) (most_skipped f l near xs)
 
--- the lowest number of a lane that still counts, of which the reference was the lowest before
-abbrev pub lowest_after : Format → Lane → (reference : ℕ) → List SkipMeaning → ℕ
-lowest_after f l reference xs = max reference (most_skipped f l reference xs)
+-- the lowest number of a lane that still counts, of which this was the lowest before
+abbrev pub lowest_after : Format → Lane → (near lowest : ℕ) → List SkipMeaning → ℕ
+lowest_after f l near lowest xs = max lowest (most_skipped f l near xs)
+
+-- the same of a stream's ordered messages, and of its unordered ones
+abbrev pub next_after : Format → (s : ℕ) → StreamKept → List SkipMeaning → ℕ
+next_after f s a xs = lowest_after f (ordered_lane s) a.next a.next xs
+
+abbrev pub skip_after : Format → (s : ℕ) → StreamKept → List SkipMeaning → ℕ
+skip_after f s a xs = lowest_after f (unordered_lane s) (near_of a Unordered) a.skip xs
 
 -- the entries come in rising order of their streams
 abbrev pub AreByStream : List Skip → Type 0
@@ -75,8 +84,8 @@ HaveRoom {F} touched n streams = (i s : ℕ) (x : Stream F) → i < n → slice_
 
 -- On a stream nothing is skipped, nothing is due, and nothing goes.
 pub record IsQuiet {F : Type 0} (f : Format) (jump : ℕ) (xs : List SkipMeaning) (v : ReceiverView) (q : ℕ) (x : Stream F) : Type 0 where
-  pub ordered : lowest_after f (ordered_lane q) (stream_of x).next xs ≡ (stream_of x).next
-  pub unordered : lowest_after f (unordered_lane q) (stream_of x).skip xs ≡ (stream_of x).skip
+  pub ordered : next_after f q (stream_of x) xs ≡ (stream_of x).next
+  pub unordered : skip_after f q (stream_of x) xs ≡ (stream_of x).skip
   pub none : HasNoWhole f v.kept (ordered_lane q) (stream_of x).next
   pub clear : from_number (stream_of x).next (of_lane (ordered_lane q) v.kept) ≡ of_lane (ordered_lane q) v.kept
   pub stays : stay f jump (stream_of x).skip (of_lane (unordered_lane q) v.kept) ≡ of_lane (unordered_lane q) v.kept
@@ -89,12 +98,12 @@ AreQuiet {F} f jump xs v touched streams = (q : ℕ) (x : Stream F) → slice_ge
 pub record PassesOn {F : Type 0} (f : Format) (s jump : ℕ) (xs : List SkipMeaning) (os us : List Piece) (old new : Option (Inbound F)) (held left : ℕ) : Type 0 where
   pub messages : List Handed
   pub next : ℕ
-  pub due : IsDueFrom f os s (known_of old).next (lowest_after f (ordered_lane s) (known_of old).next xs) messages next
+  pub due : IsDueFrom f os s (known_of old).next (next_after f s (known_of old) xs) messages next
   pub ordered : Keeps f new false (ordered_lane s) (from_number next os)
-  pub unordered : Keeps f new true (unordered_lane s) (stay f jump (lowest_after f (unordered_lane s) (known_of old).skip xs) us)
-  pub stream : known_of new ≡ record { next = next; skip = lowest_after f (unordered_lane s) (known_of old).skip xs; waiting = (known_of old).waiting ++ messages }
+  pub unordered : Keeps f new true (unordered_lane s) (stay f jump (skip_after f s (known_of old) xs) us)
+  pub stream : known_of new ≡ record (known_of old) { next = next; skip = skip_after f s (known_of old) xs; waiting = (known_of old).waiting ++ messages }
   pub bytes : left ≡ sized (sized (held - sized (size_of_pieces os + size_of_pieces us)
-      + sized (size_of_pieces (from_number next os) + size_of_pieces (stay f jump (lowest_after f (unordered_lane s) (known_of old).skip xs) us))) + sized (size_of_messages messages))
+      + sized (size_of_pieces (from_number next os) + size_of_pieces (stay f jump (skip_after f s (known_of old) xs) us))) + sized (size_of_messages messages))
 
 -- ---- what it does on all
 
@@ -110,10 +119,11 @@ pub record AreToPass {F : Type 0} (f : Format) (jump : ℕ) (xs : List SkipMeani
   pub stream : (q : ℕ) (x : Stream F) → slice_get streams q ≡ Some x → IsStreamOf v q x
   pub ordered : (q : ℕ) → of_lane (ordered_lane q) r.kept ≡ of_lane (ordered_lane q) v.kept
   pub unordered : (q : ℕ) (x : Stream F) → slice_get streams q ≡ Some x →
-      of_lane (unordered_lane q) r.kept ≡ stay f jump (lowest_after f (unordered_lane q) (stream_of x).skip xs) (of_lane (unordered_lane q) v.kept)
+      of_lane (unordered_lane q) r.kept ≡ stay f jump (skip_after f q (stream_of x) xs) (of_lane (unordered_lane q) v.kept)
   pub within : (y : Piece) → Has r.kept y → Has v.kept y
-  pub skip : (q : ℕ) (x : Stream F) → slice_get streams q ≡ Some x → r.skip (unordered_lane q) ≡ lowest_after f (unordered_lane q) (stream_of x).skip xs
-  pub floor : (q : ℕ) (x : Stream F) → slice_get streams q ≡ Some x → max (stream_of x).next (r.skip (ordered_lane q)) ≡ lowest_after f (ordered_lane q) (stream_of x).next xs
+  pub skip : (q : ℕ) (x : Stream F) → slice_get streams q ≡ Some x → r.skip (unordered_lane q) ≡ skip_after f q (stream_of x) xs
+  pub top : (q : ℕ) (x : Stream F) → slice_get streams q ≡ Some x → f ≡ Interleaved → top r q ≡ max (skip_after f q (stream_of x) xs - 1) (stream_of x).largest
+  pub floor : (q : ℕ) (x : Stream F) → slice_get streams q ≡ Some x → max (stream_of x).next (r.skip (ordered_lane q)) ≡ next_after f q (stream_of x) xs
   pub next : r.next ≡ v.next
   pub waiting : r.waiting ≡ v.waiting
   pub held : bytes ≡ size_of_pieces v.kept + size_of_waiting v.waiting (length streams)
@@ -122,5 +132,5 @@ pub record AreToPass {F : Type 0} (f : Format) (jump : ℕ) (xs : List SkipMeani
 -- Streams that keep t's chunks, numbers and messages.
 pub record ArePassed {F : Type 0} (f : Format) (t : ReceiverView) (streams : List (Stream F)) (bytes : ℕ) : Type 0 where
   pub filed : AreFiled f t.kept streams
-  pub stream : (q : ℕ) (x : Stream F) → slice_get streams q ≡ Some x → IsStreamOf t q x × (t.skip (unordered_lane q) ≡ (stream_of x).skip)
+  pub stream : (q : ℕ) (x : Stream F) → slice_get streams q ≡ Some x → IsStreamOf t q x × (t.skip (unordered_lane q) ≡ (stream_of x).skip) × (f ≡ Interleaved → top t q ≡ near_of (stream_of x) Unordered)
   pub held : bytes ≡ size_of_pieces t.kept + size_of_waiting t.waiting (length streams)

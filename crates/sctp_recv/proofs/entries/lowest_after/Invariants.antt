@@ -6,4 +6,4 @@ use Rattle.sctp_recv.proofs.entries.lowest_after.Given as goal
 
 -- the entries before this one are counted
 abbrev pub invariant-loop-skip : goal.invariant-loop-skip
-invariant-loop-skip g l = l.lowest ≡ lowest_after g.F.Framing.format (lane_at l.stream l.kind) l.reference (map skip_meaning (take l.skip-index l.entries))
+invariant-loop-skip g l = l.after ≡ lowest_after g.F.Framing.format (lane_at l.stream l.kind) l.near l.lowest (map skip_meaning (take l.skip-index l.entries))

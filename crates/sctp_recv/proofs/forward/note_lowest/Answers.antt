@@ -18,7 +18,7 @@ loop-at-preserved g c = λ v filed findable.
           let low : k < length items = omega (arith, w.if-place-len.true, c.len.ensures, c.args.streams.now.ok) in
           let got = slice_get_read items (length items) k x refl low w.index.ensures in
           subst (λ (lows : Lows). AreFindable f v lows) (sym w.lows-is)
-          (findable_noted f v items k x w.lowest_unordered-lowest.result 4294967295 c.loop-at.lows w.set.new.self (sym c.is_numbered.ensures ∙ c.if-is_numbered.false) filed got w.lowest_unordered-lowest.ensures w.set.ensures.count
+          (findable_noted f v items k x w.lowest_unordered-lowest.result 18446744073709551615 c.loop-at.lows w.set.new.self (sym c.is_numbered.ensures ∙ c.if-is_numbered.false) filed got w.lowest_unordered-lowest.ensures w.set.ensures.count
           (λ q i marked below. w.set.ensures.marked q i marked (λ same. subst (λ (n : ℕ). n ≤ i) (sym w.unwrap_or.ensures) (below (same ∙ sym c.from-place.ensures)))) before)
       | else-place-len w ↦ subst (λ (lows : Lows). AreFindable f v lows) (sym w.lows-is) before
     ]

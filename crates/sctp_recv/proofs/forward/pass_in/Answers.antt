@@ -1,4 +1,4 @@
-use Rattle.std.proofs.Common.{map, ◌≡◌, ℕ, ◌+◌, ◌-◌, ◌++◌, refl, ◌∙◌, subst}
+use Rattle.std.proofs.Common.{map, ◌≡◌, ℕ, ◌+◌, ◌-◌, ◌++◌, refl, ap, ◌∙◌, subst}
 use Rattle.sctp_model.specs.messages.Format.{ordered_lane, unordered_lane}
 use Rattle.sctp_model.specs.receiver.ReceiverView.{size_of_pieces, size_of_messages}
 use Rattle.sctp_wire.specs.ChunkTree.{skip_meaning}
@@ -6,7 +6,7 @@ use Rattle.sctp_chains.specs.StandsFor as lane
 use Rattle.sctp_chains.specs.WholeOf.{from_number}
 use Rattle.sctp_recv.specs.Fields.{inbound_of}
 use Rattle.sctp_recv.specs.inner.Giving.{sized, IsDueFrom}
-use Rattle.sctp_recv.specs.inner.Forwarding.{lowest_after, stay}
+use Rattle.sctp_recv.specs.inner.Forwarding.{lowest_after, skip_after, stay}
 use Rattle.sctp_recv.proofs.forward.pass_in.Goals as goal
 
 pub returns : goal.returns
@@ -16,8 +16,9 @@ returns g c = λ os us ordered unordered counted room.
     let xs = map skip_meaning c.args.entries.now in
     let old = c.args.inbound.now in
     let jump = c.args.jump in
-    let skip : c.lowest_after-inbound.result ≡ lowest_after f (unordered_lane s) old.skip xs = c.lowest_after-inbound.ensures in
-    let left = stay f jump (lowest_after f (unordered_lane s) old.skip xs) us in
+    let skip : c.lowest_after-inbound.result ≡ skip_after f s (inbound_of old) xs =
+    c.lowest_after-inbound.ensures ∙ ap (λ (n : ℕ). lowest_after f (unordered_lane s) n old.skip xs) c.near-near.ensures in
+    let left = stay f jump (skip_after f s (inbound_of old) xs) us in
     let stays = subst (λ (n : ℕ). lane.StandsFor f c.let_go.new.self (unordered_lane s) (stay f jump n us)) skip (c.let_go.ensures (unordered_lane s) us unordered refl) in
     let gives = c.give_ordered-given.ensures os ordered counted room in
     let new_unordered = gives.others (unordered_lane s) left stays in
@@ -30,7 +31,7 @@ returns g c = λ os us ordered unordered counted room.
       due = subst (λ (n : ℕ). IsDueFrom f os s old.next n gives.messages gives.next) c.lowest_after-floor.ensures gives.due;
       ordered = gives.left;
       unordered = new_unordered;
-      stream = gives.stream ∙ (λ i. record { next = gives.next; skip = skip i; waiting = (inbound_of old).waiting ++ gives.messages });
+      stream = gives.stream ∙ (λ i. record (inbound_of old) { next = gives.next; skip = skip i; waiting = (inbound_of old).waiting ++ gives.messages });
       bytes = c.saturating_add-2.ensures ∙ (λ j. sized (c.saturating_add.ensures j + gives.bytes j)) ∙ (λ j. sized (sized (c.saturating_sub.ensures j + after j) + sized (size_of_messages gives.messages)))
           ∙ (λ j. sized (sized (c.args.held - before j + sized (size_of_pieces (from_number gives.next os) + size_of_pieces left)) + sized (size_of_messages gives.messages)));
     }

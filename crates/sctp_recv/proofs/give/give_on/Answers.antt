@@ -32,7 +32,7 @@ loop-whole-preserved g c = λ start kept counted before.
     record {
       rest = from_number (suc n) so.rest;
       handed = handed_more f s c.args.floor kept so.rest start old _ c.loop-whole.given c.wait-bytes.result c.saturating_add-given.result so.handed counted n _ _ _ _ t refl (omega (arith, c.max.ensures))
-          (handed_of c.message_of.result) (c.message_of.ensures f t.head t.rest t.made t.whole.2.0) next refl (c.wait-bytes.ensures.waits spare) (λ l ks stands. stands) c.wait-bytes.ensures.bytes c.saturating_add-given.ensures;
+          (handed_of c.message_of.result) (c.message_of.ensures f t.head t.rest t.made t.whole.2.0) next refl refl (c.wait-bytes.ensures.waits spare) (λ l ks stands. stands) c.wait-bytes.ensures.bytes c.saturating_add-given.ensures;
       left = t.left;
       room = omega (arith, room, fewer, c.wait-bytes.ensures.len, c.wait-bytes.ensures.room);
     }
@@ -53,7 +53,7 @@ returns g c = λ start kept counted before.
       due = λ r v. subst (λ (m : ℕ). IsDue f r s start.next h.messages m) (sym next)
           (due_end f kept so.rest s start.next c.args.floor old.next h.messages h.due h.rests (λ n low high. none.0 n low (omega (arith, high, c.max.ensures))) r v);
       left = subst (λ (ps : List Piece). lane.StandsFor f c.drop_below.new.self (ordered_lane s) ps) from (c.drop_below.ensures (ordered_lane s) so.rest none.1 (ordered_numbered f));
-      stream = λ i. record { next = c.max-inbound.result; skip = ap (λ (a : StreamKept). a.skip) h.stream i; waiting = ap (λ (a : StreamKept). a.waiting) h.stream i };
+      stream = λ i. record { next = c.max-inbound.result; skip = ap (λ (a : StreamKept). a.skip) h.stream i; largest = ap (λ (a : StreamKept). a.largest) h.stream i; waiting = ap (λ (a : StreamKept). a.waiting) h.stream i };
       others = h.others;
       bytes = h.bytes;
     }

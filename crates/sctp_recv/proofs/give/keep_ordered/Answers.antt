@@ -39,7 +39,7 @@ returns-in-Some-clause-given g c = λ kept stands new numbers.
     let gives : GivesDue f s mid.next (y ∷ kept) mid last c.give_on.result = c.give_on.ensures mid (y ∷ kept) counts (record {
       rest = from_number (suc n) (y ∷ kept);
       handed = handed_more f s mid.next (y ∷ kept) (y ∷ kept) mid mid _ 0 c.wait-bytes.result c.wait-bytes.result (handed_none f s mid.next (y ∷ kept) mid) counts n mid.next mid.next c.in-Some.whole mid.ordered t refl (omega arith)
-          (handed_of c.message_of.result) (c.message_of.ensures f t.head t.rest t.made t.whole.2.0) next refl (c.wait-bytes.ensures.waits spare) (λ k ks there. there) c.wait-bytes.ensures.bytes (omega (arith, c.wait-bytes.ensures.bytes));
+          (handed_of c.message_of.result) (c.message_of.ensures f t.head t.rest t.made t.whole.2.0) next refl refl (c.wait-bytes.ensures.waits spare) (λ k ks there. there) c.wait-bytes.ensures.bytes (omega (arith, c.wait-bytes.ensures.bytes));
       left = t.left;
       room = omega (arith, room, c.wait-bytes.ensures.len, c.wait-bytes.ensures.room);
     }) in

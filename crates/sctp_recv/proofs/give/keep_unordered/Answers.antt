@@ -26,7 +26,7 @@ returns-in-Some-clause-given g c = λ kept stands new kind.
     ∙ ap (λ (h : Handed). map handed_of start.waiting.items ++ h ∷ []) made in
     let bytes : c.wait.result ≡ sized (length (text_of (t.head ∷ t.rest))) = c.wait.ensures.bytes ∙ ap (λ (h : Handed). sized (length h.bytes)) made in
     record {
-      gives = inl (record { head = t.head; rest = t.rest; whole = t.whole; left = t.left; stream = λ i. record (inbound_of start) { waiting = waits i }; bytes = bytes });
+      gives = inl (record { head = t.head; rest = t.rest; whole = t.whole; left = t.left; stream = λ i. record (inbound_of start) { largest = c.larger-inbound.ensures i; waiting = waits i }; bytes = bytes });
       others = λ m ks is. is;
     }
 
@@ -37,7 +37,7 @@ returns-in-None-clause-given g c = λ kept stands new kind.
     let added = c.in_ok-add.ensures.kept l kept stands new in
     let t = c.in-None.ensures.taken l (x ∷ kept) added (inl refl) in
     record {
-      gives = inr (record { none = t.0; left = t.1; stream = λ i. record (inbound_of c.args.inbound.now) { waiting = c.make_one.ensures.same i }; bytes = refl });
+      gives = inr (record { none = t.0; left = t.1; stream = λ i. record (inbound_of c.args.inbound.now) { largest = c.larger-inbound.ensures i; waiting = c.make_one.ensures.same i }; bytes = refl });
       others = λ m ks is. is;
     }
 

@@ -14,14 +14,14 @@ invariant_of-self-2 c =
     let old = c.self.inside.runs.items in
     let new = c.insert.new.runs.items in
     let is = c.saturating_sub-above.ensures in
-    let near = c.if-above-gt-WINDOW.false in
+    let near = c.if-above-from.false in
     elim (cases_Bool (in_runs old i)) [
       | inl there ↦ either_way c.insert.result (IsKept cum) old new (on_ok c.insert.result _ _ (λ same. subst (IsKept cum) (sym (same c.self.invariant.runs.spaced there)) c.self.invariant) c.insert.ensures.there) c.insert.ensures.refused c.self.invariant
       | inr none ↦ (
           let past : nat_le i cum ≡ false = let some = c.if-above-eq0.false in grind (arith, is, some, nat_tests) in
           let fresh : is_reached (seen_of cum old) i ≡ false = rw (past, none) refl in
           either_way c.insert.result (IsKept cum) old new
-          (on_ok c.insert.result _ _ (kept_gained cum i old new c.self.invariant fresh (λ e. c.if-above-eq1.false (omega (arith, e, is))) (omega (arith, is, near))) c.insert.ensures.inserted) c.insert.ensures.refused c.self.invariant
+          (on_ok c.insert.result _ _ (kept_gained cum i old new c.self.invariant fresh (λ e. c.if-above-eq1.false (omega (arith, e, is))) (omega (arith, is, near, c.from.ensures))) c.insert.ensures.inserted) c.insert.ensures.refused c.self.invariant
           )
     ]
 
