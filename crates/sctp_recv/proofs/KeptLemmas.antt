@@ -55,7 +55,7 @@ module _ (f : Format) (k : ReceiverKept) (v : ReceiverView) (x : Piece) (seen : 
       elim (cases_eq q s) [
         | inl same ↦
             let now : near_of (stream_at (set k.streams s b) q) Unordered ≡ near_of b Unordered =
-                ap (λ (i : ℕ). near_of (stream_at (set k.streams s b) i) Unordered) same ∙ ap (λ (a : StreamKept). near_of a Unordered) (stream_set_same k.streams s b low) in
+            ap (λ (i : ℕ). near_of (stream_at (set k.streams s b) i) Unordered) same ∙ ap (λ (a : StreamKept). near_of a Unordered) (stream_set_same k.streams s b low) in
             let old : near_of (stream_at k.streams q) Unordered ≡ near_of (stream_at k.streams s) Unordered = ap (λ (i : ℕ). near_of (stream_at k.streams i) Unordered) same in
             let number : number_on (unordered_lane q) x.lane x.number ≡ number_on (unordered_lane s) x.lane x.number = ap (λ (i : ℕ). number_on (unordered_lane i) x.lane x.number) same in
             omega (arith, more, was, now, old, number, near)

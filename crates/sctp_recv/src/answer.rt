@@ -53,11 +53,8 @@ pub(crate) fn place_of_tsn(initial: u32, cumulative: u64, tsn: u32) -> TsnPlace
         return TsnPlace::Behind;
     }
     match index_ahead(initial, cumulative, tsn) {
-        Some(index)
-            if index < u64::MAX && index.saturating_sub(cumulative) <= u64::from(WINDOW) =>
-        {
-            TsnPlace::At(index)
-        }
+        Some(index) if index < u64::MAX && index.saturating_sub(cumulative) <= u64::from(WINDOW) =>
+            { TsnPlace::At(index) }
         _ => TsnPlace::Ahead,
     }
 }
