@@ -1,5 +1,5 @@
 -- What becomes of a packet at an end without an association (RFC 9260, 5.1 and 8.4).
-use Rattle.std.specs.Prelude.{◌≡◌, ℕ, List, Option, Some, None}
+use Rattle.std.specs.Prelude.{◌≡◌, ℕ, ◌≤◌, List, length, Option, Some, None}
 use Rattle.sctp_model.specs.end.Sealing.{Body}
 use Rattle.sctp_model.specs.end.Strays.{Verdict, Taken, Dropped, Answer}
 use Rattle.sctp_packet.specs.PacketBytes.{WritesPacket}
@@ -19,3 +19,9 @@ abbrev pub IsTold : Stray → Option Body → Verdict → Type 0
 IsTold (stray.Begins body) opened v = opened ≡ Some (body_meaning body)
 IsTold (stray.Dropped reason) opened v = (opened ≡ None) × (v ≡ Dropped (reason_code reason))
 IsTold (stray.Answered packet) opened v = (opened ≡ None) × IsAnswer packet.items v
+
+-- Where a packet answers it, that has at most so many bytes.
+abbrev pub IsToldWithin : (limit : ℕ) → Stray → Type 0
+IsToldWithin limit (stray.Begins body) = Unit {0}
+IsToldWithin limit (stray.Dropped reason) = Unit {0}
+IsToldWithin limit (stray.Answered packet) = length packet.items ≤ limit

@@ -1,6 +1,6 @@
 //! A caller reads an INIT ACK: its cookie, or why it is refused, and what its peer is told (RFC 9260, 5.1.2 and 3.3.3).
 
-ghost use Rattle.std.specs.Prelude.{◌≡◌, ◌<◌, ◌+◌, ◌^◌, true, length, Some, None, MatchResult, IfOk, OnOk, OnErr};
+ghost use Rattle.std.specs.Prelude.{◌≡◌, ◌≤◌, ◌<◌, ◌+◌, ◌^◌, true, length, Some, None, MatchResult, IfOk, OnOk, OnErr};
 ghost use Rattle.sctp_model.specs.wire.Chunk.{InitMeaning};
 ghost use Rattle.sctp_model.specs.numbers.Numbers.{AreBytes};
 ghost use Rattle.sctp_model.specs.wire.Typed.{AreAsWritten, WritesTyped, are_typed};
@@ -65,7 +65,8 @@ pub fn ack_abort(
     tag: u32,
     fault: AckFault,
 ) -> Result<Vec<u8>, NoMemory>
-    ensures { IfOk result (λ packet. WritesPacket packet.items (packet_to config.now tag (abort_for (cause_of fault)))) }
+    ensures packet { IfOk result (λ packet. WritesPacket packet.items (packet_to config.now tag (abort_for (cause_of fault)))) }
+    ensures within { IfOk result (λ packet. length packet.items ≤ config.now.limit) }
 {
     // So a packet has room for each cause.
     let _limit = config.limit();

@@ -15,7 +15,7 @@ ghost use Rattle.sctp_cookie.specs.Seals.{IsUnder};
 ghost use Rattle.sctp_opening.specs.Cookies.{IsAt};
 ghost use Rattle.sctp_opening.specs.Room.{size_alone};
 ghost use Rattle.sctp_opening.specs.Outside.{IsOutside};
-ghost use Rattle.sctp_opening.specs.Told.{IsAnswer, IsTold};
+ghost use Rattle.sctp_opening.specs.Told.{IsAnswer, IsTold, IsToldWithin};
 ghost use Rattle.sctp_opening.specs.inner.Fitting.{IsList};
 
 use crate::cookies::{CookieReading, read_cookie};
@@ -34,6 +34,7 @@ impl Outside {
     pub(crate) fn hear_init(&self, alloc: Global, offer: &Init<'_>) -> Result<Stray, NoMemory>
         ensures answer { (e : EndView) (tag : ℕ) → IsOutside self.now e
             → IfOk result (λ told. IsTold told None (first_verdict e self.now.draw tag (meaning.Init (init_meaning offer.now)))) }
+        ensures within { IfOk result (λ told. IsToldWithin self.now.config.limit told) }
         ensures memory { (e : EndView) (tag : ℕ) → IsOutside self.now e
             → OnErr result (is_answer (first_verdict e self.now.draw tag (meaning.Init (init_meaning offer.now))) ≡ true) }
     {
@@ -55,6 +56,7 @@ impl Outside {
     ) -> Result<Stray, NoMemory>
         ensures answer { (e : EndView) → IsOutside self.now e
             → IfOk result (λ told. IsTold told (body_in (listens e) e tag (CookieEcho cookie.now)) (first_verdict e self.now.draw tag (CookieEcho cookie.now))) }
+        ensures within { IfOk result (λ told. IsToldWithin self.now.config.limit told) }
         ensures memory { (e : EndView) → IsOutside self.now e
             → OnErr result (is_answer (first_verdict e self.now.draw tag (CookieEcho cookie.now)) ≡ true) }
     {
@@ -73,8 +75,9 @@ impl Outside {
 
     /// What answers an INIT of a tag that isn't 0 where the end listens: an INIT ACK, or an ABORT where it offers or takes no stream.
     fn answer_init(&self, alloc: Global, key: &Key, offer: &Init<'_>) -> Result<Vec<u8>, NoMemory>
-        ensures { (s : Sealing) (e : EndView) → IsUnder key.now s → IsAt self.now.config self.now.moment e
+        ensures answer { (s : Sealing) (e : EndView) → IsUnder key.now s → IsAt self.now.config self.now.moment e
             → IfOk result (λ packet. IsAnswer packet.items (init_verdict (Some s) e self.now.draw (init_meaning offer.now))) }
+        ensures within { IfOk result (λ packet. length packet.items ≤ self.now.config.limit) }
     {
         // So a packet has room for the cause, and its length for the parameters.
         let _limit = self.config.limit();

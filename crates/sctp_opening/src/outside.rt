@@ -18,7 +18,7 @@ ghost use Rattle.sctp_model.specs.end.EndView.{EndView};
 ghost use Rattle.sctp_model.specs.end.Strays.{body_among, body_in, chunks_verdict, first_verdict, holds_abort, listens, refused};
 ghost use Rattle.sctp_wire.specs.ChunkTree.{chunk_meaning};
 ghost use Rattle.sctp_opening.specs.Outside.{IsOutside};
-ghost use Rattle.sctp_opening.specs.Told.{IsTold};
+ghost use Rattle.sctp_opening.specs.Told.{IsTold, IsToldWithin};
 
 use crate::packets::{bare_abort, lone_packet};
 use sctp_cookie::{CookieBody, Key};
@@ -58,6 +58,7 @@ impl Outside {
     pub fn hear(&self, alloc: Global, tag: u32, chunks: &Chunks<'_>) -> Result<Stray, NoMemory>
         ensures answer { (e : EndView) → IsOutside self.now e
             → IfOk result (λ told. IsTold told (body_among e tag chunks.now) (chunks_verdict e self.now.draw tag chunks.now)) }
+        ensures within { IfOk result (λ told. IsToldWithin self.now.config.limit told) }
         ensures memory { (e : EndView) → IsOutside self.now e → OnErr result (is_answer (chunks_verdict e self.now.draw tag chunks.now) ≡ true) }
     {
         if holds_abort(chunks.again()) {
@@ -73,6 +74,7 @@ impl Outside {
     fn hear_first(&self, alloc: Global, tag: u32, chunk: &Chunk<'_>) -> Result<Stray, NoMemory>
         ensures answer { (e : EndView) → IsOutside self.now e
             → IfOk result (λ told. IsTold told (body_in (listens e) e tag (chunk_meaning chunk.now)) (first_verdict e self.now.draw tag (chunk_meaning chunk.now))) }
+        ensures within { IfOk result (λ told. IsToldWithin self.now.config.limit told) }
         ensures memory { (e : EndView) → IsOutside self.now e → OnErr result (is_answer (first_verdict e self.now.draw tag (chunk_meaning chunk.now)) ≡ true) }
     {
         match chunk {
@@ -98,14 +100,16 @@ impl Outside {
 
     /// An ABORT under the packet's own tag (RFC 9260, 8.4, rule 8).
     pub(crate) fn refuse(&self, alloc: Global, tag: u32) -> Result<Stray, NoMemory>
-        ensures { (e : EndView) → IsOutside self.now e → IfOk result (λ told. IsTold told None (refused e tag)) }
+        ensures answer { (e : EndView) → IsOutside self.now e → IfOk result (λ told. IsTold told None (refused e tag)) }
+        ensures within { IfOk result (λ told. IsToldWithin self.now.config.limit told) }
     {
         Ok(Stray::Answered(bare_abort(alloc, &self.config, tag, true)?))
     }
 
     /// A SHUTDOWN COMPLETE under the packet's own tag (RFC 9260, 8.4, rule 5).
     fn complete(&self, alloc: Global, tag: u32) -> Result<Stray, NoMemory>
-        ensures { (e : EndView) (d : meaning.Draw) → IsOutside self.now e → IfOk result (λ told. IsTold told None (first_verdict e d tag ShutdownAck)) }
+        ensures answer { (e : EndView) (d : meaning.Draw) → IsOutside self.now e → IfOk result (λ told. IsTold told None (first_verdict e d tag ShutdownAck)) }
+        ensures within { IfOk result (λ told. IsToldWithin self.now.config.limit told) }
     {
         // So a packet has room for it.
         let _limit = self.config.limit();

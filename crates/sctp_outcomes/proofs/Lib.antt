@@ -20,4 +20,7 @@ pub mod Reaching
 pub mod InOrder
 pub mod stories
 pub mod logs
+pub mod ToldOnce
+pub mod TellingRuns
 pub mod Untouched
+pub mod SetUp

@@ -46,7 +46,7 @@ reached_step w e o v r (AbortsIt x why) =
     at_one_end w v x (abort_leaves a (end_of w x)) (abort_of a) (at_abort w x _ a) r (reached_aborted (end_of w x) a (r x))
 reached_step w e o v r (NoMemory _ other_event) = r
 
-reached_run : (w : World) (es : List Event) (os : List (Option Outcome)) (v : World) → AreReached w → Run w es os v → AreReached v
+pub reached_run : (w : World) (es : List Event) (os : List (Option Outcome)) (v : World) → AreReached w → Run w es os v → AreReached v
 reached_run w es os v r (Rest _) = r
 reached_run w es os v r (Then _ mid _ e rest o others step run) = reached_run mid rest others v (reached_step w e o mid r step) run
 

@@ -7,3 +7,5 @@ pub mod Script
 pub mod Views
 pub mod Kept
 pub mod Untouched
+pub mod SetUp
+pub mod ToldOnce

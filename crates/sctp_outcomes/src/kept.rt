@@ -3,6 +3,7 @@
 //! No function here does anything: each carries laws as its contract.
 
 ghost use Rattle.sctp_outcomes.specs.Kept.{AbandonKeepsLogs, AbortKeepsLogs, BuildsAddNumbers, ConnectKeepsLogs, CutPacketsKeepLogs, EmptyBuildsKeepLogs, FreshHasNoLogs, MomentsKeepLogs, OpenedHasNoLogs, PacketsKeepLogs, SendGivesTickets, ShutdownKeepsLogs, TakeTakesOne};
+ghost use Rattle.sctp_outcomes.specs.ToldOnce.{BuildsTellAnew, RunsTellAnew};
 
 /// Of an end that is made, or opened without packets, nothing is noted: no ticket, no number, no message taken.
 pub fn new_ends_have_no_logs()
@@ -36,4 +37,11 @@ pub fn packets_note_their_numbers()
 /// Where there is no packet to build, asking for it notes nothing.
 pub fn no_packet_notes_nothing()
     ensures { EmptyBuildsKeepLogs }
+{}
+
+/// A ticket is told once in the life of an end: each packet that is built tells tickets of messages that had no TSN before and have one now, and over every run,
+/// also of one that meets no premise, what was told stays in its order, and no ticket stands twice in it. So no later packet tells it again (RFC 9260, 6.9).
+pub fn tickets_are_told_once()
+    ensures builds { BuildsTellAnew }
+    ensures runs { RunsTellAnew }
 {}

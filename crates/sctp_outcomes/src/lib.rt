@@ -17,7 +17,7 @@ pub use examples::{
 };
 pub use kept::{
     calls_note_their_own, new_ends_have_no_logs, no_packet_notes_nothing,
-    packets_note_their_numbers, what_comes_keeps_logs,
+    packets_note_their_numbers, tickets_are_told_once, what_comes_keeps_logs,
 };
 pub use outcomes::{every_event_has_an_outcome, every_event_has_one_outcome};
 pub use receiver_steps::{
@@ -29,7 +29,8 @@ pub use sender_calls::{
     shutdowns_are_taken,
 };
 pub use steps::{
-    each_end_has_one_next_packet, each_packet_has_one_verdict, packets_leave_no_trace,
+    each_end_has_one_next_packet, each_packet_has_one_verdict, ends_stay_as_they_are_set_up,
+    packets_leave_no_trace,
 };
 pub use views::{
     both_receivers_are_at_rest, both_senders_are_in_order, no_receiver_passes_its_buffer,

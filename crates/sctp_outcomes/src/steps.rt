@@ -1,6 +1,7 @@
 //! The steps of an end alone: they are functions.
 
 ghost use Rattle.sctp_outcomes.specs.OneEnd.{ActIsOne, BuildIsOne};
+ghost use Rattle.sctp_outcomes.specs.SetUp.{ChunksLeaveTheConfiguration, CutPacketsLeaveTheConfiguration, PacketsLeaveTheConfiguration};
 ghost use Rattle.sctp_outcomes.specs.Untouched.{DropsChangeNothing, StraysChangeNothing};
 
 /// Whatever an end is, and whoever its peer: each packet that reads leaves one end and has one verdict (RFC 9260, 4). So a body that drops every packet does what no row says.
@@ -19,4 +20,11 @@ pub fn each_end_has_one_next_packet()
 pub fn packets_leave_no_trace()
     ensures strays { StraysChangeNothing }
     ensures drops { DropsChangeNothing }
+{}
+
+/// Whatever comes to an end, chunk by chunk or as a packet, whole or cut short, it stays set up as it is: so its packet limit stays, and its ports.
+pub fn ends_stay_as_they_are_set_up()
+    ensures chunks { ChunksLeaveTheConfiguration }
+    ensures packets { PacketsLeaveTheConfiguration }
+    ensures cut { CutPacketsLeaveTheConfiguration }
 {}

@@ -11,8 +11,8 @@ use Rattle.sctp_opening.proofs.ListLemmas.{written_list, init_ack-fits}
 use Rattle.sctp_opening.proofs.AckLemmas.{accepted-is, refused-is}
 use Rattle.sctp_opening.proofs.outside.Outside.answer_init.Goals as goal
 
-pub returns-then-has_no_stream : goal.returns-then-has_no_stream
-returns-then-has_no_stream c = λ s e under at.
+pub returns-then-has_no_stream-clause-answer : goal.returns-then-has_no_stream-clause-answer
+returns-then-has_no_stream-clause-answer c = λ s e under at.
     let none : has_no_stream (init_meaning c.args.offer.now) ≡ true = grind (arith, common_steps) in
     subst (λ (v : Verdict). IfOk c.abort_packet.result (λ packet. IsAnswer packet.items v))
     (refused-is s e c.args.self.now.draw (init_meaning c.args.offer.now) c.args.self.now.config at.configured none) c.abort_packet.ensures.packet

@@ -12,4 +12,4 @@ returns-in-Init-clause-memory c = λ e outside. rw c.in-Init.is (c.hear_init.ens
 
 pub returns-in-ShutdownAck-clause-answer : goal.returns-in-ShutdownAck-clause-answer
 returns-in-ShutdownAck-clause-answer c = λ e outside.
-    rw (c.in-ShutdownAck.is, none_in_shutdown_ack (listens e) e c.args.tag) (c.complete.ensures e c.args.self.now.draw outside)
+    rw (c.in-ShutdownAck.is, none_in_shutdown_ack (listens e) e c.args.tag) (c.complete.ensures.answer e c.args.self.now.draw outside)
