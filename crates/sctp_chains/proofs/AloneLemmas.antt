@@ -22,12 +22,12 @@ use Rattle.sctp_chains.proofs.LaneLemmas.{below_agrees}
 
 -- all chains lie above a number: so do all chunks
 pub chunks_above : (f : Format) (l : Lane) (cs : List ChainKept) (bytes : ℕ) (kept : List Piece) → KeepsLane f l cs bytes kept → is_numbered f l.kind ≡ true → (n : ℕ) →
-    ((c : ChainKept) → Has cs c → rank_at (Some n) (2 ^ 32 - 1) < c.first) → AreAbove n kept
+    ((c : ChainKept) → Has cs c → rank_at (Some n) (2 ^ 64 - 1) < c.first) → AreAbove n kept
 chunks_above f l cs bytes kept h numbered n above y there =
     let m = cell_chain cs (cell_of f y) (cell_at f l cs bytes kept h y there) in
     let low = (chain_ranks m.0 (h.chains.each m.0 m.1) (cell_of f y) m.2).0 in
     let past = above m.0 m.1 in
-    let out : is_outside 0 (rank_at (Some n) (2 ^ 32 - 1)) (rank_of f y) ≡ true = beyond (rank_at (Some n) (2 ^ 32 - 1)) (rank_of f y) (omega (arith, low, past)) in
+    let out : is_outside 0 (rank_at (Some n) (2 ^ 64 - 1)) (rank_of f y) ≡ true = beyond (rank_at (Some n) (2 ^ 64 - 1)) (rank_of f y) (omega (arith, low, past)) in
     let agrees = below_agrees f l y n (h.of y there) numbered in
     not_so (is_number_below (suc n) y.number) (agrees ∙ out)
   where

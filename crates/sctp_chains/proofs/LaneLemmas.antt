@@ -93,21 +93,21 @@ leaves_both first test cs mid new a b c one two less = record {
 pub cut_low : (cs : List ChainKept) → IsCut 0 cs 0
 cut_low cs = record { front = λ c there. absurd there; back = λ c there. omega arith }
 
-below_plain : (n last p : ℕ) → p < 2 ^ 32 → not (nat_lt n (suc last)) ≡ is_outside 0 (last * 2 ^ 32 + (2 ^ 32 - 1)) (n * 2 ^ 32 + p)
+below_plain : (n last p : ℕ) → p < 2 ^ 64 → not (nat_lt n (suc last)) ≡ is_outside 0 (last * 2 ^ 64 + (2 ^ 64 - 1)) (n * 2 ^ 64 + p)
 below_plain n last p small = elim (cases_lt n (suc last)) [
   | inl less ↦
       let yes : nat_lt n (suc last) ≡ true = grind (arith, less, nat_tests) in
-      rw yes (sym (inside 0 (last * 2 ^ 32 + (2 ^ 32 - 1)) (n * 2 ^ 32 + p) (omega arith) (omega (arith, less, small))))
+      rw yes (sym (inside 0 (last * 2 ^ 64 + (2 ^ 64 - 1)) (n * 2 ^ 64 + p) (omega arith) (omega (arith, less, small))))
   | inr past ↦
       let not_so : nat_lt n (suc last) ≡ false = grind (arith, past, nat_tests) in
-      rw not_so (sym (outside_high 0 (last * 2 ^ 32 + (2 ^ 32 - 1)) (n * 2 ^ 32 + p) (omega (arith, past))))
+      rw not_so (sym (outside_high 0 (last * 2 ^ 64 + (2 ^ 64 - 1)) (n * 2 ^ 64 + p) (omega (arith, past))))
 ]
 
 pub below_agrees : (f : Format) (l : Lane) (x : Piece) (last : ℕ) → IsOf f l x → is_numbered f l.kind ≡ true →
-    not (is_number_below (suc last) x.number) ≡ is_outside 0 (rank_at (Some last) (2 ^ 32 - 1)) (rank_of f x)
+    not (is_number_below (suc last) x.number) ≡ is_outside 0 (rank_at (Some last) (2 ^ 64 - 1)) (rank_of f x)
 below_agrees f l x last of numbered = go x.number (place_in f x.index x.begin x.word) (place_small f l x of) (of.numbered ∙ numbered)
   where
-    go : (n : Option ℕ) (p : ℕ) → p < 2 ^ 32 → is_some n ≡ true → not (is_number_below (suc last) n) ≡ is_outside 0 (rank_at (Some last) (2 ^ 32 - 1)) (rank_at n p)
+    go : (n : Option ℕ) (p : ℕ) → p < 2 ^ 64 → is_some n ≡ true → not (is_number_below (suc last) n) ≡ is_outside 0 (rank_at (Some last) (2 ^ 64 - 1)) (rank_at n p)
     go None p small e = absurd (cc)
     go (Some n) p small e = below_plain n last p small
 
@@ -118,10 +118,10 @@ none_below kept = filter_all (λ (x : Piece). not (is_number_below 0 x.number)) 
     go None = refl
     go (Some n) = let low : nat_lt n 0 ≡ false = grind (arith, nat_tests) in rw low refl
 
-behind_plain : (i jump : ℕ) → not (nat_le i jump) ≡ is_outside 0 (0 * 2 ^ 32 + jump) (0 * 2 ^ 32 + i)
+behind_plain : (i jump : ℕ) → not (nat_le i jump) ≡ is_outside 0 (0 * 2 ^ 64 + jump) (0 * 2 ^ 64 + i)
 behind_plain i jump = elim (cases_lt jump i) [
-  | inl past ↦ let not_so : nat_le i jump ≡ false = grind (arith, past, nat_tests) in rw not_so (sym (outside_high 0 (0 * 2 ^ 32 + jump) (0 * 2 ^ 32 + i) (omega (arith, past))))
-  | inr low ↦ let yes : nat_le i jump ≡ true = grind (arith, low, nat_tests) in rw yes (sym (inside 0 (0 * 2 ^ 32 + jump) (0 * 2 ^ 32 + i) (omega arith) (omega (arith, low))))
+  | inl past ↦ let not_so : nat_le i jump ≡ false = grind (arith, past, nat_tests) in rw not_so (sym (outside_high 0 (0 * 2 ^ 64 + jump) (0 * 2 ^ 64 + i) (omega (arith, past))))
+  | inr low ↦ let yes : nat_le i jump ≡ true = grind (arith, low, nat_tests) in rw yes (sym (inside 0 (0 * 2 ^ 64 + jump) (0 * 2 ^ 64 + i) (omega arith) (omega (arith, low))))
 ]
 
 pub behind_agrees : (l : Lane) (x : Piece) (jump skip : ℕ) → IsOf Plain l x → l.kind ≡ Unordered →
@@ -142,10 +142,10 @@ skip_agrees x jump skip = go x.number
 -- ---- calls that let chunks go
 
 module _ (f : Format) (l : Lane) (cs new : List ChainKept) (bytes left : ℕ) (kept : List Piece) (h : KeepsLane f l cs bytes kept) where
-  pub dropped : is_numbered f l.kind ≡ true → (number last high : ℕ) → number ≡ suc last → high ≡ rank_at (Some last) (2 ^ 32 - 1) → LetsGo high 0 cs new bytes left →
+  pub dropped : is_numbered f l.kind ≡ true → (number last high : ℕ) → number ≡ suc last → high ≡ rank_at (Some last) (2 ^ 64 - 1) → LetsGo high 0 cs new bytes left →
       KeepsLane f l new left (from_number number kept)
   dropped numbered number last high is at lets = subst (λ (n : ℕ). KeepsLane f l new left (from_number n kept)) (sym is)
-      (stays f l cs new bytes left kept h (is_outside 0 (rank_at (Some last) (2 ^ 32 - 1))) (λ (x : Piece). not (is_number_below (suc last) x.number))
+      (stays f l cs new bytes left kept h (is_outside 0 (rank_at (Some last) (2 ^ 64 - 1))) (λ (x : Piece). not (is_number_below (suc last) x.number))
       (subst (λ (u : ℕ). LetsGo u 0 cs new bytes left) at lets h.chains 0 (cut_low cs)) (λ x there. below_agrees f l x last (h.of x there) numbered))
 
 pub left_behind : (f : Format) (l : Lane) (cs new : List ChainKept) (bytes left : ℕ) (kept : List Piece) → KeepsLane f l cs bytes kept → is_numbered f Unordered ≡ false → l.kind ≡ Unordered →

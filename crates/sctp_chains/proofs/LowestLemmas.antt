@@ -58,5 +58,5 @@ module _ (f : Format) (l : Lane) (cs : List ChainKept) (bytes : ℕ) (kept : Lis
   pub lowest_kept : IsLowestIndex kept (Some c.first)
   lowest_kept = (below, its)
 
-  pub lowest_small : c.first < 2 ^ 32
+  pub lowest_small : c.first < 2 ^ 64
   lowest_small = let small = (h.of its.0 its.1).index in let is = its.2 in omega (arith, small, is)

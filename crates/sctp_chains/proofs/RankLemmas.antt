@@ -12,11 +12,11 @@ use Rattle.sctp_chains.specs.declared.chain.Head.{Head}
 
 -- ---- places
 
-pub place_small : (f : Format) (l : Lane) (x : Piece) → IsOf f l x → place_in f x.index x.begin x.word < 2 ^ 32
+pub place_small : (f : Format) (l : Lane) (x : Piece) → IsOf f l x → place_in f x.index x.begin x.word < 2 ^ 64
 place_small Plain l x h = let i = h.index in omega (arith, i)
 place_small Interleaved l x h = small x.begin x.word h.word
   where
-    small : (b : Bool) (w : ℕ) → w < 2 ^ 32 → cond b 0 w < 2 ^ 32
+    small : (b : Bool) (w : ℕ) → w < 2 ^ 64 → cond b 0 w < 2 ^ 64
     small true w less = omega arith
     small false w less = less
 
@@ -27,7 +27,7 @@ one_number b None (Some n) p q same = absurd (let e : false ≡ true = p ∙ sym
 one_number b (Some m) None p q same = absurd (let e : true ≡ false = p ∙ sym q in cc)
 one_number b (Some m) (Some n) p q same = ap (λ (i : ℕ). Some i) same
 
-pub rank_parts : (a b p q : ℕ) → p < 2 ^ 32 → q < 2 ^ 32 → a * 2 ^ 32 + p ≡ b * 2 ^ 32 + q → (a ≡ b) × (p ≡ q)
+pub rank_parts : (a b p q : ℕ) → p < 2 ^ 64 → q < 2 ^ 64 → a * 2 ^ 64 + p ≡ b * 2 ^ 64 + q → (a ≡ b) × (p ≡ q)
 rank_parts a b p q small less same = (omega (arith, small, less, same), omega (arith, small, less, same))
 
 -- what one rank says of two chunks of a lane
@@ -55,10 +55,10 @@ pub follows_rank : (f : Format) (x y : Piece) → Follows f x y → (rank_of f y
 follows_rank Plain x y (lane, number, index, begin) = (let key = ap key_of number in omega (arith, key, index), begin)
 follows_rank Interleaved x y (lane, number, fragment) = (let key = ap key_of number in omega (arith, key, fragment), inside y.begin y.word (cond x.begin 0 x.word) fragment)
 
-next_key : (a b p q : ℕ) → p < 2 ^ 32 → q < 2 ^ 32 → b * 2 ^ 32 + q ≡ suc (a * 2 ^ 32 + p) → (q ≡ 0 → ⊥) → (a ≡ b) × (q ≡ suc p)
+next_key : (a b p q : ℕ) → p < 2 ^ 64 → q < 2 ^ 64 → b * 2 ^ 64 + q ≡ suc (a * 2 ^ 64 + p) → (q ≡ 0 → ⊥) → (a ≡ b) × (q ≡ suc p)
 next_key a b p q small less next some = (omega (arith, small, less, next, some), omega (arith, small, less, next, some))
 
-next_key_low : (a b p q : ℕ) → suc p < 2 ^ 32 → q < 2 ^ 32 → b * 2 ^ 32 + q ≡ suc (a * 2 ^ 32 + p) → (a ≡ b) × (q ≡ suc p)
+next_key_low : (a b p q : ℕ) → suc p < 2 ^ 64 → q < 2 ^ 64 → b * 2 ^ 64 + q ≡ suc (a * 2 ^ 64 + p) → (a ≡ b) × (q ≡ suc p)
 next_key_low a b p q small less next = (omega (arith, small, less, next), omega (arith, small, less, next))
 
 pub rank_follows : (f : Format) (l : Lane) (x y : Piece) → IsOf f l x → IsOf f l y → rank_of f y ≡ suc (rank_of f x) → begins_in f y.begin y.word ≡ false → Follows f x y

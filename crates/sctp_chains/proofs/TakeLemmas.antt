@@ -60,14 +60,14 @@ rank_has f kept c x xs o last r (low, high) =
     (p.0, p.1, ap (λ (k : Cell). k.rank) p.2 ∙ m.2)
 
 -- the ranks of one number
-pub in_number : (f : Format) (l : Lane) (x : Piece) → IsOf f l x → (n : ℕ) → key_of x.number ≡ n → (n * 2 ^ 32 ≤ rank_of f x) × (rank_of f x ≤ n * 2 ^ 32 + (2 ^ 32 - 1))
+pub in_number : (f : Format) (l : Lane) (x : Piece) → IsOf f l x → (n : ℕ) → key_of x.number ≡ n → (n * 2 ^ 64 ≤ rank_of f x) × (rank_of f x ≤ n * 2 ^ 64 + (2 ^ 64 - 1))
 in_number f l x of n key = let small = place_small f l x of in (omega (arith, key, small), omega (arith, key, small))
 
 pub some_number : (o : Option ℕ) → is_some o ≡ true → (n : ℕ) × (o ≡ Some n)
 some_number None e = absurd (cc)
 some_number (Some n) e = (n, refl)
 
-divided : (n p : ℕ) → p < 2 ^ 32 → (n * 2 ^ 32 + p) / 2 ^ 32 ≡ n
+divided : (n p : ℕ) → p < 2 ^ 64 → (n * 2 ^ 64 + p) / 2 ^ 64 ≡ n
 divided n p small = omega (arith, small)
 
 pub out_of_both : (low first last high r : ℕ) → low ≤ first → last ≤ high → is_outside low high r ≡ true → is_outside first last r ≡ true
@@ -76,7 +76,7 @@ out_of_both low first last high r above below e = grind (arith, above, below, e,
 -- ---- one number
 
 module _ (f : Format) (l : Lane) (cs : List ChainKept) (bytes : ℕ) (kept : List Piece) (h : KeepsLane f l cs bytes kept) where
-  pub chain_end : (c : ChainKept) (x : Piece) (xs : List Piece) → Has cs c → AreOf f kept c x xs → c.last ≤ rank_at x.number (2 ^ 32 - 1)
+  pub chain_end : (c : ChainKept) (x : Piece) (xs : List Piece) → Has cs c → AreOf f kept c x xs → c.last ≤ rank_at x.number (2 ^ 64 - 1)
   chain_end c x xs there o =
       let good = h.chains.each c there in
       let m = rank_has f kept c x xs o good.last c.last (chain_order c good, omega arith) in
@@ -89,7 +89,7 @@ module _ (f : Format) (l : Lane) (cs : List ChainKept) (bytes : ℕ) (kept : Lis
 
   -- the chain of a whole message of a number lies at the number's ranks
   chain_of_number : (n : ℕ) (y : Piece) (ys : List Piece) → IsWholeNumber f kept l n (y ∷ ys) →
-      (c : ChainKept) × Has cs c × (is_whole c ≡ true) × (rank_of f y ≡ c.first) × (n * 2 ^ 32 ≤ c.first) × (c.first ≤ n * 2 ^ 32 + (2 ^ 32 - 1))
+      (c : ChainKept) × Has cs c × (is_whole c ≡ true) × (rank_of f y ≡ c.first) × (n * 2 ^ 64 ≤ c.first) × (c.first ≤ n * 2 ^ 64 + (2 ^ 64 - 1))
   chain_of_number n y ys (whole, within, (lane, number)) =
       let m = whole_is_chain f l cs bytes kept h y ys whole within in
       let at = in_number f l y (h.of y (within y (inl refl))) n (ap key_of number) in
@@ -97,19 +97,19 @@ module _ (f : Format) (l : Lane) (cs : List ChainKept) (bytes : ℕ) (kept : Lis
       let low = at.0 in let high = at.1 in
       (m.0, m.1, m.2, rank, omega (arith, low, rank), omega (arith, high, rank))
 
-  no_whole : (n : ℕ) → ((c : ChainKept) → Has cs c → n * 2 ^ 32 ≤ c.first → c.first ≤ n * 2 ^ 32 + (2 ^ 32 - 1) → is_whole c ≡ false) → HasNoWhole f kept l n
+  no_whole : (n : ℕ) → ((c : ChainKept) → Has cs c → n * 2 ^ 64 ≤ c.first → c.first ≤ n * 2 ^ 64 + (2 ^ 64 - 1) → is_whole c ≡ false) → HasNoWhole f kept l n
   no_whole n none [] w = w.0
   no_whole n none (y ∷ ys) w =
       let m = chain_of_number n y ys w in
       let not_so = none m.0 m.1 m.4 m.5 in let yes_so = m.2 in cc
 
-  none_lowest : (from last : ℕ) → IsFirstWhole cs (rank_at (Some from) 0) (rank_at (Some last) (2 ^ 32 - 1)) None → (n : ℕ) → from ≤ n → n ≤ last → HasNoWhole f kept l n
+  none_lowest : (from last : ℕ) → IsFirstWhole cs (rank_at (Some from) 0) (rank_at (Some last) (2 ^ 64 - 1)) None → (n : ℕ) → from ≤ n → n ≤ last → HasNoWhole f kept l n
   none_lowest from last none n low high = no_whole n (λ c there a b. none c there (omega (arith, low, a)) (omega (arith, high, b)))
 
-  pub none_lowest_by : (from last low high : ℕ) → low ≡ rank_at (Some from) 0 → high ≡ rank_at (Some last) (2 ^ 32 - 1) → IsFirstWhole cs low high None →
+  pub none_lowest_by : (from last low high : ℕ) → low ≡ rank_at (Some from) 0 → high ≡ rank_at (Some last) (2 ^ 64 - 1) → IsFirstWhole cs low high None →
       (n : ℕ) → from ≤ n → n ≤ last → HasNoWhole f kept l n
   none_lowest_by from last low high a b none =
-      none_lowest from last (subst (λ (u : ℕ). IsFirstWhole cs u (rank_at (Some last) (2 ^ 32 - 1)) None) a (subst (λ (v : ℕ). IsFirstWhole cs low v None) b none))
+      none_lowest from last (subst (λ (u : ℕ). IsFirstWhole cs u (rank_at (Some last) (2 ^ 64 - 1)) None) a (subst (λ (v : ℕ). IsFirstWhole cs low v None) b none))
 
   first_place : (g : Format) (x y : Piece) → IsFirst g x → IsFirst g y → x.number ≡ y.number → rank_of g x ≤ rank_of g y → (x.index ≤ y.index) ⊎ (rank_of g x ≡ rank_of g y)
   first_place Plain x y a b number le = let key = ap key_of number in inl (omega (arith, key, le))
@@ -117,7 +117,7 @@ module _ (f : Format) (l : Lane) (cs : List ChainKept) (bytes : ℕ) (kept : Lis
 
   -- the lowest whole message is the one found, and what stays are the chunks above its number
   took_lowest : {F : Type 0} (from last : ℕ) (w : Found) (mid : List ChainKept) (b : ℕ) (d : ChainKept) (num high : ℕ) (m : Whole) (new : Chains F) → is_numbered f l.kind ≡ true →
-      IsFirstWhole cs (rank_at (Some from) 0) (rank_at (Some last) (2 ^ 32 - 1)) (Some w) → Removes w.at cs mid bytes b d → num ≡ d.first / 2 ^ 32 → high ≡ rank_at (Some num) (2 ^ 32 - 1) →
+      IsFirstWhole cs (rank_at (Some from) 0) (rank_at (Some last) (2 ^ 64 - 1)) (Some w) → Removes w.at cs mid bytes b d → num ≡ d.first / 2 ^ 64 → high ≡ rank_at (Some num) (2 ^ 64 - 1) →
       LetsGo high 0 mid (map chain_of new.filed.chains.items) b new.held → IsWholeOf d w.head (Some num) m → TakesLowest f l kept from last (Some m) new
   unfolding StandsFor
   took_lowest from last w mid b d num high m new numbered (c, at, low, up, before) taken num_is high_is lets says = (
@@ -154,21 +154,21 @@ module _ (f : Format) (l : Lane) (cs : List ChainKept) (bytes : ℕ) (kept : Lis
       first : rank_of f x ≡ c.first
       first = q.of.rank
 
-      rank_in : (n * 2 ^ 32 ≤ rank_of f x) × (rank_of f x ≤ n * 2 ^ 32 + (2 ^ 32 - 1))
+      rank_in : (n * 2 ^ 64 ≤ rank_of f x) × (rank_of f x ≤ n * 2 ^ 64 + (2 ^ 64 - 1))
       rank_in = in_number f l x of n (ap key_of number)
 
       same_num : num ≡ n
-      same_num = num_is ∙ ap (λ (e : ChainKept). e.first / 2 ^ 32) q.same ∙ ap (λ (r : ℕ). r / 2 ^ 32) (sym first ∙ ap (λ (k : ℕ). k * 2 ^ 32 + place_in f x.index x.begin x.word) (ap key_of number))
+      same_num = num_is ∙ ap (λ (e : ChainKept). e.first / 2 ^ 64) q.same ∙ ap (λ (r : ℕ). r / 2 ^ 64) (sym first ∙ ap (λ (k : ℕ). k * 2 ^ 64 + place_in f x.index x.begin x.word) (ap key_of number))
           ∙ divided n (place_in f x.index x.begin x.word) (place_small f l x of)
 
       top : ℕ
-      top = rank_at (Some n) (2 ^ 32 - 1)
+      top = rank_at (Some n) (2 ^ 64 - 1)
 
       high_top : high ≡ top
-      high_top = high_is ∙ ap (λ (i : ℕ). rank_at (Some i) (2 ^ 32 - 1)) same_num
+      high_top = high_is ∙ ap (λ (i : ℕ). rank_at (Some i) (2 ^ 64 - 1)) same_num
 
       inside_top : c.last ≤ top
-      inside_top = subst (λ (i : Option ℕ). c.last ≤ rank_at i (2 ^ 32 - 1)) number (chain_end c x q.rest q.here q.of)
+      inside_top = subst (λ (i : Option ℕ). c.last ≤ rank_at i (2 ^ 64 - 1)) number (chain_end c x q.rest q.here q.of)
 
       leaves : Leaves (is_outside 0 top) cs (map chain_of new.filed.chains.items) bytes new.held
       leaves = leaves_both (is_outside c.first c.last) (is_outside 0 top) cs mid (map chain_of new.filed.chains.items) bytes b new.held q.out
@@ -193,9 +193,9 @@ module _ (f : Format) (l : Lane) (cs : List ChainKept) (bytes : ℕ) (kept : Lis
                 omega (arith, is)
           ]
 
-  pub took_lowest_by : {F : Type 0} (from last lower upper : ℕ) → lower ≡ rank_at (Some from) 0 → upper ≡ rank_at (Some last) (2 ^ 32 - 1) → (w : Found) (mid : List ChainKept) (b : ℕ) (d : ChainKept)
-      (num high : ℕ) (m : Whole) (new : Chains F) → is_numbered f l.kind ≡ true → IsFirstWhole cs lower upper (Some w) → Removes w.at cs mid bytes b d → num ≡ d.first / 2 ^ 32 →
-      high ≡ rank_at (Some num) (2 ^ 32 - 1) → LetsGo high 0 mid (map chain_of new.filed.chains.items) b new.held → IsWholeOf d w.head (Some num) m → TakesLowest f l kept from last (Some m) new
+  pub took_lowest_by : {F : Type 0} (from last lower upper : ℕ) → lower ≡ rank_at (Some from) 0 → upper ≡ rank_at (Some last) (2 ^ 64 - 1) → (w : Found) (mid : List ChainKept) (b : ℕ) (d : ChainKept)
+      (num high : ℕ) (m : Whole) (new : Chains F) → is_numbered f l.kind ≡ true → IsFirstWhole cs lower upper (Some w) → Removes w.at cs mid bytes b d → num ≡ d.first / 2 ^ 64 →
+      high ≡ rank_at (Some num) (2 ^ 64 - 1) → LetsGo high 0 mid (map chain_of new.filed.chains.items) b new.held → IsWholeOf d w.head (Some num) m → TakesLowest f l kept from last (Some m) new
   took_lowest_by from last lower upper e g w mid b d num high m new numbered found taken num_is high_is lets says =
       took_lowest from last w mid b d num high m new numbered
-      (subst (λ (u : ℕ). IsFirstWhole cs u (rank_at (Some last) (2 ^ 32 - 1)) (Some w)) e (subst (λ (v : ℕ). IsFirstWhole cs lower v (Some w)) g found)) taken num_is high_is lets says
+      (subst (λ (u : ℕ). IsFirstWhole cs u (rank_at (Some last) (2 ^ 64 - 1)) (Some w)) e (subst (λ (v : ℕ). IsFirstWhole cs lower v (Some w)) g found)) taken num_is high_is lets says

@@ -32,9 +32,9 @@ use Rattle.sctp_chains.proofs.TakeLemmas.{made, rank_has, in_number, out_of_both
 -- the highest rank of what goes with a whole chain
 abbrev pub top_of : Format → ChainKept → Option ℕ → ℕ
 top_of Plain c n = c.last
-top_of Interleaved c n = rank_at n (2 ^ 32 - 1)
+top_of Interleaved c n = rank_at n (2 ^ 64 - 1)
 
-pub top_numbered : (f : Format) → is_numbered f Unordered ≡ true → (c : ChainKept) (n : Option ℕ) → rank_at n (2 ^ 32 - 1) ≡ top_of f c n
+pub top_numbered : (f : Format) → is_numbered f Unordered ≡ true → (c : ChainKept) (n : Option ℕ) → rank_at n (2 ^ 64 - 1) ≡ top_of f c n
 top_numbered Plain e c n = absurd (let no_way : false ≡ true = e in cc)
 top_numbered Interleaved e c n = refl
 
@@ -58,7 +58,7 @@ index_none (x ∷ xs) i none = elim (cases_Bool (x.index == i)) [
 ]
 
 -- a number's ranks tell it
-key_within : (a b p : ℕ) → p < 2 ^ 32 → b * 2 ^ 32 ≤ a * 2 ^ 32 + p → a * 2 ^ 32 + p ≤ b * 2 ^ 32 + (2 ^ 32 - 1) → a ≡ b
+key_within : (a b p : ℕ) → p < 2 ^ 64 → b * 2 ^ 64 ≤ a * 2 ^ 64 + p → a * 2 ^ 64 + p ≤ b * 2 ^ 64 + (2 ^ 64 - 1) → a ≡ b
 key_within a b p small low high = omega (arith, small, low, high)
 
 module _ (f : Format) (l : Lane) (cs : List ChainKept) (bytes : ℕ) (kept : List Piece) (h : KeepsLane f l cs bytes kept) where
@@ -96,16 +96,16 @@ plain_agrees l cs bytes kept h c x xs there o z here = elim (cases_Bool (is_outs
 ]
 
 numbered_agrees : (l : Lane) (cs : List ChainKept) (bytes : ℕ) (kept : List Piece) → KeepsLane Interleaved l cs bytes kept → (c : ChainKept) (x : Piece) (xs : List Piece) → AreOf Interleaved kept c x xs →
-    (z : Piece) → Has kept z → not (same_lane z.lane x.lane && same_number z.number x.number) ≡ is_outside c.first (rank_at x.number (2 ^ 32 - 1)) (rank_of Interleaved z)
+    (z : Piece) → Has kept z → not (same_lane z.lane x.lane && same_number z.number x.number) ≡ is_outside c.first (rank_at x.number (2 ^ 64 - 1)) (rank_of Interleaved z)
 numbered_agrees l cs bytes kept h c x xs o z here = rw lane (elim (cases_Bool (same_number z.number x.number)) [
   | inl e ↦
       let at = in_number Interleaved l z of_z (key_of x.number) (ap key_of ((same_numbers z.number x.number).1 e)) in
-      let within = inside c.first (rank_at x.number (2 ^ 32 - 1)) (rank_of Interleaved z) (let low = at.0 in omega (arith, low, first)) (let high = at.1 in omega (arith, high)) in
+      let within = inside c.first (rank_at x.number (2 ^ 64 - 1)) (rank_of Interleaved z) (let low = at.0 in omega (arith, low, first)) (let high = at.1 in omega (arith, high)) in
       rw (e, within) refl
-  | inr e ↦ elim (cases_Bool (is_outside c.first (rank_at x.number (2 ^ 32 - 1)) (rank_of Interleaved z))) [
+  | inr e ↦ elim (cases_Bool (is_outside c.first (rank_at x.number (2 ^ 64 - 1)) (rank_of Interleaved z))) [
     | inl out ↦ rw (e, out) refl
     | inr within ↦
-        let at = inside_says c.first (rank_at x.number (2 ^ 32 - 1)) (rank_of Interleaved z) within in
+        let at = inside_says c.first (rank_at x.number (2 ^ 64 - 1)) (rank_of Interleaved z) within in
         let key = key_within (key_of z.number) (key_of x.number) (place_in Interleaved z.index z.begin z.word) (place_small Interleaved l z of_z)
         (let low = at.0 in omega (arith, low, first)) (let high = at.1 in omega (arith, high)) in
         let same = (same_numbers z.number x.number).0 (one_number _ z.number x.number of_z.numbered of_x.numbered key) in
@@ -123,7 +123,7 @@ numbered_agrees l cs bytes kept h c x xs o z here = rw lane (elim (cases_Bool (s
     lane = lane_same z.lane x.lane (of_z.lane ∙ sym of_x.lane)
 
     -- the message begins at the lowest rank of its number
-    first : c.first ≡ key_of x.number * 2 ^ 32
+    first : c.first ≡ key_of x.number * 2 ^ 64
     first = let zero_place = o.whole.0 in let rank = o.rank in omega (arith, zero_place, rank)
 
 goes_agrees : (f : Format) (l : Lane) (cs : List ChainKept) (bytes : ℕ) (kept : List Piece) → KeepsLane f l cs bytes kept → (c : ChainKept) (x : Piece) (xs : List Piece) → Has cs c → AreOf f kept c x xs →
@@ -131,7 +131,7 @@ goes_agrees : (f : Format) (l : Lane) (cs : List ChainKept) (bytes : ℕ) (kept 
 goes_agrees Plain l cs bytes kept h c x xs there o z here = plain_agrees l cs bytes kept h c x xs there o z here
 goes_agrees Interleaved l cs bytes kept h c x xs there o z here = numbered_agrees l cs bytes kept h c x xs o z here
 
-top_high : (f : Format) (c : ChainKept) (n : Option ℕ) → c.last ≤ rank_at n (2 ^ 32 - 1) → c.last ≤ top_of f c n
+top_high : (f : Format) (c : ChainKept) (n : Option ℕ) → c.last ≤ rank_at n (2 ^ 64 - 1) → c.last ≤ top_of f c n
 top_high Plain c n le = omega arith
 top_high Interleaved c n le = le
 

@@ -18,7 +18,7 @@ key_of (Some n) = n
 
 -- where a fragment stands in its lane: by its message's number, then by its place in the message
 abbrev pub rank_at : Option ℕ → (place : ℕ) → ℕ
-rank_at n place = key_of n * 2 ^ 32 + place
+rank_at n place = key_of n * 2 ^ 64 + place
 
 -- where a chunk stands: the place is its index or, under I-DATA, its fragment number
 abbrev pub rank_of : Format → Piece → ℕ
@@ -52,7 +52,7 @@ abbrev pub IsLowestIndex : Kept → Option ℕ → Type 0
 IsLowestIndex kept None = kept ≡ []
 IsLowestIndex kept (Some i) = ((x : Piece) → Has kept x → i ≤ x.index) × ((x : Piece) × Has kept x × (x.index ≡ i))
 
--- A chunk of the lane, with a number exactly where its format numbers the lane, and with counts that 32 bits hold.
+-- A chunk of the lane, with a number exactly where its format numbers the lane, and with counts that 64 bits hold.
 pub record IsOf (f : Format) (l : Lane) (x : Piece) : Type 0 where
   pub lane : x.lane ≡ l
   pub numbered : is_some x.number ≡ is_numbered f l.kind

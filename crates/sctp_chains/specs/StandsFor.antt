@@ -1,7 +1,6 @@
 -- Which chains stand for which kept chunks of one lane.
-use Rattle.std.specs.Prelude.{◌≡◌, ℕ, ◌+◌, ◌<◌, List, map, length}
+use Rattle.std.specs.Prelude.{◌≡◌, ℕ, ◌+◌, ◌^◌, ◌<◌, List, map, length}
 use Rattle.sctp_model.specs.numbers.Lists.{Has}
-use Rattle.sctp_model.specs.numbers.Serial.{COUNTS}
 use Rattle.sctp_model.specs.messages.Format.{Format, Lane}
 use Rattle.sctp_model.specs.messages.Pieces.{Piece}
 use Rattle.sctp_model.specs.receiver.ReceiverView.{size_of_pieces}
@@ -31,8 +30,8 @@ chain_count r = length r.filed.chains.items
 unfoldable pub whole_count : {F : Type 0} → Chains F → ℕ
 whole_count r = r.filed.whole
 
--- A chunk of the lane for a place that none fills, and all bytes can be counted.
+-- A chunk of the lane for a place that none fills, and 32 bits count all bytes.
 pub record IsNew (f : Format) (l : Lane) (kept : List Piece) (x : Piece) : Type 0 where
   pub of : IsOf f l x
   pub free : (y : Piece) → Has kept y → IsOnePlace f x y → ⊥
-  pub fits : size_of_pieces kept + length x.bytes < COUNTS
+  pub fits : size_of_pieces kept + length x.bytes < 2 ^ 32

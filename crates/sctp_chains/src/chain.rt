@@ -14,15 +14,15 @@ use std::mem::replace;
 /// What the chunk that begins a message says of it: its own index, and the payload protocol identifier.
 #[derive(Clone, Copy)]
 pub(crate) struct Head {
-    pub(crate) index: u32,
+    pub(crate) index: u64,
     pub(crate) payload_id: u32,
 }
 
 /// Fragments of consecutive ranks. Only with the first may a message begin, and only with the last may one end.
 #[derive(Drop)]
 pub(crate) struct Chain {
-    pub(crate) first: u64,
-    pub(crate) last: u64,
+    pub(crate) first: u128,
+    pub(crate) last: u128,
     pub(crate) head: Option<Head>,
     pub(crate) ends: bool,
     pub(crate) parts: VecDeque<Vec<u8>>,
@@ -31,7 +31,7 @@ pub(crate) struct Chain {
 /// One fragment, to be filed.
 #[derive(Drop)]
 pub(crate) struct Part {
-    pub(crate) rank: u64,
+    pub(crate) rank: u128,
     pub(crate) head: Option<Head>,
     pub(crate) end: bool,
     pub(crate) data: Vec<u8>,

@@ -62,17 +62,17 @@ impl<F: Framing> Chains<F> {
     }
 
     /// The lowest index of the chunks kept, in a lane whose messages have no number: none exactly where none is kept.
-    pub fn lowest_index(&self) -> Option<u32>
+    pub fn lowest_index(&self) -> Option<u64>
         ensures { (l : Lane) (kept : Kept) → StandsFor F.format self.now l kept → is_numbered F.format l.kind ≡ false → IsLowestIndex kept result }
     {
         if self.filed.chains.len() == 0 {
             return None;
         }
-        Some((self.filed.chains.get(0).first % 4_294_967_296) as u32)
+        Some((self.filed.chains.get(0).first % 18_446_744_073_709_551_616) as u64)
     }
 
     /// Whether this fragment of this message is kept already, where that can be: under DATA a fragment is its TSN.
-    pub fn is_held(&self, piece: &Piece<'_>, number: Option<u32>) -> bool
+    pub fn is_held(&self, piece: &Piece<'_>, number: Option<u64>) -> bool
         ensures { (i : ℕ) (l : Lane) (kept : Kept) → StandsFor F.format self.now l kept → IsOf F.format l (counted i (piece_meaning piece.now) number)
             → result ≡ is_repeated F.format kept (counted i (piece_meaning piece.now) number) }
     {
@@ -91,8 +91,8 @@ impl<F: Framing> Chains<F> {
     pub fn add(
         &mut self,
         piece: &Piece<'_>,
-        index: u32,
-        number: Option<u32>,
+        index: u64,
+        number: Option<u64>,
     ) -> Result<(), NoMemory>
         ensures kept { (l : Lane) (kept : Kept) → StandsFor F.format self.old l kept → IsNew F.format l kept (counted index (piece_meaning piece.now) number)
             → OnOk result (StandsFor F.format self.new l (counted index (piece_meaning piece.now) number ∷ kept)) }
@@ -114,8 +114,8 @@ impl<F: Framing> Chains<F> {
     pub fn alone(
         &self,
         piece: &Piece<'_>,
-        index: u32,
-        number: u32,
+        index: u64,
+        number: u64,
     ) -> Result<Option<Whole>, NoMemory>
         ensures { (l : Lane) (kept : Kept) → StandsFor F.format self.now l kept → IsNew F.format l kept (counted index (piece_meaning piece.now) (Some number))
             → is_numbered F.format l.kind ≡ true
@@ -134,32 +134,32 @@ impl<F: Framing> Chains<F> {
     }
 
     /// Whether no chunk of this number or a lower one is kept.
-    fn is_above(&self, number: u32) -> bool
+    fn is_above(&self, number: u64) -> bool
         ensures { (l : Lane) (kept : Kept) → StandsFor F.format self.now l kept → is_numbered F.format l.kind ≡ true → result ≡ true → AreAbove number kept }
     {
         self.filed.chains.is_empty()
-            || rank_at(Some(number), u32::MAX) < self.filed.chains.get(0).first
+            || rank_at(Some(number), u64::MAX) < self.filed.chains.get(0).first
     }
 
     /// Takes the whole message with the lowest number within these bounds, and lets go of all chunks up to its number. Of several with one
     /// number, which an honest peer never sends, it is the one that begins with the lowest index.
-    pub fn take_lowest(&mut self, from: u32, last: u32) -> Option<Whole>
+    pub fn take_lowest(&mut self, from: u64, last: u64) -> Option<Whole>
         ensures taken { (l : Lane) (kept : Kept) → StandsFor F.format self.old l kept → is_numbered F.format l.kind ≡ true
             → TakesLowest F.format l kept from last result self.new }
         ensures count { OnSome result (suc (chain_count self.new) ≤ chain_count self.old) }
         ensures whole { (l : Lane) (kept : Kept) → StandsFor F.format self.old l kept → OnSome result (suc (whole_count self.new) ≤ whole_count self.old) }
     {
         let lower = rank_at(Some(from), 0);
-        let found = self.filed.find(lower, rank_at(Some(last), u32::MAX))?;
+        let found = self.filed.find(lower, rank_at(Some(last), u64::MAX))?;
         let chain = self.filed.remove(&mut self.held, found.at)?;
-        let number = (chain.first / 4_294_967_296) as u32;
-        let upto = rank_at(Some(number), u32::MAX);
+        let number = (chain.first / 18_446_744_073_709_551_616) as u64;
+        let upto = rank_at(Some(number), u64::MAX);
         self.held = self.filed.drop_upto(self.held, 0, upto);
         Some(whole_of(chain, found.head, Some(number)))
     }
 
     /// Takes the whole message that this chunk is one of, and lets go of what goes with it: under I-DATA all chunks of its number.
-    pub fn take_with(&mut self, piece: &Piece<'_>, index: u32, number: Option<u32>) -> Option<Whole>
+    pub fn take_with(&mut self, piece: &Piece<'_>, index: u64, number: Option<u64>) -> Option<Whole>
         ensures taken { (l : Lane) (kept : Kept) → StandsFor F.format self.old l kept → Has kept (counted index (piece_meaning piece.now) number)
             → TakesWith F.format l kept (counted index (piece_meaning piece.now) number) result self.new }
         ensures count { OnSome result (suc (chain_count self.new) ≤ chain_count self.old) }
@@ -168,7 +168,7 @@ impl<F: Framing> Chains<F> {
         let found = whole_with(&self.filed.chains, rank_at(number, place))?;
         let chain = self.filed.remove(&mut self.held, found.at)?;
         let upto = if F::is_numbered(Kind::Unordered) {
-            rank_at(number, u32::MAX)
+            rank_at(number, u64::MAX)
         } else {
             chain.last
         };
@@ -177,19 +177,19 @@ impl<F: Framing> Chains<F> {
     }
 
     /// Lets go of the chunks below a number, in a lane that is numbered.
-    pub fn drop_below(&mut self, number: u32)
+    pub fn drop_below(&mut self, number: u64)
         ensures { (l : Lane) (kept : Kept) → StandsFor F.format self.old l kept → is_numbered F.format l.kind ≡ true
             → StandsFor F.format self.new l (from_number number kept) }
     {
         if let Some(last) = number.checked_sub(1) {
-            let upto = rank_at(Some(last), u32::MAX);
+            let upto = rank_at(Some(last), u64::MAX);
             self.held = self.filed.drop_upto(self.held, 0, upto);
         }
     }
 
     /// Lets go of the unordered chunks that a FORWARD leaves behind: those up to its index or, where they are numbered, those below
     /// one past the largest number skipped.
-    pub fn let_go(&mut self, jump: u32, skip: u32)
+    pub fn let_go(&mut self, jump: u64, skip: u64)
         ensures { (l : Lane) (kept : Kept) → StandsFor F.format self.old l kept → l.kind ≡ Unordered
             → StandsFor F.format self.new l (filter (λ x. not (lets_go F.format x.index x.number jump skip)) kept) }
     {
@@ -208,8 +208,8 @@ impl<F: Framing> Chains<F> {
 fn part_of<F: Framing>(
     alloc: Global,
     piece: &Piece<'_>,
-    index: u32,
-    number: Option<u32>,
+    index: u64,
+    number: Option<u64>,
 ) -> Result<Part, NoMemory>
     ensures { IfOk result (λ p. cells_in (one_of p) ≡ cell_of F.format (counted index (piece_meaning piece.now) number) ∷ []) }
 {

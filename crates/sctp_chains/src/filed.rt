@@ -74,7 +74,7 @@ impl Filed {
 
     /// From a place on, lets go of all fragments of ranks up to this one. Where none lies there, as at most messages, that is all in line.
     #[inline(always)]
-    pub(crate) fn drop_upto(&mut self, held: u32, at: usize, upto: u64) -> u32
+    pub(crate) fn drop_upto(&mut self, held: u32, at: usize, upto: u128) -> u32
         ensures fewer { length self.new.chains.items ≤ length self.old.chains.items }
         ensures whole { self.new.whole ≡ self.old.whole }
         ensures left { LetsGo upto at (map chain_of self.old.chains.items) (map chain_of self.new.chains.items) held result }
@@ -94,7 +94,7 @@ impl Filed {
 
     /// The first whole message that begins with one of these ranks. Where no chain is whole it looks at none.
     #[inline(always)]
-    pub(crate) fn first_whole(&self, from: u64, last: u64) -> Looked
+    pub(crate) fn first_whole(&self, from: u128, last: u128) -> Looked
         ensures found { AreChains (map chain_of self.now.chains.items) → IsFirstWhole (map chain_of self.now.chains.items) from last result.found }
         ensures passed { AreOpen result.passed (map chain_of self.now.chains.items) }
     {
@@ -109,7 +109,7 @@ impl Filed {
 
     /// The same, and it notes which chains needn't be looked at again.
     #[inline(always)]
-    pub(crate) fn find(&mut self, from: u64, last: u64) -> Option<Found>
+    pub(crate) fn find(&mut self, from: u128, last: u128) -> Option<Found>
         ensures same { self.new.chains.items ≡ self.old.chains.items }
         ensures whole { self.new.whole ≡ self.old.whole }
         ensures found { AreChains (map chain_of self.old.chains.items) → IsFirstWhole (map chain_of self.old.chains.items) from last result }

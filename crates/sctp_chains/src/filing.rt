@@ -10,7 +10,7 @@ use sctp_values::NoMemory;
 use std::alloc::Global;
 
 /// How many chains lie below a rank.
-pub(crate) fn place(chains: &Sequence<Chain>, rank: u64) -> usize
+pub(crate) fn place(chains: &Sequence<Chain>, rank: u128) -> usize
     ensures bound { result ≤ length chains.now.items }
     ensures place { AreChains (map chain_of chains.now.items) → IsPlace rank (map chain_of chains.now.items) result }
 {

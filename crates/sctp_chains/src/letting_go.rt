@@ -54,7 +54,7 @@ pub(crate) fn remove(chains: &mut Sequence<Chain>, held: &mut u32, at: usize) ->
 }
 
 /// From a place on, lets go of all fragments of ranks up to this one: where no chain stays, of all at once, and then no byte is held.
-pub(crate) fn drop_upto(chains: &mut Sequence<Chain>, held: u32, at: usize, upto: u64) -> u32
+pub(crate) fn drop_upto(chains: &mut Sequence<Chain>, held: u32, at: usize, upto: u128) -> u32
     ensures fewer { length chains.new.items ≤ length chains.old.items }
     ensures whole { whole_in (map chain_of chains.new.items) ≤ whole_in (map chain_of chains.old.items) }
     ensures passed { (k : ℕ) → AreOpen k (map chain_of chains.old.items) → AreOpen (k - (length chains.old.items - length chains.new.items)) (map chain_of chains.new.items) }
@@ -69,7 +69,7 @@ pub(crate) fn drop_upto(chains: &mut Sequence<Chain>, held: u32, at: usize, upto
 }
 
 /// The same, one chain after another.
-fn drop_each(chains: &mut Sequence<Chain>, held: u32, at: usize, upto: u64) -> u32
+fn drop_each(chains: &mut Sequence<Chain>, held: u32, at: usize, upto: u128) -> u32
     ensures fewer { length chains.new.items ≤ length chains.old.items }
     ensures whole { whole_in (map chain_of chains.new.items) ≤ whole_in (map chain_of chains.old.items) }
     ensures passed { (k : ℕ) → AreOpen k (map chain_of chains.old.items) → AreOpen (k - (length chains.old.items - length chains.new.items)) (map chain_of chains.new.items) }
@@ -91,7 +91,7 @@ fn drop_each(chains: &mut Sequence<Chain>, held: u32, at: usize, upto: u64) -> u
 }
 
 /// Lets go of a chain's fragments of ranks up to this one, and keeps those behind.
-fn trim(chain: &mut Chain, held: u32, upto: u64) -> u32
+fn trim(chain: &mut Chain, held: u32, upto: u128) -> u32
     ensures trimmed { Trims upto (chain_of chain.old) (chain_of chain.new) held result }
     ensures whole { one_if_whole (chain_of chain.new) ≤ one_if_whole (chain_of chain.old) }
 {
@@ -99,11 +99,11 @@ fn trim(chain: &mut Chain, held: u32, upto: u64) -> u32
     if last <= upto {
         return held;
     }
-    let passed = upto.saturating_sub(chain.first) as usize;
-    let gone = passed.saturating_add(1);
-    if gone >= chain.parts.len() {
+    let count = upto.saturating_sub(chain.first).saturating_add(1);
+    if count >= chain.parts.len() as u128 {
         return held;
     }
+    let gone = count as usize;
     let stay = chain.parts.len() - gone;
     let left = less(held, &chain.parts, gone);
     chain.parts.rotate_left(gone);

@@ -24,7 +24,7 @@ pub(crate) struct Looked {
 }
 
 /// How many chains begin below a rank.
-fn start(chains: &Sequence<Chain>, rank: u64) -> usize
+fn start(chains: &Sequence<Chain>, rank: u128) -> usize
     ensures bound { result ≤ length chains.now.items }
     ensures place { AreChains (map chain_of chains.now.items) → IsStart rank (map chain_of chains.now.items) result }
 {
@@ -48,7 +48,7 @@ fn whole_at(chains: &Sequence<Chain>, at: usize) -> Option<Found>
 }
 
 /// The whole message that the fragment of a rank is one of.
-pub(crate) fn whole_with(chains: &Sequence<Chain>, rank: u64) -> Option<Found>
+pub(crate) fn whole_with(chains: &Sequence<Chain>, rank: u128) -> Option<Found>
     ensures { AreChains (map chain_of chains.now.items) → IsWholeWithRank (map chain_of chains.now.items) rank result }
 {
     let at = place(chains, rank);
@@ -60,7 +60,7 @@ pub(crate) fn whole_with(chains: &Sequence<Chain>, rank: u64) -> Option<Found>
 
 /// The place of the first chain, from one on, that is a whole message or begins past a rank; how many there are, where none is.
 #[inline(always)]
-fn stop(chains: &Sequence<Chain>, from: usize, last: u64) -> usize
+fn stop(chains: &Sequence<Chain>, from: usize, last: u128) -> usize
     ensures { IsStop last (map chain_of chains.now.items) from result }
 {
     for at in from..chains.len() {
@@ -75,7 +75,7 @@ fn stop(chains: &Sequence<Chain>, from: usize, last: u64) -> usize
 /// The first whole message that begins with one of these ranks, where so many chains at the front are known to be none: it looks at no
 /// chain before the first rank, and at none of these. Its callers have it in line, since one of them runs for each message.
 #[inline(always)]
-pub(crate) fn first_whole(chains: &Sequence<Chain>, passed: usize, from: u64, last: u64) -> Looked
+pub(crate) fn first_whole(chains: &Sequence<Chain>, passed: usize, from: u128, last: u128) -> Looked
     ensures found { AreChains (map chain_of chains.now.items) → AreOpen passed (map chain_of chains.now.items)
         → IsFirstWhole (map chain_of chains.now.items) from last result.found }
     ensures passed { AreOpen passed (map chain_of chains.now.items) → AreOpen result.passed (map chain_of chains.now.items) }

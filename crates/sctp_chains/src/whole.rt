@@ -9,9 +9,9 @@ use crate::chain::{Chain, Head};
 #[derive(Debug, Drop)]
 pub struct Whole {
     /// The index of its first chunk.
-    pub first: u32,
+    pub first: u64,
     /// Its number in its lane; None for an unordered message under DATA.
-    pub number: Option<u32>,
+    pub number: Option<u64>,
     /// The payload protocol identifier.
     pub payload_id: u32,
     /// The data of its fragments, first to last.
@@ -20,7 +20,7 @@ pub struct Whole {
 
 /// A chain as the whole message that it is.
 #[inline(always)]
-pub(crate) fn whole_of(chain: Chain, head: Head, number: Option<u32>) -> Whole
+pub(crate) fn whole_of(chain: Chain, head: Head, number: Option<u64>) -> Whole
     ensures { IsWholeOf (chain_of chain) head number result }
 {
     Whole {

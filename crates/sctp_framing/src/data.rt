@@ -30,7 +30,7 @@ impl Framing for DataFraming {
         DATA_HEADER
     }
 
-    fn wire_number(kind: Kind, number: u32) -> u32 {
+    fn wire_number(kind: Kind, number: u64) -> u32 {
         let ssn = u32::from(S16::of_count(number).0);
         match kind {
             Kind::Ordered => ssn,
@@ -58,14 +58,14 @@ impl Framing for DataFraming {
         SkipForm::Narrow
     }
 
-    fn number_near(kind: Kind, wire: u32, reference: u32) -> Option<u32> {
+    fn number_near(kind: Kind, wire: u32, reference: u64) -> Option<u64> {
         match kind {
-            Kind::Ordered => as_number(S16::of_count(wire).near(reference)),
+            Kind::Ordered => as_number(S16::of_count(u64::from(wire)).near(reference)),
             Kind::Unordered => None,
         }
     }
 
-    fn place(index: u32, _begin: bool, _word: u32) -> u32 {
+    fn place(index: u64, _begin: bool, _word: u32) -> u64 {
         index
     }
 
@@ -77,7 +77,7 @@ impl Framing for DataFraming {
         word
     }
 
-    fn lets_go(index: u32, _number: Option<u32>, jump: u32, _skip: u32) -> bool {
+    fn lets_go(index: u64, _number: Option<u64>, jump: u64, _skip: u64) -> bool {
         index <= jump
     }
 }

@@ -31,7 +31,7 @@ pub trait Framing {
         ensures { result ≡ header_of format };
 
     /// What stands on the wire for a message's number: an SSN, 0 for an unordered DATA, or a MID (RFC 9260, 6.5; RFC 8260, 2.1).
-    fn wire_number(kind: Kind, number: u32) -> u32
+    fn wire_number(kind: Kind, number: u64) -> u32
         ensures { result ≡ wire_number format (kind_meaning kind) number };
 
     /// The word of a fragment: the payload id, or behind an I-DATA message's first fragment the fragment number (RFC 9260, 3.3.1; RFC 8260, 2.1).
@@ -59,12 +59,12 @@ pub trait Framing {
 
     /// The number that a wire value stands for near a reference, of a chunk or of an entry of a FORWARD (RFC 9260, 2.6 and 6.5; RFC 8260, 2.1).
     ///
-    /// None where the format has none, where no count is near, and for a count of 2^32 - 1.
-    fn number_near(kind: Kind, wire: u32, reference: u32) -> Option<u32>
+    /// None where the format has none, where no count is near, and for a count of 2^64 - 1.
+    fn number_near(kind: Kind, wire: u32, reference: u64) -> Option<u64>
         ensures { result ≡ number_near format (kind_meaning kind) wire reference };
 
     /// What rises by one from a fragment of a message to the next: the index, or the fragment number (RFC 9260, 6.9; RFC 8260, 2.1).
-    fn place(index: u32, begin: bool, word: u32) -> u32
+    fn place(index: u64, begin: bool, word: u32) -> u64
         ensures { result ≡ place_in format index begin word };
 
     /// Whether a message begins with a chunk of this flag B and this word: with B or, under I-DATA, as fragment 0 (RFC 9260, 3.3.1; RFC 8260, 2.1).
@@ -78,7 +78,7 @@ pub trait Framing {
     /// Whether a kept unordered chunk is left behind by a FORWARD, and goes where its message isn't whole: by its index,
     /// which is then at most the largest index of a FORWARD, or by its number, which is then below one past the largest number skipped
     /// (RFC 3758, 3.6; RFC 8260, 2.3.1).
-    fn lets_go(index: u32, number: Option<u32>, jump: u32, skip: u32) -> bool
+    fn lets_go(index: u64, number: Option<u64>, jump: u64, skip: u64) -> bool
         ensures { result ≡ lets_go format index number jump skip };
 
     // ---- laws

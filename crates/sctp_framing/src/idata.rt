@@ -30,8 +30,8 @@ impl Framing for IDataFraming {
         I_DATA_HEADER
     }
 
-    fn wire_number(_kind: Kind, number: u32) -> u32 {
-        number
+    fn wire_number(_kind: Kind, number: u64) -> u32 {
+        S32::of_count(number).0
     }
 
     fn wire_word(payload: u32, fragment: u32) -> u32 {
@@ -54,12 +54,12 @@ impl Framing for IDataFraming {
         SkipForm::Wide
     }
 
-    fn number_near(_kind: Kind, wire: u32, reference: u32) -> Option<u32> {
+    fn number_near(_kind: Kind, wire: u32, reference: u64) -> Option<u64> {
         as_number(S32(wire).near(reference))
     }
 
-    fn place(_index: u32, begin: bool, word: u32) -> u32 {
-        if begin { 0 } else { word }
+    fn place(_index: u64, begin: bool, word: u32) -> u64 {
+        if begin { 0 } else { u64::from(word) }
     }
 
     fn begins(begin: bool, word: u32) -> bool {
@@ -70,7 +70,7 @@ impl Framing for IDataFraming {
         if begin { word } else { 0 }
     }
 
-    fn lets_go(_index: u32, number: Option<u32>, _jump: u32, skip: u32) -> bool {
+    fn lets_go(_index: u64, number: Option<u64>, _jump: u64, skip: u64) -> bool {
         match number {
             Some(number) => number < skip,
             None => false,

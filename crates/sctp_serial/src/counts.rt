@@ -14,7 +14,7 @@ pub trait Serial: Copy {
     ghost wire: { Self → ℕ };
 
     /// The wire value of a count: the count modulo 2^16 or 2^32 (RFC 9260, 2.6).
-    fn of_count(count: u32) -> Self
+    fn of_count(count: u64) -> Self
         ensures { wire result ≡ wire_value bits count };
 
     /// How far the other value lies ahead of this one: so many steps forward on the circle lead to it (RFC 1982, 3.2).
@@ -30,7 +30,7 @@ pub trait Serial: Copy {
     /// The count that has this wire value and lies less than half the space from the reference.
     ///
     /// None where there is no such count: at half the space, and where it would be below 0 or above the largest count.
-    fn near(self, reference: u32) -> Option<u32>
+    fn near(self, reference: u64) -> Option<u64>
         ensures answer { IsNearAnswer bits (wire self) reference result }
         ensures exact { result ≡ near bits (wire self) reference };
 

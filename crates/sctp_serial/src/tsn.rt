@@ -7,18 +7,20 @@ use crate::counts::Serial;
 use crate::widths::S32;
 
 /// The TSN of an index, where `initial` is the TSN of index 1. Index 0 stands for the TSN before that one.
-pub fn tsn_of(initial: u32, index: u32) -> u32
+pub fn tsn_of(initial: u32, index: u64) -> u32
     ensures { result ≡ tsn initial index }
 {
-    initial.wrapping_add(index).wrapping_sub(1)
+    let steps = S32::of_count(index).0;
+    initial.wrapping_add(steps).wrapping_sub(1)
 }
 
 /// The index as far ahead of a known one as a TSN lies ahead of that one's.
 ///
 /// None where no count is so large. A TSN that comes before that of the known index lies more than half the space ahead of it:
 /// ask `before` first.
-pub fn index_ahead(initial: u32, known: u32, wire: u32) -> Option<u32>
+pub fn index_ahead(initial: u32, known: u64, wire: u32) -> Option<u64>
     ensures { result ≡ as_count (known + ahead 32 (tsn initial known) wire) }
 {
-    known.checked_add(S32(tsn_of(initial, known)).ahead(S32(wire)))
+    let ahead = S32(tsn_of(initial, known)).ahead(S32(wire));
+    known.checked_add(u64::from(ahead))
 }

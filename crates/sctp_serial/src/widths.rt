@@ -36,7 +36,7 @@ impl Serial for S16 {
 
     ghost near_finds = { near_finds_16 };
 
-    fn of_count(count: u32) -> Self {
+    fn of_count(count: u64) -> Self {
         S16((count % 65_536) as u16)
     }
 
@@ -49,7 +49,7 @@ impl Serial for S16 {
         ahead != 0 && ahead < S16::HALF
     }
 
-    fn near(self, reference: u32) -> Option<u32> {
+    fn near(self, reference: u64) -> Option<u64> {
         let known = S16::of_count(reference);
         count_near(reference, known.ahead(self), self.ahead(known), S16::HALF)
     }
@@ -68,8 +68,8 @@ impl Serial for S32 {
 
     ghost near_finds = { near_finds_32 };
 
-    fn of_count(count: u32) -> Self {
-        S32(count)
+    fn of_count(count: u64) -> Self {
+        S32((count % 4_294_967_296) as u32)
     }
 
     fn ahead(self, other: Self) -> u32 {
@@ -81,21 +81,21 @@ impl Serial for S32 {
         ahead != 0 && ahead < S32::HALF
     }
 
-    fn near(self, reference: u32) -> Option<u32> {
+    fn near(self, reference: u64) -> Option<u64> {
         let known = S32::of_count(reference);
         count_near(reference, known.ahead(self), self.ahead(known), S32::HALF)
     }
 }
 
 /// The count so far ahead of a reference, or else so far behind it, by less than `half`.
-fn count_near(reference: u32, ahead: u32, behind: u32, half: u32) -> Option<u32>
+fn count_near(reference: u64, ahead: u32, behind: u32, half: u32) -> Option<u64>
     ensures { result ≡ (if nat_lt ahead half then as_count (reference + ahead)
         else if nat_lt behind half && nat_le behind reference then Some (reference - behind) else None) }
 {
     if ahead < half {
-        reference.checked_add(ahead)
+        reference.checked_add(u64::from(ahead))
     } else if behind < half {
-        reference.checked_sub(behind)
+        reference.checked_sub(u64::from(behind))
     } else {
         None
     }

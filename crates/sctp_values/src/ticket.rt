@@ -2,4 +2,4 @@
 
 /// The name of an accepted message at its sender: 1 for the first one, and so on.
 #[derive(Clone, Copy, Debug, PartialEq, Eq)]
-pub struct Ticket(pub u32);
+pub struct Ticket(pub u64);
