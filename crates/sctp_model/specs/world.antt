@@ -3,4 +3,5 @@ pub mod Safe
 pub mod World
 pub mod Events
 pub mod Steps
+pub mod Aged
 pub mod Premises

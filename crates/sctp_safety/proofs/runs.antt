@@ -1,8 +1,10 @@
 mod Grown
+pub mod Dates
+mod PastCum
 pub mod Direction
+mod Nearness
 pub mod Sending
 mod Passing
-mod Nearness
 mod Hearing
 pub mod Pair
 mod Acted
@@ -13,6 +15,8 @@ pub mod Unmet
 mod Waiting
 mod Meeting
 mod Bags
+pub mod DatedBags
+pub mod Dating
 mod Brought
 pub mod MetWorld
 mod MetSteps

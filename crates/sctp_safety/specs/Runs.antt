@@ -1,21 +1,25 @@
 -- THE HEADLINE, of two ends over every run: whatever is called, built, delivered, lost, repeated, reordered or sent by strangers, however the ends were opened,
 -- and in whichever format and with whichever options they agreed.
-use Rattle.std.specs.Prelude.{◌≡◌, List, [], ◌∷◌, ◌++◌, Option}
+use Rattle.std.specs.Prelude.{◌≡◌, ℕ, ◌<◌, List, [], ◌∷◌, ◌++◌, Option}
+use Rattle.sctp_model.specs.numbers.Limits.{AGE_LIMIT}
+use Rattle.sctp_model.specs.numbers.Lists.{Has}
+use Rattle.sctp_model.specs.numbers.Serial.{half_space}
 use Rattle.sctp_model.specs.end.Sealing.{Sealing}
 use Rattle.sctp_model.specs.end.Configured.{IsConfiguration}
 use Rattle.sctp_model.specs.world.World.{Side, World, Setup, configuration_of, start}
 use Rattle.sctp_model.specs.world.Events.{Event, Outcome}
 use Rattle.sctp_model.specs.world.Steps.{Run, PassesThrough, last_of}
-use Rattle.sctp_model.specs.world.Premises.{Premises, IsReachable, IsSafeWorld, IsClosedWorld}
+use Rattle.sctp_model.specs.world.Aged.{assigned, Aged}
+use Rattle.sctp_model.specs.world.Premises.{Premises, IsReachedInTime, IsSafeWorld, IsClosedWorld}
 
--- Both directions are safe in every world that a run reaches.
+-- Both directions are safe in every world that a run reaches in time.
 abbrev pub TwoEndsAreSafe : Type 0
-TwoEndsAreSafe = (s : Setup) (events : List Event) (w : World) → IsReachable s events w → IsSafeWorld w
+TwoEndsAreSafe = (s : Setup) (events : List Event) (w : World) → IsReachedInTime s events w → IsSafeWorld w
 
 -- And in every such world: where either end has completed its association, no message with an index is missing, in either direction. Each was handed over
 -- to the peer's user, or waits for it, or was abandoned by its sender (RFC 9260, 9.2).
 abbrev pub NothingIsMissing : Type 0
-NothingIsMissing = (s : Setup) (events : List Event) (w : World) → IsReachable s events w → IsClosedWorld w
+NothingIsMissing = (s : Setup) (events : List Event) (w : World) → IsReachedInTime s events w → IsClosedWorld w
 
 -- ---- runs and their beginnings
 
@@ -40,6 +44,12 @@ abbrev pub RunsGoOn : Type 0
 RunsGoOn = (w v last : World) (events more : List Event) (answers others : List (Option Outcome)) →
     Run w events answers v → Run v more others last → Run w (events ++ more) (answers ++ others) last
 
+-- and it passes the worlds of both
+abbrev pub PassingGoesOn : Type 0
+PassingGoesOn = (w : World) (events more : List Event) (answers others : List (Option Outcome)) (worlds beyond : List World) →
+    PassesThrough w events answers worlds → PassesThrough (last_of w worlds) more others beyond →
+    PassesThrough w (events ++ more) (answers ++ others) (worlds ++ beyond) × (last_of w (worlds ++ beyond) ≡ last_of (last_of w worlds) beyond)
+
 -- what a run of two lists of events is: one of the first list, which goes on with the second
 pub record HasBeginning (w : World) (events more : List Event) (answers : List (Option Outcome)) (last : World) : Type 0 where
   pub between : World
@@ -58,6 +68,11 @@ BeginningsAreRuns = (w last : World) (events more : List Event) (answers : List 
 abbrev pub BeginningsMeetThePremises : Type 0
 BeginningsMeetThePremises = (s : Sealing) (events more : List Event) → Premises s (events ++ more) → Premises s events
 
+-- and where AGED holds of a run it holds of its beginning: fewer packets come there
+abbrev pub BeginningsAreAged : Type 0
+BeginningsAreAged = (w : World) (events more : List Event) (answers : List (Option Outcome)) (worlds beyond : List World) →
+    PassesThrough w events answers worlds → Aged w (events ++ more) (worlds ++ beyond) → Aged w events worlds
+
 -- ---- each world on the way
 
 -- in each of these both directions are safe, and once an end has completed nothing is missing
@@ -65,8 +80,24 @@ abbrev pub AreAllSafe : List World → Type 0
 AreAllSafe [] = Unit {0}
 AreAllSafe (w ∷ ws) = (IsSafeWorld w × IsClosedWorld w) × AreAllSafe ws
 
--- So it is in each world that a run goes on through from a world that a run led to, where the premises hold of all these events.
+-- So it is in each world that a run goes on through from a world that a run led to, where the premises hold of both as one run.
 abbrev pub EachWorldIsSafe : Type 0
-EachWorldIsSafe = (s : Setup) (before events : List Event) (answers others : List (Option Outcome)) (w : World) (worlds : List World) →
-    ((x : Side) → IsConfiguration (configuration_of s x)) → Run (start s) before answers w → PassesThrough w events others worlds →
-    Premises s.sealing (before ++ events) → AreAllSafe (w ∷ worlds)
+EachWorldIsSafe = (s : Setup) (before events : List Event) (answers others : List (Option Outcome)) (past worlds : List World) →
+    ((x : Side) → IsConfiguration (configuration_of s x)) → PassesThrough (start s) before answers past → PassesThrough (last_of (start s) past) events others worlds →
+    Premises s.sealing (before ++ events) → Aged (start s) (before ++ events) (past ++ worlds) → AreAllSafe (last_of (start s) past ∷ worlds)
+
+-- ---- runs of few TSNs
+
+-- neither end has assigned so many TSNs in any of these worlds
+abbrev pub AssignFewer : (limit : ℕ) → List World → Type 0
+AssignFewer limit worlds = (w : World) → Has worlds w → (x : Side) → assigned w x < limit
+
+-- A run of fewer TSNs than a packet may come late by is AGED, however late packets come.
+abbrev pub ShortRunsAreAged : Type 0
+ShortRunsAreAged = (w : World) (events : List Event) (worlds : List World) → AssignFewer AGE_LIMIT (w ∷ worlds) → Aged w events worlds
+
+-- And where neither end assigns half the space of TSNs no AGED is needed: FRESH and UNFORGED are all that is asked (RFC 9260, 2.6).
+abbrev pub ShortRunsAreSafe : Type 0
+ShortRunsAreSafe = (s : Setup) (events : List Event) (answers : List (Option Outcome)) (worlds : List World) →
+    ((x : Side) → IsConfiguration (configuration_of s x)) → PassesThrough (start s) events answers worlds → Premises s.sealing events →
+    AssignFewer (half_space 32) (start s ∷ worlds) → AreAllSafe (start s ∷ worlds)

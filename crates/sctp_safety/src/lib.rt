@@ -36,6 +36,7 @@ pub use told::{
     nothing_is_left_to_expire,
 };
 pub use two_ends::{
-    a_beginning_meets_the_premises, a_run_passes_its_worlds, each_world_on_the_way_is_safe,
-    nothing_is_missing_once_completed, two_ends_are_safe,
+    a_beginning_meets_the_premises, a_beginning_of_an_aged_run_is_aged,
+    a_run_of_half_the_tsns_is_safe, a_run_passes_its_worlds, a_short_run_is_aged,
+    each_world_on_the_way_is_safe, nothing_is_missing_once_completed, two_ends_are_safe,
 };

@@ -1,6 +1,6 @@
 //! What holds of two ends in every world of every run.
 
-ghost use Rattle.sctp_safety.specs.Runs.{BeginningsAreRuns, BeginningsMeetThePremises, EachWorldIsSafe, NothingIsMissing, PassingIsARun, RunsGoOn, RunsHaveWorlds, TwoEndsAreSafe};
+ghost use Rattle.sctp_safety.specs.Runs.{BeginningsAreAged, BeginningsAreRuns, BeginningsMeetThePremises, EachWorldIsSafe, NothingIsMissing, PassingGoesOn, PassingIsARun, RunsGoOn, RunsHaveWorlds, ShortRunsAreAged, ShortRunsAreSafe, TwoEndsAreSafe};
 
 /// The headline. Whatever two users call, whatever packets are lost, repeated, reordered, cut for want of memory or sent by strangers that carry
 /// neither a drawn tag nor a cookie of the listener's: in both directions each stream hands over messages that the peer sent on it, whole, each at most
@@ -27,9 +27,26 @@ pub fn a_run_passes_its_worlds()
     ensures worlds { RunsHaveWorlds }
     ensures goes_on { RunsGoOn }
     ensures begins { BeginningsAreRuns }
+    ensures passes_on { PassingGoesOn }
 {}
 
 /// The beginning of a run that meets the premises meets them.
 pub fn a_beginning_meets_the_premises()
     ensures { BeginningsMeetThePremises }
+{}
+
+/// The beginning of a run in which no packet comes too late is such a run.
+pub fn a_beginning_of_an_aged_run_is_aged()
+    ensures { BeginningsAreAged }
+{}
+
+/// In a run in which neither end assigns 2^31 - 65,536 TSNs no packet comes too late.
+pub fn a_short_run_is_aged()
+    ensures { ShortRunsAreAged }
+{}
+
+/// Where neither end assigns 2^31 TSNs in the whole run, half of all that there are, both promises hold in each of its worlds however late packets come: what is asked of
+/// tags and cookies is all that is asked (RFC 9260, 2.6).
+pub fn a_run_of_half_the_tsns_is_safe()
+    ensures { ShortRunsAreSafe }
 {}

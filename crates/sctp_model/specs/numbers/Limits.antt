@@ -49,13 +49,20 @@ QUEUE_LIMIT = 1_024
 abbrev pub WINDOW : ℕ
 WINDOW = 32_767
 
--- TSNs assigned and those still owed, so that counts and wire values stay near (RFC 9260, 2.6)
+-- TSNs assigned and those still owed
 abbrev pub TSN_LIMIT : ℕ
-TSN_LIMIT = 2 ^ 31 - 1
+TSN_LIMIT = 2 ^ 63 - 1
 
 -- tickets are 1 to so many
 abbrev pub TICKET_LIMIT : ℕ
-TICKET_LIMIT = 2 ^ 32 - 1
+TICKET_LIMIT = 2 ^ 64 - 1
+
+-- ---- the network
+
+-- A packet comes before so many TSNs more have been assigned since it was built: half their space, less a window on each side of what it says, so that
+-- its TSNs are read as they were meant (RFC 9260, 2.6 and 6.1).
+abbrev pub AGE_LIMIT : ℕ
+AGE_LIMIT = 2 ^ 31 - 65_536
 
 -- ---- receiving
 

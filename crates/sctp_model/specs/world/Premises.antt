@@ -14,7 +14,8 @@ use Rattle.sctp_model.specs.end.EndView.{Draw, format_of, Completed, Over}
 use Rattle.sctp_model.specs.end.Configured.{IsConfiguration}
 use Rattle.sctp_model.specs.world.World.{Side, other, World, end_of, log_of, Setup, configuration_of, FIRST_DRAW, start}
 use Rattle.sctp_model.specs.world.Events.{Event, OpenBoth, Drawing, Connect, Foreign, Outcome}
-use Rattle.sctp_model.specs.world.Steps.{Run}
+use Rattle.sctp_model.specs.world.Steps.{Run, PassesThrough, last_of}
+use Rattle.sctp_model.specs.world.Aged.{Aged}
 
 -- ---- chance: which tags are drawn (RFC 9260, 5.3.1)
 
@@ -83,3 +84,13 @@ pub record IsReachable (s : Setup) (events : List Event) (w : World) : Type 0 wh
   pub answers : List (Option Outcome)
   pub run : Run (start s) events answers w
   pub premises : Premises s.sealing events
+
+-- They lead there through these worlds, in time: AGED holds too.
+pub record IsReachedInTime (s : Setup) (events : List Event) (w : World) : Type 0 where
+  pub configured : (x : Side) → IsConfiguration (configuration_of s x)
+  pub answers : List (Option Outcome)
+  pub worlds : List World
+  pub run : PassesThrough (start s) events answers worlds
+  pub ends : last_of (start s) worlds ≡ w
+  pub premises : Premises s.sealing events
+  pub aged : Aged (start s) events worlds

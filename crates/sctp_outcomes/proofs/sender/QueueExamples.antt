@@ -34,7 +34,7 @@ many_fragments bytes long = rw (length-cut 4 bytes) (rw long refl)
 
 -- nothing more may wait, and tickets have run out
 abbrev full : List Queued → SenderView
-full qs = record fresh { queue = qs; tickets = 4294967295 }
+full qs = record fresh { queue = qs; tickets = 18446744073709551615 }
 
 -- each reason counts before those behind it
 order : (qs : List Queued) (long : List ℕ) → length qs ≡ 1024 → length long ≡ 65537
@@ -42,11 +42,11 @@ order : (qs : List Queued) (long : List ℕ) → length qs ≡ 1024 → length l
     ≡ Some NoSuchStream ∷ Some NoSuchStream ∷ Some Empty ∷ Some TooLong ∷ Some QueueFull ∷ Some Spent ∷ []
 order qs long many much = rw many (rw much refl)
 
--- the last ticket is 4,294,967,295, and the last place in the queue the 1,024th
+-- the last ticket is 2 ^ 64 - 1, and the last place in the queue the 1,024th
 abbrev waiting : Queued
 waiting = record { lane = ordered_lane 0; message = record { ticket = 1; payload = 0; fragments = (1 ∷ []) ∷ []; until = None } }
 
-last_ticket : refusal (record fresh { tickets = 4294967294 }) 0 (1 ∷ []) ≡ None
+last_ticket : refusal (record fresh { tickets = 18446744073709551614 }) 0 (1 ∷ []) ≡ None
 last_ticket = refl
 
 last_place : refusal (record fresh { queue = replicate 1023 waiting }) 0 (1 ∷ []) ≡ None
@@ -78,13 +78,13 @@ latest_last (e ∷ es) = ap (λ o. option_or o (when ((entry_lane e).stream == 0
 owed : (es : List Entry) → promised (busy es) ≡ suc (length es) + 6
 owed es = rw (latest_last es) (rw (length-append es (begun ∷ [])) (omega arith))
 
--- a message of 9 bytes takes three TSNs, and an end mark: with it 2 ^ 31 - 1 may be promised, and no more
-fills_up : (es : List Entry) → length es ≡ 2147483636 → refusal (busy es) 0 (1 ∷ 2 ∷ 3 ∷ 4 ∷ 5 ∷ 6 ∷ 7 ∷ 8 ∷ 9 ∷ []) ≡ None
+-- a message of 9 bytes takes three TSNs, and an end mark: with it 2 ^ 63 - 1 may be promised, and no more
+fills_up : (es : List Entry) → length es ≡ 9223372036854775796 → refusal (busy es) 0 (1 ∷ 2 ∷ 3 ∷ 4 ∷ 5 ∷ 6 ∷ 7 ∷ 8 ∷ 9 ∷ []) ≡ None
 fills_up es many = rw (owed es) (rw many refl)
 
-is_spent : (es : List Entry) → length es ≡ 2147483637 → refusal (busy es) 0 (1 ∷ 2 ∷ 3 ∷ 4 ∷ 5 ∷ 6 ∷ 7 ∷ 8 ∷ 9 ∷ []) ≡ Some Spent
+is_spent : (es : List Entry) → length es ≡ 9223372036854775797 → refusal (busy es) 0 (1 ∷ 2 ∷ 3 ∷ 4 ∷ 5 ∷ 6 ∷ 7 ∷ 8 ∷ 9 ∷ []) ≡ Some Spent
 is_spent es many = rw (owed es) (rw many refl)
 
 -- a shorter one may still be promised
-shorter_is_taken : (es : List Entry) → length es ≡ 2147483637 → refusal (busy es) 0 (1 ∷ 2 ∷ 3 ∷ 4 ∷ 5 ∷ []) ≡ None
+shorter_is_taken : (es : List Entry) → length es ≡ 9223372036854775797 → refusal (busy es) 0 (1 ∷ 2 ∷ 3 ∷ 4 ∷ 5 ∷ []) ≡ None
 shorter_is_taken es many = rw (owed es) (rw many refl)

@@ -6,7 +6,7 @@ use Rattle.sctp_model.specs.wire.Chunk.{ChunkMeaning, Init}
 use Rattle.sctp_model.specs.wire.Packet.{Packet}
 use Rattle.sctp_model.specs.end.Arriving.{cut_to}
 use Rattle.sctp_model.specs.world.World.{Side, A, B, other, World, bag_of, Setup}
-use Rattle.sctp_model.specs.world.Events.{Event}
+use Rattle.sctp_model.specs.world.Events.{Event, Deliver}
 use Rattle.sctp_model.specs.world.Steps.{Brings, FromBag, FromStranger}
 use Rattle.sctp_model.specs.world.Premises.{IsStranger}
 use Rattle.sctp_safety.proofs.machine.Strangers.{IsInitAlone, placed_alone}
@@ -14,7 +14,7 @@ use Rattle.sctp_safety.proofs.machine.Ground.{IsFine}
 
 -- ---- lists
 
-item_has : {X : Type 0} (xs : List X) (n : ℕ) (x : X) → item_at xs n ≡ Some x → Has xs x
+pub item_has : {X : Type 0} (xs : List X) (n : ℕ) (x : X) → item_at xs n ≡ Some x → Has xs x
 item_has xs zero x e = absurd (cc)
 item_has {X} xs (suc n) x e = go xs n e
   where
@@ -44,7 +44,7 @@ pub data From (s : Setup) (drawn : List ℕ) (w : World) (x : Side) (q : Packet)
   FromPeer : (p : Packet) → Has (bag_of w (other x)) p → IsFront p q → From s drawn w x q
   FromOutside : IsStranger s.sealing drawn q → IsInitAlone q.chunks → From s drawn w x q
 
-back_again : (x : Side) → other (other x) ≡ x
+pub back_again : (x : Side) → other (other x) ≡ x
 back_again A = refl
 back_again B = refl
 
@@ -54,16 +54,28 @@ front_stranger s drawn p q f strange = record {
   chunks = λ x h. strange.chunks x (f.chunks x h);
 }
 
+-- what the event brings, and for a packet of the end across its place in the bag
+pub data Brought (s : Setup) (drawn : List ℕ) (w : World) (e : Event) (x : Side) (q : Packet) : Type 0 where
+  ByPeer : (p : Packet) (n : ℕ) → e ≡ Deliver (other x) n → item_at (bag_of w (other x)) n ≡ Some p → IsFront p q → Brought s drawn w e x q
+  ByStranger : IsStranger s.sealing drawn q → IsInitAlone q.chunks → Brought s drawn w e x q
+
+from_either : (s : Setup) (drawn : List ℕ) (w : World) (e : Event) (x : Side) (q : Packet) → Brought s drawn w e x q → From s drawn w x q
+from_either s drawn w e x q (ByPeer p n is found f) = FromPeer p (item_has (bag_of w (other x)) n p found) f
+from_either s drawn w e x q (ByStranger strange alone) = FromOutside strange alone
+
 -- of whichever event
-from_any : (s : Setup) (drawn : List ℕ) (w : World) (e : Event) (x : Side) (p q : Packet) → IsFine s drawn e → Brings w e x (Some p) → IsFront p q →
-    (IsInitAlone p.chunks → IsInitAlone q.chunks) → From s drawn w x q
-from_any s drawn w e x p q fine (FromBag y n _ found) f alone =
-    FromPeer p (subst (λ (z : Side). Has (bag_of w z) p) (sym (back_again y)) (item_has (bag_of w y) n p found)) f
-from_any s drawn w e x p q fine (FromStranger _ _ placed) f alone =
-    FromOutside (front_stranger s drawn p q f (fine.strangers x p refl)) (alone (placed_alone p.chunks placed))
+brought_any : (s : Setup) (drawn : List ℕ) (w : World) (e : Event) (x : Side) (p q : Packet) → IsFine s drawn e → Brings w e x (Some p) → IsFront p q →
+    (IsInitAlone p.chunks → IsInitAlone q.chunks) → Brought s drawn w e x q
+brought_any s drawn w e x p q fine (FromBag y n _ found) f alone =
+    ByPeer p n (ap (λ (z : Side). Deliver z n) (sym (back_again y))) (subst (λ (z : Side). item_at (bag_of w z) n ≡ Some p) (sym (back_again y)) found) f
+brought_any s drawn w e x p q fine (FromStranger _ _ placed) f alone =
+    ByStranger (front_stranger s drawn p q f (fine.strangers x p refl)) (alone (placed_alone p.chunks placed))
+
+pub brought_whole : (s : Setup) (drawn : List ℕ) (w : World) (e : Event) (x : Side) (p : Packet) → IsFine s drawn e → Brings w e x (Some p) → Brought s drawn w e x p
+brought_whole s drawn w e x p fine brings = brought_any s drawn w e x p p fine brings (record { tag = refl; chunks = λ c h. h }) (λ a. a)
 
 pub from_whole : (s : Setup) (drawn : List ℕ) (w : World) (e : Event) (x : Side) (p : Packet) → IsFine s drawn e → Brings w e x (Some p) → From s drawn w x p
-from_whole s drawn w e x p fine brings = from_any s drawn w e x p p fine brings (record { tag = refl; chunks = λ c h. h }) (λ a. a)
+from_whole s drawn w e x p fine brings = from_either s drawn w e x p (brought_whole s drawn w e x p fine brings)
 
 -- a packet that was cut holds more than an INIT
 cut_alone : (y : ChunkMeaning) (front back : List ChunkMeaning) (z : ChunkMeaning) (ys : List ChunkMeaning) → ys ≡ (y ∷ front) ++ z ∷ back → IsInitAlone ys → IsInitAlone (y ∷ front)
@@ -72,9 +84,13 @@ cut_alone y front back z ys part alone m xs is =
     let none = alone m (front ++ z ∷ back) (part ∙ ap (λ (u : ChunkMeaning). u ∷ (front ++ z ∷ back)) first) in
     absurd (never_empty front z back none)
 
-pub from_cut : (s : Setup) (drawn : List ℕ) (w : World) (e : Event) (x : Side) (p : Packet) (y : ChunkMeaning) (front back : List ChunkMeaning) (z : ChunkMeaning) →
-    IsFine s drawn e → Brings w e x (Some p) → p.chunks ≡ (y ∷ front) ++ z ∷ back → From s drawn w x (cut_to p (y ∷ front))
-from_cut s drawn w e x p y front back z fine brings part =
-    from_any s drawn w e x p (cut_to p (y ∷ front)) fine brings
+pub brought_cut : (s : Setup) (drawn : List ℕ) (w : World) (e : Event) (x : Side) (p : Packet) (y : ChunkMeaning) (front back : List ChunkMeaning) (z : ChunkMeaning) →
+    IsFine s drawn e → Brings w e x (Some p) → p.chunks ≡ (y ∷ front) ++ z ∷ back → Brought s drawn w e x (cut_to p (y ∷ front))
+brought_cut s drawn w e x p y front back z fine brings part =
+    brought_any s drawn w e x p (cut_to p (y ∷ front)) fine brings
     (record { tag = refl; chunks = λ c h. subst (λ (ys : List ChunkMeaning). Has ys c) (sym part) (has_front (y ∷ front) (z ∷ back) c h) })
     (cut_alone y front back z p.chunks part)
+
+pub from_cut : (s : Setup) (drawn : List ℕ) (w : World) (e : Event) (x : Side) (p : Packet) (y : ChunkMeaning) (front back : List ChunkMeaning) (z : ChunkMeaning) →
+    IsFine s drawn e → Brings w e x (Some p) → p.chunks ≡ (y ∷ front) ++ z ∷ back → From s drawn w x (cut_to p (y ∷ front))
+from_cut s drawn w e x p y front back z fine brings part = from_either s drawn w e x (cut_to p (y ∷ front)) (brought_cut s drawn w e x p y front back z fine brings part)

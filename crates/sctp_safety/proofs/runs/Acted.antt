@@ -1,8 +1,9 @@
 -- What a chunk of the peer does to an end that has met it.
-use Rattle.std.proofs.Common.{◌≡◌, ℕ, true, false, List, refl, sym, subst}
+use Rattle.std.proofs.Common.{◌≡◌, ℕ, true, false, List, length, refl, sym, subst, ap, ◌∙◌}
 use Rattle.sctp_model.specs.numbers.Lists.{Has}
 use Rattle.sctp_model.specs.wire.Chunk.{PieceMeaning, ForwardMeaning, ChunkMeaning, Data, IData, Init, InitAck, Sack, Heartbeat, HeartbeatAck, Abort, Shutdown, ShutdownAck, Error, CookieEcho, CookieAck, ShutdownComplete, ForwardTsn, IForwardTsn, Unknown}
 use Rattle.sctp_model.specs.messages.Format.{Format}
+use Rattle.sctp_model.specs.messages.Plan.{Plan}
 use Rattle.sctp_model.specs.sender.SenderView.{SenderView}
 use Rattle.sctp_model.specs.receiver.ReceiverView.{ReceiverView}
 use Rattle.sctp_model.specs.wire.Packet.{Packet}
@@ -18,7 +19,8 @@ use Rattle.sctp_model.specs.end.Arriving.{Notes, acknowledges, packet_ended, del
 use Rattle.sctp_safety.specs.States.{has_agreed}
 use Rattle.sctp_safety.proofs.machine.EndWords.{ended_cases}
 use Rattle.sctp_safety.proofs.machine.Sides.{unknown_goes, unknown_ends, unknown_never_replies}
-use Rattle.sctp_safety.proofs.runs.Direction.{Direction}
+use Rattle.sctp_safety.proofs.runs.Dates.{IsYoung, Dated}
+use Rattle.sctp_safety.proofs.runs.Direction.{IsSaid, Direction}
 use Rattle.sctp_safety.proofs.runs.Sending.{after_sack, after_shutdown}
 use Rattle.sctp_safety.proofs.runs.Hearing.{after_piece, after_skip}
 use Rattle.sctp_safety.proofs.runs.Pair.{met_views, IsMet, AreViews, met_same}
@@ -27,84 +29,114 @@ use Rattle.sctp_safety.proofs.runs.Pair.{met_views, IsMet, AreViews, met_same}
 pub not_calling : (h : Phase) (d : Draw) → h ≡ Calling d → has_agreed h ≡ true → ⊥
 not_calling h d is agreed = let q : false ≡ true = subst (λ (k : Phase). has_agreed k ≡ true) is agreed in absurd (cc)
 
-module _ (p : EndView) (u v : Asked) (out back : List ChunkMeaning) where
+-- a chunk of the peer's that comes while it is young, at an end that has assigned so many TSNs
+pub record Comes (p : EndView) (many : ℕ) (back : List Dated) (x : ChunkMeaning) : Type 0 where
+  pub said : Dated
+  pub has : Has back said
+  pub same : said.chunk ≡ x
+  pub own : IsYoung said.date.own (length p.sender.plan.entries)
+  pub there : IsYoung said.date.there many
+
+-- both directions, at an end that has assigned so many TSNs: what comes assigns none
+pub record IsMetWith (many : ℕ) (e p : EndView) (u v : Asked) (out back : List Dated) : Type 0 where
+  pub met : IsMet e p u v out back
+  pub assigned : length e.sender.plan.entries ≡ many
+
+module _ (p : EndView) (u v : Asked) (out back : List Dated) (many : ℕ) where
   abbrev Met : EndView → Type 0
-  Met e = IsMet e p u v out back
+  Met e = IsMetWith many e p u v out back
 
   -- ---- views that changed
 
   with_receiver : (e : EndView) (r : ReceiverView) → Met e → Direction (format_of p) p.terms.outbound p.sender v r back out → Met (record e { receiver = r })
-  with_receiver e r m d = met_views e p u v out back out m e.sender r m.going d
+  with_receiver e r m d = record { met = met_views e p u v out back out m.met e.sender r m.met.going d; assigned = m.assigned }
 
-  with_sender : (e : EndView) (a : SenderView) → Met e → Direction (format_of e) e.terms.outbound a u p.receiver out back → Met (record e { sender = a })
-  with_sender e a m d = met_views e p u v out back out m a e.receiver d m.coming
+  with_sender : (e : EndView) (a : SenderView) → Met e → a.plan ≡ e.sender.plan → Direction (format_of e) e.terms.outbound a u p.receiver out back → Met (record e { sender = a })
+  with_sender e a m same d = record {
+    met = met_views e p u v out back out m.met a e.receiver d m.met.coming;
+    assigned = ap (λ (q : Plan). length q.entries) same ∙ m.assigned;
+  }
 
-  by_data : (e : EndView) (x : PieceMeaning) (o : PieceAnswer) (r : ReceiverView) → Met e → Has back (Data x) → PieceTaken (format_of e) e.receiver x o r → Met (record e { receiver = r })
-  by_data e x o r m has taken =
-      with_receiver e r m (after_piece (format_of p) p.terms.outbound p.sender v e.receiver back out m.coming (Data x) x o r has (λ h. h)
-      (subst (λ (f : Format). PieceTaken f e.receiver x o r) m.format taken))
+  -- what a chunk says that comes
+  says : (e : EndView) (x : ChunkMeaning) → (m : Met e) (c : Comes p many back x) → IsSaid (format_of p) p.sender.initial p.sender.plan m.met.coming.bags c.said.date.own c.said.chunk →
+      IsSaid (format_of p) p.sender.initial p.sender.plan m.met.coming.bags c.said.date.own x
+  says e x m c h = subst (λ (y : ChunkMeaning). IsSaid (format_of p) p.sender.initial p.sender.plan m.met.coming.bags c.said.date.own y) c.same h
 
-  by_i_data : (e : EndView) (x : PieceMeaning) (o : PieceAnswer) (r : ReceiverView) → Met e → Has back (IData x) → PieceTaken (format_of e) e.receiver x o r → Met (record e { receiver = r })
-  by_i_data e x o r m has taken =
-      with_receiver e r m (after_piece (format_of p) p.terms.outbound p.sender v e.receiver back out m.coming (IData x) x o r has (λ h. h)
-      (subst (λ (f : Format). PieceTaken f e.receiver x o r) m.format taken))
+  by_data : (e : EndView) (x : PieceMeaning) (o : PieceAnswer) (r : ReceiverView) → Met e → Comes p many back (Data x) → PieceTaken (format_of e) e.receiver x o r → Met (record e { receiver = r })
+  by_data e x o r m c taken =
+      with_receiver e r m (after_piece (format_of p) p.terms.outbound p.sender v e.receiver back out m.met.coming c.said x o r c.has c.own (says e (Data x) m c)
+      (subst (λ (f : Format). PieceTaken f e.receiver x o r) m.met.format taken))
 
-  by_forward : (e : EndView) (x : ForwardMeaning) (o : ForwardAnswer) (r : ReceiverView) → Met e → Has back (ForwardTsn x) → ForwardTaken (format_of e) e.receiver x o r →
+  by_i_data : (e : EndView) (x : PieceMeaning) (o : PieceAnswer) (r : ReceiverView) → Met e → Comes p many back (IData x) → PieceTaken (format_of e) e.receiver x o r → Met (record e { receiver = r })
+  by_i_data e x o r m c taken =
+      with_receiver e r m (after_piece (format_of p) p.terms.outbound p.sender v e.receiver back out m.met.coming c.said x o r c.has c.own (says e (IData x) m c)
+      (subst (λ (f : Format). PieceTaken f e.receiver x o r) m.met.format taken))
+
+  by_forward : (e : EndView) (x : ForwardMeaning) (o : ForwardAnswer) (r : ReceiverView) → Met e → Comes p many back (ForwardTsn x) → ForwardTaken (format_of e) e.receiver x o r →
       Met (record e { receiver = r })
-  by_forward e x o r m has taken =
-      with_receiver e r m (after_skip (format_of p) p.terms.outbound p.sender v e.receiver back out m.coming (ForwardTsn x) x o r has (λ h. h)
-      (subst (λ (f : Format). ForwardTaken f e.receiver x o r) m.format taken))
+  by_forward e x o r m c taken =
+      with_receiver e r m (after_skip (format_of p) p.terms.outbound p.sender v e.receiver back out m.met.coming c.said x o r c.has c.own (says e (ForwardTsn x) m c)
+      (subst (λ (f : Format). ForwardTaken f e.receiver x o r) m.met.format taken))
 
-  by_i_forward : (e : EndView) (x : ForwardMeaning) (o : ForwardAnswer) (r : ReceiverView) → Met e → Has back (IForwardTsn x) → ForwardTaken (format_of e) e.receiver x o r →
+  by_i_forward : (e : EndView) (x : ForwardMeaning) (o : ForwardAnswer) (r : ReceiverView) → Met e → Comes p many back (IForwardTsn x) → ForwardTaken (format_of e) e.receiver x o r →
       Met (record e { receiver = r })
-  by_i_forward e x o r m has taken =
-      with_receiver e r m (after_skip (format_of p) p.terms.outbound p.sender v e.receiver back out m.coming (IForwardTsn x) x o r has (λ h. h)
-      (subst (λ (f : Format). ForwardTaken f e.receiver x o r) m.format taken))
+  by_i_forward e x o r m c taken =
+      with_receiver e r m (after_skip (format_of p) p.terms.outbound p.sender v e.receiver back out m.met.coming c.said x o r c.has c.own (says e (IForwardTsn x) m c)
+      (subst (λ (f : Format). ForwardTaken f e.receiver x o r) m.met.format taken))
+
+  -- young as long as the end has assigned no more
+  young_here : (e : EndView) (x : ChunkMeaning) → Met e → (c : Comes p many back x) → IsYoung c.said.date.there (length e.sender.plan.entries)
+  young_here e x m c = subst (IsYoung c.said.date.there) (sym m.assigned) c.there
 
   -- the same views in another state
   still : (e t : EndView) → Met e → AreViews e t → has_agreed t.phase ≡ true → Met t
-  still e t m same phase = met_same e t p u v out back m same phase
+  still e t m same phase = record {
+    met = met_same e t p u v out back m.met same phase;
+    assigned = ap (λ (a : SenderView). length a.plan.entries) same.sender ∙ m.assigned;
+  }
 
   over : (e : EndView) (why : Ended) → Met e → Met (closed why e)
   over e why m = still e (closed why e) m (record { terms = refl; sender = refl; receiver = refl; moment = refl }) refl
 
   -- ---- a chunk after which the packet goes on
 
-  pub goes : (e : EndView) (tag : ℕ) (x : ChunkMeaning) (y : Note) (t : EndView) → Has back x → Met e → Acts e tag x (GoesOn y t) → Met t
+  pub goes : (e : EndView) (tag : ℕ) (x : ChunkMeaning) (y : Note) (t : EndView) → Comes p many back x → Met e → Acts e tag x (GoesOn y t) → Met t
   goes e tag (Data d) y t has m (PieceComes k g o r is hears some same taken) =
-      still (record e { receiver = r }) t (by_data e d o r m has taken) (record { terms = refl; sender = refl; receiver = refl; moment = refl }) m.phase
+      still (record e { receiver = r }) t (by_data e d o r m has taken) (record { terms = refl; sender = refl; receiver = refl; moment = refl }) m.met.phase
   goes e tag (IData d) y t has m (PieceComes k g o r is hears some same taken) =
-      still (record e { receiver = r }) t (by_i_data e d o r m has taken) (record { terms = refl; sender = refl; receiver = refl; moment = refl }) m.phase
+      still (record e { receiver = r }) t (by_i_data e d o r m has taken) (record { terms = refl; sender = refl; receiver = refl; moment = refl }) m.met.phase
   goes e tag (Init i) y t has m h = absurd (cc)
-  goes e tag (InitAck i) y t has m (AcceptedAck d cookie is tagged value fault) = absurd (not_calling e.phase d is m.phase)
+  goes e tag (InitAck i) y t has m (AcceptedAck d cookie is tagged value fault) = absurd (not_calling e.phase d is m.met.phase)
   goes e tag (Sack s) y t has m (SackStale hears fault) = m
   goes e tag (Sack s) y t has m (SackCounts hears none) =
-      still (record e { sender = _ }) t (with_sender e _ m (after_sack (format_of e) e.terms.outbound e.sender u p.receiver out back m.going s has none))
-      (record { terms = refl; sender = refl; receiver = refl; moment = refl }) m.phase
-  goes e tag (Heartbeat i) y t has m (HeartbeatCounts hears) = still e t m (record { terms = refl; sender = refl; receiver = refl; moment = refl }) m.phase
+      still (record e { sender = _ }) t (with_sender e _ m refl
+      (after_sack (format_of e) e.terms.outbound e.sender u p.receiver out back m.met.going has.said s has.has has.same (young_here e (Sack s) m has) none))
+      (record { terms = refl; sender = refl; receiver = refl; moment = refl }) m.met.phase
+  goes e tag (Heartbeat i) y t has m (HeartbeatCounts hears) = still e t m (record { terms = refl; sender = refl; receiver = refl; moment = refl }) m.met.phase
   goes e tag (HeartbeatAck i) y t has m h = let q : t ≡ e = cc in subst Met (sym q) m
   goes e tag (Abort b xs) y t has m h = absurd (cc)
   goes e tag (Shutdown n) y t has m (ShutdownStale k g is hears fault) = still e t m (record { terms = refl; sender = refl; receiver = refl; moment = refl }) refl
   goes e tag (Shutdown n) y t has m (ShutdownCounts k g is hears none) =
-      still (record e { sender = _ }) t (with_sender e _ m (after_shutdown (format_of e) e.terms.outbound e.sender u p.receiver out back m.going n has none))
+      still (record e { sender = _ }) t (with_sender e _ m refl
+      (after_shutdown (format_of e) e.terms.outbound e.sender u p.receiver out back m.met.going has.said n has.has has.same (young_here e (Shutdown n) m has) none))
       (record { terms = refl; sender = refl; receiver = refl; moment = refl }) refl
   goes e tag (Shutdown n) y t has m (Crosses k is) = still e t m (record { terms = refl; sender = refl; receiver = refl; moment = refl }) refl
-  goes e tag (Shutdown n) y t has m (Again k is) = still e t m (record { terms = refl; sender = refl; receiver = refl; moment = refl }) m.phase
+  goes e tag (Shutdown n) y t has m (Again k is) = still e t m (record { terms = refl; sender = refl; receiver = refl; moment = refl }) m.met.phase
   goes e tag ShutdownAck y t has m h = elim h [ ]
   goes e tag (Error xs) y t has m (SaysNothing off) = m
-  goes e tag (CookieEcho xs) y t has m (EchoedAgain _ _ _ _ _ _ _) = still e t m (record { terms = refl; sender = refl; receiver = refl; moment = refl }) m.phase
+  goes e tag (CookieEcho xs) y t has m (EchoedAgain _ _ _ _ _ _ _) = still e t m (record { terms = refl; sender = refl; receiver = refl; moment = refl }) m.met.phase
   goes e tag CookieAck y t has m (CookieAcked k xs is) = still e t m (record { terms = refl; sender = refl; receiver = refl; moment = refl }) refl
   goes e tag (ShutdownComplete b) y t has m h = elim h [ ]
   goes e tag (ForwardTsn d) y t has m (IsOld k g r is hears may taken) =
-      still (record e { receiver = r }) t (by_forward e d _ r m has taken) (record { terms = refl; sender = refl; receiver = refl; moment = refl }) m.phase
+      still (record e { receiver = r }) t (by_forward e d _ r m has taken) (record { terms = refl; sender = refl; receiver = refl; moment = refl }) m.met.phase
   goes e tag (ForwardTsn d) y t has m (ForwardComes k g r is hears may taken) =
-      still (record e { receiver = r }) t (by_forward e d _ r m has taken) (record { terms = refl; sender = refl; receiver = refl; moment = refl }) m.phase
+      still (record e { receiver = r }) t (by_forward e d _ r m has taken) (record { terms = refl; sender = refl; receiver = refl; moment = refl }) m.met.phase
   goes e tag (IForwardTsn d) y t has m (IsOld k g r is hears may taken) =
-      still (record e { receiver = r }) t (by_i_forward e d _ r m has taken) (record { terms = refl; sender = refl; receiver = refl; moment = refl }) m.phase
+      still (record e { receiver = r }) t (by_i_forward e d _ r m has taken) (record { terms = refl; sender = refl; receiver = refl; moment = refl }) m.met.phase
   goes e tag (IForwardTsn d) y t has m (ForwardComes k g r is hears may taken) =
-      still (record e { receiver = r }) t (by_i_forward e d _ r m has taken) (record { terms = refl; sender = refl; receiver = refl; moment = refl }) m.phase
+      still (record e { receiver = r }) t (by_i_forward e d _ r m has taken) (record { terms = refl; sender = refl; receiver = refl; moment = refl }) m.met.phase
   goes e tag (Unknown k f w) y t has m h =
-      subst Met (sym (unknown_goes e y t k f w h).same) (still e _ m (record { terms = refl; sender = refl; receiver = refl; moment = refl }) m.phase)
+      subst Met (sym (unknown_goes e y t k f w h).same) (still e _ m (record { terms = refl; sender = refl; receiver = refl; moment = refl }) m.met.phase)
 
   -- ---- a chunk that ends its packet, and one that is answered
 
@@ -126,7 +158,7 @@ module _ (p : EndView) (u v : Asked) (out back : List ChunkMeaning) where
   ends e tag (ForwardTsn d) t m h = elim h [ ]
   ends e tag (IForwardTsn d) t m h = elim h [ ]
   ends e tag (Unknown k f w) t m h =
-      subst Met (sym (unknown_ends e t k f w h).same) (still e _ m (record { terms = refl; sender = refl; receiver = refl; moment = refl }) m.phase)
+      subst Met (sym (unknown_ends e t k f w h).same) (still e _ m (record { terms = refl; sender = refl; receiver = refl; moment = refl }) m.met.phase)
 
   pub replies : (e : EndView) (tag : ℕ) (x : ChunkMeaning) (t : EndView) (r : Packet) → Met e → Acts e tag x (Replies t r) → Met t
   replies e tag (Data d) t r m (PieceEmpty _ _ _ _ _) = over e AbortedHere m
@@ -154,6 +186,6 @@ module _ (p : EndView) (u v : Asked) (out back : List ChunkMeaning) where
   -- ---- the end of a packet
 
   pub met_ended : (n : Notes) (e : EndView) → Met e → Met (packet_ended n e)
-  met_ended n e m = ended_cases Met n e m (λ k g is. still e (acknowledges g e) m (record { terms = refl; sender = refl; receiver = refl; moment = refl }) m.phase)
-      (λ k g is. still e (delays e) m (record { terms = refl; sender = refl; receiver = refl; moment = refl }) m.phase)
-      (λ x k. still x (kept_going true x) k (record { terms = refl; sender = refl; receiver = refl; moment = refl }) k.phase)
+  met_ended n e m = ended_cases Met n e m (λ k g is. still e (acknowledges g e) m (record { terms = refl; sender = refl; receiver = refl; moment = refl }) m.met.phase)
+      (λ k g is. still e (delays e) m (record { terms = refl; sender = refl; receiver = refl; moment = refl }) m.met.phase)
+      (λ x k. still x (kept_going true x) k (record { terms = refl; sender = refl; receiver = refl; moment = refl }) k.met.phase)

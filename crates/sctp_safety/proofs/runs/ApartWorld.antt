@@ -19,6 +19,8 @@ use Rattle.sctp_safety.proofs.lists.Basics.{Has-cases}
 use Rattle.sctp_safety.proofs.machine.Turns.{IsPlainTurn}
 use Rattle.sctp_safety.proofs.machine.Diagram.{plain_unbegun}
 use Rattle.sctp_safety.proofs.runs.Bags.{chunks_in, chunks_push}
+use Rattle.sctp_safety.proofs.runs.Dates.{undated}
+use Rattle.sctp_safety.proofs.runs.DatedBags.{Dates, dated_bag, undated_bag}
 use Rattle.sctp_safety.proofs.runs.Pair.{opens_or_ends, AreOpening}
 use Rattle.sctp_safety.proofs.runs.Answers.{OpensOrEnds, one_opening}
 use Rattle.sctp_safety.proofs.runs.Unmet.{IsUnmet}
@@ -200,12 +202,17 @@ opened_unclosed c own peer = record {
   uncompleted = λ is. absurd (cc);
 }
 
-pub opened_meet : (s : Setup) (w : World) (x y : Draw) → AreSetUp s w → IsApartWorld w →
-    IsMetWorld (record w { a = opened w.a.configuration x y; b = opened w.b.configuration y x; openable = false })
-opened_meet s w x y c k = record {
+-- the dates of a bag change nothing of what its chunks are
+pub dated_opening : (d : Dates) (w : World) (x : Side) → IsApartWorld w → AreOpening (undated (dated_bag d w x))
+dated_opening d w x k = subst AreOpening (sym (undated_bag (d x) 0 (bag_of w x))) (k.opening x)
+
+pub opened_meet : (s : Setup) (d : Dates) (w : World) (x y : Draw) → AreSetUp s w → IsApartWorld w →
+    IsMetWorld d (record w { a = opened w.a.configuration x y; b = opened w.b.configuration y x; openable = false })
+opened_meet s d w x y c k = record {
   closed = refl;
-  met = ends_meet (opened w.a.configuration x y) (opened w.b.configuration y x) (asked_at w A) (asked_at w B) (chunks_in w.from_a) (chunks_in w.from_b)
+  met = ends_meet (opened w.a.configuration x y) (opened w.b.configuration y x) (asked_at w A) (asked_at w B) (dated_bag d w A) (dated_bag d w B)
       (k.calls A) (k.calls B)
       (record { rwnd = w.a.configuration.buffer; sender = refl; receiver = refl }) (record { rwnd = w.b.configuration.buffer; sender = refl; receiver = refl })
-      (opened_agree s w x y c) refl refl (omega arith) (omega arith) (some_fragment s w A c) (some_fragment s w B c) (k.opening A) (k.opening B) (opened_unclosed w.a.configuration x y) (opened_unclosed w.b.configuration y x);
+      (opened_agree s w x y c) refl refl (omega arith) (omega arith) (some_fragment s w A c) (some_fragment s w B c) (dated_opening d w A k) (dated_opening d w B k)
+      (opened_unclosed w.a.configuration x y) (opened_unclosed w.b.configuration y x);
 }

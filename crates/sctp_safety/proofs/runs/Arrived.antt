@@ -2,7 +2,6 @@
 use Rattle.std.proofs.Common.{◌≡◌, ℕ, zero, suc, ◌<◌, ◌≤◌, ◌⊎◌, ◌==◌, ◌&&◌, true, List, [], ◌∷◌, length, Option, Some, None, inl, inr, refl, sym, subst, ap, arith, eqb-true, ◌∙◌}
 use Rattle.std.proofs.lemmas.Bool.{cases_lt, and_parts}
 use Rattle.sctp_model.specs.numbers.Lists.{Has}
-use Rattle.sctp_model.specs.wire.Chunk.{ChunkMeaning}
 use Rattle.sctp_model.specs.messages.Format.{Format, Kind, Ordered, Unordered, Lane, ordered_lane}
 use Rattle.sctp_model.specs.messages.Plan.{Message, Entry, Part, entry_at, message_at, IsClosed}
 use Rattle.sctp_model.specs.messages.Pieces.{piece_of}
@@ -24,6 +23,7 @@ use Rattle.sctp_safety.proofs.moves.SafeWhenGood.{settled_at}
 use Rattle.sctp_safety.proofs.plan.InPart.{idle_closed}
 use Rattle.sctp_safety.proofs.plan.Spread.{lower_to}
 use Rattle.sctp_safety.proofs.plan.WaitedFor.{not_all_reached}
+use Rattle.sctp_safety.proofs.runs.Dates.{Dated}
 use Rattle.sctp_safety.proofs.runs.Direction.{way_of, Direction}
 use Rattle.sctp_safety.proofs.runs.Sending.{good_here}
 
@@ -148,7 +148,7 @@ module _ (w : Way) (g : Good w) (idle : IsIdle w.format w.receiver) (all : w.sen
   all_arrives l n (i, e, here, of) = let m = message_of w.format w.sender.plan g.arranged i e l n here of in every_message l n m.0 m.1
 
 -- Of a drained sender nothing is missing at its peer.
-pub drained_arrives : (f : Format) (n : ℕ) (a : SenderView) (u : Asked) (r : ReceiverView) (out back : List ChunkMeaning) → Direction f n a u r out back →
+pub drained_arrives : (f : Format) (n : ℕ) (a : SenderView) (u : Asked) (r : ReceiverView) (out back : List Dated) → Direction f n a u r out back →
     drained a ≡ true → IsAllArrived a r
 drained_arrives f n a u r out back d empty = all_arrives (way_of f n a u r d.bags) good d.idle is.all closed
   where

@@ -1,17 +1,18 @@
 -- A run and its worlds: it has a beginning, it goes on, and where it meets the premises so does each of its beginnings.
-use Rattle.std.proofs.Common.{◌≡◌, ℕ, List, [], ◌∷◌, ◌++◌, map, Option, Some, refl, sym, ap, subst, append_assoc, ◌∙◌}
+use Rattle.std.proofs.Common.{◌≡◌, ℕ, ◌<◌, List, [], ◌∷◌, ◌++◌, map, Option, Some, inl, inr, refl, sym, ap, subst, append_assoc, arith, ◌∙◌}
+use Rattle.sctp_model.specs.numbers.Limits.{AGE_LIMIT}
 use Rattle.sctp_model.specs.numbers.Lists.{Has, joined}
 use Rattle.sctp_model.specs.wire.Chunk.{ChunkMeaning, Init, CookieEcho}
 use Rattle.sctp_model.specs.end.EndView.{Draw}
 use Rattle.sctp_model.specs.end.Sealing.{Sealing}
-use Rattle.sctp_model.specs.end.Configured.{IsConfiguration}
-use Rattle.sctp_model.specs.world.World.{Side, World, Setup, configuration_of, FIRST_DRAW, start}
-use Rattle.sctp_model.specs.world.Events.{Event, Foreign, Outcome}
+use Rattle.sctp_model.specs.world.World.{Side, World, FIRST_DRAW, start}
+use Rattle.sctp_model.specs.world.Events.{Event, Deliver, Foreign, Outcome}
 use Rattle.sctp_model.specs.world.Steps.{Run, Rest, Then, PassesThrough, last_of}
-use Rattle.sctp_model.specs.world.Premises.{draws_of, drawn_in, IsTheirs, Premises, IsReachable, IsSafeWorld, IsClosedWorld}
+use Rattle.sctp_model.specs.world.Aged.{assigned, ComesInTime, AllComeInTime}
+use Rattle.sctp_model.specs.world.Premises.{draws_of, drawn_in, IsTheirs}
 use Rattle.sctp_model.proofs.sender.WordLaws.{has_left}
-use Rattle.sctp_safety.specs.Runs.{PassingIsARun, RunsHaveWorlds, RunsGoOn, BeginningsAreRuns, BeginningsMeetThePremises, AreAllSafe, EachWorldIsSafe}
-use Rattle.sctp_safety.proofs.runs.Safety.{two_ends_are_safe, nothing_is_missing}
+use Rattle.sctp_safety.specs.Runs.{PassingIsARun, RunsHaveWorlds, RunsGoOn, BeginningsAreRuns, BeginningsMeetThePremises, PassingGoesOn, BeginningsAreAged, AreAllSafe, EachWorldIsSafe, AssignFewer, ShortRunsAreAged}
+use Rattle.sctp_safety.proofs.runs.Safety.{all_safe_in_time}
 
 -- ---- worlds
 
@@ -81,27 +82,58 @@ beginnings_meet_the_premises s es more all x p has =
       chunks = λ c there theirs. stranger.chunks c there (theirs_on s es more c theirs);
     }
 
+-- ---- worlds that go on
+
+pub passing_goes_on : PassingGoesOn
+passing_goes_on w [] more [] others [] beyond p on = (on, refl)
+passing_goes_on w (e ∷ es) more (o ∷ os) others (v ∷ vs) beyond (step, p) on = let r = passing_goes_on v es more os others vs beyond p on in ((step, r.0), r.1)
+passing_goes_on w [] more (o ∷ os) others vs beyond p on = absurd p
+passing_goes_on w [] more [] others (v ∷ vs) beyond p on = absurd p
+passing_goes_on w (e ∷ es) more [] others vs beyond p on = absurd p
+passing_goes_on w (e ∷ es) more (o ∷ os) others [] beyond p on = absurd p
+
+-- ---- AGED
+
+in_time_before : (u w : World) (es more : List Event) (os : List (Option Outcome)) (vs beyond : List World) → PassesThrough w es os vs → AllComeInTime u w (es ++ more) (vs ++ beyond) → AllComeInTime u w es vs
+in_time_before u w [] more [] [] beyond p all = tt
+in_time_before u w (e ∷ es) more (o ∷ os) (v ∷ vs) beyond (step, p) (now, later) = (now, in_time_before u v es more os vs beyond p later)
+in_time_before u w [] more (o ∷ os) vs beyond p all = absurd p
+in_time_before u w [] more [] (v ∷ vs) beyond p all = absurd p
+in_time_before u w (e ∷ es) more [] vs beyond p all = absurd p
+in_time_before u w (e ∷ es) more (o ∷ os) [] beyond p all = absurd p
+
+pub beginnings_are_aged : BeginningsAreAged
+beginnings_are_aged w [] more [] [] beyond p aged = tt
+beginnings_are_aged w (e ∷ es) more (o ∷ os) (v ∷ vs) beyond (step, p) (now, later) =
+    (in_time_before w w (e ∷ es) more (o ∷ os) (v ∷ vs) beyond (step, p) now, beginnings_are_aged v es more os vs beyond p later)
+beginnings_are_aged w [] more (o ∷ os) vs beyond p aged = absurd p
+beginnings_are_aged w [] more [] (v ∷ vs) beyond p aged = absurd p
+beginnings_are_aged w (e ∷ es) more [] vs beyond p aged = absurd p
+beginnings_are_aged w (e ∷ es) more (o ∷ os) [] beyond p aged = absurd p
+
+-- in a world of few TSNs everything comes in time
+few_in_time : (u w : World) (e : Event) → ((x : Side) → assigned w x < AGE_LIMIT) → ComesInTime u w e
+few_in_time u w (Deliver s n) few = λ p there x. let f = few x in omega (arith, f)
+few_in_time u w e few = tt
+
+all_few_in_time : (u w : World) (es : List Event) (vs : List World) → AssignFewer AGE_LIMIT (w ∷ vs) → AllComeInTime u w es vs
+all_few_in_time u w (e ∷ es) (v ∷ vs) few = (few_in_time u w e (few w (inl refl)), all_few_in_time u v es vs (λ z h. few z (inr h)))
+all_few_in_time u w [] vs few = tt
+all_few_in_time u w (e ∷ es) [] few = tt
+
+pub short_runs_are_aged : ShortRunsAreAged
+short_runs_are_aged w (e ∷ es) (v ∷ vs) few = (all_few_in_time w w (e ∷ es) (v ∷ vs) few, short_runs_are_aged v es vs (λ z h. few z (inr h)))
+short_runs_are_aged w [] vs few = tt
+short_runs_are_aged w (e ∷ es) [] few = tt
+
 -- ---- each world
 
-module _ (s : Setup) (configured : (x : Side) → IsConfiguration (configuration_of s x)) where
-  safe_here : (before more : List Event) (os : List (Option Outcome)) (w : World) → Run (start s) before os w → Premises s.sealing (before ++ more) → IsSafeWorld w × IsClosedWorld w
-  safe_here before more os w run premises =
-      let reached : IsReachable s before w = record { configured = configured; answers = os; run = run; premises = beginnings_meet_the_premises s.sealing before more premises } in
-      (two_ends_are_safe s before w reached, nothing_is_missing s before w reached)
-
-  all_safe : (before es : List Event) (os others : List (Option Outcome)) (w : World) (vs : List World) → Run (start s) before os w → PassesThrough w es others vs →
-      Premises s.sealing (before ++ es) → AreAllSafe (w ∷ vs)
-  all_safe before [] os [] w [] run p premises = (safe_here before [] os w run premises, tt)
-  all_safe before (e ∷ es) os (o ∷ others) w (v ∷ vs) run (step, more) premises = (
-    safe_here before (e ∷ es) os w run premises,
-    all_safe (before ++ e ∷ []) es (os ++ o ∷ []) others v vs
-        (runs_go_on (start s) w v before (e ∷ []) os (o ∷ []) run (Then w v v e [] o [] step (Rest v))) more
-        (subst (Premises s.sealing) (sym (append_assoc before (e ∷ []) es)) premises),
-  )
-  all_safe before [] os (o ∷ others) w vs run p premises = absurd p
-  all_safe before [] os [] w (v ∷ vs) run p premises = absurd p
-  all_safe before (e ∷ es) os [] w vs run p premises = absurd p
-  all_safe before (e ∷ es) os (o ∷ others) w [] run p premises = absurd p
+-- the worlds behind the first of these
+safe_behind : (w : World) (past vs : List World) → AreAllSafe (w ∷ (past ++ vs)) → AreAllSafe (last_of w past ∷ vs)
+safe_behind w [] vs all = all
+safe_behind w (v ∷ past) vs all = safe_behind v past vs all.1
 
 pub each_world_is_safe : EachWorldIsSafe
-each_world_is_safe s before es os others w vs configured run passes premises = all_safe s configured before es os others w vs run passes premises
+each_world_is_safe s before es os others past vs configured run passes premises aged =
+    safe_behind (start s) past vs
+    (all_safe_in_time s (before ++ es) (os ++ others) (past ++ vs) configured (passing_goes_on (start s) before es os others past vs run passes).0 premises aged)

@@ -17,6 +17,7 @@ use Rattle.sctp_safety.specs.Agreement.{AreAgreed}
 use Rattle.sctp_safety.proofs.moves.GoodStart.{new_ends_start}
 use Rattle.sctp_safety.proofs.moves.Always.{safe_always}
 use Rattle.sctp_model.proofs.receiver.AtRest.{fresh_at_rest}
+use Rattle.sctp_safety.proofs.runs.Dates.{Dated, undated, has_undated}
 use Rattle.sctp_safety.proofs.runs.Direction.{Bags, way_of, Direction}
 use Rattle.sctp_safety.proofs.runs.Pair.{AreOpening, IsMet, opening_quiet, opening_quiet_back, quiet_says, quiet_says_back}
 use Rattle.sctp_safety.proofs.runs.Unmet.{never_opened, IsBlank, IsUnmet}
@@ -57,7 +58,7 @@ module _ (f : Format) (tsn peer_tsn outbound inbound fragment rwnd buffer : ℕ)
   pub new_is_safe : Safe f a r u
   new_is_safe = safe_always way way [] begins refl
 
-  pub new_direction : (out back : List ChunkMeaning) → peer_tsn ≡ tsn → inbound ≡ outbound → 0 < fragment → AreOpening out → AreOpening back →
+  pub new_direction : (out back : List Dated) → peer_tsn ≡ tsn → inbound ≡ outbound → 0 < fragment → AreOpening (undated out) → AreOpening (undated back) →
       Direction f outbound a u r out back
   new_direction out back same streams large opening opening_back = record {
     bags = no_bags;
@@ -67,8 +68,8 @@ module _ (f : Format) (tsn peer_tsn outbound inbound fragment rwnd buffer : ℕ)
     initial = same;
     outbound = refl;
     inbound = streams;
-    said = λ x has. quiet_says f tsn a.plan no_bags x (opening_quiet x (opening x has));
-    said_back = λ x has. quiet_says_back peer_tsn no_bags x (opening_quiet_back x (opening_back x has));
+    said = λ x has. quiet_says f tsn a.plan no_bags x.date.own x.chunk (opening_quiet x.chunk (opening x.chunk (has_undated out x has)));
+    said_back = λ x has. quiet_says_back peer_tsn no_bags x.date.there x.chunk (opening_quiet_back x.chunk (opening_back x.chunk (has_undated back x has)));
   }
 
 -- ---- between two ends
@@ -80,8 +81,8 @@ blank_is_safe e p u none be bp =
     (subst (λ (y : ReceiverView). Safe (format_of e) (fresh_sender e.terms.own_tsn e.terms.outbound e.configuration.fragment be.rwnd e.terms.partial) y u) (sym bp.receiver)
     (new_is_safe (format_of e) e.terms.own_tsn p.terms.peer_tsn e.terms.outbound p.terms.inbound e.configuration.fragment be.rwnd p.configuration.buffer e.terms.partial u none))
 
-one_way : (e p : EndView) (u : Asked) (out back : List ChunkMeaning) → u.calls ≡ [] → IsBlank e → IsBlank p →
-    p.terms.peer_tsn ≡ e.terms.own_tsn → p.terms.inbound ≡ e.terms.outbound → 0 < e.configuration.fragment → AreOpening out → AreOpening back →
+one_way : (e p : EndView) (u : Asked) (out back : List Dated) → u.calls ≡ [] → IsBlank e → IsBlank p →
+    p.terms.peer_tsn ≡ e.terms.own_tsn → p.terms.inbound ≡ e.terms.outbound → 0 < e.configuration.fragment → AreOpening (undated out) → AreOpening (undated back) →
     Direction (format_of e) e.terms.outbound e.sender u p.receiver out back
 one_way e p u out back none be bp same streams large opening opening_back =
     subst (λ (x : SenderView). Direction (format_of e) e.terms.outbound x u p.receiver out back) (sym be.sender)
@@ -90,9 +91,9 @@ one_way e p u out back none be bp same streams large opening opening_back =
     out back same streams large opening opening_back))
 
 -- Two new ends that agree have met.
-directions_meet : (e p : EndView) (u v : Asked) (out back : List ChunkMeaning) → u.calls ≡ [] → v.calls ≡ [] → IsBlank e → IsBlank p → AreAgreed e.terms p.terms →
+directions_meet : (e p : EndView) (u v : Asked) (out back : List Dated) → u.calls ≡ [] → v.calls ≡ [] → IsBlank e → IsBlank p → AreAgreed e.terms p.terms →
     has_agreed e.phase ≡ true → has_agreed p.phase ≡ true → e.moment ≤ u.clock → p.moment ≤ v.clock →
-    0 < e.configuration.fragment → 0 < p.configuration.fragment → AreOpening out → AreOpening back → IsMet e p u v out back
+    0 < e.configuration.fragment → 0 < p.configuration.fragment → AreOpening (undated out) → AreOpening (undated back) → IsMet e p u v out back
 directions_meet e p u v out back none none_there be bp agreed phase phase_there moment moment_there large large_there opening opening_back = record {
   going = one_way e p u out back none be bp agreed.first_tsn agreed.streams large opening opening_back;
   coming = one_way p e v back out none_there bp be (sym agreed.first_tsn_back) (sym agreed.streams_back) large_there opening_back opening;
@@ -135,10 +136,13 @@ one_ending e p out back k opening = record {
 }
 
 -- Both ends have met, and neither is closed.
-pub ends_meet : (e p : EndView) (u v : Asked) (out back : List ChunkMeaning) → u.calls ≡ [] → v.calls ≡ [] → IsBlank e → IsBlank p → AreAgreed e.terms p.terms →
+pub ends_meet : (e p : EndView) (u v : Asked) (out back : List Dated) → u.calls ≡ [] → v.calls ≡ [] → IsBlank e → IsBlank p → AreAgreed e.terms p.terms →
     has_agreed e.phase ≡ true → has_agreed p.phase ≡ true → e.moment ≤ u.clock → p.moment ≤ v.clock →
-    0 < e.configuration.fragment → 0 < p.configuration.fragment → AreOpening out → AreOpening back → IsUnclosed e → IsUnclosed p → IsPair e p u v out back
+    0 < e.configuration.fragment → 0 < p.configuration.fragment → AreOpening (undated out) → AreOpening (undated back) → IsUnclosed e → IsUnclosed p → IsPair e p u v out back
 ends_meet e p u v out back none none_there be bp agreed phase phase_there moment moment_there large large_there opening opening_back unclosed unclosed_there = record {
   met = directions_meet e p u v out back none none_there be bp agreed phase phase_there moment moment_there large large_there opening opening_back;
-  ending = record { this = one_ending e p out back unclosed opening; there = one_ending p e back out unclosed_there opening_back };
+  ending = record {
+    this = one_ending e p (undated out) (undated back) unclosed opening;
+    there = one_ending p e (undated back) (undated out) unclosed_there opening_back;
+  };
 }

@@ -12,6 +12,7 @@ use Rattle.sctp_model.specs.end.Closing.{rested}
 use Rattle.sctp_safety.specs.States.{has_agreed}
 use Rattle.sctp_safety.proofs.lists.Basics.{Has-cases}
 use Rattle.sctp_safety.proofs.machine.EndWords.{rested_cases}
+use Rattle.sctp_safety.proofs.runs.Dates.{Date, Dated, all_dated, each_dated}
 use Rattle.sctp_safety.proofs.runs.Direction.{with_chunks, Bags, IsSaid, IsSaidBack, Direction}
 use Rattle.sctp_safety.proofs.runs.Sending.{said_more}
 
@@ -45,17 +46,17 @@ opens_or_ends x = false
 abbrev pub AreOpening : List ChunkMeaning → Type 0
 AreOpening xs = (x : ChunkMeaning) → Has xs x → opens_or_ends x ≡ true
 
-pub quiet_says : (f : Format) (i : ℕ) (p : Plan) (b : Bags) (x : ChunkMeaning) → is_quiet x ≡ true → IsSaid f i p b x
-quiet_says f i p b (Data m) h = absurd (cc)
-quiet_says f i p b (IData m) h = absurd (cc)
-quiet_says f i p b (ForwardTsn m) h = absurd (cc)
-quiet_says f i p b (IForwardTsn m) h = absurd (cc)
-quiet_says f i p b x h = tt
+pub quiet_says : (f : Format) (i : ℕ) (p : Plan) (b : Bags) (since : ℕ) (x : ChunkMeaning) → is_quiet x ≡ true → IsSaid f i p b since x
+quiet_says f i p b since (Data m) h = absurd (cc)
+quiet_says f i p b since (IData m) h = absurd (cc)
+quiet_says f i p b since (ForwardTsn m) h = absurd (cc)
+quiet_says f i p b since (IForwardTsn m) h = absurd (cc)
+quiet_says f i p b since x h = tt
 
-pub quiet_says_back : (i : ℕ) (b : Bags) (x : ChunkMeaning) → is_quiet_back x ≡ true → IsSaidBack i b x
-quiet_says_back i b (Sack s) h = absurd (cc)
-quiet_says_back i b (Shutdown n) h = absurd (cc)
-quiet_says_back i b x h = tt
+pub quiet_says_back : (i : ℕ) (b : Bags) (since : ℕ) (x : ChunkMeaning) → is_quiet_back x ≡ true → IsSaidBack i b since x
+quiet_says_back i b since (Sack s) h = absurd (cc)
+quiet_says_back i b since (Shutdown n) h = absurd (cc)
+quiet_says_back i b since x h = tt
 
 pub opening_quiet : (x : ChunkMeaning) → opens_or_ends x ≡ true → is_quiet x ≡ true
 opening_quiet (Data m) h = absurd (cc)
@@ -70,23 +71,23 @@ opening_quiet_back (Shutdown n) h = absurd (cc)
 opening_quiet_back x h = refl
 
 -- chunks more that the receiver's end built, and that say nothing of the direction
-pub quiet_back_more : (f : Format) (n : ℕ) (a : SenderView) (u : Asked) (r : ReceiverView) (out back : List ChunkMeaning) (d : Direction f n a u r out back)
-    (xs : List ChunkMeaning) → ((x : ChunkMeaning) → Has xs x → is_quiet_back x ≡ true) → Direction f n a u r out (back ++ xs)
+pub quiet_back_more : (f : Format) (n : ℕ) (a : SenderView) (u : Asked) (r : ReceiverView) (out back : List Dated) (d : Direction f n a u r out back)
+    (xs : List Dated) → ((x : Dated) → Has xs x → is_quiet_back x.chunk ≡ true) → Direction f n a u r out (back ++ xs)
 quiet_back_more f n a u r out back d xs quiet = with_chunks f n a u r out back d out (back ++ xs) d.said (λ x has. which x (Has-cases back xs x has))
   where
-    which : (x : ChunkMeaning) → Has back x ⊎ Has xs x → IsSaidBack r.initial d.bags x
+    which : (x : Dated) → Has back x ⊎ Has xs x → IsSaidBack r.initial d.bags x.date.there x.chunk
     which x (inl h) = d.said_back x h
-    which x (inr h) = quiet_says_back r.initial d.bags x (quiet x h)
+    which x (inr h) = quiet_says_back r.initial d.bags x.date.there x.chunk (quiet x h)
 
 -- and such that the sender's end built
-pub quiet_more : (f : Format) (n : ℕ) (a : SenderView) (u : Asked) (r : ReceiverView) (out back : List ChunkMeaning) → Direction f n a u r out back →
-    (xs : List ChunkMeaning) → ((x : ChunkMeaning) → Has xs x → is_quiet x ≡ true) → Direction f n a u r (out ++ xs) back
-quiet_more f n a u r out back d xs quiet = said_more f n a u r out back d xs (λ x has. quiet_says f a.initial a.plan d.bags x (quiet x has))
+pub quiet_more : (f : Format) (n : ℕ) (a : SenderView) (u : Asked) (r : ReceiverView) (out back : List Dated) → Direction f n a u r out back →
+    (xs : List Dated) → ((x : Dated) → Has xs x → is_quiet x.chunk ≡ true) → Direction f n a u r (out ++ xs) back
+quiet_more f n a u r out back d xs quiet = said_more f n a u r out back d xs (λ x has. quiet_says f a.initial a.plan d.bags x.date.own x.chunk (quiet x has))
 
 -- ---- both directions
 
 -- `u` and `v` are what the users asked for, `out` and `back` the chunks that the end and its peer ever built. Neither end's moment is past the clock.
-pub record IsMet (e p : EndView) (u v : Asked) (out back : List ChunkMeaning) : Type 0 where
+pub record IsMet (e p : EndView) (u v : Asked) (out back : List Dated) : Type 0 where
   pub going : Direction (format_of e) e.terms.outbound e.sender u p.receiver out back
   pub coming : Direction (format_of p) p.terms.outbound p.sender v e.receiver back out
   pub format : format_of e ≡ format_of p
@@ -95,7 +96,7 @@ pub record IsMet (e p : EndView) (u v : Asked) (out back : List ChunkMeaning) : 
   pub moment : e.moment ≤ u.clock
   pub moment_there : p.moment ≤ v.clock
 
-pub turned_round : (e p : EndView) (u v : Asked) (out back : List ChunkMeaning) → IsMet e p u v out back → IsMet p e v u back out
+pub turned_round : (e p : EndView) (u v : Asked) (out back : List Dated) → IsMet e p u v out back → IsMet p e v u back out
 turned_round e p u v out back m = record {
   going = m.coming;
   coming = m.going;
@@ -107,7 +108,7 @@ turned_round e p u v out back m = record {
 }
 
 -- an end with these views, once its chunks are these
-pub met_views : (e p : EndView) (u v : Asked) (out back more : List ChunkMeaning) → IsMet e p u v out back → (a : SenderView) (r : ReceiverView) →
+pub met_views : (e p : EndView) (u v : Asked) (out back more : List Dated) → IsMet e p u v out back → (a : SenderView) (r : ReceiverView) →
     Direction (format_of e) e.terms.outbound a u p.receiver more back → Direction (format_of p) p.terms.outbound p.sender v r back more →
     IsMet (record e { sender = a; receiver = r }) p u v more back
 met_views e p u v out back more m a r going coming = record {
@@ -130,7 +131,7 @@ pub record AreViews (e t : EndView) : Type 0 where
 pub views_same : (e : EndView) → AreViews e e
 views_same e = record { terms = refl; sender = refl; receiver = refl; moment = refl }
 
-pub met_same : (e t p : EndView) (u v : Asked) (out back : List ChunkMeaning) → IsMet e p u v out back → AreViews e t → has_agreed t.phase ≡ true → IsMet t p u v out back
+pub met_same : (e t p : EndView) (u v : Asked) (out back : List Dated) → IsMet e p u v out back → AreViews e t → has_agreed t.phase ≡ true → IsMet t p u v out back
 met_same e t p u v out back m same phase = record {
   going = subst (λ (x : Terms). Direction (format_of (record t { terms = x })) x.outbound t.sender u p.receiver out back) (sym same.terms)
       (subst (λ (a : SenderView). Direction (format_of e) e.terms.outbound a u p.receiver out back) (sym same.sender) m.going);
@@ -152,14 +153,17 @@ views_rested e = rested_cases (λ (t : EndView). AreViews e t) e (views_same e)
 pub agreed_rested : (e : EndView) → has_agreed e.phase ≡ true → has_agreed (rested e).phase ≡ true
 agreed_rested e h = rested_cases (λ (t : EndView). has_agreed t.phase ≡ true) e h (λ t is d. refl) (λ t is d. refl)
 
-pub met_rested : (e p : EndView) (u v : Asked) (out back : List ChunkMeaning) → IsMet e p u v out back → IsMet (rested e) p u v out back
+pub met_rested : (e p : EndView) (u v : Asked) (out back : List Dated) → IsMet e p u v out back → IsMet (rested e) p u v out back
 met_rested e p u v out back m = met_same e (rested e) p u v out back m (views_rested e) (agreed_rested e m.phase)
 
 -- ---- chunks more
 
 -- the end built chunks that say nothing of either direction
-pub met_quiet : (e p : EndView) (u v : Asked) (out back : List ChunkMeaning) → IsMet e p u v out back → (xs : List ChunkMeaning) → AreOpening xs → IsMet e p u v (out ++ xs) back
-met_quiet e p u v out back m xs opening =
-    met_views e p u v out back (out ++ xs) m e.sender e.receiver
-    (quiet_more (format_of e) e.terms.outbound e.sender u p.receiver out back m.going xs (λ x has. opening_quiet x (opening x has)))
-    (quiet_back_more (format_of p) p.terms.outbound p.sender v e.receiver back out m.coming xs (λ x has. opening_quiet_back x (opening x has)))
+pub met_quiet : (e p : EndView) (u v : Asked) (out back : List Dated) → IsMet e p u v out back → (k : Date) (xs : List ChunkMeaning) → AreOpening xs →
+    IsMet e p u v (out ++ all_dated k xs) back
+met_quiet e p u v out back m k xs opening =
+    met_views e p u v out back (out ++ all_dated k xs) m e.sender e.receiver
+    (quiet_more (format_of e) e.terms.outbound e.sender u p.receiver out back m.going (all_dated k xs)
+    (each_dated (λ y. is_quiet y.chunk ≡ true) k xs (λ x has. opening_quiet x (opening x has))))
+    (quiet_back_more (format_of p) p.terms.outbound p.sender v e.receiver back out m.coming (all_dated k xs)
+    (each_dated (λ y. is_quiet_back y.chunk ≡ true) k xs (λ x has. opening_quiet_back x (opening x has))))

@@ -1,8 +1,8 @@
 -- The FORWARD that a sender builds says one of its direction, and each number that it lists is the largest of its lane up to the index that it goes to.
-use Rattle.std.proofs.Common.{◌≡◌, ℕ, ◌<◌, ◌≤◌, ◌⊎◌, List, [], ◌∷◌, ◌++◌, length, Some, inl, inr, refl, subst, ap, arith}
+use Rattle.std.proofs.Common.{◌≡◌, ℕ, ◌+◌, ◌<◌, ◌≤◌, ◌⊎◌, List, [], ◌∷◌, ◌++◌, length, Some, inl, inr, refl, subst, ap, arith}
 use Rattle.std.proofs.lemmas.Bool.{cases_lt}
+use Rattle.sctp_model.specs.numbers.Limits.{WINDOW}
 use Rattle.sctp_model.specs.numbers.Lists.{Has}
-use Rattle.sctp_model.specs.wire.Chunk.{ChunkMeaning}
 use Rattle.sctp_model.specs.messages.Format.{Format, Plain, Interleaved, Lane}
 use Rattle.sctp_model.specs.messages.Plan.{Entry, Plan, entry_at, IsOf}
 use Rattle.sctp_model.specs.messages.Forward.{Skip, Forward, StandsIn, IsLaneBefore, IsListed, IsForward}
@@ -22,6 +22,7 @@ use Rattle.sctp_safety.proofs.moves.Facts.{IsOrderedPlan, Good}
 use Rattle.sctp_safety.proofs.plan.OrderlyPlan.{orderly_when_arranged}
 use Rattle.sctp_safety.proofs.moves.Built.{forward_is_allowed}
 use Rattle.sctp_safety.proofs.moves.Taken.{leads_by}
+use Rattle.sctp_safety.proofs.runs.Dates.{Date, Dated, dated}
 use Rattle.sctp_safety.proofs.runs.Direction.{Bags, way_of, IsForwardIn, IsSaid, Direction}
 use Rattle.sctp_safety.proofs.runs.Sending.{good_here, sender_moved, said_more}
 
@@ -72,7 +73,7 @@ module _ (f : Format) (p : Plan) (c q : ℕ) (x : Forward) (arranged : IsOrdered
 -- ---- a FORWARD goes out
 
 -- the point is an index of the plan, or CUM
-point_within : (f : Format) (a : SenderView) (n : ℕ) (u : Asked) (r : ReceiverView) (out back : List ChunkMeaning) → Direction f n a u r out back →
+point_within : (f : Format) (a : SenderView) (n : ℕ) (u : Asked) (r : ReceiverView) (out back : List Dated) → Direction f n a u r out back →
     point a ≤ length a.plan.entries
 point_within f a n u r out back d = go (cases_lt a.cum (point a))
   where
@@ -81,9 +82,9 @@ point_within f a n u r out back d = go (cases_lt a.cum (point a))
     go (inr le) = let b = (is_bounded f a d.reached).within in omega (arith, b, le)
 
 -- a FORWARD to any index from CUM to the point
-pub after_forward : (f : Format) (n : ℕ) (a : SenderView) (u : Asked) (r : ReceiverView) (out back : List ChunkMeaning) (p : ℕ) → a.cum ≤ p → p ≤ point a →
-    Direction f n a u r out back → Direction f n a u r (out ++ forward_chunk_to f a p ∷ []) back
-after_forward f n a u r out back p from upto d = said_more f n a u r out back moved (forward_chunk_to f a p ∷ []) says
+pub after_forward : (f : Format) (n : ℕ) (a : SenderView) (u : Asked) (r : ReceiverView) (out back : List Dated) (p : ℕ) → a.cum ≤ p → p ≤ point a →
+    Direction f n a u r out back → (k : Date) → k.own ≤ a.cum + WINDOW → Direction f n a u r (out ++ dated k (forward_chunk_to f a p) ∷ []) back
+after_forward f n a u r out back p from upto d k window = said_more f n a u r out back moved (dated k (forward_chunk_to f a p) ∷ []) says
   where
     good : Good (way_of f n a u r d.bags)
     good = good_here f n a u r out back d
@@ -103,7 +104,7 @@ after_forward f n a u r out back p from upto d = said_more f n a u r out back mo
           constants = record { initial = refl; streams = refl; fragment = refl; partial = refl };
         })
 
-    within : IsForwardIn f a.initial a.plan bags.forwards (forward_said f a p)
+    within : IsForwardIn f a.initial a.plan bags.forwards k.own (forward_said f a p)
     within = record {
       said = record {
         forward = forward_to f a p;
@@ -113,12 +114,13 @@ after_forward f n a u r out back p from upto d = said_more f n a u r out back mo
         topped = forward_topped f a.plan a.cum p (forward_to f a p) good.arranged is;
       };
       within = let top = point_within f a n u r out back d in omega (arith, top, upto);
+      window = omega (arith, window, from);
     }
 
-    by_format : (g : Format) → IsForwardIn f a.initial a.plan bags.forwards (forward_said g a p) → IsSaid f a.initial a.plan bags (forward_chunk_to g a p)
+    by_format : (g : Format) → IsForwardIn f a.initial a.plan bags.forwards k.own (forward_said g a p) → IsSaid f a.initial a.plan bags k.own (forward_chunk_to g a p)
     by_format Plain h = h
     by_format Interleaved h = h
 
-    says : (x : ChunkMeaning) → Has (forward_chunk_to f a p ∷ []) x → IsSaid f a.initial a.plan bags x
-    says x (inl e) = subst (λ (y : ChunkMeaning). IsSaid f a.initial a.plan bags y) e (by_format f within)
+    says : (x : Dated) → Has (dated k (forward_chunk_to f a p) ∷ []) x → IsSaid f a.initial a.plan bags x.date.own x.chunk
+    says x (inl e) = subst (λ (y : Dated). IsSaid f a.initial a.plan bags y.date.own y.chunk) e (by_format f within)
     says x (inr h) = absurd h

@@ -1,7 +1,6 @@
 -- What a moment and the calls of a user do to an end that has met its peer.
 use Rattle.std.proofs.Common.{◌≡◌, ℕ, ◌≤◌, ◌||◌, nat_lt, max, Bool, true, false, not, ◌==◌, List, [], ◌∷◌, ◌++◌, Option, Some, None, refl, sym, subst, arith, if◌then◌else◌}
 use Rattle.sctp_model.specs.numbers.Lists.{at}
-use Rattle.sctp_model.specs.wire.Chunk.{ChunkMeaning}
 use Rattle.sctp_model.specs.sender.SenderView.{SenderView}
 use Rattle.sctp_model.specs.receiver.ReceiverView.{Handed}
 use Rattle.sctp_model.specs.world.Calls.{Call, Asked}
@@ -15,12 +14,13 @@ use Rattle.sctp_model.specs.end.Closing.{hears}
 use Rattle.sctp_model.specs.end.Moments.{after_abandoning, due_again, rung, ring, rung_all, all_alarms, passed, ticked, waited_in}
 use Rattle.sctp_model.specs.end.UserCalls.{SendAnswer, Ticket, Refused, NotOpen, is_established, answer_for, send_answer, send_leaves, is_open, abandoned_at, UserTakes, shut_in, shut, AbortAnswer, Aborts, NoPeer, TooLong, abort_leaves}
 use Rattle.sctp_safety.specs.States.{has_agreed}
+use Rattle.sctp_safety.proofs.runs.Dates.{Dated}
 use Rattle.sctp_safety.proofs.runs.Direction.{Direction}
 use Rattle.sctp_safety.proofs.runs.Sending.{after_queue, after_abandon, after_expiry, after_timeout, after_tick}
 use Rattle.sctp_safety.proofs.runs.Hearing.{after_take}
 use Rattle.sctp_safety.proofs.runs.Pair.{met_views, IsMet, AreViews, met_same, met_rested}
 
-module _ (p : EndView) (u v : Asked) (out back : List ChunkMeaning) where
+module _ (p : EndView) (u v : Asked) (out back : List Dated) where
   abbrev Met : EndView → Type 0
   Met e = IsMet e p u v out back
 
@@ -122,7 +122,7 @@ module _ (p : EndView) (u v : Asked) (out back : List ChunkMeaning) where
 -- ---- calls that are asked of the sender
 
 -- the same ends, when the user has asked for more
-met_asked : (e p : EndView) (u x v : Asked) (a : SenderView) (out back : List ChunkMeaning) → IsMet e p u v out back → x.clock ≡ u.clock →
+met_asked : (e p : EndView) (u x v : Asked) (a : SenderView) (out back : List Dated) → IsMet e p u v out back → x.clock ≡ u.clock →
     Direction (format_of e) e.terms.outbound a x p.receiver out back → IsMet (record e { sender = a }) p x v out back
 met_asked e p u x v a out back m clock d = record {
   going = d;
@@ -140,7 +140,7 @@ asked_more u (Ticket t) c = record u { calls = u.calls ++ c ∷ [] }
 asked_more u (Refused r) c = u
 asked_more u NotOpen c = u
 
-pub met_sent : (e p : EndView) (u v : Asked) (out back : List ChunkMeaning) (c : Call) → IsMet e p u v out back →
+pub met_sent : (e p : EndView) (u v : Asked) (out back : List Dated) (c : Call) → IsMet e p u v out back →
     IsMet (send_leaves (send_answer e c) e c) p (asked_more u (send_answer e c) c) v out back
 met_sent e p u v out back c m = go (hears is_established e.phase)
   where
@@ -154,7 +154,7 @@ met_sent e p u v out back c m = go (hears is_established e.phase)
     go true = by (refusal e.sender c.lane.stream c.bytes) refl
     go false = m
 
-pub met_abandoned : (e p : EndView) (u v : Asked) (out back : List ChunkMeaning) (k : ℕ) → IsMet e p u v out back →
+pub met_abandoned : (e p : EndView) (u v : Asked) (out back : List Dated) (k : ℕ) → IsMet e p u v out back →
     IsMet (abandoned_at e k) p (record u { named = at u.named k true }) v out back
 met_abandoned e p u v out back k m = go (is_open e.phase)
   where
@@ -176,7 +176,7 @@ met_abandoned e p u v out back k m = go (is_open e.phase)
 -- ---- the clock
 
 -- the world's clock goes on for both
-pub met_clock : (e p : EndView) (u v : Asked) (out back : List ChunkMeaning) (m : ℕ) → IsMet e p u v out back →
+pub met_clock : (e p : EndView) (u v : Asked) (out back : List Dated) (m : ℕ) → IsMet e p u v out back →
     IsMet e p (record u { clock = max u.clock m }) (record v { clock = max v.clock m }) out back
 met_clock e p u v out back n m = record {
   going = after_tick (format_of e) e.terms.outbound e.sender u p.receiver out back m.going n;
