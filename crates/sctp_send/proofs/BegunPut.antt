@@ -127,7 +127,7 @@ module _ (f : Format) (s : Kept) (v : SenderView) (old : Draft) (m : MessageFiel
   led = numbered v (queued_meaning s.fragment m) (suc by.less) (without_place place v.queue) turn
 
   -- its number leaves room to count
-  pub begun_few : suc number < 2 ^ 32
+  pub begun_few : suc number < 2 ^ 64
   begun_few =
       let l = lane_meaning m in
       let same : number ≡ length (v.plan.messages l) = its ∙ ap (number_in l.kind) (track_at f (drafted s old) v l.stream fresh_track k by.low) ∙ number_is v l in

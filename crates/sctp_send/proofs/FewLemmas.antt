@@ -1,21 +1,21 @@
--- Bounds on what counts: the messages of a lane, and the fragments of a message, are fewer than the TSNs promised.
-use Rattle.std.proofs.Common.{◌≡◌, ℕ, zero, suc, ◌+◌, ◌<◌, ◌≤◌, ◌^◌, List, [], ◌∷◌, ◌++◌, length, Bool, true, false, Some, ap, subst, arith, length-append}
+-- Bounds on what counts: the messages of a lane are fewer than the TSNs promised, the fragments of a message no more than the bytes of the longest.
+use Rattle.std.proofs.Common.{◌≡◌, ℕ, zero, suc, ◌<◌, ◌≤◌, ◌^◌, List, [], ◌∷◌, ◌++◌, length, Bool, true, false, Some, ap, subst, arith, length-append}
 use Rattle.std.specs.Prelude.{slice_get, if◌then◌else◌}
-use Rattle.sctp_model.specs.numbers.Limits.{TSN_LIMIT}
+use Rattle.sctp_model.specs.numbers.Limits.{LONGEST_MESSAGE}
 use Rattle.sctp_model.specs.messages.Format.{Format, Lane, same_lane}
 use Rattle.sctp_model.specs.messages.Plan.{Message, Entry, End, Plan, parts_from}
 use Rattle.sctp_model.specs.sender.SenderView.{Queued, SenderView}
 use Rattle.sctp_model.specs.sender.Entries.{entry_fragment, fragments_in, continued}
-use Rattle.sctp_model.specs.sender.Assigning.{with_message, with_entry, is_on, first_on}
-use Rattle.sctp_model.specs.sender.Queueing.{owed_by_queue, owed_by_parts}
+use Rattle.sctp_model.specs.sender.Assigning.{with_message, with_entry, is_on, first_on, without_first}
 use Rattle.sctp_model.specs.sender.Reached.{IsReached, Begins, Queues, Goes, Covers, Closes, Abandons, Repeats}
 use Rattle.sctp_model.proofs.sender.WishCases.{IsAssigned, Whole, Begun, Continued, after_wish}
 use Rattle.sctp_model.proofs.sender.AbandonCases.{after_abandon, after_end}
-use Rattle.sctp_model.proofs.sender.SetLaws.{AllFilled, is_filled}
+use Rattle.sctp_model.proofs.sender.SetLaws.{AllFilled, is_filled, accepted, is_set}
 use Rattle.sctp_model.proofs.sender.Bounds.{length-parts}
 use Rattle.sctp_model.proofs.sender.PlanLaws.{continued_is}
 use Rattle.sctp_model.proofs.sender.CountLaws.{is_named}
 use Rattle.sctp_model.proofs.sender.OwedLaws.{is_promised}
+use Rattle.sctp_send.proofs.QueueLemmas.{cut_short}
 
 -- ---- messages of a lane
 
@@ -53,75 +53,87 @@ has_indexes f _ (Abandons v t h) =
     after_abandon HasIndexes v t before (λ on. before) (λ n is kept. after_end (λ (p : Plan). (l : Lane) → length (p.messages l) ≤ length p.entries) v n (λ off. before) (λ on. indexes_more v (End n.lane n.number) before))
 has_indexes f _ (Repeats v h) = has_indexes f v h
 
--- the code counts them in 32 bits
-pub few_messages : (f : Format) (v : SenderView) (l : Lane) → IsReached f v → suc (length (v.plan.messages l)) < 2 ^ 32
+-- the code counts them in 64 bits
+pub few_messages : (f : Format) (v : SenderView) (l : Lane) → IsReached f v → suc (length (v.plan.messages l)) < 2 ^ 64
 few_messages f v l h = let all = has_indexes f v h l in let most = is_promised f v h in omega (arith, all, most)
 
--- ---- fragments of messages that wait
+-- ---- fragments of a message
 
--- what a message owes is owed by the queue
-first_owed : (s : ℕ) (q : Queued) (qs : List Queued) → first_on s qs ≡ Some q → length q.message.fragments ≤ owed_by_queue qs
-first_owed s q [] is = absurd (cc)
-first_owed s q (x ∷ qs) is = by_test (is_on s x) is (λ there. first_owed s q qs there)
+-- none of these messages has more fragments than the longest message has bytes
+abbrev AllShort : {A : Type 0} → (A → Message) → List A → Type 0
+AllShort g [] = Unit {0}
+AllShort g (x ∷ xs) = (length (g x).fragments ≤ LONGEST_MESSAGE) × AllShort g xs
+
+short_push : {A : Type 0} (g : A → Message) (xs : List A) (x : A) → AllShort g xs → length (g x).fragments ≤ LONGEST_MESSAGE → AllShort g (xs ++ x ∷ [])
+short_push g [] x h short = (short, tt)
+short_push g (y ∷ xs) x h short = (h.0, short_push g xs x h.1 short)
+
+-- a message that waits, without its place in the queue
+abbrev of_queued : Queued → Message
+of_queued q = q.message
+
+abbrev itself : Message → Message
+itself m = m
+
+short_rest : (meant : Queued → Bool) (qs : List Queued) → AllShort of_queued qs → AllShort of_queued (without_first meant qs)
+short_rest meant [] h = tt
+short_rest meant (q ∷ qs) h = by_test (meant q) (short_rest meant qs h.1)
   where
-    by_test : (b : Bool) → (if b then Some x else first_on s qs) ≡ Some q → (first_on s qs ≡ Some q → length q.message.fragments ≤ owed_by_queue qs) → length q.message.fragments ≤ owed_by_queue (x ∷ qs)
-    by_test true here further = let same : x ≡ q = cc in subst (λ (y : Queued). length y.message.fragments ≤ owed_by_queue (x ∷ qs)) same (omega arith)
-    by_test false here further = let rest = further here in omega arith
+    by_test : (b : Bool) → AllShort of_queued (without_first meant qs) → AllShort of_queued (if b then qs else q ∷ without_first meant qs)
+    by_test true rest = h.1
+    by_test false rest = (h.0, rest)
 
--- ---- fragments of messages that have a number
-
--- none of these messages has more fragments than there are TSNs
-abbrev AllFew : List Message → Type 0
-AllFew [] = Unit {0}
-AllFew (m ∷ ms) = (length m.fragments ≤ TSN_LIMIT) × AllFew ms
-
-few_push : (ms : List Message) (m : Message) → AllFew ms → length m.fragments ≤ TSN_LIMIT → AllFew (ms ++ m ∷ [])
-few_push [] m h few = (few, tt)
-few_push (x ∷ ms) m h few = (h.0, few_push ms m h.1 few)
-
-few_there : (ms : List Message) (n : ℕ) → AllFew ms → length (fragments_in (slice_get ms n)) ≤ TSN_LIMIT
-few_there [] n h = omega arith
-few_there (m ∷ ms) zero h = h.0
-few_there (m ∷ ms) (suc n) h = few_there ms n h.1
-
--- so it is on each lane
-abbrev IsFew : SenderView → Type 0
-IsFew v = (l : Lane) → AllFew (v.plan.messages l)
-
-few_new : (v : SenderView) (q : Queued) (d : ℕ) → IsFew v → length q.message.fragments ≤ TSN_LIMIT → (l : Lane) → AllFew ((with_message v.plan q d).messages l)
-few_new v q d h few l = by_lane (same_lane l q.lane)
+short_first : (s : ℕ) (q : Queued) (qs : List Queued) → AllShort of_queued qs → first_on s qs ≡ Some q → length q.message.fragments ≤ LONGEST_MESSAGE
+short_first s q [] h is = absurd (cc)
+short_first s q (x ∷ qs) h is = by_test (is_on s x) is (λ there. short_first s q qs h.1 there)
   where
-    by_lane : (b : Bool) → AllFew (if b then v.plan.messages q.lane ++ q.message ∷ [] else v.plan.messages l)
-    by_lane true = few_push (v.plan.messages q.lane) q.message (h q.lane) few
+    by_test : (b : Bool) → (if b then Some x else first_on s qs) ≡ Some q → (first_on s qs ≡ Some q → length q.message.fragments ≤ LONGEST_MESSAGE) → length q.message.fragments ≤ LONGEST_MESSAGE
+    by_test true here further = let same : x ≡ q = cc in subst (λ (y : Queued). length y.message.fragments ≤ LONGEST_MESSAGE) same h.0
+    by_test false here further = further here
+
+short_there : (ms : List Message) (n : ℕ) → AllShort itself ms → length (fragments_in (slice_get ms n)) ≤ LONGEST_MESSAGE
+short_there [] n h = omega arith
+short_there (m ∷ ms) zero h = h.0
+short_there (m ∷ ms) (suc n) h = short_there ms n h.1
+
+-- so it is with those that wait, and with those of each lane
+abbrev IsShort : SenderView → Type 0
+IsShort v = AllShort of_queued v.queue × ((l : Lane) → AllShort itself (v.plan.messages l))
+
+short_new : (v : SenderView) (q : Queued) (d : ℕ) → ((l : Lane) → AllShort itself (v.plan.messages l)) → length q.message.fragments ≤ LONGEST_MESSAGE → (l : Lane) → AllShort itself ((with_message v.plan q d).messages l)
+short_new v q d h short l = by_lane (same_lane l q.lane)
+  where
+    by_lane : (b : Bool) → AllShort itself (if b then v.plan.messages q.lane ++ q.message ∷ [] else v.plan.messages l)
+    by_lane true = short_push itself (v.plan.messages q.lane) q.message (h q.lane) short
     by_lane false = h l
 
-few_assigned : (f : Format) (v u : SenderView) → IsReached f v → IsFew v → IsAssigned v f u → IsFew u
-few_assigned f v u reached h a = by_case f u a (is_promised f v reached)
-  where
-    by_case : (g : Format) (x : SenderView) → IsAssigned v g x → length v.plan.entries + (owed_by_queue v.queue + owed_by_parts v) ≤ TSN_LIMIT → IsFew x
-    by_case _ _ (Whole q rest is) most =
-        let owed = ap owed_by_queue is in
-        few_new v q (length q.message.fragments) h (omega (arith, owed, most))
-    by_case _ _ (Begun s q lt idle first) most =
-        let owed = first_owed s q v.queue first in
-        few_new v q 1 h (omega (arith, owed, most))
-    by_case _ _ (Continued s e lt on) most = h
+short_assigned : (f : Format) (v u : SenderView) → IsShort v → IsAssigned v f u → IsShort u
+short_assigned _ v _ h (Whole q rest is) =
+    let all = subst (λ (qs : List Queued). AllShort of_queued qs) is h.0 in
+    (all.1, short_new v q (length q.message.fragments) h.1 all.0)
+short_assigned _ v _ h (Begun s q lt idle first) = (short_rest (is_on s) v.queue h.0, short_new v q 1 h.1 (short_first s q v.queue h.0 first))
+short_assigned _ v _ h (Continued s e lt on) = h
 
-is_few : (f : Format) (v : SenderView) → IsReached f v → IsFew v
-is_few f _ (Begins i s b r p large) = λ l. tt
-is_few f _ (Queues v l p b u h free) = is_few f v h
-is_few f _ (Goes v room w h next may) = after_wish IsFew f v w (is_few f v h) (λ u a. few_assigned f v u h (is_few f v h) a) (λ u i k. k) next
-is_few f _ (Covers v x h none) = is_few f v h
-is_few f _ (Closes v x h none) = is_few f v h
-is_few f _ (Abandons v t h) =
-    let before = is_few f v h in
-    after_abandon IsFew v t before (λ on. before) (λ n is kept. after_end (λ (p : Plan). (l : Lane) → AllFew (p.messages l)) v n (λ off. before) (λ on. before))
-is_few f _ (Repeats v h) = is_few f v h
+are_short : (f : Format) (v : SenderView) → IsReached f v → IsShort v
+are_short f _ (Begins i s b r p large) = (tt, λ l. tt)
+are_short f _ (Queues v l p b u h free) =
+    let k = are_short f v h in
+    let bytes = (accepted v l.stream b free).short in
+    let cut = cut_short v.fragment b (is_set f v h).fragment in
+    (short_push of_queued v.queue _ k.0 (omega (arith, bytes, cut)), k.1)
+are_short f _ (Goes v room w h next may) = after_wish IsShort f v w (are_short f v h) (λ u a. short_assigned f v u (are_short f v h) a) (λ u i k. k) next
+are_short f _ (Covers v x h none) = are_short f v h
+are_short f _ (Closes v x h none) = are_short f v h
+are_short f _ (Abandons v t h) =
+    let k = are_short f v h in
+    after_abandon IsShort v t k (λ on. (short_rest _ v.queue k.0, k.1))
+    (λ n is kept. (k.0, after_end (λ (p : Plan). (l : Lane) → AllShort itself (p.messages l)) v n (λ off. k.1) (λ on. k.1)))
+are_short f _ (Repeats v h) = are_short f v h
 
 -- the code counts those of a message in part in 32 bits
 pub few_fragments : (f : Format) (v : SenderView) (s : ℕ) (e : Entry) → IsReached f v → continued v.plan s ≡ Some e → suc (entry_fragment e) < 2 ^ 32
 few_fragments f v s e h on =
     let next = continued_is v.streams v.plan s e (is_named f v h) on in
-    let few = few_there (v.plan.messages next.lane) next.number (is_few f v h next.lane) in
+    let few = short_there (v.plan.messages next.lane) next.number ((are_short f v h).1 next.lane) in
     let place = ap entry_fragment next.is in
     omega (arith, next.more, few, place)

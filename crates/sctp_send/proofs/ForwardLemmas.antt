@@ -17,7 +17,7 @@ use Rattle.sctp_model.specs.sender.SenderView.{SenderView}
 use Rattle.sctp_model.specs.sender.Readers.{point}
 use Rattle.sctp_model.specs.sender.Forwarding.{largest_in, entries_to, skip_in, skip_of, skips_on, skips_below}
 use Rattle.sctp_model.specs.sender.SentChunks.{is_unordered, skip_said}
-use Rattle.sctp_model.proofs.sender.OwedLaws.{is_promised}
+use Rattle.sctp_model.proofs.sender.OwedLaws.{is_promised, is_windowed}
 use Rattle.sctp_wire.specs.Skips.{skip_size, skips_in, IsSkip}
 use Rattle.sctp_packet.specs.Draft.{Draft, room_in, has_room}
 use Rattle.sctp_packet.proofs.DraftLemmas.{size_of_more}
@@ -130,7 +130,7 @@ first_entries size (suc run) (e ∷ es) = ap (λ (xs : List Entry). (item_meanin
 -- how far the point is past CUM
 pub record IsPassed (v : SenderView) (run : ℕ) : Type 0 where
   pub point : point v ≡ v.cum + run
-  pub within : v.cum + run < 2 ^ 31
+  pub within : v.cum + run < 2 ^ 64
 
 pub is_passed : (f : Format) (s : Kept) (v : SenderView) → Keeps f s v → IsPassed v (abandoned_items s.items % 2 ^ 32)
 is_passed f s v k =
@@ -138,7 +138,8 @@ is_passed f s v k =
     let within = run_within s.items in
     let long = kept_length f s v k in
     let most = is_promised f v k.reached in
-    record { point = omega (arith, run, within, long, most); within = omega (arith, run, within, long, most) }
+    let window = is_windowed f v k.reached in
+    record { point = omega (arith, run, within, long, window); within = omega (arith, run, within, long, most) }
 
 -- the first entries that are kept are the first ones after CUM
 pub first_to : (f : Format) (s : Kept) (v : SenderView) (size n : ℕ) (es : List EntryFields) → Keeps f s v → s.items ≡ map (item_meaning size) es

@@ -39,7 +39,7 @@ kept_length f s v k =
 -- ---- CUM moves
 
 -- it stays within its bits
-next_cum : (f : Format) (s : Kept) (v : SenderView) (wire n : ℕ) → Keeps f s v → IsPassing v wire n → (s.cum + n) % 2 ^ 32 ≡ index_of v wire
+next_cum : (f : Format) (s : Kept) (v : SenderView) (wire n : ℕ) → Keeps f s v → IsPassing v wire n → (s.cum + n) % 2 ^ 64 ≡ index_of v wire
 next_cum f s v wire n k p = let cum = k.holds.cum in let most = is_promised f v k.reached in omega (arith, cum, most, p.index, p.within)
 
 items_beyond : (v : SenderView) (es : List Entry) (i n : ℕ) → items_from v (n + i) (drop n es) ≡ drop n (items_from v i es)
@@ -84,7 +84,7 @@ sacked_runs None c bs h = tt
 sacked_runs (Some rs) c bs h = (h.order, λ i some. sym (beyond_covers c i bs some) ∙ sym (h.same i some))
 
 pub keeps_sacked : (f : Format) (s : Kept) (v : SenderView) (x : SackMeaning) (n : ℕ) (rs : Option (List CoveredRun)) → Keeps f s v → IsPassing v x.cumulative n → sack_fault v x ≡ None → AreOfBlocks rs x.blocks
-    → Keeps f (record s { cum = (s.cum + n) % 2 ^ 32; rwnd = x.rwnd; items = items_told (in_blocks 0 x.blocks) 1 (drop n s.items); runs = rs }) (sack_after v x)
+    → Keeps f (record s { cum = (s.cum + n) % 2 ^ 64; rwnd = x.rwnd; items = items_told (in_blocks 0 x.blocks) 1 (drop n s.items); runs = rs }) (sack_after v x)
 keeps_sacked f s v x n rs k p none runs =
     let c = v.cum + n in
     let start : suc (c + 0) ≡ suc c = omega arith in
@@ -130,7 +130,7 @@ beyond_stays v c (e ∷ es) i lt apart =
     by_cover false off = and_true (v.marked i)
 
 pub keeps_shut : (f : Format) (s : Kept) (v : SenderView) (wire n : ℕ) → Keeps f s v → IsPassing v wire n → shutdown_fault v wire ≡ None
-    → Keeps f (record s { cum = (s.cum + n) % 2 ^ 32; items = drop n s.items; runs = option_map (runs_behind n) s.runs }) (shutdown_after v wire)
+    → Keeps f (record s { cum = (s.cum + n) % 2 ^ 64; items = drop n s.items; runs = option_map (runs_behind n) s.runs }) (shutdown_after v wire)
 keeps_shut f s v wire n k p none =
     let c = v.cum + n in
     let stays = beyond_stays v c (drop c v.plan.entries) (suc c) (omega arith) (is_bounded f v k.reached).apart in

@@ -104,7 +104,7 @@ order_removed f here (suc n) [] h = tt
 order_removed f here zero (x ∷ xs) h = order_from f here (f x) xs h.0 h.1
 order_removed f here (suc n) (x ∷ xs) h = (h.0, order_removed f (f x) n xs h.1)
 
-small_inserted : (n : ℕ) (y : Pair) (xs : List Pair) → y.second < 2 ^ 32 → AreSmall xs → AreSmall (insert xs n y)
+small_inserted : (n : ℕ) (y : Pair) (xs : List Pair) → y.second < 2 ^ 64 → AreSmall xs → AreSmall (insert xs n y)
 small_inserted zero y xs here h = (here, h)
 small_inserted (suc n) y [] here h = (here, tt)
 small_inserted (suc n) y (x ∷ xs) here h = (h.0, small_inserted n y xs here h.1)
@@ -115,12 +115,12 @@ small_removed (suc n) [] h = tt
 small_removed zero (x ∷ xs) h = h.1
 small_removed (suc n) (x ∷ xs) h = (h.0, small_removed n xs h.1)
 
-pub is_small : (at : ℕ) (xs : List Pair) (d : Pair) → AreSmall xs → at < length xs → (get_or xs at d).second < 2 ^ 32
+pub is_small : (at : ℕ) (xs : List Pair) (d : Pair) → AreSmall xs → at < length xs → (get_or xs at d).second < 2 ^ 64
 is_small at [] d h lt = absurd (omega arith)
 is_small zero (x ∷ xs) d h lt = h.0
 is_small (suc at) (x ∷ xs) d h lt = is_small at xs d h.1 (omega arith)
 
-pub ordered_inserted : (y : Pair) (xs : List Pair) → y.second < 2 ^ 32 → AreOrdered xs → AreOrdered (insert xs (before key (key y) xs) y)
+pub ordered_inserted : (y : Pair) (xs : List Pair) → y.second < 2 ^ 64 → AreOrdered xs → AreOrdered (insert xs (before key (key y) xs) y)
 ordered_inserted y xs here h = record { order = order_inserted key 0 y xs (omega arith) h.order; small = small_inserted (before key (key y) xs) y xs here h.small }
 
 pub ordered_removed : (n : ℕ) (xs : List Pair) → AreOrdered xs → AreOrdered (remove xs n)
@@ -145,7 +145,7 @@ same_pair p x lt = by_tests (x.first == p.first) (x.second == p.second) refl ref
     by_tests false b one two h = absurd (omega arith)
 
 -- a pair is known by its place
-pub same_numbers : (x p : Pair) → key x ≡ key p → x.second < 2 ^ 32 → p.second < 2 ^ 32 → x ≡ p
+pub same_numbers : (x p : Pair) → key x ≡ key p → x.second < 2 ^ 64 → p.second < 2 ^ 64 → x ≡ p
 same_numbers x p is one two =
     let first : x.first ≡ p.first = omega (arith, is, one, two) in
     let second : x.second ≡ p.second = omega (arith, is, one, two) in

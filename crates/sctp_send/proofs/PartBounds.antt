@@ -97,10 +97,10 @@ left_changed size earliest at bs cs ts next y is worth h others here = subst (Ar
 abbrev pub WereAbove : (now from upto : ℕ) → List ℕ → List Pair → Type 0
 WereAbove now from upto bs ps = (k : ℕ) (d : Pair) → from ≤ k → k < upto → k < length ps → now < bound_of bs (get_or ps k d).first
 
-pub passed_pairs : (now place last at result : ℕ) (bs : List ℕ) (ps : List Pair) (p : Pair) → AreOrdered ps → place < length ps → p ≡ get_or ps place p → at ≡ before key (last * 2 ^ 32 + 4294967295) ps → ((t : ℕ) → p.first ≤ t → t ≤ last → now < bound_of bs t)
+pub passed_pairs : (now place last at result : ℕ) (bs : List ℕ) (ps : List Pair) (p : Pair) → AreOrdered ps → place < length ps → p ≡ get_or ps place p → at ≡ before key (last * 2 ^ 64 + 18446744073709551615) ps → ((t : ℕ) → p.first ≤ t → t ≤ last → now < bound_of bs t)
     → (place ≤ result) → (place < result → result ≤ at) → WereAbove now place result bs ps
 passed_pairs now place last at result bs ps p o lt read is above le most = λ k d lo hi within.
-    let less = comes_before key (last * 2 ^ 32 + 4294967295) k ps d (let upto = most (omega (arith, lo, hi)) in omega (arith, hi, upto, is)) in
+    let less = comes_before key (last * 2 ^ 64 + 18446744073709551615) k ps d (let upto = most (omega (arith, lo, hi)) in omega (arith, hi, upto, is)) in
     let more = in_order key 0 place k ps d o.order lo within in
     let small = is_small k ps d o.small within in
     let same : key (get_or ps place d) ≡ key p = ap key (any_default ps place d p lt ∙ sym read) in

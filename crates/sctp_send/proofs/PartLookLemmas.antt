@@ -12,13 +12,13 @@ use Rattle.sctp_send.proofs.PartPairLemmas.{stream_listed, ticket_listed, stream
 -- a pair that is read comes no earlier than the place, and its second number is small
 record IsReadAt (n at : ℕ) (ps : List Pair) (p : Pair) : Type 0 where
   above : n ≤ key p
-  small : p.second < 2 ^ 32
+  small : p.second < 2 ^ 64
 
 read_at : (n at : ℕ) (ps : List Pair) (p : Pair) → AreOrdered ps → at ≡ before key n ps → at < length ps → p ≡ get_or ps at p → IsReadAt n at ps p
 read_at n at ps p o is lt read =
     let behind = comes_behind key n 0 at ps p o.order (omega (arith, is)) lt in
     let same : key p ≡ key (get_or ps at p) = ap key read in
-    record { above = omega (arith, behind, same); small = subst (λ (q : Pair). q.second < 2 ^ 32) (sym read) (is_small at ps p o.small lt) }
+    record { above = omega (arith, behind, same); small = subst (λ (q : Pair). q.second < 2 ^ 64) (sym read) (is_small at ps p o.small lt) }
 
 -- another pair that is no lower than the number stands there or behind
 no_earlier : (n at k : ℕ) (ps : List Pair) (p q : Pair) → AreOrdered ps → at ≡ before key n ps → p ≡ get_or ps at p → k < length ps → get_or ps k p ≡ q → n ≤ key q → key p ≤ key q
@@ -43,15 +43,15 @@ first_none from at os lists on h is all j le = by_left (left_on j os) refl
     by_left (Some t) there =
         let d : Pair = pair_of 0 0 in
         let found = stream_listed j t os lists d on h there in
-        let less = comes_before key (from * 2 ^ 32 + 0) found.0 lists.by_stream.items d (omega (arith, found.1, is, all)) in
-        let same : key (get_or lists.by_stream.items found.0 d) ≡ j * 2 ^ 32 + t = ap key found.2 in
+        let less = comes_before key (from * 2 ^ 64 + 0) found.0 lists.by_stream.items d (omega (arith, found.1, is, all)) in
+        let same : key (get_or lists.by_stream.items found.0 d) ≡ j * 2 ^ 64 + t = ap key found.2 in
         absurd (omega (arith, less, same, le))
 
 -- the first one
 pub first_found : (from at : ℕ) (os : List (Option ℕ)) (lists : PartLists) (p : Pair) → lists.is_listed ≡ true → IsListed os lists → AreOrdered lists.by_stream.items → at ≡ before key (key (record { first = from; second = 0 })) lists.by_stream.items
     → at < length lists.by_stream.items → p ≡ get_or lists.by_stream.items at p → IsFirstLeft from os p
 first_found from at os lists p on h o is lt read =
-    let here = read_at (from * 2 ^ 32 + 0) at lists.by_stream.items p o is lt read in
+    let here = read_at (from * 2 ^ 64 + 0) at lists.by_stream.items p o is lt read in
     record {
       above = let above = here.above in let small = here.small in omega (arith, above, small);
       there = subst (λ (q : Pair). left_on q.first os ≡ Some q.second) (sym read) (stream_left at os lists p on h lt);
@@ -62,8 +62,8 @@ first_found from at os lists p on h o is lt read =
     by_left j le less None there = there
     by_left j le less (Some t) there =
         let found = stream_listed j t os lists p on h there in
-        let small : t < 2 ^ 32 = subst (λ (q : Pair). q.second < 2 ^ 32) found.2 (is_small found.0 lists.by_stream.items p o.small found.1) in
-        let more = no_earlier (from * 2 ^ 32 + 0) at found.0 lists.by_stream.items p (pair_of j t) o is read found.1 found.2 (omega (arith, le)) in
+        let small : t < 2 ^ 64 = subst (λ (q : Pair). q.second < 2 ^ 64) found.2 (is_small found.0 lists.by_stream.items p o.small found.1) in
+        let more = no_earlier (from * 2 ^ 64 + 0) at found.0 lists.by_stream.items p (pair_of j t) o is read found.1 found.2 (omega (arith, le)) in
         absurd (omega (arith, more, small, less))
 
 -- ---- by ticket
@@ -73,8 +73,8 @@ pub with_none : (t at : ℕ) (os : List (Option ℕ)) (lists : PartLists) → li
 with_none t at os lists on h is all j there =
     let d : Pair = pair_of 0 0 in
     let found = ticket_listed j t os lists d on h there in
-    let less = comes_before key (t * 2 ^ 32 + 0) found.0 lists.by_ticket.items d (omega (arith, found.1, is, all)) in
-    let same : key (get_or lists.by_ticket.items found.0 d) ≡ t * 2 ^ 32 + j = ap key found.2 in
+    let less = comes_before key (t * 2 ^ 64 + 0) found.0 lists.by_ticket.items d (omega (arith, found.1, is, all)) in
+    let same : key (get_or lists.by_ticket.items found.0 d) ≡ t * 2 ^ 64 + j = ap key found.2 in
     omega (arith, less, same)
 
 -- the first pair from a ticket on is of a message with this ticket
@@ -85,10 +85,10 @@ with_found t at os lists p on h lt read is = subst (λ (q : Pair). left_on q.sec
 pub with_other : (t at : ℕ) (os : List (Option ℕ)) (lists : PartLists) (p : Pair) → lists.is_listed ≡ true → IsListed os lists → AreOrdered lists.by_ticket.items → at ≡ before key (key (record { first = t; second = 0 })) lists.by_ticket.items
     → at < length lists.by_ticket.items → p ≡ get_or lists.by_ticket.items at p → (p.first ≡ t → ⊥) → (j : ℕ) → left_on j os ≡ Some t → ⊥
 with_other t at os lists p on h o is lt read other j there =
-    let here = read_at (t * 2 ^ 32 + 0) at lists.by_ticket.items p o is lt read in
+    let here = read_at (t * 2 ^ 64 + 0) at lists.by_ticket.items p o is lt read in
     let found = ticket_listed j t os lists p on h there in
-    let small : j < 2 ^ 32 = subst (λ (q : Pair). q.second < 2 ^ 32) found.2 (is_small found.0 lists.by_ticket.items p o.small found.1) in
-    let more = no_earlier (t * 2 ^ 32 + 0) at found.0 lists.by_ticket.items p (pair_of t j) o is read found.1 found.2 (omega arith) in
+    let small : j < 2 ^ 64 = subst (λ (q : Pair). q.second < 2 ^ 64) found.2 (is_small found.0 lists.by_ticket.items p o.small found.1) in
+    let more = no_earlier (t * 2 ^ 64 + 0) at found.0 lists.by_ticket.items p (pair_of t j) o is read found.1 found.2 (omega arith) in
     let above = here.above in
     let low = here.small in
     other (omega (arith, more, small, above, low))

@@ -111,13 +111,13 @@ soonest_least now last found t (suc n) (m ∷ ms) each late = by_late (λ o. soo
 
 -- of the pairs from the last ticket's place up to here none is late
 abbrev pub IsQuietUpTo : (now last size at : ℕ) → List TrackFields → List Pair → Type 0
-IsQuietUpTo now last size at ts ps = (k : ℕ) (d : Pair) → before key (last * 2 ^ 32 + 0) ps ≤ k → k < at → late_after now last (message_on size (get_or ps k d).second ts) ≡ None
+IsQuietUpTo now last size at ts ps = (k : ℕ) (d : Pair) → before key (last * 2 ^ 64 + 0) ps ≤ k → k < at → late_after now last (message_on size (get_or ps k d).second ts) ≡ None
 
 -- one that is late has a pair from that place on
 record IsLatePair (last u j : ℕ) (ps : List Pair) : Type 0 where
   place : ℕ
   within : place < length ps
-  high : before key (last * 2 ^ 32 + 0) ps ≤ place
+  high : before key (last * 2 ^ 64 + 0) ps ≤ place
   is : (d : Pair) → get_or ps place d ≡ pair_of u j
 
 late_pair : (now last size u j : ℕ) (ts : List TrackFields) (lists : PartLists) → lists.is_listed ≡ true → IsListed (tickets_left ts) lists → late_after now last (message_on size j ts) ≡ Some u → IsLatePair last u j lists.by_ticket.items
@@ -125,13 +125,13 @@ late_pair now last size u j ts lists on h late =
     let d : Pair = pair_of 0 0 in
     let own = late_on now last size u j ts late in
     let found = ticket_listed j u (tickets_left ts) lists d on h own.ticket in
-    record { place = found.0; within = found.1; high = by_test found.0 found.2 own.above (nat_lt found.0 (before key (last * 2 ^ 32 + 0) lists.by_ticket.items)) refl; is = λ e. any_default lists.by_ticket.items found.0 e d found.1 ∙ found.2 }
+    record { place = found.0; within = found.1; high = by_test found.0 found.2 own.above (nat_lt found.0 (before key (last * 2 ^ 64 + 0) lists.by_ticket.items)) refl; is = λ e. any_default lists.by_ticket.items found.0 e d found.1 ∙ found.2 }
   where
-    by_test : (k : ℕ) → get_or lists.by_ticket.items k (pair_of 0 0) ≡ pair_of u j → last < u → (b : Bool) → nat_lt k (before key (last * 2 ^ 32 + 0) lists.by_ticket.items) ≡ b → before key (last * 2 ^ 32 + 0) lists.by_ticket.items ≤ k
+    by_test : (k : ℕ) → get_or lists.by_ticket.items k (pair_of 0 0) ≡ pair_of u j → last < u → (b : Bool) → nat_lt k (before key (last * 2 ^ 64 + 0) lists.by_ticket.items) ≡ b → before key (last * 2 ^ 64 + 0) lists.by_ticket.items ≤ k
     by_test k there above true test =
-        let low : k < before key (last * 2 ^ 32 + 0) lists.by_ticket.items = grind (arith, nat_tests) in
-        let less = comes_before key (last * 2 ^ 32 + 0) k lists.by_ticket.items (pair_of 0 0) low in
-        let same : key (get_or lists.by_ticket.items k (pair_of 0 0)) ≡ u * 2 ^ 32 + j = ap key there in
+        let low : k < before key (last * 2 ^ 64 + 0) lists.by_ticket.items = grind (arith, nat_tests) in
+        let less = comes_before key (last * 2 ^ 64 + 0) k lists.by_ticket.items (pair_of 0 0) low in
+        let same : key (get_or lists.by_ticket.items k (pair_of 0 0)) ≡ u * 2 ^ 64 + j = ap key there in
         absurd (omega (arith, less, same, above))
     by_test k there above false test = grind (arith, nat_tests)
 
@@ -186,8 +186,8 @@ late_first now last size at t found result ts lists p x on h o lt read there lat
             let high : at ≤ pair.place = grind (arith, nat_tests) in
             let more = in_order key 0 at pair.place lists.by_ticket.items p o.order high pair.within in
             let one : key p ≡ key (get_or lists.by_ticket.items at p) = ap key read in
-            let other : key (get_or lists.by_ticket.items pair.place p) ≡ u * 2 ^ 32 + j = ap key (pair.is p) in
-            let small : j < 2 ^ 32 = subst (λ (q : Pair). q.second < 2 ^ 32) (pair.is p) (is_small pair.place lists.by_ticket.items p o.small pair.within) in
+            let other : key (get_or lists.by_ticket.items pair.place p) ≡ u * 2 ^ 64 + j = ap key (pair.is p) in
+            let small : j < 2 ^ 64 = subst (λ (q : Pair). q.second < 2 ^ 64) (pair.is p) (is_small pair.place lists.by_ticket.items p o.small pair.within) in
             omega (arith, more, one, other, small, own)
 
 -- none is late

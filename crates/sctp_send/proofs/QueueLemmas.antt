@@ -127,7 +127,8 @@ keeps_queued f s v lane payload ticket bytes until k free given =
 ceil_short : (n size : ℕ) → 0 < size → div_ceil n size ≤ n
 ceil_short n size p = let whole : size * (n / size) + n % size ≡ n = omega arith in let least : 1 * (n / size) ≤ size * (n / size) = mul-le-mul_right (n / size) p in omega (arith, whole, least)
 
-cut_short : (size : ℕ) (bytes : List ℕ) → 0 < size → length (cut size bytes) ≤ length bytes
+-- a message has no more fragments than bytes
+pub cut_short : (size : ℕ) (bytes : List ℕ) → 0 < size → length (cut size bytes) ≤ length bytes
 cut_short size bytes p = rw (length-cut size bytes) (ceil_short (length bytes) size p)
 
 owed_small : (n : ℕ) → n ≤ 65536 → owed_for n ≤ 65537

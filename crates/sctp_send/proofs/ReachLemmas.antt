@@ -145,13 +145,13 @@ walked_far f s v size streams most run n es lanes k items same within is few las
 
 -- the chunk that names those lanes is that of the view
 pub sent_forward : (f : Format) (s : Kept) (v : SenderView) (size limit n cumulative : ℕ) (es : List EntryFields) (lanes : List Passed) → Keeps f s v → s.items ≡ map (item_meaning size) es
-    → forward_end f limit v ≡ v.cum + n → map passed_meaning lanes ≡ skips_below f (entries_of (map (item_meaning size) (take n es))) s.streams → cumulative ≡ tsn s.initial ((s.cum + n) % 2 ^ 32)
+    → forward_end f limit v ≡ v.cum + n → map passed_meaning lanes ≡ skips_below f (entries_of (map (item_meaning size) (take n es))) s.streams → cumulative ≡ tsn s.initial ((s.cum + n) % 2 ^ 64)
     → forward_of_lanes f cumulative lanes ≡ forward_chunk_of f limit v
 sent_forward f s v size limit n cumulative es lanes k items end is said =
     let p = is_passed f s v k in
     let upto = end_upto f limit v in
     let cum = k.holds.cum in
-    let there : (s.cum + n) % 2 ^ 32 ≡ v.cum + n = omega (arith, p.point, p.within, upto, end, cum) in
+    let there : (s.cum + n) % 2 ^ 64 ≡ v.cum + n = omega (arith, p.point, p.within, upto, end, cum) in
     let first : cumulative ≡ tsn v.initial (v.cum + n) = said ∙ rw (k.holds.initial, there) refl in
     let streams = k.holds.streams in
     let skips : map (skip_said f) (map passed_meaning lanes) ≡ (forward_said f v (v.cum + n)).skips = ap (map (skip_said f)) (is ∙ rw (first_to f s v size n es k items, streams) refl) in

@@ -42,7 +42,7 @@ run_within (x ∷ xs) = by_test x.abandoned (run_within xs)
     by_test false rest = omega arith
 
 -- the point
-pub point_is : (f : Format) (s : Kept) (v : SenderView) → Keeps f s v → (s.cum + abandoned_items s.items % 2 ^ 32) % 2 ^ 32 ≡ point v
+pub point_is : (f : Format) (s : Kept) (v : SenderView) → Keeps f s v → (s.cum + abandoned_items s.items % 2 ^ 32) % 2 ^ 64 ≡ point v
 point_is f s v k =
     let run = ap abandoned_items k.holds.items ∙ run_items v (suc v.cum) (drop v.cum v.plan.entries) in
     let within = run_within s.items in

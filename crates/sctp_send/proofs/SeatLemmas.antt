@@ -60,8 +60,8 @@ none_on s size ms x apart =
 record IsSeatAt (ps : List Pair) (stream ticket : ℕ) : Type 0 where
   at : ℕ
   within : at < length ps
-  key_is : (d : Pair) → key (get_or ps at d) ≡ stream * 2 ^ 32 + ticket
-  small : ticket < 2 ^ 32
+  key_is : (d : Pair) → key (get_or ps at d) ≡ stream * 2 ^ 64 + ticket
+  small : ticket < 2 ^ 64
 
 is_seated : (ms : List (Rc MessageFields Global)) (ps : List Pair) (j : ℕ) (x : Rc MessageFields Global) → AreOrdered ps → AreSeats ms ps → j < length ms → IsSeatAt ps (get_or ms j x).value.stream (ticket_in (get_or ms j x))
 is_seated ms ps j x o same lt =
@@ -89,8 +89,8 @@ next_none from below size at (m ∷ ms) ps o same is all s le high = none_on s s
 
 -- a stream and a ticket come no earlier than others
 record IsLater (stream ticket s t : ℕ) : Type 0 where
-  no_lower : stream * 2 ^ 32 + ticket ≤ s * 2 ^ 32 + t
-  small : t < 2 ^ 32
+  no_lower : stream * 2 ^ 64 + ticket ≤ s * 2 ^ 64 + t
+  small : t < 2 ^ 64
 
 -- a message on a stream from one on has a seat no earlier than the first from there
 later_seat : (from at j s : ℕ) (ms : List (Rc MessageFields Global)) (ps : List Pair) (seat : Pair) (x : Rc MessageFields Global) → AreOrdered ps → AreSeats ms ps → at ≡ before key (key (record { first = from; second = 0 })) ps → at < length ps
@@ -113,7 +113,7 @@ later_seat from at j s ms ps seat x o same is lt read low on le = by_test (nat_l
         let k : at ≤ own.at = grind (arith, nat_tests) in
         let more = in_order key 0 at own.at ps seat o.order k own.within in
         let here = own.key_is seat in
-        let first : key (get_or ps at seat) ≡ seat.first * 2 ^ 32 + seat.second = ap key (sym read) in
+        let first : key (get_or ps at seat) ≡ seat.first * 2 ^ 64 + seat.second = ap key (sym read) in
         record { no_lower = omega (arith, more, here, first, on); small = own.small }
 
 -- the message of the first seat from a stream on stands where its ticket is, and nothing waits on the streams between
@@ -149,8 +149,8 @@ first_seat from size at place ms ps seat x h o same is lt read by_ticket =
     let within : place < length ms = omega (arith, here, found.1) in
     let stream : (get_or ms place x).value.stream ≡ seat.first = ap (λ (k : ℕ). (get_or ms k x).value.stream) here ∙ ap (λ (p : Pair). p.first) mine in
     let start : Pair = record { first = from; second = 0 } in
-    let key_is : key (get_or ps at seat) ≡ seat.first * 2 ^ 32 + seat.second = ap key (sym read) in
-    let little : seat.second < 2 ^ 32 = subst (λ (p : Pair). p.second < 2 ^ 32) (sym read) (is_small at ps seat o.small lt) in
+    let key_is : key (get_or ps at seat) ≡ seat.first * 2 ^ 64 + seat.second = ap key (sym read) in
+    let little : seat.second < 2 ^ 64 = subst (λ (p : Pair). p.second < 2 ^ 64) (sym read) (is_small at ps seat o.small lt) in
     let behind = comes_behind key (key start) 0 at ps seat o.order (omega (arith, is)) lt in
     let above : from ≤ seat.first = omega (arith, behind, key_is, little) in
     -- a message on a stream from there on has a seat no lower than the first one

@@ -79,7 +79,7 @@ impl<F: Framing> Sender<F> {
     }
 
     /// Abandons the message with this ticket, which has a number and was not abandoned.
-    fn abandon_numbered(&mut self, ticket: u32) -> Abandoned
+    fn abandon_numbered(&mut self, ticket: u64) -> Abandoned
         requires some { 0 < ticket }
         requires given { ticket ≤ length self.old.fates }
         ensures answer { (v : SenderView) → StandsFor F.format self.old v → is_numbered_fate (fate_here v ticket) ≡ true → answer_meaning result ≡ abandon_answer v ticket }
@@ -101,7 +101,7 @@ impl<F: Framing> Sender<F> {
 }
 
 /// The place of the message with this ticket among those that wait, or how many there are.
-fn place_of(queue: &Queue, ticket: u32) -> usize
+fn place_of(queue: &Queue, ticket: u64) -> usize
     ensures { (size : ℕ) → without ticket (map (queued_by size) queue.now.items)
         ≡ take result (map (queued_by size) queue.now.items) ++ drop (result + 1) (map (queued_by size) queue.now.items) }
 {
@@ -115,7 +115,7 @@ fn place_of(queue: &Queue, ticket: u32) -> usize
 }
 
 /// The message with this ticket waits no more.
-fn withdraw(queue: &mut Queue, ticket: u32)
+fn withdraw(queue: &mut Queue, ticket: u64)
     ensures size { queue.new.size ≡ queue.old.size }
     ensures items { (size : ℕ) → map (queued_by size) queue.new.items ≡ without ticket (map (queued_by size) queue.old.items) }
 {
@@ -124,7 +124,7 @@ fn withdraw(queue: &mut Queue, ticket: u32)
 }
 
 /// The stream that goes on with the message with this ticket goes on with nothing; what was left of the message, where there is such a stream.
-fn end(tracks: &mut Streams, ticket: u32) -> Option<Rest>
+fn end(tracks: &mut Streams, ticket: u64) -> Option<Rest>
     ensures size { tracks.new.size ≡ tracks.old.size }
     ensures none { (size : ℕ) → IfNone result (any_rest ticket (map (track_meaning size) tracks.old.items) ≡ false) }
     ensures same { IfNone result (tracks.new.items ≡ tracks.old.items) }

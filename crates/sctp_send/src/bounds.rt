@@ -4,7 +4,7 @@ ghost use Rattle.std.specs.Prelude.{◌≡◌, ℕ, ◌+◌, ◌*◌, ◌/◌, �
 ghost use Rattle.sctp_send.specs.inner.Bounding.{bound_at, bound_of};
 
 /// How many tickets in a row are a group.
-const TICKETS: u32 = 64;
+const TICKETS: u64 = 64;
 
 /// How many groups in a row have a bound each; one that lies so many further on shares it.
 pub const GROUPS: usize = 512;
@@ -13,7 +13,7 @@ pub const GROUPS: usize = 512;
 const FEW: usize = 256;
 
 /// The bound of a group: the first moment, where none is kept.
-fn bound_at(bounds: &[u64], group: u32) -> u64
+fn bound_at(bounds: &[u64], group: u64) -> u64
     ensures { result ≡ bound_at bounds.now group }
 {
     let at = group as usize % GROUPS;
@@ -21,7 +21,7 @@ fn bound_at(bounds: &[u64], group: u32) -> u64
 }
 
 /// The first group from one on whose moment has come; or the end.
-fn first_low(bounds: &[u64], from: u32, end: u32, now: u64) -> u32
+fn first_low(bounds: &[u64], from: u64, end: u64, now: u64) -> u64
     ensures above { (group : ℕ) → from ≤ group → group < result → now < bound_at bounds.now group }
     ensures within { result ≤ end }
 {
@@ -35,7 +35,7 @@ fn first_low(bounds: &[u64], from: u32, end: u32, now: u64) -> u32
 
 /// The last of the tickets in a row, from this one on, of groups whose moments haven't come, if this one's hasn't. Groups behind that of
 /// `upto` are not asked for.
-pub fn passed(bounds: &[u64], ticket: u32, upto: u32, now: u64) -> Option<u32>
+pub fn passed(bounds: &[u64], ticket: u64, upto: u64, now: u64) -> Option<u64>
     ensures last { IfSome result (λ last. ticket ≤ last) }
     ensures within { IfSome result (λ last. last ≤ upto / 64 * 64 + 63) }
     ensures above { IfSome result (λ last. (t : ℕ) → ticket ≤ t → t ≤ last → now < bound_of bounds.now t) }
@@ -49,7 +49,7 @@ pub fn passed(bounds: &[u64], ticket: u32, upto: u32, now: u64) -> Option<u32>
 }
 
 /// A message with this ticket is worthless from this moment on.
-pub fn lower(bounds: &mut [u64], ticket: u32, moment: u64)
+pub fn lower(bounds: &mut [u64], ticket: u64, moment: u64)
     ensures each { (t : ℕ) → bound_of bounds.new t ≤ bound_of bounds.old t }
     ensures here { bound_of bounds.new ticket ≤ moment }
 {

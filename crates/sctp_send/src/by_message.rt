@@ -15,7 +15,7 @@ use std::collections::VecDeque;
 
 impl Outstanding {
     /// Some entry of the message with this ticket is not covered.
-    pub fn some_uncovered(&self, ticket: u32) -> bool
+    pub fn some_uncovered(&self, ticket: u64) -> bool
         ensures { (size : ℕ) → result ≡ any_uncovered ticket (map (item_meaning size) self.now.items) }
     {
         let start = self.by_ticket.place(ticket, 0);
@@ -30,7 +30,7 @@ impl Outstanding {
     }
 
     /// Each entry of the message with this ticket is abandoned.
-    pub fn abandon(&mut self, ticket: u32)
+    pub fn abandon(&mut self, ticket: u64)
         ensures items { self.new.items ≡ all_given ticket self.old.items }
         ensures kept { IsSameRoom self.old self.new }
     {
@@ -44,14 +44,14 @@ impl Outstanding {
 }
 
 /// An entry is of the message with this ticket, and not covered.
-fn is_uncovered(entry: &Entry, ticket: u32) -> bool
+fn is_uncovered(entry: &Entry, ticket: u64) -> bool
     ensures { (size : ℕ) → result ≡ is_item_uncovered ticket (item_meaning size entry.now) }
 {
     entry.message.ticket == ticket && !entry.covered
 }
 
 /// An entry of the message with this ticket is abandoned; its mark ends.
-fn give_one(entries: &mut VecDeque<Entry>, counts: &mut Counts, size: u16, at: usize, ticket: u32)
+fn give_one(entries: &mut VecDeque<Entry>, counts: &mut Counts, size: u16, at: usize, ticket: u64)
     requires within { at < length entries.old.items }
     requires counted { IsCounted size entries.old.items counts.old }
     ensures items { entries.new.items ≡ at_place (given ticket) at entries.old.items }

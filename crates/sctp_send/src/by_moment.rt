@@ -22,7 +22,7 @@ use std::collections::VecDeque;
 
 impl Queue {
     /// The lowest ticket above the last one of messages that are past their time, or one found before.
-    pub fn late(&self, last: u32, now: u64, found: Option<u32>) -> Option<u32>
+    pub fn late(&self, last: u64, now: u64, found: Option<u64>) -> Option<u64>
         ensures { result ≡ soonest now last found (queue_messages (map (queued_by self.now.size) self.now.items)) }
     {
         if now < self.earliest {
@@ -76,7 +76,7 @@ impl Queue {
 impl Outstanding {
     /// The lowest ticket above the last one of messages that are past their time, of entries that are neither covered nor abandoned; or one
     /// found before.
-    pub fn late(&self, last: u32, now: u64, found: Option<u32>) -> Option<u32>
+    pub fn late(&self, last: u64, now: u64, found: Option<u64>) -> Option<u64>
         ensures { result ≡ soonest now last found (item_messages (map (item_meaning self.now.size) self.now.items)) }
     {
         if now < self.counts.earliest {
@@ -152,7 +152,7 @@ fn look_at(
 }
 
 /// The ticket of an entry that is neither covered nor abandoned, if it lies above the last one and the message is past its time.
-fn late_ticket(entry: &Entry, last: u32, now: u64) -> Option<u32>
+fn late_ticket(entry: &Entry, last: u64, now: u64) -> Option<u64>
     ensures { (size : ℕ) → result ≡ late_after now last (item_message (item_meaning size entry.now)) }
 {
     if is_done(entry) {
@@ -162,7 +162,7 @@ fn late_ticket(entry: &Entry, last: u32, now: u64) -> Option<u32>
 }
 
 /// A ticket, or a lower one that was found before.
-fn lower_ticket(found: Option<u32>, ticket: u32) -> Option<u32>
+fn lower_ticket(found: Option<u64>, ticket: u64) -> Option<u64>
     ensures { result ≡ sooner found (Some ticket) }
 {
     match found {

@@ -16,7 +16,7 @@ pub const MOST: usize = 0xffff_ffff;
 /// An entry: its message's ticket, and its index, modulo 2^32.
 #[derive(Clone, Copy)]
 pub struct Spot {
-    pub ticket: u32,
+    pub ticket: u64,
     pub index: u32,
 }
 
@@ -29,7 +29,7 @@ pub struct ByTicket {
     // the index of the first entry, modulo 2^32; offsets are counted from there
     first: u32,
     // no ticket lies above it
-    highest: u32,
+    highest: u64,
 }
 
 impl ByTicket {
@@ -74,7 +74,7 @@ impl ByTicket {
     }
 
     /// An entry of this ticket comes behind the others.
-    pub fn push(&mut self, ticket: u32)
+    pub fn push(&mut self, ticket: u64)
         requires room { length self.old.spots.items < deque_capacity self.old.spots }
         requires few { length self.old.spots.items < 0xffff_ffff }
         requires below { AreUpTo self.old.highest self.old.spots.items }
@@ -98,7 +98,7 @@ impl ByTicket {
     }
 
     /// The first entry goes, which is of this ticket.
-    pub fn pop_front(&mut self, ticket: u32)
+    pub fn pop_front(&mut self, ticket: u64)
         ensures order { (tickets : List ℕ) → IsOrderOf (ticket ∷ tickets) self.old.first self.old.spots.items
             → IsOrderOf tickets self.new.first self.new.spots.items }
         ensures below { AreUpTo self.old.highest self.old.spots.items → AreUpTo self.new.highest self.new.spots.items }
@@ -113,7 +113,7 @@ impl ByTicket {
     }
 
     /// The last entry goes, which is of this ticket.
-    pub fn pop_back(&mut self, ticket: u32)
+    pub fn pop_back(&mut self, ticket: u64)
         ensures order { (tickets : List ℕ) → IsOrderOf (tickets ++ ticket ∷ []) self.old.first self.old.spots.items
             → IsOrderOf tickets self.new.first self.new.spots.items }
         ensures below { AreUpTo self.old.highest self.old.spots.items → AreUpTo self.new.highest self.new.spots.items }
@@ -124,7 +124,7 @@ impl ByTicket {
     }
 
     /// How many spots lie before an entry of this ticket at this offset, or before the place where it would lie.
-    pub fn place(&self, ticket: u32, offset: usize) -> usize
+    pub fn place(&self, ticket: u64, offset: usize) -> usize
         ensures bound { result ≤ length self.now.spots.items }
         ensures place { (tickets : List ℕ) → IsOrderOf tickets self.now.first self.now.spots.items → IsPlaceOf self.now.first ticket offset self.now.spots.items result }
     {
@@ -171,7 +171,7 @@ impl ByTicket {
     }
 
     /// The spot of an entry of this ticket at this offset goes.
-    fn remove(&mut self, ticket: u32, offset: usize)
+    fn remove(&mut self, ticket: u64, offset: usize)
         ensures gone { (tickets : List ℕ) → IsOrderOf tickets self.old.first self.old.spots.items → slice_get tickets offset ≡ Some ticket
             → IsGone self.old.first offset self.old.spots.items self.new.spots.items }
         ensures first { self.new.first ≡ self.old.first }
@@ -191,7 +191,7 @@ fn offset_of(first: u32, spot: &Spot) -> usize
 }
 
 /// A spot lies before an entry of this ticket at this offset.
-fn comes_before(first: u32, ticket: u32, offset: usize, spot: &Spot) -> bool
+fn comes_before(first: u32, ticket: u64, offset: usize, spot: &Spot) -> bool
     ensures { result ≡ comes_before first ticket offset spot.now }
 {
     spot.ticket < ticket || (spot.ticket == ticket && offset_of(first, spot) < offset)

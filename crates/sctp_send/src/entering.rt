@@ -36,14 +36,14 @@ impl Head {
         draft: &mut Draft,
         next: Beginning,
         message: Rc<Message>,
-        number: u32,
+        number: u64,
     ) -> Result<(), NoMemory>
         requires some { 0 < next.count }
         requires few { next.count ≤ WINDOW + 1 }
         requires place { next.place < length draft.old.queue.items }
         requires stream { message.value.stream < length draft.old.tracks.items }
         requires sized { IsSized self.now.fragment draft.old }
-        ensures kept { suc number < 2 ^ 32 → number ≡ number_on (drafted (bare self.now) draft.old).tracks (lane_meaning message.value)
+        ensures kept { suc number < 2 ^ 64 → number ≡ number_on (drafted (bare self.now) draft.old).tracks (lane_meaning message.value)
             → OnOk result (drafted (bare self.now) draft.new
             ≡ begun (drafted (bare self.now) draft.old) (queued_meaning self.now.fragment message.value) next.place next.count next.turn draft.new.outstanding.capacity) }
         ensures more { OnOk result (length draft.old.outstanding.items < length draft.new.outstanding.items) }
@@ -125,7 +125,7 @@ impl Head {
 /// What is left of a message from a fragment on.
 fn rest_from(
     message: &Rc<Message>,
-    number: u32,
+    number: u64,
     next: u32,
     size: u16,
 ) -> Result<Option<Rest>, NoMemory>
@@ -143,7 +143,7 @@ fn rest_from(
 }
 
 /// The number that the next message of this kind takes on a stream.
-pub fn number_next(track: &Track, kind: Kind) -> u32
+pub fn number_next(track: &Track, kind: Kind) -> u64
     ensures { (size : ℕ) → result ≡ number_in (kind_meaning kind) (track_meaning size track.now) }
 {
     match kind {
@@ -154,7 +154,7 @@ pub fn number_next(track: &Track, kind: Kind) -> u32
 
 /// A stream on which a message of this kind took its number, and so much of it is left.
 fn counted(track: &Track, kind: Kind, rest: Option<Rest>) -> Track
-    ensures { (size : ℕ) → suc (number_in (kind_meaning kind) (track_meaning size track.now)) < 2 ^ 32
+    ensures { (size : ℕ) → suc (number_in (kind_meaning kind) (track_meaning size track.now)) < 2 ^ 64
         → track_meaning size result ≡ counted_track (kind_meaning kind) (rests_meaning size rest) (track_meaning size track.now) }
 {
     let (ordered, unordered) = match kind {
@@ -173,7 +173,7 @@ fn counted(track: &Track, kind: Kind, rest: Option<Rest>) -> Track
 fn count_on(tracks: &mut Streams, stream: u16, kind: Kind, rest: Option<Rest>) -> Track
     requires { stream < length tracks.old.items }
     ensures size { tracks.new.size ≡ tracks.old.size }
-    ensures items { (size : ℕ) → suc (number_in (kind_meaning kind) (track_of (map (track_meaning size) tracks.old.items) stream)) < 2 ^ 32
+    ensures items { (size : ℕ) → suc (number_in (kind_meaning kind) (track_of (map (track_meaning size) tracks.old.items) stream)) < 2 ^ 64
         → map (track_meaning size) tracks.new.items
         ≡ slice_set (map (track_meaning size) tracks.old.items) stream (counted_track (kind_meaning kind) (rests_meaning size rest) (track_of (map (track_meaning size) tracks.old.items) stream)) }
     ensures before { set tracks.new.items stream result ≡ tracks.old.items }
@@ -218,7 +218,7 @@ fn dequeue(queue: &mut Queue, log: &mut Vec<Change>, place: usize)
 }
 
 /// The message with this ticket took its number.
-fn tell(tickets: &mut Vec<Ticket>, ticket: u32) -> Result<(), NoMemory>
+fn tell(tickets: &mut Vec<Ticket>, ticket: u64) -> Result<(), NoMemory>
     ensures { OnOk result (numbers_of tickets.new.items ≡ numbers_of tickets.old.items ++ ticket ∷ []) }
 {
     if tickets.is_empty() {

@@ -41,7 +41,7 @@ pub enum Place {
 pub struct Entry {
     pub message: Rc<Message>,
     /// Its message's place in the lane (SSN or MID, as a count).
-    pub number: u32,
+    pub number: u64,
     pub place: Place,
     pub standing: Standing,
     pub covered: bool,

@@ -68,7 +68,7 @@ impl<F: Framing> Sender<F> {
     }
 
     /// The same, by its number.
-    fn lowest_late(&self, last: u32, now: u64) -> Option<u32>
+    fn lowest_late(&self, last: u64, now: u64) -> Option<u64>
         ensures { result ≡ soonest now last None (kept_messages self.now) }
     {
         let found = self.parts.queue.late(last, now, None);

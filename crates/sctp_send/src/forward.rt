@@ -64,7 +64,8 @@ impl<F: Framing> Sender<F> {
         if passed == 0 {
             return Ok(false);
         }
-        let cumulative = tsn_of(self.head.initial, self.head.cum.wrapping_add(passed));
+        let end = self.head.cum.wrapping_add(u64::from(passed));
+        let cumulative = tsn_of(self.head.initial, end);
         put_lanes::<F>(self.head.alloc, cumulative, lanes.as_slice(), packet)
     }
 }

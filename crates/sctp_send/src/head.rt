@@ -14,7 +14,7 @@ pub struct Head {
     pub fragment: u16,
     pub partial: bool,
     // CUM: all indexes up to it are acknowledged
-    pub cum: u32,
+    pub cum: u64,
     // the peer's last advertised window, in bytes
     pub rwnd: u32,
     // by ticket, from 1 on

@@ -108,8 +108,8 @@ impl Head {
     fn tsn_at(&self, at: usize) -> u32
         ensures { result ≡ tsn self.now.initial (suc (self.now.cum + at)) }
     {
-        let offset = (at % 0x1_0000_0000) as u32;
-        tsn_of(self.initial, self.cum.wrapping_add(offset).wrapping_add(1))
+        let index = self.cum.wrapping_add(at as u64).wrapping_add(1);
+        tsn_of(self.initial, index)
     }
 }
 

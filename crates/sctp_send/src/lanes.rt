@@ -23,7 +23,7 @@ use std::alloc::Global;
 pub(crate) struct Passed {
     stream: u16,
     kind: Kind,
-    number: u32,
+    number: u64,
 }
 
 impl Default for Passed {

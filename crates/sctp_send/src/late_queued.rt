@@ -17,22 +17,22 @@ use std::collections::VecDeque;
 use std::rc::Rc;
 
 /// Tickets that lie so far apart share a bound.
-const APART: u32 = 1_024;
+const APART: u64 = 1_024;
 
 /// So many of the numbers of which 64 in a row have a bound are for a ticket: 16 tickets in a row are a group.
-const EACH: u32 = 4;
+const EACH: u64 = 4;
 
 /// How many groups have a bound each.
 pub const WAITING_GROUPS: usize = 64;
 
 /// The last number that has a bound.
-const LAST: u32 = 4_095;
+const LAST: u64 = 4_095;
 
 /// Among fewer messages all are looked at: that costs less than the bounds do.
 const FEW: usize = 128;
 
 /// The first of the numbers that a ticket has among those with bounds.
-fn spot_of(ticket: u32) -> u32
+fn spot_of(ticket: u64) -> u64
     ensures exact { result ≡ spot_of ticket }
     ensures bound { result ≤ 4092 }
 {
@@ -52,7 +52,7 @@ pub fn bound(bounds: &mut Vec<u64>, earliest: u64, message: &Message, others: us
 
 /// A ticket whose message is worthless from a moment on comes to so many others.
 #[inline(never)]
-fn bound_until(bounds: &mut Vec<u64>, earliest: u64, ticket: u32, until: u64, others: usize)
+fn bound_until(bounds: &mut Vec<u64>, earliest: u64, ticket: u64, until: u64, others: usize)
     ensures here { bound_of bounds.new.items (spot_of ticket) ≤ until }
     ensures others { (t m : ℕ) → earliest ≤ m → bound_of bounds.old.items t ≤ m → bound_of bounds.new.items t ≤ m }
 {

@@ -18,7 +18,7 @@ use crate::track::Track;
 // ---- one stream
 
 /// The ticket of the message in part of a stream.
-pub fn ticket_of_track(track: &Track) -> Option<u32>
+pub fn ticket_of_track(track: &Track) -> Option<u64>
     ensures { result ≡ ticket_left track.now.rest }
 {
     match &track.rest {
@@ -38,7 +38,7 @@ pub fn moment_of_track(track: &Track) -> u64
 }
 
 /// A stream goes on with the message with this ticket.
-pub fn goes_on(track: &Track, ticket: u32) -> bool
+pub fn goes_on(track: &Track, ticket: u64) -> bool
     ensures { (size : ℕ) → result ≡ rest_has ticket (track_meaning size track.now).rest }
 {
     match &track.rest {
@@ -65,10 +65,10 @@ pub fn late_listed(
     tracks: &[Track],
     lists: &PartLists,
     bounds: &[u64],
-    last: u32,
+    last: u64,
     now: u64,
-    found: Option<u32>,
-) -> Option<u32>
+    found: Option<u64>,
+) -> Option<u64>
     requires on { lists.now.is_listed ≡ true }
     requires listed { IsListed (tickets_left tracks.now) lists.now }
     requires bounded { AreLeftBounded bounds.now tracks.now }
@@ -80,7 +80,10 @@ pub fn late_listed(
         if at >= lists.len() {
             return found;
         }
-        let track = &tracks[lists.by_ticket(at).second as usize];
+        // Each stream that is listed is one of these.
+        let Some(track) = tracks.get(lists.by_ticket(at).second as usize) else {
+            return found;
+        };
         if let Some(_) = sooner_rest(None, track, last, now) {
             return sooner_rest(found, track, last, now);
         }
@@ -109,7 +112,10 @@ pub fn bound_listed(
         if at >= lists.len() {
             return;
         }
-        let track = &tracks[lists.by_ticket(at).second as usize];
+        // Each stream that is listed is one of these.
+        let Some(track) = tracks.get(lists.by_ticket(at).second as usize) else {
+            return;
+        };
         lower_left(fresh, track);
         place = at + 1;
     }
@@ -149,7 +155,7 @@ pub fn next_part_by_looking(tracks: &[Track], from: u16, below: u16) -> u16
 }
 
 /// The stream that goes on with the message with this ticket.
-pub fn stream_by_looking(tracks: &[Track], ticket: u32) -> Option<usize>
+pub fn stream_by_looking(tracks: &[Track], ticket: u64) -> Option<usize>
     ensures within { IfSome result (λ at. at < length tracks.now) }
     ensures none { (size : ℕ) → IfNone result (any_rest ticket (map (track_meaning size) tracks.now) ≡ false) }
     ensures some { (size : ℕ) → IfSome result (λ at. GoesOnAt ticket at (map (track_meaning size) tracks.now)) }
@@ -163,7 +169,7 @@ pub fn stream_by_looking(tracks: &[Track], ticket: u32) -> Option<usize>
 }
 
 /// The lowest ticket above the last one of messages in part that are past their time, or one found before.
-pub fn late_by_looking(tracks: &[Track], last: u32, now: u64, found: Option<u32>) -> Option<u32>
+pub fn late_by_looking(tracks: &[Track], last: u64, now: u64, found: Option<u64>) -> Option<u64>
     ensures { (size : ℕ) → result ≡ soonest now last found (rest_messages (map (track_meaning size) tracks.now)) }
 {
     let mut found = found;

@@ -12,7 +12,7 @@ use std::rc::Rc;
 /// What `queue` was given for a message. Its bytes are kept once: fragments are ranges of them.
 #[derive(Drop)]
 pub struct Message {
-    pub ticket: u32,
+    pub ticket: u64,
     pub stream: u16,
     pub kind: Kind,
     pub payload_id: u32,

@@ -11,8 +11,8 @@ use std::marker::Model;
 /// Two numbers. Pairs stand by rising first number, and where it is the same by rising second one.
 #[derive(Clone, Copy)]
 pub struct Pair {
-    pub first: u32,
-    pub second: u32,
+    pub first: u64,
+    pub second: u64,
 }
 
 /// Pairs in rising order.
@@ -81,7 +81,7 @@ impl Ordered {
         ensures place { result ≡ before key (key pair) self.now.items }
         ensures within { result ≤ length self.now.items }
         ensures order { AreOrdered self.now.items }
-        ensures small { pair.second < 2 ^ 32 }
+        ensures small { pair.second < 2 ^ 64 }
     {
         let sought = key_of(pair);
         if let Some(place) = self.place_at_end(sought) {
@@ -95,7 +95,7 @@ impl Ordered {
     }
 
     /// The place of what comes before all pairs, or behind them.
-    fn place_at_end(&self, sought: u64) -> Option<usize>
+    fn place_at_end(&self, sought: u128) -> Option<usize>
         ensures place { IfSome result (λ place. place ≡ before key sought self.now.items) }
         ensures within { IfSome result (λ place. place ≤ length self.now.items) }
         ensures order { AreOrdered self.now.items }
@@ -139,9 +139,9 @@ impl Ordered {
 }
 
 /// Where a pair stands.
-fn key_of(pair: Pair) -> u64
+fn key_of(pair: Pair) -> u128
     ensures exact { result ≡ key pair }
-    ensures small { pair.second < 2 ^ 32 }
+    ensures small { pair.second < 2 ^ 64 }
 {
-    (u64::from(pair.first) << 32) + u64::from(pair.second)
+    (u128::from(pair.first) << 64) + u128::from(pair.second)
 }

@@ -66,7 +66,7 @@ impl PartLists {
     }
 
     /// How many have lower tickets.
-    pub fn below(&self, ticket: u32) -> usize
+    pub fn below(&self, ticket: u64) -> usize
         ensures place { result ≡ before key (key (record { first = ticket; second = 0 })) self.now.by_ticket.items }
         ensures within { result ≤ length self.now.by_ticket.items }
         ensures order { AreOrdered self.now.by_ticket.items }
@@ -92,7 +92,7 @@ impl PartLists {
             Some(last) => {
                 let behind = Pair {
                     first: last,
-                    second: u32::MAX,
+                    second: u64::MAX,
                 };
                 self.by_ticket.place_of(behind).max(place)
             }
@@ -106,7 +106,7 @@ impl PartLists {
         ensures { (tickets : List (Option ℕ)) → IsListed tickets self.now → FirstLeftAnswer stream tickets result }
     {
         let at = self.by_stream.place_of(Pair {
-            first: u32::from(stream),
+            first: u64::from(stream),
             second: 0,
         });
         if at >= self.by_stream.len() {
@@ -116,7 +116,7 @@ impl PartLists {
     }
 
     /// The stream of the message in part with this ticket.
-    pub fn stream_with(&self, ticket: u32) -> Option<u32>
+    pub fn stream_with(&self, ticket: u64) -> Option<u64>
         requires { self.now.is_listed ≡ true }
         ensures { (tickets : List (Option ℕ)) → IsListed tickets self.now → StreamWithAnswer ticket tickets result }
     {
@@ -133,7 +133,7 @@ impl PartLists {
     }
 
     /// A stream has another message in part than before, or none.
-    pub fn change(&mut self, stream: u32, before: Option<u32>, now: Option<u32>)
+    pub fn change(&mut self, stream: u64, before: Option<u64>, now: Option<u64>)
         ensures { (tickets : List (Option ℕ)) → stream < length tickets → left_on stream tickets ≡ before → IsListed tickets self.old → IsListed (set tickets stream now) self.new }
     {
         if is_same(before, now) {
@@ -144,7 +144,7 @@ impl PartLists {
     }
 
     /// A stream has its message in part no more, if it had one.
-    fn leave(&mut self, stream: u32, before: Option<u32>)
+    fn leave(&mut self, stream: u64, before: Option<u64>)
         ensures { (tickets : List (Option ℕ)) → stream < length tickets → left_on stream tickets ≡ before → IsListed tickets self.old → IsListed (set tickets stream None) self.new }
     {
         let Some(ticket) = before else {
@@ -161,7 +161,7 @@ impl PartLists {
     }
 
     /// A stream that had no message in part has one, or none.
-    fn enter(&mut self, stream: u32, now: Option<u32>)
+    fn enter(&mut self, stream: u64, now: Option<u64>)
         ensures { (tickets : List (Option ℕ)) → stream < length tickets → left_on stream tickets ≡ None → IsListed tickets self.old → IsListed (set tickets stream now) self.new }
     {
         let Some(ticket) = now else {
@@ -181,7 +181,7 @@ impl PartLists {
 }
 
 /// Two tickets, if there are any, are the same.
-fn is_same(one: Option<u32>, other: Option<u32>) -> bool
+fn is_same(one: Option<u64>, other: Option<u64>) -> bool
     ensures { result ≡ true → one ≡ other }
 {
     match (one, other) {

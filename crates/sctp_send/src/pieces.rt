@@ -71,7 +71,7 @@ pub fn fits<F: Framing>(bytes: usize, packet: &PacketWriter) -> bool
 /// `NoMemory`; the packet is then as before.
 pub fn put_fragment<F: Framing>(
     message: &Message,
-    number: u32,
+    number: u64,
     place: Place,
     size: u16,
     tsn: u32,

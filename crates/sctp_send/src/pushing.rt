@@ -17,7 +17,7 @@ use std::rc::Rc;
 pub fn push_fragment(
     outstanding: &mut Outstanding,
     message: &Rc<Message>,
-    number: u32,
+    number: u64,
     fragment: u32,
     standing: Standing,
 ) -> Result<(), NoMemory>
@@ -37,7 +37,7 @@ pub fn push_fragment(
 fn push_owned(
     outstanding: &mut Outstanding,
     message: Rc<Message>,
-    number: u32,
+    number: u64,
     fragment: u32,
     standing: Standing,
 ) -> Result<(), NoMemory>
@@ -65,7 +65,7 @@ fn push_owned(
 pub fn push_begun(
     outstanding: &mut Outstanding,
     message: Rc<Message>,
-    number: u32,
+    number: u64,
     count: usize,
     more: u16,
 ) -> Result<(), NoMemory>
@@ -98,7 +98,7 @@ pub fn push_begun(
 fn push_fragments(
     outstanding: &mut Outstanding,
     message: &Rc<Message>,
-    number: u32,
+    number: u64,
     count: usize,
 ) -> Result<(), NoMemory>
     requires some { 0 < count }

@@ -159,7 +159,7 @@ impl Queue {
     }
 
     /// How many of the first messages have lower tickets, where tickets rise; else none.
-    pub fn first_from(&self, ticket: u32) -> usize
+    pub fn first_from(&self, ticket: u64) -> usize
         ensures lower { AreLower ticket result self.now.items }
         ensures within { result ≤ length self.now.items }
     {
@@ -182,7 +182,7 @@ impl Queue {
             return next_by_looking(&self.messages, from, below);
         }
         let at = self.seats.place_of(Pair {
-            first: u32::from(from),
+            first: u64::from(from),
             second: 0,
         });
         if at >= self.seats.len() {

@@ -78,14 +78,14 @@ impl<F: Framing> Sender<F> {
         if given >= TICKET_LIMIT as usize {
             return Err(SendFault::Spent);
         }
-        if promised.wrapping_add(more) > u64::from(TSN_LIMIT) {
+        if promised.wrapping_add(more) > TSN_LIMIT {
             return Err(SendFault::Spent);
         }
         match self.head.fates.reserve(1) {
             Ok(()) => {}
             Err(_) => return Err(SendFault::NoMemory),
         }
-        let ticket = given as u32 + 1;
+        let ticket = given as u64 + 1;
         let message = Message {
             ticket,
             stream,
@@ -109,7 +109,8 @@ impl<F: Framing> Sender<F> {
     fn promised(&self) -> u64
         ensures { (v : SenderView) → StandsFor F.format self.now v → result ≡ promised v }
     {
-        u64::from(self.head.cum)
+        self.head
+            .cum
             .wrapping_add(self.parts.outstanding.len() as u64)
             .wrapping_add(self.parts.queue.owed())
             .wrapping_add(self.parts.tracks.owed())

@@ -19,19 +19,19 @@ use sctp_values::Ticket;
 #[tactic(auto, unfolding(crate::specs::SenderStands::StandsFor))]
 impl<F: Framing> Sender<F> {
     /// CUM: the index up to which all is acknowledged; 0 before the first SACK.
-    pub fn cum(&self) -> u32
+    pub fn cum(&self) -> u64
         ensures { (v : SenderView) → StandsFor F.format self.now v → result ≡ v.cum }
     {
         self.head.cum
     }
 
     /// The point: the largest index from CUM on, up to which all beyond CUM is of abandoned messages (RFC 3758, 3.5).
-    pub fn point(&self) -> u32
+    pub fn point(&self) -> u64
         ensures { (v : SenderView) → StandsFor F.format self.now v → result ≡ point v }
     {
         self.head
             .cum
-            .wrapping_add(abandoned_run(&self.parts.outstanding))
+            .wrapping_add(u64::from(abandoned_run(&self.parts.outstanding)))
     }
 
     /// Whether the data timer is wanted (RFC 9260, 6.3.2): something that went out is neither covered nor abandoned, or the point is past CUM,
@@ -67,10 +67,10 @@ impl<F: Framing> Sender<F> {
     }
 
     /// How many tickets were given: the calls of `queue` that were accepted. They are 1 to this number.
-    pub fn tickets(&self) -> u32
+    pub fn tickets(&self) -> u64
         ensures { (v : SenderView) → StandsFor F.format self.now v → result ≡ v.tickets }
     {
-        (self.head.fates.len() % 0x1_0000_0000) as u32
+        self.head.fates.len() as u64
     }
 
     /// Whether the message with this ticket is acknowledged whole: its last fragment is assigned, all its indexes are covered, and it was
@@ -129,7 +129,7 @@ fn is_numbered(fate: Fate) -> bool
 }
 
 /// All of the message with this ticket is assigned and covered.
-pub fn is_all_covered(tracks: &Streams, outstanding: &Outstanding, ticket: u32) -> bool
+pub fn is_all_covered(tracks: &Streams, outstanding: &Outstanding, ticket: u64) -> bool
     ensures { (size : ℕ) → result
         ≡ (not (any_rest ticket (map (track_meaning size) tracks.now.items)) && not (any_uncovered ticket (map (item_meaning size) outstanding.now.items))) }
 {
@@ -137,7 +137,7 @@ pub fn is_all_covered(tracks: &Streams, outstanding: &Outstanding, ticket: u32) 
 }
 
 /// The message with this ticket is in part.
-fn is_in_part(tracks: &Streams, ticket: u32) -> bool
+fn is_in_part(tracks: &Streams, ticket: u64) -> bool
     ensures { (size : ℕ) → result ≡ any_rest ticket (map (track_meaning size) tracks.now.items) }
 {
     match tracks.stream_of(ticket) {

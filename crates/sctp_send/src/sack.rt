@@ -67,7 +67,7 @@ impl<F: Framing> Sender<F> {
             self.head.is_known,
             &sack.blocks,
         );
-        self.head.cum = self.head.cum.wrapping_add(passed);
+        self.head.cum = self.head.cum.wrapping_add(u64::from(passed));
         self.head.rwnd = sack.rwnd;
         Ok(())
     }
@@ -90,7 +90,7 @@ impl<F: Framing> Sender<F> {
         );
         let gone = passed as usize;
         move_on(&mut self.head.covered, gone);
-        self.head.cum = self.head.cum.wrapping_add(passed);
+        self.head.cum = self.head.cum.wrapping_add(u64::from(passed));
         Ok(())
     }
 

@@ -27,13 +27,13 @@ pub fn seat_of(message: &Message) -> Pair
     ensures second { result.second ≡ message.now.ticket }
 {
     Pair {
-        first: u32::from(message.stream),
+        first: u64::from(message.stream),
         second: message.ticket,
     }
 }
 
 /// Tickets rise, and go on rising with one at a place: it lies between those of its neighbours there.
-pub fn fits_at(messages: &VecDeque<Rc<Message>>, rises: bool, place: usize, ticket: u32) -> bool
+pub fn fits_at(messages: &VecDeque<Rc<Message>>, rises: bool, place: usize, ticket: u64) -> bool
     requires { place ≤ length messages.now.items }
     ensures rises { result ≡ true → rises ≡ true }
     ensures between { result ≡ true → IsBetween place ticket messages.now.items }
@@ -44,7 +44,7 @@ pub fn fits_at(messages: &VecDeque<Rc<Message>>, rises: bool, place: usize, tick
 }
 
 /// How many of the first messages have lower tickets, by halves, where tickets rise; else none.
-pub fn first_from(messages: &VecDeque<Rc<Message>>, rises: bool, ticket: u32) -> usize
+pub fn first_from(messages: &VecDeque<Rc<Message>>, rises: bool, ticket: u64) -> usize
     requires { rises ≡ true → DoTicketsRise 0 messages.now.items }
     ensures place { result ≡ (if rises then before ticket_in ticket messages.now.items else 0) }
     ensures within { result ≤ length messages.now.items }
@@ -135,7 +135,7 @@ pub fn next_by_looking(messages: &VecDeque<Rc<Message>>, from: u16, below: u16) 
 }
 
 /// Where tickets rise, a message that is past its time, with a ticket above the last one: none behind it has a lower ticket.
-pub fn is_first_late(message: &Message, rises: bool, last: u32, now: u64) -> bool
+pub fn is_first_late(message: &Message, rises: bool, last: u64, now: u64) -> bool
     ensures rises { result ≡ true → rises ≡ true }
     ensures late { (size : ℕ) → result ≡ true → late_after now last (Some (message_meaning size message.now)) ≡ Some message.now.ticket }
 {

@@ -112,7 +112,7 @@ impl Streams {
         self.parts = self.parts.wrapping_sub(one_if_in_part(&before));
         self.owed = self.owed.wrapping_sub(owed_by_track(&before, self.size));
         let goes = ticket_of_track(&before);
-        self.lists.change(at as u32, goes, comes);
+        self.lists.change(at as u64, goes, comes);
         before
     }
 
@@ -127,13 +127,13 @@ impl Streams {
             return next_part_by_looking(&self.tracks, from, below);
         }
         match self.lists.first_from(from) {
-            Some(part) => part.first.min(u32::from(below)) as u16,
+            Some(part) => part.first.min(u64::from(below)) as u16,
             None => below,
         }
     }
 
     /// The stream that goes on with the message with this ticket.
-    pub fn stream_of(&self, ticket: u32) -> Option<usize>
+    pub fn stream_of(&self, ticket: u64) -> Option<usize>
         ensures within { IfSome result (λ at. at < length self.now.items) }
         ensures none { (size : ℕ) → IfNone result (any_rest ticket (map (track_meaning size) self.now.items) ≡ false) }
         ensures some { (size : ℕ) → IfSome result (λ at. GoesOnAt ticket at (map (track_meaning size) self.now.items)) }
@@ -151,7 +151,7 @@ impl Streams {
     }
 
     /// The lowest ticket above the last one of messages in part that are past their time, or one found before.
-    pub fn late(&self, last: u32, now: u64, found: Option<u32>) -> Option<u32>
+    pub fn late(&self, last: u64, now: u64, found: Option<u64>) -> Option<u64>
         ensures { result ≡ soonest now last found (rest_messages (map (track_meaning self.now.size) self.now.items)) }
     {
         if now < self.earliest {

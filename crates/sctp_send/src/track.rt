@@ -11,15 +11,15 @@ use std::rc::Rc;
 #[derive(Drop)]
 pub struct Rest {
     pub message: Rc<Message>,
-    pub number: u32,
+    pub number: u64,
     pub fragment: u32,
 }
 
 /// What is kept of a stream: how many messages of each kind have a number, and its message in part.
 #[derive(Drop)]
 pub struct Track {
-    pub ordered: u32,
-    pub unordered: u32,
+    pub ordered: u64,
+    pub unordered: u64,
     pub rest: Option<Rest>,
 }
 

@@ -16,12 +16,12 @@ before f n (x ∷ xs) = if nat_lt (f x) n then suc (before f n xs) else 0
 
 -- where a pair stands
 abbrev pub key : Pair → ℕ
-key p = p.first * 2 ^ 32 + p.second
+key p = p.first * 2 ^ 64 + p.second
 
--- second numbers have 32 bits
+-- second numbers have 64 bits
 abbrev pub AreSmall : List Pair → Type 0
 AreSmall [] = Unit {0}
-AreSmall (x ∷ xs) = (x.second < 2 ^ 32) × AreSmall xs
+AreSmall (x ∷ xs) = (x.second < 2 ^ 64) × AreSmall xs
 
 -- Pairs are in order.
 pub record AreOrdered (ps : List Pair) : Type 0 where

@@ -17,7 +17,7 @@ returns-clause-items c = λ size small.
     let place = c.from-at.result in
     let read = c.index-tracks-at.is ∙ ap (λ (ys : List Track). get_or ys place x) c.tracks.ensures in
     let there = track_there size place c.args.stream ts x c.from-at.ensures c.requires read in
-    let few : suc (number_in k (track_meaning size x)) < 2 ^ 32 = rw there at small in
+    let few : suc (number_in k (track_meaning size x)) < 2 ^ 64 = rw there at small in
     ap (λ (w : StreamsKept). map (track_meaning size) w.items) c.replace.ensures.after
     ∙ set_on size place c.args.stream ts c.counted-next.result _ c.from-at.ensures (c.counted-next.ensures size few ∙ ap (counted_track k left) (sym there))
 

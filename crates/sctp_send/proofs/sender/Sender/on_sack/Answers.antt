@@ -94,4 +94,4 @@ returns-clause-step g c = λ v stands.
     let told = c.cover_blocks-self-inside.ensures.told exact in
     let items : map (item_meaning s.head.fragment) c.cover_blocks-self-inside.new.outstanding.items ≡ items_told (in_blocks 0 c.args.sack.now.blocks) 1 (drop n (map (item_meaning s.head.fragment) s.parts.outstanding.items)) =
     rw (told, all_told_meaning, gone, drop-map) refl in
-    rw (items, c.cover_blocks-self-inside.ensures.kept.capacity, c.forget.ensures.kept.capacity, c.lend_runs.ensures.same) taken
+    rw (c.from.ensures, items, c.cover_blocks-self-inside.ensures.kept.capacity, c.forget.ensures.kept.capacity, c.lend_runs.ensures.same) taken

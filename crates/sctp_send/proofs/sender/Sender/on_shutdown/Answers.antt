@@ -18,4 +18,4 @@ returns-clause-step g c = λ v stands.
     let taken = keeps_shut g.F.Framing.format _ v c.args.tsn n keeps p (shutdown_passes v c.args.tsn n p) in
     let items : map (item_meaning s.head.fragment) c.forget.new.outstanding.items ≡ drop n (map (item_meaning s.head.fragment) s.parts.outstanding.items) = rw (c.forget.ensures.items, drop-map) refl in
     let runs = when_behind s.head.is_known n s.head.covered.items c.move_on.new.runs.items c.move_on.ensures in
-    rw (items, c.forget.ensures.kept.capacity, runs) taken
+    rw (c.from.ensures, items, c.forget.ensures.kept.capacity, runs) taken

@@ -29,7 +29,7 @@ returns-clause-answer g c = λ v stands.
     let keeps = subst (λ (k : Kept). Keeps g.F.Framing.format k v) (sym c.self.view_is) stands in
     let end = c.note_within-passed.ensures.end _ v s.head.fragment keeps refl refl in
     let lanes = ap (map passed_meaning) c.as_slice.ensures.value ∙ c.note_within-passed.ensures.lanes s.head.fragment in
-    let chunk = sent_forward g.F.Framing.format _ v s.head.fragment c.args.limit c.note_within-passed.result c.tsn_of-cumulative.result s.parts.outstanding.items c.as_slice.result.now keeps refl end lanes c.tsn_of-cumulative.ensures in
+    let chunk = sent_forward g.F.Framing.format _ v s.head.fragment c.args.limit c.note_within-passed.result c.tsn_of-cumulative.result s.parts.outstanding.items c.as_slice.result.now keeps refl end lanes (rw c.from.ensures at c.tsn_of-cumulative.ensures) in
     rw (goes_on g.F.Framing.format c.args.limit c.note_within-passed.result v end c.if-passed-eq0.false) (rw chunk at c.put_lanes.ensures.answer)
 
 pub returns-clause-after : goal.returns-clause-after
@@ -39,7 +39,7 @@ returns-clause-after g c = λ v stands.
     let keeps = subst (λ (k : Kept). Keeps g.F.Framing.format k v) (sym c.self.view_is) stands in
     let end = c.note_within-passed.ensures.end _ v s.head.fragment keeps refl refl in
     let lanes = ap (map passed_meaning) c.as_slice.ensures.value ∙ c.note_within-passed.ensures.lanes s.head.fragment in
-    let chunk = sent_forward g.F.Framing.format _ v s.head.fragment c.args.limit c.note_within-passed.result c.tsn_of-cumulative.result s.parts.outstanding.items c.as_slice.result.now keeps refl end lanes c.tsn_of-cumulative.ensures in
+    let chunk = sent_forward g.F.Framing.format _ v s.head.fragment c.args.limit c.note_within-passed.result c.tsn_of-cumulative.result s.parts.outstanding.items c.as_slice.result.now keeps refl end lanes (rw c.from.ensures at c.tsn_of-cumulative.ensures) in
     rw chunk at c.put_lanes.ensures.after
 
 pub returns-clause-memory : goal.returns-clause-memory
@@ -49,5 +49,5 @@ returns-clause-memory g c = λ v stands.
     let keeps = subst (λ (k : Kept). Keeps g.F.Framing.format k v) (sym c.self.view_is) stands in
     let end = c.note_within-passed.ensures.end _ v s.head.fragment keeps refl refl in
     let lanes = ap (map passed_meaning) c.as_slice.ensures.value ∙ c.note_within-passed.ensures.lanes s.head.fragment in
-    let chunk = sent_forward g.F.Framing.format _ v s.head.fragment c.args.limit c.note_within-passed.result c.tsn_of-cumulative.result s.parts.outstanding.items c.as_slice.result.now keeps refl end lanes c.tsn_of-cumulative.ensures in
+    let chunk = sent_forward g.F.Framing.format _ v s.head.fragment c.args.limit c.note_within-passed.result c.tsn_of-cumulative.result s.parts.outstanding.items c.as_slice.result.now keeps refl end lanes (rw c.from.ensures at c.tsn_of-cumulative.ensures) in
     rw (goes_on g.F.Framing.format c.args.limit c.note_within-passed.result v end c.if-passed-eq0.false) (rw chunk at c.put_lanes.ensures.memory)

@@ -19,9 +19,9 @@ returns-then-given-clause-answer g c = λ v stands.
     let count : length c.args.bytes.items ≡ vec_len c.args.bytes = ap (λ (b : List ℕ). length b) (sym c.deref.ensures.value) ∙ c.deref.ensures.len in
     spent_ticket g.F.Framing.format _ v c.args.stream c.args.bytes.items keeps (record { stream = omega arith; some = omega arith; short = omega arith; waits = omega arith }) (omega arith)
 
-pub returns-then-promised-more-clause-answer : goal.returns-then-promised-more-clause-answer
+pub returns-then-promised-more-gt-TSN_LIMIT-clause-answer : goal.returns-then-promised-more-gt-TSN_LIMIT-clause-answer
 unfolding StandsFor
-returns-then-promised-more-clause-answer g c = λ v stands.
+returns-then-promised-more-gt-TSN_LIMIT-clause-answer g c = λ v stands.
     let s = c.self.inside in
     let keeps = subst (λ (k : Kept). Keeps g.F.Framing.format k v) (sym c.self.view_is) stands in
     let long = length-map s.parts.queue.items (queued_by s.head.fragment) in

@@ -1,5 +1,4 @@
 use Rattle.std.proofs.Common.{subst, sym, arith}
-use Rattle.sctp_model.proofs.sender.SetLaws.{few_tickets}
 use Rattle.sctp_send.specs.SenderKept.{Kept}
 use Rattle.sctp_send.specs.SenderStands.{StandsFor, Keeps}
 use Rattle.sctp_send.proofs.QueueLemmas.{fates_given}
@@ -10,5 +9,4 @@ unfolding StandsFor
 returns g c = λ v stands.
     let keeps = subst (λ (k : Kept). Keeps g.F.Framing.format k v) (sym c.self.view_is) stands in
     let given = fates_given g.F.Framing.format _ v keeps in
-    let few = few_tickets g.F.Framing.format v keeps.reached in
-    omega (arith, given, few)
+    omega (arith, given)
