@@ -24,10 +24,10 @@ pub const LONGEST_MESSAGE: usize = 65_536;
 pub const QUEUE_LIMIT: usize = 1_024;
 /// TSNs assigned above the cumulative one, plus messages in part, at once; a TSN further than this above the cumulative one is refused.
 pub const WINDOW: u32 = 32_767;
-/// TSNs assigned and those still owed, so that counts and wire values stay near (RFC 9260, 2.6): 2^31 - 1.
-pub const TSN_LIMIT: u64 = 2_147_483_647;
-/// Tickets are 1 to so many: 2^32 - 1.
-pub const TICKET_LIMIT: u64 = 4_294_967_295;
+/// TSNs assigned and those still owed: 2^63 - 1.
+pub const TSN_LIMIT: u64 = 9_223_372_036_854_775_807;
+/// Tickets are 1 to so many: 2^64 - 1.
+pub const TICKET_LIMIT: u64 = u64::MAX;
 
 /// Gap blocks in a SACK (RFC 9260, 3.3.4).
 pub const BLOCK_LIMIT: usize = 64;
