@@ -165,7 +165,7 @@ only_spent f s v stream bytes k fit =
 pub fates_given : (f : Format) (s : Kept) (v : SenderView) → Keeps f s v → length s.fates ≡ v.tickets
 fates_given f s v k = ap (λ (xs : List Fate). length xs) k.holds.fates ∙ length-table (fate_here v) 1 v.tickets
 
-pub spent_ticket : (f : Format) (s : Kept) (v : SenderView) (stream : ℕ) (bytes : List ℕ) → Keeps f s v → IsFit s stream bytes → 2 ^ 32 - 1 ≤ length s.fates → refusal v stream bytes ≡ Some Spent
+pub spent_ticket : (f : Format) (s : Kept) (v : SenderView) (stream : ℕ) (bytes : List ℕ) → Keeps f s v → IsFit s stream bytes → TICKET_LIMIT ≤ length s.fates → refusal v stream bytes ≡ Some Spent
 spent_ticket f s v stream bytes k fit over =
     let fates = fates_given f s v k in
     let e : nat_le TICKET_LIMIT v.tickets ≡ true = grind (arith, nat_tests) in
@@ -180,8 +180,8 @@ sum_fits f s v bytes p o k short promise owed =
     let little = owed_small (length (cut s.fragment bytes)) (let c = cut_short s.fragment bytes (let size = k.holds.fragment in let some = (is_set f v k.reached).fragment in omega arith) in omega arith) in
     omega (arith, most, size, little, promise, owed)
 
-pub spent_owed : (f : Format) (s : Kept) (v : SenderView) (stream : ℕ) (bytes : List ℕ) (p o : ℕ) → Keeps f s v → IsFit s stream bytes → length s.fates < 2 ^ 32 - 1 → p ≡ promised v → o ≡ owed_for (length (cut s.fragment bytes)) % 2 ^ 64
-    → 2 ^ 31 - 1 < (p + o) % 2 ^ 64 → refusal v stream bytes ≡ Some Spent
+pub spent_owed : (f : Format) (s : Kept) (v : SenderView) (stream : ℕ) (bytes : List ℕ) (p o : ℕ) → Keeps f s v → IsFit s stream bytes → length s.fates < TICKET_LIMIT → p ≡ promised v → o ≡ owed_for (length (cut s.fragment bytes)) % 2 ^ 64
+    → TSN_LIMIT < (p + o) % 2 ^ 64 → refusal v stream bytes ≡ Some Spent
 spent_owed f s v stream bytes p o k fit under promise owed over =
     let fates = fates_given f s v k in
     let sum = sum_fits f s v bytes p o k fit.short promise owed in
@@ -189,8 +189,8 @@ spent_owed f s v stream bytes p o k fit under promise owed over =
     let g : nat_lt TSN_LIMIT (promised v + owed_for (length (cut v.fragment bytes))) ≡ true = grind (arith, nat_tests) in
     only_spent f s v stream bytes k fit ∙ rw (e, g) refl
 
-pub none_refuses : (f : Format) (s : Kept) (v : SenderView) (stream : ℕ) (bytes : List ℕ) (p o : ℕ) → Keeps f s v → IsFit s stream bytes → length s.fates < 2 ^ 32 - 1 → p ≡ promised v → o ≡ owed_for (length (cut s.fragment bytes)) % 2 ^ 64
-    → (p + o) % 2 ^ 64 ≤ 2 ^ 31 - 1 → refusal v stream bytes ≡ None
+pub none_refuses : (f : Format) (s : Kept) (v : SenderView) (stream : ℕ) (bytes : List ℕ) (p o : ℕ) → Keeps f s v → IsFit s stream bytes → length s.fates < TICKET_LIMIT → p ≡ promised v → o ≡ owed_for (length (cut s.fragment bytes)) % 2 ^ 64
+    → (p + o) % 2 ^ 64 ≤ TSN_LIMIT → refusal v stream bytes ≡ None
 none_refuses f s v stream bytes p o k fit under promise owed within =
     let fates = fates_given f s v k in
     let sum = sum_fits f s v bytes p o k fit.short promise owed in

@@ -48,8 +48,9 @@ point_is f s v k =
     let within = run_within s.items in
     let long = kept_length f s v k in
     let most = is_promised f v k.reached in
+    let window = is_windowed f v k.reached in
     let cum = k.holds.cum in
-    omega (arith, run, within, long, most, cum)
+    omega (arith, run, within, long, most, window, cum)
 
 any_items : (v : SenderView) (i : ℕ) (es : List Entry) → any_from (is_unsettled v) i es ≡ any_unsettled (items_from v i es)
 any_items v i [] = refl
