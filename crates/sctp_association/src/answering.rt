@@ -46,6 +46,7 @@ impl Machine {
         requires { length value.now ≤ 4 }
         ensures step { (v : EndView) → MachineStands self.old v
             → IfOk result (λ packet. WritesPacket packet.items (packet_to v.configuration tag (abort_for (item cause value.now))) × MachineStands self.new (closed model.AbortedHere v)) }
+        ensures within { (v : EndView) → MachineStands self.old v → IfOk result (λ packet. length packet.items ≤ v.configuration.limit) }
         ensures refused { (v : EndView) → MachineStands self.old v → OnErr result (MachineStands self.new v) }
     {
         // So a packet has room for the cause.
@@ -62,6 +63,7 @@ impl Machine {
     pub fn complete(&mut self, tag: u32) -> Result<Vec<u8>, NoMemory>
         ensures step { (v : EndView) → MachineStands self.old v
             → IfOk result (λ packet. WritesPacket packet.items (packet_to v.configuration tag (ShutdownComplete false)) × MachineStands self.new (closed model.Completed v)) }
+        ensures within { (v : EndView) → MachineStands self.old v → IfOk result (λ packet. length packet.items ≤ v.configuration.limit) }
         ensures refused { (v : EndView) → MachineStands self.old v → OnErr result (MachineStands self.new v) }
     {
         // So a packet has room for it.

@@ -1,7 +1,7 @@
 //! What an end asks of itself while an association opens, and what it does then (RFC 9260, 5.1 and 5.2.4): the caller that waits for an
 //! INIT ACK or for a COOKIE ACK, the key of a listener, and an end without an association.
 
-ghost use Rattle.std.specs.Prelude.{◌≡◌, true, false, ◌<◌, ◌+◌, ◌^◌, length, List, ℕ, Some, None, MatchOption, MatchResult, IfOk, OnErr};
+ghost use Rattle.std.specs.Prelude.{◌≡◌, true, false, ◌≤◌, ◌<◌, ◌+◌, ◌^◌, length, List, ℕ, Some, None, MatchOption, MatchResult, IfOk, OnErr};
 ghost use Rattle.sctp_model.specs.end.EndView.{EndView};
 ghost use Rattle.sctp_model.specs.end.EndView as model;
 ghost use Rattle.sctp_model.specs.end.Sealing.{Sealing};
@@ -19,7 +19,7 @@ ghost use Rattle.sctp_cookie.specs.Seals.{IsUnder};
 ghost use Rattle.sctp_opening.specs.AckFaults.{cause_of};
 ghost use Rattle.sctp_opening.specs.Cookies.{reading_meaning};
 ghost use Rattle.sctp_opening.specs.Outside.{IsOutside};
-ghost use Rattle.sctp_opening.specs.Told.{IsTold};
+ghost use Rattle.sctp_opening.specs.Told.{IsTold, IsToldWithin};
 ghost use Rattle.sctp_association.specs.MachineStands.{MachineStands};
 ghost use Rattle.sctp_association.specs.PhaseMeans.{is_listening};
 
@@ -89,6 +89,7 @@ impl Machine {
     pub fn refuse_ack(&mut self, tag: u32, fault: AckFault) -> Result<Vec<u8>, NoMemory>
         ensures step { (v : EndView) → MachineStands self.old v → IfOk result (λ packet. WritesPacket packet.items (packet_to v.configuration tag (abort_for (cause_of fault)))
             × MachineStands self.new (closed model.AbortedHere v)) }
+        ensures within { (v : EndView) → MachineStands self.old v → IfOk result (λ packet. length packet.items ≤ v.configuration.limit) }
         ensures refused { (v : EndView) → MachineStands self.old v → OnErr result (MachineStands self.new v) }
     {
         let packet = ack_abort(self.alloc, &self.config, tag, fault)?;
@@ -160,6 +161,7 @@ impl Machine {
     pub fn hear_outside(&self, draw: Draw, tag: u32, chunks: &Chunks<'_>) -> Result<Stray, NoMemory>
         ensures answer { (v : EndView) → MachineStands self.now v
             → IfOk result (λ told. IsTold told (body_among v tag chunks.now) (chunks_verdict v draw tag chunks.now)) }
+        ensures within { (v : EndView) → MachineStands self.now v → IfOk result (λ told. IsToldWithin v.configuration.limit told) }
         ensures memory { (v : EndView) → MachineStands self.now v → OnErr result (is_answer (chunks_verdict v draw tag chunks.now) ≡ true) }
     {
         self.outside(draw).hear(self.alloc, tag, chunks)

@@ -7,7 +7,8 @@ ghost use Rattle.sctp_model.specs.end.EndView.{EndView, InStage, state_of, ended
 ghost use Rattle.sctp_terms.specs.Meanings.{end_meaning, state_meaning};
 ghost use Rattle.sctp_send.specs.SenderAnswers.{next_late};
 ghost use Rattle.sctp_recv.specs.HandedOf.{handed_of};
-ghost use Rattle.sctp_outcomes.specs.Kept.{IsSound};
+ghost use Rattle.sctp_outcomes.specs.Kept.{IsSound, numbered};
+ghost use Rattle.sctp_outcomes.specs.ToldOnce.{NoTicketTwice};
 ghost use Rattle.sctp_association.specs.StageMeans.{stage_meaning};
 ghost use Rattle.sctp_association.specs.PhaseMeans.{phase_in, phase_unjoined};
 ghost use Rattle.sctp_association.specs.MachineStands.{MachineStands};
@@ -92,6 +93,16 @@ impl Machine {
     /// of its own for each TSN. It does nothing, and has this as its contract.
     pub fn sound(&self)
         ensures { (v : EndView) → MachineStands self.now v → IsSound v }
+    {
+        match &self.life {
+            Life::Unjoined(_) => {}
+            Life::Joined(association) => association.traffic.reached(),
+        }
+    }
+
+    /// In no view that it stands for do two messages that have numbers have one ticket. It does nothing, and has this as its contract.
+    pub fn tickets_are_apart(&self)
+        ensures { (v : EndView) → MachineStands self.now v → NoTicketTwice (numbered v) }
     {
         match &self.life {
             Life::Unjoined(_) => {}

@@ -30,7 +30,7 @@ goes_unanswered false = refl
 -- the end of a packet behind the chunks that acted
 pub hears : (r : Result Verdict NoMemory) (tag : ℕ) (v : EndView) (n l : declared.Notes) (ms : List ChunkMeaning) (e f : Machine) → ActsAll tag v n ms r e l
     → ((t : EndView) → MachineStands e t → Ends t (notes_meaning l) f) → HearsAll tag v (notes_meaning n) ms r f
-hears (Ok told) tag v n l ms e f a ended = (a.0, notes_meaning l, a.1, a.2, a.3, ended a.0 a.4)
+hears (Ok told) tag v n l ms e f a ended = (a.0, notes_meaning l, a.1, a.2, a.3, a.4, ended a.0 a.5)
 hears (Err why) tag v n l ms e f a ended = (a.0, a.1, a.2, a.3, notes_meaning l, a.4, a.5, a.6, ended a.3 a.7)
 
 -- without chunks nothing acted
@@ -53,7 +53,7 @@ module _ (e : EndView) (now : ℕ) (d : Draw) (p : Packet) (for : IsFor (at_mome
   )
 
   all_heard : (r : Result Verdict NoMemory) (m : Machine) → HearsAll p.tag (at_moment e now) no_notes p.chunks r m → Arrived e now d p r m
-  all_heard (Ok told) m h = (packet_ended (urged h.5.0 h.1) h.0, h.2, ReadAs p _ _ (Heard h.0 h.1 h.2 for.ports for.tag has h.3 h.5.0 h.5.1), h.4, h.5.2)
+  all_heard (Ok told) m h = (packet_ended (urged h.6.0 h.1) h.0, h.2, ReadAs p _ _ (Heard h.0 h.1 h.2 for.ports for.tag has h.3 h.6.0 h.6.1), h.4, h.5, h.6.2)
   all_heard (Err why) m h =
       let cut = cut_heard m h.0 h.1 h.2 h.3 h.4 h.5 h.7 h.8 in (
         cut.0,
@@ -115,7 +115,7 @@ module _ (e : EndView) (now : ℕ) (d : Draw) (p : Packet) (for : IsFor (at_mome
   all_begun : (r : Result Verdict NoMemory) (m : Machine) (b : Body) → body_among (at_moment e now) p.tag p.chunks ≡ Some b
       → HearsAll p.tag (begun b (at_moment e now)) (noted Unnoted no_notes) (drop 1 p.chunks) r m → Arrived e now d p r m
   all_begun (Ok told) m b opened h =
-      (packet_ended (urged h.5.0 h.1) h.0, h.2, ReadAs p _ _ (CookieBegins b h.0 h.1 h.2 for.ports for.tag has opened h.3 h.5.0 h.5.1), h.4, h.5.2)
+      (packet_ended (urged h.6.0 h.1) h.0, h.2, ReadAs p _ _ (CookieBegins b h.0 h.1 h.2 for.ports for.tag has opened h.3 h.6.0 h.6.1), h.4, h.5, h.6.2)
   all_begun (Err why) m b opened h =
       (packet_ended (urged h.8.0 h.4) h.3, cut_begun m b p.chunks h.0 h.1 h.2 h.3 h.4 h.8.0 refl opened h.5 h.7 h.8.1, h.8.2, outside_late (opens b opened))
 

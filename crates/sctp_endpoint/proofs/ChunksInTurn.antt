@@ -8,6 +8,7 @@ use Rattle.sctp_model.specs.end.PeerFaults.{Note, GoesOn, PassedOver}
 use Rattle.sctp_model.specs.end.Acting.{Acts}
 use Rattle.sctp_model.specs.end.Strays.{Verdict}
 use Rattle.sctp_model.specs.end.Arriving.{AllAct, NoneLeft, Next, Passes, Notes, noted, verdict_of}
+use Rattle.sctp_outcomes.proofs.SetUp.{chunks_leave_the_configuration}
 use Rattle.sctp_endpoint.specs.inner.Acted.{notes_meaning, GoesOnBehind, EndsWith}
 use Rattle.sctp_endpoint.specs.declared.after.Notes as declared
 
@@ -34,6 +35,10 @@ pub behind_none : (tag : ℕ) (v t : EndView) (k l : Notes) (done : List ChunkMe
     → AllAct tag v k done t l (verdict_of l.listed)
 behind_none tag v t k l done before =
     subst (λ (ms : List ChunkMeaning). AllAct tag v k ms t l (verdict_of l.listed)) (append-nil done) (before [] t l (verdict_of l.listed) (NoneLeft t l))
+
+-- they left the end as it is set up
+pub set_up_behind : (tag : ℕ) (v t : EndView) (k l : Notes) (done : List ChunkMeaning) → ActsBehind tag v k done t l → t.configuration ≡ v.configuration
+set_up_behind tag v t k l done before = chunks_leave_the_configuration tag v t k l done (verdict_of l.listed) (behind_none tag v t k l done before)
 
 -- those that acted, where none is left
 pub behind_all : (tag : ℕ) (v t : EndView) (k l : Notes) (b : Bool) (ms done rest : List ChunkMeaning) → l.listed ≡ b → ms ≡ done ++ rest → rest ≡ []

@@ -1,13 +1,14 @@
 -- What bytes read as is what their packet is: handling them is receiving it.
 use Rattle.std.proofs.Common.{◌≡◌, ℕ, List, Option, Some, None, refl, sym, ap}
-use Rattle.std.specs.Prelude.{Result, Ok, Err}
+use Rattle.std.specs.Prelude.{Result, Ok, Err, IfOk}
 use Rattle.sctp_model.specs.wire.Packet.{Packet}
 use Rattle.sctp_model.specs.end.EndView.{Draw, EndView}
 use Rattle.sctp_values.specs.declared.no_memory.NoMemory.{NoMemory}
 use Rattle.sctp_packet.specs.declared.fault.PacketFault.{PacketFault}
 use Rattle.sctp_packet.specs.PacketBytes.{ReadsPacket, FaultsPacket}
 use Rattle.sctp_endpoint.specs.EndpointStands.{EndpointStands}
-use Rattle.sctp_endpoint.specs.Handled.{IsRead, Handled}
+use Rattle.sctp_association.specs.declared.machine.Machine.{Machine}
+use Rattle.sctp_endpoint.specs.Handled.{IsRead, Handled, IsAnsweredWithin}
 use Rattle.sctp_endpoint.specs.inner.Arrived.{Arrived}
 use Rattle.sctp_endpoint.specs.declared.after.Verdict.{Verdict}
 use Rattle.sctp_endpoint.specs.declared.endpoint.Endpoint.{Endpoint}
@@ -26,5 +27,10 @@ reads_one bytes (Some q) p read same never = ap (λ (x : Packet). Some x) (sym (
 pub handled : (r : Result Verdict NoMemory) (v : EndView) (now : ℕ) (d : Draw) (bytes : List ℕ) (o : Option Packet) (p : Packet) (e : Endpoint)
     → ReadsPacket bytes p → o ≡ Some p → Arrived v now d p r e.machine → Handled v now d o r e
 unfolding EndpointStands
-handled (Ok told) v now d bytes o p e reads is a = rw is (a.0, a.1, a.2, a.3, a.4)
+handled (Ok told) v now d bytes o p e reads is a = rw is (a.0, a.1, a.2, a.3, a.5)
 handled (Err why) v now d bytes o p e reads is a = rw is (a.0, a.1, a.2, a.3 reads.chunks.placed)
+
+pub answered_within : (r : Result Verdict NoMemory) (v : EndView) (now : ℕ) (d : Draw) (p : Packet) (m : Machine) → Arrived v now d p r m
+    → IfOk r (λ told. IsAnsweredWithin v.configuration.limit told)
+answered_within (Ok told) v now d p m a = a.4
+answered_within (Err why) v now d p m a = tt

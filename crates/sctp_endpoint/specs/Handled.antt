@@ -1,5 +1,5 @@
 -- What handling a packet tells and leaves, in terms of a view (RFC 9260, 8.4 and 8.5).
-use Rattle.std.specs.Prelude.{◌≡◌, ℕ, List, Option, Some, None, Result, Ok, Err}
+use Rattle.std.specs.Prelude.{◌≡◌, ℕ, ◌≤◌, List, length, Option, Some, None, Result, Ok, Err}
 use Rattle.sctp_model.specs.wire.Packet.{Packet}
 use Rattle.sctp_model.specs.end.EndView.{Draw, EndView}
 use Rattle.sctp_model.specs.end.Strays as model
@@ -24,6 +24,12 @@ abbrev pub VerdictStands : Verdict → model.Verdict → Type 0
 VerdictStands Taken x = x ≡ model.Taken
 VerdictStands (Dropped reason) x = x ≡ model.Dropped (reason_code reason)
 VerdictStands (Answer bytes) x = IsAnswer bytes.items x
+
+-- Where the verdict is an answer, that has at most so many bytes.
+abbrev pub IsAnsweredWithin : (limit : ℕ) → Verdict → Type 0
+IsAnsweredWithin limit Taken = Unit {0}
+IsAnsweredWithin limit (Dropped reason) = Unit {0}
+IsAnsweredWithin limit (Answer bytes) = length bytes.items ≤ limit
 
 -- what bytes read as: a packet, or none where they have a fault
 abbrev pub IsRead : List ℕ → Option Packet → Type 0

@@ -1,4 +1,5 @@
 -- What a chunk left, in terms of a view and of the rows for it (RFC 9260, 4).
+use Rattle.std.specs.Prelude.{◌≤◌, length}
 use Rattle.sctp_model.specs.wire.Packet.{Packet}
 use Rattle.sctp_model.specs.end.EndView.{EndView}
 use Rattle.sctp_model.specs.end.PeerFaults as model
@@ -9,11 +10,11 @@ use Rattle.sctp_association.specs.declared.machine.Machine.{Machine}
 use Rattle.sctp_endpoint.specs.declared.after.After.{After}
 use Rattle.sctp_endpoint.specs.declared.after.After.TheVariants.{GoesOn, Acknowledges, Ends, PassedOver, Replies, Drops}
 
--- The answer is what one of the rows leaves, and the machine stands for the view that it leaves.
+-- The answer is what one of the rows leaves, and the machine stands for the view that it leaves. A packet that is answered is within the limit.
 abbrev pub Left : After → EndView → (model.After → Type 0) → Machine → Type 0
 Left GoesOn v acts m = (w : EndView) × acts (model.GoesOn model.Unnoted w) × MachineStands m w
 Left (Acknowledges is_data at_once) v acts m = (w : EndView) × acts (model.GoesOn (model.ToAcknowledge is_data at_once) w) × MachineStands m w
 Left Ends v acts m = (w : EndView) × acts (model.Ends w) × MachineStands m w
 Left PassedOver v acts m = acts model.PassedOver × MachineStands m v
-Left (Replies bytes) v acts m = (w : EndView) × (p : Packet) × acts (model.Replies w p) × WritesPacket bytes.items p × MachineStands m w
+Left (Replies bytes) v acts m = (w : EndView) × (p : Packet) × acts (model.Replies w p) × WritesPacket bytes.items p × (length bytes.items ≤ v.configuration.limit) × MachineStands m w
 Left (Drops reason) v acts m = acts (model.Drops (reason_code reason)) × MachineStands m v

@@ -6,6 +6,7 @@ use Rattle.sctp_recv.specs.HandedOf.{handed_of}
 use Rattle.sctp_recv.specs.declared.message.Message.{Message}
 use Rattle.sctp_association.specs.declared.calls.Refused.{Refused}
 use Rattle.sctp_outcomes.specs.Kept.{numbered, KeepsLogs, AddsNumbers, AddsTicket, AddsTaken}
+use Rattle.sctp_outcomes.specs.ToldOnce.{NoTicketTwice}
 use Rattle.sctp_endpoint.specs.EndpointStands.{EndpointStands}
 use Rattle.sctp_endpoint.specs.declared.transmit.Sent.{Sent}
 use Rattle.sctp_endpoint.specs.declared.endpoint.Endpoint.{Endpoint}
@@ -18,6 +19,11 @@ LeavesLogs v e = (t : EndView) × KeepsLogs v t × EndpointStands e t
 abbrev pub SendsLogs : EndView → Option Sent → Endpoint → Type 0
 SendsLogs v None e = LeavesLogs v e
 SendsLogs v (Some s) e = (t : EndView) × AddsNumbers v t × (numbered t ≡ numbered v ++ map (λ t. t.0) s.tickets.items) × EndpointStands e t
+
+-- The tickets of a packet that goes out are told for the first time: among those numbered before and these none stands twice.
+abbrev pub TellsAnew : EndView → Option Sent → Type 0
+TellsAnew v None = Unit {0}
+TellsAnew v (Some s) = NoTicketTwice (numbered v ++ map (λ t. t.0) s.tickets.items)
 
 -- Of an accepted message one ticket more is noted, and nothing else; of a refused one nothing.
 abbrev pub GivesLogs : EndView → Result Ticket Refused → Endpoint → Type 0

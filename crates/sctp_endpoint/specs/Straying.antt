@@ -8,14 +8,15 @@ use Rattle.sctp_model.specs.end.Strays.{body_among, chunks_verdict}
 use Rattle.sctp_model.specs.end.Arriving.{is_answer}
 use Rattle.sctp_association.specs.MachineStands.{MachineStands}
 use Rattle.sctp_association.specs.declared.machine.Machine.{Machine}
-use Rattle.sctp_endpoint.specs.Handled.{VerdictStands}
+use Rattle.sctp_endpoint.specs.Handled.{VerdictStands, IsAnsweredWithin}
 use Rattle.sctp_endpoint.specs.declared.after.Strayed.{Strayed}
 use Rattle.sctp_endpoint.specs.declared.after.Strayed.TheVariants.{Begun, Told}
 
--- The first chunk's cookie began an association; or there is none in it, nothing changed, and this is told of the packet.
+-- The first chunk's cookie began an association; or there is none in it, nothing changed, and this is told of the packet, an answer within the limit.
 abbrev pub StrayLeft : Strayed → EndView → Draw → (tag : ℕ) → List ChunkMeaning → Machine → Type 0
 StrayLeft Begun v d tag ms m = (b : Body) × (body_among v tag ms ≡ Some b) × MachineStands m (begun b v)
-StrayLeft (Told told) v d tag ms m = (body_among v tag ms ≡ None) × VerdictStands told (chunks_verdict v d tag ms) × MachineStands m v
+StrayLeft (Told told) v d tag ms m =
+    (body_among v tag ms ≡ None) × VerdictStands told (chunks_verdict v d tag ms) × IsAnsweredWithin v.configuration.limit told × MachineStands m v
 
 -- A stray wants memory for its answer alone, or for the association that it begins.
 abbrev pub StrayWants : EndView → Draw → (tag : ℕ) → List ChunkMeaning → Type 0

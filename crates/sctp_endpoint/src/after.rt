@@ -101,6 +101,6 @@ pub enum Verdict {
     Taken,
     /// It was dropped.
     Dropped(Reason),
-    /// It is answered: these bytes are a packet, which is to be sent at once.
+    /// It is answered: these bytes are a packet, at most those of the packet limit, which is to be sent at once.
     Answer(Vec<u8>),
 }

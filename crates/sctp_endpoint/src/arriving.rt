@@ -1,6 +1,6 @@
 //! A packet that comes: whether it is for this end, what its chunks do, and what is due at its end (RFC 9260, 5.1, 6.2, 8.4 and 8.5).
 
-ghost use Rattle.std.specs.Prelude.{◌≡◌, ℕ, Bool, false, drop, Option};
+ghost use Rattle.std.specs.Prelude.{◌≡◌, ℕ, Bool, false, drop, Option, IfOk};
 ghost use Rattle.sctp_model.specs.wire.Packet as meaning;
 ghost use Rattle.sctp_model.specs.end.EndView.{EndView, has_association};
 ghost use Rattle.sctp_model.specs.end.Clock.{at_moment};
@@ -9,7 +9,7 @@ ghost use Rattle.sctp_packet.specs.PacketTree.{packet_meaning};
 ghost use Rattle.sctp_association.specs.MachineStands.{MachineStands};
 ghost use Rattle.sctp_endpoint.specs.EndpointStands.{EndpointStands};
 ghost use Rattle.sctp_endpoint.specs.Logs.{LeavesLogs};
-ghost use Rattle.sctp_endpoint.specs.Handled.{IsRead, Handled};
+ghost use Rattle.sctp_endpoint.specs.Handled.{IsRead, Handled, IsAnsweredWithin};
 ghost use Rattle.sctp_endpoint.specs.inner.Acted.{notes_meaning};
 ghost use Rattle.sctp_endpoint.specs.inner.Arrived.{Arrived, HearsAll, IsFor};
 
@@ -29,7 +29,7 @@ impl Endpoint {
     /// Takes a packet that came, without what carried it: its bytes from the common header on. `now` is this moment, in milliseconds; one
     /// before the latest counts as that one. The draw is a fresh one, for an INIT: what a listener answers with, and forgets.
     ///
-    /// The verdict says whether it acted. An answer is a packet to send at once; whatever else the end has to say comes from
+    /// The verdict says whether it acted. An answer is a packet to send at once, within the packet limit; whatever else the end has to say comes from
     /// `poll_transmit`. Messages that became whole wait for `take`. A packet that is dropped, whatever for, changes nothing but the moment; nor
     /// does one that comes to an end without an association, unless a cookie in it opens: both are laws of the rows that this call follows
     /// (`sctp_outcomes::packets_leave_no_trace`).
@@ -39,6 +39,7 @@ impl Endpoint {
     /// handed in once more. Where that is the first chunk only the moment counts.
     pub fn handle_packet(&mut self, now: u64, bytes: &[u8], draw: Draw) -> Result<Verdict, NoMemory>
         ensures step { (v : EndView) (o : Option meaning.Packet) → EndpointStands self.old v → IsRead bytes.now o → Handled v now draw o result self.new }
+        ensures within { (v : EndView) → EndpointStands self.old v → IfOk result (λ verdict. IsAnsweredWithin v.configuration.limit verdict) }
         ensures logs { (v : EndView) → EndpointStands self.old v → LeavesLogs v self.new }
     {
         // It does nothing: its contract is that the end is sound.

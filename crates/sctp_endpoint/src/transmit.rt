@@ -5,7 +5,7 @@ ghost use Rattle.sctp_model.specs.end.EndView.{EndView};
 ghost use Rattle.sctp_model.specs.end.Clock.{at_moment};
 ghost use Rattle.sctp_association.specs.AbortAnswers.{AbortAnswers, aborted_view};
 ghost use Rattle.sctp_endpoint.specs.EndpointStands.{EndpointStands};
-ghost use Rattle.sctp_endpoint.specs.Logs.{LeavesLogs, SendsLogs};
+ghost use Rattle.sctp_endpoint.specs.Logs.{LeavesLogs, SendsLogs, TellsAnew};
 ghost use Rattle.sctp_endpoint.specs.Transmitted.{Transmits};
 
 use crate::endpoint::Endpoint;
@@ -27,20 +27,28 @@ impl Endpoint {
     /// peer's window and the packet limit go. None where nothing is to be sent. A packet that it gives counts as sent: its timers run, and
     /// what it holds isn't built again unless one of them expires.
     ///
+    /// A ticket is told once in the life of an end, with the packet that gives its message the first TSN: it is none of those told before, and no
+    /// later packet tells it again, whatever happens (`sctp_outcomes::tickets_are_told_once`).
+    ///
     /// # Errors
     /// `NoMemory` where a growth was refused: nothing changed, not even the moment.
     pub fn poll_transmit(&mut self, now: u64) -> Result<Option<Sent>, NoMemory>
         ensures step { (v : EndView) → EndpointStands self.old v → IfOk result (λ sent. Transmits (at_moment v now) sent self.new) }
         ensures refused { (v : EndView) → EndpointStands self.old v → OnErr result (EndpointStands self.new v) }
         ensures logs { (v : EndView) → EndpointStands self.old v → IfOk result (λ sent. SendsLogs v sent self.new) }
+        ensures anew { (v : EndView) → EndpointStands self.old v → IfOk result (λ sent. TellsAnew v sent) }
     {
         // It does nothing: its contract is that the end is sound.
         self.machine.sound();
         match self.machine.build(now)? {
-            Some(built) => Ok(Some(Sent {
-                packet: built.packet,
-                tickets: built.tickets,
-            })),
+            Some(built) => {
+                // Nor does this: its contract is that no ticket is told twice.
+                self.machine.tickets_are_apart();
+                Ok(Some(Sent {
+                    packet: built.packet,
+                    tickets: built.tickets,
+                }))
+            }
             None => Ok(None),
         }
     }

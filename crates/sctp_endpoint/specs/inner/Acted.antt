@@ -8,7 +8,7 @@ use Rattle.sctp_model.specs.end.Arriving.{AllAct, verdict_of}
 use Rattle.sctp_values.specs.declared.no_memory.NoMemory.{NoMemory}
 use Rattle.sctp_association.specs.MachineStands.{MachineStands}
 use Rattle.sctp_association.specs.declared.machine.Machine.{Machine}
-use Rattle.sctp_endpoint.specs.Handled.{VerdictStands}
+use Rattle.sctp_endpoint.specs.Handled.{VerdictStands, IsAnsweredWithin}
 use Rattle.sctp_endpoint.specs.declared.after.Notes.{Notes}
 use Rattle.sctp_endpoint.specs.declared.after.Verdict.{Verdict}
 
@@ -30,17 +30,17 @@ GoesOnBehind tag v k m t l =
 abbrev pub EndsWith : ℕ → EndView → arriving.Notes → ChunkMeaning → EndView → model.Verdict → Type 0
 EndsWith tag v k m t x = (rest : List ChunkMeaning) → AllAct tag v k (m ∷ rest) t k x
 
--- One chunk acted: the packet goes on behind it, or ends with it. After want of memory nothing has acted.
+-- One chunk acted: the packet goes on behind it, or ends with it, and what answers it is within the limit. After want of memory nothing has acted.
 abbrev pub ActsOne : ℕ → EndView → Notes → ChunkMeaning → Result (Option Verdict) NoMemory → Machine → Notes → Type 0
 ActsOne tag v n m (Ok None) e l = (t : EndView) × MachineStands e t × GoesOnBehind tag v (notes_meaning n) m t (notes_meaning l)
 ActsOne tag v n m (Ok (Some told)) e l =
-    (t : EndView) × (x : model.Verdict) × (l ≡ n) × EndsWith tag v (notes_meaning n) m t x × VerdictStands told x × MachineStands e t
+    (t : EndView) × (x : model.Verdict) × (l ≡ n) × EndsWith tag v (notes_meaning n) m t x × VerdictStands told x × IsAnsweredWithin v.configuration.limit told × MachineStands e t
 ActsOne tag v n m (Err why) e l = MachineStands e v × (l ≡ n) × HasTag m
 
 -- Chunks acted one after the other; after want of memory those before the one that wanted it.
 abbrev pub ActsAll : ℕ → EndView → Notes → List ChunkMeaning → Result Verdict NoMemory → Machine → Notes → Type 0
 ActsAll tag v n ms (Ok told) e l =
-    (t : EndView) × (x : model.Verdict) × AllAct tag v (notes_meaning n) ms t (notes_meaning l) x × VerdictStands told x × MachineStands e t
+    (t : EndView) × (x : model.Verdict) × AllAct tag v (notes_meaning n) ms t (notes_meaning l) x × VerdictStands told x × IsAnsweredWithin v.configuration.limit told × MachineStands e t
 ActsAll tag v n ms (Err why) e l =
     (front back : List ChunkMeaning) × (m : ChunkMeaning) × (t : EndView) × (ms ≡ front ++ m ∷ back) × HasTag m
     × AllAct tag v (notes_meaning n) front t (notes_meaning l) (verdict_of l.listed) × MachineStands e t

@@ -10,7 +10,7 @@ use Rattle.sctp_model.specs.end.Arriving.{Notes, AllAct, verdict_of, LeavesGap, 
 use Rattle.sctp_values.specs.declared.no_memory.NoMemory.{NoMemory}
 use Rattle.sctp_association.specs.MachineStands.{MachineStands}
 use Rattle.sctp_association.specs.declared.machine.Machine.{Machine}
-use Rattle.sctp_endpoint.specs.Handled.{VerdictStands}
+use Rattle.sctp_endpoint.specs.Handled.{VerdictStands, IsAnsweredWithin}
 use Rattle.sctp_endpoint.specs.inner.Acted.{HasTag}
 use Rattle.sctp_endpoint.specs.declared.after.Verdict.{Verdict}
 
@@ -26,14 +26,15 @@ Ends t n e = (gap : Bool) × LeavesGap t gap × MachineStands e (packet_ended (u
 -- Chunks acted, all or those before the one that wanted memory, and the packet ended behind them.
 abbrev pub HearsAll : ℕ → EndView → Notes → List ChunkMeaning → Result Verdict NoMemory → Machine → Type 0
 HearsAll tag v k ms (Ok told) e =
-    (t : EndView) × (n : Notes) × (x : model.Verdict) × AllAct tag v k ms t n x × VerdictStands told x × Ends t n e
+    (t : EndView) × (n : Notes) × (x : model.Verdict) × AllAct tag v k ms t n x × VerdictStands told x × IsAnsweredWithin v.configuration.limit told × Ends t n e
 HearsAll tag v k ms (Err why) e =
     (front back : List ChunkMeaning) × (m : ChunkMeaning) × (t : EndView) × (n : Notes) × (ms ≡ front ++ m ∷ back) × HasTag m
     × AllAct tag v k front t n (verdict_of n.listed) × Ends t n e
 
--- The packet was received, or cut short where it wanted memory; that is nothing that is dropped for its ports or its tag, where each of its chunks
+-- The packet was received, and its answer is within the limit; or it was cut short where it wanted memory; that is nothing that is dropped for its ports or its tag, where each of its chunks
 -- stands where it may.
 abbrev pub Arrived : EndView → (now : ℕ) → Draw → Packet → Result Verdict NoMemory → Machine → Type 0
-Arrived v now d p (Ok told) e = (t : EndView) × (x : model.Verdict) × Receives v now d (Some p) t x × VerdictStands told x × MachineStands e t
+Arrived v now d p (Ok told) e =
+    (t : EndView) × (x : model.Verdict) × Receives v now d (Some p) t x × VerdictStands told x × IsAnsweredWithin v.configuration.limit told × MachineStands e t
 Arrived v now d p (Err why) e =
     (t : EndView) × IsCutShort v now d (Some p) t × MachineStands e t × (ArePlaced p.chunks → WantsNoMemory v now d (Some p) → ⊥)

@@ -1,11 +1,13 @@
-use Rattle.std.proofs.Common.{◌≡◌, true, false, [], ◌∷◌, ◌++◌, append_assoc, refl, arith}
+use Rattle.std.proofs.Common.{◌≡◌, true, false, [], ◌∷◌, ◌++◌, append_assoc, refl, subst, arith}
 use Rattle.std.proofs.lemmas.Grind.{common_steps}
 use Rattle.std.proofs.lemmas.Result.{err_from_is_err_and}
+use Rattle.sctp_model.specs.end.EndView.{Configuration}
 use Rattle.sctp_model.specs.end.Strays as model
 use Rattle.sctp_model.specs.end.PeerFaults.{STATE}
 use Rattle.sctp_wire.specs.ChunkTree.{chunk_meaning}
+use Rattle.sctp_endpoint.specs.Handled.{IsAnsweredWithin}
 use Rattle.sctp_endpoint.specs.inner.Acted.{notes_meaning}
-use Rattle.sctp_endpoint.proofs.ChunksInTurn.{behind_more, behind_none, behind_all, behind_end}
+use Rattle.sctp_endpoint.proofs.ChunksInTurn.{behind_more, behind_none, behind_all, behind_end, set_up_behind}
 use Rattle.sctp_endpoint.proofs.acting.act_all.Goals as goal
 
 pub loop-chunk-init : goal.loop-chunk-init
@@ -31,7 +33,8 @@ returns-in-Some-2 c = λ v stands.
       one.1,
       behind_end c.args.tag v i.1 one.0 _ c.loop-chunk.notes c.go_on.new.notes _ i.0 c.next.new.self (chunk_meaning c.in-Some.chunk) one.1 one.2 (rw (← c.in-Some.ensures.steps) i.2) i.4 one.3,
       one.4,
-      one.5,
+      subst (λ (k : Configuration). IsAnsweredWithin k.limit c.in-Some-2.verdict) (set_up_behind c.args.tag v i.1 _ (notes_meaning c.loop-chunk.notes) i.0 i.4) one.5,
+      one.6,
     )
 
 pub returns-in_err-verdict : goal.returns-in_err-verdict
@@ -54,10 +57,10 @@ pub returns-then-notes : goal.returns-then-notes
 returns-then-notes c = λ v stands.
     let i = c.loop-chunk.invariant v stands in
     let none : c.loop-chunk.chunk-iterator ≡ [] = grind (arith, common_steps) in
-    (i.1, model.Taken, behind_all c.args.tag v i.1 _ (notes_meaning c.loop-chunk.notes) true _ i.0 _ c.if-notes.true i.2 none i.4, refl, i.3)
+    (i.1, model.Taken, behind_all c.args.tag v i.1 _ (notes_meaning c.loop-chunk.notes) true _ i.0 _ c.if-notes.true i.2 none i.4, refl, tt, i.3)
 
 pub returns-else-notes : goal.returns-else-notes
 returns-else-notes c = λ v stands.
     let i = c.loop-chunk.invariant v stands in
     let none : c.loop-chunk.chunk-iterator ≡ [] = grind (arith, common_steps) in
-    (i.1, model.Dropped STATE, behind_all c.args.tag v i.1 _ (notes_meaning c.loop-chunk.notes) false _ i.0 _ c.if-notes.false i.2 none i.4, refl, i.3)
+    (i.1, model.Dropped STATE, behind_all c.args.tag v i.1 _ (notes_meaning c.loop-chunk.notes) false _ i.0 _ c.if-notes.false i.2 none i.4, refl, tt, i.3)

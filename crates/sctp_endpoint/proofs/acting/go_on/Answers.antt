@@ -30,14 +30,14 @@ returns-in-PassedOver c = λ v stands.
 pub returns-in-Ends : goal.returns-in-Ends
 returns-in-Ends c = λ v stands.
     let a = rw c.in-Ends.is at c.in_ok-act.ensures.step v stands in
-    (a.0, model.Taken, refl, λ rest. Last v a.0 (notes_meaning c.args.notes.now) _ rest a.1, refl, a.2)
+    (a.0, model.Taken, refl, λ rest. Last v a.0 (notes_meaning c.args.notes.now) _ rest a.1, refl, tt, a.2)
 
 pub returns-in-Replies : goal.returns-in-Replies
 returns-in-Replies c = λ v stands.
     let a = rw c.in-Replies.is at c.in_ok-act.ensures.step v stands in
-    (a.0, model.Answer a.1, refl, λ rest. EndsAnswered v a.0 (notes_meaning c.args.notes.now) _ rest a.1 a.2, a.3, a.4)
+    (a.0, model.Answer a.1, refl, λ rest. EndsAnswered v a.0 (notes_meaning c.args.notes.now) _ rest a.1 a.2, a.3, a.4, a.5)
 
 pub returns-in-Drops : goal.returns-in-Drops
 returns-in-Drops c = λ v stands.
     let a = rw c.in-Drops.is at c.in_ok-act.ensures.step v stands in
-    (v, model.Dropped (reason_code c.in-Drops.reason), refl, λ rest. Stopped v (notes_meaning c.args.notes.now) _ rest _ a.0, refl, a.1)
+    (v, model.Dropped (reason_code c.in-Drops.reason), refl, λ rest. Stopped v (notes_meaning c.args.notes.now) _ rest _ a.0, refl, tt, a.1)

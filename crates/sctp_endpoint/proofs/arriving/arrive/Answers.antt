@@ -8,7 +8,7 @@ use Rattle.sctp_endpoint.proofs.arriving.arrive.Goals as goal
 
 pub returns-then-not-has_ports : goal.returns-then-not-has_ports
 returns-then-not-has_ports c = λ e now stands.
-    (at_moment e now, model.Dropped PORTS, ReadAs _ _ _ (Elsewhere (sym (c.has_ports.ensures _ stands) ∙ c.if-not-has_ports.true)), refl, stands)
+    (at_moment e now, model.Dropped PORTS, ReadAs _ _ _ (Elsewhere (sym (c.has_ports.ensures _ stands) ∙ c.if-not-has_ports.true)), refl, tt, stands)
 
 pub returns-then-not-passes : goal.returns-then-not-passes
 returns-then-not-passes c = λ e now stands. (
@@ -16,6 +16,7 @@ returns-then-not-passes c = λ e now stands. (
   model.Dropped TAG,
   ReadAs _ _ _ (NotOurs (sym (c.has_ports.ensures _ stands) ∙ c.if-not-has_ports.false) (sym (rw c.again.ensures at c.passes.ensures _ stands) ∙ c.if-not-passes.true)),
   refl,
+  tt,
   stands,
 )
 

@@ -10,7 +10,7 @@ use Rattle.sctp_endpoint.proofs.arriving.arrive_outside.Goals as goal
 pub returns-in-Told : goal.returns-in-Told
 returns-in-Told c = λ e now stands for has.
     let s = rw c.in-Told.is at c.in_ok-told.ensures.step _ stands in
-    (at_moment e now, stray_verdict (at_moment e now) c.args.draw (packet_meaning c.args.packet), ReadAs _ _ _ (Stray for.ports for.tag has s.0), s.1, s.2)
+    (at_moment e now, stray_verdict (at_moment e now) c.args.draw (packet_meaning c.args.packet), ReadAs _ _ _ (Stray for.ports for.tag has s.0), s.1, s.2, s.3)
 
 pub returns-in-Begun : goal.returns-in-Begun
 returns-in-Begun c = λ e now stands for has.

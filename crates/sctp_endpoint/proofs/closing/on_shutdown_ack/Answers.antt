@@ -24,5 +24,6 @@ returns-clause-step c = λ v stands.
       AckCompletes (tags_meaning o.tags) (stage_meaning o.stage) (c.in-Some.ensures v stands)
           (sym c.awaits_shutdown_ack.ensures ∙ c.if-not-awaits_shutdown_ack.false),
       made.0,
+      c.in_ok-complete.ensures.within v stands,
       made.1,
     )

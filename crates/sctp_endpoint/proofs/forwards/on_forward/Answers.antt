@@ -21,7 +21,7 @@ returns-then-not-may_forward-clause-step c = λ v stands.
     let takes = sym c.takes_data.ensures ∙ c.if-not-takes_data.false in
     let may = sym (c.may_forward.ensures v stands) ∙ c.if-not-may_forward.true in
     let made = c.in_ok-abort_with.ensures.step v stands in
-    (closed AbortedHere v, packet_to v.configuration t.peer (abort_for violation), WrongKind t (stage_meaning c.in-Some.opened.stage) (c.in-Some.ensures v stands) takes may, made.0, made.1)
+    (closed AbortedHere v, packet_to v.configuration t.peer (abort_for violation), WrongKind t (stage_meaning c.in-Some.opened.stage) (c.in-Some.ensures v stands) takes may, made.0, c.in_ok-abort_with.ensures.within v stands, made.1)
 
 pub returns-in_ok-abort_with-in-Bad-clause-step : goal.returns-in_ok-abort_with-in-Bad-clause-step
 returns-in_ok-abort_with-in-Bad-clause-step c = λ v stands.
@@ -32,7 +32,7 @@ returns-in_ok-abort_with-in-Bad-clause-step c = λ v stands.
     let took = rw c.in-Bad.is at c.in_ok-hear_forward.ensures.step v _ _ stands phase in
     let same = receiver_same _ v took.0 took.1.leaves took.2 in
     let made = c.in_ok-abort_with-in-Bad.ensures.step v same in
-    (closed AbortedHere v, packet_to v.configuration t.peer (abort_for violation), IsBad t (stage_meaning c.in-Some.opened.stage) took.0 phase takes may took.1, made.0, made.1)
+    (closed AbortedHere v, packet_to v.configuration t.peer (abort_for violation), IsBad t (stage_meaning c.in-Some.opened.stage) took.0 phase takes may took.1, made.0, c.in_ok-abort_with-in-Bad.ensures.within v same, made.1)
 
 pub returns-in_err-abort_with-in-Bad-clause-refused : goal.returns-in_err-abort_with-in-Bad-clause-refused
 returns-in_err-abort_with-in-Bad-clause-refused c = λ v stands.

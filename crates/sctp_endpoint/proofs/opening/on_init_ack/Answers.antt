@@ -33,5 +33,6 @@ returns-in_ok-refuse_ack-in-Err-clause-step c = λ v stands.
       packet_to v.configuration c.args.offer.now.tag (abort_for why),
       RefusedAck d why (c.in-Some.ensures v stands) some (c.in-Err.ensures.answer v stands),
       made.0,
+      c.in_ok-refuse_ack-in-Err.ensures.within v stands,
       made.1,
     )

@@ -27,7 +27,7 @@ returns-then-is_empty-clause-step c = λ v stands.
     let takes : takes_data g ≡ true = sym c.takes_data.ensures ∙ c.if-not-takes_data.false in
     let empty : length c.args.piece.now.bytes.now ≡ 0 = grind (arith, common_steps) in
     let made = rw c.tsn_value-tsn.ensures at c.in_ok-abort_with.ensures.step v stands in
-    (closed AbortedHere v, packet_to v.configuration t.peer (abort_for (no_user_data c.args.piece.now.tsn)), PieceEmpty t g phase takes empty, made.0, made.1)
+    (closed AbortedHere v, packet_to v.configuration t.peer (abort_for (no_user_data c.args.piece.now.tsn)), PieceEmpty t g phase takes empty, made.0, c.in_ok-abort_with.ensures.within v stands, made.1)
 
 pub returns-then-is_interleaved-interleaved-clause-step : goal.returns-then-is_interleaved-interleaved-clause-step
 returns-then-is_interleaved-interleaved-clause-step c = λ v stands.
@@ -39,7 +39,7 @@ returns-then-is_interleaved-interleaved-clause-step c = λ v stands.
     let other : same_format (format_for c.args.interleaved) (format_of v) ≡ false
     = rw (← c.is_interleaved.ensures v stands) (formats_differ c.is_interleaved.result c.args.interleaved (λ e. grind (arith, common_steps))) in
     let made = c.in_ok-abort_with-2.ensures.step v stands in
-    (closed AbortedHere v, packet_to v.configuration t.peer (abort_for violation), WrongFormat t g phase takes some other, made.0, made.1)
+    (closed AbortedHere v, packet_to v.configuration t.peer (abort_for violation), WrongFormat t g phase takes some other, made.0, c.in_ok-abort_with-2.ensures.within v stands, made.1)
 
 pub returns-clause-step : goal.returns-clause-step
 returns-clause-step c = λ v stands.

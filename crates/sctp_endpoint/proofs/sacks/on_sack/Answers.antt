@@ -37,8 +37,15 @@ returns-in_ok-abort_with-in-Err-Beyond-clause-step c = λ v stands.
     let t = tags_meaning c.in-Some.opened.tags in
     let takes = sym c.takes_acknowledgements.ensures ∙ c.if-not-takes_acknowledgements.false in
     let fault = sym (rw c.in-Err-Beyond.field-0-is at c.in-Err-Beyond.ensures.answer v _ _ stands phase) in
-    let made = c.in_ok-abort_with-in-Err-Beyond.ensures.step v (c.in-Err-Beyond.ensures.refused v _ _ stands phase) in
-    (closed AbortedHere v, packet_to v.configuration t.peer (abort_for violation), SackWrong t (stage_meaning c.in-Some.opened.stage) phase takes (inl fault), made.0, made.1)
+    let same = c.in-Err-Beyond.ensures.refused v _ _ stands phase in
+    let made = c.in_ok-abort_with-in-Err-Beyond.ensures.step v same in (
+      closed AbortedHere v,
+      packet_to v.configuration t.peer (abort_for violation),
+      SackWrong t (stage_meaning c.in-Some.opened.stage) phase takes (inl fault),
+      made.0,
+      c.in_ok-abort_with-in-Err-Beyond.ensures.within v same,
+      made.1,
+    )
 
 pub returns-in_err-abort_with-in-Err-Beyond-clause-refused : goal.returns-in_err-abort_with-in-Err-Beyond-clause-refused
 returns-in_err-abort_with-in-Err-Beyond-clause-refused c = λ v stands.
@@ -51,8 +58,15 @@ returns-in_ok-abort_with-in-Err-BadBlock-clause-step c = λ v stands.
     let t = tags_meaning c.in-Some.opened.tags in
     let takes = sym c.takes_acknowledgements.ensures ∙ c.if-not-takes_acknowledgements.false in
     let fault = sym (rw c.in-Err-BadBlock.field-0-is at c.in-Err-BadBlock.ensures.answer v _ _ stands phase) in
-    let made = c.in_ok-abort_with-in-Err-BadBlock.ensures.step v (c.in-Err-BadBlock.ensures.refused v _ _ stands phase) in
-    (closed AbortedHere v, packet_to v.configuration t.peer (abort_for violation), SackWrong t (stage_meaning c.in-Some.opened.stage) phase takes (inr fault), made.0, made.1)
+    let same = c.in-Err-BadBlock.ensures.refused v _ _ stands phase in
+    let made = c.in_ok-abort_with-in-Err-BadBlock.ensures.step v same in (
+      closed AbortedHere v,
+      packet_to v.configuration t.peer (abort_for violation),
+      SackWrong t (stage_meaning c.in-Some.opened.stage) phase takes (inr fault),
+      made.0,
+      c.in_ok-abort_with-in-Err-BadBlock.ensures.within v same,
+      made.1,
+    )
 
 pub returns-in_err-abort_with-in-Err-BadBlock-clause-refused : goal.returns-in_err-abort_with-in-Err-BadBlock-clause-refused
 returns-in_err-abort_with-in-Err-BadBlock-clause-refused c = λ v stands.

@@ -28,8 +28,9 @@ returns-in_ok-abort_with-in-Err-Beyond-clause-step c = λ v stands phase takes.
     let t = tags_meaning c.args.opened.tags in
     let g = stage_meaning c.args.opened.stage in
     let fault = sym (rw c.in-Err-Beyond.field-0-is at c.in-Err-Beyond.ensures.answer v t g stands phase) in
-    let made = c.in_ok-abort_with-in-Err-Beyond.ensures.step v (c.in-Err-Beyond.ensures.refused v t g stands phase) in
-    (closed AbortedHere v, packet_to v.configuration t.peer (abort_for violation), ShutdownWrong t g phase takes fault, made.0, made.1)
+    let same = c.in-Err-Beyond.ensures.refused v t g stands phase in
+    let made = c.in_ok-abort_with-in-Err-Beyond.ensures.step v same in
+    (closed AbortedHere v, packet_to v.configuration t.peer (abort_for violation), ShutdownWrong t g phase takes fault, made.0, c.in_ok-abort_with-in-Err-Beyond.ensures.within v same, made.1)
 
 pub returns-in_err-abort_with-in-Err-Beyond-clause-refused : goal.returns-in_err-abort_with-in-Err-Beyond-clause-refused
 returns-in_err-abort_with-in-Err-Beyond-clause-refused c = λ v stands phase.

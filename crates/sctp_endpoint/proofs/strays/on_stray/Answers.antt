@@ -11,12 +11,12 @@ returns-in_ok-begin-in-Begins-clause-step c = λ v stands.
 pub returns-in-Dropped-clause-step : goal.returns-in-Dropped-clause-step
 returns-in-Dropped-clause-step c = λ v stands.
     let heard = rw c.in-Dropped.is at c.in_ok-body.ensures.answer v stands in
-    (heard.0, heard.1, stands)
+    (heard.0, heard.1, tt, stands)
 
 pub returns-in-Answered-clause-step : goal.returns-in-Answered-clause-step
 returns-in-Answered-clause-step c = λ v stands.
     let heard = rw c.in-Answered.is at c.in_ok-body.ensures.answer v stands in
-    (heard.0, answer_told c.in-Answered.packet.items (chunks_verdict v c.args.draw c.args.tag c.args.chunks.now) heard.1, stands)
+    (heard.0, answer_told c.in-Answered.packet.items (chunks_verdict v c.args.draw c.args.tag c.args.chunks.now) heard.1, rw c.in-Answered.is at c.in_ok-body.ensures.within v stands, stands)
 
 pub returns-in_err-body-clause-memory : goal.returns-in_err-body-clause-memory
 returns-in_err-body-clause-memory c = λ v stands. where_wanted c.from_residual.result (inl (c.in_err-body.ensures.memory v stands))

@@ -6,4 +6,4 @@ use Rattle.sctp_script.proofs.command_words.read_abandon.Goals as goal
 pub returns : goal.returns
 returns c =
     let left : c.next_word-2.new.self ≡ [] = no_words _ (omega (arith, c.requires, ap length c.next_word.ensures, ap length c.next_word-2.ensures)) in
-    ((side_meaning c.in_ok-side.side, (c.in_ok-read_u32.field-0, tt)), (_, _, c.next_word.ensures, c.in_ok-side.ensures, (_, _, c.next_word-2.ensures, c.in_ok-read_u32.ensures, left)), tt, refl)
+    ((side_meaning c.in_ok-side.side, (c.in_ok-read_u64.field-0, tt)), (_, _, c.next_word.ensures, c.in_ok-side.ensures, (_, _, c.next_word-2.ensures, c.in_ok-read_u64.ensures, left)), tt, refl)

@@ -4,7 +4,7 @@ use Rattle.sctp_model.specs.end.PeerFaults.{FAULT}
 use Rattle.sctp_model.specs.end.Strays as model
 use Rattle.sctp_model.specs.end.Arriving.{DroppedUnread}
 use Rattle.sctp_endpoint.specs.EndpointStands.{EndpointStands}
-use Rattle.sctp_endpoint.proofs.HandlingLemmas.{reads_none, reads_one, handled}
+use Rattle.sctp_endpoint.proofs.HandlingLemmas.{reads_none, reads_one, handled, answered_within}
 use Rattle.sctp_endpoint.proofs.LogLemmas.{moment_logs, handled_logs}
 use Rattle.sctp_endpoint.proofs.endpoint.Endpoint.handle_packet.Goals as goal
 
@@ -22,6 +22,10 @@ unfolding EndpointStands
 returns-in-Ok-clause-step c = λ v o stands read.
     handled c.arrive.result v c.args.now c.args.draw c.args.bytes.now o _ _ c.in-Ok.ensures.exact
     (reads_one _ o _ read c.in-Ok.ensures.packet c.in-Ok.ensures.fault) (c.arrive.ensures v c.args.now (c.tell.ensures v stands))
+
+pub returns-in-Ok-clause-within : goal.returns-in-Ok-clause-within
+unfolding EndpointStands
+returns-in-Ok-clause-within c = λ v stands. answered_within c.arrive.result v c.args.now c.args.draw _ _ (c.arrive.ensures v c.args.now (c.tell.ensures v stands))
 
 pub returns-in-Ok-clause-logs : goal.returns-in-Ok-clause-logs
 unfolding EndpointStands

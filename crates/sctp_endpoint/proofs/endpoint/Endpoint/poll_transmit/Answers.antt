@@ -1,5 +1,6 @@
-use Rattle.std.proofs.Common.{ℕ, List, ◌++◌, sym, ap, ◌∙◌}
+use Rattle.std.proofs.Common.{ℕ, List, ◌++◌, sym, subst, ap, ◌∙◌}
 use Rattle.sctp_outcomes.specs.Kept.{numbered}
+use Rattle.sctp_outcomes.specs.ToldOnce.{NoTicketTwice}
 use Rattle.sctp_outcomes.proofs.logs.Built.{builds_add_numbers}
 use Rattle.sctp_endpoint.specs.EndpointStands.{EndpointStands}
 use Rattle.sctp_endpoint.proofs.LogLemmas.{no_packet_logs}
@@ -21,6 +22,16 @@ returns-in-Some-clause-logs c = λ v stands.
     let b = rw c.in-Some.is at c.in_ok-built.ensures.built v stands in
     let adds = builds_add_numbers v c.args.now b.chunks b.after (c.sound.ensures v stands) b.builds in
     (b.after, adds, adds.numbers ∙ ap (λ (ts : List ℕ). numbered v ++ ts) (sym b.tickets), b.stands)
+
+pub returns-in-Some-clause-anew : goal.returns-in-Some-clause-anew
+unfolding EndpointStands
+returns-in-Some-clause-anew c = λ v stands.
+    let b = rw c.in-Some.is at c.in_ok-built.ensures.built v stands in
+    let adds = builds_add_numbers v c.args.now b.chunks b.after (c.sound.ensures v stands) b.builds in
+    subst NoTicketTwice (adds.numbers ∙ ap (λ (ts : List ℕ). numbered v ++ ts) (sym b.tickets)) (c.tickets_are_apart.ensures b.after b.stands)
+
+pub returns-in-None-clause-anew : goal.returns-in-None-clause-anew
+returns-in-None-clause-anew c = λ v stands. tt
 
 pub returns-in-None-clause-logs : goal.returns-in-None-clause-logs
 unfolding EndpointStands
