@@ -6,7 +6,8 @@ use Rattle.sctp_model.specs.end.Configured.{IsConfiguration}
 use Rattle.sctp_model.specs.world.World as world
 use Rattle.sctp_model.specs.world.World.{World, Setup, configuration_of, start}
 use Rattle.sctp_model.specs.world.Events as meaning
-use Rattle.sctp_model.specs.world.Steps.{Run, PassesThrough, last_of}
+use Rattle.sctp_model.specs.world.Steps.{PassesThrough, last_of}
+use Rattle.sctp_model.specs.world.Aged.{Aged}
 use Rattle.sctp_model.specs.world.Premises.{Premises}
 use Rattle.sctp_safety.specs.Runs.{AreAllSafe}
 use Rattle.sctp_values.specs.declared.no_memory.NoMemory.{NoMemory}
@@ -69,18 +70,27 @@ RunLeaves w events (Err _) c =
 
 -- ---- what is promised
 
--- a run from the start, of ends that are set up within the limits, led to this world
-pub record IsRunTo (s : Setup) (events : List meaning.Event) (w : World) : Type 0 where
+-- one course, and another behind it
+abbrev pub followed_by : Course → Course → Course
+followed_by c d = record { events = c.events ++ d.events; answers = c.answers ++ d.answers; worlds = c.worlds ++ d.worlds }
+
+-- a course from the start, of ends that are set up within the limits, led to this world
+pub record IsRunTo (s : Setup) (before : Course) (w : World) : Type 0 where
   pub configured : (x : world.Side) → IsConfiguration (configuration_of s x)
-  pub answers : List (Option meaning.Outcome)
-  pub run : Run (start s) events answers w
+  pub leads : LeadsOn (start s) before
+  pub ends : last_of (start s) before.worlds ≡ w
 
--- What holds of a course that goes on from a world: both are one run; and where FRESH and UNFORGED hold of all its events, both directions are safe
--- in each of its worlds, and once an end has completed nothing is missing there.
-pub record Promises (s : Setup) (before : List meaning.Event) (w : World) (c : Course) : Type 0 where
-  pub whole : IsRunTo s (before ++ c.events) (last_of w c.worlds)
-  pub safe : Premises s.sealing (before ++ c.events) → AreAllSafe (w ∷ c.worlds)
+-- FRESH and UNFORGED, and AGED, of a course from the start
+pub record MeetsPremises (s : Setup) (c : Course) : Type 0 where
+  pub strangers : Premises s.sealing c.events
+  pub aged : Aged (start s) c.events c.worlds
 
--- the promise, whatever run led to the world
+-- What holds of a course that goes on from a world: with the one before it is one course, from which a further call may go on; and where that one meets the
+-- premises, both directions are safe in each of its worlds from there on, and once an end has completed nothing is missing there.
+pub record Promises (s : Setup) (before : Course) (w : World) (c : Course) : Type 0 where
+  pub whole : IsRunTo s (followed_by before c) (last_of w c.worlds)
+  pub safe : MeetsPremises s (followed_by before c) → AreAllSafe (w ∷ c.worlds)
+
+-- the promise, whatever course led to the world
 abbrev pub Promised : World → Course → Type 0
-Promised w c = (s : Setup) (before : List meaning.Event) → IsRunTo s before w → Promises s before w c
+Promised w c = (s : Setup) (before : Course) → IsRunTo s before w → Promises s before w c

@@ -88,8 +88,10 @@ impl Pair {
     /// over what the peer sent, whole, at most once, and in order; and what an end has completed lacks nothing.
     ///
     /// That is promised of every world on the way, as long as no stranger's packet carries a tag that was drawn, asks for one in an INIT, or
-    /// holds a COOKIE ECHO of a cookie that the listener's key seals: that these are the contract's premises is the law
-    /// [`premises_are_the_keys`](crate::premises_are_the_keys).
+    /// holds a COOKIE ECHO of a cookie that the listener's key seals: that these are the contract's premises on strangers is the law
+    /// [`premises_are_the_keys`](crate::premises_are_the_keys). And a packet is delivered only before either end has assigned 2^31 - 65,536
+    /// more TSNs since it was built (RFC 9260, 2.6). A run of fewer TSNs keeps that by itself, by `sctp_safety::a_short_run_is_aged`; and where
+    /// neither end assigns 2^31 of them in all, nothing of the kind is asked, by `sctp_safety::a_run_of_half_the_tsns_is_safe`.
     ///
     /// # Errors
     /// Memory ran out, which it does only in an event that takes some. A packet that came is then cut before some chunk; any other event changed
@@ -127,7 +129,8 @@ impl Pair {
     }
 
     /// Events happen in turn, each as `step` says. What it promises is promised of each world on the way, as long as the strangers among all of
-    /// them keep to its premises, which [`premises_are_the_keys`](crate::premises_are_the_keys) says in the words of the listener's key.
+    /// them keep to its premises, which [`premises_are_the_keys`](crate::premises_are_the_keys) says in the words of the listener's key, and no
+    /// packet is delivered later than it says.
     ///
     /// # Errors
     /// At the first one for which memory ran out, as `step` says; those before it happened. Or, if there are events, before the first: room for the

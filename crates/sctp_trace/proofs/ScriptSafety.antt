@@ -7,7 +7,8 @@ use Rattle.sctp_model.specs.end.EndView.{Configuration}
 use Rattle.sctp_model.specs.end.Configured.{IsConfiguration, configuration_fault}
 use Rattle.sctp_model.specs.world.World.{Side, A, B, World, configuration_of, start}
 use Rattle.sctp_model.specs.world.Events.{Event, Foreign, Outcome}
-use Rattle.sctp_model.specs.world.Steps.{Step, PassesThrough, last_of, Rest}
+use Rattle.sctp_model.specs.world.Steps.{Step, PassesThrough, last_of}
+use Rattle.sctp_model.specs.world.Aged.{Aged}
 use Rattle.sctp_safety.specs.Runs.{AreAllSafe, EachWorldIsSafe}
 use Rattle.sctp_cookie.specs.Seals.{IsUnder}
 use Rattle.sctp_events.specs.Events.{Wanted, Happens, BringsBytes}
@@ -187,8 +188,8 @@ have_byte_cookies laws paired (line ∷ lines) events (inr (inr (wanted, e, es, 
 
 -- nothing happened before the events of a course
 pub course_is_safe : EachWorldIsSafe → PremisesAreTheKeys → StrangerLaws → (lines : List (List ℕ)) (w : World) (c : Course lines w)
-    → KeyPremises LISTENER_KEY c.events → AreAllSafe (start c.setup ∷ c.worlds)
-course_is_safe safe keys laws lines w c premises =
+    → KeyPremises LISTENER_KEY c.events → Aged (start c.setup) c.events c.worlds → AreAllSafe (start c.setup ∷ c.worlds)
+course_is_safe safe keys laws lines w c premises aged =
     let cookies = have_byte_cookies laws false lines c.events c.theirs in
     let premises = (keys LISTENER_KEY c.setup.sealing c.events c.key).in_words_of_the_seal cookies premises in
-    safe c.setup [] c.events [] (map Some c.outcomes) (start c.setup) c.worlds c.configured (Rest (start c.setup)) c.passes premises
+    safe c.setup [] c.events [] (map Some c.outcomes) [] c.worlds c.configured tt c.passes premises aged

@@ -1,10 +1,11 @@
--- The theorem on scripts: where only strangers speak besides the two ends, each world that the lines of a script lead through is safe.
+-- The theorem on scripts: where only strangers speak besides the two ends, and no packet comes too late, each world that the lines of a script lead through is safe.
 use Rattle.std.specs.Prelude.{◌≡◌, ℕ, ◌⊎◌, Bool, true, false, List, [], ◌∷◌, map, None, Some}
 use Rattle.sctp_model.specs.end.EndView.{Configuration}
 use Rattle.sctp_model.specs.end.Configured.{IsConfiguration}
 use Rattle.sctp_model.specs.world.World.{Side, World, Setup, configuration_of, start}
 use Rattle.sctp_model.specs.world.Events.{Event, Outcome}
 use Rattle.sctp_model.specs.world.Steps.{PassesThrough, last_of}
+use Rattle.sctp_model.specs.world.Aged.{Aged}
 use Rattle.sctp_safety.specs.Runs.{AreAllSafe}
 use Rattle.sctp_cookie.specs.Seals.{IsUnder}
 use Rattle.sctp_events.specs.Events.{Wanted}
@@ -35,8 +36,8 @@ pub record Course (lines : List (List ℕ)) (w : World) : Type 0 where
   pub passes : PassesThrough (start setup) events (map Some outcomes) worlds
   pub ends : last_of (start setup) worlds ≡ w
 
--- Lines without a fault have a course to where they lead. If its events meet FRESH and UNFORGED, both directions are safe in each of its
+-- Lines without a fault have a course to where they lead. If its events meet FRESH and UNFORGED, and it is AGED, both directions are safe in each of its
 -- worlds, whatever is lost, repeated or reordered, and once an end has completed its association nothing is missing there.
 abbrev pub ScriptsAreSafe : Type 0
 ScriptsAreSafe = (lines : List (List ℕ)) (written : List ℕ) (w : World) → Goes None lines written (Some w) →
-    (c : Course lines w) × (KeyPremises LISTENER_KEY c.events → AreAllSafe (start c.setup ∷ c.worlds))
+    (c : Course lines w) × (KeyPremises LISTENER_KEY c.events → Aged (start c.setup) c.events c.worlds → AreAllSafe (start c.setup ∷ c.worlds))

@@ -17,7 +17,8 @@ use sctp_text::lines_in_one_way;
 /// In each world that the lines of a script lead through, both directions are safe, and what an end has completed lacks nothing: each end
 /// was handed over messages that its peer sent on that stream, whole, each at most once, the ordered ones in rising number; what was passed
 /// over was abandoned; and what is acknowledged whole was handed over, or is held whole, or was abandoned. That is promised of a script in
-/// which no stranger's packet carries a tag that is drawn in it, asks for one by an INIT, or has a cookie that the listener's key seals.
+/// which no stranger's packet carries a tag that is drawn in it, asks for one by an INIT, or has a cookie that the listener's key seals, and
+/// in which every packet is delivered before either end has assigned 2^31 - 65,536 more TSNs since it was built.
 pub fn every_script_is_safe()
     ensures { ScriptsAreSafe }
 {
