@@ -3,9 +3,10 @@
 ghost use Rattle.sctp_safety.specs.Runs.{BeginningsAreAged, BeginningsAreRuns, BeginningsMeetThePremises, EachWorldIsSafe, NothingIsMissing, PassingGoesOn, PassingIsARun, RunsGoOn, RunsHaveWorlds, ShortRunsAreAged, ShortRunsAreSafe, TwoEndsAreSafe};
 
 /// The headline. Whatever two users call, whatever packets are lost, repeated, reordered, cut for want of memory or sent by strangers that carry
-/// neither a drawn tag nor a cookie of the listener's: in both directions each stream hands over messages that the peer sent on it, whole, each at most
-/// once, the ordered ones in rising number; every ordered number that it passed over was abandoned by its sender; and a message acknowledged whole and
-/// not abandoned is held whole or was handed over (RFC 9260, 6.5 and 6.6; RFC 3758, 3.6; RFC 8260, 2.2).
+/// neither a drawn tag nor a cookie of the listener's, as long as no packet comes so late that either end has assigned 2^31 - 65,536 TSNs since it
+/// was built: in both directions each stream hands over messages that the peer sent on it, whole, each at most once, the ordered ones in rising
+/// number; every ordered number that it passed over was abandoned by its sender; and a message acknowledged whole and not abandoned is held whole or
+/// was handed over (RFC 9260, 6.5 and 6.6; RFC 3758, 3.6; RFC 8260, 2.2).
 pub fn two_ends_are_safe()
     ensures { TwoEndsAreSafe }
 {}
@@ -16,12 +17,13 @@ pub fn nothing_is_missing_once_completed()
     ensures { NothingIsMissing }
 {}
 
-/// Where a run goes on from a world that a run led to, and the premises hold of the events of both, both promises hold in each world on the way.
+/// Where a run goes on from a world that a run led to, and the premises hold of both as one run, both promises hold in each world on the way.
 pub fn each_world_on_the_way_is_safe()
     ensures { EachWorldIsSafe }
 {}
 
-/// A run that is told with its worlds is a run to the last of them, and each run can be told so; a run that goes on is a run, and so is its beginning.
+/// A run that is told with its worlds is a run to the last of them, and each run can be told so; a run that goes on is a run, which passes the worlds
+/// of both, and so is its beginning.
 pub fn a_run_passes_its_worlds()
     ensures run { PassingIsARun }
     ensures worlds { RunsHaveWorlds }
@@ -45,8 +47,8 @@ pub fn a_short_run_is_aged()
     ensures { ShortRunsAreAged }
 {}
 
-/// Where neither end assigns 2^31 TSNs in the whole run, half of all that there are, both promises hold in each of its worlds however late packets come: what is asked of
-/// tags and cookies is all that is asked (RFC 9260, 2.6).
+/// Where neither end assigns 2^31 TSNs in the whole run, half of all that there are, both promises hold in each of its worlds however late packets
+/// come: what is asked of tags and cookies is all that is asked (RFC 9260, 2.6).
 pub fn a_run_of_half_the_tsns_is_safe()
     ensures { ShortRunsAreSafe }
 {}

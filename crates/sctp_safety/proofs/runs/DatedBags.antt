@@ -1,4 +1,4 @@
--- The chunks of a bag, each with the date of its packet, which is told by the packet's place: two packets may say the same, and be half a life apart.
+-- The chunks of a bag, each with the date of its packet. The date goes by the packet's place, since two packets of one content may be 2^32 TSNs apart.
 use Rattle.std.proofs.Common.{◌≡◌, ℕ, zero, suc, ◌+◌, ◌<◌, ◌≤◌, List, [], ◌∷◌, ◌++◌, length, slice_get, Some, append-nil, append_assoc, refl, sym, subst, ap, arith, ◌∙◌}
 use Rattle.sctp_model.specs.numbers.Lists.{Has, item_at}
 use Rattle.sctp_model.specs.wire.Chunk.{ChunkMeaning}
