@@ -61,7 +61,6 @@ class Schedule(Run):
         for _ in range(40):
             if not self.is_over():
                 self.pick((self.exchange, self.exchange, self.pass_time, self.repeat))()
-        return self
 
     def is_over(self):
         return self.fault is not None or all(end.ended for end in self.pair.ends.values())
@@ -126,32 +125,39 @@ class Schedule(Run):
 
 # ---- The command ----
 
-def within(age, seeds):
-    """Schedules with all deliveries within this age; whether none has a fault."""
-    runs = [Schedule(seed, range(age)).make() for seed in seeds]
-    faulty = [(seed, run.faulty_line, run.fault) for seed, run in zip(seeds, runs) if run.fault is not None]
+def told(seed, ages):
+    """What is told of a schedule with packets of these ages, which come once more."""
+    schedule = Schedule(seed, ages)
+    schedule.make()
+    return schedule.told()
+
+
+def within(limit, seeds):
+    """Schedules with all deliveries within this limit; whether none has a fault."""
+    runs = [told(seed, range(limit)) for seed in seeds]
+    faulty = [(seed, run.line, run.fault) for seed, run in zip(seeds, runs) if run.fault is not None]
     for found in faulty[:5]:
         print('schedule %d, line %d: %s' % found)
-    print('within the age of %d: %s' % (age, summary(runs)))
+    print('within the limit of %d: %s' % (limit, summary(runs)))
     return not faulty
 
 
 def beyond(seeds):
-    """Schedules with packets kept beyond the age; whether those in which none came have no fault."""
+    """Schedules with packets kept beyond the limit; whether those in which none came have no fault."""
     runs = []
     for seed in seeds:
-        least = random.Random(seed).choice((WIDTHS.age, 150, 195, 225, 240, 250))
-        runs.append(Schedule(seed, range(least, least + 60)).make())
-    late = [run for run in runs if run.latest()[0] >= WIDTHS.age]
+        least = random.Random(seed).choice((WIDTHS.age, 195, 225, 240, 250))
+        runs.append(told(seed, range(least, least + 60)))
+    late = [run for run in runs if run.age >= WIDTHS.age]
     print('kept for longer, %d of %d told so: %s' % (len(late), len(runs), summary(late)))
     return all(run.fault is None for run in runs if run not in late)
 
 
 def summary(runs):
-    results = Counter(run.result() for run in runs)
+    results = Counter(run.result for run in runs)
     return '%d schedules, %d TSNs, %d deliveries, the greatest age %d; %s' % (
-        len(runs), sum(sum(run.pair.assigned()) for run in runs), sum(len(run.dated) for run in runs),
-        max((run.latest()[0] for run in runs), default=0),
+        len(runs), sum(run.assigned for run in runs), sum(run.deliveries for run in runs),
+        max((run.age for run in runs), default=0),
         ', '.join('%s in %d' % (result, results[result]) for result in (KEPT, ENDED, BROKEN)))
 
 
@@ -161,13 +167,12 @@ def stored(age):
     with open(os.path.join(FOLDER, name), encoding='ascii') as file:
         lines = file.read().splitlines()
     run = played(lines)
-    latest, place = run.latest()
-    without = played(lines[:place - 1] + lines[place:])
+    without = played(lines[:run.place - 1] + lines[run.place:])
     print('%s: line %d, %s, at age %d, %s the limit of %d: %s' % (
-        name, place, lines[place - 1], latest, 'within' if latest < WIDTHS.age else 'beyond', WIDTHS.age, run.result()))
+        name, run.place, lines[run.place - 1], run.age, 'within' if run.age < WIDTHS.age else 'beyond', WIDTHS.age, run.result))
     if run.fault is not None:
-        print('    line %d: %s; without the delivery %s' % (run.faulty_line, run.fault, without.result()))
-    return (latest, run.result(), without.result()) == (age, STORED[age], KEPT)
+        print('    line %d: %s; without the delivery %s' % (run.line, run.fault, without.result))
+    return (run.age, run.result, without.result) == (age, STORED[age], KEPT)
 
 
 def main():

@@ -4,12 +4,18 @@ A packet's date is how many TSNs each end had assigned when it was built; its ag
 many more each has assigned since, of the two the greater.
 """
 
+from collections import namedtuple
+
 import model
 from endpoint import ABORTED_HERE
 from promises import Promises
 
 # What becomes of a run.
 KEPT, ENDED, BROKEN = 'all promises are kept', 'an association is ended', 'a promise is broken'
+
+# The first fault and its line, None where there is none; how many TSNs both ends assigned, and packets
+# came; the greatest age of these, and the last line where one of it came.
+Told = namedtuple('Told', 'result fault line assigned deliveries age place')
 
 
 class DatedPair(model.Pair):
@@ -76,7 +82,7 @@ class Run:
             self.dated += [(age, len(self.lines)) for age in self.pair.ages[len(self.dated):]]
             if self.fault is None:
                 self.fault = self.pair.promises.broken(self.pair.ends) or self.wrongly_ended()
-                self.faulty_line = len(self.lines)
+                self.faulty_line = len(self.lines) if self.fault is not None else None
         return self.outcome
 
     def wrongly_ended(self):
@@ -89,13 +95,14 @@ class Run:
             return KEPT
         return ENDED if self.fault == self.wrongly_ended() else BROKEN
 
-    def latest(self):
-        """(age, line) of the delivery with the greatest age, the last of these."""
-        return max(self.dated, default=(0, 0))
+    def told(self):
+        age, place = max(self.dated, default=(0, 0))
+        return Told(self.result(), self.fault, self.faulty_line, sum(self.pair.assigned()), len(self.dated), age, place)
 
 
 def played(lines):
+    """What is told of these lines."""
     run = Run()
     for line in lines:
         run.line(line)
-    return run
+    return run.told()
