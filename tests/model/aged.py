@@ -144,10 +144,8 @@ def within(limit, seeds):
 
 def beyond(seeds):
     """Schedules with packets kept beyond the limit; whether those in which none came have no fault."""
-    runs = []
-    for seed in seeds:
-        least = random.Random(seed).choice((WIDTHS.age, 195, 225, 240, 250))
-        runs.append(told(seed, range(least, least + 60)))
+    least = (WIDTHS.age, 195, 225, 240, 250)
+    runs = [told(seed, range(least[seed % 5], least[seed % 5] + 60)) for seed in seeds]
     late = [run for run in runs if run.age >= WIDTHS.age]
     print('kept for longer, %d of %d told so: %s' % (len(late), len(runs), summary(late)))
     return all(run.fault is None for run in runs if run not in late)
@@ -182,6 +180,8 @@ def main():
     parser.add_argument('count', type=int, nargs='?', default=0)
     parser.add_argument('seed', type=int, nargs='?', default=1)
     asked = parser.parse_args()
+    if not asked.stored and asked.count < 1:
+        parser.error('how many schedules?')
     WIDTHS.set(8, 6, 8)
     model.Pair = DatedPair
     seeds = range(asked.seed, asked.seed + asked.count)
