@@ -12,7 +12,7 @@ import sys
 
 import wire
 from endpoint import Writer
-from receiver import AHEAD_LIMIT, BAD, MOVED, OUT_OF_DATE, Receiver
+from receiver import BAD, MOVED, OUT_OF_DATE, Receiver
 from sender import Sender
 
 CRATE = os.path.join(os.path.dirname(os.path.abspath(__file__)), '..', '..', 'crates', 'sctp_call_rows')
@@ -204,7 +204,7 @@ class Case:
         answers = []
         for k in range(times):
             found = type('Forward', (), {})()
-            found.cumulative, found.skips = (tsn + k * AHEAD_LIMIT) % 2**32, []
+            found.cumulative, found.skips = (tsn + k * wire.WIDTHS.window) % 2**32, []
             answers.append(receiver.on_forward(found))
         return 'moved %d' % answers.count(MOVED)
 

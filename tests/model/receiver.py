@@ -2,11 +2,10 @@
 
 import bisect
 
-from wire import COUNT_END, near, sack_chunk
+from wire import COUNT_END, WIDTHS, near, sack_chunk
 
 TAKEN, DUPLICATE, AHEAD, NO_ROOM, PASSED, NO_SUCH_STREAM = 1, 2, 3, 4, 5, 6
 MOVED, OUT_OF_DATE, BAD = 1, 2, 3
-AHEAD_LIMIT = 32_767
 BLOCK_LIMIT, DUPLICATE_LIMIT = 64, 16
 
 
@@ -35,7 +34,7 @@ class Delivered:
 class Receiver:
     def __init__(self, interleave, initial_tsn, streams, buffer):
         self.interleave, self.initial, self.streams, self.buffer = interleave, initial_tsn, streams, buffer
-        self.width = 32 if interleave else 16
+        self.width = WIDTHS.mid if interleave else WIDTHS.ssn
         self.c = 0                       # the cumulative index
         self.seen = set()                # the indexes seen above c
         self.kept = {}                   # (stream, unordered, number): pieces by rising index
@@ -50,7 +49,7 @@ class Receiver:
     # ---- Numbers ----
 
     def tsn(self, index):
-        return (self.initial + index - 1) % 2**32
+        return (self.initial + index - 1) % 2**WIDTHS.tsn
 
     def skipped(self, stream, unordered):
         return self.skip.get((stream, unordered), -1)
@@ -66,13 +65,13 @@ class Receiver:
 
     def on_data(self, piece):
         """The first answer that holds, and its effect."""
-        ahead = (piece.tsn - self.tsn(self.c)) % 2**32
+        ahead = (piece.tsn - self.tsn(self.c)) % 2**WIDTHS.tsn
         index = self.c + ahead
-        if ahead == 0 or ahead >= 2**31 or index in self.seen:
+        if ahead == 0 or ahead >= 2**(WIDTHS.tsn - 1) or index in self.seen:
             if len(self.duplicates) < DUPLICATE_LIMIT:
                 self.duplicates.append(piece.tsn)
             return DUPLICATE
-        if ahead > AHEAD_LIMIT or index >= COUNT_END:
+        if ahead > WIDTHS.window or index >= COUNT_END:
             return AHEAD
         if piece.stream >= self.streams:
             self.record(index)
@@ -209,11 +208,11 @@ class Receiver:
     # ---- FORWARD-TSN and I-FORWARD-TSN (RFC 3758 section 3.6, RFC 8260 section 2.3.1) ----
 
     def on_forward(self, forward):
-        ahead = (forward.cumulative - self.tsn(self.c)) % 2**32
+        ahead = (forward.cumulative - self.tsn(self.c)) % 2**WIDTHS.tsn
         index = self.c + ahead
-        if ahead == 0 or ahead >= 2**31:
+        if ahead == 0 or ahead >= 2**(WIDTHS.tsn - 1):
             return OUT_OF_DATE
-        if ahead > AHEAD_LIMIT or index >= COUNT_END:
+        if ahead > WIDTHS.window or index >= COUNT_END:
             return BAD
         if any(stream >= self.streams for stream, _, _ in forward.skips):
             return BAD

@@ -3,11 +3,10 @@
 Indexes count the assigned TSNs from 1; index 0 stands for nothing yet.
 """
 
-from wire import FLAG_B, FLAG_E, FLAG_U, before, data_chunk, forward_chunk, padded
+from wire import FLAG_B, FLAG_E, FLAG_U, WIDTHS, before, data_chunk, forward_chunk, padded
 
 MESSAGE_LIMIT = 65_536
 QUEUE_LIMIT = 1_024
-WINDOW = 32_767
 OWED_LIMIT = 2**31 - 1
 TICKET_LIMIT = 2**32 - 1
 
@@ -60,7 +59,7 @@ class Sender:
     # ---- Readers ----
 
     def tsn(self, index):
-        return (self.initial + index - 1) % 2**32
+        return (self.initial + index - 1) % 2**WIDTHS.tsn
 
     def last(self):
         return len(self.plan) - 1
@@ -172,9 +171,9 @@ class Sender:
 
     def index_of(self, tsn):
         """The index of a cumulative TSN, None where it is before the one known."""
-        if before(tsn, self.tsn(self.cum)):
+        if before(tsn, self.tsn(self.cum), WIDTHS.tsn):
             return None
-        return self.cum + (tsn - self.tsn(self.cum)) % 2**32
+        return self.cum + (tsn - self.tsn(self.cum)) % 2**WIDTHS.tsn
 
     def on_sack(self, sack):
         """The refusal or None. What is covered is what this SACK says: it may be less than before."""
@@ -242,11 +241,11 @@ class Sender:
         flags |= (FLAG_B if entry.fragment == 0 else 0) | (FLAG_E if entry.last else 0)
         if self.interleave:
             # The payload id with B, else the fragment number (RFC 8260 section 2.1).
-            number = message.number % 2**32
+            number = message.number % 2**WIDTHS.mid
             word = message.payload_id if entry.fragment == 0 else entry.fragment
         else:
             # An unordered DATA has SSN 0 here (RFC 9260 section 3.3.1).
-            number = message.number % 2**16 if message.ordered else 0
+            number = message.number % 2**WIDTHS.ssn if message.ordered else 0
             word = message.payload_id
         return data_chunk(self.interleave, flags, self.tsn(index), message.stream, number, word, entry.data)
 
@@ -273,13 +272,13 @@ class Sender:
         return first.get(stream)
 
     def window_allows(self, message):
-        """At most 32,767 TSNs above CUM and messages in part, after what would be assigned."""
+        """At most a window of TSNs above CUM and messages in part, after what would be assigned."""
         left = self.fragments(message) - len(message.indexes)
         if not self.interleave:
-            return self.outstanding() + left <= WINDOW
+            return self.outstanding() + left <= WIDTHS.window
         in_part_now = 1 if message.indexes else 0
         in_part_then = 1 if left > 1 else 0
-        return self.outstanding() + 1 + in_part_then - in_part_now <= WINDOW
+        return self.outstanding() + 1 + in_part_then - in_part_now <= WIDTHS.window
 
     def assign(self, writer, tickets):
         """Assigns for one more fragment that goes into this packet; with DATA its whole message."""
@@ -342,7 +341,7 @@ class Sender:
             end = index
         if end == self.cum:
             return None
-        width = 32 if self.interleave else 16
+        width = WIDTHS.mid if self.interleave else WIDTHS.ssn
         skips = [(stream, unordered, number % 2**width)
                  for (stream, unordered), number in sorted(largest.items())]
         return forward_chunk(self.interleave, self.tsn(end), skips)

@@ -39,13 +39,32 @@ HEADER = 12
 COUNT_END = 2**64 - 1      # counts and indexes stay below this number
 
 
+class Widths:
+    """How many bits TSNs, SSNs and MIDs have, and the limits that go by it; all modules read WIDTHS."""
+
+    def __init__(self, tsn, ssn, mid):
+        self.set(tsn, ssn, mid)
+
+    def set(self, tsn, ssn, mid):
+        self.tsn, self.ssn, self.mid = tsn, ssn, mid
+        # How many TSNs are outstanding at most, and how far ahead of it a receiver takes one: with the
+        # RFCs' widths 32,767. The SSNs of so many messages are told apart.
+        self.window = 2**(ssn - 1) - 1
+        # Of a packet that comes before so many more TSNs were assigned in either direction since it was
+        # built each TSN is read as it was meant: with the RFCs' widths 2^31 - 65,536.
+        self.age = 2**(tsn - 1) - 2 * (self.window + 1)
+
+
+WIDTHS = Widths(32, 16, 32)
+
+
 class Fault(Exception):
     """A packet or chunk list that can't be read: kind, then the kind and offset of its chunk."""
 
 
 # ---- Wrapped numbers (RFC 9260 section 1.6, RFC 1982) ----
 
-def before(a, b, width=32):
+def before(a, b, width):
     """a comes before b: the way from a to b is in 1 .. half the space - 1."""
     return 1 <= (b - a) % 2**width <= 2**(width - 1) - 1
 
