@@ -7,8 +7,8 @@ from wire import FLAG_B, FLAG_E, FLAG_U, WIDTHS, before, data_chunk, forward_chu
 
 MESSAGE_LIMIT = 65_536
 QUEUE_LIMIT = 1_024
-OWED_LIMIT = 2**31 - 1
-TICKET_LIMIT = 2**32 - 1
+OWED_LIMIT = 2**63 - 1
+TICKET_LIMIT = 2**64 - 1
 
 # Refusals of `queue` (NoMemory, 6, doesn't come here).
 NO_SUCH_STREAM, EMPTY, TOO_LONG, QUEUE_FULL, SPENT = 1, 2, 3, 4, 5
