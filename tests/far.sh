@@ -2,10 +2,10 @@
 # A sender far along, beside the second model: the program of tests/far and tests/model/far.py make the calls of tests/far/steps, and must print
 # the same lines. Its indexes come beyond 2^31 and 2^32 by messages of 65,536 bytes in fragments of 4, each abandoned once its first fragment went;
 # its MIDs beyond 2^26 by messages of one byte. The model's sender is set to what such a way leaves. To be run by hand:
-#   tests/far.sh            indexes at 2^31, by a sender whose TSNs wrap there; at 2^31 and 2^32, by one whose TSNs wrap at 2^32; MIDs at 2^17 and
-#                           2^26 (TIME once the program is built)
+#   tests/far.sh            indexes at 2^31, by a sender whose TSNs wrap there; at 2^31 and 2^32, by one whose TSNs wrap at 2^32; MIDs at 2^26
+#                           (some seven minutes of processor time once the program is built)
 #   tests/far.sh quick      indexes and MIDs at 2^17 and 2^18, by eight and sixteen such messages and by as many as above, of one fragment; the
-#                           model goes the whole way too (some minutes)
+#                           model goes the whole way too (a minute and a half)
 # It says how many lines are equal, ends with 0 where all are, and needs Python.
 
 root=$(CDPATH='' cd -- "$(dirname -- "$0")/.." && pwd -P) || exit 3
@@ -29,11 +29,12 @@ quick)
     both abandoned 16384 17 18
     both abandoned 1 17
     both abandoned 1 17 18
-    both delivered 17 18
+    both delivered 17
+    both delivered 18
     ;;
 *)
     both abandoned 16384 31
     both abandoned 16384 31 32
-    both delivered 17 26
+    both delivered 26
     ;;
 esac

@@ -3,7 +3,8 @@
 
 far.py abandoned FRAGMENTS POWER .. < STEPS     DATA: the index comes to each 2^POWER by messages of so many
                                                 fragments that are abandoned
-far.py delivered POWER .. < STEPS               I-DATA: the MID does, by messages of a byte
+far.py delivered POWER .. < STEPS               I-DATA: by messages of a byte, whose MIDs come to the first
+                                                2^POWER with the index
 
 The way to a place is told, not gone: the sender's view is set to what the messages of the way leave
 behind them. With `whole` before the other words the model goes it, message by message.
