@@ -21,7 +21,7 @@ use Rattle.sctp_packet.specs.Draft.{Draft as PacketDraft, room_in, has_room, wit
 use Rattle.sctp_send.specs.SenderKept.{Item, Rest, Track, Kept}
 use Rattle.sctp_send.specs.SenderStands.{rest_here, track_here, Keeps}
 use Rattle.sctp_send.specs.OutstandingFields.{item_meaning, lane_meaning, message_meaning}
-use Rattle.sctp_send.specs.SenderFields.{track_meaning, rest_meaning}
+use Rattle.sctp_send.specs.SenderFields.{number_left, track_meaning, rest_meaning}
 use Rattle.sctp_send.specs.inner.Walks.{total, one_if_rest}
 use Rattle.sctp_send.specs.inner.Newcomers as kept
 use Rattle.sctp_send.specs.inner.Newcomers.{gone_item, rest_item, rest_after, begun_items, number_in, begun_track, rest_at, has_rest, one_if, without_place, fresh_track, track_of, number_on, begun, IsBegun, IsContinued}
@@ -71,16 +71,16 @@ never_ended f s v old stream k c none =
     absurd (cc)
 
 -- a draft, and what is left of the message in part of a stream
-module _ (f : Format) (s : Kept) (v : SenderView) (old : Draft) (r : RestFields) (stream : ℕ) (k : Keeps f (drafted s old) v) (stands : NothingStands f v) (c : IsContinued f v stream)
-    (its : Some (rest_meaning s.fragment r) ≡ rest_at (map (track_meaning s.fragment) old.tracks.items) stream) where
+module _ (f : Format) (s : Kept) (v : SenderView) (old : Draft) (t : Track) (r : RestFields) (stream : ℕ) (k : Keeps f (drafted s old) v) (stands : NothingStands f v) (c : IsContinued f v stream)
+    (its : Some (rest_meaning s.fragment t r) ≡ rest_at (map (track_meaning s.fragment) old.tracks.items) stream) where
   abbrev e : Entry
-  e = Part (lane_meaning r.message.value) r.number r.fragment
+  e = Part (lane_meaning r.message.value) (number_left t r) r.fragment
 
   abbrev led : SenderView
   led = gone_on v e (stream_after v stream)
 
-  left : IsRestOf v stream (rest_meaning s.fragment r)
-  left = rest_of_view f (drafted s old) v stream (rest_meaning s.fragment r) k c.low its
+  left : IsRestOf v stream (rest_meaning s.fragment t r)
+  left = rest_of_view f (drafted s old) v stream (rest_meaning s.fragment t r) k c.low its
 
   led_is : assigned f v ≡ Some led
   led_is = let same : Some c.entry ≡ Some e = sym c.on ∙ left.on in let one : c.entry ≡ e = cc in subst (λ (x : Entry). assigned f v ≡ Some (going_on v stream x)) one c.assigned
@@ -98,7 +98,7 @@ module _ (f : Format) (s : Kept) (v : SenderView) (old : Draft) (r : RestFields)
   continued_few = few_fragments f v stream e k.reached left.on
 
   -- its chunk
-  continued_chunk : chunk_of f (newcomer v led) ≡ fragment_chunk f s.fragment s.initial (suc (s.cum + length old.outstanding.items)) r.message.value r.number (Fragment r.fragment)
+  continued_chunk : chunk_of f (newcomer v led) ≡ fragment_chunk f s.fragment s.initial (suc (s.cum + length old.outstanding.items)) r.message.value (number_left t r) (Fragment r.fragment)
   continued_chunk =
       let long = length-map old.outstanding.items (item_meaning s.fragment) in
       chunk_continued f (drafted s old) v e (stream_after v stream) k ∙ ap (λ (n : ℕ). data_chunk f (piece_said f s.initial (suc (s.cum + n)) e (entry_message v.plan e))) long
@@ -106,7 +106,7 @@ module _ (f : Format) (s : Kept) (v : SenderView) (old : Draft) (r : RestFields)
 
   continued_may : (p : PacketDraft) → may_go f (room_in p) (newcomer v led)
       ≡ ((flows s old (bytes_in e (Some (message_meaning s.fragment r.message.value)))
-      && has_room p (fragment_chunk f s.fragment s.initial (suc (s.cum + length old.outstanding.items)) r.message.value r.number (Fragment r.fragment))) && nat_le (outstanding led) WINDOW)
+      && has_room p (fragment_chunk f s.fragment s.initial (suc (s.cum + length old.outstanding.items)) r.message.value (number_left t r) (Fragment r.fragment))) && nat_le (outstanding led) WINDOW)
   continued_may p = new_may f s v led p old _ _ k led_is continued_chunk (bytes_continued v e (stream_after v stream) ∙ ap (bytes_in e) (sym left.message))
 
   -- how the code tests the window
@@ -152,33 +152,33 @@ module _ (f : Format) (s : Kept) (v : SenderView) (old : Draft) (r : RestFields)
   }
 
   -- its chunk, of the item that it is then
-  continued_tried : (p q : PacketDraft) (new : Draft) (at turn capacity : ℕ) (none : Item) (put : Bool) → at ≡ length old.outstanding.items → drafted s new ≡ kept.gone_on (drafted s old) (rest_meaning s.fragment r) stream turn capacity
+  continued_tried : (p q : PacketDraft) (new : Draft) (at turn capacity : ℕ) (none : Item) (put : Bool) → at ≡ length old.outstanding.items → drafted s new ≡ kept.gone_on (drafted s old) (rest_meaning s.fragment t r) stream turn capacity
       → IsTried p q (item_chunk f s.initial (suc (s.cum + at)) (get_or (drafted s new).items at none)) put
-      → IsTried p q (fragment_chunk f s.fragment s.initial (suc (s.cum + length old.outstanding.items)) r.message.value r.number (Fragment r.fragment)) put
+      → IsTried p q (fragment_chunk f s.fragment s.initial (suc (s.cum + length old.outstanding.items)) r.message.value (number_left t r) (Fragment r.fragment)) put
   continued_tried p q new at turn capacity none put here same tried =
       let xs = (drafted s old).items in
-      let x = gone_item (rest_item (rest_meaning s.fragment r)) in
+      let x = gone_item (rest_item (rest_meaning s.fragment t r)) in
       let long : at ≡ length xs = here ∙ sym (length-map old.outstanding.items (item_meaning s.fragment)) in
       let item = ap (λ (y : Kept). get_or y.items at none) same ∙ ap (λ (j : ℕ). get_or (xs ++ x ∷ []) j none) long ∙ item_behind xs x [] none in
-      subst (λ (j : ℕ). IsTried p q (fragment_chunk f s.fragment s.initial (suc (s.cum + j)) r.message.value r.number (Fragment r.fragment)) put) here
+      subst (λ (j : ℕ). IsTried p q (fragment_chunk f s.fragment s.initial (suc (s.cum + j)) r.message.value (number_left t r) (Fragment r.fragment)) put) here
       (subst (λ (y : Item). IsTried p q (item_chunk f s.initial (suc (s.cum + at)) y) put) item tried)
 
   -- it is in the packet, and took its index
   pub continued_put : (p q : PacketDraft) (new : Draft) (more : Bool) (at capacity : ℕ) (none : Item) (put : Bool) → more ≡ nat_lt (suc r.fragment) (length (cut s.fragment r.message.value.bytes.items))
       → in_window s old 1 stream more ≡ true
       → let_in f (item_flight (map (item_meaning s.fragment) old.outstanding.items)) s (suc (s.cum + length old.outstanding.items)) p e (Some (message_meaning s.fragment r.message.value)) ≡ true → at ≡ length old.outstanding.items
-      → drafted s new ≡ kept.gone_on (drafted s old) (rest_meaning s.fragment r) stream (suc stream % s.streams) capacity
+      → drafted s new ≡ kept.gone_on (drafted s old) (rest_meaning s.fragment t r) stream (suc stream % s.streams) capacity
       → s.streams + length new.outstanding.items ≤ capacity → new.tickets ≡ old.tickets
       → IsTried p q (item_chunk f s.initial (suc (s.cum + at)) (get_or (drafted s new).items at none)) put → PutAnswer f s v p q old new put
   continued_put p q new more at capacity none put is window on here same room tickets tried =
       let goes_now = continued_goes p more is window on in
       let many = ap (λ (y : Kept). length y.items) same in
       let long = length-map new.outstanding.items (item_meaning s.fragment) in
-      let one = length-append (drafted s old).items (gone_item (rest_item (rest_meaning s.fragment r)) ∷ []) in
+      let one = length-append (drafted s old).items (gone_item (rest_item (rest_meaning s.fragment t r)) ∷ []) in
       let streams = k.holds.streams in
       let h = continued_kept f (drafted s old) v stream (stream_after v stream) capacity (room_in p) e fresh_track k c.low left.on goes_now (omega (arith, many, long, one, streams, room)) in
       let mine = subst (λ (x : Option Message). Keeps f (kept.gone_on (drafted s old) (record { entry = e; message = x }) stream (stream_after v stream) capacity) (gone (newcomer v led))) (sym left.message) h in
-      let turned = subst (λ (n : ℕ). Keeps f (kept.gone_on (drafted s old) (rest_meaning s.fragment r) stream (suc stream % n) capacity) (gone (newcomer v led))) (sym streams) mine in
+      let turned = subst (λ (n : ℕ). Keeps f (kept.gone_on (drafted s old) (rest_meaning s.fragment t r) stream (suc stream % n) capacity) (gone (newcomer v led))) (sym streams) mine in
       let in_packet = tried_put p q _ put (and_parts _ _ on).1 (continued_tried p q new at (suc stream % s.streams) capacity none put here same tried) in
       subst (λ (b : Bool). PutAnswer f s v p q old new b) (sym in_packet.0)
       (record {

@@ -3,7 +3,7 @@ use Rattle.std.proofs.Common.{◌≡◌, ℕ, zero, suc, ◌+◌, ◌-◌, ◌*�
 use Rattle.std.specs.Prelude.{◌==◌, nat_le}
 use Rattle.std.proofs.lemmas.Bool.Decides.{nat_tests}
 use Rattle.std.proofs.lemmas.List.{length-map, map-append, map-set, take-map, drop-map, take_all, take-take}
-use Rattle.sctp_model.specs.messages.Format.{Format, Lane, Kind}
+use Rattle.sctp_model.specs.messages.Format.{Format, Lane, Kind, Ordered, Unordered}
 use Rattle.sctp_model.specs.messages.Framing.{lane_kind, data_chunk, wire_number}
 use Rattle.sctp_values.specs.Meanings.{kind_meaning}
 use Rattle.sctp_model.specs.messages.Pieces.{word_of}
@@ -15,9 +15,9 @@ use Rattle.sctp_model.specs.sender.PieceSaid.{is_unordered}
 use Rattle.sctp_send.specs.PartsKept.{OutstandingKept, IsSameRoom}
 use Rattle.sctp_send.specs.SenderKept.{Item, Rest, Track, Kept}
 use Rattle.sctp_send.specs.OutstandingFields.{item_meaning, queued_meaning, lane_meaning, message_meaning, entry_meaning}
-use Rattle.sctp_send.specs.inner.Newcomers.{gone_item, new_item, new_items, begun_items, fresh_track, track_of, number_on, without_place, begun, gone_on}
+use Rattle.sctp_send.specs.inner.Newcomers.{gone_item, new_item, new_items, begun_items, fresh_track, track_of, number_on, without_place, number_in, counted_in, begun, gone_on}
 use Rattle.sctp_send.specs.inner.Drafting.{numbers_of, all_numbered, drafted, fragment_chunk, fragment_item, rest_from, counted_track, left_track}
-use Rattle.sctp_send.specs.SenderFields.{queued_by, track_meaning, rest_meaning}
+use Rattle.sctp_send.specs.SenderFields.{queued_by, latest_in, number_left, track_meaning, rest_meaning}
 use Rattle.std.specs.declared.alloc.Global.{Global}
 use Rattle.std.specs.declared.rc.Rc.{Rc}
 use Rattle.sctp_send.specs.declared.track.Track.{Track as TrackFields}
@@ -175,14 +175,19 @@ begun_is s old new m place count number turn left items queue tracks rest told t
     let fates : all_numbered s.fates (numbers_of new.tickets.items) ≡ set (all_numbered s.fates (numbers_of old.tickets.items)) (m.ticket - 1) Numbered = ap (all_numbered s.fates) told ∙ numbered_push s.fates (numbers_of old.tickets.items) m.ticket in
     rw (items, queue, tracks, fates, turned, rest, numbered) refl
 
+-- the number that a message took is the latest of its kind then
+pub latest_counted : (k : Kind) (t : Track) → latest_in k (counted_in k t) ≡ number_in k t
+latest_counted Ordered t = omega arith
+latest_counted Unordered t = omega arith
+
 -- a message in part went on
-pub gone_on_is : (s : Kept) (old new : Draft) (r : RestFields) (stream turn : ℕ) (left : Option Rest)
-    → map (item_meaning s.fragment) new.outstanding.items ≡ map (item_meaning s.fragment) old.outstanding.items ++ fragment_item s.fragment r.message.value r.number r.fragment Sent ∷ []
+pub gone_on_is : (s : Kept) (old new : Draft) (t : Track) (r : RestFields) (stream turn : ℕ) (left : Option Rest)
+    → map (item_meaning s.fragment) new.outstanding.items ≡ map (item_meaning s.fragment) old.outstanding.items ++ fragment_item s.fragment r.message.value (number_left t r) r.fragment Sent ∷ []
     → new.queue ≡ old.queue
     → map (track_meaning s.fragment) new.tracks.items ≡ set (map (track_meaning s.fragment) old.tracks.items) stream (left_track left (track_of (map (track_meaning s.fragment) old.tracks.items) stream))
-    → left ≡ rest_from s.fragment r.message.value r.number (suc r.fragment) → new.tickets ≡ old.tickets → new.turn ≡ turn
-    → drafted s new ≡ gone_on (drafted s old) (rest_meaning s.fragment r) stream turn (new.outstanding.capacity)
-gone_on_is s old new r stream turn left items queue tracks rest told turned = rw (items, queue, tracks, told, turned, rest) refl
+    → left ≡ rest_from s.fragment r.message.value (number_left t r) (suc r.fragment) → new.tickets ≡ old.tickets → new.turn ≡ turn
+    → drafted s new ≡ gone_on (drafted s old) (rest_meaning s.fragment t r) stream turn (new.outstanding.capacity)
+gone_on_is s old new t r stream turn left items queue tracks rest told turned = rw (items, queue, tracks, told, turned, rest) refl
 
 -- a place of the queue is empty now
 pub taken_out : (size place : ℕ) (ms : List (Rc MessageFields Global)) → map (queued_by size) (remove ms place) ≡ without_place place (map (queued_by size) ms)

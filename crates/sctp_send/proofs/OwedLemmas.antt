@@ -9,7 +9,7 @@ use Rattle.sctp_model.specs.sender.SenderView.{Queued}
 use Rattle.sctp_model.specs.sender.Queueing.{cut, owed_for, owed_by_queue}
 use Rattle.sctp_send.specs.SenderKept.{Track, Rest}
 use Rattle.sctp_send.specs.OutstandingFields.{message_meaning}
-use Rattle.sctp_send.specs.SenderFields.{queued_by, rests_meaning, track_meaning}
+use Rattle.sctp_send.specs.SenderFields.{queued_by, counts_meaning, rests_meaning, track_meaning}
 use Rattle.sctp_send.specs.inner.Walks.{total, one_if_rest, rest_owes}
 use Rattle.sctp_send.specs.inner.Expiring.{rest_message, rest_messages}
 use Rattle.sctp_send.specs.inner.Counting.{moment_from, AreWorth, IsOwedOf, IsCountedOf}
@@ -153,7 +153,7 @@ parts_of_any : (a b : ℕ) (ts : List TrackFields) → total_by (λ t. one_if_re
 parts_of_any a b [] = refl
 parts_of_any a b (t ∷ ts) = let rest = parts_of_any a b ts in let here = same t.rest in omega (arith, here, rest)
   where
-    same : (o : Option RestFields) → one_if_rest (rests_meaning a o) ≡ one_if_rest (rests_meaning b o)
+    same : (o : Option RestFields) → one_if_rest (rests_meaning a (counts_meaning t) o) ≡ one_if_rest (rests_meaning b (counts_meaning t) o)
     same None = refl
     same (Some r) = refl
 
@@ -161,7 +161,7 @@ parts_within : (size : ℕ) (ts : List TrackFields) → total_by (λ t. one_if_r
 parts_within size [] = omega arith
 parts_within size (t ∷ ts) = let rest = parts_within size ts in let here = most t.rest in omega (arith, here, rest)
   where
-    most : (o : Option RestFields) → one_if_rest (rests_meaning size o) ≤ 1
+    most : (o : Option RestFields) → one_if_rest (rests_meaning size (counts_meaning t) o) ≤ 1
     most None = omega arith
     most (Some r) = omega arith
 

@@ -5,7 +5,7 @@ use Rattle.std.proofs.lemmas.Bool.Decides.{nat_tests}
 use Rattle.sctp_model.specs.numbers.Limits.{LAST_MOMENT}
 use Rattle.sctp_send.specs.SenderKept.{Rest}
 use Rattle.sctp_send.specs.OutstandingFields.{message_meaning}
-use Rattle.sctp_send.specs.SenderFields.{rests_meaning, track_meaning}
+use Rattle.sctp_send.specs.SenderFields.{counts_meaning, rests_meaning, track_meaning}
 use Rattle.sctp_send.specs.inner.Bounding.{bound_of, until_of}
 use Rattle.sctp_send.specs.inner.Counting.{moment_from, AreWorth}
 use Rattle.sctp_send.specs.inner.Expiring.{late_after, rest_messages}
@@ -30,7 +30,7 @@ bounded_moment : (size j u : ℕ) (bs : List ℕ) (ts : List TrackFields) → Ar
 bounded_moment size j u bs [] h is = absurd (cc)
 bounded_moment size zero u bs (x ∷ ts) h is = by_rest x.rest (h 0 x (omega arith)) is
   where
-    by_rest : (o : Option RestFields) → IsLeftBounded bs o → ticket_left o ≡ Some u → bound_of bs u ≤ moment_from (option_and_then (λ (r : Rest). r.message) (rests_meaning size o))
+    by_rest : (o : Option RestFields) → IsLeftBounded bs o → ticket_left o ≡ Some u → bound_of bs u ≤ moment_from (option_and_then (λ (r : Rest). r.message) (rests_meaning size (counts_meaning x) o))
     by_rest None le there = absurd (cc)
     by_rest (Some r) le there = let same : r.message.value.ticket ≡ u = cc in subst (λ (n : ℕ). bound_of bs n ≤ until_of r.message) same le
 bounded_moment size (suc j) u bs (x ∷ ts) h is = bounded_moment size j u bs ts (λ k d lt. h (suc k) d (omega (arith, lt))) is
@@ -65,7 +65,7 @@ pub left_worth : (earliest size : ℕ) (bs : List ℕ) (ts : List TrackFields) �
 left_worth earliest size bs [] last low h = tt
 left_worth earliest size bs (x ∷ ts) last low h = (by_rest x.rest (h 0 x (omega arith)), left_worth earliest size bs ts last low (λ k d lt. h (suc k) d (omega (arith, lt))))
   where
-    by_rest : (o : Option RestFields) → IsLeftBounded bs o → earliest ≤ moment_from (option_and_then (λ (r : Rest). r.message) (rests_meaning size o))
+    by_rest : (o : Option RestFields) → IsLeftBounded bs o → earliest ≤ moment_from (option_and_then (λ (r : Rest). r.message) (rests_meaning size (counts_meaning x) o))
     by_rest None le = last
     by_rest (Some r) le = let here = low r.message.value.ticket in omega (arith, here, le)
 
@@ -75,20 +75,20 @@ pub left_changed : (size earliest at : ℕ) (bs cs : List ℕ) (ts next : List T
     → ((t m : ℕ) → earliest ≤ m → bound_of bs t ≤ m → bound_of cs t ≤ m) → IsLeftBounded cs y.rest → AreLeftBounded cs next
 left_changed size earliest at bs cs ts next y is worth h others here = subst (AreLeftBounded cs) (sym is) (changed at ts worth h)
   where
-    by_rest : (o : Option RestFields) → earliest ≤ moment_from (option_and_then (λ (r : Rest). r.message) (rests_meaning size o)) → IsLeftBounded bs o → IsLeftBounded cs o
-    by_rest None low le = tt
-    by_rest (Some r) low le = others r.message.value.ticket (until_of r.message) low le
+    by_rest : (x : TrackFields) (o : Option RestFields) → earliest ≤ moment_from (option_and_then (λ (r : Rest). r.message) (rests_meaning size (counts_meaning x) o)) → IsLeftBounded bs o → IsLeftBounded cs o
+    by_rest x None low le = tt
+    by_rest x (Some r) low le = others r.message.value.ticket (until_of r.message) low le
 
     all_kept : (us : List TrackFields) → AreWorth earliest (rest_messages (map (track_meaning size) us)) → AreLeftBounded bs us → AreLeftBounded cs us
     all_kept [] w k j d lt = absurd (omega (arith, lt))
-    all_kept (x ∷ us) w k zero d lt = by_rest x.rest w.0 (k 0 x (omega arith))
+    all_kept (x ∷ us) w k zero d lt = by_rest x x.rest w.0 (k 0 x (omega arith))
     all_kept (x ∷ us) w k (suc j) d lt = all_kept us w.1 (λ i e lo. k (suc i) e (omega (arith, lo))) j d (omega (arith, lt))
 
     changed : (n : ℕ) (us : List TrackFields) → AreWorth earliest (rest_messages (map (track_meaning size) us)) → AreLeftBounded bs us → AreLeftBounded cs (set us n y)
     changed n [] w k j d lt = absurd (omega (arith, lt))
     changed zero (x ∷ us) w k zero d lt = here
     changed zero (x ∷ us) w k (suc j) d lt = all_kept us w.1 (λ i e lo. k (suc i) e (omega (arith, lo))) j d (omega (arith, lt))
-    changed (suc n) (x ∷ us) w k zero d lt = by_rest x.rest w.0 (k 0 x (omega arith))
+    changed (suc n) (x ∷ us) w k zero d lt = by_rest x x.rest w.0 (k 0 x (omega arith))
     changed (suc n) (x ∷ us) w k (suc j) d lt = changed n us w.1 (λ i e lo. k (suc i) e (omega (arith, lo))) j d (omega (arith, lt))
 
 -- ---- pairs that are passed

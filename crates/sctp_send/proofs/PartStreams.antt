@@ -4,7 +4,7 @@ use Rattle.std.specs.Prelude.{◌||◌, set, replicate}
 use Rattle.std.proofs.lemmas.Bool.Decides.{nat_tests}
 use Rattle.std.proofs.lemmas.List.{length-map, map-set}
 use Rattle.sctp_model.specs.numbers.Limits.{LAST_MOMENT}
-use Rattle.sctp_send.specs.SenderFields.{rests_meaning, track_meaning}
+use Rattle.sctp_send.specs.SenderFields.{counts_meaning, rests_meaning, track_meaning}
 use Rattle.sctp_send.specs.SenderKept.{Track}
 use Rattle.sctp_send.specs.inner.Newcomers.{rest_at, has_rest, IsNextPart}
 use Rattle.sctp_send.specs.inner.PartPairs.{ticket_left, tickets_left, left_on, IsListed, AreLeftBounded, IsStreamsOf, IsFirstLeft}
@@ -21,7 +21,7 @@ pub rest_off : (size j : ℕ) (ts : List TrackFields) → left_on j (tickets_lef
 rest_off size j [] is = refl
 rest_off size zero (x ∷ ts) is = by_rest x.rest is
   where
-    by_rest : (o : Option RestFields) → ticket_left o ≡ None → has_rest (rests_meaning size o) ≡ false
+    by_rest : (o : Option RestFields) → ticket_left o ≡ None → has_rest (rests_meaning size (counts_meaning x) o) ≡ false
     by_rest None there = refl
     by_rest (Some r) there = absurd (cc)
 rest_off size (suc j) (x ∷ ts) is = rest_off size j ts is
@@ -30,7 +30,7 @@ pub rest_on : (size j t : ℕ) (ts : List TrackFields) → left_on j (tickets_le
 rest_on size j t [] is = absurd (cc)
 rest_on size zero t (x ∷ ts) is = by_rest x.rest is
   where
-    by_rest : (o : Option RestFields) → ticket_left o ≡ Some t → has_rest (rests_meaning size o) ≡ true
+    by_rest : (o : Option RestFields) → ticket_left o ≡ Some t → has_rest (rests_meaning size (counts_meaning x) o) ≡ true
     by_rest None there = absurd (cc)
     by_rest (Some r) there = refl
 rest_on size (suc j) t (x ∷ ts) is = rest_on size j t ts is
@@ -58,7 +58,7 @@ pub goes_on_there : (size at t : ℕ) (ts : List TrackFields) → left_on at (ti
 goes_on_there size at t [] is = absurd (cc)
 goes_on_there size zero t (x ∷ ts) is = record { track = track_meaning size x; there = refl; mine = by_rest x.rest is }
   where
-    by_rest : (o : Option RestFields) → ticket_left o ≡ Some t → rest_has t (rests_meaning size o) ≡ true
+    by_rest : (o : Option RestFields) → ticket_left o ≡ Some t → rest_has t (rests_meaning size (counts_meaning x) o) ≡ true
     by_rest None there = absurd (cc)
     by_rest (Some r) there = let same : r.message.value.ticket ≡ t = cc in grind (arith, nat_tests)
 goes_on_there size (suc at) t (x ∷ ts) is = let rest = goes_on_there size at t ts is in record { track = rest.track; there = rest.there; mine = rest.mine }
@@ -67,7 +67,7 @@ pub none_goes_on_with : (size t : ℕ) (ts : List TrackFields) → ((j : ℕ) �
 none_goes_on_with size t [] none = refl
 none_goes_on_with size t (x ∷ ts) none = ap (λ (b : Bool). b || any_rest t (map (track_meaning size) ts)) (by_rest x.rest (none 0)) ∙ none_goes_on_with size t ts (λ j. none (suc j))
   where
-    by_rest : (o : Option RestFields) → (ticket_left o ≡ Some t → ⊥) → rest_has t (rests_meaning size o) ≡ false
+    by_rest : (o : Option RestFields) → (ticket_left o ≡ Some t → ⊥) → rest_has t (rests_meaning size (counts_meaning x) o) ≡ false
     by_rest None other = refl
     by_rest (Some r) other =
         let apart : r.message.value.ticket ≡ t → ⊥ = λ same. other (ap (λ (n : ℕ). Some n) same) in

@@ -7,7 +7,7 @@ use Rattle.sctp_model.specs.messages.Plan.{Message}
 use Rattle.sctp_model.specs.sender.Words.{when}
 use Rattle.sctp_model.specs.sender.Abandoning.{is_past}
 use Rattle.sctp_send.specs.OutstandingFields.{message_meaning}
-use Rattle.sctp_send.specs.SenderFields.{rests_meaning, track_meaning}
+use Rattle.sctp_send.specs.SenderFields.{counts_meaning, rests_meaning, track_meaning}
 use Rattle.sctp_send.specs.inner.Expiring.{sooner, late_after, soonest, rest_message, rest_messages}
 use Rattle.sctp_send.specs.inner.Ordering.{key, before, AreOrdered}
 use Rattle.sctp_send.specs.inner.PartPairs.{ticket_left, tickets_left, left_on, IsListed}
@@ -35,7 +35,7 @@ no_message : (size j : ℕ) (ts : List TrackFields) → left_on j (tickets_left 
 no_message size j [] is = refl
 no_message size zero (x ∷ ts) is = by_rest x.rest is
   where
-    by_rest : (o : Option RestFields) → ticket_left o ≡ None → option_and_then (λ (r : Rest). r.message) (rests_meaning size o) ≡ None
+    by_rest : (o : Option RestFields) → ticket_left o ≡ None → option_and_then (λ (r : Rest). r.message) (rests_meaning size (counts_meaning x) o) ≡ None
     by_rest None there = refl
     by_rest (Some r) there = absurd (cc)
 no_message size (suc j) (x ∷ ts) is = no_message size j ts is
@@ -54,7 +54,7 @@ late_on now last size u zero (x ∷ ts) is = let both = by_rest x.rest is in rec
     by_tests r true false test there = absurd (cc)
     by_tests r true true test there = let same : r.message.value.ticket ≡ u = cc in (same, let lt : last < r.message.value.ticket = grind (arith, nat_tests) in omega (arith, lt, same))
 
-    by_rest : (o : Option RestFields) → late_after now last (option_and_then (λ (r : Rest). r.message) (rests_meaning size o)) ≡ Some u → (ticket_left o ≡ Some u) × (last < u)
+    by_rest : (o : Option RestFields) → late_after now last (option_and_then (λ (r : Rest). r.message) (rests_meaning size (counts_meaning x) o)) ≡ Some u → (ticket_left o ≡ Some u) × (last < u)
     by_rest None there = absurd (cc)
     by_rest (Some r) there =
         let both = by_tests r (nat_lt last r.message.value.ticket) (is_past now (message_meaning size r.message.value)) refl there in

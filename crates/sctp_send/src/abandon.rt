@@ -5,7 +5,7 @@ ghost use Rattle.sctp_send.specs.PartsKept.{IsSameRoom};
 ghost use Rattle.sctp_model.specs.sender.SenderView.{SenderView};
 ghost use Rattle.sctp_model.specs.sender.Abandoning.{AbandonAnswer, abandon_answer, abandon_after, without};
 ghost use Rattle.sctp_send.specs.OutstandingFields.{item_meaning};
-ghost use Rattle.sctp_send.specs.SenderFields.{queued_by, track_meaning, rest_meaning};
+ghost use Rattle.sctp_send.specs.SenderFields.{queued_by, track_meaning, ending_meaning};
 ghost use Rattle.sctp_send.specs.SenderStands.{StandsFor, fate_here};
 ghost use Rattle.sctp_send.specs.inner.Walks.{is_numbered_fate, any_rest, end_item, EndsAt};
 ghost use Rattle.sctp_send.specs.SenderAnswers.{answer_meaning, answer_code};
@@ -17,7 +17,7 @@ use crate::queue::Queue;
 use crate::readers::is_all_covered;
 use crate::sender::Sender;
 use crate::streams::Streams;
-use crate::track::{Rest, Track};
+use crate::track::{Ending, Track, ending_of};
 use sctp_framing::Framing;
 use sctp_values::Ticket;
 
@@ -93,8 +93,8 @@ impl<F: Framing> Sender<F> {
         }
         self.head.fates[ticket as usize - 1] = Fate::Abandoned;
         self.parts.outstanding.abandon(ticket);
-        if let Some(rest) = end(&mut self.parts.tracks, ticket) {
-            push_end(&mut self.parts.outstanding, rest);
+        if let Some(ending) = end(&mut self.parts.tracks, ticket) {
+            push_end(&mut self.parts.outstanding, ending);
         }
         Abandoned::Abandoned
     }
@@ -124,11 +124,11 @@ fn withdraw(queue: &mut Queue, ticket: u64)
 }
 
 /// The stream that goes on with the message with this ticket goes on with nothing; what was left of the message, where there is such a stream.
-fn end(tracks: &mut Streams, ticket: u64) -> Option<Rest>
+fn end(tracks: &mut Streams, ticket: u64) -> Option<Ending>
     ensures size { tracks.new.size ≡ tracks.old.size }
     ensures none { (size : ℕ) → IfNone result (any_rest ticket (map (track_meaning size) tracks.old.items) ≡ false) }
     ensures same { IfNone result (tracks.new.items ≡ tracks.old.items) }
-    ensures some { (size : ℕ) → IfSome result (λ rest. EndsAt ticket (rest_meaning size rest) (map (track_meaning size) tracks.old.items) (map (track_meaning size) tracks.new.items)) }
+    ensures some { (size : ℕ) → IfSome result (λ ending. EndsAt ticket (ending_meaning size ending) (map (track_meaning size) tracks.old.items) (map (track_meaning size) tracks.new.items)) }
 {
     let at = tracks.stream_of(ticket)?;
     let track = &tracks.tracks()[at];
@@ -137,26 +137,26 @@ fn end(tracks: &mut Streams, ticket: u64) -> Option<Rest>
         unordered: track.unordered,
         rest: None,
     };
-    tracks.replace(at, next).rest
+    ending_of(tracks.replace(at, next))
 }
 
 /// The end mark of a message stands behind the other entries. There is room for it since the message took its number.
-fn push_end(outstanding: &mut Outstanding, rest: Rest)
+fn push_end(outstanding: &mut Outstanding, ending: Ending)
     ensures items { (size : ℕ) → length outstanding.old.items < outstanding.old.capacity
-        → map (item_meaning size) outstanding.new.items ≡ map (item_meaning size) outstanding.old.items ++ end_item (rest_meaning size rest) ∷ [] }
+        → map (item_meaning size) outstanding.new.items ≡ map (item_meaning size) outstanding.old.items ++ end_item (ending_meaning size ending) ∷ [] }
     ensures kept { length outstanding.old.items < outstanding.old.capacity → IsSameRoom outstanding.old outstanding.new }
     ensures size { outstanding.new.size ≡ outstanding.old.size }
 {
-    let _kept = outstanding.push(end_mark(rest));
+    let _kept = outstanding.push(end_mark(ending));
 }
 
 /// The end mark of a message in part.
-fn end_mark(rest: Rest) -> Entry
-    ensures { (size : ℕ) → item_meaning size result ≡ end_item (rest_meaning size rest) }
+fn end_mark(ending: Ending) -> Entry
+    ensures { (size : ℕ) → item_meaning size result ≡ end_item (ending_meaning size ending) }
 {
     Entry {
-        message: rest.message,
-        number: rest.number,
+        message: ending.rest.message,
+        number: ending.number,
         place: Place::EndMark,
         standing: Standing::Unsent,
         covered: false,

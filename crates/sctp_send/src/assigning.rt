@@ -5,12 +5,12 @@ ghost use Rattle.sctp_model.specs.messages.Format.{Plain, Interleaved};
 ghost use Rattle.sctp_model.specs.numbers.Limits.{WINDOW};
 ghost use Rattle.sctp_model.specs.sender.Assigning.{first_on};
 ghost use Rattle.sctp_model.specs.sender.SenderView.{SenderView};
-ghost use Rattle.sctp_send.specs.SenderKept.{Kept};
+ghost use Rattle.sctp_send.specs.SenderKept.{Kept, Track as KeptTrack};
 ghost use Rattle.sctp_send.specs.SenderStands.{Keeps};
 ghost use Rattle.sctp_send.specs.SenderFields.{track_meaning, rest_meaning};
 ghost use Rattle.sctp_send.specs.inner.Walks.{total, one_if_rest};
 ghost use Rattle.sctp_send.specs.inner.Drafting.{drafted, NewAnswer, FirstTurnAnswer, IsNextWithin};
-ghost use Rattle.sctp_send.specs.inner.Newcomers.{rest_at, has_rest, one_if};
+ghost use Rattle.sctp_send.specs.inner.Newcomers.{rest_at, has_rest, one_if, track_of};
 
 use crate::draft::Draft;
 use crate::looking::goes_on_at;
@@ -128,7 +128,7 @@ pub fn stream_after(stream: u16, streams: u16) -> u16
 /// What is left of the message in part of a stream.
 pub fn rest_of(tracks: &[Track], stream: u16) -> Option<&Rest>
     ensures there { IfSome result (λ _. stream < length tracks.now) }
-    ensures rest { (size : ℕ) → MatchOption result (None ≡ rest_at (map (track_meaning size) tracks.now) stream) (λ rest. Some (rest_meaning size rest.now) ≡ rest_at (map (track_meaning size) tracks.now) stream) }
+    ensures rest { (size : ℕ) → MatchOption result (None ≡ rest_at (map (track_meaning size) tracks.now) stream) (λ rest. Some (rest_meaning size (track_of (map (track_meaning size) tracks.now) stream) rest.now) ≡ rest_at (map (track_meaning size) tracks.now) stream) }
 {
     match tracks.get(usize::from(stream)) {
         Some(track) => track.rest.as_ref(),
@@ -139,11 +139,10 @@ pub fn rest_of(tracks: &[Track], stream: u16) -> Option<&Rest>
 /// A copy of what is left of a message in part.
 pub fn copied(rest: &Rest) -> Result<Rest, NoMemory>
     ensures fragment { IfOk result (λ copy. copy.fragment ≡ rest.now.fragment) }
-    ensures same { (size : ℕ) → IfOk result (λ copy. rest_meaning size copy ≡ rest_meaning size rest.now) }
+    ensures same { (size : ℕ) (t : KeptTrack) → IfOk result (λ copy. rest_meaning size t copy ≡ rest_meaning size t rest.now) }
 {
     Ok(Rest {
         message: shared(&rest.message)?,
-        number: rest.number,
         fragment: rest.fragment,
     })
 }

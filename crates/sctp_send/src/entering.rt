@@ -5,8 +5,9 @@ ghost use Rattle.std.specs.Vec.{vec_len, vec_capacity};
 ghost use Rattle.sctp_model.specs.numbers.Limits.{WINDOW};
 ghost use Rattle.sctp_values.specs.Meanings.{kind_meaning};
 ghost use Rattle.sctp_send.specs.OutstandingFields.{item_meaning, lane_meaning, message_meaning, queued_meaning};
-ghost use Rattle.sctp_send.specs.SenderFields.{queued_by, track_meaning, rest_meaning, rests_meaning};
-ghost use Rattle.sctp_send.specs.inner.Newcomers.{number_in, number_on, begun_items, track_of, without_place, begun, gone_on};
+ghost use Rattle.sctp_send.specs.SenderKept.{Track as KeptTrack};
+ghost use Rattle.sctp_send.specs.SenderFields.{queued_by, latest_in, track_meaning, rest_meaning, rests_meaning};
+ghost use Rattle.sctp_send.specs.inner.Newcomers.{number_in, counted_in, number_on, begun_items, track_of, without_place, begun, gone_on};
 ghost use Rattle.sctp_send.specs.inner.Drafting.{bare, numbers_of, drafted, fragment_item, rest_from, counted_track, left_track};
 ghost use Rattle.sctp_send.specs.inner.Undoing.{Parts, before_all, IsSized, IsBehind};
 
@@ -51,7 +52,7 @@ impl Head {
         ensures told { OnOk result (numbers_of draft.new.tickets.items ≡ numbers_of draft.old.tickets.items ++ message.value.ticket ∷ []) }
         ensures behind { IsBehind draft.old draft.new }
     {
-        let rest = rest_from(&message, number, next.count as u32, self.fragment)?;
+        let rest = rest_from(&message, next.count as u32, self.fragment)?;
         draft.log.reserve(2).map_err(|_| NoMemory)?;
         tell(&mut draft.tickets, message.ticket)?;
         let stream = message.stream;
@@ -86,18 +87,17 @@ impl Head {
         requires sized { IsSized self.now.fragment draft.old }
         ensures kept { suc rest.now.fragment < 2 ^ 32
             → OnOk result (drafted (bare self.now) draft.new
-            ≡ gone_on (drafted (bare self.now) draft.old) (rest_meaning self.now.fragment rest.now) stream (suc stream % self.now.streams) draft.new.outstanding.capacity) }
+            ≡ gone_on (drafted (bare self.now) draft.old) (rest_meaning self.now.fragment (track_of (drafted (bare self.now) draft.old).tracks stream) rest.now) stream (suc stream % self.now.streams) draft.new.outstanding.capacity) }
         ensures more { OnOk result (length draft.old.outstanding.items < length draft.new.outstanding.items) }
         ensures room { OnOk result (self.now.streams + length draft.new.outstanding.items ≤ draft.new.outstanding.capacity) }
         ensures told { OnOk result (draft.new.tickets ≡ draft.old.tickets) }
         ensures behind { IsBehind draft.old draft.new }
     {
-        let left = rest_from(
-            &rest.message,
-            rest.number,
-            rest.fragment.wrapping_add(1),
-            self.fragment,
-        )?;
+        let left = rest_from(&rest.message, rest.fragment.wrapping_add(1), self.fragment)?;
+        let number = number_latest(
+            &draft.tracks.tracks()[usize::from(stream)],
+            rest.message.kind,
+        );
         draft.log.reserve(1).map_err(|_| NoMemory)?;
         draft
             .outstanding
@@ -105,7 +105,7 @@ impl Head {
         push_fragment(
             &mut draft.outstanding,
             &rest.message,
-            rest.number,
+            number,
             rest.fragment,
             Standing::Sent,
         )?;
@@ -123,21 +123,15 @@ impl Head {
 }
 
 /// What is left of a message from a fragment on.
-fn rest_from(
-    message: &Rc<Message>,
-    number: u64,
-    next: u32,
-    size: u16,
-) -> Result<Option<Rest>, NoMemory>
+fn rest_from(message: &Rc<Message>, next: u32, size: u16) -> Result<Option<Rest>, NoMemory>
     requires { 0 < size }
-    ensures { IfOk result (λ rest. rests_meaning size rest ≡ rest_from size message.now.value number next) }
+    ensures { (t : KeptTrack) → IfOk result (λ rest. rests_meaning size t rest ≡ rest_from size message.now.value (latest_in (kind_meaning message.now.value.kind) t) next) }
 {
     if next as usize >= fragments_of(size, &message.bytes) {
         return Ok(None);
     }
     Ok(Some(Rest {
         message: shared(message)?,
-        number,
         fragment: next,
     }))
 }
@@ -152,10 +146,20 @@ pub fn number_next(track: &Track, kind: Kind) -> u64
     }
 }
 
+/// The number that the latest message of this kind took on a stream.
+pub fn number_latest(track: &Track, kind: Kind) -> u64
+    ensures { (size : ℕ) → result ≡ latest_in (kind_meaning kind) (track_meaning size track.now) }
+{
+    match kind {
+        Kind::Ordered => track.ordered.saturating_sub(1),
+        Kind::Unordered => track.unordered.saturating_sub(1),
+    }
+}
+
 /// A stream on which a message of this kind took its number, and so much of it is left.
 fn counted(track: &Track, kind: Kind, rest: Option<Rest>) -> Track
     ensures { (size : ℕ) → suc (number_in (kind_meaning kind) (track_meaning size track.now)) < 2 ^ 64
-        → track_meaning size result ≡ counted_track (kind_meaning kind) (rests_meaning size rest) (track_meaning size track.now) }
+        → track_meaning size result ≡ counted_track (kind_meaning kind) (rests_meaning size (counted_in (kind_meaning kind) (track_meaning size track.now)) rest) (track_meaning size track.now) }
 {
     let (ordered, unordered) = match kind {
         Kind::Ordered => (track.ordered.wrapping_add(1), track.unordered),
@@ -175,7 +179,7 @@ fn count_on(tracks: &mut Streams, stream: u16, kind: Kind, rest: Option<Rest>) -
     ensures size { tracks.new.size ≡ tracks.old.size }
     ensures items { (size : ℕ) → suc (number_in (kind_meaning kind) (track_of (map (track_meaning size) tracks.old.items) stream)) < 2 ^ 64
         → map (track_meaning size) tracks.new.items
-        ≡ slice_set (map (track_meaning size) tracks.old.items) stream (counted_track (kind_meaning kind) (rests_meaning size rest) (track_of (map (track_meaning size) tracks.old.items) stream)) }
+        ≡ slice_set (map (track_meaning size) tracks.old.items) stream (counted_track (kind_meaning kind) (rests_meaning size (counted_in (kind_meaning kind) (track_of (map (track_meaning size) tracks.old.items) stream)) rest) (track_of (map (track_meaning size) tracks.old.items) stream)) }
     ensures before { set tracks.new.items stream result ≡ tracks.old.items }
 {
     let at = usize::from(stream);
@@ -188,7 +192,7 @@ fn leave_on(tracks: &mut Streams, stream: u16, rest: Option<Rest>) -> Track
     requires { stream < length tracks.old.items }
     ensures size { tracks.new.size ≡ tracks.old.size }
     ensures items { (size : ℕ) → map (track_meaning size) tracks.new.items
-        ≡ slice_set (map (track_meaning size) tracks.old.items) stream (left_track (rests_meaning size rest) (track_of (map (track_meaning size) tracks.old.items) stream)) }
+        ≡ slice_set (map (track_meaning size) tracks.old.items) stream (left_track (rests_meaning size (track_of (map (track_meaning size) tracks.old.items) stream) rest) (track_of (map (track_meaning size) tracks.old.items) stream)) }
     ensures before { set tracks.new.items stream result ≡ tracks.old.items }
 {
     let at = usize::from(stream);

@@ -1,17 +1,17 @@
 //! What is kept of a stream, and what is left of its message in part.
 
-ghost use Rattle.std.specs.Prelude.{◌≡◌, ◌<◌, ◌%◌, ◌^◌};
-ghost use Rattle.sctp_send.specs.SenderFields.{track_meaning};
+ghost use Rattle.std.specs.Prelude.{◌≡◌, ℕ, ◌<◌, ◌%◌, ◌^◌};
+ghost use Rattle.sctp_send.specs.SenderFields.{track_meaning, endings_meaning};
 ghost use Rattle.sctp_send.specs.inner.Walks.{rest_owes};
 
 use crate::message::{Message, fragments_of, owed};
+use sctp_values::Kind;
 use std::rc::Rc;
 
-/// What is left of a message in part: the fragment that it takes next.
+/// What is left of a message in part: the fragment that it takes next. Its number is the latest that its kind took on its stream.
 #[derive(Drop)]
 pub struct Rest {
     pub message: Rc<Message>,
-    pub number: u64,
     pub fragment: u32,
 }
 
@@ -21,6 +21,29 @@ pub struct Track {
     pub ordered: u64,
     pub unordered: u64,
     pub rest: Option<Rest>,
+}
+
+/// A message in part that ends: what was left of it, and its number.
+#[derive(Drop)]
+pub struct Ending {
+    pub rest: Rest,
+    pub number: u64,
+}
+
+/// The message in part of a stream, as it ends.
+pub fn ending_of(track: Track) -> Option<Ending>
+    ensures { (size : ℕ) → endings_meaning size result ≡ (track_meaning size track).rest }
+{
+    let (ordered, unordered) = (track.ordered, track.unordered);
+    let rest = track.rest?;
+    let counted = match rest.message.kind {
+        Kind::Ordered => ordered,
+        Kind::Unordered => unordered,
+    };
+    Some(Ending {
+        rest,
+        number: counted.saturating_sub(1),
+    })
 }
 
 /// What the message in part of a stream owes.

@@ -9,12 +9,12 @@ use Rattle.sctp_send.proofs.abandon.end.Goals as goal
 pub returns-clause-none : goal.returns-clause-none
 returns-clause-none c = λ size.
     let there : GoesOnAt c.args.ticket c.in_ok-at.at (map (track_meaning size) c.args.tracks.now.items) = c.in_ok-at.ensures.some size in
-    never_none size c.args.ticket c.in_ok-at.at c.args.tracks.now.items c.replace.result _ c.replace.ensures.before there
+    never_none size c.args.ticket c.in_ok-at.at c.args.tracks.now.items c.replace.result _ _ c.replace.ensures.before there (c.ending_of.ensures size)
 
 pub returns-clause-same : goal.returns-clause-same
 returns-clause-same c =
     let there : GoesOnAt c.args.ticket c.in_ok-at.at (map (track_meaning 1) c.args.tracks.now.items) = c.in_ok-at.ensures.some 1 in
-    never_none 1 c.args.ticket c.in_ok-at.at c.args.tracks.now.items c.replace.result _ c.replace.ensures.before there
+    never_none 1 c.args.ticket c.in_ok-at.at c.args.tracks.now.items c.replace.result _ _ c.replace.ensures.before there (c.ending_of.ensures 1)
 
 pub returns-clause-some : goal.returns-clause-some
 returns-clause-some c = λ size.
@@ -23,4 +23,4 @@ returns-clause-some c = λ size.
     let there : GoesOnAt c.args.ticket c.in_ok-at.at (map (track_meaning size) ts) = c.in_ok-at.ensures.some size in
     let same = same_read ts c.in_ok-at.at c.index-tracks-at.result x c.in_ok-at.ensures.within (rw c.tracks.ensures at c.index-tracks-at.is) c.replace.ensures.before in
     let next : c.replace.new.self.items ≡ set ts c.in_ok-at.at (record x { rest = None }) = ap (λ (w : StreamsKept). w.items) c.replace.ensures.after ∙ ap (λ (t : TrackFields). set ts c.in_ok-at.at (record t { rest = None })) same in
-    rw next (rest_taken size c.args.ticket c.in_ok-at.at ts x c.replace.ensures.before there)
+    rw next (rest_taken size c.args.ticket c.in_ok-at.at ts x _ c.replace.ensures.before there (c.ending_of.ensures size))

@@ -2,7 +2,8 @@ use Rattle.std.proofs.Common.{◌∙◌, List, map, get_or, ◌^◌, ◌<◌, su
 use Rattle.sctp_values.specs.Meanings.{kind_meaning}
 use Rattle.sctp_send.specs.SenderFields.{track_meaning, rests_meaning}
 use Rattle.sctp_send.specs.PartsKept.{StreamsKept}
-use Rattle.sctp_send.specs.inner.Newcomers.{number_in}
+use Rattle.sctp_send.specs.SenderKept.{Track as KeptTrack}
+use Rattle.sctp_send.specs.inner.Newcomers.{number_in, counted_in}
 use Rattle.sctp_send.specs.inner.Drafting.{counted_track}
 use Rattle.sctp_send.specs.declared.track.Track.{Track}
 use Rattle.sctp_send.proofs.EnterLemmas.{set_on, track_there, replaced}
@@ -11,7 +12,6 @@ use Rattle.sctp_send.proofs.entering.count_on.Goals as goal
 pub returns-clause-items : goal.returns-clause-items
 returns-clause-items c = λ size small.
     let k = kind_meaning c.args.kind in
-    let left = rests_meaning size c.args.rest in
     let x = c.index-tracks-at.result in
     let ts = c.args.tracks.now.items in
     let place = c.from-at.result in
@@ -19,7 +19,7 @@ returns-clause-items c = λ size small.
     let there = track_there size place c.args.stream ts x c.from-at.ensures c.requires read in
     let few : suc (number_in k (track_meaning size x)) < 2 ^ 64 = rw there at small in
     ap (λ (w : StreamsKept). map (track_meaning size) w.items) c.replace.ensures.after
-    ∙ set_on size place c.args.stream ts c.counted-next.result _ c.from-at.ensures (c.counted-next.ensures size few ∙ ap (counted_track k left) (sym there))
+    ∙ set_on size place c.args.stream ts c.counted-next.result _ c.from-at.ensures (c.counted-next.ensures size few ∙ ap (λ (t : KeptTrack). counted_track k (rests_meaning size (counted_in k t) c.args.rest) t) (sym there))
 
 pub returns-clause-before : goal.returns-clause-before
 returns-clause-before c =
