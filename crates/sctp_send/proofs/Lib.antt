@@ -10,6 +10,7 @@ pub mod GapLemmas
 pub mod RecoverLemmas
 pub mod SackLemmas
 pub mod QueueLemmas
+pub mod LoadLemmas
 pub mod ReaderLemmas
 pub mod PairLemmas
 pub mod WalkLemmas

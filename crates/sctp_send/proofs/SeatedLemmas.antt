@@ -39,16 +39,17 @@ mapped_removed f (y ∷ xs) zero = refl
 mapped_removed f (y ∷ xs) (suc n) = ap (λ ys. f y ∷ ys) (mapped_removed f xs n)
 
 -- no message waits
-pub seated_fresh : (size : ℕ) (seated : Bool) (ms : List (Rc MessageFields Global)) (ps : List Pair) (bs : List ℕ) → 0 < size → ms ≡ [] → ps ≡ [] → IsQueueOf size ms 0 LAST_MOMENT true seated ps bs
+pub seated_fresh : (size : ℕ) (seated : Bool) (ms : List (Rc MessageFields Global)) (ps : List Pair) (bs : List ℕ) → 0 < size → ms ≡ [] → ps ≡ [] → IsQueueOf size ms 0 LAST_MOMENT true seated ps bs 0
 seated_fresh size seated ms ps bs some none empty = rw (none, empty) (record {
   owed = record { some = some; owed = omega arith; earliest = tt };
   seats = record { order = λ on. tt; seats = λ on f. refl };
   bounded = λ k d lt. absurd (omega (arith, lt));
+  bytes = refl;
 })
 
 -- the same messages and seats
-pub seated_same : (size sum first : ℕ) (rises seated : Bool) (ms next : List (Rc MessageFields Global)) (ps qs : List Pair) (bs cs : List ℕ) → IsQueueOf size ms sum first rises seated ps bs → next ≡ ms → qs ≡ ps → AreMessagesBounded cs ms → IsQueueOf size next sum first rises seated qs cs
-seated_same size sum first rises seated ms next ps qs bs cs h is same bounded = rw (is, same) (record { owed = h.owed; seats = h.seats; bounded = bounded })
+pub seated_same : (size sum first : ℕ) (rises seated : Bool) (ms next : List (Rc MessageFields Global)) (ps qs : List Pair) (bs cs : List ℕ) (bytes : ℕ) → IsQueueOf size ms sum first rises seated ps bs bytes → next ≡ ms → qs ≡ ps → AreMessagesBounded cs ms → IsQueueOf size next sum first rises seated qs cs bytes
+seated_same size sum first rises seated ms next ps qs bs cs bytes h is same bounded = rw (is, same) (record { owed = h.owed; seats = h.seats; bounded = bounded; bytes = h.bytes })
 
 -- one message more
 pub seated_inserted : (was rises had seated : Bool) (n : ℕ) (x : Rc MessageFields Global) (ms next : List (Rc MessageFields Global)) (ps qs : List Pair) (p : Pair) → IsSeatedOf was had ms ps → next ≡ insert ms n x → n ≤ length ms

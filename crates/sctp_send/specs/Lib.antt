@@ -5,5 +5,6 @@ pub mod SenderStands
 pub mod OutstandingFields
 pub mod SenderFields
 pub mod SenderAnswers
+pub mod Waiting
 pub mod FillAnswers
 pub mod inner

@@ -107,6 +107,13 @@ pub fn owed(count: usize) -> u64
     }
 }
 
+/// How many bytes a message has.
+pub fn bytes_of(message: &Message) -> u64
+    ensures { result ≡ length message.now.bytes.items }
+{
+    message.bytes.len() as u64
+}
+
 /// What a message that waits owes.
 pub fn owed_by_message(message: &Message, size: u16) -> u64
     requires { 0 < size }

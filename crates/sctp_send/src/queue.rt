@@ -4,10 +4,11 @@ ghost use Rattle.std.specs.Prelude.{◌≡◌, ℕ, ◌+◌, ◌<◌, ◌≤◌,
 ghost use Rattle.std.specs.VecDeque.{deque_len, deque_capacity};
 ghost use Rattle.sctp_model.specs.sender.Queueing.{owed_by_queue};
 ghost use Rattle.sctp_send.specs.SenderFields.{queued_by};
+ghost use Rattle.sctp_send.specs.Waiting.{waiting_bytes};
 ghost use Rattle.sctp_send.specs.inner.Seating.{AreLower, NextOnAnswer};
 
 use crate::late_queued::bound;
-use crate::message::{Message, moment_of, owed_by_message};
+use crate::message::{Message, bytes_of, moment_of, owed_by_message};
 use crate::ordered::{Ordered, Pair};
 use crate::seats::{
     Found, add_seat, first_from, fits_at, is_in_front, make_room, next_by_looking, seat_of,
@@ -26,6 +27,8 @@ pub struct Queue {
     pub(crate) messages: VecDeque<Rc<Message>>,
     // the TSNs that they may take, modulo 2^64
     pub(crate) owed: u64,
+    // their bytes, modulo 2^64
+    pub(crate) bytes: u64,
     // before this moment no message is past its time
     pub(crate) earliest: u64,
     // tickets rise from the front on: so it is where `queue` gives them
@@ -47,7 +50,7 @@ impl Model for Queue {
 
     ghost view = { λ w. record { size = w.size; items = w.messages.items; capacity = deque_capacity w.messages } };
 
-    ghost invariant = { λ w. IsQueueOf w.size w.messages.items w.owed w.earliest w.rises w.is_seated w.seats.items w.bounds.items };
+    ghost invariant = { λ w. IsQueueOf w.size w.messages.items w.owed w.earliest w.rises w.is_seated w.seats.items w.bounds.items w.bytes };
 }
 
 impl Queue {
@@ -63,6 +66,7 @@ impl Queue {
             size,
             messages,
             owed: 0,
+            bytes: 0,
             earliest: u64::MAX,
             rises: true,
             seats,
@@ -94,6 +98,13 @@ impl Queue {
         self.owed
     }
 
+    /// The bytes of the messages, modulo 2^64.
+    pub fn bytes(&self) -> u64
+        ensures { result ≡ waiting_bytes (map (queued_by self.now.size) self.now.items) % 2 ^ 64 }
+    {
+        self.bytes
+    }
+
     /// A message waits behind the others.
     ///
     /// # Errors
@@ -104,6 +115,7 @@ impl Queue {
         ensures unchanged { OnErr result (self.new.items ≡ self.old.items) }
     {
         let owed = owed_by_message(&message, self.size);
+        let bytes = bytes_of(&message);
         let moment = moment_of(&message);
         let seat = seat_of(&message);
         let behind = self.messages.len();
@@ -115,6 +127,7 @@ impl Queue {
             Err(_) => return Err(NoMemory),
         }
         self.owed = self.owed.wrapping_add(owed);
+        self.bytes = self.bytes.wrapping_add(bytes);
         self.earliest = self.earliest.min(moment);
         self.rises = fits;
         self.is_seated = add_seat(&mut self.seats, self.is_seated, seat);
@@ -130,6 +143,7 @@ impl Queue {
         let message = remove_at(&mut self.messages, place)?;
         let owed = owed_by_message(&message, self.size);
         self.owed = self.owed.wrapping_sub(owed);
+        self.bytes = self.bytes.wrapping_sub(bytes_of(&message));
         let seat = seat_of(&message);
         self.seats.remove(seat);
         Some(message)
@@ -144,6 +158,7 @@ impl Queue {
         ensures capacity { self.old.capacity ≤ self.new.capacity }
     {
         let owed = owed_by_message(&message, self.size);
+        let bytes = bytes_of(&message);
         let moment = moment_of(&message);
         let seat = seat_of(&message);
         let fits = fits_at(&self.messages, self.rises, place, seat.second);
@@ -153,6 +168,7 @@ impl Queue {
             Err(_) => return,
         }
         self.owed = self.owed.wrapping_add(owed);
+        self.bytes = self.bytes.wrapping_add(bytes);
         self.earliest = self.earliest.min(moment);
         self.rises = fits;
         self.is_seated = add_seat(&mut self.seats, self.is_seated, seat);

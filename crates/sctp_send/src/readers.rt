@@ -1,12 +1,13 @@
 //! What a sender tells of itself.
 
-ghost use Rattle.std.specs.Prelude.{◌≡◌, ℕ, Bool, ◌<◌, ◌≤◌, ◌^◌, ◌%◌, ◌&&◌, not, map, length};
-ghost use Rattle.sctp_model.specs.numbers.Limits.{WINDOW};
+ghost use Rattle.std.specs.Prelude.{◌≡◌, ℕ, Bool, ◌<◌, ◌≤◌, ◌^◌, ◌%◌, ◌*◌, ◌&&◌, not, map, length};
+ghost use Rattle.sctp_model.specs.numbers.Limits.{WINDOW, QUEUE_LIMIT, LONGEST_MESSAGE};
 ghost use Rattle.sctp_model.specs.sender.SenderView.{SenderView};
 ghost use Rattle.sctp_model.specs.sender.Readers.{point, unsettled, drained, outstanding, abandoned, acknowledged};
 ghost use Rattle.sctp_send.specs.OutstandingFields.{item_meaning};
 ghost use Rattle.sctp_send.specs.SenderFields.{track_meaning};
 ghost use Rattle.sctp_send.specs.SenderStands.{StandsFor};
+ghost use Rattle.sctp_send.specs.Waiting.{queued_bytes};
 ghost use Rattle.sctp_send.specs.inner.Walks.{total, one_if_rest, abandoned_items, any_unsettled, is_item_unsettled, is_abandoned_fate, is_numbered_fate, any_uncovered, any_rest};
 
 use crate::message::Fate;
@@ -64,6 +65,29 @@ impl<F: Framing> Sender<F> {
             return false;
         }
         self.parts.outstanding.len() == 0
+    }
+
+    /// How many messages wait for their numbers: accepted, and nothing of them has a TSN (RFC 9260, 6.1). At most 1,024.
+    pub fn queued(&self) -> usize
+        ensures count { (v : SenderView) → StandsFor F.format self.now v → result ≡ length v.queue }
+        ensures bound { (v : SenderView) → StandsFor F.format self.now v → result ≤ QUEUE_LIMIT }
+    {
+        self.parts.queue.len()
+    }
+
+    /// The bytes of the messages that wait for their numbers. At most 1,024 times 65,536.
+    pub fn queued_bytes(&self) -> u64
+        ensures bytes { (v : SenderView) → StandsFor F.format self.now v → result ≡ queued_bytes v }
+        ensures bound { (v : SenderView) → StandsFor F.format self.now v → result ≤ QUEUE_LIMIT * LONGEST_MESSAGE }
+    {
+        self.parts.queue.bytes()
+    }
+
+    /// The peer's receiver window in bytes, as it last advertised it (RFC 9260, 3.3.2 and 3.3.4): what is in flight is not taken off.
+    pub fn peer_window(&self) -> u32
+        ensures { (v : SenderView) → StandsFor F.format self.now v → result ≡ v.rwnd }
+    {
+        self.head.rwnd
     }
 
     /// How many tickets were given: the calls of `queue` that were accepted. They are 1 to this number.

@@ -1,5 +1,5 @@
 -- Where a message that waits stands: by its ticket, and by its stream.
-use Rattle.std.specs.Prelude.{◌≡◌, ℕ, suc, ◌-◌, slice_index_or, ◌<◌, ◌≤◌, Bool, true, List, [], ◌∷◌, map, length, Option, None, Some}
+use Rattle.std.specs.Prelude.{◌≡◌, ℕ, suc, ◌-◌, ◌%◌, ◌^◌, slice_index_or, ◌<◌, ◌≤◌, Bool, true, List, [], ◌∷◌, map, length, Option, None, Some}
 use Rattle.std.specs.List.{sum_by}
 use Rattle.std.specs.declared.rc.Rc.{Rc}
 use Rattle.std.specs.declared.alloc.Global.{Global}
@@ -43,11 +43,16 @@ pub record IsSeatedOf (rises seated : Bool) (ms : List (Rc MessageFields Global)
   pub order : rises ≡ true → DoTicketsRise 0 ms
   pub seats : seated ≡ true → AreSeats ms ps
 
+-- how many bytes a message has
+abbrev pub bytes_of : Rc MessageFields Global → ℕ
+bytes_of m = length m.value.bytes.items
+
 -- What is counted of the messages that wait, where they stand, and before which moments none of them is worthless.
-pub record IsQueueOf (size : ℕ) (ms : List (Rc MessageFields Global)) (sum first : ℕ) (rises seated : Bool) (ps : List Pair) (bs : List ℕ) : Type 0 where
+pub record IsQueueOf (size : ℕ) (ms : List (Rc MessageFields Global)) (sum first : ℕ) (rises seated : Bool) (ps : List Pair) (bs : List ℕ) (load : ℕ) : Type 0 where
   pub owed : IsOwedOf size ms sum first
   pub seats : IsSeatedOf rises seated ms ps
   pub bounded : AreMessagesBounded bs ms
+  pub bytes : load ≡ sum_by bytes_of ms % 2 ^ 64
 
 -- the first of some streams on which a message waits, and the place of the one that has waited longest on it
 pub record IsNextOn (from below : ℕ) (qs : List Queued) (found : Found) : Type 0 where

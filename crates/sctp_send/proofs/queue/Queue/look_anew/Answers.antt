@@ -18,5 +18,6 @@ invariant_of-self c =
         earliest = waits_worth c.least-self-inside.result w.size c.look_queued.new.fresh ms (omega (arith, c.least-self-inside.type_inv)) (λ t. c.least-self-inside.ensures (spot_of t) (spot_within t _ (omega (arith, c.look_queued.auto.fresh)))) c.look_queued.ensures;
       };
       seats = h.seats;
+      bytes = h.bytes;
       bounded = waits_lower c.look_queued.new.fresh c.replace.new.bounds.items ms c.replace.ensures c.look_queued.ensures;
     }

@@ -1,0 +1,138 @@
+-- How many messages wait, and how many bytes they have.
+use Rattle.std.proofs.Common.{◌≡◌, ℕ, suc, ◌+◌, ◌-◌, ◌*◌, ◌%◌, ◌^◌, ◌<◌, ◌≤◌, List, [], ◌∷◌, ◌++◌, length, map, get_or, Bool, true, false, refl, sym, ap, ◌∙◌, subst, arith, length-append}
+use Rattle.std.specs.Prelude.{insert, remove, if◌then◌else◌}
+use Rattle.std.specs.List.{sum_by}
+use Rattle.std.specs.declared.rc.Rc.{Rc}
+use Rattle.std.specs.declared.alloc.Global.{Global}
+use Rattle.std.proofs.lemmas.List.Sums.{sum_by-cons, sum_by-insert, sum_by-remove}
+use Rattle.sctp_model.specs.numbers.Limits.{LONGEST_MESSAGE, QUEUE_LIMIT}
+use Rattle.sctp_model.specs.numbers.Lists.{joined}
+use Rattle.sctp_model.specs.messages.Format.{Format}
+use Rattle.sctp_model.specs.sender.SenderView.{Queued, SenderView}
+use Rattle.sctp_model.specs.sender.Assigning.{is_on, without_first}
+use Rattle.sctp_model.specs.sender.Queueing.{cut}
+use Rattle.sctp_model.specs.sender.Reached.{IsReached, Begins, Queues, Goes, Covers, Closes, Abandons, Repeats}
+use Rattle.sctp_model.proofs.sender.AbandonCases.{after_abandon}
+use Rattle.sctp_model.proofs.sender.CutLaws.{joined_cut}
+use Rattle.sctp_model.proofs.sender.SetLaws.{accepted, is_set}
+use Rattle.sctp_model.proofs.sender.WishCases.{IsAssigned, Whole, Begun, Continued, after_wish}
+use Rattle.sctp_send.specs.SenderKept.{Kept}
+use Rattle.sctp_send.specs.SenderStands.{Keeps}
+use Rattle.sctp_send.specs.SenderFields.{queued_by}
+use Rattle.sctp_send.specs.Waiting.{waiting_bytes, queued_bytes}
+use Rattle.sctp_send.specs.inner.Seating.{bytes_of}
+use Rattle.sctp_send.specs.declared.message.Message.{Message as MessageFields}
+
+-- ---- messages come and go
+
+-- joined, the fragments are the message
+pub waiting_is : (size : ℕ) (ms : List (Rc MessageFields Global)) → 0 < size → waiting_bytes (map (queued_by size) ms) ≡ sum_by bytes_of ms
+waiting_is size [] some = refl
+waiting_is size (m ∷ ms) some =
+    let rest = waiting_is size ms some in
+    let here : length (joined (cut size m.value.bytes.items)) ≡ bytes_of m = ap (λ (bs : List ℕ). length bs) (joined_cut size m.value.bytes.items some) in
+    let all = sum_by-cons bytes_of m ms in
+    omega (arith, rest, here, all)
+
+-- one message more
+pub bytes_inserted : (sum n bytes : ℕ) (ms next : List (Rc MessageFields Global)) (x : Rc MessageFields Global) → sum ≡ sum_by bytes_of ms % 2 ^ 64 → next ≡ insert ms n x → bytes ≡ bytes_of x → (sum + bytes) % 2 ^ 64 ≡ sum_by bytes_of next % 2 ^ 64
+bytes_inserted sum n bytes ms next x before is own =
+    let all : sum_by bytes_of next ≡ sum_by bytes_of ms + bytes_of x = ap (sum_by bytes_of) is ∙ sum_by-insert bytes_of ms n x in
+    omega (arith, all, before, own)
+
+-- one less
+pub bytes_removed : (sum n bytes : ℕ) (ms next : List (Rc MessageFields Global)) (x : Rc MessageFields Global) → sum ≡ sum_by bytes_of ms % 2 ^ 64 → n < length ms → x ≡ get_or ms n x → next ≡ remove ms n → bytes ≡ bytes_of x → bytes < 2 ^ 64
+    → (sum + (2 ^ 64 - bytes)) % 2 ^ 64 ≡ sum_by bytes_of next % 2 ^ 64
+bytes_removed sum n bytes ms next x before lt read is own fits =
+    let here : bytes_of (get_or ms n x) ≡ bytes_of x = ap bytes_of (sym read) in
+    let less = sum_by-remove bytes_of ms n x lt in
+    let all : sum_by bytes_of next ≡ sum_by bytes_of (remove ms n) = ap (sum_by bytes_of) is in
+    omega (arith, all, before, own, here, less, fits)
+
+-- ---- in a view
+
+-- none of these messages is longer than may be
+abbrev AllLight : List Queued → Type 0
+AllLight [] = Unit {0}
+AllLight (q ∷ qs) = (length (joined q.message.fragments) ≤ LONGEST_MESSAGE) × AllLight qs
+
+light_push : (qs : List Queued) (q : Queued) → AllLight qs → length (joined q.message.fragments) ≤ LONGEST_MESSAGE → AllLight (qs ++ q ∷ [])
+light_push [] q h light = (light, tt)
+light_push (x ∷ qs) q h light = (h.0, light_push qs q h.1 light)
+
+-- no more messages than may wait, and no longer ones
+record AreFew (qs : List Queued) : Type 0 where
+  many : length qs ≤ QUEUE_LIMIT
+  light : AllLight qs
+
+few_rest : (meant : Queued → Bool) (qs : List Queued) → AreFew qs → AreFew (without_first meant qs)
+few_rest meant qs h = record { many = let less = fewer qs in omega (arith, less, h.many); light = lighter qs h.light }
+  where
+    fewer : (xs : List Queued) → length (without_first meant xs) ≤ length xs
+    fewer [] = omega arith
+    fewer (x ∷ xs) = by_test (meant x) (fewer xs)
+      where
+        by_test : (b : Bool) → length (without_first meant xs) ≤ length xs → length (if b then xs else x ∷ without_first meant xs) ≤ suc (length xs)
+        by_test true rest = omega arith
+        by_test false rest = omega arith
+
+    lighter : (xs : List Queued) → AllLight xs → AllLight (without_first meant xs)
+    lighter [] light = tt
+    lighter (x ∷ xs) light = by_test (meant x) (lighter xs light.1)
+      where
+        by_test : (b : Bool) → AllLight (without_first meant xs) → AllLight (if b then xs else x ∷ without_first meant xs)
+        by_test true rest = light.1
+        by_test false rest = (light.0, rest)
+
+few_behind : (q : Queued) (qs : List Queued) → AreFew (q ∷ qs) → AreFew qs
+few_behind q qs h = record { many = let all = h.many in omega (arith, all); light = h.light.1 }
+
+abbrev AreQueuedFew : SenderView → Type 0
+AreQueuedFew v = AreFew v.queue
+
+few_assigned : (f : Format) (v u : SenderView) → AreQueuedFew v → IsAssigned v f u → AreQueuedFew u
+few_assigned _ v _ h (Whole q rest is) = few_behind q rest (subst AreFew is h)
+few_assigned _ v _ h (Begun s q lt idle first) = few_rest (is_on s) v.queue h
+few_assigned _ v _ h (Continued s e lt on) = h
+
+are_few : (f : Format) (v : SenderView) → IsReached f v → AreQueuedFew v
+are_few f _ (Begins i s b r p large) = record { many = omega arith; light = tt }
+are_few f _ (Queues v l p b u h free) =
+    let k = are_few f v h in
+    let a = accepted v l.stream b free in
+    let bytes : length (joined (cut v.fragment b)) ≡ length b = ap (λ (bs : List ℕ). length bs) (joined_cut v.fragment b (is_set f v h).fragment) in
+    record {
+      many = let more = length-append v.queue (record { lane = l; message = record { ticket = suc v.tickets; payload = p; fragments = cut v.fragment b; until = u } } ∷ []) in omega (arith, more, a.waits);
+      light = light_push v.queue _ k.light (omega (arith, bytes, a.short));
+    }
+are_few f _ (Goes v room w h next may) = after_wish AreQueuedFew f v w (are_few f v h) (λ u a. few_assigned f v u (are_few f v h) a) (λ u i k. k) next
+are_few f _ (Covers v x h none) = are_few f v h
+are_few f _ (Closes v x h none) = are_few f v h
+are_few f _ (Abandons v t h) = let k = are_few f v h in after_abandon AreQueuedFew v t k (λ on. few_rest _ v.queue k) (λ n is kept. k)
+are_few f _ (Repeats v h) = are_few f v h
+
+light_sum : (qs : List Queued) → AllLight qs → waiting_bytes qs ≤ length qs * LONGEST_MESSAGE
+light_sum [] h = omega arith
+light_sum (q ∷ qs) h = let rest = light_sum qs h.1 in let here = h.0 in omega (arith, rest, here)
+
+-- ---- what is told of them
+
+pub queued_is : (f : Format) (s : Kept) (v : SenderView) → Keeps f s v → length s.queue ≡ length v.queue
+queued_is f s v k = ap (λ (qs : List Queued). length qs) k.holds.queue
+
+pub queued_fits : (f : Format) (s : Kept) (v : SenderView) → Keeps f s v → length s.queue ≤ QUEUE_LIMIT
+queued_fits f s v k = let same = queued_is f s v k in let few = (are_few f v k.reached).many in omega (arith, same, few)
+
+-- so few that the count in 64 bits is exact
+pub queued_bytes_fit : (f : Format) (s : Kept) (v : SenderView) → Keeps f s v → queued_bytes v ≤ QUEUE_LIMIT * LONGEST_MESSAGE
+queued_bytes_fit f s v k =
+    let few = are_few f v k.reached in
+    let sum = light_sum v.queue few.light in
+    let many = few.many in
+    omega (arith, sum, many)
+
+pub queued_bytes_is : (f : Format) (s : Kept) (v : SenderView) → Keeps f s v → waiting_bytes s.queue % 2 ^ 64 ≡ queued_bytes v
+queued_bytes_is f s v k =
+    let same : waiting_bytes s.queue ≡ queued_bytes v = ap waiting_bytes k.holds.queue in
+    let fits = queued_bytes_fit f s v k in
+    omega (arith, same, fits)
