@@ -1,5 +1,6 @@
 //! What becomes of a packet at an end with an association, chunk by chunk: the state table, as plain rows (RFC 9260, 4 to 9).
 
+use crate::acknowledging::{after_sack, after_shutdown, settle};
 use crate::reading::{Chunk, Item, first_chunk, first_item, half_at, word_at};
 use crate::taker::Taker;
 use crate::told::{COOKIE, STATE, TAG, Told};
@@ -7,7 +8,7 @@ use sctp_endpoint::State;
 
 /// What a chunk leaves.
 #[derive(Drop)]
-enum After {
+pub enum After {
     /// It isn't listed for the state.
     PassedOver,
     /// It acted.
@@ -20,9 +21,11 @@ enum After {
 
 /// Where an end stands between two chunks.
 #[derive(Drop)]
-struct Stand {
-    state: State,
-    acknowledged: u32,
+pub struct Stand {
+    /// The state.
+    pub state: State,
+    /// The cumulative TSN that is acknowledged.
+    pub acknowledged: u32,
 }
 
 /// What is told of these chunks, the first of which finds the end as `taker` says.
@@ -47,18 +50,6 @@ pub fn told_of(chunks: &[u8], taker: &Taker) -> Told {
         settle(taker, &mut stand);
     }
     if listed { Told::Taken } else { STATE }
-}
-
-/// What its user has ended goes on as soon as all is acknowledged (RFC 9260, 9.2).
-fn settle(taker: &Taker, stand: &mut Stand) {
-    if taker.has_more || stand.acknowledged != taker.assigned {
-        return;
-    }
-    if stand.state == State::ShutdownPending {
-        stand.state = State::ShutdownSent;
-    } else if stand.state == State::ShutdownReceived {
-        stand.state = State::ShutdownAckSent;
-    }
 }
 
 /// What a chunk leaves, by its type.
@@ -92,7 +83,7 @@ fn if_listed(listed: bool) -> After {
 }
 
 /// A fault of the peer: the end aborts, and the packet ends (RFC 9260, 9.1).
-fn peer_fault() -> After {
+pub fn peer_fault() -> After {
     After::Told(Told::Answered)
 }
 
@@ -184,66 +175,6 @@ fn has_cookie(parameters: &[u8]) -> bool {
         }
     }
     false
-}
-
-/// SACK: stale ones change nothing; those beyond what was assigned, or with blocks out of order, are a fault (RFC 9260, 6.2.1).
-fn after_sack(value: &[u8], taker: &Taker, stand: &mut Stand) -> After {
-    if !matches!(
-        stand.state,
-        State::Established | State::ShutdownPending | State::ShutdownReceived
-    ) {
-        return After::PassedOver;
-    }
-    let cumulative = word_at(value, 0).unwrap_or(0);
-    let moved = cumulative.wrapping_sub(stand.acknowledged);
-    if moved > 0x8000_0000 {
-        return After::Acted;
-    }
-    let flying = taker.assigned.wrapping_sub(cumulative);
-    if moved > taker.assigned.wrapping_sub(stand.acknowledged) || !are_blocks(value, flying) {
-        return peer_fault();
-    }
-    stand.acknowledged = cumulative;
-    After::Acted
-}
-
-/// Whether the gap blocks of a SACK rise, and end at most so far above its cumulative TSN.
-fn are_blocks(value: &[u8], flying: u32) -> bool {
-    let count = half_at(value, 8).unwrap_or(0);
-    let blocks = value.get(12..).unwrap_or(&[]);
-    let mut last = 0;
-    for block in blocks.chunks_exact(4).take(usize::from(count)) {
-        let start = half_at(block, 0).unwrap_or(0);
-        let end = half_at(block, 2).unwrap_or(0);
-        if start <= last || end < start || u32::from(end) > flying {
-            return false;
-        }
-        last = end;
-    }
-    true
-}
-
-/// SHUTDOWN: the peer has no more to send (RFC 9260, 9.2). Where its cumulative TSN is taken, one beyond what was assigned is a fault.
-fn after_shutdown(value: &[u8], taker: &Taker, stand: &mut Stand) -> After {
-    match stand.state {
-        State::Established | State::ShutdownPending | State::ShutdownReceived => {}
-        State::ShutdownSent => {
-            stand.state = State::ShutdownAckSent;
-            return After::Acted;
-        }
-        State::ShutdownAckSent => return After::Acted,
-        _ => return After::PassedOver,
-    }
-    let cumulative = word_at(value, 0).unwrap_or(0);
-    let moved = cumulative.wrapping_sub(stand.acknowledged);
-    if moved <= 0x8000_0000 {
-        if moved > taker.assigned.wrapping_sub(stand.acknowledged) {
-            return peer_fault();
-        }
-        stand.acknowledged = cumulative;
-    }
-    stand.state = State::ShutdownReceived;
-    After::Acted
 }
 
 /// SHUTDOWN ACK: answered by SHUTDOWN COMPLETE, and the association is over (RFC 9260, 9.2).

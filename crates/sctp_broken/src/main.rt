@@ -6,6 +6,7 @@
 //! end that they may not change; those that do are shown; the last line has the sums.
 #![tactic(auto)]
 
+mod acknowledging;
 mod acts;
 mod bases;
 mod bench;

@@ -61,7 +61,7 @@ impl Recording {
 
     /// The bytes of a packet, none where there is no such packet.
     pub(crate) fn bytes(&self, packet: Packet) -> &[u8] {
-        bytes_of(&self.pair, packet)
+        packet.bytes(&self.pair)
     }
 
     /// What a stranger sent, none where there is no such number.
@@ -167,7 +167,7 @@ impl Recording {
                     side,
                     number: *number,
                 };
-                let bytes = bytes_of(&self.pair, packet);
+                let bytes = packet.bytes(&self.pair);
                 let wait = self.waits.left(side, bytes, self.pair.clock());
                 self.leave(side, *number, wait.map(|wait| Deed::Waited { wait }))
             }
@@ -186,7 +186,7 @@ impl Recording {
         let to = side.other();
         let deed = Deed::of_drop(outcome);
         if deed.is_none() {
-            let bytes = bytes_of(&self.pair, packet);
+            let bytes = packet.bytes(&self.pair);
             self.waits.came(to, bytes, self.pair.clock());
         }
         if self.rows.has_just_left(packet) {
@@ -245,13 +245,5 @@ impl Recording {
         arrow: Option<Arrow>,
     ) -> Result<(), AllocError> {
         self.rows.push_at(&self.pair, side, deed, arrow)
-    }
-}
-
-/// The bytes of a packet, none where there is no such packet.
-fn bytes_of(pair: &Pair, packet: Packet) -> &[u8] {
-    match u32::try_from(packet.number) {
-        Ok(number) => pair.packet(packet.side, number).unwrap_or(&[]),
-        Err(_) => &[],
     }
 }

@@ -1,6 +1,6 @@
 //! The rows of a picture: what happened, in the order of the run.
 
-use sctp_pair::{Abandoned, Outcome, Reason, Refusal, Side};
+use sctp_pair::{Abandoned, Outcome, Pair, Reason, Refusal, Side};
 use sctp_terms::{End, State};
 
 /// A row: an event, or the packet by which an end answered it.
@@ -97,6 +97,16 @@ pub(crate) struct Taken {
 pub(crate) struct Packet {
     pub(crate) side: Side,
     pub(crate) number: usize,
+}
+
+impl Packet {
+    /// Its bytes at this pair, none where there is no such packet.
+    pub(crate) fn bytes(self, pair: &Pair) -> &[u8] {
+        match u32::try_from(self.number) {
+            Ok(number) => pair.packet(self.side, number).unwrap_or(&[]),
+            Err(_) => &[],
+        }
+    }
 }
 
 /// What goes between the ends.

@@ -6,6 +6,7 @@ mod command_words;
 mod laws;
 mod line;
 mod outcome_line;
+mod pair_words;
 mod report;
 mod side_word;
 mod ticket_line;

@@ -7,9 +7,10 @@ ghost use Rattle.sctp_script.specs.ReadLineAnswer.{Finds, Refuses, acting_meanin
 
 use crate::command::Command;
 use crate::command_words::{
-    opening, read_abandon, read_abort, read_at, read_build, read_connect, read_delayed_pair,
-    read_deliver, read_drawing, read_foreign, read_pair, read_send, read_shutdown, read_take,
+    opening, read_abandon, read_abort, read_at, read_build, read_connect, read_deliver,
+    read_drawing, read_foreign, read_send, read_shutdown, read_take,
 };
+use crate::pair_words::{read_delayed_pair, read_pair};
 use sctp_events::{Event, PairConfig};
 use sctp_text::{LONGEST_LINE, Words};
 use sctp_values::NoMemory;

@@ -11,6 +11,7 @@ mod laws;
 mod limits;
 mod line_out;
 mod line_reader;
+mod line_skipping;
 mod source_sink;
 mod words_of_line;
 mod writing;

@@ -6,10 +6,11 @@ ghost use Rattle.sctp_text.specs.TextLines.{Reading, MayBegin, IsReadFor, is_lin
 ghost use Rattle.sctp_text.specs.NextLineAnswer.{given_by, IsAnswer, AtTheEnd, failed_reads};
 ghost use Rattle.sctp_text.specs.SkippedLines.{Skips, EndsInput};
 ghost use Rattle.sctp_text.specs.Streams.{failed_calls};
-ghost use Rattle.sctp_text.specs.inner.Gathering.{IsGathered, AtEndOfInput, IsPassed};
+ghost use Rattle.sctp_text.specs.inner.Gathering.{IsGathered, AtEndOfInput};
 
 use crate::block::{BLOCK, Block};
 use crate::limits::{LINE_FEED, LONGEST_LINE, LONGEST_TEXT};
+use crate::line_skipping::pass_line;
 use crate::source_sink::{Failed, Source};
 use std::alloc::{AllocError, Global};
 use std::marker::Model;
@@ -147,51 +148,6 @@ impl LineReader {
     }
 }
 
-/// Skips what the block holds of a line, and what is read of it.
-fn pass_line<S: Source>(
-    block: &mut Block,
-    given: &mut u64,
-    source: &mut S,
-) -> Result<SkippedLine, Failed>
-    requires room { S.failures source.old < 2 ^ 64 - 1 }
-    requires within { given.old ≤ LONGEST_TEXT }
-    ensures skips { (bytes : List ℕ) × S.Reads source.old bytes source.new
-        × Skips (record { held = block.old; given = given.old }) bytes result (record { held = block.new; given = given.new }) }
-    ensures end { EndsInput result (S.IsAtEnd source.new) }
-    ensures failed { S.failures source.new ≡ S.failures source.old + failed_calls result }
-{
-    'skipping: loop {
-        if let Some(skipped) = pass_block(block, given) {
-            return Ok(skipped);
-        }
-        block.fill(source)?;
-        if block.is_empty() {
-            return Ok(SkippedLine::Last);
-        }
-    }
-}
-
-/// Skips what the block holds of a line, None where the line may go on.
-fn pass_block(block: &mut Block, given: &mut u64) -> Option<SkippedLine>
-    requires { given.old ≤ LONGEST_TEXT }
-    ensures within { given.new ≤ LONGEST_TEXT }
-    ensures passed { IsPassed result given.old block.old given.new block.new }
-{
-    let bytes = block.bytes();
-    let count = line_length(bytes);
-    let end = bytes.len().min(count + 1);
-    if end as u64 > LONGEST_TEXT - *given {
-        return Some(SkippedLine::TextTooLong);
-    }
-    block.skip(end);
-    *given += end as u64;
-    if count < end {
-        Some(SkippedLine::Ended)
-    } else {
-        None
-    }
-}
-
 /// The bytes of a line, which is empty then.
 fn emptied(line: &mut Vec<u8>, alloc: Global) -> Vec<u8>
     ensures given { result.items ≡ line.old.items }
@@ -269,7 +225,7 @@ fn gather(line: &mut Vec<u8>, block: &mut Block, given: u64) -> Result<Option<St
 }
 
 /// How many bytes stand before the first line feed, all where there is none.
-fn line_length(bytes: &[u8]) -> usize
+pub(crate) fn line_length(bytes: &[u8]) -> usize
     ensures exact { result ≡ first_length bytes.now }
     ensures bound { result ≤ length bytes.now }
 {

@@ -3,7 +3,7 @@ use Rattle.std.proofs.lemmas.List.{drop_all}
 use Rattle.sctp_text.specs.TextLines.{first_length}
 use Rattle.sctp_text.proofs.SourceLineLemmas.{one_line-front, first_length-le}
 use Rattle.sctp_text.proofs.SkipLemmas.{to_first_feed, ends_there, all_one_line}
-use Rattle.sctp_text.proofs.line_reader.pass_block.Goals as goal
+use Rattle.sctp_text.proofs.line_skipping.pass_block.Goals as goal
 
 pub returns-then-count-end-clause-passed : goal.returns-then-count-end-clause-passed
 returns-then-count-end-clause-passed c =

@@ -1,7 +1,7 @@
 use Rattle.std.proofs.Common.{ap}
 use Rattle.sctp_script.specs.Grammar.{Pairs}
 use Rattle.sctp_script.proofs.LineLemmas.{pair_words, says_nothing}
-use Rattle.sctp_script.proofs.command_words.config_of.Goals as goal
+use Rattle.sctp_script.proofs.pair_words.config_of.Goals as goal
 
 pub returns-in-Ok : goal.returns-in-Ok
 returns-in-Ok c =

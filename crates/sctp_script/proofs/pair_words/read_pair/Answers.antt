@@ -2,7 +2,7 @@ use Rattle.std.proofs.Common.{List, ℕ, subst}
 use Rattle.sctp_script.specs.Grammar.{LineMeaning, Pairs, Spells}
 use Rattle.sctp_script.specs.declared.command.Command.TheVariants as command
 use Rattle.sctp_script.proofs.LineLemmas.{five_words}
-use Rattle.sctp_script.proofs.command_words.read_pair.Goals as goal
+use Rattle.sctp_script.proofs.pair_words.read_pair.Goals as goal
 
 pub returns-in-Some : goal.returns-in-Some
 returns-in-Some c =

@@ -1,7 +1,7 @@
 use Rattle.std.proofs.Common.{◌≡◌, ℕ, ◌+◌, ◌-◌, ◌*◌, ◌≤◌, List, ◌++◌, length}
 use Rattle.sctp_text.specs.declared.limits.TheConstants.{LONGEST_TEXT}
 use Rattle.sctp_text.specs.TextLines.{IsOneLine}
-use Rattle.sctp_text.proofs.line_reader.pass_line.Given as goal
+use Rattle.sctp_text.proofs.line_skipping.pass_line.Given as goal
 
 -- what was in the block and is read is what went of the line and the block
 abbrev pub invariant-skipping : goal.invariant-skipping

@@ -3,7 +3,7 @@ use Rattle.std.proofs.lemmas.Grind.{common_steps}
 use Rattle.std.proofs.lemmas.List.Elements.{All-nil}
 use Rattle.sctp_text.proofs.SourceLineLemmas.{one_line-append}
 use Rattle.sctp_text.proofs.SkipLemmas.{skip_further, ends, fails}
-use Rattle.sctp_text.proofs.line_reader.pass_line.Goals as goal
+use Rattle.sctp_text.proofs.line_skipping.pass_line.Goals as goal
 
 pub skipping-init : goal.skipping-init
 skipping-init g c = record {

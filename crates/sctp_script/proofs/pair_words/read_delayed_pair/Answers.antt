@@ -2,7 +2,7 @@ use Rattle.std.proofs.Common.{List, ℕ, sym, subst}
 use Rattle.sctp_script.specs.Grammar.{Spells}
 use Rattle.sctp_script.specs.declared.command.Command.TheVariants as command
 use Rattle.sctp_script.proofs.LineLemmas.{six_words, delayed, undelayed}
-use Rattle.sctp_script.proofs.command_words.read_delayed_pair.Goals as goal
+use Rattle.sctp_script.proofs.pair_words.read_delayed_pair.Goals as goal
 
 pub returns-in-Some : goal.returns-in-Some
 returns-in-Some c =
