@@ -137,6 +137,14 @@ draft_put limit header bytes after m twelve law d fits room is =
       chunks = same;
     }
 
+-- what has two chunks had one before
+pub room_more : (limit capacity : ℕ) (header bytes after : List ℕ) (m : ChunkMeaning) → IsDraft limit header bytes → IsPut limit header bytes after m
+    → (0 < length bytes → limit ≤ capacity) → 1 < length (chunks_of (drop HEADER_ROOM after)) → limit ≤ capacity
+room_more limit capacity header [] after m d put whole two =
+    let none = ap length (draft_none limit header [] d (omega arith)) in
+    absurd (omega (arith, two, none, ap length put.chunks, length-append (chunks_of (drop HEADER_ROOM [])) (m ∷ [])))
+room_more limit capacity header (b ∷ bytes) after m d put whole two = whole (omega arith)
+
 -- ---- a finished packet
 
 -- the bytes with the checksum in its field

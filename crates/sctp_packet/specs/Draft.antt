@@ -52,8 +52,8 @@ pub record IsDraft (limit : ℕ) (header bytes : List ℕ) : Type 0 where
   pub writes : Writes (drop HEADER_ROOM bytes) (chunks_of (drop HEADER_ROOM bytes))
   pub within : HEADER_ROOM < length bytes → length bytes ≤ limit
 
--- the same of all that is kept: the header's fields are within their bits too, and with the header the room for the whole packet was taken
+-- the same of all that is kept: the header's fields are within their bits too, and with the second chunk the room for the whole packet was taken
 pub record IsKept (limit : ℕ) (p : Packet) (bytes : List ℕ) (capacity : ℕ) : Type 0 where
   pub header : IsHeader p
   pub draft : IsDraft limit (header_bytes p.source p.destination p.tag 0) bytes
-  pub room : 0 < length bytes → limit ≤ capacity
+  pub room : 1 < length (chunks_of (drop HEADER_ROOM bytes)) → limit ≤ capacity

@@ -18,7 +18,7 @@ use std::marker::Model;
 
 /// A packet in the making: the most bytes that it may have, its ports and tag, and the chunks put in so far.
 ///
-/// It takes no memory before its first chunk, and with that the room for all that it may have.
+/// It takes no memory before its first chunk: with that one it takes the room for it alone, and with the second, once, the room for all that it may have.
 #[derive(Drop)]
 pub struct PacketWriter {
     limit: u16,
@@ -74,23 +74,24 @@ impl PacketWriter {
     /// padding, would pass its limit; nothing is put in then.
     ///
     /// # Errors
-    /// `NoMemory` where the chunk fits and memory ran out; nothing is put in then. It comes only before the first chunk.
+    /// `NoMemory` where the chunk fits and memory ran out; nothing is put in then. It comes only at the first chunk and at the second.
     pub fn try_chunk(&mut self, chunk: &Chunk<'_>) -> Result<bool, NoMemory>
         requires { Fits (chunk_meaning chunk.now) }
         ensures answer { IfOk result (λ put. put ≡ has_room self.old (chunk_meaning chunk.now)) }
         ensures after { IfOk result (λ put. self.new ≡ after_try self.old (chunk_meaning chunk.now) put) }
         ensures unchanged { OnErr result (self.new ≡ self.old) }
         ensures refused { OnErr result (has_room self.old (chunk_meaning chunk.now) ≡ true) }
-        ensures first { OnErr result (self.old.chunks ≡ []) }
+        ensures early { OnErr result (length self.old.chunks ≤ 1) }
     {
-        if chunk.written_length() > self.room() {
+        let size = chunk.written_length();
+        if size > self.room() {
             return Ok(false);
         }
         // The laws give that the bytes with this chunk read as the chunks with it.
         written_each_reads();
         chunks_are_read();
         let (source, destination, tag) = (self.source, self.destination, self.tag);
-        begin(&mut self.bytes, self.limit, source, destination, tag)?;
+        begin(&mut self.bytes, size, self.limit, source, destination, tag)?;
         put(&mut self.bytes, chunk);
         Ok(true)
     }
@@ -111,25 +112,29 @@ impl PacketWriter {
     }
 }
 
-/// Takes the room for the whole packet, and writes the header; or both are there.
+/// Makes room for a chunk of so many bytes. Before the first chunk that is all, and the header is written; behind one it is the room for the
+/// whole packet, unless it is there.
 fn begin(
     bytes: &mut Vec<u8>,
+    size: usize,
     limit: u16,
     source: u16,
     destination: u16,
     tag: u32,
 ) -> Result<(), NoMemory>
-    requires within { 12 ≤ limit }
-    requires room { 0 < length bytes.old.items → limit ≤ vec_capacity bytes.old }
+    requires within { length (with_header (header_bytes source destination tag 0) bytes.old.items) + size ≤ limit }
     ensures begun { OnOk result (bytes.new.items ≡ with_header (header_bytes source destination tag 0) bytes.old.items) }
-    ensures room { OnOk result (limit ≤ vec_capacity bytes.new) }
+    ensures room { OnOk result (vec_len bytes.new + size ≤ vec_capacity bytes.new) }
+    ensures whole { OnOk result (0 < length bytes.old.items → limit ≤ vec_capacity bytes.new) }
     ensures unchanged { OnErr result (bytes.new.items ≡ bytes.old.items) }
-    ensures first { OnErr result (bytes.old.items ≡ []) }
+    ensures capacity { vec_capacity bytes.old ≤ vec_capacity bytes.new }
+    ensures short { OnErr result (vec_capacity bytes.old < limit) }
 {
     if !bytes.is_empty() {
-        return Ok(());
+        let rest = usize::from(limit) - bytes.len();
+        return bytes.reserve_exact(rest).map_err(|_| NoMemory);
     }
-    bytes.reserve(usize::from(limit)).map_err(|_| NoMemory)?;
+    bytes.reserve_exact(HEADER + size).map_err(|_| NoMemory)?;
     let header = header(source, destination, tag);
     bytes.extend_from_slice(&header).map_err(|_| NoMemory)
 }
