@@ -27,24 +27,24 @@ module _ (cs : List Chain) (k : ℕ) (x : Chain) (l : k < length cs) (at : x ≡
       (subst (λ (ks : List ChainKept). Removes k (map chain_of cs) ks held (held - size_of_parts (chain_of x).parts) (chain_of x)) (sym (ap (map chain_of) is ∙ remove_kept cs k))
       (takes_out (map chain_of cs) k (chain_of x) within here held))
 
-  pub one_more : (high : ℕ) (old : List ChainKept) (new : List Chain) (held left after : ℕ) → Drops high k old (map chain_of cs) held left → x.last ≤ high → new ≡ remove cs k →
+  pub one_more : (high : ℕ) (old : List ChainKept) (new : List Chain) (held left after : ℕ) → Drops high k old (map chain_of cs) held left → (chain_of x).last ≤ high → new ≡ remove cs k →
       after ≡ left - size_of_parts (chain_of x).parts → Drops high k old (map chain_of new) held after
   one_more high old new held left after d low is less =
       subst (λ (n : ℕ). Drops high k old (map chain_of new) held n) (sym less)
       (subst (λ (ks : List ChainKept). Drops high k old ks held (left - size_of_parts (chain_of x).parts)) (sym (ap (map chain_of) is ∙ remove_kept cs k))
       (drops_more high k old (map chain_of cs) held left d (chain_of x) within here low))
 
-  pub front_more : (high : ℕ) (old : List ChainKept) (y : Chain) (held left after : ℕ) → Drops high k old (map chain_of cs) held left → x.first ≤ high → high < x.last →
+  pub front_more : (high : ℕ) (old : List ChainKept) (y : Chain) (held left after : ℕ) → Drops high k old (map chain_of cs) held left → (chain_of x).first ≤ high → high < (chain_of x).last →
       Trims high (chain_of x) (chain_of y) left after → LetsGo high k old (map chain_of (set cs k y)) held after
   front_more high old y held left after d low up trims h bound cut =
       let s = d h bound cut in
       let good = s.chains.each (chain_of x) (dropped_has (map chain_of cs) k (chain_of x) (stands_in (map chain_of cs) s.chains k (chain_of x) within here)) in
       let t = trims good low up in
       (subst (λ (n : ℕ). LetsGo high k old (map chain_of (set cs k y)) held n) (sym t.1)
-      (subst (λ (ks : List ChainKept). LetsGo high k old ks held (left - size_of_parts (take (suc (high - x.first)) (chain_of x).parts))) (sym (set_kept cs k y ∙ ap (set (map chain_of cs) k) t.0))
+      (subst (λ (ks : List ChainKept). LetsGo high k old ks held (left - size_of_parts (take (suc (high - (chain_of x).first)) (chain_of x).parts))) (sym (set_kept cs k y ∙ ap (set (map chain_of cs) k) t.0))
       (drops_front high k old (map chain_of cs) held left d (chain_of x) within here low up))) h bound cut
 
-  pub none_more : (high : ℕ) (old : List ChainKept) (held left : ℕ) → Drops high k old (map chain_of cs) held left → high < x.first → LetsGo high k old (map chain_of cs) held left
+  pub none_more : (high : ℕ) (old : List ChainKept) (held left : ℕ) → Drops high k old (map chain_of cs) held left → high < (chain_of x).first → LetsGo high k old (map chain_of cs) held left
   none_more high old held left d past = drops_end high k old (map chain_of cs) held left d (λ c h there.
       let low = not_lower (map chain_of cs) h k (chain_of x) within here c there in omega (arith, low, past))
 
@@ -60,7 +60,7 @@ nothing_yet high k old held = λ h low cut. record { chains = h; cut = cut; cell
 pub none_there : (cs : List Chain) (k high held : ℕ) → length cs ≤ k → LetsGo high k (map chain_of cs) (map chain_of cs) held held
 none_there cs k high held past = none_left cs k high (map chain_of cs) held held past (nothing_yet high k (map chain_of cs) held)
 
-pub none_so_low : (cs : List Chain) (k high held : ℕ) (x : Chain) → k < length cs → x ≡ get_or cs k x → high < x.first → LetsGo high k (map chain_of cs) (map chain_of cs) held held
+pub none_so_low : (cs : List Chain) (k high held : ℕ) (x : Chain) → k < length cs → x ≡ get_or cs k x → high < (chain_of x).first → LetsGo high k (map chain_of cs) (map chain_of cs) held held
 none_so_low cs k high held x l at past = none_more cs k x l at high (map chain_of cs) held held (nothing_yet high k (map chain_of cs) held) past
 
 -- ---- where all go
@@ -91,7 +91,7 @@ module _ (cs : List ChainKept) (h : AreChains cs) (n high : ℕ) (x : ChainKept)
 no_chains : AreChains []
 no_chains = record { each = λ c there. absurd there; rising = tt; parted = λ c d there other. absurd there }
 
-pub all_gone : (cs new : List Chain) (n k high held : ℕ) (x : Chain) → suc n ≡ length cs → x ≡ get_or cs n x → x.last ≤ high → k ≡ 0 → new ≡ [] →
+pub all_gone : (cs new : List Chain) (n k high held : ℕ) (x : Chain) → suc n ≡ length cs → x ≡ get_or cs n x → (chain_of x).last ≤ high → k ≡ 0 → new ≡ [] →
     LetsGo high k (map chain_of cs) (map chain_of new) held 0
 all_gone cs new n k high held x last at low first none =
     subst (λ (j : ℕ). LetsGo high j (map chain_of cs) (map chain_of new) held 0) (sym first)

@@ -1,10 +1,10 @@
 -- A chain is taken out and another stands in its place until it is put back; of two, the one behind may go for good.
-use Rattle.std.proofs.Common.{◌≡◌, ℕ, zero, suc, ◌<◌, ◌≤◌, List, [], ◌∷◌, length, get_or, set, map, refl, sym, ◌∙◌, ap, arith}
+use Rattle.std.proofs.Common.{◌≡◌, ℕ, zero, suc, ◌<◌, ◌≤◌, List, [], ◌∷◌, length, get_or, set, map, refl, sym, ◌∙◌, ap, subst, arith}
 use Rattle.std.specs.List.{remove}
-use Rattle.sctp_chains.specs.Links.{ChainKept, chain_of, one_of, one_if_whole, join}
+use Rattle.sctp_chains.specs.Links.{ChainKept, chain_of, one_of, one_if_whole}
 use Rattle.sctp_chains.specs.declared.chain.Chain.{Chain}
 use Rattle.sctp_chains.specs.declared.chain.Part.{Part}
-use Rattle.sctp_chains.specs.inner.Filing.{IsJoined, IsWholeOfJoined}
+use Rattle.sctp_chains.specs.inner.Filing.{IsOneOf, IsJoined, IsWholeOfJoined}
 use Rattle.sctp_chains.proofs.MemoryLemmas.{same_at, set_same, set_kept, remove_kept, as_long, one_shorter, set_earlier}
 
 -- ---- places of a list
@@ -75,21 +75,23 @@ module _ (cs one two : List Chain) (i j : ℕ) (b d low high low2 high2 : Chain)
       ∙ removed_again (set cs i z) j b
 
   -- what one chain of two is
-  joined_is : (z : Chain) (p : Part) → chain_of z ≡ join (join (chain_of low2) (one_of p)) (chain_of high2) →
-      (c e : ChainKept) → c ≡ get_or (map chain_of cs) i c → e ≡ get_or (map chain_of cs) j e → chain_of z ≡ join (join c (one_of p)) e
+  joined_is : (z : Chain) (p : Part) → IsOneOf (chain_of low2) (one_of p) (chain_of high2) (chain_of z) →
+      (c e : ChainKept) → c ≡ get_or (map chain_of cs) i c → e ≡ get_or (map chain_of cs) j e → IsOneOf c (one_of p) e (chain_of z)
   joined_is z p is c e here there =
-      is ∙ ap (λ (v : ChainKept). join (join v (one_of p)) (chain_of high2)) (low_same ∙ same_at cs i i low c refl (omega (arith, order, less)) low_at here)
-      ∙ ap (join (join c (one_of p))) (high_same ∙ same_at cs j j high e refl less first there)
+      subst (λ (v : ChainKept). IsOneOf v (one_of p) e (chain_of z)) (low_same ∙ same_at cs i i low c refl (omega (arith, order, less)) low_at here)
+      (subst (λ (v : ChainKept). IsOneOf (chain_of low2) (one_of p) v (chain_of z)) (high_same ∙ same_at cs j j high e refl less first there) is)
 
-  pub joined_back : (mid new : List Chain) (z : Chain) (p : Part) → mid ≡ remove two j → new ≡ set mid i z → chain_of z ≡ join (join (chain_of low2) (one_of p)) (chain_of high2) →
+  pub joined_back : (mid new : List Chain) (z : Chain) (p : Part) → mid ≡ remove two j → new ≡ set mid i z → IsOneOf (chain_of low2) (one_of p) (chain_of high2) (chain_of z) →
       IsJoined (map chain_of cs) i (one_of p) j (map chain_of new)
-  joined_back mid new z p gone last is c e here there =
-      ap (map chain_of) (one_back mid new z gone last) ∙ remove_kept (set cs i z) j ∙ ap (λ (xs : List ChainKept). remove xs j) (set_kept cs i z)
-      ∙ ap (λ (m : ChainKept). remove (set (map chain_of cs) i m) j) (joined_is z p is c e here there)
+  joined_back mid new z p gone last is c e here there = (
+    chain_of z,
+    joined_is z p is c e here there,
+    ap (map chain_of) (one_back mid new z gone last) ∙ remove_kept (set cs i z) j ∙ ap (λ (xs : List ChainKept). remove xs j) (set_kept cs i z),
+  )
 
-  pub joined_whole : (z : Chain) (p : Part) (n : ℕ) → chain_of z ≡ join (join (chain_of low2) (one_of p)) (chain_of high2) → n ≡ one_if_whole (chain_of z) →
+  pub joined_whole : (z : Chain) (p : Part) (n : ℕ) → IsOneOf (chain_of low2) (one_of p) (chain_of high2) (chain_of z) → n ≡ one_if_whole (chain_of z) →
       IsWholeOfJoined (map chain_of cs) i (one_of p) j n
-  joined_whole z p n is counts c e here there = counts ∙ ap one_if_whole (joined_is z p is c e here there)
+  joined_whole z p n is counts c e here there = counts ∙ (joined_is z p is c e here there).whole
 
   pub joined_few : (mid new : List Chain) (z : Chain) → mid ≡ remove two j → new ≡ set mid i z → length new ≤ suc (length cs)
   joined_few mid new z gone last =

@@ -4,10 +4,10 @@ use Rattle.std.specs.List.{insert, remove}
 use Rattle.std.proofs.lemmas.Bool.{cases_Bool, cases_lt}
 use Rattle.sctp_model.specs.numbers.Lists.{Has}
 use Rattle.std.proofs.lemmas.List.{length-set}
-use Rattle.sctp_chains.specs.Links.{ChainKept, chain_of, one_of, is_whole, one_if_whole, join}
+use Rattle.sctp_chains.specs.Links.{ChainKept, chain_of, one_of, is_whole, one_if_whole}
 use Rattle.sctp_chains.specs.declared.chain.Chain.{Chain}
 use Rattle.sctp_chains.specs.declared.chain.Part.{Part}
-use Rattle.sctp_chains.specs.inner.Filing.{IsJoined, IsWholeOfJoined, StaysOpen}
+use Rattle.sctp_chains.specs.inner.Filing.{IsOneOf, IsJoined, IsWholeOfJoined, StaysOpen}
 use Rattle.sctp_chains.specs.inner.Finding.{AreOpen}
 use Rattle.sctp_chains.proofs.ListLemmas.{at_same}
 use Rattle.sctp_chains.proofs.MemoryLemmas.{at_kept, length_kept, set_kept, insert_kept, remove_kept}
@@ -130,7 +130,7 @@ one_fewer (c ∷ cs) (suc r) less = ap suc (one_fewer cs r (omega (arith, less))
 
 pub kept_both : (cs new : List Chain) (i r : ℕ) (p : Part) (n : ℕ) → i < r → r < length (map chain_of cs) →
     IsJoined (map chain_of cs) i (one_of p) r (map chain_of new) → IsWholeOfJoined (map chain_of cs) i (one_of p) r n → StaysOpen (map chain_of cs) (map chain_of new) i n
-kept_both cs new i r p n order high joined whole = stays_both old (map chain_of new) i r y n order size made (whole c d c_at d_at)
+kept_both cs new i r p n order high joined whole = stays_both old (map chain_of new) i r y n order size made (whole c d c_at d_at ∙ sym got.1.whole)
   where
     old : List ChainKept
     old = map chain_of cs
@@ -147,11 +147,14 @@ kept_both cs new i r p n order high joined whole = stays_both old (map chain_of 
     d_at : d ≡ get_or old r d
     d_at = at_same old r (one_of p) d high
 
+    got : (m : ChainKept) × IsOneOf c (one_of p) d m × (map chain_of new ≡ remove (set old i m) r)
+    got = joined c d c_at d_at
+
     y : ChainKept
-    y = join (join c (one_of p)) d
+    y = got.0
 
     made : map chain_of new ≡ remove (set old i y) r
-    made = joined c d c_at d_at
+    made = got.2
 
     size : suc (length (map chain_of new)) ≡ length old
     size = ap (λ (ks : List ChainKept). suc (length ks)) made ∙ one_fewer (set old i y) r (let same = length-set old i y in let h = high in omega (arith, same, h)) ∙ length-set old i y

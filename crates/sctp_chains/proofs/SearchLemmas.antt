@@ -154,13 +154,13 @@ module _ (cs : List Chain) (from last begin known m k : ℕ) (is : m ≡ max beg
   passed : IsPassed (map chain_of cs) h from k
   passed = passed_upto (map chain_of cs) h from begin known k (start h) opens (subst (λ (n : ℕ). IsOver (map chain_of cs) n k) is stop.over)
 
-  pub stopped_here : (x : Chain) (o : Option Found) → k < length cs → x ≡ get_or cs k x → x.first ≤ last → IsWholeHere (map chain_of cs) k o → IsFirstWhole (map chain_of cs) from last o
+  pub stopped_here : (x : Chain) (o : Option Found) → k < length cs → x ≡ get_or cs k x → (chain_of x).first ≤ last → IsWholeHere (map chain_of cs) k o → IsFirstWhole (map chain_of cs) from last o
   stopped_here x o l at low whole =
       let here = sym (at_kept cs k x l at (chain_of x)) in
       let less : k < length (map chain_of cs) = let n = length_kept cs in omega (arith, l, n) in
       first_found (map chain_of cs) h from last k (chain_of x) o less here passed low (stop.here (chain_of x) less here low) whole
 
-  pub stopped_past : (x : Chain) → k < length cs → x ≡ get_or cs k x → last < x.first → IsFirstWhole (map chain_of cs) from last None
+  pub stopped_past : (x : Chain) → k < length cs → x ≡ get_or cs k x → last < (chain_of x).first → IsFirstWhole (map chain_of cs) from last None
   stopped_past x l at high =
       none_further (map chain_of cs) h from last k (chain_of x) (let n = length_kept cs in omega (arith, l, n)) (sym (at_kept cs k x l at (chain_of x))) passed high
 

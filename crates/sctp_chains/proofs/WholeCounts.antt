@@ -140,10 +140,10 @@ counted_both cs new i j p n low high linked joined whole =
     let d = get_or old j a in
     let c_at = at_same old i a c low in
     let d_at = at_same old j a d high in
-    let z = join (join c a) d in
+    let got = joined c d c_at d_at in
     let none = one_of_none c (linked_open c a (linked c c_at)) in
-    let step = weight_set one_if_whole old i c z low c_at in
-    let fewer = weight_less one_if_whole (set old i z) j in
-    let same = ap whole_in (joined c d c_at d_at) in
-    let is = whole c d c_at d_at in
+    let step = weight_set one_if_whole old i c got.0 low c_at in
+    let fewer = weight_less one_if_whole (set old i got.0) j in
+    let same = ap whole_in got.2 in
+    let is = whole c d c_at d_at ∙ sym got.1.whole in
     omega (arith, none, step, fewer, same, is)

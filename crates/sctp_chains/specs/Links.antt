@@ -1,5 +1,5 @@
 -- Chains of fragments that follow one another: a chain is a whole message exactly where it begins and ends one.
-use Rattle.std.specs.Prelude.{◌≡◌, ℕ, suc, ◌+◌, ◌-◌, ◌<◌, not, ◌&&◌, ◌==◌, Bool, false, if◌then◌else◌, List, [], ◌∷◌, ◌++◌, map, length, Option, None, is_some}
+use Rattle.std.specs.Prelude.{◌≡◌, ℕ, suc, ◌+◌, ◌-◌, ◌*◌, ◌^◌, ◌<◌, min, not, ◌&&◌, ◌==◌, Bool, false, if◌then◌else◌, List, [], ◌∷◌, ◌++◌, map, length, Option, Some, None, is_some}
 use Rattle.std.specs.declared.vec.Vec.{Vec}
 use Rattle.std.specs.declared.alloc.Global.{Global}
 use Rattle.sctp_model.specs.numbers.Lists.{Has, AreInOrder, joined}
@@ -8,6 +8,7 @@ use Rattle.sctp_chains.specs.Cells.{Cell}
 use Rattle.sctp_chains.specs.declared.chain.Head.{Head}
 use Rattle.sctp_chains.specs.declared.chain.Chain.{Chain}
 use Rattle.sctp_chains.specs.declared.chain.Part.{Part}
+use Rattle.sctp_chains.specs.declared.rank.Rank.{Rank}
 
 -- The ranks of its first and its last fragment, what it says of a message where one begins with it, whether one ends with it, and the data
 -- of its fragments.
@@ -22,9 +23,27 @@ pub record ChainKept : Type 0 where
 abbrev pub bytes_of : Vec ℕ Global → List ℕ
 bytes_of v = v.items
 
+-- a rank that is kept as two numbers
+abbrev pub rank_in : Rank → ℕ
+rank_in r = r.number * 2 ^ 64 + r.place
+
+-- the rank of the last of so many fragments, from a rank on, where there is one
+abbrev pub last_of : (first count : ℕ) → ℕ
+last_of first count = min (first + (count - 1)) (2 ^ 128 - 1)
+
+-- what is said of a message, where one begins
+abbrev pub head_if : (begins : Bool) → (index payload_id : ℕ) → Option Head
+head_if begins i p = if begins then Some (record { index = i; payload_id = p }) else None
+
 -- a chain without its memory
 abbrev pub chain_of : Chain → ChainKept
-chain_of c = record { first = c.first; last = c.last; head = c.head; ends = c.ends; parts = map bytes_of c.parts.items }
+chain_of c = record {
+  first = rank_in c.first;
+  last = last_of (rank_in c.first) (length c.parts.items);
+  head = head_if c.begins c.index c.payload_id;
+  ends = c.ends;
+  parts = map bytes_of c.parts.items;
+}
 
 -- a fragment as a chain of its own
 abbrev pub one_of : Part → ChainKept

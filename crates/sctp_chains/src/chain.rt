@@ -1,11 +1,12 @@
 //! Fragments that follow one another. Nothing here knows of numbers or formats.
 
-ghost use Rattle.std.specs.Prelude.{◌≡◌, ◌≤◌, ◌+◌, ◌<◌, ◌&&◌, if◌then◌else◌, OnOk, OnErr, IfOk};
+ghost use Rattle.std.specs.Prelude.{◌≡◌, ◌≤◌, ◌+◌, ◌<◌, ◌&&◌, true, if◌then◌else◌, OnOk, OnErr, IfOk};
 ghost use Rattle.std.specs.VecDeque.{deque_len, deque_capacity};
-ghost use Rattle.sctp_chains.specs.Links.{chain_of, one_of, is_linked, one_if_whole, join};
-ghost use Rattle.sctp_chains.specs.inner.Filing.{HasJointRoom};
+ghost use Rattle.sctp_chains.specs.Links.{chain_of, one_of, is_linked, one_if_whole, join, IsChain};
+ghost use Rattle.sctp_chains.specs.inner.Filing.{HasJointRoom, IsOneOf};
 
 use crate::parts::{put_before, put_behind};
+use crate::rank::Rank;
 use sctp_values::NoMemory;
 use std::alloc::Global;
 use std::collections::VecDeque;
@@ -18,12 +19,16 @@ pub(crate) struct Head {
     pub(crate) payload_id: u32,
 }
 
-/// Fragments of consecutive ranks. Only with the first may a message begin, and only with the last may one end.
+/// Fragments of consecutive ranks. Only with the first may a message begin, and only with the last may one end. Its fields stand so that no
+/// byte lies between them: where every other chunk is lost, each that came is a chain.
 #[derive(Drop)]
 pub(crate) struct Chain {
-    pub(crate) first: u128,
-    pub(crate) last: u128,
-    pub(crate) head: Option<Head>,
+    pub(crate) first: Rank,
+    /// The message's index, where one begins with it.
+    pub(crate) index: u64,
+    /// The message's payload protocol identifier, where one begins with it.
+    pub(crate) payload_id: u32,
+    pub(crate) begins: bool,
     pub(crate) ends: bool,
     pub(crate) parts: VecDeque<Vec<u8>>,
 }
@@ -38,18 +43,46 @@ pub(crate) struct Part {
 }
 
 impl Chain {
+    /// The rank of its first fragment.
+    pub(crate) fn first(&self) -> u128
+        ensures { result ≡ (chain_of self.now).first }
+    {
+        self.first.value()
+    }
+
+    /// The rank of its last fragment.
+    pub(crate) fn last(&self) -> u128
+        ensures { result ≡ (chain_of self.now).last }
+    {
+        let behind = self.parts.len().saturating_sub(1);
+        self.first().saturating_add(behind as u128)
+    }
+
+    /// What it says of a message, where one begins with it.
+    pub(crate) fn head(&self) -> Option<Head>
+        ensures { result ≡ (chain_of self.now).head }
+    {
+        if !self.begins {
+            return None;
+        }
+        Some(Head {
+            index: self.index,
+            payload_id: self.payload_id,
+        })
+    }
+
     /// Whether it continues a fragment: begins right behind it, in the same message.
     pub(crate) fn continues(&self, part: &Part) -> bool
         ensures { result ≡ is_linked (one_of part.now) (chain_of self.now) }
     {
-        self.first.saturating_sub(part.rank) == 1 && (!part.end && self.head.is_none())
+        self.first().saturating_sub(part.rank) == 1 && (!part.end && !self.begins)
     }
 
     /// 1 where it is a whole message, else 0.
     pub(crate) fn whole(&self) -> usize
         ensures { result ≡ one_if_whole (chain_of self.now) }
     {
-        one_if(self.ends, self.head.is_some())
+        one_if(self.ends, self.begins)
     }
 
     /// Puts a fragment behind it.
@@ -57,11 +90,10 @@ impl Chain {
     /// # Errors
     /// Memory ran out, and nothing changed.
     pub(crate) fn push_back(&mut self, part: Part) -> Result<(), NoMemory>
-        ensures joined { OnOk result (chain_of self.new ≡ join (chain_of self.old) (one_of part)) }
+        ensures joined { IsChain (chain_of self.old) → is_linked (chain_of self.old) (one_of part) ≡ true → OnOk result (chain_of self.new ≡ join (chain_of self.old) (one_of part)) }
         ensures refused { OnErr result (chain_of self.new ≡ chain_of self.old) }
     {
         self.parts.push_back(part.data).map_err(|_| NoMemory)?;
-        self.last = part.rank;
         self.ends = part.end;
         Ok(())
     }
@@ -71,12 +103,12 @@ impl Chain {
     /// # Errors
     /// Memory ran out, and nothing changed.
     pub(crate) fn push_front(&mut self, part: Part) -> Result<(), NoMemory>
-        ensures joined { OnOk result (chain_of self.new ≡ join (one_of part) (chain_of self.old)) }
+        ensures joined { IsChain (chain_of self.old) → is_linked (one_of part) (chain_of self.old) ≡ true → OnOk result (chain_of self.new ≡ join (one_of part) (chain_of self.old)) }
         ensures refused { OnErr result (chain_of self.new ≡ chain_of self.old) }
     {
         self.parts.push_front(part.data).map_err(|_| NoMemory)?;
-        self.first = part.rank;
-        self.head = part.head;
+        self.first = Rank::of(part.rank);
+        self.begin(part.head);
         Ok(())
     }
 
@@ -95,7 +127,7 @@ impl Chain {
     /// Puts a fragment behind it, and another chain behind that. The longer of the two has room for all of them.
     pub(crate) fn close_gap(&mut self, part: Part, right: Chain)
         requires { HasJointRoom self.old right }
-        ensures { chain_of self.new ≡ join (join (chain_of self.old) (one_of part)) (chain_of right) }
+        ensures { IsOneOf (chain_of self.old) (one_of part) (chain_of right) (chain_of self.new) }
     {
         if self.parts.len() < right.parts.len() {
             let left = replace(&mut self.parts, right.parts);
@@ -103,8 +135,18 @@ impl Chain {
         } else {
             put_behind(&mut self.parts, part.data, right.parts);
         }
-        self.last = right.last;
         self.ends = right.ends;
+    }
+
+    /// Notes what it says of a message.
+    fn begin(&mut self, head: Option<Head>)
+        ensures { chain_of self.new ≡ record (chain_of self.old) { head = head } }
+    {
+        self.begins = head.is_some();
+        if let Some(said) = head {
+            self.index = said.index;
+            self.payload_id = said.payload_id;
+        }
     }
 }
 
@@ -113,7 +155,7 @@ impl Part {
     pub(crate) fn continues(&self, chain: &Chain) -> bool
         ensures { result ≡ is_linked (chain_of chain.now) (one_of self.now) }
     {
-        self.rank.saturating_sub(chain.last) == 1 && (!chain.ends && self.head.is_none())
+        self.rank.saturating_sub(chain.last()) == 1 && (!chain.ends && self.head.is_none())
     }
 }
 
@@ -127,9 +169,10 @@ pub(crate) fn one_if(ends: bool, begins: bool) -> usize
 /// No chain: it stands where one was taken out that is put back. It takes no memory.
 pub(crate) fn nothing(alloc: Global) -> Chain {
     Chain {
-        first: 0,
-        last: 0,
-        head: None,
+        first: Rank::of(0),
+        index: 0,
+        payload_id: 0,
+        begins: false,
         ends: false,
         parts: VecDeque::new(alloc),
     }
@@ -144,11 +187,14 @@ pub(crate) fn alone(alloc: Global, part: Part) -> Result<Chain, NoMemory>
 {
     let mut parts = VecDeque::with_capacity(alloc, 1).map_err(|_| NoMemory)?;
     parts.push_back_reserved(part.data);
-    Ok(Chain {
-        first: part.rank,
-        last: part.rank,
-        head: part.head,
+    let mut chain = Chain {
+        first: Rank::of(part.rank),
+        index: 0,
+        payload_id: 0,
+        begins: false,
         ends: part.end,
         parts,
-    })
+    };
+    chain.begin(part.head);
+    Ok(chain)
 }

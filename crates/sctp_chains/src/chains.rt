@@ -68,7 +68,7 @@ impl<F: Framing> Chains<F> {
         if self.filed.chains.len() == 0 {
             return None;
         }
-        Some((self.filed.chains.get(0).first % 18_446_744_073_709_551_616) as u64)
+        Some((self.filed.chains.get(0).first() % 18_446_744_073_709_551_616) as u64)
     }
 
     /// Whether this fragment of this message is kept already, where that can be: under DATA a fragment is its TSN.
@@ -81,7 +81,7 @@ impl<F: Framing> Chains<F> {
         }
         let rank = rank_at(number, F::place(0, piece.begin, piece.word));
         let at = place(&self.filed.chains, rank);
-        at < self.filed.chains.len() && self.filed.chains.get(at).first <= rank
+        at < self.filed.chains.len() && self.filed.chains.get(at).first() <= rank
     }
 
     /// Keeps a chunk, with this index and number in place of its wire values. Its data is copied.
@@ -138,7 +138,7 @@ impl<F: Framing> Chains<F> {
         ensures { (l : Lane) (kept : Kept) → StandsFor F.format self.now l kept → is_numbered F.format l.kind ≡ true → result ≡ true → AreAbove number kept }
     {
         self.filed.chains.is_empty()
-            || rank_at(Some(number), u64::MAX) < self.filed.chains.get(0).first
+            || rank_at(Some(number), u64::MAX) < self.filed.chains.get(0).first()
     }
 
     /// Takes the whole message with the lowest number within these bounds, and lets go of all chunks up to its number. Of several with one
@@ -152,7 +152,7 @@ impl<F: Framing> Chains<F> {
         let lower = rank_at(Some(from), 0);
         let found = self.filed.find(lower, rank_at(Some(last), u64::MAX))?;
         let chain = self.filed.remove(&mut self.held, found.at)?;
-        let number = (chain.first / 18_446_744_073_709_551_616) as u64;
+        let number = (chain.first() / 18_446_744_073_709_551_616) as u64;
         let upto = rank_at(Some(number), u64::MAX);
         self.held = self.filed.drop_upto(self.held, 0, upto);
         Some(whole_of(chain, found.head, Some(number)))
@@ -170,7 +170,7 @@ impl<F: Framing> Chains<F> {
         let upto = if F::is_numbered(Kind::Unordered) {
             rank_at(number, u64::MAX)
         } else {
-            chain.last
+            chain.last()
         };
         self.held = self.filed.drop_upto(self.held, found.at, upto);
         Some(whole_of(chain, found.head, number))

@@ -83,7 +83,7 @@ impl Filed {
         if at >= before {
             return held;
         }
-        if self.chains.get(at).first > upto {
+        if self.chains.get(at).first() > upto {
             return held;
         }
         let left = drop_upto(&mut self.chains, held, at, upto);

@@ -16,8 +16,8 @@ pub(crate) fn place(chains: &Sequence<Chain>, rank: u128) -> usize
 {
     chains.partition_point(
         |chain: &Chain| -> bool
-            ensures { result ≡ nat_lt chain.now.last rank }
-        { chain.last < rank },
+            ensures { result ≡ nat_lt (chain_of chain.now).last rank }
+        { chain.last() < rank },
     )
 }
 

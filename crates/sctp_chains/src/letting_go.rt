@@ -7,6 +7,7 @@ ghost use Rattle.sctp_chains.specs.inner.LettingGo.{size_of_parts, LetsGo, Remov
 
 use crate::chain::{Chain, nothing};
 use crate::ends::remove_at;
+use crate::rank::Rank;
 use sctp_sequence::Sequence;
 use std::collections::VecDeque;
 
@@ -61,7 +62,7 @@ pub(crate) fn drop_upto(chains: &mut Sequence<Chain>, held: u32, at: usize, upto
     ensures left { LetsGo upto at (map chain_of chains.old.items) (map chain_of chains.new.items) held result }
 {
     let before = chains.len();
-    if at == 0 && before > 0 && chains.get(before - 1).last <= upto {
+    if at == 0 && before > 0 && chains.get(before - 1).last() <= upto {
         chains.clear();
         return 0;
     }
@@ -76,12 +77,12 @@ fn drop_each(chains: &mut Sequence<Chain>, held: u32, at: usize, upto: u128) -> 
     ensures left { LetsGo upto at (map chain_of chains.old.items) (map chain_of chains.new.items) held result }
 {
     let mut left = held;
-    while at < chains.len() && chains.get(at).last <= upto {
+    while at < chains.len() && chains.get(at).last() <= upto {
         if let Some(chain) = remove_at(chains, at) {
             left = less_all(left, &chain.parts);
         }
     }
-    if at < chains.len() && chains.get(at).first <= upto {
+    if at < chains.len() && chains.get(at).first() <= upto {
         let blank = nothing(*chains.get(at).parts.allocator());
         let mut chain = chains.replace(at, blank);
         left = trim(&mut chain, left, upto);
@@ -95,11 +96,11 @@ fn trim(chain: &mut Chain, held: u32, upto: u128) -> u32
     ensures trimmed { Trims upto (chain_of chain.old) (chain_of chain.new) held result }
     ensures whole { one_if_whole (chain_of chain.new) ≤ one_if_whole (chain_of chain.old) }
 {
-    let last = chain.last;
+    let last = chain.last();
     if last <= upto {
         return held;
     }
-    let count = upto.saturating_sub(chain.first).saturating_add(1);
+    let count = upto.saturating_sub(chain.first()).saturating_add(1);
     if count >= chain.parts.len() as u128 {
         return held;
     }
@@ -108,7 +109,8 @@ fn trim(chain: &mut Chain, held: u32, upto: u128) -> u32
     let left = less(held, &chain.parts, gone);
     chain.parts.rotate_left(gone);
     chain.parts.truncate(stay);
-    chain.first = upto.saturating_add(1);
-    chain.head = None;
+    let next = upto.saturating_add(1);
+    chain.first = Rank::of(next);
+    chain.begins = false;
     left
 }

@@ -30,8 +30,8 @@ fn start(chains: &Sequence<Chain>, rank: u128) -> usize
 {
     chains.partition_point(
         |chain: &Chain| -> bool
-            ensures { result ≡ nat_lt chain.now.first rank }
-        { chain.first < rank },
+            ensures { result ≡ nat_lt (chain_of chain.now).first rank }
+        { chain.first() < rank },
     )
 }
 
@@ -41,7 +41,7 @@ fn whole_at(chains: &Sequence<Chain>, at: usize) -> Option<Found>
     ensures { IsWholeHere (map chain_of chains.now.items) at result }
 {
     let chain = chains.get(at);
-    match chain.head {
+    match chain.head() {
         Some(head) if chain.ends => Some(Found { at, head }),
         _ => None,
     }
@@ -52,7 +52,7 @@ pub(crate) fn whole_with(chains: &Sequence<Chain>, rank: u128) -> Option<Found>
     ensures { AreChains (map chain_of chains.now.items) → IsWholeWithRank (map chain_of chains.now.items) rank result }
 {
     let at = place(chains, rank);
-    if at < chains.len() && chains.get(at).first <= rank {
+    if at < chains.len() && chains.get(at).first() <= rank {
         return whole_at(chains, at);
     }
     None
@@ -65,7 +65,7 @@ fn stop(chains: &Sequence<Chain>, from: usize, last: u128) -> usize
 {
     for at in from..chains.len() {
         let chain = chains.get(at);
-        if chain.first > last || chain.whole() == 1 {
+        if chain.first() > last || chain.whole() == 1 {
             return at;
         }
     }
@@ -82,7 +82,7 @@ pub(crate) fn first_whole(chains: &Sequence<Chain>, passed: usize, from: u128, l
 {
     let begin = start(chains, from);
     let at = stop(chains, begin.max(passed), last);
-    let found = if at < chains.len() && chains.get(at).first <= last {
+    let found = if at < chains.len() && chains.get(at).first() <= last {
         whole_at(chains, at)
     } else {
         None

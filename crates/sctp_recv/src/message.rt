@@ -21,10 +21,10 @@ pub struct Message {
     pub stream: u16,
     /// Whether it is handed over in the order of the numbers.
     pub ordered: bool,
-    /// Its number in its stream and kind, from 0; None for an unordered message under DATA.
-    pub number: Option<u64>,
     /// The payload protocol identifier.
     pub payload_id: u32,
+    /// Its number in its stream and kind, from 0; None for an unordered message under DATA.
+    pub number: Option<u64>,
     pub(crate) parts: Vec<Vec<u8>>,
 }
 

@@ -6,7 +6,7 @@ use Rattle.sctp_model.specs.numbers.Lists.{Has}
 use Rattle.sctp_chains.specs.Same.{AreSame}
 use Rattle.sctp_chains.specs.Cells.{Cell}
 use Rattle.sctp_chains.specs.declared.chain.Chain.{Chain}
-use Rattle.sctp_chains.specs.Links.{ChainKept, cells_in, cells_of, is_linked, join, one_if_whole, AreChains}
+use Rattle.sctp_chains.specs.Links.{ChainKept, cells_in, cells_of, is_linked, join, one_if_whole, IsChain, AreChains}
 use Rattle.sctp_chains.specs.inner.Finding.{AreOpen}
 
 -- So many chains at the front lie below a rank, and none behind them does.
@@ -28,10 +28,15 @@ abbrev pub IsLinkBehind : List ChainKept → (k : ℕ) → ChainKept → Option 
 IsLinkBehind cs k a None = (c : ChainKept) → k < length cs → c ≡ get_or cs k c → is_linked a c ≡ false
 IsLinkBehind cs k a (Some j) = (j ≡ k) × (j < length cs) × ((c : ChainKept) → c ≡ get_or cs j c → is_linked a c ≡ true)
 
+-- a chain is what a chain, the fragment behind it, and the chain behind that are together, if each continues the one before
+pub record IsOneOf (c a d m : ChainKept) : Type 0 where
+  pub joined : IsChain c → IsChain d → is_linked c a ≡ true → is_linked a d ≡ true → m ≡ join (join c a) d
+  pub whole : one_if_whole m ≡ one_if_whole (join (join c a) d)
+
 -- a chain, the fragment behind it, and the chain behind that are one chain, at the place of the first
 abbrev pub IsJoined : (old : List ChainKept) → (left : ℕ) → ChainKept → (right : ℕ) → (new : List ChainKept) → Type 0
 IsJoined old left a right new =
-    (c d : ChainKept) → c ≡ get_or old left c → d ≡ get_or old right d → new ≡ remove (set old left (join (join c a) d)) right
+    (c d : ChainKept) → c ≡ get_or old left c → d ≡ get_or old right d → (m : ChainKept) × IsOneOf c a d m × (new ≡ remove (set old left m) right)
 
 -- how many whole messages that one is
 abbrev pub IsWholeOfJoined : List ChainKept → (left : ℕ) → ChainKept → (right : ℕ) → ℕ → Type 0

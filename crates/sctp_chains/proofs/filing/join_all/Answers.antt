@@ -1,7 +1,7 @@
 use Rattle.std.proofs.Common.{◌≡◌, ◌<◌, length, ap, arith}
 use Rattle.std.specs.Prelude.{Option, None, Some, IsSome, OnSome}
 use Rattle.std.specs.List.{remove}
-use Rattle.sctp_chains.proofs.MemoryLemmas.{as_long}
+use Rattle.sctp_chains.proofs.MemoryLemmas.{as_long, one_shorter}
 use Rattle.sctp_chains.proofs.LiftedLemmas.{both_back, joined_back, joined_whole, joined_few}
 use Rattle.sctp_chains.proofs.filing.join_all.Goals as goal
 
@@ -24,6 +24,19 @@ gone c =
     let second = ap length c.replace-low.ensures.items in
     let less : c.args.right < length c.replace-low.new.self.items = let l = c.requires.within in omega (arith, l, one, two, first, second) in
     when_some c.remove.result _ (c.remove.ensures.variant.1 less) c.remove.ensures.items
+
+pub replace-requires-2 : goal.replace-requires-2
+replace-requires-2 c =
+    let one = as_long c.args.chains.now.items c.args.right c.nothing.result in
+    let two = as_long c.replace-high.new.self.items c.args.left c.nothing-2.result in
+    let first = ap length c.replace-high.ensures.items in
+    let second = ap length c.replace-low.ensures.items in
+    let within = c.requires.within in
+    let order = c.requires.order in
+    let less : c.args.right < length c.replace-low.new.self.items = omega (arith, within, one, two, first, second) in
+    let fewer = one_shorter c.replace-low.new.self.items c.args.right less in
+    let is = ap length (when_some c.remove.result _ (c.remove.ensures.variant.1 less) c.remove.ensures.items) in
+    omega (arith, within, order, one, two, first, second, fewer, is)
 
 pub returns-clause-few : goal.returns-clause-few
 returns-clause-few c =

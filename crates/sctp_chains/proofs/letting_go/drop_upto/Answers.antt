@@ -6,17 +6,17 @@ use Rattle.sctp_chains.proofs.ListLemmas.{taken_has}
 use Rattle.sctp_chains.proofs.GoingLemmas.{all_gone}
 use Rattle.sctp_chains.proofs.letting_go.drop_upto.Goals as goal
 
-pub returns-then-get-upto-clause-left : goal.returns-then-get-upto-clause-left
-returns-then-get-upto-clause-left c =
+pub returns-then-last-upto-clause-left : goal.returns-then-last-upto-clause-left
+returns-then-last-upto-clause-left c =
     let cs = c.args.chains.now.items in
     let n = c.len-before.result - 1 in
     let last : suc n ≡ length cs = omega (arith, c.len-before.ensures, c.if-before-gt0.true) in
-    all_gone cs c.clear.new.self.items n c.args.at c.args.upto c.args.held c.get.result.now last c.get.ensures c.if-get-upto.true c.if-at-eq0.true c.clear.ensures.items
+    all_gone cs c.clear.new.self.items n c.args.at c.args.upto c.args.held c.get.result.now last c.get.ensures (omega (arith, c.if-last-upto.true, c.last.ensures)) c.if-at-eq0.true c.clear.ensures.items
 
-pub returns-then-get-upto-clause-whole : goal.returns-then-get-upto-clause-whole
-returns-then-get-upto-clause-whole c = let none = ap (λ (xs : List Chain). whole_in (map chain_of xs)) c.clear.ensures.items in omega (arith, none)
+pub returns-then-last-upto-clause-whole : goal.returns-then-last-upto-clause-whole
+returns-then-last-upto-clause-whole c = let none = ap (λ (xs : List Chain). whole_in (map chain_of xs)) c.clear.ensures.items in omega (arith, none)
 
-pub returns-then-get-upto-clause-passed : goal.returns-then-get-upto-clause-passed
-returns-then-get-upto-clause-passed c = λ k open_now.
+pub returns-then-last-upto-clause-passed : goal.returns-then-last-upto-clause-passed
+returns-then-last-upto-clause-passed c = λ k open_now.
     subst (λ (xs : List Chain). AreOpen (k - (length c.args.chains.now.items - length c.clear.new.self.items)) (map chain_of xs)) (sym c.clear.ensures.items)
     (λ d there. absurd (taken_has _ _ d there))

@@ -29,6 +29,6 @@ returns-else-is_empty g c = λ l kept stands numbered yes.
     let some : 0 < length ms = let is = c.is_empty.ensures in let no = c.if-is_empty.false in grind (arith, is, no, nat_tests) in
     let less : 0 < length (map chain_of ms) = let all = length_kept ms in omega (arith, some, all) in
     let at = sym (at_kept ms 0 x some c.get.ensures (chain_of x)) in
-    let past : c.rank_at.result < x.first = grind (arith, yes, nat_tests) in
+    let past : c.rank_at.result < (chain_of x).first = let own = c.first.ensures in grind (arith, yes, own, nat_tests) in
     chunks_above g.F.Framing.format l (map chain_of ms) c.args.self.now.held kept stands numbered c.args.number
     (λ d there. let low = not_lower (map chain_of ms) stands.chains 0 (chain_of x) less at d there in omega (arith, low, past, c.rank_at.ensures))

@@ -24,9 +24,9 @@ returns-then-at-len g c = λ i l kept stands of.
     let place = c.place-at.ensures.place stands.chains in
     let back = stands_in cs stands.chains k (chain_of x) less at in
     held_agrees g.F.Framing.format l cs c.args.self.now.held kept stands (sym c.is_numbered.ensures ∙ c.if-not-is_numbered.false) (counted i (piece_meaning c.args.piece.now) c.args.number) of r
-    (c.rank_at-rank.ensures ∙ ap (rank_at c.args.number) c.place.ensures) (nat_le x.first r)
-    (λ e. (chain_of x, dropped_has cs k (chain_of x) back, (grind (arith, e, nat_tests), place.back (chain_of x) back)))
-    (λ e. in_place cs stands.chains k r place (chain_of x) less at (grind (arith, e, nat_tests)))
+    (c.rank_at-rank.ensures ∙ ap (rank_at c.args.number) c.place.ensures) (nat_le c.first.result r)
+    (λ e. (chain_of x, dropped_has cs k (chain_of x) back, (let own = c.first.ensures in grind (arith, e, own, nat_tests), place.back (chain_of x) back)))
+    (λ e. in_place cs stands.chains k r place (chain_of x) less at (let own = c.first.ensures in grind (arith, e, own, nat_tests)))
 
 pub returns-else-at-len : goal.returns-else-at-len
 unfolding StandsFor

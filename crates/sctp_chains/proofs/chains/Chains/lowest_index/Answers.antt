@@ -24,5 +24,5 @@ returns g c = λ l kept stands loose.
     let at = sym (at_kept ms 0 x some c.get.ensures (chain_of x)) in
     let lowest = lowest_kept g.F.Framing.format l cs c.args.self.now.held kept stands loose (chain_of x) (omega (arith, some, all)) at in
     let small = lowest_small g.F.Framing.format l cs c.args.self.now.held kept stands loose (chain_of x) (omega (arith, some, all)) at in
-    let same : x.first ≡ x.first % 18446744073709551616 = omega (arith, small) in
+    let same : (chain_of x).first ≡ c.first.result % 18446744073709551616 = omega (arith, small, c.first.ensures) in
     subst (λ n. IsLowestIndex kept (Some n)) same lowest

@@ -1,4 +1,4 @@
-use Rattle.std.proofs.Common.{◌≡◌, ◌/◌, ◌^◌, List, Option, Some, map, refl, sym, ◌∙◌, ap, subst, arith}
+use Rattle.std.proofs.Common.{◌≡◌, ℕ, ◌/◌, ◌^◌, List, Option, Some, map, sym, ◌∙◌, ap, subst, arith}
 use Rattle.sctp_chains.specs.Links.{chain_of, one_if_whole}
 use Rattle.sctp_chains.specs.StandsFor.{StandsFor, KeepsLane, whole_count}
 use Rattle.sctp_chains.specs.WholeOf.{TakesLowest}
@@ -28,9 +28,9 @@ returns-clause-taken g c = λ l kept stands numbered.
     let first = subst (λ (items : List Chain). IsFirstWhole (map chain_of items) c.rank_at-lower.result c.rank_at.result (Some c.in_ok-found.found)) (sym c.in_ok-found.ensures.same)
     (c.in_ok-found.ensures.found stands.chains) in
     took_lowest_by f l (map chain_of c.find.new.self.chains.items) c.args.self.now.held kept stood c.args.from c.args.last c.rank_at-lower.result c.rank_at.result c.rank_at-lower.ensures c.rank_at.ensures
-    c.in_ok-found.found (map chain_of c.remove.new.self.chains.items) c.remove.new.held d (d.first / 2 ^ 64) c.rank_at-upto.result c.whole_of.result
+    c.in_ok-found.found (map chain_of c.remove.new.self.chains.items) c.remove.new.held d (c.first.result / 2 ^ 64) c.rank_at-upto.result c.whole_of.result
     _
-    numbered first c.in_ok-chain.ensures.taken refl c.rank_at-upto.ensures c.drop_upto-self.ensures.left c.whole_of.ensures
+    numbered first c.in_ok-chain.ensures.taken (ap (λ (n : ℕ). n / 2 ^ 64) c.first.ensures) c.rank_at-upto.ensures c.drop_upto-self.ensures.left c.whole_of.ensures
 
 pub returns-clause-whole : goal.returns-clause-whole
 unfolding StandsFor whole_count

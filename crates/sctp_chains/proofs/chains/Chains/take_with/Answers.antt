@@ -27,7 +27,7 @@ returns-clause-taken g c = λ l kept stands there.
     let rank : c.rank_at.result ≡ rank_of f y = c.rank_at.ensures ∙ ap (rank_at c.args.number) c.place-place.ensures in
     let top : c.if-is_numbered.upto ≡ top_of f d c.args.number = elim c.if-is_numbered.branch [
       | then-is_numbered w ↦ w.upto-is ∙ w.rank_at-upto.ensures ∙ top_numbered f (sym c.is_numbered.ensures ∙ w.if-is_numbered.true) d c.args.number
-      | else-is_numbered w ↦ w.upto-is ∙ top_plain f (sym c.is_numbered.ensures ∙ w.if-is_numbered.false) d c.args.number
+      | else-is_numbered w ↦ w.upto-is ∙ w.last-upto.ensures ∙ top_plain f (sym c.is_numbered.ensures ∙ w.if-is_numbered.false) d c.args.number
     ] in
     took_with f l (map chain_of c.args.self.now.filed.chains.items) c.args.self.now.held kept stands y there c.rank_at.result c.in_ok-found.found (map chain_of c.remove.new.self.chains.items)
     c.remove.new.held d c.if-is_numbered.upto c.whole_of.result

@@ -6,7 +6,7 @@ pub returns-then-at-before-clause-left : goal.returns-then-at-before-clause-left
 returns-then-at-before-clause-left c =
     none_there c.args.self.now.chains.items c.args.at c.args.upto c.args.held (omega (arith, c.if-at-before.true, c.len-before.ensures))
 
-pub returns-then-get-upto-clause-left : goal.returns-then-get-upto-clause-left
-returns-then-get-upto-clause-left c =
+pub returns-then-first-upto-clause-left : goal.returns-then-first-upto-clause-left
+returns-then-first-upto-clause-left c =
     none_so_low c.args.self.now.chains.items c.args.at c.args.upto c.args.held c.get.result.now (omega (arith, c.if-at-before.false, c.len-before.ensures))
-    c.get.ensures c.if-get-upto.true
+    c.get.ensures (omega (arith, c.if-first-upto.true, c.first.ensures))
