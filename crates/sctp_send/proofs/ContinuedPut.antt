@@ -24,7 +24,7 @@ use Rattle.sctp_send.specs.OutstandingFields.{item_meaning, lane_meaning, messag
 use Rattle.sctp_send.specs.SenderFields.{number_left, track_meaning, rest_meaning}
 use Rattle.sctp_send.specs.inner.Walks.{total, one_if_rest}
 use Rattle.sctp_send.specs.inner.Newcomers as kept
-use Rattle.sctp_send.specs.inner.Newcomers.{gone_item, rest_item, rest_after, begun_items, number_in, begun_track, rest_at, has_rest, one_if, without_place, fresh_track, track_of, number_on, begun, IsBegun, IsContinued}
+use Rattle.sctp_send.specs.inner.Newcomers.{gone_item, rest_item, rest_after, rest_at, has_rest, one_if, fresh_track, IsContinued}
 use Rattle.sctp_send.specs.inner.Wishing.{item_flight}
 use Rattle.sctp_send.specs.inner.Drafting.{numbers_of, drafted, fragment_chunk, item_chunk, let_in, IsStopped, IsRefused, IsTried, PutAnswer, NothingStands}
 use Rattle.sctp_send.specs.declared.draft.Draft.{Draft}
