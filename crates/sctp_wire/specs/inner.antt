@@ -1,3 +1,4 @@
 pub mod Frame
 pub mod Standing
 pub mod FirstAsWritten
+pub mod AtOnce

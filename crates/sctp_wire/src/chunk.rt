@@ -1,10 +1,11 @@
 //! Chunks, with their data and lists where they lie in the bytes that were read; what each takes, and how it is written.
 
-ghost use Rattle.std.specs.Prelude.{◌≡◌, ◌+◌, ◌≤◌, ◌<◌, ◌^◌, ◌↔◌, ◌++◌, IsTrue, true, length, vec_len, vec_capacity};
+ghost use Rattle.std.specs.Prelude.{◌≡◌, ◌+◌, ◌≤◌, ◌<◌, ◌^◌, ◌↔◌, ◌++◌, IsTrue, true, false, length, vec_len, vec_capacity};
 ghost use Rattle.sctp_model.specs.wire.Chunk.{kind_of, chunk_length, size_of_chunk};
 ghost use Rattle.sctp_wire.specs.ChunkTree.{chunk_meaning, HasZeroReserved};
 ghost use Rattle.sctp_wire.specs.Layouts.{flags_of, value_of, Fits};
 ghost use Rattle.sctp_wire.specs.Writes.{written};
+ghost use Rattle.sctp_wire.specs.inner.AtOnce.{is_at_once};
 
 use crate::chunks::abort::{abort_fits, reflected_flag};
 use crate::chunks::cookie_echo::cookie_echo_fits;
@@ -12,14 +13,14 @@ use crate::chunks::error::error_fits;
 use crate::chunks::forward::{Forward, append_forward};
 use crate::chunks::forward_tsn::forward_tsn_fits;
 use crate::chunks::heartbeat::heartbeat_fits;
-use crate::chunks::i_data::{append_i_data, i_data_fits};
+use crate::chunks::i_data::i_data_fits;
 use crate::chunks::i_forward_tsn::i_forward_tsn_fits;
 use crate::chunks::init::{Init, append_init, init_fits};
 use crate::chunks::other::other_fits;
 use crate::chunks::piece::{Piece, data_flags};
-use crate::chunks::sack::{Sack, append_sack, sack_fits};
+use crate::chunks::sack::{Sack, sack_fits};
 use crate::chunks::shutdown::shutdown_fits;
-use crate::chunks::user_data::{append_data, data_fits};
+use crate::chunks::user_data::data_fits;
 use crate::codes::{
     ABORT, COOKIE_ACK, COOKIE_ECHO, DATA, DATA_HEADER, ERROR, FORWARD_TSN, HEARTBEAT,
     HEARTBEAT_ACK, I_DATA, I_DATA_HEADER, I_FORWARD_TSN, INIT, INIT_ACK, SACK, SHUTDOWN,
@@ -183,19 +184,18 @@ pub fn flags_of(chunk: &Chunk<'_>) -> u8
     }
 }
 
-/// Appends the value, by its layout.
+/// Appends the value of a chunk that isn't written at once, by its layout.
 pub fn append_value(out: &mut Vec<u8>, chunk: &Chunk<'_>)
     requires fits { Fits (chunk_meaning chunk.now) }
+    requires other { is_at_once (chunk_meaning chunk.now) ≡ false }
     requires spare { vec_len out.old + chunk_length (chunk_meaning chunk.now) ≤ vec_capacity out.old + 4 }
     ensures items { out.new.items ≡ out.old.items ++ value_of (chunk_meaning chunk.now) }
     ensures len { vec_len out.new + 4 ≡ vec_len out.old + chunk_length (chunk_meaning chunk.now) }
     ensures room { vec_capacity out.old ≤ vec_capacity out.new }
 {
     match chunk {
-        Chunk::Data(piece) => append_data(out, piece),
-        Chunk::IData(piece) => append_i_data(out, piece),
+        Chunk::Data(_) | Chunk::IData(_) | Chunk::Sack(_) => unreachable!(),
         Chunk::Init(offer) | Chunk::InitAck(offer) => append_init(out, offer),
-        Chunk::Sack(sack) => append_sack(out, sack),
         Chunk::Heartbeat { info } | Chunk::HeartbeatAck { info } => append(out, info),
         Chunk::Abort { causes, .. } | Chunk::Error { causes } => append(out, causes.bytes()),
         Chunk::CookieEcho { cookie } => append(out, cookie),

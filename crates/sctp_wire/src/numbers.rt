@@ -1,10 +1,11 @@
 //! Numbers as bytes, the most significant byte first (RFC 9260, 3), and the length with its padding.
 
-ghost use Rattle.std.specs.Prelude.{◌≡◌, ◌+◌, ◌<◌, ◌≤◌, ◌^◌, ◌++◌, length, replicate, vec_len, vec_capacity};
-ghost use Rattle.sctp_model.specs.wire.Chunk.{padded};
+ghost use Rattle.std.specs.Prelude.{◌≡◌, ◌+◌, ◌<◌, ◌≤◌, ◌^◌, ◌++◌, IsOk, OnOk, OnErr, length, replicate, vec_len, vec_capacity};
+ghost use Rattle.sctp_model.specs.wire.Chunk.{padded, padding_after};
 ghost use Rattle.sctp_model.specs.numbers.Numbers.{u16_bytes, u32_bytes, u16_at, u32_at};
 
 use byteorder::{BigEndian, ByteOrder};
+use sctp_values::NoMemory;
 
 /// The number in the first two bytes.
 #[tactic(auto, unfolding(sctp_model::specs::numbers::Numbers::u16_at))]
@@ -42,6 +43,29 @@ pub fn append(out: &mut Vec<u8>, bytes: &[u8])
     if out.extend_from_slice(bytes).is_err() {
         unreachable!()
     }
+}
+
+/// Appends a head, what stands behind it, and zeros up to a multiple of 4: all after one test of room.
+///
+/// # Errors
+/// `NoMemory` where there was no room and none was got; `out` is then as before.
+#[inline(always)]
+pub fn write_padded(out: &mut Vec<u8>, head: &[u8], rest: &[u8]) -> Result<(), NoMemory>
+    requires { length head.now + length rest.now < 2 ^ 16 }
+    ensures written { OnOk result (out.new.items ≡ out.old.items
+        ++ (head.now ++ (rest.now ++ replicate (padding_after (length head.now + length rest.now)) 0))) }
+    ensures refused { OnErr result (out.new.items ≡ out.old.items) }
+    ensures memory { vec_len out.old + padded (length head.now + length rest.now) ≤ vec_capacity out.old
+        → IsOk result }
+    ensures capacity { vec_capacity out.old ≤ vec_capacity out.new }
+{
+    let size = head.len() + rest.len();
+    let whole = padded(size);
+    out.reserve(whole).map_err(|_| NoMemory)?;
+    append(out, head);
+    append(out, rest);
+    append_zeros(out, whole - size);
+    Ok(())
 }
 
 /// Appends a number of 16 bits, for which there is room.

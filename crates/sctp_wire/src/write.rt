@@ -1,12 +1,17 @@
 //! Chunks as bytes (RFC 9260, 3.2).
 
-ghost use Rattle.std.specs.Prelude.{◌≡◌, ◌+◌, ◌≤◌, [], ◌∷◌, ◌++◌, length, vec_len, vec_capacity, IsOk, OnOk, OnErr};
+ghost use Rattle.std.specs.Prelude.{◌≡◌, ◌+◌, ◌≤◌, [], ◌∷◌, ◌++◌, false, length, vec_len, vec_capacity, IsOk, OnOk, OnErr};
+ghost use Rattle.sctp_model.specs.wire.Chunk.{size_of_chunk};
 ghost use Rattle.sctp_wire.specs.ChunkTree.{chunk_meaning};
 ghost use Rattle.sctp_wire.specs.Layouts.{Fits};
 ghost use Rattle.sctp_wire.specs.Reads.{header, Reads};
 ghost use Rattle.sctp_wire.specs.Writes.{written, Writes};
+ghost use Rattle.sctp_wire.specs.inner.AtOnce.{is_at_once};
 
 use crate::chunk::{Chunk, append_value, flags_of, kind_of, length_of};
+use crate::chunks::i_data::write_i_data;
+use crate::chunks::sack::write_sack;
+use crate::chunks::user_data::write_data;
 use crate::numbers::{append, append_zeros, padded};
 use sctp_values::NoMemory;
 
@@ -25,6 +30,23 @@ pub fn write_chunk(chunk: &Chunk<'_>, out: &mut Vec<u8>) -> Result<(), NoMemory>
     ensures memory { vec_len out.old + length (written (chunk_meaning chunk.now)) ≤ vec_capacity out.old
         → IsOk result }
     // What room there is stays.
+    ensures capacity { vec_capacity out.old ≤ vec_capacity out.new }
+{
+    match chunk {
+        Chunk::Data(piece) => write_data(out, piece),
+        Chunk::IData(piece) => write_i_data(out, piece),
+        Chunk::Sack(sack) => write_sack(out, sack),
+        other => write_by_parts(out, other),
+    }
+}
+
+/// Appends the bytes of a chunk that isn't written at once: header, value and padding.
+fn write_by_parts(out: &mut Vec<u8>, chunk: &Chunk<'_>) -> Result<(), NoMemory>
+    requires fits { Fits (chunk_meaning chunk.now) }
+    requires other { is_at_once (chunk_meaning chunk.now) ≡ false }
+    ensures written { OnOk result (out.new.items ≡ out.old.items ++ written (chunk_meaning chunk.now)) }
+    ensures refused { OnErr result (out.new.items ≡ out.old.items) }
+    ensures memory { vec_len out.old + size_of_chunk (chunk_meaning chunk.now) ≤ vec_capacity out.old → IsOk result }
     ensures capacity { vec_capacity out.old ≤ vec_capacity out.new }
 {
     let size = length_of(chunk);

@@ -1,15 +1,18 @@
 //! I-DATA: a piece of user data by message identifier (RFC 8260, 2.1).
 
-ghost use Rattle.std.specs.Prelude.{◌≡◌, ◌↔◌, ◌+◌, ◌≤◌, ◌++◌, IsTrue, length, vec_len, vec_capacity};
+ghost use Rattle.std.specs.Prelude.{◌≡◌, ◌↔◌, ◌+◌, ◌≤◌, ◌++◌, IsTrue, IsOk, OnOk, OnErr, length, vec_len, vec_capacity};
 ghost use Rattle.sctp_model.specs.wire.Chunk as meaning;
 ghost use Rattle.sctp_wire.specs.ChunkTree.{piece_meaning};
 ghost use Rattle.sctp_wire.specs.Layouts.{Fits};
-ghost use Rattle.sctp_wire.specs.chunks.IData.{i_data_laid, is_i_data_value, i_data_at};
+ghost use Rattle.sctp_wire.specs.chunks.IData.{is_i_data_value, i_data_at};
+ghost use Rattle.sctp_wire.specs.Writes.{written};
+ghost use Rattle.sctp_wire.specs.inner.AtOnce.{i_data_head};
 
 use crate::chunks::flags::is_set;
-use crate::chunks::piece::Piece;
-use crate::codes::{BEGIN, END, I_DATA_HEADER, IMMEDIATE, LONGEST, UNORDERED};
-use crate::numbers::{append, read_u16, read_u32};
+use crate::chunks::piece::{Piece, data_flags};
+use crate::codes::{BEGIN, END, I_DATA, I_DATA_HEADER, IMMEDIATE, LONGEST, UNORDERED};
+use crate::numbers::{read_u16, read_u32, write_padded};
+use sctp_values::NoMemory;
 
 /// Whether an I-DATA's length has 16 bits.
 pub fn i_data_fits(piece: &Piece<'_>) -> bool
@@ -55,18 +58,33 @@ pub fn read_i_data(flags: u8, value: &[u8]) -> Piece<'_>
     }
 }
 
-/// Appends I-DATA's value, its reserved bits zero.
-#[tactic(auto, unfolding(sctp_model::specs::numbers::Numbers::u16_bytes, sctp_model::specs::numbers::Numbers::u32_bytes))]
-pub fn append_i_data(out: &mut Vec<u8>, piece: &Piece<'_>)
-    requires spare { vec_len out.old + 16 + length piece.now.bytes.now ≤ vec_capacity out.old }
-    ensures items { out.new.items ≡ out.old.items ++ i_data_laid 0 (piece_meaning piece.now) }
-    ensures len { vec_len out.new ≡ vec_len out.old + 16 + length piece.now.bytes.now }
-    ensures room { vec_capacity out.old ≤ vec_capacity out.new }
+/// Appends an I-DATA: its header and numbers at once, then the data and its padding.
+///
+/// # Errors
+/// `NoMemory` where there was no room and none was got; `out` is then as before.
+pub fn write_i_data(out: &mut Vec<u8>, piece: &Piece<'_>) -> Result<(), NoMemory>
+    requires { Fits (meaning.IData (piece_meaning piece.now)) }
+    ensures written { OnOk result (out.new.items ≡ out.old.items ++ written (meaning.IData (piece_meaning piece.now))) }
+    ensures refused { OnErr result (out.new.items ≡ out.old.items) }
+    ensures memory { vec_len out.old + meaning.size_of_chunk (meaning.IData (piece_meaning piece.now)) ≤ vec_capacity out.old → IsOk result }
+    ensures capacity { vec_capacity out.old ≤ vec_capacity out.new }
 {
+    write_padded(out, &i_data_head(piece), piece.bytes)
+}
+
+/// An I-DATA's header and numbers, its reserved bits zero.
+#[tactic(auto, unfolding(sctp_model::specs::numbers::Numbers::u16_bytes, sctp_model::specs::numbers::Numbers::u32_bytes))]
+fn i_data_head(piece: &Piece<'_>) -> [u8; 20]
+    requires { Fits (meaning.IData (piece_meaning piece.now)) }
+    ensures { result ≡ i_data_head (piece_meaning piece.now) }
+{
+    let flags = data_flags(piece);
+    let [high, low] = ((I_DATA_HEADER + piece.bytes.len()) as u16).to_be_bytes();
     let [a, b, c, d] = piece.tsn.to_be_bytes();
     let [e, f] = piece.stream.to_be_bytes();
     let [g, h, i, j] = piece.number.to_be_bytes();
     let [k, l, m, n] = piece.word.to_be_bytes();
-    append(out, &[a, b, c, d, e, f, 0, 0, g, h, i, j, k, l, m, n]);
-    append(out, piece.bytes);
+    [
+        I_DATA, flags, high, low, a, b, c, d, e, f, 0, 0, g, h, i, j, k, l, m, n,
+    ]
 }

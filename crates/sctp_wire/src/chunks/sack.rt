@@ -1,14 +1,20 @@
 //! SACK: what a receiver has seen (RFC 9260, 3.3.4).
 
-ghost use Rattle.std.specs.Prelude.{◌≡◌, ◌↔◌, ◌+◌, ◌*◌, ◌≤◌, ◌<◌, ◌^◌, true, ◌++◌, IsTrue, length, vec_len, vec_capacity};
+ghost use Rattle.std.specs.Prelude.{◌≡◌, ◌↔◌, ◌+◌, ◌≤◌, true, ◌++◌, IsTrue, IsOk, OnOk, OnErr, vec_len, vec_capacity};
 ghost use Rattle.sctp_model.specs.wire.Chunk as meaning;
 ghost use Rattle.sctp_wire.specs.ChunkTree.{sack_meaning};
 ghost use Rattle.sctp_wire.specs.Layouts.{Fits};
-ghost use Rattle.sctp_wire.specs.chunks.Sack.{sack_value, is_sack_value, sack_at};
+ghost use Rattle.sctp_wire.specs.chunks.Sack.{is_sack_value, sack_at};
+ghost use Rattle.sctp_wire.specs.Writes.{written};
+ghost use Rattle.sctp_wire.specs.inner.AtOnce.{sack_head};
 
-use crate::codes::LONGEST;
+use crate::codes::{LONGEST, SACK};
 use crate::lists::{Blocks, Tsns};
-use crate::numbers::{append, append_u16, append_u32, read_u16, read_u32};
+use crate::numbers::{append, read_u16, read_u32};
+use sctp_values::NoMemory;
+
+/// The bytes of a SACK in front of its lists, the chunk's own header among them.
+const HEADER: usize = 16;
 
 /// What a receiver has seen.
 #[derive(Drop)]
@@ -40,7 +46,7 @@ pub fn sack_fits(sack: &Sack<'_>) -> bool
     ensures { IsTrue result ↔ Fits (meaning.Sack (sack_meaning sack.now)) }
 {
     let (_cumulative, _rwnd) = (sack.cumulative, sack.rwnd);
-    sack.blocks.len() + sack.duplicates.len() <= (LONGEST - 16) / 4
+    sack.blocks.len() + sack.duplicates.len() <= (LONGEST - HEADER) / 4
 }
 
 /// SACK's value (RFC 9260, 3.3.4).
@@ -68,21 +74,36 @@ pub fn read_sack(value: &[u8]) -> Sack<'_>
     }
 }
 
-/// Appends SACK's value.
-pub fn append_sack(out: &mut Vec<u8>, sack: &Sack<'_>)
-    requires blocks { length sack.now.blocks < 2 ^ 16 }
-    requires duplicates { length sack.now.duplicates < 2 ^ 16 }
-    requires spare { vec_len out.old + 12 + 4 * (length sack.now.blocks + length sack.now.duplicates)
-        ≤ vec_capacity out.old }
-    ensures items { out.new.items ≡ out.old.items ++ sack_value (sack_meaning sack.now) }
-    ensures len { vec_len out.new
-        ≡ vec_len out.old + 12 + 4 * (length sack.now.blocks + length sack.now.duplicates) }
-    ensures room { vec_capacity out.old ≤ vec_capacity out.new }
+/// Appends a SACK: its header and numbers at once, then its lists.
+///
+/// # Errors
+/// `NoMemory` where there was no room and none was got; `out` is then as before.
+pub fn write_sack(out: &mut Vec<u8>, sack: &Sack<'_>) -> Result<(), NoMemory>
+    requires { Fits (meaning.Sack (sack_meaning sack.now)) }
+    ensures written { OnOk result (out.new.items ≡ out.old.items ++ written (meaning.Sack (sack_meaning sack.now))) }
+    ensures refused { OnErr result (out.new.items ≡ out.old.items) }
+    ensures memory { vec_len out.old + meaning.size_of_chunk (meaning.Sack (sack_meaning sack.now)) ≤ vec_capacity out.old → IsOk result }
+    ensures capacity { vec_capacity out.old ≤ vec_capacity out.new }
 {
-    append_u32(out, sack.cumulative);
-    append_u32(out, sack.rwnd);
-    append_u16(out, sack.blocks.len() as u16);
-    append_u16(out, sack.duplicates.len() as u16);
+    let size = HEADER + 4 * (sack.blocks.len() + sack.duplicates.len());
+    out.reserve(size).map_err(|_| NoMemory)?;
+    append(out, &sack_head(sack));
     append(out, sack.blocks.bytes());
     append(out, sack.duplicates.bytes());
+    Ok(())
+}
+
+/// A SACK's header and numbers.
+#[tactic(auto, unfolding(sctp_model::specs::numbers::Numbers::u16_bytes, sctp_model::specs::numbers::Numbers::u32_bytes))]
+fn sack_head(sack: &Sack<'_>) -> [u8; HEADER]
+    requires { Fits (meaning.Sack (sack_meaning sack.now)) }
+    ensures { result ≡ sack_head (sack_meaning sack.now) }
+{
+    let (blocks, duplicates) = (sack.blocks.len(), sack.duplicates.len());
+    let [high, low] = ((HEADER + 4 * (blocks + duplicates)) as u16).to_be_bytes();
+    let [a, b, c, d] = sack.cumulative.to_be_bytes();
+    let [e, f, g, h] = sack.rwnd.to_be_bytes();
+    let [i, j] = (blocks as u16).to_be_bytes();
+    let [k, l] = (duplicates as u16).to_be_bytes();
+    [SACK, 0, high, low, a, b, c, d, e, f, g, h, i, j, k, l]
 }

@@ -1,15 +1,18 @@
 //! DATA: a piece of user data by stream sequence number (RFC 9260, 3.3.1).
 
-ghost use Rattle.std.specs.Prelude.{◌≡◌, ◌↔◌, ◌+◌, ◌≤◌, ◌<◌, ◌^◌, ◌++◌, IsTrue, length, vec_len, vec_capacity};
+ghost use Rattle.std.specs.Prelude.{◌≡◌, ◌↔◌, ◌+◌, ◌≤◌, ◌++◌, IsTrue, IsOk, OnOk, OnErr, length, vec_len, vec_capacity};
 ghost use Rattle.sctp_model.specs.wire.Chunk as meaning;
 ghost use Rattle.sctp_wire.specs.ChunkTree.{piece_meaning};
 ghost use Rattle.sctp_wire.specs.Layouts.{Fits};
-ghost use Rattle.sctp_wire.specs.chunks.Data.{data_value, is_data_value, data_at};
+ghost use Rattle.sctp_wire.specs.chunks.Data.{is_data_value, data_at};
+ghost use Rattle.sctp_wire.specs.Writes.{written};
+ghost use Rattle.sctp_wire.specs.inner.AtOnce.{data_head};
 
 use crate::chunks::flags::is_set;
-use crate::chunks::piece::Piece;
-use crate::codes::{BEGIN, DATA_HEADER, END, IMMEDIATE, LONGEST, UNORDERED};
-use crate::numbers::{append, read_u16, read_u32};
+use crate::chunks::piece::{Piece, data_flags};
+use crate::codes::{BEGIN, DATA, DATA_HEADER, END, IMMEDIATE, LONGEST, UNORDERED};
+use crate::numbers::{read_u16, read_u32, write_padded};
+use sctp_values::NoMemory;
 
 /// Whether a DATA's number has 16 bits, and its length too.
 pub fn data_fits(piece: &Piece<'_>) -> bool
@@ -53,19 +56,31 @@ pub fn read_data(flags: u8, value: &[u8]) -> Piece<'_>
     }
 }
 
-/// Appends DATA's value.
-#[tactic(auto, unfolding(sctp_model::specs::numbers::Numbers::u16_bytes, sctp_model::specs::numbers::Numbers::u32_bytes))]
-pub fn append_data(out: &mut Vec<u8>, piece: &Piece<'_>)
-    requires number { piece.now.number < 2 ^ 16 }
-    requires spare { vec_len out.old + 12 + length piece.now.bytes.now ≤ vec_capacity out.old }
-    ensures items { out.new.items ≡ out.old.items ++ data_value (piece_meaning piece.now) }
-    ensures len { vec_len out.new ≡ vec_len out.old + 12 + length piece.now.bytes.now }
-    ensures room { vec_capacity out.old ≤ vec_capacity out.new }
+/// Appends a DATA: its header and numbers at once, then the data and its padding.
+///
+/// # Errors
+/// `NoMemory` where there was no room and none was got; `out` is then as before.
+pub fn write_data(out: &mut Vec<u8>, piece: &Piece<'_>) -> Result<(), NoMemory>
+    requires { Fits (meaning.Data (piece_meaning piece.now)) }
+    ensures written { OnOk result (out.new.items ≡ out.old.items ++ written (meaning.Data (piece_meaning piece.now))) }
+    ensures refused { OnErr result (out.new.items ≡ out.old.items) }
+    ensures memory { vec_len out.old + meaning.size_of_chunk (meaning.Data (piece_meaning piece.now)) ≤ vec_capacity out.old → IsOk result }
+    ensures capacity { vec_capacity out.old ≤ vec_capacity out.new }
 {
+    write_padded(out, &data_head(piece), piece.bytes)
+}
+
+/// A DATA's header and numbers.
+#[tactic(auto, unfolding(sctp_model::specs::numbers::Numbers::u16_bytes, sctp_model::specs::numbers::Numbers::u32_bytes))]
+fn data_head(piece: &Piece<'_>) -> [u8; 16]
+    requires { Fits (meaning.Data (piece_meaning piece.now)) }
+    ensures { result ≡ data_head (piece_meaning piece.now) }
+{
+    let flags = data_flags(piece);
+    let [high, low] = ((DATA_HEADER + piece.bytes.len()) as u16).to_be_bytes();
     let [a, b, c, d] = piece.tsn.to_be_bytes();
     let [e, f] = piece.stream.to_be_bytes();
     let [g, h] = (piece.number as u16).to_be_bytes();
     let [i, j, k, l] = piece.word.to_be_bytes();
-    append(out, &[a, b, c, d, e, f, g, h, i, j, k, l]);
-    append(out, piece.bytes);
+    [DATA, flags, high, low, a, b, c, d, e, f, g, h, i, j, k, l]
 }
