@@ -73,7 +73,7 @@ offset_of-at reason.HasNoList offset = refl
 -- ---- what the reader keeps
 
 -- one chunk more behind whole ones
-reads-more : (ms : List ChunkMeaning) (whole chunk : List ℕ) (m : ChunkMeaning) → ReadsEach whole ms → ReadsChunk chunk m → ReadsEach (whole ++ chunk) (ms ++ m ∷ [])
+abbrev pub reads-more : (ms : List ChunkMeaning) (whole chunk : List ℕ) (m : ChunkMeaning) → ReadsEach whole ms → ReadsChunk chunk m → ReadsEach (whole ++ chunk) (ms ++ m ∷ [])
 reads-more [] whole chunk m e reads = (chunk, [], rw e (sym (append-nil chunk)), reads, refl)
 reads-more (n ∷ ms) whole chunk m (first, more, joined, here, others) reads =
     (first, more ++ chunk, ap (λ (xs : List ℕ). xs ++ chunk) joined ∙ append_assoc first more chunk, here, reads-more ms more chunk m others reads)
@@ -85,10 +85,10 @@ pub record IsReadUpTo (bytes rest : List ℕ) : Type 0 where
   pub joined : bytes ≡ whole ++ rest
   pub reads : ReadsEach whole chunks
 
-pub read_none : (bytes : List ℕ) → IsReadUpTo bytes bytes
+unfoldable pub read_none : (bytes : List ℕ) → IsReadUpTo bytes bytes
 read_none bytes = record { whole = []; chunks = []; joined = refl; reads = refl }
 
-pub read_more : (bytes rest after : List ℕ) (m : ChunkMeaning) → IsReadUpTo bytes rest → BeginsWith rest m after → IsReadUpTo bytes after
+unfoldable pub read_more : (bytes rest after : List ℕ) (m : ChunkMeaning) → IsReadUpTo bytes rest → BeginsWith rest m after → IsReadUpTo bytes after
 read_more bytes rest after m up first = record {
   whole = up.whole ++ first.chunk;
   chunks = up.chunks ++ m ∷ [];
@@ -96,7 +96,7 @@ read_more bytes rest after m up first = record {
   reads = reads-more up.chunks up.whole first.chunk m up.reads first.reads;
 }
 
-pub read_all : (bytes rest : List ℕ) → IsReadUpTo bytes rest → rest ≡ [] → (ms : List ChunkMeaning) × ReadsEach bytes ms
+unfoldable pub read_all : (bytes rest : List ℕ) → IsReadUpTo bytes rest → rest ≡ [] → (ms : List ChunkMeaning) × ReadsEach bytes ms
 read_all bytes rest up e =
     (up.chunks, subst (λ (xs : List ℕ). ReadsEach xs up.chunks) (sym (up.joined ∙ ap (λ (xs : List ℕ). up.whole ++ xs) e ∙ append-nil up.whole)) up.reads)
 

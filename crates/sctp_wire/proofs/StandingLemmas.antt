@@ -1,22 +1,28 @@
--- The first byte of a chunk tells where it may stand, and the walk from chunk to chunk finds the first misplaced one.
-use Rattle.std.proofs.Common.{◌≡◌, ℕ, ◌-◌, ◌<◌, ◌≤◌, Bool, true, false, List, [], ◌∷◌, length, drop, refl, sym, ap, ◌∙◌, arith, length-append, Ok}
-use Rattle.std.specs.Prelude.{◌==◌, ◌||◌, Some, None, slice_index, if◌then◌else◌, ◌≢◌, not}
-use Rattle.sctp_model.specs.wire.Chunk.{ChunkMeaning, Data, IData, Init, InitAck, Sack, Heartbeat, HeartbeatAck, Abort, Shutdown, ShutdownAck, Error, CookieEcho, CookieAck, ShutdownComplete, ForwardTsn, IForwardTsn, Unknown, kind_of, padded, size_of_chunk}
+-- The first bytes of a chunk tell its type, and so whether it is data, an INIT or reflected, and where it may stand.
+use Rattle.std.proofs.Common.{◌≡◌, ℕ, ◌<◌, false, List, [], ◌∷◌, ◌++◌, length, drop, refl, sym, ap, ◌∙◌, arith, Ok}
+use Rattle.std.specs.Prelude.{◌==◌, ◌||◌, ◌&&◌, None, slice_index}
+use Rattle.std.proofs.lemmas.Grind.{common_steps}
+use Rattle.sctp_model.specs.wire.Chunk.{PieceMeaning, ChunkMeaning, Data, IData, Init, InitAck, Sack, Heartbeat, HeartbeatAck, Abort, Shutdown, ShutdownAck, Error, CookieEcho, CookieAck, ShutdownComplete, ForwardTsn, IForwardTsn, Unknown, kind_of, padded}
 use Rattle.sctp_model.specs.numbers.Numbers.{AreBytes}
-use Rattle.sctp_model.specs.wire.Places.{stands_alone, never_follows, misplaced_behind, first_misplaced}
-use Rattle.sctp_wire.specs.FirstFault.{stated_length}
-use Rattle.sctp_wire.specs.Layouts.{IsReadable}
-use Rattle.sctp_wire.specs.Reading.{chunk_at, AreChunks, chunks_of}
+use Rattle.sctp_model.specs.wire.Places.{stands_alone, never_follows}
+use Rattle.sctp_wire.specs.FirstFault.{stated_length, value_at}
+use Rattle.sctp_wire.specs.Layouts.{ReadsFlags, IsReadable}
+use Rattle.sctp_wire.specs.Reading.{body_at, chunk_at, AreChunks, chunks_of}
+use Rattle.sctp_wire.specs.Starts.{first_data, first_i_data, starts_with_init, starts_reflected}
+use Rattle.sctp_wire.specs.chunks.Flags.{has_flag}
+use Rattle.sctp_wire.specs.chunks.Data.{data_at}
+use Rattle.sctp_wire.specs.chunks.IData.{i_data_at}
 use Rattle.sctp_wire.specs.inner.Frame.{IsWhole}
-use Rattle.sctp_wire.specs.inner.Standing.{is_alone, IsBehindFirst}
+use Rattle.sctp_wire.specs.inner.Standing.{is_alone, IsParted}
 use Rattle.sctp_wire.proofs.KindLemmas.{unlike}
-use Rattle.sctp_wire.proofs.FrameLemmas.{FirstChunk, wrong, right, first_chunk_is, chunk_at-wrong, chunk_at-shaped, begins_first, length-chunk, chunk-some}
+use Rattle.sctp_wire.proofs.PieceLemmas.{reflected_read}
+use Rattle.sctp_wire.proofs.FrameLemmas.{FirstChunk, wrong, right, first_chunk_is, chunk_at-wrong, chunk_at-shaped, begins_first}
 use Rattle.sctp_wire.proofs.ReadingLemmas.{each_of-fault}
 use Rattle.sctp_wire.proofs.OneReading.{chunks_of-chunk, chunks_of-nil}
 
 -- ---- types
 
-alone_told : (m : ChunkMeaning) → IsReadable m → stands_alone m ≡ is_alone (kind_of m)
+pub alone_told : (m : ChunkMeaning) → IsReadable m → stands_alone m ≡ is_alone (kind_of m)
 alone_told (Data p) r = refl
 alone_told (IData p) r = refl
 alone_told (Init i) r = refl
@@ -36,7 +42,7 @@ alone_told (IForwardTsn f) r = refl
 alone_told (Unknown kind flags value) r =
     let other = r.fields.other in sym (rw (unlike kind 1 other refl, unlike kind 2 other refl, unlike kind 14 other refl) refl)
 
-follows_told : (m : ChunkMeaning) → IsReadable m → never_follows m ≡ (is_alone (kind_of m) || (kind_of m == 10))
+pub follows_told : (m : ChunkMeaning) → IsReadable m → never_follows m ≡ (is_alone (kind_of m) || (kind_of m == 10))
 follows_told (Data p) r = refl
 follows_told (IData p) r = refl
 follows_told (Init i) r = refl
@@ -57,6 +63,91 @@ follows_told (Unknown kind flags value) r =
     let other = r.fields.other in
     sym (rw (unlike kind 1 other refl, unlike kind 2 other refl, unlike kind 14 other refl, unlike kind 10 other refl) refl)
 
+init_told : (m : ChunkMeaning) (ms : List ChunkMeaning) → IsReadable m → starts_with_init (m ∷ ms) ≡ (kind_of m == 1)
+init_told (Data p) ms r = refl
+init_told (IData p) ms r = refl
+init_told (Init i) ms r = refl
+init_told (InitAck i) ms r = refl
+init_told (Sack s) ms r = refl
+init_told (Heartbeat info) ms r = refl
+init_told (HeartbeatAck info) ms r = refl
+init_told (Abort t causes) ms r = refl
+init_told (Shutdown n) ms r = refl
+init_told ShutdownAck ms r = refl
+init_told (Error causes) ms r = refl
+init_told (CookieEcho cookie) ms r = refl
+init_told CookieAck ms r = refl
+init_told (ShutdownComplete t) ms r = refl
+init_told (ForwardTsn f) ms r = refl
+init_told (IForwardTsn f) ms r = refl
+init_told (Unknown kind flags value) ms r = sym (unlike kind 1 r.fields.other refl)
+
+reflected_told : (m : ChunkMeaning) (ms : List ChunkMeaning) (flags : ℕ) → IsReadable m → ReadsFlags flags m
+    → starts_reflected (m ∷ ms) ≡ (((kind_of m == 6) || (kind_of m == 14)) && has_flag flags 1)
+reflected_told (Data p) ms flags r split = refl
+reflected_told (IData p) ms flags r split = refl
+reflected_told (Init i) ms flags r split = refl
+reflected_told (InitAck i) ms flags r split = refl
+reflected_told (Sack s) ms flags r split = refl
+reflected_told (Heartbeat info) ms flags r split = refl
+reflected_told (HeartbeatAck info) ms flags r split = refl
+reflected_told (Abort t causes) ms flags r split = sym (reflected_read flags split.0 t split.1)
+reflected_told (Shutdown n) ms flags r split = refl
+reflected_told ShutdownAck ms flags r split = refl
+reflected_told (Error causes) ms flags r split = refl
+reflected_told (CookieEcho cookie) ms flags r split = refl
+reflected_told CookieAck ms flags r split = refl
+reflected_told (ShutdownComplete t) ms flags r split = sym (reflected_read flags split.0 t split.1)
+reflected_told (ForwardTsn f) ms flags r split = refl
+reflected_told (IForwardTsn f) ms flags r split = refl
+reflected_told (Unknown kind kept value) ms flags r split = let other = r.fields.other in sym (rw (unlike kind 6 other refl, unlike kind 14 other refl) refl)
+
+no_data : (m : ChunkMeaning) (ms : List ChunkMeaning) → (kind_of m == 0) ≡ false → first_data (m ∷ ms) ≡ None
+no_data (Data p) ms e = cc
+no_data (IData p) ms e = refl
+no_data (Init i) ms e = refl
+no_data (InitAck i) ms e = refl
+no_data (Sack s) ms e = refl
+no_data (Heartbeat info) ms e = refl
+no_data (HeartbeatAck info) ms e = refl
+no_data (Abort t causes) ms e = refl
+no_data (Shutdown n) ms e = refl
+no_data ShutdownAck ms e = refl
+no_data (Error causes) ms e = refl
+no_data (CookieEcho cookie) ms e = refl
+no_data CookieAck ms e = refl
+no_data (ShutdownComplete t) ms e = refl
+no_data (ForwardTsn f) ms e = refl
+no_data (IForwardTsn f) ms e = refl
+no_data (Unknown kind flags value) ms e = refl
+
+no_i_data : (m : ChunkMeaning) (ms : List ChunkMeaning) → (kind_of m == 64) ≡ false → first_i_data (m ∷ ms) ≡ None
+no_i_data (Data p) ms e = refl
+no_i_data (IData p) ms e = cc
+no_i_data (Init i) ms e = refl
+no_i_data (InitAck i) ms e = refl
+no_i_data (Sack s) ms e = refl
+no_i_data (Heartbeat info) ms e = refl
+no_i_data (HeartbeatAck info) ms e = refl
+no_i_data (Abort t causes) ms e = refl
+no_i_data (Shutdown n) ms e = refl
+no_i_data ShutdownAck ms e = refl
+no_i_data (Error causes) ms e = refl
+no_i_data (CookieEcho cookie) ms e = refl
+no_i_data CookieAck ms e = refl
+no_i_data (ShutdownComplete t) ms e = refl
+no_i_data (ForwardTsn f) ms e = refl
+no_i_data (IForwardTsn f) ms e = refl
+no_i_data (Unknown kind flags value) ms e = refl
+
+data_body : (kind flags : ℕ) (value : List ℕ) → kind ≡ 0 → body_at kind flags value ≡ Data (data_at flags value)
+unfolding body_at
+data_body kind flags value e = rw e refl
+
+i_data_body : (kind flags : ℕ) (value : List ℕ) → kind ≡ 64 → body_at kind flags value ≡ IData (i_data_at flags value)
+unfolding body_at
+i_data_body kind flags value e = rw e refl
+
 -- ---- the first chunk, and what stands behind it
 
 -- whole chunks begin with one that is right
@@ -67,85 +158,80 @@ whole_first bytes some chunks = by (first_chunk_is bytes some)
     by (wrong why h) = let fault = each_of-fault bytes why some (chunk_at-wrong bytes why h) in let all = chunks in absurd (cc)
     by (right s) = s.whole
 
-pub behind_is : (bytes : List ℕ) → AreBytes bytes → 0 < length bytes → AreChunks bytes → IsBehindFirst bytes (drop (padded (stated_length bytes)) bytes)
-behind_is bytes ranged some chunks = by (first_chunk_is bytes some)
+-- they are parted from each other by the first one's length
+pub parted_is : (bytes : List ℕ) → 0 < length bytes → AreChunks bytes → IsParted bytes (value_at bytes) (drop (padded (stated_length bytes)) bytes)
+parted_is bytes some chunks = by (first_chunk_is bytes some)
   where
-    stands : (m : ChunkMeaning) (rest : List ℕ) → chunk_at bytes ≡ Ok (m, rest) → IsBehindFirst bytes rest
-    stands m rest found =
+    by : FirstChunk bytes → IsParted bytes (value_at bytes) (drop (padded (stated_length bytes)) bytes)
+    by (wrong why h) = let fault = each_of-fault bytes why some (chunk_at-wrong bytes why h) in let all = chunks in absurd (cc)
+    by (right s) =
+        let step = chunks_of-chunk bytes _ some (chunk_at-shaped bytes s) chunks in
+        record { head = s.whole.head; laid = s.laid; list = s.list; listed = step.1; chunks = step.0 }
+
+-- a piece of data, and what follows it
+pub data_parted : (bytes value others : List ℕ) (p : PieceMeaning) → IsParted bytes value others → slice_index bytes 0 ≡ 0 → p ≡ data_at (slice_index bytes 1) value
+    → (chunks_of bytes ≡ Data p ∷ chunks_of others) × AreChunks others
+data_parted bytes value others p parted kind read =
+    (parted.listed ∙ ap (λ (m : ChunkMeaning). m ∷ chunks_of others) (data_body (slice_index bytes 0) (slice_index bytes 1) value kind ∙ ap (λ (q : PieceMeaning). Data q) (sym read)), parted.chunks)
+
+pub i_data_parted : (bytes value others : List ℕ) (p : PieceMeaning) → IsParted bytes value others → slice_index bytes 0 ≡ 64 → p ≡ i_data_at (slice_index bytes 1) value
+    → (chunks_of bytes ≡ IData p ∷ chunks_of others) × AreChunks others
+i_data_parted bytes value others p parted kind read =
+    (parted.listed ∙ ap (λ (m : ChunkMeaning). m ∷ chunks_of others) (i_data_body (slice_index bytes 0) (slice_index bytes 1) value kind ∙ ap (λ (q : PieceMeaning). IData q) (sym read)), parted.chunks)
+
+-- what the first two bytes of chunks tell of the first one
+record IsTold (bytes : List ℕ) : Type 0 where
+  first : ChunkMeaning
+  others : List ChunkMeaning
+  listed : chunks_of bytes ≡ first ∷ others
+  kind : slice_index bytes 0 ≡ kind_of first
+  readable : IsReadable first
+  flagged : ReadsFlags (slice_index bytes 1) first
+
+told : (bytes : List ℕ) → AreBytes bytes → 0 < length bytes → AreChunks bytes → IsTold bytes
+told bytes ranged some chunks = by (first_chunk_is bytes some)
+  where
+    of : (m : ChunkMeaning) (rest : List ℕ) → chunk_at bytes ≡ Ok (m, rest) → IsTold bytes
+    of m rest found =
         let step = chunks_of-chunk bytes (m, rest) some found chunks in
         let b = begins_first bytes m rest ranged some found in
         let r = b.reads in
-        let kind : slice_index bytes 0 ≡ kind_of m = rw (b.joined, r.layout) refl in
-        record {
-          first = m;
-          listed = step.1;
-          chunks = step.0;
-          size = ap length b.joined ∙ omega (arith, length-append b.chunk rest, length-chunk b.chunk m r);
-          shorter = omega (arith, ap length b.joined, length-append b.chunk rest, chunk-some b.chunk m r);
-          alone = rw kind (alone_told m r.readable);
-          follows = rw kind (follows_told m r.readable);
-        }
+        let joined = b.joined ∙ ap (λ (xs : List ℕ). xs ++ rest) r.layout in
+        let kind : slice_index bytes 0 ≡ kind_of m = ap (λ (xs : List ℕ). slice_index xs 0) joined in
+        let flags : slice_index bytes 1 ≡ r.flags = ap (λ (xs : List ℕ). slice_index xs 1) joined in
+        record { first = m; others = chunks_of rest; listed = step.1; kind = kind; readable = r.readable; flagged = rw flags r.flagged }
 
-    by : FirstChunk bytes → IsBehindFirst bytes (drop (padded (stated_length bytes)) bytes)
+    by : FirstChunk bytes → IsTold bytes
     by (wrong why h) = let fault = each_of-fault bytes why some (chunk_at-wrong bytes why h) in let all = chunks in absurd (cc)
-    by (right s) = stands _ _ (chunk_at-shaped bytes s)
+    by (right s) = of _ _ (chunk_at-shaped bytes s)
 
--- ---- the walk
+pub init_first : (bytes : List ℕ) → AreBytes bytes → 0 < length bytes → AreChunks bytes → starts_with_init (chunks_of bytes) ≡ (slice_index bytes 0 == 1)
+init_first bytes ranged some chunks =
+    let t = told bytes ranged some chunks in rw (t.listed, t.kind) (init_told t.first t.others t.readable)
 
-pub behind_nothing : (n : ℕ) (bytes : List ℕ) → length bytes ≡ 0 → misplaced_behind n (chunks_of bytes) ≡ None
-behind_nothing n [] e = rw (chunks_of-nil [] refl) refl
-behind_nothing n (b ∷ bytes) e = absurd (omega arith)
+pub reflected_first : (bytes : List ℕ) → AreBytes bytes → 0 < length bytes → AreChunks bytes
+    → starts_reflected (chunks_of bytes) ≡ (((slice_index bytes 0 == 6) || (slice_index bytes 0 == 14)) && has_flag (slice_index bytes 1) 1)
+reflected_first bytes ranged some chunks =
+    let t = told bytes ranged some chunks in rw (t.listed, t.kind) (reflected_told t.first t.others (slice_index bytes 1) t.readable t.flagged)
 
-not_false : (t : Bool) → not t ≡ false → t ≡ true
-not_false true e = refl
-not_false false e = cc
+pub no_data_first : (bytes : List ℕ) → AreBytes bytes → 0 < length bytes → AreChunks bytes → (slice_index bytes 0 == 0) ≡ false → first_data (chunks_of bytes) ≡ None
+no_data_first bytes ranged some chunks other =
+    let t = told bytes ranged some chunks in rw t.listed (no_data t.first t.others (rw t.kind at other))
 
-not_true : (t : Bool) → not t ≡ true → t ≡ false
-not_true false e = refl
-not_true true e = cc
+pub no_i_data_first : (bytes : List ℕ) → AreBytes bytes → 0 < length bytes → AreChunks bytes → (slice_index bytes 0 == 64) ≡ false → first_i_data (chunks_of bytes) ≡ None
+no_i_data_first bytes ranged some chunks other =
+    let t = told bytes ranged some chunks in rw t.listed (no_i_data t.first t.others (rw t.kind at other))
 
-pub behind_hit : (n : ℕ) (bytes others : List ℕ) → IsBehindFirst bytes others → not (is_alone (slice_index bytes 0) || (slice_index bytes 0 == 10)) ≡ false → misplaced_behind n (chunks_of bytes) ≡ Some n
-behind_hit n bytes others b hit =
-    let never : never_follows b.first ≡ true = b.follows ∙ not_false _ hit in rw (b.listed, never) refl
+none_of : (n : ℕ) → 0 < n → (n == 0) ≡ false
+none_of n some = grind (arith, common_steps)
 
-pub behind_on : (whole : ℕ) (bytes others : List ℕ) → IsBehindFirst bytes others → length bytes ≤ whole → not (is_alone (slice_index bytes 0) || (slice_index bytes 0 == 10)) ≡ true
-    → misplaced_behind (whole - length bytes) (chunks_of bytes) ≡ misplaced_behind (whole - length others) (chunks_of others)
-behind_on whole bytes others b short passed =
-    let size = b.size in
-    let goes_on : never_follows b.first ≡ false = b.follows ∙ not_true _ passed in
-    rw (b.listed, goes_on) (ap (λ (n : ℕ). misplaced_behind n (chunks_of others)) (omega arith))
-
-pub first_nothing : (bytes : List ℕ) → length bytes ≡ 0 → first_misplaced (chunks_of bytes) ≡ None
-first_nothing [] e = rw (chunks_of-nil [] refl) refl
-first_nothing (b ∷ bytes) e = absurd (omega arith)
-
--- the first chunk alone
-pub first_only : (bytes others : List ℕ) → IsBehindFirst bytes others → length others ≡ 0 → first_misplaced (chunks_of bytes) ≡ None
-first_only bytes [] b e = rw (b.listed, chunks_of-nil [] refl) refl
-first_only bytes (o ∷ others) b e = absurd (omega arith)
-
--- bytes that are chunks hold some
-some_chunks : (bytes : List ℕ) → 0 < length bytes → AreChunks bytes → (chunks_of bytes ≢ [])
-some_chunks bytes some chunks = by (first_chunk_is bytes some)
+-- bytes that are chunks hold one where there are some
+pub some_chunks : (bytes : List ℕ) → AreChunks bytes → (length (chunks_of bytes) == 0) ≡ (length bytes == 0)
+some_chunks [] chunks = rw (chunks_of-nil [] refl) refl
+some_chunks (b ∷ bytes) chunks = by (first_chunk_is (b ∷ bytes) (omega arith))
   where
-    by : FirstChunk bytes → (chunks_of bytes ≢ [])
-    by (wrong why h) = let fault = each_of-fault bytes why some (chunk_at-wrong bytes why h) in let all = chunks in absurd (cc)
-    by (right s) = let listed = (chunks_of-chunk bytes _ some (chunk_at-shaped bytes s) chunks).1 in λ none. absurd (cc)
-
-two_or_more : (m : ChunkMeaning) (ms : List ChunkMeaning) → (ms ≢ []) → first_misplaced (m ∷ ms) ≡ (if stands_alone m then Some 0 else misplaced_behind (size_of_chunk m) ms)
-two_or_more m [] some = absurd (some refl)
-two_or_more m (next ∷ ms) some = refl
-
--- the first chunk before others
-first_of_more : (bytes others : List ℕ) (b : IsBehindFirst bytes others) → 0 < length others
-    → first_misplaced (chunks_of bytes) ≡ (if stands_alone b.first then Some 0 else misplaced_behind (length bytes - length others) (chunks_of others))
-first_of_more bytes others b some =
-    let size : size_of_chunk b.first ≡ length bytes - length others = omega (arith, b.size) in
-    ap first_misplaced b.listed ∙ two_or_more b.first (chunks_of others) (some_chunks others some b.chunks) ∙ rw size refl
-
-pub first_hit : (bytes others : List ℕ) → IsBehindFirst bytes others → 0 < length others → is_alone (slice_index bytes 0) ≡ true → first_misplaced (chunks_of bytes) ≡ Some 0
-first_hit bytes others b some hit = first_of_more bytes others b some ∙ rw (b.alone, hit) refl
-
-pub first_passed : (bytes others : List ℕ) → IsBehindFirst bytes others → 0 < length others → is_alone (slice_index bytes 0) ≡ false
-    → first_misplaced (chunks_of bytes) ≡ misplaced_behind (length bytes - length others) (chunks_of others)
-first_passed bytes others b some passed = first_of_more bytes others b some ∙ rw (b.alone, passed) refl
+    by : FirstChunk (b ∷ bytes) → (length (chunks_of (b ∷ bytes)) == 0) ≡ (length (b ∷ bytes) == 0)
+    by (wrong why h) = let fault = each_of-fault (b ∷ bytes) why (omega arith) (chunk_at-wrong (b ∷ bytes) why h) in let all = chunks in absurd (cc)
+    by (right s) =
+        let listed = (chunks_of-chunk (b ∷ bytes) _ (omega arith) (chunk_at-shaped (b ∷ bytes) s) chunks).1 in
+        ap (λ (ms : List ChunkMeaning). length ms == 0) listed ∙ none_of _ (omega arith) ∙ sym (none_of (length (b ∷ bytes)) (omega arith))

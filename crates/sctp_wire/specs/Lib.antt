@@ -10,6 +10,7 @@ pub mod TypedTree
 pub mod ChunkTree
 pub mod RuleTree
 pub mod Reading
+pub mod Starts
 pub mod inner
 pub mod UnknownLaws
 pub mod Laws

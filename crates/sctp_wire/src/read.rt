@@ -1,23 +1,24 @@
 //! Chunks from bytes: header, length, padding, body and list of each in the stated order, then where they stand
 //! (RFC 9260, 3.2).
 
-ghost use Rattle.std.specs.Prelude.{◌≡◌, ◌-◌, ◌*◌, ◌==◌, ◌||◌, not, ◌≤◌, length, true, ◌<◌, ◌^◌, MatchResult, IfOk, IfErr, List, Ok, Err};
+ghost use Rattle.std.specs.Prelude.{◌≡◌, ◌*◌, ◌==◌, ◌≤◌, length, MatchOption, MatchResult, IfOk, IfErr, List, ◌∷◌, Some, None};
 ghost use Rattle.std.specs.Iterator.{YieldsFirstBy, item_count};
 ghost use Rattle.sctp_model.specs.wire.Chunk.{ChunkMeaning};
-ghost use Rattle.sctp_model.specs.wire.Places.{first_misplaced, misplaced_behind};
-ghost use Rattle.sctp_wire.specs.ChunkTree.{chunk_meaning};
+ghost use Rattle.sctp_model.specs.wire.Chunk as meaning;
+ghost use Rattle.sctp_wire.specs.ChunkTree.{chunk_meaning, piece_meaning};
 ghost use Rattle.sctp_wire.specs.FaultTree.{offset_of};
-ghost use Rattle.sctp_wire.specs.FirstFault.{stated_length, Faults};
-ghost use Rattle.sctp_wire.specs.Reading.{frame_at, chunk_at, chunks_of, AreChunks};
-ghost use Rattle.sctp_wire.specs.inner.Frame.{IsWhole};
+ghost use Rattle.sctp_wire.specs.FirstFault.{Faults};
 ghost use Rattle.sctp_wire.specs.Reads.{Reads};
-ghost use Rattle.sctp_wire.specs.inner.Standing.{is_alone, IsBehindFirst};
+ghost use Rattle.sctp_wire.specs.Starts.{first_data, first_i_data, starts_with_init, starts_reflected};
 
-use crate::body::{has_layout, has_list, read_value};
+use crate::body::read_value;
 use crate::chunk::Chunk;
-use crate::codes::{COOKIE_ECHO, INIT, INIT_ACK, SHUTDOWN_COMPLETE};
-use crate::fault::{Reason, WireFault};
-use crate::numbers::{padded, read_u16};
+use crate::chunks::piece::Piece;
+use crate::fault::WireFault;
+use crate::first::{
+    behind_first, parted, split_data, split_i_data, starts_reflected, starts_with_init,
+};
+use crate::places::found_by;
 use std::marker::Model;
 
 /// The chunks that are still to come.
@@ -40,11 +41,60 @@ impl<'a> Model for Chunks<'a> {
 }
 
 impl<'a> Chunks<'a> {
+    /// Whether none is left.
+    pub fn is_empty(&self) -> bool
+        ensures { result ≡ (length self.now == 0) }
+    {
+        self.rest.is_empty()
+    }
+
+    /// Whether the first one is an INIT.
+    pub fn starts_with_init(&self) -> bool
+        ensures { result ≡ starts_with_init self.now }
+    {
+        starts_with_init(self.rest)
+    }
+
+    /// Whether the first one is an ABORT or a SHUTDOWN COMPLETE with the flag T (RFC 9260, 8.5.1).
+    pub fn starts_reflected(&self) -> bool
+        ensures { result ≡ starts_reflected self.now }
+    {
+        starts_reflected(self.rest)
+    }
+
     /// The same chunks once more: whoever looks for one of them first can still go over all.
     pub fn again(&self) -> Chunks<'a>
         ensures { result ≡ self.now }
     {
         Chunks { rest: self.rest }
+    }
+
+    /// Takes the first one where it is a DATA; else it is left.
+    pub fn next_data(&mut self) -> Option<Piece<'a>>
+        ensures { MatchOption result ((self.new ≡ self.old) × (first_data self.old ≡ None))
+            (λ piece. self.old ≡ meaning.Data (piece_meaning piece) ∷ self.new) }
+    {
+        match split_data(self.rest) {
+            Some((piece, behind)) => {
+                self.rest = behind;
+                Some(piece)
+            }
+            None => None,
+        }
+    }
+
+    /// Takes the first one where it is an I-DATA; else it is left.
+    pub fn next_i_data(&mut self) -> Option<Piece<'a>>
+        ensures { MatchOption result ((self.new ≡ self.old) × (first_i_data self.old ≡ None))
+            (λ piece. self.old ≡ meaning.IData (piece_meaning piece) ∷ self.new) }
+    {
+        match split_i_data(self.rest) {
+            Some((piece, behind)) => {
+                self.rest = behind;
+                Some(piece)
+            }
+            None => None,
+        }
     }
 }
 
@@ -59,13 +109,10 @@ impl<'a> Iterator for Chunks<'a> {
         if self.rest.is_empty() {
             return None;
         }
-        match first_chunk(self.rest) {
-            Ok((chunk, rest)) => {
-                self.rest = rest;
-                Some(chunk)
-            }
-            Err(_) => unreachable!(),
-        }
+        let (value, behind) = parted(self.rest);
+        let chunk = read_value(self.rest[0], self.rest[1], value);
+        self.rest = behind;
+        Some(chunk)
     }
 }
 
@@ -89,115 +136,19 @@ pub fn read_chunks(bytes: &[u8]) -> Result<Chunks<'_>, WireFault>
         → MatchResult result (λ _. ⊥) (λ fault. fault ≡ f) }
 {
     let mut rest = bytes;
+    let mut misplaced = None;
     while !rest.is_empty() {
-        match first_chunk(rest) {
-            Ok((_, after)) => rest = after,
-            Err(reason) => return Err(reason.at(bytes.len() - rest.len())),
+        let before = bytes.len() - rest.len();
+        match behind_first(rest) {
+            Ok(behind) => {
+                misplaced = found_by(misplaced, rest[0], before, behind.len());
+                rest = behind;
+            }
+            Err(reason) => return Err(reason.at(before)),
         }
     }
-    match misplaced(bytes) {
+    match misplaced {
         Some(offset) => Err(WireFault::NotAlone { offset }),
         None => Ok(Chunks { rest: bytes }),
     }
-}
-
-/// Where the first misplaced one of whole chunks begins: the first one, where it stands alone and others follow; else
-/// one that follows and never does.
-fn misplaced(chunks: &[u8]) -> Option<usize>
-    requires { AreChunks chunks.now }
-    ensures { result ≡ first_misplaced (chunks_of chunks.now) }
-{
-    if chunks.is_empty() {
-        return None;
-    }
-    let behind = behind_first(chunks);
-    if behind.is_empty() {
-        return None;
-    }
-    if stands_alone(chunks[0]) {
-        return Some(0);
-    }
-    misplaced_behind(chunks.len(), behind)
-}
-
-/// Of the chunks that end bytes, so many in all, where the first begins that never follows another one.
-fn misplaced_behind(whole: usize, chunks: &[u8]) -> Option<usize>
-    requires chunks { AreChunks chunks.now }
-    requires within { length chunks.now ≤ whole }
-    ensures { result ≡ misplaced_behind (whole - length chunks.now) (chunks_of chunks.now) }
-{
-    let mut rest = chunks;
-    while !rest.is_empty() {
-        let others = behind_first(rest);
-        if !may_follow(rest[0]) {
-            return Some(whole - rest.len());
-        }
-        rest = others;
-    }
-    None
-}
-
-/// Whether a chunk of this type has a packet of its own.
-fn stands_alone(kind: u8) -> bool
-    ensures { result ≡ is_alone kind }
-{
-    matches!(kind, INIT | INIT_ACK | SHUTDOWN_COMPLETE)
-}
-
-/// Whether a chunk of this type may stand behind another one.
-fn may_follow(kind: u8) -> bool
-    ensures { result ≡ not (is_alone kind || (kind == COOKIE_ECHO)) }
-{
-    !stands_alone(kind) && kind != COOKIE_ECHO
-}
-
-/// What stands behind the first of whole chunks.
-fn behind_first(chunks: &[u8]) -> &[u8]
-    requires some { 0 < length chunks.now }
-    requires chunks { AreChunks chunks.now }
-    ensures { IsBehindFirst chunks.now result.now }
-{
-    let size = usize::from(read_u16(&chunks[2..]));
-    &chunks[padded(size)..]
-}
-
-/// The first chunk and what follows it, or what is wrong with it.
-#[tactic(auto, unfolding(crate::specs::Reading::chunk_at))]
-fn first_chunk(bytes: &[u8]) -> Result<(Chunk<'_>, &[u8]), Reason>
-    ensures { MatchResult result (λ found. chunk_at bytes.now ≡ Ok (chunk_meaning found.0, found.1.now))
-        (λ reason. chunk_at bytes.now ≡ Err reason) }
-{
-    let size = frame(bytes)?;
-    let value = &bytes[4..size];
-    if !has_layout(bytes[0], value) {
-        return Err(Reason::HasOtherBody);
-    }
-    if !has_list(bytes[0], value) {
-        return Err(Reason::HasNoList);
-    }
-    let chunk = read_value(bytes[0], bytes[1], value);
-    Ok((chunk, &bytes[padded(size)..]))
-}
-
-/// The length field of the first chunk, where the header, the length and the padding are right.
-#[tactic(auto, unfolding(crate::specs::Reading::frame_at))]
-fn frame(bytes: &[u8]) -> Result<usize, Reason>
-    ensures exact { result ≡ frame_at bytes.now }
-    ensures whole { IfOk result
-        (λ size. IsWhole bytes.now × (size ≡ stated_length bytes.now) × (size < 2 ^ 16)) }
-{
-    if bytes.len() < 4 {
-        return Err(Reason::IsCut);
-    }
-    let size = usize::from(read_u16(&bytes[2..]));
-    if size < 4 {
-        return Err(Reason::HasShortLength);
-    }
-    if bytes.len() < size {
-        return Err(Reason::IsCut);
-    }
-    if bytes.len() < padded(size) {
-        return Err(Reason::LacksPadding);
-    }
-    Ok(size)
 }

@@ -3,8 +3,8 @@ use Rattle.std.proofs.lemmas.Grind.{common_steps}
 use Rattle.std.proofs.lemmas.List.{take_rest}
 use Rattle.sctp_model.specs.wire.Chunk.{padded}
 use Rattle.sctp_wire.specs.FirstFault.{stated_length}
-use Rattle.sctp_wire.proofs.StandingLemmas.{whole_first, behind_is}
-use Rattle.sctp_wire.proofs.read.behind_first.Goals as goal
+use Rattle.sctp_wire.proofs.StandingLemmas.{whole_first, parted_is}
+use Rattle.sctp_wire.proofs.first.parted.Goals as goal
 
 pub slice_bounds-read_u16-count : goal.slice_bounds-read_u16-count
 slice_bounds-read_u16-count c =
@@ -29,4 +29,17 @@ slice_bounds-result-start c =
 pub returns : goal.returns
 returns c =
     let here : c.padded.result ≡ padded (stated_length c.args.chunks.now) = grind (arith, common_steps) in
-    rw (take_rest c.args.chunks.now c.padded.result, here) (behind_is c.args.chunks.now (λ i. omega (arith, c.type_inv.chunks i)) c.requires.some c.requires.chunks)
+    let size : c.from-size.result ≡ stated_length c.args.chunks.now = grind (arith, common_steps) in
+    rw (take_rest c.args.chunks.now c.padded.result, here, size) (parted_is c.args.chunks.now c.requires.some c.requires.chunks)
+
+pub slice_bounds-result-end : goal.slice_bounds-result-end
+slice_bounds-result-end c =
+    let whole = whole_first c.args.chunks.now c.requires.some c.requires.chunks in grind (arith, common_steps)
+
+pub slice_bounds-result-count-2 : goal.slice_bounds-result-count-2
+slice_bounds-result-count-2 c =
+    let whole = whole_first c.args.chunks.now c.requires.some c.requires.chunks in grind (arith, common_steps)
+
+pub slice_bounds-result-start-2 : goal.slice_bounds-result-start-2
+slice_bounds-result-start-2 c =
+    let whole = whole_first c.args.chunks.now c.requires.some c.requires.chunks in grind (arith, common_steps)

@@ -1,0 +1,137 @@
+//! The first chunk of bytes: what is tested of it, and how it is parted from what follows (RFC 9260, 3.2).
+
+ghost use Rattle.std.specs.Prelude.{◌≡◌, ◌==◌, ◌||◌, ◌<◌, ◌^◌, ◌∷◌, length, MatchOption, MatchResult, IfOk, None, Ok, Err};
+ghost use Rattle.sctp_model.specs.wire.Chunk as meaning;
+ghost use Rattle.sctp_wire.specs.ChunkTree.{piece_meaning};
+ghost use Rattle.sctp_wire.specs.FirstFault.{stated_length};
+ghost use Rattle.sctp_wire.specs.Reading.{frame_at, chunk_at, AreChunks, chunks_of};
+ghost use Rattle.sctp_wire.specs.Starts.{first_data, first_i_data, starts_with_init, starts_reflected};
+ghost use Rattle.sctp_wire.specs.inner.Frame.{IsWhole};
+ghost use Rattle.sctp_wire.specs.inner.Standing.{first_of, IsParted};
+
+use crate::body::{has_layout, has_list};
+use crate::chunks::flags::is_set;
+use crate::chunks::i_data::read_i_data;
+use crate::chunks::piece::Piece;
+use crate::chunks::user_data::read_data;
+use crate::codes::{ABORT, DATA, I_DATA, INIT, REFLECTED, SHUTDOWN_COMPLETE};
+use crate::fault::Reason;
+use crate::numbers::{padded, read_u16};
+
+/// What follows the first chunk, or what is wrong with it.
+#[tactic(auto, unfolding(crate::specs::Reading::chunk_at))]
+pub fn behind_first(bytes: &[u8]) -> Result<&[u8], Reason>
+    ensures { MatchResult result (λ behind. chunk_at bytes.now ≡ Ok (first_of bytes.now, behind.now))
+        (λ reason. chunk_at bytes.now ≡ Err reason) }
+{
+    let size = frame(bytes)?;
+    let value = &bytes[4..size];
+    if !has_layout(bytes[0], value) {
+        return Err(Reason::HasOtherBody);
+    }
+    if !has_list(bytes[0], value) {
+        return Err(Reason::HasNoList);
+    }
+    Ok(&bytes[padded(size)..])
+}
+
+/// The value of the first of whole chunks, and what follows this one.
+pub fn parted(chunks: &[u8]) -> (&[u8], &[u8])
+    requires some { 0 < length chunks.now }
+    requires chunks { AreChunks chunks.now }
+    ensures { IsParted chunks.now result.0.now result.1.now }
+{
+    let size = usize::from(read_u16(&chunks[2..]));
+    (&chunks[4..size], &chunks[padded(size)..])
+}
+
+/// Whether the first of whole chunks is an INIT.
+pub fn starts_with_init(chunks: &[u8]) -> bool
+    requires { AreChunks chunks.now }
+    ensures { result ≡ starts_with_init (chunks_of chunks.now) }
+{
+    if chunks.is_empty() {
+        return false;
+    }
+    chunks[0] == INIT
+}
+
+/// Whether the first of whole chunks is an ABORT or a SHUTDOWN COMPLETE with the flag T.
+pub fn starts_reflected(chunks: &[u8]) -> bool
+    requires { AreChunks chunks.now }
+    ensures { result ≡ starts_reflected (chunks_of chunks.now) }
+{
+    if chunks.is_empty() {
+        return false;
+    }
+    if has_reflected(chunks[0]) {
+        return is_set(chunks[1], REFLECTED);
+    }
+    false
+}
+
+/// Whether the chunks of a type have the flag T.
+fn has_reflected(kind: u8) -> bool
+    ensures { result ≡ ((kind == ABORT) || (kind == SHUTDOWN_COMPLETE)) }
+{
+    kind == ABORT || kind == SHUTDOWN_COMPLETE
+}
+
+/// The first of whole chunks and what follows it, where it is a DATA.
+pub fn split_data(chunks: &[u8]) -> Option<(Piece<'_>, &[u8])>
+    requires { AreChunks chunks.now }
+    ensures { MatchOption result (first_data (chunks_of chunks.now) ≡ None)
+        (λ found. (chunks_of chunks.now ≡ meaning.Data (piece_meaning found.0) ∷ chunks_of found.1.now)
+        × AreChunks found.1.now) }
+{
+    if chunks.is_empty() {
+        return None;
+    }
+    if chunks[0] != DATA {
+        return None;
+    }
+    let (value, behind) = parted(chunks);
+    let piece = read_data(chunks[1], value);
+    Some((piece, behind))
+}
+
+/// The first of whole chunks and what follows it, where it is an I-DATA.
+pub fn split_i_data(chunks: &[u8]) -> Option<(Piece<'_>, &[u8])>
+    requires { AreChunks chunks.now }
+    ensures { MatchOption result (first_i_data (chunks_of chunks.now) ≡ None)
+        (λ found. (chunks_of chunks.now ≡ meaning.IData (piece_meaning found.0) ∷ chunks_of found.1.now)
+        × AreChunks found.1.now) }
+{
+    if chunks.is_empty() {
+        return None;
+    }
+    if chunks[0] != I_DATA {
+        return None;
+    }
+    let (value, behind) = parted(chunks);
+    let piece = read_i_data(chunks[1], value);
+    Some((piece, behind))
+}
+
+/// The length field of the first chunk, where the header, the length and the padding are right.
+#[tactic(auto, unfolding(crate::specs::Reading::frame_at))]
+fn frame(bytes: &[u8]) -> Result<usize, Reason>
+    ensures exact { result ≡ frame_at bytes.now }
+    ensures whole { IfOk result
+        (λ size. IsWhole bytes.now × (size ≡ stated_length bytes.now) × (size < 2 ^ 16)) }
+{
+    if bytes.len() < 4 {
+        return Err(Reason::IsCut);
+    }
+    let size = usize::from(read_u16(&bytes[2..]));
+    if size < 4 {
+        return Err(Reason::HasShortLength);
+    }
+    if bytes.len() < size {
+        return Err(Reason::IsCut);
+    }
+    if bytes.len() < padded(size) {
+        return Err(Reason::LacksPadding);
+    }
+    Ok(size)
+}
