@@ -28,6 +28,7 @@ COMMANDS = {
     b'next': (),
     b'state': (),
     b'held': (),
+    b'status': (),
 }
 
 
@@ -68,6 +69,19 @@ def end_of(words):
         return None
     config = Config(own_port, peer_port, limit, fragment, buffer, streams, *MODES[mode.encode()], *options)
     return Endpoint(config, *keys)
+
+
+def status_of(endpoint):
+    """What an end tells of itself on one line."""
+    moment = endpoint.next_moment()
+    words = ['status', endpoint.state, endpoint.ended or '-', '-' if moment is None else moment]
+    sender, receiver = endpoint.sender, endpoint.receiver
+    if sender is None:
+        return ' '.join(map(str, words + ['-'] * 3 + [0] * 5))
+    formats = {on: name for name, on in MODES.items()}[bool(endpoint.partial), bool(endpoint.interleave)]
+    queued = [len(message.data) for message in sender.queue]
+    return ' '.join(map(str, words + [sender.streams, receiver.streams, formats.decode(), sender.outstanding(),
+                                      len(queued), sum(queued), receiver.held, sender.rwnd]))
 
 
 class Session:
@@ -161,6 +175,9 @@ class Session:
 
     def held(self):
         return 'held %d' % (self.endpoint.receiver.held if self.endpoint.receiver is not None else 0)
+
+    def status(self):
+        return status_of(self.endpoint)
 
 
 def main():

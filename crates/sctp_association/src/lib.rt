@@ -3,6 +3,7 @@
 #![tactic(auto)]
 
 mod abort;
+mod agreed;
 mod answering;
 mod building;
 mod calls;
@@ -27,9 +28,11 @@ mod replying;
 mod reporting;
 mod sending;
 mod stage;
+mod status;
 mod timers;
 mod traffic;
 
+pub use agreed::Agreed;
 pub use building::Built;
 pub use calls::Refused;
 pub use carried::{EchoedCookie, HeartbeatInfo, WaitingCauses};

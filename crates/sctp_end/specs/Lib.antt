@@ -1,7 +1,9 @@
 pub mod Fields
 pub mod Commands
 pub mod Grammar
+pub mod StatusText
 pub mod ReplyText
+pub mod Telling
 pub mod Performing
 pub mod SessionStands
 pub mod Answering

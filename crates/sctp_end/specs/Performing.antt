@@ -24,6 +24,8 @@ use Rattle.sctp_packet.specs.PacketBytes.{WritesPacket}
 use Rattle.sctp_send.specs.declared.abandon.Abandoned.{Abandoned as Fates}
 use Rattle.sctp_send.specs.SenderAnswers.{answer_meaning}
 use Rattle.sctp_endpoint.specs.Handled.{IsRead}
+use Rattle.sctp_end.specs.Telling.{IsStatus}
+use Rattle.sctp_end.specs.declared.status.Status.{Status}
 use Rattle.sctp_end.specs.declared.call.Call.{Call}
 use Rattle.sctp_end.specs.declared.call.Call.TheVariants as call
 use Rattle.sctp_end.specs.declared.reply.Refusal.TheVariants.{NotIdle, NoSuchStream, Empty, TooLong, QueueFull, Spent, NotEstablished, NotOpen, NoPeer, ReasonTooLong}
@@ -126,5 +128,6 @@ pub data Performs (s : Standing) : Call → Reply → Standing → Type 0 where
   TellsNext : (m : Option ℕ) → m ≡ next_moment s.view → Performs s call.Next (reply.Next m) s
   TellsState : (x : State) (y : Option End) → state_meaning x ≡ state_of s.view.phase → option_map end_meaning y ≡ ended_of s.view.phase →
       Performs s call.State (reply.Stands x y) s
+  TellsStatus : (x : Status) → IsStatus s.view x → Performs s call.Status (reply.Status x) s
   TellsHeld : (n : ℕ) → n ≡ held_bytes s.view.receiver → Performs s call.Held (reply.Held n) s
   WantsMemory : (c : Call) → may_want c ≡ true → Performs s c reply.NoMemory s

@@ -5,6 +5,7 @@ use Rattle.sctp_terms.specs.Meanings.{reason_code, state_meaning, end_meaning}
 use Rattle.sctp_values.specs.Meanings.{kind_meaning}
 use Rattle.sctp_end.specs.declared.reply.Refusal.{Refusal}
 use Rattle.sctp_end.specs.declared.reply.Refusal.TheVariants.{NotIdle, NoSuchStream, Empty, TooLong, QueueFull, Spent, NotEstablished, NotOpen, NoPeer, ReasonTooLong}
+use Rattle.sctp_end.specs.StatusText.{status_words}
 use Rattle.sctp_end.specs.declared.reply.Reply.{Reply}
 use Rattle.sctp_end.specs.declared.reply.Reply.TheVariants as reply
 use Rattle.sctp_text.specs.Numerals.{hex_word}
@@ -48,6 +49,7 @@ reply_words (reply.Empty stream) = codes "empty" ∷ decimal stream ∷ []
 reply_words (reply.Next moment) = codes "next" ∷ number_word moment ∷ []
 reply_words (reply.Stands state ended) = codes "state" ∷ state_word (state_meaning state) ∷ end_word (option_map end_meaning ended) ∷ []
 reply_words (reply.Held n) = codes "held" ∷ decimal n ∷ []
+reply_words (reply.Status x) = status_words x
 reply_words (reply.Fault fault) = codes "fault" ∷ decimal (kind_of fault) ∷ []
 reply_words reply.NoMemory = codes "memory" ∷ []
 

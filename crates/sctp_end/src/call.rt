@@ -51,4 +51,6 @@ pub enum Call {
     State,
     /// `held`: how many bytes wait for its user.
     Held,
+    /// `status`: all of these, what both ends agreed on, and what waits to go out.
+    Status,
 }

@@ -21,6 +21,7 @@ pub enum Command {
     Next,
     State,
     Held,
+    Status,
 }
 
 impl Command {
@@ -44,6 +45,7 @@ impl Command {
             b"next" => Some(Command::Next),
             b"state" => Some(Command::State),
             b"held" => Some(Command::Held),
+            b"status" => Some(Command::Status),
             _ => None,
         }
     }
@@ -62,8 +64,12 @@ impl Command {
             | Command::Abandoned
             | Command::Take
             | Command::Abort => 1,
-            Command::Build | Command::Shutdown | Command::Next | Command::State | Command::Held =>
-                0,
+            Command::Build
+            | Command::Shutdown
+            | Command::Next
+            | Command::State
+            | Command::Held
+            | Command::Status => 0,
         }
     }
 }

@@ -12,6 +12,8 @@ mod reply_line;
 mod run;
 mod session;
 mod set_up;
+mod status;
+mod status_line;
 
 pub use call::Call;
 pub use command_line::{DONE, FAILED, USAGE, WRONG_WORDS, exit_statuses, run_words};
@@ -20,3 +22,4 @@ pub use reply::{Refusal, Reply};
 pub use reply_line::put_reply;
 pub use sctp_text::{FromRead, ToWrite};
 pub use sctp_words::{LineError, LineFault};
+pub use status::Status;

@@ -64,5 +64,6 @@ fn read_call(alloc: Global, command: Command, words: Words<'_>) -> Result<Option
         Command::Next => Ok(Some(Call::Next)),
         Command::State => Ok(Some(Call::State)),
         Command::Held => Ok(Some(Call::Held)),
+        Command::Status => Ok(Some(Call::Status)),
     }
 }

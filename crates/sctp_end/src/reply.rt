@@ -1,5 +1,6 @@
 //! What an end answers to a line: one case for each answer line.
 
+use crate::status::Status;
 use sctp_send::Abandoned;
 use sctp_terms::{End, Reason, State};
 use sctp_text::Bytes;
@@ -75,6 +76,8 @@ pub enum Reply {
     },
     /// `held N`
     Held(u32),
+    /// `status STATE WHY NEXT OUTBOUND INBOUND FORMATS OUTSTANDING QUEUED BYTES HELD WINDOW`
+    Status(Status),
     /// `fault K`: the line asks for nothing.
     Fault(LineFault),
     /// `memory`: memory ran out.

@@ -10,6 +10,7 @@ ghost use Rattle.sctp_text.specs.SpacedWords.{line_of};
 ghost use Rattle.sctp_text.specs.WrittenWords.{text_of};
 
 use crate::reply::Reply;
+use crate::status_line::put_status;
 use sctp_text::{Bytes, Word};
 use sctp_values::{Kind, NoMemory};
 use sctp_words::{end_word, kind_word, number_word, put_line, state_word};
@@ -45,6 +46,7 @@ pub fn put_reply(reply: &Reply, out: &mut Vec<u8>) -> Result<(), NoMemory>
         Reply::Stands { state, ended } => {
             put_words(b"state", &[state_word(*state), end_word(*ended)], out)
         }
+        Reply::Status(status) => put_status(status, out),
         Reply::Held(bytes) => put_number(b"held", u64::from(*bytes), out),
         Reply::Fault(fault) => put_number(b"fault", u64::from(fault.kind()), out),
         Reply::NoMemory => put_words(b"memory", &[], out),

@@ -13,6 +13,7 @@ ghost use Rattle.sctp_end.specs.SessionStands.{Performed};
 use crate::call::Call;
 use crate::replies::{abort_refused, send_refused};
 use crate::reply::{Refusal, Reply};
+use crate::status::Status;
 use sctp_endpoint::{
     ConnectFault, Draw, Endpoint, Sent, ShutdownFault, Ticket, Verdict, one_packet,
 };
@@ -59,6 +60,7 @@ impl Session {
                 ended: self.endpoint.ended(),
             },
             Call::Held => Reply::Held(self.endpoint.held_bytes()),
+            Call::Status => self.status(),
         }
     }
 
@@ -191,6 +193,23 @@ impl Session {
             payload_id: message.payload_id,
             bytes: Bytes::new(bytes),
         }))
+    }
+
+    /// `status`
+    fn status(&self) -> Reply
+        ensures { Performed self.now call.Status result self.now }
+    {
+        Reply::Status(Status {
+            state: self.endpoint.state(),
+            ended: self.endpoint.ended(),
+            next: self.endpoint.next_moment(),
+            agreed: self.endpoint.agreed(),
+            outstanding: self.endpoint.outstanding(),
+            queued: self.endpoint.queued(),
+            queued_bytes: self.endpoint.queued_bytes(),
+            held: self.endpoint.held_bytes(),
+            window: self.endpoint.peer_window(),
+        })
     }
 
     /// `shutdown`

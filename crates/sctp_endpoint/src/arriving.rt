@@ -27,7 +27,10 @@ use sctp_wire::Chunks;
 #[tactic(auto, unfolding(crate::specs::EndpointStands::EndpointStands))]
 impl Endpoint {
     /// Takes a packet that came, without what carried it: its bytes from the common header on. `now` is this moment, in milliseconds; one
-    /// before the latest counts as that one. The draw is a fresh one, for an INIT: what a listener answers with, and forgets.
+    /// before the latest counts as that one.
+    ///
+    /// The draw counts only where an INIT comes to a listener without an association, which answers with it and forgets it: any other packet
+    /// leaves it unread. Who can't tell gives a fresh one with each packet, since nobody may guess the tag.
     ///
     /// The verdict says whether it acted. An answer is a packet to send at once, within the packet limit; whatever else the end has to say comes from
     /// `poll_transmit`. Messages that became whole wait for `take`. A packet that is dropped, whatever for, changes nothing but the moment; nor

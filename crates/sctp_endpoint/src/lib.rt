@@ -22,7 +22,7 @@ mod transmit;
 pub use after::Verdict;
 pub use endpoint::Endpoint;
 pub use laws::{chunk_types, one_packet, written_packet_reads};
-pub use sctp_association::Refused;
+pub use sctp_association::{Agreed, Refused};
 pub use sctp_cookie::Key;
 pub use sctp_recv::Message;
 pub use sctp_send::{Abandoned, SendFault};

@@ -1,19 +1,23 @@
 //! What an end tells of itself. None of these calls changes anything or takes memory.
 
-ghost use Rattle.std.specs.Prelude.{◌≡◌, ◌≤◌, Some, None, MatchOption, option_map, slice_get};
+ghost use Rattle.std.specs.Prelude.{◌≡◌, ◌≤◌, ◌*◌, Some, None, MatchOption, option_map, slice_get, length};
 ghost use Rattle.sctp_model.specs.sender.Readers.{outstanding, acknowledged, abandoned};
-ghost use Rattle.sctp_model.specs.numbers.Limits.{WINDOW};
+ghost use Rattle.sctp_model.specs.numbers.Limits.{WINDOW, QUEUE_LIMIT, LONGEST_MESSAGE};
 ghost use Rattle.sctp_model.specs.sender.Abandoning.{has_late};
 ghost use Rattle.sctp_model.specs.receiver.ReceiverView.{held_bytes};
 ghost use Rattle.sctp_model.specs.end.EndView.{EndView, state_of, ended_of};
 ghost use Rattle.sctp_model.specs.end.Moments.{next_moment};
 ghost use Rattle.sctp_terms.specs.Meanings.{end_meaning, state_meaning};
 ghost use Rattle.sctp_send.specs.SenderAnswers.{next_late};
+ghost use Rattle.sctp_send.specs.Waiting.{queued_bytes};
 ghost use Rattle.sctp_recv.specs.HandedOf.{handed_of};
+ghost use Rattle.sctp_recv.specs.Readable.{ReadableAnswer};
+ghost use Rattle.sctp_association.specs.Agreeing.{AgreedAnswer};
 ghost use Rattle.sctp_outcomes.specs.Kept.{IsSound};
 ghost use Rattle.sctp_endpoint.specs.EndpointStands.{EndpointStands};
 
 use crate::endpoint::Endpoint;
+use sctp_association::Agreed;
 use sctp_recv::Message;
 use sctp_terms::{Config, End, State};
 use sctp_values::Ticket;
@@ -137,6 +141,47 @@ impl Endpoint {
         ensures bound { (v : EndView) → EndpointStands self.now v → outstanding v.sender ≤ WINDOW }
     {
         self.machine.outstanding()
+    }
+
+    /// How many messages wait to go out: accepted by `send`, and nothing of them has a TSN yet (RFC 9260, 6.1). None before an association, and
+    /// at most 1,024: with as many `send` refuses.
+    pub fn queued(&self) -> usize
+        ensures count { (v : EndView) → EndpointStands self.now v → result ≡ length v.sender.queue }
+        ensures bound { (v : EndView) → EndpointStands self.now v → result ≤ QUEUE_LIMIT }
+    {
+        self.machine.queued()
+    }
+
+    /// The bytes of these messages, at most 65,536 of each.
+    pub fn queued_bytes(&self) -> u64
+        ensures bytes { (v : EndView) → EndpointStands self.now v → result ≡ queued_bytes v.sender }
+        ensures bound { (v : EndView) → EndpointStands self.now v → result ≤ QUEUE_LIMIT * LONGEST_MESSAGE }
+    {
+        self.machine.queued_bytes()
+    }
+
+    /// The peer's receiver window in bytes, as it last advertised it: 0 before an association. What is in flight is not taken off (RFC 9260,
+    /// 3.3.2 and 3.3.4).
+    pub fn peer_window(&self) -> u32
+        ensures { (v : EndView) → EndpointStands self.now v → result ≡ v.sender.rwnd }
+    {
+        self.machine.peer_window()
+    }
+
+    /// The first stream from one on, on which a message waits for `take`: None exactly where none waits from there on, as before an
+    /// association. Who asks again behind each answer, and from 0 after None, goes round all streams. It costs a look at some words of bits.
+    pub fn readable(&self, from: u16) -> Option<u16>
+        ensures { (v : EndView) → EndpointStands self.now v → ReadableAnswer v.receiver.waiting from result }
+    {
+        self.machine.readable(from)
+    }
+
+    /// The streams of each way and the formats that both ends agreed on, also once the association is over: None exactly where no stream is
+    /// agreed on, as before an association (RFC 9260, 5.1.1; RFC 8260, 2.2.1; RFC 3758, 3.3).
+    pub fn agreed(&self) -> Option<Agreed>
+        ensures { (v : EndView) → EndpointStands self.now v → AgreedAnswer v.terms result }
+    {
+        self.machine.agreed()
     }
 
     /// Every view that it stands for is sound: before an association sender and receiver are as they are made; the receive buffer is the one

@@ -26,6 +26,8 @@ mod SeenLemmas
 mod PartLemmas
 mod WireLemmas
 mod StreamLemmas
+mod BitLemmas
+mod ShownLemmas
 mod BlockLemmas
 mod GapLemmas
 mod ReceiverSteps

@@ -1,5 +1,6 @@
 -- The data of fragments, with one fragment more.
-use Rattle.std.proofs.Common.{◌≡◌, ℕ, zero, suc, ◌+◌, ◌<◌, ◌≤◌, List, [], ◌∷◌, ◌++◌, length, get_or, take, refl, sym, ◌∙◌, ap, append_assoc, add-one, length-append, arith}
+use Rattle.std.proofs.Common.{◌≡◌, ℕ, zero, suc, ◌+◌, ◌<◌, ◌≤◌, List, [], ◌∷◌, ◌++◌, length, get_or, take, drop, refl, sym, ◌∙◌, ap, append_assoc, add-one, length-append, arith}
+use Rattle.std.proofs.lemmas.List.{drop-drop}
 use Rattle.std.specs.declared.vec.Vec.{Vec}
 use Rattle.std.specs.declared.alloc.Global.{Global}
 use Rattle.sctp_recv.specs.Parts.{text_of_parts}
@@ -24,5 +25,16 @@ text_within [] zero = omega arith
 text_within [] (suc i) = omega arith
 text_within (p ∷ ps) zero = omega arith
 text_within (p ∷ ps) (suc i) = omega (arith, text_within ps i, length-append p.items (text_of_parts (take i ps)), length-append p.items (text_of_parts ps))
+
+-- all parts are the text
+pub text_all : (ps : List (Vec ℕ Global)) (i : ℕ) → length ps ≤ i → text_of_parts (take i ps) ≡ text_of_parts ps
+text_all [] zero le = refl
+text_all [] (suc i) le = refl
+text_all (p ∷ ps) zero le = absurd (omega arith)
+text_all (p ∷ ps) (suc i) le = ap (λ (bs : List ℕ). p.items ++ bs) (text_all ps i (omega arith))
+
+-- what is the same behind a place is so further on
+pub drop_further : (n m : ℕ) (xs ys : List ℕ) → drop n xs ≡ drop n ys → drop (n + m) xs ≡ drop (n + m) ys
+drop_further n m xs ys same = sym (drop-drop m n xs) ∙ ap (λ (zs : List ℕ). drop m zs) same ∙ drop-drop m n ys
 
 pub ruleset texts = (text_more, length_more)

@@ -9,6 +9,7 @@ pub mod Fields
 pub mod KeptOf
 pub mod Lows
 pub mod Filed
+pub mod Readable
 pub mod StandsFor
 pub mod SackOf
 pub mod Laws

@@ -13,6 +13,7 @@ use Rattle.sctp_recv.specs.SeenStands.{SeenStands}
 use Rattle.sctp_recv.specs.KeptOf.{kept_of}
 use Rattle.sctp_recv.specs.Filed.{AreFiled}
 use Rattle.sctp_recv.specs.Lows.{IsMarked}
+use Rattle.sctp_recv.specs.inner.Bits.{IsShown}
 use Rattle.sctp_recv.specs.declared.places.Lows.{Lows}
 use Rattle.sctp_recv.specs.declared.receiver.Receiver.{Receiver}
 
@@ -53,6 +54,6 @@ IsFindable Interleaved lows skip x = is_skipped x.number skip ≡ false
 abbrev pub AreFindable : Format → ReceiverView → Lows → Type 0
 AreFindable f v lows = (is_numbered f Unordered ≡ false → v.streams ≤ lows.count) × ((x : Piece) → Has v.kept x → x.lane.kind ≡ Unordered → IsFindable f lows (v.skip x.lane) x)
 
--- the receiver stands for this view, which is at rest
+-- the receiver stands for this view, which is at rest, and shows on which streams something waits
 unfoldable pub StandsFor : {F : Type 0} → Format → Receiver F → ReceiverView → Type 0
-StandsFor f r v = KeepsView f (kept_of r) v × (AreFiled f v.kept r.streams.items × (IsAtRest f v × AreFindable f v r.lows))
+StandsFor f r v = KeepsView f (kept_of r) v × (AreFiled f v.kept r.streams.items × (IsAtRest f v × (AreFindable f v r.lows × IsShown r.ready.words.items v.waiting v.streams)))

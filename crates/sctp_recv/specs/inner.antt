@@ -2,3 +2,4 @@ pub mod Giving
 pub mod Rows
 pub mod Forwarding
 pub mod Places
+pub mod Bits

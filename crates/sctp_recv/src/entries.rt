@@ -3,6 +3,7 @@
 ghost use Rattle.std.specs.Prelude.{◌≡◌, nat_lt, nat_le, map, IfOk};
 ghost use Rattle.std.specs.List.Sorted.{IsPermutation};
 ghost use Rattle.sctp_model.specs.messages.Format.{same_lane};
+ghost use Rattle.sctp_model.specs.receiver.ForwardTaken.{names_other_stream};
 ghost use Rattle.sctp_model.specs.receiver.Reading.{lane_of};
 ghost use Rattle.sctp_wire.specs.ChunkTree.{skip_meaning};
 ghost use Rattle.sctp_recv.specs.Fields.{lane_at};
@@ -12,6 +13,18 @@ use sctp_framing::Framing;
 use sctp_values::{Kind, NoMemory};
 use sctp_wire::{Skip, Skips};
 use std::alloc::Global;
+
+/// Whether an entry is for a stream that isn't there.
+pub(crate) fn names_other_stream(streams: usize, skips: &Skips<'_>) -> bool
+    ensures { result ≡ names_other_stream streams skips.now.skips }
+{
+    for skip in skips.iter() {
+        if usize::from(skip.stream) >= streams {
+            return true;
+        }
+    }
+    false
+}
 
 /// The entries in rising order of their streams.
 ///

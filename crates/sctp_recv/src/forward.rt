@@ -16,15 +16,17 @@ ghost use Rattle.sctp_recv.specs.AnswerOf.{forward_answer_of};
 ghost use Rattle.sctp_recv.specs.Fields.{inside, stream_of};
 ghost use Rattle.sctp_recv.specs.Filed.{Keeps, SameLanes, AreFiled};
 ghost use Rattle.sctp_recv.specs.StandsFor.{Stands, AreFindable, StandsFor};
+ghost use Rattle.sctp_recv.specs.inner.Bits.{AreShown, IsShown};
 ghost use Rattle.sctp_recv.specs.inner.Forwarding.{AreByStream, IsTouched, HasRoomOn, HaveRoom, AreQuiet, PassesOn, AreToPass, ArePassed};
 ghost use Rattle.sctp_recv.specs.inner.Giving.{HasRoom, AreCounted};
 ghost use Rattle.sctp_recv.specs.inner.Rows.{IsAbove};
 
 use crate::answer::{TsnPlace, place_of_tsn};
-use crate::entries::{by_stream, lowest_after, of_stream};
+use crate::entries::{by_stream, lowest_after, names_other_stream, of_stream};
 use crate::give::{give_ordered, make_room};
 use crate::inbound::Inbound;
 use crate::places::Lows;
+use crate::ready::{Ready, show};
 use crate::receiver::Receiver;
 use crate::stream::{Stream, make};
 use sctp_framing::Framing;
@@ -41,18 +43,6 @@ pub enum ForwardAnswer {
     Bad,
     /// The cumulative index moved, and what was then due was handed over.
     Moved,
-}
-
-/// Whether an entry is for a stream that isn't there.
-fn names_other_stream(streams: usize, skips: &Skips<'_>) -> bool
-    ensures { result ≡ names_other_stream streams skips.now.skips }
-{
-    for skip in skips.iter() {
-        if usize::from(skip.stream) >= streams {
-            return true;
-        }
-    }
-    false
 }
 
 /// The streams that a FORWARD up to an index may change, in rising order: those that it names, and those from which the index lets something go.
@@ -155,15 +145,17 @@ fn pass_on<F: Framing>(
     }
 }
 
-/// The same on each of these streams, which rise, each by its own entries.
+/// The same on each of these streams, which rise, each by its own entries; and shows where a message waits then.
 fn pass_on_all<F: Framing>(
     streams: &mut Vec<Stream<F>>,
+    ready: &mut Ready,
     touched: &[u16],
     entries: &[Skip],
     jump: u64,
     held: u32,
 ) -> u32
     ensures count { length streams.new.items ≡ length streams.old.items }
+    ensures shown { AreShown ready.old.words.items (map stream_of streams.old.items) → AreShown ready.new.words.items (map stream_of streams.new.items) }
     ensures passed { (v r : ReceiverView) (xs : List SkipMeaning) → AreByStream entries.now → IsPermutation xs (map skip_meaning entries.now)
         → AreToPass F.format jump xs v r streams.old.items held → HaveRoom touched.now (length touched.now) streams.old.items
         → IsNonDecreasing touched.now → AreQuiet F.format jump xs v touched.now streams.old.items
@@ -177,6 +169,7 @@ fn pass_on_all<F: Framing>(
         if next <= place && place < streams.len() {
             let own = of_stream(entries, stream);
             left = pass_on(&mut streams[place], stream, own, jump, left);
+            show(ready, streams, stream);
             next = place + 1;
         }
     }
@@ -232,13 +225,20 @@ impl<F: Framing> Receiver<F> {
     fn pass_to(&mut self, index: u64, skips: &Skips<'_>) -> Result<(), NoMemory>
         ensures passed { (v : ReceiverView) → StandsFor F.format self.old v → (x : ForwardMeaning) → x.skips ≡ skips.now.skips
             → IsAbove self.old.initial self.old.seen.kept.cumulative x.cumulative index → names_other_stream (length self.old.streams.items) x.skips ≡ false
-            → OnOk result ((t : ReceiverView) × GivesAll F.format v.streams (forwarded F.format v self.old.seen.kept.cumulative x) t × (Stands F.format self.new t × AreFindable F.format t self.new.lows)) }
+            → OnOk result ((t : ReceiverView) × GivesAll F.format v.streams (forwarded F.format v self.old.seen.kept.cumulative x) t × (Stands F.format self.new t × AreFindable F.format t self.new.lows) × IsShown self.new.ready.words.items t.waiting t.streams) }
         ensures refused { (v : ReceiverView) → StandsFor F.format self.old v → OnErr result (StandsFor F.format self.new v) }
     {
         let entries = by_stream(self.alloc, skips)?;
         let touched = touched_by(self.alloc, &self.lows, index, skips)?;
         make_rooms(self.alloc, &mut self.streams, &touched)?;
-        self.held = pass_on_all(&mut self.streams, &touched, &entries, index, self.held);
+        self.held = pass_on_all(
+            &mut self.streams,
+            &mut self.ready,
+            &touched,
+            &entries,
+            index,
+            self.held,
+        );
         note_lowest(&mut self.lows, &self.streams, &touched);
         self.seen.jump(index);
         Ok(())

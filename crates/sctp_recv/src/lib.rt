@@ -3,6 +3,7 @@
 #![tactic(auto)]
 
 mod answer;
+mod bits;
 mod duplicates;
 mod entries;
 mod forward;
@@ -13,6 +14,7 @@ mod lows;
 mod message;
 mod pieces;
 mod places;
+mod ready;
 mod receiver;
 mod runs;
 mod sack;

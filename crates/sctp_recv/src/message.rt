@@ -1,6 +1,6 @@
 //! A message as its user takes it.
 
-ghost use Rattle.std.specs.Prelude.{◌≡◌, ◌-◌, ◌^◌, ◌++◌, ◌+◌, ◌≤◌, min, List, length, map, vec_len, vec_capacity, IsOk, OnOk, OnErr};
+ghost use Rattle.std.specs.Prelude.{◌≡◌, ◌-◌, ◌^◌, ◌++◌, ◌+◌, ◌≤◌, ◌<◌, min, List, length, map, take, drop, vec_len, vec_capacity, IsOk, OnOk, OnErr, IfOk, IfErr};
 ghost use Rattle.sctp_model.specs.numbers.Lists.{joined};
 ghost use Rattle.sctp_recv.specs.Parts.{text_of_parts, bytes_of};
 ghost use Rattle.sctp_recv.specs.HandedOf.{message_bytes, handed_of};
@@ -67,6 +67,38 @@ impl Message {
         }
         Ok(())
     }
+
+    /// Copies its bytes to the beginning of a room, and answers how many they are. What stands in the room behind them stays.
+    ///
+    /// # Errors
+    /// The room is too small: nothing is written, and the error is how many bytes it must have.
+    #[tactic(auto, using(crate::proofs::PartLemmas::texts))]
+    pub fn copy_into(&self, room: &mut [u8]) -> Result<usize, usize>
+        ensures copied { IfOk result (λ many. (many ≡ length (message_bytes self.now)) × (room.new ≡ message_bytes self.now ++ drop many room.old)) }
+        ensures wanted { IfErr result (λ many. (many ≡ min (length (message_bytes self.now)) (2 ^ 64 - 1)) × (length room.old < many)) }
+        ensures refused { OnErr result (room.new ≡ room.old) }
+    {
+        let wanted = self.len();
+        if room.len() < wanted {
+            return Err(wanted);
+        }
+        let mut at: usize = 0;
+        for part in &self.parts {
+            put_part(room, at, part);
+            at += part.len();
+        }
+        Ok(at)
+    }
+}
+
+/// Copies the data of a part to a place of a room that has it.
+fn put_part(room: &mut [u8], at: usize, part: &[u8])
+    requires { at + length part.now ≤ length room.old }
+    ensures size { length room.new ≡ length room.old }
+    ensures put { take (at + length part.now) room.new ≡ take at room.old ++ part.now }
+    ensures behind { drop (at + length part.now) room.new ≡ drop (at + length part.now) room.old }
+{
+    room[at..at + part.len()].copy_from_slice(part);
 }
 
 /// A whole message as its user takes it.

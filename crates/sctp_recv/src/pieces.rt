@@ -11,12 +11,14 @@ ghost use Rattle.sctp_recv.specs.AnswerOf.{answer_of, NeedsMemory};
 ghost use Rattle.sctp_recv.specs.KeptOf.{kept_of};
 ghost use Rattle.sctp_recv.specs.Lows.{IsMarked};
 ghost use Rattle.sctp_recv.specs.StandsFor.{Stands, StandsFor};
+ghost use Rattle.sctp_recv.specs.inner.Bits.{IsShown};
 ghost use Rattle.sctp_recv.specs.inner.Rows.{IsRowOf, IsWanted};
 
 use crate::answer::{Answer, Row, TsnPlace, place_of_tsn};
 use crate::give::keep_in;
 use crate::inbound::Inbound;
 use crate::places::Lows;
+use crate::ready::show;
 use crate::receiver::Receiver;
 use crate::stream::make;
 use sctp_framing::Framing;
@@ -108,7 +110,7 @@ impl<F: Framing> Receiver<F> {
     /// Memory ran out, and nothing changed.
     fn keep(&mut self, piece: &Piece<'_>, index: u64, number: Option<u64>) -> Result<(), NoMemory>
         ensures kept { (v : ReceiverView) → StandsFor F.format self.old v → IsWanted F.format (kept_of self.old) v (piece_meaning piece.now) index number
-            → OnOk result ((t : ReceiverView) × TakesPiece F.format v (piece_at F.format v self.old.seen.kept.cumulative (piece_meaning piece.now)) t × Stands F.format self.new t) }
+            → OnOk result ((t : ReceiverView) × TakesPiece F.format v (piece_at F.format v self.old.seen.kept.cumulative (piece_meaning piece.now)) t × Stands F.format self.new t × IsShown self.new.ready.words.items t.waiting t.streams) }
         ensures lows { self.new.lows ≡ self.old.lows }
         ensures refused { (v : ReceiverView) → StandsFor F.format self.old v → OnErr result (StandsFor F.format self.new v) }
     {
@@ -130,6 +132,7 @@ impl<F: Framing> Receiver<F> {
             .saturating_add(inbound.kept_bytes())
             .saturating_add(given);
         let _ = self.seen.add(index);
+        show(&mut self.ready, &self.streams, piece.stream);
         Ok(())
     }
 }

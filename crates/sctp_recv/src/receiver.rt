@@ -10,6 +10,7 @@ ghost use Rattle.sctp_model.specs.receiver.SackMade.{AreAllRuns, IsSack, sack_se
 ghost use Rattle.sctp_model.specs.end.Arriving.{TellsGap};
 ghost use Rattle.sctp_wire.specs.Layouts.{Fits};
 ghost use Rattle.sctp_recv.specs.HandedOf.{handed_of};
+ghost use Rattle.sctp_recv.specs.Readable.{ReadableAnswer};
 ghost use Rattle.sctp_recv.specs.SackOf.{lists_meaning};
 ghost use Rattle.sctp_recv.specs.StandsFor.{StandsFor};
 
@@ -17,6 +18,7 @@ use crate::duplicates::Duplicates;
 use crate::give::less;
 use crate::message::Message;
 use crate::places::Lows;
+use crate::ready::{Ready, show};
 use crate::sack::SackLists;
 use crate::seen::Seen;
 use crate::stream::{Stream, fresh_streams, take_first};
@@ -37,6 +39,8 @@ pub struct Receiver<F: Framing> {
     pub(crate) duplicates: Duplicates,
     /// Of each stream a bound of the indexes of the unordered chunks kept, where their messages have no number.
     pub(crate) lows: Lows,
+    /// On which streams a message waits.
+    pub(crate) ready: Ready,
 }
 
 /// On how many of so many streams a bound is noted: on none where unordered messages have numbers.
@@ -64,6 +68,7 @@ impl<F: Framing> Receiver<F> {
         ensures { IfOk result (λ r. StandsFor F.format r (fresh_receiver initial_tsn streams buffer)) }
     {
         let lows = Lows::new(alloc, noted_streams::<F>(streams))?;
+        let ready = Ready::new(alloc, streams)?;
         let streams = fresh_streams(alloc, streams)?;
         Ok(Receiver {
             alloc,
@@ -74,6 +79,7 @@ impl<F: Framing> Receiver<F> {
             streams,
             duplicates: Duplicates::new(alloc),
             lows,
+            ready,
         })
     }
 
@@ -124,6 +130,14 @@ impl<F: Framing> Receiver<F> {
         self.streams.get(usize::from(stream))?.message(place)
     }
 
+    /// The first stream from one on, on which a message waits to be taken: None exactly where none waits from there on. A caller who goes on
+    /// behind it, and begins at 0 again after None, goes round all of them. It looks at no more than some words of 64 streams or of 4,096.
+    pub fn readable(&self, from: u16) -> Option<u16>
+        ensures { (v : ReceiverView) → StandsFor F.format self.now v → ReadableAnswer v.waiting from result }
+    {
+        self.ready.next(from)
+    }
+
     /// What a SACK says now. Nothing changes.
     ///
     /// # Errors
@@ -163,6 +177,7 @@ impl<F: Framing> Receiver<F> {
         match take_first(&mut self.streams[at]) {
             Some(message) => {
                 self.held = less(self.held, &message);
+                show(&mut self.ready, &self.streams, stream);
                 Some(message)
             }
             None => None,

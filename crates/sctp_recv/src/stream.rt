@@ -1,6 +1,6 @@
 //! A stream, of which something is known or nothing.
 
-ghost use Rattle.std.specs.Prelude.{◌≡◌, ℕ, true, false, [], ◌∷◌, ◌&&◌, map, replicate, slice_get, None, Some, IfOk, OnOk, IsSome, MatchOption};
+ghost use Rattle.std.specs.Prelude.{◌≡◌, ℕ, true, false, [], ◌∷◌, ◌&&◌, min, length, if◌then◌else◌, map, replicate, slice_get, None, Some, IfOk, OnOk, IsSome, MatchOption};
 ghost use Rattle.sctp_model.specs.messages.Format.{Lane, is_numbered};
 ghost use Rattle.sctp_model.specs.messages.Framing.{number_near};
 ghost use Rattle.sctp_model.specs.receiver.PieceTaken.{is_repeated};
@@ -94,6 +94,16 @@ impl<F: Framing> Stream<F> {
             Some(inbound) => inbound.waiting.get(place),
             None => None,
         }
+    }
+
+    /// Whether a message waits.
+    pub(crate) fn has_message(&self) -> bool
+        ensures { min 1 (length (stream_of self.now).waiting) ≡ (if result then 1 else 0) }
+    {
+        let Some(inbound) = &self.inbound else {
+            return false;
+        };
+        inbound.waiting.len() > 0
     }
 }
 

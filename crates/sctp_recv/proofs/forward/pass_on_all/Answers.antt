@@ -1,11 +1,13 @@
 use Rattle.std.proofs.Common.{◌≡◌, ℕ, suc, ◌+◌, ◌<◌, length, map, set, true, false, Some, inl, inr, refl, sym, ◌∙◌, subst, arith}
 use Rattle.std.specs.Prelude.{slice_get, slice_index_or}
-use Rattle.std.proofs.lemmas.List.{length-set}
+use Rattle.std.proofs.lemmas.List.{length-map, length-set}
 use Rattle.std.proofs.lemmas.Option.{slice_get_read}
 use Rattle.sctp_model.specs.messages.Format.{ordered_lane, unordered_lane}
 use Rattle.sctp_model.specs.receiver.Receiving.{handed_ordered}
 use Rattle.sctp_model.proofs.receiver.OfLane.{of_says}
-use Rattle.sctp_recv.specs.Fields.{inside}
+use Rattle.sctp_recv.specs.Fields.{inside, stream_of}
+use Rattle.sctp_recv.specs.inner.Bits.{IsSameBut}
+use Rattle.sctp_recv.proofs.ShownLemmas.{same_but}
 use Rattle.sctp_recv.specs.Filed.{Keeps}
 use Rattle.sctp_model.specs.receiver.KeptOfLane.{of_lane}
 use Rattle.sctp_wire.specs.ChunkTree.{skip_meaning}
@@ -21,6 +23,7 @@ pub loop-at-init : goal.loop-at-init
 loop-at-init g c = record {
   size = refl;
   within = omega arith;
+  shown = λ h. h;
   below = λ i s low got. absurd (omega (arith, low));
   upto = λ v r xs rise entries h room rising quiet. (r, upto_first g.F.Framing.format c.args.jump xs v r c.args.streams.now.items c.args.held h);
 }
@@ -43,7 +46,10 @@ loop-at-preserved g c =
           let y = w.pass_on-left.new.known in
           let low : k < length items = omega (arith, w.if-place-len.true, w.len.ensures, c.loop-at.streams.ok) in
           let got_now : slice_get items k ≡ Some x = slice_get_read items (length items) k x refl low w.index_mut.ensures.value in
-          rw (w.streams-is, w.left-is, w.next-is) (record {
+          let n_items = length-map items stream_of in
+          let n_set = length-set items k y in
+          rw (w.streams-is, w.ready-is, w.left-is, w.next-is) (record {
+            shown = λ before. w.show.ensures (map stream_of items) (inv.shown before) (omega (arith, n_items, n_set)) (subst (λ (q : ℕ). IsSameBut q (map stream_of items) (map stream_of (set items k y))) (sym same) (same_but items k y));
             size = length-set items k y ∙ inv.size;
             within = omega (arith, low, inv.size);
             below = below_more touched i c.loop-at.next (k + 1) (length olds) k inv.below here (omega (arith, w.if-next-place.true)) (inl (omega arith));
@@ -66,7 +72,8 @@ loop-at-preserved g c =
                 (handed_ordered n.0 k p.messages p.next, subst (λ (q : ℕ). IsUpTo f v r olds (set items k y) c.args.held w.pass_on-left.result q (handed_ordered n.0 k p.messages p.next)) at_next next);
           })
       | else-next-place w ↦
-          rw (w.streams-is, w.left-is, w.next-is) (record {
+          rw (w.streams-is, w.ready-is, w.left-is, w.next-is) (record {
+            shown = inv.shown;
             size = inv.size;
             within = inv.within;
             below = below_more touched i c.loop-at.next c.loop-at.next (length olds) k inv.below here (omega arith) (elim w.else-next-place.branch [
@@ -79,6 +86,9 @@ loop-at-preserved g c =
 
 pub returns-clause-count : goal.returns-clause-count
 returns-clause-count g c = c.loop-at.invariant.size
+
+pub returns-clause-shown : goal.returns-clause-shown
+returns-clause-shown g c = c.loop-at.invariant.shown
 
 pub returns-clause-passed : goal.returns-clause-passed
 returns-clause-passed g c = λ v r xs rise entries h room rising quiet.

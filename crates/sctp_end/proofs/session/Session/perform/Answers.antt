@@ -45,3 +45,6 @@ returns-in-State c = rw c.in-State.is (λ v stands. (v, TellsState _ _ (c.state.
 
 pub returns-in-Held : goal.returns-in-Held
 returns-in-Held c = rw c.in-Held.is (λ v stands. (v, TellsHeld _ (c.held_bytes.ensures.held v stands), stands))
+
+pub returns-in-Status : goal.returns-in-Status
+returns-in-Status c = rw c.in-Status.is c.status.ensures

@@ -1,4 +1,4 @@
-use Rattle.std.proofs.Common.{◌≡◌, ℕ, suc, ◌+◌, ◌-◌, ◌<◌, ◌≤◌, false, List, Option, Some, ◌∷◌, length, set, inl, inr, refl, sym, ◌∙◌, ap, subst, arith}
+use Rattle.std.proofs.Common.{◌≡◌, ℕ, suc, ◌+◌, ◌-◌, ◌<◌, ◌≤◌, false, List, Option, Some, ◌∷◌, length, map, set, inl, inr, refl, sym, ◌∙◌, ap, subst, arith}
 use Rattle.std.proofs.lemmas.Option.{slice_get_read}
 use Rattle.sctp_model.specs.numbers.Limits.{WINDOW}
 use Rattle.sctp_model.specs.numbers.Serial.{COUNTS}
@@ -15,7 +15,7 @@ use Rattle.sctp_recv.specs.Fields.{inbound_of, stream_of}
 use Rattle.sctp_recv.specs.declared.inbound.Inbound.{Inbound}
 use Rattle.sctp_recv.specs.ReceiverKept.{StreamKept}
 use Rattle.std.specs.Box.{with_value}
-use Rattle.std.proofs.lemmas.List.{length-set}
+use Rattle.std.proofs.lemmas.List.{length-map, length-set}
 use Rattle.sctp_chains.specs.StandsFor as lane
 use Rattle.sctp_chains.specs.Cells.{counted}
 use Rattle.sctp_model.specs.receiver.KeptOfLane.{of_lane}
@@ -29,6 +29,8 @@ use Rattle.sctp_recv.proofs.StreamLemmas.{set_mapped, set_unchanged}
 use Rattle.sctp_recv.proofs.FiledLemmas.{filed_same, same_lanes, stream_size}
 use Rattle.sctp_recv.proofs.ChunkLemmas.{lane_filed, chunk_new}
 use Rattle.sctp_recv.proofs.RecordedLemmas.{keeps_same, IsKeepable}
+use Rattle.sctp_recv.specs.inner.Bits.{IsSameBut}
+use Rattle.sctp_recv.proofs.ShownLemmas.{same_but, shown_list, shown_view}
 use Rattle.sctp_recv.proofs.TakenLemmas.{boxed, keeps_taken_in}
 use Rattle.sctp_recv.proofs.receiver.Receiver.keep.Goals as goal
 
@@ -134,4 +136,12 @@ returns-clause-kept g c = λ v w want.
     (λ ks on. c.kept_bytes.ensures (ordered_lane s) (unordered_lane s) (of_lane (ordered_lane s) ks) (of_lane (unordered_lane s) ks) on.ordered on.unordered) held in
     let there = subst (λ (q : ℕ). KeepsView f (record k { seen = seen; streams = set k.streams q (inbound_of new.value); held = c.saturating_add-self.result }) m.0) (sym c.from-stream.ensures) m.2.0 in
     let files = subst (λ (q : ℕ). AreFiled f m.0.kept (set made q (boxed new))) (sym c.from-stream.ensures) m.2.1 in
-    (m.0, m.1, (rw (set_mapped made at (boxed new) ∙ ap (λ (ss : List StreamKept). set ss at (inbound_of new.value)) same) there, files))
+    let ws = c.args.self.now.ready.words.items in
+    let put = set_mapped made at (boxed new) ∙ ap (λ (ss : List StreamKept). set ss at (inbound_of new.value)) same in
+    let but_made = subst (λ (ss : List StreamKept). IsSameBut at ss (map stream_of (set made at (boxed new)))) same (same_but made at (boxed new)) in
+    let but = subst (λ (q : ℕ). IsSameBut q k.streams (map stream_of (set made at (boxed new)))) c.from-stream.ensures but_made in
+    let long = length-map items stream_of in
+    let count = length-set made at (boxed new) in
+    let list = c.show.ensures k.streams (shown_list f ws k v w.0 w.1.1.1.1) (omega (arith, long, size, count)) but in
+    let shown = shown_view f _ _ _ m.0 there put list in
+    (m.0, m.1, (rw (set_mapped made at (boxed new) ∙ ap (λ (ss : List StreamKept). set ss at (inbound_of new.value)) same) there, files), shown)

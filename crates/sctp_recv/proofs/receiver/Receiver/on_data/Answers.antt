@@ -70,14 +70,14 @@ returns-in_ok-keep-in-Taken-clause-step g c = λ v w.
     let old = c.args.self.now.lows in
     let lows = c.note-in-Taken.new.lows in
     let row = c.in-Taken.ensures v w in
-    let m = c.in_ok-keep-in-Taken.ensures.kept v (w.0, (w.1.0, (w.1.1.0, findable_more f v old lows c.note-in-Taken.ensures.count c.note-in-Taken.ensures.more w.1.1.1))) row.1 in
+    let m = c.in_ok-keep-in-Taken.ensures.kept v (w.0, (w.1.0, (w.1.1.0, (findable_more f v old lows c.note-in-Taken.ensures.count c.note-in-Taken.ensures.more w.1.1.1.0, w.1.1.1.1)))) row.1 in
     let taken : PieceTaken f v p Kept m.0 = record { c = s.cumulative; cumulative = cumulative_is s v w.0.seen; answer = sym row.0; leaves = m.1 } in
     let rest = piece_at_rest f v p Kept m.0 w.1.1.0 taken in
-    let findable = findable_taken f v m.0 x old lows m.1 rest.idle row.1.wanted w.1.1.1 c.note-in-Taken.ensures.count c.note-in-Taken.ensures.more
+    let findable = findable_taken f v m.0 x old lows m.1 rest.idle row.1.wanted w.1.1.1.0 c.note-in-Taken.ensures.count c.note-in-Taken.ensures.more
     (λ plain kind part. subst (IsMarked lows p.stream) row.1.new.index (c.note-in-Taken.ensures.marked plain (unordered_is p.stream p.unordered kind) part
-    (let low = row.1.stream in let all = w.1.1.1.0 plain in let streams = w.0.streams in omega (arith, low, all, streams)))) in
+    (let low = row.1.stream in let all = w.1.1.1.0.0 plain in let streams = w.0.streams in omega (arith, low, all, streams)))) in
     let still = subst (λ (l : Lows). AreFindable f m.0 l) (sym c.keep.ensures.lows) findable in
-    (m.0, taken, (m.2.0, (m.2.1, (rest, still))))
+    (m.0, taken, (m.2.0, (m.2.1, (rest, (still, m.3)))))
 
 pub returns-in_err-note-in-Duplicate-clause-memory : goal.returns-in_err-note-in-Duplicate-clause-memory
 unfolding StandsFor
@@ -129,4 +129,4 @@ returns-in_err-keep-in-Taken-clause-refused g c = λ v w.
     let f = g.F.Framing.format in
     if_err c.from_residual-in_err-keep-in-Taken.result
     (c.in_err-keep-in-Taken.ensures.refused v
-    (w.0, (w.1.0, (w.1.1.0, findable_more f v c.args.self.now.lows c.note-in-Taken.new.lows c.note-in-Taken.ensures.count c.note-in-Taken.ensures.more w.1.1.1))))
+    (w.0, (w.1.0, (w.1.1.0, (findable_more f v c.args.self.now.lows c.note-in-Taken.new.lows c.note-in-Taken.ensures.count c.note-in-Taken.ensures.more w.1.1.1.0, w.1.1.1.1)))))

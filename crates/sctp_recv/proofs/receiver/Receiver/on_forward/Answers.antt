@@ -55,7 +55,7 @@ returns-clause-step g c = λ v w.
     let m = c.in_ok-pass_to.ensures.passed v w x refl place named in
     let answer = row_moved f (kept_of c.args.self.now) v x w.0 c.in-At.index place kept_named in
     let taken : ForwardTaken f v x Moved m.0 = record { c = s.cumulative; cumulative = cumulative_is s v w.0.seen; answer = sym answer; leaves = m.1 } in
-    (m.0, taken, (m.2.0.0, (m.2.0.1, (forward_at_rest f v x Moved m.0 w.1.1.0 taken, m.2.1))))
+    (m.0, taken, (m.2.0.0, (m.2.0.1, (forward_at_rest f v x Moved m.0 w.1.1.0 taken, (m.2.1, m.3)))))
 
 pub returns-in_err-pass_to-clause-memory : goal.returns-in_err-pass_to-clause-memory
 unfolding StandsFor

@@ -16,6 +16,8 @@ use Rattle.sctp_recv.proofs.TouchedLemmas.{are_quiet}
 use Rattle.sctp_recv.proofs.ResultLemmas.{if_err}
 use Rattle.sctp_recv.proofs.RestLemmas.{findable_forward}
 use Rattle.sctp_recv.proofs.RecordedLemmas.{keeps_same}
+use Rattle.sctp_recv.specs.inner.Bits.{AreShown}
+use Rattle.sctp_recv.proofs.ShownLemmas.{shown_list, shown_view}
 use Rattle.sctp_recv.proofs.ForwardKeeps.{stream_is, to_pass, keeps_forwarded}
 use Rattle.sctp_recv.proofs.receiver.Receiver.pass_to.Goals as goal
 
@@ -48,7 +50,7 @@ returns-clause-passed g c = λ v w x skips above named.
     let lows = c.args.self.now.lows in
     let touched = c.in_ok-touched.touched.items in
     let all = subst (λ (xs : List SkipMeaning). (s : ℕ) → IsTouched s lows i xs → Contains touched s) (sym skips) c.in_ok-touched.ensures.named in
-    let quiet = are_quiet f i x.skips v lows touched olds w.1.1.0 w.1.1.1 all (λ q z got. (ready.stream q z got).next)
+    let quiet = are_quiet f i x.skips v lows touched olds w.1.1.0 w.1.1.1.0 all (λ q z got. (ready.stream q z got).next)
     (λ q z got. w.0.skip q ∙ ap (λ (a : StreamKept). a.skip) (stream_is f k v x i w.0 above kept_named olds same q z got)) in
     let still = subst (λ (ts : List ℕ). AreQuiet f i c.args.skips.now.skips v ts olds) (sym c.deref-2.ensures.value) (subst (λ (xs : List SkipMeaning). AreQuiet f i xs v touched olds) skips quiet) in
     let rising = subst IsNonDecreasing (sym c.deref-2.ensures.value) c.in_ok-touched.ensures.rising in
@@ -60,4 +62,7 @@ returns-clause-passed g c = λ v w x skips above named.
     let jumped = let high = above.above in c.jump.ensures (omega (arith, high)) in
     let stands = keeps_forwarded f k v x i w.0 above kept_named olds same m.0 m.1 c.pass_on_all-self.new.streams.items c.pass_on_all-self.ensures.count c.pass_on_all-self.result m.2 c.jump.new.self.kept jumped in
     let gives = subst (λ (n : ℕ). GivesAll f n left m.0) (sym streams) m.1 in
-    (m.0, gives, ((stands, m.2.filed), c.note_lowest.ensures m.0 m.2.filed (findable_forward f v m.0 k.seen.cumulative v.streams x lows gives w.1.1.1)))
+    let ws = c.args.self.now.ready.words.items in
+    let before = subst (λ (ss : List StreamKept). AreShown ws ss) same (shown_list f ws k v w.0 w.1.1.1.1) in
+    let shown = shown_view f _ (map stream_of c.pass_on_all-self.new.streams.items) _ m.0 stands refl (c.pass_on_all-self.ensures.shown before) in
+    (m.0, gives, ((stands, m.2.filed), c.note_lowest.ensures m.0 m.2.filed (findable_forward f v m.0 k.seen.cumulative v.streams x lows gives w.1.1.1.0)), shown)

@@ -1,5 +1,5 @@
-use Rattle.std.proofs.Common.{◌≡◌, ℕ, ◌<◌, ◌-◌, ◌∷◌, length, map, Some, refl, sym, ◌∙◌, ap, arith}
-use Rattle.std.proofs.lemmas.List.{length-map}
+use Rattle.std.proofs.Common.{◌≡◌, ℕ, ◌<◌, ◌-◌, ◌∷◌, length, map, set, Some, refl, sym, ◌∙◌, ap, subst, arith}
+use Rattle.std.proofs.lemmas.List.{length-map, length-set}
 use Rattle.sctp_model.specs.receiver.SackMade.{first_taken, TakeLeaves}
 use Rattle.sctp_model.proofs.receiver.AtRest.{take_at_rest}
 use Rattle.sctp_recv.specs.HandedOf.{handed_of, message_bytes}
@@ -10,6 +10,8 @@ use Rattle.sctp_recv.specs.StandsFor.{StandsFor}
 use Rattle.std.proofs.lemmas.Option.{slice_get_read}
 use Rattle.sctp_recv.proofs.FiledLemmas.{filed_same}
 use Rattle.sctp_recv.proofs.StreamLemmas.{stream_mapped, set_mapped, set_unchanged}
+use Rattle.sctp_recv.specs.inner.Bits.{IsSameBut}
+use Rattle.sctp_recv.proofs.ShownLemmas.{same_but, shown_list, shown_view}
 use Rattle.sctp_recv.proofs.ReceiverSteps.{keeps_taken}
 use Rattle.sctp_recv.proofs.receiver.Receiver.take.Goals as goal
 
@@ -42,4 +44,13 @@ returns-in-Some g c = λ v w.
     let files = filed_same g.F.Framing.format v.kept items c.from-at.result c.index_mut.result.now c.take_first.new.stream w.1.0 l got c.take_first.ensures.chunks in
     let h = handed_of c.in-Some.message in
     let leaves : TakeLeaves v s (Some h) (first_taken v s h x.waiting) = (x.waiting, w.0.waiting s ∙ ap (λ (y : StreamKept). y.waiting) there, refl) in
-    (first_taken v s h x.waiting, leaves, (rw (set_mapped items c.from-at.result c.take_first.new.stream, c.from-at.ensures) done, (files, (take_at_rest g.F.Framing.format v s (Some h) (first_taken v s h x.waiting) w.1.1.0 leaves, w.1.1.1))))
+    let f = g.F.Framing.format in
+    let old = map stream_of items in
+    let y = c.take_first.new.stream in
+    let ws = c.args.self.now.ready.words.items in
+    let but = subst (λ (i : ℕ). IsSameBut i old (map stream_of (set items c.from-at.result y))) c.from-at.ensures (same_but items c.from-at.result y) in
+    let count = length-set items c.from-at.result y in
+    let list = c.show.ensures old (shown_list f ws (kept_of c.args.self.now) v w.0 w.1.1.1.1) (omega (arith, n, count)) but in
+    let put = set_mapped items c.from-at.result y ∙ ap (λ (i : ℕ). set old i x) c.from-at.ensures in
+    let shown = shown_view f _ _ _ (first_taken v s h x.waiting) done put list in
+    (first_taken v s h x.waiting, leaves, (rw (set_mapped items c.from-at.result c.take_first.new.stream, c.from-at.ensures) done, (files, (take_at_rest g.F.Framing.format v s (Some h) (first_taken v s h x.waiting) w.1.1.0 leaves, (w.1.1.1.0, shown)))))

@@ -1,0 +1,14 @@
+-- The next stream on which a message waits for the user.
+use Rattle.std.specs.Prelude.{◌≡◌, ℕ, ◌<◌, ◌≤◌, List, [], Option, None, Some}
+use Rattle.sctp_model.specs.receiver.ReceiverView.{Handed}
+
+-- The lowest stream from one on, on which a message waits.
+pub record IsReadable (waiting : ℕ → List Handed) (from s : ℕ) : Type 0 where
+  pub above : from ≤ s
+  pub some : waiting s ≡ [] → ⊥
+  pub first : (q : ℕ) → from ≤ q → q < s → waiting q ≡ []
+
+-- that stream, or none waits on any from there on
+abbrev pub ReadableAnswer : (waiting : ℕ → List Handed) → (from : ℕ) → Option ℕ → Type 0
+ReadableAnswer waiting from None = (q : ℕ) → from ≤ q → waiting q ≡ []
+ReadableAnswer waiting from (Some s) = IsReadable waiting from s

@@ -1,0 +1,103 @@
+//! On which streams a message waits: a bit for each, and one for each 64 of them, so that the next one is found without a look at the others.
+
+ghost use Rattle.std.specs.Prelude.{◌≡◌, ◌*◌, ◌<◌, ◌≤◌, ℕ, List, length, map, replicate, if◌then◌else◌, IfOk};
+ghost use Rattle.sctp_recv.specs.Fields.{stream_of};
+ghost use Rattle.sctp_recv.specs.ReceiverKept.{StreamKept};
+ghost use Rattle.sctp_recv.specs.inner.Bits.{bit_in, NextBit, AreTops, AreShown, IsSameBut};
+
+use crate::bits::{bit_from, next_bit, put_bit};
+use crate::stream::Stream;
+use sctp_framing::Framing;
+use sctp_values::NoMemory;
+use std::alloc::Global;
+
+/// The streams that are marked.
+#[derive(Drop)]
+pub(crate) struct Ready {
+    /// A bit for each stream.
+    words: Vec<u64>,
+    /// A bit for each of these words: whether one of its bits is set.
+    tops: Vec<u64>,
+    ghost upper: { AreTops words.items tops.items },
+}
+
+impl Ready {
+    /// None of so many streams is marked.
+    ///
+    /// # Errors
+    /// Memory ran out.
+    pub(crate) fn new(alloc: Global, count: u16) -> Result<Ready, NoMemory>
+        ensures fits { IfOk result (λ ready. count ≤ length ready.words.items * 64) }
+        ensures none { IfOk result (λ ready. (s : ℕ) → bit_in ready.words.items s ≡ 0) }
+    {
+        let many = usize::from(count) / 64 + 1;
+        // 65,535 streams have 1,024 words.
+        let words = zeros(alloc, many)?;
+        let tops = zeros(alloc, many / 64 + 1)?;
+        Ok(Ready { words, tops })
+    }
+
+    /// Marks a stream, or takes its mark away. A stream without a bit is left as it is.
+    pub(crate) fn mark(&mut self, stream: u16, on: bool)
+        ensures size { length self.new.words.items ≡ length self.old.words.items }
+        ensures here { stream < length self.old.words.items * 64 → bit_in self.new.words.items stream ≡ (if on then 1 else 0) }
+        ensures others { (q : ℕ) → (q ≡ stream → ⊥) → bit_in self.new.words.items q ≡ bit_in self.old.words.items q }
+    {
+        let number = usize::from(stream);
+        let at = number / 64;
+        if at >= self.words.len() {
+            return;
+        }
+        put_bit(&mut self.words, number, on);
+        let some = self.words[at] != 0;
+        put_bit(&mut self.tops, at, some);
+    }
+
+    /// The first stream from one on that is marked.
+    pub(crate) fn next(&self, from: u16) -> Option<u16>
+        ensures { NextBit self.now.words.items from result }
+    {
+        let number = usize::from(from);
+        let at = number / 64;
+        if at >= self.words.len() {
+            return None;
+        }
+        match bit_from(self.words[at], (number % 64) as u32) {
+            Some(place) => Some((at * 64 + place as usize) as u16),
+            None => self.next_from(at + 1),
+        }
+    }
+
+    /// The first stream that is marked, from a word on.
+    fn next_from(&self, at: usize) -> Option<u16>
+        ensures { NextBit self.now.words.items (at * 64) result }
+    {
+        let further = next_bit(&self.tops, at)?;
+        let place = self.words[further].trailing_zeros();
+        Some((further * 64 + place as usize) as u16)
+    }
+}
+
+/// So many words without a bit.
+fn zeros(alloc: Global, many: usize) -> Result<Vec<u64>, NoMemory>
+    ensures { IfOk result (λ words. words.items ≡ replicate many 0) }
+{
+    let mut words = Vec::with_capacity(alloc, many).map_err(|_| NoMemory)?;
+    for _ in 0..many {
+        words.push(0).map_err(|_| NoMemory)?;
+    }
+    Ok(words)
+}
+
+/// Marks a stream where a message waits on it, and else takes its mark away.
+pub(crate) fn show<F: Framing>(ready: &mut Ready, streams: &Vec<Stream<F>>, stream: u16)
+    ensures { (old : List StreamKept) → AreShown ready.old.words.items old → length old ≡ length streams.now.items → IsSameBut stream old (map stream_of streams.now.items)
+        → AreShown ready.new.words.items (map stream_of streams.now.items) }
+{
+    let at = usize::from(stream);
+    if at >= streams.len() {
+        return;
+    }
+    let waits = streams[at].has_message();
+    ready.mark(stream, waits);
+}
